@@ -1,13 +1,13 @@
 -- How many bytes the face of a tree without its minus sign takes: at least 8 less than three times the tree's.
 use Rattle.std.proofs.Common.{◌≡◌, ℕ, pos, ap, zero, suc, ◌+◌, ◌-◌, ◌*◌, ◌≤◌, refl, arith, Bool, true, false, nat_abs}
-use Rattle.beautify.proofs.Names.{fraction_of, product_of, power_below, unsigned_face, unless_one, exponent_below, has_minus, with_minus, factor_above, factor_below, factors_above, factors_below, next_term, next_terms, Fraction, lowest, num_least, num_most, whole_size, SoFar, single, summed, multiplied, as_tree, Tree, num, symbol, undef, add, mult, power, root, Trees, none, more, count, size, sizes, whole_num, HasTwo, AllParts, AllPartsOf, root_size, children_of, node_room, number_room, fraction_room, product_room, IsShowable, IsFactor, AreFactors, unsigned_faces}
-use Rattle.calc_terms.specs.declared.kind.Kind.TheVariants as kind
+use Rattle.beautify.proofs.Shared.{fraction_of, product_of, power_below, unsigned_face, unless_one, exponent_below, has_minus, with_minus, factor_above, factor_below, factors_above, factors_below, next_term, next_terms, Fraction, lowest, num_least, num_most, whole_size, SoFar, single, summed, multiplied, as_tree, Tree, num, symbol, undef, add, mult, power, root, Trees, none, more, count, size, sizes, whole_num, HasTwo, AllParts, AllPartsOf, root_size, children_of, node_room, number_room, fraction_room, product_room, IsShowable, IsFactor, AreFactors, unsigned_faces}
 use Rattle.calc_terms.specs.Kind.{size_by_form}
 use Rattle.calc_terms.specs.Short.{is_short}
 use Rattle.calc_terms.proofs.ShortForm.{short_whole}
 use Rattle.beautify.proofs.Places.{fraction_room-small}
 use Rattle.beautify.proofs.Sizes.{sizes-append, eight_each}
 use Rattle.beautify.proofs.Trees.{unless_one_by, power_below_by}
+use Rattle.calc_terms.specs.declared.kind.Kind.TheVariants as kind
 
 size-minus : (b : Bool) (t : Tree) → size (with_minus b t) ≤ size t + 8
 size-minus true t = omega arith

@@ -1,10 +1,10 @@
 -- The children of a node that stands before a stack.
 use Rattle.std.proofs.Common.{◌≡◌, ℕ, ◌<◌, sym, ap, ◌∙◌, subst, arith}
-use Rattle.beautify.proofs.Names.{Tree, count, root_kind, Kind, AreDistinct, State, plain, nth, children_of, IsExpression, AllExpressions, Forest, kids, arity, flatten, tree_nth, root_id, Gives, holds, tree_at, kids_of, Stands, forest, Distinct, distinct, child_tree, flatten-join, children_of-plain, count-plains, whole_child, expression_child}
-use Rattle.calc_terms.specs.declared.kind.Kind.TheVariants as kind
+use Rattle.beautify.proofs.Shared.{Tree, count, root_kind, Kind, AreDistinct, State, plain, nth, children_of, IsExpression, AllExpressions, Forest, kids, arity, flatten, tree_nth, root_id, Gives, holds, tree_at, kids_of, Stands, forest, Distinct, distinct, child_tree, flatten-join, children_of-plain, count-plains, whole_child, expression_child}
 use Rattle.node_pool.proofs.Ids.{AreDistinct-parts}
 use Rattle.beautify.proofs.NodeKinds.{IsPower, IsRoot, power_parts, root_parts}
 use Rattle.beautify.proofs.Stacking.{in_base}
+use Rattle.calc_terms.specs.declared.kind.Kind.TheVariants as kind
 
 pub record IsChildOf (n j i : ℕ) (g : Forest) : Type 0 where
   pub expression : IsExpression j g

@@ -1,10 +1,10 @@
 -- A sum on top of a stack that takes the next tree as its last term; and a divisor that is left of a quotient.
 use Rattle.std.proofs.Common.{◌≡◌, ℕ, ◌<◌, ◌≤◌, refl, ◌∙◌, arith, true}
-use Rattle.beautify.proofs.Names.{Tree, add, Trees, none, more, append, count, is_add, is_div, State, nth, inserted, children_of, plain, Forest, kids, tree_nth, without_nth, with_nth, Ends, Gives, has_root, root_tree, without_root, put, Stands, forest, given_told, last_root, behind, cut}
-use Rattle.calc_terms.specs.declared.kind.Kind.TheVariants as kind
+use Rattle.beautify.proofs.Shared.{Tree, add, Trees, none, more, append, count, is_add, is_div, State, nth, inserted, children_of, plain, Forest, kids, tree_nth, without_nth, with_nth, Ends, Gives, has_root, root_tree, without_root, put, Stands, forest, given_told, last_root, behind, cut}
 use Rattle.beautify.proofs.Opens.{Opens, opens_as, opened_as, pushed, taken, IsTaken, taken_under, IsTakenUnder}
 use Rattle.beautify.proofs.Stacking.{is_under, given_opens, opens_stack}
 use Rattle.beautify.proofs.Trees.{add_kind, div_kind, two_parts, count-cut, nth-behind, inserted-end, behind-behind}
+use Rattle.calc_terms.specs.declared.kind.Kind.TheVariants as kind
 
 -- a sum with these terms lies above a stack of the others
 pub record IsAbove (base : Forest) (stack sum : ℕ) (ts : Trees) (s : State) : Type 0 where

@@ -1,9 +1,9 @@
 -- A face keeps each meaning of its tree.
 use Rattle.std.proofs.Common.{◌≡◌, ℕ, zero, suc, ◌*◌, ◌<◌, ◌++◌, [], ℤ, pos, negsuc, ◌*ℤ◌, nat_abs, Bool, true, false, not, if◌then◌else◌, refl, sym, ap, ◌∙◌, arith, subst, append_assoc, append-nil, inl, inr}
 use Rattle.std.specs.Prelude.{⊤}
-use Rattle.beautify.proofs.Names.{int_is_negative, parts, diffs, eq_diff, Fraction, lowest, times, whole_fraction, minus_one_fraction, lowest_parts, same_lowest, times_lowest, den_pos, mul_pos, Tree, num, symbol, undef, add, mult, power, root, neg, sub, div, Trees, none, more, AllParts, AllPartsOf, is_num, whole_num, Surd, surd_of, surd_one, surd_scale, surd_times, surd_power, Assignment, Means, MeansSum, MeansProduct, IsPower, IsWholePower, SoFar, single, summed, multiplied, as_tree, face, has_minus, with_minus, unsigned_face, unless_one, product_of, fraction_of, power_below, exponent_below, below_zero, factor_above, factor_below, factors_above, factors_below, face_of_sum, next_term, next_terms, is_radicand, IsTerm, none_is, num_one, split, split_product, is_reduced, NoneIs, HasForm, IsReduced, reduced_words, AllParts-map, Agree, Agree-refl, Agree-sym, Agree-trans, Agree-eq, Agree-Same, Agree-append, Agree-surd_times, Agree-surd_times_right, surd_times_assoc, surd_times-surd_one, surd_times-one, surd_times_left_comm, surd_times-surd_of, inverse_times, inverse_power, Same-refl, ints, and_parts}
-use Rattle.calc_terms.specs.Fractions.{one_fraction}
-use Rattle.calc_algebra.specs.Numbers.{is_number}
+use Rattle.beautify.proofs.Shared.{int_is_negative, parts, diffs, eq_diff, Fraction, lowest, times, whole_fraction, minus_one_fraction, lowest_parts, same_lowest, times_lowest, den_pos, mul_pos, Tree, num, symbol, undef, add, mult, power, root, neg, sub, div, Trees, none, more, AllParts, AllPartsOf, is_num, whole_num, Surd, surd_of, surd_one, surd_scale, surd_times, surd_power, Assignment, Means, MeansSum, MeansProduct, IsPower, IsWholePower, SoFar, single, summed, multiplied, as_tree, face, has_minus, with_minus, unsigned_face, unless_one, product_of, fraction_of, power_below, exponent_below, below_zero, factor_above, factor_below, factors_above, factors_below, face_of_sum, next_term, next_terms, is_radicand, IsTerm, none_is, num_one, split, split_product, is_reduced, NoneIs, HasForm, IsReduced, reduced_words, AllParts-map, ints, and_parts, one_fraction, is_number}
+use Rattle.calc_algebra.proofs.SurdLaws.{Agree, Agree-refl, Agree-sym, Agree-trans, Agree-eq, Agree-Same, Agree-append, Agree-surd_times, Agree-surd_times_right, surd_times_assoc, surd_times-surd_one, surd_times-one, surd_times_left_comm, surd_times-surd_of, inverse_times, inverse_power}
+use Rattle.calc_algebra.proofs.TermLaws.{Same-refl}
 use Rattle.calc_algebra.proofs.SquareClassLaws.{Same-Agree}
 use Rattle.calc_algebra.proofs.MeaningLaws.{Means-Same}
 use Rattle.calc_algebra.proofs.PowerRewrites.{exponent_is}

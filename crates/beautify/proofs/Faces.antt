@@ -1,6 +1,6 @@
 -- The face of a tree that is handed, in its place.
 use Rattle.std.proofs.Common.{◌≡◌, ◌<◌, ◌≤◌, ◌+◌, ℕ, ◌∷◌, [], ap, sym, ◌∙◌, subst, arith, true}
-use Rattle.beautify.proofs.Names.{face, is_reduced, Tree, add, none, State, free_of, Full, LacksBytes, Stands, forest, KeepsRefusals, IsRefused, KeepsMeanings, Forest, join, IsHanded, Gives, Ends, Starts, KeepsFront, without_root, join_assoc, ends_without, used_forest}
+use Rattle.beautify.proofs.Shared.{face, is_reduced, Tree, add, none, State, free_of, Full, LacksBytes, Stands, forest, KeepsRefusals, IsRefused, KeepsMeanings, Forest, join, IsHanded, Gives, Ends, Starts, KeepsFront, without_root, join_assoc, ends_without, used_forest}
 use Rattle.beautify.proofs.FaceLaws.{reduced_face_means}
 use Rattle.beautify.proofs.Stacking.{bytes_of_stack}
 

@@ -1,6 +1,6 @@
 -- The factors of a product on a stack, split one after another from the last.
 use Rattle.std.proofs.Common.{◌≡◌, ℕ, zero, suc, ◌+◌, ◌<◌, ◌≤◌, refl, sym, ap, ◌∙◌, arith, true}
-use Rattle.beautify.proofs.Names.{fraction_of, unsigned_face, factor_above, factor_below, factors_above, factors_below, Tree, mult, Trees, none, more, append, count, is_mult, nth, children_of, first, behind, unsigned_faces, IsShowable, IsFactor, AreFactors, HoldsFaces}
+use Rattle.beautify.proofs.Shared.{fraction_of, unsigned_face, factor_above, factor_below, factors_above, factors_below, Tree, mult, Trees, none, more, append, count, is_mult, nth, children_of, first, behind, unsigned_faces, IsShowable, IsFactor, AreFactors, HoldsFaces}
 use Rattle.beautify.proofs.Splits.{fraction_lists}
 use Rattle.beautify.proofs.Trees.{append_assoc, count-append, count-first}
 

@@ -1,10 +1,10 @@
 -- Trees of a stack that become the children of a new node.
 use Rattle.std.proofs.Common.{◌≡◌, ℕ, suc, true, ◌+◌, ◌<◌, ◌≤◌, sym, ap, ◌∙◌, subst, arith, add-one}
-use Rattle.beautify.proofs.Names.{bare, Tree, Trees, none, more, count, Kind, nth, inserted, takes_kind, compound, plain, Forest, empty, kids, one_tree, tree_nth, without_nth, with_nth, Ends, Gives, has_root, root_tree, without_root, put, Stands, forest, State, represents_none, given_told, first, behind, cut, stacked, IsStack}
-use Rattle.calc_terms.specs.declared.kind.Kind.TheVariants as kind
+use Rattle.beautify.proofs.Shared.{bare, Tree, Trees, none, more, count, Kind, nth, inserted, takes_kind, compound, plain, Forest, empty, kids, one_tree, tree_nth, without_nth, with_nth, Ends, Gives, has_root, root_tree, without_root, put, Stands, forest, State, represents_none, given_told, first, behind, cut, stacked, IsStack}
 use Rattle.beautify.proofs.Opens.{Opens, opens_as, closed, pushed, taken_under, IsTakenUnder}
 use Rattle.beautify.proofs.Stacking.{stack_opens, IsUnder, is_under}
 use Rattle.beautify.proofs.Trees.{cut-zero, cut-cut, nth-cut, count-cut, count-first, count-behind, first-more}
+use Rattle.calc_terms.specs.declared.kind.Kind.TheVariants as kind
 
 -- n of the trees at a place have become children
 pub record IsGathering (base now : Forest) (stack over : ℕ) (k : Kind) (at n : ℕ) (ts : Trees) : Type 0 where

@@ -1,4 +1,3 @@
-pub mod Names
 pub mod Trees
 pub mod Opens
 pub mod Stacking
@@ -24,3 +23,4 @@ pub mod FaceLaws
 pub mod FaceTexts
 pub mod OwnFaces
 pub mod NaturalNodes
+pub mod Shared

@@ -1,7 +1,7 @@
 -- Marks at nodes of a tree.
 use Rattle.std.proofs.Common.{◌≡◌, ℕ, zero, suc, ◌+◌, ◌<◌, add-one, List, [], ◌∷◌, ◌++◌, length, drop, refl, sym, ap, ◌∙◌, subst, arith, true}
+use Rattle.beautify.proofs.Shared.{IsMark, IsChildMark, Mark, Node, first_of, Forest, empty, tree, arity, first_trees, flatten, kids, nodes_in, root_id, tree_nth, holds, tree_at, kids_of, nodes-flatten, at, root_at}
 use Rattle.std.proofs.lemmas.List.{append-nil}
-use Rattle.beautify.proofs.Names.{IsMark, IsChildMark, Mark, Node, first_of, Forest, empty, tree, arity, first_trees, flatten, kids, nodes_in, root_id, tree_nth, holds, tree_at, kids_of, nodes-flatten, at, root_at}
 
 -- a tree's root is marked
 pub at_root : (m : Mark) (i : ℕ) (f : Forest) → m.tree ≡ i → m.node ≡ i → m.before ≡ 0 → holds i f ≡ true → IsMark m f

@@ -1,8 +1,8 @@
 -- The rationals of a tree, node by node.
 use Rattle.std.proofs.Common.{◌≡◌, ℕ, List, [], ◌∷◌, ◌++◌, ℤ, Bool, true, false, not, ◌&&◌, ◌==◌, refl, sym, ap, ◌∙◌, arith}
-use Rattle.beautify.proofs.Names.{is_natural, has_natural_numbers, holds_natural, all_parts, all_parts_of, Node, int_is_negative, Payload, rational, named, bare, kind_of_payload, Trees, none, more, count, Kind, Visit, flatten-join, seen, found-join, visit_here, visits_left, no_visit, one_at, by_test, alone, count-plains, nth, grown, compound, plains, plain, takes, takes_kind, AllExpressions, IsExpression, Forest, empty, tree, join, flatten, root_payload, holds, payload_in, tree_at, eqb-true, eq-eqb}
-use Rattle.calc_terms.specs.declared.kind.Kind.TheVariants as kind
+use Rattle.beautify.proofs.Shared.{is_natural, has_natural_numbers, holds_natural, all_parts, all_parts_of, Node, int_is_negative, Payload, rational, named, bare, kind_of_payload, Trees, none, more, count, Kind, Visit, flatten-join, seen, found-join, visit_here, visits_left, no_visit, one_at, by_test, alone, count-plains, nth, grown, compound, plains, plain, takes, takes_kind, AllExpressions, IsExpression, Forest, empty, tree, join, flatten, root_payload, holds, payload_in, tree_at, eqb-true, eq-eqb}
 use Rattle.tree_handles.specs.Visits.{visits_of, visit_at, AreFound}
+use Rattle.calc_terms.specs.declared.kind.Kind.TheVariants as kind
 
 -- the same of a list of nodes
 abbrev pub hold_naturals : List Node → Bool

@@ -1,6 +1,6 @@
 -- What a node is, by the kind of its root.
 use Rattle.std.proofs.Common.{◌≡◌, ◌≤◌, refl, sym, ap, subst, arith, true}
-use Rattle.beautify.proofs.Names.{unsigned_face, has_minus, with_minus, Tree, num, symbol, undef, add, mult, power, root, neg, Trees, none, more, count, root_kind, is_add, is_mult, Kind, nth, children_of, behind, node_room, IsShowable, HoldsFaces}
+use Rattle.beautify.proofs.Shared.{unsigned_face, has_minus, with_minus, Tree, num, symbol, undef, add, mult, power, root, neg, Trees, none, more, count, root_kind, is_add, is_mult, Kind, nth, children_of, behind, node_room, IsShowable, HoldsFaces}
 use Rattle.calc_terms.specs.declared.kind.Kind.TheVariants as kind
 
 abbrev is_pow_kind : Kind → Tree

@@ -1,6 +1,6 @@
 -- A node over trees that stands last, and trees that come to it or leave it.
 use Rattle.std.proofs.Common.{◌≡◌, ℕ, zero, suc, ◌<◌, refl, sym, ap, ◌∙◌, subst, arith, true}
-use Rattle.beautify.proofs.Names.{Payload, rational, named, bare, is_bare, kind_of_payload, Tree, Trees, none, more, count, root_kind, Kind, nth, inserted, compound, grown, plain, plains, takes_kind, children_of, IsWhole, AllExpressions, Label, Forest, empty, tree, join, arity, kids, one_tree, first_trees, rest_trees, tree_nth, without_nth, with_nth, IsOnce, AllOnce, IsOwned, Represents, Ends, Gives, root_tree, without_root, put, all-join, all-first_trees, all-rest_trees, arity-tree_nth, gives, represents_node, represents_handed, represents_with, given_handed, given_same, given_rest, given_told, last_root, last_tree, last_rest, last_put, ends_put, ends_without, ends_as, other_tree, count-plains, plain-tree_nth, alone, grown_whole, cut}
+use Rattle.beautify.proofs.Shared.{Payload, rational, named, bare, is_bare, kind_of_payload, Tree, Trees, none, more, count, root_kind, Kind, nth, inserted, compound, grown, plain, plains, takes_kind, children_of, IsWhole, AllExpressions, Label, Forest, empty, tree, join, arity, kids, one_tree, first_trees, rest_trees, tree_nth, without_nth, with_nth, IsOnce, AllOnce, IsOwned, Represents, Ends, Gives, root_tree, without_root, put, all-join, all-first_trees, all-rest_trees, arity-tree_nth, gives, represents_node, represents_handed, represents_with, given_handed, given_same, given_rest, given_told, last_root, last_tree, last_rest, last_put, ends_put, ends_without, ends_as, other_tree, count-plains, plain-tree_nth, alone, grown_whole, cut}
 
 -- a node of a kind over these trees stands last, behind the others
 pub record Opens (others f : Forest) (i : ℕ) (k : Kind) (ts : Trees) : Type 0 where

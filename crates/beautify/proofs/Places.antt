@@ -1,8 +1,8 @@
 -- What changes at a place of a stack leave of the trees around it.
 use Rattle.std.proofs.Common.{◌≡◌, ℕ, zero, suc, ◌+◌, ◌<◌, ◌≤◌, refl, sym, ap, ◌∙◌, arith, Bool, if◌then◌else◌}
-use Rattle.beautify.proofs.Names.{product_of, fraction_of, unless_one, Tree, mult, neg, div, Trees, none, more, append, count, whole_num, nth, inserted, first, behind, cut, gathered, fraction_room, product_room, whole_size, ne_eqb}
-use Rattle.calc_terms.specs.declared.kind.Kind.TheVariants as kind
+use Rattle.beautify.proofs.Shared.{product_of, fraction_of, unless_one, Tree, mult, neg, div, Trees, none, more, append, count, whole_num, nth, inserted, first, behind, cut, gathered, fraction_room, product_room, whole_size, ne_eqb}
 use Rattle.beautify.proofs.Trees.{count-first, count-behind, count-append}
+use Rattle.calc_terms.specs.declared.kind.Kind.TheVariants as kind
 
 pub nth-first : (us : Trees) → nth 0 (first 1 us) ≡ nth 0 us
 nth-first none = refl

@@ -1,6 +1,6 @@
 -- The parts of a reduced tree can be shown.
 use Rattle.std.proofs.Common.{◌≡◌, ◌≤◌, ℕ, ℤ, zero, suc, pos, negsuc, Bool, if◌then◌else◌, [], length, inl, inr, refl, sym, ap, ◌∙◌, arith, true, false}
-use Rattle.beautify.proofs.Names.{Tree, num, symbol, undef, add, mult, power, root, neg, sub, div, Trees, none, more, AllParts, AllPartsOf, is_mult, is_undef, HasTwo, Fraction, is_zero_fraction, below_zero, exponent_below, has_minus, IsTerm, classes, surd_of, is_reduced, NoneIs, HasForm, IsReduced, IsWholePowerForm, reduced_words, IsShowable, IsFactor, AreFactors}
+use Rattle.beautify.proofs.Shared.{Tree, num, symbol, undef, add, mult, power, root, neg, sub, div, Trees, none, more, AllParts, AllPartsOf, is_mult, is_undef, HasTwo, Fraction, is_zero_fraction, below_zero, exponent_below, has_minus, IsTerm, classes, surd_of, is_reduced, NoneIs, HasForm, IsReduced, IsWholePowerForm, reduced_words, IsShowable, IsFactor, AreFactors}
 use Rattle.calc_algebra.proofs.NumberLaws.{number_test}
 
 -- the root of a part of a reduced tree

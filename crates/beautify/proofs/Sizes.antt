@@ -1,9 +1,9 @@
 -- Bytes of the trees of a stack, before a change and after it.
 use Rattle.std.proofs.Common.{◌≡◌, ℕ, zero, suc, ◌+◌, ◌*◌, ◌<◌, ◌≤◌, ap, ◌∙◌, arith, true}
-use Rattle.beautify.proofs.Names.{Tree, add, div, Trees, none, more, append, count, size, sizes, is_add, is_div, Kind, used, State, free_of, nth, inserted, compound, takes_kind, children_of, Stands, forest, first, behind, cut, gathered, stacked, IsStack, Restacks, least_size, eqb-true}
-use Rattle.calc_terms.specs.declared.kind.Kind.TheVariants as kind
+use Rattle.beautify.proofs.Shared.{Tree, add, div, Trees, none, more, append, count, size, sizes, is_add, is_div, Kind, used, State, free_of, nth, inserted, compound, takes_kind, children_of, Stands, forest, first, behind, cut, gathered, stacked, IsStack, Restacks, least_size, eqb-true}
 use Rattle.beautify.proofs.Stacking.{free_after, bytes_of_stack, same_stack}
 use Rattle.beautify.proofs.Trees.{count-first, count-behind}
+use Rattle.calc_terms.specs.declared.kind.Kind.TheVariants as kind
 
 pub sizes-append : (xs ys : Trees) → sizes (append xs ys) ≡ sizes xs + sizes ys
 sizes-append none ys = omega arith

@@ -1,9 +1,9 @@
 -- Fractions on a stack: numbers, powers and factors.
 use Rattle.std.proofs.Common.{◌≡◌, ℕ, zero, suc, ◌+◌, ◌<◌, ◌≤◌, refl, sym, ap, ◌∙◌, arith, Bool, true, false, ◌==◌, nat_abs, if◌then◌else◌}
 use Rattle.std.specs.Prelude.{ℤ, pos, negsuc}
-use Rattle.beautify.proofs.Names.{fraction_of, product_of, power_below, unsigned_face, unless_one, exponent_below, below_zero, has_minus, with_minus, factor_above, factor_below, Fraction, Tree, num, symbol, add, power, root, Trees, none, more, append, count, is_div, whole_num, root_kind, nth, inserted, children_of, first, behind, cut, node_room, IsFactor, HoldsFaces, stands_below, ltb-true, ltb-false, ne_eqb}
-use Rattle.calc_terms.specs.declared.kind.Kind.TheVariants as kind
+use Rattle.beautify.proofs.Shared.{fraction_of, product_of, power_below, unsigned_face, unless_one, exponent_below, below_zero, has_minus, with_minus, factor_above, factor_below, Fraction, Tree, num, symbol, add, power, root, Trees, none, more, append, count, is_div, whole_num, root_kind, nth, inserted, children_of, first, behind, cut, node_room, IsFactor, HoldsFaces, stands_below, ltb-true, ltb-false, ne_eqb}
 use Rattle.beautify.proofs.Trees.{first-append, behind-append, append_assoc, count-append, inserted-append, cut-append, unless_one_test}
+use Rattle.calc_terms.specs.declared.kind.Kind.TheVariants as kind
 
 -- the lists of a fraction, by their lengths
 pub fraction_lists : (a b : ℕ) (us vs ts ts2 : Trees) → a ≡ count us → b ≡ count vs → ts2 ≡ append us (append vs ts) → more (fraction_of (first a ts2) (first b (behind a ts2))) (behind (a + b) ts2) ≡ more (fraction_of us vs) ts

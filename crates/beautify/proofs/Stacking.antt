@@ -1,10 +1,10 @@
 -- What the calls on a stack want and give.
 use Rattle.std.proofs.Common.{◌≡◌, ◌↔◌, ℕ, ◌+◌, ◌<◌, ◌≤◌, refl, sym, ap, ◌∙◌, subst, arith, true, false, Result, Ok, Err, IfErr, OnOk}
-use Rattle.beautify.proofs.Names.{Tree, add, Trees, none, more, count, size, sizes, is_add, Kind, used, State, free_of, Full, plain, inserted, children_of, IsExpression, AllExpressions, Forest, arity, kids, bytes_in, Gives, Ends, Starts, holds, kids_of, tree_at, has_root, root_tree, without_root, Stands, forest, IsRefused, bytes_in-join, keeps_after, refuses_after, given_rest, given_told, gives_as, last_root, last_tree, other_root, other_apart, other_tree, apart, kids_of_root, eqb-sym, used_forest, count-plains, size-plain, root_held, stacked, IsStack, Restacks, FailsAbove}
-use Rattle.calc_terms.specs.declared.kind.Kind.TheVariants as kind
+use Rattle.beautify.proofs.Shared.{Tree, add, Trees, none, more, count, size, sizes, is_add, Kind, used, State, free_of, Full, plain, inserted, children_of, IsExpression, AllExpressions, Forest, arity, kids, bytes_in, Gives, Ends, Starts, holds, kids_of, tree_at, has_root, root_tree, without_root, Stands, forest, IsRefused, bytes_in-join, keeps_after, refuses_after, given_rest, given_told, gives_as, last_root, last_tree, other_root, other_apart, other_tree, apart, kids_of_root, eqb-sym, used_forest, count-plains, size-plain, root_held, stacked, IsStack, Restacks, FailsAbove}
 use Rattle.tree_handles.proofs.Joins.{holds-left, tree_at-join_left}
 use Rattle.beautify.proofs.Opens.{Opens, opened, opened_as, closed}
 use Rattle.beautify.proofs.Trees.{add_kind}
+use Rattle.calc_terms.specs.declared.kind.Kind.TheVariants as kind
 
 -- ---- a stack
 

@@ -1,6 +1,6 @@
 -- The stages in which the first two trees of a stack become one.
 use Rattle.std.proofs.Common.{◌≡◌, suc, ◌+◌, ◌<◌, ◌≤◌, refl, ap, ◌∙◌, arith, Bool}
-use Rattle.beautify.proofs.Names.{fraction_of, with_minus, Tree, power, Trees, none, more, count, nth, inserted, first, behind, cut, gathered}
+use Rattle.beautify.proofs.Shared.{fraction_of, with_minus, Tree, power, Trees, none, more, count, nth, inserted, first, behind, cut, gathered}
 use Rattle.calc_terms.specs.declared.kind.Kind.TheVariants as kind
 
 pub two_stay : (ts ts1 : Trees) (x : Tree) → 2 ≤ count ts → ts1 ≡ more x (behind 1 ts) → 1 < count ts1

@@ -1,10 +1,9 @@
 -- The nodes of a tree from the last to the first.
 use Rattle.std.proofs.Common.{◌≡◌, ℕ, zero, suc, ◌+◌, ◌*◌, ◌<◌, ◌≤◌, List, [], ◌∷◌, ◌++◌, length, take, drop, refl, sym, ap, ◌∙◌, subst, arith, true, false}
-use Rattle.beautify.proofs.Names.{unsigned_face, Node, Tree, num, symbol, undef, add, mult, power, root, Trees, none, more, append, count, size, sizes, root_size, AllParts, AllPartsOf, has, first_of, place_of, AreDistinct, plain, plains, grown, children_of, IsExpression, AllExpressions, IsWhole, Label, Forest, empty, tree, join, arity, flatten, node_of, holds, tree_at, kids_of, Distinct, distinct-tree_at, tree_at-inside, holds-tree_at, not_before, forest_of-flatten, forest_of_whole, has-flatten, first_trees-join, rest_trees-join, all-join, at, has_mid, plains-join, grown_whole, alone, behind, unsigned_faces, IsShowable, HoldsFaces, one_at, node_room, split_at, tail_of}
+use Rattle.beautify.proofs.Shared.{unsigned_face, Node, Tree, num, symbol, undef, add, mult, power, root, Trees, none, more, append, count, size, sizes, root_size, AllParts, AllPartsOf, has, first_of, place_of, AreDistinct, plain, plains, grown, children_of, IsExpression, AllExpressions, IsWhole, Label, Forest, empty, tree, join, arity, flatten, node_of, holds, tree_at, kids_of, Distinct, distinct-tree_at, tree_at-inside, holds-tree_at, not_before, forest_of-flatten, forest_of_whole, has-flatten, first_trees-join, rest_trees-join, all-join, at, has_mid, plains-join, grown_whole, alone, behind, unsigned_faces, IsShowable, HoldsFaces, one_at, node_room, split_at, tail_of, forest_of}
 use Rattle.node_pool.specs.Places.{since}
 use Rattle.node_pool.proofs.Cuts.{since-append}
 use Rattle.node_pool.proofs.Splits.{place_of-append}
-use Rattle.tree_handles.specs.Forest.{forest_of}
 use Rattle.beautify.proofs.Factors.{count-faces, faces-append}
 use Rattle.beautify.proofs.Sizes.{sizes-append}
 use Rattle.beautify.proofs.Bounds.{bounds, needs}

@@ -1,6 +1,6 @@
 -- The terms of a sum, one after another.
 use Rattle.std.proofs.Common.{◌≡◌, ℕ, zero, suc, ◌+◌, ◌-◌, ◌*◌, ◌<◌, ◌≤◌, refl, sym, ap, ◌∙◌, arith, add-one, Bool, true, false, subst}
-use Rattle.beautify.proofs.Names.{next_term, next_terms, has_minus, with_minus, unsigned_face, SoFar, single, as_tree, Tree, add, Trees, none, more, append, count, is_add, nth, children_of, first, behind, node_room, unsigned_faces, is_summed, IsShowable, HoldsFaces}
+use Rattle.beautify.proofs.Shared.{next_term, next_terms, has_minus, with_minus, unsigned_face, SoFar, single, as_tree, Tree, add, Trees, none, more, append, count, is_add, nth, children_of, first, behind, node_room, unsigned_faces, is_summed, IsShowable, HoldsFaces}
 use Rattle.beautify.proofs.Factors.{all_first}
 
 -- what the first n terms and one make

@@ -1,6 +1,6 @@
 -- Lists of trees and their places.
 use Rattle.std.proofs.Common.{◌≡◌, ℕ, zero, suc, ◌+◌, ◌-◌, ◌<◌, ◌≤◌, refl, ap, ◌∙◌, arith, true, ◌==◌, if◌then◌else◌}
-use Rattle.beautify.proofs.Names.{Tree, add, div, Trees, none, more, append, count, is_add, is_div, root_kind, is_bare, Kind, nth, inserted, takes_kind, children_of, first, behind, cut, append-none, whole_num, power, unless_one, power_below, by_test, eqb-true}
+use Rattle.beautify.proofs.Shared.{Tree, add, div, Trees, none, more, append, count, is_add, is_div, root_kind, is_bare, Kind, nth, inserted, takes_kind, children_of, first, behind, cut, append-none, whole_num, power, unless_one, power_below, by_test, eqb-true}
 use Rattle.calc_terms.specs.declared.kind.Kind.TheVariants as kind
 
 pub behind-behind : (n : ℕ) (ts : Trees) → behind 1 (behind n ts) ≡ behind (suc n) ts

@@ -1,15 +1,7 @@
 -- A Bad tree has no value, and an Easy tree has one or is Bad.
 use Rattle.std.proofs.Common.{◌≡◌, ℕ, zero, suc, ◌⊎◌, inl, inr, ℤ, pos, negsuc, [], true, sym, ap, ◌∙◌, arith}
 use Rattle.std.specs.Prelude.{◌≤ℤ◌}
-use Rattle.std.proofs.lemmas.Int.{ints}
-use Rattle.calc_terms.specs.Integers.{int_is_negative}
-use Rattle.calc_terms.specs.Fractions.{Fraction, zero_fraction, one_fraction, whole_fraction, lowest}
-use Rattle.calc_terms.specs.Gcd.{gcd}
-use Rattle.calc_terms.specs.Trees.{Tree, undef, add, mult, power, root, neg, sub, div, Trees, none, more, IsPart, itself, in_add, in_mult, in_base, in_exponent, in_root, in_neg, in_left, in_right, in_dividend, in_divisor, IsPartOf, first, later}
-use Rattle.calc_algebra.specs.Surds.{Surd, surd_of, surd_one}
-use Rattle.calc_algebra.specs.SquareClasses.{Same, Inverts}
-use Rattle.calc_algebra.specs.Meanings.{MeansSum, MeansProduct, IsWholePower, IsPower, IsRootOf, IsAssignment}
-use Rattle.calc_algebra.specs.BadAndEasy.{HasValue, IsNegative, IsHalf, GivesZeroNoPower, IsBadNode, IsBad, IsEasy}
+use Rattle.calc_algebra.proofs.Shared.{ints, int_is_negative, Fraction, zero_fraction, one_fraction, whole_fraction, lowest, gcd, Tree, undef, add, mult, power, root, neg, sub, div, Trees, none, more, IsPart, itself, in_add, in_mult, in_base, in_exponent, in_root, in_neg, in_left, in_right, in_dividend, in_divisor, IsPartOf, first, later, Surd, surd_of, surd_one, Same, Inverts, MeansSum, MeansProduct, IsWholePower, IsPower, IsRootOf, IsAssignment, HasValue, IsNegative, IsHalf, GivesZeroNoPower, IsBadNode, IsBad, IsEasy}
 use Rattle.calc_algebra.proofs.SurdLaws.{Agree, Agree-Same, Agree-sym, Agree-trans, Agree-eq, Agree-surd_times_right, surd_times-nil}
 use Rattle.calc_algebra.proofs.SquareClassLaws.{Same-Agree}
 use Rattle.calc_algebra.proofs.PowerLaws.{root_zero}

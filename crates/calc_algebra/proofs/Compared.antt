@@ -1,10 +1,7 @@
 -- A test that surds are the same, for examples that compute.
 use Rattle.std.proofs.Common.{◌≡◌, ℕ, zero, suc, [], ◌∷◌, List, Bool, true, false, ◌&&◌, ◌==◌, ap, arith}
 use Rattle.std.specs.Prelude.{ℤ, pos, negsuc, Contains}
-use Rattle.std.proofs.lemmas.Bool.{and_parts, eqb-true}
-use Rattle.calc_terms.specs.Fractions.{Fraction, fraction_path}
-use Rattle.calc_algebra.specs.Surds.{Surd}
-use Rattle.calc_algebra.specs.SquareClasses.{class_coefficient, radicands, Same}
+use Rattle.calc_algebra.proofs.Shared.{and_parts, eqb-true, Fraction, fraction_path, Surd, class_coefficient, radicands, Same}
 
 abbrev same_int : ℤ → ℤ → Bool
 same_int (pos m) (pos n) = m == n

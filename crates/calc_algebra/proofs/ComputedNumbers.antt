@@ -1,14 +1,11 @@
 -- What the computed functions on naturals give.
 use Rattle.std.proofs.Common.{◌≡◌, ℕ, zero, suc, ◌+◌, ◌*◌, ◌^◌, ◌≤◌, ◌<◌, true, refl, arith, inl, inr, ◌/◌, ◌%◌, ap, sym, subst}
 use Rattle.std.specs.Prelude.{◌⊎◌}
-use Rattle.std.proofs.lemmas.Nat.Gcd.{mod-eq-zero_of_dvd, dvd_of_mod-eq-zero, dvd_trans}
+use Rattle.calc_algebra.proofs.Shared.{mod-eq-zero_of_dvd, dvd_of_mod-eq-zero, dvd_trans, square_root, trial_limit, without, left_from, left_of, IsTried, empty_product, one_factor_more, are_alike}
+use Rattle.std.proofs.Math.Nat.{two-pow-succ}
+use Rattle.calc_algebra.proofs.SquareClassLaws.{alike_from, alike_true}
 use native.Mathlib.Nat.{dvd-mul_right, mul-div_cancel'}
 use Prim.Native.Nat.{◌∣◌}
-use Rattle.std.proofs.Math.Nat.{two-pow-succ}
-use Rattle.calc_algebra.specs.SquareRoots.{square_root}
-use Rattle.calc_algebra.specs.Clean.{trial_limit, without, left_from, left_of, IsTried, empty_product, one_factor_more}
-use Rattle.calc_algebra.specs.SquareClasses.{are_alike}
-use Rattle.calc_algebra.proofs.SquareClassLaws.{alike_from, alike_true}
 
 pub below_power : (k : ℕ) → k < 2 ^ k
 below_power zero = omega arith

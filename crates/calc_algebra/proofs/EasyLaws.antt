@@ -1,14 +1,7 @@
 -- Bad and Easy trees from their children, and what their reduced trees tell.
 use Rattle.std.proofs.Common.{◌≡◌, ◌≢◌, ℕ, ◌≤◌, ◌⊎◌, inl, inr, ℤ, pos, negsuc, List, [], ◌∷◌, ◌++◌, true, false, refl, subst}
 use Rattle.std.specs.Prelude.{◌≤ℤ◌}
-use Rattle.calc_algebra.specs.BadAndEasy.{HasValue, IsZero, IsWhole, IsNegative, GivesZeroNoPower, IsBadNode, IsBad, IsEasy}
-use Rattle.calc_terms.specs.Fractions.{Fraction, zero_fraction, whole_fraction}
-use Rattle.calc_terms.specs.Integers.{int_is_negative}
-use Rattle.calc_algebra.specs.Meanings.{Means, IsPower, IsRootOf}
-use Rattle.calc_algebra.specs.Numbers.{IsNumber, value, classes}
-use Rattle.calc_algebra.specs.SquareClasses.{Same}
-use Rattle.calc_algebra.specs.Surds.{Surd, surd_of}
-use Rattle.calc_terms.specs.Trees.{Tree, num, undef, add, mult, power, root, neg, sub, div, Trees, none, more, names, names_of, IsPart, itself, in_add, in_mult, in_base, in_exponent, in_root, in_neg, in_left, in_right, in_dividend, in_divisor, IsPartOf, first, later}
+use Rattle.calc_algebra.proofs.Shared.{HasValue, IsZero, IsWhole, IsNegative, GivesZeroNoPower, IsBadNode, IsBad, IsEasy, Fraction, zero_fraction, whole_fraction, int_is_negative, Means, IsPower, IsRootOf, IsNumber, value, classes, Same, Surd, surd_of, Tree, num, undef, add, mult, power, root, neg, sub, div, Trees, none, more, names, names_of, IsPart, itself, in_add, in_mult, in_base, in_exponent, in_root, in_neg, in_left, in_right, in_dividend, in_divisor, IsPartOf, first, later}
 use Rattle.calc_algebra.proofs.MeaningLaws.{Means-Same, Same-sym}
 use Rattle.calc_algebra.proofs.MeaningRewrites.{KeepsMeanings}
 use Rattle.calc_algebra.proofs.NumberClasses.{number_zero, number_rational, number_short}

@@ -1,11 +1,6 @@
 -- Powers whose exponents are surds, whole numbers or halves of odd ones: exponents are added, and multiplied by whole numbers.
 use Rattle.std.proofs.Common.{◌≡◌, inl, inr, Bool, true, false, ℤ, pos, ◌+ℤ◌, ◌*ℤ◌, ◌++◌, refl, sym, ap, ◌∙◌, arith}
-use Rattle.std.proofs.lemmas.Int.{ints}
-use Rattle.calc_terms.specs.Fractions.{Fraction, lowest, plus, plus_lowest, times, times_lowest, whole_fraction}
-use Rattle.calc_terms.specs.Integers.{int_is_even}
-use Rattle.calc_algebra.specs.Meanings.{IsWholePower, IsPower, IsRoot}
-use Rattle.calc_algebra.specs.SquareClasses.{Same}
-use Rattle.calc_algebra.specs.Surds.{Surd, surd_of, surd_times}
+use Rattle.calc_algebra.proofs.Shared.{ints, Fraction, lowest, plus, plus_lowest, times, times_lowest, whole_fraction, int_is_even, IsWholePower, IsPower, IsRoot, Same, Surd, surd_of, surd_times}
 use Rattle.calc_algebra.proofs.HalfLaws.{half_of, half_of_is, half_parts, even_split, half_whole, whole_plus_half, half_plus_half, half_times_whole}
 use Rattle.calc_algebra.proofs.MeaningLaws.{Same-sym, one_root_of}
 use Rattle.calc_algebra.proofs.PowerLaws.{IsWholePower-Same, whole_power_add, whole_power_mul, root_squared, even_power_of_root}

@@ -1,11 +1,7 @@
 -- Halves of odd whole numbers: fractions whose denominator is 2.
 use Rattle.std.proofs.Common.{◌≡◌, ℕ, zero, suc, ◌<◌, ◌%◌, ◌/◌, Bool, true, false, ◌==◌, ℤ, pos, negsuc, ◌+ℤ◌, ◌*ℤ◌, refl, ap, ◌∙◌, subst, arith}
 use Rattle.std.specs.Prelude.{nat_abs, nat_lt}
-use Rattle.std.proofs.lemmas.Bool.{eqb-true, eq-eqb}
-use Rattle.std.proofs.lemmas.Int.{ints}
-use Rattle.calc_terms.specs.Fractions.{Fraction, lowest, Holds, held, second_held, is_lowest, lowest_parts, same_lowest, plus, plus_lowest, times, times_lowest, whole_fraction}
-use Rattle.calc_terms.specs.Gcd.{gcd, gcd_in}
-use Rattle.calc_terms.specs.Integers.{int_is_even}
+use Rattle.calc_algebra.proofs.Shared.{eqb-true, eq-eqb, ints, Fraction, lowest, Holds, held, second_held, is_lowest, lowest_parts, same_lowest, plus, plus_lowest, times, times_lowest, whole_fraction, gcd, gcd_in, int_is_even}
 
 gcd_two : (a r : ℕ) → a % 2 ≡ r → gcd a 2 ≡ gcd_in 1 2 r
 unfolding gcd

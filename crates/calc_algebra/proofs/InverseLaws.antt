@@ -1,23 +1,13 @@
 -- Inverses: of one term, of two terms that are not alike, of products and powers, and which surds have one.
 use Rattle.std.proofs.Common.{◌≡◌, ◌≢◌, ℕ, zero, suc, ◌*◌, ◌<◌, ◌≤◌, ℤ, pos, negsuc, ◌*ℤ◌, [], ◌∷◌, Bool, true, false, length, refl, sym, ap, ◌∙◌, arith}
 use Rattle.std.specs.Prelude.{nat_abs}
-use Rattle.std.proofs.lemmas.Int.{ints}
-use Rattle.std.proofs.lemmas.Bool.{not_from_false}
-use native.Mathlib.Nat.{mul-one}
-use Rattle.calc_algebra.specs.BadAndEasy.{IsShort}
-use Rattle.calc_terms.specs.FractionLaws.{negative_lowest, times_comm, times_assoc, times_plus, zero_plus, zero_times, one_times, plus_negative}
-use Rattle.calc_terms.specs.Fractions.{Fraction, lowest, plus, times, negative, inverse, inverse_of, zero_fraction, one_fraction, is_zero_fraction, plus_comm, plus_assoc, same_lowest, lowest_parts, den_pos, plus_lowest, times_lowest, mul_pos, quotient, whole_fraction}
-use Rattle.calc_terms.specs.Gcd.{gcd}
-use Rattle.calc_terms.specs.Integers.{int_is_zero, parts, diffs, eq_diff}
-use Rattle.calc_algebra.specs.SquareClasses.{are_alike, Same, Inverts}
-use Rattle.calc_algebra.specs.SquareRoots.{square_root}
-use Rattle.calc_algebra.specs.Surds.{Surd, term, surd_of, surd_one, surd_times, surd_power}
-use Rattle.calc_terms.proofs.FractionFacts.{zero_is, no_zero, cross_products}
+use Rattle.calc_algebra.proofs.Shared.{ints, not_from_false, IsShort, negative_lowest, times_comm, times_assoc, times_plus, zero_plus, zero_times, one_times, plus_negative, Fraction, lowest, plus, times, negative, inverse, inverse_of, zero_fraction, one_fraction, is_zero_fraction, plus_comm, plus_assoc, same_lowest, lowest_parts, den_pos, plus_lowest, times_lowest, mul_pos, quotient, whole_fraction, gcd, int_is_zero, parts, diffs, eq_diff, are_alike, Same, Inverts, square_root, Surd, term, surd_of, surd_one, surd_times, surd_power, zero_is, no_zero, cross_products}
 use Rattle.calc_algebra.proofs.MeaningLaws.{class_coefficient-surd_of, Same-sym}
 use Rattle.calc_algebra.proofs.SquareClassLaws.{Alike, alike_from, alike_true, Same-Agree, Same-trans}
 use Rattle.calc_algebra.proofs.SquareRootLaws.{square_from_scaled}
 use Rattle.calc_algebra.proofs.SurdLaws.{Agree-sym, Agree-trans, Agree-eq, Agree-Same, Agree-surd_times, Agree-surd_times_right, one_inverse, inverse_times, inverse_power, surd_times_comm, surd_times-nil, times_zero}
 use Rattle.calc_algebra.proofs.TermLaws.{Same-refl, Same-eq, Same-append, extracted, joined_radicand, zero_term, zero_radicand}
+use native.Mathlib.Nat.{mul-one}
 
 -- ---- inverses of fractions
 

@@ -25,3 +25,4 @@ pub mod EasyLaws
 pub mod ComputedNumbers
 pub mod Names
 pub mod Rewritings
+pub mod Shared

@@ -1,16 +1,8 @@
 -- A meaning is closed under sameness, and unique up to it.
 use Rattle.std.specs.Prelude.{ℕ, zero, suc, ◌≡◌, ℤ, pos, negsuc, List, [], ◌∷◌, Contains, ◌⊎◌, ◌*ℤ◌}
 use Rattle.std.proofs.Common.{inl, inr, subst, sym, ap, ◌∙◌, arith}
+use Rattle.calc_algebra.proofs.Shared.{times_comm, one_times, zero_plus, Fraction, lowest, zero_fraction, one_fraction, plus_comm, lowest_cross, den_pos, whole_fraction, minus_one_fraction, cancel_pos, whole_denominator, Gives, Binding, bound_names, Assignment, IsAssignment, Means, MeansSum, MeansProduct, IsWholePower, IsPower, IsRootOf, IsRoot, Same, Inverts, class_coefficient, square_root, Surd, surd_one, surd_of, Tree, num, symbol, undef, add, mult, power, root, neg, sub, div, Trees, none, more}
 use Rattle.std.proofs.lemmas.List.{get_or-map, length-map}
-use Rattle.calc_terms.specs.FractionLaws.{times_comm, one_times, zero_plus}
-use Rattle.calc_terms.specs.Fractions.{Fraction, lowest, zero_fraction, one_fraction, plus_comm, lowest_cross, den_pos, whole_fraction, minus_one_fraction}
-use Rattle.calc_terms.specs.Integers.{cancel_pos}
-use Rattle.calc_terms.proofs.FractionFacts.{whole_denominator}
-use Rattle.calc_algebra.specs.Meanings.{Gives, Binding, bound_names, Assignment, IsAssignment, Means, MeansSum, MeansProduct, IsWholePower, IsPower, IsRootOf, IsRoot}
-use Rattle.calc_algebra.specs.SquareClasses.{Same, Inverts, class_coefficient}
-use Rattle.calc_algebra.specs.SquareRoots.{square_root}
-use Rattle.calc_algebra.specs.Surds.{Surd, surd_one, surd_of}
-use Rattle.calc_terms.specs.Trees.{Tree, num, symbol, undef, add, mult, power, root, neg, sub, div, Trees, none, more}
 use Rattle.calc_algebra.proofs.SquareClassLaws.{Same-trans, Same-Agree}
 use Rattle.calc_algebra.proofs.SurdLaws.{Agree, Agree-refl, Agree-sym, Agree-trans, Agree-eq, Agree-append, Agree-surd_scale, Agree-surd_times, Agree-surd_times_right, Agree-surd_power, one_inverse}
 

@@ -1,13 +1,9 @@
 -- Rewritings of sums and products that keep meanings: each meaning of the old tree is one of the new, under every assignment.
 use Rattle.std.proofs.Common.{◌≡◌, ℕ, zero, suc, ◌<◌, List, [], ◌∷◌, ◌++◌, length, refl, sym, arith, subst, append_assoc, append-nil, set, get_or}
+use Rattle.calc_algebra.proofs.Shared.{zero_fraction, one_fraction, minus_one_fraction, Assignment, IsAssignment, Means, Same, Surd, surd_of, surd_one, surd_scale, surd_times, Tree, num, undef, add, mult, power, root, neg, sub, div, Trees, none, more, append}
 use Rattle.std.specs.List.Sorted.{IsPermutation}
 use Rattle.std.proofs.lemmas.List.Edits.{swap_is}
 use Rattle.std.proofs.lemmas.List.Sorted.{IsPermutation-keeps}
-use Rattle.calc_terms.specs.Fractions.{zero_fraction, one_fraction, minus_one_fraction}
-use Rattle.calc_algebra.specs.Meanings.{Assignment, IsAssignment, Means}
-use Rattle.calc_algebra.specs.SquareClasses.{Same}
-use Rattle.calc_algebra.specs.Surds.{Surd, surd_of, surd_one, surd_scale, surd_times}
-use Rattle.calc_terms.specs.Trees.{Tree, num, undef, add, mult, power, root, neg, sub, div, Trees, none, more, append}
 use Rattle.calc_algebra.proofs.InverseLaws.{Same-times_zero}
 use Rattle.calc_algebra.proofs.MeaningLaws.{one_meaning, Means-Same, Same-sym}
 use Rattle.calc_algebra.proofs.SquareClassLaws.{Same-trans, Same-Agree}

@@ -1,12 +1,9 @@
 -- The names in trees, and in lists of trees.
 use Rattle.std.proofs.Common.{ℕ, ◌≡◌, ◌⊎◌, inl, inr, true, List, [], ◌++◌, refl, sym, ap, ◌∙◌, subst, append_assoc, arith}
 use Rattle.std.specs.Prelude.{Contains}
-use Rattle.std.proofs.lemmas.List.Elements.{Contains-append_left, Contains-append_right, Contains-append_cases}
-use Rattle.calc_algebra.specs.Numbers.{IsNumber, IsTerm, AreTerms, is_number}
-use Rattle.calc_terms.specs.Trees.{Tree, num, add, mult, root, Trees, none, more, append, names, names_of}
+use Rattle.calc_algebra.proofs.Shared.{Contains-append_left, Contains-append_right, Contains-append_cases, IsNumber, IsTerm, AreTerms, is_number, Tree, num, add, mult, root, Trees, none, more, append, names, names_of, HasNoNewName}
 use Rattle.calc_algebra.proofs.MeaningRewrites.{Permuted, permuted_none, permuted_more, permuted_swap, permuted_trans}
 use Rattle.calc_algebra.proofs.NumberLaws.{number_words}
-use Rattle.calc_algebra.specs.Rewritings.{HasNoNewName}
 
 -- each name in the second list is one in the first
 pub record Within (old new : List (List ℕ)) : Type 0 where

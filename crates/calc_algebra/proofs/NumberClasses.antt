@@ -1,16 +1,7 @@
 -- What the value of a Number tells of its tree, with no bound on radicands: zero, a rational, how many classes.
 use Rattle.std.proofs.Common.{◌≡◌, ◌≢◌, ℕ, zero, suc, ◌*◌, ◌<◌, ◌≤◌, ◌⊎◌, inl, inr, pos, [], ◌∷◌, Bool, true, false, ◌==◌, ◌&&◌, length, refl, sym, ap, ◌∙◌, arith, subst}
 use Rattle.std.specs.Prelude.{⊤, nat_le}
-use Rattle.std.proofs.lemmas.Bool.{false_from_ne_true}
-use native.Mathlib.Nat.{mul_comm, one-mul}
-use Rattle.calc_algebra.specs.Clean.{IsClean}
-use Rattle.calc_terms.specs.FractionLaws.{times_comm, one_times, zero_plus}
-use Rattle.calc_terms.specs.Fractions.{Fraction, plus, times, zero_fraction, one_fraction, plus_comm, quotient, same_lowest}
-use Rattle.calc_algebra.specs.Numbers.{IsNumber, IsTerm, AreTerms, IsBelowAll, Rises, value, classes, term_of, terms_of}
-use Rattle.calc_algebra.specs.SquareClasses.{are_alike, term_share, class_coefficient, Same}
-use Rattle.calc_algebra.specs.SquareRoots.{square_root}
-use Rattle.calc_algebra.specs.Surds.{Term, Surd, term, surd_of}
-use Rattle.calc_terms.specs.Trees.{Tree, num, add, Trees, none, more}
+use Rattle.calc_algebra.proofs.Shared.{false_from_ne_true, IsClean, times_comm, one_times, zero_plus, Fraction, plus, times, zero_fraction, one_fraction, plus_comm, quotient, same_lowest, IsNumber, IsTerm, AreTerms, IsBelowAll, Rises, value, classes, term_of, terms_of, are_alike, term_share, class_coefficient, Same, square_root, Term, Surd, term, surd_of, Tree, num, add, Trees, none, more}
 use Rattle.calc_algebra.proofs.CleanLaws.{clean_no_square}
 use Rattle.calc_algebra.proofs.InverseLaws.{one_is_not_zero}
 use Rattle.calc_algebra.proofs.MeaningLaws.{Same-sym, surd_of_one}
@@ -19,6 +10,7 @@ use Rattle.calc_algebra.proofs.PowerLaws.{zero_surd_of}
 use Rattle.calc_algebra.proofs.SquareClassLaws.{alike_from, alike_true, alike_trans, Same-Agree, Same-trans}
 use Rattle.calc_algebra.proofs.SurdLaws.{Agree, Agree-trans}
 use Rattle.calc_algebra.proofs.TermLaws.{Same-append, Same-refl, zero_term, share_alike, share_apart}
+use native.Mathlib.Nat.{mul_comm, one-mul}
 
 -- ---- alike radicands
 

@@ -1,17 +1,8 @@
 -- The tests for clean radicands and for Numbers say what their words say, both ways.
 use Rattle.std.proofs.Common.{◌≡◌, ℕ, zero, suc, ◌+◌, ◌*◌, ◌%◌, ◌≤◌, ◌<◌, ◌⊎◌, inl, inr, Bool, true, false, not, ◌&&◌, ◌||◌, refl, sym, ap, ◌∙◌, arith, subst, ℤ, pos, negsuc, [], ◌∷◌, nat_lt, nat_le, ◌==◌, length}
-use Rattle.std.proofs.lemmas.Nat.Gcd.{mod-eq-zero_of_dvd, dvd_of_mod-eq-zero}
-use Rattle.std.proofs.lemmas.Bool.{and_from, not_from_false, le-leb, lt-ltb, eq-eqb, and_parts, ltb-true, leb-true, eqb-true, not-true}
-use Rattle.calc_terms.proofs.FractionFacts.{no_zero, no_one, zero_test, one_test}
-use Prim.Native.Nat.{◌∣◌}
-use Rattle.calc_algebra.specs.Clean.{left_of, is_clean, IsClean, no_square_divides}
-use Rattle.calc_terms.specs.Fractions.{Fraction, is_one_fraction, is_zero_fraction}
-use Rattle.calc_algebra.specs.Numbers.{IsRadicand, IsTerm, IsNumber, AreTerms, IsBelowAll, Rises, natural_of, terms_of, is_radicand, is_term, rises, is_number, are_terms, is_below_all, are_numbers}
-use Rattle.calc_algebra.specs.SquareClasses.{are_alike}
-use Rattle.calc_algebra.specs.SquareRoots.{square_root}
-use Rattle.calc_algebra.specs.Surds.{Term, Surd}
-use Rattle.calc_terms.specs.Trees.{Tree, num, add, mult, root, Trees, none, more, undef, has_undef, is_undef}
+use Rattle.calc_algebra.proofs.Shared.{mod-eq-zero_of_dvd, dvd_of_mod-eq-zero, and_from, not_from_false, le-leb, lt-ltb, eq-eqb, and_parts, ltb-true, leb-true, eqb-true, not-true, no_zero, no_one, zero_test, one_test, left_of, is_clean, IsClean, no_square_divides, Fraction, is_one_fraction, is_zero_fraction, IsRadicand, IsTerm, IsNumber, AreTerms, IsBelowAll, Rises, natural_of, terms_of, is_radicand, is_term, rises, is_number, are_terms, is_below_all, are_numbers, are_alike, square_root, Term, Surd, Tree, num, add, mult, root, Trees, none, more, undef, has_undef, is_undef}
 use Rattle.calc_algebra.proofs.SquareRootLaws.{square_root-square}
+use Prim.Native.Nat.{◌∣◌}
 
 none_below : (steps d r e : ℕ) → no_square_divides steps d r ≡ true → d ≤ e → e < d + steps → e * e ∣ r → ⊥
 none_below zero d r e h a b x = absurd (omega arith)

@@ -1,14 +1,6 @@
 -- Rewritings with Numbers that keep meanings: their sums, products, powers, inverses and roots, and coefficients.
 use Rattle.std.proofs.Common.{◌≡◌, ◌≢◌, ℕ, zero, suc, ◌*◌, ◌<◌, ℤ, pos, negsuc, [], ◌∷◌, ◌++◌, Bool, true, false, if◌then◌else◌, sym, ap, ◌∙◌, arith, subst}
-use native.Mathlib.Nat.{one-mul, mul-one}
-use Rattle.calc_terms.specs.Fits.{fraction_power}
-use Rattle.calc_terms.specs.Fractions.{Fraction, lowest, times, inverse, zero_fraction, whole_fraction, lowest_parts, times_lowest}
-use Rattle.calc_algebra.specs.Meanings.{Assignment, IsAssignment, Means, IsRootOf}
-use Rattle.calc_algebra.specs.Numbers.{IsNumber, value, is_radicand, is_number}
-use Rattle.calc_algebra.specs.Reduced.{split, split_product, product_tree, part_of, num_one}
-use Rattle.calc_algebra.specs.SquareClasses.{Same, Inverts}
-use Rattle.calc_algebra.specs.Surds.{Surd, term, surd_of, surd_power}
-use Rattle.calc_terms.specs.Trees.{Tree, num, add, mult, power, root, Trees, none, more}
+use Rattle.calc_algebra.proofs.Shared.{fraction_power, Fraction, lowest, times, inverse, zero_fraction, whole_fraction, lowest_parts, times_lowest, Assignment, IsAssignment, Means, IsRootOf, IsNumber, value, is_radicand, is_number, split, split_product, product_tree, part_of, num_one, Same, Inverts, Surd, term, surd_of, surd_power, Tree, num, add, mult, power, root, Trees, none, more}
 use Rattle.calc_algebra.proofs.MeaningLaws.{one_meaning, Means-Same, Same-sym, surd_of_one}
 use Rattle.calc_algebra.proofs.NumberValues.{number_means}
 use Rattle.calc_algebra.proofs.SquareClassLaws.{Same-trans, Same-Agree}
@@ -18,6 +10,7 @@ use Rattle.calc_algebra.proofs.InverseLaws.{Inverts-Same, inverse_times_itself, 
 use Rattle.calc_algebra.proofs.PowerLaws.{whole_power_negative, surd_power-surd_of}
 use Rattle.calc_algebra.proofs.MeaningRewrites.{KeepsMeanings, KeepsMeanings-refl, KeepsMeanings-eq, KeepsMeanings-trans, KeepsMeanings-sum_more, KeepsMeanings-product_more, two, two_sum, two_product, nested_product, single_product, to_single_product, empty_product, one_factor_of_product, to_one_factor, one_times_tree, same_factor}
 use Rattle.calc_algebra.proofs.PowerRewrites.{power_parts}
+use native.Mathlib.Nat.{one-mul, mul-one}
 
 -- ---- the meanings of a Number
 

@@ -1,12 +1,6 @@
 -- The shapes of a Number, and that it is told by its value.
 use Rattle.std.proofs.Common.{◌≡◌, ◌≢◌, ℕ, ◌≤◌, ◌⊎◌, inl, inr, pos, [], ◌∷◌, Bool, true, false, if◌then◌else◌, length, refl, sym, ap, ◌∙◌, arith}
-use Rattle.std.proofs.lemmas.Bool.{not_from_false}
-use Rattle.calc_algebra.specs.Clean.{IsClean}
-use Rattle.calc_terms.specs.Fractions.{Fraction, lowest, zero_fraction, one_fraction, is_zero_fraction, lowest_parts, whole_fraction}
-use Rattle.calc_algebra.specs.Numbers.{IsNumber, IsTerm, AreTerms, value, term_of, terms_of, natural_of}
-use Rattle.calc_algebra.specs.Surds.{Term, Surd, term, surd_of}
-use Rattle.calc_terms.specs.Trees.{Tree, num, add, mult, root, Trees, none, more}
-use Rattle.calc_terms.proofs.FractionFacts.{zero_is, no_zero}
+use Rattle.calc_algebra.proofs.Shared.{not_from_false, IsClean, Fraction, lowest, zero_fraction, one_fraction, is_zero_fraction, lowest_parts, whole_fraction, IsNumber, IsTerm, AreTerms, value, term_of, terms_of, natural_of, Term, Surd, term, surd_of, Tree, num, add, mult, root, Trees, none, more, zero_is, no_zero}
 
 -- ---- terms as trees
 

@@ -1,15 +1,7 @@
 -- Numbers with the same value, all radicands below 10^12, are one tree.
 use Rattle.std.proofs.Common.{◌≡◌, ◌≢◌, ℕ, ◌<◌, ◌≤◌, ◌^◌, ◌⊎◌, inl, inr, [], ◌∷◌, refl, sym, ap, ◌∙◌, arith, subst}
 use Rattle.std.specs.Prelude.{Contains, ⊤}
-use Rattle.std.proofs.lemmas.Bool.{false_from_ne_true}
-use Rattle.std.proofs.lemmas.List.Elements.{Contains-append_right}
-use Rattle.calc_algebra.specs.Clean.{IsClean}
-use Rattle.calc_terms.specs.FractionLaws.{zero_plus, plus_negative}
-use Rattle.calc_terms.specs.Fractions.{Fraction, plus, negative, zero_fraction, one_fraction, plus_comm, plus_assoc}
-use Rattle.calc_algebra.specs.Numbers.{IsNumber, IsTerm, AreTerms, IsBelowAll, Rises, value, term_of, terms_of}
-use Rattle.calc_algebra.specs.SquareClasses.{are_alike, term_share, class_coefficient, radicands, Same}
-use Rattle.calc_algebra.specs.Surds.{Term, Surd, term}
-use Rattle.calc_terms.specs.Trees.{Tree, add, Trees, none, more}
+use Rattle.calc_algebra.proofs.Shared.{false_from_ne_true, Contains-append_right, IsClean, zero_plus, plus_negative, Fraction, plus, negative, zero_fraction, one_fraction, plus_comm, plus_assoc, IsNumber, IsTerm, AreTerms, IsBelowAll, Rises, value, term_of, terms_of, are_alike, term_share, class_coefficient, radicands, Same, Term, Surd, term, Tree, add, Trees, none, more}
 use Rattle.calc_algebra.proofs.NumberShapes.{AsTerm, as_term, AsNumber, as_number, one_number_of_value}
 use Rattle.calc_algebra.proofs.NumberClasses.{IsProper, first_coefficient, one_not_zero}
 use Rattle.calc_algebra.proofs.CleanLaws.{IsSquareFree, clean_square_free, one_square_free, alike_square_free}

@@ -1,17 +1,8 @@
 -- A Number means its terms under every assignment.
 use Rattle.std.proofs.Common.{◌≡◌, ℕ, zero, suc, ◌*◌, ◌≤◌, ℤ, pos, negsuc, [], ◌∷◌, Bool, true, false, if◌then◌else◌, refl, sym, ap, ◌∙◌, arith}
-use native.Mathlib.Nat.{mul-one}
-use Rattle.calc_terms.specs.FractionLaws.{times_comm, one_times, zero_times, zero_plus}
-use Rattle.calc_terms.specs.Fractions.{Fraction, lowest, times, zero_fraction, one_fraction, plus, quotient}
-use Rattle.calc_terms.specs.Integers.{int_is_zero}
-use Rattle.calc_algebra.specs.Meanings.{Assignment, Means, MeansSum, IsRootOf}
-use Rattle.calc_algebra.specs.Numbers.{IsNumber, IsTerm, IsRadicand, value, term_of, terms_of, natural_of, AreTerms}
-use Rattle.calc_algebra.specs.SquareClasses.{Same, term_share, are_alike}
-use Rattle.calc_algebra.specs.SquareRoots.{square_root}
-use Rattle.calc_algebra.specs.Surds.{Surd, term, surd_one, surd_times, surd_of}
-use Rattle.calc_terms.specs.Trees.{Tree, num, add, mult, root, Trees, none, more}
+use Rattle.calc_algebra.proofs.Shared.{times_comm, one_times, zero_times, zero_plus, Fraction, lowest, times, zero_fraction, one_fraction, plus, quotient, int_is_zero, Assignment, Means, MeansSum, IsRootOf, IsNumber, IsTerm, IsRadicand, value, term_of, terms_of, natural_of, AreTerms, Same, term_share, are_alike, square_root, Surd, term, surd_one, surd_times, surd_of, Tree, num, add, mult, root, Trees, none, more, zero_is}
 use Rattle.calc_algebra.proofs.SurdLaws.{Agree, Agree-refl, Agree-trans, Agree-eq, Agree-Same}
-use Rattle.calc_terms.proofs.FractionFacts.{zero_is}
+use native.Mathlib.Nat.{mul-one}
 
 Same-refl : (v : Surd) → Same v v
 Same-refl v = Agree-Same (Agree-refl v)

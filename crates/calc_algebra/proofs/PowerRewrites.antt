@@ -1,11 +1,6 @@
 -- Rewritings of quotients, powers and roots that keep meanings.
 use Rattle.std.proofs.Common.{◌≡◌, inl, inr, ℤ, pos, negsuc, ◌+ℤ◌, ◌++◌, Bool, true, false, sym, ap, subst, if◌then◌else◌}
-use Rattle.calc_terms.specs.Fractions.{Fraction, zero_fraction, one_fraction, minus_one_fraction, whole_fraction}
-use Rattle.calc_algebra.specs.Meanings.{Assignment, Means, IsPower, IsWholePower, IsRoot}
-use Rattle.calc_algebra.specs.Reduced.{is_opaque_exponent, base_of}
-use Rattle.calc_algebra.specs.SquareClasses.{Same}
-use Rattle.calc_algebra.specs.Surds.{Surd, surd_of, surd_times}
-use Rattle.calc_terms.specs.Trees.{Tree, num, add, mult, power, root, div, Trees, none, more}
+use Rattle.calc_algebra.proofs.Shared.{Fraction, zero_fraction, one_fraction, minus_one_fraction, whole_fraction, Assignment, Means, IsPower, IsWholePower, IsRoot, is_opaque_exponent, base_of, Same, Surd, surd_of, surd_times, Tree, num, add, mult, power, root, div, Trees, none, more}
 use Rattle.calc_algebra.proofs.MeaningLaws.{one_meaning, Means-Same, Same-sym, whole_one, one_rational, whole_is_no_half}
 use Rattle.calc_algebra.proofs.SurdLaws.{Agree-refl, Agree-Same}
 use Rattle.calc_algebra.proofs.TermLaws.{Same-refl}

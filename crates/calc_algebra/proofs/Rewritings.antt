@@ -1,9 +1,7 @@
 -- Rewritings that follow one another.
 use Rattle.std.proofs.Common.{◌≡◌, true}
+use Rattle.calc_algebra.proofs.Shared.{is_reduced, Tree, KeepsMeanings, HasNoNewName, Rewrites, Reduces}
 use Rattle.calc_algebra.proofs.MeaningRewrites as rewrites
-use Rattle.calc_algebra.specs.Reduced.{is_reduced}
-use Rattle.calc_terms.specs.Trees.{Tree}
-use Rattle.calc_algebra.specs.Rewritings.{KeepsMeanings, HasNoNewName, Rewrites, Reduces}
 
 -- what the laws of meanings say of rewritings
 pub keeps : {t u : Tree} → rewrites.KeepsMeanings t u → KeepsMeanings t u

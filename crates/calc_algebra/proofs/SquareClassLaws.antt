@@ -1,13 +1,7 @@
 -- Being alike is an equivalence, and surds that are equal class by class agree at every number.
 use Rattle.std.specs.Prelude.{ℕ, zero, suc, ◌*◌, ◌≡◌, ◌≤◌, ◌<◌, ◌⊎◌, pos, ◌*ℤ◌, [], ◌∷◌, Bool, true, false, ◌==◌, nat_le, Contains}
 use Rattle.std.proofs.Common.{refl, sym, ap, ◌∙◌, arith, inl, inr}
-use Rattle.std.proofs.lemmas.List.Elements.{Contains-append_right}
-use Rattle.std.proofs.lemmas.Bool.{eqb-true, leb-true, eq-eqb, le-leb, and_from, and_parts}
-use Rattle.calc_terms.specs.FractionLaws.{times_comm, times_assoc, times_plus, zero_plus, zero_times}
-use Rattle.calc_terms.specs.Fractions.{Fraction, plus, times, zero_fraction, same_lowest, times_lowest, mul_pos, quotient}
-use Rattle.calc_algebra.specs.SquareClasses.{are_alike, term_share, class_coefficient, radicands, Same}
-use Rattle.calc_algebra.specs.SquareRoots.{square_root}
-use Rattle.calc_algebra.specs.Surds.{Term, Surd}
+use Rattle.calc_algebra.proofs.Shared.{Contains-append_right, eqb-true, leb-true, eq-eqb, le-leb, and_from, and_parts, times_comm, times_assoc, times_plus, zero_plus, zero_times, Fraction, plus, times, zero_fraction, same_lowest, times_lowest, mul_pos, quotient, are_alike, term_share, class_coefficient, radicands, Same, square_root, Term, Surd}
 use Rattle.calc_algebra.proofs.SquareRootLaws.{square_root-square, square_from_scaled, square_le}
 use Rattle.calc_algebra.proofs.SurdLaws.{Agree, Agree-Same, Agree-trans}
 

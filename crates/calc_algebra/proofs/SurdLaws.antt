@@ -1,13 +1,8 @@
 -- Sums, multiples, products and powers of surds, up to equality at every number.
 use Rattle.std.specs.Prelude.{ℕ, zero, suc, ◌*◌, ◌≡◌, ◌≤◌, ◌<◌, pos, ◌*ℤ◌, [], ◌∷◌, ◌++◌, map, Bool, true, false, ◌==◌, ◌&&◌, nat_le, if◌then◌else◌}
 use Rattle.std.proofs.Common.{refl, sym, ap, ◌∙◌, arith, append_assoc, append-nil}
-use Rattle.std.proofs.lemmas.Bool.{eqb-true, leb-true, and_parts}
+use Rattle.calc_algebra.proofs.Shared.{eqb-true, leb-true, and_parts, times_comm, times_assoc, times_plus, zero_plus, zero_times, one_times, Fraction, lowest, plus, times, zero_fraction, one_fraction, plus_comm, plus_assoc, same_lowest, times_lowest, mul_pos, quotient, square_root, surd_of, Term, Surd, term, surd_one, term_scale, surd_scale, term_times, surd_times, surd_power, are_alike, term_share, class_coefficient, Same}
 use native.Mathlib.Nat.{mul_assoc, mul_comm, one-mul}
-use Rattle.calc_terms.specs.FractionLaws.{times_comm, times_assoc, times_plus, zero_plus, zero_times, one_times}
-use Rattle.calc_terms.specs.Fractions.{Fraction, lowest, plus, times, zero_fraction, one_fraction, plus_comm, plus_assoc, same_lowest, times_lowest, mul_pos, quotient}
-use Rattle.calc_algebra.specs.SquareRoots.{square_root}
-use Rattle.calc_algebra.specs.Surds.{surd_of, Term, Surd, term, surd_one, term_scale, surd_scale, term_times, surd_times, surd_power}
-use Rattle.calc_algebra.specs.SquareClasses.{are_alike, term_share, class_coefficient, Same}
 
 -- the same at every number, whether it occurs or not
 pub record Agree (v w : Surd) : Type 0 where

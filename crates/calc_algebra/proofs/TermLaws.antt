@@ -1,16 +1,11 @@
 -- Surds term by term: what respects sameness, terms of one class joined, squares taken out, products of two terms, and the order of terms.
 use Rattle.std.proofs.Common.{length, get_or, set, ◌≡◌, ℕ, zero, suc, ◌*◌, ◌/◌, ◌<◌, pos, [], ◌∷◌, ◌++◌, Bool, true, false, if◌then◌else◌, refl, sym, ap, ◌∙◌, arith, append_assoc}
+use Rattle.calc_algebra.proofs.Shared.{times_comm, times_assoc, times_plus, zero_plus, zero_times, Fraction, lowest, plus, times, zero_fraction, plus_assoc, times_lowest, mul_pos, quotient, whole_fraction, are_alike, term_share, Same, square_root, Term, Surd, term, surd_scale, surd_times, surd_power, false_from_ne_true}
 use Rattle.std.specs.Int.{◌∣◌}
-use native.Mathlib.Nat.{one-mul}
-use Rattle.calc_terms.specs.FractionLaws.{times_comm, times_assoc, times_plus, zero_plus, zero_times}
-use Rattle.calc_terms.specs.Fractions.{Fraction, lowest, plus, times, zero_fraction, plus_assoc, times_lowest, mul_pos, quotient, whole_fraction}
-use Rattle.calc_algebra.specs.SquareClasses.{are_alike, term_share, Same}
-use Rattle.calc_algebra.specs.SquareRoots.{square_root}
-use Rattle.calc_algebra.specs.Surds.{Term, Surd, term, surd_scale, surd_times, surd_power}
 use Rattle.calc_algebra.proofs.SquareRootLaws.{square_root-square, square_from_scaled}
 use Rattle.calc_algebra.proofs.SurdLaws.{Agree, Agree-refl, Agree-sym, Agree-trans, Agree-eq, Agree-Same, Agree-append, append_comm, Agree-surd_scale, Agree-surd_times, Agree-surd_power, times_zero}
 use Rattle.calc_algebra.proofs.SquareClassLaws.{Alike, alike_from, alike_true, Same-Agree}
-use Rattle.std.proofs.lemmas.Bool.{false_from_ne_true}
+use native.Mathlib.Nat.{one-mul}
 
 -- ---- sameness is respected
 

@@ -1,18 +1,12 @@
 -- The order of trees is total, and Equal exactly for identical trees.
 use Rattle.std.specs.Prelude.{ℕ, ◌+◌, ◌*◌, ◌≡◌, ℤ, pos, ◌*ℤ◌, ◌<ℤ◌, ◌<◌, List, [], ◌∷◌, Bool, true, false, ◌&&◌, ◌≤◌, nat_eq}
 use Rattle.std.proofs.Common.{refl, sym, ap, ◌∙◌, arith}
-use Rattle.std.specs.declared.cmp.Ordering.{Ordering}
-use Rattle.std.specs.declared.cmp.Ordering.TheVariants.{Less, Equal, Greater}
-use Rattle.std.specs.Ordering.{nat_cmp, int_cmp, ordering_then, ordering_reverse, MatchOrdering}
+use Rattle.calc_algebra.proofs.Shared.{Ordering, Less, Equal, Greater, nat_cmp, int_cmp, ordering_then, ordering_reverse, MatchOrdering, ints, Fraction, same_fraction, den_pos, fraction_cmp, tree_cmp, trees_cmp, root_code, Tree, num, symbol, undef, add, mult, power, root, neg, sub, div, Trees, none, more}
 use Rattle.std.specs.Cmp.Lexicographic.{slice_cmp, nat_list_cmp_total}
 use Rattle.std.specs.Cmp.{int_cmp_total, nat_cmp_total, tied_itself, ranked, int_ranked, IsTotalOrder}
-use Rattle.std.proofs.lemmas.Int.{ints}
+use Rattle.std.proofs.lemmas.Bool.Decides.{nat_tests}
 use borrow.Author.Differences.{up, down}
 use lib.Dec.{T}
-use Rattle.std.proofs.lemmas.Bool.Decides.{nat_tests}
-use Rattle.calc_terms.specs.Fractions.{Fraction, same_fraction, den_pos, fraction_cmp}
-use Rattle.calc_algebra.specs.TreeOrder.{tree_cmp, trees_cmp}
-use Rattle.calc_terms.specs.Trees.{root_code, Tree, num, symbol, undef, add, mult, power, root, neg, sub, div, Trees, none, more}
 
 then_equal : (a b : Ordering) → a ≡ Equal → b ≡ Equal → ordering_then a b ≡ Equal
 then_equal a b p q = rw (p, q) refl

@@ -1,19 +1,8 @@
 -- What `check` answers, from what it found.
 use Rattle.std.specs.Prelude.{ℕ, ◌≡◌, ◌≤◌, ◌↔◌, List, Option, Result, Ok, Err, MatchResult, IfOk, IsOk, map}
-use Rattle.std.specs.Option.{option_map}
 use Rattle.std.proofs.Common.{refl, sym, ap, ◌∙◌, subst, arith}
-use Rattle.calc_terms.specs.Leaf.{name_of}
-use Rattle.calc_language.specs.Tokens.{Token}
-use Rattle.calc_terms.specs.Trees.{Tree, depth}
-use Rattle.calc_parser.specs.declared.checking.Shape.{Shape}
-use Rattle.calc_parser.specs.declared.checking.ParseFault.{ParseFault}
-use Rattle.calc_parser.specs.declared.checking.ParseFault.TheVariants.{Syntax, Deep}
-use Rattle.calc_parser.specs.Lines.{IsLine, IsNoLine, IsLineOver, HasShape}
-use Rattle.calc_parser.specs.Outcomes.{IsShallow, IsFaultOf}
+use Rattle.calc_parser.proofs.Shared.{option_map, name_of, Token, Tree, depth, Shape, ParseFault, Syntax, Deep, IsLine, IsNoLine, IsLineOver, HasShape, IsShallow, IsFaultOf, Placed, bare, placed, tokens_in}
 use Rattle.calc_tokens.specs.declared.tokens.Token.{Token as Listed}
-use Rattle.calc_tokens.specs.Placed.{Placed, bare}
-use Rattle.calc_tokens.specs.Tokens.{placed}
-use Rattle.calc_parser.specs.Reader.{tokens_in}
 use Rattle.calc_parser.proofs.Checks.{one_line, bare-placed}
 
 abbrev pub Found : List Token → Result Shape ParseFault → Type 0

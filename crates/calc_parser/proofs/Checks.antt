@@ -1,21 +1,8 @@
 -- Lines, and what stands before an arrow and a name at their end.
 use Rattle.std.specs.Prelude.{ℕ, ◌+◌, ◌≡◌, ◌≤◌, List, [], ◌∷◌, ◌++◌, length, map, Option, Some, None}
 use Rattle.std.proofs.Common.{refl, sym, ap, ◌∙◌, subst, arith, length-append, append_assoc}
-use Rattle.std.proofs.lemmas.List.{map-append}
-use Rattle.calc_language.specs.Tokens.{Token, name, arrow_mark}
-use Rattle.calc_terms.specs.Trees.{Tree}
-use Rattle.calc_language.specs.Grammar.{IsSum}
-use Rattle.calc_language.proofs.ReadLaws.{one_sum_tree}
+use Rattle.calc_parser.proofs.Shared.{map-append, Token, name, arrow_mark, Tree, IsSum, one_sum_tree, token_of, placed, bare, Expects, Operand, Parenthesis, Operator, postfix, State, step, then_run, run, start, IsLine, stored, IsSplit, tokens_in}
 use Rattle.calc_tokens.specs.declared.tokens.Token.{Token as Placed}
-use Rattle.calc_tokens.specs.Tokens.{token_of, placed}
-use Rattle.calc_tokens.specs.Placed.{bare}
-use Rattle.calc_parser.specs.declared.reader.Expects.{Expects}
-use Rattle.calc_parser.specs.declared.reader.Expects.TheVariants.{Operand, Parenthesis, Operator}
-use Rattle.calc_parser.specs.Postfix.{postfix}
-use Rattle.calc_parser.specs.Automaton.{State, step, then_run, run, start}
-use Rattle.calc_parser.specs.Lines.{IsLine}
-use Rattle.calc_parser.specs.Stores.{stored, IsSplit}
-use Rattle.calc_parser.specs.Reader.{tokens_in}
 use Rattle.calc_parser.proofs.ReadsSums.{sum_is_read}
 
 -- two lists that end in two elements

@@ -1,10 +1,8 @@
 -- Where a part of each level may begin, by what was opened last.
 use Rattle.std.specs.Prelude.{◌≡◌, List, [], ◌∷◌, Bool, true, false}
 use Rattle.std.proofs.Common.{refl}
-use Rattle.calc_parser.specs.declared.nesting.Open.{Open}
+use Rattle.calc_parser.proofs.Shared.{Open, Node, ended, end_power, end_factor, end_term}
 use Rattle.calc_parser.specs.declared.nesting.Open.TheVariants as opened
-use Rattle.calc_parser.specs.Postfix.{Node}
-use Rattle.calc_parser.specs.Automaton.{ended, end_power, end_factor, end_term}
 
 abbrev pub begins_sum : List Open → Bool
 begins_sum [] = true

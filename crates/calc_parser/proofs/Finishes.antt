@@ -1,13 +1,7 @@
 -- How a run ends, by what is open.
 use Rattle.std.specs.Prelude.{◌≡◌, ◌⊎◌, List, [], ◌∷◌, Option, Some, None}
 use Rattle.std.proofs.Common.{refl, sym, ap, ◌∙◌, inl, inr}
-use Rattle.calc_language.specs.Tokens.{Token}
-use Rattle.calc_parser.specs.declared.nesting.Open.{Open}
-use Rattle.calc_parser.specs.declared.reader.Expects.{Expects}
-use Rattle.calc_parser.specs.declared.reader.Expects.TheVariants.{Operand, Parenthesis, Operator}
-use Rattle.calc_parser.specs.Postfix.{Node}
-use Rattle.calc_parser.specs.Automaton.{state, end_product, sum_nodes, when_closed, at_operand, at_parenthesis, at_operator, step, finish}
-use Rattle.calc_parser.specs.Reader.{innermost}
+use Rattle.calc_parser.proofs.Shared.{Token, Open, Expects, Operand, Parenthesis, Operator, Node, state, end_product, sum_nodes, when_closed, at_operand, at_parenthesis, at_operator, step, finish, innermost}
 
 pub not_finished : (x : Expects) (s : List Open) (o : List Node) → (x ≡ Operand) ⊎ (x ≡ Parenthesis) → finish (state x s o) ≡ None
 unfolding finish

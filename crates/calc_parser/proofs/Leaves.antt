@@ -1,24 +1,12 @@
 -- Leaves by their tokens.
 use Rattle.std.specs.Prelude.{◌≡◌, ℕ, Result, Ok, Err, IfOk}
 use Rattle.std.proofs.Common.{refl, sym, ap}
-use Rattle.calc_terms.specs.declared.kind.Kind.TheVariants as kind
-use Rattle.calc_terms.specs.declared.name.Name.{Name}
+use Rattle.calc_parser.proofs.Shared.{Name, name_of, Payload, rational, named, Trees, undef, root_size, What, token_of, Full, Forest, empty, one_tree, before_last, last_trees, Ends, ends_as, leaf, bytes_of_node, tree_over, Grows, before_none, last_none}
 use Rattle.calc_terms.specs.declared.rat.Rat.{Rat}
-use Rattle.calc_terms.specs.Leaf.{name_of}
-use Rattle.calc_terms.specs.Payload.{Payload, rational, named, bare}
+use Rattle.calc_terms.specs.Payload.{bare}
 use Rattle.calc_terms.specs.Rat.{ratio_of}
-use Rattle.calc_terms.specs.Trees.{Trees, undef, root_size}
-use Rattle.calc_tokens.specs.declared.tokens.What.{What}
+use Rattle.calc_terms.specs.declared.kind.Kind.TheVariants as kind
 use Rattle.calc_tokens.specs.declared.tokens.What.TheVariants as what
-use Rattle.calc_tokens.specs.Tokens.{token_of}
-use Rattle.node_pool.specs.declared.full.Full.{Full}
-use Rattle.tree_handles.specs.Forest.{Forest, empty, one_tree, before_last, last_trees}
-use Rattle.tree_handles.specs.Handed.{Ends}
-use Rattle.tree_handles.proofs.Lasts.{ends_as}
-use Rattle.calc_parser.specs.Postfix.{leaf}
-use Rattle.calc_parser.specs.Building.{bytes_of_node}
-use Rattle.calc_parser.specs.Growing.{tree_over, Grows}
-use Rattle.tree_handles.proofs.Gathering.{before_none, last_none}
 
 pub ok_as : {P Q : ℕ → Type 0} (r : Result ℕ Full) → IfOk r P → ((h : ℕ) → P h → Q h) → IfOk r Q
 ok_as (Ok h) p q = q h p

@@ -18,3 +18,4 @@ pub mod Sizes
 pub mod NamesOfLines
 pub mod LineSteps
 pub mod LineFaults
+pub mod Shared

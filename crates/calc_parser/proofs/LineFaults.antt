@@ -1,25 +1,16 @@
 -- What `Parser::read` answers, from what it found.
 use Rattle.std.specs.Prelude.{ℕ, ◌≡◌, ◌≤◌, ◌↔◌, List, Option, Result, Ok, Err, MatchResult, IsOk}
-use Rattle.std.specs.Option.{option_map}
 use Rattle.std.proofs.Common.{refl, ap, subst}
-use Rattle.calc_language.specs.Tokens.{Token}
-use Rattle.calc_terms.specs.Leaf.{name_of}
-use Rattle.calc_terms.specs.Trees.{Tree, depth}
+use Rattle.calc_parser.proofs.Shared.{option_map, Token, name_of, Tree, depth, Placed, bare, IsLine, IsShallow, IsFaultOf, ParseFault, Syntax, Deep, Shape}
 use Rattle.calc_tokens.specs.Faults.{IsFaultOf as IsTokenFaultOf}
-use Rattle.calc_tokens.specs.Placed.{Placed, bare}
 use Rattle.calc_tokens.specs.Scanned.{AreTokensOf}
 use Rattle.calc_tokens.specs.declared.tokens.TokenFault.{TokenFault}
 use Rattle.calc_tokens.specs.declared.tokens.TokenFault.TheVariants.{Character, Number}
 use Rattle.calc_tokens.proofs.OneScan.{character_or_all, wide_or_all, character_or_wide, one_character, one_wide, one_list}
-use Rattle.calc_parser.specs.Lines.{IsLine}
-use Rattle.calc_parser.specs.Outcomes.{IsShallow, IsFaultOf}
 use Rattle.calc_parser.specs.Refused.{IsLineFaultOf}
-use Rattle.calc_parser.specs.declared.checking.ParseFault.{ParseFault}
-use Rattle.calc_parser.specs.declared.checking.ParseFault.TheVariants.{Syntax, Deep}
-use Rattle.calc_parser.specs.declared.checking.Shape.{Shape}
 use Rattle.calc_parser.specs.declared.parser.LineFault.{LineFault}
-use Rattle.calc_parser.specs.declared.parser.LineFault.TheVariants as line_fault
 use Rattle.calc_parser.proofs.Answered.{accepted, not_deep}
+use Rattle.calc_parser.specs.declared.parser.LineFault.TheVariants as line_fault
 
 -- the tokens of a line and what the line is like, or its fault
 abbrev pub Answers : List ℕ → Result Shape LineFault → Type 0

@@ -1,19 +1,9 @@
 -- The steps of a line's tree, from the sum before its store.
 use Rattle.std.specs.Prelude.{ℕ, ◌≡◌, ◌≤◌, List, [], ◌∷◌, map, Option, Some, None}
 use Rattle.std.proofs.Common.{refl, sym, ap, ◌∙◌, subst, arith}
-use Rattle.calc_language.specs.Tokens.{Token, name, arrow_mark}
-use Rattle.calc_language.specs.Grammar.{IsSum}
-use Rattle.calc_language.proofs.ReadLaws.{one_sum_tree}
-use Rattle.calc_terms.specs.Trees.{Tree}
-use Rattle.calc_tokens.specs.Placed.{Placed, bare}
-use Rattle.calc_tokens.specs.Tokens.{placed}
+use Rattle.calc_parser.proofs.Shared.{Token, name, arrow_mark, IsSum, one_sum_tree, Tree, Placed, bare, placed, finish, run, start, postfix, node_of, tokens_in, IsSplit, Step}
 use Rattle.calc_tokens.specs.declared.tokens.Token.{Token as Listed}
-use Rattle.calc_parser.specs.Automaton.{finish, run, start}
-use Rattle.calc_parser.specs.Postfix.{postfix}
-use Rattle.calc_parser.specs.Reader.{node_of, tokens_in}
 use Rattle.calc_parser.specs.Steps.{AreStepsOf}
-use Rattle.calc_parser.specs.Stores.{IsSplit}
-use Rattle.calc_parser.specs.declared.postfix.Step.{Step}
 use Rattle.calc_parser.proofs.Checks.{bare-placed, same_ends, short_stores_nothing}
 use Rattle.calc_parser.proofs.ReadsSums.{sum_is_read}
 

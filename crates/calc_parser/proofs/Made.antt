@@ -1,14 +1,8 @@
 -- The nodes of what a sum or a product has made so far.
 use Rattle.std.specs.Prelude.{ℕ, ◌+◌, ◌≡◌, ◌≤◌, List, [], ◌∷◌, ◌++◌, Bool, true, false, ◌==◌, if◌then◌else◌}
 use Rattle.std.proofs.Common.{refl, sym, ap, ◌∙◌, arith, append_assoc, append-nil}
-use Rattle.std.proofs.lemmas.Bool.{eqb-true}
-use Rattle.calc_terms.specs.declared.kind.Kind.{Kind}
+use Rattle.calc_parser.proofs.Shared.{eqb-true, Kind, Token, Tree, add, mult, Trees, none, more, append, count, SoFar, single, summed, multiplied, as_tree, plus_term, times_factor, joined_tree, Sum, first_term, plus_more, minus_more, Product, first_factor, times_more, over_more, Node, parent, postfix, postfixes, gathered}
 use Rattle.calc_terms.specs.declared.kind.Kind.TheVariants as kind
-use Rattle.calc_language.specs.Tokens.{Token}
-use Rattle.calc_terms.specs.Trees.{Tree, add, mult, Trees, none, more, append, count}
-use Rattle.calc_language.specs.Grammar.{SoFar, single, summed, multiplied, as_tree, plus_term, times_factor, joined_tree, Sum, first_term, plus_more, minus_more, Product, first_factor, times_more, over_more}
-use Rattle.calc_parser.specs.Postfix.{Node, parent, postfix, postfixes}
-use Rattle.calc_parser.specs.Automaton.{gathered}
 
 pub postfixes-append : (ts us : Trees) → postfixes (append ts us) ≡ postfixes ts ++ postfixes us
 postfixes-append none us = refl

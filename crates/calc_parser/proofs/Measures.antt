@@ -1,13 +1,8 @@
 -- Depth and number of nodes of a tree, from its nodes in postfix order.
 use Rattle.std.specs.Prelude.{ℕ, zero, suc, ◌+◌, ◌-◌, ◌≡◌, ◌≤◌, ◌<◌, max, List, [], ◌∷◌, ◌++◌, length, map, take, drop}
 use Rattle.std.proofs.Common.{refl, sym, ap, ◌∙◌, arith, length-append, append_assoc, append-nil, get_or, drop-cons, add-one}
-use Rattle.std.proofs.lemmas.List.{drop_all}
-use Rattle.calc_terms.specs.declared.kind.Kind.{Kind}
+use Rattle.calc_parser.proofs.Shared.{drop_all, Kind, Tree, num, symbol, undef, add, mult, power, root, neg, sub, div, Trees, none, more, count, depth, depths, nodes, nodes_of, Step, Node, leaf, parent, postfix, postfixes, deepest, with_node, with_nodes}
 use Rattle.calc_terms.specs.declared.kind.Kind.TheVariants as kind
-use Rattle.calc_terms.specs.Trees.{Tree, num, symbol, undef, add, mult, power, root, neg, sub, div, Trees, none, more, count, depth, depths, nodes, nodes_of}
-use Rattle.calc_parser.specs.declared.postfix.Step.{Step}
-use Rattle.calc_parser.specs.Postfix.{Node, leaf, parent, postfix, postfixes}
-use Rattle.calc_parser.specs.Depths.{deepest, with_node, with_nodes}
 
 -- ---- depths
 

@@ -1,18 +1,11 @@
 -- What is read is a sum.
 use Rattle.std.specs.Prelude.{◌≡◌, List, [], ◌∷◌, ◌++◌, Bool, true, false, Option, Some, None}
 use Rattle.std.proofs.Common.{refl, sym, ap, ◌∙◌, subst, append_assoc, append-nil}
-use Rattle.calc_terms.specs.declared.kind.Kind.TheVariants as kind
-use Rattle.calc_language.specs.Tokens.{Token, literal, name, undef_mark, root_mark, plus_mark, minus_mark, times_mark, slash_mark, caret_mark, left_mark, right_mark, arrow_mark}
-use Rattle.calc_terms.specs.Trees.{Tree, num, symbol, undef, root, count}
-use Rattle.calc_language.specs.Grammar.{IsSum, SoFar, as_tree, joins, Sum, plain_power, Primary, a_literal, a_name, an_undef, parenthesized, a_root}
-use Rattle.calc_parser.specs.declared.nesting.Open.{Open}
-use Rattle.calc_parser.specs.declared.nesting.Open.TheVariants as opened
-use Rattle.calc_parser.specs.declared.reader.Expects.TheVariants.{Operand, Parenthesis, Operator}
-use Rattle.calc_parser.specs.declared.reader.Expects.{Expects}
-use Rattle.calc_parser.specs.Postfix.{Node, parent, postfix, postfixes}
-use Rattle.calc_parser.specs.Automaton.{State, state, Ended, gathered, end_power, end_powers, end_product, sum_nodes, begin_operand, at_operand, at_parenthesis, at_operator, join_power, minus_in, leave_parentheses, step, when_closed, finish, then_run, run, start}
+use Rattle.calc_parser.proofs.Shared.{Token, literal, name, undef_mark, root_mark, plus_mark, minus_mark, times_mark, slash_mark, caret_mark, left_mark, right_mark, arrow_mark, Tree, num, symbol, undef, root, count, IsSum, SoFar, as_tree, joins, Sum, plain_power, Primary, a_literal, a_name, an_undef, parenthesized, a_root, Open, Operand, Parenthesis, Operator, Expects, Node, parent, postfix, postfixes, State, state, Ended, gathered, end_power, end_powers, end_product, sum_nodes, begin_operand, at_operand, at_parenthesis, at_operator, join_power, minus_in, leave_parentheses, step, when_closed, finish, then_run, run, start}
 use Rattle.calc_parser.proofs.Made.{product_nodes, sum_nodes_of}
 use Rattle.calc_parser.proofs.Spots.{is_joined, JoinsWhere, Spot, JoinedAt, ProductAt, SumAt, joined_as, power_ends, powers_end, product_whole, product_end, sum_whole, at_start, in_parentheses, in_root, behind_plus, behind_minus, behind_term_sign, behind_times, behind_slash, behind_factor_sign, behind_powers, behind_base, behind_exponent_sign}
+use Rattle.calc_terms.specs.declared.kind.Kind.TheVariants as kind
+use Rattle.calc_parser.specs.declared.nesting.Open.TheVariants as opened
 
 -- ---- states
 

@@ -1,21 +1,12 @@
 -- What the reader does behind an operand is what the automaton does.
 use Rattle.std.specs.Prelude.{ℕ, ◌≡◌, ◌⊎◌, List, ◌∷◌, ◌++◌, Some, Result}
 use Rattle.std.proofs.Common.{sym, ap, ◌∙◌, subst, inl, inr}
-use Rattle.calc_terms.specs.declared.kind.Kind.TheVariants as kind
-use Rattle.calc_terms.specs.declared.name.Name.{Name}
-use Rattle.calc_language.specs.Tokens.{Token}
-use Rattle.calc_tokens.specs.declared.tokens.What.{What}
-use Rattle.calc_tokens.specs.declared.tokens.What.TheVariants as what
-use Rattle.calc_tokens.specs.Tokens.{token_of}
-use Rattle.calc_parser.specs.declared.nesting.Open.{Open}
-use Rattle.calc_parser.specs.declared.nesting.Open.TheVariants as opened
-use Rattle.calc_parser.specs.declared.reader.Expects.{Expects}
-use Rattle.calc_parser.specs.declared.reader.Expects.TheVariants.{Operand}
+use Rattle.calc_parser.proofs.Shared.{Name, Token, What, token_of, Open, Expects, Operand, Node, State, state, ended, gathered, end_power, end_powers, end_product, sum_nodes, begin_operand, leave_parentheses, join_power, at_operator, open_in, nodes_in, state_in, IsStep}
 use Rattle.calc_parser.specs.declared.reader.Reader.{Reader}
 use Rattle.calc_parser.specs.declared.postfix.Postfix.{Postfix}
-use Rattle.calc_parser.specs.Postfix.{Node}
-use Rattle.calc_parser.specs.Automaton.{State, state, ended, gathered, end_power, end_powers, end_product, sum_nodes, begin_operand, leave_parentheses, join_power, at_operator}
-use Rattle.calc_parser.specs.Reader.{open_in, nodes_in, state_in, IsStep}
+use Rattle.calc_terms.specs.declared.kind.Kind.TheVariants as kind
+use Rattle.calc_tokens.specs.declared.tokens.What.TheVariants as what
+use Rattle.calc_parser.specs.declared.nesting.Open.TheVariants as opened
 
 -- the state behind something that opens
 pub entered : (ts : List Token) (r : Reader) (x : Open) (s : List Open) (p : Postfix) → open_in r.nesting ≡ x ∷ s → r.postfix ≡ p → r.expects ≡ Operand → state_in ts r ≡ state Operand (x ∷ s) (nodes_in ts p)

@@ -1,10 +1,7 @@
 -- A tree from its nodes in postfix order.
 use Rattle.std.specs.Prelude.{◌≡◌, ◌+◌, List, [], ◌∷◌, ◌++◌, true}
 use Rattle.std.proofs.Common.{refl, sym, ap, ◌∙◌, subst, arith, append_assoc, append-nil}
-use Rattle.calc_terms.specs.Trees.{Tree, num, symbol, undef, add, mult, power, root, neg, sub, div, Trees, none, more, append, count}
-use Rattle.tree_handles.proofs.Given.{append-none}
-use Rattle.calc_parser.specs.Postfix.{Node, postfix, postfixes}
-use Rattle.calc_parser.specs.Growing.{children_in, tree_over, takes_children}
+use Rattle.calc_parser.proofs.Shared.{Tree, num, symbol, undef, add, mult, power, root, neg, sub, div, Trees, none, more, append, count, append-none, Node, postfix, postfixes, children_in, tree_over, takes_children}
 
 -- the last of the trees become the children of the node
 pub record Takes (n : Node) (ts below us : Trees) : Type 0 where

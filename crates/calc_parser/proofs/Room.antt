@@ -1,10 +1,8 @@
 -- How much room the nodes and what is open take.
 use Rattle.std.specs.Prelude.{◌+◌, ◌≡◌, ◌≤◌, List, [], ◌∷◌, length, Some}
 use Rattle.std.proofs.Common.{ap, arith}
-use Rattle.calc_parser.specs.declared.nesting.Open.{Open}
+use Rattle.calc_parser.proofs.Shared.{Open, weight_of, weight, innermost, outer}
 use Rattle.calc_parser.specs.declared.nesting.Open.TheVariants.{Parentheses, Root, Sum, Difference, NegatedTerm, Product, Quotient, NegatedFactor, Joined, Power, NegatedExponent}
-use Rattle.calc_parser.specs.Automaton.{weight_of, weight}
-use Rattle.calc_parser.specs.Reader.{innermost, outer}
 
 pub weight_of_pos : (x : Open) → 1 ≤ weight_of x
 weight_of_pos Parentheses = omega arith

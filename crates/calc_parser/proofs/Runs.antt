@@ -1,16 +1,9 @@
 -- A run over a list of tokens, by place.
 use Rattle.std.specs.Prelude.{ℕ, suc, ◌+◌, ◌≡◌, ◌≤◌, ◌<◌, List, [], ◌∷◌, length, drop, Option, Some, None, Result, Ok, Err, MatchResult, OnErr, OnOk}
 use Rattle.std.proofs.Common.{refl, sym, ap, ◌∙◌, get_or, drop-cons, add-one}
-use Rattle.std.proofs.lemmas.List.{get_or-map, drop_all}
-use Rattle.calc_language.specs.Tokens.{Token, undef_mark}
-use Rattle.calc_terms.specs.Trees.{Tree}
-use Rattle.calc_language.specs.Grammar.{IsSum}
+use Rattle.calc_parser.proofs.Shared.{get_or-map, drop_all, Token, undef_mark, Tree, IsSum, token_of, Node, postfix, State, step, then_run, finish, run, start, token_in, tokens_in}
 use Rattle.calc_tokens.specs.declared.tokens.Token.{Token as Placed}
-use Rattle.calc_tokens.specs.Tokens.{token_of}
 use Rattle.calc_parser.specs.declared.reader.NoSum.{NoSum}
-use Rattle.calc_parser.specs.Postfix.{Node, postfix}
-use Rattle.calc_parser.specs.Automaton.{State, step, then_run, finish, run, start}
-use Rattle.calc_parser.specs.Reader.{token_in, tokens_in}
 use Rattle.calc_parser.proofs.ReadsSums.{sum_is_read}
 use Rattle.calc_parser.proofs.OnlySums.{only_sums}
 

@@ -1,13 +1,9 @@
 -- The room that the nodes of a tree take.
 use Rattle.std.specs.Prelude.{◌≡◌, ℕ, ◌+◌, ◌-◌, ◌≤◌, ◌↔◌, List, [], ◌∷◌, ◌++◌, if◌then◌else◌, Ok, Err}
 use Rattle.std.proofs.Common.{refl, ap, ◌∙◌, arith, leb}
-use Rattle.std.proofs.lemmas.Bool.{leb-true}
-use Rattle.calc_terms.specs.declared.kind.Kind.TheVariants as kind
-use Rattle.calc_terms.specs.Trees.{Tree, num, symbol, undef, add, mult, power, root, neg, sub, div, Trees, none, more, count, size, sizes}
-use Rattle.tree_handles.proofs.Outcomes.{by_test}
-use Rattle.calc_parser.specs.Postfix.{Node, parent, postfix, postfixes}
-use Rattle.calc_parser.specs.Building.{bytes_of_node, placing, building}
+use Rattle.calc_parser.proofs.Shared.{leb-true, Tree, num, symbol, undef, add, mult, power, root, neg, sub, div, Trees, none, more, count, size, sizes, by_test, Node, parent, postfix, postfixes, bytes_of_node, placing, building}
 use Rattle.calc_parser.proofs.UnderWay.{by_room}
+use Rattle.calc_terms.specs.declared.kind.Kind.TheVariants as kind
 
 -- the bytes that nodes take
 abbrev bytes_of : List Node → ℕ

@@ -1,17 +1,12 @@
 -- Tokens that leave something open, and the parts that end with them.
 use Rattle.std.specs.Prelude.{◌≡◌, List, [], ◌∷◌, ◌++◌, Bool, true, false}
 use Rattle.std.proofs.Common.{refl, sym, ap, ◌∙◌, subst, append_assoc}
-use Rattle.calc_terms.specs.declared.kind.Kind.TheVariants as kind
-use Rattle.calc_language.specs.Tokens.{Token, root_mark, plus_mark, minus_mark, times_mark, slash_mark, caret_mark, left_mark}
-use Rattle.calc_terms.specs.Trees.{Tree, power, neg, Trees, none, more, append, count}
-use Rattle.calc_language.specs.Grammar.{SoFar, single, as_tree, plus_term, minus_term, times_factor, over_factor, joined_tree, joins, Sum, first_term, plus_more, minus_more, Signed, minus_signed, plain_signed, Product, first_factor, times_more, over_more, Right, minus_right, plain_right, Joined, one_power, another_power, Power, raised_power, Exponent, minus_exponent, plain_exponent, Primary}
-use Rattle.calc_parser.specs.declared.nesting.Open.{Open}
-use Rattle.calc_parser.specs.declared.nesting.Open.TheVariants as opened
-use Rattle.calc_parser.specs.Postfix.{Node, parent, postfix, postfixes}
-use Rattle.calc_parser.specs.Automaton.{Ended, ended, gathered, end_power, end_factor, end_term, sum_nodes}
+use Rattle.calc_parser.proofs.Shared.{Token, root_mark, plus_mark, minus_mark, times_mark, slash_mark, caret_mark, left_mark, Tree, power, neg, Trees, none, more, append, count, SoFar, single, as_tree, plus_term, minus_term, times_factor, over_factor, joined_tree, joins, Sum, first_term, plus_more, minus_more, Signed, minus_signed, plain_signed, Product, first_factor, times_more, over_more, Right, minus_right, plain_right, Joined, one_power, another_power, Power, raised_power, Exponent, minus_exponent, plain_exponent, Primary, Open, Node, parent, postfix, postfixes, Ended, ended, gathered, end_power, end_factor, end_term, sum_nodes}
 use Rattle.calc_parser.proofs.Contexts.{begins_sum, begins_term, begins_right, begins_exponent, begins_factor, sum_alone, term_alone}
 use Rattle.calc_parser.proofs.Made.{postfixes-one_more, count-one_more, alone_nodes, joined_nodes, product_nodes, product_count, sum_nodes_of, sum_count, whole_product, whole_sum, times_nodes, times_count, plus_nodes, plus_count, has_factors, has_terms}
 use Rattle.calc_parser.proofs.ReadsSums.{joins_before}
+use Rattle.calc_terms.specs.declared.kind.Kind.TheVariants as kind
+use Rattle.calc_parser.specs.declared.nesting.Open.TheVariants as opened
 
 -- is the part that begins here joined to powers before it
 abbrev pub is_joined : List Open → Bool

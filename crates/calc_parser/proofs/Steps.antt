@@ -1,16 +1,10 @@
 -- The automaton by what was opened last.
 use Rattle.std.specs.Prelude.{ℕ, ◌+◌, ◌≡◌, ◌≤◌, ◌<◌, List, [], ◌∷◌, ◌++◌, map, length, Some, None}
 use Rattle.std.proofs.Common.{refl, ap, ◌∙◌, arith, length-append}
-use Rattle.std.proofs.lemmas.List.{map-append}
-use Rattle.calc_language.specs.Tokens.{Token}
-use Rattle.calc_parser.specs.declared.postfix.Step.{Step}
-use Rattle.calc_parser.specs.declared.nesting.Open.{Open}
+use Rattle.calc_parser.proofs.Shared.{map-append, Token, Step, Open, Kind, Node, parent, completed, onward, complete, ended, place_in, take_place, weight, innermost, outer, innermost_completed, innermost_place, node_of}
 use Rattle.calc_parser.specs.declared.nesting.Level.{Level}
-use Rattle.calc_terms.specs.declared.kind.Kind.{Kind}
 use Rattle.calc_parser.specs.declared.nesting.Place.TheVariants.{Child, Right}
-use Rattle.calc_parser.specs.Postfix.{Node, parent}
-use Rattle.calc_parser.specs.Automaton.{completed, onward, complete, ended, place_in, placed, take_place, weight}
-use Rattle.calc_parser.specs.Reader.{innermost, outer, innermost_completed, innermost_place, node_of}
+use Rattle.calc_parser.specs.Automaton.{placed}
 use Rattle.calc_parser.proofs.Room.{weight_of_pos}
 
 pub some_completed : (l : Level) (s : List Open) (x : Open) → Some x ≡ innermost s → completed l x ≡ innermost_completed l s

@@ -1,29 +1,13 @@
 -- The building of a tree, node by node.
 use Rattle.std.specs.Prelude.{◌≡◌, ℕ, ◌+◌, ◌-◌, ◌<◌, ◌≤◌, List, [], ◌∷◌, ◌++◌, length, take, get_or, drop, map, true, Bool, Err, IsOk, Option, Some, None, IsSome, MatchOption, if◌then◌else◌}
 use Rattle.std.proofs.Common.{refl, sym, ap, ◌∙◌, subst, arith, leb, drop-cons, add-one}
+use Rattle.calc_parser.proofs.Shared.{le-leb, lt-leb, leb-true, leb-false, get_or-append_right, drop_all, Payload, size_of_payload, Tree, Trees, none, more, append, count, free_of, Full, LacksBytes, Stands, forest, KeepsRefusals, IsRefused, Refuses, Forest, empty, tree, join, arity, one_tree, bytes_in, before_last, last_trees, Ends, Gives, Represents, KeepsFront, IsOnce, ends_as, represents_none, represents_node, represents_join, represents_as, gives, free_forest, by_test, Step, Node, postfix, bytes_of_node, placing, children_in, tree_over, takes_children, Grows, before-last, arity-last_trees, before_last-join, last_trees-join}
 use Rattle.std.proofs.Math.Seq.{take-append_seam}
-use Rattle.std.proofs.lemmas.Bool.{le-leb, lt-leb, leb-true, leb-false}
-use Rattle.std.proofs.lemmas.List.{get_or-append_right, drop_all}
-use Rattle.calc_terms.specs.Payload.{Payload, size_of_payload}
-use Rattle.calc_terms.specs.Trees.{Tree, Trees, none, more, append, count}
-use Rattle.node_pool.specs.State.{State, free_of}
-use Rattle.node_pool.specs.declared.full.Full.{Full}
-use Rattle.tree_handles.specs.Standing.{LacksBytes, Stands, forest, KeepsRefusals, IsRefused, Refuses}
+use Rattle.node_pool.specs.State.{State}
 use Rattle.tree_handles.specs.Expressions.{takes, plains, IsWhole}
-use Rattle.tree_handles.specs.Forest.{Forest, empty, tree, join, arity, one_tree, bytes_in, before_last, last_trees}
-use Rattle.tree_handles.specs.Handed.{Ends, Gives, Represents, KeepsFront, IsOnce}
 use Rattle.tree_handles.proofs.Forests.{arity-join, bytes_in-join, join_assoc, all-first_trees, all-rest_trees, keeps_after, keeps_none, refuses_after, join-empty}
 use Rattle.tree_handles.proofs.Fronts.{starts_join, starts_same, front_at}
-use Rattle.tree_handles.proofs.Lasts.{ends_as}
-use Rattle.tree_handles.proofs.Given.{represents_none, represents_node, represents_join, represents_as, gives}
-use Rattle.tree_handles.proofs.Places.{free_forest}
 use Rattle.tree_handles.proofs.Plains.{plains-join, count-plains}
-use Rattle.tree_handles.proofs.Outcomes.{by_test}
-use Rattle.calc_parser.specs.declared.postfix.Step.{Step}
-use Rattle.calc_parser.specs.Postfix.{Node, postfix}
-use Rattle.calc_parser.specs.Building.{bytes_of_node, placing}
-use Rattle.calc_parser.specs.Growing.{children_in, tree_over, takes_children, Grows}
-use Rattle.tree_handles.proofs.Gathering.{before-last, arity-last_trees, before_last-join, last_trees-join}
 use Rattle.calc_parser.proofs.Replay.{Takes, Makes, count-append, same_parts, replayed}
 
 -- ---- where trees begin

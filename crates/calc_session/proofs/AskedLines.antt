@@ -1,18 +1,9 @@
 -- Lines that ask for a calculation.
 use Rattle.std.proofs.Common.{◌≡◌, ◌∙◌, ℕ, ◌<◌, List, [], ◌∷◌, ◌++◌, length, Bool, true, false, cond, nat_eq, Option, refl, sym, ap}
 use Rattle.std.specs.Prelude.{◌&&◌}
-use Rattle.std.specs.List.{list_all}
+use Rattle.calc_session.proofs.Shared.{list_all, Asked, pool, dump, draw, layout, forget, diff, solve, expand, IsCommandLine, asks_pool, asks_dump, asks_draw, asks_layout, asks_forget, asks_after, asks_diff, asks_solve, asks_expand, is_command, once, is_blank, Tree, IsReplyToCalculation, IsReplyToCommand, tells_the_pool, tells_the_bytes, keeps_ans, forgets, knows_no_name, arms_a_breaker, finds_no_breaker, is_to_be_drawn, tells_the_layout, has_no_room, is_no_command, IsReplyUnread, is_long, is_nothing, has_no_token, has_a_wide_number, is_no_line, is_too_deep, stores_to_ans, finds_names_full, Reply, long, State, IsReply, is_unread, is_commanded, is_calculated, is_evaluated}
 use Rattle.breakers.specs.State.{State as Breaker}
-use Rattle.calc_commands.specs.Commands.{Asked, pool, dump, draw, layout, forget, after, diff, solve, expand, IsCommandLine, asks_pool, asks_dump, asks_draw, asks_layout, asks_forget, asks_after, asks_diff, asks_solve, asks_expand, is_command}
-use Rattle.calc_commands.proofs.Lines.{once}
-use Rattle.calc_language.specs.Tokens.{is_blank}
-use Rattle.calc_terms.specs.Trees.{Tree}
-use Rattle.calc_session.specs.Calculating.{IsReplyToCalculation}
-use Rattle.calc_session.specs.Commanding.{IsReplyToCommand, tells_the_pool, tells_the_bytes, keeps_ans, forgets, knows_no_name, arms_a_breaker, finds_no_breaker, is_to_be_drawn, tells_the_layout, has_no_room, is_no_command}
-use Rattle.calc_session.specs.Reading.{IsReplyUnread, is_long, is_nothing, has_no_token, has_a_wide_number, is_no_line, is_too_deep, stores_to_ans, finds_names_full}
-use Rattle.calc_session.specs.Replies.{Reply, long}
-use Rattle.calc_session.specs.States.{State}
-use Rattle.calc_session.specs.Steps.{IsReply, is_unread, is_commanded, is_calculated, is_evaluated}
+use Rattle.calc_commands.specs.Commands.{after}
 
 clash : (b : Bool) → b ≡ true → b ≡ false → ⊥
 clash b e f = cc

@@ -1,28 +1,8 @@
 -- Lemmas on equations whose sides are built one after another.
 use Rattle.std.proofs.Common.{◌≡◌, ◌∙◌, ℕ, zero, suc, ◌+◌, List, [], ◌∷◌, ◌++◌, length, length-append, map, take, drop, refl, sym, ap, subst, arith}
 use Rattle.std.specs.Prelude.{All}
-use Rattle.std.specs.List.{AllZip}
-use Rattle.std.proofs.lemmas.List.Elements.{All-cons, All-head, All-tail}
-use Rattle.calc_terms.specs.Trees.{Tree, Trees, none, more, append}
-use Rattle.name_table.specs.Filling.{fills, values}
-use Rattle.name_table.specs.Held.{HasEntries}
-use Rattle.name_table.specs.Tables.{Table}
-use Rattle.name_table.proofs.Entries.{entries-left}
-use Rattle.linear_solve.specs.Equations.{Equation, equation_at, equations_in}
-use Rattle.node_pool.specs.State.{State, free_of}
-use Rattle.dual_diff.specs.Placing.{Adds, AddsAll}
-use Rattle.dual_diff.proofs.Added.{adds_more, adds_none, adds_one, still_expression, still_plain}
-use Rattle.tree_handles.specs.Expressions.{IsExpression, plain}
-use Rattle.tree_handles.specs.Forest.{Forest}
-use Rattle.tree_handles.specs.Inside.{tree_at}
-use Rattle.tree_handles.specs.Standing.{Stands, forest}
-use Rattle.tree_handles.proofs.Given.{given_handed, given_root, given_told}
-use Rattle.tree_handles.proofs.Lasts.{expression_root, plain_root}
-use Rattle.calc_session.specs.declared.equations.EquationRange.{EquationRange}
-use Rattle.calc_session.specs.Evaluations.{Unmade, made}
-use Rattle.calc_session.specs.Ranges.{pieces_at}
-use Rattle.calc_session.specs.Replies.{Reply}
-use Rattle.calc_session.specs.Solving.{AreUnmade, Become, ReadsEquation, nothing}
+use Rattle.calc_session.proofs.Shared.{AllZip, All-cons, All-head, All-tail, Tree, Trees, none, more, append, fills, values, HasEntries, Table, entries-left, Equation, equation_at, equations_in, free_of, Adds, AddsAll, adds_more, adds_none, adds_one, still_expression, still_plain, IsExpression, plain, Forest, tree_at, Stands, forest, given_handed, given_root, given_told, expression_root, plain_root, EquationRange, Unmade, made, pieces_at, Reply, AreUnmade, Become, ReadsEquation, nothing}
+use Rattle.node_pool.specs.State.{State}
 use Rattle.calc_session.specs.Solving.{at_left as unmade_left, at_right as unmade_right}
 use Rattle.calc_session.proofs.SideLemmas.{become_more, unmade_behind}
 

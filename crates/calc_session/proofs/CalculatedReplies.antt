@@ -1,19 +1,10 @@
 -- A calculation is answered by a report or a refusal.
 use Rattle.std.proofs.Common.{◌≡◌, ℕ, List, Bool, true, false, Option, refl, ap}
+use Rattle.calc_session.proofs.Shared.{Tree, Filling, NamedTree, lacks, too_deep, fills, IsMisread, meets_no_token, meets_a_wide_number, forms_no_line, forms_a_deep_line, IsNoExpression, is_misread, forms_a_store, IsReplyToExpression, is_no_expression, is_read, IsReplyToCalculation, derives, solves, expands, IsReplyToDerivative, has_none, IsReplyToExpansion, is_no_polynomial, is_expanded, Unmade, IsReplyToMade, is_not_made, is_made, Reply, shown, stored, undefined, reported, Equation, Pieces, AreUnmade, IsNoEquation, IsReplyToEquations, are_not_written, are_too_many, are_not_read, are_read, IsReplyToRead, are_not_made, are_made, IsReplyToSolve, have_too_many_names, are_not_linear, are_linear, IsSolution, is_interrupted, does_not_fit, is_told, State}
 use Rattle.breakers.specs.State.{State as Breaker}
-use Rattle.calc_terms.specs.Trees.{Tree}
-use Rattle.name_table.specs.Filling.{Filling, NamedTree, lacks, too_deep, fills}
-use Rattle.calc_session.specs.Arguments.{IsMisread, meets_no_token, meets_a_wide_number, forms_no_line, forms_a_deep_line, IsNoExpression, is_misread, forms_a_store}
-use Rattle.calc_session.specs.Calculating.{IsReplyToExpression, is_no_expression, is_read, IsReplyToCalculation, derives, solves, expands}
-use Rattle.calc_session.specs.Deriving.{IsReplyToDerivative, has_none, lacks_bytes, is_reduced}
+use Rattle.calc_session.specs.Deriving.{lacks_bytes, is_reduced}
+use Rattle.calc_session.specs.Solving.{lacks_bytes as lacks_form_bytes}
 use Rattle.calc_session.specs.Expanding as expansion
-use Rattle.calc_session.specs.Expanding.{IsReplyToExpansion, is_no_polynomial, is_expanded}
-use Rattle.calc_session.specs.Evaluations.{Unmade, IsReplyToMade, is_not_made, is_made}
-use Rattle.calc_session.specs.Replies.{Reply, shown, stored, undefined, reported}
-use Rattle.linear_solve.specs.Equations.{Equation}
-use Rattle.calc_session.specs.Equations.{Pieces}
-use Rattle.calc_session.specs.Solving.{AreUnmade, IsNoEquation, IsReplyToEquations, are_not_written, are_too_many, are_not_read, are_read, IsReplyToRead, are_not_made, are_made, IsReplyToSolve, have_too_many_names, are_not_linear, are_linear, IsSolution, is_interrupted, does_not_fit, lacks_bytes as lacks_form_bytes, is_told}
-use Rattle.calc_session.specs.States.{State}
 
 -- a tree is displayed, or the line is undefined
 abbrev pub is_value : Reply → Bool

@@ -1,28 +1,10 @@
 -- Lemmas on command lines that calculate.
 use Rattle.std.proofs.Common.{◌≡◌, ◌∙◌, ℕ, ◌≤◌, List, [], ◌∷◌, ◌++◌, length, length-append, true, Option, Some, None, inl, inr, refl, sym, ap, subst, arith}
+use Rattle.calc_session.proofs.Shared.{HasText, IsCommandLine, asks_diff, asks_solve, asks_expand, diff, solve, expand, is_command, Tree, Placed, values, Table, Full, free_of, forest, LineAnswer, Refusal, AnswersUntold, CountsRefusal, TellsReply, reply_of, IsNoExpression, ReadsText, bytes_before, IsReplyToCalculation, is_no_expression, is_read, derives, AsksForTooMuch, IsCountedBut, LacksDerivativeOf, IsReplyToDerivative, IsReplyToMade, made, Seen, Counts, pool_of, Reply, State, state_of, is_calculated, Leaves}
 use Rattle.breakers.specs.State.{State as Breaker}
-use Rattle.calc_commands.specs.Commands.{HasText, IsCommandLine, asks_diff, asks_solve, asks_expand, diff, solve, expand, is_command}
-use Rattle.calc_terms.specs.Trees.{Tree}
-use Rattle.calc_tokens.specs.Placed.{Placed}
-use Rattle.name_table.specs.Filling.{values}
-use Rattle.name_table.specs.Tables.{Table}
-use Rattle.node_pool.specs.declared.full.Full.{Full}
-use Rattle.node_pool.specs.State.{State as PoolState, free_of}
-use Rattle.tree_handles.specs.Standing.{forest}
-use Rattle.calc_session.specs.declared.answers.LineAnswer.{LineAnswer}
-use Rattle.calc_session.specs.declared.answers.LineAnswer.TheVariants as answer
-use Rattle.calc_session.specs.declared.answers.Refusal.{Refusal}
-use Rattle.calc_session.specs.Answers.{AnswersUntold, CountsRefusal, TellsReply, reply_of}
-use Rattle.calc_session.specs.Arguments.{IsNoExpression, ReadsText, bytes_before}
-use Rattle.calc_session.specs.Calculating.{IsReplyToCalculation, is_no_expression, is_read, derives}
-use Rattle.calc_session.specs.Counting.{AsksForTooMuch, IsCountedBut, LacksDerivativeOf}
-use Rattle.calc_session.specs.Deriving.{IsReplyToDerivative}
-use Rattle.calc_session.specs.Evaluations.{IsReplyToMade, made}
-use Rattle.calc_session.specs.Seen.{Seen, Counts, pool_of}
-use Rattle.calc_session.specs.Replies.{Reply}
-use Rattle.calc_session.specs.States.{State, state_of}
-use Rattle.calc_session.specs.Steps.{is_calculated, Leaves}
+use Rattle.node_pool.specs.State.{State as PoolState}
 use Rattle.calc_session.proofs.SessionLemmas.{counts_refusal, refused_leaves, same_counts}
+use Rattle.calc_session.specs.declared.answers.LineAnswer.TheVariants as answer
 
 -- a text that is calculated with stands in its line
 within : {line word text : List ℕ} → HasText line word text → length text ≤ length line

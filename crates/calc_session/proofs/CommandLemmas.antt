@@ -1,29 +1,15 @@
 -- Lemmas on commands.
 use Rattle.std.proofs.Common.{◌≡◌, ◌∙◌, ◌↔◌, ℕ, zero, suc, List, [], ◌∷◌, ◌++◌, codes, Bool, true, false, if◌then◌else◌, Option, Some, None, Ok, Err, refl, sym, ap, arith}
 use Rattle.std.specs.Prelude.{IsNone}
-use Rattle.breakers.specs.Breakers.{TripsRose, armed_first}
+use Rattle.calc_session.proofs.Shared.{TripsRose, armed_first, IsCommandLine, draw, forget, layout, after_report, forgot_report, unknown_report, Content, extended, bytes_eq, IsHeld, held_by, holders_in, Entry, Table, has_entry, without_entry, without_name, Full, flatten, Stands, forest, KeepsRefusals, LineAnswer, Refusal, AnswersCommand, IsReplyToCommand, arms_a_breaker, can_arm, cannot_arm, finds_no_breaker, forgets, has_no_room, is_to_be_drawn, knows_no_name, tells_the_layout, serial_in, command, drawn, full, report, reserved, forgot, text_of, State, state_of}
 use Rattle.breakers.specs.State.{State as Breaker, armed_after, planned_after}
-use Rattle.calc_commands.specs.Commands.{IsCommandLine, draw, forget, after, layout}
-use Rattle.calc_commands.specs.Reports.{after_report, forgot_report, unknown_report}
-use Rattle.line_text.specs.Content.{Content, extended}
-use Rattle.std.specs.Str.{bytes_eq}
-use Rattle.name_table.specs.Held.{IsHeld, held_by, holders_in}
-use Rattle.name_table.specs.Tables.{Entry, Table, has_entry, is_stored, without_entry, without_name}
+use Rattle.calc_commands.specs.Commands.{after}
+use Rattle.name_table.specs.Tables.{is_stored}
 use Rattle.name_table.proofs.Counting.{counted-same}
-use Rattle.node_pool.specs.declared.full.Full.{Full}
 use Rattle.node_pool.specs.State.{State as PoolState}
-use Rattle.tree_handles.specs.Forest.{flatten}
-use Rattle.tree_handles.specs.Standing.{Stands, forest, KeepsRefusals}
-use Rattle.calc_session.specs.declared.answers.LineAnswer.{LineAnswer}
-use Rattle.calc_session.specs.declared.answers.LineAnswer.TheVariants as answer
-use Rattle.calc_session.specs.declared.answers.Refusal.{Refusal}
-use Rattle.calc_session.specs.Answers.{AnswersCommand}
-use Rattle.calc_session.specs.declared.answers.Refusal.TheVariants as refusal
-use Rattle.calc_session.specs.Commanding.{IsReplyToCommand, arms_a_breaker, can_arm, cannot_arm, finds_no_breaker, forgets, has_no_room, is_to_be_drawn, knows_no_name, tells_the_layout}
-use Rattle.calc_session.specs.Drawing.{serial_in}
-use Rattle.calc_session.specs.Replies.{command, drawn, full, report, reserved, forgot, text_of}
-use Rattle.calc_session.specs.States.{State, state_of}
 use Rattle.calc_session.proofs.EvaluationLemmas.{none_rose}
+use Rattle.calc_session.specs.declared.answers.LineAnswer.TheVariants as answer
+use Rattle.calc_session.specs.declared.answers.Refusal.TheVariants as refusal
 
 -- ---- armed breakers
 

@@ -1,21 +1,7 @@
 -- A line that reads is answered by what its tree comes to.
 use Rattle.std.proofs.Common.{◌≡◌, ℕ, List, codes, Bool, true, false, Option, Some, ap, subst, arith}
-use Rattle.std.specs.Str.{bytes_eq}
+use Rattle.calc_session.proofs.Shared.{bytes_eq, IsLine, IsLineOver, SameLine, one_line, Tree, depth, Placed, bare, AreTokensOf, character_or_all, wide_or_all, one_list, values, IsStorable, Table, has_room_for, IsReplyTo, IsReplyUnread, is_long, is_nothing, has_no_token, has_a_wide_number, is_no_line, is_too_deep, stores_to_ans, finds_names_full, ReadsAs, ReadsTree, Reply, State, free_bytes, trees, IsReply, is_unread, is_commanded, is_calculated, is_evaluated}
 use Rattle.breakers.specs.State.{State as Breaker}
-use Rattle.calc_parser.specs.Lines.{IsLine, IsLineOver}
-use Rattle.calc_parser.proofs.Checks.{SameLine, one_line}
-use Rattle.calc_terms.specs.Trees.{Tree, depth}
-use Rattle.calc_tokens.specs.Placed.{Placed, bare}
-use Rattle.calc_tokens.specs.Scanned.{AreTokensOf}
-use Rattle.calc_tokens.proofs.OneScan.{character_or_all, wide_or_all, one_list}
-use Rattle.name_table.specs.Filling.{values}
-use Rattle.name_table.specs.Storing.{IsStorable}
-use Rattle.name_table.specs.Tables.{Table, has_room_for}
-use Rattle.calc_session.specs.Evaluations.{IsReplyTo}
-use Rattle.calc_session.specs.Reading.{IsReplyUnread, is_long, is_nothing, has_no_token, has_a_wide_number, is_no_line, is_too_deep, stores_to_ans, finds_names_full, ReadsAs, ReadsTree}
-use Rattle.calc_session.specs.Replies.{Reply}
-use Rattle.calc_session.specs.States.{State, free_bytes, trees}
-use Rattle.calc_session.specs.Steps.{IsReply, is_unread, is_commanded, is_calculated, is_evaluated}
 
 clash : (b : Bool) → b ≡ true → b ≡ false → ⊥
 clash b e f = cc

@@ -1,27 +1,9 @@
 -- Lemmas on what the derivative of a tree comes to.
 use Rattle.std.proofs.Common.{◌≡◌, ℕ, ◌+◌, ◌≤◌, ◌<◌, List, [], ◌∷◌, nat_le, nat_lt, cond, Bool, true, false, Option, None, Result, Ok, Err, refl, ap, subst, arith}
-use Rattle.std.proofs.lemmas.Bool.{leb-false, leb-true, ltb-false}
+use Rattle.calc_session.proofs.Shared.{leb-false, leb-true, ltb-false, IsWritable, building, Tree, depth, root_size, size, symbol, HasDerivative, derivative, NamedTree, Filling, lacks, too_deep, fills, filling, filling_one, Full, free_of, Forest, tree_of, Gives, IsHanded, KeepsFront, without_root, Stands, forest, behind_first, behind_new, front_after_one, front_at, front_end, front_same, front_without, given_rest, given_told, ends_at, ends_without, occurrences, replaced, replacing, Evaluation, ComesTo, IsDisplayOf, IsReplyToDerivative, IsReduction, made, reported}
 use Rattle.breakers.specs.State.{State as Breaker}
-use Rattle.calc_language.specs.Texts.{IsWritable}
-use Rattle.calc_parser.specs.Building.{building}
-use Rattle.calc_terms.specs.Trees.{Tree, depth, root_size, size, symbol}
-use Rattle.dual_diff.specs.Derivatives.{HasDerivative, derivative}
-use Rattle.name_table.specs.Filling.{NamedTree, Filling, lacks, too_deep, fills, filling, filling_one}
-use Rattle.node_pool.specs.declared.full.Full.{Full}
-use Rattle.node_pool.specs.State.{State, free_of}
-use Rattle.tree_handles.specs.Forest.{Forest}
-use Rattle.tree_handles.specs.Handed.{tree_of, Gives, IsHanded, KeepsFront}
-use Rattle.tree_handles.specs.Roots.{without_root}
-use Rattle.tree_handles.specs.Standing.{Stands, forest}
-use Rattle.tree_handles.proofs.Fronts.{behind_first, behind_new, front_after_one, front_at, front_end, front_same, front_without}
-use Rattle.tree_handles.proofs.Given.{given_rest, given_told}
-use Rattle.tree_handles.proofs.Lasts.{ends_at, ends_without}
-use Rattle.tree_walks.specs.Replacing.{occurrences, replaced, replacing}
-use Rattle.calc_session.specs.declared.evaluating.Evaluation.{Evaluation}
-use Rattle.calc_session.specs.Answers.{ComesTo, IsDisplayOf}
-use Rattle.calc_session.specs.Deriving.{IsReplyToDerivative, is_reduced}
-use Rattle.calc_session.specs.Evaluations.{IsReduction, made}
-use Rattle.calc_session.specs.Replies.{reported}
+use Rattle.node_pool.specs.State.{State}
+use Rattle.calc_session.specs.Deriving.{is_reduced}
 use Rattle.calc_session.proofs.EvaluationLemmas.{comes_as, free_same}
 
 pub over : (a b : ℕ) → (a ≤ b → ⊥) → b < a

@@ -1,33 +1,14 @@
 -- Lemmas on the layout of the last answer, and on the rows of its picture.
 use Rattle.std.proofs.Common.{◌*◌, ◌≡◌, ◌∙◌, ℕ, zero, suc, ◌+◌, ◌≤◌, ◌==◌, if◌then◌else◌, List, [], ◌∷◌, ◌++◌, length, encode_utf8_all, Bool, true, false, nat_le, Option, Some, None, Result, Ok, Err, refl, sym, ap, subst, arith, append_assoc, append-nil, length-append}
-use Rattle.std.proofs.KnownBytes.{Appends-trans}
-use Rattle.std.proofs.lemmas.Bool.{leb-true, leb-false}
+use Rattle.calc_session.proofs.Shared.{Appends-trans, leb-true, leb-false, Appends, IsHeld, Table, Full, free_of, GivesLayout, IsLayout, drawing, given_drawing, Block, before_cut, cut, picture, AllExpressions, IsExpression, IsWhole, plain, bytes_in, forest_of, tree_at, has_root, KeepsRefusals, Refuses, Stands, forest, CountsRefusal, tree_of_root, root_held, Content, extended, after, IsDrawn, IsDrawnInPart, first_rows, lack_in, row_text, told_at}
 use Rattle.std.proofs.lemmas.Str.{encodes-append}
-use Rattle.std.specs.Io.KnownBytes.{Appends}
 use Rattle.calc_edges.specs.Taken.{AppendsPart}
 use Rattle.calc_edges.proofs.Parts.{AppendsPart-after, AppendsPart-more}
-use Rattle.name_table.specs.Held.{IsHeld}
-use Rattle.name_table.specs.Tables.{Table}
-use Rattle.node_pool.specs.declared.full.Full.{Full}
-use Rattle.node_pool.specs.State.{State as PoolState, free_of}
+use Rattle.node_pool.specs.State.{State as PoolState}
 use Rattle.pool_layouts.specs.Building.{laying}
-use Rattle.pool_layouts.specs.Drawings.{GivesLayout, IsLayout, drawing}
-use Rattle.pool_layouts.proofs.Given.{given_drawing}
 use Rattle.pool_layouts.specs.Layouts.{Layout, layout}
-use Rattle.pool_layouts.specs.Pictures.{Block, before_cut, cut, picture}
 use Rattle.pool_layouts.proofs.RowLines.{row_room}
-use Rattle.tree_handles.specs.Expressions.{AllExpressions, IsExpression, IsWhole, plain}
-use Rattle.tree_handles.specs.Forest.{bytes_in, forest_of}
-use Rattle.tree_handles.specs.Inside.{tree_at}
-use Rattle.tree_handles.specs.Roots.{has_root}
-use Rattle.tree_handles.specs.Standing.{KeepsRefusals, Refuses, Stands, forest}
-use Rattle.calc_session.specs.Answers.{CountsRefusal}
 use Rattle.tree_handles.proofs.Counted.{all-root_tree}
-use Rattle.tree_handles.proofs.Lasts.{tree_of_root}
-use Rattle.tree_handles.proofs.Roots.{root_held}
-use Rattle.line_text.specs.Content.{Content, extended}
-use Rattle.calc_session.specs.Pools.{after}
-use Rattle.calc_session.specs.Drawing.{IsDrawn, IsDrawnInPart, first_rows, lack_in, row_text, told_at}
 
 -- ---- the last answer
 

@@ -1,25 +1,9 @@
 -- Lines for which there is enough are answered.
 use Rattle.std.proofs.Common.{◌≡◌, ◌∙◌, ℕ, zero, suc, ◌+◌, ◌*◌, ◌-◌, ◌≤◌, ◌<◌, List, [], ◌∷◌, Bool, true, false, cond, leb, nat_lt, Option, Some, Result, Ok, Err, All, Contains, refl, sym, ap, subst, arith}
-use Rattle.std.proofs.lemmas.Bool.{le-leb, leb-false, leb-true, ltb-true}
-use Rattle.std.proofs.lemmas.List.Elements.{All-head, All-tail}
-use Rattle.std.proofs.lemmas.Nat.{mul-le}
+use Rattle.calc_session.proofs.Shared.{le-leb, leb-false, leb-true, ltb-true, All-head, All-tail, mul-le, building, building_takes_the_size, Tree, depth, names, nodes, root_size, size, symbol, NamedTree, Filling, lacks, too_deep, fills, filled, filling, filling_one, values, Full, MayExceed, TripsWithin, by_test, bytes_of_replaced, occurrences, replaced, replacing, HasBytesFor, of_the_tree, of_its_nodes, IsAnswered, ReadsFilled, IsReplyWith, has_no_value, holds_its_name, is_shown, is_stored, IsReduction, lacks_bytes, is_answered, IsReplyTo, finds_no_room, becomes_too_deep, made, Reply, circular, full, State, free_bytes, trees, IsReply}
 use Rattle.breakers.specs.State.{State as Breaker}
-use Rattle.calc_parser.specs.Building.{building}
-use Rattle.calc_parser.proofs.Sizes.{building_takes_the_size}
-use Rattle.calc_terms.specs.Trees.{Tree, depth, names, nodes, root_size, size, symbol}
-use Rattle.name_table.specs.Filling.{NamedTree, Filling, lacks, too_deep, fills, filled, filling, filling_one, values}
 use Rattle.name_table.proofs.FilledNames.{fills_as}
-use Rattle.node_pool.specs.declared.full.Full.{Full}
-use Rattle.reduce_port.specs.Bounds.{MayExceed}
-use Rattle.reduce_port.specs.Checks.{TripsWithin}
-use Rattle.tree_handles.proofs.Outcomes.{by_test}
-use Rattle.tree_walks.proofs.Composing.{bytes_of_replaced}
-use Rattle.tree_walks.specs.Replacing.{occurrences, replaced, replacing}
-use Rattle.calc_session.specs.Enough.{HasBytesFor, of_the_tree, of_its_nodes, IsAnswered, ReadsFilled}
-use Rattle.calc_session.specs.Evaluations.{IsReplyWith, has_no_value, holds_its_name, is_shown, is_stored, IsReduction, is_interrupted, does_not_fit, lacks_bytes, is_answered, IsReplyTo, finds_no_room, becomes_too_deep, is_reduced, made}
-use Rattle.calc_session.specs.Replies.{Reply, circular, full}
-use Rattle.calc_session.specs.States.{State, free_bytes, trees}
-use Rattle.calc_session.specs.Steps.{IsReply}
+use Rattle.calc_session.specs.Evaluations.{is_interrupted, does_not_fit, is_reduced}
 use Rattle.calc_session.proofs.CompletenessLemmas.{read_evaluated}
 use Rattle.calc_session.proofs.Growing.{bytes_by_nodes, depth_grows, nodes_grow, size_grows}
 use Rattle.calc_session.proofs.SlopeLemmas.{filled_one}

@@ -1,40 +1,16 @@
 -- Lemmas on the answers to equations.
 use Rattle.std.proofs.Common.{◌≡◌, ◌∙◌, ℕ, suc, ◌<◌, ◌≤◌, List, [], length, map, Some, None, Ok, refl, sym, ap, subst, arith}
-use Rattle.std.specs.List.{AllZip}
+use Rattle.calc_session.proofs.Shared.{AllZip, Equation, Form, HoldLaterFreeNames, solved, Solution, IfNever, IfSolved, answer_told, form_told, entries_of, forms_are_later, forms_are_many, multipliers_are_many, solving, NamedTree, values, Table, Full, free_of, forest, Refusal, EquationRange, TellsReply, reply_of, bytes_before, all_placed, form_room, names_listed, AreSplit, pieces_at, Reply, report, text_of, AreNamesOf, solution_text, AreSolved, Become, equation, nothing, IsReplyToEquations, IsReplyToRead, ReadsEquation, are_linear, are_made, are_read, first_not_linear, is_told, state_of}
 use Rattle.breakers.specs.State.{State as Breaker}
-use Rattle.linear_solve.specs.Equations.{Equation}
-use Rattle.linear_solve.specs.Forms.{Form, HoldLaterFreeNames, solved}
-use Rattle.linear_solve.specs.declared.solution.Solution.{Solution}
-use Rattle.linear_solve.specs.declared.solution.Solution.TheVariants as solution
-use Rattle.linear_solve.specs.Solutions.{IfNever, IfSolved, answer_told, form_told}
-use Rattle.linear_solve.specs.Told.{entries_of}
-use Rattle.linear_solve.proofs.Theorem.{forms_are_later, forms_are_many, multipliers_are_many}
-use Rattle.linear_solve.specs.Solving.{solving}
-use Rattle.name_table.specs.Filling.{NamedTree, values}
-use Rattle.name_table.specs.Tables.{Table}
-use Rattle.node_pool.specs.declared.full.Full.{Full}
-use Rattle.node_pool.specs.State.{State as PoolState, free_of}
-use Rattle.tree_handles.specs.Standing.{forest}
-use Rattle.calc_session.specs.declared.answers.LineAnswer.TheVariants as answer
-use Rattle.calc_session.specs.declared.answers.Refusal.{Refusal}
-use Rattle.calc_session.specs.declared.answers.Refusal.TheVariants as refusal
-use Rattle.calc_session.specs.declared.equations.EquationRange.{EquationRange}
+use Rattle.node_pool.specs.State.{State as PoolState}
 use Rattle.calc_session.specs.declared.solving.Solved.{Solved}
-use Rattle.calc_session.specs.Answers.{TellsReply, reply_of}
-use Rattle.calc_session.specs.Arguments.{bytes_before}
-use Rattle.calc_session.specs.Equations.{all_placed}
-use Rattle.calc_session.specs.Forms.{form_room}
-use Rattle.calc_session.specs.Listed.{names_listed}
-use Rattle.calc_session.specs.Ranges.{AreSplit, pieces_at}
-use Rattle.calc_session.specs.Replies.{Reply, report, text_of}
-use Rattle.calc_session.specs.RisingNames.{AreNamesOf}
-use Rattle.calc_session.specs.SolutionTexts.{solution_text}
-use Rattle.calc_session.specs.Solved.{AreSolved}
-use Rattle.calc_session.specs.Solving.{Become, equation, nothing, IsReplyToEquations, IsReplyToRead, ReadsEquation, are_linear, are_made, are_read, first_not_linear, is_told, lacks_bytes}
-use Rattle.calc_session.specs.States.{state_of}
+use Rattle.calc_session.specs.Solving.{lacks_bytes}
 use Rattle.calc_session.proofs.RisingLemmas.{rises_distinct}
 use Rattle.calc_session.proofs.SolutionMeanings.{linear_in}
 use Rattle.calc_session.proofs.SessionLemmas.{refused_leaves}
+use Rattle.linear_solve.specs.declared.solution.Solution.TheVariants as solution
+use Rattle.calc_session.specs.declared.answers.LineAnswer.TheVariants as answer
+use Rattle.calc_session.specs.declared.answers.Refusal.TheVariants as refusal
 
 -- a refusal that is among the replies, of which no text is written yet
 pub tells_refusal : (IsReply : Reply → Type 0) (r : Refusal) (written : List ℕ) → IsReply (reply_of r) → written ≡ [] → TellsReply IsReply (answer.Refused r) written

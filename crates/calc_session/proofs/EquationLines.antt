@@ -1,26 +1,9 @@
 -- What the answers to lines that ask for solutions mean, and when there is one.
 use Rattle.std.proofs.Common.{◌≡◌, ◌∙◌, ℕ, suc, ◌+◌, ◌<◌, ◌≤◌, List, length, Option, Some, None, Err, refl, sym, ap, subst, arith}
-use Rattle.std.specs.List.{AllZip}
+use Rattle.calc_session.proofs.Shared.{AllZip, IsCommandLine, diff, solve, expand, once, Tree, Equation, nodes_of_sides, Misfit, solving, values, bytes_before, IsReplyToCalculation, derives, solves, expands, Sides, Splits, all_placed, form_room, Reply, command, long, not_linear, report, too_many, AreNamesOf, solution_text, AsksToSolve, TellsSolutionsOf, IsReplyToEquations, are_not_written, are_too_many, are_not_read, are_read, IsReplyToRead, are_not_made, are_made, IsReplyToSolve, have_too_many_names, are_not_linear, are_linear, IsSolution, is_interrupted, does_not_fit, is_told, IsNoEquation, ReadsEquation, first_not_linear, State, free_bytes, trees, IsReply}
 use Rattle.breakers.specs.State.{State as Breaker}
-use Rattle.calc_commands.specs.Commands.{IsCommandLine, diff, solve, expand}
-use Rattle.calc_commands.proofs.Lines.{once}
-use Rattle.calc_terms.specs.Trees.{Tree}
 use Rattle.linear_solve.specs.Checks.{TripsWithin}
-use Rattle.linear_solve.specs.Equations.{Equation, nodes_of_sides}
-use Rattle.linear_solve.specs.Fitting.{Misfit}
-use Rattle.linear_solve.specs.Solving.{solving}
-use Rattle.name_table.specs.Filling.{values}
-use Rattle.calc_session.specs.Arguments.{bytes_before}
-use Rattle.calc_session.specs.Calculating.{IsReplyToCalculation, derives, solves, expands}
-use Rattle.calc_session.specs.Equations.{Sides, Splits, all_placed}
-use Rattle.calc_session.specs.Forms.{form_room}
-use Rattle.calc_session.specs.Replies.{Reply, command, long, not_linear, report, too_many}
-use Rattle.calc_session.specs.RisingNames.{AreNamesOf}
-use Rattle.calc_session.specs.SolutionTexts.{solution_text}
-use Rattle.calc_session.specs.SolutionsMeant.{AsksToSolve, TellsSolutionsOf}
-use Rattle.calc_session.specs.Solving.{IsReplyToEquations, are_not_written, are_too_many, are_not_read, are_read, IsReplyToRead, are_not_made, are_made, IsReplyToSolve, have_too_many_names, are_not_linear, are_linear, IsSolution, is_interrupted, does_not_fit, is_told, lacks_bytes, IsNoEquation, ReadsEquation, first_not_linear}
-use Rattle.calc_session.specs.States.{State, free_bytes, trees}
-use Rattle.calc_session.specs.Steps.{IsReply}
+use Rattle.calc_session.specs.Solving.{lacks_bytes}
 use Rattle.calc_session.proofs.AskedLines.{calculation}
 use Rattle.calc_session.proofs.OneReading.{all_read, become_at_all, become_once, names_once, over_six, read_once, split_once, unbuilt_unreported, unread_unreported}
 use Rattle.calc_session.proofs.SolutionMeanings.{told_says}

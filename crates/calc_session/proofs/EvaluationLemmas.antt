@@ -1,61 +1,23 @@
 -- Lemmas on what the tree of a line comes to.
 use Rattle.std.proofs.Common.{◌≡◌, ◌∙◌, ◌↔◌, ℕ, zero, suc, ◌+◌, ◌*◌, ◌≤◌, ◌<◌, List, [], ◌∷◌, true, false, Option, Some, None, Result, Ok, Err, ◌⊎◌, inl, inr, refl, sym, ap, subst, arith}
 use Rattle.std.specs.Prelude.{Contains}
-use Rattle.std.proofs.lemmas.List.Elements.{Contains-append_cases}
-use Rattle.breakers.specs.Breakers.{CalmChecks, TripsRose}
+use Rattle.calc_session.proofs.Shared.{Contains-append_cases, CalmChecks, TripsRose, IsEasy, Reduces, face, HasNames, Token, building, IsTreeOf, one_line, name_of, Tree, num, symbol, undef, add, mult, power, root, neg, sub, div, is_undef, names, nodes, root_kind, size, NamedTree, values, LacksNames, Filling, lacks, too_deep, fills, filling, refused_filling, FaultsFilling, IsKeepable, names_with, Table, table_names, Full, AreNodes, used, free_of, AreNodes-right, MayExceed, Covers, CalmUpTo, TripsWithin, Evaluates, HasEasyBadPart, CountsRefusals, IfFull, IfInterrupted, IfOverflow, ReduceFault, Overflows, plain, Forest, flatten, bytes_in, tree_of, Gives, KeepsFront, Starts, root_tree, without_root, LacksBytes, Stands, forest, KeepsRefusals, bytes_in-join, flatten-join, refuses_after, behind_first, behind_new, front_after_one, front_at, front_end, front_same, front_without, given_rest, given_told, gives_as, last_tree, size-plain, Refusal, Evaluation, Face, Undefined, Refused, ComesTo, CountsRefusal, IsDisplayOf, LacksName, refusal_of, refusal_to_fill, reply_of, HasFittingRationals, IsAnswerTo, IsReplyWith, has_no_value, holds_its_name, is_shown, is_stored, OverflowsAt, IsReduction, lacks_bytes, is_answered, made, Unmade, IsReplyTo, finds_no_room, becomes_too_deep, Reply, displayed, circular, refusal_in}
 use Rattle.breakers.specs.State.{State as Breaker}
-use Rattle.calc_algebra.specs.BadAndEasy.{IsEasy}
-use Rattle.calc_algebra.specs.Rewritings.{Reduces}
-use Rattle.calc_language.specs.Faces.{face}
-use Rattle.calc_language.specs.Texts.{HasNames}
-use Rattle.calc_language.specs.Tokens.{Token}
 use Rattle.calc_measures.specs.PlainOverflows.{is_overflow, nodes_to_overflow}
 use Rattle.calc_measures.specs.PlainTrees.{IsPlainAnswer, IsPlainOverflow}
 use Rattle.calc_measures.specs.PlainValues.{plain_value}
-use Rattle.calc_parser.specs.Building.{building}
-use Rattle.calc_parser.specs.Lines.{IsTreeOf}
-use Rattle.calc_parser.proofs.Checks.{one_line}
-use Rattle.calc_terms.specs.Leaf.{name_of}
-use Rattle.calc_terms.specs.Trees.{Tree, num, symbol, undef, add, mult, power, root, neg, sub, div, is_undef, names, nodes, root_kind, size}
-use Rattle.calc_terms.specs.declared.kind.Kind.TheVariants as kind
-use Rattle.name_table.specs.Filling.{NamedTree, values, LacksNames, Filling, lacks, too_deep, fills, filling, refused_filling, FaultsFilling}
-use Rattle.name_table.specs.Storing.{IsKeepable, names_with}
-use Rattle.name_table.specs.Tables.{Table, table_names}
 use Rattle.name_table.specs.declared.fault.FillFault.{FillFault}
-use Rattle.name_table.specs.declared.fault.FillFault.TheVariants as fill
-use Rattle.node_pool.specs.declared.full.Full.{Full}
-use Rattle.node_pool.specs.Nodes.{AreNodes, used}
-use Rattle.node_pool.specs.State.{State, free_of}
-use Rattle.node_pool.proofs.Sizes.{AreNodes-right}
-use Rattle.reduce_port.specs.Bounds.{MayExceed, Covers}
-use Rattle.reduce_port.specs.Checks.{CalmUpTo, TripsWithin}
-use Rattle.reduce_port.specs.EasyTrees.{Evaluates, HasEasyBadPart}
-use Rattle.reduce_port.specs.Faults.{CountsRefusals, IfFull, IfInterrupted, IfOverflow}
-use Rattle.reduce_port.specs.declared.fault.ReduceFault.{ReduceFault}
-use Rattle.reduce_port.specs.declared.fault.ReduceFault.TheVariants as fault
-use Rattle.tree_handles.specs.Causes.{Overflows}
-use Rattle.tree_handles.specs.Expressions.{plain}
-use Rattle.tree_handles.specs.Forest.{Forest, flatten, bytes_in}
-use Rattle.tree_handles.specs.Handed.{tree_of, Gives, KeepsFront, Starts}
-use Rattle.tree_handles.specs.Roots.{root_tree, without_root}
-use Rattle.tree_handles.specs.Standing.{LacksBytes, Stands, forest, KeepsRefusals}
-use Rattle.tree_handles.proofs.Forests.{bytes_in-join, flatten-join, refuses_after}
-use Rattle.tree_handles.proofs.Fronts.{behind_first, behind_new, front_after_one, front_at, front_end, front_same, front_without}
-use Rattle.tree_handles.proofs.Given.{given_rest, given_told, gives_as}
-use Rattle.tree_handles.proofs.Lasts.{last_tree}
+use Rattle.node_pool.specs.State.{State}
 use Rattle.tree_handles.proofs.Places.{used_forest}
-use Rattle.tree_handles.proofs.Plains.{size-plain}
-use Rattle.calc_session.specs.declared.answers.Refusal.{Refusal}
-use Rattle.calc_session.specs.declared.answers.Refusal.TheVariants as refusal
-use Rattle.calc_session.specs.declared.evaluating.Evaluation.{Evaluation}
-use Rattle.calc_session.specs.declared.evaluating.Evaluation.TheVariants.{Face, Undefined, Refused}
-use Rattle.calc_session.specs.Answers.{ComesTo, CountsRefusal, IsDisplayOf, LacksName, refusal_of, refusal_to_fill, reply_of}
-use Rattle.calc_session.specs.Evaluations.{HasFittingRationals, IsAnswerTo, IsReplyWith, has_no_value, holds_its_name, is_shown, is_stored, OverflowsAt, IsReduction, is_interrupted, does_not_fit, lacks_bytes, is_answered, made, Unmade, IsReplyTo, finds_no_room, becomes_too_deep, is_reduced}
+use Rattle.calc_session.specs.Evaluations.{is_interrupted, does_not_fit, is_reduced}
 use Rattle.calc_session.specs.Faces.{Shows}
-use Rattle.calc_session.specs.Replies.{Reply, displayed, circular, refusal_in}
 use Rattle.calc_session.proofs.FaceNames.{face_names}
 use Rattle.calc_session.proofs.StoredTrees.{fitting_tree, named_tree}
 use Rattle.calc_session.proofs.WritableFaces.{face_written}
+use Rattle.calc_terms.specs.declared.kind.Kind.TheVariants as kind
+use Rattle.name_table.specs.declared.fault.FillFault.TheVariants as fill
+use Rattle.reduce_port.specs.declared.fault.ReduceFault.TheVariants as fault
+use Rattle.calc_session.specs.declared.answers.Refusal.TheVariants as refusal
 
 -- ---- the last tree
 

@@ -1,26 +1,12 @@
 -- What the answers to lines that ask for an expansion mean, and when there is one.
 use Rattle.std.proofs.Common.{◌≡◌, ◌↔◌, ℕ, ◌≤◌, ◌<◌, List, length, Bool, true, false, Option, refl, ap, subst, arith}
+use Rattle.calc_session.proofs.Shared.{reduced_face_means, IsCommandLine, diff, solve, expand, once, face, text, Tree, nodes, expanded, sum_tree, term_trees, expansion_room, is_polynomial, polynomial_of, tree_expanded_reduced, TripsWithin, IsReplyToCalculation, IsReplyToExpression, derives, solves, expands, IsReplyToExpansion, expansion_text, is_no_polynomial, is_expanded, Reply, long, not_polynomial, report, State, free_bytes, IsReply}
 use Rattle.breakers.specs.State.{State as Breaker}
-use Rattle.beautify.proofs.FaceLaws.{reduced_face_means}
-use Rattle.calc_commands.specs.Commands.{IsCommandLine, diff, solve, expand}
-use Rattle.calc_commands.proofs.Lines.{once}
-use Rattle.calc_language.specs.Faces.{face}
-use Rattle.calc_language.specs.Texts.{text}
 use Rattle.calc_measures.specs.Measures.{bits as bits_of}
-use Rattle.calc_terms.specs.Trees.{Tree, nodes}
-use Rattle.expand_forms.specs.ExpandedTrees.{expanded, sum_tree, term_trees}
-use Rattle.expand_forms.specs.ExpansionRoom.{expansion_room}
-use Rattle.expand_forms.specs.PolynomialTrees.{is_polynomial, polynomial_of}
 use Rattle.expand_forms.proofs.ExpandedMeanings.{expanded_means}
 use Rattle.expand_forms.proofs.NormalForms.{one_normal_form}
-use Rattle.expand_forms.proofs.ReducedExpansions.{tree_expanded_reduced}
-use Rattle.reduce_port.specs.Checks.{TripsWithin}
-use Rattle.calc_session.specs.Calculating.{IsReplyToCalculation, IsReplyToExpression, derives, solves, expands}
-use Rattle.calc_session.specs.Expanding.{IsReplyToExpansion, expansion_text, is_no_polynomial, is_interrupted, does_not_fit, lacks_bytes, is_expanded}
+use Rattle.calc_session.specs.Expanding.{is_interrupted, does_not_fit, lacks_bytes}
 use Rattle.calc_session.specs.ExpansionsMeant.{AsksExpansionOf, HaveSameCoefficients, TellsExpansion}
-use Rattle.calc_session.specs.Replies.{Reply, long, not_polynomial, report}
-use Rattle.calc_session.specs.States.{State, free_bytes}
-use Rattle.calc_session.specs.Steps.{IsReply}
 use Rattle.calc_session.proofs.AskedLines.{calculation}
 use Rattle.calc_session.proofs.ExpressionReplies.{reply_to_text, reply_to_tree}
 

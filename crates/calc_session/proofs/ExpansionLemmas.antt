@@ -1,38 +1,15 @@
 -- Lemmas on what the expansion of a tree comes to.
 use Rattle.std.proofs.Common.{◌≡◌, ◌∙◌, ℕ, ◌+◌, ◌*◌, ◌≤◌, ◌<◌, List, [], ◌∷◌, true, false, None, Err, sym, ap, subst, arith}
-use Rattle.breakers.specs.Breakers.{CalmChecks}
+use Rattle.calc_session.proofs.Shared.{CalmChecks, is_reduced, face, HasNames, IsWritable, Tree, is_undef, nodes, size, expanded, expansion_room, is_polynomial, polynomial_of, tree_expanded_reduced, Full, free_of, CalmUpTo, TripsWithin, CountsRefusals, IfFull, IfInterrupted, IfOverflow, ReduceFault, Overflows, plain, Forest, tree_of, Gives, KeepsFront, LacksBytes, Stands, forest, without_root, given_rest, given_told, gives_as, last_tree, Face, ComesTo, refusal_of, reply_of, IsReplyToExpansion, LacksExpansionRoom, is_expanded, reported}
 use Rattle.breakers.specs.State.{State as Breaker}
-use Rattle.calc_algebra.specs.Reduced.{is_reduced}
-use Rattle.calc_language.specs.Faces.{face}
-use Rattle.calc_language.specs.Texts.{HasNames, IsWritable}
 use Rattle.calc_measures.specs.Measures.{bits}
-use Rattle.calc_terms.specs.Trees.{Tree, is_undef, nodes, size}
-use Rattle.expand_forms.specs.ExpandedTrees.{expanded}
-use Rattle.expand_forms.specs.ExpansionRoom.{expansion_room}
-use Rattle.expand_forms.specs.PolynomialTrees.{is_polynomial, polynomial_of}
 use Rattle.expand_forms.proofs.Defined.{expanded_defined}
-use Rattle.expand_forms.proofs.ReducedExpansions.{tree_expanded_reduced}
-use Rattle.node_pool.specs.declared.full.Full.{Full}
-use Rattle.node_pool.specs.State.{State, free_of}
-use Rattle.reduce_port.specs.Checks.{CalmUpTo, TripsWithin}
-use Rattle.reduce_port.specs.Faults.{CountsRefusals, IfFull, IfInterrupted, IfOverflow}
-use Rattle.reduce_port.specs.declared.fault.ReduceFault.{ReduceFault}
-use Rattle.reduce_port.specs.declared.fault.ReduceFault.TheVariants as fault
-use Rattle.tree_handles.specs.Causes.{Overflows}
-use Rattle.tree_handles.specs.Expressions.{plain}
-use Rattle.tree_handles.specs.Forest.{Forest}
-use Rattle.tree_handles.specs.Handed.{tree_of, Gives, KeepsFront}
-use Rattle.tree_handles.specs.Standing.{LacksBytes, Stands, forest}
-use Rattle.tree_handles.specs.Roots.{without_root}
-use Rattle.tree_handles.proofs.Given.{given_rest, given_told, gives_as}
-use Rattle.tree_handles.proofs.Lasts.{last_tree}
-use Rattle.calc_session.specs.declared.evaluating.Evaluation.TheVariants.{Face}
-use Rattle.calc_session.specs.Answers.{ComesTo, refusal_of, reply_of}
-use Rattle.calc_session.specs.Expanding.{IsReplyToExpansion, LacksExpansionRoom, is_interrupted, does_not_fit, lacks_bytes, is_expanded}
-use Rattle.calc_session.specs.Replies.{reported}
+use Rattle.node_pool.specs.State.{State}
+use Rattle.calc_session.specs.Expanding.{is_interrupted, does_not_fit, lacks_bytes}
 use Rattle.calc_session.proofs.EvaluationLemmas.{first_still, free_same, free_there, last_nodes, some_node}
 use Rattle.calc_session.proofs.StoredTrees.{named_tree}
 use Rattle.calc_session.proofs.WritableFaces.{face_written}
+use Rattle.reduce_port.specs.declared.fault.ReduceFault.TheVariants as fault
 
 module _ (s mid : State) {others : Forest} {i j : ℕ} {P : Tree → Type 0} (g : Gives others (forest s) i P) (k : Gives others (forest mid) j (λ t. t ≡ expanded (polynomial_of (tree_of i s)))) where
   pub expansion_reduced : is_reduced (tree_of j mid) ≡ true

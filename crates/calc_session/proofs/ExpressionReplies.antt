@@ -1,14 +1,7 @@
 -- The replies to a text that is calculated with, by what it becomes.
 use Rattle.std.proofs.Common.{◌≡◌, ◌∙◌, ℕ, List, None, sym, subst}
+use Rattle.calc_session.proofs.Shared.{Tree, Placed, Filling, fills, ReadsText, IsReplyToExpression, is_no_expression, is_read, made_in, IsReplyToMade, Unmade, is_made, is_not_made, Reply, report, State}
 use Rattle.breakers.specs.State.{State as Breaker}
-use Rattle.calc_terms.specs.Trees.{Tree}
-use Rattle.calc_tokens.specs.Placed.{Placed}
-use Rattle.name_table.specs.Filling.{Filling, fills}
-use Rattle.calc_session.specs.Arguments.{ReadsText}
-use Rattle.calc_session.specs.Calculating.{IsReplyToExpression, is_no_expression, is_read, made_in}
-use Rattle.calc_session.specs.Evaluations.{IsReplyToMade, Unmade, is_made, is_not_made}
-use Rattle.calc_session.specs.Replies.{Reply, report}
-use Rattle.calc_session.specs.States.{State}
 use Rattle.calc_session.proofs.TextLemmas.{misread_unreported, one_text, read_at_all, unmade_unreported}
 
 filled_left : (l m : ℕ) (u v : Tree) → fills l u ≡ fills m v → l ≡ m

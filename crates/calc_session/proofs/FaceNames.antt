@@ -1,11 +1,7 @@
 -- The face of a tree has no new name.
 use Rattle.std.proofs.Common.{ℕ, zero, suc, ◌==◌, nat_abs, inl, inr, ◌⊎◌, List, [], ◌++◌, Bool, true, false, if◌then◌else◌, arith}
 use Rattle.std.specs.Prelude.{Contains}
-use Rattle.std.proofs.lemmas.List.Elements.{Contains-append_left, Contains-append_right, Contains-append_cases}
-use Rattle.calc_terms.specs.Trees.{Tree, num, symbol, undef, add, mult, power, root, neg, sub, div, Trees, none, more, append, names, names_of, whole_num}
-use Rattle.calc_algebra.specs.Rewritings.{HasNoNewName}
-use Rattle.calc_language.specs.Grammar.{SoFar, single, summed, multiplied, as_tree}
-use Rattle.calc_language.specs.Faces.{face, has_minus, with_minus, unsigned_face, unless_one, product_of, fraction_of, power_below, exponent_below, factor_above, factor_below, factors_above, factors_below, next_term, next_terms, face_of_sum}
+use Rattle.calc_session.proofs.Shared.{Contains-append_left, Contains-append_right, Contains-append_cases, Tree, num, symbol, undef, add, mult, power, root, neg, sub, div, Trees, none, more, append, names, names_of, whole_num, HasNoNewName, SoFar, single, summed, multiplied, as_tree, face, has_minus, with_minus, unsigned_face, unless_one, product_of, fraction_of, power_below, exponent_below, factor_above, factor_below, factors_above, factors_below, next_term, next_terms, face_of_sum}
 
 -- each name of the trees is among these
 abbrev AreIn : List (List ℕ) → List (List ℕ) → Type 0

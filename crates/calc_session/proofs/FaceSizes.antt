@@ -1,16 +1,11 @@
 -- The face of a reduced tree is no smaller than a leaf.
 use Rattle.std.proofs.Common.{◌≡◌, ℕ, zero, suc, ◌≤◌, Bool, true, false, cond, eqb, nat_abs, pos, arith}
 use Rattle.std.specs.Prelude.{⊤}
+use Rattle.calc_session.proofs.Shared.{is_reduced, exponent_below, face, face_of_sum, factor_above, factors_above, factors_below, fraction_of, has_minus, next_term, next_terms, power_below, product_of, unless_one, unsigned_face, with_minus, SoFar, single, summed, multiplied, as_tree, plus_term, num_least, lowest, Tree, num, symbol, undef, add, mult, power, root, neg, sub, div, Trees, none, more, append, AllParts, AllPartsOf, HasTwo, is_undef, size, whole_num}
 use Rattle.beautify.proofs.Showables.{reduced_showable}
 use Rattle.beautify.proofs.Sizes.{sizes-append, some_size}
 use Rattle.beautify.proofs.Suffixes.{own_part}
 use Rattle.beautify.specs.Showing.{AreFactors, IsFactor, IsShowable}
-use Rattle.calc_algebra.specs.Reduced.{is_reduced}
-use Rattle.calc_language.specs.Faces.{exponent_below, face, face_of_sum, factor_above, factors_above, factors_below, fraction_of, has_minus, next_term, next_terms, power_below, product_of, unless_one, unsigned_face, with_minus}
-use Rattle.calc_language.specs.Grammar.{SoFar, single, summed, multiplied, as_tree, plus_term}
-use Rattle.calc_terms.proofs.Sizes.{num_least}
-use Rattle.calc_terms.specs.Fractions.{lowest}
-use Rattle.calc_terms.specs.Trees.{Tree, num, symbol, undef, add, mult, power, root, neg, sub, div, Trees, none, more, append, AllParts, AllPartsOf, HasTwo, is_undef, size, whole_num}
 
 signed_least : (b : Bool) (t : Tree) → 16 ≤ size t → 16 ≤ size (with_minus b t)
 signed_least true t h = omega (arith, h)

@@ -1,13 +1,7 @@
 -- Lemmas on the bytes of a form's tree and of its face.
 use Rattle.std.proofs.Common.{◌≡◌, ℕ, ◌+◌, ◌*◌, ◌≤◌, List, [], ◌∷◌, Bool, true, false, if◌then◌else◌, refl, arith}
 use Rattle.std.specs.Prelude.{nat_abs, ◌==◌, ⊤, pos}
-use Rattle.calc_language.specs.Faces.{face, fraction_of, has_minus, next_term, next_terms, unsigned_face, with_minus}
-use Rattle.calc_language.specs.Grammar.{SoFar, single, summed, multiplied, as_tree}
-use Rattle.calc_terms.specs.Fractions.{Fraction, is_one_fraction, is_zero_fraction, lowest, zero_fraction}
-use Rattle.calc_terms.specs.Short.{is_short}
-use Rattle.calc_terms.specs.Trees.{Tree, num, symbol, mult, Trees, none, more, count, is_undef, size, sizes, whole_num}
-use Rattle.calc_session.specs.Forms.{IsSmall}
-use Rattle.calc_session.specs.SolutionTexts.{form_tree, multiple_of, multiples, sum_of_trees, summands}
+use Rattle.calc_session.proofs.Shared.{face, fraction_of, has_minus, next_term, next_terms, unsigned_face, with_minus, SoFar, single, summed, multiplied, as_tree, Fraction, is_one_fraction, is_zero_fraction, lowest, zero_fraction, is_short, Tree, num, symbol, mult, Trees, none, more, count, is_undef, size, sizes, whole_num, IsSmall, form_tree, multiple_of, multiples, sum_of_trees, summands}
 use Rattle.calc_session.proofs.FormLemmas.{sizes_of_multiples}
 use Rattle.calc_session.proofs.PlacingLemmas.{sizes_append}
 

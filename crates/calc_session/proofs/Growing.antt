@@ -1,14 +1,8 @@
 -- A tree in which a name is replaced is no smaller than before.
 use Rattle.std.proofs.Common.{ℕ, ◌*◌, ◌≤◌, max, List, cond, arith}
-use Rattle.std.specs.Str.{bytes_eq}
+use Rattle.calc_session.proofs.Shared.{bytes_eq, mul-le, root_most, Tree, num, symbol, undef, add, mult, power, root, neg, sub, div, Trees, none, more, depth, depths, nodes, nodes_of, root_size, size, sizes, by_test, bytes_of_replaced, occurrences, replaced, replaced_in}
 use Rattle.std.proofs.Math.Nat.{le-max_left, le-max_right, max-le}
-use Rattle.std.proofs.lemmas.Nat.{mul-le}
-use Rattle.calc_terms.proofs.Sizes.{root_most}
-use Rattle.calc_terms.specs.Trees.{Tree, num, symbol, undef, add, mult, power, root, neg, sub, div, Trees, none, more, depth, depths, nodes, nodes_of, root_size, size, sizes}
 use Rattle.reduce_port.proofs.Leaves.{one_node}
-use Rattle.tree_handles.proofs.Outcomes.{by_test}
-use Rattle.tree_walks.proofs.Composing.{bytes_of_replaced}
-use Rattle.tree_walks.specs.Replacing.{occurrences, replaced, replaced_in}
 
 -- ---- its nodes
 

@@ -1,29 +1,9 @@
 -- No tree that a session stores is smaller than a leaf.
 use Rattle.std.proofs.Common.{◌≡◌, ◌∙◌, ℕ, zero, suc, ◌≤◌, List, [], ◌∷◌, ◌++◌, map, codes, Bool, true, false, cond, eqb, Option, Some, None, All, refl, sym, ap, subst}
-use Rattle.std.specs.Str.{bytes_eq}
-use Rattle.std.proofs.lemmas.Bool.{eq-eqb}
-use Rattle.std.proofs.lemmas.List.Elements.{All-cons, All-head, All-nil, All-tail}
+use Rattle.calc_session.proofs.Shared.{bytes_eq, eq-eqb, All-cons, All-head, All-nil, All-tail, num_least, Node, Tree, Trees, none, more, size, NamedTree, value_in, values, AreRoots, IsHeld, held_by, holders_in, Entry, Table, entries, with_answer, without_entry, without_name, has, grown, plain, plains, Forest, empty, tree, flatten, forest_of, join, rest_trees, root_id, holds, has_root, root_tree, forest_of_whole, by_test, tree-right, HoldsNoSmallTree, Reply, shown, stored, forgot, State, first_state, trees, IsReply, Leaves, LeavesAnswer, LeavesOthers, Step}
 use Rattle.breakers.specs.State.{State as Breaker}
-use Rattle.calc_terms.proofs.Sizes.{num_least}
-use Rattle.calc_terms.specs.Node.{Node}
-use Rattle.calc_terms.specs.Trees.{Tree, Trees, none, more, size}
-use Rattle.name_table.specs.Filling.{NamedTree, value_in, values}
-use Rattle.name_table.specs.Held.{AreRoots, IsHeld, held_by, holders_in}
-use Rattle.name_table.specs.Tables.{Entry, Table, entries, with_answer, without_entry, without_name}
 use Rattle.name_table.proofs.Holders.{holders-told}
 use Rattle.name_table.proofs.Later.{values-counted, values-left}
-use Rattle.node_pool.specs.Nodes.{has}
-use Rattle.tree_handles.specs.Expressions.{grown, plain, plains}
-use Rattle.tree_handles.specs.Forest.{Forest, empty, tree, flatten, forest_of, join, rest_trees, root_id}
-use Rattle.tree_handles.specs.Inside.{holds}
-use Rattle.tree_handles.specs.Roots.{has_root, root_tree}
-use Rattle.tree_handles.proofs.Forests.{forest_of_whole}
-use Rattle.tree_handles.proofs.Outcomes.{by_test}
-use Rattle.tree_handles.proofs.Roots.{tree-right}
-use Rattle.calc_session.specs.Enough.{HoldsNoSmallTree}
-use Rattle.calc_session.specs.Replies.{Reply, shown, stored, forgot}
-use Rattle.calc_session.specs.States.{State, first_state, trees}
-use Rattle.calc_session.specs.Steps.{IsReply, Leaves, LeavesAnswer, LeavesOthers, Step}
 use Rattle.calc_session.proofs.FaceSizes.{face_large}
 use Rattle.calc_session.proofs.MeaningLemmas.{shows_meaning}
 

@@ -39,3 +39,4 @@ pub mod Growing
 pub mod EnoughLemmas
 pub mod FaceSizes
 pub mod LargeTrees
+pub mod Shared

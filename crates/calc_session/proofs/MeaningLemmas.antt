@@ -1,31 +1,13 @@
 -- What the answers to lines mean.
 use Rattle.std.proofs.Common.{◌≡◌, ◌∙◌, ℕ, List, [], Option, Some, None, Bool, true, false, refl, sym, ap, subst}
+use Rattle.calc_session.proofs.Shared.{HasValue, IsEasy, value, KeepsMeanings, Reduces, Surd, one_meaning, Same-trans, Evaluates, face, Tree, num, symbol, undef, add, mult, power, root, neg, sub, div, is_undef, Placed, reduced_face_means, values, IsReplyToCommand, tells_the_pool, tells_the_bytes, keeps_ans, forgets, knows_no_name, arms_a_breaker, finds_no_breaker, is_to_be_drawn, tells_the_layout, has_no_room, is_no_command, IsReplyWith, has_no_value, holds_its_name, is_shown, is_stored, IsReduction, lacks_bytes, is_answered, IsReplyTo, finds_no_room, becomes_too_deep, Table, Full, IsReplyUnread, is_long, is_nothing, has_no_token, has_a_wide_number, is_no_line, is_too_deep, stores_to_ans, finds_names_full, ReadsTree, Reply, shown, stored, undefined, deep, full, State, free_bytes, trees, IsReply, is_unread, is_commanded, is_calculated, is_evaluated}
 use Rattle.breakers.specs.State.{State as Breaker}
-use Rattle.calc_algebra.specs.BadAndEasy.{HasValue, IsEasy}
-use Rattle.calc_algebra.specs.Numbers.{value}
-use Rattle.calc_algebra.specs.Rewritings.{KeepsMeanings, Reduces}
 use Rattle.calc_algebra.specs.SquareClasses.{Same}
-use Rattle.calc_algebra.specs.Surds.{Surd}
-use Rattle.calc_algebra.proofs.MeaningLaws.{one_meaning}
 use Rattle.calc_algebra.proofs.NumberLaws.{number_words}
 use Rattle.calc_algebra.proofs.NumberUniqueness.{one_number}
-use Rattle.calc_algebra.proofs.SquareClassLaws.{Same-trans}
 use Rattle.calc_algebra.proofs.SurdLaws.{Agree-Same}
-use Rattle.reduce_port.specs.EasyTrees.{Evaluates}
-use Rattle.calc_language.specs.Faces.{face}
-use Rattle.calc_terms.specs.Trees.{Tree, num, symbol, undef, add, mult, power, root, neg, sub, div, is_undef}
-use Rattle.calc_tokens.specs.Placed.{Placed}
-use Rattle.beautify.proofs.FaceLaws.{reduced_face_means}
-use Rattle.name_table.specs.Filling.{values}
-use Rattle.calc_session.specs.Commanding.{IsReplyToCommand, tells_the_pool, tells_the_bytes, keeps_ans, forgets, knows_no_name, arms_a_breaker, finds_no_breaker, is_to_be_drawn, tells_the_layout, has_no_room, is_no_command}
-use Rattle.calc_session.specs.Evaluations.{IsReplyWith, has_no_value, holds_its_name, is_shown, is_stored, IsReduction, is_interrupted, does_not_fit, lacks_bytes, is_answered, IsReplyTo, finds_no_room, becomes_too_deep, is_reduced}
+use Rattle.calc_session.specs.Evaluations.{is_interrupted, does_not_fit, is_reduced}
 use Rattle.calc_session.specs.Meant.{Becomes, HasNoMeaning, HasSmallRadicands, MeanTheSame, MeansNothing, ShowsMeaning}
-use Rattle.name_table.specs.Tables.{Table}
-use Rattle.node_pool.specs.declared.full.Full.{Full}
-use Rattle.calc_session.specs.Reading.{IsReplyUnread, is_long, is_nothing, has_no_token, has_a_wide_number, is_no_line, is_too_deep, stores_to_ans, finds_names_full, ReadsTree}
-use Rattle.calc_session.specs.Replies.{Reply, shown, stored, undefined, deep, full}
-use Rattle.calc_session.specs.States.{State, free_bytes, trees}
-use Rattle.calc_session.specs.Steps.{IsReply, is_unread, is_commanded, is_calculated, is_evaluated}
 use Rattle.calc_session.proofs.CalculatedReplies.{calculated_value, is_value}
 
 pub nothing_meant : (t : Tree) → Reduces t undef → MeansNothing t

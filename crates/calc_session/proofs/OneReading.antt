@@ -1,17 +1,7 @@
 -- Equations are split, read, built and named in one way.
 use Rattle.std.proofs.Common.{◌≡◌, ◌∙◌, ℕ, zero, suc, ◌<◌, ◌≤◌, List, [], ◌∷◌, ◌++◌, length, true, refl, sym, ap, subst, arith}
 use Rattle.std.specs.Prelude.{All, Contains}
-use Rattle.std.specs.List.{AllZip}
-use Rattle.calc_terms.specs.Trees.{Tree}
-use Rattle.linear_solve.specs.Equations.{AreDistinct, Equation}
-use Rattle.name_table.specs.Filling.{NamedTree, Filling, fills}
-use Rattle.calc_session.specs.Arguments.{IsNoExpression}
-use Rattle.calc_session.specs.Equations.{AreSides, Piece, Pieces, Sides, Splits, written, written_all}
-use Rattle.calc_session.specs.Evaluations.{Unmade, made}
-use Rattle.calc_session.specs.Ranges.{EndsPiece}
-use Rattle.calc_session.specs.Replies.{Reply, report}
-use Rattle.calc_session.specs.RisingNames.{AreNamesOf, HoldOverSixNames, Rises, is_before}
-use Rattle.calc_session.specs.Solving.{AreUnmade, Become, IsNoEquation, ReadsEquation, ReadsSide, equation, nothing}
+use Rattle.calc_session.proofs.Shared.{AllZip, Tree, AreDistinct, Equation, NamedTree, Filling, fills, IsNoExpression, AreSides, Piece, Pieces, Sides, Splits, written, written_all, Unmade, made, EndsPiece, Reply, report, AreNamesOf, HoldOverSixNames, Rises, is_before, AreUnmade, Become, IsNoEquation, ReadsEquation, ReadsSide, equation, nothing}
 use Rattle.calc_session.proofs.RisingLemmas.{before_chain, never_before_itself, rises_distinct}
 use Rattle.calc_session.proofs.Splitting.{same_equation}
 use Rattle.calc_session.proofs.TextLemmas.{misread_unreported, one_text, read_at_all, unmade_unreported}

@@ -1,25 +1,9 @@
 -- Lemmas on a new session.
 use Rattle.std.proofs.Common.{◌≡◌, ◌∙◌, ℕ, zero, suc, List, [], ◌∷◌, true, false, Result, Ok, IfOk, OnOk, None, refl, sym, ap, subst, arith}
 use Rattle.std.specs.Prelude.{pos}
-use Rattle.calc_terms.specs.Node.{Node, fresh}
-use Rattle.calc_terms.specs.Payload.{rational}
-use Rattle.calc_terms.specs.Ratio.{Ratio, whole}
-use Rattle.calc_terms.specs.Trees.{whole_num}
-use Rattle.name_table.specs.Held.{IsHeld}
-use Rattle.name_table.specs.Storing.{IsKeepable}
-use Rattle.name_table.specs.Tables.{Table, first_table}
+use Rattle.calc_session.proofs.Shared.{Node, fresh, rational, Ratio, whole, whole_num, IsHeld, IsKeepable, Table, first_table, Full, IsLeastFree, has, empty, flatten, forest_of, one_tree, Ends, Stands, forest, KeepsRefusals, forest_of_whole, gives, represents_node, represents_none, ends_as, Seen, State, first_state, state_of}
 use Rattle.name_table.proofs.Ready.{first_held}
-use Rattle.node_pool.specs.declared.full.Full.{Full}
-use Rattle.node_pool.specs.Nodes.{IsLeastFree, has}
 use Rattle.node_pool.specs.State.{State as PoolState}
-use Rattle.tree_handles.specs.Forest.{empty, flatten, forest_of, one_tree}
-use Rattle.tree_handles.specs.Handed.{Ends}
-use Rattle.tree_handles.specs.Standing.{Stands, forest, KeepsRefusals}
-use Rattle.tree_handles.proofs.Forests.{forest_of_whole}
-use Rattle.tree_handles.proofs.Given.{gives, represents_node, represents_none}
-use Rattle.tree_handles.proofs.Lasts.{ends_as}
-use Rattle.calc_session.specs.Seen.{Seen}
-use Rattle.calc_session.specs.States.{State, first_state, state_of}
 
 keepable_zero : (i : ℕ) → IsKeepable None (first_table i) (whole_num 0)
 keepable_zero i = record { writable = (0, refl); clear = λ x m (k, l, e). absurd (omega arith) }

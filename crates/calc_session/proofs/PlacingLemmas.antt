@@ -1,37 +1,15 @@
 -- Lemmas on the trees of a form that are placed one after another.
 use Rattle.std.proofs.Common.{◌≡◌, ◌≢◌, ◌∙◌, ℕ, zero, suc, ◌+◌, ◌<◌, ◌≤◌, List, [], ◌∷◌, length, take, map, get_or, Bool, true, false, if◌then◌else◌, of_z, to_z, refl, sym, ap, subst, arith}
-use Rattle.std.proofs.lemmas.List.{get_or-map}
-use Rattle.std.specs.Int.{w128}
 use Rattle.std.specs.Prelude.{ℤ, pos, IfErr, IfOk, OnOk, Result, Ok, Err, Some, None, ◌==◌, ◌&&◌}
-use Rattle.calc_terms.specs.declared.kind.Kind.{Kind}
-use Rattle.calc_terms.specs.declared.kind.Kind.TheVariants as kind
-use Rattle.calc_terms.specs.declared.rat.Rat.{Rat}
-use Rattle.calc_terms.specs.Fractions.{Fraction, is_one_fraction, is_zero_fraction, lowest, one_fraction, zero_fraction}
+use Rattle.calc_session.proofs.Shared.{get_or-map, Kind, Rat, Fraction, is_one_fraction, is_zero_fraction, lowest, one_fraction, zero_fraction, rational, size_of_payload, ratio_of, value_of, Ratio, whole, Tree, Trees, num, symbol, add, mult, none, more, append, count, size, sizes, Name, name_of, one_test, whole_denominator, whole_numerator, zero_test, ratio_parts, Adds, AddsAll, adds_as, adds_first, adds_free, adds_more, adds_none, adds_one, adds_over, adds_tree, Full, free_of, compound, nth, takes_kind, Forest, join, before_last, last_trees, one_tree, Ends, Gives, KeepsFront, IsRefused, KeepsRefusals, Stands, forest, join_assoc, front_at, front_end, front_same, append-none, IsLast, IsPlaced, multiple_of, multiples, sum_of_trees, summands}
+use Rattle.std.specs.Int.{w128}
 use Rattle.calc_terms.specs.Integers.{int_is_one, int_is_zero}
-use Rattle.calc_terms.specs.Payload.{bare, rational, size_of_payload}
-use Rattle.calc_terms.specs.Rat.{ratio_of, value_of}
-use Rattle.calc_terms.specs.Ratio.{Ratio, whole}
-use Rattle.calc_terms.specs.Trees.{Tree, Trees, num, symbol, add, mult, none, more, append, count, size, sizes}
-use Rattle.calc_terms.specs.declared.name.Name.{Name}
-use Rattle.calc_terms.specs.Leaf.{name_of}
+use Rattle.calc_terms.specs.Payload.{bare}
 use Rattle.calc_terms.proofs.ShortForm.{whole_short}
-use Rattle.calc_terms.proofs.FractionFacts.{one_test, whole_denominator, whole_numerator, zero_test}
-use Rattle.rational128.proofs.LowestTerms.{ratio_parts}
 use Rattle.rational128.proofs.Signed.{told}
-use Rattle.dual_diff.specs.Placing.{Adds, AddsAll}
-use Rattle.dual_diff.proofs.Added.{adds_as, adds_first, adds_free, adds_more, adds_none, adds_one, adds_over, adds_tree}
-use Rattle.node_pool.specs.declared.full.Full.{Full}
-use Rattle.node_pool.specs.State.{State, free_of}
-use Rattle.tree_handles.specs.Expressions.{compound, nth, takes_kind}
-use Rattle.tree_handles.specs.Forest.{Forest, join, before_last, last_trees, one_tree}
-use Rattle.tree_handles.specs.Handed.{Ends, Gives, KeepsFront}
-use Rattle.tree_handles.specs.Standing.{IsRefused, KeepsRefusals, Stands, forest}
-use Rattle.tree_handles.proofs.Forests.{join_assoc}
-use Rattle.tree_handles.proofs.Fronts.{front_at, front_end, front_same}
-use Rattle.tree_handles.proofs.Given.{append-none}
+use Rattle.node_pool.specs.State.{State}
 use Rattle.calc_session.specs.declared.forms.Placed.{Placed}
-use Rattle.calc_session.specs.Forms.{IsLast, IsPlaced}
-use Rattle.calc_session.specs.SolutionTexts.{multiple_of, multiples, sum_of_trees, summands}
+use Rattle.calc_terms.specs.declared.kind.Kind.TheVariants as kind
 
 -- ---- rationals of the code
 

@@ -1,16 +1,9 @@
 -- Lemmas on pools that are rolled back.
 use Rattle.std.proofs.Common.{◌≡◌, ◌∙◌, ℕ, List, [], Option, Some, None, sym, ap}
-use Rattle.calc_terms.specs.Node.{Node}
-use Rattle.node_pool.specs.declared.full.Full.{Full}
+use Rattle.calc_session.proofs.Shared.{Node, Full, Forest, flatten, bytes_in, KeepsFront, Stands, forest, KeepsRefusals, front_at, front_same, CountsRefusal, after}
 use Rattle.node_pool.specs.State.{State}
-use Rattle.tree_handles.specs.Forest.{Forest, flatten, bytes_in}
-use Rattle.tree_handles.specs.Handed.{KeepsFront}
-use Rattle.tree_handles.specs.Standing.{Stands, forest, KeepsRefusals}
-use Rattle.tree_handles.proofs.Fronts.{front_at, front_same}
 use Rattle.pool_checkpoints.specs.Marks.{IsBelow}
 use Rattle.pool_checkpoints.proofs.RollingBack.{all_below, still_below}
-use Rattle.calc_session.specs.Answers.{CountsRefusal}
-use Rattle.calc_session.specs.Pools.{after}
 
 same_state : (s t : State) → s.nodes ≡ t.nodes → s.size ≡ t.size → s.refusals ≡ t.refusals → s.last_refused ≡ t.last_refused → s ≡ t
 same_state s t a b c d =

@@ -1,19 +1,9 @@
 -- Lemmas on equations by where they stand in a text, from left to right.
 use Rattle.std.proofs.Common.{◌≡◌, ◌∙◌, ℕ, zero, suc, ◌+◌, ◌<◌, ◌≤◌, List, [], ◌∷◌, ◌++◌, length, get_or, map, take, drop, refl, sym, ap, subst, arith}
 use Rattle.std.specs.Prelude.{None}
-use Rattle.std.specs.List.{AllZip}
+use Rattle.calc_session.proofs.Shared.{AllZip, Tree, Placed, Equation, EquationRange, IsNoExpression, ReadsText, bytes_before, Pieces, all_placed, AreSplit, between, pieces_at, Reply, IsNoEquation, IsReplyToEquations, ReadsEquation, are_not_read, State}
 use Rattle.breakers.specs.State.{State as Breaker}
-use Rattle.calc_terms.specs.Trees.{Tree}
-use Rattle.calc_tokens.specs.Placed.{Placed}
-use Rattle.linear_solve.specs.Equations.{Equation}
-use Rattle.calc_session.specs.declared.equations.EquationRange.{EquationRange}
-use Rattle.calc_session.specs.Arguments.{IsNoExpression, ReadsText, bytes_before}
-use Rattle.calc_session.specs.Equations.{Pieces, all_placed}
-use Rattle.calc_session.specs.Ranges.{AreSplit, between, pieces_at}
-use Rattle.calc_session.specs.Replies.{Reply}
-use Rattle.calc_session.specs.Solving.{IsNoEquation, IsReplyToEquations, ReadsEquation, are_not_read}
 use Rattle.calc_session.specs.Solving.{at_left as unread_at_left, at_right as unread_at_right, later as later_unread}
-use Rattle.calc_session.specs.States.{State}
 
 -- ---- the next range
 

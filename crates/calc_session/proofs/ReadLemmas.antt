@@ -1,21 +1,9 @@
 -- Lines, from what the parser answered.
 use Rattle.std.specs.Prelude.{◌≡◌, ◌≤◌, ◌+◌, ◌<◌, ◌^◌, ℕ, List, length, false, Option, Some, None, Result, Ok, Err, IfOk}
-use Rattle.std.specs.Option.{option_map}
 use Rattle.std.proofs.Common.{sym, subst, arith}
-use Rattle.calc_terms.specs.Leaf.{name_of}
-use Rattle.calc_terms.specs.Trees.{Tree}
-use Rattle.calc_terms.specs.declared.name.Name.{Name}
-use Rattle.calc_tokens.specs.Placed.{Placed, bare}
-use Rattle.calc_tokens.specs.Scanned.{AreTokensOf}
-use Rattle.calc_parser.specs.Outcomes.{IsShallow}
+use Rattle.calc_session.proofs.Shared.{name_of, Tree, Name, Placed, bare, AreTokensOf, IsShallow, IsStorable, name_in, Table, is_command, IsFirstCharacter, IsFirstWide, IsMisread, meets_no_token, meets_a_wide_number, forms_no_line, forms_a_deep_line, ReadsText, is_blank_line, IsReplyUnread, has_no_token, has_a_wide_number, is_no_line, is_too_deep, IsText, ReadsAs, ReadsTree, Reply, character_at, number_at}
+use Rattle.std.specs.Option.{option_map}
 use Rattle.calc_parser.specs.declared.checking.Shape.{Shape}
-use Rattle.name_table.specs.Storing.{IsStorable, name_in}
-use Rattle.name_table.specs.Tables.{Table}
-use Rattle.calc_commands.specs.Commands.{is_command}
-use Rattle.calc_tokens.specs.Scanned.{IsFirstCharacter, IsFirstWide}
-use Rattle.calc_session.specs.Arguments.{IsMisread, meets_no_token, meets_a_wide_number, forms_no_line, forms_a_deep_line, ReadsText}
-use Rattle.calc_session.specs.Reading.{is_blank_line, IsReplyUnread, has_no_token, has_a_wide_number, is_no_line, is_too_deep, IsText, ReadsAs, ReadsTree}
-use Rattle.calc_session.specs.Replies.{Reply, character_at, number_at}
 
 pub text_is : (line : List ℕ) → length line ≤ 1024 → is_blank_line line ≡ false → is_command line ≡ false → IsText line
 text_is line s b c = record { short = s; some = b; no_command = c }

@@ -1,11 +1,6 @@
 -- Lemmas on replies and what the code answers for them.
 use Rattle.std.proofs.Common.{◌≡◌, ◌∙◌, ℕ, ℤ, nat_abs, List, ◌++◌, append_assoc, ap}
-use Rattle.std.specs.Fmt.{signed_decimal}
-use Rattle.calc_terms.specs.Rat.{ratio_of, value_of}
-use Rattle.calc_terms.specs.declared.rat.Rat.{Rat}
-use Rattle.line_text.specs.Content.{Content, extended}
-use Rattle.rational128.proofs.LowestTerms.{parts_themselves}
-use Rattle.calc_session.specs.Replies.{denominator_text, operand_text}
+use Rattle.calc_session.proofs.Shared.{signed_decimal, ratio_of, value_of, Rat, Content, extended, parts_themselves, denominator_text, operand_text}
 
 -- ---- the text of a rational
 

@@ -1,43 +1,15 @@
 -- Lemmas on the state of a session, and on what a line leaves of it.
 use Rattle.std.specs.Prelude.{min}
 use Rattle.std.proofs.Common.{◌≡◌, ◌∙◌, ◌↔◌, ℕ, ◌+◌, ◌-◌, ◌^◌, ◌*◌, ◌≤◌, ◌==◌, List, [], ◌∷◌, ◌++◌, length, codes, Bool, true, false, if◌then◌else◌, Option, Some, None, refl, sym, ap, subst, arith}
-use Rattle.std.proofs.lemmas.Bool.{eqb-true}
-use Rattle.breakers.specs.Breakers.{TripsRose}
+use Rattle.calc_session.proofs.Shared.{eqb-true, TripsRose, is_command, text, Node, Tree, none, more, size, Placed, values, held_by, Table, with_answer, Full, has, free_of, IsExpression, plain, Forest, flatten, Gives, tree_at, Stands, forest, flatten-join, has-flatten, given_handed, given_root, given_told, expression_root, plain_root, alone, LineAnswer, Refusal, answer_to, Answers, AnswersCommand, AnswersUntold, CountsRefusal, IsAnswer, IsTextOf, reply_of, IsReplyTo, IsReplyUnread, ReadsTree, Reply, blank, displayed, refusal_in, text_of, undefined, Seen, Counts, pool_of, State, state_of, IsReply, is_unread, is_commanded, is_evaluated, Leaves, LeavesAnswer}
 use Rattle.breakers.specs.State.{State as Breaker}
-use Rattle.calc_commands.specs.Commands.{is_command}
-use Rattle.calc_language.specs.Texts.{text}
-use Rattle.calc_terms.specs.Node.{Node}
-use Rattle.calc_terms.specs.Trees.{Tree, none, more, size}
-use Rattle.calc_tokens.specs.Placed.{Placed}
-use Rattle.name_table.specs.Filling.{values}
-use Rattle.name_table.specs.Held.{held_by}
-use Rattle.name_table.specs.Tables.{Table, with_answer}
-use Rattle.node_pool.specs.declared.full.Full.{Full}
-use Rattle.node_pool.specs.Nodes.{AreDistinct, has}
-use Rattle.node_pool.specs.State.{State as PoolState, free_of}
+use Rattle.node_pool.specs.Nodes.{AreDistinct}
+use Rattle.node_pool.specs.State.{State as PoolState}
 use Rattle.node_pool.proofs.Ids.{AreApart, AreDistinct-parts}
-use Rattle.tree_handles.specs.Expressions.{IsExpression, plain}
-use Rattle.tree_handles.specs.Forest.{Forest, flatten}
-use Rattle.tree_handles.specs.Handed.{Gives}
-use Rattle.tree_handles.specs.Inside.{tree_at}
-use Rattle.tree_handles.specs.Standing.{Stands, forest}
-use Rattle.tree_handles.proofs.Forests.{flatten-join, has-flatten}
-use Rattle.tree_handles.proofs.Given.{given_handed, given_root, given_told}
-use Rattle.tree_handles.proofs.Lasts.{expression_root, plain_root}
-use Rattle.tree_handles.proofs.Plains.{alone}
 use Rattle.calc_session.proofs.EvaluationLemmas.{last_bytes, none_rose}
-use Rattle.calc_session.specs.declared.answers.LineAnswer.{LineAnswer}
-use Rattle.calc_session.specs.declared.answers.LineAnswer.TheVariants as answer
-use Rattle.calc_session.specs.declared.answers.Refusal.{Refusal}
-use Rattle.calc_session.specs.declared.answers.Refusal.TheVariants as refusal
-use Rattle.calc_session.specs.Answers.{answer_to, Answers, AnswersCommand, AnswersUntold, CountsRefusal, IsAnswer, IsTextOf, reply_of}
-use Rattle.calc_session.specs.Evaluations.{IsReplyTo}
 use Rattle.calc_session.specs.Pools.{after as undone}
-use Rattle.calc_session.specs.Reading.{IsReplyUnread, ReadsTree}
-use Rattle.calc_session.specs.Replies.{Reply, blank, displayed, refusal_in, text_of, undefined}
-use Rattle.calc_session.specs.Seen.{Seen, Counts, pool_of}
-use Rattle.calc_session.specs.States.{State, state_of}
-use Rattle.calc_session.specs.Steps.{IsReply, is_unread, is_commanded, is_evaluated, Leaves, LeavesAnswer}
+use Rattle.calc_session.specs.declared.answers.LineAnswer.TheVariants as answer
+use Rattle.calc_session.specs.declared.answers.Refusal.TheVariants as refusal
 
 -- ---- the same state
 

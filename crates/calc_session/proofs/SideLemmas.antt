@@ -1,23 +1,7 @@
 -- Lemmas on the sides of equations, as they are read and built.
 use Rattle.std.proofs.Common.{◌≡◌, ℕ, List, [], ◌∷◌, ◌++◌, Some, None, refl, sym, ap, subst, arith}
-use Rattle.calc_parser.specs.Lines.{IsLine, IsLineOver, IsTreeOf}
-use Rattle.calc_parser.proofs.Checks.{SameLine, one_line}
-use Rattle.calc_terms.specs.Trees.{Tree, depth}
-use Rattle.calc_tokens.specs.Placed.{Placed, bare}
-use Rattle.calc_tokens.specs.Scanned.{AreTokensOf}
-use Rattle.calc_tokens.proofs.OneScan.{character_or_all, wide_or_all, one_list}
-use Rattle.name_table.specs.Filling.{NamedTree, fills, values}
-use Rattle.name_table.specs.Tables.{Table}
-use Rattle.linear_solve.specs.Equations.{Equation}
-use Rattle.node_pool.specs.State.{State, free_of}
-use Rattle.dual_diff.specs.Placing.{Adds}
-use Rattle.tree_handles.specs.Handed.{Gives, tree_of}
-use Rattle.tree_handles.specs.Standing.{KeepsRefusals, Stands, forest}
-use Rattle.calc_session.specs.Arguments.{IsNoExpression, ReadsText, forms_a_deep_line, forms_a_store, forms_no_line, is_misread, meets_a_wide_number, meets_no_token}
-use Rattle.calc_session.specs.Evaluations.{made}
-use Rattle.calc_session.specs.Replies.{Reply}
-use Rattle.calc_session.specs.Solved.{BuildsSide}
-use Rattle.calc_session.specs.Solving.{AreUnmade, Become, ReadsSide, equation, nothing}
+use Rattle.calc_session.proofs.Shared.{IsLine, IsLineOver, IsTreeOf, SameLine, one_line, Tree, depth, Placed, bare, AreTokensOf, character_or_all, wide_or_all, one_list, NamedTree, fills, values, Table, Equation, free_of, Adds, Gives, tree_of, KeepsRefusals, Stands, forest, IsNoExpression, ReadsText, forms_a_deep_line, forms_a_store, forms_no_line, is_misread, meets_a_wide_number, meets_no_token, made, Reply, BuildsSide, AreUnmade, Become, ReadsSide, equation, nothing}
+use Rattle.node_pool.specs.State.{State}
 use Rattle.calc_session.specs.Solving.{later as unmade_later}
 use Rattle.calc_session.proofs.EvaluationLemmas.{gives_told}
 

@@ -1,38 +1,15 @@
 -- What the answers to lines that ask for a derivative mean, and when there is one.
 use Rattle.std.proofs.Common.{◌≡◌, ◌∙◌, ℕ, zero, suc, ◌+◌, ◌*◌, ◌-◌, ◌≤◌, ◌<◌, List, [], ◌∷◌, length, codes, Bool, true, false, cond, nat_le, nat_lt, Option, None, Result, Ok, Err, ◌⊎◌, inl, inr, refl, sym, ap, subst, arith}
-use Rattle.std.proofs.lemmas.Bool.{leb-true}
+use Rattle.calc_session.proofs.Shared.{leb-true, reduced_face_means, Reduces, once, face, text, building, building_takes_the_size, takes_room, Tree, undef, depth, is_undef, nodes, root_size, size, symbol, Placed, HasDerivative, derivative, NamedTree, Filling, lacks, too_deep, fills, filling, filling_one, Full, MayExceed, TripsWithin, IsReplyToCalculation, IsReplyToExpression, derives, solves, expands, made_in, IsReplyToDerivative, has_none, IsReduction, lacks_bytes, is_answered, IsReplyWith, has_no_value, holds_its_name, is_shown, is_stored, made, Reply, long, report, reported, State, free_bytes, bytes_of_replaced, occurrences, replaced, replacing, diff, solve, expand, IsCommandLine, ReadsText, IsReply}
 use Rattle.breakers.specs.State.{State as Breaker}
-use Rattle.beautify.proofs.FaceLaws.{reduced_face_means}
-use Rattle.calc_algebra.specs.Rewritings.{Reduces}
-use Rattle.calc_commands.proofs.Lines.{once}
-use Rattle.calc_language.specs.Faces.{face}
-use Rattle.calc_language.specs.Texts.{text}
-use Rattle.calc_parser.specs.Building.{building}
-use Rattle.calc_parser.proofs.Sizes.{building_takes_the_size, takes_room}
-use Rattle.calc_terms.specs.Trees.{Tree, undef, depth, is_undef, nodes, root_size, size, symbol}
-use Rattle.calc_tokens.specs.Placed.{Placed}
-use Rattle.dual_diff.specs.Derivatives.{HasDerivative, derivative}
 use Rattle.dual_diff.proofs.Derived.{slope_means}
-use Rattle.name_table.specs.Filling.{NamedTree, Filling, lacks, too_deep, fills, filling, filling_one}
-use Rattle.node_pool.specs.declared.full.Full.{Full}
-use Rattle.reduce_port.specs.Bounds.{MayExceed}
-use Rattle.reduce_port.specs.Checks.{TripsWithin}
-use Rattle.calc_session.specs.Calculating.{IsReplyToCalculation, IsReplyToExpression, derives, solves, expands, made_in}
-use Rattle.calc_session.specs.Deriving as derived
-use Rattle.calc_session.specs.Deriving.{IsReplyToDerivative, has_none}
-use Rattle.calc_session.specs.Evaluations.{IsReduction, is_interrupted, does_not_fit, lacks_bytes, is_answered, IsReplyWith, has_no_value, holds_its_name, is_shown, is_stored, made}
-use Rattle.calc_session.specs.Replies.{Reply, long, report, reported}
+use Rattle.calc_session.specs.Evaluations.{is_interrupted, does_not_fit}
 use Rattle.calc_session.specs.Slopes.{TellsSlope, TellsNoSlope, TellsDerivative}
-use Rattle.calc_session.specs.States.{State, free_bytes}
-use Rattle.tree_walks.proofs.Composing.{bytes_of_replaced}
-use Rattle.tree_walks.specs.Replacing.{occurrences, replaced, replacing}
 use Rattle.calc_session.proofs.MeaningLemmas.{nothing_meant, undef_is}
-use Rattle.calc_commands.specs.Commands.{diff, solve, expand, IsCommandLine}
-use Rattle.calc_session.specs.Arguments.{ReadsText}
-use Rattle.calc_session.specs.Steps.{IsReply}
 use Rattle.calc_session.proofs.AskedLines.{calculation}
 use Rattle.calc_session.proofs.ExpressionReplies.{reply_to_text, reply_to_tree}
 use Rattle.calc_session.proofs.TextLemmas.{no_store}
+use Rattle.calc_session.specs.Deriving as derived
 
 -- ---- the replies to a line that asks for a derivative
 

@@ -1,36 +1,11 @@
 -- Lemmas on the texts of solutions.
 use Rattle.std.proofs.Common.{◌≡◌, ◌≢◌, ◌⊎◌, ◌∙◌, ℕ, zero, suc, ◌+◌, ◌*◌, ◌<◌, ◌≤◌, List, [], ◌∷◌, ◌++◌, append_assoc, length, length-append, take, map, get_or, codes, inl, inr, Bool, true, false, refl, sym, ap, subst, arith}
-use Rattle.std.proofs.lemmas.Bool.{cases_lt}
-use Rattle.std.proofs.lemmas.List.{get_or-map, length-map}
 use Rattle.std.specs.Prelude.{if◌then◌else◌, not, Result, Ok, Err, OnErr, zip}
-use Rattle.calc_algebra.specs.Reduced.{is_reduced}
-use Rattle.calc_language.specs.Faces.{face}
-use Rattle.calc_language.specs.Texts.{HasNames, IsWritable, text}
-use Rattle.calc_terms.specs.Fractions.{Fraction, is_zero_fraction, zero_fraction}
-use Rattle.calc_terms.proofs.FractionFacts.{no_zero, zero_is}
-use Rattle.calc_terms.specs.declared.name.Name.{Name}
-use Rattle.calc_terms.specs.Leaf.{name_of}
-use Rattle.calc_terms.specs.Trees.{Tree, more, count, is_undef, size}
-use Rattle.dual_diff.specs.Placing.{Adds}
-use Rattle.dual_diff.proofs.Added.{adds_free, adds_one}
-use Rattle.line_text.specs.Content.{Content, extended}
+use Rattle.calc_session.proofs.Shared.{cases_lt, get_or-map, length-map, is_reduced, face, HasNames, IsWritable, text, Fraction, is_zero_fraction, zero_fraction, no_zero, zero_is, Name, name_of, Tree, more, count, is_undef, size, Adds, adds_free, adds_one, Content, extended, Line, form_told, Form, free, bound, HoldLaterFreeNames, multiple_in, free_of, IsExpression, plain, Gives, tree_of, tree_at, without_root, Stands, forest, given_rest, given_told, gives_as, IsSmall, IsSmallForm, form_room, operand_text, Rises, comma_before, form_tree, line_text, line_texts, lines_text, multiple_of, multiples, with_commas}
 use Rattle.line_text.specs.Lengths.{HasFittingNumbers}
 use Rattle.line_text.proofs.Fitting.{fitting}
 use Rattle.line_text.proofs.Lengths.{short}
-use Rattle.linear_solve.specs.declared.solution.Line.{Line}
-use Rattle.linear_solve.specs.Solutions.{form_told}
-use Rattle.linear_solve.specs.Forms.{Form, free, bound, HoldLaterFreeNames, multiple_in}
-use Rattle.node_pool.specs.State.{State, free_of}
-use Rattle.tree_handles.specs.Expressions.{IsExpression, plain}
-use Rattle.tree_handles.specs.Handed.{Gives, tree_of}
-use Rattle.tree_handles.specs.Inside.{tree_at}
-use Rattle.tree_handles.specs.Roots.{without_root}
-use Rattle.tree_handles.specs.Standing.{Stands, forest}
-use Rattle.tree_handles.proofs.Given.{given_rest, given_told, gives_as}
-use Rattle.calc_session.specs.Forms.{IsSmall, IsSmallForm, form_room}
-use Rattle.calc_session.specs.Replies.{operand_text}
-use Rattle.calc_session.specs.RisingNames.{Rises}
-use Rattle.calc_session.specs.SolutionTexts.{comma_before, form_tree, line_text, line_texts, lines_text, multiple_of, multiples, with_commas}
+use Rattle.node_pool.specs.State.{State}
 use Rattle.calc_session.proofs.EvaluationLemmas.{last_nodes}
 use Rattle.calc_session.proofs.FormFaces.{face_of_form, form_defined, size_of_form}
 use Rattle.calc_session.proofs.FormLemmas.{form_reduced}

@@ -1,32 +1,14 @@
 -- What the texts of solutions say is so.
 use Rattle.std.proofs.Common.{◌≡◌, ◌∙◌, ◌↔◌, ◌<◌, ◌≤◌, inl, inr, ℕ, zero, suc, List, [], ◌∷◌, length, get_or, map, Bool, true, false, not, cond, Option, Some, None, Ok, refl, sym, subst, arith}
 use Rattle.std.specs.Prelude.{All, nat_lt, ◌==◌, if◌then◌else◌, ⊤}
-use Rattle.std.specs.List.{AllZip, enumerate_from, position_or_len}
-use Rattle.std.proofs.lemmas.Bool.{and_parts, ltb-false, not-false}
+use Rattle.calc_session.proofs.Shared.{AllZip, enumerate_from, position_or_len, and_parts, ltb-false, not-false, fails_before_first, reduced_face_means, Assignment, IsAssignment, Means, surd_of, Same-refl, face, Fraction, negative, plus, zero_fraction, symbol, names, Assigns, Equation, IsLinearIn, SolvesAll, and_then, Answer, never, solved, Form, free, bound, HasItsValue, HaveTheirValues, answer_of, answer_with, form_of, forms_of, multipliers, Row, entry, worth, solving, forms_are_later, forms_are_many, multipliers_are_many, never_solved, one_from, solved_where, Reply, report, AreNamesOf, IsNameIn, Rises, form_tree, solution_text, HasPrintedValue, TellsSolutions, tells_forms, tells_none, IsSolution, does_not_fit, first_not_linear, is_interrupted, is_linear_equation, is_told}
 use Rattle.std.proofs.lemmas.List.FromFn.{length-map-range_with_len}
-use Rattle.std.proofs.lemmas.List.Sums.{fails_before_first}
 use Rattle.breakers.specs.State.{State as Breaker}
-use Rattle.beautify.proofs.FaceLaws.{reduced_face_means}
-use Rattle.calc_algebra.specs.Meanings.{Assignment, Gives, IsAssignment, Means}
-use Rattle.calc_algebra.specs.Surds.{surd_of}
-use Rattle.calc_algebra.proofs.TermLaws.{Same-refl}
-use Rattle.calc_language.specs.Faces.{face}
-use Rattle.calc_terms.specs.Fractions.{Fraction, negative, plus, zero_fraction}
-use Rattle.calc_terms.specs.Trees.{symbol, names}
+use Rattle.calc_algebra.specs.Meanings.{Gives}
 use Rattle.linear_solve.specs.Elimination.{Rows, equation_rows, first_with, row_at, settled_up_to}
-use Rattle.linear_solve.specs.Equations.{Assigns, Equation, IsLinearIn, SolvesAll}
-use Rattle.linear_solve.specs.Fitting.{and_then}
-use Rattle.linear_solve.specs.Forms.{Answer, never, solved, Form, free, bound, HasItsValue, HaveTheirValues, answer_of, answer_with, form_of, forms_of, multipliers}
-use Rattle.linear_solve.specs.Rows.{Row, entry, worth}
-use Rattle.linear_solve.specs.Solving.{solving}
 use Rattle.linear_solve.proofs.Calculations.{both, ok_is}
 use Rattle.linear_solve.proofs.Meanings.{one_rational_meaning}
-use Rattle.linear_solve.proofs.Theorem.{forms_are_later, forms_are_many, multipliers_are_many, never_solved, one_from, solved_where}
-use Rattle.calc_session.specs.Replies.{Reply, report}
-use Rattle.calc_session.specs.RisingNames.{AreNamesOf, IsNameIn, Rises}
-use Rattle.calc_session.specs.SolutionTexts.{form_tree, solution_text}
-use Rattle.calc_session.specs.SolutionsMeant.{HasPrintedValue, TellsSolutions, tells_forms, tells_none}
-use Rattle.calc_session.specs.Solving.{IsSolution, does_not_fit, first_not_linear, is_interrupted, is_linear_equation, is_told, lacks_bytes}
+use Rattle.calc_session.specs.Solving.{lacks_bytes}
 use Rattle.calc_session.proofs.FormLemmas.{form_means, form_reduced}
 use Rattle.calc_session.proofs.RisingLemmas.{rises_distinct}
 

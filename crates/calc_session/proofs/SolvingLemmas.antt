@@ -1,31 +1,13 @@
 -- Lemmas on equations that are solved.
 use Rattle.std.proofs.Common.{◌≡◌, ◌∙◌, ◌↔◌, ℕ, zero, suc, ◌+◌, ◌<◌, ◌≤◌, List, [], ◌∷◌, length, get_or, map, take, Bool, true, false, not, cond, Option, Some, None, Result, Ok, Err, below_more, refl, sym, ap, subst, arith}
 use Rattle.std.specs.Prelude.{All, nat_lt, ◌&&◌, IfOk, IfErr, OnOk}
-use Rattle.std.specs.List.{position_or_len}
-use Rattle.std.proofs.lemmas.Bool.{le-ltb, lt-ltb}
+use Rattle.calc_session.proofs.Shared.{position_or_len, le-ltb, lt-ltb, position_or_len_is, TripsRose, Name, name_of, Equation, equation_at, equations_in, nodes_of_sides, OfOverflow, StopsWithin, solving, misfit_of, IsExpression, Forest, Refusal, Listed, reply_of, names_listed, AreNamesOf, refusal_to_solve, IsReplyToSolve, are_linear, does_not_fit, first_not_linear, is_interrupted, is_linear_equation}
 use Rattle.std.proofs.lemmas.List.Quantifiers.{position-Some}
-use Rattle.std.proofs.lemmas.List.Sums.{position_or_len_is}
-use Rattle.breakers.specs.Breakers.{TripsRose}
 use Rattle.breakers.specs.State.{State as Breaker}
-use Rattle.calc_terms.specs.declared.name.Name.{Name}
-use Rattle.calc_terms.specs.Leaf.{name_of}
 use Rattle.linear_solve.specs.declared.fault.SolveFault.{SolveFault}
-use Rattle.linear_solve.specs.declared.fault.SolveFault.TheVariants as fault
-use Rattle.linear_solve.specs.Equations.{Equation, equation_at, equations_in, nodes_of_sides}
-use Rattle.linear_solve.specs.Faults.{OfOverflow, StopsWithin}
-use Rattle.linear_solve.specs.Solving.{solving}
-use Rattle.linear_solve.specs.Told.{misfit_of}
-use Rattle.tree_handles.specs.Expressions.{IsExpression}
-use Rattle.tree_handles.specs.Forest.{Forest}
-use Rattle.calc_session.specs.declared.answers.Refusal.{Refusal}
-use Rattle.calc_session.specs.declared.answers.Refusal.TheVariants as refusal
-use Rattle.calc_session.specs.declared.side_names.Listed.{Listed}
-use Rattle.calc_session.specs.Answers.{reply_of}
-use Rattle.calc_session.specs.Listed.{names_listed}
-use Rattle.calc_session.specs.RisingNames.{AreNamesOf}
 use Rattle.calc_session.proofs.EvaluationLemmas.{none_rose}
-use Rattle.calc_session.specs.Solved.{refusal_to_solve}
-use Rattle.calc_session.specs.Solving.{IsReplyToSolve, are_linear, does_not_fit, first_not_linear, is_interrupted, is_linear_equation}
+use Rattle.linear_solve.specs.declared.fault.SolveFault.TheVariants as fault
+use Rattle.calc_session.specs.declared.answers.Refusal.TheVariants as refusal
 
 -- ---- the first equation that is not linear
 

@@ -1,12 +1,8 @@
 -- How a text is split.
 use Rattle.std.proofs.Common.{◌≡◌, ◌∙◌, ◌⊎◌, inl, inr, ℕ, zero, suc, ◌+◌, ◌-◌, ◌<◌, ◌≤◌, List, [], ◌∷◌, ◌++◌, length, map, take, drop, Bool, true, false, refl, sym, ap, subst, arith, append_assoc, drop-cons, length-append, length-take, length-drop}
 use Rattle.std.specs.Prelude.{All, Contains}
-use Rattle.std.proofs.lemmas.List.{drop_all, drop-drop, length-map, take-append-drop}
+use Rattle.calc_session.proofs.Shared.{drop_all, drop-drop, length-map, take-append-drop, EquationRange, AreSides, IsSideText, Sides, Splits, all_placed, placed, written, written_all, is_blank_line, AreSplit, EndsPiece, IsWithin, between, pieces_at, sides_at}
 use Rattle.std.proofs.Math.Seq.{drop-append_seam, take-append_seam}
-use Rattle.calc_session.specs.declared.equations.EquationRange.{EquationRange}
-use Rattle.calc_session.specs.Equations.{AreSides, IsSideText, Sides, Splits, all_placed, placed, written, written_all}
-use Rattle.calc_session.specs.Reading.{is_blank_line}
-use Rattle.calc_session.specs.Ranges.{AreSplit, EndsPiece, IsWithin, between, pieces_at, sides_at}
 
 -- ---- texts up to a sign
 

@@ -1,23 +1,10 @@
 -- The rationals in a pool fit, and its symbols are names.
 use Rattle.std.proofs.Common.{◌≡◌, ◌∙◌, ℕ, zero, suc, ◌^◌, true, ◌&&◌, nat_abs, ap}
 use Rattle.std.specs.Prelude.{⊤, pos}
-use Rattle.std.proofs.lemmas.Bool.{lt-ltb}
-use Rattle.calc_terms.specs.declared.kind.Kind.{Kind}
-use Rattle.calc_terms.specs.declared.kind.Kind.TheVariants as kind
+use Rattle.calc_session.proofs.Shared.{lt-ltb, Kind, lowest, is_name, Payload, rational, named, IsPayload, Ratio, IsRat, IsNamed, HasNames, Tree, num, symbol, Trees, none, more, AllParts, AllPartsOf, AllParts-zip, AreNodes, AreNodes-left, AreNodes-right, parts_themselves, nth, grown, compound, plains, plain, Forest, empty, tree, flatten, IsFitting, HasFittingRationals}
 use Rattle.calc_terms.specs.Fits.{fits, fraction_fits}
-use Rattle.calc_terms.specs.Fractions.{lowest}
-use Rattle.calc_terms.specs.Name.{is_name}
-use Rattle.calc_terms.specs.Payload.{Payload, rational, named, bare, IsPayload}
-use Rattle.calc_terms.specs.Ratio.{Ratio, IsRat}
-use Rattle.calc_language.specs.Texts.{IsNamed, HasNames}
-use Rattle.calc_terms.specs.Trees.{Tree, num, symbol, Trees, none, more, AllParts, AllPartsOf}
-use Rattle.calc_algebra.proofs.ReducedLaws.{AllParts-zip}
-use Rattle.node_pool.specs.Nodes.{AreNodes}
-use Rattle.node_pool.proofs.Sizes.{AreNodes-left, AreNodes-right}
-use Rattle.rational128.proofs.LowestTerms.{parts_themselves}
-use Rattle.tree_handles.specs.Expressions.{nth, grown, compound, plains, plain}
-use Rattle.tree_handles.specs.Forest.{Forest, empty, tree, flatten}
-use Rattle.calc_session.specs.Evaluations.{IsFitting, HasFittingRationals}
+use Rattle.calc_terms.specs.Payload.{bare}
+use Rattle.calc_terms.specs.declared.kind.Kind.TheVariants as kind
 
 -- what a node can hold
 abbrev IsStored : Tree → Type 0

@@ -1,27 +1,13 @@
 -- Lemmas on what is told of an evaluation, and on whether its refusal is counted.
 use Rattle.std.proofs.Common.{◌≡◌, ◌∙◌, ◌↔◌, ℕ, List, codes, Option, Some, None, inl, inr, refl, sym, ap, subst}
-use Rattle.calc_language.specs.Texts.{IsWritable, text}
-use Rattle.calc_terms.specs.Node.{Node}
-use Rattle.name_table.specs.Tables.{Table}
-use Rattle.node_pool.specs.declared.full.Full.{Full}
+use Rattle.calc_session.proofs.Shared.{IsWritable, text, Node, Table, Full, Forest, flatten, Stands, forest, KeepsRefusals, given_told, gives_as, LineAnswer, Refusal, Evaluation, ComesTo, CountsRefusal, TellsReply, Tells, refusal_of_evaluation, refusal_of_pool, reply_of, IsCountedBut, Reply, report, reported, text_of, state_of, HasFace}
 use Rattle.node_pool.specs.State.{State as PoolState}
-use Rattle.tree_handles.specs.Forest.{Forest, flatten}
-use Rattle.tree_handles.specs.Standing.{Stands, forest, KeepsRefusals}
-use Rattle.tree_handles.proofs.Given.{given_told, gives_as}
-use Rattle.calc_session.specs.declared.answers.LineAnswer.{LineAnswer}
-use Rattle.calc_session.specs.declared.answers.LineAnswer.TheVariants as answer
-use Rattle.calc_session.specs.declared.answers.Refusal.{Refusal}
-use Rattle.calc_session.specs.declared.answers.Refusal.TheVariants as refusal
-use Rattle.calc_session.specs.declared.evaluating.Evaluation.{Evaluation}
-use Rattle.calc_session.specs.declared.evaluating.Evaluation.TheVariants as evaluation
-use Rattle.calc_session.specs.Answers.{ComesTo, CountsRefusal, TellsReply, Tells, refusal_of_evaluation, refusal_of_pool, reply_of}
-use Rattle.calc_session.specs.Counting.{IsCountedBut}
-use Rattle.calc_session.specs.Replies.{Reply, report, reported, text_of}
-use Rattle.calc_session.specs.States.{state_of}
-use Rattle.calc_session.specs.Telling.{HasFace}
 use Rattle.calc_session.proofs.EvaluationLemmas.{keeps_then}
 use Rattle.calc_session.proofs.PoolLemmas.{still_counted}
 use Rattle.calc_session.proofs.SessionLemmas.{refused_leaves}
+use Rattle.calc_session.specs.declared.answers.LineAnswer.TheVariants as answer
+use Rattle.calc_session.specs.declared.answers.Refusal.TheVariants as refusal
+use Rattle.calc_session.specs.declared.evaluating.Evaluation.TheVariants as evaluation
 
 -- ---- replies
 

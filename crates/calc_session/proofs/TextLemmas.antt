@@ -1,16 +1,6 @@
 -- A text is read in one way, and what is not made is no report.
 use Rattle.std.proofs.Common.{◌≡◌, ◌∙◌, ℕ, List, Option, Some, None, sym, ap, subst, arith}
-use Rattle.calc_parser.specs.Lines.{IsLine}
-use Rattle.calc_parser.proofs.Checks.{SameLine, one_line}
-use Rattle.calc_terms.specs.Trees.{Tree, depth}
-use Rattle.calc_tokens.specs.Placed.{Placed, bare}
-use Rattle.calc_tokens.specs.Scanned.{AreTokensOf}
-use Rattle.calc_tokens.proofs.OneScan.{character_or_all, wide_or_all, one_list}
-use Rattle.name_table.specs.Filling.{Filling, lacks, too_deep, fills}
-use Rattle.node_pool.specs.declared.full.Full.{Full}
-use Rattle.calc_session.specs.Arguments.{meets_no_token, meets_a_wide_number, forms_no_line, forms_a_deep_line, IsNoExpression, is_misread, forms_a_store, ReadsText}
-use Rattle.calc_session.specs.Evaluations.{Unmade}
-use Rattle.calc_session.specs.Replies.{Reply, report, deep, full}
+use Rattle.calc_session.proofs.Shared.{IsLine, SameLine, one_line, Tree, depth, Placed, bare, AreTokensOf, character_or_all, wide_or_all, one_list, Filling, lacks, too_deep, fills, Full, meets_no_token, meets_a_wide_number, forms_no_line, forms_a_deep_line, IsNoExpression, is_misread, forms_a_store, ReadsText, Unmade, Reply, report, deep, full}
 
 pub misread_unreported : {n : ℕ} {text : List ℕ} (reply : Reply) (told : List ℕ) → IsNoExpression n text reply → reply ≡ report told → ⊥
 misread_unreported reply told (is_misread (meets_no_token f)) e = cc

@@ -1,14 +1,7 @@
 -- The face of a reduced tree can be written, where the symbols in it are names.
 use Rattle.std.proofs.Common.{◌≡◌, ℕ, zero, suc, ◌==◌, nat_abs, inl, inr, Bool, true, false, if◌then◌else◌, refl, sym, subst}
 use Rattle.std.specs.Prelude.{⊤}
-use Rattle.calc_terms.specs.Name.{is_name}
-use Rattle.calc_terms.specs.Trees.{Tree, num, symbol, undef, add, mult, power, root, neg, sub, div, Trees, none, more, append, AllParts, AllPartsOf, is_mult, whole_num}
-use Rattle.calc_language.specs.Grammar.{SoFar, single, summed, multiplied, as_tree}
-use Rattle.calc_language.specs.Texts.{IsWritable, AreWritable, IsNamed, HasNames}
-use Rattle.calc_language.specs.Faces.{face, has_minus, with_minus, unsigned_face, unless_one, product_of, fraction_of, power_below, exponent_below, factor_above, factor_below, factors_above, factors_below, next_term, next_terms}
-use Rattle.calc_algebra.specs.Numbers.{IsTerm}
-use Rattle.calc_algebra.specs.Reduced.{is_reduced, NoneIs, HasForm, IsReduced}
-use Rattle.calc_algebra.proofs.ReducedLaws.{reduced_words, AllParts-zip}
+use Rattle.calc_session.proofs.Shared.{is_name, Tree, num, symbol, undef, add, mult, power, root, neg, sub, div, Trees, none, more, append, AllParts, AllPartsOf, is_mult, whole_num, SoFar, single, summed, multiplied, as_tree, IsWritable, AreWritable, IsNamed, HasNames, face, has_minus, with_minus, unsigned_face, unless_one, product_of, fraction_of, power_below, exponent_below, factor_above, factor_below, factors_above, factors_below, next_term, next_terms, IsTerm, is_reduced, NoneIs, HasForm, IsReduced, reduced_words, AllParts-zip}
 
 -- what the face of a tree asks of each of its nodes
 abbrev IsFaceable : Tree → Type 0

@@ -1,13 +1,6 @@
 -- The nest and the load of a coefficient before a part.
 use Rattle.std.proofs.Common.{◌≡◌, ℕ, ◌+◌, ◌≤◌, max, Bool, true, false, ◌||◌, if◌then◌else◌, refl, sym, ap, ◌∙◌, arith}
-use Rattle.calc_terms.specs.Fractions.{Fraction, times, zero_fraction, is_zero_fraction, is_one_fraction}
-use Rattle.calc_measures.specs.Loads.{nest, nest_of, load, load_of_factor, load_of_factors, weight}
-use Rattle.calc_algebra.specs.Numbers.{is_number, IsNumber, IsTerm}
-use Rattle.calc_algebra.specs.Reduced.{product_tree, base_of}
-use Rattle.calc_terms.specs.Trees.{Tree, num, add, mult, root, Trees, none, more, append, is_undef, is_mult}
-use Rattle.calc_algebra.proofs.NumberLaws.{number_test}
-use Rattle.coefficients.specs.Coefficients.{factors_of, spliced, rational_before, with_coefficient, IsMonic}
-use Rattle.coefficients.specs.Multiples.{mapped, rational_times_factors, rational_times, rational_times_number, rational_times_term, rational_times_sum}
+use Rattle.coefficients.proofs.Shared.{Fraction, times, zero_fraction, is_zero_fraction, is_one_fraction, nest, nest_of, load, load_of_factor, load_of_factors, weight, is_number, IsNumber, IsTerm, product_tree, base_of, Tree, num, add, mult, root, Trees, none, more, append, is_undef, is_mult, number_test, factors_of, spliced, rational_before, with_coefficient, IsMonic, mapped, rational_times_factors, rational_times, rational_times_number, rational_times_term, rational_times_sum}
 use Rattle.coefficients.proofs.Factors.{monic_no_number}
 
 -- ---- nests

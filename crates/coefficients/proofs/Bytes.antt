@@ -1,25 +1,10 @@
 -- The bytes of new nodes, and those that are free once children were taken out of a root.
 use Rattle.std.specs.Prelude.{◌↔◌, Result, Ok, Err, IsOk, IsErr, IsErrAnd, IfErr}
 use Rattle.std.proofs.Common.{◌≡◌, ℕ, ◌+◌, ◌≤◌, ◌==◌, eqb, cond, Bool, true, false, if◌then◌else◌, refl, sym, ap, ◌∙◌, subst, arith}
-use Rattle.calc_terms.specs.declared.kind.Kind.TheVariants as kind
-use Rattle.calc_terms.specs.Payload.{bare, size_of_payload}
-use Rattle.calc_terms.specs.Trees.{Tree, mult, Trees, more, size, sizes, is_mult}
-use Rattle.calc_algebra.specs.Reduced.{num_one}
+use Rattle.coefficients.proofs.Shared.{bare, size_of_payload, Tree, mult, Trees, more, size, sizes, is_mult, num_one, coefficient_length, IsOver, Full, State, free_of, unequal, children_of, Forest, empty, tree, bytes_in, kids, has_root, root_tree, put, Stands, forest, KeepsRefusals, IsRefused, bytes_in-join, keeps_none, refuses_after, by_test, used_forest, sizes-plains, size-plain}
 use Rattle.coefficients.specs.Bytes.{bytes_as_product, bytes_of_coefficient, bytes_of_taking, IsShort}
-use Rattle.coefficients.specs.Coefficients.{coefficient_length}
-use Rattle.tree_handles.proofs.Over.{IsOver}
 use Rattle.coefficients.proofs.Steps.{IsPairTaken}
-use Rattle.node_pool.specs.declared.full.Full.{Full}
-use Rattle.node_pool.specs.State.{State, free_of}
-use Rattle.number_forms.proofs.CodeTests.{unequal}
-use Rattle.tree_handles.specs.Expressions.{children_of}
-use Rattle.tree_handles.specs.Forest.{Forest, empty, tree, bytes_in, kids}
-use Rattle.tree_handles.specs.Roots.{has_root, root_tree, put}
-use Rattle.tree_handles.specs.Standing.{Stands, forest, KeepsRefusals, IsRefused}
-use Rattle.tree_handles.proofs.Forests.{bytes_in-join, keeps_none, refuses_after}
-use Rattle.tree_handles.proofs.Outcomes.{by_test}
-use Rattle.tree_handles.proofs.Places.{used_forest}
-use Rattle.tree_handles.proofs.Plains.{sizes-plains, size-plain}
+use Rattle.calc_terms.specs.declared.kind.Kind.TheVariants as kind
 
 -- ---- new nodes
 

@@ -1,21 +1,10 @@
 -- Laws of the coefficient of a reduced tree, of its part, and of the two put together.
 use Rattle.std.proofs.Common.{◌≡◌, ◌≢◌, ℕ, ◌⊎◌, inl, inr, ◌++◌, List, Bool, true, false, if◌then◌else◌, refl, sym, ap, ◌∙◌, subst, arith, append_assoc, append-nil}
-use Rattle.std.proofs.lemmas.Bool.{not_from_false}
-use Rattle.std.proofs.lemmas.List.Elements.{Contains-append_right}
 use Rattle.std.specs.Prelude.{Contains, []}
-use Rattle.calc_terms.specs.Fractions.{Fraction, zero_fraction, one_fraction, is_zero_fraction, is_one_fraction}
-use Rattle.calc_measures.specs.Loads.{has_coefficient}
-use Rattle.calc_algebra.specs.Numbers.{is_number, IsNumber}
-use Rattle.calc_algebra.specs.Reduced.{Split, split, split_product, num_one, product_tree, part_of, is_reduced, is_undistributed, is_one_add, IsProductForm, IsSumForm, HasForm}
-use Rattle.calc_terms.specs.Trees.{Tree, num, add, mult, Trees, none, more, append, names, names_of, AllParts, AllPartsOf, is_add, is_undef}
-use Rattle.calc_terms.proofs.FractionFacts.{zero_is, zero_test, one_test, no_zero}
+use Rattle.coefficients.proofs.Shared.{not_from_false, Fraction, zero_fraction, one_fraction, is_zero_fraction, is_one_fraction, has_coefficient, is_number, IsNumber, Split, split, split_product, num_one, product_tree, part_of, is_reduced, is_undistributed, is_one_add, IsProductForm, IsSumForm, HasForm, Tree, num, add, mult, Trees, none, more, append, names, names_of, AllParts, AllPartsOf, is_add, is_undef, zero_is, zero_test, one_test, no_zero, number_test, keeps, coefficient_of, factors_of, spliced, rational_before, with_coefficient, IsMonic, rational_times_sum}
+use Rattle.std.proofs.lemmas.List.Elements.{Contains-append_right}
 use Rattle.calc_algebra.proofs.NumberClasses.{one_not_zero}
-use Rattle.calc_algebra.proofs.NumberLaws.{number_test}
-use Rattle.calc_algebra.proofs.NumberRewrites as lower
 use Rattle.calc_algebra.specs.Rewritings.{HasNoNewName, Reduces}
-use Rattle.calc_algebra.proofs.Rewritings.{keeps}
-use Rattle.coefficients.specs.Coefficients.{coefficient_of, factors_of, spliced, rational_before, with_coefficient, IsMonic}
-use Rattle.coefficients.specs.Multiples.{rational_times_sum}
 use Rattle.coefficients.proofs.Factors.{no_split, AreFactors, factors_monic, factors_of_tree, monic_factors, monic_parts, monic_part, monic_no_number, tree_of_factors}
 use Rattle.coefficients.proofs.Forms.{one_is_one, reduced_parts, parts_reduced, parts_defined, own_form, number_parts}
 use Rattle.coefficients.proofs.Keeps.{coefficient_keeps, sum_names}
@@ -23,6 +12,7 @@ use Rattle.coefficients.proofs.NumberMultiples.{IsFactor, not_one_is}
 use Rattle.coefficients.proofs.Splits.{IsCoefficient, Leads, in_front, IsSpread, put_together}
 use Rattle.coefficients.proofs.SumMultiples.{sum_form_multiple, parts_multiple, no_number_multiple}
 use Rattle.coefficients.proofs.TermMultiples.{factors_behind, spread_behind, irrational, rational}
+use Rattle.calc_algebra.proofs.NumberRewrites as lower
 
 clash : true ≡ false → ⊥
 clash e = cc

@@ -1,12 +1,6 @@
 -- The factors behind a coefficient, and trees without one.
 use Rattle.std.proofs.Common.{◌≡◌, ◌≤◌, inl, inr, Bool, true, false, if◌then◌else◌, refl, sym, ap, ◌∙◌, subst, arith}
-use Rattle.calc_terms.specs.Fractions.{Fraction}
-use Rattle.calc_measures.specs.Loads.{has_coefficient}
-use Rattle.calc_algebra.specs.Numbers.{is_number, IsNumber}
-use Rattle.calc_algebra.specs.Reduced.{Split, split, split_product, num_one, product_tree, part_of, base_of, is_undistributed, NoneIs, RisesBy, IsFrontForm, IsProductForm, HasForm}
-use Rattle.calc_terms.specs.Trees.{Tree, num, add, mult, root, Trees, none, more, append, count, HasTwo, AllParts, AllPartsOf, is_mult}
-use Rattle.calc_algebra.proofs.NumberLaws.{number_words, number_test}
-use Rattle.coefficients.specs.Coefficients.{coefficient_of, factors_of, IsMonic}
+use Rattle.coefficients.proofs.Shared.{Fraction, has_coefficient, is_number, IsNumber, Split, split, split_product, num_one, product_tree, part_of, base_of, is_undistributed, NoneIs, RisesBy, IsFrontForm, IsProductForm, HasForm, Tree, num, add, mult, root, Trees, none, more, append, count, HasTwo, AllParts, AllPartsOf, is_mult, number_words, number_test, coefficient_of, factors_of, IsMonic}
 use Rattle.coefficients.proofs.Forms.{reduced_parts, parts_reduced, own_form, parts_defined, one_is_one}
 
 -- ---- what stands in front

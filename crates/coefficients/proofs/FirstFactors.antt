@@ -1,24 +1,8 @@
 -- A root becomes the first factor of another, and its factors take its place.
 use Rattle.std.proofs.Common.{◌≡◌, ℕ, ◌<◌, [], ◌∷◌, eqb, refl, sym, ap, ◌∙◌, arith, true, false}
-use Rattle.calc_terms.specs.declared.kind.Kind.TheVariants as kind
-use Rattle.calc_terms.specs.Trees.{Tree, mult, Trees, none, more, append, is_mult}
-use Rattle.node_pool.specs.State.{State}
-use Rattle.tree_handles.specs.Expressions.{plain, nth, children_of}
-use Rattle.tree_handles.specs.Forest.{Forest, arity, kids, root_count, tree_nth, with_nth, merged_nth}
-use Rattle.tree_handles.specs.Handed.{IsOnce, IsHanded, Represents, Ends, Gives, KeepsFront}
-use Rattle.tree_handles.specs.Inside.{kids_of}
-use Rattle.tree_handles.specs.Roots.{root_tree, without_root, put}
-use Rattle.tree_handles.specs.Standing.{Stands, forest}
+use Rattle.coefficients.proofs.Shared.{Tree, mult, Trees, none, more, append, is_mult, State, plain, nth, children_of, Forest, arity, kids, root_count, tree_nth, with_nth, merged_nth, IsOnce, IsHanded, Represents, Ends, Gives, KeepsFront, kids_of, root_tree, without_root, put, Stands, forest, behind_first, behind_later, front_same, front_at, front_end, front_put, front_without, gives_as, represents_handed, represents_join, represents_with, kids_of_root, eqb-sym, children_of-plain, whole_kids, put-put, factors_of, IsOver, over_product, over_put, over_beside, over_same, over_gives, without_put, once_count, cut, cut_rest, represents_count}
 use Rattle.tree_handles.proofs.Counted.{all-kids}
-use Rattle.tree_handles.proofs.Fronts.{behind_first, behind_later, front_same, front_at, front_end, front_put, front_without}
-use Rattle.tree_handles.proofs.Given.{gives_as, represents_handed, represents_join, represents_with}
-use Rattle.tree_handles.proofs.Lasts.{kids_of_root}
-use Rattle.tree_handles.proofs.Outcomes.{eqb-sym}
-use Rattle.tree_handles.proofs.Plains.{children_of-plain, whole_kids}
-use Rattle.tree_handles.proofs.Roots.{put-put}
-use Rattle.coefficients.specs.Coefficients.{factors_of}
-use Rattle.tree_handles.proofs.Over.{IsOver, over_product, over_put, over_beside, over_same, over_gives, without_put, once_count}
-use Rattle.tree_handles.proofs.Cuts.{cut, cut_rest, represents_count}
+use Rattle.calc_terms.specs.declared.kind.Kind.TheVariants as kind
 
 -- ---- a root becomes the first factor
 

@@ -1,13 +1,6 @@
 -- Parts that have their form, and the parts of Numbers.
 use Rattle.std.proofs.Common.{◌≡◌, inl, inr, Bool, true, false, refl, ap}
-use Rattle.std.proofs.lemmas.Bool.{not_from_false}
-use Rattle.calc_terms.specs.Fractions.{one_fraction, is_one_fraction}
-use Rattle.calc_algebra.specs.Numbers.{is_number, is_term, IsNumber, IsTerm, AreTerms}
-use Rattle.calc_algebra.specs.Reduced.{is_reduced, HasForm}
-use Rattle.calc_terms.specs.Trees.{Tree, num, symbol, undef, add, mult, power, root, neg, sub, div, Trees, none, more, append, AllParts, AllPartsOf, is_undef}
-use Rattle.calc_terms.proofs.FractionFacts.{zero_test, whole_numerator, whole_denominator}
-use Rattle.calc_algebra.proofs.NumberLaws.{number_test}
-use Rattle.calc_algebra.proofs.ReducedLaws.{reduced_words, reduced_test}
+use Rattle.coefficients.proofs.Shared.{not_from_false, one_fraction, is_one_fraction, is_number, is_term, IsNumber, IsTerm, AreTerms, is_reduced, HasForm, Tree, num, symbol, undef, add, mult, power, root, neg, sub, div, Trees, none, more, append, AllParts, AllPartsOf, is_undef, zero_test, whole_numerator, whole_denominator, number_test, reduced_words, reduced_test}
 
 -- ---- reduced trees
 

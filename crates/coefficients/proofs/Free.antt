@@ -1,27 +1,10 @@
 -- Free bytes while the terms of a sum are taken out, rewritten and put back.
 use Rattle.std.proofs.Common.{◌≡◌, ℕ, ◌+◌, ◌≤◌, ◌<◌, ap, arith}
-use Rattle.calc_terms.specs.Payload.{Payload, size_of_payload}
+use Rattle.coefficients.proofs.Shared.{Payload, size_of_payload, factors_of, LeavesRest, Full, replaced_free, refused_below, bytes_without, tree_of, IsHanded, Gives, root_arity, Kind, Tree, mult, Trees, more, append, size, sizes, mapped, IsOver, IsTaken, State, free_of, empty, bytes_in, kids, root_tree, without_root, put, Stands, forest, KeepsRefusals, IsRefused, bytes_in-join, used_forest, size-plain, sizes-plains}
 use Rattle.calc_terms.proofs.Sizes.{payload_most}
-use Rattle.coefficients.specs.Coefficients.{factors_of}
-use Rattle.coefficients.specs.Pairs.{LeavesRest}
-use Rattle.node_pool.specs.declared.full.Full.{Full}
-use Rattle.tree_handles.proofs.FreeBytes.{replaced_free, refused_below, bytes_without}
-use Rattle.tree_handles.specs.Handed.{tree_of, IsHanded, Gives}
-use Rattle.tree_handles.proofs.Roots.{root_arity}
-use Rattle.calc_terms.specs.declared.kind.Kind.TheVariants as kind
-use Rattle.calc_terms.specs.declared.kind.Kind.{Kind}
-use Rattle.calc_terms.specs.Trees.{Tree, mult, Trees, more, append, size, sizes}
-use Rattle.coefficients.specs.Multiples.{mapped}
 use Rattle.coefficients.proofs.Bytes.{bytes_put}
 use Rattle.coefficients.proofs.Loops.{IsNext}
-use Rattle.tree_handles.proofs.Over.{IsOver, IsTaken}
-use Rattle.node_pool.specs.State.{State, free_of}
-use Rattle.tree_handles.specs.Forest.{empty, bytes_in, kids}
-use Rattle.tree_handles.specs.Roots.{root_tree, without_root, put}
-use Rattle.tree_handles.specs.Standing.{Stands, forest, KeepsRefusals, IsRefused}
-use Rattle.tree_handles.proofs.Forests.{bytes_in-join}
-use Rattle.tree_handles.proofs.Places.{used_forest}
-use Rattle.tree_handles.proofs.Plains.{size-plain, sizes-plains}
+use Rattle.calc_terms.specs.declared.kind.Kind.TheVariants as kind
 
 -- the first terms are rewritten, and there is a next one
 pub next_free : {f : Tree → Tree} {i at : ℕ} {ts : Trees} {s u : State} → Stands s → Stands u → KeepsRefusals s u → IsOver kind.Add i ts (forest s)

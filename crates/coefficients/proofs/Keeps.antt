@@ -1,14 +1,8 @@
 -- What a rational times a term or a sum means, its names and its nest; and so a coefficient before a part.
 use Rattle.std.proofs.Common.{◌≡◌, ◌++◌, Bool, true, false, if◌then◌else◌, refl, sym, ap, append-nil}
-use Rattle.calc_terms.specs.Fractions.{Fraction, times, zero_fraction, is_zero_fraction, is_one_fraction}
-use Rattle.calc_algebra.specs.Numbers.{is_number}
-use Rattle.calc_algebra.specs.Reduced.{product_tree}
-use Rattle.calc_terms.specs.Trees.{Tree, num, add, mult, Trees, none, more, names, names_of}
-use Rattle.calc_terms.proofs.FractionFacts.{zero_is, one_is}
+use Rattle.coefficients.proofs.Shared.{Fraction, times, zero_fraction, is_zero_fraction, is_one_fraction, is_number, product_tree, Tree, num, add, mult, Trees, none, more, names, names_of, zero_is, one_is, factors_of, spliced, rational_before, with_coefficient, mapped, rational_times_factors, rational_times, rational_times_number, rational_times_term, rational_times_sum}
 use Rattle.calc_algebra.proofs.MeaningRewrites.{KeepsMeanings, KeepsMeanings-refl, KeepsMeanings-eq, KeepsMeanings-trans, KeepsMeanings-sum_more, KeepsMeanings-product_more, two, flat_product, joined_in_product, one_factor_of_product, single_product, to_single_product, multiples, distributed, zero_product}
 use Rattle.calc_algebra.proofs.NumberRewrites.{product_of_rationals, product_tree_keeps, one_times_part}
-use Rattle.coefficients.specs.Coefficients.{factors_of, spliced, rational_before, with_coefficient}
-use Rattle.coefficients.specs.Multiples.{mapped, rational_times_factors, rational_times, rational_times_number, rational_times_term, rational_times_sum}
 
 -- ---- meanings
 

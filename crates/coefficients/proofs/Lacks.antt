@@ -1,15 +1,9 @@
 -- Facts of the bytes that are lacking where a call is refused, and the premises of these facts.
 use Rattle.std.proofs.Common.{◌≡◌, ◌+◌, true, false, not, Result, Ok, Err, refl, sym, ap, subst, arith}
 use Rattle.std.specs.Prelude.{IfErr, IsErrAnd}
-use Rattle.calc_terms.specs.Fractions.{Fraction, is_zero_fraction, is_one_fraction}
-use Rattle.calc_terms.proofs.FractionFacts.{no_zero}
-use Rattle.calc_terms.specs.Trees.{Tree, add, Trees, more, append, is_add, size, sizes}
+use Rattle.coefficients.proofs.Shared.{Fraction, is_zero_fraction, is_one_fraction, no_zero, Tree, add, Trees, more, append, is_add, size, sizes, Full, OfFull, children_of, NumberFault}
 use Rattle.coefficients.proofs.NumberMultiples.{IsFactor, not_one_is}
 use Rattle.coefficients.proofs.Rooms.{sizes_append}
-use Rattle.node_pool.specs.declared.full.Full.{Full}
-use Rattle.tree_handles.specs.Lacking.{OfFull}
-use Rattle.tree_handles.specs.Expressions.{children_of}
-use Rattle.tree_handles.specs.declared.fault.NumberFault.{NumberFault}
 use Rattle.tree_handles.specs.declared.fault.NumberFault.TheVariants as fault
 
 fault_lacks : (f : NumberFault) (P Q : Full → Type 0) → OfFull P f → ((g : Full) → P g → Q g) → OfFull Q f

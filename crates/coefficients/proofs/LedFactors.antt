@@ -1,26 +1,9 @@
 -- The rational or the sum that leads a product.
 use Rattle.std.proofs.Common.{◌≡◌, ℕ, ◌≤◌, [], ◌∷◌, Bool, true, false, if◌then◌else◌, refl, sym, ap, ◌∙◌, subst, arith}
-use Rattle.calc_terms.specs.declared.kind.Kind.TheVariants as kind
-use Rattle.calc_terms.specs.Fractions.{Fraction, times, is_one_fraction}
-use Rattle.calc_algebra.specs.Numbers.{is_number}
-use Rattle.calc_algebra.specs.Reduced.{product_tree, is_reduced}
-use Rattle.calc_terms.specs.Trees.{Tree, num, add, mult, Trees, none, more, count, root_kind, is_mult}
-use Rattle.node_pool.specs.State.{State}
-use Rattle.tree_handles.specs.Handed.{tree_of, IsHanded, Ends, KeepsFront}
-use Rattle.tree_handles.specs.Expressions.{nth, plain, children_of, IsExpression}
-use Rattle.tree_handles.specs.Forest.{Forest, kids, tree_nth, without_nth}
-use Rattle.tree_handles.specs.Inside.{tree_at}
-use Rattle.tree_handles.specs.Roots.{root_tree, without_root, put}
-use Rattle.tree_handles.specs.Standing.{Stands, forest}
-use Rattle.tree_handles.proofs.Fronts.{behind_first, front_same, front_at, front_put}
-use Rattle.tree_handles.proofs.Given.{given_rest}
-use Rattle.coefficients.specs.Coefficients.{factors_of}
-use Rattle.coefficients.specs.Pairs.{LeavesRest}
-use Rattle.coefficients.specs.Multiples.{rational_times, rational_times_factors, rational_times_number, rational_times_term, leads_sum}
+use Rattle.coefficients.proofs.Shared.{Fraction, times, is_one_fraction, is_number, product_tree, is_reduced, Tree, num, add, mult, Trees, none, more, count, root_kind, is_mult, State, tree_of, IsHanded, Ends, KeepsFront, nth, plain, children_of, IsExpression, Forest, kids, tree_nth, without_nth, tree_at, root_tree, without_root, put, Stands, forest, behind_first, front_same, front_at, front_put, given_rest, factors_of, LeavesRest, rational_times, rational_times_factors, rational_times_number, rational_times_term, leads_sum, IsOver, over_product, over_put, over_same, IsAdded, expression, seen}
 use Rattle.coefficients.proofs.Lengths.{long}
-use Rattle.tree_handles.proofs.Over.{IsOver, over_product, over_put, over_same, IsAdded}
 use Rattle.coefficients.proofs.Steps.{leaves_one}
-use Rattle.tree_handles.proofs.Seen.{expression, seen}
+use Rattle.calc_terms.specs.declared.kind.Kind.TheVariants as kind
 
 clash : false ≡ true → ⊥
 clash e = cc

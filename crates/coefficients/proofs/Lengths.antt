@@ -1,13 +1,6 @@
 -- How many leading factors of a reduced product are Numbers.
 use Rattle.std.proofs.Common.{◌≡◌, ℕ, zero, suc, ◌+◌, ◌-◌, ◌<◌, ◌≤◌, ◌⊎◌, inl, inr, Bool, true, false, if◌then◌else◌, refl, sym, ap, ◌∙◌, subst, arith}
-use Rattle.calc_measures.specs.Loads.{has_coefficient}
-use Rattle.calc_terms.specs.Fractions.{Fraction}
-use Rattle.calc_algebra.specs.Numbers.{is_number, IsNumber}
-use Rattle.calc_algebra.specs.Reduced.{Split, split, split_product, num_one, product_tree, part_of, is_reduced, IsProductForm, HasForm}
-use Rattle.calc_terms.specs.Trees.{Tree, num, add, mult, root, Trees, none, more, append, count, AllParts, AllPartsOf, is_mult}
-use Rattle.calc_algebra.proofs.NumberLaws.{number_test, number_words}
-use Rattle.tree_handles.specs.Expressions.{nth, children_of}
-use Rattle.coefficients.specs.Coefficients.{coefficient_length, coefficient_of, factors_of}
+use Rattle.coefficients.proofs.Shared.{has_coefficient, Fraction, is_number, IsNumber, Split, split, split_product, num_one, product_tree, part_of, is_reduced, IsProductForm, HasForm, Tree, num, add, mult, root, Trees, none, more, append, count, AllParts, AllPartsOf, is_mult, number_test, number_words, nth, children_of, coefficient_length, coefficient_of, factors_of}
 use Rattle.coefficients.proofs.Coefficients.{leading_factors, product_form_of}
 use Rattle.coefficients.proofs.Factors.{no_split, spliced_split, two_count, AreFactors}
 use Rattle.coefficients.proofs.Forms.{reduced_parts, parts_reduced}

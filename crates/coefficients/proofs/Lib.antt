@@ -21,3 +21,4 @@ pub mod Named
 pub mod Rooms
 pub mod Free
 pub mod Lacks
+pub mod Shared

@@ -1,17 +1,7 @@
 -- Loops over the terms of a sum, in which each term is taken out, rewritten and put back.
 use Rattle.std.proofs.Common.{◌≡◌, ℕ, suc, ◌+◌, ◌≤◌, ◌<◌, [], ◌∷◌, refl, sym, ap, ◌∙◌, subst, arith}
+use Rattle.coefficients.proofs.Shared.{Tree, Trees, none, more, append, count, mapped, inserted, Forest, kids, with_nth, tree_nth, without_nth, Represents, Ends, Gives, KeepsFront, root_tree, without_root, put, behind_first, front_same, front_at, front_put, gives_as, given_rest, append-none, put-put, put-same, IsOver, IsTaken, taken, over_put, IsAdded, added_as, inserted_behind}
 use Rattle.calc_terms.specs.declared.kind.Kind.TheVariants as kind
-use Rattle.calc_terms.specs.Trees.{Tree, Trees, none, more, append, count}
-use Rattle.coefficients.specs.Multiples.{mapped}
-use Rattle.tree_handles.specs.Expressions.{inserted}
-use Rattle.tree_handles.specs.Forest.{Forest, kids, with_nth, tree_nth, without_nth}
-use Rattle.tree_handles.specs.Handed.{Represents, Ends, Gives, KeepsFront}
-use Rattle.tree_handles.specs.Roots.{root_tree, without_root, put}
-use Rattle.tree_handles.proofs.Fronts.{behind_first, front_same, front_at, front_put}
-use Rattle.tree_handles.proofs.Given.{gives_as, given_rest, append-none}
-use Rattle.tree_handles.proofs.Roots.{put-put, put-same}
-use Rattle.tree_handles.proofs.Over.{IsOver, IsTaken, taken, over_put, IsAdded, added_as}
-use Rattle.tree_handles.proofs.Cuts.{inserted_behind}
 
 -- ---- lists
 

@@ -1,18 +1,9 @@
 -- Which operation does not fit, from call to call.
 use Rattle.std.specs.Prelude.{Result, Ok, Err, IfErr, IsErrAnd}
 use Rattle.std.proofs.Common.{◌≡◌, inl, inr, true, refl, sym, ap, subst}
-use Rattle.calc_terms.specs.Fractions.{Fraction}
-use Rattle.calc_terms.specs.Rat.{value_of}
-use Rattle.calc_terms.specs.declared.rat.Rat.{Rat}
-use Rattle.calc_algebra.specs.Numbers.{is_number}
-use Rattle.calc_terms.specs.Trees.{Tree, num, add, mult, Trees, none, more, append, is_add, is_mult}
-use Rattle.coefficients.specs.Overflows.{Leads, LeadsIn, LeadsTerm, IsMultiple, NamesPut}
-use Rattle.tree_handles.specs.Faults.{OfOverflow}
-use Rattle.node_pool.specs.declared.full.Full.{Full}
+use Rattle.coefficients.proofs.Shared.{Fraction, value_of, Rat, is_number, Tree, num, add, mult, Trees, none, more, append, is_add, is_mult, Leads, LeadsIn, LeadsTerm, IsMultiple, NamesPut, OfOverflow, Full, children_of, NumberFault}
 use Rattle.rational128.specs.declared.overflow.Op.TheVariants.{Mul}
 use Rattle.rational128.specs.declared.overflow.Overflow.{Overflow}
-use Rattle.tree_handles.specs.Expressions.{children_of}
-use Rattle.tree_handles.specs.declared.fault.NumberFault.{NumberFault}
 use Rattle.tree_handles.specs.declared.fault.NumberFault.TheVariants as fault
 
 -- ---- results

@@ -1,14 +1,7 @@
 -- A rational times the terms of a Number.
 use Rattle.std.proofs.Common.{◌≡◌, ◌≢◌, ℕ, suc, ◌≤◌, [], ◌∷◌, length, Bool, true, false, if◌then◌else◌, refl, sym, ap, ◌∙◌, subst}
+use Rattle.coefficients.proofs.Shared.{Fraction, times, zero_fraction, one_fraction, is_one_fraction, IsNumber, IsTerm, AreTerms, IsBelowAll, Rises, term_of, terms_of, natural_of, product_tree, Term, Surd, term, term_scale, surd_scale, Tree, num, add, mult, root, Trees, none, more, one_is, product_not_zero, mapped, rational_times, rational_times_number}
 use Rattle.calc_terms.specs.FractionLaws.{times_comm, one_times}
-use Rattle.calc_terms.specs.Fractions.{Fraction, times, zero_fraction, one_fraction, is_one_fraction}
-use Rattle.calc_algebra.specs.Numbers.{IsNumber, IsTerm, AreTerms, IsBelowAll, Rises, term_of, terms_of, natural_of}
-use Rattle.calc_algebra.specs.Reduced.{product_tree}
-use Rattle.calc_algebra.specs.Surds.{Term, Surd, term, term_scale, surd_scale}
-use Rattle.calc_terms.specs.Trees.{Tree, num, add, mult, root, Trees, none, more}
-use Rattle.calc_terms.proofs.FractionFacts.{one_is}
-use Rattle.calc_algebra.proofs.InverseLaws.{product_not_zero}
-use Rattle.coefficients.specs.Multiples.{mapped, rational_times, rational_times_number}
 use Rattle.coefficients.proofs.Forms.{one_is_one}
 
 -- a rational other than 0 and 1

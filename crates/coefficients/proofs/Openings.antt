@@ -1,8 +1,7 @@
 -- Children that are opened one by one, from the last to the first.
 use Rattle.std.proofs.Common.{ℕ, zero, suc, ◌≤◌, ◌<◌, ◌≡◌, refl, sym, ap, arith}
-use Rattle.calc_terms.specs.Trees.{Tree, Trees, none, more, append, count, opened_into}
+use Rattle.coefficients.proofs.Shared.{Tree, Trees, none, more, append, count, opened_into, nth, inserted, children_of}
 use Rattle.number_forms.specs.Sums.{removed}
-use Rattle.tree_handles.specs.Expressions.{nth, inserted, children_of}
 
 -- those before a place, and the others opened
 abbrev pub opened_from : (Tree → Trees) → ℕ → Trees → Trees

@@ -1,13 +1,9 @@
 -- The children of a root, and the roots that a call takes them to.
 use Rattle.std.proofs.Common.{◌≡◌, ℕ, ◌≤◌, arith, true}
-use Rattle.calc_terms.specs.declared.kind.Kind.TheVariants as kind
-use Rattle.calc_algebra.specs.Reduced.{is_reduced}
-use Rattle.calc_terms.specs.Trees.{is_mult}
+use Rattle.coefficients.proofs.Shared.{is_reduced, is_mult, plain, IsExpression, Forest, arity, tree_at, kids_of}
 use Rattle.number_forms.proofs.ByKind.{children_number}
-use Rattle.tree_handles.specs.Expressions.{plain, IsExpression}
-use Rattle.tree_handles.specs.Forest.{Forest, arity}
-use Rattle.tree_handles.specs.Inside.{tree_at, kids_of}
 use Rattle.coefficients.proofs.Lengths.{long}
+use Rattle.calc_terms.specs.declared.kind.Kind.TheVariants as kind
 
 -- ---- reading
 

@@ -1,21 +1,9 @@
 -- A coefficient before a part, by the kinds of both.
 use Rattle.std.proofs.Common.{◌≡◌, ℕ, Bool, true, false, if◌then◌else◌, refl, sym, ap, ◌∙◌, Result, Ok, Err}
 use Rattle.std.specs.Prelude.{OnOk, IfErr, pos}
-use Rattle.calc_terms.specs.declared.kind.Kind.TheVariants as kind
-use Rattle.calc_terms.specs.declared.rat.Rat.{Rat}
-use Rattle.calc_terms.specs.Fractions.{Fraction, lowest, zero_fraction, is_zero_fraction, is_one_fraction}
-use Rattle.calc_terms.specs.Rat.{ratio_of, value_of}
-use Rattle.calc_terms.specs.Ratio.{Ratio, whole}
-use Rattle.calc_terms.specs.Trees.{Tree, num, add, root_kind, is_add}
-use Rattle.node_pool.specs.State.{State}
-use Rattle.tree_handles.specs.declared.fault.NumberFault.{NumberFault}
-use Rattle.tree_handles.specs.Expressions.{children_of}
-use Rattle.tree_handles.specs.Faults.{Faults}
-use Rattle.tree_handles.specs.Standing.{KeepsRefusals}
-use Rattle.tree_handles.proofs.Forests.{keeps_after}
+use Rattle.coefficients.proofs.Shared.{Rat, Fraction, lowest, zero_fraction, is_zero_fraction, is_one_fraction, ratio_of, value_of, Ratio, whole, Tree, num, add, root_kind, is_add, State, NumberFault, children_of, Faults, KeepsRefusals, keeps_after, spliced, rational_before, with_coefficient, rational_times_sum}
 use Rattle.tree_handles.proofs.Refused.{faults_after}
-use Rattle.coefficients.specs.Coefficients.{spliced, rational_before, with_coefficient}
-use Rattle.coefficients.specs.Multiples.{rational_times_sum}
+use Rattle.calc_terms.specs.declared.kind.Kind.TheVariants as kind
 
 -- ---- refusals of a call that comes after others
 

@@ -1,22 +1,7 @@
 -- A child that was taken out of a root is rewritten, and put back.
 use Rattle.std.proofs.Common.{◌≡◌, ℕ, List, [], ◌∷◌, refl, ◌∙◌, subst, true, false}
-use Rattle.calc_terms.specs.declared.kind.Kind.{Kind}
-use Rattle.calc_algebra.specs.Reduced.{is_reduced, HasForm}
-use Rattle.calc_terms.specs.Trees.{Tree, add, Trees, none, more, append, is_add, AllParts, AllPartsOf}
-use Rattle.node_pool.specs.State.{State}
-use Rattle.tree_handles.specs.Expressions.{children_of, inserted}
-use Rattle.tree_handles.specs.Forest.{Forest, kids, with_nth}
-use Rattle.tree_handles.specs.Handed.{Ends, Gives, KeepsFront}
-use Rattle.tree_handles.specs.Inside.{holds}
-use Rattle.tree_handles.specs.Roots.{root_tree, without_root, put}
-use Rattle.tree_handles.specs.Standing.{Stands, forest}
-use Rattle.tree_handles.proofs.Fronts.{behind_first, behind_new, front_after_one, front_end, front_put}
-use Rattle.tree_handles.proofs.Given.{gives_as, given_rest, given_root}
-use Rattle.tree_handles.proofs.Lasts.{apart, other_apart}
-use Rattle.tree_handles.proofs.Outcomes.{eqb-sym}
-use Rattle.tree_handles.proofs.Roots.{put-put}
+use Rattle.coefficients.proofs.Shared.{Kind, is_reduced, HasForm, Tree, add, Trees, none, more, append, is_add, AllParts, AllPartsOf, State, children_of, inserted, Forest, kids, with_nth, Ends, Gives, KeepsFront, holds, root_tree, without_root, put, Stands, forest, behind_first, behind_new, front_after_one, front_end, front_put, gives_as, given_rest, given_root, apart, other_apart, eqb-sym, put-put, IsOver, IsTaken, over_end, over_put, IsAdded, added_as}
 use Rattle.coefficients.proofs.Forms.{reduced_parts, parts_reduced}
-use Rattle.tree_handles.proofs.Over.{IsOver, IsTaken, over_end, over_put, IsAdded, added_as}
 
 -- what is given stands behind the root without the child
 pub given_back : {k : Kind} {i n h j : ℕ} {t v : Tree} {others : Trees} {f new g : Forest} (a : IsTaken k i n t others f new h) → Gives (without_root h new) g j (λ u. u ≡ v) → Gives (put i a.now f) g j (λ u. u ≡ v)

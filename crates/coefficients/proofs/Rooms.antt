@@ -1,31 +1,19 @@
 -- Bytes while a rational is multiplied into the terms of a sum: at any time the terms have no more than the reduced terms with their parts may have.
 use Rattle.std.proofs.Common.{◌≡◌, ℕ, ◌+◌, ◌*◌, ◌^◌, ◌≤◌, ◌<◌, ◌⊎◌, inl, inr, List, length, Bool, true, false, if◌then◌else◌, max, refl, sym, ap, ◌∙◌, subst, arith}
+use Rattle.coefficients.proofs.Shared.{is_number, is_term, IsNumber, IsTerm, AreTerms, Rises, terms_of, HasForm, IsProductForm, NoneIs, number_terms, other_terms, product_tree, split_product, split, num_one, is_reduced, number_test, number_words, term_words, reduced_words, counted, counted_among, SpansTree, SpansTrees, Fraction, times, is_one_fraction, Tree, num, add, mult, Trees, none, more, append, count, size, sizes, is_add, AllParts, AllPartsOf, mapped, rational_times, rational_times_factors, rational_times_number, rational_times_term, leads_sum, put_room, LacksRoom, OfFull, number_size, NumberFault}
 use Rattle.std.proofs.lemmas.Nat.{pow_pos, mul-le}
-use Rattle.calc_algebra.specs.Numbers.{is_number, is_term, IsNumber, IsTerm, AreTerms, Rises, terms_of}
-use Rattle.calc_algebra.specs.Reduced.{HasForm, IsProductForm, NoneIs, number_terms, other_terms, product_tree, split_product, split, num_one, is_reduced}
-use Rattle.calc_algebra.proofs.NumberLaws.{number_test, number_words, term_words}
-use Rattle.calc_algebra.proofs.ReducedLaws.{reduced_words}
-use Rattle.calc_room.specs.Counts.{counted, counted_among}
-use Rattle.calc_room.specs.Spans.{SpansTree, SpansTrees}
 use Rattle.calc_room.proofs.NumberBytes.{term_bytes, roots_bytes, count_terms, few_terms}
 use Rattle.calc_room.proofs.NumberSpans.{terms_spanned}
 use Rattle.calc_room.proofs.TreeBytes.{counted_number, counted_other, tree_bytes, factor_bytes}
-use Rattle.calc_terms.specs.Fractions.{Fraction, times, is_one_fraction}
-use Rattle.calc_terms.specs.Trees.{Tree, num, add, mult, Trees, none, more, append, count, size, sizes, is_add, AllParts, AllPartsOf}
-use Rattle.coefficients.specs.Multiples.{mapped, rational_times, rational_times_factors, rational_times_number, rational_times_term, leads_sum}
 use Rattle.coefficients.proofs.Factors.{AreFactors}
 use Rattle.coefficients.proofs.Forms.{reduced_parts, number_of_term}
 use Rattle.coefficients.proofs.NumberMultiples.{IsFactor, scaled}
 use Rattle.coefficients.proofs.SumMultiples.{EachTerm, each_term, number_term}
 use Rattle.coefficients.proofs.TermMultiples.{factors_behind, multiple}
-use Rattle.coefficients.specs.Rooms.{put_room, LacksRoom}
-use Rattle.tree_handles.specs.Lacking.{OfFull}
-use Rattle.number_forms.proofs.Rooms.{number_size}
-use Rattle.tree_handles.specs.declared.fault.NumberFault.{NumberFault}
-use Rattle.tree_handles.specs.declared.fault.NumberFault.TheVariants as fault
 use Rattle.tree_room.specs.Handed.{numbers_among}
-use Rattle.tree_room.specs.Needs as need
 use Rattle.tree_room.proofs.Coefficients.{part_counts}
+use Rattle.tree_handles.specs.declared.fault.NumberFault.TheVariants as fault
+use Rattle.tree_room.specs.Needs as need
 
 -- ---- lists
 

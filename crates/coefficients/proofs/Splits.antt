@@ -1,12 +1,6 @@
 -- A coefficient and the factors behind it: how a reduced product is taken apart, and what is put together again.
 use Rattle.std.proofs.Common.{◌≡◌, ◌≢◌, ◌≤◌, ◌⊎◌, inl, inr, Bool, true, false, ◌&&◌, not, if◌then◌else◌, refl, sym, ap, ◌∙◌, subst, arith}
-use Rattle.calc_terms.specs.Fractions.{Fraction, zero_fraction, one_fraction, is_one_fraction}
-use Rattle.calc_measures.specs.Loads.{has_coefficient}
-use Rattle.calc_algebra.specs.Numbers.{is_number, is_radicand, IsNumber}
-use Rattle.calc_algebra.specs.Reduced.{Split, split, split_product, num_one, product_tree, part_of, base_of, is_undistributed, is_one_add, NoneIs, RisesBy, IsFrontForm, IsProductForm, HasForm}
-use Rattle.calc_terms.specs.Trees.{Tree, num, add, mult, root, Trees, none, more, append, count, HasTwo, AllParts, AllPartsOf, is_num, is_add, is_mult}
-use Rattle.calc_algebra.proofs.NumberLaws.{number_words, number_test}
-use Rattle.coefficients.specs.Coefficients.{coefficient_of, factors_of}
+use Rattle.coefficients.proofs.Shared.{Fraction, zero_fraction, one_fraction, is_one_fraction, has_coefficient, is_number, is_radicand, IsNumber, Split, split, split_product, num_one, product_tree, part_of, base_of, is_undistributed, is_one_add, NoneIs, RisesBy, IsFrontForm, IsProductForm, HasForm, Tree, num, add, mult, root, Trees, none, more, append, count, HasTwo, AllParts, AllPartsOf, is_num, is_add, is_mult, number_words, number_test, coefficient_of, factors_of}
 use Rattle.coefficients.proofs.Forms.{number_parts, AllPartsOf-append}
 use Rattle.coefficients.proofs.Factors.{spliced_split, none_leads, AreFactors}
 

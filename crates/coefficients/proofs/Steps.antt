@@ -1,31 +1,9 @@
 -- Steps of calls on a root that is a product or a sum: a child is taken out, put in, and the root goes last.
 use Rattle.std.proofs.Common.{◌≡◌, ℕ, ◌≤◌, ◌∷◌, refl, sym, ap, ◌∙◌, subst, arith, true, []}
 use Rattle.std.specs.Prelude.{pos}
-use Rattle.calc_algebra.specs.Reduced.{product_tree, is_reduced, num_one}
-use Rattle.calc_terms.specs.declared.kind.Kind.TheVariants as kind
-use Rattle.calc_terms.specs.Trees.{Tree, num, mult, root, Trees, none, more, count, is_mult, size}
-use Rattle.node_pool.specs.State.{State}
-use Rattle.tree_handles.specs.Handed.{tree_of, IsHanded, Represents, Ends, Gives, KeepsFront}
-use Rattle.tree_handles.specs.Expressions.{plain, children_of}
-use Rattle.tree_handles.specs.Forest.{Forest, empty, one_tree, with_root_kids, kids, with_nth, tree_nth, without_nth}
-use Rattle.tree_handles.specs.Inside.{tree_at}
-use Rattle.tree_handles.specs.Roots.{has_root, root_tree, without_root, put}
-use Rattle.tree_handles.specs.Standing.{Stands, forest}
-use Rattle.tree_handles.proofs.Fronts.{behind_first, front_same, front_end, front_put}
-use Rattle.tree_handles.proofs.Given.{gives, gives_as, given_handed, given_told, given_rest, given_root, represents_handed, represents_node, represents_none, represents_with}
-use Rattle.tree_handles.proofs.Lasts.{ends_as, ends_at, ends_without}
-use Rattle.tree_handles.proofs.Roots.{put-put}
-use Rattle.calc_terms.specs.declared.rat.Rat.{Rat}
-use Rattle.calc_terms.specs.Fractions.{Fraction, lowest, one_fraction}
-use Rattle.calc_terms.specs.Rat.{ratio_of, value_of}
-use Rattle.calc_terms.specs.Ratio.{Ratio, whole}
-use Rattle.calc_terms.specs.Payload.{bare}
-use Rattle.coefficients.specs.Coefficients.{factors_of, coefficient_length}
-use Rattle.coefficients.specs.Pairs.{GivesTwo, LeavesRest}
+use Rattle.coefficients.proofs.Shared.{product_tree, is_reduced, num_one, Tree, num, mult, root, Trees, none, more, count, is_mult, size, State, tree_of, IsHanded, Represents, Ends, Gives, KeepsFront, plain, children_of, Forest, empty, one_tree, with_root_kids, kids, with_nth, tree_nth, without_nth, tree_at, has_root, root_tree, without_root, put, Stands, forest, behind_first, front_same, front_end, front_put, gives, gives_as, given_handed, given_told, given_rest, given_root, represents_handed, represents_node, represents_none, represents_with, ends_as, ends_at, ends_without, put-put, Rat, Fraction, lowest, one_fraction, ratio_of, value_of, Ratio, whole, bare, factors_of, coefficient_length, GivesTwo, LeavesRest, over_product, IsOver, taken, over_put, over_end, over_handed, over_gives, without_put, gives_put, gives_without, seen}
 use Rattle.coefficients.proofs.Lengths.{measured, IsPairLed}
-use Rattle.tree_handles.proofs.Over.{over_product, IsOver, taken, over_put, over_end, over_handed, over_gives, without_put}
-use Rattle.tree_handles.proofs.Beside.{gives_put, gives_without}
-use Rattle.tree_handles.proofs.Seen.{seen}
+use Rattle.calc_terms.specs.declared.kind.Kind.TheVariants as kind
 
 pub product_factors : (t : Tree) → is_mult t ≡ true → t ≡ mult (factors_of t)
 product_factors (mult ts) h = refl

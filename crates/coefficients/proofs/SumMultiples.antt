@@ -1,13 +1,7 @@
 -- A rational times a reduced sum: a reduced sum of as many terms with the same parts, in the same order.
 use Rattle.std.proofs.Common.{◌≡◌, ◌≤◌, length, arith, ◌⊎◌, ◌∷◌, inl, inr, Bool, true, false, if◌then◌else◌, refl, sym, ap, ◌∙◌, subst}
-use Rattle.calc_terms.specs.Fractions.{Fraction}
-use Rattle.calc_algebra.specs.Numbers.{is_number, is_term, IsNumber, IsTerm, AreTerms, Rises, terms_of}
-use Rattle.calc_algebra.specs.Reduced.{part_of, number_terms, other_terms, NoneIs, RisesBy, IsSumForm, HasForm}
-use Rattle.calc_algebra.specs.Surds.{surd_scale}
+use Rattle.coefficients.proofs.Shared.{Fraction, is_number, is_term, IsNumber, IsTerm, AreTerms, Rises, terms_of, part_of, number_terms, other_terms, NoneIs, RisesBy, IsSumForm, HasForm, surd_scale, Tree, num, add, mult, root, Trees, none, more, HasTwo, AllPartsOf, is_add, term_words, number_test, number_words, mapped, rational_times_term, rational_times_sum}
 use Rattle.calc_algebra.specs.TreeOrder.{tree_cmp}
-use Rattle.calc_terms.specs.Trees.{Tree, num, add, mult, root, Trees, none, more, HasTwo, AllPartsOf, is_add}
-use Rattle.calc_algebra.proofs.NumberLaws.{term_words, number_test, number_words}
-use Rattle.coefficients.specs.Multiples.{mapped, rational_times_term, rational_times_sum}
 use Rattle.coefficients.proofs.Forms.{term_parts, term_test, no_term, number_of_term}
 use Rattle.coefficients.proofs.NumberMultiples.{IsFactor, IsScaled, scaled, rises-scaled}
 use Rattle.coefficients.proofs.TermMultiples.{multiple}

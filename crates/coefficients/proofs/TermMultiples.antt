@@ -1,15 +1,6 @@
 -- A rational times a term of a reduced sum.
 use Rattle.std.proofs.Common.{◌≡◌, ◌≢◌, ◌≤◌, ◌⊎◌, inl, inr, Bool, true, false, ◌&&◌, not, if◌then◌else◌, refl, sym, ap, ◌∙◌, subst, arith}
-use Rattle.calc_terms.specs.Fractions.{Fraction, times, zero_fraction, one_fraction, is_one_fraction}
-use Rattle.calc_measures.specs.Loads.{has_coefficient}
-use Rattle.calc_algebra.specs.Numbers.{is_number, IsNumber}
-use Rattle.calc_algebra.specs.Reduced.{Split, split, split_product, product_tree, part_of, base_of, is_undistributed, is_one_add, NoneIs, RisesBy, IsProductForm, HasForm}
-use Rattle.calc_terms.specs.Trees.{Tree, num, add, mult, root, Trees, none, more, append, count, HasTwo, AllParts, AllPartsOf, is_num, is_add, is_mult}
-use Rattle.calc_terms.proofs.FractionFacts.{one_test}
-use Rattle.calc_algebra.proofs.InverseLaws.{product_not_zero}
-use Rattle.calc_algebra.proofs.NumberLaws.{number_test}
-use Rattle.coefficients.specs.Coefficients.{factors_of, IsMonic}
-use Rattle.coefficients.specs.Multiples.{rational_times_number, rational_times_term}
+use Rattle.coefficients.proofs.Shared.{Fraction, times, zero_fraction, one_fraction, is_one_fraction, has_coefficient, is_number, IsNumber, Split, split, split_product, product_tree, part_of, base_of, is_undistributed, is_one_add, NoneIs, RisesBy, IsProductForm, HasForm, Tree, num, add, mult, root, Trees, none, more, append, count, HasTwo, AllParts, AllPartsOf, is_num, is_add, is_mult, one_test, product_not_zero, number_test, factors_of, IsMonic, rational_times_number, rational_times_term}
 use Rattle.coefficients.proofs.Forms.{parts_reduced, parts_defined}
 use Rattle.coefficients.proofs.Factors.{no_split, AreFactors, factors_monic, monic_factors, monic_parts, monic_part, monic_no_number}
 use Rattle.coefficients.proofs.NumberMultiples.{IsFactor, number_scaled, not_one_is}

@@ -1,24 +1,9 @@
 -- What a step is known to have made, in the arm for it.
 use Rattle.std.proofs.Common.{◌≡◌, ◌<◌, ◌+◌, ◌^◌, ℕ, ℤ, subst}
-use Rattle.calc_terms.specs.Trees.{Tree}
 use Rattle.std.specs.Prelude.{Some, None}
-use Rattle.node_pool.specs.State.{State}
-use Rattle.power_reduce.specs.PowerAnswers.{base_in, exponent_in, IsPowerAnswer, IsStep}
-use Rattle.power_reduce.specs.PowerSteps.{rewritten}
-use Rattle.product_reduce.specs.Answers.{IfFinished, IfJoined, IsFinished}
-use Rattle.product_reduce.specs.Gathering.{IsGathered}
-use Rattle.product_reduce.specs.Neighbours.{IsPairAt}
-use Rattle.product_reduce.specs.declared.steps.Joining.{Joining}
+use Rattle.deep_reduce.proofs.Shared.{Tree, State, base_in, exponent_in, IsPowerAnswer, IsStep, rewritten, IfFinished, IfJoined, IsFinished, IsGathered, IsPairAt, Joining, Rewrites, tree_of, Gives, IsHeldAsPowerOf, IfDone, Step, children_of, without_root, forest}
 use Rattle.product_reduce.specs.declared.steps.Joining.TheVariants as joining
-use Rattle.calc_algebra.specs.Rewritings.{Rewrites}
-use Rattle.tree_handles.specs.Handed.{tree_of, Gives}
-use Rattle.power_reduce.specs.Bits.{IsHeldAsPowerOf}
-use Rattle.reduce_port.specs.Steps.{IfDone}
-use Rattle.reduce_port.specs.declared.step.Step.{Step}
 use Rattle.reduce_port.specs.declared.step.Step.TheVariants as step
-use Rattle.tree_handles.specs.Expressions.{children_of}
-use Rattle.tree_handles.specs.Roots.{without_root}
-use Rattle.tree_handles.specs.Standing.{forest}
 
 -- a product's step, from the state before to that after
 module _ (i : ℕ) (old new : State) where

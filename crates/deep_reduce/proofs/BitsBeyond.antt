@@ -1,16 +1,11 @@
 -- An operation that does not fit is of a tree with more bits than those within which all fit: a node's own, or a child's.
 use Rattle.std.proofs.Common.{◌≡◌, ℕ, ◌<◌, Bool, true, false, if◌then◌else◌, refl, ap, arith}
 use Rattle.std.specs.Prelude.{nat_le}
-use Rattle.std.proofs.lemmas.Bool.{leb-true, leb-false}
-use Rattle.calc_measures.specs.Measures.{all_simple, high, low, bits, most_bits, unbounded_bits}
-use Rattle.calc_terms.specs.Trees.{Tree, Trees, more, append, has_undef}
-use Rattle.deep_reduce.specs.Bits.{HasFewBits}
-use Rattle.deep_reduce.specs.NodeBits.{HoldsNode}
+use Rattle.deep_reduce.proofs.Shared.{leb-true, leb-false, all_simple, high, low, bits, most_bits, unbounded_bits, Tree, Trees, more, append, has_undef, HasFewBits, HoldsNode, children_of}
 use Rattle.deep_reduce.proofs.ChildRooms.{child_room}
 use Rattle.deep_reduce.proofs.NodeRewrites.{IsOver}
 use Rattle.deep_reduce.proofs.TreeBits.{holds_over}
 use Rattle.reduce_walk.proofs.Bits.{child_bits, own_bits}
-use Rattle.tree_handles.specs.Expressions.{children_of}
 
 simple_bits : (t : Tree) → all_simple t ≡ true → bits t ≡ most_bits t
 simple_bits t s = ap (λ (b : Bool). if b then most_bits t else unbounded_bits) s

@@ -1,26 +1,9 @@
 -- Calm trees, part by part, and what all parts of a tree have.
 use Rattle.std.proofs.Common.{◌≡◌, ℕ, zero, suc, ◌<◌, List, Bool, true, false, if◌then◌else◌, ap, ◌∙◌, arith}
-use Rattle.calc_algebra.specs.Meanings.{Assignment, IsAssignment}
-use Rattle.calc_algebra.specs.Numbers.{is_number, IsNumber, value}
-use Rattle.calc_algebra.specs.Reduced.{is_opaque_exponent, is_whole_num, is_half_num, num_one, base_of}
-use Rattle.calc_algebra.specs.Rewritings.{KeepsMeanings}
-use Rattle.calc_algebra.specs.Surds.{surd_of}
-use Rattle.calc_algebra.proofs.MeaningLaws.{one_meaning}
-use Rattle.calc_algebra.proofs.NumberClasses.{number_rational}
-use Rattle.calc_algebra.proofs.NumberLaws.{number_words}
+use Rattle.deep_reduce.proofs.Shared.{Assignment, IsAssignment, is_number, IsNumber, value, is_opaque_exponent, is_whole_num, is_half_num, num_one, base_of, KeepsMeanings, surd_of, one_meaning, number_rational, number_words, whole_fraction, one_fraction, Tree, mult, power, Trees, none, more, append, count, AllParts, AllPartsOf, IsCalmAtZero, replaced, removed, whole_is, exponent_of, joint, IsPairAt, joined_pair, nth, HasCalmExponent, IsCalm, AreCalm, MeansWhole, zeros, sum_whole, whole_number}
 use Rattle.calc_algebra.proofs.NumberValues.{number_means}
 use Rattle.calc_algebra.proofs.SurdLaws.{Agree-Same}
-use Rattle.calc_terms.specs.Fractions.{whole_fraction, one_fraction}
-use Rattle.calc_terms.specs.Trees.{Tree, mult, power, Trees, none, more, append, count, AllParts, AllPartsOf}
-use Rattle.deep_reduce.specs.Rooms.{IsCalmAtZero}
-use Rattle.deep_reduce.specs.Unfinished.{replaced}
-use Rattle.number_forms.specs.Sums.{removed}
-use Rattle.power_reduce.proofs.Whole.{whole_is}
-use Rattle.product_reduce.specs.Joining.{exponent_of, joint}
-use Rattle.product_reduce.specs.Neighbours.{IsPairAt, joined_pair}
-use Rattle.tree_handles.specs.Expressions.{nth}
-use Rattle.tree_room.specs.Exponents.{HasCalmExponent, IsCalm, AreCalm, MeansWhole, zeros}
-use Rattle.tree_room.proofs.Calm.{no_half, sum_whole, whole_number}
+use Rattle.tree_room.proofs.Calm.{no_half}
 
 -- ---- parts of lists
 

@@ -1,11 +1,6 @@
 -- A call that is handed what the call before it gave.
 use Rattle.std.proofs.Common.{ℕ, [], ◌∷◌}
-use Rattle.calc_terms.specs.Trees.{Tree}
-use Rattle.tree_handles.specs.Forest.{Forest}
-use Rattle.tree_handles.specs.Handed.{Gives, KeepsFront}
-use Rattle.tree_handles.specs.Roots.{without_root}
-use Rattle.tree_handles.proofs.Fronts.{behind_first, behind_new, front_same, front_without, front_after_one}
-use Rattle.tree_handles.proofs.Given.{gives_as, given_rest}
+use Rattle.deep_reduce.proofs.Shared.{Tree, Forest, Gives, KeepsFront, without_root, behind_first, behind_new, front_same, front_without, front_after_one, gives_as, given_rest}
 
 pub gives_next : {others g h : Forest} {j k : ℕ} {P Q R : Tree → Type 0} → Gives others g j P → Gives (without_root j g) h k Q → ((t : Tree) → Q t → R t) → Gives others h k R
 gives_next a b q = gives_as b (given_rest a) q

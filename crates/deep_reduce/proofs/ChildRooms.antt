@@ -1,29 +1,9 @@
 -- While a child is reduced in its own room, the other children and the node stand within the tree's room.
 use Rattle.std.proofs.Common.{◌≡◌, ℕ, ◌+◌, ◌*◌, ◌^◌, ◌≤◌, ◌<◌, List, length, Bool, true, false, if◌then◌else◌, inl, inr, refl, sym, ap, ◌∙◌, arith}
-use Rattle.std.proofs.lemmas.Bool.{and_parts}
-use Rattle.calc_measures.specs.Measures.{all_simple, are_all_simple, room, roots, roots_of, unbounded_room}
-use Rattle.calc_terms.specs.Trees.{Tree, num, add, mult, power, root, neg, sub, div, Trees, none, more, append, names, nodes, size, sizes}
-use Rattle.deep_reduce.specs.NodeRooms.{HasNodesFor, SpansNode}
-use Rattle.deep_reduce.specs.Reductions.{IsReducedFrom, MayLack}
-use Rattle.deep_reduce.specs.Rooms.{IsCalmAtZero, SpansRootOf}
-use Rattle.calc_algebra.specs.Reduced.{is_half_num}
+use Rattle.deep_reduce.proofs.Shared.{and_parts, all_simple, are_all_simple, room, roots, roots_of, unbounded_room, Tree, num, add, mult, power, root, neg, sub, div, Trees, none, more, append, names, nodes, size, sizes, HasNodesFor, SpansNode, IsReducedFrom, MayLack, IsCalmAtZero, SpansRootOf, is_half_num, nodes_by_children, State, free_of, LacksBelow, base_in, exponent_in, handed_bytes, children_of, tree_of, IsHanded, Stands, forest, NumberFault, used_forest, answer_bytes, answers_bytes, simple_room, more_rooms, reduced_bytes, room_is, five_times, spanned_room, term_room, two_simple, power_simple, each_once}
 use Rattle.deep_reduce.proofs.NodeRewrites.{AreReducedFrom, IsOver}
 use Rattle.deep_reduce.proofs.TreeRooms.{ready}
 use Rattle.deep_reduce.proofs.Lacking.{lacks_as}
-use Rattle.reduce_walk.proofs.Walks.{nodes_by_children}
-use Rattle.node_pool.specs.State.{State, free_of}
-use Rattle.tree_handles.specs.Lacking.{LacksBelow}
-use Rattle.power_reduce.specs.PowerAnswers.{base_in, exponent_in}
-use Rattle.power_reduce.proofs.RaisedBytes.{handed_bytes}
-use Rattle.tree_handles.specs.Expressions.{children_of}
-use Rattle.tree_handles.specs.Handed.{tree_of, IsHanded}
-use Rattle.tree_handles.specs.Standing.{Stands, forest}
-use Rattle.tree_handles.specs.declared.fault.NumberFault.{NumberFault}
-use Rattle.tree_handles.proofs.Places.{used_forest}
-use Rattle.tree_room.specs.Children.{answer_bytes, answers_bytes}
-use Rattle.tree_room.specs.Needs.{simple_room}
-use Rattle.tree_room.proofs.Rooms.{more_rooms, reduced_bytes, room_is, five_times, spanned_room, term_room, two_simple, power_simple}
-use Rattle.tree_room.proofs.Zeros.{each_once}
 
 -- ---- a child's room in its parent's
 

@@ -1,21 +1,8 @@
 -- A child of a power or of a product that is taken out, reduced and put back.
 use Rattle.std.proofs.Common.{◌≡◌, ℕ, zero, suc, ◌≤◌, ◌<◌, refl, sym, ap, ◌∙◌, subst, arith, Bool, true, false}
-use Rattle.calc_terms.specs.declared.kind.Kind.TheVariants as kind
-use Rattle.calc_terms.specs.Payload.{Payload, bare}
-use Rattle.calc_terms.specs.Trees.{Tree, add, power, Trees, none, more, append, count}
-use Rattle.tree_handles.proofs.Over.{IsOver, IsTaken, taken, once_count}
-use Rattle.tree_handles.proofs.Cuts.{inserted_behind}
-use Rattle.deep_reduce.specs.Unfinished.{replaced}
-use Rattle.tree_handles.proofs.Beside.{gives_itself}
-use Rattle.power_reduce.specs.PowerAnswers.{base_in, exponent_in}
-use Rattle.tree_handles.specs.Expressions.{nth, grown, plains, plain, inserted, children_of}
-use Rattle.tree_handles.specs.Forest.{Forest, empty, tree, kids, root_payload, tree_nth, without_nth}
-use Rattle.tree_handles.specs.Handed.{IsOnce, IsHanded, Ends, Gives}
-use Rattle.tree_handles.specs.Roots.{root_tree, put}
+use Rattle.deep_reduce.proofs.Shared.{Payload, bare, Tree, add, power, Trees, none, more, append, count, IsOver, IsTaken, taken, once_count, inserted_behind, replaced, gives_itself, base_in, exponent_in, nth, grown, plains, plain, inserted, children_of, Forest, empty, tree, kids, root_payload, tree_nth, without_nth, IsOnce, IsHanded, Ends, Gives, root_tree, put, gives_as, children_of-plain, whole_kids, root_arity}
 use Rattle.tree_handles.proofs.Counted.{all-kids}
-use Rattle.tree_handles.proofs.Given.{gives_as}
-use Rattle.tree_handles.proofs.Plains.{children_of-plain, whole_kids}
-use Rattle.tree_handles.proofs.Roots.{root_arity}
+use Rattle.calc_terms.specs.declared.kind.Kind.TheVariants as kind
 
 -- ---- powers
 

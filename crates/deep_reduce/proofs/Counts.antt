@@ -1,9 +1,6 @@
 -- Weights and loads are bounded by how many nodes there are.
 use Rattle.std.proofs.Common.{ℕ, suc, ◌+◌, ◌*◌, ◌≤◌, Bool, true, false, if◌then◌else◌, arith}
-use Rattle.calc_measures.specs.Loads.{weight, weight_of_factors, load_of_factor, load_of_factors, has_coefficient}
-use Rattle.calc_algebra.specs.Numbers.{is_number}
-use Rattle.calc_algebra.specs.Reduced.{is_opaque_exponent, base_of}
-use Rattle.calc_terms.specs.Trees.{Tree, num, symbol, undef, add, mult, power, root, neg, sub, div, Trees, none, more, nodes, nodes_of}
+use Rattle.deep_reduce.proofs.Shared.{weight, weight_of_factors, load_of_factor, load_of_factors, has_coefficient, is_number, is_opaque_exponent, base_of, Tree, num, symbol, undef, add, mult, power, root, neg, sub, div, Trees, none, more, nodes, nodes_of}
 
 product_cases : (x y : Bool) (w n : ℕ) → w ≤ 3 * n → (if x then 2 else 1 + (if y then 2 else 0) + w) ≤ 3 * suc n
 product_cases true y w n h = omega arith

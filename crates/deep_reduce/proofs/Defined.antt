@@ -1,18 +1,8 @@
 -- Only operations on trees that are defined do not fit.
 use Rattle.std.proofs.Common.{◌≡◌, true, false, Some, Result, Ok, Err, refl, ap, ◌∙◌}
 use Rattle.std.specs.Prelude.{IfErr}
-use Rattle.std.proofs.lemmas.Bool.{and_parts}
-use Rattle.calc_algebra.specs.Numbers.{is_number}
-use Rattle.calc_algebra.specs.Reduced.{is_half_num}
-use Rattle.calc_terms.specs.Trees.{Tree, num, undef, power, none, more, is_undef, has_undef}
+use Rattle.deep_reduce.proofs.Shared.{and_parts, is_number, is_half_num, Tree, num, undef, power, none, more, is_undef, has_undef, IsPowerMisfit, base_in, exponent_in, has_no_power, has_number_power, rewritten, is_rewritable, children_of, OfOverflow, NumberFault}
 use Rattle.deep_reduce.proofs.EasyNodes.{number_defined}
-use Rattle.power_reduce.specs.Misfits.{IsPowerMisfit}
-use Rattle.power_reduce.specs.PowerAnswers.{base_in, exponent_in, has_no_power, has_number_power}
-use Rattle.power_reduce.specs.PowerSteps.{rewritten}
-use Rattle.power_reduce.proofs.ByRule.{is_rewritable}
-use Rattle.tree_handles.specs.Expressions.{children_of}
-use Rattle.tree_handles.specs.Faults.{OfOverflow}
-use Rattle.tree_handles.specs.declared.fault.NumberFault.{NumberFault}
 use Rattle.tree_handles.specs.declared.fault.NumberFault.TheVariants as fault
 
 -- what is known in any case

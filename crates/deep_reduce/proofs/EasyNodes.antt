@@ -1,31 +1,12 @@
 -- The answer of an Easy node, from its children's answers.
 use Rattle.std.proofs.Common.{◌≡◌, ◌≢◌, ℕ, zero, suc, ◌≤◌, ◌⊎◌, inl, inr, ℤ, pos, negsuc, Bool, true, false, ◌&&◌, refl, sym, ap, ◌∙◌, arith}
 use Rattle.std.specs.Prelude.{◌||◌, ◌==◌, ◌≤ℤ◌, not, nat_le}
-use Rattle.std.proofs.lemmas.Bool.{le-leb, eq-eqb, eqb-true}
-use Rattle.std.proofs.lemmas.Int.{ints}
+use Rattle.deep_reduce.proofs.Shared.{le-leb, eq-eqb, eqb-true, ints, zero_is, whole_numerator, whole_denominator, number_words, numbers_defined, IsBad, IsBadNode, IsEasy, IsZero, IsHalf, IsNegative, GivesZeroNoPower, HasValue, Fraction, whole_fraction, minus_one_fraction, zero_fraction, is_zero_fraction, int_is_negative, int_is_zero, is_number, classes, are_numbers, Surd, surd_of, Tree, num, undef, add, mult, power, root, neg, sub, div, Trees, none, more, is_undef, is_num, IsPartOf, itself, in_add, in_mult, in_base, in_exponent, in_root, in_neg, in_left, in_right, in_dividend, in_divisor, first, later, has_undef, has_no_half_power, lacks_power, is_number_power, IsNodeAnswer, has_no_value, has_number, one_is_not_two, whole_no_half, whole_is, IsReducedFrom, is_zero, has_no_power, has_number_power, is_at_most_zero, has_no_root, kept, KeepsMeanings}
 use Rattle.calc_algebra.proofs.BadLaws.{bad_has_no_value, easy_decided}
 use Rattle.calc_algebra.proofs.EasyLaws.{HasBad, easy_part, bad_part, bad_sum, bad_product, bad_neg, bad_sub, bad_div, bad_power, bad_root, undef_is_bad, num_is_not_bad, sum_of_bad, product_of_bad, reduced_value, zero_reduced, rational_reduced, negative_reduced, easy_divisor, EasyWholePower, EasyHalfPower, easy_power, easy_root}
-use Rattle.calc_terms.proofs.FractionFacts.{zero_is, whole_numerator, whole_denominator}
-use Rattle.calc_algebra.proofs.NumberLaws.{number_words, numbers_defined}
-use Rattle.calc_algebra.specs.BadAndEasy.{IsBad, IsBadNode, IsEasy, IsZero, IsHalf, IsNegative, GivesZeroNoPower, HasValue}
-use Rattle.calc_terms.specs.Fractions.{Fraction, whole_fraction, minus_one_fraction, zero_fraction, is_zero_fraction}
-use Rattle.calc_terms.specs.Integers.{int_is_negative, int_is_zero}
-use Rattle.calc_algebra.specs.Numbers.{is_number, classes, are_numbers}
-use Rattle.calc_algebra.specs.Surds.{Surd, surd_of}
-use Rattle.calc_terms.specs.Trees.{Tree, num, undef, add, mult, power, root, neg, sub, div, Trees, none, more, is_undef, is_num, IsPartOf, itself, in_add, in_mult, in_base, in_exponent, in_root, in_neg, in_left, in_right, in_dividend, in_divisor, first, later, has_undef}
-use Rattle.deep_reduce.specs.Answers.{has_no_half_power, lacks_power, is_number_power}
-use Rattle.deep_reduce.specs.Nodes.{IsNodeAnswer, has_no_value, has_number}
 use Rattle.deep_reduce.proofs.Opened.{lacks_whole, number_whole}
-use Rattle.power_reduce.proofs.Exponents.{one_is_not_two, whole_no_half}
-use Rattle.power_reduce.proofs.Whole.{whole_is}
-use Rattle.deep_reduce.specs.Reductions.{IsReducedFrom}
 use Rattle.deep_reduce.proofs.NodeRewrites.{AreReducedFrom, IsOver, over_number, over_symbol, over_undef, over_sum, over_product, over_power, over_root, over_neg, over_sub, over_div}
-use Rattle.number_forms.specs.Readers.{is_zero}
-use Rattle.power_reduce.specs.PowerAnswers.{has_no_power, has_number_power, is_at_most_zero}
-use Rattle.radical_forms.specs.RootAnswers.{has_no_root}
-use Rattle.calc_algebra.proofs.Rewritings.{kept}
 use Rattle.reduce_port.specs.EasyTrees.{Evaluates}
-use Rattle.calc_algebra.specs.Rewritings.{KeepsMeanings}
 
 -- ---- tests
 

@@ -1,8 +1,6 @@
 -- The measure falls at each call.
 use Rattle.std.proofs.Common.{◌≡◌, ℕ, ◌≤◌, ◌<◌, true, ap, arith}
-use Rattle.calc_measures.specs.Loads.{nest, weight, load_of_factors}
-use Rattle.calc_terms.specs.Trees.{Tree, add, mult, power, Trees, is_mult}
-use Rattle.deep_reduce.specs.Unfinished.{nest_over, nest_of_joint, IsLess, IsSummed}
+use Rattle.deep_reduce.proofs.Shared.{nest, weight, load_of_factors, Tree, add, mult, power, Trees, is_mult, nest_over, nest_of_joint, IsLess, IsSummed, are_reduced, base_in, exponent_in, IsGathered, IsPairAt, nth, children_of}
 use Rattle.deep_reduce.proofs.Finished.{IsReadyProduct, IsReadyPower}
 use Rattle.deep_reduce.proofs.Measures.{of_product, of_pairs, of_two, of_power, of_joint, of_powers, of_exponent, of_rewritten}
 use Rattle.deep_reduce.proofs.Nests.{over_power}
@@ -11,11 +9,6 @@ use Rattle.deep_reduce.proofs.Ranks.{rank_second}
 use Rattle.deep_reduce.proofs.Rows.{IsPowerOf}
 use Rattle.deep_reduce.proofs.Joined.{pair_loaded}
 use Rattle.deep_reduce.proofs.Settled.{IsPairJoined, joint_less}
-use Rattle.calc_algebra.specs.Reduced.{are_reduced}
-use Rattle.power_reduce.specs.PowerAnswers.{base_in, exponent_in}
-use Rattle.product_reduce.specs.Gathering.{IsGathered}
-use Rattle.product_reduce.specs.Neighbours.{IsPairAt}
-use Rattle.tree_handles.specs.Expressions.{nth, children_of}
 
 pub joint_falls : (t u : Tree) (at : ℕ) → IsPairJoined at (children_of t) u → of_joint at u < of_two t
 joint_falls t u at j = let h = joint_less at (children_of t) u j in rank_second _ _ _ _ h.nests (omega (arith, h.weighs))

@@ -1,20 +1,12 @@
 -- A tree after a rewriting, whose powers or whose exponent were reduced.
 use Rattle.std.proofs.Common.{◌≡◌, suc, ◌≤◌, true, false, refl, sym, ap, subst, arith}
-use Rattle.calc_measures.specs.Loads.{nest, nest_of, weight, load_of_factors}
-use Rattle.calc_algebra.specs.Reduced.{is_reduced, are_reduced}
-use Rattle.calc_terms.specs.Trees.{Tree, num, symbol, undef, add, mult, power, root, neg, sub, div, Trees, none, more, count, is_mult}
-use Rattle.deep_reduce.specs.Answers.{IsReducedProduct, IsReducedPower}
-use Rattle.deep_reduce.specs.Unfinished.{nest_of_rewritten, weight_of_bases, weight_below, IsTransparent, AreTransparent, IsUnfinished, Finishes, IsMultiplied, IsLifted, AreReducedPowers, IsProductOfPowers}
+use Rattle.deep_reduce.proofs.Shared.{nest, nest_of, weight, load_of_factors, is_reduced, are_reduced, Tree, num, symbol, undef, add, mult, power, root, neg, sub, div, Trees, none, more, count, is_mult, IsReducedProduct, IsReducedPower, nest_of_rewritten, weight_of_bases, weight_below, IsTransparent, AreTransparent, IsUnfinished, Finishes, IsMultiplied, IsLifted, AreReducedPowers, IsProductOfPowers, base_in, exponent_in, Rewrites, Rewrites-refl, rewrites_of, reduces_after, children_of}
 use Rattle.deep_reduce.proofs.HeldPowers.{product_holds, power_holds}
 use Rattle.deep_reduce.proofs.Heavy.{heavy, factor_load}
 use Rattle.deep_reduce.proofs.Nests.{over_power, product_load}
 use Rattle.deep_reduce.proofs.Pairs.{factors_rewritten}
 use Rattle.deep_reduce.proofs.Rewritten.{product_keeps, power_keeps}
 use Rattle.deep_reduce.proofs.Settled.{exponent_rewritten}
-use Rattle.power_reduce.specs.PowerAnswers.{base_in, exponent_in}
-use Rattle.calc_algebra.specs.Rewritings.{Rewrites}
-use Rattle.calc_algebra.proofs.Rewritings.{Rewrites-refl, rewrites_of, reduces_after}
-use Rattle.tree_handles.specs.Expressions.{children_of}
 
 -- ---- products of powers
 

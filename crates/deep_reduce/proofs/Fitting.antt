@@ -1,22 +1,11 @@
 -- The rationals of a pool fit.
 use Rattle.std.proofs.Common.{◌≡◌, ℕ, true, eqb, cond, refl, sym, ap, ◌∙◌, subst}
-use Rattle.calc_terms.specs.declared.kind.Kind.{Kind}
-use Rattle.calc_terms.specs.declared.kind.Kind.TheVariants as kind
-use Rattle.calc_terms.specs.Fits.{fraction_fits}
-use Rattle.calc_terms.specs.Fractions.{Fraction, lowest}
-use Rattle.calc_terms.specs.Payload.{Payload, rational, named, bare, IsPayload}
-use Rattle.calc_terms.specs.Trees.{num, Trees}
+use Rattle.deep_reduce.proofs.Shared.{Kind, fraction_fits, Fraction, lowest, Payload, rational, named, bare, IsPayload, num, Trees, State, tree_of, by_test, grown, plain, plains, compound, Forest, empty, tree, flatten, root_payload, has_root, root_tree, Stands, forest}
 use Rattle.node_pool.proofs.Sizes.{AreNodes-right}
 use Rattle.node_pool.specs.Nodes.{AreNodes}
-use Rattle.node_pool.specs.State.{State}
 use Rattle.rational128.proofs.LowestTerms.{parts_themselves}
 use Rattle.rational128.proofs.Products.{parts_fit}
-use Rattle.tree_handles.specs.Handed.{tree_of}
-use Rattle.tree_handles.proofs.Outcomes.{by_test}
-use Rattle.tree_handles.specs.Expressions.{grown, plain, plains, compound}
-use Rattle.tree_handles.specs.Forest.{Forest, empty, tree, flatten, root_payload}
-use Rattle.tree_handles.specs.Roots.{has_root, root_tree}
-use Rattle.tree_handles.specs.Standing.{Stands, forest}
+use Rattle.calc_terms.specs.declared.kind.Kind.TheVariants as kind
 
 -- what a root holds is valid
 valid_root : (i : ℕ) (f : Forest) → AreNodes (flatten f) → has_root i f ≡ true → IsPayload (root_payload (root_tree i f))

@@ -1,28 +1,11 @@
 -- What is told of gathered factors, in the arm for it.
 use Rattle.std.proofs.Common.{◌≡◌, ℕ, ◌≤◌, List, true, false, sym, ◌∙◌, ap, subst, arith}
-use Rattle.calc_room.specs.Counts.{counted, counted_among}
-use Rattle.calc_room.specs.Powers.{HasPowersOf}
-use Rattle.calc_room.specs.Spans.{SpansTree}
-use Rattle.calc_terms.specs.Trees.{mult, is_mult, is_undef, has_undef}
-use Rattle.deep_reduce.specs.Bits.{IsHeldAsProduct}
-use Rattle.product_reduce.specs.Bits.{IsFactorHeld, AreFactorsHeld}
-use Rattle.deep_reduce.specs.Rooms.{KeepsRoom}
-use Rattle.deep_reduce.specs.Unfinished.{HandsOn}
+use Rattle.deep_reduce.proofs.Shared.{counted, counted_among, HasPowersOf, SpansTree, mult, is_mult, is_undef, has_undef, IsHeldAsProduct, IsFactorHeld, AreFactorsHeld, KeepsRoom, HandsOn, State, IfFinished, IfJoined, IfGathered, IsGathered, Joining, given_told, children_of, tree_of, Gives, without_root, forest, numbers_among}
 use Rattle.deep_reduce.proofs.Arms.{is_gathered}
 use Rattle.deep_reduce.proofs.JointRooms.{finished_keeps, gathered_hands_on}
 use Rattle.deep_reduce.proofs.Lacking.{product_words}
 use Rattle.deep_reduce.proofs.Settled.{gathered_product}
-use Rattle.node_pool.specs.State.{State}
-use Rattle.product_reduce.specs.Answers.{IfFinished, IfJoined, IfGathered}
-use Rattle.product_reduce.specs.Gathering.{IsGathered}
-use Rattle.product_reduce.specs.declared.steps.Joining.{Joining}
 use Rattle.product_reduce.specs.declared.steps.Joining.TheVariants as joining
-use Rattle.tree_handles.proofs.Given.{given_told}
-use Rattle.tree_handles.specs.Expressions.{children_of}
-use Rattle.tree_handles.specs.Handed.{tree_of, Gives}
-use Rattle.tree_handles.specs.Roots.{without_root}
-use Rattle.tree_handles.specs.Standing.{forest}
-use Rattle.tree_room.specs.Handed.{numbers_among}
 
 module _ (i : ℕ) (old new : State) (m : is_mult (tree_of i old) ≡ true) where
   pub gathered_hands : {s : Joining} {h at : ℕ} → s ≡ joining.Joined h at → IfJoined s (λ k n. Gives (without_root i (forest old)) (forest new) k (IsGathered (children_of (tree_of i old))))

@@ -1,26 +1,8 @@
 -- Powers whose exponent is half of an odd whole number, from the root of the base and a power of it.
 use Rattle.std.proofs.Common.{◌≡◌, ℕ, suc, List, ◌+◌, ◌≤◌, ◌⊎◌, inl, inr, zero, ℤ, pos, negsuc, Bool, true, false, ◌&&◌, ◌||◌, ◌==◌, not, if◌then◌else◌, Some, None, refl, sym, ap, ◌∙◌, subst, arith}
 use Rattle.std.specs.Prelude.{◌≤ℤ◌, nat_le}
-use Rattle.std.proofs.lemmas.Bool.{and_parts, eqb-true, false_from_ne_true}
-use Rattle.std.proofs.lemmas.Int.{ints}
-use Rattle.calc_algebra.proofs.HalfLaws.{half_is_odd}
-use Rattle.calc_algebra.proofs.MeaningRewrites as rewrites
-use Rattle.calc_algebra.proofs.NumberLaws.{number_words, number_test}
-use Rattle.calc_algebra.proofs.Rewritings.{keeps, kept, reduces_after}
-use Rattle.calc_algebra.specs.Numbers.{is_number, IsNumber, classes}
-use Rattle.calc_algebra.specs.Reduced.{is_half_num, is_reduced}
-use Rattle.calc_algebra.specs.Rewritings.{Rewrites}
-use Rattle.calc_measures.specs.Loads.{nest, weight}
-use Rattle.calc_terms.specs.Fractions.{Fraction, whole_fraction, zero_fraction, is_zero_fraction}
-use Rattle.calc_terms.specs.Integers.{int_is_negative, int_is_even}
-use Rattle.calc_terms.specs.Trees.{Tree, num, undef, power, root, names, is_undef, is_num, is_root}
-use Rattle.deep_reduce.specs.Bits.{IsHeldAsRootPower}
+use Rattle.deep_reduce.proofs.Shared.{and_parts, eqb-true, false_from_ne_true, ints, half_is_odd, number_words, number_test, keeps, kept, reduces_after, is_number, IsNumber, classes, is_half_num, is_reduced, Rewrites, nest, weight, Fraction, whole_fraction, zero_fraction, is_zero_fraction, int_is_negative, int_is_even, Tree, num, undef, power, root, names, is_undef, is_num, is_root, IsHeldAsRootPower, IsFactorHeld, IsHeldAsPowerOf, has_no_half_power, lacks_power, is_number_power, IsReducedPower, parts_reduced, IsRooted, SpansTree, is_zero, numerator, base_in, exponent_in, has_no_power, has_number_power, IsPowerAnswer, power_of_root, rewritten, transparent_whole, root_once, undef_base_kept, by_half, one_is_not_two, whole_no_half, number_weight, whole_is, argument_of, has_no_root, IsRootAnswer}
 use Rattle.deep_reduce.proofs.HeldRoots.{half_held, root_answer_held}
-use Rattle.product_reduce.specs.Bits.{IsFactorHeld}
-use Rattle.power_reduce.specs.Bits.{IsHeldAsPowerOf}
-use Rattle.deep_reduce.specs.Answers.{has_no_half_power, lacks_power, is_number_power, IsReducedPower}
-use Rattle.coefficients.proofs.Forms.{parts_reduced}
-use Rattle.deep_reduce.specs.Halves.{IsRooted}
 use Rattle.deep_reduce.proofs.EasyNodes.{and_true, undef_words, whole_power_number, whole_power_defined, zero_power}
 use Rattle.deep_reduce.proofs.NodeRewrites.{both}
 use Rattle.deep_reduce.proofs.Nests.{to_number}
@@ -28,17 +10,8 @@ use Rattle.deep_reduce.proofs.Opened.{rewritten_written}
 use Rattle.deep_reduce.proofs.Calm.{calm_no_half}
 use Rattle.deep_reduce.proofs.PowerRooms.{half_room}
 use Rattle.deep_reduce.proofs.RootValues.{of_root}
-use Rattle.calc_room.specs.Spans.{SpansTree}
-use Rattle.number_forms.specs.Readers.{is_zero, numerator}
-use Rattle.power_reduce.specs.PowerAnswers.{base_in, exponent_in, has_no_power, has_number_power, IsPowerAnswer}
-use Rattle.power_reduce.specs.PowerSteps.{power_of_root, rewritten}
-use Rattle.power_reduce.proofs.ByRule.{transparent_whole}
-use Rattle.power_reduce.proofs.Cases.{root_once, undef_base_kept}
-use Rattle.power_reduce.proofs.Exponents.{by_half, one_is_not_two, whole_no_half}
-use Rattle.power_reduce.proofs.Weights.{number_weight}
 use Rattle.deep_reduce.proofs.Heavy.{some_weight}
-use Rattle.power_reduce.proofs.Whole.{whole_is}
-use Rattle.radical_forms.specs.RootAnswers.{argument_of, has_no_root, IsRootAnswer}
+use Rattle.calc_algebra.proofs.MeaningRewrites as rewrites
 
 -- ---- the exponents
 

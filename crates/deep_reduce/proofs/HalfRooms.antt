@@ -1,31 +1,10 @@
 -- How many bytes suffice for half of an odd number as a power.
 use Rattle.std.proofs.Common.{◌≡◌, ℕ, ◌+◌, ◌*◌, ◌^◌, ◌≤◌, ◌<◌, List, length, true, Err, sym, ap, subst, arith}
-use Rattle.std.proofs.lemmas.Nat.{pow_pos}
-use Rattle.calc_algebra.specs.Reduced.{is_reduced, is_whole_num}
-use Rattle.calc_algebra.proofs.ReducedLaws.{reduced_words}
-use Rattle.calc_room.specs.Counts.{counted}
-use Rattle.calc_room.specs.Spans.{SpansTree}
-use Rattle.calc_room.proofs.NumberBytes.{num_bytes}
-use Rattle.calc_room.proofs.TreeBytes.{tree_bytes}
-use Rattle.calc_terms.specs.Fractions.{whole_fraction}
-use Rattle.calc_terms.specs.Trees.{Tree, num, size}
-use Rattle.deep_reduce.specs.Halves.{IsRooted}
-use Rattle.deep_reduce.specs.Rooms.{SpansRootOf}
+use Rattle.deep_reduce.proofs.Shared.{pow_pos, is_reduced, is_whole_num, reduced_words, counted, SpansTree, num_bytes, tree_bytes, whole_fraction, Tree, num, size, IsRooted, SpansRootOf, LacksBelow, numerator, full_as, base_in, exponent_in, power_of_root, LacksRoot, LacksStep, whole_is, IsFull, NumberFault, power_room, scaled}
 use Rattle.deep_reduce.proofs.HalfPowers.{IsHalfStep}
 use Rattle.deep_reduce.proofs.Lacking.{lacks_as}
 use Rattle.deep_reduce.proofs.PowerRooms.{root_room}
-use Rattle.tree_handles.specs.Lacking.{LacksBelow}
-use Rattle.number_forms.specs.Readers.{numerator}
-use Rattle.number_forms.proofs.Rooms.{full_as}
-use Rattle.power_reduce.specs.PowerAnswers.{base_in, exponent_in}
-use Rattle.power_reduce.specs.PowerSteps.{power_of_root}
-use Rattle.power_reduce.specs.Rooms.{LacksRoot, LacksStep}
-use Rattle.power_reduce.proofs.Whole.{whole_is}
-use Rattle.radical_forms.specs.Refusals.{IsFull}
-use Rattle.tree_handles.specs.declared.fault.NumberFault.{NumberFault}
 use Rattle.tree_handles.specs.declared.fault.NumberFault.TheVariants as fault
-use Rattle.tree_room.specs.Needs.{power_room}
-use Rattle.tree_room.proofs.Multiples.{scaled}
 
 -- the root of the base finds no bytes
 pub root_lacks : (t : Tree) (free old : ℕ) (f : NumberFault) → (IsFull {A = ℕ} (Err f) → free < 96) → free ≡ old → LacksBelow (96 + size t) (old + size t) f

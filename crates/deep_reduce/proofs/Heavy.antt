@@ -1,11 +1,6 @@
 -- Reduced trees weigh 2 at least, and so do their bases.
 use Rattle.std.proofs.Common.{◌≡◌, ℕ, suc, ◌+◌, ◌≤◌, inl, inr, Bool, true, false, ◌||◌, if◌then◌else◌, refl, arith}
-use Rattle.calc_measures.specs.Loads.{load, weight, weight_of_factors, load_of_factor, has_coefficient}
-use Rattle.calc_algebra.specs.Numbers.{is_number}
-use Rattle.calc_algebra.specs.Reduced.{is_reduced, is_opaque_exponent, base_of}
-use Rattle.calc_terms.specs.Trees.{Tree, num, symbol, undef, add, mult, power, root, neg, sub, div, none, more, is_undef}
-use Rattle.coefficients.proofs.Forms.{reduced_parts, parts_reduced}
-use Rattle.product_reduce.proofs.Bounds.{load_number}
+use Rattle.deep_reduce.proofs.Shared.{load, weight, weight_of_factors, load_of_factor, has_coefficient, is_number, is_reduced, is_opaque_exponent, base_of, Tree, num, symbol, undef, add, mult, power, root, neg, sub, div, none, more, is_undef, reduced_parts, parts_reduced, load_number}
 
 some_root : (x : Bool) (w : ℕ) → 1 ≤ (if x then 2 else suc w)
 some_root true w = omega arith

@@ -1,25 +1,9 @@
 -- Exponents that count their bases: how often at least, and by how many bits they are held themselves.
 use Rattle.std.proofs.Common.{◌≡◌, ◌≢◌, ℕ, zero, suc, ◌+◌, ◌*◌, ◌^◌, ◌≤◌, inl, inr, List, [], ◌∷◌, max, ℤ, pos, negsuc, Bool, true, false, ◌&&◌, ◌==◌, not, if◌then◌else◌, refl, sym, ap, ◌∙◌, subst, arith}
 use Rattle.std.specs.Prelude.{nat_abs, ◌/◌}
+use Rattle.deep_reduce.proofs.Shared.{and_parts, eqb-true, dvd_refl, Fraction, zero_fraction, one_fraction, whole_fraction, is_zero_fraction, int_is_zero, zero_test, one_test, no_zero, whole_numerator, whole_denominator, Tree, num, undef, symbol, add, mult, root, Trees, none, more, is_add, is_undef, AllParts, AllPartsOf, IsTerm, AreTerms, is_number, is_term, value, terms_of, HasForm, NoneIs, num_one, number_terms, other_terms, surd_of, surd_one, number_test, Parts, AreWholeOver, magnitude_over, mass, root_above, Addend, addend, addend_of, addends, addends_of, power_high, power_low, IsTreeHeld, sum_held, AreWeighted, none_weighted, more_weighted, IsPartHeld, no_factor_held, factor_held, symbol_held, Weighted, weighted, PartsAll, lows, weighted_mass, AreHeld, one_counted, one_counts, whole_of, Counts, counts, multiple, is_counted, are_counted, counts_of, counts_of_all}
 use Rattle.std.specs.Int.{◌∣◌}
-use Rattle.std.proofs.lemmas.Bool.{and_parts, eqb-true}
-use Rattle.std.proofs.Math.Nat.{dvd_refl}
-use Rattle.calc_terms.specs.Fractions.{Fraction, zero_fraction, one_fraction, whole_fraction, is_zero_fraction}
-use Rattle.calc_terms.specs.Integers.{int_is_zero}
-use Rattle.calc_terms.proofs.FractionFacts.{zero_test, one_test, no_zero, whole_numerator, whole_denominator}
-use Rattle.calc_terms.specs.Trees.{Tree, num, undef, symbol, add, mult, root, Trees, none, more, is_add, is_undef, AllParts, AllPartsOf}
-use Rattle.calc_algebra.specs.Numbers.{IsTerm, AreTerms, is_number, is_term, value, terms_of}
-use Rattle.calc_algebra.specs.Reduced.{HasForm, NoneIs, num_one, number_terms, other_terms}
-use Rattle.calc_algebra.specs.Surds.{surd_of, surd_one}
-use Rattle.calc_algebra.proofs.NumberLaws.{number_test}
-use Rattle.calc_bits.specs.Denominators.{Parts, AreWholeOver, magnitude_over}
-use Rattle.calc_bits.specs.Masses.{mass, root_above}
 use Rattle.calc_bits.proofs.RootsAbove.{root_least}
-use Rattle.tree_bits.specs.HeldTrees.{Addend, addend, addend_of, addends, addends_of, power_high, power_low, IsTreeHeld, sum_held, AreWeighted, none_weighted, more_weighted, IsPartHeld, no_factor_held, factor_held, symbol_held}
-use Rattle.tree_bits.specs.Weighted.{Weighted, weighted, PartsAll, lows, weighted_mass, AreHeld}
-use Rattle.tree_bits.proofs.Sums.{one_counted, one_counts}
-use Rattle.sum_reduce.proofs.CollectedExponents.{whole_of}
-use Rattle.tree_bits.specs.Exponents.{Counts, counts, multiple, is_counted, are_counted, counts_of, counts_of_all}
 
 clash : {A : Type 0} → true ≡ false → A
 clash e = absurd cc

@@ -1,39 +1,11 @@
 -- Reduced trees as factors: what holds a tree holds it as a factor, and the parts of a product are held by bits of their own.
 use Rattle.std.proofs.Common.{length, pos, ◌≡◌, ◌≢◌, ℕ, zero, suc, ◌+◌, ◌-◌, ◌*◌, ◌^◌, ◌≤◌, ◌⊎◌, inl, inr, List, [], ◌∷◌, Bool, true, false, if◌then◌else◌, refl, sym, ap, ◌∙◌, subst, arith}
-use Rattle.std.proofs.lemmas.Nat.{mul-le}
-use Rattle.std.proofs.Math.Nat.{pow-le-pow_right}
-use Rattle.calc_terms.specs.Fractions.{Fraction, zero_fraction, one_fraction}
-use Rattle.calc_terms.specs.Trees.{Tree, num, undef, add, mult, power, root, Trees, none, more, count, is_undef, is_mult, AllParts, AllPartsOf, HasTwo}
-use Rattle.calc_terms.proofs.FractionFacts.{zero_test, whole_denominator}
-use Rattle.calc_algebra.specs.Numbers.{IsNumber, AreTerms, Rises, is_number, is_term, value, terms_of, term_of}
-use Rattle.calc_algebra.specs.Reduced.{Split, split_product, num_one, is_num_one, is_reduced, HasForm, NoneIs, IsProductForm, IsSumForm, number_terms, other_terms}
-use Rattle.calc_algebra.specs.Surds.{Surd, Term, term, surd_of, surd_one}
-use Rattle.calc_algebra.proofs.NumberClasses.{one_not_zero}
-use Rattle.calc_algebra.proofs.NumberLaws.{number_test, term_words}
-use Rattle.calc_bits.specs.Masses.{mass, mass_from, IsHeld}
-use Rattle.calc_measures.specs.Loads.{has_coefficient}
-use Rattle.coefficients.proofs.Coefficients.{product_form_of}
-use Rattle.coefficients.proofs.Factors.{no_split}
-use Rattle.coefficients.proofs.Forms.{reduced_parts, parts_reduced}
+use Rattle.deep_reduce.proofs.Shared.{mul-le, pow-le-pow_right, Fraction, zero_fraction, one_fraction, Tree, num, undef, add, mult, power, root, Trees, none, more, count, is_undef, is_mult, AllParts, AllPartsOf, HasTwo, zero_test, whole_denominator, IsNumber, AreTerms, Rises, is_number, is_term, value, terms_of, term_of, Split, split_product, num_one, is_num_one, is_reduced, HasForm, NoneIs, IsProductForm, IsSumForm, number_terms, other_terms, Surd, Term, term, surd_of, surd_one, one_not_zero, number_test, term_words, mass, mass_from, IsHeld, has_coefficient, product_form_of, no_split, reduced_parts, parts_reduced, Leads, in_front, parts_of, HasFactors, product_factors, IsFactorHeld, single_part, part_single, number_as_factor, IsSumHeld, Counts, counts, counts_of, is_counted, Addend, addend, addend_of, addends_of, power_high, power_low, IsTreeHeld, undef_held, AreWeighted, none_weighted, more_weighted, IsPartHeld, no_factor_held, factor_held, IsBaseHeld, symbol_held, tree_held, Weighted, AreHeld, tree_as_sum, factor_is_held, factor_as_tree, addend_left_out, addend_to_front, exponents_within, held_number, one_counted, one_counts, symbol_is_held, root_is_held, wider_held, tree_wider}
 use Rattle.coefficients.proofs.Lengths.{some_factors}
-use Rattle.coefficients.proofs.Splits.{Leads, in_front}
 use Rattle.deep_reduce.proofs.EasyNodes.{undef_words}
 use Rattle.deep_reduce.proofs.HeldExponents.{some_counts}
-use Rattle.power_reduce.specs.PowerSteps.{parts_of}
-use Rattle.power_reduce.proofs.Rooms.{HasFactors, product_factors}
-use Rattle.product_reduce.specs.Bits.{IsFactorHeld}
-use Rattle.product_reduce.proofs.HeldFactors.{single_part, part_single}
-use Rattle.product_reduce.proofs.HeldNumbers.{number_as_factor}
-use Rattle.tree_bits.specs.Children.{IsSumHeld}
-use Rattle.tree_bits.specs.Exponents.{Counts, counts, counts_of, is_counted}
 use Rattle.tree_bits.specs.Factors.{as_factor}
-use Rattle.tree_bits.specs.HeldTrees.{Addend, addend, addend_of, addends_of, exponent_in, power_high, power_low, IsTreeHeld, undef_held, AreWeighted, none_weighted, more_weighted, IsPartHeld, no_factor_held, factor_held, IsBaseHeld, symbol_held, root_held, tree_held}
-use Rattle.tree_bits.specs.Weighted.{Weighted, AreHeld}
-use Rattle.tree_bits.proofs.Children.{tree_as_sum}
-use Rattle.tree_bits.proofs.Factors.{factor_is_held, factor_as_tree}
-use Rattle.tree_bits.proofs.Joined.{addend_left_out, addend_to_front}
-use Rattle.tree_bits.proofs.Numbers.{exponents_within, held_number}
-use Rattle.tree_bits.proofs.Sums.{one_counted, one_counts, symbol_is_held, root_is_held, wider_held, tree_wider}
+use Rattle.tree_bits.specs.HeldTrees.{exponent_in, root_held}
 use Rattle.tree_bits.proofs.Weighted.{split_off}
 
 clash : {A : Type 0} → true ≡ false → A

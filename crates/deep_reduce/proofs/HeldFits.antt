@@ -1,43 +1,18 @@
 -- A call inside of another one fits where few bits hold what the outer one was handed.
 use Rattle.std.proofs.Common.{◌≡◌, ℕ, zero, suc, ◌+◌, ◌*◌, ◌≤◌, inl, ℤ, pos, negsuc, Bool, true, false, ◌||◌, not, Some, Result, Ok, Err, refl, sym, ap, ◌∙◌, subst, arith}
 use Rattle.std.specs.Prelude.{IfErr, IsOk, nat_abs}
-use Rattle.std.proofs.lemmas.Bool.{and_parts}
-use Rattle.std.proofs.lemmas.Nat.{mul-le}
-use Rattle.calc_algebra.specs.Reduced.{is_reduced, is_half_num, is_whole_num}
-use Rattle.calc_terms.specs.Fractions.{whole_fraction, is_one_fraction}
-use Rattle.calc_terms.specs.Integers.{int_is_zero}
-use Rattle.power_reduce.proofs.Whole.{whole_is}
-use Rattle.calc_terms.proofs.FractionFacts.{whole_numerator}
-use Rattle.calc_terms.specs.Trees.{Tree, num, power, root, Trees, none, more, append, is_mult, is_undef, has_undef}
-use Rattle.coefficients.proofs.Forms.{reduced_parts, parts_reduced}
-use Rattle.deep_reduce.specs.Bits.{HasFewBits}
-use Rattle.deep_reduce.specs.Rooms.{IsJoinedFrom, IsRewritten}
-use Rattle.deep_reduce.specs.Unfinished.{AreReducedPowers, IsLifted, IsMultiplied, IsProductOfPowers, IsSummed}
+use Rattle.deep_reduce.proofs.Shared.{and_parts, mul-le, is_reduced, is_half_num, is_whole_num, whole_fraction, is_one_fraction, int_is_zero, whole_is, whole_numerator, Tree, num, power, root, Trees, none, more, append, is_mult, is_undef, has_undef, reduced_parts, parts_reduced, HasFewBits, IsJoinedFrom, IsRewritten, AreReducedPowers, IsLifted, IsMultiplied, IsProductOfPowers, IsSummed, exponent_of, joint, base_of, IsSumHeld, addends_of_each, HasFewBitsRaised, base_in, exponent_in, half, goes_inside, is_zero_or_one, parts_of, raised, rewritten, rewritten_whole, as_whole, whole_no_half, chosen, IsFactorHeld, AreFactorsHeld, none_held, Counts, counts, multiple, counts_of, is_counted, raised_high, raised_low, exponents_within, nth, children_of, OfOverflow, NumberFault}
 use Rattle.deep_reduce.proofs.Heavy.{exponent_reduced}
 use Rattle.deep_reduce.proofs.HeldExponents.{counted_defined, some_counts, exponent_is_held, multiple_counts}
 use Rattle.deep_reduce.proofs.HeldFactors.{EachHeld, more_each, parts_each, tree_factor, factor_power, no_zero_exponent}
 use Rattle.deep_reduce.proofs.HeldJoints.{reduced_at, pair_exponents_held, pair_power_held}
 use Rattle.deep_reduce.proofs.JointBytes.{joining}
 use Rattle.deep_reduce.proofs.Settled.{exponent_is_reduced}
-use Rattle.product_reduce.specs.Joining.{exponent_of, joint}
-use Rattle.calc_algebra.specs.Reduced.{base_of}
-use Rattle.tree_bits.specs.Children.{IsSumHeld, addends_of_each}
 use Rattle.deep_reduce.proofs.HeldParts.{few_most, few_magnitude, part_fits}
 use Rattle.deep_reduce.proofs.HeldPowers.{half_of, half_bits, root_argument, power_raised, factor_counted, powers_held}
 use Rattle.deep_reduce.proofs.PowerBytes.{split_at}
 use Rattle.deep_reduce.proofs.Rewritten.{IsByWay, of_root, of_power, of_product, by_way}
-use Rattle.power_reduce.specs.Bits.{HasFewBitsRaised}
-use Rattle.power_reduce.specs.PowerAnswers.{base_in, exponent_in}
-use Rattle.power_reduce.specs.PowerSteps.{half, goes_inside, is_zero_or_one, parts_of, raised, rewritten, rewritten_whole}
-use Rattle.power_reduce.proofs.Exponents.{as_whole, whole_no_half}
-use Rattle.power_reduce.proofs.Rules.{chosen}
-use Rattle.product_reduce.specs.Bits.{IsFactorHeld, AreFactorsHeld, none_held, factor_held}
-use Rattle.tree_bits.specs.Exponents.{Counts, counts, multiple, counts_of, is_counted}
-use Rattle.tree_bits.specs.Powers.{raised_high, raised_low}
-use Rattle.tree_bits.proofs.Numbers.{exponents_within}
-use Rattle.tree_handles.specs.Expressions.{nth, children_of}
-use Rattle.tree_handles.specs.Faults.{OfOverflow}
-use Rattle.tree_handles.specs.declared.fault.NumberFault.{NumberFault}
+use Rattle.product_reduce.specs.Bits.{factor_held}
 use Rattle.tree_handles.specs.declared.fault.NumberFault.TheVariants as fault
 
 clash : {A : Type 0} → true ≡ false → A

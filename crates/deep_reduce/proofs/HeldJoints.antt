@@ -1,38 +1,15 @@
 -- What holds factors holds them with two of one base joined, and the exponents of these are added within few bits.
 use Rattle.std.proofs.Common.{◌≡◌, ℕ, zero, suc, ◌+◌, ◌≤◌, ◌<◌, [], ◌∷◌, Bool, true, false, ◌&&◌, not, if◌then◌else◌, refl, sym, ap, ◌∙◌, subst, arith}
-use Rattle.std.proofs.lemmas.Bool.{and_parts, and_from}
-use Rattle.calc_algebra.specs.Numbers.{is_number}
-use Rattle.calc_algebra.specs.Reduced.{is_reduced, are_reduced, is_whole_num, is_opaque_exponent, num_one, base_of}
-use Rattle.calc_algebra.proofs.NumberLaws.{number_words}
-use Rattle.calc_measures.specs.Measures.{HighLow}
-use Rattle.calc_terms.specs.Trees.{Tree, power, Trees, none, more, count, is_undef}
-use Rattle.coefficients.proofs.Forms.{reduced_parts}
-use Rattle.deep_reduce.specs.Answers.{IsReducedPower}
-use Rattle.deep_reduce.specs.Bits.{HasFewBits, AddsCounts, IsCountedWithin}
-use Rattle.deep_reduce.specs.Unfinished.{replaced}
+use Rattle.deep_reduce.proofs.Shared.{and_parts, and_from, is_number, is_reduced, are_reduced, is_whole_num, is_opaque_exponent, num_one, base_of, number_words, HighLow, Tree, power, Trees, none, more, count, is_undef, reduced_parts, IsReducedPower, HasFewBits, AddsCounts, IsCountedWithin, replaced, removed, whole_is, IsFactorHeld, AreFactorsHeld, exponent_of, is_partner, joint, IsPairAt, joined_pair, partners_of_pair, IsSumHeld, addends_of_each, Counts, counts, counts_of, counts_of_all, is_counted, IsPartHeld, factor_held, trees_together, factors_joined, factor_left_out, exponents_within, one_counts, nth, inserted}
 use Rattle.deep_reduce.proofs.EasyNodes.{undef_words}
 use Rattle.deep_reduce.proofs.HeldExponents.{counted_defined, exponent_is_held}
 use Rattle.deep_reduce.proofs.HeldFactors.{undef_factor, first_counted, part_high}
 use Rattle.deep_reduce.proofs.HeldParts.{part_answer}
 use Rattle.deep_reduce.proofs.Joints.{same_base}
-use Rattle.number_forms.specs.Sums.{removed}
-use Rattle.power_reduce.proofs.Whole.{whole_is}
-use Rattle.product_reduce.specs.Bits.{IsFactorHeld, AreFactorsHeld}
-use Rattle.product_reduce.specs.Joining.{exponent_of, is_partner, joint}
-use Rattle.product_reduce.specs.Neighbours.{IsPairAt, joined_pair}
 use Rattle.product_reduce.proofs.HeldPairs.{neighbours_held}
-use Rattle.product_reduce.proofs.Neighbours.{partners_of_pair}
 use Rattle.sum_reduce.proofs.CollectedExponents.{whole_number}
-use Rattle.tree_bits.specs.Children.{IsSumHeld, addends_of_each}
-use Rattle.tree_bits.specs.Exponents.{Counts, counts, counts_of, counts_of_all, is_counted}
-use Rattle.tree_bits.specs.HeldTrees.{IsPartHeld, factor_held}
-use Rattle.tree_bits.specs.HeldTrees as part
 use Rattle.tree_bits.specs.Joined.{IsJoint}
-use Rattle.tree_bits.proofs.Children.{trees_together}
-use Rattle.tree_bits.proofs.Joined.{factors_joined, factor_left_out}
-use Rattle.tree_bits.proofs.Numbers.{exponents_within}
-use Rattle.tree_bits.proofs.Sums.{one_counts}
-use Rattle.tree_handles.specs.Expressions.{nth, inserted}
+use Rattle.tree_bits.specs.HeldTrees as part
 
 clash : {A : Type 0} → true ≡ false → A
 clash e = absurd cc

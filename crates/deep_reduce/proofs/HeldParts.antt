@@ -1,26 +1,9 @@
 -- A power as a factor: what holds it holds its answer, and within few bits it fits.
 use Rattle.std.proofs.Common.{◌||◌, ◌≡◌, ℕ, suc, ◌+◌, ◌*◌, ◌≤◌, ℤ, pos, negsuc, Bool, true, false, ◌==◌, Option, Some, None, Result, Ok, Err, refl, sym, ap, ◌∙◌, subst, arith}
 use Rattle.std.specs.Prelude.{IfErr, IsOk, nat_abs}
-use Rattle.std.proofs.lemmas.Bool.{eqb-true}
-use Rattle.std.proofs.lemmas.Nat.{mul-le}
-use Rattle.calc_terms.specs.Fractions.{whole_fraction}
-use Rattle.calc_terms.proofs.FractionFacts.{whole_numerator}
-use Rattle.calc_terms.specs.Trees.{Tree, num, power, none, more, is_undef}
-use Rattle.calc_algebra.specs.Reduced.{is_reduced, is_half_num, is_whole_num}
-use Rattle.deep_reduce.specs.Answers.{IsReducedPower, lacks_power}
-use Rattle.deep_reduce.specs.Bits.{HasFewBits}
+use Rattle.deep_reduce.proofs.Shared.{eqb-true, mul-le, whole_fraction, whole_numerator, Tree, num, power, none, more, is_undef, is_reduced, is_half_num, is_whole_num, IsReducedPower, lacks_power, HasFewBits, HasFewBitsRaised, has_number_power, is_zero_or_one, rewritten, IsFactorHeld, whole_of, counts, multiple, counts_of, is_counted, power_high, power_low, IsPartHeld, factor_held, raised_high, raised_low, OfOverflow, NumberFault}
 use Rattle.deep_reduce.proofs.HeldFactors.{factor_wider, power_factor, base_factor}
 use Rattle.deep_reduce.proofs.Wholes.{is_rewritten}
-use Rattle.power_reduce.specs.Bits.{HasFewBitsRaised}
-use Rattle.power_reduce.specs.PowerAnswers.{has_number_power}
-use Rattle.power_reduce.specs.PowerSteps.{is_zero_or_one, rewritten}
-use Rattle.product_reduce.specs.Bits.{IsFactorHeld}
-use Rattle.sum_reduce.proofs.CollectedExponents.{whole_of}
-use Rattle.tree_bits.specs.Exponents.{counts, multiple, counts_of, is_counted}
-use Rattle.tree_bits.specs.HeldTrees.{power_high, power_low, IsPartHeld, factor_held}
-use Rattle.tree_bits.specs.Powers.{raised_high, raised_low}
-use Rattle.tree_handles.specs.Faults.{OfOverflow}
-use Rattle.tree_handles.specs.declared.fault.NumberFault.{NumberFault}
 
 clash : {A : Type 0} → true ≡ false → A
 clash e = absurd cc

@@ -1,33 +1,13 @@
 -- Powers are held by the bits of their bases, also those that are rewritten.
 use Rattle.std.proofs.Common.{neg_ℤ, ◌||◌, ◌≡◌, ℕ, zero, suc, ◌+◌, ◌*◌, ◌≤◌, inr, ℤ, pos, negsuc, Bool, true, false, not, Some, refl, sym, ap, ◌∙◌, subst, arith}
 use Rattle.std.specs.Prelude.{◌/◌}
-use Rattle.std.proofs.lemmas.Nat.{mul-le}
-use Rattle.calc_terms.specs.Fractions.{Fraction, whole_fraction}
-use Rattle.calc_terms.proofs.FractionFacts.{whole_numerator}
-use Rattle.calc_terms.specs.Trees.{Tree, num, mult, power, root, Trees, none, more, is_mult, is_undef, has_undef}
-use Rattle.calc_algebra.specs.Numbers.{is_number}
-use Rattle.calc_algebra.specs.Reduced.{is_reduced, num_one}
-use Rattle.deep_reduce.specs.Answers.{IsReducedProduct, IsReducedPower}
-use Rattle.deep_reduce.specs.Bits.{IsCountedWithin}
-use Rattle.deep_reduce.specs.Rooms.{IsRewritten}
-use Rattle.deep_reduce.specs.Unfinished.{AreReducedPowers, IsLifted, IsMultiplied, IsProductOfPowers}
+use Rattle.deep_reduce.proofs.Shared.{mul-le, Fraction, whole_fraction, whole_numerator, Tree, num, mult, power, root, Trees, none, more, is_mult, is_undef, has_undef, is_number, is_reduced, num_one, IsReducedProduct, IsReducedPower, IsCountedWithin, IsRewritten, AreReducedPowers, IsLifted, IsMultiplied, IsProductOfPowers, IsHeldAsPowerOf, base_in, exponent_in, half, parts_of, raised, rewritten_whole, as_whole, whole_no_half, chosen, IsFactorHeld, AreFactorsHeld, none_held, Counts, counts, multiple, counts_of, is_counted, power_high, power_low, IsPartHeld, factor_held, IsBaseHeld, tree_held, IsFactorPower, raised_high, raised_low, single_part, tree_as_base, one_counts, children_of}
 use Rattle.deep_reduce.proofs.Heavy.{base_reduced}
 use Rattle.deep_reduce.proofs.HeldFactors.{parts_each, factor_wider, factor_power, base_factor, EachHeld, more_each}
 use Rattle.deep_reduce.proofs.Rewritten.{IsByWay, of_root, of_power, of_product, by_way}
-use Rattle.power_reduce.specs.Bits.{IsHeldAsPowerOf}
-use Rattle.power_reduce.specs.PowerAnswers.{base_in, exponent_in}
-use Rattle.power_reduce.specs.PowerSteps.{half, parts_of, raised, rewritten_whole}
-use Rattle.power_reduce.proofs.Exponents.{as_whole, whole_no_half}
-use Rattle.power_reduce.proofs.Rules.{chosen}
-use Rattle.product_reduce.specs.Bits.{IsFactorHeld, AreFactorsHeld, none_held, factor_held as factors_held}
-use Rattle.tree_bits.specs.Exponents.{Counts, counts, multiple, counts_of, is_counted}
-use Rattle.tree_bits.specs.HeldTrees.{power_high, power_low, IsPartHeld, factor_held, IsBaseHeld, root_held, tree_held}
-use Rattle.tree_bits.specs.Powers.{IsFactorPower, raised_high, raised_low}
-use Rattle.product_reduce.proofs.HeldFactors.{single_part}
-use Rattle.tree_bits.proofs.Factors.{tree_as_base}
-use Rattle.tree_bits.proofs.Sums.{one_counts}
+use Rattle.product_reduce.specs.Bits.{factor_held as factors_held}
+use Rattle.tree_bits.specs.HeldTrees.{root_held}
 use Rattle.tree_bits.proofs.Powers.{part_raised, part_turned}
-use Rattle.tree_handles.specs.Expressions.{children_of}
 use Rattle.deep_reduce.proofs.HeldParts.{raised_most, raised_both, counted_exponent, part_answer}
 
 clash : {A : Type 0} → true ≡ false → A

@@ -1,41 +1,12 @@
 -- Roots, and powers with half of an odd number as the exponent, are held by the bits of their bases.
 use Rattle.std.proofs.Common.{◌≡◌, ◌≢◌, ℕ, zero, suc, ◌*◌, ◌^◌, ◌≤◌, ◌<◌, [], ◌∷◌, length, ℤ, Bool, true, false, ◌&&◌, ◌==◌, Result, Ok, Err, refl, sym, ap, ◌∙◌, subst, arith}
 use Rattle.std.specs.Prelude.{IfOk}
-use Rattle.std.proofs.lemmas.Bool.{and_parts, eqb-true}
-use Rattle.std.proofs.lemmas.Nat.{mul-le}
-use Rattle.calc_terms.specs.Fractions.{Fraction, zero_fraction, whole_fraction}
-use Rattle.calc_terms.specs.Integers.{int_is_negative}
-use Rattle.calc_terms.specs.Trees.{Tree, num, undef, add, mult, root, none, more, is_num, is_undef}
-use Rattle.calc_algebra.specs.Numbers.{IsNumber, IsRadicand, is_number, value, natural_of, terms_of, term_of}
-use Rattle.calc_algebra.specs.Reduced.{is_reduced, is_half_num}
-use Rattle.calc_algebra.specs.Surds.{Term, Surd}
-use Rattle.calc_algebra.proofs.NumberClasses.{one_not_zero}
-use Rattle.calc_algebra.proofs.NumberLaws.{number_words, number_test}
-use Rattle.calc_bits.specs.Denominators.{Parts, magnitude_over}
-use Rattle.calc_bits.specs.Masses.{mass, IsHeld}
+use Rattle.deep_reduce.proofs.Shared.{and_parts, eqb-true, mul-le, Fraction, zero_fraction, whole_fraction, int_is_negative, Tree, num, undef, add, mult, root, none, more, is_num, is_undef, IsNumber, IsRadicand, is_number, value, natural_of, terms_of, term_of, is_reduced, is_half_num, Term, Surd, one_not_zero, number_words, number_test, Parts, magnitude_over, mass, IsHeld, reduced_parts, HasFewBits, IsHeldAsRootPower, numerator, IsHeldAsPowerOf, has_no_power, has_number_power, IsPowerAnswer, IsPowerMisfit, whole_no_half, whole_is, IsFactorHeld, value_held, number_as_factor, IfRational, IsRootAnswer, has_no_root, HasWideRoot, IsOverflow, Overflow, OfOverflow, NumberFault, IsNoLargerThanRoot, factor_is_held, root_is_held}
 use Rattle.calc_bits.proofs.Parts.{term_held}
-use Rattle.coefficients.proofs.Forms.{reduced_parts}
-use Rattle.calc_bits.specs.Bounds as few
-use Rattle.deep_reduce.specs.Bits.{HasFewBits, IsHeldAsRootPower}
 use Rattle.deep_reduce.proofs.HeldFactors.{tree_high, factor_tree}
-use Rattle.number_forms.specs.Readers.{numerator}
-use Rattle.power_reduce.specs.Bits.{IsHeldAsPowerOf}
-use Rattle.power_reduce.specs.PowerAnswers.{has_no_power, has_number_power, IsPowerAnswer}
-use Rattle.power_reduce.specs.Misfits.{IsPowerMisfit}
-use Rattle.power_reduce.proofs.Exponents.{whole_no_half}
-use Rattle.power_reduce.proofs.Whole.{whole_is}
-use Rattle.product_reduce.specs.Bits.{IsFactorHeld}
-use Rattle.product_reduce.proofs.HeldNumbers.{value_held, number_as_factor}
-use Rattle.radical_forms.specs.RootAnswers.{IfRational, IsRootAnswer, has_no_root}
-use Rattle.radical_forms.specs.Refusals.{HasWideRoot, IsOverflow}
-use Rattle.rational128.specs.declared.overflow.Overflow.{Overflow}
-use Rattle.tree_handles.specs.Faults.{OfOverflow}
-use Rattle.tree_handles.specs.declared.fault.NumberFault.{NumberFault}
-use Rattle.tree_handles.specs.declared.fault.NumberFault.TheVariants as fault
-use Rattle.surd_bits.specs.Rooted.{IsNoLargerThanRoot}
 use Rattle.surd_bits.proofs.Bounds.{magnitude_positive}
-use Rattle.tree_bits.proofs.Factors.{factor_is_held}
-use Rattle.tree_bits.proofs.Sums.{root_is_held}
+use Rattle.calc_bits.specs.Bounds as few
+use Rattle.tree_handles.specs.declared.fault.NumberFault.TheVariants as fault
 
 clash : {A : Type 0} → true ≡ false → A
 clash e = absurd cc

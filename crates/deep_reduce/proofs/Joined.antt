@@ -1,18 +1,8 @@
 -- Factors of reduced trees before and after a joining: their loads and nests.
 use Rattle.std.proofs.Common.{◌≡◌, ℕ, zero, suc, ◌+◌, ◌≤◌, Bool, true, false, not, ◌&&◌, refl, ap, ◌∙◌, arith}
-use Rattle.std.proofs.lemmas.Bool.{and_parts}
-use Rattle.calc_measures.specs.Loads.{nest_of, weight, load_of_factor, load_of_factors}
-use Rattle.calc_algebra.specs.Numbers.{is_number, IsNumber, are_numbers}
-use Rattle.calc_algebra.specs.Reduced.{base_of, are_reduced}
-use Rattle.calc_terms.specs.Trees.{Tree, num, mult, root, Trees, none, more, append, is_mult}
-use Rattle.calc_algebra.proofs.NumberLaws.{number_test, number_words}
-use Rattle.coefficients.specs.Coefficients.{factors_of}
-use Rattle.deep_reduce.specs.Unfinished.{nest_of_joint}
+use Rattle.deep_reduce.proofs.Shared.{and_parts, nest_of, weight, load_of_factor, load_of_factors, is_number, IsNumber, are_numbers, base_of, are_reduced, Tree, num, mult, root, Trees, none, more, append, is_mult, number_test, number_words, factors_of, nest_of_joint, opened, others_in, exponent_of, is_partner, is_single, IsPairAt, joined_pair}
 use Rattle.deep_reduce.proofs.Heavy.{heavy_base}
 use Rattle.deep_reduce.proofs.Joints.{same_base, transparent_exponent, joint_load, joint_nest, joint_below}
-use Rattle.product_reduce.specs.Factors.{opened, others_in}
-use Rattle.product_reduce.specs.Joining.{exponent_of, is_partner}
-use Rattle.product_reduce.specs.Neighbours.{is_single, IsPairAt, joined_pair}
 
 -- ---- factors opened, without their Numbers
 

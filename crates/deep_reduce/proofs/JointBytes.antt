@@ -1,35 +1,12 @@
 -- How many bytes suffice where two factors of a product are joined and their joint is reduced.
 use Rattle.std.proofs.Common.{◌≡◌, ℕ, zero, suc, ◌+◌, ◌*◌, ◌^◌, ◌≤◌, ◌<◌, List, length, inl, inr, Bool, true, false, not, ◌&&◌, if◌then◌else◌, refl, sym, ap, ◌∙◌, subst, arith}
 use Rattle.std.specs.Prelude.{◌-◌, max}
-use Rattle.std.proofs.lemmas.Bool.{and_parts, eqb-true}
-use Rattle.std.proofs.lemmas.Nat.{pow_pos}
-use Rattle.calc_algebra.specs.Numbers.{is_number}
-use Rattle.calc_algebra.specs.Reduced.{is_reduced, are_reduced, is_opaque_exponent, is_whole_num, base_of}
-use Rattle.calc_algebra.proofs.NumberLaws.{number_words}
-use Rattle.calc_algebra.proofs.ReducedLaws.{reduced_words}
-use Rattle.calc_room.specs.Counts.{counted, counted_among}
-use Rattle.calc_room.specs.Spans.{SpansRoot, SpansTree, SpansTrees}
-use Rattle.calc_room.proofs.NumberBytes.{number_bytes}
+use Rattle.deep_reduce.proofs.Shared.{and_parts, eqb-true, pow_pos, is_number, is_reduced, are_reduced, is_opaque_exponent, is_whole_num, base_of, number_words, reduced_words, counted, counted_among, SpansRoot, SpansTree, SpansTrees, number_bytes, tree_bytes, counted_number, counted_other, Tree, num, mult, power, Trees, none, more, count, is_mult, size, sizes, reduced_parts, IsJoinedFrom, whole_power_room, removed, base_in, exponent_of, joint, is_single, joined_pair, nth, exponent_count, numbers_among, product_count, sum_count, sum_room, product_room, power_room, product_power_room, counts_one, product_bytes, scaled, exponents_added}
 use Rattle.calc_room.proofs.NumberSpans.{value_spanned}
-use Rattle.calc_room.proofs.TreeBytes.{tree_bytes, counted_number, counted_other}
-use Rattle.calc_terms.specs.Trees.{Tree, num, mult, power, Trees, none, more, count, is_mult, size, sizes}
-use Rattle.coefficients.proofs.Forms.{reduced_parts}
-use Rattle.deep_reduce.specs.Rooms.{IsJoinedFrom, whole_power_room}
 use Rattle.deep_reduce.proofs.Calm.{all_nth, all_removed, all_base}
 use Rattle.deep_reduce.proofs.JointCounts.{joint_count, pair_joined_count, sizes_removed, numbers_one, numbers_other}
 use Rattle.deep_reduce.proofs.JointRooms.{joined_spans}
 use Rattle.deep_reduce.proofs.Settled.{IsJoint, joint_at, pair_joined}
-use Rattle.number_forms.specs.Sums.{removed}
-use Rattle.power_reduce.specs.PowerAnswers.{base_in}
-use Rattle.product_reduce.specs.Joining.{exponent_of, joint}
-use Rattle.product_reduce.specs.Neighbours.{is_single, joined_pair}
-use Rattle.tree_handles.specs.Expressions.{nth}
-use Rattle.tree_room.specs.Handed.{exponent_count, numbers_among, product_count, sum_count}
-use Rattle.tree_room.specs.Needs.{sum_room, product_room, power_room, product_power_room}
-use Rattle.tree_room.proofs.Counts.{counts_one}
-use Rattle.tree_room.proofs.Handed.{product_bytes}
-use Rattle.tree_room.proofs.Multiples.{scaled}
-use Rattle.tree_room.proofs.PowerCounts.{exponents_added}
 
 -- ---- the other factors
 

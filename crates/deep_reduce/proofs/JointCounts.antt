@@ -1,21 +1,8 @@
 -- What counts in a product while two of its factors are joined and their joint is reduced, and how many bytes stand beside it.
 use Rattle.std.proofs.Common.{◌≡◌, ℕ, zero, suc, ◌+◌, ◌*◌, ◌≤◌, ◌<◌, Bool, true, false, not, ◌&&◌, if◌then◌else◌, refl, sym, ap, ◌∙◌, arith}
-use Rattle.std.proofs.lemmas.Bool.{and_parts}
-use Rattle.calc_algebra.specs.Numbers.{is_number}
-use Rattle.calc_algebra.specs.Reduced.{is_opaque_exponent, num_one, base_of}
-use Rattle.calc_room.specs.Counts.{counted, counted_among}
-use Rattle.calc_room.proofs.TreeBytes.{counted_number, counted_other}
-use Rattle.calc_terms.specs.Trees.{Tree, add, power, Trees, none, more, count, size, sizes}
-use Rattle.deep_reduce.specs.Unfinished.{replaced}
+use Rattle.deep_reduce.proofs.Shared.{and_parts, is_number, is_opaque_exponent, num_one, base_of, counted, counted_among, counted_number, counted_other, Tree, add, power, Trees, none, more, count, size, sizes, replaced, removed, exponent_of, is_partner, joint, is_single, IsPairAt, joined_pair, nth, exponent_count, numbers_among, product_count, counts_one, power_counts}
 use Rattle.deep_reduce.proofs.Calm.{one_whole}
 use Rattle.deep_reduce.proofs.Joints.{same_base}
-use Rattle.number_forms.specs.Sums.{removed}
-use Rattle.product_reduce.specs.Joining.{exponent_of, is_partner, joint}
-use Rattle.product_reduce.specs.Neighbours.{is_single, IsPairAt, joined_pair}
-use Rattle.tree_handles.specs.Expressions.{nth}
-use Rattle.tree_room.specs.Handed.{exponent_count, numbers_among, product_count}
-use Rattle.tree_room.proofs.Counts.{counts_one}
-use Rattle.tree_room.proofs.PowerCounts.{power_counts}
 
 -- ---- among factors
 

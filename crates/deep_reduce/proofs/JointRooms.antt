@@ -1,26 +1,8 @@
 -- Two factors joined, and their joint reduced: what counts, what is calm and spanned, and how many bytes suffice.
 use Rattle.std.proofs.Common.{◌≡◌, ℕ, suc, ◌+◌, ◌*◌, ◌≤◌, ◌<◌, List, Bool, true, false, not, ◌&&◌, if◌then◌else◌, refl, sym, ap, subst, arith}
-use Rattle.calc_algebra.specs.Numbers.{is_number}
-use Rattle.calc_algebra.specs.Reduced.{is_whole_num}
-use Rattle.calc_algebra.proofs.NumberLaws.{number_test}
-use Rattle.calc_room.specs.Counts.{counted, counted_among}
-use Rattle.calc_room.specs.Powers.{HasPowersOf}
-use Rattle.calc_room.specs.Spans.{SpansRoot, SpansTree, SpansTrees}
-use Rattle.calc_terms.specs.Trees.{Tree, num, add, mult, power, Trees, none, more, count, is_mult}
-use Rattle.deep_reduce.specs.Rooms.{IsCalmAtZero, KeepsRoom, KeepsSumRoom, whole_power_count, power_count}
-use Rattle.deep_reduce.specs.Unfinished.{replaced, HandsOn}
+use Rattle.deep_reduce.proofs.Shared.{is_number, is_whole_num, number_test, counted, counted_among, HasPowersOf, SpansRoot, SpansTree, SpansTrees, Tree, num, add, mult, power, Trees, none, more, count, is_mult, IsCalmAtZero, KeepsRoom, KeepsSumRoom, whole_power_count, power_count, replaced, HandsOn, removed, AreFactorsHeld, joint, IsPairAt, joined_pair, IsSumAnswer, nth, children_of, HasCalmExponent, IsCalm, zeros, exponent_count, numbers_among, product_count, parts_calm, counts_one}
 use Rattle.deep_reduce.proofs.Calm.{all_nth, all_replaced, all_base, all_exponent, all_joined, calm_children, calm_product, joint_calm, whole_kept, whole_of_number}
 use Rattle.deep_reduce.proofs.JointCounts.{joint_count, pair_counts, pair_joined_count, replaced_count_is}
-use Rattle.number_forms.specs.Sums.{removed}
-use Rattle.product_reduce.specs.Bits.{AreFactorsHeld}
-use Rattle.product_reduce.specs.Joining.{joint}
-use Rattle.product_reduce.specs.Neighbours.{IsPairAt, joined_pair}
-use Rattle.sum_reduce.specs.SumAnswers.{IsSumAnswer}
-use Rattle.tree_handles.specs.Expressions.{nth, children_of}
-use Rattle.tree_room.specs.Exponents.{HasCalmExponent, IsCalm, zeros}
-use Rattle.tree_room.specs.Handed.{exponent_count, numbers_among, product_count}
-use Rattle.tree_room.proofs.Calm.{parts_calm}
-use Rattle.tree_room.proofs.Counts.{counts_one}
 use Rattle.tree_room.proofs.PowerCounts.{joined}
 
 -- ---- from tree to tree

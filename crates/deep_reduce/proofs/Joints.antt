@@ -1,24 +1,14 @@
 -- The joint of two factors: how it nests, and that it is never opaque.
 use Rattle.std.proofs.Common.{◌≡◌, suc, ◌≤◌, inl, inr, Bool, true, false, ◌&&◌, not, if◌then◌else◌, length, pos, refl, sym, ap, ◌∙◌, subst, arith}
 use Rattle.std.specs.Prelude.{max}
+use Rattle.deep_reduce.proofs.Shared.{and_parts, one_fraction, nest, nest_of, weight, load_of_factor, is_number, IsNumber, IsTerm, AreTerms, is_term, terms_of, term_of, Rises, are_numbers, is_reduced, is_opaque_exponent, is_whole_num, num_one, base_of, IsSumForm, NoneIs, number_terms, other_terms, Tree, num, symbol, undef, add, mult, power, root, neg, sub, div, Trees, none, more, is_add, HasTwo, whole_denominator, number_test, number_words, term_words, reduced_parts, number_of_term, nest_over, nest_of_joint, exponent_of, is_partner, joint}
 use Rattle.std.specs.Ordering.{is_eq}
 use Rattle.std.specs.declared.cmp.Ordering.{Ordering}
 use Rattle.std.specs.declared.cmp.Ordering.TheVariants.{Less, Equal, Greater}
-use Rattle.std.proofs.lemmas.Bool.{and_parts}
-use Rattle.calc_terms.specs.Fractions.{one_fraction}
-use Rattle.calc_measures.specs.Loads.{nest, nest_of, weight, load_of_factor}
-use Rattle.calc_algebra.specs.Numbers.{is_number, IsNumber, IsTerm, AreTerms, is_term, terms_of, term_of, Rises, are_numbers}
-use Rattle.calc_algebra.specs.Reduced.{is_reduced, is_opaque_exponent, is_whole_num, num_one, base_of, IsSumForm, NoneIs, number_terms, other_terms}
 use Rattle.calc_algebra.specs.TreeOrder.{tree_cmp}
-use Rattle.calc_terms.specs.Trees.{Tree, num, symbol, undef, add, mult, power, root, neg, sub, div, Trees, none, more, is_add, HasTwo}
-use Rattle.calc_terms.proofs.FractionFacts.{whole_denominator}
-use Rattle.calc_algebra.proofs.NumberLaws.{number_test, number_words, term_words}
 use Rattle.calc_algebra.proofs.TreeOrderLaws.{tree_cmp_equal}
-use Rattle.coefficients.proofs.Forms.{reduced_parts, number_of_term}
-use Rattle.deep_reduce.specs.Unfinished.{nest_over, nest_of_joint}
 use Rattle.deep_reduce.proofs.Heavy.{exponent_reduced}
 use Rattle.deep_reduce.proofs.Nests.{to_number, to_other, base_nest, over_base, over_exponents}
-use Rattle.product_reduce.specs.Joining.{exponent_of, is_partner, joint}
 
 pub same_base : (t u : Tree) → is_partner t u ≡ true → base_of t ≡ base_of u
 same_base t u h = tree_cmp_equal (base_of t) (base_of u) (equal (tree_cmp (base_of t) (base_of u)) h)

@@ -1,18 +1,8 @@
 -- Where a call inside of another one finds no bytes, the outer one has fewer than it needs.
 use Rattle.std.proofs.Common.{◌≡◌, ℕ, ℤ, suc, ◌+◌, ◌^◌, ◌≤◌, ◌<◌, List, length, Bool, true, false, not, ◌&&◌, if◌then◌else◌, Result, Ok, Err, refl, sym, ap, ◌∙◌, subst, arith}
 use Rattle.std.specs.Prelude.{IfErr, IsOk}
-use Rattle.calc_algebra.specs.Numbers.{is_number}
-use Rattle.calc_algebra.specs.Reduced.{is_reduced, is_whole_num, is_half_num, base_of}
-use Rattle.calc_room.specs.Counts.{counted}
-use Rattle.calc_room.specs.Spans.{SpansRoot, SpansTree, SpansTrees}
-use Rattle.calc_terms.specs.Fractions.{whole_fraction}
-use Rattle.calc_terms.specs.Trees.{Tree, num, add, mult, power, root, Trees, none, more, append, is_mult, size, sizes}
-use Rattle.calc_terms.specs.declared.kind.Kind.TheVariants as kind
+use Rattle.deep_reduce.proofs.Shared.{is_number, is_reduced, is_whole_num, is_half_num, base_of, counted, SpansRoot, SpansTree, SpansTrees, whole_fraction, Tree, num, add, mult, power, root, Trees, none, more, append, is_mult, size, sizes, IsOver, IsReducedProduct, IsCalmAtZero, IsJoinedFrom, IsRewritten, whole_power_room, HandsOn, IsSummed, AreReducedPowers, IsLifted, IsMultiplied, IsProductOfPowers, State, free_of, LacksBelow, full_as, refusal_as, base_in, exponent_in, parts_of, raised, LacksStep, parts_span, whole_is, exponent_of, joint, nth, children_of, Forest, empty, bytes_in, kids, root_tree, put, Stands, forest, KeepsRefusals, NumberFault, used_forest, sizes-plains, HasCalmExponent, IsCalm, AreCalm, zeros, product_count, sum_count, sum_room, product_room, power_step_room, power_room, product_power_room, whole_number, scaled}
 use Rattle.coefficients.proofs.Bytes.{bytes_put}
-use Rattle.tree_handles.proofs.Over.{IsOver}
-use Rattle.deep_reduce.specs.Answers.{IsReducedProduct}
-use Rattle.deep_reduce.specs.Rooms.{IsCalmAtZero, IsJoinedFrom, IsRewritten, whole_power_room}
-use Rattle.deep_reduce.specs.Unfinished.{HandsOn, IsSummed, AreReducedPowers, IsLifted, IsMultiplied, IsProductOfPowers}
 use Rattle.deep_reduce.proofs.Children.{IsPlaced}
 use Rattle.deep_reduce.proofs.Rows.{IsNext}
 use Rattle.deep_reduce.proofs.JointRooms.{joined_calm, joined_spans, summed_calm, summed_spans}
@@ -20,27 +10,7 @@ use Rattle.deep_reduce.proofs.Calm.{all_nth, calm_exponent, calm_no_half, calm_p
 use Rattle.deep_reduce.proofs.JointBytes.{IsJoining, joining, exponents_lack as sum_lacks, power_lacks as joint_power_lacks, split_bytes}
 use Rattle.deep_reduce.proofs.PowerBytes.{argument_needs, inner_needs, exponents_lack, part_lacks, product_lacks, IsSplitAt, split_at, all_first, sizes_append}
 use Rattle.deep_reduce.proofs.Rewritten.{IsByWay, of_root, of_power, of_product, by_way, parts_calm, parts_single, powers_raised, exponents_calm, exponents_span, raised_calm}
-use Rattle.node_pool.specs.State.{State, free_of}
-use Rattle.tree_handles.specs.Lacking.{LacksBelow}
-use Rattle.number_forms.proofs.Rooms.{full_as, refusal_as}
-use Rattle.power_reduce.specs.PowerAnswers.{base_in, exponent_in}
-use Rattle.power_reduce.specs.PowerSteps.{parts_of, raised}
-use Rattle.power_reduce.specs.Rooms.{LacksStep}
-use Rattle.power_reduce.proofs.Spanned.{parts_span}
-use Rattle.power_reduce.proofs.Whole.{whole_is}
-use Rattle.product_reduce.specs.Joining.{exponent_of, joint}
-use Rattle.tree_handles.specs.Expressions.{nth, children_of}
-use Rattle.tree_handles.specs.Forest.{Forest, empty, bytes_in, kids}
-use Rattle.tree_handles.specs.Roots.{root_tree, put}
-use Rattle.tree_handles.specs.Standing.{Stands, forest, KeepsRefusals}
-use Rattle.tree_handles.specs.declared.fault.NumberFault.{NumberFault}
-use Rattle.tree_handles.proofs.Places.{used_forest}
-use Rattle.tree_handles.proofs.Plains.{sizes-plains}
-use Rattle.tree_room.specs.Exponents.{HasCalmExponent, IsCalm, AreCalm, zeros}
-use Rattle.tree_room.specs.Handed.{product_count, sum_count}
-use Rattle.tree_room.specs.Needs.{sum_room, product_room, power_step_room, power_room, product_power_room}
-use Rattle.tree_room.proofs.Calm.{whole_number}
-use Rattle.tree_room.proofs.Multiples.{scaled}
+use Rattle.calc_terms.specs.declared.kind.Kind.TheVariants as kind
 
 -- ---- refusals
 

@@ -59,3 +59,4 @@ pub mod HeldFits
 pub mod NodeBits
 pub mod TreeBits
 pub mod BitsBeyond
+pub mod Shared

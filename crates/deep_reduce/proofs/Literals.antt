@@ -1,19 +1,6 @@
 -- Exponents that are written as a whole number or as half of an odd one are reduced to that number.
 use Rattle.std.proofs.Common.{◌≡◌, ℕ, zero, suc, ℤ, pos, neg_ℤ, ◌*ℤ◌, [], Bool, true, false, ◌&&◌, ◌==◌, not, if◌then◌else◌, Option, Some, None, refl, sym, ap, ◌∙◌, subst, arith}
-use Rattle.std.proofs.lemmas.Bool.{and_parts, eqb-true}
-use Rattle.std.proofs.lemmas.Int.{ints}
-use Rattle.calc_algebra.specs.Reduced.{is_half_num}
-use Rattle.calc_algebra.proofs.HalfLaws.{half_of, half_of_is}
-use Rattle.calc_measures.specs.Literals.{whole_literal, whole_value, half_literal, half_value, half_quotient, int_is_two, is_half_literal, is_some, opposite}
-use Rattle.calc_measures.specs.PlainTrees.{IsPlainAnswer}
-use Rattle.calc_measures.specs.PlainValues.{PlainValue, exactly, undefined, overflow, nothing, calculated, plain_value, divided, gather, values, on_one}
-use Rattle.calc_terms.specs.Fits.{mul_op, result_of, operation_fits}
-use Rattle.calc_terms.specs.Fractions.{Fraction, lowest, times, negative, inverse, inverse_of, whole_fraction, lowest_parts, times_lowest}
-use Rattle.calc_terms.specs.Integers.{int_is_even, int_is_zero}
-use Rattle.calc_terms.specs.Trees.{Tree, num, neg, div}
-use Rattle.number_forms.specs.Readers.{numerator}
-use Rattle.rational128.proofs.Reciprocals.{negative_parts}
-use Rattle.sum_reduce.proofs.CollectedExponents.{whole_of}
+use Rattle.deep_reduce.proofs.Shared.{and_parts, eqb-true, ints, is_half_num, half_of, half_of_is, whole_literal, whole_value, half_literal, half_value, half_quotient, int_is_two, is_half_literal, is_some, opposite, IsPlainAnswer, PlainValue, exactly, undefined, overflow, nothing, calculated, plain_value, divided, gather, values, on_one, mul_op, result_of, operation_fits, Fraction, lowest, times, negative, inverse, inverse_of, whole_fraction, lowest_parts, times_lowest, int_is_even, int_is_zero, Tree, num, neg, div, numerator, negative_parts, whole_of}
 
 chosen : (b : Bool) (m n : ℤ) → (if b then Some m else None) ≡ Some n → (b ≡ true) × (m ≡ n)
 chosen true m n e = (refl, value_in e)

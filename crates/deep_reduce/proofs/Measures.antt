@@ -1,23 +1,10 @@
 -- What falls from call to call.
 use Rattle.std.proofs.Common.{◌≡◌, ℕ, ◌+◌, ◌-◌, ◌*◌, ◌≤◌, ◌<◌, Bool, true, false, refl, ap, arith}
-use Rattle.calc_measures.specs.Loads.{nest, nest_of, weight, load_of_factors}
-use Rattle.calc_terms.specs.Trees.{Tree, mult, Trees, nodes, is_mult}
-use Rattle.deep_reduce.specs.Unfinished.{nest_over, nest_of_joint, nest_of_rewritten, weight_of_bases, weight_below}
+use Rattle.deep_reduce.proofs.Shared.{nest, nest_of, weight, load_of_factors, Tree, mult, Trees, nodes, is_mult, nest_over, nest_of_joint, nest_of_rewritten, weight_of_bases, weight_below, State, base_in, are_numbers, tree_of, IsHanded, children_of, nth, nodes_in, root_tree, Stands, forest, tree_of_root, nodes-plain, root_arity}
 use Rattle.deep_reduce.proofs.Counts.{loads_few}
 use Rattle.deep_reduce.proofs.Nests.{over_exponents, numbers_nest, numbers_load}
 use Rattle.deep_reduce.proofs.Ranks.{rank, rank_first, rank_second}
-use Rattle.node_pool.specs.State.{State}
-use Rattle.power_reduce.specs.PowerAnswers.{base_in}
-use Rattle.calc_algebra.specs.Numbers.{are_numbers}
-use Rattle.tree_handles.specs.Handed.{tree_of, IsHanded}
-use Rattle.tree_handles.specs.Expressions.{children_of, nth}
-use Rattle.tree_handles.specs.Forest.{nodes_in}
-use Rattle.tree_handles.specs.Roots.{root_tree}
-use Rattle.tree_handles.specs.Standing.{Stands, forest}
-use Rattle.tree_handles.proofs.Lasts.{tree_of_root}
 use Rattle.tree_handles.proofs.Measures.{few_in}
-use Rattle.tree_handles.proofs.Plains.{nodes-plain}
-use Rattle.tree_handles.proofs.Roots.{root_arity}
 
 -- Nest first, and then the load of a product, the weight of a power's base, and what is above these
 abbrev pub of_product : Tree → ℕ

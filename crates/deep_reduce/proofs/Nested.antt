@@ -1,18 +1,8 @@
 -- A power whose exponent may be a product.
 use Rattle.std.proofs.Common.{◌≡◌, ℕ, ◌<◌, ◌+◌, ◌*◌, true, false, refl, sym, ap, ◌∙◌, subst}
-use Rattle.calc_terms.specs.declared.kind.Kind.{Kind}
-use Rattle.calc_measures.specs.Loads.{nest_of, weight, load_of_factors}
-use Rattle.calc_terms.specs.Trees.{Tree, mult, power, root_kind, is_mult}
-use Rattle.tree_handles.proofs.Seen.{expression, seen}
-use Rattle.deep_reduce.specs.Unfinished.{nest_of_rewritten, weight_below, IsNested, IsUnfinished, IsMultiplied, IsLifted}
+use Rattle.deep_reduce.proofs.Shared.{Kind, nest_of, weight, load_of_factors, Tree, mult, power, root_kind, is_mult, expression, seen, nest_of_rewritten, weight_below, IsNested, IsUnfinished, IsMultiplied, IsLifted, State, base_in, exponent_in, tree_of, IsHanded, nth, plain, children_of, IsExpression, tree_at, Stands, forest}
 use Rattle.deep_reduce.proofs.Measures.{of_product, of_exponent, exponents_fall}
 use Rattle.deep_reduce.proofs.Ranks.{rank}
-use Rattle.node_pool.specs.State.{State}
-use Rattle.power_reduce.specs.PowerAnswers.{base_in, exponent_in}
-use Rattle.tree_handles.specs.Handed.{tree_of, IsHanded}
-use Rattle.tree_handles.specs.Expressions.{nth, plain, children_of, IsExpression}
-use Rattle.tree_handles.specs.Inside.{tree_at}
-use Rattle.tree_handles.specs.Standing.{Stands, forest}
 
 -- what is read of the exponent
 pub exponent_seen : {s : State} {i j k : ℕ} {x : Kind} → j ≡ i → Stands s → IsHanded i (forest s) → tree_of i s ≡ power (base_in (tree_of i s)) (exponent_in (tree_of i s))

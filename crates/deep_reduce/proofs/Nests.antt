@@ -1,12 +1,7 @@
 -- Nests, loads and weights of Numbers, and of powers whose exponent is reduced.
 use Rattle.std.proofs.Common.{◌≡◌, suc, ◌≤◌, ◌<◌, Bool, true, false, ◌&&◌, ◌||◌, if◌then◌else◌, refl, sym, arith}
 use Rattle.std.specs.Prelude.{max}
-use Rattle.std.proofs.lemmas.Bool.{and_parts}
-use Rattle.calc_measures.specs.Loads.{nest, nest_of, load, load_of_factors}
-use Rattle.calc_algebra.specs.Numbers.{is_number, are_numbers}
-use Rattle.calc_terms.specs.Trees.{Tree, mult, power, Trees, none, more}
-use Rattle.deep_reduce.specs.Unfinished.{nest_over}
-use Rattle.product_reduce.proofs.Bounds.{load_number}
+use Rattle.deep_reduce.proofs.Shared.{and_parts, nest, nest_of, load, load_of_factors, is_number, are_numbers, Tree, mult, power, Trees, none, more, nest_over, load_number}
 use Rattle.calc_measures.proofs.Nests.{nest_number}
 
 -- ---- Numbers

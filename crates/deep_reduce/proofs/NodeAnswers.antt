@@ -1,16 +1,11 @@
 -- The answer of a node over answered children is the answer of the whole tree.
 use Rattle.std.proofs.Common.{◌≡◌, true, false, inl, inr, refl, sym, subst}
-use Rattle.calc_algebra.specs.BadAndEasy.{IsBad, IsEasy}
-use Rattle.calc_terms.specs.Trees.{Tree, undef, Trees, none, more, is_undef, IsPart, IsPartOf, itself, in_add, in_mult, in_base, in_exponent, in_root, in_neg, in_left, in_right, in_dividend, in_divisor, first, later, has_undef}
-use Rattle.deep_reduce.specs.Nodes.{IsNodeAnswer}
-use Rattle.deep_reduce.specs.Reductions.{IsReducedFrom}
+use Rattle.deep_reduce.proofs.Shared.{IsBad, IsEasy, Tree, undef, Trees, none, more, is_undef, IsPart, IsPartOf, itself, in_add, in_mult, in_base, in_exponent, in_root, in_neg, in_left, in_right, in_dividend, in_divisor, first, later, has_undef, IsNodeAnswer, IsReducedFrom, reduces_after, children_of}
 use Rattle.deep_reduce.proofs.EasyNodes.{answered_easy, or_true, undef_test}
 use Rattle.deep_reduce.proofs.NodeRewrites.{AreReducedFrom, IsOver, over_sum, over_product, over_power, over_root, over_neg, over_sub, over_div, over_rewrites}
 use Rattle.deep_reduce.proofs.PlainNodes.{answered_plain, undef_has_no_value}
 use Rattle.deep_reduce.proofs.TreeBits.{node_held, node_leaf}
 use Rattle.deep_reduce.proofs.TreeRooms.{node_within}
-use Rattle.calc_algebra.proofs.Rewritings.{reduces_after}
-use Rattle.tree_handles.specs.Expressions.{children_of}
 
 -- ---- an Easy and Bad part in a child
 

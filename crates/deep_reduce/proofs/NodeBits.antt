@@ -1,47 +1,13 @@
 -- What holds a node over reduced children holds its answer.
 use Rattle.std.proofs.Common.{◌≡◌, ◌≢◌, ℕ, zero, suc, ◌+◌, ◌*◌, ◌^◌, ◌≤◌, [], ◌∷◌, ℤ, pos, negsuc, Bool, true, false, ◌||◌, if◌then◌else◌, Option, Some, None, Result, Ok, Err, refl, sym, ap, ◌∙◌, subst, arith}
-use Rattle.std.proofs.lemmas.Nat.{pow_pos, pow-add}
-use Rattle.std.proofs.Math.Nat.{pow-le-pow_right}
 use Rattle.std.specs.Prelude.{IfOk, IfErr, IsOk}
-use Rattle.calc_algebra.specs.Numbers.{is_number, value}
-use Rattle.calc_algebra.specs.Reduced.{is_half_num, is_whole_num, num_one}
-use Rattle.calc_algebra.specs.Surds.{Surd, surd_of}
-use Rattle.calc_algebra.proofs.NumberLaws.{number_test}
-use Rattle.calc_algebra.proofs.NumberClasses.{one_not_zero}
-use Rattle.calc_bits.specs.Masses.{IsHeld}
-use Rattle.calc_measures.specs.Measures.{HighLow}
-use Rattle.calc_terms.specs.Fractions.{Fraction, zero_fraction, one_fraction, minus_one_fraction, whole_fraction, is_zero_fraction}
-use Rattle.calc_terms.specs.Integers.{int_is_zero}
-use Rattle.calc_terms.proofs.FractionFacts.{zero_test, whole_numerator}
-use Rattle.calc_terms.specs.Trees.{Tree, num, symbol, undef, add, mult, power, root, neg, sub, div, Trees, none, more, is_num, is_add, is_mult, is_root, is_sub, is_div, is_undef, has_undef}
-use Rattle.deep_reduce.specs.Answers.{IsReducedPower, lacks_power}
-use Rattle.deep_reduce.specs.Bits.{HasFewBits}
-use Rattle.reduce_walk.specs.Leaves.{is_leaf}
-use Rattle.deep_reduce.specs.NodeBits.{HoldsPower, holds_whole, holds_half, holds_kept, HoldsDifference, HoldsQuotient, HoldsNode}
-use Rattle.deep_reduce.specs.Nodes.{IsNodeOverflow, is_neg}
+use Rattle.deep_reduce.proofs.Shared.{pow_pos, pow-add, pow-le-pow_right, is_number, value, is_half_num, is_whole_num, num_one, Surd, surd_of, number_test, one_not_zero, IsHeld, HighLow, Fraction, zero_fraction, one_fraction, minus_one_fraction, whole_fraction, is_zero_fraction, int_is_zero, zero_test, whole_numerator, Tree, num, symbol, undef, add, mult, power, root, neg, sub, div, Trees, none, more, is_num, is_add, is_mult, is_root, is_sub, is_div, is_undef, has_undef, IsReducedPower, lacks_power, HasFewBits, is_leaf, HoldsPower, holds_whole, holds_half, holds_kept, HoldsDifference, HoldsQuotient, HoldsNode, IsNodeOverflow, is_neg, numerator, base_in, exponent_in, has_number_power, HasFewBitsRaised, HasWideRoot, IsOverflow, argument_of, IfRational, IsNoLargerThanRoot, int_is_negative, is_zero_or_one, rewritten, as_whole, IsFactorHeld, AreFactorsHeld, none_held, number_as_factor, no_factors_held, IsSumHeld, addends_of_each, trees_together, minus_one_held, nothing_held, nth, children_of, IfOverflow, OfOverflow, NumberFault}
 use Rattle.deep_reduce.proofs.HeldFactors.{factor_wider, factor_tree}
 use Rattle.deep_reduce.proofs.HeldParts.{fine}
 use Rattle.deep_reduce.proofs.HeldRoots.{root_fits}
 use Rattle.deep_reduce.proofs.Wholes.{whole_rewriting}
-use Rattle.number_forms.specs.Readers.{numerator}
-use Rattle.power_reduce.specs.PowerAnswers.{base_in, exponent_in, has_number_power}
-use Rattle.power_reduce.specs.Bits.{HasFewBitsRaised}
-use Rattle.radical_forms.specs.Refusals.{HasWideRoot, IsOverflow}
-use Rattle.radical_forms.specs.RootAnswers.{argument_of, IfRational}
-use Rattle.surd_bits.specs.Rooted.{IsNoLargerThanRoot}
-use Rattle.calc_terms.specs.Integers.{int_is_negative}
+use Rattle.product_reduce.specs.Bits.{factor_held}
 use Rattle.calc_bits.specs.Bounds as few
-use Rattle.power_reduce.specs.PowerSteps.{is_zero_or_one, rewritten}
-use Rattle.power_reduce.proofs.Exponents.{as_whole}
-use Rattle.product_reduce.specs.Bits.{IsFactorHeld, AreFactorsHeld, none_held, factor_held}
-use Rattle.product_reduce.proofs.HeldNumbers.{number_as_factor, no_factors_held}
-use Rattle.tree_bits.specs.Children.{IsSumHeld, addends_of_each}
-use Rattle.tree_bits.proofs.Children.{trees_together}
-use Rattle.tree_bits.proofs.Factors.{minus_one_held}
-use Rattle.tree_bits.proofs.Numbers.{nothing_held}
-use Rattle.tree_handles.specs.Expressions.{nth, children_of}
-use Rattle.tree_handles.specs.Faults.{IfOverflow, OfOverflow}
-use Rattle.tree_handles.specs.declared.fault.NumberFault.{NumberFault}
 use Rattle.tree_handles.specs.declared.fault.NumberFault.TheVariants as fault
 
 clash : {A : Type 0} → true ≡ false → A

@@ -1,54 +1,13 @@
 -- How many bytes suffice for the node of a tree over reduced children.
 use Rattle.std.proofs.Common.{◌≡◌, ℕ, negsuc, ◌+◌, ◌*◌, ◌^◌, ◌≤◌, ◌<◌, List, length, Bool, true, false, Result, Ok, Err, refl, sym, ap, arith}
 use Rattle.std.specs.Prelude.{IfErr}
-use Rattle.std.proofs.lemmas.Nat.{pow_pos}
-use Rattle.calc_algebra.specs.Meanings.{IsAssignment}
-use Rattle.calc_algebra.specs.Numbers.{is_number}
-use Rattle.calc_algebra.specs.Reduced.{is_reduced, are_reduced, is_half_num}
-use Rattle.calc_algebra.proofs.ReducedLaws.{reduced_words}
-use Rattle.calc_room.specs.Counts.{counted}
-use Rattle.calc_room.specs.Spans.{SpansTree, SpansTrees}
-use Rattle.calc_room.proofs.NumberBytes.{num_bytes}
-use Rattle.calc_room.proofs.TreeBytes.{tree_bytes, counted_number, counted_other}
-use Rattle.calc_algebra.proofs.NumberLaws.{number_test}
-use Rattle.calc_terms.specs.Fractions.{minus_one_fraction}
-use Rattle.calc_terms.specs.Trees.{Tree, num, add, mult, power, root, neg, sub, div, Trees, none, more, count, is_add, is_mult, is_root, is_num, is_sub, is_div, root_kind, size, sizes}
-use Rattle.calc_terms.specs.declared.kind.Kind.{Kind}
-use Rattle.calc_terms.specs.declared.kind.Kind.TheVariants as kind
-use Rattle.deep_reduce.specs.NodeRooms.{HasNodesFor, KeepsNodeRoom, SpansNode, factors_room}
-use Rattle.deep_reduce.specs.Nodes.{is_neg}
-use Rattle.deep_reduce.specs.Pairs.{GivesSides}
-use Rattle.deep_reduce.specs.Rooms.{IsCalmAtZero, whole_power_room, power_count}
+use Rattle.deep_reduce.proofs.Shared.{pow_pos, IsAssignment, is_number, is_reduced, are_reduced, is_half_num, reduced_words, counted, SpansTree, SpansTrees, num_bytes, tree_bytes, counted_number, counted_other, number_test, minus_one_fraction, Tree, num, add, mult, power, root, neg, sub, div, Trees, none, more, count, is_add, is_mult, is_root, is_num, is_sub, is_div, root_kind, size, sizes, Kind, HasNodesFor, KeepsNodeRoom, SpansNode, factors_room, is_neg, GivesSides, IsCalmAtZero, whole_power_room, power_count, State, free_of, base_in, exponent_in, whole_is, IsFull, argument_of, LacksBelow, handed_bytes, nth, plain, children_of, Forest, bytes_in, tree_of, IsHanded, Gives, root_tree, without_root, Stands, forest, KeepsRefusals, NumberFault, bytes_in-join, given_told, last_tree, used_forest, size-plain, IsCalm, zeros, product_count, sum_count, sum_room, product_room, power_room, product_power_room, simple_room, whole_number, counts_one, product_at_most, sum_bytes, product_bytes, scaled}
 use Rattle.deep_reduce.proofs.Calm.{calm_power}
 use Rattle.deep_reduce.proofs.JointCounts.{numbers_one, numbers_other}
 use Rattle.deep_reduce.proofs.NodeRooms.{inverse_count}
 use Rattle.deep_reduce.proofs.PowerBytes.{needs_most}
-use Rattle.node_pool.specs.State.{State, free_of}
-use Rattle.power_reduce.specs.PowerAnswers.{base_in, exponent_in}
-use Rattle.power_reduce.proofs.Whole.{whole_is}
-use Rattle.radical_forms.specs.Refusals.{IsFull}
-use Rattle.radical_forms.specs.RootAnswers.{argument_of}
-use Rattle.tree_handles.specs.Lacking.{LacksBelow}
-use Rattle.power_reduce.proofs.RaisedBytes.{handed_bytes}
-use Rattle.tree_handles.specs.Expressions.{nth, plain, children_of}
-use Rattle.tree_handles.specs.Forest.{Forest, bytes_in}
-use Rattle.tree_handles.specs.Handed.{tree_of, IsHanded, Gives}
-use Rattle.tree_handles.specs.Roots.{root_tree, without_root}
-use Rattle.tree_handles.specs.Standing.{Stands, forest, KeepsRefusals}
-use Rattle.tree_handles.specs.declared.fault.NumberFault.{NumberFault}
+use Rattle.calc_terms.specs.declared.kind.Kind.TheVariants as kind
 use Rattle.tree_handles.specs.declared.fault.NumberFault.TheVariants as fault
-use Rattle.tree_handles.proofs.Forests.{bytes_in-join}
-use Rattle.tree_handles.proofs.Given.{given_told}
-use Rattle.tree_handles.proofs.Lasts.{last_tree}
-use Rattle.tree_handles.proofs.Places.{used_forest}
-use Rattle.tree_handles.proofs.Plains.{size-plain}
-use Rattle.tree_room.specs.Exponents.{IsCalm, zeros}
-use Rattle.tree_room.specs.Handed.{product_count, sum_count}
-use Rattle.tree_room.specs.Needs.{sum_room, product_room, power_room, product_power_room, simple_room}
-use Rattle.tree_room.proofs.Calm.{whole_number}
-use Rattle.tree_room.proofs.Counts.{counts_one, product_at_most}
-use Rattle.tree_room.proofs.Handed.{sum_bytes, product_bytes}
-use Rattle.tree_room.proofs.Multiples.{scaled}
 
 -- ---- sums and products
 

@@ -1,14 +1,8 @@
 -- A node whose children are rewritten.
 use Rattle.std.proofs.Common.{ℕ, ◌⊎◌, inl, inr, List, ◌++◌}
 use Rattle.std.specs.Prelude.{Contains}
-use Rattle.std.proofs.lemmas.List.Elements.{Contains-append_left, Contains-append_right, Contains-append_cases}
+use Rattle.deep_reduce.proofs.Shared.{Contains-append_left, Contains-append_right, Contains-append_cases, Fraction, Tree, num, symbol, undef, add, mult, power, root, neg, sub, div, Trees, none, more, names, names_of, IsReducedFrom, AreAnswers, Rewrites, keeps, kept, Rewrites-refl}
 use Rattle.calc_algebra.proofs.MeaningRewrites as rewrites
-use Rattle.calc_terms.specs.Fractions.{Fraction}
-use Rattle.calc_terms.specs.Trees.{Tree, num, symbol, undef, add, mult, power, root, neg, sub, div, Trees, none, more, names, names_of}
-use Rattle.deep_reduce.specs.Reductions.{IsReducedFrom}
-use Rattle.reduce_walk.specs.Answers.{AreAnswers}
-use Rattle.calc_algebra.specs.Rewritings.{Rewrites}
-use Rattle.calc_algebra.proofs.Rewritings.{keeps, kept, Rewrites-refl}
 
 -- each tree is reduced from the one at its place
 abbrev pub AreReducedFrom : Trees → Trees → Type 0

@@ -1,21 +1,10 @@
 -- What the answer for a node counts, and that it is calm and spanned as the node is.
 use Rattle.std.proofs.Common.{ℕ, ◌+◌, ◌≤◌, negsuc, List, Bool, if◌then◌else◌, ap, arith}
-use Rattle.calc_algebra.proofs.NumberLaws.{number_test}
-use Rattle.calc_room.specs.Counts.{counted, counted_among}
-use Rattle.calc_room.specs.Spans.{SpansTree}
-use Rattle.calc_terms.specs.Fractions.{Fraction, minus_one_fraction}
-use Rattle.calc_terms.specs.Trees.{Tree, num, symbol, undef, add, mult, power, root, neg, sub, div, Trees, none, more}
-use Rattle.deep_reduce.specs.NodeRooms.{KeepsNodeRoom, SpansNode, node_count}
-use Rattle.deep_reduce.specs.Rooms.{IsCalmAtZero, KeepsRoom, KeepsSumRoom, power_count}
+use Rattle.deep_reduce.proofs.Shared.{number_test, counted, counted_among, SpansTree, Fraction, minus_one_fraction, Tree, num, symbol, undef, add, mult, power, root, neg, sub, div, Trees, none, more, KeepsNodeRoom, SpansNode, node_count, IsCalmAtZero, KeepsRoom, KeepsSumRoom, power_count, whole_is, IsRootAnswer, zeros, whole_number, counts_one, at_most_itself}
 use Rattle.deep_reduce.proofs.Calm.{calm_power}
 use Rattle.deep_reduce.proofs.JointRooms.{whole_count_most, sum_calm}
 use Rattle.deep_reduce.proofs.PowerRooms.{root_room, root_answer_counts, root_answer_calm, power_counts_most}
 use Rattle.deep_reduce.proofs.Rewritten.{whole_count_is}
-use Rattle.power_reduce.proofs.Whole.{whole_is}
-use Rattle.radical_forms.specs.RootAnswers.{IsRootAnswer}
-use Rattle.tree_room.specs.Exponents.{zeros}
-use Rattle.tree_room.proofs.Calm.{whole_number}
-use Rattle.tree_room.proofs.Counts.{counts_one, at_most_itself}
 
 -- ---- leaves
 

@@ -1,34 +1,11 @@
 -- What a rewriting of a power leaves to be reduced: it nests no more, and weighs less.
 use Rattle.std.proofs.Common.{◌≡◌, ℕ, ℤ, suc, ◌≤◌, ◌<◌, ◌⊎◌, inl, inr, Bool, true, false, ◌&&◌, ◌||◌, ◌==◌, not, if◌then◌else◌, pos, Some, None, refl, sym, ap, ◌∙◌, subst, arith}
-use Rattle.std.proofs.lemmas.Bool.{and_parts}
-use Rattle.calc_terms.specs.Fractions.{whole_fraction, zero_fraction, one_fraction, is_one_fraction}
-use Rattle.calc_measures.specs.Loads.{nest, nest_of, weight, has_coefficient}
-use Rattle.calc_algebra.specs.Numbers.{is_number}
-use Rattle.calc_algebra.specs.Reduced.{Split, is_reduced, is_half_num, is_opaque_exponent, is_num_one, num_one, HasForm}
-use Rattle.calc_terms.specs.Trees.{Tree, num, undef, mult, power, root, Trees, none, more, append, count, is_num, is_undef, AllPartsOf, HasTwo}
-use Rattle.calc_terms.proofs.FractionFacts.{whole_denominator}
-use Rattle.calc_algebra.proofs.NumberLaws.{number_test}
-use Rattle.coefficients.specs.Coefficients.{factors_of}
-use Rattle.coefficients.proofs.Coefficients.{product_form_of}
-use Rattle.coefficients.proofs.Factors.{no_split}
-use Rattle.coefficients.proofs.Forms.{reduced_parts, parts_reduced, one_is_one}
-use Rattle.coefficients.proofs.Splits.{Leads, in_front}
-use Rattle.deep_reduce.specs.Answers.{has_no_half_power, lacks_power, is_number_power, IsReducedPower}
-use Rattle.deep_reduce.specs.Unfinished.{nest_of_rewritten, weight_of_bases, weight_below, AreTransparent, IsUnfinished, Finishes}
+use Rattle.deep_reduce.proofs.Shared.{and_parts, whole_fraction, zero_fraction, one_fraction, is_one_fraction, nest, nest_of, weight, has_coefficient, is_number, Split, is_reduced, is_half_num, is_opaque_exponent, is_num_one, num_one, HasForm, Tree, num, undef, mult, power, root, Trees, none, more, append, count, is_num, is_undef, AllPartsOf, HasTwo, whole_denominator, number_test, factors_of, product_form_of, no_split, reduced_parts, parts_reduced, one_is_one, Leads, in_front, has_no_half_power, lacks_power, is_number_power, IsReducedPower, nest_of_rewritten, weight_of_bases, weight_below, AreTransparent, IsUnfinished, Finishes, IsHeldAsPowerOf, has_no_power, has_number_power, IsWrittenPower, IsPowerAnswer, goes_inside, half, parts_of, raised, rewritten, rewritten_whole, is_rewritable, transparent_whole, as_whole, no_half, zero_kept, one_kept, chosen, weights, weights_none, weights_more, power_nest, product_parts, Rewrites, reduces_after}
 use Rattle.deep_reduce.proofs.Heavy.{base_reduced, exponent_reduced}
 use Rattle.deep_reduce.proofs.Nests.{to_number, base_nest}
 use Rattle.deep_reduce.proofs.PowerRooms.{finished_room, undef_root_room}
 use Rattle.deep_reduce.proofs.Wholes.{is_rewritten}
-use Rattle.power_reduce.specs.Bits.{IsHeldAsPowerOf}
-use Rattle.power_reduce.specs.PowerAnswers.{has_no_power, has_number_power, IsWrittenPower, IsPowerAnswer}
-use Rattle.power_reduce.specs.PowerSteps.{goes_inside, half, parts_of, raised, rewritten, rewritten_whole}
-use Rattle.power_reduce.proofs.ByRule.{is_rewritable, transparent_whole}
-use Rattle.power_reduce.proofs.Exponents.{as_whole, no_half}
-use Rattle.power_reduce.proofs.Cases.{zero_kept, one_kept}
-use Rattle.power_reduce.proofs.Rules.{chosen, nothing}
-use Rattle.power_reduce.proofs.Weights.{weights, weights_none, weights_more, power_nest, product_parts}
-use Rattle.calc_algebra.specs.Rewritings.{Rewrites}
-use Rattle.calc_algebra.proofs.Rewritings.{reduces_after}
+use Rattle.power_reduce.proofs.Rules.{nothing}
 
 -- ---- products to a power
 

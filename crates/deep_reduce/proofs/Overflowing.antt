@@ -1,16 +1,9 @@
 -- The nodes up to the first overflow of plain trees, where the children before are answered.
 use Rattle.std.proofs.Common.{◌≡◌, ℕ, ◌+◌, Bool, true, false, ◌&&◌, refl, sym, ap, ◌∙◌, subst, if◌then◌else◌, arith}
+use Rattle.deep_reduce.proofs.Shared.{IsPlainAnswer, IsPlainOverflow, PlainValue, exactly, undefined, overflow, nothing, Gathered, decided, values, gather, folded, on_one, on_two, divided, calculated, powered, plain_of, plain_of_children, is_plain, are_plain, plain_value, add_op, mul_op, negative, Tree, add, mult, power, root, neg, sub, div, Trees, none, more, append, nodes, nodes_of, IsReducedFrom, Overflow, children_of}
 use Rattle.calc_measures.specs.PlainOverflows.{is_overflow, with_child, nodes_to_overflow, nodes_among}
-use Rattle.calc_measures.specs.PlainTrees.{IsPlainAnswer, IsPlainOverflow}
-use Rattle.calc_measures.specs.PlainValues.{PlainValue, exactly, undefined, overflow, nothing, Gathered, decided, values, gather, folded, on_one, on_two, divided, calculated, powered, plain_of, plain_of_children, is_plain, are_plain, plain_value}
-use Rattle.calc_terms.specs.Fits.{add_op, mul_op}
-use Rattle.calc_terms.specs.Fractions.{negative}
-use Rattle.calc_terms.specs.Trees.{Tree, add, mult, power, root, neg, sub, div, Trees, none, more, append, nodes, nodes_of}
-use Rattle.deep_reduce.specs.Reductions.{IsReducedFrom}
 use Rattle.deep_reduce.proofs.NodeRewrites.{AreReducedFrom, IsOver, over_sum, over_product, over_power, over_neg, over_sub, over_div}
 use Rattle.deep_reduce.proofs.PlainNodes.{is_plain_value, and_left, and_right, Decides, child_decides}
-use Rattle.rational128.specs.declared.overflow.Overflow.{Overflow}
-use Rattle.tree_handles.specs.Expressions.{children_of}
 
 -- ---- one child
 

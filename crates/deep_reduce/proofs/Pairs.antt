@@ -1,15 +1,8 @@
 -- Two neighbours of a product joined: meanings are kept.
 use Rattle.std.proofs.Common.{◌≡◌, ℕ, zero, suc, inl, inr, Bool, true, if◌then◌else◌, ap, subst, arith}
-use Rattle.std.proofs.lemmas.List.Elements.{Contains-append_left, Contains-append_right, Contains-append_cases}
-use Rattle.calc_terms.specs.Trees.{Tree, mult, Trees, none, more, names, names_of}
-use Rattle.calc_algebra.specs.Rewritings.{Rewrites}
-use Rattle.calc_algebra.proofs.MeaningRewrites.{KeepsMeanings-product_more}
+use Rattle.deep_reduce.proofs.Shared.{Contains-append_left, Contains-append_right, Contains-append_cases, Tree, mult, Trees, none, more, names, names_of, Rewrites, KeepsMeanings-product_more, keeps, kept, Rewrites-refl, is_partner, has_partner, first_partner, without_partner, joint, joined, IsPairAt, joined_pair, partners_of_pair}
 use Rattle.calc_algebra.proofs.Names.{no_new_name}
-use Rattle.calc_algebra.proofs.Rewritings.{keeps, kept, Rewrites-refl}
-use Rattle.product_reduce.specs.Joining.{is_partner, has_partner, first_partner, without_partner, joint, joined}
-use Rattle.product_reduce.specs.Neighbours.{IsPairAt, joined_pair}
 use Rattle.product_reduce.proofs.Joined.{joined_keeps}
-use Rattle.product_reduce.proofs.Neighbours.{partners_of_pair}
 use Rattle.product_reduce.proofs.NoNewNames.{names_joined}
 
 pub factors_rewritten : {t u : Tree} {ts us : Trees} → Rewrites t u → Rewrites (mult ts) (mult us) → Rewrites (mult (more t ts)) (mult (more u us))

@@ -1,24 +1,6 @@
 -- A root with its children, whatever it holds: a child is taken out.
 use Rattle.std.proofs.Common.{◌≡◌, ℕ, [], ◌∷◌, eqb, cond, Bool, refl, sym, ap, ◌∙◌, subst, arith}
-use Rattle.tree_handles.proofs.Beside.{gives_without}
-use Rattle.calc_terms.specs.Payload.{Payload}
-use Rattle.calc_terms.specs.Trees.{Tree, Trees, none, more, append, count}
-use Rattle.tree_handles.proofs.Cuts.{cut_at, represents_count}
-use Rattle.tree_handles.proofs.Over.{without_put}
-use Rattle.deep_reduce.specs.Pairs.{GivesSides}
-use Rattle.node_pool.specs.State.{State}
-use Rattle.reduce_walk.proofs.Parents.{IsParent, held_at, parent_handed}
-use Rattle.tree_handles.proofs.Fronts.{behind_first, front_same, front_put, front_end}
-use Rattle.tree_handles.proofs.Given.{gives, gives_as}
-use Rattle.tree_handles.proofs.Lasts.{ends_at, kids_of_root, other_root, other_tree}
-use Rattle.tree_handles.proofs.Outcomes.{by_test}
-use Rattle.tree_handles.proofs.Roots.{root_arity, root-put, kids-put}
-use Rattle.tree_handles.specs.Expressions.{nth, plain, children_of}
-use Rattle.tree_handles.specs.Forest.{Forest, empty, tree, arity, kids, root_payload, root_count, with_root_kids, tree_nth, without_nth}
-use Rattle.tree_handles.specs.Handed.{AllOnce, IsOwned, IsHanded, Represents, Ends, Gives, KeepsFront}
-use Rattle.tree_handles.specs.Inside.{kids_of}
-use Rattle.tree_handles.specs.Roots.{root_tree, without_root, put}
-use Rattle.tree_handles.specs.Standing.{Stands, forest}
+use Rattle.deep_reduce.proofs.Shared.{gives_without, Payload, Tree, Trees, none, more, append, count, cut_at, represents_count, without_put, GivesSides, State, IsParent, held_at, parent_handed, behind_first, front_same, front_put, front_end, gives, gives_as, ends_at, kids_of_root, other_root, other_tree, by_test, root_arity, root-put, kids-put, nth, plain, children_of, Forest, empty, tree, arity, kids, root_payload, root_count, with_root_kids, tree_nth, without_nth, AllOnce, IsOwned, IsHanded, Represents, Ends, Gives, KeepsFront, kids_of, root_tree, without_root, put, Stands, forest}
 
 -- how many children a reader finds
 pub parent_children : {s : State} {x : Payload} {i : ℕ} {ts : Trees} → Stands s → IsParent x i ts (forest s) → arity (kids_of i (forest s)) ≡ count ts

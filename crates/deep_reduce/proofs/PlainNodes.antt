@@ -1,20 +1,8 @@
 -- The plain value of a node, from its children's answers.
 use Rattle.std.proofs.Common.{◌≡◌, Bool, true, false, ◌&&◌, List, [], ◌∷◌, refl, sym, ap, ◌∙◌, subst, if◌then◌else◌}
 use Rattle.std.specs.Prelude.{◌||◌}
-use Rattle.calc_terms.specs.Fits.{add_op, mul_op}
-use Rattle.calc_terms.specs.Fractions.{Fraction, negative, minus_one_fraction}
-use Rattle.calc_measures.specs.PlainValues.{PlainValue, exactly, undefined, overflow, nothing, Gathered, decided, values, gather, folded, on_one, on_two, divided, calculated, powered, plain_of, plain_of_children, is_plain, are_plain, plain_value}
-use Rattle.calc_terms.specs.Trees.{Tree, num, symbol, undef, add, mult, power, root, neg, sub, div, Trees, none, more, append, is_undef, is_num, has_undef, are_rationals}
-use Rattle.deep_reduce.specs.Answers.{has_no_half_power}
-use Rattle.deep_reduce.specs.Nodes.{IsNodeAnswer, IsNodeOverflow, has_no_value}
-use Rattle.deep_reduce.specs.Reductions.{IsReducedFrom}
+use Rattle.deep_reduce.proofs.Shared.{add_op, mul_op, Fraction, negative, minus_one_fraction, PlainValue, exactly, undefined, overflow, nothing, Gathered, decided, values, gather, folded, on_one, on_two, divided, calculated, powered, plain_of, plain_of_children, is_plain, are_plain, plain_value, Tree, num, symbol, undef, add, mult, power, root, neg, sub, div, Trees, none, more, append, is_undef, is_num, has_undef, are_rationals, has_no_half_power, IsNodeAnswer, IsNodeOverflow, has_no_value, IsReducedFrom, is_zero, is_at_most_zero, has_no_root, Overflow, IsPlainAnswer, IsPlainOverflow, children_of}
 use Rattle.deep_reduce.proofs.NodeRewrites.{AreReducedFrom, IsOver, over_number, over_symbol, over_undef, over_sum, over_product, over_power, over_root, over_neg, over_sub, over_div}
-use Rattle.number_forms.specs.Readers.{is_zero}
-use Rattle.power_reduce.specs.PowerAnswers.{is_at_most_zero}
-use Rattle.radical_forms.specs.RootAnswers.{has_no_root}
-use Rattle.rational128.specs.declared.overflow.Overflow.{Overflow}
-use Rattle.calc_measures.specs.PlainTrees.{IsPlainAnswer, IsPlainOverflow}
-use Rattle.tree_handles.specs.Expressions.{children_of}
 
 -- a fact of a plain value holds where there is none, and where it is computed
 pub as_plain : (P : PlainValue → Type 0) (t : Tree) → P nothing → (is_plain t ≡ true → P (plain_of t)) → P (plain_value t)

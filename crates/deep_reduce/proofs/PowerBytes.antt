@@ -1,36 +1,11 @@
 -- How many bytes suffice for the calls on a whole power that is rewritten.
 use Rattle.std.proofs.Common.{◌≡◌, ℕ, ◌+◌, ◌*◌, ◌^◌, ◌≤◌, ◌<◌, List, length, Bool, true, false, not, ◌&&◌, if◌then◌else◌, refl, sym, ap, ◌∙◌, subst, arith}
-use Rattle.std.proofs.lemmas.Bool.{and_parts}
-use Rattle.std.proofs.lemmas.Nat.{pow_pos}
-use Rattle.calc_algebra.specs.Numbers.{is_number}
-use Rattle.calc_algebra.specs.Reduced.{is_reduced, are_reduced, is_num_one, is_whole_num, split_product, NoneIs, HasForm}
-use Rattle.calc_algebra.proofs.ReducedLaws.{reduced_words}
-use Rattle.calc_room.specs.Counts.{counted, counted_among}
-use Rattle.calc_room.specs.Spans.{SpansRoot, SpansTree, SpansTrees}
-use Rattle.calc_room.proofs.TreeBytes.{tree_bytes, counted_number, counted_other}
-use Rattle.calc_terms.specs.Trees.{Tree, mult, power, root, Trees, none, more, append, is_mult, size, sizes, AllPartsOf}
-use Rattle.coefficients.proofs.Forms.{reduced_parts, parts_reduced}
-use Rattle.deep_reduce.specs.Rooms.{IsCalmAtZero, whole_power_room}
-use Rattle.deep_reduce.specs.Unfinished.{AreReducedPowers}
+use Rattle.deep_reduce.proofs.Shared.{and_parts, pow_pos, is_number, is_reduced, are_reduced, is_num_one, is_whole_num, split_product, NoneIs, HasForm, reduced_words, counted, counted_among, SpansRoot, SpansTree, SpansTrees, tree_bytes, counted_number, counted_other, Tree, mult, power, root, Trees, none, more, append, is_mult, size, sizes, AllPartsOf, reduced_parts, parts_reduced, IsCalmAtZero, whole_power_room, AreReducedPowers, removed, parts_of, raised, parts_counted, HasFactors, product_factors, parts_span, product_parts, nth, HasCalmExponent, AreCalm, zeros, counted_in_all, numbers_among, product_count, exponent_count, product_room, power_room, product_power_room, counts_one, number_counts_one, product_at_most, raised_factor, raised_number, scaled, power_counts, exponents_multiplied}
 use Rattle.deep_reduce.proofs.Calm.{calm_exponent}
 use Rattle.deep_reduce.proofs.JointBytes.{product_base}
 use Rattle.deep_reduce.proofs.JointCounts.{numbers_one, numbers_other}
 use Rattle.deep_reduce.proofs.Rewritten.{AreSingle, parts_calm, parts_single, powers_raised, root_counts}
-use Rattle.number_forms.specs.Sums.{removed}
-use Rattle.power_reduce.specs.PowerSteps.{parts_of, raised}
-use Rattle.power_reduce.proofs.Counted.{parts_counted}
-use Rattle.power_reduce.proofs.Rooms.{HasFactors, product_factors}
-use Rattle.power_reduce.proofs.Spanned.{parts_span}
-use Rattle.power_reduce.proofs.Weights.{product_parts}
-use Rattle.tree_handles.specs.Expressions.{nth}
-use Rattle.tree_room.specs.Exponents.{HasCalmExponent, AreCalm, zeros}
-use Rattle.tree_room.specs.Handed.{counted_in_all, numbers_among, product_count, exponent_count}
-use Rattle.tree_room.specs.Needs.{product_room, power_room, product_power_room}
 use Rattle.tree_room.proofs.Coefficients.{split_counts}
-use Rattle.tree_room.proofs.Counts.{counts_one, number_counts_one, product_at_most}
-use Rattle.tree_room.proofs.Handed.{raised_factor, raised_number}
-use Rattle.tree_room.proofs.Multiples.{scaled}
-use Rattle.tree_room.proofs.PowerCounts.{power_counts, exponents_multiplied}
 
 -- ---- what a whole power of each base needs
 

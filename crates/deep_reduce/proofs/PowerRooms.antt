@@ -1,26 +1,8 @@
 -- What reduced powers count, and that they are calm and spanned.
 use Rattle.std.proofs.Common.{◌≡◌, ℕ, ℤ, zero, suc, ◌+◌, ◌≤◌, pos, negsuc, List, Bool, true, false, not, ◌&&◌, ◌||◌, if◌then◌else◌, None, refl, sym, ap, ◌∙◌, subst, arith}
-use Rattle.calc_algebra.specs.Numbers.{is_number, natural_of}
-use Rattle.calc_algebra.specs.Reduced.{is_whole_num}
-use Rattle.calc_algebra.proofs.NumberLaws.{number_words}
-use Rattle.calc_room.specs.Counts.{counted}
-use Rattle.calc_room.specs.Spans.{SpansTree}
-use Rattle.calc_terms.specs.Fractions.{Fraction, whole_fraction, is_zero_fraction, is_one_fraction}
-use Rattle.calc_terms.specs.Integers.{int_is_negative, int_is_zero}
-use Rattle.calc_terms.specs.Trees.{Tree, num, undef, power, root, is_mult, is_num, is_undef}
-use Rattle.calc_terms.proofs.FractionFacts.{zero_is, one_is}
-use Rattle.deep_reduce.specs.Rooms.{IsCalmAtZero, KeepsRoom, KeepsRootRoom, SpansRootOf, whole_power_count, power_count}
+use Rattle.deep_reduce.proofs.Shared.{is_number, natural_of, is_whole_num, number_words, counted, SpansTree, Fraction, whole_fraction, is_zero_fraction, is_one_fraction, int_is_negative, int_is_zero, Tree, num, undef, power, root, is_mult, is_num, is_undef, zero_is, one_is, IsCalmAtZero, KeepsRoom, KeepsRootRoom, SpansRootOf, whole_power_count, power_count, has_no_power, has_number_power, IsPowerAnswer, IsWrittenPower, is_zero_or_one, rewritten, answer_counts, whole_power_counts, answer_spans, whole_is, has_no_root, IsRootAnswer, zeros, number_calm, whole_number, counts_one, number_counts_one}
 use Rattle.deep_reduce.proofs.Calm.{calm_base, calm_power}
 use Rattle.deep_reduce.proofs.RootValues.{root_of_zero}
-use Rattle.power_reduce.specs.PowerAnswers.{has_no_power, has_number_power, IsPowerAnswer, IsWrittenPower}
-use Rattle.power_reduce.specs.PowerSteps.{is_zero_or_one, rewritten}
-use Rattle.power_reduce.proofs.Counted.{answer_counts, whole_power_counts}
-use Rattle.power_reduce.proofs.Spanned.{answer_spans}
-use Rattle.power_reduce.proofs.Whole.{whole_is}
-use Rattle.radical_forms.specs.RootAnswers.{has_no_root, IsRootAnswer}
-use Rattle.tree_room.specs.Exponents.{zeros}
-use Rattle.tree_room.proofs.Calm.{number_calm, whole_number}
-use Rattle.tree_room.proofs.Counts.{counts_one, number_counts_one}
 
 -- ---- counts
 

@@ -1,33 +1,13 @@
 -- The product of an exponent that counts its base and of a whole number counts it as often as both together.
 use Rattle.std.proofs.Common.{◌≡◌, ℕ, ℤ, pos, negsuc, neg_ℤ, suc, ◌*◌, ◌*ℤ◌, inr, Bool, true, false, ◌||◌, ◌==◌, List, if◌then◌else◌, refl, sym, ap, ◌∙◌, subst, arith}
-use Rattle.std.proofs.lemmas.Bool.{and_parts}
+use Rattle.deep_reduce.proofs.Shared.{and_parts, is_number, value, are_reduced, is_reduced, product_tree, Same, surd_of, surd_one, Permuted, permuted_none, permuted_more, permuted_swap, permuted_trans, number_words, number_test, Same-trans, Same-refl, Same-eq, Same-surd_times, Fraction, whole_fraction, zero_fraction, one_fraction, zero_is, Tree, num, symbol, add, mult, Trees, none, more, has_undef, with_coefficient, IsMonic, reduced_parts, parts_reduced, IsCountedWithin, MultipliesCounts, is_zero, IsFinished, IsWrittenProduct, opened, numbers_in, others_in, product_of_values, coefficient_times, have_partners, whole_of, IsCountedIn, num_value, num_counted, zero_counted, put_counted, Counts, counts, multiple, counts_of, is_counted, IsWithin}
 use Rattle.std.proofs.Math.IntN.{*ℤ_comm}
-use Rattle.calc_algebra.specs.Numbers.{is_number, value}
-use Rattle.calc_algebra.specs.Reduced.{are_reduced, is_reduced, product_tree}
-use Rattle.calc_algebra.specs.SquareClasses.{Same}
-use Rattle.calc_algebra.specs.Surds.{surd_of, surd_one}
 use Rattle.calc_algebra.proofs.ExponentLaws.{whole_times}
-use Rattle.calc_algebra.proofs.MeaningRewrites.{Permuted, permuted_none, permuted_more, permuted_swap, permuted_trans}
-use Rattle.calc_algebra.proofs.NumberLaws.{number_words, number_test}
-use Rattle.calc_algebra.proofs.SquareClassLaws.{Same-trans}
-use Rattle.calc_algebra.proofs.TermLaws.{Same-refl, Same-eq, Same-surd_times}
-use Rattle.calc_terms.specs.Fractions.{Fraction, whole_fraction, zero_fraction, one_fraction}
-use Rattle.calc_terms.proofs.FractionFacts.{zero_is}
-use Rattle.calc_terms.specs.Trees.{Tree, num, symbol, add, mult, Trees, none, more, has_undef}
-use Rattle.coefficients.specs.Coefficients.{with_coefficient, IsMonic}
-use Rattle.coefficients.proofs.Forms.{reduced_parts, parts_reduced}
-use Rattle.deep_reduce.specs.Bits.{IsCountedWithin, MultipliesCounts}
 use Rattle.deep_reduce.proofs.HeldExponents.{counted_defined, multiple_of}
-use Rattle.number_forms.specs.Readers.{is_zero}
-use Rattle.product_reduce.specs.Answers.{IsFinished, IsWrittenProduct}
-use Rattle.product_reduce.specs.Factors.{opened, numbers_in, others_in, product_of_values, coefficient_times}
-use Rattle.product_reduce.specs.Joining.{have_partners}
 use Rattle.product_reduce.proofs.Misfits.{permuted_one_is}
 use Rattle.product_reduce.proofs.Sorted.{permuted_lists}
-use Rattle.sum_reduce.proofs.CollectedExponents.{whole_of, IsCountedIn, whole_number, as_whole, num_value, num_counted, zero_counted, put_counted}
+use Rattle.sum_reduce.proofs.CollectedExponents.{whole_number, as_whole}
 use Rattle.sum_reduce.proofs.CountedMultiples.{within_after, product_within}
-use Rattle.tree_bits.specs.Exponents.{Counts, counts, multiple, counts_of, is_counted}
-use Rattle.tree_bits.specs.Powers.{IsWithin}
 
 clash : {A : Type 0} → true ≡ false → A
 clash e = absurd cc

@@ -1,26 +1,15 @@
 -- What a quotient answers, from the answers for the inverse and for the product.
 use Rattle.std.proofs.Common.{◌≡◌, ◌+◌, ◌*◌, negsuc, arith, ◌⊎◌, inl, inr, Bool, true, false, ◌&&◌, refl, sym, ap, ◌∙◌, subst, append-nil}
 use Rattle.std.specs.Prelude.{◌||◌, Contains, if◌then◌else◌, [], ◌++◌}
-use Rattle.calc_algebra.proofs.MeaningRewrites as rewrites
+use Rattle.deep_reduce.proofs.Shared.{fraction_fits, mul_op, Fraction, minus_one_fraction, inverse, is_zero_fraction, is_number, PlainValue, undefined, calculated, plain_value, Tree, num, undef, mult, power, div, none, names, is_undef, is_num, has_undef, are_rationals, IsNodeAnswer, IsNodeOverflow, holds_whole, lacks_power, is_number_power, Overflow, keeps, kept, reduces_after, IsPlainAnswer, IsPlainOverflow, Rewrites, Reduces}
 use Rattle.calc_algebra.proofs.PowerRewrites.{div_as_product}
-use Rattle.calc_terms.specs.Fits.{fraction_fits, mul_op}
-use Rattle.calc_terms.specs.Fractions.{Fraction, minus_one_fraction, inverse, is_zero_fraction}
-use Rattle.calc_algebra.specs.Numbers.{is_number}
-use Rattle.calc_measures.specs.PlainValues.{PlainValue, undefined, calculated, plain_value}
-use Rattle.calc_terms.specs.Trees.{Tree, num, undef, mult, power, div, none, names, is_undef, is_num, has_undef, are_rationals}
-use Rattle.deep_reduce.specs.Nodes.{IsNodeAnswer, IsNodeOverflow}
-use Rattle.deep_reduce.specs.NodeBits.{holds_whole}
 use Rattle.deep_reduce.proofs.NodeBits.{two_factors, second_side, answer_defined}
 use Rattle.deep_reduce.proofs.EasyNodes.{and_true, and_first, and_second, or_none, undef_words, undef_test, number_defined}
 use Rattle.deep_reduce.proofs.NodeRewrites.{both}
 use Rattle.deep_reduce.proofs.NodeRooms.{quotient_room}
 use Rattle.deep_reduce.proofs.Rationals.{inverse_value, zero_inverse}
 use Rattle.deep_reduce.proofs.Steps.{two, or_split, or_first, or_second, left_undefined, right_undefined, two_rationals, product_value, AreTwo, are_two}
-use Rattle.deep_reduce.specs.Answers.{lacks_power, is_number_power}
-use Rattle.rational128.specs.declared.overflow.Overflow.{Overflow}
-use Rattle.calc_algebra.proofs.Rewritings.{keeps, kept, reduces_after}
-use Rattle.calc_measures.specs.PlainTrees.{IsPlainAnswer, IsPlainOverflow}
-use Rattle.calc_algebra.specs.Rewritings.{Rewrites, Reduces}
+use Rattle.calc_algebra.proofs.MeaningRewrites as rewrites
 
 abbrev inverse_tree : Tree → Tree
 inverse_tree b = power b (num minus_one_fraction)

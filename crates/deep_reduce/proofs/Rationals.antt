@@ -1,14 +1,8 @@
 -- Opposites and inverses of rationals that fit.
 use Rattle.std.proofs.Common.{◌≡◌, ◌≢◌, ℕ, zero, suc, ◌*◌, ◌^◌, ℤ, pos, negsuc, ◌*ℤ◌, neg_ℤ, ◌<ℤ◌, ◌≤ℤ◌, Bool, true, false, ◌&&◌, refl, ap, ◌∙◌, arith}
 use Rattle.std.specs.Prelude.{nat_abs, nat_lt, if◌then◌else◌}
-use Rattle.std.proofs.lemmas.Int.{ints}
-use Rattle.calc_terms.proofs.FractionFacts.{whole_numerator, whole_denominator}
-use Rattle.calc_terms.specs.Fits.{fits, fraction_fits, fraction_power, mul_op, pow_op}
+use Rattle.deep_reduce.proofs.Shared.{ints, whole_numerator, whole_denominator, fits, fraction_fits, fraction_power, mul_op, pow_op, Fraction, lowest, times, negative, inverse, one_fraction, minus_one_fraction, whole_fraction, is_zero_fraction, lowest_parts, times_lowest, den_pos, int_is_zero, exactly, undefined, overflow, calculated, powered, negative_parts, inverts}
 use Rattle.calc_terms.specs.FractionLaws.{times_comm, one_times}
-use Rattle.calc_terms.specs.Fractions.{Fraction, lowest, times, negative, inverse, one_fraction, minus_one_fraction, whole_fraction, is_zero_fraction, lowest_parts, times_lowest, den_pos}
-use Rattle.calc_terms.specs.Integers.{int_is_zero}
-use Rattle.calc_measures.specs.PlainValues.{exactly, undefined, overflow, calculated, powered}
-use Rattle.rational128.proofs.Reciprocals.{negative_parts, inverts}
 
 -- ---- opposites
 

@@ -1,19 +1,7 @@
 -- A node over the answers of its children, from the tree as it was.
 use Rattle.std.proofs.Common.{◌≡◌, ℕ, true, Ok, Err, Result, refl, sym, subst, arith}
 use Rattle.std.specs.Prelude.{IfErr, List, length, ◌^◌, ◌+◌, false}
-use Rattle.std.proofs.lemmas.Bool.{eqb-true}
-use Rattle.calc_algebra.specs.Reduced.{is_reduced, are_reduced, is_half_num}
-use Rattle.calc_terms.specs.Fractions.{lowest}
-use Rattle.calc_terms.specs.declared.kind.Kind.{Kind}
-use Rattle.calc_terms.specs.declared.kind.Kind.TheVariants as kind
-use Rattle.calc_terms.specs.Payload.{Payload, rational, named, bare}
-use Rattle.calc_terms.specs.Trees.{Tree, num, symbol, undef, power, root, neg, sub, div, Trees, none, more, count, nodes, nodes_of, root_size, sizes, has_undef}
-use Rattle.deep_reduce.specs.Bits.{HasFewBits}
-use Rattle.deep_reduce.specs.NodeBits.{HoldsNode}
-use Rattle.deep_reduce.specs.NodeRooms.{HasNodesFor, SpansNode}
-use Rattle.deep_reduce.specs.Nodes.{IsNodeAnswer, IsNodeOverflow}
-use Rattle.deep_reduce.specs.Reductions.{IsReducedFrom, MayLack, MayOverflow}
-use Rattle.deep_reduce.specs.Rooms.{IsCalmAtZero, SpansRootOf}
+use Rattle.deep_reduce.proofs.Shared.{eqb-true, is_reduced, are_reduced, is_half_num, lowest, Kind, Payload, rational, named, bare, Tree, num, symbol, undef, power, root, neg, sub, div, Trees, none, more, count, nodes, nodes_of, root_size, sizes, has_undef, HasFewBits, HoldsNode, HasNodesFor, SpansNode, IsNodeAnswer, IsNodeOverflow, IsReducedFrom, MayLack, MayOverflow, IsCalmAtZero, SpansRootOf, LacksBelow, OfFull, base_in, exponent_in, Overflow, IsNext, is_leaf, grown, compound, takes, takes_kind, nth, children_of, IfOverflow, NumberFault, simple_room, all_written_bytes}
 use Rattle.deep_reduce.proofs.BitsBeyond.{child_beyond, node_beyond}
 use Rattle.deep_reduce.proofs.ChildRooms.{all_small, child_room, node_lacks}
 use Rattle.deep_reduce.proofs.EasyNodes.{and_true}
@@ -22,18 +10,10 @@ use Rattle.deep_reduce.proofs.NodeRewrites.{AreReducedFrom, IsOver, over_number,
 use Rattle.deep_reduce.proofs.Overflowing.{first_overflow, last_overflow}
 use Rattle.deep_reduce.proofs.PlainNodes.{child_overflow, overflowed_plain}
 use Rattle.deep_reduce.proofs.Steps.{number_answer, symbol_answer, undef_answer}
-use Rattle.tree_handles.specs.Lacking.{LacksBelow, OfFull}
-use Rattle.power_reduce.specs.PowerAnswers.{base_in, exponent_in}
-use Rattle.rational128.specs.declared.overflow.Overflow.{Overflow}
 use Rattle.reduce_walk.proofs.Bytes.{root_over}
-use Rattle.reduce_walk.specs.Answers.{IsNext, IsOver as IsOverAnswers}
-use Rattle.reduce_walk.specs.Leaves.{is_leaf}
-use Rattle.tree_handles.specs.Expressions.{grown, compound, takes, takes_kind, nth, children_of}
-use Rattle.tree_handles.specs.Faults.{IfOverflow}
-use Rattle.tree_handles.specs.declared.fault.NumberFault.{NumberFault}
+use Rattle.reduce_walk.specs.Answers.{IsOver as IsOverAnswers}
+use Rattle.calc_terms.specs.declared.kind.Kind.TheVariants as kind
 use Rattle.tree_handles.specs.declared.fault.NumberFault.TheVariants as number
-use Rattle.tree_room.specs.Needs.{simple_room}
-use Rattle.tree_room.proofs.Rooms.{all_written_bytes}
 
 -- ---- leaves
 

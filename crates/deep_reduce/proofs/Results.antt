@@ -1,25 +1,8 @@
 -- What calls on numbers return, in other words.
 use Rattle.std.proofs.Common.{◌≡◌, ℕ, ◌+◌, ◌≤◌, List, Result, Ok, Err, true, false, refl, sym, subst}
 use Rattle.std.specs.Prelude.{IfOk, IfErr, IsErr, IsErrAnd}
-use Rattle.calc_measures.specs.PlainValues.{PlainValue}
-use Rattle.calc_room.specs.Counts.{counted, counted_among}
-use Rattle.calc_room.specs.Powers.{HasPowersOf}
-use Rattle.calc_room.specs.Spans.{SpansTree}
-use Rattle.calc_terms.specs.Trees.{Tree, Trees, add}
-use Rattle.deep_reduce.specs.Rooms.{KeepsSumRoom}
-use Rattle.tree_handles.proofs.Beside.{gives_itself}
-use Rattle.node_pool.specs.State.{State}
+use Rattle.deep_reduce.proofs.Shared.{PlainValue, counted, counted_among, HasPowersOf, SpansTree, Tree, Trees, add, KeepsSumRoom, gives_itself, State, IfOverflow, OfOverflow, Overflow, IsPlainAnswer, IsPlainOverflow, gives_as, last_tree, plain, Forest, tree_of, Gives, forest, NumberFault}
 use Rattle.number_forms.specs.Answers.{AnswersRationals}
-use Rattle.tree_handles.specs.Faults.{IfOverflow, OfOverflow}
-use Rattle.rational128.specs.declared.overflow.Overflow.{Overflow}
-use Rattle.calc_measures.specs.PlainTrees.{IsPlainAnswer, IsPlainOverflow}
-use Rattle.tree_handles.proofs.Given.{gives_as}
-use Rattle.tree_handles.proofs.Lasts.{last_tree}
-use Rattle.tree_handles.specs.Expressions.{plain}
-use Rattle.tree_handles.specs.Forest.{Forest}
-use Rattle.tree_handles.specs.Handed.{tree_of, Gives}
-use Rattle.tree_handles.specs.Standing.{forest}
-use Rattle.tree_handles.specs.declared.fault.NumberFault.{NumberFault}
 use Rattle.tree_handles.specs.declared.fault.NumberFault.TheVariants as fault
 
 -- an answer, with what is said of it where the operands are rationals

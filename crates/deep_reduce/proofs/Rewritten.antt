@@ -1,35 +1,10 @@
 -- Whole powers that are rewritten: by which rule, and what the trees for them count.
 use Rattle.std.proofs.Common.{◌≡◌, ℕ, ℤ, suc, ◌+◌, ◌≤◌, List, inl, inr, Bool, true, false, not, ◌&&◌, if◌then◌else◌, Some, refl, sym, ap, ◌∙◌, subst, arith}
-use Rattle.std.proofs.lemmas.Bool.{and_parts, true≢false}
-use Rattle.calc_algebra.specs.Meanings.{Assignment}
-use Rattle.calc_algebra.specs.Numbers.{is_number, is_radicand}
-use Rattle.calc_algebra.specs.Reduced.{is_reduced, is_whole_num, is_num_one, split, split_product, num_one, NoneIs}
-use Rattle.calc_algebra.proofs.NumberLaws.{number_test}
-use Rattle.calc_room.specs.Counts.{counted}
-use Rattle.calc_room.specs.Spans.{SpansTree, SpansTrees}
-use Rattle.calc_terms.specs.Fractions.{whole_fraction}
-use Rattle.calc_terms.specs.Trees.{Tree, num, add, mult, power, root, Trees, none, more, count, is_mult, is_num}
-use Rattle.coefficients.proofs.Forms.{reduced_parts}
-use Rattle.deep_reduce.specs.Answers.{IsReducedProduct, IsReducedPower}
-use Rattle.deep_reduce.specs.Rooms.{IsCalmAtZero, KeepsRoom, IsRewritten, whole_power_count, power_count}
-use Rattle.deep_reduce.specs.Unfinished.{AreReducedPowers, IsLifted, IsMultiplied, IsProductOfPowers}
+use Rattle.deep_reduce.proofs.Shared.{and_parts, true≢false, Assignment, is_number, is_radicand, is_reduced, is_whole_num, is_num_one, split, split_product, num_one, NoneIs, number_test, counted, SpansTree, SpansTrees, whole_fraction, Tree, num, add, mult, power, root, Trees, none, more, count, is_mult, is_num, reduced_parts, IsReducedProduct, IsReducedPower, IsCalmAtZero, KeepsRoom, IsRewritten, whole_power_count, power_count, AreReducedPowers, IsLifted, IsMultiplied, IsProductOfPowers, base_in, exponent_in, half, parts_of, raised, rewritten_whole, parts_counted, whole_power_counts, as_whole, whole_no_half, HasFactors, product_factors, chosen, parts_span, whole_is, children_of, IsCalm, AreCalm, zeros, counted_in_all, product_whole, whole_number, counts_one, numbers_and_others, power_counts, of_a_power, of_a_root}
 use Rattle.deep_reduce.proofs.Calm.{calm_base, calm_exponent, calm_product, calm_power, calm_whole, whole_kept, whole_of_number}
 use Rattle.deep_reduce.proofs.JointBytes.{product_base}
 use Rattle.deep_reduce.proofs.JointRooms.{whole_numbers, whole_count_most}
-use Rattle.power_reduce.specs.PowerAnswers.{base_in, exponent_in}
-use Rattle.power_reduce.specs.PowerSteps.{half, parts_of, raised, rewritten_whole}
-use Rattle.power_reduce.proofs.Counted.{parts_counted, whole_power_counts}
-use Rattle.power_reduce.proofs.Exponents.{as_whole, whole_no_half}
-use Rattle.power_reduce.proofs.Rooms.{HasFactors, product_factors}
-use Rattle.power_reduce.proofs.Rules.{chosen, nothing}
-use Rattle.power_reduce.proofs.Spanned.{parts_span}
-use Rattle.power_reduce.proofs.Whole.{whole_is}
-use Rattle.tree_handles.specs.Expressions.{children_of}
-use Rattle.tree_room.specs.Exponents.{IsCalm, AreCalm, zeros}
-use Rattle.tree_room.specs.Handed.{counted_in_all}
-use Rattle.tree_room.proofs.Calm.{product_whole, whole_number}
-use Rattle.tree_room.proofs.Counts.{counts_one, numbers_and_others}
-use Rattle.tree_room.proofs.PowerCounts.{power_counts, of_a_power, of_a_root}
+use Rattle.power_reduce.proofs.Rules.{nothing}
 
 -- ---- rules
 

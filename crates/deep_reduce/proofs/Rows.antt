@@ -1,20 +1,7 @@
 -- The loop over the powers of a product, each of which is taken out, reduced and put back.
 use Rattle.std.proofs.Common.{◌≡◌, ℕ, suc, ◌+◌, ◌≤◌, ◌<◌, [], ◌∷◌, refl, sym, ap, ◌∙◌, subst, arith}
+use Rattle.deep_reduce.proofs.Shared.{nest, nest_of, weight, Tree, Trees, none, more, append, count, IsOver, IsTaken, taken, over_put, IsAdded, added_as, inserted_behind, IsReducedPower, weight_of_bases, IsTransparent, AreTransparent, AreReducedPowers, base_in, exponent_in, inserted, Forest, kids, with_nth, tree_nth, without_nth, Represents, Ends, Gives, KeepsFront, root_tree, without_root, put, behind_first, front_same, front_at, front_put, append-none, put-put, put-same}
 use Rattle.calc_terms.specs.declared.kind.Kind.TheVariants as kind
-use Rattle.calc_measures.specs.Loads.{nest, nest_of, weight}
-use Rattle.calc_terms.specs.Trees.{Tree, Trees, none, more, append, count}
-use Rattle.tree_handles.proofs.Over.{IsOver, IsTaken, taken, over_put, IsAdded, added_as}
-use Rattle.tree_handles.proofs.Cuts.{inserted_behind}
-use Rattle.deep_reduce.specs.Answers.{IsReducedPower}
-use Rattle.deep_reduce.specs.Unfinished.{weight_of_bases, IsTransparent, AreTransparent, AreReducedPowers}
-use Rattle.power_reduce.specs.PowerAnswers.{base_in, exponent_in}
-use Rattle.tree_handles.specs.Expressions.{inserted}
-use Rattle.tree_handles.specs.Forest.{Forest, kids, with_nth, tree_nth, without_nth}
-use Rattle.tree_handles.specs.Handed.{Represents, Ends, Gives, KeepsFront}
-use Rattle.tree_handles.specs.Roots.{root_tree, without_root, put}
-use Rattle.tree_handles.proofs.Fronts.{behind_first, front_same, front_at, front_put}
-use Rattle.tree_handles.proofs.Given.{append-none}
-use Rattle.tree_handles.proofs.Roots.{put-put, put-same}
 
 -- ---- lists
 

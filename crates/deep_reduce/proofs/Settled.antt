@@ -1,37 +1,16 @@
 -- A product whose joint is reduced in its place.
 use Rattle.std.proofs.Common.{◌≡◌, ℕ, zero, suc, ◌+◌, ◌≤◌, ◌<◌, inl, inr, Bool, true, false, if◌then◌else◌, refl, sym, ap, ◌∙◌, subst, arith, add-one}
 use Rattle.std.specs.Prelude.{Option, Some, None, MatchOption, IfSome}
-use Rattle.std.proofs.lemmas.Bool.{and_parts}
-use Rattle.std.proofs.lemmas.List.Elements.{Contains-append_left, Contains-append_right, Contains-append_cases}
-use Rattle.calc_measures.specs.Loads.{nest, nest_of, weight, load_of_factor, load_of_factors}
-use Rattle.calc_algebra.specs.Reduced.{is_reduced, is_opaque_exponent, num_one, base_of, are_reduced}
-use Rattle.calc_terms.specs.Trees.{Tree, undef, add, mult, power, Trees, none, more, count, is_mult, is_undef, names}
-use Rattle.calc_algebra.proofs.MeaningRewrites.{KeepsMeanings-refl, KeepsMeanings-power}
-use Rattle.deep_reduce.specs.Answers.{IsReducedProduct, IsReducedPower}
-use Rattle.calc_room.specs.Counts.{counted}
-use Rattle.deep_reduce.specs.Rooms.{KeepsRoom, KeepsSumRoom}
-use Rattle.deep_reduce.specs.Unfinished.{nest_of_joint, replaced, Joins, joins_gathered, joins_pair, joins_then, HandsOn, IsLess, IsSummed, IsSettled}
-use Rattle.coefficients.proofs.Forms.{parts_reduced}
+use Rattle.deep_reduce.proofs.Shared.{and_parts, Contains-append_left, Contains-append_right, Contains-append_cases, nest, nest_of, weight, load_of_factor, load_of_factors, is_reduced, is_opaque_exponent, num_one, base_of, are_reduced, Tree, undef, add, mult, power, Trees, none, more, count, is_mult, is_undef, names, KeepsMeanings-refl, KeepsMeanings-power, IsReducedProduct, IsReducedPower, counted, KeepsRoom, KeepsSumRoom, nest_of_joint, replaced, Joins, joins_gathered, joins_pair, joins_then, HandsOn, IsLess, IsSummed, IsSettled, parts_reduced, AddsCounts, IsHeldAsProduct, removed, base_in, exponent_in, AreJoinable, IsFinished, IsGathered, exponent_of, have_partners, IsJointAt, IsNextPair, IsPairAt, NoPairBetween, joined_pair, joint_there, neighbours_joint, Rewrites, keeps, kept, Rewrites-refl, Rewrites-trans, rewrites_of, reduces_after, IsSumAnswer, nth, children_of}
 use Rattle.deep_reduce.proofs.Heavy.{base_reduced, exponent_reduced, some_weight, factor_load}
 use Rattle.deep_reduce.proofs.Joined.{JointsBelow, IsLessLoaded, pair_loaded, numbers_opened}
 use Rattle.deep_reduce.proofs.Pairs.{factors_rewritten, pair_rewritten}
 use Rattle.deep_reduce.proofs.JointRooms.{settled_hands_on, hands_on_next, keeps_next}
-use Rattle.deep_reduce.specs.Bits.{AddsCounts, IsHeldAsProduct}
 use Rattle.deep_reduce.proofs.HeldJoints.{first_reduced, settled_held}
 use Rattle.deep_reduce.proofs.ProductCounts.{product_counts, product_joins_none}
 use Rattle.deep_reduce.proofs.Joints.{transparent_exponent, joint_load, reduced_joint}
 use Rattle.deep_reduce.proofs.Nests.{over_power, product_load}
-use Rattle.number_forms.specs.Sums.{removed}
-use Rattle.power_reduce.specs.PowerAnswers.{base_in, exponent_in}
-use Rattle.product_reduce.specs.Answers.{AreJoinable, IsFinished}
-use Rattle.product_reduce.specs.Gathering.{IsGathered}
-use Rattle.product_reduce.specs.Joining.{exponent_of, have_partners, joint as joint_of, IsJointAt}
-use Rattle.product_reduce.specs.Neighbours.{IsNextPair, IsPairAt, NoPairBetween, joined_pair}
-use Rattle.product_reduce.proofs.Neighbours.{joint_there, neighbours_joint}
-use Rattle.calc_algebra.specs.Rewritings.{Rewrites}
-use Rattle.calc_algebra.proofs.Rewritings.{keeps, kept, Rewrites-refl, Rewrites-trans, rewrites_of, reduces_after}
-use Rattle.sum_reduce.specs.SumAnswers.{IsSumAnswer}
-use Rattle.tree_handles.specs.Expressions.{nth, children_of}
+use Rattle.product_reduce.specs.Joining.{joint as joint_of}
 
 -- ---- rewritings inside a tree
 

@@ -1,16 +1,7 @@
 -- Two trees taken from a node, or made, and put under a new one.
 use Rattle.std.proofs.Common.{◌≡◌, ℕ, eqb, false, [], ◌∷◌, ap, ◌∙◌}
-use Rattle.calc_terms.specs.Trees.{Tree, Trees}
-use Rattle.calc_terms.specs.declared.kind.Kind.{Kind}
-use Rattle.deep_reduce.specs.Pairs.{GivesSides}
+use Rattle.deep_reduce.proofs.Shared.{Tree, Trees, Kind, GivesSides, behind_first, behind_later, behind_new, front_same, front_at, front_end, front_without, front_after_one, front_after_two, given_handed, given_told, given_rest, given_same, given_apart, given_without, handed_at, eqb-sym, nth, plain, compound, Forest, IsHanded, Gives, KeepsFront, root_tree, without_root}
 use Rattle.deep_reduce.proofs.Steps.{two}
-use Rattle.tree_handles.proofs.Fronts.{behind_first, behind_later, behind_new, front_same, front_at, front_end, front_without, front_after_one, front_after_two}
-use Rattle.tree_handles.proofs.Given.{given_handed, given_told, given_rest, given_same, given_apart, given_without, handed_at}
-use Rattle.tree_handles.proofs.Outcomes.{eqb-sym}
-use Rattle.tree_handles.specs.Expressions.{nth, plain, compound}
-use Rattle.tree_handles.specs.Forest.{Forest}
-use Rattle.tree_handles.specs.Handed.{IsHanded, Gives, KeepsFront}
-use Rattle.tree_handles.specs.Roots.{root_tree, without_root}
 
 -- ---- a new tree and one that was handed
 

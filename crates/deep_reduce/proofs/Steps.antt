@@ -1,41 +1,19 @@
 -- What the calls on sums, products, powers and roots answer, as answers of a node.
 use Rattle.std.proofs.Common.{◌≡◌, ℕ, ◌<◌, ◌⊎◌, inl, inr, Bool, true, false, ◌&&◌, List, length, refl, sym, ap, ◌∙◌, subst, arith, append-nil}
 use Rattle.std.specs.Prelude.{◌||◌, Contains, [], ◌++◌}
-use Rattle.calc_algebra.proofs.MeaningRewrites as rewrites
+use Rattle.deep_reduce.proofs.Shared.{fraction_fits, add_op, mul_op, Fraction, minus_one_fraction, negative, zero_fraction, one_fraction, is_number, value, PlainValue, exactly, undefined, overflow, nothing, calculated, plain_value, is_reduced, int_is_negative, Kind, Tree, num, symbol, undef, add, mult, power, root, neg, sub, div, Trees, none, more, names, is_undef, is_num, IsPart, IsPartOf, itself, in_add, in_mult, in_base, in_exponent, in_root, in_neg, in_left, in_right, in_dividend, in_divisor, first, later, has_undef, are_rationals, IsReducedProduct, IsReducedPower, IsNodeAnswer, IsNodeOverflow, has_no_value, SpansTree, KeepsSumRoom, base_in, IfRational, IsRootAnswer, Overflow, keeps, kept, Rewrites-refl, reduces, reduces_after, IsPlainAnswer, IsPlainOverflow, HasNoNewName, Rewrites, Reduces, IsNoLargerThanRoot, IsSumHeld, addends_of_each, IsTreeHeld, IsSumAnswer, compound, children_of}
 use Rattle.calc_algebra.proofs.UndefRewrites.{undef_part}
-use Rattle.calc_terms.specs.Fits.{fraction_fits, add_op, mul_op}
-use Rattle.calc_terms.specs.Fractions.{Fraction, minus_one_fraction, negative, zero_fraction, one_fraction}
-use Rattle.calc_algebra.specs.Numbers.{is_number, value}
-use Rattle.calc_measures.specs.PlainValues.{PlainValue, exactly, undefined, overflow, nothing, calculated, plain_value}
-use Rattle.calc_algebra.specs.Reduced.{is_reduced}
-use Rattle.calc_terms.specs.Integers.{int_is_negative}
-use Rattle.calc_terms.specs.declared.kind.Kind.{Kind}
-use Rattle.calc_terms.specs.declared.kind.Kind.TheVariants as kind
-use Rattle.calc_terms.specs.Trees.{Tree, num, symbol, undef, add, mult, power, root, neg, sub, div, Trees, none, more, names, is_undef, is_num, IsPart, IsPartOf, itself, in_add, in_mult, in_base, in_exponent, in_root, in_neg, in_left, in_right, in_dividend, in_divisor, first, later, has_undef, are_rationals}
-use Rattle.deep_reduce.specs.Answers.{IsReducedProduct, IsReducedPower}
-use Rattle.deep_reduce.specs.Nodes.{IsNodeAnswer, IsNodeOverflow, has_no_value}
 use Rattle.deep_reduce.proofs.EasyNodes.{and_true, and_first, and_second, or_true, or_none, undef_words, undef_test, number_defined}
-use Rattle.calc_room.specs.Spans.{SpansTree}
-use Rattle.deep_reduce.specs.Rooms.{KeepsSumRoom}
 use Rattle.deep_reduce.proofs.NodeRewrites.{both}
 use Rattle.deep_reduce.proofs.HeldFactors.{tree_factor}
 use Rattle.deep_reduce.proofs.HeldRoots.{root_answer_held}
 use Rattle.deep_reduce.proofs.NodeBits.{zero_held, one_held, opposite_factors, two_terms, second_side, answer_defined, power_answer_held, leaf_no_children}
 use Rattle.deep_reduce.proofs.NodeRooms.{product_node_room, power_node_room, undef_room, same_room, number_room, sum_room, root_node_room, opposite_room, difference_room}
 use Rattle.deep_reduce.proofs.PowerRooms.{undef_root_room}
-use Rattle.power_reduce.specs.PowerAnswers.{base_in}
 use Rattle.deep_reduce.proofs.PlainNodes.{undef_has_no_value}
 use Rattle.deep_reduce.proofs.Rationals.{opposite_value}
-use Rattle.radical_forms.specs.RootAnswers.{IfRational, IsRootAnswer}
-use Rattle.rational128.specs.declared.overflow.Overflow.{Overflow}
-use Rattle.calc_algebra.proofs.Rewritings.{keeps, kept, Rewrites-refl, reduces, reduces_after}
-use Rattle.calc_measures.specs.PlainTrees.{IsPlainAnswer, IsPlainOverflow}
-use Rattle.calc_algebra.specs.Rewritings.{HasNoNewName, Rewrites, Reduces}
-use Rattle.surd_bits.specs.Rooted.{IsNoLargerThanRoot}
-use Rattle.tree_bits.specs.Children.{IsSumHeld, addends_of_each}
-use Rattle.tree_bits.specs.HeldTrees.{IsTreeHeld}
-use Rattle.sum_reduce.specs.SumAnswers.{IsSumAnswer}
-use Rattle.tree_handles.specs.Expressions.{compound, children_of}
+use Rattle.calc_algebra.proofs.MeaningRewrites as rewrites
+use Rattle.calc_terms.specs.declared.kind.Kind.TheVariants as kind
 
 abbrev pub two : Tree → Tree → Trees
 two a b = more a (more b none)

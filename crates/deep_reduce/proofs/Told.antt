@@ -1,36 +1,12 @@
 -- What calls on a node of a kind tell, in the words of any node.
-use Rattle.std.proofs.lemmas.Bool.{false_from_ne_true}
 use Rattle.std.proofs.Common.{◌≡◌, ◌≢◌, ℕ, List, pos, negsuc, Bool, true, false, ◌&&◌, refl, sym, ap, ◌∙◌, subst, arith}
 use Rattle.std.specs.Prelude.{◌||◌}
+use Rattle.deep_reduce.proofs.Shared.{false_from_ne_true, lowest, whole_fraction, zero_fraction, one_fraction, minus_one_fraction, ratio_of, value_of, PlainValue, nothing, plain_value, is_half_num, is_reduced, is_whole_num, are_reduced, Tree, num, symbol, undef, add, mult, power, root, neg, sub, div, Trees, none, more, count, is_add, is_mult, is_root, is_sub, is_div, is_num, root_kind, are_rationals, has_undef, value, int_is_negative, IsNoLargerThanRoot, IsSumHeld, addends_of_each, IsTreeHeld, IsReducedProduct, IsReducedPower, SpansTree, IsNodeAnswer, IsNodeOverflow, is_neg, KeepsSumRoom, base_in, exponent_in, no_plain_value, whole_no_half, whole_is, NamesProduct, argument_of, IfRational, IsRootAnswer, Overflow, IsPlainAnswer, IsPlainOverflow, IsSumAnswer, nth, children_of}
 use Rattle.calc_terms.specs.declared.rat.Rat.{Rat}
-use Rattle.calc_terms.specs.Fractions.{lowest, whole_fraction, zero_fraction, one_fraction, minus_one_fraction}
-use Rattle.calc_terms.specs.Rat.{ratio_of, value_of}
 use Rattle.calc_terms.specs.Ratio.{Ratio, whole}
-use Rattle.calc_measures.specs.PlainValues.{PlainValue, nothing, plain_value}
-use Rattle.calc_algebra.specs.Reduced.{is_half_num, is_reduced, is_whole_num, are_reduced}
-use Rattle.calc_terms.specs.Trees.{Tree, num, symbol, undef, add, mult, power, root, neg, sub, div, Trees, none, more, count, is_add, is_mult, is_root, is_sub, is_div, is_num, root_kind, are_rationals, has_undef}
-use Rattle.calc_terms.specs.declared.kind.Kind.TheVariants as kind
-use Rattle.calc_algebra.specs.Numbers.{value}
-use Rattle.calc_terms.specs.Integers.{int_is_negative}
-use Rattle.surd_bits.specs.Rooted.{IsNoLargerThanRoot}
-use Rattle.tree_bits.specs.Children.{IsSumHeld, addends_of_each}
-use Rattle.tree_bits.specs.HeldTrees.{IsTreeHeld}
-use Rattle.deep_reduce.specs.Answers.{IsReducedProduct, IsReducedPower}
-use Rattle.calc_room.specs.Spans.{SpansTree}
-use Rattle.deep_reduce.specs.Nodes.{IsNodeAnswer, IsNodeOverflow, is_neg}
-use Rattle.deep_reduce.specs.Rooms.{KeepsSumRoom}
 use Rattle.deep_reduce.proofs.EasyNodes.{and_true, and_first, and_second}
 use Rattle.deep_reduce.proofs.Steps.{two, sum_answer, product_answer, power_answer, root_answer, empty_sum_answer, empty_product_answer, number_answer, symbol_answer, undef_answer}
-use Rattle.power_reduce.specs.PowerAnswers.{base_in, exponent_in}
-use Rattle.power_reduce.proofs.Cases.{no_plain_value}
-use Rattle.power_reduce.proofs.Exponents.{whole_no_half}
-use Rattle.power_reduce.proofs.Whole.{whole_is}
-use Rattle.radical_forms.specs.Refusals.{NamesProduct}
-use Rattle.radical_forms.specs.RootAnswers.{argument_of, IfRational, IsRootAnswer}
-use Rattle.rational128.specs.declared.overflow.Overflow.{Overflow}
-use Rattle.calc_measures.specs.PlainTrees.{IsPlainAnswer, IsPlainOverflow}
-use Rattle.sum_reduce.specs.SumAnswers.{IsSumAnswer}
-use Rattle.tree_handles.specs.Expressions.{nth, children_of}
+use Rattle.calc_terms.specs.declared.kind.Kind.TheVariants as kind
 
 -- ---- kinds
 

@@ -1,29 +1,15 @@
 -- What holds the answers of children holds the node over them, by the bounds of the tree.
 use Rattle.std.proofs.Common.{◌≡◌, ℕ, suc, ◌+◌, ◌*◌, ◌^◌, ◌≤◌, max, ℤ, pos, negsuc, Bool, true, false, ◌&&◌, ◌||◌, Option, Some, None, refl, sym, ap, ◌∙◌, subst, arith}
-use Rattle.std.proofs.lemmas.Bool.{and_parts}
-use Rattle.std.proofs.lemmas.Nat.{mul-le, pow-add}
-use Rattle.std.proofs.Math.Nat.{pow-le-pow_right}
-use Rattle.calc_measures.specs.Literals.{whole_literal, half_literal, or_literal, is_whole_literal, is_half_literal}
-use Rattle.calc_measures.specs.Measures.{HighLow, all_simple, are_all_simple, is_simple_power, power_bounds, bounds, bounds_of_terms, bounds_of_factors, high, low}
-use Rattle.calc_terms.specs.Trees.{Tree, num, symbol, undef, add, mult, power, root, neg, sub, div, Trees, none, more, is_num, is_symbol, is_undef, has_undef}
-use Rattle.reduce_walk.specs.Leaves.{is_leaf}
-use Rattle.deep_reduce.specs.NodeBits.{HoldsPower, holds_whole, holds_half, holds_kept, HoldsNode}
-use Rattle.deep_reduce.specs.Nodes.{IsNodeAnswer}
-use Rattle.deep_reduce.specs.Reductions.{IsReducedFrom}
+use Rattle.deep_reduce.proofs.Shared.{and_parts, mul-le, pow-add, pow-le-pow_right, whole_literal, half_literal, or_literal, is_whole_literal, is_half_literal, HighLow, all_simple, are_all_simple, is_simple_power, power_bounds, bounds, bounds_of_terms, bounds_of_factors, high, low, Tree, num, symbol, undef, add, mult, power, root, neg, sub, div, Trees, none, more, is_num, is_symbol, is_undef, has_undef, is_leaf, HoldsPower, holds_whole, holds_half, holds_kept, HoldsNode, IsNodeAnswer, IsReducedFrom, IsFactorHeld, AreFactorsHeld, none_held, AreTreesHeld, raised_high, raised_low, factor_is_held, symbol_is_held, children_of}
 use Rattle.deep_reduce.proofs.HeldFactors.{factor_tree, tree_factor, undef_factor}
 use Rattle.deep_reduce.proofs.Literals.{whole_answer, half_literal_answer}
 use Rattle.deep_reduce.proofs.NodeBits.{first_side, second_side}
 use Rattle.deep_reduce.proofs.NodeRewrites.{AreReducedFrom, IsOver, over_number, over_symbol, over_undef, over_sum, over_product, over_power, over_root, over_neg, over_sub, over_div}
 use Rattle.deep_reduce.proofs.PlainNodes.{undef_has_no_value}
 use Rattle.deep_reduce.proofs.Steps.{number_reduced}
-use Rattle.product_reduce.specs.Bits.{IsFactorHeld, AreFactorsHeld, none_held, factor_held}
-use Rattle.tree_bits.specs.Children.{AreTreesHeld}
-use Rattle.tree_bits.specs.Powers.{raised_high, raised_low}
+use Rattle.product_reduce.specs.Bits.{factor_held}
 use Rattle.tree_bits.specs.Rows.{bounds_of_each}
-use Rattle.tree_bits.proofs.Factors.{factor_is_held}
 use Rattle.tree_bits.proofs.Rows.{rational_row, sum_row, rational_to_symbol, symbol_to_symbol}
-use Rattle.tree_bits.proofs.Sums.{symbol_is_held}
-use Rattle.tree_handles.specs.Expressions.{children_of}
 
 or_first : (a b : Bool) → (a || b) ≡ false → a ≡ false
 or_first true b h = cc

@@ -1,37 +1,16 @@
 -- A tree whose powers are simple, and the answers of its children: what they count, that they are calm, and what spans them.
 use Rattle.std.proofs.Common.{◌≡◌, ℕ, suc, ◌+◌, ◌*◌, ◌≤◌, ◌<◌, ◌⊎◌, inl, inr, ◌<ℤ◌, pos, negsuc, ℤ, List, [], ◌∷◌, ◌++◌, length, Bool, true, false, ◌&&◌, ◌||◌, if◌then◌else◌, refl, ap, ◌∙◌, arith}
 use Rattle.std.specs.Prelude.{Contains}
-use Rattle.std.proofs.lemmas.Bool.{and_parts}
-use Rattle.std.proofs.lemmas.Int.{ints}
+use Rattle.deep_reduce.proofs.Shared.{and_parts, ints, Contains-append_left, Contains-append_right, IsAssignment, natural_of, is_half_num, is_whole_num, is_whole_literal, is_half_literal, all_simple, are_all_simple, is_simple_power, roots, roots_of, counted, SpansTree, SpansTrees, Tree, num, symbol, add, mult, power, root, neg, Trees, none, more, count, nodes, names, names_of, is_num, is_symbol, HasNodesFor, SpansNode, node_count, IsNodeAnswer, IsReducedFrom, IsWithinTree, IsCalmAtZero, SpansRootOf, whole_power_count, power_count, base_in, exponent_in, CountWithin, IsCalm, AreCalm, MeansWhole, zeros, counted_in_all, literal_whole, counts_one, numbers_and_others, symbol_zero, each_once}
 use Rattle.std.proofs.lemmas.List.{length-append}
-use Rattle.std.proofs.lemmas.List.Elements.{Contains-append_left, Contains-append_right}
-use Rattle.calc_algebra.specs.Meanings.{IsAssignment}
-use Rattle.calc_algebra.specs.Numbers.{natural_of}
-use Rattle.calc_algebra.specs.Reduced.{is_half_num, is_whole_num}
-use Rattle.calc_measures.specs.Literals.{is_whole_literal, is_half_literal}
-use Rattle.calc_measures.specs.Measures.{all_simple, are_all_simple, is_simple_power, roots, roots_of}
-use Rattle.calc_room.specs.Counts.{counted}
-use Rattle.calc_room.specs.Spans.{SpansTree, SpansTrees}
-use Rattle.calc_terms.specs.Trees.{Tree, num, symbol, add, mult, power, root, neg, Trees, none, more, count, nodes, names, names_of, is_num, is_symbol}
-use Rattle.deep_reduce.specs.NodeRooms.{HasNodesFor, SpansNode, node_count}
-use Rattle.deep_reduce.specs.Nodes.{IsNodeAnswer}
-use Rattle.deep_reduce.specs.Reductions.{IsReducedFrom, IsWithinTree}
-use Rattle.deep_reduce.specs.Rooms.{IsCalmAtZero, SpansRootOf, whole_power_count, power_count}
 use Rattle.deep_reduce.proofs.Calm.{whole_kept}
 use Rattle.deep_reduce.proofs.Literals.{half_answer}
 use Rattle.deep_reduce.proofs.JointRooms.{whole_count_most}
 use Rattle.deep_reduce.proofs.NodeRewrites.{AreReducedFrom, IsOver, over_number, over_symbol, over_undef, over_sum, over_product, over_power, over_root, over_neg, over_sub, over_div}
 use Rattle.deep_reduce.proofs.PowerRooms.{kept_counts}
-use Rattle.power_reduce.specs.PowerAnswers.{base_in, exponent_in}
 use Rattle.radical_forms.proofs.Spanned.{spans_root_of}
-use Rattle.tree_room.specs.Children.{CountWithin}
-use Rattle.tree_room.specs.Exponents.{IsCalm, AreCalm, MeansWhole, zeros}
-use Rattle.tree_room.specs.Handed.{counted_in_all}
-use Rattle.tree_room.proofs.Calm.{literal_whole}
-use Rattle.tree_room.proofs.Counts.{counts_one, numbers_and_others}
 use Rattle.tree_room.proofs.JoinedSpans.{tree_first, tree_second, trees_second}
 use Rattle.tree_room.proofs.NodeCounts.{all_within}
-use Rattle.tree_room.proofs.Zeros.{symbol_zero, each_once}
 
 -- ---- the answers of children
 

@@ -1,12 +1,7 @@
 -- Which powers are rewritten.
 use Rattle.std.proofs.Common.{◌≡◌, true, false, Some, sym, ◌∙◌}
-use Rattle.std.proofs.lemmas.Bool.{and_parts}
-use Rattle.calc_algebra.specs.Reduced.{is_reduced, is_half_num, is_whole_num}
-use Rattle.calc_terms.specs.Trees.{Tree, num, mult, power, root}
-use Rattle.deep_reduce.specs.Rooms.{IsRewritten}
-use Rattle.power_reduce.specs.PowerSteps.{rewritten, rewritten_whole}
-use Rattle.power_reduce.proofs.Exponents.{as_whole}
-use Rattle.power_reduce.proofs.Rules.{chosen, nothing}
+use Rattle.deep_reduce.proofs.Shared.{and_parts, is_reduced, is_half_num, is_whole_num, Tree, num, mult, power, root, IsRewritten, rewritten, rewritten_whole, as_whole, chosen}
+use Rattle.power_reduce.proofs.Rules.{nothing}
 
 -- only whole powers, and those by half of an odd number, are rewritten
 whole_root : (a e t : Tree) → rewritten_whole (root a) e ≡ Some t → is_whole_num e ≡ true

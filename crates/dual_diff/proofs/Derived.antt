@@ -1,8 +1,7 @@
 -- The derivative of a tree means the slope of each pair of it.
 use Rattle.std.proofs.Common.{◌≡◌, ℕ, zero, suc, List, [], ◌++◌, Bool, true, false, refl, sym, ap, ◌∙◌, subst, inl, inr, append-nil, arith}
 use Rattle.std.specs.Prelude.{ℤ, pos, negsuc, ◌*ℤ◌, ◌-ℤ◌, neg_ℤ, ◌==◌, ◌||◌, if◌then◌else◌, Option, Some, None}
-use Rattle.dual_diff.proofs.Names.{Fraction, times, minus_one_fraction, whole_fraction, quotient, Tree, num, symbol, undef, add, mult, power, root, neg, sub, div, Trees, none, more, append, whole_num, Assignment, IsWholePower, Means, MeansSum, MeansProduct, Same, Inverts, Surd, surd_of, surd_one, surd_scale, surd_times, surd_power, Inverts-surd_times, Means-Same, Same-sym, Same-trans, Same-Agree, Agree, Agree-refl, Agree-sym, Agree-trans, Agree-eq, Agree-append, Agree-Same, surd_times-nil, surd_times-surd_one, surd_times-surd_of, Same-refl, Same-eq, whole_value, opposite, whole_literal, occurs, occurs_in, Pair, SamePair, pair_over, HasPair, HasPairSum, HasPairProduct, IsPowerSlope, IsRootPair, two, where_occurs, quotient_rule, lowered, power_rule, literal_power_rule, root_rule, sum_of_products, derivative, derivatives, products, eqb-true, ints, bytes_eq}
-use Rattle.calc_terms.specs.Fractions.{one_fraction}
+use Rattle.dual_diff.proofs.Shared.{Fraction, times, minus_one_fraction, whole_fraction, quotient, Tree, num, symbol, undef, add, mult, power, root, neg, sub, div, Trees, none, more, append, whole_num, Assignment, IsWholePower, Means, MeansSum, MeansProduct, Same, Inverts, Surd, surd_of, surd_one, surd_scale, surd_times, surd_power, Inverts-surd_times, Means-Same, Same-sym, Same-trans, Same-Agree, Agree, Agree-refl, Agree-sym, Agree-trans, Agree-eq, Agree-append, Agree-Same, surd_times-nil, surd_times-surd_one, surd_times-surd_of, Same-refl, Same-eq, whole_value, opposite, whole_literal, occurs, occurs_in, Pair, SamePair, pair_over, HasPair, HasPairSum, HasPairProduct, IsPowerSlope, IsRootPair, two, where_occurs, quotient_rule, lowered, power_rule, literal_power_rule, root_rule, sum_of_products, derivative, derivatives, products, eqb-true, ints, bytes_eq, one_fraction}
 use Rattle.calc_algebra.proofs.MeaningRewrites.{product_more, product_one, product_two, product_append}
 use Rattle.calc_algebra.proofs.ExponentLaws.{whole_times}
 use Rattle.calc_algebra.proofs.NumberRewrites.{fraction_whole}

@@ -1,10 +1,10 @@
 -- Exponents that are whole literals, and the powers that are derivable.
 use Rattle.std.proofs.Common.{◌≡◌, ℕ, List, ℤ, ◌≤◌, Bool, true, false, refl, sym, ap, ◌∙◌, subst}
 use Rattle.std.specs.Prelude.{◌==◌, ◌↔◌, Contains, IsTrue, Some, None, neg_ℤ, nat_abs, if◌then◌else◌}
-use Rattle.dual_diff.proofs.Names.{whole_value, opposite, whole_literal, Rat, Fraction, negative, ratio_of, value_of, Tree, power, names, root_kind, ratio_parts, nth, children_of, by_test, IsDerivable, IsDerivableExponent, exponent_limit, occurs, eqb-true, eq-eqb}
-use Rattle.calc_terms.specs.declared.kind.Kind.TheVariants as kind
+use Rattle.dual_diff.proofs.Shared.{whole_value, opposite, whole_literal, Rat, Fraction, negative, ratio_of, value_of, Tree, power, names, root_kind, ratio_parts, nth, children_of, by_test, IsDerivable, IsDerivableExponent, exponent_limit, occurs, eqb-true, eq-eqb}
 use Rattle.rational128.proofs.Reciprocals.{negative_parts}
 use Rattle.dual_diff.proofs.Occurring.{told, names_occur}
+use Rattle.calc_terms.specs.declared.kind.Kind.TheVariants as kind
 
 -- ---- whole numbers
 

@@ -1,8 +1,8 @@
 -- The form of a tree by the kind of its root, and its children.
 use Rattle.std.proofs.Common.{◌≡◌, ℕ, zero, suc, ◌+◌, ◌<◌, ◌≤◌, refl, sym, ap, ◌∙◌, arith}
-use Rattle.calc_terms.specs.declared.kind.Kind.TheVariants as kind
-use Rattle.dual_diff.proofs.Names.{Tree, undef, add, mult, power, root, div, Trees, none, more, append, count, root_kind, root_size, nodes, nodes_of, size, sizes, nth, children_of, behind, first}
+use Rattle.dual_diff.proofs.Shared.{Tree, undef, add, mult, power, root, div, Trees, none, more, append, count, root_kind, root_size, nodes, nodes_of, size, sizes, nth, children_of, behind, first}
 use Rattle.tree_handles.proofs.Room.{least_size}
+use Rattle.calc_terms.specs.declared.kind.Kind.TheVariants as kind
 
 pub quotient_form : (t : Tree) → root_kind t ≡ kind.Div → t ≡ div (nth 0 (children_of t)) (nth 1 (children_of t))
 quotient_form (div a b) h = refl

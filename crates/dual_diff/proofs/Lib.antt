@@ -1,4 +1,3 @@
-pub mod Names
 pub mod Occurring
 pub mod SlopeLaws
 pub mod Still
@@ -13,3 +12,4 @@ pub mod Numbers
 pub mod Slices
 pub mod Rules
 pub mod Turns
+pub mod Shared

@@ -1,11 +1,11 @@
 -- Whole numbers that are placed.
 use Rattle.std.proofs.Common.{◌≡◌, ◌<◌, ◌≤◌, ◌^◌, ℕ, List, zero, suc, ℤ, pos, negsuc, ◌-ℤ◌, true, false, nat_eq, of_z, to_z, refl, sym, ap, ◌∙◌, subst, arith}
 use Rattle.std.specs.Prelude.{FitsSigned, Some, nat_abs}
-use Rattle.dual_diff.proofs.Names.{whole_literal, Rat, lowest, whole_fraction, rational, size_of_payload, ratio_of, value_of, Tree, num, root_kind, size, whole_num, told, by_test, children_of, nth, derivative, exponent_limit, lowered, power_rule, occurs, eqb-true, fits_signed_from_abs, ints, w128}
-use Rattle.calc_terms.specs.declared.kind.Kind.TheVariants as kind
+use Rattle.dual_diff.proofs.Shared.{whole_literal, Rat, lowest, whole_fraction, rational, size_of_payload, ratio_of, value_of, Tree, num, root_kind, size, whole_num, told, by_test, children_of, nth, derivative, exponent_limit, lowered, power_rule, occurs, eqb-true, fits_signed_from_abs, ints, w128}
 use Rattle.calc_terms.specs.Integers.{int_is_one, int_is_zero}
 use Rattle.calc_terms.specs.Ratio.{Ratio, whole}
 use Rattle.dual_diff.proofs.Rules.{power_by_rule}
+use Rattle.calc_terms.specs.declared.kind.Kind.TheVariants as kind
 
 pub placed_value : (r : Rat) (z : ℤ) → nat_abs z < 2 ^ 127 → ratio_of r ≡ whole (to_z w128 (of_z w128 z)) → value_of r ≡ whole_fraction z
 placed_value r z fits e = ap (λ (x : Ratio). lowest x.num x.den) e ∙ ap whole_fraction (told z fits)

@@ -1,9 +1,9 @@
 -- Where a name occurs.
 use Rattle.std.proofs.Common.{◌≡◌, ℕ, List, [], ◌∷◌, ◌++◌, Bool, true, false, refl, subst, inl, inr, arith}
 use Rattle.std.specs.Prelude.{◌||◌, ◌⊎◌, ◌↔◌, Contains, IsTrue}
+use Rattle.dual_diff.proofs.Shared.{Tree, num, symbol, undef, add, mult, power, root, neg, sub, div, Trees, none, more, names, names_of, occurs, occurs_in}
 use Rattle.std.proofs.lemmas.List.Elements.{Contains-append_left, Contains-append_right, Contains-append_cases, Contains-push, Contains-push_cases}
 use Rattle.std.proofs.lemmas.Slice.Eq.{bytes_eq-Decides}
-use Rattle.dual_diff.proofs.Names.{Tree, num, symbol, undef, add, mult, power, root, neg, sub, div, Trees, none, more, names, names_of, occurs, occurs_in}
 
 pub either_left : (a b : Bool) → (a || b) ≡ false → a ≡ false
 either_left true b h = h

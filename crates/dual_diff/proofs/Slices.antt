@@ -1,6 +1,6 @@
 -- Slices of lists of trees.
 use Rattle.std.proofs.Common.{◌≡◌, ℕ, zero, suc, ◌+◌, ◌-◌, ◌<◌, ◌≤◌, List, sym, ap, ◌∙◌, arith}
-use Rattle.dual_diff.proofs.Names.{Trees, none, more, append, count, size, sizes, nth, derivative, with_derivative, behind, first}
+use Rattle.dual_diff.proofs.Shared.{Trees, none, more, append, count, size, sizes, nth, derivative, with_derivative, behind, first}
 use Rattle.dual_diff.proofs.Forms.{count_behind, first_all, first_next, nth_behind, sizes_append}
 
 pub slice_none : (from : ℕ) (ts : Trees) → none ≡ first (from - from) (behind from ts)

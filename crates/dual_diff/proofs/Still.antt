@@ -1,7 +1,7 @@
 -- The slope of a tree that does not hold the name is 0.
 use Rattle.std.proofs.Common.{◌≡◌, ℕ, List, [], Bool, true, false, ap, inl, inr}
 use Rattle.std.specs.Prelude.{if◌then◌else◌}
-use Rattle.dual_diff.proofs.Names.{minus_one_fraction, Tree, num, symbol, undef, add, mult, power, root, neg, sub, div, Trees, none, more, Assignment, Same, Surd, surd_one, surd_times, Same-Agree, Agree, Agree-trans, Agree-eq, occurs, occurs_in, Pair, HasPair, HasPairSum, HasPairProduct, bytes_eq}
+use Rattle.dual_diff.proofs.Shared.{minus_one_fraction, Tree, num, symbol, undef, add, mult, power, root, neg, sub, div, Trees, none, more, Assignment, Same, Surd, surd_one, surd_times, Same-Agree, Agree, Agree-trans, Agree-eq, occurs, occurs_in, Pair, HasPair, HasPairSum, HasPairProduct, bytes_eq}
 use Rattle.dual_diff.proofs.Occurring.{either_left, either_right}
 use Rattle.dual_diff.proofs.SlopeLaws.{zero_append, zero_scale, zero_times, times_zero}
 

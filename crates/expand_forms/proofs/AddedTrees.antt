@@ -1,35 +1,13 @@
 -- New trees behind others, and a node that adopts them.
 use Rattle.std.proofs.Common.{◌≡◌, ◌≤◌, ℕ, ◌+◌, true, refl, sym, ap, ◌∙◌, subst, arith}
-use Rattle.calc_terms.specs.Payload.{bare, size_of_payload}
-use Rattle.calc_terms.specs.Trees.{Tree, Trees, none, more, append, count, is_mult, mult, sizes}
-use Rattle.calc_terms.specs.declared.kind.Kind.{Kind}
-use Rattle.tree_handles.proofs.Over.{over_product, added_as, moved}
-use Rattle.tree_handles.proofs.Cuts.{represents_count}
-use Rattle.expand_forms.specs.Merging.{AddsTrees, AreFactors, BeginsWith}
-use Rattle.expand_forms.specs.Terms.{HasMonomial, factors_in, first_place}
-use Rattle.expand_forms.specs.Polynomials.{Monomial}
-use Rattle.expand_forms.specs.declared.factors.Factor.{Factor as Read}
 use Rattle.std.specs.Prelude.{Option, drop}
+use Rattle.expand_forms.proofs.Shared.{bare, size_of_payload, Tree, Trees, none, more, append, count, is_mult, mult, sizes, Kind, represents_count, AddsTrees, AreFactors, BeginsWith, HasMonomial, factors_in, first_place, Monomial, State, free_of, last_with, lists_with, root_ids, AllExpressions, IsExpression, children_of, compound, plain, takes_kind, Forest, Label, arity, bytes_in, empty, join, kids, one_tree, tree, with_nth, Ends, Gives, holds, kids_of, tree_at, adopted, behind_root, has_root, put, root_tree, without_root, KeepsRefusals, Stands, forest, bytes_in-join, join-empty, join_assoc, given_handed, given_rest, given_told, gives, gives_as, represents_join, represents_node, represents_none, holds-left, kids_of-join_left, tree_at-join_left, ends_as, ends_at, last_rest, last_root, last_tree, alone, sizes-plains, root-left}
+use Rattle.tree_handles.proofs.Over.{over_product, added_as, moved}
+use Rattle.expand_forms.specs.declared.factors.Factor.{Factor as Read}
 use Rattle.expand_forms.specs.declared.factors.Factors.{Factors}
 use Rattle.expand_forms.proofs.TermReadings.{IsBeside}
-use Rattle.node_pool.specs.State.{State, free_of}
-use Rattle.number_forms.proofs.LastSums.{last_with}
-use Rattle.child_lists.proofs.ListedChildren.{lists_with}
-use Rattle.tree_handles.specs.Children.{root_ids}
-use Rattle.tree_handles.specs.Expressions.{AllExpressions, IsExpression, children_of, compound, plain, takes_kind}
-use Rattle.tree_handles.specs.Forest.{Forest, Label, arity, bytes_in, empty, join, kids, one_tree, tree, with_nth}
-use Rattle.tree_handles.specs.Handed.{Ends, Gives}
-use Rattle.tree_handles.specs.Inside.{holds, kids_of, tree_at}
-use Rattle.tree_handles.specs.Roots.{adopted, behind_root, has_root, put, root_tree, without_root}
-use Rattle.tree_handles.specs.Standing.{KeepsRefusals, Stands, forest}
 use Rattle.tree_handles.proofs.Adopting.{adopted_all, behind_there}
-use Rattle.tree_handles.proofs.Forests.{bytes_in-join, join-empty, join_assoc}
-use Rattle.tree_handles.proofs.Given.{given_handed, given_rest, given_told, gives, gives_as, represents_join, represents_node, represents_none}
-use Rattle.tree_handles.proofs.Joins.{holds-left, kids_of-join_left, tree_at-join_left}
-use Rattle.tree_handles.proofs.Lasts.{ends_as, ends_at, last_rest, last_root, last_tree}
 use Rattle.tree_handles.proofs.Places.{used_forest}
-use Rattle.tree_handles.proofs.Plains.{alone, sizes-plains}
-use Rattle.tree_handles.proofs.Roots.{root-left}
 
 pub adds_none : (f : Forest) → AddsTrees none f f
 adds_none f = record { trees = empty; whole = sym (join-empty f); represents = represents_none }

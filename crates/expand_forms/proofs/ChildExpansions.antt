@@ -1,26 +1,13 @@
 -- The polynomial of a node over expanded children has the coefficients of that over the children themselves.
 use Rattle.std.proofs.Common.{◌≡◌, ◌≢◌, ℕ, zero, suc, [], true, refl, sym, ap, ◌∙◌, subst, arith, negsuc}
 use Rattle.std.specs.Prelude.{not}
-use Rattle.std.proofs.lemmas.Bool.{and_parts, eqb-true}
-use Rattle.calc_terms.specs.declared.kind.Kind.{Kind}
-use Rattle.calc_terms.specs.declared.kind.Kind.TheVariants as kind
-use Rattle.calc_terms.proofs.FractionFacts.{no_zero, zero_test}
-use Rattle.calc_algebra.proofs.InverseLaws.{factor_not_zero, product_not_zero}
-use Rattle.calc_terms.specs.FractionLaws.{negative_lowest}
-use Rattle.calc_terms.specs.Fractions.{Fraction, inverse, is_zero_fraction, lowest, minus_one_fraction, negative, one_fraction, times, zero_fraction}
-use Rattle.calc_terms.specs.Payload.{Payload, rational, named, bare}
-use Rattle.calc_terms.specs.Trees.{Tree, num, symbol, power, neg, sub, div, Trees, none, more, count}
-use Rattle.expand_forms.specs.ExpandedTrees.{expanded}
-use Rattle.expand_forms.specs.Polynomials.{Polynomial, constant, raised, scaled}
-use Rattle.expand_forms.specs.PolynomialTrees.{are_polynomials, divisor_of, exponent_of, has_polynomial_root, is_divisor, is_exponent, is_polynomial, is_small, natural_of, polynomial_of, product_of, sum_of}
-use Rattle.expand_forms.specs.Sums.{AreExpanded, AreSame, IsExpanded}
-use Rattle.expand_forms.specs.Walks.{AreExpandedFrom, IsExpandedFrom}
+use Rattle.expand_forms.proofs.Shared.{and_parts, eqb-true, Kind, no_zero, zero_test, factor_not_zero, product_not_zero, negative_lowest, Fraction, inverse, is_zero_fraction, lowest, minus_one_fraction, negative, one_fraction, times, zero_fraction, Payload, rational, named, bare, Tree, num, symbol, power, neg, sub, div, Trees, none, more, count, expanded, Polynomial, constant, raised, scaled, are_polynomials, divisor_of, exponent_of, has_polynomial_root, is_divisor, is_exponent, is_polynomial, is_small, natural_of, polynomial_of, product_of, sum_of, AreExpanded, AreSame, IsExpanded, AreExpandedFrom, IsExpandedFrom, compound, grown, nth, takes, takes_kind}
 use Rattle.expand_forms.proofs.Expansions.{constant_expanded, is_expanded, same_polynomial}
 use Rattle.expand_forms.proofs.Numbers.{opposite_whole}
 use Rattle.expand_forms.proofs.SameCoefficients.{product_both, same_append, same_refl, scaled_same}
 use Rattle.expand_forms.proofs.TreeMeanings.{minus_one_times}
 use Rattle.expand_forms.proofs.TreeMonomials.{tree_monomials}
-use Rattle.tree_handles.specs.Expressions.{compound, grown, nth, takes, takes_kind}
+use Rattle.calc_terms.specs.declared.kind.Kind.TheVariants as kind
 
 pub record IsOver (t u : Tree) (us : Trees) : Type 0 where
   pub root : has_polynomial_root u ≡ true

@@ -1,19 +1,9 @@
 -- The room of an expansion, from that of a child's.
 use Rattle.std.proofs.Common.{◌≡◌, ℕ, suc, ◌+◌, ◌*◌, ◌≤◌, ◌<◌, max, List, [], ◌++◌, Bool, true, refl, sym, ap, ◌∙◌, subst, arith}
 use Rattle.std.specs.Prelude.{◌&&◌}
-use Rattle.std.proofs.Math.Nat.{le-max_left, le-max_right, max-le}
-use Rattle.std.proofs.lemmas.Bool.{and_parts}
-use Rattle.std.proofs.lemmas.Nat.{mul-le}
-use Rattle.calc_algebra.proofs.Names.{Within, names_of-append, within_both, within_eq, within_left, within_none, within_right, within_same, within_trans}
-use Rattle.calc_terms.proofs.Sizes.{root_most}
-use Rattle.calc_terms.specs.Trees.{Tree, num, symbol, undef, add, mult, power, root, neg, sub, div, Trees, none, more, append, names, names_of, nodes, nodes_of, size, sizes}
-use Rattle.expand_forms.specs.ExpansionRoom.{count_distinct, expansion_room, most_terms, most_terms_of, node_bytes, sum_bytes, terms}
-use Rattle.expand_forms.specs.PolynomialTrees.{are_polynomials, is_polynomial}
-use Rattle.expand_forms.specs.Walks.{AreExpandedFrom}
-use Rattle.reduce_walk.proofs.Walks.{nodes_append, nodes_by_children}
+use Rattle.expand_forms.proofs.Shared.{le-max_left, le-max_right, max-le, and_parts, mul-le, Within, names_of-append, within_both, within_eq, within_left, within_none, within_right, within_same, within_trans, root_most, Tree, num, symbol, undef, add, mult, power, root, neg, sub, div, Trees, none, more, append, names, names_of, nodes, nodes_of, size, sizes, count_distinct, expansion_room, most_terms, most_terms_of, node_bytes, sum_bytes, terms, are_polynomials, is_polynomial, AreExpandedFrom, nodes_append, nodes_by_children, children_of}
 use Rattle.expand_forms.proofs.TermCounts.{answer_most, most_of_all, some_nodes, some_terms}
 use Rattle.expand_forms.proofs.Widths.{names_rise}
-use Rattle.tree_handles.specs.Expressions.{children_of}
 
 -- ---- trees
 

@@ -1,11 +1,7 @@
 -- Expanded trees are not Undef.
 use Rattle.std.proofs.Common.{◌≡◌, Bool, true, false, [], ◌∷◌, refl}
 use Rattle.std.specs.Prelude.{◌==◌, if◌then◌else◌}
-use Rattle.calc_algebra.specs.Reduced.{product_tree}
-use Rattle.calc_terms.specs.Fractions.{is_one_fraction}
-use Rattle.calc_terms.specs.Trees.{num, symbol, power, more, is_undef, whole_num}
-use Rattle.expand_forms.specs.ExpandedTrees.{expanded, factor_tree, factor_trees, monomial_tree, normal, sum_tree, term_tree, term_trees}
-use Rattle.expand_forms.specs.Polynomials.{Factor, Monomial, Polynomial, Summand}
+use Rattle.expand_forms.proofs.Shared.{product_tree, is_one_fraction, num, symbol, power, more, is_undef, whole_num, expanded, factor_tree, factor_trees, monomial_tree, normal, sum_tree, term_tree, term_trees, Factor, Monomial, Polynomial, Summand}
 
 factor_defined : (f : Factor) → is_undef (factor_tree f) ≡ false
 factor_defined f = by (f.exponent == 1)

@@ -1,29 +1,9 @@
 -- What a polynomial is worth is a meaning of its expanded tree.
 use Rattle.std.proofs.Common.{◌≡◌, ◌≤◌, ℕ, zero, suc, ◌+◌, pos, [], ◌∷◌, Bool, true, false, refl, sym, ap, ◌∙◌, subst, arith}
 use Rattle.std.specs.Prelude.{◌==◌, if◌then◌else◌}
-use Rattle.std.proofs.lemmas.Bool.{eqb-true}
-use Rattle.std.specs.declared.cmp.Ordering.{Ordering}
-use Rattle.std.specs.declared.cmp.Ordering.TheVariants.{Less, Equal, Greater}
-use Rattle.std.specs.Ordering.{nat_cmp}
-use Rattle.std.specs.Cmp.Lexicographic.{slice_cmp}
-use Rattle.calc_algebra.specs.Meanings.{Assignment, Gives, IsAssignment, IsWholePower, Means, MeansProduct, MeansSum}
-use Rattle.calc_algebra.specs.Reduced.{product_tree}
-use Rattle.calc_algebra.specs.Surds.{Surd, surd_of, surd_one}
-use Rattle.calc_algebra.proofs.MeaningLaws.{Means-Same, Same-sym}
+use Rattle.expand_forms.proofs.Shared.{eqb-true, Ordering, Less, Equal, Greater, nat_cmp, slice_cmp, Assignment, IsAssignment, IsWholePower, Means, MeansProduct, MeansSum, product_tree, Surd, surd_of, surd_one, Means-Same, Same-sym, rational_power, power_whole, Same-trans, Same-eq, Same-refl, joined_radicand, surd_times-terms, zero_term, one_is, zero_is, fraction_power, one_times, zero_plus, zero_times, Fraction, is_one_fraction, is_zero_fraction, minus_one_fraction, plus, plus_assoc, times, zero_fraction, inverse, Tree, num, symbol, undef, add, mult, power, root, neg, sub, div, Trees, none, more, whole_num, Factor, Monomial, Polynomial, Summand, factor, monomial_times, scaled, summand, with_factor, divisor_of, exponent_of, is_polynomial, polynomial_of, product_of, sum_of, expanded, factor_tree, factor_trees, joined, monomial_cmp, monomial_tree, normal, sum_tree, term_tree, term_trees, with_summand, without_zeros, factor_value, given, monomial_value, polynomial_value, summand_value}
+use Rattle.calc_algebra.specs.Meanings.{Gives}
 use Rattle.calc_algebra.proofs.MeaningRewrites.{none_product, none_sum, one_product, one_sum, product_more, product_none, sum_more, sum_none}
-use Rattle.calc_algebra.proofs.PowerLaws.{rational_power}
-use Rattle.calc_algebra.proofs.PowerRewrites.{power_whole}
-use Rattle.calc_algebra.proofs.SquareClassLaws.{Same-trans}
-use Rattle.calc_algebra.proofs.TermLaws.{Same-eq, Same-refl, joined_radicand, surd_times-terms, zero_term}
-use Rattle.calc_terms.proofs.FractionFacts.{one_is, zero_is}
-use Rattle.calc_terms.specs.Fits.{fraction_power}
-use Rattle.calc_terms.specs.FractionLaws.{one_times, zero_plus, zero_times}
-use Rattle.calc_terms.specs.Fractions.{Fraction, is_one_fraction, is_zero_fraction, minus_one_fraction, plus, plus_assoc, times, zero_fraction, inverse}
-use Rattle.calc_terms.specs.Trees.{Tree, num, symbol, undef, add, mult, power, root, neg, sub, div, Trees, none, more, whole_num}
-use Rattle.expand_forms.specs.Polynomials.{Factor, Monomial, Polynomial, Summand, factor, monomial_times, scaled, summand, with_factor}
-use Rattle.expand_forms.specs.PolynomialTrees.{divisor_of, exponent_of, is_polynomial, polynomial_of, product_of, sum_of}
-use Rattle.expand_forms.specs.ExpandedTrees.{expanded, factor_tree, factor_trees, joined, monomial_cmp, monomial_tree, normal, sum_tree, term_tree, term_trees, with_summand, without_zeros}
-use Rattle.expand_forms.specs.Values.{factor_value, given, monomial_value, polynomial_value, summand_value}
 use Rattle.expand_forms.proofs.AllMonomials.{AllHave, IsClosed, append_all, normal_all, product_all, raised_all, scaled_all}
 use Rattle.expand_forms.proofs.Arithmetic.{plus_left_comm, plus_times, times_one}
 use Rattle.expand_forms.proofs.MonomialTrees.{equal_is}

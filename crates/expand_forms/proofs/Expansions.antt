@@ -1,18 +1,8 @@
 -- Expanded trees as answers.
 use Rattle.std.proofs.Common.{◌≡◌, ◌≤◌, ℕ, suc, ◌+◌, List, [], ◌∷◌, ◌++◌, Bool, true, false, refl, sym, ap, ◌∙◌, arith, pos, append-nil}
 use Rattle.std.specs.Prelude.{not, if◌then◌else◌}
-use Rattle.calc_terms.proofs.FractionFacts.{no_one, one_is, zero_is, zero_test}
+use Rattle.expand_forms.proofs.Shared.{no_one, one_is, zero_is, zero_test, product_tree, Rat, ratio_of, value_of, Ratio, whole, Fraction, is_one_fraction, is_zero_fraction, lowest, one_fraction, zero_fraction, Tree, Trees, num, symbol, add, none, more, count, IsNormal, expanded, normal, sum_tree, term_trees, AreMonomials, IsMonomial, Polynomial, coefficient_at, constant, factor, product, raised, summand, variable, polynomial_of, AreSame, IsExpanded, IsSum, IsSumOf, children_of, nth}
 use Rattle.calc_algebra.proofs.NumberClasses.{one_not_zero}
-use Rattle.calc_algebra.specs.Reduced.{product_tree}
-use Rattle.calc_terms.specs.declared.rat.Rat.{Rat}
-use Rattle.calc_terms.specs.Rat.{ratio_of, value_of}
-use Rattle.calc_terms.specs.Ratio.{Ratio, whole}
-use Rattle.calc_terms.specs.Fractions.{Fraction, is_one_fraction, is_zero_fraction, lowest, one_fraction, zero_fraction}
-use Rattle.calc_terms.specs.Trees.{Tree, Trees, num, symbol, add, none, more, count}
-use Rattle.expand_forms.specs.ExpandedTrees.{IsNormal, expanded, normal, sum_tree, term_trees}
-use Rattle.expand_forms.specs.Polynomials.{AreMonomials, IsMonomial, Polynomial, coefficient_at, constant, factor, product, raised, summand, variable}
-use Rattle.expand_forms.specs.PolynomialTrees.{polynomial_of}
-use Rattle.expand_forms.specs.Sums.{AreSame, IsExpanded, IsSum, IsSumOf}
 use Rattle.expand_forms.proofs.AllMonomials.{AllHave, normal_all, product_all, raised_all}
 use Rattle.expand_forms.proofs.Joins.{sum_polynomial_is}
 use Rattle.expand_forms.proofs.MonomialProducts.{raised_add}
@@ -22,7 +12,6 @@ use Rattle.expand_forms.proofs.TermPolynomials.{expanded_polynomial}
 use Rattle.expand_forms.proofs.TreeMonomials.{all_monomials, monomial_closed, tree_monomials}
 use Rattle.expand_forms.proofs.Sums.{sum_is}
 use Rattle.expand_forms.proofs.TermReadings.{sum_children}
-use Rattle.tree_handles.specs.Expressions.{children_of, nth}
 
 pub expanded_same : {v w : Polynomial} → AreSame v w → expanded v ≡ expanded w
 expanded_same h = ap (λ (u : Polynomial). sum_tree (term_trees u)) (normal_same h)

@@ -1,20 +1,8 @@
 -- The trees of monomials and of terms have the form of reduced trees.
 use Rattle.std.proofs.Common.{◌≡◌, ◌≢◌, ◌≤◌, inl, inr, ℕ, zero, suc, pos, [], ◌∷◌, Bool, true, false, refl, sym, ap, ◌∙◌, subst, arith}
 use Rattle.std.specs.Prelude.{◌==◌, ◌&&◌, not, if◌then◌else◌}
-use Rattle.std.specs.declared.cmp.Ordering.TheVariants.{Less, Greater}
-use Rattle.std.proofs.lemmas.Bool.{eq-eqb, false_from_ne_true}
-use Rattle.calc_algebra.specs.Numbers.{IsNumber, is_number, is_term}
-use Rattle.calc_algebra.specs.Reduced.{HasForm, IsFrontForm, IsPowerForm, IsProductForm, NoneIs, RisesBy, Split, base_of, is_num_one, is_one_add, is_opaque_exponent, is_undistributed, num_one, part_of, product_tree, split, split_product}
-use Rattle.calc_algebra.specs.TreeOrder.{tree_cmp}
-use Rattle.calc_algebra.proofs.MeaningLaws.{whole_one}
+use Rattle.expand_forms.proofs.Shared.{Less, Greater, eq-eqb, false_from_ne_true, IsNumber, is_number, is_term, HasForm, IsFrontForm, IsPowerForm, IsProductForm, NoneIs, RisesBy, Split, base_of, is_num_one, is_one_add, is_opaque_exponent, is_undistributed, num_one, part_of, product_tree, split, split_product, tree_cmp, whole_one, tree_cmp_refl, no_one, whole_denominator, not_from_false, Fraction, is_one_fraction, one_fraction, zero_fraction, AllParts, AllPartsOf, HasTwo, Tree, num, symbol, mult, power, Trees, more, is_add, is_mult, is_num, whole_num, factor_tree, factor_trees, monomial_tree, term_tree, Factor, IsMonomial, Monomial, Summand}
 use Rattle.calc_algebra.proofs.NumberLaws.{number_words}
-use Rattle.calc_algebra.proofs.TreeOrderLaws.{tree_cmp_refl}
-use Rattle.calc_terms.proofs.FractionFacts.{no_one, whole_denominator}
-use Rattle.std.proofs.lemmas.Bool.{not_from_false}
-use Rattle.calc_terms.specs.Fractions.{Fraction, is_one_fraction, one_fraction, zero_fraction}
-use Rattle.calc_terms.specs.Trees.{AllParts, AllPartsOf, HasTwo, Tree, num, symbol, mult, power, Trees, more, is_add, is_mult, is_num, whole_num}
-use Rattle.expand_forms.specs.ExpandedTrees.{factor_tree, factor_trees, monomial_tree, term_tree}
-use Rattle.expand_forms.specs.Polynomials.{Factor, IsMonomial, Monomial, Summand}
 use Rattle.expand_forms.proofs.MonomialTrees.{factor_no_mult}
 use Rattle.expand_forms.proofs.Nodes.{and_false}
 

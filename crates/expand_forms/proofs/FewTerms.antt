@@ -1,17 +1,6 @@
 -- Polynomials with few terms: their sums and products, and the trees of them.
 use Rattle.std.proofs.Common.{◌≡◌, ℕ, ◌+◌, ◌*◌, ◌^◌, ◌≤◌, List, [], ◌∷◌, ◌++◌, length, sym, ap, subst, arith}
-use Rattle.std.proofs.Math.Nat.{pow-le-pow_left}
-use Rattle.std.proofs.lemmas.List.{length-append}
-use Rattle.std.proofs.lemmas.Nat.{mul-le}
-use Rattle.calc_algebra.proofs.Names.{within_of}
-use Rattle.calc_algebra.specs.Rewritings.{HasNoNewName}
-use Rattle.calc_terms.specs.Fractions.{Fraction}
-use Rattle.calc_terms.specs.Trees.{Tree, add, names, none, size}
-use Rattle.expand_forms.specs.ExpandedTrees.{expanded, normal, sum_tree, term_trees}
-use Rattle.expand_forms.specs.ExpansionRoom.{AreNamed, HasFewTerms, IsNamed, sum_bytes}
-use Rattle.expand_forms.specs.Polynomials.{AreMonomials, IsMonomial, Polynomial, constant, product, raised, scaled}
-use Rattle.expand_forms.specs.PolynomialTrees.{polynomial_of}
-use Rattle.expand_forms.specs.Sums.{IsExpanded, IsSum}
+use Rattle.expand_forms.proofs.Shared.{pow-le-pow_left, length-append, mul-le, within_of, HasNoNewName, Fraction, Tree, add, names, none, size, expanded, normal, sum_tree, term_trees, AreNamed, HasFewTerms, IsNamed, sum_bytes, AreMonomials, IsMonomial, Polynomial, constant, product, raised, scaled, polynomial_of, IsExpanded, IsSum}
 use Rattle.expand_forms.proofs.AllMonomials.{AllHave, append_all, normal_all, product_all, raised_all, scaled_all}
 use Rattle.expand_forms.proofs.Gathered.{gathered_few, gathered_normal}
 use Rattle.expand_forms.proofs.Joins.{sum_polynomial_is}

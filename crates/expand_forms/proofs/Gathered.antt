@@ -1,13 +1,6 @@
 -- Polynomials with some summands added up, and in another order: they have the same coefficients, and are no larger.
 use Rattle.std.proofs.Common.{◌≡◌, ◌⊎◌, inl, inr, ℕ, ◌+◌, ◌≤◌, ◌<◌, List, [], ◌∷◌, ◌++◌, length, sym, ap, ◌∙◌, subst, arith, append_assoc}
-use Rattle.std.proofs.lemmas.List.{length-append}
-use Rattle.calc_terms.specs.Trees.{Tree}
-use Rattle.expand_forms.specs.ExpandedTrees.{normal}
-use Rattle.expand_forms.specs.ExpansionBits.{AreWhole, HaveExponents, IsHeld, mass}
-use Rattle.expand_forms.specs.ExpansionRoom.{AreNamed, HasFewTerms, IsNamed}
-use Rattle.expand_forms.specs.Polynomials.{Polynomial, product}
-use Rattle.expand_forms.specs.PolynomialTrees.{polynomial_of}
-use Rattle.expand_forms.specs.Sums.{AreSame, IsExpanded, IsSumOf}
+use Rattle.expand_forms.proofs.Shared.{length-append, Tree, normal, AreWhole, HaveExponents, IsHeld, mass, AreNamed, HasFewTerms, IsNamed, Polynomial, product, polynomial_of, AreSame, IsExpanded, IsSumOf}
 use Rattle.expand_forms.proofs.AllMonomials.{append_all, normal_all}
 use Rattle.expand_forms.proofs.Joins.{sum_polynomial_is}
 use Rattle.expand_forms.proofs.Masses.{exponents_append, exponents_left, exponents_normal, exponents_right, mass_append, normal_mass, normal_whole, whole_append, whole_left, whole_right}

@@ -1,18 +1,8 @@
 -- Polynomials that are held by bits: their sums, products and powers, and their normal forms.
 use Rattle.std.proofs.Common.{◌≡◌, ℕ, zero, suc, ◌+◌, ◌*◌, ◌^◌, ◌≤◌, ◌<◌, pos, negsuc, [], ◌∷◌, sym, subst, arith}
+use Rattle.expand_forms.proofs.Shared.{one-dvd, pow-le-pow_right, mul-le, pow-add, dvd_trans, magnitude_over, den_divides, magnitude_lowest, lowest, minus_one_fraction, mul_pos, one_fraction, zero_fraction, Tree, expanded, normal, sum_tree, term_trees, IsHeld, mass, AreMonomials, IsMonomial, Polynomial, constant, product, raised, scaled, polynomial_of}
 use Rattle.std.specs.Int.{◌∣◌}
-use Rattle.std.proofs.Math.Nat.{one-dvd, pow-le-pow_right}
-use Rattle.std.proofs.lemmas.Nat.{mul-le, pow-add}
-use Rattle.std.proofs.lemmas.Nat.Gcd.{dvd_trans}
-use Rattle.calc_bits.specs.Denominators.{magnitude_over}
 use Rattle.calc_bits.proofs.Held.{two_powers}
-use Rattle.calc_bits.proofs.Quotients.{den_divides, magnitude_lowest}
-use Rattle.calc_terms.specs.Fractions.{lowest, minus_one_fraction, mul_pos, one_fraction, zero_fraction}
-use Rattle.calc_terms.specs.Trees.{Tree}
-use Rattle.expand_forms.specs.ExpandedTrees.{expanded, normal, sum_tree, term_trees}
-use Rattle.expand_forms.specs.ExpansionBits.{IsHeld, mass}
-use Rattle.expand_forms.specs.Polynomials.{AreMonomials, IsMonomial, Polynomial, constant, product, raised, scaled}
-use Rattle.expand_forms.specs.PolynomialTrees.{polynomial_of}
 use Rattle.expand_forms.proofs.AllMonomials.{AllHave, normal_all}
 use Rattle.expand_forms.proofs.Gathered.{gathered_held, gathered_normal}
 use Rattle.expand_forms.proofs.Masses.{mass_product, more_exponents, product_exponents, whole_product}

@@ -1,13 +1,6 @@
 -- Loops that join products of terms to a sum.
 use Rattle.std.proofs.Common.{◌≡◌, ◌<◌, ℕ, ◌+◌, List, [], ◌∷◌, ◌++◌, true, refl, sym, ap, ◌∙◌, subst, arith, append_assoc}
-use Rattle.calc_terms.specs.Trees.{Tree, count, size}
-use Rattle.expand_forms.specs.ExpandedTrees.{normal, term_trees}
-use Rattle.expand_forms.specs.ExpansionBits.{IsHeld}
-use Rattle.expand_forms.specs.ExpansionRoom.{HasFewTerms}
-use Rattle.expand_forms.specs.Polynomials.{Polynomial}
-use Rattle.expand_forms.specs.PolynomialTrees.{polynomial_of}
-use Rattle.expand_forms.specs.Sums.{IsExpanded, IsSum, IsSumOf}
-use Rattle.expand_forms.specs.Terms.{IsTerm, terms_in}
+use Rattle.expand_forms.proofs.Shared.{Tree, count, size, normal, term_trees, IsHeld, HasFewTerms, Polynomial, polynomial_of, IsExpanded, IsSum, IsSumOf, IsTerm, terms_in, State, free_of, replaced_free, gives_itself, kept_after, kept_same, IsExpression, nth, plain, Forest, Gives, IsHanded, KeepsFront, tree_of, holds, tree_at, without_root, KeepsRefusals, Stands, forest, behind_first, front_after_one, front_same, given_rest, given_told, gives_as}
 use Rattle.expand_forms.proofs.Gathered.{IsGathered, few_behind, gathered_append, gathered_few, gathered_held, gathered_is, gathered_refl, gathered_second, gathered_sum, gathered_trans}
 use Rattle.expand_forms.proofs.Joins.{IsNextSummand, next_summand, sum_polynomial_is}
 use Rattle.expand_forms.proofs.NormalForms.{normal_is}
@@ -16,18 +9,6 @@ use Rattle.expand_forms.proofs.Splits.{held_behind}
 use Rattle.expand_forms.proofs.TermPolynomials.{expanded_terms, tree_normal}
 use Rattle.expand_forms.proofs.TermReadings.{beside}
 use Rattle.expand_forms.proofs.Within.{within}
-use Rattle.node_pool.specs.State.{State, free_of}
-use Rattle.tree_handles.proofs.FreeBytes.{replaced_free}
-use Rattle.tree_handles.proofs.Beside.{gives_itself}
-use Rattle.tree_handles.proofs.Refused.{kept_after, kept_same}
-use Rattle.tree_handles.specs.Expressions.{IsExpression, nth, plain}
-use Rattle.tree_handles.specs.Forest.{Forest}
-use Rattle.tree_handles.specs.Handed.{Gives, IsHanded, KeepsFront, tree_of}
-use Rattle.tree_handles.specs.Inside.{holds, tree_at}
-use Rattle.tree_handles.specs.Roots.{without_root}
-use Rattle.tree_handles.specs.Standing.{KeepsRefusals, Stands, forest}
-use Rattle.tree_handles.proofs.Fronts.{behind_first, front_after_one, front_same}
-use Rattle.tree_handles.proofs.Given.{given_rest, given_told, gives_as}
 
 -- ---- a sum under way
 

@@ -1,17 +1,10 @@
 -- For how few bytes products of terms find no room in a sum.
 use Rattle.std.proofs.Common.{ℕ, ◌+◌, ◌<◌, ◌≤◌, List, ◌∷◌, length, arith}
-use Rattle.calc_terms.specs.Trees.{size}
-use Rattle.expand_forms.specs.ExpansionRoom.{HasFewTerms, sum_bytes, term_bytes}
-use Rattle.expand_forms.specs.Polynomials.{IsMonomial, Polynomial, Summand}
-use Rattle.expand_forms.specs.PolynomialTrees.{polynomial_of}
+use Rattle.expand_forms.proofs.Shared.{size, HasFewTerms, sum_bytes, term_bytes, IsMonomial, Polynomial, Summand, polynomial_of, State, free_of, IsHanded, tree_of, Stands, forest, given_told}
 use Rattle.expand_forms.proofs.FewTerms.{sum_most}
 use Rattle.expand_forms.proofs.JoinLoops.{IsJoined, joined_lacks}
 use Rattle.expand_forms.proofs.TermBytes.{terms_rise}
 use Rattle.expand_forms.proofs.Widths.{few_factors}
-use Rattle.node_pool.specs.State.{State, free_of}
-use Rattle.tree_handles.specs.Handed.{IsHanded, tree_of}
-use Rattle.tree_handles.specs.Standing.{Stands, forest}
-use Rattle.tree_handles.proofs.Given.{given_told}
 
 -- a term found none
 pub term_lacks : {ns : List (List ℕ)} {n i : ℕ} {left whole : Polynomial} {old now : State} (z : Summand) → IsMonomial z.monomial → IsJoined i left whole old now → Stands old → IsHanded i (forest old)

@@ -1,31 +1,12 @@
 -- A product of terms that is joined to a sum.
 use Rattle.std.proofs.Common.{◌≡◌, ◌≢◌, ◌≤◌, ◌<◌, ℕ, zero, suc, ◌+◌, [], ◌∷◌, drop, Bool, true, false, refl, sym, ap, ◌∙◌, subst, arith}
 use Rattle.std.specs.Prelude.{if◌then◌else◌}
-use Rattle.std.specs.declared.cmp.Ordering.TheVariants.{Equal}
-use Rattle.calc_terms.proofs.FractionFacts.{no_zero, zero_is}
-use Rattle.std.proofs.lemmas.Bool.{not_from_false}
-use Rattle.calc_terms.specs.Fractions.{Fraction, is_zero_fraction, plus, zero_fraction}
-use Rattle.calc_terms.specs.Trees.{Tree, Trees, add, mult, none, more, count}
-use Rattle.expand_forms.specs.ExpandedTrees.{factor_trees, normal, term_tree, term_trees}
-use Rattle.expand_forms.specs.Polynomials.{IsMonomial, Monomial, Polynomial, Summand, monomial_times, product, summand}
-use Rattle.expand_forms.specs.PolynomialTrees.{polynomial_of}
-use Rattle.expand_forms.specs.Sums.{IsPlace, IsSum, IsSumOf, with_term}
-use Rattle.expand_forms.specs.Terms.{HasMonomial, IsTerm, coefficient_in, term_cmp}
+use Rattle.expand_forms.proofs.Shared.{Equal, no_zero, zero_is, not_from_false, Fraction, is_zero_fraction, plus, zero_fraction, Tree, Trees, add, mult, none, more, count, factor_trees, normal, term_tree, term_trees, IsMonomial, Monomial, Polynomial, Summand, monomial_times, product, summand, polynomial_of, IsPlace, IsSum, IsSumOf, with_term, HasMonomial, IsTerm, coefficient_in, term_cmp, removed, same_plain, Forest, tree_at, State, IsExpression, children_of, inserted, nth, plain, Gives, put, root_tree, without_root, Stands, forest, given_handed, given_other, given_rest, given_root, given_same, given_told, gives_as}
 use Rattle.expand_forms.proofs.MonomialTrees.{equal_is}
 use Rattle.expand_forms.proofs.SameCoefficients.{same_is, same_trans}
 use Rattle.expand_forms.proofs.SumPlaces.{IsAt, IsFound, drop_at, drop_monomials, drop_normal, drop_trees, found, put_at, put_monomials, put_normal, put_same, put_trees, set_at, set_monomials, set_normal, term_order}
 use Rattle.expand_forms.proofs.TermPolynomials.{term_coefficient, term_polynomial, terms_polynomial}
 use Rattle.expand_forms.proofs.TermReadings.{beside, sum_children}
-use Rattle.number_forms.specs.Sums.{removed}
-use Rattle.number_forms.proofs.SumChanges.{same_plain}
-use Rattle.tree_handles.specs.Forest.{Forest}
-use Rattle.tree_handles.specs.Inside.{tree_at}
-use Rattle.node_pool.specs.State.{State}
-use Rattle.tree_handles.specs.Expressions.{IsExpression, children_of, inserted, nth, plain}
-use Rattle.tree_handles.specs.Handed.{Gives}
-use Rattle.tree_handles.specs.Roots.{put, root_tree, without_root}
-use Rattle.tree_handles.specs.Standing.{Stands, forest}
-use Rattle.tree_handles.proofs.Given.{given_handed, given_other, given_rest, given_root, given_same, given_told, gives_as}
 
 -- ---- polynomials of sums and of terms
 

@@ -1,21 +1,8 @@
 -- For how few free bytes terms are refused, from call to call.
 use Rattle.std.proofs.Common.{◌≡◌, ℕ, zero, suc, ◌≤◌, ◌<◌, ap, arith}
-use Rattle.calc_terms.proofs.Sizes.{payload_most}
-use Rattle.calc_terms.specs.Payload.{rational, size_of_payload}
-use Rattle.calc_terms.specs.Rat.{ratio_of}
-use Rattle.calc_terms.specs.declared.rat.Rat.{Rat}
-use Rattle.calc_terms.specs.Trees.{Trees, none, more, add, size, sizes}
-use Rattle.expand_forms.specs.Sums.{IsSum}
+use Rattle.expand_forms.proofs.Shared.{payload_most, rational, size_of_payload, ratio_of, Rat, Trees, none, more, add, size, sizes, IsSum, State, free_of, removed, refused_below, replaced_free, children_of, Gives, tree_of, without_root, IsRefused, KeepsRefusals, Stands, forest, given_handed, given_told}
 use Rattle.expand_forms.proofs.Sums.{sum_is}
-use Rattle.node_pool.specs.State.{State, free_of}
 use Rattle.node_pool.specs.declared.full.Full.{Full}
-use Rattle.number_forms.specs.Sums.{removed}
-use Rattle.tree_handles.proofs.FreeBytes.{refused_below, replaced_free}
-use Rattle.tree_handles.specs.Expressions.{children_of}
-use Rattle.tree_handles.specs.Handed.{Gives, tree_of}
-use Rattle.tree_handles.specs.Roots.{without_root}
-use Rattle.tree_handles.specs.Standing.{IsRefused, KeepsRefusals, Stands, forest}
-use Rattle.tree_handles.proofs.Given.{given_handed, given_told}
 
 pub number_refused : (q : Rat) {s t : State} {full : Full} → IsRefused (size_of_payload (rational (ratio_of q))) s t full → free_of s < 40
 number_refused q r = omega (arith, refused_below r, payload_most (rational (ratio_of q)))

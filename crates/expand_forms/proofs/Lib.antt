@@ -48,3 +48,4 @@ pub mod Rows
 pub mod NodeBits
 pub mod OverAnswers
 pub mod Defined
+pub mod Shared

@@ -1,16 +1,7 @@
 -- Lists of terms beside a sum that stands last.
 use Rattle.std.proofs.Common.{◌≡◌, ◌<◌, ℕ, List, sym, ap, ◌∙◌, subst}
 use Rattle.std.specs.Prelude.{Option, Some, None}
-use Rattle.calc_terms.specs.Trees.{Tree}
-use Rattle.child_lists.specs.Lists.{IsNextAt, Lists}
-use Rattle.child_lists.proofs.ListedChildren.{lists_with}
-use Rattle.child_lists.proofs.PutBefore.{kept_kids}
-use Rattle.tree_handles.specs.Children.{root_ids}
-use Rattle.tree_handles.specs.Expressions.{IsExpression}
-use Rattle.tree_handles.specs.Forest.{Forest, arity, kids, root_id, tree_nth}
-use Rattle.tree_handles.specs.Handed.{Ends, Gives}
-use Rattle.tree_handles.specs.Inside.{kids_of, tree_at}
-use Rattle.tree_handles.proofs.Joins.{tree_at-join_left}
+use Rattle.expand_forms.proofs.Shared.{Tree, IsNextAt, Lists, lists_with, kept_kids, root_ids, IsExpression, Forest, arity, kids, root_id, tree_nth, Ends, Gives, kids_of, tree_at, tree_at-join_left}
 
 -- the child at a place is the same before a tree is placed behind
 pub next_before : {i j : ℕ} {u g t f h : Forest} (n : ℕ) (o : Option ℕ) → Ends i u g f → Ends j t f h → IsNextAt n i h o → IsNextAt n i f o

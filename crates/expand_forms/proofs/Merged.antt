@@ -1,20 +1,9 @@
 -- The factors of two terms, merged into new trees.
 use Rattle.std.proofs.Common.{◌≡◌, ◌≤◌, ◌<◌, ◌^◌, ℕ, ◌+◌, [], ◌∷◌, ◌++◌, length, drop, refl, sym, ap, ◌∙◌, subst, arith, append_assoc, append-nil}
-use Rattle.std.proofs.lemmas.List.{length-append}
 use Rattle.std.specs.Prelude.{None, Option, Some}
-use Rattle.calc_terms.specs.Trees.{Trees}
-use Rattle.tree_handles.proofs.Cuts.{represents_count}
-use Rattle.expand_forms.specs.ExpandedTrees.{factor_tree, factor_trees}
-use Rattle.expand_forms.specs.Merging.{AddsTrees, GoesOn, IsNext}
-use Rattle.expand_forms.specs.declared.merging.Next.{Next}
-use Rattle.expand_forms.specs.Polynomials.{Monomial, monomial_times}
+use Rattle.expand_forms.proofs.Shared.{length-append, Trees, represents_count, factor_tree, factor_trees, AddsTrees, GoesOn, IsNext, Next, Monomial, monomial_times, State, Forest, arity, Gives, Stands, forest, arity-join}
 use Rattle.expand_forms.proofs.AddedTrees.{adds_more, adds_none}
 use Rattle.expand_forms.proofs.TermReadings.{count_factors, drop_length, drop_more, factors_append}
-use Rattle.node_pool.specs.State.{State}
-use Rattle.tree_handles.specs.Forest.{Forest, arity}
-use Rattle.tree_handles.specs.Handed.{Gives}
-use Rattle.tree_handles.specs.Standing.{Stands, forest}
-use Rattle.tree_handles.proofs.Forests.{arity-join}
 use Rattle.tree_handles.proofs.Releases.{arity_le, few_nodes}
 
 -- so many factors of each are placed, and the product goes on with that of the others

@@ -1,13 +1,6 @@
 -- Products of monomials and of polynomials: their order and their brackets.
 use Rattle.std.proofs.Common.{◌≡◌, ℕ, zero, suc, ◌+◌, List, [], ◌∷◌, ◌++◌, map, refl, sym, ap, ◌∙◌, arith, subst}
-use Rattle.std.specs.declared.cmp.Ordering.{Ordering}
-use Rattle.std.specs.declared.cmp.Ordering.TheVariants.{Less, Equal, Greater}
-use Rattle.std.specs.Ordering.{nat_cmp, ordering_reverse}
-use Rattle.std.specs.Cmp.Lexicographic.{nat_list_cmp_total, slice_cmp}
-use Rattle.calc_algebra.proofs.TreeOrderLaws.{tree_cmp_same}
-use Rattle.calc_terms.specs.FractionLaws.{times_assoc}
-use Rattle.calc_terms.specs.Trees.{symbol}
-use Rattle.expand_forms.specs.Polynomials.{Factor, IsBelowAll, IsMonomial, Monomial, Polynomial, Summand, factor, monomial_times, product, raised, summand, summand_times, with_factor}
+use Rattle.expand_forms.proofs.Shared.{Ordering, Less, Equal, Greater, nat_cmp, ordering_reverse, nat_list_cmp_total, slice_cmp, tree_cmp_same, times_assoc, symbol, Factor, IsBelowAll, IsMonomial, Monomial, Polynomial, Summand, factor, monomial_times, product, raised, summand, summand_times, with_factor}
 use Rattle.expand_forms.proofs.SameCoefficients.{product_append, times_one_polynomial}
 use Rattle.expand_forms.proofs.TreeMonomials.{below_more, below_with, names_turned}
 use Rattle.expand_forms.proofs.ValueLaws.{names_equal}

@@ -1,17 +1,7 @@
 -- Monomials are one where their trees are.
 use Rattle.std.proofs.Common.{◌≡◌, ℕ, List, pos, [], ◌∷◌, Bool, true, false, refl, sym, ap, ◌∙◌}
 use Rattle.std.specs.Prelude.{◌==◌, ◌&&◌, if◌then◌else◌}
-use Rattle.std.specs.Str.{bytes_eq}
-use Rattle.std.proofs.lemmas.Bool.{and_from, and_parts, eq-eqb, eqb-true, false_from_ne_true}
-use Rattle.std.proofs.lemmas.Slice.Eq.{bytes_eq-Decides}
-use Rattle.std.specs.declared.cmp.Ordering.TheVariants.{Less, Equal, Greater}
-use Rattle.std.specs.Ordering.{ordering_reverse}
-use Rattle.calc_algebra.proofs.MeaningLaws.{whole_one}
-use Rattle.calc_algebra.proofs.TreeOrderLaws.{tree_chain, tree_cmp_equal, tree_cmp_same, tree_cmp_turned}
-use Rattle.calc_terms.specs.Fractions.{Fraction, zero_fraction}
-use Rattle.calc_terms.specs.Trees.{Tree, num, symbol, undef, mult, power, Trees, none, more, is_mult, is_num, whole_num}
-use Rattle.expand_forms.specs.Polynomials.{Factor, Monomial, factor, is_same_monomial}
-use Rattle.expand_forms.specs.ExpandedTrees.{factor_tree, factor_trees, monomial_cmp, monomial_tree}
+use Rattle.expand_forms.proofs.Shared.{bytes_eq, and_from, and_parts, eq-eqb, eqb-true, false_from_ne_true, bytes_eq-Decides, Less, Equal, Greater, ordering_reverse, whole_one, tree_chain, tree_cmp_equal, tree_cmp_same, tree_cmp_turned, Fraction, zero_fraction, Tree, num, symbol, undef, mult, power, Trees, none, more, is_mult, is_num, whole_num, Factor, Monomial, factor, is_same_monomial, factor_tree, factor_trees, monomial_cmp, monomial_tree}
 
 -- ---- parts of trees
 

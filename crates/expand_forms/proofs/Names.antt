@@ -1,20 +1,8 @@
 -- The names of polynomials, and of expanded trees.
 use Rattle.std.proofs.Common.{◌≡◌, ℕ, zero, suc, ◌+◌, List, [], ◌∷◌, Bool, true, false, subst, arith}
 use Rattle.std.specs.Prelude.{Contains, ◌==◌, if◌then◌else◌}
+use Rattle.expand_forms.proofs.Shared.{Ordering, Less, Equal, Greater, nat_cmp, slice_cmp, Within, no_new_name, within_both, within_left, within_none, within_right, within_same, within_trans, product_tree, HasNoNewName, inverse, is_one_fraction, minus_one_fraction, Tree, num, symbol, undef, add, mult, power, root, neg, sub, div, Trees, none, more, names, names_of, whole_num, expanded, factor_tree, factor_trees, monomial_tree, normal, sum_tree, term_tree, term_trees, AreNamed, IsNamed, Factor, Monomial, Polynomial, Summand, factor, monomial_times, scaled, with_factor, divisor_of, exponent_of, polynomial_of, product_of, sum_of}
 use Rattle.std.proofs.lemmas.List.Elements.{Contains-push}
-use Rattle.std.specs.declared.cmp.Ordering.{Ordering}
-use Rattle.std.specs.declared.cmp.Ordering.TheVariants.{Less, Equal, Greater}
-use Rattle.std.specs.Ordering.{nat_cmp}
-use Rattle.std.specs.Cmp.Lexicographic.{slice_cmp}
-use Rattle.calc_algebra.proofs.Names.{Within, no_new_name, within_both, within_left, within_none, within_right, within_same, within_trans}
-use Rattle.calc_algebra.specs.Reduced.{product_tree}
-use Rattle.calc_algebra.specs.Rewritings.{HasNoNewName}
-use Rattle.calc_terms.specs.Fractions.{inverse, is_one_fraction, minus_one_fraction}
-use Rattle.calc_terms.specs.Trees.{Tree, num, symbol, undef, add, mult, power, root, neg, sub, div, Trees, none, more, names, names_of, whole_num}
-use Rattle.expand_forms.specs.ExpandedTrees.{expanded, factor_tree, factor_trees, monomial_tree, normal, sum_tree, term_tree, term_trees}
-use Rattle.expand_forms.specs.ExpansionRoom.{AreNamed, IsNamed}
-use Rattle.expand_forms.specs.Polynomials.{Factor, Monomial, Polynomial, Summand, factor, monomial_times, scaled, with_factor}
-use Rattle.expand_forms.specs.PolynomialTrees.{divisor_of, exponent_of, polynomial_of, product_of, sum_of}
 use Rattle.expand_forms.proofs.AllMonomials.{AllHave, IsClosed, append_all, normal_all, product_all, raised_all, scaled_all}
 
 -- ---- monomials

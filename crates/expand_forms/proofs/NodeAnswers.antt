@@ -1,21 +1,12 @@
 -- What the answer of a node is: powers by squaring, differences, and products from the last child on.
 use Rattle.std.proofs.Common.{◌≡◌, ◌<◌, ◌≤◌, ℕ, negsuc, zero, suc, ◌+◌, ◌/◌, ◌%◌, ◌++◌, true, refl, sym, ap, ◌∙◌, arith}
-use Rattle.calc_terms.specs.declared.rat.Rat.{Rat}
-use Rattle.calc_terms.specs.Rat.{ratio_of, value_of}
-use Rattle.calc_terms.specs.Ratio.{Ratio, whole}
-use Rattle.calc_terms.specs.Fractions.{Fraction, lowest, minus_one_fraction, one_fraction}
-use Rattle.calc_terms.specs.Trees.{Tree, Trees, num, add, mult, sub, none, more, count, is_mult}
-use Rattle.expand_forms.specs.ExpandedTrees.{expanded}
-use Rattle.expand_forms.specs.Polynomials.{IsMonomial, constant, product, raised, scaled}
-use Rattle.expand_forms.specs.PolynomialTrees.{polynomial_of, product_of}
-use Rattle.expand_forms.specs.Sums.{IsExpanded, IsSumOf}
+use Rattle.expand_forms.proofs.Shared.{Rat, ratio_of, value_of, Ratio, whole, Fraction, lowest, minus_one_fraction, one_fraction, Tree, Trees, num, add, mult, sub, none, more, count, is_mult, expanded, IsMonomial, constant, product, raised, scaled, polynomial_of, product_of, IsExpanded, IsSumOf, children_of, nth}
 use Rattle.expand_forms.proofs.AllMonomials.{scaled_all}
 use Rattle.expand_forms.proofs.Expansions.{constant_expanded, expanded_same, is_expanded, more_same, nothing_added, raised_monomials, same_polynomial, square_same, sum_same}
 use Rattle.expand_forms.proofs.Joins.{sum_polynomial_is}
 use Rattle.expand_forms.proofs.Nodes.{from}
 use Rattle.expand_forms.proofs.SameCoefficients.{product_right, same_append, same_is, same_trans, times_one_polynomial}
 use Rattle.expand_forms.proofs.TreeMonomials.{tree_monomials}
-use Rattle.tree_handles.specs.Expressions.{children_of, nth}
 
 -- ---- powers
 

@@ -1,26 +1,13 @@
 -- By what bits the step of a node over expanded children is held.
 use Rattle.std.proofs.Common.{◌≡◌, ◌<◌, ◌≤◌, ◌+◌, ◌*◌, ℕ, zero, suc, Result, Ok, Err, Bool, true, false, refl, sym, ap, ◌∙◌, subst, arith}
 use Rattle.std.specs.Prelude.{IfErr, nat_le, if◌then◌else◌}
-use Rattle.std.proofs.lemmas.Bool.{and_parts, leb-false, leb-true}
-use Rattle.calc_measures.specs.Measures.{all_simple, bits, bits_of, high, low, most_bits}
-use Rattle.calc_terms.specs.declared.kind.Kind.{Kind}
-use Rattle.calc_terms.specs.declared.kind.Kind.TheVariants as kind
-use Rattle.calc_terms.specs.Fractions.{Fraction, inverse, minus_one_fraction}
-use Rattle.calc_terms.specs.Payload.{Payload, rational, named, bare}
-use Rattle.calc_terms.specs.Trees.{Tree, add, mult, power, neg, sub, div, Trees, none, more, count, root_kind}
-use Rattle.expand_forms.specs.ExpansionBits.{AreHeldTogether, IsHeld, IsNoOverflow}
-use Rattle.expand_forms.specs.Polynomials.{scaled}
-use Rattle.expand_forms.specs.PolynomialTrees.{divisor_of, exponent_of, is_divisor, is_exponent, is_polynomial, polynomial_of, product_of}
-use Rattle.expand_forms.specs.Walks.{AreExpandedFrom, IsOver}
+use Rattle.expand_forms.proofs.Shared.{and_parts, leb-false, leb-true, all_simple, bits, bits_of, high, low, most_bits, Kind, Fraction, inverse, minus_one_fraction, Payload, rational, named, bare, Tree, add, mult, power, neg, sub, div, Trees, none, more, count, root_kind, AreHeldTogether, IsHeld, IsNoOverflow, scaled, divisor_of, exponent_of, is_divisor, is_exponent, is_polynomial, polynomial_of, product_of, AreExpandedFrom, IsOver, refused_as, children_of, compound, grown, nth, OfOverflow, NumberFault}
 use Rattle.expand_forms.proofs.ChildExpansions.{divisor_same, exponent_same}
 use Rattle.expand_forms.proofs.Held.{held_more, held_opposite, held_product, one_held}
 use Rattle.expand_forms.proofs.Nodes.{from}
 use Rattle.expand_forms.proofs.TreeBits.{answers_held, difference_held, expanded_held, held_together, power_within, quotient_held, sum_held}
 use Rattle.expand_forms.proofs.TreeMonomials.{tree_monomials}
-use Rattle.tree_handles.proofs.Refused.{refused_as}
-use Rattle.tree_handles.specs.Expressions.{children_of, compound, grown, nth}
-use Rattle.tree_handles.specs.Faults.{OfOverflow}
-use Rattle.tree_handles.specs.declared.fault.NumberFault.{NumberFault}
+use Rattle.calc_terms.specs.declared.kind.Kind.TheVariants as kind
 use Rattle.tree_handles.specs.declared.fault.NumberFault.TheVariants as fault
 
 -- ---- few bits, or more

@@ -1,10 +1,7 @@
 -- The expanded children of a node, one after another.
 use Rattle.std.proofs.Common.{◌≡◌, ◌<◌, ◌≤◌, ℕ, zero, suc, ◌+◌, [], ◌++◌, true, refl, ap, ◌∙◌, arith}
-use Rattle.calc_terms.specs.Trees.{Tree, Trees, add, none, more, count, is_add}
-use Rattle.expand_forms.specs.PolynomialTrees.{polynomial_of, sum_of}
-use Rattle.expand_forms.specs.Sums.{AreExpanded, IsExpanded}
+use Rattle.expand_forms.proofs.Shared.{Tree, Trees, add, none, more, count, is_add, polynomial_of, sum_of, AreExpanded, IsExpanded, children_of, nth}
 use Rattle.expand_forms.proofs.Nodes.{from}
-use Rattle.tree_handles.specs.Expressions.{children_of, nth}
 
 pub expanded_nth : (n : ℕ) (ts : Trees) → AreExpanded ts → n < count ts → IsExpanded (nth n ts)
 expanded_nth n none h l = absurd (omega (arith, l))

@@ -1,26 +1,11 @@
 -- What the kind of a node over expanded children tells of it.
 use Rattle.std.proofs.Common.{◌≡◌, ◌≢◌, ◌≤◌, ℕ, ℤ, suc, pos, negsuc, Bool, true, false, of_z, to_z, refl, sym, ap, ◌∙◌, arith}
 use Rattle.std.specs.Prelude.{FitsSigned, Option, Some, None, ◌==◌, not, nat_le, if◌then◌else◌}
-use Rattle.std.specs.Int.{w128}
-use Rattle.std.proofs.lemmas.Bool.{and_parts, leb-true}
-use Rattle.std.proofs.lemmas.Int.{to_z-of_z}
-use Rattle.calc_algebra.specs.Numbers.{is_number}
-use Rattle.calc_algebra.specs.Reduced.{is_reduced}
-use Rattle.calc_measures.specs.Literals.{whole_literal}
-use Rattle.calc_terms.specs.declared.kind.Kind.TheVariants as kind
-use Rattle.calc_terms.specs.declared.rat.Rat.{Rat}
-use Rattle.calc_terms.specs.Fractions.{Fraction, is_zero_fraction}
-use Rattle.calc_terms.specs.Integers.{int_is_zero}
-use Rattle.calc_terms.specs.Rat.{ratio_of, value_of}
-use Rattle.calc_terms.specs.Trees.{Tree, num, symbol, undef, add, mult, power, root, neg, sub, div, count, is_num, root_kind}
-use Rattle.expand_forms.specs.ExpandedTrees.{expanded}
-use Rattle.expand_forms.specs.PolynomialTrees.{exponent_limit, exponent_of, has_polynomial_root, is_divisor, is_exponent, is_small, natural_of, polynomial_of}
-use Rattle.expand_forms.specs.Sums.{AreExpanded, IsExpanded}
+use Rattle.expand_forms.proofs.Shared.{w128, and_parts, leb-true, to_z-of_z, is_number, is_reduced, whole_literal, Rat, Fraction, is_zero_fraction, int_is_zero, ratio_of, value_of, Tree, num, symbol, undef, add, mult, power, root, neg, sub, div, count, is_num, root_kind, expanded, exponent_limit, exponent_of, has_polynomial_root, is_divisor, is_exponent, is_small, natural_of, polynomial_of, AreExpanded, IsExpanded, ratio_parts, children_of, nth}
 use Rattle.expand_forms.proofs.Expansions.{constant_expanded, name_expanded}
 use Rattle.expand_forms.proofs.NodeChildren.{expanded_nth}
 use Rattle.expand_forms.proofs.ReducedExpansions.{tree_expanded_reduced}
-use Rattle.rational128.proofs.LowestTerms.{ratio_parts}
-use Rattle.tree_handles.specs.Expressions.{children_of, nth}
+use Rattle.calc_terms.specs.declared.kind.Kind.TheVariants as kind
 
 -- ---- literals among expanded trees
 

@@ -1,21 +1,13 @@
 -- For how few bytes a node over expanded children is refused.
 use Rattle.std.proofs.Common.{◌≡◌, ℕ, zero, suc, ◌-◌, ◌≤◌, [], length, true, refl, sym, subst, arith}
-use Rattle.std.proofs.lemmas.Nat.{mul-le}
-use Rattle.calc_algebra.proofs.Names.{Within, no_new_name, within_left, within_none, within_of, within_right, within_same, within_trans}
-use Rattle.calc_algebra.specs.Rewritings.{HasNoNewName}
-use Rattle.calc_terms.proofs.Sizes.{num_most}
-use Rattle.calc_terms.specs.declared.kind.Kind.TheVariants as kind
-use Rattle.calc_terms.specs.Trees.{Tree, num, symbol, undef, add, mult, power, root, neg, sub, div, Trees, none, more, names, names_of, root_kind, size}
-use Rattle.expand_forms.specs.ExpansionRoom.{HasFewTerms}
-use Rattle.expand_forms.specs.PolynomialTrees.{has_polynomial_root, polynomial_of, product_of}
-use Rattle.expand_forms.specs.Sums.{AreExpanded}
+use Rattle.expand_forms.proofs.Shared.{mul-le, Within, no_new_name, within_left, within_none, within_of, within_right, within_same, within_trans, HasNoNewName, num_most, Tree, num, symbol, undef, add, mult, power, root, neg, sub, div, Trees, none, more, names, names_of, root_kind, size, HasFewTerms, has_polynomial_root, polynomial_of, product_of, AreExpanded, children_of, nth}
 use Rattle.expand_forms.proofs.ChildRooms.{child_names}
 use Rattle.expand_forms.proofs.FewTerms.{few_names, some_expanded}
 use Rattle.expand_forms.proofs.Names.{are_named, product_named}
 use Rattle.expand_forms.proofs.Nodes.{from}
 use Rattle.expand_forms.proofs.TermCounts.{product_length}
 use Rattle.expand_forms.proofs.TermPolynomials.{tree_normal}
-use Rattle.tree_handles.specs.Expressions.{children_of, nth}
+use Rattle.calc_terms.specs.declared.kind.Kind.TheVariants as kind
 
 -- ---- names of children
 

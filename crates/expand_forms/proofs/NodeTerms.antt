@@ -1,26 +1,13 @@
 -- A node over the answers of its children has no more terms and no other names than the node that was handed.
 use Rattle.std.proofs.Common.{◌≡◌, ℕ, zero, suc, ◌^◌, ◌≤◌, ◌<◌, [], ◌++◌, length, true, false, refl, sym, ap, subst, arith}
-use Rattle.std.proofs.Math.Nat.{le-max_right, pow-le-pow_left}
-use Rattle.std.proofs.lemmas.Bool.{and_parts, eqb-true}
-use Rattle.std.proofs.lemmas.List.{length-append}
-use Rattle.std.proofs.lemmas.Nat.{mul-le}
-use Rattle.calc_algebra.proofs.Names.{Within, no_new_name, within_beside, within_left, within_none, within_of, within_same, within_trans}
-use Rattle.calc_algebra.specs.Rewritings.{HasNoNewName}
-use Rattle.calc_terms.specs.Fractions.{inverse, minus_one_fraction}
-use Rattle.calc_terms.specs.Payload.{Payload, rational, named, bare}
-use Rattle.calc_terms.specs.declared.kind.Kind.{Kind}
-use Rattle.calc_terms.specs.declared.kind.Kind.TheVariants as kind
-use Rattle.calc_terms.specs.Trees.{Tree, num, symbol, undef, add, mult, power, root, neg, sub, div, Trees, none, more, count, is_symbol, names, names_of}
-use Rattle.expand_forms.specs.ExpansionRoom.{product_of_terms, sum_of_terms, terms}
-use Rattle.expand_forms.specs.PolynomialTrees.{are_polynomials, divisor_of, exponent_of, is_divisor, is_exponent, is_polynomial, polynomial_of, product_of, sum_of}
-use Rattle.expand_forms.specs.Walks.{AreExpandedFrom, IsExpandedFrom}
+use Rattle.expand_forms.proofs.Shared.{le-max_right, pow-le-pow_left, and_parts, eqb-true, length-append, mul-le, Within, no_new_name, within_beside, within_left, within_none, within_of, within_same, within_trans, HasNoNewName, inverse, minus_one_fraction, Payload, rational, named, bare, Kind, Tree, num, symbol, undef, add, mult, power, root, neg, sub, div, Trees, none, more, count, is_symbol, names, names_of, product_of_terms, sum_of_terms, terms, are_polynomials, divisor_of, exponent_of, is_divisor, is_exponent, is_polynomial, polynomial_of, product_of, sum_of, AreExpandedFrom, IsExpandedFrom, children_of, compound, grown, nth, takes, takes_kind}
 use Rattle.expand_forms.proofs.ChildExpansions.{exponent_same}
 use Rattle.expand_forms.proofs.ChildRooms.{child_names}
 use Rattle.expand_forms.proofs.FewTerms.{expanded_few, few_names}
 use Rattle.expand_forms.proofs.Names.{expanded_no_new_name}
 use Rattle.expand_forms.proofs.TermCounts.{few_terms, product_length, raised_length, scaled_length, some_terms}
 use Rattle.expand_forms.proofs.TermPolynomials.{tree_normal}
-use Rattle.tree_handles.specs.Expressions.{children_of, compound, grown, nth, takes, takes_kind}
+use Rattle.calc_terms.specs.declared.kind.Kind.TheVariants as kind
 
 -- ---- answers
 

@@ -1,9 +1,7 @@
 -- A node is a polynomial by its root and its children.
 use Rattle.std.proofs.Common.{◌≡◌, ◌<◌, ◌≤◌, ℕ, zero, suc, Bool, true, false, refl, sym, ap, ◌∙◌, arith}
 use Rattle.std.specs.Prelude.{◌&&◌}
-use Rattle.calc_terms.specs.Trees.{Tree, num, symbol, undef, add, mult, power, root, neg, sub, div, Trees, none, more, count, nodes, nodes_of}
-use Rattle.expand_forms.specs.PolynomialTrees.{are_polynomials, has_polynomial_root, is_divisor, is_exponent, is_nonzero, is_polynomial}
-use Rattle.tree_handles.specs.Expressions.{nth, children_of}
+use Rattle.expand_forms.proofs.Shared.{Tree, num, symbol, undef, add, mult, power, root, neg, sub, div, Trees, none, more, count, nodes, nodes_of, are_polynomials, has_polynomial_root, is_divisor, is_exponent, is_nonzero, is_polynomial, nth, children_of}
 
 -- the trees from a place on, counted from 0
 abbrev pub from : ℕ → Trees → Trees

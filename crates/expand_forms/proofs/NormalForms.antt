@@ -1,14 +1,7 @@
 -- The normal polynomial keeps coefficients, and is the only one with them.
 use Rattle.std.proofs.Common.{◌≡◌, [], ◌∷◌, Bool, true, false, refl, sym, ap, ◌∙◌, subst}
 use Rattle.std.specs.Prelude.{if◌then◌else◌}
-use Rattle.std.specs.declared.cmp.Ordering.{Ordering}
-use Rattle.std.specs.declared.cmp.Ordering.TheVariants.{Less, Equal, Greater}
-use Rattle.calc_terms.proofs.FractionFacts.{zero_is, no_zero}
-use Rattle.calc_terms.specs.FractionLaws.{zero_plus}
-use Rattle.calc_terms.specs.Fractions.{Fraction, is_zero_fraction, plus, plus_assoc, zero_fraction}
-use Rattle.std.proofs.lemmas.Bool.{not_from_false}
-use Rattle.expand_forms.specs.Polynomials.{Monomial, Polynomial, Summand, coefficient_at, is_same_monomial, summand}
-use Rattle.expand_forms.specs.ExpandedTrees.{IsBeforeAll, IsNormal, joined, monomial_cmp, normal, with_summand, without_zeros}
+use Rattle.expand_forms.proofs.Shared.{Ordering, Less, Equal, Greater, zero_is, no_zero, zero_plus, Fraction, is_zero_fraction, plus, plus_assoc, zero_fraction, not_from_false, Monomial, Polynomial, Summand, coefficient_at, is_same_monomial, summand, IsBeforeAll, IsNormal, joined, monomial_cmp, normal, with_summand, without_zeros}
 use Rattle.expand_forms.proofs.Arithmetic.{plus_left_comm, plus_zero}
 use Rattle.expand_forms.proofs.MonomialTrees.{chained, equal_is, less_apart, not_same, same_is, same_itself, turned}
 

@@ -1,17 +1,8 @@
 -- Rationals as literals.
 use Rattle.std.proofs.Common.{◌≡◌, ◌<◌, ◌^◌, zero, suc, ℤ, pos, negsuc, Bool, true, false, nat_eq, of_z, to_z, refl, sym, ap, ◌∙◌}
 use Rattle.std.specs.Prelude.{◌==◌, ◌↔◌, IsTrue, Some, None, if◌then◌else◌, nat_abs, neg_ℤ}
-use Rattle.std.proofs.lemmas.Bool.{eqb-true, eq-eqb, false_from_ne_true, ne_eqb}
-use Rattle.std.specs.Int.{w128}
-use Rattle.calc_measures.specs.Literals.{opposite, whole_value}
-use Rattle.calc_terms.specs.declared.rat.Rat.{Rat}
-use Rattle.calc_terms.specs.Fractions.{Fraction, negative}
-use Rattle.calc_terms.specs.Integers.{int_is_zero}
-use Rattle.calc_terms.specs.Rat.{ratio_of, value_of}
-use Rattle.rational128.proofs.LowestTerms.{ratio_parts}
-use Rattle.rational128.proofs.Reciprocals.{negative_parts}
+use Rattle.expand_forms.proofs.Shared.{eqb-true, eq-eqb, false_from_ne_true, ne_eqb, w128, opposite, whole_value, Rat, Fraction, negative, int_is_zero, ratio_of, value_of, ratio_parts, negative_parts, is_small}
 use Rattle.rational128.proofs.Signed.{told}
-use Rattle.expand_forms.specs.PolynomialTrees.{is_small}
 
 clash : {A : Type 0} (b : Bool) → b ≡ true → b ≡ false → A
 clash b p q = absurd cc

@@ -1,30 +1,16 @@
 -- A node over the expanded trees of its children, from the tree as it was.
 use Rattle.std.proofs.Common.{◌≡◌, ℕ, ◌+◌, ◌≤◌, ◌<◌, length, Bool, true, false, Result, Ok, Err, refl, sym, ap, ◌∙◌, subst, arith}
 use Rattle.std.specs.Prelude.{IfErr}
-use Rattle.std.proofs.lemmas.Bool.{and_parts}
-use Rattle.calc_algebra.specs.Rewritings.{HasNoNewName}
-use Rattle.calc_measures.specs.Measures.{bits_of}
-use Rattle.calc_terms.proofs.Sizes.{root_most}
-use Rattle.calc_terms.specs.Trees.{Tree, num, symbol, undef, Trees, none, more, names, nodes, root_size, size, sizes}
-use Rattle.expand_forms.specs.ExpandedTrees.{expanded}
-use Rattle.expand_forms.specs.ExpansionRoom.{most_terms, node_bytes}
-use Rattle.expand_forms.specs.PolynomialTrees.{are_polynomials, has_polynomial_root, is_polynomial, polynomial_of}
-use Rattle.expand_forms.specs.Sums.{AreExpanded}
-use Rattle.expand_forms.specs.Walks.{IsExpandedFrom, IsOver, IsPolynomial, MayLack, MayOverflow}
+use Rattle.expand_forms.proofs.Shared.{and_parts, HasNoNewName, bits_of, root_most, Tree, num, symbol, undef, Trees, none, more, names, nodes, root_size, size, sizes, expanded, most_terms, node_bytes, are_polynomials, has_polynomial_root, is_polynomial, polynomial_of, AreExpanded, IsExpandedFrom, IsOver, IsPolynomial, MayLack, MayOverflow, own_bits, OfFull, children_of, grown, IfOverflow, OfOverflow, NumberFault}
 use Rattle.expand_forms.proofs.ChildExpansions.{IsOver as IsOverSame, over_payload}
 use Rattle.expand_forms.proofs.ChildRooms.{room_above, room_at_node}
 use Rattle.expand_forms.proofs.Expansions.{constant_expanded, expanded_same, name_expanded}
 use Rattle.reduce_walk.proofs.Bytes.{root_over}
-use Rattle.reduce_walk.proofs.Bits.{own_bits}
 use Rattle.expand_forms.proofs.NodeTerms.{over_names, over_terms}
 use Rattle.expand_forms.proofs.Nodes.{by_children, by_root}
 use Rattle.expand_forms.proofs.TermCounts.{most_of_all}
-use Rattle.tree_handles.specs.Lacking.{OfFull}
 use Rattle.reduce_walk.specs.Answers.{EachTree, IsNext}
 use Rattle.reduce_walk.specs.Leaves.{is_leaf}
-use Rattle.tree_handles.specs.Expressions.{children_of, grown}
-use Rattle.tree_handles.specs.Faults.{IfOverflow, OfOverflow}
-use Rattle.tree_handles.specs.declared.fault.NumberFault.{NumberFault}
 use Rattle.tree_handles.specs.declared.fault.NumberFault.TheVariants as number
 
 -- ---- children

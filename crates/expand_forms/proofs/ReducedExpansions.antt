@@ -1,18 +1,8 @@
 -- The expanded tree of a polynomial is reduced.
 use Rattle.std.proofs.Common.{◌≡◌, ◌≢◌, inl, inr, [], ◌∷◌, Bool, true, false, refl, sym, ap, ◌∙◌, subst}
 use Rattle.std.specs.Prelude.{if◌then◌else◌}
-use Rattle.std.proofs.lemmas.Bool.{not_from_false}
-use Rattle.std.specs.declared.cmp.Ordering.TheVariants.{Less}
-use Rattle.calc_algebra.specs.Numbers.{Rises, is_number, is_term, terms_of}
-use Rattle.calc_algebra.specs.Reduced.{HasForm, IsSumForm, NoneIs, RisesBy, is_reduced, num_one, number_terms, other_terms, part_of, product_tree}
-use Rattle.calc_algebra.specs.TreeOrder.{tree_cmp}
+use Rattle.expand_forms.proofs.Shared.{not_from_false, Less, Rises, is_number, is_term, terms_of, HasForm, IsSumForm, NoneIs, RisesBy, is_reduced, num_one, number_terms, other_terms, part_of, product_tree, tree_cmp, one_is, zero_test, Fraction, is_one_fraction, zero_fraction, AllParts, AllPartsOf, HasTwo, Tree, num, Trees, none, more, is_add, IsBeforeAll, IsNormal, expanded, factor_trees, monomial_cmp, monomial_tree, normal, sum_tree, term_tree, term_trees, Factor, IsMonomial, Monomial, Polynomial, Summand, polynomial_of}
 use Rattle.calc_algebra.proofs.ReducedLaws.{reduced_test}
-use Rattle.calc_terms.proofs.FractionFacts.{one_is, zero_test}
-use Rattle.calc_terms.specs.Fractions.{Fraction, is_one_fraction, zero_fraction}
-use Rattle.calc_terms.specs.Trees.{AllParts, AllPartsOf, HasTwo, Tree, num, Trees, none, more, is_add}
-use Rattle.expand_forms.specs.ExpandedTrees.{IsBeforeAll, IsNormal, expanded, factor_trees, monomial_cmp, monomial_tree, normal, sum_tree, term_tree, term_trees}
-use Rattle.expand_forms.specs.Polynomials.{Factor, IsMonomial, Monomial, Polynomial, Summand}
-use Rattle.expand_forms.specs.PolynomialTrees.{polynomial_of}
 use Rattle.expand_forms.proofs.AllMonomials.{AllHave, normal_all}
 use Rattle.expand_forms.proofs.FactorTrees.{not_before_one, term_no_add, term_no_number, term_no_term, term_part, term_parts}
 use Rattle.expand_forms.proofs.NormalForms.{normal_is}

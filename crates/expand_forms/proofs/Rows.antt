@@ -1,30 +1,13 @@
 -- Rows of products, one after another.
 use Rattle.std.proofs.Common.{◌≡◌, ◌≢◌, ◌≤◌, ◌<◌, ◌^◌, ℕ, ◌+◌, [], ◌∷◌, ◌++◌, drop, map, Bool, true, false, refl, sym, ap, ◌∙◌, subst, append-nil}
 use Rattle.std.specs.Prelude.{nat_abs}
-use Rattle.std.proofs.lemmas.Bool.{not_from_false}
-use Rattle.calc_algebra.proofs.InverseLaws.{product_not_zero}
-use Rattle.calc_terms.proofs.FractionFacts.{no_zero, zero_is}
-use Rattle.calc_terms.specs.Fits.{sum_fits}
-use Rattle.calc_terms.specs.Fractions.{Fraction, is_zero_fraction, one_fraction, plus, times, zero_fraction}
-use Rattle.calc_terms.specs.Rat.{value_of}
-use Rattle.calc_terms.specs.Trees.{Tree, count}
-use Rattle.calc_terms.specs.declared.rat.Rat.{Rat}
-use Rattle.expand_forms.specs.ExpandedTrees.{normal, term_trees}
-use Rattle.expand_forms.specs.Polynomials.{Polynomial, Summand, monomial_times, product, summand, summand_times}
-use Rattle.expand_forms.specs.PolynomialTrees.{polynomial_of}
-use Rattle.expand_forms.specs.Rows.{row, with_coefficient}
-use Rattle.expand_forms.specs.Terms.{IsTerm, coefficient_in}
+use Rattle.expand_forms.proofs.Shared.{not_from_false, product_not_zero, no_zero, zero_is, sum_fits, Fraction, is_zero_fraction, one_fraction, plus, times, zero_fraction, value_of, Tree, count, Rat, normal, term_trees, Polynomial, Summand, monomial_times, product, summand, summand_times, polynomial_of, row, with_coefficient, IsTerm, coefficient_in, twice_fits, ratio_parts, plain, Forest, tree_at}
 use Rattle.expand_forms.proofs.Arithmetic.{times_one}
 use Rattle.expand_forms.proofs.JoinLoops.{IsNextPart, IsNextTerm, next_part}
 use Rattle.expand_forms.proofs.Joins.{IsNextSummand, no_summands, term_polynomial_is}
 use Rattle.expand_forms.proofs.SameCoefficients.{product_nil}
 use Rattle.expand_forms.proofs.Squares.{square, twice}
 use Rattle.expand_forms.proofs.TermPolynomials.{term_coefficient}
-use Rattle.number_forms.proofs.Twice.{twice_fits}
-use Rattle.rational128.proofs.LowestTerms.{ratio_parts}
-use Rattle.tree_handles.specs.Expressions.{plain}
-use Rattle.tree_handles.specs.Forest.{Forest}
-use Rattle.tree_handles.specs.Inside.{tree_at}
 
 -- ---- coefficients
 

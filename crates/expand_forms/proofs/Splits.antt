@@ -1,24 +1,12 @@
 -- Polynomials in two parts, one of which is joined to a sum: both are held as the whole is.
 use Rattle.std.proofs.Common.{◌≡◌, ◌⊎◌, inl, inr, ℕ, zero, suc, ◌+◌, ◌^◌, ◌≤◌, ◌<◌, [], ◌∷◌, ◌++◌, pos, Bool, true, false, refl, sym, ap, ◌∙◌, subst, arith}
+use Rattle.expand_forms.proofs.Shared.{mul-le, pow-add, pow_below, magnitude_over, den_divides, magnitude_lowest, fraction_fits, sum_fits, Fraction, lowest, Tree, Trees, count, normal, sum_tree, term_trees, AreWhole, IsHeld, mass, AreMonomials, Polynomial, Summand, summand, polynomial_of, IsExpanded, IsSum, coefficient_in, children_of, nth}
 use Rattle.std.specs.Int.{◌∣◌}
-use Rattle.std.proofs.lemmas.Nat.{mul-le, pow-add, pow_below}
-use Rattle.calc_bits.specs.Denominators.{magnitude_over}
-use Rattle.calc_bits.proofs.Quotients.{den_divides, magnitude_lowest}
 use Rattle.calc_bits.proofs.Fitting.{multiple_fits, sum_fits_over}
-use Rattle.calc_terms.specs.Fits.{fraction_fits, sum_fits}
-use Rattle.calc_terms.specs.Fractions.{Fraction, lowest}
-use Rattle.calc_terms.specs.Trees.{Tree, Trees, count}
-use Rattle.expand_forms.specs.ExpandedTrees.{normal, sum_tree, term_trees}
-use Rattle.expand_forms.specs.ExpansionBits.{AreWhole, IsHeld, mass}
-use Rattle.expand_forms.specs.Polynomials.{AreMonomials, Polynomial, Summand, summand}
-use Rattle.expand_forms.specs.PolynomialTrees.{polynomial_of}
-use Rattle.expand_forms.specs.Sums.{IsExpanded, IsSum}
-use Rattle.expand_forms.specs.Terms.{coefficient_in}
 use Rattle.expand_forms.proofs.Joins.{sum_polynomial_is}
 use Rattle.expand_forms.proofs.Masses.{exponents_right, mass_append, whole_right}
 use Rattle.expand_forms.proofs.TermPolynomials.{terms_polynomial, term_coefficient, term_polynomial, tree_normal}
 use Rattle.expand_forms.proofs.TermReadings.{sum_children}
-use Rattle.tree_handles.specs.Expressions.{children_of, nth}
 
 -- the part that stands behind
 pub held_behind : (v w : Polynomial) {h l : ℕ} → IsHeld (v ++ w) h l → IsHeld w h l

@@ -1,10 +1,7 @@
 -- The square of a polynomial, whose mixed pairs are made once.
 use Rattle.std.proofs.Common.{◌≡◌, [], ◌∷◌, ◌++◌, map, Bool, true, false, refl, sym, ap, ◌∙◌, arith, append_assoc, append-nil}
 use Rattle.std.specs.Prelude.{if◌then◌else◌}
-use Rattle.calc_bits.proofs.Quotients.{plus_den}
-use Rattle.calc_terms.specs.FractionLaws.{times_comm}
-use Rattle.calc_terms.specs.Fractions.{Fraction, plus, plus_assoc, times, zero_fraction}
-use Rattle.expand_forms.specs.Polynomials.{IsBelowAll, IsMonomial, Monomial, Factor, Polynomial, Summand, is_same_monomial, monomial_times, product, summand, summand_times, with_factor}
+use Rattle.expand_forms.proofs.Shared.{plus_den, times_comm, Fraction, plus, plus_assoc, times, zero_fraction, IsBelowAll, IsMonomial, Monomial, Factor, Polynomial, Summand, is_same_monomial, monomial_times, product, summand, summand_times, with_factor}
 use Rattle.expand_forms.proofs.AllMonomials.{AllHave}
 use Rattle.expand_forms.proofs.Arithmetic.{plus_times}
 use Rattle.expand_forms.proofs.Gathered.{IsGathered, gathered_append, gathered_is, gathered_refl, gathered_second, gathered_trans}

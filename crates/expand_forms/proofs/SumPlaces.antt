@@ -1,23 +1,11 @@
 -- A term more, and a term with another coefficient, in a normal polynomial.
 use Rattle.std.proofs.Common.{◌≡◌, ◌≢◌, ◌≤◌, ◌<◌, ℕ, zero, suc, [], ◌∷◌, length, Bool, true, false, refl, sym, ap, ◌∙◌, arith}
 use Rattle.std.specs.Prelude.{if◌then◌else◌}
-use Rattle.std.specs.declared.cmp.Ordering.TheVariants.{Less}
-use Rattle.calc_algebra.specs.Reduced.{product_tree}
-use Rattle.calc_algebra.specs.TreeOrder.{tree_cmp}
-use Rattle.calc_algebra.proofs.TreeOrderLaws.{tree_chain}
-use Rattle.calc_terms.specs.FractionLaws.{zero_plus}
-use Rattle.calc_terms.specs.Fractions.{Fraction, plus, plus_assoc, plus_comm, zero_fraction}
-use Rattle.calc_terms.specs.Trees.{Tree, Trees, none, more, count}
-use Rattle.expand_forms.specs.ExpandedTrees.{IsBeforeAll, IsNormal, monomial_cmp, term_tree, term_trees}
-use Rattle.expand_forms.specs.Polynomials.{AreMonomials, IsMonomial, Monomial, Polynomial, Summand, coefficient_at, is_same_monomial, summand}
-use Rattle.expand_forms.specs.Sums.{AreSame, IsPlace}
-use Rattle.expand_forms.specs.Terms.{HasMonomial, factors_in, monomial_in, term_cmp}
+use Rattle.expand_forms.proofs.Shared.{Less, product_tree, tree_cmp, tree_chain, zero_plus, Fraction, plus, plus_assoc, plus_comm, zero_fraction, Tree, Trees, none, more, count, IsBeforeAll, IsNormal, monomial_cmp, term_tree, term_trees, AreMonomials, IsMonomial, Monomial, Polynomial, Summand, coefficient_at, is_same_monomial, summand, AreSame, IsPlace, HasMonomial, factors_in, monomial_in, term_cmp, removed, inserted, nth}
 use Rattle.expand_forms.proofs.MonomialTrees.{turned}
 use Rattle.expand_forms.proofs.NormalForms.{before_more}
 use Rattle.expand_forms.proofs.SameCoefficients.{same_cons, same_refl, same_second, same_trans}
 use Rattle.expand_forms.proofs.TermPolynomials.{term_factors}
-use Rattle.number_forms.specs.Sums.{removed}
-use Rattle.tree_handles.specs.Expressions.{inserted, nth}
 
 -- ---- terms and summands
 

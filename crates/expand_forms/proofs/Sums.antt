@@ -1,21 +1,9 @@
 -- A sum that stands last, with other terms.
 use Rattle.std.proofs.Common.{◌≡◌, ℕ, zero, suc, ◌+◌, ◌<◌, ◌≤◌, refl, sym, ap, ◌∙◌, subst, arith}
-use Rattle.std.specs.declared.cmp.Ordering.TheVariants.{Less}
-use Rattle.expand_forms.specs.Terms.{term_cmp}
+use Rattle.expand_forms.proofs.Shared.{Less, term_cmp, Tree, Trees, none, more, add, count, IsSum, removed, gives_at, kids_represented, once_nth, represents_without, resum, children_of, inserted, nth, plain, Forest, arity, kids, set_nth, tree_nth, with_nth, without_nth, AllOnce, Ends, Gives, IsHanded, IsOwned, Represents, put, root_tree, without_root, given_handed, given_rest, given_root, given_same, given_told, represents_as, represents_handed, represents_with, last_rest, last_root, last_tree, alone, count-plains}
 use Rattle.expand_forms.proofs.SumPlaces.{below_up_to}
 use Rattle.expand_forms.proofs.TermReadings.{sum_children}
-use Rattle.calc_terms.specs.Trees.{Tree, Trees, none, more, add, count}
-use Rattle.expand_forms.specs.Sums.{IsSum}
-use Rattle.number_forms.specs.Sums.{removed}
-use Rattle.number_forms.proofs.LastSums.{gives_at, kids_represented, once_nth, represents_without, resum}
-use Rattle.tree_handles.specs.Expressions.{children_of, inserted, nth, plain}
-use Rattle.tree_handles.specs.Forest.{Forest, arity, kids, set_nth, tree_nth, with_nth, without_nth}
-use Rattle.tree_handles.specs.Handed.{AllOnce, Ends, Gives, IsHanded, IsOwned, Represents}
-use Rattle.tree_handles.specs.Roots.{put, root_tree, without_root}
-use Rattle.tree_handles.proofs.Given.{given_handed, given_rest, given_root, given_same, given_told, represents_as, represents_handed, represents_with}
-use Rattle.tree_handles.proofs.Lasts.{last_rest, last_root, last_tree}
 use Rattle.tree_handles.proofs.Nths.{with_nth-without_nth}
-use Rattle.tree_handles.proofs.Plains.{alone, count-plains}
 
 pub sum_is : {t : Tree} → IsSum t → t ≡ add (children_of t)
 sum_is s = s.tree ∙ sym (ap (λ (u : Tree). add (children_of u)) s.tree)

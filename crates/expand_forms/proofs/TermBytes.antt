@@ -1,16 +1,7 @@
 -- How many bytes terms and sums of them have.
 use Rattle.std.proofs.Common.{ℕ, suc, ◌+◌, ◌*◌, ◌≤◌, pos, List, [], ◌∷◌, length, Bool, true, false, arith}
 use Rattle.std.specs.Prelude.{◌==◌, if◌then◌else◌}
-use Rattle.std.specs.declared.cmp.Ordering.{Ordering}
-use Rattle.std.specs.declared.cmp.Ordering.TheVariants.{Less, Equal, Greater}
-use Rattle.std.proofs.lemmas.Nat.{mul-le}
-use Rattle.calc_algebra.specs.Reduced.{product_tree}
-use Rattle.calc_terms.proofs.Sizes.{num_most}
-use Rattle.calc_terms.specs.Fractions.{is_one_fraction, is_zero_fraction, lowest, one_fraction, plus, zero_fraction}
-use Rattle.calc_terms.specs.Trees.{num, symbol, power, more, size, sizes, whole_num}
-use Rattle.expand_forms.specs.ExpandedTrees.{expanded, factor_tree, factor_trees, joined, monomial_cmp, monomial_tree, normal, sum_tree, term_tree, term_trees, with_summand, without_zeros}
-use Rattle.expand_forms.specs.ExpansionRoom.{IsNamed, count_distinct, term_bytes, terms_bytes, sum_bytes}
-use Rattle.expand_forms.specs.Polynomials.{Factor, IsMonomial, Monomial, Polynomial, Summand, summand}
+use Rattle.expand_forms.proofs.Shared.{Ordering, Less, Equal, Greater, mul-le, product_tree, num_most, is_one_fraction, is_zero_fraction, lowest, one_fraction, plus, zero_fraction, num, symbol, power, more, size, sizes, whole_num, expanded, factor_tree, factor_trees, joined, monomial_cmp, monomial_tree, normal, sum_tree, term_tree, term_trees, with_summand, without_zeros, IsNamed, count_distinct, term_bytes, terms_bytes, sum_bytes, Factor, IsMonomial, Monomial, Polynomial, Summand, summand}
 use Rattle.expand_forms.proofs.AllMonomials.{AllHave, normal_all}
 use Rattle.expand_forms.proofs.Widths.{few_factors}
 

@@ -1,17 +1,6 @@
 -- How many summands the polynomial of a tree has, and the room of an expansion.
 use Rattle.std.proofs.Common.{◌≡◌, ℕ, zero, suc, ◌*◌, ◌^◌, ◌≤◌, max, List, [], ◌∷◌, length, map, true, sym, ap, ◌∙◌, arith}
-use Rattle.std.proofs.Math.Nat.{le-max_left, le-max_right, one-le-pow, pow-le-pow_left, pow-succ', pow-zero}
-use Rattle.std.proofs.lemmas.Bool.{and_parts}
-use Rattle.std.proofs.lemmas.List.{length-append, length-map}
-use Rattle.std.proofs.lemmas.Nat.{mul-le}
-use Rattle.calc_algebra.proofs.Names.{Within, within_same}
-use Rattle.calc_terms.specs.Fractions.{Fraction, inverse, minus_one_fraction, times}
-use Rattle.calc_terms.specs.Trees.{Tree, num, symbol, undef, add, mult, power, root, neg, sub, div, Trees, none, more, names, nodes, size}
-use Rattle.expand_forms.specs.ExpandedTrees.{expanded}
-use Rattle.expand_forms.specs.ExpansionRoom.{IsNamed, count_distinct, expansion_room, most_terms, most_terms_of, product_of_terms, sum_bytes, sum_of_terms, terms}
-use Rattle.expand_forms.specs.Polynomials.{IsMonomial, Polynomial, Summand, product, raised, scaled, summand, summand_times}
-use Rattle.expand_forms.specs.PolynomialTrees.{are_polynomials, divisor_of, exponent_of, is_divisor, is_exponent, is_polynomial, polynomial_of, product_of, sum_of}
-use Rattle.reduce_walk.proofs.Walks.{nodes_by_children}
+use Rattle.expand_forms.proofs.Shared.{le-max_left, le-max_right, one-le-pow, pow-le-pow_left, pow-succ', pow-zero, and_parts, length-append, length-map, mul-le, Within, within_same, Fraction, inverse, minus_one_fraction, times, Tree, num, symbol, undef, add, mult, power, root, neg, sub, div, Trees, none, more, names, nodes, size, expanded, IsNamed, count_distinct, expansion_room, most_terms, most_terms_of, product_of_terms, sum_bytes, sum_of_terms, terms, IsMonomial, Polynomial, Summand, product, raised, scaled, summand, summand_times, are_polynomials, divisor_of, exponent_of, is_divisor, is_exponent, is_polynomial, polynomial_of, product_of, sum_of, nodes_by_children}
 use Rattle.expand_forms.proofs.AllMonomials.{AllHave}
 use Rattle.expand_forms.proofs.Names.{tree_named}
 use Rattle.expand_forms.proofs.TermBytes.{IsNamedMonomial, expanded_most}

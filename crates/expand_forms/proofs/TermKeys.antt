@@ -1,22 +1,11 @@
 -- The keys of monomials, and their order.
 use Rattle.std.proofs.Common.{◌≡◌, ◌≢◌, ◌≤◌, ℕ, zero, suc, [], ◌∷◌, Bool, true, false, refl, sym, ap, ◌∙◌, arith}
 use Rattle.std.specs.Prelude.{◌==◌, if◌then◌else◌, None}
-use Rattle.std.proofs.lemmas.Bool.{eqb-true}
-use Rattle.std.specs.declared.cmp.Ordering.TheVariants.{Less, Greater}
-use Rattle.calc_algebra.specs.Reduced.{product_tree}
-use Rattle.calc_algebra.specs.TreeOrder.{tree_cmp}
-use Rattle.calc_terms.specs.declared.kind.Kind.TheVariants as kind
-use Rattle.calc_terms.specs.Fractions.{one_fraction}
-use Rattle.calc_terms.specs.Trees.{Tree, num, mult, Trees, none, more, count, is_mult, root_kind}
-use Rattle.coefficients.proofs.Steps.{many_factors}
-use Rattle.expand_forms.specs.ExpandedTrees.{factor_trees, monomial_cmp}
-use Rattle.expand_forms.specs.Polynomials.{Monomial}
-use Rattle.expand_forms.specs.Terms.{HasMonomial, IsMonomialKey, factors_in, first_place, monomial_in, term_cmp}
+use Rattle.expand_forms.proofs.Shared.{eqb-true, Less, Greater, product_tree, tree_cmp, one_fraction, Tree, num, mult, Trees, none, more, count, is_mult, root_kind, many_factors, factor_trees, monomial_cmp, Monomial, HasMonomial, IsMonomialKey, factors_in, first_place, monomial_in, term_cmp, children_of, nth, Forest}
 use Rattle.expand_forms.proofs.FactorTrees.{on_factor, on_monomial}
 use Rattle.expand_forms.proofs.TermReadings.{first_count}
 use Rattle.node_order.specs.Keys.{trees_behind}
-use Rattle.tree_handles.specs.Expressions.{children_of, nth}
-use Rattle.tree_handles.specs.Forest.{Forest}
+use Rattle.calc_terms.specs.declared.kind.Kind.TheVariants as kind
 
 -- ---- how many factors there are
 

@@ -1,17 +1,7 @@
 -- The polynomials of terms and of expanded trees, and how these are read.
 use Rattle.std.proofs.Common.{◌≡◌, ◌≢◌, ◌≤◌, ℕ, zero, suc, pos, Some, None, List, [], ◌∷◌, ◌++◌, Bool, true, false, refl, sym, ap, ◌∙◌, arith}
 use Rattle.std.specs.Prelude.{◌==◌, not, if◌then◌else◌}
-use Rattle.std.proofs.lemmas.Bool.{eq-eqb, eqb-true, false_from_ne_true}
-use Rattle.calc_algebra.specs.Reduced.{product_tree}
-use Rattle.calc_terms.proofs.FractionFacts.{no_zero, one_is, whole_denominator, whole_numerator, zero_is}
-use Rattle.calc_terms.specs.FractionLaws.{one_times, zero_plus}
-use Rattle.calc_terms.specs.Fractions.{Fraction, is_one_fraction, is_zero_fraction, lowest, one_fraction, plus, times, zero_fraction}
-use Rattle.calc_terms.specs.Trees.{Tree, num, symbol, mult, power, none, more, whole_num}
-use Rattle.expand_forms.specs.ExpandedTrees.{IsNormal, expanded, factor_tree, factor_trees, monomial_tree, normal, sum_tree, term_tree, term_trees}
-use Rattle.expand_forms.specs.Polynomials.{AreMonomials, Factor, IsMonomial, Monomial, Polynomial, Summand, constant, factor, is_same_monomial, product, raised, summand, variable}
-use Rattle.expand_forms.specs.PolynomialTrees.{exponent_of, natural_of, polynomial_of, product_of, sum_of}
-use Rattle.expand_forms.specs.Sums.{AreSame, IsExpanded}
-use Rattle.expand_forms.specs.Terms.{coefficient_in, factors_in, terms_in}
+use Rattle.expand_forms.proofs.Shared.{eq-eqb, eqb-true, false_from_ne_true, product_tree, no_zero, one_is, whole_denominator, whole_numerator, zero_is, one_times, zero_plus, Fraction, is_one_fraction, is_zero_fraction, lowest, one_fraction, plus, times, zero_fraction, Tree, num, symbol, mult, power, none, more, whole_num, IsNormal, expanded, factor_tree, factor_trees, monomial_tree, normal, sum_tree, term_tree, term_trees, AreMonomials, Factor, IsMonomial, Monomial, Polynomial, Summand, constant, factor, is_same_monomial, product, raised, summand, variable, exponent_of, natural_of, polynomial_of, product_of, sum_of, AreSame, IsExpanded, coefficient_in, factors_in, terms_in}
 use Rattle.expand_forms.proofs.AllMonomials.{normal_all}
 use Rattle.expand_forms.proofs.Arithmetic.{times_one}
 use Rattle.expand_forms.proofs.FactorTrees.{on_factor}

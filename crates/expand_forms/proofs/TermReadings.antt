@@ -1,36 +1,14 @@
 -- What readers of terms are told.
 use Rattle.std.proofs.Common.{◌≡◌, ◌≤◌, ◌<◌, ℕ, ℤ, pos, zero, suc, ◌+◌, length, [], ◌∷◌, ◌++◌, drop, Bool, true, false, Result, Ok, Err, refl, sym, ap, ◌∙◌, subst, arith}
 use Rattle.std.specs.Prelude.{◌==◌, ◌&&◌, IfOk, if◌then◌else◌}
-use Rattle.std.specs.declared.cmp.Ordering.{Ordering}
-use Rattle.std.specs.declared.cmp.Ordering.TheVariants.{Less, Equal, Greater}
-use Rattle.std.specs.Ordering.{nat_cmp}
-use Rattle.std.specs.Cmp.Lexicographic.{slice_cmp}
-use Rattle.std.proofs.lemmas.Bool.{ne_eqb}
-use Rattle.std.proofs.lemmas.Int.{ints}
-use Rattle.calc_algebra.specs.Reduced.{product_tree}
-use Rattle.calc_terms.specs.declared.kind.Kind.TheVariants as kind
-use Rattle.calc_terms.proofs.FractionFacts.{one_is, whole_denominator, whole_numerator}
-use Rattle.calc_terms.specs.Integers.{int_is_one}
+use Rattle.expand_forms.proofs.Shared.{Ordering, Less, Equal, Greater, nat_cmp, slice_cmp, ne_eqb, ints, product_tree, one_is, whole_denominator, whole_numerator, int_is_one, value_of, Fraction, is_one_fraction, lowest, one_fraction, plus, plus_lowest, Tree, num, symbol, add, mult, power, Trees, none, more, append, count, is_add, is_mult, is_num, root_kind, whole_num, factor_tree, factor_trees, term_tree, term_trees, IsFirst, IsFirstBy, IsNext, Next, Factor, IsMonomial, Monomial, factor, monomial_times, summand, IsSum, HasMonomial, IsRead, IsTerm, coefficient_in, factors_in, first_place, led_by, terms_in, holds-left, tree_at-join_left, AllExpressions, IsExpression, children_of, nth, plain, Forest, Gives, holds, tree_at}
 use Rattle.calc_terms.specs.Leaf.{name_of}
-use Rattle.calc_terms.specs.Rat.{value_of}
 use Rattle.expand_forms.specs.declared.factors.Factor.{Factor as Read}
-use Rattle.calc_terms.specs.Fractions.{Fraction, is_one_fraction, lowest, one_fraction, plus, plus_lowest}
-use Rattle.calc_terms.specs.Trees.{Tree, num, symbol, add, mult, power, Trees, none, more, append, count, is_add, is_mult, is_num, root_kind, whole_num}
-use Rattle.expand_forms.specs.ExpandedTrees.{factor_tree, factor_trees, term_tree, term_trees}
-use Rattle.expand_forms.specs.Merging.{IsFirst, IsFirstBy, IsNext}
-use Rattle.expand_forms.specs.declared.merging.Next.{Next}
-use Rattle.expand_forms.specs.Polynomials.{Factor, IsMonomial, Monomial, factor, monomial_times, summand}
-use Rattle.expand_forms.specs.Sums.{IsSum}
-use Rattle.expand_forms.specs.Terms.{HasMonomial, IsRead, IsTerm, coefficient_in, factors_in, first_place, led_by, terms_in}
 use Rattle.expand_forms.proofs.FactorTrees.{on_factor}
 use Rattle.expand_forms.proofs.MonomialProducts.{below_times, both_first, left_first, put_first, right_is_first}
 use Rattle.expand_forms.proofs.SumPlaces.{summand_at}
 use Rattle.expand_forms.proofs.TermPolynomials.{term_factors}
-use Rattle.tree_handles.proofs.Joins.{holds-left, tree_at-join_left}
-use Rattle.tree_handles.specs.Expressions.{AllExpressions, IsExpression, children_of, nth, plain}
-use Rattle.tree_handles.specs.Forest.{Forest}
-use Rattle.tree_handles.specs.Handed.{Gives}
-use Rattle.tree_handles.specs.Inside.{holds, tree_at}
+use Rattle.calc_terms.specs.declared.kind.Kind.TheVariants as kind
 
 -- ---- a product's factors among its children
 

@@ -1,22 +1,8 @@
 -- The polynomial of a tree is held by the tree's bits.
 use Rattle.std.proofs.Common.{◌≡◌, ℕ, zero, suc, ◌+◌, ◌*◌, ◌^◌, ◌≤◌, ◌<◌, max, pos, negsuc, ℤ, Some, None, List, [], ◌++◌, append-nil, Bool, true, false, refl, sym, ap, ◌∙◌, subst, arith}
 use Rattle.std.specs.Prelude.{nat_abs, neg_ℤ, Option, not}
-use Rattle.std.proofs.Math.Nat.{dvd_refl, le-max_left, le-max_right, max-le, pow-le-pow_right}
-use Rattle.std.proofs.lemmas.Bool.{and_parts}
-use Rattle.std.proofs.lemmas.Nat.{mul-le, pow-add}
-use Rattle.calc_bits.specs.Denominators.{magnitude_over}
-use Rattle.calc_bits.proofs.Quotients.{cancel_right, den_divides, magnitude_cross, magnitude_lowest}
+use Rattle.expand_forms.proofs.Shared.{dvd_refl, le-max_left, le-max_right, max-le, pow-le-pow_right, and_parts, mul-le, pow-add, magnitude_over, cancel_right, den_divides, magnitude_cross, magnitude_lowest, half_literal, or_literal, whole_literal, HighLow, bounds, bounds_of_terms, ceil_log2, high, low, power_bounds, Fraction, den_pos, inverse, inverse_of, is_zero_fraction, minus_one_fraction, mul_pos, negative, int_is_zero, Tree, num, symbol, undef, add, mult, power, root, neg, sub, div, Trees, none, more, count, negative_parts, AreHeldTogether, AreWhole, HaveExponents, IsHeld, mass, Polynomial, constant, scaled, variable, are_polynomials, divisor_of, exponent_of, is_divisor, is_exponent, is_polynomial, is_small, natural_of, polynomial_of, product_of, sum_of, AreExpandedFrom, IsExpandedFrom}
 use Rattle.calc_measures.proofs.CeilLog2.{ceil_log2_is}
-use Rattle.calc_measures.specs.Literals.{half_literal, or_literal, whole_literal}
-use Rattle.calc_measures.specs.Measures.{HighLow, bounds, bounds_of_terms, ceil_log2, high, low, power_bounds}
-use Rattle.calc_terms.specs.Fractions.{Fraction, den_pos, inverse, inverse_of, is_zero_fraction, minus_one_fraction, mul_pos, negative}
-use Rattle.calc_terms.specs.Integers.{int_is_zero}
-use Rattle.calc_terms.specs.Trees.{Tree, num, symbol, undef, add, mult, power, root, neg, sub, div, Trees, none, more, count}
-use Rattle.rational128.proofs.Reciprocals.{negative_parts}
-use Rattle.expand_forms.specs.ExpansionBits.{AreHeldTogether, AreWhole, HaveExponents, IsHeld, mass}
-use Rattle.expand_forms.specs.Polynomials.{Polynomial, constant, scaled, variable}
-use Rattle.expand_forms.specs.PolynomialTrees.{are_polynomials, divisor_of, exponent_of, is_divisor, is_exponent, is_polynomial, is_small, natural_of, polynomial_of, product_of, sum_of}
-use Rattle.expand_forms.specs.Walks.{AreExpandedFrom, IsExpandedFrom}
 use Rattle.expand_forms.proofs.Held.{answer_held, held_more, held_opposite, held_product, held_raised, one_den, one_held, one_magnitude}
 use Rattle.expand_forms.proofs.Masses.{exponents_append, mass_append, mass_scale, more_exponents, whole_append, whole_scale}
 use Rattle.expand_forms.proofs.SameCoefficients.{constant_product}

@@ -1,27 +1,8 @@
 -- What a polynomial tree means is what its polynomial is worth.
 use Rattle.std.proofs.Common.{◌≡◌, ◌≢◌, ◌≤◌, ℕ, zero, suc, ℤ, pos, negsuc, Bool, true, false, refl, sym, ap, ◌∙◌, arith}
 use Rattle.std.specs.Prelude.{Option, Some, None, ◌==◌, nat_le, neg_ℤ, ◌*ℤ◌, if◌then◌else◌}
-use Rattle.std.proofs.lemmas.Bool.{and_parts, leb-true, eqb-true}
-use Rattle.std.proofs.lemmas.Int.{ints}
-use Rattle.calc_algebra.specs.Meanings.{Assignment, IsAssignment, IsWholePower, Means, MeansSum, MeansProduct}
+use Rattle.expand_forms.proofs.Shared.{and_parts, leb-true, eqb-true, ints, Assignment, IsAssignment, IsWholePower, Means, MeansSum, MeansProduct, Surd, surd_of, Inverts-surd_of, inverse_times_itself, negative_times, Same-sym, one_meaning, surd_power-surd_of, exponent_is, Same-trans, Same-Agree, Agree, Agree-Same, Agree-surd_times_right, Agree-trans, one_inverse, Same-append, Same-eq, Same-refl, Same-surd_power, Same-surd_scale, Same-surd_times, joined_radicand, zero_term, opposite, whole_literal, whole_value, no_zero, whole_denominator, whole_numerator, fraction_power, negative_lowest, one_times, plus_negative, times_comm, Fraction, fraction_path, inverse, lowest, minus_one_fraction, negative, one_fraction, plus, times, times_lowest, whole_fraction, zero_fraction, Tree, num, symbol, undef, add, mult, power, root, neg, sub, div, Trees, none, more, scaled, are_polynomials, divisor_of, exponent_of, is_divisor, is_exponent, is_nonzero, is_polynomial, is_small, natural_of, polynomial_of, product_of, sum_of, polynomial_value}
 use Rattle.calc_algebra.specs.SquareClasses.{Same, Inverts}
-use Rattle.calc_algebra.specs.Surds.{Surd, surd_of}
-use Rattle.calc_algebra.proofs.InverseLaws.{Inverts-surd_of, inverse_times_itself, negative_times}
-use Rattle.calc_algebra.proofs.MeaningLaws.{Same-sym, one_meaning}
-use Rattle.calc_algebra.proofs.PowerLaws.{surd_power-surd_of}
-use Rattle.calc_algebra.proofs.PowerRewrites.{exponent_is}
-use Rattle.calc_algebra.proofs.SquareClassLaws.{Same-trans, Same-Agree}
-use Rattle.calc_algebra.proofs.SurdLaws.{Agree, Agree-Same, Agree-surd_times_right, Agree-trans, one_inverse}
-use Rattle.calc_algebra.proofs.TermLaws.{Same-append, Same-eq, Same-refl, Same-surd_power, Same-surd_scale, Same-surd_times, joined_radicand, zero_term}
-use Rattle.calc_measures.specs.Literals.{opposite, whole_literal, whole_value}
-use Rattle.calc_terms.proofs.FractionFacts.{no_zero, whole_denominator, whole_numerator}
-use Rattle.calc_terms.specs.Fits.{fraction_power}
-use Rattle.calc_terms.specs.FractionLaws.{negative_lowest, one_times, plus_negative, times_comm}
-use Rattle.calc_terms.specs.Fractions.{Fraction, fraction_path, inverse, lowest, minus_one_fraction, negative, one_fraction, plus, times, times_lowest, whole_fraction, zero_fraction}
-use Rattle.calc_terms.specs.Trees.{Tree, num, symbol, undef, add, mult, power, root, neg, sub, div, Trees, none, more}
-use Rattle.expand_forms.specs.Polynomials.{scaled}
-use Rattle.expand_forms.specs.PolynomialTrees.{are_polynomials, divisor_of, exponent_of, is_divisor, is_exponent, is_nonzero, is_polynomial, is_small, natural_of, polynomial_of, product_of, sum_of}
-use Rattle.expand_forms.specs.Values.{polynomial_value}
 use Rattle.expand_forms.proofs.Arithmetic.{plus_zero}
 use Rattle.expand_forms.proofs.ValueLaws.{append_value, constant_value, given_is, product_value, raised_value, scaled_value, variable_value}
 

@@ -1,13 +1,6 @@
 -- The polynomial of a tree has monomials only.
 use Rattle.std.proofs.Common.{◌≡◌, ◌≤◌, ℕ, ◌+◌, List, [], ◌∷◌, refl, sym, ap, ◌∙◌, subst, arith}
-use Rattle.std.specs.declared.cmp.Ordering.{Ordering}
-use Rattle.std.specs.declared.cmp.Ordering.TheVariants.{Less, Equal, Greater}
-use Rattle.std.specs.Ordering.{nat_cmp, ordering_reverse}
-use Rattle.std.specs.Cmp.Lexicographic.{nat_list_cmp_total, slice_cmp}
-use Rattle.calc_terms.specs.Fractions.{minus_one_fraction, inverse}
-use Rattle.calc_terms.specs.Trees.{Tree, num, symbol, undef, add, mult, power, root, neg, sub, div, Trees, none, more}
-use Rattle.expand_forms.specs.Polynomials.{AreMonomials, Factor, IsBelowAll, IsMonomial, Monomial, Polynomial, factor, monomial_times, scaled, with_factor}
-use Rattle.expand_forms.specs.PolynomialTrees.{divisor_of, exponent_of, polynomial_of, product_of, sum_of}
+use Rattle.expand_forms.proofs.Shared.{Ordering, Less, Equal, Greater, nat_cmp, ordering_reverse, nat_list_cmp_total, slice_cmp, minus_one_fraction, inverse, Tree, num, symbol, undef, add, mult, power, root, neg, sub, div, Trees, none, more, AreMonomials, Factor, IsBelowAll, IsMonomial, Monomial, Polynomial, factor, monomial_times, scaled, with_factor, divisor_of, exponent_of, polynomial_of, product_of, sum_of}
 use Rattle.expand_forms.proofs.AllMonomials.{AllHave, IsClosed, append_all, product_all, raised_all, scaled_all}
 use Rattle.expand_forms.proofs.ValueLaws.{names_equal}
 

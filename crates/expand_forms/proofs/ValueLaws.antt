@@ -1,22 +1,9 @@
 -- The arithmetic of polynomials is that of their values.
 use Rattle.std.proofs.Common.{◌≡◌, ◌⊎◌, inl, inr, ℕ, zero, suc, ◌+◌, List, [], ◌∷◌, ◌++◌, map, Bool, true, false, refl, sym, ap, ◌∙◌, arith}
 use Rattle.std.specs.Prelude.{if◌then◌else◌, Contains}
-use Rattle.std.specs.Str.{bytes_eq}
-use Rattle.std.proofs.lemmas.Slice.Eq.{bytes_eq-Decides}
-use Rattle.std.specs.declared.cmp.Ordering.{Ordering}
-use Rattle.std.specs.declared.cmp.Ordering.TheVariants.{Less, Equal, Greater}
-use Rattle.std.specs.Ordering.{nat_cmp}
-use Rattle.std.specs.Cmp.Lexicographic.{slice_cmp}
-use Rattle.calc_algebra.specs.Meanings.{Assignment, IsAssignment, Binding, Gives}
+use Rattle.expand_forms.proofs.Shared.{bytes_eq, bytes_eq-Decides, Ordering, Less, Equal, Greater, nat_cmp, slice_cmp, Assignment, IsAssignment, Binding, times_zero, tree_cmp_equal, fraction_power, times_assoc, times_plus, zero_plus, zero_times, one_times, Fraction, plus, times, one_fraction, plus_assoc, Tree, symbol, Factor, Monomial, Polynomial, Summand, constant, factor, monomial_times, product, raised, scaled, summand_times, variable, with_factor, factor_value, given, monomial_value, polynomial_value, summand_value}
+use Rattle.calc_algebra.specs.Meanings.{Gives}
 use Rattle.calc_algebra.proofs.MeaningLaws.{one_value}
-use Rattle.calc_algebra.proofs.SurdLaws.{times_zero}
-use Rattle.calc_algebra.proofs.TreeOrderLaws.{tree_cmp_equal}
-use Rattle.calc_terms.specs.Fits.{fraction_power}
-use Rattle.calc_terms.specs.FractionLaws.{times_assoc, times_plus, zero_plus, zero_times, one_times}
-use Rattle.calc_terms.specs.Fractions.{Fraction, plus, times, one_fraction, plus_assoc}
-use Rattle.calc_terms.specs.Trees.{Tree, symbol}
-use Rattle.expand_forms.specs.Polynomials.{Factor, Monomial, Polynomial, Summand, constant, factor, monomial_times, product, raised, scaled, summand_times, variable, with_factor}
-use Rattle.expand_forms.specs.Values.{factor_value, given, monomial_value, polynomial_value, summand_value}
 use Rattle.expand_forms.proofs.Arithmetic.{plus_both, plus_times, plus_zero, power_plus, times_exchange, times_left_comm, times_one}
 
 -- ---- names

@@ -1,13 +1,8 @@
 -- A monomial has at most as many factors as there are distinct names.
 use Rattle.std.proofs.Common.{◌≡◌, ℕ, zero, suc, ◌+◌, ◌≤◌, List, [], ◌∷◌, length, Bool, true, false, refl, sym, ap, ◌∙◌, subst, arith}
 use Rattle.std.specs.Prelude.{Contains, ◌||◌, if◌then◌else◌}
-use Rattle.std.specs.Str.{bytes_eq}
-use Rattle.std.proofs.lemmas.Slice.Eq.{bytes_eq-Decides}
+use Rattle.expand_forms.proofs.Shared.{bytes_eq, bytes_eq-Decides, is_eq, Within, IsNamed, count_distinct, is_among, IsBelowAll, IsMonomial, Monomial}
 use Rattle.std.proofs.lemmas.Map.Text.{is_eq-slice_cmp}
-use Rattle.std.specs.Ordering.{is_eq}
-use Rattle.calc_algebra.proofs.Names.{Within}
-use Rattle.expand_forms.specs.ExpansionRoom.{IsNamed, count_distinct, is_among}
-use Rattle.expand_forms.specs.Polynomials.{IsBelowAll, IsMonomial, Monomial}
 
 -- ---- names
 

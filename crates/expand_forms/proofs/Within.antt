@@ -1,16 +1,7 @@
 -- A node below another one, beside the last tree.
 use Rattle.std.proofs.Common.{◌≡◌, ◌<◌, ℕ, Bool, true, false, cond, eqb, sym, ap, ◌∙◌, subst}
-use Rattle.std.proofs.lemmas.Bool.{eq-eqb}
+use Rattle.expand_forms.proofs.Shared.{eq-eqb, tree_at-join_left, or_true, at, root_held, AllExpressions, IsExpression, plain, Forest, arity, root_id, tree_nth, Gives, holds, kids_of, tree_at, Tree}
 use Rattle.tree_handles.proofs.Distinct.{holds-tree_at, nth_root}
-use Rattle.tree_handles.proofs.Joins.{tree_at-join_left}
-use Rattle.tree_handles.proofs.Outcomes.{or_true}
-use Rattle.tree_handles.proofs.Parts.{at}
-use Rattle.tree_handles.proofs.Roots.{root_held}
-use Rattle.tree_handles.specs.Expressions.{AllExpressions, IsExpression, plain}
-use Rattle.tree_handles.specs.Forest.{Forest, arity, root_id, tree_nth}
-use Rattle.tree_handles.specs.Handed.{Gives}
-use Rattle.tree_handles.specs.Inside.{holds, kids_of, tree_at}
-use Rattle.calc_terms.specs.Trees.{Tree}
 
 pub inside_itself : (i : ℕ) (f : Forest) → holds i f ≡ true → holds i (tree_at i f) ≡ true
 inside_itself i f h =

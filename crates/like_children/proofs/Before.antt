@@ -1,11 +1,6 @@
 -- One place more, without a Number.
 use Rattle.std.proofs.Common.{◌⊎◌, inl, inr, nat_lt, ℕ, ◌<◌, ◌+◌, ◌≡◌, false, refl, ap, ◌∙◌, arith}
-use Rattle.std.proofs.lemmas.Bool.{ltb-true, ltb-false}
-use Rattle.calc_algebra.specs.Numbers.{is_number}
-use Rattle.calc_terms.specs.Trees.{Trees}
-use Rattle.tree_handles.specs.Expressions.{nth}
-use Rattle.tree_handles.proofs.Outcomes.{by_test}
-use Rattle.like_children.specs.Numbers.{NoNumberBetween}
+use Rattle.like_children.proofs.Shared.{ltb-true, ltb-false, is_number, Trees, nth, by_test, NoNumberBetween}
 
 -- a place before the next one is before this one, or this one
 pub by_place : (k n : ℕ) → k < n + 1 → (k < n) ⊎ (k ≡ n)

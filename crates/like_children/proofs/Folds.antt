@@ -1,24 +1,11 @@
 -- Numbers by their places, and rationals calculated from left to right.
 use Rattle.std.specs.Prelude.{Err}
 use Rattle.std.proofs.Common.{ℕ, zero, suc, ◌≤◌, ◌≡◌, List, ◌∷◌, Bool, true, false, if◌then◌else◌, refl, sym, ap, ◌∙◌, subst, arith}
-use Rattle.std.proofs.lemmas.Bool.{and_parts}
+use Rattle.like_children.proofs.Shared.{and_parts, Fraction, is_number, PlainValue, exactly, overflow, calculated, fold_values, gather, values, plain_of_children, plain_value, are_plain, NoneIs, Tree, num, add, mult, Trees, none, more, count, is_num, are_rationals, State, AnswersRationals, Overflow, NumberFault, nth, removed, rational_of, rationals_of, AreFolded, IsTotal, AnswersTotal, NoNumberBetween, IsNextNumber, others_in}
 use Rattle.calc_terms.specs.Fits.{Operation, add_op, mul_op, operation_fits, result_of}
-use Rattle.calc_terms.specs.Fractions.{Fraction}
-use Rattle.calc_algebra.specs.Numbers.{is_number}
-use Rattle.calc_measures.specs.PlainValues.{PlainValue, exactly, overflow, calculated, fold_values, gather, values, plain_of_children, plain_value, are_plain}
-use Rattle.calc_algebra.specs.Reduced.{NoneIs}
-use Rattle.calc_terms.specs.Trees.{Tree, num, add, mult, Trees, none, more, count, is_num, are_rationals}
-use Rattle.node_pool.specs.State.{State}
-use Rattle.number_forms.specs.Answers.{AnswersRationals}
-use Rattle.rational128.specs.declared.overflow.Overflow.{Overflow}
-use Rattle.tree_handles.specs.declared.fault.NumberFault.{NumberFault}
-use Rattle.tree_handles.specs.declared.fault.NumberFault.TheVariants as fault
 use Rattle.calc_measures.specs.PlainTrees.{IsPlainAnswer, IsPlainOverflow}
-use Rattle.tree_handles.specs.Expressions.{nth}
-use Rattle.number_forms.specs.Sums.{removed}
-use Rattle.like_children.specs.Folds.{rational_of, rationals_of, AreFolded, IsTotal, AnswersTotal}
-use Rattle.like_children.specs.Numbers.{NoNumberBetween, IsNextNumber, others_in}
 use Rattle.like_children.proofs.NumbersIn.{number_out}
+use Rattle.tree_handles.specs.declared.fault.NumberFault.TheVariants as fault
 
 clash : true ≡ false → ⊥
 clash e = cc

@@ -1,18 +1,7 @@
 -- Children by their identifiers.
 use Rattle.std.proofs.Common.{ℕ, suc, ◌<◌, ◌≤◌, ◌≡◌, List, [], ◌∷◌, true, sym, ap, ◌∙◌, arith}
-use Rattle.calc_terms.specs.Trees.{Tree, count}
-use Rattle.node_pool.specs.State.{State}
-use Rattle.tree_handles.specs.Children.{root_ids}
-use Rattle.tree_handles.specs.Expressions.{nth, plain, children_of, IsExpression}
-use Rattle.tree_handles.specs.Forest.{arity, kids, rest_trees}
-use Rattle.tree_handles.specs.Handed.{tree_of, IsHanded}
-use Rattle.tree_handles.specs.Inside.{holds, tree_at, kids_of}
-use Rattle.tree_handles.specs.Roots.{root_tree}
-use Rattle.tree_handles.specs.Standing.{Stands, forest}
+use Rattle.like_children.proofs.Shared.{Tree, count, State, root_ids, nth, plain, children_of, IsExpression, arity, kids, rest_trees, tree_of, IsHanded, holds, tree_at, kids_of, root_tree, Stands, forest, kids_of_root, plain_root, expression_root, count-plains, children_of-plain, root_held}
 use Rattle.tree_handles.proofs.ChildPlaces.{seen_child, step_on, no_more}
-use Rattle.tree_handles.proofs.Lasts.{kids_of_root, plain_root, expression_root}
-use Rattle.tree_handles.proofs.Plains.{count-plains, children_of-plain}
-use Rattle.tree_handles.proofs.Roots.{root_held}
 
 pub root_live : (s : State) {i j : ℕ} → j ≡ i → IsHanded i (forest s) → holds j (forest s) ≡ true
 root_live s {i = i} e h = ap (λ (k : ℕ). holds k (forest s)) e ∙ root_held i (forest s) h.root

@@ -1,15 +1,7 @@
 -- Children by their places.
 use Rattle.std.proofs.Common.{ℕ, zero, suc, ◌+◌, ◌<◌, ◌≡◌, refl, sym, ap, ◌∙◌, arith}
-use Rattle.calc_terms.specs.Trees.{Tree, Trees, none, more, count, sizes, size}
-use Rattle.number_forms.specs.Sums.{removed}
-use Rattle.tree_handles.specs.Expressions.{nth, grown, plains, inserted, children_of, IsWhole}
-use Rattle.tree_handles.specs.Forest.{Forest, empty, tree, arity, kids, tree_nth, without_nth, merged_nth}
-use Rattle.tree_handles.specs.Handed.{IsOnce, Represents}
-use Rattle.tree_handles.proofs.Counted.{all-kids, all-tree_nth, all-without_nth}
-use Rattle.tree_handles.proofs.Forests.{arity-tree_nth}
-use Rattle.tree_handles.proofs.Given.{represents_as, represents_with}
+use Rattle.like_children.proofs.Shared.{Tree, Trees, none, more, count, sizes, size, removed, nth, grown, plains, inserted, children_of, IsWhole, Forest, empty, tree, arity, kids, tree_nth, without_nth, merged_nth, IsOnce, Represents, all-kids, all-tree_nth, all-without_nth, arity-tree_nth, represents_as, represents_with, plain-tree_nth, children_of-plain, whole_kids, alone}
 use Rattle.tree_handles.proofs.Nths.{with_nth-without_nth}
-use Rattle.tree_handles.proofs.Plains.{plain-tree_nth, children_of-plain, whole_kids, alone}
 
 plains-without_nth : (n : ℕ) (f : Forest) → plains (without_nth n f) ≡ removed n (plains f)
 plains-without_nth zero empty = refl

@@ -10,3 +10,4 @@ pub mod SoFar
 pub mod OneOrder
 pub mod Parts
 pub mod OwnPowers
+pub mod Shared

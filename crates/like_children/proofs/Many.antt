@@ -1,29 +1,14 @@
 -- Roots that are sums or products, from call to call.
 use Rattle.std.proofs.Common.{ℕ, ◌+◌, ◌≤◌, ◌<◌, ◌≡◌, inl, inr, true, refl, sym, ap, ◌∙◌, subst, arith}
+use Rattle.like_children.proofs.Shared.{Tree, Trees, count, size, sizes, IsSumOrProduct, State, free_of, removed, nth, compound, plain, children_of, takes_kind, Forest, arity, kids, bytes_in, root_count, tree_nth, without_nth, IsOnce, IsHanded, Represents, Ends, Gives, kids_of, root_tree, without_root, put, Stands, forest, all-tree_nth, arity-tree_nth, gives, kids_of_root, size-plain, root_arity}
 use Rattle.calc_terms.specs.declared.kind.Kind.{Kind}
-use Rattle.calc_terms.specs.declared.kind.Kind.TheVariants as kind
-use Rattle.calc_terms.specs.Trees.{Tree, Trees, count, size, sizes}
 use Rattle.tree_handles.proofs.Over.{IsOver, over_sum, over_product, over_handed, over_plain, over_put, over_end, over_same, once_count, without_put}
 use Rattle.tree_handles.proofs.Cuts.{represents_count}
-use Rattle.like_children.specs.Children.{IsSumOrProduct}
 use Rattle.like_children.proofs.Kids.{represents_nth, represents_without}
 use Rattle.node_pool.specs.Nodes.{used}
-use Rattle.node_pool.specs.State.{State, free_of}
 use Rattle.tree_handles.proofs.FreeBytes.{bytes_without}
-use Rattle.number_forms.specs.Sums.{removed}
-use Rattle.tree_handles.specs.Expressions.{nth, compound, plain, children_of, takes_kind}
-use Rattle.tree_handles.specs.Forest.{Forest, arity, kids, bytes_in, root_count, tree_nth, without_nth}
-use Rattle.tree_handles.specs.Handed.{IsOnce, IsHanded, Represents, Ends, Gives}
-use Rattle.tree_handles.specs.Inside.{kids_of}
-use Rattle.tree_handles.specs.Roots.{root_tree, without_root, put}
-use Rattle.tree_handles.specs.Standing.{Stands, forest}
-use Rattle.tree_handles.proofs.Counted.{all-tree_nth}
-use Rattle.tree_handles.proofs.Forests.{arity-tree_nth}
-use Rattle.tree_handles.proofs.Given.{gives}
-use Rattle.tree_handles.proofs.Lasts.{kids_of_root}
 use Rattle.tree_handles.proofs.Places.{used_forest}
-use Rattle.tree_handles.proofs.Plains.{size-plain}
-use Rattle.tree_handles.proofs.Roots.{root_arity}
+use Rattle.calc_terms.specs.declared.kind.Kind.TheVariants as kind
 
 -- a root of a kind that has any number of children, over these
 pub record IsMany (i : ℕ) (ts : Trees) (f : Forest) : Type 0 where

@@ -1,13 +1,6 @@
 -- The Numbers among trees, and the others.
 use Rattle.std.proofs.Common.{ℕ, zero, suc, ◌+◌, ◌<◌, ◌≡◌, Bool, true, false, ◌&&◌, if◌then◌else◌, refl, sym, ap, ◌∙◌, arith}
-use Rattle.std.proofs.lemmas.Bool.{and_from}
-use Rattle.calc_algebra.specs.Numbers.{is_number, are_numbers}
-use Rattle.calc_algebra.specs.Reduced.{NoneIs}
-use Rattle.calc_algebra.proofs.MeaningRewrites.{Permuted, permuted_none, permuted_more, permuted_trans, Permuted-sym, Permuted-to_front}
-use Rattle.calc_terms.specs.Trees.{Tree, Trees, none, more, append, count}
-use Rattle.number_forms.specs.Sums.{removed}
-use Rattle.tree_handles.specs.Expressions.{nth}
-use Rattle.like_children.specs.Numbers.{numbers_in, others_in, IsNextNumber}
+use Rattle.like_children.proofs.Shared.{and_from, is_number, are_numbers, NoneIs, Permuted, permuted_none, permuted_more, permuted_trans, Permuted-sym, Permuted-to_front, Tree, Trees, none, more, append, count, removed, nth, numbers_in, others_in, IsNextNumber}
 
 -- ---- the first one
 

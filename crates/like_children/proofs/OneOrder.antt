@@ -1,12 +1,8 @@
 -- Trees whose keys rise have one order.
-use Rattle.std.specs.declared.cmp.Ordering.TheVariants.{Less, Equal, Greater}
-use Rattle.std.specs.Ordering.{ordering_reverse}
 use Rattle.std.proofs.Common.{◌≡◌, ◌⊎◌, inl, inr, refl, sym, ap, ◌∙◌}
-use Rattle.calc_algebra.specs.Reduced.{RisesBy}
-use Rattle.calc_algebra.specs.TreeOrder.{tree_cmp}
-use Rattle.calc_algebra.proofs.MeaningRewrites.{Permuted, permuted_none, permuted_more, permuted_swap, permuted_trans, Permuted-sym}
+use Rattle.like_children.proofs.Shared.{ordering_reverse, RisesBy, tree_cmp, Permuted, permuted_none, permuted_more, permuted_swap, permuted_trans, Permuted-sym, Tree, Trees, none, more}
+use Rattle.std.specs.declared.cmp.Ordering.TheVariants.{Less, Equal, Greater}
 use Rattle.calc_algebra.proofs.TreeOrderLaws.{tree_cmp_refl, tree_cmp_total}
-use Rattle.calc_terms.specs.Trees.{Tree, Trees, none, more}
 
 -- ---- which trees they are
 

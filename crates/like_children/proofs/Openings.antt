@@ -1,18 +1,9 @@
 -- Children that are opened from the last to the first.
 use Rattle.std.specs.Prelude.{Option, Some, None, MatchOption}
 use Rattle.std.proofs.Common.{ℕ, zero, suc, ◌+◌, ◌-◌, ◌≤◌, ◌<◌, ◌≡◌, ◌⊎◌, inl, inr, refl, sym, ap, ◌∙◌, subst, arith}
-use Rattle.calc_terms.specs.Trees.{Tree, Trees, none, more, count}
-use Rattle.coefficients.proofs.Openings.{opened_from, nth_opened, opened_at, opened_beside}
-use Rattle.like_children.specs.Children.{IsSumOrProduct, HasChildren}
-use Rattle.like_children.specs.Opening.{NoneOpensBetween, IsLastToOpen}
+use Rattle.like_children.proofs.Shared.{Tree, Trees, none, more, count, opened_from, nth_opened, opened_at, opened_beside, IsSumOrProduct, HasChildren, NoneOpensBetween, IsLastToOpen, removed, nth, inserted, plain, children_of, Forest, kids, IsHanded, Represents, root_tree, put, put-put, put-same}
 use Rattle.like_children.proofs.Before.{by_place}
 use Rattle.like_children.proofs.Many.{IsMany, many, many_put, many_same}
-use Rattle.number_forms.specs.Sums.{removed}
-use Rattle.tree_handles.specs.Expressions.{nth, inserted, plain, children_of}
-use Rattle.tree_handles.specs.Forest.{Forest, kids}
-use Rattle.tree_handles.specs.Handed.{IsHanded, Represents}
-use Rattle.tree_handles.specs.Roots.{root_tree, put}
-use Rattle.tree_handles.proofs.Roots.{put-put, put-same}
 
 -- ---- the last one that gives way
 

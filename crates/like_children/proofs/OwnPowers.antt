@@ -1,6 +1,5 @@
 -- The powers of trees are parts of them, and a Number has none.
-use Rattle.calc_terms.specs.Trees.{Tree, num, symbol, undef, add, mult, power, root, neg, sub, div, Trees, none, more, AllPartsOf, IsPart, IsPartOf, itself, in_add, in_mult, in_base, in_exponent, in_root, in_neg, in_left, in_right, in_dividend, in_divisor, first, later}
-use Rattle.calc_algebra.specs.Numbers.{IsNumber, IsTerm, AreTerms}
+use Rattle.like_children.proofs.Shared.{Tree, num, symbol, undef, add, mult, power, root, neg, sub, div, Trees, none, more, AllPartsOf, IsPart, IsPartOf, itself, in_add, in_mult, in_base, in_exponent, in_root, in_neg, in_left, in_right, in_dividend, in_divisor, first, later, IsNumber, IsTerm, AreTerms}
 use Rattle.calc_room.specs.Powers.{IsPowerOf, HasPowersOf}
 
 -- ---- a Number has no power

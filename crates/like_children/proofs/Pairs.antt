@@ -1,16 +1,10 @@
 -- Keys of neighbours.
 use Rattle.std.proofs.Common.{◌⊎◌, inl, inr, ℕ, suc, ◌<◌, ◌+◌, ◌≡◌, Bool, false, ◌&&◌, sym, ap, ◌∙◌, subst, arith}
 use Rattle.std.specs.Prelude.{Option, None, Some, IfSome}
-use Rattle.std.specs.Ordering.{is_eq}
-use Rattle.calc_algebra.specs.TreeOrder.{tree_cmp}
-use Rattle.calc_terms.specs.Trees.{Tree, Trees}
+use Rattle.like_children.proofs.Shared.{is_eq, tree_cmp, Tree, Trees, nth, Forest, IsKeyOf, have_one_key, are_alike, NoPairBetween}
 use Rattle.node_order.specs.declared.keys.Key.{Key}
 use Rattle.node_order.specs.Keys.{IsKey}
-use Rattle.tree_handles.specs.Expressions.{nth}
-use Rattle.tree_handles.specs.Forest.{Forest}
 use Rattle.like_children.proofs.Before.{by_place}
-use Rattle.like_children.specs.Keyed.{IsKeyOf, have_one_key}
-use Rattle.like_children.specs.Neighbours.{are_alike, NoPairBetween}
 
 pub key_valid : (has : Tree → Bool) (key : Tree → Tree) (t : Tree) (f : Forest) (r : Option Key) → IsKeyOf has key t f r → IfSome r (λ k. IsKey k f)
 key_valid has key t f None h = tt

@@ -1,10 +1,6 @@
 -- What holds of each part of a coefficient and of a tree holds of each part of both put together.
 use Rattle.std.proofs.Common.{Bool, true, false, if◌then◌else◌}
-use Rattle.calc_terms.specs.Fractions.{Fraction, times, zero_fraction, one_fraction, is_zero_fraction, is_one_fraction}
-use Rattle.calc_terms.specs.Trees.{Tree, num, add, mult, Trees, none, more, append, AllParts, AllPartsOf}
-use Rattle.calc_algebra.specs.Numbers.{is_number}
-use Rattle.calc_algebra.specs.Reduced.{product_tree}
-use Rattle.calc_algebra.proofs.MeaningRewrites.{Permuted, permuted_none, permuted_more, permuted_swap, permuted_trans}
+use Rattle.like_children.proofs.Shared.{Fraction, times, zero_fraction, one_fraction, is_zero_fraction, is_one_fraction, Tree, num, add, mult, Trees, none, more, append, AllParts, AllPartsOf, is_number, product_tree, Permuted, permuted_none, permuted_more, permuted_swap, permuted_trans}
 use Rattle.coefficients.specs.Coefficients.{factors_of, spliced, rational_before, with_coefficient}
 use Rattle.coefficients.specs.Multiples.{mapped, rational_times_factors, rational_times, rational_times_number, rational_times_term}
 use Rattle.coefficients.proofs.Forms.{AllPartsOf-append}

@@ -1,32 +1,13 @@
 -- Numbers among children that are taken out, one after another, and joined.
 use Rattle.std.specs.Prelude.{Result, Ok, Err, IfOk}
 use Rattle.std.proofs.Common.{ℕ, zero, suc, ◌+◌, ◌<◌, ◌≤◌, ◌≡◌, [], ◌∷◌, eqb, true, false, refl, sym, ap, ◌∙◌, subst, arith}
-use Rattle.calc_algebra.specs.Numbers.{is_number, value}
+use Rattle.like_children.proofs.Shared.{is_number, value, Tree, Trees, none, more, append, count, size, sizes, AllParts, AllPartsOf, IsSumOrProduct, LeavesChildren, IsJoint, AreJoined, IsNextOf, numbers_in, others_in, IsNextNumber, NoNumberBetween, State, free_of, IsNumberOf, removed, Overflow, nth, plain, children_of, Forest, bytes_in, kids, tree_nth, without_nth, tree_of, IsHanded, Ends, Gives, KeepsFront, has_root, root_tree, without_root, put, Stands, forest, KeepsRefusals, NumberFault, behind_first, behind_later, behind_new, front_same, front_end, front_put, front_without, front_after_two, gives_as, given_apart, given_handed, given_other, given_rest, given_same, given_told, given_without, handed_by_put, last_tree, other_apart, eqb-sym, root-put, tree-put, tree-without, without-put, put-put, put-same}
 use Rattle.calc_algebra.specs.Surds.{Surd}
 use Rattle.calc_bits.specs.Bounds.{HasFewBits, IsNoLarger}
-use Rattle.calc_terms.specs.Trees.{Tree, Trees, none, more, append, count, size, sizes, AllParts, AllPartsOf}
-use Rattle.like_children.specs.Children.{IsSumOrProduct, LeavesChildren}
-use Rattle.like_children.specs.Joining.{IsJoint, AreJoined, IsNextOf}
-use Rattle.like_children.specs.Numbers.{numbers_in, others_in, IsNextNumber, NoNumberBetween}
 use Rattle.like_children.proofs.Folds.{no_numbers}
 use Rattle.like_children.proofs.Kids.{sizes_taken}
 use Rattle.like_children.proofs.Many.{IsMany, IsOut, out, many, many_end, many_put, all_bytes, handed_bytes, put_bytes}
 use Rattle.like_children.proofs.NumbersIn.{others_removed, numbers_removed, no_numbers_none, no_numbers_others, append_one, append_none}
-use Rattle.node_pool.specs.State.{State, free_of}
-use Rattle.number_forms.specs.Answers.{IsNumberOf}
-use Rattle.number_forms.specs.Sums.{removed}
-use Rattle.rational128.specs.declared.overflow.Overflow.{Overflow}
-use Rattle.tree_handles.specs.Expressions.{nth, plain, children_of}
-use Rattle.tree_handles.specs.Forest.{Forest, bytes_in, kids, tree_nth, without_nth}
-use Rattle.tree_handles.specs.Handed.{tree_of, IsHanded, Ends, Gives, KeepsFront}
-use Rattle.tree_handles.specs.Roots.{has_root, root_tree, without_root, put}
-use Rattle.tree_handles.specs.Standing.{Stands, forest, KeepsRefusals}
-use Rattle.tree_handles.specs.declared.fault.NumberFault.{NumberFault}
-use Rattle.tree_handles.proofs.Fronts.{behind_first, behind_later, behind_new, front_same, front_end, front_put, front_without, front_after_two}
-use Rattle.tree_handles.proofs.Given.{gives_as, given_apart, given_handed, given_other, given_rest, given_same, given_told, given_without, handed_by_put}
-use Rattle.tree_handles.proofs.Lasts.{last_tree, other_apart}
-use Rattle.tree_handles.proofs.Outcomes.{eqb-sym}
-use Rattle.tree_handles.proofs.Roots.{root-put, tree-put, tree-without, without-put, put-put, put-same}
 
 pub parts_taken : (P : Tree → Type 0) (n : ℕ) (ts : Trees) → n < count ts → AllPartsOf P ts → AllParts P (nth n ts) × AllPartsOf P (removed n ts)
 parts_taken P n none l h = absurd (omega arith)

@@ -1,11 +1,9 @@
 -- The digits of the text rules are those that std writes.
 use Rattle.std.proofs.Common.{◌≡◌, ◌∙◌, ℕ, zero, suc, ◌+◌, ◌-◌, ◌/◌, ◌%◌, ◌^◌, ◌<◌, ◌≤◌, List, [], ◌∷◌, length, refl, sym, ap, subst, inl, inr, arith}
+use Rattle.line_text.proofs.Shared.{append-nil, cases_lt, digits_before}
 use Rattle.std.proofs.lemmas.Fmt.{PrependsLastDigit, decimal_from_prepends_wide, length-decimal-le_wide, length-decimal-le_succ}
-use Rattle.std.proofs.lemmas.List.{append-nil}
-use Rattle.std.proofs.lemmas.Bool.{cases_lt}
 use Rattle.std.specs.Fmt.{decimal}
 use Rattle.calc_language.specs.Texts as texts
-use Rattle.calc_language.specs.Texts.{digits_before}
 
 -- digits are put in front of those that are there, the last one first
 step : (k n m : ℕ) (acc : List ℕ) → n / 10 ≡ suc m → digits_before (suc k) n acc ≡ digits_before k (n / 10) ((48 + n % 10) ∷ acc)

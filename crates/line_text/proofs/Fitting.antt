@@ -1,27 +1,13 @@
 -- The numbers in a pool fit, so a text is short.
 use Rattle.std.proofs.Common.{◌≡◌, ◌∙◌, ℕ, zero, suc, ◌-◌, ◌*◌, ◌≤◌, List, ◌∷◌, ◌++◌, length, nat_abs, true, sym, ap, subst, arith}
-use Rattle.std.proofs.lemmas.List.{length-append}
-use Rattle.std.proofs.lemmas.Bool.{lt-ltb}
-use Rattle.calc_terms.specs.declared.kind.Kind.{Kind}
-use Rattle.calc_terms.specs.declared.kind.Kind.TheVariants as kind
+use Rattle.line_text.proofs.Shared.{length-append, lt-ltb, Kind, Payload, rational, named, bare, IsPayload, text, IsWritable, Trees, none, more, AllParts, AllPartsOf, size, State, nth, grown, compound, plain, plains, IsExpression, Forest, empty, tree, flatten, node_of, nodes_in, holds, tree_at, kids_of, Stands, forest, bytes-flatten, nodes-flatten, one_at, size-plain, IsFitting, HasFittingNumbers}
 use Rattle.calc_terms.specs.Fits.{fits}
-use Rattle.calc_terms.specs.Payload.{Payload, rational, named, bare, IsPayload}
-use Rattle.calc_language.specs.Texts.{text, IsWritable}
-use Rattle.calc_terms.specs.Trees.{Trees, none, more, AllParts, AllPartsOf, size}
 use Rattle.node_pool.specs.Nodes.{AreNodes}
-use Rattle.node_pool.specs.State.{State}
 use Rattle.node_pool.proofs.Sizes.{AreNodes-left, AreNodes-right, length_le_used}
-use Rattle.tree_handles.specs.Expressions.{nth, grown, compound, plain, plains, IsExpression}
-use Rattle.tree_handles.specs.Forest.{Forest, empty, tree, flatten, node_of, nodes_in}
-use Rattle.tree_handles.specs.Inside.{holds, tree_at, kids_of}
-use Rattle.tree_handles.specs.Standing.{Stands, forest}
-use Rattle.tree_handles.proofs.Forests.{bytes-flatten, nodes-flatten}
-use Rattle.tree_handles.proofs.Measures.{one_at}
 use Rattle.tree_handles.proofs.Parts.{live_at}
-use Rattle.tree_handles.proofs.Plains.{size-plain}
-use Rattle.line_text.specs.Lengths.{IsFitting, HasFittingNumbers}
 use Rattle.line_text.proofs.Leaves.{numerator_is}
 use Rattle.line_text.proofs.Lengths.{short}
+use Rattle.calc_terms.specs.declared.kind.Kind.TheVariants as kind
 
 nth_fitting : (n : ℕ) (ts : Trees) → AllPartsOf IsFitting ts → AllParts IsFitting (nth n ts)
 nth_fitting n none h = tt

@@ -1,14 +1,10 @@
 -- What is written of a node without children.
 use Rattle.std.proofs.Common.{◌≡◌, ◌∙◌, ℕ, ◌^◌, ◌<◌, ℤ, List, nat_abs, sym, ap, subst, arith, FitsSigned}
+use Rattle.line_text.proofs.Shared.{Fraction, lowest, Holds, lowest_parts, Ratio, IsRat, decimal, Tree, num, leaf_text}
 use Rattle.std.proofs.lemmas.Int.{ints, to_z-of_z}
-use Rattle.std.specs.Fmt as fmt
 use Rattle.std.specs.Int.{w128, cast_signed, cast_unsigned}
-use Rattle.calc_terms.specs.Fractions.{Fraction, lowest, Holds, lowest_parts}
-use Rattle.calc_terms.specs.Ratio.{Ratio, IsRat}
-use Rattle.calc_language.specs.Texts.{decimal}
-use Rattle.calc_terms.specs.Trees.{Tree, num}
-use Rattle.line_text.specs.Pending.{leaf_text}
 use Rattle.line_text.proofs.Decimals.{decimal_is}
+use Rattle.std.specs.Fmt as fmt
 
 signed_fits : (z : ℤ) → nat_abs z < 2 ^ 127 → FitsSigned w128 z
 signed_fits z h = omega (arith, ints)

@@ -5,3 +5,4 @@ pub mod Parts
 pub mod Trees
 pub mod Walks
 pub mod Fitting
+pub mod Shared

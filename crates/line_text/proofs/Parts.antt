@@ -1,17 +1,8 @@
 -- The text of a tree is what is written of its root, the texts of its children, and what closes it.
 use Rattle.std.proofs.Common.{◌≡◌, ◌∙◌, ℕ, ◌+◌, ◌≤◌, List, [], ◌++◌, Bool, true, false, nat_le, codes, cond, length, refl, sym, ap, arith, append_assoc, append-nil}
-use Rattle.std.proofs.lemmas.List.{length-append}
-use Rattle.calc_terms.specs.declared.kind.Kind.{Kind}
-use Rattle.calc_terms.specs.declared.kind.Kind.TheVariants as kind
-use Rattle.calc_language.specs.Tokens.{root_sign}
-use Rattle.calc_language.specs.Texts.{later_of_sum, left_of_quotient, later_of_product, base, exponent, level, admits, admits_signed, at_place, in_parentheses, text, text_of_sum, text_of_terms, text_of_product, text_of_factors}
-use Rattle.calc_terms.specs.Trees.{Tree, num, symbol, undef, add, mult, power, root, neg, sub, div, Trees, none, more, root_kind, is_root, is_sub, is_div}
-use Rattle.tree_handles.specs.Expressions.{children_of}
+use Rattle.line_text.proofs.Shared.{length-append, Kind, root_sign, later_of_sum, left_of_quotient, later_of_product, base, exponent, level, admits, admits_signed, at_place, in_parentheses, text, text_of_sum, text_of_terms, text_of_product, text_of_factors, Tree, num, symbol, undef, add, mult, power, root, neg, sub, div, Trees, none, more, root_kind, is_root, is_sub, is_div, children_of, WholeText, FirstOfSum, LaterOfSum, LeftOfDifference, RightOfDifference, UnderSign, FirstOfProduct, LaterOfProduct, LeftOfQuotient, RightOfQuotient, Base, Exponent, UnderRoot, Pending, rule_of, sign_before, first_place, level_of, is_sub_kind, is_div_kind, is_root_kind, kind_behind_opposites, deciding_kind, admits_kind, text_there, texts_from, owed_text, leaf_text, opening, pending_below}
 use Rattle.line_text.specs.declared.place.Place.{Place}
-use Rattle.line_text.specs.declared.place.Place.TheVariants.{WholeText, FirstOfSum, LaterOfSum, LeftOfDifference, RightOfDifference, UnderSign, FirstOfProduct, LaterOfProduct, LeftOfQuotient, RightOfQuotient, Base, Exponent, UnderRoot}
-use Rattle.line_text.specs.declared.place.Pending.{Pending}
-use Rattle.line_text.specs.Places.{rule_of, sign_before, first_place, level_of, is_sub_kind, is_div_kind, is_root_kind, kind_behind_opposites, deciding_kind, admits_kind}
-use Rattle.line_text.specs.Pending.{text_there, texts_from, owed_text, leaf_text, opening, pending_below}
+use Rattle.calc_terms.specs.declared.kind.Kind.TheVariants as kind
 
 -- ---- the texts of children side by side
 

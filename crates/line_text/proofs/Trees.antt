@@ -1,27 +1,9 @@
 -- What a node shows of its tree.
 use Rattle.std.proofs.Common.{◌≡◌, ◌∙◌, ℕ, List, [], ◌∷◌, nat_abs, true, refl, sym, ap, subst, arith}
-use Rattle.std.proofs.lemmas.Bool.{eqb-true}
-use Rattle.calc_terms.specs.declared.kind.Kind.{Kind}
-use Rattle.calc_terms.specs.declared.kind.Kind.TheVariants as kind
-use Rattle.calc_terms.specs.Payload.{Payload, rational, named, bare, kind_of_payload, IsPayload}
-use Rattle.calc_terms.specs.Ratio.{Ratio}
-use Rattle.calc_language.specs.Texts.{decimal}
-use Rattle.calc_terms.specs.Trees.{neg, root_kind}
-use Rattle.node_pool.specs.State.{State}
-use Rattle.tree_handles.specs.declared.visits.Visit.{Visit}
-use Rattle.tree_handles.specs.Expressions.{plain, plains, grown, takes, AllExpressions, IsExpression}
-use Rattle.tree_handles.specs.Forest.{Label, Forest, empty, tree, arity, root_payload}
-use Rattle.tree_handles.specs.Inside.{holds, tree_at, payload_in}
-use Rattle.tree_handles.specs.Standing.{Stands, forest}
-use Rattle.tree_handles.specs.Visits.{visits_of, visit_at}
-use Rattle.tree_handles.proofs.Forests.{join-empty}
-use Rattle.tree_handles.proofs.Plains.{root_kind-plain}
-use Rattle.tree_handles.proofs.Readings.{seen, plain_number, expression_kind}
-use Rattle.tree_handles.proofs.Visiting.{visit_here, visits_left, no_visit}
-use Rattle.line_text.specs.Pending.{leaf_text}
-use Rattle.line_text.specs.Places.{kind_behind_opposites}
+use Rattle.line_text.proofs.Shared.{eqb-true, Kind, Payload, rational, named, bare, kind_of_payload, IsPayload, Ratio, decimal, neg, root_kind, State, Visit, plain, plains, grown, takes, AllExpressions, IsExpression, Label, Forest, empty, tree, arity, root_payload, holds, tree_at, payload_in, Stands, forest, visits_of, visit_at, join-empty, root_kind-plain, seen, plain_number, expression_kind, visit_here, visits_left, no_visit, leaf_text, kind_behind_opposites}
 use Rattle.line_text.proofs.Leaves.{number_text}
 use Rattle.line_text.proofs.Parts.{not_opposite}
+use Rattle.calc_terms.specs.declared.kind.Kind.TheVariants as kind
 
 -- the root's kind
 pub kind_told : (v : Visit) (s : State) → IsExpression v.id (forest s) → v ≡ visit_at v.id (forest s) → v.kind ≡ root_kind (plain (tree_at v.id (forest s)))

@@ -1,20 +1,7 @@
 -- A walk over the nodes of a tree that knows what is still to be written.
 use Rattle.std.proofs.Common.{◌≡◌, ◌∙◌, ℕ, suc, ◌+◌, ◌-◌, ◌<◌, ◌≤◌, List, [], ◌∷◌, ◌++◌, length, Bool, true, false, codes, refl, sym, ap, subst, arith, append_assoc, append-nil}
-use Rattle.std.proofs.lemmas.List.{length-append}
-use Rattle.calc_language.specs.Texts.{IsWritable, AreWritable, text}
-use Rattle.calc_terms.specs.Trees.{Tree, num, symbol, undef, add, mult, power, root, neg, sub, div, Trees, none, more}
-use Rattle.tree_handles.specs.declared.visits.Visit.{Visit}
-use Rattle.tree_handles.specs.Expressions.{plain, plains, grown, children_of, AllExpressions, IsExpression}
-use Rattle.tree_handles.specs.Forest.{Label, Forest, empty, tree, join, arity, node_of, nodes_in}
-use Rattle.tree_handles.specs.Inside.{tree_at}
-use Rattle.tree_handles.specs.Visits.{visit_of, visits_of, AreFound}
-use Rattle.tree_handles.proofs.Forests.{join-empty}
-use Rattle.tree_handles.proofs.Plains.{alone, grown_whole, children_of-plain}
-use Rattle.tree_handles.proofs.Visiting.{IsSeen, found-join, seen, visit_here, visits_left, visits_length}
-use Rattle.line_text.specs.declared.place.Pending.{Pending}
-use Rattle.line_text.specs.declared.place.Place.TheVariants.{WholeText}
-use Rattle.line_text.specs.Pending.{text_there, texts_from, owed_text}
-use Rattle.line_text.specs.Places.{next_place}
+use Rattle.line_text.proofs.Shared.{length-append, IsWritable, AreWritable, text, Tree, num, symbol, undef, add, mult, power, root, neg, sub, div, Trees, none, more, Visit, plain, plains, grown, children_of, AllExpressions, IsExpression, Label, Forest, empty, tree, join, arity, node_of, nodes_in, tree_at, visit_of, visits_of, AreFound, join-empty, alone, grown_whole, children_of-plain, IsSeen, found-join, visit_here, visits_left, visits_length, Pending, WholeText, text_there, texts_from, owed_text, next_place}
+use Rattle.tree_handles.proofs.Visiting.{seen}
 use Rattle.line_text.proofs.Parts.{closing}
 
 -- what is pending of a node, and the children that it still waits for

@@ -1,11 +1,7 @@
 -- Calculations of which an operation may not fit.
 use Rattle.std.proofs.Common.{◌≡◌, ◌<◌, ◌≤◌, ℕ, zero, suc, ◌+◌, List, [], ◌∷◌, ◌++◌, length, take, drop, get_or, map, Bool, true, false, if◌then◌else◌, Result, Ok, Err, refl, sym, ap, ◌∙◌, arith}
-use Rattle.std.proofs.lemmas.List.{take_more, take_all, drop_more, take-append-drop}
 use Rattle.std.specs.Prelude.{All}
-use Rattle.std.proofs.lemmas.List.Elements.{All-nil, All-cons, All-head, All-tail, All-same}
-use Rattle.calc_terms.specs.Fits.{Operation, operation_fits, result_of}
-use Rattle.calc_terms.specs.Fractions.{Fraction}
-use Rattle.linear_solve.specs.Fitting.{Misfit, and_then, fitted, each}
+use Rattle.linear_solve.proofs.Shared.{take_more, take_all, drop_more, take-append-drop, All-nil, All-cons, All-head, All-tail, All-same, Operation, operation_fits, result_of, Fraction, Misfit, and_then, fitted, each}
 
 -- ---- one after another
 

@@ -1,22 +1,12 @@
 -- The entries of rows, and loops over them.
 use Rattle.std.proofs.Common.{◌≡◌, ◌≢◌, ◌<◌, ◌≤◌, ◌↔◌, ℕ, pos, ◌+◌, min, List, [], ◌∷◌, ◌++◌, length, take, get_or, map, true, false, Result, Ok, Err, IfOk, IfErr, IsErr, refl, sym, ap, ◌∙◌, arith}
 use Rattle.std.specs.Prelude.{zip}
-use Rattle.std.proofs.lemmas.List.{length_push, map_more, take_all}
-use Rattle.std.proofs.lemmas.Slice.Zip.{length-zip, get_or-zip}
+use Rattle.linear_solve.proofs.Shared.{length_push, map_more, take_all, length-zip, get_or-zip, add_op, mul_op, Fraction, lowest, plus, times, is_zero_fraction, zero_fraction, one_fraction, int_is_zero, ratio_parts, ratio_of, value_of, Overflow, Misfit, each, sum_of, product_of, Row, entry, misfit_of}
 use Rattle.calc_terms.specs.declared.rat.Rat.{Rat}
-use Rattle.calc_terms.specs.Fits.{add_op, mul_op}
-use Rattle.calc_terms.specs.Fractions.{Fraction, lowest, plus, times, is_zero_fraction, zero_fraction, one_fraction}
-use Rattle.calc_terms.specs.Integers.{int_is_zero}
-use Rattle.rational128.proofs.LowestTerms.{ratio_parts}
-use Rattle.calc_terms.specs.Rat.{ratio_of, value_of}
 use Rattle.calc_terms.specs.Ratio.{Ratio, whole}
-use Rattle.rational128.specs.declared.overflow.Op.TheVariants as op
-use Rattle.rational128.specs.declared.overflow.Overflow.{Overflow}
 use Rattle.rational128.specs.Refusals.{DoesNotFit}
-use Rattle.linear_solve.specs.Fitting.{Misfit, each, sum_of, product_of}
-use Rattle.linear_solve.specs.Rows.{Row, entry}
-use Rattle.linear_solve.specs.Told.{misfit_of}
 use Rattle.linear_solve.proofs.Calculations.{each_all, each_more, each_stops, fitted_err, fitted_ok}
+use Rattle.rational128.specs.declared.overflow.Op.TheVariants as op
 
 -- ---- rationals
 

@@ -1,17 +1,7 @@
 -- The rows of equations, one after another.
 use Rattle.std.proofs.Common.{◌≡◌, ◌<◌, ◌≤◌, ℕ, ◌+◌, List, [], ◌∷◌, ◌++◌, length, take, get_or, Ok, Err, sym, ap, ◌∙◌, subst, arith, zero-add}
 use Rattle.std.specs.Prelude.{sum_by, zip}
-use Rattle.std.specs.List.{enumerate_from}
-use Rattle.std.proofs.lemmas.List.{length-map, get_or-map, take_all}
-use Rattle.std.proofs.lemmas.List.FromFn.{get_or-enumerate_from, length-enumerate_from}
-use Rattle.std.proofs.lemmas.List.Sums.{sum_by_more, sum_by_more_le}
-use Rattle.std.proofs.lemmas.Slice.Zip.{get_or-zip, length-zip}
-use Rattle.calc_terms.specs.Trees.{nodes}
-use Rattle.linear_solve.specs.Elimination.{difference_of, equation_row, equation_rows, unit}
-use Rattle.linear_solve.specs.Equations.{Equation, equation_at, equations_in, nodes_of_sides}
-use Rattle.linear_solve.specs.Fitting.{Misfit, each}
-use Rattle.linear_solve.specs.Rows.{Row}
-use Rattle.linear_solve.specs.Sides.{Names}
+use Rattle.linear_solve.proofs.Shared.{enumerate_from, length-map, get_or-map, take_all, get_or-enumerate_from, length-enumerate_from, sum_by_more, sum_by_more_le, get_or-zip, length-zip, nodes, difference_of, equation_row, equation_rows, unit, Equation, equation_at, equations_in, nodes_of_sides, Misfit, each, Row, Names}
 use Rattle.linear_solve.proofs.Calculations.{each_all, each_more, each_stops, then_err, then_ok}
 use Rattle.linear_solve.proofs.Theorem.{no_equation}
 use Rattle.tree_handles.specs.Forest.{Forest}

@@ -12,3 +12,4 @@ pub mod Walks
 pub mod RowLists
 pub mod EquationRows
 pub mod Results
+pub mod Shared

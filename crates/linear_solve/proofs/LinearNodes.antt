@@ -1,14 +1,9 @@
 -- A node is linear by its children.
 use Rattle.std.proofs.Common.{◌≡◌, ◌<◌, ◌≤◌, ℕ, ◌+◌, Bool, true, false, List, [], ◌∷◌, drop, Option, Some, None, refl, sym, ap, ◌∙◌, subst, arith, zero-add}
 use Rattle.std.specs.Prelude.{◌&&◌, ◌||◌, if◌then◌else◌, nat_le, option_and_then}
-use Rattle.std.proofs.lemmas.Bool.{lt-leb}
-use Rattle.std.proofs.lemmas.List.{drop_more, drop_all}
-use Rattle.calc_terms.specs.declared.kind.Kind.{Kind}
-use Rattle.calc_terms.specs.declared.kind.Kind.TheVariants as kind
-use Rattle.calc_terms.specs.Trees.{Tree, num, symbol, undef, add, mult, power, root, neg, sub, div, Trees, none, more, count, root_kind}
-use Rattle.linear_solve.specs.Linear.{are_linear, count_named, has_name, have_name, is_divisor, is_linear, is_nonzero, joined_name, name_where_linear, root_name}
+use Rattle.linear_solve.proofs.Shared.{lt-leb, drop_more, drop_all, Kind, Tree, num, symbol, undef, add, mult, power, root, neg, sub, div, Trees, none, more, count, root_kind, are_linear, count_named, has_name, have_name, is_divisor, is_linear, is_nonzero, joined_name, name_where_linear, root_name, nth, children_of}
 use Rattle.linear_solve.proofs.TreeLists.{get_or-listed, length-listed, listed}
-use Rattle.tree_handles.specs.Expressions.{nth, children_of}
+use Rattle.calc_terms.specs.declared.kind.Kind.TheVariants as kind
 
 -- children are asked one after another
 abbrev pub asked : Kind → Bool → List Tree → Option Bool

@@ -1,27 +1,9 @@
 -- The row of a linear tree is worth what the tree means.
 use Rattle.std.proofs.Common.{◌≡◌, ◌≢◌, ◌≤◌, ◌⊎◌, inl, inr, ℕ, zero, suc, ◌+◌, List, [], ◌∷◌, ◌++◌, length, map, Bool, true, false, Ok, refl, sym, ap, ◌∙◌, subst, arith, length-append, pos}
 use Rattle.std.specs.Prelude.{◌&&◌, ◌||◌, if◌then◌else◌, nat_le, Contains}
-use Rattle.std.specs.Str.{bytes_eq}
-use Rattle.std.proofs.lemmas.Bool.{and_parts, leb-true, false_from_ne_true}
-use Rattle.std.proofs.lemmas.List.{length-map, get_or_at}
-use Rattle.std.proofs.lemmas.List.Elements.{Contains-append_left, Contains-append_right, Contains-push}
+use Rattle.linear_solve.proofs.Shared.{bytes_eq, and_parts, leb-true, false_from_ne_true, length-map, get_or_at, Contains-append_left, Contains-append_right, Contains-push, Assignment, IsAssignment, Gives, Means, surd_of, surd_one, Inverts-surd_of, inverse_times_itself, Same-sym, one_meaning, surd_of_one, Same-trans, Same-eq, Same-refl, joined_radicand, surd_times-terms, zero_term, no_zero, negative_lowest, one_times, zero_times, zero_plus, Fraction, plus, times, negative, inverse, zero_fraction, one_fraction, minus_one_fraction, Tree, num, symbol, undef, add, mult, power, root, neg, sub, div, Trees, none, more, names, names_of, AreDistinct, Assigns, and_then, are_linear, count_named, has_name, have_name, is_divisor, is_linear, is_nonzero, Row, worth, Side, constant_row, difference_row, joined_from, name_row, own_row, product_row, quotient_row, row_of, rows_of, sum_row}
 use Rattle.std.proofs.lemmas.Slice.Eq.{bytes_eq-Decides}
-use Rattle.calc_algebra.specs.Meanings.{Assignment, IsAssignment, Gives, Means}
-use Rattle.calc_algebra.specs.Surds.{surd_of, surd_one}
-use Rattle.calc_algebra.proofs.InverseLaws.{Inverts-surd_of, inverse_times_itself}
-use Rattle.calc_algebra.proofs.MeaningLaws.{Same-sym, one_meaning, surd_of_one}
 use Rattle.calc_algebra.proofs.MeaningRewrites.{sum_more, sum_none, product_more, product_none}
-use Rattle.calc_algebra.proofs.SquareClassLaws.{Same-trans}
-use Rattle.calc_algebra.proofs.TermLaws.{Same-eq, Same-refl, joined_radicand, surd_times-terms, zero_term}
-use Rattle.calc_terms.proofs.FractionFacts.{no_zero}
-use Rattle.calc_terms.specs.FractionLaws.{negative_lowest, one_times, zero_times, zero_plus}
-use Rattle.calc_terms.specs.Fractions.{Fraction, plus, times, negative, inverse, zero_fraction, one_fraction, minus_one_fraction}
-use Rattle.calc_terms.specs.Trees.{Tree, num, symbol, undef, add, mult, power, root, neg, sub, div, Trees, none, more, names, names_of}
-use Rattle.linear_solve.specs.Equations.{AreDistinct, Assigns}
-use Rattle.linear_solve.specs.Fitting.{and_then}
-use Rattle.linear_solve.specs.Linear.{are_linear, count_named, has_name, have_name, is_divisor, is_linear, is_nonzero}
-use Rattle.linear_solve.specs.Rows.{Row, worth}
-use Rattle.linear_solve.specs.Sides.{Side, constant_row, difference_row, joined_from, name_row, own_row, product_row, quotient_row, row_of, rows_of, sum_row}
 use Rattle.linear_solve.proofs.Arithmetic.{plus_both, plus_zero, times_one, negative_is, negative_zero, negative_twice}
 use Rattle.linear_solve.proofs.Calculations.{both, ok_is}
 use Rattle.linear_solve.proofs.SideWorths.{IsRow, AreRows, any, AtMostOne, difference_is, opposite_row, product, products_are, quotient_is, sums_are, total}

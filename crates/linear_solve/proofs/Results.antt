@@ -1,23 +1,10 @@
 -- What a result of the whole calculation says.
 use Rattle.std.proofs.Common.{◌≡◌, ◌↔◌, ℕ, List, [], length, map, Result, Ok, Err, IfOk, IfErr, OnOk, sym, ap, ◌∙◌}
-use Rattle.breakers.proofs.Runs.{calm_checks_raise_no_trips, only_the_tripped_rose}
-use Rattle.breakers.specs.Breakers.{CalmChecks, TripsRose}
-use Rattle.breakers.specs.State.{State}
-use Rattle.linear_solve.specs.declared.fault.SolveFault.{SolveFault}
-use Rattle.linear_solve.specs.declared.fault.SolveFault.TheVariants as fault
+use Rattle.linear_solve.proofs.Shared.{calm_checks_raise_no_trips, only_the_tripped_rose, CalmChecks, TripsRose, State, SolveFault, Rows, equation_rows, settled_up_to, Equation, StopsWithin, Misfit, and_then, Answer, Form, answer_of, never, solved, Row, Names, IfNever, IfSolved, answer_told, form_told, solving, entries_of}
 use Rattle.linear_solve.specs.declared.solution.Solution.{Solution}
-use Rattle.linear_solve.specs.declared.solution.Solution.TheVariants as solution
-use Rattle.linear_solve.specs.Elimination.{Rows, equation_rows, settled_up_to}
-use Rattle.linear_solve.specs.Equations.{Equation}
-use Rattle.linear_solve.specs.Faults.{StopsWithin}
-use Rattle.linear_solve.specs.Fitting.{Misfit, and_then}
-use Rattle.linear_solve.specs.Forms.{Answer, Form, answer_of, never, solved}
-use Rattle.linear_solve.specs.Rows.{Row}
-use Rattle.linear_solve.specs.Sides.{Names}
-use Rattle.linear_solve.specs.Solutions.{IfNever, IfSolved, answer_told, form_told}
-use Rattle.linear_solve.specs.Solving.{solving}
-use Rattle.linear_solve.specs.Told.{entries_of}
 use Rattle.linear_solve.proofs.Calculations.{then_err, then_ok}
+use Rattle.linear_solve.specs.declared.fault.SolveFault.TheVariants as fault
+use Rattle.linear_solve.specs.declared.solution.Solution.TheVariants as solution
 
 -- ---- the calculation, step by step
 

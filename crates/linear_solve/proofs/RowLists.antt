@@ -1,16 +1,8 @@
 -- Lists of rows, and loops over them.
 use Rattle.std.proofs.Common.{◌≡◌, ◌<◌, ◌≤◌, ℕ, zero, suc, ◌+◌, ◌-◌, Bool, cond, List, [], ◌∷◌, ◌++◌, length, get_or, map, Some, None, Ok, Err, refl, sym, ap, ◌∙◌, arith, length-drop, add-one, inl, inr}
 use Rattle.std.specs.Prelude.{position, not, nat_lt, swap, if◌then◌else◌, ◌==◌}
-use Rattle.std.specs.List.{prefix_len}
-use Rattle.std.proofs.lemmas.Bool.{cases_eq, eq-eqb, ne_eqb}
-use Rattle.std.proofs.lemmas.List.{get_or-drop, get_or-map, get_or-replicate, length-map, map_push}
-use Rattle.std.proofs.lemmas.List.Edits.{length-swap, swapped_from_swap}
-use Rattle.calc_terms.specs.Fractions.{one_fraction, zero_fraction}
-use Rattle.linear_solve.specs.Elimination.{Rows, others, settled, settled_up_to, unit}
+use Rattle.linear_solve.proofs.Shared.{prefix_len, cases_eq, eq-eqb, ne_eqb, get_or-drop, get_or-map, get_or-replicate, length-map, map_push, length-swap, swapped_from_swap, one_fraction, zero_fraction, Rows, others, settled, settled_up_to, unit, Misfit, Row, entry, entries_of}
 use Rattle.linear_solve.specs.declared.row.Row.{Row as RowOfCode}
-use Rattle.linear_solve.specs.Fitting.{Misfit}
-use Rattle.linear_solve.specs.Rows.{Row, entry}
-use Rattle.linear_solve.specs.Told.{entries_of}
 use Rattle.linear_solve.proofs.Calculations.{then_err, then_ok}
 
 prefix_len-map : {A B : Type 0} (q : B → Bool) (f : A → B) (xs : List A) → prefix_len q (map f xs) ≡ prefix_len (λ x. q (f x)) xs

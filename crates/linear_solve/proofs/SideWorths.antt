@@ -1,10 +1,7 @@
 -- What the rows of nodes are worth where the names have values.
 use Rattle.std.proofs.Common.{◌≡◌, ℕ, suc, List, [], ◌∷◌, length, Bool, true, false, Ok, refl, sym, ap, ◌∙◌, subst}
 use Rattle.std.specs.Prelude.{◌&&◌, ◌||◌, if◌then◌else◌}
-use Rattle.calc_terms.specs.FractionLaws.{times_comm, times_assoc, one_times}
-use Rattle.calc_terms.specs.Fractions.{Fraction, plus, times, negative, inverse, zero_fraction, one_fraction, plus_assoc}
-use Rattle.linear_solve.specs.Rows.{Row, added, entry, negated, scaled, worth}
-use Rattle.linear_solve.specs.Sides.{Side, constant_of, difference_row, joined_rows, over_both, product_row, quotient_row, sum_row}
+use Rattle.linear_solve.proofs.Shared.{times_comm, times_assoc, one_times, Fraction, plus, times, negative, inverse, zero_fraction, one_fraction, plus_assoc, Row, added, entry, negated, scaled, worth, Side, constant_of, difference_row, joined_rows, over_both, product_row, quotient_row, sum_row}
 use Rattle.linear_solve.proofs.Arithmetic.{plus_both, plus_zero, times_one, negative_is}
 use Rattle.linear_solve.proofs.Calculations.{both, ok_is}
 use Rattle.linear_solve.proofs.Worths.{added_is, scaled_is, negated_is, multiple_entry, combined_entries}

@@ -1,21 +1,8 @@
 -- One name after another is eliminated, and the rows keep their solutions.
 use Rattle.std.proofs.Common.{◌≡◌, ◌≢◌, ◌<◌, ◌≤◌, ◌⊎◌, inl, inr, ℕ, zero, suc, ◌+◌, ◌-◌, List, [], ◌∷◌, ◌++◌, length, drop, get_or, set, Bool, true, false, cond, Option, Some, None, Result, Ok, refl, sym, ap, ◌∙◌, subst, arith, length-drop, add-one}
 use Rattle.std.specs.Prelude.{All, swap, not, nat_lt, if◌then◌else◌}
-use Rattle.std.specs.List.{position_or_len}
-use Rattle.std.proofs.lemmas.Bool.{cases_eq, cases_lt, not-true, not-false, ltb-false}
-use Rattle.std.proofs.lemmas.List.{get_or_append_left, get_or_push, get_or_past, get_or_default, get_or-drop, length_push}
-use Rattle.std.proofs.lemmas.List.Edits.{swapped_from_swap, length-swap}
-use Rattle.std.proofs.lemmas.List.Elements.{All-drop, All-set, All-get_or}
+use Rattle.linear_solve.proofs.Shared.{position_or_len, cases_eq, cases_lt, not-true, not-false, ltb-false, get_or_append_left, get_or_push, get_or_past, get_or_default, get_or-drop, length_push, swapped_from_swap, length-swap, All-drop, All-set, All-get_or, prefix_len_passes, inverse_times_itself, times_zero, zero_is, no_zero, times_comm, times_assoc, one_times, zero_times, plus_negative, Fraction, plus, times, negative, inverse, is_zero_fraction, zero_fraction, one_fraction, Rows, cleared, cleared_pivot, first_with, others, row_at, settled, settled_at, settled_up_to, Misfit, and_then, each, Row, entry, scaled, without, worth}
 use Rattle.std.proofs.lemmas.List.Quantifiers.{position-Some}
-use Rattle.std.proofs.lemmas.List.Sums.{prefix_len_passes}
-use Rattle.calc_algebra.proofs.InverseLaws.{inverse_times_itself}
-use Rattle.calc_algebra.proofs.SurdLaws.{times_zero}
-use Rattle.calc_terms.proofs.FractionFacts.{zero_is, no_zero}
-use Rattle.calc_terms.specs.FractionLaws.{times_comm, times_assoc, one_times, zero_times, plus_negative}
-use Rattle.calc_terms.specs.Fractions.{Fraction, plus, times, negative, inverse, is_zero_fraction, zero_fraction, one_fraction}
-use Rattle.linear_solve.specs.Elimination.{Rows, cleared, cleared_pivot, first_with, others, row_at, settled, settled_at, settled_up_to}
-use Rattle.linear_solve.specs.Fitting.{Misfit, and_then, each}
-use Rattle.linear_solve.specs.Rows.{Row, entry, scaled, without, worth}
 use Rattle.linear_solve.proofs.Arithmetic.{plus_zero, negative_zero, times_one}
 use Rattle.linear_solve.proofs.Calculations.{both, each_at, each_long, each_forward, each_back, ok_is}
 use Rattle.linear_solve.proofs.Worths.{IsMultiple, IsCombined, scaled_is, without_is, multiple_entry, combined_entries}

@@ -1,29 +1,7 @@
 -- Forms and multipliers say which assignments solve the equations.
 use Rattle.std.proofs.Common.{◌≡◌, ◌≢◌, ◌<◌, inl, inr, ℕ, zero, suc, ◌+◌, List, [], ◌∷◌, ◌++◌, length, drop, get_or, map, Option, Some, None, Ok, refl, sym, ap, ◌∙◌, subst, arith, length-append, append_assoc, zero-add, ◌↔◌, length-drop}
 use Rattle.std.specs.Prelude.{All, Contains, ◌==◌, if◌then◌else◌, zip}
-use Rattle.std.specs.List.{AllZip, enumerate_from, range_with_len}
-use Rattle.std.proofs.lemmas.Bool.{cases_eq, cases_lt, eq-eqb, ne_eqb}
-use Rattle.std.proofs.lemmas.List.{length-map, get_or-map, get_or_past}
-use Rattle.std.proofs.lemmas.List.Elements.{All-from_get_or, All-get_or}
-use Rattle.std.proofs.lemmas.List.FromFn.{length-enumerate_from, get_or-enumerate_from, length-map-range_with_len, get_or-map-range_with_len}
-use Rattle.std.proofs.lemmas.Slice.Zip.{AllZip-long, length-zip, get_or-zip}
-use Rattle.calc_algebra.specs.Meanings.{Assignment, Binding, Gives, IsAssignment, Means, bound_names}
-use Rattle.calc_algebra.specs.Surds.{surd_of}
-use Rattle.calc_algebra.proofs.InverseLaws.{inverse_times_itself, negative_times, same_from_difference}
-use Rattle.calc_algebra.proofs.MeaningLaws.{one_meaning, surd_of_one}
-use Rattle.calc_algebra.proofs.SquareClassLaws.{Same-Agree}
-use Rattle.calc_algebra.proofs.SurdLaws.{Agree-sym, Agree-trans}
-use Rattle.calc_algebra.proofs.TermLaws.{Same-refl}
-use Rattle.calc_terms.specs.FractionLaws.{one_times, zero_times, zero_plus, plus_negative}
-use Rattle.calc_terms.specs.Fractions.{Fraction, plus, times, negative, inverse, zero_fraction, one_fraction, plus_comm, plus_assoc}
-use Rattle.calc_terms.specs.Trees.{undef}
-use Rattle.linear_solve.specs.Elimination.{Rows, difference_of, equation_row, equation_rows, first_with, row_at, settled_up_to, unit}
-use Rattle.linear_solve.specs.Equations.{AreDistinct, Assigns, Equation, IsLinearIn, Solves, SolvesAll}
-use Rattle.linear_solve.specs.Fitting.{and_then}
-use Rattle.linear_solve.specs.Forms.{Answer, never, solved, Form, free, HasItsValue, HaveTheirValues, HoldLaterFreeNames, answer_of, answer_with, differences, form_of, forms_of, IsFree, multiple_in, multipliers}
-use Rattle.linear_solve.specs.Rows.{Row, added, entry, negated, worth}
-use Rattle.linear_solve.specs.Sides.{Side, row_of}
-use Rattle.linear_solve.specs.Solving.{solving}
+use Rattle.linear_solve.proofs.Shared.{AllZip, enumerate_from, range_with_len, cases_eq, cases_lt, eq-eqb, ne_eqb, length-map, get_or-map, get_or_past, All-from_get_or, All-get_or, length-enumerate_from, get_or-enumerate_from, length-map-range_with_len, get_or-map-range_with_len, AllZip-long, length-zip, get_or-zip, Assignment, Binding, Gives, IsAssignment, Means, bound_names, surd_of, inverse_times_itself, negative_times, same_from_difference, one_meaning, surd_of_one, Same-Agree, Agree-sym, Agree-trans, Same-refl, one_times, zero_times, zero_plus, plus_negative, Fraction, plus, times, negative, inverse, zero_fraction, one_fraction, plus_comm, plus_assoc, undef, Rows, difference_of, equation_row, equation_rows, first_with, row_at, settled_up_to, unit, AreDistinct, Assigns, Equation, IsLinearIn, Solves, SolvesAll, and_then, Answer, never, solved, Form, free, HasItsValue, HaveTheirValues, HoldLaterFreeNames, answer_of, answer_with, differences, form_of, forms_of, IsFree, multiple_in, multipliers, Row, added, entry, negated, worth, Side, row_of, solving}
 use Rattle.linear_solve.proofs.Arithmetic.{plus_both, plus_zero, times_one, negative_is, negative_plus, negative_zero, negative_twice, negative_plus_self, opposite_is, times_negative}
 use Rattle.linear_solve.proofs.Calculations.{both, each_at, each_long, ok_is}
 use Rattle.linear_solve.proofs.Meanings.{long_values, one_rational_meaning, row_means}

@@ -1,8 +1,6 @@
 -- The children of a node as a list.
 use Rattle.std.proofs.Common.{◌≡◌, ◌<◌, ◌≤◌, ℕ, zero, suc, ◌+◌, List, [], ◌∷◌, ◌++◌, length, get_or, take, sym, refl, ap, ◌∙◌, arith}
-use Rattle.std.proofs.lemmas.List.{take_more, take_all}
-use Rattle.calc_terms.specs.Trees.{Tree, num, symbol, undef, add, mult, power, root, neg, sub, div, Trees, none, more, count, nodes, nodes_of}
-use Rattle.tree_handles.specs.Expressions.{nth, children_of}
+use Rattle.linear_solve.proofs.Shared.{take_more, take_all, Tree, num, symbol, undef, add, mult, power, root, neg, sub, div, Trees, none, more, count, nodes, nodes_of, nth, children_of}
 
 abbrev pub listed : Trees → List Tree
 listed none = []

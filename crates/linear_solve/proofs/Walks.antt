@@ -1,30 +1,13 @@
 -- The rows of a node's children, one after another, and the checks between.
 use Rattle.std.proofs.Common.{◌≡◌, ◌<◌, ◌≤◌, ℕ, zero, suc, ◌+◌, true, false, List, [], ◌∷◌, ◌++◌, length, map, take, Result, Ok, Err, refl, sym, ap, ◌∙◌, subst, arith, Some, None, IfErr, IsErrAnd}
-use Rattle.std.proofs.lemmas.Result.{err_from_is_err_and}
-use Rattle.rational128.specs.declared.overflow.Overflow.{Overflow}
-use Rattle.std.proofs.lemmas.Bool.{and_parts, not-true}
-use Rattle.std.proofs.lemmas.List.{get_or-map, get_or_at, length-append, length-map, length_push}
-use Rattle.breakers.proofs.Runs.{CalmChecks-append}
-use Rattle.breakers.specs.Breakers.{Check, CalmChecks}
-use Rattle.breakers.specs.State.{State}
-use Rattle.calc_terms.proofs.FractionFacts.{no_zero, zero_test}
-use Rattle.calc_terms.specs.declared.kind.Kind.{Kind}
-use Rattle.calc_terms.specs.declared.kind.Kind.TheVariants as kind
-use Rattle.calc_terms.specs.Fractions.{Fraction, negative, is_zero_fraction, zero_fraction}
-use Rattle.calc_terms.specs.Trees.{Tree, num, symbol, undef, add, mult, power, root, neg, sub, div, Trees, none, more, count, nodes, root_kind}
-use Rattle.linear_solve.specs.declared.fault.SolveFault.{SolveFault}
-use Rattle.linear_solve.specs.declared.fault.SolveFault.TheVariants as fault
+use Rattle.linear_solve.proofs.Shared.{err_from_is_err_and, Overflow, and_parts, not-true, get_or-map, get_or_at, length-append, length-map, length_push, CalmChecks-append, Check, CalmChecks, State, no_zero, zero_test, Kind, Fraction, negative, is_zero_fraction, zero_fraction, Tree, num, symbol, undef, add, mult, power, root, neg, sub, div, Trees, none, more, count, nodes, root_kind, SolveFault, OfOverflow, StopsWithin, Misfit, and_then, each, are_linear, is_divisor, is_linear, is_nonzero, entry, negated, Names, Side, bare_row, constant_of, constant_row, joined_from, joined_row, joined_rows, own_row, row_of, rows_of, signed_row, children_of, nth}
 use Rattle.linear_solve.specs.Checks.{TripsWithin}
-use Rattle.linear_solve.specs.Faults.{OfOverflow, StopsWithin}
-use Rattle.linear_solve.specs.Fitting.{Misfit, and_then, each}
-use Rattle.linear_solve.specs.Linear.{are_linear, is_divisor, is_linear, is_nonzero}
-use Rattle.linear_solve.specs.Rows.{entry, negated}
-use Rattle.linear_solve.specs.Sides.{Names, Side, bare_row, constant_of, constant_row, joined_from, joined_row, joined_rows, own_row, row_of, rows_of, signed_row}
 use Rattle.linear_solve.proofs.Arithmetic.{negative_twice, negative_zero}
 use Rattle.linear_solve.proofs.Calculations.{each_all, each_more, each_stops, ok_is, then_err, then_ok}
 use Rattle.linear_solve.proofs.LinearNodes.{divisor_linear}
 use Rattle.linear_solve.proofs.TreeLists.{get_or-listed, length-listed, listed, node_sum, node_sum_all, node_sum_more, nodes_below}
-use Rattle.tree_handles.specs.Expressions.{children_of, nth}
+use Rattle.calc_terms.specs.declared.kind.Kind.TheVariants as kind
+use Rattle.linear_solve.specs.declared.fault.SolveFault.TheVariants as fault
 
 -- ---- a tree's row by those of its children
 

@@ -1,14 +1,7 @@
 -- What rows are worth.
 use Rattle.std.proofs.Common.{◌≡◌, ◌<◌, ℕ, zero, suc, ◌+◌, List, [], ◌∷◌, ◌++◌, length, drop, map, Result, Ok, refl, sym, ap, ◌∙◌, subst, arith}
 use Rattle.std.specs.Prelude.{zip, replicate}
-use Rattle.std.proofs.lemmas.List.{length-replicate}
-use Rattle.calc_algebra.proofs.SurdLaws.{times_zero}
-use Rattle.calc_terms.specs.Fits.{add_op, mul_op}
-use Rattle.calc_terms.specs.FractionLaws.{times_comm, zero_plus, zero_times, one_times}
-use Rattle.calc_terms.specs.Fractions.{Fraction, plus, times, negative, zero_fraction, one_fraction, plus_assoc}
-use Rattle.linear_solve.specs.Elimination.{unit}
-use Rattle.linear_solve.specs.Fitting.{Misfit, and_then, each, sum_of, product_of}
-use Rattle.linear_solve.specs.Rows.{Row, added, entry, negated, scaled, without, worth}
+use Rattle.linear_solve.proofs.Shared.{length-replicate, times_zero, add_op, mul_op, times_comm, zero_plus, zero_times, one_times, Fraction, plus, times, negative, zero_fraction, one_fraction, plus_assoc, unit, Misfit, and_then, each, sum_of, product_of, Row, added, entry, negated, scaled, without, worth}
 use Rattle.linear_solve.proofs.Arithmetic.{plus_both, plus_zero, times_one, combined_entry, scaled_entry, negative_is, negative_zero, negative_plus, times_negative}
 use Rattle.linear_solve.proofs.Calculations.{both, each_cons, each_pure, fitted_is, ok_is}
 

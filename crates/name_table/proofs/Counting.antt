@@ -1,17 +1,7 @@
 -- Forests whose roots get other counts.
 use Rattle.std.proofs.Common.{◌≡◌, ◌≢◌, ℕ, suc, ◌+◌, ◌-◌, ◌≤◌, Bool, true, false, cond, eqb, ltb, refl, sym, ap, ◌∙◌, arith}
-use Rattle.std.proofs.lemmas.Bool.{eqb-true, eqb-false, eq-eqb, ne_eqb, ltb-true, ltb-false}
-use Rattle.calc_language.specs.Texts.{AreWritable}
-use Rattle.tree_handles.specs.Expressions.{AllExpressions, plain, plains}
-use Rattle.tree_handles.specs.Forest.{Forest, Label, empty, tree, join, root_count}
-use Rattle.tree_handles.specs.Handed.{AllOnce}
-use Rattle.tree_handles.specs.Inside.{count_of, holds, released, released_in, with_count_in}
-use Rattle.tree_handles.specs.Roots.{has_root, root_tree}
-use Rattle.tree_handles.proofs.Distinct.{Distinct, distinct_parts, tree_at-root}
+use Rattle.name_table.proofs.Shared.{eqb-true, eqb-false, eq-eqb, ne_eqb, ltb-true, ltb-false, AreWritable, AllExpressions, plain, plains, Forest, Label, empty, tree, join, root_count, AllOnce, count_of, holds, released, released_in, with_count_in, has_root, root_tree, Distinct, distinct_parts, tree_at-root, by_test, root_held, no_root, AreCountedBy, counted_by}
 use Rattle.tree_handles.proofs.Held.{released-once}
-use Rattle.tree_handles.proofs.Outcomes.{by_test}
-use Rattle.tree_handles.proofs.Roots.{root_held, no_root}
-use Rattle.name_table.specs.Held.{AreCountedBy, counted_by}
 
 -- a unit more, or less, for one root
 abbrev pub one_more : ℕ → (ℕ → ℕ) → ℕ → ℕ

@@ -1,12 +1,6 @@
 -- Entries among trees.
 use Rattle.std.proofs.Common.{◌≡◌, List, [], ◌∷◌, sym, subst}
-use Rattle.tree_handles.specs.Expressions.{AllExpressions, IsWhole}
-use Rattle.tree_handles.specs.Forest.{Forest, join}
-use Rattle.tree_handles.proofs.Forests.{all-join}
-use Rattle.tree_handles.proofs.Roots.{root-left}
-use Rattle.name_table.specs.Filling.{NamedTree, values}
-use Rattle.name_table.specs.Held.{AreRoots, HasEntries, HoldLaterNames, IsHeld}
-use Rattle.name_table.specs.Tables.{Entry, Table, entries}
+use Rattle.name_table.proofs.Shared.{AllExpressions, IsWhole, Forest, join, all-join, root-left, NamedTree, values, AreRoots, HasEntries, HoldLaterNames, IsHeld, Entry, Table, entries}
 use Rattle.name_table.proofs.Later.{values-left}
 
 pub held_entries : (t : Table) (f : Forest) → IsHeld t f → HasEntries t f

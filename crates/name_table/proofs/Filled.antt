@@ -1,29 +1,12 @@
 -- The entries one after another.
 use Rattle.std.proofs.Common.{◌≡◌, ℕ, suc, ◌+◌, ◌<◌, ◌≤◌, List, [], ◌∷◌, length, map, drop, get_or, codes, IsSome, true, refl, sym, ap, ◌∙◌, subst, arith, drop-cons}
 use Rattle.std.specs.Prelude.{⊤}
-use Rattle.std.proofs.lemmas.List.{drop_all}
-use Rattle.calc_terms.specs.Leaf.{name_of}
-use Rattle.calc_terms.specs.Trees.{Tree}
-use Rattle.node_pool.specs.State.{State, free_of}
-use Rattle.tree_handles.specs.Expressions.{plain}
-use Rattle.tree_handles.specs.Forest.{Forest}
-use Rattle.tree_handles.specs.Handed.{Gives, KeepsFront, tree_of}
-use Rattle.tree_handles.specs.Roots.{has_root, root_tree, without_root}
-use Rattle.tree_handles.specs.Standing.{KeepsRefusals, Stands, forest}
-use Rattle.tree_handles.proofs.Forests.{keeps_after, keeps_none, refuses_after}
+use Rattle.name_table.proofs.Shared.{drop_all, name_of, Tree, State, free_of, plain, Forest, Gives, KeepsFront, tree_of, has_root, root_tree, without_root, KeepsRefusals, Stands, forest, keeps_after, keeps_none, refuses_after, given_rest, given_told, gives_as, last_tree, replaced, FaultsFilling, LacksNames, NamedTree, filled, filling, filling_one, fills, refused_filling, value_in, values, AreRoots, HasEntries, AreUsed, entry_of, root_in, Entry, Table, entries, table_names, Slot}
 use Rattle.tree_handles.proofs.Fronts.{IsBehind, front_after_one, front_same, not_first, starts_without}
-use Rattle.tree_handles.proofs.Given.{given_rest, given_told, gives_as}
-use Rattle.tree_handles.proofs.Lasts.{last_tree}
-use Rattle.tree_walks.specs.Replacing.{replaced}
-use Rattle.name_table.specs.Filling.{FaultsFilling, LacksNames, NamedTree, filled, filling, filling_one, fills, refused_filling, value_in, values}
-use Rattle.name_table.specs.Held.{AreRoots, HasEntries}
-use Rattle.name_table.specs.Slots.{AreUsed, entry_of, root_in}
-use Rattle.name_table.specs.Tables.{Entry, Table, entries, table_names}
-use Rattle.name_table.specs.declared.table.Slot.{Slot}
 use Rattle.name_table.specs.declared.fault.FillFault.{FillFault}
-use Rattle.name_table.specs.declared.fault.FillFault.TheVariants as fault
 use Rattle.name_table.proofs.FilledNames.{entries_lack}
 use Rattle.name_table.proofs.Slots.{used_at}
+use Rattle.name_table.specs.declared.fault.FillFault.TheVariants as fault
 
 -- the last tree is filled but for the rest of the entries
 pub record IsFilled (t : Table) (i0 : ℕ) (s0 : State) (rest : List Entry) (i : ℕ) (s : State) : Type 0 where

@@ -1,14 +1,8 @@
 -- Names of filled trees, and what filling in the free bytes gives.
 use Rattle.std.proofs.Common.{◌≡◌, ℕ, ◌⊎◌, inl, inr, List, [], ◌∷◌, map, Bool, true, false, cond, ltb, Result, Ok, Err, refl, sym, ap, ◌∙◌, subst}
 use Rattle.std.specs.Prelude.{Contains}
-use Rattle.calc_terms.specs.Trees.{Tree, depth, root_size, size, symbol}
-use Rattle.node_pool.specs.declared.full.Full.{Full}
-use Rattle.tree_handles.specs.Forest.{Forest}
-use Rattle.tree_walks.specs.Replacing.{occurrences, replaced, replacing}
+use Rattle.name_table.proofs.Shared.{Tree, depth, root_size, size, symbol, Full, Forest, occurrences, replaced, replacing, Filling, LacksNames, NamedTree, fills, filled, filling, filling_one, lacks, too_deep, value_in, values, HasEntries, HoldLaterNames, IsHeld, Entry, Table, entries, table_names}
 use Rattle.tree_walks.proofs.Composing.{names_of_replaced}
-use Rattle.name_table.specs.Filling.{Filling, LacksNames, NamedTree, fills, filled, filling, filling_one, lacks, too_deep, value_in, values}
-use Rattle.name_table.specs.Held.{HasEntries, HoldLaterNames, IsHeld}
-use Rattle.name_table.specs.Tables.{Entry, Table, entries, table_names}
 use Rattle.name_table.proofs.Later.{behind, in_front, names_of_entries, none_in, where_in}
 
 -- the names of the new tree

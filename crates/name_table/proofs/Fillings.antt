@@ -1,21 +1,7 @@
 -- One stored tree in place of its name.
 use Rattle.std.proofs.Common.{◌≡◌, ℕ, ◌<◌, List, Bool, true, cond, ltb, Ok, Err, refl, sym, ap, ◌∙◌, subst, arith}
-use Rattle.std.proofs.lemmas.Bool.{le-ltb, lt-ltb}
-use Rattle.calc_terms.specs.Trees.{Tree, symbol, size, root_size, depth}
-use Rattle.node_pool.specs.declared.full.Full.{Full}
-use Rattle.node_pool.specs.State.{State}
-use Rattle.tree_handles.specs.Expressions.{AllExpressions, IsExpression, IsWhole, plain}
-use Rattle.tree_handles.specs.Forest.{Forest}
-use Rattle.tree_handles.specs.Handed.{Gives, tree_of}
-use Rattle.tree_handles.specs.Inside.{tree_at}
-use Rattle.tree_handles.specs.Roots.{has_root, root_tree}
-use Rattle.tree_handles.specs.Standing.{Stands, forest}
+use Rattle.name_table.proofs.Shared.{le-ltb, lt-ltb, Tree, symbol, size, root_size, depth, Full, State, AllExpressions, IsExpression, IsWhole, plain, Forest, Gives, tree_of, tree_at, has_root, root_tree, Stands, forest, gives_as, given_handed, given_root, given_told, expression_root, other_root, other_tree, plain_root, tree_of_root, root_held, occurrences, replaced, replacing, NamedTree, filling_one, fills, lacks, too_deep}
 use Rattle.tree_handles.proofs.Counted.{all-root_tree}
-use Rattle.tree_handles.proofs.Given.{gives_as, given_handed, given_root, given_told}
-use Rattle.tree_handles.proofs.Lasts.{expression_root, other_root, other_tree, plain_root, tree_of_root}
-use Rattle.tree_handles.proofs.Roots.{root_held}
-use Rattle.tree_walks.specs.Replacing.{occurrences, replaced, replacing}
-use Rattle.name_table.specs.Filling.{NamedTree, filling_one, fills, lacks, too_deep}
 
 -- ---- a tree beside the last one
 

@@ -1,12 +1,6 @@
 -- How many entries hold a tree.
 use Rattle.std.proofs.Common.{◌≡◌, ◌≢◌, ℕ, suc, ◌-◌, ◌≤◌, List, [], ◌∷◌, ◌++◌, Bool, true, false, cond, eqb, Some, refl, sym, ap, ◌∙◌, arith}
-use Rattle.std.specs.Str.{bytes_eq}
-use Rattle.std.proofs.lemmas.Bool.{eq-eqb, eqb-true}
-use Rattle.tree_handles.specs.Forest.{Forest}
-use Rattle.tree_handles.specs.Roots.{has_root}
-use Rattle.tree_handles.proofs.Outcomes.{by_test}
-use Rattle.name_table.specs.Held.{AreRoots}
-use Rattle.name_table.specs.Tables.{Entry, holders, tree_under, without_entry}
+use Rattle.name_table.proofs.Shared.{bytes_eq, eq-eqb, eqb-true, Forest, has_root, by_test, AreRoots, Entry, holders, tree_under, without_entry}
 use Rattle.name_table.proofs.Counting.{one_less, one_more}
 
 swapped : (a b : Bool) (n : ℕ) → cond a (suc (cond b (suc n) n)) (cond b (suc n) n) ≡ cond b (suc (cond a (suc n) n)) (cond a (suc n) n)

@@ -1,20 +1,8 @@
 -- Names of trees, and where they stand in a table.
 use Rattle.std.proofs.Common.{◌≡◌, ℕ, zero, suc, ◌<◌, ◌≤◌, ◌⊎◌, inl, inr, List, [], ◌∷◌, ◌++◌, length, map, Bool, true, false, cond, ltb, Some, refl, sym, ap, ◌∙◌, subst, arith}
 use Rattle.std.specs.Prelude.{◌||◌, Contains}
-use Rattle.std.specs.Str.{bytes_eq}
-use Rattle.std.proofs.lemmas.Bool.{ltb-true}
-use Rattle.std.proofs.lemmas.List.{map-append}
+use Rattle.name_table.proofs.Shared.{bytes_eq, ltb-true, map-append, bytes_eq-Decides, Tree, Forest, join, has_root, root_tree, plain, by_test, root-left, tree-left, LacksNames, NamedTree, value_in, AreDistinctNames, AreRoots, HoldLaterNames, counted_by, Entry, Table, has_entry, has_room_for, name_limit, tree_under, without_entry}
 use Rattle.std.proofs.lemmas.List.Elements.{Contains-append_cases}
-use Rattle.std.proofs.lemmas.Slice.Eq.{bytes_eq-Decides}
-use Rattle.calc_terms.specs.Trees.{Tree}
-use Rattle.tree_handles.specs.Forest.{Forest, join}
-use Rattle.tree_handles.specs.Roots.{has_root, root_tree}
-use Rattle.tree_handles.specs.Expressions.{plain}
-use Rattle.tree_handles.proofs.Outcomes.{by_test}
-use Rattle.tree_handles.proofs.Roots.{root-left, tree-left}
-use Rattle.name_table.specs.Filling.{LacksNames, NamedTree, value_in}
-use Rattle.name_table.specs.Held.{AreDistinctNames, AreRoots, HoldLaterNames, counted_by}
-use Rattle.name_table.specs.Tables.{Entry, Table, has_entry, has_room_for, name_limit, tree_under, without_entry}
 use Rattle.name_table.proofs.Counting.{plain-counted, root-counted}
 use Rattle.name_table.proofs.Holders.{AreTold}
 

@@ -9,3 +9,4 @@ pub mod FilledNames
 pub mod Entries
 pub mod Filled
 pub mod Tested
+pub mod Shared

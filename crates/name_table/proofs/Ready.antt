@@ -1,23 +1,8 @@
 -- A forest that holds the trees of a table, among others and with other counts.
 use Rattle.std.proofs.Common.{◌≡◌, ℕ, suc, ◌<◌, ◌≤◌, inl, inr, List, [], ◌∷◌, ◌++◌, length, map, Bool, true, false, cond, Option, Some, None, refl, sym, ap, ◌∙◌, subst, arith, codes}
 use Rattle.std.specs.Prelude.{Contains}
-use Rattle.std.specs.Str.{bytes_eq}
-use Rattle.std.proofs.lemmas.Bool.{eq-eqb}
-use Rattle.std.proofs.lemmas.List.{length-append}
-use Rattle.std.proofs.lemmas.Slice.Eq.{bytes_eq-Decides}
-use Rattle.calc_language.specs.Texts.{AreWritable}
-use Rattle.calc_terms.specs.Trees.{Tree, Trees, none, more, append}
-use Rattle.tree_handles.specs.Expressions.{AllExpressions, IsWhole, plain, plains}
-use Rattle.tree_handles.specs.Forest.{Forest, empty, tree, arity, join, root_id}
-use Rattle.tree_handles.specs.Handed.{AllOnce, Gives}
-use Rattle.tree_handles.specs.Roots.{has_root, root_tree}
-use Rattle.tree_handles.proofs.Forests.{all-join}
-use Rattle.tree_handles.proofs.Lasts.{last_root, last_tree}
+use Rattle.name_table.proofs.Shared.{bytes_eq, eq-eqb, length-append, bytes_eq-Decides, AreWritable, Tree, Trees, none, more, append, AllExpressions, IsWhole, plain, plains, Forest, empty, tree, arity, join, root_id, AllOnce, Gives, has_root, root_tree, all-join, last_root, last_tree, LacksNames, value_in, values, AreCountedBy, AreDistinctNames, AreRoots, HoldLaterNames, IsHeld, held_by, holders_in, IsKeepable, names_with, Entry, Table, entries, first_table, has_room_for, name_limit, table_names, with_answer, without_entry, without_name}
 use Rattle.tree_handles.proofs.Plains.{alone, plains-join}
-use Rattle.name_table.specs.Filling.{LacksNames, value_in, values}
-use Rattle.name_table.specs.Held.{AreCountedBy, AreDistinctNames, AreRoots, HoldLaterNames, IsHeld, held_by, holders_in}
-use Rattle.name_table.specs.Storing.{IsKeepable, names_with}
-use Rattle.name_table.specs.Tables.{Entry, Table, entries, first_table, has_room_for, name_limit, table_names, with_answer, without_entry, without_name}
 use Rattle.name_table.proofs.Counting.{counted-are, counts_beside, one_more, plain-counted, whole-counted, writable-counted}
 use Rattle.name_table.proofs.Holders.{holders-no_root, holders-told}
 use Rattle.name_table.proofs.Later.{AreAmong, among_with, behind, distinct-last, distinct-without, gone, in_front, lacks-among, later-last, later-without, length-without, names-last, names-without, names_of_entries, none_in, room-without, roots-counted, roots-last, roots-left, roots-without, values-counted, values-left, where_in}

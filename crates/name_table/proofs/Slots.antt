@@ -1,17 +1,10 @@
 -- Slots of the code, and the entries that they are.
 use Rattle.std.proofs.Common.{◌≡◌, ℕ, zero, suc, ◌+◌, ◌<◌, ◌≤◌, List, [], ◌∷◌, ◌++◌, length, map, get_or, slice_get, Bool, true, false, cond, eqb, ltb, Option, Some, None, IsSome, refl, sym, ap, ◌∙◌, subst, arith}
 use Rattle.std.specs.Prelude.{◌||◌, not, position, remove, is_some}
-use Rattle.std.specs.Str.{bytes_eq}
-use Rattle.std.proofs.lemmas.Bool.{eqb-true, eqb-false, le-ltb, lt-ltb}
-use Rattle.std.proofs.lemmas.List.{length-map}
+use Rattle.name_table.proofs.Shared.{bytes_eq, eqb-true, eqb-false, le-ltb, lt-ltb, length-map, name_of, by_test, Slot, AreUsed, entry_of, root_in, Entry, Table, has_entry, has_room_for, name_limit, tree_under, without_entry}
 use Rattle.std.proofs.lemmas.List.Quantifiers.{position-Some}
 use Rattle.std.specs.List.{position_from}
 use Rattle.std.proofs.lemmas.Iterator.Adapters.{position_from-zero}
-use Rattle.calc_terms.specs.Leaf.{name_of}
-use Rattle.tree_handles.proofs.Outcomes.{by_test}
-use Rattle.name_table.specs.declared.table.Slot.{Slot}
-use Rattle.name_table.specs.Slots.{AreUsed, entry_of, root_in}
-use Rattle.name_table.specs.Tables.{Entry, Table, has_entry, has_room_for, name_limit, tree_under, without_entry}
 
 -- the slot is that of the name
 abbrev pub is_slot : List ℕ → Slot → Bool

@@ -1,22 +1,7 @@
 -- Pools whose roots are counted, from call to call.
 use Rattle.std.proofs.Common.{◌≡◌, ◌≢◌, ℕ, suc, ◌+◌, ◌-◌, ◌<◌, ◌≤◌, List, [], ◌∷◌, ◌++◌, Bool, true, false, cond, eqb, Option, Some, None, refl, sym, ap, ◌∙◌, subst, arith}
 use Rattle.std.specs.Prelude.{IfSome}
-use Rattle.std.specs.Str.{bytes_eq}
-use Rattle.std.proofs.lemmas.Bool.{eq-eqb, eqb-true}
-use Rattle.calc_terms.specs.Trees.{Tree}
-use Rattle.node_pool.specs.State.{State}
-use Rattle.tree_handles.specs.Forest.{Forest}
-use Rattle.tree_handles.specs.Handed.{Gives}
-use Rattle.tree_handles.specs.Inside.{count_of, released_in, with_count_in}
-use Rattle.tree_handles.specs.Roots.{has_root}
-use Rattle.tree_handles.specs.Standing.{Stands, forest}
-use Rattle.tree_handles.proofs.Distinct.{distinct}
-use Rattle.tree_handles.proofs.Lasts.{last_root}
-use Rattle.tree_handles.proofs.Outcomes.{by_test}
-use Rattle.name_table.specs.Held.{AreCountedBy, AreRoots, IsHeld, counted_by, held_by, holders_in}
-use Rattle.name_table.specs.Slots.{released_under}
-use Rattle.name_table.specs.Storing.{IsKeepable, IsStorable}
-use Rattle.name_table.specs.Tables.{Entry, Table, entries, holders, tree_under, with_answer, without_entry, without_name}
+use Rattle.name_table.proofs.Shared.{bytes_eq, eq-eqb, eqb-true, Tree, State, Forest, Gives, count_of, released_in, with_count_in, has_root, Stands, forest, distinct, last_root, by_test, AreCountedBy, AreRoots, IsHeld, counted_by, held_by, holders_in, released_under, IsKeepable, IsStorable, Entry, Table, entries, holders, tree_under, with_answer, without_entry, without_name}
 use Rattle.name_table.proofs.Counting.{count_of-counted, counted-are, counted-by_same, counted-same, counted-twice, one_less, one_more, one_released, retained, root-counted, told_root}
 use Rattle.name_table.proofs.Holders.{holders-last, holders-no_root, holders-without, less_below}
 use Rattle.name_table.proofs.Ready.{IsReady, ready_answer, ready_held, ready_named, ready_without, start_counts}

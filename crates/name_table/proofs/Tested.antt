@@ -1,20 +1,11 @@
 -- What tests know of numbers that they keep and of names that they use.
 use Rattle.std.proofs.Common.{◌≡◌, ℕ, List, [], refl, sym, ap, ◌∙◌, subst, None}
 use Rattle.std.specs.Prelude.{ℤ, pos, Option, ⊤}
+use Rattle.name_table.proofs.Shared.{Tree, num, State, Forest, forest_of, Gives, IsOwned, without_root, forest, given_handed, given_rest, gives_as, owned, IsHeld, IsKeepable, Table, first_table}
 use Rattle.calc_terms.specs.declared.rat.Rat.{Rat}
 use Rattle.calc_terms.specs.Fractions.{lowest, whole_fraction}
 use Rattle.calc_terms.specs.Rat.{ratio_of, value_of}
 use Rattle.calc_terms.specs.Ratio.{Ratio, whole}
-use Rattle.calc_terms.specs.Trees.{Tree, num}
-use Rattle.node_pool.specs.State.{State}
-use Rattle.tree_handles.specs.Forest.{Forest, forest_of}
-use Rattle.tree_handles.specs.Handed.{Gives, IsOwned}
-use Rattle.tree_handles.specs.Roots.{without_root}
-use Rattle.tree_handles.specs.Standing.{forest}
-use Rattle.tree_handles.proofs.Given.{given_handed, given_rest, gives_as, owned}
-use Rattle.name_table.specs.Held.{IsHeld}
-use Rattle.name_table.specs.Storing.{IsKeepable}
-use Rattle.name_table.specs.Tables.{Table, first_table}
 use Rattle.name_table.proofs.Later.{none_in}
 use Rattle.name_table.proofs.Ready.{first_held}
 

@@ -1,23 +1,10 @@
 -- Children that are brought into an order, one place after another.
 use Rattle.std.proofs.Common.{◌≡◌, ℕ, ◌+◌, ◌<◌, ◌≤◌, List, length, take, get_or, sym, ap, ◌∙◌, subst, arith, true, All, IsPermutation}
-use Rattle.std.specs.List.{swap, range_with_len}
-use Rattle.std.proofs.lemmas.List.{take_all}
-use Rattle.std.proofs.lemmas.List.Elements.{All-get_or}
-use Rattle.std.proofs.lemmas.List.Sorted.{All-permutation, IsPermutation-sym}
-use Rattle.node_order.specs.Picking.{picked, picked_behind}
+use Rattle.node_order.proofs.Shared.{swap, range_with_len, take_all, All-get_or, All-permutation, IsPermutation-sym, picked, picked_behind, State, root_ids, IsChildAt, AreSiblings, Forest, join, arity, kids, root_id, first_trees, rest_trees, tree_nth, swapped_nth, kids_of, has_root, root_tree, put, Stands, forest, first-rest, arity-join, arity-first_trees, arity-rest_trees, kids_of_root, root-put, kids-put, put-put, put-same}
 use Rattle.node_order.proofs.Listing.{ids-nth}
 use Rattle.node_order.proofs.Picks.{AreInside, arity-picked, picked-swap, nth-picked_behind}
 use Rattle.node_order.proofs.Places.{inside_range}
 use Rattle.node_order.proofs.SortLaws.{picked-range}
-use Rattle.node_pool.specs.State.{State}
-use Rattle.tree_handles.specs.Children.{root_ids, IsChildAt, AreSiblings}
-use Rattle.tree_handles.specs.Forest.{Forest, join, arity, kids, root_id, first_trees, rest_trees, tree_nth, swapped_nth}
-use Rattle.tree_handles.specs.Inside.{kids_of}
-use Rattle.tree_handles.specs.Roots.{has_root, root_tree, put}
-use Rattle.tree_handles.specs.Standing.{Stands, forest}
-use Rattle.tree_handles.proofs.Forests.{first-rest, arity-join, arity-first_trees, arity-rest_trees}
-use Rattle.tree_handles.proofs.Lasts.{kids_of_root}
-use Rattle.tree_handles.proofs.Roots.{root-put, kids-put, put-put, put-same}
 
 -- how the children stand: those from a place on are picked by a list of places
 pub record IsArranged (i n : ℕ) (xs : List ℕ) (f g : Forest) : Type 0 where

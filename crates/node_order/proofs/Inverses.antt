@@ -1,12 +1,6 @@
 -- Two lists of places that undo each other.
 use Rattle.std.proofs.Common.{◌≡◌, ℕ, ◌<◌, ◌≤◌, List, length, take, get_or, refl, sym, ap, ◌∙◌, subst, arith, ⊎_elim, IsPermutation}
-use Rattle.std.specs.List.{swap, range_with_len}
-use Rattle.std.proofs.lemmas.Bool.{cases_lt, cases_eq}
-use Rattle.std.proofs.lemmas.List.{get_or-take}
-use Rattle.std.proofs.lemmas.List.Edits.{swapped_from_swap, length-swap}
-use Rattle.std.proofs.lemmas.List.FromFn.{length-range_with_len, get_or-range_with_len}
-use Rattle.std.proofs.lemmas.List.Elements.{All-get_or}
-use Rattle.std.proofs.lemmas.List.Sorted.{IsPermutation-keeps, length_permutation}
+use Rattle.node_order.proofs.Shared.{swap, range_with_len, cases_lt, cases_eq, get_or-take, swapped_from_swap, length-swap, length-range_with_len, get_or-range_with_len, All-get_or, IsPermutation-keeps, length_permutation}
 use Rattle.node_order.proofs.Places.{inside_range}
 
 -- each place below n stands in xs at the place that ys has for it

@@ -1,29 +1,10 @@
 -- Keys, and the fronts of their trees.
 use Rattle.std.proofs.Common.{◌≡◌, ◌≢◌, ℕ, zero, suc, ◌-◌, ◌^◌, ◌<◌, ◌≤◌, [], ◌∷◌, length, eqb, cond, refl, sym, ap, ◌∙◌, subst, arith, append-nil, true}
-use Rattle.std.proofs.lemmas.Bool.{ne_eqb}
-use Rattle.calc_terms.specs.declared.kind.Kind.{Kind}
-use Rattle.calc_terms.specs.declared.kind.Kind.TheVariants as kind
-use Rattle.calc_terms.specs.Payload.{Payload, rational, named, bare}
+use Rattle.node_order.proofs.Shared.{ne_eqb, Kind, Payload, rational, named, bare, Tree, mult, Trees, none, count, is_mult, Front, Key, Shows, trees_behind, key_tree, IsKey, State, Visit, grown, compound, plains, plain, takes, children_of, IsWhole, IsExpression, Forest, empty, tree, arity, first_trees, rest_trees, kids, nodes_in, holds, tree_at, kids_of, payload_in, Stands, forest, visits_of, arity-rest_trees, all-rest_trees, few_in, children_of-plain, count-plains, whole_kids, expression_children, found, found-kids, found-rest_trees, visits_length}
 use Rattle.calc_algebra.specs.Reduced.{product_tree}
-use Rattle.calc_terms.specs.Trees.{Tree, mult, Trees, none, count, is_mult}
-use Rattle.node_order.specs.declared.fronts.Front.{Front}
-use Rattle.node_order.specs.declared.keys.Key.{Key}
-use Rattle.node_order.specs.Fronts.{Shows}
-use Rattle.node_order.specs.Keys.{trees_behind, key_tree, IsKey}
 use Rattle.node_order.proofs.Pairs.{shows_first}
 use Rattle.node_order.proofs.Roots.{is_grown}
-use Rattle.node_pool.specs.State.{State}
-use Rattle.tree_handles.specs.declared.visits.Visit.{Visit}
-use Rattle.tree_handles.specs.Expressions.{grown, compound, plains, plain, takes, children_of, IsWhole, IsExpression}
-use Rattle.tree_handles.specs.Forest.{Forest, empty, tree, arity, first_trees, rest_trees, kids, nodes_in}
-use Rattle.tree_handles.specs.Inside.{holds, tree_at, kids_of, payload_in}
-use Rattle.tree_handles.specs.Standing.{Stands, forest}
-use Rattle.tree_handles.specs.Visits.{visits_of}
-use Rattle.tree_handles.proofs.Forests.{arity-rest_trees, all-rest_trees}
-use Rattle.tree_handles.proofs.Measures.{few_in}
-use Rattle.tree_handles.proofs.Plains.{children_of-plain, count-plains, whole_kids}
-use Rattle.tree_handles.proofs.Readings.{expression_children}
-use Rattle.tree_handles.proofs.Visiting.{found, found-kids, found-rest_trees, visits_length}
+use Rattle.calc_terms.specs.declared.kind.Kind.TheVariants as kind
 
 -- where factors are left out, some are not
 pub key_some : (k : Key) (f : Forest) → IsKey k f → k.behind ≢ 0 → k.behind < arity (kids_of k.id f)

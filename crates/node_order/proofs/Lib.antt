@@ -11,3 +11,4 @@ pub mod Picks
 pub mod SortLaws
 pub mod Arranged
 pub mod Tested
+pub mod Shared

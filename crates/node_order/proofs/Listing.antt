@@ -1,19 +1,10 @@
 -- Children of a node that are listed from a place on.
 use Rattle.std.proofs.Common.{◌≡◌, ◌≢◌, List, [], ◌∷◌, ◌++◌, ℕ, zero, suc, ◌+◌, ◌<◌, length, get_or, refl, sym, ap, ◌∙◌, subst, arith, zero-add, length-append, ⊎_elim, Option, Some, None}
-use Rattle.std.proofs.Math.ListN.{set}
-use Rattle.std.proofs.lemmas.Bool.{cases_lt}
-use Rattle.std.proofs.lemmas.List.{get_or-set_other, get_or-set_same}
-use Rattle.std.specs.List.{enumerate_from}
+use Rattle.node_order.proofs.Shared.{set, cases_lt, get_or-set_other, get_or-set_same, enumerate_from, enumerate_source, enumerate_count, enumerate_steps, length-enumerate_from, get_or-enumerate_from, root_ids, IsChildAt, Forest, empty, tree, join, arity, root_id, first_trees, rest_trees, tree_nth, kids_of, arity-rest_trees}
 use Rattle.std.specs.Iterator.{Yields, YieldsFirst}
-use Rattle.std.specs.Iterator.Adapters.{enumerate_source, enumerate_count, enumerate_steps}
 use Rattle.std.specs.declared.iter.Enumerate.{Enumerate}
 use Rattle.std.proofs.lemmas.Iterator.{YieldsList}
 use Rattle.std.proofs.lemmas.Iterator.Consumers.{YieldsList-from_first, YieldsList-from_enumerate, YieldsList-turn, YieldsList-end}
-use Rattle.std.proofs.lemmas.List.FromFn.{length-enumerate_from, get_or-enumerate_from}
-use Rattle.tree_handles.specs.Children.{root_ids, IsChildAt}
-use Rattle.tree_handles.specs.Forest.{Forest, empty, tree, join, arity, root_id, first_trees, rest_trees, tree_nth}
-use Rattle.tree_handles.specs.Inside.{kids_of}
-use Rattle.tree_handles.proofs.Forests.{arity-rest_trees}
 
 pub length-ids : (f : Forest) → length (root_ids f) ≡ arity f
 length-ids empty = refl

@@ -1,9 +1,6 @@
 -- Answers of comparisons, one after another.
 use Rattle.std.proofs.Common.{◌≡◌, ◌≢◌, ℕ, suc, ◌<◌, refl, sym, ap, ◌∙◌, arith}
-use Rattle.std.specs.declared.cmp.Ordering.{Ordering}
-use Rattle.std.specs.declared.cmp.Ordering.TheVariants.{Less, Equal, Greater}
-use Rattle.std.specs.Cmp.{ranked, nat_cmp_total, tied_itself}
-use Rattle.std.specs.Ordering.{nat_cmp, ordering_then, MatchOrdering}
+use Rattle.node_order.proofs.Shared.{Ordering, Less, Equal, Greater, ranked, nat_cmp_total, tied_itself, nat_cmp, ordering_then, MatchOrdering}
 
 pub then-equal : (a : Ordering) → ordering_then a Equal ≡ a
 then-equal Less = refl

@@ -1,30 +1,9 @@
 -- Pairs of trees that are compared in one walk.
 use Rattle.std.proofs.Common.{Bool, not, ◌==◌, ◌≡◌, ◌≢◌, ℕ, zero, suc, ◌+◌, ◌-◌, ◌^◌, ◌<◌, ◌≤◌, min, List, [], ◌∷◌, ◌++◌, length, refl, sym, ap, ◌∙◌, subst, arith, append_assoc, append-nil, ⊎_elim, true, false}
-use Rattle.std.specs.declared.cmp.Ordering.{Ordering}
-use Rattle.std.specs.declared.cmp.Ordering.TheVariants.{Less, Equal, Greater}
-use Rattle.std.specs.Ordering.{nat_cmp, ordering_then, ordering_index}
-use Rattle.std.proofs.lemmas.Bool.{cases_eq}
-use Rattle.std.proofs.lemmas.List.{map-append, length-append}
-use Rattle.calc_terms.specs.Payload.{Payload}
-use Rattle.calc_algebra.specs.TreeOrder.{tree_cmp, trees_cmp}
-use Rattle.calc_terms.specs.Trees.{Tree}
+use Rattle.node_order.proofs.Shared.{Ordering, Less, Equal, Greater, nat_cmp, ordering_then, ordering_index, cases_eq, map-append, length-append, Payload, tree_cmp, trees_cmp, Tree, Front, IsFront, Shows, payload_cmp, State, Visit, grown, plain, plains, IsWhole, IsExpression, AllExpressions, Label, Forest, empty, tree, join, arity, node_of, flatten, first_trees, rest_trees, root_payload, nodes_in, tree_at, payload_in, Stands, forest, visit_of, visits_of, AreFound, arity-join, arity-first_trees, all-join, all-first_trees, nodes-flatten, arity_le, few_in, one_at, found, found-join, found-first_trees, seen, visits-join, visits-first_rest, visits_length}
 use Rattle.node_order.specs.declared.comparing.Pairs.{Pairs}
-use Rattle.node_order.specs.declared.fronts.Front.{Front}
-use Rattle.node_order.specs.Fronts.{IsFront, Shows}
-use Rattle.node_order.specs.Roots.{payload_cmp}
 use Rattle.node_order.proofs.Orderings.{then-equal, then_assoc, then_decided, nat_cmp_less, nat_cmp_greater, nat_cmp_equal, nat_cmp-suc}
 use Rattle.node_order.proofs.Roots.{by_roots}
-use Rattle.node_pool.specs.State.{State}
-use Rattle.tree_handles.specs.declared.visits.Visit.{Visit}
-use Rattle.tree_handles.specs.Expressions.{grown, plain, plains, IsWhole, IsExpression, AllExpressions}
-use Rattle.tree_handles.specs.Forest.{Label, Forest, empty, tree, join, arity, node_of, flatten, first_trees, rest_trees, root_payload, nodes_in}
-use Rattle.tree_handles.specs.Inside.{tree_at, payload_in}
-use Rattle.tree_handles.specs.Standing.{Stands, forest}
-use Rattle.tree_handles.specs.Visits.{visit_of, visits_of, AreFound}
-use Rattle.tree_handles.proofs.Forests.{arity-join, arity-first_trees, all-join, all-first_trees, nodes-flatten}
-use Rattle.tree_handles.proofs.Releases.{arity_le}
-use Rattle.tree_handles.proofs.Measures.{few_in, one_at}
-use Rattle.tree_handles.proofs.Visiting.{found, found-join, found-first_trees, seen, visits-join, visits-first_rest, visits_length}
 
 -- ---- lists of trees
 

@@ -1,13 +1,8 @@
 -- Trees that are picked by places.
 use Rattle.std.proofs.Common.{◌≡◌, ℕ, zero, suc, ◌+◌, ◌<◌, ◌≤◌, List, [], ◌∷◌, ◌++◌, length, get_or, refl, sym, ap, ◌∙◌, subst, arith, All, ⊎_elim}
-use Rattle.std.specs.List.{swap}
-use Rattle.std.proofs.lemmas.Bool.{cases_lt}
-use Rattle.std.proofs.lemmas.List.Elements.{All-head, All-tail, All-nil, All-cons}
-use Rattle.node_order.specs.Picking.{picked, picked_behind}
+use Rattle.node_order.proofs.Shared.{swap, cases_lt, All-head, All-tail, All-nil, All-cons, picked, picked_behind, Forest, join, arity, first_trees, rest_trees, tree_nth, set_nth, swapped_nth, join_assoc, arity-join, arity-tree_nth, arity-first_trees}
 use Rattle.node_order.proofs.Listing.{nth-front}
 use Rattle.node_order.proofs.Places.{pair, swap_same}
-use Rattle.tree_handles.specs.Forest.{Forest, join, arity, first_trees, rest_trees, tree_nth, set_nth, swapped_nth}
-use Rattle.tree_handles.proofs.Forests.{join_assoc, arity-join, arity-tree_nth, arity-first_trees}
 use Rattle.tree_handles.proofs.Nths.{first_trees-behind, tree_nth-behind, set_nth-behind, swapped_nth-same}
 
 pub picked-append : (xs ys : List ℕ) (f : Forest) → picked (xs ++ ys) f ≡ join (picked xs f) (picked ys f)

@@ -1,13 +1,6 @@
 -- Lists whose elements change places.
 use Rattle.std.proofs.Common.{◌≡◌, ℕ, zero, suc, ◌+◌, ◌<◌, ◌≤◌, List, [], ◌∷◌, ◌++◌, length, take, drop, get_or, refl, sym, ap, ◌∙◌, arith, drop-cons, ⊎_elim, All, IsPermutation}
-use Rattle.std.proofs.Math.ListN.{set}
-use Rattle.std.proofs.Math.Seq.{set-append_seam}
-use Rattle.std.specs.List.{swap, range_with_len}
-use Rattle.std.proofs.lemmas.Bool.{cases_lt}
-use Rattle.std.proofs.lemmas.List.{take-append-drop, take-set-le, take_more_set, take_more, length-take-le, set-set, set-get_or}
-use Rattle.std.proofs.lemmas.List.Edits.{swap_is}
-use Rattle.std.proofs.lemmas.List.Elements.{All-nil, All-cons}
-use Rattle.std.proofs.lemmas.List.Sorted.{All-permutation}
+use Rattle.node_order.proofs.Shared.{set, set-append_seam, swap, range_with_len, cases_lt, take-append-drop, take-set-le, take_more_set, take_more, length-take-le, set-set, set-get_or, swap_is, All-nil, All-cons, All-permutation}
 
 -- one more is in place
 pub placed_same : (xs ys : List ℕ) (at : ℕ) → take at xs ≡ take at ys → at < length xs → at < length ys → get_or xs at 0 ≡ get_or ys at 0 → take (at + 1) xs ≡ take (at + 1) ys

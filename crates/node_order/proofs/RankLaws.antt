@@ -1,12 +1,8 @@
 -- What a sort by an order gives.
 use Rattle.std.proofs.Common.{◌≡◌, List, ap, Bool}
+use Rattle.node_order.proofs.Shared.{ranks_by, IsTotalOrder, IsStrictWeakOrder, IsSorted, IsSortedBy, is_lt, Ordering}
 use Rattle.std.proofs.lemmas.Fn.{always_returns_same}
-use Rattle.std.proofs.lemmas.List.Sorted.{ranks_by}
-use Rattle.std.specs.Cmp.{IsTotalOrder, IsStrictWeakOrder}
 use Rattle.std.specs.Fn.{Called, ComparesAs}
-use Rattle.std.specs.List.Sorted.{IsSorted, IsSortedBy}
-use Rattle.std.specs.Ordering.{is_lt}
-use Rattle.std.specs.declared.cmp.Ordering.{Ordering}
 use denote.Param.Members.{Mut}
 use denote.Ref.{Bor}
 

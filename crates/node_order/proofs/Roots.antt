@@ -1,21 +1,11 @@
 -- The order of trees is that of their roots, and then that of their children.
 use Rattle.std.proofs.Common.{◌≡◌, ℕ, List, refl, sym, ap, ◌∙◌, true}
-use Rattle.std.specs.declared.cmp.Ordering.{Ordering}
-use Rattle.std.specs.declared.cmp.Ordering.TheVariants.{Equal}
+use Rattle.node_order.proofs.Shared.{Ordering, Equal, nat_cmp, ordering_then, Kind, Payload, rational, named, bare, kind_of_payload, tree_cmp, trees_cmp, Tree, num, symbol, undef, add, mult, power, root, neg, sub, div, Trees, root_code, value_cmp, payload_cmp, compound, grown, plains, takes, children_of, AllExpressions, Label, Forest, empty, arity, IsGrown, grown_whole}
 use Rattle.std.specs.Cmp.Lexicographic.{slice_cmp}
-use Rattle.std.specs.Ordering.{nat_cmp, ordering_then}
-use Rattle.calc_terms.specs.declared.kind.Kind.{Kind}
-use Rattle.calc_terms.specs.declared.kind.Kind.TheVariants as kind
 use Rattle.calc_terms.specs.Fractions.{Fraction, lowest, fraction_cmp}
 use Rattle.calc_terms.specs.Kind.{code_of}
-use Rattle.calc_terms.specs.Payload.{Payload, rational, named, bare, kind_of_payload}
-use Rattle.calc_algebra.specs.TreeOrder.{tree_cmp, trees_cmp}
-use Rattle.calc_terms.specs.Trees.{Tree, num, symbol, undef, add, mult, power, root, neg, sub, div, Trees, root_code}
-use Rattle.node_order.specs.Roots.{value_cmp, payload_cmp}
 use Rattle.node_order.proofs.Orderings.{then-equal, then_assoc}
-use Rattle.tree_handles.specs.Expressions.{compound, grown, plains, takes, children_of, AllExpressions}
-use Rattle.tree_handles.specs.Forest.{Label, Forest, empty, arity}
-use Rattle.tree_handles.proofs.Plains.{IsGrown, grown_whole}
+use Rattle.calc_terms.specs.declared.kind.Kind.TheVariants as kind
 
 -- leaves of one kind by what they hold
 abbrev leaf_cmp : Tree → Tree → Ordering

@@ -1,34 +1,9 @@
 -- Sorted children, from the order of their places.
 use Rattle.std.proofs.Common.{◌≡◌, ℕ, zero, suc, ◌+◌, ◌-◌, ◌<◌, ◌≤◌, List, [], ◌∷◌, ◌++◌, length, take, drop, get_or, map, refl, sym, ap, ◌∙◌, subst, arith, min, add-one, zero-add, All, IsPermutation, true}
-use Rattle.std.specs.List.{range_with_len}
-use Rattle.std.specs.List.Sorted.{IsSorted, IsSortedByKey, IsStableByKey}
-use Rattle.std.specs.Ordering.{is_lt}
-use Rattle.std.proofs.Math.Seq.{take-append_seam, drop-append_seam}
-use Rattle.std.proofs.lemmas.List.{get_or-map, length-map}
-use Rattle.std.proofs.lemmas.List.Sorted.{IsPermutation-map}
-use Rattle.std.proofs.lemmas.List.Elements.{All-head, All-tail, All-get_or}
-use Rattle.calc_algebra.specs.TreeOrder.{tree_cmp}
-use Rattle.calc_terms.specs.Trees.{Tree, Trees, none, more, append, undef}
-use Rattle.node_order.specs.declared.keys.Key.{Key}
-use Rattle.node_order.specs.Keys.{key_tree}
-use Rattle.node_order.specs.Ranking.{place_cmp, ranked_tree}
-use Rattle.node_order.specs.Picking.{picked, picked_behind}
-use Rattle.node_order.specs.Sorting.{list_of, IsSorting, KeepsTies, SortsChildren}
+use Rattle.node_order.proofs.Shared.{range_with_len, IsSorted, IsSortedByKey, IsStableByKey, is_lt, take-append_seam, drop-append_seam, get_or-map, length-map, IsPermutation-map, All-head, All-tail, All-get_or, tree_cmp, Tree, Trees, none, more, append, undef, Key, key_tree, place_cmp, ranked_tree, picked, picked_behind, list_of, IsSorting, KeepsTies, SortsChildren, plains, plain, nth, IsWhole, AllExpressions, Label, Forest, empty, tree, join, arity, first_trees, rest_trees, tree_nth, kids, AllNodes, IsOnce, AllOnce, State, tree_at, kids_of, holds, Stands, forest, kids_of_root, has_root, root_tree, put, root_held, first-rest, arity-tree_nth, arity-first_trees, arity-rest_trees, all-join, all-first_trees, all-rest_trees, all-tree_nth, plains-join, plain-tree_nth, alone}
 use Rattle.node_order.proofs.Places.{range_inside, inside_range}
 use Rattle.node_order.proofs.Picks.{AreInside}
 use Rattle.node_order.proofs.Ties.{places_same, trees_rise, trees_stable}
-use Rattle.tree_handles.specs.Expressions.{plains, plain, nth, IsWhole, AllExpressions}
-use Rattle.tree_handles.specs.Forest.{Label, Forest, empty, tree, join, arity, first_trees, rest_trees, tree_nth, kids, AllNodes}
-use Rattle.tree_handles.specs.Handed.{IsOnce, AllOnce}
-use Rattle.node_pool.specs.State.{State}
-use Rattle.tree_handles.specs.Inside.{tree_at, kids_of, holds}
-use Rattle.tree_handles.specs.Standing.{Stands, forest}
-use Rattle.tree_handles.proofs.Lasts.{kids_of_root}
-use Rattle.tree_handles.specs.Roots.{has_root, root_tree, put}
-use Rattle.tree_handles.proofs.Roots.{root_held}
-use Rattle.tree_handles.proofs.Forests.{first-rest, arity-tree_nth, arity-first_trees, arity-rest_trees, all-join, all-first_trees, all-rest_trees}
-use Rattle.tree_handles.proofs.Counted.{all-tree_nth}
-use Rattle.tree_handles.proofs.Plains.{plains-join, plain-tree_nth, alone}
 
 pub list_of-append : (ts us : Trees) → list_of (append ts us) ≡ list_of ts ++ list_of us
 list_of-append none us = refl

@@ -1,22 +1,7 @@
 -- Roots that are sums, from call to call.
 use Rattle.std.proofs.Common.{◌≡◌, ℕ, eqb, cond, refl, sym, ap, ◌∙◌, subst, arith, Bool, true, false}
+use Rattle.node_order.proofs.Shared.{Payload, bare, Tree, SortsChildren, State, takes, IsWhole, AllExpressions, Forest, empty, tree, arity, kids, root_payload, with_root_kids, with_nth, IsOnce, AllOnce, IsHanded, Gives, holds, has_root, root_tree, without_root, put, Stands, forest, all-kids, all-with_nth, given_root, given_handed, given_other, given_rest, given_apart, apart, by_test, eqb-sym, whole_kids, root_arity, root-put}
 use Rattle.calc_terms.specs.declared.kind.Kind.TheVariants as kind
-use Rattle.calc_terms.specs.Payload.{Payload, bare}
-use Rattle.calc_terms.specs.Trees.{Tree}
-use Rattle.node_order.specs.Sorting.{SortsChildren}
-use Rattle.node_pool.specs.State.{State}
-use Rattle.tree_handles.specs.Expressions.{takes, IsWhole, AllExpressions}
-use Rattle.tree_handles.specs.Forest.{Forest, empty, tree, arity, kids, root_payload, with_root_kids, with_nth}
-use Rattle.tree_handles.specs.Handed.{IsOnce, AllOnce, IsHanded, Gives}
-use Rattle.tree_handles.specs.Inside.{holds}
-use Rattle.tree_handles.specs.Roots.{has_root, root_tree, without_root, put}
-use Rattle.tree_handles.specs.Standing.{Stands, forest}
-use Rattle.tree_handles.proofs.Counted.{all-kids, all-with_nth}
-use Rattle.tree_handles.proofs.Given.{given_root, given_handed, given_other, given_rest, given_apart}
-use Rattle.tree_handles.proofs.Lasts.{apart}
-use Rattle.tree_handles.proofs.Outcomes.{by_test, eqb-sym}
-use Rattle.tree_handles.proofs.Plains.{whole_kids}
-use Rattle.tree_handles.proofs.Roots.{root_arity, root-put}
 
 pub record IsSum (i : ℕ) (f : Forest) : Type 0 where
   pub handed : IsHanded i f

@@ -1,18 +1,8 @@
 -- Places in the order of their trees, and of one tree in their own order: trees with one key keep their order.
-use Rattle.std.specs.declared.cmp.Ordering.{Ordering}
-use Rattle.std.specs.declared.cmp.Ordering.TheVariants.{Less, Equal, Greater}
-use Rattle.std.specs.Cmp.{IsTotalOrder, nat_cmp_total, on_total, ranked, then_total}
-use Rattle.std.specs.List.{filter, range_with_len}
-use Rattle.std.specs.List.Sorted.{IsSorted, IsSortedByKey, IsStableByKey}
-use Rattle.std.specs.Ordering.{is_lt, MatchOrdering, nat_cmp, ordering_reverse, ordering_then}
 use Rattle.std.proofs.Common.{◌≡◌, ℕ, zero, suc, ◌+◌, ◌≤◌, ◌<◌, List, [], ◌∷◌, length, get_or, map, Bool, true, false, not, ◌&&◌, cond, eqb, sum_by, true≢false, eqb-true, eq-eqb, refl, sym, ap, ◌∙◌, subst, arith, add-one, All, IsPermutation}
-use Rattle.std.proofs.lemmas.List.Elements.{All-get_or}
-use Rattle.std.proofs.lemmas.List.Sorted.{ranks_by, sorted_far, sum_by-IsPermutation}
+use Rattle.node_order.proofs.Shared.{Ordering, Less, Equal, Greater, IsTotalOrder, nat_cmp_total, on_total, ranked, then_total, filter, range_with_len, IsSorted, IsSortedByKey, IsStableByKey, is_lt, MatchOrdering, nat_cmp, ordering_reverse, ordering_then, All-get_or, ranks_by, sorted_far, sum_by-IsPermutation, tree_cmp, Tree, place_cmp}
 use Rattle.std.proofs.lemmas.List.Sums.{sum_by-cons}
-use Rattle.calc_algebra.specs.TreeOrder.{tree_cmp}
 use Rattle.calc_algebra.proofs.TreeOrderLaws.{tree_cmp_total, tree_cmp_equal, tree_cmp_refl}
-use Rattle.calc_terms.specs.Trees.{Tree}
-use Rattle.node_order.specs.Ranking.{place_cmp}
 
 pub place_total : (tree : ℕ → Tree) → IsTotalOrder (place_cmp tree)
 place_total tree = then_total (on_total tree tree_cmp_total) nat_cmp_total

@@ -1,22 +1,11 @@
 -- What a change of the bytes leaves.
 use Rattle.std.proofs.Common.{List, [], ap, append-nil, append_assoc, arith, drop, length, refl, replicate, subst, sym, take, true, ℕ, ◌++◌, ◌+◌, ◌-◌, ◌<◌, ◌^◌, ◌∙◌, ◌∷◌, ◌≡◌, ◌≤◌}
-use Rattle.std.proofs.lemmas.List.{drop-drop, drop-replicate, drop_at, length-append, length-replicate, replicate-append-replicate, take_at}
-use Rattle.calc_terms.specs.Kind.{code_of}
-use Rattle.calc_terms.specs.Node.{form_of, IsNode, Node, encoding, fresh, header_bytes, low_bytes, payload_bytes, size_of}
-use Rattle.calc_terms.specs.Payload.{has_short_form, IsPayload, Payload, kind_of_payload, size_of_payload}
-use Rattle.calc_terms.proofs.Codec.{length-encoding}
-use Rattle.calc_terms.proofs.LowBytes.{length-low_bytes}
-use Rattle.raw_region.specs.Bytes.{cleared, put, rotated, slid, switched}
-use Rattle.node_pool.specs.Contents.{Contents}
-use Rattle.node_pool.specs.Laid.{contents_of}
-use Rattle.node_pool.specs.Nodes.{AreNodes, encodings, has, place_of, used, with_children, with_count}
-use Rattle.node_pool.specs.Places.{IsBoundary, between, exchanged, since, swapped, until, without}
+use Rattle.node_pool.proofs.Shared.{drop-drop, drop-replicate, drop_at, length-append, length-replicate, replicate-append-replicate, take_at, code_of, form_of, IsNode, Node, encoding, fresh, header_bytes, low_bytes, payload_bytes, size_of, has_short_form, IsPayload, Payload, kind_of_payload, size_of_payload, length-encoding, length-low_bytes, cleared, put, rotated, slid, switched, Contents, contents_of, AreNodes, encodings, has, place_of, used, with_children, with_count, IsBoundary, between, exchanged, since, swapped, until, without, length-put}
 use Rattle.node_pool.specs.declared.buffer.Buffer.TheInside.{Inside}
 use Rattle.node_pool.proofs.Cuts.{AreNodes-swap, AreNodes-without, boundary_le, cut, cut3}
 use Rattle.node_pool.proofs.Exchanges.{AreBlocks, half}
 use Rattle.node_pool.proofs.Fields.{IsDone, IsOf, contents_are, laid, size_is}
 use Rattle.node_pool.proofs.Found.{found}
-use Rattle.raw_region.proofs.Puts.{length-put}
 use Rattle.node_pool.proofs.Sizes.{AreNodes-append, AreNodes-left, AreNodes-right, encodings-append, length-encodings, used-append}
 use Rattle.node_pool.proofs.Slides.{closed_up, switched_twice, turned}
 

@@ -1,10 +1,6 @@
 -- Cutting a list of nodes at places.
 use Rattle.std.proofs.Common.{Bool, List, [], ap, append_assoc, arith, cond, eqb, false, length, refl, subst, sym, true, ℕ, ◌++◌, ◌+◌, ◌-◌, ◌<◌, ◌∙◌, ◌∷◌, ◌≡◌, ◌≤◌}
-use Rattle.std.proofs.lemmas.Bool.{ne_eqb}
-use Rattle.std.proofs.lemmas.List.{append_cancel_left, length-append}
-use Rattle.calc_terms.specs.Node.{Node, size_of}
-use Rattle.node_pool.specs.Nodes.{AreDistinct, AreNodes, first_of, used}
-use Rattle.node_pool.specs.Places.{IsBoundary, between, since, until}
+use Rattle.node_pool.proofs.Shared.{ne_eqb, append_cancel_left, length-append, Node, size_of, AreDistinct, AreNodes, first_of, used, IsBoundary, between, since, until}
 use Rattle.node_pool.proofs.Ids.{AreApart-append, AreApart-parts, AreApart-sym, AreDistinct-append, AreDistinct-parts}
 use Rattle.node_pool.proofs.Sizes.{AreNodes-append, AreNodes-left, AreNodes-right, size_from, used-append}
 

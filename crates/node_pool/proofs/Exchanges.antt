@@ -1,11 +1,6 @@
 -- Two blocks of nodes that change places.
 use Rattle.std.proofs.Common.{List, ap, append_assoc, arith, length, refl, subst, sym, ℕ, ◌++◌, ◌+◌, ◌-◌, ◌∙◌, ◌≡◌, ◌≤◌}
-use Rattle.std.proofs.lemmas.List.{append_cancel_left}
-use Rattle.calc_terms.specs.Node.{Node}
-use Rattle.node_pool.specs.Flags.{AreBelow}
-use Rattle.node_pool.specs.Noted.{ArePlacesOf, noted}
-use Rattle.node_pool.specs.Nodes.{AreDistinct, used}
-use Rattle.node_pool.specs.Places.{IsBoundary, between, exchanged, since, swapped, until}
+use Rattle.node_pool.proofs.Shared.{append_cancel_left, Node, AreBelow, ArePlacesOf, noted, AreDistinct, used, IsBoundary, between, exchanged, since, swapped, until}
 use Rattle.node_pool.proofs.Cuts.{cut, cut3, until-append, until-since}
 use Rattle.node_pool.proofs.Ids.{AreApart, AreApart-sym, AreDistinct-parts, not_both}
 use Rattle.node_pool.proofs.Noting.{AreOutside, before_places, behind_places, length-noted, noted_other, outside, renoted}

@@ -1,16 +1,7 @@
 -- A buffer whose bytes are those of a list of nodes.
 use Rattle.std.proofs.Common.{List, ap, arith, drop, get_or, length, refl, replicate, subst, sym, take, ℕ, Bool, ◌==◌, ◌++◌, ◌+◌, ◌-◌, ◌<◌, ◌∙◌, ◌∷◌, ◌≡◌, ◌≤◌}
 use Rattle.std.specs.Prelude.{Option}
-use Rattle.std.proofs.lemmas.List.{drop-drop, drop-take, take-take}
-use Rattle.calc_terms.specs.Kind.{kind_of}
-use Rattle.calc_terms.specs.Node.{Node, from_bytes, header_in, short_at, header_of, kind_at, kind_or_undef, size_of, size_of_header}
-use Rattle.calc_terms.specs.declared.kind.Kind.{Kind}
-use Rattle.calc_terms.specs.declared.leaf.Header.{Header}
-use Rattle.calc_terms.proofs.Codec.{header_in-encoding, header_is}
-use Rattle.node_pool.specs.Contents.{Contents, IsContents, nodes_of}
-use Rattle.node_pool.specs.Laid.{IsLaid, contents_of}
-use Rattle.node_pool.specs.Nodes.{AreNodes, encodings, first_of, used}
-use Rattle.node_pool.specs.Places.{IsBoundary, since}
+use Rattle.node_pool.proofs.Shared.{drop-drop, drop-take, take-take, kind_of, Node, from_bytes, header_in, short_at, header_of, kind_at, kind_or_undef, size_of, size_of_header, Kind, Header, header_in-encoding, header_is, Contents, IsContents, nodes_of, IsLaid, contents_of, AreNodes, encodings, first_of, used, IsBoundary, since}
 use Rattle.node_pool.specs.declared.buffer.Buffer.TheInside.{Inside}
 use Rattle.node_pool.proofs.Numbers.{byte_read}
 use Rattle.node_pool.proofs.Sizes.{length-nodes_of, nodes_of-encodings, size_from}

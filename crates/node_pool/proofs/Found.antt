@@ -1,9 +1,6 @@
 -- The node with an identifier.
 use Rattle.std.proofs.Common.{Bool, List, [], ap, append-nil, cond, eqb, false, refl, subst, sym, true, ℕ, ◌++◌, ◌+◌, ◌∙◌, ◌∷◌, ◌≡◌}
-use Rattle.std.proofs.lemmas.Bool.{eqb-true}
-use Rattle.calc_terms.specs.Node.{Node, size_of}
-use Rattle.node_pool.specs.Nodes.{AreDistinct, has, payload_of_id, place_of, used, with_children, with_count}
-use Rattle.node_pool.specs.Places.{IsBoundary}
+use Rattle.node_pool.proofs.Shared.{eqb-true, Node, size_of, AreDistinct, has, payload_of_id, place_of, used, with_children, with_count, IsBoundary}
 use Rattle.node_pool.proofs.Splits.{boundary-append}
 
 pub record IsFound (id : ℕ) (ns : List Node) : Type 0 where

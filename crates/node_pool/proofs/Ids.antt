@@ -1,8 +1,6 @@
 -- Identifiers of lists of nodes.
 use Rattle.std.proofs.Common.{Bool, List, [], ap, cond, eqb, false, refl, sym, true, ℕ, ◌++◌, ◌∙◌, ◌∷◌, ◌≡◌}
-use Rattle.std.proofs.lemmas.Bool.{eqb-false, eqb-true, ne_eqb}
-use Rattle.calc_terms.specs.Node.{Node}
-use Rattle.node_pool.specs.Nodes.{AreDistinct, has}
+use Rattle.node_pool.proofs.Shared.{eqb-false, eqb-true, ne_eqb, Node, AreDistinct, has}
 
 has_step : (t x y z : Bool) → z ≡ cond x true y → cond t true z ≡ cond (cond t true x) true y
 has_step true x y z h = refl

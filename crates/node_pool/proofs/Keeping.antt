@@ -1,17 +1,6 @@
 -- What a change of the nodes leaves of the pool's fields.
 use Rattle.std.proofs.Common.{Bool, List, [], ap, arith, cond, eqb, false, length, refl, set, subst, sym, true, ℕ, ◌++◌, ◌+◌, ◌-◌, ◌/◌, ◌<◌, ◌^◌, ◌∙◌, ◌∷◌, ◌≡◌, ◌≤◌}
-use Rattle.std.proofs.lemmas.Bool.{eq-eqb, eqb-false, eqb-true, ne_eqb}
-use Rattle.std.proofs.lemmas.List.{length-set}
-use Rattle.calc_terms.specs.Node.{Node, fresh}
-use Rattle.calc_terms.specs.Payload.{Payload}
-use Rattle.node_pool.specs.Contents.{Contents, IsContents}
-use Rattle.node_pool.specs.Flags.{AreBelow, AreFlagsOf, HasUnused, IsLeastUnused, flag, without_ids}
-use Rattle.node_pool.specs.Kept.{IsKept, state_of}
-use Rattle.node_pool.specs.Noted.{ArePlacesOf, noted}
-use Rattle.node_pool.specs.Nodes.{AreDistinct, has, place_of, used, with_children, with_count}
-use Rattle.node_pool.specs.Places.{IsBoundary, between, exchanged, since, swapped, until, without}
-use Rattle.node_pool.specs.State.{IsPoolSize, State}
-use Rattle.node_pool.specs.declared.pool.Pool.TheInside.{Inside}
+use Rattle.node_pool.proofs.Shared.{eq-eqb, eqb-false, eqb-true, ne_eqb, length-set, Node, fresh, Payload, Contents, IsContents, AreBelow, AreFlagsOf, HasUnused, IsLeastUnused, flag, without_ids, IsKept, state_of, ArePlacesOf, noted, AreDistinct, has, place_of, used, with_children, with_count, IsBoundary, between, exchanged, since, swapped, until, without, IsPoolSize, State, Inside}
 use Rattle.node_pool.proofs.Cuts.{AreDistinct-swap, AreDistinct-without, boundary_le, cut, cut3}
 use Rattle.node_pool.proofs.Exchanges.{AreBlocks, are_exchanged, blocks_of, exchanged_places, half}
 use Rattle.node_pool.proofs.Found.{AreDistinct-same, found, has-same}

@@ -1,8 +1,6 @@
 -- Fewer identifiers than nodes.
 use Rattle.std.proofs.Common.{Bool, List, [], ap, arith, cond, eqb, false, length, refl, suc, sym, true, zero, ℕ, ◌<◌, ◌∙◌, ◌∷◌, ◌≡◌, ◌≤◌}
-use Rattle.std.proofs.lemmas.Bool.{eqb-true}
-use Rattle.calc_terms.specs.Node.{Node}
-use Rattle.node_pool.specs.Nodes.{has}
+use Rattle.node_pool.proofs.Shared.{eqb-true, Node, has}
 
 -- without the first node of that identifier
 abbrev without : ℕ → List Node → List Node

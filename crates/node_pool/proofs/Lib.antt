@@ -15,3 +15,4 @@ pub mod Changes
 pub mod Marks
 pub mod Noting
 pub mod Keeping
+pub mod Shared

@@ -1,10 +1,6 @@
 -- Flags of identifiers, and the identifiers of nodes.
 use Rattle.std.proofs.Common.{get_or-set_other, get_or-set_same, Bool, List, [], ap, arith, cond, eqb, false, inl, inr, length, refl, set, subst, suc, sym, true, zero, ℕ, ◌<◌, ◌∙◌, ◌∷◌, ◌≡◌, ◌≢◌, ◌⊎◌}
-use Rattle.std.proofs.lemmas.Bool.{eq-eqb, eqb-false, eqb-true, ne_eqb}
-use Rattle.std.proofs.lemmas.List.{length-set}
-use Rattle.calc_terms.specs.Node.{Node}
-use Rattle.node_pool.specs.Flags.{AreBelow, AreFlagsOf, AreTakenBelow, HasUnused, flag, without_ids}
-use Rattle.node_pool.specs.Nodes.{has}
+use Rattle.node_pool.proofs.Shared.{eq-eqb, eqb-false, eqb-true, ne_eqb, length-set, Node, AreBelow, AreFlagsOf, AreTakenBelow, HasUnused, flag, without_ids, has}
 use Rattle.node_pool.proofs.LeastFree.{holes}
 
 -- ---- what goes

@@ -1,12 +1,6 @@
 -- Places that are noted, and the places of nodes.
 use Rattle.std.proofs.Common.{get_or-set_other, get_or-set_same, Bool, List, [], ap, append-nil, append_assoc, arith, cond, eqb, false, length, refl, set, subst, sym, true, ℕ, ◌++◌, ◌+◌, ◌-◌, ◌<◌, ◌∙◌, ◌∷◌, ◌≡◌, ◌≢◌, ◌≤◌}
-use Rattle.std.proofs.lemmas.Bool.{eqb-false, eqb-true}
-use Rattle.std.proofs.lemmas.List.{length-set}
-use Rattle.calc_terms.specs.Node.{Node, size_of}
-use Rattle.node_pool.specs.Flags.{AreBelow}
-use Rattle.node_pool.specs.Noted.{place_in, noted, ArePlacesOf}
-use Rattle.node_pool.specs.Nodes.{AreDistinct, has, place_of, used}
-use Rattle.node_pool.specs.Places.{IsBoundary, between, since, swapped, until, without}
+use Rattle.node_pool.proofs.Shared.{eqb-false, eqb-true, length-set, Node, size_of, AreBelow, place_in, noted, ArePlacesOf, AreDistinct, has, place_of, used, IsBoundary, between, since, swapped, until, without}
 use Rattle.node_pool.proofs.Cuts.{cut3, since-append, until-append, until-since}
 use Rattle.node_pool.proofs.Ids.{AreApart, AreApart-parts, AreApart-sym, AreDistinct-parts, has-append, not_both}
 use Rattle.node_pool.proofs.Sizes.{used-append}

@@ -1,14 +1,6 @@
 -- Writing one list after another.
 use Rattle.std.proofs.Common.{List, [], ap, append_assoc, arith, drop, length, refl, sym, take, ℕ, ◌%◌, ◌++◌, ◌+◌, ◌<◌, ◌∙◌, ◌∷◌, ◌≡◌, ◌≤◌}
-use Rattle.std.proofs.lemmas.List.{drop-drop, drop_at, length-append, length-drop, length-take, take-append-drop, take_at}
-use Rattle.calc_terms.specs.Kind.{code_of}
-use Rattle.calc_terms.specs.Node.{encoding, form_of, fresh, header_bytes, header_of, low_bytes, payload_bytes}
-use Rattle.calc_terms.specs.Payload.{Payload}
-use Rattle.calc_terms.specs.declared.leaf.Header.{Header}
-use Rattle.calc_terms.proofs.Codec.{length-header_bytes}
-use Rattle.calc_terms.proofs.LowBytes.{length-low_bytes}
-use Rattle.raw_region.specs.Bytes.{put}
-use Rattle.raw_region.proofs.Puts.{put-put}
+use Rattle.node_pool.proofs.Shared.{drop-drop, drop_at, length-append, length-drop, length-take, take-append-drop, take_at, code_of, encoding, form_of, fresh, header_bytes, header_of, low_bytes, payload_bytes, Payload, Header, length-header_bytes, length-low_bytes, put, put-put}
 
 -- one write more
 pub then_put : (s0 s1 s2 : List ℕ) (at : ℕ) (ys : List ℕ) (next : ℕ) (zs : List ℕ) → at ≤ length s0 → next ≡ at + length ys → s1 ≡ put s0 at ys → s2 ≡ put s1 next zs → s2 ≡ put s0 at (ys ++ zs)

@@ -1,12 +1,7 @@
 -- Sizes and bytes of lists of nodes.
 use Rattle.std.proofs.Common.{List, [], ap, append_assoc, arith, drop, length, refl, suc, sym, zero, ℕ, ◌*◌, ◌++◌, ◌+◌, ◌∙◌, ◌∷◌, ◌≡◌, ◌≤◌}
-use Rattle.std.proofs.lemmas.List.{drop_at, length-append}
-use Rattle.calc_terms.specs.Node.{Node, encoding, node_at, size_of}
-use Rattle.calc_terms.specs.Payload.{Payload, size_of_payload}
+use Rattle.node_pool.proofs.Shared.{drop_at, length-append, Node, encoding, node_at, size_of, Payload, size_of_payload, length-encoding, node_at-encoding, nodes_of, AreNodes, encodings, used}
 use Rattle.calc_terms.proofs.Sizes.{payload_least}
-use Rattle.calc_terms.proofs.Codec.{length-encoding, node_at-encoding}
-use Rattle.node_pool.specs.Contents.{nodes_of}
-use Rattle.node_pool.specs.Nodes.{AreNodes, encodings, used}
 
 pub size_leaf : (x : Payload) → 8 ≤ size_of_payload x
 size_leaf x = payload_least x

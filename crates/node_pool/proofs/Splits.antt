@@ -1,9 +1,6 @@
 -- Changes of a list of nodes that is known in parts.
 use Rattle.std.proofs.Common.{Bool, List, [], ap, append_assoc, arith, cond, eqb, false, leb, refl, subst, sym, true, ℕ, ◌++◌, ◌+◌, ◌-◌, ◌<◌, ◌∙◌, ◌∷◌, ◌≡◌}
-use Rattle.std.proofs.lemmas.Bool.{eq-eqb, le-leb, lt-leb}
-use Rattle.calc_terms.specs.Node.{Node, size_of}
-use Rattle.node_pool.specs.Nodes.{has, place_of, used, with_children, with_count}
-use Rattle.node_pool.specs.Places.{IsBoundary, between, moved, since, swapped, until, without}
+use Rattle.node_pool.proofs.Shared.{eq-eqb, le-leb, lt-leb, Node, size_of, has, place_of, used, with_children, with_count, IsBoundary, between, moved, since, swapped, until, without}
 use Rattle.node_pool.proofs.Cuts.{since-append, until-append}
 use Rattle.node_pool.proofs.Sizes.{used-append}
 

@@ -1,27 +1,14 @@
 -- What a node holds, read from its bytes.
 use Rattle.std.proofs.Common.{Bool, FitsSigned, List, ap, arith, drop, false, length, of_z, pos, refl, replicate, subst, sym, take, to_z, true, unsigned_abs, ℕ, ℤ, ◌++◌, ◌+◌, ◌-◌, ◌<ℤ◌, ◌<◌, ◌∙◌, ◌∷◌, ◌≡◌, ◌≤◌}
-use Rattle.std.proofs.lemmas.Int.{ints, to_z-of_z, to_z_pos}
-use Rattle.std.proofs.lemmas.List.{drop-drop, take_at}
-use Rattle.std.specs.Int.{w128}
+use Rattle.node_pool.proofs.Shared.{ints, to_z-of_z, to_z_pos, drop-drop, take_at, w128, Node, from_bytes, number_at, short_at, payload_bytes, ratio_at, IsPayload, Payload, bare, has_short_form, is_bare, kind_of_payload, named, rational, size_of_payload, IsRat, Ratio, size_by_form, Kind, drop-encoding, short_at-encoding, number_at-number_bytes, short_parts, Contents, IsLaid, contents_of, first_of, has, payload_of_id, place_of, used, IsBoundary, since}
 use Rattle.calc_terms.specs.Name.{HoldsName, before_zero, is_name, padded}
-use Rattle.calc_terms.specs.Node.{Node, from_bytes, number_at, short_at, payload_bytes, ratio_at}
-use Rattle.calc_terms.specs.Payload.{IsPayload, Payload, bare, has_short_form, is_bare, kind_of_payload, named, rational, size_of_payload}
-use Rattle.calc_terms.specs.Ratio.{IsRat, Ratio}
-use Rattle.calc_terms.specs.declared.kind.Kind.TheVariants as kind
-use Rattle.calc_terms.specs.Kind.{size_by_form}
-use Rattle.calc_terms.specs.declared.kind.Kind.{Kind}
-use Rattle.calc_terms.proofs.Codec.{drop-encoding, short_at-encoding, number_at-number_bytes}
-use Rattle.calc_terms.proofs.ShortForm.{short_parts}
 use Rattle.calc_terms.proofs.Names.{before_zero-padded, length-padded}
-use Rattle.node_pool.specs.Contents.{Contents}
-use Rattle.node_pool.specs.Laid.{IsLaid, contents_of}
-use Rattle.node_pool.specs.Nodes.{first_of, has, payload_of_id, place_of, used}
-use Rattle.node_pool.specs.Places.{IsBoundary, since}
 use Rattle.node_pool.specs.declared.buffer.Buffer.TheInside.{Inside}
 use Rattle.node_pool.proofs.Cuts.{since-append}
 use Rattle.node_pool.proofs.Fields.{opened}
 use Rattle.node_pool.proofs.Found.{found, place_boundary}
 use Rattle.node_pool.proofs.Walk.{here, place_room}
+use Rattle.calc_terms.specs.declared.kind.Kind.TheVariants as kind
 
 -- the bytes of a payload stand behind a header
 pub record IsHeld (x : Payload) (at : ℕ) (store : List ℕ) : Type 0 where

@@ -1,11 +1,6 @@
 -- The node at a place.
 use Rattle.std.proofs.Common.{Bool, List, [], ap, append_assoc, arith, cond, drop, eqb, false, refl, subst, sym, true, ℕ, ◌++◌, ◌+◌, ◌-◌, ◌<◌, ◌∙◌, ◌∷◌, ◌≡◌, ◌≤◌}
-use Rattle.std.proofs.lemmas.Bool.{ne_eqb}
-use Rattle.std.proofs.lemmas.List.{drop_at}
-use Rattle.calc_terms.specs.Node.{IsNode, Node, encoding, node_at, size_of}
-use Rattle.calc_terms.proofs.Codec.{node_at-encoding}
-use Rattle.node_pool.specs.Nodes.{AreNodes, encodings, has, place_of, used}
-use Rattle.node_pool.specs.Places.{IsBoundary, since, until}
+use Rattle.node_pool.proofs.Shared.{ne_eqb, drop_at, IsNode, Node, encoding, node_at, size_of, node_at-encoding, AreNodes, encodings, has, place_of, used, IsBoundary, since, until}
 use Rattle.node_pool.proofs.Cuts.{since-append, until-append, until-since}
 use Rattle.node_pool.proofs.Sizes.{AreNodes-left, AreNodes-right, encodings-append, length-encodings, size_from, used-append}
 

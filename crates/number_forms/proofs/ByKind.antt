@@ -1,16 +1,8 @@
 -- What the kind of a root and the number of its children tell of a tree.
 use Rattle.std.proofs.Common.{◌≡◌, ◌≢◌, ℕ, refl, sym, ap, ◌∙◌, true, arith, subst}
-use Rattle.calc_terms.specs.Fractions.{Fraction}
-use Rattle.calc_terms.specs.declared.kind.Kind.TheVariants as kind
-use Rattle.calc_terms.specs.Trees.{Tree, num, symbol, undef, add, mult, power, root, neg, sub, div, none, more, count, root_kind, is_mult}
-use Rattle.calc_algebra.specs.Numbers.{classes, value, is_number}
+use Rattle.number_forms.proofs.Shared.{Fraction, Tree, num, symbol, undef, add, mult, power, root, neg, sub, div, none, more, count, root_kind, is_mult, classes, value, is_number, IsSum, IsSumOf, Same-refl, nth, children_of, plain, IsExpression, Forest, arity, kids, tree_at, kids_of, children_of-plain, count-plains}
 use Rattle.number_forms.proofs.Shaped.{length-terms_of, added_number}
-use Rattle.number_forms.specs.Sums.{IsSum, IsSumOf}
-use Rattle.calc_algebra.proofs.TermLaws.{Same-refl}
-use Rattle.tree_handles.specs.Expressions.{nth, children_of, plain, IsExpression}
-use Rattle.tree_handles.specs.Forest.{Forest, arity, kids}
-use Rattle.tree_handles.specs.Inside.{tree_at, kids_of}
-use Rattle.tree_handles.proofs.Plains.{children_of-plain, count-plains}
+use Rattle.calc_terms.specs.declared.kind.Kind.TheVariants as kind
 
 pub children_number : (i : ℕ) (f : Forest) → IsExpression i f → arity (kids_of i f) ≡ count (children_of (plain (tree_at i f)))
 children_number i f h = sym (ap count (children_of-plain (tree_at i f) h.whole) ∙ count-plains (kids (tree_at i f)))

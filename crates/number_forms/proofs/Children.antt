@@ -1,13 +1,7 @@
 -- Children, one after another.
 use Rattle.std.proofs.Common.{◌≡◌, ℕ, zero, suc, ◌+◌, ◌<◌, ◌≤◌, List, [], ◌∷◌, ◌++◌, length, length-append, refl, sym, ap, ◌∙◌, append_assoc, arith}
-use Rattle.calc_terms.specs.Trees.{count}
-use Rattle.node_pool.specs.State.{State}
+use Rattle.number_forms.proofs.Shared.{count, State, root_ids, nth, plain, children_of, IsExpression, Forest, empty, tree, arity, root_id, first_trees, rest_trees, kids, nodes_in, tree_at, kids_of, Stands, forest}
 use Rattle.number_forms.proofs.ByKind.{children_number}
-use Rattle.tree_handles.specs.Children.{root_ids}
-use Rattle.tree_handles.specs.Expressions.{nth, plain, children_of, IsExpression}
-use Rattle.tree_handles.specs.Forest.{Forest, empty, tree, arity, root_id, first_trees, rest_trees, kids, nodes_in}
-use Rattle.tree_handles.specs.Inside.{tree_at, kids_of}
-use Rattle.tree_handles.specs.Standing.{Stands, forest}
 use Rattle.tree_handles.proofs.Measures.{few_in}
 use Rattle.tree_handles.proofs.ChildPlaces.{item, seen_child}
 

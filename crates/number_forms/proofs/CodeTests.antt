@@ -1,11 +1,7 @@
 -- Tests of numbers of the code.
 use Rattle.std.proofs.Common.{◌≡◌, ℕ, ℤ, pos, negsuc, zero, suc, Bool, false, ◌↔◌, refl, sym, ap, ◌∙◌, FitsSigned, of_z, to_z, nat_eq}
-use Rattle.std.specs.Int.{w128}
 use Rattle.std.specs.Prelude.{IsTrue, ◌==◌}
-use Rattle.std.proofs.lemmas.Bool.{eqb-true}
-use Rattle.std.proofs.lemmas.Int.{to_z-of_z}
-use Rattle.calc_terms.specs.Integers.{int_is_zero}
-use Rattle.tree_handles.proofs.Outcomes.{by_test}
+use Rattle.number_forms.proofs.Shared.{w128, eqb-true, to_z-of_z, int_is_zero, by_test}
 
 no_zero_bits : (z : ℤ) → nat_eq (of_z w128 z) 0 ≡ false → false ≡ int_is_zero z
 no_zero_bits (pos zero) e = cc

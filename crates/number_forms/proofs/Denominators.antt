@@ -1,16 +1,8 @@
 -- Common denominators stay those of the whole, from one joined term to the next.
 use Rattle.std.proofs.Common.{◌≡◌, ℕ, zero, suc, ◌<◌, ◌∷◌, ◌++◌, sym, subst, arith, append_assoc}
+use Rattle.number_forms.proofs.Shared.{terms_of, Term, Surd, AreWholeOver, Parts, SharesDenominators, parts_append, parts_left, parts_right, Tree, Trees, none, more, count, removed, IsExtracted, extracted_den, nth, inserted}
 use Rattle.std.specs.Int.{◌∣◌}
-use Rattle.calc_algebra.specs.Numbers.{term_of, terms_of}
-use Rattle.calc_algebra.specs.Surds.{Term, Surd}
-use Rattle.calc_bits.specs.Denominators.{AreWholeOver, Parts, SharesDenominators}
-use Rattle.calc_bits.proofs.MassLaws.{parts_append}
-use Rattle.calc_bits.proofs.Parts.{parts_left, parts_right}
-use Rattle.calc_terms.specs.Trees.{Tree, Trees, none, more, count}
-use Rattle.number_forms.specs.Sums.{removed}
-use Rattle.surd_terms.specs.Products.{IsExtracted}
-use Rattle.surd_bits.proofs.Steps.{extracted_den}
-use Rattle.tree_handles.specs.Expressions.{nth, inserted}
+use Rattle.calc_algebra.specs.Numbers.{term_of}
 
 pub shares_eq : {v w : Surd} → v ≡ w → SharesDenominators v w
 shares_eq e = λ d p. subst (Parts d) e p

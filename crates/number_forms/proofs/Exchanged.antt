@@ -1,22 +1,12 @@
 -- A term of a sum that stands last, known by its identifier: another comes in its place.
 use Rattle.std.proofs.Common.{◌≡◌, ℕ, zero, suc, ◌<◌, ◌≤◌, ◌∷◌, true, refl, sym, ap, ◌∙◌, subst, arith}
-use Rattle.calc_algebra.specs.Numbers.{is_term, term_of, terms_of}
-use Rattle.calc_algebra.specs.Surds.{Term}
-use Rattle.calc_terms.specs.Trees.{Tree, Trees, none, more, add, count}
-use Rattle.calc_algebra.proofs.NumberLaws.{term_words}
-use Rattle.number_forms.specs.Sums.{IsSum, IsSumOf, IsApart, IsPlace, removed}
+use Rattle.number_forms.proofs.Shared.{is_term, terms_of, Term, Tree, Trees, none, more, add, count, term_words, IsSum, IsSumOf, IsApart, IsPlace, removed, nth, plain, children_of, inserted, Forest, arity, kids, set_nth, Represents, Gives, root_tree, put, represents_as, represents_with, given_handed, given_told, last_tree, alone, count-plains}
+use Rattle.calc_algebra.specs.Numbers.{term_of}
 use Rattle.number_forms.proofs.Joined.{are_removed, rises_removed}
 use Rattle.number_forms.proofs.LastSums.{kids_represented, represents_without, sum_is, resum, gives_at}
 use Rattle.number_forms.proofs.SquareFreeSums.{rises_in_sum}
 use Rattle.number_forms.proofs.SumChanges.{inserted_of}
-use Rattle.tree_handles.specs.Expressions.{nth, plain, children_of, inserted}
-use Rattle.tree_handles.specs.Forest.{Forest, arity, kids, set_nth}
-use Rattle.tree_handles.specs.Handed.{Represents, Gives}
-use Rattle.tree_handles.specs.Roots.{root_tree, put}
-use Rattle.tree_handles.proofs.Given.{represents_as, represents_with, given_handed, given_told}
-use Rattle.tree_handles.proofs.Lasts.{last_tree}
 use Rattle.tree_handles.proofs.Nths.{with_nth-without_nth}
-use Rattle.tree_handles.proofs.Plains.{alone, count-plains}
 
 count_removed : (n : ℕ) (ts : Trees) → n < count ts → count ts ≡ suc (count (removed n ts))
 count_removed n none l = absurd (omega arith)

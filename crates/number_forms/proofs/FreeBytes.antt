@@ -1,15 +1,7 @@
 -- The bytes that are free once a term of a sum is gone.
 use Rattle.std.proofs.Common.{◌≡◌, ℕ, zero, suc, ◌≤◌, ap, arith}
-use Rattle.calc_terms.specs.Trees.{add, Trees, none, more, size, sizes}
-use Rattle.node_pool.specs.State.{State, free_of}
-use Rattle.number_forms.specs.Sums.{IsSum, removed}
+use Rattle.number_forms.proofs.Shared.{add, Trees, none, more, size, sizes, State, free_of, IsSum, removed, children_of, tree_of, Gives, without_root, Stands, forest, KeepsRefusals, given_handed, given_told, replaced_free}
 use Rattle.number_forms.proofs.LastSums.{sum_is}
-use Rattle.tree_handles.specs.Expressions.{children_of}
-use Rattle.tree_handles.specs.Handed.{tree_of, Gives}
-use Rattle.tree_handles.specs.Roots.{without_root}
-use Rattle.tree_handles.specs.Standing.{Stands, forest, KeepsRefusals}
-use Rattle.tree_handles.proofs.Given.{given_handed, given_told}
-use Rattle.tree_handles.proofs.FreeBytes.{replaced_free}
 
 -- ---- a term less
 

@@ -1,20 +1,9 @@
 -- How large the inverse of a Number is.
 use Rattle.std.proofs.Common.{◌≡◌, ◌≢◌, ◌==◌, [], ◌∷◌, Bool, true, false, pos, if◌then◌else◌, refl, sym, ap, ◌∙◌, subst}
-use Rattle.std.proofs.lemmas.Bool.{eqb-true}
-use Rattle.calc_algebra.specs.Numbers.{Rises, is_number, natural_of, term_of, value}
-use Rattle.calc_algebra.specs.Surds.{Term, Surd, term, surd_of}
-use Rattle.calc_algebra.proofs.InverseLaws.{inverse_times_itself, factor_not_zero, term_not_zero}
-use Rattle.calc_algebra.proofs.NumberClasses.{AreProper, value_proper, value_rises}
-use Rattle.calc_algebra.proofs.NumberLaws.{number_words}
-use Rattle.calc_terms.specs.FractionLaws.{times_comm}
-use Rattle.calc_terms.specs.Fractions.{Fraction, zero_fraction, is_one_fraction, inverse, whole_fraction}
-use Rattle.calc_terms.specs.Trees.{Tree, num, mult, root, none, more}
-use Rattle.calc_terms.proofs.FractionFacts.{one_is, zero_test, whole_numerator}
-use Rattle.number_forms.specs.Inverses.{inverse_trees, IsInverseOf}
-use Rattle.number_forms.specs.Shapes.{term_tree}
+use Rattle.number_forms.proofs.Shared.{eqb-true, Rises, is_number, natural_of, value, Term, Surd, term, surd_of, inverse_times_itself, factor_not_zero, term_not_zero, AreProper, value_proper, value_rises, number_words, times_comm, Fraction, zero_fraction, is_one_fraction, inverse, whole_fraction, Tree, num, mult, root, none, more, one_is, zero_test, whole_numerator, inverse_trees, IsInverseOf, term_tree, inverse_of, first_of_inverse, second_of_inverse}
+use Rattle.calc_algebra.specs.Numbers.{term_of}
 use Rattle.surd_bits.specs.Inverted.{IsNoLargerThanInverse}
 use Rattle.surd_bits.proofs.Inverted.{one_no_larger, two_no_larger}
-use Rattle.surd_terms.specs.Inverses.{inverse_of, first_of_inverse, second_of_inverse}
 
 -- ---- the terms of written trees
 

@@ -1,23 +1,8 @@
 -- Inverses by terms.
 use Rattle.std.proofs.Common.{◌≡◌, ℕ, ◌≤◌, [], ◌∷◌, Some, Err, length, true, false, refl, sym, ap, ◌∙◌, subst, arith}
 use Rattle.std.specs.Prelude.{slice_get, None}
-use Rattle.calc_algebra.specs.Numbers.{is_number, is_term, term_of, value, Rises}
-use Rattle.calc_algebra.specs.SquareClasses.{are_alike, Inverts}
-use Rattle.calc_algebra.specs.Surds.{Term, Surd}
-use Rattle.calc_terms.specs.Trees.{Tree, add, Trees, more, none, size, sizes}
-use Rattle.calc_algebra.proofs.InverseLaws.{Inverts-Same}
-use Rattle.calc_algebra.proofs.NumberClasses.{value_rises}
-use Rattle.calc_algebra.proofs.NumberLaws.{number_words, term_words}
-use Rattle.calc_algebra.proofs.SquareClassLaws.{Same-trans}
-use Rattle.calc_algebra.proofs.TermLaws.{Same-eq}
-use Rattle.number_forms.specs.Answers.{IsNumberOf, IsNumberOver}
-use Rattle.node_pool.specs.declared.full.Full.{Full}
-use Rattle.number_forms.specs.Inverses.{inverse_trees, IsInverseOf, HasInverse, LacksInverse}
-use Rattle.number_forms.specs.Overflows.{inverting_calculations}
-use Rattle.number_forms.specs.Shapes.{term_tree, sum_of_terms}
-use Rattle.surd_terms.specs.Calculations.{Calculation, first_misfit}
-use Rattle.surd_terms.specs.Inverses.{inverse_of, first_of_inverse, second_of_inverse}
-use Rattle.tree_handles.specs.Building.{building, node_sizes, nodes_sizes, taking}
+use Rattle.number_forms.proofs.Shared.{is_number, is_term, value, Rises, are_alike, Inverts, Term, Surd, Tree, add, Trees, more, none, size, sizes, Inverts-Same, value_rises, number_words, term_words, Same-trans, Same-eq, IsNumberOf, IsNumberOver, Full, inverse_trees, IsInverseOf, HasInverse, LacksInverse, inverting_calculations, term_tree, sum_of_terms, Calculation, first_misfit, inverse_of, first_of_inverse, second_of_inverse, building, node_sizes, nodes_sizes, taking}
+use Rattle.calc_algebra.specs.Numbers.{term_of}
 use Rattle.number_forms.proofs.Placings.{lacking_on}
 use Rattle.number_forms.proofs.Over.{of_over}
 use Rattle.number_forms.proofs.Shaped.{single_number, sum_number}

@@ -1,17 +1,7 @@
 -- Terms that are put into a sum at their place, or taken out of it.
 use Rattle.std.proofs.Common.{◌≡◌, ℕ, zero, suc, ◌<◌, ◌≤◌, [], ◌∷◌, true, false, refl, sym, ap, ◌∙◌, arith}
-use Rattle.calc_terms.specs.Fractions.{plus, zero_fraction}
-use Rattle.calc_terms.specs.FractionLaws.{zero_plus}
-use Rattle.calc_algebra.specs.Numbers.{IsTerm, AreTerms, IsBelowAll, Rises, term_of, terms_of}
-use Rattle.calc_algebra.specs.SquareClasses.{are_alike, class_coefficient, Same}
-use Rattle.calc_algebra.specs.Surds.{Term, Surd}
-use Rattle.calc_terms.specs.Trees.{Tree, Trees, none, more, count}
-use Rattle.calc_algebra.proofs.NumberClasses.{IsProper, alike_turned, alike_through, first_coefficient}
-use Rattle.calc_algebra.proofs.SquareClassLaws.{alike_true, Same-trans, Same-Agree}
-use Rattle.calc_algebra.proofs.TermLaws.{Same-refl, Same-cons, Same-to_front, share_apart}
-use Rattle.number_forms.specs.Sums.{removed, IsApart, IsPlace}
-use Rattle.tree_handles.specs.Expressions.{nth, inserted}
-use Rattle.tree_handles.proofs.Outcomes.{by_test}
+use Rattle.number_forms.proofs.Shared.{plus, zero_fraction, zero_plus, IsTerm, AreTerms, IsBelowAll, Rises, terms_of, are_alike, class_coefficient, Same, Term, Surd, Tree, Trees, none, more, count, IsProper, alike_turned, alike_through, first_coefficient, alike_true, Same-trans, Same-Agree, Same-refl, Same-cons, Same-to_front, share_apart, removed, IsApart, IsPlace, nth, inserted, by_test}
+use Rattle.calc_algebra.specs.Numbers.{term_of}
 
 pub alike_itself : (r : ℕ) → 0 < r → are_alike r r ≡ true
 alike_itself r h = alike_true r r r (record { square = refl; positive = h })

@@ -1,28 +1,9 @@
 -- Numbers that are answered as they stand.
 use Rattle.std.proofs.Common.{◌≡◌, ℕ, [], ◌∷◌, ◌++◌, Bool, true, false, eqb, if◌then◌else◌, refl, sym, ap, ◌∙◌, subst}
+use Rattle.number_forms.proofs.Shared.{is_number, value, is_num_one, Same, Surd, surd_of, surd_one, surd_times, Agree-sym, Agree-Same, surd_times-one, surd_times-surd_one, Same-eq, Parts, AreWholeOver, one_not_zero, one_is, zero_test, one_times, times_comm, Fraction, one_fraction, is_zero_fraction, times, Tree, num, is_num, IsNumberOver, is_zero, plain, Forest, IsHanded, Ends, Gives, root_tree, without_root, gives, gives_as, handed_at, handed_beside, represents_handed, tree-without}
 use Rattle.std.specs.Int.{◌∣◌}
-use Rattle.calc_algebra.specs.Numbers.{is_number, value}
-use Rattle.calc_algebra.specs.Reduced.{is_num_one}
-use Rattle.calc_algebra.specs.SquareClasses.{Same}
-use Rattle.calc_algebra.specs.Surds.{Surd, surd_of, surd_one, surd_times}
-use Rattle.calc_algebra.proofs.SurdLaws.{Agree-sym, Agree-Same, surd_times-one, surd_times-surd_one}
-use Rattle.calc_algebra.proofs.TermLaws.{Same-eq}
-use Rattle.calc_bits.specs.Denominators.{Parts, AreWholeOver}
-use Rattle.calc_algebra.proofs.NumberClasses.{one_not_zero}
-use Rattle.calc_terms.proofs.FractionFacts.{one_is, zero_test}
-use Rattle.calc_terms.specs.FractionLaws.{one_times, times_comm}
-use Rattle.calc_terms.specs.Fractions.{Fraction, one_fraction, is_zero_fraction, times}
-use Rattle.calc_terms.specs.Trees.{Tree, num, is_num}
-use Rattle.number_forms.specs.Answers.{IsNumberOver}
-use Rattle.number_forms.specs.Readers.{is_zero}
 use Rattle.number_forms.proofs.Denominators.{shares_eq}
 use Rattle.number_forms.proofs.Rows.{nothing_more}
-use Rattle.tree_handles.specs.Expressions.{plain}
-use Rattle.tree_handles.specs.Forest.{Forest}
-use Rattle.tree_handles.specs.Handed.{IsHanded, Ends, Gives}
-use Rattle.tree_handles.specs.Roots.{root_tree, without_root}
-use Rattle.tree_handles.proofs.Given.{gives, gives_as, handed_at, handed_beside, represents_handed}
-use Rattle.tree_handles.proofs.Roots.{tree-without}
 
 -- ---- one is released, and another moved to the end
 

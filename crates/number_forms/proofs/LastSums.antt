@@ -1,18 +1,9 @@
 -- A sum that stands last, with other children.
 use Rattle.std.proofs.Common.{◌≡◌, ℕ, zero, suc, refl, sym, ap, ◌∙◌, subst, arith, true, ◌<◌}
+use Rattle.number_forms.proofs.Shared.{Payload, rational, named, bare, count, Tree, num, symbol, undef, add, mult, power, root, neg, sub, div, Trees, none, more, IsSum, removed, nth, grown, compound, plains, plain, children_of, takes, AllExpressions, IsWhole, Forest, empty, tree, arity, kids, root_id, with_root_kids, first_trees, rest_trees, tree_nth, without_nth, AllOnce, IsOnce, IsHanded, Represents, Ends, Gives, put, root_tree, without_root, gives, represents_as, given_root, given_handed, given_rest, last_put, last_tree, ends_without, ends_as, ends_at, other_handed, alone, count-plains, plain-tree_nth, children_of-plain, whole_kids}
 use Rattle.calc_terms.specs.declared.kind.Kind.{Kind}
-use Rattle.calc_terms.specs.declared.kind.Kind.TheVariants as kind
-use Rattle.calc_terms.specs.Payload.{Payload, rational, named, bare}
-use Rattle.calc_terms.specs.Trees.{count, Tree, num, symbol, undef, add, mult, power, root, neg, sub, div, Trees, none, more}
-use Rattle.number_forms.specs.Sums.{IsSum, removed}
-use Rattle.tree_handles.specs.Expressions.{nth, grown, compound, plains, plain, children_of, takes, AllExpressions, IsWhole}
-use Rattle.tree_handles.specs.Forest.{Forest, empty, tree, arity, kids, root_id, with_root_kids, first_trees, rest_trees, tree_nth, without_nth}
-use Rattle.tree_handles.specs.Handed.{AllOnce, IsOnce, IsHanded, Represents, Ends, Gives}
-use Rattle.tree_handles.specs.Roots.{put, root_tree, without_root}
 use Rattle.tree_handles.proofs.Forests.{all-first_trees, all-rest_trees, all-join}
-use Rattle.tree_handles.proofs.Given.{gives, represents_as, given_root, given_handed, given_rest}
-use Rattle.tree_handles.proofs.Lasts.{last_put, last_tree, ends_without, ends_as, ends_at, other_handed}
-use Rattle.tree_handles.proofs.Plains.{alone, count-plains, plain-tree_nth, children_of-plain, whole_kids}
+use Rattle.calc_terms.specs.declared.kind.Kind.TheVariants as kind
 
 -- ---- a node with other children
 

@@ -31,3 +31,4 @@ pub mod WithinBits
 pub mod PowersWithin
 pub mod RationalBits
 pub mod InverseBits
+pub mod Shared

@@ -1,25 +1,9 @@
 -- Sums to which the terms of a list are joined one by one.
 use Rattle.std.proofs.Common.{◌≡◌, ℕ, zero, suc, ◌≤◌, ◌∷◌, ◌++◌, length, refl, sym, ap, subst, arith, []}
-use Rattle.calc_algebra.specs.Numbers.{value}
-use Rattle.calc_algebra.specs.SquareClasses.{Same}
-use Rattle.calc_algebra.specs.Surds.{Term, Surd}
-use Rattle.calc_bits.specs.Denominators.{SharesDenominators}
-use Rattle.calc_terms.specs.Trees.{Tree}
-use Rattle.calc_algebra.proofs.SquareClassLaws.{Same-trans}
-use Rattle.calc_algebra.proofs.TermLaws.{Same-refl}
-use Rattle.node_pool.specs.State.{State}
-use Rattle.number_forms.specs.Sums.{IsSum, IsSumOf}
+use Rattle.number_forms.proofs.Shared.{value, Same, Term, Surd, SharesDenominators, Tree, Same-trans, Same-refl, State, IsSum, IsSumOf, plain, Gives, KeepsFront, root_tree, without_root, Stands, forest, KeepsRefusals, behind_first, front_after_one, front_same, given_told, given_rest, gives_as, kept_same, kept_after, gives_itself}
 use Rattle.number_forms.proofs.Denominators.{shares_eq, parts_step, parts_end, parts_part}
 use Rattle.number_forms.proofs.Worth.{terms_from, join_step, join_end, part_step}
 use Rattle.tree_handles.specs.declared.fault.NumberFault.TheVariants as fault
-use Rattle.tree_handles.specs.Expressions.{plain}
-use Rattle.tree_handles.specs.Handed.{Gives, KeepsFront}
-use Rattle.tree_handles.specs.Roots.{root_tree, without_root}
-use Rattle.tree_handles.specs.Standing.{Stands, forest, KeepsRefusals}
-use Rattle.tree_handles.proofs.Fronts.{behind_first, front_after_one, front_same}
-use Rattle.tree_handles.proofs.Given.{given_told, given_rest, gives_as}
-use Rattle.tree_handles.proofs.Refused.{kept_same, kept_after}
-use Rattle.tree_handles.proofs.Beside.{gives_itself}
 
 -- a sum, and with what is left of a list it is worth the whole, over the common denominators of the whole
 pub record IsSumWith (left whole : Surd) (t : Tree) : Type 0 where

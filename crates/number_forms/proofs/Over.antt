@@ -1,26 +1,8 @@
 -- Numbers over the common denominators of what they are worth, and of powers of it.
 use Rattle.std.proofs.Common.{◌≡◌, ℕ, ◌+◌, ◌*◌, ◌/◌, ◌%◌, ◌^◌, ◌≢◌, ◌++◌, Result, Ok, Err, refl, sym, subst, arith}
 use Rattle.std.specs.Prelude.{IfOk}
-use Rattle.std.proofs.lemmas.Nat.{pow-add}
-use Rattle.calc_algebra.specs.Numbers.{value}
-use Rattle.calc_algebra.specs.SquareClasses.{Same}
-use Rattle.calc_algebra.specs.Surds.{Surd, surd_times, surd_power}
-use Rattle.calc_algebra.proofs.PowerLaws.{surd_power-squared}
-use Rattle.calc_algebra.proofs.SquareClassLaws.{Same-trans}
-use Rattle.calc_bits.specs.Bounds.{IsNoLarger, SharesPowers}
-use Rattle.calc_bits.specs.Denominators.{Parts, SharesDenominators}
-use Rattle.calc_bits.proofs.Held.{power_once}
-use Rattle.calc_bits.proofs.MassLaws.{parts_append, parts_times}
-use Rattle.calc_bits.proofs.NoLarger.{no_larger}
-use Rattle.calc_bits.proofs.Parts.{parts_left, parts_right}
-use Rattle.calc_terms.specs.Trees.{Tree}
-use Rattle.number_forms.specs.Answers.{IsNumberOf, IsNumberOver, IsPowerOver}
+use Rattle.number_forms.proofs.Shared.{pow-add, value, Same, Surd, surd_times, surd_power, surd_power-squared, Same-trans, IsNoLarger, SharesPowers, Parts, SharesDenominators, power_once, parts_append, parts_times, no_larger, parts_left, parts_right, Tree, IsNumberOf, IsNumberOver, IsPowerOver, State, Forest, tree_of, Gives, forest, given_told, gives_as}
 use Rattle.number_forms.proofs.PowerSteps.{half_even, half_odd, power_odd}
-use Rattle.node_pool.specs.State.{State}
-use Rattle.tree_handles.specs.Forest.{Forest}
-use Rattle.tree_handles.specs.Handed.{tree_of, Gives}
-use Rattle.tree_handles.specs.Standing.{forest}
-use Rattle.tree_handles.proofs.Given.{given_told, gives_as}
 
 pub of_over : {v : Surd} {t : Tree} → IsNumberOver v t → IsNumberOf v t
 of_over n = record { number = n.number; worth = n.worth }

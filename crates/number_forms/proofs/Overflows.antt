@@ -1,18 +1,8 @@
 -- What a call on Numbers is refused for, from the call that was refused.
 use Rattle.std.proofs.Common.{◌≡◌, ℕ, ◌+◌, ◌*◌, ◌/◌, ◌<◌, ◌≤◌, Some, inl, inr, refl, ap, ◌∙◌, subst, arith}
-use Rattle.calc_algebra.specs.Numbers.{term_of, value}
-use Rattle.calc_algebra.specs.SquareClasses.{Same}
-use Rattle.calc_algebra.specs.Surds.{Term, Surd, surd_times}
-use Rattle.calc_terms.specs.Trees.{Tree, count}
-use Rattle.calc_algebra.proofs.SquareClassLaws.{Same-trans}
-use Rattle.calc_algebra.proofs.TermLaws.{Same-append, Same-refl}
-use Rattle.calc_bits.specs.Denominators.{SharesDenominators}
-use Rattle.number_forms.specs.Answers.{IsNumberOver, IsPowerOver}
+use Rattle.number_forms.proofs.Shared.{value, Same, Term, Surd, surd_times, Tree, count, Same-trans, Same-append, Same-refl, SharesDenominators, IsNumberOver, IsPowerOver, JoinOverflows, SumOverflows, ProductOverflows, SquareOverflows, PowerOverflows, Overflow, calculation_of, first_misfit, joining_calculations, children_of, nth}
+use Rattle.calc_algebra.specs.Numbers.{term_of}
 use Rattle.number_forms.proofs.Over.{shares_append, squared_power}
-use Rattle.number_forms.specs.Overflows.{JoinOverflows, SumOverflows, ProductOverflows, SquareOverflows, PowerOverflows}
-use Rattle.rational128.specs.declared.overflow.Overflow.{Overflow}
-use Rattle.surd_terms.specs.Calculations.{calculation_of, first_misfit, joining_calculations}
-use Rattle.tree_handles.specs.Expressions.{children_of, nth}
 use Rattle.tree_handles.specs.declared.fault.NumberFault.TheVariants as fault
 
 -- the term of a sum at a place, once it is read

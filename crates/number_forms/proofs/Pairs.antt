@@ -1,17 +1,7 @@
 -- Two trees that were made one after the other.
 use Rattle.std.proofs.Common.{◌≡◌, ℕ, eqb, true, false, ap, ◌∙◌}
-use Rattle.calc_terms.specs.Fractions.{Fraction}
-use Rattle.calc_algebra.specs.Numbers.{is_number, is_term}
-use Rattle.calc_terms.specs.Trees.{Tree, num}
-use Rattle.calc_algebra.proofs.NumberLaws.{number_test, term_words}
-use Rattle.tree_handles.proofs.Beside.{other_plain}
+use Rattle.number_forms.proofs.Shared.{Fraction, is_number, is_term, Tree, num, number_test, term_words, other_plain, plain, Forest, IsHanded, Gives, root_tree, without_root, given_handed, given_root, given_other, given_apart, given_rest, given_without, eqb-sym}
 use Rattle.number_forms.proofs.Shaped.{term_number}
-use Rattle.tree_handles.specs.Expressions.{plain}
-use Rattle.tree_handles.specs.Forest.{Forest}
-use Rattle.tree_handles.specs.Handed.{IsHanded, Gives}
-use Rattle.tree_handles.specs.Roots.{root_tree, without_root}
-use Rattle.tree_handles.proofs.Given.{given_handed, given_root, given_other, given_apart, given_rest, given_without}
-use Rattle.tree_handles.proofs.Outcomes.{eqb-sym}
 
 pub first_handed : {f g h : Forest} {a b : ℕ} {P Q : Tree → Type 0} → Gives f g a P → Gives g h b Q → IsHanded a h
 first_handed x y = given_other y (given_handed x)

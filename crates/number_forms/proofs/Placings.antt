@@ -1,29 +1,10 @@
 -- Whether the bytes of a term's tree suffice.
 use Rattle.std.proofs.Common.{◌≡◌, ◌≢◌, ◌↔◌, ℕ, ◌+◌, ◌-◌, ◌==◌, ◌<◌, ◌≤◌, true, false, Bool, pos, List, length, [], ◌∷◌, ◌++◌, Result, Ok, Err, refl, sym, ap, ◌∙◌, subst, arith}
 use Rattle.std.specs.Prelude.{IsOk, IsErr, IfOk, IfErr, nat_le, if◌then◌else◌}
-use Rattle.std.proofs.lemmas.Bool.{eqb-true, eq-eqb, le-leb, lt-leb, leb-false}
-use Rattle.calc_terms.specs.Fractions.{Fraction, lowest, one_fraction, is_one_fraction, is_zero_fraction, whole_fraction}
-use Rattle.calc_terms.specs.Gcd.{gcd}
-use Rattle.calc_terms.specs.declared.kind.Kind.TheVariants as kind
+use Rattle.number_forms.proofs.Shared.{eqb-true, eq-eqb, le-leb, lt-leb, leb-false, Fraction, lowest, one_fraction, is_one_fraction, is_zero_fraction, whole_fraction, gcd, Tree, num, symbol, undef, add, mult, power, root, neg, sub, div, Trees, more, none, size, sizes, root_size, one_is, value, classes, Term, surd_of, State, free_of, Full, term_tree, building, node_sizes, nodes_sizes, taking, LacksLongForm, Forest, tree_of, Gives, root_tree, plain, last_tree, Stands, forest, KeepsRefusals, IsRefused, given_told, given_free}
 use Rattle.calc_terms.specs.Kind.{size_by_form}
 use Rattle.calc_terms.specs.Short.{is_short}
-use Rattle.calc_terms.specs.Trees.{Tree, num, symbol, undef, add, mult, power, root, neg, sub, div, Trees, more, none, size, sizes, root_size}
-use Rattle.calc_terms.proofs.FractionFacts.{one_is}
-use Rattle.calc_algebra.specs.Numbers.{value, classes}
-use Rattle.calc_algebra.specs.Surds.{Term, surd_of}
-use Rattle.node_pool.specs.State.{State, free_of}
-use Rattle.node_pool.specs.declared.full.Full.{Full}
-use Rattle.number_forms.specs.Shapes.{term_tree}
-use Rattle.tree_handles.specs.Building.{building, node_sizes, nodes_sizes, taking}
-use Rattle.tree_handles.specs.Causes.{LacksLongForm}
-use Rattle.tree_handles.specs.Forest.{Forest}
-use Rattle.tree_handles.specs.Handed.{tree_of, Gives}
-use Rattle.tree_handles.specs.Roots.{root_tree}
-use Rattle.tree_handles.specs.Expressions.{plain}
-use Rattle.tree_handles.proofs.Lasts.{last_tree}
-use Rattle.tree_handles.specs.Standing.{Stands, forest, KeepsRefusals, IsRefused}
-use Rattle.tree_handles.proofs.Given.{given_told}
-use Rattle.tree_handles.proofs.Room.{given_free}
+use Rattle.calc_terms.specs.declared.kind.Kind.TheVariants as kind
 
 -- what is free before a tree is placed
 pub free_before : {s t : State} {i : ℕ} {u : Tree} → Stands s → Stands t → KeepsRefusals s t → Gives (forest s) (forest t) i (λ x. x ≡ u) → free_of s ≡ free_of t + size u

@@ -1,9 +1,6 @@
 -- Powers by squares.
 use Rattle.std.proofs.Common.{◌≡◌, ◌≢◌, ℕ, suc, ◌+◌, ◌*◌, ◌/◌, ◌%◌, ◌≤◌, ◌<◌, subst, arith}
-use Rattle.calc_algebra.specs.SquareClasses.{Same}
-use Rattle.calc_algebra.specs.Surds.{Surd, surd_times, surd_power}
-use Rattle.calc_algebra.proofs.PowerLaws.{surd_power-squared, surd_power-multiplied}
-use Rattle.calc_algebra.proofs.SquareClassLaws.{Same-trans}
+use Rattle.number_forms.proofs.Shared.{Same, Surd, surd_times, surd_power, surd_power-squared, surd_power-multiplied, Same-trans}
 
 pub half_even : (n : ℕ) → n % 2 ≡ 0 → 2 * (n / 2) ≡ n
 half_even n e = omega arith

@@ -1,27 +1,12 @@
 -- No operation overflows on the square or a power of a Number that has few bits.
 use Rattle.std.proofs.Common.{◌≡◌, ℕ, zero, suc, ◌+◌, ◌*◌, ◌≤◌, [], ◌∷◌, ◌++◌, ◌⊎◌, inl, inr, map, refl, sym, ap, ◌∙◌, subst, arith, append_assoc}
-use Rattle.std.proofs.lemmas.Nat.{mul-le}
-use Rattle.calc_algebra.specs.Numbers.{term_of, value}
-use Rattle.calc_algebra.specs.Surds.{Term, Surd, term_times, surd_times}
-use Rattle.calc_algebra.proofs.NumberClasses.{IsProper, AreProper, value_proper}
-use Rattle.calc_algebra.proofs.NumberLaws.{number_words}
-use Rattle.calc_algebra.proofs.TermLaws.{Same-append, Same-refl}
-use Rattle.calc_bits.specs.Masses.{IsHeld}
-use Rattle.calc_bits.proofs.Held.{held_times}
-use Rattle.calc_bits.proofs.NoLarger.{no_larger_power, held_so_far}
-use Rattle.calc_bits.proofs.Parts.{held_left, held_right}
-use Rattle.calc_terms.specs.Trees.{Tree}
-use Rattle.number_forms.specs.Overflows.{terms_from, ProductOverflows, SquareRowOverflows, SquareOverflows, PowerOverflows}
-use Rattle.number_forms.specs.Squares.{twice, square_row, square_terms}
-use Rattle.number_forms.specs.Sums.{IsSum}
+use Rattle.number_forms.proofs.Shared.{mul-le, value, Term, Surd, term_times, surd_times, IsProper, AreProper, value_proper, number_words, Same-append, Same-refl, IsHeld, held_times, no_larger_power, held_so_far, held_left, held_right, Tree, terms_from, ProductOverflows, SquareRowOverflows, SquareOverflows, PowerOverflows, twice, square_row, square_terms, IsSum, Overflow, calculation_of, children_of, nth}
+use Rattle.calc_algebra.specs.Numbers.{term_of}
 use Rattle.number_forms.proofs.Over.{shares_append}
 use Rattle.number_forms.proofs.Squares.{square_held, held_front}
 use Rattle.number_forms.proofs.Twice.{twice_proper}
 use Rattle.number_forms.proofs.WithinBits.{so_far, pair_held, no_misfit, no_product_misfit, extracted_held, row_within, proper_at, sum_proper, sum_rises, numbers_within}
 use Rattle.number_forms.proofs.Worth.{from_next}
-use Rattle.rational128.specs.declared.overflow.Overflow.{Overflow}
-use Rattle.surd_terms.specs.Calculations.{calculation_of}
-use Rattle.tree_handles.specs.Expressions.{children_of, nth}
 
 -- ---- squares
 

@@ -1,43 +1,10 @@
 -- Rationals among Numbers: their common denominators, and the operations that fit.
 use Rattle.std.proofs.Common.{◌≡◌, ◌≢◌, ℕ, zero, suc, ◌+◌, ◌*◌, ◌/◌, ◌^◌, ◌≤◌, ◌<◌, [], ◌++◌, true, false, not, Result, Ok, Err, ℤ, pos, negsuc, ◌≤ℤ◌, if◌then◌else◌, max, refl, sym, ap, ◌∙◌, subst, arith}
 use Rattle.std.specs.Prelude.{IfOk, IfErr, nat_abs}
+use Rattle.number_forms.proofs.Shared.{ints, mul-le, dvd-mul_left, value, Surd, surd_of, term, surd_times, HasFewBits, IsNoLargerThanPower, SharesPowers, Parts, SharesDenominators, magnitude_over, root_above, mass, IsHeld, multiple_fits, sum_fits_over, power_den, magnitude_power, magnitudes_cross, power_bound, low_power, parts_power, mass-append, no_larger_power, parts_left, parts_right, cancel_le, plus_den, root_enough, IsPlainOverflow, calculated, exactly, overflow, Operation, add_op, mul_op, pow_op, operation_fits, result_of, fraction_fits, sum_fits, fraction_power, zero_times, times_comm, Fraction, plus, times, zero_fraction, is_zero_fraction, whole_fraction, int_is_zero, Tree, num, is_num, zero_is, no_zero, whole_numerator, whole_denominator, IsPowerOver, AnswersRationals, State, held_bound, power_fits, denominator_bound, coefficients_fit, OfOverflow, Forest, tree_of, Gives, forest, NumberFault, given_told, by_test}
 use Rattle.std.specs.Int.{◌∣◌}
-use Rattle.std.proofs.lemmas.Int.{ints}
-use Rattle.std.proofs.lemmas.Nat.{mul-le}
-use Rattle.std.proofs.Math.Nat.{dvd-mul_left}
-use Rattle.calc_algebra.specs.Numbers.{value}
-use Rattle.calc_algebra.specs.Surds.{Surd, surd_of, term, surd_times}
 use Rattle.calc_algebra.proofs.SquareRootLaws.{square_le}
-use Rattle.calc_bits.specs.Bounds.{HasFewBits, IsNoLargerThanPower, SharesPowers}
-use Rattle.calc_bits.specs.Denominators.{Parts, SharesDenominators, magnitude_over}
-use Rattle.calc_bits.specs.Masses.{root_above, mass, IsHeld}
-use Rattle.calc_bits.proofs.Fitting.{multiple_fits, sum_fits_over, power_den, magnitude_power}
-use Rattle.calc_bits.proofs.Held.{magnitudes_cross, power_bound, low_power, parts_power}
-use Rattle.calc_bits.proofs.MassLaws.{mass-append}
-use Rattle.calc_bits.proofs.NoLarger.{no_larger_power}
-use Rattle.calc_bits.proofs.Parts.{parts_left, parts_right}
-use Rattle.calc_bits.proofs.Quotients.{cancel_le, plus_den}
-use Rattle.calc_bits.proofs.RootsAbove.{root_enough}
-use Rattle.calc_measures.specs.PlainTrees.{IsPlainOverflow}
-use Rattle.calc_measures.specs.PlainValues.{calculated, exactly, overflow}
-use Rattle.calc_terms.specs.Fits.{Operation, add_op, mul_op, pow_op, operation_fits, result_of, fraction_fits, sum_fits, fraction_power}
-use Rattle.calc_terms.specs.FractionLaws.{zero_times, times_comm}
-use Rattle.calc_terms.specs.Fractions.{Fraction, plus, times, zero_fraction, is_zero_fraction, whole_fraction}
-use Rattle.calc_terms.specs.Integers.{int_is_zero}
-use Rattle.calc_terms.specs.Trees.{Tree, num, is_num}
-use Rattle.calc_terms.proofs.FractionFacts.{zero_is, no_zero, whole_numerator, whole_denominator}
-use Rattle.number_forms.specs.Answers.{IsPowerOver, AnswersRationals}
-use Rattle.node_pool.specs.State.{State}
-use Rattle.surd_bits.proofs.Bounds.{held_bound, power_fits, denominator_bound}
-use Rattle.surd_bits.proofs.ProductsFit.{coefficients_fit}
-use Rattle.tree_handles.specs.Faults.{OfOverflow}
-use Rattle.tree_handles.specs.Forest.{Forest}
-use Rattle.tree_handles.specs.Handed.{tree_of, Gives}
-use Rattle.tree_handles.specs.Standing.{forest}
-use Rattle.tree_handles.specs.declared.fault.NumberFault.{NumberFault}
 use Rattle.tree_handles.specs.declared.fault.NumberFault.TheVariants as fault
-use Rattle.tree_handles.proofs.Given.{given_told}
-use Rattle.tree_handles.proofs.Outcomes.{by_test}
 
 -- ---- common denominators
 

@@ -1,28 +1,7 @@
 -- Rationals in place of others.
 use Rattle.std.proofs.Common.{◌≡◌, ℕ, ◌++◌, Result, true, false, if◌then◌else◌, refl, sym, ap, ◌∙◌, subst, []}
-use Rattle.calc_terms.specs.Fits.{Operation, operation_fits, result_of, fraction_power}
-use Rattle.calc_algebra.specs.Numbers.{value}
-use Rattle.calc_algebra.specs.SquareClasses.{Same}
-use Rattle.calc_algebra.specs.Surds.{Surd, surd_of, surd_times, surd_power}
-use Rattle.calc_terms.proofs.FractionFacts.{zero_is}
-use Rattle.calc_algebra.proofs.NumberLaws.{number_test}
-use Rattle.calc_algebra.proofs.PowerLaws.{zero_surd_of, surd_power-surd_of}
-use Rattle.calc_algebra.proofs.SquareClassLaws.{Same-trans}
-use Rattle.calc_algebra.proofs.TermLaws.{Same-refl, Same-eq, Same-append, Same-surd_times, Same-surd_power, joined_radicand, surd_times-terms}
-use Rattle.calc_bits.specs.Bounds.{SharesPowers}
-use Rattle.calc_bits.specs.Denominators.{SharesDenominators}
-use Rattle.number_forms.specs.Answers.{IsNumberOver, IsPowerOver, AnswersRationals}
+use Rattle.number_forms.proofs.Shared.{Operation, operation_fits, result_of, fraction_power, value, Same, Surd, surd_of, surd_times, surd_power, zero_is, number_test, zero_surd_of, surd_power-surd_of, Same-trans, Same-refl, Same-eq, Same-append, Same-surd_times, Same-surd_power, joined_radicand, surd_times-terms, SharesPowers, SharesDenominators, IsNumberOver, IsPowerOver, AnswersRationals, NumberFault, Fraction, plus, times, is_zero_fraction, calculated, exactly, overflow, value_of, Tree, num, is_num, State, operation_of, Overflow, IsPlainAnswer, IsPlainOverflow, by_test}
 use Rattle.number_forms.proofs.Worth.{Same-sym}
-use Rattle.tree_handles.specs.declared.fault.NumberFault.{NumberFault}
-use Rattle.calc_terms.specs.Fractions.{Fraction, plus, times, is_zero_fraction}
-use Rattle.calc_measures.specs.PlainValues.{calculated, exactly, overflow}
-use Rattle.calc_terms.specs.Rat.{value_of}
-use Rattle.calc_terms.specs.Trees.{Tree, num, is_num}
-use Rattle.node_pool.specs.State.{State}
-use Rattle.rational128.specs.Refusals.{operation_of}
-use Rattle.rational128.specs.declared.overflow.Overflow.{Overflow}
-use Rattle.calc_measures.specs.PlainTrees.{IsPlainAnswer, IsPlainOverflow}
-use Rattle.tree_handles.proofs.Outcomes.{by_test}
 
 -- ---- what an operation answers
 

@@ -1,22 +1,11 @@
 -- What is a Number and what is none, by kind and by parts.
 use Rattle.std.proofs.Common.{◌≡◌, ◌≢◌, ℕ, ◌*◌, ◌<◌, ◌≤◌, ◌↔◌, Bool, true, false, not, ◌&&◌, length, refl, sym, ap, ◌∙◌, subst, arith}
 use Rattle.std.specs.Prelude.{ℤ, pos, negsuc, nat_abs, IsTrue, nat_le, ◌==◌}
-use lib.Signed.{lt_z}
-use Rattle.std.proofs.lemmas.Int.{ints}
-use Rattle.std.proofs.lemmas.Bool.{le-leb, lt-leb, eq-eqb, eqb-true}
-use Rattle.calc_algebra.specs.Clean.{is_clean, IsClean}
-use Rattle.calc_terms.specs.declared.kind.Kind.TheVariants as kind
-use Rattle.calc_terms.specs.declared.rat.Rat.{Rat}
-use Rattle.calc_terms.specs.Fractions.{Fraction, one_fraction, is_one_fraction, whole_fraction, lowest}
-use Rattle.calc_terms.specs.Gcd.{gcd}
-use Rattle.calc_algebra.specs.Numbers.{is_number, is_term, is_radicand, natural_of, are_terms, rises, terms_of}
-use Rattle.calc_terms.specs.Rat.{ratio_of, value_of}
-use Rattle.calc_terms.specs.Trees.{Tree, num, symbol, undef, add, mult, power, root, neg, sub, div, count, root_kind, is_add}
-use Rattle.calc_terms.proofs.FractionFacts.{one_test, whole_numerator, whole_denominator}
-use Rattle.calc_algebra.proofs.NumberLaws.{clean_test, clean_words}
+use Rattle.number_forms.proofs.Shared.{ints, le-leb, lt-leb, eq-eqb, eqb-true, is_clean, IsClean, Rat, Fraction, one_fraction, is_one_fraction, whole_fraction, lowest, gcd, is_number, is_term, is_radicand, natural_of, are_terms, rises, terms_of, ratio_of, value_of, Tree, num, symbol, undef, add, mult, power, root, neg, sub, div, count, root_kind, is_add, one_test, whole_numerator, whole_denominator, clean_test, clean_words, children_of}
 use Rattle.number_forms.proofs.Shaped.{length-terms_of}
 use Rattle.number_forms.proofs.TermTrees.{is_one_value, not_one_num, not_one_den}
-use Rattle.tree_handles.specs.Expressions.{children_of}
+use lib.Signed.{lt_z}
+use Rattle.calc_terms.specs.declared.kind.Kind.TheVariants as kind
 
 -- ---- by kind
 

@@ -1,15 +1,9 @@
 -- Of a reduced tree the shape tells whether it is a Number.
 use Rattle.std.proofs.Common.{◌≡◌, ◌≢◌, ℕ, zero, suc, ◌≤◌, ◌<◌, ◌⊎◌, inl, inr, Bool, true, false, not, ◌&&◌, ◌||◌, if◌then◌else◌, length, refl, sym, ap, ◌∙◌, subst, arith}
 use Rattle.std.specs.Prelude.{nat_le}
-use Rattle.std.proofs.lemmas.Bool.{and_parts, and_from, le-leb, leb-true, not-true}
-use Rattle.calc_terms.specs.declared.kind.Kind.TheVariants as kind
-use Rattle.calc_terms.specs.Fractions.{Fraction, is_zero_fraction, is_one_fraction}
-use Rattle.calc_algebra.specs.Numbers.{is_number, is_term, is_radicand, are_terms, rises, terms_of}
-use Rattle.calc_algebra.specs.Reduced.{is_reduced, has_form, sum_form, product_form, front_form, all_parts, all_parts_of, none_is, number_terms, other_terms, rises_by, part_of, base_of, split_product, is_undistributed}
-use Rattle.calc_terms.specs.Trees.{Tree, num, undef, add, mult, root, Trees, none, more, count, has_two, is_add, is_mult, is_undef, root_kind}
-use Rattle.number_forms.specs.Shapes.{has_term_shape}
+use Rattle.number_forms.proofs.Shared.{and_parts, and_from, le-leb, leb-true, not-true, Fraction, is_zero_fraction, is_one_fraction, is_number, is_term, is_radicand, are_terms, rises, terms_of, is_reduced, has_form, sum_form, product_form, front_form, all_parts, all_parts_of, none_is, number_terms, other_terms, rises_by, part_of, base_of, split_product, is_undistributed, Tree, num, undef, add, mult, root, Trees, none, more, count, has_two, is_add, is_mult, is_undef, root_kind, has_term_shape, nth}
 use Rattle.number_forms.proofs.Shaped.{length-terms_of}
-use Rattle.tree_handles.specs.Expressions.{nth}
+use Rattle.calc_terms.specs.declared.kind.Kind.TheVariants as kind
 
 true_or_false : (b : Bool) → (b ≡ true) ⊎ (b ≡ false)
 true_or_false true = inl refl

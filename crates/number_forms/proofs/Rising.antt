@@ -1,12 +1,7 @@
 -- Terms, tested one by one.
 use Rattle.std.proofs.Common.{◌≡◌, ℕ, zero, suc, ◌+◌, ◌<◌, ◌≤◌, Bool, true, false, ◌&&◌, not, nat_lt, refl, sym, ap, ◌∙◌, arith, add-one}
-use Rattle.std.proofs.lemmas.Bool.{and_parts}
-use Rattle.calc_algebra.specs.Numbers.{is_term, are_terms, is_below_all, rises, terms_of, term_of}
-use Rattle.calc_algebra.specs.SquareClasses.{are_alike}
-use Rattle.calc_algebra.specs.Surds.{Term}
-use Rattle.calc_terms.specs.Trees.{Trees, none, more, count}
-use Rattle.number_forms.specs.Sums.{trees_from}
-use Rattle.tree_handles.specs.Expressions.{nth}
+use Rattle.number_forms.proofs.Shared.{and_parts, is_term, are_terms, is_below_all, rises, terms_of, are_alike, Term, Trees, none, more, count, trees_from, nth}
+use Rattle.calc_algebra.specs.Numbers.{term_of}
 
 pub from_next : (ts : Trees) (n : ℕ) → n < count ts → trees_from n ts ≡ more (nth n ts) (trees_from (n + 1) ts)
 from_next ts n l = by ts n l ∙ ap (λ (k : ℕ). more (nth n ts) (trees_from k ts)) (sym (add-one n))

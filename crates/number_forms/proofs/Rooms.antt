@@ -1,44 +1,13 @@
 -- How many bytes stand while Numbers are added, multiplied and raised, and for how few at hand a call is refused.
 use Rattle.std.proofs.Common.{◌≡◌, ℕ, zero, suc, ◌+◌, ◌*◌, ◌^◌, ◌<◌, ◌≤◌, List, length, [], ◌∷◌, ◌++◌, Bool, true, false, pos, Some, Result, Ok, Err, sym, ap, ◌∙◌, subst, arith}
 use Rattle.std.specs.Prelude.{IfOk, IfErr, slice_get, ◌==◌, if◌then◌else◌}
-use Rattle.std.proofs.lemmas.Nat.{pow_pos}
-use Rattle.calc_terms.specs.Fractions.{Fraction, plus, times, negative, zero_fraction, one_fraction, is_one_fraction, whole_fraction, plus_comm, plus_assoc}
-use Rattle.calc_terms.specs.FractionLaws.{times_comm, times_plus, zero_plus, zero_times, one_times, plus_negative}
-use Rattle.calc_terms.specs.Trees.{Tree, num, root, mult, add, none, more, size, sizes}
-use Rattle.calc_terms.proofs.Sizes.{num_most}
-use Rattle.calc_algebra.specs.Numbers.{is_number, value, terms_of, classes}
-use Rattle.calc_algebra.specs.SquareClasses.{class_coefficient, Same}
-use Rattle.calc_algebra.specs.Surds.{Term, Surd, surd_scale, surd_times, surd_power}
-use Rattle.calc_algebra.proofs.NumberClasses.{terms_proper}
-use Rattle.calc_algebra.proofs.NumberLaws.{number_words}
-use Rattle.calc_algebra.proofs.SquareClassLaws.{Same-Agree}
-use Rattle.calc_algebra.proofs.SurdLaws.{Agree-Same, class_coefficient-append, class_coefficient-surd_scale}
-use Rattle.calc_room.specs.Needs.{sum_need, product_need, power_need, inverse_need}
-use Rattle.calc_room.specs.Spans.{IsSpanned, Spans, SpansTree}
+use Rattle.number_forms.proofs.Shared.{pow_pos, Fraction, plus, times, negative, zero_fraction, one_fraction, is_one_fraction, whole_fraction, plus_comm, plus_assoc, times_comm, times_plus, zero_plus, zero_times, one_times, plus_negative, Tree, num, root, mult, add, none, more, size, sizes, num_most, is_number, value, terms_of, classes, class_coefficient, Same, Term, Surd, surd_scale, surd_times, surd_power, terms_proper, number_words, Same-Agree, Agree-Same, class_coefficient-append, class_coefficient-surd_scale, sum_need, product_need, power_need, inverse_need, IsSpanned, Spans, SpansTree, spans_append, spans_scale, spans_same_terms, value_spanned, sum_spanned, product_spanned, power_spanned, inverse_spanned, State, free_of, Full, IsNumberOf, inverse_trees, IsInverseOf, LacksInverse, OfFull, terms_from, joining_need, raising_need, term_tree, IsSum, IsSumOf, replaced_free, inverse_of, first_of_inverse, second_of_inverse, children_of, Forest, tree_of, IsHanded, Gives, Stands, forest, NumberFault, given_told}
 use Rattle.calc_room.proofs.NumberBytes.{number_bytes, partial_bytes}
-use Rattle.calc_room.proofs.NumberSpans.{spans_append, spans_scale, spans_same_terms, value_spanned, sum_spanned, product_spanned, power_spanned, inverse_spanned}
-use Rattle.node_pool.specs.State.{State, free_of}
-use Rattle.node_pool.specs.declared.full.Full.{Full}
-use Rattle.number_forms.specs.Answers.{IsNumberOf}
-use Rattle.number_forms.specs.Inverses.{inverse_trees, IsInverseOf, LacksInverse}
-use Rattle.tree_handles.specs.Lacking.{OfFull}
-use Rattle.number_forms.specs.Overflows.{terms_from}
-use Rattle.number_forms.specs.Rooms.{joining_need, raising_need}
-use Rattle.number_forms.specs.Shapes.{term_tree}
-use Rattle.number_forms.specs.Sums.{IsSum, IsSumOf}
-use Rattle.tree_handles.proofs.FreeBytes.{replaced_free}
 use Rattle.number_forms.proofs.LastSums.{sum_is}
 use Rattle.number_forms.proofs.Loops.{IsSumWith, IsJoined}
 use Rattle.number_forms.proofs.Placings.{lacking_below}
 use Rattle.number_forms.proofs.SumChanges.{sum_value}
-use Rattle.surd_terms.specs.Inverses.{inverse_of, first_of_inverse, second_of_inverse}
-use Rattle.tree_handles.specs.Expressions.{children_of}
-use Rattle.tree_handles.specs.Forest.{Forest}
-use Rattle.tree_handles.specs.Handed.{tree_of, IsHanded, Gives}
-use Rattle.tree_handles.specs.Standing.{Stands, forest}
-use Rattle.tree_handles.specs.declared.fault.NumberFault.{NumberFault}
 use Rattle.tree_handles.specs.declared.fault.NumberFault.TheVariants as fault
-use Rattle.tree_handles.proofs.Given.{given_told}
 
 -- ---- facts of a refusal
 

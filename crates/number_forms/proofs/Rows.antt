@@ -1,16 +1,9 @@
 -- Rows of products, as they are joined or refused.
 use Rattle.std.proofs.Common.{◌≡◌, ℕ, [], ◌∷◌, ◌++◌, map, refl, ap, subst}
-use Rattle.calc_algebra.specs.SquareClasses.{Same}
-use Rattle.calc_algebra.specs.Numbers.{value}
-use Rattle.calc_algebra.specs.Surds.{Term, Surd, term_times}
-use Rattle.calc_terms.specs.Trees.{Tree}
-use Rattle.number_forms.specs.Overflows.{terms_from, JoinOverflows, ProductJoinOverflows}
-use Rattle.number_forms.specs.Sums.{IsSumOf}
+use Rattle.number_forms.proofs.Shared.{Same, value, Term, Surd, term_times, Tree, terms_from, JoinOverflows, ProductJoinOverflows, IsSumOf, Overflow, IsExtracted}
 use Rattle.number_forms.proofs.Denominators.{parts_extracted}
 use Rattle.number_forms.proofs.Loops.{IsSumWith}
 use Rattle.number_forms.proofs.Worth.{same_first}
-use Rattle.rational128.specs.declared.overflow.Overflow.{Overflow}
-use Rattle.surd_terms.specs.Products.{IsExtracted}
 
 -- a product of the row is not joined to the sum so far
 pub product_join_overflows : {v w left : Surd} {x y : Term} {at : ℕ} {o : Overflow} → left ≡ terms_from at w → (p : Term) (t : Tree) → IsExtracted p (term_times x y) → IsSumWith (map (term_times x) left) (v ++ map (term_times x) w) t → JoinOverflows t p o → ProductJoinOverflows v x w at y o

@@ -1,18 +1,9 @@
 -- Numbers from sums of terms, and sums of terms from Numbers.
 use Rattle.std.proofs.Common.{◌≡◌, ◌≢◌, ℕ, zero, suc, ◌≤◌, ◌<◌, [], ◌∷◌, length, Some, Bool, true, if◌then◌else◌, refl, sym, ap, ◌∙◌, subst, arith}
 use Rattle.std.specs.Prelude.{slice_get, pos}
-use Rattle.calc_terms.specs.Fractions.{Fraction, lowest}
-use Rattle.calc_terms.specs.Integers.{int_is_zero}
-use Rattle.calc_algebra.specs.Numbers.{IsNumber, IsTerm, AreTerms, Rises, is_number, term_of, terms_of, value}
-use Rattle.calc_algebra.specs.Surds.{Surd, surd_of}
-use Rattle.calc_terms.specs.Trees.{Tree, num, symbol, undef, add, mult, power, root, neg, sub, div, Trees, none, more, count}
-use Rattle.calc_terms.proofs.FractionFacts.{zero_test, whole_numerator}
-use Rattle.calc_algebra.proofs.NumberLaws.{number_test, number_words}
-use Rattle.calc_algebra.proofs.TermLaws.{Same-refl, Same-eq}
-use Rattle.number_forms.specs.Answers.{IsNumberOver}
-use Rattle.number_forms.specs.Sums.{IsSum, IsSumOf}
+use Rattle.number_forms.proofs.Shared.{Fraction, lowest, int_is_zero, IsNumber, IsTerm, AreTerms, Rises, is_number, terms_of, value, Surd, surd_of, Tree, num, symbol, undef, add, mult, power, root, neg, sub, div, Trees, none, more, count, zero_test, whole_numerator, number_test, number_words, Same-refl, Same-eq, IsNumberOver, IsSum, IsSumOf, nth, children_of}
+use Rattle.calc_algebra.specs.Numbers.{term_of}
 use Rattle.number_forms.proofs.Denominators.{shares_eq}
-use Rattle.tree_handles.specs.Expressions.{nth, children_of}
 
 pub length-terms_of : (ts : Trees) → length (terms_of ts) ≡ count ts
 length-terms_of none = refl

@@ -1,25 +1,17 @@
 -- Sums of terms whose radicands are so small that each class has one.
 use Rattle.std.proofs.Common.{◌∷◌, [], ◌≡◌, ℕ, zero, suc, ◌-◌, ◌<◌, ◌≤◌, ◌^◌, ◌⊎◌, inl, inr, false, refl, sym, ap, ◌∙◌, subst, arith}
-use Rattle.std.proofs.lemmas.Bool.{false_from_ne_true}
-use Rattle.calc_algebra.specs.Clean.{IsClean}
-use Rattle.calc_algebra.specs.Numbers.{IsBelowAll, Rises, term_of, terms_of}
-use Rattle.calc_algebra.specs.SquareClasses.{are_alike}
-use Rattle.calc_algebra.specs.Surds.{Term}
-use Rattle.calc_bits.specs.Denominators.{SharesDenominators}
-use Rattle.calc_terms.specs.Trees.{Tree, Trees, none, more, add, count}
+use Rattle.number_forms.proofs.Shared.{false_from_ne_true, IsClean, IsBelowAll, Rises, terms_of, are_alike, Term, SharesDenominators, Tree, Trees, none, more, add, count, IsSum, IsApart, IsPlace, AreBelow, joined_den, nth, children_of}
+use Rattle.calc_algebra.specs.Numbers.{term_of}
 use Rattle.calc_algebra.proofs.CleanLaws.{IsSquareFree, clean_square_free, alike_square_free}
 use Rattle.calc_algebra.proofs.NumberUniqueness.{term_simplest}
-use Rattle.number_forms.specs.Sums.{IsSum, IsApart, IsPlace, AreBelow}
 use Rattle.number_forms.proofs.Joined.{apart_each, apart_turned}
 use Rattle.number_forms.proofs.LastSums.{sum_is}
 use Rattle.number_forms.proofs.Shaped.{nth_is_term}
-use Rattle.surd_bits.proofs.Steps.{joined_den}
 use Rattle.surd_terms.specs.Sums.{Joins, IfTerm, IsSum as IsSumOfTwo}
 use Rattle.surd_terms.specs.Terms.{term_of as term_of_code}
 use Rattle.surd_terms.specs.declared.term.Term.{Term as CodeTerm}
 use Rattle.surd_terms.specs.declared.sums.Joined.{Joined}
 use Rattle.surd_terms.specs.declared.sums.Joined.TheVariants as joined
-use Rattle.tree_handles.specs.Expressions.{nth, children_of}
 
 -- ---- a term that was read
 

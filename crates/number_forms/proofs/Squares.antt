@@ -1,16 +1,6 @@
 -- The square of a sum of terms, in which each mixed product stands once: what it is worth, how large it is and what spans it.
 use Rattle.std.proofs.Common.{◌≡◌, ℕ, ◌+◌, ◌*◌, ◌^◌, ◌≤◌, List, [], ◌∷◌, ◌++◌, map, ap, ◌∙◌, arith, append_assoc}
-use Rattle.calc_algebra.specs.SquareClasses.{Same}
-use Rattle.calc_algebra.specs.Surds.{Term, Surd, term, term_times, surd_times}
-use Rattle.calc_algebra.proofs.SurdLaws.{Agree, Agree-refl, Agree-trans, Agree-eq, Agree-append, Agree-Same, surd_times_comm}
-use Rattle.calc_bits.specs.Denominators.{Parts, SharesDenominators}
-use Rattle.calc_bits.specs.Masses.{term_mass, mass_from, mass, IsHeld}
-use Rattle.calc_bits.proofs.MassLaws.{mass-append, parts_append}
-use Rattle.calc_bits.proofs.Parts.{parts_left, parts_right}
-use Rattle.calc_room.specs.Spans.{IsSpanned, Spans}
-use Rattle.calc_room.proofs.NumberSpans.{spans_append, spans_row}
-use Rattle.calc_terms.specs.FractionLaws.{times_comm}
-use Rattle.number_forms.specs.Squares.{twice, square_row, square_terms}
+use Rattle.number_forms.proofs.Shared.{Same, Term, Surd, term, term_times, surd_times, Agree, Agree-refl, Agree-trans, Agree-eq, Agree-append, Agree-Same, surd_times_comm, Parts, SharesDenominators, term_mass, mass_from, mass, IsHeld, mass-append, parts_append, parts_left, parts_right, IsSpanned, Spans, spans_append, spans_row, times_comm, twice, square_row, square_terms}
 use Rattle.number_forms.proofs.Twice.{twice_agrees, whole_twice, twice_mass}
 use native.Mathlib.Nat.{mul_comm}
 

@@ -1,16 +1,7 @@
 -- A sum that stands last: as it is read, with a term more, and with a term less.
 use Rattle.std.proofs.Common.{◌≡◌, ℕ, ◌<◌, [], ◌∷◌, ◌++◌, true, refl, sym, ap, ◌∙◌, subst}
-use Rattle.calc_algebra.specs.Numbers.{IsTerm, AreTerms, Rises, is_term, term_of, terms_of, value}
-use Rattle.calc_algebra.specs.SquareClasses.{Same, are_alike}
-use Rattle.calc_algebra.specs.Surds.{Term, Surd}
-use Rattle.calc_bits.specs.Denominators.{AreWholeOver, Parts, SharesDenominators}
-use Rattle.calc_terms.specs.Trees.{Tree, Trees, none, more, add, count}
-use Rattle.calc_algebra.proofs.NumberClasses.{IsProper}
-use Rattle.calc_algebra.proofs.NumberLaws.{term_words}
-use Rattle.calc_algebra.proofs.SquareClassLaws.{Same-trans}
-use Rattle.calc_algebra.proofs.TermLaws.{Same-refl, Same-eq, Same-cons, Same-append, Same-to_front}
-use Rattle.node_pool.specs.State.{State}
-use Rattle.number_forms.specs.Sums.{IsSum, IsSumOf, IsApart, IsPlace, removed}
+use Rattle.number_forms.proofs.Shared.{IsTerm, AreTerms, Rises, is_term, terms_of, value, Same, are_alike, Term, Surd, AreWholeOver, Parts, SharesDenominators, Tree, Trees, none, more, add, count, IsProper, term_words, Same-trans, Same-refl, Same-eq, Same-cons, Same-append, Same-to_front, State, IsSum, IsSumOf, IsApart, IsPlace, removed, nth, plain, children_of, inserted, IsExpression, Forest, arity, kids, with_nth, without_nth, tree_nth, IsHanded, Represents, Ends, Gives, tree_at, kids_of, has_root, root_tree, without_root, put, Stands, forest, represents_handed, represents_with, given_root, given_handed, given_told, given_rest, given_same, last_tree, last_rest, expression_root, plain_root}
+use Rattle.calc_algebra.specs.Numbers.{term_of}
 use Rattle.number_forms.specs.Joins.{IsMatch}
 use Rattle.number_forms.specs.declared.joining.Match.{Match}
 use Rattle.number_forms.proofs.ByKind.{children_number}
@@ -19,14 +10,6 @@ use Rattle.number_forms.proofs.Joined.{are_inserted, rises_inserted, same_insert
 use Rattle.number_forms.proofs.LastSums.{kids_represented, represents_without, sum_is, resum, gives_at}
 use Rattle.number_forms.proofs.Shaped.{nth_is_term}
 use Rattle.number_forms.proofs.TermTrees.{term_test}
-use Rattle.tree_handles.specs.Expressions.{nth, plain, children_of, inserted, IsExpression}
-use Rattle.tree_handles.specs.Forest.{Forest, arity, kids, with_nth, without_nth, tree_nth}
-use Rattle.tree_handles.specs.Handed.{IsHanded, Represents, Ends, Gives}
-use Rattle.tree_handles.specs.Inside.{tree_at, kids_of}
-use Rattle.tree_handles.specs.Roots.{has_root, root_tree, without_root, put}
-use Rattle.tree_handles.specs.Standing.{Stands, forest}
-use Rattle.tree_handles.proofs.Given.{represents_handed, represents_with, given_root, given_handed, given_told, given_rest, given_same}
-use Rattle.tree_handles.proofs.Lasts.{last_tree, last_rest, expression_root, plain_root}
 
 -- ---- as it is read
 

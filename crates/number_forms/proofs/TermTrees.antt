@@ -1,24 +1,11 @@
 -- Terms as trees, and trees as terms.
 use Rattle.std.proofs.Common.{◌≡◌, ◌≢◌, ℕ, ◌≤◌, ◌<◌, inl, inr, Bool, true, false, not, length, [], if◌then◌else◌, Result, Ok, Err, refl, sym, ap, ◌∙◌, arith}
 use Rattle.std.specs.Prelude.{ℤ, pos, nat_abs, IfOk}
-use Rattle.calc_algebra.specs.Clean.{IsClean}
-use Rattle.calc_terms.specs.declared.kind.Kind.TheVariants as kind
-use Rattle.calc_terms.specs.declared.rat.Rat.{Rat}
-use Rattle.calc_terms.specs.Fractions.{Fraction, lowest, zero_fraction, one_fraction, whole_fraction, fraction_path}
-use Rattle.calc_algebra.specs.Numbers.{IsTerm, IsRadicand, is_term, is_number, natural_of, term_of, value, classes}
-use Rattle.calc_terms.specs.Rat.{ratio_of, value_of}
+use Rattle.number_forms.proofs.Shared.{IsClean, Rat, Fraction, lowest, zero_fraction, one_fraction, whole_fraction, fraction_path, IsTerm, IsRadicand, is_term, is_number, natural_of, value, classes, ratio_of, value_of, Term, term, surd_of, Tree, num, symbol, undef, add, mult, power, root, neg, sub, div, none, more, root_kind, is_add, zero_test, whole_numerator, whole_denominator, number_test, number_words, int_is_zero, is_zero, ratio_parts, Forest, Gives, gives_as}
+use Rattle.calc_algebra.specs.Numbers.{term_of}
 use Rattle.calc_terms.specs.Ratio.{Ratio, whole}
-use Rattle.calc_algebra.specs.Surds.{Term, term, surd_of}
-use Rattle.calc_terms.specs.Trees.{Tree, num, symbol, undef, add, mult, power, root, neg, sub, div, none, more, root_kind, is_add}
-use Rattle.calc_terms.proofs.FractionFacts.{zero_test, whole_numerator, whole_denominator}
-use Rattle.calc_algebra.proofs.NumberLaws.{number_test, number_words}
 use Rattle.calc_algebra.proofs.NumberShapes.{AsNumber, as_number}
-use Rattle.calc_terms.specs.Integers.{int_is_zero}
-use Rattle.number_forms.specs.Readers.{is_zero}
-use Rattle.rational128.proofs.LowestTerms.{ratio_parts}
-use Rattle.tree_handles.specs.Forest.{Forest}
-use Rattle.tree_handles.specs.Handed.{Gives}
-use Rattle.tree_handles.proofs.Given.{gives_as}
+use Rattle.calc_terms.specs.declared.kind.Kind.TheVariants as kind
 
 pub term_test : (t : Tree) → IsTerm t → is_term t ≡ true
 unfolding is_number

@@ -1,35 +1,12 @@
 -- Terms that are added to themselves, and what that does to their products.
 use Rattle.std.proofs.Common.{◌≡◌, ◌≢◌, ℕ, ◌+◌, ◌*◌, ◌/◌, ◌^◌, ◌≤◌, ◌<◌, ◌⊎◌, inl, inr, ◌*ℤ◌, max, [], ◌∷◌, ◌++◌, map, true, pos, refl, sym, ap, ◌∙◌, subst, arith}
 use Rattle.std.specs.Prelude.{nat_abs}
-use Rattle.std.specs.Int.{IsGcd, ◌∣◌}
-use Rattle.std.proofs.lemmas.Int.{unsigned_abs-mul}
-use Rattle.std.proofs.lemmas.Nat.{mul-le}
+use Rattle.number_forms.proofs.Shared.{IsGcd, unsigned_abs-mul, mul-le, dvd-mul_right, Term, Surd, term_times, class_coefficient, IsProper, Agree, class_coefficient-append, class_coefficient-map, AreWholeOver, magnitude_over, root_above, term_mass, mass_from, sum_fits_over, abs_cross, cancel_right, coprime, multiple_den, over_den, plus_over, root_scale, sum_fits, times_comm, times_plus, one_times, Fraction, lowest, plus, times, one_fraction, zero_fraction, whole_fraction, times_lowest, den_pos, mul_pos, gauss, value_of, whole_numerator, twice, DoesNotFit, ratio_parts, magnitude_whole, magnitude_positive, IsExtracted, term_of}
+use Rattle.std.specs.Int.{◌∣◌}
 use Rattle.std.proofs.lemmas.Nat.Gcd.{le_of_dvd, dvd_refl}
-use Rattle.std.proofs.Math.Nat.{dvd-mul_right}
-use Rattle.calc_algebra.specs.Surds.{Term, Surd, term_times}
-use Rattle.calc_algebra.specs.SquareClasses.{class_coefficient}
-use Rattle.calc_algebra.proofs.NumberClasses.{IsProper}
-use Rattle.calc_algebra.proofs.SurdLaws.{Agree, class_coefficient-append, class_coefficient-map}
-use Rattle.calc_bits.specs.Denominators.{AreWholeOver, magnitude_over}
-use Rattle.calc_bits.specs.Masses.{root_above, term_mass, mass_from}
-use Rattle.calc_bits.proofs.Fitting.{sum_fits_over}
-use Rattle.calc_bits.proofs.Quotients.{abs_cross, cancel_right, coprime, multiple_den, over_den, plus_over}
-use Rattle.calc_bits.proofs.RootsAbove.{root_scale}
-use Rattle.calc_terms.specs.Fits.{sum_fits}
-use Rattle.calc_terms.specs.FractionLaws.{times_comm, times_plus, one_times}
-use Rattle.calc_terms.specs.Fractions.{Fraction, lowest, plus, times, one_fraction, zero_fraction, whole_fraction, times_lowest, den_pos, mul_pos}
-use Rattle.calc_terms.specs.Gcd.{gauss}
-use Rattle.calc_terms.specs.Rat.{value_of}
-use Rattle.calc_terms.proofs.FractionFacts.{whole_numerator}
-use Rattle.number_forms.specs.Squares.{twice}
-use Rattle.rational128.specs.Refusals.{DoesNotFit}
-use Rattle.rational128.specs.declared.overflow.Op.TheVariants as Op
-use Rattle.rational128.proofs.LowestTerms.{ratio_parts}
 use Rattle.rational128.proofs.Coprime.{IsCoprime, IsCoprime-from_gcd, IsGcd-from_coprime, IsCoprime-swap, IsCoprime-mul}
-use Rattle.surd_bits.proofs.Bounds.{magnitude_whole, magnitude_positive}
-use Rattle.surd_terms.specs.Products.{IsExtracted}
-use Rattle.surd_terms.specs.Terms.{term_of}
 use Rattle.surd_terms.specs.declared.term.Term.{Term as CodeTerm}
+use Rattle.rational128.specs.declared.overflow.Op.TheVariants as Op
 
 -- ---- fractions
 

@@ -1,37 +1,16 @@
 -- No operation overflows on Numbers whose sum, product, power or inverse has few bits.
 use Rattle.std.proofs.Common.{◌≡◌, ℕ, zero, suc, ◌+◌, ◌*◌, ◌/◌, ◌^◌, ◌≤◌, ◌<◌, [], ◌∷◌, ◌++◌, Bool, true, false, Some, None, inl, inr, pos, map, max, if◌then◌else◌, refl, sym, ap, ◌∙◌, subst, arith, append_assoc}
 use Rattle.std.specs.Prelude.{slice_get}
-use Rattle.calc_algebra.specs.Numbers.{Rises, is_number, term_of, terms_of, value}
-use Rattle.calc_algebra.specs.SquareClasses.{Same}
-use Rattle.calc_algebra.specs.Surds.{Term, Surd, term_times, surd_times}
-use Rattle.calc_algebra.proofs.NumberClasses.{IsProper, AreProper, terms_proper, value_proper, value_rises}
-use Rattle.calc_algebra.proofs.NumberLaws.{number_words}
-use Rattle.calc_algebra.proofs.SurdLaws.{map-append', surd_times-append}
-use Rattle.calc_bits.specs.Bounds.{HasFewBits}
-use Rattle.calc_bits.specs.Denominators.{SharesDenominators, magnitude_over}
-use Rattle.calc_bits.specs.Masses.{root_above, term_mass, mass, IsHeld}
-use Rattle.calc_bits.proofs.NoLarger.{held_so_far}
-use Rattle.calc_bits.proofs.Parts.{held_left, held_right, held_pair}
-use Rattle.calc_terms.specs.Gcd.{gcd}
-use Rattle.calc_terms.specs.Fractions.{whole_fraction}
-use Rattle.calc_terms.specs.Trees.{Tree, add, count}
-use Rattle.number_forms.specs.Overflows.{terms_from, SumOverflows, RowOverflows, ProductOverflows, InverseOverflows, inverting_calculations}
-use Rattle.number_forms.specs.Sums.{IsSum}
+use Rattle.number_forms.proofs.Shared.{Rises, is_number, terms_of, value, Same, Term, Surd, term_times, surd_times, IsProper, AreProper, terms_proper, value_proper, value_rises, number_words, map-append', surd_times-append, HasFewBits, SharesDenominators, magnitude_over, root_above, term_mass, mass, IsHeld, held_so_far, held_left, held_right, held_pair, gcd, whole_fraction, Tree, add, count, terms_from, SumOverflows, RowOverflows, ProductOverflows, InverseOverflows, inverting_calculations, IsSum, Overflow, Calculation, calculation, calculation_of, first_misfit, has_rational, radicand_calculations, joining_calculations, IsProductMisfit, IsExtracted, magnitude_whole, radicands_fit, extracted_fits, extracted_den, children_of, nth}
+use Rattle.calc_algebra.specs.Numbers.{term_of}
 use Rattle.number_forms.proofs.LastSums.{sum_is}
 use Rattle.number_forms.proofs.Shaped.{nth_of_terms}
 use Rattle.number_forms.proofs.SumChanges.{sum_value}
 use Rattle.number_forms.proofs.Worth.{from_next, products_next}
 use Rattle.rational128.specs.declared.overflow.Op.TheVariants.{Mul}
-use Rattle.rational128.specs.declared.overflow.Overflow.{Overflow}
-use Rattle.surd_terms.specs.Calculations.{Calculation, calculation, calculation_of, first_misfit, has_rational, radicand_calculations, joining_calculations, IsProductMisfit}
-use Rattle.surd_terms.specs.Products.{IsExtracted}
-use Rattle.surd_bits.proofs.Bounds.{magnitude_whole}
 use Rattle.surd_bits.proofs.InversesFit.{inverse_fits, inverse_of_sum_fits}
 use Rattle.surd_bits.proofs.JoinsFit.{joins_fit}
 use Rattle.surd_bits.proofs.Passed.{passed}
-use Rattle.surd_bits.proofs.ProductsFit.{radicands_fit, extracted_fits}
-use Rattle.surd_bits.proofs.Steps.{extracted_den}
-use Rattle.tree_handles.specs.Expressions.{children_of, nth}
 
 -- ---- lists by places
 

@@ -1,12 +1,8 @@
 -- What a sum is worth, from one joined term to the next.
 use Rattle.std.proofs.Common.{◌≡◌, ℕ, zero, suc, ◌-◌, ◌≤◌, [], ◌∷◌, ◌++◌, Some, length, map, refl, ap, ◌∙◌, subst, append_assoc, arith}
 use Rattle.std.specs.Prelude.{slice_get}
+use Rattle.number_forms.proofs.Shared.{Same, Term, Surd, term_times, surd_times, Same-trans, Same-Agree, Agree-sym, Agree-Same, Same-refl, Same-eq, Same-append, Same-append_comm, Same-to_front}
 pub use Rattle.number_forms.specs.Overflows.{terms_from}
-use Rattle.calc_algebra.specs.SquareClasses.{Same}
-use Rattle.calc_algebra.specs.Surds.{Term, Surd, term_times, surd_times}
-use Rattle.calc_algebra.proofs.SquareClassLaws.{Same-trans, Same-Agree}
-use Rattle.calc_algebra.proofs.SurdLaws.{Agree-sym, Agree-Same}
-use Rattle.calc_algebra.proofs.TermLaws.{Same-refl, Same-eq, Same-append, Same-append_comm, Same-to_front}
 
 pub Same-sym : {v w : Surd} → Same v w → Same w v
 Same-sym h = Agree-Same (Agree-sym (Same-Agree h))

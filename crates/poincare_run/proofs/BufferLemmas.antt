@@ -1,10 +1,7 @@
 -- Lemmas on what is kept of a line.
 use Rattle.std.proofs.Common.{◌≡◌, ◌∙◌, ℕ, ◌-◌, List, [], ◌∷◌, ◌++◌, length, true, false, cond, nat_eq, get_or, take, sym, ap, arith, append-nil, length-append}
+use Rattle.poincare_run.proofs.Shared.{eqb-true, strip_carriage_return, LineBuffer, Holds, StandsFor, return_if}
 use Rattle.std.proofs.Math.Seq.{get_or-append_seam, take-append_seam}
-use Rattle.std.proofs.lemmas.Bool.{eqb-true}
-use Rattle.std.specs.Str.Lines.{strip_carriage_return}
-use Rattle.poincare_run.specs.declared.buffer.LineBuffer.{LineBuffer}
-use Rattle.poincare_run.specs.Buffer.{Holds, StandsFor, return_if}
 
 -- a line that ends in no carriage return is left as it is
 pub strip-plain : (bytes : List ℕ) (b : ℕ) → nat_eq b 13 ≡ false → strip_carriage_return (bytes ++ b ∷ []) ≡ bytes ++ b ∷ []

@@ -1,29 +1,15 @@
 -- The matches of the command line give the options that its words ask for.
 use Rattle.std.proofs.Common.{◌≡◌, ◌∙◌, ℕ, zero, suc, ◌≤◌, ◌||◌, List, [], ◌∷◌, ◌++◌, length, Bool, true, false, Option, Some, None, is_some, nat_lt, lt-ltb, if◌then◌else◌, ◌⊎◌, inl, inr, refl, sym, ap, ap₂, subst, codes, arith, append-nil, ◌↔◌}
-use Rattle.std.specs.List.{find, fold, list_any}
-use Rattle.std.specs.Option.{option_and_then, option_map}
-use Rattle.std.specs.Str.{bytes_eq}
+use Rattle.poincare_run.proofs.Shared.{find, fold, list_any, option_and_then, option_map, bytes_eq, Row, Text, Walk, first_of, has_row, more_values, one_of, row_text, rows_of, settled, nothing_held, walk, with_default, App, HasMatchesOf, built, entered, is_simple, matches_of, HasKind, IsAmong, Kinds, or_else, default_fault, defaults_fault, entered_fault, fault_of, is_simple_and_free, level_fault, settle_fault, walk_fault, first_value-rows, one_text-rows, AsWritten, DefaultValue, value_of, Values, Options, command_line, number_in, values_named, Key, Pool, Interrupt, Generated, no_values, named_in, options_of, options_with, read, Setting, Spells, value, draw, draws_of, texts_of}
 use Rattle.clap.specs.Matches.{first_value, found_of, one_text}
 use Rattle.clap.specs.Values.{bool_text, kind_of}
-use Rattle.clap.specs.Walk.{Row, Text, Walk, first_of, has_row, more_values, one_of, row_text, rows_of, settled, nothing_held, walk, with_default}
-use Rattle.clap.specs.Simple.{App, HasMatchesOf, built, entered, is_simple, matches_of}
-use Rattle.clap.specs.Kinds.{HasKind, IsAmong, Kinds, or_else}
-use Rattle.clap.specs.Faults.{default_fault, defaults_fault, entered_fault, fault_of, is_simple_and_free, level_fault, settle_fault, walk_fault}
-use Rattle.clap.proofs.WalkLemmas.{first_value-rows, one_text-rows}
-use Rattle.clap.specs.declared.builder.value_parser.Reading.TheVariants.{AsWritten}
 use Rattle.clap.specs.declared.error.Error.{Error}
 use Rattle.clap.specs.declared.error.kind.ErrorKind.{ErrorKind}
-use Rattle.clap.specs.declared.error.kind.ErrorKind.TheVariants as kind
 use Rattle.clap.specs.declared.parser.matches.ArgMatches.{ArgMatches}
-use Rattle.clap.specs.declared.parser.matches.ValueSource.TheVariants.{DefaultValue}
-use Rattle.calc_commands.specs.Numbers.{value_of}
-use Rattle.poincare_run.specs.declared.words.Values.{Values}
-use Rattle.poincare_run.specs.declared.words.Options.{Options}
-use Rattle.poincare_run.specs.CommandLine.{command_line, number_in, values_named}
-use Rattle.poincare_run.specs.Options.{Key, Pool, Interrupt, Generated, no_values, named_in, options_of, options_with, read, settled as reading}
-use Rattle.poincare_run.specs.Settings.{Setting, Spells, value, draw, draws_of, texts_of}
+use Rattle.poincare_run.specs.Options.{settled as reading}
 use Rattle.poincare_run.proofs.SettingLemmas.{Drawn, Follows, Joined, drawn_uncons, followed, of_map, of_then, reads, same_options, spelled, taken}
 use Rattle.poincare_run.proofs.ClapLemmas.{AllNumbers, Once, Reads, Takes, absent, counted, draw_rule, end_of, four, free, id_of, is_separator, no_separator, of_either, of_else, read_words, rows_for, rule_for, shape, take_settings, walk_at}
+use Rattle.clap.specs.declared.error.kind.ErrorKind.TheVariants as kind
 
 -- ---- defaults
 

@@ -1,13 +1,6 @@
 -- Lemmas on the loop over the input, and how it ends.
 use Rattle.std.proofs.Common.{◌≡◌, ◌∙◌, ℕ, ◌-◌, ◌≤◌, ◌<◌, List, [], ◌++◌, length, Option, refl, ap, subst, arith, append_assoc, append-nil, length-append}
-use Rattle.std.specs.Io.KnownBytes.{Appends, Consumes, IsAtEnd, Keeps}
-use Rattle.poincare_run.specs.Lines.{lines_of, line_of_rest, whole_lines, rest_of}
-use Rattle.poincare_run.specs.Steps.{Moment}
-use Rattle.poincare_run.specs.Buffer.{Holds}
-use Rattle.poincare_run.specs.Endings.{session_limit, Writes, WritesPart, ReadsAll, ReadsPart, ReadsLimit, WriteStops}
-use Rattle.poincare_run.specs.Progress.{Answered, Continues, Breaks, Goes, IsUnderWay, Place}
-use Rattle.std.proofs.KnownBytes.{Appends-nil, Appends-trans, Consumes-nil, Consumes-trans, Consumes-kept}
-use Rattle.calc_edges.proofs.Parts.{AppendsPart-after}
+use Rattle.poincare_run.proofs.Shared.{Appends, Consumes, IsAtEnd, Keeps, lines_of, line_of_rest, whole_lines, rest_of, Moment, Holds, session_limit, Writes, WritesPart, ReadsAll, ReadsPart, ReadsLimit, WriteStops, Answered, Continues, Breaks, Goes, IsUnderWay, Place, Appends-nil, Appends-trans, Consumes-nil, Consumes-trans, Consumes-kept, AppendsPart-after}
 
 pub begins : (dialog : Place) (t k : Option (List ℕ)) → Holds dialog.line [] → IsUnderWay dialog.now t t k k session_limit dialog
 unfolding whole_lines rest_of

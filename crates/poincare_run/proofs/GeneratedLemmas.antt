@@ -1,6 +1,6 @@
 -- Lemmas on generated sessions.
 use Rattle.std.proofs.Common.{◌≡◌, ◌∙◌, ℕ, ◌+◌, ◌%◌, List, [], ◌∷◌, ◌++◌, refl, sym, ap, append_assoc, append-nil, add-one}
-use Rattle.poincare_run.specs.Generated.{digits_for, with_digits, next_seed, seed, first_lines, line_of}
+use Rattle.poincare_run.proofs.Shared.{digits_for, with_digits, next_seed, seed, first_lines, line_of}
 
 -- one byte of a pattern more
 pub with_digits-more : (a b : ℕ) (bytes : List ℕ) (byte : ℕ) → with_digits a b (bytes ++ byte ∷ []) ≡ with_digits a b bytes ++ digits_for a b byte

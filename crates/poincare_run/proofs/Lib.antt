@@ -10,3 +10,4 @@ pub mod StatusLemmas
 pub mod TallyLemmas
 pub mod GeneratedLemmas
 pub mod RoomLemmas
+pub mod Shared

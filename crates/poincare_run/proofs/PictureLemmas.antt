@@ -1,14 +1,7 @@
 -- Lemmas on what is written of pictures.
 use Rattle.std.proofs.Common.{◌≡◌, ◌∙◌, ◌++◌, ◌∷◌, ℕ, List, [], Bool, true, Option, Some, Result, Ok, Err, sym, ap, subst}
-use Rattle.std.specs.Io.KnownBytes.{Appends}
-use Rattle.calc_edges.specs.Taken.{AppendsPart}
-use Rattle.calc_session.specs.Drawing.{IsDrawn, IsDrawnInPart, rows_in}
-use Rattle.calc_session.specs.Replies.{full, text_of}
-use Rattle.calc_session.specs.States.{State}
-use Rattle.node_pool.specs.declared.full.Full.{Full}
-use Rattle.poincare_run.specs.Progress.{AnswersLine, FailsAtLine, Place, TakesLine}
-use Rattle.poincare_run.specs.Steps.{picture_if, picture_text, with_newline, written}
-use Rattle.calc_session.specs.declared.answers.LineAnswer.{LineAnswer}
+use Rattle.poincare_run.proofs.Shared.{Appends, AppendsPart, IsDrawnInPart, rows_in, full, text_of, State, Full, AnswersLine, FailsAtLine, Place, TakesLine, picture_if, picture_text, with_newline, written, LineAnswer}
+use Rattle.calc_session.specs.Drawing.{IsDrawn}
 
 abbrev text_for : Result (List ℕ) Full → List ℕ
 text_for r = elim r [ Ok rows ↦ rows | Err refusal ↦ with_newline (text_of (full refusal)) ]

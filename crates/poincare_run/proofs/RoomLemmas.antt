@@ -1,22 +1,15 @@
 -- In a session of the program, a line whose room is free is not refused for the pool.
 use Rattle.std.proofs.Common.{◌≡◌, ◌∙◌, ℕ, ◌+◌, ◌*◌, ◌^◌, ◌≤◌, List, [], ◌∷◌, Bool, true, false, cond, Option, Some, ap, arith}
+use Rattle.poincare_run.proofs.Shared.{Reply, circular, shown, stored, forgot, full, State, free_bytes, Leaves, Full, first_moment, options_of, bits, Chain, LineStep, Moment, room, Turn, Options}
 use Rattle.std.proofs.lemmas.Nat.{mul-le, pow_pos}
 use Rattle.breakers.specs.State.{State as Breaker}
 use Rattle.calc_measures.specs.Measures.{all_simple, bits as bits_of, roots, room as room_of}
 use Rattle.calc_session.specs.Enough.{IsAnswered, ReadsFilled, of_its_nodes}
-use Rattle.calc_session.specs.Replies.{Reply, circular, shown, stored, forgot, full}
-use Rattle.calc_session.specs.States.{State, free_bytes}
-use Rattle.calc_session.specs.Steps.{Leaves}
 use Rattle.calc_session.proofs.EnoughLemmas.{answered, not_full}
 use Rattle.calc_terms.specs.Trees.{Tree, depth, nodes}
 use Rattle.name_table.specs.Filling.{depth_limit}
-use Rattle.node_pool.specs.declared.full.Full.{Full}
 use Rattle.reduce_port.proofs.Leaves.{one_node}
 use Rattle.reduce_port.specs.Checks.{TripsWithin}
-use Rattle.poincare_run.specs.Beginnings.{first_moment}
-use Rattle.poincare_run.specs.Options.{options_of}
-use Rattle.poincare_run.specs.Steps.{bits, Chain, LineStep, Moment, room, Turn}
-use Rattle.poincare_run.specs.declared.words.Options.{Options}
 use Rattle.poincare_run.proofs.SettingLemmas.{options_are_asked}
 
 -- ---- the capacity stays

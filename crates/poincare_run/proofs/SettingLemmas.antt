@@ -1,18 +1,10 @@
 -- The options of words are those that the words ask for.
 use Rattle.std.proofs.Common.{◌≡◌, ◌∙◌, ◌↔◌, ℕ, zero, suc, ◌<◌, ◌^◌, ◌&&◌, List, [], ◌∷◌, ◌++◌, length, drop, Bool, true, false, Option, Some, None, is_some, if◌then◌else◌, refl, sym, ap, subst, inl, inr, codes, arith}
 use Rattle.std.specs.Prelude.{eqb, unwrap_or, IfSome}
-use Rattle.std.specs.List.{starts_with}
-use Rattle.std.specs.Option.{option_and_then, option_map}
-use Rattle.std.specs.Str.{bytes_eq}
-use Rattle.std.proofs.lemmas.List.{append_assoc}
+use Rattle.poincare_run.proofs.Shared.{starts_with, option_and_then, option_map, bytes_eq, append_assoc, bytes_eq-Decides, starts_is, value_of, Key, Pool, Interrupt, Generated, Reading, is_pool_size, is_session_number, key_of, named_in, no_values, options_of, options_with, read, size_in, with_draw, with_generated, with_interrupt, with_number, with_pool, with_value, with_word, with_next, Asks, IsDrawn, IsNumber, IsSpelled, OptionsAreAsked, Setting, Spells, OrderIsFree, value, draw, draws_of, name_of, text_in, texts_of, Values, Options}
 use Rattle.std.proofs.lemmas.Bool.Decides.{Decides-eqb}
-use Rattle.std.proofs.lemmas.Slice.Eq.{bytes_eq-Decides, starts_is}
 use Rattle.node_pool.specs.State.{IsPoolSize}
-use Rattle.calc_commands.specs.Numbers.{value_of}
-use Rattle.poincare_run.specs.Options.{Key, Pool, Interrupt, Generated, Reading, is_pool_size, is_session_number, key_of, named_in, no_values, options_of, options_with, read, settled, size_in, with_draw, with_generated, with_interrupt, with_number, with_pool, with_value, with_word, with_next}
-use Rattle.poincare_run.specs.Settings.{Asks, IsDrawn, IsNumber, IsSpelled, OptionsAreAsked, Setting, Spells, OrderIsFree, value, draw, draws_of, name_of, text_in, texts_of}
-use Rattle.poincare_run.specs.declared.words.Values.{Values}
-use Rattle.poincare_run.specs.declared.words.Options.{Options}
+use Rattle.poincare_run.specs.Options.{settled}
 
 -- ---- what is named before settings and behind them
 

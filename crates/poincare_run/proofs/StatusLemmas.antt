@@ -1,16 +1,10 @@
 -- Lemmas on the status of the program, and what it says.
 use Rattle.std.proofs.Common.{◌≡◌, ◌≢◌, ◌∙◌, ◌⊎◌, ℕ, ◌≤◌, List, [], ◌∷◌, ◌++◌, length, Bool, Option, Some, None, Contains, inl, inr, refl, sym, ap, subst, arith, length-append}
-use Rattle.std.proofs.lemmas.List.{append_cancel_right}
-use Rattle.std.specs.Io.KnownBytes.{Consumes}
+use Rattle.poincare_run.proofs.Shared.{append_cancel_right, Consumes, State, Beginning, reads, generates, IfReads, IfGenerates, Moment, session_limit, ReadsAll, ReadsPart, ReadsLimit, WriteStops, SumsUp, SumsUpInPart, EndsAs, EndsFrom, IfNoMemory, IsSummed, StopsReading, StopsWriting, SumsUpAs, status}
 use Rattle.calc_edges.specs.Faults.{Rose, StopsAtFailure}
 use Rattle.poincare_run.specs.declared.dialog.Ending.{Ending}
 use Rattle.poincare_run.specs.declared.dialog.Ending.TheVariants.{ReadToEnd, ReadFailed, WriteFailed, LimitReached, NoMemory}
 use Rattle.breakers.specs.State.{State as Breaker}
-use Rattle.calc_session.specs.States.{State}
-use Rattle.poincare_run.specs.Beginnings.{Beginning, reads, generates, IfReads, IfGenerates}
-use Rattle.poincare_run.specs.Steps.{Moment}
-use Rattle.poincare_run.specs.Endings.{session_limit, ReadsAll, ReadsPart, ReadsLimit, WriteStops, SumsUp, SumsUpInPart}
-use Rattle.poincare_run.specs.Progress.{EndsAs, EndsFrom, IfNoMemory, IsSummed, StopsReading, StopsWriting, SumsUpAs, status}
 
 -- what was consumed is known where the source tells its bytes
 consumed : (t u : Option (List ℕ)) (bytes input rest : List ℕ) → Consumes t u bytes → t ≡ Some (input ++ rest) → u ≡ Some rest → length input ≡ length bytes

@@ -1,27 +1,12 @@
 -- Lemmas on the steps of a session, and on how far it has come.
 use Rattle.std.proofs.Common.{◌≡◌, ◌∙◌, ◌⊎◌, inl, inr, Some, None, ℕ, List, [], ◌∷◌, ◌++◌, length, map, ◌<◌, Bool, true, false, nat_le, Option, refl, sym, ap, subst, arith, append_assoc, append-nil}
-use Rattle.std.proofs.lemmas.Bool.{leb-true, leb-false}
-use Rattle.std.specs.Str.Lines.{strip_carriage_return}
+use Rattle.poincare_run.proofs.Shared.{leb-true, leb-false, strip_carriage_return, LineAnswer, Blank, Shown, Stored, Undef, Report, Draw, Refused, Refusal, Answers, IsAnswer, IsReport, printed, reply_of, Reply, report, forgot, text_of, State, IsReply, is_unread, is_commanded, is_calculated, is_evaluated, LineBuffer, is_newline, lines_of, line_of_rest, whole_lines, rest_of, all_written, bits, Chain, LineStep, Moment, Turn, is_drawn, picture_if, picture_text, replies_of, room, Steps, with_newline, written, Holds, StandsFor, Answered, AnswersLine, FailsAtLine, Continues, Breaks, Goes, TakesLine, Place, Appends-nil, Appends-trans, AppendsPart-after}
 use Rattle.breakers.specs.Breakers.{kept}
 use Rattle.breakers.specs.State.{State as Breaker}
-use Rattle.calc_session.specs.declared.answers.LineAnswer.{LineAnswer}
-use Rattle.calc_session.specs.declared.answers.LineAnswer.TheVariants.{Blank, Shown, Stored, Undef, Report, Draw, Refused}
-use Rattle.calc_session.specs.declared.answers.Refusal.{Refusal}
-use Rattle.calc_session.specs.declared.answers.Refusal.TheVariants as refusal
-use Rattle.calc_session.specs.Answers.{Answers, IsAnswer, IsReport, printed, reply_of}
 use Rattle.calc_session.specs.Reading.{IsReplyUnread, is_long, is_nothing, has_no_token, has_a_wide_number, is_no_line, is_too_deep, stores_to_ans, finds_names_full}
-use Rattle.calc_session.specs.Replies.{Reply, report, forgot, text_of}
-use Rattle.calc_session.specs.States.{State}
-use Rattle.calc_session.specs.Steps.{IsReply, is_unread, is_commanded, is_calculated, is_evaluated}
 use Rattle.name_table.specs.Tables.{Table}
-use Rattle.poincare_run.specs.declared.buffer.LineBuffer.{LineBuffer}
-use Rattle.poincare_run.specs.Lines.{is_newline, lines_of, line_of_rest, whole_lines, rest_of}
-use Rattle.poincare_run.specs.Steps.{all_written, bits, Chain, LineStep, Moment, Turn, is_drawn, picture_if, picture_text, replies_of, room, Steps, with_newline, written}
-use Rattle.poincare_run.specs.Buffer.{Holds, StandsFor}
-use Rattle.poincare_run.specs.Progress.{Answered, AnswersLine, FailsAtLine, Continues, Breaks, Goes, TakesLine, Place}
-use Rattle.std.proofs.KnownBytes.{Appends-nil, Appends-trans}
-use Rattle.calc_edges.proofs.Parts.{AppendsPart-after}
 use Rattle.poincare_run.proofs.LineLemmas.{whole_lines-newline, rest_of-newline, whole_lines-other, rest_of-other, whole_lines-front}
+use Rattle.calc_session.specs.declared.answers.Refusal.TheVariants as refusal
 
 -- what is kept of a line is answered as the line is
 long_unread : {table : Table} {kept : List ℕ} {reply : Reply} (line : List ℕ) → 1024 < length kept → 1024 < length line → IsReplyUnread table kept reply → IsReplyUnread table line reply

@@ -1,20 +1,11 @@
 -- Lemmas on counts of answers.
 use Rattle.std.proofs.Common.{◌≡◌, ◌∙◌, ◌⊎◌, inl, inr, ℕ, ◌+◌, ◌≤◌, List, [], ◌∷◌, ◌++◌, length, false, refl, sym, ap, subst, arith, length-append}
+use Rattle.poincare_run.proofs.Shared.{LineAnswer, Blank, Shown, Stored, Undef, Report, Draw, Refused, Refusal, IsAnswer, IsReport, reply_of, Reply, report, forgot, Holds, is_newline, rest_of, whole_lines, Place, TakesLine, Tallied, Chain, Moment, Turn, replies_of, Sort, as_shown, as_stored, as_undefined, as_refusal, as_other, sort_of, one_shown, one_stored, one_undefined, one_refusal, how_many, text_length, tally_of}
 use Rattle.std.proofs.lemmas.List.Sums.{sum_by_push}
-use Rattle.calc_session.specs.declared.answers.LineAnswer.{LineAnswer}
-use Rattle.calc_session.specs.declared.answers.LineAnswer.TheVariants.{Blank, Shown, Stored, Undef, Report, Draw, Refused}
-use Rattle.calc_session.specs.declared.answers.Refusal.{Refusal}
-use Rattle.calc_session.specs.declared.answers.Refusal.TheVariants as refusal
-use Rattle.calc_session.specs.Answers.{IsAnswer, IsReport, reply_of}
-use Rattle.calc_session.specs.Replies.{Reply, report, forgot}
-use Rattle.poincare_run.specs.Buffer.{Holds}
-use Rattle.poincare_run.specs.Lines.{is_newline, rest_of, whole_lines}
-use Rattle.poincare_run.specs.Progress.{Place, TakesLine, Tallied}
-use Rattle.poincare_run.specs.Steps.{Chain, Moment, Turn, replies_of}
-use Rattle.poincare_run.specs.Summaries.{Sort, as_shown, as_stored, as_undefined, as_refusal, as_other, sort_of, one_shown, one_stored, one_undefined, one_refusal, how_many, text_length, tally_of}
 use Rattle.poincare_run.specs.declared.tally.Tally.{Tally}
 use Rattle.poincare_run.proofs.LineLemmas.{whole_lines-newline, rest_of-newline, whole_lines-other, rest_of-other}
 use Rattle.poincare_run.proofs.StepLemmas.{chain_more, replies-more}
+use Rattle.calc_session.specs.declared.answers.Refusal.TheVariants as refusal
 
 -- the sort that an answer tells
 abbrev pub sort_told : LineAnswer → Sort

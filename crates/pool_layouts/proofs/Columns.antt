@@ -1,19 +1,10 @@
 -- Each character of a picture takes one column.
 use Rattle.std.specs.Prelude.{⊤}
 use Rattle.std.proofs.Common.{◌≡◌, ℕ, zero, suc, ◌+◌, ◌-◌, ◌/◌, ◌==◌, if◌then◌else◌, max, List, [], ◌∷◌, ◌++◌, replicate, codes, nat_abs, nat_lt, nat_le, Bool, true, false, Option, Some, None, refl, arith}
-use Rattle.std.specs.List.{list_all}
-use Rattle.std.proofs.lemmas.Bool.{and_parts}
-use Rattle.std.proofs.lemmas.Bool.Decides.{nat_tests}
-use Rattle.calc_terms.specs.Name.{is_digit, is_name_byte}
-use Rattle.calc_terms.proofs.Names.{spelled}
-use Rattle.calc_language.specs.Texts.{decimal, IsWritable, AreWritable}
-use Rattle.calc_language.proofs.Spelled.{decimal_is}
-use Rattle.calc_terms.specs.Trees.{Tree, num, symbol, undef, add, mult, power, root, neg, sub, div, Trees, none, more}
+use Rattle.pool_layouts.proofs.Shared.{list_all, and_parts, nat_tests, is_digit, is_name_byte, spelled, decimal, IsWritable, AreWritable, decimal_is, Tree, num, symbol, undef, add, mult, power, root, neg, sub, div, Trees, none, more, Layout, number, name, plus, minus, times, row, fraction, raised, radical, paren, Layouts, nothing, beside, unless, layout, layout_of_sum, layout_of_terms, layout_of_product, layout_of_factors, Block, blanks, centred, height, level, level_line, level_lines, line_or_blanks, picture, pictures, root_character, times_character}
 use Rattle.unicode_width.specs.Width.{char_width}
 use Rattle.unicode_width.proofs.Computing.{unicode_width}
 use Rattle.pool_layouts.specs.Columns.{TakeOneColumnEach}
-use Rattle.pool_layouts.specs.Layouts.{Layout, number, name, plus, minus, times, row, fraction, raised, radical, paren, Layouts, nothing, beside, unless, layout, layout_of_sum, layout_of_terms, layout_of_product, layout_of_factors}
-use Rattle.pool_layouts.specs.Pictures.{Block, blanks, centred, height, level, level_line, level_lines, line_or_blanks, picture, pictures, root_character, times_character}
 
 printable : (c : ℕ) → nat_lt c 127 ≡ true → nat_le 32 c ≡ true → char_width false c ≡ Some 1
 unfolding char_width

@@ -1,15 +1,6 @@
 -- What a caller knows of a layout that was given.
 use Rattle.std.proofs.Common.{◌≡◌, ◌∙◌, ℕ, ◌≤◌, sym, ap, subst, arith}
-use Rattle.node_pool.specs.State.{State}
-use Rattle.tree_handles.specs.Forest.{Forest, bytes_in}
-use Rattle.tree_handles.specs.Inside.{tree_at}
-use Rattle.tree_handles.specs.Standing.{Stands, forest}
-use Rattle.tree_handles.proofs.Forests.{bytes_in-join}
-use Rattle.tree_handles.proofs.Lasts.{last_root, last_held, last_tree, tree_of_root}
-use Rattle.tree_handles.proofs.Places.{used_forest}
-use Rattle.pool_layouts.specs.Drawings.{drawing, AllComposed, IsLayout, GivesLayout}
-use Rattle.pool_layouts.specs.Layouts.{Layout}
-use Rattle.pool_layouts.specs.Drawings.{part}
+use Rattle.pool_layouts.proofs.Shared.{State, Forest, bytes_in, tree_at, Stands, forest, bytes_in-join, last_root, last_held, last_tree, tree_of_root, used_forest, drawing, AllComposed, IsLayout, GivesLayout, Layout, part}
 
 given_tree : {others : Forest} {s : State} {id : ℕ} {l : Layout} → Stands s → (g : GivesLayout others (forest s) id l) → tree_at id (forest s) ≡ g.tree
 given_tree {id = id} st g = tree_of_root id st (last_root g.ends) ∙ last_tree g.ends

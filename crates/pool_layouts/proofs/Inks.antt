@@ -1,25 +1,8 @@
 -- The characters of ink, and their bytes.
 use Rattle.std.proofs.Common.{◌≡◌, ◌≢◌, ◌∙◌, ℕ, zero, suc, ◌+◌, ◌<◌, List, [], ◌∷◌, ◌++◌, replicate, codes, nat_abs, Bool, true, encode_utf8_all, refl, sym, ap, arith, append_assoc, append-nil}
-use Rattle.std.specs.List.{list_all}
-use Rattle.std.proofs.lemmas.Bool.{and_parts}
-use Rattle.std.proofs.lemmas.Bool.Decides.{nat_tests}
-use Rattle.std.proofs.lemmas.List.{replicate-append-replicate}
-use Rattle.std.proofs.lemmas.Str.{encodes-append}
-use Rattle.calc_terms.specs.declared.kind.Kind.TheVariants as kind
-use Rattle.calc_terms.specs.Name.{is_digit, is_name_byte}
-use Rattle.calc_terms.specs.Payload.{Payload, rational, named, bare, IsPayload}
-use Rattle.calc_terms.proofs.Names.{spelled}
-use Rattle.calc_language.specs.Texts.{decimal}
-use Rattle.calc_language.proofs.Spelled.{decimal_is}
-use Rattle.line_text.specs.Content.{Content, extended}
-use Rattle.tree_handles.specs.Forest.{Forest}
-use Rattle.tree_handles.specs.Inside.{payload_in}
-use Rattle.pool_layouts.specs.declared.ink.Ink.{Ink}
-use Rattle.pool_layouts.specs.declared.ink.Ink.TheVariants.{Nothing, Leaf, Bar, Roof, Root, Open, Close}
-use Rattle.pool_layouts.specs.Painting.{IsBlack, IsInk, leaf_characters, ink_characters, inked, blanks_left}
-use Rattle.pool_layouts.specs.Pending.{leaf_serial}
-use Rattle.pool_layouts.specs.Pictures.{blanks}
+use Rattle.pool_layouts.proofs.Shared.{list_all, and_parts, nat_tests, replicate-append-replicate, encodes-append, is_digit, is_name_byte, Payload, rational, named, bare, IsPayload, spelled, decimal, decimal_is, Content, extended, Forest, payload_in, Ink, Nothing, Leaf, Bar, Roof, Root, Open, Close, IsBlack, IsInk, leaf_characters, ink_characters, inked, blanks_left, leaf_serial, blanks}
 use Rattle.pool_layouts.proofs.Lines.{AreSmall, small_bytes, replicate_small, times_encoded}
+use Rattle.calc_terms.specs.declared.kind.Kind.TheVariants as kind
 
 -- ---- characters of leaves
 

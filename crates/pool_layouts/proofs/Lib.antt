@@ -19,3 +19,4 @@ pub mod RowLines
 pub mod SerialTokens
 pub mod OneLines
 pub mod Columns
+pub mod Shared

@@ -1,14 +1,7 @@
 -- The rows of a picture: how long they are, and how many bytes they take.
 use Rattle.std.proofs.Common.{◌≡◌, ◌≢◌, ◌∙◌, if◌then◌else◌, ℕ, zero, suc, ◌+◌, ◌-◌, ◌*◌, ◌/◌, ◌<◌, ◌≤◌, max, List, [], ◌∷◌, ◌++◌, length, replicate, codes, nat_lt, nat_eq, nat_abs, Bool, true, false, Option, Some, None, encode_utf8_all, refl, sym, ap, arith}
-use Rattle.std.proofs.lemmas.Bool.{eqb-true}
-use Rattle.std.proofs.lemmas.List.{length-append, length-replicate}
-use Rattle.std.proofs.lemmas.Str.{encodes-append, encode_ascii}
+use Rattle.pool_layouts.proofs.Shared.{eqb-true, length-append, length-replicate, encodes-append, encode_ascii, decimal, times_sign, root_sign, IsBlack, Layout, number, name, plus, minus, times, row, fraction, raised, radical, paren, Layouts, nothing, beside, Block, height, blanks, bar, roof, root_character, level, line_or_blanks, level_line, level_lines, centred, widths, most_above, times_character, picture, pictures, cut, before_cut}
 use Rattle.std.specs.Char.{encode_utf8}
-use Rattle.calc_language.specs.Texts.{decimal}
-use Rattle.calc_language.specs.Tokens.{times_sign, root_sign}
-use Rattle.pool_layouts.specs.Painting.{IsBlack}
-use Rattle.pool_layouts.specs.Layouts.{Layout, number, name, plus, minus, times, row, fraction, raised, radical, paren, Layouts, nothing, beside}
-use Rattle.pool_layouts.specs.Pictures.{Block, height, blanks, bar, roof, root_character, level, line_or_blanks, level_line, level_lines, centred, widths, most_above, times_character, picture, pictures, cut, before_cut}
 
 -- ---- each row has as many characters as the picture is wide
 

@@ -1,27 +1,11 @@
 -- The extents of layouts: what they are for each kind of node, and that they are small.
 use Rattle.std.proofs.Common.{◌≡◌, ◌∙◌, ℕ, suc, ◌+◌, ◌*◌, ◌^◌, ◌<◌, ◌≤◌, ◌≢◌, max, ℤ, List, [], ◌∷◌, ◌++◌, length, drop, drop-cons, add-one, get_or, nat_abs, nat_eq, true, refl, sym, ap, subst, arith, append_assoc}
-use Rattle.std.proofs.lemmas.Bool.{eqb-true}
-use Rattle.std.proofs.lemmas.List.{length-append, length-drop, drop-drop, drop_at}
-use Rattle.calc_terms.specs.declared.kind.Kind.{Kind}
-use Rattle.calc_terms.specs.declared.kind.Kind.TheVariants as kind
-use Rattle.calc_terms.specs.Payload.{Payload, rational, named, bare, is_bare, kind_of_payload, size_of_payload, IsPayload}
-use Rattle.calc_terms.specs.Name.{begins_with_letter}
-use Rattle.calc_terms.proofs.Names.{spelled}
-use Rattle.calc_language.proofs.Spelled.{decimal_is}
-use Rattle.calc_language.specs.Texts.{decimal}
+use Rattle.pool_layouts.proofs.Shared.{eqb-true, length-append, length-drop, drop-drop, drop_at, Kind, Payload, rational, named, bare, is_bare, kind_of_payload, size_of_payload, IsPayload, begins_with_letter, spelled, decimal_is, decimal, numerator_is, size_from, Label, Forest, empty, tree, join, arity, node_of, bytes_in, nodes_in, Extent, composed, drawn, drawings, composes, composes_kind, AllComposed, extent_from, extent_of, extents_of, HasSmall, HasPair, IsOver, IsSmall, AllValid, leaf_width, Layout, Layouts, nothing, beside, leaf_characters, Block, height, picture, pictures, widths, most_above, most_below, side_by_side}
 use Rattle.calc_terms.specs.Fractions.{lowest}
 use Rattle.calc_terms.specs.Ratio.{Ratio, IsRat}
 use Rattle.calc_terms.specs.Short.{is_short}
 use Rattle.line_text.proofs.Lengths.{number_text}
-use Rattle.line_text.proofs.Leaves.{numerator_is}
-use Rattle.node_pool.proofs.Sizes.{size_from}
-use Rattle.tree_handles.specs.Forest.{Label, Forest, empty, tree, join, arity, node_of, bytes_in, nodes_in}
-use Rattle.pool_layouts.specs.declared.extents.Extent.{Extent}
-use Rattle.pool_layouts.specs.Drawings.{composed, drawn, drawings, composes, composes_kind, AllComposed}
-use Rattle.pool_layouts.specs.Extents.{extent_from, extent_of, extents_of, HasSmall, HasPair, IsOver, IsSmall, AllValid, leaf_width}
-use Rattle.pool_layouts.specs.Layouts.{Layout, Layouts, nothing, beside}
-use Rattle.pool_layouts.specs.Painting.{leaf_characters}
-use Rattle.pool_layouts.specs.Pictures.{Block, height, picture, pictures, widths, most_above, most_below, side_by_side}
+use Rattle.calc_terms.specs.declared.kind.Kind.TheVariants as kind
 
 -- ---- blocks of the parts of a forest
 

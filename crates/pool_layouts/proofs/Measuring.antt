@@ -1,20 +1,6 @@
 -- The extents of a layout tree, from the last node to the first.
 use Rattle.std.proofs.Common.{◌≡◌, ◌∙◌, if◌then◌else◌, eqb, Bool, false, ℕ, suc, ◌+◌, ◌-◌, ◌*◌, ◌<◌, ◌≤◌, List, ◌∷◌, ◌++◌, length, map, drop, get_or, set, true, refl, sym, ap, subst, arith, append_assoc}
-use Rattle.std.proofs.lemmas.List.{drop-map, drop-set}
-use Rattle.node_pool.specs.State.{State}
-use Rattle.tree_handles.specs.Forest.{Label, Forest, empty, tree, join, arity, flatten, node_of, nodes_in, bytes_in, AllNodes}
-use Rattle.tree_handles.specs.Inside.{holds, tree_at, payload_in}
-use Rattle.tree_handles.specs.Standing.{Stands, forest}
-use Rattle.tree_handles.proofs.Forests.{nodes-flatten}
-use Rattle.tree_handles.proofs.Measures.{one_at}
-use Rattle.tree_handles.proofs.Places.{used_forest}
-use Rattle.tree_handles.specs.declared.visits.Visit.{Visit}
-use Rattle.pool_layouts.specs.declared.extents.Extent.{Extent}
-use Rattle.tree_handles.specs.Visits.{visit_of, visits_of}
-use Rattle.pool_layouts.specs.Drawings.{drawing, AllComposed, IsComposed, IsLayout}
-use Rattle.pool_layouts.specs.Extents.{extent_of, extents_of, HasExtents, HasSmall, IsOver, IsValid, AllValid, HasSomeFirst}
-use Rattle.pool_layouts.specs.Pictures.{picture, height}
-use Rattle.tree_handles.proofs.Visiting.{visits_length}
+use Rattle.pool_layouts.proofs.Shared.{drop-map, drop-set, State, Label, Forest, empty, tree, join, arity, flatten, node_of, nodes_in, bytes_in, AllNodes, holds, tree_at, payload_in, Stands, forest, nodes-flatten, one_at, used_forest, Visit, Extent, visit_of, visits_of, drawing, AllComposed, IsComposed, IsLayout, extent_of, extents_of, HasExtents, HasSmall, IsOver, IsValid, AllValid, HasSomeFirst, picture, height, visits_length}
 use Rattle.pool_layouts.proofs.Measures.{bytes_nodes, extents-join}
 use Rattle.pool_layouts.proofs.Shown.{first_is}
 use Rattle.pool_layouts.proofs.Suffixes.{after, after_flat, after_all, after_bytes, left_at, none_after}

@@ -1,27 +1,11 @@
 -- What the steps of a row open to.
 use Rattle.std.proofs.Common.{◌≡◌, ◌≢◌, ◌∙◌, if◌then◌else◌, ℕ, suc, ◌+◌, ◌-◌, ◌*◌, ◌/◌, ◌<◌, ◌≤◌, ◌^◌, max, List, [], ◌∷◌, ◌++◌, length, map, drop, get_or, codes, nat_lt, nat_le, nat_eq, ◌&&◌, Bool, true, false, Option, Some, None, refl, sym, ap, subst, arith, append_assoc, append-nil}
-use Rattle.std.proofs.lemmas.Bool.{ltb-true, and_parts, lt-ltb, le-ltb}
-use Rattle.std.proofs.lemmas.List.{map-append, drop-drop, drop_at}
-use Rattle.calc_terms.specs.declared.kind.Kind.{Kind}
-use Rattle.calc_terms.specs.declared.kind.Kind.TheVariants as kind
-use Rattle.calc_terms.specs.Node.{Node}
-use Rattle.calc_terms.specs.Payload.{Payload, bare, kind_of_payload, IsPayload}
-use Rattle.tree_handles.specs.Forest.{Label, Forest, empty, tree, flatten, node_of, nodes_in}
-use Rattle.tree_handles.specs.Inside.{holds, payload_in}
-use Rattle.tree_handles.specs.declared.visits.Visit.{Visit}
-use Rattle.pool_layouts.specs.declared.extents.Extent.{Extent}
-use Rattle.pool_layouts.specs.declared.ink.Ink.TheVariants.{Nothing, Leaf, Bar, Roof, Root, Close}
+use Rattle.pool_layouts.proofs.Shared.{ltb-true, and_parts, lt-ltb, le-ltb, map-append, drop-drop, drop_at, Kind, Node, Payload, bare, kind_of_payload, IsPayload, Label, Forest, empty, tree, flatten, node_of, nodes_in, holds, payload_in, Visit, Extent, Nothing, Leaf, Bar, Roof, Root, Close, Step, Opened, visit_of, visits_of, extent_of, extents_of, HasSmall, IsOver, IsSmall, IsSpanOf, ShowsPart, ShowsLevel, Shows, ShowsIf, Opens, IsInk, ink_characters, weight_if, count_if, leaf_characters, opened, span_of, part_of, level_if, level_opened, centred_opened, fraction_opened, raised_opened, radical_opened, paren_opened, row_opened, Block, height, blanks, bar, roof, root_character, level, line_or_blanks, level_lines, centred, most_above, visits_length}
 use Rattle.pool_layouts.specs.declared.steps.Span.{Span}
-use Rattle.pool_layouts.specs.declared.steps.Step.{Step}
-use Rattle.pool_layouts.specs.declared.steps.Step.TheVariants as step
-use Rattle.pool_layouts.specs.declared.steps.Opened.{Opened}
-use Rattle.tree_handles.specs.Visits.{visit_of, visits_of}
-use Rattle.pool_layouts.specs.Extents.{extent_of, extents_of, HasSmall, IsOver, IsSmall}
-use Rattle.pool_layouts.specs.Painting.{IsSpanOf, ShowsPart, ShowsLevel, Shows, ShowsIf, Opens, IsInk, ink_characters, weight_if, count_if, leaf_characters, opened, span_of, part_of, level_if, level_opened, centred_opened, fraction_opened, raised_opened, radical_opened, paren_opened, row_opened}
-use Rattle.pool_layouts.specs.Pictures.{Block, height, blanks, bar, roof, root_character, level, line_or_blanks, level_lines, centred, most_above}
 use Rattle.pool_layouts.proofs.Measures.{blocks_of, block_of, others_read, behind_first, first_small, IsOneOver, IsTwoOver, bare_of, leaf_line, leaf_some}
-use Rattle.tree_handles.proofs.Visiting.{visits_length}
 use Rattle.pool_layouts.proofs.Shown.{first_is, others_are, inside_list}
+use Rattle.calc_terms.specs.declared.kind.Kind.TheVariants as kind
+use Rattle.pool_layouts.specs.declared.steps.Step.TheVariants as step
 
 -- ---- spans
 

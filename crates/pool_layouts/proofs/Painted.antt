@@ -1,18 +1,11 @@
 -- A row of a picture as far as it is painted.
 use Rattle.std.specs.Prelude.{option_to_list}
 use Rattle.std.proofs.Common.{◌≡◌, ◌∙◌, ℕ, ◌+◌, ◌<◌, ◌≤◌, List, [], ◌∷◌, ◌++◌, length, Option, Some, None, encode_utf8_all, refl, sym, ap, subst, arith, append_assoc, append-nil}
-use Rattle.std.proofs.lemmas.List.{length-append, length-replicate, replicate-append-replicate}
-use Rattle.std.proofs.lemmas.Str.{encodes-append}
-use Rattle.tree_handles.specs.Forest.{Forest}
-use Rattle.tree_handles.specs.declared.visits.Visit.{Visit}
-use Rattle.pool_layouts.specs.declared.extents.Extent.{Extent}
-use Rattle.pool_layouts.specs.declared.steps.Step.{Step}
-use Rattle.pool_layouts.specs.declared.steps.Step.TheVariants as step
-use Rattle.pool_layouts.specs.declared.steps.Opened.{Opened}
-use Rattle.pool_layouts.specs.Painting.{Shows, ShowsIf, Opens, IsLine, IsBlack, ink_characters, inked, blanks_left, weight, weight_if, count, count_if}
-use Rattle.pool_layouts.specs.Pictures.{blanks, cut}
+use Rattle.pool_layouts.proofs.Shared.{length-append, length-replicate, replicate-append-replicate, encodes-append, Forest, Visit, Extent, Step, Opened, Shows, ShowsIf, Opens, IsLine, IsBlack, ink_characters, inked, blanks_left, weight, weight_if, count_if, blanks, cut}
+use Rattle.pool_layouts.specs.Painting.{count}
 use Rattle.pool_layouts.proofs.Inks.{ink_black}
 use Rattle.pool_layouts.proofs.Lines.{cut-append_blanks, cut_kept}
+use Rattle.pool_layouts.specs.declared.steps.Step.TheVariants as step
 
 -- ---- weights
 

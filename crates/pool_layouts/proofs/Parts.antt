@@ -1,19 +1,9 @@
 -- The layout of a face, by its root and its children.
 use Rattle.std.proofs.Common.{◌≡◌, ◌∙◌, if◌then◌else◌, Bool, true, false, ◌||◌, nat_le, nat_eq, None, refl, sym, ap, arith}
-use Rattle.std.proofs.lemmas.Bool.{eqb-true}
-use Rattle.calc_terms.specs.declared.kind.Kind.{Kind}
+use Rattle.pool_layouts.proofs.Shared.{eqb-true, Kind, Payload, rational, named, bare, kind_of_payload, Tree, num, symbol, undef, add, mult, power, root, neg, sub, div, Trees, none, more, count, root_kind, is_div, first_of_sum, left_of_difference, later_of_sum, first_of_product, later_of_product, admits, level_of, is_div_kind, admits_is, grown, compound, takes, takes_kind, FirstOfSum, LaterOfSum, LeftOfDifference, RightOfDifference, UnderSign, FirstOfProduct, LaterOfProduct, Base, Layout, plus, minus, times, row, raised, Layouts, beside, one_part, unless, boxed, layout, layout_of_sum, layout_of_terms, layout_of_product, layout_of_factors, drawn, first_place, paren_kind_unless, around_of, within, parts_from, laid}
+use Rattle.calc_language.specs.Texts.{level}
 use Rattle.calc_terms.specs.declared.kind.Kind.TheVariants as kind
-use Rattle.calc_terms.specs.Payload.{Payload, rational, named, bare, kind_of_payload}
-use Rattle.calc_terms.specs.Trees.{Tree, num, symbol, undef, add, mult, power, root, neg, sub, div, Trees, none, more, count, root_kind, is_div}
-use Rattle.calc_language.specs.Texts.{first_of_sum, left_of_difference, later_of_sum, first_of_product, later_of_product, level, admits}
-use Rattle.line_text.specs.Places.{level_of, is_div_kind}
 use Rattle.line_text.specs.declared.place.Place.TheVariants as lines
-use Rattle.line_text.proofs.Parts.{admits_is}
-use Rattle.tree_handles.specs.Expressions.{grown, compound, takes, takes_kind}
-use Rattle.pool_layouts.specs.declared.places.Place.TheVariants.{FirstOfSum, LaterOfSum, LeftOfDifference, RightOfDifference, UnderSign, FirstOfProduct, LaterOfProduct, Base}
-use Rattle.pool_layouts.specs.Layouts.{Layout, plus, minus, times, row, raised, Layouts, beside, one_part, unless, boxed, layout, layout_of_sum, layout_of_terms, layout_of_product, layout_of_factors}
-use Rattle.pool_layouts.specs.Drawings.{drawn}
-use Rattle.pool_layouts.specs.Places.{first_place, paren_kind_unless, around_of, within, parts_from, laid}
 
 -- ---- what a tree stands in
 

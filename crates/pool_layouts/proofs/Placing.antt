@@ -1,31 +1,12 @@
 -- One node after another is placed, or refused.
 use Rattle.std.specs.Prelude.{IfOk, IfErr, OnOk, IsOk, ◌↔◌}
 use Rattle.std.proofs.Common.{◌≡◌, ◌∙◌, ℕ, ◌+◌, ◌-◌, ◌<◌, ◌≤◌, List, [], ◌∷◌, length, Option, Some, None, Result, Ok, Err, true, refl, sym, ap, subst, arith, leb}
-use Rattle.std.proofs.lemmas.Bool.{leb-true, leb-false}
-use Rattle.calc_terms.specs.declared.kind.Kind.{Kind}
-use Rattle.calc_terms.specs.declared.kind.Kind.TheVariants as kind
-use Rattle.calc_terms.specs.Payload.{Payload, rational, named, bare, kind_of_payload, size_of_payload}
-use Rattle.node_pool.specs.declared.full.Full.{Full}
-use Rattle.node_pool.specs.State.{State, free_of}
-use Rattle.node_pool.proofs.Sizes.{length_le_used}
-use Rattle.tree_handles.specs.Building.{taking}
-use Rattle.tree_handles.specs.Forest.{Forest, empty, join, arity, bytes_in, one_tree, last_trees, before_last}
-use Rattle.tree_handles.specs.Handed.{Ends, Starts}
-use Rattle.tree_handles.specs.Standing.{Stands, forest, KeepsRefusals, IsRefused}
-use Rattle.tree_handles.proofs.Forests.{arity-join, bytes_in-join, join_assoc, refuses_after}
+use Rattle.pool_layouts.proofs.Shared.{leb-true, leb-false, Kind, Payload, rational, named, bare, kind_of_payload, size_of_payload, Full, State, free_of, length_le_used, taking, Forest, empty, join, arity, bytes_in, one_tree, last_trees, before_last, Ends, Starts, Stands, forest, KeepsRefusals, IsRefused, arity-join, bytes_in-join, join_assoc, refuses_after, before-last, before_none, last_none, before_last-join, last_trees-join, ends_as, free_forest, join-empty, Place, Alone, FirstOfSum, LaterOfSum, LeftOfDifference, RightOfDifference, UnderSign, FirstOfProduct, LaterOfProduct, Base, Exponent, composes_kind, HasLast, IsStopped, PlacesMark, StandsIn, mark_before, laid, laid_kind}
 use Rattle.tree_handles.proofs.Fronts.{starts_same}
-use Rattle.tree_handles.proofs.Gathering.{before-last, before_none, last_none, before_last-join, last_trees-join}
-use Rattle.tree_handles.proofs.Lasts.{ends_as}
 use Rattle.tree_handles.proofs.Outcomes.{by_test}
-use Rattle.tree_handles.proofs.Places.{free_forest}
 use Rattle.tree_handles.proofs.Releases.{arity_le}
-use Rattle.tree_handles.proofs.Forests.{join-empty}
-use Rattle.pool_layouts.specs.declared.places.Place.{Place}
-use Rattle.pool_layouts.specs.declared.places.Place.TheVariants.{Alone, FirstOfSum, LaterOfSum, LeftOfDifference, RightOfDifference, UnderSign, FirstOfProduct, LaterOfProduct, Base, Exponent}
-use Rattle.pool_layouts.specs.Drawings.{composes_kind}
-use Rattle.pool_layouts.specs.Laying.{HasLast, IsStopped, PlacesMark, StandsIn}
-use Rattle.pool_layouts.specs.Places.{mark_before, laid, laid_kind}
 use Rattle.pool_layouts.proofs.Sizes.{takes_one, lacks_one, taken_first}
+use Rattle.calc_terms.specs.declared.kind.Kind.TheVariants as kind
 
 -- a pool has so few trees
 pub few_trees : (s : State) → Stands s → arity (forest s) ≤ 65535

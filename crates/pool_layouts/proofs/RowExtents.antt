@@ -1,10 +1,6 @@
 -- The extent of layouts side by side, gathered from the left.
 use Rattle.std.proofs.Common.{◌≡◌, ◌∙◌, ℕ, suc, ◌+◌, ◌<◌, ◌≤◌, max, List, length, sym, ap, subst, arith}
-use Rattle.tree_handles.specs.Forest.{Label, Forest, empty, tree, arity, nodes_in}
-use Rattle.pool_layouts.specs.declared.extents.Extent.{Extent}
-use Rattle.pool_layouts.specs.Drawings.{drawings}
-use Rattle.pool_layouts.specs.Extents.{extent_from, extent_of, HasSmall, IsSmall}
-use Rattle.pool_layouts.specs.Pictures.{pictures, widths, most_above, most_below, side_by_side}
+use Rattle.pool_layouts.proofs.Shared.{Label, Forest, empty, tree, arity, nodes_in, Extent, drawings, extent_from, extent_of, HasSmall, IsSmall, pictures, widths, most_above, most_below, side_by_side}
 use Rattle.pool_layouts.proofs.Measures.{blocks_of, first_within, behind_first, extent_same, bounded, bytes_nodes, most_heights}
 
 -- so many layouts are gathered, and the others are listed from a place on

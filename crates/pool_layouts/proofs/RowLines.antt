@@ -1,33 +1,14 @@
 -- A row of the picture of a layout tree.
 use Rattle.std.proofs.Common.{◌≡◌, ◌∙◌, nat_eq, ℕ, zero, suc, ◌+◌, ◌*◌, ◌<◌, ◌≤◌, List, [], ◌∷◌, length, encode_utf8_all, true, sym, ap, subst, arith, append-nil}
-use Rattle.std.proofs.lemmas.Bool.{eqb-true}
-use Rattle.calc_terms.specs.declared.kind.Kind.{Kind}
-use Rattle.calc_terms.specs.declared.kind.Kind.TheVariants as kind
-use Rattle.calc_terms.specs.Payload.{Payload, rational, named, bare, size_of_payload, IsPayload}
-use Rattle.calc_terms.proofs.Names.{spelled}
-use Rattle.line_text.specs.Content.{Content, spare_of}
-use Rattle.node_pool.specs.State.{State}
-use Rattle.tree_handles.specs.Forest.{Forest, empty, tree, arity, nodes_in, bytes_in, AllNodes}
-use Rattle.tree_handles.specs.Inside.{tree_at}
-use Rattle.tree_handles.specs.Standing.{Stands, forest}
-use Rattle.tree_handles.proofs.Measures.{one_at}
-use Rattle.tree_handles.specs.declared.visits.Visit.{Visit}
-use Rattle.pool_layouts.specs.declared.extents.Extent.{Extent}
-use Rattle.pool_layouts.specs.declared.steps.Step.{Step}
-use Rattle.pool_layouts.specs.declared.steps.Step.TheVariants as step
-use Rattle.tree_handles.specs.Visits.{visits_of}
-use Rattle.pool_layouts.specs.Drawings.{drawn, drawing, drawings, composed, composes, composes_kind, part, AllComposed, IsLayout}
-use Rattle.pool_layouts.specs.Layouts.{Layout, Layouts, nothing, beside}
-use Rattle.pool_layouts.specs.Extents.{AllValid}
-use Rattle.pool_layouts.specs.Painting.{IsFound, IsLine, span_of}
-use Rattle.pool_layouts.specs.Pictures.{picture, height, widths}
-use Rattle.tree_handles.proofs.Visiting.{visits_length}
+use Rattle.pool_layouts.proofs.Shared.{eqb-true, Kind, Payload, rational, named, bare, size_of_payload, IsPayload, spelled, Content, spare_of, State, Forest, empty, tree, arity, nodes_in, bytes_in, AllNodes, tree_at, Stands, forest, one_at, Visit, Extent, Step, visits_of, drawn, drawing, drawings, composed, composes, composes_kind, part, AllComposed, IsLayout, Layout, Layouts, nothing, beside, AllValid, IsFound, IsLine, span_of, picture, height, widths, visits_length}
 use Rattle.pool_layouts.proofs.Measures.{blocks_of, block_of, digits_fit, drawn_bounded, bounded, first_small}
 use Rattle.pool_layouts.proofs.Measuring.{IsMeasured, alone}
 use Rattle.pool_layouts.proofs.Inks.{decimal_small, names_small}
 use Rattle.pool_layouts.proofs.Lines.{lines_long, lines_bytes, signs, all_signs, HasSmallLeaves, HaveSmallLeaves}
 use Rattle.pool_layouts.proofs.UnderWay.{known}
 use Rattle.pool_layouts.proofs.Valid.{valid}
+use Rattle.calc_terms.specs.declared.kind.Kind.TheVariants as kind
+use Rattle.pool_layouts.specs.declared.steps.Step.TheVariants as step
 
 pub row_line : (s : State) (i : ℕ) (cells : List Visit) (es : List Extent) (steps : List Step) (end y : ℕ) → Stands s → IsLayout i (forest s) → cells ≡ visits_of (tree_at i (forest s)) → (m : IsMeasured s i es) → end ≡ suc (nodes_in m.below) → y < height (picture (drawing (tree_at i (forest s))))
     → steps ≡ step.Part (span_of 0 end) y ∷ [] → IsLine (forest s) cells es steps ((picture (drawing (tree_at i (forest s)))).line y)

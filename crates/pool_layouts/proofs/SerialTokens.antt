@@ -1,16 +1,13 @@
 -- The tokens of a serial text, and the tree that they are read as.
 use Rattle.std.specs.Prelude.{ℕ, ◌≡◌, ⊤, List, [], ◌∷◌, ◌++◌, Bool, true, false, ◌||◌, nat_le, codes}
 use Rattle.std.proofs.Common.{refl, sym, ap, ◌∙◌, subst, append_assoc, append-nil, nat_abs}
+use Rattle.pool_layouts.proofs.Shared.{first_of_sum, left_of_difference, later_of_sum, first_of_product, later_of_product, admits, admits_signed, decimal, IsWritable, AreWritable, Token, literal, root_mark, plus_mark, minus_mark, times_mark, slash_mark, caret_mark, left_mark, right_mark, Scans, times_sign, root_sign, spell, spelled-append, is_operand, IsWritten, AllWritten, Apart, Good, MarkFirst, scanned, Tree, num, symbol, undef, add, mult, power, root, neg, sub, div, Trees, none, more, append, is_div, IsComplete, AreComplete, Layout, unless, boxed, layout, layout_of_sum, layout_of_terms, layout_of_product, layout_of_factors, serial, serials, IsDefined, AreDefined}
 use Rattle.calc_language.specs.Grammar.{SoFar, single, summed, multiplied, as_tree, IsSum, Sum, first_term, plus_more, minus_more, Signed, minus_signed, plain_signed, Product, first_factor, times_more, over_more, Right, minus_right, plain_right, one_power, Power, plain_power, raised_power, plain_exponent, Primary, a_literal, a_name, parenthesized, a_root}
 use Rattle.calc_language.specs.Reads.{Reads}
-use Rattle.calc_language.specs.Texts.{Place, first_of_sum, left_of_difference, later_of_sum, first_of_product, later_of_product, admits, admits_signed, level, decimal, IsWritable, AreWritable}
-use Rattle.calc_language.specs.Tokens.{name, Token, literal, root_mark, plus_mark, minus_mark, times_mark, slash_mark, caret_mark, left_mark, right_mark, Scans, times_sign, root_sign}
+use Rattle.calc_language.specs.Texts.{Place, level}
+use Rattle.calc_language.specs.Tokens.{name}
 use Rattle.calc_language.proofs.Written.{inside, placed, sum_so_far, product_so_far}
-use Rattle.calc_language.proofs.Spelled.{spell, spelled, spelled-append, is_operand, IsWritten, AllWritten, Apart, Good, MarkFirst, scanned}
-use Rattle.calc_terms.specs.Trees.{Tree, num, symbol, undef, add, mult, power, root, neg, sub, div, Trees, none, more, append, is_div, IsComplete, AreComplete}
-use Rattle.pool_layouts.specs.Layouts.{Layout, unless, boxed, layout, layout_of_sum, layout_of_terms, layout_of_product, layout_of_factors}
-use Rattle.pool_layouts.specs.Serial.{serial, serials}
-use Rattle.pool_layouts.specs.Faces.{IsDefined, AreDefined}
+use Rattle.calc_language.proofs.Spelled.{spelled}
 
 -- a fraction stands in no parentheses of its own
 abbrev pub open_at : Place → Tree → Bool

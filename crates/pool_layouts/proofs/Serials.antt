@@ -1,21 +1,8 @@
 -- The serial text of a node is what is written of it, of its parts, and what closes it.
 use Rattle.std.proofs.Common.{◌*◌, ◌≡◌, ◌∙◌, ℕ, suc, ◌+◌, ◌≤◌, ℤ, List, [], ◌++◌, length, nat_abs, nat_eq, codes, true, refl, sym, ap, arith, append_assoc, append-nil}
-use Rattle.std.proofs.lemmas.Bool.{eqb-true}
-use Rattle.std.proofs.lemmas.List.{length-append}
-use Rattle.calc_terms.specs.declared.kind.Kind.{Kind}
-use Rattle.calc_terms.specs.declared.kind.Kind.TheVariants as kind
-use Rattle.calc_terms.specs.Payload.{Payload, rational, named, bare, kind_of_payload, size_of_payload, IsPayload}
-use Rattle.calc_terms.proofs.Names.{spelled}
-use Rattle.calc_language.specs.Texts.{decimal}
-use Rattle.calc_language.specs.Tokens.{root_sign}
-use Rattle.line_text.proofs.Leaves.{numerator_is}
-use Rattle.tree_handles.specs.Forest.{Forest, empty, tree, arity, bytes_in, AllNodes}
+use Rattle.pool_layouts.proofs.Shared.{eqb-true, length-append, Kind, Payload, rational, named, bare, kind_of_payload, size_of_payload, IsPayload, spelled, decimal, root_sign, numerator_is, Forest, empty, tree, arity, bytes_in, AllNodes, composed, drawn, drawings, composes, composes_kind, AllComposed, Layout, Layouts, nothing, beside, behind_parts, number_of, parts_text, owed_text, leaf_serial, serial, serials, IsValid}
 use Rattle.pool_layouts.proofs.Measures.{digits_fit}
-use Rattle.pool_layouts.specs.Drawings.{composed, drawn, drawings, composes, composes_kind, AllComposed}
-use Rattle.pool_layouts.specs.Layouts.{Layout, Layouts, nothing, beside}
-use Rattle.pool_layouts.specs.Pending.{behind_parts, number_of, parts_text, owed_text, leaf_serial}
-use Rattle.pool_layouts.specs.Serial.{serial, serials}
-use Rattle.pool_layouts.specs.Extents.{IsValid}
+use Rattle.calc_terms.specs.declared.kind.Kind.TheVariants as kind
 
 pub number-drawings : (f : Forest) → number_of (drawings f) ≡ arity f
 number-drawings empty = refl

@@ -1,22 +1,7 @@
 -- What a place of the list shows of the tree that begins there.
 use Rattle.std.proofs.Common.{◌≡◌, ◌∙◌, ℕ, suc, ◌+◌, ◌<◌, List, ◌∷◌, ◌++◌, length, map, drop, get_or, refl, sym, ap, arith, append-nil, drop-cons, add-one}
-use Rattle.std.proofs.lemmas.Bool.{eqb-true}
-use Rattle.std.proofs.lemmas.List.{length-drop}
+use Rattle.pool_layouts.proofs.Shared.{eqb-true, length-drop, Node, Payload, rational, named, bare, kind_of_payload, Tree, neg, root_kind, kind_behind_opposites, not_opposite, plain, plains, grown, takes, AllExpressions, Label, Forest, empty, tree, arity, flatten, node_of, root_kind-plain, Visit, Place, Alone, FirstOfSum, LaterOfSum, LeftOfDifference, RightOfDifference, UnderSign, FirstOfProduct, LaterOfProduct, Base, Exponent, visit_of, visits_of, ShowsTree, deciding_kind}
 use Rattle.calc_terms.specs.declared.kind.Kind.TheVariants as kind
-use Rattle.calc_terms.specs.Node.{Node}
-use Rattle.calc_terms.specs.Payload.{Payload, rational, named, bare, kind_of_payload}
-use Rattle.calc_terms.specs.Trees.{Tree, neg, root_kind}
-use Rattle.line_text.specs.Places.{kind_behind_opposites}
-use Rattle.line_text.proofs.Parts.{not_opposite}
-use Rattle.tree_handles.specs.Expressions.{plain, plains, grown, takes, AllExpressions}
-use Rattle.tree_handles.specs.Forest.{Label, Forest, empty, tree, arity, flatten, node_of}
-use Rattle.tree_handles.proofs.Plains.{root_kind-plain}
-use Rattle.tree_handles.specs.declared.visits.Visit.{Visit}
-use Rattle.pool_layouts.specs.declared.places.Place.{Place}
-use Rattle.pool_layouts.specs.declared.places.Place.TheVariants.{Alone, FirstOfSum, LaterOfSum, LeftOfDifference, RightOfDifference, UnderSign, FirstOfProduct, LaterOfProduct, Base, Exponent}
-use Rattle.tree_handles.specs.Visits.{visit_of, visits_of}
-use Rattle.pool_layouts.specs.Cells.{ShowsTree}
-use Rattle.pool_layouts.specs.Places.{deciding_kind}
 
 -- ---- the first of what is left
 

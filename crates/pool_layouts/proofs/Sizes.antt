@@ -1,19 +1,7 @@
 -- The bytes that a layout's nodes take one after another.
 use Rattle.std.proofs.Common.{◌≡◌, ◌∙◌, if◌then◌else◌, ℕ, suc, ◌+◌, ◌-◌, ◌<◌, ◌≤◌, List, [], ◌∷◌, ◌++◌, nat_le, nat_eq, Bool, true, false, Option, Some, None, Result, Ok, Err, refl, sym, ap, arith, append_assoc, append-nil}
-use Rattle.std.proofs.lemmas.Bool.{eqb-true, le-leb, lt-leb}
-use Rattle.calc_terms.specs.declared.kind.Kind.{Kind}
+use Rattle.pool_layouts.proofs.Shared.{eqb-true, le-leb, lt-leb, Kind, Payload, rational, named, bare, size_of_payload, Full, taking, Forest, empty, tree, join, arity, Place, Alone, FirstOfSum, LaterOfSum, LeftOfDifference, RightOfDifference, UnderSign, FirstOfProduct, LaterOfProduct, Base, Exponent, part_sizes, parts_sizes, composed, drawn, drawings, composes, composes_kind, Layout, Layouts, nothing, beside, one_part, join_parts, around_sizes, IsAround, mark_before, marks, within}
 use Rattle.calc_terms.specs.declared.kind.Kind.TheVariants as kind
-use Rattle.calc_terms.specs.Payload.{Payload, rational, named, bare, size_of_payload}
-use Rattle.node_pool.specs.declared.full.Full.{Full}
-use Rattle.tree_handles.specs.Building.{taking}
-use Rattle.tree_handles.specs.Forest.{Forest, empty, tree, join, arity}
-use Rattle.pool_layouts.specs.declared.places.Place.{Place}
-use Rattle.pool_layouts.specs.declared.places.Place.TheVariants.{Alone, FirstOfSum, LaterOfSum, LeftOfDifference, RightOfDifference, UnderSign, FirstOfProduct, LaterOfProduct, Base, Exponent}
-use Rattle.pool_layouts.specs.Building.{part_sizes, parts_sizes}
-use Rattle.pool_layouts.specs.Drawings.{composed, drawn, drawings, composes, composes_kind}
-use Rattle.pool_layouts.specs.Layouts.{Layout, Layouts, nothing, beside, one_part, join_parts}
-use Rattle.pool_layouts.specs.Laying.{around_sizes, IsAround}
-use Rattle.pool_layouts.specs.Places.{mark_before, marks, within}
 
 pub join_parts-nothing : (ls : Layouts) → join_parts ls nothing ≡ ls
 join_parts-nothing nothing = refl

@@ -1,46 +1,12 @@
 -- The layout of a face under way: what was placed of it, and what is left.
 use Rattle.std.proofs.Common.{◌≡◌, ◌∙◌, if◌then◌else◌, nat_le, nat_eq, get_or, ℕ, ◌+◌, ◌<◌, ◌≤◌, List, [], ◌∷◌, ◌++◌, length, map, drop, Option, Some, None, Ok, Err, true, false, Bool, refl, sym, ap, subst, arith, append_assoc, append-nil}
-use Rattle.std.proofs.lemmas.Bool.{eqb-true, eq-eqb}
-use Rattle.std.proofs.lemmas.List.{map-append, length-append}
-use Rattle.calc_terms.specs.declared.kind.Kind.{Kind}
-use Rattle.calc_terms.specs.declared.kind.Kind.TheVariants as kind
-use Rattle.calc_terms.specs.Node.{Node}
-use Rattle.calc_terms.specs.Payload.{Payload, rational, named, bare, kind_of_payload, size_of_payload}
-use Rattle.calc_terms.specs.Trees.{Tree, Trees, none, more, count, root_kind}
-use Rattle.line_text.specs.Places.{level_of, is_div_kind}
-use Rattle.node_pool.specs.Nodes.{used}
-use Rattle.node_pool.specs.declared.full.Full.{Full}
-use Rattle.node_pool.specs.State.{State, free_of}
-use Rattle.tree_handles.specs.Building.{taking}
-use Rattle.tree_handles.specs.Expressions.{plain, plains, takes, AllExpressions, IsExpression}
-use Rattle.tree_handles.specs.Forest.{Label, Forest, empty, tree, join, arity, bytes_in, flatten, node_of, one_tree, last_trees, before_last, root_payload, AllNodes}
-use Rattle.tree_handles.specs.Handed.{Ends, Starts, KeepsFront, AllOnce, IsOnce}
-use Rattle.tree_handles.specs.Inside.{holds, tree_at, payload_in}
-use Rattle.tree_handles.specs.Standing.{Stands, forest, KeepsRefusals, Refuses, LacksBytes}
-use Rattle.tree_handles.proofs.Visiting.{found}
-use Rattle.tree_handles.proofs.Forests.{join-empty, join_assoc, arity-join, all-join, keeps_after, keeps_none, refuses_after}
-use Rattle.tree_handles.proofs.Gathering.{before_last-join, last_trees-join}
+use Rattle.pool_layouts.proofs.Shared.{eqb-true, eq-eqb, map-append, length-append, Kind, Node, Payload, rational, named, bare, kind_of_payload, size_of_payload, Tree, Trees, none, more, count, root_kind, level_of, is_div_kind, used, Full, State, free_of, taking, plain, plains, takes, AllExpressions, IsExpression, Label, Forest, empty, tree, join, arity, bytes_in, flatten, node_of, one_tree, last_trees, before_last, root_payload, AllNodes, Ends, Starts, KeepsFront, AllOnce, IsOnce, holds, tree_at, payload_in, Stands, forest, KeepsRefusals, Refuses, LacksBytes, found, join-empty, join_assoc, arity-join, all-join, keeps_after, keeps_none, refuses_after, before_last-join, last_trees-join, ends_as, one_at, used_forest, count-plains, Visit, Frame, Place, Alone, FirstOfSum, LaterOfSum, LeftOfDifference, RightOfDifference, UnderSign, FirstOfProduct, LaterOfProduct, Base, Exponent, part_sizes, parts_sizes, visit_of, visits_of, AreFound, ShowsTree, drawn, drawings, composes, AllComposed, IsComposed, GivesLayout, frame_of, frame_behind, Layout, Layouts, beside, one_part, join_parts, layout, Closes, IsAround, IsStopped, PlacesMark, is_leaf, root_sizes, around_sizes, held_in, first_place, next_place, mark_before, marks, paren_kind_unless, admitted, around_kind, deciding_kind, within, around_of, parts_from, laid}
 use Rattle.tree_handles.proofs.Joins.{holds-left, tree_at-join_left}
-use Rattle.tree_handles.proofs.Lasts.{ends_as}
-use Rattle.tree_handles.proofs.Measures.{one_at}
-use Rattle.tree_handles.proofs.Places.{used_forest}
-use Rattle.tree_handles.proofs.Plains.{count-plains}
-use Rattle.tree_handles.specs.declared.visits.Visit.{Visit}
-use Rattle.pool_layouts.specs.declared.frames.Frame.{Frame}
-use Rattle.pool_layouts.specs.declared.places.Place.{Place}
-use Rattle.pool_layouts.specs.declared.places.Place.TheVariants.{Alone, FirstOfSum, LaterOfSum, LeftOfDifference, RightOfDifference, UnderSign, FirstOfProduct, LaterOfProduct, Base, Exponent}
-use Rattle.pool_layouts.specs.Building.{part_sizes, parts_sizes}
-use Rattle.tree_handles.specs.Visits.{visit_of, visits_of, AreFound}
-use Rattle.pool_layouts.specs.Cells.{ShowsTree}
-use Rattle.pool_layouts.specs.Drawings.{drawn, drawings, composes, AllComposed, IsComposed, GivesLayout}
-use Rattle.pool_layouts.specs.Frames.{frame_of, frame_behind}
-use Rattle.pool_layouts.specs.Layouts.{Layout, Layouts, beside, one_part, join_parts, layout}
-use Rattle.pool_layouts.specs.Laying.{Closes, IsAround, IsStopped, PlacesMark, is_leaf, root_sizes, around_sizes, held_in}
-use Rattle.pool_layouts.specs.Places.{first_place, next_place, mark_before, marks, paren_kind_unless, admitted, around_kind, deciding_kind, within, around_of, parts_from, laid}
 use Rattle.pool_layouts.proofs.Parts.{layout_is}
 use Rattle.pool_layouts.proofs.Placing.{few_trees}
 use Rattle.pool_layouts.proofs.Shown.{first_is, others_are, shown, shown_inside}
 use Rattle.pool_layouts.proofs.Sizes.{join_parts-nothing, join_parts-assoc, drawings-join, count_parts, count-drawings, count-join, sizes-join, sizes-marks, drawn_sizes, within_sizes, taken_first, refused_first}
+use Rattle.calc_terms.specs.declared.kind.Kind.TheVariants as kind
 
 -- ---- what is owed
 

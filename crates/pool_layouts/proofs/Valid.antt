@@ -1,13 +1,6 @@
 -- What the nodes of a tree in a pool hold is valid.
 use Rattle.std.proofs.Common.{◌≡◌, ◌∙◌, ℕ, ◌∷◌, ◌++◌, true, subst, sym}
-use Rattle.node_pool.specs.Nodes.{AreNodes}
-use Rattle.node_pool.specs.State.{State}
-use Rattle.node_pool.proofs.Sizes.{AreNodes-left, AreNodes-right}
-use Rattle.tree_handles.specs.Forest.{Forest, empty, tree, flatten, node_of, AllNodes}
-use Rattle.tree_handles.specs.Inside.{holds, tree_at, kids_of}
-use Rattle.tree_handles.specs.Standing.{Stands, forest}
-use Rattle.tree_handles.proofs.Parts.{live_at}
-use Rattle.pool_layouts.specs.Extents.{IsValid}
+use Rattle.pool_layouts.proofs.Shared.{AreNodes, State, AreNodes-left, AreNodes-right, Forest, empty, tree, flatten, node_of, AllNodes, holds, tree_at, kids_of, Stands, forest, live_at, IsValid}
 
 all_valid : (f : Forest) → AreNodes (flatten f) → AllNodes IsValid f
 all_valid empty h = tt

@@ -1,29 +1,11 @@
 -- A walk over the nodes of a layout that knows what is still to be written.
 use Rattle.std.proofs.Common.{◌*◌, ◌≡◌, ◌∙◌, ℕ, suc, ◌+◌, ◌-◌, ◌<◌, ◌≤◌, List, [], ◌∷◌, ◌++◌, length, map, drop, get_or, true, refl, sym, ap, subst, arith, append_assoc, append-nil}
-use Rattle.std.proofs.lemmas.List.{length-append}
-use Rattle.calc_terms.specs.declared.kind.Kind.TheVariants as kind
-use Rattle.calc_terms.specs.Node.{Node, size_of}
-use Rattle.calc_terms.specs.Payload.{kind_of_payload}
-use Rattle.node_pool.specs.State.{State}
-use Rattle.tree_handles.specs.Forest.{Label, Forest, empty, tree, arity, flatten, node_of, bytes_in, AllNodes}
-use Rattle.tree_handles.specs.Inside.{holds, tree_at, kids_of, payload_in}
-use Rattle.tree_handles.specs.Standing.{Stands, forest}
-use Rattle.node_pool.proofs.Sizes.{size_from}
-use Rattle.tree_handles.proofs.Measures.{one_at}
-use Rattle.tree_handles.proofs.Parts.{live_at}
-use Rattle.line_text.specs.Content.{Content}
-use Rattle.tree_handles.specs.declared.visits.Visit.{Visit}
-use Rattle.pool_layouts.specs.declared.serial.Pending.{Pending}
-use Rattle.tree_handles.specs.Visits.{visit_of, visits_of}
-use Rattle.pool_layouts.specs.Drawings.{drawn, drawings, drawing, composes, AllComposed, IsLayout}
-use Rattle.pool_layouts.specs.Layouts.{Layouts, nothing, beside}
-use Rattle.pool_layouts.specs.Pending.{before_part, behind_parts, number_of, parts_text, owed_text, leaf_serial}
-use Rattle.pool_layouts.specs.Serial.{serial, serials}
+use Rattle.pool_layouts.proofs.Shared.{length-append, Node, size_of, kind_of_payload, State, Label, Forest, empty, tree, arity, flatten, node_of, bytes_in, AllNodes, holds, tree_at, kids_of, payload_in, Stands, forest, size_from, one_at, live_at, Content, Visit, Pending, visit_of, visits_of, drawn, drawings, drawing, composes, AllComposed, IsLayout, Layouts, nothing, beside, before_part, behind_parts, number_of, parts_text, owed_text, leaf_serial, serial, serials, IsValid}
 use Rattle.pool_layouts.proofs.Serials.{number-drawings, serial_is, serials_short}
 use Rattle.pool_layouts.proofs.Shown.{first_is, others_are, inside_list}
 use Rattle.pool_layouts.proofs.UnderWay.{IsKnown, known}
-use Rattle.pool_layouts.specs.Extents.{IsValid}
 use Rattle.pool_layouts.proofs.Valid.{valid}
+use Rattle.calc_terms.specs.declared.kind.Kind.TheVariants as kind
 
 -- what is owed to a node, with the trees of its parts that are left
 pub record Owed : Type 0 where

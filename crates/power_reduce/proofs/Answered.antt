@@ -1,24 +1,7 @@
 -- The answers to the powers that no rule rewrites.
 use Rattle.std.proofs.Common.{◌≡◌, ◌≤◌, ◌<◌, Bool, true, false, not, ◌&&◌, ◌||◌, [], ◌++◌, length, inl, inr, refl, sym, ap, ◌∙◌, arith}
 use Rattle.std.specs.Prelude.{nat_le}
-use Rattle.std.proofs.lemmas.Bool.{and_parts, eqb-true, lt-leb}
-use Rattle.std.proofs.lemmas.List.Elements.{Contains-append_left}
-use Rattle.calc_terms.specs.Fractions.{Fraction, zero_fraction, one_fraction}
-use Rattle.calc_terms.specs.Integers.{int_is_negative}
-use Rattle.calc_measures.specs.Loads.{nest, nest_of, load}
-use Rattle.calc_algebra.specs.Numbers.{is_number, classes, IsNumber, IsTerm, AreTerms}
-use Rattle.calc_algebra.specs.Reduced.{is_reduced, HasForm, IsPowerForm, num_one}
-use Rattle.calc_terms.specs.Trees.{Tree, num, undef, add, mult, power, root, Trees, none, more, names, names_of, AllParts, AllPartsOf, is_undef, itself, in_base, in_exponent}
-use Rattle.calc_algebra.proofs.NumberLaws.{number_words, number_test}
-use Rattle.calc_algebra.proofs.PowerRewrites.{power_one_is_base, power_zero_is_one}
-use Rattle.calc_algebra.proofs.ReducedLaws.{reduced_test}
-use Rattle.calc_algebra.proofs.UndefRewrites.{undef_part}
-use Rattle.coefficients.proofs.Forms.{reduced_parts}
-use Rattle.calc_algebra.specs.Rewritings.{HasNoNewName, KeepsMeanings}
-use Rattle.calc_algebra.proofs.Rewritings.{keeps, Rewrites-refl, reduces}
-use Rattle.number_forms.specs.Readers.{is_zero}
-use Rattle.power_reduce.specs.PowerAnswers.{has_no_power, has_number_power, IsWrittenPower, IsPowerAnswer}
-use Rattle.power_reduce.specs.PowerSteps.{is_zero_or_one}
+use Rattle.power_reduce.proofs.Shared.{and_parts, eqb-true, lt-leb, Contains-append_left, Fraction, zero_fraction, one_fraction, int_is_negative, nest, nest_of, load, is_number, classes, IsNumber, IsTerm, AreTerms, is_reduced, HasForm, IsPowerForm, num_one, Tree, num, undef, add, mult, power, root, Trees, none, more, names, names_of, AllParts, AllPartsOf, is_undef, itself, in_base, in_exponent, number_words, number_test, power_one_is_base, power_zero_is_one, reduced_test, undef_part, reduced_parts, HasNoNewName, KeepsMeanings, keeps, Rewrites-refl, reduces, is_zero, has_no_power, has_number_power, IsWrittenPower, IsPowerAnswer, is_zero_or_one}
 use Rattle.power_reduce.proofs.Written.{zero_written, one_written, kept_written}
 use Rattle.power_reduce.proofs.Bounds.{load_at_most_weight, transparent_load, opaque_load}
 

@@ -1,19 +1,7 @@
 -- By which rule a power was rewritten, and what falls.
 use Rattle.std.proofs.Common.{◌≡◌, ◌+◌, ◌≤◌, ◌<◌, suc, inl, inr, Bool, true, false, ◌&&◌, ◌||◌, not, if◌then◌else◌, Some, refl, sym, ◌∙◌, subst, arith}
 use Rattle.std.specs.Prelude.{max, ◌==◌}
-use Rattle.std.proofs.lemmas.Bool.{and_parts}
-use Rattle.calc_terms.specs.Fractions.{Fraction, whole_fraction}
-use Rattle.calc_measures.specs.Loads.{nest, load, weight, load_of_factor}
-use Rattle.calc_algebra.specs.Numbers.{is_number}
-use Rattle.calc_algebra.specs.Reduced.{is_reduced, is_half_num, is_whole_num, is_opaque_exponent}
-use Rattle.calc_terms.specs.Trees.{Tree, num, mult, power, root, Trees, none, more, is_undef}
-use Rattle.calc_terms.proofs.FractionFacts.{whole_denominator}
-use Rattle.calc_algebra.proofs.NumberLaws.{number_test, number_words}
-use Rattle.coefficients.proofs.Forms.{reduced_parts, parts_reduced}
-use Rattle.number_forms.specs.Readers.{is_zero}
-use Rattle.power_reduce.specs.PowerAnswers.{has_no_power, has_number_power}
-use Rattle.power_reduce.specs.PowerRules.{EachTree, HalvesRoot, JoinsExponents, IsLighterPart, RaisesParts, IsByRule, IsRewritable}
-use Rattle.power_reduce.specs.PowerSteps.{goes_inside, is_even_whole, half, parts_of, raised, rewritten, rewritten_whole}
+use Rattle.power_reduce.proofs.Shared.{and_parts, Fraction, whole_fraction, nest, load, weight, load_of_factor, is_number, is_reduced, is_half_num, is_whole_num, is_opaque_exponent, Tree, num, mult, power, root, Trees, none, more, is_undef, whole_denominator, number_test, number_words, reduced_parts, parts_reduced, is_zero, has_no_power, has_number_power, EachTree, HalvesRoot, JoinsExponents, IsLighterPart, RaisesParts, IsByRule, IsRewritable, goes_inside, is_even_whole, half, parts_of, raised, rewritten, rewritten_whole}
 use Rattle.power_reduce.proofs.Exponents.{inside_whole, whole_defined, as_whole}
 use Rattle.power_reduce.proofs.Answered.{number_plain}
 use Rattle.power_reduce.proofs.Bounds.{number_load}

@@ -1,27 +1,8 @@
 -- Which powers no rule rewrites, by what the program tests.
 use Rattle.std.proofs.Common.{◌≡◌, ◌≢◌, ℕ, ◌%◌, ◌<◌, ◌^◌, ℤ, pos, negsuc, zero, suc, neg_ℤ, Bool, true, false, ◌&&◌, ◌||◌, not, if◌then◌else◌, Option, Some, None, Result, Ok, Err, ◌⊎◌, inl, inr, refl, sym, ap, ◌∙◌, subst, arith, to_z, of_z, FitsSigned}
-use Rattle.std.proofs.lemmas.Bool.{and_parts, eqb-true, eq-eqb}
-use Rattle.std.proofs.lemmas.Int.{ints, rem_is, fits_signed_from_abs}
-use Rattle.std.specs.Int.{w128}
-use Rattle.std.specs.Result.{IsErrAnd}
 use Rattle.std.specs.Prelude.{nat_abs, int_rem, ◌==◌}
-use Rattle.calc_terms.specs.declared.kind.Kind.TheVariants as kind
-use Rattle.calc_terms.specs.Fractions.{Fraction, whole_fraction, zero_fraction, is_zero_fraction, is_one_fraction}
-use Rattle.calc_terms.specs.Integers.{int_is_zero, int_is_one, int_is_even}
-use Rattle.calc_algebra.specs.Numbers.{is_number}
-use Rattle.calc_measures.specs.PlainValues.{PlainValue, plain_value, powered, nothing}
-use Rattle.calc_algebra.specs.Reduced.{is_half_num, is_whole_num, is_opaque_exponent}
-use Rattle.calc_terms.specs.Trees.{Tree, num, symbol, undef, add, mult, power, root, neg, sub, div, none, more, root_kind, is_num, is_undef, is_root}
-use Rattle.calc_terms.proofs.FractionFacts.{whole_numerator, whole_denominator, zero_is}
-use Rattle.calc_algebra.proofs.NumberLaws.{number_test, number_words}
-use Rattle.node_pool.specs.declared.full.Full.{Full}
-use Rattle.node_pool.specs.State.{State}
-use Rattle.number_forms.specs.Answers.{AnswersRationals}
-use Rattle.number_forms.specs.Readers.{is_zero}
-use Rattle.power_reduce.specs.PowerAnswers.{is_power, base_in, exponent_in, is_at_most_zero, has_no_power, IsPowerAnswer, HasReducedSides}
-use Rattle.power_reduce.specs.PowerSteps.{goes_inside, is_zero_or_one, is_even_whole, half, parts_of, raised, rewritten, rewritten_whole}
+use Rattle.power_reduce.proofs.Shared.{and_parts, eqb-true, eq-eqb, ints, rem_is, fits_signed_from_abs, w128, IsErrAnd, Fraction, whole_fraction, zero_fraction, is_zero_fraction, is_one_fraction, int_is_zero, int_is_one, int_is_even, is_number, PlainValue, plain_value, powered, nothing, is_half_num, is_whole_num, is_opaque_exponent, Tree, num, symbol, undef, add, mult, power, root, neg, sub, div, none, more, root_kind, is_num, is_undef, is_root, whole_numerator, whole_denominator, zero_is, number_test, number_words, Full, State, AnswersRationals, is_zero, is_power, base_in, exponent_in, is_at_most_zero, has_no_power, IsPowerAnswer, HasReducedSides, goes_inside, is_zero_or_one, is_even_whole, half, parts_of, raised, rewritten, rewritten_whole, numerator, told, Overflow, IsPlainOverflow, Rewrites, Gives, AnswersRationalStep, Step, NumberFault, Forest, gives_as, by_test}
 use Rattle.calc_algebra.proofs.HalfLaws.{half_is_odd}
-use Rattle.number_forms.specs.Readers.{numerator}
 use Rattle.power_reduce.proofs.Answered.{kept_answer, undef_base_answer, undef_exponent_answer}
 use Rattle.power_reduce.proofs.ByRule.{has_power}
 use Rattle.power_reduce.proofs.Exponents.{as_whole, inside_whole, whole_no_half}
@@ -29,19 +10,9 @@ use Rattle.power_reduce.proofs.Kept.{reduced_power, kept_form, whole_inside}
 use Rattle.power_reduce.proofs.Powers.{power_is}
 use Rattle.power_reduce.proofs.Rules.{rewriting}
 use Rattle.power_reduce.proofs.Whole.{whole_is}
-use Rattle.rational128.proofs.Signed.{told}
-use Rattle.rational128.specs.declared.overflow.Overflow.{Overflow}
-use Rattle.calc_measures.specs.PlainTrees.{IsPlainOverflow}
-use Rattle.calc_algebra.specs.Rewritings.{Rewrites}
-use Rattle.tree_handles.specs.Handed.{Gives}
-use Rattle.reduce_port.specs.Steps.{AnswersRationalStep}
-use Rattle.reduce_port.specs.declared.step.Step.{Step}
+use Rattle.calc_terms.specs.declared.kind.Kind.TheVariants as kind
 use Rattle.reduce_port.specs.declared.step.Step.TheVariants as step
-use Rattle.tree_handles.specs.declared.fault.NumberFault.{NumberFault}
 use Rattle.tree_handles.specs.declared.fault.NumberFault.TheVariants as fault
-use Rattle.tree_handles.specs.Forest.{Forest}
-use Rattle.tree_handles.proofs.Given.{gives_as}
-use Rattle.tree_handles.proofs.Outcomes.{by_test}
 
 -- ---- tests
 

@@ -1,29 +1,12 @@
 -- The answer of a step counts no more than the power, and what a rewriting of a product counts.
 use Rattle.std.proofs.Common.{◌≡◌, ◌+◌, ◌≤◌, pos, Bool, true, false, ◌||◌, None, Result, Ok, Err, refl, ap, ◌∙◌, arith}
 use Rattle.std.specs.Prelude.{if◌then◌else◌, IfOk}
-use Rattle.calc_algebra.specs.Numbers.{is_number}
-use Rattle.calc_algebra.specs.Reduced.{is_num_one, is_reduced, is_whole_num, num_one, split_product, NoneIs}
-use Rattle.calc_room.specs.Counts.{counted, counted_among}
-use Rattle.calc_room.proofs.TreeBytes.{counted_other}
-use Rattle.calc_terms.specs.Fractions.{Fraction, one_fraction, is_zero_fraction, is_one_fraction}
-use Rattle.calc_terms.specs.Trees.{Tree, num, undef, mult, power, Trees, none, more, is_undef}
-use Rattle.calc_terms.proofs.FractionFacts.{zero_is, one_is}
-use Rattle.node_pool.specs.State.{State}
-use Rattle.power_reduce.specs.PowerAnswers.{is_power, base_in, exponent_in, has_no_power, has_number_power, IsWrittenPower, IsPowerAnswer, IsStep}
-use Rattle.power_reduce.specs.PowerSteps.{is_zero_or_one, parts_of, rewritten}
+use Rattle.power_reduce.proofs.Shared.{is_number, is_num_one, is_reduced, is_whole_num, num_one, split_product, NoneIs, counted, counted_among, counted_other, Fraction, one_fraction, is_zero_fraction, is_one_fraction, Tree, num, undef, mult, power, Trees, none, more, is_undef, zero_is, one_is, State, is_power, base_in, exponent_in, has_no_power, has_number_power, IsWrittenPower, IsPowerAnswer, IsStep, is_zero_or_one, parts_of, rewritten, IfDone, Step, Forest, tree_of, NumberFault, given_told, split_counts, counts_one, number_counts_one}
 use Rattle.power_reduce.proofs.Powers.{power_is}
 use Rattle.power_reduce.proofs.Rooms.{HasFactors, product_factors}
 use Rattle.power_reduce.proofs.Whole.{whole_is}
-use Rattle.reduce_port.specs.Steps.{IfDone}
-use Rattle.reduce_port.specs.declared.step.Step.{Step}
-use Rattle.reduce_port.specs.declared.step.Step.TheVariants as step
-use Rattle.tree_handles.specs.Forest.{Forest}
-use Rattle.tree_handles.specs.Handed.{tree_of}
-use Rattle.tree_handles.specs.declared.fault.NumberFault.{NumberFault}
-use Rattle.tree_handles.proofs.Given.{given_told}
 use Rattle.tree_room.specs.Handed.{counted_in_all}
-use Rattle.tree_room.proofs.Coefficients.{split_counts}
-use Rattle.tree_room.proofs.Counts.{counts_one, number_counts_one}
+use Rattle.reduce_port.specs.declared.step.Step.TheVariants as step
 
 undef_counts : (t : Tree) → is_undef t ≡ true → counted t ≡ 1
 undef_counts undef h = refl

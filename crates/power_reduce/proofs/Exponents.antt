@@ -1,11 +1,6 @@
 -- Whole exponents, and those that are half of an odd whole number.
 use Rattle.std.proofs.Common.{◌≡◌, ℕ, ℤ, true, false, ◌==◌, Some, None, refl, sym, ap, ◌∙◌, arith}
-use Rattle.std.proofs.lemmas.Bool.{and_parts, eqb-true, false_from_ne_true}
-use Rattle.calc_terms.specs.Fractions.{whole_fraction}
-use Rattle.calc_terms.specs.Trees.{Tree, num, undef, is_undef}
-use Rattle.calc_algebra.proofs.NumberRewrites.{fraction_whole}
-use Rattle.calc_algebra.specs.Reduced.{is_half_num, is_whole_num}
-use Rattle.power_reduce.specs.PowerSteps.{goes_inside, power_of_root, rewritten, rewritten_whole}
+use Rattle.power_reduce.proofs.Shared.{and_parts, eqb-true, false_from_ne_true, whole_fraction, Tree, num, undef, is_undef, fraction_whole, is_half_num, is_whole_num, goes_inside, power_of_root, rewritten, rewritten_whole}
 
 -- ---- whole exponents
 

@@ -1,24 +1,12 @@
 -- Half of an even exponent.
 use Rattle.std.proofs.Common.{◌≡◌, ◌<◌, ◌≤◌, ◌^◌, Bool, neg_ℤ, ℤ, pos, negsuc, Some, refl, sym, ap, ◌∙◌, arith, to_z, of_z, true, false, FitsSigned}
-use Rattle.std.proofs.lemmas.Int.{ints, quot_is, quot_fits, fits_signed_from_abs}
-use Rattle.std.specs.Int.{w128}
 use Rattle.std.specs.Prelude.{nat_abs, int_div, int_le, int_lt}
-use Rattle.calc_terms.specs.declared.rat.Rat.{Rat}
-use Rattle.calc_terms.specs.Fractions.{lowest, whole_fraction}
-use Rattle.calc_algebra.specs.Numbers.{is_number}
-use Rattle.calc_terms.specs.Rat.{ratio_of, value_of}
-use Rattle.calc_terms.specs.Ratio.{Ratio, whole}
-use Rattle.calc_terms.specs.Trees.{Tree, num, power, root, is_root, size}
-use Rattle.calc_terms.proofs.FractionFacts.{whole_numerator, whole_denominator}
-use Rattle.calc_terms.proofs.Sizes.{number_most}
-use Rattle.calc_terms.specs.declared.kind.Kind.TheVariants as kind
+use Rattle.power_reduce.proofs.Shared.{ints, quot_is, quot_fits, fits_signed_from_abs, w128, Rat, lowest, whole_fraction, is_number, ratio_of, value_of, Ratio, whole, Tree, num, power, root, is_root, size, whole_numerator, whole_denominator, number_most, and_from, and_parts, half, is_even_whole, rewritten, nth, children_of}
 use Rattle.calc_terms.specs.Kind.{size_by_form}
 use Rattle.calc_terms.specs.Short.{is_short, is_short_int}
-use Rattle.std.proofs.lemmas.Bool.{and_from, and_parts}
-use Rattle.power_reduce.specs.PowerSteps.{half, is_even_whole, rewritten}
 use Rattle.power_reduce.proofs.Exponents.{as_whole, whole_no_half}
 use Rattle.power_reduce.proofs.Whole.{whole_is}
-use Rattle.tree_handles.specs.Expressions.{nth, children_of}
+use Rattle.calc_terms.specs.declared.kind.Kind.TheVariants as kind
 
 half_is : (z : ℤ) → int_div z (pos 2) ≡ half z
 half_is (pos n) = refl

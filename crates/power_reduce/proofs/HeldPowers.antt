@@ -1,36 +1,15 @@
 -- Whole powers are held by the bits of their bases, times the exponent.
 use Rattle.std.proofs.Common.{◌≡◌, ℕ, zero, suc, ◌*◌, ◌<◌, ◌≤◌, ◌≤ℤ◌, ◌<ℤ◌, inr, ℤ, pos, negsuc, neg_ℤ, List, [], ◌∷◌, length, Bool, true, false, ◌&&◌, ◌||◌, not, None, Some, Result, Ok, Err, refl, sym, ap, ◌∙◌, subst, arith}
 use Rattle.std.specs.Prelude.{if◌then◌else◌, nat_abs, nat_le, IfOk, ◌==◌}
-use Rattle.std.proofs.lemmas.Bool.{and_parts, leb-false}
-use Rattle.std.proofs.lemmas.Int.{ints}
-use Rattle.std.proofs.lemmas.Nat.{mul-le}
-use Rattle.calc_algebra.specs.Numbers.{is_number, value, classes, IsNumber, IsTerm, term_of}
-use Rattle.calc_algebra.specs.Reduced.{is_opaque_exponent, is_whole_num, num_one}
-use Rattle.calc_algebra.specs.Surds.{Surd, surd_one}
-use Rattle.calc_algebra.proofs.NumberLaws.{number_test, number_words}
-use Rattle.calc_algebra.proofs.NumberClasses.{term_proper}
+use Rattle.power_reduce.proofs.Shared.{and_parts, leb-false, ints, mul-le, is_number, value, classes, IsNumber, IsTerm, term_of, is_opaque_exponent, is_whole_num, num_one, Surd, surd_one, number_test, number_words, term_proper, IsHeld, mass, mass_from, calculated, exactly, powered, undefined, pow_op, fraction_power, Fraction, inverse, one_fraction, whole_fraction, is_zero_fraction, is_one_fraction, Tree, num, symbol, undef, add, mult, power, root, neg, sub, div, none, more, is_undef, one_is, whole_numerator, zero_is, State, IsFactorHeld, IsHeldAsPowerOf, IsNumberPower, base_in, exponent_in, has_no_power, has_number_power, IsWrittenPower, IsPowerAnswer, IsStep, goes_inside, is_zero_or_one, parts_of, raised, rewritten, rewritten_whole, IsNoLargerThanInverse, IfDone, Step, tree_as_base, alone, held_wider, nothing_held, number_held, Forest, tree_of, NumberFault, given_told}
 use Rattle.calc_bits.proofs.Held.{held_power}
 use Rattle.calc_bits.specs.Bounds.{IsNoLargerThanPower}
-use Rattle.calc_bits.specs.Masses.{IsHeld, mass, mass_from}
-use Rattle.calc_measures.specs.PlainValues.{calculated, exactly, powered, undefined}
-use Rattle.calc_terms.specs.Fits.{pow_op, fraction_power}
-use Rattle.calc_terms.specs.Fractions.{Fraction, inverse, one_fraction, whole_fraction, is_zero_fraction, is_one_fraction}
-use Rattle.calc_terms.specs.Trees.{Tree, num, symbol, undef, add, mult, power, root, neg, sub, div, none, more, is_undef}
-use Rattle.calc_terms.proofs.FractionFacts.{one_is, whole_numerator, zero_is}
-use Rattle.node_pool.specs.State.{State}
-use Rattle.power_reduce.specs.Bits.{IsFactorHeld, IsHeldAsPowerOf, IsNumberPower}
-use Rattle.power_reduce.specs.PowerAnswers.{base_in, exponent_in, has_no_power, has_number_power, IsWrittenPower, IsPowerAnswer, IsStep}
-use Rattle.power_reduce.specs.PowerSteps.{goes_inside, is_zero_or_one, parts_of, raised, rewritten, rewritten_whole}
 use Rattle.power_reduce.proofs.Exponents.{as_whole, whole_no_half}
 use Rattle.power_reduce.proofs.RationalPowers.{calculated_exactly}
 use Rattle.power_reduce.proofs.Whole.{whole_is}
 use Rattle.power_reduce.proofs.Written.{number_power, one_exponent}
 use Rattle.power_reduce.proofs.ByRule.{no_number_power as no_number_base}
 use Rattle.power_reduce.proofs.WithinBits.{rational_raised, rational_inverted, number_is_held}
-use Rattle.surd_bits.specs.Inverted.{IsNoLargerThanInverse}
-use Rattle.reduce_port.specs.Steps.{IfDone}
-use Rattle.reduce_port.specs.declared.step.Step.{Step}
-use Rattle.reduce_port.specs.declared.step.Step.TheVariants as step
 use Rattle.tree_bits.specs.Children.{IsSumHeld}
 use Rattle.tree_bits.specs.Exponents.{Counts, counts, counts_of, is_counted, are_counted, multiple}
 use Rattle.tree_bits.specs.Factors.{as_factor}
@@ -38,14 +17,9 @@ use Rattle.tree_bits.specs.HeldTrees.{Addend, addend, addend_of, IsPartHeld, fac
 use Rattle.tree_bits.specs.Powers.{raised_high, raised_low, IsHeldAsPower}
 use Rattle.tree_bits.specs.Weighted.{Weighted, weighted}
 use Rattle.tree_bits.proofs.Children.{tree_as_sum}
-use Rattle.tree_bits.proofs.Factors.{tree_as_base}
-use Rattle.tree_bits.proofs.Numbers.{alone, held_wider, nothing_held, number_held}
 use Rattle.tree_bits.proofs.Powers.{addend_raised, held_as_power, held_as_inverse, inverse_raised}
 use Rattle.tree_bits.proofs.Sums.{one_counts, one_weighted}
-use Rattle.tree_handles.specs.Forest.{Forest}
-use Rattle.tree_handles.specs.Handed.{tree_of}
-use Rattle.tree_handles.specs.declared.fault.NumberFault.{NumberFault}
-use Rattle.tree_handles.proofs.Given.{given_told}
+use Rattle.reduce_port.specs.declared.step.Step.TheVariants as step
 
 -- ---- Numbers as factors
 

@@ -1,28 +1,9 @@
 -- A power is rewritten where it stands: the node of its base goes, and the exponent is replaced.
 use Rattle.std.proofs.Common.{◌≡◌, ℕ, ◌≤◌, [], ◌∷◌, refl, sym, ap, ◌∙◌, subst, arith, true, false}
+use Rattle.power_reduce.proofs.Shared.{Tree, root, Trees, none, more, append, is_root, size, IsOver, IsTaken, taken, over_put, over_same, over_end, once_count, without_put, IsAdded, cut, cut_rest, represents_count, gives_put, State, free_of, released_free, is_power, base_in, exponent_in, tree_of, IsOnce, IsHanded, Represents, Ends, Gives, KeepsFront, nth, children_of, Forest, arity, kids, root_count, tree_nth, without_nth, merged_nth, holds, kids_of, root_tree, without_root, put, Stands, forest, KeepsRefusals, all-kids, behind_first, front_same, front_at, front_put, gives_as, given_root, represents_join, apart, kids_of_root, other_apart, eqb-sym, children_of-plain, whole_kids, put-put}
 use Rattle.calc_terms.specs.declared.kind.Kind.{Kind}
-use Rattle.calc_terms.specs.declared.kind.Kind.TheVariants as kind
-use Rattle.calc_terms.specs.Trees.{Tree, root, Trees, none, more, append, is_root, size}
-use Rattle.tree_handles.proofs.Over.{IsOver, IsTaken, taken, over_put, over_same, over_end, once_count, without_put, IsAdded}
-use Rattle.tree_handles.proofs.Cuts.{cut, cut_rest, represents_count}
-use Rattle.tree_handles.proofs.Beside.{gives_put}
-use Rattle.node_pool.specs.State.{State, free_of}
-use Rattle.tree_handles.proofs.Room.{released_free}
-use Rattle.power_reduce.specs.PowerAnswers.{is_power, base_in, exponent_in}
 use Rattle.power_reduce.proofs.Powers.{over_power}
-use Rattle.tree_handles.specs.Handed.{tree_of, IsOnce, IsHanded, Represents, Ends, Gives, KeepsFront}
-use Rattle.tree_handles.specs.Expressions.{nth, children_of}
-use Rattle.tree_handles.specs.Forest.{Forest, arity, kids, root_count, tree_nth, without_nth, merged_nth}
-use Rattle.tree_handles.specs.Inside.{holds, kids_of}
-use Rattle.tree_handles.specs.Roots.{root_tree, without_root, put}
-use Rattle.tree_handles.specs.Standing.{Stands, forest, KeepsRefusals}
-use Rattle.tree_handles.proofs.Counted.{all-kids}
-use Rattle.tree_handles.proofs.Fronts.{behind_first, front_same, front_at, front_put}
-use Rattle.tree_handles.proofs.Given.{gives_as, given_root, represents_join}
-use Rattle.tree_handles.proofs.Lasts.{apart, kids_of_root, other_apart}
-use Rattle.tree_handles.proofs.Outcomes.{eqb-sym}
-use Rattle.tree_handles.proofs.Plains.{children_of-plain, whole_kids}
-use Rattle.tree_handles.proofs.Roots.{put-put}
+use Rattle.calc_terms.specs.declared.kind.Kind.TheVariants as kind
 
 -- ---- the node of the first child goes
 

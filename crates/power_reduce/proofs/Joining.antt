@@ -1,22 +1,10 @@
 -- The exponents of a power of a power are joined in a product, which takes their place.
 use Rattle.std.proofs.Common.{◌≡◌, ◌∙◌, ℕ, refl, ap, subst, true, false, Some}
-use Rattle.calc_terms.specs.declared.kind.Kind.TheVariants as kind
-use Rattle.calc_terms.specs.Payload.{bare}
-use Rattle.calc_algebra.specs.Reduced.{is_opaque_exponent}
-use Rattle.calc_terms.specs.Trees.{Tree, mult, power, Trees, none, more, append}
-use Rattle.tree_handles.proofs.Over.{IsOver, IsTaken, taken, over_put, IsAdded}
-use Rattle.power_reduce.specs.PowerAnswers.{is_power, base_in, exponent_in}
-use Rattle.power_reduce.specs.PowerSteps.{goes_inside, rewritten}
+use Rattle.power_reduce.proofs.Shared.{bare, is_opaque_exponent, Tree, mult, power, Trees, none, more, append, IsOver, IsTaken, taken, over_put, IsAdded, is_power, base_in, exponent_in, goes_inside, rewritten, State, tree_of, IsHanded, Ends, Gives, Forest, empty, kids, one_tree, with_root_kids, tree_nth, with_nth, without_nth, merged_nth, root_tree, without_root, put, forest, gives, given_handed, given_rest, given_told, represents_handed, represents_node, represents_none, represents_with, ends_as}
 use Rattle.power_reduce.proofs.Exponents.{as_whole, inside_whole, whole_no_half}
 use Rattle.power_reduce.proofs.InPlace.{merged, taken_on}
 use Rattle.power_reduce.proofs.Powers.{over_power, power_children}
-use Rattle.node_pool.specs.State.{State}
-use Rattle.tree_handles.specs.Handed.{tree_of, IsHanded, Ends, Gives}
-use Rattle.tree_handles.specs.Forest.{Forest, empty, kids, one_tree, with_root_kids, tree_nth, with_nth, without_nth, merged_nth}
-use Rattle.tree_handles.specs.Roots.{root_tree, without_root, put}
-use Rattle.tree_handles.specs.Standing.{forest}
-use Rattle.tree_handles.proofs.Given.{gives, given_handed, given_rest, given_told, represents_handed, represents_node, represents_none, represents_with}
-use Rattle.tree_handles.proofs.Lasts.{ends_as}
+use Rattle.calc_terms.specs.declared.kind.Kind.TheVariants as kind
 
 -- the sides of the base, and the exponent
 pub sides_merged : {i : ℕ} {new : Forest} (s : State) → IsHanded i (forest s) → is_power (tree_of i s) ≡ true → is_power (base_in (tree_of i s)) ≡ true

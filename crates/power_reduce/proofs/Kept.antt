@@ -1,14 +1,6 @@
 -- Powers that no rule changes are reduced.
 use Rattle.std.proofs.Common.{◌≡◌, ◌≤◌, Bool, true, false, ◌&&◌, ◌||◌, ◌==◌, not, if◌then◌else◌, inl, inr, Some, None, pos, refl, sym, ap, ◌∙◌, arith}
-use Rattle.std.proofs.lemmas.Bool.{and_from, eq-eqb, not_from_false}
-use Rattle.calc_terms.specs.Fractions.{Fraction, zero_fraction, one_fraction, is_zero_fraction, is_one_fraction}
-use Rattle.calc_terms.specs.Integers.{int_is_zero, int_is_one, int_is_even, int_is_negative}
-use Rattle.calc_algebra.specs.Numbers.{is_number, classes}
-use Rattle.calc_algebra.specs.Reduced.{is_reduced, is_whole_num, is_transparent_power, IsReduced, HasForm, IsPowerForm, IsWholePowerForm}
-use Rattle.calc_terms.specs.Trees.{Tree, num, symbol, undef, add, mult, power, root, neg, sub, div, AllParts, is_undef, is_mult, is_root}
-use Rattle.calc_terms.proofs.FractionFacts.{whole_numerator, whole_denominator}
-use Rattle.calc_algebra.proofs.ReducedLaws.{reduced_words, reduced_test}
-use Rattle.power_reduce.specs.PowerSteps.{is_zero_or_one, goes_inside, is_even_whole, rewritten, rewritten_whole}
+use Rattle.power_reduce.proofs.Shared.{and_from, eq-eqb, not_from_false, Fraction, zero_fraction, one_fraction, is_zero_fraction, is_one_fraction, int_is_zero, int_is_one, int_is_even, int_is_negative, is_number, classes, is_reduced, is_whole_num, is_transparent_power, IsReduced, HasForm, IsPowerForm, IsWholePowerForm, Tree, num, symbol, undef, add, mult, power, root, neg, sub, div, AllParts, is_undef, is_mult, is_root, whole_numerator, whole_denominator, reduced_words, reduced_test, is_zero_or_one, goes_inside, is_even_whole, rewritten, rewritten_whole}
 use Rattle.power_reduce.proofs.Exponents.{as_whole, no_half, one_is_not_two}
 
 -- the parts of a reduced tree that is not Undef have their forms

@@ -1,29 +1,8 @@
 -- Trees that the tests build.
 use Rattle.std.proofs.Common.{◌≡◌, ℕ, List, true, pos, Result, Ok, Err, inl, inr, refl, ap, ◌∙◌, subst}
 use Rattle.std.specs.Prelude.{IfOk}
-use Rattle.calc_algebra.specs.Clean.{is_clean, left_of}
-use Rattle.calc_terms.specs.Fractions.{Fraction, lowest, whole_fraction, zero_fraction, one_fraction}
-use Rattle.calc_terms.specs.Gcd.{gcd}
-use Rattle.calc_algebra.specs.Numbers.{is_number}
-use Rattle.calc_terms.specs.Rat.{ratio_of, value_of}
-use Rattle.calc_terms.specs.Ratio.{Ratio, whole}
-use Rattle.calc_algebra.specs.Reduced.{is_reduced}
-use Rattle.calc_algebra.specs.SquareRoots.{square_root}
-use Rattle.calc_terms.specs.Trees.{Tree, num, symbol, mult, root, none, more}
-use Rattle.calc_terms.specs.declared.rat.Rat.{Rat}
-use Rattle.calc_algebra.proofs.NumberLaws.{number_words}
-use Rattle.calc_algebra.proofs.ReducedLaws.{reduced_test}
-use Rattle.coefficients.proofs.Forms.{parts_reduced, number_parts}
-use Rattle.node_pool.specs.State.{State}
-use Rattle.power_reduce.specs.PowerAnswers.{IsStep}
-use Rattle.tree_handles.specs.Handed.{tree_of, IsHanded}
-use Rattle.reduce_port.specs.Steps.{IfDone}
-use Rattle.reduce_port.specs.declared.step.Step.{Step}
+use Rattle.power_reduce.proofs.Shared.{is_clean, left_of, Fraction, lowest, whole_fraction, zero_fraction, one_fraction, gcd, is_number, ratio_of, value_of, Ratio, whole, is_reduced, square_root, Tree, num, symbol, mult, root, none, more, Rat, number_words, reduced_test, parts_reduced, number_parts, State, IsStep, tree_of, IsHanded, IfDone, Step, NumberFault, Forest, forest, given_handed, given_told}
 use Rattle.reduce_port.specs.declared.step.Step.TheVariants as step
-use Rattle.tree_handles.specs.declared.fault.NumberFault.{NumberFault}
-use Rattle.tree_handles.specs.Forest.{Forest}
-use Rattle.tree_handles.specs.Standing.{forest}
-use Rattle.tree_handles.proofs.Given.{given_handed, given_told}
 
 pub number_reduced : (q : Fraction) → is_reduced (num q) ≡ true
 number_reduced q = reduced_test (num q) (inr (inl tt))

@@ -25,3 +25,4 @@ pub mod RaisedBytes
 pub mod Rooms
 pub mod WithinBits
 pub mod HeldPowers
+pub mod Shared

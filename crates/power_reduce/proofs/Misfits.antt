@@ -1,23 +1,9 @@
 -- Which operation of a power does not fit, from the call that was refused.
 use Rattle.std.proofs.Common.{◌≡◌, ℕ, ℤ, pos, negsuc, neg_ℤ, ◌≤ℤ◌, ◌<ℤ◌, ◌≤◌, true, false, Result, Ok, Err, refl, sym, subst, arith}
-use Rattle.std.proofs.lemmas.Int.{ints}
 use Rattle.std.specs.Prelude.{nat_abs, IfErr}
-use Rattle.calc_algebra.specs.Numbers.{is_number, classes, value}
-use Rattle.calc_measures.specs.PlainTrees.{IsPlainOverflow}
-use Rattle.calc_measures.specs.PlainValues.{calculated, plain_value}
-use Rattle.calc_terms.proofs.FractionFacts.{whole_numerator}
-use Rattle.calc_terms.specs.Fits.{pow_op}
-use Rattle.calc_terms.specs.Fractions.{Fraction, whole_fraction}
-use Rattle.calc_terms.specs.Trees.{Tree, num, power, is_num}
-use Rattle.node_pool.specs.State.{State}
-use Rattle.number_forms.specs.Answers.{AnswersRationals}
-use Rattle.number_forms.specs.Inverses.{IsInverseOf}
-use Rattle.tree_handles.specs.Faults.{OfOverflow}
+use Rattle.power_reduce.proofs.Shared.{ints, is_number, classes, value, IsPlainOverflow, calculated, plain_value, whole_numerator, pow_op, Fraction, whole_fraction, Tree, num, power, is_num, State, AnswersRationals, IsInverseOf, OfOverflow, RaisingOverflows, LoweringOverflows, inverting, raising, WholeOverflows, NamesPower, IsPowerMisfit, Overflow, NumberFault}
 use Rattle.number_forms.specs.Overflows.{InverseOverflows, PowerOverflows}
 use Rattle.power_reduce.proofs.Written.{rational_power_is, inverse_power_is, positive_power_is}
-use Rattle.power_reduce.specs.Misfits.{RaisingOverflows, LoweringOverflows, inverting, raising, WholeOverflows, NamesPower, IsPowerMisfit}
-use Rattle.rational128.specs.declared.overflow.Overflow.{Overflow}
-use Rattle.tree_handles.specs.declared.fault.NumberFault.{NumberFault}
 use Rattle.tree_handles.specs.declared.fault.NumberFault.TheVariants as fault
 
 names_rational : (b e : Tree) (q : Fraction) (o : Overflow) → b ≡ num q → IsPlainOverflow (plain_value (power b e)) o → NamesPower b e o

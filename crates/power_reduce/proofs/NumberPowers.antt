@@ -1,33 +1,14 @@
 -- Whole powers of Numbers that are no rationals.
 use Rattle.std.proofs.Common.{◌≡◌, ◌≢◌, ℕ, ◌≤◌, ◌≤ℤ◌, ◌<ℤ◌, ℤ, pos, negsuc, neg_ℤ, zero, suc, true, false, refl, sym, ap, ◌∙◌, subst, arith}
-use Rattle.std.proofs.lemmas.Int.{ints}
 use Rattle.std.specs.Prelude.{nat_abs}
-use Rattle.calc_terms.specs.Fractions.{whole_fraction, zero_fraction, one_fraction}
-use Rattle.calc_terms.specs.Integers.{int_is_negative}
-use Rattle.calc_algebra.specs.Numbers.{is_number, classes, value, IsNumber}
-use Rattle.calc_algebra.specs.SquareClasses.{Inverts}
-use Rattle.calc_algebra.specs.Surds.{Surd, surd_power}
-use Rattle.calc_algebra.specs.Reduced.{is_reduced, num_one}
-use Rattle.calc_terms.specs.Trees.{Tree, num, undef, add, power, is_num, is_undef}
-use Rattle.calc_terms.proofs.FractionFacts.{whole_numerator, whole_denominator}
-use Rattle.calc_algebra.proofs.NumberLaws.{number_words}
-use Rattle.calc_algebra.proofs.NumberRewrites.{power_of_number, power_of_inverse}
-use Rattle.number_forms.specs.Answers.{IsNumberOf}
-use Rattle.number_forms.specs.Inverses.{IsInverseOf, AnswersInverse}
-use Rattle.number_forms.specs.Readers.{is_zero}
+use Rattle.power_reduce.proofs.Shared.{ints, whole_fraction, zero_fraction, one_fraction, int_is_negative, is_number, classes, value, IsNumber, Inverts, Surd, surd_power, is_reduced, num_one, Tree, num, undef, add, power, is_num, is_undef, whole_numerator, whole_denominator, number_words, power_of_number, power_of_inverse, IsNumberOf, IsInverseOf, AnswersInverse, is_zero, IsPowerAnswer, has_no_power, base_in, exponent_in, HasReducedSides, is_zero_or_one, keeps, without_root, Forest, Gives}
 use Rattle.number_forms.specs.declared.inverting.Inverse.{Inverse}
-use Rattle.number_forms.specs.declared.inverting.Inverse.TheVariants as inverse
-use Rattle.power_reduce.specs.PowerAnswers.{IsPowerAnswer, has_no_power, base_in, exponent_in, HasReducedSides}
 use Rattle.power_reduce.proofs.Answered.{number_answer, zero_exponent_answer, one_exponent_answer, kept_answer}
 use Rattle.power_reduce.proofs.ByRule.{has_power}
 use Rattle.power_reduce.proofs.Kept.{wide_power}
 use Rattle.power_reduce.proofs.Written.{number_power, few_classes, number_written}
-use Rattle.power_reduce.specs.PowerSteps.{is_zero_or_one}
 use Rattle.power_reduce.proofs.Powers.{power_is}
-use Rattle.calc_algebra.proofs.Rewritings.{keeps}
-use Rattle.tree_handles.specs.Roots.{without_root}
-use Rattle.tree_handles.specs.Forest.{Forest}
-use Rattle.tree_handles.specs.Handed.{Gives}
+use Rattle.number_forms.specs.declared.inverting.Inverse.TheVariants as inverse
 
 no_zero : (b : Tree) → is_num b ≡ false → is_zero b ≡ false
 no_zero (num q) h = absurd cc

@@ -1,21 +1,8 @@
 -- The parts of a product: its coefficient, where it is not 1, before its factors.
 use Rattle.std.proofs.Common.{◌≡◌, ℕ, ◌≤◌, Bool, true, false, Some, if◌then◌else◌, refl, sym, ap, ◌∙◌, subst, arith}
-use Rattle.calc_algebra.specs.Numbers.{is_number}
-use Rattle.calc_algebra.specs.Reduced.{is_reduced, is_num_one, split_product}
-use Rattle.calc_terms.specs.Trees.{Tree, mult, Trees, more, count, is_mult}
-use Rattle.coefficients.specs.Pairs.{GivesTwo}
+use Rattle.power_reduce.proofs.Shared.{is_number, is_reduced, is_num_one, split_product, Tree, mult, Trees, more, count, is_mult, GivesTwo, seen, State, goes_inside, parts_of, raised, rewritten, plain, children_of, Forest, IsHanded, Gives, tree_at, root_tree, Stands, forest, given_handed, given_other, given_root, given_same, given_told}
 use Rattle.coefficients.proofs.Lengths.{some_factors}
-use Rattle.tree_handles.proofs.Seen.{seen}
-use Rattle.node_pool.specs.State.{State}
-use Rattle.power_reduce.specs.PowerSteps.{goes_inside, parts_of, raised, rewritten}
 use Rattle.power_reduce.proofs.Exponents.{as_whole, inside_whole, whole_no_half}
-use Rattle.tree_handles.specs.Expressions.{plain, children_of}
-use Rattle.tree_handles.specs.Forest.{Forest}
-use Rattle.tree_handles.specs.Handed.{IsHanded, Gives}
-use Rattle.tree_handles.specs.Inside.{tree_at}
-use Rattle.tree_handles.specs.Roots.{root_tree}
-use Rattle.tree_handles.specs.Standing.{Stands, forest}
-use Rattle.tree_handles.proofs.Given.{given_handed, given_other, given_root, given_same, given_told}
 
 -- with a coefficient 1, and with another
 pub led_by_one : (ts : Trees) → is_num_one (split_product ts).coefficient ≡ true → parts_of ts ≡ (split_product ts).factors

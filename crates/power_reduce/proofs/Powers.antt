@@ -1,29 +1,7 @@
 -- A root of the pool that is a power: its sides, and what is left when they are taken.
 use Rattle.std.proofs.Common.{◌≡◌, ℕ, ◌+◌, ◌≤◌, [], ◌∷◌, refl, sym, ap, ◌∙◌, arith, true}
-use Rattle.tree_handles.proofs.Beside.{gives_without}
+use Rattle.power_reduce.proofs.Shared.{gives_without, Payload, bare, Tree, num, power, Trees, none, more, size, Fraction, one_fraction, num_least, num_most, whole_size, least_size, GivesTwo, IsOver, IsTaken, taken, over_put, once_count, without_put, children_at, seen, expression, State, is_power, base_in, exponent_in, tree_of, IsOnce, AllOnce, IsOwned, IsHanded, Ends, Gives, KeepsFront, nth, grown, plains, plain, IsExpression, children_of, Forest, empty, tree, arity, kids, root_payload, root_count, tree_nth, without_nth, tree_at, kids_of, root_tree, without_root, put, Stands, forest, all-kids, behind_first, front_same, front_at, front_end, front_put, front_without, gives_as, ends_without, ends_as, ends_at, children_of-plain, whole_kids, root_arity}
 use Rattle.calc_terms.specs.declared.kind.Kind.TheVariants as kind
-use Rattle.calc_terms.specs.Payload.{Payload, bare}
-use Rattle.calc_terms.specs.Trees.{Tree, num, power, Trees, none, more, size}
-use Rattle.calc_terms.specs.Fractions.{Fraction, one_fraction}
-use Rattle.calc_terms.proofs.Sizes.{num_least, num_most, whole_size}
-use Rattle.tree_handles.proofs.Room.{least_size}
-use Rattle.coefficients.specs.Pairs.{GivesTwo}
-use Rattle.tree_handles.proofs.Over.{IsOver, IsTaken, taken, over_put, once_count, without_put, children_at}
-use Rattle.tree_handles.proofs.Seen.{seen, expression}
-use Rattle.node_pool.specs.State.{State}
-use Rattle.power_reduce.specs.PowerAnswers.{is_power, base_in, exponent_in}
-use Rattle.tree_handles.specs.Handed.{tree_of, IsOnce, AllOnce, IsOwned, IsHanded, Ends, Gives, KeepsFront}
-use Rattle.tree_handles.specs.Expressions.{nth, grown, plains, plain, IsExpression, children_of}
-use Rattle.tree_handles.specs.Forest.{Forest, empty, tree, arity, kids, root_payload, root_count, tree_nth, without_nth}
-use Rattle.tree_handles.specs.Inside.{tree_at, kids_of}
-use Rattle.tree_handles.specs.Roots.{root_tree, without_root, put}
-use Rattle.tree_handles.specs.Standing.{Stands, forest}
-use Rattle.tree_handles.proofs.Counted.{all-kids}
-use Rattle.tree_handles.proofs.Fronts.{behind_first, front_same, front_at, front_end, front_put, front_without}
-use Rattle.tree_handles.proofs.Given.{gives_as}
-use Rattle.tree_handles.proofs.Lasts.{ends_without, ends_as, ends_at}
-use Rattle.tree_handles.proofs.Plains.{children_of-plain, whole_kids}
-use Rattle.tree_handles.proofs.Roots.{root_arity}
 
 -- ---- powers
 

@@ -1,22 +1,8 @@
 -- Bytes at hand while the factors of a product are raised one by one.
 use Rattle.std.proofs.Common.{◌≡◌, ℕ, ◌+◌, ◌*◌, ◌<◌, ◌≤◌, refl, ap, ◌∙◌, arith}
-use Rattle.calc_terms.specs.declared.kind.Kind.TheVariants as kind
-use Rattle.calc_terms.specs.Trees.{Tree, mult, Trees, none, more, append, count, size, sizes}
-use Rattle.tree_handles.proofs.Over.{IsOver, over_handed, over_plain, without_put}
-use Rattle.node_pool.specs.State.{State, free_of}
-use Rattle.tree_handles.proofs.FreeBytes.{bytes_without}
-use Rattle.power_reduce.specs.PowerSteps.{raised}
+use Rattle.power_reduce.proofs.Shared.{Tree, mult, Trees, none, more, append, count, size, sizes, IsOver, over_handed, over_plain, without_put, State, free_of, bytes_without, raised, plain, Forest, bytes_in, tree_of, IsHanded, tree_at, root_tree, without_root, Stands, forest, KeepsRefusals, tree_of_root, used_forest, size-plain, root_arity}
 use Rattle.power_reduce.proofs.Raising.{IsPartRaised, raised_append}
-use Rattle.tree_handles.specs.Expressions.{plain}
-use Rattle.tree_handles.specs.Forest.{Forest, bytes_in}
-use Rattle.tree_handles.specs.Handed.{tree_of, IsHanded}
-use Rattle.tree_handles.specs.Inside.{tree_at}
-use Rattle.tree_handles.specs.Roots.{root_tree, without_root}
-use Rattle.tree_handles.specs.Standing.{Stands, forest, KeepsRefusals}
-use Rattle.tree_handles.proofs.Lasts.{tree_of_root}
-use Rattle.tree_handles.proofs.Places.{used_forest}
-use Rattle.tree_handles.proofs.Plains.{size-plain}
-use Rattle.tree_handles.proofs.Roots.{root_arity}
+use Rattle.calc_terms.specs.declared.kind.Kind.TheVariants as kind
 
 -- ---- another tree in the place of a root's
 

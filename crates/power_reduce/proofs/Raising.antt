@@ -1,21 +1,8 @@
 -- The factors of a product are raised to an exponent, one by one.
 use Rattle.std.proofs.Common.{◌≡◌, ℕ, zero, suc, ◌+◌, ◌≤◌, ◌<◌, List, [], ◌∷◌, eqb, refl, sym, ap, ◌∙◌, subst, arith, false}
-use Rattle.calc_terms.specs.declared.kind.Kind.TheVariants as kind
-use Rattle.calc_terms.specs.Payload.{bare}
-use Rattle.calc_terms.specs.Trees.{Tree, mult, power, Trees, none, more, append, count}
-use Rattle.tree_handles.proofs.Over.{IsOver, IsTaken, taken, over_put, over_beside, over_same, over_gives, over_handed, over_plain, without_put, IsAdded}
-use Rattle.tree_handles.proofs.Cuts.{inserted_behind}
-use Rattle.power_reduce.specs.PowerSteps.{raised}
+use Rattle.power_reduce.proofs.Shared.{bare, Tree, mult, power, Trees, none, more, append, count, IsOver, IsTaken, taken, over_put, over_beside, over_same, over_gives, over_handed, over_plain, without_put, IsAdded, inserted_behind, raised, plain, inserted, children_of, Forest, empty, kids, one_tree, with_root_kids, tree_nth, with_nth, without_nth, IsHanded, Represents, Ends, Gives, KeepsFront, root_tree, without_root, put, behind_first, behind_later, front_same, front_at, front_end, front_put, front_without, gives, gives_as, given_handed, given_other, given_rest, given_told, handed_at, handed_by_put, represents_handed, represents_node, represents_none, represents_with, other_tree, eqb-sym, put-put, put-same, tree-put, without-put}
 use Rattle.power_reduce.specs.Raising.{raised_at, HasKids}
-use Rattle.tree_handles.specs.Expressions.{plain, inserted, children_of}
-use Rattle.tree_handles.specs.Forest.{Forest, empty, kids, one_tree, with_root_kids, tree_nth, with_nth, without_nth}
-use Rattle.tree_handles.specs.Handed.{IsHanded, Represents, Ends, Gives, KeepsFront}
-use Rattle.tree_handles.specs.Roots.{root_tree, without_root, put}
-use Rattle.tree_handles.proofs.Fronts.{behind_first, behind_later, front_same, front_at, front_end, front_put, front_without}
-use Rattle.tree_handles.proofs.Given.{gives, gives_as, given_handed, given_other, given_rest, given_told, handed_at, handed_by_put, represents_handed, represents_node, represents_none, represents_with}
-use Rattle.tree_handles.proofs.Lasts.{other_tree}
-use Rattle.tree_handles.proofs.Outcomes.{eqb-sym}
-use Rattle.tree_handles.proofs.Roots.{put-put, put-same, tree-put, without-put}
+use Rattle.calc_terms.specs.declared.kind.Kind.TheVariants as kind
 
 -- ---- lists
 

@@ -1,41 +1,13 @@
 -- Whole powers of rationals.
 use Rattle.std.proofs.Common.{◌≡◌, ◌≢◌, ℕ, ◌<◌, ◌^◌, ◌≤ℤ◌, ◌<ℤ◌, ℤ, pos, negsuc, neg_ℤ, ◌-ℤ◌, zero, suc, Bool, true, false, ◌&&◌, ◌||◌, if◌then◌else◌, Result, Ok, Err, refl, sym, ap, ◌∙◌, subst, arith, to_z, of_z}
-use Rattle.std.proofs.lemmas.Bool.{not_from_false}
-use Rattle.std.proofs.lemmas.Int.{ints}
-use Rattle.std.specs.Int.{w128}
 use Rattle.std.specs.Prelude.{nat_abs, IfErr}
-use Rattle.std.specs.Result.{IsErrAnd}
-use Rattle.calc_terms.specs.Fits.{Operation, pow_op, fraction_power, operation_fits, result_of}
-use Rattle.calc_terms.specs.Fractions.{Fraction, lowest, whole_fraction, zero_fraction, one_fraction, inverse, is_zero_fraction}
-use Rattle.calc_terms.specs.Integers.{int_is_zero, int_is_negative}
-use Rattle.calc_measures.specs.PlainValues.{PlainValue, calculated, powered, exactly, undefined, overflow, plain_value}
-use Rattle.calc_terms.specs.declared.rat.Rat.{Rat}
-use Rattle.calc_terms.specs.Rat.{ratio_of, value_of}
-use Rattle.calc_terms.specs.Ratio.{Ratio, whole}
-use Rattle.calc_terms.specs.Trees.{Tree, num, undef, power}
-use Rattle.calc_terms.proofs.FractionFacts.{whole_numerator, whole_denominator, zero_is, no_zero}
-use Rattle.calc_algebra.proofs.MeaningRewrites as rewrites
-use Rattle.calc_algebra.proofs.MeaningRewrites.{KeepsMeanings-eq}
-use Rattle.calc_algebra.proofs.NumberLaws.{number_test}
-use Rattle.calc_algebra.proofs.NumberRewrites.{power_of_rational, negative_power_of_rational}
-use Rattle.calc_algebra.proofs.PowerRewrites.{power_zero_is_one}
-use Rattle.calc_algebra.proofs.UndefRewrites.{zero_to_nothing}
-use Rattle.node_pool.specs.State.{State}
-use Rattle.number_forms.proofs.RationalCalls.{plain_overflow}
-use Rattle.number_forms.specs.Answers.{AnswersRationals}
-use Rattle.power_reduce.specs.PowerAnswers.{IsPowerAnswer, has_no_power, is_at_most_zero, IsWrittenPower}
+use Rattle.power_reduce.proofs.Shared.{not_from_false, ints, w128, IsErrAnd, Operation, pow_op, fraction_power, operation_fits, result_of, Fraction, lowest, whole_fraction, zero_fraction, one_fraction, inverse, is_zero_fraction, int_is_zero, int_is_negative, PlainValue, calculated, powered, exactly, undefined, overflow, plain_value, Rat, ratio_of, value_of, Ratio, whole, Tree, num, undef, power, whole_numerator, whole_denominator, zero_is, no_zero, KeepsMeanings-eq, number_test, power_of_rational, negative_power_of_rational, power_zero_is_one, zero_to_nothing, State, plain_overflow, AnswersRationals, IsPowerAnswer, has_no_power, is_at_most_zero, IsWrittenPower, ratio_parts, told, Overflow, IsPlainAnswer, IsPlainOverflow, keeps, NumberFault, by_test}
 use Rattle.power_reduce.proofs.Answered.{number_answer, undefined_answer}
 use Rattle.power_reduce.proofs.Written.{zero_exponent, one_exponent, number_power, few_classes, rational_classes, first_power}
-use Rattle.rational128.proofs.LowestTerms.{ratio_parts}
-use Rattle.rational128.proofs.Signed.{told}
 use Rattle.rational128.specs.Refusals.{operation_of}
 use Rattle.rational128.specs.declared.overflow.Op.TheVariants.{Pow}
-use Rattle.rational128.specs.declared.overflow.Overflow.{Overflow}
-use Rattle.calc_measures.specs.PlainTrees.{IsPlainAnswer, IsPlainOverflow}
-use Rattle.calc_algebra.proofs.Rewritings.{keeps}
-use Rattle.tree_handles.specs.declared.fault.NumberFault.{NumberFault}
+use Rattle.calc_algebra.proofs.MeaningRewrites as rewrites
 use Rattle.tree_handles.specs.declared.fault.NumberFault.TheVariants as fault
-use Rattle.tree_handles.proofs.Outcomes.{by_test}
 use lib.Signed.{lt_z, le_z}
 
 -- ---- signs, as the program tests them

@@ -1,48 +1,13 @@
 -- Bytes at hand for a step on a power, and what it needs.
 use Rattle.std.proofs.Common.{◌≡◌, ℕ, ◌+◌, ◌*◌, ◌^◌, ◌<◌, ◌≤◌, inl, inr, List, length, Bool, true, false, Result, Ok, Err, refl, sym, ap, ◌∙◌, subst, arith}
 use Rattle.std.specs.Prelude.{if◌then◌else◌, IfErr, IsOk, ◌==◌}
-use Rattle.std.proofs.lemmas.Nat.{pow_pos}
-use Rattle.calc_algebra.specs.Numbers.{is_number}
-use Rattle.calc_algebra.specs.Reduced.{Split, is_num_one, is_reduced, is_whole_num, split_product, num_one, NoneIs, HasForm}
-use Rattle.calc_algebra.proofs.NumberLaws.{number_test}
-use Rattle.calc_algebra.proofs.ReducedLaws.{reduced_words}
-use Rattle.calc_room.specs.Counts.{counted, counted_among}
+use Rattle.power_reduce.proofs.Shared.{pow_pos, is_number, Split, is_num_one, is_reduced, is_whole_num, split_product, num_one, NoneIs, HasForm, number_test, reduced_words, counted, counted_among, SpansTree, SpansTrees, tree_bytes, counted_other, whole_fraction, Tree, num, mult, root, Trees, none, more, AllPartsOf, AllParts, is_mult, size, sizes, coefficient_length, GivesTwo, product_form_of, no_split, reduced_parts, parts_reduced, leading_factors, in_front, State, free_of, Full, numerator, LacksRoom, full_as, refusal_as, is_power, base_in, exponent_in, parts_of, power_of_root, raised, IsShortOfStep, IsShortOfRoot, LacksStep, children_of, Forest, bytes_in, tree_of, IsHanded, Gives, without_root, Stands, forest, KeepsRefusals, NumberFault, bytes_in-join, used_forest, size-plain, split_counts, number_counts_one}
 use Rattle.calc_room.specs.Needs.{power_need, inverse_need}
-use Rattle.calc_room.specs.Spans.{SpansTree, SpansTrees}
 use Rattle.calc_room.proofs.NumberBytes.{num_bytes}
-use Rattle.calc_room.proofs.TreeBytes.{tree_bytes, counted_other}
-use Rattle.calc_terms.specs.Fractions.{whole_fraction}
-use Rattle.calc_terms.specs.Trees.{Tree, num, mult, root, Trees, none, more, AllPartsOf, AllParts, is_mult, size, sizes}
 use Rattle.coefficients.specs.Bytes.{bytes_of_coefficient, IsShort}
-use Rattle.coefficients.specs.Coefficients.{coefficient_length}
-use Rattle.coefficients.specs.Pairs.{GivesTwo}
-use Rattle.coefficients.proofs.Coefficients.{product_form_of}
-use Rattle.coefficients.proofs.Factors.{no_split}
-use Rattle.coefficients.proofs.Forms.{reduced_parts, parts_reduced}
-use Rattle.coefficients.proofs.Coefficients.{leading_factors}
-use Rattle.coefficients.proofs.Splits.{in_front}
-use Rattle.node_pool.specs.State.{State, free_of}
-use Rattle.node_pool.specs.declared.full.Full.{Full}
-use Rattle.number_forms.specs.Readers.{numerator}
-use Rattle.number_forms.specs.Rooms.{LacksRoom}
-use Rattle.number_forms.proofs.Rooms.{full_as, refusal_as}
-use Rattle.power_reduce.specs.PowerAnswers.{is_power, base_in, exponent_in}
-use Rattle.power_reduce.specs.PowerSteps.{parts_of, power_of_root, raised}
-use Rattle.power_reduce.specs.Rooms.{IsShortOfStep, IsShortOfRoot, LacksStep}
 use Rattle.power_reduce.proofs.Powers.{power_is, one_bytes}
 use Rattle.power_reduce.proofs.RaisedBytes.{handed_bytes}
 use Rattle.power_reduce.proofs.Spanned.{split_spans}
-use Rattle.tree_handles.specs.Expressions.{children_of}
-use Rattle.tree_handles.specs.Forest.{Forest, bytes_in}
-use Rattle.tree_handles.specs.Handed.{tree_of, IsHanded, Gives}
-use Rattle.tree_handles.specs.Roots.{without_root}
-use Rattle.tree_handles.specs.Standing.{Stands, forest, KeepsRefusals}
-use Rattle.tree_handles.specs.declared.fault.NumberFault.{NumberFault}
-use Rattle.tree_handles.proofs.Forests.{bytes_in-join}
-use Rattle.tree_handles.proofs.Places.{used_forest}
-use Rattle.tree_handles.proofs.Plains.{size-plain}
-use Rattle.tree_room.proofs.Coefficients.{split_counts}
-use Rattle.tree_room.proofs.Counts.{number_counts_one}
 use Rattle.tree_room.proofs.Handed.{raised_factor, raised_number}
 use Rattle.tree_room.proofs.Multiples.{scaled}
 

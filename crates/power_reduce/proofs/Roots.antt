@@ -1,13 +1,6 @@
 -- A power by half of an odd whole number, as the program writes it: a power of the root of its base.
 use Rattle.std.proofs.Common.{◌≡◌, Some, true, false, ℤ, sym, ap, ◌∙◌}
-use Rattle.calc_algebra.specs.Reduced.{is_half_num}
-use Rattle.calc_terms.specs.declared.rat.Rat.{Rat}
-use Rattle.calc_terms.specs.Fractions.{lowest, whole_fraction}
-use Rattle.calc_terms.specs.Rat.{ratio_of, value_of}
-use Rattle.calc_terms.specs.Ratio.{Ratio, whole}
-use Rattle.calc_terms.specs.Trees.{Tree, num, power, root, is_undef}
-use Rattle.number_forms.specs.Readers.{numerator}
-use Rattle.power_reduce.specs.PowerSteps.{rewritten}
+use Rattle.power_reduce.proofs.Shared.{is_half_num, Rat, lowest, whole_fraction, ratio_of, value_of, Ratio, whole, Tree, num, power, root, is_undef, numerator, rewritten}
 use Rattle.power_reduce.proofs.Exponents.{by_half}
 
 -- x is the root over y, which is b, and n the whole number that the program wrote

@@ -1,23 +1,11 @@
 -- The rewritings of a power keep meanings and have no new names.
 use Rattle.std.proofs.Common.{◌≡◌, ℕ, suc, ◌+◌, ◌/◌, ◌%◌, ℤ, pos, negsuc, neg_ℤ, ◌+ℤ◌, List, ◌++◌, [], Bool, true, false, if◌then◌else◌, ◌⊎◌, inl, inr, Some, None, refl, sym, ap, ◌∙◌, subst, arith, append_assoc, append-nil}
+use Rattle.power_reduce.proofs.Shared.{ints, and_parts, eqb-true, Contains-append_left, Contains-append_right, Contains-append_cases, Fraction, whole_fraction, int_is_even, is_number, is_radicand, is_half_num, is_num_one, is_whole_num, split_product, split, num_one, Tree, num, symbol, undef, add, mult, power, root, neg, sub, div, Trees, none, more, names, names_of, is_undef, one_is, KeepsMeanings-trans, KeepsMeanings-refl, KeepsMeanings-eq, KeepsMeanings-power, one_factor_of_product, fraction_whole, split_keeps, powers, power_of_power, power_of_product, half_power, Rewrites, HasNoNewName, keeps, is_even_whole, half, raised, parts_of, rewritten, rewritten_whole}
 use Rattle.std.specs.List.{Contains}
-use Rattle.std.proofs.lemmas.Int.{ints}
-use Rattle.std.proofs.lemmas.Bool.{and_parts, eqb-true}
-use Rattle.std.proofs.lemmas.List.Elements.{Contains-append_left, Contains-append_right, Contains-append_cases}
-use Rattle.calc_terms.specs.Fractions.{Fraction, whole_fraction}
-use Rattle.calc_terms.specs.Integers.{int_is_even}
-use Rattle.calc_algebra.specs.Numbers.{is_number, is_radicand}
-use Rattle.calc_algebra.specs.Reduced.{is_half_num, is_num_one, is_whole_num, split_product, split, num_one}
-use Rattle.calc_terms.specs.Trees.{Tree, num, symbol, undef, add, mult, power, root, neg, sub, div, Trees, none, more, names, names_of, is_undef}
-use Rattle.calc_terms.proofs.FractionFacts.{one_is}
-use Rattle.calc_algebra.proofs.MeaningRewrites as rewrites
-use Rattle.calc_algebra.proofs.MeaningRewrites.{KeepsMeanings-trans, KeepsMeanings-refl, KeepsMeanings-eq, KeepsMeanings-power, one_factor_of_product}
-use Rattle.calc_algebra.proofs.NumberRewrites.{fraction_whole, split_keeps}
-use Rattle.calc_algebra.proofs.PowerRewrites.{powers, power_of_power, power_of_product, power_of_root, half_power}
-use Rattle.calc_algebra.specs.Rewritings.{Rewrites, HasNoNewName}
-use Rattle.calc_algebra.proofs.Rewritings.{keeps}
-use Rattle.power_reduce.specs.PowerSteps.{is_even_whole, half, raised, parts_of, power_of_root as root_power, rewritten, rewritten_whole}
+use Rattle.calc_algebra.proofs.PowerRewrites.{power_of_root}
+use Rattle.power_reduce.specs.PowerSteps.{power_of_root as root_power}
 use Rattle.power_reduce.proofs.Exponents.{inside_whole, whole_exponent}
+use Rattle.calc_algebra.proofs.MeaningRewrites as rewrites
 
 -- ---- even powers of roots
 

@@ -1,40 +1,17 @@
 -- What spans a power spans what a step makes of it, but for the power of a root.
 use Rattle.std.proofs.Common.{◌≡◌, ℕ, zero, suc, ◌≤◌, ℤ, pos, negsuc, List, [], ◌∷◌, length, Bool, true, false, ◌&&◌, ◌||◌, not, Some, None, Result, Ok, Err, inl, refl, sym, ap, ◌∙◌, subst, arith}
 use Rattle.std.specs.Prelude.{if◌then◌else◌, IfOk, ◌==◌, nat_le}
-use Rattle.std.proofs.lemmas.Bool.{and_parts, eqb-true, leb-true}
+use Rattle.power_reduce.proofs.Shared.{and_parts, eqb-true, leb-true, is_number, is_radicand, value, classes, IsNumber, Rises, is_half_num, is_num_one, is_opaque_exponent, split, split_product, num_one, KeepsMeanings, Inverts, Surd, surd_of, surd_power, AreProper, value_proper, value_rises, number_words, fraction_whole, Spans, SpansTree, SpansTrees, Fraction, whole_fraction, is_zero_fraction, is_one_fraction, int_is_negative, int_is_zero, Tree, num, symbol, undef, add, mult, power, root, neg, sub, div, Trees, none, more, is_undef, whole_numerator, zero_is, one_is, State, is_zero, is_power, base_in, exponent_in, has_no_power, has_number_power, is_at_most_zero, IsWrittenPower, IsPowerAnswer, IsStep, goes_inside, is_even_whole, is_zero_or_one, parts_of, raised, rewritten, rewritten_whole, Step, SpansStep, Forest, tree_of, NumberFault, given_told}
 use Rattle.calc_algebra.specs.Meanings.{Means}
-use Rattle.calc_algebra.specs.Numbers.{is_number, is_radicand, value, classes, IsNumber, Rises}
-use Rattle.calc_algebra.specs.Reduced.{is_half_num, is_num_one, is_opaque_exponent, split, split_product, num_one}
-use Rattle.calc_algebra.specs.Rewritings.{KeepsMeanings}
-use Rattle.calc_algebra.specs.SquareClasses.{Inverts}
-use Rattle.calc_algebra.specs.Surds.{Surd, surd_of, surd_power}
 use Rattle.calc_algebra.proofs.InverseLaws.{inverse_of_term, inverse_of_terms, term_has_inverse, terms_have_inverse}
 use Rattle.calc_algebra.proofs.MeaningLaws.{one_meaning}
-use Rattle.calc_algebra.proofs.NumberClasses.{AreProper, value_proper, value_rises}
-use Rattle.calc_algebra.proofs.NumberLaws.{number_words}
-use Rattle.calc_algebra.proofs.NumberRewrites.{fraction_whole}
 use Rattle.calc_algebra.proofs.NumberValues.{number_means}
 use Rattle.calc_algebra.proofs.SurdLaws.{Agree-Same}
 use Rattle.calc_algebra.proofs.TermLaws.{Same-refl}
-use Rattle.calc_room.specs.Spans.{Spans, SpansTree, SpansTrees}
 use Rattle.calc_room.proofs.NumberSpans.{power_spanned, spans_power, spans_same, tree_spanned, value_spanned}
-use Rattle.calc_terms.specs.Fractions.{Fraction, whole_fraction, is_zero_fraction, is_one_fraction}
-use Rattle.calc_terms.specs.Integers.{int_is_negative, int_is_zero}
-use Rattle.calc_terms.specs.Trees.{Tree, num, symbol, undef, add, mult, power, root, neg, sub, div, Trees, none, more, is_undef}
-use Rattle.calc_terms.proofs.FractionFacts.{whole_numerator, zero_is, one_is}
-use Rattle.node_pool.specs.State.{State}
-use Rattle.number_forms.specs.Readers.{is_zero}
-use Rattle.power_reduce.specs.PowerAnswers.{is_power, base_in, exponent_in, has_no_power, has_number_power, is_at_most_zero, IsWrittenPower, IsPowerAnswer, IsStep}
-use Rattle.power_reduce.specs.PowerSteps.{goes_inside, is_even_whole, is_zero_or_one, parts_of, raised, rewritten, rewritten_whole}
 use Rattle.power_reduce.proofs.Exponents.{as_whole}
 use Rattle.power_reduce.proofs.Powers.{power_is}
-use Rattle.reduce_port.specs.declared.step.Step.{Step}
 use Rattle.reduce_port.specs.declared.step.Step.TheVariants as step
-use Rattle.power_reduce.specs.Rooms.{SpansStep}
-use Rattle.tree_handles.specs.Forest.{Forest}
-use Rattle.tree_handles.specs.Handed.{tree_of}
-use Rattle.tree_handles.specs.declared.fault.NumberFault.{NumberFault}
-use Rattle.tree_handles.proofs.Given.{given_told}
 
 module _ (gs : List ℕ) where
   -- ---- parts of a product

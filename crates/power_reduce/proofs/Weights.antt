@@ -1,19 +1,7 @@
 -- The weights and nests of the parts of a product.
 use Rattle.std.proofs.Common.{◌≡◌, ℕ, suc, ◌+◌, ◌≤◌, ◌<◌, ◌⊎◌, inl, inr, Bool, true, false, ◌||◌, if◌then◌else◌, refl, sym, ap, ◌∙◌, subst, arith}
 use Rattle.std.specs.Prelude.{max}
-use Rattle.calc_measures.specs.Loads.{nest, nest_of, load, weight, weight_of_factors, load_of_factor, load_of_factors, has_coefficient}
-use Rattle.calc_algebra.specs.Numbers.{is_number, IsNumber}
-use Rattle.calc_algebra.specs.Reduced.{Split, is_reduced, is_num_one, num_one, NoneIs, HasForm, IsProductForm}
-use Rattle.calc_terms.specs.Trees.{Tree, num, symbol, undef, add, mult, power, root, neg, sub, div, Trees, none, more, append, AllParts, AllPartsOf, is_mult, is_undef}
-use Rattle.calc_terms.proofs.FractionFacts.{one_test}
-use Rattle.calc_algebra.proofs.NumberLaws.{number_test, number_words}
-use Rattle.coefficients.specs.Coefficients.{factors_of}
-use Rattle.coefficients.proofs.Coefficients.{leading_factors, product_form_of}
-use Rattle.coefficients.proofs.Factors.{no_split, number_leads, AreFactors}
-use Rattle.coefficients.proofs.Forms.{one_is_one, reduced_parts, parts_reduced, number_parts}
-use Rattle.coefficients.proofs.Splits.{Leads, in_front, IsCoefficient}
-use Rattle.power_reduce.specs.PowerRules.{EachTree, IsLighterPart, AreBoundedPowers}
-use Rattle.power_reduce.specs.PowerSteps.{parts_of}
+use Rattle.power_reduce.proofs.Shared.{nest, nest_of, load, weight, weight_of_factors, load_of_factor, load_of_factors, has_coefficient, is_number, IsNumber, Split, is_reduced, is_num_one, num_one, NoneIs, HasForm, IsProductForm, Tree, num, symbol, undef, add, mult, power, root, neg, sub, div, Trees, none, more, append, AllParts, AllPartsOf, is_mult, is_undef, one_test, number_test, number_words, factors_of, leading_factors, product_form_of, no_split, number_leads, AreFactors, one_is_one, reduced_parts, parts_reduced, number_parts, Leads, in_front, IsCoefficient, EachTree, IsLighterPart, AreBoundedPowers, parts_of}
 use Rattle.power_reduce.proofs.Answered.{number_plain}
 use Rattle.power_reduce.proofs.Bounds.{number_load}
 

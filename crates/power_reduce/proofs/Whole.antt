@@ -1,21 +1,9 @@
 -- Whole exponents, as the program tests them.
 use Rattle.std.proofs.Common.{◌≡◌, ◌≢◌, ◌<◌, ◌^◌, ℤ, pos, negsuc, zero, suc, Bool, true, false, ◌&&◌, refl, sym, ap, ◌∙◌, to_z, of_z, nat_eq}
-use Rattle.std.specs.Int.{w128}
 use Rattle.std.specs.Prelude.{nat_abs}
-use Rattle.std.proofs.lemmas.Bool.{eqb-true, eq-eqb}
-use Rattle.calc_terms.specs.Fractions.{whole_fraction}
-use Rattle.calc_terms.specs.Integers.{int_is_one}
-use Rattle.calc_algebra.specs.Numbers.{is_number}
-use Rattle.calc_algebra.specs.Reduced.{is_reduced, is_num_one, is_whole_num, is_opaque_exponent}
-use Rattle.calc_terms.specs.Trees.{Tree, num, power}
-use Rattle.calc_terms.proofs.FractionFacts.{whole_numerator, whole_denominator}
-use Rattle.coefficients.proofs.Forms.{reduced_parts, parts_reduced}
-use Rattle.power_reduce.specs.PowerAnswers.{is_power, exponent_in}
+use Rattle.power_reduce.proofs.Shared.{w128, eqb-true, eq-eqb, whole_fraction, int_is_one, is_number, is_reduced, is_num_one, is_whole_num, is_opaque_exponent, Tree, num, power, whole_numerator, whole_denominator, reduced_parts, parts_reduced, is_power, exponent_in, told, nth, children_of, by_test}
 use Rattle.power_reduce.proofs.ByRule.{transparent_whole}
 use Rattle.power_reduce.proofs.Powers.{power_children}
-use Rattle.rational128.proofs.Signed.{told}
-use Rattle.tree_handles.specs.Expressions.{nth, children_of}
-use Rattle.tree_handles.proofs.Outcomes.{by_test}
 
 -- ---- 1
 

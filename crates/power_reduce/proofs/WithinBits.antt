@@ -1,32 +1,13 @@
 -- A whole power of a Number that is held within few bits does not overflow.
 use Rattle.std.proofs.Common.{◌≡◌, ◌≢◌, ℕ, zero, suc, ◌+◌, ◌*◌, ◌≤◌, ℤ, pos, negsuc, [], Bool, true, false, not, Result, Ok, Err, refl, ap, ◌∙◌, subst, arith}
 use Rattle.std.specs.Prelude.{if◌then◌else◌, nat_abs, IfErr}
-use Rattle.std.proofs.lemmas.Bool.{and_parts}
-use Rattle.calc_algebra.specs.Numbers.{is_number, value}
-use Rattle.calc_algebra.specs.Surds.{term, surd_of}
-use Rattle.calc_bits.specs.Masses.{IsHeld}
-use Rattle.calc_measures.specs.PlainTrees.{IsPlainOverflow}
-use Rattle.calc_measures.specs.PlainValues.{PlainValue, calculated, exactly, overflow, powered, undefined}
-use Rattle.calc_terms.proofs.FractionFacts.{no_zero, whole_numerator}
-use Rattle.calc_terms.specs.FractionLaws.{one_times, times_comm}
-use Rattle.calc_terms.specs.Fits.{pow_op, fraction_fits, fraction_power, result_of}
-use Rattle.calc_terms.specs.Fractions.{Fraction, inverse, one_fraction, times, whole_fraction, zero_fraction, is_zero_fraction}
-use Rattle.calc_terms.specs.Trees.{Tree, num, power}
+use Rattle.power_reduce.proofs.Shared.{and_parts, is_number, value, term, surd_of, IsHeld, IsPlainOverflow, PlainValue, calculated, exactly, overflow, powered, undefined, no_zero, whole_numerator, one_times, times_comm, pow_op, fraction_fits, fraction_power, result_of, Fraction, inverse, one_fraction, times, whole_fraction, zero_fraction, is_zero_fraction, Tree, num, power, rational_power, rational_power_over, IsFactorHeld, HasFewBitsRaised, IsPowerMisfit, inverting, raising, NamesPower, RaisingOverflows, WholeOverflows, has_number_power, Overflow, factor_as_tree, held_number, nothing_held, OfOverflow, NumberFault}
 use Rattle.number_forms.proofs.InverseBits.{inverse_no_larger}
 use Rattle.number_forms.proofs.RationalBits.{power_no_larger, power_parts, rational_power_fits}
-use Rattle.number_forms.proofs.RationalCalls.{rational_power, rational_power_over}
 use Rattle.number_forms.proofs.PowersWithin.{power_within}
 use Rattle.number_forms.proofs.WithinBits.{inverse_within}
-use Rattle.power_reduce.specs.Bits.{IsFactorHeld, HasFewBitsRaised}
-use Rattle.power_reduce.specs.Misfits.{IsPowerMisfit, inverting, raising, NamesPower, RaisingOverflows, WholeOverflows}
-use Rattle.power_reduce.specs.PowerAnswers.{has_number_power}
 use Rattle.power_reduce.proofs.RationalPowers.{plain_power}
-use Rattle.rational128.specs.declared.overflow.Overflow.{Overflow}
 use Rattle.surd_bits.proofs.Inverted.{one_no_larger}
-use Rattle.tree_bits.proofs.Factors.{factor_as_tree}
-use Rattle.tree_bits.proofs.Numbers.{held_number, nothing_held}
-use Rattle.tree_handles.specs.Faults.{OfOverflow}
-use Rattle.tree_handles.specs.declared.fault.NumberFault.{NumberFault}
 use Rattle.tree_handles.specs.declared.fault.NumberFault.TheVariants as fault
 
 pub number_is_held : (b : Tree) (h l : ℕ) → is_number b ≡ true → IsFactorHeld b h l → IsHeld (value b) h l

@@ -1,19 +1,7 @@
 -- Which tree stands for a power, where a rule names it.
 use Rattle.std.proofs.Common.{◌≡◌, ◌≢◌, ◌≤◌, ◌≤ℤ◌, ℤ, pos, negsuc, Bool, true, false, ◌||◌, not, refl, sym, ap, ◌∙◌, arith}
-use Rattle.std.proofs.lemmas.Bool.{le-leb}
-use Rattle.std.proofs.lemmas.Int.{ints}
 use Rattle.std.specs.Prelude.{nat_le}
-use Rattle.calc_terms.proofs.FractionFacts.{whole_numerator, whole_denominator}
-use Rattle.calc_terms.specs.FractionLaws.{one_times, times_comm}
-use Rattle.calc_terms.specs.Fractions.{Fraction, whole_fraction, zero_fraction, one_fraction, is_zero_fraction}
-use Rattle.calc_terms.specs.Fits.{fraction_power}
-use Rattle.calc_terms.specs.Integers.{int_is_negative}
-use Rattle.calc_terms.specs.Trees.{Tree, num, power}
-use Rattle.calc_algebra.proofs.NumberLaws.{number_test}
-use Rattle.calc_algebra.specs.Numbers.{is_number, classes}
-use Rattle.calc_algebra.specs.Reduced.{num_one}
-use Rattle.power_reduce.specs.PowerAnswers.{has_number_power, IsWrittenPower}
-use Rattle.power_reduce.specs.PowerSteps.{is_zero_or_one}
+use Rattle.power_reduce.proofs.Shared.{le-leb, ints, whole_numerator, whole_denominator, one_times, times_comm, Fraction, whole_fraction, zero_fraction, one_fraction, is_zero_fraction, fraction_power, int_is_negative, Tree, num, power, number_test, is_number, classes, num_one, has_number_power, IsWrittenPower, is_zero_or_one}
 
 -- ---- exponents
 

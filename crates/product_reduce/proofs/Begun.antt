@@ -1,22 +1,6 @@
 -- A product beside its first Number, or 1, and what it leaves when the others are multiplied in.
 use Rattle.std.proofs.Common.{ℕ, ◌+◌, ◌≤◌, ◌≡◌, true, refl, sym, ap, ◌∙◌, subst, arith}
-use Rattle.calc_algebra.specs.Numbers.{is_number}
-use Rattle.calc_algebra.specs.Reduced.{are_reduced, num_one}
-use Rattle.calc_terms.specs.Trees.{Trees, count, size}
-use Rattle.like_children.specs.Children.{LeavesChildren}
-use Rattle.like_children.specs.Numbers.{IsNextNumber, NoNumberBetween}
-use Rattle.like_children.proofs.Many.{IsMany, IsOut, all_bytes, handed_bytes, put_bytes}
-use Rattle.node_pool.specs.State.{State, free_of}
-use Rattle.tree_handles.specs.Expressions.{plain}
-use Rattle.tree_handles.specs.Forest.{Forest, bytes_in, kids}
-use Rattle.tree_handles.specs.Handed.{tree_of, IsHanded, Gives}
-use Rattle.tree_handles.specs.Roots.{root_tree, without_root, put}
-use Rattle.tree_handles.specs.Standing.{Stands, forest, KeepsRefusals}
-use Rattle.tree_handles.proofs.Given.{gives_as, given_handed, given_rest, given_told}
-use Rattle.tree_handles.proofs.Lasts.{ends_as, last_tree, other_apart}
-use Rattle.tree_handles.proofs.Roots.{put-put, put-same}
-use Rattle.product_reduce.specs.Multiplying.{IsBegun, IsUnderway}
-use Rattle.product_reduce.specs.Products.{IsProduct, IsTakenOut}
+use Rattle.product_reduce.proofs.Shared.{is_number, are_reduced, num_one, Trees, count, size, LeavesChildren, IsNextNumber, NoNumberBetween, IsMany, IsOut, all_bytes, handed_bytes, put_bytes, State, free_of, plain, Forest, bytes_in, kids, tree_of, IsHanded, Gives, root_tree, without_root, put, Stands, forest, KeepsRefusals, gives_as, given_handed, given_rest, given_told, ends_as, last_tree, other_apart, put-put, put-same, IsBegun, IsUnderway, IsProduct, IsTakenOut}
 use Rattle.product_reduce.proofs.Beside.{beside_given, beside_product}
 use Rattle.product_reduce.proofs.Products.{becomes_put, product_beside}
 use Rattle.product_reduce.proofs.Progress.{started, started_at_one}

@@ -1,21 +1,7 @@
 -- Roots beside others.
 use Rattle.std.proofs.Common.{ℕ, ◌<◌, ◌≡◌, List, eqb, Bool, true, false, cond, refl, sym, ap, ◌∙◌, subst}
-use Rattle.like_children.proofs.Kids.{represents_nth, represents_without}
-use Rattle.number_forms.specs.Sums.{removed}
-use Rattle.std.proofs.lemmas.Bool.{eqb-true, ne_eqb}
-use Rattle.calc_terms.specs.Trees.{Tree, Trees, count}
-use Rattle.node_pool.specs.State.{State}
-use Rattle.tree_handles.specs.Expressions.{nth, plain, AllExpressions}
-use Rattle.tree_handles.specs.Forest.{Forest, empty, tree, arity, kids, tree_nth, without_nth}
-use Rattle.tree_handles.specs.Handed.{AllOnce, IsHanded, Represents, Ends, Gives, KeepsFront}
-use Rattle.tree_handles.specs.Roots.{has_root, root_tree, without_root, put}
-use Rattle.tree_handles.specs.Standing.{Stands, forest}
+use Rattle.product_reduce.proofs.Shared.{represents_nth, represents_without, removed, eqb-true, ne_eqb, Tree, Trees, count, State, nth, plain, AllExpressions, Forest, empty, tree, arity, kids, tree_nth, without_nth, AllOnce, IsHanded, Represents, Ends, Gives, KeepsFront, has_root, root_tree, without_root, put, Stands, forest, IsBehind, not_first, gives, given_handed, given_rest, given_told, handed_beside, handed_by_put, handed_at, by_test, eqb-sym, no_root, root-without, tree-without, without-swap, root-put, tree-put, without-put, IsProduct, Becomes, IsBeside}
 use Rattle.tree_handles.proofs.Distinct.{Distinct, distinct, distinct_parts}
-use Rattle.tree_handles.proofs.Fronts.{IsBehind, not_first}
-use Rattle.tree_handles.proofs.Given.{gives, given_handed, given_rest, given_told, handed_beside, handed_by_put, handed_at}
-use Rattle.tree_handles.proofs.Outcomes.{by_test, eqb-sym}
-use Rattle.tree_handles.proofs.Roots.{no_root, root-without, tree-without, without-swap, root-put, tree-put, without-put}
-use Rattle.product_reduce.specs.Products.{IsProduct, Becomes, IsBeside}
 use Rattle.product_reduce.proofs.Products.{product_arity, product_kids, becomes_put}
 
 -- a root that is gone is no root any more

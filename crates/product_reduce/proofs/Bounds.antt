@@ -1,14 +1,6 @@
 -- Nest and Load of the factors of a product.
 use Rattle.std.proofs.Common.{ℕ, ◌+◌, ◌≤◌, max, ◌≡◌, Bool, true, false, ◌||◌, refl, if◌then◌else◌, sym, ap, ◌∙◌, arith}
-use Rattle.coefficients.specs.Coefficients.{factors_of}
-use Rattle.calc_measures.specs.Loads.{nest, nest_of, weight, load, load_of_factor, load_of_factors}
-use Rattle.calc_algebra.specs.Numbers.{is_number, IsNumber}
-use Rattle.calc_algebra.specs.Reduced.{is_num_one, product_tree}
-use Rattle.calc_terms.specs.Trees.{Tree, num, add, mult, root, Trees, none, more, append, is_undef}
-use Rattle.calc_algebra.proofs.MeaningRewrites.{Permuted, permuted_none, permuted_more, permuted_swap, permuted_trans}
-use Rattle.calc_algebra.proofs.NumberLaws.{number_words, number_test}
-use Rattle.product_reduce.specs.Factors.{opened, others_in, coefficient_before}
-use Rattle.calc_measures.proofs.Nests.{nest-append, nest_number}
+use Rattle.product_reduce.proofs.Shared.{factors_of, nest, nest_of, weight, load, load_of_factor, load_of_factors, is_number, IsNumber, is_num_one, product_tree, Tree, num, add, mult, root, Trees, none, more, append, is_undef, Permuted, permuted_none, permuted_more, permuted_swap, permuted_trans, number_words, number_test, opened, others_in, coefficient_before, nest-append, nest_number}
 
 -- ---- Nest
 

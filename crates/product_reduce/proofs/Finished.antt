@@ -1,39 +1,16 @@
 -- The trees that a step on a product gives.
 use Rattle.std.proofs.Common.{◌≡◌, inl, inr, Bool, true, false, ◌&&◌, ◌||◌, refl, if◌then◌else◌, sym, ap, ◌∙◌, subst, arith, [], ℕ, zero, suc, ◌<◌, not}
-use Rattle.calc_terms.specs.Trees.{has_undef, are_rationals, Tree, num, symbol, undef, add, mult, power, root, neg, sub, div, Trees, none, more, append, names, names_of, is_undef, in_mult, root_kind, count}
-use Rattle.calc_algebra.specs.Numbers.{are_numbers, is_number, is_radicand, value}
-use Rattle.calc_algebra.specs.Reduced.{are_reduced, is_reduced, has_form, all_parts, is_whole_num, is_opaque_exponent}
-use Rattle.coefficients.specs.Coefficients.{factors_of}
-use Rattle.number_forms.specs.Readers.{is_zero}
-use Rattle.std.proofs.lemmas.Bool.{and_parts, and_from, or_right, eq-eqb}
-use Rattle.calc_terms.specs.Fractions.{zero_fraction, lowest, whole_fraction}
-use Rattle.calc_terms.specs.Gcd.{gcd}
-use Rattle.calc_measures.specs.Loads.{load, load_of_factor}
-use Rattle.calc_algebra.specs.Surds.{surd_of}
-use Rattle.calc_algebra.proofs.TermLaws.{Same-eq}
-use Rattle.calc_terms.specs.declared.kind.Kind.TheVariants as kind
-use Rattle.tree_handles.specs.Expressions.{nth, children_of}
 use Rattle.std.specs.Prelude.{ℤ, Option, Some, None, MatchOption}
+use Rattle.product_reduce.proofs.Shared.{has_undef, are_rationals, Tree, num, symbol, undef, add, mult, power, root, neg, sub, div, Trees, none, more, append, names, names_of, is_undef, in_mult, root_kind, count, are_numbers, is_number, is_radicand, value, are_reduced, is_reduced, has_form, all_parts, is_whole_num, is_opaque_exponent, factors_of, is_zero, and_parts, and_from, or_right, eq-eqb, zero_fraction, lowest, whole_fraction, gcd, load, load_of_factor, surd_of, Same-eq, nth, children_of, whole_denominator, zero_is, Same-sym, KeepsMeanings, KeepsMeanings-refl, KeepsMeanings-eq, KeepsMeanings-trans, KeepsMeanings-product_more, zero_product, number_zero, number_words, numbers_defined, Same-trans, keeps, reduces_after, AreJoinable, IsJoined, IsFinished, IsEnding, IsStop, at_zero, at_end, IsRejoined, opened, others_in, IsCoefficient, coefficient_before, have_partners, joined, Within, within_eq, within_none, within_both, within_trans, number_names, no_new_name, nest_number}
 use Rattle.std.specs.Option.{is_some}
-use Rattle.calc_terms.proofs.FractionFacts.{whole_denominator, zero_is}
-use Rattle.calc_algebra.proofs.MeaningLaws.{Same-sym}
-use Rattle.calc_algebra.proofs.MeaningRewrites.{KeepsMeanings, KeepsMeanings-refl, KeepsMeanings-eq, KeepsMeanings-trans, KeepsMeanings-product_more, zero_product}
-use Rattle.calc_algebra.proofs.NumberClasses.{number_zero}
-use Rattle.calc_algebra.proofs.NumberLaws.{number_words, numbers_defined}
-use Rattle.calc_algebra.proofs.SquareClassLaws.{Same-trans}
 use Rattle.calc_algebra.proofs.UndefRewrites.{undef_part}
-use Rattle.calc_algebra.proofs.Rewritings.{keeps, reduces_after}
-use Rattle.product_reduce.specs.Answers.{AreJoinable, IsJoined, IsFinished, IsEnding, IsStop, at_zero, at_end, IsRejoined}
-use Rattle.product_reduce.specs.Factors.{opened, others_in, IsCoefficient, coefficient_before}
-use Rattle.product_reduce.specs.Joining.{have_partners, joined}
 use Rattle.product_reduce.proofs.Opened.{opened_keeps, collected, coefficient_in_front}
 use Rattle.product_reduce.proofs.Joined.{joined_keeps}
-use Rattle.calc_algebra.proofs.Names.{Within, within_eq, within_none, within_both, within_trans, number_names, no_new_name}
 use Rattle.product_reduce.proofs.NoNewNames.{names_opened, names_others, names_with_coefficient, names_joined}
 use Rattle.product_reduce.proofs.Forms.{IsFormed, AllFormed, formed, number_formed, opened_formed}
-use Rattle.calc_measures.proofs.Nests.{nest_number}
 use Rattle.product_reduce.proofs.Bounds.{nest_opened, nest_others, load_opened, load_others, load_product}
 use Rattle.tree_handles.proofs.UndefChildren.{undef_inside}
+use Rattle.calc_terms.specs.declared.kind.Kind.TheVariants as kind
 
 -- ---- reduced factors
 

@@ -1,16 +1,8 @@
 -- A coefficient before factors that are no Numbers, sorted by their bases, is a product in its form.
 use Rattle.std.specs.Prelude.{⊤}
-use Rattle.coefficients.specs.Coefficients.{factors_of}
-use Rattle.number_forms.specs.Readers.{is_zero}
 use Rattle.std.proofs.Common.{◌≡◌, inl, inr, Bool, true, false, ◌&&◌, not, refl, if◌then◌else◌, ap, ◌∙◌}
-use Rattle.std.proofs.lemmas.Bool.{and_parts, and_from, or_left}
-use Rattle.calc_terms.specs.Fractions.{Fraction, is_zero_fraction, is_one_fraction}
-use Rattle.calc_algebra.specs.Numbers.{is_number, is_radicand, IsNumber, IsTerm, AreTerms}
-use Rattle.calc_algebra.specs.Reduced.{num_one, split, split_product, NoneIs, RisesBy, base_of, has_form, HasForm, all_parts, all_parts_of}
-use Rattle.calc_terms.specs.Trees.{Tree, num, symbol, undef, add, mult, power, root, neg, sub, div, Trees, none, more, append, is_mult}
-use Rattle.calc_algebra.proofs.NumberLaws.{number_words, number_test}
+use Rattle.product_reduce.proofs.Shared.{factors_of, is_zero, and_parts, and_from, or_left, Fraction, is_zero_fraction, is_one_fraction, is_number, is_radicand, IsNumber, IsTerm, AreTerms, num_one, split, split_product, NoneIs, RisesBy, base_of, has_form, HasForm, all_parts, all_parts_of, Tree, num, symbol, undef, add, mult, power, root, neg, sub, div, Trees, none, more, append, is_mult, number_words, number_test, opened, others_in}
 use Rattle.calc_algebra.proofs.ReducedLaws.{form_words}
-use Rattle.product_reduce.specs.Factors.{opened, others_in}
 
 -- ---- the split
 

@@ -1,35 +1,12 @@
 -- Free bytes and those of a product, from one pool to the next.
 use Rattle.std.proofs.Common.{◌≡◌, ℕ, ◌+◌, ◌*◌, ◌<◌, ◌≤◌, ◌^◌, List, length, Bool, true, false, not, if◌then◌else◌, refl, Result, Ok, Err, ap, arith}
 use Rattle.std.specs.Prelude.{IfErr}
-use Rattle.std.proofs.lemmas.Bool.{and_from}
-use Rattle.calc_algebra.specs.Numbers.{is_number}
-use Rattle.calc_algebra.specs.Reduced.{base_of, is_opaque_exponent, none_is, NoneIs, num_one}
-use Rattle.calc_room.specs.Counts.{counted, counted_among}
-use Rattle.calc_room.specs.Spans.{SpansTree, SpansTrees}
+use Rattle.product_reduce.proofs.Shared.{and_from, is_number, base_of, is_opaque_exponent, none_is, NoneIs, num_one, counted, counted_among, SpansTree, SpansTrees, factors_bytes, sizes_taken, all_bytes, handed_bytes, AreOthers, one_fraction, Tree, mult, power, Trees, none, more, count, size, sizes, factors_of, put_room, mul-le, opened, State, free_of, removed, nth, Forest, bytes_in, kids, tree_nth, without_nth, tree_of, IsHanded, Ends, root_tree, without_root, put, Stands, forest, KeepsRefusals, exponent_of, IsProduct, Becomes, IsBeside, IsTakenOut, IsSplit}
 use Rattle.number_forms.proofs.Rooms.{number_size}
-use Rattle.tree_room.proofs.Handed.{factors_bytes}
-use Rattle.like_children.proofs.Kids.{sizes_taken}
-use Rattle.like_children.proofs.Many.{all_bytes, handed_bytes}
-use Rattle.product_reduce.specs.Answers.{AreOthers}
-use Rattle.calc_terms.specs.Fractions.{one_fraction}
-use Rattle.calc_terms.specs.Trees.{Tree, mult, power, Trees, none, more, count, size, sizes}
 use Rattle.calc_terms.proofs.Sizes.{num_most}
 use Rattle.calc_room.specs.Needs.{product_need}
-use Rattle.coefficients.specs.Coefficients.{factors_of}
-use Rattle.coefficients.specs.Rooms.{put_room}
 use Rattle.coefficients.proofs.Rooms.{sizes_append}
-use Rattle.std.proofs.lemmas.Nat.{mul-le}
 use Rattle.tree_room.specs.Needs.{product_step_room}
-use Rattle.product_reduce.specs.Factors.{opened}
-use Rattle.node_pool.specs.State.{State, free_of}
-use Rattle.number_forms.specs.Sums.{removed}
-use Rattle.tree_handles.specs.Expressions.{nth}
-use Rattle.tree_handles.specs.Forest.{Forest, bytes_in, kids, tree_nth, without_nth}
-use Rattle.tree_handles.specs.Handed.{tree_of, IsHanded, Ends}
-use Rattle.tree_handles.specs.Roots.{root_tree, without_root, put}
-use Rattle.tree_handles.specs.Standing.{Stands, forest, KeepsRefusals}
-use Rattle.product_reduce.specs.Joining.{exponent_of}
-use Rattle.product_reduce.specs.Products.{IsProduct, Becomes, IsBeside, IsTakenOut, IsSplit}
 use Rattle.product_reduce.proofs.Beside.{taken_factor, without_factor}
 
 pub product_bytes : {i : ℕ} {f : Forest} {ts : Trees} → IsProduct i f ts → bytes_in f ≡ bytes_in (without_root i f) + size (mult ts)

@@ -1,14 +1,6 @@
 -- A coefficient comes before the factors of a product.
 use Rattle.std.proofs.Common.{ℕ, ◌≡◌, Bool, true, false, if◌then◌else◌, refl, sym, ap, ◌∙◌, arith}
-use Rattle.coefficients.specs.Coefficients.{factors_of}
-use Rattle.calc_algebra.specs.Reduced.{is_num_one}
-use Rattle.calc_terms.specs.Trees.{Tree, mult, Trees, none, more, append, is_mult}
-use Rattle.tree_handles.specs.Expressions.{children_of}
-use Rattle.tree_handles.specs.Forest.{Forest, kids, merged_nth, with_nth}
-use Rattle.tree_handles.specs.Roots.{root_tree, without_root, put}
-use Rattle.tree_handles.proofs.Given.{represents_handed, represents_with, represents_as}
-use Rattle.product_reduce.specs.Factors.{coefficient_before}
-use Rattle.product_reduce.specs.Products.{IsProduct, Becomes, IsBeside}
+use Rattle.product_reduce.proofs.Shared.{factors_of, is_num_one, Tree, mult, Trees, none, more, append, is_mult, children_of, Forest, kids, merged_nth, with_nth, root_tree, without_root, put, represents_handed, represents_with, represents_as, coefficient_before, IsProduct, Becomes, IsBeside}
 use Rattle.product_reduce.proofs.Beside.{beside_product}
 use Rattle.product_reduce.proofs.Products.{becomes_put, becomes_as, becomes_after, becomes_merged, product_kids}
 

@@ -1,31 +1,7 @@
 -- From a coefficient beside ordered factors to the gathered product.
 use Rattle.std.proofs.Common.{ℕ, ◌≡◌, Result, Ok, Err, true, false, ◌&&◌, refl, sym, ap, ◌∙◌, subst, arith}
-use Rattle.std.proofs.lemmas.Bool.{and_parts, and_from}
-use Rattle.std.proofs.lemmas.List.Sorted.{IsPermutation-trans}
-use Rattle.calc_algebra.specs.Numbers.{is_number}
-use Rattle.calc_algebra.specs.Reduced.{base_of, is_reduced, are_reduced, NoneIs}
+use Rattle.product_reduce.proofs.Shared.{and_parts, and_from, IsPermutation-trans, is_number, base_of, is_reduced, are_reduced, NoneIs, KeepsMeanings-refl, KeepsMeanings-product_more, Permuted, permuted_none, permuted_more, permuted_swap, permuted_trans, Permuted-sym, permuted_product, within_same, within_beside, names_permuted, no_new_name, keeps, reduces_after, nest_of, load_of_factors, nest_permuted, Tree, mult, Trees, none, more, is_mult, is_undef, has_undef, names, names_of, IsSorting, list_of, State, NumberFault, Overflow, plain, children_of, Forest, Gives, root_tree, without_root, gives_as, AreOthers, IsAlone, IsEnding, opened, others_in, IsCoefficient, coefficient_before, IsGathered, IsOrdered, have_partners, SpreadingOverflows, factors_in}
 use Rattle.calc_algebra.specs.Rewritings.{Rewrites}
-use Rattle.calc_algebra.proofs.MeaningRewrites.{KeepsMeanings-refl, KeepsMeanings-product_more, Permuted, permuted_none, permuted_more, permuted_swap, permuted_trans, Permuted-sym, permuted_product}
-use Rattle.calc_algebra.proofs.Names.{within_same, within_beside, names_permuted, no_new_name}
-use Rattle.calc_algebra.proofs.Rewritings.{keeps, reduces_after}
-use Rattle.calc_measures.specs.Loads.{nest_of, load_of_factors}
-use Rattle.calc_measures.proofs.Nests.{nest_permuted}
-use Rattle.calc_terms.specs.Trees.{Tree, mult, Trees, none, more, is_mult, is_undef, has_undef, names, names_of}
-use Rattle.node_order.specs.Sorting.{IsSorting, list_of}
-use Rattle.node_pool.specs.State.{State}
-use Rattle.tree_handles.specs.declared.fault.NumberFault.{NumberFault}
-use Rattle.rational128.specs.declared.overflow.Overflow.{Overflow}
-use Rattle.tree_handles.specs.Expressions.{plain, children_of}
-use Rattle.tree_handles.specs.Forest.{Forest}
-use Rattle.tree_handles.specs.Handed.{Gives}
-use Rattle.tree_handles.specs.Roots.{root_tree, without_root}
-use Rattle.tree_handles.proofs.Given.{gives_as}
-use Rattle.product_reduce.specs.Answers.{AreOthers, IsAlone, IsEnding}
-use Rattle.product_reduce.specs.Factors.{opened, others_in, IsCoefficient, coefficient_before}
-use Rattle.product_reduce.specs.Gathering.{IsGathered, IsOrdered}
-use Rattle.product_reduce.specs.Joining.{have_partners}
-use Rattle.product_reduce.specs.Misfits.{SpreadingOverflows}
-use Rattle.product_reduce.specs.Products.{factors_in}
 use Rattle.product_reduce.proofs.Bounds.{nest_with, nest_others, nest_opened, load_with, load_others, load_opened, load_permuted}
 use Rattle.product_reduce.proofs.Finished.{or_none, product_keeps, product_within}
 use Rattle.product_reduce.proofs.JointPlaces.{in_front, before_is, front_reduced, reduced-append}

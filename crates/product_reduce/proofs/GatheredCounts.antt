@@ -1,30 +1,7 @@
 -- The factors of a product are gathered to what counts no more.
 use Rattle.std.proofs.Common.{◌≡◌, inl, inr, ℕ, ◌+◌, ◌≤◌, max, Bool, true, false, not, if◌then◌else◌, refl, sym, ap, ◌∙◌, subst, arith}
-use Rattle.calc_terms.specs.Fractions.{Fraction, zero_fraction, is_zero_fraction, is_one_fraction}
-use Rattle.calc_terms.proofs.FractionFacts.{no_zero}
-use Rattle.calc_terms.specs.Trees.{Tree, num, add, mult, root, Trees, none, more, append, is_add, AllPartsOf, has_undef}
-use Rattle.calc_algebra.specs.Numbers.{IsNumber, is_number}
-use Rattle.calc_algebra.specs.Reduced.{base_of, HasForm, NoneIs, is_num_one, are_reduced}
-use Rattle.calc_algebra.proofs.MeaningRewrites.{Permuted, permuted_none, permuted_more, permuted_swap, permuted_trans}
-use Rattle.calc_algebra.proofs.NumberLaws.{number_test, number_words}
-use Rattle.calc_room.specs.Counts.{counted, counted_among}
+use Rattle.product_reduce.proofs.Shared.{Fraction, zero_fraction, is_zero_fraction, is_one_fraction, no_zero, Tree, num, add, mult, root, Trees, none, more, append, is_add, AllPartsOf, has_undef, IsNumber, is_number, base_of, HasForm, NoneIs, is_num_one, are_reduced, Permuted, permuted_none, permuted_more, permuted_swap, permuted_trans, number_test, number_words, counted, counted_among, factors_of, spliced, rational_before, with_coefficient, IsMonic, mapped, rational_times_term, monic_sum, factors_monic, monic_parts, IsFactor, not_one_is, EachTerm, each_term, number_term, multiple, IsSorting, is_zero, children_of, HasSamePart, HaveSameParts, numbers_among, product_count, same_parts, appended, at_most_itself, counts_one, flat_product, number_counts_one, AreOthers, IsWritten, IsWrittenProduct, opened, others_in, coefficient_before, coefficient_times, IsGathered}
 use Rattle.calc_room.proofs.TreeBytes.{counted_number, counted_other, term_counts}
-use Rattle.coefficients.specs.Coefficients.{factors_of, spliced, rational_before, with_coefficient, IsMonic}
-use Rattle.coefficients.specs.Multiples.{mapped, rational_times_term}
-use Rattle.coefficients.proofs.Coefficients.{monic_sum}
-use Rattle.coefficients.proofs.Factors.{factors_monic, monic_parts}
-use Rattle.coefficients.proofs.NumberMultiples.{IsFactor, not_one_is}
-use Rattle.coefficients.proofs.SumMultiples.{EachTerm, each_term, number_term}
-use Rattle.coefficients.proofs.TermMultiples.{multiple}
-use Rattle.node_order.specs.Sorting.{IsSorting}
-use Rattle.number_forms.specs.Readers.{is_zero}
-use Rattle.tree_handles.specs.Expressions.{children_of}
-use Rattle.tree_room.specs.Handed.{HasSamePart, HaveSameParts, numbers_among, product_count}
-use Rattle.tree_room.proofs.Coefficients.{same_parts}
-use Rattle.tree_room.proofs.Counts.{appended, at_most_itself, counts_one, flat_product, number_counts_one}
-use Rattle.product_reduce.specs.Answers.{AreOthers, IsWritten, IsWrittenProduct}
-use Rattle.product_reduce.specs.Factors.{opened, others_in, coefficient_before, coefficient_times}
-use Rattle.product_reduce.specs.Gathering.{IsGathered}
 use Rattle.product_reduce.proofs.Forms.{others_no_numbers}
 use Rattle.product_reduce.proofs.Gathered.{others_permuted}
 use Rattle.product_reduce.proofs.LastSteps.{sorted_factors}

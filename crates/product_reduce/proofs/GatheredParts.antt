@@ -1,24 +1,10 @@
 -- What holds of each part of the factors of a product holds of each part of what they are gathered to.
 use Rattle.std.proofs.Common.{◌≡◌, ℕ, List, Bool, true, false, if◌then◌else◌, refl, sym, subst}
-use Rattle.calc_terms.specs.Fractions.{Fraction, one_fraction}
-use Rattle.calc_terms.specs.Trees.{Tree, num, undef, add, mult, power, Trees, none, more, append, AllParts, AllPartsOf}
-use Rattle.calc_algebra.specs.Numbers.{is_number, value}
-use Rattle.calc_algebra.specs.Reduced.{base_of, is_num_one, is_opaque_exponent, num_one, product_tree}
-use Rattle.calc_algebra.proofs.NumberLaws.{number_words}
-use Rattle.calc_room.specs.Powers.{IsPowerOf, HasPowersOf}
-use Rattle.calc_room.specs.Spans.{Spans, SpansRoot, SpansTree, SpansTrees}
+use Rattle.product_reduce.proofs.Shared.{Fraction, one_fraction, Tree, num, undef, add, mult, power, Trees, none, more, append, AllParts, AllPartsOf, is_number, value, base_of, is_num_one, is_opaque_exponent, num_one, product_tree, number_words, IsPowerOf, HasPowersOf, Spans, SpansRoot, SpansTree, SpansTrees, factors_of, AllPartsOf-append, IsSorting, is_zero, IsJoined, IsWritten, IsWrittenProduct, opened, numbers_in, others_in, product_of_values, IsCoefficient, coefficient_before, coefficient_times, IsGathered, exponent_of, first_partner, has_partner, is_partner, joined, joint, without_partner}
 use Rattle.calc_room.proofs.NumberSpans.{spans_times, spans_same, tree_spanned, value_spanned}
 use Rattle.calc_room.proofs.SpanLaws.{one_spanned}
-use Rattle.coefficients.specs.Coefficients.{factors_of}
-use Rattle.coefficients.proofs.Forms.{AllPartsOf-append}
-use Rattle.node_order.specs.Sorting.{IsSorting}
-use Rattle.number_forms.specs.Readers.{is_zero}
 use Rattle.like_children.proofs.OwnPowers.{number_powers, own_powers_of}
 use Rattle.like_children.proofs.Parts.{factors_parts, permuted_parts, product_tree_parts, with_parts}
-use Rattle.product_reduce.specs.Answers.{IsJoined, IsWritten, IsWrittenProduct}
-use Rattle.product_reduce.specs.Factors.{opened, numbers_in, others_in, product_of_values, IsCoefficient, coefficient_before, coefficient_times}
-use Rattle.product_reduce.specs.Gathering.{IsGathered}
-use Rattle.product_reduce.specs.Joining.{exponent_of, first_partner, has_partner, is_partner, joined, joint, without_partner}
 use Rattle.product_reduce.proofs.Sorted.{permuted_lists}
 
 -- ---- factors that are opened, parted, and change places

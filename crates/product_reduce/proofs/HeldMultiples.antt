@@ -1,25 +1,7 @@
 -- A rational times a reduced sum, as addends: each coefficient is multiplied, and the factors are the same.
 use Rattle.std.proofs.Common.{◌≡◌, ◌≢◌, ◌≤◌, ◌*◌, ℕ, ◌⊎◌, inl, inr, [], ◌∷◌, Bool, true, false, if◌then◌else◌, refl, sym, ap, ◌∙◌, subst, arith}
-use Rattle.calc_terms.specs.Fractions.{Fraction, times, zero_fraction, one_fraction, is_one_fraction}
-use Rattle.calc_terms.proofs.FractionFacts.{one_is, zero_test}
-use Rattle.calc_terms.specs.Trees.{Tree, num, add, mult, root, Trees, none, more, append, count, is_add, is_mult, AllParts, AllPartsOf}
-use Rattle.calc_measures.specs.Loads.{has_coefficient}
-use Rattle.calc_algebra.specs.Numbers.{is_number, is_term, natural_of, value, terms_of, IsNumber, IsTerm}
-use Rattle.calc_algebra.specs.Reduced.{HasForm, NoneIs, IsProductForm, IsSumForm, Split, split, split_product, product_tree, part_of, num_one, number_terms, other_terms}
-use Rattle.calc_algebra.specs.Surds.{Surd, term, surd_of, surd_one, surd_scale, surd_times}
+use Rattle.product_reduce.proofs.Shared.{Fraction, times, zero_fraction, one_fraction, is_one_fraction, one_is, zero_test, Tree, num, add, mult, root, Trees, none, more, append, count, is_add, is_mult, AllParts, AllPartsOf, has_coefficient, is_number, is_term, natural_of, value, terms_of, IsNumber, IsTerm, HasForm, NoneIs, IsProductForm, IsSumForm, Split, split, split_product, product_tree, part_of, num_one, number_terms, other_terms, Surd, term, surd_of, surd_one, surd_scale, surd_times, number_test, coefficient_of, factors_of, mapped, rational_times_number, rational_times_term, leading_factors, product_form_of, AreFactors, no_split, num_split, none_leads, two_count, no_term, term_test, IsFactor, number_scaled, terms-scaled, times_one, Leads, in_front, EachTerm, each_term, number_term, multiple, distributed, Addend, addend, addend_of, addends, addends_of}
 use Rattle.calc_algebra.proofs.InverseLaws.{product_not_zero}
-use Rattle.calc_algebra.proofs.NumberLaws.{number_test}
-use Rattle.coefficients.specs.Coefficients.{coefficient_of, factors_of}
-use Rattle.coefficients.specs.Multiples.{mapped, rational_times_number, rational_times_term}
-use Rattle.coefficients.proofs.Coefficients.{leading_factors, product_form_of}
-use Rattle.coefficients.proofs.Factors.{AreFactors, no_split, num_split, none_leads, two_count}
-use Rattle.coefficients.proofs.Forms.{no_term, term_test}
-use Rattle.coefficients.proofs.NumberMultiples.{IsFactor, number_scaled, terms-scaled, times_one}
-use Rattle.coefficients.proofs.Splits.{Leads, in_front}
-use Rattle.coefficients.proofs.SumMultiples.{EachTerm, each_term, number_term}
-use Rattle.coefficients.proofs.TermMultiples.{multiple}
-use Rattle.tree_bits.specs.Factors.{distributed}
-use Rattle.tree_bits.specs.HeldTrees.{Addend, addend, addend_of, addends, addends_of}
 use Rattle.product_reduce.proofs.Leads.{factors_again}
 use Rattle.product_reduce.proofs.Progress.{one_value}
 

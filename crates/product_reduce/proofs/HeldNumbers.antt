@@ -1,39 +1,14 @@
 -- What holds Numbers one by one holds their product, also while they are multiplied from left to right.
 use Rattle.std.proofs.Common.{◌≡◌, ℕ, zero, suc, ◌+◌, ◌*◌, ◌^◌, ◌<◌, ◌≤◌, [], ◌∷◌, Bool, true, false, ◌&&◌, if◌then◌else◌, max, pos, refl, sym, ap, ◌∙◌, subst, arith}
-use Rattle.std.proofs.lemmas.Nat.{mul-le}
-use Rattle.std.proofs.lemmas.Bool.{and_from, false_from_ne_true}
-use Rattle.calc_terms.specs.Fractions.{Fraction, times, one_fraction, is_zero_fraction}
-use Rattle.calc_terms.specs.FractionLaws.{times_comm, one_times}
-use Rattle.calc_terms.proofs.FractionFacts.{zero_is}
-use Rattle.calc_terms.specs.Trees.{Tree, num, root, Trees, none, more, append}
-use Rattle.calc_algebra.specs.Numbers.{is_number, are_numbers, natural_of, value, IsBelowAll, Rises}
-use Rattle.calc_algebra.specs.SquareClasses.{are_alike, Same}
-use Rattle.calc_algebra.specs.Surds.{Term, Surd, term, surd_of, surd_one, surd_times, term_times}
-use Rattle.calc_algebra.proofs.NumberClasses.{AreProper, value_proper, value_rises}
-use Rattle.calc_algebra.proofs.NumberLaws.{number_words}
-use Rattle.calc_algebra.proofs.SquareClassLaws.{Alike, alike_from, alike_true, Same-trans}
+use Rattle.product_reduce.proofs.Shared.{mul-le, and_from, false_from_ne_true, Fraction, times, one_fraction, is_zero_fraction, times_comm, one_times, zero_is, Tree, num, root, Trees, none, more, append, is_number, are_numbers, natural_of, value, IsBelowAll, Rises, are_alike, Same, Term, Surd, term, surd_of, surd_one, surd_times, term_times, AreProper, value_proper, value_rises, number_words, Alike, alike_from, alike_true, Same-trans, square_root, surd_times_assoc, surd_times-surd_one, Same-refl, Same-eq, Same-surd_times, root_above, mass_from, IsHeld, Same-sym, IsSumHeld, Addend, addend, addend_of, none_weighted, more_weighted, no_factor_held, weighted, AreHeld, factor_as_tree, held_number, held_wider, nothing_held, put_before, both_true, IsFactorHeld, AreFactorsHeld, none_held, factor_held, term_held, product_of_values}
 use Rattle.calc_algebra.proofs.SquareRootLaws.{square_from_scaled}
-use Rattle.calc_algebra.specs.SquareRoots.{square_root}
-use Rattle.calc_algebra.proofs.SurdLaws.{surd_times_assoc, surd_times-surd_one}
-use Rattle.calc_algebra.proofs.TermLaws.{Same-refl, Same-eq, Same-surd_times}
 use Rattle.calc_bits.specs.Denominators.{Parts, magnitude_over}
-use Rattle.calc_bits.specs.Masses.{root_above, mass_from, IsHeld}
 use Rattle.calc_bits.proofs.ClassMasses.{mass_same}
 use Rattle.calc_bits.proofs.Held.{held_power, held_times}
 use Rattle.calc_bits.proofs.MassLaws.{parts_scale, parts_times}
 use Rattle.calc_bits.proofs.Quotients.{den_divides}
 use Rattle.calc_bits.proofs.RootsAbove.{root_enough, root_least}
-use Rattle.calc_algebra.proofs.MeaningLaws.{Same-sym}
 use Rattle.calc_algebra.proofs.PowerLaws.{zero_surd_of}
-use Rattle.tree_bits.specs.Children.{IsSumHeld}
-use Rattle.tree_bits.specs.HeldTrees.{Addend, addend, addend_of, none_weighted, more_weighted, no_factor_held}
-use Rattle.tree_bits.specs.Weighted.{weighted, AreHeld}
-use Rattle.tree_bits.proofs.Factors.{factor_as_tree}
-use Rattle.tree_bits.proofs.Numbers.{held_number, held_wider, nothing_held}
-use Rattle.tree_bits.proofs.Weighted.{put_before}
-use Rattle.like_children.proofs.NumbersIn.{both_true}
-use Rattle.product_reduce.specs.Bits.{IsFactorHeld, AreFactorsHeld, none_held, factor_held, term_held}
-use Rattle.product_reduce.specs.Factors.{product_of_values}
 
 -- ---- one Number
 

@@ -1,21 +1,7 @@
 -- What holds factors one by one, where two neighbours of one base are taken out and another factor is put in their place.
 use Rattle.std.proofs.Common.{List, [], ◌∷◌, ℕ, zero, suc, ◌+◌, ◌≤◌, ◌<◌, ◌≡◌, Bool, true, false, ◌&&◌, not, refl, sym, ◌∙◌, arith}
-use Rattle.std.proofs.lemmas.Bool.{and_parts}
+use Rattle.product_reduce.proofs.Shared.{and_parts, is_number, natural_of, is_reduced, are_reduced, term, IsHeld, Fraction, Tree, num, root, mult, Trees, none, more, count, is_mult, removed, AreTreesHeld, ArePositive, high_sum, low_sum, IsPartHeld, factor_is_held, parts_multiply, nth, inserted, IsFactorHeld, AreFactorsHeld, none_held, factor_held, term_held, is_single, is_pair, IsPairAt}
 use Rattle.calc_measures.specs.Measures.{HighLow}
-use Rattle.calc_algebra.specs.Numbers.{is_number, natural_of}
-use Rattle.calc_algebra.specs.Reduced.{is_reduced, are_reduced}
-use Rattle.calc_algebra.specs.Surds.{term}
-use Rattle.calc_bits.specs.Masses.{IsHeld}
-use Rattle.calc_terms.specs.Fractions.{Fraction}
-use Rattle.calc_terms.specs.Trees.{Tree, num, root, mult, Trees, none, more, count, is_mult}
-use Rattle.number_forms.specs.Sums.{removed}
-use Rattle.tree_bits.specs.Children.{AreTreesHeld, ArePositive, high_sum, low_sum}
-use Rattle.tree_bits.specs.HeldTrees.{IsPartHeld}
-use Rattle.tree_bits.proofs.Factors.{factor_is_held}
-use Rattle.tree_bits.proofs.HeldTrees.{parts_multiply}
-use Rattle.tree_handles.specs.Expressions.{nth, inserted}
-use Rattle.product_reduce.specs.Bits.{IsFactorHeld, AreFactorsHeld, none_held, factor_held, term_held}
-use Rattle.product_reduce.specs.Neighbours.{is_single, is_pair, IsPairAt}
 use Rattle.product_reduce.proofs.Finished.{formed_unless_undef}
 use Rattle.product_reduce.proofs.HeldFactors.{single_part, factors_held, root_number}
 

@@ -1,35 +1,7 @@
 -- What holds the factors of a product one by one holds what they are gathered to.
 use Rattle.std.proofs.Common.{◌≡◌, ◌≤◌, ◌+◌, ℕ, List, [], ◌∷◌, Bool, true, false, not, if◌then◌else◌, refl, sym, ap, ◌∙◌, subst, arith}
-use Rattle.calc_terms.specs.Fractions.{Fraction, zero_fraction, is_zero_fraction, is_one_fraction}
-use Rattle.calc_terms.proofs.FractionFacts.{no_zero}
-use Rattle.calc_terms.specs.Trees.{Tree, num, add, mult, Trees, none, more, append, count, is_mult, has_undef}
-use Rattle.calc_algebra.specs.Numbers.{is_number, value}
-use Rattle.calc_algebra.specs.Reduced.{NoneIs, Split, split, split_product, product_tree, num_one, are_reduced}
-use Rattle.calc_algebra.specs.Surds.{Surd, surd_of}
-use Rattle.calc_bits.specs.Masses.{IsHeld}
-use Rattle.coefficients.specs.Coefficients.{factors_of, rational_before, with_coefficient, IsMonic}
-use Rattle.coefficients.specs.Multiples.{mapped, rational_times_term}
-use Rattle.coefficients.proofs.Coefficients.{monic_sum}
-use Rattle.coefficients.proofs.Factors.{monic_parts}
-use Rattle.coefficients.proofs.NumberMultiples.{IsFactor, not_one_is}
-use Rattle.coefficients.proofs.Splits.{factors_no_number}
-use Rattle.number_forms.specs.Readers.{is_zero}
-use Rattle.tree_bits.specs.Children.{IsSumHeld}
-use Rattle.tree_bits.specs.Exponents.{Counts, counts, counts_of}
-use Rattle.tree_bits.specs.Factors.{as_factor, distributed}
-use Rattle.tree_bits.specs.HeldTrees.{Addend, addend, addend_of, addends, none_weighted, more_weighted, IsPartHeld}
-use Rattle.tree_bits.specs.Weighted.{weighted, AreHeld}
+use Rattle.product_reduce.proofs.Shared.{Fraction, zero_fraction, is_zero_fraction, is_one_fraction, no_zero, Tree, num, add, mult, Trees, none, more, append, count, is_mult, has_undef, is_number, value, NoneIs, Split, split, split_product, product_tree, num_one, are_reduced, Surd, surd_of, IsHeld, factors_of, rational_before, with_coefficient, IsMonic, mapped, rational_times_term, monic_sum, monic_parts, IsFactor, not_one_is, factors_no_number, is_zero, IsSumHeld, Counts, counts, counts_of, as_factor, distributed, Addend, addend, addend_of, addends, none_weighted, more_weighted, IsPartHeld, weighted, AreHeld, distributed_held, factor_as_tree, factor_is_held, wider, exponents_within, held_wider, one_counts, one_weighted, wider_held, put_before, children_of, AreOthers, IsWritten, IsWrittenProduct, IsFactorHeld, AreFactorsHeld, opened, others_in, coefficient_times, IsGathered}
 use Rattle.tree_bits.proofs.Children.{tree_as_sum, sum_as_tree}
-use Rattle.tree_bits.proofs.Factors.{distributed_held, factor_as_tree, factor_is_held}
-use Rattle.tree_bits.proofs.HeldTrees.{wider}
-use Rattle.tree_bits.proofs.Numbers.{exponents_within, held_wider}
-use Rattle.tree_bits.proofs.Sums.{one_counts, one_weighted, wider_held}
-use Rattle.tree_bits.proofs.Weighted.{put_before}
-use Rattle.tree_handles.specs.Expressions.{children_of}
-use Rattle.product_reduce.specs.Answers.{AreOthers, IsWritten, IsWrittenProduct}
-use Rattle.product_reduce.specs.Bits.{IsFactorHeld, AreFactorsHeld}
-use Rattle.product_reduce.specs.Factors.{opened, others_in, coefficient_times}
-use Rattle.product_reduce.specs.Gathering.{IsGathered}
 use Rattle.product_reduce.proofs.Finished.{reduced_formed}
 use Rattle.product_reduce.proofs.Forms.{AllFormed, number_formed, opened_flat, opened_formed, split_of_number, split_of_others}
 use Rattle.product_reduce.proofs.Gathered.{others_permuted}

@@ -1,15 +1,7 @@
 -- Two factors of one base, joined: meanings are kept.
-use Rattle.std.specs.declared.cmp.Ordering.{Ordering}
-use Rattle.std.specs.declared.cmp.Ordering.TheVariants.{Less, Equal, Greater}
-use Rattle.std.specs.Ordering.{is_eq}
 use Rattle.std.proofs.Common.{◌≡◌, Bool, true, false, refl, if◌then◌else◌}
-use Rattle.calc_algebra.specs.Reduced.{base_of}
-use Rattle.calc_algebra.specs.TreeOrder.{tree_cmp}
-use Rattle.calc_terms.specs.Trees.{Tree, mult, Trees, none, more}
-use Rattle.calc_algebra.proofs.MeaningRewrites.{KeepsMeanings, KeepsMeanings-refl, KeepsMeanings-trans, KeepsMeanings-product_more, Permuted, permuted_more, permuted_swap, permuted_trans, Permuted-refl, permuted_product, joined_in_product}
+use Rattle.product_reduce.proofs.Shared.{Ordering, Less, Equal, Greater, is_eq, base_of, tree_cmp, Tree, mult, Trees, none, more, KeepsMeanings, KeepsMeanings-refl, KeepsMeanings-trans, KeepsMeanings-product_more, Permuted, permuted_more, permuted_swap, permuted_trans, Permuted-refl, permuted_product, joined_in_product, tree_cmp_equal, is_partner, has_partner, first_partner, without_partner, joint, joined}
 use Rattle.calc_algebra.proofs.PowerRewrites.{same_bases}
-use Rattle.calc_algebra.proofs.TreeOrderLaws.{tree_cmp_equal}
-use Rattle.product_reduce.specs.Joining.{is_partner, has_partner, first_partner, without_partner, joint, joined}
 
 equal_words : (o : Ordering) → is_eq o ≡ true → o ≡ Equal
 equal_words Less h = cc

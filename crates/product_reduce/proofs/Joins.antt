@@ -1,14 +1,6 @@
 -- A pair of factors is taken out of a product, and comes back as one power.
 use Rattle.std.proofs.Common.{ℕ, zero, suc, ◌<◌, ◌≤◌, ◌≡◌, true, refl, ap, ◌∙◌, arith}
-use Rattle.like_children.proofs.Kids.{count_removed, represents_without}
-use Rattle.number_forms.specs.Sums.{removed}
-use Rattle.calc_terms.specs.Trees.{Tree, Trees, none, more, count}
-use Rattle.tree_handles.specs.Expressions.{nth, inserted}
-use Rattle.tree_handles.specs.Forest.{Forest, kids, tree_nth, without_nth, with_nth}
-use Rattle.tree_handles.specs.Handed.{Ends, Gives}
-use Rattle.tree_handles.specs.Roots.{has_root, root_tree, without_root, put}
-use Rattle.tree_handles.proofs.Given.{given_handed, given_rest, given_same, given_told, represents_handed, represents_with, represents_as}
-use Rattle.product_reduce.specs.Products.{Becomes, IsBeside, IsTakenOut}
+use Rattle.product_reduce.proofs.Shared.{count_removed, represents_without, removed, Tree, Trees, none, more, count, nth, inserted, Forest, kids, tree_nth, without_nth, with_nth, Ends, Gives, has_root, root_tree, without_root, put, given_handed, given_rest, given_same, given_told, represents_handed, represents_with, represents_as, Becomes, IsBeside, IsTakenOut}
 use Rattle.product_reduce.proofs.Beside.{beside_product, beside_put, beside_given, taken_factor}
 use Rattle.product_reduce.proofs.Products.{becomes_put, becomes_after, product_kids}
 

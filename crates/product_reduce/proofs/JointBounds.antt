@@ -1,19 +1,6 @@
 -- A product with two factors joined is bounded by the product before.
 use Rattle.std.proofs.Common.{ℕ, suc, ◌+◌, ◌≤◌, ◌<◌, max, ◌≡◌, inl, Bool, true, false, if◌then◌else◌, refl, sym, ap, ◌∙◌, subst, arith}
-use Rattle.std.proofs.lemmas.Bool.{and_parts}
-use Rattle.calc_measures.specs.Loads.{nest, nest_of, weight, load, load_of_factor, load_of_factors}
-use Rattle.calc_terms.specs.Fractions.{Fraction}
-use Rattle.calc_algebra.specs.Numbers.{is_number, are_numbers}
-use Rattle.calc_algebra.specs.Reduced.{is_num_one, is_reduced, is_opaque_exponent, num_one, NoneIs, base_of, are_reduced}
-use Rattle.calc_terms.specs.Trees.{Tree, num, add, mult, power, undef, Trees, none, more, append, count, is_mult}
-use Rattle.coefficients.specs.Coefficients.{factors_of}
-use Rattle.coefficients.proofs.Forms.{reduced_parts, parts_reduced}
-use Rattle.number_forms.specs.Sums.{removed}
-use Rattle.tree_handles.specs.Expressions.{nth, children_of}
-use Rattle.product_reduce.specs.Answers.{IsJoined}
-use Rattle.product_reduce.specs.Factors.{opened, others_in, coefficient_before}
-use Rattle.product_reduce.specs.Joining.{exponent_of, has_partner, first_partner, without_partner, joint, have_partners, joined}
-use Rattle.calc_measures.proofs.Nests.{nest_number, nest_permuted}
+use Rattle.product_reduce.proofs.Shared.{and_parts, nest, nest_of, weight, load, load_of_factor, load_of_factors, Fraction, is_number, are_numbers, is_num_one, is_reduced, is_opaque_exponent, num_one, NoneIs, base_of, are_reduced, Tree, num, add, mult, power, undef, Trees, none, more, append, count, is_mult, factors_of, reduced_parts, parts_reduced, removed, nth, children_of, IsJoined, opened, others_in, coefficient_before, exponent_of, has_partner, first_partner, without_partner, joint, have_partners, joined, nest_number, nest_permuted}
 use Rattle.product_reduce.proofs.Bounds.{nest_factors, nest_others, nest_opened, load_with, load_others, load_opened, load_product, load_permuted}
 use Rattle.product_reduce.proofs.Finished.{reduced_formed}
 use Rattle.product_reduce.proofs.Forms.{AllFormed, opened_formed, others_formed, opened_flat, others_none, others_no_numbers}

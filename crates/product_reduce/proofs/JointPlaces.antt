@@ -1,16 +1,6 @@
 -- The place of a joint behind a coefficient.
 use Rattle.std.proofs.Common.{ℕ, zero, suc, ◌+◌, ◌<◌, ◌≤◌, ◌≡◌, Bool, true, false, if◌then◌else◌, refl, ap, ◌∙◌, arith}
-use Rattle.like_children.proofs.Kids.{count_removed}
-use Rattle.std.proofs.lemmas.Bool.{and_parts, and_from}
-use Rattle.calc_algebra.specs.Numbers.{is_number}
-use Rattle.calc_algebra.specs.Reduced.{is_num_one, is_reduced, are_reduced}
-use Rattle.calc_terms.specs.Trees.{Tree, Trees, none, more, append, count}
-use Rattle.coefficients.specs.Coefficients.{factors_of}
-use Rattle.number_forms.specs.Sums.{removed}
-use Rattle.tree_handles.specs.Expressions.{nth, inserted}
-use Rattle.like_children.proofs.NumbersIn.{count_append}
-use Rattle.product_reduce.specs.Factors.{coefficient_before}
-use Rattle.product_reduce.specs.Joining.{joint, joined, IsFirstPair, IsFirstJoint, IsJointAt}
+use Rattle.product_reduce.proofs.Shared.{count_removed, and_parts, and_from, is_number, is_num_one, is_reduced, are_reduced, Tree, Trees, none, more, append, count, factors_of, removed, nth, inserted, count_append, coefficient_before, joint, joined, IsFirstPair, IsFirstJoint, IsJointAt}
 use Rattle.product_reduce.proofs.Finished.{formed_reduced, reduced_nth}
 use Rattle.product_reduce.proofs.Forms.{AllFormed, formed_factors, number_formed}
 use Rattle.product_reduce.proofs.Pairs.{joined_at}

@@ -1,18 +1,8 @@
 -- The joint of two factors: its exponents, its nest and its load.
 use Rattle.std.proofs.Common.{ℕ, zero, suc, ◌+◌, ◌≤◌, ◌<◌, max, ◌≡◌, inl, inr, Bool, true, false, ◌&&◌, not, if◌then◌else◌, refl, sym, ap, ◌∙◌, subst, arith}
 use Rattle.std.specs.Prelude.{⊤}
-use Rattle.std.proofs.lemmas.Bool.{and_parts}
-use Rattle.calc_terms.specs.Fractions.{Fraction, one_fraction, is_zero_fraction}
-use Rattle.calc_measures.specs.Loads.{nest, nest_of, weight, weight_of_factors, load_of_factor, load_of_factors, has_coefficient}
-use Rattle.calc_algebra.specs.Numbers.{is_number, IsNumber, Rises, terms_of}
-use Rattle.calc_algebra.specs.Reduced.{is_opaque_exponent, is_whole_num, is_reduced, has_form, all_parts, HasForm, IsSumForm, NoneIs, base_of}
-use Rattle.calc_terms.specs.Trees.{Tree, num, add, mult, power, root, Trees, none, more, count, is_mult}
-use Rattle.calc_algebra.proofs.NumberLaws.{number_words, number_test}
-use Rattle.coefficients.proofs.Forms.{reduced_parts}
+use Rattle.product_reduce.proofs.Shared.{and_parts, Fraction, one_fraction, is_zero_fraction, nest, nest_of, weight, weight_of_factors, load_of_factor, load_of_factors, has_coefficient, is_number, IsNumber, Rises, terms_of, is_opaque_exponent, is_whole_num, is_reduced, has_form, all_parts, HasForm, IsSumForm, NoneIs, base_of, Tree, num, add, mult, power, root, Trees, none, more, count, is_mult, number_words, number_test, reduced_parts, removed, nth, exponent_of, joint}
 use Rattle.number_forms.proofs.Shaped.{term_number}
-use Rattle.number_forms.specs.Sums.{removed}
-use Rattle.tree_handles.specs.Expressions.{nth}
-use Rattle.product_reduce.specs.Joining.{exponent_of, joint}
 use Rattle.product_reduce.proofs.Forms.{IsFormed, formed}
 
 -- ---- the exponents of a joint

@@ -1,27 +1,10 @@
 -- A coefficient and sorted factors whose bases differ make a reduced tree.
 use Rattle.std.proofs.Common.{◌≡◌, ◌≤◌, [], true, false, refl, ap, arith}
-use Rattle.calc_algebra.specs.Numbers.{is_number}
-use Rattle.calc_algebra.specs.Reduced.{is_reduced, product_tree, RisesBy, HasForm, base_of, are_reduced}
-use Rattle.calc_terms.specs.Trees.{Tree, mult, Trees, none, more, count, names, names_of, is_mult, is_undef, AllPartsOf, has_undef}
-use Rattle.calc_algebra.proofs.MeaningRewrites.{KeepsMeanings, KeepsMeanings-refl, KeepsMeanings-trans, KeepsMeanings-product_more, Permuted, permuted_none, permuted_more, permuted_swap, permuted_trans, permuted_product, single_product, to_single_product}
-use Rattle.calc_algebra.proofs.NumberLaws.{number_words}
-use Rattle.calc_algebra.proofs.NumberRewrites.{product_tree_keeps}
-use Rattle.coefficients.specs.Coefficients.{with_coefficient}
+use Rattle.product_reduce.proofs.Shared.{is_number, is_reduced, product_tree, RisesBy, HasForm, base_of, are_reduced, Tree, mult, Trees, none, more, count, names, names_of, is_mult, is_undef, AllPartsOf, has_undef, KeepsMeanings, KeepsMeanings-refl, KeepsMeanings-trans, KeepsMeanings-product_more, Permuted, permuted_none, permuted_more, permuted_swap, permuted_trans, permuted_product, single_product, to_single_product, number_words, product_tree_keeps, with_coefficient, put_formed, put_reduces, AreFactors, factors_monic, reduced_parts, parts_defined, keeps, reduces_after, and_parts, IsPermutation-refl, IsSorting, AreOthers, IsEnding, coefficient_times, nest_number, nest_permuted, Within, within_left, within_same, within_trans, within_both, within_beside, within_none, names_permuted, no_new_name}
 use Rattle.coefficients.proofs.Bounds.{coefficient_nest, coefficient_load}
-use Rattle.coefficients.proofs.Coefficients.{put_formed, put_reduces}
-use Rattle.coefficients.proofs.Factors.{AreFactors, factors_monic}
-use Rattle.coefficients.proofs.Forms.{reduced_parts, parts_defined}
-use Rattle.calc_algebra.proofs.Rewritings.{keeps, reduces_after}
-use Rattle.std.proofs.lemmas.Bool.{and_parts}
-use Rattle.std.proofs.lemmas.List.Sorted.{IsPermutation-refl}
-use Rattle.node_order.specs.Sorting.{IsSorting}
-use Rattle.product_reduce.specs.Answers.{AreOthers, IsEnding}
-use Rattle.product_reduce.specs.Factors.{coefficient_times}
-use Rattle.calc_measures.proofs.Nests.{nest_number, nest_permuted}
 use Rattle.product_reduce.proofs.Bounds.{nest_tree, load_tree, load_permuted}
 use Rattle.product_reduce.proofs.Finished.{or_none, formed_reduced, formed_defined, load_of_number}
 use Rattle.product_reduce.proofs.Forms.{number_formed}
-use Rattle.calc_algebra.proofs.Names.{Within, within_left, within_same, within_trans, within_both, within_beside, within_none, names_permuted, no_new_name}
 use Rattle.product_reduce.proofs.Sorted.{none_permuted}
 
 -- ---- the coefficient alone

@@ -1,29 +1,7 @@
 -- A coefficient that stands first as it is written, and factors put in order behind it.
 use Rattle.std.specs.Prelude.{take, Option, None, Some, MatchOption, is_some}
 use Rattle.std.proofs.Common.{ℕ, zero, suc, ◌+◌, ◌≤◌, ◌≡◌, ◌≢◌, inl, inr, not, Bool, true, false, if◌then◌else◌, refl, sym, ap, ◌∙◌, subst, arith}
-use Rattle.calc_algebra.specs.Numbers.{is_number, value, IsTerm}
-use Rattle.calc_algebra.specs.Reduced.{base_of, is_num_one, is_one_add, num_one, product_tree, NoneIs, HasForm, are_reduced}
-use Rattle.calc_algebra.proofs.MeaningLaws.{Same-sym}
-use Rattle.calc_algebra.proofs.MeaningRewrites.{Permuted, permuted_more, Permuted-sym}
-use Rattle.calc_algebra.proofs.SquareClassLaws.{Same-trans}
-use Rattle.calc_algebra.proofs.SurdLaws.{Agree-Same, surd_times-one}
-use Rattle.calc_algebra.proofs.TermLaws.{Same-eq}
-use Rattle.calc_terms.specs.Fractions.{Fraction, one_fraction, zero_fraction, is_one_fraction, lowest}
-use Rattle.calc_terms.specs.Gcd.{gcd}
-use Rattle.calc_terms.specs.Trees.{Tree, num, add, mult, root, Trees, none, more, append, count, is_add, is_mult}
-use Rattle.coefficients.specs.Coefficients.{factors_of, rational_before, spliced, with_coefficient}
-use Rattle.coefficients.proofs.Factors.{two_count}
-use Rattle.like_children.specs.Numbers.{IsNextNumber, NoNumberBetween}
-use Rattle.node_order.specs.Sorting.{IsSorting, list_of}
-use Rattle.number_forms.specs.Readers.{is_zero}
-use Rattle.number_forms.specs.Sums.{removed}
-use Rattle.tree_handles.specs.Expressions.{nth}
-use Rattle.product_reduce.specs.Answers.{AreOthers, IsStop, at_end, IsEnding}
-use Rattle.product_reduce.specs.Bits.{AreFactorsHeld}
-use Rattle.product_reduce.specs.Factors.{opened, numbers_in, others_in, product_of_values, coefficient_times}
-use Rattle.product_reduce.specs.Gathering.{IsLead, IsOrdered}
-use Rattle.product_reduce.specs.Joining.{have_partners}
-use Rattle.product_reduce.specs.Neighbours.{IsPairAt, IsNextPair, NoPairBetween}
+use Rattle.product_reduce.proofs.Shared.{is_number, value, IsTerm, base_of, is_num_one, is_one_add, num_one, product_tree, NoneIs, HasForm, are_reduced, Same-sym, Permuted, permuted_more, Permuted-sym, Same-trans, Agree-Same, surd_times-one, Same-eq, Fraction, one_fraction, zero_fraction, is_one_fraction, lowest, gcd, Tree, num, add, mult, root, Trees, none, more, append, count, is_add, is_mult, factors_of, rational_before, spliced, with_coefficient, two_count, IsNextNumber, NoNumberBetween, IsSorting, list_of, is_zero, removed, nth, AreOthers, IsStop, at_end, IsEnding, AreFactorsHeld, opened, numbers_in, others_in, product_of_values, coefficient_times, IsLead, IsOrdered, have_partners, IsPairAt, IsNextPair, NoPairBetween, no_numbers, count_append, no_numbers_none, no_numbers_others}
 use Rattle.product_reduce.proofs.Forms.{AllFormed}
 use Rattle.product_reduce.proofs.Fronts.{one_in_front, other_in_front, single_factor}
 use Rattle.product_reduce.proofs.Gathered.{others_permuted, reduced_permuted}
@@ -31,8 +9,6 @@ use Rattle.product_reduce.proofs.HeldNumbers.{alone_held, no_factors_held}
 use Rattle.product_reduce.proofs.LastSteps.{ending, permuted_none_is, times_written}
 use Rattle.product_reduce.proofs.Misfits.{permuted_one_is}
 use Rattle.product_reduce.proofs.Neighbours.{pair_partners, sorted_apart, apart_before}
-use Rattle.like_children.proofs.Folds.{no_numbers}
-use Rattle.like_children.proofs.NumbersIn.{count_append, no_numbers_none, no_numbers_others}
 use Rattle.product_reduce.proofs.Progress.{one_value}
 use Rattle.product_reduce.proofs.Sorted.{none_permuted, permuted_lists, sorted_rising}
 

@@ -37,3 +37,4 @@ mod HeldProducts
 mod HeldMultiples
 mod FreeBytes
 mod GatheredCounts
+pub mod Shared

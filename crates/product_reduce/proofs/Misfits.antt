@@ -1,32 +1,12 @@
 -- Which operation of a product does not fit, from the call that was refused.
 use Rattle.std.proofs.Common.{◌≡◌, ℕ, eqb, ◌&&◌, false, Result, Ok, Err, refl, ap, ◌∙◌}
 use Rattle.std.specs.Prelude.{IfErr, IsErrAnd}
-use Rattle.calc_algebra.proofs.MeaningRewrites.{Permuted, permuted_none, permuted_more, permuted_swap, permuted_trans, Permuted-sym}
-use Rattle.calc_algebra.specs.Numbers.{value}
-use Rattle.calc_algebra.specs.Reduced.{product_tree, num_one}
-use Rattle.calc_measures.specs.PlainTrees.{IsPlainOverflow}
-use Rattle.calc_measures.specs.PlainValues.{calculated}
-use Rattle.calc_terms.specs.Fits.{mul_op}
-use Rattle.calc_terms.specs.Fractions.{Fraction}
-use Rattle.calc_terms.specs.Trees.{Tree, num, add, mult, Trees, none, more, is_num, is_add}
+use Rattle.product_reduce.proofs.Shared.{Permuted, permuted_none, permuted_more, permuted_swap, permuted_trans, Permuted-sym, value, product_tree, num_one, IsPlainOverflow, calculated, mul_op, Fraction, Tree, num, add, mult, Trees, none, more, is_num, is_add, NamesPut, State, AnswersRationals, OfOverflow, NamesProduct, SpreadingOverflows, factors_in, Overflow, given_same, given_told, plain, Forest, Gives, root_tree, without_root, NumberFault}
 use Rattle.coefficients.proofs.Named.{put_as}
-use Rattle.coefficients.specs.Overflows.{NamesPut}
-use Rattle.node_pool.specs.State.{State}
 use Rattle.node_pool.specs.declared.full.Full.{Full}
-use Rattle.number_forms.specs.Answers.{AnswersRationals}
-use Rattle.tree_handles.specs.Faults.{OfOverflow}
 use Rattle.number_forms.specs.Overflows.{ProductOverflows}
 use Rattle.product_reduce.proofs.LastSteps.{permuted_none_is}
 use Rattle.product_reduce.proofs.Readied.{AreReadied, alone_handed, alone_tree}
-use Rattle.product_reduce.specs.Misfits.{NamesProduct, SpreadingOverflows}
-use Rattle.product_reduce.specs.Products.{factors_in}
-use Rattle.rational128.specs.declared.overflow.Overflow.{Overflow}
-use Rattle.tree_handles.proofs.Given.{given_same, given_told}
-use Rattle.tree_handles.specs.Expressions.{plain}
-use Rattle.tree_handles.specs.Forest.{Forest}
-use Rattle.tree_handles.specs.Handed.{Gives}
-use Rattle.tree_handles.specs.Roots.{root_tree, without_root}
-use Rattle.tree_handles.specs.declared.fault.NumberFault.{NumberFault}
 use Rattle.tree_handles.specs.declared.fault.NumberFault.TheVariants as fault
 
 -- ---- two Numbers

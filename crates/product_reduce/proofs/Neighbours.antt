@@ -1,22 +1,7 @@
 -- Neighbours among sorted factors, and what their bases tell of all factors.
-use Rattle.std.specs.Ordering.{is_eq, is_lt}
-use Rattle.like_children.proofs.Kids.{count_removed}
 use Rattle.std.specs.Prelude.{IsSortedByKey, IsPermutation}
-use Rattle.std.proofs.lemmas.Bool.{and_parts}
 use Rattle.std.proofs.Common.{ℕ, zero, suc, ◌<◌, ◌≤◌, ◌+◌, ◌≡◌, Bool, true, false, not, ◌&&◌, if◌then◌else◌, refl, sym, ap, ◌∙◌, arith, add-one}
-use Rattle.calc_algebra.specs.Numbers.{is_number}
-use Rattle.calc_algebra.specs.Reduced.{base_of, NoneIs, RisesBy, are_reduced}
-use Rattle.calc_algebra.specs.TreeOrder.{tree_cmp}
-use Rattle.calc_algebra.proofs.MeaningRewrites.{Permuted, Permuted-sym}
-use Rattle.calc_algebra.proofs.TreeOrderLaws.{tree_cmp_total}
-use Rattle.calc_terms.specs.Trees.{Tree, Trees, none, more, count, is_mult}
-use Rattle.node_order.specs.Sorting.{list_of}
-use Rattle.number_forms.specs.Sums.{removed}
-use Rattle.tree_handles.specs.Expressions.{nth}
-use Rattle.like_children.proofs.NumbersIn.{count_append}
-use Rattle.product_reduce.specs.Factors.{coefficient_before}
-use Rattle.product_reduce.specs.Joining.{is_partner, has_partner, have_partners, joint, IsJointAt}
-use Rattle.product_reduce.specs.Neighbours.{is_single, is_pair, IsPairAt, NoPairBetween, joined_pair}
+use Rattle.product_reduce.proofs.Shared.{is_eq, is_lt, count_removed, and_parts, is_number, base_of, NoneIs, RisesBy, are_reduced, tree_cmp, Permuted, Permuted-sym, tree_cmp_total, Tree, Trees, none, more, count, is_mult, list_of, removed, nth, count_append, coefficient_before, is_partner, has_partner, have_partners, joint, IsJointAt, is_single, is_pair, IsPairAt, NoPairBetween, joined_pair}
 use Rattle.product_reduce.proofs.Finished.{reduced_nth}
 use Rattle.product_reduce.proofs.JointPlaces.{in_front, before_is, nth_behind, nth_inserted, removed_inserted, count_inserted, reduced_removed}
 use Rattle.product_reduce.proofs.Sorted.{AreApart, apart_words, apart_permuted, less_of, permuted_lists}

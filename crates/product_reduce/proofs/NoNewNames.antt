@@ -1,14 +1,7 @@
 -- Steps on a product bring no new name.
 use Rattle.std.proofs.Common.{◌≡◌, Bool, true, false, [], ◌++◌, refl, if◌then◌else◌, append_assoc}
-use Rattle.coefficients.specs.Coefficients.{factors_of}
-use Rattle.calc_terms.specs.Fractions.{one_fraction}
-use Rattle.calc_algebra.specs.Numbers.{is_number}
-use Rattle.calc_algebra.specs.Reduced.{is_opaque_exponent, base_of, is_num_one}
-use Rattle.calc_terms.specs.Trees.{Tree, num, mult, power, Trees, none, more, append, names, names_of}
-use Rattle.product_reduce.specs.Factors.{opened, others_in, coefficient_before}
-use Rattle.product_reduce.specs.Joining.{exponent_of, has_partner, first_partner, without_partner, joint, joined}
+use Rattle.product_reduce.proofs.Shared.{factors_of, one_fraction, is_number, is_opaque_exponent, base_of, is_num_one, Tree, num, mult, power, Trees, none, more, append, names, names_of, opened, others_in, coefficient_before, exponent_of, has_partner, first_partner, without_partner, joint, joined, Within, within_eq, within_same, within_trans, within_both, within_left, within_right, within_beside, within_none, names_of-append, names_permuted, number_names}
 use Rattle.product_reduce.proofs.Joined.{partner_first}
-use Rattle.calc_algebra.proofs.Names.{Within, within_eq, within_same, within_trans, within_both, within_left, within_right, within_beside, within_none, names_of-append, names_permuted, number_names}
 
 -- ---- factors
 

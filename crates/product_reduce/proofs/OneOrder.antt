@@ -1,13 +1,7 @@
 -- Factors no two of which have identical bases have one order, and with a coefficient they are one tree.
 use Rattle.std.proofs.Common.{◌≡◌, false, sym, ap, ◌∙◌}
-use Rattle.calc_algebra.specs.Reduced.{base_of}
-use Rattle.calc_terms.specs.Trees.{Tree, Trees}
-use Rattle.calc_algebra.proofs.MeaningRewrites.{permuted_trans, Permuted-sym}
+use Rattle.product_reduce.proofs.Shared.{base_of, Tree, Trees, permuted_trans, Permuted-sym, IsSorting, IsWritten, coefficient_times, have_partners}
 use Rattle.like_children.proofs.OneOrder.{rising_once}
-use Rattle.node_order.specs.Sorting.{IsSorting}
-use Rattle.product_reduce.specs.Answers.{IsWritten}
-use Rattle.product_reduce.specs.Factors.{coefficient_times}
-use Rattle.product_reduce.specs.Joining.{have_partners}
 use Rattle.product_reduce.proofs.Sorted.{permuted_lists, sorted_rising}
 
 sorted_once : (ts us vs : Trees) → have_partners ts ≡ false → IsSorting 0 base_of ts us → IsSorting 0 base_of ts vs → us ≡ vs

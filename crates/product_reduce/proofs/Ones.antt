@@ -1,13 +1,10 @@
 -- The rational 1 by its parts.
 use Rattle.std.proofs.Common.{◌≡◌, ℕ, ℤ, pos, negsuc, zero, suc, Bool, true, false, ◌&&◌, ◌↔◌, refl, sym, ap, ◌∙◌, FitsSigned, of_z, to_z, nat_eq}
-use Rattle.std.specs.Int.{w128}
 use Rattle.std.specs.Prelude.{IsTrue}
-use Rattle.std.proofs.lemmas.Bool.{eqb-true, eq-eqb}
+use Rattle.product_reduce.proofs.Shared.{w128, eqb-true, eq-eqb, Fraction, is_one_fraction, by_test}
 use Rattle.std.proofs.lemmas.Int.{to_z-of_z}
-use Rattle.calc_terms.specs.Fractions.{Fraction, is_one_fraction}
 use Rattle.calc_terms.specs.Integers.{int_is_one}
 use Rattle.number_forms.proofs.CodeTests.{test_fails}
-use Rattle.tree_handles.proofs.Outcomes.{by_test}
 
 no_one_bits : (z : ℤ) → nat_eq (of_z w128 z) 1 ≡ false → false ≡ int_is_one z
 no_one_bits (pos zero) e = refl

@@ -1,22 +1,8 @@
 -- A product whose factors are opened and whose Numbers are one coefficient keeps its meanings.
 use Rattle.std.proofs.Common.{◌≡◌, Bool, true, false, refl, if◌then◌else◌, ap}
-use Rattle.coefficients.specs.Coefficients.{factors_of}
-use Rattle.calc_terms.specs.Fractions.{one_fraction}
+use Rattle.product_reduce.proofs.Shared.{factors_of, one_fraction, is_number, is_num_one, Same, Surd, Tree, num, mult, Trees, none, more, append, one_is, KeepsMeanings, KeepsMeanings-refl, KeepsMeanings-eq, KeepsMeanings-trans, KeepsMeanings-product_more, KeepsMeanings-product_append, nested_product, permuted_product, one_factor_of_product, product_parts, none_product, number_words, number_value, value_means, Same-trans, Same-sym, Same-surd_times, numbers_first, opened, numbers_in, others_in, product_of_values, IsCoefficient, coefficient_before}
 use Rattle.calc_algebra.specs.Meanings.{Assignment, IsAssignment, Means}
-use Rattle.calc_algebra.specs.Numbers.{is_number}
-use Rattle.calc_algebra.specs.Reduced.{is_num_one}
-use Rattle.calc_algebra.specs.SquareClasses.{Same}
-use Rattle.calc_algebra.specs.Surds.{Surd}
-use Rattle.calc_terms.specs.Trees.{Tree, num, mult, Trees, none, more, append}
-use Rattle.calc_terms.proofs.FractionFacts.{one_is}
-use Rattle.calc_algebra.proofs.MeaningRewrites.{KeepsMeanings, KeepsMeanings-refl, KeepsMeanings-eq, KeepsMeanings-trans, KeepsMeanings-product_more, KeepsMeanings-product_append, flat_product, nested_product, permuted_product, one_factor_of_product, product_parts, none_product}
-use Rattle.calc_algebra.proofs.NumberLaws.{number_words}
-use Rattle.calc_algebra.proofs.NumberRewrites.{number_value, value_means}
-use Rattle.calc_algebra.proofs.SquareClassLaws.{Same-trans}
-use Rattle.calc_algebra.proofs.MeaningLaws.{Same-sym}
-use Rattle.calc_algebra.proofs.TermLaws.{Same-surd_times}
-use Rattle.like_children.proofs.NumbersIn.{numbers_first}
-use Rattle.product_reduce.specs.Factors.{opened, numbers_in, others_in, product_of_values, IsCoefficient, coefficient_before}
+use Rattle.calc_algebra.proofs.MeaningRewrites.{flat_product}
 
 -- ---- products in a product
 

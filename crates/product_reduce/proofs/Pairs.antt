@@ -1,11 +1,6 @@
 -- Factors with identical bases, by their places.
-use Rattle.tree_handles.proofs.Outcomes.{by_test}
-use Rattle.number_forms.specs.Sums.{removed}
-use Rattle.std.proofs.lemmas.Bool.{ltb-true, ltb-false}
 use Rattle.std.proofs.Common.{◌⊎◌, inl, inr, subst, nat_lt, ◌+◌, ℕ, zero, suc, ◌<◌, ◌≡◌, Bool, true, false, refl, if◌then◌else◌, sym, ap, ◌∙◌, arith}
-use Rattle.calc_terms.specs.Trees.{Tree, Trees, none, more, count}
-use Rattle.tree_handles.specs.Expressions.{nth, inserted}
-use Rattle.product_reduce.specs.Joining.{is_partner, has_partner, first_partner, without_partner, joint, have_partners, joined, HasNoPartner, IsFirstPair}
+use Rattle.product_reduce.proofs.Shared.{by_test, removed, ltb-true, ltb-false, Tree, Trees, none, more, count, nth, inserted, is_partner, has_partner, first_partner, without_partner, joint, have_partners, joined, HasNoPartner, IsFirstPair}
 
 -- ---- one factor and those behind it
 

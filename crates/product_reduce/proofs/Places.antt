@@ -1,9 +1,7 @@
 -- The factors of one tree.
 use Rattle.std.proofs.Common.{◌≡◌, Bool, true, false, refl, sym}
-use Rattle.coefficients.specs.Coefficients.{factors_of}
-use Rattle.calc_terms.specs.Trees.{Tree, mult, none, more, is_mult}
+use Rattle.product_reduce.proofs.Shared.{factors_of, Tree, mult, none, more, is_mult, children_of}
 use Rattle.like_children.specs.Opening.{Opens}
-use Rattle.tree_handles.specs.Expressions.{children_of}
 
 pub product_is : (t : Tree) → is_mult t ≡ true → children_of t ≡ factors_of t
 product_is (mult ts) h = refl

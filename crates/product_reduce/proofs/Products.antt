@@ -1,25 +1,8 @@
 -- Roots that are products.
 use Rattle.std.proofs.Common.{ℕ, ◌<◌, ◌≡◌, eqb, true, false, refl, sym, ap, ◌∙◌, subst, arith}
-use Rattle.number_forms.specs.Sums.{removed}
-use Rattle.calc_terms.specs.declared.kind.Kind.TheVariants as kind
-use Rattle.calc_terms.specs.Trees.{mult, Trees, count, is_mult}
-use Rattle.tree_handles.proofs.Over.{IsOver, over_product, over_put, over_handed, over_plain, without_put, once_count}
+use Rattle.product_reduce.proofs.Shared.{removed, mult, Trees, count, is_mult, IsOver, over_product, over_put, over_handed, over_plain, without_put, once_count, nth, plain, inserted, children_of, IsExpression, Forest, arity, kids, root_count, tree_nth, merged_nth, IsOnce, Represents, root_tree, without_root, put, all-tree_nth, arity-tree_nth, behind_first, front_same, front_put, front_at, front_after_one, handed_at, handed_beside, holds, tree_at, kids_of, Stands, forest, State, kids_of_root, plain_root, expression_root, root_held, tree-without, represents_merged, factors_in, IsProduct, Becomes}
 use Rattle.tree_handles.proofs.Cuts.{represents_count}
-use Rattle.tree_handles.specs.Expressions.{nth, plain, inserted, children_of, IsExpression}
-use Rattle.tree_handles.specs.Forest.{Forest, arity, kids, root_count, tree_nth, merged_nth}
-use Rattle.tree_handles.specs.Handed.{IsOnce, Represents}
-use Rattle.tree_handles.specs.Roots.{root_tree, without_root, put}
-use Rattle.tree_handles.proofs.Counted.{all-tree_nth}
-use Rattle.tree_handles.proofs.Forests.{arity-tree_nth}
-use Rattle.tree_handles.proofs.Fronts.{behind_first, front_same, front_put, front_at, front_after_one}
-use Rattle.tree_handles.proofs.Given.{handed_at, handed_beside}
-use Rattle.tree_handles.specs.Inside.{holds, tree_at, kids_of}
-use Rattle.tree_handles.specs.Standing.{Stands, forest}
-use Rattle.node_pool.specs.State.{State}
-use Rattle.tree_handles.proofs.Lasts.{kids_of_root, plain_root, expression_root}
-use Rattle.tree_handles.proofs.Roots.{root_held, tree-without}
-use Rattle.like_children.proofs.Kids.{represents_merged}
-use Rattle.product_reduce.specs.Products.{factors_in, IsProduct, Becomes}
+use Rattle.calc_terms.specs.declared.kind.Kind.TheVariants as kind
 
 -- ---- a root with other children
 

@@ -1,42 +1,9 @@
 -- The Numbers among the factors are multiplied from left to right.
 use Rattle.std.specs.Prelude.{Result, Ok, Err}
 use Rattle.std.proofs.Common.{ℕ, zero, suc, ◌<◌, ◌≤◌, ◌+◌, ◌*◌, ◌≡◌, true, refl, sym, ap, ◌∙◌, subst, arith}
-use Rattle.std.proofs.lemmas.Bool.{and_parts, and_from}
-use Rattle.calc_terms.specs.Fractions.{one_fraction, lowest}
-use Rattle.calc_terms.specs.Gcd.{gcd}
-use Rattle.calc_terms.specs.Trees.{Tree, mult, Trees, none, more, append, count}
-use Rattle.calc_algebra.specs.Numbers.{is_number, are_numbers, value}
-use Rattle.calc_algebra.specs.Reduced.{are_reduced, num_one, is_reduced}
-use Rattle.calc_algebra.specs.SquareClasses.{Same}
-use Rattle.calc_algebra.specs.Surds.{surd_one, surd_times}
-use Rattle.calc_algebra.proofs.MeaningLaws.{Same-sym}
-use Rattle.calc_algebra.proofs.SquareClassLaws.{Same-trans}
-use Rattle.calc_algebra.proofs.SurdLaws.{Agree-Same, surd_times_assoc, surd_times-one, surd_times-surd_one}
-use Rattle.calc_algebra.proofs.TermLaws.{Same-refl, Same-eq, Same-surd_times}
-use Rattle.calc_bits.specs.Bounds.{HasFewBits}
-use Rattle.calc_measures.specs.PlainValues.{PlainValue, plain_value}
-use Rattle.calc_measures.specs.PlainTrees.{IsPlainAnswer, IsPlainOverflow}
-use Rattle.calc_room.specs.Spans.{SpansRoot}
-use Rattle.like_children.specs.Folds.{AnswersTotal}
-use Rattle.like_children.specs.Joining.{AreJoined, IsNextOf}
-use Rattle.like_children.specs.Numbers.{IsNextNumber, NoNumberBetween}
-use Rattle.like_children.proofs.Folds.{first_of, fold_begun, plain_product, no_numbers, some_number}
-use Rattle.like_children.proofs.Kids.{sizes_taken}
-use Rattle.like_children.proofs.NumbersIn.{append_one, append_none, trees_assoc, count_append, front_numbers, numbers_are, numbers_removed, others_removed, no_numbers_none}
-use Rattle.like_children.proofs.SoFar.{parts_taken}
-use Rattle.node_pool.specs.State.{State}
-use Rattle.number_forms.specs.Answers.{AnswersRationals}
-use Rattle.number_forms.specs.Sums.{removed}
-use Rattle.rational128.specs.declared.overflow.Overflow.{Overflow}
-use Rattle.tree_handles.specs.Expressions.{nth}
-use Rattle.tree_handles.specs.Handed.{tree_of}
-use Rattle.tree_handles.specs.declared.fault.NumberFault.{NumberFault}
-use Rattle.tree_handles.specs.declared.fault.NumberFault.TheVariants as fault
-use Rattle.product_reduce.specs.Bits.{AreFactorsHeld}
-use Rattle.product_reduce.specs.Factors.{numbers_in, product_of_values, IsCoefficient}
-use Rattle.product_reduce.specs.Misfits.{NamesProduct, MultiplyingOverflows}
-use Rattle.product_reduce.specs.Multiplying.{IsProductOf, IsBegun}
+use Rattle.product_reduce.proofs.Shared.{and_parts, and_from, one_fraction, lowest, gcd, Tree, mult, Trees, none, more, append, count, is_number, are_numbers, value, are_reduced, num_one, is_reduced, Same, surd_one, surd_times, Same-sym, Same-trans, Agree-Same, surd_times_assoc, surd_times-one, surd_times-surd_one, Same-refl, Same-eq, Same-surd_times, HasFewBits, PlainValue, plain_value, IsPlainAnswer, IsPlainOverflow, SpansRoot, AnswersTotal, AreJoined, IsNextOf, IsNextNumber, NoNumberBetween, first_of, fold_begun, plain_product, no_numbers, some_number, sizes_taken, append_one, append_none, trees_assoc, count_append, front_numbers, numbers_are, numbers_removed, others_removed, no_numbers_none, parts_taken, State, AnswersRationals, removed, Overflow, nth, tree_of, NumberFault, AreFactorsHeld, numbers_in, product_of_values, IsCoefficient, NamesProduct, MultiplyingOverflows, IsProductOf, IsBegun}
 use Rattle.product_reduce.proofs.HeldNumbers.{alone_held, front_held, next_held, no_factors_held}
+use Rattle.tree_handles.specs.declared.fault.NumberFault.TheVariants as fault
 
 -- ---- the first Number
 

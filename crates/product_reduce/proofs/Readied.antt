@@ -1,29 +1,7 @@
 -- Factors that were sorted beside their coefficient.
 use Rattle.std.proofs.Common.{ℕ, ◌≤◌, ◌≡◌, eqb, true, false, refl, sym, ap, ◌∙◌, subst}
-use Rattle.calc_algebra.specs.Numbers.{is_number}
-use Rattle.calc_algebra.specs.Reduced.{is_reduced, product_tree, RisesBy, base_of}
-use Rattle.calc_terms.specs.Trees.{Tree, Trees, none, count}
-use Rattle.calc_algebra.proofs.MeaningRewrites.{Permuted, Permuted-refl, Permuted-sym}
-use Rattle.coefficients.specs.Coefficients.{with_coefficient}
-use Rattle.coefficients.proofs.Factors.{factors_monic}
 use Rattle.std.specs.Prelude.{IsSortedByKey}
-use Rattle.std.proofs.lemmas.List.Sorted.{IsPermutation-refl}
-use Rattle.calc_algebra.specs.TreeOrder.{tree_cmp}
-use Rattle.node_order.specs.Sorting.{IsSorting, list_of}
-use Rattle.node_pool.specs.State.{State}
-use Rattle.tree_handles.specs.Expressions.{plain, children_of}
-use Rattle.tree_handles.specs.Forest.{Forest}
-use Rattle.tree_handles.specs.Handed.{IsHanded, Ends, Gives}
-use Rattle.tree_handles.specs.Roots.{root_tree, without_root}
-use Rattle.tree_handles.specs.Standing.{Stands, forest}
-use Rattle.tree_handles.proofs.Given.{gives, gives_as, given_rest, given_same, given_told, handed_beside, represents_handed}
-use Rattle.tree_handles.proofs.Lasts.{ends_as}
-use Rattle.tree_handles.proofs.Outcomes.{eqb-sym}
-use Rattle.tree_handles.proofs.Roots.{tree-without, without-swap}
-use Rattle.product_reduce.specs.Answers.{AreOthers, IsEnding}
-use Rattle.product_reduce.specs.Joining.{have_partners}
-use Rattle.product_reduce.specs.Factors.{coefficient_before}
-use Rattle.product_reduce.specs.Products.{IsProduct, Becomes, factors_in}
+use Rattle.product_reduce.proofs.Shared.{is_number, is_reduced, product_tree, RisesBy, base_of, Tree, Trees, none, count, Permuted, Permuted-refl, Permuted-sym, with_coefficient, factors_monic, IsPermutation-refl, tree_cmp, IsSorting, list_of, State, plain, children_of, Forest, IsHanded, Ends, Gives, root_tree, without_root, Stands, forest, gives, gives_as, given_rest, given_same, given_told, handed_beside, represents_handed, ends_as, eqb-sym, tree-without, without-swap, AreOthers, IsEnding, have_partners, coefficient_before, IsProduct, Becomes, factors_in}
 use Rattle.product_reduce.proofs.Beside.{tree_becomes}
 use Rattle.product_reduce.proofs.LastSteps.{coefficient_alone, ending, permuted_none_is, sorted_factors}
 use Rattle.product_reduce.proofs.Products.{factors_are}

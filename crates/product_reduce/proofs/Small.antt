@@ -1,36 +1,13 @@
 -- Small trees that are reduced.
 use Rattle.std.proofs.Common.{ℕ, zero, suc, ℤ, List, ◌≤◌, ◌≡◌, inr, true, refl, sym, ap, ◌∙◌, subst}
-use Rattle.std.proofs.lemmas.Bool.{and_from, and_parts}
 use Rattle.std.specs.Prelude.{pos, negsuc}
+use Rattle.product_reduce.proofs.Shared.{and_from, and_parts, nat_cmp, Less, is_clean, left_of, square_root, ratio_of, value_of, Ratio, whole, lowest, zero_fraction, one_fraction, gcd, is_number, is_reduced, are_reduced, Tree, num, symbol, undef, add, mult, power, root, Trees, none, more, count, is_mult, number_words, IsMonic, parts_reduced, number_parts, plain, inserted, children_of, Forest, kids, with_nth, IsHanded, Ends, Gives, root_tree, without_root, put, gives, given_handed, given_told, represents_handed, ends_as, last_tree, Joining, IfFinished, IfJoined, IsProduct, Becomes, factors_in}
 use Rattle.std.specs.Cmp.Lexicographic.{slice_cmp}
-use Rattle.std.specs.Ordering.{nat_cmp}
-use Rattle.std.specs.declared.cmp.Ordering.TheVariants.{Less}
-use Rattle.calc_algebra.specs.Clean.{is_clean, left_of}
-use Rattle.calc_algebra.specs.SquareRoots.{square_root}
 use Rattle.calc_terms.specs.declared.rat.Rat.{Rat}
-use Rattle.calc_terms.specs.Rat.{ratio_of, value_of}
-use Rattle.calc_terms.specs.Ratio.{Ratio, whole}
-use Rattle.calc_terms.specs.Fractions.{lowest, zero_fraction, one_fraction}
-use Rattle.calc_terms.specs.Gcd.{gcd}
-use Rattle.calc_algebra.specs.Numbers.{is_number}
-use Rattle.calc_algebra.specs.Reduced.{is_reduced, are_reduced}
-use Rattle.calc_terms.specs.Trees.{Tree, num, symbol, undef, add, mult, power, root, Trees, none, more, count, is_mult}
-use Rattle.calc_algebra.proofs.NumberLaws.{number_words}
-use Rattle.coefficients.specs.Coefficients.{IsMonic}
-use Rattle.coefficients.proofs.Forms.{parts_reduced, number_parts}
-use Rattle.tree_handles.specs.Expressions.{plain, inserted, children_of}
-use Rattle.tree_handles.specs.Forest.{Forest, kids, with_nth}
-use Rattle.tree_handles.specs.Handed.{IsHanded, Ends, Gives}
-use Rattle.tree_handles.specs.Roots.{root_tree, without_root, put}
-use Rattle.tree_handles.proofs.Given.{gives, given_handed, given_told, represents_handed}
-use Rattle.tree_handles.proofs.Lasts.{ends_as, last_tree}
-use Rattle.product_reduce.specs.declared.steps.Joining.{Joining}
-use Rattle.product_reduce.specs.declared.steps.Joining.TheVariants as joining
-use Rattle.product_reduce.specs.Answers.{IfFinished, IfJoined}
-use Rattle.product_reduce.specs.Products.{IsProduct, Becomes, factors_in}
 use Rattle.product_reduce.proofs.Beside.{beside_given, beside_product}
 use Rattle.product_reduce.proofs.Joins.{put_back}
 use Rattle.product_reduce.proofs.Products.{becomes_as, factors_are}
+use Rattle.product_reduce.specs.declared.steps.Joining.TheVariants as joining
 
 pub number_reduced : (t : Tree) → is_number t ≡ true → is_reduced t ≡ true
 number_reduced t h = parts_reduced t (number_parts t (number_words t h))

@@ -1,16 +1,7 @@
 -- Factors in the order of their bases, no two of which are identical.
-use Rattle.std.specs.declared.cmp.Ordering.{Ordering}
-use Rattle.std.specs.declared.cmp.Ordering.TheVariants.{Less, Equal, Greater}
-use Rattle.std.specs.Ordering.{is_eq, is_lt, ordering_reverse}
 use Rattle.std.specs.Prelude.{⊤, IsPermutation, IsSortedByKey}
 use Rattle.std.proofs.Common.{suc, arith, add-one, ◌≡◌, Bool, true, false, if◌then◌else◌, refl, sym, ap, ◌∙◌, subst}
-use Rattle.calc_algebra.specs.Reduced.{base_of, NoneIs, RisesBy}
-use Rattle.calc_algebra.specs.TreeOrder.{tree_cmp}
-use Rattle.calc_terms.specs.Trees.{Tree, Trees, none, more}
-use Rattle.calc_algebra.proofs.MeaningRewrites.{Permuted, permuted_none, permuted_more, permuted_swap, permuted_trans, permuted_trees, trees_of}
-use Rattle.calc_algebra.proofs.TreeOrderLaws.{tree_cmp_total}
-use Rattle.node_order.specs.Sorting.{list_of}
-use Rattle.product_reduce.specs.Joining.{is_partner, has_partner, have_partners}
+use Rattle.product_reduce.proofs.Shared.{Ordering, Less, Equal, Greater, is_eq, is_lt, ordering_reverse, base_of, NoneIs, RisesBy, tree_cmp, Tree, Trees, none, more, Permuted, permuted_none, permuted_more, permuted_swap, permuted_trans, permuted_trees, trees_of, tree_cmp_total, list_of, is_partner, has_partner, have_partners}
 
 -- ---- lists of trees
 

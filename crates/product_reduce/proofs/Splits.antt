@@ -1,25 +1,8 @@
 -- A factor is split into its base and its exponent.
 use Rattle.std.proofs.Common.{ℕ, ◌≡◌, [], ◌∷◌, Bool, true, false, if◌then◌else◌, refl, sym, ap, ◌∙◌, subst, arith, cond, eqb}
-use Rattle.like_children.proofs.Kids.{represents_kids, represents_without}
-use Rattle.number_forms.specs.Sums.{removed}
-use Rattle.std.proofs.lemmas.Bool.{not-true, not-false}
-use Rattle.calc_algebra.specs.Reduced.{is_opaque_exponent, is_transparent_power, base_of, num_one}
-use Rattle.calc_terms.specs.Trees.{Tree, num, symbol, undef, add, mult, power, root, neg, sub, div, Trees, none, more, count}
-use Rattle.tree_handles.specs.Expressions.{nth, plain, children_of}
-use Rattle.tree_handles.specs.Forest.{Forest, empty, tree, arity, kids, with_root_kids, tree_nth, without_nth}
-use Rattle.tree_handles.specs.Handed.{IsOnce, AllOnce, IsHanded, IsOwned, Represents, Ends, KeepsFront}
-use Rattle.tree_handles.specs.Roots.{has_root, root_tree, without_root, put}
-use Rattle.tree_handles.proofs.Counted.{all-without_nth}
-use Rattle.tree_handles.proofs.Forests.{arity-without_nth}
-use Rattle.tree_handles.proofs.Fronts.{behind_first, front_same, front_put, front_end, front_without}
-use Rattle.tree_handles.proofs.Given.{represents_handed}
+use Rattle.product_reduce.proofs.Shared.{represents_kids, represents_without, removed, not-true, not-false, is_opaque_exponent, is_transparent_power, base_of, num_one, Tree, num, symbol, undef, add, mult, power, root, neg, sub, div, Trees, none, more, count, nth, plain, children_of, Forest, empty, tree, arity, kids, with_root_kids, tree_nth, without_nth, IsOnce, AllOnce, IsHanded, IsOwned, Represents, Ends, KeepsFront, has_root, root_tree, without_root, put, all-without_nth, arity-without_nth, behind_first, front_same, front_put, front_end, front_without, represents_handed, root-put, kids-put, exponent_of, IsBeside, IsSplit, without_put, by_test}
 use Rattle.tree_handles.proofs.Plains.{count-plains, children_of-plain}
-use Rattle.tree_handles.proofs.Roots.{root-put, kids-put}
-use Rattle.product_reduce.specs.Joining.{exponent_of}
-use Rattle.product_reduce.specs.Products.{IsBeside, IsSplit}
 use Rattle.product_reduce.proofs.Beside.{beside_as, beside_root, beside_tree, beside_without, taken_beside}
-use Rattle.tree_handles.proofs.Over.{without_put}
-use Rattle.tree_handles.proofs.Outcomes.{by_test}
 
 -- ---- powers that are not opaque, and other factors
 

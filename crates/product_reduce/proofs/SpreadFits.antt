@@ -1,49 +1,22 @@
 -- Where what holds the factors one by one is little, a coefficient goes into the terms of a sum without an overflow.
 use Rattle.std.proofs.Common.{◌≡◌, ◌≢◌, ◌≤◌, ◌<◌, ◌+◌, ◌*◌, ◌^◌, ℕ, inl, inr, List, [], ◌∷◌, Bool, true, false, not, if◌then◌else◌, Result, Ok, Err, refl, sym, ap, ◌∙◌, subst, arith}
 use Rattle.std.specs.Prelude.{IfErr}
-use Rattle.std.proofs.lemmas.Nat.{mul-le, pow_pos}
-use Rattle.calc_terms.specs.Gcd.{gcd}
-use Rattle.calc_terms.specs.Fractions.{Fraction, lowest, times, zero_fraction, one_fraction, is_zero_fraction}
-use Rattle.calc_terms.specs.Fits.{fraction_fits, operation_fits}
-use Rattle.calc_terms.specs.FractionLaws.{zero_times}
-use Rattle.calc_terms.specs.Rat.{value_of}
-use Rattle.calc_terms.specs.Trees.{Tree, num, add, mult, root, Trees, none, more, AllParts, AllPartsOf, has_undef}
-use Rattle.calc_terms.proofs.FractionFacts.{no_zero, zero_is}
-use Rattle.calc_algebra.specs.Numbers.{is_number, is_radicand, is_term, natural_of, value, term_of, terms_of, IsTerm, AreTerms}
-use Rattle.calc_algebra.specs.Reduced.{HasForm, NoneIs, split, split_product, num_one, number_terms, other_terms, are_reduced}
-use Rattle.calc_algebra.specs.Surds.{Term, Surd, term, surd_of, surd_times, term_times}
-use Rattle.calc_algebra.proofs.NumberClasses as numbers
-use Rattle.calc_algebra.proofs.NumberClasses.{term_proper}
-use Rattle.calc_algebra.proofs.NumberLaws.{number_words, term_words}
+use Rattle.product_reduce.proofs.Shared.{mul-le, pow_pos, gcd, Fraction, lowest, times, zero_fraction, one_fraction, is_zero_fraction, fraction_fits, operation_fits, zero_times, value_of, Tree, num, add, mult, root, Trees, none, more, AllParts, AllPartsOf, has_undef, no_zero, zero_is, is_number, is_radicand, is_term, natural_of, value, term_of, terms_of, IsTerm, AreTerms, HasForm, NoneIs, split, split_product, num_one, number_terms, other_terms, are_reduced, Term, Surd, term, surd_of, surd_times, term_times, term_proper, number_words, term_words, mass, IsHeld, IsMonic, LeadsIn, LeadsTerm, NamesPut, monic_sum, product_form_of, monic_parts, State, Overflow, distributed, Addend, addend, addend_of, addends, addends_of, AreWeighted, more_weighted, IsPartHeld, Weighted, weighted, AreHeld, weighted_mass, lows, OfOverflow, NumberFault, AreOthers, AreFactorsHeld, opened, others_in, IsCoefficient, SpreadingOverflows}
 use Rattle.calc_bits.proofs.Parts.{held_left, held_right}
 use Rattle.std.proofs.Math.Nat.{pow-le-pow_right}
-use Rattle.calc_bits.specs.Masses.{mass, IsHeld}
-use Rattle.coefficients.specs.Coefficients.{IsMonic}
-use Rattle.coefficients.specs.Overflows.{Leads, LeadsIn, LeadsTerm, NamesPut}
-use Rattle.coefficients.proofs.Coefficients.{monic_sum, product_form_of}
-use Rattle.coefficients.proofs.Factors.{monic_parts}
-use Rattle.node_pool.specs.State.{State}
+use Rattle.coefficients.specs.Overflows.{Leads}
 use Rattle.rational128.specs.Refusals.{operation_of}
 use Rattle.rational128.specs.declared.overflow.Op.TheVariants.{Mul}
-use Rattle.rational128.specs.declared.overflow.Overflow.{Overflow}
 use Rattle.surd_bits.specs.Proper.{IsProper}
 use Rattle.surd_bits.proofs.ProductsFit.{coefficients_fit}
-use Rattle.tree_bits.specs.Factors.{distributed}
-use Rattle.tree_bits.specs.HeldTrees.{Addend, addend, addend_of, addends, addends_of, AreWeighted, more_weighted, IsPartHeld}
-use Rattle.tree_bits.specs.Weighted.{Weighted, weighted, AreHeld, weighted_mass, lows}
 use Rattle.tree_handles.specs.Causes.{IsCaused, Overflows}
-use Rattle.tree_handles.specs.Faults.{OfOverflow}
-use Rattle.tree_handles.specs.declared.fault.NumberFault.{NumberFault}
-use Rattle.tree_handles.specs.declared.fault.NumberFault.TheVariants as fault
-use Rattle.product_reduce.specs.Answers.{AreOthers}
-use Rattle.product_reduce.specs.Bits.{AreFactorsHeld}
-use Rattle.product_reduce.specs.Factors.{opened, others_in, IsCoefficient}
-use Rattle.product_reduce.specs.Misfits.{SpreadingOverflows}
 use Rattle.product_reduce.proofs.GatheredCounts.{single_monic}
 use Rattle.product_reduce.proofs.HeldFactors.{AreHeldApart}
 use Rattle.product_reduce.proofs.HeldProducts.{apart, sum_addends}
 use Rattle.product_reduce.proofs.HeldMultiples.{rational_value}
 use Rattle.product_reduce.proofs.Stepped.{others_are}
+use Rattle.calc_algebra.proofs.NumberClasses as numbers
+use Rattle.tree_handles.specs.declared.fault.NumberFault.TheVariants as fault
 
 clash : true ≡ false → ⊥
 clash e = cc

@@ -1,30 +1,13 @@
 -- From the handed product to a coefficient beside the other factors, and from their answer to that of the step.
 use Rattle.std.proofs.Common.{ℕ, ◌≡◌, ◌||◌, Result, Ok, Err, Bool, true, false, [], ◌∷◌, eqb, refl, sym, ap, ◌∙◌, subst}
 use Rattle.std.specs.Prelude.{IfOk, IsErrAnd}
-use Rattle.std.proofs.lemmas.Bool.{and_from}
-use Rattle.calc_measures.specs.PlainValues.{PlainValue}
-use Rattle.calc_terms.specs.Trees.{Tree, mult, Trees, none, more, is_mult, has_undef, are_rationals}
-use Rattle.node_pool.specs.State.{State}
-use Rattle.number_forms.specs.Answers.{AnswersRationals}
-use Rattle.calc_algebra.specs.Reduced.{are_reduced}
-use Rattle.calc_measures.specs.PlainTrees.{IsPlainAnswer}
-use Rattle.tree_handles.specs.declared.fault.NumberFault.{NumberFault}
-use Rattle.tree_handles.specs.declared.fault.NumberFault.TheVariants as fault
-use Rattle.tree_handles.specs.Expressions.{plain, children_of}
-use Rattle.tree_handles.specs.Forest.{Forest}
-use Rattle.tree_handles.specs.Handed.{IsHanded, Gives, KeepsFront}
-use Rattle.tree_handles.specs.Roots.{root_tree, without_root}
-use Rattle.tree_handles.proofs.Fronts.{behind_first, front_after_one, front_after_two}
-use Rattle.tree_handles.proofs.Given.{gives_as}
-use Rattle.product_reduce.specs.declared.steps.Joining.{Joining}
-use Rattle.product_reduce.specs.declared.steps.Joining.TheVariants as joining
-use Rattle.product_reduce.specs.Answers.{AreOthers, IsStop, IsRejoined, IsFinished, IsJoined, IfFinished, IfJoined, IfGathered, IsAnswered, AnswersRationalFactors}
-use Rattle.product_reduce.specs.Factors.{opened, others_in, IsCoefficient}
-use Rattle.product_reduce.specs.Products.{IsProduct, Becomes, IsTakenOut, factors_in}
+use Rattle.product_reduce.proofs.Shared.{and_from, PlainValue, Tree, mult, Trees, none, more, is_mult, has_undef, are_rationals, State, AnswersRationals, are_reduced, IsPlainAnswer, NumberFault, plain, children_of, Forest, IsHanded, Gives, KeepsFront, root_tree, without_root, behind_first, front_after_one, front_after_two, gives_as, Joining, AreOthers, IsStop, IsRejoined, IsFinished, IsJoined, IfFinished, IfJoined, IfGathered, IsAnswered, AnswersRationalFactors, opened, others_in, IsCoefficient, IsProduct, Becomes, IsTakenOut, factors_in}
 use Rattle.product_reduce.proofs.Beside.{beside_product, beside_apart, behind_beside}
 use Rattle.product_reduce.proofs.Finished.{formed_defined, formed_reduced, reduced_formed, stopped, rejoined, opened_rationals, rationals_alone}
 use Rattle.product_reduce.proofs.Forms.{AllFormed, opened_formed, others_formed, others_no_numbers, others_none, opened_flat}
 use Rattle.product_reduce.proofs.Products.{product_at, factors_are}
+use Rattle.tree_handles.specs.declared.fault.NumberFault.TheVariants as fault
+use Rattle.product_reduce.specs.declared.steps.Joining.TheVariants as joining
 
 -- ---- the handed product
 

@@ -1,8 +1,7 @@
 -- The bits of a child are at most those of its parent.
 use Rattle.std.proofs.Common.{◌≡◌, ◌≤◌, ap, arith}
+use Rattle.reduce_walk.proofs.Shared.{Tree, num, Trees, none, more, append, children_of}
 use Rattle.calc_measures.specs.Measures.{bits_of, most_bits, most_bits_of}
-use Rattle.calc_terms.specs.Trees.{Tree, num, Trees, none, more, append}
-use Rattle.tree_handles.specs.Expressions.{children_of}
 
 pub own_bits : (t : Tree) → bits_of t ≤ most_bits t
 own_bits (num q) = omega arith

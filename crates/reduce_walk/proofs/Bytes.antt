@@ -1,26 +1,13 @@
 -- The free bytes while a child is walked.
 use Rattle.std.proofs.Common.{◌≡◌, ℕ, suc, ◌+◌, ◌≤◌, List, true, refl, sym, ap, ◌∙◌, arith}
-use Rattle.std.proofs.lemmas.Bool.{eqb-true}
+use Rattle.reduce_walk.proofs.Shared.{eqb-true, Payload, rational, named, bare, size_of_payload, Tree, num, Trees, more, append, count, root_size, size, sizes, State, free_of, bytes_in-join, gives, gives_as, represents_handed, last_tree, size-plain, sizes-plains, root_arity, children_of, plain, takes, Forest, bytes_in, join, tree, Ends, Gives, IsHanded, tree_of, root_tree, without_root, KeepsRefusals, Stands, forest}
 use Rattle.breakers.specs.State.{State as BreakerState}
 use Rattle.calc_terms.specs.declared.kind.Kind.{Kind}
-use Rattle.calc_terms.specs.declared.kind.Kind.TheVariants as kind
-use Rattle.calc_terms.specs.Payload.{Payload, rational, named, bare, size_of_payload}
-use Rattle.calc_terms.specs.Trees.{Tree, num, Trees, more, append, count, root_size, size, sizes}
-use Rattle.node_pool.specs.State.{State, free_of}
 use Rattle.tree_handles.proofs.FreeBytes.{replaced_free, bytes_without}
 use Rattle.reduce_walk.proofs.Parents.{handed_node, held_at}
 use Rattle.reduce_walk.proofs.Walks.{IsNextChild, IsWalked, count_append}
-use Rattle.tree_handles.proofs.Forests.{bytes_in-join}
-use Rattle.tree_handles.proofs.Given.{gives, gives_as, represents_handed}
-use Rattle.tree_handles.proofs.Lasts.{last_tree}
 use Rattle.tree_handles.proofs.Places.{used_forest}
-use Rattle.tree_handles.proofs.Plains.{size-plain, sizes-plains}
-use Rattle.tree_handles.proofs.Roots.{root_arity}
-use Rattle.tree_handles.specs.Expressions.{children_of, plain, takes}
-use Rattle.tree_handles.specs.Forest.{Forest, bytes_in, join, tree}
-use Rattle.tree_handles.specs.Handed.{Ends, Gives, IsHanded, tree_of}
-use Rattle.tree_handles.specs.Roots.{root_tree, without_root}
-use Rattle.tree_handles.specs.Standing.{KeepsRefusals, Stands, forest}
+use Rattle.calc_terms.specs.declared.kind.Kind.TheVariants as kind
 
 -- a node with children
 parent_bytes : (x : Payload) (n : ℕ) → takes x (suc n) ≡ true → size_of_payload x ≡ 8

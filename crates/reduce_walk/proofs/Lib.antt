@@ -5,3 +5,4 @@ pub mod Bytes
 pub mod Stopping
 pub mod Ready
 pub mod Port
+pub mod Shared

@@ -1,16 +1,8 @@
 -- A root with its children, whatever it holds.
 use Rattle.std.proofs.Common.{◌≡◌, ℕ, true, refl, sym, ap, ◌∙◌, arith}
-use Rattle.calc_terms.specs.Payload.{Payload}
-use Rattle.calc_terms.specs.Trees.{Tree, Trees, none, more, count}
-use Rattle.tree_handles.proofs.Cuts.{represents_count}
+use Rattle.reduce_walk.proofs.Shared.{Payload, Tree, Trees, none, more, count, represents_count, children_of-plain, count-plains, whole_kids, grown_whole, root_arity, grown, plain, plains, takes, children_of, AllExpressions, Forest, empty, tree, arity, kids, root_payload, root_count, IsOnce, IsHanded, Represents, has_root, root_tree}
 use Rattle.tree_handles.proofs.Over.{once_count}
 use Rattle.tree_handles.proofs.Counted.{all-kids}
-use Rattle.tree_handles.proofs.Plains.{children_of-plain, count-plains, whole_kids, grown_whole}
-use Rattle.tree_handles.proofs.Roots.{root_arity}
-use Rattle.tree_handles.specs.Expressions.{grown, plain, plains, takes, children_of, AllExpressions}
-use Rattle.tree_handles.specs.Forest.{Forest, empty, tree, arity, kids, root_payload, root_count}
-use Rattle.tree_handles.specs.Handed.{IsOnce, IsHanded, Represents}
-use Rattle.tree_handles.specs.Roots.{has_root, root_tree}
 
 -- a root that holds x over these trees, each node held once
 pub record IsParent (x : Payload) (i : ℕ) (ts : Trees) (f : Forest) : Type 0 where

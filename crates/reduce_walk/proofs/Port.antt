@@ -1,20 +1,11 @@
 -- What the port promises, from how the walk ends.
 use Rattle.std.proofs.Common.{◌≡◌, ◌↔◌, ℕ, List, Result, Ok, Err, refl, sym, ap}
 use Rattle.std.specs.Prelude.{IfErr, OnOk}
-use Rattle.breakers.specs.Breakers.{CalmChecks, TripsRose}
+use Rattle.reduce_walk.proofs.Shared.{CalmChecks, TripsRose, Tree, nodes, IsUnfitAt, Stops, State, Overflow, calm_raised_none, tripped_rose, CalmUpTo, IfFull, IfOverflow, IfInterrupted, CountsRefusals, ReduceFault, KeepsRefusals}
 use Rattle.breakers.specs.State.{State as BreakerState}
 use Rattle.breakers.specs.declared.watch.Interrupted.{Interrupted}
-use Rattle.calc_terms.specs.Trees.{Tree, nodes}
-use Rattle.reduce_walk.specs.Stops.{IsUnfitAt, Stops}
-use Rattle.node_pool.specs.State.{State}
 use Rattle.node_pool.specs.declared.full.Full.{Full}
-use Rattle.rational128.specs.declared.overflow.Overflow.{Overflow}
-use Rattle.reduce_port.proofs.Checks.{calm_raised_none, tripped_rose}
-use Rattle.reduce_port.specs.Checks.{CalmUpTo}
-use Rattle.reduce_port.specs.Faults.{IfFull, IfOverflow, IfInterrupted, CountsRefusals}
-use Rattle.reduce_port.specs.declared.fault.ReduceFault.{ReduceFault}
 use Rattle.reduce_port.specs.declared.fault.ReduceFault.TheVariants as fault
-use Rattle.tree_handles.specs.Standing.{KeepsRefusals}
 
 by_place : (place : ℕ) (i : Interrupted) (x : Result ℕ ReduceFault) → x ≡ Err (fault.Interrupted i) → x ≡ Err (fault.Interrupted (record { by = place })) → place ≡ i.by
 by_place place i x e k = let f : i ≡ record { by = place } = cc in ap (λ (y : Interrupted). y.by) (sym f)

@@ -1,16 +1,9 @@
 -- A node over the answers of its children, before its own step.
 use Rattle.std.proofs.Common.{◌≡◌, ℕ, List, true, sym, ap, ◌∙◌, subst}
+use Rattle.reduce_walk.proofs.Shared.{Payload, Tree, count, AreAnswers, IsOver, children_of-plain, children_of, grown, plain, takes, Forest, IsHanded, root_tree}
 use Rattle.breakers.specs.State.{State as BreakerState}
-use Rattle.calc_terms.specs.Payload.{Payload}
-use Rattle.calc_terms.specs.Trees.{Tree, count}
-use Rattle.reduce_walk.specs.Answers.{AreAnswers, IsOver}
 use Rattle.reduce_walk.proofs.Parents.{held_at, handed_node, parent_is_handed}
 use Rattle.reduce_walk.proofs.Walks.{AllWalked, answers_count}
-use Rattle.tree_handles.proofs.Plains.{children_of-plain}
-use Rattle.tree_handles.specs.Expressions.{children_of, grown, plain, takes}
-use Rattle.tree_handles.specs.Forest.{Forest}
-use Rattle.tree_handles.specs.Handed.{IsHanded}
-use Rattle.tree_handles.specs.Roots.{root_tree}
 
 pub record IsReady (A : Tree → Tree → Type 0) (i : ℕ) (old new : Forest) : Type 0 where
   pub handed : IsHanded i new

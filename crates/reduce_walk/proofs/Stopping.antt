@@ -1,30 +1,15 @@
 -- A walk that ends without an answer.
 use Rattle.std.proofs.Common.{◌≡◌, ℕ, ◌+◌, ◌<◌, ◌≤◌, List, Some, None, Result, Ok, Err, true, false, sym, ap, subst, arith}
 use Rattle.std.specs.Prelude.{IfErr, OnOk, IsErr, IsErrAnd}
-use Rattle.breakers.proofs.Runs.{CalmChecks-append}
-use Rattle.breakers.specs.Breakers.{Check, CalmChecks}
+use Rattle.reduce_walk.proofs.Shared.{CalmChecks-append, Check, CalmChecks, Tree, Trees, none, more, count, nodes, nodes_of, size, sizes, root_size, State, free_of, Overflow, one_calm, calm_up_to, trips_at_once, calm_up_to_after, trips_within_after, CalmUpTo, TripsWithin, fault_of, ReduceFault, IsNext, is_leaf, IsUnfitAt, Stops, plain, children_of, Forest, root_tree, KeepsRefusals}
 use Rattle.breakers.specs.State.{State as BreakerState}
-use Rattle.calc_terms.specs.Trees.{Tree, Trees, none, more, count, nodes, nodes_of, size, sizes, root_size}
-use Rattle.node_pool.specs.State.{State, free_of}
 use Rattle.tree_handles.proofs.Refused.{kept_after, refuses_after}
 use Rattle.tree_handles.specs.Lacking.{OfFull}
-use Rattle.rational128.specs.declared.overflow.Overflow.{Overflow}
-use Rattle.reduce_port.proofs.Checks.{one_calm, calm_up_to, trips_at_once, calm_up_to_after, trips_within_after}
-use Rattle.reduce_port.specs.Checks.{CalmUpTo, TripsWithin}
-use Rattle.reduce_port.specs.Faults.{fault_of}
-use Rattle.reduce_port.specs.declared.fault.ReduceFault.{ReduceFault}
-use Rattle.reduce_port.specs.declared.fault.ReduceFault.TheVariants as fault
-use Rattle.reduce_walk.specs.Answers.{IsNext}
-use Rattle.reduce_walk.specs.Leaves.{is_leaf}
-use Rattle.reduce_walk.specs.Stops.{IsUnfitAt, Stops}
 use Rattle.reduce_walk.proofs.Walks.{AllWalked, IsWalked, IsNextChild, fewer_nodes, is_next, leaf_nodes, nodes_by_children}
 use Rattle.tree_handles.specs.Causes.{IsCaused}
-use Rattle.tree_handles.specs.Expressions.{plain, children_of}
 use Rattle.tree_handles.specs.Faults.{Faults, IfOverflow}
-use Rattle.tree_handles.specs.Forest.{Forest}
-use Rattle.tree_handles.specs.Roots.{root_tree}
-use Rattle.tree_handles.specs.Standing.{KeepsRefusals}
 use Rattle.tree_handles.specs.declared.fault.NumberFault.{NumberFault}
+use Rattle.reduce_port.specs.declared.fault.ReduceFault.TheVariants as fault
 use Rattle.tree_handles.specs.declared.fault.NumberFault.TheVariants as number
 
 -- ---- checks

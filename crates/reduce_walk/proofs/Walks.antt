@@ -1,32 +1,11 @@
 -- The walk over a node's children.
 use Rattle.std.proofs.Common.{◌≡◌, ℕ, zero, suc, ◌+◌, ◌-◌, ◌≤◌, ◌<◌, List, [], ◌∷◌, ◌++◌, length, eqb, cond, Bool, true, false, refl, sym, ap, ◌∙◌, subst, arith}
-use Rattle.std.proofs.lemmas.Bool.{eq-eqb}
-use Rattle.std.proofs.lemmas.List.{length-append}
-use Rattle.breakers.proofs.Runs.{CalmChecks-append}
-use Rattle.breakers.specs.Breakers.{CalmChecks}
+use Rattle.reduce_walk.proofs.Shared.{eq-eqb, length-append, CalmChecks-append, CalmChecks, Tree, num, symbol, undef, Trees, none, more, append, count, nodes, nodes_of, cut, cut_rest, represents_count, expression, seen, AreAnswers, EachTree, IsNext, is_leaf, BeginWithLeaves, State, AllOnce, tree_of, IsHanded, Represents, Ends, Gives, KeepsFront, join-empty, join_assoc, arity-join, first-rest, first_trees-join, rest_trees-join, starts_same, starts_join, starts_without, behind_new, front_end, front_after_one, append-none, gives, gives_as, given_told, given_rest, represents_as, represents_join, ends_as, kids_of_root, last_root, last_tree, last_rest, alone, top, root-right, tree-right, put-right, AllExpressions, IsExpression, nth, plain, children_of, Label, Forest, empty, tree, join, arity, flatten, kids, node_of, root_payload, root_count, first_trees, rest_trees, tree_nth, without_nth, holds, tree_at, kids_of, has_root, root_tree, without_root, put, behind_root, adopted, Stands, forest}
 use Rattle.breakers.specs.State.{State as BreakerState}
-use Rattle.calc_terms.specs.Trees.{Tree, num, symbol, undef, Trees, none, more, append, count, nodes, nodes_of}
-use Rattle.tree_handles.proofs.Cuts.{cut, cut_rest, represents_count}
-use Rattle.tree_handles.proofs.Seen.{expression, seen}
-use Rattle.reduce_walk.specs.Answers.{AreAnswers, EachTree, IsNext}
-use Rattle.reduce_walk.specs.Leaves.{is_leaf, BeginWithLeaves}
 use Rattle.reduce_walk.proofs.Parents.{IsParent, held_at, parent_handed}
-use Rattle.node_pool.specs.State.{State}
-use Rattle.tree_handles.specs.Handed.{AllOnce, tree_of, IsHanded, Represents, Ends, Gives, KeepsFront}
 use Rattle.tree_handles.proofs.Adopting.{behind_there, adopted_all}
-use Rattle.tree_handles.proofs.Forests.{join-empty, join_assoc, arity-join, first-rest, first_trees-join, rest_trees-join}
-use Rattle.tree_handles.proofs.Fronts.{starts_same, starts_join, starts_without, behind_new, front_end, front_after_one}
-use Rattle.tree_handles.proofs.Given.{append-none, gives, gives_as, given_told, given_rest, represents_as, represents_join}
-use Rattle.tree_handles.proofs.Lasts.{ends_as, kids_of_root, last_root, last_tree, last_rest}
 use Rattle.tree_handles.proofs.Parts.{at as node_place}
-use Rattle.tree_handles.proofs.Plains.{alone}
 use Rattle.tree_handles.proofs.Releases.{arity_le, few_nodes}
-use Rattle.tree_handles.proofs.Roots.{top, root-right, tree-right, put-right}
-use Rattle.tree_handles.specs.Expressions.{AllExpressions, IsExpression, nth, plain, children_of}
-use Rattle.tree_handles.specs.Forest.{Label, Forest, empty, tree, join, arity, flatten, kids, node_of, root_payload, root_count, first_trees, rest_trees, tree_nth, without_nth}
-use Rattle.tree_handles.specs.Inside.{holds, tree_at, kids_of}
-use Rattle.tree_handles.specs.Roots.{has_root, root_tree, without_root, put, behind_root, adopted}
-use Rattle.tree_handles.specs.Standing.{Stands, forest}
 
 -- ---- lists
 

@@ -1,28 +1,9 @@
 -- The addends of terms, of multiples of terms, and of sums.
 use Rattle.std.proofs.Common.{◌≡◌, ◌≢◌, ◌≤◌, ◌⊎◌, inl, inr, [], ◌∷◌, Bool, true, false, if◌then◌else◌, refl, sym, ap, ◌∙◌, subst, arith, append-nil, map, one-mul}
-use Rattle.like_children.proofs.Parts.{last_parts}
-use Rattle.calc_terms.specs.Fractions.{Fraction, times, zero_fraction, one_fraction, is_one_fraction}
-use Rattle.calc_terms.proofs.FractionFacts.{zero_test, one_is}
-use Rattle.calc_terms.specs.Trees.{Tree, num, add, mult, root, Trees, none, more, append, count, is_add, AllParts, AllPartsOf}
-use Rattle.calc_algebra.specs.Numbers.{IsNumber, AreTerms, is_number, is_term, natural_of, terms_of, value}
-use Rattle.calc_algebra.specs.Reduced.{Split, split_product, num_one, product_tree, part_of, number_terms, other_terms, HasForm, NoneIs, IsProductForm, IsSumForm}
-use Rattle.calc_algebra.specs.Surds.{Surd, term, surd_of, surd_one, surd_scale, term_times, surd_times}
+use Rattle.sum_reduce.proofs.Shared.{last_parts, Fraction, times, zero_fraction, one_fraction, is_one_fraction, zero_test, one_is, Tree, num, add, mult, root, Trees, none, more, append, count, is_add, AllParts, AllPartsOf, IsNumber, AreTerms, is_number, is_term, natural_of, terms_of, value, Split, split_product, num_one, product_tree, part_of, number_terms, other_terms, HasForm, NoneIs, IsProductForm, IsSumForm, Surd, term, surd_of, surd_one, surd_scale, term_times, surd_times, one_not_zero, number_test, term_words, has_coefficient, coefficient_of, factors_of, spliced, IsMonic, mapped, rational_times_number, rational_times_sum, rational_times_term, leading_factors, product_form_of, AreFactors, factors_monic, factors_of_tree, monic_coefficient, monic_factors, monic_part, monic_parts, monic_no_number, no_split, none_leads, spliced_split, parts_reduced, IsFactor, not_one_is, number_scaled, terms-scaled, times_one, number_term, multiple, distributed, Addend, addend, addend_of, addends, addends_of}
 use Rattle.calc_algebra.proofs.InverseLaws.{product_not_zero}
-use Rattle.calc_algebra.proofs.NumberClasses.{one_not_zero}
-use Rattle.calc_algebra.proofs.NumberLaws.{number_test, term_words}
-use Rattle.calc_measures.specs.Loads.{has_coefficient}
-use Rattle.coefficients.specs.Coefficients.{coefficient_of, factors_of, spliced, IsMonic}
-use Rattle.coefficients.specs.Multiples.{mapped, rational_times_number, rational_times_sum, rational_times_term}
-use Rattle.coefficients.proofs.Coefficients.{leading_factors, product_form_of}
-use Rattle.coefficients.proofs.Factors.{AreFactors, factors_monic, factors_of_tree, monic_coefficient, monic_factors, monic_part, monic_parts, monic_no_number, no_split, none_leads, spliced_split}
-use Rattle.coefficients.proofs.Forms.{parts_reduced}
-use Rattle.coefficients.proofs.NumberMultiples.{IsFactor, not_one_is, number_scaled, terms-scaled, times_one}
 use Rattle.coefficients.proofs.Splits.{IsCoefficient, Leads, in_front}
-use Rattle.coefficients.proofs.SumMultiples.{number_term}
-use Rattle.coefficients.proofs.TermMultiples.{multiple}
 use Rattle.sum_reduce.proofs.WrittenSums.{number_terms-terms, other_terms-terms}
-use Rattle.tree_bits.specs.Factors.{distributed}
-use Rattle.tree_bits.specs.HeldTrees.{Addend, addend, addend_of, addends, addends_of}
 
 clash : true ≡ false → ⊥
 clash e = cc

@@ -1,22 +1,7 @@
 -- What is answered for terms no two of which have identical parts.
 use Rattle.std.specs.Prelude.{IsPermutation}
-use Rattle.like_children.proofs.NumbersIn.{append_none, number_in, number_out, no_numbers_others, no_numbers_none}
 use Rattle.std.proofs.Common.{◌≤◌, ◌≡◌, [], length, Bool, true, if◌then◌else◌, inl, inr, refl, sym, ap, ◌∙◌, subst, arith, append-nil}
-use Rattle.calc_terms.specs.Fractions.{zero_fraction}
-use Rattle.calc_algebra.specs.Numbers.{is_number, value, terms_of}
-use Rattle.calc_algebra.specs.Reduced.{NoneIs}
-use Rattle.calc_algebra.specs.SquareClasses.{Same}
-use Rattle.calc_terms.specs.Trees.{Tree, num, add, Trees, none, more, append, count}
-use Rattle.calc_algebra.proofs.NumberLaws.{number_test, number_words}
-use Rattle.calc_algebra.proofs.NumberShapes.{AsNumber, as_number}
-use Rattle.calc_algebra.proofs.SquareClassLaws.{Same-Agree}
-use Rattle.calc_algebra.proofs.SurdLaws.{Agree-trans, Agree-eq, Agree-Same}
-use Rattle.node_order.specs.Sorting.{list_of}
-use Rattle.sum_reduce.specs.Arranging.{IsLead, IsSettled}
-use Rattle.sum_reduce.specs.Collected.{numbers_in, others_in, sum_of_values, AreUnlike, IsTotalNumber, IsWrittenSum}
-use Rattle.sum_reduce.specs.Stages.{IsStage}
-use Rattle.sum_reduce.specs.SumAnswers.{IsCollected}
-use Rattle.sum_reduce.specs.Terms.{opened, terms_of_number, sum_tree, written_tree}
+use Rattle.sum_reduce.proofs.Shared.{append_none, number_in, number_out, no_numbers_others, no_numbers_none, zero_fraction, is_number, value, terms_of, NoneIs, Same, Tree, num, add, Trees, none, more, append, count, number_test, number_words, AsNumber, as_number, Same-Agree, Agree-trans, Agree-eq, Agree-Same, list_of, IsLead, IsSettled, numbers_in, others_in, sum_of_values, AreUnlike, IsTotalNumber, IsWrittenSum, IsStage, IsCollected, opened, terms_of_number, sum_tree, written_tree}
 use Rattle.sum_reduce.proofs.Orders.{arranged_flat}
 use Rattle.sum_reduce.proofs.Rearranged.{tight_opened}
 use Rattle.sum_reduce.proofs.WrittenSums.{zero_terms, term_in}

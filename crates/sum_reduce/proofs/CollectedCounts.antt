@@ -1,24 +1,7 @@
 -- The terms of a sum are collected to terms that count no more.
 use Rattle.std.proofs.Common.{◌≡◌, ℕ, suc, ◌+◌, ◌≤◌, max, Bool, true, false, not, if◌then◌else◌, refl, sym, ap, ◌∙◌, subst, arith}
-use Rattle.like_children.proofs.Parts.{permuted_parts, first_parts, last_parts}
-use Rattle.calc_terms.specs.Fractions.{Fraction, times, zero_fraction, is_zero_fraction, is_one_fraction}
-use Rattle.calc_terms.proofs.FractionFacts.{no_zero}
-use Rattle.calc_terms.specs.Trees.{Tree, num, symbol, undef, add, mult, power, root, neg, sub, div, Trees, none, more, append, count, is_add, AllParts, AllPartsOf}
-use Rattle.calc_algebra.specs.Numbers.{IsNumber, IsTerm, is_number, is_radicand}
-use Rattle.calc_algebra.specs.Reduced.{HasForm, NoneIs, part_of, product_tree, split, split_product, num_one, is_whole_num}
-use Rattle.calc_algebra.proofs.MeaningRewrites.{Permuted, permuted_none, permuted_more, permuted_swap, permuted_trans}
-use Rattle.calc_algebra.proofs.NumberLaws.{number_test, number_words}
-use Rattle.calc_room.specs.Counts.{counted, counted_among}
+use Rattle.sum_reduce.proofs.Shared.{permuted_parts, first_parts, last_parts, Fraction, times, zero_fraction, is_zero_fraction, is_one_fraction, no_zero, Tree, num, symbol, undef, add, mult, power, root, neg, sub, div, Trees, none, more, append, count, is_add, AllParts, AllPartsOf, IsNumber, IsTerm, is_number, is_radicand, HasForm, NoneIs, part_of, product_tree, split, split_product, num_one, is_whole_num, Permuted, permuted_none, permuted_more, permuted_swap, permuted_trans, number_test, number_words, counted, counted_among, factors_of, spliced, rational_before, with_coefficient, IsMonic, mapped, rational_times_term, monic_sum, product_form_of, put_formed, taken, monic_parts, number_parts, parts_defined, parts_reduced, IsFactor, not_one_is, scaled, multiple, AreLike, Collects, collects_opened, collects_ordered, collects_numbers, collects_like, collects_then, terms_of_loose, opened, terms_of_number, sum_tree, leads_number, written_tree}
 use Rattle.calc_room.proofs.TreeBytes.{counted_number, counted_other, none_counted, number_counts, term_counts}
-use Rattle.coefficients.specs.Coefficients.{factors_of, spliced, rational_before, with_coefficient, IsMonic}
-use Rattle.coefficients.specs.Multiples.{mapped, rational_times_term}
-use Rattle.coefficients.proofs.Coefficients.{monic_sum, product_form_of, put_formed, taken}
-use Rattle.coefficients.proofs.Factors.{monic_parts}
-use Rattle.coefficients.proofs.Forms.{number_parts, parts_defined, parts_reduced}
-use Rattle.coefficients.proofs.NumberMultiples.{IsFactor, not_one_is, scaled}
-use Rattle.coefficients.proofs.TermMultiples.{multiple}
-use Rattle.sum_reduce.specs.Collected.{AreLike, Collects, collects_opened, collects_ordered, collects_numbers, collects_like, collects_then}
-use Rattle.sum_reduce.specs.Terms.{terms_of_loose, opened, terms_of_number, sum_tree, leads_number, written_tree}
 use Rattle.sum_reduce.proofs.CollectedParts.{opened_parts}
 use Rattle.sum_reduce.proofs.Rearranged.{of_lists}
 

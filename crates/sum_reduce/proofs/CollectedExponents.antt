@@ -1,33 +1,13 @@
 -- Exponents that count their bases are collected to exponents that count them no more often.
 use Rattle.std.proofs.Common.{◌≡◌, ℕ, ◌≤◌, ◌<◌, ◌++◌, [], length, ℤ, pos, ◌+ℤ◌, ◌*ℤ◌, Bool, true, false, ◌&&◌, ◌==◌, if◌then◌else◌, refl, sym, ap, ◌∙◌, subst, arith}
-use Rattle.like_children.proofs.Parts.{first_parts}
-use Rattle.std.proofs.lemmas.Bool.{and_parts, and_from, eqb-true}
-use Rattle.calc_terms.specs.Fractions.{Fraction, lowest, lowest_parts, times, whole_fraction, zero_fraction, one_fraction, is_zero_fraction, is_one_fraction}
-use Rattle.calc_terms.proofs.FractionFacts.{zero_is, one_is, whole_denominator, whole_numerator}
-use Rattle.calc_terms.specs.Trees.{Tree, num, symbol, undef, add, mult, root, Trees, none, more, append, count, is_add, has_undef, AllPartsOf}
-use Rattle.calc_algebra.specs.Numbers.{IsNumber, IsTerm, AreTerms, Rises, is_number, term_of, terms_of, value}
-use Rattle.calc_algebra.specs.Reduced.{NoneIs, HasForm, part_of, product_tree}
-use Rattle.calc_algebra.specs.SquareClasses.{Same}
-use Rattle.calc_algebra.specs.Surds.{surd_of}
+use Rattle.sum_reduce.proofs.Shared.{first_parts, and_parts, and_from, eqb-true, Fraction, lowest, lowest_parts, times, whole_fraction, zero_fraction, one_fraction, is_zero_fraction, is_one_fraction, zero_is, one_is, whole_denominator, whole_numerator, Tree, num, symbol, undef, add, mult, root, Trees, none, more, append, count, is_add, has_undef, AllPartsOf, IsNumber, IsTerm, AreTerms, Rises, is_number, term_of, terms_of, value, NoneIs, HasForm, part_of, product_tree, Same, surd_of, Permuted, permuted_none, permuted_more, permuted_swap, permuted_trans, number_rational, number_words, Same-trans, coefficient_of, rational_before, with_coefficient, IsMonic, mapped, rational_times_term, monic_sum, monic_no_number, IsNumberOf, AreLike, sum_of_coefficients, Collects, collects_opened, collects_ordered, collects_numbers, collects_like, collects_then, terms_of_loose, opened, terms_of_number, sum_tree, leads_number, written_tree, Counts, counts, added, is_counted, are_counted, counts_of, counts_of_all, IsWithin}
 use Rattle.calc_algebra.proofs.ExponentLaws.{whole_plus, whole_times}
-use Rattle.calc_algebra.proofs.MeaningRewrites.{Permuted, permuted_none, permuted_more, permuted_swap, permuted_trans}
-use Rattle.calc_algebra.proofs.NumberClasses.{number_rational}
-use Rattle.calc_algebra.proofs.NumberLaws.{number_words}
-use Rattle.calc_algebra.proofs.SquareClassLaws.{Same-trans}
 use Rattle.calc_algebra.proofs.MeaningLaws.{Same-sym}
 use Rattle.calc_algebra.proofs.TermLaws.{joined_radicand, Same-append, Same-eq, Same-refl, zero_term}
-use Rattle.coefficients.specs.Coefficients.{coefficient_of, rational_before, with_coefficient, IsMonic}
-use Rattle.coefficients.specs.Multiples.{mapped, rational_times_term}
-use Rattle.coefficients.proofs.Coefficients.{monic_sum}
-use Rattle.coefficients.proofs.Factors.{monic_no_number}
-use Rattle.number_forms.specs.Answers.{IsNumberOf}
-use Rattle.sum_reduce.specs.Collected.{AreLike, sum_of_coefficients, Collects, collects_opened, collects_ordered, collects_numbers, collects_like, collects_then}
-use Rattle.sum_reduce.specs.Terms.{terms_of_loose, opened, terms_of_number, sum_tree, leads_number, written_tree}
 use Rattle.sum_reduce.proofs.CollectedCounts.{collected_formed, like_monic}
 use Rattle.sum_reduce.proofs.CountedMultiples.{within_same, within_after, within_both, nothing_within, sum_within, product_within, multiple_added}
 use Rattle.sum_reduce.proofs.Rearranged.{of_lists}
-use Rattle.tree_bits.specs.Exponents.{Counts, counts, multiple, added, is_counted, are_counted, counts_of, counts_of_all}
-use Rattle.tree_bits.specs.Powers.{IsWithin}
+use Rattle.tree_bits.specs.Exponents.{multiple}
 
 -- ---- lists of exponents
 

@@ -1,15 +1,6 @@
 -- What holds of each part of the terms of a sum holds of each part of what they are collected to.
 use Rattle.std.proofs.Common.{◌≡◌, ◌≤◌, ◌++◌, Bool, true, false, if◌then◌else◌, subst, arith}
-use Rattle.calc_terms.specs.Fractions.{Fraction, zero_fraction, one_fraction, is_zero_fraction}
-use Rattle.calc_terms.specs.Trees.{Tree, num, add, mult, root, Trees, none, more, append, count, AllParts, AllPartsOf}
-use Rattle.calc_algebra.specs.Numbers.{is_number, is_radicand, value}
-use Rattle.calc_algebra.specs.Reduced.{part_of, split, split_product, num_one}
-use Rattle.coefficients.specs.Coefficients.{coefficient_of}
-use Rattle.coefficients.proofs.Forms.{AllPartsOf-append}
-use Rattle.number_forms.specs.Answers.{IsNumberOf}
-use Rattle.like_children.proofs.Parts.{permuted_parts, first_parts, last_parts, product_tree_parts, with_parts}
-use Rattle.sum_reduce.specs.Collected.{AreLike, sum_of_coefficients, Collects, collects_opened, collects_ordered, collects_numbers, collects_like, collects_then}
-use Rattle.sum_reduce.specs.Terms.{terms_of_loose, opened, terms_of_number, sum_tree, leads_number, written_tree}
+use Rattle.sum_reduce.proofs.Shared.{Fraction, zero_fraction, one_fraction, is_zero_fraction, Tree, num, add, mult, root, Trees, none, more, append, count, AllParts, AllPartsOf, is_number, is_radicand, value, part_of, split, split_product, num_one, coefficient_of, AllPartsOf-append, IsNumberOf, permuted_parts, first_parts, last_parts, product_tree_parts, with_parts, AreLike, sum_of_coefficients, Collects, collects_opened, collects_ordered, collects_numbers, collects_like, collects_then, terms_of_loose, opened, terms_of_number, sum_tree, leads_number, written_tree}
 use Rattle.sum_reduce.proofs.Rearranged.{of_lists}
 
 -- ---- terms that are opened, change places, or stand before others

@@ -1,10 +1,6 @@
 -- Each power in what terms are collected to is a part of one of them.
-use Rattle.calc_terms.specs.Trees.{Trees}
-use Rattle.calc_algebra.proofs.NumberLaws.{number_words}
-use Rattle.calc_room.specs.Powers.{IsPowerOf, HasPowersOf}
+use Rattle.sum_reduce.proofs.Shared.{Trees, number_words, IsPowerOf, HasPowersOf, Collects, written_tree}
 use Rattle.like_children.proofs.OwnPowers.{number_powers, own_powers_of}
-use Rattle.sum_reduce.specs.Collected.{Collects}
-use Rattle.sum_reduce.specs.Terms.{written_tree}
 use Rattle.sum_reduce.proofs.CollectedParts.{collected_parts, written_parts}
 
 pub collected_powers : (ts us : Trees) → Collects ts us → HasPowersOf ts (written_tree us)

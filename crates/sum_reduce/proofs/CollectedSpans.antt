@@ -1,17 +1,7 @@
 -- What spans the terms of a sum spans what they are collected to.
 use Rattle.std.proofs.Common.{◌≡◌, ℕ, List, Bool, true, false, if◌then◌else◌, refl}
-use Rattle.calc_terms.specs.Trees.{Tree, num, add, mult, root, Trees, none, more, is_add}
-use Rattle.calc_algebra.specs.Numbers.{is_number, is_radicand, value}
-use Rattle.calc_algebra.specs.Reduced.{split, split_product, num_one}
-use Rattle.calc_algebra.proofs.NumberLaws.{number_words, term_words}
-use Rattle.calc_room.specs.Spans.{Spans, SpansRoot, SpansTree, SpansTrees}
+use Rattle.sum_reduce.proofs.Shared.{Tree, num, add, mult, root, Trees, none, more, is_add, is_number, is_radicand, value, split, split_product, num_one, number_words, term_words, Spans, SpansRoot, SpansTree, SpansTrees, coefficient_of, IsNumberOf, sum_spans, children_of, sum_of_coefficients, Collects, written_tree}
 use Rattle.calc_room.proofs.NumberSpans.{spans_append, spans_same, term_spanned, tree_spanned, value_spanned}
-use Rattle.coefficients.specs.Coefficients.{coefficient_of}
-use Rattle.number_forms.specs.Answers.{IsNumberOf}
-use Rattle.number_forms.proofs.Rooms.{sum_spans}
-use Rattle.tree_handles.specs.Expressions.{children_of}
-use Rattle.sum_reduce.specs.Collected.{sum_of_coefficients, Collects}
-use Rattle.sum_reduce.specs.Terms.{written_tree}
 use Rattle.sum_reduce.proofs.CollectedParts.{collected_parts, written_parts}
 
 split_spans : (gs : List ℕ) (ts : Trees) → SpansTrees gs ts → Spans gs (value (split_product ts).coefficient)

@@ -1,10 +1,9 @@
 -- Multiples of how often an exponent counts its base.
 use Rattle.std.proofs.Common.{◌≡◌, ℕ, zero, suc, ◌+◌, ◌*◌, ◌≤◌, ℤ, pos, negsuc, ◌+ℤ◌, ◌*ℤ◌, refl, ap, arith}
-use Rattle.std.proofs.lemmas.Int.{ints}
-use Rattle.std.proofs.lemmas.Nat.{mul-le}
 use Rattle.std.specs.Prelude.{neg_ℤ}
-use Rattle.tree_bits.specs.Exponents.{Counts, counts, multiple, added}
-use Rattle.tree_bits.specs.Powers.{IsWithin}
+use Rattle.sum_reduce.proofs.Shared.{mul-le, Counts, counts, added, IsWithin}
+use Rattle.std.proofs.lemmas.Int.{ints}
+use Rattle.tree_bits.specs.Exponents.{multiple}
 
 -- ---- within
 

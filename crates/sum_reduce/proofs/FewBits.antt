@@ -1,24 +1,11 @@
 -- The next two Numbers that are added have few bits, where the terms of a sum have.
 use Rattle.std.proofs.Common.{◌≡◌, ℕ, suc, ◌<◌, ◌++◌, [], ◌∷◌, List, false, ap, ◌∙◌, subst, arith}
-use Rattle.like_children.proofs.Kids.{count_removed}
-use Rattle.calc_algebra.specs.Numbers.{is_number, value}
-use Rattle.calc_algebra.specs.Reduced.{part_of}
-use Rattle.calc_bits.specs.Bounds.{HasFewBits}
-use Rattle.calc_terms.specs.Trees.{Tree, Trees, more, count}
-use Rattle.coefficients.specs.Coefficients.{coefficient_of, factors_of}
-use Rattle.like_children.specs.Neighbours.{IsPairAt}
-use Rattle.number_forms.specs.Sums.{removed}
-use Rattle.sum_reduce.specs.Bits.{HaveFewBits}
-use Rattle.sum_reduce.specs.Joining.{IsJoining}
-use Rattle.sum_reduce.specs.Terms.{is_loose, is_partner}
+use Rattle.sum_reduce.proofs.Shared.{count_removed, is_number, value, part_of, HasFewBits, Tree, Trees, more, count, coefficient_of, factors_of, IsPairAt, removed, HaveFewBits, IsJoining, is_loose, is_partner, addends_of_each, Addend, addend, addends, nth}
 use Rattle.sum_reduce.proofs.Addends.{term_addends}
 use Rattle.sum_reduce.proofs.Held.{held_behind, held_equal, held_permuted, few_after, few_of_both}
 use Rattle.sum_reduce.proofs.Joins.{partners, tight_other}
 use Rattle.sum_reduce.proofs.Places.{nth_behind_removed, taken_permuted}
 use Rattle.sum_reduce.proofs.Stages.{formed_permuted, none_permuted}
-use Rattle.tree_bits.specs.Children.{addends_of_each}
-use Rattle.tree_bits.specs.HeldTrees.{Addend, addend, addends}
-use Rattle.tree_handles.specs.Expressions.{nth}
 
 pub next_partner_few : (ts : Trees) (c : Tree) (us : Trees) (at less : ℕ) → IsJoining ts c (nth at us) (removed at us) less → IsPairAt is_partner at us → HaveFewBits (addends_of_each ts) → HasFewBits (value c ++ value (coefficient_of (nth (suc at) us)))
 next_partner_few ts c us at less j h b =

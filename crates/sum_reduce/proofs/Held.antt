@@ -1,18 +1,6 @@
 -- Addends that change places, are left out, or are joined, beside any others.
 use Rattle.std.proofs.Common.{◌≡◌, ℕ, ◌+◌, ◌*◌, ◌^◌, ◌≤◌, List, [], ◌∷◌, ◌++◌, sym, ap, subst, arith, append_assoc, append-nil}
-use Rattle.std.proofs.lemmas.Nat.{mul-le, pow_pos}
-use Rattle.std.proofs.Math.Nat.{pow-le-pow_right}
-use Rattle.calc_algebra.specs.Surds.{Surd}
-use Rattle.calc_algebra.proofs.MeaningRewrites.{Permuted, permuted_none, permuted_more, permuted_swap, permuted_trans}
-use Rattle.calc_bits.specs.Bounds.{HasFewBits, IsNoLarger}
-use Rattle.calc_bits.specs.Masses.{mass, IsHeld}
-use Rattle.calc_bits.proofs.MassLaws.{parts_append, mass-append}
-use Rattle.calc_bits.proofs.Parts.{parts_left, parts_right}
-use Rattle.calc_terms.specs.Trees.{Trees, none}
-use Rattle.sum_reduce.specs.Bits.{KeepsHeld, HaveFewBits}
-use Rattle.tree_bits.specs.Children.{IsSumHeld, addends_of_each}
-use Rattle.tree_bits.specs.HeldTrees.{Addend, addend, addends, AreWeighted, more_weighted, no_factor_held}
-use Rattle.tree_bits.specs.Weighted.{Weighted, weighted, lows, weighted_mass, AreHeld}
+use Rattle.sum_reduce.proofs.Shared.{mul-le, pow_pos, pow-le-pow_right, Surd, Permuted, permuted_none, permuted_more, permuted_swap, permuted_trans, HasFewBits, IsNoLarger, mass, IsHeld, parts_append, mass-append, parts_left, parts_right, Trees, none, KeepsHeld, HaveFewBits, IsSumHeld, addends_of_each, Addend, addend, addends, AreWeighted, more_weighted, no_factor_held, Weighted, weighted, lows, weighted_mass, AreHeld}
 use Rattle.tree_bits.proofs.Joined.{addend_left_out, addend_to_front, addend_from_front, addends_joined}
 
 -- ---- one after the other, and side by side

@@ -1,23 +1,8 @@
 -- A coefficient before a sum that is one factor, and in each addend of that sum, beside any others.
 use Rattle.std.proofs.Common.{◌≡◌, ℕ, ◌+◌, ◌*◌, ◌^◌, ◌≤◌, ◌<◌, List, [], ◌∷◌, ◌++◌, map, sym, ap, subst, arith}
-use Rattle.std.proofs.lemmas.Nat.{mul-le, pow-add}
-use Rattle.std.proofs.Math.Nat.{pow-le-pow_right}
-use native.Mathlib.Nat.{mul_comm}
-use Rattle.calc_algebra.specs.Reduced.{num_one}
-use Rattle.calc_algebra.specs.Surds.{Surd, surd_times}
-use Rattle.calc_bits.specs.Denominators.{Parts}
-use Rattle.calc_bits.specs.Masses.{mass}
-use Rattle.calc_bits.proofs.MassLaws.{parts_scale, parts_times, mass_scale, mass_times}
-use Rattle.calc_terms.specs.Fractions.{mul_pos}
-use Rattle.calc_terms.specs.Trees.{add, Trees, none, more}
-use Rattle.sum_reduce.specs.Bits.{KeepsHeld}
-use Rattle.tree_bits.specs.Children.{IsSumHeld}
-use Rattle.tree_bits.specs.Exponents.{Counts, counts_of}
-use Rattle.tree_bits.specs.Factors.{distributed}
-use Rattle.tree_bits.specs.HeldTrees.{Addend, addend, addends, power_high, power_low, IsTreeHeld, sum_held, AreWeighted, none_weighted, more_weighted, IsPartHeld, no_factor_held, factor_held, tree_held}
-use Rattle.tree_bits.specs.Weighted.{Weighted, weighted, PartsAll, lows, weighted_mass, AreHeld}
-use Rattle.tree_bits.proofs.Children.{weighted_both}
+use Rattle.sum_reduce.proofs.Shared.{mul-le, pow-add, pow-le-pow_right, num_one, Surd, surd_times, Parts, mass, parts_scale, parts_times, mass_scale, mass_times, mul_pos, add, Trees, none, more, KeepsHeld, IsSumHeld, Counts, counts_of, distributed, Addend, addend, addends, power_high, power_low, IsTreeHeld, sum_held, AreWeighted, none_weighted, more_weighted, IsPartHeld, no_factor_held, factor_held, tree_held, Weighted, weighted, PartsAll, lows, weighted_mass, AreHeld, weighted_both}
 use Rattle.tree_bits.proofs.Sums.{one_counts}
+use native.Mathlib.Nat.{mul_comm}
 
 -- ---- weighted terms
 

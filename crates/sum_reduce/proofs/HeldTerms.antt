@@ -1,36 +1,12 @@
 -- What holds the terms of a sum holds them opened, with one coefficient put back, and written as a tree.
 use Rattle.std.proofs.Common.{◌≡◌, ◌≤◌, ℕ, List, [], ◌∷◌, ◌++◌, Bool, true, false, if◌then◌else◌, inl, inr, refl, sym, ap, ◌∙◌, subst, arith, append_assoc, append-nil}
-use Rattle.std.proofs.lemmas.Bool.{not_from_false}
-use Rattle.calc_terms.specs.Fractions.{Fraction, zero_fraction, is_zero_fraction, is_one_fraction}
-use Rattle.calc_terms.proofs.FractionFacts.{no_zero, one_is}
-use Rattle.calc_terms.specs.Trees.{Tree, num, add, mult, root, Trees, none, more, append, count, is_add, AllParts}
-use Rattle.calc_algebra.specs.Numbers.{IsNumber, IsTerm, AreTerms, is_number, term_of, terms_of, value}
-use Rattle.calc_algebra.specs.Reduced.{HasForm, NoneIs, part_of}
-use Rattle.calc_algebra.specs.SquareClasses.{Same}
-use Rattle.calc_algebra.specs.Surds.{Surd, surd_of, surd_one}
-use Rattle.calc_algebra.proofs.NumberLaws.{number_test, number_words}
-use Rattle.calc_algebra.proofs.NumberShapes.{AsNumber, as_number}
-use Rattle.calc_algebra.proofs.SurdLaws.{surd_times-surd_one}
-use Rattle.calc_bits.specs.Denominators.{SharesDenominators}
+use Rattle.sum_reduce.proofs.Shared.{not_from_false, Fraction, zero_fraction, is_zero_fraction, is_one_fraction, no_zero, one_is, Tree, num, add, mult, root, Trees, none, more, append, count, is_add, AllParts, IsNumber, IsTerm, AreTerms, is_number, term_of, terms_of, value, HasForm, NoneIs, part_of, Same, Surd, surd_of, surd_one, number_test, number_words, AsNumber, as_number, surd_times-surd_one, SharesDenominators, coefficient_of, factors_of, rational_before, with_coefficient, IsMonic, monic_sum, put, monic_parts, number_of_term, IsFactor, not_one_is, IsArranged, IsLead, KeepsHeld, AreFormed, terms_of_loose, opened, terms_of_number, sum_tree, written_tree, IsSumHeld, addends_of_each, distributed, Addend, addend, addend_of, addends, addends_of, IsTreeHeld, sum_as_tree, alone}
 use Rattle.calc_bits.proofs.NoLarger.{no_larger}
-use Rattle.coefficients.specs.Coefficients.{coefficient_of, factors_of, rational_before, with_coefficient, IsMonic}
-use Rattle.coefficients.proofs.Coefficients.{monic_sum, put}
-use Rattle.coefficients.proofs.Factors.{monic_parts}
-use Rattle.coefficients.proofs.Forms.{number_of_term}
-use Rattle.coefficients.proofs.NumberMultiples.{IsFactor, not_one_is}
-use Rattle.sum_reduce.specs.Arranging.{IsArranged, IsLead}
-use Rattle.sum_reduce.specs.Bits.{KeepsHeld}
-use Rattle.sum_reduce.specs.Terms.{AreFormed, terms_of_loose, opened, terms_of_number, sum_tree, written_tree}
 use Rattle.sum_reduce.proofs.Addends.{term_addends, IsSplit, split_sum, sum_addends, one_value, rational_value, monic_addends, spliced_addends, multiple_addends}
 use Rattle.sum_reduce.proofs.Held.{held_same, held_after, held_equal, held_behind, held_beside, held_joined, held_left_out, held_nothing, held_split, holds}
 use Rattle.sum_reduce.proofs.HeldFactors.{held_distributed}
 use Rattle.sum_reduce.proofs.Settled.{no_sums}
 use Rattle.sum_reduce.proofs.WrittenSums.{zero_terms, term_in, number_terms_in}
-use Rattle.tree_bits.specs.Children.{IsSumHeld, addends_of_each}
-use Rattle.tree_bits.specs.Factors.{distributed}
-use Rattle.tree_bits.specs.HeldTrees.{Addend, addend, addend_of, addends, addends_of, IsTreeHeld}
-use Rattle.tree_bits.proofs.Children.{sum_as_tree}
-use Rattle.tree_bits.proofs.Numbers.{alone}
 
 clash : true ≡ false → ⊥
 clash e = cc

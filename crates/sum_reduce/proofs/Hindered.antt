@@ -1,34 +1,12 @@
 -- Which operation does not fit, from stage to stage of a sum.
 use Rattle.std.specs.Prelude.{Result, Ok, Err, IfErr}
-use Rattle.like_children.proofs.Kids.{count_removed}
 use Rattle.std.proofs.Common.{ℕ, suc, ◌<◌, ◌≤◌, ◌≡◌, false, ◌&&◌, refl, sym, ap, ◌∙◌, subst, arith}
-use Rattle.calc_terms.specs.Fits.{add_op}
-use Rattle.calc_terms.specs.Fractions.{Fraction}
-use Rattle.calc_algebra.specs.Numbers.{is_number, value}
-use Rattle.calc_algebra.specs.Reduced.{part_of}
-use Rattle.calc_measures.specs.PlainValues.{calculated}
-use Rattle.calc_terms.specs.Trees.{Tree, num, Trees, more, append, count, is_num}
-use Rattle.calc_algebra.proofs.MeaningRewrites.{permuted_trans, Permuted-append_right}
-use Rattle.coefficients.specs.Coefficients.{coefficient_of}
-use Rattle.coefficients.specs.Overflows.{NamesPut}
-use Rattle.tree_handles.specs.Faults.{OfOverflow}
-use Rattle.coefficients.proofs.Factors.{monic_part}
-use Rattle.node_pool.specs.State.{State}
-use Rattle.number_forms.specs.Answers.{AnswersRationals}
+use Rattle.sum_reduce.proofs.Shared.{count_removed, add_op, Fraction, is_number, value, part_of, calculated, Tree, num, Trees, more, append, count, is_num, permuted_trans, Permuted-append_right, coefficient_of, NamesPut, OfOverflow, monic_part, State, AnswersRationals, removed, Overflow, nth, NumberFault, IsPairAt, Collects, collects_ordered, collects_then, IsJoining, NamesSum, Overflows, hinders_like, hinders_part, is_partner}
 use Rattle.number_forms.specs.Overflows.{SumOverflows}
-use Rattle.number_forms.specs.Sums.{removed}
-use Rattle.rational128.specs.declared.overflow.Overflow.{Overflow}
-use Rattle.tree_handles.specs.Expressions.{nth}
-use Rattle.tree_handles.specs.declared.fault.NumberFault.{NumberFault}
-use Rattle.tree_handles.specs.declared.fault.NumberFault.TheVariants as fault
-use Rattle.like_children.specs.Neighbours.{IsPairAt}
-use Rattle.sum_reduce.specs.Collected.{Collects, collects_ordered, collects_then}
-use Rattle.sum_reduce.specs.Joining.{IsJoining}
-use Rattle.sum_reduce.specs.Overflows.{NamesSum, Overflows, hinders_like, hinders_part}
-use Rattle.sum_reduce.specs.Terms.{is_partner}
 use Rattle.sum_reduce.proofs.Joins.{partners}
 use Rattle.sum_reduce.proofs.Places.{taken_permuted, nth_behind_removed}
 use Rattle.sum_reduce.proofs.Rearranged.{of_lists, to_lists}
+use Rattle.tree_handles.specs.declared.fault.NumberFault.TheVariants as fault
 
 -- ---- two Numbers
 

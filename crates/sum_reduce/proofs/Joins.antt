@@ -1,47 +1,13 @@
 -- Terms with identical parts become one.
-use Rattle.std.specs.declared.cmp.Ordering.{Ordering}
-use Rattle.like_children.proofs.NumbersIn.{other_in}
-use Rattle.like_children.proofs.Kids.{count_removed}
-use Rattle.std.specs.declared.cmp.Ordering.TheVariants.{Less, Equal, Greater}
-use Rattle.std.specs.Ordering.{is_eq}
 use Rattle.std.proofs.Common.{ℕ, zero, suc, ◌+◌, ◌≤◌, ◌<◌, ◌≡◌, ◌++◌, [], ◌∷◌, Bool, true, false, ◌&&◌, not, refl, sym, ap, ◌∙◌, subst, arith, append-nil}
-use Rattle.std.proofs.lemmas.Bool.{and_parts}
-use Rattle.calc_algebra.specs.Numbers.{is_number, value, are_numbers}
-use Rattle.calc_algebra.specs.Reduced.{part_of, NoneIs, is_reduced}
-use Rattle.calc_algebra.specs.SquareClasses.{Same}
-use Rattle.calc_algebra.specs.Surds.{Surd}
-use Rattle.calc_algebra.specs.TreeOrder.{tree_cmp}
-use Rattle.calc_terms.specs.Trees.{Tree, add, mult, Trees, none, more, append, count, names, names_of, nodes, is_add, is_undef}
-use Rattle.calc_algebra.proofs.MeaningRewrites.{KeepsMeanings, KeepsMeanings-refl, KeepsMeanings-eq, KeepsMeanings-trans, KeepsMeanings-sum_more, Permuted, Permuted-sym, Permuted-append_right, Permuted-to_front, permuted_more, permuted_trans, permuted_sum, joined_in_sum, same_factor}
-use Rattle.calc_algebra.proofs.NumberLaws.{number_words, number_test}
-use Rattle.calc_algebra.proofs.NumberRewrites.{sum_of_numbers, coefficient_times_part, with_coefficient as coefficient_for}
-use Rattle.calc_algebra.proofs.SquareClassLaws.{Same-Agree}
-use Rattle.calc_algebra.proofs.SurdLaws.{Agree-refl, Agree-trans, Agree-eq, Agree-Same, Agree-append, append_comm}
-use Rattle.calc_algebra.proofs.TreeOrderLaws.{tree_cmp_equal, tree_cmp_refl}
-use Rattle.calc_bits.specs.Denominators.{SharesDenominators}
-use Rattle.coefficients.specs.Coefficients.{coefficient_of, factors_of, with_coefficient}
+use Rattle.sum_reduce.proofs.Shared.{Ordering, other_in, count_removed, Less, Equal, Greater, is_eq, and_parts, is_number, value, are_numbers, part_of, NoneIs, is_reduced, Same, Surd, tree_cmp, Tree, add, mult, Trees, none, more, append, count, names, names_of, nodes, is_add, is_undef, KeepsMeanings, KeepsMeanings-refl, KeepsMeanings-eq, KeepsMeanings-trans, KeepsMeanings-sum_more, Permuted, Permuted-sym, Permuted-append_right, Permuted-to_front, permuted_more, permuted_trans, permuted_sum, joined_in_sum, same_factor, number_words, number_test, sum_of_numbers, coefficient_times_part, Same-Agree, Agree-refl, Agree-trans, Agree-eq, Agree-Same, Agree-append, append_comm, tree_cmp_equal, tree_cmp_refl, SharesDenominators, coefficient_of, factors_of, with_coefficient, taken, coefficient_same, put_formed, put_reduces, monic_part, monic_parts, monic_no_number, parts_reduced, parts_defined, keeps, kept, nth, inserted, IsPairAt, others_in, AreUnlike, AreLike, sum_of_coefficients, collects_ordered, collects_like, collects_then, IsAdded, IsJoining, IsStage, widths, removed, AreFormed, is_loose, is_partner, opened, IsNumberOver, Within, no_new_name, within_of, within_same, within_both, within_beside, within_trans, within_right, within_none, within_eq, names_permuted, number_names, addends_of_each, addend, nest_permuted, nest_number}
+use Rattle.calc_algebra.proofs.NumberRewrites.{with_coefficient as coefficient_for}
 use Rattle.coefficients.proofs.Bounds.{coefficient_nest}
-use Rattle.coefficients.proofs.Coefficients.{taken, coefficient_same, put_formed, put_reduces}
-use Rattle.coefficients.proofs.Factors.{monic_part, monic_parts, monic_no_number}
-use Rattle.coefficients.proofs.Forms.{parts_reduced, parts_defined}
 use Rattle.coefficients.proofs.Keeps.{coefficient_keeps}
-use Rattle.calc_algebra.proofs.Rewritings.{keeps, kept}
-use Rattle.tree_handles.specs.Expressions.{nth, inserted}
-use Rattle.like_children.specs.Neighbours.{IsPairAt}
-use Rattle.sum_reduce.specs.Collected.{others_in, AreUnlike, AreLike, sum_of_coefficients, collects_ordered, collects_like, collects_then}
-use Rattle.sum_reduce.specs.Joining.{IsAdded, IsJoining}
-use Rattle.sum_reduce.specs.Stages.{IsStage, widths}
-use Rattle.number_forms.specs.Sums.{removed}
-use Rattle.sum_reduce.specs.Terms.{AreFormed, is_loose, is_partner, opened}
-use Rattle.number_forms.specs.Answers.{IsNumberOver}
-use Rattle.calc_algebra.proofs.Names.{Within, no_new_name, within_of, within_same, within_both, within_beside, within_trans, within_right, within_none, within_eq, names_permuted, number_names}
 use Rattle.sum_reduce.proofs.Addends.{term_addends}
 use Rattle.sum_reduce.proofs.Held.{held_after, held_beside, held_behind, held_equal, held_permuted, held_same}
 use Rattle.sum_reduce.proofs.HeldTerms.{partner_held, put_held}
-use Rattle.tree_bits.specs.Children.{addends_of_each}
-use Rattle.tree_bits.specs.HeldTrees.{addend}
 use Rattle.sum_reduce.proofs.Names.{names_of_part}
-use Rattle.calc_measures.proofs.Nests.{nest_permuted, nest_number}
 use Rattle.sum_reduce.proofs.Nests.{nest_of_part}
 use Rattle.sum_reduce.proofs.Places.{taken_permuted, inserted_permuted, count_inserted, nth_inserted, nth_behind_inserted, removed_inserted, nth_removed, nth_behind_removed, removed_two}
 use Rattle.sum_reduce.proofs.Rearranged.{of_lists, to_lists, tight_opened, others_permuted, unlike_permuted}

@@ -34,3 +34,4 @@ pub mod PutsFit
 pub mod FewBits
 pub mod CountedMultiples
 pub mod CollectedExponents
+pub mod Shared

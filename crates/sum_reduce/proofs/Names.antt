@@ -1,9 +1,6 @@
 -- Names in terms.
 use Rattle.std.proofs.Common.{Bool, true, false, if◌then◌else◌, [], ◌++◌}
-use Rattle.calc_algebra.specs.Numbers.{is_number, is_radicand}
-use Rattle.calc_algebra.specs.Reduced.{split, split_product, product_tree, part_of, num_one}
-use Rattle.calc_terms.specs.Trees.{Tree, num, add, mult, root, Trees, none, more, names, names_of}
-use Rattle.calc_algebra.proofs.Names.{Within, within_same, within_trans, within_left, within_right, within_none}
+use Rattle.sum_reduce.proofs.Shared.{is_number, is_radicand, split, split_product, product_tree, part_of, num_one, Tree, num, add, mult, root, Trees, none, more, names, names_of, Within, within_same, within_trans, within_left, within_right, within_none}
 
 -- ---- the part of a term
 

@@ -1,9 +1,6 @@
 -- The nest of terms.
 use Rattle.std.proofs.Common.{◌≤◌, Bool, true, false, if◌then◌else◌, arith}
-use Rattle.calc_measures.specs.Loads.{nest, nest_of}
-use Rattle.calc_algebra.specs.Numbers.{is_number, is_radicand}
-use Rattle.calc_algebra.specs.Reduced.{split, split_product, product_tree, part_of, num_one}
-use Rattle.calc_terms.specs.Trees.{Tree, num, add, mult, root, Trees, none, more}
+use Rattle.sum_reduce.proofs.Shared.{nest, nest_of, is_number, is_radicand, split, split_product, product_tree, part_of, num_one, Tree, num, add, mult, root, Trees, none, more}
 
 -- ---- the part of a term
 

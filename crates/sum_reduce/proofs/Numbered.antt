@@ -1,44 +1,17 @@
 -- The Numbers among the terms become one.
 use Rattle.std.specs.Prelude.{Err, Option, None, Some, MatchOption, is_some}
 use Rattle.std.proofs.Common.{ℕ, suc, ◌<◌, ◌≤◌, ◌≡◌, ◌++◌, [], ◌∷◌, Bool, true, false, refl, sym, ap, ◌∙◌, subst, arith}
-use Rattle.std.proofs.lemmas.Bool.{and_parts}
-use Rattle.calc_terms.specs.Fits.{add_op}
-use Rattle.calc_algebra.specs.Numbers.{is_number, are_numbers, value}
-use Rattle.calc_algebra.specs.Reduced.{NoneIs}
-use Rattle.calc_algebra.proofs.MeaningRewrites.{permuted_more}
-use Rattle.calc_algebra.proofs.NumberLaws.{number_words}
-use Rattle.calc_bits.specs.Bounds.{HasFewBits}
-use Rattle.calc_measures.specs.PlainValues.{PlainValue, fold_values, plain_value}
-use Rattle.calc_terms.specs.Trees.{Tree, add, Trees, none, more, append, count, is_num, are_rationals}
-use Rattle.coefficients.proofs.Forms.{number_parts}
-use Rattle.node_pool.specs.State.{State}
-use Rattle.rational128.specs.declared.overflow.Overflow.{Overflow}
-use Rattle.tree_bits.specs.Children.{addends_of_each}
-use Rattle.tree_bits.proofs.Numbers.{alone}
-use Rattle.tree_handles.specs.declared.fault.NumberFault.{NumberFault}
-use Rattle.tree_handles.specs.declared.fault.NumberFault.TheVariants as fault
-use Rattle.tree_handles.specs.Expressions.{nth}
-use Rattle.tree_handles.specs.Forest.{Forest}
+use Rattle.sum_reduce.proofs.Shared.{and_parts, add_op, is_number, are_numbers, value, NoneIs, permuted_more, number_words, HasFewBits, PlainValue, fold_values, plain_value, Tree, add, Trees, none, more, append, count, is_num, are_rationals, number_parts, State, Overflow, addends_of_each, alone, NumberFault, nth, Forest, IsBehind, behind_first, behind_later, behind_new, front_same, front_at, front_put, front_without, put-put, num_number, sum_begun, plain_sum, first_of, fold_done, no_numbers, no_rationals, numbers_first, trees_assoc, both_true, front_numbers, end_numbers, numbers_are, none_number, removed, IsLead, IsLed, IsNumbered, IsFolded, AnswersFold, HaveFewBits, NamesSum, Overflows, hinders_numbers, IsStage, Takes, AreFormed, is_loose}
 use Rattle.tree_handles.specs.Roots.{put}
-use Rattle.tree_handles.proofs.Fronts.{IsBehind, behind_first, behind_later, behind_new, front_same, front_at, front_put, front_without}
-use Rattle.tree_handles.proofs.Roots.{put-put}
 use Rattle.like_children.specs.Folds.{rational_of, rationals_of, IsTotal, AnswersTotal}
 use Rattle.like_children.specs.Joining.{AreJoined, IsNextOf}
 use Rattle.like_children.specs.Numbers.{numbers_in, others_in, IsNextNumber, NoNumberBetween}
-use Rattle.like_children.proofs.Folds.{num_number, sum_begun, plain_sum, first_of, fold_done, no_numbers, no_rationals}
-use Rattle.like_children.proofs.NumbersIn.{numbers_first, trees_assoc, both_true, front_numbers, end_numbers, numbers_are, none_number}
-use Rattle.number_forms.specs.Sums.{removed}
-use Rattle.sum_reduce.specs.Arranging.{IsLead, IsLed, IsNumbered, IsFolded, AnswersFold}
-use Rattle.sum_reduce.specs.Bits.{HaveFewBits}
-use Rattle.sum_reduce.specs.Overflows.{NamesSum, Overflows, hinders_numbers}
-use Rattle.sum_reduce.specs.Stages.{IsStage}
-use Rattle.sum_reduce.specs.Sums.{Takes}
-use Rattle.sum_reduce.specs.Terms.{AreFormed, is_loose}
 use Rattle.sum_reduce.proofs.Held.{held_equal, few_after, few_of_both}
 use Rattle.sum_reduce.proofs.Opened.{number_tight}
 use Rattle.sum_reduce.proofs.Places.{taken_permuted}
 use Rattle.sum_reduce.proofs.Stages.{none_permuted, formed_permuted, stage_after, stage_permuted, stage_same, stage_added}
 use Rattle.sum_reduce.proofs.Sums.{takes_rest}
+use Rattle.tree_handles.specs.declared.fault.NumberFault.TheVariants as fault
 
 -- Numbers among the terms were added to another: it is a Number, and none of the terms is
 pub record IsGathered (n : Tree) (ts : Trees) (m : Tree) (us : Trees) : Type 0 where

@@ -1,18 +1,8 @@
 -- Terms no two of which have identical parts have one order, and with a Number they are one tree.
-use Rattle.like_children.proofs.NumbersIn.{none_number}
-use Rattle.like_children.proofs.OneOrder.{rising_once}
-use Rattle.std.specs.Ordering.{is_lt}
 use Rattle.std.specs.Prelude.{IsSortedByKey}
 use Rattle.std.proofs.Common.{suc, arith, add-one, ◌≡◌, sym, ap, ◌∙◌}
-use Rattle.calc_algebra.specs.Numbers.{is_number}
-use Rattle.calc_algebra.specs.Reduced.{part_of, NoneIs, RisesBy}
-use Rattle.calc_algebra.specs.TreeOrder.{tree_cmp}
-use Rattle.calc_terms.specs.Trees.{Tree, Trees, none, more, append}
-use Rattle.calc_algebra.proofs.MeaningRewrites.{permuted_trans, Permuted-sym}
-use Rattle.calc_algebra.proofs.TreeOrderLaws.{tree_cmp_total}
-use Rattle.node_order.specs.Sorting.{list_of, IsSorting}
-use Rattle.sum_reduce.specs.Collected.{others_in, AreUnlike, IsWritten}
-use Rattle.sum_reduce.specs.Terms.{terms_of_number, sum_tree}
+use Rattle.sum_reduce.proofs.Shared.{none_number, is_lt, is_number, part_of, NoneIs, RisesBy, tree_cmp, Tree, Trees, none, more, append, permuted_trans, Permuted-sym, tree_cmp_total, list_of, IsSorting, others_in, AreUnlike, IsWritten, terms_of_number, sum_tree}
+use Rattle.like_children.proofs.OneOrder.{rising_once}
 use Rattle.sum_reduce.proofs.Rearranged.{of_lists, unlike_permuted}
 use Rattle.sum_reduce.proofs.Settled.{apart_parts, less_of}
 use Rattle.sum_reduce.proofs.Stages.{none_permuted}

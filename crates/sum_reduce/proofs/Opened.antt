@@ -1,20 +1,7 @@
 -- Sums among the terms are opened.
 use Rattle.std.proofs.Common.{◌≤◌, ◌≡◌, inl, inr, Bool, true, false, not, ◌&&◌, if◌then◌else◌, refl, sym, ap, ◌∙◌, subst, arith}
-use Rattle.std.proofs.lemmas.Bool.{and_parts}
-use Rattle.calc_measures.specs.Loads.{nest, nest_of}
-use Rattle.calc_algebra.specs.Numbers.{is_number, are_numbers}
-use Rattle.calc_algebra.specs.Reduced.{HasForm, IsSumForm, NoneIs}
-use Rattle.calc_terms.specs.Trees.{Tree, add, Trees, none, more, append, count, names, names_of, is_add, HasTwo, AllParts}
-use Rattle.calc_algebra.proofs.MeaningRewrites.{KeepsMeanings, KeepsMeanings-refl, KeepsMeanings-sum_append, flat_sum}
-use Rattle.calc_algebra.proofs.NumberLaws.{number_test}
-use Rattle.coefficients.proofs.Forms.{AllPartsOf-append}
-use Rattle.tree_handles.specs.Expressions.{children_of}
-use Rattle.like_children.proofs.NumbersIn.{append_none, count_append}
+use Rattle.sum_reduce.proofs.Shared.{and_parts, nest, nest_of, is_number, are_numbers, HasForm, IsSumForm, NoneIs, Tree, add, Trees, none, more, append, count, names, names_of, is_add, HasTwo, AllParts, KeepsMeanings, KeepsMeanings-refl, KeepsMeanings-sum_append, flat_sum, number_test, AllPartsOf-append, children_of, append_none, count_append, width, widths, AreFormed, is_loose, terms_of_loose, opened, Within, within_same, within_beside, within_trans, within_eq, within_both, within_none, names_of-append, nest-append}
 use Rattle.like_children.specs.Opening.{Opens}
-use Rattle.sum_reduce.specs.Stages.{width, widths}
-use Rattle.sum_reduce.specs.Terms.{AreFormed, is_loose, terms_of_loose, opened}
-use Rattle.calc_algebra.proofs.Names.{Within, within_same, within_beside, within_trans, within_eq, within_both, within_none, names_of-append}
-use Rattle.calc_measures.proofs.Nests.{nest-append}
 use Rattle.sum_reduce.proofs.Widths.{widths-append}
 
 -- ---- one tree

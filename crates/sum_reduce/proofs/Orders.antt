@@ -1,17 +1,10 @@
 -- From opened terms to terms in order.
 use Rattle.std.specs.Prelude.{Err}
 use Rattle.std.proofs.Common.{ℕ, ◌≤◌, ◌≡◌, true, refl, sym, ap, ◌∙◌, subst, arith}
-use Rattle.calc_measures.specs.PlainValues.{PlainValue, plain_value}
-use Rattle.calc_algebra.specs.Reduced.{NoneIs}
-use Rattle.calc_terms.specs.Trees.{num, add, Trees, none, more, append, count, are_rationals}
-use Rattle.tree_handles.specs.declared.fault.NumberFault.{NumberFault}
-use Rattle.tree_handles.specs.declared.fault.NumberFault.TheVariants as fault
-use Rattle.like_children.specs.Neighbours.{IsPairAt}
-use Rattle.sum_reduce.specs.Arranging.{IsFolded, AnswersFold, IsLead, IsArranged}
-use Rattle.sum_reduce.specs.Stages.{IsStage}
-use Rattle.sum_reduce.specs.Terms.{AreFormed, opened, is_loose, is_partner}
+use Rattle.sum_reduce.proofs.Shared.{PlainValue, plain_value, NoneIs, num, add, Trees, none, more, append, count, are_rationals, NumberFault, IsPairAt, IsFolded, AnswersFold, IsLead, IsArranged, IsStage, AreFormed, opened, is_loose, is_partner}
 use Rattle.sum_reduce.proofs.Opened.{number_tight}
 use Rattle.sum_reduce.proofs.Stages.{stage_opened}
+use Rattle.tree_handles.specs.declared.fault.NumberFault.TheVariants as fault
 
 pub opened_stage : (ts us : Trees) → AreFormed ts → 1 ≤ count ts → us ≡ opened ts → IsStage ts us
 opened_stage ts us f l e = subst (IsStage ts) (sym e) (stage_opened ts f l)

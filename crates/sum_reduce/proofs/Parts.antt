@@ -1,16 +1,9 @@
 -- The key of a term's part.
 use Rattle.std.proofs.Common.{ℕ, zero, suc, ◌≤◌, ◌≡◌, ◌≢◌, ◌⊎◌, inl, inr, eqb, cond, Bool, true, false, refl, sym, ap, ◌∙◌, arith}
-use Rattle.std.proofs.lemmas.Bool.{ne_eqb, eq-eqb}
-use Rattle.calc_algebra.specs.Numbers.{is_number}
-use Rattle.calc_algebra.specs.Reduced.{Split, split_product, product_tree, part_of, is_reduced}
-use Rattle.calc_terms.specs.Trees.{Tree, mult, Trees, none, more, count, is_mult}
-use Rattle.coefficients.specs.Coefficients.{coefficient_length}
+use Rattle.sum_reduce.proofs.Shared.{ne_eqb, eq-eqb, is_number, Split, split_product, product_tree, part_of, is_reduced, Tree, mult, Trees, none, more, count, is_mult, coefficient_length, plain, children_of, IsExpression, Forest, tree_at}
 use Rattle.coefficients.proofs.Lengths.{IsPairLed, IsMeasured, long, measured, some_factors, product_part}
 use Rattle.node_order.specs.declared.keys.Key.{Key}
 use Rattle.node_order.specs.Keys.{trees_behind, key_tree, IsKey}
-use Rattle.tree_handles.specs.Expressions.{plain, children_of, IsExpression}
-use Rattle.tree_handles.specs.Forest.{Forest}
-use Rattle.tree_handles.specs.Inside.{tree_at}
 
 whole_product : (t : Tree) → is_mult t ≡ true → 2 ≤ count (children_of t) → t ≡ product_tree (children_of t)
 whole_product (mult none) m l = absurd (omega arith)

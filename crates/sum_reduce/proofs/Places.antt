@@ -1,9 +1,6 @@
 -- Terms by their places.
 use Rattle.std.proofs.Common.{ℕ, zero, suc, ◌<◌, ◌≤◌, ◌+◌, ◌≡◌, refl, ap, arith}
-use Rattle.calc_terms.specs.Trees.{Tree, Trees, none, more, count}
-use Rattle.calc_algebra.proofs.MeaningRewrites.{Permuted, Permuted-refl, permuted_more, permuted_swap, permuted_trans}
-use Rattle.tree_handles.specs.Expressions.{nth, inserted}
-use Rattle.number_forms.specs.Sums.{removed}
+use Rattle.sum_reduce.proofs.Shared.{Tree, Trees, none, more, count, Permuted, Permuted-refl, permuted_more, permuted_swap, permuted_trans, nth, inserted, removed}
 
 -- ---- a term is taken out, or put in
 

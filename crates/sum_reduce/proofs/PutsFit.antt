@@ -1,39 +1,14 @@
 -- A rational coefficient that is held with a sum behind it goes into each term of that sum: nothing overflows.
 use Rattle.std.proofs.Common.{◌≡◌, ◌≢◌, ◌+◌, ◌*◌, ◌≤◌, ◌⊎◌, inl, inr, ℕ, List, [], ◌∷◌, ◌++◌, Bool, true, false, if◌then◌else◌, map, refl, sym, ap, ◌∙◌, subst, arith}
-use Rattle.calc_terms.specs.Fits.{fraction_fits, operation_fits}
-use Rattle.calc_terms.specs.Fractions.{Fraction, times, zero_fraction, is_zero_fraction}
+use Rattle.sum_reduce.proofs.Shared.{fraction_fits, operation_fits, Fraction, times, zero_fraction, is_zero_fraction, no_zero, Tree, num, add, mult, root, Trees, none, more, append, AllParts, AllPartsOf, IsTerm, AreTerms, is_number, is_radicand, term_of, terms_of, value, split, split_product, NoneIs, HasForm, IsProductForm, num_one, Term, Surd, term, surd_of, term_times, surd_times, IsProper, AreProper, terms_proper, value_proper, number_words, HasFewBits, IsHeld, held_left, held_right, coefficient_of, factors_of, IsMonic, Leads, LeadsIn, LeadsTerm, NamesPut, monic_sum, product_form_of, taken, monic_parts, parts_reduced, parts_defined, State, Overflow, HaveFewBits, not_from_false, nothing_held, distributed, Addend, addend, addend_of, addends, addends_of, OfOverflow, NumberFault}
 use Rattle.calc_terms.specs.Rat.{value_of}
-use Rattle.calc_terms.proofs.FractionFacts.{no_zero}
-use Rattle.calc_terms.specs.Trees.{Tree, num, add, mult, root, Trees, none, more, append, AllParts, AllPartsOf}
-use Rattle.calc_algebra.specs.Numbers.{IsTerm, AreTerms, is_number, is_radicand, term_of, terms_of, value}
-use Rattle.calc_algebra.specs.Reduced.{split, split_product, NoneIs, HasForm, IsProductForm, num_one}
-use Rattle.calc_algebra.specs.Surds.{Term, Surd, term, surd_of, term_times, surd_times}
-use Rattle.calc_algebra.proofs.NumberClasses.{IsProper, AreProper, terms_proper, value_proper}
-use Rattle.calc_algebra.proofs.NumberLaws.{number_words}
-use Rattle.calc_bits.specs.Bounds.{HasFewBits}
-use Rattle.calc_bits.specs.Masses.{IsHeld}
-use Rattle.calc_bits.proofs.Parts.{held_left, held_right}
-use Rattle.coefficients.specs.Coefficients.{coefficient_of, factors_of, IsMonic}
-use Rattle.coefficients.specs.Overflows.{Leads, LeadsIn, LeadsTerm, NamesPut}
-use Rattle.coefficients.proofs.Coefficients.{monic_sum, product_form_of, taken}
-use Rattle.coefficients.proofs.Factors.{monic_parts}
-use Rattle.coefficients.proofs.Forms.{parts_reduced, parts_defined}
-use Rattle.node_pool.specs.State.{State}
-use Rattle.rational128.specs.declared.overflow.Overflow.{Overflow}
 use Rattle.surd_bits.proofs.ProductsFit.{coefficients_fit}
-use Rattle.sum_reduce.specs.Bits.{HaveFewBits}
 use Rattle.number_forms.proofs.RationalBits.{rational_product_fits}
 use Rattle.rational128.specs.Refusals.{operation_of}
-use Rattle.std.proofs.lemmas.Bool.{not_from_false}
-use Rattle.tree_bits.proofs.Numbers.{nothing_held}
 use Rattle.sum_reduce.proofs.Addends.{IsSplit, split_sum, sum_addends, one_value, rational_value}
 use Rattle.sum_reduce.proofs.Held.{first_held, few_after, held_left_out, held_same, held_beside}
 use Rattle.sum_reduce.proofs.HeldFactors.{held_distributed}
-use Rattle.tree_bits.specs.Factors.{distributed}
-use Rattle.tree_bits.specs.HeldTrees.{Addend, addend, addend_of, addends, addends_of}
 use Rattle.tree_handles.specs.Causes.{IsCaused, Overflows}
-use Rattle.tree_handles.specs.Faults.{OfOverflow}
-use Rattle.tree_handles.specs.declared.fault.NumberFault.{NumberFault}
 use Rattle.tree_handles.specs.declared.fault.NumberFault.TheVariants as fault
 
 clash : true ≡ false → ⊥

@@ -1,16 +1,9 @@
 -- What is answered where all terms are rationals.
 use Rattle.std.specs.Prelude.{Err}
 use Rattle.std.proofs.Common.{◌≡◌, true, refl, sym, ap, ◌∙◌, subst}
-use Rattle.calc_measures.specs.PlainValues.{PlainValue, plain_value}
-use Rattle.calc_terms.specs.Trees.{Tree, num, add, Trees, none, more, is_add, are_rationals, has_undef}
-use Rattle.node_pool.specs.State.{State}
-use Rattle.number_forms.specs.Answers.{AnswersRationals}
+use Rattle.sum_reduce.proofs.Shared.{PlainValue, plain_value, Tree, num, add, Trees, none, more, is_add, are_rationals, has_undef, State, AnswersRationals, NumberFault, children_of, IsFolded, AnswersFold, written_tree}
 use Rattle.calc_measures.specs.PlainTrees.{IsPlainAnswer, IsPlainOverflow}
-use Rattle.tree_handles.specs.declared.fault.NumberFault.{NumberFault}
 use Rattle.tree_handles.specs.declared.fault.NumberFault.TheVariants as fault
-use Rattle.tree_handles.specs.Expressions.{children_of}
-use Rattle.sum_reduce.specs.Arranging.{IsFolded, AnswersFold}
-use Rattle.sum_reduce.specs.Terms.{written_tree}
 
 -- Undef is no rational
 pub undef_rationals : (ts : Trees) → are_rationals ts ≡ true → has_undef ts ≡ true → ⊥

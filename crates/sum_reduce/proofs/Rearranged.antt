@@ -1,24 +1,8 @@
 -- The terms of a sum that change places, are opened or added, with their Numbers and the others.
-use Rattle.std.specs.Ordering.{is_eq, ordering_reverse}
-use Rattle.std.specs.declared.cmp.Ordering.{Ordering}
-use Rattle.std.specs.declared.cmp.Ordering.TheVariants.{Less, Equal, Greater}
 use Rattle.std.specs.Prelude.{IsPermutation}
 use Rattle.std.proofs.Common.{◌≡◌, ◌≤◌, ◌++◌, [], ◌∷◌, Bool, true, false, ◌&&◌, not, if◌then◌else◌, refl, sym, ap, ◌∙◌, subst, arith, append_assoc}
+use Rattle.sum_reduce.proofs.Shared.{is_eq, ordering_reverse, Ordering, Less, Equal, Greater, is_number, value, part_of, NoneIs, Same, tree_cmp, Tree, Trees, none, more, append, count, Permuted, Permuted-refl, Permuted-sym, permuted_none, permuted_more, permuted_swap, permuted_trans, Permuted-append_right, Permuted-to_front, permuted_trees, trees_of, Same-Agree, Agree, Agree-refl, Agree-trans, Agree-eq, Agree-Same, Agree-append, append_comm, tree_cmp_total, list_of, number_in, number_out, numbers_in, others_in, sum_of_values, AreUnlike, IsRearranged, is_loose, is_partner, terms_of_loose, opened}
 use Rattle.std.proofs.lemmas.List.Sorted.{IsPermutation-refl, IsPermutation-cons, IsPermutation-middle, IsPermutation-trans}
-use Rattle.calc_algebra.specs.Numbers.{is_number, value}
-use Rattle.calc_algebra.specs.Reduced.{part_of, NoneIs}
-use Rattle.calc_algebra.specs.SquareClasses.{Same}
-use Rattle.calc_algebra.specs.TreeOrder.{tree_cmp}
-use Rattle.calc_terms.specs.Trees.{Tree, Trees, none, more, append, count}
-use Rattle.calc_algebra.proofs.MeaningRewrites.{Permuted, Permuted-refl, Permuted-sym, permuted_none, permuted_more, permuted_swap, permuted_trans, Permuted-append_right, Permuted-to_front, permuted_trees, trees_of}
-use Rattle.calc_algebra.proofs.SquareClassLaws.{Same-Agree}
-use Rattle.calc_algebra.proofs.SurdLaws.{Agree, Agree-refl, Agree-trans, Agree-eq, Agree-Same, Agree-append, append_comm}
-use Rattle.calc_algebra.proofs.TreeOrderLaws.{tree_cmp_total}
-use Rattle.node_order.specs.Sorting.{list_of}
-use Rattle.like_children.proofs.NumbersIn.{number_in, number_out}
-use Rattle.sum_reduce.specs.Collected.{numbers_in, others_in, sum_of_values, AreUnlike}
-use Rattle.sum_reduce.specs.Stages.{IsRearranged}
-use Rattle.sum_reduce.specs.Terms.{is_loose, is_partner, terms_of_loose, opened}
 use Rattle.sum_reduce.proofs.Opened.{tight_terms, number_tight}
 
 -- ---- lists of trees

@@ -1,40 +1,16 @@
 -- How many bytes the terms of a sum have while they are collected, and for how few at hand that is refused.
 use Rattle.std.proofs.Common.{◌≡◌, ℕ, suc, ◌+◌, ◌*◌, ◌^◌, ◌<◌, ◌≤◌, List, length, Bool, true, false, if◌then◌else◌, refl, ap, ◌∙◌, subst, arith}
-use Rattle.like_children.proofs.Parts.{first_parts, last_parts, permuted_parts}
-use Rattle.like_children.proofs.Kids.{count_removed, sizes_taken}
-use Rattle.std.proofs.lemmas.Bool.{and_from}
-use Rattle.std.proofs.lemmas.Nat.{pow_pos}
-use Rattle.calc_algebra.specs.Numbers.{is_number}
-use Rattle.calc_algebra.specs.Reduced.{NoneIs, are_reduced, num_one}
-use Rattle.calc_algebra.proofs.MeaningRewrites.{Permuted, permuted_none, permuted_more, permuted_swap, permuted_trans}
-use Rattle.calc_algebra.proofs.NumberLaws.{number_words}
-use Rattle.calc_room.specs.Counts.{counted, counted_among}
+use Rattle.sum_reduce.proofs.Shared.{first_parts, last_parts, permuted_parts, count_removed, sizes_taken, and_from, pow_pos, is_number, NoneIs, are_reduced, num_one, Permuted, permuted_none, permuted_more, permuted_swap, permuted_trans, number_words, counted, counted_among, SpansRoot, SpansTree, SpansTrees, one_fraction, Tree, add, mult, Trees, none, more, append, count, size, with_coefficient, put_room, parts_reduced, IsPairAt, State, free_of, removed, number_size, IsArranged, IsLead, AreLike, Collects, IsJoining, AreFormed, is_partner, nth, inserted, counted_in_all, sum_count}
 use Rattle.calc_room.specs.Needs.{sum_need}
-use Rattle.calc_room.specs.Spans.{SpansRoot, SpansTree, SpansTrees}
 use Rattle.calc_room.proofs.NumberBytes.{num_bytes}
-use Rattle.calc_terms.specs.Fractions.{one_fraction}
-use Rattle.calc_terms.specs.Trees.{Tree, add, mult, Trees, none, more, append, count, size}
 use Rattle.coefficients.specs.Bytes.{bytes_of_coefficient, bytes_of_taking, IsShort}
-use Rattle.coefficients.specs.Coefficients.{with_coefficient}
-use Rattle.coefficients.specs.Rooms.{put_room}
-use Rattle.coefficients.proofs.Forms.{parts_reduced}
-use Rattle.like_children.specs.Neighbours.{IsPairAt}
-use Rattle.node_pool.specs.State.{State, free_of}
 use Rattle.node_pool.specs.declared.full.Full.{Full}
-use Rattle.number_forms.specs.Sums.{removed}
-use Rattle.number_forms.proofs.Rooms.{number_size}
-use Rattle.sum_reduce.specs.Arranging.{IsArranged, IsLead}
-use Rattle.sum_reduce.specs.Collected.{AreLike, Collects}
-use Rattle.sum_reduce.specs.Joining.{IsJoining}
 use Rattle.sum_reduce.specs.Rooms.{terms_room}
-use Rattle.sum_reduce.specs.Terms.{AreFormed, is_partner}
 use Rattle.sum_reduce.proofs.CollectedCounts.{counted_in, collected_counts, put_counted}
 use Rattle.sum_reduce.proofs.CollectedParts.{part_parts}
 use Rattle.sum_reduce.proofs.CollectedSpans.{total_spans}
 use Rattle.sum_reduce.proofs.Places.{inserted_permuted, nth_behind_removed, taken_permuted}
 use Rattle.sum_reduce.proofs.Rearranged.{of_lists}
-use Rattle.tree_handles.specs.Expressions.{nth, inserted}
-use Rattle.tree_room.specs.Handed.{counted_in_all, sum_count}
 use Rattle.tree_room.specs.Needs.{tree_bytes, sum_room}
 use Rattle.tree_room.proofs.Coefficients.{part_counts}
 use Rattle.tree_room.proofs.Counts.{all_appended, counts_one, number_counts_one, numbers_and_others}

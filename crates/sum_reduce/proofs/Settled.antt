@@ -1,29 +1,8 @@
 -- What is answered for settled terms.
-use Rattle.std.specs.declared.cmp.Ordering.{Ordering}
-use Rattle.std.specs.declared.cmp.Ordering.TheVariants.{Less, Equal, Greater}
-use Rattle.std.specs.Ordering.{is_eq, is_lt, ordering_reverse}
 use Rattle.std.specs.Prelude.{⊤, IsSortedByKey}
 use Rattle.std.proofs.Common.{suc, ◌≤◌, arith, add-one, ◌≡◌, Bool, true, false, ◌&&◌, ◌||◌, not, if◌then◌else◌, refl, sym, ap, ◌∙◌, subst}
-use Rattle.std.proofs.lemmas.Bool.{and_parts}
-use Rattle.calc_terms.specs.Fractions.{zero_fraction}
-use Rattle.calc_measures.specs.Loads.{nest, nest_of}
-use Rattle.calc_algebra.specs.Numbers.{is_number, are_numbers}
-use Rattle.calc_algebra.specs.Reduced.{part_of, NoneIs, RisesBy, HasForm, is_reduced, are_reduced}
-use Rattle.calc_algebra.specs.TreeOrder.{tree_cmp}
-use Rattle.calc_terms.specs.Trees.{Tree, num, undef, add, Trees, none, more, append, count, names, names_of, is_add, is_undef, AllParts, in_add, has_undef}
-use Rattle.calc_algebra.proofs.MeaningRewrites.{KeepsMeanings, KeepsMeanings-refl, single_sum}
-use Rattle.calc_algebra.proofs.NumberLaws.{number_test, numbers_defined}
-use Rattle.calc_algebra.proofs.TreeOrderLaws.{tree_cmp_total}
+use Rattle.sum_reduce.proofs.Shared.{Ordering, Less, Equal, Greater, is_eq, is_lt, ordering_reverse, and_parts, zero_fraction, nest, nest_of, is_number, are_numbers, part_of, NoneIs, RisesBy, HasForm, is_reduced, are_reduced, tree_cmp, Tree, num, undef, add, Trees, none, more, append, count, names, names_of, is_add, is_undef, AllParts, in_add, has_undef, KeepsMeanings, KeepsMeanings-refl, single_sum, number_test, numbers_defined, tree_cmp_total, parts_reduced, parts_defined, reduced_parts, list_of, keeps, reduces_after, NoPairBetween, IsLead, IsSettled, IsStage, IsSumAnswer, AreFormed, is_loose, is_partner, terms_of_number, sum_tree, written_tree, Within, no_new_name, within_left, within_same, within_none}
 use Rattle.calc_algebra.proofs.UndefRewrites.{undef_part}
-use Rattle.coefficients.proofs.Forms.{parts_reduced, parts_defined, reduced_parts}
-use Rattle.node_order.specs.Sorting.{list_of}
-use Rattle.calc_algebra.proofs.Rewritings.{keeps, reduces_after}
-use Rattle.like_children.specs.Neighbours.{NoPairBetween}
-use Rattle.sum_reduce.specs.Arranging.{IsLead, IsSettled}
-use Rattle.sum_reduce.specs.Stages.{IsStage}
-use Rattle.sum_reduce.specs.SumAnswers.{IsSumAnswer}
-use Rattle.sum_reduce.specs.Terms.{AreFormed, is_loose, is_partner, terms_of_number, sum_tree, written_tree}
-use Rattle.calc_algebra.proofs.Names.{Within, no_new_name, within_left, within_same, within_none}
 use Rattle.sum_reduce.proofs.WrittenSums.{AreOthers, zero_terms, written_sum, written_formed, written_keeps, written_names, written_nest}
 use Rattle.tree_handles.proofs.UndefChildren.{undef_inside}
 

@@ -1,19 +1,7 @@
 -- Terms in the order of their parts.
 use Rattle.std.specs.Prelude.{IsSortedByKey}
 use Rattle.std.proofs.Common.{ℕ, zero, suc, ◌<◌, ◌≤◌, arith, ◌≡◌, List, [], ◌∷◌, take, drop, Bool, true, false, refl, sym, ap, ◌∙◌, subst}
-use Rattle.calc_algebra.specs.Numbers.{is_number}
-use Rattle.calc_algebra.specs.Reduced.{part_of, NoneIs, is_reduced}
-use Rattle.calc_algebra.specs.TreeOrder.{tree_cmp}
-use Rattle.calc_terms.specs.Trees.{Tree, Trees, none, more, append, count}
-use Rattle.calc_algebra.proofs.MeaningRewrites.{Permuted, permuted_none, permuted_more, permuted_swap, permuted_trans, Permuted-append_right, permuted_trees, trees_of}
-use Rattle.coefficients.proofs.Forms.{parts_reduced}
-use Rattle.node_order.specs.Sorting.{list_of, IsSorting, SortsChildren}
-use Rattle.tree_handles.specs.Expressions.{nth, plains}
-use Rattle.tree_handles.specs.Forest.{Forest, kids}
-use Rattle.tree_handles.specs.Roots.{root_tree}
-use Rattle.sum_reduce.specs.Arranging.{IsLead, IsLed, IsArranged}
-use Rattle.sum_reduce.specs.Sums.{terms_in, IsSum}
-use Rattle.sum_reduce.specs.Terms.{AreFormed, is_loose}
+use Rattle.sum_reduce.proofs.Shared.{is_number, part_of, NoneIs, is_reduced, tree_cmp, Tree, Trees, none, more, append, count, Permuted, permuted_none, permuted_more, permuted_swap, permuted_trans, Permuted-append_right, permuted_trees, trees_of, parts_reduced, list_of, IsSorting, SortsChildren, nth, plains, Forest, kids, root_tree, IsLead, IsLed, IsArranged, terms_in, IsSum, AreFormed, is_loose}
 use Rattle.sum_reduce.proofs.Stages.{none_permuted, count_permuted}
 use Rattle.sum_reduce.proofs.Sums.{sum_over, changed, IsChanged}
 

@@ -1,21 +1,6 @@
 -- From stage to stage of a sum.
 use Rattle.std.proofs.Common.{◌≤◌, ◌≡◌, ◌++◌, Bool, true, false, ◌&&◌, refl, sym, ap, ◌∙◌, arith}
-use Rattle.std.proofs.lemmas.Bool.{and_parts, and_from}
-use Rattle.calc_algebra.specs.Numbers.{is_number, value, are_numbers}
-use Rattle.calc_algebra.specs.Reduced.{NoneIs}
-use Rattle.calc_algebra.specs.SquareClasses.{Same}
-use Rattle.calc_terms.specs.Trees.{Tree, Trees, more, count, names, names_of}
-use Rattle.calc_algebra.proofs.MeaningRewrites.{Permuted, Permuted-refl, permuted_none, permuted_more, permuted_swap, permuted_trans, permuted_sum, joined_in_sum}
-use Rattle.calc_algebra.proofs.NumberLaws.{number_words}
-use Rattle.calc_algebra.proofs.NumberRewrites.{sum_of_numbers}
-use Rattle.calc_bits.specs.Denominators.{SharesDenominators}
-use Rattle.coefficients.proofs.Forms.{number_parts}
-use Rattle.calc_algebra.proofs.Rewritings.{keeps, Rewrites-trans}
-use Rattle.sum_reduce.specs.Collected.{collects_opened, collects_ordered, collects_numbers, collects_then}
-use Rattle.sum_reduce.specs.Stages.{IsStage}
-use Rattle.sum_reduce.specs.Terms.{AreFormed, opened}
-use Rattle.calc_algebra.proofs.Names.{no_new_name, within_both, within_trans, within_right, within_none, within_eq, names_permuted, number_names}
-use Rattle.calc_measures.proofs.Nests.{nest_permuted, nest_number}
+use Rattle.sum_reduce.proofs.Shared.{and_parts, and_from, is_number, value, are_numbers, NoneIs, Same, Tree, Trees, more, count, names, names_of, Permuted, Permuted-refl, permuted_none, permuted_more, permuted_swap, permuted_trans, permuted_sum, joined_in_sum, number_words, sum_of_numbers, SharesDenominators, number_parts, keeps, Rewrites-trans, collects_opened, collects_ordered, collects_numbers, collects_then, IsStage, AreFormed, opened, no_new_name, within_both, within_trans, within_right, within_none, within_eq, names_permuted, number_names, nest_permuted, nest_number}
 use Rattle.sum_reduce.proofs.Held.{held_after, held_permuted}
 use Rattle.sum_reduce.proofs.HeldTerms.{opened_held, added_held}
 use Rattle.sum_reduce.proofs.Opened.{opened_keeps, names_opened, nest_opened, widths_opened, opened_formed, opened_some, opened_numbers, opened_tight}

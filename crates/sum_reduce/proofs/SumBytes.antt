@@ -1,23 +1,9 @@
 -- Free bytes and those of a sum, from call to call.
 use Rattle.std.proofs.Common.{◌≡◌, ◌∙◌, ℕ, ◌+◌, ◌<◌, ◌≤◌, ap, arith, Bool, true, false, if◌then◌else◌}
-use Rattle.calc_terms.specs.Trees.{Tree, add, Trees, none, more, count, size, sizes}
-use Rattle.coefficients.proofs.Lacks.{sum_whole}
+use Rattle.sum_reduce.proofs.Shared.{Tree, add, Trees, none, more, count, size, sizes, sum_whole, State, free_of, is_number, sizes_taken, terms_in, IsSum, Changes, Takes, terms_of_loose, opened, without_put, plain, Forest, bytes_in, tree_of, root_tree, without_root, Stands, forest, KeepsRefusals, handed_beside, tree-without}
 use Rattle.coefficients.proofs.Rooms.{sizes_append}
-use Rattle.node_pool.specs.State.{State, free_of}
-use Rattle.calc_algebra.specs.Numbers.{is_number}
-use Rattle.like_children.proofs.Kids.{sizes_taken}
 use Rattle.like_children.proofs.Many.{all_bytes, handed_bytes}
-use Rattle.sum_reduce.specs.Sums.{terms_in, IsSum, Changes, Takes}
-use Rattle.sum_reduce.specs.Terms.{terms_of_loose, opened}
 use Rattle.sum_reduce.proofs.Sums.{IsOut, changes_rest, takes_rest, takes_handed, takes_apart}
-use Rattle.tree_handles.proofs.Over.{without_put}
-use Rattle.tree_handles.specs.Expressions.{plain}
-use Rattle.tree_handles.specs.Forest.{Forest, bytes_in}
-use Rattle.tree_handles.specs.Handed.{tree_of}
-use Rattle.tree_handles.specs.Roots.{root_tree, without_root}
-use Rattle.tree_handles.specs.Standing.{Stands, forest, KeepsRefusals}
-use Rattle.tree_handles.proofs.Given.{handed_beside}
-use Rattle.tree_handles.proofs.Roots.{tree-without}
 
 -- ---- the bytes of a forest
 

@@ -1,30 +1,13 @@
 -- Roots that are sums, from call to call.
 use Rattle.std.proofs.Common.{ℕ, ◌<◌, ◌≡◌, List, [], ◌∷◌, eqb, true, false, refl, sym, ap, ◌∙◌, subst, arith}
-use Rattle.calc_terms.specs.declared.kind.Kind.TheVariants as kind
-use Rattle.calc_terms.specs.Trees.{Tree, Trees, none, more, count, is_add}
-use Rattle.node_pool.specs.State.{State}
+use Rattle.sum_reduce.proofs.Shared.{Tree, Trees, none, more, count, is_add, State, IsOver, over_sum, over_handed, over_plain, over_put, over_same, over_end, over_beside, without_put, once_count, children_in, live, expression, seen, nth, plain, inserted, children_of, IsExpression, Forest, arity, kids, root_count, tree_nth, without_nth, with_nth, merged_nth, IsOnce, IsHanded, Represents, Ends, Gives, KeepsFront, holds, tree_at, kids_of, root_tree, without_root, Stands, forest, arity-tree_nth, IsBehind, behind_first, behind_later, behind_new, front_same, front_at, front_end, front_put, front_without, gives, gives_as, given_handed, given_root, given_rest, given_same, given_told, given_other, given_without, handed_by_put, represents_handed, represents_with, apart, ends_as, other_apart, kids_of_root, last_tree, eqb-sym, root-put, put-put, put-same, tree-put, without-put, represents_nth, represents_without, represents_merged, terms_in, IsSum, Changes, Takes, removed}
 use Rattle.coefficients.specs.Pairs.{GivesTwo}
-use Rattle.tree_handles.proofs.Over.{IsOver, over_sum, over_handed, over_plain, over_put, over_same, over_end, over_beside, without_put, once_count, children_in}
 use Rattle.tree_handles.proofs.Cuts.{represents_count}
-use Rattle.tree_handles.proofs.Seen.{live, expression, seen}
 use Rattle.tree_handles.proofs.Beside.{gives_put, gives_without}
-use Rattle.tree_handles.specs.Expressions.{nth, plain, inserted, children_of, IsExpression}
-use Rattle.tree_handles.specs.Forest.{Forest, arity, kids, root_count, tree_nth, without_nth, with_nth, merged_nth}
-use Rattle.tree_handles.specs.Handed.{IsOnce, IsHanded, Represents, Ends, Gives, KeepsFront}
-use Rattle.tree_handles.specs.Inside.{holds, tree_at, kids_of}
-use Rattle.tree_handles.specs.Roots.{root_tree, without_root, put}
-use Rattle.tree_handles.specs.Standing.{Stands, forest}
+use Rattle.tree_handles.specs.Roots.{put}
 use Rattle.tree_handles.proofs.Counted.{all-tree_nth}
-use Rattle.tree_handles.proofs.Forests.{arity-tree_nth}
-use Rattle.tree_handles.proofs.Fronts.{IsBehind, behind_first, behind_later, behind_new, front_same, front_at, front_end, front_put, front_without}
-use Rattle.tree_handles.proofs.Given.{gives, gives_as, given_handed, given_root, given_rest, given_same, given_told, given_other, given_without, handed_by_put, represents_handed, represents_with}
-use Rattle.tree_handles.proofs.Lasts.{apart, ends_as, other_apart, kids_of_root, last_tree}
-use Rattle.tree_handles.proofs.Outcomes.{eqb-sym}
-use Rattle.tree_handles.proofs.Roots.{root-put, put-put, put-same, tree-put, without-put}
 use Rattle.like_children.specs.Children.{LeavesChildren}
-use Rattle.like_children.proofs.Kids.{represents_nth, represents_without, represents_merged}
-use Rattle.sum_reduce.specs.Sums.{terms_in, IsSum, Changes, Takes}
-use Rattle.number_forms.specs.Sums.{removed}
+use Rattle.calc_terms.specs.declared.kind.Kind.TheVariants as kind
 
 -- ---- a sum
 

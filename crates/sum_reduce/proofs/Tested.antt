@@ -1,22 +1,6 @@
 -- Trees that the tests build.
 use Rattle.std.proofs.Common.{ℕ, zero, suc, ◌≡◌, List, inr, Bool, true, false, ◌&&◌, not, refl, sym, ap}
-use Rattle.std.proofs.lemmas.Bool.{and_parts, and_from}
-use Rattle.calc_algebra.specs.Numbers.{is_number}
-use Rattle.calc_algebra.specs.Reduced.{is_reduced, are_reduced}
-use Rattle.calc_terms.specs.Trees.{Tree, symbol, add, Trees, none, more, is_add}
-use Rattle.calc_algebra.proofs.NumberLaws.{number_words}
-use Rattle.coefficients.specs.Coefficients.{IsMonic}
-use Rattle.coefficients.proofs.Forms.{parts_reduced, number_parts}
-use Rattle.tree_handles.specs.Expressions.{plain, inserted, children_of}
-use Rattle.tree_handles.specs.Forest.{Forest, kids}
-use Rattle.tree_handles.specs.Handed.{Ends, Gives}
-use Rattle.tree_handles.specs.Roots.{root_tree, without_root}
-use Rattle.tree_handles.proofs.Given.{gives, gives_as, given_handed, given_told, represents_handed}
-use Rattle.tree_handles.proofs.Lasts.{last_tree}
-use Rattle.tree_handles.proofs.Roots.{put-same}
-use Rattle.tree_handles.proofs.Over.{over_end}
-use Rattle.sum_reduce.specs.Sums.{IsSum, terms_in}
-use Rattle.sum_reduce.specs.Terms.{is_loose}
+use Rattle.sum_reduce.proofs.Shared.{and_parts, and_from, is_number, is_reduced, are_reduced, Tree, symbol, add, Trees, none, more, is_add, number_words, IsMonic, parts_reduced, number_parts, plain, inserted, children_of, Forest, kids, Ends, Gives, root_tree, without_root, gives, gives_as, given_handed, given_told, represents_handed, last_tree, put-same, over_end, IsSum, terms_in, is_loose}
 use Rattle.sum_reduce.proofs.Sums.{IsRewritten, sum_over, over_is_sum, over_terms}
 
 clash : false ≡ true → ⊥

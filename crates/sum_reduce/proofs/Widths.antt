@@ -1,21 +1,6 @@
 -- The width of terms.
 use Rattle.std.proofs.Common.{suc, ◌+◌, ◌≤◌, ◌≡◌, ◌≢◌, ◌⊎◌, inl, inr, Bool, true, false, not, if◌then◌else◌, refl, sym, ap, ◌∙◌, subst, arith}
-use Rattle.calc_terms.specs.Fractions.{Fraction, zero_fraction, is_zero_fraction, is_one_fraction}
-use Rattle.calc_algebra.specs.Numbers.{is_number, is_radicand, IsNumber, IsTerm}
-use Rattle.calc_algebra.specs.Reduced.{split, split_product, product_tree, part_of, num_one, NoneIs, HasForm}
-use Rattle.calc_terms.specs.Trees.{Tree, num, add, mult, root, Trees, none, more, append, nodes, nodes_of, is_add, AllParts, AllPartsOf}
-use Rattle.calc_terms.proofs.FractionFacts.{no_zero}
-use Rattle.calc_algebra.proofs.MeaningRewrites.{Permuted, permuted_none, permuted_more, permuted_swap, permuted_trans}
-use Rattle.calc_algebra.proofs.NumberLaws.{number_test}
-use Rattle.coefficients.specs.Coefficients.{IsMonic, with_coefficient, rational_before}
-use Rattle.coefficients.specs.Multiples.{mapped, rational_times_term, rational_times_sum}
-use Rattle.coefficients.proofs.Coefficients.{put, zero_or_not, monic_sum}
-use Rattle.coefficients.proofs.Factors.{monic_no_number, monic_parts}
-use Rattle.coefficients.proofs.Forms.{number_of_term}
-use Rattle.coefficients.proofs.NumberMultiples.{IsFactor, scaled, not_one_is}
-use Rattle.coefficients.proofs.SumMultiples.{EachTerm, each_term}
-use Rattle.coefficients.proofs.TermMultiples.{multiple}
-use Rattle.sum_reduce.specs.Stages.{width, widths}
+use Rattle.sum_reduce.proofs.Shared.{Fraction, zero_fraction, is_zero_fraction, is_one_fraction, is_number, is_radicand, IsNumber, IsTerm, split, split_product, product_tree, part_of, num_one, NoneIs, HasForm, Tree, num, add, mult, root, Trees, none, more, append, nodes, nodes_of, is_add, AllParts, AllPartsOf, no_zero, Permuted, permuted_none, permuted_more, permuted_swap, permuted_trans, number_test, IsMonic, with_coefficient, rational_before, mapped, rational_times_term, rational_times_sum, put, zero_or_not, monic_sum, monic_no_number, monic_parts, number_of_term, IsFactor, scaled, not_one_is, EachTerm, each_term, multiple, width, widths}
 
 -- ---- one term
 

@@ -1,13 +1,6 @@
 -- The terms of a leading Number, and a sum of one term.
 use Rattle.std.proofs.Common.{nat_lt, ℕ, ◌≤◌, ◌<◌, ◌≡◌, Bool, true, false, if◌then◌else◌, refl, sym, ap, ◌∙◌, arith}
-use Rattle.std.proofs.lemmas.Bool.{ltb-true}
-use Rattle.tree_handles.proofs.Outcomes.{by_test}
-use Rattle.calc_algebra.specs.Numbers.{is_number}
-use Rattle.calc_terms.specs.Trees.{Tree, num, add, Trees, none, more, append, count, is_add}
-use Rattle.number_forms.specs.Readers.{is_zero}
-use Rattle.tree_handles.specs.Expressions.{nth, children_of}
-use Rattle.number_forms.specs.Sums.{removed}
-use Rattle.sum_reduce.specs.Terms.{terms_of_number, sum_tree, leads_number, written_tree}
+use Rattle.sum_reduce.proofs.Shared.{ltb-true, by_test, is_number, Tree, num, add, Trees, none, more, append, count, is_add, is_zero, nth, children_of, removed, terms_of_number, sum_tree, leads_number, written_tree}
 
 pub spread_zero : (t : Tree) (us : Trees) → is_zero t ≡ true → us ≡ append (terms_of_number t) us
 spread_zero (num q) us h = sym (ap (λ (b : Bool). append (if b then none else more (num q) none) us) h)

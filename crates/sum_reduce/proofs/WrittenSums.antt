@@ -1,18 +1,6 @@
 -- A Number's terms and other terms whose parts rise are a reduced sum, with the meanings, the names and the nest of its parts.
 use Rattle.std.proofs.Common.{◌≡◌, inl, inr, ◌≤◌, [], Bool, true, false, not, if◌then◌else◌, refl, sym, ap, ◌∙◌, subst, arith}
-use Rattle.calc_terms.specs.Fractions.{zero_fraction, is_zero_fraction}
-use Rattle.calc_measures.specs.Loads.{nest, nest_of}
-use Rattle.calc_algebra.specs.Numbers.{is_number, terms_of, IsNumber, IsTerm, AreTerms, Rises}
-use Rattle.calc_algebra.specs.Reduced.{part_of, number_terms, other_terms, HasForm, NoneIs, RisesBy}
-use Rattle.calc_terms.specs.Trees.{Tree, num, add, mult, root, Trees, none, more, append, names, names_of, AllParts, AllPartsOf, HasTwo, is_add}
-use Rattle.calc_algebra.proofs.MeaningRewrites.{KeepsMeanings, KeepsMeanings-refl, KeepsMeanings-eq, KeepsMeanings-trans, flat_sum, zero_goes, empty_sum, single_sum}
-use Rattle.calc_terms.proofs.FractionFacts.{zero_test, no_zero}
-use Rattle.calc_algebra.proofs.NumberLaws.{number_words}
-use Rattle.calc_algebra.proofs.NumberShapes.{AsNumber, as_number}
-use Rattle.coefficients.proofs.Forms.{term_test, no_term, AllPartsOf-append, terms_parts}
-use Rattle.sum_reduce.specs.Terms.{terms_of_number, sum_tree}
-use Rattle.calc_algebra.proofs.Names.{Within, within_same, within_both, within_beside, within_trans, within_left, within_none, within_eq, names_of-append}
-use Rattle.calc_measures.proofs.Nests.{nest-append}
+use Rattle.sum_reduce.proofs.Shared.{zero_fraction, is_zero_fraction, nest, nest_of, is_number, terms_of, IsNumber, IsTerm, AreTerms, Rises, part_of, number_terms, other_terms, HasForm, NoneIs, RisesBy, Tree, num, add, mult, root, Trees, none, more, append, names, names_of, AllParts, AllPartsOf, HasTwo, is_add, KeepsMeanings, KeepsMeanings-refl, KeepsMeanings-eq, KeepsMeanings-trans, flat_sum, zero_goes, empty_sum, single_sum, zero_test, no_zero, number_words, AsNumber, as_number, term_test, no_term, AllPartsOf-append, terms_parts, terms_of_number, sum_tree, Within, within_same, within_both, within_beside, within_trans, within_left, within_none, within_eq, names_of-append, nest-append}
 
 -- a Number's terms, and then the other terms
 abbrev pub written_sum : Tree → Trees → Tree

@@ -1,20 +1,10 @@
 -- What is held says of magnitudes over one common denominator.
 use Rattle.std.proofs.Common.{◌≡◌, ◌≢◌, ℕ, zero, suc, ◌+◌, ◌*◌, ◌^◌, ◌≤◌, ◌<◌, false, ℤ, pos, negsuc, refl, ap, ◌∙◌, arith}
 use Rattle.std.specs.Prelude.{nat_abs}
+use Rattle.surd_bits.proofs.Shared.{mul-le, pow-add, pow-le-pow_right, Fraction, times, whole_fraction, zero_fraction, mul_pos, zero_is, Term, square_le, magnitude_over, root_above, den_divides, abs_cross, magnitude_is, magnitude_times, magnitude_cross, root_enough, magnitudes_cross, square_held}
 use Rattle.std.specs.Int.{◌∣◌}
-use Rattle.std.proofs.lemmas.Nat.{mul-le, pow-add}
 use Rattle.std.proofs.lemmas.Bool.{false_from_ne_true}
-use Rattle.std.proofs.Math.Nat.{pow-le-pow_right}
-use Rattle.calc_terms.specs.Fractions.{Fraction, times, whole_fraction, zero_fraction, mul_pos}
 use Rattle.calc_terms.specs.Integers.{int_is_zero}
-use Rattle.calc_terms.proofs.FractionFacts.{zero_is}
-use Rattle.calc_algebra.specs.Surds.{Term}
-use Rattle.calc_algebra.proofs.SquareRootLaws.{square_le}
-use Rattle.calc_bits.specs.Denominators.{magnitude_over}
-use Rattle.calc_bits.specs.Masses.{root_above}
-use Rattle.calc_bits.proofs.Quotients.{den_divides, abs_cross, magnitude_is, magnitude_times, magnitude_cross}
-use Rattle.calc_bits.proofs.RootsAbove.{root_enough}
-use Rattle.calc_bits.proofs.Held.{magnitudes_cross, square_held}
 
 -- ---- powers of 2
 

@@ -1,20 +1,10 @@
 -- Inverses of what is held: the calculations fit, and how large they are.
 use Rattle.std.proofs.Common.{◌≡◌, ◌≢◌, ℕ, zero, suc, ◌+◌, ◌*◌, ◌≤◌, ◌<◌, ℤ, pos, negsuc, ◌+ℤ◌, ◌*ℤ◌, neg_ℤ, refl, sym, ap, ◌∙◌, subst, arith}
 use Rattle.std.specs.Prelude.{nat_abs}
+use Rattle.surd_bits.proofs.Shared.{ints, unsigned_abs-mul, dvd_trans, dvd-mul_left, Fraction, lowest, plus, times, negative, inverse, zero_fraction, one_fraction, lowest_parts, times_lowest, mul_pos, den_pos, gauss, cross_products, Term, inverse_times_itself, magnitude_over, cancel_right, coprime, den_divides, magnitude_is, magnitude_lowest, magnitude_cross, magnitude_times, times_den, multiple_den, whole_over, whole_over-abs, over_multiple, plus_over, square_of}
 use Rattle.std.specs.Int.{◌∣◌}
-use Rattle.std.proofs.lemmas.Int.{ints, unsigned_abs-mul}
-use Rattle.std.proofs.lemmas.Nat.Gcd.{dvd_trans}
-use Rattle.std.proofs.Math.Nat.{dvd-mul_left}
-use native.Mathlib.Nat.{mul_comm}
-use Rattle.calc_terms.specs.Fractions.{Fraction, lowest, plus, times, negative, inverse, zero_fraction, one_fraction, lowest_parts, times_lowest, mul_pos, den_pos}
-use Rattle.calc_terms.specs.Gcd.{gauss}
-use Rattle.calc_terms.proofs.FractionFacts.{cross_products}
-use Rattle.calc_algebra.specs.Surds.{Term}
-use Rattle.calc_algebra.proofs.InverseLaws.{inverse_times_itself}
-use Rattle.calc_bits.specs.Denominators.{magnitude_over}
-use Rattle.calc_bits.proofs.Quotients.{cancel_right, coprime, den_divides, magnitude_is, magnitude_lowest, magnitude_cross, magnitude_times, times_den, multiple_den, whole_over, whole_over-abs, over_multiple, plus_over}
-use Rattle.surd_terms.specs.Inverses.{square_of}
 use Rattle.surd_bits.proofs.Bounds.{magnitude_whole, magnitude_positive}
+use native.Mathlib.Nat.{mul_comm}
 
 -- ---- inverses of fractions
 

@@ -1,12 +1,9 @@
 -- The inverse of one term, and of the sum of two that are not alike, is no larger than its formula says.
 use Rattle.std.proofs.Common.{◌≡◌, ◌≢◌, ◌<◌, [], ◌∷◌, false, arith}
-use Rattle.calc_terms.specs.Fractions.{zero_fraction}
-use Rattle.calc_algebra.specs.SquareClasses.{are_alike}
-use Rattle.calc_algebra.specs.Surds.{Term}
+use Rattle.surd_bits.proofs.Shared.{zero_fraction, are_alike, Term, inverse_of, first_of_inverse, second_of_inverse}
 use Rattle.surd_bits.specs.Inverted.{IsNoLargerThanInverse}
 use Rattle.surd_bits.proofs.InversesFit.{inverse_held, inverse_of_sum_held}
 use Rattle.surd_bits.proofs.InversesMeasured.{MeasuredOne, measured_one, one_parts, one_scale, one_mass, inverse_one_by_one, Measured, measured, measured_parts, measured_scale, measured_mass, inverse_by_one}
-use Rattle.surd_terms.specs.Inverses.{inverse_of, first_of_inverse, second_of_inverse}
 
 pub one_no_larger : (a : Term) → a.coefficient ≢ zero_fraction → 0 < a.radicand → IsNoLargerThanInverse (a ∷ []) (inverse_of a ∷ [])
 one_no_larger a n p = record {

@@ -1,22 +1,9 @@
 -- Terms that are held within 124 bits can be joined.
 use Rattle.std.proofs.Common.{◌≡◌, ℕ, zero, suc, ◌+◌, ◌*◌, ◌/◌, ◌^◌, ◌≤◌, ◌<◌, [], ◌∷◌, Bool, true, false, pos, None, refl, sym, ap, ◌∙◌, subst, arith}
 use Rattle.std.specs.Prelude.{if◌then◌else◌}
+use Rattle.surd_bits.proofs.Shared.{mul-le, fraction_fits, sum_fits, gcd, are_alike, Term, square_root_is, square_le, magnitude_over, root_above, term_mass, IsHeld, multiple_fits, sum_fits_over, magnitudes_cross, cancel_le, multiple_den, root_enough, Add, calculation, first_misfit, scaled, scaling, joining_calculations}
 use Rattle.std.specs.Int.{◌∣◌}
-use Rattle.std.proofs.lemmas.Nat.{mul-le}
-use Rattle.calc_terms.specs.Fits.{fraction_fits, sum_fits}
-use Rattle.calc_terms.specs.Gcd.{gcd}
-use Rattle.calc_algebra.specs.SquareClasses.{are_alike}
 use Rattle.calc_algebra.specs.SquareRoots.{square_root}
-use Rattle.calc_algebra.specs.Surds.{Term}
-use Rattle.calc_algebra.proofs.SquareRootLaws.{square_root_is, square_le}
-use Rattle.calc_bits.specs.Denominators.{magnitude_over}
-use Rattle.calc_bits.specs.Masses.{root_above, term_mass, IsHeld}
-use Rattle.calc_bits.proofs.Fitting.{multiple_fits, sum_fits_over}
-use Rattle.calc_bits.proofs.Held.{magnitudes_cross}
-use Rattle.calc_bits.proofs.Quotients.{cancel_le, multiple_den}
-use Rattle.calc_bits.proofs.RootsAbove.{root_enough}
-use Rattle.rational128.specs.declared.overflow.Op.TheVariants.{Add}
-use Rattle.surd_terms.specs.Calculations.{calculation, first_misfit, scaled, scaling, joining_calculations}
 use Rattle.surd_bits.proofs.Passed.{passed}
 use Rattle.surd_bits.proofs.Bounds.{held_bound, power_fits, denominator_bound, magnitude_whole}
 

@@ -9,3 +9,4 @@ pub mod InversesMeasured
 pub mod Steps
 pub mod Inverted
 pub mod Rooted
+pub mod Shared

@@ -1,16 +1,7 @@
 -- Terms whose product is held within 124 bits can be multiplied.
 use Rattle.std.proofs.Common.{◌≡◌, ◌≢◌, ℕ, zero, suc, ◌+◌, ◌*◌, ◌/◌, ◌^◌, ◌≤◌, ◌<◌, [], ◌∷◌, true, pos, ◌*ℤ◌, sym, ap, subst, arith}
+use Rattle.surd_bits.proofs.Shared.{mul-le, fraction_fits, times, whole_fraction, zero_fraction, times_lowest, Term, term_times, product_not_zero, square_le, magnitude_over, term_mass, IsHeld, multiple_fits, quotient_fits, multiple_den}
 use Rattle.std.specs.Int.{◌∣◌}
-use Rattle.std.proofs.lemmas.Nat.{mul-le}
-use Rattle.calc_terms.specs.Fits.{fraction_fits}
-use Rattle.calc_terms.specs.Fractions.{times, whole_fraction, zero_fraction, times_lowest}
-use Rattle.calc_algebra.specs.Surds.{Term, term_times}
-use Rattle.calc_algebra.proofs.InverseLaws.{product_not_zero}
-use Rattle.calc_algebra.proofs.SquareRootLaws.{square_le}
-use Rattle.calc_bits.specs.Denominators.{magnitude_over}
-use Rattle.calc_bits.specs.Masses.{term_mass, IsHeld}
-use Rattle.calc_bits.proofs.Fitting.{multiple_fits, quotient_fits}
-use Rattle.calc_bits.proofs.Quotients.{multiple_den}
 use Rattle.surd_bits.proofs.Bounds.{held_bound, square_bound, power_fits, denominator_bound, magnitude_whole, magnitude_positive, one_held, root_at_most}
 
 quotient_at_most : (r g : ℕ) → r / g ≤ r

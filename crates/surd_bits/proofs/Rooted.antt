@@ -1,22 +1,11 @@
 -- The root of a rational of at least 0 is no larger than the rational.
 use Rattle.std.proofs.Common.{◌≡◌, ◌≢◌, ℕ, ◌+◌, ◌*◌, ◌^◌, ◌≤◌, ◌<◌, max, [], ◌∷◌, Bool, if◌then◌else◌, sym, ap, ◌∙◌, subst, arith}
 use Rattle.std.specs.Prelude.{nat_abs}
-use Rattle.std.proofs.lemmas.Nat.{mul-le, pow_pos}
-use Rattle.std.proofs.lemmas.Nat.Gcd.{le_of_dvd}
+use Rattle.surd_bits.proofs.Shared.{mul-le, pow_pos, le_of_dvd, Term, Surd, surd_of, square_le, magnitude_over, root_above, IsHeld, IsHeldByOne, cancel_le, magnitude_cross, root_enough, root_least, Fraction, zero_fraction, den_pos, zero_test, parts_of, IsRootTerm}
 use Rattle.calc_algebra.specs.Numbers.{value}
-use Rattle.calc_algebra.specs.Surds.{Term, Surd, surd_of}
-use Rattle.calc_algebra.proofs.SquareRootLaws.{square_le}
-use Rattle.calc_bits.specs.Denominators.{magnitude_over}
-use Rattle.calc_bits.specs.Masses.{root_above, IsHeld, IsHeldByOne}
-use Rattle.calc_bits.proofs.Quotients.{cancel_le, magnitude_cross}
-use Rattle.calc_bits.proofs.RootsAbove.{root_enough, root_least}
-use Rattle.calc_terms.specs.Fractions.{Fraction, zero_fraction, den_pos}
 use Rattle.calc_terms.specs.Trees.{num}
-use Rattle.calc_terms.proofs.FractionFacts.{zero_test}
-use Rattle.surd_bits.specs.Proper.{parts_of}
 use Rattle.surd_bits.specs.Rooted.{IsNoLargerThanRoot}
 use Rattle.surd_bits.proofs.RootsFit.{root_parts, root_magnitude, root_mass, root_held}
-use Rattle.surd_terms.specs.SquareRoots.{IsRootTerm}
 
 as_rational : (q : Fraction) → q ≢ zero_fraction → value (num q) ≡ surd_of q
 as_rational q n = ap (λ (b : Bool). if b then [] else surd_of q) (zero_test q n)

@@ -1,23 +1,9 @@
 -- The root of a rational that is held.
 use Rattle.std.proofs.Common.{◌≡◌, ℕ, ◌+◌, ◌*◌, ◌^◌, ◌≤◌, ◌<◌, max, [], ◌∷◌, pos, ◌*ℤ◌, None, refl, sym, ap, ◌∙◌, subst, arith}
 use Rattle.std.specs.Prelude.{nat_abs}
+use Rattle.surd_bits.proofs.Shared.{unsigned_abs-mul, mul-le, pow-add, pow_pos, le_of_dvd, Fraction, times, whole_fraction, times_lowest, den_pos, Term, surd_of, term, square_le, magnitude_over, root_above, term_mass, mass, IsHeld, quotient_fits, cancel_le, den_divides, magnitude_lowest, magnitude_cross, root_enough, root_least, Mul, calculation, first_misfit, root_calculations, IsRootTerm, parts_of}
 use Rattle.std.specs.Int.{◌∣◌}
-use Rattle.std.proofs.lemmas.Int.{unsigned_abs-mul}
-use Rattle.std.proofs.lemmas.Nat.{mul-le, pow-add, pow_pos}
-use Rattle.std.proofs.lemmas.Nat.Gcd.{le_of_dvd}
-use Rattle.calc_terms.specs.Fractions.{Fraction, times, whole_fraction, times_lowest, den_pos}
-use Rattle.calc_algebra.specs.Surds.{Term, surd_of, term}
-use Rattle.calc_algebra.proofs.SquareRootLaws.{square_le}
-use Rattle.calc_bits.specs.Denominators.{magnitude_over}
-use Rattle.calc_bits.specs.Masses.{root_above, term_mass, mass, IsHeld}
-use Rattle.calc_bits.proofs.Fitting.{quotient_fits}
-use Rattle.calc_bits.proofs.Quotients.{cancel_le, den_divides, magnitude_lowest, magnitude_cross}
-use Rattle.calc_bits.proofs.RootsAbove.{root_enough, root_least}
-use Rattle.rational128.specs.declared.overflow.Op.TheVariants.{Mul}
-use Rattle.surd_terms.specs.Calculations.{calculation, first_misfit, root_calculations}
-use Rattle.surd_terms.specs.SquareRoots.{IsRootTerm}
 use Rattle.surd_bits.proofs.Passed.{passed}
-use Rattle.surd_bits.specs.Proper.{parts_of}
 use Rattle.surd_bits.proofs.Bounds.{power_fits}
 
 -- p is at most q * 2 ^ h

@@ -1,10 +1,7 @@
 -- Common denominators stay those of what is joined or multiplied.
 use Rattle.std.proofs.Common.{ℕ, [], ◌∷◌, pos, sym, subst}
+use Rattle.surd_bits.proofs.Shared.{Term, times, whole_fraction, Parts, plus_den, multiple_den}
 use Rattle.std.specs.Int.{◌∣◌}
-use Rattle.calc_algebra.specs.Surds.{Term}
-use Rattle.calc_terms.specs.Fractions.{times, whole_fraction}
-use Rattle.calc_bits.specs.Denominators.{Parts}
-use Rattle.calc_bits.proofs.Quotients.{plus_den, multiple_den}
 use Rattle.surd_terms.specs.Products.{IsExtracted}
 use Rattle.surd_terms.specs.Sums.{IsSum}
 

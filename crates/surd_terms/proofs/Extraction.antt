@@ -1,11 +1,7 @@
 -- Square parts of p * q, for the root of p/q.
 use Rattle.std.proofs.Common.{◌≡◌, ◌≢◌, ℕ, zero, suc, ◌*◌, ◌<◌, ◌≤◌, ◌^◌, ℤ, pos, negsuc, ◌<ℤ◌, [], ◌∷◌, refl, sym, ◌∙◌, arith, lt_of_le_of_lt}
 use Rattle.std.specs.Prelude.{nat_abs}
-use Rattle.std.proofs.lemmas.Int.{ints}
-use Rattle.calc_terms.specs.Fractions.{Fraction, quotient, zero_fraction, mul_pos}
-use Rattle.calc_algebra.specs.Meanings.{IsRootOf}
-use Rattle.calc_algebra.specs.Surds.{term}
-use Rattle.calc_terms.proofs.FractionFacts.{cross_products}
+use Rattle.surd_terms.proofs.Shared.{ints, Fraction, quotient, zero_fraction, mul_pos, IsRootOf, term, cross_products}
 use Rattle.calc_algebra.proofs.NumberRewrites.{root_extracted}
 use Rattle.surd_terms.proofs.Radicands.{part_at_most}
 

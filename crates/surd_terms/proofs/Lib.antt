@@ -5,3 +5,4 @@ pub mod Extraction
 pub mod Misfits
 pub mod WholeFactors
 pub mod ProductMisfits
+pub mod Shared

@@ -1,23 +1,12 @@
 -- Which of some calculations is the first that does not fit.
 use Rattle.std.proofs.Common.{◌≡◌, true, false, ℕ, ◌*◌, ◌/◌, ◌≤◌, Bool, List, [], ◌∷◌, ◌++◌, Option, Some, None, Result, Ok, Err, refl, sym, ap, ◌∙◌, subst, arith}
 use Rattle.std.specs.Prelude.{if◌then◌else◌, ◌↔◌, IsErr, IfOk, IfErr, IsErrAnd}
-use Rattle.std.specs.Int.{IsGcd, ◌∣◌}
-use Rattle.std.proofs.Math.Nat.{mul-div_cancel_left}
-use Rattle.std.proofs.lemmas.Nat.Gcd.{same_from_IsGcd, dvd_refl}
-use Rattle.calc_terms.specs.Fits.{fraction_fits}
-use Rattle.calc_terms.specs.Fractions.{Fraction}
-use Rattle.calc_terms.specs.Gcd.{gcd, gcd_is}
-use Rattle.calc_terms.specs.Rat.{value_of}
-use Rattle.calc_terms.specs.declared.rat.Rat.{Rat}
-use Rattle.calc_algebra.specs.SquareClasses.{are_alike}
+use Rattle.surd_terms.proofs.Shared.{IsGcd, mul-div_cancel_left, same_from_IsGcd, dvd_refl, fraction_fits, Fraction, gcd, gcd_is, value_of, Rat, are_alike, Term, Add, Mul, Overflow, Calculation, calculation, does_fit, first_misfit, calculation_of, misfit_of, scaled, scaling, joining_calculations}
+use Rattle.std.specs.Int.{◌∣◌}
 use Rattle.calc_algebra.specs.SquareRoots.{square_root}
-use Rattle.calc_algebra.specs.Surds.{Term}
 use Rattle.calc_algebra.proofs.SquareRootLaws.{square_root-square}
 use Rattle.rational128.specs.Refusals.{DoesNotFit}
 use Rattle.rational128.specs.declared.overflow.Op.{Op}
-use Rattle.rational128.specs.declared.overflow.Op.TheVariants.{Add, Mul}
-use Rattle.rational128.specs.declared.overflow.Overflow.{Overflow}
-use Rattle.surd_terms.specs.Calculations.{Calculation, calculation, does_fit, first_misfit, calculation_of, misfit_of, scaled, scaling, joining_calculations}
 use Rattle.surd_terms.proofs.Values.{alike_itself, times_whole_one}
 
 fits_from : (b : Bool) → (b ≡ false → false ≡ true) → b ≡ true

@@ -1,18 +1,7 @@
 -- What the product of two terms is refused for.
 use Rattle.std.proofs.Common.{◌≡◌, ◌≢◌, true, false, ℕ, zero, suc, ◌*◌, ◌/◌, ◌≤◌, ◌⊎◌, inl, inr, Bool, List, [], ◌∷◌, Option, Some, None, Result, pos, refl, sym, ap, ◌∙◌, subst, arith}
 use Rattle.std.specs.Prelude.{if◌then◌else◌, ◌||◌, ◌==◌, IsErr, IsErrAnd}
-use Rattle.std.specs.Int.{IsGcd}
-use Rattle.std.proofs.lemmas.Bool.{eq-eqb, ne_eqb}
-use Rattle.std.proofs.Math.Nat.{one-dvd}
-use Rattle.calc_algebra.specs.Clean.{IsClean}
-use Rattle.calc_algebra.specs.Surds.{Term}
-use Rattle.calc_terms.specs.Fits.{fraction_fits}
-use Rattle.calc_terms.specs.Gcd.{gcd}
-use Rattle.calc_terms.specs.Fractions.{Fraction, whole_fraction, times}
-use Rattle.rational128.specs.declared.overflow.Op.TheVariants.{Mul}
-use Rattle.rational128.specs.declared.overflow.Overflow.{Overflow}
-use Rattle.surd_terms.specs.Calculations.{Calculation, calculation, does_fit, first_misfit, has_rational, radicand_calculations, cancelled_calculations, IsCancelled, IsCancelledMisfit, IsProductMisfit, calculation_of, misfit_of}
-use Rattle.surd_terms.specs.Products.{HasRational}
+use Rattle.surd_terms.proofs.Shared.{IsGcd, eq-eqb, ne_eqb, one-dvd, IsClean, Term, fraction_fits, gcd, Fraction, whole_fraction, times, Mul, Overflow, Calculation, calculation, does_fit, first_misfit, has_rational, radicand_calculations, cancelled_calculations, IsCancelled, IsCancelledMisfit, IsProductMisfit, calculation_of, misfit_of, HasRational}
 use Rattle.surd_terms.proofs.Misfits.{passed, refused_for}
 use Rattle.surd_terms.proofs.Values.{times_whole_one}
 use Rattle.surd_terms.proofs.WholeFactors.{cancelled_misfit}

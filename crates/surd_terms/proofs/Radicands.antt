@@ -1,11 +1,9 @@
 -- Clean radicands, and how large the parts of a radicand are.
 use Rattle.std.proofs.Common.{◌≡◌, ℕ, zero, suc, ◌*◌, ◌/◌, ◌<◌, ◌≤◌, ◌^◌, sym, ap, ◌∙◌, arith, mul-le-mul, lt_of_le_of_lt}
-use Rattle.std.specs.Int.{IsGcd, ◌∣◌}
-use Rattle.std.proofs.Math.Nat.{mul-div_cancel', dvd-zero}
-use native.Mathlib.Nat.{pos_of_dvd_of_pos}
-use Rattle.calc_algebra.specs.Clean.{IsClean}
-use Rattle.calc_terms.specs.Fractions.{mul_pos}
+use Rattle.surd_terms.proofs.Shared.{IsGcd, mul-div_cancel', dvd-zero, IsClean, mul_pos}
+use Rattle.std.specs.Int.{◌∣◌}
 use Rattle.square_parts.proofs.LeftOf.{left_of_is}
+use native.Mathlib.Nat.{pos_of_dvd_of_pos}
 
 -- a clean number is at least 1
 pub clean_positive : (r : ℕ) → IsClean r → 1 ≤ r

@@ -1,15 +1,7 @@
 -- Rationals of the code that are not 0, and whole ones.
 use Rattle.std.proofs.Common.{◌≡◌, true, ◌≢◌, ℕ, zero, suc, ◌*◌, ◌≤◌, ℤ, pos, sym, ap, ◌∙◌, arith}
-use Rattle.calc_terms.specs.Fits.{fraction_fits}
-use Rattle.calc_terms.specs.FractionLaws.{times_comm, one_times}
-use Rattle.calc_terms.specs.Fractions.{Fraction, lowest, times, zero_fraction, one_fraction, times_lowest, whole_fraction}
-use Rattle.calc_terms.specs.Integers.{int_is_zero}
-use Rattle.calc_terms.specs.Rat.{ratio_of, value_of}
+use Rattle.surd_terms.proofs.Shared.{fraction_fits, times_comm, one_times, Fraction, lowest, times, zero_fraction, one_fraction, times_lowest, whole_fraction, int_is_zero, ratio_of, value_of, Rat, zero_is, whole_numerator, ratio_parts, parts_fit}
 use Rattle.calc_terms.specs.Ratio.{Ratio, whole}
-use Rattle.calc_terms.specs.declared.rat.Rat.{Rat}
-use Rattle.calc_terms.proofs.FractionFacts.{zero_is, whole_numerator}
-use Rattle.rational128.proofs.LowestTerms.{ratio_parts}
-use Rattle.rational128.proofs.Products.{parts_fit}
 
 -- a rational whose numerator is not 0 is not 0
 pub value_not_zero : (r : Rat) → (ratio_of r).num ≢ pos 0 → value_of r ≢ zero_fraction

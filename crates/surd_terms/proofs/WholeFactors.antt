@@ -1,24 +1,11 @@
 -- A whole number cancelled against the denominators of two fractions.
 use Rattle.std.proofs.Common.{◌≡◌, true, false, ◌≢◌, ℕ, zero, suc, ◌*◌, ◌/◌, ◌<◌, ◌≤◌, ◌^◌, ℤ, pos, ◌*ℤ◌, Bool, Option, Some, None, [], ◌∷◌, refl, sym, ap, ◌∙◌, subst, arith}
 use Rattle.std.specs.Prelude.{nat_abs, if◌then◌else◌}
-use Rattle.std.proofs.lemmas.Bool.{and_parts, ltb-true}
-use Rattle.std.specs.Int.{IsGcd, ◌∣◌}
-use Rattle.std.proofs.lemmas.Int.{ints, unsigned_abs-mul}
-use Rattle.std.proofs.lemmas.Nat.Gcd.{dvd_refl, dvd_trans}
-use Rattle.std.proofs.Math.Nat.{mul-div_cancel', mul-div_cancel_left, dvd-mul_right, dvd-mul_left, mul-dvd-mul, pos_of_dvd_of_pos}
-use native.Mathlib.Nat.{div-mul_cancel, mul-one}
-use Rattle.calc_terms.specs.FractionLaws.{times_comm, times_assoc}
-use Rattle.calc_terms.specs.Fits.{fraction_fits}
-use Rattle.calc_terms.specs.Fractions.{Fraction, lowest, times, whole_fraction, times_lowest, lowest_parts, den_pos, same_lowest, is_lowest, mul_pos}
-use Rattle.calc_terms.specs.Gcd.{gcd, gcd_is}
-use Rattle.calc_terms.specs.Integers.{parts, diffs, eq_diff}
-use Rattle.rational128.proofs.Coprime.{IsCoprime, IsCoprime-swap, IsGcd-from_coprime, IsCoprime-divisors, IsCoprime-mul, quotients_coprime, factor_divides, positive_factor}
-use Rattle.rational128.proofs.LowestTerms.{HasParts, parts_by_cross, parts_themselves, fraction_coprime, is_lowest_from}
-use Rattle.rational128.proofs.Products.{unfit_num, unfit_den, parts_fit}
-use Rattle.rational128.specs.declared.overflow.Op.TheVariants.{Mul}
-use Rattle.surd_terms.specs.Calculations.{Calculation, calculation, does_fit, first_misfit, IsCancelled, cancelled_calculations, IsCancelledMisfit}
+use Rattle.surd_terms.proofs.Shared.{and_parts, ltb-true, IsGcd, ints, unsigned_abs-mul, dvd_refl, dvd_trans, mul-div_cancel', mul-div_cancel_left, dvd-mul_right, dvd-mul_left, mul-dvd-mul, pos_of_dvd_of_pos, times_comm, times_assoc, fraction_fits, Fraction, lowest, times, whole_fraction, times_lowest, lowest_parts, den_pos, same_lowest, is_lowest, mul_pos, gcd, gcd_is, parts, diffs, eq_diff, IsCoprime, IsCoprime-swap, IsGcd-from_coprime, IsCoprime-divisors, IsCoprime-mul, quotients_coprime, factor_divides, positive_factor, HasParts, parts_by_cross, parts_themselves, fraction_coprime, is_lowest_from, unfit_num, unfit_den, parts_fit, Mul, Calculation, calculation, does_fit, first_misfit, IsCancelled, cancelled_calculations, IsCancelledMisfit}
+use Rattle.std.specs.Int.{◌∣◌}
 use Rattle.surd_terms.proofs.Misfits.{passed}
 use Rattle.surd_terms.proofs.Rationals.{whole_times}
+use native.Mathlib.Nat.{div-mul_cancel, mul-one}
 
 -- ---- times a whole number
 

@@ -1,12 +1,6 @@
 -- Sums of several trees.
 use Rattle.std.proofs.Common.{◌≡◌, ℕ, ◌+◌, ◌*◌, ◌^◌, ◌≤◌, List, [], ◌∷◌, ◌++◌, true, false, arith}
-use Rattle.std.proofs.lemmas.Nat.{mul-le, pow-add}
-use Rattle.std.proofs.Math.Nat.{pow-le-pow_right}
-use Rattle.calc_measures.specs.Measures.{HighLow}
-use Rattle.calc_terms.specs.Trees.{Tree, Trees, none, more, count, is_undef}
-use Rattle.tree_bits.specs.Children.{IsSumHeld, addends_of_each, AreTreesHeld, power_sum, largest_high, low_sum}
-use Rattle.tree_bits.specs.HeldTrees.{Addend, addends, IsTreeHeld, undef_held, sum_held, AreWeighted, none_weighted, more_weighted}
-use Rattle.tree_bits.specs.Weighted.{Weighted}
+use Rattle.tree_bits.proofs.Shared.{mul-le, pow-add, pow-le-pow_right, HighLow, Tree, Trees, none, more, count, is_undef, IsSumHeld, addends_of_each, AreTreesHeld, power_sum, largest_high, low_sum, Addend, addends, IsTreeHeld, undef_held, sum_held, AreWeighted, none_weighted, more_weighted, Weighted}
 use Rattle.tree_bits.proofs.Sums.{AreWithin, are_within, held_within, sums_within}
 
 pub tree_as_sum : {t : Tree} {h l : ℕ} → is_undef t ≡ false → IsTreeHeld t h l → IsSumHeld (addends t) h l

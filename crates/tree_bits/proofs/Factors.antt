@@ -1,23 +1,6 @@
 -- Trees as factors, products, and coefficients that are distributed.
 use Rattle.std.proofs.Common.{◌≡◌, ℕ, ◌+◌, ◌*◌, ◌^◌, ◌-◌, ◌≤◌, List, [], ◌∷◌, Bool, true, false, if◌then◌else◌, not, negsuc, refl, sym, ap, ◌∙◌, subst, arith}
-use Rattle.std.proofs.lemmas.Nat.{mul-le, pow-add}
-use Rattle.calc_algebra.specs.Numbers.{is_number, value}
-use Rattle.calc_algebra.specs.Surds.{Surd, term, surd_one, surd_times}
-use Rattle.calc_bits.specs.Denominators.{Parts, magnitude_over}
-use Rattle.calc_bits.specs.Masses.{root_above, mass, IsHeld}
-use Rattle.calc_bits.proofs.Held.{two_powers}
-use Rattle.calc_bits.proofs.MassLaws.{parts_times, mass_times}
-use Rattle.calc_bits.proofs.Quotients.{abs_cross, den_divides, magnitude_is}
-use Rattle.calc_bits.proofs.RootsAbove.{root_least}
-use Rattle.calc_measures.specs.Measures.{HighLow}
-use Rattle.calc_terms.specs.Fractions.{lowest, one_fraction, minus_one_fraction, mul_pos}
-use Rattle.calc_algebra.specs.Reduced.{num_one}
-use Rattle.calc_terms.specs.Trees.{Tree, symbol, root, add, Trees, none, more, is_add, is_undef}
-use Rattle.tree_bits.specs.Exponents.{Counts, counts, counts_of}
-use Rattle.tree_bits.specs.Children.{IsSumHeld, AreTreesHeld, ArePositive, high_sum, low_sum}
-use Rattle.tree_bits.specs.Factors.{as_factor, multiplied, product_of, distributed, surd_minus_one}
-use Rattle.tree_bits.specs.HeldTrees.{Addend, addend, addend_of, addends, base_in, exponent_in, power_high, power_low, IsTreeHeld, AreWeighted, none_weighted, more_weighted, IsPartHeld, no_factor_held, factor_held, IsBaseHeld, symbol_held, root_held, tree_held}
-use Rattle.tree_bits.specs.Weighted.{Weighted, weighted, PartsAll, lows, weighted_mass, AreHeld}
+use Rattle.tree_bits.proofs.Shared.{mul-le, pow-add, is_number, value, Surd, term, surd_one, surd_times, Parts, magnitude_over, root_above, mass, IsHeld, two_powers, parts_times, mass_times, abs_cross, den_divides, magnitude_is, root_least, HighLow, lowest, one_fraction, minus_one_fraction, mul_pos, num_one, Tree, symbol, root, add, Trees, none, more, is_add, is_undef, Counts, counts, counts_of, IsSumHeld, AreTreesHeld, ArePositive, high_sum, low_sum, as_factor, multiplied, product_of, distributed, surd_minus_one, Addend, addend, addend_of, addends, base_in, exponent_in, power_high, power_low, IsTreeHeld, AreWeighted, none_weighted, more_weighted, IsPartHeld, no_factor_held, factor_held, IsBaseHeld, symbol_held, root_held, tree_held, Weighted, weighted, PartsAll, lows, weighted_mass, AreHeld}
 use Rattle.tree_bits.proofs.Children.{tree_as_sum, sum_as_tree}
 use Rattle.tree_bits.proofs.HeldTrees.{parts_multiply}
 use Rattle.tree_bits.proofs.Numbers.{alone}

@@ -1,11 +1,7 @@
 -- The bits of the parts of a tree, and highs of at least 1.
 use Rattle.std.proofs.Common.{◌≡◌, ℕ, suc, ◌+◌, ◌*◌, ◌≤◌, max, ℤ, pos, negsuc, Bool, true, false, if◌then◌else◌, refl, arith}
-use Rattle.std.proofs.lemmas.Nat.{mul-le}
 use Rattle.std.specs.Prelude.{Option, Some, None}
-use Rattle.calc_measures.specs.Literals.{whole_literal, half_literal, or_literal}
-use Rattle.calc_measures.specs.Measures.{HighLow, power_bounds, bounds, high, bits, most_bits, most_bits_of, all_simple}
-use Rattle.calc_terms.specs.Trees.{Tree, num, symbol, undef, add, mult, power, root, neg, sub, div, Trees, none, more, AllParts, AllPartsOf, IsComplete}
-use Rattle.tree_bits.specs.Rows.{IsWithinBits}
+use Rattle.tree_bits.proofs.Shared.{mul-le, whole_literal, half_literal, or_literal, HighLow, power_bounds, bounds, high, bits, most_bits, most_bits_of, all_simple, Tree, num, symbol, undef, add, mult, power, root, neg, sub, div, Trees, none, more, AllParts, AllPartsOf, IsComplete, IsWithinBits}
 
 -- ---- highs of at least 1
 

@@ -1,12 +1,6 @@
 -- What holds trees: the lesser of two bounds, and products of parts.
 use Rattle.std.proofs.Common.{◌≡◌, ℕ, ◌+◌, ◌*◌, ◌≤◌, List, ◌∷◌, min, Bool, true, false, not, refl, ap, arith}
-use Rattle.std.proofs.lemmas.Nat.{mul-le}
-use Rattle.calc_algebra.specs.Numbers.{is_number}
-use Rattle.calc_algebra.specs.Surds.{Surd}
-use Rattle.calc_terms.specs.Trees.{Tree, root, Trees, append}
-use Rattle.tree_bits.specs.Exponents.{Counts, counts_of}
-use Rattle.tree_bits.specs.HeldTrees.{Addend, exponent_in, power_high, power_low, IsTreeHeld, undef_held, sum_held, AreWeighted, none_weighted, more_weighted, IsPartHeld, no_factor_held, factor_held, IsBaseHeld, symbol_held, root_held, tree_held}
-use Rattle.tree_bits.specs.Weighted.{Weighted, coefficients, lesser}
+use Rattle.tree_bits.proofs.Shared.{mul-le, is_number, Surd, Tree, root, Trees, append, Counts, counts_of, Addend, exponent_in, power_high, power_low, IsTreeHeld, undef_held, sum_held, AreWeighted, none_weighted, more_weighted, IsPartHeld, no_factor_held, factor_held, IsBaseHeld, symbol_held, root_held, tree_held, Weighted, coefficients, lesser}
 use Rattle.tree_bits.proofs.Weighted.{held_by_both}
 
 -- ---- powers of a base that is held by less

@@ -1,17 +1,7 @@
 -- Addends and factors that are joined, replaced, reordered or left out.
 use Rattle.std.proofs.Common.{ℕ, ◌+◌, ◌*◌, ◌^◌, ◌≤◌, List, [], ◌∷◌, ◌++◌, min, sym, subst, arith}
-use Rattle.std.proofs.lemmas.Nat.{mul-le}
-use Rattle.std.proofs.Math.Nat.{pow-le-pow_right}
-use Rattle.calc_algebra.specs.Surds.{Surd}
-use Rattle.calc_bits.proofs.MassLaws.{parts_append, mass-append}
-use Rattle.calc_bits.specs.Bounds.{IsNoLarger}
-use Rattle.calc_bits.specs.Masses.{mass}
-use Rattle.calc_terms.specs.Trees.{Tree, Trees, none, more, append}
-use Rattle.tree_bits.specs.Children.{IsSumHeld}
-use Rattle.tree_bits.specs.Exponents.{Counts, counts_of}
-use Rattle.tree_bits.specs.HeldTrees.{Addend, addend, exponent_in, power_high, power_low, AreWeighted, more_weighted, IsPartHeld, factor_held, IsBaseHeld}
+use Rattle.tree_bits.proofs.Shared.{mul-le, pow-le-pow_right, Surd, parts_append, mass-append, IsNoLarger, mass, Tree, Trees, none, more, append, IsSumHeld, Counts, counts_of, Addend, addend, exponent_in, power_high, power_low, AreWeighted, more_weighted, IsPartHeld, factor_held, IsBaseHeld, Weighted, weighted, PartsAll, lows, weighted_mass, AreHeld}
 use Rattle.tree_bits.specs.Joined.{IsJoint}
-use Rattle.tree_bits.specs.Weighted.{Weighted, weighted, PartsAll, lows, weighted_mass, AreHeld}
 use Rattle.tree_bits.proofs.HeldTrees.{wider, part_by_both, base_by_both, high_at_most, low_at_most, min_first, min_second}
 
 -- ---- factors

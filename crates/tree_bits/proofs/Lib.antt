@@ -8,3 +8,4 @@ pub mod FewBits
 pub mod Factors
 pub mod Rows
 pub mod Joined
+pub mod Shared

@@ -1,16 +1,7 @@
 -- Numbers are held as trees as they are held as surds.
 use Rattle.std.proofs.Common.{◌≡◌, ℕ, ◌+◌, ◌-◌, ◌*◌, ◌^◌, ◌≤◌, List, [], ◌∷◌, Bool, true, false, if◌then◌else◌, refl, sym, ap, ◌∙◌, subst, arith}
 use Rattle.std.specs.Prelude.{◌&&◌, nat_le, length}
-use Rattle.std.proofs.lemmas.Nat.{mul-le, pow_pos}
-use Rattle.std.proofs.Math.Nat.{pow-le-pow_right}
-use Rattle.calc_algebra.specs.Numbers.{is_number, is_term, are_terms, rises, terms_of, value}
-use Rattle.calc_algebra.specs.Reduced.{number_terms, other_terms}
-use Rattle.calc_algebra.specs.Surds.{Surd}
-use Rattle.calc_bits.specs.Masses.{mass, IsHeld}
-use Rattle.calc_terms.specs.Trees.{Tree, undef, add, Trees, none, more}
-use Rattle.tree_bits.specs.Exponents.{counts_of}
-use Rattle.tree_bits.specs.HeldTrees.{Addend, addend, addend_of, addends, addends_of, exponent_in, IsTreeHeld, undef_held, sum_held, AreWeighted, none_weighted, more_weighted, IsPartHeld, no_factor_held, factor_held, IsBaseHeld, symbol_held, root_held, tree_held}
-use Rattle.tree_bits.specs.Weighted.{Weighted, weighted, AreHeld}
+use Rattle.tree_bits.proofs.Shared.{mul-le, pow_pos, pow-le-pow_right, is_number, is_term, are_terms, rises, terms_of, value, number_terms, other_terms, Surd, mass, IsHeld, Tree, undef, add, Trees, none, more, counts_of, Addend, addend, addend_of, addends, addends_of, exponent_in, IsTreeHeld, undef_held, sum_held, AreWeighted, none_weighted, more_weighted, IsPartHeld, no_factor_held, factor_held, IsBaseHeld, symbol_held, root_held, tree_held, Weighted, weighted, AreHeld}
 use Rattle.tree_bits.proofs.Weighted.{put_before, split_off}
 
 -- ---- the one addend of a Number

@@ -1,15 +1,6 @@
 -- Parts to whole powers.
 use Rattle.std.proofs.Common.{◌≡◌, ℕ, suc, ◌+◌, ◌-◌, ◌*◌, ◌≤◌, List, [], ◌∷◌, refl, sym, subst, ℤ, pos, negsuc, arith}
-use Rattle.std.proofs.lemmas.Nat.{mul-le}
-use Rattle.calc_algebra.specs.Surds.{Surd}
-use Rattle.calc_bits.specs.Bounds.{IsNoLargerThanPower}
-use Rattle.calc_bits.specs.Masses.{IsHeld}
-use Rattle.calc_terms.specs.Trees.{Tree, Trees, none, more}
-use Rattle.tree_bits.specs.Children.{IsSumHeld}
-use Rattle.tree_bits.specs.Exponents.{counts_of}
-use Rattle.tree_bits.specs.HeldTrees.{Addend, addend, exponent_in, AreWeighted, none_weighted, more_weighted, IsPartHeld, no_factor_held, factor_held, IsBaseHeld}
-use Rattle.tree_bits.specs.Powers.{IsPartPower, raised_high, raised_low, IsHeldAsPower, IsAddendPower, IsZeroAlone}
-use Rattle.tree_bits.specs.Weighted.{Weighted, weighted, AreHeld}
+use Rattle.tree_bits.proofs.Shared.{mul-le, Surd, IsNoLargerThanPower, IsHeld, Tree, Trees, none, more, IsSumHeld, counts_of, Addend, addend, exponent_in, AreWeighted, none_weighted, more_weighted, IsPartHeld, no_factor_held, factor_held, IsBaseHeld, IsPartPower, raised_high, raised_low, IsHeldAsPower, IsAddendPower, IsZeroAlone, Weighted, weighted, AreHeld}
 use Rattle.tree_bits.proofs.Numbers.{nothing_held, held_wider}
 use Rattle.tree_bits.proofs.Sums.{wider_held}
 use Rattle.tree_bits.proofs.Weighted.{put_before, split_off}

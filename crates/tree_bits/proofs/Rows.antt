@@ -1,25 +1,8 @@
 -- What the bounds on the bits of a node hold, where those of its children hold what these become.
 use Rattle.std.proofs.Common.{◌≡◌, ℕ, suc, ◌+◌, ◌*◌, ◌^◌, ◌≤◌, ◌<◌, List, [], ◌∷◌, ◌++◌, max, ℤ, pos, negsuc, Bool, true, false, if◌then◌else◌, refl, sym, ap, subst, arith}
 use Rattle.std.specs.Prelude.{nat_abs, Option, Some}
-use Rattle.std.proofs.lemmas.Nat.{mul-le, pow-add, pow_pos}
-use Rattle.std.proofs.Math.Nat.{pow-le-pow_right, dvd_refl}
-use Rattle.calc_algebra.specs.Numbers.{is_number}
-use Rattle.calc_algebra.specs.Surds.{surd_of}
-use Rattle.calc_bits.specs.Denominators.{magnitude_over}
-use Rattle.calc_bits.specs.Masses.{root_above, IsHeld}
-use Rattle.calc_bits.proofs.Quotients.{cancel_right, magnitude_cross}
-use Rattle.calc_bits.proofs.RootsAbove.{root_least}
+use Rattle.tree_bits.proofs.Shared.{mul-le, pow-add, pow_pos, pow-le-pow_right, dvd_refl, is_number, surd_of, magnitude_over, root_above, IsHeld, cancel_right, magnitude_cross, root_least, whole_literal, half_literal, or_literal, HighLow, ceil_log2, power_bounds, bounds, bounds_of_terms, bounds_of_factors, high, low, Fraction, is_zero_fraction, den_pos, Tree, num, symbol, add, mult, power, root, neg, sub, div, Trees, none, more, count, IsComplete, AreComplete, IsSumHeld, addends_of_each, AreTreesHeld, ArePositive, largest_high, high_sum, low_sum, Counts, counts, multiple, counts_of, is_counted, multiplied, product_of, distributed, surd_minus_one, Addend, power_high, power_low, IsTreeHeld, symbol_held, tree_held, IsWithin, IsAddendPower, IsZeroAlone, raised_high, raised_low, bounds_of_each}
 use Rattle.calc_measures.proofs.CeilLog2.{ceil_log2_is}
-use Rattle.calc_measures.specs.Literals.{whole_literal, half_literal, or_literal}
-use Rattle.calc_measures.specs.Measures.{HighLow, ceil_log2, power_bounds, bounds, bounds_of_terms, bounds_of_factors, high, low}
-use Rattle.calc_terms.specs.Fractions.{Fraction, is_zero_fraction, den_pos}
-use Rattle.calc_terms.specs.Trees.{Tree, num, symbol, add, mult, power, root, neg, sub, div, Trees, none, more, count, IsComplete, AreComplete}
-use Rattle.tree_bits.specs.Children.{IsSumHeld, addends_of_each, AreTreesHeld, ArePositive, largest_high, high_sum, low_sum}
-use Rattle.tree_bits.specs.Exponents.{Counts, counts, multiple, counts_of, is_counted}
-use Rattle.tree_bits.specs.Factors.{multiplied, product_of, distributed, surd_minus_one}
-use Rattle.tree_bits.specs.HeldTrees.{Addend, power_high, power_low, IsTreeHeld, symbol_held, tree_held}
-use Rattle.tree_bits.specs.Powers.{IsWithin, IsAddendPower, IsZeroAlone, raised_high, raised_low}
-use Rattle.tree_bits.specs.Rows.{bounds_of_each}
 use Rattle.tree_bits.proofs.Children.{weighted_both, trees_by_count}
 use Rattle.tree_bits.proofs.Factors.{tree_as_base, multiplied_held, products_held, distributed_held, minus_one_held}
 use Rattle.tree_bits.proofs.FewBits.{high_positive}

@@ -1,12 +1,6 @@
 -- What holds coefficients before parts.
 use Rattle.std.proofs.Common.{◌≡◌, ℕ, ◌+◌, ◌-◌, ◌*◌, ◌^◌, ◌≤◌, ◌<◌, ◌⊎◌, inl, inr, List, [], ◌∷◌, min, sym, ap, subst, arith}
-use Rattle.std.proofs.lemmas.Nat.{mul-le, pow-add, pow_pos}
-use Rattle.std.proofs.Math.Nat.{pow-le-pow_right}
-use Rattle.calc_algebra.specs.Surds.{Term, Surd}
-use Rattle.calc_bits.specs.Denominators.{Parts}
-use Rattle.calc_bits.specs.Masses.{mass, IsHeld}
-use Rattle.calc_bits.proofs.Quotients.{cancel_le}
-use Rattle.tree_bits.specs.Weighted.{Weighted, weighted, coefficients, PartsAll, lows, weighted_mass, AreHeld, lesser}
+use Rattle.tree_bits.proofs.Shared.{mul-le, pow-add, pow_pos, pow-le-pow_right, Term, Surd, Parts, mass, IsHeld, cancel_le, Weighted, weighted, coefficients, PartsAll, lows, weighted_mass, AreHeld, lesser}
 
 order : (a b : ℕ) → (a ≤ b) ⊎ (b ≤ a)
 order a b = grind arith

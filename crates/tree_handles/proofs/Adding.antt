@@ -1,20 +1,6 @@
 -- A root that becomes a child.
 use Rattle.std.proofs.Common.{◌≡◌, ℕ, ◌+◌, ◌-◌, ◌<◌, ◌≤◌, ◌⊎◌, inl, inr, List, ◌∷◌, ◌++◌, length, drop, cond, refl, sym, ap, ◌∙◌, subst, arith, append_assoc, Bool, true, false}
-use Rattle.std.proofs.lemmas.Bool.{cases_Bool}
-use Rattle.std.proofs.lemmas.List.{length-append}
-use Rattle.calc_terms.specs.Node.{Node}
-use Rattle.node_pool.specs.State.{State}
-use Rattle.node_pool.specs.Nodes.{has, used, place_of, with_children, AreDistinct}
-use Rattle.node_pool.specs.Places.{since, moved, IsBoundary}
-use Rattle.node_pool.proofs.Sizes.{used-append, size_from}
-use Rattle.node_pool.proofs.Ids.{or_is_false, has-append}
-use Rattle.node_pool.proofs.Cuts.{since-append}
-use Rattle.node_pool.proofs.Splits.{place_of-append, moved_left, moved_right, with_children-append}
-use Rattle.tree_handles.specs.Standing.{forest, Stands, IsCounted}
-use Rattle.tree_handles.specs.Forest.{Label, Forest, empty, tree, join, arity, node_of, flatten, first_trees, rest_trees, with_nth, AllNodes}
-use Rattle.tree_handles.specs.Inside.{holds, tree_at, kids_of, with_kids}
-use Rattle.tree_handles.specs.Roots.{has_root, root_tree, without_root}
-use Rattle.tree_handles.specs.Walks.{skip, IsChildPlace}
+use Rattle.tree_handles.proofs.Shared.{cases_Bool, length-append, Node, State, has, used, place_of, with_children, AreDistinct, since, moved, IsBoundary, used-append, size_from, or_is_false, has-append, since-append, place_of-append, moved_left, moved_right, with_children-append, forest, Stands, IsCounted, Label, Forest, empty, tree, join, arity, node_of, flatten, first_trees, rest_trees, with_nth, AllNodes, holds, tree_at, kids_of, with_kids, has_root, root_tree, without_root, skip, IsChildPlace}
 use Rattle.tree_handles.proofs.Forests.{flatten-join, first-rest, skip-flatten, skip-first, flatten-with_nth, arity-with_nth, has-flatten}
 use Rattle.tree_handles.proofs.Parts.{IsAt, at, place_is, has_mid, live_node}
 use Rattle.tree_handles.proofs.Roots.{IsTop, top, root_held}

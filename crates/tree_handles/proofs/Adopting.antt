@@ -1,17 +1,7 @@
 -- Trees behind a root that become its children.
 use Rattle.std.specs.Prelude.{◌≡◌, ℕ, ◌+◌, ◌<◌, ◌≤◌, List, ◌∷◌, ◌++◌, length, true, false}
 use Rattle.std.proofs.Common.{refl, sym, ap, ◌∙◌, subst, arith, append_assoc, cond, eqb, Bool}
-use Rattle.std.proofs.lemmas.Bool.{eq-eqb}
-use Rattle.std.proofs.lemmas.List.{length-append}
-use Rattle.calc_terms.specs.Node.{Node}
-use Rattle.node_pool.specs.Nodes.{has, with_children, AreDistinct}
-use Rattle.node_pool.specs.State.{State}
-use Rattle.node_pool.proofs.Splits.{with_children-append}
-use Rattle.tree_handles.specs.Forest.{Label, Forest, empty, tree, join, arity, kids, node_of, flatten, first_trees, rest_trees, root_id, with_root_kids, with_nth, AllNodes}
-use Rattle.tree_handles.specs.Handed.{Ends}
-use Rattle.tree_handles.specs.Inside.{kids_of}
-use Rattle.tree_handles.specs.Roots.{has_root, behind_root, adopted, put}
-use Rattle.tree_handles.specs.Standing.{Stands, forest, IsCounted}
+use Rattle.tree_handles.proofs.Shared.{eq-eqb, length-append, Node, has, with_children, AreDistinct, State, with_children-append, Label, Forest, empty, tree, join, arity, kids, node_of, flatten, first_trees, rest_trees, root_id, with_root_kids, with_nth, AllNodes, Ends, kids_of, has_root, behind_root, adopted, put, Stands, forest, IsCounted}
 use Rattle.tree_handles.proofs.Distinct.{distinct, not_before}
 use Rattle.tree_handles.proofs.Forests.{flatten-join, join_assoc, arity-join, arity-first_trees, first-rest, first_trees-join, rest_trees-join, join-empty, all-join, all-left, all-right, all-first_trees, all-rest_trees}
 use Rattle.tree_handles.proofs.Lasts.{kids_of_root, last_put}

@@ -1,14 +1,6 @@
 -- The calls at roots, in words of roots.
 use Rattle.std.proofs.Common.{◌≡◌, ℕ, ◌+◌, ◌<◌, ◌≤◌, ◌∷◌, cond, eqb, refl, sym, ap, ◌∙◌, subst, arith, Bool, true, false}
-use Rattle.std.proofs.lemmas.Bool.{eqb-true, eq-eqb}
-use Rattle.node_pool.specs.Nodes.{AreDistinct}
-use Rattle.node_pool.specs.State.{State}
-use Rattle.node_pool.proofs.Ids.{AreDistinct-parts, AreDistinct-append, AreApart-parts}
-use Rattle.tree_handles.specs.Forest.{Forest, tree, join, arity, kids, root_id, node_of, flatten, tree_nth, without_nth, with_nth, set_nth, with_root_kids}
-use Rattle.tree_handles.specs.Handed.{Ends}
-use Rattle.tree_handles.specs.Inside.{holds, kids_of, with_kids}
-use Rattle.tree_handles.specs.Roots.{has_root, root_tree, without_root, put}
-use Rattle.tree_handles.specs.Standing.{Stands, forest}
+use Rattle.tree_handles.proofs.Shared.{eqb-true, eq-eqb, AreDistinct, State, AreDistinct-parts, AreDistinct-append, AreApart-parts, Forest, tree, join, arity, kids, root_id, node_of, flatten, tree_nth, without_nth, with_nth, set_nth, with_root_kids, Ends, holds, kids_of, with_kids, has_root, root_tree, without_root, put, Stands, forest}
 use Rattle.tree_handles.proofs.Distinct.{Distinct, distinct, put-root, clear_front}
 use Rattle.tree_handles.proofs.Forests.{flatten-join, arity-with_nth, arity-tree_nth}
 use Rattle.tree_handles.proofs.Joins.{holds-with_kids, kids_of-with_kids}

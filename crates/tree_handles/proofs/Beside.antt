@@ -1,13 +1,6 @@
 -- What is given, and the roots beside it.
 use Rattle.std.proofs.Common.{◌≡◌, ℕ, true, sym, ap, ◌∙◌}
-use Rattle.calc_terms.specs.Trees.{Tree}
-use Rattle.node_pool.specs.State.{State}
-use Rattle.tree_handles.specs.Expressions.{plain, IsExpression}
-use Rattle.tree_handles.specs.Forest.{Forest}
-use Rattle.tree_handles.specs.Handed.{IsHanded, Gives}
-use Rattle.tree_handles.specs.Inside.{tree_at}
-use Rattle.tree_handles.specs.Roots.{has_root, root_tree, without_root, put}
-use Rattle.tree_handles.specs.Standing.{Stands, forest}
+use Rattle.tree_handles.proofs.Shared.{Tree, State, plain, IsExpression, Forest, IsHanded, Gives, tree_at, has_root, root_tree, without_root, put, Stands, forest}
 use Rattle.tree_handles.proofs.Given.{given_rest, given_other, given_same, gives_as}
 use Rattle.tree_handles.proofs.Lasts.{last_tree, ends_at, ends_without, expression_root, plain_root, ends_put}
 

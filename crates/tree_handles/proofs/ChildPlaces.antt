@@ -1,18 +1,6 @@
 -- Children one after another.
 use Rattle.std.proofs.Common.{◌≡◌, ℕ, zero, suc, ◌+◌, ◌-◌, ◌<◌, ◌≤◌, List, [], ◌∷◌, ◌++◌, length, drop, refl, sym, ap, ◌∙◌, subst, arith, append_assoc, true, false}
-use Rattle.calc_terms.specs.Node.{Node, size_of}
-use Rattle.node_pool.specs.Nodes.{used, has, first_of, place_of, AreDistinct}
-use Rattle.node_pool.specs.Places.{since, IsBoundary}
-use Rattle.node_pool.specs.State.{State}
-use Rattle.node_pool.proofs.Cuts.{since-append}
-use Rattle.node_pool.proofs.Sizes.{used-append, size_from}
-use Rattle.node_pool.proofs.Splits.{boundary-append, place_of-append}
-use Rattle.tree_handles.specs.Children.{root_ids, IsChildAt, AreSiblings}
-use Rattle.tree_handles.specs.Expressions.{nth, plain, IsExpression, AllExpressions, children_of}
-use Rattle.tree_handles.specs.Forest.{Forest, empty, tree, join, arity, root_id, node_of, first_trees, rest_trees, forest_of, flatten, tree_nth}
-use Rattle.tree_handles.specs.Inside.{holds, kids_of, tree_at}
-use Rattle.tree_handles.specs.Standing.{Stands, forest}
-use Rattle.tree_handles.specs.Walks.{skip, IsChildPlace}
+use Rattle.tree_handles.proofs.Shared.{Node, size_of, used, has, first_of, place_of, AreDistinct, since, IsBoundary, State, since-append, used-append, size_from, boundary-append, place_of-append, root_ids, IsChildAt, AreSiblings, nth, plain, IsExpression, AllExpressions, children_of, Forest, empty, tree, join, arity, root_id, node_of, first_trees, rest_trees, forest_of, flatten, tree_nth, holds, kids_of, tree_at, Stands, forest, skip, IsChildPlace}
 use Rattle.tree_handles.proofs.Distinct.{distinct, child_tree, held_parent, not_before}
 use Rattle.tree_handles.proofs.Forests.{forest_of-flatten, flatten-first_rest, skip-first, nth_tree, arity-join, arity-rest_trees}
 use Rattle.tree_handles.proofs.Nths.{first_trees-behind}

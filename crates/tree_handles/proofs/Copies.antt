@@ -1,15 +1,6 @@
 -- Copies of nodes, and of trees.
 use Rattle.std.proofs.Common.{◌≡◌, ℕ, suc, ◌+◌, ◌<◌, List, [], ◌∷◌, ◌++◌, refl, sym, ap, ◌∙◌, subst, true, false}
-use Rattle.calc_terms.specs.declared.leaf.Header.{Header}
-use Rattle.calc_terms.specs.Node.{Node, IsNode, size_of, header_of, fresh}
-use Rattle.calc_terms.specs.Payload.{Payload, kind_of_payload}
-use Rattle.node_pool.specs.Nodes.{has, used, first_of, payload_of_id, AreNodes, AreDistinct, with_children}
-use Rattle.node_pool.specs.Places.{since, until, IsBoundary}
-use Rattle.node_pool.specs.State.{State, IsPool}
-use Rattle.node_pool.proofs.Cuts.{until-since, step, AreNodes-since}
-use Rattle.node_pool.proofs.Splits.{with_children-append}
-use Rattle.tree_handles.specs.Copies.{IsCopy, AreCopies, copy_of}
-use Rattle.tree_handles.specs.Forest.{Label, Forest, empty, tree, arity, node_of, flatten}
+use Rattle.tree_handles.proofs.Shared.{Header, Node, IsNode, size_of, header_of, fresh, Payload, kind_of_payload, has, used, first_of, payload_of_id, AreNodes, AreDistinct, with_children, since, until, IsBoundary, State, IsPool, until-since, step, AreNodes-since, with_children-append, IsCopy, AreCopies, copy_of, Label, Forest, empty, tree, arity, node_of, flatten}
 use Rattle.tree_handles.proofs.Parts.{has_mid}
 use Rattle.tree_handles.proofs.Readings.{payload_of_id-append}
 use Rattle.tree_handles.proofs.Distinct.{not_before}

@@ -1,20 +1,6 @@
 -- Copying nodes, one after the other.
 use Rattle.std.proofs.Common.{◌≡◌, ℕ, suc, ◌+◌, ◌-◌, ◌<◌, ◌≤◌, List, [], ◌∷◌, ◌++◌, refl, sym, ap, ◌∙◌, subst, arith, append_assoc, true}
-use Rattle.std.proofs.lemmas.List.{append-nil}
-use Rattle.calc_terms.specs.Node.{Node, size_of}
-use Rattle.node_pool.specs.Nodes.{used, first_of, place_of}
-use Rattle.node_pool.specs.Places.{since, until, between, IsBoundary}
-use Rattle.node_pool.specs.State.{IsPool, State, free_of}
-use Rattle.node_pool.proofs.Sizes.{used-append, size_from}
-use Rattle.node_pool.proofs.Cuts.{until-since, since-append, step, cut, boundary_le, between_next, between_none}
-use Rattle.node_pool.proofs.Splits.{boundary-append, between-append, place_of-append}
-use Rattle.tree_handles.specs.Copies.{AreCopies, copy_of, IsCopy}
-use Rattle.tree_handles.specs.Expressions.{nth, plains, plain, AllExpressions, IsExpression}
-use Rattle.tree_handles.specs.Forest.{Forest, empty, tree, join, arity, node_of, flatten, forest_of, root_id, bytes_in, AllNodes}
-use Rattle.tree_handles.specs.Handed.{AllOnce, Gives}
-use Rattle.tree_handles.specs.Inside.{holds, tree_at, kids_of}
-use Rattle.tree_handles.specs.Standing.{Stands, forest, IsCounted, KeepsRefusals}
-use Rattle.tree_handles.specs.Walks.{skip}
+use Rattle.tree_handles.proofs.Shared.{append-nil, Node, size_of, used, first_of, place_of, since, until, between, IsBoundary, IsPool, State, free_of, used-append, size_from, until-since, since-append, step, cut, boundary_le, between_next, between_none, boundary-append, between-append, place_of-append, AreCopies, copy_of, IsCopy, nth, plains, plain, AllExpressions, IsExpression, Forest, empty, tree, join, arity, node_of, flatten, forest_of, root_id, bytes_in, AllNodes, AllOnce, Gives, holds, tree_at, kids_of, Stands, forest, IsCounted, KeepsRefusals, skip}
 use Rattle.tree_handles.proofs.Copies.{AreCopies-push, copied}
 use Rattle.tree_handles.proofs.Distinct.{distinct, clear_front}
 use Rattle.tree_handles.proofs.Forests.{flatten-join, skip-flatten, stands, forest_of_whole, bytes-flatten, all-join, keeps}

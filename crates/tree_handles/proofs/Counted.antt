@@ -1,10 +1,6 @@
 -- Facts of each node, through the changes of a forest.
 use Rattle.std.proofs.Common.{◌≡◌, ℕ, ◌-◌, ◌<◌, ◌≤◌, cond, eqb, ltb, refl, arith}
-use Rattle.std.proofs.lemmas.Bool.{ltb-true}
-use Rattle.tree_handles.specs.Forest.{Label, Forest, empty, tree, join, first_trees, rest_trees, kids, tree_nth, without_nth, with_nth, set_nth, AllNodes}
-use Rattle.tree_handles.specs.Inside.{holds, tree_at, with_kids, with_count_in, released, released_in}
-use Rattle.tree_handles.specs.Roots.{root_tree, without_root}
-use Rattle.tree_handles.specs.Standing.{IsCounted}
+use Rattle.tree_handles.proofs.Shared.{ltb-true, Label, Forest, empty, tree, join, first_trees, rest_trees, kids, tree_nth, without_nth, with_nth, set_nth, AllNodes, holds, tree_at, with_kids, with_count_in, released, released_in, root_tree, without_root, IsCounted}
 use Rattle.tree_handles.proofs.Forests.{all-join, all-first_trees, all-rest_trees}
 use Rattle.tree_handles.proofs.Outcomes.{by_test}
 

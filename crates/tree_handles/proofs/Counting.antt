@@ -1,15 +1,6 @@
 -- Trees, counted one after another.
 use Rattle.std.proofs.Common.{◌≡◌, ℕ, ◌+◌, ◌<◌, ◌≤◌, List, [], ◌∷◌, ap, arith, length}
-use Rattle.calc_terms.specs.Node.{Node}
-use Rattle.node_pool.specs.Nodes.{used, first_of}
-use Rattle.node_pool.specs.Places.{since, IsBoundary}
-use Rattle.node_pool.specs.State.{State}
-use Rattle.node_pool.proofs.Cuts.{step}
-use Rattle.node_pool.proofs.Sizes.{length_le_used}
-use Rattle.node_pool.proofs.Walk.{since_end}
-use Rattle.tree_handles.specs.Forest.{arity, forest_of}
-use Rattle.tree_handles.specs.Standing.{Stands, forest}
-use Rattle.tree_handles.specs.Walks.{skip}
+use Rattle.tree_handles.proofs.Shared.{Node, used, first_of, since, IsBoundary, State, step, length_le_used, since_end, arity, forest_of, Stands, forest, skip}
 use Rattle.tree_handles.proofs.ChildPlaces.{forest_of-skip}
 use Rattle.tree_handles.proofs.Forests.{arity-rest_trees}
 use Rattle.tree_handles.proofs.Releases.{arity_le}

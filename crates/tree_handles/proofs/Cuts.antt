@@ -1,9 +1,6 @@
 -- Lists of trees that are cut, and one tree of them taken out.
 use Rattle.std.proofs.Common.{◌≡◌, ℕ, refl, sym, ap, ◌∙◌, subst}
-use Rattle.calc_terms.specs.Trees.{Tree, Trees, none, more, append, count}
-use Rattle.tree_handles.specs.Expressions.{inserted}
-use Rattle.tree_handles.specs.Forest.{Forest, empty, tree, arity, first_trees, rest_trees, tree_nth, without_nth}
-use Rattle.tree_handles.specs.Handed.{Represents}
+use Rattle.tree_handles.proofs.Shared.{Tree, Trees, none, more, append, count, inserted, Forest, empty, tree, arity, first_trees, rest_trees, tree_nth, without_nth, Represents}
 use Rattle.tree_handles.proofs.Given.{represents_none, represents_join}
 use Rattle.tree_handles.proofs.Plains.{count-plains}
 

@@ -1,10 +1,6 @@
 -- A walk that measures how deep a tree is.
 use Rattle.std.proofs.Common.{◌≡◌, ◌≢◌, ℕ, ◌+◌, ◌-◌, ◌<◌, ◌≤◌, max, List, [], ◌∷◌, length, get_or, refl, sym, ap, ◌∙◌, subst, arith}
-use Rattle.std.proofs.lemmas.List.{get_or-set_other, get_or-set_same, length-set}
-use Rattle.std.proofs.Math.ListN.{set}
-use Rattle.tree_handles.specs.declared.visits.Visit.{Visit}
-use Rattle.tree_handles.specs.Forest.{Forest, empty, tree, join, arity, nodes_in, depth_in}
-use Rattle.tree_handles.specs.Visits.{visits_of}
+use Rattle.tree_handles.proofs.Shared.{get_or-set_other, get_or-set_same, length-set, set, Visit, Forest, empty, tree, join, arity, nodes_in, depth_in, visits_of}
 use Rattle.tree_handles.proofs.Forests.{join-empty}
 use Rattle.tree_handles.proofs.Visiting.{visit_here, visits_left, visits_length}
 

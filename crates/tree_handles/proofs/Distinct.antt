@@ -1,15 +1,6 @@
 -- Forests whose nodes have distinct identifiers.
 use Rattle.std.proofs.Common.{◌≡◌, ℕ, zero, suc, ◌<◌, ◌≤◌, List, [], ◌∷◌, ◌++◌, cond, eqb, refl, sym, ap, ◌∙◌, subst, arith, Bool, true, false}
-use Rattle.std.proofs.lemmas.Bool.{eqb-true, eq-eqb}
-use Rattle.std.proofs.lemmas.List.{append-nil}
-use Rattle.calc_terms.specs.Node.{Node}
-use Rattle.node_pool.specs.Nodes.{has, AreDistinct}
-use Rattle.node_pool.specs.State.{State}
-use Rattle.node_pool.proofs.Ids.{has-append, AreDistinct-parts, AreApart, AreApart-sym}
-use Rattle.tree_handles.specs.Forest.{Label, Forest, empty, tree, join, arity, node_of, flatten, tree_nth, kids, root_id}
-use Rattle.tree_handles.specs.Inside.{holds, tree_at, kids_of, with_kids}
-use Rattle.tree_handles.specs.Roots.{has_root, root_tree, put}
-use Rattle.tree_handles.specs.Standing.{Stands, forest}
+use Rattle.tree_handles.proofs.Shared.{eqb-true, eq-eqb, append-nil, Node, has, AreDistinct, State, has-append, AreDistinct-parts, AreApart, AreApart-sym, Label, Forest, empty, tree, join, arity, node_of, flatten, tree_nth, kids, root_id, holds, tree_at, kids_of, with_kids, has_root, root_tree, put, Stands, forest}
 use Rattle.tree_handles.proofs.Forests.{flatten-join, has-flatten}
 use Rattle.tree_handles.proofs.Roots.{root_held, no_root}
 use Rattle.tree_handles.proofs.Outcomes.{by_test, or_true, not_left, not_right}

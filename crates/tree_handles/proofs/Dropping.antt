@@ -1,15 +1,6 @@
 -- The trees that stand first are left, and the others are dropped.
 use Rattle.std.proofs.Common.{◌≡◌, ℕ, ◌+◌, ◌-◌, ◌≤◌, List, [], ◌++◌, ap, ◌∙◌, sym, subst, arith}
-use Rattle.std.proofs.lemmas.List.{append-nil}
-use Rattle.calc_terms.specs.Node.{Node}
-use Rattle.node_pool.specs.Nodes.{used}
-use Rattle.node_pool.specs.Places.{IsBoundary, without}
-use Rattle.node_pool.specs.State.{State, IsPool}
-use Rattle.node_pool.proofs.Sizes.{used-append}
-use Rattle.node_pool.proofs.Splits.{boundary-append, without-append}
-use Rattle.tree_handles.specs.Forest.{Forest, flatten, bytes_in, AllNodes}
-use Rattle.tree_handles.specs.Handed.{Starts}
-use Rattle.tree_handles.specs.Standing.{Stands, IsCounted, forest}
+use Rattle.tree_handles.proofs.Shared.{append-nil, Node, used, IsBoundary, without, State, IsPool, used-append, boundary-append, without-append, Forest, flatten, bytes_in, AllNodes, Starts, Stands, IsCounted, forest}
 use Rattle.tree_handles.proofs.Forests.{all-left, bytes-flatten, flatten-join, stands}
 
 -- some trees stand first, and take so many bytes

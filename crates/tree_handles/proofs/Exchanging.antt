@@ -1,22 +1,6 @@
 -- A root that stands last and a child among the trees before it change places.
 use Rattle.std.proofs.Common.{◌≡◌, ℕ, ◌+◌, ◌<◌, ◌≤◌, List, [], ◌∷◌, ◌++◌, refl, sym, ap, ◌∙◌, subst, arith, append_assoc, true, false}
-use Rattle.std.proofs.lemmas.List.{append-nil}
-use Rattle.calc_terms.specs.Node.{Node}
-use Rattle.node_pool.specs.Nodes.{has, used, place_of, AreDistinct}
-use Rattle.node_pool.specs.Places.{since, exchanged, IsBoundary}
-use Rattle.node_pool.specs.State.{State}
-use Rattle.node_pool.proofs.Cuts.{since-append}
-use Rattle.node_pool.proofs.Exchanges.{exchanged-append}
-use Rattle.node_pool.proofs.Ids.{AreDistinct-parts}
-use Rattle.node_pool.proofs.Sizes.{used-append}
-use Rattle.node_pool.proofs.Splits.{place_of-append}
-use Rattle.tree_handles.specs.Children.{IsChildAt}
-use Rattle.tree_handles.specs.Forest.{Label, Forest, empty, tree, join, arity, kids, root_id, node_of, flatten, first_trees, rest_trees, tree_nth, set_nth, AllNodes}
-use Rattle.tree_handles.specs.Handed.{Ends}
-use Rattle.tree_handles.specs.Inside.{holds, tree_at, kids_of, with_kids}
-use Rattle.tree_handles.specs.Roots.{has_root, root_tree, put}
-use Rattle.tree_handles.specs.Standing.{forest, Stands, IsCounted}
-use Rattle.tree_handles.specs.Walks.{skip}
+use Rattle.tree_handles.proofs.Shared.{append-nil, Node, has, used, place_of, AreDistinct, since, exchanged, IsBoundary, State, since-append, exchanged-append, AreDistinct-parts, used-append, place_of-append, IsChildAt, Label, Forest, empty, tree, join, arity, kids, root_id, node_of, flatten, first_trees, rest_trees, tree_nth, set_nth, AllNodes, Ends, holds, tree_at, kids_of, with_kids, has_root, root_tree, put, forest, Stands, IsCounted, skip}
 use Rattle.tree_handles.proofs.Counted.{all-kids, all-tree_at, all-with_kids, all-tree_nth, all-set_nth}
 use Rattle.tree_handles.proofs.Distinct.{Distinct, distinct, child_tree, clear_front, held_parent, not_before, put-root, tree_at-root}
 use Rattle.tree_handles.proofs.Forests.{flatten-join, has-flatten, arity-set_nth, arity-tree_nth, nth_tree, nth_parts, all-join, all-left, all-right}

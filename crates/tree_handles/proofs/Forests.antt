@@ -1,17 +1,6 @@
 -- Laws of forests: joining, prefix order, and the parser.
 use Rattle.std.proofs.Common.{◌≡◌, ℕ, zero, suc, ◌+◌, ◌-◌, ◌^◌, min, ◌<◌, ◌≤◌, List, [], ◌∷◌, ◌++◌, length, cond, eqb, refl, sym, ap, ◌∙◌, subst, arith, append_assoc, Bool, true, false}
-use Rattle.std.proofs.lemmas.List.{append-nil, length-append}
-use Rattle.calc_terms.specs.Payload.{Payload}
-use Rattle.calc_terms.specs.Node.{Node, fresh}
-use Rattle.node_pool.specs.Nodes.{has, used}
-use Rattle.node_pool.specs.State.{State, IsPool, free_of, refused}
-use Rattle.node_pool.specs.declared.full.Full.{Full}
-use Rattle.node_pool.proofs.Sizes.{used-append}
-use Rattle.node_pool.proofs.Ids.{has-append}
-use Rattle.tree_handles.specs.Inside.{holds}
-use Rattle.tree_handles.specs.Standing.{Stands, forest, IsCounted, KeepsRefusals, Refuses, IsRefused}
-use Rattle.tree_handles.specs.Forest.{Label, Forest, empty, tree, join, arity, node_of, flatten, first_trees, rest_trees, forest_of, one_tree, tree_nth, without_nth, with_nth, set_nth, bytes_in, nodes_in, AllNodes}
-use Rattle.tree_handles.specs.Walks.{skip}
+use Rattle.tree_handles.proofs.Shared.{append-nil, length-append, Payload, Node, fresh, has, used, State, IsPool, free_of, refused, Full, used-append, has-append, holds, Stands, forest, IsCounted, KeepsRefusals, Refuses, IsRefused, Label, Forest, empty, tree, join, arity, node_of, flatten, first_trees, rest_trees, forest_of, one_tree, tree_nth, without_nth, with_nth, set_nth, bytes_in, nodes_in, AllNodes, skip}
 
 pub join-empty : (f : Forest) → join f empty ≡ f
 join-empty empty = refl

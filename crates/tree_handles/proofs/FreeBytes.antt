@@ -1,18 +1,10 @@
 -- Free bytes and those of handed trees, from one pool to the next.
 use Rattle.std.proofs.Common.{◌≡◌, ℕ, ◌+◌, ◌≤◌, Bool, true, false, cond, eqb, refl, sym, ap, ◌∙◌, subst, arith, ◌<◌}
-use Rattle.calc_terms.specs.Trees.{Tree, size}
-use Rattle.node_pool.specs.Nodes.{used}
-use Rattle.node_pool.specs.State.{State, free_of}
-use Rattle.tree_handles.specs.Expressions.{plain}
-use Rattle.tree_handles.specs.Forest.{Forest, empty, tree, bytes_in}
-use Rattle.tree_handles.specs.Handed.{IsHanded, tree_of, Gives}
-use Rattle.tree_handles.specs.Roots.{has_root, root_tree, without_root}
-use Rattle.tree_handles.specs.Standing.{Stands, forest, KeepsRefusals, IsRefused}
+use Rattle.tree_handles.proofs.Shared.{Tree, size, used, State, free_of, plain, Forest, empty, tree, bytes_in, IsHanded, tree_of, Gives, has_root, root_tree, without_root, Stands, forest, KeepsRefusals, IsRefused, Full}
 use Rattle.tree_handles.proofs.Forests.{bytes-flatten, bytes_in-join}
 use Rattle.tree_handles.proofs.Outcomes.{by_test}
 use Rattle.tree_handles.proofs.Plains.{size-plain}
 use Rattle.tree_handles.proofs.Roots.{root_arity, tree-without}
-use Rattle.node_pool.specs.declared.full.Full.{Full}
 use Rattle.tree_handles.proofs.Given.{handed_beside}
 use Rattle.tree_handles.proofs.Lasts.{last_tree}
 use Rattle.tree_handles.proofs.Places.{used_forest}

@@ -1,8 +1,6 @@
 -- What stands first stays first.
 use Rattle.std.proofs.Common.{◌≡◌, ℕ, List, [], ◌∷◌, refl, ap, ◌∙◌, false}
-use Rattle.tree_handles.specs.Forest.{Forest, join}
-use Rattle.tree_handles.specs.Handed.{Ends, Starts, AreNoRoots, KeepsFront}
-use Rattle.tree_handles.specs.Roots.{has_root, without_root, put}
+use Rattle.tree_handles.proofs.Shared.{Forest, join, Ends, Starts, AreNoRoots, KeepsFront, has_root, without_root, put}
 use Rattle.tree_handles.proofs.Forests.{join_assoc}
 use Rattle.tree_handles.proofs.Roots.{root-left, without-right, put-right}
 use Rattle.tree_handles.proofs.Outcomes.{by_test}

@@ -1,19 +1,8 @@
 -- The last trees become the children of a new node.
 use Rattle.std.specs.Prelude.{◌≡◌, ℕ, ◌+◌, ◌-◌, ◌≤◌, List, [], ◌∷◌, ◌++◌, true, false}
 use Rattle.std.proofs.Common.{refl, sym, ap, ◌∙◌, subst, arith, append_assoc}
-use Rattle.calc_terms.specs.Node.{Node, fresh}
-use Rattle.calc_terms.specs.Payload.{Payload}
-use Rattle.node_pool.specs.Nodes.{has, used, with_children}
-use Rattle.node_pool.specs.Places.{IsBoundary, moved}
-use Rattle.node_pool.specs.State.{State, IsPool}
+use Rattle.tree_handles.proofs.Shared.{Node, fresh, Payload, has, used, with_children, IsBoundary, moved, State, IsPool, used-append, boundary-append, moved_left, with_children-append, Forest, empty, join, arity, flatten, first_trees, rest_trees, one_tree, bytes_in, AllNodes, before_last, last_trees, Ends, holds, has_root, Stands, forest, IsCounted}
 use Rattle.node_pool.proofs.Found.{end_boundary}
-use Rattle.node_pool.proofs.Sizes.{used-append}
-use Rattle.node_pool.proofs.Splits.{boundary-append, moved_left, with_children-append}
-use Rattle.tree_handles.specs.Forest.{Forest, empty, join, arity, flatten, first_trees, rest_trees, one_tree, bytes_in, AllNodes, before_last, last_trees}
-use Rattle.tree_handles.specs.Handed.{Ends}
-use Rattle.tree_handles.specs.Inside.{holds}
-use Rattle.tree_handles.specs.Roots.{has_root}
-use Rattle.tree_handles.specs.Standing.{Stands, forest, IsCounted}
 use Rattle.tree_handles.proofs.Forests.{join-empty, flatten-join, first-rest, first_trees-join, rest_trees-join, arity-rest_trees, arity-join, has-flatten, bytes-flatten, bytes_in-join, all-join, all-first_trees, all-rest_trees, stands}
 use Rattle.tree_handles.proofs.Joins.{holds-join}
 use Rattle.tree_handles.proofs.Outcomes.{by_test, not_left}

@@ -1,11 +1,6 @@
 -- Trees that are built from roots and from new nodes.
 use Rattle.std.proofs.Common.{◌≡◌, ℕ, zero, suc, eqb, refl, sym, ap, ◌∙◌, subst, true, false}
-use Rattle.calc_terms.specs.Payload.{Payload}
-use Rattle.calc_terms.specs.Trees.{Tree, Trees, none, more, append, count}
-use Rattle.tree_handles.specs.Expressions.{nth, grown, plains, plain, inserted, takes, IsWhole, AllExpressions}
-use Rattle.tree_handles.specs.Forest.{Forest, empty, tree, join, arity, with_nth, one_tree}
-use Rattle.tree_handles.specs.Handed.{IsOnce, AllOnce, IsOwned, IsHanded, Represents, Ends, Gives}
-use Rattle.tree_handles.specs.Roots.{has_root, root_tree, without_root, put}
+use Rattle.tree_handles.proofs.Shared.{Payload, Tree, Trees, none, more, append, count, nth, grown, plains, plain, inserted, takes, IsWhole, AllExpressions, Forest, empty, tree, join, arity, with_nth, one_tree, IsOnce, AllOnce, IsOwned, IsHanded, Represents, Ends, Gives, has_root, root_tree, without_root, put}
 use Rattle.tree_handles.proofs.Counted.{all-with_nth}
 use Rattle.tree_handles.proofs.Forests.{join-empty, all-join}
 use Rattle.tree_handles.proofs.Lasts.{last_root, last_tree, last_rest, other_tree, other_apart, other_handed, ends_without, ends_as}

@@ -1,19 +1,6 @@
 -- A released node, wherever it stands.
 use Rattle.std.proofs.Common.{◌≡◌, ℕ, suc, ◌<◌, inl, inr, List, [], ◌∷◌, ◌++◌, cond, eqb, refl, sym, ap, ◌∙◌, subst, append_assoc, arith, Bool, true, false}
-use Rattle.std.proofs.lemmas.Bool.{eqb-true, eq-eqb}
-use Rattle.calc_terms.specs.Node.{Node}
-use Rattle.node_pool.specs.State.{State}
-use Rattle.node_pool.specs.Nodes.{has, used, place_of, AreDistinct}
-use Rattle.node_pool.specs.Places.{since, until}
-use Rattle.node_pool.proofs.Ids.{has-append, or_is_false}
-use Rattle.node_pool.proofs.Cuts.{since-append, until-append}
-use Rattle.node_pool.proofs.Splits.{place_of-append}
-use Rattle.tree_handles.specs.Forest.{Label, Forest, empty, tree, join, arity, root_count, node_of, flatten, forest_of}
-use Rattle.tree_handles.specs.Handed.{AllOnce, IsOwned}
-use Rattle.tree_handles.specs.Inside.{holds, tree_at, count_of, released, released_in}
-use Rattle.tree_handles.specs.Roots.{has_root, root_tree, without_root, IsReleasable}
-use Rattle.tree_handles.specs.Standing.{forest, Stands}
-use Rattle.tree_handles.specs.Walks.{release_first, released_at}
+use Rattle.tree_handles.proofs.Shared.{eqb-true, eq-eqb, Node, State, has, used, place_of, AreDistinct, since, until, has-append, or_is_false, since-append, until-append, place_of-append, Label, Forest, empty, tree, join, arity, root_count, node_of, flatten, forest_of, AllOnce, IsOwned, holds, tree_at, count_of, released, released_in, has_root, root_tree, without_root, IsReleasable, forest, Stands, release_first, released_at}
 use Rattle.tree_handles.proofs.Distinct.{Distinct, distinct_parts, not_before}
 use Rattle.tree_handles.proofs.Forests.{flatten-join, join_assoc, forest_of_whole, has-flatten}
 use Rattle.tree_handles.proofs.Joins.{released_in-join_right}

@@ -1,7 +1,6 @@
 -- A node in the first or in the last of two forests.
 use Rattle.std.proofs.Common.{◌≡◌, ℕ, cond, eqb, refl, ap, ◌∙◌, Bool, true, false}
-use Rattle.tree_handles.specs.Forest.{Forest, empty, tree, join, kids}
-use Rattle.tree_handles.specs.Inside.{holds, tree_at, kids_of, with_kids, released, released_in}
+use Rattle.tree_handles.proofs.Shared.{Forest, empty, tree, join, kids, holds, tree_at, kids_of, with_kids, released, released_in}
 use Rattle.tree_handles.proofs.Outcomes.{by_test, or_true}
 
 or_or : (t u v w : Bool) → cond t true (cond u true (cond v true w)) ≡ cond (cond t true (cond u true v)) true w

@@ -1,13 +1,6 @@
 -- The tree that stands last.
 use Rattle.std.proofs.Common.{◌≡◌, ℕ, cond, eqb, refl, sym, ap, ◌∙◌, subst, arith, Bool, true, false}
-use Rattle.std.proofs.lemmas.Bool.{eqb-true, eq-eqb}
-use Rattle.node_pool.specs.State.{State}
-use Rattle.tree_handles.specs.Expressions.{plain, AllExpressions, IsExpression}
-use Rattle.tree_handles.specs.Forest.{Forest, empty, tree, join, arity, kids, root_id, with_root_kids, with_nth}
-use Rattle.tree_handles.specs.Handed.{AllOnce, IsOwned, IsHanded, Ends}
-use Rattle.tree_handles.specs.Inside.{holds, tree_at, kids_of}
-use Rattle.tree_handles.specs.Roots.{has_root, root_tree, without_root, put}
-use Rattle.tree_handles.specs.Standing.{Stands, forest}
+use Rattle.tree_handles.proofs.Shared.{eqb-true, eq-eqb, State, plain, AllExpressions, IsExpression, Forest, empty, tree, join, arity, kids, root_id, with_root_kids, with_nth, AllOnce, IsOwned, IsHanded, Ends, holds, tree_at, kids_of, has_root, root_tree, without_root, put, Stands, forest}
 use Rattle.tree_handles.proofs.Distinct.{Distinct, distinct, distinct_parts, tree_at-root}
 use Rattle.tree_handles.proofs.Forests.{join-empty}
 use Rattle.tree_handles.proofs.Roots.{root_held, root-left, root-right, tree-left, tree-right, without-left, without-right, put-left, put-right, root-without, root-put}

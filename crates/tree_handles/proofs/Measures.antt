@@ -1,15 +1,6 @@
 -- Walks that measure a tree.
 use Rattle.std.proofs.Common.{◌≡◌, ℕ, suc, ◌+◌, ◌≤◌, List, ◌∷◌, ◌++◌, length, cond, eqb, ap, ◌∙◌, arith, true}
-use Rattle.calc_terms.specs.Node.{Node}
-use Rattle.node_pool.specs.Nodes.{used, place_of}
-use Rattle.node_pool.specs.Places.{since}
-use Rattle.node_pool.specs.State.{State}
-use Rattle.node_pool.proofs.Sizes.{length_le_used}
-use Rattle.node_pool.proofs.Cuts.{since-append}
-use Rattle.node_pool.proofs.Splits.{place_of-append}
-use Rattle.tree_handles.specs.Forest.{Label, Forest, empty, tree, arity, node_of, flatten, nodes_in}
-use Rattle.tree_handles.specs.Inside.{holds, tree_at, kids_of}
-use Rattle.tree_handles.specs.Standing.{Stands, forest}
+use Rattle.tree_handles.proofs.Shared.{Node, used, place_of, since, State, length_le_used, since-append, place_of-append, Label, Forest, empty, tree, arity, node_of, flatten, nodes_in, holds, tree_at, kids_of, Stands, forest}
 use Rattle.tree_handles.proofs.Forests.{nodes-flatten}
 use Rattle.tree_handles.proofs.Parts.{at, live_at}
 use Rattle.tree_handles.proofs.Outcomes.{by_test}

@@ -1,12 +1,6 @@
 -- Children of a tree of the language, read one after another.
 use Rattle.std.proofs.Common.{ℕ, suc, ◌<◌, ◌≤◌, ◌≡◌, List, [], ◌∷◌, sym, ◌∙◌, arith}
-use Rattle.calc_terms.specs.Trees.{count}
-use Rattle.node_pool.specs.State.{State}
-use Rattle.tree_handles.specs.Children.{root_ids}
-use Rattle.tree_handles.specs.Expressions.{nth, plain, children_of, IsExpression}
-use Rattle.tree_handles.specs.Forest.{rest_trees}
-use Rattle.tree_handles.specs.Inside.{tree_at, kids_of}
-use Rattle.tree_handles.specs.Standing.{Stands, forest}
+use Rattle.tree_handles.proofs.Shared.{count, State, root_ids, nth, plain, children_of, IsExpression, rest_trees, tree_at, kids_of, Stands, forest}
 use Rattle.tree_handles.proofs.ChildPlaces.{seen_child, step_on, no_more}
 use Rattle.tree_handles.proofs.Readings.{expression_children}
 

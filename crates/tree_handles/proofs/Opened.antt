@@ -1,10 +1,7 @@
 -- A pool that was opened.
 use Rattle.std.proofs.Common.{◌≡◌, [], arith, ap, sym, subst}
-use Rattle.node_pool.specs.Nodes.{used, AreNodes, AreDistinct}
-use Rattle.node_pool.specs.State.{State, IsPool, IsPoolSize}
+use Rattle.tree_handles.proofs.Shared.{used, AreNodes, AreDistinct, State, IsPool, IsPoolSize, empty, Stands}
 use Rattle.tree_handles.proofs.Forests.{stands}
-use Rattle.tree_handles.specs.Forest.{empty}
-use Rattle.tree_handles.specs.Standing.{Stands}
 
 pub stands_open : (s : State) → s.nodes ≡ [] → IsPoolSize s.size → Stands s
 stands_open s e size =

@@ -1,15 +1,6 @@
 -- Nodes behind a node of a tree, and their places in the pool.
 use Rattle.std.proofs.Common.{◌≡◌, ℕ, zero, suc, ◌+◌, ◌<◌, ◌≤◌, List, [], ◌∷◌, ◌++◌, length, take, drop, refl, sym, ap, ◌∙◌, subst, add-one, append_assoc, arith, true, false}
-use Rattle.std.proofs.lemmas.List.{append-nil}
-use Rattle.calc_terms.specs.Node.{Node}
-use Rattle.node_pool.specs.Nodes.{has, first_of, place_of, used, AreDistinct}
-use Rattle.node_pool.specs.Places.{since, IsBoundary}
-use Rattle.node_pool.specs.State.{State}
-use Rattle.node_pool.proofs.Cuts.{since-append}
-use Rattle.node_pool.proofs.Splits.{place_of-append}
-use Rattle.tree_handles.specs.Forest.{Forest, flatten, nodes_in, node_of}
-use Rattle.tree_handles.specs.Inside.{holds, tree_at, kids_of}
-use Rattle.tree_handles.specs.Standing.{Stands, forest}
+use Rattle.tree_handles.proofs.Shared.{append-nil, Node, has, first_of, place_of, used, AreDistinct, since, IsBoundary, State, since-append, place_of-append, Forest, flatten, nodes_in, node_of, holds, tree_at, kids_of, Stands, forest}
 use Rattle.tree_handles.proofs.Distinct.{not_before}
 use Rattle.tree_handles.proofs.Forests.{nodes-flatten}
 use Rattle.tree_handles.proofs.Parts.{at, has_mid, is_before, live_at}

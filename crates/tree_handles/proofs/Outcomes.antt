@@ -1,7 +1,7 @@
 -- Proofs by a test, and of a result.
 use Rattle.std.proofs.Common.{◌≡◌, ℕ, cond, eqb, refl, sym, Bool, true, false, Result, Ok, Err, subst}
-use Rattle.std.proofs.lemmas.Bool.{eqb-false, ne_eqb}
 use Rattle.std.specs.Prelude.{IfErr, IsErr, IsErrAnd, IfOk}
+use Rattle.tree_handles.proofs.Shared.{eqb-false, ne_eqb}
 
 -- both outcomes of a test
 pub by_test : (P : Bool → Type 0) (t : Bool) → (t ≡ true → P true) → (t ≡ false → P false) → P t

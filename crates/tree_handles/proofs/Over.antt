@@ -1,13 +1,6 @@
 -- A root over these trees, and what it becomes: a child is taken out or put in, and the root goes last.
 use Rattle.std.proofs.Common.{◌≡◌, ℕ, eqb, cond, refl, sym, ap, ◌∙◌, subst, arith, Bool, true, false, ◌∷◌, []}
-use Rattle.calc_terms.specs.declared.kind.Kind.{Kind}
-use Rattle.calc_terms.specs.Payload.{Payload, bare}
-use Rattle.calc_terms.specs.Trees.{Tree, Trees, none, more, append, count, is_mult, is_add}
-use Rattle.tree_handles.specs.Expressions.{nth, grown, compound, plains, plain, takes, takes_kind, children_of, inserted}
-use Rattle.tree_handles.specs.Forest.{Forest, empty, tree, arity, kids, root_payload, root_count, with_root_kids, tree_nth, without_nth, with_nth}
-use Rattle.tree_handles.specs.Handed.{IsOnce, AllOnce, IsHanded, Represents, Ends, Gives, KeepsFront}
-use Rattle.tree_handles.specs.Inside.{kids_of}
-use Rattle.tree_handles.specs.Roots.{has_root, root_tree, without_root, put}
+use Rattle.tree_handles.proofs.Shared.{Kind, Payload, bare, Tree, Trees, none, more, append, count, is_mult, is_add, nth, grown, compound, plains, plain, takes, takes_kind, children_of, inserted, Forest, empty, tree, arity, kids, root_payload, root_count, with_root_kids, tree_nth, without_nth, with_nth, IsOnce, AllOnce, IsHanded, Represents, Ends, Gives, KeepsFront, kids_of, has_root, root_tree, without_root, put, State, Stands, forest}
 use Rattle.tree_handles.proofs.Given.{gives, gives_as, given_handed, given_told, given_rest, represents_handed, represents_with}
 use Rattle.tree_handles.proofs.Lasts.{other_tree, other_root, kids_of_root}
 use Rattle.tree_handles.proofs.Plains.{children_of-plain, whole_kids}
@@ -15,8 +8,6 @@ use Rattle.tree_handles.proofs.Counted.{all-kids}
 use Rattle.tree_handles.proofs.Roots.{root_arity, root-put, root-without, tree-without, kids-put}
 use Rattle.tree_handles.proofs.Outcomes.{by_test}
 use Rattle.tree_handles.proofs.Cuts.{cut_at, represents_count}
-use Rattle.node_pool.specs.State.{State}
-use Rattle.tree_handles.specs.Standing.{Stands, forest}
 use Rattle.tree_handles.proofs.Fronts.{behind_first, front_same, front_at, front_end, front_put, front_without}
 use Rattle.calc_terms.specs.declared.kind.Kind.TheVariants as kind
 

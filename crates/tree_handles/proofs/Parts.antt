@@ -1,19 +1,6 @@
 -- A node in a forest, with its children and what is around it.
 use Rattle.std.proofs.Common.{◌≡◌, ℕ, zero, suc, ◌+◌, ◌-◌, ◌<◌, ◌≤◌, List, [], ◌∷◌, ◌++◌, drop, cond, eqb, refl, sym, ap, ◌∙◌, arith, append_assoc, Bool, true, false}
-use Rattle.std.proofs.lemmas.Bool.{eqb-true, eq-eqb}
-use Rattle.std.proofs.lemmas.List.{append_cancel_right, append-nil}
-use Rattle.calc_terms.specs.Node.{Node}
-use Rattle.node_pool.specs.State.{State}
-use Rattle.node_pool.specs.Nodes.{has, used, place_of, first_of, with_children, with_count}
-use Rattle.node_pool.specs.Places.{since, until, IsBoundary, moved}
-use Rattle.node_pool.proofs.Sizes.{used-append, size_from}
-use Rattle.node_pool.proofs.Ids.{has-append, or_is_false}
-use Rattle.node_pool.proofs.Cuts.{since-append, until-since}
-use Rattle.node_pool.proofs.Splits.{place_of-append, moved_right, with_children-append, with_count-append}
-use Rattle.tree_handles.specs.Standing.{forest, Stands, IsCounted}
-use Rattle.tree_handles.specs.Forest.{Label, Forest, empty, tree, join, arity, node_of, flatten, first_trees, rest_trees, root_id, tree_nth, without_nth, AllNodes}
-use Rattle.tree_handles.specs.Inside.{holds, tree_at, kids_of, with_kids, with_count_in}
-use Rattle.tree_handles.specs.Walks.{skip}
+use Rattle.tree_handles.proofs.Shared.{eqb-true, eq-eqb, append_cancel_right, append-nil, Node, State, has, used, place_of, first_of, with_children, with_count, since, until, IsBoundary, moved, used-append, size_from, has-append, or_is_false, since-append, until-since, place_of-append, moved_right, with_children-append, with_count-append, forest, Stands, IsCounted, Label, Forest, empty, tree, join, arity, node_of, flatten, first_trees, rest_trees, root_id, tree_nth, without_nth, AllNodes, holds, tree_at, kids_of, with_kids, with_count_in, skip}
 use Rattle.tree_handles.proofs.Counted.{all-kids, all-tree_at, all-with_kids, all-without_nth, all-tree_nth}
 use Rattle.tree_handles.proofs.Forests.{all-join, has-flatten, skip-flatten, skip-first, first-rest, flatten-join, nth_parts, arity-tree_nth, arity-without_nth}
 

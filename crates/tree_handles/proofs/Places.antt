@@ -1,11 +1,6 @@
 -- Bytes and places of the trees that stand first.
 use Rattle.std.proofs.Common.{◌≡◌, ℕ, ◌+◌, ◌-◌, List, [], ◌∷◌, ◌++◌, cond, eqb, refl, ap, ◌∙◌, true}
-use Rattle.calc_terms.specs.Node.{Node, size_of}
-use Rattle.node_pool.specs.Nodes.{has, place_of, used}
-use Rattle.node_pool.specs.State.{State, free_of}
-use Rattle.tree_handles.specs.Forest.{Forest, join, flatten, bytes_in}
-use Rattle.tree_handles.specs.Inside.{holds}
-use Rattle.tree_handles.specs.Standing.{Stands, forest}
+use Rattle.tree_handles.proofs.Shared.{Node, size_of, has, place_of, used, State, free_of, Forest, join, flatten, bytes_in, holds, Stands, forest}
 use Rattle.tree_handles.proofs.Forests.{flatten-join, has-flatten, bytes-flatten}
 use Rattle.tree_handles.proofs.Outcomes.{by_test}
 

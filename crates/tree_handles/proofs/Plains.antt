@@ -1,12 +1,7 @@
 -- Laws of the plain trees of a forest.
 use Rattle.std.proofs.Common.{◌≡◌, ℕ, zero, suc, ◌+◌, max, eqb, refl, sym, ap, ◌∙◌, arith, true, false}
-use Rattle.std.proofs.lemmas.Bool.{eqb-true, eq-eqb}
-use Rattle.calc_terms.specs.declared.kind.Kind.{Kind}
+use Rattle.tree_handles.proofs.Shared.{eqb-true, eq-eqb, Kind, Payload, rational, named, bare, kind_of_payload, has_short_form, size_of_payload, is_bare, IsPayload, Tree, num, symbol, undef, add, mult, power, root, neg, sub, div, Trees, none, more, append, count, root_kind, root_size, has_short_root, is_num, is_symbol, size, sizes, depth, depths, nodes, nodes_of, Label, Forest, empty, tree, join, arity, tree_nth, kids, root_payload, bytes_in, nodes_in, depth_in, nth, compound, grown, plains, plain, takes, takes_kind, AllExpressions, children_of}
 use Rattle.calc_terms.specs.declared.kind.Kind.TheVariants as kind
-use Rattle.calc_terms.specs.Payload.{Payload, rational, named, bare, kind_of_payload, has_short_form, size_of_payload, is_bare, IsPayload}
-use Rattle.calc_terms.specs.Trees.{Tree, num, symbol, undef, add, mult, power, root, neg, sub, div, Trees, none, more, append, count, root_kind, root_size, has_short_root, is_num, is_symbol, size, sizes, depth, depths, nodes, nodes_of}
-use Rattle.tree_handles.specs.Forest.{Label, Forest, empty, tree, join, arity, tree_nth, kids, root_payload, bytes_in, nodes_in, depth_in}
-use Rattle.tree_handles.specs.Expressions.{nth, compound, grown, plains, plain, takes, takes_kind, AllExpressions, children_of}
 
 pub plains-join : (f g : Forest) → plains (join f g) ≡ append (plains f) (plains g)
 plains-join empty g = refl

@@ -1,26 +1,10 @@
 -- What a node's header and payload tell of its tree.
 use Rattle.std.proofs.Common.{◌≡◌, ℕ, List, [], ◌∷◌, ◌++◌, cond, eqb, refl, sym, ap, ◌∙◌, subst, Bool, true, false}
-use Rattle.std.proofs.lemmas.Bool.{eq-eqb}
-use Rattle.calc_terms.specs.declared.leaf.Header.{Header}
-use Rattle.calc_terms.specs.declared.kind.Kind.TheVariants as kind
-use Rattle.calc_terms.specs.Fractions.{lowest}
-use Rattle.calc_terms.specs.Node.{Node, header_of}
-use Rattle.calc_terms.specs.Payload.{Payload, rational, named, kind_of_payload, IsPayload}
-use Rattle.calc_terms.specs.Ratio.{Ratio}
-use Rattle.calc_terms.specs.Trees.{num, symbol, is_num, is_symbol, root_kind, count}
-use Rattle.node_pool.specs.Nodes.{has, place_of, first_of, payload_of_id, AreNodes, used}
-use Rattle.node_pool.specs.Places.{since}
-use Rattle.node_pool.specs.State.{State}
-use Rattle.node_pool.proofs.Sizes.{AreNodes-right}
-use Rattle.node_pool.proofs.Cuts.{since-append}
-use Rattle.node_pool.proofs.Splits.{place_of-append}
-use Rattle.tree_handles.specs.Forest.{Label, Forest, empty, tree, arity, node_of, flatten, root_payload, root_count, tree_nth, rest_trees}
-use Rattle.tree_handles.specs.Inside.{holds, tree_at, kids_of, count_of, payload_in}
-use Rattle.tree_handles.specs.Expressions.{nth, grown, plains, plain, IsWhole, IsExpression, AllExpressions, children_of}
-use Rattle.tree_handles.specs.Standing.{Stands, forest}
+use Rattle.tree_handles.proofs.Shared.{eq-eqb, Header, lowest, Node, header_of, Payload, rational, named, kind_of_payload, IsPayload, Ratio, num, symbol, is_num, is_symbol, root_kind, count, has, place_of, first_of, payload_of_id, AreNodes, used, since, State, AreNodes-right, since-append, place_of-append, Label, Forest, empty, tree, arity, node_of, flatten, root_payload, root_count, tree_nth, rest_trees, holds, tree_at, kids_of, count_of, payload_in, nth, grown, plains, plain, IsWhole, IsExpression, AllExpressions, children_of, Stands, forest}
 use Rattle.tree_handles.proofs.Forests.{all-first_trees, all-rest_trees}
 use Rattle.tree_handles.proofs.Parts.{at, live_at}
 use Rattle.tree_handles.proofs.Plains.{is_num-plain, is_symbol-plain, root_kind-plain, children_of-plain, count-plains, plain-tree_nth, whole_kids}
+use Rattle.calc_terms.specs.declared.kind.Kind.TheVariants as kind
 
 leaf_step : (t : Bool) (m : Node) (x y : Payload) (b : Bool) → cond t true b ≡ false → (b ≡ false → x ≡ y) → cond t m.payload x ≡ y
 leaf_step true m x y b h k = absurd cc

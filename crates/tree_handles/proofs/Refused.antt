@@ -1,12 +1,10 @@
 -- What a call is refused for, after calls that were not, and in other words.
 use Rattle.std.proofs.Common.{ℕ, ◌+◌, Result, Ok, Err, refl, ap, ◌∙◌, ◌-◌, ◌^◌, min}
 use Rattle.std.specs.Prelude.{IfErr}
+use Rattle.tree_handles.proofs.Shared.{Full, State, KeepsRefusals, Refuses}
 use Rattle.tree_handles.specs.Faults.{OfOverflow, Faults}
 use Rattle.rational128.specs.declared.overflow.Overflow.{Overflow}
 use Rattle.tree_handles.specs.declared.fault.NumberFault.{NumberFault}
-use Rattle.node_pool.specs.declared.full.Full.{Full}
-use Rattle.node_pool.specs.State.{State}
-use Rattle.tree_handles.specs.Standing.{KeepsRefusals, Refuses}
 use Rattle.tree_handles.specs.declared.fault.NumberFault.TheVariants as fault
 
 pub overflow_as : {P Q : Overflow → Type 0} (e : NumberFault) → OfOverflow P e → ((o : Overflow) → P o → Q o) → OfOverflow Q e

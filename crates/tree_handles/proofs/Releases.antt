@@ -1,17 +1,6 @@
 -- Releasing trees, node after node.
 use Rattle.std.proofs.Common.{◌≡◌, ℕ, zero, suc, ◌+◌, ◌-◌, ◌<◌, ◌≤◌, List, [], ◌∷◌, ◌++◌, length, cond, ltb, refl, sym, ap, ◌∙◌, subst, arith, append_assoc, Bool, true, false}
-use Rattle.std.proofs.lemmas.Bool.{lt-ltb, le-ltb}
-use Rattle.std.proofs.lemmas.List.{length-append}
-use Rattle.calc_terms.specs.Node.{Node, size_of}
-use Rattle.node_pool.specs.Nodes.{has, used, first_of, with_count, AreDistinct}
-use Rattle.node_pool.specs.Places.{until, since, between, without, IsBoundary}
-use Rattle.node_pool.specs.State.{State, IsPool}
-use Rattle.node_pool.proofs.Sizes.{used-append, size_from, length_le_used}
-use Rattle.node_pool.proofs.Cuts.{since-append, until-append, until-since, cut}
-use Rattle.node_pool.proofs.Splits.{boundary-append, with_count-append, without-append}
-use Rattle.tree_handles.specs.Forest.{Label, Forest, empty, tree, join, arity, node_of, flatten, first_trees, rest_trees, forest_of}
-use Rattle.tree_handles.specs.Inside.{released}
-use Rattle.tree_handles.specs.Walks.{release_first, released_at, skip, IsOwed, IsNearer, owed_nodes}
+use Rattle.tree_handles.proofs.Shared.{lt-ltb, le-ltb, length-append, Node, size_of, has, used, first_of, with_count, AreDistinct, until, since, between, without, IsBoundary, State, IsPool, used-append, size_from, length_le_used, since-append, until-append, until-since, cut, boundary-append, with_count-append, without-append, Label, Forest, empty, tree, join, arity, node_of, flatten, first_trees, rest_trees, forest_of, released, release_first, released_at, skip, IsOwed, IsNearer, owed_nodes}
 use Rattle.tree_handles.proofs.Distinct.{not_before}
 use Rattle.tree_handles.proofs.Forests.{flatten-join, arity-join, join_assoc, forest_of_whole, skip-flatten}
 use Rattle.tree_handles.proofs.Parts.{place_is, has_mid}

@@ -1,8 +1,6 @@
 -- A root beside a node whose children change.
 use Rattle.std.proofs.Common.{◌≡◌, ℕ, ◌<◌, ◌≤◌, cond, eqb, refl, ap, ◌∙◌, subst, arith, Bool, true, false}
-use Rattle.tree_handles.specs.Forest.{Forest, empty, tree, join, arity, tree_nth, without_nth, with_nth, set_nth}
-use Rattle.tree_handles.specs.Inside.{holds, kids_of, with_kids}
-use Rattle.tree_handles.specs.Roots.{has_root, root_tree, without_root}
+use Rattle.tree_handles.proofs.Shared.{Forest, empty, tree, join, arity, tree_nth, without_nth, with_nth, set_nth, holds, kids_of, with_kids, has_root, root_tree, without_root}
 use Rattle.tree_handles.proofs.Distinct.{held_parent}
 use Rattle.tree_handles.proofs.Forests.{arity-without_nth}
 use Rattle.tree_handles.proofs.Joins.{holds-left, kids_of-join_left, with_kids-join_left, holds-with_kids, kids_of-with_kids, with_kids-with_kids}

@@ -1,13 +1,7 @@
 -- Free bytes from call to call.
 use Rattle.std.proofs.Common.{◌≡◌, ℕ, ◌+◌, ◌≤◌, true, ap, arith}
-use Rattle.calc_terms.specs.Trees.{Tree, num, symbol, undef, add, mult, power, root, neg, sub, div, size}
+use Rattle.tree_handles.proofs.Shared.{Tree, num, symbol, undef, add, mult, power, root, neg, sub, div, size, State, free_of, plain, Forest, tree, bytes_in, Gives, IsHanded, root_tree, without_root, has_root, Stands, forest, KeepsRefusals}
 use Rattle.calc_terms.proofs.Sizes.{num_least}
-use Rattle.node_pool.specs.State.{State, free_of}
-use Rattle.tree_handles.specs.Expressions.{plain}
-use Rattle.tree_handles.specs.Forest.{Forest, tree, bytes_in}
-use Rattle.tree_handles.specs.Handed.{Gives, IsHanded}
-use Rattle.tree_handles.specs.Roots.{root_tree, without_root, has_root}
-use Rattle.tree_handles.specs.Standing.{Stands, forest, KeepsRefusals}
 use Rattle.tree_handles.proofs.Forests.{bytes_in-join}
 use Rattle.tree_handles.proofs.Lasts.{last_tree}
 use Rattle.tree_handles.proofs.Places.{used_forest}

@@ -1,9 +1,6 @@
 -- Laws of roots that need no more than the tests.
 use Rattle.std.proofs.Common.{◌≡◌, ℕ, cond, eqb, refl, sym, ap, ◌∙◌, Bool, true, false}
-use Rattle.std.proofs.lemmas.Bool.{eqb-true}
-use Rattle.tree_handles.specs.Forest.{Label, Forest, empty, tree, join, arity, kids, root_id}
-use Rattle.tree_handles.specs.Inside.{holds}
-use Rattle.tree_handles.specs.Roots.{has_root, root_tree, without_root, put}
+use Rattle.tree_handles.proofs.Shared.{eqb-true, Label, Forest, empty, tree, join, arity, kids, root_id, holds, has_root, root_tree, without_root, put}
 use Rattle.tree_handles.proofs.Outcomes.{by_test, or_true, eqb-sym}
 
 -- ---- a root is a node

@@ -1,13 +1,6 @@
 -- What a reader sees of a root.
 use Rattle.std.proofs.Common.{◌≡◌, ℕ, refl, sym, ap, ◌∙◌, subst, true, false}
-use Rattle.calc_terms.specs.declared.kind.Kind.{Kind}
-use Rattle.calc_terms.specs.Trees.{Tree, num, symbol, undef, add, mult, power, root, neg, sub, div, root_kind, is_mult, is_add}
-use Rattle.node_pool.specs.State.{State}
-use Rattle.tree_handles.specs.Handed.{tree_of, IsHanded}
-use Rattle.tree_handles.specs.Expressions.{plain, IsExpression}
-use Rattle.tree_handles.specs.Inside.{holds, tree_at}
-use Rattle.tree_handles.specs.Roots.{has_root}
-use Rattle.tree_handles.specs.Standing.{Stands, forest}
+use Rattle.tree_handles.proofs.Shared.{Kind, Tree, num, symbol, undef, add, mult, power, root, neg, sub, div, root_kind, is_mult, is_add, State, tree_of, IsHanded, plain, IsExpression, holds, tree_at, has_root, Stands, forest}
 use Rattle.tree_handles.proofs.Lasts.{expression_root, plain_root}
 use Rattle.tree_handles.proofs.Roots.{root_held}
 use Rattle.calc_terms.specs.declared.kind.Kind.TheVariants as kind

@@ -1,19 +1,6 @@
 -- Blocks of children that move within their parent.
 use Rattle.std.proofs.Common.{◌≡◌, ℕ, ◌+◌, ◌-◌, ◌<◌, ◌≤◌, List, [], ◌∷◌, ◌++◌, length, drop, refl, sym, ap, ◌∙◌, subst, arith, append_assoc, true, false}
-use Rattle.std.proofs.lemmas.List.{append-nil, length-append}
-use Rattle.calc_terms.specs.Node.{Node, size_of}
-use Rattle.node_pool.specs.Nodes.{has, used, place_of, first_of, with_children, AreDistinct}
-use Rattle.node_pool.specs.Places.{since, moved, without, exchanged, IsBoundary}
-use Rattle.node_pool.specs.State.{State}
-use Rattle.node_pool.proofs.Sizes.{used-append, size_from}
-use Rattle.node_pool.proofs.Cuts.{since-append}
-use Rattle.node_pool.proofs.Exchanges.{exchanged-append}
-use Rattle.node_pool.proofs.Splits.{boundary-append, place_of-append, moved_right, without-append, with_children-append}
-use Rattle.tree_handles.specs.Forest.{Forest, empty, tree, join, arity, kids, node_of, flatten, first_trees, rest_trees, tree_nth, set_nth, swapped_nth, merged_nth, AllNodes}
-use Rattle.tree_handles.specs.Inside.{tree_at, kids_of, with_kids}
-use Rattle.tree_handles.specs.Roots.{has_root, root_tree, without_root}
-use Rattle.tree_handles.specs.Standing.{forest, Stands, IsCounted}
-use Rattle.tree_handles.specs.Walks.{skip}
+use Rattle.tree_handles.proofs.Shared.{append-nil, length-append, Node, size_of, has, used, place_of, first_of, with_children, AreDistinct, since, moved, without, exchanged, IsBoundary, State, used-append, size_from, since-append, exchanged-append, boundary-append, place_of-append, moved_right, without-append, with_children-append, Forest, empty, tree, join, arity, kids, node_of, flatten, first_trees, rest_trees, tree_nth, set_nth, swapped_nth, merged_nth, AllNodes, tree_at, kids_of, with_kids, has_root, root_tree, without_root, forest, Stands, IsCounted, skip}
 use Rattle.tree_handles.proofs.Counted.{all-kids, all-tree_at, all-with_kids, all-tree_nth, all-set_nth, all-root_tree, all-without_root}
 use Rattle.tree_handles.proofs.Distinct.{not_before, held_parent}
 use Rattle.tree_handles.proofs.Forests.{flatten-join, join-empty, skip-flatten, arity-join, arity-set_nth, arity-tree_nth, nth_tree, all-join}

@@ -1,19 +1,6 @@
 -- Conditions that the tests try.
 use Rattle.std.proofs.Common.{◌≡◌, ℕ, ◌+◌, ◌-◌, ◌<◌, ◌≤◌, List, [], ◌∷◌, ◌++◌, cond, refl, sym, ap, ◌∙◌, subst, arith, Bool, true, false}
-use Rattle.std.proofs.lemmas.Bool.{eq-eqb, ne_eqb}
-use Rattle.calc_terms.specs.Node.{Node, size_of, header_of}
-use Rattle.calc_terms.specs.declared.leaf.Header.{Header}
-use Rattle.node_pool.specs.Nodes.{has, used, first_of, AreNodes, AreDistinct}
-use Rattle.node_pool.specs.Places.{since, until, between, IsBoundary}
-use Rattle.node_pool.specs.State.{State, IsPool, IsPoolSize}
-use Rattle.node_pool.proofs.Cuts.{until-since, until-append, between_next}
-use Rattle.node_pool.proofs.Sizes.{used-append, size_from}
-use Rattle.node_pool.proofs.Walk.{since-zero}
-use Rattle.std.proofs.lemmas.List.{append-nil}
-use Rattle.tree_handles.specs.Forest.{Forest, empty, tree, arity, node_of, flatten}
-use Rattle.tree_handles.specs.Roots.{has_root}
-use Rattle.tree_handles.specs.Standing.{Stands, forest}
-use Rattle.tree_handles.specs.Walks.{skip}
+use Rattle.tree_handles.proofs.Shared.{eq-eqb, ne_eqb, Node, size_of, header_of, Header, has, used, first_of, AreNodes, AreDistinct, since, until, between, IsBoundary, State, IsPool, IsPoolSize, until-since, until-append, between_next, used-append, size_from, since-zero, append-nil, Forest, empty, tree, arity, node_of, flatten, has_root, Stands, forest, skip}
 use Rattle.tree_handles.proofs.Forests.{skip-flatten, stands}
 
 -- the roots that are still to be looked at

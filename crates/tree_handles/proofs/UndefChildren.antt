@@ -1,7 +1,6 @@
 -- Undef among the children of a node.
 use Rattle.std.proofs.Common.{ℕ, zero, suc, ◌<◌, ◌≤◌, ◌≡◌, Bool, true, false, ◌||◌, refl, ap, ◌∙◌, arith}
-use Rattle.calc_terms.specs.Trees.{Tree, undef, Trees, none, more, count, is_undef, IsPartOf, itself, first, later, has_undef}
-use Rattle.tree_handles.specs.Expressions.{nth}
+use Rattle.tree_handles.proofs.Shared.{Tree, undef, Trees, none, more, count, is_undef, IsPartOf, itself, first, later, has_undef, nth}
 
 pub undef_inside : (ts : Trees) → has_undef ts ≡ true → IsPartOf undef ts
 undef_inside none h = cc

@@ -1,25 +1,10 @@
 -- Walks over nodes, and what they come to.
 use Rattle.std.proofs.Common.{◌≡◌, ℕ, zero, suc, ◌+◌, ◌-◌, ◌<◌, ◌≤◌, List, [], ◌∷◌, ◌++◌, length, map, drop, Option, Some, None, refl, sym, ap, ◌∙◌, subst, arith, append-nil, true}
 use Rattle.std.specs.Prelude.{IsSome}
+use Rattle.tree_handles.proofs.Shared.{eq-eqb, length-append, length-map, map-append, Header, Node, header_of, kind_of_payload, used, place_of, first_of, since, until, IsBoundary, State, IsPool, until-since, length_le_used, Visit, Label, Forest, empty, tree, join, arity, node_of, flatten, first_trees, rest_trees, forest_of, kids, root_payload, nodes_in, holds, tree_at, kids_of, Stands, forest, visit_of, visits_of, visit_at, AreFound, BeginsTrees, skip}
 use Rattle.std.specs.Iterator.{YieldsFirst, Drains}
 use Rattle.std.proofs.lemmas.Iterator.{items_from_drains}
 use Rattle.std.proofs.lemmas.Iterator.Consumers.{YieldsList-from_first}
-use Rattle.std.proofs.lemmas.Bool.{eq-eqb}
-use Rattle.std.proofs.lemmas.List.{length-append, length-map, map-append}
-use Rattle.calc_terms.specs.declared.leaf.Header.{Header}
-use Rattle.calc_terms.specs.Node.{Node, header_of}
-use Rattle.calc_terms.specs.Payload.{kind_of_payload}
-use Rattle.node_pool.specs.Nodes.{used, place_of, first_of}
-use Rattle.node_pool.specs.Places.{since, until, IsBoundary}
-use Rattle.node_pool.specs.State.{State, IsPool}
-use Rattle.node_pool.proofs.Cuts.{until-since}
-use Rattle.node_pool.proofs.Sizes.{length_le_used}
-use Rattle.tree_handles.specs.declared.visits.Visit.{Visit}
-use Rattle.tree_handles.specs.Forest.{Label, Forest, empty, tree, join, arity, node_of, flatten, first_trees, rest_trees, forest_of, kids, root_payload, nodes_in}
-use Rattle.tree_handles.specs.Inside.{holds, tree_at, kids_of}
-use Rattle.tree_handles.specs.Standing.{Stands, forest}
-use Rattle.tree_handles.specs.Visits.{visit_of, visits_of, visit_at, AreFound}
-use Rattle.tree_handles.specs.Walks.{BeginsTrees, skip}
 use Rattle.tree_handles.proofs.Distinct.{Distinct, distinct, distinct_parts, distinct-tree_at, holds-tree_at, tree_at-inside, other_id}
 use Rattle.tree_handles.proofs.Forests.{arity-join, arity-rest_trees, first-rest, flatten-join, forest_of-flatten, nodes-flatten}
 use Rattle.tree_handles.proofs.Measures.{before}

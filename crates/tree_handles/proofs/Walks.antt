@@ -1,12 +1,6 @@
 -- Steps over nodes.
 use Rattle.std.proofs.Common.{◌≡◌, ℕ, zero, suc, ◌≤◌, List, [], refl, sym, ap, ◌∙◌}
-use Rattle.calc_terms.specs.declared.leaf.Header.{Header}
-use Rattle.calc_terms.specs.Node.{Node, size_of, header_of, size_of_header}
-use Rattle.node_pool.specs.Nodes.{used, first_of}
-use Rattle.node_pool.specs.Places.{since}
-use Rattle.node_pool.specs.State.{State}
-use Rattle.node_pool.proofs.Walk.{since_end}
-use Rattle.tree_handles.specs.Walks.{skip}
+use Rattle.tree_handles.proofs.Shared.{Header, Node, size_of, header_of, size_of_header, used, first_of, since, State, since_end, skip}
 
 -- the size that a header tells
 pub size_at : (s : State) (at size : ℕ) (h : Header) → h ≡ header_of (first_of (since at s.nodes)) → size ≡ size_of_header h → size ≡ size_of (first_of (since at s.nodes))

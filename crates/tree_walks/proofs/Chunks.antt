@@ -1,18 +1,7 @@
 -- The leaves of a name that are found at a time, and replaced one after another.
 use Rattle.std.proofs.Common.{◌≡◌, ℕ, ◌+◌, ◌-◌, ◌*◌, ◌<◌, ◌≤◌, List, [], ◌∷◌, ◌++◌, length, take, drop, get_or, sym, ap, ◌∙◌, subst, arith}
-use Rattle.std.proofs.Math.ListN.{drop_of_length-le}
+use Rattle.tree_walks.proofs.Shared.{drop_of_length-le, drop_more, get_or-take, length-append, length-take-le, Tree, State, free_of, plain, bytes_in, tree_at, Stands, forest, KeepsRefusals, without_root, few_in, one_at, occurrences, AreFirst, IsLeafAt, PutsCopy, leaves_of}
 use Rattle.std.proofs.Math.Seq.{drop-append_seam}
-use Rattle.std.proofs.lemmas.List.{drop_more, get_or-take, length-append, length-take-le}
-use Rattle.calc_terms.specs.Trees.{Tree}
-use Rattle.node_pool.specs.State.{State, free_of}
-use Rattle.tree_handles.specs.Expressions.{plain}
-use Rattle.tree_handles.specs.Forest.{bytes_in}
-use Rattle.tree_handles.specs.Inside.{tree_at}
-use Rattle.tree_handles.specs.Standing.{Stands, forest, KeepsRefusals}
-use Rattle.tree_handles.specs.Roots.{without_root}
-use Rattle.tree_handles.proofs.Measures.{few_in, one_at}
-use Rattle.tree_walks.specs.Replacing.{occurrences}
-use Rattle.tree_walks.specs.Walks.{AreFirst, IsLeafAt, PutsCopy, leaves_of}
 use Rattle.tree_walks.proofs.Filling.{IsFilling, IsSource, leaves_now, next, source_in}
 use Rattle.tree_walks.proofs.LeafLists.{few_leaves, leaves_plain}
 

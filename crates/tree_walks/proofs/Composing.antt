@@ -1,15 +1,8 @@
 -- What comes of a tree in which a name was replaced.
 use Rattle.std.proofs.Common.{◌≡◌, ℕ, ◌+◌, ◌*◌, List, [], ◌∷◌, ◌++◌, cond, refl, ap, ◌∙◌, subst, arith, inl, inr, Bool, true, false}
 use Rattle.std.specs.Prelude.{Contains, ◌⊎◌, ◌≢◌}
-use Rattle.std.specs.List.{count_by}
-use Rattle.std.specs.Str.{bytes_eq}
-use Rattle.std.proofs.lemmas.List.Elements.{Contains-append_cases, Contains-append_left, Contains-append_right, Contains-push, Contains-push_cases}
-use Rattle.std.proofs.lemmas.List.Sums.{sum_by-append}
-use Rattle.std.proofs.lemmas.Slice.Eq.{bytes_eq-Decides}
-use Rattle.calc_terms.specs.Trees.{Tree, num, symbol, undef, add, mult, power, root, neg, sub, div, Trees, none, more, names, names_of, size, sizes, root_size}
-use Rattle.tree_handles.proofs.Outcomes.{by_test}
+use Rattle.tree_walks.proofs.Shared.{count_by, bytes_eq, Contains-append_cases, Contains-append_left, Contains-append_right, Contains-push, Contains-push_cases, sum_by-append, bytes_eq-Decides, Tree, num, symbol, undef, add, mult, power, root, neg, sub, div, Trees, none, more, names, names_of, size, sizes, root_size, by_test, replaced, replaced_in, occurrences}
 use Rattle.tree_walks.specs.Laws.{StaysWhereAbsent, NamesOfReplaced, OccursWhereNamed, BytesOfReplaced}
-use Rattle.tree_walks.specs.Replacing.{replaced, replaced_in, occurrences}
 use Rattle.tree_walks.proofs.Names.{occurrences_in}
 use Rattle.tree_walks.proofs.Searches.{counted, uncounted}
 

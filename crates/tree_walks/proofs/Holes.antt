@@ -1,18 +1,7 @@
 -- A leaf of a name among the nodes of some trees, and what comes of these where another tree stands in its place.
 use Rattle.std.proofs.Common.{◌≡◌, ℕ, suc, ◌+◌, ◌-◌, ◌<◌, List, [], ◌∷◌, ◌++◌, length, cond, eqb, refl, sym, ap, ◌∙◌, arith, append_assoc, inl, inr, true, false}
 use Rattle.std.specs.Prelude.{◌⊎◌}
-use Rattle.std.proofs.lemmas.Bool.{eq-eqb}
-use Rattle.std.proofs.lemmas.List.{length-append}
-use Rattle.calc_terms.specs.Payload.{Payload, rational, named, bare, size_of_payload}
-use Rattle.calc_terms.specs.Trees.{Tree, Trees, symbol, none, more, append, root_size}
-use Rattle.tree_handles.specs.Expressions.{grown, plains, takes, IsWhole, AllExpressions}
-use Rattle.tree_handles.specs.Forest.{Label, Forest, empty, tree, join, arity, root_id, root_payload, set_nth, tree_nth, bytes_in}
-use Rattle.tree_handles.specs.Handed.{IsOnce, AllOnce}
-use Rattle.tree_handles.specs.Inside.{holds, kids_of, with_kids}
-use Rattle.tree_handles.proofs.Distinct.{Distinct, distinct_parts, other_id}
-use Rattle.tree_handles.proofs.Forests.{all-join, arity-join, bytes_in-join}
-use Rattle.tree_handles.proofs.Outcomes.{by_test}
-use Rattle.tree_walks.specs.Walks.{has_name, leaves_of}
+use Rattle.tree_walks.proofs.Shared.{eq-eqb, length-append, Payload, rational, named, bare, size_of_payload, Tree, Trees, symbol, none, more, append, root_size, grown, plains, takes, IsWhole, AllExpressions, Label, Forest, empty, tree, join, arity, root_id, root_payload, set_nth, tree_nth, bytes_in, IsOnce, AllOnce, holds, kids_of, with_kids, Distinct, distinct_parts, other_id, all-join, arity-join, bytes_in-join, by_test, has_name, leaves_of}
 use Rattle.tree_walks.proofs.LeafLists.{leaves_at, one_or_none, later, later_root, later-all, later-root, later-join, leaves-join}
 use Rattle.tree_walks.proofs.Names.{leaf_alone}
 

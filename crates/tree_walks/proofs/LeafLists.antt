@@ -1,15 +1,6 @@
 -- The leaves of a name, in prefix order, and what comes of them one after another.
 use Rattle.std.proofs.Common.{◌≡◌, ℕ, ◌+◌, ◌-◌, ◌≤◌, List, [], ◌∷◌, ◌++◌, length, cond, eqb, refl, sym, ap, ◌∙◌, arith, append_assoc, Bool, true, false}
-use Rattle.std.proofs.lemmas.Bool.{ne_eqb}
-use Rattle.std.proofs.lemmas.List.{length-append}
-use Rattle.calc_terms.specs.Payload.{Payload}
-use Rattle.calc_terms.specs.Trees.{Tree, Trees, none, more, append}
-use Rattle.tree_handles.specs.Expressions.{grown, plains, plain, AllExpressions}
-use Rattle.tree_handles.specs.Forest.{Label, Forest, empty, tree, join, arity, nodes_in}
-use Rattle.tree_handles.proofs.Outcomes.{by_test}
-use Rattle.tree_handles.proofs.Plains.{alone}
-use Rattle.tree_walks.specs.Replacing.{replaced, replaced_in, occurrences}
-use Rattle.tree_walks.specs.Walks.{has_name, leaves_of}
+use Rattle.tree_walks.proofs.Shared.{ne_eqb, length-append, Payload, Tree, Trees, none, more, append, grown, plains, plain, AllExpressions, Label, Forest, empty, tree, join, arity, nodes_in, by_test, alone, replaced, replaced_in, occurrences, has_name, leaves_of}
 use Rattle.tree_walks.proofs.Names.{named_in, named-tree, occurrences_in, occurrences-alone, replaced-other, replaced-named}
 
 -- how many there are at a node and below it

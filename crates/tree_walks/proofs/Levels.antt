@@ -1,8 +1,6 @@
 -- A walk that has met no node below the limit.
 use Rattle.std.proofs.Common.{◌≡◌, ℕ, ◌-◌, max, ◌<◌, ◌≤◌, List, [], ◌∷◌, get_or, arith}
-use Rattle.tree_handles.specs.declared.visits.Visit.{Visit}
-use Rattle.tree_handles.specs.Forest.{Forest, empty, tree}
-use Rattle.tree_handles.proofs.Depths.{AreOpen, reach, IsWalked, open_count}
+use Rattle.tree_walks.proofs.Shared.{Visit, Forest, empty, tree, AreOpen, reach, IsWalked, open_count}
 
 pub record IsShallow (left : List Visit) (height total many : ℕ) (owed : List ℕ) : Type 0 where
   pub deepest : ℕ

@@ -6,3 +6,4 @@ pub mod Chunks
 pub mod Levels
 pub mod Searches
 pub mod Composing
+pub mod Shared

@@ -1,19 +1,8 @@
 -- Names and replaced names, node by node.
 use Rattle.std.proofs.Common.{◌≡◌, ℕ, zero, suc, ◌+◌, List, cond, refl, ap, arith, Bool, true, false}
-use Rattle.std.specs.List.{count_by}
-use Rattle.std.specs.Str.{bytes_eq}
-use Rattle.std.proofs.lemmas.Bool.{eqb-true}
-use Rattle.std.proofs.lemmas.List.{append-nil}
-use Rattle.std.proofs.lemmas.List.Sums.{sum_by-append}
+use Rattle.tree_walks.proofs.Shared.{count_by, bytes_eq, eqb-true, append-nil, sum_by-append, Payload, rational, named, bare, Tree, num, symbol, undef, power, root, neg, sub, div, Trees, none, more, names, names_of, nth, compound, grown, plains, takes, AllExpressions, children_of, Label, Forest, empty, tree, arity, grown_whole, replaced, replaced_in, occurrences, has_name}
 use Rattle.calc_terms.specs.declared.kind.Kind.{Kind}
 use Rattle.calc_terms.specs.declared.kind.Kind.TheVariants as kind
-use Rattle.calc_terms.specs.Payload.{Payload, rational, named, bare}
-use Rattle.calc_terms.specs.Trees.{Tree, num, symbol, undef, power, root, neg, sub, div, Trees, none, more, names, names_of}
-use Rattle.tree_handles.specs.Expressions.{nth, compound, grown, plains, takes, AllExpressions, children_of}
-use Rattle.tree_handles.specs.Forest.{Label, Forest, empty, tree, arity}
-use Rattle.tree_handles.proofs.Plains.{grown_whole}
-use Rattle.tree_walks.specs.Replacing.{replaced, replaced_in, occurrences}
-use Rattle.tree_walks.specs.Walks.{has_name}
 
 -- ---- how often a name occurs
 

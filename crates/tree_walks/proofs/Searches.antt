@@ -1,21 +1,8 @@
 -- Walks that look for the leaves of a name.
 use Rattle.std.proofs.Common.{◌≡◌, ℕ, ◌<◌, List, [], ◌∷◌, ◌++◌, get_or, cond, refl, sym, ap, ◌∙◌, subst, arith, Bool, true, false}
 use Rattle.std.specs.Prelude.{Contains}
-use Rattle.std.specs.List.{count_by}
-use Rattle.std.specs.Str.{bytes_eq}
-use Rattle.std.proofs.lemmas.List.Elements.{Contains-append_left, Contains-append_right, Contains-push}
-use Rattle.std.proofs.lemmas.List.Sums.{get_or-le-sum_by, sum_by-cons}
-use Rattle.std.proofs.lemmas.Slice.Eq.{bytes_eq-Decides}
-use Rattle.calc_terms.specs.Payload.{kind_of_payload}
-use Rattle.node_pool.specs.State.{State}
-use Rattle.tree_handles.specs.declared.visits.Visit.{Visit}
-use Rattle.tree_handles.specs.Forest.{Forest, empty, tree, join, root_payload}
-use Rattle.tree_handles.specs.Inside.{holds, payload_in, tree_at}
-use Rattle.tree_handles.specs.Standing.{Stands, forest}
+use Rattle.tree_walks.proofs.Shared.{count_by, bytes_eq, Contains-append_left, Contains-append_right, Contains-push, get_or-le-sum_by, sum_by-cons, bytes_eq-Decides, kind_of_payload, State, Visit, Forest, empty, tree, join, root_payload, holds, payload_in, tree_at, Stands, forest, by_test, seen, found, found-join, visit_here, visits_left, no_visit, has_name, leaves_of}
 use Rattle.tree_handles.specs.Visits.{visits_of, AreFound}
-use Rattle.tree_handles.proofs.Outcomes.{by_test}
-use Rattle.tree_handles.proofs.Visiting.{seen, found, found-join, visit_here, visits_left, no_visit}
-use Rattle.tree_walks.specs.Walks.{has_name, leaves_of}
 use Rattle.tree_walks.proofs.LeafLists.{leaves-join}
 
 -- the trees that are still to be looked through, and the leaves of the name in them

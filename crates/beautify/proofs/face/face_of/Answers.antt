@@ -1,13 +1,13 @@
 use Rattle.std.proofs.Common.{◌≡◌, ℕ, Bool, true, false, inl, ap, sym, ◌∙◌, subst, arith, refl, rules}
-use Rattle.beautify.proofs.Names.{face, count, size, AllParts, KeepsMeanings, tree_of, Gives, Starts, plain, nth, IsExpression, Forest, tree_at, without_root, forest, refuses_after, given_rest, given_told, given_other, given_handed, gives, gives_as, owned, represents_handed, expression_root, last_tree, plain_root, has_natural_numbers, IsShowable, passed_on, least_size}
+use Rattle.beautify.proofs.Shared.{face, count, size, AllParts, KeepsMeanings, tree_of, Gives, Starts, plain, nth, IsExpression, Forest, tree_at, without_root, forest, refuses_after, given_rest, given_told, given_other, given_handed, gives, gives_as, owned, represents_handed, expression_root, last_tree, plain_root, has_natural_numbers, IsShowable, passed_on, least_size}
 use Rattle.tree_handles.proofs.Fronts.{behind_first, front_same, front_end, front_without, front_after}
 use Rattle.beautify.proofs.Faces.{face_keeps, other_gone, keeps_before, first_free, lacks_at_once}
 use Rattle.beautify.proofs.Opens.{gone_under}
 use Rattle.beautify.proofs.OwnFaces.{own_face}
 use Rattle.beautify.proofs.Showables.{reduced_showable}
 use Rattle.beautify.proofs.Stacking.{is_stack, stacked_is, given_opens, short}
-use Rattle.beautify.proofs.face.face_of.Goals as goal
 use Rattle.beautify.proofs.face.face_of.Goals.{After-has_natural_numbers, After-release-2}
+use Rattle.beautify.proofs.face.face_of.Goals as goal
 
 pub has_natural_numbers-requires-clause-expression : goal.has_natural_numbers-requires-clause-expression
 has_natural_numbers-requires-clause-expression c = subst (λ (i : ℕ). IsExpression i (forest c.args.pool.now)) (sym c.id.ensures) (expression_root c.requires.stands c.requires.handed)

@@ -1,13 +1,13 @@
 use Rattle.std.proofs.Common.{◌≡◌, ◌<◌, ◌≤◌, ◌-◌, ℕ, suc, drop, length, refl, ap, sym, ◌∙◌, subst, arith, Bool, rules}
-use Rattle.beautify.proofs.Names.{unsigned_face, has_minus, with_minus, Tree, Trees, none, more, count, sizes, first_of, free_of, plain, plains, nth, children_of, IsExpression, Forest, flatten, forest_of, nodes_in, holds, tree_at, without_root, forest, nodes-flatten, given_rest, one_at, behind, node_room, unsigned_faces, IsShowable, HoldsFaces, stacked, passed_on, least_size}
+use Rattle.beautify.proofs.Shared.{unsigned_face, has_minus, with_minus, Tree, Trees, none, more, count, sizes, first_of, free_of, plain, plains, nth, children_of, IsExpression, Forest, flatten, forest_of, nodes_in, holds, tree_at, without_root, forest, nodes-flatten, given_rest, one_at, behind, node_room, unsigned_faces, IsShowable, HoldsFaces, stacked, passed_on, least_size}
 use Rattle.beautify.proofs.Bounds.{bound}
 use Rattle.beautify.proofs.Children.{base_distinct}
 use Rattle.beautify.proofs.Marking.{at_root, same_tree, still_marked}
 use Rattle.beautify.proofs.Stacking.{in_base, same_base, is_stack, stacked_is, on_ok, if_err, restacks_as, nothing_done, then, fails_then, free_after}
 use Rattle.beautify.proofs.Suffixes.{Shows, show_next, all_shown, none_shown, own_part, room_left}
 use Rattle.beautify.proofs.Trees.{pred_less, pred_next}
-use Rattle.beautify.proofs.face.show_tree.Goals as goal
 use Rattle.beautify.proofs.face.show_tree.Goals.{After-node_at-id}
+use Rattle.beautify.proofs.face.show_tree.Goals as goal
 
 pub tree_nodes-left-requires-clause-live : goal.tree_nodes-left-requires-clause-live
 tree_nodes-left-requires-clause-live c = (in_base c.requires.stack.last c.requires.expression).0.live

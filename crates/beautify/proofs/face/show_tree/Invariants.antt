@@ -1,5 +1,5 @@
 use Rattle.std.proofs.Common.{◌≡◌, ◌≤◌, drop, length}
-use Rattle.beautify.proofs.Names.{plains, flatten, forest_of, tree_at, without_root, Stands, forest, IsMark, unsigned_faces, Restacks}
+use Rattle.beautify.proofs.Shared.{plains, flatten, forest_of, tree_at, without_root, Stands, forest, IsMark, unsigned_faces, Restacks}
 use Rattle.beautify.proofs.face.show_tree.Given as goal
 
 abbrev pub invariant-loop-left : goal.invariant-loop-left

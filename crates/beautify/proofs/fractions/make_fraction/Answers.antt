@@ -1,5 +1,5 @@
 use Rattle.std.proofs.Common.{◌≡◌, ◌≤◌, ℕ, ◌+◌, ap, arith, rules}
-use Rattle.beautify.proofs.Names.{Tree, Trees, none, more, count, inserted, forest, behind, cut, stacked, passed_on}
+use Rattle.beautify.proofs.Shared.{Tree, Trees, none, more, count, inserted, forest, behind, cut, stacked, passed_on}
 use Rattle.beautify.proofs.Places.{fraction-above, fraction-both, count-inserted}
 use Rattle.beautify.proofs.Stacking.{is_stack, stacked_is, on_ok, restacks_as, then, fails_then}
 use Rattle.beautify.proofs.Trees.{count-cut, count-behind}

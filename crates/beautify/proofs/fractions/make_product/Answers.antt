@@ -1,5 +1,5 @@
 use Rattle.std.proofs.Common.{◌≡◌, ◌≤◌, ◌+◌, ℕ, ap, sym, ◌∙◌, arith}
-use Rattle.beautify.proofs.Names.{product_of, lowest, Ratio, Tree, Trees, num, mult, none, more, count, inserted, forest, first, behind, cut, stacked}
+use Rattle.beautify.proofs.Shared.{product_of, lowest, Ratio, Tree, Trees, num, mult, none, more, count, inserted, forest, first, behind, cut, stacked}
 use Rattle.beautify.proofs.Places.{product-one, product-more, put_back}
 use Rattle.beautify.proofs.Stacking.{on_ok, restacks_as, nothing_done}
 use Rattle.beautify.proofs.Trees.{cut-zero, count-first, count-behind}

@@ -1,6 +1,6 @@
 use Rattle.std.proofs.Common.{◌≡◌, ap, sym, ◌∙◌, arith, to_z}
 use Rattle.std.specs.Prelude.{pos}
-use Rattle.beautify.proofs.Names.{lowest, Ratio, whole, Trees, num, none, more, inserted, forest, stacked, w128, to_z_pos}
+use Rattle.beautify.proofs.Shared.{lowest, Ratio, whole, Trees, num, none, more, inserted, forest, stacked, w128, to_z_pos}
 use Rattle.beautify.proofs.Places.{unless_one-one, unless_one-other, inserted-none}
 use Rattle.beautify.proofs.Stacking.{restacks_as, nothing_done}
 use Rattle.beautify.proofs.fractions.push_unless_one.Goals as goal

@@ -1,6 +1,6 @@
 use Rattle.std.proofs.Common.{◌-◌, ◌%◌, ℕ, drop, ap, ◌∙◌, arith, rules}
+use Rattle.beautify.proofs.Shared.{first_of, flatten, nodes_in, holds, tree_at, forest}
 use Rattle.beautify.proofs.Marking.{at_root}
-use Rattle.beautify.proofs.Names.{first_of, flatten, nodes_in, holds, tree_at, forest}
 use Rattle.beautify.proofs.marks.mark_before.Goals as goal
 
 pub node_at-requires : goal.node_at-requires

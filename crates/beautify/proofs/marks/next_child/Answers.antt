@@ -1,6 +1,6 @@
 use Rattle.std.proofs.Common.{◌≡◌, ℕ, ◌+◌, refl, ap, ◌∙◌, arith, rules}
+use Rattle.beautify.proofs.Shared.{nodes_in, tree_nth, kids_of, forest, held_parent, few_in}
 use Rattle.beautify.proofs.Marking.{child_marked, next_marked, next_within}
-use Rattle.beautify.proofs.Names.{nodes_in, tree_nth, kids_of, forest, held_parent, few_in}
 use Rattle.tree_handles.proofs.ChildPlaces.{seen_child}
 use Rattle.beautify.proofs.marks.next_child.Goals as goal
 

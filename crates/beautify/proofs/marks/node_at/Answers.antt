@@ -1,5 +1,5 @@
 use Rattle.std.proofs.Common.{◌≡◌, ◌+◌, ◌-◌, ◌≤◌, ◌<◌, ℕ, ap, ◌∙◌, arith, drop, true}
-use Rattle.beautify.proofs.Names.{IsMark, Mark, first_of, Forest, flatten, nodes_in, holds, tree_at, forest}
+use Rattle.beautify.proofs.Shared.{IsMark, Mark, first_of, Forest, flatten, nodes_in, holds, tree_at, forest}
 use Rattle.tree_handles.specs.Orders.{HasBehind}
 use Rattle.beautify.proofs.marks.node_at.Goals as goal
 

@@ -1,5 +1,5 @@
 use Rattle.std.proofs.Common.{◌∙◌, sym, rules}
-use Rattle.beautify.proofs.Names.{tree_at, forest, found}
+use Rattle.beautify.proofs.Shared.{tree_at, forest, found}
 use Rattle.beautify.proofs.NaturalNodes.{tree_natural, read, read_all}
 use Rattle.beautify.proofs.naturals.has_natural_numbers.Goals as goal
 

@@ -1,4 +1,4 @@
-use Rattle.beautify.proofs.Names.{has_natural_numbers, plain, tree_at, forest}
+use Rattle.beautify.proofs.Shared.{has_natural_numbers, plain, tree_at, forest}
 use Rattle.beautify.proofs.NaturalNodes.{IsReading}
 use Rattle.beautify.proofs.naturals.has_natural_numbers.Given as goal
 

@@ -1,5 +1,5 @@
 use Rattle.std.proofs.Common.{◌∙◌, sym, ap}
-use Rattle.beautify.proofs.Names.{holds_natural, Visit, number_seen}
+use Rattle.beautify.proofs.Shared.{holds_natural, Visit, number_seen}
 use Rattle.beautify.proofs.NaturalNodes.{no_rational}
 use Rattle.beautify.proofs.naturals.holds_natural.Goals as goal
 

@@ -1,5 +1,5 @@
 use Rattle.std.proofs.Common.{◌≡◌, not, ap, sym, ◌∙◌, true}
-use Rattle.beautify.proofs.Names.{ratio_parts}
+use Rattle.beautify.proofs.Shared.{ratio_parts}
 use Rattle.beautify.proofs.NaturalNodes.{natural_fraction, natural_whole}
 use Rattle.beautify.proofs.naturals.is_natural.Goals as goal
 

@@ -1,5 +1,5 @@
 use Rattle.std.proofs.Common.{arith, rules}
-use Rattle.beautify.proofs.Names.{forest, stacked}
+use Rattle.beautify.proofs.Shared.{forest, stacked}
 use Rattle.beautify.proofs.Stacking.{is_stack, stacked_is, on_ok, if_err, restacks_as, then, fails_then}
 use Rattle.beautify.proofs.Places.{fraction_room-small}
 use Rattle.beautify.proofs.Stages.{two_stay, inverted, one_left}

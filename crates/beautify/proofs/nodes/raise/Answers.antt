@@ -1,5 +1,5 @@
 use Rattle.std.proofs.Common.{ap, rules}
-use Rattle.beautify.proofs.Names.{has_minus, plain, Forest, tree_at, forest, given_rest, stacked, passed_on}
+use Rattle.beautify.proofs.Shared.{has_minus, plain, Forest, tree_at, forest, given_rest, stacked, passed_on}
 use Rattle.beautify.proofs.Stacking.{is_stack, stacked_is, on_ok, if_err, restacks_as, then, fails_then, same_base}
 use Rattle.beautify.proofs.Stages.{two_stay, raised, still_two}
 use Rattle.beautify.proofs.nodes.raise.Goals as goal

@@ -1,5 +1,5 @@
 use Rattle.std.proofs.Common.{ap, sym, ◌∙◌, arith, rules}
-use Rattle.beautify.proofs.Names.{plain, tree_at, without_root, forest, node_room, stacked}
+use Rattle.beautify.proofs.Shared.{plain, tree_at, without_root, forest, node_room, stacked}
 use Rattle.beautify.proofs.Children.{kind_seen, power_sides, root_argument}
 use Rattle.beautify.proofs.NodeKinds.{add_of_kind, mult_of_kind, mult_room, no_other, shown_as, faces_of, root_shown, one_there}
 use Rattle.beautify.proofs.Stacking.{in_base, on_ok, if_err, restacks_as}

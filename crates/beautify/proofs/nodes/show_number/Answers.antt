@@ -1,5 +1,5 @@
 use Rattle.std.proofs.Common.{rules}
-use Rattle.beautify.proofs.Names.{value_of, forest, stacked, passed_on}
+use Rattle.beautify.proofs.Shared.{value_of, forest, stacked, passed_on}
 use Rattle.beautify.proofs.Splits.{number_stack}
 use Rattle.beautify.proofs.Stacking.{is_stack, stacked_is, on_ok, if_err, restacks_as, then, fails_then}
 use Rattle.beautify.proofs.nodes.show_number.Goals as goal

@@ -1,5 +1,5 @@
 use Rattle.std.proofs.Common.{ap, sym, ◌∙◌, arith, rules}
-use Rattle.beautify.proofs.Names.{exponent_below, plain, Forest, tree_at, without_root, forest, stacked}
+use Rattle.beautify.proofs.Shared.{exponent_below, plain, Forest, tree_at, without_root, forest, stacked}
 use Rattle.beautify.proofs.Splits.{stack_above, stack_of_one, stack_of_more, two_more, node_room-power}
 use Rattle.beautify.proofs.Stacking.{in_base, on_ok, if_err, restacks_as}
 use Rattle.beautify.proofs.nodes.show_power.Goals as goal

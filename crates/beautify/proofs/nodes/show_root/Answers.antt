@@ -1,7 +1,7 @@
 use Rattle.std.proofs.Common.{ap, arith, rules}
-use Rattle.beautify.proofs.Names.{count, gathered}
-use Rattle.calc_terms.specs.declared.kind.Kind.TheVariants as kind
+use Rattle.beautify.proofs.Shared.{count, gathered}
 use Rattle.beautify.proofs.Stacking.{is_stack, stacked_is, on_ok, if_err, restacks_as, then, fails_then}
+use Rattle.calc_terms.specs.declared.kind.Kind.TheVariants as kind
 use Rattle.beautify.proofs.nodes.show_root.Goals as goal
 
 pub gather-requires : goal.gather-requires

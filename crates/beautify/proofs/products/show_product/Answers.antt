@@ -1,5 +1,5 @@
 use Rattle.std.proofs.Common.{◌≡◌, ◌<◌, ◌-◌, ℕ, suc, ap, sym, ◌∙◌, subst, arith, rules}
-use Rattle.beautify.proofs.Names.{unsigned_face, factor_above, factor_below, factors_above, factors_below, Tree, count, append, more, plain, nth, children_of, Forest, tree_at, without_root, forest, given_rest, first, behind, unsigned_faces, IsFactor, stacked}
+use Rattle.beautify.proofs.Shared.{unsigned_face, factor_above, factor_below, factors_above, factors_below, Tree, count, append, more, plain, nth, children_of, Forest, tree_at, without_root, forest, given_rest, first, behind, unsigned_faces, IsFactor, stacked}
 use Rattle.beautify.proofs.Children.{within_kids, child_of}
 use Rattle.beautify.proofs.Places.{fraction_room-small}
 use Rattle.beautify.proofs.Factors.{in_split, split_start, none_above, none_below, split_next, split_done, above_done, below_done, places, split_face, split_room, factor_of, split_end, split_fits}

@@ -1,5 +1,5 @@
 use Rattle.std.proofs.Common.{◌≡◌, ◌≤◌}
-use Rattle.beautify.proofs.Names.{factors_above, factors_below, append, count, free_of, plain, children_of, tree_at, without_root, Stands, forest, first, behind, unsigned_faces, stacked, Restacks}
+use Rattle.beautify.proofs.Shared.{factors_above, factors_below, append, count, free_of, plain, children_of, tree_at, without_root, Stands, forest, first, behind, unsigned_faces, stacked, Restacks}
 use Rattle.beautify.proofs.products.show_product.Given as goal
 
 abbrev pub invariant-loop-left : goal.invariant-loop-left

@@ -1,5 +1,5 @@
 use Rattle.std.proofs.Common.{◌≡◌, ap, sym, ◌∙◌}
-use Rattle.beautify.proofs.Names.{unsigned_face, Tree, num, more, append, root_kind, value_of, plain, Forest, tree_at, without_root, forest}
+use Rattle.beautify.proofs.Shared.{unsigned_face, Tree, num, more, append, root_kind, value_of, plain, Forest, tree_at, without_root, forest}
 use Rattle.beautify.proofs.Stacking.{in_base}
 use Rattle.beautify.proofs.products.split_factor.Goals as goal
 

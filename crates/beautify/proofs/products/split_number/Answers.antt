@@ -1,5 +1,5 @@
 use Rattle.std.proofs.Common.{◌≡◌, ◌≤◌, ◌+◌, ℕ, ap, ◌∙◌, arith, refl, nat_abs, rules}
-use Rattle.beautify.proofs.Names.{unless_one, value_of, Trees, none, append, count, inserted, forest, cut, stacked}
+use Rattle.beautify.proofs.Shared.{unless_one, value_of, Trees, none, append, count, inserted, forest, cut, stacked}
 use Rattle.beautify.proofs.Places.{count-inserted}
 use Rattle.beautify.proofs.Splits.{number_split, unless_one-count}
 use Rattle.beautify.proofs.Stacking.{is_stack, stacked_is, restacks_as, then}

@@ -1,5 +1,5 @@
 use Rattle.std.proofs.Common.{ap, sym, ◌∙◌, arith, refl}
-use Rattle.beautify.proofs.Names.{count, is_div, plain, Forest, tree_at, without_root, forest, stands_below, stacked}
+use Rattle.beautify.proofs.Shared.{count, is_div, plain, Forest, tree_at, without_root, forest, stands_below, stacked}
 use Rattle.beautify.proofs.Splits.{below_factor, above_factor, below_split, above_split}
 use Rattle.beautify.proofs.Stacking.{in_base, restacks_as, nothing_done}
 use Rattle.beautify.proofs.products.split_other.Goals as goal

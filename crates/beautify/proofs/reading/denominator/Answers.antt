@@ -1,6 +1,6 @@
 use Rattle.std.proofs.Common.{ap, sym, ◌∙◌, rules}
 use Rattle.std.specs.Prelude.{nat_abs, FitsSigned}
-use Rattle.beautify.proofs.Names.{ratio_parts, w128, to_z-of_z}
+use Rattle.beautify.proofs.Shared.{ratio_parts, w128, to_z-of_z}
 use Rattle.beautify.proofs.reading.denominator.Goals as goal
 
 pub returns-clause-value : goal.returns-clause-value

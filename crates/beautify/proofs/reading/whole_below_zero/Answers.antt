@@ -1,6 +1,6 @@
 use Rattle.std.proofs.Common.{◌≡◌, ap, sym, ◌∙◌, rules, true}
 use Rattle.std.specs.Prelude.{nat_abs, FitsSigned}
-use Rattle.beautify.proofs.Names.{ratio_parts, w128, to_z-of_z}
+use Rattle.beautify.proofs.Shared.{ratio_parts, w128, to_z-of_z}
 use Rattle.beautify.proofs.Signs.{below_zero-fraction, below_zero-positive, below_zero-whole}
 use Rattle.beautify.proofs.reading.whole_below_zero.Goals as goal
 

@@ -1,5 +1,5 @@
 use Rattle.std.proofs.Common.{◌≡◌, inl, sym, subst, rules}
-use Rattle.beautify.proofs.Names.{Restacks, add, Forest, Gives, without_root, forest, keeps_after, given_root, given_handed, owned, cut, stacked}
+use Rattle.beautify.proofs.Shared.{Restacks, add, Forest, Gives, without_root, forest, keeps_after, given_root, given_handed, owned, cut, stacked}
 use Rattle.beautify.proofs.Sizes.{frees}
 use Rattle.beautify.proofs.stack.discard.Goals as goal
 

@@ -1,5 +1,5 @@
 use Rattle.std.proofs.Common.{ℕ, ap, ◌∙◌, arith, rules}
-use Rattle.beautify.proofs.Names.{Restacks, arity, kids_of, forest, keeps_after, given_root, root_held, stacked}
+use Rattle.beautify.proofs.Shared.{Restacks, arity, kids_of, forest, keeps_after, given_root, root_held, stacked}
 use Rattle.beautify.proofs.Extending.{above, one_below, term_taken, extended, stack_left}
 use Rattle.beautify.proofs.Stacking.{is_under, is_stack, last_given, stack_under, came, many_last, opens_stack}
 use Rattle.beautify.proofs.Sizes.{costs, sizes-extended}

@@ -1,5 +1,5 @@
 use Rattle.std.proofs.Common.{false, ◌≡◌, ℕ, ◌<◌, ap, ◌∙◌, subst, arith, rules}
-use Rattle.beautify.proofs.Names.{Restacks, count, free_of, without_root, forest, keeps_after, given_rest, cut, stacked, bare_size, passed_on}
+use Rattle.beautify.proofs.Shared.{Restacks, count, free_of, without_root, forest, keeps_after, given_rest, cut, stacked, bare_size, passed_on}
 use Rattle.beautify.proofs.Gathering.{gathering_start, more_there, gathering_taken, gathering_over, gathering_next, gathered_all, gathering_end}
 use Rattle.beautify.proofs.Stacking.{is_under, is_stack, stacked_is, opens_stack, last_given, stack_under, came, fails_at_once, short}
 use Rattle.beautify.proofs.Trees.{bare_takes, count-cut}

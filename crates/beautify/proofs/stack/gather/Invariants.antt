@@ -1,4 +1,4 @@
-use Rattle.beautify.proofs.Names.{without_root, Stands, forest, KeepsRefusals, stacked}
+use Rattle.beautify.proofs.Shared.{without_root, Stands, forest, KeepsRefusals, stacked}
 use Rattle.beautify.proofs.Gathering.{IsGathering}
 use Rattle.beautify.proofs.stack.gather.Given as goal
 

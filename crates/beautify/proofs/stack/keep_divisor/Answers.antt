@@ -1,5 +1,5 @@
 use Rattle.std.proofs.Common.{inl, ap, ◌∙◌, arith, rules}
-use Rattle.beautify.proofs.Names.{Restacks, count, forest, keeps_after, given_rest, last_root, other_root, other_owned, stacked}
+use Rattle.beautify.proofs.Shared.{Restacks, count, forest, keeps_after, given_rest, last_root, other_root, other_owned, stacked}
 use Rattle.beautify.proofs.Extending.{quotient, divisor}
 use Rattle.beautify.proofs.Opens.{opens_owned, gone_under}
 use Rattle.beautify.proofs.Stacking.{is_stack, stacked_is, last_given, stack_under, came, many_last}

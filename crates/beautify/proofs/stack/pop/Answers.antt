@@ -1,5 +1,5 @@
 use Rattle.std.proofs.Common.{◌≡◌, sym, subst, arith, rules}
-use Rattle.beautify.proofs.Names.{add, Forest, Gives, without_root, forest, cut, stacked, gives_as, given_rest, last_root}
+use Rattle.beautify.proofs.Shared.{add, Forest, Gives, without_root, forest, cut, stacked, gives_as, given_rest, last_root}
 use Rattle.beautify.proofs.Opens.{taken}
 use Rattle.beautify.proofs.Stacking.{many_last, stack_opens, opens_stack}
 use Rattle.beautify.proofs.stack.pop.Goals as goal

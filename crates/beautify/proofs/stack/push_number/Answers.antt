@@ -1,5 +1,5 @@
 use Rattle.std.proofs.Common.{◌≤◌, sym, subst, arith, rules}
-use Rattle.beautify.proofs.Names.{Restacks, count, num, none, more, size, Forest, forest, keeps_after, given_rest, stacked, value_of, passed_on}
+use Rattle.beautify.proofs.Shared.{Restacks, count, num, none, more, size, Forest, forest, keeps_after, given_rest, stacked, value_of, passed_on}
 use Rattle.beautify.proofs.Stacking.{came, last_given, stack_under, same_stack, fails_at_once, short}
 use Rattle.beautify.proofs.Sizes.{costs, sizes-inserted}
 use Rattle.beautify.proofs.stack.push_number.Goals as goal

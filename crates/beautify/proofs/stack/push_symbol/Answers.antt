@@ -1,5 +1,5 @@
 use Rattle.std.proofs.Common.{arith, rules}
-use Rattle.beautify.proofs.Names.{Restacks, keeps_after, passed_on}
+use Rattle.beautify.proofs.Shared.{Restacks, keeps_after, passed_on}
 use Rattle.beautify.proofs.Stacking.{came, last_given, stack_under, same_stack, fails_at_once, short}
 use Rattle.beautify.proofs.Sizes.{costs}
 use Rattle.beautify.proofs.stack.push_symbol.Goals as goal

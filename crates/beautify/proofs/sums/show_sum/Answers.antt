@@ -1,11 +1,11 @@
 use Rattle.std.proofs.Common.{◌≡◌, ◌<◌, ◌+◌, ◌-◌, ℕ, refl, ap, sym, ◌∙◌, arith, rules}
-use Rattle.beautify.proofs.Names.{has_minus, Trees, count, plain, nth, children_of, Forest, arity, tree_at, kids_of, without_root, forest, stacked, IsChildMark, passed_on}
+use Rattle.beautify.proofs.Shared.{has_minus, Trees, count, plain, nth, children_of, Forest, arity, tree_at, kids_of, without_root, forest, stacked, IsChildMark, passed_on}
 use Rattle.beautify.proofs.Children.{within_kids, child_of}
 use Rattle.beautify.proofs.Marking.{child_there, same_tree, still_child}
 use Rattle.beautify.proofs.Stacking.{in_base, is_stack, stacked_is, restacks_as, then, fails_then}
 use Rattle.beautify.proofs.Terms.{so_far, two_terms, sum_room, sum_start, not_summed, two_left, sum_step, summed_step, sum_end}
-use Rattle.beautify.proofs.sums.show_sum.Goals as goal
 use Rattle.beautify.proofs.sums.show_sum.Goals.{After-children-terms, After-next_child-term}
+use Rattle.beautify.proofs.sums.show_sum.Goals as goal
 
 pub children-terms-requires-clause-live : goal.children-terms-requires-clause-live
 children-terms-requires-clause-live c = (in_base c.requires.stack.last c.requires.expression).0.live

@@ -1,5 +1,5 @@
 use Rattle.std.proofs.Common.{◌≡◌, ◌≤◌, ◌+◌, ◌*◌, ◌-◌}
-use Rattle.beautify.proofs.Names.{as_tree, more, free_of, plain, children_of, tree_at, without_root, Stands, forest, behind, IsChildMark, is_summed, stacked, Restacks}
+use Rattle.beautify.proofs.Shared.{as_tree, more, free_of, plain, children_of, tree_at, without_root, Stands, forest, behind, IsChildMark, is_summed, stacked, Restacks}
 use Rattle.beautify.proofs.Terms.{so_far}
 use Rattle.beautify.proofs.sums.show_sum.Given as goal
 

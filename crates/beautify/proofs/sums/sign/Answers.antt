@@ -1,5 +1,5 @@
 use Rattle.std.proofs.Common.{ap, sym, ◌∙◌, Bool}
-use Rattle.beautify.proofs.Names.{has_minus, with_minus, none, more, plain, nth, inserted, Forest, forest, cut, stacked}
+use Rattle.beautify.proofs.Shared.{has_minus, with_minus, none, more, plain, nth, inserted, Forest, forest, cut, stacked}
 use Rattle.beautify.proofs.Places.{gathered-neg, put_back}
 use Rattle.beautify.proofs.Stacking.{in_base, on_ok, restacks_as, nothing_done}
 use Rattle.beautify.proofs.sums.sign.Goals as goal

@@ -1,8 +1,5 @@
 use Rattle.std.proofs.Common.{ap, ◌∙◌, refl}
-use Rattle.calc_terms.specs.Rat.{value_of}
-use Rattle.calc_algebra.specs.Reduced.{is_reduced}
-use Rattle.calc_terms.specs.Trees.{is_undef}
-use Rattle.tree_handles.proofs.Given.{given_handed, given_told}
+use Rattle.beautify.proofs.Shared.{value_of, is_reduced, is_undef, given_handed, given_told}
 use Rattle.beautify.proofs.Examples.{number_reduced}
 use Rattle.beautify.proofs.tests.bytes_of_face.Goals as goal
 

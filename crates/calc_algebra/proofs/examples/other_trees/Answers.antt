@@ -1,10 +1,5 @@
 use Rattle.std.proofs.Common.{refl}
-use Rattle.calc_algebra.specs.Clean.{is_clean, left_of}
-use Rattle.calc_terms.specs.Fractions.{lowest, one_fraction, zero_fraction}
-use Rattle.calc_terms.specs.Gcd.{gcd}
-use Rattle.calc_algebra.specs.Numbers.{is_number}
-use Rattle.calc_algebra.specs.Reduced.{is_reduced}
-use Rattle.calc_algebra.specs.SquareRoots.{square_root}
+use Rattle.calc_algebra.proofs.Shared.{is_clean, left_of, lowest, one_fraction, zero_fraction, gcd, is_number, is_reduced, square_root}
 use Rattle.calc_algebra.proofs.examples.other_trees.Goals as goal
 
 pub returns-clause-a_difference : goal.returns-clause-a_difference

@@ -1,6 +1,5 @@
 use Rattle.std.proofs.Common.{refl}
-use Rattle.calc_algebra.specs.Clean.{is_clean, left_of}
-use Rattle.calc_algebra.specs.SquareRoots.{square_root}
+use Rattle.calc_algebra.proofs.Shared.{is_clean, left_of, square_root}
 use Rattle.calc_algebra.proofs.examples.radicands_tested.Goals as goal
 
 pub returns-clause-square_free : goal.returns-clause-square_free

@@ -1,7 +1,5 @@
 use Rattle.std.proofs.Common.{◌≡◌, refl, pos, ap, arith}
-use Rattle.calc_terms.specs.Gcd.{gcd}
-use Rattle.calc_terms.specs.Fractions.{lowest, plus, times, zero_fraction, one_fraction}
-use Rattle.calc_algebra.specs.SquareRoots.{square_root}
+use Rattle.calc_algebra.proofs.Shared.{gcd, lowest, plus, times, zero_fraction, one_fraction, square_root}
 use Rattle.calc_algebra.proofs.Compared.{compared_same}
 use Rattle.calc_algebra.proofs.examples.surds_compared.Goals as goal
 

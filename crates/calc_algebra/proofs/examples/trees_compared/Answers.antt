@@ -1,6 +1,5 @@
 use Rattle.std.proofs.Common.{refl}
-use Rattle.calc_terms.specs.Fractions.{lowest}
-use Rattle.calc_terms.specs.Gcd.{gcd}
+use Rattle.calc_algebra.proofs.Shared.{lowest, gcd}
 use Rattle.calc_algebra.proofs.examples.trees_compared.Goals as goal
 
 pub returns-clause-by_kind : goal.returns-clause-by_kind

@@ -1,11 +1,6 @@
 use Rattle.std.specs.Prelude.{ℕ, ◌↔◌, ◌≤◌, IfErr, IsOk}
 use Rattle.std.proofs.Common.{sym, subst}
-use Rattle.calc_tokens.specs.declared.tokens.What.{What}
-use Rattle.calc_tokens.specs.Tokens.{token_of}
-use Rattle.node_pool.specs.State.{free_of}
-use Rattle.tree_handles.specs.Standing.{forest, IsRefused}
-use Rattle.calc_parser.specs.Growing.{Grows}
-use Rattle.calc_parser.specs.Postfix.{leaf}
+use Rattle.calc_parser.proofs.Shared.{What, token_of, free_of, forest, IsRefused, Grows, leaf}
 use Rattle.calc_parser.proofs.Leaves.{ok_as, number_grows, name_grows, other, other_grows}
 use Rattle.calc_parser.proofs.building.place_leaf.Goals as goal
 

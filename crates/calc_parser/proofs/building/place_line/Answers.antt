@@ -1,23 +1,12 @@
 use Rattle.std.specs.Prelude.{◌≡◌, List, map, OnOk, IfErr, Ok, Err}
-use Rattle.std.specs.Option.{option_map}
 use Rattle.std.proofs.Common.{refl, sym, ◌∙◌, subst}
-use Rattle.calc_terms.specs.Leaf.{name_of}
-use Rattle.calc_terms.specs.Trees.{Tree}
-use Rattle.calc_tokens.specs.Placed.{bare}
-use Rattle.calc_tokens.specs.Tokens.{tokens_of}
-use Rattle.node_pool.specs.State.{free_of}
-use Rattle.tree_handles.proofs.Given.{gives_as}
-use Rattle.calc_parser.specs.Building.{placing}
-use Rattle.calc_parser.specs.Lines.{IsTreeOf}
-use Rattle.calc_parser.specs.Postfix.{Node, postfix}
-use Rattle.calc_parser.specs.Reader.{node_of, tokens_in}
-use Rattle.calc_parser.specs.Stores.{IsSplit}
+use Rattle.calc_parser.proofs.Shared.{option_map, name_of, Tree, bare, tokens_of, free_of, gives_as, placing, IsTreeOf, Node, postfix, node_of, tokens_in, IsSplit}
 use Rattle.calc_parser.proofs.Checks.{sum_of_line}
 use Rattle.calc_parser.proofs.Leaves.{ok_as}
 use Rattle.calc_parser.proofs.LineSteps.{same_split}
 use Rattle.calc_parser.proofs.Replay.{same_nodes}
-use Rattle.calc_parser.proofs.building.place_line.Goals as goal
 use Rattle.calc_parser.proofs.building.place_line.Goals.{After-without_store}
+use Rattle.calc_parser.proofs.building.place_line.Goals as goal
 
 -- the steps are the nodes of the line's tree
 nodes_are : (c : After-without_store) (t : Tree) → IsTreeOf (bare (tokens_of c.args.tokens.now)) t → map (node_of (tokens_in c.without_store.result.0.now)) c.args.steps.now ≡ postfix t

@@ -1,13 +1,6 @@
 use Rattle.std.specs.Prelude.{◌≡◌, ◌+◌, ◌-◌, ◌++◌, ◌∷◌, [], ◌≤◌, ℕ, List, length, take, get_or, drop, map}
 use Rattle.std.proofs.Common.{refl, sym, ap, ◌∙◌, subst, arith}
-use Rattle.std.proofs.lemmas.List.{length-take}
-use Rattle.node_pool.specs.State.{free_of}
-use Rattle.tree_handles.specs.Standing.{forest}
-use Rattle.tree_handles.proofs.Places.{used_forest}
-use Rattle.calc_parser.specs.declared.postfix.Step.TheVariants.{Leaf}
-use Rattle.calc_parser.specs.Building.{bytes_of_node}
-use Rattle.calc_parser.specs.Growing.{children_in}
-use Rattle.calc_parser.specs.Reader.{node_of, tokens_in}
+use Rattle.calc_parser.proofs.Shared.{length-take, free_of, forest, used_forest, Leaf, bytes_of_node, children_in, node_of, tokens_in}
 use Rattle.calc_parser.proofs.UnderWay.{IsUnderWay, IsReady, begins, at_step, ready, placed, front, IsStopped, stopped, IsLast, last_of_grown, whole_tree, no_step, some_root, that_root, was_short}
 use Rattle.calc_parser.proofs.building.place_nodes.Goals as goal
 

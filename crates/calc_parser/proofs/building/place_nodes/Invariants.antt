@@ -1,7 +1,5 @@
 use Rattle.std.specs.Prelude.{◌≡◌, ◌≤◌, drop, map, MatchOption}
-use Rattle.arrayvec.specs.ArrayVec.{array_vec_len}
-use Rattle.tree_handles.specs.Standing.{forest}
-use Rattle.calc_parser.specs.Reader.{node_of, tokens_in}
+use Rattle.calc_parser.proofs.Shared.{array_vec_len, forest, node_of, tokens_in}
 use Rattle.calc_parser.proofs.UnderWay.{IsUnderWay, IsLast}
 use Rattle.calc_parser.proofs.building.place_nodes.Given as goal
 

@@ -1,5 +1,4 @@
-use Rattle.calc_tokens.specs.Placed.{bare}
-use Rattle.calc_tokens.specs.Tokens.{tokens_of}
+use Rattle.calc_parser.proofs.Shared.{bare, tokens_of}
 use Rattle.calc_parser.proofs.Answered.{shaped, accepted, syntax_exact, deep_exact}
 use Rattle.calc_parser.proofs.checking.check.Goals as goal
 

@@ -1,12 +1,6 @@
 use Rattle.std.specs.Prelude.{◌≡◌, length, map}
-use Rattle.std.specs.Option.{option_map}
 use Rattle.std.proofs.Common.{sym, ap, ◌∙◌, arith}
-use Rattle.calc_terms.specs.Leaf.{name_of}
-use Rattle.calc_terms.specs.Trees.{depth}
-use Rattle.calc_tokens.specs.Placed.{bare}
-use Rattle.calc_tokens.specs.Tokens.{tokens_of}
-use Rattle.calc_parser.specs.Reader.{node_of}
-use Rattle.calc_parser.specs.Postfix.{postfix}
+use Rattle.calc_parser.proofs.Shared.{option_map, name_of, depth, bare, tokens_of, node_of, postfix}
 use Rattle.calc_parser.proofs.Checks.{line_of_sum}
 use Rattle.calc_parser.proofs.Measures.{nodes_found, length_map}
 use Rattle.calc_parser.proofs.checking.checked.Goals as goal

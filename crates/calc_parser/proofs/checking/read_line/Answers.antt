@@ -1,17 +1,11 @@
 use Rattle.std.specs.Prelude.{◌≡◌, map}
-use Rattle.std.specs.Option.{option_map}
 use Rattle.std.proofs.Common.{ap, ◌∙◌}
-use Rattle.calc_terms.specs.Leaf.{name_of}
-use Rattle.calc_tokens.specs.Placed.{bare}
-use Rattle.calc_tokens.specs.Tokens.{tokens_of}
-use Rattle.calc_parser.specs.Lines.{IsNoLine}
-use Rattle.calc_parser.specs.Reader.{steps_in, tokens_in}
-use Rattle.calc_parser.specs.Stores.{IsSplit}
+use Rattle.calc_parser.proofs.Shared.{option_map, name_of, bare, tokens_of, IsNoLine, steps_in, tokens_in, IsSplit}
 use Rattle.calc_parser.proofs.Checks.{sum_of_line}
 use Rattle.calc_parser.proofs.Runs.{on_err}
 use Rattle.calc_parser.proofs.LineSteps.{same_split, steps_of_none, steps_of_sum}
-use Rattle.calc_parser.proofs.checking.read_line.Goals as goal
 use Rattle.calc_parser.proofs.checking.read_line.Goals.{After-read}
+use Rattle.calc_parser.proofs.checking.read_line.Goals as goal
 
 -- the tokens before the store
 split : (c : After-read) → IsSplit (bare (tokens_of c.args.tokens.now)) (tokens_in c.without_store-store.result.0.now) (option_map name_of c.without_store-store.result.1)

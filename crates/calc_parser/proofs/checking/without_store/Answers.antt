@@ -1,10 +1,9 @@
 use Rattle.std.proofs.Common.{refl, arith}
-use Rattle.calc_tokens.specs.Tokens.{token_of}
-use Rattle.calc_parser.specs.Reader.{tokens_in}
+use Rattle.calc_parser.proofs.Shared.{token_of, tokens_in}
 use Rattle.calc_parser.proofs.Checks.{short_stores_nothing, unstored, tokens_before_two}
 use Rattle.calc_parser.proofs.Runs.{count_tokens}
-use Rattle.calc_parser.proofs.checking.without_store.Goals as goal
 use Rattle.calc_parser.proofs.checking.without_store.Goals.{in-Some+in-Some-split_last+in_default-stored, in-Some+in_default-split_last, in_default}
+use Rattle.calc_parser.proofs.checking.without_store.Goals as goal
 
 pub returns-clause-split : goal.returns-clause-split
 returns-clause-split c =

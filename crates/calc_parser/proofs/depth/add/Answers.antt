@@ -1,6 +1,6 @@
 use Rattle.std.specs.Prelude.{◌≡◌, ◌≤◌, ◌-◌, length, take, drop}
 use Rattle.std.proofs.Common.{arith, ap}
-use Rattle.calc_parser.specs.Depths.{deepest}
+use Rattle.calc_parser.proofs.Shared.{deepest}
 use Rattle.calc_parser.proofs.Measures.{deepest_take, deepest_drop}
 use Rattle.calc_parser.proofs.depth.add.Goals as goal
 

@@ -1,5 +1,5 @@
 use Rattle.std.proofs.Common.{◌≡◌, max, drop}
-use Rattle.calc_parser.specs.Depths.{deepest}
+use Rattle.calc_parser.proofs.Shared.{deepest}
 use Rattle.calc_parser.proofs.depth.deepest.Given as goal
 
 abbrev pub invariant-loop-depth : goal.invariant-loop-depth

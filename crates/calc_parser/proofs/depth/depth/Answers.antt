@@ -1,9 +1,6 @@
 use Rattle.std.specs.Prelude.{◌≤◌, ◌+◌, ◌-◌, length, [], unwrap_or}
-use Rattle.std.specs.List.{slice_get}
 use Rattle.std.proofs.Common.{arith, ap, ◌∙◌, get_or}
-use Rattle.calc_parser.specs.declared.postfix.Step.TheVariants.{Leaf}
-use Rattle.calc_parser.specs.Depths.{deepest}
-use Rattle.calc_parser.specs.Reader.{node_of}
+use Rattle.calc_parser.proofs.Shared.{slice_get, Leaf, deepest, node_of}
 use Rattle.calc_parser.proofs.Measures.{add_on, with_node_small, one_left}
 use Rattle.calc_parser.proofs.depth.depth.Goals as goal
 

@@ -1,8 +1,5 @@
 use Rattle.std.proofs.Common.{◌≡◌, ◌≤◌, drop, map, List, []}
-use Rattle.arrayvec.specs.ArrayVec.{array_vec_len}
-use Rattle.calc_language.specs.Tokens.{Token}
-use Rattle.calc_parser.specs.Depths.{deepest, with_nodes}
-use Rattle.calc_parser.specs.Reader.{node_of}
+use Rattle.calc_parser.proofs.Shared.{array_vec_len, Token, deepest, with_nodes, node_of}
 use Rattle.calc_parser.proofs.depth.depth.Given as goal
 
 abbrev pub invariant-loop-step : goal.invariant-loop-step

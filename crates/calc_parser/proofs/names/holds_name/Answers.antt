@@ -1,5 +1,4 @@
-use Rattle.calc_terms.specs.Leaf.{name_of}
-use Rattle.calc_tokens.specs.Tokens.{tokens_of}
+use Rattle.calc_parser.proofs.Shared.{name_of, tokens_of}
 use Rattle.calc_parser.proofs.NamesOfLines.{name_test}
 use Rattle.calc_parser.proofs.names.holds_name.Goals as goal
 

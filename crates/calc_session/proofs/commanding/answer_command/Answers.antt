@@ -1,22 +1,12 @@
 use Rattle.std.proofs.Common.{inl, refl, sym, subst, arith}
-use Rattle.breakers.specs.Watch.{states}
-use Rattle.calc_commands.specs.Commands.{IsCommandLine, asked_of}
-use Rattle.calc_commands.specs.Reports.{pool_report, dump_of}
+use Rattle.calc_session.proofs.Shared.{states, IsCommandLine, asked_of, pool_report, dump_of, CountsRefusal, refusal_of_pool, expands, solves, tells_the_pool, tells_the_bytes, is_no_command, state_of, name_of, tokens_of, IsHeld, forest_of}
 use Rattle.calc_commands.specs.declared.command.Command.{Command}
-use Rattle.calc_session.specs.declared.answers.LineAnswer.TheVariants as answer
-use Rattle.calc_session.specs.declared.answers.Refusal.TheVariants as refusal
-use Rattle.calc_session.specs.Answers.{CountsRefusal, refusal_of_pool}
-use Rattle.calc_session.specs.Calculating.{expands, solves}
-use Rattle.calc_session.specs.Commanding.{tells_the_pool, tells_the_bytes, is_no_command}
-use Rattle.calc_session.specs.States.{state_of}
-use Rattle.calc_terms.specs.Leaf.{name_of}
-use Rattle.calc_tokens.specs.Tokens.{tokens_of}
-use Rattle.name_table.specs.Held.{IsHeld}
-use Rattle.tree_handles.specs.Forest.{forest_of}
 use Rattle.calc_session.proofs.CalculatingLemmas.{answers_calculated, answers_derivative, answers_no_expression, counts_derivative, equations_within, expression_within, text_within}
 use Rattle.calc_session.proofs.CommandLemmas.{answers_drawn, answers_no_command, answers_told, calm_told, command_uninterrupted, draw_uninterrupted, none_of, refusal_uninterrupted, report_uninterrupted, written}
 use Rattle.calc_session.proofs.EvaluationLemmas.{none_rose}
 use Rattle.calc_session.proofs.SessionLemmas.{answers_command}
+use Rattle.calc_session.specs.declared.answers.LineAnswer.TheVariants as answer
+use Rattle.calc_session.specs.declared.answers.Refusal.TheVariants as refusal
 use Rattle.calc_session.proofs.commanding.answer_command.Goals as goal
 
 pub returns-in_default-clause-answers : goal.returns-in_default-clause-answers

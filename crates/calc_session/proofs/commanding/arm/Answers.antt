@@ -1,7 +1,5 @@
 use Rattle.std.proofs.Common.{◌∙◌, sym, subst, codes}
-use Rattle.breakers.specs.Breakers.{TripsRose}
-use Rattle.breakers.specs.Watch.{states}
-use Rattle.calc_commands.specs.Reports.{after_report}
+use Rattle.calc_session.proofs.Shared.{TripsRose, states, after_report}
 use Rattle.calc_session.proofs.CommandLemmas.{answers_armed, answers_unarmed, arming_trips_none, written}
 use Rattle.calc_session.proofs.EvaluationLemmas.{none_rose}
 use Rattle.calc_session.proofs.commanding.arm.Goals as goal

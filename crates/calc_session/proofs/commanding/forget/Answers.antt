@@ -1,8 +1,5 @@
 use Rattle.std.proofs.Common.{◌∙◌, refl, sym}
-use Rattle.calc_commands.specs.Reports.{forgot_report, unknown_report}
-use Rattle.calc_terms.specs.Leaf.{name_of}
-use Rattle.calc_session.specs.Commanding.{keeps_ans}
-use Rattle.calc_session.specs.States.{state_of}
+use Rattle.calc_session.proofs.Shared.{forgot_report, unknown_report, name_of, keeps_ans, state_of}
 use Rattle.calc_session.proofs.CommandLemmas.{answers_forgot, answers_reserved, answers_unknown, written}
 use Rattle.calc_session.proofs.commanding.forget.Goals as goal
 

@@ -1,16 +1,9 @@
 use Rattle.std.proofs.Common.{◌≡◌, Ok, Err, sym, subst, arith}
-use Rattle.pool_layouts.specs.Serial.{serial}
-use Rattle.tree_handles.specs.Expressions.{IsExpression}
-use Rattle.tree_handles.specs.Standing.{forest}
-use Rattle.calc_session.specs.declared.answers.LineAnswer.TheVariants as answer
-use Rattle.calc_session.specs.declared.answers.Refusal.{Refusal}
-use Rattle.calc_session.specs.Answers.{AnswersCommand, CountsRefusal, reply_of}
-use Rattle.calc_session.specs.Drawing.{lack_in, told_at}
-use Rattle.calc_session.specs.Replies.{refusal_in}
-use Rattle.calc_session.specs.States.{state_of}
+use Rattle.calc_session.proofs.Shared.{serial, IsExpression, forest, Refusal, AnswersCommand, CountsRefusal, reply_of, lack_in, told_at, refusal_in, state_of}
 use Rattle.calc_session.proofs.CommandLemmas.{answers_layout, answers_no_room}
 use Rattle.calc_session.proofs.DrawingLemmas.{answer_expression, still_held}
 use Rattle.calc_session.proofs.SessionLemmas.{same_after}
+use Rattle.calc_session.specs.declared.answers.LineAnswer.TheVariants as answer
 use Rattle.calc_session.proofs.commanding.tell_layout.Goals as goal
 
 pub write_layout-requires-clause-expression : goal.write_layout-requires-clause-expression

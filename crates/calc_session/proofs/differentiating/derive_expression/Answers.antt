@@ -1,21 +1,8 @@
 use Rattle.std.proofs.Common.{◌∙◌, ◌≤◌, None, inl, refl, sym, subst}
-use Rattle.breakers.specs.Watch.{states}
-use Rattle.calc_terms.specs.Leaf.{name_of}
-use Rattle.calc_terms.specs.Trees.{depth}
-use Rattle.name_table.specs.Filling.{values}
-use Rattle.node_pool.specs.State.{free_of}
-use Rattle.tree_handles.specs.Handed.{tree_of}
-use Rattle.tree_handles.specs.Standing.{forest}
-use Rattle.tree_handles.proofs.Given.{given_rest, gives_as}
-use Rattle.calc_session.specs.Answers.{refusal_of_evaluation, reply_of}
-use Rattle.calc_session.specs.Counting.{LacksDerivativeOf}
-use Rattle.calc_session.specs.Deriving.{IsReplyToDerivative, LacksDerivative}
-use Rattle.calc_session.specs.Evaluations.{IsReplyToMade, is_not_made, is_made, made}
-use Rattle.calc_session.specs.Replies.{refusal_in, reported}
+use Rattle.calc_session.proofs.Shared.{states, name_of, depth, values, free_of, tree_of, forest, given_rest, gives_as, refusal_of_evaluation, reply_of, LacksDerivativeOf, IsReplyToDerivative, LacksDerivative, IsReplyToMade, is_not_made, is_made, made, refusal_in, reported, held_entries}
 use Rattle.calc_session.proofs.DerivingLemmas.{made_shallow}
 use Rattle.calc_session.proofs.EvaluationLemmas.{calm_refused, comes_as, free_before, front_over, gives_told, size_kept}
 use Rattle.calc_session.proofs.TellingLemmas.{as_reported, counted_then}
-use Rattle.name_table.proofs.Entries.{held_entries}
 use Rattle.calc_session.proofs.differentiating.derive_expression.Goals as goal
 
 pub build_and_fill-requires-clause-entries : goal.build_and_fill-requires-clause-entries

@@ -1,26 +1,12 @@
 use Rattle.std.proofs.Common.{◌≡◌, ◌∙◌, ◌+◌, ◌≤◌, ℕ, Bool, true, false, inl, inr, refl, sym, ap, subst, arith}
-use Rattle.breakers.specs.Watch.{states}
-use Rattle.calc_terms.specs.Leaf.{name_of}
-use Rattle.calc_terms.specs.Trees.{depth, size}
-use Rattle.dual_diff.specs.Derivatives.{HasDerivative, derivative}
-use Rattle.node_pool.specs.State.{State, free_of}
-use Rattle.tree_handles.specs.Expressions.{IsExpression, plain}
-use Rattle.tree_handles.specs.Handed.{tree_of, Gives}
-use Rattle.tree_handles.specs.Inside.{tree_at}
-use Rattle.tree_handles.specs.Roots.{without_root}
-use Rattle.tree_handles.specs.Standing.{forest, KeepsRefusals}
-use Rattle.tree_handles.proofs.Forests.{keeps_after}
-use Rattle.tree_handles.proofs.Given.{given_handed, given_other, given_rest, given_root, given_told, gives_as, owned}
-use Rattle.tree_handles.proofs.Lasts.{expression_root, plain_root}
-use Rattle.calc_session.specs.declared.answers.Refusal.{Refusal}
-use Rattle.calc_session.specs.declared.answers.Refusal.TheVariants as refusal
-use Rattle.calc_session.specs.Answers.{refusal_of_evaluation, reply_of}
-use Rattle.calc_session.specs.Deriving.{IsReplyToDerivative, LacksDerivative, has_none, lacks_bytes}
-use Rattle.calc_session.specs.Replies.{refusal_in, reported}
+use Rattle.calc_session.proofs.Shared.{states, name_of, depth, size, HasDerivative, derivative, free_of, IsExpression, plain, tree_of, Gives, tree_at, without_root, forest, KeepsRefusals, keeps_after, given_handed, given_other, given_rest, given_root, given_told, gives_as, owned, expression_root, plain_root, Refusal, refusal_of_evaluation, reply_of, IsReplyToDerivative, LacksDerivative, has_none, refusal_in, reported}
+use Rattle.node_pool.specs.State.{State}
+use Rattle.calc_session.specs.Deriving.{lacks_bytes}
 use Rattle.calc_session.proofs.DerivingLemmas.{beside_released, comes_reduced, front_beside, over}
 use Rattle.calc_session.proofs.EvaluationLemmas.{calm_refused, full_interrupts_none, keeps_then, size_kept}
-use Rattle.calc_session.proofs.differentiating.derive_tree.Goals as goal
 use Rattle.calc_session.proofs.differentiating.derive_tree.Goals.{After-id-id, After-release, After-refused}
+use Rattle.calc_session.specs.declared.answers.Refusal.TheVariants as refusal
+use Rattle.calc_session.proofs.differentiating.derive_tree.Goals as goal
 
 -- the tree at the identifier of its handle
 same : (g : _) (c : After-id-id g) → plain (tree_at c.id-id.result (forest c.args.pool.now)) ≡ tree_of c.args.tree c.args.pool.now

@@ -1,19 +1,8 @@
 use Rattle.std.proofs.Common.{◌∙◌, ◌*◌, ◌+◌, sym, ap, subst}
-use Rattle.breakers.specs.Breakers.{TripsRose}
-use Rattle.breakers.specs.Watch.{states}
-use Rattle.calc_terms.specs.Leaf.{name_of}
-use Rattle.name_table.specs.Filling.{values}
-use Rattle.node_pool.specs.State.{free_of}
-use Rattle.tree_handles.specs.Standing.{forest}
-use Rattle.calc_session.specs.declared.answers.Refusal.TheVariants as refusal
-use Rattle.calc_session.specs.Answers.{CountsRefusal}
-use Rattle.calc_session.specs.Counting.{IsCountedBut, LacksDerivativeOf}
-use Rattle.calc_session.specs.Deriving.{IsReplyToDerivative}
-use Rattle.calc_session.specs.Evaluations.{IsReplyToMade, made}
-use Rattle.calc_session.specs.Replies.{reported}
+use Rattle.calc_session.proofs.Shared.{TripsRose, states, name_of, values, free_of, forest, CountsRefusal, IsCountedBut, LacksDerivativeOf, IsReplyToDerivative, IsReplyToMade, made, reported, refusal_of_evaluation}
 use Rattle.calc_session.proofs.PoolLemmas.{old_below}
 use Rattle.calc_session.proofs.TellingLemmas.{counted_still, has_face, same_again, told_interruption, told_lack, told_reply}
-use Rattle.calc_session.specs.Answers.{refusal_of_evaluation}
+use Rattle.calc_session.specs.declared.answers.Refusal.TheVariants as refusal
 use Rattle.calc_session.proofs.differentiating.tell_derivative.Goals as goal
 
 pub tell-answer-requires-clause-face : goal.tell-answer-requires-clause-face

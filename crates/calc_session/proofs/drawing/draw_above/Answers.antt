@@ -1,10 +1,5 @@
 use Rattle.std.proofs.Common.{sym, ap, subst, arith}
-use Rattle.pool_layouts.specs.Drawings.{IsLayout, drawing}
-use Rattle.pool_layouts.proofs.Given.{given_layout, given_room}
-use Rattle.tree_handles.specs.Forest.{bytes_in}
-use Rattle.tree_handles.specs.Inside.{tree_at}
-use Rattle.tree_handles.specs.Standing.{forest}
-use Rattle.calc_session.specs.Drawing.{rows_text, told_at}
+use Rattle.calc_session.proofs.Shared.{IsLayout, drawing, given_layout, given_room, bytes_in, tree_at, forest, rows_text, told_at}
 use Rattle.calc_session.proofs.DrawingLemmas.{drawn_all, drawn_in_part, given_told}
 use Rattle.calc_session.proofs.drawing.draw_above.Goals as goal
 

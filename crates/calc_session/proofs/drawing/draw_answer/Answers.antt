@@ -1,8 +1,7 @@
-use Rattle.tree_handles.specs.Standing.{forest}
-use Rattle.calc_session.specs.Drawing.{lack_in, rows_text, told_at}
+use Rattle.calc_session.proofs.Shared.{forest, lack_in, rows_text, told_at}
 use Rattle.calc_session.proofs.PoolLemmas.{IsRolledBack, old_below, rolled_back}
-use Rattle.calc_session.proofs.drawing.draw_answer.Goals as goal
 use Rattle.calc_session.proofs.drawing.draw_answer.Goals.{After-roll_back}
+use Rattle.calc_session.proofs.drawing.draw_answer.Goals as goal
 
 pub roll_back-requires-clause-below : goal.roll_back-requires-clause-below
 roll_back-requires-clause-below g c = (forest c.args.pool.now, old_below (c.open_mark-mark.ensures.trees c.requires.stands) c.draw_above-drawn.ensures.front)

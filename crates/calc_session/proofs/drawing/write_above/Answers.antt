@@ -1,11 +1,5 @@
 use Rattle.std.proofs.Common.{◌∙◌, ◌++◌, List, ℕ, Ok, length, sym, ap, subst, arith}
-use Rattle.line_text.specs.Content.{Content}
-use Rattle.pool_layouts.specs.Drawings.{IsLayout, drawing}
-use Rattle.pool_layouts.specs.Serial.{serial}
-use Rattle.pool_layouts.proofs.Given.{given_layout, given_room}
-use Rattle.tree_handles.specs.Forest.{bytes_in}
-use Rattle.tree_handles.specs.Inside.{tree_at}
-use Rattle.tree_handles.specs.Standing.{forest}
+use Rattle.calc_session.proofs.Shared.{Content, IsLayout, drawing, serial, given_layout, given_room, bytes_in, tree_at, forest}
 use Rattle.calc_session.proofs.DrawingLemmas.{given_told}
 use Rattle.calc_session.proofs.drawing.write_above.Goals as goal
 

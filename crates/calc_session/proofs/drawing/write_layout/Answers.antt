@@ -1,9 +1,7 @@
-use Rattle.tree_handles.specs.Standing.{forest}
-use Rattle.pool_layouts.specs.Serial.{serial}
-use Rattle.calc_session.specs.Drawing.{lack_in, told_at}
+use Rattle.calc_session.proofs.Shared.{forest, serial, lack_in, told_at}
 use Rattle.calc_session.proofs.PoolLemmas.{IsRolledBack, old_below, rolled_back}
-use Rattle.calc_session.proofs.drawing.write_layout.Goals as goal
 use Rattle.calc_session.proofs.drawing.write_layout.Goals.{After-roll_back}
+use Rattle.calc_session.proofs.drawing.write_layout.Goals as goal
 
 pub roll_back-requires-clause-below : goal.roll_back-requires-clause-below
 roll_back-requires-clause-below c = (forest c.args.pool.now, old_below (c.open_mark-mark.ensures.trees c.requires.stands) c.write_above-told.ensures.front)

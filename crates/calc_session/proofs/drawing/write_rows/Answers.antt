@@ -1,17 +1,9 @@
 use Rattle.std.proofs.Common.{◌≡◌, ◌∙◌, ◌∷◌, [], length, encode_utf8_all, refl, sym, ap, subst, arith, length-append}
-use Rattle.std.proofs.KnownBytes.{Appends-nil}
-use Rattle.std.proofs.lemmas.Result.{err_from_is_err_and}
+use Rattle.calc_session.proofs.Shared.{Appends-nil, err_from_is_err_and, Content, spare_of, Draft, Measures, drawing, cut, height, picture, tree_at, forest, row_text}
 use Rattle.calc_edges.proofs.Stops.{stops_later}
-use Rattle.line_text.specs.Content.{Content, spare_of}
-use Rattle.pool_layouts.specs.Drafts.{Draft, Measures}
-use Rattle.pool_layouts.specs.Drawings.{drawing}
-use Rattle.pool_layouts.specs.Pictures.{cut, height, picture}
-use Rattle.tree_handles.specs.Inside.{tree_at}
-use Rattle.tree_handles.specs.Standing.{forest}
-use Rattle.calc_session.specs.Drawing.{row_text}
 use Rattle.calc_session.proofs.DrawingLemmas.{row_fits, row_written, rows_cut, rows_more}
-use Rattle.calc_session.proofs.drawing.write_rows.Goals as goal
 use Rattle.calc_session.proofs.drawing.write_rows.Goals.{After-push}
+use Rattle.calc_session.proofs.drawing.write_rows.Goals as goal
 
 pub loop-row-init : goal.loop-row-init
 loop-row-init g c = record { capacity = refl; measured = c.rows-row-end.ensures.measured; served = c.rows-row-end.ensures.served; calm = refl; taken = Appends-nil _ }

@@ -1,11 +1,5 @@
 use Rattle.std.proofs.Common.{◌≡◌}
-use Rattle.std.specs.Io.KnownBytes.{Appends}
-use Rattle.pool_layouts.specs.Drafts.{Measures}
-use Rattle.pool_layouts.specs.Drawings.{drawing}
-use Rattle.pool_layouts.specs.Pictures.{picture}
-use Rattle.tree_handles.specs.Inside.{tree_at}
-use Rattle.tree_handles.specs.Standing.{forest}
-use Rattle.calc_session.specs.Drawing.{first_rows}
+use Rattle.calc_session.proofs.Shared.{Appends, Measures, drawing, picture, tree_at, forest, first_rows}
 use Rattle.calc_session.proofs.drawing.write_rows.Given as goal
 
 -- the first rows are written, and no write failed

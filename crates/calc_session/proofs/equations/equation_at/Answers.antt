@@ -1,12 +1,9 @@
 use Rattle.std.proofs.Common.{◌≡◌, ◌∙◌, ◌+◌, ◌-◌, ℕ, List, ◌++◌, length, take, drop, Bool, true, false, IsTrue, refl, sym, ap, subst, arith, length-drop}
 use Rattle.std.specs.Prelude.{Contains}
-use Rattle.std.proofs.lemmas.List.{take_all}
-use Rattle.calc_session.specs.Equations.{AreSides, Sides, written}
-use Rattle.calc_session.specs.Ranges.{EndsPiece}
-use Rattle.calc_session.specs.Reading.{is_blank_line}
+use Rattle.calc_session.proofs.Shared.{take_all, AreSides, Sides, written, EndsPiece, is_blank_line}
 use Rattle.calc_session.proofs.Splitting.{IsFirst, found, sign_before_end, there}
-use Rattle.calc_session.proofs.equations.equation_at.Goals as goal
 use Rattle.calc_session.proofs.equations.equation_at.Goals.{then-is_blank_line-via-then-is_blank_line, then-is_blank_line-via-else-is_blank_line+then-not-is_side}
+use Rattle.calc_session.proofs.equations.equation_at.Goals as goal
 
 -- `&text[begin..]` is all that stands from there on
 whole : (begin : ℕ) (text : List ℕ) → take (length text - begin) (drop begin text) ≡ drop begin text

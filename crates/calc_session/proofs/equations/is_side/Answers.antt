@@ -1,5 +1,5 @@
 use Rattle.std.proofs.Common.{◌≡◌, Bool, true, false, not, IsTrue, sym, ◌∙◌}
-use Rattle.std.proofs.lemmas.Bool.{eq-eqb, eqb-true}
+use Rattle.calc_session.proofs.Shared.{eq-eqb, eqb-true}
 use Rattle.calc_session.proofs.Splitting.{IsFirst, first_in_none, none_to_end}
 use Rattle.calc_session.proofs.equations.is_side.Goals as goal
 

@@ -1,8 +1,8 @@
 use Rattle.std.proofs.Common.{◌≡◌, ◌<◌, ◌++◌, ◌∷◌, [], List, length, Bool, true, false, Result, Ok, Err, IsOk, refl, sym, ap, subst, arith}
 use Rattle.std.specs.Prelude.{OnErr, OnOk}
+use Rattle.calc_session.proofs.Shared.{EquationRange}
 use Rattle.std.specs.Result.{is_err}
 use Rattle.arrayvec.specs.ArrayVec.{ArrayVec}
-use Rattle.calc_session.specs.declared.equations.EquationRange.{EquationRange}
 use Rattle.calc_session.proofs.Splitting.{IsSplitting, Pushes, no_room, pushed, split_end, split_next, split_over, split_start, unwritten}
 use Rattle.calc_session.proofs.equations.split.Goals as goal
 

@@ -1,13 +1,5 @@
 use Rattle.std.proofs.Common.{◌∙◌, sym, subst}
-use Rattle.calc_tokens.specs.Placed.{bare}
-use Rattle.calc_tokens.specs.Tokens.{tokens_of}
-use Rattle.name_table.specs.Filling.{LacksNames}
-use Rattle.name_table.specs.Held.{HasEntries}
-use Rattle.name_table.specs.Tables.{table_names}
-use Rattle.tree_handles.proofs.Forests.{keeps_after}
-use Rattle.tree_handles.proofs.Given.{given_rest, gives_as}
-use Rattle.calc_session.specs.Answers.{reply_of}
-use Rattle.calc_session.specs.Replies.{refusal_in}
+use Rattle.calc_session.proofs.Shared.{bare, tokens_of, LacksNames, HasEntries, table_names, keeps_after, given_rest, gives_as, reply_of, refusal_in}
 use Rattle.calc_session.proofs.EvaluationLemmas.{fault_interrupts_none, front_over, full_interrupts_none, gives_told, keeps_then, made_filled, unbuilt, unfilled, unfilled_count}
 use Rattle.calc_session.proofs.evaluating.build_and_fill.Goals as goal
 

@@ -1,13 +1,6 @@
 use Rattle.std.proofs.Common.{refl, sym}
-use Rattle.breakers.specs.Watch.{states}
-use Rattle.name_table.specs.Filling.{values}
-use Rattle.name_table.specs.Storing.{name_in}
-use Rattle.node_pool.specs.State.{free_of}
-use Rattle.tree_handles.specs.Standing.{forest}
-use Rattle.tree_handles.proofs.Given.{given_rest, gives_as}
-use Rattle.calc_session.specs.Answers.{refusal_of_evaluation, reply_of}
+use Rattle.calc_session.proofs.Shared.{states, values, name_in, free_of, forest, given_rest, gives_as, refusal_of_evaluation, reply_of, held_entries}
 use Rattle.calc_session.proofs.EvaluationLemmas.{calm_refused, comes_made, front_over, keeps_then, unmade_reply}
-use Rattle.name_table.proofs.Entries.{held_entries}
 use Rattle.calc_session.proofs.evaluating.build_and_reduce.Goals as goal
 
 pub build_and_fill-requires-clause-entries : goal.build_and_fill-requires-clause-entries

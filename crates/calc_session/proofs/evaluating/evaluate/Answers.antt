@@ -1,10 +1,8 @@
 use Rattle.std.proofs.Common.{None}
-use Rattle.tree_handles.specs.Standing.{forest}
-use Rattle.calc_session.specs.Answers.{reply_of}
-use Rattle.calc_session.specs.Replies.{refusal_in}
+use Rattle.calc_session.proofs.Shared.{forest, reply_of, refusal_in}
 use Rattle.calc_session.proofs.PoolLemmas.{IsRolledBack, old_below, rolled_back}
-use Rattle.calc_session.proofs.evaluating.evaluate.Goals as goal
 use Rattle.calc_session.proofs.evaluating.evaluate.Goals.{After-roll_back, After-roll_back-in-Refused}
+use Rattle.calc_session.proofs.evaluating.evaluate.Goals as goal
 
 pub roll_back-requires-clause-below : goal.roll_back-requires-clause-below
 roll_back-requires-clause-below g c = (forest c.args.pool.now, old_below (c.open_mark-mark.ensures.trees c.requires.stands) c.build_and_reduce.ensures.front)

@@ -1,14 +1,5 @@
 use Rattle.std.proofs.Common.{◌+◌, Err, sym, subst}
-use Rattle.breakers.specs.Watch.{states}
-use Rattle.calc_terms.specs.Trees.{size}
-use Rattle.name_table.specs.Storing.{name_in}
-use Rattle.node_pool.specs.State.{free_of}
-use Rattle.tree_handles.specs.Handed.{tree_of}
-use Rattle.tree_handles.specs.declared.handle.Handle.{Handle}
-use Rattle.tree_handles.proofs.Given.{given_handed, given_told}
-use Rattle.calc_session.specs.declared.answers.Refusal.{Refusal}
-use Rattle.calc_session.specs.Answers.{refusal_of_evaluation, reply_of}
-use Rattle.calc_session.specs.Evaluations.{IsReduction}
+use Rattle.calc_session.proofs.Shared.{states, size, name_in, free_of, tree_of, Handle, given_handed, given_told, Refusal, refusal_of_evaluation, reply_of, IsReduction}
 use Rattle.calc_session.proofs.EvaluationLemmas.{size_kept, shown_answer, refused_reply, front_in_place, overflow_at, full_both}
 use Rattle.calc_session.proofs.evaluating.reduce_tree.Goals as goal
 

@@ -1,13 +1,8 @@
 use Rattle.std.proofs.Common.{◌≡◌, ◌∙◌, sym, ap}
-use Rattle.calc_terms.specs.Trees.{root_kind}
-use Rattle.tree_handles.specs.Expressions.{plain}
-use Rattle.tree_handles.specs.Handed.{tree_of}
-use Rattle.tree_handles.specs.Inside.{tree_at}
-use Rattle.tree_handles.specs.Standing.{forest}
-use Rattle.tree_handles.proofs.Lasts.{expression_root, plain_root}
+use Rattle.calc_session.proofs.Shared.{root_kind, plain, tree_of, tree_at, forest, expression_root, plain_root}
 use Rattle.calc_session.proofs.EvaluationLemmas.{undef_by_kind, defined_by_kind}
-use Rattle.calc_session.proofs.evaluating.show.Goals as goal
 use Rattle.calc_session.proofs.evaluating.show.Goals.{After-kind}
+use Rattle.calc_session.proofs.evaluating.show.Goals as goal
 
 pub kind-requires-clause-live : goal.kind-requires-clause-live
 kind-requires-clause-live c = rw c.id.ensures (expression_root c.requires.stands c.requires.handed).live

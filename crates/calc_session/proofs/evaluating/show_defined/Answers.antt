@@ -1,16 +1,8 @@
 use Rattle.std.proofs.Common.{◌≡◌, ◌∙◌, ap, subst}
 use Rattle.std.specs.Prelude.{Contains}
-use Rattle.calc_terms.specs.Leaf.{name_of}
-use Rattle.calc_terms.specs.Trees.{Tree, names}
-use Rattle.name_table.specs.Storing.{name_in}
-use Rattle.tree_handles.specs.Expressions.{plain}
-use Rattle.tree_handles.specs.Handed.{tree_of}
-use Rattle.tree_handles.specs.Inside.{tree_at}
-use Rattle.tree_handles.specs.Standing.{forest}
-use Rattle.tree_handles.proofs.Lasts.{expression_root, plain_root}
-use Rattle.calc_session.specs.Answers.{LacksName}
-use Rattle.calc_session.proofs.evaluating.show_defined.Goals as goal
+use Rattle.calc_session.proofs.Shared.{name_of, Tree, names, name_in, plain, tree_of, tree_at, forest, expression_root, plain_root, LacksName}
 use Rattle.calc_session.proofs.evaluating.show_defined.Goals.{After-id}
+use Rattle.calc_session.proofs.evaluating.show_defined.Goals as goal
 
 pub name_within-requires-clause-expression : goal.name_within-requires-clause-expression
 name_within-requires-clause-expression c = rw c.id.ensures (expression_root c.requires.stands c.requires.handed)

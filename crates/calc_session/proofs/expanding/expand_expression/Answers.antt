@@ -1,18 +1,7 @@
-use Rattle.std.proofs.Common.{None, sym, subst}
-use Rattle.breakers.specs.Watch.{states}
-use Rattle.name_table.specs.Filling.{values}
-use Rattle.name_table.proofs.Entries.{held_entries}
-use Rattle.node_pool.specs.State.{free_of}
-use Rattle.tree_handles.specs.Handed.{tree_of}
-use Rattle.tree_handles.specs.Standing.{forest}
-use Rattle.tree_handles.proofs.Given.{given_rest, gives_as}
-use Rattle.calc_session.specs.Answers.{refusal_of_evaluation}
-use Rattle.calc_session.specs.Evaluations.{IsReplyToMade, is_not_made, is_made, made}
-use Rattle.calc_session.specs.Expanding.{IsReplyToExpansion}
-use Rattle.calc_session.specs.Replies.{reported}
+use Rattle.std.proofs.Common.{None, sym, subst, refl}
+use Rattle.calc_session.proofs.Shared.{states, values, held_entries, free_of, tree_of, forest, given_rest, gives_as, refusal_of_evaluation, IsReplyToMade, is_not_made, is_made, made, IsReplyToExpansion, reported}
 use Rattle.calc_session.proofs.EvaluationLemmas.{calm_refused, comes_as, free_before, front_over, keeps_then}
 use Rattle.calc_session.proofs.TellingLemmas.{as_reported}
-use Rattle.std.proofs.Common.{refl}
 use Rattle.calc_session.proofs.expanding.expand_expression.Goals as goal
 
 pub build_and_fill-requires-clause-entries : goal.build_and_fill-requires-clause-entries

@@ -1,19 +1,10 @@
 use Rattle.std.proofs.Common.{refl, sym, subst}
-use Rattle.breakers.specs.Watch.{states}
-use Rattle.name_table.specs.Filling.{values}
-use Rattle.node_pool.specs.State.{free_of}
-use Rattle.tree_handles.specs.Standing.{forest}
-use Rattle.calc_session.specs.declared.answers.LineAnswer.TheVariants as answer
-use Rattle.calc_session.specs.Answers.{CountsRefusal, reply_of}
-use Rattle.calc_session.specs.Arguments.{IsNoExpression}
-use Rattle.calc_session.specs.Calculating.{IsReplyToExpression, is_no_expression, is_read}
-use Rattle.calc_session.specs.Evaluations.{IsReplyToMade, made}
-use Rattle.calc_session.specs.Expanding.{IsReplyToExpansion}
-use Rattle.calc_session.specs.States.{state_of}
+use Rattle.calc_session.proofs.Shared.{states, values, free_of, forest, CountsRefusal, reply_of, IsNoExpression, IsReplyToExpression, is_no_expression, is_read, IsReplyToMade, made, IsReplyToExpansion, state_of}
 use Rattle.calc_session.proofs.CommandLemmas.{calm_told, refusal_uninterrupted}
 use Rattle.calc_session.proofs.EquationAnswers.{tells_refusal}
 use Rattle.calc_session.proofs.EvaluationLemmas.{none_rose}
 use Rattle.calc_session.proofs.TellingLemmas.{tells_as}
+use Rattle.calc_session.specs.declared.answers.LineAnswer.TheVariants as answer
 use Rattle.calc_session.proofs.expanding.expand_text.Goals as goal
 
 pub tell_expansion-requires-clause-line : goal.tell_expansion-requires-clause-line

@@ -1,25 +1,12 @@
 use Rattle.std.proofs.Common.{◌≡◌, ◌∙◌, ◌+◌, ℕ, true, false, refl, sym, ap, subst}
-use Rattle.breakers.specs.Watch.{states}
-use Rattle.calc_terms.specs.Trees.{size}
-use Rattle.expand_forms.specs.PolynomialTrees.{is_polynomial}
-use Rattle.node_pool.specs.State.{free_of}
-use Rattle.tree_handles.specs.declared.handle.Handle.{Handle}
-use Rattle.tree_handles.specs.Expressions.{plain}
-use Rattle.tree_handles.specs.Handed.{tree_of}
-use Rattle.tree_handles.specs.Inside.{tree_at}
-use Rattle.tree_handles.specs.Standing.{forest}
-use Rattle.tree_handles.proofs.Given.{given_handed, given_root}
-use Rattle.tree_handles.proofs.Lasts.{expression_root, plain_root}
-use Rattle.calc_session.specs.declared.answers.Refusal.{Refusal}
-use Rattle.calc_session.specs.declared.answers.Refusal.TheVariants as refusal
-use Rattle.calc_session.specs.Answers.{reply_of}
-use Rattle.calc_session.specs.Expanding.{IsReplyToExpansion, is_no_polynomial, lacks_bytes}
-use Rattle.calc_session.specs.Replies.{reported}
+use Rattle.calc_session.proofs.Shared.{states, size, is_polynomial, free_of, Handle, plain, tree_of, tree_at, forest, given_handed, given_root, expression_root, plain_root, Refusal, reply_of, IsReplyToExpansion, is_no_polynomial, reported}
+use Rattle.calc_session.specs.Expanding.{lacks_bytes}
 use Rattle.calc_session.proofs.DerivingLemmas.{over}
 use Rattle.calc_session.proofs.EvaluationLemmas.{calm_refused, front_in_place}
 use Rattle.calc_session.proofs.ExpansionLemmas.{comes_expanded, expansion_defined, expansion_reduced, lacks_face, unexpanded_reply}
-use Rattle.calc_session.proofs.expanding.expand_tree.Goals as goal
 use Rattle.calc_session.proofs.expanding.expand_tree.Goals.{After-id, After-expand}
+use Rattle.calc_session.specs.declared.answers.Refusal.TheVariants as refusal
+use Rattle.calc_session.proofs.expanding.expand_tree.Goals as goal
 
 -- the tree at the identifier of its handle
 same : (g : _) (c : After-id g) → plain (tree_at c.id.result (forest c.args.pool.now)) ≡ tree_of c.args.tree c.args.pool.now

@@ -1,17 +1,9 @@
 use Rattle.std.proofs.Common.{◌∙◌, ◌*◌, ◌+◌, sym, ap, subst}
-use Rattle.breakers.specs.Breakers.{TripsRose}
-use Rattle.breakers.specs.Watch.{states}
-use Rattle.name_table.specs.Filling.{values}
-use Rattle.node_pool.specs.State.{free_of}
-use Rattle.tree_handles.specs.Standing.{forest}
-use Rattle.calc_session.specs.declared.answers.Refusal.TheVariants as refusal
-use Rattle.calc_session.specs.Answers.{CountsRefusal, refusal_of_evaluation}
-use Rattle.calc_session.specs.Evaluations.{IsReplyToMade, made}
-use Rattle.calc_session.specs.Expanding.{IsReplyToExpansion}
-use Rattle.calc_session.specs.Replies.{reported}
+use Rattle.calc_session.proofs.Shared.{TripsRose, states, values, free_of, forest, CountsRefusal, refusal_of_evaluation, IsReplyToMade, made, IsReplyToExpansion, reported}
 use Rattle.calc_session.proofs.EvaluationLemmas.{size_kept}
 use Rattle.calc_session.proofs.PoolLemmas.{old_below, still_counted}
 use Rattle.calc_session.proofs.TellingLemmas.{has_face, same_again, told_interruption, told_lack, told_reply}
+use Rattle.calc_session.specs.declared.answers.Refusal.TheVariants as refusal
 use Rattle.calc_session.proofs.expanding.tell_expansion.Goals as goal
 
 pub tell-answer-requires-clause-face : goal.tell-answer-requires-clause-face

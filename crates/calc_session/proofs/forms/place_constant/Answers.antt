@@ -1,9 +1,5 @@
 use Rattle.std.proofs.Common.{◌≡◌, ◌≤◌, false, [], ap, arith}
-use Rattle.calc_terms.specs.Fractions.{is_zero_fraction}
-use Rattle.calc_terms.specs.Payload.{rational, size_of_payload}
-use Rattle.calc_terms.specs.Rat.{ratio_of, value_of}
-use Rattle.calc_terms.specs.Trees.{sizes}
-use Rattle.node_pool.specs.State.{free_of}
+use Rattle.calc_session.proofs.Shared.{is_zero_fraction, rational, size_of_payload, ratio_of, value_of, sizes, free_of}
 use Rattle.calc_session.proofs.PlacingLemmas.{placed_none, placed_one, tests_nonzero, tests_zero, with_constant}
 use Rattle.calc_session.proofs.forms.place_constant.Goals as goal
 

@@ -1,14 +1,8 @@
 use Rattle.std.proofs.Common.{◌∙◌, ◌≤◌, [], map, sym, ap, arith}
-use Rattle.calc_terms.specs.declared.kind.Kind.TheVariants as kind
-use Rattle.calc_terms.specs.Leaf.{name_of}
-use Rattle.calc_terms.specs.Payload.{bare, size_of_payload}
-use Rattle.calc_terms.specs.Rat.{value_of}
-use Rattle.calc_terms.specs.Trees.{sizes}
-use Rattle.dual_diff.proofs.Added.{added_begin, added_few, adds_free}
-use Rattle.linear_solve.specs.Told.{entries_of}
-use Rattle.node_pool.specs.State.{free_of}
-use Rattle.calc_session.specs.SolutionTexts.{form_tree, multiples, summands}
+use Rattle.calc_session.proofs.Shared.{name_of, size_of_payload, value_of, sizes, added_begin, added_few, adds_free, entries_of, free_of, form_tree, multiples, summands}
+use Rattle.calc_terms.specs.Payload.{bare}
 use Rattle.calc_session.proofs.PlacingLemmas.{constant_first, form_many, form_none, front_node, front_of_all, nothing_is, placed_as, summands_sizes, zero_size}
+use Rattle.calc_terms.specs.declared.kind.Kind.TheVariants as kind
 use Rattle.calc_session.proofs.forms.place_form.Goals as goal
 
 pub returns-in_err-placed-2-clause-enough : goal.returns-in_err-placed-2-clause-enough

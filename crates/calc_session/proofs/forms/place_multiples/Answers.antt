@@ -1,17 +1,11 @@
 use Rattle.std.proofs.Common.{◌≤◌, ◌+◌, map, sym, subst, arith}
 use Rattle.std.specs.Prelude.{Some}
-use Rattle.std.proofs.lemmas.List.{length-map}
-use Rattle.calc_terms.specs.Leaf.{name_of}
-use Rattle.calc_terms.specs.Rat.{value_of}
-use Rattle.calc_terms.specs.Trees.{size}
-use Rattle.linear_solve.specs.Told.{entries_of}
-use Rattle.node_pool.specs.State.{State, free_of}
-use Rattle.tree_handles.proofs.Fronts.{front_after}
+use Rattle.calc_session.proofs.Shared.{length-map, name_of, value_of, size, entries_of, free_of, front_after, multiple_of}
+use Rattle.node_pool.specs.State.{State}
 use Rattle.calc_session.specs.declared.forms.Placed.{Placed}
-use Rattle.calc_session.specs.SolutionTexts.{multiple_of}
 use Rattle.calc_session.proofs.PlacingLemmas.{AreFirst, first_all, first_more, first_none, first_same, front_of_all, name_there, next_fits, tests_nonzero, tests_zero}
-use Rattle.calc_session.proofs.forms.place_multiples.Goals as goal
 use Rattle.calc_session.proofs.forms.place_multiples.Goals.{then-num-ne0+in_ok-tree, else-num-ne0}
+use Rattle.calc_session.proofs.forms.place_multiples.Goals as goal
 
 pub loop-at-init : goal.loop-at-init
 loop-at-init c = first_none (map name_of c.args.names.now) (entries_of c.args.coefs.now) c.args.pool.now c.args.placed c.requires.stands

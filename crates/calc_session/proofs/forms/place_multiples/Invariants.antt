@@ -1,6 +1,5 @@
 use Rattle.std.proofs.Common.{map}
-use Rattle.calc_terms.specs.Leaf.{name_of}
-use Rattle.linear_solve.specs.Told.{entries_of}
+use Rattle.calc_session.proofs.Shared.{name_of, entries_of}
 use Rattle.calc_session.proofs.PlacingLemmas.{AreFirst}
 use Rattle.calc_session.proofs.forms.place_multiples.Given as goal
 

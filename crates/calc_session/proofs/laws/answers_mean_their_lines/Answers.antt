@@ -1,5 +1,5 @@
 use Rattle.std.proofs.Common.{refl}
-use Rattle.calc_session.specs.Replies.{shown, stored, undefined}
+use Rattle.calc_session.proofs.Shared.{shown, stored, undefined}
 use Rattle.calc_session.proofs.MeaningLemmas.{shows_meaning, has_no_meaning}
 use Rattle.calc_session.proofs.laws.answers_mean_their_lines.Goals as goal
 

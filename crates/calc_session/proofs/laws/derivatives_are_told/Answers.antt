@@ -1,6 +1,5 @@
 use Rattle.std.proofs.Common.{arith}
-use Rattle.name_table.specs.Filling.{values}
-use Rattle.calc_session.specs.States.{free_bytes, trees}
+use Rattle.calc_session.proofs.Shared.{values, free_bytes, trees}
 use Rattle.calc_session.proofs.SlopeLemmas.{calculated, is_told, made_left}
 use Rattle.calc_session.proofs.laws.derivatives_are_told.Goals as goal
 

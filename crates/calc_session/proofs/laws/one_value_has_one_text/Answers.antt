@@ -1,5 +1,5 @@
 use Rattle.std.proofs.Common.{ap}
-use Rattle.calc_language.specs.Texts.{text}
+use Rattle.calc_session.proofs.Shared.{text}
 use Rattle.calc_session.proofs.MeaningLemmas.{shown_alike}
 use Rattle.calc_session.proofs.laws.one_value_has_one_text.Goals as goal
 

@@ -1,6 +1,5 @@
 use Rattle.std.proofs.Common.{◌∙◌, sym, subst}
-use Rattle.name_table.specs.Storing.{name_in}
-use Rattle.calc_session.specs.Reading.{ReadsAs, stores_to_ans, finds_names_full}
+use Rattle.calc_session.proofs.Shared.{name_in, ReadsAs, stores_to_ans, finds_names_full}
 use Rattle.calc_session.proofs.reading.check_store.Goals as goal
 
 pub returns-then-is_ans-clause-refused : goal.returns-then-is_ans-clause-refused

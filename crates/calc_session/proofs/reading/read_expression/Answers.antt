@@ -1,6 +1,5 @@
 use Rattle.std.proofs.Common.{None, Some}
-use Rattle.calc_tokens.specs.Tokens.{tokens_of}
-use Rattle.calc_session.specs.Arguments.{is_misread, forms_a_store}
+use Rattle.calc_session.proofs.Shared.{tokens_of, is_misread, forms_a_store}
 use Rattle.calc_session.proofs.ReadLemmas.{read_text}
 use Rattle.calc_session.proofs.reading.read_expression.Goals as goal
 

@@ -1,11 +1,8 @@
 use Rattle.std.proofs.Common.{arith}
-use Rattle.calc_tokens.specs.Tokens.{tokens_of}
-use Rattle.name_table.specs.Storing.{name_in}
-use Rattle.calc_session.specs.Answers.{reply_of}
-use Rattle.calc_session.specs.Reading.{ReadsAs}
+use Rattle.calc_session.proofs.Shared.{tokens_of, name_in, reply_of, ReadsAs}
 use Rattle.calc_session.proofs.ReadLemmas.{read_line, reads_on, unread}
-use Rattle.calc_session.proofs.reading.read_line.Goals as goal
 use Rattle.calc_session.proofs.reading.read_line.Goals.{After-check_store}
+use Rattle.calc_session.proofs.reading.read_line.Goals as goal
 
 pub refusal_to_read-requires : goal.refusal_to_read-requires
 refusal_to_read-requires c = let short = c.requires.short in record { place = (c.args.line.now, (c.read.ensures.refused c.in-Err.fault).0 c.in-Err.is, omega (arith, short)) }

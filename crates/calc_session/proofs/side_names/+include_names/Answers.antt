@@ -1,10 +1,7 @@
 use Rattle.std.proofs.Common.{◌≡◌, ◌<◌, ◌≤◌, ◌+◌, ℕ, suc, List, sym, ap, ◌∙◌, subst, arith}
 use Rattle.std.specs.Prelude.{Contains}
-use Rattle.calc_terms.specs.Trees.{count, names, nodes}
+use Rattle.calc_session.proofs.Shared.{count, names, nodes, children_of, plain, tree_at, forest}
 use Rattle.linear_solve.proofs.TreeLists.{fewer_nodes}
-use Rattle.tree_handles.specs.Expressions.{children_of, plain}
-use Rattle.tree_handles.specs.Inside.{tree_at}
-use Rattle.tree_handles.specs.Standing.{forest}
 use Rattle.calc_session.proofs.RisingLemmas.{first_names, first_names-all, first_names-in, first_names-next, includes_as, includes_both, includes_wider, names_below}
 use Rattle.calc_session.proofs.side_names.+include_names.Goals as goal
 

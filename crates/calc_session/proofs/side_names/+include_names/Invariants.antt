@@ -1,10 +1,5 @@
-use Rattle.calc_terms.specs.Trees.{nodes}
 use Rattle.std.proofs.Common.{true}
-use Rattle.tree_handles.specs.Expressions.{children_of, plain}
-use Rattle.tree_handles.specs.Inside.{tree_at}
-use Rattle.tree_handles.specs.Standing.{forest}
-use Rattle.calc_session.specs.Listed.{names_listed}
-use Rattle.calc_session.specs.RisingNames.{Includes, Rises}
+use Rattle.calc_session.proofs.Shared.{nodes, children_of, plain, tree_at, forest, names_listed, Includes, Rises}
 use Rattle.calc_session.proofs.RisingLemmas.{first_names}
 use Rattle.calc_session.proofs.side_names.+include_names.Given as goal
 

@@ -1,6 +1,5 @@
 use Rattle.std.proofs.Common.{◌≡◌, length, map, take}
-use Rattle.calc_terms.specs.Leaf.{name_of}
-use Rattle.calc_session.specs.Listed.{names_listed}
+use Rattle.calc_session.proofs.Shared.{name_of, names_listed}
 use Rattle.calc_session.proofs.side_names.in_array.Given as goal
 
 abbrev pub invariant-loop-at : goal.invariant-loop-at

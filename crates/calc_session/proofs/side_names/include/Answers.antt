@@ -1,14 +1,6 @@
 use Rattle.std.proofs.Common.{◌≡◌, ◌<◌, ◌≤◌, ℕ, List, [], ◌∷◌, Bool, true, false, sym, ◌∙◌, subst, ap, arith, length}
-use Rattle.std.specs.List.{list_any, prefix_len}
-use Rattle.std.specs.Str.{bytes_eq}
-use Rattle.std.proofs.lemmas.Bool.{eq-eqb, eqb-true}
-use Rattle.std.proofs.lemmas.List.{length-map}
-use Rattle.std.proofs.lemmas.List.Sums.{prefix_len-le-length}
+use Rattle.calc_session.proofs.Shared.{list_any, prefix_len, bytes_eq, eq-eqb, eqb-true, length-map, prefix_len-le-length, name_of, Listed, names_listed, Includes, Rises, is_before}
 use Rattle.std.proofs.Math.Dec.{eqb}
-use Rattle.calc_terms.specs.Leaf.{name_of}
-use Rattle.calc_session.specs.declared.side_names.Listed.{Listed}
-use Rattle.calc_session.specs.Listed.{names_listed}
-use Rattle.calc_session.specs.RisingNames.{Includes, Rises, is_before}
 use Rattle.calc_session.proofs.RisingLemmas.{includes_new, includes_none, includes_there, listed_any, listed_none, listed_with, rises_with}
 use Rattle.calc_session.proofs.side_names.include.Goals as goal
 

@@ -1,7 +1,6 @@
 use Rattle.std.proofs.Common.{◌≡◌, ◌+◌, ◌++◌, [], ◌∷◌, ℕ, suc, List, take, sym, ap, ◌∙◌, subst, arith}
 use Rattle.std.specs.Prelude.{Contains}
-use Rattle.tree_handles.specs.Standing.{forest}
-use Rattle.calc_session.specs.RisingNames.{names_at}
+use Rattle.calc_session.proofs.Shared.{forest, names_at}
 use Rattle.calc_session.proofs.RisingLemmas.{includes_as, includes_both, includes_wider, names_at-in, names_at-push, take_next}
 use Rattle.calc_session.proofs.side_names.include_all.Goals as goal
 

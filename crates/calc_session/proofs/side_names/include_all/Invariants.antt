@@ -1,7 +1,5 @@
 use Rattle.std.proofs.Common.{take, true}
-use Rattle.tree_handles.specs.Standing.{forest}
-use Rattle.calc_session.specs.Listed.{names_listed}
-use Rattle.calc_session.specs.RisingNames.{Includes, Rises, names_at}
+use Rattle.calc_session.proofs.Shared.{forest, names_listed, Includes, Rises, names_at}
 use Rattle.calc_session.proofs.side_names.include_all.Given as goal
 
 abbrev pub invariant-loop-at : goal.invariant-loop-at

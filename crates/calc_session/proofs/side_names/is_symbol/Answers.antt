@@ -1,7 +1,5 @@
 use Rattle.std.proofs.Common.{sym, ◌∙◌}
-use Rattle.tree_handles.specs.Expressions.{plain}
-use Rattle.tree_handles.specs.Inside.{tree_at}
-use Rattle.tree_handles.specs.Standing.{forest}
+use Rattle.calc_session.proofs.Shared.{plain, tree_at, forest}
 use Rattle.calc_session.proofs.RisingLemmas.{no_symbol}
 use Rattle.calc_session.proofs.side_names.is_symbol.Goals as goal
 

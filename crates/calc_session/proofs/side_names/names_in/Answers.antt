@@ -1,9 +1,5 @@
 use Rattle.std.proofs.Common.{List, subst, true, false}
-use Rattle.std.proofs.lemmas.List.Elements.{Contains-append_left}
-use Rattle.tree_handles.specs.Standing.{forest}
-use Rattle.calc_session.specs.declared.side_names.Listed.{Listed}
-use Rattle.calc_session.specs.Listed.{names_listed}
-use Rattle.calc_session.specs.RisingNames.{Includes, names_at}
+use Rattle.calc_session.proofs.Shared.{Contains-append_left, forest, Listed, names_listed, Includes, names_at}
 use Rattle.calc_session.proofs.RisingLemmas.{includes_both, includes_wider, names_are, names_over}
 use Rattle.calc_session.proofs.side_names.names_in.Goals as goal
 

@@ -1,11 +1,5 @@
 use Rattle.std.proofs.Common.{map, arith}
-use Rattle.std.proofs.lemmas.Result.{err_from_is_err_and}
-use Rattle.calc_terms.specs.Leaf.{name_of}
-use Rattle.calc_terms.specs.Rat.{value_of}
-use Rattle.linear_solve.specs.Told.{entries_of}
-use Rattle.node_pool.specs.State.{free_of}
-use Rattle.tree_handles.proofs.Forests.{keeps_after}
-use Rattle.tree_handles.proofs.Given.{given_handed}
+use Rattle.calc_session.proofs.Shared.{err_from_is_err_and, name_of, value_of, entries_of, free_of, keeps_after, given_handed}
 use Rattle.calc_session.proofs.EvaluationLemmas.{front_over}
 use Rattle.calc_session.proofs.FormFaces.{sizes_of_summands}
 use Rattle.calc_session.proofs.SolutionLemmas.{face_room, lacks_room, placed_defined, placed_reduced, shown_expression, shown_room, shown_short, shown_text, shown_writable}

@@ -1,8 +1,7 @@
-use Rattle.tree_handles.specs.Standing.{forest}
-use Rattle.calc_session.specs.Forms.{lack_of}
+use Rattle.calc_session.proofs.Shared.{forest, lack_of}
 use Rattle.calc_session.proofs.PoolLemmas.{IsRolledBack, old_below, rolled_back}
-use Rattle.calc_session.proofs.solution_text.write_form.Goals as goal
 use Rattle.calc_session.proofs.solution_text.write_form.Goals.{After-roll_back}
+use Rattle.calc_session.proofs.solution_text.write_form.Goals as goal
 
 pub roll_back-requires-clause-below : goal.roll_back-requires-clause-below
 roll_back-requires-clause-below c = (forest c.args.pool.now, old_below (c.open_mark-mark.ensures.trees c.requires.stands) c.write_above-written.ensures.front)

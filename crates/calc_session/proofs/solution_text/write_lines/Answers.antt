@@ -1,9 +1,5 @@
 use Rattle.std.proofs.Common.{◌<◌, ◌∙◌, [], length, map, sym, ap, arith}
-use Rattle.std.proofs.lemmas.List.{length-map}
-use Rattle.calc_terms.specs.Leaf.{name_of}
-use Rattle.line_text.specs.Content.{Content}
-use Rattle.linear_solve.specs.Solutions.{form_told}
-use Rattle.calc_session.specs.SolutionTexts.{line_text, line_texts}
+use Rattle.calc_session.proofs.Shared.{length-map, name_of, Content, form_told, line_text, line_texts}
 use Rattle.calc_session.proofs.SolutionLemmas.{all_taken, line_there, lines_are, long_next, many_lines, told_next}
 use Rattle.calc_session.proofs.solution_text.write_lines.Goals as goal
 

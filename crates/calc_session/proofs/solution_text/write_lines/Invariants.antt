@@ -1,7 +1,5 @@
 use Rattle.std.proofs.Common.{◌≡◌, ◌≤◌, ◌*◌, length, map, take}
-use Rattle.calc_terms.specs.Leaf.{name_of}
-use Rattle.linear_solve.specs.Solutions.{form_told}
-use Rattle.calc_session.specs.SolutionTexts.{line_texts, with_commas}
+use Rattle.calc_session.proofs.Shared.{name_of, form_told, line_texts, with_commas}
 use Rattle.calc_session.proofs.solution_text.write_lines.Given as goal
 
 abbrev pub invariant-loop-at : goal.invariant-loop-at

@@ -1,9 +1,5 @@
 use Rattle.std.proofs.Common.{◌<◌, ◌∙◌, length, map, codes, ap, arith}
-use Rattle.std.proofs.lemmas.List.{length-map}
-use Rattle.calc_terms.specs.Rat.{value_of}
-use Rattle.line_text.specs.Content.{Content}
-use Rattle.linear_solve.specs.Told.{entries_of}
-use Rattle.calc_session.specs.Replies.{operand_text}
+use Rattle.calc_session.proofs.Shared.{length-map, value_of, Content, entries_of, operand_text}
 use Rattle.calc_session.proofs.SolutionLemmas.{long_next, operand_there, told_next}
 use Rattle.calc_session.proofs.solution_text.write_multipliers.Goals as goal
 

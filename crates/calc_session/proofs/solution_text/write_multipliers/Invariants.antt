@@ -1,7 +1,5 @@
 use Rattle.std.proofs.Common.{◌≡◌, ◌≤◌, ◌+◌, ◌*◌, ◌++◌, codes, length, map, take}
-use Rattle.linear_solve.specs.Told.{entries_of}
-use Rattle.calc_session.specs.Replies.{operand_text}
-use Rattle.calc_session.specs.SolutionTexts.{with_commas}
+use Rattle.calc_session.proofs.Shared.{entries_of, operand_text, with_commas}
 use Rattle.calc_session.proofs.solution_text.write_multipliers.Given as goal
 
 abbrev pub invariant-loop-at : goal.invariant-loop-at

@@ -1,8 +1,5 @@
 use Rattle.std.proofs.Common.{◌≡◌, Ok, List, length, map, sym, ap, subst}
-use Rattle.linear_solve.specs.declared.solution.Line.{Line}
-use Rattle.linear_solve.specs.declared.solution.Solution.{Solution}
-use Rattle.linear_solve.specs.Forms.{Form, HoldLaterFreeNames, solved}
-use Rattle.linear_solve.specs.Solutions.{IfSolved, answer_told, form_told}
+use Rattle.calc_session.proofs.Shared.{Line, Solution, Form, HoldLaterFreeNames, solved, IfSolved, answer_told, form_told}
 use Rattle.calc_session.proofs.SolutionLemmas.{line_small, on_err}
 use Rattle.calc_session.proofs.solution_text.write_solution.Goals as goal
 

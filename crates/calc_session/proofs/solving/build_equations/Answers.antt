@@ -1,13 +1,5 @@
 use Rattle.std.proofs.Common.{◌∙◌, ◌+◌, ◌++◌, ℕ, List, [], ◌∷◌, get_or, sym, ap, subst}
-use Rattle.std.proofs.lemmas.Result.{err_from_is_err_and}
-use Rattle.dual_diff.proofs.Added.{adds_more}
-use Rattle.name_table.specs.Filling.{fills}
-use Rattle.name_table.proofs.Entries.{held_entries}
-use Rattle.node_pool.specs.State.{free_of}
-use Rattle.tree_handles.specs.Standing.{forest}
-use Rattle.tree_handles.proofs.Fronts.{front_after}
-use Rattle.calc_session.specs.Answers.{reply_of}
-use Rattle.calc_session.specs.Replies.{refusal_in}
+use Rattle.calc_session.proofs.Shared.{err_from_is_err_and, adds_more, fills, held_entries, free_of, forest, front_after, reply_of, refusal_in}
 use Rattle.calc_session.proofs.BuiltSides.{AreBuilt, built_more, built_none, entries_there, same_built, unmade_at_left, unmade_at_right}
 use Rattle.calc_session.proofs.EvaluationLemmas.{keeps_then}
 use Rattle.calc_session.proofs.PlacingLemmas.{front_of_all}

@@ -1,5 +1,5 @@
 use Rattle.std.proofs.Common.{◌+◌, None}
-use Rattle.std.proofs.lemmas.Result.{err_from_is_err_and}
+use Rattle.calc_session.proofs.Shared.{err_from_is_err_and}
 use Rattle.calc_session.proofs.SideLemmas.{builds_side, no_expression_reads, side_line}
 use Rattle.calc_session.proofs.solving.build_side.Goals as goal
 

@@ -1,7 +1,5 @@
 use Rattle.std.proofs.Common.{◌∙◌, sym, arith}
-use Rattle.tree_handles.specs.Standing.{forest}
-use Rattle.linear_solve.specs.Equations.{equation_at}
-use Rattle.calc_session.specs.Solving.{is_linear_equation}
+use Rattle.calc_session.proofs.Shared.{forest, equation_at, is_linear_equation}
 use Rattle.calc_session.proofs.SolvingLemmas.{element_at, expression_at, first_found, linear_more, linear_none, none_found}
 use Rattle.calc_session.proofs.solving.first_not_linear.Goals as goal
 

@@ -1,4 +1,4 @@
-use Rattle.tree_handles.specs.Standing.{forest}
+use Rattle.calc_session.proofs.Shared.{forest}
 use Rattle.calc_session.proofs.SolvingLemmas.{AreLinearUpTo}
 use Rattle.calc_session.proofs.solving.first_not_linear.Given as goal
 

@@ -1,8 +1,5 @@
 use Rattle.std.proofs.Common.{get_or, refl, sym, subst}
-use Rattle.std.proofs.lemmas.Result.{err_from_is_err_and}
-use Rattle.calc_session.specs.Answers.{reply_of}
-use Rattle.calc_session.specs.Ranges.{AreSplit, IsSplitFault}
-use Rattle.calc_session.specs.Solving.{are_not_written, are_too_many}
+use Rattle.calc_session.proofs.Shared.{err_from_is_err_and, reply_of, AreSplit, IsSplitFault, are_not_written, are_too_many}
 use Rattle.calc_session.proofs.RangeLemmas.{read_more, there, unread_left, unread_reply, unread_right}
 use Rattle.calc_session.proofs.solving.read_equations.Goals as goal
 

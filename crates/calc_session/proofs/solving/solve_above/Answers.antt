@@ -1,14 +1,6 @@
 use Rattle.std.proofs.Common.{◌≡◌, ◌∙◌, length, refl, sym, ap, subst, arith}
 use Rattle.std.specs.Prelude.{All}
-use Rattle.std.proofs.lemmas.Result.{err_from_is_err_and}
-use Rattle.breakers.specs.Watch.{states}
-use Rattle.linear_solve.specs.Equations.{equations_in}
-use Rattle.name_table.specs.Filling.{values}
-use Rattle.node_pool.specs.State.{free_of}
-use Rattle.tree_handles.specs.Expressions.{IsExpression}
-use Rattle.tree_handles.specs.Standing.{forest}
-use Rattle.calc_session.specs.Answers.{CountsRefusal}
-use Rattle.calc_session.specs.Solving.{Become, are_made, are_not_made}
+use Rattle.calc_session.proofs.Shared.{err_from_is_err_and, states, equations_in, values, free_of, IsExpression, forest, CountsRefusal, Become, are_made, are_not_made}
 use Rattle.calc_session.proofs.SolvingLemmas.{calm_refusal, err_as, ok_as, on_ok}
 use Rattle.calc_session.proofs.solving.solve_above.Goals as goal
 

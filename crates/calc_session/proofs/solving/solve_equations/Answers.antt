@@ -1,29 +1,12 @@
 use Rattle.std.proofs.Common.{◌∙◌, ◌<◌, ℕ, List, length, map, take, refl, sym, ap, subst, arith}
 use Rattle.std.specs.Prelude.{All}
-use Rattle.std.proofs.lemmas.List.{length-map}
-use Rattle.calc_terms.specs.Leaf.{name_of}
-use Rattle.linear_solve.specs.Solutions.{answer_told}
-use Rattle.calc_session.specs.Listed.{names_listed}
-use Rattle.calc_session.specs.RisingNames.{Rises}
-use Rattle.calc_session.specs.SolutionTexts.{solution_text}
+use Rattle.calc_session.proofs.Shared.{length-map, name_of, answer_told, names_listed, Rises, solution_text, AllZip, states, Equation, Content, used, free_of, form_room, EquationRange, CountsRefusal, IsWithin, pieces_at, IsReplyToEquations, ReadsEquation, state_of}
 use Rattle.calc_session.proofs.SolvingLemmas.{names_same}
 use Rattle.calc_session.proofs.RangeLemmas.{reads_many}
-use Rattle.std.specs.List.{AllZip}
-use Rattle.breakers.specs.Watch.{states}
-use Rattle.linear_solve.specs.Equations.{Equation}
-use Rattle.line_text.specs.Content.{Content}
-use Rattle.node_pool.specs.Nodes.{used}
-use Rattle.node_pool.specs.State.{free_of}
-use Rattle.calc_session.specs.Forms.{form_room}
-use Rattle.calc_session.specs.declared.answers.LineAnswer.TheVariants as answer
-use Rattle.calc_session.specs.declared.equations.EquationRange.{EquationRange}
-use Rattle.calc_session.specs.Answers.{CountsRefusal}
-use Rattle.calc_session.specs.Ranges.{IsWithin, pieces_at}
-use Rattle.calc_session.specs.Solving.{IsReplyToEquations, ReadsEquation}
-use Rattle.calc_session.specs.States.{state_of}
 use Rattle.calc_session.proofs.CommandLemmas.{calm_told, refusal_uninterrupted}
 use Rattle.calc_session.proofs.EquationAnswers.{become_many, forms_told, lacking_reply, multipliers_told, read_reply, solved_reply, tells_refusal, tells_report}
 use Rattle.calc_session.proofs.EvaluationLemmas.{none_rose}
+use Rattle.calc_session.specs.declared.answers.LineAnswer.TheVariants as answer
 use Rattle.calc_session.proofs.solving.solve_equations.Goals as goal
 
 pub returns-in-Err-clause-told : goal.returns-in-Err-clause-told

@@ -1,9 +1,5 @@
 use Rattle.std.proofs.Common.{◌∙◌, sym, ap}
-use Rattle.tree_handles.specs.Forest.{flatten}
-use Rattle.tree_handles.specs.Standing.{forest}
-use Rattle.tree_handles.proofs.Forests.{keeps_after}
-use Rattle.calc_session.specs.Answers.{reply_of}
-use Rattle.calc_session.specs.Replies.{refusal_in}
+use Rattle.calc_session.proofs.Shared.{flatten, forest, keeps_after, reply_of, refusal_in}
 use Rattle.calc_session.proofs.PoolLemmas.{old_below, still_counted}
 use Rattle.calc_session.proofs.SolvingLemmas.{err_as, ok_as}
 use Rattle.calc_session.proofs.solving.solve_read.Goals as goal

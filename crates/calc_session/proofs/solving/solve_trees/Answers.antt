@@ -1,20 +1,10 @@
 use Rattle.std.proofs.Common.{◌≡◌, ◌∙◌, ℕ, suc, ◌+◌, ◌≤◌, List, length, map, take, refl, sym, ap, subst, arith}
 use Rattle.std.specs.Prelude.{All, Err}
-use Rattle.std.proofs.lemmas.List.{length-map}
-use Rattle.breakers.specs.Watch.{states}
-use Rattle.calc_terms.specs.Leaf.{name_of}
-use Rattle.linear_solve.specs.Equations.{AreDistinct, IsLinearIn, equations_in, nodes_of_sides}
-use Rattle.linear_solve.specs.Faults.{OfOverflow, StopsWithin}
-use Rattle.linear_solve.specs.Solving.{solving}
-use Rattle.linear_solve.specs.Told.{misfit_of}
-use Rattle.tree_handles.specs.Standing.{forest}
-use Rattle.calc_session.specs.declared.answers.Refusal.TheVariants as refusal
-use Rattle.calc_session.specs.Listed.{names_listed}
-use Rattle.calc_session.specs.Replies.{not_linear}
-use Rattle.calc_session.specs.Solving.{IsReplyToSolve, are_not_linear, have_too_many_names}
+use Rattle.calc_session.proofs.Shared.{length-map, states, name_of, AreDistinct, IsLinearIn, equations_in, nodes_of_sides, OfOverflow, StopsWithin, solving, misfit_of, forest, names_listed, not_linear, IsReplyToSolve, are_not_linear, have_too_many_names}
 use Rattle.calc_session.proofs.RisingLemmas.{rises_distinct}
 use Rattle.calc_session.proofs.SolutionMeanings.{linear_in}
 use Rattle.calc_session.proofs.SolvingLemmas.{calm_refusal, found_within, names_same, none_there, unsolved_reply}
+use Rattle.calc_session.specs.declared.answers.Refusal.TheVariants as refusal
 use Rattle.calc_session.proofs.solving.solve_trees.Goals as goal
 
 pub returns-in_default-clause-refused : goal.returns-in_default-clause-refused

@@ -1,19 +1,10 @@
 use Rattle.std.proofs.Common.{◌≡◌, ◌∙◌, ◌++◌, ℕ, List, refl, sym, ap, length, subst, arith}
-use Rattle.calc_language.specs.Texts.{IsWritable, text}
-use Rattle.line_text.specs.Content.{Content}
-use Rattle.tree_handles.specs.Expressions.{plain}
-use Rattle.tree_handles.specs.Forest.{Forest}
-use Rattle.tree_handles.specs.Handed.{Gives, tree_of}
-use Rattle.tree_handles.specs.Inside.{tree_at}
-use Rattle.tree_handles.specs.Standing.{forest}
-use Rattle.tree_handles.proofs.Given.{given_told}
-use Rattle.calc_session.specs.Answers.{Tells}
-use Rattle.calc_session.specs.Telling.{HasFace}
-use Rattle.calc_session.specs.declared.answers.LineAnswer.TheVariants as answer
+use Rattle.calc_session.proofs.Shared.{IsWritable, text, Content, plain, Forest, Gives, tree_of, tree_at, forest, given_told, Tells, HasFace}
 use Rattle.calc_session.proofs.EvaluationLemmas.{gives_told}
 use Rattle.calc_session.proofs.SessionLemmas.{face_expression, face_room, face_tree}
-use Rattle.calc_session.proofs.telling.tell.Goals as goal
 use Rattle.calc_session.proofs.telling.tell.Goals.{After-id}
+use Rattle.calc_session.specs.declared.answers.LineAnswer.TheVariants as answer
+use Rattle.calc_session.proofs.telling.tell.Goals as goal
 
 -- the face stands last, and can be written
 face : (c : After-id) → (others : Forest) × Gives others (forest c.args.pool.now) c.in-Face.face IsWritable

@@ -1,8 +1,5 @@
 use Rattle.std.proofs.Common.{◌∙◌, ap, sym}
-use Rattle.std.specs.Fmt.{signed_decimal}
-use Rattle.calc_terms.specs.Rat.{ratio_of}
-use Rattle.line_text.specs.Content.{Content, extended}
-use Rattle.calc_session.specs.Replies.{denominator_text}
+use Rattle.calc_session.proofs.Shared.{signed_decimal, ratio_of, Content, extended, denominator_text}
 use Rattle.calc_session.proofs.ReplyLemmas.{extended_twice, text_of_operand}
 use Rattle.calc_session.proofs.text.push_operand.Goals as goal
 

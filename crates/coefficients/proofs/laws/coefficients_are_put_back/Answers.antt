@@ -1,5 +1,4 @@
-use Rattle.calc_algebra.proofs.NumberLaws.{number_test}
-use Rattle.coefficients.specs.Coefficients.{coefficient_of}
+use Rattle.coefficients.proofs.Shared.{number_test, coefficient_of}
 use Rattle.coefficients.proofs.Coefficients.{taken}
 use Rattle.coefficients.proofs.laws.coefficients_are_put_back.Goals as goal
 

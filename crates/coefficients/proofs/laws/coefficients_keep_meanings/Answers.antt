@@ -1,5 +1,4 @@
-use Rattle.calc_algebra.proofs.NumberLaws.{number_words}
-use Rattle.calc_algebra.proofs.Rewritings.{keeps}
+use Rattle.coefficients.proofs.Shared.{number_words, keeps}
 use Rattle.coefficients.proofs.Coefficients.{put_reduces}
 use Rattle.coefficients.proofs.Keeps.{coefficient_keeps}
 use Rattle.coefficients.proofs.laws.coefficients_keep_meanings.Goals as goal

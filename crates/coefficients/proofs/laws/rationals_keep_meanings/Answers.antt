@@ -1,4 +1,4 @@
-use Rattle.calc_algebra.proofs.Rewritings.{keeps}
+use Rattle.coefficients.proofs.Shared.{keeps}
 use Rattle.coefficients.proofs.Keeps.{term_keeps, sum_keeps}
 use Rattle.coefficients.proofs.laws.rationals_keep_meanings.Goals as goal
 

@@ -1,27 +1,12 @@
 use Rattle.std.proofs.Common.{◌+◌, ◌^◌, ◌<◌, length, ap, ◌∙◌, refl, sym, subst, arith}
-use Rattle.calc_terms.specs.Rat.{value_of}
-use Rattle.calc_algebra.specs.Reduced.{is_reduced}
-use Rattle.tree_handles.proofs.Forests.{keeps_none, keeps_after}
-use Rattle.tree_handles.proofs.Given.{given_handed, given_root, given_told}
-use Rattle.tree_handles.proofs.Roots.{root_held}
-use Rattle.coefficients.specs.Multiples.{rational_times_term, leads_sum, mapped}
+use Rattle.coefficients.proofs.Shared.{value_of, is_reduced, keeps_none, keeps_after, given_handed, given_root, given_told, root_held, rational_times_term, leads_sum, mapped, LeadsTerm, LeadsIn, over_sum, children_at, children_in, moved, moved_front, live, counted, SpansTree, Tree, add, append, more, size, sizes, put_room, OfFull, free_of, tree_of}
 use Rattle.coefficients.proofs.Loops.{none_done, next_term, next_within, back_within, next_taken, next_done, all_done, part_front}
-use Rattle.coefficients.specs.Overflows.{LeadsTerm, LeadsIn}
 use Rattle.coefficients.proofs.Named.{passed_named, multiple_of, leads_behind}
-use Rattle.tree_handles.proofs.Over.{over_sum, children_at, children_in, moved, moved_front}
 use Rattle.coefficients.proofs.Rewritten.{given_as, over_back, apart_back, front_lost, term_reduced}
-use Rattle.tree_handles.proofs.Seen.{live}
-use Rattle.calc_room.specs.Counts.{counted}
-use Rattle.calc_room.specs.Spans.{SpansTree}
-use Rattle.calc_terms.specs.Trees.{Tree, add, append, more, size, sizes}
-use Rattle.coefficients.specs.Rooms.{put_room}
 use Rattle.coefficients.proofs.Free.{next_free, taken_free}
 use Rattle.coefficients.proofs.Lacks.{passed_lacks, factor_of, sum_whole, taken_sizes}
 use Rattle.coefficients.proofs.Rooms.{term_lacks, spanned_sum, spans_at}
-use Rattle.tree_handles.specs.Lacking.{OfFull}
 use Rattle.tree_room.specs.Needs as need
-use Rattle.node_pool.specs.State.{free_of}
-use Rattle.tree_handles.specs.Handed.{tree_of}
 use Rattle.coefficients.proofs.multiples.distribute.Goals as goal
 
 pub children-terms-requires-clause-live : goal.children-terms-requires-clause-live

@@ -1,9 +1,5 @@
-use Rattle.calc_terms.specs.Rat.{value_of}
-use Rattle.coefficients.specs.Multiples.{rational_times_term}
+use Rattle.coefficients.proofs.Shared.{value_of, rational_times_term, tree_of, children_of, Stands, forest, KeepsRefusals}
 use Rattle.coefficients.proofs.Loops.{IsPartDone}
-use Rattle.tree_handles.specs.Handed.{tree_of}
-use Rattle.tree_handles.specs.Expressions.{children_of}
-use Rattle.tree_handles.specs.Standing.{Stands, forest, KeepsRefusals}
 use Rattle.coefficients.proofs.multiples.distribute.Given as goal
 
 abbrev pub invariant-loop-at : goal.invariant-loop-at

@@ -1,10 +1,7 @@
 use Rattle.std.proofs.Common.{◌≡◌, ◌∙◌, sym, subst, arith, true}
-use Rattle.calc_algebra.specs.Reduced.{is_reduced}
-use Rattle.calc_terms.specs.Trees.{Tree}
-use Rattle.tree_handles.specs.Standing.{forest}
+use Rattle.coefficients.proofs.Shared.{is_reduced, Tree, forest, product_kind}
 use Rattle.coefficients.proofs.Lengths.{long}
 use Rattle.coefficients.proofs.Places.{two_children}
-use Rattle.tree_handles.proofs.Seen.{product_kind}
 use Rattle.coefficients.proofs.multiples.is_led_by_sum.Goals as goal
 
 pub child_id-first-requires-clause-within : goal.child_id-first-requires-clause-within

@@ -1,14 +1,6 @@
 use Rattle.std.proofs.Common.{ap, ◌∙◌, ◌+◌, ◌≤◌, sym, subst, arith}
-use Rattle.calc_terms.specs.Payload.{rational}
-use Rattle.calc_terms.specs.Rat.{ratio_of, value_of}
-use Rattle.calc_terms.specs.Trees.{Tree, num, mult, more, is_mult, size}
-use Rattle.tree_handles.specs.Expressions.{children_of}
-use Rattle.tree_handles.proofs.Fronts.{behind_first, behind_new, front_after_one, front_same, front_without}
-use Rattle.tree_handles.proofs.Given.{gives_as, given_handed, given_told, given_rest}
-use Rattle.tree_handles.proofs.Outcomes.{if_map}
+use Rattle.coefficients.proofs.Shared.{rational, ratio_of, value_of, Tree, num, mult, more, is_mult, size, children_of, behind_first, behind_new, front_after_one, front_same, front_without, gives_as, given_handed, given_told, given_rest, if_map, refusal_as, tree_of}
 use Rattle.coefficients.proofs.Free.{as_product_size, number_refused, product_free}
-use Rattle.number_forms.proofs.Rooms.{refusal_as}
-use Rattle.tree_handles.specs.Handed.{tree_of}
 use Rattle.coefficients.proofs.multiples.put_before.Goals as goal
 
 pub put_first-requires-clause-handed : goal.put_first-requires-clause-handed

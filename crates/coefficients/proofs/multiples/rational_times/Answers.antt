@@ -1,16 +1,7 @@
 use Rattle.std.proofs.Common.{ap, ◌∙◌, sym, refl, arith}
-use Rattle.calc_terms.specs.Payload.{rational}
-use Rattle.calc_terms.specs.Rat.{ratio_of, value_of}
-use Rattle.calc_terms.specs.Fractions.{Fraction}
-use Rattle.calc_terms.specs.Trees.{num}
-use Rattle.coefficients.specs.Overflows.{Leads, IsMultiple}
+use Rattle.coefficients.proofs.Shared.{rational, ratio_of, value_of, Fraction, num, Leads, IsMultiple, tree_of, behind_first, front_after, front_at, front_same, front_without, gives_as, owned, live, seen, kind_of_root, product_kind, if_map}
 use Rattle.coefficients.proofs.Named.{named, multiple_named, leads_number}
-use Rattle.tree_handles.specs.Handed.{tree_of}
-use Rattle.tree_handles.proofs.Fronts.{behind_first, front_after, front_at, front_same, front_without}
-use Rattle.tree_handles.proofs.Given.{gives_as, owned}
 use Rattle.coefficients.proofs.LedFactors.{times_number, times_product, times_other}
-use Rattle.tree_handles.proofs.Seen.{live, seen, kind_of_root, product_kind}
-use Rattle.tree_handles.proofs.Outcomes.{if_map}
 use Rattle.coefficients.proofs.Free.{number_refused, released_free}
 use Rattle.coefficients.proofs.Lacks.{refusal_lacks}
 use Rattle.coefficients.proofs.multiples.rational_times.Goals as goal

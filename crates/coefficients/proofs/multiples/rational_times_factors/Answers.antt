@@ -1,21 +1,8 @@
 use Rattle.std.proofs.Common.{◌≤◌, ap, ◌∙◌, sym, subst, arith, inl, refl}
-use Rattle.calc_terms.specs.Payload.{rational}
-use Rattle.calc_terms.specs.Rat.{ratio_of, value_of}
-use Rattle.calc_algebra.specs.Reduced.{product_tree}
-use Rattle.calc_terms.specs.Trees.{Tree, num, mult, more, count, is_mult, root_kind}
-use Rattle.calc_terms.specs.Fractions.{Fraction}
-use Rattle.coefficients.specs.Overflows.{Leads, IsMultiple}
+use Rattle.coefficients.proofs.Shared.{rational, ratio_of, value_of, product_tree, Tree, num, mult, more, count, is_mult, root_kind, Fraction, Leads, IsMultiple, tree_of, children_of, without_root, forest, behind_first, front_after_one, gives_as, given_handed, given_root, owned, over_product, over_handed, over_plain, without_put, children_at, expression}
 use Rattle.coefficients.proofs.Named.{named, multiple_named, leads_children}
-use Rattle.tree_handles.specs.Handed.{tree_of}
-use Rattle.tree_handles.specs.Expressions.{children_of}
-use Rattle.tree_handles.specs.Roots.{without_root}
-use Rattle.tree_handles.specs.Standing.{forest}
-use Rattle.tree_handles.proofs.Fronts.{behind_first, front_after_one}
-use Rattle.tree_handles.proofs.Given.{gives_as, given_handed, given_root, owned}
 use Rattle.coefficients.proofs.LedFactors.{first_led, first_seen, led_taken, led_dropped, added_front, times_to_one, times_to_other, times_unled}
 use Rattle.coefficients.proofs.Lengths.{long}
-use Rattle.tree_handles.proofs.Over.{over_product, over_handed, over_plain, without_put, children_at}
-use Rattle.tree_handles.proofs.Seen.{expression}
 use Rattle.coefficients.proofs.Free.{left_free, number_refused, released_free}
 use Rattle.coefficients.proofs.Lacks.{refusal_lacks}
 use Rattle.coefficients.proofs.multiples.rational_times_factors.Goals as goal

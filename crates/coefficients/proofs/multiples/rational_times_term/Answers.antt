@@ -1,26 +1,11 @@
 use Rattle.std.proofs.Common.{ap, ◌∙◌, sym, refl, subst, arith, true, false, ◌≡◌, ◌+◌, ◌^◌, ◌<◌, length}
-use Rattle.calc_terms.specs.Rat.{value_of}
-use Rattle.calc_algebra.specs.Reduced.{is_reduced}
-use Rattle.calc_terms.specs.Trees.{Tree, add, none, is_add, size}
-use Rattle.tree_handles.specs.Expressions.{children_of}
-use Rattle.tree_handles.proofs.Fronts.{front_same}
-use Rattle.tree_handles.proofs.Given.{gives_as, given_handed, given_root, given_told}
-use Rattle.tree_handles.proofs.Roots.{root_held}
-use Rattle.coefficients.specs.Multiples.{leads_sum, rational_times_number}
-use Rattle.coefficients.specs.Overflows.{Leads, LeadsIn}
+use Rattle.coefficients.proofs.Shared.{value_of, is_reduced, Tree, add, none, is_add, size, children_of, front_same, gives_as, given_handed, given_root, given_told, root_held, leads_sum, rational_times_number, Leads, LeadsIn, taken, children_in, moved, moved_front, expression, seen, if_map, is_number, counted, SpansTree, free_of}
 use Rattle.coefficients.proofs.Named.{passed_named, multiple_of, leads_coefficient}
 use Rattle.coefficients.proofs.LedFactors.{sum_led, led_over, led_reduced, times_led, times_sum_unled}
-use Rattle.tree_handles.proofs.Over.{taken, children_in, moved, moved_front}
 use Rattle.coefficients.proofs.Rewritten.{given_as, over_back, apart_back, put_back, front_lost}
-use Rattle.tree_handles.proofs.Seen.{expression, seen}
-use Rattle.tree_handles.proofs.Outcomes.{if_map}
-use Rattle.calc_algebra.specs.Numbers.{is_number}
-use Rattle.calc_room.specs.Counts.{counted}
-use Rattle.calc_room.specs.Spans.{SpansTree}
 use Rattle.coefficients.proofs.Free.{taken_free}
 use Rattle.coefficients.proofs.Lacks.{passed_lacks}
 use Rattle.coefficients.proofs.Rooms.{coefficient_lacks}
-use Rattle.node_pool.specs.State.{free_of}
 use Rattle.tree_room.specs.Needs as need
 use Rattle.coefficients.proofs.multiples.rational_times_term.Goals as goal
 

@@ -1,15 +1,9 @@
 use Rattle.std.proofs.Common.{◌∙◌, ap, refl, sym, arith}
-use Rattle.calc_terms.specs.declared.kind.Kind.TheVariants as kind
-use Rattle.calc_terms.specs.Payload.{bare}
-use Rattle.calc_terms.specs.Trees.{mult}
-use Rattle.tree_handles.proofs.Forests.{keeps_after}
-use Rattle.tree_handles.proofs.Fronts.{behind_first, front_same, front_end, front_without}
-use Rattle.tree_handles.proofs.Given.{gives, represents_handed, represents_node, represents_none, represents_with}
-use Rattle.tree_handles.proofs.Lasts.{last_held, last_apart, other_root}
+use Rattle.coefficients.proofs.Shared.{bare, mult, keeps_after, behind_first, front_same, front_end, front_without, gives, represents_handed, represents_node, represents_none, represents_with, last_held, last_apart, other_root, live, kind_of_root, product_kind, no_product_kind}
 use Rattle.coefficients.proofs.Bytes.{product_bytes, other_bytes, always, never, no_bytes, refused_once}
 use Rattle.coefficients.proofs.Factors.{single_factors}
 use Rattle.coefficients.proofs.Steps.{product_factors}
-use Rattle.tree_handles.proofs.Seen.{live, kind_of_root, product_kind, no_product_kind}
+use Rattle.calc_terms.specs.declared.kind.Kind.TheVariants as kind
 use Rattle.coefficients.proofs.products.as_product.Goals as goal
 
 pub kind-requires-clause-live : goal.kind-requires-clause-live

@@ -1,9 +1,5 @@
 use Rattle.std.proofs.Common.{refl}
-use Rattle.tree_handles.proofs.Given.{given_root, given_apart}
-use Rattle.tree_handles.proofs.Lasts.{apart, other_root}
-use Rattle.tree_handles.proofs.Outcomes.{eqb-sym}
-use Rattle.tree_handles.proofs.Roots.{root_held}
-use Rattle.tree_handles.proofs.Over.{over_product, added_as, moved, moved_front}
+use Rattle.coefficients.proofs.Shared.{given_root, given_apart, apart, other_root, eqb-sym, root_held, over_product, added_as, moved, moved_front}
 use Rattle.coefficients.proofs.products.put_first.Goals as goal
 
 pub add_child-requires-clause-live : goal.add_child-requires-clause-live

@@ -1,9 +1,6 @@
 use Rattle.std.proofs.Common.{◌∙◌, inl}
-use Rattle.tree_handles.proofs.Fronts.{behind_first, front_at, front_end, front_put, front_same, front_without}
-use Rattle.tree_handles.proofs.Given.{gives, represents_handed, owned}
-use Rattle.tree_handles.proofs.Over.{over_product, count_is, children_at}
+use Rattle.coefficients.proofs.Shared.{behind_first, front_at, front_end, front_put, front_same, front_without, gives, represents_handed, owned, over_product, count_is, children_at, live}
 use Rattle.coefficients.proofs.Steps.{only_taken, many_factors}
-use Rattle.tree_handles.proofs.Seen.{live}
 use Rattle.coefficients.proofs.products.unwrapped.Goals as goal
 
 pub children-requires-clause-live : goal.children-requires-clause-live

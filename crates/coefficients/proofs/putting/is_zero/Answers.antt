@@ -1,9 +1,5 @@
 use Rattle.std.proofs.Common.{◌≡◌, ℤ, pos, negsuc, zero, suc, refl, sym, ap, ◌∙◌, rules, FitsSigned, of_z, to_z, nat_eq}
-use Rattle.std.specs.Int.{w128}
-use Rattle.std.proofs.lemmas.Int.{to_z-of_z}
-use Rattle.calc_terms.specs.Integers.{int_is_zero}
-use Rattle.number_forms.proofs.CodeTests.{unequal}
-use Rattle.rational128.proofs.LowestTerms.{ratio_parts}
+use Rattle.coefficients.proofs.Shared.{w128, to_z-of_z, int_is_zero, unequal, ratio_parts}
 use Rattle.coefficients.proofs.putting.is_zero.Goals as goal
 
 -- the bits of an integer are 0 only where it is

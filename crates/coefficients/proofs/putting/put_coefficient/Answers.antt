@@ -1,27 +1,10 @@
 use Rattle.std.proofs.Common.{◌∙◌, sym, ap, refl, ◌^◌, length, subst, arith}
-use Rattle.calc_algebra.specs.Reduced.{is_reduced}
-use Rattle.tree_handles.specs.Expressions.{plain}
-use Rattle.tree_handles.specs.Forest.{Forest}
-use Rattle.tree_handles.specs.Roots.{root_tree, without_root}
-use Rattle.tree_handles.specs.Standing.{forest}
-use Rattle.tree_handles.proofs.Fronts.{behind_first, behind_later, front_after_one, front_at, front_same, front_without}
-use Rattle.tree_handles.proofs.Given.{gives_as, handed_at, handed_beside, owned}
-use Rattle.tree_handles.proofs.Outcomes.{eqb-sym, if_map}
-use Rattle.tree_handles.proofs.Roots.{tree-without, without-swap}
-use Rattle.coefficients.specs.Coefficients.{with_coefficient}
+use Rattle.coefficients.proofs.Shared.{is_reduced, plain, Forest, root_tree, without_root, forest, behind_first, behind_later, front_after_one, front_at, front_same, front_without, gives_as, handed_at, handed_beside, owned, eqb-sym, if_map, tree-without, without-swap, with_coefficient, live, seen, kind_of_root, counted, SpansTree, Tree, size, put_room, free_of, refused_below, tree_of}
 use Rattle.coefficients.proofs.Named.{result_named, put_as}
 use Rattle.coefficients.proofs.Puttings.{on_ok_after, fault_after, with_irrational}
-use Rattle.tree_handles.proofs.Seen.{live, seen, kind_of_root}
-use Rattle.calc_room.specs.Counts.{counted}
-use Rattle.calc_room.specs.Spans.{SpansTree}
-use Rattle.calc_terms.specs.Trees.{Tree, size}
-use Rattle.coefficients.specs.Rooms.{put_room}
 use Rattle.coefficients.proofs.Free.{released_free}
 use Rattle.coefficients.proofs.Lacks.{refusal_lacks, result_lacks}
 use Rattle.coefficients.proofs.Rooms.{both_lack}
-use Rattle.node_pool.specs.State.{free_of}
-use Rattle.tree_handles.proofs.FreeBytes.{refused_below}
-use Rattle.tree_handles.specs.Handed.{tree_of}
 use Rattle.coefficients.proofs.putting.put_coefficient.Goals as goal
 
 pub kind-requires-clause-live : goal.kind-requires-clause-live

@@ -1,14 +1,9 @@
 use Rattle.std.proofs.Common.{◌∙◌, sym, refl}
-use Rattle.calc_terms.specs.Rat.{value_of}
-use Rattle.tree_handles.proofs.Given.{gives_as}
+use Rattle.coefficients.proofs.Shared.{value_of, gives_as, live, kind_of_root, sum_kind, no_sum_kind, if_map, free_of, tree_of}
 use Rattle.coefficients.proofs.Named.{result_named, names_sum}
 use Rattle.coefficients.proofs.Puttings.{before_sum, before_other}
-use Rattle.tree_handles.proofs.Seen.{live, kind_of_root, sum_kind, no_sum_kind}
-use Rattle.tree_handles.proofs.Outcomes.{if_map}
 use Rattle.coefficients.proofs.Lacks.{refusal_lacks}
 use Rattle.coefficients.proofs.Rooms.{part_lacks}
-use Rattle.node_pool.specs.State.{free_of}
-use Rattle.tree_handles.specs.Handed.{tree_of}
 use Rattle.coefficients.proofs.putting.put_other_rational.Goals as goal
 
 pub kind-requires-clause-live : goal.kind-requires-clause-live

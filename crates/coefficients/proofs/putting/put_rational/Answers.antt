@@ -1,16 +1,9 @@
 use Rattle.std.proofs.Common.{◌∙◌, sym, ap, refl, arith}
-use Rattle.calc_terms.specs.Payload.{rational}
-use Rattle.calc_terms.specs.Rat.{ratio_of, value_of}
-use Rattle.calc_terms.specs.Trees.{num}
-use Rattle.tree_handles.proofs.Fronts.{behind_first, front_after, front_at, front_end, front_same, front_without}
-use Rattle.tree_handles.proofs.Given.{gives, gives_as, owned, represents_handed}
+use Rattle.coefficients.proofs.Shared.{rational, ratio_of, value_of, num, behind_first, front_after, front_at, front_end, front_same, front_without, gives, gives_as, owned, represents_handed, if_map, counted, tree_of}
 use Rattle.coefficients.proofs.Puttings.{zero_value, with_zero, with_one, with_other}
-use Rattle.tree_handles.proofs.Outcomes.{if_map}
 use Rattle.coefficients.proofs.Free.{number_refused, released_free}
 use Rattle.coefficients.proofs.Lacks.{refusal_lacks}
 use Rattle.coefficients.proofs.Rooms.{few_for_put}
-use Rattle.calc_room.specs.Counts.{counted}
-use Rattle.tree_handles.specs.Handed.{tree_of}
 use Rattle.coefficients.proofs.putting.put_rational.Goals as goal
 
 pub returns-in_err-number-clause-front : goal.returns-in_err-number-clause-front

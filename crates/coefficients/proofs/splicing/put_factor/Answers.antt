@@ -1,6 +1,4 @@
-use Rattle.tree_handles.specs.Standing.{forest}
-use Rattle.tree_handles.proofs.Lasts.{apart}
-use Rattle.tree_handles.proofs.Roots.{root_held}
+use Rattle.coefficients.proofs.Shared.{forest, apart, root_held}
 use Rattle.coefficients.proofs.FirstFactors.{first_factor, first_last, last_front}
 use Rattle.coefficients.proofs.splicing.put_factor.Goals as goal
 

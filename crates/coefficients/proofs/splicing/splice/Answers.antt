@@ -1,17 +1,7 @@
 use Rattle.std.proofs.Common.{◌∙◌, ap, sym}
-use Rattle.calc_terms.specs.Trees.{Trees, mult, more, append, is_mult}
-use Rattle.tree_handles.specs.Expressions.{plain, children_of}
-use Rattle.tree_handles.specs.Roots.{root_tree}
-use Rattle.tree_handles.specs.Standing.{forest}
-use Rattle.tree_handles.proofs.Forests.{keeps_after}
-use Rattle.tree_handles.proofs.Fronts.{behind_first, behind_later, behind_new, front_after_one, front_after_two, front_same, front_without}
-use Rattle.tree_handles.proofs.Given.{gives_as, given_handed, given_other, given_apart, given_same, given_told, given_without, handed_beside}
-use Rattle.tree_handles.proofs.Outcomes.{eqb-sym}
-use Rattle.tree_handles.proofs.Roots.{tree-without}
-use Rattle.coefficients.specs.Coefficients.{factors_of}
+use Rattle.coefficients.proofs.Shared.{Trees, mult, more, append, is_mult, plain, children_of, root_tree, forest, keeps_after, behind_first, behind_later, behind_new, front_after_one, front_after_two, front_same, front_without, gives_as, given_handed, given_other, given_apart, given_same, given_told, given_without, handed_beside, eqb-sym, tree-without, factors_of, live, kind_of_root, product_kind, no_product_kind}
 use Rattle.coefficients.proofs.Factors.{single_factors}
 use Rattle.coefficients.proofs.FirstFactors.{product_children}
-use Rattle.tree_handles.proofs.Seen.{live, kind_of_root, product_kind, no_product_kind}
 use Rattle.coefficients.proofs.splicing.splice.Goals as goal
 
 pub kind-requires-clause-live : goal.kind-requires-clause-live

@@ -1,8 +1,5 @@
 use Rattle.std.proofs.Common.{refl, ◌≡◌, true, sym, ap, ◌∙◌, subst, arith}
-use Rattle.calc_algebra.specs.Numbers.{is_number}
-use Rattle.calc_algebra.specs.Reduced.{is_reduced}
-use Rattle.calc_terms.specs.Trees.{Tree}
-use Rattle.tree_handles.specs.Standing.{forest}
+use Rattle.coefficients.proofs.Shared.{is_number, is_reduced, Tree, forest}
 use Rattle.coefficients.proofs.Lengths.{long}
 use Rattle.coefficients.proofs.Places.{two_children}
 use Rattle.coefficients.proofs.taking.coefficient_length.Goals as goal

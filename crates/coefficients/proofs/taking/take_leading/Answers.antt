@@ -1,24 +1,9 @@
 use Rattle.std.proofs.Common.{◌≡◌, ℕ, ◌∙◌, ap, refl, sym, subst, arith}
-use Rattle.calc_terms.specs.declared.kind.Kind.TheVariants as kind
-use Rattle.calc_terms.specs.Fractions.{Fraction}
-use Rattle.calc_algebra.specs.Reduced.{Split, is_reduced, num_one}
-use Rattle.calc_terms.specs.Trees.{Trees, num, is_mult}
-use Rattle.tree_handles.specs.Forest.{Forest, kids}
-use Rattle.tree_handles.specs.Handed.{Represents, Gives}
-use Rattle.tree_handles.specs.Roots.{root_tree}
-use Rattle.tree_handles.specs.Standing.{forest}
-use Rattle.tree_handles.proofs.Fronts.{behind_first, front_after, front_end, front_put, front_same}
-use Rattle.tree_handles.proofs.Given.{gives_as, given_rest, given_root}
-use Rattle.tree_handles.proofs.Lasts.{last_held, last_apart, other_root, ends_as}
-use Rattle.tree_handles.proofs.Roots.{put-same}
-use Rattle.coefficients.specs.Pairs.{LeavesRest}
-use Rattle.tree_handles.proofs.Forests.{keeps_after}
+use Rattle.coefficients.proofs.Shared.{Fraction, Split, is_reduced, num_one, Trees, num, is_mult, Forest, kids, Represents, Gives, root_tree, forest, behind_first, front_after, front_end, front_put, front_same, gives_as, given_rest, given_root, last_held, last_apart, other_root, ends_as, put-same, LeavesRest, keeps_after, IsOver, over_product, children_in, expression, seen, if_map}
 use Rattle.coefficients.proofs.Bytes.{none_bytes, one_bytes, two_bytes, pair_free, always, never, no_bytes, as_bytes, refused_once, short, passed_short, result_short}
 use Rattle.coefficients.proofs.Lengths.{long, measured}
-use Rattle.tree_handles.proofs.Over.{IsOver, over_product, children_in}
 use Rattle.coefficients.proofs.Steps.{length_seen, leaves_one, first_taken, pair_taken, pair_front, paired, one_value, one_size}
-use Rattle.tree_handles.proofs.Seen.{expression, seen}
-use Rattle.tree_handles.proofs.Outcomes.{if_map}
+use Rattle.calc_terms.specs.declared.kind.Kind.TheVariants as kind
 use Rattle.coefficients.proofs.taking.take_leading.Goals as goal
 
 pub coefficient_length-length-requires-clause-expression : goal.coefficient_length-length-requires-clause-expression

@@ -1,8 +1,5 @@
 use Rattle.std.proofs.Common.{ap, ◌∙◌, inr}
-use Rattle.calc_algebra.specs.Reduced.{is_reduced}
-use Rattle.calc_terms.specs.Trees.{symbol}
-use Rattle.number_forms.proofs.Pairs.{first_handed, pair_apart}
-use Rattle.tree_handles.proofs.Given.{given_handed, given_told}
+use Rattle.coefficients.proofs.Shared.{is_reduced, symbol, first_handed, pair_apart, given_handed, given_told}
 use Rattle.coefficients.proofs.Forms.{parts_reduced}
 use Rattle.coefficients.proofs.tests.times_name.Goals as goal
 

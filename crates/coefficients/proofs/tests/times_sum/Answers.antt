@@ -1,6 +1,4 @@
-use Rattle.calc_algebra.proofs.NumberLaws.{number_words}
-use Rattle.number_forms.proofs.Pairs.{first_handed, pair_apart}
-use Rattle.tree_handles.proofs.Given.{given_handed, given_told}
+use Rattle.coefficients.proofs.Shared.{number_words, first_handed, pair_apart, given_handed, given_told}
 use Rattle.coefficients.proofs.Forms.{number_parts, parts_reduced}
 use Rattle.coefficients.proofs.tests.times_sum.Goals as goal
 

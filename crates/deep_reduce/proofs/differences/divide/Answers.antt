@@ -1,35 +1,16 @@
 use Rattle.std.proofs.Common.{◌≡◌, ◌*◌, negsuc, rules, length, inr, true, false, ◌<◌, ◌+◌, ◌^◌, refl, sym, ap, ◌∙◌, subst, arith}
-use Rattle.calc_terms.specs.Fits.{fraction_fits}
-use Rattle.calc_terms.specs.Fractions.{Fraction, minus_one_fraction}
-use Rattle.deep_reduce.specs.NodeBits.{HoldsNode, holds_whole}
+use Rattle.deep_reduce.proofs.Shared.{fraction_fits, Fraction, minus_one_fraction, HoldsNode, holds_whole, IsFactorHeld, is_reduced, Tree, size, sizes, count, num, mult, none, more, power, has_undef, tree_of, gives_as, given_handed, given_root, given_told, nth, children_of, counted, SpansTree, expression, seen, IsNodeAnswer, IsCalmAtZero, stands_last, free_of, replaced_free, passed_on, product_count, product_room, product_power_room}
 use Rattle.deep_reduce.proofs.NodeBits.{quotient_holds, two_factors, second_side}
-use Rattle.product_reduce.specs.Bits.{IsFactorHeld}
 use Rattle.deep_reduce.proofs.Fitting.{root_fits}
-use Rattle.calc_algebra.specs.Reduced.{is_reduced}
-use Rattle.calc_terms.specs.Trees.{Tree, size, sizes, count, num, mult, none, more, power, has_undef}
-use Rattle.tree_handles.specs.Handed.{tree_of}
-use Rattle.tree_handles.proofs.Given.{gives_as, given_handed, given_root, given_told}
-use Rattle.tree_handles.specs.Expressions.{nth, children_of}
 use Rattle.deep_reduce.proofs.Results.{answer_as, overflow_as, overflow_on}
 use Rattle.deep_reduce.proofs.Sides.{left_beside, rewritten_front, paired_front}
 use Rattle.deep_reduce.proofs.Steps.{undefined_answer}
 use Rattle.deep_reduce.proofs.Quotients.{div_answer, div_overflow, inverse_overflow}
 use Rattle.deep_reduce.proofs.Told.{answer_at, overflow_at, div_is, div_children, right_reduced, left_reduced}
-use Rattle.calc_room.specs.Counts.{counted}
-use Rattle.calc_room.specs.Spans.{SpansTree}
-use Rattle.tree_handles.proofs.Seen.{expression, seen}
-use Rattle.deep_reduce.specs.Nodes.{IsNodeAnswer}
-use Rattle.deep_reduce.specs.Rooms.{IsCalmAtZero}
 use Rattle.deep_reduce.proofs.Lacking.{lacks_as, result_lacks}
 use Rattle.deep_reduce.proofs.NodeBytes.{quotient_sides, right_inverse_lacks, quotient_fits, quotient_keeps, sides_free}
-use Rattle.reduce_walk.proofs.Walks.{stands_last}
-use Rattle.node_pool.specs.State.{free_of}
-use Rattle.tree_handles.proofs.FreeBytes.{replaced_free}
-use Rattle.tree_handles.proofs.Outcomes.{passed_on}
-use Rattle.tree_room.specs.Handed.{product_count}
-use Rattle.tree_room.specs.Needs.{product_room, product_power_room}
-use Rattle.deep_reduce.proofs.differences.divide.Goals as goal
 use Rattle.deep_reduce.proofs.differences.divide.Goals.{After-has_undefined_child}
+use Rattle.deep_reduce.proofs.differences.divide.Goals as goal
 
 -- what the reader tells
 has-is : (c : After-has_undefined_child) → c.has_undefined_child.result ≡ has_undef (children_of (tree_of c.args.quotient c.args.pool.now))

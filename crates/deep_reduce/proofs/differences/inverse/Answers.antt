@@ -1,34 +1,15 @@
 use Rattle.std.proofs.Common.{rules, length, negsuc, ◌<◌, ◌+◌, ◌^◌, refl, sym, ap, ◌∙◌, subst, arith}
-use Rattle.calc_room.specs.Spans.{SpansTree}
-use Rattle.calc_room.proofs.NumberBytes.{num_bytes}
-use Rattle.calc_terms.specs.Payload.{rational}
-use Rattle.calc_terms.specs.Rat.{ratio_of, value_of}
-use Rattle.coefficients.proofs.Free.{number_refused}
-use Rattle.deep_reduce.specs.Rooms.{IsCalmAtZero, whole_power_room}
-use Rattle.product_reduce.specs.Bits.{IsFactorHeld}
+use Rattle.deep_reduce.proofs.Shared.{SpansTree, num_bytes, rational, ratio_of, value_of, number_refused, IsCalmAtZero, whole_power_room, IsFactorHeld, free_of, both_replaced_free, refused_below, passed_on, whole_is, given_free, minus_one_fraction, plain_value, is_reduced, is_whole_num, Tree, num, size, base_in, exponent_in, tree_of, behind_first, behind_new, front_same, front_end, front_after, front_after_two, gives_as, given_handed, given_other, given_told, given_without}
 use Rattle.deep_reduce.proofs.NodeBits.{as_overflow}
 use Rattle.deep_reduce.proofs.Lacking.{result_lacks}
 use Rattle.deep_reduce.proofs.NodeBytes.{inverse_lacks, inverse_calm, inverse_spans}
 use Rattle.deep_reduce.proofs.PowerBytes.{needs_most}
-use Rattle.node_pool.specs.State.{free_of}
-use Rattle.tree_handles.proofs.FreeBytes.{both_replaced_free, refused_below}
-use Rattle.tree_handles.proofs.Outcomes.{passed_on}
-use Rattle.power_reduce.proofs.Whole.{whole_is}
-use Rattle.tree_handles.specs.declared.fault.NumberFault.TheVariants as fault
-use Rattle.tree_handles.proofs.Room.{given_free}
-use Rattle.calc_terms.specs.Fractions.{minus_one_fraction}
-use Rattle.calc_measures.specs.PlainValues.{plain_value}
-use Rattle.calc_algebra.specs.Reduced.{is_reduced, is_whole_num}
-use Rattle.calc_terms.specs.Trees.{Tree, num, size}
-use Rattle.calc_terms.specs.declared.kind.Kind.TheVariants as kind
-use Rattle.power_reduce.specs.PowerAnswers.{base_in, exponent_in}
-use Rattle.tree_handles.specs.Handed.{tree_of}
-use Rattle.tree_handles.proofs.Fronts.{behind_first, behind_new, front_same, front_end, front_after, front_after_two}
-use Rattle.tree_handles.proofs.Given.{gives_as, given_handed, given_other, given_told, given_without}
 use Rattle.deep_reduce.proofs.Results.{answered, answer_as, overflowed_defined}
 use Rattle.deep_reduce.proofs.Sides.{apart_second, beside_new, new_second, reduced_front}
 use Rattle.deep_reduce.proofs.Steps.{number_reduced}
 use Rattle.deep_reduce.proofs.Told.{answer_at, minus_one_value, power_told, power_words, power_sides, inverse_no_half, inverse_overflowed}
+use Rattle.tree_handles.specs.declared.fault.NumberFault.TheVariants as fault
+use Rattle.calc_terms.specs.declared.kind.Kind.TheVariants as kind
 use Rattle.deep_reduce.proofs.differences.inverse.Goals as goal
 
 pub returns-in_err-exponent-clause-front : goal.returns-in_err-exponent-clause-front

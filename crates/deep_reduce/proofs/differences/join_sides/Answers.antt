@@ -1,30 +1,13 @@
 use Rattle.std.proofs.Common.{◌≡◌, ◌⊎◌, ℕ, length, ◌<◌, ◌+◌, ◌^◌, rules, true, inl, inr, refl, sym, ap, ◌∙◌, subst, arith}
-use Rattle.calc_algebra.specs.Reduced.{is_reduced, are_reduced}
-use Rattle.calc_room.specs.Spans.{SpansTree}
-use Rattle.calc_terms.specs.Payload.{bare, size_of_payload}
-use Rattle.calc_terms.specs.Trees.{Tree, is_add, is_mult, size, has_undef}
-use Rattle.deep_reduce.specs.NodeRooms.{factors_room}
-use Rattle.deep_reduce.specs.Rooms.{IsCalmAtZero}
-use Rattle.deep_reduce.specs.NodeBits.{HoldsNode}
+use Rattle.deep_reduce.proofs.Shared.{is_reduced, are_reduced, SpansTree, bare, size_of_payload, Tree, is_add, is_mult, size, has_undef, factors_room, IsCalmAtZero, HoldsNode, both_replaced_free, refused_below, passed_on, sum_count, sum_room, Kind, State, free_of, Gives, tree_of, without_root, forest, children_of, compound, takes_kind, gives, given_handed, given_other, given_rest, given_told, represents_handed}
 use Rattle.deep_reduce.proofs.Lacking.{result_lacks}
 use Rattle.deep_reduce.proofs.NodeBytes.{sum_node_lacks, product_node_lacks}
-use Rattle.tree_handles.proofs.FreeBytes.{both_replaced_free, refused_below}
-use Rattle.tree_handles.proofs.Outcomes.{passed_on}
-use Rattle.tree_handles.specs.declared.fault.NumberFault.TheVariants as fault
-use Rattle.tree_room.specs.Handed.{sum_count}
-use Rattle.tree_room.specs.Needs.{sum_room}
-use Rattle.calc_terms.specs.declared.kind.Kind.{Kind}
-use Rattle.calc_terms.specs.declared.kind.Kind.TheVariants as kind
-use Rattle.node_pool.specs.State.{State, free_of}
-use Rattle.tree_handles.specs.Handed.{Gives, tree_of}
-use Rattle.tree_handles.specs.Roots.{without_root}
-use Rattle.tree_handles.specs.Standing.{forest}
-use Rattle.tree_handles.specs.Expressions.{children_of, compound, takes_kind}
-use Rattle.tree_handles.proofs.Given.{gives, given_handed, given_other, given_rest, given_told, represents_handed}
 use Rattle.deep_reduce.proofs.Results.{answer_as, overflow_as}
 use Rattle.deep_reduce.proofs.Sides.{apart_second, joined_front}
 use Rattle.deep_reduce.proofs.Steps.{two}
 use Rattle.deep_reduce.proofs.Told.{answer_at, overflow_at, two_reduced}
+use Rattle.tree_handles.specs.declared.fault.NumberFault.TheVariants as fault
+use Rattle.calc_terms.specs.declared.kind.Kind.TheVariants as kind
 use Rattle.deep_reduce.proofs.differences.join_sides.Goals as goal
 
 abbrev sides : Kind → ℕ → ℕ → State → Tree

@@ -1,34 +1,15 @@
 use Rattle.std.proofs.Common.{rules, length, ◌<◌, ◌+◌, ◌^◌, refl, sym, ap, ◌∙◌, subst, arith}
-use Rattle.calc_room.specs.Spans.{SpansTree}
-use Rattle.calc_room.proofs.NumberBytes.{num_bytes}
-use Rattle.calc_terms.specs.Payload.{rational}
-use Rattle.calc_terms.specs.Rat.{ratio_of, value_of}
-use Rattle.coefficients.proofs.Free.{number_refused}
-use Rattle.deep_reduce.specs.NodeRooms.{factors_room}
-use Rattle.deep_reduce.specs.Rooms.{IsCalmAtZero}
-use Rattle.calc_terms.specs.Trees.{has_undef, Tree, num, is_mult, size}
-use Rattle.deep_reduce.specs.NodeBits.{HoldsNode}
+use Rattle.deep_reduce.proofs.Shared.{SpansTree, num_bytes, rational, ratio_of, value_of, number_refused, factors_room, IsCalmAtZero, has_undef, Tree, num, is_mult, size, HoldsNode, free_of, both_replaced_free, refused_below, passed_on, given_free, minus_one_fraction, are_reduced, tree_of, children_of, behind_first, behind_new, front_same, front_end, front_after, front_after_two, gives_as, given_handed, given_other, given_rest, given_told, without_root}
 use Rattle.deep_reduce.proofs.NodeBits.{opposite_factors, second_side}
 use Rattle.deep_reduce.proofs.Lacking.{result_lacks}
 use Rattle.deep_reduce.proofs.NodeBytes.{opposite_lacks, opposite_calm, opposite_spans, opposite_fits}
-use Rattle.node_pool.specs.State.{free_of}
-use Rattle.tree_handles.proofs.FreeBytes.{both_replaced_free, refused_below}
-use Rattle.tree_handles.proofs.Outcomes.{passed_on}
-use Rattle.tree_handles.specs.declared.fault.NumberFault.TheVariants as fault
-use Rattle.tree_handles.proofs.Room.{given_free}
-use Rattle.calc_terms.specs.Fractions.{minus_one_fraction}
-use Rattle.calc_terms.specs.declared.kind.Kind.TheVariants as kind
-use Rattle.calc_algebra.specs.Reduced.{are_reduced}
-use Rattle.tree_handles.specs.Handed.{tree_of}
-use Rattle.tree_handles.specs.Expressions.{children_of}
-use Rattle.tree_handles.proofs.Fronts.{behind_first, behind_new, front_same, front_end, front_after, front_after_two}
-use Rattle.tree_handles.proofs.Given.{gives_as, given_handed, given_other, given_rest, given_told}
-use Rattle.tree_handles.specs.Roots.{without_root}
 use Rattle.deep_reduce.proofs.Fitting.{root_fits}
 use Rattle.deep_reduce.proofs.Results.{answer_as, overflow_as}
 use Rattle.deep_reduce.proofs.Sides.{apart_first, beside_new, new_first, reduced_front}
 use Rattle.deep_reduce.proofs.Steps.{neg_answer, neg_overflow, number_reduced}
 use Rattle.deep_reduce.proofs.Told.{answer_at, overflow_at, minus_one_value, two_reduced}
+use Rattle.tree_handles.specs.declared.fault.NumberFault.TheVariants as fault
+use Rattle.calc_terms.specs.declared.kind.Kind.TheVariants as kind
 use Rattle.deep_reduce.proofs.differences.minus.Goals as goal
 
 pub returns-in_err-minus_one-clause-front : goal.returns-in_err-minus_one-clause-front

@@ -1,23 +1,9 @@
 use Rattle.std.proofs.Common.{rules, inl, length, ◌<◌, ◌+◌, ◌^◌, sym, ap, ◌∙◌, subst, arith}
-use Rattle.calc_algebra.specs.Reduced.{is_reduced}
-use Rattle.calc_terms.specs.Trees.{Tree, neg, count, size, is_undef, has_undef}
-use Rattle.calc_room.specs.Counts.{counted}
-use Rattle.calc_room.specs.Spans.{SpansTree}
-use Rattle.deep_reduce.specs.Rooms.{IsCalmAtZero}
-use Rattle.product_reduce.specs.Bits.{IsFactorHeld}
+use Rattle.deep_reduce.proofs.Shared.{is_reduced, Tree, neg, count, size, is_undef, has_undef, counted, SpansTree, IsCalmAtZero, IsFactorHeld, free_of, replaced_free, product_room, keeps_after, tree_of, behind_first, behind_new, front_same, front_end, front_without, front_after_one, given_handed, given_told, given_rest, nth, children_of, parent_handed}
 use Rattle.deep_reduce.proofs.NodeBits.{opposite_holds, only_undef}
 use Rattle.deep_reduce.proofs.Lacking.{result_lacks}
 use Rattle.deep_reduce.proofs.NodeBytes.{negated_calm, negated_spans, negated_fits}
-use Rattle.node_pool.specs.State.{free_of}
-use Rattle.tree_handles.proofs.FreeBytes.{replaced_free}
-use Rattle.tree_room.specs.Needs.{product_room}
-use Rattle.tree_handles.proofs.Forests.{keeps_after}
-use Rattle.tree_handles.specs.Handed.{tree_of}
-use Rattle.tree_handles.proofs.Fronts.{behind_first, behind_new, front_same, front_end, front_without, front_after_one}
-use Rattle.tree_handles.proofs.Given.{given_handed, given_told, given_rest}
-use Rattle.tree_handles.specs.Expressions.{nth, children_of}
 use Rattle.deep_reduce.proofs.Parents.{alone_out, parent_children}
-use Rattle.reduce_walk.proofs.Parents.{parent_handed}
 use Rattle.deep_reduce.proofs.Results.{answer_as, overflow_as}
 use Rattle.deep_reduce.proofs.Told.{answer_at, overflow_at, neg_is, neg_children, only_reduced}
 use Rattle.deep_reduce.proofs.differences.negate.Goals as goal

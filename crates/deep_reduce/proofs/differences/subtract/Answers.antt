@@ -1,31 +1,14 @@
 use Rattle.std.proofs.Common.{◌≡◌, rules, length, inl, false, ◌<◌, ◌+◌, ◌^◌, refl, sym, ap, ◌∙◌, subst, arith}
-use Rattle.calc_algebra.specs.Reduced.{is_reduced}
-use Rattle.calc_terms.specs.Trees.{Tree, size, sizes, count, add, none, more, neg, has_undef}
-use Rattle.tree_handles.specs.Handed.{tree_of}
-use Rattle.tree_handles.proofs.Given.{gives_as, given_handed, given_told}
-use Rattle.tree_handles.specs.Expressions.{nth, children_of}
-use Rattle.deep_reduce.specs.NodeBits.{HoldsNode}
+use Rattle.deep_reduce.proofs.Shared.{is_reduced, Tree, size, sizes, count, add, none, more, neg, has_undef, tree_of, gives_as, given_handed, given_told, nth, children_of, HoldsNode, IsFactorHeld, counted, SpansTree, expression, seen, IsNodeAnswer, IsCalmAtZero, stands_last, free_of, replaced_free, passed_on, sum_count, sum_room, product_room}
 use Rattle.deep_reduce.proofs.NodeBits.{difference_holds, difference_right, two_terms, second_side}
-use Rattle.product_reduce.specs.Bits.{IsFactorHeld}
 use Rattle.deep_reduce.proofs.Results.{answer_as, overflow_as, overflow_on}
 use Rattle.deep_reduce.proofs.Sides.{left_beside, rewritten_front, paired_front}
 use Rattle.deep_reduce.proofs.Steps.{undefined_answer, sub_answer, sub_overflow, opposite_overflow}
 use Rattle.deep_reduce.proofs.Told.{answer_at, overflow_at, sub_is, sub_children, right_reduced, left_reduced}
-use Rattle.calc_room.specs.Counts.{counted}
-use Rattle.calc_room.specs.Spans.{SpansTree}
-use Rattle.tree_handles.proofs.Seen.{expression, seen}
-use Rattle.deep_reduce.specs.Nodes.{IsNodeAnswer}
-use Rattle.deep_reduce.specs.Rooms.{IsCalmAtZero}
 use Rattle.deep_reduce.proofs.Lacking.{lacks_as, result_lacks}
 use Rattle.deep_reduce.proofs.NodeBytes.{difference_sides, right_opposite_lacks, difference_fits, difference_keeps, sides_free}
-use Rattle.reduce_walk.proofs.Walks.{stands_last}
-use Rattle.node_pool.specs.State.{free_of}
-use Rattle.tree_handles.proofs.FreeBytes.{replaced_free}
-use Rattle.tree_handles.proofs.Outcomes.{passed_on}
-use Rattle.tree_room.specs.Handed.{sum_count}
-use Rattle.tree_room.specs.Needs.{sum_room, product_room}
-use Rattle.deep_reduce.proofs.differences.subtract.Goals as goal
 use Rattle.deep_reduce.proofs.differences.subtract.Goals.{After-has_undefined_child}
+use Rattle.deep_reduce.proofs.differences.subtract.Goals as goal
 
 -- what the reader tells
 has-is : (c : After-has_undefined_child) → c.has_undefined_child.result ≡ has_undef (children_of (tree_of c.args.difference c.args.pool.now))

@@ -1,9 +1,6 @@
 use Rattle.std.proofs.Common.{rules, inl, refl, arith}
-use Rattle.tree_handles.specs.Handed.{tree_of}
-use Rattle.tree_handles.proofs.Fronts.{behind_first, front_at, front_without}
-use Rattle.tree_handles.specs.Expressions.{children_of}
+use Rattle.deep_reduce.proofs.Shared.{tree_of, behind_first, front_at, front_without, children_of, parent_handed}
 use Rattle.deep_reduce.proofs.Parents.{first_out, both_out, parent_children, parent_end}
-use Rattle.reduce_walk.proofs.Parents.{parent_handed}
 use Rattle.deep_reduce.proofs.differences.take_sides.Goals as goal
 
 pub take_child-left-requires-clause-within : goal.take_child-left-requires-clause-within

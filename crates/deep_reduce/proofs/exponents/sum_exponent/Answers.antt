@@ -1,25 +1,8 @@
 use Rattle.std.proofs.Common.{rules, ap, sym, ◌∙◌, refl, arith, subst}
-use Rattle.calc_terms.specs.Trees.{Tree, count, is_add}
-use Rattle.coefficients.proofs.Rewritten.{over_back, apart_back, put_back, front_lost}
-use Rattle.tree_handles.proofs.Over.{children_in, moved, moved_front}
+use Rattle.deep_reduce.proofs.Shared.{Tree, count, is_add, over_back, apart_back, put_back, front_lost, children_in, moved, moved_front, taken_free, SpansTree, passed_on, free_of, exponent_in, are_reduced, IsSumHeld, addends_of_each, are_counted, counts_of, counts_of_all, IsWithin, tree_of, IsSumAnswer, children_of, front_same, given_handed, given_root, given_told, root_held}
 use Rattle.deep_reduce.proofs.JointRooms.{sum_keeps}
 use Rattle.deep_reduce.proofs.Lacking.{exponent_lacks, exponent_spans}
-use Rattle.coefficients.proofs.Free.{taken_free}
-use Rattle.calc_room.specs.Spans.{SpansTree}
-use Rattle.tree_handles.proofs.Outcomes.{passed_on}
-use Rattle.node_pool.specs.State.{free_of}
 use Rattle.deep_reduce.proofs.Children.{over_power, power_of_sum, exponent_taken, itself}
-use Rattle.power_reduce.specs.PowerAnswers.{exponent_in}
-use Rattle.calc_algebra.specs.Reduced.{are_reduced}
-use Rattle.tree_bits.specs.Children.{IsSumHeld, addends_of_each}
-use Rattle.tree_bits.specs.Exponents.{are_counted, counts_of, counts_of_all}
-use Rattle.tree_bits.specs.Powers.{IsWithin}
-use Rattle.tree_handles.specs.Handed.{tree_of}
-use Rattle.sum_reduce.specs.SumAnswers.{IsSumAnswer}
-use Rattle.tree_handles.specs.Expressions.{children_of}
-use Rattle.tree_handles.proofs.Fronts.{front_same}
-use Rattle.tree_handles.proofs.Given.{given_handed, given_root, given_told}
-use Rattle.tree_handles.proofs.Roots.{root_held}
 use Rattle.deep_reduce.proofs.exponents.sum_exponent.Goals as goal
 
 pub take_child-exponent-requires-clause-within : goal.take_child-exponent-requires-clause-within

@@ -1,7 +1,5 @@
 use Rattle.std.proofs.Common.{refl, sym, ap, ◌∙◌, arith}
-use Rattle.calc_algebra.specs.Reduced.{is_half_num}
-use Rattle.tree_handles.proofs.Over.{children_at}
-use Rattle.tree_handles.proofs.Seen.{expression}
+use Rattle.deep_reduce.proofs.Shared.{is_half_num, children_at, expression}
 use Rattle.deep_reduce.proofs.Children.{over_power}
 use Rattle.deep_reduce.proofs.Nested.{exponent_at}
 use Rattle.deep_reduce.proofs.halves.has_half_exponent.Goals as goal

@@ -1,15 +1,8 @@
 use Rattle.std.proofs.Common.{◌≡◌, sym, ◌∙◌, subst}
 use Rattle.std.specs.Prelude.{Some, None}
-use Rattle.calc_terms.specs.Trees.{Tree}
+use Rattle.deep_reduce.proofs.Shared.{Tree, IsHeldAsPowerOf, base_in, exponent_in, IfDone, Step, tree_of, passed_on, given_told}
 use Rattle.deep_reduce.proofs.Arms.{is_done, is_again}
 use Rattle.deep_reduce.proofs.HeldRoots.{last_fits}
-use Rattle.power_reduce.specs.Bits.{IsHeldAsPowerOf}
-use Rattle.power_reduce.specs.PowerAnswers.{base_in, exponent_in}
-use Rattle.reduce_port.specs.Steps.{IfDone}
-use Rattle.reduce_port.specs.declared.step.Step.{Step}
-use Rattle.tree_handles.specs.Handed.{tree_of}
-use Rattle.tree_handles.proofs.Outcomes.{passed_on}
-use Rattle.tree_handles.proofs.Given.{given_told}
 use Rattle.deep_reduce.proofs.halves.last_step.Goals as goal
 
 none_some : {t : Tree} → Some t ≡ None → ⊥

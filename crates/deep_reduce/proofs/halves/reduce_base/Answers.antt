@@ -1,24 +1,8 @@
 use Rattle.std.proofs.Common.{◌≡◌, false, rules, refl, sym, ap, ◌∙◌, subst, arith}
-use Rattle.calc_algebra.specs.Numbers.{value}
-use Rattle.calc_terms.specs.Integers.{int_is_negative}
+use Rattle.deep_reduce.proofs.Shared.{value, int_is_negative, IsFactorHeld, IsNoLargerThanRoot, SpansTree, taken_free, free_of, passed_on, is_reduced, Tree, is_root, over_back, apart_back, put_back, front_lost, children_in, moved, moved_front, argument_of, IfRational, IsRootAnswer, tree_of, front_same, given_handed, given_root, given_told, root_held}
 use Rattle.deep_reduce.proofs.HeldRoots.{root_fits}
-use Rattle.product_reduce.specs.Bits.{IsFactorHeld}
-use Rattle.surd_bits.specs.Rooted.{IsNoLargerThanRoot}
-use Rattle.calc_room.specs.Spans.{SpansTree}
-use Rattle.coefficients.proofs.Free.{taken_free}
 use Rattle.deep_reduce.proofs.HalfRooms.{root_lacks}
-use Rattle.node_pool.specs.State.{free_of}
-use Rattle.tree_handles.proofs.Outcomes.{passed_on}
-use Rattle.calc_algebra.specs.Reduced.{is_reduced}
-use Rattle.calc_terms.specs.Trees.{Tree, is_root}
-use Rattle.coefficients.proofs.Rewritten.{over_back, apart_back, put_back, front_lost}
-use Rattle.tree_handles.proofs.Over.{children_in, moved, moved_front}
 use Rattle.deep_reduce.proofs.Children.{over_power, base_taken, itself}
-use Rattle.radical_forms.specs.RootAnswers.{argument_of, IfRational, IsRootAnswer}
-use Rattle.tree_handles.specs.Handed.{tree_of}
-use Rattle.tree_handles.proofs.Fronts.{front_same}
-use Rattle.tree_handles.proofs.Given.{given_handed, given_root, given_told}
-use Rattle.tree_handles.proofs.Roots.{root_held}
 use Rattle.deep_reduce.proofs.halves.reduce_base.Goals as goal
 
 pub take_child-root-requires-clause-within : goal.take_child-root-requires-clause-within

@@ -1,27 +1,13 @@
 use Rattle.std.proofs.Common.{rules, refl, sym, subst, arith}
-use Rattle.calc_algebra.specs.Rewritings.{Rewrites}
-use Rattle.calc_terms.specs.Trees.{Tree}
+use Rattle.deep_reduce.proofs.Shared.{Rewrites, Tree, numerator, gives_itself, IsHeldAsPowerOf, IsFactorHeld, argument_of, free_of, replaced_free, passed_on, refusal_as, keeps_after, base_in, exponent_in, tree_of, gives_as, given_handed, given_told}
 use Rattle.deep_reduce.proofs.Arms.{is_done, is_again}
 use Rattle.deep_reduce.proofs.Chains.{gives_next, front_next}
 use Rattle.deep_reduce.proofs.HalfPowers.{half_step, half_ready, half_last, last_exponent, rooted_held, half_after}
 use Rattle.deep_reduce.proofs.Defined.{any_fault, any_refusal, misfit_fault, half_defined}
 use Rattle.deep_reduce.proofs.HalfRooms.{step_finds_none, base_finds_none, last_step, last_finds_none}
 use Rattle.deep_reduce.proofs.HeldRoots.{half_no_whole, half_fits, if_two}
-use Rattle.number_forms.specs.Readers.{numerator}
-use Rattle.tree_handles.proofs.Beside.{gives_itself}
-use Rattle.power_reduce.specs.Bits.{IsHeldAsPowerOf}
-use Rattle.product_reduce.specs.Bits.{IsFactorHeld}
-use Rattle.radical_forms.specs.RootAnswers.{argument_of}
 use Rattle.deep_reduce.proofs.Lacking.{lacks_as}
 use Rattle.deep_reduce.proofs.Opened.{power_finished}
-use Rattle.node_pool.specs.State.{free_of}
-use Rattle.tree_handles.proofs.FreeBytes.{replaced_free}
-use Rattle.tree_handles.proofs.Outcomes.{passed_on}
-use Rattle.number_forms.proofs.Rooms.{refusal_as}
-use Rattle.tree_handles.proofs.Forests.{keeps_after}
-use Rattle.power_reduce.specs.PowerAnswers.{base_in, exponent_in}
-use Rattle.tree_handles.specs.Handed.{tree_of}
-use Rattle.tree_handles.proofs.Given.{gives_as, given_handed, given_told}
 use Rattle.deep_reduce.proofs.halves.reduce_half_power.Goals as goal
 
 pub returns-in-Done-clause-ok : goal.returns-in-Done-clause-ok

@@ -1,21 +1,13 @@
 use Rattle.std.proofs.Common.{rules, ◌≡◌, ◌^◌, length, ap, ◌∙◌, sym, refl, arith, ℕ, false}
-use Rattle.calc_terms.specs.Trees.{has_undef, Tree, count}
+use Rattle.deep_reduce.proofs.Shared.{has_undef, Tree, count, IsSumHeld, addends_of_each, IsTreeHeld, plain_value, tree_of, children_of, live, expression, seen, pow_pos, KeepsSumRoom}
 use Rattle.deep_reduce.proofs.HeldFits.{product_fits}
 use Rattle.deep_reduce.proofs.NodeBits.{as_overflow, held_facts, sum_holds}
-use Rattle.tree_bits.specs.Children.{IsSumHeld, addends_of_each}
-use Rattle.tree_bits.specs.HeldTrees.{IsTreeHeld}
-use Rattle.calc_measures.specs.PlainValues.{plain_value}
-use Rattle.tree_handles.specs.Handed.{tree_of}
-use Rattle.tree_handles.specs.Expressions.{children_of}
-use Rattle.tree_handles.proofs.Seen.{live, expression, seen}
-use Rattle.std.proofs.lemmas.Nat.{pow_pos}
-use Rattle.deep_reduce.specs.Rooms.{KeepsSumRoom}
 use Rattle.deep_reduce.proofs.Lacking.{result_lacks}
 use Rattle.deep_reduce.proofs.NodeBytes.{number_fits_sum}
 use Rattle.deep_reduce.proofs.Results.{answered, answer_as, overflowed_defined, with_facts, sum_facts}
 use Rattle.deep_reduce.proofs.Told.{sum_told, empty_sum_told, sum_words}
-use Rattle.deep_reduce.proofs.nodes.add_up.Goals as goal
 use Rattle.deep_reduce.proofs.nodes.add_up.Goals.{After-children}
+use Rattle.deep_reduce.proofs.nodes.add_up.Goals as goal
 
 pub children-requires-clause-live : goal.children-requires-clause-live
 children-requires-clause-live c = live c.args.pool.now c.id.ensures c.requires.handed.root

@@ -1,17 +1,13 @@
 use Rattle.std.proofs.Common.{rules, ◌≡◌, ◌^◌, length, ap, ◌∙◌, sym, refl, arith}
+use Rattle.deep_reduce.proofs.Shared.{plain_value, Tree, count, tree_of, children_of, live, expression, seen}
 use Rattle.deep_reduce.proofs.HeldFits.{product_fits}
 use Rattle.deep_reduce.proofs.NodeBits.{as_overflow, product_holds}
-use Rattle.calc_measures.specs.PlainValues.{plain_value}
-use Rattle.calc_terms.specs.Trees.{Tree, count}
-use Rattle.tree_handles.specs.Handed.{tree_of}
-use Rattle.tree_handles.specs.Expressions.{children_of}
-use Rattle.tree_handles.proofs.Seen.{live, expression, seen}
 use Rattle.deep_reduce.proofs.Lacking.{result_lacks}
 use Rattle.deep_reduce.proofs.NodeBytes.{no_factors, some_factors}
 use Rattle.deep_reduce.proofs.Results.{answered, answer_as, overflowed_defined}
 use Rattle.deep_reduce.proofs.Told.{product_told, empty_product_told}
-use Rattle.deep_reduce.proofs.nodes.multiply.Goals as goal
 use Rattle.deep_reduce.proofs.nodes.multiply.Goals.{After-children}
+use Rattle.deep_reduce.proofs.nodes.multiply.Goals as goal
 
 pub children-requires-clause-live : goal.children-requires-clause-live
 children-requires-clause-live c = live c.args.pool.now c.id.ensures c.requires.handed.root

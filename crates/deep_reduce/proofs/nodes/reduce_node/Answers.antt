@@ -1,28 +1,13 @@
 use Rattle.std.proofs.Common.{rules, false, ◌≡◌, ◌^◌, ℕ, List, length, refl, sym, ◌∙◌, arith}
-use Rattle.calc_measures.specs.PlainValues.{plain_value}
-use Rattle.calc_terms.specs.Trees.{Tree, root_kind}
-use Rattle.tree_handles.specs.Handed.{tree_of}
-use Rattle.tree_handles.proofs.Forests.{keeps_none}
-use Rattle.tree_handles.proofs.Fronts.{front_same}
-use Rattle.tree_handles.proofs.Given.{gives, represents_handed}
-use Rattle.tree_handles.proofs.Seen.{live, kind_of_root}
-use Rattle.std.proofs.lemmas.Nat.{pow_pos}
-use Rattle.calc_room.specs.Spans.{SpansTree}
-use Rattle.calc_algebra.specs.Numbers.{value}
-use Rattle.calc_terms.specs.Integers.{int_is_negative}
+use Rattle.deep_reduce.proofs.Shared.{plain_value, Tree, root_kind, tree_of, keeps_none, front_same, gives, represents_handed, live, kind_of_root, pow_pos, SpansTree, value, int_is_negative, base_in, exponent_in, argument_of, IfRational, IsNoLargerThanRoot, children_of, free_of}
 use Rattle.deep_reduce.proofs.HeldFits.{product_fits}
 use Rattle.deep_reduce.proofs.NodeBits.{as_overflow, node_fits, power_holds, power_node_fits, root_holds, root_node_fits, measured_facts}
-use Rattle.power_reduce.specs.PowerAnswers.{base_in, exponent_in}
-use Rattle.radical_forms.specs.RootAnswers.{argument_of, IfRational}
-use Rattle.surd_bits.specs.Rooted.{IsNoLargerThanRoot}
-use Rattle.tree_handles.specs.Expressions.{children_of}
 use Rattle.deep_reduce.proofs.Lacking.{result_lacks, power_result}
 use Rattle.deep_reduce.proofs.NodeBytes.{sum_fits, factors_fit, power_fits, half_fits, root_result, no_half_power, node_spans}
-use Rattle.node_pool.specs.State.{free_of}
 use Rattle.deep_reduce.proofs.Results.{answered, answer_as, overflow_as, overflowed_defined, with_facts, span_facts}
 use Rattle.deep_reduce.proofs.Told.{sum_kind, product_kind, power_kind, root_kind_is, neg_kind, sub_kind, div_kind, power_told, power_sides, IsRationalPower, rational_answer, rational_overflow, power_reduced, root_told, root_overflow, argument_reduced, leaf_told}
-use Rattle.deep_reduce.proofs.nodes.reduce_node.Goals as goal
 use Rattle.deep_reduce.proofs.nodes.reduce_node.Goals.{After-kind}
+use Rattle.deep_reduce.proofs.nodes.reduce_node.Goals as goal
 
 -- what the readers tell
 kind-is : (c : After-kind) → c.kind.result ≡ root_kind (tree_of c.args.tree c.args.pool.now)

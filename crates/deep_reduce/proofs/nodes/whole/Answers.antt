@@ -1,11 +1,6 @@
 use Rattle.std.proofs.Common.{arith}
-use Rattle.calc_terms.specs.Payload.{rational}
-use Rattle.calc_terms.specs.Rat.{ratio_of}
-use Rattle.coefficients.proofs.Free.{released_free, number_refused}
-use Rattle.tree_handles.proofs.Outcomes.{passed_on}
+use Rattle.deep_reduce.proofs.Shared.{rational, ratio_of, released_free, number_refused, passed_on, behind_first, front_same, front_at, front_without, front_after, owned}
 use Rattle.tree_handles.specs.declared.fault.NumberFault.TheVariants as fault
-use Rattle.tree_handles.proofs.Fronts.{behind_first, front_same, front_at, front_without, front_after}
-use Rattle.tree_handles.proofs.Given.{owned}
 use Rattle.deep_reduce.proofs.nodes.whole.Goals as goal
 
 pub returns-in_err-number-clause-front : goal.returns-in_err-number-clause-front

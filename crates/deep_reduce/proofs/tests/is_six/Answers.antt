@@ -1,8 +1,5 @@
 use Rattle.std.proofs.Common.{sym, subst}
-use Rattle.tree_handles.specs.Expressions.{IsExpression}
-use Rattle.tree_handles.specs.Standing.{forest}
-use Rattle.tree_handles.proofs.Given.{gives_as, given_handed, given_other, given_rest}
-use Rattle.tree_handles.proofs.Lasts.{expression_root}
+use Rattle.deep_reduce.proofs.Shared.{IsExpression, forest, gives_as, given_handed, given_other, given_rest, expression_root}
 use Rattle.deep_reduce.proofs.tests.is_six.Goals as goal
 
 pub reduce-requires-clause-handed : goal.reduce-requires-clause-handed

@@ -1,6 +1,5 @@
 use Rattle.std.proofs.Common.{rules, ◌∙◌, refl}
-use Rattle.tree_handles.proofs.Given.{given_root, given_rest}
-use Rattle.tree_handles.proofs.Roots.{root_held}
+use Rattle.deep_reduce.proofs.Shared.{given_root, given_rest, root_held}
 use Rattle.sum_reduce.proofs.Sums.{changes_same, changes_after, changes_rest, put_in, roots_apart, sum_live}
 use Rattle.sum_reduce.proofs.Tested.{empty_sum, placed, moved_sum}
 use Rattle.deep_reduce.proofs.tests.sum_of_three.Goals as goal

@@ -1,4 +1,4 @@
-use Rattle.tree_handles.specs.Standing.{Stands, forest}
+use Rattle.deep_reduce.proofs.Shared.{Stands, forest}
 use Rattle.sum_reduce.specs.Sums.{Changes}
 use Rattle.deep_reduce.proofs.tests.sum_of_three.Given as goal
 

@@ -1,12 +1,7 @@
 use Rattle.std.proofs.Common.{rules, ◌≡◌, ◌<◌, ◌+◌, ◌^◌, ℕ, length, Bool, true, false, ap, ◌∙◌, refl, sym, subst, arith, Option, IfSome, Err}
-use Rattle.calc_terms.specs.Trees.{Tree, Trees, add, mult, count, is_mult, is_undef, size, power as power_tree}
-use Rattle.tree_handles.proofs.Over.{over_product, children_at, children_in, moved, moved_front}
+use Rattle.deep_reduce.proofs.Shared.{Tree, Trees, add, mult, count, is_mult, is_undef, size, over_product, children_at, children_in, moved, moved_front, given_back, over_back, apart_back, put_back, front_lost, live, kind_of_root, product_kind, no_product_kind, if_map, passed_on, IsReducedProduct, IsReducedPower, IsSummed, joins_none, joins_then, IsHeldAsProduct, IsHeldAsPowerOf, IsFactorHeld, raised_high, raised_low, IsCalmAtZero, IsJoinedFrom, KeepsRoom, whole_power_room, counted, SpansTree, taken_free, free_of, replaced_free, gives_itself, whole_no_half, IsPairAt, base_in, exponent_in, are_reduced, is_whole_num, Rewrites, tree_of, children_of, keeps_none, keeps_after, behind_first, behind_new, front_same, front_put, front_end, front_without, front_after_one, gives, gives_as, given_handed, given_root, given_told, given_rest, represents_handed, root_held}
+use Rattle.calc_terms.specs.Trees.{power as power_tree}
 use Rattle.coefficients.proofs.Puttings.{on_ok_after, fault_after}
-use Rattle.coefficients.proofs.Rewritten.{given_back, over_back, apart_back, put_back, front_lost}
-use Rattle.tree_handles.proofs.Seen.{live, kind_of_root, product_kind, no_product_kind}
-use Rattle.tree_handles.proofs.Outcomes.{if_map, passed_on}
-use Rattle.deep_reduce.specs.Answers.{IsReducedProduct, IsReducedPower}
-use Rattle.deep_reduce.specs.Unfinished.{IsSummed, joins_none, joins_then}
 use Rattle.deep_reduce.proofs.Arms.{is_finished, is_gathered, is_at, is_few, is_done, is_again, is_held}
 use Rattle.deep_reduce.proofs.Chains.{gives_next, front_next}
 use Rattle.deep_reduce.proofs.Children.{over_power, exponent_taken, placed, factor_taken, factor_inserted, itself}
@@ -17,37 +12,15 @@ use Rattle.deep_reduce.proofs.Defined.{any_fault, any_refusal, misfit_fault, rew
 use Rattle.deep_reduce.proofs.Gathered.{gathered_hands, finished_hands, finished_holds}
 use Rattle.deep_reduce.proofs.HeldFits.{product_fits, powers_ready, part_ready, power_fits, exponent_ready, joint_exponents, joint_fits}
 use Rattle.deep_reduce.proofs.HeldRoots.{half_no_whole}
-use Rattle.deep_reduce.specs.Bits.{IsHeldAsProduct}
-use Rattle.power_reduce.specs.Bits.{IsHeldAsPowerOf}
-use Rattle.product_reduce.specs.Bits.{IsFactorHeld}
-use Rattle.tree_bits.specs.Powers.{raised_high, raised_low}
 use Rattle.deep_reduce.proofs.JointBytes.{joint_lacks}
 use Rattle.deep_reduce.proofs.Lacking.{lacks_as, result_lacks, product_words, handed_on, joint_sum_lacks, joint_power_short, joint_at_spans, joint_ready, placed_bytes, next_bytes, part_free, step_lacks, power_refused, power_result, ready_product as ready_for_product, ready_power as ready_for_power, ready_exponent, ready_part}
 use Rattle.deep_reduce.proofs.Measures.{few_factors}
 use Rattle.deep_reduce.proofs.Wholes.{is_rewritten}
-use Rattle.deep_reduce.specs.Rooms.{IsCalmAtZero, IsJoinedFrom, KeepsRoom, whole_power_room}
-use Rattle.calc_room.specs.Counts.{counted}
-use Rattle.calc_room.specs.Spans.{SpansTree}
-use Rattle.coefficients.proofs.Free.{taken_free}
-use Rattle.node_pool.specs.State.{free_of}
-use Rattle.tree_handles.proofs.FreeBytes.{replaced_free}
-use Rattle.tree_handles.proofs.Beside.{gives_itself}
-use Rattle.power_reduce.proofs.Exponents.{whole_no_half}
-use Rattle.tree_handles.specs.declared.fault.NumberFault.TheVariants as fault
 use Rattle.deep_reduce.proofs.Opened.{opened, power_after, power_finished}
 use Rattle.deep_reduce.proofs.Ranks.{below_measure}
 use Rattle.deep_reduce.proofs.Rows.{IsPowerOf, none_reduced, part_front, next_power, next_within, back_within, next_of, next_taken, next_reduced, all_reduced}
 use Rattle.deep_reduce.proofs.Settled.{joint_at, ready_joint, ready_summed, pair_joined, settled_less, settled_within, less_gathered, less_next, gathered_product, some_pair, product_after, product_finished}
-use Rattle.product_reduce.specs.Neighbours.{IsPairAt}
-use Rattle.power_reduce.specs.PowerAnswers.{base_in, exponent_in}
-use Rattle.calc_algebra.specs.Reduced.{are_reduced, is_whole_num}
-use Rattle.calc_algebra.specs.Rewritings.{Rewrites}
-use Rattle.tree_handles.specs.Handed.{tree_of}
-use Rattle.tree_handles.specs.Expressions.{children_of}
-use Rattle.tree_handles.proofs.Forests.{keeps_none, keeps_after}
-use Rattle.tree_handles.proofs.Fronts.{behind_first, behind_new, front_same, front_put, front_end, front_without, front_after_one}
-use Rattle.tree_handles.proofs.Given.{gives, gives_as, given_handed, given_root, given_told, given_rest, represents_handed}
-use Rattle.tree_handles.proofs.Roots.{root_held}
+use Rattle.tree_handles.specs.declared.fault.NumberFault.TheVariants as fault
 use Rattle.deep_reduce.proofs.whole.+reduction.Goals as goal
 
 -- ---- reduce_product

@@ -1,13 +1,7 @@
 use Rattle.std.proofs.Common.{◌<◌, ◌+◌, ◌^◌, [], ◌∷◌, IfSome}
-use Rattle.calc_measures.specs.Loads.{load_of_factors}
-use Rattle.deep_reduce.specs.Unfinished.{IsLess}
+use Rattle.deep_reduce.proofs.Shared.{load_of_factors, IsLess, IsPairAt, tree_of, Gives, KeepsFront, without_root, children_of, Stands, forest, KeepsRefusals}
 use Rattle.deep_reduce.proofs.Measures.{of_product, of_pairs, of_two, of_power, of_joint, of_powers, of_exponent, of_rewritten}
 use Rattle.deep_reduce.proofs.Rows.{IsPartReduced}
-use Rattle.product_reduce.specs.Neighbours.{IsPairAt}
-use Rattle.tree_handles.specs.Handed.{tree_of, Gives, KeepsFront}
-use Rattle.tree_handles.specs.Roots.{without_root}
-use Rattle.tree_handles.specs.Expressions.{children_of}
-use Rattle.tree_handles.specs.Standing.{Stands, forest, KeepsRefusals}
 use Rattle.deep_reduce.proofs.whole.+reduction.Given as goal
 
 abbrev pub decreases-reduce_product : goal.decreases-reduce_product

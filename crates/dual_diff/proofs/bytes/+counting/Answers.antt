@@ -1,5 +1,5 @@
 use Rattle.std.proofs.Common.{◌≡◌, ◌+◌, ◌-◌, ◌∙◌, pos, length, sym, ap, arith}
-use Rattle.dual_diff.proofs.Names.{whole_fraction, name_of, Tree, mult, num, size, sizes, derivative, occurs, capped, told, next_child, last_child, children_of, nth, kids_of, forest}
+use Rattle.dual_diff.proofs.Shared.{whole_fraction, name_of, Tree, mult, num, size, sizes, derivative, occurs, capped, told, next_child, last_child, children_of, nth, kids_of, forest}
 use Rattle.calc_terms.proofs.Sizes.{num_most}
 use Rattle.dual_diff.proofs.Added.{tree_of}
 use Rattle.dual_diff.proofs.AllNodes.{child_in, exponent_in}

@@ -1,5 +1,5 @@
 use Rattle.std.proofs.Common.{◌∙◌, ap, sym}
-use Rattle.dual_diff.proofs.Names.{whole_literal, whole_value, value_of, Tree, neg}
+use Rattle.dual_diff.proofs.Shared.{whole_literal, whole_value, value_of, Tree, neg}
 use Rattle.dual_diff.proofs.Exponents.{opposite_whole}
 use Rattle.dual_diff.proofs.derivable.opposite_number.Goals as goal
 

@@ -1,6 +1,6 @@
 use Rattle.std.proofs.Common.{◌∙◌, sym, rules}
 use Rattle.std.specs.Prelude.{FitsSigned}
-use Rattle.dual_diff.proofs.Names.{value_of, ratio_parts, w128, to_z-of_z}
+use Rattle.dual_diff.proofs.Shared.{value_of, ratio_parts, w128, to_z-of_z}
 use Rattle.dual_diff.proofs.Exponents.{whole_some, whole_none, rat_whole}
 use Rattle.dual_diff.proofs.derivable.whole_number.Goals as goal
 

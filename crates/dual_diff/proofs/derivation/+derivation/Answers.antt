@@ -1,5 +1,5 @@
 use Rattle.std.proofs.Common.{◌≡◌, ◌<◌, ◌≤◌, ◌+◌, ◌∙◌, refl, sym, ap, subst, arith, rules}
-use Rattle.dual_diff.proofs.Names.{whole_fraction, name_of, Tree, count, more, nodes, none, num, power, size, sizes, whole_num, free_of, HasDerivative, derivative, lowered, products, with_derivative, behind, first, occurs, told, children_of, nth, takes_kind}
+use Rattle.dual_diff.proofs.Shared.{whole_fraction, name_of, Tree, count, more, nodes, none, num, power, size, sizes, whole_num, free_of, HasDerivative, derivative, lowered, products, with_derivative, behind, first, occurs, told, children_of, nth, takes_kind}
 use Rattle.dual_diff.proofs.Added.{adds_as, adds_copy, adds_free, adds_join, adds_more, adds_none, adds_one, adds_tree, can_copy, can_join, last_is, last_some, more_than_one, placed_more, placed_none, placed_same, ready, rest_after, still_count, still_expression, still_nth, still_plain, tree_of}
 use Rattle.dual_diff.proofs.AllNodes.{child_in, exponent_in}
 use Rattle.dual_diff.proofs.Forms.{append_one, base_and_exponent, one_argument, quotient_nodes, root_of, sizes_append, two_children}

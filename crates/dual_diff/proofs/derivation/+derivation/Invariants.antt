@@ -1,5 +1,5 @@
 use Rattle.std.proofs.Common.{◌+◌, ◌*◌}
-use Rattle.dual_diff.proofs.Names.{name_of, nodes, derivatives, first, AddsAll, children_of, plain, tree_at, forest}
+use Rattle.dual_diff.proofs.Shared.{name_of, nodes, derivatives, first, AddsAll, children_of, plain, tree_at, forest}
 use Rattle.dual_diff.proofs.Added.{ArePlaced}
 use Rattle.dual_diff.proofs.derivation.+derivation.Given as goal
 

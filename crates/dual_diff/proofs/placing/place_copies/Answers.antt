@@ -1,9 +1,9 @@
 use Rattle.std.proofs.Common.{◌≡◌, ◌≤◌, ◌∙◌, ap, arith}
-use Rattle.dual_diff.proofs.Names.{count, size, children_of, nth}
+use Rattle.dual_diff.proofs.Shared.{count, size, children_of, nth}
 use Rattle.dual_diff.proofs.Added.{adds_as, adds_free, adds_more, adds_none, adds_tree, still_expression, still_plain, tree_of}
 use Rattle.dual_diff.proofs.Slices.{slice_more, slice_none, slice_room}
-use Rattle.dual_diff.proofs.placing.place_copies.Goals as goal
 use Rattle.dual_diff.proofs.placing.place_copies.Goals.{After-child_of-child}
+use Rattle.dual_diff.proofs.placing.place_copies.Goals as goal
 
 pub loop-at-init : goal.loop-at-init
 loop-at-init c = adds_as (adds_none c.args.pool.now c.requires.stands) (slice_none c.args.from (children_of (tree_of c.args.parent c.args.pool.now)))

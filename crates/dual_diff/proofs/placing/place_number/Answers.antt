@@ -1,5 +1,5 @@
 use Rattle.std.proofs.Common.{◌≤◌, ◌∙◌, ap, refl, arith}
-use Rattle.dual_diff.proofs.Names.{rational, size_of_payload, ratio_of, num, free_of, gives_as}
+use Rattle.dual_diff.proofs.Shared.{rational, size_of_payload, ratio_of, num, free_of, gives_as}
 use Rattle.dual_diff.proofs.Numbers.{placed_value, placed_size}
 use Rattle.dual_diff.proofs.placing.place_number.Goals as goal
 

@@ -1,8 +1,8 @@
 use Rattle.std.proofs.Common.{ap, refl, arith, rules}
-use Rattle.dual_diff.proofs.Names.{whole_fraction, num, size, told, AddsAll, two}
+use Rattle.dual_diff.proofs.Shared.{whole_fraction, num, size, told, AddsAll, two}
 use Rattle.dual_diff.proofs.Added.{adds_free, adds_more, adds_none, adds_one, adds_tree, can_copy, can_join, tree_of}
-use Rattle.dual_diff.proofs.placing.place_power_of.Goals as goal
 use Rattle.dual_diff.proofs.placing.place_power_of.Goals.{After-place_number}
+use Rattle.dual_diff.proofs.placing.place_power_of.Goals as goal
 
 pub place_copy-requires : goal.place_copy-requires
 place_copy-requires c = can_copy c.requires.stands (adds_none c.args.pool.now c.requires.stands) c.requires.expression (omega (arith, c.requires.room))

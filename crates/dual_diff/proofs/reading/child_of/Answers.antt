@@ -1,6 +1,6 @@
 use Rattle.std.proofs.Common.{arith}
+use Rattle.dual_diff.proofs.Shared.{forest}
 use Rattle.tree_handles.proofs.Readings.{expression_children}
-use Rattle.dual_diff.proofs.Names.{forest}
 use Rattle.dual_diff.proofs.reading.child_of.Goals as goal
 
 pub child_id-requires-clause-within : goal.child_id-requires-clause-within

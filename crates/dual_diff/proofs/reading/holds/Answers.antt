@@ -1,5 +1,5 @@
 use Rattle.std.proofs.Common.{sym}
-use Rattle.dual_diff.proofs.Names.{name_of}
+use Rattle.dual_diff.proofs.Shared.{name_of}
 use Rattle.dual_diff.proofs.Added.{tree_of}
 use Rattle.dual_diff.proofs.Exponents.{held}
 use Rattle.dual_diff.proofs.reading.holds.Goals as goal

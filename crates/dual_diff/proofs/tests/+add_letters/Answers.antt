@@ -1,12 +1,5 @@
 use Rattle.std.proofs.Common.{◌≡◌, ◌∙◌, ◌∷◌, ◌++◌, [], ℕ, suc, ap, length, arith}
-use Rattle.std.proofs.lemmas.List.{length-append}
-use Rattle.calc_terms.specs.Trees.{nodes}
-use Rattle.tree_handles.proofs.NextChildren.{next_child}
-use Rattle.tree_handles.specs.Children.{root_ids}
-use Rattle.tree_handles.specs.Expressions.{plain}
-use Rattle.tree_handles.specs.Forest.{rest_trees}
-use Rattle.tree_handles.specs.Inside.{tree_at, kids_of}
-use Rattle.tree_handles.specs.Standing.{forest}
+use Rattle.dual_diff.proofs.Shared.{length-append, nodes, next_child, root_ids, plain, rest_trees, tree_at, kids_of, forest}
 use Rattle.dual_diff.proofs.Forms.{fewer}
 use Rattle.dual_diff.proofs.tests.+add_letters.Goals as goal
 

@@ -1,10 +1,5 @@
 use Rattle.std.proofs.Common.{◌≡◌, length}
-use Rattle.calc_terms.specs.Trees.{nodes}
-use Rattle.tree_handles.specs.Children.{root_ids}
-use Rattle.tree_handles.specs.Expressions.{plain}
-use Rattle.tree_handles.specs.Forest.{rest_trees}
-use Rattle.tree_handles.specs.Inside.{tree_at, kids_of}
-use Rattle.tree_handles.specs.Standing.{forest}
+use Rattle.dual_diff.proofs.Shared.{nodes, root_ids, plain, rest_trees, tree_at, kids_of, forest}
 use Rattle.dual_diff.proofs.tests.+add_letters.Given as goal
 
 abbrev pub decreases-add_letters : goal.decreases-add_letters

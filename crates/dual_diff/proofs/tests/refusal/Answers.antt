@@ -1,4 +1,4 @@
-use Rattle.tree_handles.proofs.Given.{given_handed}
+use Rattle.dual_diff.proofs.Shared.{given_handed}
 use Rattle.dual_diff.proofs.tests.refusal.Goals as goal
 
 pub root_of-id-requires-clause-handed : goal.root_of-id-requires-clause-handed

@@ -1,24 +1,11 @@
 use Rattle.std.proofs.Common.{rules, ◌≡◌, ◌<◌, ℕ, inl, refl, sym, ap, ◌∙◌, subst, arith}
 use Rattle.std.specs.Prelude.{Some, slice_set}
-use Rattle.calc_terms.specs.Trees.{Tree, add, count, more, none}
-use Rattle.child_lists.proofs.ListedChildren.{ids_exchanged, lists_at, lists_other}
+use Rattle.expand_forms.proofs.Shared.{Tree, add, count, more, none, ids_exchanged, lists_at, lists_other, removed, many_kids, read_expression, same_plain, IsChildAt, root_ids, children_of, inserted, plain, Forest, kids, set_nth, tree_nth, Ends, kids_of, put, root_tree, without_root, forest, behind_first, behind_later, front_at, front_put, front_same, front_without, given_handed, given_other, given_root, given_same, given_told, gives_as, last_rest, last_root, last_tree}
 use Rattle.expand_forms.proofs.ListedTerms.{next_before}
 use Rattle.expand_forms.proofs.Sums.{exchanged_terms, sum_is, taken_owned}
-use Rattle.number_forms.specs.Sums.{removed}
-use Rattle.number_forms.proofs.SumChanges.{many_kids, read_expression, same_plain}
-use Rattle.tree_handles.specs.Children.{IsChildAt, root_ids}
-use Rattle.tree_handles.specs.Expressions.{children_of, inserted, plain}
-use Rattle.tree_handles.specs.Forest.{Forest, kids, set_nth, tree_nth}
-use Rattle.tree_handles.specs.Handed.{Ends}
-use Rattle.tree_handles.specs.Inside.{kids_of}
-use Rattle.tree_handles.specs.Roots.{put, root_tree, without_root}
-use Rattle.tree_handles.specs.Standing.{forest}
-use Rattle.tree_handles.proofs.Fronts.{behind_first, behind_later, front_at, front_put, front_same, front_without}
-use Rattle.tree_handles.proofs.Given.{given_handed, given_other, given_root, given_same, given_told, gives_as}
-use Rattle.tree_handles.proofs.Lasts.{last_rest, last_root, last_tree}
-use Rattle.expand_forms.proofs.adding.exchange.Goals as goal
 use Rattle.expand_forms.proofs.adding.exchange.Given.{Over}
 use Rattle.expand_forms.proofs.adding.exchange.Goals.{After-id-id, After-release, After-replace_known_child-gone}
+use Rattle.expand_forms.proofs.adding.exchange.Goals as goal
 
 pub child-old-requires : goal.child-old-requires
 child-old-requires g c =

@@ -1,24 +1,11 @@
 use Rattle.std.proofs.Common.{rules, ◌≡◌, ◌≤◌, ℕ, refl, sym, ap, ◌∙◌, subst, arith}
+use Rattle.expand_forms.proofs.Shared.{Tree, add, count, more, none, ids_with, lists_at, lists_more, put_as, IsNextAt, many_kids, read_expression, same_plain, root_ids, children_of, inserted, plain, Forest, arity, kids, root_id, with_nth, kids_of, put, root_tree, without_root, forest, behind_first, behind_later, front_at, front_put, front_same, front_without, given_handed, given_other, given_root, given_same, given_told, gives_as, last_tree}
 use Rattle.std.specs.List.{insert}
-use Rattle.calc_terms.specs.Trees.{Tree, add, count, more, none}
-use Rattle.child_lists.proofs.ListedChildren.{ids_with, lists_at, lists_more}
-use Rattle.child_lists.proofs.PutBefore.{put_as}
 use Rattle.expand_forms.proofs.ListedTerms.{next_before}
 use Rattle.expand_forms.proofs.Sums.{add_inserted, sum_is}
-use Rattle.child_lists.specs.Lists.{IsNextAt}
-use Rattle.number_forms.proofs.SumChanges.{many_kids, read_expression, same_plain}
-use Rattle.tree_handles.specs.Children.{root_ids}
-use Rattle.tree_handles.specs.Expressions.{children_of, inserted, plain}
-use Rattle.tree_handles.specs.Forest.{Forest, arity, kids, root_id, with_nth}
-use Rattle.tree_handles.specs.Inside.{kids_of}
-use Rattle.tree_handles.specs.Roots.{put, root_tree, without_root}
-use Rattle.tree_handles.specs.Standing.{forest}
-use Rattle.tree_handles.proofs.Fronts.{behind_first, behind_later, front_at, front_put, front_same, front_without}
-use Rattle.tree_handles.proofs.Given.{given_handed, given_other, given_root, given_same, given_told, gives_as}
-use Rattle.tree_handles.proofs.Lasts.{last_tree}
-use Rattle.expand_forms.proofs.adding.insert.Goals as goal
 use Rattle.expand_forms.proofs.adding.insert.Given.{Over}
 use Rattle.expand_forms.proofs.adding.insert.Goals.{After-put_before}
+use Rattle.expand_forms.proofs.adding.insert.Goals as goal
 
 pub next_child-next-requires : goal.next_child-next-requires
 next_child-next-requires g c =

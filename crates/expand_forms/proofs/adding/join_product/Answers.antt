@@ -1,16 +1,5 @@
 use Rattle.std.proofs.Common.{rules, ◌≡◌, ◌<◌, ◌∙◌, [], ◌∷◌, ap, refl, sym, subst, arith, length}
-use Rattle.std.proofs.lemmas.Bool.{not_from_false}
-use Rattle.calc_terms.proofs.FractionFacts.{no_zero}
-use Rattle.calc_terms.specs.Fractions.{plus}
-use Rattle.calc_terms.specs.Rat.{value_of}
-use Rattle.calc_terms.specs.Trees.{Tree, count, is_mult, size}
-use Rattle.child_lists.proofs.ListedChildren.{lists_at}
-use Rattle.expand_forms.specs.ExpandedTrees.{term_tree}
-use Rattle.expand_forms.specs.ExpansionBits.{IsNoOverflow}
-use Rattle.expand_forms.specs.ExpansionRoom.{term_bytes}
-use Rattle.expand_forms.specs.Polynomials.{Monomial, monomial_times, summand}
-use Rattle.expand_forms.specs.Sums.{IsPlace, IsSum}
-use Rattle.expand_forms.specs.Terms.{HasMonomial, coefficient_in, term_cmp}
+use Rattle.expand_forms.proofs.Shared.{not_from_false, no_zero, plus, value_of, Tree, count, is_mult, size, lists_at, term_tree, IsNoOverflow, term_bytes, Monomial, monomial_times, summand, IsPlace, IsSum, HasMonomial, coefficient_in, term_cmp, free_of, OfFull, gives_rest, passed_on, read_expression, children_of, nth, plain, Forest, Gives, KeepsFront, tree_of, tree_at, without_root, forest, behind_first, behind_new, front_after, front_after_one, front_after_two, front_same, given_handed, given_other, given_rest, given_root, given_same, given_told, gives_as, given_free}
 use Rattle.expand_forms.proofs.Joins.{placed_behind, put_in, set_in, sum_read, term_read}
 use Rattle.expand_forms.proofs.ListedTerms.{lists_behind}
 use Rattle.expand_forms.proofs.Splits.{contradiction, total_fits}
@@ -18,24 +7,10 @@ use Rattle.expand_forms.proofs.SumPlaces.{has_order, place_as}
 use Rattle.expand_forms.proofs.TermBytes.{factors_most}
 use Rattle.expand_forms.proofs.TermReadings.{beside, product_monomial}
 use Rattle.expand_forms.proofs.TreeMonomials.{monomial_times_monomial}
-use Rattle.node_pool.specs.State.{free_of}
-use Rattle.tree_handles.specs.Lacking.{OfFull}
-use Rattle.tree_handles.proofs.Beside.{gives_rest}
-use Rattle.tree_handles.proofs.Outcomes.{passed_on}
-use Rattle.number_forms.proofs.SumChanges.{read_expression}
-use Rattle.tree_handles.specs.Expressions.{children_of, nth, plain}
-use Rattle.tree_handles.specs.Forest.{Forest}
-use Rattle.tree_handles.specs.Handed.{Gives, KeepsFront, tree_of}
-use Rattle.tree_handles.specs.Inside.{tree_at}
-use Rattle.tree_handles.specs.Roots.{without_root}
-use Rattle.tree_handles.specs.Standing.{forest}
-use Rattle.tree_handles.specs.declared.fault.NumberFault.TheVariants as fault
-use Rattle.tree_handles.proofs.Fronts.{behind_first, behind_new, front_after, front_after_one, front_after_two, front_same}
-use Rattle.tree_handles.proofs.Given.{given_handed, given_other, given_rest, given_root, given_same, given_told, gives_as}
-use Rattle.tree_handles.proofs.Room.{given_free}
-use Rattle.expand_forms.proofs.adding.join_product.Goals as goal
 use Rattle.expand_forms.proofs.adding.join_product.Given.{Over}
 use Rattle.expand_forms.proofs.adding.join_product.Goals.{After-child-other, In-Err, In-Ok, In_ok-product, In_ok-term-in-Err}
+use Rattle.tree_handles.specs.declared.fault.NumberFault.TheVariants as fault
+use Rattle.expand_forms.proofs.adding.join_product.Goals as goal
 
 pub place_merged-requires : goal.place_merged-requires
 place_merged-requires g c =

@@ -1,22 +1,10 @@
 use Rattle.std.proofs.Common.{rules, ◌<◌, ℕ, inl, sym, ◌∙◌, subst, arith}
-use Rattle.calc_terms.specs.Trees.{Tree, count}
-use Rattle.child_lists.proofs.ListedChildren.{ids_without, lists_at, lists_less}
+use Rattle.expand_forms.proofs.Shared.{Tree, count, ids_without, lists_at, lists_less, kept_after, many_kids, read_expression, same_plain, IsChildAt, children_of, kids, tree_nth, without_nth, Ends, put, root_tree, forest, behind_first, front_same, front_at, front_put, given_root, given_handed, last_root, last_rest}
 use Rattle.expand_forms.proofs.Lacks.{removed_free}
 use Rattle.expand_forms.proofs.Sums.{sum_of_removed, taken_owned}
-use Rattle.tree_handles.proofs.Refused.{kept_after}
-use Rattle.number_forms.proofs.SumChanges.{many_kids, read_expression, same_plain}
-use Rattle.tree_handles.specs.Children.{IsChildAt}
-use Rattle.tree_handles.specs.Expressions.{children_of}
-use Rattle.tree_handles.specs.Forest.{kids, tree_nth, without_nth}
-use Rattle.tree_handles.specs.Handed.{Ends}
-use Rattle.tree_handles.specs.Roots.{put, root_tree}
-use Rattle.tree_handles.specs.Standing.{forest}
-use Rattle.tree_handles.proofs.Fronts.{behind_first, front_same, front_at, front_put}
-use Rattle.tree_handles.proofs.Given.{given_root, given_handed}
-use Rattle.tree_handles.proofs.Lasts.{last_root, last_rest}
-use Rattle.expand_forms.proofs.adding.remove.Goals as goal
 use Rattle.expand_forms.proofs.adding.remove.Given.{Over}
 use Rattle.expand_forms.proofs.adding.remove.Goals.{After-release}
+use Rattle.expand_forms.proofs.adding.remove.Goals as goal
 
 pub child-id-requires : goal.child-id-requires
 child-id-requires g c = (search rules, (c.requires.stands, (read_expression _ c.args.sum.now c.args.pool.now c.id.ensures c.requires.stands (given_handed c.requires.sum), (lists_at c.id.ensures c.requires.lists, subst (λ (t : Tree). c.args.at < count (children_of t)) (sym (same_plain _ c.args.sum.now c.args.pool.now c.id.ensures c.requires.stands (given_root c.requires.sum))) c.requires.within))))

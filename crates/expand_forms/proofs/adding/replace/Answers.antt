@@ -1,20 +1,7 @@
 use Rattle.std.proofs.Common.{rules, ◌≡◌, ◌<◌, ◌∙◌, Bool, ap, inl, refl, subst, sym}
 use Rattle.std.specs.Prelude.{if◌then◌else◌}
-use Rattle.calc_terms.specs.Fractions.{is_zero_fraction}
-use Rattle.calc_terms.specs.Rat.{value_of}
-use Rattle.calc_terms.specs.Trees.{add, count, is_mult, more, none}
-use Rattle.child_lists.specs.Lists.{Lists}
-use Rattle.expand_forms.specs.ExpandedTrees.{term_tree}
-use Rattle.expand_forms.specs.Polynomials.{summand}
-use Rattle.expand_forms.specs.Sums.{IsSum}
+use Rattle.expand_forms.proofs.Shared.{is_zero_fraction, value_of, add, count, is_mult, more, none, Lists, term_tree, summand, IsSum, removed, children_of, inserted, plain, Forest, Gives, tree_of, root_tree, without_root, behind_first, behind_later, behind_new, front_after_one, front_after_two, front_at, front_same, front_without, given_handed, given_rest, given_root, given_same, given_told, gives_as, owned}
 use Rattle.expand_forms.proofs.ListedTerms.{lists_before, lists_behind}
-use Rattle.number_forms.specs.Sums.{removed}
-use Rattle.tree_handles.specs.Expressions.{children_of, inserted, plain}
-use Rattle.tree_handles.specs.Forest.{Forest}
-use Rattle.tree_handles.specs.Handed.{Gives, tree_of}
-use Rattle.tree_handles.specs.Roots.{root_tree, without_root}
-use Rattle.tree_handles.proofs.Fronts.{behind_first, behind_later, behind_new, front_after_one, front_after_two, front_at, front_same, front_without}
-use Rattle.tree_handles.proofs.Given.{given_handed, given_rest, given_root, given_same, given_told, gives_as, owned}
 use Rattle.expand_forms.proofs.adding.replace.Goals as goal
 
 pub release-requires-clause-releasable : goal.release-requires-clause-releasable

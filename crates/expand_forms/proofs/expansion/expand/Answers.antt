@@ -1,14 +1,9 @@
 use Rattle.std.proofs.Common.{◌*◌, ◌≤◌, rules, refl, sym, subst}
-use Rattle.calc_algebra.specs.Rewritings.{HasNoNewName}
-use Rattle.calc_terms.specs.Trees.{Tree, size}
-use Rattle.tree_handles.proofs.Outcomes.{if_map}
-use Rattle.expand_forms.specs.ExpansionRoom.{expansion_room}
+use Rattle.expand_forms.proofs.Shared.{HasNoNewName, Tree, size, if_map, expansion_room, tree_of, gives_as, given_told}
 use Rattle.expand_forms.proofs.Names.{expanded_no_new_name}
 use Rattle.expand_forms.proofs.NodeBits.{beyond_bits}
 use Rattle.expand_forms.proofs.TermCounts.{within_room}
 use Rattle.reduce_walk.proofs.Port.{overflow_as, unfit_after_checks}
-use Rattle.tree_handles.specs.Handed.{tree_of}
-use Rattle.tree_handles.proofs.Given.{gives_as, given_told}
 use Rattle.expand_forms.proofs.expansion.expand.Goals as goal
 
 pub returns : goal.returns

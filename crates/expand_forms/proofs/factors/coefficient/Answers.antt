@@ -1,9 +1,6 @@
 use Rattle.std.proofs.Common.{◌∙◌, sym}
-use Rattle.coefficients.proofs.Steps.{one_value}
+use Rattle.expand_forms.proofs.Shared.{one_value, plain, tree_at, forest}
 use Rattle.expand_forms.proofs.TermReadings.{no_coefficient}
-use Rattle.tree_handles.specs.Expressions.{plain}
-use Rattle.tree_handles.specs.Inside.{tree_at}
-use Rattle.tree_handles.specs.Standing.{forest}
 use Rattle.expand_forms.proofs.factors.coefficient.Goals as goal
 
 pub returns-in_default : goal.returns-in_default

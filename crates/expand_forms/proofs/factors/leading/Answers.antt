@@ -1,10 +1,6 @@
 use Rattle.std.proofs.Common.{◌∙◌, sym, arith}
-use Rattle.coefficients.proofs.Steps.{one_value}
+use Rattle.expand_forms.proofs.Shared.{one_value, children_number, plain, tree_at, forest}
 use Rattle.expand_forms.proofs.TermReadings.{leading_is, leading_some}
-use Rattle.number_forms.proofs.ByKind.{children_number}
-use Rattle.tree_handles.specs.Expressions.{plain}
-use Rattle.tree_handles.specs.Inside.{tree_at}
-use Rattle.tree_handles.specs.Standing.{forest}
 use Rattle.expand_forms.proofs.factors.leading.Goals as goal
 
 pub returns-then-first_factor-eq0 : goal.returns-then-first_factor-eq0

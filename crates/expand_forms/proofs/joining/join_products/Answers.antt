@@ -1,16 +1,6 @@
 use Rattle.std.proofs.Common.{◌≡◌, ◌++◌, ℕ, true, eqb, sym, subst}
-use Rattle.std.proofs.lemmas.Bool.{eqb-true}
-use Rattle.expand_forms.specs.ExpansionBits.{IsHeld}
-use Rattle.expand_forms.specs.ExpansionRoom.{HasFewTerms}
-use Rattle.expand_forms.specs.Polynomials.{Polynomial, product}
-use Rattle.expand_forms.specs.PolynomialTrees.{polynomial_of}
+use Rattle.expand_forms.proofs.Shared.{eqb-true, IsHeld, HasFewTerms, Polynomial, product, polynomial_of, plain, Forest, tree_of, tree_at, without_root, forest}
 use Rattle.expand_forms.proofs.TermReadings.{beside}
-use Rattle.tree_handles.specs.Expressions.{plain}
-use Rattle.tree_handles.specs.Forest.{Forest}
-use Rattle.tree_handles.specs.Handed.{tree_of}
-use Rattle.tree_handles.specs.Inside.{tree_at}
-use Rattle.tree_handles.specs.Roots.{without_root}
-use Rattle.tree_handles.specs.Standing.{forest}
 use Rattle.expand_forms.proofs.joining.join_products.Goals as goal
 
 -- both factors are one tree

@@ -1,14 +1,5 @@
 use Rattle.std.proofs.Common.{rules, ◌≡◌, ◌+◌, ◌∙◌, ◌∷◌, [], ap, refl, sym, subst, arith, ◌<◌}
-use Rattle.std.proofs.lemmas.Bool.{not_from_false}
-use Rattle.calc_terms.proofs.FractionFacts.{no_zero}
-use Rattle.calc_terms.specs.Fractions.{Fraction, times}
-use Rattle.calc_terms.specs.Rat.{value_of}
-use Rattle.calc_terms.specs.Trees.{size}
-use Rattle.expand_forms.specs.ExpansionBits.{IsNoOverflow}
-use Rattle.expand_forms.specs.ExpansionRoom.{sum_bytes}
-use Rattle.expand_forms.specs.Polynomials.{Monomial, monomial_times, summand}
-use Rattle.expand_forms.specs.Rows.{row}
-use Rattle.expand_forms.specs.Terms.{HasMonomial, coefficient_in}
+use Rattle.expand_forms.proofs.Shared.{not_from_false, no_zero, Fraction, times, value_of, size, IsNoOverflow, sum_bytes, Monomial, monomial_times, summand, row, HasMonomial, coefficient_in, free_of, OfFull, gives_rest, passed_on, full_as, IsExpression, plain, Forest, tree_of, tree_at, without_root, forest, behind_first, front_after_one, given_handed, given_rest}
 use Rattle.expand_forms.proofs.Gathered.{gathered_refl}
 use Rattle.expand_forms.proofs.JoinLoops.{IsNextPart, IsNextTerm, joined_all, joined_more, joined_none, next_term, part_few, part_held, place_read, terms_read}
 use Rattle.expand_forms.proofs.JoinRooms.{term_lacks}
@@ -17,19 +8,6 @@ use Rattle.expand_forms.proofs.Rows.{next_coefficient, product_nonzero, row_end,
 use Rattle.expand_forms.proofs.Splits.{contradiction, first_fits}
 use Rattle.expand_forms.proofs.TermReadings.{beside, term_monomial}
 use Rattle.expand_forms.proofs.TreeMonomials.{monomial_times_monomial}
-use Rattle.node_pool.specs.State.{free_of}
-use Rattle.tree_handles.specs.Lacking.{OfFull}
-use Rattle.tree_handles.proofs.Beside.{gives_rest}
-use Rattle.tree_handles.proofs.Outcomes.{passed_on}
-use Rattle.number_forms.proofs.Rooms.{full_as}
-use Rattle.tree_handles.specs.Expressions.{IsExpression, plain}
-use Rattle.tree_handles.specs.Forest.{Forest}
-use Rattle.tree_handles.specs.Handed.{tree_of}
-use Rattle.tree_handles.specs.Inside.{tree_at}
-use Rattle.tree_handles.specs.Roots.{without_root}
-use Rattle.tree_handles.specs.Standing.{forest}
-use Rattle.tree_handles.proofs.Fronts.{behind_first, front_after_one}
-use Rattle.tree_handles.proofs.Given.{given_handed, given_rest}
 use Rattle.expand_forms.proofs.joining.join_row.Given.{Over}
 use Rattle.expand_forms.proofs.joining.join_row.Goals.{After-term_id-other}
 use Rattle.expand_forms.proofs.joining.join_row.Goals as goal

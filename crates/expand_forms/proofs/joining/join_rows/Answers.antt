@@ -1,35 +1,13 @@
 use Rattle.std.proofs.Common.{rules, ◌+◌, ◌<◌, ◌∙◌, ◌++◌, drop, ap, sym, subst, arith}
-use Rattle.calc_terms.specs.Rat.{value_of}
-use Rattle.calc_terms.specs.Trees.{size}
-use Rattle.expand_forms.specs.ExpandedTrees.{normal}
-use Rattle.expand_forms.specs.ExpansionBits.{IsNoOverflow}
-use Rattle.expand_forms.specs.ExpansionRoom.{sum_bytes}
-use Rattle.expand_forms.specs.Polynomials.{Polynomial, product}
-use Rattle.expand_forms.specs.PolynomialTrees.{polynomial_of}
-use Rattle.expand_forms.specs.Rows.{row}
-use Rattle.expand_forms.specs.Sums.{IsExpanded}
+use Rattle.expand_forms.proofs.Shared.{value_of, size, normal, IsNoOverflow, sum_bytes, Polynomial, product, polynomial_of, row, IsExpanded, free_of, OfFull, gives_rest, passed_on, full_as, IsExpression, plain, Forest, tree_of, tree_at, without_root, forest, behind_first, front_after_one, given_handed, given_rest, lists_listed}
 use Rattle.expand_forms.proofs.Gathered.{gathered_append, gathered_products, gathered_refl}
 use Rattle.expand_forms.proofs.JoinLoops.{IsNextPart, IsNextTerm, joined_all, joined_lacks, joined_more, joined_none, next_part, next_term, part_few, part_held, place_read, terms_read}
 use Rattle.expand_forms.proofs.Joins.{no_summands}
 use Rattle.expand_forms.proofs.ListedTerms.{lists_beside}
 use Rattle.expand_forms.proofs.Rows.{is_nonzero, next_coefficient, rows_next}
 use Rattle.expand_forms.proofs.TermReadings.{beside}
-use Rattle.node_pool.specs.State.{free_of}
-use Rattle.tree_handles.specs.Lacking.{OfFull}
-use Rattle.tree_handles.proofs.Beside.{gives_rest}
-use Rattle.tree_handles.proofs.Outcomes.{passed_on}
-use Rattle.number_forms.proofs.Rooms.{full_as}
-use Rattle.tree_handles.specs.Expressions.{IsExpression, plain}
-use Rattle.tree_handles.specs.Forest.{Forest}
-use Rattle.tree_handles.specs.Handed.{tree_of}
-use Rattle.tree_handles.specs.Inside.{tree_at}
-use Rattle.tree_handles.specs.Roots.{without_root}
-use Rattle.tree_handles.specs.Standing.{forest}
-use Rattle.tree_handles.proofs.Fronts.{behind_first, front_after_one}
-use Rattle.tree_handles.proofs.Given.{given_handed, given_rest}
 use Rattle.expand_forms.proofs.joining.join_rows.Given.{Over}
 use Rattle.expand_forms.proofs.joining.join_rows.Goals.{After-coefficient-factor}
-use Rattle.child_lists.proofs.ListedChildren.{lists_listed}
 use Rattle.expand_forms.proofs.joining.join_rows.Goals as goal
 
 here : (g : Over) (c : After-coefficient-factor g) → IsNextTerm c.loop-at.at c.term_id-term.result (plain (tree_at c.args.a (without_root c.args.sum.now (forest c.args.pool.now)))) (without_root c.args.sum.now (forest c.loop-at.pool)) (forest c.loop-at.pool)

@@ -1,14 +1,6 @@
 use Rattle.std.proofs.Common.{◌++◌, drop}
-use Rattle.child_lists.specs.Lists.{Lists}
-use Rattle.expand_forms.specs.ExpandedTrees.{normal}
-use Rattle.expand_forms.specs.Polynomials.{product}
-use Rattle.expand_forms.specs.PolynomialTrees.{polynomial_of}
+use Rattle.expand_forms.proofs.Shared.{Lists, normal, product, polynomial_of, plain, tree_of, tree_at, without_root, forest}
 use Rattle.expand_forms.proofs.JoinLoops.{IsJoined}
-use Rattle.tree_handles.specs.Expressions.{plain}
-use Rattle.tree_handles.specs.Handed.{tree_of}
-use Rattle.tree_handles.specs.Inside.{tree_at}
-use Rattle.tree_handles.specs.Roots.{without_root}
-use Rattle.tree_handles.specs.Standing.{forest}
 use Rattle.expand_forms.proofs.joining.join_rows.Given as goal
 
 abbrev pub invariant-loop-at : goal.invariant-loop-at

@@ -1,15 +1,5 @@
 use Rattle.std.proofs.Common.{rules, ◌≡◌, ◌≢◌, ◌+◌, ◌<◌, ◌∙◌, [], ◌∷◌, ◌++◌, drop, ap, refl, sym, subst, arith}
-use Rattle.calc_terms.specs.Fractions.{Fraction, plus, times, zero_fraction}
-use Rattle.calc_terms.specs.Rat.{value_of}
-use Rattle.calc_terms.specs.Trees.{size}
-use Rattle.expand_forms.specs.ExpandedTrees.{normal}
-use Rattle.expand_forms.specs.ExpansionBits.{IsNoOverflow}
-use Rattle.expand_forms.specs.ExpansionRoom.{sum_bytes}
-use Rattle.expand_forms.specs.Polynomials.{monomial_times, product, summand}
-use Rattle.expand_forms.specs.PolynomialTrees.{polynomial_of}
-use Rattle.expand_forms.specs.Rows.{row}
-use Rattle.expand_forms.specs.Sums.{IsExpanded, IsSumOf}
-use Rattle.expand_forms.specs.Terms.{IsTerm}
+use Rattle.expand_forms.proofs.Shared.{Fraction, plus, times, zero_fraction, value_of, size, normal, IsNoOverflow, sum_bytes, monomial_times, product, summand, polynomial_of, row, IsExpanded, IsSumOf, IsTerm, free_of, OfFull, gives_rest, passed_on, full_as, sum_not_zero, IsExpression, plain, Forest, Gives, tree_of, tree_at, without_root, forest, behind_first, front_after_one, given_handed, given_rest, lists_listed}
 use Rattle.expand_forms.proofs.Gathered.{gathered_append, gathered_products, gathered_refl, gathered_trans}
 use Rattle.expand_forms.proofs.JoinLoops.{IsJoined, IsNextPart, IsNextTerm, joined_all, joined_lacks, joined_more, joined_none, next_part, next_term, part_few, part_held, place_read, terms_read}
 use Rattle.expand_forms.proofs.JoinRooms.{term_lacks}
@@ -21,23 +11,8 @@ use Rattle.expand_forms.proofs.Squares.{square, square_gathered}
 use Rattle.expand_forms.proofs.TermPolynomials.{tree_normal}
 use Rattle.expand_forms.proofs.TermReadings.{beside, term_monomial}
 use Rattle.expand_forms.proofs.TreeMonomials.{monomial_times_monomial}
-use Rattle.node_pool.specs.State.{free_of}
-use Rattle.tree_handles.specs.Lacking.{OfFull}
-use Rattle.tree_handles.proofs.Beside.{gives_rest}
-use Rattle.tree_handles.proofs.Outcomes.{passed_on}
-use Rattle.number_forms.proofs.Rooms.{full_as}
-use Rattle.number_forms.proofs.Twice.{sum_not_zero}
-use Rattle.tree_handles.specs.Expressions.{IsExpression, plain}
-use Rattle.tree_handles.specs.Forest.{Forest}
-use Rattle.tree_handles.specs.Handed.{Gives, tree_of}
-use Rattle.tree_handles.specs.Inside.{tree_at}
-use Rattle.tree_handles.specs.Roots.{without_root}
-use Rattle.tree_handles.specs.Standing.{forest}
-use Rattle.tree_handles.proofs.Fronts.{behind_first, front_after_one}
-use Rattle.tree_handles.proofs.Given.{given_handed, given_rest}
 use Rattle.expand_forms.proofs.joining.join_squares.Given.{Over}
 use Rattle.expand_forms.proofs.joining.join_squares.Goals.{After-coefficient-factor, In_ok-join_product}
-use Rattle.child_lists.proofs.ListedChildren.{lists_listed}
 use Rattle.expand_forms.proofs.joining.join_squares.Goals as goal
 
 here : (g : Over) (c : After-coefficient-factor g) → IsNextTerm c.loop-at.at c.term_id-term.result (plain (tree_at c.args.a (without_root c.args.sum.now (forest c.args.pool.now)))) (without_root c.args.sum.now (forest c.loop-at.pool)) (forest c.loop-at.pool)

@@ -1,5 +1,5 @@
 use Rattle.std.proofs.Common.{ap}
-use Rattle.expand_forms.specs.ExpandedTrees.{sum_tree, term_trees}
+use Rattle.expand_forms.proofs.Shared.{sum_tree, term_trees}
 use Rattle.expand_forms.proofs.NormalForms.{one_normal_form}
 use Rattle.expand_forms.proofs.laws.one_expanded_tree.Goals as goal
 

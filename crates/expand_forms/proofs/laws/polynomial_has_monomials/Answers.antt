@@ -1,4 +1,4 @@
-use Rattle.expand_forms.specs.PolynomialTrees.{polynomial_of}
+use Rattle.expand_forms.proofs.Shared.{polynomial_of}
 use Rattle.expand_forms.proofs.TreeMonomials.{all_monomials, tree_monomials}
 use Rattle.expand_forms.proofs.laws.polynomial_has_monomials.Goals as goal
 

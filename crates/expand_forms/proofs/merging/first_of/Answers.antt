@@ -1,12 +1,6 @@
 use Rattle.std.proofs.Common.{◌≡◌, ◌+◌, ◌∙◌, arith, sym, refl}
-use Rattle.std.specs.declared.cmp.Ordering.TheVariants.{Equal}
-use Rattle.std.specs.Ordering.{nat_cmp}
-use Rattle.std.specs.Cmp.Lexicographic.{slice_cmp}
-use Rattle.calc_terms.specs.Fractions.{plus}
-use Rattle.expand_forms.specs.Polynomials.{factor}
-use Rattle.expand_forms.specs.Terms.{IsRead}
+use Rattle.expand_forms.proofs.Shared.{Equal, nat_cmp, slice_cmp, plus, factor, IsRead, sum_fits}
 use Rattle.expand_forms.proofs.TermReadings.{exponent_sum}
-use Rattle.calc_terms.specs.Fits.{sum_fits}
 use Rattle.expand_forms.proofs.Splits.{contradiction, exponents_fit}
 use Rattle.expand_forms.proofs.merging.first_of.Goals as goal
 

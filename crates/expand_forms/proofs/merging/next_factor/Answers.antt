@@ -1,7 +1,5 @@
 use Rattle.std.proofs.Common.{arith, refl, subst}
-use Rattle.expand_forms.specs.ExpansionBits.{HasExponents}
-use Rattle.expand_forms.specs.Merging.{BeginsWith}
-use Rattle.expand_forms.specs.Polynomials.{IsMonomial, monomial_times}
+use Rattle.expand_forms.proofs.Shared.{HasExponents, BeginsWith, IsMonomial, monomial_times}
 use Rattle.expand_forms.proofs.MonomialProducts.{both_first}
 use Rattle.expand_forms.proofs.TermReadings.{next_first, next_left}
 use Rattle.expand_forms.proofs.merging.next_factor.Goals as goal

@@ -1,6 +1,6 @@
 use Rattle.std.proofs.Common.{◌∙◌, sym, refl}
+use Rattle.expand_forms.proofs.Shared.{gives_as}
 use Rattle.expand_forms.proofs.TermReadings.{factor_one, factor_other, if_ok_map}
-use Rattle.tree_handles.proofs.Given.{gives_as}
 use Rattle.expand_forms.proofs.merging.place_factor.Goals as goal
 
 pub returns-then-is_one-clause-ok : goal.returns-then-is_one-clause-ok

@@ -1,26 +1,13 @@
 use Rattle.std.proofs.Common.{◌∙◌, ap, sym, subst, arith, ◌<◌, ◌*◌, length, drop}
-use Rattle.expand_forms.specs.ExpandedTrees.{factor_trees}
-use Rattle.expand_forms.specs.ExpansionBits.{HasExponents}
-use Rattle.expand_forms.specs.ExpansionRoom.{factor_bytes}
-use Rattle.expand_forms.specs.Merging.{AddsTrees, GoesOn, IsNext}
-use Rattle.expand_forms.specs.Polynomials.{Monomial, monomial_times}
-use Rattle.expand_forms.specs.Terms.{HasMonomial}
+use Rattle.expand_forms.proofs.Shared.{factor_trees, HasExponents, factor_bytes, AddsTrees, GoesOn, IsNext, Monomial, monomial_times, HasMonomial, free_of, OfFull, kept_after, kept_same, passed_on, plain, tree_at, forest, front_after, front_same}
 use Rattle.expand_forms.proofs.AddedTrees.{adds_beside, adds_free, factors_beside, head_beside}
 use Rattle.expand_forms.proofs.Masses.{later_exponents}
 use Rattle.expand_forms.proofs.Merged.{all_gone, few_merged, merged_all, merged_length, merged_more, merged_none}
 use Rattle.expand_forms.proofs.TermBytes.{factors_most}
 use Rattle.expand_forms.proofs.TermReadings.{drop_length, drop_monomial, has_count}
-use Rattle.node_pool.specs.State.{free_of}
-use Rattle.tree_handles.specs.Lacking.{OfFull}
-use Rattle.tree_handles.proofs.Refused.{kept_after, kept_same}
-use Rattle.tree_handles.proofs.Outcomes.{passed_on}
-use Rattle.tree_handles.specs.Expressions.{plain}
-use Rattle.tree_handles.specs.Inside.{tree_at}
-use Rattle.tree_handles.specs.Standing.{forest}
-use Rattle.tree_handles.specs.declared.fault.NumberFault.TheVariants as fault
-use Rattle.tree_handles.proofs.Fronts.{front_after, front_same}
-use Rattle.expand_forms.proofs.merging.place_factors.Goals as goal
 use Rattle.expand_forms.proofs.merging.place_factors.Goals.{In-Some}
+use Rattle.tree_handles.specs.declared.fault.NumberFault.TheVariants as fault
+use Rattle.expand_forms.proofs.merging.place_factors.Goals as goal
 
 pub loop-next-init : goal.loop-next-init
 loop-next-init c = record { merged = λ m n hm hn. merged_none m n (forest c.args.pool.now); front = front_same; kept = kept_same c.args.pool.now; stands = c.requires.stands }

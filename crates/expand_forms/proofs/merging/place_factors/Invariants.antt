@@ -1,11 +1,6 @@
 use Rattle.std.proofs.Common.{◌+◌, ◌-◌, []}
-use Rattle.expand_forms.specs.Polynomials.{Monomial}
-use Rattle.expand_forms.specs.Terms.{HasMonomial}
+use Rattle.expand_forms.proofs.Shared.{Monomial, HasMonomial, plain, KeepsFront, tree_at, KeepsRefusals, Stands, forest}
 use Rattle.expand_forms.proofs.Merged.{IsMerged}
-use Rattle.tree_handles.specs.Expressions.{plain}
-use Rattle.tree_handles.specs.Handed.{KeepsFront}
-use Rattle.tree_handles.specs.Inside.{tree_at}
-use Rattle.tree_handles.specs.Standing.{KeepsRefusals, Stands, forest}
 use Rattle.expand_forms.proofs.merging.place_factors.Given as goal
 
 abbrev pub invariant-loop-next : goal.invariant-loop-next

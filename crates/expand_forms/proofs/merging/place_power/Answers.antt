@@ -1,15 +1,7 @@
 use Rattle.std.proofs.Common.{rules, ◌<◌, ap, refl, arith}
-use Rattle.calc_terms.specs.Trees.{size}
-use Rattle.expand_forms.specs.ExpansionRoom.{factor_bytes}
+use Rattle.expand_forms.proofs.Shared.{size, factor_bytes, free_of, refused_below, passed_on, forest, front_end, front_same, given_told, given_free}
 use Rattle.expand_forms.proofs.AddedTrees.{adds_more, adds_none, adopts, can_adopt, node_free}
 use Rattle.expand_forms.proofs.Lacks.{number_refused}
-use Rattle.node_pool.specs.State.{free_of}
-use Rattle.tree_handles.proofs.FreeBytes.{refused_below}
-use Rattle.tree_handles.proofs.Outcomes.{passed_on}
-use Rattle.tree_handles.specs.Standing.{forest}
-use Rattle.tree_handles.proofs.Fronts.{front_end, front_same}
-use Rattle.tree_handles.proofs.Given.{given_told}
-use Rattle.tree_handles.proofs.Room.{given_free}
 use Rattle.expand_forms.proofs.merging.place_power.Goals as goal
 
 pub adopt-requires : goal.adopt-requires

@@ -1,15 +1,6 @@
 use Rattle.std.proofs.Common.{rules, ◌≡◌, ◌≤◌, ◌∙◌, ap, refl, sym, subst}
-use Rattle.calc_algebra.specs.Reduced.{product_tree}
-use Rattle.calc_terms.specs.Rat.{value_of}
-use Rattle.calc_terms.specs.Trees.{Tree, count, is_mult, mult}
-use Rattle.coefficients.proofs.Steps.{many_factors}
-use Rattle.tree_handles.proofs.Seen.{expression, live, seen}
-use Rattle.expand_forms.specs.Terms.{led_by}
+use Rattle.expand_forms.proofs.Shared.{product_tree, value_of, Tree, count, is_mult, mult, many_factors, expression, live, seen, led_by, children_of, tree_of, behind_first, behind_new, front_after_one, front_same, front_without, given_handed, given_rest, given_root, given_told, gives_as}
 use Rattle.expand_forms.proofs.TermReadings.{led_some, led_term}
-use Rattle.tree_handles.specs.Expressions.{children_of}
-use Rattle.tree_handles.specs.Handed.{tree_of}
-use Rattle.tree_handles.proofs.Fronts.{behind_first, behind_new, front_after_one, front_same, front_without}
-use Rattle.tree_handles.proofs.Given.{given_handed, given_rest, given_root, given_told, gives_as}
 use Rattle.expand_forms.proofs.monomials.completed.Goals as goal
 
 pub children-requires-clause-live : goal.children-requires-clause-live

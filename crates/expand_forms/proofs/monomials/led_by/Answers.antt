@@ -1,22 +1,9 @@
 use Rattle.std.proofs.Common.{rules, ◌∙◌, ap, refl, sym, ◌<◌}
 use Rattle.std.specs.Prelude.{if◌then◌else◌}
-use Rattle.calc_terms.specs.Rat.{value_of}
-use Rattle.calc_terms.specs.Trees.{Tree, mult, more, num}
-use Rattle.tree_handles.proofs.Seen.{expression, seen}
-use Rattle.expand_forms.specs.ExpansionRoom.{number_bytes}
-use Rattle.expand_forms.specs.Terms.{led_by}
+use Rattle.expand_forms.proofs.Shared.{value_of, Tree, mult, more, num, expression, seen, number_bytes, led_by, free_of, gives_itself, passed_on, eqb-sym, children_of, tree_of, behind_first, front_end, front_same, front_without, given_apart, given_handed, given_root, given_told, gives_as, apart, other_root, root_held}
 use Rattle.expand_forms.proofs.AddedTrees.{led_last}
 use Rattle.expand_forms.proofs.Lacks.{number_refused}
 use Rattle.expand_forms.proofs.TermReadings.{mult_is}
-use Rattle.node_pool.specs.State.{free_of}
-use Rattle.tree_handles.proofs.Beside.{gives_itself}
-use Rattle.tree_handles.proofs.Outcomes.{passed_on, eqb-sym}
-use Rattle.tree_handles.specs.Expressions.{children_of}
-use Rattle.tree_handles.specs.Handed.{tree_of}
-use Rattle.tree_handles.proofs.Fronts.{behind_first, front_end, front_same, front_without}
-use Rattle.tree_handles.proofs.Given.{given_apart, given_handed, given_root, given_told, gives_as}
-use Rattle.tree_handles.proofs.Lasts.{apart, other_root}
-use Rattle.tree_handles.proofs.Roots.{root_held}
 use Rattle.expand_forms.proofs.monomials.led_by.Goals as goal
 
 pub is_written-requires-clause-expression : goal.is_written-requires-clause-expression

@@ -1,19 +1,7 @@
 use Rattle.std.proofs.Common.{rules, ◌∙◌, ap, refl, sym, subst, ◌<◌, arith, length}
-use Rattle.calc_terms.specs.Trees.{size}
-use Rattle.expand_forms.specs.ExpansionBits.{IsNoOverflow}
-use Rattle.expand_forms.specs.ExpansionRoom.{term_bytes}
-use Rattle.expand_forms.specs.Polynomials.{monomial_times}
-use Rattle.expand_forms.specs.Terms.{HasMonomial}
+use Rattle.expand_forms.proofs.Shared.{size, IsNoOverflow, term_bytes, monomial_times, HasMonomial, free_of, OfFull, refused_below, passed_on, full_as, front_after, front_end, front_same, given_told, given_free}
 use Rattle.expand_forms.proofs.AddedTrees.{adopts, can_adopt}
 use Rattle.expand_forms.proofs.TermReadings.{beside, count_factors}
-use Rattle.node_pool.specs.State.{free_of}
-use Rattle.tree_handles.specs.Lacking.{OfFull}
-use Rattle.tree_handles.proofs.FreeBytes.{refused_below}
-use Rattle.tree_handles.proofs.Outcomes.{passed_on}
-use Rattle.number_forms.proofs.Rooms.{full_as}
-use Rattle.tree_handles.proofs.Fronts.{front_after, front_end, front_same}
-use Rattle.tree_handles.proofs.Given.{given_told}
-use Rattle.tree_handles.proofs.Room.{given_free}
 use Rattle.tree_handles.specs.declared.fault.NumberFault.TheVariants as fault
 use Rattle.expand_forms.proofs.monomials.place_merged.Goals as goal
 

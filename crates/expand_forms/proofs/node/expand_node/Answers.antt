@@ -1,21 +1,5 @@
 use Rattle.std.proofs.Common.{rules, ◌∙◌, inl, ap, refl, sym, subst, ◌<◌, ◌≤◌, length}
-use Rattle.calc_terms.specs.Trees.{Tree, names}
-use Rattle.tree_handles.proofs.Seen.{expression, seen}
-use Rattle.expand_forms.specs.ExpandedTrees.{expanded}
-use Rattle.expand_forms.specs.PolynomialTrees.{has_polynomial_root, polynomial_of}
-use Rattle.expand_forms.specs.Sums.{AreExpanded}
-use Rattle.tree_handles.proofs.Beside.{gives_without}
-use Rattle.tree_handles.specs.Expressions.{children_of}
-use Rattle.tree_handles.proofs.Fronts.{behind_first, front_after, front_at, front_same, front_without}
-use Rattle.tree_handles.proofs.Given.{given_other, gives_as, owned}
-use Rattle.calc_algebra.specs.Rewritings.{HasNoNewName}
-use Rattle.expand_forms.specs.ExpansionRoom.{node_bytes}
-use Rattle.node_pool.specs.State.{free_of}
-use Rattle.tree_handles.specs.Lacking.{OfFull}
-use Rattle.tree_handles.proofs.Outcomes.{passed_on}
-use Rattle.calc_measures.specs.Measures.{bits_of}
-use Rattle.tree_handles.specs.Faults.{OfOverflow}
-use Rattle.expand_forms.specs.Walks.{IsOver}
+use Rattle.expand_forms.proofs.Shared.{Tree, names, expression, seen, expanded, has_polynomial_root, polynomial_of, AreExpanded, gives_without, children_of, behind_first, front_after, front_at, front_same, front_without, given_other, gives_as, owned, HasNoNewName, node_bytes, free_of, OfFull, passed_on, bits_of, OfOverflow, IsOver}
 use Rattle.expand_forms.proofs.node.expand_node.Goals as goal
 
 pub place_expansion-requires : goal.place_expansion-requires

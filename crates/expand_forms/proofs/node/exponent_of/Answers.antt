@@ -1,10 +1,7 @@
 use Rattle.std.proofs.Common.{ap, arith, rules}
 use Rattle.std.specs.Prelude.{FitsSigned, nat_abs}
-use Rattle.std.specs.Int.{w128}
+use Rattle.expand_forms.proofs.Shared.{w128, plain, tree_at, forest}
 use Rattle.expand_forms.proofs.NodeKinds.{exponent_bits, exponent_most, exponent_number}
-use Rattle.tree_handles.specs.Expressions.{plain}
-use Rattle.tree_handles.specs.Inside.{tree_at}
-use Rattle.tree_handles.specs.Standing.{forest}
 use Rattle.expand_forms.proofs.node.exponent_of.Goals as goal
 
 pub rational-requires-clause-number : goal.rational-requires-clause-number

@@ -1,11 +1,6 @@
 use Rattle.std.proofs.Common.{◌∙◌, ap, sym}
-use Rattle.calc_terms.specs.Fractions.{inverse}
-use Rattle.calc_terms.specs.Trees.{Tree}
-use Rattle.expand_forms.specs.PolynomialTrees.{divisor_of}
+use Rattle.expand_forms.proofs.Shared.{inverse, Tree, divisor_of, plain, tree_at, forest}
 use Rattle.expand_forms.proofs.NodeKinds.{divisor_nonzero, divisor_number}
-use Rattle.tree_handles.specs.Expressions.{plain}
-use Rattle.tree_handles.specs.Inside.{tree_at}
-use Rattle.tree_handles.specs.Standing.{forest}
 use Rattle.expand_forms.proofs.node.inverse_divisor.Goals as goal
 
 pub rational-requires-clause-number : goal.rational-requires-clause-number

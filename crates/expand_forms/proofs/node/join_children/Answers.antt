@@ -1,9 +1,5 @@
 use Rattle.std.proofs.Common.{rules, ◌≡◌, ◌<◌, ◌+◌, ◌∙◌, ◌++◌, ap, sym, subst, arith, ◌≤◌, ◌-◌}
-use Rattle.calc_terms.specs.Fractions.{one_fraction}
-use Rattle.calc_terms.specs.Trees.{Tree, count, size}
-use Rattle.expand_forms.specs.Polynomials.{Polynomial, product}
-use Rattle.expand_forms.specs.PolynomialTrees.{polynomial_of, sum_of}
-use Rattle.expand_forms.specs.Sums.{IsExpanded}
+use Rattle.expand_forms.proofs.Shared.{one_fraction, Tree, count, size, Polynomial, product, polynomial_of, sum_of, IsExpanded, children_number, gives_rest, IsExpression, children_of, nth, plain, Forest, arity, tree_of, kids_of, tree_at, without_root, forest, behind_first, front_after_one, given_rest, given_handed, sum_bytes, free_of, OfFull, passed_on, full_as, IsNoOverflow}
 use Rattle.expand_forms.proofs.Expansions.{constant_is_expanded}
 use Rattle.expand_forms.proofs.Gathered.{gathered_refl}
 use Rattle.expand_forms.proofs.JoinLoops.{IsNextPart, joined_all, joined_lacks, joined_more, joined_none, next_part, part_few, part_held}
@@ -12,26 +8,10 @@ use Rattle.expand_forms.proofs.Nodes.{from}
 use Rattle.expand_forms.proofs.SameCoefficients.{times_one_polynomial}
 use Rattle.expand_forms.proofs.TermReadings.{beside}
 use Rattle.expand_forms.proofs.Within.{inside_child, within}
-use Rattle.number_forms.proofs.ByKind.{children_number}
-use Rattle.tree_handles.proofs.Beside.{gives_rest}
-use Rattle.tree_handles.specs.Expressions.{IsExpression, children_of, nth, plain}
-use Rattle.tree_handles.specs.Forest.{Forest, arity}
-use Rattle.tree_handles.specs.Handed.{tree_of}
-use Rattle.tree_handles.specs.Inside.{kids_of, tree_at}
-use Rattle.tree_handles.specs.Roots.{without_root}
-use Rattle.tree_handles.specs.Standing.{forest}
-use Rattle.tree_handles.proofs.Fronts.{behind_first, front_after_one}
-use Rattle.tree_handles.proofs.Given.{given_rest, given_handed}
-use Rattle.expand_forms.specs.ExpansionRoom.{sum_bytes}
-use Rattle.node_pool.specs.State.{free_of}
-use Rattle.tree_handles.specs.Lacking.{OfFull}
-use Rattle.tree_handles.proofs.Outcomes.{passed_on}
-use Rattle.number_forms.proofs.Rooms.{full_as}
 use Rattle.expand_forms.proofs.FewTerms.{few_as, few_append}
-use Rattle.expand_forms.specs.ExpansionBits.{IsNoOverflow}
-use Rattle.expand_forms.proofs.node.join_children.Goals as goal
 use Rattle.expand_forms.proofs.node.join_children.Given.{Over}
 use Rattle.expand_forms.proofs.node.join_children.Goals.{After-child_id-child}
+use Rattle.expand_forms.proofs.node.join_children.Goals as goal
 
 pub children-at-end-requires-clause-live : goal.children-at-end-requires-clause-live
 children-at-end-requires-clause-live g c = (beside c.requires.sum c.requires.expression).expression.live

@@ -1,13 +1,7 @@
 use Rattle.std.proofs.Common.{◌++◌}
-use Rattle.child_lists.specs.Lists.{Lists}
-use Rattle.expand_forms.specs.PolynomialTrees.{polynomial_of, sum_of}
+use Rattle.expand_forms.proofs.Shared.{Lists, polynomial_of, sum_of, children_of, plain, tree_of, tree_at, without_root, forest}
 use Rattle.expand_forms.proofs.JoinLoops.{IsJoined}
 use Rattle.expand_forms.proofs.Nodes.{from}
-use Rattle.tree_handles.specs.Expressions.{children_of, plain}
-use Rattle.tree_handles.specs.Handed.{tree_of}
-use Rattle.tree_handles.specs.Inside.{tree_at}
-use Rattle.tree_handles.specs.Roots.{without_root}
-use Rattle.tree_handles.specs.Standing.{forest}
 use Rattle.expand_forms.proofs.node.join_children.Given as goal
 
 abbrev pub invariant-loop-at : goal.invariant-loop-at

@@ -1,49 +1,19 @@
 use Rattle.std.proofs.Common.{◌∙◌, inl, ap, refl, sym, subst, ℕ, List, ◌<◌, ◌≤◌, ◌*◌, ◌+◌, arith, ◌≡◌, ◌++◌}
-use Rattle.calc_terms.specs.Fractions.{one_fraction, minus_one_fraction, Fraction}
-use Rattle.calc_terms.specs.Rat.{value_of}
-use Rattle.calc_terms.specs.Trees.{num, Tree, size}
-use Rattle.coefficients.proofs.Steps.{one_value}
-use Rattle.tree_handles.proofs.Seen.{expression, seen}
-use Rattle.expand_forms.specs.ExpandedTrees.{expanded}
-use Rattle.expand_forms.specs.Polynomials.{scaled, IsMonomial, Polynomial, product}
-use Rattle.expand_forms.specs.PolynomialTrees.{polynomial_of}
-use Rattle.expand_forms.specs.Sums.{IsExpanded, IsSumOf}
+use Rattle.expand_forms.proofs.Shared.{one_fraction, minus_one_fraction, Fraction, value_of, num, Tree, size, one_value, expression, seen, expanded, scaled, IsMonomial, Polynomial, product, polynomial_of, IsExpanded, IsSumOf, gives_rest, gives_without, kept_after, root_ids, kids_of_last, IsExpression, plain, Forest, tree_at, forest, behind_new, front_after, front_after_one, front_at, front_same, front_without, given_handed, given_other, given_rest, given_root, given_same, given_told, gives_as, handed_at, owned, HasFewTerms, node_bytes, sum_bytes, free_of, OfFull, passed_on, full_as, tree_of, num_most, refused_below, given_free, IsHeld, IsNoOverflow, without_root, lists_none}
 use Rattle.expand_forms.proofs.Expansions.{constant_is_expanded, empty_sum, nothing_added, same_polynomial}
 use Rattle.expand_forms.proofs.NodeAnswers.{difference_is, opposite_value, scaled_expanded}
 use Rattle.expand_forms.proofs.TermReadings.{beside}
-use Rattle.tree_handles.proofs.Beside.{gives_rest, gives_without}
-use Rattle.tree_handles.proofs.Refused.{kept_after}
-use Rattle.tree_handles.specs.Children.{root_ids}
-use Rattle.tree_handles.proofs.Lasts.{kids_of_last}
-use Rattle.tree_handles.specs.Expressions.{IsExpression, plain}
-use Rattle.tree_handles.specs.Forest.{Forest}
-use Rattle.tree_handles.specs.Inside.{tree_at}
-use Rattle.tree_handles.specs.Standing.{forest}
-use Rattle.tree_handles.proofs.Fronts.{behind_new, front_after, front_after_one, front_at, front_same, front_without}
-use Rattle.tree_handles.proofs.Given.{given_handed, given_other, given_rest, given_root, given_same, given_told, gives_as, handed_at, owned}
-use Rattle.expand_forms.specs.ExpansionRoom.{HasFewTerms, node_bytes, sum_bytes}
-use Rattle.node_pool.specs.State.{free_of}
-use Rattle.tree_handles.specs.Lacking.{OfFull}
-use Rattle.tree_handles.proofs.Outcomes.{passed_on}
-use Rattle.number_forms.proofs.Rooms.{full_as}
 use Rattle.expand_forms.proofs.AllMonomials.{AllHave, scaled_all}
 use Rattle.expand_forms.proofs.FewTerms.{answer_few, answer_size, few_append, few_as, few_constant, few_none, few_product, few_scaled, some_few}
-use Rattle.tree_handles.specs.Handed.{tree_of}
 use Rattle.expand_forms.proofs.Lacks.{number_refused}
 use Rattle.expand_forms.proofs.TermBytes.{terms_rise}
 use Rattle.expand_forms.proofs.TreeMonomials.{tree_monomials}
-use Rattle.calc_terms.proofs.Sizes.{num_most}
-use Rattle.tree_handles.proofs.FreeBytes.{refused_below}
-use Rattle.tree_handles.proofs.Room.{given_free}
-use Rattle.tree_handles.specs.declared.fault.NumberFault.TheVariants as fault
 use Rattle.expand_forms.proofs.node.place_difference.Goals.{In_ok-opposite}
-use Rattle.expand_forms.specs.ExpansionBits.{IsHeld, IsNoOverflow}
 use Rattle.expand_forms.proofs.Held.{answer_held}
 use Rattle.expand_forms.proofs.SameCoefficients.{same_is, same_trans, times_one_polynomial}
 use Rattle.expand_forms.proofs.Gathered.{gathered_few, gathered_sum, held_before}
 use Rattle.expand_forms.proofs.Splits.{held_behind}
-use Rattle.tree_handles.specs.Roots.{without_root}
-use Rattle.child_lists.proofs.ListedChildren.{lists_none}
+use Rattle.tree_handles.specs.declared.fault.NumberFault.TheVariants as fault
 use Rattle.expand_forms.proofs.node.place_difference.Goals as goal
 
 pub place_scaled-requires : goal.place_scaled-requires

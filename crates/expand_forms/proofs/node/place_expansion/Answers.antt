@@ -1,39 +1,14 @@
 use Rattle.std.proofs.Common.{◌≡◌, ◌∙◌, ap, refl, sym, subst, arith, ◌<◌, ◌≤◌, ◌+◌, ◌^◌, length, rules, ℕ, ◌*◌}
-use Rattle.calc_terms.specs.Fractions.{inverse, minus_one_fraction, Fraction}
-use Rattle.calc_terms.specs.Trees.{Tree, count, root_kind, sub, names, size}
-use Rattle.tree_handles.proofs.Seen.{product_kind, sum_kind}
-use Rattle.expand_forms.specs.ExpandedTrees.{expanded}
-use Rattle.expand_forms.specs.Polynomials.{raised, scaled}
-use Rattle.expand_forms.specs.PolynomialTrees.{divisor_of, exponent_of, has_polynomial_root, is_divisor, is_exponent, polynomial_of}
-use Rattle.expand_forms.specs.Sums.{IsExpanded}
+use Rattle.expand_forms.proofs.Shared.{inverse, minus_one_fraction, Fraction, Tree, count, root_kind, sub, names, size, product_kind, sum_kind, expanded, raised, scaled, divisor_of, exponent_of, has_polynomial_root, is_divisor, is_exponent, polynomial_of, IsExpanded, children_number, children_of, plain, nth, Forest, arity, bytes_in, at, tree_at, forest, front_end, front_same, gives_as, node_bytes, free_of, OfFull, passed_on, full_as, refusal_as, length-append, refused_below, size-plain, bits_of, high, low, OfOverflow, IsHeld}
 use Rattle.expand_forms.proofs.NodeAnswers.{opposite_value}
 use Rattle.expand_forms.proofs.NodeKinds.{difference_node, first_expanded, leaf_itself, many_children, opposite_node, power_node, quotient_node, second_expanded}
 use Rattle.expand_forms.proofs.TermReadings.{if_ok_map}
-use Rattle.number_forms.proofs.ByKind.{children_number}
-use Rattle.tree_handles.specs.Expressions.{children_of, plain, nth}
-use Rattle.tree_handles.specs.Forest.{Forest, arity, bytes_in}
-use Rattle.tree_handles.proofs.Parts.{at}
-use Rattle.tree_handles.specs.Inside.{tree_at}
-use Rattle.tree_handles.specs.Standing.{forest}
-use Rattle.tree_handles.proofs.Fronts.{front_end, front_same}
-use Rattle.tree_handles.proofs.Given.{gives_as}
-use Rattle.expand_forms.specs.ExpansionRoom.{node_bytes}
-use Rattle.node_pool.specs.State.{free_of}
-use Rattle.tree_handles.specs.Lacking.{OfFull}
-use Rattle.tree_handles.proofs.Outcomes.{passed_on}
-use Rattle.number_forms.proofs.Rooms.{full_as, refusal_as}
-use Rattle.std.proofs.lemmas.List.{length-append}
 use Rattle.expand_forms.proofs.FewTerms.{few_names}
 use Rattle.expand_forms.proofs.NodeRooms.{few_child, leaf_size}
 use Rattle.expand_forms.proofs.TermBytes.{terms_rise}
 use Rattle.expand_forms.proofs.TermCounts.{raised_length, scaled_length}
-use Rattle.tree_handles.proofs.FreeBytes.{refused_below}
-use Rattle.tree_handles.proofs.Plains.{size-plain}
-use Rattle.tree_handles.specs.declared.fault.NumberFault.TheVariants as fault
-use Rattle.calc_measures.specs.Measures.{bits_of, high, low}
-use Rattle.tree_handles.specs.Faults.{OfOverflow}
-use Rattle.expand_forms.specs.ExpansionBits.{IsHeld}
 use Rattle.expand_forms.proofs.NodeBits.{few_bits, over_kind, within_bits, sum_over, product_over, power_over, opposite_over, difference_over, quotient_over}
+use Rattle.tree_handles.specs.declared.fault.NumberFault.TheVariants as fault
 use Rattle.expand_forms.proofs.node.place_expansion.Goals as goal
 
 -- ---- sums and products

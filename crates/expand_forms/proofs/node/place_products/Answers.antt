@@ -1,43 +1,21 @@
 use Rattle.std.proofs.Common.{rules, ◌≡◌, ◌<◌, ◌+◌, ◌-◌, ◌∙◌, ℕ, ap, refl, sym, subst, arith, ◌≤◌, ◌*◌, length}
-use Rattle.calc_terms.specs.Trees.{Tree, count, mult, names}
-use Rattle.coefficients.proofs.Steps.{one_value}
-use Rattle.expand_forms.specs.ExpandedTrees.{expanded}
-use Rattle.expand_forms.specs.PolynomialTrees.{product_of, polynomial_of}
-use Rattle.expand_forms.specs.Sums.{IsExpanded}
+use Rattle.expand_forms.proofs.Shared.{Tree, count, mult, names, one_value, expanded, product_of, polynomial_of, IsExpanded, children_number, gives_rest, kept_after, IsExpression, children_of, nth, plain, Forest, arity, kids_of, tree_at, without_root, forest, behind_new, front_after_one, front_same, given_handed, given_rest, given_told, gives_as, node_bytes, sum_bytes, free_of, OfFull, passed_on, full_as, Polynomial, given_free, IsHeld}
 use Rattle.expand_forms.proofs.NodeAnswers.{empty_product, next_product, product_expanded, product_polynomial_of, product_from}
 use Rattle.expand_forms.proofs.NodeChildren.{expanded_nth}
 use Rattle.expand_forms.proofs.Nodes.{from}
 use Rattle.expand_forms.proofs.TermReadings.{beside}
 use Rattle.expand_forms.proofs.Within.{IsWithin, inside_child, within}
-use Rattle.number_forms.proofs.ByKind.{children_number}
-use Rattle.tree_handles.proofs.Beside.{gives_rest}
-use Rattle.tree_handles.proofs.Refused.{kept_after}
-use Rattle.tree_handles.specs.Expressions.{IsExpression, children_of, nth, plain}
-use Rattle.tree_handles.specs.Forest.{Forest, arity}
-use Rattle.tree_handles.specs.Inside.{kids_of, tree_at}
-use Rattle.tree_handles.specs.Roots.{without_root}
-use Rattle.tree_handles.specs.Standing.{forest}
-use Rattle.tree_handles.proofs.Fronts.{behind_new, front_after_one, front_same}
-use Rattle.tree_handles.proofs.Given.{given_handed, given_rest, given_told, gives_as}
-use Rattle.expand_forms.specs.ExpansionRoom.{node_bytes, sum_bytes}
-use Rattle.node_pool.specs.State.{free_of}
-use Rattle.tree_handles.specs.Lacking.{OfFull}
-use Rattle.tree_handles.proofs.Outcomes.{passed_on}
-use Rattle.number_forms.proofs.Rooms.{full_as}
-use Rattle.expand_forms.specs.Polynomials.{Polynomial}
 use Rattle.expand_forms.proofs.FewTerms.{answer_few, answer_size}
 use Rattle.expand_forms.proofs.Lacks.{number_refused}
 use Rattle.expand_forms.proofs.NodeRooms.{expanded_from, few_child, few_rest, rest_product, some_product}
 use Rattle.expand_forms.proofs.TermBytes.{terms_rise}
 use Rattle.expand_forms.proofs.TermCounts.{product_length}
 use Rattle.expand_forms.proofs.TreeMonomials.{tree_monomials}
-use Rattle.tree_handles.proofs.Room.{given_free}
-use Rattle.tree_handles.specs.declared.fault.NumberFault.TheVariants as fault
-use Rattle.expand_forms.specs.ExpansionBits.{IsHeld}
 use Rattle.expand_forms.proofs.Held.{answer_held, held_product}
 use Rattle.expand_forms.proofs.NodeBits.{together_next}
-use Rattle.expand_forms.proofs.node.place_products.Goals as goal
 use Rattle.expand_forms.proofs.node.place_products.Goals.{After-child_id}
+use Rattle.tree_handles.specs.declared.fault.NumberFault.TheVariants as fault
+use Rattle.expand_forms.proofs.node.place_products.Goals as goal
 
 pub children-left-requires-clause-live : goal.children-left-requires-clause-live
 children-left-requires-clause-live c = (beside c.in_ok-product.ensures.given c.requires.expression).expression.live

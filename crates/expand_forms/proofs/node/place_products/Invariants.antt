@@ -1,12 +1,6 @@
 use Rattle.std.proofs.Common.{◌≡◌, ◌≤◌, []}
-use Rattle.calc_terms.specs.Trees.{count}
-use Rattle.expand_forms.specs.ExpandedTrees.{expanded}
-use Rattle.expand_forms.specs.PolynomialTrees.{product_of}
+use Rattle.expand_forms.proofs.Shared.{count, expanded, product_of, children_of, plain, Gives, KeepsFront, tree_at, KeepsRefusals, Stands, forest}
 use Rattle.expand_forms.proofs.Nodes.{from}
-use Rattle.tree_handles.specs.Expressions.{children_of, plain}
-use Rattle.tree_handles.specs.Handed.{Gives, KeepsFront}
-use Rattle.tree_handles.specs.Inside.{tree_at}
-use Rattle.tree_handles.specs.Standing.{KeepsRefusals, Stands, forest}
 use Rattle.expand_forms.proofs.node.place_products.Given as goal
 
 abbrev pub invariant-loop-left : goal.invariant-loop-left

@@ -1,39 +1,11 @@
 use Rattle.std.proofs.Common.{rules, ◌∙◌, inl, ap, refl, sym, subst, ◌<◌, arith, ◌≡◌}
-use Rattle.calc_terms.specs.Trees.{Tree, num, size}
-use Rattle.coefficients.proofs.Steps.{one_value}
-use Rattle.tree_handles.proofs.Seen.{expression, seen}
-use Rattle.expand_forms.specs.ExpandedTrees.{expanded}
-use Rattle.expand_forms.specs.PolynomialTrees.{sum_of, polynomial_of}
-use Rattle.expand_forms.specs.Sums.{AreExpanded}
+use Rattle.expand_forms.proofs.Shared.{Tree, num, size, one_value, expression, seen, expanded, sum_of, polynomial_of, AreExpanded, gives_rest, gives_without, kept_after, root_ids, kids_of_last, IsExpression, children_of, plain, Forest, tree_at, without_root, forest, behind_new, front_after, front_after_one, front_at, front_same, front_without, given_handed, given_other, given_rest, given_told, gives_as, handed_at, owned, HasFewTerms, node_bytes, free_of, OfFull, passed_on, full_as, num_most, refused_below, given_free, value_of, IsHeld, IsNoOverflow, Polynomial, lists_none}
 use Rattle.expand_forms.proofs.Expansions.{empty_sum, nothing_added, sum_same}
 use Rattle.expand_forms.proofs.NodeChildren.{sum_polynomial_of}
 use Rattle.expand_forms.proofs.TermReadings.{beside}
-use Rattle.tree_handles.proofs.Beside.{gives_rest, gives_without}
-use Rattle.tree_handles.proofs.Refused.{kept_after}
-use Rattle.tree_handles.specs.Children.{root_ids}
-use Rattle.tree_handles.proofs.Lasts.{kids_of_last}
-use Rattle.tree_handles.specs.Expressions.{IsExpression, children_of, plain}
-use Rattle.tree_handles.specs.Forest.{Forest}
-use Rattle.tree_handles.specs.Inside.{tree_at}
-use Rattle.tree_handles.specs.Roots.{without_root}
-use Rattle.tree_handles.specs.Standing.{forest}
-use Rattle.tree_handles.proofs.Fronts.{behind_new, front_after, front_after_one, front_at, front_same, front_without}
-use Rattle.tree_handles.proofs.Given.{given_handed, given_other, given_rest, given_told, gives_as, handed_at, owned}
-use Rattle.expand_forms.specs.ExpansionRoom.{HasFewTerms, node_bytes}
-use Rattle.node_pool.specs.State.{free_of}
-use Rattle.tree_handles.specs.Lacking.{OfFull}
-use Rattle.tree_handles.proofs.Outcomes.{passed_on}
-use Rattle.number_forms.proofs.Rooms.{full_as}
 use Rattle.expand_forms.proofs.FewTerms.{few_none}
 use Rattle.expand_forms.proofs.Lacks.{number_refused}
-use Rattle.calc_terms.proofs.Sizes.{num_most}
-use Rattle.tree_handles.proofs.FreeBytes.{refused_below}
-use Rattle.tree_handles.proofs.Room.{given_free}
 use Rattle.tree_handles.specs.declared.fault.NumberFault.TheVariants as fault
-use Rattle.calc_terms.specs.Rat.{value_of}
-use Rattle.expand_forms.specs.ExpansionBits.{IsHeld, IsNoOverflow}
-use Rattle.expand_forms.specs.Polynomials.{Polynomial}
-use Rattle.child_lists.proofs.ListedChildren.{lists_none}
 use Rattle.expand_forms.proofs.node.place_sum.Goals as goal
 
 pub join_children-requires : goal.join_children-requires

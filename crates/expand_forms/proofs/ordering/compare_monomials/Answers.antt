@@ -1,7 +1,6 @@
 use Rattle.std.proofs.Common.{subst}
-use Rattle.expand_forms.specs.Terms.{IsMonomialKey}
+use Rattle.expand_forms.proofs.Shared.{IsMonomialKey, forest}
 use Rattle.expand_forms.proofs.TermKeys.{one_first, one_last}
-use Rattle.tree_handles.specs.Standing.{forest}
 use Rattle.expand_forms.proofs.ordering.compare_monomials.Goals as goal
 
 pub returns-in-Some-None : goal.returns-in-Some-None

@@ -1,8 +1,6 @@
 use Rattle.std.proofs.Common.{◌∙◌, sym}
+use Rattle.expand_forms.proofs.Shared.{plain, tree_at, forest}
 use Rattle.expand_forms.proofs.TermKeys.{no_key, number_factors}
-use Rattle.tree_handles.specs.Expressions.{plain}
-use Rattle.tree_handles.specs.Inside.{tree_at}
-use Rattle.tree_handles.specs.Standing.{forest}
 use Rattle.expand_forms.proofs.ordering.monomial_key.Goals as goal
 
 pub returns-in-Num : goal.returns-in-Num

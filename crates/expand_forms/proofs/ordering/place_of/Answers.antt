@@ -1,15 +1,11 @@
 use Rattle.std.proofs.Common.{rules, ◌≡◌, ◌∙◌, arith, sym, ap}
-use Rattle.calc_terms.specs.Trees.{Tree, count}
-use Rattle.expand_forms.specs.Terms.{term_cmp}
+use Rattle.expand_forms.proofs.Shared.{Tree, count, term_cmp, children_of, nth, plain, tree_at, forest}
 use Rattle.expand_forms.proofs.Sums.{sum_below}
 use Rattle.expand_forms.proofs.TermKeys.{monomial_order}
 use Rattle.expand_forms.proofs.TermReadings.{sum_term, term_monomial}
-use Rattle.tree_handles.specs.Expressions.{children_of, nth, plain}
-use Rattle.tree_handles.specs.Inside.{tree_at}
-use Rattle.tree_handles.specs.Standing.{forest}
-use Rattle.expand_forms.proofs.ordering.place_of.Goals as goal
 use Rattle.expand_forms.proofs.ordering.place_of.Given.{Over}
 use Rattle.expand_forms.proofs.ordering.place_of.Goals.{After-compare_monomials}
+use Rattle.expand_forms.proofs.ordering.place_of.Goals as goal
 
 pub loop-low-init : goal.loop-low-init
 loop-low-init g c =

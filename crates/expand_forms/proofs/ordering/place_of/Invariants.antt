@@ -1,10 +1,5 @@
 use Rattle.std.proofs.Common.{◌≡◌, ℕ, ◌<◌, ◌≤◌, ◌-◌}
-use Rattle.std.specs.declared.cmp.Ordering.TheVariants.{Greater, Less}
-use Rattle.calc_terms.specs.Trees.{count}
-use Rattle.expand_forms.specs.Terms.{term_cmp}
-use Rattle.tree_handles.specs.Expressions.{nth, plain, children_of}
-use Rattle.tree_handles.specs.Inside.{tree_at}
-use Rattle.tree_handles.specs.Standing.{forest}
+use Rattle.expand_forms.proofs.Shared.{Greater, Less, count, term_cmp, nth, plain, children_of, tree_at, forest}
 use Rattle.expand_forms.proofs.ordering.place_of.Given as goal
 
 abbrev pub invariant-loop-low : goal.invariant-loop-low

@@ -1,9 +1,7 @@
 use Rattle.std.proofs.Common.{arith}
+use Rattle.expand_forms.proofs.Shared.{plain, tree_at, forest}
 use Rattle.expand_forms.proofs.TermKeys.{no_key}
 use Rattle.expand_forms.proofs.TermReadings.{first_count}
-use Rattle.tree_handles.specs.Expressions.{plain}
-use Rattle.tree_handles.specs.Inside.{tree_at}
-use Rattle.tree_handles.specs.Standing.{forest}
 use Rattle.expand_forms.proofs.ordering.product_key.Goals as goal
 
 pub returns-then-factors-eq0 : goal.returns-then-factors-eq0

@@ -1,14 +1,7 @@
 use Rattle.std.proofs.Common.{◌≡◌, ◌<◌, ◌∙◌, ◌∷◌, ◌++◌, [], ℕ, suc, ap, sym, length, arith, true, false}
-use Rattle.std.proofs.lemmas.List.{length-append}
-use Rattle.calc_terms.specs.Trees.{nodes}
-use Rattle.expand_forms.specs.PolynomialTrees.{are_polynomials, is_polynomial}
+use Rattle.expand_forms.proofs.Shared.{length-append, nodes, are_polynomials, is_polynomial, root_ids, children_of, nth, plain, rest_trees, tree_at, kids_of, forest}
 use Rattle.expand_forms.proofs.Nodes.{by_children, by_root, fewer_nodes, from, next_is, next_is_not, none_left}
 use Rattle.tree_handles.proofs.NextChildren.{next_child, last_child}
-use Rattle.tree_handles.specs.Children.{root_ids}
-use Rattle.tree_handles.specs.Expressions.{children_of, nth, plain}
-use Rattle.tree_handles.specs.Forest.{rest_trees}
-use Rattle.tree_handles.specs.Inside.{tree_at, kids_of}
-use Rattle.tree_handles.specs.Standing.{forest}
 use Rattle.expand_forms.proofs.polynomial.+is_polynomial.Goals as goal
 
 pub returns-then-not-has_polynomial_root : goal.returns-then-not-has_polynomial_root

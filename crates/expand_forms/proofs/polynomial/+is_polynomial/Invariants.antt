@@ -1,12 +1,6 @@
 use Rattle.std.proofs.Common.{◌≡◌, length}
-use Rattle.calc_terms.specs.Trees.{nodes}
-use Rattle.expand_forms.specs.PolynomialTrees.{are_polynomials, is_polynomial}
+use Rattle.expand_forms.proofs.Shared.{nodes, are_polynomials, is_polynomial, root_ids, children_of, plain, rest_trees, tree_at, kids_of, forest}
 use Rattle.expand_forms.proofs.Nodes.{from}
-use Rattle.tree_handles.specs.Children.{root_ids}
-use Rattle.tree_handles.specs.Expressions.{children_of, plain}
-use Rattle.tree_handles.specs.Forest.{rest_trees}
-use Rattle.tree_handles.specs.Inside.{tree_at, kids_of}
-use Rattle.tree_handles.specs.Standing.{forest}
 use Rattle.expand_forms.proofs.polynomial.+is_polynomial.Given as goal
 
 abbrev pub decreases-is_polynomial : goal.decreases-is_polynomial

@@ -1,8 +1,5 @@
 use Rattle.std.proofs.Common.{◌∙◌, ap, sym}
-use Rattle.calc_measures.specs.Literals.{whole_literal, whole_value}
-use Rattle.calc_terms.specs.Rat.{value_of}
-use Rattle.calc_terms.specs.Trees.{Tree, neg}
-use Rattle.expand_forms.specs.PolynomialTrees.{is_small}
+use Rattle.expand_forms.proofs.Shared.{whole_literal, whole_value, value_of, Tree, neg, is_small}
 use Rattle.expand_forms.proofs.Numbers.{opposite_whole}
 use Rattle.expand_forms.proofs.polynomial.is_opposite_exponent.Goals as goal
 

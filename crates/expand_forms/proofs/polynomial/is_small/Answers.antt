@@ -1,7 +1,6 @@
 use Rattle.std.proofs.Common.{◌∙◌, rules}
 use Rattle.std.specs.Prelude.{FitsSigned}
-use Rattle.std.specs.Int.{w128}
-use Rattle.std.proofs.lemmas.Int.{to_z-of_z}
+use Rattle.expand_forms.proofs.Shared.{w128, to_z-of_z}
 use Rattle.expand_forms.proofs.Numbers.{small_none, small_some}
 use Rattle.expand_forms.proofs.polynomial.is_small.Goals as goal
 

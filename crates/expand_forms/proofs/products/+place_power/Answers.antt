@@ -1,33 +1,12 @@
 use Rattle.std.proofs.Common.{rules, ◌≡◌, ◌+◌, ◌/◌, ◌∙◌, refl, sym, subst, ℕ, ◌<◌, ◌≤◌, ◌*◌, ap, arith, ◌^◌}
-use Rattle.coefficients.proofs.Steps.{one_value}
-use Rattle.expand_forms.specs.Sums.{IsExpanded}
+use Rattle.expand_forms.proofs.Shared.{one_value, IsExpanded, gives_rest, kept_after, IsExpression, plain, Forest, tree_at, forest, behind_new, front_after_one, front_same, given_handed, given_rest, given_told, gives_as, HasFewTerms, sum_bytes, polynomial_of, free_of, OfFull, passed_on, full_as, refusal_as, given_free, one-le-pow, pow-le-pow_right, pow-succ', pow-add, mul-le, IsHeld, IsNoOverflow, product, tree_of}
 use Rattle.expand_forms.proofs.NodeAnswers.{even_half, odd_half, one_power, power_as, power_expanded, power_squared, power_times}
 use Rattle.expand_forms.proofs.TermReadings.{if_ok_map}
-use Rattle.tree_handles.proofs.Beside.{gives_rest}
-use Rattle.tree_handles.proofs.Refused.{kept_after}
-use Rattle.tree_handles.specs.Expressions.{IsExpression, plain}
-use Rattle.tree_handles.specs.Forest.{Forest}
-use Rattle.tree_handles.specs.Inside.{tree_at}
-use Rattle.tree_handles.specs.Standing.{forest}
-use Rattle.tree_handles.proofs.Fronts.{behind_new, front_after_one, front_same}
-use Rattle.tree_handles.proofs.Given.{given_handed, given_rest, given_told, gives_as}
-use Rattle.expand_forms.specs.ExpansionRoom.{HasFewTerms, sum_bytes}
-use Rattle.expand_forms.specs.PolynomialTrees.{polynomial_of}
-use Rattle.node_pool.specs.State.{free_of}
-use Rattle.tree_handles.specs.Lacking.{OfFull}
-use Rattle.tree_handles.proofs.Outcomes.{passed_on}
-use Rattle.number_forms.proofs.Rooms.{full_as, refusal_as}
-use Rattle.tree_handles.proofs.Room.{given_free}
-use Rattle.std.proofs.Math.Nat.{one-le-pow, pow-le-pow_right, pow-succ'}
-use Rattle.std.proofs.lemmas.Nat.{pow-add, mul-le}
 use Rattle.expand_forms.proofs.FewTerms.{answer_few, answer_size, few_raised, some_few}
 use Rattle.expand_forms.proofs.Expansions.{raised_monomials}
 use Rattle.expand_forms.proofs.TermBytes.{terms_rise}
-use Rattle.expand_forms.specs.ExpansionBits.{IsHeld, IsNoOverflow}
-use Rattle.expand_forms.specs.Polynomials.{product}
 use Rattle.expand_forms.proofs.Held.{answer_held, held_product, held_raised}
 use Rattle.expand_forms.proofs.TreeMonomials.{tree_monomials}
-use Rattle.tree_handles.specs.Handed.{tree_of}
 use Rattle.expand_forms.proofs.products.+place_power.Goals as goal
 
 pub returns-then-exponent-eq0-clause-ok : goal.returns-then-exponent-eq0-clause-ok

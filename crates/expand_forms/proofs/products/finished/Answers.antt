@@ -1,18 +1,9 @@
 use Rattle.std.proofs.Common.{rules, ◌≡◌, ◌≤◌, inl, sym, ap, ◌∙◌, refl, arith}
-use Rattle.calc_terms.specs.Trees.{Tree, count, num}
+use Rattle.expand_forms.proofs.Shared.{Tree, count, num, only_child, only_owned, same_plain, read_expression, gives_itself, tree_of, children_of, behind_first, front_same, front_at, front_end, front_put, front_without, front_after, given_root, given_handed, given_told, gives_as, owned, refusal_as, released_free}
 use Rattle.expand_forms.proofs.Expansions.{more_sum, none_sum, one_sum, zero_value}
 use Rattle.expand_forms.proofs.Sums.{sum_is}
-use Rattle.number_forms.proofs.LastSums.{only_child, only_owned}
 use Rattle.number_forms.proofs.Shaped.{two_from}
-use Rattle.number_forms.proofs.SumChanges.{same_plain, read_expression}
 use Rattle.number_forms.proofs.TermTrees.{if_given}
-use Rattle.tree_handles.proofs.Beside.{gives_itself}
-use Rattle.tree_handles.specs.Handed.{tree_of}
-use Rattle.tree_handles.specs.Expressions.{children_of}
-use Rattle.tree_handles.proofs.Fronts.{behind_first, front_same, front_at, front_end, front_put, front_without, front_after}
-use Rattle.tree_handles.proofs.Given.{given_root, given_handed, given_told, gives_as, owned}
-use Rattle.number_forms.proofs.Rooms.{refusal_as}
-use Rattle.tree_handles.proofs.Room.{released_free}
 use Rattle.expand_forms.proofs.Lacks.{number_refused}
 use Rattle.expand_forms.proofs.products.finished.Goals as goal
 

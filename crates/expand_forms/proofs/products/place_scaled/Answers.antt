@@ -1,31 +1,11 @@
 use Rattle.std.proofs.Common.{rules, ◌∙◌, inl, ap, sym, subst, ◌<◌, ◌+◌, arith}
-use Rattle.calc_terms.specs.Rat.{value_of}
-use Rattle.tree_handles.proofs.Seen.{expression, seen}
-use Rattle.expand_forms.specs.ExpandedTrees.{expanded}
-use Rattle.expand_forms.specs.Polynomials.{product, Polynomial, constant}
-use Rattle.expand_forms.specs.PolynomialTrees.{polynomial_of}
-use Rattle.expand_forms.specs.Sums.{IsExpanded}
+use Rattle.expand_forms.proofs.Shared.{value_of, expression, seen, expanded, product, Polynomial, constant, polynomial_of, IsExpanded, gives_without, plain, tree_at, forest, behind_new, front_after, front_at, front_same, front_without, given_handed, given_other, given_rest, given_told, gives_as, owned, Tree, size, HasFewTerms, number_bytes, sum_bytes, free_of, OfFull, passed_on, full_as, given_free, num_most, IsHeld, IsNoOverflow}
 use Rattle.expand_forms.proofs.Expansions.{constant_is_expanded}
 use Rattle.expand_forms.proofs.SameCoefficients.{constant_product}
 use Rattle.expand_forms.proofs.TermReadings.{beside}
-use Rattle.tree_handles.proofs.Beside.{gives_without}
-use Rattle.tree_handles.specs.Expressions.{plain}
-use Rattle.tree_handles.specs.Inside.{tree_at}
-use Rattle.tree_handles.specs.Standing.{forest}
-use Rattle.tree_handles.proofs.Fronts.{behind_new, front_after, front_at, front_same, front_without}
-use Rattle.tree_handles.proofs.Given.{given_handed, given_other, given_rest, given_told, gives_as, owned}
-use Rattle.calc_terms.specs.Trees.{Tree, size}
-use Rattle.expand_forms.specs.ExpansionRoom.{HasFewTerms, number_bytes, sum_bytes}
-use Rattle.node_pool.specs.State.{free_of}
-use Rattle.tree_handles.specs.Lacking.{OfFull}
-use Rattle.tree_handles.proofs.Outcomes.{passed_on}
-use Rattle.number_forms.proofs.Rooms.{full_as}
-use Rattle.tree_handles.proofs.Room.{given_free}
-use Rattle.tree_handles.specs.declared.fault.NumberFault.TheVariants as fault
 use Rattle.expand_forms.proofs.FewTerms.{few_constant}
 use Rattle.expand_forms.proofs.Lacks.{number_refused}
-use Rattle.calc_terms.proofs.Sizes.{num_most}
-use Rattle.expand_forms.specs.ExpansionBits.{IsHeld, IsNoOverflow}
+use Rattle.tree_handles.specs.declared.fault.NumberFault.TheVariants as fault
 use Rattle.expand_forms.proofs.products.place_scaled.Goals as goal
 
 pub place_product-requires : goal.place_product-requires

@@ -1,33 +1,9 @@
 use Rattle.std.proofs.Common.{◌∙◌, ap, refl, sym, subst, ◌<◌, ◌+◌, ◌≤◌, ◌*◌, arith}
-use Rattle.expand_forms.specs.ExpandedTrees.{expanded}
-use Rattle.expand_forms.specs.Polynomials.{product, Polynomial}
-use Rattle.expand_forms.specs.PolynomialTrees.{polynomial_of}
-use Rattle.expand_forms.specs.Sums.{IsExpanded}
+use Rattle.expand_forms.proofs.Shared.{expanded, product, Polynomial, polynomial_of, IsExpanded, gives_rest, kept_after, IsExpression, plain, root_ids, Forest, kids_of_last, tree_at, without_root, forest, behind_new, front_after_one, front_same, given_rest, given_told, gives_as, HasFewTerms, sum_bytes, free_of, OfFull, passed_on, full_as, given_free, mul-le, refused_below, IsHeld, IsNoOverflow, lists_none}
 use Rattle.expand_forms.proofs.Expansions.{empty_sum, nothing_added, sum_same}
-use Rattle.tree_handles.proofs.Beside.{gives_rest}
-use Rattle.tree_handles.proofs.Refused.{kept_after}
-use Rattle.tree_handles.specs.Expressions.{IsExpression, plain}
-use Rattle.tree_handles.specs.Children.{root_ids}
-use Rattle.tree_handles.specs.Forest.{Forest}
-use Rattle.tree_handles.proofs.Lasts.{kids_of_last}
-use Rattle.tree_handles.specs.Inside.{tree_at}
-use Rattle.tree_handles.specs.Roots.{without_root}
-use Rattle.tree_handles.specs.Standing.{forest}
-use Rattle.tree_handles.proofs.Fronts.{behind_new, front_after_one, front_same}
-use Rattle.tree_handles.proofs.Given.{given_rest, given_told, gives_as}
-use Rattle.expand_forms.specs.ExpansionRoom.{HasFewTerms, sum_bytes}
-use Rattle.node_pool.specs.State.{free_of}
-use Rattle.tree_handles.specs.Lacking.{OfFull}
-use Rattle.tree_handles.proofs.Outcomes.{passed_on}
-use Rattle.number_forms.proofs.Rooms.{full_as}
-use Rattle.tree_handles.proofs.Room.{given_free}
-use Rattle.tree_handles.specs.declared.fault.NumberFault.TheVariants as fault
 use Rattle.expand_forms.proofs.FewTerms.{few_append, few_none, few_product, some_few}
 use Rattle.expand_forms.proofs.TermBytes.{some_bytes}
-use Rattle.std.proofs.lemmas.Nat.{mul-le}
-use Rattle.tree_handles.proofs.FreeBytes.{refused_below}
-use Rattle.expand_forms.specs.ExpansionBits.{IsHeld, IsNoOverflow}
-use Rattle.child_lists.proofs.ListedChildren.{lists_none}
+use Rattle.tree_handles.specs.declared.fault.NumberFault.TheVariants as fault
 use Rattle.expand_forms.proofs.products.product_within.Goals as goal
 
 pub new-list-requires : goal.new-list-requires

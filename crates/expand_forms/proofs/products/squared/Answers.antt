@@ -1,22 +1,5 @@
 use Rattle.std.proofs.Common.{rules, ◌∙◌, inl, refl, sym, subst, ◌<◌, ◌*◌}
-use Rattle.tree_handles.proofs.Seen.{expression, seen}
-use Rattle.expand_forms.specs.ExpandedTrees.{expanded}
-use Rattle.expand_forms.specs.Polynomials.{product}
-use Rattle.expand_forms.specs.PolynomialTrees.{polynomial_of}
-use Rattle.expand_forms.specs.Sums.{IsExpanded}
-use Rattle.tree_handles.proofs.Beside.{gives_without}
-use Rattle.tree_handles.proofs.Fronts.{behind_first, front_after, front_at, front_same, front_without}
-use Rattle.tree_handles.proofs.Given.{given_handed, given_other, given_told, gives_as, owned}
-use Rattle.calc_terms.specs.Trees.{Tree}
-use Rattle.expand_forms.specs.ExpansionRoom.{HasFewTerms, sum_bytes}
-use Rattle.node_pool.specs.State.{free_of}
-use Rattle.tree_handles.specs.Lacking.{OfFull}
-use Rattle.tree_handles.proofs.Outcomes.{passed_on}
-use Rattle.expand_forms.specs.ExpansionBits.{IsHeld, IsNoOverflow}
-use Rattle.tree_handles.specs.Expressions.{plain}
-use Rattle.tree_handles.specs.Inside.{tree_at}
-use Rattle.tree_handles.specs.Handed.{tree_of}
-use Rattle.tree_handles.specs.Standing.{forest}
+use Rattle.expand_forms.proofs.Shared.{expression, seen, expanded, product, polynomial_of, IsExpanded, gives_without, behind_first, front_after, front_at, front_same, front_without, given_handed, given_other, given_told, gives_as, owned, Tree, HasFewTerms, sum_bytes, free_of, OfFull, passed_on, IsHeld, IsNoOverflow, plain, tree_at, tree_of, forest}
 use Rattle.expand_forms.proofs.products.squared.Goals as goal
 
 pub place_product-requires : goal.place_product-requires

@@ -1,13 +1,7 @@
 use Rattle.std.proofs.Common.{◌≡◌, ℕ, ℤ, pos, negsuc, zero, suc, Bool, true, false, ◌&&◌, refl, sym, ap, ◌∙◌, rules, FitsSigned, of_z, to_z, nat_eq}
-use Rattle.std.specs.Int.{w128}
 use Rattle.std.specs.Prelude.{◌==◌}
-use Rattle.std.proofs.lemmas.Bool.{eqb-true, eq-eqb}
-use Rattle.std.proofs.lemmas.Int.{to_z-of_z}
-use Rattle.calc_terms.specs.Integers.{int_is_one}
-use Rattle.calc_terms.specs.Rat.{value_of}
+use Rattle.expand_forms.proofs.Shared.{w128, eqb-true, eq-eqb, to_z-of_z, int_is_one, value_of, ratio_parts, by_test}
 use Rattle.number_forms.proofs.CodeTests.{unequal}
-use Rattle.rational128.proofs.LowestTerms.{ratio_parts}
-use Rattle.tree_handles.proofs.Outcomes.{by_test}
 use Rattle.expand_forms.proofs.rationals.is_one.Goals as goal
 
 one_of : {a b : ℕ} → pos a ≡ pos b → a ≡ b

@@ -1,9 +1,6 @@
 use Rattle.std.proofs.Common.{◌∙◌, ap, sym, rules}
 use Rattle.std.specs.Prelude.{FitsSigned}
-use Rattle.std.specs.Int.{w128}
-use Rattle.std.proofs.lemmas.Int.{to_z-of_z}
-use Rattle.calc_terms.specs.Integers.{int_is_zero}
-use Rattle.rational128.proofs.LowestTerms.{ratio_parts}
+use Rattle.expand_forms.proofs.Shared.{w128, to_z-of_z, int_is_zero, ratio_parts}
 use Rattle.expand_forms.proofs.rationals.is_zero.Goals as goal
 
 pub returns : goal.returns

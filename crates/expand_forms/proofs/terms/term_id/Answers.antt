@@ -1,11 +1,7 @@
 use Rattle.std.proofs.Common.{rules, ◌<◌, sym, ◌∙◌, subst}
-use Rattle.calc_terms.specs.Trees.{Trees, count}
-use Rattle.tree_handles.proofs.Seen.{sum_kind}
+use Rattle.expand_forms.proofs.Shared.{Trees, count, sum_kind, plain, tree_at, forest}
 use Rattle.expand_forms.proofs.TermReadings.{sum_terms_in}
 use Rattle.expand_forms.proofs.Within.{inside_child, inside_itself}
-use Rattle.tree_handles.specs.Expressions.{plain}
-use Rattle.tree_handles.specs.Inside.{tree_at}
-use Rattle.tree_handles.specs.Standing.{forest}
 use Rattle.expand_forms.proofs.terms.term_id.Goals as goal
 
 pub child-requires : goal.child-requires

@@ -1,4 +1,4 @@
-use Rattle.tree_handles.proofs.Given.{given_handed}
+use Rattle.expand_forms.proofs.Shared.{given_handed}
 use Rattle.expand_forms.proofs.tests.answer.Goals as goal
 
 pub root_of-requires-clause-handed : goal.root_of-requires-clause-handed

@@ -1,7 +1,5 @@
 use Rattle.std.proofs.Common.{◌∙◌, sym, ap}
-use Rattle.tree_handles.proofs.Seen.{expression, seen}
-use Rattle.expand_forms.specs.PolynomialTrees.{is_polynomial}
-use Rattle.tree_handles.proofs.Given.{given_handed, given_other, given_rest, handed_at}
+use Rattle.expand_forms.proofs.Shared.{expression, seen, is_polynomial, given_handed, given_other, given_rest, handed_at}
 use Rattle.expand_forms.proofs.tests.expands_to.Goals as goal
 
 pub root_of-requires-clause-handed : goal.root_of-requires-clause-handed

@@ -1,7 +1,5 @@
 use Rattle.std.proofs.Common.{ℕ, sym, subst}
-use Rattle.tree_handles.proofs.Lasts.{expression_root}
-use Rattle.tree_handles.specs.Expressions.{IsExpression}
-use Rattle.tree_handles.specs.Standing.{forest}
+use Rattle.expand_forms.proofs.Shared.{expression_root, IsExpression, forest}
 use Rattle.expand_forms.proofs.tests.root_of.Goals as goal
 
 pub returns-clause-expression : goal.returns-clause-expression

@@ -1,23 +1,11 @@
 use Rattle.std.proofs.Common.{◌≡◌, ◌∙◌, true, ap, sym, subst, arith, rules}
-use Rattle.calc_algebra.specs.Numbers.{is_number}
-use Rattle.calc_algebra.specs.Reduced.{is_reduced}
-use Rattle.calc_room.specs.Spans.{SpansRoot, SpansTree}
-use Rattle.calc_terms.specs.Trees.{Trees, count, size}
+use Rattle.like_children.proofs.Shared.{is_number, is_reduced, SpansRoot, SpansTree, Trees, count, size, LeavesChildren, IsJoint, children_of, tree_of, without_root, forest, keeps_none, keeps_after, front_same, given_handed, given_told}
 use Rattle.coefficients.proofs.Named.{fault_named}
-use Rattle.like_children.specs.Children.{LeavesChildren}
-use Rattle.like_children.specs.Joining.{IsJoint}
 use Rattle.like_children.proofs.SoFar.{base, begun, none_so_far, one_more, next_named, next_few, all_done, parts_taken, left_many, next_out, left_more, left_front, at_hand}
 use Rattle.like_children.proofs.Folds.{begun_with, fold_more, fold_faulted, fold_done, no_numbers}
 use Rattle.like_children.proofs.Kids.{count_removed, each_removed}
 use Rattle.like_children.proofs.Many.{many_handed, many_children, child_within}
 use Rattle.number_forms.proofs.Rooms.{full_as}
-use Rattle.tree_handles.specs.Expressions.{children_of}
-use Rattle.tree_handles.specs.Handed.{tree_of}
-use Rattle.tree_handles.specs.Roots.{without_root}
-use Rattle.tree_handles.specs.Standing.{forest}
-use Rattle.tree_handles.proofs.Forests.{keeps_none, keeps_after}
-use Rattle.tree_handles.proofs.Fronts.{front_same}
-use Rattle.tree_handles.proofs.Given.{given_handed, given_told}
 use Rattle.like_children.proofs.collecting.collect_numbers.Goals as goal
 
 pub loop-at-init : goal.loop-at-init

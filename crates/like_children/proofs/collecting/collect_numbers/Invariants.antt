@@ -1,14 +1,5 @@
 use Rattle.std.proofs.Common.{ℕ, List, ◌≡◌, ◌<◌, true, [], ◌∷◌}
-use Rattle.calc_measures.specs.PlainValues.{fold_values}
-use Rattle.calc_room.specs.Spans.{SpansTree, SpansTrees}
-use Rattle.calc_terms.specs.Trees.{count, is_num, are_rationals}
-use Rattle.calc_algebra.specs.Reduced.{is_reduced}
-use Rattle.tree_handles.specs.Expressions.{nth, children_of}
-use Rattle.tree_handles.specs.Handed.{tree_of, KeepsFront}
-use Rattle.tree_handles.specs.Roots.{without_root}
-use Rattle.tree_handles.specs.Standing.{Stands, forest, KeepsRefusals}
-use Rattle.like_children.specs.Children.{LeavesChildren}
-use Rattle.like_children.specs.Folds.{AreFolded, rational_of, rationals_of}
+use Rattle.like_children.proofs.Shared.{fold_values, SpansTree, SpansTrees, count, is_num, are_rationals, is_reduced, nth, children_of, tree_of, KeepsFront, without_root, Stands, forest, KeepsRefusals, LeavesChildren, AreFolded, rational_of, rationals_of}
 use Rattle.like_children.proofs.SoFar.{IsSoFar}
 use Rattle.like_children.proofs.collecting.collect_numbers.Given as goal
 

@@ -1,8 +1,5 @@
 use Rattle.std.proofs.Common.{suc, ◌∙◌, sym, subst, arith, add-one}
-use Rattle.tree_handles.specs.Expressions.{children_of}
-use Rattle.tree_handles.specs.Handed.{tree_of}
-use Rattle.tree_handles.specs.Standing.{forest}
-use Rattle.like_children.specs.Neighbours.{are_alike}
+use Rattle.like_children.proofs.Shared.{children_of, tree_of, forest, are_alike}
 use Rattle.like_children.proofs.Items.{root_live, children_count, next_child, last_child, children_told}
 use Rattle.like_children.proofs.Pairs.{key_valid, key_as, one_key, no_pair_more}
 use Rattle.like_children.proofs.neighbours.next_pair.Goals as goal

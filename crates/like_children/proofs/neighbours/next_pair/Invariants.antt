@@ -1,12 +1,5 @@
 use Rattle.std.proofs.Common.{suc, ◌≤◌, ◌≡◌}
-use Rattle.tree_handles.specs.Children.{root_ids}
-use Rattle.tree_handles.specs.Expressions.{nth, children_of}
-use Rattle.tree_handles.specs.Forest.{rest_trees}
-use Rattle.tree_handles.specs.Handed.{tree_of}
-use Rattle.tree_handles.specs.Inside.{kids_of}
-use Rattle.tree_handles.specs.Standing.{forest}
-use Rattle.like_children.specs.Keyed.{IsKeyOf}
-use Rattle.like_children.specs.Neighbours.{are_alike, NoPairBetween}
+use Rattle.like_children.proofs.Shared.{root_ids, nth, children_of, rest_trees, tree_of, kids_of, forest, IsKeyOf, are_alike, NoPairBetween}
 use Rattle.like_children.proofs.neighbours.next_pair.Given as goal
 
 abbrev pub invariant-loop-at : goal.invariant-loop-at

@@ -1,8 +1,5 @@
 use Rattle.std.proofs.Common.{ap, ◌∙◌, sym, arith, add-one}
-use Rattle.calc_algebra.specs.Numbers.{is_number}
-use Rattle.calc_algebra.specs.Reduced.{is_reduced}
-use Rattle.tree_handles.specs.Expressions.{children_of}
-use Rattle.tree_handles.specs.Handed.{tree_of}
+use Rattle.like_children.proofs.Shared.{is_number, is_reduced, children_of, tree_of}
 use Rattle.like_children.proofs.Items.{root_live, children_count, children_told, next_child, last_child}
 use Rattle.like_children.proofs.Before.{no_number_more}
 use Rattle.like_children.proofs.numbers.next_number.Goals as goal

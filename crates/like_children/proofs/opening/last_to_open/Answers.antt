@@ -1,12 +1,9 @@
 use Rattle.std.proofs.Common.{sym, subst, arith, add-one}
-use Rattle.calc_terms.specs.Trees.{Tree}
-use Rattle.like_children.specs.Opening.{Opens}
-use Rattle.tree_handles.specs.Expressions.{children_of}
-use Rattle.tree_handles.specs.Handed.{tree_of}
+use Rattle.like_children.proofs.Shared.{Tree, Opens, children_of, tree_of}
 use Rattle.like_children.proofs.Items.{root_live, next_child, last_child}
 use Rattle.like_children.proofs.Openings.{last_still, last_here}
-use Rattle.like_children.proofs.opening.last_to_open.Goals as goal
 use Rattle.like_children.proofs.opening.last_to_open.Goals.{then-opens, else-opens}
+use Rattle.like_children.proofs.opening.last_to_open.Goals as goal
 
 pub child_ids-ids-requires-clause-live : goal.child_ids-ids-requires-clause-live
 child_ids-ids-requires-clause-live g c = root_live c.args.pool.now c.id.ensures c.requires.handed

@@ -1,11 +1,5 @@
 use Rattle.std.proofs.Common.{◌≡◌, MatchOption}
-use Rattle.tree_handles.specs.Children.{root_ids}
-use Rattle.tree_handles.specs.Expressions.{children_of}
-use Rattle.tree_handles.specs.Forest.{rest_trees}
-use Rattle.tree_handles.specs.Handed.{tree_of}
-use Rattle.tree_handles.specs.Inside.{kids_of}
-use Rattle.tree_handles.specs.Standing.{forest}
-use Rattle.like_children.specs.Opening.{NoneOpensBetween, IsLastToOpen}
+use Rattle.like_children.proofs.Shared.{root_ids, children_of, rest_trees, tree_of, kids_of, forest, NoneOpensBetween, IsLastToOpen}
 use Rattle.like_children.proofs.opening.last_to_open.Given as goal
 
 abbrev pub invariant-loop-at : goal.invariant-loop-at

@@ -1,10 +1,5 @@
 use Rattle.std.proofs.Common.{◌≤◌}
-use Rattle.calc_terms.specs.Trees.{count}
-use Rattle.coefficients.proofs.Openings.{opened_from}
-use Rattle.tree_handles.specs.Expressions.{children_of}
-use Rattle.tree_handles.specs.Handed.{tree_of}
-use Rattle.tree_handles.specs.Standing.{Stands, forest, KeepsRefusals}
-use Rattle.like_children.specs.Children.{HasChildren}
+use Rattle.like_children.proofs.Shared.{count, opened_from, children_of, tree_of, Stands, forest, KeepsRefusals, HasChildren}
 use Rattle.like_children.proofs.opening.open_children.Given as goal
 
 abbrev pub invariant-loop-at : goal.invariant-loop-at

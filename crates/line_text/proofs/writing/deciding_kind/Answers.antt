@@ -1,9 +1,5 @@
 use Rattle.std.proofs.Common.{cond, sym, ap, ◌∙◌, Bool}
-use Rattle.calc_terms.specs.Trees.{root_kind}
-use Rattle.line_text.specs.Places.{kind_behind_opposites}
-use Rattle.tree_handles.specs.Expressions.{plain}
-use Rattle.tree_handles.specs.Inside.{tree_at}
-use Rattle.tree_handles.specs.Standing.{forest}
+use Rattle.line_text.proofs.Shared.{root_kind, kind_behind_opposites, plain, tree_at, forest}
 use Rattle.line_text.proofs.Trees.{kind_told}
 use Rattle.line_text.proofs.writing.deciding_kind.Goals as goal
 

@@ -1,7 +1,5 @@
 use Rattle.std.proofs.Common.{refl}
-use Rattle.tree_handles.specs.Inside.{tree_at}
-use Rattle.tree_handles.specs.Standing.{forest}
-use Rattle.tree_handles.proofs.Measures.{one_at}
+use Rattle.line_text.proofs.Shared.{tree_at, forest, one_at}
 use Rattle.line_text.proofs.Trees.{behind_opposite, no_opposite, some_behind}
 use Rattle.line_text.proofs.writing.kind_behind_opposites.Goals as goal
 

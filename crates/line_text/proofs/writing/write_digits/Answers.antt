@@ -1,5 +1,5 @@
 use Rattle.std.proofs.Common.{◌∙◌, List, ℕ, length, ap, arith}
-use Rattle.line_text.specs.Content.{extended}
+use Rattle.line_text.proofs.Shared.{extended}
 use Rattle.line_text.proofs.Leaves.{digits_are}
 use Rattle.line_text.proofs.writing.write_digits.Goals as goal
 

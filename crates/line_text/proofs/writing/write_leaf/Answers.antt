@@ -1,8 +1,5 @@
 use Rattle.std.proofs.Common.{◌∙◌, ℕ, List, length, sym, ap, arith}
-use Rattle.tree_handles.specs.declared.visits.Visit.{Visit}
-use Rattle.tree_handles.proofs.Readings.{number_seen, symbol_seen}
-use Rattle.line_text.specs.Content.{extended}
-use Rattle.line_text.specs.Pending.{leaf_text}
+use Rattle.line_text.proofs.Shared.{Visit, number_seen, symbol_seen, extended, leaf_text}
 use Rattle.line_text.proofs.Trees.{number_here}
 use Rattle.line_text.proofs.writing.write_leaf.Goals as goal
 

@@ -1,12 +1,5 @@
 use Rattle.std.proofs.Common.{◌∙◌, ◌++◌, ℕ, List, length, ap, arith}
-use Rattle.std.proofs.lemmas.List.{length-append}
-use Rattle.line_text.specs.declared.place.Pending.{Pending}
-use Rattle.tree_handles.specs.Expressions.{plain, children_of}
-use Rattle.tree_handles.specs.Inside.{tree_at}
-use Rattle.tree_handles.specs.Standing.{forest}
-use Rattle.line_text.specs.Content.{Content}
-use Rattle.line_text.specs.Pending.{leaf_text, opening, owed_text}
-use Rattle.line_text.specs.Places.{admits_kind}
+use Rattle.line_text.proofs.Shared.{length-append, Pending, plain, children_of, tree_at, forest, Content, leaf_text, opening, owed_text, admits_kind}
 use Rattle.line_text.proofs.Parts.{node_written, node_room}
 use Rattle.line_text.proofs.Trees.{kind_told}
 use Rattle.line_text.proofs.writing.write_node.Goals as goal

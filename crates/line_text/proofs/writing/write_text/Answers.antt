@@ -1,9 +1,5 @@
 use Rattle.std.proofs.Common.{◌∙◌, ap, arith}
-use Rattle.calc_language.specs.Texts.{text}
-use Rattle.tree_handles.specs.Expressions.{plain}
-use Rattle.tree_handles.specs.Inside.{tree_at}
-use Rattle.tree_handles.specs.Standing.{forest}
-use Rattle.line_text.specs.Content.{Content, spare_of, extended}
+use Rattle.line_text.proofs.Shared.{text, plain, tree_at, forest, Content, spare_of, extended}
 use Rattle.line_text.proofs.writing.write_text.Goals as goal
 
 pub write_tree-requires-clause-room : goal.write_tree-requires-clause-room

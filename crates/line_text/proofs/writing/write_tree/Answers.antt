@@ -1,16 +1,5 @@
 use Rattle.std.proofs.Common.{◌≡◌, ◌∙◌, ◌+◌, ◌++◌, ℕ, Bool, List, [], ◌∷◌, length, refl, sym, ap, subst, arith, append-nil}
-use Rattle.std.proofs.lemmas.List.{length-append}
-use Rattle.calc_language.specs.Texts.{text}
-use Rattle.tree_handles.specs.declared.visits.Visit.{Visit}
-use Rattle.tree_handles.specs.Expressions.{plain}
-use Rattle.tree_handles.specs.Forest.{nodes_in}
-use Rattle.tree_handles.specs.Inside.{tree_at}
-use Rattle.tree_handles.specs.Standing.{forest}
-use Rattle.tree_handles.specs.Visits.{visits_of}
-use Rattle.tree_handles.proofs.Measures.{one_at}
-use Rattle.tree_handles.proofs.Visiting.{found, some_next, next_is}
-use Rattle.line_text.specs.declared.place.Pending.{Pending}
-use Rattle.line_text.specs.Content.{Content, extended}
+use Rattle.line_text.proofs.Shared.{length-append, text, Visit, plain, nodes_in, tree_at, forest, visits_of, one_at, found, some_next, next_is, Pending, Content, extended}
 use Rattle.line_text.proofs.Parts.{closing}
 use Rattle.line_text.proofs.Fitting.{has_room, many_bytes}
 use Rattle.line_text.proofs.Walks.{IsWalk, taken, start, closed, some_left, entered, room, closing_room, below, done}

@@ -1,9 +1,5 @@
 use Rattle.std.proofs.Common.{◌≡◌, ◌+◌, ◌*◌, ◌≤◌, ◌++◌, length, vec_capacity}
-use Rattle.calc_language.specs.Texts.{text}
-use Rattle.tree_handles.specs.Expressions.{plain}
-use Rattle.tree_handles.specs.Forest.{nodes_in}
-use Rattle.tree_handles.specs.Inside.{tree_at}
-use Rattle.tree_handles.specs.Standing.{forest}
+use Rattle.line_text.proofs.Shared.{text, plain, nodes_in, tree_at, forest}
 use Rattle.line_text.proofs.Walks.{IsWalk}
 use Rattle.line_text.proofs.writing.write_tree.Given as goal
 

@@ -1,7 +1,5 @@
 use Rattle.std.proofs.Common.{◌≡◌, ◌+◌, ◌-◌, Ok, length, map, take}
-use Rattle.linear_solve.specs.Elimination.{cleared, others}
-use Rattle.linear_solve.specs.Fitting.{each}
-use Rattle.linear_solve.specs.Told.{entries_of}
+use Rattle.linear_solve.proofs.Shared.{cleared, others, each, entries_of}
 use Rattle.linear_solve.proofs.elimination.cleared_others.Given as goal
 
 abbrev pub invariant-loop-place : goal.invariant-loop-place

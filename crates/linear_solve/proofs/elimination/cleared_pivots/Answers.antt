@@ -1,8 +1,5 @@
 use Rattle.std.proofs.Common.{◌<◌, ◌+◌, None, ap, ◌∙◌, map, length, arith}
-use Rattle.std.proofs.lemmas.Result.{err_from_is_err_and}
-use Rattle.std.proofs.lemmas.List.{length-map}
-use Rattle.linear_solve.specs.Elimination.{cleared_pivot}
-use Rattle.linear_solve.specs.Told.{entries_of, misfit_of, pivot_of}
+use Rattle.linear_solve.proofs.Shared.{err_from_is_err_and, length-map, cleared_pivot, entries_of, misfit_of, pivot_of}
 use Rattle.linear_solve.proofs.Calculations.{each_more, each_stops}
 use Rattle.linear_solve.proofs.RowLists.{mapped_push, read_row}
 use Rattle.linear_solve.proofs.elimination.cleared_pivots.Goals as goal

@@ -1,12 +1,7 @@
 use Rattle.std.proofs.Common.{◌+◌, arith}
-use Rattle.breakers.proofs.Runs.{CalmChecks-append}
-use Rattle.breakers.specs.Watch.{states}
-use Rattle.calc_terms.specs.Trees.{nodes}
-use Rattle.linear_solve.specs.declared.fault.SolveFault.TheVariants as fault
+use Rattle.linear_solve.proofs.Shared.{CalmChecks-append, states, nodes, plain, tree_at, forest}
 use Rattle.linear_solve.proofs.Walks.{handed_on, stops_after}
-use Rattle.tree_handles.specs.Expressions.{plain}
-use Rattle.tree_handles.specs.Inside.{tree_at}
-use Rattle.tree_handles.specs.Standing.{forest}
+use Rattle.linear_solve.specs.declared.fault.SolveFault.TheVariants as fault
 use Rattle.linear_solve.proofs.equations.difference_row.Goals as goal
 
 pub returns-in_err-side_row-2-clause-stops : goal.returns-in_err-side_row-2-clause-stops

@@ -1,21 +1,10 @@
 use Rattle.std.proofs.Common.{◌≡◌, ◌<◌, ◌+◌, length, map, take, get_or, sym, ap, subst, ◌∙◌, arith}
 use Rattle.std.specs.Prelude.{sum_by}
-use Rattle.std.proofs.lemmas.List.{length-map}
-use Rattle.std.proofs.lemmas.List.Elements.{All-get_or}
-use Rattle.breakers.proofs.Runs.{CalmChecks-append}
-use Rattle.breakers.specs.Breakers.{CalmChecks}
-use Rattle.breakers.specs.Watch.{states}
-use Rattle.calc_terms.specs.Leaf.{name_of}
-use Rattle.calc_terms.specs.Trees.{nodes}
-use Rattle.linear_solve.specs.Equations.{Equation, IsLinearIn, equation_at, equations_in, nodes_of_sides}
-use Rattle.linear_solve.specs.Told.{entries_of, misfit_of}
+use Rattle.linear_solve.proofs.Shared.{length-map, All-get_or, CalmChecks-append, CalmChecks, states, name_of, nodes, Equation, IsLinearIn, equation_at, equations_in, nodes_of_sides, entries_of, misfit_of, plain, tree_at, forest}
 use Rattle.linear_solve.proofs.EquationRows.{all_equations, broken_equation, equation_here, equations_long, next_equation, nodes_all, nodes_more, nodes_within}
 use Rattle.linear_solve.proofs.RowLists.{mapped_push}
 use Rattle.linear_solve.proofs.Theorem.{difference_long, no_equation}
 use Rattle.linear_solve.proofs.Walks.{handed_on, overflow_as, stops_after}
-use Rattle.tree_handles.specs.Expressions.{plain}
-use Rattle.tree_handles.specs.Inside.{tree_at}
-use Rattle.tree_handles.specs.Standing.{forest}
 use Rattle.linear_solve.proofs.equations.equation_rows.Goals as goal
 
 pub difference_row-requires-clause-left_linear : goal.difference_row-requires-clause-left_linear

@@ -1,15 +1,6 @@
 use Rattle.std.proofs.Common.{◌≡◌, ◌+◌, ℕ, Ok, length, map, take}
 use Rattle.std.specs.Prelude.{sum_by}
-use Rattle.std.specs.List.{enumerate_from}
-use Rattle.breakers.specs.Breakers.{CalmChecks}
-use Rattle.breakers.specs.Watch.{states}
-use Rattle.calc_terms.specs.Leaf.{name_of}
-use Rattle.calc_terms.specs.Trees.{nodes}
-use Rattle.linear_solve.specs.Elimination.{equation_row}
-use Rattle.linear_solve.specs.Equations.{Equation, equations_in}
-use Rattle.linear_solve.specs.Fitting.{each}
-use Rattle.linear_solve.specs.Told.{entries_of}
-use Rattle.tree_handles.specs.Standing.{forest}
+use Rattle.linear_solve.proofs.Shared.{enumerate_from, CalmChecks, states, name_of, nodes, equation_row, Equation, equations_in, each, entries_of, forest}
 use Rattle.linear_solve.proofs.equations.equation_rows.Given as goal
 
 abbrev pub invariant-loop-at : goal.invariant-loop-at

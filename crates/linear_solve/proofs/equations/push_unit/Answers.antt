@@ -1,10 +1,5 @@
 use Rattle.std.proofs.Common.{◌≡◌, ◌<◌, ◌++◌, ◌∷◌, [], length, take, sym, ap, ◌∙◌, append_assoc, arith}
-use Rattle.std.proofs.lemmas.List.{take_all, take_more}
-use Rattle.calc_terms.specs.Fractions.{zero_fraction}
-use Rattle.calc_terms.specs.Rat.{value_of}
-use Rattle.linear_solve.specs.Elimination.{unit}
-use Rattle.linear_solve.specs.Rows.{entry}
-use Rattle.linear_solve.specs.Told.{entries_of}
+use Rattle.linear_solve.proofs.Shared.{take_all, take_more, zero_fraction, value_of, unit, entry, entries_of}
 use Rattle.linear_solve.proofs.RowLists.{unit_entry}
 use Rattle.linear_solve.proofs.Worths.{length-unit}
 use Rattle.linear_solve.proofs.equations.push_unit.Goals as goal

@@ -1,6 +1,5 @@
 use Rattle.std.proofs.Common.{◌≡◌, ◌++◌, take}
-use Rattle.linear_solve.specs.Elimination.{unit}
-use Rattle.linear_solve.specs.Told.{entries_of}
+use Rattle.linear_solve.proofs.Shared.{unit, entries_of}
 use Rattle.linear_solve.proofs.equations.push_unit.Given as goal
 
 abbrev pub invariant-loop-at : goal.invariant-loop-at

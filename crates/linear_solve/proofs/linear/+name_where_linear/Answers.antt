@@ -1,11 +1,7 @@
 use Rattle.std.proofs.Common.{◌≡◌, ◌<◌, ◌≤◌, sym, ap, ◌∙◌, arith, None, Some}
-use Rattle.calc_terms.specs.Trees.{count, nodes}
-use Rattle.linear_solve.specs.Linear.{name_where_linear}
+use Rattle.linear_solve.proofs.Shared.{count, nodes, name_where_linear, children_of, nth, plain, tree_at, forest}
 use Rattle.linear_solve.proofs.LinearNodes.{asked, asked_all, asked_clash, asked_end, asked_next, asked_none}
 use Rattle.linear_solve.proofs.TreeLists.{fewer_nodes, listed}
-use Rattle.tree_handles.specs.Expressions.{children_of, nth, plain}
-use Rattle.tree_handles.specs.Inside.{tree_at}
-use Rattle.tree_handles.specs.Standing.{forest}
 use Rattle.linear_solve.proofs.linear.+name_where_linear.Goals as goal
 
 pub loop-at-init : goal.loop-at-init

@@ -1,9 +1,7 @@
 use Rattle.std.proofs.Common.{◌≡◌, ℤ, pos, negsuc, zero, suc, refl, sym, ap, ◌∙◌, rules, FitsSigned, of_z, to_z, nat_eq}
+use Rattle.linear_solve.proofs.Shared.{ne_eqb, int_is_zero, ratio_parts}
 use Rattle.std.specs.Int.{w128}
-use Rattle.std.proofs.lemmas.Bool.{ne_eqb}
 use Rattle.std.proofs.lemmas.Int.{to_z-of_z}
-use Rattle.calc_terms.specs.Integers.{int_is_zero}
-use Rattle.rational128.proofs.LowestTerms.{ratio_parts}
 use Rattle.linear_solve.proofs.row.is_zero.Goals as goal
 
 -- the bits of an integer are 0 only where it is

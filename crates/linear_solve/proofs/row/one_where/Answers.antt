@@ -1,5 +1,5 @@
 use Rattle.std.proofs.Common.{sym, ap, ◌∙◌, if◌then◌else◌}
-use Rattle.calc_terms.specs.Fractions.{one_fraction, zero_fraction}
+use Rattle.linear_solve.proofs.Shared.{one_fraction, zero_fraction}
 use Rattle.linear_solve.proofs.Entries.{one_value, zero_value}
 use Rattle.linear_solve.proofs.row.one_where.Goals as goal
 

@@ -1,20 +1,8 @@
 use Rattle.std.proofs.Common.{◌<◌, ◌≤◌, refl, length, map, take, sym, ap, ◌∙◌, subst, arith}
-use Rattle.std.proofs.lemmas.List.{length-map}
-use Rattle.breakers.proofs.Runs.{CalmChecks-append}
-use Rattle.breakers.specs.Breakers.{CalmChecks}
-use Rattle.breakers.specs.Watch.{states}
-use Rattle.calc_terms.specs.Leaf.{name_of}
-use Rattle.calc_terms.specs.Trees.{count, nodes}
-use Rattle.linear_solve.specs.declared.fault.SolveFault.TheVariants as fault
-use Rattle.linear_solve.specs.Faults.{StopsWithin}
-use Rattle.linear_solve.specs.Linear.{is_linear}
-use Rattle.linear_solve.specs.Sides.{row_of}
-use Rattle.linear_solve.specs.Told.{misfit_of, side_of, side_told}
+use Rattle.linear_solve.proofs.Shared.{length-map, CalmChecks-append, CalmChecks, states, name_of, count, nodes, StopsWithin, is_linear, row_of, misfit_of, side_of, side_told, children_of, nth, plain, tree_at, forest}
 use Rattle.linear_solve.proofs.TreeLists.{fewer_nodes, listed, node_sum, node_sum_more}
 use Rattle.linear_solve.proofs.Walks.{all_nodes, child_linear, child_misfit, divisor_at, handed_on, more_nodes, next_made, none_made, one_calm, overflow_as, own_made, own_misfit, stops_after, trips_after}
-use Rattle.tree_handles.specs.Expressions.{children_of, nth, plain}
-use Rattle.tree_handles.specs.Inside.{tree_at}
-use Rattle.tree_handles.specs.Standing.{forest}
+use Rattle.linear_solve.specs.declared.fault.SolveFault.TheVariants as fault
 use Rattle.linear_solve.proofs.sides.+side_row.Goals as goal
 
 pub loop-at-init : goal.loop-at-init

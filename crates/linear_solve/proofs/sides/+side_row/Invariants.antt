@@ -1,14 +1,7 @@
 use Rattle.std.proofs.Common.{map, take}
-use Rattle.breakers.specs.Breakers.{CalmChecks}
-use Rattle.breakers.specs.Watch.{states}
-use Rattle.calc_terms.specs.Leaf.{name_of}
-use Rattle.calc_terms.specs.Trees.{nodes}
-use Rattle.linear_solve.specs.Told.{side_told}
+use Rattle.linear_solve.proofs.Shared.{CalmChecks, states, name_of, nodes, side_told, plain, children_of, tree_at, forest}
 use Rattle.linear_solve.proofs.TreeLists.{listed, node_sum}
 use Rattle.linear_solve.proofs.Walks.{AreMade}
-use Rattle.tree_handles.specs.Expressions.{plain, children_of}
-use Rattle.tree_handles.specs.Inside.{tree_at}
-use Rattle.tree_handles.specs.Standing.{forest}
 use Rattle.linear_solve.proofs.sides.+side_row.Given as goal
 
 abbrev pub decreases-side_row : goal.decreases-side_row

@@ -1,13 +1,7 @@
 use Rattle.std.proofs.Common.{◌≡◌, map, refl, sym, ap, ◌∙◌}
-use Rattle.calc_terms.specs.declared.kind.Kind.TheVariants as kind
-use Rattle.calc_terms.specs.Leaf.{name_of}
-use Rattle.calc_terms.specs.Trees.{Tree, num, symbol, mult, root_kind}
-use Rattle.calc_terms.specs.Fractions.{one_fraction, zero_fraction}
-use Rattle.linear_solve.specs.Sides.{Names, bare_row, constant_row}
+use Rattle.linear_solve.proofs.Shared.{name_of, Tree, num, symbol, mult, root_kind, one_fraction, zero_fraction, Names, bare_row, constant_row, plain, tree_at, forest}
 use Rattle.linear_solve.proofs.Entries.{one_value, zero_value}
-use Rattle.tree_handles.specs.Expressions.{plain}
-use Rattle.tree_handles.specs.Inside.{tree_at}
-use Rattle.tree_handles.specs.Standing.{forest}
+use Rattle.calc_terms.specs.declared.kind.Kind.TheVariants as kind
 use Rattle.linear_solve.proofs.sides.bare_row.Goals as goal
 
 product_bare : (xs : Names) (t : Tree) → kind.Mult ≡ root_kind t → bare_row xs t ≡ constant_row xs one_fraction

@@ -1,11 +1,5 @@
 use Rattle.std.proofs.Common.{◌≡◌, ◌<◌, ◌+◌, ◌++◌, ◌∷◌, [], List, ℕ, None, Option, length, map, sym, ap, ◌∙◌, zero-add, arith, get_or}
-use Rattle.std.specs.List.{enumerate_from}
-use Rattle.std.proofs.lemmas.List.{get_or-map, length-map, take_all, take_more}
-use Rattle.std.proofs.lemmas.List.FromFn.{get_or-enumerate_from, length-enumerate_from}
-use Rattle.linear_solve.specs.Forms.{form_of, forms_of, free}
-use Rattle.linear_solve.specs.Rows.{Row}
-use Rattle.linear_solve.specs.Solutions.{form_told}
-use Rattle.linear_solve.specs.Told.{pivot_of}
+use Rattle.linear_solve.proofs.Shared.{enumerate_from, get_or-map, length-map, take_all, take_more, get_or-enumerate_from, length-enumerate_from, form_of, forms_of, free, Row, form_told, pivot_of}
 use Rattle.linear_solve.proofs.RowLists.{mapped_push, read_row}
 use Rattle.linear_solve.proofs.solution.lines.Goals as goal
 

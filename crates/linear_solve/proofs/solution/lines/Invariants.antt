@@ -1,7 +1,5 @@
 use Rattle.std.proofs.Common.{◌≡◌, length, map, take}
-use Rattle.linear_solve.specs.Forms.{forms_of}
-use Rattle.linear_solve.specs.Solutions.{form_told}
-use Rattle.linear_solve.specs.Told.{pivot_of}
+use Rattle.linear_solve.proofs.Shared.{forms_of, form_told, pivot_of}
 use Rattle.linear_solve.proofs.solution.lines.Given as goal
 
 abbrev pub invariant-loop-at : goal.invariant-loop-at

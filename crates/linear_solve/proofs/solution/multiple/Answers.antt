@@ -1,8 +1,5 @@
 use Rattle.std.proofs.Common.{sym, ap, ◌∙◌, if◌then◌else◌}
-use Rattle.std.proofs.lemmas.Bool.{eq-eqb}
-use Rattle.calc_terms.specs.Fractions.{negative, zero_fraction}
-use Rattle.linear_solve.specs.Rows.{entry}
-use Rattle.linear_solve.specs.Told.{entries_of}
+use Rattle.linear_solve.proofs.Shared.{eq-eqb, negative, zero_fraction, entry, entries_of}
 use Rattle.linear_solve.proofs.Entries.{zero_value}
 use Rattle.linear_solve.proofs.solution.multiple.Goals as goal
 

@@ -1,9 +1,6 @@
 use Rattle.std.proofs.Common.{◌++◌, ◌∷◌, [], if◌then◌else◌, sym, ◌∙◌, zero-add}
 use Rattle.std.specs.Prelude.{◌==◌}
-use Rattle.std.proofs.lemmas.List.FromFn.{map-range_with_len_more}
-use Rattle.calc_terms.specs.Fractions.{negative, zero_fraction}
-use Rattle.linear_solve.specs.Rows.{entry}
-use Rattle.linear_solve.specs.Told.{entries_of}
+use Rattle.linear_solve.proofs.Shared.{map-range_with_len_more, negative, zero_fraction, entry, entries_of}
 use Rattle.linear_solve.proofs.Entries.{longer}
 use Rattle.linear_solve.proofs.solution.multiples.Goals as goal
 

@@ -1,9 +1,6 @@
 use Rattle.std.proofs.Common.{◌≡◌, length, map, if◌then◌else◌}
 use Rattle.std.specs.Prelude.{◌==◌}
-use Rattle.std.specs.List.{range_with_len}
-use Rattle.calc_terms.specs.Fractions.{negative, zero_fraction}
-use Rattle.linear_solve.specs.Rows.{entry}
-use Rattle.linear_solve.specs.Told.{entries_of}
+use Rattle.linear_solve.proofs.Shared.{range_with_len, negative, zero_fraction, entry, entries_of}
 use Rattle.linear_solve.proofs.solution.multiples.Given as goal
 
 abbrev pub invariant-loop-at : goal.invariant-loop-at

@@ -1,9 +1,5 @@
 use Rattle.std.proofs.Common.{◌<◌, [], sym, ap, ◌∙◌, map, length, arith}
-use Rattle.std.proofs.lemmas.List.{length-map}
-use Rattle.calc_terms.proofs.FractionFacts.{zero_test}
-use Rattle.calc_terms.specs.Fractions.{is_zero_fraction}
-use Rattle.linear_solve.specs.Rows.{entry}
-use Rattle.linear_solve.specs.Told.{entries_of}
+use Rattle.linear_solve.proofs.Shared.{length-map, zero_test, is_zero_fraction, entry, entries_of}
 use Rattle.linear_solve.proofs.RowLists.{read_row}
 use Rattle.linear_solve.proofs.Steps.{first_has}
 use Rattle.linear_solve.proofs.solution.solution_by.Goals as goal

@@ -1,16 +1,8 @@
 use Rattle.std.proofs.Common.{◌+◌, length, map, sym, arith}
-use Rattle.std.proofs.lemmas.List.{length-map}
-use Rattle.breakers.proofs.Runs.{CalmChecks-append}
-use Rattle.breakers.specs.Watch.{states}
-use Rattle.calc_terms.specs.Leaf.{name_of}
-use Rattle.linear_solve.specs.declared.fault.SolveFault.TheVariants as fault
-use Rattle.linear_solve.specs.Equations.{equations_in, nodes_of_sides}
-use Rattle.linear_solve.specs.Solutions.{answer_told}
-use Rattle.linear_solve.specs.States.{rows_told}
-use Rattle.linear_solve.specs.Told.{entries_of, misfit_of}
+use Rattle.linear_solve.proofs.Shared.{length-map, CalmChecks-append, states, name_of, equations_in, nodes_of_sides, answer_told, rows_told, entries_of, misfit_of, forest}
 use Rattle.linear_solve.proofs.Results.{answer_err, rows_err, settled_err, whole_ok}
 use Rattle.linear_solve.proofs.Walks.{handed_on, overflow_as, stops_after}
-use Rattle.tree_handles.specs.Standing.{forest}
+use Rattle.linear_solve.specs.declared.fault.SolveFault.TheVariants as fault
 use Rattle.linear_solve.proofs.solving.calculate.Goals as goal
 
 pub returns-in_err-rows-clause-overflow : goal.returns-in_err-rows-clause-overflow

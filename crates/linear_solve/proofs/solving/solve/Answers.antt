@@ -1,12 +1,8 @@
 use Rattle.std.proofs.Common.{length, map, ◌∙◌, ◌+◌}
-use Rattle.std.proofs.lemmas.List.{length-map}
-use Rattle.breakers.specs.Watch.{states}
-use Rattle.calc_terms.specs.Leaf.{name_of}
-use Rattle.linear_solve.specs.Equations.{equations_in, nodes_of_sides}
+use Rattle.linear_solve.proofs.Shared.{length-map, states, name_of, equations_in, nodes_of_sides, forest}
 use Rattle.linear_solve.proofs.EquationRows.{equations_long}
 use Rattle.linear_solve.proofs.Results.{if_never, if_solved, trips_tell}
 use Rattle.linear_solve.proofs.Theorem.{forms_are_later, forms_are_many, multipliers_are_many, never_solved, one_from, solved_where}
-use Rattle.tree_handles.specs.Standing.{forest}
 use Rattle.linear_solve.proofs.solving.solve.Goals as goal
 
 pub returns-clause-solved : goal.returns-clause-solved

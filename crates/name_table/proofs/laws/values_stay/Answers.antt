@@ -1,5 +1,4 @@
-use Rattle.name_table.specs.Held.{holders_in}
-use Rattle.name_table.specs.Tables.{entries}
+use Rattle.name_table.proofs.Shared.{holders_in, entries}
 use Rattle.name_table.proofs.Holders.{holders-told}
 use Rattle.name_table.proofs.Later.{values-counted}
 use Rattle.name_table.proofs.laws.values_stay.Goals as goal

@@ -1,15 +1,6 @@
 -- The tree of the table is put in, and then its depth is asked.
 use Rattle.std.proofs.Common.{◌≡◌, sym, subst, ◌<◌, Bool, true, false}
-use Rattle.std.proofs.lemmas.Result.{err_from_is_err_and}
-use Rattle.calc_terms.specs.Trees.{depth}
-use Rattle.tree_handles.specs.Inside.{tree_at}
-use Rattle.calc_terms.specs.Leaf.{name_of}
-use Rattle.node_pool.specs.State.{free_of}
-use Rattle.tree_handles.specs.Expressions.{IsExpression, plain}
-use Rattle.tree_handles.specs.Handed.{tree_of}
-use Rattle.tree_handles.specs.Roots.{without_root}
-use Rattle.tree_handles.specs.Standing.{forest}
-use Rattle.tree_handles.proofs.Roots.{root_held}
+use Rattle.name_table.proofs.Shared.{err_from_is_err_and, depth, tree_at, name_of, free_of, IsExpression, plain, tree_of, without_root, forest, root_held}
 use Rattle.name_table.proofs.Fillings.{beside_expression, filled_one, new_expression, put_in, refused_deep, refused_lacks}
 use Rattle.name_table.proofs.table.fill_name.Goals as goal
 

@@ -1,8 +1,5 @@
 use Rattle.std.proofs.Common.{ap, ◌∙◌, inl}
-use Rattle.tree_handles.specs.Inside.{holds}
-use Rattle.tree_handles.specs.Standing.{forest}
-use Rattle.tree_handles.proofs.Given.{given_root}
-use Rattle.tree_handles.proofs.Lasts.{last_held}
+use Rattle.name_table.proofs.Shared.{holds, forest, given_root, last_held}
 use Rattle.name_table.proofs.Entries.{held_entries}
 use Rattle.name_table.proofs.Tested.{given_alone, held_again, held_beside}
 use Rattle.name_table.proofs.tests.number_of.Goals as goal

@@ -1,6 +1,6 @@
 use Rattle.std.proofs.Common.{ap, refl, rules}
 use Rattle.std.specs.Prelude.{pos}
-use Rattle.node_pool.specs.State.{State}
+use Rattle.name_table.proofs.Shared.{State}
 use Rattle.tree_handles.proofs.Tested.{stands_open}
 use Rattle.name_table.proofs.Tested.{begun}
 use Rattle.name_table.proofs.tests.opened.Goals as goal

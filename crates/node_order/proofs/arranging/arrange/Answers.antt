@@ -1,16 +1,9 @@
 use Rattle.std.proofs.Common.{◌≡◌, ℕ, ◌+◌, ◌<◌, List, take, length, get_or, refl, sym, ap, ◌∙◌, subst, arith, IsPermutation}
-use Rattle.std.specs.List.{swap, range_with_len}
-use Rattle.std.proofs.lemmas.List.Sorted.{IsPermutation-sym, IsPermutation-trans}
-use Rattle.node_order.specs.Picking.{picked_behind}
+use Rattle.node_order.proofs.Shared.{swap, range_with_len, IsPermutation-sym, IsPermutation-trans, picked_behind, root_ids, Forest, arity, kids, rest_trees, root_tree, put, forest, keeps_none, keeps_after}
 use Rattle.node_order.proofs.Arranged.{arranged, arranged_root, arranged_siblings, arranged_swap, arranged_start, all_placed}
 use Rattle.node_order.proofs.Inverses.{AreInverse, IsSought, inverse_start, inverse_swap, sought}
 use Rattle.node_order.proofs.Places.{placed_swap}
 use Rattle.node_order.proofs.SortLaws.{handle_kids, handle_live}
-use Rattle.tree_handles.specs.Children.{root_ids}
-use Rattle.tree_handles.specs.Forest.{Forest, arity, kids, rest_trees}
-use Rattle.tree_handles.specs.Roots.{root_tree, put}
-use Rattle.tree_handles.specs.Standing.{forest}
-use Rattle.tree_handles.proofs.Forests.{keeps_none, keeps_after}
 use Rattle.node_order.proofs.arranging.arrange.Goals as goal
 
 pub loop-at-init : goal.loop-at-init

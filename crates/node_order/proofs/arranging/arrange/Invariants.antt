@@ -1,9 +1,6 @@
 use Rattle.std.proofs.Common.{◌≡◌, length, take, IsPermutation}
-use Rattle.node_order.specs.Picking.{picked_behind}
+use Rattle.node_order.proofs.Shared.{picked_behind, kids, root_tree, put, Stands, forest, KeepsRefusals}
 use Rattle.node_order.proofs.Inverses.{AreInverse}
-use Rattle.tree_handles.specs.Forest.{kids}
-use Rattle.tree_handles.specs.Roots.{root_tree, put}
-use Rattle.tree_handles.specs.Standing.{Stands, forest, KeepsRefusals}
 use Rattle.node_order.proofs.arranging.arrange.Given as goal
 
 abbrev pub invariant-loop-at : goal.invariant-loop-at

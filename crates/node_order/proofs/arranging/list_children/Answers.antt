@@ -1,14 +1,8 @@
 use Rattle.std.proofs.Common.{◌≡◌, ◌<◌, length, sym, ap, ◌∙◌, arith, inl}
-use Rattle.std.specs.Iterator.Adapters.{enumerate_source, enumerate_count}
-use Rattle.std.proofs.lemmas.List.{ext_get_or, length-set}
-use Rattle.tree_handles.specs.Children.{root_ids}
-use Rattle.tree_handles.specs.Forest.{root_id, rest_trees, tree_nth}
-use Rattle.tree_handles.specs.Inside.{kids_of}
-use Rattle.tree_handles.specs.Standing.{forest}
-use Rattle.tree_handles.proofs.Forests.{arity-rest_trees}
+use Rattle.node_order.proofs.Shared.{enumerate_source, enumerate_count, ext_get_or, length-set, root_ids, root_id, rest_trees, tree_nth, kids_of, forest, arity-rest_trees}
 use Rattle.node_order.proofs.Listing.{IsTurn, turn, all_came, length-ids, ids-nth, listed_more}
-use Rattle.node_order.proofs.arranging.list_children.Goals as goal
 use Rattle.node_order.proofs.arranging.list_children.Goals.{In-Some}
+use Rattle.node_order.proofs.arranging.list_children.Goals as goal
 
 pub loop-at-init-derived : goal.loop-at-init-derived
 loop-at-init-derived c =

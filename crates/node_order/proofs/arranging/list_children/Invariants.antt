@@ -1,7 +1,5 @@
 use Rattle.std.proofs.Common.{◌≡◌, ◌<◌, ℕ, length, get_or}
-use Rattle.tree_handles.specs.Forest.{root_id, rest_trees, tree_nth}
-use Rattle.tree_handles.specs.Inside.{kids_of}
-use Rattle.tree_handles.specs.Standing.{forest}
+use Rattle.node_order.proofs.Shared.{root_id, rest_trees, tree_nth, kids_of, forest}
 use Rattle.node_order.proofs.arranging.list_children.Given as goal
 
 abbrev pub invariant-loop-at : goal.invariant-loop-at

@@ -1,7 +1,5 @@
 use Rattle.std.proofs.Common.{◌∙◌, arith, length}
-use Rattle.std.specs.List.{range_with_len}
-use Rattle.std.proofs.lemmas.List.{map-id}
-use Rattle.std.proofs.lemmas.List.FromFn.{fill_by_all}
+use Rattle.node_order.proofs.Shared.{range_with_len, map-id, fill_by_all}
 use Rattle.node_order.proofs.arranging.list_places.Goals as goal
 
 pub returns : goal.returns

@@ -1,9 +1,6 @@
 use Rattle.std.proofs.Common.{length}
-use Rattle.calc_algebra.specs.TreeOrder.{tree_cmp}
-use Rattle.calc_terms.specs.Trees.{Tree}
-use Rattle.node_order.specs.Fronts.{Shows}
+use Rattle.node_order.proofs.Shared.{tree_cmp, Tree, Shows, forest}
 use Rattle.node_order.proofs.Pairs.{IsOpen}
-use Rattle.tree_handles.specs.Standing.{forest}
 use Rattle.node_order.proofs.comparing.compare_fronts.Given as goal
 
 abbrev pub invariant-loop-left : goal.invariant-loop-left

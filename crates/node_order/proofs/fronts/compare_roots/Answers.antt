@@ -1,6 +1,6 @@
 use Rattle.std.proofs.Common.{◌≡◌, ◌∙◌, sym}
+use Rattle.node_order.proofs.Shared.{number_seen, symbol_seen}
 use Rattle.calc_terms.specs.declared.kind.Kind.TheVariants as kind
-use Rattle.tree_handles.proofs.Readings.{number_seen, symbol_seen}
 use Rattle.node_order.proofs.fronts.compare_roots.Goals as goal
 
 pub rational-requires-clause-number : goal.rational-requires-clause-number

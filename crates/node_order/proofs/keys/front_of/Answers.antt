@@ -1,10 +1,5 @@
 use Rattle.std.proofs.Common.{◌-◌, ◌∙◌, length, sym, ap, arith, refl}
-use Rattle.tree_handles.specs.Forest.{rest_trees}
-use Rattle.tree_handles.specs.Inside.{kids_of}
-use Rattle.tree_handles.specs.Standing.{forest}
-use Rattle.tree_handles.proofs.Forests.{arity-rest_trees, nodes-flatten}
-use Rattle.tree_handles.proofs.Releases.{arity_le}
-use Rattle.tree_handles.proofs.Visiting.{visits_length}
+use Rattle.node_order.proofs.Shared.{rest_trees, kids_of, forest, arity-rest_trees, nodes-flatten, arity_le, visits_length}
 use Rattle.node_order.proofs.KeyLaws.{key_some, shown_children, key_last, key_product}
 use Rattle.node_order.proofs.keys.front_of.Goals as goal
 

@@ -1,8 +1,7 @@
 use Rattle.std.proofs.Common.{rules}
-use Rattle.node_order.specs.Ranking.{place_cmp, ranked_tree}
+use Rattle.node_order.proofs.Shared.{place_cmp, ranked_tree, forest}
 use Rattle.node_order.proofs.RankLaws.{sorted_by_calls}
 use Rattle.node_order.proofs.Ties.{place_total}
-use Rattle.tree_handles.specs.Standing.{forest}
 use Rattle.node_order.proofs.ranking.rank.Goals as goal
 
 pub returns-clause-rising : goal.returns-clause-rising

@@ -1,6 +1,6 @@
 use Rattle.std.proofs.Common.{ap, arith}
+use Rattle.node_order.proofs.Shared.{arity}
 use Rattle.node_order.proofs.SortLaws.{handle_kids, handle_live}
-use Rattle.tree_handles.specs.Forest.{arity}
 use Rattle.node_order.proofs.sorting.children_from.Goals as goal
 
 pub children-requires-clause-live : goal.children-requires-clause-live

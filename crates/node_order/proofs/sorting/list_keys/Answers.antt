@@ -1,20 +1,11 @@
 use Rattle.std.proofs.Common.{◌≡◌, ◌<◌, ◌+◌, ℕ, length, sym, ap, ◌∙◌, subst, arith, inl}
-use Rattle.std.specs.Iterator.Adapters.{enumerate_source, enumerate_count}
-use Rattle.std.proofs.lemmas.List.{length-set}
-use Rattle.node_order.specs.Keys.{IsKey, key_tree}
+use Rattle.node_order.proofs.Shared.{enumerate_source, enumerate_count, length-set, IsKey, key_tree, root_ids, plains, plain, nth, rest_trees, kids_of, tree_at, forest, arity-rest_trees, count-plains}
 use Rattle.node_order.proofs.Listing.{IsTurn, turn, all_came, length-ids, later_child, listed_more}
 use Rattle.node_order.proofs.SortLaws.{child_plain}
-use Rattle.tree_handles.specs.Children.{root_ids}
-use Rattle.tree_handles.specs.Expressions.{plains, plain, nth}
-use Rattle.tree_handles.specs.Forest.{rest_trees}
-use Rattle.tree_handles.specs.Inside.{kids_of, tree_at}
-use Rattle.tree_handles.specs.Standing.{forest}
 use Rattle.tree_handles.proofs.ChildPlaces.{IsSeenChild, seen_child}
-use Rattle.tree_handles.proofs.Forests.{arity-rest_trees}
-use Rattle.tree_handles.proofs.Plains.{count-plains}
-use Rattle.node_order.proofs.sorting.list_keys.Goals as goal
 use Rattle.node_order.proofs.sorting.list_keys.Goals.{In-Some, In-None}
 use Rattle.node_order.proofs.sorting.list_keys.Given.{Over}
+use Rattle.node_order.proofs.sorting.list_keys.Goals as goal
 
 pub loop-at-init-derived : goal.loop-at-init-derived
 loop-at-init-derived g c =

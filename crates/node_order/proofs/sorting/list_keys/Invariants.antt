@@ -1,9 +1,5 @@
 use Rattle.std.proofs.Common.{◌≡◌, ◌+◌, ◌<◌, ℕ, length, slice_index_or}
-use Rattle.node_order.specs.declared.keys.Key.{Key}
-use Rattle.node_order.specs.Keys.{IsKey, key_tree}
-use Rattle.tree_handles.specs.Expressions.{plains, nth}
-use Rattle.tree_handles.specs.Inside.{kids_of}
-use Rattle.tree_handles.specs.Standing.{forest}
+use Rattle.node_order.proofs.Shared.{Key, IsKey, key_tree, plains, nth, kids_of, forest}
 use Rattle.node_order.proofs.sorting.list_keys.Given as goal
 
 abbrev pub invariant-loop-at : goal.invariant-loop-at

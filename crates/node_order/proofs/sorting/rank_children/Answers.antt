@@ -1,11 +1,8 @@
 use Rattle.std.proofs.Common.{◌≡◌, ◌+◌, List, ℕ, length, subst, arith, IsPermutation}
-use Rattle.node_order.specs.Ranking.{ranked_tree}
+use Rattle.node_order.proofs.Shared.{ranked_tree, plains, nth, kids_of, forest}
 use Rattle.node_order.proofs.Places.{inside_range}
 use Rattle.node_order.proofs.SortLaws.{ranked_is}
 use Rattle.node_order.proofs.Ties.{places_same}
-use Rattle.tree_handles.specs.Expressions.{plains, nth}
-use Rattle.tree_handles.specs.Inside.{kids_of}
-use Rattle.tree_handles.specs.Standing.{forest}
 use Rattle.node_order.proofs.sorting.rank_children.Goals as goal
 
 pub returns-clause-rising : goal.returns-clause-rising

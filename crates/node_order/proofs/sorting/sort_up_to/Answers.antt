@@ -1,16 +1,6 @@
 use Rattle.std.proofs.Common.{◌+◌, ◌<◌, ◌≤◌, ℕ, sym, ap, subst, arith, replicate}
-use Rattle.std.proofs.lemmas.List.{length-take-le, length-replicate}
-use Rattle.std.specs.List.Sorted.{IsSorted}
-use Rattle.calc_terms.specs.Trees.{count}
-use Rattle.node_order.specs.Ranking.{place_cmp}
+use Rattle.node_order.proofs.Shared.{length-take-le, length-replicate, IsSorted, count, place_cmp, plains, nth, IsWhole, IsExpression, Forest, kids, arity, IsOnce, root_tree, forest, all-kids, expression_root}
 use Rattle.node_order.proofs.SortLaws.{sorted_children, handle_kids}
-use Rattle.tree_handles.specs.Expressions.{plains, nth, IsWhole, IsExpression}
-use Rattle.tree_handles.specs.Forest.{Forest, kids, arity}
-use Rattle.tree_handles.specs.Handed.{IsOnce}
-use Rattle.tree_handles.specs.Roots.{root_tree}
-use Rattle.tree_handles.specs.Standing.{forest}
-use Rattle.tree_handles.proofs.Counted.{all-kids}
-use Rattle.tree_handles.proofs.Lasts.{expression_root}
 use Rattle.node_order.proofs.sorting.sort_up_to.Goals as goal
 
 pub rank_children-requires-clause-parent : goal.rank_children-requires-clause-parent

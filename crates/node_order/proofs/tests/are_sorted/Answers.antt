@@ -1,9 +1,7 @@
 use Rattle.std.proofs.Common.{sym, subst}
+use Rattle.node_order.proofs.Shared.{IsExpression, forest, expression_root}
 use Rattle.node_order.proofs.SortLaws.{handle_live}
 use Rattle.node_order.proofs.Tested.{sum_sorted}
-use Rattle.tree_handles.specs.Expressions.{IsExpression}
-use Rattle.tree_handles.specs.Standing.{forest}
-use Rattle.tree_handles.proofs.Lasts.{expression_root}
 use Rattle.node_order.proofs.tests.are_sorted.Goals as goal
 
 pub children-many-requires-clause-live : goal.children-many-requires-clause-live

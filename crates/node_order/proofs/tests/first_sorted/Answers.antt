@@ -1,7 +1,5 @@
 use Rattle.std.proofs.Common.{ap, ◌∙◌}
-use Rattle.tree_handles.specs.Roots.{has_root}
-use Rattle.tree_handles.proofs.Given.{given_handed, given_root}
-use Rattle.tree_handles.proofs.Roots.{root-put}
+use Rattle.node_order.proofs.Shared.{has_root, given_handed, given_root, root-put}
 use Rattle.node_order.proofs.SortLaws.{handle_live}
 use Rattle.node_order.proofs.tests.first_sorted.Goals as goal
 

@@ -1,10 +1,5 @@
 use Rattle.std.proofs.Common.{ℕ, sym, ap, ◌∙◌, subst, arith}
-use Rattle.calc_terms.specs.Trees.{Tree, is_mult, count}
-use Rattle.node_order.specs.Keys.{IsKey}
-use Rattle.tree_handles.specs.Expressions.{plain, children_of}
-use Rattle.tree_handles.specs.Standing.{forest}
-use Rattle.tree_handles.proofs.Given.{given_handed, given_other, given_told, given_same, given_root}
-use Rattle.tree_handles.proofs.Lasts.{expression_root, plain_root}
+use Rattle.node_order.proofs.Shared.{Tree, is_mult, count, IsKey, plain, children_of, forest, given_handed, given_other, given_told, given_same, given_root, expression_root, plain_root}
 use Rattle.node_order.proofs.tests.key_order.Goals as goal
 
 pub compare_keys-requires-clause-first : goal.compare_keys-requires-clause-first

@@ -1,8 +1,5 @@
 use Rattle.std.proofs.Common.{sym, subst}
-use Rattle.tree_handles.specs.Expressions.{IsExpression}
-use Rattle.tree_handles.specs.Standing.{forest}
-use Rattle.tree_handles.proofs.Given.{given_handed, given_other}
-use Rattle.tree_handles.proofs.Lasts.{expression_root}
+use Rattle.node_order.proofs.Shared.{IsExpression, forest, given_handed, given_other, expression_root}
 use Rattle.node_order.proofs.tests.order_of.Goals as goal
 
 pub compare-requires-clause-first : goal.compare-requires-clause-first

@@ -1,4 +1,4 @@
-use Rattle.tree_handles.proofs.Given.{given_handed, given_rest, gives_as}
+use Rattle.node_order.proofs.Shared.{given_handed, given_rest, gives_as}
 use Rattle.node_order.proofs.tests.over.Goals as goal
 
 pub node_over-requires-clause-handed : goal.node_over-requires-clause-handed

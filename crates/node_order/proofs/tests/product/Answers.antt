@@ -1,8 +1,5 @@
 use Rattle.std.proofs.Common.{ap, ◌∙◌}
-use Rattle.calc_terms.specs.Trees.{Tree, is_mult, count}
-use Rattle.tree_handles.specs.Expressions.{children_of}
-use Rattle.tree_handles.proofs.Given.{given_handed, given_other, given_apart, given_rest, given_without, gives_as}
-use Rattle.tree_handles.proofs.Outcomes.{eqb-sym}
+use Rattle.node_order.proofs.Shared.{Tree, is_mult, count, children_of, given_handed, given_other, given_apart, given_rest, given_without, gives_as, eqb-sym}
 use Rattle.node_order.proofs.tests.product.Goals as goal
 
 pub node_over_two-requires-clause-first : goal.node_over_two-requires-clause-first

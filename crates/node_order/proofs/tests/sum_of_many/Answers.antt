@@ -1,9 +1,6 @@
 use Rattle.std.proofs.Common.{refl, ap}
+use Rattle.node_order.proofs.Shared.{root_payload, given_root, given_handed, given_other, last_tree, root_held}
 use Rattle.node_order.proofs.Tested.{sum_takes, sum_apart}
-use Rattle.tree_handles.specs.Forest.{root_payload}
-use Rattle.tree_handles.proofs.Given.{given_root, given_handed, given_other}
-use Rattle.tree_handles.proofs.Lasts.{last_tree}
-use Rattle.tree_handles.proofs.Roots.{root_held}
 use Rattle.node_order.proofs.tests.sum_of_many.Goals as goal
 
 pub loop-number-init : goal.loop-number-init

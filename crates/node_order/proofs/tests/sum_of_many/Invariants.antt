@@ -1,5 +1,5 @@
+use Rattle.node_order.proofs.Shared.{Stands, forest}
 use Rattle.node_order.proofs.Tested.{IsSum}
-use Rattle.tree_handles.specs.Standing.{Stands, forest}
 use Rattle.node_order.proofs.tests.sum_of_many.Given as goal
 
 abbrev pub invariant-loop-number : goal.invariant-loop-number

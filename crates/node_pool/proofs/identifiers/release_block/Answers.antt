@@ -1,7 +1,5 @@
 use Rattle.std.proofs.Common.{arith, ap, sym, ◌∙◌, ◌+◌}
-use Rattle.calc_terms.specs.declared.leaf.Header.{Header}
-use Rattle.calc_terms.specs.Node.{size_of_header}
-use Rattle.node_pool.specs.Flags.{without_ids}
+use Rattle.node_pool.proofs.Shared.{Header, size_of_header, without_ids}
 use Rattle.node_pool.proofs.Cuts.{boundary_le, between_next, between_none}
 use Rattle.node_pool.proofs.Marks.{released}
 use Rattle.node_pool.proofs.identifiers.release_block.Goals as goal

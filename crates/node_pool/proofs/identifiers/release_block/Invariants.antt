@@ -1,6 +1,5 @@
 use Rattle.std.proofs.Common.{◌≡◌, ◌-◌, ◌≤◌, length}
-use Rattle.node_pool.specs.Places.{between, IsBoundary}
-use Rattle.node_pool.specs.Flags.{AreBelow, without_ids}
+use Rattle.node_pool.proofs.Shared.{between, IsBoundary, AreBelow, without_ids}
 use Rattle.node_pool.proofs.identifiers.release_block.Given as goal
 
 abbrev pub invariant-loop-at : goal.invariant-loop-at

@@ -1,6 +1,5 @@
 use Rattle.std.proofs.Common.{◌∙◌, ap, drop}
-use Rattle.calc_terms.specs.Node.{header_in}
-use Rattle.calc_terms.proofs.Codec.{header_is}
+use Rattle.node_pool.proofs.Shared.{header_in, header_is}
 use Rattle.node_pool.proofs.Fields.{front_is}
 use Rattle.node_pool.proofs.node.header_at.Goals as goal
 

@@ -1,11 +1,8 @@
 use Rattle.std.proofs.Common.{◌+◌, ◌∙◌, ap, sym, arith}
+use Rattle.node_pool.proofs.Shared.{payload_of, payload_bytes, put, put-nil}
 use Rattle.calc_terms.specs.declared.leaf.Leaf.{Leaf}
-use Rattle.calc_terms.specs.Leaf.{payload_of}
-use Rattle.calc_terms.specs.Node.{payload_bytes}
-use Rattle.raw_region.specs.Bytes.{put}
 use Rattle.node_pool.proofs.Sizes.{size_leaf}
 use Rattle.node_pool.proofs.Puts.{node_put}
-use Rattle.raw_region.proofs.Puts.{put-nil}
 use Rattle.node_pool.proofs.node.write_node.Goals as goal
 
 pub returns-in-Num-clause-put : goal.returns-in-Num-clause-put

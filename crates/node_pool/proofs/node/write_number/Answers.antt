@@ -1,16 +1,6 @@
 use Rattle.std.proofs.Common.{Bool, List, false, ap, arith, length, refl, rules, sym, true, ℕ, ℤ, ◌+◌, ◌∙◌, ◌≡◌, ◌≤◌, ◌<◌, ◌^◌, FitsSigned, unsigned_abs}
-use Rattle.std.specs.Int.{w64, w128, cast_signed, cast_unsigned}
-use Rattle.std.proofs.lemmas.Int.{ints, to_z-of_z}
+use Rattle.node_pool.proofs.Shared.{w64, w128, cast_signed, cast_unsigned, ints, to_z-of_z, size_by_form, low_bytes, number_bytes, payload_bytes, rational, has_short_form, ratio_of, Ratio, length-low_bytes, short_parts, put, length-put}
 use Rattle.calc_terms.specs.declared.kind.Kind.TheVariants.{Num}
-use Rattle.calc_terms.specs.Kind.{size_by_form}
-use Rattle.calc_terms.specs.Node.{low_bytes, number_bytes, payload_bytes}
-use Rattle.calc_terms.specs.Payload.{rational, has_short_form}
-use Rattle.calc_terms.specs.Rat.{ratio_of}
-use Rattle.calc_terms.specs.Ratio.{Ratio}
-use Rattle.calc_terms.proofs.LowBytes.{length-low_bytes}
-use Rattle.calc_terms.proofs.ShortForm.{short_parts}
-use Rattle.raw_region.specs.Bytes.{put}
-use Rattle.raw_region.proofs.Puts.{length-put}
 use Rattle.node_pool.proofs.node.write_number.Goals as goal
 
 wide : (z : ℤ) → unsigned_abs z < 2 ^ 127 → FitsSigned w128 z

@@ -1,12 +1,6 @@
 use Rattle.std.proofs.Common.{ap, arith, length, pos, ◌∙◌}
-use Rattle.std.specs.Int.{w128, cast_unsigned}
-use Rattle.calc_terms.specs.Node.{low_bytes, ratio_bytes}
-use Rattle.calc_terms.specs.Rat.{ratio_of}
-use Rattle.calc_terms.proofs.LowBytes.{length-low_bytes}
-use Rattle.std.proofs.lemmas.List.{length-append}
+use Rattle.node_pool.proofs.Shared.{w128, cast_unsigned, low_bytes, ratio_bytes, ratio_of, length-low_bytes, length-append, length-put, back_unsigned}
 use Rattle.node_pool.proofs.Puts.{rational_put}
-use Rattle.raw_region.proofs.Puts.{length-put}
-use Rattle.calc_terms.proofs.Codec.{back_unsigned}
 use Rattle.node_pool.proofs.node.write_rational.Goals as goal
 
 pub returns-clause-put : goal.returns-clause-put

@@ -1,7 +1,5 @@
 use Rattle.std.proofs.Common.{arith, ap, sym, ◌∙◌, ◌+◌}
-use Rattle.calc_terms.specs.declared.leaf.Header.{Header}
-use Rattle.calc_terms.specs.Node.{size_of_header}
-use Rattle.node_pool.specs.Noted.{noted}
+use Rattle.node_pool.proofs.Shared.{Header, size_of_header, noted}
 use Rattle.node_pool.proofs.Cuts.{boundary_le, between_next, between_none}
 use Rattle.node_pool.proofs.Noting.{noted_more}
 use Rattle.node_pool.proofs.places.note_block.Goals as goal

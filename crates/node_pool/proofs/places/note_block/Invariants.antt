@@ -1,7 +1,5 @@
 use Rattle.std.proofs.Common.{◌≡◌, ◌-◌, ◌≤◌, length}
-use Rattle.node_pool.specs.Flags.{AreBelow}
-use Rattle.node_pool.specs.Noted.{noted}
-use Rattle.node_pool.specs.Places.{between, IsBoundary}
+use Rattle.node_pool.proofs.Shared.{AreBelow, noted, between, IsBoundary}
 use Rattle.node_pool.proofs.places.note_block.Given as goal
 
 abbrev pub invariant-loop-at : goal.invariant-loop-at

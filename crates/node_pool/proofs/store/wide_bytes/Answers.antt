@@ -1,5 +1,5 @@
 use Rattle.std.proofs.Common.{◌∙◌, ◌≡◌, ◌%◌, ◌/◌, ◌^◌}
-use Rattle.std.specs.Int.{to_le_bytes, w64}
+use Rattle.node_pool.proofs.Shared.{to_le_bytes, w64}
 use Rattle.node_pool.proofs.Numbers.{halves_are}
 use Rattle.node_pool.proofs.store.wide_bytes.Goals as goal
 

@@ -1,12 +1,9 @@
 use Rattle.std.proofs.Common.{◌≡◌, refl, sym, ap, ◌∙◌}
-use Rattle.number_forms.specs.Readers.{is_zero}
+use Rattle.number_forms.proofs.Shared.{is_zero, tree_of, gives_as, without-swap}
 use Rattle.number_forms.proofs.Kept.{with_zero, zero_with}
 use Rattle.number_forms.proofs.SumChanges.{same_plain, read_expression}
-use Rattle.tree_handles.specs.Handed.{tree_of}
-use Rattle.tree_handles.proofs.Given.{gives_as}
-use Rattle.tree_handles.proofs.Roots.{without-swap}
-use Rattle.number_forms.proofs.adding.add_terms.Goals as goal
 use Rattle.number_forms.proofs.adding.add_terms.Goals.{After-is_zero, After-is_zero-else-is_zero}
+use Rattle.number_forms.proofs.adding.add_terms.Goals as goal
 
 -- what was read of each
 first : (c : After-is_zero) → c.is_zero.result ≡ is_zero (tree_of c.args.a c.args.pool.now)

@@ -1,31 +1,9 @@
 use Rattle.std.proofs.Common.{◌≡◌, ℕ, inl, sym, ap, ◌∙◌, subst, arith, ◌+◌, ◌*◌, ◌^◌, ◌<◌, length}
-use Rattle.calc_algebra.specs.Numbers.{is_number, value}
-use Rattle.calc_algebra.proofs.SquareClassLaws.{Same-trans}
-use Rattle.calc_algebra.proofs.TermLaws.{Same-append, Same-eq}
-use Rattle.child_lists.proofs.ListedChildren.{lists_at, lists_listed}
+use Rattle.number_forms.proofs.Shared.{is_number, value, Same-trans, Same-append, Same-eq, lists_at, lists_listed, other_plain, gives_without, gives_rest, kept_after, overflow_as, tree_of, IsHanded, plain, without_root, forest, behind_first, behind_later, behind_new, front_same, front_at, front_without, front_after_one, given_handed, given_told, given_rest, given_other, gives_as, handed_beside, handed_at, owned, tree-without, SumOverflows, OfOverflow, passed_on, sum_need, Spans, Surd, size, free_of, LacksRoom, joining_need, replaced_free, both_replaced_free}
 use Rattle.number_forms.proofs.SumChanges.{read_expression}
-use Rattle.tree_handles.proofs.Beside.{other_plain, gives_without, gives_rest}
-use Rattle.tree_handles.proofs.Refused.{kept_after, overflow_as}
 use Rattle.number_forms.proofs.Denominators.{shares_eq}
 use Rattle.number_forms.proofs.Over.{over_as, shares_append}
-use Rattle.tree_handles.specs.Handed.{tree_of, IsHanded}
-use Rattle.tree_handles.specs.Expressions.{plain}
-use Rattle.tree_handles.specs.Roots.{without_root}
-use Rattle.tree_handles.specs.Standing.{forest}
-use Rattle.tree_handles.proofs.Fronts.{behind_first, behind_later, behind_new, front_same, front_at, front_without, front_after_one}
-use Rattle.tree_handles.proofs.Given.{given_handed, given_told, given_rest, given_other, gives_as, handed_beside, handed_at, owned}
-use Rattle.tree_handles.proofs.Roots.{tree-without}
-use Rattle.number_forms.specs.Overflows.{SumOverflows}
-use Rattle.tree_handles.specs.Faults.{OfOverflow}
 use Rattle.number_forms.proofs.Overflows.{sum_overflows_as}
-use Rattle.tree_handles.proofs.Outcomes.{passed_on}
-use Rattle.calc_room.specs.Needs.{sum_need}
-use Rattle.calc_room.specs.Spans.{Spans}
-use Rattle.calc_algebra.specs.Surds.{Surd}
-use Rattle.calc_terms.specs.Trees.{size}
-use Rattle.node_pool.specs.State.{free_of}
-use Rattle.number_forms.specs.Rooms.{LacksRoom, joining_need}
-use Rattle.tree_handles.proofs.FreeBytes.{replaced_free, both_replaced_free}
 use Rattle.number_forms.proofs.Rooms.{full_as, few_for_sum, number_spans, sum_lacks, sum_lacks_two, sum_spans_same}
 use Rattle.tree_handles.specs.declared.fault.NumberFault.TheVariants as fault
 use Rattle.number_forms.proofs.adding.add_within.Goals as goal

@@ -1,23 +1,8 @@
 use Rattle.std.proofs.Common.{◌≡◌, ℕ, ◌≤◌, ◌∷◌, Some, length, sym, ap, ◌∙◌, arith, add-one, rules, ◌+◌}
 use Rattle.std.specs.Prelude.{slice_get}
-use Rattle.calc_algebra.specs.Numbers.{is_number, value, classes}
-use Rattle.calc_terms.specs.Trees.{Tree, size}
-use Rattle.calc_algebra.proofs.TermLaws.{Same-refl}
-use Rattle.child_lists.proofs.ListedChildren.{lists_kept, lists_listed}
+use Rattle.number_forms.proofs.Shared.{is_number, value, classes, Tree, size, Same-refl, lists_kept, lists_listed, other_plain, other_read, other_expression, gives_rest, tree_of, term_of, given_other, given_handed, given_told, plain_root, SumOverflows, OfOverflow, passed_on, overflow_as, spans_append, free_of, LacksRoom, joining_need}
 use Rattle.number_forms.proofs.Loops.{joined_none, joined_more, joined_all, from_all}
-use Rattle.tree_handles.proofs.Beside.{other_plain, other_read, other_expression, gives_rest}
 use Rattle.number_forms.proofs.Worth.{terms_from, from_next}
-use Rattle.tree_handles.specs.Handed.{tree_of}
-use Rattle.surd_terms.specs.Terms.{term_of}
-use Rattle.tree_handles.proofs.Given.{given_other, given_handed, given_told}
-use Rattle.tree_handles.proofs.Lasts.{plain_root}
-use Rattle.number_forms.specs.Overflows.{SumOverflows}
-use Rattle.tree_handles.specs.Faults.{OfOverflow}
-use Rattle.tree_handles.proofs.Outcomes.{passed_on}
-use Rattle.tree_handles.proofs.Refused.{overflow_as}
-use Rattle.calc_room.proofs.NumberSpans.{spans_append}
-use Rattle.node_pool.specs.State.{free_of}
-use Rattle.number_forms.specs.Rooms.{LacksRoom, joining_need}
 use Rattle.number_forms.proofs.Rooms.{full_as, spans_from, term_lacks}
 use Rattle.number_forms.proofs.adding.join_terms.Goals as goal
 

@@ -1,23 +1,11 @@
 use Rattle.std.proofs.Common.{◌≡◌, ◌≤◌, inl, sym, ap, ◌∙◌, refl, arith, subst, ◌<◌}
 use Rattle.std.specs.Prelude.{pos}
-use Rattle.calc_algebra.specs.Numbers.{value}
-use Rattle.number_forms.specs.Answers.{IsNumberOver}
-use Rattle.calc_terms.specs.Trees.{Tree, count, num, root_size}
+use Rattle.number_forms.proofs.Shared.{value, IsNumberOver, Tree, count, num, root_size, gives_itself, tree_of, children_of, behind_first, front_same, front_at, front_end, front_put, front_without, front_after, given_root, given_handed, given_told, gives_as, owned, num_most, value_of, free_of, refused_below, released_free}
 use Rattle.number_forms.proofs.LastSums.{sum_is, only_child, only_owned}
 use Rattle.number_forms.proofs.Shaped.{zero_sum, one_sum, more_sum, zero_number_of, two_from}
 use Rattle.number_forms.proofs.SumChanges.{same_plain, read_expression}
 use Rattle.number_forms.proofs.TermTrees.{if_given, whole_is}
-use Rattle.tree_handles.proofs.Beside.{gives_itself}
-use Rattle.tree_handles.specs.Handed.{tree_of}
-use Rattle.tree_handles.specs.Expressions.{children_of}
-use Rattle.tree_handles.proofs.Fronts.{behind_first, front_same, front_at, front_end, front_put, front_without, front_after}
-use Rattle.tree_handles.proofs.Given.{given_root, given_handed, given_told, gives_as, owned}
-use Rattle.calc_terms.proofs.Sizes.{num_most}
-use Rattle.calc_terms.specs.Rat.{value_of}
-use Rattle.node_pool.specs.State.{free_of}
-use Rattle.tree_handles.proofs.FreeBytes.{refused_below}
 use Rattle.number_forms.proofs.Rooms.{refusal_as}
-use Rattle.tree_handles.proofs.Room.{released_free}
 use Rattle.number_forms.proofs.adding.number_of.Goals as goal
 
 pub returns-then-terms-eq0-clause-room : goal.returns-then-terms-eq0-clause-room

@@ -1,11 +1,8 @@
 use Rattle.std.proofs.Common.{sym, ap, ◌∙◌}
-use Rattle.calc_terms.specs.Trees.{root_kind}
+use Rattle.number_forms.proofs.Shared.{root_kind, tree_of, behind_first, front_same, front_end, front_without, represents_handed, gives}
 use Rattle.number_forms.proofs.ByKind.{sum_of_number}
 use Rattle.number_forms.proofs.ReducedNumbers.{no_add}
 use Rattle.number_forms.proofs.SumChanges.{same_plain, read_expression}
-use Rattle.tree_handles.specs.Handed.{tree_of}
-use Rattle.tree_handles.proofs.Fronts.{behind_first, front_same, front_end, front_without}
-use Rattle.tree_handles.proofs.Given.{represents_handed, gives}
 use Rattle.number_forms.proofs.adding.sum_over.Goals as goal
 
 pub kind-requires-clause-live : goal.kind-requires-clause-live

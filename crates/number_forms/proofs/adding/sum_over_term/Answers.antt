@@ -1,20 +1,10 @@
 use Rattle.std.proofs.Common.{sym, ap, ◌∙◌, refl, ◌<◌, arith}
-use Rattle.calc_terms.specs.declared.kind.Kind.TheVariants as kind
-use Rattle.calc_terms.specs.Payload.{bare}
-use Rattle.number_forms.specs.Readers.{is_zero}
+use Rattle.number_forms.proofs.Shared.{bare, is_zero, tree_of, behind_first, front_same, front_at, front_end, front_without, front_after, represents_none, represents_handed, represents_with, represents_node, gives, owned, last_held, last_apart, other_root, free_of, Full, refused_below, passed_on, released_free}
 use Rattle.number_forms.proofs.Shaped.{no_term_sum_of, one_term_sum_of}
 use Rattle.number_forms.proofs.SumChanges.{same_plain, read_expression}
 use Rattle.number_forms.proofs.TermTrees.{if_given, nonzero_term, zero_value}
-use Rattle.tree_handles.specs.Handed.{tree_of}
-use Rattle.tree_handles.proofs.Fronts.{behind_first, front_same, front_at, front_end, front_without, front_after}
-use Rattle.tree_handles.proofs.Given.{represents_none, represents_handed, represents_with, represents_node, gives, owned}
-use Rattle.tree_handles.proofs.Lasts.{last_held, last_apart, other_root}
-use Rattle.node_pool.specs.State.{free_of}
-use Rattle.node_pool.specs.declared.full.Full.{Full}
-use Rattle.tree_handles.proofs.FreeBytes.{refused_below}
-use Rattle.tree_handles.proofs.Outcomes.{passed_on}
 use Rattle.number_forms.proofs.Rooms.{refusal_as}
-use Rattle.tree_handles.proofs.Room.{released_free}
+use Rattle.calc_terms.specs.declared.kind.Kind.TheVariants as kind
 use Rattle.number_forms.proofs.adding.sum_over_term.Goals as goal
 
 pub returns-then-is_zero-clause-room : goal.returns-then-is_zero-clause-room

@@ -1,20 +1,10 @@
 use Rattle.std.proofs.Common.{◌≡◌, ◌≢◌, ◌≤◌, ℕ, refl, sym, ap, ◌∙◌, arith, ◌+◌}
-use Rattle.calc_algebra.specs.Numbers.{is_number, value, classes}
+use Rattle.number_forms.proofs.Shared.{is_number, value, classes, tree_of, behind_first, front_same, front_at, front_without, owned, given_told, OfOverflow, passed_on, overflow_as, inverse_need, size, free_of, LacksRoom}
 use Rattle.number_forms.proofs.SumChanges.{same_plain, read_expression}
-use Rattle.tree_handles.specs.Handed.{tree_of}
-use Rattle.tree_handles.proofs.Fronts.{behind_first, front_same, front_at, front_without}
-use Rattle.tree_handles.proofs.Given.{owned, given_told}
-use Rattle.tree_handles.specs.Faults.{OfOverflow}
 use Rattle.number_forms.proofs.InverseBits.{inverse_no_larger}
-use Rattle.tree_handles.proofs.Outcomes.{passed_on}
-use Rattle.tree_handles.proofs.Refused.{overflow_as}
 use Rattle.number_forms.proofs.WithinBits.{inverse_within}
 use Rattle.number_forms.proofs.Placings.{rational_classes}
 use Rattle.number_forms.proofs.InverseSteps.{none_to_make, too_wide}
-use Rattle.calc_room.specs.Needs.{inverse_need}
-use Rattle.calc_terms.specs.Trees.{size}
-use Rattle.node_pool.specs.State.{free_of}
-use Rattle.number_forms.specs.Rooms.{LacksRoom}
 use Rattle.number_forms.proofs.Rooms.{full_as, inverse_lacks, inverse_spans}
 use Rattle.number_forms.proofs.inverting.invert_number.Goals as goal
 

@@ -1,30 +1,11 @@
 use Rattle.std.proofs.Common.{◌≡◌, Some, sym, ap, ◌∙◌, arith, [], ◌∷◌, ◌≤◌, ◌+◌, refl}
 use Rattle.std.specs.Prelude.{slice_get}
-use Rattle.calc_algebra.specs.Numbers.{is_number, value, classes}
-use Rattle.calc_terms.specs.Trees.{Tree, more, none, size}
+use Rattle.number_forms.proofs.Shared.{is_number, value, classes, Tree, more, none, size, inverse_trees, LacksInverse, OfFull, num_least, building, OnlyLacksLongForm, inverse_of, tree_of, term_of, behind_first, front_same, front_at, front_without, front_after, gives_as, owned, InverseOverflows, inverting_calculations, OfOverflow, passed_on, first_misfit, calculation_of, Term, free_of, released_free, term_tree}
 use Rattle.number_forms.proofs.InverseSteps.{only_term, inverse_term, tree_of_one, fits_as, unfit, has_inverse, room_for, lacks_inverse}
-use Rattle.number_forms.specs.Inverses.{inverse_trees, LacksInverse}
-use Rattle.tree_handles.specs.Lacking.{OfFull}
-use Rattle.calc_terms.proofs.Sizes.{num_least}
-use Rattle.tree_handles.specs.Building.{building}
-use Rattle.tree_handles.specs.Causes.{OnlyLacksLongForm}
-use Rattle.surd_terms.specs.Inverses.{inverse_of}
 use Rattle.number_forms.proofs.SumChanges.{same_plain, read_expression}
-use Rattle.tree_handles.specs.Handed.{tree_of}
-use Rattle.surd_terms.specs.Terms.{term_of}
-use Rattle.tree_handles.proofs.Fronts.{behind_first, front_same, front_at, front_without, front_after}
-use Rattle.tree_handles.proofs.Given.{gives_as, owned}
-use Rattle.number_forms.specs.Overflows.{InverseOverflows, inverting_calculations}
-use Rattle.tree_handles.specs.Faults.{OfOverflow}
-use Rattle.tree_handles.proofs.Outcomes.{passed_on}
-use Rattle.surd_terms.specs.Calculations.{first_misfit, calculation_of}
-use Rattle.tree_handles.specs.declared.fault.NumberFault.TheVariants as fault
-use Rattle.calc_algebra.specs.Surds.{Term}
-use Rattle.node_pool.specs.State.{free_of}
 use Rattle.number_forms.proofs.Placings.{number_alone, rational_radicand, rational_term, refused, given_tree}
-use Rattle.tree_handles.proofs.Room.{released_free}
-use Rattle.number_forms.specs.Shapes.{term_tree}
 use Rattle.number_forms.proofs.inverting.invert_one.Goals.{After-nth_term}
+use Rattle.tree_handles.specs.declared.fault.NumberFault.TheVariants as fault
 use Rattle.number_forms.proofs.inverting.invert_one.Goals as goal
 
 pub nth_term-requires-clause-expression : goal.nth_term-requires-clause-expression

@@ -1,28 +1,12 @@
 use Rattle.std.proofs.Common.{◌≡◌, ◌≤◌, ◌+◌, [], ◌∷◌, Some, refl, sym, ap, ◌∙◌, arith}
 use Rattle.std.specs.Prelude.{slice_get}
-use Rattle.calc_algebra.specs.Numbers.{is_number, value, classes}
-use Rattle.calc_terms.specs.Trees.{Tree, more, none, size}
-use Rattle.calc_algebra.specs.Surds.{Term}
+use Rattle.number_forms.proofs.Shared.{is_number, value, classes, Tree, more, none, size, Term, free_of, inverse_trees, LacksInverse, OfFull, sum_of_terms, first_of_inverse, second_of_inverse, released_free, InverseOverflows, inverting_calculations, OfOverflow, passed_on, first_misfit, calculation_of, tree_of, term_of, behind_first, front_same, front_at, front_without, front_after, gives_as, owned}
 use Rattle.number_forms.proofs.InverseSteps.{both_terms, apart_terms, inverse_number, two_rise, tree_of_two, fits_as, unfit, has_inverse, room_for, lacks_inverse}
-use Rattle.node_pool.specs.State.{free_of}
-use Rattle.number_forms.specs.Inverses.{inverse_trees, LacksInverse}
-use Rattle.tree_handles.specs.Lacking.{OfFull}
-use Rattle.number_forms.specs.Shapes.{sum_of_terms}
-use Rattle.surd_terms.specs.Inverses.{first_of_inverse, second_of_inverse}
 use Rattle.number_forms.proofs.Placings.{refused, given_tree}
-use Rattle.tree_handles.proofs.Room.{released_free}
-use Rattle.number_forms.specs.Overflows.{InverseOverflows, inverting_calculations}
-use Rattle.tree_handles.specs.Faults.{OfOverflow}
-use Rattle.tree_handles.proofs.Outcomes.{passed_on}
-use Rattle.surd_terms.specs.Calculations.{first_misfit, calculation_of}
-use Rattle.tree_handles.specs.declared.fault.NumberFault.TheVariants as fault
 use Rattle.number_forms.proofs.SumChanges.{same_plain, read_expression}
-use Rattle.tree_handles.specs.Handed.{tree_of}
-use Rattle.surd_terms.specs.Terms.{term_of}
-use Rattle.tree_handles.proofs.Fronts.{behind_first, front_same, front_at, front_without, front_after}
-use Rattle.tree_handles.proofs.Given.{gives_as, owned}
-use Rattle.number_forms.proofs.inverting.invert_two.Goals as goal
 use Rattle.number_forms.proofs.inverting.invert_two.Goals.{After-nth_term-second}
+use Rattle.tree_handles.specs.declared.fault.NumberFault.TheVariants as fault
+use Rattle.number_forms.proofs.inverting.invert_two.Goals as goal
 
 pub nth_term-first-requires-clause-expression : goal.nth_term-first-requires-clause-expression
 nth_term-first-requires-clause-expression c = read_expression _ c.args.a c.args.pool.now c.id.ensures c.requires.stands c.requires.handed

@@ -1,23 +1,11 @@
 use Rattle.std.proofs.Common.{◌≡◌, ℕ, ◌+◌, ◌≤◌, [], ◌∷◌, Err, refl, ap, ◌∙◌, arith}
-use Rattle.calc_terms.specs.declared.kind.Kind.TheVariants as kind
-use Rattle.calc_terms.specs.Payload.{bare}
-use Rattle.calc_terms.specs.Trees.{Tree, add, more, none, size}
+use Rattle.number_forms.proofs.Shared.{bare, Tree, add, more, none, size, term_of, tree_of, behind_new, front_same, front_end, front_without, represents_none, represents_handed, represents_with, represents_node, gives, gives_as, given_root, given_handed, given_told, given_rest, last_held, last_apart, other_root, ends_as, free_of, Full, term_tree, sum_of_terms, building, node_sizes, nodes_sizes, given_free, passed_on}
 use Rattle.number_forms.proofs.InverseSteps.{placed_two}
-use Rattle.surd_terms.specs.Terms.{term_of}
-use Rattle.tree_handles.specs.Handed.{tree_of}
-use Rattle.tree_handles.proofs.Fronts.{behind_new, front_same, front_end, front_without}
-use Rattle.tree_handles.proofs.Given.{represents_none, represents_handed, represents_with, represents_node, gives, gives_as, given_root, given_handed, given_told, given_rest}
-use Rattle.tree_handles.proofs.Lasts.{last_held, last_apart, other_root, ends_as}
-use Rattle.node_pool.specs.State.{free_of}
-use Rattle.node_pool.specs.declared.full.Full.{Full}
-use Rattle.number_forms.specs.Shapes.{term_tree, sum_of_terms}
 use Rattle.surd_terms.specs.declared.term.Term.{Term}
-use Rattle.tree_handles.specs.Building.{building, node_sizes, nodes_sizes}
-use Rattle.tree_handles.proofs.Room.{given_free}
-use Rattle.tree_handles.proofs.Outcomes.{passed_on}
 use Rattle.number_forms.proofs.Placings.{refused, lacking, lacking_on, built, placed_before}
-use Rattle.number_forms.proofs.inverting.place_sum.Goals as goal
 use Rattle.number_forms.proofs.inverting.place_sum.Goals.{In_ok-first, In_ok-second}
+use Rattle.calc_terms.specs.declared.kind.Kind.TheVariants as kind
+use Rattle.number_forms.proofs.inverting.place_sum.Goals as goal
 
 pub add_child-requires-clause-live : goal.add_child-requires-clause-live
 add_child-requires-clause-live c = last_held c.in_ok-sum.ensures.ok

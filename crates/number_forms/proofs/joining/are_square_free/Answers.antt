@@ -1,9 +1,6 @@
 use Rattle.std.proofs.Common.{◌≡◌, ◌<◌, ◌-◌, subst, ltb-true, arith, rules}
-use Rattle.calc_terms.specs.Trees.{count}
+use Rattle.number_forms.proofs.Shared.{count, plain, children_of, tree_at, forest}
 use Rattle.number_forms.proofs.SquareFreeSums.{all_below}
-use Rattle.tree_handles.specs.Expressions.{plain, children_of}
-use Rattle.tree_handles.specs.Inside.{tree_at}
-use Rattle.tree_handles.specs.Standing.{forest}
 use Rattle.number_forms.proofs.joining.are_square_free.Goals as goal
 
 pub radicand_at-requires : goal.radicand_at-requires

@@ -1,27 +1,12 @@
 use Rattle.std.proofs.Common.{rules, ◌≡◌, ℕ, inl, sym, ap, ◌∙◌, subst, arith, ◌<◌, ◌≤◌}
-use Rattle.node_pool.specs.State.{free_of}
-use Rattle.node_pool.specs.declared.full.Full.{Full}
+use Rattle.std.specs.Prelude.{slice_set}
+use Rattle.number_forms.proofs.Shared.{free_of, Full, ids_exchanged, lists_at, lists_other, passed_on, Tree, count, term_of, IsChildAt, root_ids, kids_of, children_of, kids, tree_nth, set_nth, AllOnce, IsOwned, Ends, root_tree, put, forest, behind_first, front_same, front_at, front_put, given_root, given_handed, last_root, last_tree, last_rest}
 use Rattle.number_forms.proofs.Exchanged.{exchanged_sum}
 use Rattle.number_forms.proofs.LastSums.{kids_represented, once_nth}
-use Rattle.child_lists.proofs.ListedChildren.{ids_exchanged, lists_at, lists_other}
-use Rattle.tree_handles.proofs.Outcomes.{passed_on}
 use Rattle.number_forms.proofs.SumChanges.{same_plain, read_expression, many_kids}
-use Rattle.calc_terms.specs.Trees.{Tree, count}
-use Rattle.surd_terms.specs.Terms.{term_of}
-use Rattle.std.specs.Prelude.{slice_set}
-use Rattle.tree_handles.specs.Children.{IsChildAt, root_ids}
-use Rattle.tree_handles.specs.Inside.{kids_of}
-use Rattle.tree_handles.specs.Expressions.{children_of}
-use Rattle.tree_handles.specs.Forest.{kids, tree_nth, set_nth}
-use Rattle.tree_handles.specs.Handed.{AllOnce, IsOwned, Ends}
-use Rattle.tree_handles.specs.Roots.{root_tree, put}
-use Rattle.tree_handles.specs.Standing.{forest}
-use Rattle.tree_handles.proofs.Fronts.{behind_first, front_same, front_at, front_put}
-use Rattle.tree_handles.proofs.Given.{given_root, given_handed}
-use Rattle.tree_handles.proofs.Lasts.{last_root, last_tree, last_rest}
-use Rattle.number_forms.proofs.joining.exchange.Goals as goal
 use Rattle.number_forms.proofs.joining.exchange.Given.{Over}
 use Rattle.number_forms.proofs.joining.exchange.Goals.{After-release}
+use Rattle.number_forms.proofs.joining.exchange.Goals as goal
 
 pub child-old-requires : goal.child-old-requires
 child-old-requires g c = (search rules, (c.requires.stands, (read_expression _ c.args.sum.now c.args.pool.now c.id.ensures c.requires.stands (given_handed c.requires.sum), (lists_at c.id.ensures c.requires.lists, subst (λ (t : Tree). c.args.at < count (children_of t)) (sym (same_plain _ c.args.sum.now c.args.pool.now c.id.ensures c.requires.stands (given_root c.requires.sum))) c.requires.within))))

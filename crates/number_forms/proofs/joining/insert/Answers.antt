@@ -1,25 +1,11 @@
 use Rattle.std.proofs.Common.{rules, ◌≡◌, ℕ, sym, ap, ◌∙◌, subst, arith, ◌<◌, ◌≤◌}
-use Rattle.child_lists.specs.Lists.{IsNextAt}
+use Rattle.number_forms.proofs.Shared.{IsNextAt, ids_with, lists_at, lists_more, Tree, count, term_of, root_ids, kids_of, children_of, kids, with_nth, root_tree, without_root, put, forest, behind_first, front_same, front_at, front_put, given_root, given_handed, free_of, passed_on, Full}
 use Rattle.child_lists.proofs.PutBefore.{put_as}
-use Rattle.child_lists.proofs.ListedChildren.{ids_with, lists_at, lists_more}
-use Rattle.calc_terms.specs.Trees.{Tree, count}
 use Rattle.number_forms.proofs.SumChanges.{same_plain, read_expression, many_kids, inserted_sum}
-use Rattle.surd_terms.specs.Terms.{term_of}
 use Rattle.std.specs.List.{insert}
-use Rattle.tree_handles.specs.Children.{root_ids}
-use Rattle.tree_handles.specs.Inside.{kids_of}
-use Rattle.tree_handles.specs.Expressions.{children_of}
-use Rattle.tree_handles.specs.Forest.{kids, with_nth}
-use Rattle.tree_handles.specs.Roots.{root_tree, without_root, put}
-use Rattle.tree_handles.specs.Standing.{forest}
-use Rattle.tree_handles.proofs.Fronts.{behind_first, front_same, front_at, front_put}
-use Rattle.tree_handles.proofs.Given.{given_root, given_handed}
-use Rattle.node_pool.specs.State.{free_of}
-use Rattle.tree_handles.proofs.Outcomes.{passed_on}
-use Rattle.node_pool.specs.declared.full.Full.{Full}
-use Rattle.number_forms.proofs.joining.insert.Goals as goal
 use Rattle.number_forms.proofs.joining.insert.Given.{Over}
 use Rattle.number_forms.proofs.joining.insert.Goals.{After-put_before}
+use Rattle.number_forms.proofs.joining.insert.Goals as goal
 
 pub returns-in_err-child-clause-room : goal.returns-in_err-child-clause-room
 returns-in_err-child-clause-room g c =

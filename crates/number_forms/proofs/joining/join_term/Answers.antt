@@ -1,19 +1,7 @@
 use Rattle.std.proofs.Common.{sym, subst, refl, rules, ◌<◌}
-use Rattle.calc_terms.specs.Trees.{Tree, add}
-use Rattle.number_forms.specs.Sums.{IsApart, removed}
-use Rattle.child_lists.proofs.ListedChildren.{lists_at}
+use Rattle.number_forms.proofs.Shared.{Tree, add, IsApart, removed, lists_at, children_of, tree_of, term_of, given_root, given_handed, given_told, gives_as, JoinOverflows, OfOverflow, passed_on, free_of, Full, OfFull}
 use Rattle.number_forms.proofs.SumChanges.{same_plain, read_expression, read_sum, sum_value, cancelled, made_one, matched, apart_rest}
-use Rattle.tree_handles.specs.Expressions.{children_of}
-use Rattle.tree_handles.specs.Handed.{tree_of}
-use Rattle.surd_terms.specs.Terms.{term_of}
-use Rattle.tree_handles.proofs.Given.{given_root, given_handed, given_told, gives_as}
-use Rattle.number_forms.specs.Overflows.{JoinOverflows}
-use Rattle.tree_handles.specs.Faults.{OfOverflow}
-use Rattle.tree_handles.proofs.Outcomes.{passed_on}
 use Rattle.tree_handles.specs.declared.fault.NumberFault.TheVariants as fault
-use Rattle.node_pool.specs.State.{free_of}
-use Rattle.node_pool.specs.declared.full.Full.{Full}
-use Rattle.tree_handles.specs.Lacking.{OfFull}
 use Rattle.number_forms.proofs.joining.join_term.Goals as goal
 
 pub returns-in_err-at-clause-room : goal.returns-in_err-at-clause-room

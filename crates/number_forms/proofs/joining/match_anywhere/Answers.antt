@@ -1,25 +1,16 @@
 use Rattle.std.proofs.Common.{◌≡◌, ℕ, false, refl, sym, ap, ◌∙◌, subst, arith, below_more}
-use Rattle.std.proofs.lemmas.List.{length_push}
+use Rattle.number_forms.proofs.Shared.{length_push, are_alike, count, IsPlace, term_of, plain, children_of, nth, tree_at, forest, JoinOverflows, passed_on}
 use Rattle.calc_algebra.specs.Numbers.{term_of as term_of_tree}
-use Rattle.calc_algebra.specs.SquareClasses.{are_alike}
-use Rattle.calc_terms.specs.Trees.{count}
 use Rattle.number_forms.proofs.Children.{IsNextChild, left_more, next_child, none_left, few_children}
 use Rattle.number_forms.proofs.ByKind.{children_number}
 use Rattle.number_forms.proofs.Joined.{apart_each}
 use Rattle.number_forms.proofs.SquareFreeSums.{read_apart, read_joined, read_parts}
 use Rattle.number_forms.proofs.SumChanges.{term_of_sum}
-use Rattle.number_forms.specs.Sums.{IsPlace}
-use Rattle.surd_terms.specs.Terms.{term_of}
-use Rattle.surd_terms.specs.declared.sums.Joined.TheVariants as joined
-use Rattle.tree_handles.specs.Expressions.{plain, children_of, nth}
-use Rattle.tree_handles.specs.Inside.{tree_at}
-use Rattle.tree_handles.specs.Standing.{forest}
-use Rattle.number_forms.specs.Overflows.{JoinOverflows}
 use Rattle.number_forms.proofs.Overflows.{join_overflow}
-use Rattle.tree_handles.proofs.Outcomes.{passed_on}
-use Rattle.number_forms.proofs.joining.match_anywhere.Goals as goal
 use Rattle.number_forms.proofs.joining.match_anywhere.Given.{Over}
 use Rattle.number_forms.proofs.joining.match_anywhere.Goals.{In-Some}
+use Rattle.surd_terms.specs.declared.sums.Joined.TheVariants as joined
+use Rattle.number_forms.proofs.joining.match_anywhere.Goals as goal
 
 next : (g : Over) (c : In-Some g) → IsNextChild c.loop-child.at c.args.sum c.in-Some.child c.args.pool.now
 next g c = next_child 0 c.loop-child.at c.args.sum c.loop-child.yielded _ c.in-Some.child _ c.args.pool.now c.requires.stands c.requires.expression (omega arith) (omega (arith, c.loop-child.invariant.place)) c.loop-child.invariant.left c.in-Some.ensures.steps

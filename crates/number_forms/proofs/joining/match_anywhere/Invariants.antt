@@ -1,11 +1,7 @@
 use Rattle.std.proofs.Common.{◌≡◌, ℕ, ◌<◌, length, false}
+use Rattle.number_forms.proofs.Shared.{are_alike, term_of, nth, plain, children_of, tree_at, forest}
 use Rattle.calc_algebra.specs.Numbers.{term_of as term_of_tree}
-use Rattle.calc_algebra.specs.SquareClasses.{are_alike}
 use Rattle.number_forms.proofs.Children.{AreLeft}
-use Rattle.surd_terms.specs.Terms.{term_of}
-use Rattle.tree_handles.specs.Expressions.{nth, plain, children_of}
-use Rattle.tree_handles.specs.Inside.{tree_at}
-use Rattle.tree_handles.specs.Standing.{forest}
 use Rattle.number_forms.proofs.joining.match_anywhere.Given as goal
 
 abbrev pub invariant-loop-child : goal.invariant-loop-child

@@ -1,17 +1,10 @@
 use Rattle.std.proofs.Common.{◌≡◌, ℕ, ◌<◌, ap, ◌∙◌, subst, arith}
-use Rattle.calc_terms.specs.Trees.{count}
+use Rattle.number_forms.proofs.Shared.{count, IsPlace, term_of, nth, plain, children_of, tree_at, forest, JoinOverflows, passed_on}
 use Rattle.number_forms.proofs.SumChanges.{term_of_sum}
 use Rattle.number_forms.proofs.SquareFreeSums.{read_apart, read_joined, read_parts, apart_at_place}
-use Rattle.number_forms.specs.Sums.{IsPlace}
-use Rattle.surd_terms.specs.Terms.{term_of}
-use Rattle.surd_terms.specs.declared.sums.Joined.TheVariants as joined
-use Rattle.tree_handles.specs.Expressions.{nth, plain, children_of}
-use Rattle.tree_handles.specs.Inside.{tree_at}
-use Rattle.tree_handles.specs.Standing.{forest}
 use Rattle.calc_algebra.specs.Numbers.{term_of as term_of_tree}
-use Rattle.number_forms.specs.Overflows.{JoinOverflows}
 use Rattle.number_forms.proofs.Overflows.{join_overflow}
-use Rattle.tree_handles.proofs.Outcomes.{passed_on}
+use Rattle.surd_terms.specs.declared.sums.Joined.TheVariants as joined
 use Rattle.number_forms.proofs.joining.match_at_place.Goals as goal
 
 pub returns-then-at-children-clause-ok : goal.returns-then-at-children-clause-ok

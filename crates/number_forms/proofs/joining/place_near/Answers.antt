@@ -1,9 +1,6 @@
 use Rattle.std.proofs.Common.{rules, ◌≡◌, ◌<◌, sym, ◌∙◌, arith}
-use Rattle.calc_terms.specs.Trees.{count}
+use Rattle.number_forms.proofs.Shared.{count, plain, children_of, tree_at, forest}
 use Rattle.number_forms.proofs.SquareFreeSums.{place_there}
-use Rattle.tree_handles.specs.Expressions.{plain, children_of}
-use Rattle.tree_handles.specs.Inside.{tree_at}
-use Rattle.tree_handles.specs.Standing.{forest}
 use Rattle.number_forms.proofs.joining.place_near.Goals as goal
 
 pub radicand_at-requires : goal.radicand_at-requires

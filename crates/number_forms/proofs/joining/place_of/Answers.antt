@@ -1,8 +1,6 @@
 use Rattle.std.proofs.Common.{◌+◌, ◌-◌, ◌/◌, ◌<◌, subst, arith}
+use Rattle.number_forms.proofs.Shared.{plain, tree_at, forest}
 use Rattle.number_forms.proofs.SquareFreeSums.{below_up_to}
-use Rattle.tree_handles.specs.Expressions.{plain}
-use Rattle.tree_handles.specs.Inside.{tree_at}
-use Rattle.tree_handles.specs.Standing.{forest}
 use Rattle.number_forms.proofs.joining.place_of.Goals as goal
 
 pub loop-low-preserved-then-radicand_at-radicand : goal.loop-low-preserved-then-radicand_at-radicand

@@ -1,9 +1,6 @@
 use Rattle.std.proofs.Common.{ℕ, ◌<◌, ◌≤◌, ◌-◌}
+use Rattle.number_forms.proofs.Shared.{count, nth, plain, children_of, tree_at, forest}
 use Rattle.calc_algebra.specs.Numbers.{term_of}
-use Rattle.calc_terms.specs.Trees.{count}
-use Rattle.tree_handles.specs.Expressions.{nth, plain, children_of}
-use Rattle.tree_handles.specs.Inside.{tree_at}
-use Rattle.tree_handles.specs.Standing.{forest}
 use Rattle.number_forms.proofs.joining.place_of.Given as goal
 
 abbrev pub invariant-loop-low : goal.invariant-loop-low

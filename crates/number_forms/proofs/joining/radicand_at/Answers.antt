@@ -1,9 +1,6 @@
+use Rattle.number_forms.proofs.Shared.{term_of, nth, plain, children_of, tree_at, forest}
 use Rattle.number_forms.proofs.SquareFreeSums.{read_radicand}
 use Rattle.number_forms.proofs.SumChanges.{term_of_sum}
-use Rattle.surd_terms.specs.Terms.{term_of}
-use Rattle.tree_handles.specs.Expressions.{nth, plain, children_of}
-use Rattle.tree_handles.specs.Inside.{tree_at}
-use Rattle.tree_handles.specs.Standing.{forest}
 use Rattle.number_forms.proofs.joining.radicand_at.Goals as goal
 
 pub term_at-requires-clause-term : goal.term_at-requires-clause-term

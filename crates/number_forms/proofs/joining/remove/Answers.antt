@@ -1,22 +1,11 @@
 use Rattle.std.proofs.Common.{rules, ℕ, inl, sym, ◌∙◌, subst, arith, ◌<◌}
-use Rattle.calc_terms.specs.Trees.{Tree, count}
-use Rattle.tree_handles.specs.Children.{IsChildAt}
-use Rattle.tree_handles.specs.Expressions.{children_of}
-use Rattle.child_lists.proofs.ListedChildren.{ids_without, lists_at, lists_less}
+use Rattle.number_forms.proofs.Shared.{Tree, count, IsChildAt, children_of, ids_without, lists_at, lists_less, kids, AllOnce, IsOwned, root_tree, forest, behind_first, front_same, front_at, front_put, given_root, given_handed, last_root, last_tree, last_rest, kept_after}
 use Rattle.number_forms.proofs.LastSums.{kids_represented, once_nth}
 use Rattle.number_forms.proofs.SumChanges.{same_plain, read_expression, many_kids, removed_sum}
-use Rattle.tree_handles.specs.Forest.{kids}
-use Rattle.tree_handles.specs.Handed.{AllOnce, IsOwned}
-use Rattle.tree_handles.specs.Roots.{root_tree}
-use Rattle.tree_handles.specs.Standing.{forest}
-use Rattle.tree_handles.proofs.Fronts.{behind_first, front_same, front_at, front_put}
-use Rattle.tree_handles.proofs.Given.{given_root, given_handed}
-use Rattle.tree_handles.proofs.Lasts.{last_root, last_tree, last_rest}
 use Rattle.number_forms.proofs.FreeBytes.{removed_free}
-use Rattle.tree_handles.proofs.Refused.{kept_after}
-use Rattle.number_forms.proofs.joining.remove.Goals as goal
 use Rattle.number_forms.proofs.joining.remove.Given.{Over}
 use Rattle.number_forms.proofs.joining.remove.Goals.{After-release}
+use Rattle.number_forms.proofs.joining.remove.Goals as goal
 
 pub child-id-requires : goal.child-id-requires
 child-id-requires g c = (search rules, (c.requires.stands, (read_expression _ c.args.sum.now c.args.pool.now c.id.ensures c.requires.stands (given_handed c.requires.sum), (lists_at c.id.ensures c.requires.lists, subst (λ (t : Tree). c.args.at < count (children_of t)) (sym (same_plain _ c.args.sum.now c.args.pool.now c.id.ensures c.requires.stands (given_root c.requires.sum))) c.requires.within))))

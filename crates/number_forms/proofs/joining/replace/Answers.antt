@@ -1,18 +1,7 @@
 use Rattle.std.proofs.Common.{rules, ◌≡◌, ◌<◌, ◌∷◌, OnOk, refl, sym, ap, ◌∙◌, subst}
-use Rattle.calc_algebra.specs.Numbers.{value, terms_of}
+use Rattle.number_forms.proofs.Shared.{value, terms_of, Surd, Tree, count, IsSumOf, IsApart, removed, lists_at, term_of, children_of, nth, Forest, tree_of, Gives, without_root, forest, given_root, given_handed, given_told, given_rest, gives_as}
 use Rattle.calc_algebra.specs.Numbers.{term_of as term_of_tree}
-use Rattle.calc_algebra.specs.Surds.{Surd}
-use Rattle.calc_terms.specs.Trees.{Tree, count}
-use Rattle.number_forms.specs.Sums.{IsSumOf, IsApart, removed}
-use Rattle.child_lists.proofs.ListedChildren.{lists_at}
 use Rattle.number_forms.proofs.SumChanges.{same_plain, read_expression, read_sum, read_place, removed_is_sum}
-use Rattle.surd_terms.specs.Terms.{term_of}
-use Rattle.tree_handles.specs.Expressions.{children_of, nth}
-use Rattle.tree_handles.specs.Forest.{Forest}
-use Rattle.tree_handles.specs.Handed.{tree_of, Gives}
-use Rattle.tree_handles.specs.Roots.{without_root}
-use Rattle.tree_handles.specs.Standing.{forest}
-use Rattle.tree_handles.proofs.Given.{given_root, given_handed, given_told, given_rest, gives_as}
 use Rattle.number_forms.proofs.joining.replace.Goals as goal
 
 pub radicand_at-requires : goal.radicand_at-requires

@@ -1,33 +1,16 @@
 use Rattle.std.proofs.Common.{◌≡◌, ℕ, ◌≤◌, ◌∷◌, Some, length, map, sym, ap, ◌∙◌, arith, add-one, rules, ◌+◌, ◌-◌, inl, inr}
 use Rattle.std.specs.Prelude.{slice_get}
-use Rattle.calc_algebra.specs.Numbers.{is_number, value, classes}
-use Rattle.calc_algebra.specs.Surds.{term_times}
-use Rattle.calc_terms.specs.Trees.{Tree, size}
-use Rattle.calc_algebra.proofs.TermLaws.{Same-refl}
+use Rattle.number_forms.proofs.Shared.{is_number, value, classes, term_times, Tree, size, Same-refl, other_plain, other_read, other_expression, gives_rest, lists_at, lists_kept, behind_first, front_after_one, tree_of, term_of, given_handed, given_other, given_told, plain_root, RowOverflows, OfOverflow, passed_on, overflow_as, spans_append, spans_row, free_of, LacksRoom, joining_need}
 use Rattle.number_forms.proofs.Denominators.{parts_extracted}
 use Rattle.number_forms.proofs.Loops.{joined_none, joined_more, joined_all, from_all}
-use Rattle.tree_handles.proofs.Beside.{other_plain, other_read, other_expression, gives_rest}
 use Rattle.number_forms.proofs.Worth.{terms_from, products_next, same_first, get_from, from_from}
-use Rattle.child_lists.proofs.ListedChildren.{lists_at, lists_kept}
 use Rattle.number_forms.proofs.SumChanges.{read_expression, read_sum}
-use Rattle.tree_handles.proofs.Fronts.{behind_first, front_after_one}
-use Rattle.tree_handles.specs.Handed.{tree_of}
-use Rattle.surd_terms.specs.Terms.{term_of}
-use Rattle.tree_handles.proofs.Given.{given_handed, given_other, given_told}
-use Rattle.tree_handles.proofs.Lasts.{plain_root}
-use Rattle.number_forms.specs.Overflows.{RowOverflows}
-use Rattle.tree_handles.specs.Faults.{OfOverflow}
-use Rattle.tree_handles.proofs.Outcomes.{passed_on}
-use Rattle.tree_handles.proofs.Refused.{overflow_as}
 use Rattle.number_forms.proofs.Rows.{product_join_overflows}
 use Rattle.number_forms.proofs.multiplying.join_products.Goals.{After-listed_term-other}
-use Rattle.tree_handles.specs.declared.fault.NumberFault.TheVariants as fault
-use Rattle.calc_room.proofs.NumberSpans.{spans_append, spans_row}
-use Rattle.node_pool.specs.State.{free_of}
-use Rattle.number_forms.specs.Rooms.{LacksRoom, joining_need}
 use Rattle.number_forms.proofs.Rooms.{full_as, spans_from, term_lacks}
-use Rattle.number_forms.proofs.multiplying.join_products.Goals as goal
 use Rattle.number_forms.proofs.multiplying.join_products.Given.{Over}
+use Rattle.tree_handles.specs.declared.fault.NumberFault.TheVariants as fault
+use Rattle.number_forms.proofs.multiplying.join_products.Goals as goal
 
 pub returns-in_err-product-clause-room : goal.returns-in_err-product-clause-room
 returns-in_err-product-clause-room g c = λ gs s x t.

@@ -1,29 +1,8 @@
 use Rattle.std.proofs.Common.{◌≡◌, ℕ, ◌≤◌, ◌++◌, Some, length, map, sym, ap, ◌∙◌, arith, add-one, subst, rules, ◌+◌}
 use Rattle.std.specs.Prelude.{slice_get}
-use Rattle.calc_algebra.specs.Numbers.{is_number, value, classes}
-use Rattle.calc_algebra.specs.Surds.{surd_times, term_times, Surd}
-use Rattle.calc_terms.specs.Trees.{Tree, size}
-use Rattle.calc_bits.specs.Denominators.{SharesDenominators}
-use Rattle.number_forms.specs.Sums.{IsSumOf}
-use Rattle.child_lists.proofs.ListedChildren.{lists_kept}
+use Rattle.number_forms.proofs.Shared.{is_number, value, classes, surd_times, term_times, Surd, Tree, size, SharesDenominators, IsSumOf, lists_kept, other_plain, other_read, other_expression, gives_rest, tree_of, Gives, term_of, without_root, forest, given_other, given_rest, handed_at, given_handed, given_told, plain_root, Same, RowOverflows, ProductOverflows, OfOverflow, passed_on, overflow_as, spans_append, spans_times, Spans, free_of, LacksRoom, joining_need}
 use Rattle.number_forms.proofs.Loops.{IsJoined, joined_none, joined_part, joined_all, from_all}
-use Rattle.tree_handles.proofs.Beside.{other_plain, other_read, other_expression, gives_rest}
 use Rattle.number_forms.proofs.Worth.{terms_from, rows_next}
-use Rattle.tree_handles.specs.Handed.{tree_of, Gives}
-use Rattle.surd_terms.specs.Terms.{term_of}
-use Rattle.tree_handles.specs.Roots.{without_root}
-use Rattle.tree_handles.specs.Standing.{forest}
-use Rattle.tree_handles.proofs.Given.{given_other, given_rest, handed_at, given_handed, given_told}
-use Rattle.tree_handles.proofs.Lasts.{plain_root}
-use Rattle.calc_algebra.specs.SquareClasses.{Same}
-use Rattle.number_forms.specs.Overflows.{RowOverflows, ProductOverflows}
-use Rattle.tree_handles.specs.Faults.{OfOverflow}
-use Rattle.tree_handles.proofs.Outcomes.{passed_on}
-use Rattle.tree_handles.proofs.Refused.{overflow_as}
-use Rattle.calc_room.proofs.NumberSpans.{spans_append, spans_times}
-use Rattle.calc_room.specs.Spans.{Spans}
-use Rattle.node_pool.specs.State.{free_of}
-use Rattle.number_forms.specs.Rooms.{LacksRoom, joining_need}
 use Rattle.number_forms.proofs.Rooms.{full_as, spans_from, spans_nth, partial_spanned, row_lacks}
 use Rattle.number_forms.proofs.multiplying.join_rows.Goals as goal
 

@@ -1,11 +1,7 @@
 use Rattle.std.proofs.Common.{◌++◌}
-use Rattle.calc_algebra.specs.Numbers.{value}
-use Rattle.calc_algebra.specs.Surds.{surd_times}
-use Rattle.child_lists.specs.Lists.{Lists}
+use Rattle.number_forms.proofs.Shared.{value, surd_times, Lists, tree_of, forest}
 use Rattle.number_forms.proofs.Loops.{IsJoined}
 use Rattle.number_forms.proofs.Worth.{terms_from}
-use Rattle.tree_handles.specs.Handed.{tree_of}
-use Rattle.tree_handles.specs.Standing.{forest}
 use Rattle.number_forms.proofs.multiplying.join_rows.Given as goal
 
 abbrev pub invariant-loop-at : goal.invariant-loop-at

@@ -1,16 +1,14 @@
 use Rattle.std.proofs.Common.{◌≡◌, true, sym, ap, ◌∙◌}
 use Rattle.std.specs.Prelude.{◌&&◌}
-use Rattle.tree_handles.specs.Handed.{tree_of}
-use Rattle.calc_terms.specs.Trees.{is_num}
+use Rattle.number_forms.proofs.Shared.{tree_of, is_num, refused_as}
 use Rattle.number_forms.proofs.Kept.{no_one}
 use Rattle.number_forms.proofs.Over.{if_number, if_no_larger, of_over}
-use Rattle.tree_handles.proofs.Refused.{refused_as}
 use Rattle.number_forms.proofs.RationalBits.{product_not_refused}
 use Rattle.number_forms.proofs.WithinBits.{numbers_within}
 use Rattle.number_forms.proofs.SumChanges.{same_plain, read_expression}
 use Rattle.number_forms.proofs.Rooms.{answer_spans, product_spans}
-use Rattle.number_forms.proofs.multiplying.multiply_numbers.Goals as goal
 use Rattle.number_forms.proofs.multiplying.multiply_numbers.Goals.{else-is_rational-via-then-is_rational+else-is_rational-2, else-is_rational-via-else-is_rational}
+use Rattle.number_forms.proofs.multiplying.multiply_numbers.Goals as goal
 
 pub returns-then-is_rational-2-clause-room : goal.returns-then-is_rational-2-clause-room
 returns-then-is_rational-2-clause-room c = λ gs s t. c.multiply_rationals.ensures.room gs

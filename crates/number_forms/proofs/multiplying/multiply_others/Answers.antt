@@ -1,14 +1,6 @@
 use Rattle.std.proofs.Common.{inl, ◌+◌}
-use Rattle.tree_handles.proofs.Beside.{gives_without}
-use Rattle.tree_handles.proofs.Fronts.{behind_first, behind_later, front_same, front_at, front_without, front_after}
-use Rattle.tree_handles.proofs.Given.{given_other, handed_beside, handed_at, owned}
-use Rattle.calc_room.specs.Needs.{product_need}
-use Rattle.calc_terms.specs.Trees.{size}
-use Rattle.node_pool.specs.State.{free_of}
-use Rattle.number_forms.specs.Rooms.{LacksRoom}
-use Rattle.tree_handles.proofs.Outcomes.{passed_on}
+use Rattle.number_forms.proofs.Shared.{gives_without, behind_first, behind_later, front_same, front_at, front_without, front_after, given_other, handed_beside, handed_at, owned, product_need, size, free_of, LacksRoom, passed_on, tree_of}
 use Rattle.number_forms.proofs.Rooms.{full_as, product_lacks}
-use Rattle.tree_handles.specs.Handed.{tree_of}
 use Rattle.number_forms.proofs.multiplying.multiply_others.Goals as goal
 
 pub returns-in_err-product-clause-room : goal.returns-in_err-product-clause-room

@@ -1,17 +1,7 @@
 use Rattle.std.proofs.Common.{Ok, ap, ◌∙◌, ◌+◌, ◌<◌, arith}
-use Rattle.calc_terms.specs.Fits.{mul_op}
-use Rattle.calc_terms.specs.Trees.{num, root_size, size}
+use Rattle.number_forms.proofs.Shared.{mul_op, num, root_size, size, tree_of, given_told, gives_as, product_need, num_most, value_of, free_of, LacksRoom, both_released_free, refused_below, passed_on}
 use Rattle.number_forms.proofs.RationalCalls.{plain_answer, rational_product, at_rationals, rational_over}
 use Rattle.number_forms.proofs.RationalBits.{product_parts}
-use Rattle.tree_handles.specs.Handed.{tree_of}
-use Rattle.tree_handles.proofs.Given.{given_told, gives_as}
-use Rattle.calc_room.specs.Needs.{product_need}
-use Rattle.calc_terms.proofs.Sizes.{num_most}
-use Rattle.calc_terms.specs.Rat.{value_of}
-use Rattle.node_pool.specs.State.{free_of}
-use Rattle.number_forms.specs.Rooms.{LacksRoom}
-use Rattle.tree_handles.proofs.FreeBytes.{both_released_free, refused_below}
-use Rattle.tree_handles.proofs.Outcomes.{passed_on}
 use Rattle.number_forms.proofs.Rooms.{few_for_product}
 use Rattle.tree_handles.specs.declared.fault.NumberFault.TheVariants as fault
 use Rattle.number_forms.proofs.multiplying.multiply_rationals.Goals as goal

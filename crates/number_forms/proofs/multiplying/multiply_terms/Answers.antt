@@ -1,12 +1,9 @@
 use Rattle.std.proofs.Common.{◌≡◌, refl, sym, ap, ◌∙◌}
-use Rattle.calc_algebra.specs.Reduced.{is_num_one}
+use Rattle.number_forms.proofs.Shared.{is_num_one, tree_of, gives_as, without-swap}
 use Rattle.number_forms.proofs.Kept.{one_with, with_one}
 use Rattle.number_forms.proofs.SumChanges.{same_plain, read_expression}
-use Rattle.tree_handles.specs.Handed.{tree_of}
-use Rattle.tree_handles.proofs.Given.{gives_as}
-use Rattle.tree_handles.proofs.Roots.{without-swap}
-use Rattle.number_forms.proofs.multiplying.multiply_terms.Goals as goal
 use Rattle.number_forms.proofs.multiplying.multiply_terms.Goals.{After-is_num_one, After-is_num_one-else-is_num_one}
+use Rattle.number_forms.proofs.multiplying.multiply_terms.Goals as goal
 
 -- what was read of each
 first : (c : After-is_num_one) → c.is_num_one.result ≡ is_num_one (tree_of c.args.a c.args.pool.now)

@@ -1,32 +1,8 @@
 use Rattle.std.proofs.Common.{◌≡◌, ℕ, ◌++◌, refl, sym, ap, ◌∙◌, subst, arith, ◌*◌, ◌^◌, ◌<◌, length}
-use Rattle.calc_algebra.specs.Numbers.{is_number, value}
-use Rattle.calc_algebra.specs.Surds.{surd_times}
-use Rattle.calc_algebra.proofs.SquareClassLaws.{Same-trans}
-use Rattle.calc_algebra.proofs.TermLaws.{Same-eq}
-use Rattle.number_forms.specs.Sums.{IsSum}
-use Rattle.child_lists.proofs.ListedChildren.{lists_at, lists_none, lists_listed}
-use Rattle.tree_handles.specs.Children.{root_ids}
-use Rattle.tree_handles.proofs.Lasts.{kids_of_last, expression_root}
-use Rattle.calc_terms.specs.Trees.{Tree}
-use Rattle.tree_handles.proofs.Beside.{other_plain, gives_rest}
-use Rattle.tree_handles.proofs.Refused.{kept_after, overflow_as}
+use Rattle.number_forms.proofs.Shared.{is_number, value, surd_times, Same-trans, Same-eq, IsSum, lists_at, lists_none, lists_listed, root_ids, kids_of_last, expression_root, Tree, other_plain, gives_rest, kept_after, overflow_as, tree_of, IsHanded, IsExpression, without_root, forest, behind_new, front_same, front_after_one, given_told, given_other, given_rest, gives_as, handed_at, ProductOverflows, OfOverflow, passed_on, Spans, free_of, LacksRoom, joining_need, refused_below, given_free}
 use Rattle.number_forms.proofs.Denominators.{shares_eq}
 use Rattle.number_forms.proofs.Over.{over_as}
-use Rattle.tree_handles.specs.Handed.{tree_of, IsHanded}
-use Rattle.tree_handles.specs.Expressions.{IsExpression}
-use Rattle.tree_handles.specs.Roots.{without_root}
-use Rattle.tree_handles.specs.Standing.{forest}
-use Rattle.tree_handles.proofs.Fronts.{behind_new, front_same, front_after_one}
-use Rattle.tree_handles.proofs.Given.{given_told, given_other, given_rest, gives_as, handed_at}
-use Rattle.number_forms.specs.Overflows.{ProductOverflows}
-use Rattle.tree_handles.specs.Faults.{OfOverflow}
-use Rattle.tree_handles.proofs.Outcomes.{passed_on}
-use Rattle.calc_room.specs.Spans.{Spans}
-use Rattle.node_pool.specs.State.{free_of}
-use Rattle.number_forms.specs.Rooms.{LacksRoom, joining_need}
-use Rattle.tree_handles.proofs.FreeBytes.{refused_below}
 use Rattle.number_forms.proofs.Rooms.{full_as, few_for_joining, number_spans}
-use Rattle.tree_handles.proofs.Room.{given_free}
 use Rattle.tree_handles.specs.declared.fault.NumberFault.TheVariants as fault
 use Rattle.number_forms.proofs.multiplying.product_within.Goals as goal
 

@@ -1,18 +1,9 @@
 use Rattle.std.proofs.Common.{◌≡◌, ℕ, pos, Err, ◌+◌, ◌≤◌, [], ◌∷◌, ap, sym, ◌∙◌, refl, arith}
-use Rattle.calc_terms.specs.Fractions.{Fraction, whole_fraction}
-use Rattle.calc_terms.specs.declared.kind.Kind.TheVariants as kind
-use Rattle.calc_terms.specs.Payload.{bare}
-use Rattle.calc_terms.specs.Trees.{num, root, root_size}
-use Rattle.tree_handles.proofs.Fronts.{behind_new, front_same, front_end, front_without}
-use Rattle.tree_handles.proofs.Given.{represents_none, represents_handed, represents_with, represents_node, gives, gives_as, given_root, given_handed, given_told, given_rest}
-use Rattle.tree_handles.proofs.Lasts.{last_held, last_apart, other_root}
-use Rattle.node_pool.specs.State.{free_of}
-use Rattle.node_pool.specs.declared.full.Full.{Full}
-use Rattle.tree_handles.specs.Building.{building, taking}
-use Rattle.tree_handles.proofs.Outcomes.{passed_on}
+use Rattle.number_forms.proofs.Shared.{Fraction, whole_fraction, bare, num, root, root_size, behind_new, front_same, front_end, front_without, represents_none, represents_handed, represents_with, represents_node, gives, gives_as, given_root, given_handed, given_told, given_rest, last_held, last_apart, other_root, free_of, Full, building, taking, passed_on}
 use Rattle.number_forms.proofs.Placings.{free_before, refused, taken, lacking}
-use Rattle.number_forms.proofs.placing.place_root.Goals as goal
 use Rattle.number_forms.proofs.placing.place_root.Goals.{In_ok-rational}
+use Rattle.calc_terms.specs.declared.kind.Kind.TheVariants as kind
+use Rattle.number_forms.proofs.placing.place_root.Goals as goal
 
 pub add_child-requires-clause-live : goal.add_child-requires-clause-live
 add_child-requires-clause-live c = last_held c.in_ok-root.ensures.ok

@@ -1,17 +1,10 @@
 use Rattle.std.proofs.Common.{◌≡◌, ◌≢◌, ◌↔◌, ℕ, subst, ◌≤◌, sym, ap, ◌∙◌, arith, rules, to_z, of_z, FitsSigned}
-use Rattle.std.specs.Int.{w128}
 use Rattle.std.specs.Prelude.{ℤ, pos, IsOk, IfErr, Err}
-use Rattle.std.proofs.lemmas.Int.{to_z-of_z}
-use Rattle.calc_terms.specs.Fractions.{one_fraction, whole_fraction}
-use Rattle.calc_terms.specs.Rat.{value_of}
-use Rattle.calc_terms.specs.Trees.{Tree, num, root, mult, more, none, size, root_size}
-use Rattle.node_pool.specs.State.{free_of}
-use Rattle.tree_handles.specs.Building.{building}
-use Rattle.surd_terms.specs.Terms.{term_of}
+use Rattle.number_forms.proofs.Shared.{w128, to_z-of_z, one_fraction, whole_fraction, value_of, Tree, num, root, mult, more, none, size, root_size, free_of, building, term_of}
 use Rattle.number_forms.proofs.Placings.{number_lacks, rational_term, root_term, multiple_term, told_tree}
 use Rattle.number_forms.proofs.TermTrees.{rational_tree, root_tree, multiple_tree, if_gives, is_one_value, not_one_num, not_one_den}
-use Rattle.number_forms.proofs.placing.place_term.Goals as goal
 use Rattle.number_forms.proofs.placing.place_term.Goals.{else-num-eq1-via-then-num-eq1+else-den-eq1, else-num-eq1-via-else-num-eq1}
+use Rattle.number_forms.proofs.placing.place_term.Goals as goal
 
 two : (n : ℕ) → 1 ≤ n → n ≢ 1 → 2 ≤ n
 two n l h = grind arith

@@ -1,29 +1,10 @@
 use Rattle.std.proofs.Common.{ap, ◌∙◌, subst, sym, ◌/◌}
-use Rattle.calc_algebra.specs.Numbers.{is_number, value}
-use Rattle.calc_algebra.specs.Surds.{surd_times}
-use Rattle.calc_terms.specs.Trees.{Tree}
-use Rattle.tree_handles.proofs.Beside.{other_plain}
-use Rattle.tree_handles.proofs.Refused.{kept_after, overflow_as, refused_as}
-use Rattle.number_forms.specs.Answers.{IsNumberOver}
+use Rattle.number_forms.proofs.Shared.{is_number, value, surd_times, Tree, other_plain, kept_after, overflow_as, refused_as, IsNumberOver, tree_of, plain, Forest, root_tree, behind_new, front_same, front_at, front_after_one, given_handed, given_told, given_rest, given_other, gives_as, handed_at, Same-refl, PowerOverflows, ProductOverflows, OfOverflow, passed_on, SpansTree, free_of, LacksRoom, raising_need, given_free}
 use Rattle.number_forms.proofs.Over.{even_power, odd_power, power_itself, of_over, of_power}
 use Rattle.number_forms.proofs.TermTrees.{if_given}
-use Rattle.tree_handles.specs.Handed.{tree_of}
-use Rattle.tree_handles.specs.Expressions.{plain}
-use Rattle.tree_handles.specs.Forest.{Forest}
-use Rattle.tree_handles.specs.Roots.{root_tree}
-use Rattle.tree_handles.proofs.Fronts.{behind_new, front_same, front_at, front_after_one}
-use Rattle.tree_handles.proofs.Given.{given_handed, given_told, given_rest, given_other, gives_as, handed_at}
-use Rattle.calc_algebra.proofs.TermLaws.{Same-refl}
-use Rattle.number_forms.specs.Overflows.{PowerOverflows, ProductOverflows}
-use Rattle.tree_handles.specs.Faults.{OfOverflow}
 use Rattle.number_forms.proofs.Overflows.{power_overflows_more, square_overflows, last_overflows}
-use Rattle.tree_handles.proofs.Outcomes.{passed_on}
 use Rattle.number_forms.proofs.PowerSteps.{half_twice, half_below, half_odd_within}
-use Rattle.calc_room.specs.Spans.{SpansTree}
-use Rattle.node_pool.specs.State.{free_of}
-use Rattle.number_forms.specs.Rooms.{LacksRoom, raising_need}
 use Rattle.number_forms.proofs.Rooms.{full_as, refusal_as, product_spans, power_spans, step_lacks}
-use Rattle.tree_handles.proofs.Room.{given_free}
 use Rattle.number_forms.proofs.powers.+power_of.Goals as goal
 
 pub returns-in_err-half-clause-room : goal.returns-in_err-half-clause-room

@@ -1,10 +1,5 @@
 use Rattle.std.proofs.Common.{inl}
-use Rattle.tree_handles.proofs.Beside.{gives_without}
-use Rattle.tree_handles.proofs.Fronts.{behind_first, front_same, front_at, front_without, front_after}
-use Rattle.tree_handles.proofs.Given.{given_other, owned}
-use Rattle.node_pool.specs.State.{free_of}
-use Rattle.number_forms.specs.Rooms.{LacksRoom, joining_need}
-use Rattle.tree_handles.proofs.Outcomes.{passed_on}
+use Rattle.number_forms.proofs.Shared.{gives_without, behind_first, front_same, front_at, front_without, front_after, given_other, owned, free_of, LacksRoom, joining_need, passed_on}
 use Rattle.number_forms.proofs.powers.multiplied.Goals as goal
 
 pub returns-in_err-product-clause-room : goal.returns-in_err-product-clause-room

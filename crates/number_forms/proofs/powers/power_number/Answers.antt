@@ -1,32 +1,11 @@
 use Rattle.std.proofs.Common.{◌≡◌, inl, refl, sym, ap, ◌∙◌, rules, FitsSigned, ◌+◌, subst, ℕ, ◌*◌, ◌≤◌, arith, to_z, of_z}
-use Rattle.std.specs.Int.{w128}
 use Rattle.std.specs.Prelude.{ℤ, nat_abs}
-use Rattle.std.proofs.lemmas.Int.{to_z-of_z}
-use Rattle.calc_algebra.specs.Numbers.{value}
-use Rattle.calc_algebra.specs.Surds.{surd_power}
-use Rattle.calc_terms.specs.Trees.{is_num, size, Tree}
-use Rattle.calc_algebra.proofs.TermLaws.{Same-refl}
-use Rattle.tree_handles.proofs.Beside.{gives_without}
+use Rattle.number_forms.proofs.Shared.{w128, to_z-of_z, value, surd_power, is_num, size, Tree, Same-refl, gives_without, tree_of, behind_first, front_same, front_at, front_without, front_after, front_end, given_other, gives_as, owned, given_told, power_need, SpansTree, free_of, LacksRoom, passed_on, overflow_as, last_tree, plain, Forest, IsNoLargerThanPower, OfOverflow, IsNumberOf, IsPowerOver}
 use Rattle.number_forms.proofs.SumChanges.{same_plain, read_expression}
-use Rattle.tree_handles.specs.Handed.{tree_of}
-use Rattle.tree_handles.proofs.Fronts.{behind_first, front_same, front_at, front_without, front_after, front_end}
-use Rattle.tree_handles.proofs.Given.{given_other, gives_as, owned, given_told}
-use Rattle.calc_room.specs.Needs.{power_need}
-use Rattle.calc_room.specs.Spans.{SpansTree}
-use Rattle.node_pool.specs.State.{free_of}
-use Rattle.number_forms.specs.Rooms.{LacksRoom}
-use Rattle.tree_handles.proofs.Outcomes.{passed_on}
-use Rattle.tree_handles.proofs.Refused.{overflow_as}
 use Rattle.number_forms.proofs.Rooms.{answer_spans, full_as, power_lacks, power_spans}
-use Rattle.tree_handles.proofs.Lasts.{last_tree}
-use Rattle.tree_handles.specs.Expressions.{plain}
-use Rattle.tree_handles.specs.Forest.{Forest}
 use Rattle.number_forms.proofs.Over.{of_power, power_itself}
 use Rattle.number_forms.proofs.RationalBits.{at_least_one, power_no_larger, if_power_no_larger, power_not_refused}
 use Rattle.number_forms.proofs.PowersWithin.{power_within}
-use Rattle.calc_bits.specs.Bounds.{IsNoLargerThanPower}
-use Rattle.tree_handles.specs.Faults.{OfOverflow}
-use Rattle.number_forms.specs.Answers.{IsNumberOf, IsPowerOver}
 use Rattle.number_forms.proofs.TermTrees.{if_given}
 use Rattle.number_forms.proofs.powers.power_number.Goals as goal
 

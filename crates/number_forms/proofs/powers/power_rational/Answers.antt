@@ -1,27 +1,9 @@
 use Rattle.std.proofs.Common.{sym, ap, ◌∙◌, subst, rules, FitsSigned, ◌+◌, ◌<◌, arith}
-use Rattle.std.specs.Int.{w128}
-use Rattle.std.proofs.lemmas.Int.{to_z-of_z}
 use Rattle.std.specs.Prelude.{ℤ, nat_abs}
-use Rattle.calc_terms.specs.Fits.{pow_op, fraction_power, operation_fits}
-use Rattle.calc_terms.specs.Fractions.{Fraction, whole_fraction}
-use Rattle.calc_measures.specs.PlainValues.{calculated}
-use Rattle.calc_terms.specs.Rat.{value_of}
-use Rattle.calc_terms.specs.Trees.{num, root_size, size}
-use Rattle.calc_terms.proofs.FractionFacts.{whole_numerator}
+use Rattle.number_forms.proofs.Shared.{w128, to_z-of_z, pow_op, fraction_power, operation_fits, Fraction, whole_fraction, calculated, value_of, num, root_size, size, whole_numerator, IsPlainAnswer, tree_of, behind_first, front_same, front_at, front_without, front_after, given_told, gives_as, power_need, num_most, free_of, LacksRoom, refused_below, passed_on, released_free}
 use Rattle.number_forms.proofs.RationalCalls.{plain_answer, rational_power_over, rational_power, num_same}
 use Rattle.number_forms.proofs.RationalBits.{power_parts}
-use Rattle.calc_measures.specs.PlainTrees.{IsPlainAnswer}
-use Rattle.tree_handles.specs.Handed.{tree_of}
-use Rattle.tree_handles.proofs.Fronts.{behind_first, front_same, front_at, front_without, front_after}
-use Rattle.tree_handles.proofs.Given.{given_told, gives_as}
-use Rattle.calc_room.specs.Needs.{power_need}
-use Rattle.calc_terms.proofs.Sizes.{num_most}
-use Rattle.node_pool.specs.State.{free_of}
-use Rattle.number_forms.specs.Rooms.{LacksRoom}
-use Rattle.tree_handles.proofs.FreeBytes.{refused_below}
-use Rattle.tree_handles.proofs.Outcomes.{passed_on}
 use Rattle.number_forms.proofs.Rooms.{few_for_power}
-use Rattle.tree_handles.proofs.Room.{released_free}
 use Rattle.tree_handles.specs.declared.fault.NumberFault.TheVariants as fault
 use Rattle.number_forms.proofs.powers.power_rational.Goals as goal
 

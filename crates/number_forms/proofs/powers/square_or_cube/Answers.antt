@@ -1,28 +1,12 @@
 use Rattle.std.proofs.Common.{◌/◌, ap, ◌∙◌, subst, sym, ℕ, arith, refl}
-use Rattle.calc_algebra.specs.Numbers.{is_number, value}
-use Rattle.calc_algebra.specs.Surds.{surd_times}
-use Rattle.calc_terms.specs.Trees.{Tree}
-use Rattle.calc_algebra.proofs.TermLaws.{Same-refl}
-use Rattle.number_forms.specs.Answers.{IsNumberOver, IsPowerOver}
-use Rattle.number_forms.specs.Overflows.{PowerOverflows, ProductOverflows}
-use Rattle.tree_handles.proofs.Beside.{other_plain}
+use Rattle.number_forms.proofs.Shared.{is_number, value, surd_times, Tree, Same-refl, IsNumberOver, IsPowerOver, PowerOverflows, ProductOverflows, other_plain, passed_on, overflow_as, refused_as, OfOverflow, tree_of, behind_new, front_same, front_after_one, given_handed, given_told, given_rest, given_other, gives_as, SpansTree, free_of, LacksRoom, raising_need, given_free}
 use Rattle.number_forms.proofs.Over.{even_power, odd_power, power_itself, of_over}
 use Rattle.number_forms.proofs.Overflows.{square_overflows, last_overflows}
-use Rattle.tree_handles.proofs.Outcomes.{passed_on}
-use Rattle.tree_handles.proofs.Refused.{overflow_as, refused_as}
 use Rattle.number_forms.proofs.PowerSteps.{half_one, three_odd, half_twice, half_odd_within}
 use Rattle.number_forms.proofs.TermTrees.{if_given}
-use Rattle.tree_handles.specs.Faults.{OfOverflow}
-use Rattle.tree_handles.specs.Handed.{tree_of}
-use Rattle.tree_handles.proofs.Fronts.{behind_new, front_same, front_after_one}
-use Rattle.tree_handles.proofs.Given.{given_handed, given_told, given_rest, given_other, gives_as}
-use Rattle.calc_room.specs.Spans.{SpansTree}
-use Rattle.node_pool.specs.State.{free_of}
-use Rattle.number_forms.specs.Rooms.{LacksRoom, raising_need}
 use Rattle.number_forms.proofs.Rooms.{full_as, refusal_as, product_spans, step_lacks, few_for_raising}
-use Rattle.tree_handles.proofs.Room.{given_free}
-use Rattle.number_forms.proofs.powers.square_or_cube.Goals as goal
 use Rattle.number_forms.proofs.powers.square_or_cube.Goals.{After-square_of}
+use Rattle.number_forms.proofs.powers.square_or_cube.Goals as goal
 
 pub returns-in_err-square-clause-room : goal.returns-in_err-square-clause-room
 returns-in_err-square-clause-room c = λ gs s.

@@ -1,7 +1,6 @@
 use Rattle.std.proofs.Common.{inl}
+use Rattle.number_forms.proofs.Shared.{behind_first, behind_later, front_same, front_at, front_end, front_without, given_told, handed_at, handed_beside, owned}
 use Rattle.number_forms.proofs.Kept.{kept_last}
-use Rattle.tree_handles.proofs.Fronts.{behind_first, behind_later, front_same, front_at, front_end, front_without}
-use Rattle.tree_handles.proofs.Given.{given_told, handed_at, handed_beside, owned}
 use Rattle.number_forms.proofs.rationals.keep_other.Goals as goal
 
 pub release-requires-clause-releasable : goal.release-requires-clause-releasable

@@ -1,8 +1,6 @@
 use Rattle.std.proofs.Common.{sym, ap, ◌∙◌}
-use Rattle.calc_terms.specs.Trees.{is_num}
-use Rattle.tree_handles.proofs.FreeBytes.{room_of}
+use Rattle.number_forms.proofs.Shared.{is_num, room_of, owned}
 use Rattle.number_forms.proofs.SumChanges.{same_plain, read_expression}
-use Rattle.tree_handles.proofs.Given.{owned}
 use Rattle.number_forms.proofs.rationals.take_rational.Goals as goal
 
 pub rational-value-requires-clause-live : goal.rational-value-requires-clause-live

@@ -1,12 +1,5 @@
 use Rattle.std.proofs.Common.{sym, ap, ◌∙◌, arith}
-use Rattle.calc_terms.specs.Trees.{is_num, size}
-use Rattle.tree_handles.specs.Expressions.{plain}
-use Rattle.tree_handles.specs.Forest.{Forest}
-use Rattle.tree_handles.specs.Roots.{root_tree}
-use Rattle.tree_handles.specs.Standing.{forest}
-use Rattle.tree_handles.proofs.Fronts.{behind_first, behind_later, front_same, front_at, front_without}
-use Rattle.tree_handles.proofs.Given.{handed_beside, handed_at}
-use Rattle.tree_handles.proofs.Roots.{tree-without}
+use Rattle.number_forms.proofs.Shared.{is_num, size, plain, Forest, root_tree, forest, behind_first, behind_later, front_same, front_at, front_without, handed_beside, handed_at, tree-without}
 use Rattle.number_forms.proofs.rationals.take_rationals.Goals as goal
 
 pub take_rational-q-requires-clause-handed : goal.take_rational-q-requires-clause-handed

@@ -1,9 +1,6 @@
 use Rattle.std.proofs.Common.{◌≡◌, ℕ, ℤ, pos, sym, ap, ◌∙◌, rules, to_z, of_z, FitsSigned}
-use Rattle.std.specs.Int.{w128}
-use Rattle.std.proofs.lemmas.Bool.{eq-eqb}
-use Rattle.std.proofs.lemmas.Int.{to_z-of_z}
+use Rattle.number_forms.proofs.Shared.{w128, eq-eqb, to_z-of_z, ratio_parts}
 use Rattle.number_forms.proofs.CodeTests.{unequal}
-use Rattle.rational128.proofs.LowestTerms.{ratio_parts}
 use Rattle.number_forms.proofs.read.half_of.Goals as goal
 
 two_bits : (z : ℤ) → FitsSigned w128 z → of_z w128 z ≡ 2 → z ≡ pos 2

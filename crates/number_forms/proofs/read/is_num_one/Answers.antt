@@ -1,5 +1,5 @@
 use Rattle.std.proofs.Common.{sym, ap, ◌∙◌}
-use Rattle.calc_algebra.specs.Reduced.{is_num_one}
+use Rattle.number_forms.proofs.Shared.{is_num_one}
 use Rattle.number_forms.proofs.read.is_num_one.Goals as goal
 
 pub returns-in-Num : goal.returns-in-Num

@@ -1,15 +1,9 @@
 use Rattle.std.proofs.Common.{◌≡◌, ◌-◌, true, sym, ap, ◌∙◌, subst, arith}
-use Rattle.calc_algebra.specs.Numbers.{is_number}
-use Rattle.calc_algebra.specs.Reduced.{is_reduced}
-use Rattle.calc_terms.specs.Trees.{Tree, add, count}
-use Rattle.number_forms.specs.Shapes.{has_term_shape}
+use Rattle.number_forms.proofs.Shared.{is_number, is_reduced, Tree, add, count, has_term_shape, plain, children_of, tree_at, forest}
 use Rattle.number_forms.proofs.ByKind.{add_by_kind}
 use Rattle.number_forms.proofs.ReducedNumbers.{reduced_two, reduced_sum, reduced_other}
-use Rattle.tree_handles.specs.Expressions.{plain, children_of}
-use Rattle.tree_handles.specs.Inside.{tree_at}
-use Rattle.tree_handles.specs.Standing.{forest}
-use Rattle.number_forms.proofs.read.is_reduced_number.Goals as goal
 use Rattle.number_forms.proofs.read.is_reduced_number.Goals.{After-children-last}
+use Rattle.number_forms.proofs.read.is_reduced_number.Goals as goal
 
 sum : (c : After-children-last) → plain (tree_at c.args.id (forest c.args.pool.now)) ≡ add (children_of (plain (tree_at c.args.id (forest c.args.pool.now))))
 sum c = add_by_kind _ (sym (c.kind.ensures.plain c.requires.expression) ∙ c.in-Add.is)

@@ -1,5 +1,5 @@
+use Rattle.number_forms.proofs.Shared.{ratio_parts}
 use Rattle.number_forms.proofs.CodeTests.{test_fails}
-use Rattle.rational128.proofs.LowestTerms.{ratio_parts}
 use Rattle.number_forms.proofs.read.whole_of.Goals as goal
 
 pub returns-else-is_whole-clause-value : goal.returns-else-is_whole-clause-value

@@ -1,15 +1,9 @@
 use Rattle.std.proofs.Common.{◌≡◌, ℕ, length, refl, sym, ap, ◌∙◌, arith}
-use Rattle.std.proofs.lemmas.List.{length_push}
-use Rattle.calc_algebra.specs.Numbers.{is_term, are_terms}
-use Rattle.calc_terms.specs.Trees.{count}
+use Rattle.number_forms.proofs.Shared.{length_push, is_term, are_terms, count, trees_from, plain, children_of, tree_at, forest}
 use Rattle.number_forms.proofs.Children.{IsNextChild, left_more, next_child, none_left}
 use Rattle.number_forms.proofs.Rising.{terms_next, no_term, terms_end}
-use Rattle.number_forms.specs.Sums.{trees_from}
-use Rattle.tree_handles.specs.Expressions.{plain, children_of}
-use Rattle.tree_handles.specs.Inside.{tree_at}
-use Rattle.tree_handles.specs.Standing.{forest}
-use Rattle.number_forms.proofs.recognize.are_terms.Goals as goal
 use Rattle.number_forms.proofs.recognize.are_terms.Goals.{In-Some}
+use Rattle.number_forms.proofs.recognize.are_terms.Goals as goal
 
 next : (c : In-Some) → IsNextChild (length c.loop-child.yielded) c.args.id c.in-Some.child c.args.pool.now
 next c = next_child 0 (length c.loop-child.yielded) c.args.id c.loop-child.yielded _ c.in-Some.child _ c.args.pool.now c.requires.stands c.requires.expression (omega arith) (omega arith) c.loop-child.invariant.left c.in-Some.ensures.steps

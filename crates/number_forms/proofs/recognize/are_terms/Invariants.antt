@@ -1,10 +1,6 @@
 use Rattle.std.proofs.Common.{◌≡◌, length}
-use Rattle.calc_algebra.specs.Numbers.{are_terms}
+use Rattle.number_forms.proofs.Shared.{are_terms, trees_from, plain, children_of, tree_at, forest}
 use Rattle.number_forms.proofs.Children.{AreLeft}
-use Rattle.number_forms.specs.Sums.{trees_from}
-use Rattle.tree_handles.specs.Expressions.{plain, children_of}
-use Rattle.tree_handles.specs.Inside.{tree_at}
-use Rattle.tree_handles.specs.Standing.{forest}
 use Rattle.number_forms.proofs.recognize.are_terms.Given as goal
 
 abbrev pub invariant-loop-child : goal.invariant-loop-child

@@ -1,8 +1,8 @@
 use Rattle.std.proofs.Common.{ap, ◌∙◌, arith}
-use Rattle.calc_algebra.specs.Numbers.{is_term, term_of as term_of_tree}
+use Rattle.number_forms.proofs.Shared.{is_term, forest}
+use Rattle.calc_algebra.specs.Numbers.{term_of as term_of_tree}
 use Rattle.number_forms.proofs.ByKind.{children_number}
 use Rattle.number_forms.proofs.Rising.{nth_term}
-use Rattle.tree_handles.specs.Standing.{forest}
 use Rattle.number_forms.proofs.recognize.child_term.Goals as goal
 
 pub child_id-requires-clause-within : goal.child_id-requires-clause-within

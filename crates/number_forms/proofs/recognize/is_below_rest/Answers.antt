@@ -1,18 +1,11 @@
 use Rattle.std.proofs.Common.{◌≡◌, ℕ, ◌+◌, ◌++◌, ◌∷◌, [], ◌&&◌, length, not, nat_lt, refl, sym, ap, ◌∙◌, arith}
-use Rattle.std.proofs.lemmas.List.{length_push}
-use Rattle.calc_algebra.specs.Numbers.{is_below_all, is_term, terms_of, term_of as term_of_tree}
-use Rattle.calc_algebra.specs.SquareClasses.{are_alike}
-use Rattle.calc_algebra.specs.Surds.{Term}
+use Rattle.number_forms.proofs.Shared.{length_push, is_below_all, is_term, terms_of, are_alike, Term, trees_from, term_of, plain, children_of, tree_at, forest}
+use Rattle.calc_algebra.specs.Numbers.{term_of as term_of_tree}
 use Rattle.number_forms.proofs.ByKind.{children_number}
 use Rattle.number_forms.proofs.Children.{IsNextChild, left_more, next_child, none_left}
 use Rattle.number_forms.proofs.Rising.{below_next, not_below, below_end, nth_term}
-use Rattle.number_forms.specs.Sums.{trees_from}
-use Rattle.surd_terms.specs.Terms.{term_of}
-use Rattle.tree_handles.specs.Expressions.{plain, children_of}
-use Rattle.tree_handles.specs.Inside.{tree_at}
-use Rattle.tree_handles.specs.Standing.{forest}
-use Rattle.number_forms.proofs.recognize.is_below_rest.Goals as goal
 use Rattle.number_forms.proofs.recognize.is_below_rest.Goals.{In-Some}
+use Rattle.number_forms.proofs.recognize.is_below_rest.Goals as goal
 
 next : (c : In-Some) → IsNextChild (c.args.from + length c.loop-child.yielded) c.args.id c.in-Some.child c.args.pool.now
 next c = next_child c.args.from _ c.args.id c.loop-child.yielded _ c.in-Some.child _ c.args.pool.now c.requires.stands c.requires.expression c.requires.within refl c.loop-child.invariant.left c.in-Some.ensures.steps

@@ -1,11 +1,6 @@
 use Rattle.std.proofs.Common.{◌≡◌, ◌+◌, length}
-use Rattle.calc_algebra.specs.Numbers.{is_below_all, terms_of}
+use Rattle.number_forms.proofs.Shared.{is_below_all, terms_of, trees_from, term_of, plain, children_of, tree_at, forest}
 use Rattle.number_forms.proofs.Children.{AreLeft}
-use Rattle.number_forms.specs.Sums.{trees_from}
-use Rattle.surd_terms.specs.Terms.{term_of}
-use Rattle.tree_handles.specs.Expressions.{plain, children_of}
-use Rattle.tree_handles.specs.Inside.{tree_at}
-use Rattle.tree_handles.specs.Standing.{forest}
 use Rattle.number_forms.proofs.recognize.is_below_rest.Given as goal
 
 abbrev pub invariant-loop-child : goal.invariant-loop-child

@@ -1,9 +1,6 @@
 use Rattle.std.proofs.Common.{◌≡◌, sym, ◌∙◌, arith}
-use Rattle.calc_terms.specs.Trees.{count}
+use Rattle.number_forms.proofs.Shared.{count, plain, children_of, tree_at, forest}
 use Rattle.number_forms.proofs.Recognized.{short_sum, other_sum, sum_rises}
-use Rattle.tree_handles.specs.Expressions.{plain, children_of}
-use Rattle.tree_handles.specs.Inside.{tree_at}
-use Rattle.tree_handles.specs.Standing.{forest}
 use Rattle.number_forms.proofs.recognize.is_number_sum.Goals as goal
 
 pub returns-then-children-lt2 : goal.returns-then-children-lt2

@@ -1,8 +1,6 @@
 use Rattle.std.proofs.Common.{◌≡◌, sym, ap, ◌∙◌, rules, FitsSigned, of_z, to_z}
-use Rattle.std.specs.Int.{w128}
 use Rattle.std.specs.Prelude.{pos}
-use Rattle.std.proofs.lemmas.Int.{to_z-of_z}
-use Rattle.calc_terms.specs.Rat.{ratio_of}
+use Rattle.number_forms.proofs.Shared.{w128, to_z-of_z, ratio_of}
 use Rattle.number_forms.proofs.Recognized.{no_one_num, one_whole}
 use Rattle.number_forms.proofs.recognize.is_one.Goals as goal
 

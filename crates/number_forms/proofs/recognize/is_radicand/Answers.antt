@@ -1,8 +1,6 @@
 use Rattle.std.proofs.Common.{rules, FitsSigned, ap, ◌∙◌}
-use Rattle.std.specs.Int.{w128}
 use Rattle.std.specs.Prelude.{nat_abs}
-use Rattle.std.proofs.lemmas.Int.{to_z-of_z}
-use Rattle.calc_terms.specs.Rat.{value_of}
+use Rattle.number_forms.proofs.Shared.{w128, to_z-of_z, value_of}
 use Rattle.number_forms.proofs.Recognized.{small_whole, clean_whole}
 use Rattle.number_forms.proofs.recognize.is_radicand.Goals as goal
 

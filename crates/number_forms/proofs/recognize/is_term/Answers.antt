@@ -1,5 +1,5 @@
 use Rattle.std.proofs.Common.{not, sym, ap, ◌∙◌}
-use Rattle.calc_algebra.specs.Numbers.{is_term}
+use Rattle.number_forms.proofs.Shared.{is_term}
 use Rattle.number_forms.proofs.ReducedNumbers.{unshaped_term}
 use Rattle.number_forms.proofs.recognize.is_term.Goals as goal
 

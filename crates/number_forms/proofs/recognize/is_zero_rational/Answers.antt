@@ -1,8 +1,6 @@
 use Rattle.std.proofs.Common.{sym, ap, ◌∙◌, rules, FitsSigned}
-use Rattle.std.specs.Int.{w128}
-use Rattle.calc_terms.specs.Integers.{int_is_zero}
+use Rattle.number_forms.proofs.Shared.{w128, int_is_zero, ratio_parts}
 use Rattle.number_forms.proofs.CodeTests.{zero_bits}
-use Rattle.rational128.proofs.LowestTerms.{ratio_parts}
 use Rattle.number_forms.proofs.recognize.is_zero_rational.Goals as goal
 
 pub returns : goal.returns

@@ -1,12 +1,6 @@
 use Rattle.std.proofs.Common.{◌≡◌, ◌+◌, ◌<◌, sym, ap, ◌∙◌, arith}
-use Rattle.calc_algebra.specs.Numbers.{is_below_all, terms_of}
-use Rattle.calc_algebra.specs.Surds.{Term}
-use Rattle.calc_terms.specs.Trees.{count}
+use Rattle.number_forms.proofs.Shared.{is_below_all, terms_of, Term, count, trees_from, plain, children_of, tree_at, forest}
 use Rattle.number_forms.proofs.Rising.{rises_next, no_rise, rises_end}
-use Rattle.number_forms.specs.Sums.{trees_from}
-use Rattle.tree_handles.specs.Expressions.{plain, children_of}
-use Rattle.tree_handles.specs.Inside.{tree_at}
-use Rattle.tree_handles.specs.Standing.{forest}
 use Rattle.number_forms.proofs.recognize.rises.Goals as goal
 
 pub child_term-term-requires-clause-within : goal.child_term-term-requires-clause-within

@@ -1,9 +1,5 @@
 use Rattle.std.proofs.Common.{◌≡◌}
-use Rattle.calc_algebra.specs.Numbers.{rises, terms_of}
-use Rattle.number_forms.specs.Sums.{trees_from}
-use Rattle.tree_handles.specs.Expressions.{plain, children_of}
-use Rattle.tree_handles.specs.Inside.{tree_at}
-use Rattle.tree_handles.specs.Standing.{forest}
+use Rattle.number_forms.proofs.Shared.{rises, terms_of, trees_from, plain, children_of, tree_at, forest}
 use Rattle.number_forms.proofs.recognize.rises.Given as goal
 
 abbrev pub invariant-loop-at : goal.invariant-loop-at

@@ -1,35 +1,14 @@
 use Rattle.std.proofs.Common.{◌≡◌, [], ◌∷◌, ◌++◌, map, inl, inr, refl, sym, ap, ◌∙◌, subst, rules, ◌+◌}
-use Rattle.calc_algebra.specs.Numbers.{is_number, value}
-use Rattle.calc_algebra.specs.Surds.{Term, Surd, term_times}
-use Rattle.calc_algebra.proofs.TermLaws.{Same-refl}
-use Rattle.calc_room.proofs.NumberSpans.{spans_append}
-use Rattle.calc_room.specs.Spans.{IsSpanned, Spans}
-use Rattle.calc_terms.specs.Trees.{Tree, size}
-use Rattle.node_pool.specs.State.{free_of}
-use Rattle.number_forms.specs.Overflows.{terms_from, RowOverflows, SquareRowOverflows}
-use Rattle.number_forms.specs.Rooms.{LacksRoom, joining_need}
-use Rattle.number_forms.specs.Squares.{twice, square_row}
-use Rattle.number_forms.specs.Sums.{IsSumOf}
-use Rattle.child_lists.proofs.ListedChildren.{lists_kept}
+use Rattle.number_forms.proofs.Shared.{is_number, value, Term, Surd, term_times, Same-refl, spans_append, IsSpanned, Spans, Tree, size, free_of, terms_from, RowOverflows, SquareRowOverflows, LacksRoom, joining_need, twice, square_row, IsSumOf, lists_kept, kept_after, overflow_as, other_plain, gives_rest, passed_on, term_of, OfOverflow, tree_of, Gives, without_root, forest, behind_first, front_after_one, given_handed, given_rest, given_told, gives_as, handed_at}
 use Rattle.number_forms.proofs.Loops.{IsJoined, joined_none, joined_more, joined_part, joined_all}
-use Rattle.tree_handles.proofs.Refused.{kept_after, overflow_as}
-use Rattle.tree_handles.proofs.Beside.{other_plain, gives_rest}
-use Rattle.tree_handles.proofs.Outcomes.{passed_on}
 use Rattle.number_forms.proofs.Rooms.{full_as, spans_from, partial_spanned, term_lacks, row_lacks}
 use Rattle.number_forms.proofs.Rows.{nothing_more, joined_extracted}
 use Rattle.number_forms.proofs.Squares.{spans_square_row}
 use Rattle.number_forms.proofs.Twice.{twice_refused}
-use Rattle.surd_terms.specs.Terms.{term_of}
-use Rattle.tree_handles.specs.Faults.{OfOverflow}
-use Rattle.tree_handles.specs.Handed.{tree_of, Gives}
-use Rattle.tree_handles.specs.Roots.{without_root}
-use Rattle.tree_handles.specs.Standing.{forest}
-use Rattle.tree_handles.specs.declared.fault.NumberFault.TheVariants as fault
-use Rattle.tree_handles.proofs.Fronts.{behind_first, front_after_one}
-use Rattle.tree_handles.proofs.Given.{given_handed, given_rest, given_told, gives_as, handed_at}
-use Rattle.number_forms.proofs.squaring.join_square_row.Goals as goal
 use Rattle.number_forms.proofs.squaring.join_square_row.Goals.{In_ok-join_term, In_ok-double}
 use Rattle.number_forms.proofs.squaring.join_square_row.Given.{Over}
+use Rattle.tree_handles.specs.declared.fault.NumberFault.TheVariants as fault
+use Rattle.number_forms.proofs.squaring.join_square_row.Goals as goal
 
 -- the sum with the square of the term
 summed : (g : Over) (c : In_ok-join_term g) → Gives (without_root c.args.sum.now (forest c.args.pool.now)) (forest c.join_term.new.pool) c.args.sum.now (IsSumOf (term_times (term_of c.args.term) (term_of c.args.term) ∷ value (tree_of c.args.sum.now c.args.pool.now)))

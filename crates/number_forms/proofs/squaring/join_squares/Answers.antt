@@ -1,35 +1,13 @@
 use Rattle.std.proofs.Common.{◌≡◌, ℕ, ◌≤◌, ◌++◌, Some, length, sym, ap, ◌∙◌, arith, add-one, subst, rules, ◌+◌}
 use Rattle.std.specs.Prelude.{slice_get}
-use Rattle.calc_algebra.specs.Numbers.{is_number, value, classes}
-use Rattle.calc_algebra.specs.SquareClasses.{Same}
-use Rattle.calc_algebra.specs.Surds.{Surd}
-use Rattle.calc_bits.specs.Denominators.{SharesDenominators}
-use Rattle.calc_room.proofs.NumberSpans.{spans_append}
-use Rattle.calc_room.specs.Spans.{Spans}
-use Rattle.calc_terms.specs.Trees.{Tree, size}
-use Rattle.node_pool.specs.State.{free_of}
-use Rattle.number_forms.specs.Overflows.{SquareRowOverflows, SquareOverflows}
-use Rattle.number_forms.specs.Rooms.{LacksRoom, joining_need}
-use Rattle.number_forms.specs.Squares.{square_row, square_terms}
-use Rattle.number_forms.specs.Sums.{IsSumOf}
-use Rattle.child_lists.proofs.ListedChildren.{lists_kept}
+use Rattle.number_forms.proofs.Shared.{is_number, value, classes, Same, Surd, SharesDenominators, spans_append, Spans, Tree, size, free_of, SquareRowOverflows, SquareOverflows, LacksRoom, joining_need, square_row, square_terms, IsSumOf, lists_kept, other_plain, other_read, other_expression, gives_rest, passed_on, overflow_as, term_of, OfOverflow, tree_of, Gives, without_root, forest, given_other, given_rest, handed_at, given_handed, given_told, plain_root}
 use Rattle.number_forms.proofs.Loops.{joined_none, joined_part, joined_all, from_all}
-use Rattle.tree_handles.proofs.Beside.{other_plain, other_read, other_expression, gives_rest}
-use Rattle.tree_handles.proofs.Outcomes.{passed_on}
-use Rattle.tree_handles.proofs.Refused.{overflow_as}
 use Rattle.number_forms.proofs.Rooms.{full_as, spans_from, spans_nth, partial_spanned, row_lacks}
 use Rattle.number_forms.proofs.Squares.{spans_square}
 use Rattle.number_forms.proofs.Worth.{terms_from, from_next}
-use Rattle.surd_terms.specs.Terms.{term_of}
-use Rattle.tree_handles.specs.Faults.{OfOverflow}
-use Rattle.tree_handles.specs.Handed.{tree_of, Gives}
-use Rattle.tree_handles.specs.Roots.{without_root}
-use Rattle.tree_handles.specs.Standing.{forest}
-use Rattle.tree_handles.proofs.Given.{given_other, given_rest, handed_at, given_handed, given_told}
-use Rattle.tree_handles.proofs.Lasts.{plain_root}
-use Rattle.number_forms.proofs.squaring.join_squares.Goals as goal
 use Rattle.number_forms.proofs.squaring.join_squares.Goals.{After-listed_term-term}
 use Rattle.number_forms.proofs.squaring.join_squares.Given.{Over}
+use Rattle.number_forms.proofs.squaring.join_squares.Goals as goal
 
 -- the Number as it stands now
 same : (g : Over) (c : After-listed_term-term g) → tree_of c.args.number c.loop-at.pool ≡ tree_of c.args.number c.args.pool.now

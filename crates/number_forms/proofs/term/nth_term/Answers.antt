@@ -1,13 +1,10 @@
 use Rattle.std.proofs.Common.{◌≡◌, ◌<◌, Some, sym, ap, ◌∙◌, subst, arith, true}
 use Rattle.std.specs.Prelude.{slice_get}
-use Rattle.calc_algebra.specs.Numbers.{is_number, is_term, value, term_of as term_of_tree, classes}
-use Rattle.calc_terms.specs.Trees.{Tree, add, count}
+use Rattle.number_forms.proofs.Shared.{is_number, is_term, value, classes, Tree, add, count, plain, children_of, tree_at, forest}
+use Rattle.calc_algebra.specs.Numbers.{term_of as term_of_tree}
 use Rattle.number_forms.proofs.ByKind.{add_by_kind, sum_classes, children_number}
 use Rattle.number_forms.proofs.Shaped.{added_number, nth_of_terms, nth_is_term}
 use Rattle.number_forms.proofs.TermTrees.{term_test, single_term}
-use Rattle.tree_handles.specs.Expressions.{plain, children_of}
-use Rattle.tree_handles.specs.Inside.{tree_at}
-use Rattle.tree_handles.specs.Standing.{forest}
 use Rattle.number_forms.proofs.term.nth_term.Goals as goal
 
 pub child_id-requires-clause-within : goal.child_id-requires-clause-within

@@ -1,14 +1,9 @@
 use Rattle.std.proofs.Common.{◌≡◌, sym, ap, ◌∙◌, rules, subst, FitsSigned}
-use Rattle.std.specs.Int.{w128}
 use Rattle.std.specs.Prelude.{nat_abs}
-use Rattle.std.proofs.lemmas.Int.{to_z-of_z}
-use Rattle.calc_algebra.specs.Clean.{IsClean}
-use Rattle.calc_algebra.specs.Numbers.{natural_of}
-use Rattle.calc_terms.specs.Rat.{value_of}
+use Rattle.number_forms.proofs.Shared.{w128, to_z-of_z, IsClean, natural_of, value_of, ratio_parts}
 use Rattle.number_forms.proofs.TermTrees.{natural_abs}
-use Rattle.rational128.proofs.LowestTerms.{ratio_parts}
-use Rattle.number_forms.proofs.term.radicand_of.Goals as goal
 use Rattle.number_forms.proofs.term.radicand_of.Goals.{After-unsigned_abs}
+use Rattle.number_forms.proofs.term.radicand_of.Goals as goal
 
 is : (c : After-unsigned_abs) → c.unsigned_abs.result ≡ natural_of (value_of c.args.r).num
 is c =

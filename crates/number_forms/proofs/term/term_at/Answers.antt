@@ -1,8 +1,6 @@
 use Rattle.std.proofs.Common.{sym, ap, ◌∙◌, subst}
-use Rattle.calc_algebra.specs.Numbers.{IsTerm, term_of as term_of_tree}
-use Rattle.calc_algebra.specs.Surds.{term}
-use Rattle.calc_algebra.proofs.NumberClasses.{one_not_zero}
-use Rattle.calc_algebra.proofs.NumberLaws.{term_words}
+use Rattle.number_forms.proofs.Shared.{IsTerm, term, one_not_zero, term_words}
+use Rattle.calc_algebra.specs.Numbers.{term_of as term_of_tree}
 use Rattle.number_forms.proofs.TermTrees.{one_value}
 use Rattle.number_forms.proofs.term.term_at.Goals as goal
 

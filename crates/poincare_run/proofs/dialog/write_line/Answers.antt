@@ -1,7 +1,5 @@
 use Rattle.std.proofs.Common.{◌∷◌, []}
-use Rattle.std.proofs.lemmas.Result.{on_err_weaker}
-use Rattle.calc_edges.proofs.Parts.{AppendsPart-after}
-use Rattle.calc_edges.proofs.Stops.{stops_later}
+use Rattle.poincare_run.proofs.Shared.{on_err_weaker, AppendsPart-after, stops_later}
 use Rattle.poincare_run.proofs.dialog.write_line.Goals as goal
 
 pub returns-clause-part : goal.returns-clause-part

@@ -1,6 +1,5 @@
 use Rattle.std.proofs.Common.{◌∙◌, map, string_bytes, sym}
-use Rattle.clap.specs.Simple.{app_of}
-use Rattle.clap.proofs.WalkLemmas.{list_any-map}
+use Rattle.poincare_run.proofs.Shared.{app_of, list_any-map}
 use Rattle.poincare_run.proofs.ClapLemmas.{is_separator}
 use Rattle.poincare_run.proofs.CommandLineLemmas.{given_matched, none_refused, none_separated}
 use Rattle.poincare_run.proofs.words.options_in.Goals as goal

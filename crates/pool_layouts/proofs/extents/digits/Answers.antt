@@ -1,5 +1,5 @@
 use Rattle.std.proofs.Common.{ap, length}
-use Rattle.line_text.proofs.Leaves.{digits_are}
+use Rattle.pool_layouts.proofs.Shared.{digits_are}
 use Rattle.pool_layouts.proofs.extents.digits.Goals as goal
 
 pub returns : goal.returns

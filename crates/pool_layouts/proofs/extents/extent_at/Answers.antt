@@ -1,5 +1,5 @@
 use Rattle.std.proofs.Common.{sym, subst, arith}
-use Rattle.pool_layouts.specs.Extents.{IsSmall}
+use Rattle.pool_layouts.proofs.Shared.{IsSmall}
 use Rattle.pool_layouts.proofs.Measures.{first_read, first_within, first_small}
 use Rattle.pool_layouts.proofs.extents.extent_at.Goals as goal
 

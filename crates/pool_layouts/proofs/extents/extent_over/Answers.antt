@@ -1,10 +1,7 @@
 use Rattle.std.proofs.Common.{◌∙◌, ap, refl, sym}
-use Rattle.calc_terms.specs.declared.kind.Kind.TheVariants as kind
-use Rattle.tree_handles.specs.Forest.{empty, tree}
-use Rattle.tree_handles.specs.Inside.{payload_in}
-use Rattle.tree_handles.specs.Standing.{forest}
-use Rattle.pool_layouts.specs.declared.extents.Extent.{Extent}
+use Rattle.pool_layouts.proofs.Shared.{empty, tree, payload_in, forest, Extent}
 use Rattle.pool_layouts.proofs.Measures.{over_one, over_two, pair_over, one_extent, two_extent, raised_is, radical_is, paren_is, fraction_is, row_is, leaf_extent}
+use Rattle.calc_terms.specs.declared.kind.Kind.TheVariants as kind
 use Rattle.pool_layouts.proofs.extents.extent_over.Goals as goal
 
 pub row_extent-requires-clause-some : goal.row_extent-requires-clause-some

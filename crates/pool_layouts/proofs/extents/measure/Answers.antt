@@ -1,9 +1,5 @@
 use Rattle.std.proofs.Common.{◌∙◌, ◌-◌, ap, refl, sym, subst, arith}
-use Rattle.std.proofs.lemmas.List.{length-set}
-use Rattle.tree_handles.specs.Inside.{holds, payload_in}
-use Rattle.tree_handles.specs.Standing.{forest}
-use Rattle.tree_handles.specs.declared.visits.Visit.{Visit}
-use Rattle.pool_layouts.specs.Extents.{IsOver, extent_of}
+use Rattle.pool_layouts.proofs.Shared.{length-set, holds, payload_in, forest, Visit, IsOver, extent_of}
 use Rattle.pool_layouts.proofs.Measuring.{measure_start, measuring}
 use Rattle.pool_layouts.proofs.extents.measure.Goals as goal
 

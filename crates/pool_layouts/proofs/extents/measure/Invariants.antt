@@ -1,7 +1,5 @@
 use Rattle.std.proofs.Common.{◌≡◌, ◌≤◌, length}
-use Rattle.tree_handles.specs.Inside.{tree_at}
-use Rattle.tree_handles.specs.Standing.{forest}
-use Rattle.pool_layouts.specs.Extents.{HasExtents}
+use Rattle.pool_layouts.proofs.Shared.{tree_at, forest, HasExtents}
 use Rattle.pool_layouts.proofs.Suffixes.{after}
 use Rattle.pool_layouts.proofs.extents.measure.Given as goal
 

@@ -1,6 +1,5 @@
 use Rattle.std.proofs.Common.{◌≡◌}
-use Rattle.tree_handles.specs.Forest.{Forest, arity}
-use Rattle.pool_layouts.specs.Extents.{HasSmall}
+use Rattle.pool_layouts.proofs.Shared.{Forest, arity, HasSmall}
 use Rattle.pool_layouts.proofs.RowExtents.{IsGathering}
 use Rattle.pool_layouts.proofs.extents.row_extent.Given as goal
 

@@ -1,7 +1,5 @@
 use Rattle.std.proofs.Common.{◌+◌, ℕ, suc, ap, sym, subst, arith}
-use Rattle.tree_handles.specs.Forest.{tree, nodes_in}
-use Rattle.pool_layouts.specs.declared.extents.Extent.{Extent}
-use Rattle.pool_layouts.specs.Extents.{HasSmall, HasSomeFirst}
+use Rattle.pool_layouts.proofs.Shared.{tree, nodes_in, Extent, HasSmall, HasSomeFirst}
 use Rattle.pool_layouts.proofs.Measures.{behind_first, first_within}
 use Rattle.pool_layouts.proofs.extents.second.Goals as goal
 

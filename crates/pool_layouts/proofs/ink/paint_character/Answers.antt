@@ -1,6 +1,5 @@
 use Rattle.std.proofs.Common.{◌∙◌, length, replicate, ℕ, ap, arith}
-use Rattle.std.proofs.lemmas.List.{length-append, length-replicate}
-use Rattle.line_text.specs.Content.{Content, extended}
+use Rattle.pool_layouts.proofs.Shared.{length-append, length-replicate, Content, extended}
 use Rattle.pool_layouts.proofs.Inks.{extended_twice}
 use Rattle.pool_layouts.proofs.ink.paint_character.Goals as goal
 

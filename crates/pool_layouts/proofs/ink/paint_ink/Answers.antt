@@ -1,16 +1,8 @@
 use Rattle.std.proofs.Common.{◌≤◌, ◌∙◌, ℕ, length, replicate, encode_utf8_all, codes, ap, sym, subst, arith}
-use Rattle.std.proofs.lemmas.List.{length-append, length-replicate}
-use Rattle.calc_language.specs.Tokens.{root_sign}
-use Rattle.line_text.specs.Content.{Content, extended, spare_of}
-use Rattle.tree_handles.specs.Inside.{payload_in}
-use Rattle.tree_handles.specs.Standing.{forest}
-use Rattle.pool_layouts.specs.declared.ink.Ink.{Ink}
-use Rattle.pool_layouts.specs.declared.ink.Ink.TheVariants as inks
-use Rattle.pool_layouts.specs.Painting.{IsInk, ink_characters, leaf_characters, inked, blanks_left}
-use Rattle.pool_layouts.specs.Pending.{leaf_serial}
-use Rattle.pool_layouts.specs.Pictures.{root_character}
+use Rattle.pool_layouts.proofs.Shared.{length-append, length-replicate, root_sign, Content, extended, spare_of, payload_in, forest, Ink, IsInk, ink_characters, leaf_characters, inked, blanks_left, leaf_serial, root_character}
 use Rattle.pool_layouts.proofs.Inks.{leaf_inked, none_owed, bar_inked, character_inked, extended_twice}
 use Rattle.pool_layouts.proofs.Lines.{root_encoded, small_bytes}
+use Rattle.pool_layouts.specs.declared.ink.Ink.TheVariants as inks
 use Rattle.pool_layouts.proofs.ink.paint_ink.Goals as goal
 
 pub repeat-requires : goal.repeat-requires

@@ -1,5 +1,5 @@
 use Rattle.std.proofs.Common.{◌≡◌, replicate}
-use Rattle.line_text.specs.Content.{extended}
+use Rattle.pool_layouts.proofs.Shared.{extended}
 use Rattle.pool_layouts.proofs.ink.repeat.Given as goal
 
 abbrev pub invariant-loop : goal.invariant-loop

@@ -1,5 +1,5 @@
 use Rattle.std.proofs.Common.{arith}
-use Rattle.pool_layouts.specs.Pictures.{picture}
+use Rattle.pool_layouts.proofs.Shared.{picture}
 use Rattle.pool_layouts.proofs.Lines.{lines_long, cut_short}
 use Rattle.pool_layouts.proofs.laws.rows_are_as_wide.Goals as goal
 

@@ -1,7 +1,5 @@
 use Rattle.std.proofs.Common.{◌∙◌, ap, arith}
-use Rattle.calc_terms.specs.Trees.{root_kind}
-use Rattle.tree_handles.specs.Expressions.{plain}
-use Rattle.pool_layouts.specs.Places.{around_kind}
+use Rattle.pool_layouts.proofs.Shared.{root_kind, plain, around_kind}
 use Rattle.pool_layouts.proofs.Shown.{shown_inside, shown_kind}
 use Rattle.pool_layouts.proofs.laying.around.Goals as goal
 

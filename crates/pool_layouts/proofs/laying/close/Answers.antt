@@ -1,12 +1,5 @@
 use Rattle.std.proofs.Common.{◌≡◌, ◌∙◌, ◌∷◌, [], Ok, ap, refl, rules}
-use Rattle.calc_terms.specs.Payload.{size_of_payload}
-use Rattle.node_pool.specs.State.{free_of}
-use Rattle.tree_handles.specs.Building.{taking}
-use Rattle.tree_handles.specs.Forest.{before_last}
-use Rattle.tree_handles.specs.Inside.{payload_in}
-use Rattle.tree_handles.specs.Standing.{forest}
-use Rattle.pool_layouts.specs.Laying.{IsStopped, around_sizes, root_sizes}
-use Rattle.pool_layouts.specs.Places.{laid}
+use Rattle.pool_layouts.proofs.Shared.{size_of_payload, free_of, taking, before_last, payload_in, forest, IsStopped, around_sizes, root_sizes, laid}
 use Rattle.pool_layouts.proofs.Sizes.{takes_one}
 use Rattle.pool_layouts.proofs.Placing.{free_after, room_after, stopped_after, stopped_one, starts_ends, starts_before, was_short}
 use Rattle.pool_layouts.proofs.laying.close.Goals as goal

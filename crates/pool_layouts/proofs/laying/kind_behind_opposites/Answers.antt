@@ -1,5 +1,5 @@
 use Rattle.std.proofs.Common.{◌∙◌, ap, refl, sym, arith}
-use Rattle.line_text.specs.Places.{kind_behind_opposites}
+use Rattle.pool_layouts.proofs.Shared.{kind_behind_opposites}
 use Rattle.pool_layouts.proofs.Shown.{shown_inside, opposite, behind_none}
 use Rattle.pool_layouts.proofs.laying.kind_behind_opposites.Goals as goal
 

@@ -1,8 +1,5 @@
 use Rattle.std.proofs.Common.{◌≡◌, ◌-◌, length}
-use Rattle.line_text.specs.Places.{kind_behind_opposites}
-use Rattle.tree_handles.specs.Expressions.{plain}
-use Rattle.tree_handles.specs.Forest.{Forest}
-use Rattle.pool_layouts.specs.Cells.{ShowsTree}
+use Rattle.pool_layouts.proofs.Shared.{kind_behind_opposites, plain, Forest, ShowsTree}
 use Rattle.pool_layouts.proofs.laying.kind_behind_opposites.Given as goal
 
 abbrev pub invariant-loop-at : goal.invariant-loop-at

@@ -1,13 +1,5 @@
 use Rattle.std.proofs.Common.{◌≡◌, ◌==◌, ℕ, vec_len, None, ◌∙◌, ◌++◌, ◌∷◌, [], List, length, ap, sym, arith, rules}
-use Rattle.std.proofs.lemmas.List.{length-append}
-use Rattle.tree_handles.specs.Forest.{empty, tree}
-use Rattle.tree_handles.specs.Inside.{tree_at}
-use Rattle.tree_handles.specs.Standing.{forest}
-use Rattle.tree_handles.proofs.Forests.{keeps_after}
-use Rattle.tree_handles.specs.declared.visits.Visit.{Visit}
-use Rattle.pool_layouts.specs.declared.frames.Frame.{Frame}
-use Rattle.pool_layouts.specs.Frames.{frame_of, frame_behind}
-use Rattle.tree_handles.proofs.Visiting.{visits_length}
+use Rattle.pool_layouts.proofs.Shared.{length-append, empty, tree, tree_at, forest, keeps_after, Visit, Frame, frame_of, frame_behind, visits_length}
 use Rattle.pool_layouts.proofs.Shown.{shown_inside}
 use Rattle.pool_layouts.proofs.UnderWay.{first_inside, started, top, next, next_shows, parts_are_few, entered, closing, close_live, close_few, close_begin, close_leaf, closed_all, closed_room, closed_one, close_stopped, mark_stopped, front_kept, none_left, some_left}
 use Rattle.pool_layouts.proofs.laying.lay.Goals as goal

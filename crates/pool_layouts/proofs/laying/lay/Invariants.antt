@@ -1,8 +1,5 @@
 use Rattle.std.proofs.Common.{◌≤◌, ◌-◌, ◌+◌, ◌*◌, length, vec_capacity}
-use Rattle.tree_handles.specs.Expressions.{plain}
-use Rattle.tree_handles.specs.Inside.{tree_at}
-use Rattle.tree_handles.specs.Standing.{forest}
-use Rattle.pool_layouts.specs.Layouts.{layout}
+use Rattle.pool_layouts.proofs.Shared.{plain, tree_at, forest, layout}
 use Rattle.pool_layouts.proofs.UnderWay.{IsUnderWay}
 use Rattle.pool_layouts.proofs.laying.lay.Given as goal
 

@@ -1,6 +1,5 @@
 use Rattle.std.proofs.Common.{ap, arith}
-use Rattle.tree_handles.proofs.Measures.{few_in}
-use Rattle.pool_layouts.specs.Drafts.{Draft}
+use Rattle.pool_layouts.proofs.Shared.{few_in, Draft}
 use Rattle.pool_layouts.proofs.Measuring.{nodes_served}
 use Rattle.pool_layouts.proofs.laying.layout_of.Goals as goal
 

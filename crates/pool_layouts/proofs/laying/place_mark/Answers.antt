@@ -1,11 +1,5 @@
 use Rattle.std.proofs.Common.{◌≡◌, ◌∙◌, Option, Ok, sym, subst, refl}
-use Rattle.calc_terms.specs.declared.kind.Kind.{Kind}
-use Rattle.calc_terms.specs.Payload.{bare, size_of_payload}
-use Rattle.node_pool.specs.State.{free_of}
-use Rattle.tree_handles.specs.Building.{taking}
-use Rattle.tree_handles.specs.Standing.{forest}
-use Rattle.pool_layouts.specs.Laying.{IsStopped, around_sizes}
-use Rattle.pool_layouts.specs.Places.{mark_before}
+use Rattle.pool_layouts.proofs.Shared.{Kind, bare, size_of_payload, free_of, taking, forest, IsStopped, around_sizes, mark_before}
 use Rattle.pool_layouts.proofs.Placing.{no_mark, some_mark, takes_mark, refused_err}
 use Rattle.pool_layouts.proofs.laying.place_mark.Goals as goal
 

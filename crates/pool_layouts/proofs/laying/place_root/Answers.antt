@@ -1,15 +1,8 @@
 use Rattle.std.specs.Prelude.{IfErr, IsOk, ◌↔◌}
 use Rattle.std.proofs.Common.{◌≡◌, ◌≤◌, sym, ap, subst, arith}
+use Rattle.pool_layouts.proofs.Shared.{Payload, rational, named, bare, size_of_payload, free_of, one_tree, before_last, last_trees, Ends, payload_in, forest, IsRefused, is_leaf, laid}
 use Rattle.calc_terms.specs.Leaf.{name_of}
-use Rattle.calc_terms.specs.Payload.{Payload, rational, named, bare, size_of_payload}
 use Rattle.calc_terms.specs.Rat.{ratio_of}
-use Rattle.node_pool.specs.State.{free_of}
-use Rattle.tree_handles.specs.Forest.{one_tree, before_last, last_trees}
-use Rattle.tree_handles.specs.Handed.{Ends}
-use Rattle.tree_handles.specs.Inside.{payload_in}
-use Rattle.tree_handles.specs.Standing.{forest, IsRefused}
-use Rattle.pool_layouts.specs.Laying.{is_leaf}
-use Rattle.pool_layouts.specs.Places.{laid}
 use Rattle.pool_layouts.proofs.Placing.{few_trees, ok_as, leaf_node_ends, bare_is}
 use Rattle.pool_layouts.proofs.laying.place_root.Goals as goal
 

@@ -1,11 +1,6 @@
 use Rattle.std.specs.Prelude.{OnOk, IfErr}
 use Rattle.std.proofs.Common.{◌≡◌, Option, Ok, sym, subst}
-use Rattle.calc_terms.specs.declared.kind.Kind.{Kind}
-use Rattle.calc_terms.specs.Payload.{bare, size_of_payload}
-use Rattle.node_pool.specs.State.{free_of}
-use Rattle.tree_handles.specs.Building.{taking}
-use Rattle.tree_handles.specs.Standing.{forest}
-use Rattle.pool_layouts.specs.Laying.{IsStopped, StandsIn, around_sizes}
+use Rattle.pool_layouts.proofs.Shared.{Kind, bare, size_of_payload, free_of, taking, forest, IsStopped, StandsIn, around_sizes}
 use Rattle.pool_layouts.proofs.Placing.{ok_as, last_tree_is, stands_over, placed_last, refused_last}
 use Rattle.pool_layouts.proofs.laying.stand_in.Goals as goal
 

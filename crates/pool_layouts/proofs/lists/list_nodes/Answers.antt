@@ -1,9 +1,5 @@
 use Rattle.std.proofs.Common.{◌∙◌, ◌++◌, ◌∷◌, [], List, length, sym, ap, arith, append_assoc, append-nil}
-use Rattle.std.proofs.lemmas.List.{length-append}
-use Rattle.tree_handles.specs.declared.visits.Visit.{Visit}
-use Rattle.tree_handles.specs.Inside.{tree_at}
-use Rattle.tree_handles.specs.Standing.{forest}
-use Rattle.tree_handles.proofs.Visiting.{visits_length}
+use Rattle.pool_layouts.proofs.Shared.{length-append, Visit, tree_at, forest, visits_length}
 use Rattle.pool_layouts.proofs.lists.list_nodes.Goals as goal
 
 pub loop-node-init : goal.loop-node-init

@@ -1,7 +1,5 @@
 use Rattle.std.proofs.Common.{◌≡◌, ◌≤◌, ◌++◌, vec_capacity}
-use Rattle.tree_handles.specs.Inside.{tree_at}
-use Rattle.tree_handles.specs.Standing.{forest}
-use Rattle.tree_handles.specs.Visits.{visits_of}
+use Rattle.pool_layouts.proofs.Shared.{tree_at, forest, visits_of}
 use Rattle.pool_layouts.proofs.lists.list_nodes.Given as goal
 
 abbrev pub invariant-loop-node : goal.invariant-loop-node

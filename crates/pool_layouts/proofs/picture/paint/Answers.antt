@@ -1,10 +1,6 @@
 use Rattle.std.proofs.Common.{◌∙◌, ◌++◌, ℕ, List, length, encode_utf8_all, ap, refl, sym, subst, arith}
-use Rattle.std.proofs.lemmas.List.{length-append}
 use Rattle.std.specs.Prelude.{option_to_list}
-use Rattle.line_text.specs.Content.{Content, extended}
-use Rattle.tree_handles.specs.Standing.{forest}
-use Rattle.pool_layouts.specs.declared.steps.Step.{Step}
-use Rattle.pool_layouts.specs.Pictures.{cut}
+use Rattle.pool_layouts.proofs.Shared.{length-append, Content, extended, forest, Step, cut}
 use Rattle.pool_layouts.proofs.Painted.{IsPainting, painting_start, due, due_room, stepped, lighter_steps, painted, option_short}
 use Rattle.pool_layouts.proofs.Writing.{content_is}
 use Rattle.pool_layouts.proofs.picture.paint.Goals as goal

@@ -1,6 +1,5 @@
 use Rattle.std.proofs.Common.{◌≡◌, ◌≤◌, ℕ, List, vec_capacity}
-use Rattle.tree_handles.specs.Standing.{forest}
-use Rattle.pool_layouts.specs.Painting.{IsLine}
+use Rattle.pool_layouts.proofs.Shared.{forest, IsLine}
 use Rattle.pool_layouts.proofs.Painted.{IsPainting, total_weight}
 use Rattle.pool_layouts.proofs.picture.paint.Given as goal
 

@@ -1,14 +1,8 @@
 use Rattle.std.proofs.Common.{◌∙◌, length, sym, ap, subst, arith}
-use Rattle.tree_handles.specs.Forest.{empty}
-use Rattle.tree_handles.specs.Inside.{tree_at}
-use Rattle.tree_handles.specs.Standing.{forest}
-use Rattle.tree_handles.proofs.Measures.{few_in}
-use Rattle.tree_handles.proofs.Visiting.{visits_length}
-use Rattle.pool_layouts.specs.Drafts.{Draft}
-use Rattle.pool_layouts.specs.Extents.{HasExtents}
+use Rattle.pool_layouts.proofs.Shared.{empty, tree_at, forest, few_in, visits_length, Draft, HasExtents}
 use Rattle.pool_layouts.proofs.Measuring.{IsMeasured, measured, measured_first, nodes_served, rows_are}
-use Rattle.pool_layouts.proofs.picture.rows.Goals as goal
 use Rattle.pool_layouts.proofs.picture.rows.Goals.{After-as_slice-extents}
+use Rattle.pool_layouts.proofs.picture.rows.Goals as goal
 
 pub list_nodes-requires-clause-room : goal.list_nodes-requires-clause-room
 list_nodes-requires-clause-room c = omega (arith, nodes_served c.args.pool.now c.args.layout c.requires.stands, c.requires.served, c.drafter.invariant.cells, ap (λ (d : Draft). d.pool_size) c.drafter.view_is)

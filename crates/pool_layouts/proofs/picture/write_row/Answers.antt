@@ -1,22 +1,10 @@
 use Rattle.std.proofs.Common.{◌∙◌, ◌++◌, ◌∷◌, ◌≡◌, [], List, length, sym, ap, subst, arith}
-use Rattle.tree_handles.specs.Forest.{empty}
-use Rattle.tree_handles.specs.Inside.{tree_at}
-use Rattle.tree_handles.specs.Standing.{forest}
-use Rattle.pool_layouts.specs.declared.extents.Extent.{Extent}
-use Rattle.pool_layouts.specs.declared.steps.Step.{Step}
-use Rattle.pool_layouts.specs.declared.steps.Step.TheVariants as step
-use Rattle.pool_layouts.specs.Drafts.{Draft}
-use Rattle.pool_layouts.specs.Drawings.{drawing}
-use Rattle.pool_layouts.specs.Extents.{HasExtents}
-use Rattle.pool_layouts.specs.Painting.{IsLine, span_of}
-use Rattle.pool_layouts.specs.Pictures.{picture}
-use Rattle.tree_handles.specs.Visits.{visits_of}
-use Rattle.tree_handles.proofs.Measures.{few_in}
-use Rattle.tree_handles.proofs.Visiting.{visits_length}
+use Rattle.pool_layouts.proofs.Shared.{empty, tree_at, forest, Extent, Step, Draft, drawing, HasExtents, IsLine, span_of, picture, visits_of, few_in, visits_length}
 use Rattle.pool_layouts.proofs.Measuring.{IsMeasured, measured, measured_first, nodes_served}
 use Rattle.pool_layouts.proofs.RowLines.{row_line, row_room}
-use Rattle.pool_layouts.proofs.picture.write_row.Goals as goal
 use Rattle.pool_layouts.proofs.picture.write_row.Goals.{After-append, After-as_slice-cells, After-as_slice-extents}
+use Rattle.pool_layouts.specs.declared.steps.Step.TheVariants as step
+use Rattle.pool_layouts.proofs.picture.write_row.Goals as goal
 
 measured_here : (c : After-as_slice-extents) → IsMeasured c.args.pool.now c.args.layout c.as_slice-extents.result.now
 measured_here c =

@@ -1,6 +1,5 @@
 use Rattle.std.proofs.Common.{◌∙◌, List, ℕ, length, ap, arith}
-use Rattle.line_text.specs.Content.{extended}
-use Rattle.line_text.proofs.Leaves.{digits_are}
+use Rattle.pool_layouts.proofs.Shared.{extended, digits_are}
 use Rattle.pool_layouts.proofs.serial.write_digits.Goals as goal
 
 pub push-requires : goal.push-requires

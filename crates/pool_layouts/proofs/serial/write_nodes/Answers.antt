@@ -1,16 +1,7 @@
 use Rattle.std.proofs.Common.{◌∙◌, ◌-◌, ◌++◌, ◌∷◌, [], ℕ, List, length, ap, refl, arith}
-use Rattle.std.proofs.lemmas.List.{length-append}
-use Rattle.calc_terms.specs.declared.kind.Kind.TheVariants as kind
-use Rattle.tree_handles.specs.Inside.{holds, tree_at, payload_in}
-use Rattle.tree_handles.specs.Standing.{forest}
-use Rattle.line_text.specs.Content.{Content, extended}
-use Rattle.tree_handles.specs.declared.visits.Visit.{Visit}
-use Rattle.pool_layouts.specs.declared.serial.Pending.{Pending}
-use Rattle.pool_layouts.specs.Drawings.{drawing}
-use Rattle.pool_layouts.specs.Pending.{before_part, leaf_serial}
-use Rattle.pool_layouts.specs.Serial.{serial}
-use Rattle.tree_handles.proofs.Visiting.{visits_length}
+use Rattle.pool_layouts.proofs.Shared.{length-append, holds, tree_at, payload_in, forest, Content, extended, Visit, Pending, drawing, before_part, leaf_serial, serial, visits_length}
 use Rattle.pool_layouts.proofs.Writing.{writing_start, whole_short, taken, ended, entered, done, content_is}
+use Rattle.calc_terms.specs.declared.kind.Kind.TheVariants as kind
 use Rattle.pool_layouts.proofs.serial.write_nodes.Goals as goal
 
 pub loop-rest-init : goal.loop-rest-init

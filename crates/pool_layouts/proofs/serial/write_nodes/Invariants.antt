@@ -1,8 +1,5 @@
 use Rattle.std.proofs.Common.{◌≡◌, ◌≤◌, ◌-◌, ◌+◌, ◌*◌, ◌++◌, length, vec_capacity}
-use Rattle.tree_handles.specs.Inside.{tree_at}
-use Rattle.tree_handles.specs.Standing.{forest}
-use Rattle.pool_layouts.specs.Drawings.{drawing}
-use Rattle.pool_layouts.specs.Serial.{serial}
+use Rattle.pool_layouts.proofs.Shared.{tree_at, forest, drawing, serial}
 use Rattle.pool_layouts.proofs.Writing.{IsWriting}
 use Rattle.pool_layouts.proofs.serial.write_nodes.Given as goal
 

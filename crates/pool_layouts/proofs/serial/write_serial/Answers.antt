@@ -1,6 +1,5 @@
 use Rattle.std.proofs.Common.{ap, arith}
-use Rattle.pool_layouts.specs.Drafts.{Draft}
-use Rattle.tree_handles.proofs.Measures.{few_in}
+use Rattle.pool_layouts.proofs.Shared.{Draft, few_in}
 use Rattle.pool_layouts.proofs.Measuring.{nodes_served}
 use Rattle.pool_layouts.proofs.serial.write_serial.Goals as goal
 

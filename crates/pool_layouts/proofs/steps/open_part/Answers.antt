@@ -1,11 +1,9 @@
 use Rattle.std.proofs.Common.{◌∙◌, ap, refl, sym, subst, arith}
-use Rattle.calc_terms.specs.declared.kind.Kind.TheVariants as kind
-use Rattle.tree_handles.specs.Forest.{empty, tree}
-use Rattle.tree_handles.specs.declared.visits.Visit.{Visit}
-use Rattle.pool_layouts.specs.declared.steps.Step.TheVariants as step
-use Rattle.pool_layouts.specs.Painting.{Opens}
+use Rattle.pool_layouts.proofs.Shared.{empty, tree, Visit, Opens}
 use Rattle.pool_layouts.proofs.Measures.{over_one, over_two, pair_over}
 use Rattle.pool_layouts.proofs.Opening.{cell_inside, is_over, part_kind, row_opens, raised_opens, radical_opens, paren_opens, fraction_opens, leaf_opens}
+use Rattle.calc_terms.specs.declared.kind.Kind.TheVariants as kind
+use Rattle.pool_layouts.specs.declared.steps.Step.TheVariants as step
 use Rattle.pool_layouts.proofs.steps.open_part.Goals as goal
 
 pub offset_bounds-cells-at : goal.offset_bounds-cells-at

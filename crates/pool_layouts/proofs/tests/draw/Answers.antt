@@ -1,14 +1,6 @@
 use Rattle.std.specs.Prelude.{ℕ, length, ◌∷◌, []}
 use Rattle.std.proofs.Common.{sym, ap, subst, arith, length-append}
-use Rattle.line_text.specs.Content.{spare_of}
-use Rattle.tree_handles.specs.Expressions.{IsExpression}
-use Rattle.tree_handles.specs.Forest.{bytes_in}
-use Rattle.tree_handles.specs.Inside.{tree_at}
-use Rattle.tree_handles.specs.Standing.{forest}
-use Rattle.tree_handles.proofs.Given.{given_handed}
-use Rattle.tree_handles.proofs.Lasts.{expression_root}
-use Rattle.pool_layouts.specs.Drafts.{Draft, Measures}
-use Rattle.pool_layouts.specs.Drawings.{IsLayout}
+use Rattle.pool_layouts.proofs.Shared.{spare_of, IsExpression, bytes_in, tree_at, forest, given_handed, expression_root, Draft, Measures, IsLayout}
 use Rattle.pool_layouts.proofs.Given.{given_layout, given_room}
 use Rattle.pool_layouts.proofs.tests.draw.Goals as goal
 

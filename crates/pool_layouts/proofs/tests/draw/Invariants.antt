@@ -1,6 +1,5 @@
 use Rattle.std.proofs.Common.{◌≤◌}
-use Rattle.tree_handles.specs.Standing.{forest}
-use Rattle.pool_layouts.specs.Drafts.{Measures}
+use Rattle.pool_layouts.proofs.Shared.{forest, Measures}
 use Rattle.pool_layouts.proofs.tests.draw.Given as goal
 
 abbrev pub invariant-loop-row : goal.invariant-loop-row

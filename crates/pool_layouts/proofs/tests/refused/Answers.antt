@@ -1,8 +1,5 @@
 use Rattle.std.proofs.Common.{ℕ, sym, subst}
-use Rattle.tree_handles.specs.Expressions.{IsExpression}
-use Rattle.tree_handles.specs.Standing.{forest}
-use Rattle.tree_handles.proofs.Given.{given_handed}
-use Rattle.tree_handles.proofs.Lasts.{expression_root}
+use Rattle.pool_layouts.proofs.Shared.{IsExpression, forest, given_handed, expression_root}
 use Rattle.pool_layouts.proofs.tests.refused.Goals as goal
 
 pub layout_of-requires-clause-expression : goal.layout_of-requires-clause-expression

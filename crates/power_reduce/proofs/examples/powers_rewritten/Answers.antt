@@ -1,9 +1,5 @@
 use Rattle.std.proofs.Common.{refl}
-use Rattle.calc_algebra.specs.Clean.{is_clean, left_of}
-use Rattle.calc_terms.specs.Fractions.{lowest, zero_fraction, one_fraction}
-use Rattle.calc_terms.specs.Gcd.{gcd}
-use Rattle.calc_algebra.specs.Numbers.{is_number}
-use Rattle.calc_algebra.specs.SquareRoots.{square_root}
+use Rattle.power_reduce.proofs.Shared.{is_clean, left_of, lowest, zero_fraction, one_fraction, gcd, is_number, square_root}
 use Rattle.power_reduce.proofs.examples.powers_rewritten.Goals as goal
 
 pub returns-clause-even_root : goal.returns-clause-even_root

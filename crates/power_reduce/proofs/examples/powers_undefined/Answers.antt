@@ -1,8 +1,5 @@
 use Rattle.std.proofs.Common.{refl}
-use Rattle.calc_algebra.specs.Clean.{is_clean}
-use Rattle.calc_terms.specs.Fractions.{lowest, zero_fraction, one_fraction}
-use Rattle.calc_terms.specs.Gcd.{gcd}
-use Rattle.calc_algebra.specs.Numbers.{is_number}
+use Rattle.power_reduce.proofs.Shared.{is_clean, lowest, zero_fraction, one_fraction, gcd, is_number}
 use Rattle.power_reduce.proofs.examples.powers_undefined.Goals as goal
 
 pub returns-clause-zero_to_zero : goal.returns-clause-zero_to_zero

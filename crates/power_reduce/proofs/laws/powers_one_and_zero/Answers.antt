@@ -1,10 +1,5 @@
 use Rattle.std.proofs.Common.{[], ◌<◌, arith, inr, inl}
-use Rattle.std.proofs.lemmas.List.Elements.{Contains-append_left}
-use Rattle.calc_terms.specs.Fractions.{one_fraction}
-use Rattle.calc_terms.specs.Trees.{num, names}
-use Rattle.calc_algebra.proofs.PowerRewrites.{power_one_is_base, power_zero_is_one}
-use Rattle.calc_algebra.proofs.ReducedLaws.{reduced_test}
-use Rattle.calc_algebra.proofs.Rewritings.{keeps}
+use Rattle.power_reduce.proofs.Shared.{Contains-append_left, one_fraction, num, names, power_one_is_base, power_zero_is_one, reduced_test, keeps}
 use Rattle.power_reduce.proofs.laws.powers_one_and_zero.Goals as goal
 
 pub returns-clause-one : goal.returns-clause-one

@@ -1,27 +1,13 @@
 use Rattle.std.proofs.Common.{◌≡◌, ◌≤◌, refl, sym, ap, ◌∙◌, arith, subst, pos, ◌≤ℤ◌}
-use Rattle.calc_algebra.specs.Numbers.{is_number, classes, value}
-use Rattle.number_forms.specs.Inverses.{IfValue}
+use Rattle.power_reduce.proofs.Shared.{is_number, classes, value, IfValue, IsNoLargerThanInverse, plain, last_tree, SpansTree, SpansInverse, replaced_free, if_map, passed_on, tree_of, forest, behind_first, behind_new, front_same, front_at, front_end, front_without, front_after_one, gives, gives_as, given_handed, given_rest, given_told, represents_handed, base_in, overflow_as, refused_as}
 use Rattle.power_reduce.proofs.HeldPowers.{negative_power, no_number_power}
 use Rattle.power_reduce.proofs.Powers.{power_is}
-use Rattle.surd_bits.specs.Inverted.{IsNoLargerThanInverse}
-use Rattle.tree_handles.specs.Expressions.{plain}
-use Rattle.tree_handles.proofs.Lasts.{last_tree}
-use Rattle.calc_room.specs.Spans.{SpansTree}
-use Rattle.number_forms.specs.Rooms.{SpansInverse}
-use Rattle.tree_handles.proofs.FreeBytes.{replaced_free}
 use Rattle.power_reduce.proofs.Rooms.{lacks_as, inverse_lacks_power}
-use Rattle.tree_handles.proofs.Outcomes.{if_map, passed_on}
-use Rattle.tree_handles.specs.Handed.{tree_of}
-use Rattle.tree_handles.specs.Standing.{forest}
-use Rattle.tree_handles.proofs.Fronts.{behind_first, behind_new, front_same, front_at, front_end, front_without, front_after_one}
-use Rattle.tree_handles.proofs.Given.{gives, gives_as, given_handed, given_rest, given_told, represents_handed}
-use Rattle.power_reduce.specs.PowerAnswers.{base_in}
-use Rattle.tree_handles.proofs.Refused.{overflow_as, refused_as}
 use Rattle.power_reduce.proofs.Misfits.{inverse_misfit, negative_misfit, raised_misfit}
 use Rattle.power_reduce.proofs.NumberPowers.{irrational_power, wide_answer, inverse_answer, inverse_given, has_inverse}
 use Rattle.power_reduce.proofs.RationalPowers.{opposite, opposite_above}
-use Rattle.power_reduce.proofs.numbers.negative_power.Goals as goal
 use Rattle.power_reduce.proofs.numbers.negative_power.Goals.{Else-classes-gt2}
+use Rattle.power_reduce.proofs.numbers.negative_power.Goals as goal
 
 pub returns-then-classes-gt2-clause-ok : goal.returns-then-classes-gt2-clause-ok
 returns-then-classes-gt2-clause-ok c =

@@ -1,15 +1,8 @@
 use Rattle.std.proofs.Common.{◌≡◌, pos, ◌≤ℤ◌, ◌<ℤ◌, refl, sym, ap, ◌∙◌, subst, arith, true, false}
-use Rattle.std.proofs.lemmas.Int.{ints}
-use Rattle.calc_terms.specs.Integers.{int_is_zero}
-use Rattle.calc_measures.specs.PlainValues.{PlainValue, exactly}
-use Rattle.calc_terms.specs.Rat.{value_of}
-use Rattle.coefficients.proofs.Steps.{one_value}
+use Rattle.power_reduce.proofs.Shared.{ints, int_is_zero, PlainValue, exactly, value_of, one_value, ratio_parts, told, IsPlainOverflow}
 use Rattle.power_reduce.proofs.RationalPowers.{above, not_above, below, zero_bits, no_zero_bits, opposite, powered_above, powered_below, powered_zero, not_zero, fitting_power, unfit_power, fitting_power_of, unfit_power_of, if_err, at_zero}
-use Rattle.rational128.proofs.LowestTerms.{ratio_parts}
-use Rattle.rational128.proofs.Signed.{told}
-use Rattle.calc_measures.specs.PlainTrees.{IsPlainOverflow}
-use Rattle.power_reduce.proofs.numbers.power_of.Goals as goal
 use Rattle.power_reduce.proofs.numbers.power_of.Goals.{Else-n-gt0}
+use Rattle.power_reduce.proofs.numbers.power_of.Goals as goal
 
 pub invert-requires : goal.invert-requires
 invert-requires c = λ e.

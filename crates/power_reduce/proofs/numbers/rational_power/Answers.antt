@@ -1,19 +1,12 @@
 use Rattle.std.proofs.Common.{◌≡◌, pos, ◌≤ℤ◌, true, refl, sym, ap, ◌∙◌, subst}
-use Rattle.calc_terms.specs.Fractions.{is_zero_fraction}
-use Rattle.calc_measures.specs.PlainValues.{PlainValue, powered}
-use Rattle.calc_terms.specs.Rat.{value_of}
-use Rattle.calc_measures.specs.PlainTrees.{IsPlainOverflow}
-use Rattle.tree_handles.proofs.Given.{gives_as, given_told}
-use Rattle.tree_handles.proofs.Outcomes.{passed_on}
-use Rattle.tree_handles.specs.declared.fault.NumberFault.TheVariants as fault
+use Rattle.power_reduce.proofs.Shared.{is_zero_fraction, PlainValue, powered, value_of, IsPlainOverflow, gives_as, given_told, passed_on, tree_of, told}
 use Rattle.power_reduce.proofs.Misfits.{rational_misfit}
 use Rattle.power_reduce.proofs.HeldPowers.{rational_power_held, no_number_undef}
 use Rattle.power_reduce.proofs.Powers.{power_is, rational_room}
-use Rattle.tree_handles.specs.Handed.{tree_of}
 use Rattle.power_reduce.proofs.RationalPowers.{at_most, not_at_most, zero_rational, no_zero_rational, plain_power, powered_undefined, nothing_answer, value_answer, overflow_answer, plain_as, rationals_as}
-use Rattle.rational128.proofs.Signed.{told}
-use Rattle.power_reduce.proofs.numbers.rational_power.Goals as goal
 use Rattle.power_reduce.proofs.numbers.rational_power.Goals.{Then-n-le0, Joined-else-num-eq0, else-num-eq0-via-then-num-eq0+else-n-le0, else-num-eq0-via-else-num-eq0}
+use Rattle.tree_handles.specs.declared.fault.NumberFault.TheVariants as fault
+use Rattle.power_reduce.proofs.numbers.rational_power.Goals as goal
 
 zero : (c : Then-n-le0) → is_zero_fraction (value_of c.args.q) ≡ true
 zero c = zero_rational c.args.q c.num.result c.num.ensures.value c.if-num-eq0.true

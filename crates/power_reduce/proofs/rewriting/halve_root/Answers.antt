@@ -1,22 +1,11 @@
 use Rattle.std.proofs.Common.{◌≡◌, ◌≤◌, inl, refl, ap, ◌∙◌, arith}
-use Rattle.calc_terms.specs.Rat.{value_of}
-use Rattle.calc_terms.specs.declared.kind.Kind.TheVariants as kind
-use Rattle.calc_terms.specs.Trees.{num, none, more, size}
-use Rattle.tree_handles.proofs.Over.{IsOver, IsTaken, over_put, over_same, over_end, without_put, IsAdded, children_in, added_as, moved}
-use Rattle.node_pool.specs.State.{free_of}
+use Rattle.power_reduce.proofs.Shared.{value_of, num, none, more, size, IsOver, IsTaken, over_put, over_same, over_end, without_put, IsAdded, children_in, added_as, moved, free_of, base_in, exponent_in, nth, children_of, tree_of, put, without_root, forest, behind_first, front_at, front_end, front_put, front_without, gives_as, given_handed, given_rest, given_root, given_told, owned, root_held}
 use Rattle.power_reduce.proofs.InPlace.{first_alone, root_merged, merged_front, second_taken, number_bytes, apart_last, without_added}
 use Rattle.power_reduce.proofs.Powers.{over_power}
 use Rattle.power_reduce.proofs.Halves.{half_rewritten, half_room, halved}
-use Rattle.power_reduce.specs.PowerAnswers.{base_in, exponent_in}
-use Rattle.tree_handles.specs.Expressions.{nth, children_of}
-use Rattle.tree_handles.specs.Handed.{tree_of}
-use Rattle.tree_handles.specs.Roots.{put, without_root}
-use Rattle.tree_handles.specs.Standing.{forest}
-use Rattle.tree_handles.proofs.Fronts.{behind_first, front_at, front_end, front_put, front_without}
-use Rattle.tree_handles.proofs.Given.{gives_as, given_handed, given_rest, given_root, given_told, owned}
-use Rattle.tree_handles.proofs.Roots.{root_held}
-use Rattle.power_reduce.proofs.rewriting.halve_root.Goals as goal
 use Rattle.power_reduce.proofs.rewriting.halve_root.Goals.{After-take_child-exponent, After-release}
+use Rattle.calc_terms.specs.declared.kind.Kind.TheVariants as kind
+use Rattle.power_reduce.proofs.rewriting.halve_root.Goals as goal
 
 pub merge_children-requires-clause-within : goal.merge_children-requires-clause-within
 merge_children-requires-clause-within c = omega (arith, children_in c.requires.stands (over_power c.requires.handed c.requires.sides.power))

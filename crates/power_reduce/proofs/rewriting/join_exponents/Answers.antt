@@ -1,24 +1,12 @@
 use Rattle.std.proofs.Common.{◌≡◌, ◌≤◌, true, false, Result, Ok, Err, refl, ◌∙◌, arith}
 use Rattle.std.specs.Prelude.{IsOk}
-use Rattle.calc_terms.specs.declared.kind.Kind.TheVariants as kind
-use Rattle.calc_terms.specs.Trees.{none, more, mult}
-use Rattle.tree_handles.proofs.Over.{IsOver, IsTaken, over_end, without_put, IsAdded, children_in, added_as, moved}
-use Rattle.tree_handles.proofs.Cuts.{represents_count}
-use Rattle.power_reduce.specs.PowerAnswers.{base_in, exponent_in}
-use Rattle.tree_handles.specs.Handed.{Gives, tree_of}
-use Rattle.tree_handles.specs.Roots.{put}
-use Rattle.tree_handles.specs.Standing.{forest}
+use Rattle.power_reduce.proofs.Shared.{none, more, mult, IsOver, IsTaken, over_end, without_put, IsAdded, children_in, added_as, moved, represents_count, base_in, exponent_in, Gives, tree_of, put, forest, behind_first, front_at, front_end, front_put, front_without, gives_as, given_rest, given_root, ends_as, last_apart, last_held, other_root, root_held, free_of, taken_free, merged_free}
 use Rattle.power_reduce.proofs.InPlace.{first_alone, merged_front, apart_last, without_added}
 use Rattle.power_reduce.proofs.Joining.{sides_merged, first_taken, then_taken, first_on, product_given, alone_over, joined}
 use Rattle.power_reduce.proofs.Powers.{over_power}
-use Rattle.tree_handles.proofs.Fronts.{behind_first, front_at, front_end, front_put, front_without}
-use Rattle.tree_handles.proofs.Given.{gives_as, given_rest, given_root}
-use Rattle.tree_handles.proofs.Lasts.{ends_as, last_apart, last_held, other_root}
-use Rattle.tree_handles.proofs.Roots.{root_held}
-use Rattle.node_pool.specs.State.{free_of}
-use Rattle.reduce_port.proofs.ChildBytes.{taken_free, merged_free}
-use Rattle.power_reduce.proofs.rewriting.join_exponents.Goals as goal
 use Rattle.power_reduce.proofs.rewriting.join_exponents.Goals.{After-merge_children, After-take_child-first, After-take_child-exponent, After-add_child-2}
+use Rattle.calc_terms.specs.declared.kind.Kind.TheVariants as kind
+use Rattle.power_reduce.proofs.rewriting.join_exponents.Goals as goal
 
 pub merge_children-requires-clause-within : goal.merge_children-requires-clause-within
 merge_children-requires-clause-within c = omega (arith, children_in c.requires.stands (over_power c.requires.handed c.requires.sides.power))

@@ -1,18 +1,8 @@
 use Rattle.std.proofs.Common.{refl, inl, sym, ap, ◌∙◌, arith}
-use Rattle.tree_handles.proofs.Beside.{gives_without}
-use Rattle.tree_handles.proofs.Outcomes.{passed_on}
+use Rattle.power_reduce.proofs.Shared.{gives_without, passed_on, is_num_one, is_mult, mult, more, over_gives, expression, tree_of, children_of, behind_first, behind_new, front_same, front_at, front_end, front_without, front_after_two, gives_as, given_apart, given_handed, given_rest, given_root, given_told, owned, ends_as, last_apart, last_held, last_tree}
 use Rattle.power_reduce.proofs.Rooms.{short_below, coefficient_most}
-use Rattle.calc_algebra.specs.Reduced.{is_num_one}
-use Rattle.calc_terms.specs.Trees.{is_mult, mult, more}
 use Rattle.coefficients.proofs.FirstFactors.{first_factor, first_front}
-use Rattle.tree_handles.proofs.Over.{over_gives}
-use Rattle.tree_handles.proofs.Seen.{expression}
 use Rattle.power_reduce.proofs.PartsOf.{led_by_one, led_by_other, first_handed, first_tree, first_seen, gives_at}
-use Rattle.tree_handles.specs.Handed.{tree_of}
-use Rattle.tree_handles.specs.Expressions.{children_of}
-use Rattle.tree_handles.proofs.Fronts.{behind_first, behind_new, front_same, front_at, front_end, front_without, front_after_two}
-use Rattle.tree_handles.proofs.Given.{gives_as, given_apart, given_handed, given_rest, given_root, given_told, owned}
-use Rattle.tree_handles.proofs.Lasts.{ends_as, last_apart, last_held, last_tree}
 use Rattle.power_reduce.proofs.rewriting.product_of_parts.Goals as goal
 
 pub is_one-requires-clause-expression : goal.is_one-requires-clause-expression

@@ -1,18 +1,7 @@
 use Rattle.std.proofs.Common.{◌≡◌, ◌+◌, ◌<◌, refl, ap, ◌∙◌, arith}
-use Rattle.calc_terms.specs.Trees.{Tree, count, is_mult, size}
-use Rattle.node_pool.specs.State.{free_of}
-use Rattle.tree_handles.proofs.FreeBytes.{refused_below}
-use Rattle.tree_handles.proofs.Outcomes.{passed_on, eqb-sym}
-use Rattle.tree_handles.proofs.Room.{given_free}
+use Rattle.power_reduce.proofs.Shared.{Tree, count, is_mult, size, free_of, refused_below, passed_on, eqb-sym, given_free, over_product, over_handed, over_plain, children_at, live, expression, seen, tree_of, children_of, keeps_none, keeps_after, behind_first, behind_later, behind_new, front_at, front_end, front_without, front_after_two, given_apart, given_handed, given_told}
 use Rattle.power_reduce.proofs.RaisedBytes.{read_bytes, next_lacks, last_lacks}
-use Rattle.tree_handles.proofs.Over.{over_product, over_handed, over_plain, children_at}
-use Rattle.tree_handles.proofs.Seen.{live, expression, seen}
 use Rattle.power_reduce.proofs.Raising.{none_raised, part_front, exponent_beside, exponent_tree, part_count, product_behind, product_tree, next_raised, next_kids, last_kids, all_raised, kids_over, raised_last, kids_front}
-use Rattle.tree_handles.specs.Handed.{tree_of}
-use Rattle.tree_handles.specs.Expressions.{children_of}
-use Rattle.tree_handles.proofs.Forests.{keeps_none, keeps_after}
-use Rattle.tree_handles.proofs.Fronts.{behind_first, behind_later, behind_new, front_at, front_end, front_without, front_after_two}
-use Rattle.tree_handles.proofs.Given.{given_apart, given_handed, given_told}
 use Rattle.power_reduce.proofs.rewriting.raise_each.Goals as goal
 
 pub children-last-requires-clause-live : goal.children-last-requires-clause-live

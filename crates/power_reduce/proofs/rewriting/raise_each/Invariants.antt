@@ -1,7 +1,5 @@
+use Rattle.power_reduce.proofs.Shared.{tree_of, children_of, Stands, forest, KeepsRefusals}
 use Rattle.power_reduce.proofs.Raising.{IsPartRaised}
-use Rattle.tree_handles.specs.Handed.{tree_of}
-use Rattle.tree_handles.specs.Expressions.{children_of}
-use Rattle.tree_handles.specs.Standing.{Stands, forest, KeepsRefusals}
 use Rattle.power_reduce.proofs.rewriting.raise_each.Given as goal
 
 abbrev pub invariant-loop-at : goal.invariant-loop-at

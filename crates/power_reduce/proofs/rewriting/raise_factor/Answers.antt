@@ -1,22 +1,10 @@
 use Rattle.std.proofs.Common.{◌≡◌, refl, arith}
-use Rattle.tree_handles.proofs.FreeBytes.{refused_below}
-use Rattle.tree_handles.proofs.Outcomes.{passed_on}
-use Rattle.reduce_port.proofs.ChildBytes.{taken_free}
-use Rattle.tree_handles.proofs.Over.{over_product, over_end, children_in, added_as, IsOver, IsTaken}
+use Rattle.power_reduce.proofs.Shared.{refused_below, passed_on, taken_free, over_product, over_end, children_in, added_as, IsOver, IsTaken, append, power, children_of, Gives, tree_of, put, without_root, forest, front_after, given_rest, given_root, handed_by_put, ends_as, last_apart, last_held, other_root, root_held}
 use Rattle.power_reduce.proofs.InPlace.{apart_last}
 use Rattle.power_reduce.proofs.Raising.{IsSplitAt, split_at, split_within, factor_taken, taken_front, power_given, product_on, words, kids_of_raised, kids_front}
-use Rattle.calc_terms.specs.declared.kind.Kind.TheVariants as kind
-use Rattle.calc_terms.specs.Trees.{append, power}
-use Rattle.tree_handles.specs.Expressions.{children_of}
-use Rattle.tree_handles.specs.Handed.{Gives, tree_of}
-use Rattle.tree_handles.specs.Roots.{put, without_root}
-use Rattle.tree_handles.specs.Standing.{forest}
-use Rattle.tree_handles.proofs.Fronts.{front_after}
-use Rattle.tree_handles.proofs.Given.{given_rest, given_root, handed_by_put}
-use Rattle.tree_handles.proofs.Lasts.{ends_as, last_apart, last_held, other_root}
-use Rattle.tree_handles.proofs.Roots.{root_held}
-use Rattle.power_reduce.proofs.rewriting.raise_factor.Goals as goal
 use Rattle.power_reduce.proofs.rewriting.raise_factor.Goals.{After-take_child-factor, After-add_child-2}
+use Rattle.calc_terms.specs.declared.kind.Kind.TheVariants as kind
+use Rattle.power_reduce.proofs.rewriting.raise_factor.Goals as goal
 
 pub take_child-factor-requires-clause-within : goal.take_child-factor-requires-clause-within
 take_child-factor-requires-clause-within c = omega (arith, children_in c.requires.stands (over_product c.requires.first c.requires.product), c.requires.within)

@@ -1,19 +1,8 @@
 use Rattle.std.proofs.Common.{◌≤◌, sym, ap, ◌∙◌, subst, arith}
-use Rattle.tree_handles.proofs.FreeBytes.{replaced_free}
-use Rattle.tree_handles.proofs.Outcomes.{passed_on, if_map, eqb-sym}
-use Rattle.number_forms.proofs.Rooms.{refusal_as}
-use Rattle.power_reduce.specs.PowerAnswers.{exponent_in}
+use Rattle.power_reduce.proofs.Shared.{replaced_free, passed_on, if_map, eqb-sym, refusal_as, exponent_in, tree_of, is_number, is_reduced, Tree, count, is_mult, size, plain, children_of, behind_first, behind_new, front_same, front_end, front_without, front_after_one, front_after_two, gives_as, given_apart, given_handed, given_other, given_rest, given_same, given_told, given_without, handed_beside, tree-without}
 use Rattle.power_reduce.proofs.Exponents.{inside_whole}
 use Rattle.power_reduce.proofs.Rooms.{sides_free, split_short, raised_short}
-use Rattle.tree_handles.specs.Handed.{tree_of}
-use Rattle.calc_algebra.specs.Numbers.{is_number}
-use Rattle.calc_algebra.specs.Reduced.{is_reduced}
-use Rattle.calc_terms.specs.Trees.{Tree, count, is_mult, size}
 use Rattle.power_reduce.proofs.PartsOf.{first_handed, first_tree, some_parts, powers_as}
-use Rattle.tree_handles.specs.Expressions.{plain, children_of}
-use Rattle.tree_handles.proofs.Fronts.{behind_first, behind_new, front_same, front_end, front_without, front_after_one, front_after_two}
-use Rattle.tree_handles.proofs.Given.{gives_as, given_apart, given_handed, given_other, given_rest, given_same, given_told, given_without, handed_beside}
-use Rattle.tree_handles.proofs.Roots.{tree-without}
 use Rattle.power_reduce.proofs.rewriting.raise_factors.Goals as goal
 
 pub product_of_parts-requires-clause-handed : goal.product_of_parts-requires-clause-handed

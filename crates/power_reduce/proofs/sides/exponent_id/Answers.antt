@@ -1,5 +1,5 @@
 use Rattle.std.proofs.Common.{arith}
-use Rattle.tree_handles.proofs.Seen.{expression}
+use Rattle.power_reduce.proofs.Shared.{expression}
 use Rattle.power_reduce.proofs.Powers.{two_sides, side_is}
 use Rattle.power_reduce.proofs.sides.exponent_id.Goals as goal
 

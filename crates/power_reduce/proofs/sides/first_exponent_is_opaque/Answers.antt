@@ -1,5 +1,5 @@
 use Rattle.std.proofs.Common.{ap, ◌∙◌}
-use Rattle.calc_algebra.specs.Reduced.{is_reduced}
+use Rattle.power_reduce.proofs.Shared.{is_reduced}
 use Rattle.power_reduce.proofs.Whole.{first_is, first_reduced, whole_first, other_first}
 use Rattle.power_reduce.proofs.sides.first_exponent_is_opaque.Goals as goal
 

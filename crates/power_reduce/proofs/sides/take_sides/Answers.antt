@@ -1,5 +1,5 @@
 use Rattle.std.proofs.Common.{inl, arith}
-use Rattle.tree_handles.proofs.Over.{children_in}
+use Rattle.power_reduce.proofs.Shared.{children_in}
 use Rattle.power_reduce.proofs.Powers.{over_power, over_owned, base_taken, exponent_taken, sides_taken, sides_front}
 use Rattle.power_reduce.proofs.sides.take_sides.Goals as goal
 

@@ -1,10 +1,5 @@
 use Rattle.std.proofs.Common.{arith, ◌≤◌}
-use Rattle.node_pool.specs.State.{free_of}
-use Rattle.tree_handles.proofs.Room.{released_free}
-use Rattle.calc_terms.specs.Rat.{value_of}
-use Rattle.calc_terms.specs.Trees.{num, size}
-use Rattle.tree_handles.proofs.Fronts.{behind_first, front_same, front_at, front_without, front_after}
-use Rattle.tree_handles.proofs.Given.{owned}
+use Rattle.power_reduce.proofs.Shared.{free_of, released_free, value_of, num, size, behind_first, front_same, front_at, front_without, front_after, owned}
 use Rattle.power_reduce.proofs.sides.with_number.Goals as goal
 
 pub unreachable-requires : goal.unreachable-requires

@@ -1,6 +1,4 @@
-use Rattle.tree_handles.specs.Handed.{tree_of}
-use Rattle.tree_handles.proofs.Fronts.{behind_first, front_same, front_end, front_without}
-use Rattle.tree_handles.proofs.Given.{gives, represents_handed}
+use Rattle.power_reduce.proofs.Shared.{tree_of, behind_first, front_same, front_end, front_without, gives, represents_handed}
 use Rattle.power_reduce.proofs.Cases.{kept_power_answer}
 use Rattle.power_reduce.proofs.step.kept_power.Goals as goal
 

@@ -1,8 +1,6 @@
-use Rattle.tree_handles.specs.Handed.{tree_of}
-use Rattle.tree_handles.specs.declared.fault.NumberFault.TheVariants as fault
-use Rattle.tree_handles.proofs.Outcomes.{passed_on}
-use Rattle.power_reduce.specs.PowerAnswers.{exponent_in}
+use Rattle.power_reduce.proofs.Shared.{tree_of, passed_on, exponent_in}
 use Rattle.power_reduce.proofs.Cases.{broken_other, again}
+use Rattle.tree_handles.specs.declared.fault.NumberFault.TheVariants as fault
 use Rattle.power_reduce.proofs.step.other_power.Goals as goal
 
 pub kept_power-requires-clause-exponent : goal.kept_power-requires-clause-exponent

@@ -1,8 +1,5 @@
 use Rattle.std.proofs.Common.{sym, ap, ◌∙◌}
-use Rattle.calc_terms.specs.Trees.{root_kind}
-use Rattle.tree_handles.proofs.Seen.{product_kind}
-use Rattle.tree_handles.specs.Handed.{tree_of}
-use Rattle.power_reduce.specs.PowerAnswers.{base_in, exponent_in}
+use Rattle.power_reduce.proofs.Shared.{root_kind, product_kind, tree_of, base_in, exponent_in}
 use Rattle.power_reduce.proofs.Rooms.{no_refusal}
 use Rattle.power_reduce.proofs.Cases.{power_kind, inside_other, other_kept}
 use Rattle.power_reduce.proofs.step.power_inside.Goals as goal

@@ -1,29 +1,16 @@
 use Rattle.std.proofs.Common.{◌≡◌, ℤ, Bool, true, false, refl, sym, ap, ◌∙◌, subst, ◌<◌, ◌^◌, arith}
-use Rattle.calc_room.specs.Counts.{counted}
-use Rattle.calc_room.specs.Spans.{SpansTree}
+use Rattle.std.specs.Prelude.{nat_abs, IfOk}
+use Rattle.power_reduce.proofs.Shared.{counted, SpansTree, is_number, IsNumberPower, IfDone, counts_one, whole_fraction, is_half_num, is_whole_num, Tree, num, is_undef, told, tree_of, gives_as, given_told, base_in, exponent_in, refused_as}
 use Rattle.power_reduce.proofs.Counted.{if_step_counts}
 use Rattle.power_reduce.proofs.Exponents.{whole_no_half}
-use Rattle.calc_algebra.specs.Numbers.{is_number}
-use Rattle.power_reduce.specs.Bits.{IsNumberPower}
-use Rattle.reduce_port.specs.Steps.{IfDone}
 use Rattle.power_reduce.proofs.HeldPowers.{if_step_held, no_undef}
 use Rattle.power_reduce.proofs.WithinBits.{within_bits}
 use Rattle.power_reduce.proofs.Written.{whole_numbers}
 use Rattle.power_reduce.proofs.Spanned.{if_step_spans}
 use Rattle.power_reduce.proofs.Whole.{whole_is}
-use Rattle.tree_room.proofs.Counts.{counts_one}
-use Rattle.std.specs.Prelude.{nat_abs, IfOk}
-use Rattle.calc_terms.specs.Fractions.{whole_fraction}
-use Rattle.calc_algebra.specs.Reduced.{is_half_num, is_whole_num}
-use Rattle.calc_terms.specs.Trees.{Tree, num, is_undef}
-use Rattle.rational128.proofs.Signed.{told}
-use Rattle.tree_handles.specs.Handed.{tree_of}
-use Rattle.tree_handles.proofs.Given.{gives_as, given_told}
-use Rattle.power_reduce.specs.PowerAnswers.{base_in, exponent_in}
-use Rattle.tree_handles.proofs.Refused.{refused_as}
 use Rattle.power_reduce.proofs.Cases.{HasUndef, undef_base, undef_exponent, undef_kept, undef_answer, defined_rationals}
-use Rattle.power_reduce.proofs.step.power_step.Goals as goal
 use Rattle.power_reduce.proofs.step.power_step.Goals.{Joined-then-is_undefined, then-is_undefined-via-then-is_undefined, then-is_undefined-via-else-is_undefined+then-is_undefined-2}
+use Rattle.power_reduce.proofs.step.power_step.Goals as goal
 
 pub whole_power-requires-clause-sides : goal.whole_power-requires-clause-sides
 whole_power-requires-clause-sides c = record {

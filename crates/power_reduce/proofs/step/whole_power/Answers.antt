@@ -1,15 +1,7 @@
 use Rattle.std.proofs.Common.{sym, ap, ◌∙◌, subst}
 use Rattle.std.specs.Prelude.{IfOk}
-use Rattle.power_reduce.specs.Bits.{IsNumberPower}
-use Rattle.rational128.proofs.Signed.{told}
-use Rattle.reduce_port.specs.Steps.{IfDone}
-use Rattle.calc_terms.specs.Trees.{root_kind}
-use Rattle.tree_handles.specs.Handed.{tree_of}
-use Rattle.power_reduce.specs.PowerAnswers.{base_in, exponent_in}
-use Rattle.tree_handles.proofs.Outcomes.{passed_on}
-use Rattle.number_forms.proofs.Rooms.{full_as}
+use Rattle.power_reduce.proofs.Shared.{IsNumberPower, told, IfDone, root_kind, tree_of, base_in, exponent_in, passed_on, full_as, is_whole_num}
 use Rattle.power_reduce.proofs.Cases.{no_num_kind, number_kept, no_rational, rational_number, step_fault}
-use Rattle.calc_algebra.specs.Reduced.{is_whole_num}
 use Rattle.power_reduce.proofs.Whole.{whole_is}
 use Rattle.power_reduce.proofs.step.whole_power.Goals as goal
 

@@ -1,16 +1,5 @@
 use Rattle.std.proofs.Common.{◌≡◌, true, false, refl, sym, ap, ◌∙◌, subst}
-use Rattle.power_reduce.specs.Bits.{IsNumberPower}
-use Rattle.calc_terms.specs.Fractions.{whole_fraction}
-use Rattle.calc_algebra.specs.Numbers.{is_number}
-use Rattle.calc_algebra.specs.Reduced.{is_reduced, is_whole_num}
-use Rattle.calc_terms.specs.Trees.{Tree, num, is_root}
-use Rattle.coefficients.proofs.Steps.{one_value}
-use Rattle.tree_handles.specs.Handed.{tree_of}
-use Rattle.tree_handles.proofs.Given.{gives_as}
-use Rattle.power_reduce.specs.PowerAnswers.{base_in, exponent_in}
-use Rattle.power_reduce.specs.PowerSteps.{is_even_whole}
-use Rattle.tree_handles.proofs.Outcomes.{passed_on}
-use Rattle.tree_handles.proofs.Refused.{refused_as}
+use Rattle.power_reduce.proofs.Shared.{IsNumberPower, whole_fraction, is_number, is_reduced, is_whole_num, Tree, num, is_root, one_value, tree_of, gives_as, base_in, exponent_in, is_even_whole, passed_on, refused_as, told}
 use Rattle.power_reduce.proofs.Cases.{number_kept, zero_kept, one_kept, other_power, whole_goes_inside, no_number, even_bits, odd_bits, even_whole, odd_root_kept, again}
 use Rattle.power_reduce.proofs.NumberPowers.{zero_answer, one_answer}
 use Rattle.power_reduce.proofs.Powers.{one_room}
@@ -18,9 +7,8 @@ use Rattle.power_reduce.proofs.Rooms.{number_lacks}
 use Rattle.power_reduce.proofs.Spanned.{base_spans}
 use Rattle.power_reduce.proofs.RationalPowers.{zero_bits, no_zero_bits}
 use Rattle.power_reduce.proofs.Whole.{one_bits, no_one_bits, whole_is}
-use Rattle.rational128.proofs.Signed.{told}
-use Rattle.power_reduce.proofs.step.whole_power_of_other.Goals as goal
 use Rattle.power_reduce.proofs.step.whole_power_of_other.Goals.{else-n-eq0-2-via-then-n-eq0-2+else-is_root, else-n-eq0-2-via-else-n-eq0-2}
+use Rattle.power_reduce.proofs.step.whole_power_of_other.Goals as goal
 
 pub is_reduced_number-requires-clause-reduced : goal.is_reduced_number-requires-clause-reduced
 is_reduced_number-requires-clause-reduced c = ap is_reduced c.base_id-base.ensures.tree ∙ c.requires.sides.base

@@ -1,5 +1,5 @@
 use Rattle.std.proofs.Common.{ap}
-use Rattle.node_pool.specs.State.{State}
+use Rattle.power_reduce.proofs.Shared.{State}
 use Rattle.tree_handles.proofs.Opened.{stands_open}
 use Rattle.power_reduce.proofs.tests.opened.Goals as goal
 

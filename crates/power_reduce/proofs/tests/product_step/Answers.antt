@@ -1,10 +1,6 @@
 use Rattle.std.proofs.Common.{ap, ◌∙◌}
-use Rattle.calc_algebra.specs.Reduced.{is_reduced}
-use Rattle.calc_terms.specs.Trees.{mult, none, more}
+use Rattle.power_reduce.proofs.Shared.{is_reduced, mult, none, more, plain, given_apart, given_handed, given_other, given_root, given_same, given_told, eqb-sym}
 use Rattle.power_reduce.proofs.Leaves.{product_reduced}
-use Rattle.tree_handles.specs.Expressions.{plain}
-use Rattle.tree_handles.proofs.Given.{given_apart, given_handed, given_other, given_root, given_same, given_told}
-use Rattle.tree_handles.proofs.Outcomes.{eqb-sym}
 use Rattle.power_reduce.proofs.tests.product_step.Goals as goal
 
 pub node_over_two-requires-clause-first : goal.node_over_two-requires-clause-first

@@ -1,7 +1,6 @@
 use Rattle.std.proofs.Common.{ap, ◌∙◌}
-use Rattle.calc_algebra.specs.Reduced.{is_reduced}
+use Rattle.power_reduce.proofs.Shared.{is_reduced, given_handed, given_told}
 use Rattle.power_reduce.proofs.Leaves.{number_reduced}
-use Rattle.tree_handles.proofs.Given.{given_handed, given_told}
 use Rattle.power_reduce.proofs.tests.rational_step.Goals as goal
 
 pub step-requires-clause-handed : goal.step-requires-clause-handed

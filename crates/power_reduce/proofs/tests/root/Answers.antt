@@ -1,7 +1,5 @@
 use Rattle.std.proofs.Common.{◌∙◌, ap}
-use Rattle.calc_algebra.specs.Numbers.{is_number}
-use Rattle.calc_terms.specs.Trees.{root}
-use Rattle.tree_handles.proofs.Given.{given_handed, given_rest, given_told, gives_as}
+use Rattle.power_reduce.proofs.Shared.{is_number, root, given_handed, given_rest, given_told, gives_as}
 use Rattle.power_reduce.proofs.tests.root.Goals as goal
 
 pub node_over-requires-clause-handed : goal.node_over-requires-clause-handed

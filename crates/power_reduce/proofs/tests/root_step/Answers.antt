@@ -1,8 +1,6 @@
 use Rattle.std.proofs.Common.{ap, ◌∙◌}
-use Rattle.calc_algebra.specs.Reduced.{is_reduced}
-use Rattle.calc_terms.specs.Trees.{Tree, root}
+use Rattle.power_reduce.proofs.Shared.{is_reduced, Tree, root, given_handed, given_told}
 use Rattle.power_reduce.proofs.Leaves.{root_reduced}
-use Rattle.tree_handles.proofs.Given.{given_handed, given_told}
 use Rattle.power_reduce.proofs.tests.root_step.Goals as goal
 
 pub node_over-requires-clause-handed : goal.node_over-requires-clause-handed

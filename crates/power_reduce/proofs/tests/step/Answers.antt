@@ -1,14 +1,6 @@
 use Rattle.std.proofs.Common.{ap, ◌∙◌}
-use Rattle.calc_algebra.specs.Reduced.{is_reduced}
-use Rattle.calc_terms.specs.Trees.{Tree}
-use Rattle.power_reduce.specs.PowerAnswers.{is_power, base_in, exponent_in}
+use Rattle.power_reduce.proofs.Shared.{is_reduced, Tree, is_power, base_in, exponent_in, tree_of, without_root, forest, plain, given_apart, given_handed, given_other, given_same, given_told, eqb-sym}
 use Rattle.power_reduce.proofs.Leaves.{number_reduced, done_reduced}
-use Rattle.tree_handles.specs.Handed.{tree_of}
-use Rattle.tree_handles.specs.Roots.{without_root}
-use Rattle.tree_handles.specs.Standing.{forest}
-use Rattle.tree_handles.specs.Expressions.{plain}
-use Rattle.tree_handles.proofs.Given.{given_apart, given_handed, given_other, given_same, given_told}
-use Rattle.tree_handles.proofs.Outcomes.{eqb-sym}
 use Rattle.power_reduce.proofs.tests.step.Goals as goal
 
 pub node_over_two-requires-clause-first : goal.node_over_two-requires-clause-first

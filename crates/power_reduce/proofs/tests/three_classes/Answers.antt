@@ -1,9 +1,5 @@
 use Rattle.std.proofs.Common.{◌∙◌, ap}
-use Rattle.calc_algebra.specs.Numbers.{is_number}
-use Rattle.calc_algebra.proofs.NumberLaws.{number_test}
-use Rattle.number_forms.proofs.Pairs.{first_handed, pair_apart, first_told, pair_rest}
-use Rattle.number_forms.proofs.TermTrees.{if_given}
-use Rattle.tree_handles.proofs.Given.{given_handed, given_told}
+use Rattle.power_reduce.proofs.Shared.{is_number, number_test, first_handed, pair_apart, first_told, pair_rest, if_given, given_handed, given_told}
 use Rattle.power_reduce.proofs.tests.three_classes.Goals as goal
 
 pub add_numbers-requires-clause-first : goal.add_numbers-requires-clause-first

@@ -1,4 +1,4 @@
-use Rattle.tree_handles.proofs.Given.{given_handed, given_told}
+use Rattle.power_reduce.proofs.Shared.{given_handed, given_told}
 use Rattle.power_reduce.proofs.Leaves.{any_number_reduced}
 use Rattle.power_reduce.proofs.tests.two_class_step.Goals as goal
 

@@ -1,8 +1,6 @@
 use Rattle.std.proofs.Common.{◌∙◌}
-use Rattle.number_forms.proofs.Pairs.{first_handed, pair_apart, first_told, pair_rest}
-use Rattle.number_forms.proofs.TermTrees.{if_given}
+use Rattle.power_reduce.proofs.Shared.{first_handed, pair_apart, first_told, pair_rest, if_given, given_handed, given_told}
 use Rattle.power_reduce.proofs.Leaves.{root_two, root_three}
-use Rattle.tree_handles.proofs.Given.{given_handed, given_told}
 use Rattle.power_reduce.proofs.tests.two_classes.Goals as goal
 
 pub root-requires-clause-number : goal.root-requires-clause-number

@@ -1,12 +1,5 @@
 use Rattle.std.proofs.Common.{◌∙◌, ap, inl}
-use Rattle.tree_handles.specs.Expressions.{plain}
-use Rattle.tree_handles.specs.Roots.{has_root, root_tree, without_root}
-use Rattle.tree_handles.specs.Standing.{forest}
-use Rattle.tree_handles.proofs.Fronts.{behind_first, behind_later, front_same, front_at, front_end, front_without}
-use Rattle.tree_handles.proofs.Given.{gives, owned, handed_beside, represents_handed}
-use Rattle.tree_handles.proofs.Lasts.{ends_as}
-use Rattle.tree_handles.proofs.Outcomes.{eqb-sym}
-use Rattle.tree_handles.proofs.Roots.{tree-without, without-swap}
+use Rattle.product_reduce.proofs.Shared.{plain, has_root, root_tree, without_root, forest, behind_first, behind_later, front_same, front_at, front_end, front_without, gives, owned, handed_beside, represents_handed, ends_as, eqb-sym, tree-without, without-swap}
 use Rattle.product_reduce.proofs.endings.alone.Goals as goal
 
 pub release-requires-clause-releasable : goal.release-requires-clause-releasable

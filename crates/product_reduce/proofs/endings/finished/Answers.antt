@@ -1,24 +1,6 @@
 use Rattle.std.proofs.Common.{ℕ, ◌≡◌, ◌≤◌, ◌^◌, length, ◌∙◌, ap, sym, subst, inl, arith, rules}
-use Rattle.calc_algebra.specs.Numbers.{is_number}
-use Rattle.calc_algebra.specs.Reduced.{is_reduced, product_tree}
-use Rattle.calc_room.specs.Counts.{counted}
-use Rattle.calc_room.specs.Spans.{SpansTree}
-use Rattle.calc_terms.specs.Trees.{Tree, mult, count, size}
-use Rattle.coefficients.specs.Rooms.{put_room}
-use Rattle.coefficients.proofs.Lacks.{result_lacks}
-use Rattle.tree_handles.proofs.FreeBytes.{replaced_free}
-use Rattle.tree_handles.specs.Handed.{tree_of}
-use Rattle.tree_handles.proofs.Roots.{tree-without}
-use Rattle.tree_room.proofs.Coefficients.{product_counts}
+use Rattle.product_reduce.proofs.Shared.{is_number, is_reduced, product_tree, counted, SpansTree, Tree, mult, count, size, put_room, result_lacks, replaced_free, tree_of, tree-without, product_counts, if_map, eqb-sym, plain, has_root, root_tree, without_root, behind_first, behind_later, behind_new, front_same, front_at, front_end, front_after_one, front_after_two, front_without, forest, given_apart, given_handed, given_other, given_same, given_told, owned, ends_as, last_tree, factors_in}
 use Rattle.product_reduce.proofs.GatheredParts.{spans_product}
-use Rattle.tree_handles.proofs.Outcomes.{if_map, eqb-sym}
-use Rattle.tree_handles.specs.Expressions.{plain}
-use Rattle.tree_handles.specs.Roots.{has_root, root_tree, without_root}
-use Rattle.tree_handles.proofs.Fronts.{behind_first, behind_later, behind_new, front_same, front_at, front_end, front_after_one, front_after_two, front_without}
-use Rattle.tree_handles.specs.Standing.{forest}
-use Rattle.tree_handles.proofs.Given.{given_apart, given_handed, given_other, given_same, given_told, owned}
-use Rattle.tree_handles.proofs.Lasts.{ends_as, last_tree}
-use Rattle.product_reduce.specs.Products.{factors_in}
 use Rattle.product_reduce.proofs.Misfits.{put_misfit, put_named}
 use Rattle.product_reduce.proofs.Products.{factors_are}
 use Rattle.product_reduce.proofs.Readied.{readied_here, alone_handed, alone_tree, alone_given, none_behind, part_reduced, part_given, put_given}

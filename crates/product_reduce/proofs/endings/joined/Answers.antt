@@ -1,25 +1,12 @@
 use Rattle.std.proofs.Common.{◌≡◌, ◌≤◌, ◌<◌, ◌+◌, ◌-◌, ◌∙◌, ap, sym, refl, subst, arith}
-use Rattle.calc_terms.specs.Trees.{Tree, Trees, mult, count}
-use Rattle.tree_handles.specs.Handed.{tree_of}
-use Rattle.tree_handles.specs.Expressions.{plain, children_of}
-use Rattle.tree_handles.specs.Forest.{Forest}
-use Rattle.tree_handles.specs.Roots.{without_root}
-use Rattle.tree_handles.specs.Standing.{forest}
-use Rattle.tree_handles.proofs.Fronts.{behind_first, behind_later, front_same, front_end, front_without, front_after_one}
-use Rattle.tree_handles.proofs.Given.{gives, represents_handed}
-use Rattle.tree_handles.proofs.Lasts.{ends_as, last_tree}
-use Rattle.tree_handles.proofs.Roots.{without-swap}
-use Rattle.tree_handles.proofs.Outcomes.{eqb-sym}
-use Rattle.product_reduce.specs.Factors.{coefficient_before}
-use Rattle.product_reduce.specs.Joining.{joined, IsFirstJoint, IsJointAt}
-use Rattle.product_reduce.specs.Products.{factors_in}
+use Rattle.product_reduce.proofs.Shared.{Tree, Trees, mult, count, tree_of, plain, children_of, Forest, without_root, forest, behind_first, behind_later, front_same, front_end, front_without, front_after_one, gives, represents_handed, ends_as, last_tree, without-swap, eqb-sym, coefficient_before, joined, IsFirstJoint, IsJointAt, factors_in}
 use Rattle.product_reduce.proofs.Beside.{beside_becomes, tree_becomes}
 use Rattle.product_reduce.proofs.Products.{becomes_as, factors_are, product_at}
 use Rattle.product_reduce.proofs.Pairs.{joined_at}
 use Rattle.product_reduce.proofs.JointPlaces.{joint_at, first_joint_at, joined_count, count_before}
 use Rattle.product_reduce.proofs.Readied.{factors_before}
-use Rattle.product_reduce.proofs.endings.joined.Goals as goal
 use Rattle.product_reduce.proofs.endings.joined.Goals.{After-move_last}
+use Rattle.product_reduce.proofs.endings.joined.Goals as goal
 
 pub returns-in_err-join_pair-clause-front : goal.returns-in_err-join_pair-clause-front
 returns-in_err-join_pair-clause-front c = front_after_one behind_first front_same c.join_pair.ensures.front

@@ -1,28 +1,6 @@
 use Rattle.std.proofs.Common.{ℕ, ◌≡◌, ◌^◌, length, ◌∙◌, ap, sym, refl, subst, arith}
 use Rattle.std.specs.Prelude.{IsSortedByKey}
-use Rattle.calc_algebra.proofs.MeaningRewrites.{Permuted-sym}
-use Rattle.calc_algebra.specs.Numbers.{is_number}
-use Rattle.calc_algebra.specs.Reduced.{base_of}
-use Rattle.calc_algebra.specs.TreeOrder.{tree_cmp}
-use Rattle.calc_room.specs.Counts.{counted}
-use Rattle.calc_room.specs.Spans.{SpansTree, SpansTrees}
-use Rattle.calc_terms.specs.Trees.{Tree, Trees, mult, size}
-use Rattle.coefficients.specs.Rooms.{put_room}
-use Rattle.coefficients.proofs.Lacks.{result_lacks}
-use Rattle.tree_handles.proofs.Outcomes.{if_map, eqb-sym}
-use Rattle.node_order.specs.Sorting.{list_of}
-use Rattle.number_forms.specs.Readers.{is_zero}
-use Rattle.tree_handles.specs.Expressions.{plain}
-use Rattle.tree_handles.specs.Handed.{tree_of}
-use Rattle.tree_handles.specs.Roots.{without_root}
-use Rattle.tree_handles.specs.Standing.{forest}
-use Rattle.tree_handles.proofs.Fronts.{behind_first, behind_later, front_same, front_after_one, front_after_two}
-use Rattle.tree_handles.proofs.Given.{gives_as}
-use Rattle.tree_handles.proofs.Roots.{without-swap}
-use Rattle.product_reduce.specs.Answers.{AreOthers, IsEnding}
-use Rattle.product_reduce.specs.Joining.{have_partners}
-use Rattle.product_reduce.specs.Misfits.{SpreadingOverflows}
-use Rattle.product_reduce.specs.Products.{factors_in}
+use Rattle.product_reduce.proofs.Shared.{Permuted-sym, is_number, base_of, tree_cmp, counted, SpansTree, SpansTrees, Tree, Trees, mult, size, put_room, result_lacks, if_map, eqb-sym, list_of, is_zero, plain, tree_of, without_root, forest, behind_first, behind_later, front_same, front_after_one, front_after_two, gives_as, without-swap, AreOthers, IsEnding, have_partners, SpreadingOverflows, factors_in}
 use Rattle.product_reduce.proofs.Beside.{beside_becomes, tree_becomes}
 use Rattle.product_reduce.proofs.FreeBytes.{becomes_free}
 use Rattle.product_reduce.proofs.GatheredCounts.{sorted_counted}

@@ -1,5 +1,5 @@
 use Rattle.std.proofs.Common.{ap, ◌∙◌}
-use Rattle.tree_handles.specs.Expressions.{nth}
+use Rattle.product_reduce.proofs.Shared.{nth}
 use Rattle.product_reduce.proofs.Products.{product_within, product_expression, product_children}
 use Rattle.product_reduce.proofs.factors.factor.Goals as goal
 

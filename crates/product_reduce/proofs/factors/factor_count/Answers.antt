@@ -1,5 +1,5 @@
 use Rattle.std.proofs.Common.{ap, ◌∙◌}
-use Rattle.calc_terms.specs.Trees.{count}
+use Rattle.product_reduce.proofs.Shared.{count}
 use Rattle.product_reduce.proofs.Products.{product_live, product_expression, product_children}
 use Rattle.product_reduce.proofs.factors.factor_count.Goals as goal
 

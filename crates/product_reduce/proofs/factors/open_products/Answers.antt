@@ -1,5 +1,5 @@
 use Rattle.std.proofs.Common.{inr, ap}
-use Rattle.calc_terms.specs.Trees.{is_mult}
+use Rattle.product_reduce.proofs.Shared.{is_mult}
 use Rattle.product_reduce.proofs.Products.{becomes_put}
 use Rattle.product_reduce.proofs.factors.open_products.Goals as goal
 

@@ -1,7 +1,5 @@
 use Rattle.std.proofs.Common.{◌∙◌, ap, sym, rules, FitsSigned}
-use Rattle.std.specs.Int.{w128}
-use Rattle.calc_terms.specs.Rat.{value_of}
-use Rattle.calc_algebra.specs.Reduced.{is_num_one}
+use Rattle.product_reduce.proofs.Shared.{w128, value_of, is_num_one}
 use Rattle.rational128.proofs.LowestTerms.{ratio_parts}
 use Rattle.product_reduce.proofs.Ones.{one_over_one, not_over_one, whole_over_one}
 use Rattle.product_reduce.proofs.fronting.is_one.Goals as goal

@@ -1,10 +1,5 @@
 use Rattle.std.proofs.Common.{◌∙◌, ap, sym, arith}
-use Rattle.calc_algebra.specs.Reduced.{is_num_one}
-use Rattle.calc_terms.specs.Trees.{is_mult}
-use Rattle.tree_handles.specs.Handed.{tree_of}
-use Rattle.tree_handles.proofs.Given.{owned}
-use Rattle.tree_handles.proofs.Lasts.{apart, expression_root, plain_root}
-use Rattle.tree_handles.proofs.Outcomes.{eqb-sym}
+use Rattle.product_reduce.proofs.Shared.{is_num_one, is_mult, tree_of, owned, apart, expression_root, plain_root, eqb-sym}
 use Rattle.product_reduce.proofs.Beside.{beside_handed}
 use Rattle.product_reduce.proofs.Fronts.{one_in_front, first_put, first_merged, first_kept}
 use Rattle.product_reduce.proofs.Products.{becomes_as, becomes_at, product_beside, product_live, product_once}

@@ -1,20 +1,8 @@
 use Rattle.std.proofs.Common.{◌≡◌, ◌≤◌, ◌+◌, ◌-◌, ◌∙◌, ap, sym, refl, subst, arith}
-use Rattle.calc_terms.specs.Trees.{count}
-use Rattle.tree_handles.specs.Handed.{tree_of}
-use Rattle.tree_handles.specs.Expressions.{plain, children_of}
-use Rattle.tree_handles.specs.Forest.{Forest}
-use Rattle.tree_handles.specs.Standing.{forest}
-use Rattle.tree_handles.proofs.Fronts.{behind_first, behind_later, front_same, front_end, front_without, front_after_one}
-use Rattle.tree_handles.proofs.Given.{gives, represents_handed}
-use Rattle.tree_handles.proofs.Lasts.{ends_as, last_tree}
-use Rattle.product_reduce.specs.Factors.{coefficient_before}
-use Rattle.product_reduce.specs.Neighbours.{IsPairAt}
-use Rattle.product_reduce.specs.Products.{factors_in}
+use Rattle.product_reduce.proofs.Shared.{count, tree_of, plain, children_of, Forest, forest, behind_first, behind_later, front_same, front_end, front_without, front_after_one, gives, represents_handed, ends_as, last_tree, coefficient_before, IsPairAt, factors_in, eqb-sym, without-swap}
 use Rattle.product_reduce.proofs.JointPlaces.{count_before}
 use Rattle.product_reduce.proofs.Neighbours.{pair_before}
 use Rattle.product_reduce.proofs.Products.{factors_are, product_at}
-use Rattle.tree_handles.proofs.Outcomes.{eqb-sym}
-use Rattle.tree_handles.proofs.Roots.{without-swap}
 use Rattle.product_reduce.proofs.gathering.behind.Goals as goal
 
 pub factor_count-requires-clause-product : goal.factor_count-requires-clause-product

@@ -1,7 +1,5 @@
 use Rattle.std.proofs.Common.{refl, arith}
-use Rattle.tree_handles.proofs.Fronts.{behind_first, front_end, front_without}
-use Rattle.tree_handles.proofs.Given.{gives, represents_handed}
-use Rattle.tree_handles.proofs.Lasts.{ends_as}
+use Rattle.product_reduce.proofs.Shared.{behind_first, front_end, front_without, gives, represents_handed, ends_as}
 use Rattle.product_reduce.proofs.Stepped.{handed_product}
 use Rattle.product_reduce.proofs.gathering.join_neighbours.Goals as goal
 

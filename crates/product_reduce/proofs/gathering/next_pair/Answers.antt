@@ -1,5 +1,4 @@
-use Rattle.tree_handles.specs.Expressions.{children_of}
-use Rattle.tree_handles.specs.Handed.{tree_of}
+use Rattle.product_reduce.proofs.Shared.{children_of, tree_of}
 use Rattle.product_reduce.proofs.Finished.{reduced_nth}
 use Rattle.product_reduce.proofs.gathering.next_pair.Goals as goal
 

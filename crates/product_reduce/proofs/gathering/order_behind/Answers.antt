@@ -1,16 +1,5 @@
 use Rattle.std.proofs.Common.{◌∙◌, ap, sym, refl, subst, arith, rules}
-use Rattle.calc_algebra.specs.Reduced.{product_tree, are_reduced}
-use Rattle.calc_terms.specs.Trees.{Trees, count}
-use Rattle.tree_handles.specs.Expressions.{plain, children_of}
-use Rattle.tree_handles.specs.Forest.{Forest}
-use Rattle.tree_handles.specs.Standing.{forest}
-use Rattle.tree_handles.proofs.Fronts.{behind_first, front_same, front_end, front_without, front_after_one}
-use Rattle.tree_handles.proofs.Given.{gives, gives_as, represents_handed}
-use Rattle.tree_handles.proofs.Lasts.{ends_as, last_tree}
-use Rattle.product_reduce.specs.Factors.{others_in}
-use Rattle.product_reduce.specs.Gathering.{IsOrdered}
-use Rattle.product_reduce.specs.Neighbours.{IsPairAt, IsNextPair, NoPairBetween}
-use Rattle.product_reduce.specs.Products.{factors_in}
+use Rattle.product_reduce.proofs.Shared.{product_tree, are_reduced, Trees, count, plain, children_of, Forest, forest, behind_first, front_same, front_end, front_without, front_after_one, gives, gives_as, represents_handed, ends_as, last_tree, others_in, IsOrdered, IsPairAt, IsNextPair, NoPairBetween, factors_in}
 use Rattle.product_reduce.proofs.Finished.{reduced_nth}
 use Rattle.product_reduce.proofs.Leads.{lead_within, put_within, put_reduced, put_done, put_ordered}
 use Rattle.product_reduce.proofs.Products.{factors_are}

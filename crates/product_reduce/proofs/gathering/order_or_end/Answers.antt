@@ -1,33 +1,9 @@
 use Rattle.std.proofs.Common.{ℕ, ◌≡◌, ◌^◌, length, ◌∙◌, ap, sym, refl, subst, arith, false}
-use Rattle.calc_room.specs.Counts.{counted}
-use Rattle.calc_room.specs.Spans.{SpansTree, SpansTrees}
-use Rattle.coefficients.specs.Rooms.{put_room}
-use Rattle.coefficients.proofs.Lacks.{passed_lacks}
+use Rattle.std.specs.Prelude.{IsSortedByKey}
+use Rattle.product_reduce.proofs.Shared.{counted, SpansTree, SpansTrees, put_room, passed_lacks, is_number, base_of, tree_cmp, Tree, Trees, mult, count, size, list_of, coefficient_before, have_partners, SpreadingOverflows, IsPairAt, tree_of, is_zero, plain, factors_in, without_root, forest, behind_first, behind_later, front_same, front_after_one, front_after_two, gives_as, given_told, expression_root, plain_root, eqb-sym, passed_on, without-swap, AreOthers, at_zero, at_end, IsEnding}
 use Rattle.product_reduce.proofs.FreeBytes.{becomes_free}
 use Rattle.product_reduce.proofs.GatheredCounts.{sorted_counted}
 use Rattle.product_reduce.proofs.GatheredParts.{spans_sorted}
-use Rattle.calc_algebra.specs.Numbers.{is_number}
-use Rattle.std.specs.Prelude.{IsSortedByKey}
-use Rattle.calc_algebra.specs.Reduced.{base_of}
-use Rattle.calc_algebra.specs.TreeOrder.{tree_cmp}
-use Rattle.calc_terms.specs.Trees.{Tree, Trees, mult, count, size}
-use Rattle.node_order.specs.Sorting.{list_of}
-use Rattle.product_reduce.specs.Factors.{coefficient_before}
-use Rattle.product_reduce.specs.Joining.{have_partners}
-use Rattle.product_reduce.specs.Misfits.{SpreadingOverflows}
-use Rattle.product_reduce.specs.Neighbours.{IsPairAt}
-use Rattle.tree_handles.specs.Handed.{tree_of}
-use Rattle.number_forms.specs.Readers.{is_zero}
-use Rattle.tree_handles.specs.Expressions.{plain}
-use Rattle.product_reduce.specs.Products.{factors_in}
-use Rattle.tree_handles.specs.Roots.{without_root}
-use Rattle.tree_handles.specs.Standing.{forest}
-use Rattle.tree_handles.proofs.Fronts.{behind_first, behind_later, front_same, front_after_one, front_after_two}
-use Rattle.tree_handles.proofs.Given.{gives_as, given_told}
-use Rattle.tree_handles.proofs.Lasts.{expression_root, plain_root}
-use Rattle.tree_handles.proofs.Outcomes.{eqb-sym, passed_on}
-use Rattle.tree_handles.proofs.Roots.{without-swap}
-use Rattle.product_reduce.specs.Answers.{AreOthers, at_zero, at_end, IsEnding}
 use Rattle.product_reduce.proofs.Beside.{beside_becomes, tree_becomes}
 use Rattle.product_reduce.proofs.Finished.{reduced_nth}
 use Rattle.product_reduce.proofs.Gathered.{others_permuted, ending_before, spreading_before}

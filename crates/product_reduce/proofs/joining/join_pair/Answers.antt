@@ -1,20 +1,5 @@
 use Rattle.std.proofs.Common.{◌≡◌, ◌+◌, ◌∙◌, ap, refl, arith, rules}
-use Rattle.like_children.proofs.Kids.{count_removed}
-use Rattle.number_forms.specs.Sums.{removed}
-use Rattle.calc_algebra.specs.Reduced.{is_reduced}
-use Rattle.calc_terms.specs.Trees.{count}
-use Rattle.tree_handles.specs.Expressions.{nth}
-use Rattle.tree_handles.specs.Forest.{arity}
-use Rattle.tree_handles.specs.Inside.{kids_of}
-use Rattle.tree_handles.specs.Roots.{without_root}
-use Rattle.tree_handles.specs.Standing.{forest}
-use Rattle.tree_handles.proofs.Given.{gives_as, given_root, given_other, given_apart}
-use Rattle.tree_handles.proofs.Fronts.{behind_first, front_end, front_put, front_after_two}
-use Rattle.tree_handles.proofs.Lasts.{apart, kids_of_root}
-use Rattle.tree_handles.proofs.Outcomes.{eqb-sym}
-use Rattle.tree_handles.proofs.Roots.{root_held}
-use Rattle.product_reduce.specs.Joining.{joint}
-use Rattle.product_reduce.specs.Products.{factors_in}
+use Rattle.product_reduce.proofs.Shared.{count_removed, removed, is_reduced, count, nth, arity, kids_of, without_root, forest, gives_as, given_root, given_other, given_apart, behind_first, front_end, front_put, front_after_two, apart, kids_of_root, eqb-sym, root_held, joint, factors_in}
 use Rattle.product_reduce.proofs.Beside.{beside_product, beside_other, beside_apart, beside_below, beside_given, behind_beside, behind_clear, beside_tree_below}
 use Rattle.product_reduce.proofs.Finished.{reduced_nth}
 use Rattle.product_reduce.proofs.FreeBytes.{child_free, refusal_told}

@@ -1,12 +1,6 @@
 use Rattle.std.proofs.Common.{◌∙◌, ap, refl, arith}
-use Rattle.calc_terms.specs.Trees.{size}
-use Rattle.tree_handles.proofs.FreeBytes.{both_replaced_free, refused_below}
+use Rattle.product_reduce.proofs.Shared.{size, both_replaced_free, refused_below, plain, gives_as, given_handed, given_other, given_apart, given_told, given_same, given_without, handed_beside, behind_first, behind_later, behind_new, front_same, front_without, front_after_one, front_after_two, eqb-sym, tree-without}
 use Rattle.product_reduce.proofs.FreeBytes.{refusal_told}
-use Rattle.tree_handles.specs.Expressions.{plain}
-use Rattle.tree_handles.proofs.Given.{gives_as, given_handed, given_other, given_apart, given_told, given_same, given_without, handed_beside}
-use Rattle.tree_handles.proofs.Fronts.{behind_first, behind_later, behind_new, front_same, front_without, front_after_one, front_after_two}
-use Rattle.tree_handles.proofs.Outcomes.{eqb-sym}
-use Rattle.tree_handles.proofs.Roots.{tree-without}
 use Rattle.product_reduce.proofs.Beside.{beside_other, beside_apart, beside_below, beside_gone, beside_without, beside_tree, beside_tree_below, behind_clear}
 use Rattle.product_reduce.proofs.joining.raise.Goals as goal
 

@@ -1,12 +1,6 @@
 use Rattle.std.proofs.Common.{◌≡◌, ◌∙◌, ap, sym, inl, arith}
-use Rattle.tree_handles.specs.Inside.{kids_of}
-use Rattle.calc_algebra.specs.Reduced.{is_reduced, is_transparent_power}
-use Rattle.tree_handles.specs.Forest.{arity}
-use Rattle.tree_handles.specs.Standing.{forest}
-use Rattle.tree_handles.proofs.Forests.{keeps_after}
-use Rattle.tree_handles.proofs.Fronts.{front_at}
+use Rattle.product_reduce.proofs.Shared.{kids_of, is_reduced, is_transparent_power, arity, forest, keeps_after, front_at, expression_root, plain_root, kids_of_root}
 use Rattle.product_reduce.proofs.FreeBytes.{split_free}
-use Rattle.tree_handles.proofs.Lasts.{expression_root, plain_root, kids_of_root}
 use Rattle.product_reduce.proofs.Beside.{beside_gives, beside_handed, beside_other}
 use Rattle.product_reduce.proofs.Splits.{two_children, halved, emptied, split_at, unsplit}
 use Rattle.product_reduce.proofs.joining.split_factor.Goals as goal

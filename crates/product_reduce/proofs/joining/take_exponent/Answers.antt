@@ -1,12 +1,6 @@
 use Rattle.std.proofs.Common.{◌∙◌, ap, refl, arith}
-use Rattle.tree_handles.proofs.Forests.{keeps_after}
+use Rattle.product_reduce.proofs.Shared.{keeps_after, is_reduced, exponent_of, forest, owned, front_at, front_end, front_without, front_after_one, factors_in}
 use Rattle.product_reduce.proofs.FreeBytes.{child_free, exponent_free, refusal_told}
-use Rattle.calc_algebra.specs.Reduced.{is_reduced}
-use Rattle.product_reduce.specs.Joining.{exponent_of}
-use Rattle.tree_handles.specs.Standing.{forest}
-use Rattle.tree_handles.proofs.Given.{owned}
-use Rattle.tree_handles.proofs.Fronts.{front_at, front_end, front_without, front_after_one}
-use Rattle.product_reduce.specs.Products.{factors_in}
 use Rattle.product_reduce.proofs.Beside.{beside_as, beside_below, behind_beside, behind_clear, taken_factor, without_factor}
 use Rattle.product_reduce.proofs.Finished.{reduced_nth}
 use Rattle.product_reduce.proofs.Products.{product_within}

@@ -1,9 +1,6 @@
 use Rattle.std.proofs.Common.{◌≡◌, false, ◌∙◌, ap, sym, arith}
 use Rattle.std.specs.Prelude.{is_some}
-use Rattle.calc_algebra.specs.Reduced.{is_num_one}
-use Rattle.number_forms.specs.Readers.{is_zero}
-use Rattle.tree_handles.specs.Standing.{forest}
-use Rattle.product_reduce.specs.Products.{factors_in}
+use Rattle.product_reduce.proofs.Shared.{is_num_one, is_zero, forest, factors_in}
 use Rattle.product_reduce.proofs.Finished.{reduced_nth}
 use Rattle.product_reduce.proofs.Leads.{lead_one, none_found, off}
 use Rattle.product_reduce.proofs.leading.is_written_first.Goals as goal

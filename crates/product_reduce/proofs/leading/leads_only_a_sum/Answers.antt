@@ -1,8 +1,5 @@
 use Rattle.std.proofs.Common.{◌∙◌, ap, sym}
-use Rattle.std.proofs.lemmas.Bool.{ne_eqb}
-use Rattle.calc_terms.specs.Trees.{is_add}
-use Rattle.tree_handles.specs.Standing.{forest}
-use Rattle.product_reduce.specs.Products.{factors_in}
+use Rattle.product_reduce.proofs.Shared.{ne_eqb, is_add, forest, factors_in}
 use Rattle.product_reduce.proofs.Leads.{one_add_behind, more_behind}
 use Rattle.product_reduce.proofs.leading.leads_only_a_sum.Goals as goal
 

@@ -1,5 +1,4 @@
-use Rattle.tree_handles.specs.Standing.{forest}
-use Rattle.product_reduce.specs.Products.{factors_in}
+use Rattle.product_reduce.proofs.Shared.{forest, factors_in}
 use Rattle.product_reduce.proofs.Finished.{reduced_nth}
 use Rattle.product_reduce.proofs.Leads.{lead_none}
 use Rattle.product_reduce.proofs.leading.written_lead.Goals as goal

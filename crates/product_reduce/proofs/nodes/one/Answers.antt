@@ -1,8 +1,5 @@
 use Rattle.std.proofs.Common.{◌∙◌, ap, refl}
-use Rattle.calc_terms.specs.Fractions.{lowest, one_fraction}
-use Rattle.calc_terms.specs.Ratio.{Ratio}
-use Rattle.calc_terms.specs.Trees.{num}
-use Rattle.tree_handles.proofs.Given.{gives_as}
+use Rattle.product_reduce.proofs.Shared.{lowest, one_fraction, Ratio, num, gives_as}
 use Rattle.product_reduce.proofs.nodes.one.Goals as goal
 
 pub returns-clause-ok : goal.returns-clause-ok

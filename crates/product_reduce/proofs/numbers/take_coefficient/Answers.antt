@@ -1,32 +1,12 @@
 use Rattle.std.proofs.Common.{◌∙◌, inr, ap, sym, subst, arith, rules}
-use Rattle.calc_algebra.specs.Numbers.{value}
-use Rattle.calc_algebra.specs.Reduced.{are_reduced}
-use Rattle.calc_algebra.specs.Surds.{surd_times}
-use Rattle.calc_bits.specs.Bounds.{HasFewBits}
-use Rattle.calc_measures.specs.PlainValues.{fold_values}
-use Rattle.calc_terms.specs.Fits.{mul_op}
-use Rattle.calc_terms.specs.Trees.{Trees, is_mult, are_rationals}
-use Rattle.calc_room.specs.Spans.{SpansTrees}
-use Rattle.coefficients.proofs.Lacks.{result_lacks}
-use Rattle.like_children.specs.Children.{LeavesChildren}
-use Rattle.like_children.specs.Folds.{rational_of, rationals_of}
-use Rattle.like_children.specs.Joining.{AreJoined, IsNextOf}
+use Rattle.product_reduce.proofs.Shared.{value, are_reduced, surd_times, HasFewBits, fold_values, mul_op, Trees, is_mult, are_rationals, SpansTrees, result_lacks, LeavesChildren, rational_of, rationals_of, AreJoined, IsNextOf, some_number, many, refused_as, tree_of, without_root, forest, behind_first, behind_new, front_same, front_put, front_after_two, factors_in, NamesProduct}
 use Rattle.like_children.specs.Numbers.{numbers_in, others_in}
-use Rattle.like_children.proofs.Folds.{some_number}
-use Rattle.like_children.proofs.Many.{many}
-use Rattle.tree_handles.proofs.Refused.{refused_as}
-use Rattle.tree_handles.specs.Handed.{tree_of}
-use Rattle.tree_handles.specs.Roots.{without_root}
-use Rattle.tree_handles.specs.Standing.{forest}
-use Rattle.tree_handles.proofs.Fronts.{behind_first, behind_new, front_same, front_put, front_after_two}
-use Rattle.product_reduce.specs.Products.{factors_in}
 use Rattle.product_reduce.proofs.Finished.{reduced_nth}
 use Rattle.product_reduce.proofs.Begun.{seen, taken_out, begun_free}
 use Rattle.product_reduce.proofs.Misfits.{none_named}
 use Rattle.product_reduce.proofs.Progress.{multiplied, next_misfit, next_fits, total_answer}
 use Rattle.product_reduce.proofs.Products.{factors_are}
 use Rattle.product_reduce.proofs.Results.{if_ok_map, if_ok_both}
-use Rattle.product_reduce.specs.Misfits.{NamesProduct}
 use Rattle.product_reduce.proofs.numbers.take_coefficient.Goals as goal
 
 pub collect_numbers-requires : goal.collect_numbers-requires

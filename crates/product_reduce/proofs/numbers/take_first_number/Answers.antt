@@ -1,9 +1,5 @@
 use Rattle.std.proofs.Common.{inr, ap}
-use Rattle.calc_terms.specs.Trees.{is_mult}
-use Rattle.tree_handles.specs.Standing.{forest}
-use Rattle.tree_handles.proofs.Fronts.{behind_first, front_same, front_end, front_put}
-use Rattle.like_children.proofs.Many.{many, child_within, out}
-use Rattle.product_reduce.specs.Products.{factors_in}
+use Rattle.product_reduce.proofs.Shared.{is_mult, forest, behind_first, front_same, front_end, front_put, many, child_within, out, factors_in}
 use Rattle.product_reduce.proofs.Finished.{reduced_nth}
 use Rattle.product_reduce.proofs.Begun.{underway_first, underway_one}
 use Rattle.product_reduce.proofs.Results.{if_ok_map}

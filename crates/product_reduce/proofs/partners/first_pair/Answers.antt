@@ -1,6 +1,5 @@
 use Rattle.std.proofs.Common.{arith}
-use Rattle.tree_handles.specs.Standing.{forest}
-use Rattle.product_reduce.specs.Products.{factors_in}
+use Rattle.product_reduce.proofs.Shared.{forest, factors_in}
 use Rattle.product_reduce.proofs.Pairs.{no_pair_more, no_partners}
 use Rattle.product_reduce.proofs.partners.first_pair.Goals as goal
 

@@ -1,8 +1,5 @@
 use Rattle.std.proofs.Common.{ℕ, ◌<◌}
-use Rattle.calc_terms.specs.Trees.{count}
-use Rattle.tree_handles.specs.Standing.{forest}
-use Rattle.product_reduce.specs.Joining.{HasNoPartner}
-use Rattle.product_reduce.specs.Products.{factors_in}
+use Rattle.product_reduce.proofs.Shared.{count, forest, HasNoPartner, factors_in}
 use Rattle.product_reduce.proofs.partners.first_pair.Given as goal
 
 abbrev pub invariant-loop-first : goal.invariant-loop-first

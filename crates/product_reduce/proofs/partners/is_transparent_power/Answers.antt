@@ -1,5 +1,5 @@
 use Rattle.std.proofs.Common.{ap, sym, ◌∙◌}
-use Rattle.calc_algebra.specs.Reduced.{is_reduced}
+use Rattle.product_reduce.proofs.Shared.{is_reduced}
 use Rattle.product_reduce.proofs.Finished.{reduced_exponent}
 use Rattle.product_reduce.proofs.partners.is_transparent_power.Goals as goal
 

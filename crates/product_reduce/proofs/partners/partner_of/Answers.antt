@@ -1,6 +1,5 @@
 use Rattle.std.proofs.Common.{sym, ◌∙◌}
-use Rattle.tree_handles.specs.Standing.{forest}
-use Rattle.product_reduce.specs.Products.{factors_in}
+use Rattle.product_reduce.proofs.Shared.{forest, factors_in}
 use Rattle.product_reduce.proofs.Pairs.{no_partner_more}
 use Rattle.product_reduce.proofs.partners.partner_of.Goals as goal
 

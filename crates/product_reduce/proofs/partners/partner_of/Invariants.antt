@@ -1,6 +1,4 @@
-use Rattle.tree_handles.specs.Standing.{forest}
-use Rattle.product_reduce.specs.Joining.{HasNoPartner}
-use Rattle.product_reduce.specs.Products.{factors_in}
+use Rattle.product_reduce.proofs.Shared.{forest, HasNoPartner, factors_in}
 use Rattle.product_reduce.proofs.partners.partner_of.Given as goal
 
 abbrev pub invariant-loop-second : goal.invariant-loop-second

@@ -1,10 +1,5 @@
 use Rattle.std.proofs.Common.{◌<◌, ap, ◌∙◌, subst, refl, arith}
-use Rattle.calc_algebra.specs.Reduced.{is_reduced, base_of}
-use Rattle.calc_terms.specs.Trees.{Trees, count}
-use Rattle.node_order.specs.Sorting.{IsSorting}
-use Rattle.tree_handles.specs.Expressions.{nth, plains}
-use Rattle.tree_handles.specs.Standing.{forest}
-use Rattle.product_reduce.specs.Products.{factors_in}
+use Rattle.product_reduce.proofs.Shared.{is_reduced, base_of, Trees, count, IsSorting, nth, plains, forest, factors_in}
 use Rattle.product_reduce.proofs.Finished.{reduced_nth}
 use Rattle.product_reduce.proofs.Products.{becomes_put, product_arity, product_kids}
 use Rattle.product_reduce.proofs.sorting.sort_factors.Goals as goal

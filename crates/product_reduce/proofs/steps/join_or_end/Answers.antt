@@ -1,15 +1,6 @@
 use Rattle.std.proofs.Common.{◌∙◌, ap, sym, refl, arith}
-use Rattle.coefficients.proofs.Lacks.{passed_lacks, refusal_lacks}
-use Rattle.node_pool.specs.State.{free_of}
-use Rattle.tree_handles.specs.Handed.{tree_of}
+use Rattle.product_reduce.proofs.Shared.{passed_lacks, refusal_lacks, free_of, tree_of, is_zero, factors_in, forest, gives_as, given_told, expression_root, plain_root, at_zero, at_end, passed_on}
 use Rattle.product_reduce.proofs.FreeBytes.{pair_lacks}
-use Rattle.number_forms.specs.Readers.{is_zero}
-use Rattle.product_reduce.specs.Products.{factors_in}
-use Rattle.tree_handles.specs.Standing.{forest}
-use Rattle.tree_handles.proofs.Given.{gives_as, given_told}
-use Rattle.tree_handles.proofs.Lasts.{expression_root, plain_root}
-use Rattle.product_reduce.specs.Answers.{at_zero, at_end}
-use Rattle.tree_handles.proofs.Outcomes.{passed_on}
 use Rattle.product_reduce.proofs.Misfits.{none_named}
 use Rattle.product_reduce.proofs.Pairs.{some_partners}
 use Rattle.product_reduce.proofs.steps.join_or_end.Goals as goal

@@ -1,31 +1,6 @@
 use Rattle.std.proofs.Common.{◌≡◌, ◌≤◌, ◌^◌, length, ◌∙◌, Err, ap, sym, refl, subst, true, false, arith, rules}
-use Rattle.std.proofs.lemmas.Nat.{pow_pos}
-use Rattle.calc_measures.specs.PlainValues.{PlainValue, plain_value}
-use Rattle.calc_room.specs.Counts.{counted}
-use Rattle.calc_room.specs.Powers.{HasPowersOf}
-use Rattle.calc_room.specs.Spans.{SpansTree, SpansTrees}
-use Rattle.coefficients.specs.Rooms.{put_room}
-use Rattle.coefficients.proofs.Lacks.{passed_lacks, result_lacks}
-use Rattle.tree_room.specs.Handed.{product_count}
-use Rattle.tree_room.proofs.Counts.{counts_one}
-use Rattle.tree_room.proofs.Handed.{product_bytes}
-use Rattle.calc_terms.specs.Trees.{Trees, mult, count, are_rationals, size}
-use Rattle.number_forms.specs.Answers.{AnswersRationals}
-use Rattle.calc_algebra.specs.Reduced.{are_reduced}
-use Rattle.calc_measures.specs.PlainTrees.{IsPlainAnswer}
-use Rattle.tree_handles.proofs.Outcomes.{passed_on}
-use Rattle.tree_handles.proofs.Refused.{overflow_as, refused_as as refused_on}
-use Rattle.tree_handles.specs.Handed.{tree_of}
-use Rattle.tree_handles.specs.Expressions.{children_of}
-use Rattle.tree_handles.specs.Standing.{forest}
-use Rattle.tree_handles.proofs.Fronts.{behind_first, front_after_one}
-use Rattle.tree_handles.proofs.Given.{gives_as, given_told}
-use Rattle.product_reduce.specs.Answers.{AreOthers, IsFinished}
-use Rattle.product_reduce.specs.Bits.{AreFactorsHeld}
-use Rattle.product_reduce.specs.Factors.{IsCoefficient, opened, numbers_in, others_in}
-use Rattle.product_reduce.specs.Joining.{IsFirstJoint}
-use Rattle.product_reduce.specs.Misfits.{MultiplyingOverflows, SpreadingOverflows, multiplying, spreading}
-use Rattle.product_reduce.specs.Products.{factors_in}
+use Rattle.product_reduce.proofs.Shared.{pow_pos, PlainValue, plain_value, counted, HasPowersOf, SpansTree, SpansTrees, put_room, passed_lacks, result_lacks, product_count, counts_one, product_bytes, Trees, mult, count, are_rationals, size, AnswersRationals, are_reduced, IsPlainAnswer, passed_on, overflow_as, tree_of, children_of, forest, behind_first, front_after_one, gives_as, given_told, AreOthers, IsFinished, AreFactorsHeld, IsCoefficient, opened, numbers_in, others_in, IsFirstJoint, MultiplyingOverflows, SpreadingOverflows, multiplying, spreading, factors_in}
+use Rattle.tree_handles.proofs.Refused.{refused_as as refused_on}
 use Rattle.product_reduce.proofs.Finished.{reduced_opened, undef_finished, rationals_defined}
 use Rattle.product_reduce.proofs.FreeBytes.{becomes_free, taken_out_free, opened_size, step_lacks_numbers, step_lacks_pair}
 use Rattle.product_reduce.proofs.GatheredCounts.{finished_counted, others_at_most}

@@ -1,9 +1,5 @@
 use Rattle.std.proofs.Common.{subst}
-use Rattle.calc_room.specs.Spans.{SpansTree}
-use Rattle.coefficients.proofs.Lacks.{passed_lacks}
-use Rattle.tree_handles.specs.Handed.{tree_of}
-use Rattle.product_reduce.specs.Answers.{IfGathered}
-use Rattle.product_reduce.specs.declared.steps.Joining.{Joining}
+use Rattle.product_reduce.proofs.Shared.{SpansTree, passed_lacks, tree_of, IfGathered, Joining}
 use Rattle.product_reduce.proofs.steps.product_step.Goals as goal
 
 pub returns-in_err-reduced-clause-room : goal.returns-in_err-reduced-clause-room

@@ -1,6 +1,5 @@
 use Rattle.std.proofs.Common.{◌∙◌}
-use Rattle.tree_handles.proofs.Given.{given_handed, given_other, given_apart, given_rest, given_without, gives_as}
-use Rattle.tree_handles.proofs.Outcomes.{eqb-sym}
+use Rattle.product_reduce.proofs.Shared.{given_handed, given_other, given_apart, given_rest, given_without, gives_as, eqb-sym}
 use Rattle.product_reduce.proofs.tests.joined_power.Goals as goal
 
 pub node_over_two-requires-clause-first : goal.node_over_two-requires-clause-first

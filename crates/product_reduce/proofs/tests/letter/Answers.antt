@@ -1,6 +1,5 @@
 use Rattle.std.proofs.Common.{sym, subst, refl}
-use Rattle.coefficients.specs.Coefficients.{IsMonic}
-use Rattle.tree_handles.proofs.Given.{gives_as}
+use Rattle.product_reduce.proofs.Shared.{IsMonic, gives_as}
 use Rattle.product_reduce.proofs.Small.{symbol_monic}
 use Rattle.product_reduce.proofs.tests.letter.Goals as goal
 

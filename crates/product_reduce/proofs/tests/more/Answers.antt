@@ -1,10 +1,6 @@
 use Rattle.std.proofs.Common.{◌∙◌, ap}
-use Rattle.tree_handles.proofs.Given.{given_handed, given_other, given_apart, given_rest, given_same, given_root, given_told, given_without, gives_as}
-use Rattle.tree_handles.proofs.Outcomes.{eqb-sym}
+use Rattle.product_reduce.proofs.Shared.{given_handed, given_other, given_apart, given_rest, given_same, given_root, given_told, given_without, gives_as, eqb-sym, is_reduced, num, add, none, more, plain}
 use Rattle.coefficients.proofs.Steps.{one_value}
-use Rattle.calc_algebra.specs.Reduced.{is_reduced}
-use Rattle.calc_terms.specs.Trees.{num, add, none, more}
-use Rattle.tree_handles.specs.Expressions.{plain}
 use Rattle.product_reduce.proofs.Small.{more_reduced}
 use Rattle.product_reduce.proofs.tests.more.Goals as goal
 

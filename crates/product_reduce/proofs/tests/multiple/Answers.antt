@@ -1,13 +1,6 @@
 use Rattle.std.proofs.Common.{◌∙◌, ap}
+use Rattle.product_reduce.proofs.Shared.{is_number, is_reduced, number_words, put_reduces, plain, without_root, gives_as, given_handed, given_other, given_apart, given_rest, given_root, given_same, given_told, eqb-sym}
 use Rattle.product_reduce.proofs.Results.{if_ok_map}
-use Rattle.calc_algebra.specs.Numbers.{is_number}
-use Rattle.calc_algebra.specs.Reduced.{is_reduced}
-use Rattle.calc_algebra.proofs.NumberLaws.{number_words}
-use Rattle.coefficients.proofs.Coefficients.{put_reduces}
-use Rattle.tree_handles.specs.Expressions.{plain}
-use Rattle.tree_handles.specs.Roots.{without_root}
-use Rattle.tree_handles.proofs.Given.{gives_as, given_handed, given_other, given_apart, given_rest, given_root, given_same, given_told}
-use Rattle.tree_handles.proofs.Outcomes.{eqb-sym}
 use Rattle.product_reduce.proofs.tests.multiple.Goals as goal
 
 pub put_coefficient-requires-clause-first : goal.put_coefficient-requires-clause-first

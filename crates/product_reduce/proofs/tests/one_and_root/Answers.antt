@@ -1,9 +1,7 @@
 use Rattle.std.proofs.Common.{◌∙◌, ap, pos}
-use Rattle.calc_algebra.specs.Numbers.{is_number}
-use Rattle.calc_terms.specs.Trees.{num, root}
+use Rattle.product_reduce.proofs.Shared.{is_number, num, root, given_handed, given_told}
 use Rattle.number_forms.proofs.Pairs.{first_handed, pair_apart, first_told, pair_rest}
 use Rattle.number_forms.proofs.TermTrees.{if_given}
-use Rattle.tree_handles.proofs.Given.{given_handed, given_told}
 use Rattle.product_reduce.proofs.Small.{root_two, whole_value}
 use Rattle.product_reduce.proofs.tests.one_and_root.Goals as goal
 

@@ -1,5 +1,4 @@
-use Rattle.tree_handles.proofs.Given.{given_handed, given_other}
-use Rattle.tree_handles.proofs.Lasts.{expression_root}
+use Rattle.product_reduce.proofs.Shared.{given_handed, given_other, expression_root}
 use Rattle.product_reduce.proofs.tests.place.Goals as goal
 
 pub compare-requires-clause-first : goal.compare-requires-clause-first

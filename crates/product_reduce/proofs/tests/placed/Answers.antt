@@ -1,9 +1,6 @@
 use Rattle.std.proofs.Common.{◌∙◌, ap, pos, negsuc, refl}
+use Rattle.product_reduce.proofs.Shared.{is_number, is_reduced, num, symbol, power, root, gives_as}
 use Rattle.product_reduce.proofs.Results.{if_ok_map}
-use Rattle.calc_algebra.specs.Numbers.{is_number}
-use Rattle.calc_algebra.specs.Reduced.{is_reduced}
-use Rattle.calc_terms.specs.Trees.{num, symbol, power, root}
-use Rattle.tree_handles.proofs.Given.{gives_as}
 use Rattle.product_reduce.proofs.Small.{number_reduced, whole_value, root_two, root_three, root_six, square_reduced, inverse_square_reduced, opaque_reduced}
 use Rattle.product_reduce.proofs.tests.placed.Goals as goal
 

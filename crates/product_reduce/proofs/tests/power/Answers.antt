@@ -1,9 +1,5 @@
 use Rattle.std.proofs.Common.{◌∙◌, ap}
-use Rattle.tree_handles.proofs.Given.{given_handed, given_other, given_apart, given_rest, given_same, given_root, given_told, given_without, gives_as}
-use Rattle.tree_handles.proofs.Outcomes.{eqb-sym}
-use Rattle.calc_algebra.specs.Reduced.{is_reduced}
-use Rattle.calc_terms.specs.Trees.{power}
-use Rattle.tree_handles.specs.Expressions.{plain}
+use Rattle.product_reduce.proofs.Shared.{given_handed, given_other, given_apart, given_rest, given_same, given_root, given_told, given_without, gives_as, eqb-sym, is_reduced, power, plain}
 use Rattle.product_reduce.proofs.Small.{power_reduced}
 use Rattle.product_reduce.proofs.tests.power.Goals as goal
 

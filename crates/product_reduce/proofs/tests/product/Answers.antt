@@ -1,12 +1,5 @@
 use Rattle.std.proofs.Common.{◌≡◌, ◌∙◌, ap, refl, arith}
-use Rattle.calc_terms.specs.Trees.{count}
-use Rattle.calc_algebra.specs.Reduced.{are_reduced}
-use Rattle.tree_handles.specs.Handed.{tree_of}
-use Rattle.tree_handles.specs.Standing.{forest}
-use Rattle.tree_handles.proofs.Given.{given_root, given_told, given_rest}
-use Rattle.tree_handles.proofs.Lasts.{apart}
-use Rattle.tree_handles.proofs.Outcomes.{eqb-sym}
-use Rattle.product_reduce.specs.Products.{factors_in}
+use Rattle.product_reduce.proofs.Shared.{count, are_reduced, tree_of, forest, given_root, given_told, given_rest, apart, eqb-sym, factors_in}
 use Rattle.product_reduce.proofs.Beside.{beside_given, beside_apart}
 use Rattle.product_reduce.proofs.Products.{becomes_same, factors_are, product_live, product_expression, product_children}
 use Rattle.product_reduce.proofs.Small.{empty_product, own_factors, placed_beside, put_beside, reduced_inserted, count_inserted, moved_product}

@@ -1,8 +1,5 @@
 use Rattle.std.proofs.Common.{◌≡◌, ◌≤◌, true}
-use Rattle.calc_terms.specs.Trees.{count}
-use Rattle.calc_algebra.specs.Reduced.{are_reduced}
-use Rattle.tree_handles.specs.Standing.{Stands, forest}
-use Rattle.product_reduce.specs.Products.{Becomes, factors_in}
+use Rattle.product_reduce.proofs.Shared.{count, are_reduced, Stands, forest, Becomes, factors_in}
 use Rattle.product_reduce.proofs.tests.product.Given as goal
 
 abbrev pub invariant-loop-piece : goal.invariant-loop-piece

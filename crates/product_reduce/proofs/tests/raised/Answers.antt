@@ -1,9 +1,5 @@
 use Rattle.std.proofs.Common.{◌∙◌, ap}
-use Rattle.calc_algebra.specs.Reduced.{is_reduced}
-use Rattle.calc_terms.specs.Trees.{power}
-use Rattle.tree_handles.specs.Expressions.{plain}
-use Rattle.tree_handles.proofs.Given.{given_handed, given_other, given_apart, given_rest, given_same, given_root, given_told, given_without, gives_as}
-use Rattle.tree_handles.proofs.Outcomes.{eqb-sym}
+use Rattle.product_reduce.proofs.Shared.{is_reduced, power, plain, given_handed, given_other, given_apart, given_rest, given_same, given_root, given_told, given_without, gives_as, eqb-sym}
 use Rattle.product_reduce.proofs.tests.raised.Goals as goal
 
 pub node_over_two-requires-clause-first : goal.node_over_two-requires-clause-first

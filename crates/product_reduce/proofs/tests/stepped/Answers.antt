@@ -1,10 +1,5 @@
 use Rattle.std.proofs.Common.{arith}
-use Rattle.tree_handles.proofs.Given.{given_handed, given_told}
-use Rattle.tree_handles.specs.Handed.{tree_of}
-use Rattle.tree_handles.specs.Expressions.{children_of}
-use Rattle.tree_handles.specs.Roots.{without_root}
-use Rattle.tree_handles.specs.Standing.{forest}
-use Rattle.product_reduce.specs.Answers.{IsFinished, IsJoined}
+use Rattle.product_reduce.proofs.Shared.{given_handed, given_told, tree_of, children_of, without_root, forest, IsFinished, IsJoined}
 use Rattle.product_reduce.proofs.Small.{handed_done, handed_joined}
 use Rattle.product_reduce.proofs.tests.stepped.Goals as goal
 

@@ -1,6 +1,5 @@
 use Rattle.std.proofs.Common.{◌∙◌, ap, refl}
-use Rattle.calc_algebra.specs.Reduced.{is_reduced}
-use Rattle.tree_handles.proofs.Given.{gives_as}
+use Rattle.product_reduce.proofs.Shared.{is_reduced, gives_as}
 use Rattle.product_reduce.proofs.Small.{undef_reduced}
 use Rattle.product_reduce.proofs.tests.undefined.Goals as goal
 

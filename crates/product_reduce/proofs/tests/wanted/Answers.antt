@@ -1,6 +1,6 @@
 use Rattle.std.proofs.Common.{refl}
+use Rattle.product_reduce.proofs.Shared.{gives_as}
 use Rattle.product_reduce.proofs.Results.{if_ok_map}
-use Rattle.tree_handles.proofs.Given.{gives_as}
 use Rattle.product_reduce.proofs.tests.wanted.Goals as goal
 
 pub returns-in-One-clause-ok : goal.returns-in-One-clause-ok

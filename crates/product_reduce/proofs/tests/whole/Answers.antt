@@ -1,7 +1,5 @@
 use Rattle.std.proofs.Common.{◌∙◌, ap, refl}
-use Rattle.calc_algebra.specs.Numbers.{is_number}
-use Rattle.calc_algebra.proofs.NumberLaws.{number_test}
-use Rattle.tree_handles.proofs.Given.{gives_as}
+use Rattle.product_reduce.proofs.Shared.{is_number, number_test, gives_as}
 use Rattle.product_reduce.proofs.tests.whole.Goals as goal
 
 pub returns-clause-ok : goal.returns-clause-ok

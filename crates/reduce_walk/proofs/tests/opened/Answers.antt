@@ -1,5 +1,5 @@
 use Rattle.std.proofs.Common.{ap}
-use Rattle.node_pool.specs.State.{State}
+use Rattle.reduce_walk.proofs.Shared.{State}
 use Rattle.tree_handles.proofs.Opened.{stands_open}
 use Rattle.reduce_walk.proofs.tests.opened.Goals as goal
 

@@ -1,4 +1,4 @@
-use Rattle.tree_handles.proofs.Given.{given_handed}
+use Rattle.reduce_walk.proofs.Shared.{given_handed}
 use Rattle.reduce_walk.proofs.tests.walk_opposite.Goals as goal
 
 pub node_over-requires-clause-handed : goal.node_over-requires-clause-handed

@@ -1,20 +1,10 @@
 use Rattle.std.proofs.Common.{◌<◌, sym, ap, ◌∙◌, arith, subst}
-use Rattle.breakers.specs.Watch.{states}
-use Rattle.calc_terms.specs.Trees.{Tree, nodes}
-use Rattle.tree_handles.proofs.Seen.{live, expression, seen}
-use Rattle.reduce_port.specs.Checks.{TripsWithin}
-use Rattle.reduce_port.specs.Faults.{fault_of}
-use Rattle.reduce_port.specs.declared.fault.ReduceFault.TheVariants as fault
-use Rattle.reduce_walk.specs.Leaves.{is_leaf, BeginWithLeaves}
+use Rattle.reduce_walk.proofs.Shared.{states, Tree, nodes, live, expression, seen, TripsWithin, fault_of, is_leaf, BeginWithLeaves, children_of, tree_of, keeps_none, keeps_after, behind_first, front_same, front_after_one, gives, gives_as, given_handed, given_told, represents_handed}
 use Rattle.reduce_walk.proofs.Bytes.{child_free, last_free}
 use Rattle.reduce_walk.proofs.Ready.{walked_ready}
 use Rattle.reduce_walk.proofs.Stopping.{StopsParent, all_checks, child_stops, handed_on, last_trips, leaf_calm, leaf_trips, step_stops}
 use Rattle.reduce_walk.proofs.Walks.{all_walked, child_front, fewer_nodes, leaves_walked, leaves_within, many_children, next_child, next_taken, next_taken_too, next_there, next_walked, next_within, stands_last, to_adopt}
-use Rattle.tree_handles.specs.Expressions.{children_of}
-use Rattle.tree_handles.specs.Handed.{tree_of}
-use Rattle.tree_handles.proofs.Forests.{keeps_none, keeps_after}
-use Rattle.tree_handles.proofs.Fronts.{behind_first, front_same, front_after_one}
-use Rattle.tree_handles.proofs.Given.{gives, gives_as, given_handed, given_told, represents_handed}
+use Rattle.reduce_port.specs.declared.fault.ReduceFault.TheVariants as fault
 use Rattle.reduce_walk.proofs.walking.+walk_last.Goals as goal
 
 pub is_leaf-requires-clause-expression : goal.is_leaf-requires-clause-expression

@@ -1,9 +1,5 @@
-use Rattle.breakers.specs.Watch.{states}
-use Rattle.calc_terms.specs.Trees.{count, nodes}
 use Rattle.std.proofs.Common.{◌≡◌}
-use Rattle.tree_handles.specs.Expressions.{children_of}
-use Rattle.tree_handles.specs.Handed.{tree_of}
-use Rattle.tree_handles.specs.Standing.{Stands, forest, KeepsRefusals}
+use Rattle.reduce_walk.proofs.Shared.{states, count, nodes, children_of, tree_of, Stands, forest, KeepsRefusals}
 use Rattle.reduce_walk.proofs.Walks.{IsWalked}
 use Rattle.reduce_walk.proofs.walking.+walk_last.Given as goal
 

@@ -1,19 +1,9 @@
 use Rattle.std.proofs.Common.{ℕ, suc, ◌+◌, ◌≡◌, [], ◌∷◌, ◌++◌, length, ap, ◌∙◌, sym, subst, arith}
-use Rattle.std.proofs.lemmas.List.{length-append}
-use Rattle.breakers.specs.Breakers.{CalmChecks}
-use Rattle.breakers.specs.Watch.{states}
-use Rattle.breakers.proofs.Runs.{CalmChecks-append}
+use Rattle.reduce_walk.proofs.Shared.{length-append, CalmChecks, states, CalmChecks-append, is_leaf, BeginWithLeaves, one_calm, trips_at_once, trips_within_after, root_ids, plain, children_of, rest_trees, tree_at, kids_of, forest}
 use Rattle.reduce_walk.proofs.Stopping.{handed_on, trips_more, leaf_counts}
 use Rattle.reduce_walk.proofs.Walks.{leaves_more, few_children}
-use Rattle.reduce_walk.specs.Leaves.{is_leaf, BeginWithLeaves}
-use Rattle.reduce_port.proofs.Checks.{one_calm, trips_at_once, trips_within_after}
 use Rattle.tree_handles.proofs.NextChildren.{next_child}
 use Rattle.tree_handles.proofs.Readings.{expression_children}
-use Rattle.tree_handles.specs.Children.{root_ids}
-use Rattle.tree_handles.specs.Expressions.{plain, children_of}
-use Rattle.tree_handles.specs.Forest.{rest_trees}
-use Rattle.tree_handles.specs.Inside.{tree_at, kids_of}
-use Rattle.tree_handles.specs.Standing.{forest}
 use Rattle.reduce_walk.proofs.walking.check_leaves.Goals as goal
 
 pub is_leaf-requires-clause-expression : goal.is_leaf-requires-clause-expression

@@ -1,12 +1,5 @@
 use Rattle.std.proofs.Common.{◌≡◌, length}
-use Rattle.breakers.specs.Breakers.{CalmChecks}
-use Rattle.breakers.specs.Watch.{states}
-use Rattle.reduce_walk.specs.Leaves.{BeginWithLeaves}
-use Rattle.tree_handles.specs.Children.{root_ids}
-use Rattle.tree_handles.specs.Expressions.{plain, children_of}
-use Rattle.tree_handles.specs.Forest.{rest_trees}
-use Rattle.tree_handles.specs.Inside.{tree_at, kids_of}
-use Rattle.tree_handles.specs.Standing.{forest}
+use Rattle.reduce_walk.proofs.Shared.{CalmChecks, states, BeginWithLeaves, root_ids, plain, children_of, rest_trees, tree_at, kids_of, forest}
 use Rattle.reduce_walk.proofs.walking.check_leaves.Given as goal
 
 abbrev pub invariant-loop-child : goal.invariant-loop-child

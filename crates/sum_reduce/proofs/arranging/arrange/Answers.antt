@@ -1,29 +1,14 @@
 use Rattle.std.proofs.Common.{◌≤◌, sym, subst, ap, arith, rules}
-use Rattle.tree_handles.proofs.Outcomes.{passed_result}
-use Rattle.calc_algebra.specs.Reduced.{NoneIs}
-use Rattle.calc_measures.specs.PlainValues.{plain_value}
-use Rattle.calc_terms.specs.Trees.{Trees, add, count, sizes}
-use Rattle.sum_reduce.specs.Arranging.{AnswersFold}
-use Rattle.tree_handles.specs.Standing.{forest}
-use Rattle.tree_handles.proofs.Fronts.{behind_first, front_after_one}
-use Rattle.sum_reduce.specs.Sums.{terms_in}
-use Rattle.sum_reduce.specs.Terms.{AreFormed, is_loose}
+use Rattle.sum_reduce.proofs.Shared.{passed_result, NoneIs, plain_value, Trees, add, count, sizes, AnswersFold, forest, behind_first, front_after_one, terms_in, AreFormed, is_loose, passed_named, collects_opened, Overflows, SpansRoot, SpansTrees, passed_lacks, HaveFewBits, addends_of_each}
 use Rattle.sum_reduce.proofs.Opened.{opened_formed, opened_some, opened_tight}
 use Rattle.sum_reduce.proofs.Orders.{opened_stage, rationals_faulted, rationals_ordered}
 use Rattle.sum_reduce.proofs.Stages.{stage_after}
 use Rattle.sum_reduce.proofs.Sums.{changes_after, changes_front}
-use Rattle.coefficients.proofs.Named.{passed_named}
-use Rattle.sum_reduce.specs.Collected.{collects_opened}
-use Rattle.sum_reduce.specs.Overflows.{Overflows}
 use Rattle.sum_reduce.proofs.Hindered.{overflows_after, overflows_as}
-use Rattle.calc_room.specs.Spans.{SpansRoot, SpansTrees}
-use Rattle.coefficients.proofs.Lacks.{passed_lacks}
 use Rattle.sum_reduce.proofs.CollectedParts.{opened_parts}
 use Rattle.sum_reduce.proofs.SumBytes.{changes_free, opened_sizes}
-use Rattle.sum_reduce.specs.Bits.{HaveFewBits}
 use Rattle.sum_reduce.proofs.Held.{few_after}
 use Rattle.sum_reduce.proofs.HeldTerms.{opened_held}
-use Rattle.tree_bits.specs.Children.{addends_of_each}
 use Rattle.sum_reduce.proofs.arranging.arrange.Goals as goal
 
 pub join_numbers-requires : goal.join_numbers-requires

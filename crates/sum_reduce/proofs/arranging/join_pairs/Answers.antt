@@ -1,24 +1,12 @@
 use Rattle.std.proofs.Common.{◌<◌, ◌+◌, ◌≡◌, false, arith}
-use Rattle.calc_terms.specs.Trees.{count}
-use Rattle.like_children.specs.Neighbours.{IsPairAt, IsNextPair, NoPairBetween}
-use Rattle.sum_reduce.specs.Stages.{widths}
-use Rattle.sum_reduce.specs.Sums.{terms_in}
-use Rattle.sum_reduce.specs.Terms.{is_loose, is_partner}
-use Rattle.tree_handles.specs.Expressions.{nth}
-use Rattle.tree_handles.specs.Standing.{forest}
-use Rattle.tree_handles.proofs.Forests.{keeps_none, keeps_after}
-use Rattle.tree_handles.proofs.Fronts.{behind_first, front_same, front_after_one}
+use Rattle.sum_reduce.proofs.Shared.{count, IsPairAt, IsNextPair, NoPairBetween, widths, terms_in, is_loose, is_partner, nth, forest, keeps_none, keeps_after, behind_first, front_same, front_after_one, passed_named, Overflows, passed_lacks, sum_count}
 use Rattle.sum_reduce.proofs.Results.{match_option_given}
 use Rattle.sum_reduce.proofs.Stages.{stage_after, stage_same}
 use Rattle.sum_reduce.proofs.Sums.{changes_same, changes_after}
-use Rattle.coefficients.proofs.Named.{passed_named}
-use Rattle.sum_reduce.specs.Overflows.{Overflows}
 use Rattle.sum_reduce.proofs.Hindered.{overflows_after}
-use Rattle.coefficients.proofs.Lacks.{passed_lacks}
 use Rattle.sum_reduce.proofs.CollectedSpans.{spans_collected}
 use Rattle.sum_reduce.proofs.Rooms.{fewer_lack}
 use Rattle.sum_reduce.proofs.SumBytes.{changes_free}
-use Rattle.tree_room.specs.Handed.{sum_count}
 use Rattle.sum_reduce.proofs.Held.{few_after}
 use Rattle.sum_reduce.proofs.arranging.join_pairs.Goals as goal
 

@@ -1,12 +1,5 @@
 use Rattle.std.proofs.Common.{◌<◌, ◌≤◌, ◌+◌, ◌^◌, [], ◌∷◌, MatchOption, IfSome}
-use Rattle.calc_algebra.specs.Reduced.{NoneIs}
-use Rattle.tree_handles.specs.Handed.{KeepsFront}
-use Rattle.tree_handles.specs.Standing.{Stands, forest, KeepsRefusals}
-use Rattle.like_children.specs.Neighbours.{IsPairAt}
-use Rattle.sum_reduce.specs.Stages.{IsStage, widths}
-use Rattle.sum_reduce.specs.Sums.{Changes, terms_in}
-use Rattle.sum_reduce.specs.Terms.{is_loose, is_partner}
-use Rattle.tree_room.specs.Handed.{counted_in_all}
+use Rattle.sum_reduce.proofs.Shared.{NoneIs, KeepsFront, Stands, forest, KeepsRefusals, IsPairAt, IsStage, widths, Changes, terms_in, is_loose, is_partner, counted_in_all}
 use Rattle.sum_reduce.proofs.arranging.join_pairs.Given as goal
 
 abbrev pub invariant-loop-next : goal.invariant-loop-next

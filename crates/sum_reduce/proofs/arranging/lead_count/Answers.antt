@@ -1,8 +1,5 @@
 use Rattle.std.proofs.Common.{◌∙◌, ap, sym, arith}
-use Rattle.calc_algebra.specs.Numbers.{is_number}
-use Rattle.calc_algebra.specs.Reduced.{is_reduced}
-use Rattle.tree_handles.specs.Standing.{forest}
-use Rattle.sum_reduce.specs.Sums.{terms_in}
+use Rattle.sum_reduce.proofs.Shared.{is_number, is_reduced, forest, terms_in}
 use Rattle.sum_reduce.proofs.Sorted.{formed_nth, one_leads, none_leads}
 use Rattle.sum_reduce.proofs.arranging.lead_count.Goals as goal
 

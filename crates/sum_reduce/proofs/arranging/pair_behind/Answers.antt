@@ -1,8 +1,5 @@
 use Rattle.std.proofs.Common.{◌∙◌, ap, sym}
-use Rattle.calc_algebra.specs.Reduced.{is_reduced}
-use Rattle.tree_handles.specs.Standing.{forest}
-use Rattle.sum_reduce.specs.Sums.{terms_in}
-use Rattle.sum_reduce.specs.Terms.{is_loose}
+use Rattle.sum_reduce.proofs.Shared.{is_reduced, forest, terms_in, is_loose}
 use Rattle.sum_reduce.proofs.Joins.{none_anywhere}
 use Rattle.sum_reduce.proofs.Results.{if_some_given}
 use Rattle.sum_reduce.proofs.Sorted.{formed_nth}

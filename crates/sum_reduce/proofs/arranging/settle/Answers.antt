@@ -1,22 +1,13 @@
 use Rattle.std.proofs.Common.{◌+◌, arith}
-use Rattle.tree_handles.proofs.Forests.{keeps_after}
-use Rattle.tree_handles.proofs.Fronts.{behind_first, front_after_one}
+use Rattle.sum_reduce.proofs.Shared.{keeps_after, behind_first, front_after_one, passed_named, forest, collects_then, Overflows, terms_in, passed_lacks, free_of, sum_count}
 use Rattle.sum_reduce.proofs.Orders.{arranged_flat, folded_alone}
 use Rattle.sum_reduce.proofs.Sorted.{formed_nth}
 use Rattle.sum_reduce.proofs.Stages.{stage_after}
 use Rattle.sum_reduce.proofs.Sums.{changes_after}
-use Rattle.coefficients.proofs.Named.{passed_named}
-use Rattle.tree_handles.specs.Standing.{forest}
-use Rattle.sum_reduce.specs.Collected.{collects_then}
-use Rattle.sum_reduce.specs.Overflows.{Overflows}
-use Rattle.sum_reduce.specs.Sums.{terms_in}
 use Rattle.sum_reduce.proofs.Hindered.{overflows_after}
-use Rattle.coefficients.proofs.Lacks.{passed_lacks}
-use Rattle.node_pool.specs.State.{free_of}
 use Rattle.sum_reduce.proofs.CollectedSpans.{spans_collected}
 use Rattle.sum_reduce.proofs.Rooms.{fewer_lack, terms_lack, arranged_counts}
 use Rattle.sum_reduce.proofs.SumBytes.{changes_free}
-use Rattle.tree_room.specs.Handed.{sum_count}
 use Rattle.sum_reduce.proofs.Held.{few_after}
 use Rattle.sum_reduce.proofs.arranging.settle.Goals as goal
 

@@ -1,11 +1,5 @@
 use Rattle.std.proofs.Common.{◌≡◌, true, [], ◌∷◌}
-use Rattle.calc_measures.specs.PlainValues.{plain_value}
-use Rattle.calc_terms.specs.Trees.{add, are_rationals}
-use Rattle.tree_handles.specs.Handed.{KeepsFront}
-use Rattle.tree_handles.specs.Standing.{Stands, forest, KeepsRefusals}
-use Rattle.sum_reduce.specs.Arranging.{IsArranged, IsFolded}
-use Rattle.sum_reduce.specs.Stages.{IsStage, widths}
-use Rattle.sum_reduce.specs.Sums.{Changes, terms_in}
+use Rattle.sum_reduce.proofs.Shared.{plain_value, add, are_rationals, KeepsFront, Stands, forest, KeepsRefusals, IsArranged, IsFolded, IsStage, widths, Changes, terms_in}
 use Rattle.sum_reduce.proofs.arranging.settle.Given as goal
 
 abbrev pub invariant-loop-at : goal.invariant-loop-at

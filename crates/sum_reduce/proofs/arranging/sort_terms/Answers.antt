@@ -1,12 +1,5 @@
 use Rattle.std.proofs.Common.{◌<◌, ◌∙◌, ap, sym, subst, arith}
-use Rattle.calc_algebra.specs.Numbers.{is_number}
-use Rattle.calc_algebra.specs.Reduced.{is_reduced}
-use Rattle.calc_terms.specs.Trees.{Trees, count}
-use Rattle.tree_handles.specs.Expressions.{nth}
-use Rattle.tree_handles.specs.Standing.{forest}
-use Rattle.sum_reduce.specs.Arranging.{IsArranged}
-use Rattle.sum_reduce.specs.Stages.{IsStage}
-use Rattle.sum_reduce.specs.Sums.{terms_in}
+use Rattle.sum_reduce.proofs.Shared.{is_number, is_reduced, Trees, count, nth, forest, IsArranged, IsStage, terms_in}
 use Rattle.sum_reduce.proofs.Sorted.{formed_nth, led_behind, lead_few, children_sorted, permuted_alone}
 use Rattle.sum_reduce.proofs.Stages.{stage_permuted}
 use Rattle.sum_reduce.proofs.Sums.{sum_over, root_arity}

@@ -1,8 +1,5 @@
 use Rattle.std.proofs.Common.{◌≤◌, ◌∙◌, ap, sym, subst}
-use Rattle.calc_terms.specs.Trees.{Trees, count}
-use Rattle.tree_handles.specs.Standing.{forest}
-use Rattle.sum_reduce.specs.Sums.{terms_in}
-use Rattle.sum_reduce.specs.Terms.{sum_tree}
+use Rattle.sum_reduce.proofs.Shared.{Trees, count, forest, terms_in, sum_tree}
 use Rattle.sum_reduce.proofs.Sums.{changes_same}
 use Rattle.sum_reduce.proofs.Written.{spread_some, written_led, written_unled}
 use Rattle.sum_reduce.proofs.endings.spread.Goals as goal

@@ -1,11 +1,5 @@
 use Rattle.std.proofs.Common.{◌∙◌, ap, sym, inl, arith}
-use Rattle.calc_terms.specs.Trees.{Trees, append, is_add}
-use Rattle.number_forms.specs.Readers.{is_zero}
-use Rattle.tree_handles.specs.Expressions.{nth}
-use Rattle.tree_handles.specs.Standing.{forest}
-use Rattle.tree_handles.proofs.Given.{owned}
-use Rattle.sum_reduce.specs.Sums.{terms_in}
-use Rattle.number_forms.specs.Sums.{removed}
+use Rattle.sum_reduce.proofs.Shared.{Trees, append, is_add, is_zero, nth, forest, owned, terms_in, removed}
 use Rattle.sum_reduce.proofs.Sums.{changes_same, sum_within, sum_once, merged, released, takes_handed, term_out}
 use Rattle.sum_reduce.proofs.Written.{spread_zero, spread_sum, spread_one}
 use Rattle.sum_reduce.proofs.endings.spread_number.Goals as goal

@@ -1,7 +1,5 @@
 use Rattle.std.proofs.Common.{◌∙◌, inl, arith}
-use Rattle.tree_handles.specs.Standing.{forest}
-use Rattle.tree_handles.proofs.Given.{owned, gives, represents_handed}
-use Rattle.sum_reduce.specs.Sums.{terms_in}
+use Rattle.sum_reduce.proofs.Shared.{forest, owned, gives, represents_handed, terms_in}
 use Rattle.sum_reduce.proofs.Sums.{sum_within, term_out, only_left}
 use Rattle.sum_reduce.proofs.Written.{only_term, other_sum}
 use Rattle.sum_reduce.proofs.endings.unwrapped.Goals as goal

@@ -1,30 +1,11 @@
 use Rattle.std.proofs.Common.{◌∙◌, ap, ℕ, ◌<◌, sym, subst, arith, ◌++◌, rules}
-use Rattle.like_children.proofs.Kids.{sizes_taken}
-use Rattle.calc_algebra.specs.Numbers.{is_number, value}
-use Rattle.calc_algebra.specs.Reduced.{is_reduced}
-use Rattle.calc_terms.specs.Trees.{is_undef, size, sizes}
-use Rattle.calc_algebra.proofs.NumberLaws.{number_test}
-use Rattle.coefficients.specs.Coefficients.{coefficient_of}
-use Rattle.coefficients.proofs.Coefficients.{taken}
-use Rattle.tree_handles.specs.Expressions.{nth}
-use Rattle.tree_handles.specs.Standing.{forest}
-use Rattle.tree_handles.proofs.Fronts.{behind_first, behind_later, front_after_one, front_after_two}
-use Rattle.tree_handles.proofs.Given.{given_told}
-use Rattle.tree_handles.proofs.Outcomes.{eqb-sym, if_map}
-use Rattle.sum_reduce.specs.Sums.{terms_in}
+use Rattle.sum_reduce.proofs.Shared.{sizes_taken, is_number, value, is_reduced, is_undef, size, sizes, number_test, coefficient_of, taken, nth, forest, behind_first, behind_later, front_after_one, front_after_two, given_told, eqb-sym, if_map, terms_in, result_named, free_of, SpansRoot, SpansTree, refusal_lacks, result_lacks, tree_of, keeps_after, HasFewBits}
 use Rattle.sum_reduce.proofs.Results.{if_ok_both}
 use Rattle.sum_reduce.proofs.Sums.{sum_within, term_out, takes_handed, takes_behind, takes_front, rewritten, other_handed, other_same, other_clear, both_rewritten}
-use Rattle.coefficients.proofs.Named.{result_named}
 use Rattle.sum_reduce.proofs.Hindered.{numbers_named, names_as}
-use Rattle.node_pool.specs.State.{free_of}
-use Rattle.calc_room.specs.Spans.{SpansRoot, SpansTree}
-use Rattle.coefficients.proofs.Lacks.{refusal_lacks, result_lacks}
 use Rattle.sum_reduce.proofs.CollectedParts.{coefficient_parts}
 use Rattle.sum_reduce.proofs.Rooms.{number_lacks}
 use Rattle.sum_reduce.proofs.SumBytes.{out_free, takes_free}
-use Rattle.tree_handles.specs.Handed.{tree_of}
-use Rattle.tree_handles.proofs.Forests.{keeps_after}
-use Rattle.calc_bits.specs.Bounds.{HasFewBits}
 use Rattle.sum_reduce.proofs.joining.add_partner.Goals as goal
 
 pub take_child-term-requires-clause-within : goal.take_child-term-requires-clause-within

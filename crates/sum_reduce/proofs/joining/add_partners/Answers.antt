@@ -1,23 +1,10 @@
 use Rattle.std.proofs.Common.{suc, ◌+◌, ap, add-one, arith, rules}
-use Rattle.like_children.proofs.Kids.{count_removed}
-use Rattle.calc_terms.specs.Trees.{count}
-use Rattle.tree_handles.specs.Standing.{forest}
-use Rattle.tree_handles.proofs.Forests.{keeps_none, keeps_after}
-use Rattle.tree_handles.proofs.Fronts.{behind_first, front_same, front_after_two}
-use Rattle.sum_reduce.specs.Sums.{terms_in}
+use Rattle.sum_reduce.proofs.Shared.{count_removed, count, forest, keeps_none, keeps_after, behind_first, front_same, front_after_two, terms_in, coefficient_of, fault_named, nth, tree_of, NamesSum, Overflows, free_of, full_as, removed}
 use Rattle.sum_reduce.proofs.Joins.{joining_formed, joining_less, next_partner, partner_step, partner_within}
 use Rattle.sum_reduce.proofs.Numbered.{beside_behind}
 use Rattle.sum_reduce.proofs.Sorted.{formed_nth}
 use Rattle.sum_reduce.proofs.Sums.{takes_handed, takes_apart, takes_after}
-use Rattle.coefficients.specs.Coefficients.{coefficient_of}
-use Rattle.coefficients.proofs.Named.{fault_named}
-use Rattle.tree_handles.specs.Expressions.{nth}
-use Rattle.tree_handles.specs.Handed.{tree_of}
-use Rattle.sum_reduce.specs.Overflows.{NamesSum, Overflows}
 use Rattle.sum_reduce.proofs.Hindered.{partner_hinders}
-use Rattle.node_pool.specs.State.{free_of}
-use Rattle.number_forms.proofs.Rooms.{full_as}
-use Rattle.number_forms.specs.Sums.{removed}
 use Rattle.sum_reduce.proofs.Rooms.{joining_spans, spans_next, partner_lacks}
 use Rattle.sum_reduce.proofs.SumBytes.{taken_free}
 use Rattle.sum_reduce.proofs.FewBits.{next_partner_few}

@@ -1,12 +1,5 @@
 use Rattle.std.proofs.Common.{ℕ, ◌<◌, [], ◌∷◌}
-use Rattle.calc_terms.specs.Trees.{Trees, count}
-use Rattle.tree_handles.specs.Handed.{tree_of, KeepsFront}
-use Rattle.tree_handles.specs.Expressions.{nth}
-use Rattle.tree_handles.specs.Forest.{Forest}
-use Rattle.tree_handles.specs.Standing.{Stands, forest, KeepsRefusals}
-use Rattle.sum_reduce.specs.Joining.{IsJoining}
-use Rattle.sum_reduce.specs.Sums.{Takes, terms_in}
-use Rattle.number_forms.specs.Sums.{removed}
+use Rattle.sum_reduce.proofs.Shared.{Trees, count, tree_of, KeepsFront, nth, Forest, Stands, forest, KeepsRefusals, IsJoining, Takes, terms_in, removed}
 use Rattle.sum_reduce.proofs.joining.add_partners.Given as goal
 
 abbrev pub invariant-loop-pool : goal.invariant-loop-pool

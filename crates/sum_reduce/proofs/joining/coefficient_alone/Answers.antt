@@ -1,12 +1,8 @@
 use Rattle.std.proofs.Common.{inl, ◌<◌}
-use Rattle.tree_handles.proofs.Outcomes.{passed_result}
-use Rattle.tree_handles.proofs.Fronts.{behind_first, front_same, front_end, front_without}
-use Rattle.tree_handles.proofs.Given.{owned, given_handed, given_root}
-use Rattle.sum_reduce.proofs.Sums.{part_gone}
 use Rattle.std.specs.Prelude.{IfErr}
-use Rattle.node_pool.specs.State.{free_of}
+use Rattle.sum_reduce.proofs.Shared.{passed_result, behind_first, front_same, front_end, front_without, owned, given_handed, given_root, free_of, tree_of}
+use Rattle.sum_reduce.proofs.Sums.{part_gone}
 use Rattle.sum_reduce.proofs.Rooms.{taking_lacks}
-use Rattle.tree_handles.specs.Handed.{tree_of}
 use Rattle.sum_reduce.proofs.joining.coefficient_alone.Goals as goal
 
 pub release-requires-clause-releasable : goal.release-requires-clause-releasable

@@ -1,27 +1,14 @@
 use Rattle.std.proofs.Common.{◌<◌, sym, subst, add-one, arith, rules}
-use Rattle.calc_terms.specs.Trees.{Trees}
-use Rattle.tree_handles.specs.Expressions.{nth}
-use Rattle.tree_handles.specs.Standing.{forest}
-use Rattle.tree_handles.proofs.Fronts.{behind_first, front_after_two}
-use Rattle.sum_reduce.specs.Stages.{IsStage, widths}
-use Rattle.sum_reduce.specs.Sums.{terms_in}
+use Rattle.sum_reduce.proofs.Shared.{Trees, nth, forest, behind_first, front_after_two, IsStage, widths, terms_in, passed_named, result_named, Overflows, free_of, removed, passed_lacks, refusal_lacks, result_lacks, keeps_after, sum_count, addends_of_each}
 use Rattle.sum_reduce.proofs.Joins.{joining_start, pair_start, joining_formed, next_partner, first_partner, two_joined, partner_within, joining_done, joined_within, joined_others, pair_here, here_reduced, here_defined}
 use Rattle.sum_reduce.proofs.Results.{on_ok_map}
 use Rattle.sum_reduce.proofs.Sums.{takes_handed, takes_apart, takes_after, takes_behind, takes_front, takes_changes}
 use Rattle.sum_reduce.proofs.Widths.{some_node}
-use Rattle.coefficients.proofs.Named.{passed_named, result_named}
-use Rattle.sum_reduce.specs.Overflows.{Overflows}
 use Rattle.sum_reduce.proofs.Hindered.{partner_hinders, part_hinders}
-use Rattle.node_pool.specs.State.{free_of}
-use Rattle.number_forms.specs.Sums.{removed}
-use Rattle.coefficients.proofs.Lacks.{passed_lacks, refusal_lacks, result_lacks}
 use Rattle.sum_reduce.proofs.Rooms.{joined_counts, joining_spans, spans_next, terms_lack, few_lack, partner_lacks, part_lacks}
 use Rattle.sum_reduce.proofs.SumBytes.{takes_free}
-use Rattle.tree_handles.proofs.Forests.{keeps_after}
-use Rattle.tree_room.specs.Handed.{sum_count}
 use Rattle.sum_reduce.proofs.FewBits.{next_partner_few}
 use Rattle.sum_reduce.proofs.Held.{few_after}
-use Rattle.tree_bits.specs.Children.{addends_of_each}
 use Rattle.sum_reduce.proofs.joining.join_terms.Goals as goal
 
 pub take_coefficient_at-requires : goal.take_coefficient_at-requires

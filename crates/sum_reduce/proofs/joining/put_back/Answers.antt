@@ -1,26 +1,8 @@
 use Rattle.std.proofs.Common.{◌∙◌, ap, arith, ◌^◌, length, sym, subst, ◌∷◌, rules}
-use Rattle.like_children.proofs.Kids.{count_removed}
-use Rattle.calc_algebra.specs.Reduced.{is_reduced}
-use Rattle.calc_terms.specs.Trees.{more, none, count, Tree, size}
-use Rattle.coefficients.specs.Coefficients.{with_coefficient, factors_of, IsMonic}
-use Rattle.tree_handles.specs.Expressions.{inserted}
-use Rattle.tree_handles.specs.Standing.{forest}
-use Rattle.tree_handles.proofs.Fronts.{behind_first, behind_later, front_after_two}
-use Rattle.tree_handles.proofs.Given.{gives_as, given_told, given_root}
-use Rattle.tree_handles.proofs.Outcomes.{eqb-sym}
-use Rattle.tree_handles.proofs.Roots.{root_held, without-swap}
-use Rattle.sum_reduce.specs.Sums.{terms_in}
+use Rattle.sum_reduce.proofs.Shared.{count_removed, is_reduced, more, none, count, Tree, size, with_coefficient, factors_of, IsMonic, inserted, forest, behind_first, behind_later, front_after_two, gives_as, given_told, given_root, eqb-sym, root_held, without-swap, terms_in, passed_named, put_as, is_number, value, counted, SpansTree, put_room, passed_lacks, HaveFewBits, addend}
 use Rattle.sum_reduce.proofs.Sums.{sum_within, sum_arity, term_out, takes_handed, takes_behind, takes_front, other_handed, other_same, other_clear, both_rewritten, put_in, roots_apart, beside_front}
-use Rattle.coefficients.proofs.Named.{passed_named, put_as}
-use Rattle.calc_algebra.specs.Numbers.{is_number, value}
-use Rattle.calc_room.specs.Counts.{counted}
-use Rattle.calc_room.specs.Spans.{SpansTree}
-use Rattle.coefficients.specs.Rooms.{put_room}
-use Rattle.coefficients.proofs.Lacks.{passed_lacks}
 use Rattle.sum_reduce.proofs.SumBytes.{out_free}
-use Rattle.sum_reduce.specs.Bits.{HaveFewBits}
 use Rattle.sum_reduce.proofs.PutsFit.{put_fits}
-use Rattle.tree_bits.specs.HeldTrees.{addend}
 use Rattle.sum_reduce.proofs.joining.put_back.Goals as goal
 
 pub take_child-part-requires-clause-within : goal.take_child-part-requires-clause-within

@@ -1,23 +1,9 @@
 use Rattle.std.proofs.Common.{◌∙◌, ap, arith, ℕ, ◌<◌, subst, rules}
-use Rattle.tree_handles.proofs.Outcomes.{passed_result}
-use Rattle.like_children.proofs.Kids.{count_removed}
-use Rattle.calc_algebra.specs.Numbers.{is_number}
-use Rattle.calc_algebra.specs.Reduced.{is_reduced, part_of}
-use Rattle.calc_terms.specs.Trees.{more, none, count, is_undef}
-use Rattle.coefficients.specs.Coefficients.{coefficient_of}
-use Rattle.tree_handles.proofs.Over.{children_in}
-use Rattle.tree_handles.specs.Expressions.{inserted}
-use Rattle.tree_handles.specs.Standing.{forest}
-use Rattle.tree_handles.proofs.Fronts.{front_after_one}
-use Rattle.tree_handles.proofs.Given.{given_root}
-use Rattle.tree_handles.proofs.Roots.{root_held}
-use Rattle.sum_reduce.specs.Sums.{terms_in}
-use Rattle.sum_reduce.proofs.Sums.{sum_within, term_out, takes_handed, takes_behind, takes_front, part_back, both_over, both_apart}
 use Rattle.std.specs.Prelude.{IfErr}
-use Rattle.node_pool.specs.State.{free_of}
+use Rattle.sum_reduce.proofs.Shared.{passed_result, count_removed, is_number, is_reduced, part_of, more, none, count, is_undef, coefficient_of, children_in, inserted, forest, front_after_one, given_root, root_held, terms_in, free_of, tree_of}
+use Rattle.sum_reduce.proofs.Sums.{sum_within, term_out, takes_handed, takes_behind, takes_front, part_back, both_over, both_apart}
 use Rattle.sum_reduce.proofs.Rooms.{taking_lacks}
 use Rattle.sum_reduce.proofs.SumBytes.{out_free}
-use Rattle.tree_handles.specs.Handed.{tree_of}
 use Rattle.sum_reduce.proofs.joining.take_coefficient_at.Goals as goal
 
 pub take_child-term-requires-clause-within : goal.take_child-term-requires-clause-within

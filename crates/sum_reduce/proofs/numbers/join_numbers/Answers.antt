@@ -1,31 +1,12 @@
 use Rattle.std.proofs.Common.{◌∙◌, inl, ap, sym, subst, arith, rules}
-use Rattle.tree_handles.proofs.Outcomes.{passed_result}
-use Rattle.like_children.proofs.Parts.{permuted_parts}
-use Rattle.calc_algebra.specs.Numbers.{is_number}
-use Rattle.calc_measures.specs.PlainValues.{plain_value}
-use Rattle.calc_terms.specs.Trees.{add, more}
-use Rattle.sum_reduce.specs.Arranging.{AnswersFold}
-use Rattle.tree_handles.specs.Standing.{forest}
-use Rattle.tree_handles.proofs.Forests.{keeps_none}
-use Rattle.tree_handles.proofs.Fronts.{behind_first, front_same, front_after_two}
-use Rattle.tree_handles.proofs.Given.{given_root}
-use Rattle.like_children.proofs.Folds.{rational_others}
+use Rattle.sum_reduce.proofs.Shared.{passed_result, permuted_parts, is_number, plain_value, add, more, AnswersFold, forest, keeps_none, behind_first, front_same, front_after_two, given_root, rational_others, tree_of, root_held, terms_in, passed_named, Overflows, SpansRoot, SpansTree, SpansTrees, passed_lacks, HaveFewBits, addends_of_each}
 use Rattle.sum_reduce.proofs.Sorted.{formed_nth}
-use Rattle.tree_handles.specs.Handed.{tree_of}
-use Rattle.tree_handles.proofs.Roots.{root_held}
-use Rattle.sum_reduce.specs.Sums.{terms_in}
 use Rattle.sum_reduce.proofs.Numbered.{gathered, next_hinders, next_fits, numbered, unnumbered, formed_behind, led_folded, rationals_taken, total_folded, total_faulted}
 use Rattle.sum_reduce.proofs.Sums.{taken_given, taken_on, sum_beside, takes_apart, changes_same, changes_front, sum_within, term_out, takes_front, takes_behind, put_in, roots_apart}
-use Rattle.coefficients.proofs.Named.{passed_named}
-use Rattle.sum_reduce.specs.Overflows.{Overflows}
 use Rattle.sum_reduce.proofs.Hindered.{overflows_after, overflows_as, taken_first}
-use Rattle.calc_room.specs.Spans.{SpansRoot, SpansTree, SpansTrees}
-use Rattle.coefficients.proofs.Lacks.{passed_lacks}
 use Rattle.sum_reduce.proofs.Places.{taken_permuted}
 use Rattle.sum_reduce.proofs.SumBytes.{out_free}
-use Rattle.sum_reduce.specs.Bits.{HaveFewBits}
 use Rattle.sum_reduce.proofs.Held.{few_after, held_permuted}
-use Rattle.tree_bits.specs.Children.{addends_of_each}
 use Rattle.sum_reduce.proofs.numbers.join_numbers.Goals as goal
 
 pub take_child-number-requires-clause-within : goal.take_child-number-requires-clause-within

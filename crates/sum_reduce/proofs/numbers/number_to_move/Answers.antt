@@ -1,5 +1,4 @@
-use Rattle.tree_handles.specs.Standing.{forest}
-use Rattle.sum_reduce.specs.Sums.{terms_in}
+use Rattle.sum_reduce.proofs.Shared.{forest, terms_in}
 use Rattle.sum_reduce.proofs.Numbered.{led_none, led_alone}
 use Rattle.sum_reduce.proofs.Sorted.{formed_nth}
 use Rattle.sum_reduce.proofs.numbers.number_to_move.Goals as goal

@@ -1,6 +1,5 @@
 use Rattle.std.proofs.Common.{◌∙◌, sym}
-use Rattle.tree_handles.proofs.Seen.{product_kind}
-use Rattle.tree_handles.specs.Standing.{forest}
+use Rattle.sum_reduce.proofs.Shared.{product_kind, forest}
 use Rattle.sum_reduce.proofs.Parts.{product_key}
 use Rattle.sum_reduce.proofs.partners.part.Goals as goal
 

@@ -1,34 +1,16 @@
 use Rattle.std.proofs.Common.{◌≡◌, true, false, ◌∙◌, sym, subst, refl, ap, arith, ◌^◌, length}
-use Rattle.tree_handles.proofs.Outcomes.{passed_result}
-use Rattle.calc_measures.specs.PlainValues.{plain_value}
-use Rattle.number_forms.specs.Answers.{AnswersRationals}
-use Rattle.tree_handles.specs.Handed.{tree_of}
-use Rattle.tree_handles.specs.Standing.{forest}
-use Rattle.tree_handles.proofs.Fronts.{behind_first, front_end, front_without}
-use Rattle.tree_handles.proofs.Given.{gives_as, given_told}
-use Rattle.sum_reduce.specs.Collected.{IsWrittenSum}
-use Rattle.sum_reduce.specs.SumAnswers.{IsSumAnswer, IsCollected}
-use Rattle.sum_reduce.specs.Sums.{terms_in}
+use Rattle.sum_reduce.proofs.Shared.{passed_result, plain_value, AnswersRationals, tree_of, forest, behind_first, front_end, front_without, gives_as, given_told, IsWrittenSum, IsSumAnswer, IsCollected, terms_in, counted, HasPowersOf, SpansTree, size, Tree, passed_lacks, sum_whole, passed_named, IsTreeHeld, is_counted, counts_of, counts_of_all, IsWithin}
 use Rattle.sum_reduce.proofs.Collected.{settled_collected, settled_written}
 use Rattle.sum_reduce.proofs.Rationals.{undef_rationals, rationals_answer, rationals_fault}
 use Rattle.sum_reduce.proofs.Settled.{reduced_formed, undef_answer, settled_answer}
 use Rattle.sum_reduce.proofs.Sums.{changes_rest}
-use Rattle.calc_room.specs.Counts.{counted}
-use Rattle.calc_room.specs.Powers.{HasPowersOf}
-use Rattle.calc_room.specs.Spans.{SpansTree}
 use Rattle.sum_reduce.proofs.CollectedCounts.{collected_counts, written_counted}
 use Rattle.sum_reduce.proofs.CollectedPowers.{collected_powers}
 use Rattle.sum_reduce.proofs.CollectedSpans.{spans_collected, spans_written, spans_terms}
-use Rattle.calc_terms.specs.Trees.{size, Tree}
-use Rattle.coefficients.proofs.Lacks.{passed_lacks, sum_whole}
-use Rattle.coefficients.proofs.Named.{passed_named}
 use Rattle.sum_reduce.proofs.Rooms.{sum_lacks}
 use Rattle.sum_reduce.proofs.Held.{holds}
 use Rattle.sum_reduce.proofs.HeldTerms.{tree_held}
-use Rattle.tree_bits.specs.HeldTrees.{IsTreeHeld}
 use Rattle.sum_reduce.proofs.CollectedExponents.{counted_defined, exponents_collected, written_counts}
-use Rattle.tree_bits.specs.Exponents.{is_counted, counts_of, counts_of_all}
-use Rattle.tree_bits.specs.Powers.{IsWithin}
 use Rattle.sum_reduce.proofs.reducing.reduce_sum.Goals as goal
 
 pub returns-then-has_undef_term-clause-counted : goal.returns-then-has_undef_term-clause-counted

@@ -1,5 +1,5 @@
 use Rattle.std.proofs.Common.{ap, ◌∙◌}
-use Rattle.calc_terms.specs.Trees.{has_undef}
+use Rattle.sum_reduce.proofs.Shared.{has_undef}
 use Rattle.sum_reduce.proofs.Sums.{sum_expression, sum_seen}
 use Rattle.sum_reduce.proofs.terms.has_undef_term.Goals as goal
 

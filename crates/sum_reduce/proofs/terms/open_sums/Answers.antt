@@ -1,6 +1,5 @@
 use Rattle.std.proofs.Common.{inl}
-use Rattle.tree_handles.specs.Standing.{forest}
-use Rattle.sum_reduce.specs.Sums.{terms_in}
+use Rattle.sum_reduce.proofs.Shared.{forest, terms_in}
 use Rattle.sum_reduce.proofs.Sorted.{formed_nth}
 use Rattle.sum_reduce.proofs.Sums.{changed}
 use Rattle.sum_reduce.proofs.terms.open_sums.Goals as goal

@@ -1,5 +1,5 @@
 use Rattle.std.proofs.Common.{ap, ◌∙◌}
-use Rattle.tree_handles.specs.Expressions.{nth}
+use Rattle.sum_reduce.proofs.Shared.{nth}
 use Rattle.sum_reduce.proofs.Sums.{sum_within, sum_expression, sum_seen}
 use Rattle.sum_reduce.proofs.terms.term.Goals as goal
 

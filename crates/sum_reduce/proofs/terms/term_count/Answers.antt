@@ -1,5 +1,5 @@
 use Rattle.std.proofs.Common.{ap, ◌∙◌}
-use Rattle.calc_terms.specs.Trees.{count}
+use Rattle.sum_reduce.proofs.Shared.{count}
 use Rattle.sum_reduce.proofs.Sums.{sum_live, sum_expression, sum_seen}
 use Rattle.sum_reduce.proofs.terms.term_count.Goals as goal
 

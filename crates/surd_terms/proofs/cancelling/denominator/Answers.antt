@@ -1,8 +1,6 @@
 use Rattle.std.proofs.Common.{sym, ap, ◌∙◌, rules}
 use Rattle.std.specs.Prelude.{nat_abs, FitsSigned}
-use Rattle.std.specs.Int.{w128}
-use Rattle.std.proofs.lemmas.Int.{to_z-of_z}
-use Rattle.rational128.proofs.LowestTerms.{ratio_parts}
+use Rattle.surd_terms.proofs.Shared.{w128, to_z-of_z, ratio_parts}
 use Rattle.surd_terms.proofs.cancelling.denominator.Goals as goal
 
 pub returns-clause-value : goal.returns-clause-value

@@ -1,15 +1,9 @@
 use Rattle.std.proofs.Common.{◌≡◌, ℤ, ◌<◌, ◌≤◌, ◌/◌, ◌^◌, sym, ap, ◌∙◌, subst, arith, to_z, of_z}
 use Rattle.std.specs.Prelude.{nat_abs}
-use Rattle.std.specs.Int.{w128, IsGcd}
-use Rattle.std.proofs.Math.Nat.{mul-div_cancel'}
-use Rattle.calc_terms.specs.Fractions.{den_pos}
-use Rattle.calc_terms.specs.Rat.{value_of}
-use Rattle.rational128.proofs.Coprime.{positive_factor}
-use Rattle.rational128.proofs.LowestTerms.{ratio_parts, same_parts}
-use Rattle.rational128.proofs.Signed.{told}
+use Rattle.surd_terms.proofs.Shared.{w128, IsGcd, mul-div_cancel', den_pos, value_of, positive_factor, ratio_parts, same_parts, told}
 use Rattle.surd_terms.proofs.WholeFactors.{multiple_parts, multiple_coprime, part_le}
-use Rattle.surd_terms.proofs.cancelling.multiple.Goals as goal
 use Rattle.surd_terms.proofs.cancelling.multiple.Goals.{After-num}
+use Rattle.surd_terms.proofs.cancelling.multiple.Goals as goal
 
 num_is : (c : After-num) → to_z w128 (of_z w128 c.num.result) ≡ (value_of c.args.c).num
 num_is c = ap (λ z. to_z w128 (of_z w128 z)) c.num.ensures.value ∙ told c.args.c.num c.args.c.fits ∙ sym (ratio_parts c.args.c).num

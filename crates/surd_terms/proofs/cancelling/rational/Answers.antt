@@ -1,8 +1,6 @@
 use Rattle.std.proofs.Common.{ap, arith, rules}
 use Rattle.std.specs.Prelude.{nat_abs, FitsSigned}
-use Rattle.std.specs.Int.{w128}
-use Rattle.std.proofs.lemmas.Int.{to_z-of_z, to_z_pos}
-use Rattle.rational128.proofs.LowestTerms.{is_lowest_from, made_parts}
+use Rattle.surd_terms.proofs.Shared.{w128, to_z-of_z, to_z_pos, is_lowest_from, made_parts}
 use Rattle.surd_terms.proofs.cancelling.rational.Goals as goal
 
 pub lowest-requires-clause-in_lowest_terms : goal.lowest-requires-clause-in_lowest_terms

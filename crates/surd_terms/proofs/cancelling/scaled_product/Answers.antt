@@ -1,13 +1,10 @@
 use Rattle.std.proofs.Common.{◌≡◌, ◌≤◌, ◌/◌, pos, [], ◌∷◌, refl, sym, ap, ◌∙◌, subst}
+use Rattle.surd_terms.proofs.Shared.{times, whole_fraction, value_of, Mul, calculation, IsCancelled}
 use Rattle.std.specs.Int.{◌∣◌}
-use Rattle.calc_terms.specs.Fractions.{times, whole_fraction}
-use Rattle.calc_terms.specs.Rat.{value_of}
-use Rattle.rational128.specs.declared.overflow.Op.TheVariants.{Mul}
-use Rattle.surd_terms.specs.Calculations.{calculation, IsCancelled}
 use Rattle.surd_terms.proofs.Misfits.{step_fits, step_misfit, product_misfit, refused_for, if_value}
 use Rattle.surd_terms.proofs.WholeFactors.{cancelled_is, cancelled_product, cancelled_misfit, first_positive, second_positive}
-use Rattle.surd_terms.proofs.cancelling.scaled_product.Goals as goal
 use Rattle.surd_terms.proofs.cancelling.scaled_product.Goals.{After-gcd-second}
+use Rattle.surd_terms.proofs.cancelling.scaled_product.Goals as goal
 
 cancelled : (c : After-gcd-second) → IsCancelled c.args.n (value_of c.args.c) (value_of c.args.d) c.gcd-first.result c.gcd-second.result (c.args.n / c.gcd-first.result / c.gcd-second.result)
 cancelled c =

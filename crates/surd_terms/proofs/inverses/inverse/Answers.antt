@@ -1,11 +1,10 @@
 use Rattle.std.proofs.Common.{pos, ◌∙◌, refl, ap, sym}
-use Rattle.calc_terms.specs.Fractions.{times, inverse as inverse_of_fraction, whole_fraction}
-use Rattle.calc_algebra.specs.Surds.{term}
-use Rattle.surd_terms.specs.Terms.{term_of}
+use Rattle.surd_terms.proofs.Shared.{times, whole_fraction, term, term_of}
+use Rattle.calc_terms.specs.Fractions.{inverse as inverse_of_fraction}
 use Rattle.surd_terms.proofs.Rationals.{whole_not_zero, num_not_zero, fits_times_one}
 use Rattle.surd_terms.proofs.Values.{times_not_zero, inverse_not_zero, inverse_inverts}
-use Rattle.surd_terms.proofs.inverses.inverse.Goals as goal
 use Rattle.surd_terms.proofs.inverses.inverse.Goals.{In_ok-product, After-new}
+use Rattle.surd_terms.proofs.inverses.inverse.Goals as goal
 
 pub returns-in_err-product-clause-rational : goal.returns-in_err-product-clause-rational
 returns-in_err-product-clause-rational c = λ one. absurd (cc (c.in_err-product.ensures.refused.0 refl, fits_times_one c.args.a.coefficient _ _ c.radicand.result c.coefficient.ensures.value c.whole.ensures.value (c.radicand.ensures.value ∙ one)))

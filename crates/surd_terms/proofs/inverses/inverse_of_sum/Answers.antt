@@ -1,16 +1,11 @@
 use Rattle.std.proofs.Common.{◌≡◌, ◌≢◌, List, [], ◌∷◌, ◌++◌, ◌∙◌, refl, ap, sym}
-use Rattle.calc_terms.specs.Fractions.{Fraction, plus, times, negative, inverse as inverse_of_fraction, zero_fraction}
-use Rattle.calc_terms.specs.Rat.{value_of}
-use Rattle.calc_algebra.specs.Surds.{Term, term}
-use Rattle.rational128.specs.declared.overflow.Op.TheVariants.{Add, Mul}
-use Rattle.surd_terms.specs.Calculations.{Calculation, calculation, square_calculations}
-use Rattle.surd_terms.specs.Inverses.{square_of, conjugate_product}
-use Rattle.surd_terms.specs.Terms.{term_of}
+use Rattle.surd_terms.proofs.Shared.{Fraction, plus, times, negative, zero_fraction, value_of, Term, term, Add, Mul, Calculation, calculation, square_calculations, square_of, conjugate_product, term_of}
+use Rattle.calc_terms.specs.Fractions.{inverse as inverse_of_fraction}
 use Rattle.surd_terms.proofs.Misfits.{step_fits, step_misfit, passed_list, refused_for}
 use Rattle.surd_terms.proofs.Rationals.{num_not_zero}
 use Rattle.surd_terms.proofs.Values.{times_not_zero, inverse_not_zero, negative_not_zero, conjugates_not_zero, conjugate_inverts}
-use Rattle.surd_terms.proofs.inverses.inverse_of_sum.Goals as goal
 use Rattle.surd_terms.proofs.inverses.inverse_of_sum.Goals.{In_ok-difference, In_ok-second, After-new-2}
+use Rattle.surd_terms.proofs.inverses.inverse_of_sum.Goals as goal
 
 difference : (c : In_ok-difference) → value_of c.in_ok-difference.difference ≡ conjugate_product (term_of c.args.a) (term_of c.args.b)
 difference c = c.in_ok-difference.ensures.sum ∙ (λ i. plus (c.in_ok-square.ensures.value i) ((c.neg.ensures ∙ ap negative c.in_ok-square-2.ensures.value) i))

@@ -1,18 +1,12 @@
 use Rattle.std.proofs.Common.{◌≡◌, ◌*◌, inl, inr, pos, [], refl, ap, sym, ◌∙◌, subst, arith}
 use Rattle.std.specs.Prelude.{true, false}
-use Rattle.calc_terms.specs.Fractions.{times, whole_fraction}
-use Rattle.calc_terms.specs.Rat.{value_of}
-use Rattle.calc_algebra.specs.Surds.{Term, term, term_times}
-use Rattle.rational128.specs.declared.overflow.Op.TheVariants.{Mul}
-use Rattle.surd_terms.specs.Calculations.{misfit_of, IsProductMisfit}
-use Rattle.surd_terms.specs.Products.{IsExtracted}
-use Rattle.surd_terms.specs.Terms.{term_of}
+use Rattle.surd_terms.proofs.Shared.{times, whole_fraction, value_of, Term, term, term_times, Mul, misfit_of, IsProductMisfit, IsExtracted, term_of}
 use Rattle.surd_terms.proofs.Misfits.{refused_for, step_misfit, step_fits}
 use Rattle.surd_terms.proofs.ProductMisfits.{rational_misfit, coefficients_misfit, two_roots, cancelled_for}
 use Rattle.surd_terms.proofs.Rationals.{whole_not_zero}
 use Rattle.surd_terms.proofs.Values.{times_not_zero, extracted_nothing, extracted_value}
-use Rattle.surd_terms.proofs.products.product_with.Goals as goal
 use Rattle.surd_terms.proofs.products.product_with.Goals.{After-new, After-new-then-radicand-eq1-2, In_ok-root, After-new-2}
+use Rattle.surd_terms.proofs.products.product_with.Goals as goal
 
 -- ---- with a rational factor
 

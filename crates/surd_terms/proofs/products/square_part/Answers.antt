@@ -1,15 +1,10 @@
 use Rattle.std.proofs.Common.{◌≡◌, ℕ, ◌*◌, ◌/◌, pos, [], ◌∷◌, sym, ap, ◌∙◌, subst, arith}
-use Rattle.std.proofs.lemmas.Nat.Gcd.{same_from_IsGcd}
-use Rattle.calc_terms.specs.Fractions.{whole_fraction}
-use Rattle.calc_terms.specs.Gcd.{gcd, gcd_is}
-use Rattle.rational128.specs.declared.overflow.Op.TheVariants.{Mul}
-use Rattle.surd_terms.specs.Calculations.{calculation, first_misfit}
-use Rattle.calc_algebra.specs.Clean.{IsClean}
+use Rattle.surd_terms.proofs.Shared.{same_from_IsGcd, whole_fraction, gcd, gcd_is, Mul, calculation, first_misfit, IsClean}
 use Rattle.square_parts.proofs.CleanProducts.{clean_below_over_shared}
 use Rattle.surd_terms.proofs.Misfits.{refused_for}
 use Rattle.surd_terms.proofs.Radicands.{IsSquarePart, shared_positive, rest_positive, square_part}
-use Rattle.surd_terms.proofs.products.square_part.Goals as goal
 use Rattle.surd_terms.proofs.products.square_part.Goals.{After-gcd-shared, In_ok-rest, After-split-root}
+use Rattle.surd_terms.proofs.products.square_part.Goals as goal
 
 pub nonzero_div-r : goal.nonzero_div-r
 nonzero_div-r c = shared_positive c.args.r c.args.s c.gcd-shared.result c.requires.r_positive c.gcd-shared.ensures

@@ -1,9 +1,7 @@
 use Rattle.std.proofs.Common.{◌≡◌, ℕ, ◌*◌, ◌/◌, ◌^◌, ◌<◌, ◌≤◌, Option, Some, None, inr, ap, ◌∙◌, arith}
 use Rattle.std.specs.Prelude.{MatchOption}
+use Rattle.surd_terms.proofs.Shared.{IsGcd, same_from_IsGcd, gcd, gcd_is}
 use Rattle.std.specs.Option.{SomeIff}
-use Rattle.std.specs.Int.{IsGcd}
-use Rattle.std.proofs.lemmas.Nat.Gcd.{same_from_IsGcd}
-use Rattle.calc_terms.specs.Gcd.{gcd, gcd_is}
 use Rattle.surd_terms.proofs.products.undivided.Goals as goal
 
 from_iff : (o : Option ℕ) (P A : Type 0) (v w : ℕ) → SomeIff o P v → v ≡ w → ((P → ⊥) → A) → MatchOption o A (λ n. n ≡ w)

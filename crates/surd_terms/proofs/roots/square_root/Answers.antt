@@ -1,19 +1,9 @@
 use Rattle.std.proofs.Common.{◌≡◌, ◌*◌, ◌<◌, ◌^◌, [], ◌∷◌, true, false, pos, ap, sym, ◌∙◌, subst, rules, to_z, of_z}
 use Rattle.std.specs.Prelude.{nat_abs}
-use Rattle.std.specs.Int.{w128}
-use Rattle.std.proofs.lemmas.Int.{to_z_pos}
-use Rattle.calc_terms.specs.Fractions.{times, lowest, quotient, whole_fraction, mul_pos}
-use Rattle.calc_terms.specs.Fits.{fraction_fits}
-use Rattle.calc_algebra.specs.Meanings.{IsRootOf}
-use Rattle.calc_terms.specs.Rat.{value_of}
-use Rattle.calc_algebra.specs.Surds.{Term, term}
-use Rattle.rational128.proofs.Signed.{told}
-use Rattle.surd_terms.specs.Terms.{term_of}
+use Rattle.surd_terms.proofs.Shared.{w128, to_z_pos, times, lowest, quotient, whole_fraction, mul_pos, fraction_fits, IsRootOf, value_of, Term, term, told, term_of, Mul, calculation, first_misfit}
 use Rattle.surd_terms.proofs.Extraction.{positive_abs, IsSplit, split_root, root_of, positive_is, quotient_not_zero}
-use Rattle.rational128.specs.declared.overflow.Op.TheVariants.{Mul}
-use Rattle.surd_terms.specs.Calculations.{calculation, first_misfit}
-use Rattle.surd_terms.proofs.roots.square_root.Goals as goal
 use Rattle.surd_terms.proofs.roots.square_root.Goals.{In_ok-product, After-split-root, After-ratio, After-new}
+use Rattle.surd_terms.proofs.roots.square_root.Goals as goal
 
 num_is : (c : In_ok-product) → c.unsigned_abs.result ≡ nat_abs c.args.q.num
 num_is c = c.unsigned_abs.ensures.value ∙ ap nat_abs (ap (λ z. to_z w128 (of_z w128 z)) c.num.ensures.value ∙ told c.args.q.num c.args.q.fits)

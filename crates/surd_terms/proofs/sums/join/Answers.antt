@@ -1,21 +1,12 @@
 use Rattle.std.proofs.Common.{◌≡◌, ◌*◌, pos, true, List, [], ◌∷◌, refl, sym, ap, ◌∙◌, subst}
-use Rattle.std.specs.Int.{IsGcd}
-use Rattle.calc_algebra.specs.Clean.{IsClean}
-use Rattle.calc_terms.specs.Fractions.{plus, times, whole_fraction}
-use Rattle.calc_terms.specs.Rat.{value_of}
-use Rattle.calc_algebra.specs.SquareClasses.{are_alike}
-use Rattle.calc_algebra.specs.Surds.{term}
+use Rattle.surd_terms.proofs.Shared.{IsGcd, IsClean, plus, times, whole_fraction, value_of, are_alike, term, IsSum, term_of, Add, Mul, Calculation, calculation, scaled, scaling, joining_calculations, first_misfit}
 use Rattle.square_parts.proofs.CleanLaws.{clean_part}
-use Rattle.surd_terms.specs.Sums.{IsSum}
-use Rattle.surd_terms.specs.Terms.{term_of}
-use Rattle.rational128.specs.declared.overflow.Op.TheVariants.{Add, Mul}
-use Rattle.surd_terms.specs.Calculations.{Calculation, calculation, scaled, scaling, joining_calculations, first_misfit}
 use Rattle.surd_terms.proofs.Misfits.{joining_parts, one_radicand_calculations, step_fits, step_misfit, refused_for}
 use Rattle.surd_terms.proofs.Radicands.{shared_positive}
 use Rattle.surd_terms.proofs.Rationals.{rational_fits}
 use Rattle.surd_terms.proofs.Values.{sum_joins, sum_is, alike_itself, sum_of_one_radicand}
-use Rattle.surd_terms.proofs.sums.join.Goals as goal
 use Rattle.surd_terms.proofs.sums.join.Goals.{After-coefficient, After-whole, After-multiple, In_ok-left, In_ok-right, In_ok-add}
+use Rattle.surd_terms.proofs.sums.join.Goals as goal
 
 pub returns-in_err-coefficient-clause-apart : goal.returns-in_err-coefficient-clause-apart
 returns-in_err-coefficient-clause-apart c = λ h. absurd (cc (alike_itself c.args.a.radicand c.args.b.radicand c.args.a.positive (sym c.radicand.ensures.value ∙ c.if-radicand.true ∙ c.radicand-2.ensures.value)))

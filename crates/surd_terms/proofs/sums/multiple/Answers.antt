@@ -1,6 +1,5 @@
 use Rattle.std.proofs.Common.{sym, ap, ◌∙◌, to_z, of_z}
-use Rattle.std.specs.Int.{w128}
-use Rattle.rational128.proofs.Signed.{told}
+use Rattle.surd_terms.proofs.Shared.{w128, told}
 use Rattle.surd_terms.proofs.Rationals.{value_not_zero, value_zero}
 use Rattle.surd_terms.proofs.sums.multiple.Goals as goal
 

@@ -1,8 +1,6 @@
 use Rattle.std.proofs.Common.{◌*◌, pos, ap, ◌∙◌, to_z, of_z}
 use Rattle.std.specs.Prelude.{nat_abs}
-use Rattle.std.specs.Int.{w128}
-use Rattle.calc_terms.specs.Fractions.{times}
-use Rattle.rational128.proofs.Signed.{told}
+use Rattle.surd_terms.proofs.Shared.{w128, times, told}
 use Rattle.surd_terms.proofs.Rationals.{whole_times, whole_num_of}
 use Rattle.surd_terms.proofs.whole.whole_product.Goals as goal
 

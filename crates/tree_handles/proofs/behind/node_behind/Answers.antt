@@ -1,10 +1,5 @@
 use Rattle.std.proofs.Common.{◌≡◌, ℕ, ◌+◌, ap, ◌∙◌, drop, subst, arith}
-use Rattle.calc_terms.specs.Node.{Node}
-use Rattle.calc_terms.specs.declared.leaf.Header.{Header}
-use Rattle.node_pool.specs.Nodes.{first_of}
-use Rattle.tree_handles.specs.Forest.{flatten}
-use Rattle.tree_handles.specs.Inside.{tree_at}
-use Rattle.tree_handles.specs.Standing.{forest}
+use Rattle.tree_handles.proofs.Shared.{Node, Header, first_of, flatten, tree_at, forest}
 use Rattle.tree_handles.proofs.Orders.{IsBehind, found, walked, walk_more}
 use Rattle.tree_handles.proofs.behind.node_behind.Goals as goal
 

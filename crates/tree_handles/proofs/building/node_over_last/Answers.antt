@@ -1,9 +1,6 @@
 use Rattle.std.specs.Prelude.{◌-◌, ℕ}
 use Rattle.std.proofs.Common.{ap, ◌∙◌, inl}
-use Rattle.calc_terms.specs.Payload.{bare}
-use Rattle.node_pool.specs.Nodes.{has, with_children}
-use Rattle.node_pool.specs.State.{State}
-use Rattle.tree_handles.specs.Standing.{forest}
+use Rattle.tree_handles.proofs.Shared.{bare, has, with_children, State, forest}
 use Rattle.tree_handles.proofs.Gathering.{IsGathered, gathered_in, longer, IsOver, over}
 use Rattle.tree_handles.proofs.building.node_over_last.Goals as goal
 

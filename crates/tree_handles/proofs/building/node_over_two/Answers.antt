@@ -1,6 +1,5 @@
 use Rattle.std.proofs.Common.{refl}
-use Rattle.calc_terms.specs.Payload.{bare}
-use Rattle.tree_handles.specs.Standing.{forest}
+use Rattle.tree_handles.proofs.Shared.{bare, forest}
 use Rattle.tree_handles.proofs.Fronts.{behind_first, behind_later, front_same, front_end, front_without}
 use Rattle.tree_handles.proofs.Given.{represents_none, represents_handed, represents_with, represents_node, gives, handed_beside}
 use Rattle.tree_handles.proofs.Lasts.{last_held, last_apart, other_root}

@@ -1,10 +1,5 @@
 use Rattle.std.proofs.Common.{List, [], ap, ◌∙◌, refl}
-use Rattle.calc_terms.specs.declared.leaf.Header.{Header}
-use Rattle.calc_terms.specs.Leaf.{payload_of}
-use Rattle.calc_terms.specs.Node.{Node, fresh}
-use Rattle.node_pool.specs.State.{State}
-use Rattle.node_pool.specs.Nodes.{has, first_of, with_children}
-use Rattle.node_pool.specs.Places.{since}
+use Rattle.tree_handles.proofs.Shared.{Header, payload_of, Node, fresh, State, has, first_of, with_children, since}
 use Rattle.tree_handles.proofs.Parts.{has_mid}
 use Rattle.tree_handles.proofs.Copies.{copied_node}
 use Rattle.tree_handles.proofs.copy.copy_node.Goals as goal

@@ -1,6 +1,5 @@
 use Rattle.std.proofs.Common.{◌≡◌, ℕ, ap, sym, ◌∙◌, true, false, Bool}
-use Rattle.calc_terms.specs.declared.leaf.Header.{Header}
-use Rattle.node_pool.specs.State.{free_of}
+use Rattle.tree_handles.proofs.Shared.{Header, free_of}
 use Rattle.tree_handles.proofs.Copying.{tree_here, copy_done, copy_given, fits_iff}
 use Rattle.tree_handles.proofs.Forests.{is_refused, not_within, stands_refused}
 use Rattle.tree_handles.proofs.Parts.{live_node}

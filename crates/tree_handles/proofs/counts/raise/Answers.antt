@@ -1,8 +1,5 @@
 use Rattle.std.proofs.Common.{◌≡◌, ◌+◌, refl, ap, ◌∙◌, arith}
-use Rattle.node_pool.specs.State.{State}
-use Rattle.node_pool.specs.Nodes.{with_count}
-use Rattle.tree_handles.specs.Inside.{with_count_in, count_of}
-use Rattle.tree_handles.specs.Standing.{Stands, forest}
+use Rattle.tree_handles.proofs.Shared.{State, with_count, with_count_in, count_of, Stands, forest}
 use Rattle.tree_handles.proofs.Forests.{stands, keeps}
 use Rattle.tree_handles.proofs.Counted.{counted-with_count_in}
 use Rattle.tree_handles.proofs.Parts.{live_node, recounted}

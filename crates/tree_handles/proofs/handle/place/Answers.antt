@@ -1,11 +1,5 @@
 use Rattle.std.proofs.Common.{◌≡◌, false, refl, sym, ap, ◌∙◌, arith}
-use Rattle.calc_terms.specs.Leaf.{payload_of}
-use Rattle.node_pool.specs.State.{State}
-use Rattle.node_pool.specs.Nodes.{has}
-use Rattle.tree_handles.specs.Forest.{empty, join, one_tree}
-use Rattle.tree_handles.specs.Handed.{Ends}
-use Rattle.tree_handles.specs.Inside.{holds}
-use Rattle.tree_handles.specs.Standing.{Stands, forest, IsCounted}
+use Rattle.tree_handles.proofs.Shared.{payload_of, State, has, empty, join, one_tree, Ends, holds, Stands, forest, IsCounted}
 use Rattle.tree_handles.proofs.Forests.{placed, stands, has-flatten, all-join, keeps, is_refused, not_within, stands_refused}
 use Rattle.tree_handles.proofs.Fronts.{front_same, front_end, front_at}
 use Rattle.tree_handles.proofs.Roots.{no_root}

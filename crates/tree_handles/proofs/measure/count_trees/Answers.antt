@@ -1,7 +1,5 @@
 use Rattle.std.proofs.Common.{List, ap, arith}
-use Rattle.calc_terms.specs.Node.{Node}
-use Rattle.node_pool.proofs.Walk.{starts, since-zero}
-use Rattle.tree_handles.specs.Forest.{arity, forest_of}
+use Rattle.tree_handles.proofs.Shared.{Node, starts, since-zero, arity, forest_of}
 use Rattle.tree_handles.proofs.Counting.{one_fewer, none_left, few_trees}
 use Rattle.tree_handles.proofs.measure.count_trees.Goals as goal
 

@@ -1,7 +1,5 @@
 use Rattle.std.proofs.Common.{◌≡◌, ◌+◌}
-use Rattle.node_pool.specs.Places.{since, IsBoundary}
-use Rattle.tree_handles.specs.Forest.{arity, forest_of}
-use Rattle.tree_handles.specs.Standing.{forest}
+use Rattle.tree_handles.proofs.Shared.{since, IsBoundary, arity, forest_of, forest}
 use Rattle.tree_handles.proofs.measure.count_trees.Given as goal
 
 abbrev pub invariant-loop-at : goal.invariant-loop-at

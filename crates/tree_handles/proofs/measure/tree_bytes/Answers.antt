@@ -1,6 +1,5 @@
 use Rattle.std.proofs.Common.{sym, ◌∙◌}
-use Rattle.tree_handles.specs.Inside.{tree_at}
-use Rattle.tree_handles.specs.Standing.{forest}
+use Rattle.tree_handles.proofs.Shared.{tree_at, forest}
 use Rattle.tree_handles.proofs.Copying.{tree_here}
 use Rattle.tree_handles.proofs.Parts.{live_node}
 use Rattle.tree_handles.proofs.Plains.{size-plain}

@@ -1,9 +1,5 @@
 use Rattle.std.proofs.Common.{◌≡◌, ◌-◌, ◌<◌, length, get_or, max, sym, ◌∙◌, arith, refl}
-use Rattle.std.proofs.lemmas.List.{length-set}
-use Rattle.std.proofs.Math.ListN.{set}
-use Rattle.tree_handles.specs.Forest.{depth_in}
-use Rattle.tree_handles.specs.Inside.{tree_at}
-use Rattle.tree_handles.specs.Standing.{forest}
+use Rattle.tree_handles.proofs.Shared.{length-set, set, depth_in, tree_at, forest}
 use Rattle.tree_handles.proofs.Depths.{walked_start, walked_close, walked_some, walked_deeper, walked_done}
 use Rattle.tree_handles.proofs.Measures.{few_in, one_at}
 use Rattle.tree_handles.proofs.Plains.{depth-plain}

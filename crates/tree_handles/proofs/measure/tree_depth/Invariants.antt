@@ -1,7 +1,5 @@
 use Rattle.std.proofs.Common.{◌≡◌, ◌+◌, ◌*◌, length}
-use Rattle.tree_handles.specs.Forest.{nodes_in, depth_in}
-use Rattle.tree_handles.specs.Inside.{tree_at}
-use Rattle.tree_handles.specs.Standing.{forest}
+use Rattle.tree_handles.proofs.Shared.{nodes_in, depth_in, tree_at, forest}
 use Rattle.tree_handles.proofs.Depths.{IsWalked}
 use Rattle.tree_handles.proofs.measure.tree_depth.Given as goal
 

@@ -1,12 +1,10 @@
 use Rattle.std.proofs.Common.{◌≡◌, ◌∙◌, length, sym, ap, arith, inl}
-use Rattle.tree_handles.specs.Forest.{nodes_in}
-use Rattle.tree_handles.specs.Inside.{tree_at}
-use Rattle.tree_handles.specs.Standing.{forest}
+use Rattle.tree_handles.proofs.Shared.{nodes_in, tree_at, forest}
 use Rattle.tree_handles.proofs.Measures.{few_in, one_at}
 use Rattle.tree_handles.proofs.Plains.{nodes-plain}
 use Rattle.tree_handles.proofs.Visiting.{drained, visits_length}
-use Rattle.tree_handles.proofs.measure.tree_nodes.Goals as goal
 use Rattle.tree_handles.proofs.measure.tree_nodes.Goals.{After-count}
+use Rattle.tree_handles.proofs.measure.tree_nodes.Goals as goal
 
 pub count-requires-clause-fits : goal.count-requires-clause-fits
 count-requires-clause-fits c = inl (omega (arith, ap length c.nodes_of.ensures, visits_length (tree_at c.args.id (forest c.args.pool.now)), few_in c.args.id c.args.pool.now c.requires.stands))

@@ -1,12 +1,5 @@
 use Rattle.std.proofs.Common.{◌≡◌, refl, ℕ, ◌-◌, ◌+◌, ◌≤◌, ◌⊎◌, ap, ◌∙◌, arith, inl, inr}
-use Rattle.node_pool.specs.State.{State}
-use Rattle.node_pool.specs.Nodes.{place_of, with_children}
-use Rattle.node_pool.specs.Places.{moved}
-use Rattle.tree_handles.specs.Forest.{arity, with_nth}
-use Rattle.tree_handles.specs.Inside.{kids_of, with_kids}
-use Rattle.tree_handles.specs.Roots.{root_tree, without_root}
-use Rattle.tree_handles.specs.Standing.{forest, Stands}
-use Rattle.tree_handles.specs.Walks.{IsChildPlace}
+use Rattle.tree_handles.proofs.Shared.{State, place_of, with_children, moved, arity, with_nth, kids_of, with_kids, root_tree, without_root, forest, Stands, IsChildPlace}
 use Rattle.tree_handles.proofs.Adding.{added_place, counted_added, root_live}
 use Rattle.tree_handles.proofs.Releases.{few_nodes}
 use Rattle.tree_handles.proofs.Forests.{stands, keeps, keeps_after}

@@ -1,7 +1,7 @@
+use Rattle.tree_handles.proofs.Shared.{forest}
 use Rattle.tree_handles.proofs.AtRoots.{added_root}
 use Rattle.tree_handles.proofs.ChildPlaces.{placed, known_place}
 use Rattle.tree_handles.proofs.Distinct.{held_parent}
-use Rattle.tree_handles.specs.Standing.{forest}
 use Rattle.tree_handles.proofs.moving.add_before.Goals as goal
 
 pub locate-to-requires : goal.locate-to-requires

@@ -1,13 +1,9 @@
 use Rattle.std.proofs.Common.{◌≡◌}
-use Rattle.tree_handles.specs.Forest.{with_nth}
-use Rattle.tree_handles.specs.Inside.{kids_of, with_kids}
-use Rattle.tree_handles.specs.Roots.{root_tree, without_root}
-use Rattle.tree_handles.specs.Standing.{forest}
-use Rattle.tree_handles.specs.Walks.{IsChildPlace}
+use Rattle.tree_handles.proofs.Shared.{with_nth, kids_of, with_kids, root_tree, without_root, forest, IsChildPlace}
 use Rattle.tree_handles.proofs.Parts.{live_node}
 use Rattle.tree_handles.proofs.AtRoots.{added_root, added_last, added_next, added_more}
-use Rattle.tree_handles.proofs.moving.add_child.Goals as goal
 use Rattle.tree_handles.proofs.moving.add_child.Goals.{After-add_at-arg-1, After-add_at}
+use Rattle.tree_handles.proofs.moving.add_child.Goals as goal
 
 pub child_place-to-requires : goal.child_place-to-requires
 child_place-to-requires c = record { live = rw c.id.ensures (live_node c.args.parent.now c.args.pool.now c.requires.stands c.requires.live) }

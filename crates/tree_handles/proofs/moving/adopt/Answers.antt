@@ -1,10 +1,5 @@
 use Rattle.std.proofs.Common.{◌≡◌, ℕ, ◌+◌, ap, ◌∙◌}
-use Rattle.node_pool.specs.Nodes.{with_children}
-use Rattle.node_pool.specs.State.{State}
-use Rattle.tree_handles.specs.Forest.{arity}
-use Rattle.tree_handles.specs.Inside.{kids_of}
-use Rattle.tree_handles.specs.Roots.{adopted}
-use Rattle.tree_handles.specs.Standing.{forest, Stands}
+use Rattle.tree_handles.proofs.Shared.{with_children, State, arity, kids_of, adopted, forest, Stands}
 use Rattle.tree_handles.proofs.Adding.{root_live}
 use Rattle.tree_handles.proofs.Adopting.{are_adopted, counted_adopted}
 use Rattle.tree_handles.proofs.Forests.{stands}

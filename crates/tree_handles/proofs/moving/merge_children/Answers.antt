@@ -1,11 +1,5 @@
 use Rattle.std.proofs.Common.{◌≡◌, refl, ℕ, ◌+◌, ◌-◌, ap, ◌∙◌, arith}
-use Rattle.calc_terms.specs.declared.leaf.Header.{Header}
-use Rattle.node_pool.specs.State.{State}
-use Rattle.node_pool.specs.Nodes.{with_children}
-use Rattle.node_pool.specs.Places.{without}
-use Rattle.tree_handles.specs.Forest.{arity, kids, tree_nth, merged_nth}
-use Rattle.tree_handles.specs.Inside.{kids_of, with_kids}
-use Rattle.tree_handles.specs.Standing.{forest, Stands}
+use Rattle.tree_handles.proofs.Shared.{Header, State, with_children, without, arity, kids, tree_nth, merged_nth, kids_of, with_kids, forest, Stands}
 use Rattle.tree_handles.proofs.Distinct.{held_parent}
 use Rattle.tree_handles.proofs.Forests.{stands}
 use Rattle.tree_handles.proofs.Parts.{live_node}

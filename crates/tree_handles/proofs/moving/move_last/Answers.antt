@@ -1,10 +1,5 @@
 use Rattle.std.proofs.Common.{◌≡◌, ℕ, ◌-◌, ap, ◌∙◌, arith, inr}
-use Rattle.node_pool.specs.State.{State}
-use Rattle.node_pool.specs.Nodes.{place_of}
-use Rattle.node_pool.specs.Places.{moved}
-use Rattle.tree_handles.specs.Forest.{join}
-use Rattle.tree_handles.specs.Roots.{root_tree, without_root}
-use Rattle.tree_handles.specs.Standing.{forest, Stands}
+use Rattle.tree_handles.proofs.Shared.{State, place_of, moved, join, root_tree, without_root, forest, Stands}
 use Rattle.tree_handles.proofs.Adding.{root_live}
 use Rattle.tree_handles.proofs.Forests.{stands}
 use Rattle.tree_handles.proofs.Swapping.{block, counted_last}

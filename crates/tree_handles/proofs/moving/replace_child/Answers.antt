@@ -1,5 +1,5 @@
 use Rattle.std.proofs.Common.{◌∙◌}
-use Rattle.tree_handles.specs.Standing.{forest}
+use Rattle.tree_handles.proofs.Shared.{forest}
 use Rattle.tree_handles.proofs.Replacing.{replaced}
 use Rattle.tree_handles.proofs.AtRoots.{exchanged_root}
 use Rattle.tree_handles.proofs.moving.replace_child.Goals as goal

@@ -1,12 +1,5 @@
 use Rattle.std.proofs.Common.{◌≡◌, ℕ, ap, ◌∙◌}
-use Rattle.node_pool.specs.Nodes.{place_of}
-use Rattle.node_pool.specs.Places.{exchanged}
-use Rattle.node_pool.specs.State.{State}
-use Rattle.tree_handles.specs.Children.{IsChildAt}
-use Rattle.tree_handles.specs.Forest.{Forest, join, set_nth, tree_nth}
-use Rattle.tree_handles.specs.Handed.{Ends}
-use Rattle.tree_handles.specs.Inside.{kids_of, with_kids}
-use Rattle.tree_handles.specs.Standing.{forest, Stands}
+use Rattle.tree_handles.proofs.Shared.{place_of, exchanged, State, IsChildAt, Forest, join, set_nth, tree_nth, Ends, kids_of, with_kids, forest, Stands}
 use Rattle.tree_handles.proofs.Adding.{root_live}
 use Rattle.tree_handles.proofs.Exchanging.{known_live, exchange, counted_exchanged, exchanged_last}
 use Rattle.tree_handles.proofs.Forests.{stands}

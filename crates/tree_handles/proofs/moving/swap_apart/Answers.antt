@@ -1,15 +1,10 @@
 use Rattle.std.proofs.Common.{◌≡◌, ◌<◌, ℕ, ap, ◌∙◌}
-use Rattle.node_pool.specs.Places.{exchanged}
-use Rattle.node_pool.specs.State.{State}
-use Rattle.tree_handles.specs.Children.{AreSiblings}
-use Rattle.tree_handles.specs.Forest.{swapped_nth}
-use Rattle.tree_handles.specs.Inside.{kids_of, with_kids}
-use Rattle.tree_handles.specs.Standing.{forest, Stands}
+use Rattle.tree_handles.proofs.Shared.{exchanged, State, AreSiblings, swapped_nth, kids_of, with_kids, forest, Stands}
 use Rattle.tree_handles.proofs.ChildPlaces.{placed, swap}
 use Rattle.tree_handles.proofs.Forests.{stands}
 use Rattle.tree_handles.proofs.Swapping.{counted_swapped}
-use Rattle.tree_handles.proofs.moving.swap_apart.Goals as goal
 use Rattle.tree_handles.proofs.moving.swap_apart.Goals.{After-swap_blocks}
+use Rattle.tree_handles.proofs.moving.swap_apart.Goals as goal
 
 pub locate-start-requires : goal.locate-start-requires
 locate-start-requires c = let s = c.requires.siblings in (placed s.1 s.0 c.args.first c.args.pool.now c.requires.stands s.4.first).live

@@ -1,8 +1,5 @@
 use Rattle.std.proofs.Common.{◌≡◌, ◌<◌, ap, ◌∙◌, ℕ}
-use Rattle.tree_handles.specs.Children.{AreSiblings}
-use Rattle.tree_handles.specs.Forest.{Forest, arity, root_id, tree_nth}
-use Rattle.tree_handles.specs.Inside.{kids_of}
-use Rattle.tree_handles.specs.Standing.{forest}
+use Rattle.tree_handles.proofs.Shared.{AreSiblings, Forest, arity, root_id, tree_nth, kids_of, forest}
 use Rattle.tree_handles.proofs.moving.swap_children.Goals as goal
 
 pub child_id-first-requires-clause-within : goal.child_id-first-requires-clause-within

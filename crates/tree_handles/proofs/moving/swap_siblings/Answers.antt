@@ -1,14 +1,11 @@
 use Rattle.std.proofs.Common.{◌≡◌, ℕ, sym, ap, ◌∙◌, arith}
-use Rattle.tree_handles.specs.Children.{AreSiblings}
-use Rattle.tree_handles.specs.Forest.{Forest, swapped_nth}
-use Rattle.tree_handles.specs.Inside.{kids_of, with_kids}
-use Rattle.tree_handles.specs.Standing.{forest}
+use Rattle.tree_handles.proofs.Shared.{AreSiblings, Forest, swapped_nth, kids_of, with_kids, forest}
 use Rattle.tree_handles.proofs.AtRoots.{changed_root}
 use Rattle.tree_handles.proofs.Joins.{with_kids-same}
 use Rattle.tree_handles.proofs.Nths.{pair, swapped_nth-same}
 use Rattle.tree_handles.proofs.ChildPlaces.{placed, ordered, turned}
-use Rattle.tree_handles.proofs.moving.swap_siblings.Goals as goal
 use Rattle.tree_handles.proofs.moving.swap_siblings.Goals.{After-swap_apart, After-swap_apart-then-right-left, Else-right-left}
+use Rattle.tree_handles.proofs.moving.swap_siblings.Goals as goal
 
 pub locate-left-requires : goal.locate-left-requires
 locate-left-requires c = let s = c.requires.siblings in (placed s.1 s.0 c.args.first c.args.pool.now c.requires.stands s.3.first).live

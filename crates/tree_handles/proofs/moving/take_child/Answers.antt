@@ -1,10 +1,7 @@
 use Rattle.std.proofs.Common.{ℕ, ap, ◌∙◌}
-use Rattle.tree_handles.specs.Children.{IsChildAt}
-use Rattle.tree_handles.specs.Forest.{root_id, tree_nth}
-use Rattle.tree_handles.specs.Inside.{kids_of}
-use Rattle.tree_handles.specs.Standing.{forest}
-use Rattle.tree_handles.proofs.moving.take_child.Goals as goal
+use Rattle.tree_handles.proofs.Shared.{IsChildAt, root_id, tree_nth, kids_of, forest}
 use Rattle.tree_handles.proofs.moving.take_child.Goals.{After-take_known_child-arg-1}
+use Rattle.tree_handles.proofs.moving.take_child.Goals as goal
 
 pub child_id-child-requires-clause-within : goal.child_id-child-requires-clause-within
 child_id-child-requires-clause-within c = rw c.id.ensures c.requires.within

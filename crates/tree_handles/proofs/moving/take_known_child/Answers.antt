@@ -1,12 +1,5 @@
 use Rattle.std.proofs.Common.{◌≡◌, refl, ℕ, ◌-◌, ap, ◌∙◌, arith, inr}
-use Rattle.node_pool.specs.State.{State}
-use Rattle.node_pool.specs.Nodes.{used, with_children}
-use Rattle.node_pool.specs.Places.{moved}
-use Rattle.node_pool.proofs.Cuts.{boundary_le}
-use Rattle.tree_handles.specs.Children.{IsChildAt}
-use Rattle.tree_handles.specs.Forest.{arity, tree_nth, join, without_nth}
-use Rattle.tree_handles.specs.Inside.{kids_of, with_kids}
-use Rattle.tree_handles.specs.Standing.{forest, Stands}
+use Rattle.tree_handles.proofs.Shared.{State, used, with_children, moved, boundary_le, IsChildAt, arity, tree_nth, join, without_nth, kids_of, with_kids, forest, Stands}
 use Rattle.tree_handles.proofs.ChildPlaces.{placed, known_taken}
 use Rattle.tree_handles.proofs.Distinct.{held_parent}
 use Rattle.tree_handles.proofs.Forests.{stands, keeps, keeps_after}

@@ -1,9 +1,5 @@
 use Rattle.std.proofs.Common.{◌≡◌, ℕ, true, ap, sym, ◌∙◌, subst}
-use Rattle.calc_terms.specs.declared.leaf.Header.{Header}
-use Rattle.tree_handles.specs.Expressions.{plain, AllExpressions}
-use Rattle.tree_handles.specs.Forest.{root_id, tree_nth}
-use Rattle.tree_handles.specs.Inside.{holds, kids_of, tree_at}
-use Rattle.tree_handles.specs.Standing.{forest}
+use Rattle.tree_handles.proofs.Shared.{Header, plain, AllExpressions, root_id, tree_nth, holds, kids_of, tree_at, forest}
 use Rattle.tree_handles.proofs.Distinct.{held_parent, distinct, child_tree}
 use Rattle.tree_handles.proofs.Parts.{live_node, child_seen, root_nth}
 use Rattle.tree_handles.proofs.Readings.{expression_child, whole_child}

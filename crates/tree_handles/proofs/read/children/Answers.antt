@@ -1,6 +1,6 @@
 use Rattle.std.proofs.Common.{sym, ◌∙◌}
+use Rattle.tree_handles.proofs.Shared.{forest}
 use Rattle.tree_handles.proofs.Readings.{expression_children}
-use Rattle.tree_handles.specs.Standing.{forest}
 use Rattle.tree_handles.proofs.read.children.Goals as goal
 
 pub returns-clause-plain : goal.returns-clause-plain

@@ -1,8 +1,5 @@
 use Rattle.std.proofs.Common.{◌≡◌, sym, ap, ◌∙◌}
-use Rattle.calc_terms.specs.Leaf.{name_of}
-use Rattle.calc_terms.specs.Payload.{kind_of_payload, named}
-use Rattle.tree_handles.specs.Inside.{tree_at, payload_in}
-use Rattle.tree_handles.specs.Standing.{forest}
+use Rattle.tree_handles.proofs.Shared.{name_of, kind_of_payload, named, tree_at, payload_in, forest}
 use Rattle.tree_handles.proofs.Parts.{live_node}
 use Rattle.tree_handles.proofs.Plains.{holds_symbol}
 use Rattle.tree_handles.proofs.Readings.{payload_seen, plain_symbol}

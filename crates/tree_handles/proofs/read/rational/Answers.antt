@@ -1,8 +1,5 @@
 use Rattle.std.proofs.Common.{◌≡◌, sym, ap, ◌∙◌}
-use Rattle.calc_terms.specs.Payload.{kind_of_payload, rational}
-use Rattle.calc_terms.specs.Rat.{ratio_of}
-use Rattle.tree_handles.specs.Inside.{tree_at, payload_in}
-use Rattle.tree_handles.specs.Standing.{forest}
+use Rattle.tree_handles.proofs.Shared.{kind_of_payload, rational, ratio_of, tree_at, payload_in, forest}
 use Rattle.tree_handles.proofs.Parts.{live_node}
 use Rattle.tree_handles.proofs.Plains.{holds_number}
 use Rattle.tree_handles.proofs.Readings.{payload_seen, plain_number}

@@ -1,9 +1,5 @@
 use Rattle.std.proofs.Common.{◌≡◌, ◌+◌, ◌-◌, ◌∙◌, ap, sym, subst, arith}
-use Rattle.node_pool.specs.Places.{IsBoundary, without}
-use Rattle.node_pool.specs.State.{State}
-use Rattle.tree_handles.specs.Forest.{Forest, bytes_in}
-use Rattle.tree_handles.specs.Handed.{Starts}
-use Rattle.tree_handles.specs.Standing.{Stands, forest}
+use Rattle.tree_handles.proofs.Shared.{IsBoundary, without, State, Forest, bytes_in, Starts, Stands, forest}
 use Rattle.tree_handles.proofs.Dropping.{stands_first, dropped}
 use Rattle.tree_handles.proofs.releasing.drop_behind.Goals as goal
 

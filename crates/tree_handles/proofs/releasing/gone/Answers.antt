@@ -1,8 +1,5 @@
 use Rattle.std.proofs.Common.{◌≤◌, ◌-◌, ◌+◌, ℕ, ap, subst, ◌∙◌, arith}
-use Rattle.calc_terms.specs.declared.leaf.Header.{Header}
-use Rattle.node_pool.specs.Nodes.{first_of}
-use Rattle.node_pool.specs.Places.{IsBoundary, since}
-use Rattle.tree_handles.specs.Walks.{released_at}
+use Rattle.tree_handles.proofs.Shared.{Header, first_of, IsBoundary, since, released_at}
 use Rattle.tree_handles.proofs.Releases.{owed_boundary, owed_inside, owed_few, few_nodes, length-without, run_start, run_inside, run_more}
 use Rattle.tree_handles.proofs.releasing.gone.Goals as goal
 

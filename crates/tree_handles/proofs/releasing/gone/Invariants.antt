@@ -1,5 +1,5 @@
 use Rattle.std.proofs.Common.{◌-◌}
-use Rattle.node_pool.specs.Nodes.{used}
+use Rattle.tree_handles.proofs.Shared.{used}
 use Rattle.tree_handles.proofs.Releases.{IsRun}
 use Rattle.tree_handles.proofs.releasing.gone.Given as goal
 

@@ -1,8 +1,5 @@
 use Rattle.std.proofs.Common.{◌≡◌, ℕ, ap, ◌∙◌}
-use Rattle.node_pool.specs.State.{State}
-use Rattle.node_pool.specs.Nodes.{place_of}
-use Rattle.tree_handles.specs.Inside.{released_in}
-use Rattle.tree_handles.specs.Standing.{forest, Stands}
+use Rattle.tree_handles.proofs.Shared.{State, place_of, released_in, forest, Stands}
 use Rattle.tree_handles.proofs.Counted.{counted-released_in}
 use Rattle.tree_handles.proofs.Distinct.{distinct}
 use Rattle.tree_handles.proofs.Forests.{stands, keeps}

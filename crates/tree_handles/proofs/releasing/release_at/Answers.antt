@@ -1,9 +1,5 @@
 use Rattle.std.proofs.Common.{◌≡◌, ℕ, ◌-◌, ◌+◌, ◌<◌, ◌≤◌, ap, subst, ◌∙◌, arith, refl}
-use Rattle.calc_terms.specs.declared.leaf.Header.{Header}
-use Rattle.node_pool.specs.State.{State}
-use Rattle.node_pool.specs.Nodes.{first_of, with_count}
-use Rattle.node_pool.specs.Places.{since, without}
-use Rattle.tree_handles.specs.Walks.{IsNearer, released_at}
+use Rattle.tree_handles.proofs.Shared.{Header, State, first_of, with_count, since, without, IsNearer, released_at}
 use Rattle.tree_handles.proofs.Releases.{owed_start, owed_boundary, owed_inside, owed_live, owed_now, nearer_end, held, held_boundary, kept_others}
 use Rattle.tree_handles.proofs.releasing.release_at.Goals as goal
 

@@ -1,7 +1,7 @@
 use Rattle.tree_handles.proofs.Parts.{live_node}
 use Rattle.tree_handles.proofs.ChildPlaces.{AreListed, listed}
-use Rattle.tree_handles.proofs.siblings.child_ids.Goals as goal
 use Rattle.tree_handles.proofs.siblings.child_ids.Goals.{After-children}
+use Rattle.tree_handles.proofs.siblings.child_ids.Goals as goal
 
 pub child_place-requires : goal.child_place-requires
 child_place-requires c = record { live = live_node c.args.parent c.args.pool.now c.requires.stands c.requires.live }

@@ -1,5 +1,5 @@
 use Rattle.std.proofs.Common.{arith}
-use Rattle.tree_handles.specs.Standing.{forest}
+use Rattle.tree_handles.proofs.Shared.{forest}
 use Rattle.tree_handles.proofs.Orders.{root_at}
 use Rattle.tree_handles.proofs.tests.are_behind_root.Goals as goal
 

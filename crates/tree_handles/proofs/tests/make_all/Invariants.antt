@@ -1,4 +1,4 @@
-use Rattle.tree_handles.specs.Standing.{Stands}
+use Rattle.tree_handles.proofs.Shared.{Stands}
 use Rattle.tree_handles.proofs.tests.make_all.Given as goal
 
 abbrev pub invariant-loop-made : goal.invariant-loop-made

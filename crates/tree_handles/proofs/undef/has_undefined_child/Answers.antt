@@ -1,13 +1,7 @@
 use Rattle.std.proofs.Common.{ℕ, suc, ◌≡◌, [], ◌∷◌, ◌++◌, length, ap, ◌∙◌, sym, arith}
-use Rattle.std.proofs.lemmas.List.{length-append}
-use Rattle.calc_terms.specs.Trees.{is_undef, has_undef}
+use Rattle.tree_handles.proofs.Shared.{length-append, is_undef, has_undef, root_ids, children_of, plain, rest_trees, tree_at, kids_of, forest}
 use Rattle.tree_handles.proofs.UndefChildren.{behind, undef_here, undef_later, undef_end}
 use Rattle.tree_handles.proofs.NextChildren.{next_child, last_child}
-use Rattle.tree_handles.specs.Children.{root_ids}
-use Rattle.tree_handles.specs.Expressions.{children_of, plain}
-use Rattle.tree_handles.specs.Forest.{rest_trees}
-use Rattle.tree_handles.specs.Inside.{tree_at, kids_of}
-use Rattle.tree_handles.specs.Standing.{forest}
 use Rattle.tree_handles.proofs.undef.has_undefined_child.Goals as goal
 
 pub is_undefined-requires-clause-expression : goal.is_undefined-requires-clause-expression

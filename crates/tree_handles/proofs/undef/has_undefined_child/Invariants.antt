@@ -1,11 +1,6 @@
 use Rattle.std.proofs.Common.{◌≡◌, length}
-use Rattle.calc_terms.specs.Trees.{has_undef}
+use Rattle.tree_handles.proofs.Shared.{has_undef, root_ids, children_of, plain, rest_trees, tree_at, kids_of, forest}
 use Rattle.tree_handles.proofs.UndefChildren.{behind}
-use Rattle.tree_handles.specs.Children.{root_ids}
-use Rattle.tree_handles.specs.Expressions.{children_of, plain}
-use Rattle.tree_handles.specs.Forest.{rest_trees}
-use Rattle.tree_handles.specs.Inside.{tree_at, kids_of}
-use Rattle.tree_handles.specs.Standing.{forest}
 use Rattle.tree_handles.proofs.undef.has_undefined_child.Given as goal
 
 abbrev pub invariant-loop-child : goal.invariant-loop-child

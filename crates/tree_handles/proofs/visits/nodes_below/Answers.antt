@@ -1,11 +1,9 @@
 use Rattle.std.proofs.Common.{◌-◌, ◌∙◌, ℕ, ap, subst, sym}
-use Rattle.tree_handles.specs.Forest.{rest_trees}
-use Rattle.tree_handles.specs.Inside.{kids_of}
-use Rattle.tree_handles.specs.Standing.{forest}
+use Rattle.tree_handles.proofs.Shared.{rest_trees, kids_of, forest}
 use Rattle.tree_handles.proofs.Parts.{live_node}
 use Rattle.tree_handles.proofs.Visiting.{IsWalk, walk_below}
-use Rattle.tree_handles.proofs.visits.nodes_below.Goals as goal
 use Rattle.tree_handles.proofs.visits.nodes_below.Goals.{After-from}
+use Rattle.tree_handles.proofs.visits.nodes_below.Goals as goal
 
 pub child_place-requires : goal.child_place-requires
 child_place-requires c = record { live = live_node c.args.parent c.args.pool.now c.requires.stands c.requires.live }

@@ -1,7 +1,5 @@
 use Rattle.std.proofs.Common.{◌∙◌, ap, sym, arith}
-use Rattle.node_pool.proofs.Cuts.{boundary_le}
-use Rattle.node_pool.specs.Places.{since}
-use Rattle.tree_handles.specs.Walks.{skip}
+use Rattle.tree_handles.proofs.Shared.{boundary_le, since, skip}
 use Rattle.tree_handles.proofs.Walks.{owed_end}
 use Rattle.tree_handles.proofs.walk.behind.Goals as goal
 

@@ -1,7 +1,5 @@
 use Rattle.std.proofs.Common.{◌≡◌, ◌-◌, ◌+◌, ◌*◌, ◌≤◌}
-use Rattle.node_pool.specs.Nodes.{used}
-use Rattle.node_pool.specs.Places.{since, IsBoundary}
-use Rattle.tree_handles.specs.Walks.{skip}
+use Rattle.tree_handles.proofs.Shared.{used, since, IsBoundary, skip}
 use Rattle.tree_handles.proofs.walk.behind.Given as goal
 
 abbrev pub invariant-loop-owed : goal.invariant-loop-owed

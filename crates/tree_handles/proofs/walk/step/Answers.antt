@@ -1,8 +1,5 @@
 use Rattle.std.proofs.Common.{◌≡◌, ℕ, ◌+◌, ap}
-use Rattle.calc_terms.specs.Node.{size_of}
-use Rattle.node_pool.specs.Nodes.{first_of}
-use Rattle.node_pool.specs.Places.{since}
-use Rattle.node_pool.proofs.Cuts.{IsStep, step}
+use Rattle.tree_handles.proofs.Shared.{size_of, first_of, since, IsStep, step}
 use Rattle.tree_handles.proofs.Walks.{size_at}
 use Rattle.tree_handles.proofs.walk.step.Goals as goal
 

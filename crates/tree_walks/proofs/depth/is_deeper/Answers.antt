@@ -1,15 +1,5 @@
 use Rattle.std.proofs.Common.{◌≡◌, ◌<◌, ◌-◌, ◌∙◌, length, get_or, ap, arith, refl}
-use Rattle.std.proofs.Math.ListN.{set}
-use Rattle.std.proofs.lemmas.List.{length-set}
-use Rattle.calc_terms.specs.Trees.{depth}
-use Rattle.tree_handles.specs.Expressions.{plain}
-use Rattle.tree_handles.specs.Forest.{depth_in}
-use Rattle.tree_handles.specs.Inside.{tree_at}
-use Rattle.tree_handles.specs.Standing.{forest}
-use Rattle.tree_handles.proofs.Depths.{walked_start, walked_close, walked_some, walked_deeper, walked_done}
-use Rattle.tree_handles.proofs.Measures.{one_at}
-use Rattle.tree_handles.proofs.Plains.{depth-plain}
-use Rattle.tree_handles.proofs.Visiting.{some_next, next_is}
+use Rattle.tree_walks.proofs.Shared.{set, length-set, depth, plain, depth_in, tree_at, forest, walked_start, walked_close, walked_some, walked_deeper, walked_done, one_at, depth-plain, some_next, next_is}
 use Rattle.tree_walks.proofs.Levels.{shallow, too_deep}
 use Rattle.tree_walks.proofs.depth.is_deeper.Goals as goal
 

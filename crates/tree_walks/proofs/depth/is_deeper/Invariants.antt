@@ -1,7 +1,5 @@
 use Rattle.std.proofs.Common.{◌≡◌, ◌+◌, ◌*◌, length}
-use Rattle.tree_handles.specs.Forest.{depth_in, nodes_in}
-use Rattle.tree_handles.specs.Inside.{tree_at}
-use Rattle.tree_handles.specs.Standing.{forest}
+use Rattle.tree_walks.proofs.Shared.{depth_in, nodes_in, tree_at, forest}
 use Rattle.tree_walks.proofs.Levels.{IsShallow}
 use Rattle.tree_walks.proofs.depth.is_deeper.Given as goal
 

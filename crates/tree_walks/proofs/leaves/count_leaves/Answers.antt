@@ -1,8 +1,5 @@
 use Rattle.std.proofs.Common.{◌∙◌, sym, ap, arith, length}
-use Rattle.calc_terms.specs.Leaf.{name_of}
-use Rattle.tree_handles.specs.Inside.{tree_at}
-use Rattle.tree_handles.specs.Standing.{forest}
-use Rattle.tree_handles.proofs.Measures.{few_in}
+use Rattle.tree_walks.proofs.Shared.{name_of, tree_at, forest, few_in}
 use Rattle.tree_walks.proofs.LeafLists.{few_leaves}
 use Rattle.tree_walks.proofs.Searches.{looking, looked, looked_all}
 use Rattle.tree_walks.proofs.leaves.count_leaves.Goals as goal

@@ -1,12 +1,6 @@
 use Rattle.std.proofs.Common.{◌≡◌, ◌∙◌, ◌+◌, ◌-◌, ◌<◌, ◌≤◌, ℕ, zero, suc, List, [], ◌∷◌, ◌++◌, length, take, drop, sym, ap, arith, refl, append_assoc, true}
-use Rattle.std.proofs.Math.ListN.{set}
+use Rattle.tree_walks.proofs.Shared.{set, length-set, name_of, Visit, Forest, payload_in, has_name}
 use Rattle.std.proofs.lemmas.Grind.{take-set_at}
-use Rattle.std.proofs.lemmas.List.{length-set}
-use Rattle.calc_terms.specs.Leaf.{name_of}
-use Rattle.tree_handles.specs.declared.visits.Visit.{Visit}
-use Rattle.tree_handles.specs.Forest.{Forest}
-use Rattle.tree_handles.specs.Inside.{payload_in}
-use Rattle.tree_walks.specs.Walks.{has_name}
 use Rattle.tree_walks.proofs.Searches.{IsLooking, looking, looked, looked_all}
 use Rattle.tree_walks.proofs.leaves.find_leaves.Goals as goal
 

@@ -1,8 +1,6 @@
 use Rattle.std.proofs.Common.{◌∙◌, ℕ, List, sym, ap}
-use Rattle.std.specs.Str.{bytes_eq}
-use Rattle.calc_terms.specs.Leaf.{name_of}
+use Rattle.tree_walks.proofs.Shared.{bytes_eq, name_of, has_name}
 use Rattle.tree_handles.proofs.Readings.{symbol_seen}
-use Rattle.tree_walks.specs.Walks.{has_name}
 use Rattle.tree_walks.proofs.leaves.is_leaf_of.Goals as goal
 
 pub name-requires-clause-symbol : goal.name-requires-clause-symbol

@@ -1,8 +1,5 @@
 use Rattle.std.proofs.Common.{inl, ap, ◌∙◌}
-use Rattle.calc_terms.specs.Trees.{Tree, none, more}
-use Rattle.tree_handles.specs.Standing.{forest}
-use Rattle.tree_handles.proofs.Lasts.{last_rest}
-use Rattle.tree_handles.proofs.Plains.{alone}
+use Rattle.tree_walks.proofs.Shared.{Tree, none, more, forest, last_rest, alone}
 use Rattle.tree_walks.proofs.Filling.{last_leaf}
 use Rattle.tree_walks.proofs.replacing.put_copy.Goals as goal
 

@@ -1,12 +1,5 @@
 use Rattle.std.proofs.Common.{◌≡◌, ◌∙◌, ℕ, inl, sym, ap, refl, arith}
-use Rattle.tree_handles.proofs.Outcomes.{passed_on}
-use Rattle.calc_terms.specs.Leaf.{name_of}
-use Rattle.tree_handles.specs.Expressions.{plain}
-use Rattle.tree_handles.specs.Inside.{payload_in, tree_at}
-use Rattle.tree_handles.specs.Standing.{forest}
-use Rattle.tree_handles.proofs.Given.{owned}
-use Rattle.tree_handles.proofs.Lasts.{last_held}
-use Rattle.tree_walks.specs.Walks.{has_name}
+use Rattle.tree_walks.proofs.Shared.{passed_on, name_of, plain, payload_in, tree_at, forest, owned, last_held, has_name}
 use Rattle.tree_walks.proofs.Chunks.{found_all, headed, put, goes_on, all_passed, more_passed, all_gone, few_passed, fewer}
 use Rattle.tree_walks.proofs.Filling.{IsDone, source, source_in, begins, next, stopped, ended, leaf, leaf_stopped, leaf_goes, leaf_done}
 use Rattle.tree_walks.proofs.replacing.replace_name.Goals as goal

@@ -1,10 +1,5 @@
 use Rattle.std.proofs.Common.{◌+◌, ◌-◌, ◌*◌, length}
-use Rattle.calc_terms.specs.Leaf.{name_of}
-use Rattle.tree_handles.specs.Expressions.{plain}
-use Rattle.tree_handles.specs.Inside.{tree_at}
-use Rattle.tree_handles.specs.Standing.{forest}
-use Rattle.tree_walks.specs.Replacing.{occurrences}
-use Rattle.tree_walks.specs.Walks.{leaves_of}
+use Rattle.tree_walks.proofs.Shared.{name_of, plain, tree_at, forest, occurrences, leaves_of}
 use Rattle.tree_walks.proofs.Chunks.{IsReplacing}
 use Rattle.tree_walks.proofs.replacing.replace_name.Given as goal
 

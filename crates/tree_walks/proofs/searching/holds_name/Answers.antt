@@ -1,10 +1,5 @@
 use Rattle.std.proofs.Common.{◌∙◌, sym, ap, arith, refl, length}
-use Rattle.calc_terms.specs.Leaf.{name_of}
-use Rattle.calc_terms.specs.Trees.{names}
-use Rattle.tree_handles.specs.Expressions.{plain}
-use Rattle.tree_handles.specs.Inside.{tree_at}
-use Rattle.tree_handles.specs.Standing.{forest}
-use Rattle.tree_handles.proofs.Measures.{one_at}
+use Rattle.tree_walks.proofs.Shared.{name_of, names, plain, tree_at, forest, one_at}
 use Rattle.tree_walks.proofs.LeafLists.{leaves_plain}
 use Rattle.tree_walks.proofs.Searches.{looking, looked, looked_all, counted, uncounted}
 use Rattle.tree_walks.proofs.searching.holds_name.Goals as goal

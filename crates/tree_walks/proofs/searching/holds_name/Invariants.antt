@@ -1,7 +1,4 @@
-use Rattle.calc_terms.specs.Leaf.{name_of}
-use Rattle.tree_handles.specs.Inside.{tree_at}
-use Rattle.tree_handles.specs.Standing.{forest}
-use Rattle.tree_walks.specs.Walks.{leaves_of}
+use Rattle.tree_walks.proofs.Shared.{name_of, tree_at, forest, leaves_of}
 use Rattle.tree_walks.proofs.Searches.{IsLooking}
 use Rattle.tree_walks.proofs.searching.holds_name.Given as goal
 

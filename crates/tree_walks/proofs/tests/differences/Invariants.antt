@@ -1,6 +1,5 @@
 use Rattle.std.specs.Prelude.{⊤}
-use Rattle.tree_handles.specs.Handed.{Gives}
-use Rattle.tree_handles.specs.Standing.{Stands, forest}
+use Rattle.tree_walks.proofs.Shared.{Gives, Stands, forest}
 use Rattle.tree_walks.proofs.tests.differences.Given as goal
 
 abbrev pub invariant-loop-byte : goal.invariant-loop-byte

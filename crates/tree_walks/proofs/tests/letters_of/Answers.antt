@@ -1,9 +1,5 @@
 use Rattle.std.proofs.Common.{◌≡◌, ℕ, List, [], refl, true, false}
-use Rattle.tree_handles.specs.Forest.{Forest}
-use Rattle.tree_handles.specs.Inside.{payload_in}
-use Rattle.tree_handles.specs.declared.visits.Visit.{Visit}
-use Rattle.tree_handles.proofs.Outcomes.{by_test}
-use Rattle.tree_walks.specs.Walks.{has_name}
+use Rattle.tree_walks.proofs.Shared.{Forest, payload_in, Visit, by_test, has_name}
 use Rattle.tree_walks.proofs.Searches.{IsLooking, IsLooked, looking, looked}
 use Rattle.tree_walks.proofs.tests.letters_of.Goals as goal
 

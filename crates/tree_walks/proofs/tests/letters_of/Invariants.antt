@@ -1,5 +1,5 @@
 use Rattle.std.proofs.Common.{ℕ, List, []}
-use Rattle.tree_handles.specs.Standing.{forest}
+use Rattle.tree_walks.proofs.Shared.{forest}
 use Rattle.tree_walks.proofs.Searches.{IsLooking}
 use Rattle.tree_walks.proofs.tests.letters_of.Given as goal
 

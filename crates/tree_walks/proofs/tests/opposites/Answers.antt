@@ -1,5 +1,4 @@
-use Rattle.tree_handles.proofs.Given.{given_handed}
-use Rattle.tree_handles.proofs.Lasts.{expression_root}
+use Rattle.tree_walks.proofs.Shared.{given_handed, expression_root}
 use Rattle.tree_walks.proofs.tests.opposites.Goals as goal
 
 pub loop-init : goal.loop-init

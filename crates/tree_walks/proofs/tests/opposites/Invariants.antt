@@ -1,5 +1,4 @@
-use Rattle.tree_handles.specs.Handed.{IsHanded}
-use Rattle.tree_handles.specs.Standing.{Stands, forest}
+use Rattle.tree_walks.proofs.Shared.{IsHanded, Stands, forest}
 use Rattle.tree_walks.proofs.tests.opposites.Given as goal
 
 abbrev pub invariant-loop : goal.invariant-loop

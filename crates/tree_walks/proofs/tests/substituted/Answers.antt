@@ -1,7 +1,5 @@
 use Rattle.std.proofs.Common.{◌∙◌, sym, ap}
-use Rattle.tree_handles.specs.Inside.{holds}
-use Rattle.tree_handles.proofs.Given.{given_handed, given_other, given_rest, gives_as}
-use Rattle.tree_handles.proofs.Lasts.{expression_root}
+use Rattle.tree_walks.proofs.Shared.{holds, given_handed, given_other, given_rest, gives_as, expression_root}
 use Rattle.tree_handles.proofs.Roots.{root_held}
 use Rattle.tree_walks.proofs.tests.substituted.Goals as goal
 

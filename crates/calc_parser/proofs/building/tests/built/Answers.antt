@@ -1,5 +1,4 @@
-use Rattle.std.specs.Option.{option_map}
-use Rattle.calc_terms.specs.Leaf.{name_of}
+use Rattle.calc_parser.proofs.Shared.{option_map, name_of}
 use Rattle.calc_parser.proofs.building.tests.built.Goals as goal
 
 pub build-requires-clause-line : goal.build-requires-clause-line

@@ -1,6 +1,6 @@
 use Rattle.std.proofs.Common.{ap}
+use Rattle.calc_parser.proofs.Shared.{stands_open}
 use Rattle.node_pool.specs.State.{State}
-use Rattle.tree_handles.proofs.Tested.{stands_open}
 use Rattle.calc_parser.proofs.building.tests.opened.Goals as goal
 
 pub returns : goal.returns

@@ -1,6 +1,5 @@
 use Rattle.std.proofs.Common.{ap, ◌∙◌}
-use Rattle.calc_terms.specs.Leaf.{name_of}
-use Rattle.calc_tokens.specs.Tokens.{tokens_of}
+use Rattle.calc_parser.proofs.Shared.{name_of, tokens_of}
 use Rattle.calc_parser.proofs.NamesOfLines.{name_test}
 use Rattle.calc_parser.proofs.parser.Parser.holds_name.Goals as goal
 

@@ -1,7 +1,5 @@
 use Rattle.std.proofs.Common.{ap}
-use Rattle.calc_tokens.specs.Placed.{bare}
-use Rattle.calc_tokens.specs.Tokens.{tokens_of}
-use Rattle.calc_parser.specs.Reader.{steps_in}
+use Rattle.calc_parser.proofs.Shared.{bare, tokens_of, steps_in}
 use Rattle.calc_parser.proofs.LineSteps.{steps_of_nothing}
 use Rattle.calc_parser.proofs.parser.Parser.open.Goals as goal
 

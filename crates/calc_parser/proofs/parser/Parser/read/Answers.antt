@@ -1,12 +1,10 @@
 use Rattle.std.specs.Prelude.{Ok, Err}
 use Rattle.std.proofs.Common.{ap}
-use Rattle.calc_tokens.specs.Placed.{bare}
-use Rattle.calc_tokens.specs.Tokens.{tokens_of}
+use Rattle.calc_parser.proofs.Shared.{bare, tokens_of, steps_in}
 use Rattle.calc_tokens.proofs.Outcomes.{fault_found}
-use Rattle.calc_parser.specs.Reader.{steps_in}
-use Rattle.calc_parser.specs.declared.parser.LineFault.TheVariants as line_fault
 use Rattle.calc_parser.proofs.LineFaults.{faults_exact, line_accepted}
 use Rattle.calc_parser.proofs.LineSteps.{steps_of_nothing}
+use Rattle.calc_parser.specs.declared.parser.LineFault.TheVariants as line_fault
 use Rattle.calc_parser.proofs.parser.Parser.read.Goals as goal
 
 pub invariant_of-self : goal.invariant_of-self

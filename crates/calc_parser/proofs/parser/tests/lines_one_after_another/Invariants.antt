@@ -1,4 +1,4 @@
-use Rattle.tree_handles.specs.Standing.{Stands}
+use Rattle.calc_parser.proofs.Shared.{Stands}
 use Rattle.calc_parser.proofs.parser.tests.lines_one_after_another.Given as goal
 
 abbrev pub invariant-loop-line : goal.invariant-loop-line

@@ -1,7 +1,5 @@
 use Rattle.std.proofs.Common.{◌≡◌, ◌≤◌, length, List}
-use Rattle.calc_language.specs.Tokens.{Token}
-use Rattle.calc_parser.specs.Automaton.{complete}
-use Rattle.calc_parser.specs.Reader.{open_in, nodes_in, room_in}
+use Rattle.calc_parser.proofs.Shared.{Token, complete, open_in, nodes_in, room_in}
 use Rattle.calc_parser.proofs.reader.Reader.complete.Given as goal
 
 abbrev pub invariant-loop-node : goal.invariant-loop-node

@@ -1,6 +1,5 @@
 use Rattle.std.proofs.Common.{ap, ◌∙◌}
-use Rattle.calc_parser.specs.Automaton.{state, sum_nodes}
-use Rattle.calc_parser.specs.Reader.{open_in, nodes_in}
+use Rattle.calc_parser.proofs.Shared.{state, sum_nodes, open_in, nodes_in}
 use Rattle.calc_parser.proofs.reader.Reader.end_sum.Goals as goal
 
 pub returns-clause-ended : goal.returns-clause-ended

@@ -1,5 +1,5 @@
 use Rattle.std.proofs.Common.{arith}
-use Rattle.calc_parser.specs.Reader.{open_in}
+use Rattle.calc_parser.proofs.Shared.{open_in}
 use Rattle.calc_parser.proofs.Room.{length_weight}
 use Rattle.calc_parser.proofs.reader.Reader.enter.Goals as goal
 

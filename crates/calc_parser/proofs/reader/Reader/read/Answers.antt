@@ -1,10 +1,6 @@
 use Rattle.std.specs.Prelude.{◌≡◌, ◌<◌, ◌≤◌, length}
 use Rattle.std.proofs.Common.{ap, arith}
-use Rattle.calc_terms.specs.Trees.{Tree}
-use Rattle.calc_language.specs.Grammar.{IsSum}
-use Rattle.calc_tokens.specs.Tokens.{token_of}
-use Rattle.calc_parser.specs.Automaton.{State, run, start}
-use Rattle.calc_parser.specs.Reader.{tokens_in, token_in, nodes_in, state_in}
+use Rattle.calc_parser.proofs.Shared.{Tree, IsSum, token_of, State, run, start, tokens_in, token_in, nodes_in, state_in}
 use Rattle.calc_parser.proofs.Runs.{count_tokens, token_at_place, run_on, run_stops, run_all, no_sum, on_err, finished_sum, finished_none}
 use Rattle.calc_parser.proofs.reader.Reader.read.Goals as goal
 

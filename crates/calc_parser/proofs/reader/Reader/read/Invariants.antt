@@ -1,6 +1,5 @@
 use Rattle.std.proofs.Common.{◌≡◌, ◌≤◌, ◌*◌, drop}
-use Rattle.calc_parser.specs.Automaton.{run, start}
-use Rattle.calc_parser.specs.Reader.{state_in, room_in, tokens_in}
+use Rattle.calc_parser.proofs.Shared.{run, start, state_in, room_in, tokens_in}
 use Rattle.calc_parser.proofs.reader.Reader.read.Given as goal
 
 abbrev pub invariant-loop-at : goal.invariant-loop-at

@@ -1,6 +1,5 @@
 use Rattle.std.proofs.Common.{subst}
-use Rattle.calc_tokens.specs.Tokens.{token_of}
-use Rattle.calc_parser.specs.Reader.{open_in, nodes_in, state_in, IsStep}
+use Rattle.calc_parser.proofs.Shared.{token_of, open_in, nodes_in, state_in, IsStep}
 use Rattle.calc_parser.proofs.Finishes.{operand_step, parenthesis_step, operator_step}
 use Rattle.calc_parser.proofs.reader.Reader.take.Goals as goal
 

@@ -1,14 +1,9 @@
 use Rattle.std.proofs.Common.{◌∙◌, inl, refl, sym, subst, arith}
-use Rattle.breakers.specs.Watch.{states}
-use Rattle.calc_session.specs.Answers.{AnswersUntold, refusal_of_pool}
-use Rattle.calc_session.specs.Counting.{AsksForTooMuch, IsCountedBut}
-use Rattle.calc_session.specs.Reading.{is_long, is_nothing}
+use Rattle.calc_session.proofs.Shared.{states, AnswersUntold, refusal_of_pool, AsksForTooMuch, IsCountedBut, is_long, is_nothing, Seen, Counts, state_of}
 use Rattle.calc_session.specs.Kept.{seen_of}
-use Rattle.calc_session.specs.Seen.{Seen, Counts}
-use Rattle.calc_session.specs.States.{state_of}
-use Rattle.calc_session.specs.declared.answers.Refusal.TheVariants as refusal
 use Rattle.calc_session.proofs.SessionLemmas.{answers_blank, answers_unread, calm_blank, calm_long}
 use Rattle.calc_session.proofs.CalculatingLemmas.{counted_seen}
+use Rattle.calc_session.specs.declared.answers.Refusal.TheVariants as refusal
 use Rattle.calc_session.proofs.session.Session.answer.Goals as goal
 
 pub returns-then-line-gt-LINE_LIMIT-clause-answers : goal.returns-then-line-gt-LINE_LIMIT-clause-answers

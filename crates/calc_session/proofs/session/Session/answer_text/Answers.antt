@@ -1,20 +1,7 @@
 use Rattle.std.proofs.Common.{◌≡◌, ◌∙◌, ◌++◌, ℕ, List, length, ap, sym, subst, refl, arith}
-use Rattle.breakers.specs.Watch.{states}
-use Rattle.calc_language.specs.Texts.{text, IsWritable}
-use Rattle.calc_tokens.specs.Tokens.{tokens_of}
-use Rattle.line_text.specs.Content.{Content}
-use Rattle.name_table.specs.Held.{IsHeld}
-use Rattle.name_table.specs.Storing.{IsKeepable, name_in}
-use Rattle.tree_handles.specs.Expressions.{plain}
-use Rattle.tree_handles.specs.Inside.{tree_at}
-use Rattle.tree_handles.specs.Standing.{forest}
-use Rattle.tree_handles.proofs.Given.{given_rest, gives_as}
-use Rattle.calc_session.specs.Answers.{AnswersUntold, answer_to}
-use Rattle.calc_session.specs.Seen.{Seen}
-use Rattle.calc_session.specs.States.{state_of}
-use Rattle.calc_session.specs.declared.answers.LineAnswer.{LineAnswer}
-use Rattle.calc_session.specs.declared.answers.LineAnswer.TheVariants as answer
+use Rattle.calc_session.proofs.Shared.{states, text, IsWritable, tokens_of, Content, IsHeld, IsKeepable, name_in, plain, tree_at, forest, given_rest, gives_as, AnswersUntold, answer_to, Seen, state_of, LineAnswer}
 use Rattle.calc_session.proofs.SessionLemmas.{answers_face, answers_refusal, answers_undefined, answers_unread, calm_refusal, face_expression, face_room, face_tree, leaves_answer}
+use Rattle.calc_session.specs.declared.answers.LineAnswer.TheVariants as answer
 use Rattle.calc_session.proofs.session.Session.answer_text.Goals as goal
 
 pub evaluate-requires-clause-line : goal.evaluate-requires-clause-line

@@ -1,7 +1,5 @@
 use Rattle.std.proofs.Common.{sym, ap, subst, arith}
-use Rattle.line_text.specs.Content.{Content}
-use Rattle.tree_handles.specs.Expressions.{IsExpression}
-use Rattle.tree_handles.specs.Standing.{forest}
+use Rattle.calc_session.proofs.Shared.{Content, IsExpression, forest}
 use Rattle.calc_session.proofs.DrawingLemmas.{answer_expression}
 use Rattle.calc_session.proofs.session.Session.draw.Goals as goal
 

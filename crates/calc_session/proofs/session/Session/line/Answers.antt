@@ -1,13 +1,8 @@
 use Rattle.std.proofs.Common.{ap, subst}
-use Rattle.breakers.specs.Watch.{states}
-use Rattle.name_table.specs.Held.{IsHeld}
-use Rattle.calc_session.specs.Answers.{AnswersUntold, refusal_of_pool}
-use Rattle.calc_session.specs.Counting.{AsksForTooMuch}
-use Rattle.calc_session.specs.Seen.{Seen}
-use Rattle.calc_session.specs.declared.answers.LineAnswer.TheVariants as answer
-use Rattle.calc_session.specs.States.{trees}
+use Rattle.calc_session.proofs.Shared.{states, IsHeld, AnswersUntold, refusal_of_pool, AsksForTooMuch, Seen, trees}
 use Rattle.calc_session.proofs.SessionLemmas.{blank_text, draw_text, told_other}
 use Rattle.calc_session.proofs.CalculatingLemmas.{counted_renewed, same_counted}
+use Rattle.calc_session.specs.declared.answers.LineAnswer.TheVariants as answer
 use Rattle.calc_session.proofs.session.Session.line.Goals as goal
 
 pub returns-in_default : goal.returns-in_default

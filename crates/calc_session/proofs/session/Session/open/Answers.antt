@@ -1,15 +1,10 @@
 use Rattle.std.proofs.Common.{◌≡◌, ◌≤◌, ◌∙◌, ◌*◌, ◌+◌, ap, sym, subst, arith}
-use Rattle.calc_terms.specs.Rat.{ratio_of}
-use Rattle.line_text.specs.Content.{Content}
-use Rattle.name_table.specs.Held.{IsHeld}
-use Rattle.calc_terms.specs.Payload.{rational, size_of_payload}
-use Rattle.calc_terms.proofs.Sizes.{payload_most}
-use Rattle.node_pool.specs.State.{State, free_of}
-use Rattle.tree_handles.specs.Standing.{forest}
+use Rattle.calc_session.proofs.Shared.{ratio_of, Content, IsHeld, rational, size_of_payload, payload_most, free_of, forest}
+use Rattle.node_pool.specs.State.{State}
 use Rattle.tree_handles.proofs.Opened.{stands_open}
 use Rattle.calc_session.proofs.OpeningLemmas.{IsOpened, first_state_is, opened, seen_is}
-use Rattle.calc_session.proofs.session.Session.open.Goals as goal
 use Rattle.calc_session.proofs.session.Session.open.Goals.{After-unwrap-answer}
+use Rattle.calc_session.proofs.session.Session.open.Goals as goal
 
 pub number-requires : goal.number-requires
 number-requires c = stands_open c.in_ok-pool.pool (ap (λ (s : State). s.nodes) c.in_ok-pool.ensures) (rw (ap (λ (s : State). s.size) c.in_ok-pool.ensures) c.requires)

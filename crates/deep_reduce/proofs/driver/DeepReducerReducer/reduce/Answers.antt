@@ -1,11 +1,9 @@
 use Rattle.std.proofs.Common.{ℕ, rules, refl, subst}
+use Rattle.deep_reduce.proofs.Shared.{if_map, tree_of, gives_as, given_handed, given_told}
 use Rattle.breakers.specs.Breakers.{CalmChecks}
 use Rattle.breakers.specs.Watch.{states}
-use Rattle.tree_handles.proofs.Outcomes.{if_map}
 use Rattle.deep_reduce.proofs.ChildRooms.{five_answers, lacks_room}
 use Rattle.reduce_walk.proofs.Port.{full_as, overflow_as, unfit_after_checks}
-use Rattle.tree_handles.specs.Handed.{tree_of}
-use Rattle.tree_handles.proofs.Given.{gives_as, given_handed, given_told}
 use Rattle.deep_reduce.proofs.driver.DeepReducerReducer.reduce.Goals as goal
 
 pub returns : goal.returns

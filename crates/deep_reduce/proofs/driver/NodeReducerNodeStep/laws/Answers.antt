@@ -1,8 +1,6 @@
-use Rattle.calc_terms.specs.Trees.{Tree, Trees, none, more}
-use Rattle.deep_reduce.proofs.Ready.{child_lacks, child_overflows, leaf_reduced}
 use Rattle.std.specs.Prelude.{⊤}
-use Rattle.reduce_walk.specs.Answers.{EachTree}
-use Rattle.tree_handles.specs.Expressions.{children_of}
+use Rattle.deep_reduce.proofs.Shared.{Tree, Trees, none, more, EachTree, children_of}
+use Rattle.deep_reduce.proofs.Ready.{child_lacks, child_overflows, leaf_reduced}
 use Rattle.deep_reduce.proofs.driver.NodeReducerNodeStep.laws.Goals as goal
 
 pub returns : goal.returns

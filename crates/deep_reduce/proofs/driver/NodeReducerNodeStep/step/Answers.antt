@@ -1,10 +1,7 @@
 use Rattle.std.proofs.Common.{rules, refl}
-use Rattle.tree_handles.proofs.Outcomes.{if_map}
+use Rattle.deep_reduce.proofs.Shared.{if_map, children_of, tree_of, gives_as}
 use Rattle.deep_reduce.proofs.NodeAnswers.{node_answered}
 use Rattle.deep_reduce.proofs.Ready.{answers_reduced, over_answers, step_lacks, step_overflows}
-use Rattle.tree_handles.specs.Expressions.{children_of}
-use Rattle.tree_handles.specs.Handed.{tree_of}
-use Rattle.tree_handles.proofs.Given.{gives_as}
 use Rattle.deep_reduce.proofs.driver.NodeReducerNodeStep.step.Goals as goal
 
 pub reduce_node-requires-clause-reduced : goal.reduce_node-requires-clause-reduced

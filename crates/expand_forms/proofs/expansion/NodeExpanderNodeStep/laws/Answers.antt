@@ -1,7 +1,6 @@
 use Rattle.std.proofs.Common.{arith}
+use Rattle.expand_forms.proofs.Shared.{child_bits, children_of}
 use Rattle.expand_forms.proofs.OverAnswers.{all_polynomials, child_lacks, each_polynomial, leaf_expanded}
-use Rattle.reduce_walk.proofs.Bits.{child_bits}
-use Rattle.tree_handles.specs.Expressions.{children_of}
 use Rattle.expand_forms.proofs.expansion.NodeExpanderNodeStep.laws.Goals as goal
 
 pub returns : goal.returns

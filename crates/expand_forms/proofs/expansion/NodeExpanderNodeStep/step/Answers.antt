@@ -1,9 +1,6 @@
 use Rattle.std.proofs.Common.{rules, refl}
-use Rattle.tree_handles.proofs.Outcomes.{if_map}
+use Rattle.expand_forms.proofs.Shared.{if_map, free_of, tree_of, gives_as}
 use Rattle.expand_forms.proofs.OverAnswers.{children_expanded, expanded_from, polynomial_root, step_lacks, step_overflows}
-use Rattle.node_pool.specs.State.{free_of}
-use Rattle.tree_handles.specs.Handed.{tree_of}
-use Rattle.tree_handles.proofs.Given.{gives_as}
 use Rattle.expand_forms.proofs.expansion.NodeExpanderNodeStep.step.Goals as goal
 
 pub expand_node-requires-clause-polynomial : goal.expand_node-requires-clause-polynomial

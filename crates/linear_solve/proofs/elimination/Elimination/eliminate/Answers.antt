@@ -1,11 +1,8 @@
 use Rattle.std.proofs.Common.{◌+◌, ap, ◌∙◌, arith}
-use Rattle.breakers.proofs.Runs.{CalmChecks-append}
-use Rattle.breakers.specs.Watch.{states}
-use Rattle.linear_solve.specs.declared.fault.SolveFault.TheVariants as fault
-use Rattle.linear_solve.specs.States.{rows_told}
-use Rattle.linear_solve.specs.Told.{misfit_of}
+use Rattle.linear_solve.proofs.Shared.{CalmChecks-append, states, rows_told, misfit_of}
 use Rattle.linear_solve.proofs.RowLists.{settled_next, settled_stops}
 use Rattle.linear_solve.proofs.Walks.{handed_on, one_calm}
+use Rattle.linear_solve.specs.declared.fault.SolveFault.TheVariants as fault
 use Rattle.linear_solve.proofs.elimination.Elimination.eliminate.Goals as goal
 
 pub returns-in_err-settle-clause-overflow : goal.returns-in_err-settle-clause-overflow

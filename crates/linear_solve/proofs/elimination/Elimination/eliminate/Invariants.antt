@@ -1,8 +1,5 @@
 use Rattle.std.proofs.Common.{◌≡◌, Ok, length}
-use Rattle.breakers.specs.Breakers.{CalmChecks}
-use Rattle.breakers.specs.Watch.{states}
-use Rattle.linear_solve.specs.Elimination.{settled_up_to}
-use Rattle.linear_solve.specs.States.{rows_told}
+use Rattle.linear_solve.proofs.Shared.{CalmChecks, states, settled_up_to, rows_told}
 use Rattle.linear_solve.proofs.elimination.Elimination.eliminate.Given as goal
 
 abbrev pub invariant-loop-name : goal.invariant-loop-name

@@ -1,7 +1,5 @@
 use Rattle.std.proofs.Common.{◌<◌, lit<, length, map, ap, arith}
-use Rattle.std.proofs.lemmas.List.{length-map}
-use Rattle.linear_solve.specs.Elimination.{cleared_pivot}
-use Rattle.linear_solve.specs.Told.{entries_of, pivot_of}
+use Rattle.linear_solve.proofs.Shared.{length-map, cleared_pivot, entries_of, pivot_of}
 use Rattle.linear_solve.proofs.Calculations.{each_long}
 use Rattle.linear_solve.proofs.elimination.Elimination.settle_by.Goals as goal
 

@@ -1,8 +1,5 @@
 use Rattle.std.proofs.Common.{sym, ap, ◌∙◌, length, arith}
-use Rattle.std.proofs.lemmas.List.{get_or_past, length-map}
-use Rattle.calc_terms.specs.Fractions.{zero_fraction}
-use Rattle.calc_terms.specs.Rat.{value_of}
-use Rattle.linear_solve.specs.Told.{entries_of}
+use Rattle.linear_solve.proofs.Shared.{get_or_past, length-map, zero_fraction, value_of, entries_of}
 use Rattle.linear_solve.proofs.Entries.{zero_value}
 use Rattle.linear_solve.proofs.row.Row.get.Goals as goal
 

@@ -1,6 +1,5 @@
 use Rattle.std.proofs.Common.{◌≡◌, length, map, take}
-use Rattle.calc_terms.specs.Fractions.{negative}
-use Rattle.linear_solve.specs.Told.{entries_of}
+use Rattle.linear_solve.proofs.Shared.{negative, entries_of}
 use Rattle.linear_solve.proofs.row.Row.negated.Given as goal
 
 abbrev pub invariant-loop-at : goal.invariant-loop-at

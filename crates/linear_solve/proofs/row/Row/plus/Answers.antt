@@ -1,9 +1,5 @@
 use Rattle.std.proofs.Common.{◌<◌, length, Ok, Err, sym, arith}
-use Rattle.std.proofs.lemmas.Result.{err_from_is_err_and}
-use Rattle.calc_terms.specs.Fractions.{Fraction}
-use Rattle.calc_terms.specs.Rat.{value_of}
-use Rattle.linear_solve.specs.Fitting.{sum_of}
-use Rattle.linear_solve.specs.Told.{entries_of, misfit_of}
+use Rattle.linear_solve.proofs.Shared.{err_from_is_err_and, Fraction, value_of, sum_of, entries_of, misfit_of}
 use Rattle.linear_solve.proofs.Entries.{add_told, longer, pair_all, pair_more, pair_stops}
 use Rattle.linear_solve.proofs.row.Row.plus.Goals as goal
 

@@ -1,8 +1,6 @@
 use Rattle.std.proofs.Common.{◌≡◌, length, take, Ok}
 use Rattle.std.specs.Prelude.{zip}
-use Rattle.calc_terms.specs.Fractions.{Fraction}
-use Rattle.linear_solve.specs.Fitting.{each, sum_of}
-use Rattle.linear_solve.specs.Told.{entries_of}
+use Rattle.linear_solve.proofs.Shared.{Fraction, each, sum_of, entries_of}
 use Rattle.linear_solve.proofs.row.Row.plus.Given as goal
 
 abbrev pub invariant-loop-at : goal.invariant-loop-at

@@ -1,8 +1,5 @@
 use Rattle.std.proofs.Common.{◌<◌, length, Ok, Err, sym, arith}
-use Rattle.std.proofs.lemmas.Result.{err_from_is_err_and}
-use Rattle.calc_terms.specs.Rat.{value_of}
-use Rattle.linear_solve.specs.Fitting.{product_of}
-use Rattle.linear_solve.specs.Told.{entries_of, misfit_of}
+use Rattle.linear_solve.proofs.Shared.{err_from_is_err_and, value_of, product_of, entries_of, misfit_of}
 use Rattle.linear_solve.proofs.Entries.{longer, mul_told, row_more, row_stops}
 use Rattle.linear_solve.proofs.row.Row.scaled.Goals as goal
 

@@ -1,7 +1,5 @@
 use Rattle.std.proofs.Common.{◌≡◌, length, take, Ok}
-use Rattle.calc_terms.specs.Rat.{value_of}
-use Rattle.linear_solve.specs.Fitting.{each, product_of}
-use Rattle.linear_solve.specs.Told.{entries_of}
+use Rattle.linear_solve.proofs.Shared.{value_of, each, product_of, entries_of}
 use Rattle.linear_solve.proofs.row.Row.scaled.Given as goal
 
 abbrev pub invariant-loop-at : goal.invariant-loop-at

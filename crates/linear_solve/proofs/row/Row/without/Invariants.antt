@@ -1,9 +1,6 @@
 use Rattle.std.proofs.Common.{◌≡◌, length, take, Ok}
 use Rattle.std.specs.Prelude.{zip}
-use Rattle.calc_terms.specs.Fractions.{Fraction, negative}
-use Rattle.calc_terms.specs.Rat.{value_of}
-use Rattle.linear_solve.specs.Fitting.{and_then, each, product_of, sum_of}
-use Rattle.linear_solve.specs.Told.{entries_of}
+use Rattle.linear_solve.proofs.Shared.{Fraction, negative, value_of, and_then, each, product_of, sum_of, entries_of}
 use Rattle.linear_solve.proofs.row.Row.without.Given as goal
 
 abbrev pub invariant-loop-at : goal.invariant-loop-at

@@ -1,7 +1,5 @@
 use Rattle.std.proofs.Common.{◌<◌, ℕ, List, [], length, map, arith}
-use Rattle.std.proofs.lemmas.List.{length-map}
-use Rattle.calc_terms.specs.Fractions.{zero_fraction}
-use Rattle.calc_terms.specs.Leaf.{name_of}
+use Rattle.linear_solve.proofs.Shared.{length-map, zero_fraction, name_of}
 use Rattle.linear_solve.proofs.Entries.{longer, mapped_more, zero_value}
 use Rattle.linear_solve.proofs.side.SideRow.constant.Goals as goal
 

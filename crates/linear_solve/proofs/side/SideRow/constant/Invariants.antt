@@ -1,7 +1,5 @@
 use Rattle.std.proofs.Common.{◌≡◌, ℕ, List, length, map, take}
-use Rattle.calc_terms.specs.Fractions.{zero_fraction}
-use Rattle.calc_terms.specs.Leaf.{name_of}
-use Rattle.linear_solve.specs.Told.{entries_of}
+use Rattle.linear_solve.proofs.Shared.{zero_fraction, name_of, entries_of}
 use Rattle.linear_solve.proofs.side.SideRow.constant.Given as goal
 
 abbrev pub invariant-loop : goal.invariant-loop

@@ -1,9 +1,5 @@
 use Rattle.std.proofs.Common.{◌≡◌, ◌<◌, ◌++◌, ◌∷◌, ℕ, List, [], length, map, true, if◌then◌else◌, sym, ap, ◌∙◌, get_or, arith}
-use Rattle.std.specs.Str.{bytes_eq}
-use Rattle.std.proofs.lemmas.List.{get_or-map, length-map}
-use Rattle.calc_terms.specs.Fractions.{one_fraction, zero_fraction}
-use Rattle.calc_terms.specs.Leaf.{name_of}
-use Rattle.linear_solve.specs.Told.{entries_of}
+use Rattle.linear_solve.proofs.Shared.{bytes_eq, get_or-map, length-map, one_fraction, zero_fraction, name_of, entries_of}
 use Rattle.linear_solve.proofs.Entries.{longer, mapped_all, mapped_more, zero_value}
 use Rattle.linear_solve.proofs.side.SideRow.name.Goals as goal
 

@@ -1,8 +1,5 @@
 use Rattle.std.proofs.Common.{◌≡◌, length, map, take, if◌then◌else◌}
-use Rattle.std.specs.Str.{bytes_eq}
-use Rattle.calc_terms.specs.Fractions.{one_fraction, zero_fraction}
-use Rattle.calc_terms.specs.Leaf.{name_of}
-use Rattle.linear_solve.specs.Told.{entries_of}
+use Rattle.linear_solve.proofs.Shared.{bytes_eq, one_fraction, zero_fraction, name_of, entries_of}
 use Rattle.linear_solve.proofs.side.SideRow.name.Given as goal
 
 abbrev pub invariant-loop-other : goal.invariant-loop-other

@@ -1,6 +1,6 @@
 -- The slot at a place is used, and is the entry there.
 use Rattle.std.proofs.Common.{ap, ◌∙◌, sym, Some}
-use Rattle.calc_terms.specs.Leaf.{name_of}
+use Rattle.name_table.proofs.Shared.{name_of}
 use Rattle.name_table.proofs.Slots.{slot_read}
 use Rattle.name_table.proofs.table.NameTable.entry.Goals as goal
 

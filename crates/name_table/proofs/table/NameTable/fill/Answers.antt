@@ -1,8 +1,6 @@
 -- The last answer first, and then a slot after another.
 use Rattle.std.proofs.Common.{sym, subst, refl}
-use Rattle.std.proofs.lemmas.Result.{err_from_is_err_and}
-use Rattle.calc_terms.specs.Leaf.{name_of}
-use Rattle.tree_handles.specs.Expressions.{AllExpressions}
+use Rattle.name_table.proofs.Shared.{err_from_is_err_and, name_of, AllExpressions}
 use Rattle.name_table.proofs.Filled.{filled_clear, filled_end, filled_faults, filled_first, filled_front, filled_given, filled_more, filled_next, filled_refused, filled_room, next_last, next_rest, next_root, used_item}
 use Rattle.name_table.proofs.table.NameTable.fill.Goals as goal
 

@@ -1,5 +1,5 @@
 use Rattle.std.proofs.Common.{map, drop}
-use Rattle.name_table.specs.Slots.{entry_of}
+use Rattle.name_table.proofs.Shared.{entry_of}
 use Rattle.name_table.proofs.Filled.{IsFilled}
 use Rattle.name_table.proofs.table.NameTable.fill.Given as goal
 

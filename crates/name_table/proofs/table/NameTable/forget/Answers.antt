@@ -1,6 +1,5 @@
 -- The entry is gone, and its tree where nothing else holds it.
-use Rattle.calc_terms.specs.Leaf.{name_of}
-use Rattle.tree_handles.specs.Standing.{forest}
+use Rattle.name_table.proofs.Shared.{name_of, forest}
 use Rattle.name_table.proofs.Steps.{IsKept, entry_root, forgets}
 use Rattle.name_table.proofs.table.NameTable.forget.Goals as goal
 

@@ -1,11 +1,6 @@
 -- The calls one after another, from the trees of the table and the new one.
 use Rattle.std.proofs.Common.{◌≡◌, ◌∙◌, ◌<◌, ap, sym, subst, length, Some}
-use Rattle.calc_terms.specs.Leaf.{name_of}
-use Rattle.tree_handles.specs.Inside.{released_in}
-use Rattle.tree_handles.specs.Roots.{has_root, without_root}
-use Rattle.tree_handles.specs.Standing.{forest}
-use Rattle.tree_handles.proofs.Lasts.{last_held}
-use Rattle.name_table.specs.Storing.{IsStorable, name_in}
+use Rattle.name_table.proofs.Shared.{name_of, released_in, has_root, without_root, forest, last_held, IsStorable, name_in}
 use Rattle.name_table.proofs.Later.{room-without}
 use Rattle.name_table.proofs.Steps.{IsKept, IsNew, answer_after, former_after, is_room, keeps_answer, keeps_named, named_table, old_answer}
 use Rattle.name_table.proofs.table.NameTable.keep.Goals as goal

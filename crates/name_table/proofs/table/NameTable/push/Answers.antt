@@ -1,6 +1,6 @@
 -- The new slot is used, as the others are.
 use Rattle.std.proofs.Common.{Some, refl, sym, subst}
-use Rattle.name_table.specs.Slots.{AreUsed}
+use Rattle.name_table.proofs.Shared.{AreUsed}
 use Rattle.name_table.proofs.Slots.{used_push}
 use Rattle.name_table.proofs.table.NameTable.push.Goals as goal
 

@@ -1,8 +1,7 @@
 -- The slot at the place that was found is taken out.
 use Rattle.std.proofs.Common.{ap, ◌∙◌, sym, rules, map}
 use Rattle.std.specs.Prelude.{is_some}
-use Rattle.calc_terms.specs.Leaf.{name_of}
-use Rattle.name_table.specs.Slots.{entry_of}
+use Rattle.name_table.proofs.Shared.{name_of, entry_of}
 use Rattle.name_table.proofs.Slots.{IsTaken, IsMissing, taken, missing, place_inside}
 use Rattle.name_table.proofs.table.NameTable.take.Goals as goal
 

@@ -1,4 +1,4 @@
-use Rattle.tree_handles.proofs.Visiting.{some_next, next_is}
+use Rattle.node_order.proofs.Shared.{some_next, next_is}
 use Rattle.node_order.proofs.fronts.Front.first.Goals as goal
 
 pub unwrap-root-requires : goal.unwrap-root-requires

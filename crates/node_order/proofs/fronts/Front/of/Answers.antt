@@ -1,10 +1,5 @@
 use Rattle.std.proofs.Common.{◌∙◌, length, sym, ap, arith}
-use Rattle.tree_handles.specs.Inside.{tree_at}
-use Rattle.tree_handles.specs.Standing.{forest}
-use Rattle.tree_handles.proofs.Forests.{nodes-flatten}
-use Rattle.tree_handles.proofs.Measures.{one_at}
-use Rattle.tree_handles.proofs.Releases.{arity_le}
-use Rattle.tree_handles.proofs.Visiting.{visits_length}
+use Rattle.node_order.proofs.Shared.{tree_at, forest, nodes-flatten, one_at, arity_le, visits_length}
 use Rattle.node_order.proofs.Pairs.{shows_tree}
 use Rattle.node_order.proofs.fronts.Front.of.Goals as goal
 

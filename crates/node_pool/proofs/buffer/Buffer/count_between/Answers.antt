@@ -1,6 +1,5 @@
 use Rattle.std.proofs.Common.{◌≤◌, ap, arith, length, ◌∙◌}
-use Rattle.calc_terms.specs.Node.{size_of_header}
-use Rattle.node_pool.specs.Places.{between}
+use Rattle.node_pool.proofs.Shared.{size_of_header, between}
 use Rattle.node_pool.proofs.Sizes.{length_le_used}
 use Rattle.node_pool.proofs.Cuts.{boundary_le, cut, between_next, between_none}
 use Rattle.node_pool.proofs.buffer.Buffer.count_between.Goals as goal

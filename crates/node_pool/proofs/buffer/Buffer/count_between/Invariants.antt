@@ -1,5 +1,5 @@
 use Rattle.std.proofs.Common.{◌≡◌, ◌-◌, ◌+◌, ◌≤◌, length}
-use Rattle.node_pool.specs.Places.{between, IsBoundary}
+use Rattle.node_pool.proofs.Shared.{between, IsBoundary}
 use Rattle.node_pool.proofs.buffer.Buffer.count_between.Given as goal
 
 abbrev pub invariant-loop-at : goal.invariant-loop-at

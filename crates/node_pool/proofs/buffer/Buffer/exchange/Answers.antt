@@ -1,5 +1,5 @@
 use Rattle.std.proofs.Common.{arith, refl}
-use Rattle.node_pool.specs.Places.{exchanged}
+use Rattle.node_pool.proofs.Shared.{exchanged}
 use Rattle.node_pool.proofs.Cuts.{boundary_le}
 use Rattle.node_pool.proofs.Fields.{IsDone, opened}
 use Rattle.node_pool.proofs.Changes.{done, exchanged_nodes}

@@ -1,6 +1,5 @@
 use Rattle.std.proofs.Common.{◌∙◌, sym, ap}
-use Rattle.calc_terms.specs.Payload.{named}
-use Rattle.node_pool.specs.Nodes.{payload_of_id}
+use Rattle.node_pool.proofs.Shared.{named, payload_of_id}
 use Rattle.node_pool.proofs.Values.{HoldsSymbol, held, holds_symbol}
 use Rattle.node_pool.proofs.buffer.Buffer.name.Goals as goal
 

@@ -1,5 +1,5 @@
 use Rattle.std.proofs.Common.{◌≡◌, ℕ, ◌≤◌, ap, ◌∙◌, length, replicate, [], arith, refl}
-use Rattle.std.proofs.lemmas.List.{length-replicate}
+use Rattle.node_pool.proofs.Shared.{length-replicate}
 use Rattle.node_pool.specs.declared.buffer.Buffer.TheInside.{Inside}
 use Rattle.node_pool.proofs.Fields.{IsOf, laid, contents_are}
 use Rattle.node_pool.proofs.buffer.Buffer.new.Goals as goal

@@ -1,6 +1,5 @@
 use Rattle.std.proofs.Common.{arith, refl, ap, ◌+◌, ◌++◌, ◌∷◌, [], ℕ}
-use Rattle.calc_terms.specs.Leaf.{payload_of}
-use Rattle.calc_terms.specs.Node.{fresh}
+use Rattle.node_pool.proofs.Shared.{payload_of, fresh}
 use Rattle.calc_terms.proofs.Leaves.{usable}
 use Rattle.node_pool.proofs.Sizes.{length_le_used}
 use Rattle.node_pool.proofs.Fields.{IsDone, opened, size_is}

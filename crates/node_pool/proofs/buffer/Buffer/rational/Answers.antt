@@ -1,6 +1,5 @@
 use Rattle.std.proofs.Common.{◌∙◌, sym, ap}
-use Rattle.calc_terms.specs.Payload.{rational}
-use Rattle.node_pool.specs.Nodes.{payload_of_id}
+use Rattle.node_pool.proofs.Shared.{rational, payload_of_id}
 use Rattle.node_pool.proofs.Values.{HoldsRational, held, holds_rational}
 use Rattle.node_pool.proofs.buffer.Buffer.rational.Goals as goal
 

@@ -1,5 +1,5 @@
 use Rattle.std.proofs.Common.{arith, refl, ◌+◌, ◌-◌, ap, ℕ}
-use Rattle.node_pool.specs.Places.{without}
+use Rattle.node_pool.proofs.Shared.{without}
 use Rattle.node_pool.proofs.Cuts.{boundary_le, between_few}
 use Rattle.node_pool.proofs.Fields.{IsDone, opened}
 use Rattle.node_pool.proofs.Changes.{done, removed}

@@ -1,5 +1,5 @@
 use Rattle.std.proofs.Common.{arith, refl}
-use Rattle.node_pool.specs.Nodes.{with_count}
+use Rattle.node_pool.proofs.Shared.{with_count}
 use Rattle.node_pool.proofs.Walk.{place_room}
 use Rattle.node_pool.proofs.Fields.{IsDone, opened}
 use Rattle.node_pool.proofs.Changes.{done, recounted}

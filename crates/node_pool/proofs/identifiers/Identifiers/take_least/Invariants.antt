@@ -1,5 +1,5 @@
 use Rattle.std.proofs.Common.{◌-◌, length}
-use Rattle.node_pool.specs.Flags.{AreTakenBelow}
+use Rattle.node_pool.proofs.Shared.{AreTakenBelow}
 use Rattle.node_pool.proofs.identifiers.Identifiers.take_least.Given as goal
 
 abbrev pub invariant-loop-id : goal.invariant-loop-id

@@ -1,10 +1,5 @@
 use Rattle.std.proofs.Common.{arith, refl, ap, ◌∙◌, ◌≡◌, ◌≤◌, ◌+◌, ℕ}
-use Rattle.node_pool.specs.Contents.{Contents}
-use Rattle.node_pool.specs.Kept.{IsKept, state_of}
-use Rattle.node_pool.specs.Noted.{noted}
-use Rattle.node_pool.specs.Places.{IsBoundary, between, swapped}
-use Rattle.node_pool.specs.State.{State}
-use Rattle.node_pool.specs.declared.pool.Pool.TheInside.{Inside}
+use Rattle.node_pool.proofs.Shared.{Contents, IsKept, state_of, noted, IsBoundary, between, swapped, State, Inside}
 use Rattle.node_pool.proofs.Keeping.{boundary_in, end_small, rotated_block, swapped_known}
 use Rattle.node_pool.proofs.Noting.{IsTurned, turned, turned_start, turned_end}
 use Rattle.node_pool.proofs.pool.Pool.bring_forward.Goals as goal

@@ -1,12 +1,5 @@
 use Rattle.std.proofs.Common.{List, refl, ap, length, subst, sym, ◌∙◌, ◌≡◌, ◌≤◌, ◌-◌, ℕ}
-use Rattle.calc_terms.specs.Node.{Node}
-use Rattle.node_pool.specs.Contents.{Contents}
-use Rattle.node_pool.specs.Flags.{AreBelow}
-use Rattle.node_pool.specs.Kept.{IsKept, state_of}
-use Rattle.node_pool.specs.Noted.{noted}
-use Rattle.node_pool.specs.Places.{IsBoundary, between, exchanged}
-use Rattle.node_pool.specs.State.{State}
-use Rattle.node_pool.specs.declared.pool.Pool.TheInside.{Inside}
+use Rattle.node_pool.proofs.Shared.{Node, Contents, AreBelow, IsKept, state_of, noted, IsBoundary, between, exchanged, State, Inside}
 use Rattle.node_pool.proofs.Exchanges.{AreBlocks}
 use Rattle.node_pool.proofs.Keeping.{AreNotable, boundary_in, exchanged_blocks, notable}
 use Rattle.node_pool.proofs.Noting.{length-noted}

@@ -1,7 +1,5 @@
 use Rattle.std.proofs.Common.{arith, ap, ◌∙◌, ◌≡◌, ℕ}
-use Rattle.node_pool.specs.Noted.{place_in}
-use Rattle.node_pool.specs.Nodes.{place_of}
-use Rattle.node_pool.specs.State.{State}
+use Rattle.node_pool.proofs.Shared.{place_in, place_of, State}
 use Rattle.node_pool.proofs.Found.{place_boundary}
 use Rattle.node_pool.proofs.Keeping.{live_in}
 use Rattle.node_pool.proofs.Walk.{place_room}

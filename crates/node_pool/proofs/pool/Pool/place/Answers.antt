@@ -1,7 +1,5 @@
 use Rattle.std.proofs.Common.{arith, ap, set, ◌∙◌}
-use Rattle.calc_terms.specs.Leaf.{payload_of}
-use Rattle.node_pool.specs.Kept.{IsKept}
-use Rattle.node_pool.specs.State.{free_of}
+use Rattle.node_pool.proofs.Shared.{payload_of, IsKept, free_of}
 use Rattle.node_pool.proofs.Sizes.{size_leaf}
 use Rattle.node_pool.proofs.Keeping.{placed, room_unused}
 use Rattle.node_pool.proofs.pool.Pool.place.Goals as goal

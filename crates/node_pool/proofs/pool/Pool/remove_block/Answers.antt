@@ -1,11 +1,5 @@
 use Rattle.std.proofs.Common.{arith, ap, sym, ◌+◌, ◌∙◌, ◌≡◌, ℕ}
-use Rattle.node_pool.specs.Contents.{Contents}
-use Rattle.node_pool.specs.Kept.{IsKept, state_of}
-use Rattle.node_pool.specs.Noted.{noted}
-use Rattle.node_pool.specs.Nodes.{used}
-use Rattle.node_pool.specs.Places.{IsBoundary, between, since, until, without}
-use Rattle.node_pool.specs.State.{State}
-use Rattle.node_pool.specs.declared.pool.Pool.TheInside.{Inside}
+use Rattle.node_pool.proofs.Shared.{Contents, IsKept, state_of, noted, used, IsBoundary, between, since, until, without, State, Inside}
 use Rattle.node_pool.proofs.Cuts.{boundary_le}
 use Rattle.node_pool.proofs.Found.{end_boundary}
 use Rattle.node_pool.proofs.Keeping.{removed_block, between_below, boundary_in, end_small, closed_known}

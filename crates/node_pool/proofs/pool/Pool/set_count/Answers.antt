@@ -1,6 +1,5 @@
 use Rattle.std.proofs.Common.{refl, ap, ◌∙◌, true, ◌≡◌}
-use Rattle.node_pool.specs.Kept.{IsKept}
-use Rattle.node_pool.specs.Nodes.{has}
+use Rattle.node_pool.proofs.Shared.{IsKept, has}
 use Rattle.node_pool.proofs.Keeping.{kept_same, live_in, counted_ids, counted_places}
 use Rattle.node_pool.proofs.pool.Pool.set_count.Goals as goal
 

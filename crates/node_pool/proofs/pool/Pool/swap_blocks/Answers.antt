@@ -1,7 +1,5 @@
 use Rattle.std.proofs.Common.{List, arith, ap, sym, subst, ◌∙◌, ◌≡◌, ◌≤◌, ◌+◌, ◌-◌, ℕ}
-use Rattle.calc_terms.specs.Node.{Node}
-use Rattle.node_pool.specs.Places.{IsBoundary, exchanged, swapped}
-use Rattle.node_pool.specs.State.{State}
+use Rattle.node_pool.proofs.Shared.{Node, IsBoundary, exchanged, swapped, State}
 use Rattle.node_pool.proofs.Exchanges.{IsHalf, half}
 use Rattle.node_pool.proofs.pool.Pool.swap_blocks.Goals as goal
 

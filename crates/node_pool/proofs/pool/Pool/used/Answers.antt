@@ -1,6 +1,5 @@
 use Rattle.std.proofs.Common.{◌∙◌, ap}
-use Rattle.node_pool.specs.Nodes.{used}
-use Rattle.node_pool.specs.State.{State}
+use Rattle.node_pool.proofs.Shared.{used, State}
 use Rattle.node_pool.proofs.Found.{end_boundary}
 use Rattle.node_pool.proofs.pool.Pool.used.Goals as goal
 

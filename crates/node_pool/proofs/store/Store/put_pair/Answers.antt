@@ -1,5 +1,5 @@
 use Rattle.std.proofs.Common.{◌∙◌, ap}
-use Rattle.raw_region.specs.Bytes.{put}
+use Rattle.node_pool.proofs.Shared.{put}
 use Rattle.node_pool.proofs.Numbers.{written_is}
 use Rattle.node_pool.proofs.store.Store.put_pair.Goals as goal
 

@@ -1,4 +1,4 @@
-use Rattle.tree_handles.proofs.Given.{given_handed, given_told}
+use Rattle.number_forms.proofs.Shared.{given_handed, given_told}
 use Rattle.number_forms.proofs.tests.bounds.products.Goals as goal
 
 pub has_terms-requires-clause-handed : goal.has_terms-requires-clause-handed

@@ -1,5 +1,5 @@
 use Rattle.std.proofs.Common.{ap, ◌∙◌}
-use Rattle.calc_algebra.specs.Numbers.{is_number}
+use Rattle.number_forms.proofs.Shared.{is_number}
 use Rattle.number_forms.proofs.SumChanges.{same_plain, read_expression}
 use Rattle.number_forms.proofs.tests.building.has_terms_at.Goals as goal
 

@@ -1,6 +1,5 @@
 use Rattle.std.proofs.Common.{◌≡◌, ℕ, ◌*◌, ◌/◌, ◌%◌, ◌≤◌, ap, ◌∙◌, arith}
-use Rattle.std.proofs.Math.Nat.{mul-mod_left}
-use Rattle.node_pool.specs.State.{State, IsPoolSize}
+use Rattle.number_forms.proofs.Shared.{mul-mod_left, State, IsPoolSize}
 use Rattle.tree_handles.proofs.Tested.{stands_open}
 use Rattle.number_forms.proofs.tests.building.opened.Goals as goal
 

@@ -1,6 +1,6 @@
 use Rattle.std.proofs.Common.{refl}
+use Rattle.number_forms.proofs.Shared.{gives_as}
 use Rattle.number_forms.proofs.Pairs.{term_is_number}
-use Rattle.tree_handles.proofs.Given.{gives_as}
 use Rattle.number_forms.proofs.tests.building.placed_term.Goals as goal
 
 pub returns-clause-ok : goal.returns-clause-ok

@@ -1,9 +1,6 @@
 use Rattle.std.proofs.Common.{◌≡◌, sym, ap, ◌∙◌, of_z}
-use Rattle.std.specs.Int.{w128}
 use Rattle.std.specs.Prelude.{pos}
-use Rattle.calc_terms.specs.Fractions.{Fraction, zero_fraction}
-use Rattle.calc_terms.proofs.FractionFacts.{whole_numerator}
-use Rattle.rational128.proofs.LowestTerms.{ratio_parts}
+use Rattle.number_forms.proofs.Shared.{w128, Fraction, zero_fraction, whole_numerator, ratio_parts}
 use Rattle.number_forms.proofs.tests.building.term.Goals as goal
 
 zero_num : zero_fraction.num ≡ pos 0

@@ -1,4 +1,4 @@
-use Rattle.tree_handles.proofs.Given.{given_handed, given_rest, gives_as}
+use Rattle.number_forms.proofs.Shared.{given_handed, given_rest, gives_as}
 use Rattle.number_forms.proofs.tests.recognized.root_of_letter.Goals as goal
 
 pub node_over-requires-clause-handed : goal.node_over-requires-clause-handed

@@ -1,5 +1,5 @@
+use Rattle.number_forms.proofs.Shared.{given_handed}
 use Rattle.number_forms.proofs.SumChanges.{read_expression}
-use Rattle.tree_handles.proofs.Given.{given_handed}
 use Rattle.number_forms.proofs.tests.recognized.terms.Goals as goal
 
 pub is_number-requires-clause-expression : goal.is_number-requires-clause-expression

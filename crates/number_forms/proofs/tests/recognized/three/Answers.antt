@@ -1,10 +1,7 @@
 use Rattle.std.proofs.Common.{refl}
-use Rattle.calc_terms.specs.declared.kind.Kind.TheVariants as kind
 use Rattle.std.specs.Prelude.{⊤}
-use Rattle.calc_terms.specs.Payload.{bare}
-use Rattle.calc_terms.specs.Trees.{Tree}
-use Rattle.tree_handles.proofs.Given.{represents_none, represents_handed, represents_with, represents_node, gives, gives_as, given_root, given_handed, given_rest}
-use Rattle.tree_handles.proofs.Lasts.{last_held, last_apart, other_root, ends_as}
+use Rattle.number_forms.proofs.Shared.{bare, Tree, represents_none, represents_handed, represents_with, represents_node, gives, gives_as, given_root, given_handed, given_rest, last_held, last_apart, other_root, ends_as}
+use Rattle.calc_terms.specs.declared.kind.Kind.TheVariants as kind
 use Rattle.number_forms.proofs.tests.recognized.three.Goals as goal
 
 pub add_child-requires-clause-live : goal.add_child-requires-clause-live

@@ -1,6 +1,6 @@
 use Rattle.std.proofs.Common.{◌∙◌}
+use Rattle.number_forms.proofs.Shared.{given_handed, given_told}
 use Rattle.number_forms.proofs.Pairs.{first_handed, pair_apart, first_told}
-use Rattle.tree_handles.proofs.Given.{given_handed, given_told}
 use Rattle.number_forms.proofs.tests.rooms.of_two.Goals as goal
 
 pub add_numbers-requires-clause-first : goal.add_numbers-requires-clause-first

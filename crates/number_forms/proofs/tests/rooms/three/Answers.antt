@@ -1,7 +1,7 @@
 use Rattle.std.proofs.Common.{◌∙◌}
+use Rattle.number_forms.proofs.Shared.{given_handed, given_told}
 use Rattle.number_forms.proofs.Pairs.{first_handed, pair_apart, first_told, pair_rest}
 use Rattle.number_forms.proofs.TermTrees.{if_given}
-use Rattle.tree_handles.proofs.Given.{given_handed, given_told}
 use Rattle.number_forms.proofs.tests.rooms.three.Goals as goal
 
 pub multiply_numbers-requires-clause-first : goal.multiply_numbers-requires-clause-first

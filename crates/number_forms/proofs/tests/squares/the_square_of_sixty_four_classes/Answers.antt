@@ -1,4 +1,4 @@
-use Rattle.tree_handles.proofs.Given.{given_handed, given_told}
+use Rattle.number_forms.proofs.Shared.{given_handed, given_told}
 use Rattle.number_forms.proofs.tests.squares.the_square_of_sixty_four_classes.Goals as goal
 
 pub has_terms_at-requires-clause-handed : goal.has_terms_at-requires-clause-handed

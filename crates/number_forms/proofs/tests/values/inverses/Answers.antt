@@ -1,4 +1,4 @@
-use Rattle.tree_handles.proofs.Given.{given_handed, given_told}
+use Rattle.number_forms.proofs.Shared.{given_handed, given_told}
 use Rattle.number_forms.proofs.tests.values.inverses.Goals as goal
 
 pub invert_number-requires-clause-handed : goal.invert_number-requires-clause-handed

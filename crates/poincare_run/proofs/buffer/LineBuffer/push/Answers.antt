@@ -1,8 +1,8 @@
 use Rattle.std.proofs.Common.{refl, append-nil}
-use Rattle.poincare_run.specs.Buffer.{StandsFor}
+use Rattle.poincare_run.proofs.Shared.{StandsFor}
 use Rattle.poincare_run.proofs.BufferLemmas.{holds_all, holds_return}
-use Rattle.poincare_run.proofs.buffer.LineBuffer.push.Goals as goal
 use Rattle.poincare_run.proofs.buffer.LineBuffer.push.Goals.{then-self, else-self}
+use Rattle.poincare_run.proofs.buffer.LineBuffer.push.Goals as goal
 
 pub returns-then-not-self : goal.returns-then-not-self
 returns-then-not-self c = elim c.if-self.branch [

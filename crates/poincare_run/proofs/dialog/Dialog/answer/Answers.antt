@@ -1,8 +1,5 @@
 use Rattle.std.proofs.Common.{◌≡◌, ◌∙◌, ◌+◌, ◌<◌, ◌++◌, ◌∷◌, [], length, take, drop, get_or, arith, refl, sym, ap, subst}
-use Rattle.std.proofs.lemmas.List.{take_all, take_more, drop_more, take-append-drop}
-use Rattle.std.proofs.lemmas.Result.{err_from_is_err_and}
-use Rattle.calc_edges.proofs.Stops.{stops_later}
-use Rattle.poincare_run.specs.Progress.{Goes, place_of}
+use Rattle.poincare_run.proofs.Shared.{take_all, take_more, drop_more, take-append-drop, err_from_is_err_and, stops_later, Goes, place_of}
 use Rattle.poincare_run.proofs.StepLemmas.{goes_nowhere, goes_on, breaks_after}
 use Rattle.poincare_run.proofs.dialog.Dialog.answer.Goals as goal
 

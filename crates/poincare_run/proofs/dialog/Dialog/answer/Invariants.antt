@@ -1,6 +1,5 @@
 use Rattle.std.proofs.Common.{◌≡◌, ℕ, List, take}
-use Rattle.poincare_run.specs.Steps.{Moment}
-use Rattle.poincare_run.specs.Progress.{Answered, Goes, place_of}
+use Rattle.poincare_run.proofs.Shared.{Moment, Answered, Goes, place_of}
 use Rattle.poincare_run.proofs.dialog.Dialog.answer.Given as goal
 
 -- the bytes so far are answered, and no write failed

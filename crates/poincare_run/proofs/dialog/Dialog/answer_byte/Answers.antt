@@ -1,7 +1,5 @@
 use Rattle.std.proofs.Common.{refl}
-use Rattle.std.proofs.lemmas.Result.{on_ok_weaker, on_err_weaker}
-use Rattle.std.proofs.lemmas.Bool.{ne_eqb}
-use Rattle.poincare_run.specs.Lines.{rest_of}
+use Rattle.poincare_run.proofs.Shared.{on_ok_weaker, on_err_weaker, ne_eqb, rest_of}
 use Rattle.poincare_run.proofs.StepLemmas.{goes_by_line, breaks_at_line, goes_by_byte}
 use Rattle.poincare_run.proofs.dialog.Dialog.answer_byte.Goals as goal
 

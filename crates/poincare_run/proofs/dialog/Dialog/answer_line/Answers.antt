@@ -1,9 +1,5 @@
 use Rattle.std.proofs.Common.{[], sym, ap, subst, refl}
-use Rattle.std.proofs.KnownBytes.{Appends-nil}
-use Rattle.std.proofs.lemmas.Result.{on_ok_weaker, on_err_weaker}
-use Rattle.poincare_run.specs.Buffer.{Holds}
-use Rattle.calc_session.specs.Seen.{Seen}
-use Rattle.poincare_run.specs.Progress.{Place, place_of}
+use Rattle.poincare_run.proofs.Shared.{Appends-nil, on_ok_weaker, on_err_weaker, Holds, Seen, Place, place_of}
 use Rattle.poincare_run.proofs.PictureLemmas.{answers_so, fails_so, same_place}
 use Rattle.poincare_run.proofs.StepLemmas.{written_blank, written_drawn, written_shown, written_text}
 use Rattle.poincare_run.proofs.dialog.Dialog.answer_line.Goals as goal

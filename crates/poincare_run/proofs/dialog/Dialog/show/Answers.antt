@@ -1,9 +1,5 @@
 use Rattle.std.proofs.Common.{◌≡◌, ◌++◌, ◌∷◌, [], List, ℕ, ap, sym, subst}
-use Rattle.std.proofs.lemmas.Result.{on_err_weaker}
-use Rattle.calc_edges.specs.Taken.{AppendsPart}
-use Rattle.calc_edges.proofs.Parts.{AppendsPart-after}
-use Rattle.calc_session.specs.Seen.{Seen}
-use Rattle.poincare_run.specs.Steps.{picture_text}
+use Rattle.poincare_run.proofs.Shared.{on_err_weaker, AppendsPart, AppendsPart-after, Seen, picture_text}
 use Rattle.poincare_run.proofs.PictureLemmas.{picture_wanted}
 use Rattle.poincare_run.proofs.dialog.Dialog.show.Goals as goal
 

@@ -1,6 +1,5 @@
 use Rattle.std.proofs.Common.{◌≤◌, take}
-use Rattle.poincare_run.specs.Progress.{Tallied, place_of}
-use Rattle.poincare_run.specs.Summaries.{IsWithin}
+use Rattle.poincare_run.proofs.Shared.{Tallied, place_of, IsWithin}
 use Rattle.poincare_run.proofs.dialog.Dialog.tally.Given as goal
 
 -- the answers to the lines of the bytes so far are counted

@@ -1,7 +1,5 @@
 use Rattle.std.proofs.Common.{refl}
-use Rattle.std.proofs.lemmas.Bool.{ne_eqb}
-use Rattle.poincare_run.specs.Lines.{rest_of}
-use Rattle.poincare_run.specs.Steps.{replies_of}
+use Rattle.poincare_run.proofs.Shared.{ne_eqb, rest_of, replies_of}
 use Rattle.poincare_run.proofs.TallyLemmas.{tallied_by_byte, tallied_by_line}
 use Rattle.poincare_run.proofs.dialog.Dialog.tally_byte.Goals as goal
 

@@ -1,5 +1,4 @@
-use Rattle.calc_algebra.specs.Surds.{surd_times}
-use Rattle.like_children.proofs.SoFar.{joint_given}
+use Rattle.product_reduce.proofs.Shared.{surd_times, joint_given}
 use Rattle.product_reduce.proofs.Misfits.{product_named}
 use Rattle.product_reduce.proofs.numbers.MultiplyingJoins.join.Goals as goal
 

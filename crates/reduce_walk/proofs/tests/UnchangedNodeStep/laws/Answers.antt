@@ -1,8 +1,6 @@
 use Rattle.std.proofs.Common.{refl}
 use Rattle.std.specs.Prelude.{⊤}
-use Rattle.calc_terms.specs.Trees.{Tree, Trees, none, more}
-use Rattle.reduce_walk.specs.Answers.{EachTree}
-use Rattle.tree_handles.specs.Expressions.{children_of}
+use Rattle.reduce_walk.proofs.Shared.{Tree, Trees, none, more, EachTree, children_of}
 use Rattle.reduce_walk.proofs.tests.UnchangedNodeStep.laws.Goals as goal
 
 any : (ts : Trees) → EachTree (λ (t : Tree). ⊤) ts

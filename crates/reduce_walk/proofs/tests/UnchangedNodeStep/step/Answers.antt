@@ -1,9 +1,5 @@
 use Rattle.std.proofs.Common.{◌≡◌, refl, sym, ap, ◌∙◌}
-use Rattle.calc_terms.specs.Trees.{Tree, Trees, none, more}
-use Rattle.reduce_walk.specs.Answers.{AreAnswers}
-use Rattle.tree_handles.specs.Expressions.{grown}
-use Rattle.tree_handles.proofs.Fronts.{front_same}
-use Rattle.tree_handles.proofs.Given.{gives, represents_handed}
+use Rattle.reduce_walk.proofs.Shared.{Tree, Trees, none, more, AreAnswers, grown, front_same, gives, represents_handed}
 use Rattle.reduce_walk.proofs.tests.UnchangedNodeStep.step.Goals as goal
 
 same : (ts us : Trees) → AreAnswers (λ (t u : Tree). u ≡ t) ts us → us ≡ ts

@@ -1,10 +1,5 @@
 use Rattle.std.proofs.Common.{◌∙◌, ap, refl, sym, inl}
-use Rattle.calc_algebra.specs.Reduced.{is_reduced}
-use Rattle.calc_algebra.proofs.NumberLaws.{number_words}
-use Rattle.coefficients.proofs.Coefficients.{put_reduces}
-use Rattle.tree_handles.specs.Roots.{without_root}
-use Rattle.tree_handles.proofs.Given.{gives_as, owned, handed_beside, handed_at}
-use Rattle.tree_handles.proofs.Outcomes.{eqb-sym, if_map}
+use Rattle.sum_reduce.proofs.Shared.{is_reduced, number_words, put_reduces, without_root, gives_as, owned, handed_beside, handed_at, eqb-sym, if_map}
 use Rattle.sum_reduce.proofs.Tested.{loose_monic, number_reduced}
 use Rattle.sum_reduce.proofs.tests.building.before_sum.Goals as goal
 

@@ -1,6 +1,5 @@
 use Rattle.std.proofs.Common.{refl}
-use Rattle.tree_handles.proofs.Outcomes.{if_map}
-use Rattle.tree_handles.proofs.Given.{gives_as, given_handed, given_told, given_rest}
+use Rattle.sum_reduce.proofs.Shared.{if_map, gives_as, given_handed, given_told, given_rest}
 use Rattle.sum_reduce.proofs.Tested.{number_reduced}
 use Rattle.sum_reduce.proofs.tests.building.build.Goals as goal
 

@@ -1,7 +1,6 @@
 use Rattle.std.proofs.Common.{◌∙◌, ap}
-use Rattle.calc_algebra.specs.Reduced.{is_reduced}
+use Rattle.sum_reduce.proofs.Shared.{is_reduced, is_loose}
 use Rattle.number_forms.proofs.SumChanges.{same_plain, read_expression}
-use Rattle.sum_reduce.specs.Terms.{is_loose}
 use Rattle.sum_reduce.proofs.tests.building.is_sum.Goals as goal
 
 pub is_loose-requires-clause-expression : goal.is_loose-requires-clause-expression

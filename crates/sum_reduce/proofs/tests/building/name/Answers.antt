@@ -1,6 +1,5 @@
 use Rattle.std.proofs.Common.{sym, subst, refl}
-use Rattle.coefficients.specs.Coefficients.{IsMonic}
-use Rattle.tree_handles.proofs.Given.{gives_as}
+use Rattle.sum_reduce.proofs.Shared.{IsMonic, gives_as}
 use Rattle.sum_reduce.proofs.Tested.{symbol_monic}
 use Rattle.sum_reduce.proofs.tests.building.name.Goals as goal
 

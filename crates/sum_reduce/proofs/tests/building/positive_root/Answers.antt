@@ -1,6 +1,5 @@
 use Rattle.std.proofs.Common.{refl}
-use Rattle.number_forms.proofs.Pairs.{term_is_number}
-use Rattle.tree_handles.proofs.Given.{gives_as}
+use Rattle.sum_reduce.proofs.Shared.{term_is_number, gives_as}
 use Rattle.sum_reduce.proofs.tests.building.positive_root.Goals as goal
 
 pub returns-clause-ok : goal.returns-clause-ok

@@ -1,7 +1,5 @@
 use Rattle.std.proofs.Common.{◌∙◌}
-use Rattle.number_forms.proofs.Pairs.{first_handed, pair_apart, first_told, pair_rest}
-use Rattle.number_forms.proofs.TermTrees.{if_given}
-use Rattle.tree_handles.proofs.Given.{given_handed, given_told}
+use Rattle.sum_reduce.proofs.Shared.{first_handed, pair_apart, first_told, pair_rest, if_given, given_handed, given_told}
 use Rattle.sum_reduce.proofs.tests.building.root.Goals as goal
 
 pub multiply_numbers-requires-clause-first : goal.multiply_numbers-requires-clause-first

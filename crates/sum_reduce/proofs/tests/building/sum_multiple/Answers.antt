@@ -1,8 +1,5 @@
 use Rattle.std.proofs.Common.{◌∙◌, ap}
-use Rattle.tree_handles.proofs.Outcomes.{if_map}
-use Rattle.number_forms.proofs.Pairs.{first_handed, pair_apart, first_told}
-use Rattle.tree_handles.specs.Roots.{without_root}
-use Rattle.tree_handles.proofs.Given.{gives_as, given_handed, given_told, given_rest}
+use Rattle.sum_reduce.proofs.Shared.{if_map, first_handed, pair_apart, first_told, without_root, gives_as, given_handed, given_told, given_rest}
 use Rattle.sum_reduce.proofs.tests.building.sum_multiple.Goals as goal
 
 pub before_sum-requires-clause-first : goal.before_sum-requires-clause-first

@@ -1,11 +1,5 @@
 use Rattle.std.proofs.Common.{◌∙◌, ap, refl, arith}
-use Rattle.calc_terms.specs.Trees.{count}
-use Rattle.calc_algebra.specs.Reduced.{are_reduced}
-use Rattle.tree_handles.specs.Handed.{tree_of}
-use Rattle.tree_handles.specs.Standing.{forest}
-use Rattle.tree_handles.proofs.Given.{given_root, given_told, given_rest}
-use Rattle.tree_handles.proofs.Roots.{root_held}
-use Rattle.sum_reduce.specs.Sums.{terms_in}
+use Rattle.sum_reduce.proofs.Shared.{count, are_reduced, tree_of, forest, given_root, given_told, given_rest, root_held, terms_in}
 use Rattle.sum_reduce.proofs.Places.{count_inserted}
 use Rattle.sum_reduce.proofs.Sums.{changes_same, changes_after, changes_rest, put_in, roots_apart, sum_live}
 use Rattle.sum_reduce.proofs.Tested.{empty_sum, empty_terms, placed, reduced_inserted, moved_sum, moved_terms}

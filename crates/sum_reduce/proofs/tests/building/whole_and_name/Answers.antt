@@ -1,12 +1,6 @@
 use Rattle.std.proofs.Common.{◌∙◌, ap, refl, sym, subst, arith}
-use Rattle.tree_handles.proofs.Outcomes.{if_map}
 use Rattle.std.specs.Prelude.{◌≤◌}
-use Rattle.std.proofs.lemmas.Bool.{and_from}
-use Rattle.calc_terms.specs.Trees.{Tree, count, is_add}
-use Rattle.number_forms.proofs.Pairs.{first_handed, pair_apart, first_told, pair_rest}
-use Rattle.calc_algebra.specs.Reduced.{are_reduced}
-use Rattle.tree_handles.specs.Expressions.{children_of}
-use Rattle.tree_handles.proofs.Given.{gives_as, given_handed, given_told, given_rest}
+use Rattle.sum_reduce.proofs.Shared.{if_map, and_from, Tree, count, is_add, first_handed, pair_apart, first_told, pair_rest, are_reduced, children_of, gives_as, given_handed, given_told, given_rest}
 use Rattle.sum_reduce.proofs.Tested.{number_reduced}
 use Rattle.sum_reduce.proofs.tests.building.whole_and_name.Goals as goal
 

@@ -1,8 +1,5 @@
 use Rattle.std.proofs.Common.{◌≡◌, ◌≤◌, true}
-use Rattle.calc_terms.specs.Trees.{count}
-use Rattle.calc_algebra.specs.Reduced.{are_reduced}
-use Rattle.tree_handles.specs.Standing.{Stands, forest}
-use Rattle.sum_reduce.specs.Sums.{Changes, terms_in}
+use Rattle.sum_reduce.proofs.Shared.{count, are_reduced, Stands, forest, Changes, terms_in}
 use Rattle.sum_reduce.proofs.tests.orders.sum_of_names.Given as goal
 
 abbrev pub invariant-loop-place : goal.invariant-loop-place

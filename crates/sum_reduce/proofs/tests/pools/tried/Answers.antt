@@ -1,8 +1,5 @@
 use Rattle.std.proofs.Common.{sym, subst}
-use Rattle.tree_handles.specs.Expressions.{IsExpression}
-use Rattle.tree_handles.specs.Standing.{forest}
-use Rattle.tree_handles.proofs.Given.{gives_as, given_handed, given_other, given_rest, given_told}
-use Rattle.tree_handles.proofs.Lasts.{expression_root}
+use Rattle.sum_reduce.proofs.Shared.{IsExpression, forest, gives_as, given_handed, given_other, given_rest, given_told, expression_root}
 use Rattle.sum_reduce.proofs.tests.pools.tried.Goals as goal
 
 pub reduce_sum-requires-clause-handed : goal.reduce_sum-requires-clause-handed

@@ -1,11 +1,8 @@
 use Rattle.std.proofs.Common.{◌≡◌, ◌∷◌, ◌-◌, ℕ, sym, ap, ◌∙◌, arith, length}
-use Rattle.calc_terms.specs.declared.leaf.Header.{Header}
-use Rattle.node_pool.specs.Places.{since}
-use Rattle.tree_handles.specs.Children.{root_ids}
-use Rattle.tree_handles.specs.Forest.{forest_of, first_trees}
+use Rattle.tree_handles.proofs.Shared.{Header, since, root_ids, forest_of, first_trees}
 use Rattle.tree_handles.proofs.ChildPlaces.{next, next_is}
-use Rattle.tree_handles.proofs.siblings.ChildIdsIterator.next.Goals as goal
 use Rattle.tree_handles.proofs.siblings.ChildIdsIterator.next.Goals.{After-of}
+use Rattle.tree_handles.proofs.siblings.ChildIdsIterator.next.Goals as goal
 
 pub header-header-requires-clause-inside : goal.header-header-requires-clause-inside
 header-header-requires-clause-inside c = next c.self.inside.left c.self.inside.place c.self.inside.pool.now.nodes (omega (arith, c.if-self-eq0.false)) c.self.invariant.0 c.self.invariant.1

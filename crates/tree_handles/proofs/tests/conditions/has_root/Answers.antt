@@ -1,7 +1,5 @@
 use Rattle.std.proofs.Common.{◌∙◌, sym, arith}
-use Rattle.node_pool.proofs.Walk.{starts}
-use Rattle.tree_handles.specs.Roots.{has_root}
-use Rattle.tree_handles.specs.Standing.{forest}
+use Rattle.tree_handles.proofs.Shared.{starts, has_root, forest}
 use Rattle.tree_handles.proofs.Tested.{roots_start, roots_more, roots_found, roots_end}
 use Rattle.tree_handles.proofs.tests.conditions.has_root.Goals as goal
 

@@ -1,8 +1,5 @@
 use Rattle.std.proofs.Common.{◌-◌}
-use Rattle.node_pool.specs.Nodes.{used}
-use Rattle.node_pool.specs.Places.{IsBoundary}
-use Rattle.tree_handles.specs.Roots.{has_root}
-use Rattle.tree_handles.specs.Standing.{forest}
+use Rattle.tree_handles.proofs.Shared.{used, IsBoundary, has_root, forest}
 use Rattle.tree_handles.proofs.Tested.{IsRootsLeft}
 use Rattle.tree_handles.proofs.tests.conditions.has_root.Given as goal
 

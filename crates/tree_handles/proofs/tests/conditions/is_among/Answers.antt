@@ -1,6 +1,5 @@
 use Rattle.std.proofs.Common.{◌∙◌, ap, sym, arith}
-use Rattle.node_pool.specs.Nodes.{has}
-use Rattle.node_pool.proofs.Cuts.{between_none, boundary_le}
+use Rattle.tree_handles.proofs.Shared.{has, between_none, boundary_le}
 use Rattle.tree_handles.proofs.Tested.{among_here, among_behind, one_more}
 use Rattle.tree_handles.proofs.tests.conditions.is_among.Goals as goal
 

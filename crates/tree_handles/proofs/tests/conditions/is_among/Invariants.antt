@@ -1,6 +1,5 @@
 use Rattle.std.proofs.Common.{◌≡◌, ◌-◌, ◌≤◌}
-use Rattle.node_pool.specs.Nodes.{has}
-use Rattle.node_pool.specs.Places.{between, IsBoundary}
+use Rattle.tree_handles.proofs.Shared.{has, between, IsBoundary}
 use Rattle.tree_handles.proofs.tests.conditions.is_among.Given as goal
 
 abbrev pub invariant-loop-at : goal.invariant-loop-at

@@ -1,7 +1,5 @@
 use Rattle.std.proofs.Common.{◌∙◌, ap}
-use Rattle.node_pool.specs.Nodes.{has}
-use Rattle.tree_handles.specs.Inside.{holds}
-use Rattle.tree_handles.specs.Standing.{forest}
+use Rattle.tree_handles.proofs.Shared.{has, holds, forest}
 use Rattle.tree_handles.proofs.Adding.{root_live}
 use Rattle.tree_handles.proofs.Copying.{tree_here}
 use Rattle.tree_handles.proofs.Forests.{has-flatten}

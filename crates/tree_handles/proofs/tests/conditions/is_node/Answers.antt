@@ -1,7 +1,5 @@
 use Rattle.std.proofs.Common.{◌∙◌, ap}
-use Rattle.node_pool.specs.Nodes.{has}
-use Rattle.node_pool.proofs.Walk.{starts}
-use Rattle.tree_handles.specs.Standing.{forest}
+use Rattle.tree_handles.proofs.Shared.{has, starts, forest}
 use Rattle.tree_handles.proofs.Forests.{has-flatten}
 use Rattle.tree_handles.proofs.Tested.{between_all}
 use Rattle.tree_handles.proofs.tests.conditions.is_node.Goals as goal

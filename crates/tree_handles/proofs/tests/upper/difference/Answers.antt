@@ -1,8 +1,5 @@
 use Rattle.std.proofs.Common.{◌∙◌, ap, refl}
-use Rattle.calc_terms.specs.Fractions.{lowest}
-use Rattle.calc_terms.specs.Ratio.{Ratio}
-use Rattle.tree_handles.specs.Forest.{Forest}
-use Rattle.tree_handles.specs.Roots.{without_root}
+use Rattle.tree_handles.proofs.Shared.{lowest, Ratio, Forest, without_root}
 use Rattle.tree_handles.proofs.Fronts.{behind_first, behind_later, behind_new, front_same, front_without, front_after, front_after_two}
 use Rattle.tree_handles.proofs.Given.{given_handed, given_other, given_apart, given_told, given_same, given_rest, given_without, gives_as, handed_beside}
 use Rattle.tree_handles.proofs.Roots.{tree-without}

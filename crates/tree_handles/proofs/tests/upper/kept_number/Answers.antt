@@ -1,9 +1,5 @@
 use Rattle.std.proofs.Common.{◌≡◌, ◌⊎◌, inl, inr, ◌∙◌, ap, sym}
-use Rattle.calc_terms.specs.Fractions.{Fraction}
-use Rattle.calc_terms.specs.Rat.{value_of}
-use Rattle.calc_terms.specs.Trees.{Tree, num, is_num}
-use Rattle.tree_handles.specs.Roots.{without_root}
-use Rattle.tree_handles.specs.Standing.{forest}
+use Rattle.tree_handles.proofs.Shared.{Fraction, value_of, Tree, num, is_num, without_root, forest}
 use Rattle.tree_handles.proofs.Fronts.{behind_first, behind_later, front_same, front_at, front_without, front_after}
 use Rattle.tree_handles.proofs.Given.{gives_as, handed_beside, handed_at, owned}
 use Rattle.tree_handles.proofs.Lasts.{plain_root}

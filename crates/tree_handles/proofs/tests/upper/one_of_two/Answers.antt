@@ -1,7 +1,5 @@
 use Rattle.std.proofs.Common.{ap, ◌∙◌}
-use Rattle.calc_terms.specs.Trees.{is_num}
-use Rattle.tree_handles.specs.Expressions.{plain}
-use Rattle.tree_handles.specs.Forest.{Forest}
+use Rattle.tree_handles.proofs.Shared.{is_num, plain, Forest}
 use Rattle.tree_handles.proofs.Given.{given_root, given_handed, given_other, given_apart, given_told, given_same}
 use Rattle.tree_handles.proofs.Outcomes.{eqb-sym}
 use Rattle.tree_handles.proofs.tests.upper.one_of_two.Goals as goal

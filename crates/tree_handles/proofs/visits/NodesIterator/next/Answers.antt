@@ -1,12 +1,8 @@
 use Rattle.std.proofs.Common.{◌≡◌, ◌∷◌, ◌+◌, ◌-◌, length, sym, ap, ◌∙◌, arith}
-use Rattle.calc_terms.specs.declared.leaf.Header.{Header}
-use Rattle.node_pool.specs.Places.{since}
-use Rattle.tree_handles.specs.declared.visits.Visit.{Visit}
-use Rattle.tree_handles.specs.Forest.{forest_of, first_trees}
-use Rattle.tree_handles.specs.Visits.{visits_of}
+use Rattle.tree_handles.proofs.Shared.{Header, since, Visit, forest_of, first_trees, visits_of}
 use Rattle.tree_handles.proofs.Visiting.{IsStep, walk_inside, walk_few, walk_step, visit_by, visit_told}
-use Rattle.tree_handles.proofs.visits.NodesIterator.next.Goals as goal
 use Rattle.tree_handles.proofs.visits.NodesIterator.next.Goals.{After-from, After-of}
+use Rattle.tree_handles.proofs.visits.NodesIterator.next.Goals as goal
 
 pub step-next-requires-clause-inside : goal.step-next-requires-clause-inside
 step-next-requires-clause-inside c = walk_inside c.self.inside.place c.self.inside.pool.now.nodes c.self.invariant.0 c.self.invariant.1 (omega (arith, c.if-self-eq0.false))

@@ -9,6 +9,7 @@ pub use Rattle.calc_algebra.specs.SquareClasses.{Inverts, Same}
 pub use Rattle.calc_algebra.specs.Surds.{Surd, surd_of, surd_one, surd_power, surd_scale, surd_times}
 pub use Rattle.calc_measures.specs.Literals.{opposite, whole_literal, whole_value}
 pub use Rattle.calc_terms.specs.Fractions.{Fraction, lowest, minus_one_fraction, negative, quotient, same_lowest, times, times_lowest, whole_fraction}
+unfoldable pub use Rattle.calc_terms.specs.Fractions.{one_fraction, zero_fraction}
 pub use Rattle.calc_terms.specs.Leaf.{name_of}
 pub use Rattle.calc_terms.specs.Payload.{bare, is_bare, rational, size_of_payload}
 pub use Rattle.calc_terms.specs.Rat.{ratio_of, value_of}
@@ -25,11 +26,13 @@ pub use Rattle.rational128.proofs.LowestTerms.{ratio_parts}
 pub use Rattle.rational128.proofs.Signed.{told}
 pub use Rattle.std.proofs.lemmas.Bool.{eq-eqb, eqb-true}
 pub use Rattle.std.proofs.lemmas.Int.{fits_signed_from_abs, ints, to_z-of_z}
+pub use Rattle.std.proofs.lemmas.List.{length-append}
 pub use Rattle.std.specs.Int.{w128}
 pub use Rattle.std.specs.Str.{bytes_eq}
-pub use Rattle.tree_handles.proofs.Given.{gives, gives_as, represents_join, represents_node, represents_none, append-none}
+pub use Rattle.tree_handles.proofs.Given.{append-none, given_apart, given_handed, given_other, given_rest, given_without, gives, gives_as, represents_join, represents_node, represents_none}
+pub use Rattle.tree_handles.proofs.Lasts.{ends_as, expression_root}
 pub use Rattle.tree_handles.proofs.NextChildren.{last_child, next_child}
-pub use Rattle.tree_handles.proofs.Outcomes.{by_test}
+pub use Rattle.tree_handles.proofs.Outcomes.{by_test, eqb-sym}
 pub use Rattle.tree_handles.proofs.Plains.{alone, count-plains, size-plain, sizes-plains}
 pub use Rattle.tree_handles.specs.Children.{root_ids}
 pub use Rattle.tree_handles.specs.Expressions.{AllExpressions, IsExpression, children_of, compound, nth, plain, plains, takes_kind}

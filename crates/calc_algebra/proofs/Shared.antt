@@ -1,0 +1,31 @@
+-- The names that the proofs share.
+pub use Rattle.calc_algebra.specs.BadAndEasy.{GivesZeroNoPower, HasValue, IsBad, IsBadNode, IsEasy, IsHalf, IsNegative, IsShort, IsWhole, IsZero}
+pub use Rattle.calc_algebra.specs.Clean.{IsClean, IsTried, empty_product, left_from, no_square_divides, one_factor_more, trial_limit, without}
+unfoldable pub use Rattle.calc_algebra.specs.Clean.{is_clean, left_of}
+pub use Rattle.calc_algebra.specs.Meanings.{Assignment, Binding, Gives, IsAssignment, IsPower, IsRoot, IsRootOf, IsWholePower, Means, MeansProduct, MeansSum, bound_names}
+pub use Rattle.calc_algebra.specs.Numbers.{AreTerms, IsBelowAll, IsNumber, IsRadicand, IsTerm, Rises, are_numbers, are_terms, classes, is_below_all, is_radicand, is_term, natural_of, rises, term_of, terms_of, value}
+unfoldable pub use Rattle.calc_algebra.specs.Numbers.{is_number}
+pub use Rattle.calc_algebra.specs.Reduced.{HasForm, IsFrontForm, IsNodeForm, IsPowerForm, IsProductForm, IsReduced, IsSumForm, IsWholePowerForm, NoneIs, RisesBy, all_parts, all_parts_of, base_of, front_form, has_form, is_opaque_exponent, is_transparent_power, is_undistributed, node_form, none_is, num_one, number_terms, other_terms, part_of, power_form, product_form, product_tree, rises_by, split, split_product, sum_form, whole_power_form}
+unfoldable pub use Rattle.calc_algebra.specs.Reduced.{is_reduced}
+pub use Rattle.calc_algebra.specs.Rewritings.{HasNoNewName, KeepsMeanings, Reduces, Rewrites}
+pub use Rattle.calc_algebra.specs.SquareClasses.{Inverts, Same, are_alike, class_coefficient, radicands, term_share}
+pub use Rattle.calc_algebra.specs.SquareRoots.{IsSquareRoot, next_square_root, square_root_in}
+unfoldable pub use Rattle.calc_algebra.specs.SquareRoots.{square_root}
+pub use Rattle.calc_algebra.specs.Surds.{Surd, Term, surd_of, surd_one, surd_power, surd_scale, surd_times, term, term_scale, term_times}
+pub use Rattle.calc_algebra.specs.TreeOrder.{tree_cmp, trees_cmp}
+pub use Rattle.calc_terms.proofs.FractionFacts.{cross_products, no_one, no_zero, one_test, whole_denominator, zero_is, zero_test}
+pub use Rattle.calc_terms.specs.Fits.{fraction_power}
+pub use Rattle.calc_terms.specs.FractionLaws.{negative_lowest, one_times, plus_negative, times_assoc, times_comm, times_plus, zero_plus, zero_times}
+pub use Rattle.calc_terms.specs.Fractions.{Fraction, Holds, den_pos, fraction_cmp, fraction_path, held, inverse, inverse_of, is_lowest, is_one_fraction, is_zero_fraction, lowest_cross, lowest_parts, minus_one_fraction, mul_pos, negative, plus_assoc, plus_comm, plus_lowest, quotient, same_fraction, same_lowest, second_held, times_lowest, whole_fraction}
+unfoldable pub use Rattle.calc_terms.specs.Fractions.{lowest, one_fraction, plus, times, zero_fraction}
+pub use Rattle.calc_terms.specs.Gcd.{divided, gauss, gcd_in, gcd_is}
+unfoldable pub use Rattle.calc_terms.specs.Gcd.{gcd}
+pub use Rattle.calc_terms.specs.Integers.{cancel_pos, diff_eq, diffs, eq_diff, int_is_even, int_is_negative, int_is_zero, mul_diff, parts}
+pub use Rattle.calc_terms.specs.Trees.{AllParts, AllPartsOf, HasTwo, IsPart, IsPartOf, Tree, Trees, add, append, div, first, has_two, has_undef, in_add, in_base, in_dividend, in_divisor, in_exponent, in_left, in_mult, in_neg, in_right, in_root, is_add, is_mult, is_num, is_root, is_undef, itself, later, more, mult, names, names_of, neg, none, num, power, root, root_code, sub, symbol, undef}
+pub use Rattle.std.proofs.lemmas.Bool.{and_from, and_parts, eq-eqb, eqb-true, false_from_ne_true, le-leb, leb-false, leb-true, lt-ltb, ltb-true, not-true, not_from_false, or_left, or_right}
+pub use Rattle.std.proofs.lemmas.Int.{ints}
+pub use Rattle.std.proofs.lemmas.List.Elements.{Contains-append_cases, Contains-append_left, Contains-append_right}
+pub use Rattle.std.proofs.lemmas.Nat.Gcd.{dvd_of_mod-eq-zero, dvd_trans, mod-eq-zero_of_dvd}
+pub use Rattle.std.specs.Ordering.{MatchOrdering, int_cmp, is_lt, nat_cmp, ordering_reverse, ordering_then}
+pub use Rattle.std.specs.declared.cmp.Ordering.{Ordering}
+pub use Rattle.std.specs.declared.cmp.Ordering.TheVariants.{Equal, Greater, Less}
