@@ -49,3 +49,4 @@ pub mod NodeBits
 pub mod OverAnswers
 pub mod Defined
 pub mod Shared
+pub mod Turned

@@ -7,6 +7,7 @@ ghost use Rattle.calc_terms.specs.Trees.{add, count, more, mult, none};
 ghost use Rattle.child_lists.specs.Lists.{Lists};
 ghost use Rattle.expand_forms.specs.ExpandedTrees.{factor_trees};
 ghost use Rattle.expand_forms.specs.ExpansionRoom.{number_bytes, term_bytes};
+ghost use Rattle.expand_forms.specs.Merging.{AreFactors};
 ghost use Rattle.expand_forms.specs.Polynomials.{Monomial, monomial_times, summand};
 ghost use Rattle.expand_forms.specs.PolynomialTrees.{polynomial_of};
 ghost use Rattle.expand_forms.specs.Sums.{IsSum, IsSumOf, with_term};
@@ -22,7 +23,7 @@ ghost use Rattle.tree_handles.specs.Inside.{tree_at};
 ghost use Rattle.tree_handles.specs.Roots.{without_root};
 ghost use Rattle.tree_handles.specs.Standing.{KeepsRefusals, LacksBytes, Refuses, Stands, forest};
 
-use crate::factors;
+use crate::factors::{self, Factors};
 use crate::monomials::{completed, place_merged};
 use crate::ordering::place_of;
 use crate::rationals::is_zero;
@@ -33,12 +34,13 @@ use rational128::add;
 use tree_handles::{Handle, NumberFault, release, replace_known_child, take_known_child};
 
 /// Joins a coefficient times the monomials of two terms to a sum: with the term that has its monomial, which may leave
-/// none, or at its place, which is sought from `near` on. Tells the place.
+/// none, or at its place, which is sought from `near` on. Tells the place. The factors of the left term are listed.
 pub(crate) fn join_product<const N: usize>(
     pool: &mut Pool,
     sum: &Handle,
     list: &mut ChildList<N>,
     coefficient: Rat,
+    left: &Factors,
     s: Id,
     t: Id,
     near: u16,
@@ -47,6 +49,7 @@ pub(crate) fn join_product<const N: usize>(
     requires sum { Gives (without_root sum.now (forest pool.old)) (forest pool.old) sum.now IsSum }
     requires lists { Lists list.old sum.now (forest pool.old) }
     requires nonzero { is_zero_fraction (value_of coefficient) ≡ false }
+    requires factors { AreFactors left.now s (forest pool.old) }
     requires first { IsExpression s (without_root sum.now (forest pool.old)) }
     requires second { IsExpression t (without_root sum.now (forest pool.old)) }
     requires monomials { let others = without_root sum.now (forest pool.old) in
@@ -68,7 +71,7 @@ pub(crate) fn join_product<const N: usize>(
         → IfErr result (OfFull (λ full. free_of pool.old < term_bytes (length (monomial_times m n)))) }
     ensures stands { Stands pool.new }
 {
-    let product = place_merged(pool, s, t)?;
+    let product = place_merged(pool, left, s, t)?;
     match place_of(pool, sum.id(), list, product.id(), near) {
         Err(at) => {
             let term = completed(pool, product, coefficient)?;

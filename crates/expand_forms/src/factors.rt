@@ -59,7 +59,7 @@ const LISTED: usize = 8;
 pub(crate) struct Factors {
     is_product: bool,
     first: u16,
-    pub count: u16,
+    count: u16,
     list: ChildList<LISTED>,
 }
 
@@ -90,6 +90,28 @@ impl Factors {
             return None;
         }
         Some(factor_at(pool, self.id(pool, term, at)))
+    }
+
+    /// The same, known where no factor was passed since it was read.
+    pub(crate) fn following(
+        &self,
+        pool: &Pool,
+        term: Id,
+        at: u16,
+        passed: u16,
+        known: Option<Factor>,
+    ) -> Option<Factor>
+        requires stands { Stands pool.now }
+        requires expression { IsExpression term (forest pool.now) }
+        requires factors { AreFactors self.now term (forest pool.now) }
+        requires monomial { (m : Monomial) × HasMonomial m (plain (tree_at term (forest pool.now))) }
+        requires known { passed ≡ 0 → (m : Monomial) → HasMonomial m (plain (tree_at term (forest pool.now))) → BeginsWith known (drop at m) }
+        ensures { (m : Monomial) → HasMonomial m (plain (tree_at term (forest pool.now))) → BeginsWith result (drop at m) }
+    {
+        if passed == 0 {
+            return known;
+        }
+        self.get(pool, term, at)
     }
 
     /// Its identifier.

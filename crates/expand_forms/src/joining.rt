@@ -22,7 +22,7 @@ ghost use Rattle.tree_handles.specs.Roots.{without_root};
 ghost use Rattle.tree_handles.specs.Standing.{KeepsRefusals, Stands, forest};
 
 use crate::adding::join_product;
-use crate::factors::coefficient;
+use crate::factors::{Factors, coefficient};
 use crate::terms::{term_count, term_id};
 use calc_terms::Rat;
 use child_lists::{ChildList, FEW, MANY};
@@ -31,6 +31,7 @@ use rational128::{add, mul};
 use tree_handles::{Handle, NumberFault, children};
 
 /// Joins the product of each term of an expanded tree and each of another to a sum. Where both are one tree, its mixed pairs are made once.
+/// Otherwise rows run over the tree with fewer terms: the first row is appended, and few terms are put between others.
 pub(crate) fn join_products<const N: usize>(
     pool: &mut Pool,
     sum: &Handle,
@@ -65,6 +66,12 @@ pub(crate) fn join_products<const N: usize>(
             join_squares::<N, FEW>(pool, sum, list, a)
         } else {
             join_squares::<N, MANY>(pool, sum, list, a)
+        }
+    } else if term_count(pool, b) < term_count(pool, a) {
+        if few {
+            join_rows::<N, FEW>(pool, sum, list, b, a)
+        } else {
+            join_rows::<N, MANY>(pool, sum, list, b, a)
         }
     } else if few {
         join_rows::<N, FEW>(pool, sum, list, a, b)
@@ -147,7 +154,8 @@ fn join_squares<const N: usize, const M: usize>(
         let term = term_id(pool, a, &terms, at);
         let factor = coefficient(pool, term);
         let square = mul(factor, factor)?;
-        join_product(pool, sum, list, square, term, term, at)?;
+        let factors = Factors::of(pool, term);
+        join_product(pool, sum, list, square, &factors, term, term, at)?;
         // It fits, since the square does.
         let double = add(factor, factor)?;
         join_row(pool, sum, list, double, term, a, &terms, at + 1)?;
@@ -189,11 +197,12 @@ fn join_row<const N: usize, const M: usize>(
         → IfErr result (OfFull (λ full. free_of pool.old + size (tree_of sum.now pool.old) < sum_bytes ns n)) }
     ensures stands { Stands pool.new }
 {
+    let left = Factors::of(pool, term);
     let mut near = from;
     for at in from..term_count(pool, b) {
         let other = term_id(pool, b, seconds, at);
         let product = mul(factor, coefficient(pool, other))?;
-        let place = join_product(pool, sum, list, product, term, other, near)?;
+        let place = join_product(pool, sum, list, product, &left, term, other, near)?;
         near = place.saturating_add(1);
     }
     Ok(())

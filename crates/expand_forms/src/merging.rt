@@ -8,7 +8,7 @@ ghost use Rattle.calc_terms.specs.Rat.{value_of};
 ghost use Rattle.calc_terms.specs.Trees.{num, power, symbol as symbol_tree};
 ghost use Rattle.expand_forms.specs.ExpandedTrees.{factor_tree, factor_trees};
 ghost use Rattle.expand_forms.specs.ExpansionRoom.{factor_bytes};
-ghost use Rattle.expand_forms.specs.Merging.{AddsTrees, BeginsWith, GoesOn, IsFirst};
+ghost use Rattle.expand_forms.specs.Merging.{AddsTrees, AreFactors, BeginsWith, GoesOn, IsFirst};
 ghost use Rattle.expand_forms.specs.Polynomials.{Factor as FactorOf, IsMonomial, Monomial, monomial_times};
 ghost use Rattle.expand_forms.specs.Terms.{HasMonomial, IsRead};
 ghost use Rattle.node_pool.specs.State.{free_of};
@@ -134,9 +134,15 @@ fn place_power(pool: &mut Pool, factor: Factor) -> Result<Handle, Full>
     Ok(power)
 }
 
-/// New last trees: the factors of two terms, multiplied. Tells how many.
-pub(crate) fn place_factors(pool: &mut Pool, s: Id, t: Id) -> Result<u16, NumberFault>
+/// New last trees: the factors of two terms, multiplied. Tells how many. Those of the left are listed.
+pub(crate) fn place_factors(
+    pool: &mut Pool,
+    left: &Factors,
+    s: Id,
+    t: Id,
+) -> Result<u16, NumberFault>
     requires stands { Stands pool.old }
+    requires factors { AreFactors left.now s (forest pool.old) }
     requires first { IsExpression s (forest pool.old) }
     requires second { IsExpression t (forest pool.old) }
     requires monomials { (m : Monomial) × (n : Monomial) × HasMonomial m (plain (tree_at s (forest pool.old))) × HasMonomial n (plain (tree_at t (forest pool.old))) }
@@ -152,16 +158,19 @@ pub(crate) fn place_factors(pool: &mut Pool, s: Id, t: Id) -> Result<u16, Number
         → IfErr result (OfFull (λ full. free_of pool.old < factor_bytes * length (monomial_times m n))) }
     ensures stands { Stands pool.new }
 {
-    let left = Factors::of(pool, s);
     let right = Factors::of(pool, t);
     let mut i = 0u16;
     let mut j = 0u16;
     let mut many = 0u16;
-    while let Some(next) = next_factor(left.get(pool, s, i), right.get(pool, t, j))? {
+    let mut first = left.get(pool, s, i);
+    let mut second = right.get(pool, t, j);
+    while let Some(next) = next_factor(first, second)? {
         let _factor = place_factor(pool, next.factor)?;
         i += next.left;
         j += next.right;
         many += 1;
+        first = left.following(pool, s, i, next.left, first);
+        second = right.following(pool, t, j, next.right, second);
     }
     Ok(many)
 }

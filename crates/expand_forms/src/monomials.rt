@@ -5,6 +5,7 @@ ghost use Rattle.calc_terms.specs.Rat.{value_of};
 ghost use Rattle.calc_terms.specs.Trees.{is_mult, more, mult, num};
 ghost use Rattle.expand_forms.specs.ExpandedTrees.{factor_trees, term_tree};
 ghost use Rattle.expand_forms.specs.ExpansionRoom.{number_bytes, term_bytes};
+ghost use Rattle.expand_forms.specs.Merging.{AreFactors};
 ghost use Rattle.expand_forms.specs.Polynomials.{Monomial, monomial_times, summand};
 ghost use Rattle.expand_forms.specs.Terms.{HasMonomial, led_by};
 ghost use Rattle.node_pool.specs.State.{free_of};
@@ -17,6 +18,7 @@ ghost use Rattle.tree_handles.specs.Inside.{tree_at};
 ghost use Rattle.tree_handles.specs.Roots.{without_root};
 ghost use Rattle.tree_handles.specs.Standing.{KeepsRefusals, LacksBytes, Refuses, Stands, forest};
 
+use crate::factors::Factors;
 use crate::merging::place_factors;
 use crate::rationals::is_one;
 use calc_terms::{Kind, Rat};
@@ -24,9 +26,15 @@ use coefficients::unwrapped;
 use node_pool::{Full, Id, Pool};
 use tree_handles::{Handle, NumberFault, add_child, adopt, children, node, number};
 
-/// A new last tree: the factors of two terms, multiplied, as a product of any number of them.
-pub(crate) fn place_merged(pool: &mut Pool, s: Id, t: Id) -> Result<Handle, NumberFault>
+/// A new last tree: the factors of two terms, multiplied, as a product of any number of them. Those of the left are listed.
+pub(crate) fn place_merged(
+    pool: &mut Pool,
+    left: &Factors,
+    s: Id,
+    t: Id,
+) -> Result<Handle, NumberFault>
     requires stands { Stands pool.old }
+    requires factors { AreFactors left.now s (forest pool.old) }
     requires first { IsExpression s (forest pool.old) }
     requires second { IsExpression t (forest pool.old) }
     requires monomials { (m : Monomial) × (n : Monomial) × HasMonomial m (plain (tree_at s (forest pool.old))) × HasMonomial n (plain (tree_at t (forest pool.old))) }
@@ -43,7 +51,7 @@ pub(crate) fn place_merged(pool: &mut Pool, s: Id, t: Id) -> Result<Handle, Numb
     ensures stands { Stands pool.new }
 {
     let product = node(pool, Kind::Mult)?;
-    let factors = place_factors(pool, s, t)?;
+    let factors = place_factors(pool, left, s, t)?;
     adopt(pool, &product, factors);
     Ok(product)
 }

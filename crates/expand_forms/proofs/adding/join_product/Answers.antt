@@ -17,7 +17,7 @@ place_merged-requires g c =
     let (m, n, hm, hn) = c.requires.monomials in
     let x = beside c.requires.sum c.requires.first in
     let y = beside c.requires.sum c.requires.second in
-    record { stands = c.requires.stands; first = x.expression; second = y.expression; monomials = (m, n, subst (HasMonomial m) (sym x.same) hm, subst (HasMonomial n) (sym y.same) hn) }
+    record { stands = c.requires.stands; factors = c.requires.factors; first = x.expression; second = y.expression; monomials = (m, n, subst (HasMonomial m) (sym x.same) hm, subst (HasMonomial n) (sym y.same) hn) }
 
 -- ---- the product, behind the sum
 

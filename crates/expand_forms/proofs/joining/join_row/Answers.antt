@@ -4,6 +4,7 @@ use Rattle.expand_forms.proofs.Gathered.{gathered_refl}
 use Rattle.expand_forms.proofs.JoinLoops.{IsNextPart, IsNextTerm, joined_all, joined_more, joined_none, next_term, part_few, part_held, place_read, terms_read}
 use Rattle.expand_forms.proofs.JoinRooms.{term_lacks}
 use Rattle.expand_forms.proofs.ListedTerms.{lists_beside}
+use Rattle.expand_forms.proofs.AddedTrees.{factors_still}
 use Rattle.expand_forms.proofs.Rows.{next_coefficient, product_nonzero, row_end, row_next}
 use Rattle.expand_forms.proofs.Splits.{contradiction, first_fits}
 use Rattle.expand_forms.proofs.TermReadings.{beside, term_monomial}
@@ -31,6 +32,9 @@ next g c q r e p =
 pub term_count-at-end-requires-clause-expression : goal.term_count-at-end-requires-clause-expression
 term_count-at-end-requires-clause-expression g c = (beside c.requires.sum c.requires.second).expression
 
+pub of-left-requires : goal.of-left-requires
+of-left-requires g c = record { stands = c.requires.stands; expression = (beside c.requires.sum c.requires.first).expression }
+
 pub loop-at-init : goal.loop-at-init
 loop-at-init g c = record { lists = c.requires.lists; joined = joined_none c.args.sum.now _ _ c.args.pool.now c.requires.stands c.requires.sum (gathered_refl _) }
 
@@ -46,7 +50,7 @@ join_product-requires g c =
     let x = here g at in
     let nonzero = product_nonzero c.in_ok-product.ensures.product (no_zero _ (not_from_false _ c.requires.nonzero)) (next_coefficient x c.coefficient.ensures) x.term.nonzero in
     let term = subst (IsExpression c.args.term) (sym (given_rest j.gives)) c.requires.first in
-    (search rules, (j.stands, (gives_rest j.gives (λ t h. h.sum), (c.loop-at.invariant.lists, (nonzero, (term, (x.expression, (c.requires.first_term.summand.monomial, x.term.summand.monomial, first g at, term_monomial x.term))))))))
+    (search rules, (j.stands, (gives_rest j.gives (λ t h. h.sum), (c.loop-at.invariant.lists, (nonzero, (factors_still c.requires.sum j.gives c.requires.first c.of-left.ensures, (term, (x.expression, (c.requires.first_term.summand.monomial, x.term.summand.monomial, first g at, term_monomial x.term)))))))))
 
 pub returns-in_err-place-clause-front : goal.returns-in_err-place-clause-front
 returns-in_err-place-clause-front g c = front_after_one behind_first c.loop-at.invariant.joined.front c.join_product.ensures.front

@@ -56,7 +56,7 @@ join_product-requires g c =
     let j = c.loop-at.invariant.joined in
     let x = here g at in
     let m = x.term.summand.monomial in
-    (search rules, (j.stands, (gives_rest j.gives (λ t h. h.sum), (c.loop-at.invariant.lists, (product_nonzero c.in_ok-square.ensures.product (nonzero g at) refl (nonzero g at), (x.expression, (x.expression, (m, m, term_monomial x.term, term_monomial x.term))))))))
+    (search rules, (j.stands, (gives_rest j.gives (λ t h. h.sum), (c.loop-at.invariant.lists, (product_nonzero c.in_ok-square.ensures.product (nonzero g at) refl (nonzero g at), (c.of-factors.ensures, (x.expression, (x.expression, (m, m, term_monomial x.term, term_monomial x.term)))))))))
 
 pub returns-in_err-join_product-clause-front : goal.returns-in_err-join_product-clause-front
 returns-in_err-join_product-clause-front g c = front_after_one behind_first c.loop-at.invariant.joined.front c.join_product.ensures.front
@@ -64,7 +64,7 @@ returns-in_err-join_product-clause-front g c = front_after_one behind_first c.lo
 -- ---- after the square of the term
 
 abbrev read : (g : Over) → In_ok-join_product g → After-coefficient-factor g
-read g c = c.before.before.before.before.before.before.before.before
+read g c = c.before.before.before.before.before.before.before.before.before.before
 
 squared : (g : Over) (c : In_ok-join_product g) → Gives (without_root c.args.sum.now (forest c.loop-at.pool)) (forest c.join_product.new.pool) c.args.sum.now (IsSumOf (summand (value_of c.in_ok-square.square) (monomial_times (here g (read g c)).term.summand.monomial (here g (read g c)).term.summand.monomial) ∷ polynomial_of (tree_of c.args.sum.now c.loop-at.pool)))
 squared g c =

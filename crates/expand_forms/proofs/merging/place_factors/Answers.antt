@@ -1,43 +1,44 @@
-use Rattle.std.proofs.Common.{◌∙◌, ap, sym, subst, arith, ◌<◌, ◌*◌, length, drop}
-use Rattle.expand_forms.proofs.Shared.{factor_trees, HasExponents, factor_bytes, AddsTrees, GoesOn, IsNext, Monomial, monomial_times, HasMonomial, free_of, OfFull, kept_after, kept_same, passed_on, plain, tree_at, forest, front_after, front_same}
+use Rattle.std.proofs.Common.{◌≡◌, ◌+◌, ℕ, ◌∙◌, ap, sym, subst, arith, ◌<◌, ◌*◌, length, drop}
+use Rattle.expand_forms.proofs.Shared.{BeginsWith, factor_trees, HasExponents, factor_bytes, AddsTrees, GoesOn, IsNext, Monomial, monomial_times, HasMonomial, free_of, OfFull, kept_after, kept_same, passed_on, plain, tree_at, forest, front_after, front_same}
 use Rattle.expand_forms.proofs.AddedTrees.{adds_beside, adds_free, factors_beside, head_beside}
 use Rattle.expand_forms.proofs.Masses.{later_exponents}
-use Rattle.expand_forms.proofs.Merged.{all_gone, few_merged, merged_all, merged_length, merged_more, merged_none}
+use Rattle.std.specs.Prelude.{Option}
+use Rattle.expand_forms.specs.declared.factors.Factor.{Factor as Read}
+use Rattle.expand_forms.proofs.Merged.{IsMerged, all_gone, few_merged, merged_all, merged_length, merged_more, merged_none}
 use Rattle.expand_forms.proofs.TermBytes.{factors_most}
 use Rattle.expand_forms.proofs.TermReadings.{drop_length, drop_monomial, has_count}
-use Rattle.expand_forms.proofs.merging.place_factors.Goals.{In-Some}
+use Rattle.expand_forms.proofs.merging.place_factors.Goals.{In-Some, In_ok-_factor}
 use Rattle.tree_handles.specs.declared.fault.NumberFault.TheVariants as fault
 use Rattle.expand_forms.proofs.merging.place_factors.Goals as goal
 
 pub loop-next-init : goal.loop-next-init
-loop-next-init c = record { merged = λ m n hm hn. merged_none m n (forest c.args.pool.now); front = front_same; kept = kept_same c.args.pool.now; stands = c.requires.stands }
+loop-next-init c = record { first = c.get-first.ensures; second = c.get-second.ensures; merged = λ m n hm hn. merged_none m n (forest c.args.pool.now); front = front_same; kept = kept_same c.args.pool.now; stands = c.requires.stands }
 
-pub get-requires : goal.get-requires
-get-requires c =
+pub get-first-requires : goal.get-first-requires
+get-first-requires c =
     let (m, n, hm, hn) = c.requires.monomials in
-    let a = (c.loop-next.invariant.merged m n hm hn).adds in
-    let x = adds_beside a c.requires.first in
-    record { stands = c.loop-next.invariant.stands; expression = x.expression; factors = factors_beside a c.requires.first c.of-left.ensures; monomial = (m, subst (HasMonomial m) (sym x.same) hm) }
+    record { stands = c.requires.stands; expression = c.requires.first; factors = c.requires.factors; monomial = (m, hm) }
 
-pub get-requires-in-loop-next : goal.get-requires-in-loop-next
-get-requires-in-loop-next c =
+pub get-second-requires : goal.get-second-requires
+get-second-requires c =
     let (m, n, hm, hn) = c.requires.monomials in
-    let a = (c.loop-next.invariant.merged m n hm hn).adds in
-    let x = adds_beside a c.requires.second in
-    record { stands = c.loop-next.invariant.stands; expression = x.expression; factors = factors_beside a c.requires.second c.of-right.ensures; monomial = (n, subst (HasMonomial n) (sym x.same) hn) }
+    record { stands = c.requires.stands; expression = c.requires.second; factors = c.of-right.ensures; monomial = (n, hn) }
 
 pub next_factor-requires : goal.next_factor-requires
 next_factor-requires c =
     let (m, n, hm, hn) = c.requires.monomials in
     let a = (c.loop-next.invariant.merged m n hm hn).adds in
-    record { monomials = (drop c.loop-next.i m, drop c.loop-next.j n, head_beside c.loop-next.i c.get.result a c.requires.first c.get.ensures hm, head_beside c.loop-next.j c.get-in-loop-next.result a c.requires.second c.get-in-loop-next.ensures hn) }
+    record { monomials = (drop c.loop-next.i m, drop c.loop-next.j n, head_beside c.loop-next.i c.loop-next.first a c.requires.first c.loop-next.invariant.first hm, head_beside c.loop-next.j c.loop-next.second a c.requires.second c.loop-next.invariant.second hn) }
+
+still : {k : ℕ} (m : Monomial) (o : Option Read) (i : ℕ) → k ≡ 0 → BeginsWith o (drop i m) → BeginsWith o (drop (i + k) m)
+still m o i e h = subst (λ (n : ℕ). BeginsWith o (drop n m)) (omega (arith, e)) h
 
 -- how the product goes on
 next : (c : In-Some) (m n : Monomial) → HasMonomial m (plain (tree_at c.args.s (forest c.args.pool.now))) → HasMonomial n (plain (tree_at c.args.t (forest c.args.pool.now))) → IsNext (drop c.loop-next.i m) (drop c.loop-next.j n) c.in-Some.next
 next c m n hm hn =
     let a = (c.loop-next.invariant.merged m n hm hn).adds in
     subst (GoesOn (drop c.loop-next.i m) (drop c.loop-next.j n)) c.in-Some.is
-    (c.in_ok-next.ensures.next (drop c.loop-next.i m) (drop c.loop-next.j n) (drop_monomial c.loop-next.i m hm.monomial) (drop_monomial c.loop-next.j n hn.monomial) (head_beside c.loop-next.i c.get.result a c.requires.first c.get.ensures hm) (head_beside c.loop-next.j c.get-in-loop-next.result a c.requires.second c.get-in-loop-next.ensures hn))
+    (c.in_ok-next.ensures.next (drop c.loop-next.i m) (drop c.loop-next.j n) (drop_monomial c.loop-next.i m hm.monomial) (drop_monomial c.loop-next.j n hn.monomial) (head_beside c.loop-next.i c.loop-next.first a c.requires.first c.loop-next.invariant.first hm) (head_beside c.loop-next.j c.loop-next.second a c.requires.second c.loop-next.invariant.second hn))
 
 pub place_factor-requires-clause-read : goal.place_factor-requires-clause-read
 place_factor-requires-clause-read c =
@@ -49,7 +50,7 @@ pub overflow_add-i : goal.overflow_add-i
 overflow_add-i c =
     let (m, n, hm, hn) = c.requires.monomials in
     let w = c.loop-next.invariant.merged m n hm hn in
-    record { fits = omega (arith, has_count hm, c.of-left.ensures.count, w.left, (next (goal.at.overflow_add-i c).In-Some m n hm hn).left_within, drop_length c.loop-next.i m w.left) }
+    record { fits = omega (arith, has_count hm, c.requires.factors.count, w.left, (next (goal.at.overflow_add-i c).In-Some m n hm hn).left_within, drop_length c.loop-next.i m w.left) }
 
 pub overflow_add-j : goal.overflow_add-j
 overflow_add-j c =
@@ -68,13 +69,48 @@ loop-next-smaller c =
     let (m, n, hm, hn) = c.requires.monomials in
     let w = c.loop-next.invariant.merged m n hm hn in
     let h = next (goal.at.loop-next-smaller c).In-Some m n hm hn in
-    omega (arith, has_count hm, has_count hn, c.of-left.ensures.count, c.of-right.ensures.count, w.left, w.right, h.some, h.left_within, h.right_within, drop_length c.loop-next.i m w.left, drop_length c.loop-next.j n w.right)
+    omega (arith, has_count hm, has_count hn, c.requires.factors.count, c.of-right.ensures.count, w.left, w.right, h.some, h.left_within, h.right_within, drop_length c.loop-next.i m w.left, drop_length c.loop-next.j n w.right)
+
+-- the factors that are placed then
+more : (c : In_ok-_factor) (m n : Monomial) → HasMonomial m (plain (tree_at c.args.s (forest c.args.pool.now))) → HasMonomial n (plain (tree_at c.args.t (forest c.args.pool.now)))
+    → IsMerged m n (c.loop-next.i + c.in-Some.next.left) (c.loop-next.j + c.in-Some.next.right) (c.loop-next.many + 1) (forest c.args.pool.now) (forest c.place_factor.new.pool)
+more c m n hm hn =
+    let h = next c.before.before.before.before.before m n hm hn in
+    merged_more (c.loop-next.invariant.merged m n hm hn) c.in-Some.next h (c.in_ok-_factor.ensures.ok h.factor h.read)
+
+pub following-first-requires : goal.following-first-requires
+following-first-requires c =
+    let (m, n, hm, hn) = c.requires.monomials in
+    let old = (c.loop-next.invariant.merged m n hm hn).adds in
+    let new = (more (goal.at.following-first-requires c).In_ok-_factor m n hm hn).adds in
+    let x = adds_beside new c.requires.first in
+    record {
+      stands = c.place_factor.ensures.stands;
+      expression = x.expression;
+      factors = factors_beside new c.requires.first c.requires.factors;
+      monomial = (m, subst (HasMonomial m) (sym x.same) hm);
+      known = λ none k hk. still k c.loop-next.first c.loop-next.i none (head_beside c.loop-next.i c.loop-next.first old c.requires.first c.loop-next.invariant.first (subst (HasMonomial k) x.same hk));
+    }
+
+pub following-second-requires : goal.following-second-requires
+following-second-requires c =
+    let (m, n, hm, hn) = c.requires.monomials in
+    let old = (c.loop-next.invariant.merged m n hm hn).adds in
+    let new = (more (goal.at.following-second-requires c).In_ok-_factor m n hm hn).adds in
+    let x = adds_beside new c.requires.second in
+    record {
+      stands = c.place_factor.ensures.stands;
+      expression = x.expression;
+      factors = factors_beside new c.requires.second c.of-right.ensures;
+      monomial = (n, subst (HasMonomial n) (sym x.same) hn);
+      known = λ none k hk. still k c.loop-next.second c.loop-next.j none (head_beside c.loop-next.j c.loop-next.second old c.requires.second c.loop-next.invariant.second (subst (HasMonomial k) x.same hk));
+    }
 
 pub loop-next-preserved : goal.loop-next-preserved
 loop-next-preserved c = record {
-  merged = λ m n hm hn.
-      let h = next (goal.at.loop-next-preserved c).In-Some m n hm hn in
-      merged_more (c.loop-next.invariant.merged m n hm hn) c.in-Some.next h (c.in_ok-_factor.ensures.ok h.factor h.read);
+  first = c.following-first.ensures;
+  second = c.following-second.ensures;
+  merged = more (goal.at.loop-next-preserved c).In_ok-_factor;
   front = front_after c.loop-next.invariant.front c.place_factor.ensures.front;
   kept = kept_after c.loop-next.invariant.kept c.in_ok-_factor.ensures.kept;
   stands = c.place_factor.ensures.stands;
@@ -86,7 +122,7 @@ returns-in_err-_factor-clause-front c = front_after c.loop-next.invariant.front 
 pub returns-clause-ok : goal.returns-clause-ok
 returns-clause-ok c = λ m n hm hn.
     let w = c.loop-next.invariant.merged m n hm hn in
-    let goes = c.in_ok-next.ensures.next (drop c.loop-next.i m) (drop c.loop-next.j n) (drop_monomial c.loop-next.i m hm.monomial) (drop_monomial c.loop-next.j n hn.monomial) (head_beside c.loop-next.i c.get.result w.adds c.requires.first c.get.ensures hm) (head_beside c.loop-next.j c.get-in-loop-next.result w.adds c.requires.second c.get-in-loop-next.ensures hn) in
+    let goes = c.in_ok-next.ensures.next (drop c.loop-next.i m) (drop c.loop-next.j n) (drop_monomial c.loop-next.i m hm.monomial) (drop_monomial c.loop-next.j n hn.monomial) (head_beside c.loop-next.i c.loop-next.first w.adds c.requires.first c.loop-next.invariant.first hm) (head_beside c.loop-next.j c.loop-next.second w.adds c.requires.second c.loop-next.invariant.second hn) in
     let (e, k) = all_gone c.in_ok-next.field-0 goes c.in_default.not-Some in
     let all = merged_all w e k in
     (w.many ∙ ap (λ (x : Monomial). length x) all, subst (λ (x : Monomial). AddsTrees (factor_trees x) (forest c.args.pool.now) (forest c.loop-next.pool)) all w.adds)
@@ -104,4 +140,4 @@ pub returns-in_err-next-clause-fits : goal.returns-in_err-next-clause-fits
 returns-in_err-next-clause-fits c = λ m n k hm hn x l.
     let w = c.loop-next.invariant.merged m n hm hn in
     let rest = later_exponents k w.done (monomial_times (drop c.loop-next.i m) (drop c.loop-next.j n)) (subst (HasExponents k) (sym w.split) x) in
-    absurd (c.in_err-next.ensures.fits (drop c.loop-next.i m) (drop c.loop-next.j n) k (drop_monomial c.loop-next.i m hm.monomial) (drop_monomial c.loop-next.j n hn.monomial) (head_beside c.loop-next.i c.get.result w.adds c.requires.first c.get.ensures hm) (head_beside c.loop-next.j c.get-in-loop-next.result w.adds c.requires.second c.get-in-loop-next.ensures hn) rest l)
+    absurd (c.in_err-next.ensures.fits (drop c.loop-next.i m) (drop c.loop-next.j n) k (drop_monomial c.loop-next.i m hm.monomial) (drop_monomial c.loop-next.j n hn.monomial) (head_beside c.loop-next.i c.loop-next.first w.adds c.requires.first c.loop-next.invariant.first hm) (head_beside c.loop-next.j c.loop-next.second w.adds c.requires.second c.loop-next.invariant.second hn) rest l)

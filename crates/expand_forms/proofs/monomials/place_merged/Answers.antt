@@ -1,6 +1,6 @@
 use Rattle.std.proofs.Common.{rules, ◌∙◌, ap, refl, sym, subst, ◌<◌, arith, length}
-use Rattle.expand_forms.proofs.Shared.{size, IsNoOverflow, term_bytes, monomial_times, HasMonomial, free_of, OfFull, refused_below, passed_on, full_as, front_after, front_end, front_same, given_told, given_free}
-use Rattle.expand_forms.proofs.AddedTrees.{adopts, can_adopt}
+use Rattle.expand_forms.proofs.Shared.{forest, size, IsNoOverflow, term_bytes, monomial_times, HasMonomial, free_of, OfFull, refused_below, passed_on, full_as, front_after, front_end, front_same, given_told, given_free}
+use Rattle.expand_forms.proofs.AddedTrees.{adds_more, adds_none, adopts, can_adopt, factors_beside}
 use Rattle.expand_forms.proofs.TermReadings.{beside, count_factors}
 use Rattle.tree_handles.specs.declared.fault.NumberFault.TheVariants as fault
 use Rattle.expand_forms.proofs.monomials.place_merged.Goals as goal
@@ -13,6 +13,7 @@ place_factors-requires c =
     let y = beside new c.requires.second in
     record {
       stands = search rules;
+      factors = factors_beside (adds_more (adds_none (forest c.args.pool.now)) new) c.requires.first c.requires.factors;
       first = x.expression;
       second = y.expression;
       monomials = (m, n, subst (HasMonomial m) (sym x.same) hm, subst (HasMonomial n) (sym y.same) hn);
