@@ -50,45 +50,6 @@ taken_free {i = i} {s = s} {u = u} st su r o a e =
       ap sizes a.kids.plain_trees,
     )
 
--- the first factor of a product is taken out
-pub left_free : {i h : ℕ} {t : Tree} {us ts : Trees} {s u : State} → Stands s → Stands u → KeepsRefusals s u → IsOver kind.Mult i us (forest s)
-    → LeavesRest i (forest s) (forest u) h t ts → us ≡ more t ts → free_of u ≡ free_of s
-left_free {i = i} {s = s} {u = u} st su r o x e =
-    let g = x.given in
-    omega (
-      arith,
-      ap sizes e,
-      used_forest s st,
-      used_forest u su,
-      r.size,
-      st.pool.fits,
-      su.pool.fits,
-      ap bytes_in g.ends.whole,
-      bytes_in-join (put i x.kids (forest s)) g.tree,
-      size-plain g.tree g.ends.alone g.whole,
-      ap size g.told,
-      bytes_put i x.kids (forest s) o.root,
-      sizes-plains (kids (root_tree i (forest s))) o.kids.whole,
-      ap sizes o.kids.plain_trees,
-      sizes-plains x.kids x.rest-are.whole,
-      ap sizes x.rest-are.plain_trees,
-    )
-
--- a root is released
-pub released_free : {i : ℕ} {s u : State} → Stands s → Stands u → KeepsRefusals s u → IsHanded i (forest s) → forest u ≡ without_root i (forest s) → free_of u ≡ free_of s + size (tree_of i s)
-released_free {i = i} {s = s} {u = u} st su r h e =
-    omega (
-      arith,
-      used_forest s st,
-      used_forest u su,
-      r.size,
-      st.pool.fits,
-      su.pool.fits,
-      ap bytes_in e,
-      bytes_without i (forest s) h.root,
-      size-plain (root_tree i (forest s)) (root_arity i (forest s) h.root) h.whole,
-    )
-
 -- a tree is put into a product of its own, unless it is one
 pub product_free : {i h : ℕ} {s u : State} {Told : Tree → Type 0} → Stands s → Stands u → KeepsRefusals s u → IsHanded i (forest s) → Gives (without_root i (forest s)) (forest u) h Told
     → size (tree_of h u) ≤ size (tree_of i s) + 8 → free_of s ≤ free_of u + 8

@@ -1,6 +1,6 @@
 -- The rational or the sum that leads a product.
 use Rattle.std.proofs.Common.{◌≡◌, ℕ, ◌≤◌, [], ◌∷◌, Bool, true, false, if◌then◌else◌, refl, sym, ap, ◌∙◌, subst, arith}
-use Rattle.coefficients.proofs.Shared.{Fraction, times, is_one_fraction, is_number, product_tree, is_reduced, Tree, num, add, mult, Trees, none, more, count, root_kind, is_mult, State, tree_of, IsHanded, Ends, KeepsFront, nth, plain, children_of, IsExpression, Forest, kids, tree_nth, without_nth, tree_at, root_tree, without_root, put, Stands, forest, behind_first, front_same, front_at, front_put, given_rest, factors_of, LeavesRest, rational_times, rational_times_factors, rational_times_number, rational_times_term, leads_sum, IsOver, over_product, over_put, over_same, IsAdded, expression, seen}
+use Rattle.coefficients.proofs.Shared.{Fraction, times, is_one_fraction, is_number, product_tree, is_reduced, Tree, num, add, mult, Trees, none, more, count, root_kind, is_mult, State, tree_of, IsHanded, Ends, KeepsFront, nth, plain, children_of, IsExpression, Forest, kids, tree_nth, without_nth, tree_at, root_tree, without_root, put, Stands, forest, behind_first, front_same, front_at, front_put, given_rest, factors_of, LeavesRest, rational_times, rational_times_factors, rational_times_number, rational_times_term, leads_sum, IsOver, over_product, over_put, over_same, IsAdded, expression, seen, IsTaken, taken}
 use Rattle.coefficients.proofs.Lengths.{long}
 use Rattle.coefficients.proofs.Steps.{leaves_one}
 use Rattle.calc_terms.specs.declared.kind.Kind.TheVariants as kind
@@ -34,14 +34,13 @@ first_led {s = s} {i = i} {q = q} k e st hand m r first is =
 
 -- it was taken out, and then released
 pub led_taken : {i h : ℕ} {q : Fraction} {ts : Trees} {old f : Forest} → IsOver kind.Mult i ts old → (l : IsRationalLed q ts)
-    → Ends h (tree_nth 0 (kids (root_tree i old))) (put i (without_nth 0 (kids (root_tree i old))) old) f → LeavesRest i old f h (num q) l.rest
-led_taken {i = i} {old = old} o l d = leaves_one (subst (λ (us : Trees). IsOver kind.Mult i us old) l.whole o) d
+    → Ends h (tree_nth 0 (kids (root_tree i old))) (put i (without_nth 0 (kids (root_tree i old))) old) f → IsTaken kind.Mult i 0 (num q) l.rest old f h
+led_taken {i = i} {q = q} {old = old} o l d = taken 0 none (num q) l.rest (subst (λ (us : Trees). IsOver kind.Mult i us old) l.whole o) refl d
 
-pub led_dropped : {i h : ℕ} {q : Fraction} {ts : Trees} {old f new : Forest} → IsOver kind.Mult i ts old → (l : IsRationalLed q ts) → LeavesRest i old f h (num q) l.rest
-    → new ≡ without_root h f → IsAdded kind.Mult i l.rest old new
-led_dropped o l x e =
-    let whole = e ∙ given_rest x.given in
-    record { now = x.kids; kids = x.rest-are; whole = whole; over = over_same (over_put x.kids o x.rest-are) whole }
+pub led_dropped : {i h : ℕ} {t : Tree} {us ts : Trees} {old f new : Forest} → IsOver kind.Mult i us old → IsTaken kind.Mult i 0 t ts old f h → new ≡ without_root h f → IsAdded kind.Mult i ts old new
+led_dropped o x e =
+    let whole = e ∙ given_rest x.gives in
+    record { now = x.now; kids = x.kids; whole = whole; over = over_same (over_put x.now o x.kids) whole }
 
 pub added_front : {i : ℕ} {ts : Trees} {old new : Forest} → IsAdded kind.Mult i ts old new → KeepsFront (i ∷ []) old new
 added_front a = front_at (front_put a.now behind_first front_same) a.whole

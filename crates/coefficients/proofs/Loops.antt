@@ -1,6 +1,6 @@
 -- Loops over the terms of a sum, in which each term is taken out, rewritten and put back.
 use Rattle.std.proofs.Common.{◌≡◌, ℕ, suc, ◌+◌, ◌≤◌, ◌<◌, [], ◌∷◌, refl, sym, ap, ◌∙◌, subst, arith}
-use Rattle.coefficients.proofs.Shared.{Tree, Trees, none, more, append, count, mapped, inserted, Forest, kids, with_nth, tree_nth, without_nth, Represents, Ends, Gives, KeepsFront, root_tree, without_root, put, behind_first, front_same, front_at, front_put, gives_as, given_rest, append-none, put-put, put-same, IsOver, IsTaken, taken, over_put, IsAdded, added_as, inserted_behind}
+use Rattle.coefficients.proofs.Shared.{Tree, Trees, none, more, append, count, mapped, inserted, Forest, kids, with_nth, tree_nth, without_nth, Represents, Ends, Gives, KeepsFront, root_tree, without_root, put, behind_first, front_same, front_at, front_put, gives_as, given_rest, append-none, put-put, put-same, IsOver, IsTaken, taken, over_put, IsAdded, added_as, inserted_behind, State, Stands, forest, kids_of, arity, children_at}
 use Rattle.calc_terms.specs.declared.kind.Kind.TheVariants as kind
 
 -- ---- lists
@@ -65,6 +65,11 @@ next_term {f = f} {i = i} {at = at} {ts = ts} {old = old} {new = new} p l = by p
       over = o;
     }
 
+-- a place below the number of children that a reader tells
+pub next_of : {f : Tree → Tree} {s : State} {i j at n : ℕ} {ts : Trees} {new : Forest} → IsOver kind.Add i ts (forest s) → Stands s → j ≡ i → n ≡ arity (kids_of j (forest s)) → IsPartDone f i at ts (forest s) new → at < n
+    → IsNext f i at ts (forest s) new
+next_of o st e told p l = next_term p (omega (arith, l, told ∙ children_at o st e))
+
 -- it is one of the children, and may be put back among the others
 pub next_within : {f : Tree → Tree} {i at : ℕ} {ts : Trees} {old new : Forest} (n : IsNext f i at ts old new) → at < count (append (mapped f n.done) (more n.t n.rest))
 next_within {f = f} n = omega (arith, n.count-is, count_append (mapped f n.done) (more n.t n.rest))
@@ -112,3 +117,7 @@ all_done {f = f} {i = i} {at = at} {ts = ts} {old = old} {new = new} p l =
     let whole : append (mapped f p.done) p.rest ≡ mapped f ts =
     ap (append (mapped f p.done)) left ∙ append-none (mapped f p.done) ∙ ap (mapped f) (sym (p.split ∙ ap (append p.done) left ∙ append-none p.done)) in
     record { now = p.now; kids = subst (Represents p.now) whole p.kids; whole = p.whole; over = subst (λ (us : Trees). IsOver kind.Add i us new) whole p.over }
+
+pub all_of : {f : Tree → Tree} {s : State} {i j at n : ℕ} {ts : Trees} {new : Forest} → IsOver kind.Add i ts (forest s) → Stands s → j ≡ i → n ≡ arity (kids_of j (forest s)) → IsPartDone f i at ts (forest s) new → n ≤ at
+    → IsAdded kind.Add i (mapped f ts) (forest s) new
+all_of o st e told p l = all_done p (omega (arith, l, told ∙ children_at o st e))

@@ -43,6 +43,7 @@ pub use Rattle.tree_handles.proofs.Given.{append-none, given_apart, given_handed
 pub use Rattle.tree_handles.proofs.Lasts.{apart, ends_as, ends_at, ends_without, kids_of_root, last_apart, last_held, other_apart, other_root}
 pub use Rattle.tree_handles.proofs.Outcomes.{by_test, eqb-sym, if_map}
 pub use Rattle.tree_handles.proofs.Over.{IsAdded, IsOver, IsTaken, added_as, children_at, children_in, count_is, moved, moved_front, once_count, over_beside, over_end, over_gives, over_handed, over_plain, over_product, over_put, over_same, over_sum, taken, without_put}
+pub use Rattle.tree_handles.proofs.Room.{released_free}
 pub use Rattle.tree_handles.proofs.Places.{used_forest}
 pub use Rattle.tree_handles.proofs.Plains.{children_of-plain, size-plain, sizes-plains, whole_kids}
 pub use Rattle.tree_handles.proofs.Roots.{put-put, put-same, root_arity, root_held, tree-without, without-swap}

@@ -8,10 +8,8 @@ mod putting;
 mod splicing;
 mod taking;
 
-pub use multiples::distribute;
-pub use products::{as_product, unwrapped};
+pub use products::unwrapped;
 pub use putting::put_coefficient;
-pub use splicing::splice;
 pub use taking::{coefficient_length, split_product, take_coefficient};
 
 #[cfg(test)]

@@ -33,7 +33,7 @@ use tree_handles::{
 };
 
 /// A rational into the coefficient of each term of a reduced sum.
-pub fn distribute(pool: &mut Pool, q: Rat, sum: Handle) -> Result<Handle, NumberFault>
+pub(crate) fn distribute(pool: &mut Pool, q: Rat, sum: Handle) -> Result<Handle, NumberFault>
     requires stands { Stands pool.old }
     requires handed { IsHanded sum (forest pool.old) }
     requires sum { is_add (tree_of sum pool.old) ≡ true }

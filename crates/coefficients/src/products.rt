@@ -19,7 +19,7 @@ use tree_handles::{
 };
 
 /// A product itself, and a product of one factor for any other tree.
-pub fn as_product(pool: &mut Pool, tree: Handle) -> Result<Handle, Full>
+pub(crate) fn as_product(pool: &mut Pool, tree: Handle) -> Result<Handle, Full>
     requires stands { Stands pool.old }
     requires handed { IsHanded tree (forest pool.old) }
     ensures ok { IfOk result (λ h. Gives (without_root tree (forest pool.old)) (forest pool.new) h (λ t. t ≡ mult (factors_of (tree_of tree pool.old)))) }

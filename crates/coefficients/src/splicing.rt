@@ -17,7 +17,7 @@ use tree_handles::{Handle, add_child, kind, merge_children, move_last};
 
 /// A coefficient before the factors of a part; one that is a product itself is spliced. It is not
 /// looked at what the two are.
-pub fn splice(pool: &mut Pool, coefficient: Handle, part: Handle) -> Result<Handle, Full>
+pub(crate) fn splice(pool: &mut Pool, coefficient: Handle, part: Handle) -> Result<Handle, Full>
     requires stands { Stands pool.old }
     requires first { IsHanded coefficient (forest pool.old) }
     requires second { IsHanded part (forest pool.old) }

@@ -41,7 +41,7 @@ pub use Rattle.calc_terms.specs.declared.kind.Kind.{Kind}
 pub use Rattle.coefficients.proofs.Coefficients.{product_form_of}
 pub use Rattle.coefficients.proofs.Factors.{no_split}
 pub use Rattle.coefficients.proofs.Forms.{number_of_term, one_is_one, parts_reduced, reduced_parts}
-pub use Rattle.coefficients.proofs.Free.{number_refused, released_free, taken_free}
+pub use Rattle.coefficients.proofs.Free.{number_refused, taken_free}
 pub use Rattle.coefficients.proofs.Rewritten.{apart_back, front_lost, given_back, over_back, put_back}
 pub use Rattle.coefficients.proofs.Splits.{Leads, in_front}
 pub use Rattle.coefficients.specs.Coefficients.{IsMonic, factors_of, with_coefficient}
@@ -124,7 +124,7 @@ pub use Rattle.tree_handles.proofs.Outcomes.{by_test, eqb-sym, if_map, passed_on
 pub use Rattle.tree_handles.proofs.Over.{IsAdded, IsOver, IsTaken, added_as, children_at, children_in, moved, moved_front, once_count, over_product, over_put, taken, without_put}
 pub use Rattle.tree_handles.proofs.Places.{used_forest}
 pub use Rattle.tree_handles.proofs.Plains.{children_of-plain, nodes-plain, size-plain, sizes-plains, whole_kids}
-pub use Rattle.tree_handles.proofs.Room.{given_free}
+pub use Rattle.tree_handles.proofs.Room.{given_free, released_free}
 pub use Rattle.tree_handles.proofs.Roots.{kids-put, put-put, put-same, root-put, root_arity, root_held}
 pub use Rattle.tree_handles.proofs.Seen.{expression, kind_of_root, live, no_product_kind, product_kind, seen}
 pub use Rattle.tree_handles.specs.Expressions.{IsExpression, children_of, compound, grown, inserted, nth, plain, plains, takes, takes_kind}

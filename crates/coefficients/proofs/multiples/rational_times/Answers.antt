@@ -1,8 +1,8 @@
 use Rattle.std.proofs.Common.{ap, ◌∙◌, sym, refl, arith}
-use Rattle.coefficients.proofs.Shared.{rational, ratio_of, value_of, Fraction, num, Leads, IsMultiple, tree_of, behind_first, front_after, front_at, front_same, front_without, gives_as, owned, live, seen, kind_of_root, product_kind, if_map}
+use Rattle.coefficients.proofs.Shared.{released_free, rational, ratio_of, value_of, Fraction, num, Leads, IsMultiple, tree_of, behind_first, front_after, front_at, front_same, front_without, gives_as, owned, live, seen, kind_of_root, product_kind, if_map}
 use Rattle.coefficients.proofs.Named.{named, multiple_named, leads_number}
 use Rattle.coefficients.proofs.LedFactors.{times_number, times_product, times_other}
-use Rattle.coefficients.proofs.Free.{number_refused, released_free}
+use Rattle.coefficients.proofs.Free.{number_refused}
 use Rattle.coefficients.proofs.Lacks.{refusal_lacks}
 use Rattle.coefficients.proofs.multiples.rational_times.Goals as goal
 

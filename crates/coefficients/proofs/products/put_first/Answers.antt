@@ -1,17 +1,16 @@
-use Rattle.std.proofs.Common.{refl}
+use Rattle.std.proofs.Common.{rules, refl}
 use Rattle.coefficients.proofs.Shared.{given_root, given_apart, apart, other_root, eqb-sym, root_held, over_product, added_as, moved, moved_front}
 use Rattle.coefficients.proofs.products.put_first.Goals as goal
 
-pub add_child-requires-clause-live : goal.add_child-requires-clause-live
-add_child-requires-clause-live c = root_held c.args.product _ (other_root c.args.product c.in_ok-factor.ensures.ok c.requires.handed.root)
-
-pub add_child-requires-clause-root : goal.add_child-requires-clause-root
-add_child-requires-clause-root c = given_root c.in_ok-factor.ensures.given
-
-pub add_child-requires-clause-apart : goal.add_child-requires-clause-apart
-add_child-requires-clause-apart c =
-    apart c.args.product c.in_ok-factor.factor c.in_ok-factor.ensures.stands (eqb-sym c.in_ok-factor.factor c.args.product (given_apart c.in_ok-factor.ensures.given c.requires.handed))
-    (other_root c.args.product c.in_ok-factor.ensures.ok c.requires.handed.root) (given_root c.in_ok-factor.ensures.given)
+pub add_child-requires : goal.add_child-requires
+add_child-requires c = record {
+  stands = search rules;
+  live = root_held c.args.product _ (other_root c.args.product c.in_ok-factor.ensures.ok c.requires.handed.root);
+  within = search rules;
+  root = given_root c.in_ok-factor.ensures.given;
+  apart = apart c.args.product c.in_ok-factor.factor c.in_ok-factor.ensures.stands (eqb-sym c.in_ok-factor.factor c.args.product (given_apart c.in_ok-factor.ensures.given c.requires.handed))
+        (other_root c.args.product c.in_ok-factor.ensures.ok c.requires.handed.root) (given_root c.in_ok-factor.ensures.given);
+}
 
 pub move_last-requires-clause-root : goal.move_last-requires-clause-root
 move_last-requires-clause-root c =

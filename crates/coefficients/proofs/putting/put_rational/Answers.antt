@@ -1,7 +1,7 @@
 use Rattle.std.proofs.Common.{◌∙◌, sym, ap, refl, arith}
-use Rattle.coefficients.proofs.Shared.{rational, ratio_of, value_of, num, behind_first, front_after, front_at, front_end, front_same, front_without, gives, gives_as, owned, represents_handed, if_map, counted, tree_of}
+use Rattle.coefficients.proofs.Shared.{released_free, rational, ratio_of, value_of, num, behind_first, front_after, front_at, front_end, front_same, front_without, gives, gives_as, owned, represents_handed, if_map, counted, tree_of}
 use Rattle.coefficients.proofs.Puttings.{zero_value, with_zero, with_one, with_other}
-use Rattle.coefficients.proofs.Free.{number_refused, released_free}
+use Rattle.coefficients.proofs.Free.{number_refused}
 use Rattle.coefficients.proofs.Lacks.{refusal_lacks}
 use Rattle.coefficients.proofs.Rooms.{few_for_put}
 use Rattle.coefficients.proofs.putting.put_rational.Goals as goal

@@ -1,4 +1,4 @@
-use Rattle.std.proofs.Common.{◌∙◌, ap, sym}
+use Rattle.std.proofs.Common.{rules, ◌∙◌, ap, sym}
 use Rattle.coefficients.proofs.Shared.{Trees, mult, more, append, is_mult, plain, children_of, root_tree, forest, keeps_after, behind_first, behind_later, behind_new, front_after_one, front_after_two, front_same, front_without, gives_as, given_handed, given_other, given_apart, given_same, given_told, given_without, handed_beside, eqb-sym, tree-without, factors_of, live, kind_of_root, product_kind, no_product_kind}
 use Rattle.coefficients.proofs.Factors.{single_factors}
 use Rattle.coefficients.proofs.FirstFactors.{product_children}
@@ -7,25 +7,20 @@ use Rattle.coefficients.proofs.splicing.splice.Goals as goal
 pub kind-requires-clause-live : goal.kind-requires-clause-live
 kind-requires-clause-live c = live c.args.pool.now c.id.ensures c.requires.first.root
 
-pub put_factors-spliced-requires-clause-first : goal.put_factors-spliced-requires-clause-first
-put_factors-spliced-requires-clause-first c = given_handed c.in_ok-product-in-Mult.ensures.ok
-
-pub put_factors-spliced-requires-clause-second : goal.put_factors-spliced-requires-clause-second
-put_factors-spliced-requires-clause-second c = given_other c.in_ok-product-in-Mult.ensures.ok (handed_beside c.args.part (eqb-sym c.args.coefficient c.args.part c.requires.apart) c.requires.first)
-
-pub put_factors-spliced-requires-clause-apart : goal.put_factors-spliced-requires-clause-apart
-put_factors-spliced-requires-clause-apart c = given_apart c.in_ok-product-in-Mult.ensures.ok (handed_beside c.args.part (eqb-sym c.args.coefficient c.args.part c.requires.apart) c.requires.first)
-
-pub put_factors-spliced-requires-clause-product : goal.put_factors-spliced-requires-clause-product
-put_factors-spliced-requires-clause-product c = ap is_mult (given_told c.in_ok-product-in-Mult.ensures.ok)
-
-pub put_factors-spliced-requires-clause-factors : goal.put_factors-spliced-requires-clause-factors
-put_factors-spliced-requires-clause-factors c =
+pub put_factors-spliced-requires : goal.put_factors-spliced-requires
+put_factors-spliced-requires c =
     let g = c.in_ok-product-in-Mult.ensures.ok in
     let other = eqb-sym c.args.coefficient c.args.part c.requires.apart in
     let beside = handed_beside c.args.part other c.requires.first in
     let same = ap plain (given_same c.args.coefficient g beside.root ∙ tree-without c.args.part c.args.coefficient (forest c.args.pool.now) other) in
-    ap is_mult same ∙ product_kind _ (sym c.in-Mult.is ∙ kind_of_root {k = c.kind.result} c.id.ensures c.requires.stands c.requires.first c.kind.ensures.plain)
+    record {
+      stands = search rules;
+      first = given_handed c.in_ok-product-in-Mult.ensures.ok;
+      second = given_other c.in_ok-product-in-Mult.ensures.ok (handed_beside c.args.part (eqb-sym c.args.coefficient c.args.part c.requires.apart) c.requires.first);
+      apart = given_apart c.in_ok-product-in-Mult.ensures.ok (handed_beside c.args.part (eqb-sym c.args.coefficient c.args.part c.requires.apart) c.requires.first);
+      product = ap is_mult (given_told c.in_ok-product-in-Mult.ensures.ok);
+      factors = ap is_mult same ∙ product_kind _ (sym c.in-Mult.is ∙ kind_of_root {k = c.kind.result} c.id.ensures c.requires.stands c.requires.first c.kind.ensures.plain);
+    }
 
 pub put_factor-spliced-requires : goal.put_factor-spliced-requires
 put_factor-spliced-requires c =

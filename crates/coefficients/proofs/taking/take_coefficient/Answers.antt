@@ -1,4 +1,4 @@
-use Rattle.std.proofs.Common.{◌≤◌, ◌∙◌, ap, refl, sym, subst}
+use Rattle.std.proofs.Common.{rules, ◌≤◌, ◌∙◌, ap, refl, sym, subst}
 use Rattle.coefficients.proofs.Shared.{gives_without, product_tree, Tree, num, count, is_mult, plain, children_of, keeps_none, keeps_after, behind_first, behind_new, front_after_one, front_same, front_end, front_without, gives, gives_as, given_handed, given_other, given_rest, given_same, given_told, represents_handed, other_root, without_root, forest, live, kind_of_root, product_kind, no_product_kind}
 use Rattle.coefficients.proofs.Bytes.{taking_product, taking_other, as_bytes, never, refused_once, short, short_as, passed_short}
 use Rattle.coefficients.proofs.Lengths.{some_factors, product_coefficient, product_part, other_coefficient, other_part}
@@ -12,16 +12,15 @@ pub split_product-requires-clause-product : goal.split_product-requires-clause-p
 split_product-requires-clause-product c =
     product_kind _ (sym c.in-Mult.is ∙ kind_of_root {k = c.kind.result} c.id.ensures c.requires.stands c.requires.handed c.kind.ensures.plain)
 
-pub unwrapped-part-requires-clause-handed : goal.unwrapped-part-requires-clause-handed
-unwrapped-part-requires-clause-handed c = given_handed c.in_ok-coefficient-in-Mult.ensures.ok.second-given
-
-pub unwrapped-part-requires-clause-product : goal.unwrapped-part-requires-clause-product
-unwrapped-part-requires-clause-product c = ap is_mult (given_told c.in_ok-coefficient-in-Mult.ensures.ok.second-given)
-
-pub unwrapped-part-requires-clause-some : goal.unwrapped-part-requires-clause-some
-unwrapped-part-requires-clause-some c =
+pub unwrapped-part-requires : goal.unwrapped-part-requires
+unwrapped-part-requires c =
     let m = product_kind _ (sym c.in-Mult.is ∙ kind_of_root {k = c.kind.result} c.id.ensures c.requires.stands c.requires.handed c.kind.ensures.plain) in
-    subst (λ (t : Tree). 1 ≤ count (children_of t)) (sym (given_told c.in_ok-coefficient-in-Mult.ensures.ok.second-given)) (some_factors _ m c.requires.reduced c.requires.no_number)
+    record {
+      stands = search rules;
+      handed = given_handed c.in_ok-coefficient-in-Mult.ensures.ok.second-given;
+      product = ap is_mult (given_told c.in_ok-coefficient-in-Mult.ensures.ok.second-given);
+      some = subst (λ (t : Tree). 1 ≤ count (children_of t)) (sym (given_told c.in_ok-coefficient-in-Mult.ensures.ok.second-given)) (some_factors _ m c.requires.reduced c.requires.no_number);
+    }
 
 pub move_last-requires : goal.move_last-requires
 move_last-requires c =

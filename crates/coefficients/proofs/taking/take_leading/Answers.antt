@@ -1,19 +1,19 @@
-use Rattle.std.proofs.Common.{◌≡◌, ℕ, ◌∙◌, ap, refl, sym, subst, arith}
-use Rattle.coefficients.proofs.Shared.{Fraction, Split, is_reduced, num_one, Trees, num, is_mult, Forest, kids, Represents, Gives, root_tree, forest, behind_first, front_after, front_end, front_put, front_same, gives_as, given_rest, given_root, last_held, last_apart, other_root, ends_as, put-same, LeavesRest, keeps_after, IsOver, over_product, children_in, expression, seen, if_map}
+use Rattle.std.proofs.Common.{rules, ◌≡◌, ℕ, ◌∙◌, ap, refl, sym, subst, arith}
+use Rattle.coefficients.proofs.Shared.{root, Fraction, Split, is_reduced, num_one, Trees, num, is_mult, Forest, kids, Represents, Gives, root_tree, forest, behind_first, front_after, front_end, front_put, front_same, gives_as, given_rest, given_root, last_held, last_apart, other_root, ends_as, put-same, LeavesRest, keeps_after, IsOver, over_product, children_in, expression, seen, if_map}
 use Rattle.coefficients.proofs.Bytes.{none_bytes, one_bytes, two_bytes, pair_free, always, never, no_bytes, as_bytes, refused_once, short, passed_short, result_short}
 use Rattle.coefficients.proofs.Lengths.{long, measured}
-use Rattle.coefficients.proofs.Steps.{length_seen, leaves_one, first_taken, pair_taken, pair_front, paired, one_value, one_size}
+use Rattle.coefficients.proofs.Steps.{IsFirstTaken, IsPairTaken, length_seen, leaves_one, first_taken, pair_taken, pair_front, paired, one_value, one_size}
 use Rattle.calc_terms.specs.declared.kind.Kind.TheVariants as kind
+use Rattle.coefficients.proofs.taking.take_leading.Goals.{After-take_child-root}
 use Rattle.coefficients.proofs.taking.take_leading.Goals as goal
 
-pub coefficient_length-length-requires-clause-expression : goal.coefficient_length-length-requires-clause-expression
-coefficient_length-length-requires-clause-expression c = expression c.id.ensures c.requires.stands c.requires.handed
-
-pub coefficient_length-length-requires-clause-product : goal.coefficient_length-length-requires-clause-product
-coefficient_length-length-requires-clause-product c = ap is_mult (seen c.id.ensures c.requires.stands c.requires.handed) ∙ c.requires.product
-
-pub coefficient_length-length-requires-clause-reduced : goal.coefficient_length-length-requires-clause-reduced
-coefficient_length-length-requires-clause-reduced c = ap is_reduced (seen c.id.ensures c.requires.stands c.requires.handed) ∙ c.requires.reduced
+pub coefficient_length-length-requires : goal.coefficient_length-length-requires
+coefficient_length-length-requires c = record {
+  stands = search rules;
+  expression = expression c.id.ensures c.requires.stands c.requires.handed;
+  product = ap is_mult (seen c.id.ensures c.requires.stands c.requires.handed) ∙ c.requires.product;
+  reduced = ap is_reduced (seen c.id.ensures c.requires.stands c.requires.handed) ∙ c.requires.reduced;
+}
 
 as_none : (i : ℕ) (old new : Forest) (h : ℕ) (ts : Trees) (s : Split) (q : Fraction) → IsOver kind.Mult i ts old → s.coefficient ≡ num_one → s.factors ≡ ts → num q ≡ num_one → Gives old new h (λ t. t ≡ num q) → LeavesRest i old new h s.coefficient s.factors
 as_none i old new h ts s q o c f e g = record {
@@ -49,55 +49,47 @@ take_child-root-requires-clause-within c =
     let t = first_taken c.id.ensures c.requires.stands c.requires.handed c.requires.product c.requires.reduced c.coefficient_length-length.ensures c.if-length-eq0.false c.if-length-eq1.false (c.take_child-rational.ensures.last c.requires.handed.root) in
     omega (arith, children_in c.take_child-rational.ensures.stands t.over)
 
+-- the two factors that make the coefficient are taken
+pair : (c : After-take_child-root) → (t : IsFirstTaken c.args.product.now c.args.pool.now (forest c.take_child-rational.new.pool))
+    × IsPairTaken c.args.product.now (num t.led.q) (root (num t.led.r)) t.led.factors (forest c.args.pool.now) (forest c.take_child-root.new.pool) c.take_child-rational.result c.take_child-root.result
+pair c =
+    let t = first_taken c.id.ensures c.requires.stands c.requires.handed c.requires.product c.requires.reduced c.coefficient_length-length.ensures c.if-length-eq0.false c.if-length-eq1.false (c.take_child-rational.ensures.last c.requires.handed.root) in
+    (t, pair_taken t.start (c.take_child-rational.ensures.last c.requires.handed.root) (c.take_child-root.ensures.last t.over.root))
+
 pub returns-in_err-coefficient-clause-front : goal.returns-in_err-coefficient-clause-front
-returns-in_err-coefficient-clause-front c =
-    let t = first_taken c.id.ensures c.requires.stands c.requires.handed c.requires.product c.requires.reduced c.coefficient_length-length.ensures c.if-length-eq0.false c.if-length-eq1.false (c.take_child-rational.ensures.last c.requires.handed.root) in
-    let p = pair_taken t.start (c.take_child-rational.ensures.last c.requires.handed.root) (c.take_child-root.ensures.last t.over.root) in
-    front_after (pair_front p) c.node.ensures.front
+returns-in_err-coefficient-clause-front c = front_after (pair_front (pair (goal.at.returns-in_err-coefficient-clause-front c).After-take_child-root).1) c.node.ensures.front
 
-pub add_child-requires-clause-live : goal.add_child-requires-clause-live
-add_child-requires-clause-live c = last_held c.in_ok-coefficient.ensures.ok
-
-pub add_child-requires-clause-root : goal.add_child-requires-clause-root
-add_child-requires-clause-root c =
-    let t = first_taken c.id.ensures c.requires.stands c.requires.handed c.requires.product c.requires.reduced c.coefficient_length-length.ensures c.if-length-eq0.false c.if-length-eq1.false (c.take_child-rational.ensures.last c.requires.handed.root) in
-    let p = pair_taken t.start (c.take_child-rational.ensures.last c.requires.handed.root) (c.take_child-root.ensures.last t.over.root) in
-    other_root c.take_child-root.result c.in_ok-coefficient.ensures.ok (given_root p.second)
-
-pub add_child-requires-clause-apart : goal.add_child-requires-clause-apart
-add_child-requires-clause-apart c =
-    let t = first_taken c.id.ensures c.requires.stands c.requires.handed c.requires.product c.requires.reduced c.coefficient_length-length.ensures c.if-length-eq0.false c.if-length-eq1.false (c.take_child-rational.ensures.last c.requires.handed.root) in
-    let p = pair_taken t.start (c.take_child-rational.ensures.last c.requires.handed.root) (c.take_child-root.ensures.last t.over.root) in
-    last_apart c.take_child-root.result c.in_ok-coefficient.ensures.stands c.in_ok-coefficient.ensures.ok (given_root p.second)
+pub add_child-requires : goal.add_child-requires
+add_child-requires c =
+    let d = pair (goal.at.add_child-requires c).After-take_child-root in
+    record {
+      stands = search rules;
+      live = last_held c.in_ok-coefficient.ensures.ok;
+      within = search rules;
+      root = other_root c.take_child-root.result c.in_ok-coefficient.ensures.ok (given_root d.1.second);
+      apart = last_apart c.take_child-root.result c.in_ok-coefficient.ensures.stands c.in_ok-coefficient.ensures.ok (given_root d.1.second);
+    }
 
 pub add_child-requires-2-clause-root : goal.add_child-requires-2-clause-root
-add_child-requires-2-clause-root c =
-    let t = first_taken c.id.ensures c.requires.stands c.requires.handed c.requires.product c.requires.reduced c.coefficient_length-length.ensures c.if-length-eq0.false c.if-length-eq1.false (c.take_child-rational.ensures.last c.requires.handed.root) in
-    let p = pair_taken t.start (c.take_child-rational.ensures.last c.requires.handed.root) (c.take_child-root.ensures.last t.over.root) in
-    other_root c.take_child-rational.result (ends_as (c.add_child.ensures.last _ _ c.in_ok-coefficient.ensures.ok (given_root p.second)) refl (given_rest p.second)) (given_root p.first)
+add_child-requires-2-clause-root c = other_root c.take_child-rational.result (ends_as (c.add_child.ensures.last _ _ c.in_ok-coefficient.ensures.ok (given_root (pair (goal.at.add_child-requires-2-clause-root c).After-take_child-root).1.second)) refl (given_rest (pair (goal.at.add_child-requires-2-clause-root c).After-take_child-root).1.second)) (given_root (pair (goal.at.add_child-requires-2-clause-root c).After-take_child-root).1.first)
 
 pub add_child-requires-2-clause-apart : goal.add_child-requires-2-clause-apart
-add_child-requires-2-clause-apart c =
-    let t = first_taken c.id.ensures c.requires.stands c.requires.handed c.requires.product c.requires.reduced c.coefficient_length-length.ensures c.if-length-eq0.false c.if-length-eq1.false (c.take_child-rational.ensures.last c.requires.handed.root) in
-    let p = pair_taken t.start (c.take_child-rational.ensures.last c.requires.handed.root) (c.take_child-root.ensures.last t.over.root) in
-    last_apart c.take_child-rational.result c.add_child.ensures.stands (ends_as (c.add_child.ensures.last _ _ c.in_ok-coefficient.ensures.ok (given_root p.second)) refl (given_rest p.second)) (given_root p.first)
+add_child-requires-2-clause-apart c = last_apart c.take_child-rational.result c.add_child.ensures.stands (ends_as (c.add_child.ensures.last _ _ c.in_ok-coefficient.ensures.ok (given_root (pair (goal.at.add_child-requires-2-clause-apart c).After-take_child-root).1.second)) refl (given_rest (pair (goal.at.add_child-requires-2-clause-apart c).After-take_child-root).1.second)) (given_root (pair (goal.at.add_child-requires-2-clause-apart c).After-take_child-root).1.first)
 
 pub returns-clause-ok : goal.returns-clause-ok
 returns-clause-ok c =
-    let t = first_taken c.id.ensures c.requires.stands c.requires.handed c.requires.product c.requires.reduced c.coefficient_length-length.ensures c.if-length-eq0.false c.if-length-eq1.false (c.take_child-rational.ensures.last c.requires.handed.root) in
-    let p = pair_taken t.start (c.take_child-rational.ensures.last c.requires.handed.root) (c.take_child-root.ensures.last t.over.root) in
-    let x = paired p (c.add_child.ensures.last _ _ c.in_ok-coefficient.ensures.ok (given_root p.second)) (λ others e r. c.add_child-2.ensures.last _ others e r) in
+    let d = pair (goal.at.returns-clause-ok c).After-take_child-root in
+    let x = paired d.1 (c.add_child.ensures.last _ _ c.in_ok-coefficient.ensures.ok (given_root d.1.second)) (λ others e r. c.add_child-2.ensures.last _ others e r) in
     record {
       kids = x.now;
-      rest-are = subst (Represents x.now) (sym (ap (λ (s : Split). s.factors) t.led.is)) x.kids;
-      given = gives_as x.given refl (λ u e. e ∙ sym (ap (λ (s : Split). s.coefficient) t.led.is));
+      rest-are = subst (Represents x.now) (sym (ap (λ (s : Split). s.factors) d.0.led.is)) x.kids;
+      given = gives_as x.given refl (λ u e. e ∙ sym (ap (λ (s : Split). s.coefficient) d.0.led.is));
     }
 
 pub returns-clause-front : goal.returns-clause-front
 returns-clause-front c =
-    let t = first_taken c.id.ensures c.requires.stands c.requires.handed c.requires.product c.requires.reduced c.coefficient_length-length.ensures c.if-length-eq0.false c.if-length-eq1.false (c.take_child-rational.ensures.last c.requires.handed.root) in
-    let p = pair_taken t.start (c.take_child-rational.ensures.last c.requires.handed.root) (c.take_child-root.ensures.last t.over.root) in
-    let x = paired p (c.add_child.ensures.last _ _ c.in_ok-coefficient.ensures.ok (given_root p.second)) (λ others e r. c.add_child-2.ensures.last _ others e r) in
+    let d = pair (goal.at.returns-clause-front c).After-take_child-root in
+    let x = paired d.1 (c.add_child.ensures.last _ _ c.in_ok-coefficient.ensures.ok (given_root d.1.second)) (λ others e r. c.add_child-2.ensures.last _ others e r) in
     front_end x.given.ends (front_put x.now behind_first front_same)
 
 pub returns-then-length-eq0-clause-full : goal.returns-then-length-eq0-clause-full
@@ -117,27 +109,24 @@ returns-then-length-eq1-clause-exactly c =
 
 pub returns-in_err-coefficient-clause-full : goal.returns-in_err-coefficient-clause-full
 returns-in_err-coefficient-clause-full c =
+    let d = pair (goal.at.returns-in_err-coefficient-clause-full c).After-take_child-root in
     let len = length_seen c.id.ensures c.requires.stands c.requires.handed c.coefficient_length-length.ensures in
-    let t = first_taken c.id.ensures c.requires.stands c.requires.handed c.requires.product c.requires.reduced c.coefficient_length-length.ensures c.if-length-eq0.false c.if-length-eq1.false (c.take_child-rational.ensures.last c.requires.handed.root) in
-    let p = pair_taken t.start (c.take_child-rational.ensures.last c.requires.handed.root) (c.take_child-root.ensures.last t.over.root) in
     let kept = keeps_after _ _ _ c.take_child-rational.ensures.kept c.take_child-root.ensures.kept in
     passed_short c.from_residual.result c.in_err-coefficient.field-0.0 c.from_residual.ensures.1
-    (short kept (pair_free c.requires.stands c.take_child-root.ensures.stands kept t.start p) (two_bytes _ (λ x. c.if-length-eq0.false (sym len ∙ x)) (λ x. c.if-length-eq1.false (sym len ∙ x))) c.in_err-coefficient.ensures.full)
+    (short kept (pair_free c.requires.stands c.take_child-root.ensures.stands kept d.0.start d.1) (two_bytes _ (λ x. c.if-length-eq0.false (sym len ∙ x)) (λ x. c.if-length-eq1.false (sym len ∙ x))) c.in_err-coefficient.ensures.full)
 
 pub returns-in_err-coefficient-clause-exactly : goal.returns-in_err-coefficient-clause-exactly
 returns-in_err-coefficient-clause-exactly c =
+    let d = pair (goal.at.returns-in_err-coefficient-clause-exactly c).After-take_child-root in
     let len = length_seen c.id.ensures c.requires.stands c.requires.handed c.coefficient_length-length.ensures in
-    let t = first_taken c.id.ensures c.requires.stands c.requires.handed c.requires.product c.requires.reduced c.coefficient_length-length.ensures c.if-length-eq0.false c.if-length-eq1.false (c.take_child-rational.ensures.last c.requires.handed.root) in
-    let p = pair_taken t.start (c.take_child-rational.ensures.last c.requires.handed.root) (c.take_child-root.ensures.last t.over.root) in
-    let free = pair_free c.requires.stands c.take_child-root.ensures.stands (keeps_after _ _ _ c.take_child-rational.ensures.kept c.take_child-root.ensures.kept) t.start p in
+    let free = pair_free c.requires.stands c.take_child-root.ensures.stands (keeps_after _ _ _ c.take_child-rational.ensures.kept c.take_child-root.ensures.kept) d.0.start d.1 in
     never c.from_residual.result c.from_residual.ensures.0 (two_bytes _ (λ x. c.if-length-eq0.false (sym len ∙ x)) (λ x. c.if-length-eq1.false (sym len ∙ x)))
     (λ l. refused_once (c.in_err-coefficient.ensures.exactly.1 (omega (arith, l, free))))
 
 pub returns-clause-exactly : goal.returns-clause-exactly
 returns-clause-exactly c =
+    let d = pair (goal.at.returns-clause-exactly c).After-take_child-root in
     let len = length_seen c.id.ensures c.requires.stands c.requires.handed c.coefficient_length-length.ensures in
-    let t = first_taken c.id.ensures c.requires.stands c.requires.handed c.requires.product c.requires.reduced c.coefficient_length-length.ensures c.if-length-eq0.false c.if-length-eq1.false (c.take_child-rational.ensures.last c.requires.handed.root) in
-    let p = pair_taken t.start (c.take_child-rational.ensures.last c.requires.handed.root) (c.take_child-root.ensures.last t.over.root) in
-    let free = pair_free c.requires.stands c.take_child-root.ensures.stands (keeps_after _ _ _ c.take_child-rational.ensures.kept c.take_child-root.ensures.kept) t.start p in
+    let free = pair_free c.requires.stands c.take_child-root.ensures.stands (keeps_after _ _ _ c.take_child-rational.ensures.kept c.take_child-root.ensures.kept) d.0.start d.1 in
     let room = c.in_ok-coefficient.ensures.exactly.0 refl in
     always (two_bytes _ (λ x. c.if-length-eq0.false (sym len ∙ x)) (λ x. c.if-length-eq1.false (sym len ∙ x))) (omega (arith, room, free))
