@@ -1,7 +1,7 @@
 -- A product of terms that is joined to a sum.
 use Rattle.std.proofs.Common.{◌≡◌, ◌≢◌, ◌≤◌, ◌<◌, ℕ, zero, suc, ◌+◌, [], ◌∷◌, drop, Bool, true, false, refl, sym, ap, ◌∙◌, subst, arith}
 use Rattle.std.specs.Prelude.{if◌then◌else◌}
-use Rattle.expand_forms.proofs.Shared.{Equal, no_zero, zero_is, not_from_false, Fraction, is_zero_fraction, plus, zero_fraction, Tree, Trees, add, mult, none, more, count, factor_trees, normal, term_tree, term_trees, IsMonomial, Monomial, Polynomial, Summand, monomial_times, product, summand, polynomial_of, IsPlace, IsSum, IsSumOf, with_term, HasMonomial, IsTerm, coefficient_in, term_cmp, removed, same_plain, Forest, tree_at, State, IsExpression, children_of, inserted, nth, plain, Gives, put, root_tree, without_root, Stands, forest, given_handed, given_other, given_rest, given_root, given_same, given_told, gives_as}
+use Rattle.expand_forms.proofs.Shared.{Equal, no_zero, zero_is, not_from_false, Fraction, is_zero_fraction, plus, zero_fraction, Tree, Trees, add, mult, none, more, count, factor_trees, normal, term_tree, term_trees, IsMonomial, Monomial, Polynomial, Summand, monomial_times, product, summand, polynomial_of, IsPlace, IsSum, IsSumOf, with_term, HasMonomial, IsTerm, coefficient_in, term_cmp, removed, Forest, tree_at, State, IsExpression, children_of, inserted, nth, plain, Gives, put, root_tree, without_root, Stands, forest, given_handed, given_other, given_rest, given_root, given_same, given_told, gives_as, seen}
 use Rattle.expand_forms.proofs.MonomialTrees.{equal_is}
 use Rattle.expand_forms.proofs.SameCoefficients.{same_is, same_trans}
 use Rattle.expand_forms.proofs.SumPlaces.{IsAt, IsFound, drop_at, drop_monomials, drop_normal, drop_trees, found, put_at, put_monomials, put_normal, put_same, put_trees, set_at, set_monomials, set_normal, term_order}
@@ -99,10 +99,10 @@ no_summands (suc n) (s ∷ v) l = no_summands n v (omega arith)
 
 -- what they are read as
 pub sum_read : {i j : ℕ} {g : Forest} (s s1 : State) {h : ℕ} {P : Tree → Type 0} → Gives g (forest s) i IsSum → Gives (forest s) (forest s1) h P → Stands s1 → j ≡ i → plain (tree_at j (forest s1)) ≡ plain (root_tree i (forest s))
-sum_read {i} {j} {g} s s1 e p st k = same_plain j i s1 k st (given_other p (given_handed e)).root ∙ ap plain (given_same i p (given_root e))
+sum_read {i} {j} {g} s s1 e p st k = seen k st (given_other p (given_handed e)) ∙ ap plain (given_same i p (given_root e))
 
 pub term_read : {h j : ℕ} {f : Forest} (s1 : State) {P : Tree → Type 0} → Gives f (forest s1) h P → Stands s1 → j ≡ h → plain (tree_at j (forest s1)) ≡ plain (root_tree h (forest s1))
-term_read {h} {j} {f} s1 p st k = same_plain j h s1 k st (given_root p)
+term_read {h} {j} {f} s1 p st k = seen k st (given_handed p)
 
 -- the product of two terms' factors
 pub placed_behind : {i h s t : ℕ} {g f f1 : Forest} → Gives g f i IsSum → IsExpression s g → IsExpression t g

@@ -53,7 +53,7 @@ pub use Rattle.node_pool.specs.State.{State, free_of}
 pub use Rattle.number_forms.proofs.ByKind.{children_number}
 pub use Rattle.number_forms.proofs.LastSums.{gives_at, kids_represented, last_with, once_nth, only_child, only_owned, represents_without, resum}
 pub use Rattle.number_forms.proofs.Rooms.{full_as, refusal_as}
-pub use Rattle.number_forms.proofs.SumChanges.{many_kids, read_expression, same_plain}
+pub use Rattle.number_forms.proofs.SumChanges.{many_kids}
 pub use Rattle.number_forms.proofs.Twice.{sum_not_zero, twice_fits}
 pub use Rattle.number_forms.specs.Sums.{removed}
 pub use Rattle.rational128.proofs.LowestTerms.{ratio_parts}

@@ -11,15 +11,7 @@ children_number i f h = sym (ap count (children_of-plain (tree_at i f) h.whole) 
 
 pub add_by_kind : (t : Tree) → root_kind t ≡ kind.Add → t ≡ add (children_of t)
 add_by_kind (add ts) e = refl
-add_by_kind (num q) e = cc
-add_by_kind (symbol x) e = cc
-add_by_kind undef e = cc
-add_by_kind (mult ts) e = cc
-add_by_kind (root a) e = cc
-add_by_kind (power b x) e = cc
-add_by_kind (neg a) e = cc
-add_by_kind (sub a b) e = cc
-add_by_kind (div a b) e = cc
+add_by_kind _ e = cc
 
 pub product_by_children : (t : Tree) (q r : Fraction) → is_mult t ≡ true → count (children_of t) ≡ 2 → nth 0 (children_of t) ≡ num q → nth 1 (children_of t) ≡ root (num r) → t ≡ mult (more (num q) (more (root (num r)) none))
 product_by_children (mult none) q r m e f g = absurd (omega arith)

@@ -94,15 +94,7 @@ once_nth n k o = all-first_trees IsOnce 1 (rest_trees n k) (all-rest_trees IsOnc
 
 pub sum_is : (t : Tree) → IsSum t → t ≡ add (children_of t)
 sum_is (add ts) h = refl
-sum_is (num q) h = absurd h
-sum_is (symbol x) h = absurd h
-sum_is undef h = absurd h
-sum_is (mult ts) h = absurd h
-sum_is (power b e) h = absurd h
-sum_is (root a) h = absurd h
-sum_is (neg a) h = absurd h
-sum_is (sub a b) h = absurd h
-sum_is (div a b) h = absurd h
+sum_is _ h = absurd h
 
 -- a sum that stands last, with other children
 pub resum : {i : ℕ} {g f : Forest} {P Q : Tree → Type 0} (e : Gives g f i P) (n : Forest) (us ts : Trees) → plain e.tree ≡ add ts → Represents n us → Q (add us) → Gives g (put i n f) i Q

@@ -59,9 +59,6 @@ total-both (n ∷ ns) ms = omega (arith, total-both ns ms)
 
 mutual
   total-node_sizes : (t : Tree) → total (node_sizes t) ≡ size t
-  total-node_sizes (num q) = omega arith
-  total-node_sizes (symbol x) = omega arith
-  total-node_sizes undef = omega arith
   total-node_sizes (add ts) = omega (arith, total-behind (nodes_sizes ts) (root_size (add ts)), total-nodes_sizes ts)
   total-node_sizes (mult ts) = omega (arith, total-behind (nodes_sizes ts) (root_size (mult ts)), total-nodes_sizes ts)
   total-node_sizes (power b e) = omega (arith, total-behind (node_sizes b ++ node_sizes e) (root_size (power b e)), total-both (node_sizes b) (node_sizes e), total-node_sizes b, total-node_sizes e)
@@ -69,6 +66,7 @@ mutual
   total-node_sizes (neg a) = omega (arith, total-behind (node_sizes a) (root_size (neg a)), total-node_sizes a)
   total-node_sizes (sub a b) = omega (arith, total-behind (node_sizes a ++ node_sizes b) (root_size (sub a b)), total-both (node_sizes a) (node_sizes b), total-node_sizes a, total-node_sizes b)
   total-node_sizes (div a b) = omega (arith, total-behind (node_sizes a ++ node_sizes b) (root_size (div a b)), total-both (node_sizes a) (node_sizes b), total-node_sizes a, total-node_sizes b)
+  total-node_sizes _ = omega arith
 
   total-nodes_sizes : (ts : Trees) → total (nodes_sizes ts) ≡ sizes ts
   total-nodes_sizes none = refl

@@ -12,28 +12,13 @@ use Rattle.calc_terms.specs.declared.kind.Kind.TheVariants as kind
 pub rational_by_kind : (t : Tree) → root_kind t ≡ kind.Num → is_number t ≡ true
 unfolding is_number
 rational_by_kind (num q) e = refl
-rational_by_kind (symbol x) e = cc
-rational_by_kind undef e = cc
-rational_by_kind (add ts) e = cc
-rational_by_kind (mult ts) e = cc
-rational_by_kind (power b x) e = cc
-rational_by_kind (root a) e = cc
-rational_by_kind (neg a) e = cc
-rational_by_kind (sub a b) e = cc
-rational_by_kind (div a b) e = cc
+rational_by_kind _ e = cc
 
 pub other_by_kind : (t : Tree) → root_kind t ≢ kind.Num → root_kind t ≢ kind.Add → is_term t ≡ is_number t
 unfolding is_number
 other_by_kind (num q) a b = absurd (a refl)
 other_by_kind (add ts) a b = absurd (b refl)
-other_by_kind (symbol x) a b = refl
-other_by_kind undef a b = refl
-other_by_kind (mult ts) a b = refl
-other_by_kind (power u x) a b = refl
-other_by_kind (root u) a b = refl
-other_by_kind (neg u) a b = refl
-other_by_kind (sub u v) a b = refl
-other_by_kind (div u v) a b = refl
+other_by_kind _ a b = refl
 
 -- ---- sums
 

@@ -21,25 +21,13 @@ pub term_number : (t : Tree) → IsTerm t → IsNumber t
 term_number (num q) h = tt
 term_number (root a) h = h
 term_number (mult ts) h = h
-term_number (symbol x) h = absurd h
-term_number undef h = absurd h
-term_number (add ts) h = absurd h
-term_number (power b e) h = absurd h
-term_number (neg a) h = absurd h
-term_number (sub a b) h = absurd h
-term_number (div a b) h = absurd h
+term_number _ h = absurd h
 
 pub term_value : (t : Tree) → IsTerm t → value t ≡ term_of t ∷ []
 term_value (num q) h = ap (λ (b : Bool). if b then [] else surd_of q) (zero_test q h)
 term_value (root a) h = refl
 term_value (mult ts) h = refl
-term_value (symbol x) h = absurd h
-term_value undef h = absurd h
-term_value (add ts) h = absurd h
-term_value (power b e) h = absurd h
-term_value (neg a) h = absurd h
-term_value (sub a b) h = absurd h
-term_value (div a b) h = absurd h
+term_value _ h = absurd h
 
 pub single_number : (t : Tree) → IsTerm t → IsNumberOver (term_of t ∷ []) t
 single_number t h = record { number = number_test t (term_number t h); worth = Same-eq (term_value t h); parts = shares_eq (sym (term_value t h)) }
@@ -79,15 +67,7 @@ nth_is_term (more t ts) (suc n) l (h, a) = nth_is_term ts n (omega arith) a
 pub zero_sum : (t : Tree) → IsSum t → count (children_of t) ≡ 0 → value t ≡ []
 zero_sum (add none) h e = refl
 zero_sum (add (more t ts)) h e = absurd (omega arith)
-zero_sum (num q) h e = absurd h
-zero_sum (symbol x) h e = absurd h
-zero_sum undef h e = absurd h
-zero_sum (mult ts) h e = absurd h
-zero_sum (power b x) h e = absurd h
-zero_sum (root a) h e = absurd h
-zero_sum (neg a) h e = absurd h
-zero_sum (sub a b) h e = absurd h
-zero_sum (div a b) h e = absurd h
+zero_sum _ h e = absurd h
 
 one_of_sum : (ts : Trees) → AreTerms ts → count ts ≡ 1 → IsNumberOver (terms_of ts) (nth 0 ts)
 one_of_sum (more t none) (h, a) e = single_number t h

@@ -79,6 +79,7 @@ pub use Rattle.tree_handles.proofs.Plains.{alone, children_of-plain, count-plain
 pub use Rattle.tree_handles.proofs.Refused.{kept_after, kept_same, overflow_as, refused_as}
 pub use Rattle.tree_handles.proofs.Room.{given_free, released_free}
 pub use Rattle.tree_handles.proofs.Roots.{tree-without, without-swap}
+pub use Rattle.tree_handles.proofs.Seen.{expression, seen}
 pub use Rattle.tree_handles.specs.Building.{building, node_sizes, nodes_sizes, taking}
 pub use Rattle.tree_handles.specs.Causes.{LacksLongForm, OnlyLacksLongForm}
 pub use Rattle.tree_handles.specs.Children.{IsChildAt, root_ids}

@@ -1,6 +1,6 @@
 -- A sum that stands last: as it is read, with a term more, and with a term less.
 use Rattle.std.proofs.Common.{◌≡◌, ℕ, ◌<◌, [], ◌∷◌, ◌++◌, true, refl, sym, ap, ◌∙◌, subst}
-use Rattle.number_forms.proofs.Shared.{IsTerm, AreTerms, Rises, is_term, terms_of, value, Same, are_alike, Term, Surd, AreWholeOver, Parts, SharesDenominators, Tree, Trees, none, more, add, count, IsProper, term_words, Same-trans, Same-refl, Same-eq, Same-cons, Same-append, Same-to_front, State, IsSum, IsSumOf, IsApart, IsPlace, removed, nth, plain, children_of, inserted, IsExpression, Forest, arity, kids, with_nth, without_nth, tree_nth, IsHanded, Represents, Ends, Gives, tree_at, kids_of, has_root, root_tree, without_root, put, Stands, forest, represents_handed, represents_with, given_root, given_handed, given_told, given_rest, given_same, last_tree, last_rest, expression_root, plain_root}
+use Rattle.number_forms.proofs.Shared.{IsTerm, AreTerms, Rises, is_term, terms_of, value, Same, are_alike, Term, Surd, AreWholeOver, Parts, SharesDenominators, Tree, Trees, none, more, add, count, IsProper, term_words, Same-trans, Same-refl, Same-eq, Same-cons, Same-append, Same-to_front, State, IsSum, IsSumOf, IsApart, IsPlace, removed, nth, plain, children_of, inserted, IsExpression, Forest, arity, kids, with_nth, without_nth, tree_nth, IsHanded, Represents, Ends, Gives, tree_at, kids_of, has_root, root_tree, without_root, put, Stands, forest, represents_handed, represents_with, given_root, given_handed, given_told, given_rest, given_same, last_tree, last_rest, expression_root, plain_root, seen}
 use Rattle.calc_algebra.specs.Numbers.{term_of}
 use Rattle.number_forms.specs.Joins.{IsMatch}
 use Rattle.number_forms.specs.declared.joining.Match.{Match}
@@ -13,17 +13,11 @@ use Rattle.number_forms.proofs.TermTrees.{term_test}
 
 -- ---- as it is read
 
-pub same_plain : (j i : ℕ) (s : State) → j ≡ i → Stands s → has_root i (forest s) ≡ true → plain (tree_at j (forest s)) ≡ plain (root_tree i (forest s))
-same_plain j i s e st h = ap (λ (x : ℕ). plain (tree_at x (forest s))) e ∙ plain_root i st h
-
-pub read_expression : (j i : ℕ) (s : State) → j ≡ i → Stands s → IsHanded i (forest s) → IsExpression j (forest s)
-read_expression j i s e st h = subst (λ (x : ℕ). IsExpression x (forest s)) (sym e) (expression_root st h)
-
 pub read_sum : {g : Forest} (j i : ℕ) (s : State) → j ≡ i → Stands s → Gives g (forest s) i IsSum → IsSum (plain (tree_at j (forest s)))
-read_sum j i s e st h = subst IsSum (sym (same_plain j i s e st (given_root h))) (given_told h)
+read_sum j i s e st h = subst IsSum (sym (seen e st (given_handed h))) (given_told h)
 
-pub read_place : (j i n r x : ℕ) (s : State) → j ≡ i → Stands s → has_root i (forest s) ≡ true → r ≡ x → IsPlace n r (children_of (plain (tree_at j (forest s)))) → IsPlace n x (children_of (plain (root_tree i (forest s))))
-read_place j i n r x s e st h q p = subst (λ (t : Tree). IsPlace n x (children_of t)) (same_plain j i s e st h) (subst (λ (y : ℕ). IsPlace n y (children_of (plain (tree_at j (forest s))))) q p)
+pub read_place : (j i n r x : ℕ) (s : State) → j ≡ i → Stands s → IsHanded i (forest s) → r ≡ x → IsPlace n r (children_of (plain (tree_at j (forest s)))) → IsPlace n x (children_of (plain (root_tree i (forest s))))
+read_place j i n r x s e st h q p = subst (λ (t : Tree). IsPlace n x (children_of t)) (seen e st h) (subst (λ (y : ℕ). IsPlace n y (children_of (plain (tree_at j (forest s))))) q p)
 
 pub many_kids : (i : ℕ) (s : State) → Stands s → IsHanded i (forest s) → arity (kids_of i (forest s)) ≡ count (children_of (plain (root_tree i (forest s))))
 many_kids i s st h = children_number i (forest s) (expression_root st h) ∙ ap (λ (t : Tree). count (children_of t)) (plain_root i st h.root)

@@ -12,13 +12,7 @@ unfolding is_number
 term_test (num q) h = ap not (zero_test q h)
 term_test (root a) h = number_test (root a) h
 term_test (mult ts) h = number_test (mult ts) h
-term_test (symbol x) h = absurd h
-term_test undef h = absurd h
-term_test (add ts) h = absurd h
-term_test (power b e) h = absurd h
-term_test (neg a) h = absurd h
-term_test (sub a b) h = absurd h
-term_test (div a b) h = absurd h
+term_test _ h = absurd h
 
 -- ---- from a term
 

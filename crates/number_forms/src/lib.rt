@@ -23,7 +23,6 @@ pub use placing::place_term;
 pub use powers::power_number;
 pub use read::{classes, half, is_reduced_number, is_zero, whole};
 pub use recognize::is_number;
-pub use term::term_at;
 
 #[cfg(test)]
 mod tests;

@@ -51,7 +51,7 @@ pub(crate) fn listed_term<const N: usize>(
 }
 
 /// The term that a tree is: a rational has radicand 1.
-pub fn term_at(pool: &Pool, id: Id) -> Term
+pub(crate) fn term_at(pool: &Pool, id: Id) -> Term
     requires stands { Stands pool.now }
     requires expression { IsExpression id (forest pool.now) }
     requires term { is_term (plain (tree_at id (forest pool.now))) ≡ true }

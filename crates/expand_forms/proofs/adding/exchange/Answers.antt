@@ -1,6 +1,6 @@
 use Rattle.std.proofs.Common.{rules, ◌≡◌, ◌<◌, ℕ, inl, refl, sym, ap, ◌∙◌, subst, arith}
 use Rattle.std.specs.Prelude.{Some, slice_set}
-use Rattle.expand_forms.proofs.Shared.{Tree, add, count, more, none, ids_exchanged, lists_at, lists_other, removed, many_kids, read_expression, same_plain, IsChildAt, root_ids, children_of, inserted, plain, Forest, kids, set_nth, tree_nth, Ends, kids_of, put, root_tree, without_root, forest, behind_first, behind_later, front_at, front_put, front_same, front_without, given_handed, given_other, given_root, given_same, given_told, gives_as, last_rest, last_root, last_tree}
+use Rattle.expand_forms.proofs.Shared.{Tree, add, count, more, none, ids_exchanged, lists_at, lists_other, removed, many_kids, IsChildAt, root_ids, children_of, inserted, plain, Forest, kids, set_nth, tree_nth, Ends, kids_of, put, root_tree, without_root, forest, behind_first, behind_later, front_at, front_put, front_same, front_without, given_handed, given_other, given_root, given_same, given_told, gives_as, last_rest, last_root, last_tree, expression, seen}
 use Rattle.expand_forms.proofs.ListedTerms.{next_before}
 use Rattle.expand_forms.proofs.Sums.{exchanged_terms, sum_is, taken_owned}
 use Rattle.expand_forms.proofs.adding.exchange.Given.{Over}
@@ -10,7 +10,7 @@ use Rattle.expand_forms.proofs.adding.exchange.Goals as goal
 pub child-old-requires : goal.child-old-requires
 child-old-requires g c =
     let handed = given_other c.requires.term (given_handed c.requires.sum) in
-    (search rules, (c.requires.stands, (read_expression _ c.args.sum.now c.args.pool.now c.id.ensures c.requires.stands handed, (lists_at c.id.ensures c.requires.lists, subst (λ (t : Tree). c.args.at < count (children_of t)) (sym (same_plain _ c.args.sum.now c.args.pool.now c.id.ensures c.requires.stands handed.root)) c.requires.within))))
+    (search rules, (c.requires.stands, (expression c.id.ensures c.requires.stands handed, (lists_at c.id.ensures c.requires.lists, subst (λ (t : Tree). c.args.at < count (children_of t)) (sym (seen c.id.ensures c.requires.stands handed)) c.requires.within))))
 
 -- the old term, before the new one was placed
 known : (g : Over) (c : After-id-id g) → IsChildAt c.args.at c.args.sum.now c.child-old.result (without_root c.args.term (forest c.args.pool.now))

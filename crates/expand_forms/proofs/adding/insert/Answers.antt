@@ -1,5 +1,5 @@
 use Rattle.std.proofs.Common.{rules, ◌≡◌, ◌≤◌, ℕ, refl, sym, ap, ◌∙◌, subst, arith}
-use Rattle.expand_forms.proofs.Shared.{Tree, add, count, more, none, ids_with, lists_at, lists_more, put_as, IsNextAt, many_kids, read_expression, same_plain, root_ids, children_of, inserted, plain, Forest, arity, kids, root_id, with_nth, kids_of, put, root_tree, without_root, forest, behind_first, behind_later, front_at, front_put, front_same, front_without, given_handed, given_other, given_root, given_same, given_told, gives_as, last_tree}
+use Rattle.expand_forms.proofs.Shared.{Tree, add, count, more, none, ids_with, lists_at, lists_more, put_as, IsNextAt, many_kids, root_ids, children_of, inserted, plain, Forest, arity, kids, root_id, with_nth, kids_of, put, root_tree, without_root, forest, behind_first, behind_later, front_at, front_put, front_same, front_without, given_handed, given_other, given_root, given_same, given_told, gives_as, last_tree, expression, seen}
 use Rattle.std.specs.List.{insert}
 use Rattle.expand_forms.proofs.ListedTerms.{next_before}
 use Rattle.expand_forms.proofs.Sums.{add_inserted, sum_is}
@@ -10,7 +10,7 @@ use Rattle.expand_forms.proofs.adding.insert.Goals as goal
 pub next_child-next-requires : goal.next_child-next-requires
 next_child-next-requires g c =
     let handed = given_other c.requires.term (given_handed c.requires.sum) in
-    (search rules, (c.requires.stands, (read_expression _ c.args.sum.now c.args.pool.now c.id.ensures c.requires.stands handed, (lists_at c.id.ensures c.requires.lists, subst (λ (t : Tree). c.args.at ≤ count (children_of t)) (sym (same_plain _ c.args.sum.now c.args.pool.now c.id.ensures c.requires.stands handed.root)) c.requires.within))))
+    (search rules, (c.requires.stands, (expression c.id.ensures c.requires.stands handed, (lists_at c.id.ensures c.requires.lists, subst (λ (t : Tree). c.args.at ≤ count (children_of t)) (sym (seen c.id.ensures c.requires.stands handed)) c.requires.within))))
 
 next : (g : Over) (c : After-put_before g) → IsNextAt c.args.at c.args.sum.now (without_root c.args.term (forest c.args.pool.now)) c.next_child-next.result
 next g c = next_before c.args.at c.next_child-next.result c.requires.sum.ends c.requires.term.ends (subst (λ (i : ℕ). IsNextAt c.args.at i (forest c.args.pool.now) c.next_child-next.result) c.id.ensures c.next_child-next.ensures)

@@ -1,5 +1,5 @@
 use Rattle.std.proofs.Common.{rules, ◌≡◌, ◌<◌, ◌∙◌, [], ◌∷◌, ap, refl, sym, subst, arith, length}
-use Rattle.expand_forms.proofs.Shared.{not_from_false, no_zero, plus, value_of, Tree, count, is_mult, size, lists_at, term_tree, IsNoOverflow, term_bytes, Monomial, monomial_times, summand, IsPlace, IsSum, HasMonomial, coefficient_in, term_cmp, free_of, OfFull, gives_rest, passed_on, read_expression, children_of, nth, plain, Forest, Gives, KeepsFront, tree_of, tree_at, without_root, forest, behind_first, behind_new, front_after, front_after_one, front_after_two, front_same, given_handed, given_other, given_rest, given_root, given_same, given_told, gives_as, given_free}
+use Rattle.expand_forms.proofs.Shared.{not_from_false, no_zero, plus, value_of, Tree, count, is_mult, size, lists_at, term_tree, IsNoOverflow, term_bytes, Monomial, monomial_times, summand, IsPlace, IsSum, HasMonomial, coefficient_in, term_cmp, free_of, OfFull, gives_rest, passed_on, children_of, nth, plain, Forest, Gives, KeepsFront, tree_of, tree_at, without_root, forest, behind_first, behind_new, front_after, front_after_one, front_after_two, front_same, given_handed, given_other, given_rest, given_root, given_same, given_told, gives_as, given_free, expression}
 use Rattle.expand_forms.proofs.Joins.{placed_behind, put_in, set_in, sum_read, term_read}
 use Rattle.expand_forms.proofs.ListedTerms.{lists_behind}
 use Rattle.expand_forms.proofs.Splits.{contradiction, total_fits}
@@ -31,13 +31,13 @@ place_of-requires g c =
       (
         st,
         (
-          read_expression _ c.args.sum.now now c.id.ensures st (given_other p (given_handed c.requires.sum)),
+          expression c.id.ensures st (given_other p (given_handed c.requires.sum)),
           (
             subst IsSum (sym (sum_read c.args.pool.now now c.requires.sum p st c.id.ensures)) (given_told c.requires.sum),
             (
               lists_at c.id.ensures (lists_behind c.requires.sum p c.requires.lists),
               (
-                read_expression _ c.in_ok-product.product now c.id-2.ensures st (given_handed p),
+                expression c.id-2.ensures st (given_handed p),
                 (monomial_times m n, product_monomial (monomial_times_monomial m n hm.monomial hn.monomial) (term_read now p st c.id-2.ensures ∙ given_told p)),
               ),
             ),
@@ -122,7 +122,7 @@ child-other-requires g c =
       (
         st,
         (
-          read_expression _ c.args.sum.now now c.id-in-Ok.ensures st (given_other p (given_handed c.requires.sum)),
+          expression c.id-in-Ok.ensures st (given_other p (given_handed c.requires.sum)),
           (
             lists_at c.id-in-Ok.ensures (lists_behind c.requires.sum p c.requires.lists),
             subst (λ (t : Tree). c.in-Ok.at < count (children_of t)) (sym (sum_read c.args.pool.now now c.requires.sum p st c.id-in-Ok.ensures)) (within g (goal.at.child-other-requires g c).In-Ok),

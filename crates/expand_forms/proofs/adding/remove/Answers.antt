@@ -1,5 +1,5 @@
 use Rattle.std.proofs.Common.{rules, ◌<◌, ℕ, inl, sym, ◌∙◌, subst, arith}
-use Rattle.expand_forms.proofs.Shared.{Tree, count, ids_without, lists_at, lists_less, kept_after, many_kids, read_expression, same_plain, IsChildAt, children_of, kids, tree_nth, without_nth, Ends, put, root_tree, forest, behind_first, front_same, front_at, front_put, given_root, given_handed, last_root, last_rest}
+use Rattle.expand_forms.proofs.Shared.{Tree, count, ids_without, lists_at, lists_less, kept_after, many_kids, IsChildAt, children_of, kids, tree_nth, without_nth, Ends, put, root_tree, forest, behind_first, front_same, front_at, front_put, given_root, given_handed, last_root, last_rest, expression, seen}
 use Rattle.expand_forms.proofs.Lacks.{removed_free}
 use Rattle.expand_forms.proofs.Sums.{sum_of_removed, taken_owned}
 use Rattle.expand_forms.proofs.adding.remove.Given.{Over}
@@ -7,7 +7,7 @@ use Rattle.expand_forms.proofs.adding.remove.Goals.{After-release}
 use Rattle.expand_forms.proofs.adding.remove.Goals as goal
 
 pub child-id-requires : goal.child-id-requires
-child-id-requires g c = (search rules, (c.requires.stands, (read_expression _ c.args.sum.now c.args.pool.now c.id.ensures c.requires.stands (given_handed c.requires.sum), (lists_at c.id.ensures c.requires.lists, subst (λ (t : Tree). c.args.at < count (children_of t)) (sym (same_plain _ c.args.sum.now c.args.pool.now c.id.ensures c.requires.stands (given_root c.requires.sum))) c.requires.within))))
+child-id-requires g c = (search rules, (c.requires.stands, (expression c.id.ensures c.requires.stands (given_handed c.requires.sum), (lists_at c.id.ensures c.requires.lists, subst (λ (t : Tree). c.args.at < count (children_of t)) (sym (seen c.id.ensures c.requires.stands (given_handed c.requires.sum))) c.requires.within))))
 
 pub take_known_child-child-requires-clause-known : goal.take_known_child-child-requires-clause-known
 take_known_child-child-requires-clause-known g c = (c.args.at, subst (λ (i : ℕ). IsChildAt c.args.at i c.child-id.result (forest c.args.pool.now)) c.id.ensures c.child-id.ensures.child)

@@ -1,5 +1,5 @@
 use Rattle.std.proofs.Common.{rules, ◌≡◌, ◌≤◌, inl, sym, ap, ◌∙◌, refl, arith}
-use Rattle.expand_forms.proofs.Shared.{Tree, count, num, only_child, only_owned, same_plain, read_expression, gives_itself, tree_of, children_of, behind_first, front_same, front_at, front_end, front_put, front_without, front_after, given_root, given_handed, given_told, gives_as, owned, refusal_as, released_free}
+use Rattle.expand_forms.proofs.Shared.{Tree, count, num, only_child, only_owned, gives_itself, tree_of, children_of, behind_first, front_same, front_at, front_end, front_put, front_without, front_after, given_root, given_handed, given_told, gives_as, owned, refusal_as, released_free, expression, seen}
 use Rattle.expand_forms.proofs.Expansions.{more_sum, none_sum, one_sum, zero_value}
 use Rattle.expand_forms.proofs.Sums.{sum_is}
 use Rattle.number_forms.proofs.Shaped.{two_from}
@@ -8,7 +8,7 @@ use Rattle.expand_forms.proofs.Lacks.{number_refused}
 use Rattle.expand_forms.proofs.products.finished.Goals as goal
 
 pub children-terms-requires-clause-live : goal.children-terms-requires-clause-live
-children-terms-requires-clause-live c = (read_expression _ c.args.sum c.args.pool.now c.id.ensures c.requires.stands (given_handed c.requires.sum)).live
+children-terms-requires-clause-live c = (expression c.id.ensures c.requires.stands (given_handed c.requires.sum)).live
 
 pub release-requires-clause-releasable : goal.release-requires-clause-releasable
 release-requires-clause-releasable c = inl (given_root c.requires.sum)
@@ -21,7 +21,7 @@ release-requires-then-terms-eq1-clause-releasable c =
 pub returns-then-terms-eq0 : goal.returns-then-terms-eq0
 returns-then-terms-eq0 c =
     record {
-      ok = let sum = tree_of c.args.sum c.args.pool.now in let expression = read_expression _ c.args.sum c.args.pool.now c.id.ensures c.requires.stands (given_handed c.requires.sum) in let many = ap (λ (t : Tree). count (children_of t)) (same_plain _ c.args.sum c.args.pool.now c.id.ensures c.requires.stands (given_root c.requires.sum)) in let none : count (children_of sum) ≡ 0 = sym (c.children-terms.ensures.plain expression ∙ many) ∙ c.if-terms-eq0.true in if_given _ _ _ _ _ c.number.result c.number.ensures.given (c.release.ensures.owned (owned (given_handed c.requires.sum))) (λ t e. e ∙ ap num (zero_value c.whole.result c.whole.ensures) ∙ sym (none_sum (given_told c.requires.sum) none));
+      ok = let sum = tree_of c.args.sum c.args.pool.now in let read = expression c.id.ensures c.requires.stands (given_handed c.requires.sum) in let many = ap (λ (t : Tree). count (children_of t)) (seen c.id.ensures c.requires.stands (given_handed c.requires.sum)) in let none : count (children_of sum) ≡ 0 = sym (c.children-terms.ensures.plain read ∙ many) ∙ c.if-terms-eq0.true in if_given _ _ _ _ _ c.number.result c.number.ensures.given (c.release.ensures.owned (owned (given_handed c.requires.sum))) (λ t e. e ∙ ap num (zero_value c.whole.result c.whole.ensures) ∙ sym (none_sum (given_told c.requires.sum) none));
       front = front_after (front_at (front_without behind_first front_same) (c.release.ensures.owned (owned (given_handed c.requires.sum)))) c.number.ensures.front;
       kept = search rules;
       full = search rules;
@@ -35,7 +35,7 @@ returns-then-terms-eq1 c =
     let sum = tree_of c.args.sum c.args.pool.now in
     let taken = c.take_child-term.ensures.last (given_root c.requires.sum) in
     record {
-      ok = let told = given_told c.requires.sum in let expression = read_expression _ c.args.sum c.args.pool.now c.id.ensures c.requires.stands (given_handed c.requires.sum) in let many = ap (λ (t : Tree). count (children_of t)) (same_plain _ c.args.sum c.args.pool.now c.id.ensures c.requires.stands (given_root c.requires.sum)) in let one : count (children_of sum) ≡ 1 = sym (c.children-terms.ensures.plain expression ∙ many) ∙ c.if-terms-eq1.true in let gone = c.release-then-terms-eq1.ensures.owned (owned (only_owned c.requires.sum (children_of sum) (sum_is told) taken)) in only_child c.requires.sum (children_of sum) (sum_is told) (omega (arith, one)) taken gone (one_sum told one);
+      ok = let told = given_told c.requires.sum in let read = expression c.id.ensures c.requires.stands (given_handed c.requires.sum) in let many = ap (λ (t : Tree). count (children_of t)) (seen c.id.ensures c.requires.stands (given_handed c.requires.sum)) in let one : count (children_of sum) ≡ 1 = sym (c.children-terms.ensures.plain read ∙ many) ∙ c.if-terms-eq1.true in let gone = c.release-then-terms-eq1.ensures.owned (owned (only_owned c.requires.sum (children_of sum) (sum_is told) taken)) in only_child c.requires.sum (children_of sum) (sum_is told) (omega (arith, one)) taken gone (one_sum told one);
       front = let gone = c.release-then-terms-eq1.ensures.owned (owned (only_owned c.requires.sum (children_of sum) (sum_is (given_told c.requires.sum)) taken)) in front_at (front_without behind_first (front_end taken (front_put _ behind_first front_same))) gone;
       kept = search rules;
       full = search rules;
@@ -48,8 +48,8 @@ pub returns-else-terms-eq1-clause-ok : goal.returns-else-terms-eq1-clause-ok
 returns-else-terms-eq1-clause-ok c =
     let sum = tree_of c.args.sum c.args.pool.now in
     let told = given_told c.requires.sum in
-    let expression = read_expression _ c.args.sum c.args.pool.now c.id.ensures c.requires.stands (given_handed c.requires.sum) in
-    let many = ap (λ (t : Tree). count (children_of t)) (same_plain _ c.args.sum c.args.pool.now c.id.ensures c.requires.stands (given_root c.requires.sum)) in
-    let all : c.children-terms.result ≡ count (children_of sum) = c.children-terms.ensures.plain expression ∙ many in
+    let read = expression c.id.ensures c.requires.stands (given_handed c.requires.sum) in
+    let many = ap (λ (t : Tree). count (children_of t)) (seen c.id.ensures c.requires.stands (given_handed c.requires.sum)) in
+    let all : c.children-terms.result ≡ count (children_of sum) = c.children-terms.ensures.plain read ∙ many in
     let two : 2 ≤ c.children-terms.result = two_from c.children-terms.result c.if-terms-eq0.false c.if-terms-eq1.false in
     gives_as (gives_itself c.requires.sum) refl (λ t h. h.1 ∙ more_sum told (omega (arith, all, two)))

@@ -1,22 +1,21 @@
 use Rattle.std.proofs.Common.{◌≡◌, refl, sym, ap, ◌∙◌}
-use Rattle.number_forms.proofs.Shared.{is_zero, tree_of, gives_as, without-swap}
+use Rattle.number_forms.proofs.Shared.{is_zero, tree_of, gives_as, without-swap, expression, seen}
 use Rattle.number_forms.proofs.Kept.{with_zero, zero_with}
-use Rattle.number_forms.proofs.SumChanges.{same_plain, read_expression}
 use Rattle.number_forms.proofs.adding.add_terms.Goals.{After-is_zero, After-is_zero-else-is_zero}
 use Rattle.number_forms.proofs.adding.add_terms.Goals as goal
 
 -- what was read of each
 first : (c : After-is_zero) → c.is_zero.result ≡ is_zero (tree_of c.args.a c.args.pool.now)
-first c = c.is_zero.ensures ∙ ap is_zero (same_plain _ c.args.a c.args.pool.now c.id.ensures c.requires.stands c.requires.first.root)
+first c = c.is_zero.ensures ∙ ap is_zero (seen c.id.ensures c.requires.stands c.requires.first)
 
 second : (c : After-is_zero-else-is_zero) → c.is_zero-else-is_zero.result ≡ is_zero (tree_of c.args.b c.args.pool.now)
-second c = c.is_zero-else-is_zero.ensures ∙ ap is_zero (same_plain _ c.args.b c.args.pool.now c.id-else-is_zero.ensures c.requires.stands c.requires.second.root)
+second c = c.is_zero-else-is_zero.ensures ∙ ap is_zero (seen c.id-else-is_zero.ensures c.requires.stands c.requires.second)
 
 pub is_zero-requires-clause-expression : goal.is_zero-requires-clause-expression
-is_zero-requires-clause-expression c = read_expression _ c.args.a c.args.pool.now c.id.ensures c.requires.stands c.requires.first
+is_zero-requires-clause-expression c = expression c.id.ensures c.requires.stands c.requires.first
 
 pub is_zero-requires-else-is_zero-clause-expression : goal.is_zero-requires-else-is_zero-clause-expression
-is_zero-requires-else-is_zero-clause-expression c = read_expression _ c.args.b c.args.pool.now c.id-else-is_zero.ensures c.requires.stands c.requires.second
+is_zero-requires-else-is_zero-clause-expression c = expression c.id-else-is_zero.ensures c.requires.stands c.requires.second
 
 pub returns-then-is_zero-clause-ok : goal.returns-then-is_zero-clause-ok
 returns-then-is_zero-clause-ok c =

@@ -1,6 +1,5 @@
 use Rattle.std.proofs.Common.{◌≡◌, ℕ, inl, sym, ap, ◌∙◌, subst, arith, ◌+◌, ◌*◌, ◌^◌, ◌<◌, length}
-use Rattle.number_forms.proofs.Shared.{is_number, value, Same-trans, Same-append, Same-eq, lists_at, lists_listed, other_plain, gives_without, gives_rest, kept_after, overflow_as, tree_of, IsHanded, plain, without_root, forest, behind_first, behind_later, behind_new, front_same, front_at, front_without, front_after_one, given_handed, given_told, given_rest, given_other, gives_as, handed_beside, handed_at, owned, tree-without, SumOverflows, OfOverflow, passed_on, sum_need, Spans, Surd, size, free_of, LacksRoom, joining_need, replaced_free, both_replaced_free}
-use Rattle.number_forms.proofs.SumChanges.{read_expression}
+use Rattle.number_forms.proofs.Shared.{is_number, value, Same-trans, Same-append, Same-eq, lists_at, lists_listed, other_plain, gives_without, gives_rest, kept_after, overflow_as, tree_of, IsHanded, plain, without_root, forest, behind_first, behind_later, behind_new, front_same, front_at, front_without, front_after_one, given_handed, given_told, given_rest, given_other, gives_as, handed_beside, handed_at, owned, tree-without, SumOverflows, OfOverflow, passed_on, sum_need, Spans, Surd, size, free_of, LacksRoom, joining_need, replaced_free, both_replaced_free, expression}
 use Rattle.number_forms.proofs.Denominators.{shares_eq}
 use Rattle.number_forms.proofs.Over.{over_as, shares_append}
 use Rattle.number_forms.proofs.Overflows.{sum_overflows_as}
@@ -90,4 +89,4 @@ returns-in_err-join_terms-clause-overflow g c =
     (overflow_as c.in_err-join_terms.field-0.0 c.in_err-join_terms.ensures.overflow (λ o s. sum_overflows_as _ _ _ _ o (given_told sum).worth (given_told sum).parts (ap value same) s))
 
 pub of-list-requires : goal.of-list-requires
-of-list-requires g c = (omega (arith, c.requires.few), (c.in_ok-sum.ensures.stands, read_expression _ c.in_ok-sum.sum c.sum_over.new.pool c.id.ensures c.in_ok-sum.ensures.stands (given_handed c.in_ok-sum.ensures.ok)))
+of-list-requires g c = (omega (arith, c.requires.few), (c.in_ok-sum.ensures.stands, expression c.id.ensures c.in_ok-sum.ensures.stands (given_handed c.in_ok-sum.ensures.ok)))

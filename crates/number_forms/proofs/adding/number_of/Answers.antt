@@ -1,11 +1,11 @@
 use Rattle.std.proofs.Common.{◌≡◌, ◌≤◌, inl, sym, ap, ◌∙◌, refl, arith, subst, ◌<◌}
 use Rattle.std.specs.Prelude.{pos}
-use Rattle.number_forms.proofs.Shared.{value, IsNumberOver, Tree, count, num, root_size, gives_itself, tree_of, children_of, behind_first, front_same, front_at, front_end, front_put, front_without, front_after, given_root, given_handed, given_told, gives_as, owned, num_most, value_of, free_of, refused_below, released_free}
+use Rattle.number_forms.proofs.Shared.{value, IsNumberOver, Tree, count, num, root_size, gives_itself, tree_of, children_of, behind_first, front_same, front_at, front_end, front_put, front_without, front_after, given_root, given_handed, given_told, gives_as, owned, num_most, value_of, free_of, refused_below, released_free, expression, seen}
 use Rattle.number_forms.proofs.LastSums.{sum_is, only_child, only_owned}
 use Rattle.number_forms.proofs.Shaped.{zero_sum, one_sum, more_sum, zero_number_of, two_from}
-use Rattle.number_forms.proofs.SumChanges.{same_plain, read_expression}
 use Rattle.number_forms.proofs.TermTrees.{if_given, whole_is}
 use Rattle.number_forms.proofs.Rooms.{refusal_as}
+use Rattle.number_forms.proofs.adding.number_of.Goals.{After-children-terms}
 use Rattle.number_forms.proofs.adding.number_of.Goals as goal
 
 pub returns-then-terms-eq0-clause-room : goal.returns-then-terms-eq0-clause-room
@@ -17,7 +17,11 @@ returns-then-terms-eq0-clause-room c =
     omega (arith, free, few, num_most (value_of c.whole.result)))
 
 pub children-terms-requires-clause-live : goal.children-terms-requires-clause-live
-children-terms-requires-clause-live c = (read_expression _ c.args.sum c.args.pool.now c.id.ensures c.requires.stands (given_handed c.requires.sum)).live
+children-terms-requires-clause-live c = (expression c.id.ensures c.requires.stands (given_handed c.requires.sum)).live
+
+-- how many terms there are
+terms : (c : After-children-terms) → c.children-terms.result ≡ count (children_of (tree_of c.args.sum c.args.pool.now))
+terms c = c.children-terms.ensures.plain (expression c.id.ensures c.requires.stands (given_handed c.requires.sum)) ∙ ap (λ (t : Tree). count (children_of t)) (seen c.id.ensures c.requires.stands (given_handed c.requires.sum))
 
 pub release-requires-clause-releasable : goal.release-requires-clause-releasable
 release-requires-clause-releasable c = inl (given_root c.requires.sum)
@@ -30,9 +34,7 @@ release-requires-then-terms-eq1-clause-releasable c =
 pub returns-then-terms-eq0-clause-ok : goal.returns-then-terms-eq0-clause-ok
 returns-then-terms-eq0-clause-ok c =
     let sum = tree_of c.args.sum c.args.pool.now in
-    let expression = read_expression _ c.args.sum c.args.pool.now c.id.ensures c.requires.stands (given_handed c.requires.sum) in
-    let many = ap (λ (t : Tree). count (children_of t)) (same_plain _ c.args.sum c.args.pool.now c.id.ensures c.requires.stands (given_root c.requires.sum)) in
-    let none : count (children_of sum) ≡ 0 = sym (c.children-terms.ensures.plain expression ∙ many) ∙ c.if-terms-eq0.true in
+    let none : count (children_of sum) ≡ 0 = sym (terms (goal.at.returns-then-terms-eq0-clause-ok c).After-children-terms) ∙ c.if-terms-eq0.true in
     if_given _ _ _ _ _ c.number.result c.number.ensures.given (c.release.ensures.owned (owned (given_handed c.requires.sum)))
     (λ t e. zero_number_of _ t _ (zero_sum sum (given_told c.requires.sum) none) e (whole_is c.whole.result (pos 0) c.whole.ensures))
 
@@ -43,9 +45,7 @@ pub returns-then-terms-eq1-clause-ok : goal.returns-then-terms-eq1-clause-ok
 returns-then-terms-eq1-clause-ok c =
     let sum = tree_of c.args.sum c.args.pool.now in
     let told = given_told c.requires.sum in
-    let expression = read_expression _ c.args.sum c.args.pool.now c.id.ensures c.requires.stands (given_handed c.requires.sum) in
-    let many = ap (λ (t : Tree). count (children_of t)) (same_plain _ c.args.sum c.args.pool.now c.id.ensures c.requires.stands (given_root c.requires.sum)) in
-    let one : count (children_of sum) ≡ 1 = sym (c.children-terms.ensures.plain expression ∙ many) ∙ c.if-terms-eq1.true in
+    let one : count (children_of sum) ≡ 1 = sym (terms (goal.at.returns-then-terms-eq1-clause-ok c).After-children-terms) ∙ c.if-terms-eq1.true in
     let taken = c.take_child-term.ensures.last (given_root c.requires.sum) in
     let gone = c.release-then-terms-eq1.ensures.owned (owned (only_owned c.requires.sum (children_of sum) (sum_is sum told) taken)) in
     only_child c.requires.sum (children_of sum) (sum_is sum told) (omega (arith, one)) taken gone (one_sum sum (children_of sum) told (sum_is sum told) one)
@@ -61,8 +61,6 @@ pub returns-else-terms-eq1-clause-ok : goal.returns-else-terms-eq1-clause-ok
 returns-else-terms-eq1-clause-ok c =
     let sum = tree_of c.args.sum c.args.pool.now in
     let told = given_told c.requires.sum in
-    let expression = read_expression _ c.args.sum c.args.pool.now c.id.ensures c.requires.stands (given_handed c.requires.sum) in
-    let many = ap (λ (t : Tree). count (children_of t)) (same_plain _ c.args.sum c.args.pool.now c.id.ensures c.requires.stands (given_root c.requires.sum)) in
-    let all : c.children-terms.result ≡ count (children_of sum) = c.children-terms.ensures.plain expression ∙ many in
+    let all : c.children-terms.result ≡ count (children_of sum) = terms (goal.at.returns-else-terms-eq1-clause-ok c).After-children-terms in
     let two : 2 ≤ c.children-terms.result = two_from c.children-terms.result c.if-terms-eq0.false c.if-terms-eq1.false in
     gives_as (gives_itself c.requires.sum) refl (λ t h. let e = h.1 in subst (IsNumberOver (value sum)) (sym e) (more_sum sum (children_of sum) told (sum_is sum told) (omega (arith, all, two))))

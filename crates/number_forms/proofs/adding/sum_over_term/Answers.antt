@@ -1,7 +1,6 @@
 use Rattle.std.proofs.Common.{sym, ap, ◌∙◌, refl, ◌<◌, arith}
-use Rattle.number_forms.proofs.Shared.{bare, is_zero, tree_of, behind_first, front_same, front_at, front_end, front_without, front_after, represents_none, represents_handed, represents_with, represents_node, gives, owned, last_held, last_apart, other_root, free_of, Full, refused_below, passed_on, released_free}
+use Rattle.number_forms.proofs.Shared.{bare, is_zero, tree_of, behind_first, front_same, front_at, front_end, front_without, front_after, represents_none, represents_handed, represents_with, represents_node, gives, owned, last_held, last_apart, other_root, free_of, Full, refused_below, passed_on, released_free, expression, seen}
 use Rattle.number_forms.proofs.Shaped.{no_term_sum_of, one_term_sum_of}
-use Rattle.number_forms.proofs.SumChanges.{same_plain, read_expression}
 use Rattle.number_forms.proofs.TermTrees.{if_given, nonzero_term, zero_value}
 use Rattle.number_forms.proofs.Rooms.{refusal_as}
 use Rattle.calc_terms.specs.declared.kind.Kind.TheVariants as kind
@@ -17,7 +16,7 @@ returns-in_err-sum-clause-room c =
     passed_on c.from_residual.result c.in_err-sum.field-0.0 (λ (full : Full). free_of c.args.pool.now < 8) c.from_residual.ensures.0 c.from_residual.ensures.1 (refused_below c.in_err-sum.ensures.full)
 
 pub is_zero-requires-clause-expression : goal.is_zero-requires-clause-expression
-is_zero-requires-clause-expression c = read_expression _ c.args.a c.args.pool.now c.id.ensures c.requires.stands c.requires.handed
+is_zero-requires-clause-expression c = expression c.id.ensures c.requires.stands c.requires.handed
 
 pub add_child-requires-clause-live : goal.add_child-requires-clause-live
 add_child-requires-clause-live c = last_held c.in_ok-sum.ensures.ok
@@ -30,7 +29,7 @@ add_child-requires-clause-apart c = last_apart c.args.a c.in_ok-sum.ensures.stan
 
 pub returns-then-is_zero-clause-ok : goal.returns-then-is_zero-clause-ok
 returns-then-is_zero-clause-ok c =
-    let same = same_plain _ c.args.a c.args.pool.now c.id.ensures c.requires.stands c.requires.handed.root in
+    let same = seen c.id.ensures c.requires.stands c.requires.handed in
     let zero = sym (c.is_zero.ensures ∙ ap is_zero same) ∙ c.if-is_zero.true in
     if_given _ _ _ _ _ c.node.result (c.node.ensures.given refl) (c.release.ensures.owned (owned c.requires.handed)) (λ t e. no_term_sum_of _ t (zero_value (tree_of c.args.a c.args.pool.now) zero) e)
 
@@ -39,7 +38,7 @@ returns-then-is_zero-clause-front c = front_after (front_at (front_without behin
 
 pub returns-in_ok-sum-clause-ok : goal.returns-in_ok-sum-clause-ok
 returns-in_ok-sum-clause-ok c =
-    let same = same_plain _ c.args.a c.args.pool.now c.id.ensures c.requires.stands c.requires.handed.root in
+    let same = seen c.id.ensures c.requires.stands c.requires.handed in
     let nonzero = sym (c.is_zero.ensures ∙ ap is_zero same) ∙ c.if-is_zero.false in
     gives (c.add_child.ensures.last _ _ c.in_ok-sum.ensures.ok c.requires.handed.root)
     (represents_node c.in_ok-sum.sum (bare kind.Add) (represents_with 0 (represents_handed c.requires.handed) represents_none) refl)

@@ -1,15 +1,15 @@
 use Rattle.std.proofs.Common.{rules, ◌≡◌, ℕ, inl, sym, ap, ◌∙◌, subst, arith, ◌<◌, ◌≤◌}
 use Rattle.std.specs.Prelude.{slice_set}
-use Rattle.number_forms.proofs.Shared.{free_of, Full, ids_exchanged, lists_at, lists_other, passed_on, Tree, count, term_of, IsChildAt, root_ids, kids_of, children_of, kids, tree_nth, set_nth, AllOnce, IsOwned, Ends, root_tree, put, forest, behind_first, front_same, front_at, front_put, given_root, given_handed, last_root, last_tree, last_rest}
+use Rattle.number_forms.proofs.Shared.{free_of, Full, ids_exchanged, lists_at, lists_other, passed_on, Tree, count, term_of, IsChildAt, root_ids, kids_of, children_of, kids, tree_nth, set_nth, AllOnce, IsOwned, Ends, root_tree, put, forest, behind_first, front_same, front_at, front_put, given_root, given_handed, last_root, last_tree, last_rest, expression, seen}
 use Rattle.number_forms.proofs.Exchanged.{exchanged_sum}
 use Rattle.number_forms.proofs.LastSums.{kids_represented, once_nth}
-use Rattle.number_forms.proofs.SumChanges.{same_plain, read_expression, many_kids}
+use Rattle.number_forms.proofs.SumChanges.{many_kids}
 use Rattle.number_forms.proofs.joining.exchange.Given.{Over}
 use Rattle.number_forms.proofs.joining.exchange.Goals.{After-release}
 use Rattle.number_forms.proofs.joining.exchange.Goals as goal
 
 pub child-old-requires : goal.child-old-requires
-child-old-requires g c = (search rules, (c.requires.stands, (read_expression _ c.args.sum.now c.args.pool.now c.id.ensures c.requires.stands (given_handed c.requires.sum), (lists_at c.id.ensures c.requires.lists, subst (λ (t : Tree). c.args.at < count (children_of t)) (sym (same_plain _ c.args.sum.now c.args.pool.now c.id.ensures c.requires.stands (given_root c.requires.sum))) c.requires.within))))
+child-old-requires g c = (search rules, (c.requires.stands, (expression c.id.ensures c.requires.stands (given_handed c.requires.sum), (lists_at c.id.ensures c.requires.lists, subst (λ (t : Tree). c.args.at < count (children_of t)) (sym (seen c.id.ensures c.requires.stands (given_handed c.requires.sum))) c.requires.within))))
 
 pub replace_known_child-gone-requires-clause-known : goal.replace_known_child-gone-requires-clause-known
 replace_known_child-gone-requires-clause-known g c =

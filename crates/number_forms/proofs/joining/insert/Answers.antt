@@ -1,7 +1,7 @@
 use Rattle.std.proofs.Common.{rules, ◌≡◌, ℕ, sym, ap, ◌∙◌, subst, arith, ◌<◌, ◌≤◌}
-use Rattle.number_forms.proofs.Shared.{IsNextAt, ids_with, lists_at, lists_more, Tree, count, term_of, root_ids, kids_of, children_of, kids, with_nth, root_tree, without_root, put, forest, behind_first, front_same, front_at, front_put, given_root, given_handed, free_of, passed_on, Full}
+use Rattle.number_forms.proofs.Shared.{IsNextAt, ids_with, lists_at, lists_more, Tree, count, term_of, root_ids, kids_of, children_of, kids, with_nth, root_tree, without_root, put, forest, behind_first, front_same, front_at, front_put, given_root, given_handed, free_of, passed_on, Full, expression, seen}
 use Rattle.child_lists.proofs.PutBefore.{put_as}
-use Rattle.number_forms.proofs.SumChanges.{same_plain, read_expression, many_kids, inserted_sum}
+use Rattle.number_forms.proofs.SumChanges.{many_kids, inserted_sum}
 use Rattle.std.specs.List.{insert}
 use Rattle.number_forms.proofs.joining.insert.Given.{Over}
 use Rattle.number_forms.proofs.joining.insert.Goals.{After-put_before}
@@ -13,7 +13,7 @@ returns-in_err-child-clause-room g c =
     passed_on c.from_residual.result c.in_err-child.field-0.0 (λ (full : Full). free_of c.args.pool.now < 96) c.from_residual.ensures.0 c.from_residual.ensures.1 (omega (arith, lacking))
 
 pub next_child-next-requires : goal.next_child-next-requires
-next_child-next-requires g c = (search rules, (c.requires.stands, (read_expression _ c.args.sum.now c.args.pool.now c.id.ensures c.requires.stands (given_handed c.requires.sum), (lists_at c.id.ensures c.requires.lists, subst (λ (t : Tree). c.args.at ≤ count (children_of t)) (sym (same_plain _ c.args.sum.now c.args.pool.now c.id.ensures c.requires.stands (given_root c.requires.sum))) c.requires.place.within))))
+next_child-next-requires g c = (search rules, (c.requires.stands, (expression c.id.ensures c.requires.stands (given_handed c.requires.sum), (lists_at c.id.ensures c.requires.lists, subst (λ (t : Tree). c.args.at ≤ count (children_of t)) (sym (seen c.id.ensures c.requires.stands (given_handed c.requires.sum))) c.requires.place.within))))
 
 pub put_before-requires-clause-placed : goal.put_before-requires-clause-placed
 put_before-requires-clause-placed g c =

@@ -1,14 +1,14 @@
 use Rattle.std.proofs.Common.{rules, ℕ, inl, sym, ◌∙◌, subst, arith, ◌<◌}
-use Rattle.number_forms.proofs.Shared.{Tree, count, IsChildAt, children_of, ids_without, lists_at, lists_less, kids, AllOnce, IsOwned, root_tree, forest, behind_first, front_same, front_at, front_put, given_root, given_handed, last_root, last_tree, last_rest, kept_after}
+use Rattle.number_forms.proofs.Shared.{Tree, count, IsChildAt, children_of, ids_without, lists_at, lists_less, kids, AllOnce, IsOwned, root_tree, forest, behind_first, front_same, front_at, front_put, given_root, given_handed, last_root, last_tree, last_rest, kept_after, expression, seen}
 use Rattle.number_forms.proofs.LastSums.{kids_represented, once_nth}
-use Rattle.number_forms.proofs.SumChanges.{same_plain, read_expression, many_kids, removed_sum}
+use Rattle.number_forms.proofs.SumChanges.{many_kids, removed_sum}
 use Rattle.number_forms.proofs.FreeBytes.{removed_free}
 use Rattle.number_forms.proofs.joining.remove.Given.{Over}
 use Rattle.number_forms.proofs.joining.remove.Goals.{After-release}
 use Rattle.number_forms.proofs.joining.remove.Goals as goal
 
 pub child-id-requires : goal.child-id-requires
-child-id-requires g c = (search rules, (c.requires.stands, (read_expression _ c.args.sum.now c.args.pool.now c.id.ensures c.requires.stands (given_handed c.requires.sum), (lists_at c.id.ensures c.requires.lists, subst (λ (t : Tree). c.args.at < count (children_of t)) (sym (same_plain _ c.args.sum.now c.args.pool.now c.id.ensures c.requires.stands (given_root c.requires.sum))) c.requires.within))))
+child-id-requires g c = (search rules, (c.requires.stands, (expression c.id.ensures c.requires.stands (given_handed c.requires.sum), (lists_at c.id.ensures c.requires.lists, subst (λ (t : Tree). c.args.at < count (children_of t)) (sym (seen c.id.ensures c.requires.stands (given_handed c.requires.sum))) c.requires.within))))
 
 pub take_known_child-child-requires-clause-known : goal.take_known_child-child-requires-clause-known
 take_known_child-child-requires-clause-known g c = (c.args.at, subst (λ (i : ℕ). IsChildAt c.args.at i c.child-id.result (forest c.args.pool.now)) c.id.ensures c.child-id.ensures.child)

@@ -1,29 +1,29 @@
 use Rattle.std.proofs.Common.{rules, ◌≡◌, ◌<◌, ◌∷◌, OnOk, refl, sym, ap, ◌∙◌, subst}
-use Rattle.number_forms.proofs.Shared.{value, terms_of, Surd, Tree, count, IsSumOf, IsApart, removed, lists_at, term_of, children_of, nth, Forest, tree_of, Gives, without_root, forest, given_root, given_handed, given_told, given_rest, gives_as}
+use Rattle.number_forms.proofs.Shared.{value, terms_of, Surd, Tree, count, IsSumOf, IsApart, removed, lists_at, term_of, children_of, nth, Forest, tree_of, Gives, without_root, forest, given_root, given_handed, given_told, given_rest, gives_as, expression, seen}
 use Rattle.calc_algebra.specs.Numbers.{term_of as term_of_tree}
-use Rattle.number_forms.proofs.SumChanges.{same_plain, read_expression, read_sum, read_place, removed_is_sum}
+use Rattle.number_forms.proofs.SumChanges.{read_sum, read_place, removed_is_sum}
 use Rattle.number_forms.proofs.joining.replace.Goals as goal
 
 pub radicand_at-requires : goal.radicand_at-requires
-radicand_at-requires g c = (search rules, (c.requires.stands, (read_expression _ c.args.sum.now c.args.pool.now c.id.ensures c.requires.stands (given_handed c.requires.sum), (read_sum _ c.args.sum.now c.args.pool.now c.id.ensures c.requires.stands c.requires.sum, (lists_at c.id.ensures c.requires.lists, (let same = same_plain _ c.args.sum.now c.args.pool.now c.id.ensures c.requires.stands (given_root c.requires.sum) in subst (λ (t : Tree). c.args.at < count (children_of t)) (sym same) c.requires.within))))))
+radicand_at-requires g c = (search rules, (c.requires.stands, (expression c.id.ensures c.requires.stands (given_handed c.requires.sum), (read_sum _ c.args.sum.now c.args.pool.now c.id.ensures c.requires.stands c.requires.sum, (lists_at c.id.ensures c.requires.lists, (let same = seen c.id.ensures c.requires.stands (given_handed c.requires.sum) in subst (λ (t : Tree). c.args.at < count (children_of t)) (sym same) c.requires.within))))))
 
 pub exchange-requires : goal.exchange-requires
 exchange-requires g c =
-    let same = same_plain _ c.args.sum.now c.args.pool.now c.id.ensures c.requires.stands (given_root c.requires.sum) in
+    let same = seen c.id.ensures c.requires.stands (given_handed c.requires.sum) in
     let stays = sym (ap (λ (t : Tree). (term_of_tree (nth c.args.at (children_of t))).radicand) same) ∙ sym c.radicand_at.ensures.value ∙ c.if-stays.true ∙ c.radicand.ensures.value in
     (search rules, (c.requires.stands, (c.requires.sum, (c.requires.lists, (c.requires.within, (stays, c.requires.apart))))))
 
 pub place_of-place-requires : goal.place_of-place-requires
 place_of-place-requires g c =
     let rest = gives_as c.remove.ensures.sum refl (λ t e. removed_is_sum c.args.at (tree_of c.args.sum.now c.args.pool.now) t (given_told c.requires.sum) e) in
-    (search rules, (c.remove.ensures.stands, (read_expression _ c.args.sum.now c.remove.new.pool c.id-else-stays.ensures c.remove.ensures.stands (given_handed c.remove.ensures.sum), (read_sum _ c.args.sum.now c.remove.new.pool c.id-else-stays.ensures c.remove.ensures.stands rest, lists_at c.id-else-stays.ensures c.remove.ensures.lists))))
+    (search rules, (c.remove.ensures.stands, (expression c.id-else-stays.ensures c.remove.ensures.stands (given_handed c.remove.ensures.sum), (read_sum _ c.args.sum.now c.remove.new.pool c.id-else-stays.ensures c.remove.ensures.stands rest, lists_at c.id-else-stays.ensures c.remove.ensures.lists))))
 
 pub insert-requires : goal.insert-requires
 insert-requires g c =
     let rest = c.remove.ensures.sum in
     let sum = gives_as rest (sym (given_rest rest)) (λ t e. removed_is_sum c.args.at (tree_of c.args.sum.now c.args.pool.now) t (given_told c.requires.sum) e) in
     let apart = subst (IsApart (term_of c.args.term).radicand) (sym (ap value (given_told rest))) c.requires.apart in
-    let place = read_place _ c.args.sum.now c.place_of-place.result _ _ c.remove.new.pool c.id-else-stays.ensures c.remove.ensures.stands (given_root rest) c.radicand-else-stays.ensures.value c.place_of-place.ensures in
+    let place = read_place _ c.args.sum.now c.place_of-place.result _ _ c.remove.new.pool c.id-else-stays.ensures c.remove.ensures.stands (given_handed rest) c.radicand-else-stays.ensures.value c.place_of-place.ensures in
     (search rules, (c.remove.ensures.stands, (sum, (c.remove.ensures.lists, (apart, place)))))
 
 pub returns-else-stays-clause-ok : goal.returns-else-stays-clause-ok

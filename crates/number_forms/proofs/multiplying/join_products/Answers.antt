@@ -1,10 +1,10 @@
 use Rattle.std.proofs.Common.{◌≡◌, ℕ, ◌≤◌, ◌∷◌, Some, length, map, sym, ap, ◌∙◌, arith, add-one, rules, ◌+◌, ◌-◌, inl, inr}
 use Rattle.std.specs.Prelude.{slice_get}
-use Rattle.number_forms.proofs.Shared.{is_number, value, classes, term_times, Tree, size, Same-refl, other_plain, other_read, other_expression, gives_rest, lists_at, lists_kept, behind_first, front_after_one, tree_of, term_of, given_handed, given_other, given_told, plain_root, RowOverflows, OfOverflow, passed_on, overflow_as, spans_append, spans_row, free_of, LacksRoom, joining_need}
+use Rattle.number_forms.proofs.Shared.{is_number, value, classes, term_times, Tree, size, Same-refl, other_plain, other_read, other_expression, gives_rest, lists_at, lists_kept, behind_first, front_after_one, tree_of, term_of, given_handed, given_other, given_told, plain_root, RowOverflows, OfOverflow, passed_on, overflow_as, spans_append, spans_row, free_of, LacksRoom, joining_need, expression}
 use Rattle.number_forms.proofs.Denominators.{parts_extracted}
 use Rattle.number_forms.proofs.Loops.{joined_none, joined_more, joined_all, from_all}
 use Rattle.number_forms.proofs.Worth.{terms_from, products_next, same_first, get_from, from_from}
-use Rattle.number_forms.proofs.SumChanges.{read_expression, read_sum}
+use Rattle.number_forms.proofs.SumChanges.{read_sum}
 use Rattle.number_forms.proofs.Rows.{product_join_overflows}
 use Rattle.number_forms.proofs.multiplying.join_products.Goals.{After-listed_term-other}
 use Rattle.number_forms.proofs.Rooms.{full_as, spans_from, term_lacks}
@@ -37,7 +37,7 @@ pub listed_term-other-requires : goal.listed_term-other-requires
 listed_term-other-requires g c = (search rules, (c.loop-at.invariant.joined.stands, (other_expression c.args.number c.loop-at.pool c.loop-at.invariant.joined.stands c.loop-at.invariant.joined.gives c.requires.handed, ((let same = other_read c.args.number c.loop-at.pool c.loop-at.invariant.joined.stands c.loop-at.invariant.joined.gives c.requires.handed ∙ sym (other_plain c.args.number c.requires.sum c.requires.handed.root) in ap is_number same ∙ c.requires.number), (lists_kept c.args.number c.args.pool.now c.loop-at.pool c.requires.stands c.loop-at.invariant.joined.stands c.requires.sum c.loop-at.invariant.joined.gives c.requires.handed c.requires.terms, (let same = ap classes (other_read c.args.number c.loop-at.pool c.loop-at.invariant.joined.stands c.loop-at.invariant.joined.gives c.requires.handed ∙ sym (other_plain c.args.number c.requires.sum c.requires.handed.root)) in let all = ap classes (plain_root c.args.number c.requires.stands (given_other c.requires.sum c.requires.handed).root) in omega (arith, same, all, c.term_count-at-end.ensures, c.loop-at-test.true)))))))
 
 pub clean_radicand-clean-requires : goal.clean_radicand-clean-requires
-clean_radicand-clean-requires g c = (search rules, (c.loop-at.invariant.joined.stands, (read_expression _ c.args.sum.now c.loop-at.pool c.id.ensures c.loop-at.invariant.joined.stands (given_handed c.loop-at.invariant.joined.gives), (read_sum _ c.args.sum.now c.loop-at.pool c.id.ensures c.loop-at.invariant.joined.stands (gives_rest c.loop-at.invariant.joined.gives (λ t h. h.sum)), lists_at c.id.ensures c.loop-at.invariant.lists))))
+clean_radicand-clean-requires g c = (search rules, (c.loop-at.invariant.joined.stands, (expression c.id.ensures c.loop-at.invariant.joined.stands (given_handed c.loop-at.invariant.joined.gives), (read_sum _ c.args.sum.now c.loop-at.pool c.id.ensures c.loop-at.invariant.joined.stands (gives_rest c.loop-at.invariant.joined.gives (λ t h. h.sum)), lists_at c.id.ensures c.loop-at.invariant.lists))))
 
 pub join_term-requires : goal.join_term-requires
 join_term-requires g c = (search rules, (c.loop-at.invariant.joined.stands, (gives_rest c.loop-at.invariant.joined.gives (λ t h. h.sum), c.loop-at.invariant.lists)))

@@ -1,22 +1,21 @@
 use Rattle.std.proofs.Common.{◌≡◌, refl, sym, ap, ◌∙◌}
-use Rattle.number_forms.proofs.Shared.{is_num_one, tree_of, gives_as, without-swap}
+use Rattle.number_forms.proofs.Shared.{is_num_one, tree_of, gives_as, without-swap, expression, seen}
 use Rattle.number_forms.proofs.Kept.{one_with, with_one}
-use Rattle.number_forms.proofs.SumChanges.{same_plain, read_expression}
 use Rattle.number_forms.proofs.multiplying.multiply_terms.Goals.{After-is_num_one, After-is_num_one-else-is_num_one}
 use Rattle.number_forms.proofs.multiplying.multiply_terms.Goals as goal
 
 -- what was read of each
 first : (c : After-is_num_one) → c.is_num_one.result ≡ is_num_one (tree_of c.args.a c.args.pool.now)
-first c = c.is_num_one.ensures ∙ ap is_num_one (same_plain _ c.args.a c.args.pool.now c.id.ensures c.requires.stands c.requires.first.root)
+first c = c.is_num_one.ensures ∙ ap is_num_one (seen c.id.ensures c.requires.stands c.requires.first)
 
 second : (c : After-is_num_one-else-is_num_one) → c.is_num_one-else-is_num_one.result ≡ is_num_one (tree_of c.args.b c.args.pool.now)
-second c = c.is_num_one-else-is_num_one.ensures ∙ ap is_num_one (same_plain _ c.args.b c.args.pool.now c.id-else-is_num_one.ensures c.requires.stands c.requires.second.root)
+second c = c.is_num_one-else-is_num_one.ensures ∙ ap is_num_one (seen c.id-else-is_num_one.ensures c.requires.stands c.requires.second)
 
 pub is_num_one-requires-clause-expression : goal.is_num_one-requires-clause-expression
-is_num_one-requires-clause-expression c = read_expression _ c.args.a c.args.pool.now c.id.ensures c.requires.stands c.requires.first
+is_num_one-requires-clause-expression c = expression c.id.ensures c.requires.stands c.requires.first
 
 pub is_num_one-requires-else-is_num_one-clause-expression : goal.is_num_one-requires-else-is_num_one-clause-expression
-is_num_one-requires-else-is_num_one-clause-expression c = read_expression _ c.args.b c.args.pool.now c.id-else-is_num_one.ensures c.requires.stands c.requires.second
+is_num_one-requires-else-is_num_one-clause-expression c = expression c.id-else-is_num_one.ensures c.requires.stands c.requires.second
 
 pub returns-then-is_num_one-clause-ok : goal.returns-then-is_num_one-clause-ok
 returns-then-is_num_one-clause-ok c =

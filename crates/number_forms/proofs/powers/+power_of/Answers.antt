@@ -1,4 +1,4 @@
-use Rattle.std.proofs.Common.{ap, ◌∙◌, subst, sym, ◌/◌}
+use Rattle.std.proofs.Common.{rules, ap, ◌∙◌, subst, sym, ◌/◌}
 use Rattle.number_forms.proofs.Shared.{is_number, value, surd_times, Tree, other_plain, kept_after, overflow_as, refused_as, IsNumberOver, tree_of, plain, Forest, root_tree, behind_new, front_same, front_at, front_after_one, given_handed, given_told, given_rest, given_other, gives_as, handed_at, Same-refl, PowerOverflows, ProductOverflows, OfOverflow, passed_on, SpansTree, free_of, LacksRoom, raising_need, given_free}
 use Rattle.number_forms.proofs.Over.{even_power, odd_power, power_itself, of_over, of_power}
 use Rattle.number_forms.proofs.TermTrees.{if_given}
@@ -44,19 +44,16 @@ squared-requires-clause-number _ c = (given_told c.in_ok-half.ensures.ok).number
 pub returns-in_err-square-clause-front : goal.returns-in_err-square-clause-front
 returns-in_err-square-clause-front _ c = front_after_one (behind_new c.in_ok-half.ensures.ok.ends front_same) c.power_of.ensures.front c.squared.ensures.front
 
-pub multiplied-requires-clause-first : goal.multiplied-requires-clause-first
-multiplied-requires-clause-first _ c = given_handed c.in_ok-square.ensures.ok
-
-pub multiplied-requires-clause-second : goal.multiplied-requires-clause-second
-multiplied-requires-clause-second _ c = given_other c.in_ok-square.ensures.ok (handed_at c.requires.handed (given_rest c.in_ok-half.ensures.ok))
-
-pub multiplied-requires-clause-first_number : goal.multiplied-requires-clause-first_number
-multiplied-requires-clause-first_number _ c = (given_told c.in_ok-square.ensures.ok).number
-
-pub multiplied-requires-clause-second_number : goal.multiplied-requires-clause-second_number
-multiplied-requires-clause-second_number _ c =
+pub multiplied-requires : goal.multiplied-requires
+multiplied-requires _ c =
     let rest = given_rest c.in_ok-half.ensures.ok in
-    ap is_number (other_plain c.args.a.now c.in_ok-square.ensures.ok (handed_at c.requires.handed rest).root ∙ ap (λ (f : Forest). plain (root_tree c.args.a.now f)) rest) ∙ c.requires.number
+    record {
+      stands = search rules;
+      first = given_handed c.in_ok-square.ensures.ok;
+      second = given_other c.in_ok-square.ensures.ok (handed_at c.requires.handed (given_rest c.in_ok-half.ensures.ok));
+      first_number = (given_told c.in_ok-square.ensures.ok).number;
+      second_number = ap is_number (other_plain c.args.a.now c.in_ok-square.ensures.ok (handed_at c.requires.handed rest).root ∙ ap (λ (f : Forest). plain (root_tree c.args.a.now f)) rest) ∙ c.requires.number;
+    }
 
 pub returns-then-n-eq0-clause-ok : goal.returns-then-n-eq0-clause-ok
 returns-then-n-eq0-clause-ok _ c =

@@ -1,4 +1,4 @@
-use Rattle.std.proofs.Common.{◌/◌, ap, ◌∙◌, subst, sym, ℕ, arith, refl}
+use Rattle.std.proofs.Common.{rules, ◌/◌, ap, ◌∙◌, subst, sym, ℕ, arith, refl}
 use Rattle.number_forms.proofs.Shared.{is_number, value, surd_times, Tree, Same-refl, IsNumberOver, IsPowerOver, PowerOverflows, ProductOverflows, other_plain, passed_on, overflow_as, refused_as, OfOverflow, tree_of, behind_new, front_same, front_after_one, given_handed, given_told, given_rest, given_other, gives_as, SpansTree, free_of, LacksRoom, raising_need, given_free}
 use Rattle.number_forms.proofs.Over.{even_power, odd_power, power_itself, of_over}
 use Rattle.number_forms.proofs.Overflows.{square_overflows, last_overflows}
@@ -35,17 +35,14 @@ returns-in_err-square-clause-overflow c =
     (overflow_as c.in_err-square.field-0.0 c.in_err-square.ensures.overflow
     (λ o p. square_overflows _ (tree_of c.args.a.now c.args.pool.now) c.args.n o (half_twice c.args.n c.requires.twice) (half (goal.at.returns-in_err-square-clause-overflow c).After-square_of) p))
 
-pub multiplied-requires-clause-first : goal.multiplied-requires-clause-first
-multiplied-requires-clause-first c = given_handed c.in_ok-square.ensures.ok
-
-pub multiplied-requires-clause-second : goal.multiplied-requires-clause-second
-multiplied-requires-clause-second c = given_other c.in_ok-square.ensures.ok c.requires.handed
-
-pub multiplied-requires-clause-first_number : goal.multiplied-requires-clause-first_number
-multiplied-requires-clause-first_number c = (given_told c.in_ok-square.ensures.ok).number
-
-pub multiplied-requires-clause-second_number : goal.multiplied-requires-clause-second_number
-multiplied-requires-clause-second_number c = ap is_number (other_plain c.args.a.now c.in_ok-square.ensures.ok c.requires.handed.root) ∙ c.requires.number
+pub multiplied-requires : goal.multiplied-requires
+multiplied-requires c = record {
+  stands = search rules;
+  first = given_handed c.in_ok-square.ensures.ok;
+  second = given_other c.in_ok-square.ensures.ok c.requires.handed;
+  first_number = (given_told c.in_ok-square.ensures.ok).number;
+  second_number = ap is_number (other_plain c.args.a.now c.in_ok-square.ensures.ok c.requires.handed.root) ∙ c.requires.number;
+}
 
 pub returns-then-n-eq2-clause-ok : goal.returns-then-n-eq2-clause-ok
 returns-then-n-eq2-clause-ok c =

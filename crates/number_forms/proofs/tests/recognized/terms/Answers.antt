@@ -1,6 +1,5 @@
-use Rattle.number_forms.proofs.Shared.{given_handed}
-use Rattle.number_forms.proofs.SumChanges.{read_expression}
+use Rattle.number_forms.proofs.Shared.{given_handed, expression}
 use Rattle.number_forms.proofs.tests.recognized.terms.Goals as goal
 
 pub is_number-requires-clause-expression : goal.is_number-requires-clause-expression
-is_number-requires-clause-expression _ c = read_expression _ c.in_ok-tree.tree c.placed.new.pool c.id.ensures c.in_ok-tree.ensures.stands (given_handed c.in_ok-tree.ensures.ok)
+is_number-requires-clause-expression _ c = expression c.id.ensures c.in_ok-tree.ensures.stands (given_handed c.in_ok-tree.ensures.ok)

@@ -1,4 +1,4 @@
-use Rattle.std.proofs.Common.{refl}
+use Rattle.std.proofs.Common.{rules, refl}
 use Rattle.std.specs.Prelude.{⊤}
 use Rattle.number_forms.proofs.Shared.{bare, Tree, represents_none, represents_handed, represents_with, represents_node, gives, gives_as, given_root, given_handed, given_rest, last_held, last_apart, other_root, ends_as}
 use Rattle.calc_terms.specs.declared.kind.Kind.TheVariants as kind
@@ -25,21 +25,19 @@ add_child-requires-2-clause-apart c =
     let one = ends_as (c.add_child.ensures.last _ _ c.in_ok-sum.ensures.ok (given_root third)) refl (given_rest third) in
     last_apart c.in_ok-second.second c.add_child.ensures.stands one (given_root c.in_ok-second.ensures.ok)
 
-pub add_child-requires-3-clause-root : goal.add_child-requires-3-clause-root
-add_child-requires-3-clause-root c =
+pub add_child-requires-3 : goal.add_child-requires-3
+add_child-requires-3 c =
     let third = c.in_ok-third.ensures.ok in
     let second = c.in_ok-second.ensures.ok in
     let one = ends_as (c.add_child.ensures.last _ _ c.in_ok-sum.ensures.ok (given_root third)) refl (given_rest third) in
     let two = ends_as (c.add_child-2.ensures.last _ _ one (given_root second)) refl (given_rest second) in
-    other_root c.in_ok-first.first two (given_root c.in_ok-first.ensures.ok)
-
-pub add_child-requires-3-clause-apart : goal.add_child-requires-3-clause-apart
-add_child-requires-3-clause-apart c =
-    let third = c.in_ok-third.ensures.ok in
-    let second = c.in_ok-second.ensures.ok in
-    let one = ends_as (c.add_child.ensures.last _ _ c.in_ok-sum.ensures.ok (given_root third)) refl (given_rest third) in
-    let two = ends_as (c.add_child-2.ensures.last _ _ one (given_root second)) refl (given_rest second) in
-    last_apart c.in_ok-first.first c.add_child-2.ensures.stands two (given_root c.in_ok-first.ensures.ok)
+    record {
+      stands = search rules;
+      live = search rules;
+      within = search rules;
+      root = other_root c.in_ok-first.first two (given_root c.in_ok-first.ensures.ok);
+      apart = last_apart c.in_ok-first.first c.add_child-2.ensures.stands two (given_root c.in_ok-first.ensures.ok);
+    }
 
 pub returns-clause-ok : goal.returns-clause-ok
 returns-clause-ok c =
