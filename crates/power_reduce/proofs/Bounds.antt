@@ -13,15 +13,7 @@ base_weight (power b e) = by (is_opaque_exponent e)
     by : (t : Bool) → weight (if t then power b e else b) ≤ suc (weight b)
     by true = omega arith
     by false = omega arith
-base_weight (num q) = omega arith
-base_weight (symbol x) = omega arith
-base_weight undef = omega arith
-base_weight (add ts) = omega arith
-base_weight (mult ts) = omega arith
-base_weight (root a) = omega arith
-base_weight (neg a) = omega arith
-base_weight (sub a c) = omega arith
-base_weight (div a c) = omega arith
+base_weight _ = omega arith
 
 -- a product that is a Number has no load
 number_factors : (ts : Trees) → IsNumber (mult ts) → load_of_factors ts ≡ 0
@@ -30,15 +22,7 @@ number_factors _ h = absurd h
 
 pub number_load : (t : Tree) → is_number t ≡ true → load_of_factor t ≡ 0
 number_load (mult ts) h = number_factors ts (number_words (mult ts) h)
-number_load (num q) h = rw h refl
-number_load (symbol x) h = rw h refl
-number_load undef h = rw h refl
-number_load (add ts) h = rw h refl
-number_load (power b e) h = rw h refl
-number_load (root a) h = rw h refl
-number_load (neg a) h = rw h refl
-number_load (sub a c) h = rw h refl
-number_load (div a c) h = rw h refl
+number_load _ h = rw h refl
 
 factor_part : (t : Tree) → load_of_factor t ≤ weight t → load_of_factor t ≤ (if is_number t then 0 else weight t)
 factor_part t h = by (is_number t) refl

@@ -31,15 +31,7 @@ clash b h k = absurd cc
 
 pub power_kind : (t : Tree) → kind.Pow ≡ root_kind t → is_power t ≡ true
 power_kind (power b e) h = refl
-power_kind (num q) h = cc
-power_kind (symbol x) h = cc
-power_kind undef h = cc
-power_kind (add ts) h = cc
-power_kind (mult ts) h = cc
-power_kind (root a) h = cc
-power_kind (neg a) h = cc
-power_kind (sub a b) h = cc
-power_kind (div a b) h = cc
+power_kind _ h = cc
 
 pub no_rational : {A : Type 0} (t : Tree) → is_num t ≡ true → is_num t ≡ false → A
 no_rational t h k = absurd cc
@@ -70,15 +62,7 @@ broken_other (num q) h = by (is_zero_fraction q) (is_one_fraction q) refl refl
     by true b k l = clash (q.den == 1) (zero_is_whole q k) h
     by false true k l = clash (q.den == 1) (and_parts _ _ l).1 h
     by false false k l = refl
-broken_other (symbol x) h = refl
-broken_other undef h = refl
-broken_other (add ts) h = refl
-broken_other (mult ts) h = refl
-broken_other (power b e) h = refl
-broken_other (root a) h = refl
-broken_other (neg a) h = refl
-broken_other (sub a b) h = refl
-broken_other (div a b) h = refl
+broken_other _ h = refl
 
 pub no_number : (b e : Tree) → is_number b ≡ false → (is_number b && is_whole_num e) ≡ false
 no_number b e h = rw h refl
@@ -144,24 +128,10 @@ odd_whole z h = rw (whole_numerator z, whole_denominator z, h) refl
 -- an exponent that does not go inside, and is no even whole number
 outside_kept : (b e : Tree) → goes_inside e ≡ false → ((q : Fraction) → e ≡ num q → is_even_whole q ≡ false) → rewritten_whole b e ≡ None
 outside_kept (root a) (num q) h k = rw (k q refl) refl
-outside_kept (root a) (symbol x) h k = refl
-outside_kept (root a) undef h k = refl
-outside_kept (root a) (add ts) h k = refl
-outside_kept (root a) (mult ts) h k = refl
-outside_kept (root a) (power b e) h k = refl
-outside_kept (root a) (root b) h k = refl
-outside_kept (root a) (neg b) h k = refl
-outside_kept (root a) (sub b c) h k = refl
-outside_kept (root a) (div b c) h k = refl
+outside_kept (root a) _ h k = refl
 outside_kept (power c f) e h k = rw h refl
 outside_kept (mult ts) e h k = rw h refl
-outside_kept (num p) e h k = refl
-outside_kept (symbol x) e h k = refl
-outside_kept undef e h k = refl
-outside_kept (add ts) e h k = refl
-outside_kept (neg b) e h k = refl
-outside_kept (sub b c) e h k = refl
-outside_kept (div b c) e h k = refl
+outside_kept _ e h k = refl
 
 pub undef_exponent_kept : (b e : Tree) → is_undef e ≡ true → rewritten b e ≡ None
 undef_exponent_kept b undef h = outside_kept b undef refl (λ q k. absurd cc)
@@ -201,22 +171,8 @@ whole_number_kept : (b e : Tree) → is_number b ≡ true → rewritten_whole b 
 whole_number_kept (root a) (num q) h = rw h (ap (λ (x : Bool). if x then Some (power a (num (whole_fraction (half q.num)))) else None) (and_false (is_even_whole q)))
 whole_number_kept (mult ts) e h = rw h (ap (λ (x : Bool). if x then Some (mult (raised (parts_of ts) e)) else None) (and_false (goes_inside e)))
 whole_number_kept (power c f) e h = absurd (number_words (power c f) h)
-whole_number_kept (root a) (symbol x) h = refl
-whole_number_kept (root a) undef h = refl
-whole_number_kept (root a) (add ts) h = refl
-whole_number_kept (root a) (mult ts) h = refl
-whole_number_kept (root a) (power b e) h = refl
-whole_number_kept (root a) (root b) h = refl
-whole_number_kept (root a) (neg b) h = refl
-whole_number_kept (root a) (sub b c) h = refl
-whole_number_kept (root a) (div b c) h = refl
-whole_number_kept (num p) e h = refl
-whole_number_kept (symbol x) e h = refl
-whole_number_kept undef e h = refl
-whole_number_kept (add ts) e h = refl
-whole_number_kept (neg b) e h = refl
-whole_number_kept (sub b c) e h = refl
-whole_number_kept (div b c) e h = refl
+whole_number_kept (root a) _ h = refl
+whole_number_kept _ e h = refl
 
 pub number_kept : (b e : Tree) → is_number b ≡ true → is_whole_num e ≡ true → rewritten b e ≡ None
 number_kept b e n w = as_whole b e (whole_no_half e w) ∙ whole_number_kept b e n
@@ -231,13 +187,7 @@ whole_other_kept : (b e : Tree) → (kind.Pow ≡ root_kind b → ⊥) → (kind
 whole_other_kept (power c f) e p m r = absurd (p refl)
 whole_other_kept (mult ts) e p m r = absurd (m refl)
 whole_other_kept (root a) e p m r = r refl
-whole_other_kept (num q) e p m r = refl
-whole_other_kept (symbol x) e p m r = refl
-whole_other_kept undef e p m r = refl
-whole_other_kept (add ts) e p m r = refl
-whole_other_kept (neg b) e p m r = refl
-whole_other_kept (sub b c) e p m r = refl
-whole_other_kept (div b c) e p m r = refl
+whole_other_kept _ e p m r = refl
 
 pub other_kept : (b e : Tree) → goes_inside e ≡ true → (kind.Pow ≡ root_kind b → ⊥) → (kind.Mult ≡ root_kind b → ⊥) → (is_root b ≡ true → rewritten b e ≡ None) → rewritten b e ≡ None
 other_kept b e i p m r = let h = as_whole b e (whole_no_half e (inside_whole e i)) in h ∙ whole_other_kept b e p m (λ k. sym h ∙ r k)
@@ -245,15 +195,7 @@ other_kept b e i p m r = let h = as_whole b e (whole_no_half e (inside_whole e i
 -- an odd power of a root
 root_kept : (b e : Tree) → is_root b ≡ true → ((q : Fraction) → e ≡ num q → is_even_whole q ≡ false) → rewritten_whole b e ≡ None
 root_kept (root a) (num q) r k = rw (k q refl) refl
-root_kept (root a) (symbol x) r k = refl
-root_kept (root a) undef r k = refl
-root_kept (root a) (add ts) r k = refl
-root_kept (root a) (mult ts) r k = refl
-root_kept (root a) (power b e) r k = refl
-root_kept (root a) (root b) r k = refl
-root_kept (root a) (neg b) r k = refl
-root_kept (root a) (sub b c) r k = refl
-root_kept (root a) (div b c) r k = refl
+root_kept (root a) _ r k = refl
 root_kept b e r k = absurd cc
 
 pub odd_root_kept : (b e : Tree) (z : ℤ) → is_root b ≡ true → e ≡ num (whole_fraction z) → int_is_even z ≡ false → rewritten b e ≡ None
@@ -289,24 +231,8 @@ no_zero_power (num p) e h = ap (λ (x : Bool). is_zero_fraction p && x) (broken 
   where
     broken : (e : Tree) → is_whole_num e ≡ false → is_at_most_zero e ≡ false
     broken (num q) k = rw k refl
-    broken (symbol x) k = refl
-    broken undef k = refl
-    broken (add ts) k = refl
-    broken (mult ts) k = refl
-    broken (power b e) k = refl
-    broken (root a) k = refl
-    broken (neg a) k = refl
-    broken (sub a b) k = refl
-    broken (div a b) k = refl
-no_zero_power (symbol x) e h = refl
-no_zero_power undef e h = refl
-no_zero_power (add ts) e h = refl
-no_zero_power (mult ts) e h = refl
-no_zero_power (power b f) e h = refl
-no_zero_power (root a) e h = refl
-no_zero_power (neg a) e h = refl
-no_zero_power (sub a b) e h = refl
-no_zero_power (div a b) e h = refl
+    broken _ k = refl
+no_zero_power _ e h = refl
 
 pub kept_power_answer : (t : Tree) → HasReducedSides t → is_zero_or_one (exponent_in t) ≡ false → (is_number (base_in t) && is_whole_num (exponent_in t)) ≡ false → rewritten (base_in t) (exponent_in t) ≡ None
     → IsPowerAnswer (base_in t) (exponent_in t) t
@@ -336,24 +262,8 @@ no_whole q (negsuc n) (suc (suc d)) h = refl
 
 pub no_plain_value : (b e : Tree) → is_num b ≡ true → is_num e ≡ true → is_whole_num e ≡ false → plain_value (power b e) ≡ nothing
 no_plain_value (num p) (num q) h k w = no_whole p q.num q.den w
-no_plain_value (num p) (symbol x) h k w = absurd cc
-no_plain_value (num p) undef h k w = absurd cc
-no_plain_value (num p) (add ts) h k w = absurd cc
-no_plain_value (num p) (mult ts) h k w = absurd cc
-no_plain_value (num p) (power b e) h k w = absurd cc
-no_plain_value (num p) (root a) h k w = absurd cc
-no_plain_value (num p) (neg a) h k w = absurd cc
-no_plain_value (num p) (sub a b) h k w = absurd cc
-no_plain_value (num p) (div a b) h k w = absurd cc
-no_plain_value (symbol x) e h k w = absurd cc
-no_plain_value undef e h k w = absurd cc
-no_plain_value (add ts) e h k w = absurd cc
-no_plain_value (mult ts) e h k w = absurd cc
-no_plain_value (power b f) e h k w = absurd cc
-no_plain_value (root a) e h k w = absurd cc
-no_plain_value (neg a) e h k w = absurd cc
-no_plain_value (sub a b) e h k w = absurd cc
-no_plain_value (div a b) e h k w = absurd cc
+no_plain_value (num p) _ h k w = absurd cc
+no_plain_value _ e h k w = absurd cc
 
 same_full : (g f : Full) → fault.Full g ≡ fault.Full f → g ≡ f
 same_full g f e = cc

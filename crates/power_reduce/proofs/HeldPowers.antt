@@ -171,11 +171,11 @@ counted_term (mult (more (num q) (more (root (num r)) none))) h c = absurd (no_b
 counted_term _ h c = absurd h
 
 not_counted : (f : Tree) → IsNumber f → is_whole_num f ≡ false → is_counted f ≡ true → ⊥
-not_counted (num q) n w c = cc
-not_counted (root a) n w c = cc
 not_counted (mult (more (num q) (more (root (num r)) none))) n w c = no_both (q.den == 1) c
 not_counted (add none) n w c = let l : 2 ≤ 0 = n.0 in omega arith
 not_counted (add (more t none)) n w c = let l : 2 ≤ 1 = n.0 in omega arith
+not_counted (num q) n w c = cc
+not_counted (root a) n w c = cc
 not_counted (add (more t (more u us))) n w c =
     let one = counted_term u (n.1.1).0 (and_parts (is_counted u) (are_counted us) (and_parts (is_counted t) (is_counted u && are_counted us) c).1).0 in
     let less : (term_of t).radicand < (term_of u).radicand = (n.2.0).0 in

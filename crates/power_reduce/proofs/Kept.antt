@@ -112,12 +112,7 @@ wide_sum (mult ts) h = absurd (omega arith)
 wide_sum (power c f) h = absurd (omega arith)
 wide_sum (root a) h = absurd (omega arith)
 wide_sum undef h = absurd (omega arith)
-wide_sum (num q) h = record { no_product = refl; no_power = refl; no_root = refl; defined = refl }
-wide_sum (symbol x) h = record { no_product = refl; no_power = refl; no_root = refl; defined = refl }
-wide_sum (add ts) h = record { no_product = refl; no_power = refl; no_root = refl; defined = refl }
-wide_sum (neg a) h = record { no_product = refl; no_power = refl; no_root = refl; defined = refl }
-wide_sum (sub a c) h = record { no_product = refl; no_power = refl; no_root = refl; defined = refl }
-wide_sum (div a c) h = record { no_product = refl; no_power = refl; no_root = refl; defined = refl }
+wide_sum _ h = record { no_product = refl; no_power = refl; no_root = refl; defined = refl }
 
 zero_not_negative : int_is_negative zero_fraction.num ≡ false
 unfolding zero_fraction

@@ -46,15 +46,7 @@ raised_powers (more t ts) e = ap (more (power t e)) (raised_powers ts e)
 
 one_is_written : (c : Tree) → is_num_one c ≡ true → c ≡ num_one
 one_is_written (num q) h = ap num (one_is q h)
-one_is_written (symbol x) h = cc
-one_is_written undef h = cc
-one_is_written (add ts) h = cc
-one_is_written (mult ts) h = cc
-one_is_written (power b e) h = cc
-one_is_written (root a) h = cc
-one_is_written (neg a) h = cc
-one_is_written (sub a b) h = cc
-one_is_written (div a b) h = cc
+one_is_written _ h = cc
 
 -- a coefficient 1 goes
 without_one : (c : Tree) (ts : Trees) → rewrites.KeepsMeanings (mult (more c ts)) (mult (if is_num_one c then ts else more c ts))

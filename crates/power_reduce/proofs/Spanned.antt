@@ -67,15 +67,7 @@ module _ (gs : List ℕ) where
   whole_rewriting_spans (root a) (num q) u r h k = if_tree (is_even_whole q && not (is_number (root a))) _ u (tt, h.1, tt) r
   whole_rewriting_spans (power c f) e u r (p, h, g) k = if_tree (goes_inside e && not (is_opaque_exponent f)) _ u (tt, h, (tt, (g, (k, tt)))) r
   whole_rewriting_spans (mult ts) e u r h k = if_tree (goes_inside e && not (is_number (mult ts))) _ u (tt, raised_span (parts_of ts) e (parts_span ts h.1) k) r
-  whole_rewriting_spans (root a) (symbol x) u r h k = no_tree r
-  whole_rewriting_spans (root a) undef u r h k = no_tree r
-  whole_rewriting_spans (root a) (add ts) u r h k = no_tree r
-  whole_rewriting_spans (root a) (mult ts) u r h k = no_tree r
-  whole_rewriting_spans (root a) (power b e) u r h k = no_tree r
-  whole_rewriting_spans (root a) (root b) u r h k = no_tree r
-  whole_rewriting_spans (root a) (neg b) u r h k = no_tree r
-  whole_rewriting_spans (root a) (sub b c) u r h k = no_tree r
-  whole_rewriting_spans (root a) (div b c) u r h k = no_tree r
+  whole_rewriting_spans (root a) _ u r h k = no_tree r
   whole_rewriting_spans (num q) e u r h k = no_tree r
   whole_rewriting_spans (symbol x) e u r h k = no_tree r
   whole_rewriting_spans undef e u r h k = no_tree r

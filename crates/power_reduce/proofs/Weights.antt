@@ -18,14 +18,7 @@ some_weight (mult ts) = by (is_number (mult ts))
     by : (b : Bool) → 1 ≤ (if b then 2 else 1 + (if has_coefficient ts then 2 else 0) + weight_of_factors ts)
     by true = omega arith
     by false = omega arith
-some_weight (power b e) = omega arith
-some_weight (num q) = omega arith
-some_weight (symbol x) = omega arith
-some_weight undef = omega arith
-some_weight (add ts) = omega arith
-some_weight (neg a) = omega arith
-some_weight (sub a c) = omega arith
-some_weight (div a c) = omega arith
+some_weight _ = omega arith
 
 -- a factor weighs 2 at least
 factor_weight : (t : Tree) → is_mult t ≡ false → 2 ≤ weight t
@@ -36,25 +29,13 @@ factor_weight (root a) h = by (is_number (root a))
     by true = omega arith
     by false = omega (arith, some_weight a)
 factor_weight (power b e) h = omega (arith, some_weight b)
-factor_weight (num q) h = omega arith
-factor_weight (symbol x) h = omega arith
-factor_weight undef h = omega arith
-factor_weight (add ts) h = omega arith
-factor_weight (neg a) h = omega arith
-factor_weight (sub a c) h = omega arith
-factor_weight (div a c) h = omega arith
+factor_weight _ h = omega arith
 
 pub number_weight : (t : Tree) → is_number t ≡ true → weight t ≡ 2
-number_weight (num q) h = refl
-number_weight (add ts) h = refl
 number_weight (root a) h = rw h refl
 number_weight (mult ts) h = rw h refl
 number_weight (power b e) h = absurd (number_words (power b e) h)
-number_weight (symbol x) h = refl
-number_weight undef h = refl
-number_weight (neg a) h = refl
-number_weight (sub a c) h = refl
-number_weight (div a c) h = refl
+number_weight _ h = refl
 
 -- the weights of trees together
 pub weights : Trees → ℕ
@@ -105,15 +86,7 @@ unled_parts ts p f n h =
 
 no_one : (c : Tree) → IsCoefficient c → is_num_one c ≡ false
 no_one (num q) h = one_test q (λ e. h.not_one (ap num e))
-no_one (symbol x) h = refl
-no_one undef h = refl
-no_one (add ts) h = refl
-no_one (mult ts) h = refl
-no_one (power b e) h = refl
-no_one (root a) h = refl
-no_one (neg a) h = refl
-no_one (sub a c) h = refl
-no_one (div a c) h = refl
+no_one _ h = refl
 
 -- the factors of a Number are Numbers
 number_factors : (c : Tree) → IsNumber c → EachTree (λ t. is_number t ≡ true) (factors_of c)

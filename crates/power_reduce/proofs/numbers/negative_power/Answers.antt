@@ -1,4 +1,4 @@
-use Rattle.std.proofs.Common.{◌≡◌, ◌≤◌, refl, sym, ap, ◌∙◌, arith, subst, pos, ◌≤ℤ◌}
+use Rattle.std.proofs.Common.{rules, ◌≡◌, ◌≤◌, refl, sym, ap, ◌∙◌, arith, subst, pos, ◌≤ℤ◌}
 use Rattle.power_reduce.proofs.Shared.{is_number, classes, value, IfValue, IsNoLargerThanInverse, plain, last_tree, SpansTree, SpansInverse, replaced_free, if_map, passed_on, tree_of, forest, behind_first, behind_new, front_same, front_at, front_end, front_without, front_after_one, gives, gives_as, given_handed, given_rest, given_told, represents_handed, base_in, overflow_as, refused_as}
 use Rattle.power_reduce.proofs.HeldPowers.{negative_power, no_number_power}
 use Rattle.power_reduce.proofs.Powers.{power_is}
@@ -27,14 +27,13 @@ invert_number-requires-clause-number c = ap is_number (given_told c.take_base-ba
 pub returns-in_err-inverse-clause-front : goal.returns-in_err-inverse-clause-front
 returns-in_err-inverse-clause-front c = front_after_one (behind_new c.take_base-base.ensures.gives.ends (front_without behind_first front_same)) c.take_base-base.ensures.front c.invert_number.ensures.front
 
-pub power_number-requires-clause-handed : goal.power_number-requires-clause-handed
-power_number-requires-clause-handed c = given_handed (inverse_given c.take_base-base.result _ (forest c.take_base-base.new.pool) _ _ _ c.in-Value.is c.in_ok-inverse.ensures.ok)
-
-pub power_number-requires-clause-number : goal.power_number-requires-clause-number
-power_number-requires-clause-number c = (given_told (inverse_given c.take_base-base.result _ (forest c.take_base-base.new.pool) _ _ _ c.in-Value.is c.in_ok-inverse.ensures.ok)).number
-
-pub power_number-requires-clause-positive : goal.power_number-requires-clause-positive
-power_number-requires-clause-positive c = subst (λ z. pos 1 ≤ℤ z) (sym (opposite c.args.n c.requires.fits c.requires.negative)) (opposite_above c.args.n c.requires.negative)
+pub power_number-requires : goal.power_number-requires
+power_number-requires c = record {
+  stands = search rules;
+  handed = given_handed (inverse_given c.take_base-base.result _ (forest c.take_base-base.new.pool) _ _ _ c.in-Value.is c.in_ok-inverse.ensures.ok);
+  number = (given_told (inverse_given c.take_base-base.result _ (forest c.take_base-base.new.pool) _ _ _ c.in-Value.is c.in_ok-inverse.ensures.ok)).number;
+  positive = subst (λ z. pos 1 ≤ℤ z) (sym (opposite c.args.n c.requires.fits c.requires.negative)) (opposite_above c.args.n c.requires.negative);
+}
 
 pub unreachable-requires : goal.unreachable-requires
 unreachable-requires c =

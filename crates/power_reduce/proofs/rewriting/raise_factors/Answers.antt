@@ -1,50 +1,37 @@
-use Rattle.std.proofs.Common.{◌≤◌, sym, ap, ◌∙◌, subst, arith}
+use Rattle.std.proofs.Common.{rules, ◌≤◌, sym, ap, ◌∙◌, subst, arith}
 use Rattle.power_reduce.proofs.Shared.{replaced_free, passed_on, if_map, eqb-sym, refusal_as, exponent_in, tree_of, is_number, is_reduced, Tree, count, is_mult, size, plain, children_of, behind_first, behind_new, front_same, front_end, front_without, front_after_one, front_after_two, gives_as, given_apart, given_handed, given_other, given_rest, given_same, given_told, given_without, handed_beside, tree-without}
 use Rattle.power_reduce.proofs.Exponents.{inside_whole}
 use Rattle.power_reduce.proofs.Rooms.{sides_free, split_short, raised_short}
 use Rattle.power_reduce.proofs.PartsOf.{first_handed, first_tree, some_parts, powers_as}
 use Rattle.power_reduce.proofs.rewriting.raise_factors.Goals as goal
 
-pub product_of_parts-requires-clause-handed : goal.product_of_parts-requires-clause-handed
-product_of_parts-requires-clause-handed c = first_handed _ c.take_sides-base.ensures.gives
-
-pub product_of_parts-requires-clause-product : goal.product_of_parts-requires-clause-product
-product_of_parts-requires-clause-product c = ap is_mult (first_tree _ c.take_sides-base.ensures.gives) ∙ c.requires.base
-
-pub product_of_parts-requires-clause-reduced : goal.product_of_parts-requires-clause-reduced
-product_of_parts-requires-clause-reduced c = ap is_reduced (first_tree _ c.take_sides-base.ensures.gives) ∙ c.requires.sides.base
+pub product_of_parts-requires : goal.product_of_parts-requires
+product_of_parts-requires c = record {
+  stands = search rules;
+  handed = first_handed _ c.take_sides-base.ensures.gives;
+  product = ap is_mult (first_tree _ c.take_sides-base.ensures.gives) ∙ c.requires.base;
+  reduced = ap is_reduced (first_tree _ c.take_sides-base.ensures.gives) ∙ c.requires.sides.base;
+}
 
 pub returns-in_err-product-clause-front : goal.returns-in_err-product-clause-front
 returns-in_err-product-clause-front c =
     let g = c.take_sides-base.ensures.gives in
     front_after_one (behind_new g.first-given.ends (front_without behind_first front_same)) c.take_sides-base.ensures.front c.product_of_parts.ensures.front
 
-pub raise_each-requires-clause-first : goal.raise_each-requires-clause-first
-raise_each-requires-clause-first c = given_handed c.in_ok-product.ensures.ok
-
-pub raise_each-requires-clause-second : goal.raise_each-requires-clause-second
-raise_each-requires-clause-second c =
+pub raise_each-requires : goal.raise_each-requires
+raise_each-requires c =
     let g = c.take_sides-base.ensures.gives in
     let p = c.in_ok-product.ensures.ok in
     let e = handed_beside c.take_sides-base.result.0 (eqb-sym _ _ (given_apart g.second-given (given_handed g.first-given))) (given_handed g.second-given) in
-    given_other p e
-
-pub raise_each-requires-clause-apart : goal.raise_each-requires-clause-apart
-raise_each-requires-clause-apart c =
-    let g = c.take_sides-base.ensures.gives in
-    let p = c.in_ok-product.ensures.ok in
-    let e = handed_beside c.take_sides-base.result.0 (eqb-sym _ _ (given_apart g.second-given (given_handed g.first-given))) (given_handed g.second-given) in
-    given_apart p e
-
-pub raise_each-requires-clause-product : goal.raise_each-requires-clause-product
-raise_each-requires-clause-product c = ap is_mult (given_told c.in_ok-product.ensures.ok)
-
-pub raise_each-requires-clause-some : goal.raise_each-requires-clause-some
-raise_each-requires-clause-some c =
-    let g = c.take_sides-base.ensures.gives in
-    let p = c.in_ok-product.ensures.ok in
     let b = first_tree _ g in
-    subst (λ (t : Tree). 1 ≤ count (children_of t)) (sym (given_told p)) (some_parts _ (ap is_mult b ∙ c.requires.base) (ap is_reduced b ∙ c.requires.sides.base) (ap is_number b ∙ c.requires.number))
+    record {
+      stands = search rules;
+      first = given_handed c.in_ok-product.ensures.ok;
+      second = given_other p e;
+      apart = given_apart p e;
+      product = ap is_mult (given_told c.in_ok-product.ensures.ok);
+      some = subst (λ (t : Tree). 1 ≤ count (children_of t)) (sym (given_told p)) (some_parts _ (ap is_mult b ∙ c.requires.base) (ap is_reduced b ∙ c.requires.sides.base) (ap is_number b ∙ c.requires.number));
+    }
 
 pub returns-clause-ok : goal.returns-clause-ok
 returns-clause-ok c =
