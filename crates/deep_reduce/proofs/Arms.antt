@@ -1,9 +1,13 @@
 -- What a step is known to have made, in the arm for it.
-use Rattle.std.proofs.Common.{◌≡◌, ◌<◌, ◌+◌, ◌^◌, ℕ, ℤ, subst}
-use Rattle.std.specs.Prelude.{Some, None}
-use Rattle.deep_reduce.proofs.Shared.{Tree, State, base_in, exponent_in, IsPowerAnswer, IsStep, rewritten, IfFinished, IfJoined, IsFinished, IsGathered, IsPairAt, Joining, Rewrites, tree_of, Gives, IsHeldAsPowerOf, IfDone, Step, children_of, without_root, forest}
+use Rattle.std.proofs.Common.{◌≡◌, ◌<◌, ◌+◌, ◌^◌, ℕ, ℤ, subst, Some, None, ◌≤◌, List, true, false, sym, ◌∙◌, ap, arith, Result, Ok, Err, refl, IfErr}
+use Rattle.deep_reduce.proofs.Shared.{Tree, State, base_in, exponent_in, IsPowerAnswer, IsStep, rewritten, IfFinished, IfJoined, IsFinished, IsGathered, IsPairAt, Joining, Rewrites, tree_of, Gives, IsHeldAsPowerOf, IfDone, Step, children_of, without_root, forest, counted, counted_among, HasPowersOf, SpansTree, mult, is_mult, is_undef, has_undef, IsHeldAsProduct, IsFactorHeld, AreFactorsHeld, KeepsRoom, HandsOn, IfGathered, given_told, numbers_among, and_parts, is_number, is_half_num, num, undef, power, none, more, IsPowerMisfit, has_no_power, has_number_power, is_rewritable, OfOverflow, NumberFault}
+use Rattle.deep_reduce.proofs.JointRooms.{finished_keeps, gathered_hands_on}
+use Rattle.deep_reduce.proofs.Lacking.{product_words}
+use Rattle.deep_reduce.proofs.Settled.{gathered_product}
+use Rattle.deep_reduce.proofs.EasyNodes.{number_defined}
 use Rattle.product_reduce.specs.declared.steps.Joining.TheVariants as joining
 use Rattle.reduce_port.specs.declared.step.Step.TheVariants as step
+use Rattle.tree_handles.specs.declared.fault.NumberFault.TheVariants as fault
 
 -- a product's step, from the state before to that after
 module _ (i : ℕ) (old new : State) where
@@ -33,3 +37,75 @@ module _ (i : ℕ) (old new : State) where
 -- what holds its answer
 pub is_held : {s : Step} {h : ℕ} (new : State) → s ≡ step.Done h → (n : ℤ) (b : Tree) → IfDone s (λ k. IsHeldAsPowerOf n b (tree_of k new)) → IsHeldAsPowerOf n b (tree_of h new)
 is_held new e n b k = subst (λ (x : Step). IfDone x (λ k. IsHeldAsPowerOf n b (tree_of k new))) e k
+
+-- ---- gathered factors
+
+module _ (i : ℕ) (old new : State) (m : is_mult (tree_of i old) ≡ true) where
+  pub gathered_hands : {s : Joining} {h at : ℕ} → s ≡ joining.Joined h at → IfJoined s (λ k n. Gives (without_root i (forest old)) (forest new) k (IsGathered (children_of (tree_of i old))))
+      → IfJoined s (λ k n. counted_among (children_of (tree_of k new)) ≤ counted_among (children_of (tree_of i old))) → IfJoined s (λ k n. numbers_among (children_of (tree_of k new)) ≤ 2)
+      → IfGathered s (λ k. HasPowersOf (children_of (tree_of i old)) (tree_of k new)) → ((gs : List ℕ) → SpansTree gs (tree_of i old) → IfGathered s (λ k. SpansTree gs (tree_of k new)))
+      → ((m l : ℕ) → has_undef (children_of (tree_of i old)) ≡ false → AreFactorsHeld (children_of (tree_of i old)) m l → IfJoined s (λ k n. AreFactorsHeld (children_of (tree_of k new)) m l))
+      → HandsOn (children_of (tree_of i old)) (children_of (tree_of h new))
+  gathered_hands {h = h} e g c n p k a =
+      let j = given_told (is_gathered i old new e g) in
+      gathered_hands_on (children_of (tree_of i old)) (tree_of h new) (product_words (tree_of h new) (gathered_product _ _ j))
+      (subst (λ (s : Joining). IfJoined s (λ k n. counted_among (children_of (tree_of k new)) ≤ counted_among (children_of (tree_of i old)))) e c) (subst (λ (s : Joining). IfJoined s (λ k n. numbers_among (children_of (tree_of k new)) ≤ 2)) e n)
+      (subst (λ (s : Joining). IfGathered s (λ k. HasPowersOf (children_of (tree_of i old)) (tree_of k new))) e p)
+      (λ gs x. subst (λ (s : Joining). IfGathered s (λ k. SpansTree gs (tree_of k new))) e (k gs (subst (SpansTree gs) (sym (product_words (tree_of i old) m)) x)))
+      (λ x l b. subst (λ (s : Joining). IfJoined s (λ k n. AreFactorsHeld (children_of (tree_of k new)) x l)) e (a x l j.joinable.defined b))
+
+  pub finished_hands : {s : Joining} {h : ℕ} → s ≡ joining.Done h → IfFinished s (λ k. counted (tree_of k new) ≤ counted (tree_of i old)) → IfGathered s (λ k. HasPowersOf (children_of (tree_of i old)) (tree_of k new))
+      → ((gs : List ℕ) → SpansTree gs (tree_of i old) → IfGathered s (λ k. SpansTree gs (tree_of k new))) → KeepsRoom (counted (mult (children_of (tree_of i old)))) (mult (children_of (tree_of i old))) (tree_of h new)
+  finished_hands {h = h} e c p k =
+      let few : counted (tree_of h new) ≤ counted (tree_of i old) = subst (λ (s : Joining). IfFinished s (λ k. counted (tree_of k new) ≤ counted (tree_of i old))) e c in
+      finished_keeps (children_of (tree_of i old)) (tree_of h new) (omega (arith, few, ap counted (product_words (tree_of i old) m)))
+      (subst (λ (s : Joining). IfGathered s (λ k. HasPowersOf (children_of (tree_of i old)) (tree_of k new))) e p)
+      (λ gs x. subst (λ (s : Joining). IfGathered s (λ k. SpansTree gs (tree_of k new))) e (k gs (subst (SpansTree gs) (sym (product_words (tree_of i old) m)) x)))
+
+  pub finished_holds : {s : Joining} {h : ℕ} → s ≡ joining.Done h → ((m l : ℕ) → has_undef (children_of (tree_of i old)) ≡ false → AreFactorsHeld (children_of (tree_of i old)) m l → IfFinished s (λ k. IsFactorHeld (tree_of k new) m l))
+      → is_undef (tree_of h new) ≡ has_undef (children_of (tree_of i old)) → IsHeldAsProduct (children_of (tree_of i old)) (tree_of h new)
+  finished_holds {h = h} e a u d m l b = subst (λ (s : Joining). IfFinished s (λ k. IsFactorHeld (tree_of k new) m l)) e (a m l (sym u ∙ d) b)
+
+-- ---- operations that do not fit
+
+-- what is known in any case
+pub any_fault : (f : NumberFault) (P : Type 0) → P → OfOverflow (λ o. P) f
+any_fault (fault.Full full) P p = tt
+any_fault (fault.Overflow o) P p = p
+
+pub any_refusal : {A : Type 0} (r : Result A NumberFault) (P : Type 0) → P → IfErr r (OfOverflow (λ o. P))
+any_refusal (Ok x) P p = tt
+any_refusal (Err f) P p = any_fault f P p
+
+-- both sides of a power
+both_defined : (b e : Tree) → is_undef b ≡ false → is_undef e ≡ false → has_undef (more b (more e none)) ≡ false
+both_defined b e h k = rw (h, k) refl
+
+pub sides_defined : (t : Tree) → t ≡ power (base_in t) (exponent_in t) → is_undef (base_in t) ≡ false → is_undef (exponent_in t) ≡ false → has_undef (children_of t) ≡ false
+sides_defined t p h k = ap (λ (x : Tree). has_undef (children_of x)) p ∙ both_defined (base_in t) (exponent_in t) h k
+
+number_sides : (b e : Tree) → has_number_power b e ≡ true → (is_undef b ≡ false) × (is_undef e ≡ false)
+number_sides b (num q) h = (number_defined b (and_parts (is_number b) _ (and_parts _ _ h).0).0, refl)
+number_sides b e h = cc
+
+misfit_defined : (t : Tree) → t ≡ power (base_in t) (exponent_in t) → has_number_power (base_in t) (exponent_in t) ≡ true → has_undef (children_of t) ≡ false
+misfit_defined t p h = let s = number_sides (base_in t) (exponent_in t) h in sides_defined t p s.0 s.1
+
+pub misfit_fault : (t : Tree) (f : NumberFault) → t ≡ power (base_in t) (exponent_in t) → OfOverflow (IsPowerMisfit (base_in t) (exponent_in t)) f → OfOverflow (λ o. has_undef (children_of t) ≡ false) f
+misfit_fault t (fault.Full full) p m = tt
+misfit_fault t (fault.Overflow o) p m = misfit_defined t p m.number
+
+base_defined : (b e : Tree) → has_no_power b e ≡ false → is_undef b ≡ false
+base_defined undef e h = cc
+base_defined b e h = refl
+
+-- where a power is rewritten
+pub rewritten_defined : (t u : Tree) → t ≡ power (base_in t) (exponent_in t) → is_half_num (exponent_in t) ≡ false → rewritten (base_in t) (exponent_in t) ≡ Some u → has_undef (children_of t) ≡ false
+rewritten_defined t u p n h = let w = is_rewritable (base_in t) (exponent_in t) u n h in sides_defined t p (base_defined (base_in t) (exponent_in t) w.has_power) w.exponent_defined
+
+half_exponent : (e : Tree) → is_half_num e ≡ true → is_undef e ≡ false
+half_exponent (num q) h = refl
+half_exponent e h = cc
+
+pub half_defined : (t : Tree) → t ≡ power (base_in t) (exponent_in t) → is_half_num (exponent_in t) ≡ true → is_undef (base_in t) ≡ false → has_undef (children_of t) ≡ false
+half_defined t p h d = sides_defined t p d (half_exponent (exponent_in t) h)

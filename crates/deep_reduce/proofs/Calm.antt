@@ -54,10 +54,9 @@ module _ (P : Tree → Type 0) where
 
   -- two neighbours are joined, and the others stay
   pub all_joined : (n : ℕ) (ts : Trees) → IsPairAt n ts → ((t u : Tree) → AllParts P t → AllParts P u → AllParts P (joint t u)) → AllPartsOf P ts → AllPartsOf P (joined_pair n (suc n) ts)
-  all_joined n none p j h = absurd (let w = p.within in omega arith)
-  all_joined zero (more t none) p j h = absurd (let w = p.within in omega arith)
   all_joined zero (more t (more u ts)) p j h = (j t u h.0 h.1.0, h.1.1)
   all_joined (suc n) (more t ts) p j h = (h.0, all_joined n ts (let w = p.within in record { within = omega arith; pair = p.pair }) j h.1)
+  all_joined n ts p j h = absurd (let w = p.within in omega arith)
 
 -- ---- calm trees
 

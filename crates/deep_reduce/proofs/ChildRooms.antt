@@ -1,6 +1,6 @@
 -- While a child is reduced in its own room, the other children and the node stand within the tree's room.
 use Rattle.std.proofs.Common.{◌≡◌, ℕ, ◌+◌, ◌*◌, ◌^◌, ◌≤◌, ◌<◌, List, length, Bool, true, false, if◌then◌else◌, inl, inr, refl, sym, ap, ◌∙◌, arith}
-use Rattle.deep_reduce.proofs.Shared.{and_parts, all_simple, are_all_simple, room, roots, roots_of, unbounded_room, Tree, num, add, mult, power, root, neg, sub, div, Trees, none, more, append, names, nodes, size, sizes, HasNodesFor, SpansNode, IsReducedFrom, MayLack, IsCalmAtZero, SpansRootOf, is_half_num, nodes_by_children, State, free_of, LacksBelow, base_in, exponent_in, handed_bytes, children_of, tree_of, IsHanded, Stands, forest, NumberFault, used_forest, answer_bytes, answers_bytes, simple_room, more_rooms, reduced_bytes, room_is, five_times, spanned_room, term_room, two_simple, power_simple, each_once}
+use Rattle.deep_reduce.proofs.Shared.{and_parts, all_simple, are_all_simple, room, roots, roots_of, unbounded_room, Tree, num, add, mult, power, root, neg, sub, div, Trees, none, more, append, names, nodes, size, sizes, HasNodesFor, SpansNode, IsReducedFrom, MayLack, IsCalmAtZero, SpansRootOf, is_half_num, nodes_by_children, State, free_of, LacksBelow, base_in, exponent_in, handed_bytes, children_of, tree_of, IsHanded, Stands, forest, NumberFault, used_forest, answer_bytes, answers_bytes, simple_room, more_rooms, reduced_bytes, room_is, five_times, spanned_room, term_room, two_simple, power_simple, each_once, cases_Bool}
 use Rattle.deep_reduce.proofs.NodeRewrites.{AreReducedFrom, IsOver}
 use Rattle.deep_reduce.proofs.TreeRooms.{ready}
 use Rattle.deep_reduce.proofs.Lacking.{lacks_as}
@@ -57,9 +57,8 @@ one_small t u s h = let x = h.room s in reduced_bytes x.radicands t u h.reduces.
 
 pub all_small : (ts us : Trees) → are_all_simple ts ≡ true → AreReducedFrom ts us → sizes us ≤ answers_bytes ts
 all_small none none s h = omega arith
-all_small none (more u us) s h = absurd h
-all_small (more t ts) none s h = absurd h
 all_small (more t ts) (more u us) s h = let (p, q) = and_parts (all_simple t) (are_all_simple ts) s in omega (arith, one_small t u p h.0, all_small ts us q h.1)
+all_small ts us s h = absurd h
 
 -- ---- bytes at hand
 
@@ -72,19 +71,11 @@ within_pool : (i : ℕ) (s : State) → Stands s → IsHanded i (forest s) → f
 within_pool i s st h = omega (arith, used_forest s st, st.pool.fits, st.pool.size.most, handed_bytes i (forest s) h)
 
 pub lacks_room : (i : ℕ) (s : State) → Stands s → IsHanded i (forest s) → MayLack (tree_of i s) (free_of s + size (tree_of i s)) → free_of s + size (tree_of i s) < room (tree_of i s)
-lacks_room i s st h l = by (all_simple (tree_of i s)) refl
-  where
-    by : (z : Bool) → all_simple (tree_of i s) ≡ z → free_of s + size (tree_of i s) < room (tree_of i s)
-    by true e = l e
-    by false e = omega (arith, within_pool i s st h, unbounded (tree_of i s) e)
+lacks_room i s st h l = elim (cases_Bool (all_simple (tree_of i s))) [ inl e ↦ l e | inr e ↦ omega (arith, within_pool i s st h, unbounded (tree_of i s) e) ]
 
 -- five times the answer are within the room
 pub five_answers : (i : ℕ) (t : Tree) (s : State) → Stands s → IsHanded i (forest s) → IsReducedFrom t (tree_of i s) → 5 * size (tree_of i s) ≤ room t
-five_answers i t s st h a = by (all_simple t) refl
-  where
-    by : (z : Bool) → all_simple t ≡ z → 5 * size (tree_of i s) ≤ room t
-    by true e = omega (arith, one_small t (tree_of i s) e a, five_times t e)
-    by false e = omega (arith, within_pool i s st h, unbounded t e)
+five_answers i t s st h a = elim (cases_Bool (all_simple t)) [ inl e ↦ omega (arith, one_small t (tree_of i s) e a, five_times t e) | inr e ↦ omega (arith, within_pool i s st h, unbounded t e) ]
 
 -- ---- the node itself
 

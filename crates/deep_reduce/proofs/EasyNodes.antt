@@ -1,7 +1,7 @@
 -- The answer of an Easy node, from its children's answers.
-use Rattle.std.proofs.Common.{◌≡◌, ◌≢◌, ℕ, zero, suc, ◌≤◌, ◌⊎◌, inl, inr, ℤ, pos, negsuc, Bool, true, false, ◌&&◌, refl, sym, ap, ◌∙◌, arith}
-use Rattle.std.specs.Prelude.{◌||◌, ◌==◌, ◌≤ℤ◌, not, nat_le}
-use Rattle.deep_reduce.proofs.Shared.{le-leb, eq-eqb, eqb-true, ints, zero_is, whole_numerator, whole_denominator, number_words, numbers_defined, IsBad, IsBadNode, IsEasy, IsZero, IsHalf, IsNegative, GivesZeroNoPower, HasValue, Fraction, whole_fraction, minus_one_fraction, zero_fraction, is_zero_fraction, int_is_negative, int_is_zero, is_number, classes, are_numbers, Surd, surd_of, Tree, num, undef, add, mult, power, root, neg, sub, div, Trees, none, more, is_undef, is_num, IsPartOf, itself, in_add, in_mult, in_base, in_exponent, in_root, in_neg, in_left, in_right, in_dividend, in_divisor, first, later, has_undef, has_no_half_power, lacks_power, is_number_power, IsNodeAnswer, has_no_value, has_number, one_is_not_two, whole_no_half, whole_is, IsReducedFrom, is_zero, has_no_power, has_number_power, is_at_most_zero, has_no_root, kept, KeepsMeanings}
+use Rattle.std.proofs.Common.{◌≡◌, ◌≢◌, ℕ, zero, suc, ◌≤◌, ◌⊎◌, inl, inr, ℤ, pos, negsuc, Bool, true, false, ◌&&◌, refl, sym, ap, ◌∙◌, arith, ◌||◌, ◌==◌, ◌≤ℤ◌, not, nat_le}
+use Rattle.deep_reduce.proofs.Shared.{le-leb, eq-eqb, eqb-true, ints, zero_is, whole_numerator, whole_denominator, number_words, numbers_defined, IsBad, IsBadNode, IsEasy, IsZero, IsHalf, IsNegative, GivesZeroNoPower, HasValue, Fraction, whole_fraction, minus_one_fraction, zero_fraction, is_zero_fraction, int_is_negative, int_is_zero, is_number, classes, are_numbers, Surd, surd_of, Tree, num, undef, add, mult, power, root, neg, sub, div, Trees, none, more, is_undef, is_num, IsPartOf, itself, in_add, in_mult, in_base, in_exponent, in_root, in_neg, in_left, in_right, in_dividend, in_divisor, first, later, has_undef, has_no_half_power, lacks_power, is_number_power, IsNodeAnswer, has_no_value, has_number, one_is_not_two, whole_no_half, whole_is, IsReducedFrom, is_zero, has_no_power, has_number_power, is_at_most_zero, has_no_root, kept, KeepsMeanings, and_from, and_parts, or_from, or_left, or_right, false_from_ne_true, cases_Bool}
+use Rattle.deep_reduce.proofs.Clashes.{or_other, undef_words, undef_test, zero_words}
 use Rattle.calc_algebra.proofs.BadLaws.{bad_has_no_value, easy_decided}
 use Rattle.calc_algebra.proofs.EasyLaws.{HasBad, easy_part, bad_part, bad_sum, bad_product, bad_neg, bad_sub, bad_div, bad_power, bad_root, undef_is_bad, num_is_not_bad, sum_of_bad, product_of_bad, reduced_value, zero_reduced, rational_reduced, negative_reduced, easy_divisor, EasyWholePower, EasyHalfPower, easy_power, easy_root}
 use Rattle.deep_reduce.proofs.Opened.{lacks_whole, number_whole}
@@ -10,37 +10,8 @@ use Rattle.reduce_port.specs.EasyTrees.{Evaluates}
 
 -- ---- tests
 
-pub and_true : (a b : Bool) → a ≡ true → b ≡ true → a && b ≡ true
-and_true a b h k = cc
-
-pub and_first : (a b : Bool) → a && b ≡ true → a ≡ true
-and_first true b e = refl
-and_first false b e = e
-
-pub and_second : (a b : Bool) → a && b ≡ true → b ≡ true
-and_second true b e = e
-and_second false b e = cc
-
 and_false : (a b : Bool) → (a ≡ true → b ≡ true → ⊥) → a && b ≡ false
-and_false true true h = absurd (h refl refl)
-and_false true false h = refl
-and_false false b h = refl
-
-pub or_true : (a b : Bool) → (a ≡ true) ⊎ (b ≡ true) → a || b ≡ true
-or_true true b h = refl
-or_true false b (inl e) = cc
-or_true false b (inr e) = e
-
-pub or_none : (a b : Bool) → a ≡ false → b ≡ false → a || b ≡ false
-or_none true b h k = h
-or_none false b h k = k
-
-pub undef_words : (t : Tree) → is_undef t ≡ true → t ≡ undef
-undef_words undef e = refl
-undef_words t e = cc
-
-pub undef_test : (t : Tree) → t ≡ undef → is_undef t ≡ true
-undef_test t e = ap is_undef e
+and_false a b h = false_from_ne_true (a && b) (λ e. h (and_parts a b e).0 (and_parts a b e).1)
 
 undef_is_no_number : is_number undef ≡ true → ⊥
 unfolding is_number
@@ -50,10 +21,6 @@ undef_is_no_number e = cc
 pub number_defined : (t : Tree) → is_number t ≡ true → is_undef t ≡ false
 number_defined undef e = absurd (undef_is_no_number e)
 number_defined t e = refl
-
-zero_words : (t : Tree) → is_zero t ≡ true → t ≡ num zero_fraction
-zero_words (num q) e = ap num (zero_is q e)
-zero_words t e = cc
 
 zero_test : is_zero (num zero_fraction) ≡ true
 unfolding zero_fraction
@@ -81,15 +48,15 @@ negative_short (negsuc k) c h = le-leb c 2 (h k refl)
 pub whole_power_number : (r : Tree) (n : ℤ) → is_number r ≡ true → ((k : ℕ) → n ≡ negsuc k → classes r ≤ 2) → has_number_power r (num (whole_fraction n)) ≡ true
 whole_power_number r n h s =
     (λ i. is_number r && (whole_denominator n i == 1) && (not (int_is_negative (whole_numerator n i)) || nat_le (classes r) 2))
-    ∙ and_true (is_number r && true) (not (int_is_negative n) || nat_le (classes r) 2) (and_true (is_number r) true h refl) (negative_short n (classes r) s)
+    ∙ and_from (is_number r && true) (not (int_is_negative n) || nat_le (classes r) 2) (and_from (is_number r) true h refl) (negative_short n (classes r) s)
 
 pub whole_power_defined : (r : Tree) (n : ℤ) → is_number r ≡ true → (n ≤ℤ pos 0 → r ≢ num zero_fraction) → has_no_power r (num (whole_fraction n)) ≡ false
-whole_power_defined r n h z = or_none (is_undef r || false) (is_zero r && is_at_most_zero (num (whole_fraction n))) (or_none (is_undef r) false (number_defined r h) refl)
+whole_power_defined r n h z = or_from (is_undef r || false) (is_zero r && is_at_most_zero (num (whole_fraction n))) (or_from (is_undef r) false (number_defined r h) refl)
     (and_false (is_zero r) (is_at_most_zero (num (whole_fraction n))) (λ a b. z (integer_low n (sym (whole_exponent n) ∙ b)) (zero_words r a)))
 
 pub zero_power : (n : ℤ) (c : Tree) → n ≤ℤ pos 0 → c ≡ num zero_fraction → has_no_power c (num (whole_fraction n)) ≡ true
-zero_power n c l e = or_true (is_undef c || false) (is_zero c && is_at_most_zero (num (whole_fraction n)))
-    (inr (and_true (is_zero c) (is_at_most_zero (num (whole_fraction n))) (ap is_zero e ∙ zero_test) (whole_exponent n ∙ low_integer n l)))
+zero_power n c l e = or_right (is_undef c || false) (is_zero c && is_at_most_zero (num (whole_fraction n)))
+    (and_from (is_zero c) (is_at_most_zero (num (whole_fraction n))) (ap is_zero e ∙ zero_test) (whole_exponent n ∙ low_integer n l))
 
 -- the same of a whole exponent, in the words of any
 whole_lacks : (r : Tree) (n : ℤ) (x : Bool) → has_no_power r (num (whole_fraction n)) ≡ x → lacks_power r (num (whole_fraction n)) ≡ x
@@ -100,28 +67,24 @@ whole_number r n h = number_whole r (num (whole_fraction n)) (whole_no_half (num
 
 -- and of half of an odd whole number
 half_lacks : (b h : Fraction) → h.den ≡ 2 → (int_is_negative b.num || is_zero_fraction b && int_is_negative h.num) ≡ true → lacks_power (num b) (num h) ≡ true
-half_lacks b h d e = or_true (has_no_power (num b) (num h)) (has_no_half_power (num b) (num h)) (inr (and_true (h.den == 2) (int_is_negative b.num || is_zero_fraction b && int_is_negative h.num) (eq-eqb h.den 2 d) e))
+half_lacks b h d e = or_right (has_no_power (num b) (num h)) (has_no_half_power (num b) (num h)) (and_from (h.den == 2) (int_is_negative b.num || is_zero_fraction b && int_is_negative h.num) (eq-eqb h.den 2 d) e)
 
 half_defined : (b h : Fraction) → h.den ≡ 2 → int_is_negative b.num ≡ false → (int_is_negative h.num ≡ true → num b ≢ num zero_fraction) → lacks_power (num b) (num h) ≡ false
-half_defined b h d n z = or_none (has_no_power (num b) (num h)) (has_no_half_power (num b) (num h)) whole half
+half_defined b h d n z = or_from (has_no_power (num b) (num h)) (has_no_half_power (num b) (num h)) whole half
   where
     whole : has_no_power (num b) (num h) ≡ false
-    whole = and_false (is_zero_fraction b) (is_at_most_zero (num h)) (λ x y. one_is_not_two h.den (eqb-true h.den 1 (and_first (h.den == 1) (int_is_zero h.num || int_is_negative h.num) y)) d)
+    whole = and_false (is_zero_fraction b) (is_at_most_zero (num h)) (λ x y. one_is_not_two h.den (eqb-true h.den 1 (and_parts (h.den == 1) (int_is_zero h.num || int_is_negative h.num) y).0) d)
 
     half : has_no_half_power (num b) (num h) ≡ false
     half = and_false (h.den == 2) (int_is_negative b.num || is_zero_fraction b && int_is_negative h.num) (λ x y. by y)
       where
         by : (int_is_negative b.num || is_zero_fraction b && int_is_negative h.num) ≡ true → ⊥
         by y =
-            let k : (is_zero_fraction b && int_is_negative h.num) ≡ true = second (int_is_negative b.num) (is_zero_fraction b && int_is_negative h.num) y n in
-            z (and_second (is_zero_fraction b) (int_is_negative h.num) k) (ap num (zero_is b (and_first (is_zero_fraction b) (int_is_negative h.num) k)))
-          where
-            second : (a c : Bool) → a || c ≡ true → a ≡ false → c ≡ true
-            second true c e f = cc
-            second false c e f = e
+            let k : (is_zero_fraction b && int_is_negative h.num) ≡ true = or_other (int_is_negative b.num) (is_zero_fraction b && int_is_negative h.num) y n in
+            z (and_parts (is_zero_fraction b) (int_is_negative h.num) k).1 (ap num (zero_is b (and_parts (is_zero_fraction b) (int_is_negative h.num) k).0))
 
 half_number : (b h : Fraction) → h.den ≡ 2 → is_number_power (num b) (num h) ≡ true
-half_number b h d = or_true (has_number_power (num b) (num h)) (h.den == 2) (inr (eq-eqb h.den 2 d))
+half_number b h d = or_right (has_number_power (num b) (num h)) (h.den == 2) (eq-eqb h.den 2 d)
 
 -- ---- one child
 
@@ -130,24 +93,19 @@ module _ (t r : Tree) (h : IsReducedFrom t r) (e : IsEasy t) where
   child_bad b = undef_test r ((h.easy e).undefined.1 b)
 
   child_number : ¬ (IsBad t) → is_number r ≡ true
-  child_number n = (h.easy e).number (by (is_undef r) refl)
-    where
-      by : (b : Bool) → is_undef r ≡ b → is_undef r ≡ false
-      by true u = absurd (n ((h.easy e).undefined.0 (undef_words r u)))
-      by false u = u
+  child_number n = (h.easy e).number (elim (cases_Bool (is_undef r)) [ inl u ↦ absurd (n ((h.easy e).undefined.0 (undef_words r u))) | inr u ↦ u ])
 
 children_bad : (ts us : Trees) → AreReducedFrom ts us → ((p : Tree) → IsPartOf p ts → IsEasy p) → HasBad ts → has_undef us ≡ true
 children_bad none us h e b = absurd b
 children_bad (more t ts) none h e b = absurd h
-children_bad (more t ts) (more u us) h e (inl b) = or_true (is_undef u) (has_undef us) (inl (child_bad t u h.0 (e t (first itself)) b))
-children_bad (more t ts) (more u us) h e (inr b) = or_true (is_undef u) (has_undef us) (inr (children_bad ts us h.1 (λ p k. e p (later k)) b))
+children_bad (more t ts) (more u us) h e (inl b) = or_left (is_undef u) (has_undef us) (child_bad t u h.0 (e t (first itself)) b)
+children_bad (more t ts) (more u us) h e (inr b) = or_right (is_undef u) (has_undef us) (children_bad ts us h.1 (λ p k. e p (later k)) b)
 
 children_numbers : (ts us : Trees) → AreReducedFrom ts us → ((p : Tree) → IsPartOf p ts → IsEasy p) → ¬ (HasBad ts) → are_numbers us ≡ true
 children_numbers none none h e n = refl
-children_numbers none (more u us) h e n = absurd h
-children_numbers (more t ts) none h e n = absurd h
 children_numbers (more t ts) (more u us) h e n =
-    and_true (is_number u) (are_numbers us) (child_number t u h.0 (e t (first itself)) (λ b. n (inl b))) (children_numbers ts us h.1 (λ p k. e p (later k)) (λ b. n (inr b)))
+    and_from (is_number u) (are_numbers us) (child_number t u h.0 (e t (first itself)) (λ b. n (inl b))) (children_numbers ts us h.1 (λ p k. e p (later k)) (λ b. n (inr b)))
+children_numbers ts us h e n = absurd h
 
 -- ---- whether the node has a value
 
@@ -188,14 +146,14 @@ sub_decides a c b d h k e =
     let l : ¬ (IsBad (sub a b)) → is_number c ≡ true = λ n. child_number a c h left (λ x. n (bad_part a (sub a b) (in_left itself) x)) in
     let r : ¬ (IsBad (sub a b)) → is_number d ≡ true = λ n. child_number b d k right (λ x. n (bad_part b (sub a b) (in_right itself) x)) in
     record {
-      bad = λ x. or_true (is_undef c) (is_undef d) (by (bad_sub a b x));
-      defined = λ n. or_none (is_undef c) (is_undef d) (number_defined c (l n)) (number_defined d (r n));
-      number = λ n. and_true (is_number c) (is_number d) (l n) (r n);
+      bad = λ x. by (bad_sub a b x);
+      defined = λ n. or_from (is_undef c) (is_undef d) (number_defined c (l n)) (number_defined d (r n));
+      number = λ n. and_from (is_number c) (is_number d) (l n) (r n);
     }
   where
-    by : IsBad a ⊎ IsBad b → (is_undef c ≡ true) ⊎ (is_undef d ≡ true)
-    by (inl x) = inl (child_bad a c h (easy_part a (sub a b) (in_left itself) e) x)
-    by (inr x) = inr (child_bad b d k (easy_part b (sub a b) (in_right itself) e) x)
+    by : IsBad a ⊎ IsBad b → is_undef c || is_undef d ≡ true
+    by (inl x) = or_left (is_undef c) (is_undef d) (child_bad a c h (easy_part a (sub a b) (in_left itself) e) x)
+    by (inr x) = or_right (is_undef c) (is_undef d) (child_bad b d k (easy_part b (sub a b) (in_right itself) e) x)
 
 -- a tree with a value is not Bad
 valued : (t : Tree) (v : Surd) → HasValue t v → ¬ (IsBad t)
@@ -213,15 +171,18 @@ div_decides a c b d h k e =
     let r : ¬ (IsBad (div a b)) → is_number d ≡ true = λ n. child_number b d k right (λ x. n (bad_part b (div a b) (in_divisor itself) x)) in
     let divisor = λ (n : ¬ (IsBad (div a b))). easy_divisor a b d e n (kept k.reduces.meanings) (number_words d (r n)) in
     record {
-      bad = λ x. or_true (is_undef c) (lacks_power d (num minus_one_fraction)) (by (bad_div a b x));
-      defined = λ n. or_none (is_undef c) (lacks_power d (num minus_one_fraction)) (number_defined c (l n)) (whole_lacks d (negsuc 0) false (whole_power_defined d (negsuc 0) (r n) (λ z. (divisor n).0)));
-      number = λ n. and_true (is_number c) (is_number_power d (num minus_one_fraction)) (l n) (whole_number d (negsuc 0) (whole_power_number d (negsuc 0) (r n) (λ i z. (divisor n).1)));
+      bad = λ x. by (bad_div a b x);
+      defined = λ n. or_from (is_undef c) (lacks_power d (num minus_one_fraction)) (number_defined c (l n)) (whole_lacks d (negsuc 0) false (whole_power_defined d (negsuc 0) (r n) (λ z. (divisor n).0)));
+      number = λ n. and_from (is_number c) (is_number_power d (num minus_one_fraction)) (l n) (whole_number d (negsuc 0) (whole_power_number d (negsuc 0) (r n) (λ i z. (divisor n).1)));
     }
   where
-    by : IsBad a ⊎ (IsBad b ⊎ IsZero b) → (is_undef c ≡ true) ⊎ (lacks_power d (num minus_one_fraction) ≡ true)
-    by (inl x) = inl (child_bad a c h (easy_part a (div a b) (in_dividend itself) e) x)
-    by (inr (inl x)) = inr (whole_lacks d (negsuc 0) true (or_true (is_undef d || false) (is_zero d && is_at_most_zero (num minus_one_fraction)) (inl (or_true (is_undef d) false (inl (child_bad b d k (easy_part b (div a b) (in_divisor itself) e) x))))))
-    by (inr (inr z)) = inr (whole_lacks d (negsuc 0) true (zero_power (negsuc 0) d (omega (arith, ints)) (zero_answer b d k (easy_part b (div a b) (in_divisor itself) e) z)))
+    no_inverse : lacks_power d (num minus_one_fraction) ≡ true → is_undef c || lacks_power d (num minus_one_fraction) ≡ true
+    no_inverse l = or_right (is_undef c) (lacks_power d (num minus_one_fraction)) l
+
+    by : IsBad a ⊎ (IsBad b ⊎ IsZero b) → is_undef c || lacks_power d (num minus_one_fraction) ≡ true
+    by (inl x) = or_left (is_undef c) (lacks_power d (num minus_one_fraction)) (child_bad a c h (easy_part a (div a b) (in_dividend itself) e) x)
+    by (inr (inl x)) = no_inverse (whole_lacks d (negsuc 0) true (or_left (is_undef d || false) (is_zero d && is_at_most_zero (num minus_one_fraction)) (or_left (is_undef d) false (child_bad b d k (easy_part b (div a b) (in_divisor itself) e) x))))
+    by (inr (inr z)) = no_inverse (whole_lacks d (negsuc 0) true (zero_power (negsuc 0) d (omega (arith, ints)) (zero_answer b d k (easy_part b (div a b) (in_divisor itself) e) z)))
 
 power_decides : (b c g x : Tree) → IsReducedFrom b c → IsReducedFrom g x → IsEasy (power b g) → Decides (power b g) (power c x)
 power_decides b c g x h k e =
@@ -253,22 +214,22 @@ power_decides b c g x h k e =
     exponent_answer q w = rational_reduced g x q (kept k.reduces.meanings) (number_words x (child_number g x k exponent (valued g (surd_of q) w))) w
 
     side : is_undef c || is_undef x ≡ true → lacks_power c x ≡ true
-    side u = or_true (has_no_power c x) (has_no_half_power c x) (inl (or_true (is_undef c || is_undef x) (is_zero c && is_at_most_zero x) (inl u)))
+    side u = or_left (has_no_power c x) (has_no_half_power c x) (or_left (is_undef c || is_undef x) (is_zero c && is_at_most_zero x) u)
 
     zero_base : IsZero b → GivesZeroNoPower g → lacks_power c x ≡ true
     zero_base z (inl (n, low, w)) = ap (lacks_power c) (exponent_answer (whole_fraction n) w) ∙ whole_lacks c n true (zero_power n c low (zero_answer b c h base z))
     zero_base z (inr (q, low, (d, w))) =
         (λ i. lacks_power (zero_answer b c h base z i) (exponent_answer q w i))
-        ∙ half_lacks zero_fraction q d (or_true (int_is_negative zero_fraction.num) (is_zero_fraction zero_fraction && int_is_negative q.num) (inr (and_true (is_zero_fraction zero_fraction) (int_is_negative q.num) zero_test low)))
+        ∙ half_lacks zero_fraction q d (or_right (int_is_negative zero_fraction.num) (is_zero_fraction zero_fraction && int_is_negative q.num) (and_from (is_zero_fraction zero_fraction) (int_is_negative q.num) zero_test low))
 
     negative_base : IsNegative b → (q : Fraction) → IsHalf g q → lacks_power c x ≡ true
     negative_base m q (d, w) =
         let (p, s, is) = negative_reduced b c (kept h.reduces.meanings) (number_words c (child_number b c h base (valued b _ m.2))) m in
-        (λ i. lacks_power (is i) (exponent_answer q w i)) ∙ half_lacks p q d (or_true (int_is_negative p.num) (is_zero_fraction p && int_is_negative q.num) (inl s))
+        (λ i. lacks_power (is i) (exponent_answer q w i)) ∙ half_lacks p q d (or_left (int_is_negative p.num) (is_zero_fraction p && int_is_negative q.num) s)
 
     by : IsBad b ⊎ (IsBad g ⊎ IsBadNode (power b g)) → lacks_power c x ≡ true
-    by (inl y) = side (or_true (is_undef c) (is_undef x) (inl (child_bad b c h base y)))
-    by (inr (inl y)) = side (or_true (is_undef c) (is_undef x) (inr (child_bad g x k exponent y)))
+    by (inl y) = side (or_left (is_undef c) (is_undef x) (child_bad b c h base y))
+    by (inr (inl y)) = side (or_right (is_undef c) (is_undef x) (child_bad g x k exponent y))
     by (inr (inr (inl (z, y)))) = zero_base z y
     by (inr (inr (inr (m, q, y)))) = negative_base m q y
 

@@ -2,10 +2,9 @@
 use Rattle.std.proofs.Common.{◌≡◌, ℕ, ◌≤◌, ◌<◌, true, ap, arith}
 use Rattle.deep_reduce.proofs.Shared.{nest, weight, load_of_factors, Tree, add, mult, power, Trees, is_mult, nest_over, nest_of_joint, IsLess, IsSummed, are_reduced, base_in, exponent_in, IsGathered, IsPairAt, nth, children_of}
 use Rattle.deep_reduce.proofs.Finished.{IsReadyProduct, IsReadyPower}
-use Rattle.deep_reduce.proofs.Measures.{of_product, of_pairs, of_two, of_power, of_joint, of_powers, of_exponent, of_rewritten}
-use Rattle.deep_reduce.proofs.Nests.{over_power}
+use Rattle.deep_reduce.proofs.Measures.{of_product, of_pairs, of_two, of_power, of_joint, of_powers, of_exponent, of_rewritten, rank_second}
+use Rattle.deep_reduce.proofs.Heavy.{over_power}
 use Rattle.deep_reduce.proofs.Opened.{IsOpened}
-use Rattle.deep_reduce.proofs.Ranks.{rank_second}
 use Rattle.deep_reduce.proofs.Rows.{IsPowerOf}
 use Rattle.deep_reduce.proofs.Joined.{pair_loaded}
 use Rattle.deep_reduce.proofs.Settled.{IsPairJoined, joint_less}

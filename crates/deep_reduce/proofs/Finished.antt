@@ -1,10 +1,9 @@
 -- A tree after a rewriting, whose powers or whose exponent were reduced.
 use Rattle.std.proofs.Common.{◌≡◌, suc, ◌≤◌, true, false, refl, sym, ap, subst, arith}
-use Rattle.deep_reduce.proofs.Shared.{nest, nest_of, weight, load_of_factors, is_reduced, are_reduced, Tree, num, symbol, undef, add, mult, power, root, neg, sub, div, Trees, none, more, count, is_mult, IsReducedProduct, IsReducedPower, nest_of_rewritten, weight_of_bases, weight_below, IsTransparent, AreTransparent, IsUnfinished, Finishes, IsMultiplied, IsLifted, AreReducedPowers, IsProductOfPowers, base_in, exponent_in, Rewrites, Rewrites-refl, rewrites_of, reduces_after, children_of}
+use Rattle.deep_reduce.proofs.Shared.{nest, nest_of, weight, load_of_factors, is_reduced, are_reduced, Tree, mult, power, Trees, none, more, count, is_mult, IsReducedProduct, IsReducedPower, nest_of_rewritten, weight_of_bases, weight_below, IsTransparent, AreTransparent, IsUnfinished, Finishes, IsMultiplied, IsLifted, AreReducedPowers, IsProductOfPowers, base_in, exponent_in, Rewrites, Rewrites-refl, rewrites_of, reduces_after, children_of, load_product}
 use Rattle.deep_reduce.proofs.HeldPowers.{product_holds, power_holds}
-use Rattle.deep_reduce.proofs.Heavy.{heavy, factor_load}
-use Rattle.deep_reduce.proofs.Nests.{over_power, product_load}
-use Rattle.deep_reduce.proofs.Pairs.{factors_rewritten}
+use Rattle.deep_reduce.proofs.Heavy.{heavy, factor_load, over_power}
+use Rattle.deep_reduce.proofs.Joined.{factors_rewritten}
 use Rattle.deep_reduce.proofs.Rewritten.{product_keeps, power_keeps}
 use Rattle.deep_reduce.proofs.Settled.{exponent_rewritten}
 
@@ -20,8 +19,6 @@ pub record AreLess (ts us : Trees) : Type 0 where
 
 pub powers_less : (ts us : Trees) → AreTransparent ts → AreReducedPowers ts us → AreLess ts us
 powers_less none none t r = record { count-is = refl; reduced = refl; rewrites = Rewrites-refl (mult none); nests = omega arith; loads = omega arith }
-powers_less none (more u us) t r = absurd r
-powers_less (more t ts) none h r = absurd r
 powers_less (more t ts) (more u us) h r =
     let rest = powers_less ts us h.1 r.1 in
     let nest-is : nest t ≡ nest (power (base_in t) (exponent_in t)) = ap nest h.0.is in
@@ -32,6 +29,7 @@ powers_less (more t ts) (more u us) h r =
       nests = omega (arith, r.0.nest, nest-is, rest.nests);
       loads = omega (arith, factor_load u (weight (base_in t)) (heavy (base_in t) h.0.base_reduced) (r.0.load h.0.transparent), rest.loads);
     }
+powers_less ts us t r = absurd r
 
 pub product_of_powers : (t v r : Tree) → is_mult t ≡ true → IsUnfinished t → IsProductOfPowers (children_of t) v → IsReducedProduct (children_of v) r → Finishes t r
 product_of_powers (mult ts) v r m w p a =
@@ -40,7 +38,7 @@ product_of_powers (mult ts) v r m w p a =
     record {
       reduces = reduces_after l.rewrites b.reduces;
       nest = omega (arith, b.nest, l.nests);
-      load = omega (arith, b.load, product_load p.factors, l.loads);
+      load = omega (arith, b.load, load_product p.factors, l.loads);
       room = λ c e k. product_keeps (mult ts) v r c e m (omega (arith, ap (λ (x : Tree). count (children_of x)) p.is, l.count-is, w.1)) p a k;
       held = λ c e n k q. product_holds (mult ts) v r c e n m p a k q;
     }
@@ -97,15 +95,7 @@ same_ready b e v n w m = subst (IsReadyPower (power b e)) (sym m) (record {
 
 ready_of : (b e v : Tree) → IsUnfinished (power b e) → IsLifted (power b e) v → IsReadyPower (power b e) v
 ready_of b (mult ts) v w l = multiplied_ready b ts v w l
-ready_of b (num q) v w l = same_ready b (num q) v (omega arith) w l
-ready_of b (symbol x) v w l = same_ready b (symbol x) v (omega arith) w l
-ready_of b undef v w l = same_ready b undef v (omega arith) w l
-ready_of b (add ts) v w l = same_ready b (add ts) v (omega arith) w l
-ready_of b (power c f) v w l = same_ready b (power c f) v (omega arith) w l
-ready_of b (root a) v w l = same_ready b (root a) v (omega arith) w l
-ready_of b (neg a) v w l = same_ready b (neg a) v (omega arith) w l
-ready_of b (sub a c) v w l = same_ready b (sub a c) v (omega arith) w l
-ready_of b (div a c) v w l = same_ready b (div a c) v (omega arith) w l
+ready_of b t v w l = same_ready b t v (omega arith) w l
 
 pub ready_power : (t v : Tree) → t ≡ power (base_in t) (exponent_in t) → IsUnfinished t → IsLifted t v → IsReadyPower t v
 ready_power (power b e) v m w l = ready_of b e v w l

@@ -1,17 +1,18 @@
 -- Powers whose exponent is half of an odd whole number, from the root of the base and a power of it.
-use Rattle.std.proofs.Common.{◌≡◌, ℕ, suc, List, ◌+◌, ◌≤◌, ◌⊎◌, inl, inr, zero, ℤ, pos, negsuc, Bool, true, false, ◌&&◌, ◌||◌, ◌==◌, not, if◌then◌else◌, Some, None, refl, sym, ap, ◌∙◌, subst, arith}
-use Rattle.std.specs.Prelude.{◌≤ℤ◌, nat_le}
-use Rattle.deep_reduce.proofs.Shared.{and_parts, eqb-true, false_from_ne_true, ints, half_is_odd, number_words, number_test, keeps, kept, reduces_after, is_number, IsNumber, classes, is_half_num, is_reduced, Rewrites, nest, weight, Fraction, whole_fraction, zero_fraction, is_zero_fraction, int_is_negative, int_is_even, Tree, num, undef, power, root, names, is_undef, is_num, is_root, IsHeldAsRootPower, IsFactorHeld, IsHeldAsPowerOf, has_no_half_power, lacks_power, is_number_power, IsReducedPower, parts_reduced, IsRooted, SpansTree, is_zero, numerator, base_in, exponent_in, has_no_power, has_number_power, IsPowerAnswer, power_of_root, rewritten, transparent_whole, root_once, undef_base_kept, by_half, one_is_not_two, whole_no_half, number_weight, whole_is, argument_of, has_no_root, IsRootAnswer}
+use Rattle.std.proofs.Common.{◌≡◌, ℕ, suc, List, ◌+◌, ◌≤◌, ◌⊎◌, inl, inr, zero, ℤ, pos, negsuc, Bool, true, false, ◌&&◌, ◌||◌, ◌==◌, not, if◌then◌else◌, Some, None, refl, sym, ap, ◌∙◌, subst, arith, ◌≤ℤ◌, ◌*◌, ◌^◌, ◌<◌, length, Err, nat_le}
+use Rattle.deep_reduce.proofs.Shared.{and_parts, eqb-true, false_from_ne_true, ints, half_is_odd, number_words, number_test, keeps, kept, reduces_after, is_number, IsNumber, is_half_num, is_reduced, Rewrites, nest, weight, Fraction, whole_fraction, zero_fraction, is_zero_fraction, int_is_negative, int_is_even, Tree, num, undef, power, root, names, is_undef, is_num, is_root, IsHeldAsRootPower, IsFactorHeld, IsHeldAsPowerOf, has_no_half_power, lacks_power, is_number_power, IsReducedPower, parts_reduced, IsRooted, SpansTree, is_zero, numerator, base_in, exponent_in, has_no_power, has_number_power, IsPowerAnswer, power_of_root, rewritten, transparent_whole, root_once, undef_base_kept, by_half, one_is_not_two, whole_no_half, number_weight, whole_is, argument_of, has_no_root, IsRootAnswer, and_from, or_cases, or_left, or_right, or_parts, and_right, not_from_false, cases_Bool, pow_pos, is_whole_num, reduced_words, counted, num_bytes, tree_bytes, size, SpansRootOf, LacksBelow, full_as, LacksRoot, LacksStep, IsFull, NumberFault, power_room, scaled, and_left, classes}
+use Rattle.deep_reduce.proofs.Clashes.{contrary, or_other, undef_words, and_other}
 use Rattle.deep_reduce.proofs.HeldRoots.{half_held, root_answer_held}
-use Rattle.deep_reduce.proofs.EasyNodes.{and_true, undef_words, whole_power_number, whole_power_defined, zero_power}
+use Rattle.deep_reduce.proofs.EasyNodes.{whole_power_number, whole_power_defined, zero_power}
 use Rattle.deep_reduce.proofs.NodeRewrites.{both}
-use Rattle.deep_reduce.proofs.Nests.{to_number}
 use Rattle.deep_reduce.proofs.Opened.{rewritten_written}
 use Rattle.deep_reduce.proofs.Calm.{calm_no_half}
-use Rattle.deep_reduce.proofs.PowerRooms.{half_room}
+use Rattle.deep_reduce.proofs.PowerRooms.{half_room, root_room}
 use Rattle.deep_reduce.proofs.RootValues.{of_root}
-use Rattle.deep_reduce.proofs.Heavy.{some_weight}
+use Rattle.deep_reduce.proofs.Heavy.{some_weight, to_number}
+use Rattle.deep_reduce.proofs.Lacking.{lacks_as}
 use Rattle.calc_algebra.proofs.MeaningRewrites as rewrites
+use Rattle.tree_handles.specs.declared.fault.NumberFault.TheVariants as fault
 
 -- ---- the exponents
 
@@ -33,35 +34,16 @@ module _ (q : Fraction) (h : (q.den == 2) ≡ true) where
 
   -- no whole power
   no_at_most : (b : Tree) → is_undef b ≡ false → has_no_power b (num q) ≡ false
-  no_at_most b u = rw (u, not_whole) (none (is_zero b))
-    where
-      none : (x : Bool) → (x && false) ≡ false
-      none true = refl
-      none false = refl
+  no_at_most b u = rw (u, not_whole) (and_right (is_zero b) false refl)
 
   no_number : (b : Tree) → has_number_power b (num q) ≡ false
-  no_number b = rw not_whole (none (is_number b) (not (int_is_negative q.num) || nat_le (classes b) 2))
-    where
-      none : (x y : Bool) → (x && false && y) ≡ false
-      none true y = refl
-      none false y = refl
+  no_number b = rw not_whole (and_left (is_number b && false) (not (int_is_negative q.num) || nat_le (classes b) 2) (and_right (is_number b) false refl))
 
 negative_low : (z : ℤ) → int_is_negative z ≡ true → z ≤ℤ pos 0
 negative_low (pos n) h = cc
 negative_low (negsuc n) h = omega (arith, ints)
 
 -- ---- the answer
-
-or_split : (a b : Bool) → (a || b) ≡ true → (a ≡ true) ⊎ (b ≡ true)
-or_split true b e = inl refl
-or_split false b e = inr e
-
-or_fails : (a b : Bool) → (a || b) ≡ false → (a ≡ false) × (b ≡ false)
-or_fails true b e = cc
-or_fails false b e = (refl, e)
-
-contrary : {A : Type 0} {b : Bool} → b ≡ true → b ≡ false → A
-contrary e f = absurd cc
 
 undef_root : (r e u : Tree) → is_undef r ≡ true → IsPowerAnswer r e u → u ≡ undef
 undef_root r e u h a = undef_words u (a.undefined ∙ rw h refl)
@@ -74,7 +56,7 @@ number_root a r h n k = number_words r (h.number n k)
 
 module _ (p q : Fraction) (r u : Tree) (h : (q.den == 2) ≡ true) (known : IsRootAnswer (num p) r) (a : IsPowerAnswer r (num (whole_fraction q.num)) u) where
   undefined_sides : (int_is_negative p.num || is_zero_fraction p && int_is_negative q.num) ≡ true → u ≡ undef
-  undefined_sides e = by (int_is_negative p.num) refl (or_split (int_is_negative p.num) (is_zero_fraction p && int_is_negative q.num) e)
+  undefined_sides e = by (int_is_negative p.num) refl (or_cases (int_is_negative p.num) (is_zero_fraction p && int_is_negative q.num) e)
     where
       by : (n : Bool) → int_is_negative p.num ≡ n → (int_is_negative p.num ≡ true) ⊎ ((is_zero_fraction p && int_is_negative q.num) ≡ true) → u ≡ undef
       by true n x = undef_root r (num (whole_fraction q.num)) u (known.undefined ∙ n) a
@@ -86,12 +68,12 @@ module _ (p q : Fraction) (r u : Tree) (h : (q.den == 2) ≡ true) (known : IsRo
 
   number_sides : (int_is_negative p.num || is_zero_fraction p && int_is_negative q.num) ≡ false → is_number u ≡ true
   number_sides e =
-      let (n, z) = or_fails (int_is_negative p.num) (is_zero_fraction p && int_is_negative q.num) e in
+      let (n, z) = or_parts (int_is_negative p.num) (is_zero_fraction p && int_is_negative q.num) e in
       let number = number_root (num p) r known refl n in
       let known_root = of_root p r n known number in
       let is : is_number r ≡ true = number_test r number in
       a.number (whole_power_number r q.num is (λ k x. known_root.few))
-      (whole_power_defined r q.num is (λ l x. contrary (and_true (is_zero_fraction p) (int_is_negative q.num) (known_root.zero_only x) (below_zero q h l)) z))
+      (whole_power_defined r q.num is (λ l x. contrary (and_from (is_zero_fraction p) (int_is_negative q.num) (known_root.zero_only x) (below_zero q h l)) z))
 
 -- a power of a root is heavier by one at most
 root_weight : (b r : Tree) → IsRootAnswer b r → weight r ≤ 1 + weight b
@@ -116,30 +98,17 @@ rooted b r e h = record {
 }
 
 half_undefined : (b r u : Tree) (q : Fraction) → (q.den == 2) ≡ true → is_undef b ≡ false → IsRootAnswer b r → IsPowerAnswer r (num (whole_fraction q.num)) u → lacks_power b (num q) ≡ true → u ≡ undef
-half_undefined b r u q h d k a l = by b k (and_second_of (has_no_power b (num q)) (has_no_half_power b (num q)) l (no_at_most q h b d))
+half_undefined b r u q h d k a l = by b k (or_other (has_no_power b (num q)) (has_no_half_power b (num q)) l (no_at_most q h b d))
   where
-    and_second_of : (x y : Bool) → (x || y) ≡ true → x ≡ false → y ≡ true
-    and_second_of true y e f = cc
-    and_second_of false y e f = e
-
     by : (b : Tree) → IsRootAnswer b r → has_no_half_power b (num q) ≡ true → u ≡ undef
     by (num p) k e = undefined_sides p q r u h k a (and_parts (q.den == 2) _ e).1
     by b k e = cc
 
 half_number : (b r u : Tree) (q : Fraction) → (q.den == 2) ≡ true → IsRootAnswer b r → IsPowerAnswer r (num (whole_fraction q.num)) u → is_number_power b (num q) ≡ true → lacks_power b (num q) ≡ false → is_number u ≡ true
-half_number b r u q h k a n l = by b k (rational (has_number_power b (num q)) (is_num b) (q.den == 2) n (no_number q h b)) (or_fails (has_no_power b (num q)) (has_no_half_power b (num q)) l).1
+half_number b r u q h k a n l = by b k (and_parts (is_num b) (q.den == 2) (or_other (has_number_power b (num q)) (is_num b && (q.den == 2)) n (no_number q h b))).0 (or_parts (has_no_power b (num q)) (has_no_half_power b (num q)) l).1
   where
-    rational : (x y z : Bool) → (x || y && z) ≡ true → x ≡ false → y ≡ true
-    rational true y z e f = cc
-    rational false true z e f = refl
-    rational false false z e f = cc
-
     by : (b : Tree) → IsRootAnswer b r → is_num b ≡ true → has_no_half_power b (num q) ≡ false → is_number u ≡ true
-    by (num p) k m e = number_sides p q r u h k a (sides (q.den == 2) _ e h)
-      where
-        sides : (x y : Bool) → (x && y) ≡ false → x ≡ true → y ≡ false
-        sides true y e f = e
-        sides false y e f = cc
+    by (num p) k m e = number_sides p q r u h k a (and_other (q.den == 2) _ e h)
     by b k m e = cc
 
 nest_to_number : (b : Tree) (q : Fraction) → nest (power b (num q)) ≡ nest b
@@ -148,24 +117,10 @@ nest_to_number b q = to_number b (num q) (number_test (num q) tt)
 root_kinds : (b r : Tree) → IsRootAnswer b r → (is_undef r || is_number r || is_root r) ≡ true
 root_kinds b r h = by (has_no_root b) (is_num b) refl refl
   where
-    first : (x y z : Bool) → x ≡ true → (x || y || z) ≡ true
-    first true y z e = refl
-    first false y z e = cc
-
-    second : (x y z : Bool) → y ≡ true → (x || y || z) ≡ true
-    second true y z e = refl
-    second false true z e = refl
-    second false false z e = cc
-
-    third : (x y : Bool) → (x || y || true) ≡ true
-    third true y = refl
-    third false true = refl
-    third false false = refl
-
     by : (x n : Bool) → has_no_root b ≡ x → is_num b ≡ n → (is_undef r || is_number r || is_root r) ≡ true
-    by true n e f = first (is_undef r) (is_number r) (is_root r) (h.undefined ∙ e)
-    by false true e f = second (is_undef r) (is_number r) (is_root r) (h.number f e)
-    by false false e f = ap (λ (t : Tree). is_undef t || is_number t || is_root t) (h.kept f e) ∙ third (is_undef (root b)) (is_number (root b))
+    by true n e f = or_left (is_undef r || is_number r) (is_root r) (or_left (is_undef r) (is_number r) (h.undefined ∙ e))
+    by false true e f = or_left (is_undef r || is_number r) (is_root r) (or_right (is_undef r) (is_number r) (h.number f e))
+    by false false e f = ap (λ (t : Tree). is_undef t || is_number t || is_root t) (h.kept f e) ∙ or_right (is_undef (root b) || is_number (root b)) true refl
 
 -- the power of the reduced root is that of the base
 pub half_finished : (b e r u : Tree) → is_half_num e ≡ true → is_undef b ≡ false → Rewrites (power b e) (power_of_root b e) → IsRootAnswer b r → ((gs : List ℕ) → SpansTree gs (root b) → SpansTree gs r) → IsPowerAnswer r (num (whole_fraction (numerator e))) u
@@ -177,17 +132,12 @@ half_finished b (num q) r u h d w k s a x = record {
   written = λ l. rewritten_written b (num q) (power_of_root b (num q)) u (by_half b (num q) h d);
   nest = omega (arith, a.nest_bound, nest_to_number r (whole_fraction q.num), k.nest, nest_to_number b q);
   opaque_load = omega (arith, a.load_bound (transparent_whole (num (whole_fraction q.num)) (whole_is q.num)), root_weight b r k);
-  load = λ o. contrary (opaque (is_number (num q)) (q.den == 1) (number_test (num q) tt) (not_whole q h)) o;
+  load = λ o. contrary (and_from (is_number (num q)) (not (q.den == 1)) (number_test (num q) tt) (not_from_false (q.den == 1) (not_whole q h))) o;
   room = record { counts = λ ns c. contrary h (calm_no_half c); calm = λ ns c. contrary h (calm_no_half c); spanned = λ gs ns c s. contrary h (calm_no_half c) };
   root_room = λ o. half_room b r u q.num k s (root_once r (num q) h (root_kinds b r k)) a;
   held = λ n e. contrary (ap is_half_num (sym e) ∙ h) (whole_no_half (num (whole_fraction n)) (whole_is n));
   root_held = λ o. x;
 }
-  where
-    opaque : (x y : Bool) → x ≡ true → y ≡ false → (x && not y) ≡ true
-    opaque true true e f = cc
-    opaque true false e f = refl
-    opaque false y e f = cc
 half_finished b e r u h d w k s a x = absurd cc
 
 -- ---- step by step
@@ -198,17 +148,13 @@ pub record IsHalfStep (b e u : Tree) : Type 0 where
   pub is : u ≡ power_of_root b e
 
 pub half_step : (b e u : Tree) → is_half_num e ≡ true → rewritten b e ≡ Some u → IsHalfStep b e u
-half_step b e u h r = by (is_undef b) refl
+half_step b e u h r = elim (cases_Bool (is_undef b)) [ inl d ↦ absurd (none (sym (undef_base_kept b e d) ∙ r)) | inr d ↦ record { defined = d; is = sym (some (sym (by_half b e h d) ∙ r)) } ]
   where
     some : {t : Tree} → Some t ≡ Some u → t ≡ u
     some k = cc
 
     none : None ≡ Some u → ⊥
     none k = cc
-
-    by : (x : Bool) → is_undef b ≡ x → IsHalfStep b e u
-    by true d = absurd (none (sym (undef_base_kept b e d) ∙ r))
-    by false d = record { defined = d; is = sym (some (sym (by_half b e h d) ∙ r)) }
 
 -- the power of the root, before and after the root is reduced
 pub record IsHalfReady (u : Tree) : Type 0 where
@@ -256,3 +202,39 @@ half_after b e u v r h s w k a m p =
     let last = subst (λ (x : Tree). IsPowerAnswer (base_in x) (exponent_in x) r) t.is a in
     half_finished b e t.root r h s.defined (subst (Rewrites (power b e)) s.is w) t.answer t.spanned last
     (half_held b e t.root r m t.answer t.measured last (subst (λ (x : Tree). IsHeldAsPowerOf (numerator e) (base_in x) r) t.is p))
+
+-- ---- bytes
+
+-- the root of the base finds no bytes
+pub root_lacks : (t : Tree) (free old : ℕ) (f : NumberFault) → (IsFull {A = ℕ} (Err f) → free < 96) → free ≡ old → LacksBelow (96 + size t) (old + size t) f
+root_lacks t free old (fault.Full full) h e = omega (arith, h tt, e)
+root_lacks t free old (fault.Overflow o) h e = tt
+
+base_bytes : (gs : List ℕ) (b : Tree) → is_reduced b ≡ true → SpansRootOf gs b → size b ≤ 204 * counted b * 2 ^ length gs
+base_bytes gs (num q) r s = omega (arith, num_bytes q, pow_pos (length gs))
+base_bytes gs b r s = tree_bytes gs b (reduced_words b r) s
+
+-- the power of the root is small
+rooted_bytes : (gs : List ℕ) (b e : Tree) → is_reduced b ≡ true → SpansRootOf gs b → 96 + size (power_of_root b e) ≤ power_room (1 + counted b) (2 ^ length gs)
+rooted_bytes gs b e r s = omega (arith, base_bytes gs b r s, num_bytes (whole_fraction (numerator e)), pow_pos (length gs))
+
+pub step_finds_none : (gs : List ℕ) (t : Tree) (free : ℕ) (f : NumberFault) → is_reduced (base_in t) ≡ true → SpansRootOf gs (base_in t) → LacksRoot t free f → LacksBelow (power_room (1 + counted (base_in t)) (2 ^ length gs)) (free + size t) f
+step_finds_none gs t free f r s k = full_as f k (λ full l. omega (arith, l, rooted_bytes gs (base_in t) (exponent_in t) r s))
+
+pub base_finds_none : (gs : List ℕ) (b e u : Tree) (free bytes : ℕ) (f : NumberFault) → is_reduced b ≡ true → SpansRootOf gs b → IsHalfStep b e u → free + size u ≡ bytes → LacksBelow (96 + size u) (free + size u) f → LacksBelow (power_room (1 + counted b) (2 ^ length gs)) bytes f
+base_finds_none gs b e u free bytes f r s h m k = lacks_as f k (λ l. omega (arith, l, m, ap size h.is, rooted_bytes gs b e r s))
+
+-- the last step
+pub record IsLastStep (gs : List ℕ) (b v : Tree) : Type 0 where
+  pub spanned : SpansTree gs v
+  pub whole : is_whole_num (exponent_in v) ≡ true
+  pub counts : counted (base_in v) ≤ 1 + counted b
+
+pub last_step : (gs : List ℕ) (b e u v : Tree) → SpansRootOf gs b → IsHalfStep b e u → IsRooted u v → IsLastStep gs b v
+last_step gs b e u v s h k =
+    let t : IsRooted (power_of_root b e) v = subst (λ (x : Tree). IsRooted x v) h.is k in
+    let r = root_room b t.root t.answer t.spanned in
+    subst (IsLastStep gs b) (sym t.is) (record { spanned = (tt, r.spanned gs s, tt); whole = whole_is (numerator e); counts = r.counts })
+
+pub last_finds_none : (gs : List ℕ) (b v : Tree) (free : ℕ) (f : NumberFault) → IsLastStep gs b v → LacksStep gs v free f → LacksBelow (power_room (1 + counted b) (2 ^ length gs)) (free + size v) f
+last_finds_none gs b v free f h k = full_as f k (λ full l. omega (arith, l, scaled (counted (base_in v)) (1 + counted b) (2 ^ length gs) h.counts))

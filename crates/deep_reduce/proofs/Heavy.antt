@@ -1,6 +1,7 @@
--- Reduced trees weigh 2 at least, and so do their bases.
-use Rattle.std.proofs.Common.{◌≡◌, ℕ, suc, ◌+◌, ◌≤◌, inl, inr, Bool, true, false, ◌||◌, if◌then◌else◌, refl, arith}
-use Rattle.deep_reduce.proofs.Shared.{load, weight, weight_of_factors, load_of_factor, has_coefficient, is_number, is_reduced, is_opaque_exponent, base_of, Tree, num, symbol, undef, add, mult, power, root, neg, sub, div, none, more, is_undef, reduced_parts, parts_reduced, load_number}
+-- How much reduced trees weigh at least, and how Numbers and powers nest.
+use Rattle.std.proofs.Common.{◌≡◌, ℕ, suc, ◌+◌, ◌≤◌, inl, inr, Bool, true, false, ◌||◌, if◌then◌else◌, refl, arith, ◌<◌, ◌&&◌, max}
+use Rattle.deep_reduce.proofs.Shared.{load, weight, weight_of_factors, load_of_factor, has_coefficient, is_number, is_reduced, is_opaque_exponent, base_of, Tree, undef, mult, power, root, none, more, is_undef, reduced_parts, parts_reduced, load_number, and_parts, nest, nest_of, load_of_factors, are_numbers, Trees, nest_over}
+use Rattle.calc_measures.proofs.Nests.{nest_number}
 
 some_root : (x : Bool) (w : ℕ) → 1 ≤ (if x then 2 else suc w)
 some_root true w = omega arith
@@ -62,17 +63,63 @@ factor_load u n two h = by (is_number u) (is_undef u) refl refl h
         one : (x : Bool) → (if x then 0 else 2) ≤ n
         one true = omega arith
         one false = two
-    undefined (num q) e = cc
-    undefined (symbol x) e = cc
-    undefined (add ts) e = cc
-    undefined (mult ts) e = cc
-    undefined (power c f) e = cc
-    undefined (root a) e = cc
-    undefined (neg a) e = cc
-    undefined (sub a c) e = cc
-    undefined (div a c) e = cc
+    undefined t e = cc
 
     by : (x y : Bool) → is_number u ≡ x → is_undef u ≡ y → (if x || y then 0 else load_of_factor u) ≤ n → load_of_factor u ≤ n
     by true y p q k = omega (arith, load_number u p)
     by false true p q k = undefined u q
     by false false p q k = k
+
+-- ---- Numbers
+
+pub numbers_nest : (ts : Trees) → are_numbers ts ≡ true → nest_of ts ≡ 0
+numbers_nest none h = refl
+numbers_nest (more t ts) h = let b = and_parts _ _ h in omega (arith, nest_number t b.0, numbers_nest ts b.1)
+
+pub numbers_load : (ts : Trees) → are_numbers ts ≡ true → load_of_factors ts ≡ 0
+numbers_load none h = refl
+numbers_load (more t ts) h = let b = and_parts _ _ h in omega (arith, load_number t b.0, numbers_load ts b.1)
+
+-- ---- powers
+
+pub to_number : (b e : Tree) → is_number e ≡ true → nest (power b e) ≡ nest b
+to_number b e h = rw h refl
+
+pub to_other : (b e : Tree) → is_number e ≡ false → nest (power b e) ≡ max (nest b) (suc (nest e))
+to_other b e h = rw h refl
+
+pub base_nest : (b e : Tree) → nest b ≤ nest (power b e)
+base_nest b e = by (is_number e)
+  where
+    by : (t : Bool) → nest b ≤ (if t then nest b else max (nest b) (suc (nest e)))
+    by true = omega arith
+    by false = omega arith
+
+-- an exponent's nest is below that of the power, or it is a Number's
+exponent_nest : (b e : Tree) → is_number e ≡ false → nest e < nest (power b e)
+exponent_nest b e h = omega (arith, to_other b e h)
+
+pub over_base : (b : Tree) (ts : Trees) → nest b ≤ nest_over b ts
+over_base b none = omega arith
+over_base b (more t ts) = omega (arith, over_base b ts)
+
+-- the exponents nest less, or all of them are Numbers
+pub over_exponents : (b : Tree) (ts : Trees) → are_numbers ts ≡ false → nest_of ts < nest_over b ts
+over_exponents b none h = absurd cc
+over_exponents b (more t ts) h = by (is_number t) (are_numbers ts) refl refl h (over_exponents b ts)
+  where
+    by : (x y : Bool) → is_number t ≡ x → are_numbers ts ≡ y → (x && y) ≡ false → (are_numbers ts ≡ false → nest_of ts < nest_over b ts)
+        → max (nest t) (nest_of ts) < max (nest (power b t)) (nest_over b ts)
+    by true true p q k rest = absurd cc
+    by true false p q k rest = omega (arith, nest_number t p, rest q)
+    by false true p q k rest = omega (arith, exponent_nest b t p, numbers_nest ts q)
+    by false false p q k rest = omega (arith, exponent_nest b t p, rest q)
+
+-- the power of a tree that stands for them
+pub over_power : (b : Tree) (ts : Trees) (e : Tree) → (are_numbers ts ≡ true → is_number e ≡ true) → nest e ≤ nest_of ts → nest (power b e) ≤ nest_over b ts
+over_power b ts e n l = by (is_number e) (are_numbers ts) refl refl
+  where
+    by : (x y : Bool) → is_number e ≡ x → are_numbers ts ≡ y → nest (power b e) ≤ nest_over b ts
+    by true y p q = omega (arith, to_number b e p, over_base b ts)
+    by false true p q = absurd (cc (n q))
+    by false false p q = omega (arith, to_other b e p, over_base b ts, over_exponents b ts q)

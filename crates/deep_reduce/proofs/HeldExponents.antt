@@ -1,15 +1,9 @@
 -- Exponents that count their bases: how often at least, and by how many bits they are held themselves.
-use Rattle.std.proofs.Common.{◌≡◌, ◌≢◌, ℕ, zero, suc, ◌+◌, ◌*◌, ◌^◌, ◌≤◌, inl, inr, List, [], ◌∷◌, max, ℤ, pos, negsuc, Bool, true, false, ◌&&◌, ◌==◌, not, if◌then◌else◌, refl, sym, ap, ◌∙◌, subst, arith}
-use Rattle.std.specs.Prelude.{nat_abs, ◌/◌}
-use Rattle.deep_reduce.proofs.Shared.{and_parts, eqb-true, dvd_refl, Fraction, zero_fraction, one_fraction, whole_fraction, is_zero_fraction, int_is_zero, zero_test, one_test, no_zero, whole_numerator, whole_denominator, Tree, num, undef, symbol, add, mult, root, Trees, none, more, is_add, is_undef, AllParts, AllPartsOf, IsTerm, AreTerms, is_number, is_term, value, terms_of, HasForm, NoneIs, num_one, number_terms, other_terms, surd_of, surd_one, number_test, Parts, AreWholeOver, magnitude_over, mass, root_above, Addend, addend, addend_of, addends, addends_of, power_high, power_low, IsTreeHeld, sum_held, AreWeighted, none_weighted, more_weighted, IsPartHeld, no_factor_held, factor_held, symbol_held, Weighted, weighted, PartsAll, lows, weighted_mass, AreHeld, one_counted, one_counts, whole_of, Counts, counts, multiple, is_counted, are_counted, counts_of, counts_of_all}
+use Rattle.std.proofs.Common.{◌≡◌, ◌≢◌, ℕ, zero, suc, ◌+◌, ◌*◌, ◌^◌, ◌≤◌, inl, inr, List, [], ◌∷◌, max, ℤ, pos, negsuc, Bool, true, false, ◌&&◌, ◌==◌, not, if◌then◌else◌, refl, sym, ap, ◌∙◌, subst, arith, nat_abs, ◌/◌}
+use Rattle.deep_reduce.proofs.Shared.{and_parts, eqb-true, dvd_refl, Fraction, zero_fraction, one_fraction, whole_fraction, is_zero_fraction, int_is_zero, zero_test, one_test, no_zero, whole_numerator, whole_denominator, Tree, num, undef, symbol, add, mult, root, Trees, none, more, is_add, is_undef, AllParts, AllPartsOf, IsTerm, AreTerms, is_number, is_term, value, terms_of, HasForm, NoneIs, num_one, number_terms, other_terms, surd_of, surd_one, Parts, AreWholeOver, magnitude_over, mass, root_above, Addend, addend, addend_of, addends, addends_of, power_high, power_low, IsTreeHeld, sum_held, AreWeighted, none_weighted, more_weighted, IsPartHeld, no_factor_held, factor_held, symbol_held, Weighted, weighted, PartsAll, lows, weighted_mass, AreHeld, one_counted, one_counts, whole_of, Counts, counts, multiple, is_counted, are_counted, counts_of, counts_of_all, term_test}
+use Rattle.deep_reduce.proofs.Clashes.{clash, unclear}
 use Rattle.std.specs.Int.{◌∣◌}
 use Rattle.calc_bits.proofs.RootsAbove.{root_least}
-
-clash : {A : Type 0} → true ≡ false → A
-clash e = absurd cc
-
-unclear : {A : Type 0} → false ≡ true → A
-unclear e = absurd cc
 
 -- an exponent that counts is not Undef
 pub counted_defined : (e : Tree) → is_counted e ≡ true → is_undef e ≡ false
@@ -41,7 +35,6 @@ multiple_of q t f c = by t f.0 (and_parts (q.den == 1) (is_counted t) c).1
     by (mult ts) (inr f) k = clash f.no_product.1.0
     by (add ts) (inl n) k = absurd n
     by (add ts) (inr f) k = clash (sym (ap (λ (b : Bool). not b && true) (one_test q f.front.1)) ∙ f.distributed)
-    by (root a) h k = unclear k
     by t h k = unclear k
 
 -- ---- how often at least
@@ -257,13 +250,6 @@ split_light (more t ts) f n s c = by (λ o. split_light ts f.1 o s.1 (and_parts 
         let o = subst (NoneIs is_number) (ap (λ (x : Bool). if x then other_terms ts else more t ts) e) n in
         split_wider (omega arith)
         (kept_light t ts (2 * ((counts_of t).up + (counts_of t).down)) (2 * ((counts_of_all ts).up + (counts_of_all ts).down)) e (other_light t f.0 o.0 s.0 a) (others_light ts f.1 o.1 s.1 b))
-
-term_test : (t : Tree) → IsTerm t → is_term t ≡ true
-unfolding is_number
-term_test (num q) h = ap (λ (b : Bool). not b) (zero_test q h)
-term_test (root a) h = number_test (root a) h
-term_test (mult ts) h = number_test (mult ts) h
-term_test t h = absurd h
 
 no_sum_term : (t : Tree) → IsTerm t → is_add t ≡ false
 no_sum_term (num q) h = refl

@@ -1,15 +1,13 @@
 -- Reduced trees as factors: what holds a tree holds it as a factor, and the parts of a product are held by bits of their own.
 use Rattle.std.proofs.Common.{length, pos, ◌≡◌, ◌≢◌, ℕ, zero, suc, ◌+◌, ◌-◌, ◌*◌, ◌^◌, ◌≤◌, ◌⊎◌, inl, inr, List, [], ◌∷◌, Bool, true, false, if◌then◌else◌, refl, sym, ap, ◌∙◌, subst, arith}
-use Rattle.deep_reduce.proofs.Shared.{mul-le, pow-le-pow_right, Fraction, zero_fraction, one_fraction, Tree, num, undef, add, mult, power, root, Trees, none, more, count, is_undef, is_mult, AllParts, AllPartsOf, HasTwo, zero_test, whole_denominator, IsNumber, AreTerms, Rises, is_number, is_term, value, terms_of, term_of, Split, split_product, num_one, is_num_one, is_reduced, HasForm, NoneIs, IsProductForm, IsSumForm, number_terms, other_terms, Surd, Term, term, surd_of, surd_one, one_not_zero, number_test, term_words, mass, mass_from, IsHeld, has_coefficient, product_form_of, no_split, reduced_parts, parts_reduced, Leads, in_front, parts_of, HasFactors, product_factors, IsFactorHeld, single_part, part_single, number_as_factor, IsSumHeld, Counts, counts, counts_of, is_counted, Addend, addend, addend_of, addends_of, power_high, power_low, IsTreeHeld, undef_held, AreWeighted, none_weighted, more_weighted, IsPartHeld, no_factor_held, factor_held, IsBaseHeld, symbol_held, tree_held, Weighted, AreHeld, tree_as_sum, factor_is_held, factor_as_tree, addend_left_out, addend_to_front, exponents_within, held_number, one_counted, one_counts, symbol_is_held, root_is_held, wider_held, tree_wider}
+use Rattle.deep_reduce.proofs.Shared.{mul-le, pow-le-pow_right, Fraction, zero_fraction, one_fraction, Tree, num, undef, add, mult, power, root, Trees, none, more, count, is_undef, is_mult, AllParts, AllPartsOf, zero_test, whole_denominator, IsNumber, AreTerms, Rises, is_number, is_term, value, terms_of, term_of, Split, split_product, num_one, is_num_one, is_reduced, HasForm, NoneIs, IsProductForm, IsSumForm, number_terms, other_terms, Surd, Term, term, surd_of, surd_one, one_not_zero, number_test, term_words, mass, mass_from, IsHeld, has_coefficient, product_form_of, no_split, reduced_parts, parts_reduced, Leads, in_front, parts_of, HasFactors, product_factors, IsFactorHeld, single_part, part_single, number_as_factor, IsSumHeld, Counts, counts, counts_of, is_counted, Addend, addend, addend_of, addends_of, power_high, power_low, IsTreeHeld, undef_held, AreWeighted, none_weighted, more_weighted, IsPartHeld, no_factor_held, factor_held, IsBaseHeld, symbol_held, tree_held, Weighted, AreHeld, tree_as_sum, factor_is_held, factor_as_tree, addend_left_out, addend_to_front, exponents_within, held_number, one_counted, one_counts, symbol_is_held, root_is_held, wider_held, tree_wider, parts_defined, cases_Bool}
+use Rattle.deep_reduce.proofs.Joints.{two_terms, power_no_number}
+use Rattle.deep_reduce.proofs.Clashes.{clash, undef_words}
 use Rattle.coefficients.proofs.Lengths.{some_factors}
-use Rattle.deep_reduce.proofs.EasyNodes.{undef_words}
 use Rattle.deep_reduce.proofs.HeldExponents.{some_counts}
 use Rattle.tree_bits.specs.Factors.{as_factor}
 use Rattle.tree_bits.specs.HeldTrees.{exponent_in, root_held}
 use Rattle.tree_bits.proofs.Weighted.{split_off}
-
-clash : {A : Type 0} → true ≡ false → A
-clash e = absurd cc
 
 pub factor_wider : (t : Tree) {h l k n : ℕ} → h ≤ k → l ≤ n → IsFactorHeld t h l → IsFactorHeld t k n
 factor_wider t x y a = record { terms = a.terms; weighted = a.weighted; held = wider_held x y a.held }
@@ -20,10 +18,6 @@ undef_number : is_number undef ≡ false
 unfolding is_number
 undef_number = refl
 
-power_number : (b e : Tree) → is_number (power b e) ≡ false
-unfolding is_number
-power_number b e = refl
-
 -- a high of at least 1 holds Undef
 pub undef_factor : {h l : ℕ} → 1 ≤ h → IsFactorHeld undef h l
 undef_factor {h} {l} o =
@@ -31,10 +25,10 @@ undef_factor {h} {l} o =
     part_single undef undef_number refl (factor_held 1 0 0 0 one_counted (tree_held (omega arith) refl undef_held) no_factor_held (omega (arith, ap (λ (c : Counts). power_high c 1 0) e, o)) (omega (arith, ap (λ (c : Counts). power_low c 1 0) e)))
 
 pub power_factor : (b e : Tree) {h l : ℕ} → IsPartHeld (more (power b e) none) h l → IsFactorHeld (power b e) h l
-power_factor b e a = part_single (power b e) (power_number b e) refl a
+power_factor b e a = part_single (power b e) (power_no_number b e) refl a
 
 pub factor_power : (b e : Tree) {h l : ℕ} → IsFactorHeld (power b e) h l → IsPartHeld (more (power b e) none) h l
-factor_power b e a = single_part (power b e) (power_number b e) refl a
+factor_power b e a = single_part (power b e) (power_no_number b e) refl a
 
 base_high : {b : Tree} {h l : ℕ} → IsBaseHeld b h l → 1 ≤ h
 base_high (symbol_held x) = x
@@ -47,11 +41,10 @@ base_tree (root_held {a} {h} {l} o n t) = root_is_held a h l n o t
 base_tree (tree_held o s t) = t
 
 pub base_factor : (b : Tree) {h l : ℕ} → IsBaseHeld b h l → IsFactorHeld b h l
-base_factor b {h} {l} a = by (is_undef b) refl
-  where
-    by : (x : Bool) → is_undef b ≡ x → IsFactorHeld b h l
-    by true e = subst (λ (t : Tree). IsFactorHeld t h l) (sym (undef_words b e)) (undef_factor (base_high a))
-    by false e = factor_is_held b h l e (base_high a) (base_tree a)
+base_factor b {h} {l} a = elim (cases_Bool (is_undef b)) [
+  | inl e ↦ subst (λ (t : Tree). IsFactorHeld t h l) (sym (undef_words b e)) (undef_factor (base_high a))
+  | inr e ↦ factor_is_held b h l e (base_high a) (base_tree a)
+]
 
 -- ---- how high at least
 
@@ -166,11 +159,6 @@ all_terms (more t ts) e = by (all_terms ts) (is_term t) refl e
     by go true h k = let r = go k in ((term_words t h, r.0), ap (λ (b : Bool). if b then more t (number_terms ts) else none) h ∙ ap (more t) r.1)
     by go false h k = absurd cc
 
-long : (ts : Trees) → HasTwo ts → 2 ≤ length (terms_of ts)
-long (more t (more u ts)) h = omega arith
-long none h = absurd h
-long (more t none) h = absurd h
-
 sum_high : (ts : Trees) {h l : ℕ} → AllParts HasForm (add ts) → is_number (add ts) ≡ false → IsTreeHeld (add ts) h l → 1 ≤ h
 sum_high ts {h} {l} f n a = by (other_terms ts) refl (others_formed ts f.1) m.no_number (tree_as_sum refl a)
   where
@@ -178,28 +166,18 @@ sum_high ts {h} {l} f n a = by (other_terms ts) refl (others_formed ts f.1) m.no
     m = elim f.0 [ inl k ↦ clash (sym (number_test (add ts) k) ∙ n) | inr k ↦ k ]
 
     by : (us : Trees) → other_terms ts ≡ us → AllPartsOf HasForm us → NoneIs is_number us → IsSumHeld (addend (terms_of (number_terms ts)) none ∷ addends_of us) h l → 1 ≤ h
-    by none e k o b = let r = all_terms ts e in clash (sym (number_test (add ts) (long ts m.two, r.0, subst (λ (us : Trees). Rises (terms_of us)) r.1 m.number)) ∙ n)
+    by none e k o b = let r = all_terms ts e in clash (sym (number_test (add ts) (two_terms ts m.two, r.0, subst (λ (us : Trees). Rises (terms_of us)) r.1 m.number)) ∙ n)
     by (more u us) e k o b = term_high u k.0 o.0 (first_alone (addend_of u) (addends_of us) (addend_left_out (addend (terms_of (number_terms ts)) none) (addends_of (more u us)) h l b))
-
-formed_defined : (t : Tree) → AllParts HasForm t → is_undef t ≡ false
-unfolding is_number
-formed_defined undef (inl n) = absurd n
-formed_defined undef (inr n) = absurd n
-formed_defined t f = refl
 
 pub tree_high : (t : Tree) {h l : ℕ} → AllParts HasForm t → is_number t ≡ false → IsTreeHeld t h l → 1 ≤ h
 tree_high (add ts) f n a = sum_high ts f n a
-tree_high t {h} {l} f n a = term_high t f n (subst (λ (xs : List Addend). IsSumHeld xs h l) (one_addend t n) (tree_as_sum (formed_defined t f) a))
+tree_high t {h} {l} f n a = term_high t f n (subst (λ (xs : List Addend). IsSumHeld xs h l) (one_addend t n) (tree_as_sum (parts_defined t f) a))
   where
     one_addend : (t : Tree) → is_number t ≡ false → (if is_number t then addend (value t) none ∷ [] else addend_of t ∷ []) ≡ addend_of t ∷ []
     one_addend t n = ap (λ (b : Bool). if b then addend (value t) none ∷ [] else addend_of t ∷ []) n
 
 pub tree_factor : (t : Tree) {h l : ℕ} → is_reduced t ≡ true → is_undef t ≡ false → IsTreeHeld t h l → IsFactorHeld t h l
-tree_factor t {h} {l} r d a = by (is_number t) refl
-  where
-    by : (b : Bool) → is_number t ≡ b → IsFactorHeld t h l
-    by true n = number_as_factor t h l n (held_number n a)
-    by false n = factor_is_held t h l d (tree_high t (reduced_parts t r d) n a) a
+tree_factor t {h} {l} r d a = elim (cases_Bool (is_number t)) [ inl n ↦ number_as_factor t h l n (held_number n a) | inr n ↦ factor_is_held t h l d (tree_high t (reduced_parts t r d) n a) a ]
 
 pub factor_tree : (t : Tree) {h l : ℕ} → IsFactorHeld t h l → IsTreeHeld t h l
 factor_tree t {h} {l} a = factor_as_tree t h l a

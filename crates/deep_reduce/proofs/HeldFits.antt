@@ -1,22 +1,18 @@
 -- A call inside of another one fits where few bits hold what the outer one was handed.
-use Rattle.std.proofs.Common.{◌≡◌, ℕ, zero, suc, ◌+◌, ◌*◌, ◌≤◌, inl, ℤ, pos, negsuc, Bool, true, false, ◌||◌, not, Some, Result, Ok, Err, refl, sym, ap, ◌∙◌, subst, arith}
-use Rattle.std.specs.Prelude.{IfErr, IsOk, nat_abs}
-use Rattle.deep_reduce.proofs.Shared.{and_parts, mul-le, is_reduced, is_half_num, is_whole_num, whole_fraction, is_one_fraction, int_is_zero, whole_is, whole_numerator, Tree, num, power, root, Trees, none, more, append, is_mult, is_undef, has_undef, reduced_parts, parts_reduced, HasFewBits, IsJoinedFrom, IsRewritten, AreReducedPowers, IsLifted, IsMultiplied, IsProductOfPowers, IsSummed, exponent_of, joint, base_of, IsSumHeld, addends_of_each, HasFewBitsRaised, base_in, exponent_in, half, goes_inside, is_zero_or_one, parts_of, raised, rewritten, rewritten_whole, as_whole, whole_no_half, chosen, IsFactorHeld, AreFactorsHeld, none_held, Counts, counts, multiple, counts_of, is_counted, raised_high, raised_low, exponents_within, nth, children_of, OfOverflow, NumberFault}
+use Rattle.std.proofs.Common.{◌≡◌, ℕ, zero, suc, ◌+◌, ◌*◌, ◌≤◌, inl, ℤ, pos, negsuc, Bool, true, false, ◌||◌, Some, Result, Ok, Err, refl, sym, ap, ◌∙◌, subst, arith, IfErr, IsOk, nat_abs}
+use Rattle.deep_reduce.proofs.Shared.{and_parts, mul-le, is_reduced, is_half_num, is_whole_num, whole_fraction, is_one_fraction, int_is_zero, whole_is, whole_numerator, Tree, num, power, root, Trees, none, more, append, is_mult, is_undef, has_undef, reduced_parts, parts_reduced, HasFewBits, IsJoinedFrom, IsRewritten, AreReducedPowers, IsLifted, IsProductOfPowers, IsSummed, exponent_of, joint, base_of, IsSumHeld, addends_of_each, HasFewBitsRaised, base_in, exponent_in, half, goes_inside, is_zero_or_one, parts_of, raised, rewritten_whole, as_whole, whole_no_half, chosen, IsFactorHeld, AreFactorsHeld, none_held, Counts, counts, multiple, counts_of, is_counted, raised_high, raised_low, exponents_within, nth, children_of, OfOverflow, NumberFault, reduced_nth, exponent_is_reduced, inside_other, mult}
+use Rattle.deep_reduce.proofs.Clashes.{clash}
 use Rattle.deep_reduce.proofs.Heavy.{exponent_reduced}
 use Rattle.deep_reduce.proofs.HeldExponents.{counted_defined, some_counts, exponent_is_held, multiple_counts}
 use Rattle.deep_reduce.proofs.HeldFactors.{EachHeld, more_each, parts_each, tree_factor, factor_power, no_zero_exponent}
-use Rattle.deep_reduce.proofs.HeldJoints.{reduced_at, pair_exponents_held, pair_power_held}
+use Rattle.deep_reduce.proofs.HeldJoints.{pair_exponents_held, pair_power_held}
 use Rattle.deep_reduce.proofs.JointBytes.{joining}
-use Rattle.deep_reduce.proofs.Settled.{exponent_is_reduced}
 use Rattle.deep_reduce.proofs.HeldParts.{few_most, few_magnitude, part_fits}
 use Rattle.deep_reduce.proofs.HeldPowers.{half_of, half_bits, root_argument, power_raised, factor_counted, powers_held}
 use Rattle.deep_reduce.proofs.PowerBytes.{split_at}
-use Rattle.deep_reduce.proofs.Rewritten.{IsByWay, of_root, of_power, of_product, by_way}
+use Rattle.deep_reduce.proofs.Rewritten.{by_product, by_power}
 use Rattle.product_reduce.specs.Bits.{factor_held}
 use Rattle.tree_handles.specs.declared.fault.NumberFault.TheVariants as fault
-
-clash : {A : Type 0} → true ≡ false → A
-clash e = absurd cc
 
 -- ---- products
 
@@ -36,15 +32,10 @@ product_fits us r fits defined = by (has_undef us) refl r fits defined
 -- the product of reduced powers
 pub powers_ready : (b e t v : Tree) (n : ℤ) (h l : ℕ) → is_mult t ≡ true → IsRewritten b e t → IsProductOfPowers (children_of t) v → e ≡ num (whole_fraction n) → IsFactorHeld b h l → has_undef (children_of v) ≡ false
     → AreFactorsHeld (children_of v) (raised_high n h l) (raised_low n h l)
-powers_ready b e t v n h l m w p q f d = by (by_way b e t w)
-  where
-    by : IsByWay b e t → AreFactorsHeld (children_of v) (raised_high n h l) (raised_low n h l)
-    by (of_root x z i j k) = absurd (cc (sym m ∙ ap is_mult j))
-    by (of_power c g i j) = absurd (cc (sym m ∙ ap is_mult j))
-    by (of_product fs i j k) =
-        let a = subst (λ (x : Tree). AreReducedPowers (children_of x) p.factors) j p.are in
-        subst (λ (x : Tree). AreFactorsHeld (children_of x) (raised_high n h l) (raised_low n h l)) (sym p.is)
-        (powers_held n (parts_of fs) p.factors (sym (ap (λ (x : Tree). has_undef (children_of x)) p.is) ∙ d) (subst (λ (x : Tree). AreReducedPowers (raised (parts_of fs) x) p.factors) q a) (parts_each fs (sym (ap is_reduced i) ∙ w.base) k (subst (λ (x : Tree). IsFactorHeld x h l) i f)))
+powers_ready b e t v n h l m w p q f d =
+    by_product (λ (x y : Tree). AreReducedPowers (children_of y) p.factors → IsFactorHeld x h l → AreFactorsHeld (children_of v) (raised_high n h l) (raised_low n h l)) b e t m w
+    (λ fs r k a f. subst (λ (x : Tree). AreFactorsHeld (children_of x) (raised_high n h l) (raised_low n h l)) (sym p.is)
+    (powers_held n (parts_of fs) p.factors (sym (ap (λ (x : Tree). has_undef (children_of x)) p.is) ∙ d) (subst (λ (x : Tree). AreReducedPowers (raised (parts_of fs) x) p.factors) q a) (parts_each fs r k f))) p.are f
 
 -- one of the powers
 record IsEachAt (t : Tree) (h l : ℕ) : Type 0 where
@@ -66,45 +57,30 @@ pub record IsPartFitting (x : Tree) (n : ℤ) : Type 0 where
   pub few : HasFewBitsRaised n p q
 
 pub part_ready : (b e t x : Tree) (done rest : Trees) (n : ℤ) (h l : ℕ) → is_mult t ≡ true → IsRewritten b e t → children_of t ≡ append done (more x rest) → e ≡ num (whole_fraction n) → IsFactorHeld b h l → HasFewBitsRaised n h l → IsPartFitting x n
-part_ready b e t x done rest n h l m w s i f few = by (by_way b e t w)
-  where
-    by : IsByWay b e t → IsPartFitting x n
-    by (of_root d z u j k) = absurd (cc (sym m ∙ ap is_mult j))
-    by (of_power d g u j) = absurd (cc (sym m ∙ ap is_mult j))
-    by (of_product fs u j k) =
-        let q = split_at (parts_of fs) e done x rest (sym (ap children_of j) ∙ s) in
-        let each = parts_each fs (sym (ap is_reduced u) ∙ w.base) k (subst (λ (y : Tree). IsFactorHeld y h l) u f) in
-        let a = each_at q.first q.part q.last (subst (λ (ys : Trees). EachHeld ys h l) q.split each) in
-        record {
-          p = a.p;
-          q = a.q;
-          exponent = ap exponent_in q.is ∙ i;
-          held = subst (λ (y : Tree). IsFactorHeld (base_in y) a.p a.q) (sym q.is) a.held;
-          few = few_most n a.high a.low few;
-        }
+part_ready b e t x done rest n h l m w s i f few =
+    by_product (λ (y u : Tree). children_of u ≡ append done (more x rest) → IsFactorHeld y h l → IsPartFitting x n) b e t m w
+    (λ fs r k s f.
+    let q = split_at (parts_of fs) e done x rest s in
+    let a = each_at q.first q.part q.last (subst (λ (ys : Trees). EachHeld ys h l) q.split (parts_each fs r k f)) in
+    record { p = a.p; q = a.q; exponent = ap exponent_in q.is ∙ i; held = subst (λ (y : Tree). IsFactorHeld (base_in y) a.p a.q) (sym q.is) a.held; few = few_most n a.high a.low few }) s f
 
 -- ---- powers
 
 pub power_fits : {A : Type 0} (b e t v : Tree) (n : ℤ) (h l : ℕ) (r : Result A NumberFault) → is_mult t ≡ false → IsRewritten b e t → IsLifted t v → e ≡ num (whole_fraction n) → IsFactorHeld b h l → HasFewBitsRaised n h l
     → ((m : ℤ) (i j : ℕ) → exponent_in v ≡ num (whole_fraction m) → IsFactorHeld (base_in v) i j → HasFewBitsRaised m i j → IfErr r (OfOverflow (λ o. ⊥)))
     → (is_whole_num (exponent_in v) ≡ false → is_half_num (exponent_in v) ≡ false → IsOk r) → IfErr r (OfOverflow (λ o. ⊥))
-power_fits b e t v n h l r m w lifted q f few bits others = by (by_way b e t w)
-  where
-    by : IsByWay b e t → IfErr r (OfOverflow (λ o. ⊥))
-    by (of_product fs i j k) = absurd (cc (sym m ∙ ap is_mult j))
-    by (of_root a z i j k) =
-        let same : v ≡ t = subst (λ (y : Tree). IsLifted y v) j lifted ∙ sym j in
-        let is : rewritten_whole (root a) (num (whole_fraction n)) ≡ Some t = ap (rewritten_whole (root a)) (sym q) ∙ sym (as_whole (root a) e (whole_no_half e w.whole)) ∙ ap (λ (y : Tree). rewritten y e) (sym i) ∙ w.is in
-        let to : v ≡ power a (num (whole_fraction (half n))) = same ∙ half_of a t (whole_fraction n) is ∙ ap (λ (y : ℤ). power a (num (whole_fraction (half y)))) (whole_numerator n) in
-        let x = half_bits n h l in
-        bits (half n) h l (ap exponent_in to) (subst (λ (y : Tree). IsFactorHeld y h l) (sym (ap base_in to)) (root_argument a k (subst (λ (y : Tree). IsFactorHeld y h l) i f))) (omega (arith, x.0, x.1, few))
-    by (of_power c g i j) =
-        let k : IsMultiplied c (more g (more e none)) v = subst (λ (y : Tree). IsLifted y v) j lifted in
-        let a = subst (λ (y : Tree). IsFactorHeld y h l) i f in
-        let counts = k.product.counts g n (ap (λ (y : Tree). more g (more y none)) q) (factor_counted c g a) in
-        part_fits c k.exponent r (raised_high n h l) (raised_low n h l) (power_raised c g k.exponent n counts a) few
-        (λ z x y u a few. bits z x y (ap exponent_in k.is ∙ u) (subst (λ (d : Tree). IsFactorHeld d x y) (sym (ap base_in k.is)) a) few)
-        (λ u y. others (ap (λ (y : Tree). is_whole_num (exponent_in y)) k.is ∙ u) (ap (λ (y : Tree). is_half_num (exponent_in y)) k.is ∙ y))
+power_fits b e t v n h l r m w lifted q f few bits others =
+    by_power (λ (x y : Tree). IsRewritten x e y → IsLifted y v → IsFactorHeld x h l → IfErr r (OfOverflow (λ o. ⊥))) b e t m w
+    (λ a z c k w same f.
+    let is : rewritten_whole (root a) (num (whole_fraction n)) ≡ Some (power a (num (whole_fraction z))) = ap (rewritten_whole (root a)) (sym q) ∙ sym (as_whole (root a) e (whole_no_half e w.whole)) ∙ w.is in
+    let to : v ≡ power a (num (whole_fraction (half n))) = same ∙ half_of a _ (whole_fraction n) is ∙ ap (λ (y : ℤ). power a (num (whole_fraction (half y)))) (whole_numerator n) in
+    let x = half_bits n h l in
+    bits (half n) h l (ap exponent_in to) (subst (λ (y : Tree). IsFactorHeld y h l) (sym (ap base_in to)) (root_argument a k f)) (omega (arith, x.0, x.1, few)))
+    (λ c g x w k a.
+    let counts = k.product.counts g n (ap (λ (y : Tree). more g (more y none)) q) (factor_counted c g a) in
+    part_fits c k.exponent r (raised_high n h l) (raised_low n h l) (power_raised c g k.exponent n counts a) few
+    (λ z x y u a few. bits z x y (ap exponent_in k.is ∙ u) (subst (λ (d : Tree). IsFactorHeld d x y) (sym (ap base_in k.is)) a) few)
+    (λ u y. others (ap (λ (y : Tree). is_whole_num (exponent_in y)) k.is ∙ u) (ap (λ (y : Tree). is_half_num (exponent_in y)) k.is ∙ y))) w lifted f
 
 -- ---- exponents
 
@@ -133,13 +109,6 @@ few_both m u h a b c d =
     let y : m * 1 ≤ m * h = mul-le m 1 m h (omega arith) (omega arith) in
     (omega (arith, y), omega (arith, x))
 
-is_false : (b : Bool) → not b ≡ true → b ≡ false
-is_false true h = cc
-is_false false h = refl
-
-no_one : (e : Tree) → goes_inside e ≡ true → is_zero_or_one e ≡ false
-no_one e g = is_false (is_zero_or_one e) (and_parts _ _ g).1
-
 two_exponents : (c f e t : Tree) (n : ℤ) (h l : ℕ) → is_reduced (power c f) ≡ true → IsRewritten (power c f) e t → e ≡ num (whole_fraction n) → IsFactorHeld (power c f) h l → HasFewBitsRaised n h l → AreFactorsHeld (more f (more e none)) 14 0
 two_exponents c f e t n h l r w q a few =
     let k : is_counted f ≡ true = factor_counted c f a in
@@ -147,19 +116,14 @@ two_exponents c f e t n h l r w q a few =
     let parts = reduced_parts f (exponent_reduced c f r) d in
     let some = some_counts f parts k (no_zero_exponent c f (reduced_parts (power c f) r refl).0) in
     let most = exponents_within {t = power c f} {ts = none} (factor_power c f a) in
-    let nonzero = not_nothing n (ap is_zero_or_one (sym q) ∙ no_one e (inside c f e t w)) in
+    let nonzero = not_nothing n (ap is_zero_or_one (sym q) ∙ inside_other e (inside c f e t w)) in
     let (x, y) = few_both (nat_abs n) ((counts_of f).up + (counts_of f).down) h nonzero some most (few_magnitude n h l few) in
     factor_held 7 0 7 0 (tree_factor f (exponent_reduced c f r) d (exponent_is_held f parts k y)) (factor_held 7 0 0 0 (subst (λ (z : Tree). IsFactorHeld z 7 0) (sym q) (whole_held n x)) none_held (omega arith) (omega arith)) (omega arith) (omega arith)
 
 pub exponent_ready : (b e t x : Tree) (n : ℤ) (h l : ℕ) → is_mult t ≡ false → is_mult x ≡ true → x ≡ exponent_in t → IsRewritten b e t → e ≡ num (whole_fraction n) → IsFactorHeld b h l → HasFewBitsRaised n h l → AreFactorsHeld (children_of x) 14 0
-exponent_ready b e t x n h l m k is w q f few = by (by_way b e t w)
-  where
-    by : IsByWay b e t → AreFactorsHeld (children_of x) 14 0
-    by (of_root a z i j u) = absurd (cc (sym k ∙ ap is_mult (is ∙ ap exponent_in j)))
-    by (of_power c g i j) =
-        subst (λ (y : Tree). AreFactorsHeld (children_of y) 14 0) (sym (is ∙ ap exponent_in j))
-        (two_exponents c g e t n h l (sym (ap is_reduced i) ∙ w.base) (subst (λ (y : Tree). IsRewritten y e t) i w) q (subst (λ (y : Tree). IsFactorHeld y h l) i f) few)
-    by (of_product fs i j u) = absurd (cc (sym m ∙ ap is_mult j))
+exponent_ready b e t x n h l m k is w q f few =
+    by_power (λ (y u : Tree). x ≡ exponent_in u → IsRewritten y e u → IsFactorHeld y h l → AreFactorsHeld (children_of x) 14 0) b e t m w (λ a z r u is w f. clash (sym k ∙ ap is_mult is))
+    (λ c g r is w f. subst (λ (y : Tree). AreFactorsHeld (children_of y) 14 0) (sym is) (two_exponents c g e (power c (mult (more g (more e none)))) n h l r w q f few)) is w f
 
 -- ---- joints
 
@@ -172,7 +136,7 @@ module _ (at : ℕ) (ts us : Trees) (k : IsJoinedFrom at ts us) (x : Tree) (is :
   joint_exponents h l a few =
       let w = k.pair.within in
       subst (λ (y : Tree). IsSumHeld (addends_of_each (children_of (exponent_in y))) 8 0) (sym words)
-      (pair_exponents_held at ts us k.pair k.reduced k.is (exponent_is_reduced (nth at ts) (reduced_at at ts k.reduced (omega arith))) (exponent_is_reduced (nth (suc at) ts) (reduced_at (suc at) ts k.reduced (omega arith))) h l few a)
+      (pair_exponents_held at ts us k.pair k.reduced k.is (exponent_is_reduced (nth at ts) (reduced_nth at ts (omega arith) k.reduced)) (exponent_is_reduced (nth (suc at) ts) (reduced_nth (suc at) ts (omega arith) k.reduced)) h l few a)
 
   pub joint_fits : {A : Type 0} (v : Tree) (h l : ℕ) (r : Result A NumberFault) → IsSummed (base_in x) (children_of (exponent_in x)) v → AreFactorsHeld ts h l → HasFewBits h l
       → ((m : ℤ) (i j : ℕ) → exponent_in v ≡ num (whole_fraction m) → IsFactorHeld (base_in v) i j → HasFewBitsRaised m i j → IfErr r (OfOverflow (λ o. ⊥)))

@@ -1,18 +1,14 @@
 -- What holds factors holds them with two of one base joined, and the exponents of these are added within few bits.
-use Rattle.std.proofs.Common.{◌≡◌, ℕ, zero, suc, ◌+◌, ◌≤◌, ◌<◌, [], ◌∷◌, Bool, true, false, ◌&&◌, not, if◌then◌else◌, refl, sym, ap, ◌∙◌, subst, arith}
-use Rattle.deep_reduce.proofs.Shared.{and_parts, and_from, is_number, is_reduced, are_reduced, is_whole_num, is_opaque_exponent, num_one, base_of, number_words, HighLow, Tree, power, Trees, none, more, count, is_undef, reduced_parts, IsReducedPower, HasFewBits, AddsCounts, IsCountedWithin, replaced, removed, whole_is, IsFactorHeld, AreFactorsHeld, exponent_of, is_partner, joint, IsPairAt, joined_pair, partners_of_pair, IsSumHeld, addends_of_each, Counts, counts, counts_of, counts_of_all, is_counted, IsPartHeld, factor_held, trees_together, factors_joined, factor_left_out, exponents_within, one_counts, nth, inserted}
-use Rattle.deep_reduce.proofs.EasyNodes.{undef_words}
+use Rattle.std.proofs.Common.{◌≡◌, ℕ, zero, suc, ◌+◌, ◌≤◌, ◌<◌, [], ◌∷◌, Bool, true, false, ◌&&◌, not, if◌then◌else◌, refl, sym, ap, ◌∙◌, subst, arith, inl, inr}
+use Rattle.deep_reduce.proofs.Shared.{and_from, is_number, is_reduced, are_reduced, is_whole_num, is_opaque_exponent, num_one, base_of, number_words, HighLow, Tree, power, Trees, none, more, count, is_undef, reduced_parts, IsReducedPower, HasFewBits, AddsCounts, IsCountedWithin, replaced, removed, whole_is, IsFactorHeld, AreFactorsHeld, exponent_of, is_partner, joint, IsPairAt, joined_pair, partners_of_pair, IsSumHeld, addends_of_each, Counts, counts, counts_of, counts_of_all, is_counted, IsPartHeld, trees_together, factors_joined, factor_left_out, exponents_within, one_counts, nth, inserted, reduced_nth, one_base, cases_Bool}
+use Rattle.deep_reduce.proofs.Clashes.{undef_words}
 use Rattle.deep_reduce.proofs.HeldExponents.{counted_defined, exponent_is_held}
 use Rattle.deep_reduce.proofs.HeldFactors.{undef_factor, first_counted, part_high}
 use Rattle.deep_reduce.proofs.HeldParts.{part_answer}
-use Rattle.deep_reduce.proofs.Joints.{same_base}
 use Rattle.product_reduce.proofs.HeldPairs.{neighbours_held}
 use Rattle.sum_reduce.proofs.CollectedExponents.{whole_number}
 use Rattle.tree_bits.specs.Joined.{IsJoint}
 use Rattle.tree_bits.specs.HeldTrees as part
-
-clash : {A : Type 0} → true ≡ false → A
-clash e = absurd cc
 
 -- ---- one factor
 
@@ -66,7 +62,7 @@ joint_held t u g {h} {l} p k a = factors_joined t u (power (base_of t) g) none h
 
     j : IsJoint t u (power (base_of t) g)
     j = record {
-      same = sym (base_same u c.1) ∙ sym (same_base t u p) ∙ base_same t c.0;
+      same = sym (base_same u c.1) ∙ sym (one_base t u p) ∙ base_same t c.0;
       base = base_same t c.0;
       counted = w.counted;
       within = record {
@@ -78,11 +74,10 @@ joint_held t u g {h} {l} p k a = factors_joined t u (power (base_of t) g) none h
 -- what is answered for it
 joint_answer : (t u g r : Tree) {h l : ℕ} → is_reduced t ≡ true → is_reduced (base_of t) ≡ true → is_reduced g ≡ true → is_partner t u ≡ true → AddsCounts (more (exponent_of t) (more (exponent_of u) none)) g → IsReducedPower (base_of t) g r
     → IsPartHeld (more t (more u none)) h l → IsFactorHeld r h l
-joint_answer t u g r {h} {l} x y z p k a b = by (is_undef r) refl
-  where
-    by : (d : Bool) → is_undef r ≡ d → IsFactorHeld r h l
-    by true e = subst (λ (v : Tree). IsFactorHeld v h l) (sym (undef_words r e)) (undef_factor (some_high t (more u none) x b))
-    by false e = part_answer (base_of t) g r y z a (joint_held t u g p k b) e
+joint_answer t u g r {h} {l} x y z p k a b = elim (cases_Bool (is_undef r)) [
+  | inl e ↦ subst (λ (v : Tree). IsFactorHeld v h l) (sym (undef_words r e)) (undef_factor (some_high t (more u none) x b))
+  | inr e ↦ part_answer (base_of t) g r y z a (joint_held t u g p k b) e
+]
 
 -- the exponents together
 exponent_few : (e : Tree) → is_reduced e ≡ true → is_counted e ≡ true → (counts_of e).up + (counts_of e).down ≤ 62 → part.IsTreeHeld e 7 0
@@ -119,17 +114,12 @@ removed_count n none l = absurd (omega arith)
 removed_count zero (more t ts) l = refl
 removed_count (suc n) (more t ts) l = ap suc (removed_count n ts (omega arith))
 
-pub reduced_at : (n : ℕ) (ts : Trees) → are_reduced ts ≡ true → n < count ts → is_reduced (nth n ts) ≡ true
-reduced_at n none r l = absurd (omega arith)
-reduced_at zero (more t ts) r l = (and_parts (is_reduced t) (are_reduced ts) r).0
-reduced_at (suc n) (more t ts) r l = reduced_at n ts (and_parts (is_reduced t) (are_reduced ts) r).1 (omega arith)
-
 module _ (at : ℕ) (ts us : Trees) (pair : IsPairAt at ts) (reduced : are_reduced ts ≡ true) (joined-is : us ≡ joined_pair at (suc at) ts) where
   partners : is_partner (nth at ts) (nth (suc at) ts) ≡ true
   partners = partners_of_pair (nth at ts) (nth (suc at) ts) pair.pair
 
   pub first_reduced : is_reduced (nth at ts) ≡ true
-  first_reduced = let w = pair.within in reduced_at at ts reduced (omega arith)
+  first_reduced = let w = pair.within in reduced_nth at ts (omega arith) reduced
 
   in_place : (r : Tree) → inserted at (more r none) (removed at (removed (suc at) ts)) ≡ replaced at r us
   in_place r =

@@ -1,16 +1,9 @@
 -- A power as a factor: what holds it holds its answer, and within few bits it fits.
-use Rattle.std.proofs.Common.{◌||◌, ◌≡◌, ℕ, suc, ◌+◌, ◌*◌, ◌≤◌, ℤ, pos, negsuc, Bool, true, false, ◌==◌, Option, Some, None, Result, Ok, Err, refl, sym, ap, ◌∙◌, subst, arith}
-use Rattle.std.specs.Prelude.{IfErr, IsOk, nat_abs}
-use Rattle.deep_reduce.proofs.Shared.{eqb-true, mul-le, whole_fraction, whole_numerator, Tree, num, power, none, more, is_undef, is_reduced, is_half_num, is_whole_num, IsReducedPower, lacks_power, HasFewBits, HasFewBitsRaised, has_number_power, is_zero_or_one, rewritten, IsFactorHeld, whole_of, counts, multiple, counts_of, is_counted, power_high, power_low, IsPartHeld, factor_held, raised_high, raised_low, OfOverflow, NumberFault}
+use Rattle.std.proofs.Common.{◌≡◌, ℕ, suc, ◌+◌, ◌*◌, ◌≤◌, ℤ, pos, negsuc, Bool, true, false, ◌==◌, Option, Some, None, Result, Ok, Err, refl, sym, ap, ◌∙◌, subst, arith, IfErr, IsOk, nat_abs}
+use Rattle.deep_reduce.proofs.Shared.{eqb-true, mul-le, whole_fraction, whole_numerator, Tree, num, power, none, more, is_undef, is_reduced, is_half_num, is_whole_num, IsReducedPower, lacks_power, HasFewBits, HasFewBitsRaised, has_number_power, is_zero_or_one, rewritten, IsFactorHeld, counts, multiple, counts_of, is_counted, power_high, power_low, IsPartHeld, factor_held, raised_high, raised_low, OfOverflow, NumberFault, whole_exponent}
+use Rattle.deep_reduce.proofs.Clashes.{clash}
 use Rattle.deep_reduce.proofs.HeldFactors.{factor_wider, power_factor, base_factor}
-use Rattle.deep_reduce.proofs.Wholes.{is_rewritten}
-
-clash : {A : Type 0} → true ≡ false → A
-clash e = absurd cc
-
-or_fails : (a b : Bool) → (a || b) ≡ false → (a ≡ false) × (b ≡ false)
-or_fails true b h = cc
-or_fails false b h = (refl, h)
+use Rattle.deep_reduce.proofs.Opened.{is_rewritten}
 
 -- ---- bits of powers
 
@@ -48,15 +41,6 @@ few_magnitude (pos n) h l f = omega (arith, f)
 few_magnitude (negsuc n) h l f = let x : suc n * h ≤ suc n * (h + 2 * l) = times_most (suc n) h (h + 2 * l) (omega arith) in omega (arith, f, x)
 
 -- ---- a power as a part
-
--- a whole exponent by its number
-pub record IsWholeExponent (e : Tree) : Type 0 where
-  pub n : ℤ
-  pub is : e ≡ num (whole_fraction n)
-
-pub whole_exponent : (e : Tree) → is_whole_num e ≡ true → IsWholeExponent e
-whole_exponent (num q) h = record { n = q.num; is = ap num (whole_of q h) }
-whole_exponent e h = cc
 
 -- the base as a factor
 record IsBaseOfPart (c : Tree) (n : ℤ) (h l : ℕ) : Type 0 where
@@ -104,8 +88,8 @@ part_answer c p r {h} {l} x y a k d = by (is_whole_num p) refl
     by : (b : Bool) → is_whole_num p ≡ b → IsFactorHeld r h l
     by true w =
         let z = whole_exponent p w in
-        let m = base_of_part c p z.n z.is k in
-        factor_wider r m.high m.low (a.held z.n z.is d m.i m.j m.base)
+        let m = base_of_part c p z.exponent z.is k in
+        factor_wider r m.high m.low (a.held z.exponent z.is d m.i m.j m.base)
     by false w = kept w (lacks_power c p) refl
 
 pub fine : {A : Type 0} (r : Result A NumberFault) → IsOk r → IfErr r (OfOverflow (λ o. ⊥))
@@ -121,6 +105,6 @@ part_fits c p r h l k f bits others = by (is_whole_num p) refl
     by : (b : Bool) → is_whole_num p ≡ b → IfErr r (OfOverflow (λ o. ⊥))
     by true w =
         let z = whole_exponent p w in
-        let m = base_of_part c p z.n z.is k in
-        bits z.n m.i m.j z.is m.base (omega (arith, m.high, m.low, f))
+        let m = base_of_part c p z.exponent z.is k in
+        bits z.exponent m.i m.j z.is m.base (omega (arith, m.high, m.low, f))
     by false w = fine r (others w (counted_no_half p (counted_exponent k)))

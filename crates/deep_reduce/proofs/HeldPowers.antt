@@ -1,21 +1,14 @@
 -- Powers are held by the bits of their bases, also those that are rewritten.
-use Rattle.std.proofs.Common.{neg_ℤ, ◌||◌, ◌≡◌, ℕ, zero, suc, ◌+◌, ◌*◌, ◌≤◌, inr, ℤ, pos, negsuc, Bool, true, false, not, Some, refl, sym, ap, ◌∙◌, subst, arith}
-use Rattle.std.specs.Prelude.{◌/◌}
-use Rattle.deep_reduce.proofs.Shared.{mul-le, Fraction, whole_fraction, whole_numerator, Tree, num, mult, power, root, Trees, none, more, is_mult, is_undef, has_undef, is_number, is_reduced, num_one, IsReducedProduct, IsReducedPower, IsCountedWithin, IsRewritten, AreReducedPowers, IsLifted, IsMultiplied, IsProductOfPowers, IsHeldAsPowerOf, base_in, exponent_in, half, parts_of, raised, rewritten_whole, as_whole, whole_no_half, chosen, IsFactorHeld, AreFactorsHeld, none_held, Counts, counts, multiple, counts_of, is_counted, power_high, power_low, IsPartHeld, factor_held, IsBaseHeld, tree_held, IsFactorPower, raised_high, raised_low, single_part, tree_as_base, one_counts, children_of}
+use Rattle.std.proofs.Common.{neg_ℤ, ◌≡◌, ℕ, zero, suc, ◌+◌, ◌*◌, ◌≤◌, inr, ℤ, pos, negsuc, Bool, true, false, not, Some, refl, sym, ap, ◌∙◌, subst, arith, ◌/◌}
+use Rattle.deep_reduce.proofs.Shared.{mul-le, Fraction, whole_fraction, whole_numerator, Tree, num, mult, power, root, Trees, none, more, is_mult, is_undef, has_undef, is_number, is_reduced, num_one, IsReducedProduct, IsReducedPower, IsCountedWithin, IsRewritten, AreReducedPowers, IsLifted, IsProductOfPowers, IsHeldAsPowerOf, base_in, exponent_in, half, parts_of, raised, rewritten_whole, as_whole, whole_no_half, chosen, IsFactorHeld, AreFactorsHeld, none_held, Counts, counts, multiple, counts_of, is_counted, power_high, power_low, IsPartHeld, factor_held, IsBaseHeld, tree_held, IsFactorPower, raised_high, raised_low, single_part, tree_as_base, one_counts, children_of, or_parts}
+use Rattle.deep_reduce.proofs.Clashes.{clash}
 use Rattle.deep_reduce.proofs.Heavy.{base_reduced}
 use Rattle.deep_reduce.proofs.HeldFactors.{parts_each, factor_wider, factor_power, base_factor, EachHeld, more_each}
-use Rattle.deep_reduce.proofs.Rewritten.{IsByWay, of_root, of_power, of_product, by_way}
+use Rattle.deep_reduce.proofs.Rewritten.{by_product, by_power}
 use Rattle.product_reduce.specs.Bits.{factor_held as factors_held}
 use Rattle.tree_bits.specs.HeldTrees.{root_held}
 use Rattle.tree_bits.proofs.Powers.{part_raised, part_turned}
 use Rattle.deep_reduce.proofs.HeldParts.{raised_most, raised_both, counted_exponent, part_answer}
-
-clash : {A : Type 0} → true ≡ false → A
-clash e = absurd cc
-
-or_fails : (a b : Bool) → (a || b) ≡ false → (a ≡ false) × (b ≡ false)
-or_fails true b h = cc
-or_fails false b h = (refl, h)
 
 -- ---- even powers of roots
 
@@ -69,13 +62,12 @@ power_way c f e g r n x i p a d h l k =
 module _ (n : ℤ) where
   pub powers_held : (gs us : Trees) {h l : ℕ} → has_undef us ≡ false → AreReducedPowers (raised gs (num (whole_fraction n))) us → EachHeld gs h l → AreFactorsHeld us (raised_high n h l) (raised_low n h l)
   powers_held none none d a k = none_held
-  powers_held none (more u us) d a k = absurd a
-  powers_held (more g gs) none d a k = absurd a
   powers_held (more g gs) (more u us) {h} {l} d a (more_each p q i j f k x y) =
-      let (y0, y1) = or_fails (is_undef u) (has_undef us) d in
+      let (y0, y1) = or_parts (is_undef u) (has_undef us) d in
       let s = raised_both n p q i j in
       let m = raised_most n x y in
       factors_held (raised_high n p q) (raised_low n p q) (raised_high n i j) (raised_low n i j) (a.0.held n refl y0 p q f) (powers_held gs us y1 a.1 k) (omega (arith, s.0, m.0)) (omega (arith, s.1, m.1))
+  powers_held gs us d a k = absurd a
 
 defined_factors : (us : Trees) (r : Tree) → IsReducedProduct us r → is_undef r ≡ false → has_undef us ≡ false
 defined_factors us r a d = by (has_undef us) refl
@@ -91,14 +83,9 @@ product_way fs us e r n x m i a p d h l k =
 -- ---- what is answered for the tree
 
 pub product_holds : (t v r b e : Tree) (n : ℤ) → is_mult t ≡ true → IsProductOfPowers (children_of t) v → IsReducedProduct (children_of v) r → IsRewritten b e t → e ≡ num (whole_fraction n) → IsHeldAsPowerOf n b r
-product_holds t v r b e n m p a w q = by (by_way b e t w)
-  where
-    by : IsByWay b e t → IsHeldAsPowerOf n b r
-    by (of_root x z i j k) = absurd (cc (sym m ∙ ap is_mult j))
-    by (of_power c f i j) = absurd (cc (sym m ∙ ap is_mult j))
-    by (of_product fs i j k) =
-        subst (λ (x : Tree). IsHeldAsPowerOf n x r) (sym i)
-        (product_way fs p.factors e r n (sym (ap is_reduced i) ∙ w.base) k q (subst (λ (x : Tree). AreReducedPowers (children_of x) p.factors) j p.are) (subst (λ (x : Tree). IsReducedProduct (children_of x) r) p.is a))
+product_holds t v r b e n m p a w q =
+    by_product (λ (x y : Tree). AreReducedPowers (children_of y) p.factors → IsHeldAsPowerOf n x r) b e t m w
+    (λ fs h k are. product_way fs p.factors e r n h k q are (subst (λ (x : Tree). IsReducedProduct (children_of x) r) p.is a)) p.are
 
 even_way : (a e t v r : Tree) (n : ℤ) → is_number (root a) ≡ false → IsRewritten (root a) e t → e ≡ num (whole_fraction n) → v ≡ t → IsReducedPower (base_in v) (exponent_in v) r → IsHeldAsPowerOf n (root a) r
 even_way a e t v r n k w q l p =
@@ -107,14 +94,6 @@ even_way a e t v r n k w q l p =
     root_way a r n k ((subst (λ (y : Tree). IsReducedPower (base_in y) (exponent_in y) r) j p).held (half n) refl)
 
 pub power_holds : (t v r b e : Tree) (n : ℤ) → is_mult t ≡ false → IsLifted t v → IsReducedPower (base_in v) (exponent_in v) r → IsRewritten b e t → e ≡ num (whole_fraction n) → IsHeldAsPowerOf n b r
-power_holds t v r b e n m l a w q = by (by_way b e t w)
-  where
-    by : IsByWay b e t → IsHeldAsPowerOf n b r
-    by (of_root x z i j k) =
-        let same : v ≡ t = subst (λ (y : Tree). IsLifted y v) j l ∙ sym j in
-        subst (λ (y : Tree). IsHeldAsPowerOf n y r) (sym i) (even_way x e t v r n k (subst (λ (y : Tree). IsRewritten y e t) i w) q same a)
-    by (of_power c f i j) =
-        let k : IsMultiplied c (more f (more e none)) v = subst (λ (y : Tree). IsLifted y v) j l in
-        subst (λ (y : Tree). IsHeldAsPowerOf n y r) (sym i)
-        (power_way c f e k.exponent r n (base_reduced c f (sym (ap is_reduced i) ∙ w.base)) q k.product (subst (λ (y : Tree). IsReducedPower (base_in y) (exponent_in y) r) k.is a))
-    by (of_product fs i j k) = absurd (cc (sym m ∙ ap is_mult j))
+power_holds t v r b e n m l a w q =
+    by_power (λ (x y : Tree). IsRewritten x e y → IsLifted y v → IsHeldAsPowerOf n x r) b e t m w (λ x z h k w l. even_way x e (power x (num (whole_fraction z))) v r n k w q l a)
+    (λ c f h w k. power_way c f e k.exponent r n (base_reduced c f h) q k.product (subst (λ (y : Tree). IsReducedPower (base_in y) (exponent_in y) r) k.is a)) w l

@@ -1,15 +1,13 @@
 -- Roots, and powers with half of an odd number as the exponent, are held by the bits of their bases.
-use Rattle.std.proofs.Common.{◌≡◌, ◌≢◌, ℕ, zero, suc, ◌*◌, ◌^◌, ◌≤◌, ◌<◌, [], ◌∷◌, length, ℤ, Bool, true, false, ◌&&◌, ◌==◌, Result, Ok, Err, refl, sym, ap, ◌∙◌, subst, arith}
-use Rattle.std.specs.Prelude.{IfOk}
-use Rattle.deep_reduce.proofs.Shared.{and_parts, eqb-true, mul-le, Fraction, zero_fraction, whole_fraction, int_is_negative, Tree, num, undef, add, mult, root, none, more, is_num, is_undef, IsNumber, IsRadicand, is_number, value, natural_of, terms_of, term_of, is_reduced, is_half_num, Term, Surd, one_not_zero, number_words, number_test, Parts, magnitude_over, mass, IsHeld, reduced_parts, HasFewBits, IsHeldAsRootPower, numerator, IsHeldAsPowerOf, has_no_power, has_number_power, IsPowerAnswer, IsPowerMisfit, whole_no_half, whole_is, IsFactorHeld, value_held, number_as_factor, IfRational, IsRootAnswer, has_no_root, HasWideRoot, IsOverflow, Overflow, OfOverflow, NumberFault, IsNoLargerThanRoot, factor_is_held, root_is_held}
+use Rattle.std.proofs.Common.{◌≡◌, ◌≢◌, ℕ, zero, suc, ◌*◌, ◌^◌, ◌≤◌, ◌<◌, [], ◌∷◌, length, ℤ, Bool, true, false, ◌&&◌, ◌==◌, Result, Ok, Err, refl, sym, ap, ◌∙◌, subst, arith, inl, inr, IfOk}
+use Rattle.deep_reduce.proofs.Shared.{and_parts, eqb-true, mul-le, Fraction, zero_fraction, whole_fraction, int_is_negative, Tree, num, undef, add, mult, root, none, more, is_num, is_undef, IsNumber, IsRadicand, is_number, value, natural_of, terms_of, term_of, is_reduced, is_half_num, Term, Surd, one_not_zero, number_words, Parts, magnitude_over, mass, IsHeld, reduced_parts, HasFewBits, IsHeldAsRootPower, numerator, IsHeldAsPowerOf, has_number_power, IsPowerAnswer, IsPowerMisfit, whole_no_half, whole_is, IsFactorHeld, value_held, number_as_factor, IfRational, IsRootAnswer, has_no_root, HasWideRoot, IsOverflow, Overflow, OfOverflow, NumberFault, IsNoLargerThanRoot, factor_is_held, root_is_held, cases_Bool}
+use Rattle.deep_reduce.proofs.Opened.{undef_has_none}
+use Rattle.deep_reduce.proofs.Clashes.{clash, rational_number}
 use Rattle.calc_bits.proofs.Parts.{term_held}
 use Rattle.deep_reduce.proofs.HeldFactors.{tree_high, factor_tree}
 use Rattle.surd_bits.proofs.Bounds.{magnitude_positive}
 use Rattle.calc_bits.specs.Bounds as few
 use Rattle.tree_handles.specs.declared.fault.NumberFault.TheVariants as fault
-
-clash : {A : Type 0} → true ≡ false → A
-clash e = absurd cc
 
 -- ---- Numbers that no bits hold are rationals
 
@@ -30,18 +28,14 @@ term_without c r t i j z k a =
     small_square (magnitude_over 1 t.coefficient) t.radicand m (omega (arith, k, j)) (term_held t 0 0 a 1 p)
 
 two_masses : (e : ℕ) (v : Surd) → 2 ≤ length v → 2 * e ≤ mass e v
-two_masses e [] l = absurd (omega arith)
-two_masses e (t ∷ []) l = absurd (omega arith)
 two_masses e (t ∷ (u ∷ v)) l = omega arith
+two_masses e v l = absurd (omega arith)
 
 sum_without : (v : Surd) → 2 ≤ length v → IsHeld v 0 0 → ⊥
 sum_without v l a = omega (arith, two_masses a.scale v l, a.high, a.scaled.positive)
 
 radicand_two : (r : Fraction) → IsRadicand r → 2 ≤ natural_of r.num
 radicand_two r (w, n, i, l, c) = omega (arith, l, ap natural_of i)
-
-rational_number : (q : Fraction) → is_number (num q) ≡ true
-rational_number q = number_test (num q) tt
 
 rational_without : (b : Tree) → IsNumber b → IsHeld (value b) 0 0 → is_num b ≡ true
 rational_without (num q) n a = refl
@@ -59,11 +53,10 @@ root_no_number b n = refl
 
 some_high : (b : Tree) {h l : ℕ} → is_reduced b ≡ true → is_undef b ≡ false → is_num b ≡ false → (h ≡ 0 → l ≡ 0) → IsFactorHeld b h l → 1 ≤ h
 some_high b {h = suc h} r d n z a = omega arith
-some_high b {h = zero} {l = l} r d n z a = by (is_number b) refl
-  where
-    by : (x : Bool) → is_number b ≡ x → 1 ≤ 0
-    by true m = clash (sym (rational_without b (number_words b m) (subst (IsHeld (value b) 0) (z refl) (value_held b 0 l m a))) ∙ n)
-    by false m = tree_high b (reduced_parts b r d) m (factor_tree b a)
+some_high b {h = zero} {l = l} r d n z a = elim (cases_Bool (is_number b)) [
+  | inl m ↦ clash (sym (rational_without b (number_words b m) (subst (IsHeld (value b) 0) (z refl) (value_held b 0 l m a))) ∙ n)
+  | inr m ↦ tree_high b (reduced_parts b r d) m (factor_tree b a)
+]
 
 has_root_defined : (b : Tree) → has_no_root b ≡ false → is_undef b ≡ false
 has_root_defined undef h = cc
@@ -87,17 +80,13 @@ root_answer_held b r {h} {l} x k m z d a = by (is_num b) refl
 
 -- ---- their powers
 
-undef_none : (r e : Tree) → is_undef r ≡ true → has_no_power r e ≡ true
-undef_none undef e h = refl
-undef_none r e h = cc
-
 pub half_held : (b e r u : Tree) → is_reduced b ≡ true → IsRootAnswer b r → IfRational b (λ q. int_is_negative q.num ≡ false → IsNoLargerThanRoot q (value r)) → IsPowerAnswer r (num (whole_fraction (numerator e))) u → IsHeldAsPowerOf (numerator e) r u
     → IsHeldAsRootPower (numerator e) b u
 half_held b e r u x k m a p d h l z f = p d h l (root_answer_held b r x k m z (defined (is_undef r) refl) f)
   where
     defined : (y : Bool) → is_undef r ≡ y → is_undef r ≡ false
     defined false i = i
-    defined true i = clash (sym (a.undefined ∙ undef_none r (num (whole_fraction (numerator e))) i) ∙ d)
+    defined true i = clash (sym (a.undefined ∙ undef_has_none r (num (whole_fraction (numerator e))) i) ∙ d)
 
 -- ---- faults
 
@@ -129,11 +118,7 @@ number_defined b e n = refl
 
 -- Undef has no powers that overflow
 pub last_fits : (b e : Tree) (f : NumberFault) → (is_undef b ≡ false → OfOverflow (λ o. ⊥) f) → OfOverflow (IsPowerMisfit b e) f → OfOverflow (λ o. ⊥) f
-last_fits b e f fits m = by (is_undef b) refl
-  where
-    by : (x : Bool) → is_undef b ≡ x → OfOverflow (λ o. ⊥) f
-    by false d = fits d
-    by true d = no_fault f (IsPowerMisfit b e) (λ o p. clash (sym d ∙ number_defined b e p.number)) m
+last_fits b e f fits m = elim (cases_Bool (is_undef b)) [ inl d ↦ no_fault f (IsPowerMisfit b e) (λ o p. clash (sym d ∙ number_defined b e p.number)) m | inr d ↦ fits d ]
 
 -- only the root of a rational overflows
 pub root_fits : (a : Tree) (f : NumberFault) {h l : ℕ} → (few.HasFewBits (value a) → OfOverflow (λ o. ⊥) f) → (IsOverflow {A = ℕ} (Err f) → HasWideRoot a) → IsFactorHeld a h l → HasFewBits h l → OfOverflow (λ o. ⊥) f

@@ -1,8 +1,11 @@
 -- Factors of reduced trees before and after a joining: their loads and nests.
-use Rattle.std.proofs.Common.{◌≡◌, ℕ, zero, suc, ◌+◌, ◌≤◌, Bool, true, false, not, ◌&&◌, refl, ap, ◌∙◌, arith}
-use Rattle.deep_reduce.proofs.Shared.{and_parts, nest_of, weight, load_of_factor, load_of_factors, is_number, IsNumber, are_numbers, base_of, are_reduced, Tree, num, mult, root, Trees, none, more, append, is_mult, number_test, number_words, factors_of, nest_of_joint, opened, others_in, exponent_of, is_partner, is_single, IsPairAt, joined_pair}
+use Rattle.std.proofs.Common.{◌≡◌, ℕ, zero, suc, ◌+◌, ◌≤◌, true, false, ◌&&◌, refl, ap, ◌∙◌, arith, inl, inr, Bool, if◌then◌else◌, subst}
+use Rattle.deep_reduce.proofs.Shared.{and_parts, nest_of, weight, load_of_factor, load_of_factors, is_number, IsNumber, are_numbers, base_of, are_reduced, Tree, num, mult, root, Trees, none, more, append, is_mult, number_test, number_words, factors_of, nest_of_joint, opened, others_in, exponent_of, is_partner, is_single, IsPairAt, joined_pair, not-true, one_base, Contains-append_left, Contains-append_right, Contains-append_cases, names, names_of, Rewrites, KeepsMeanings-product_more, keeps, kept, Rewrites-refl, has_partner, first_partner, without_partner, joint, joined, partners_of_pair}
 use Rattle.deep_reduce.proofs.Heavy.{heavy_base}
-use Rattle.deep_reduce.proofs.Joints.{same_base, transparent_exponent, joint_load, joint_nest, joint_below}
+use Rattle.deep_reduce.proofs.Joints.{transparent_exponent, joint_load, joint_nest, joint_below}
+use Rattle.calc_algebra.proofs.Names.{no_new_name}
+use Rattle.product_reduce.proofs.Joined.{joined_keeps}
+use Rattle.product_reduce.proofs.NoNewNames.{names_joined}
 
 -- ---- factors opened, without their Numbers
 
@@ -18,8 +21,6 @@ number_opened t us h = rw h refl
 pub numbers_opened : (ts : Trees) → are_numbers ts ≡ true → others_in (opened ts) ≡ none
 numbers_opened none h = refl
 numbers_opened (more t ts) h = let (p, q) = and_parts _ _ h in number_opened t (opened ts) p ∙ numbers_opened ts q
-
--- ---- reduced factors are no products
 
 -- ---- a joining
 
@@ -44,23 +45,17 @@ below_more : (n m : ℕ) (ts : Trees) → n ≤ m → JointsBelow n ts → Joint
 below_more n m none l h = tt
 below_more n m (more t ts) l h = (omega (arith, h.0), below_more n m ts l h.1)
 
-is_false : (x : Bool) → not x ≡ true → x ≡ false
-is_false true h = cc
-is_false false h = refl
-
 -- two neighbours joined
 pub pair_loaded : (n : ℕ) (ts : Trees) → are_reduced ts ≡ true → IsPairAt n ts → IsLessLoaded ts (joined_pair n (suc n) ts)
-pair_loaded n none r p = absurd (let w = p.within in omega arith)
-pair_loaded zero (more t none) r p = absurd (let w = p.within in omega arith)
 pair_loaded zero (more t (more u ts)) r p =
     let (both, partner) = and_parts (is_single t && is_single u) (is_partner t u) p.pair in
     let (a, b) = and_parts (is_single t) (is_single u) both in
     let (x, y) = and_parts _ _ a in
     let (v, w) = and_parts _ _ b in
-    let same = same_base t u partner in
+    let same = one_base t u partner in
     let one = joint_load (base_of t) (exponent_of t) (exponent_of u) (transparent_exponent t) (transparent_exponent u) in
-    let first = factor_load_is t (is_false _ x) (is_false _ y) in
-    let second = factor_load_is u (is_false _ v) (is_false _ w) in
+    let first = factor_load_is t (not-true _ x) (not-true _ y) in
+    let second = factor_load_is u (not-true _ v) (not-true _ w) in
     let heavy = heavy_base t (and_parts _ _ r).0 in
     record {
       load = omega (arith, one, first, second, ap weight same, heavy);
@@ -69,3 +64,26 @@ pair_loaded zero (more t (more u ts)) r p =
 pair_loaded (suc n) (more t ts) r p =
     let l = pair_loaded n ts (and_parts _ _ r).1 (record { within = omega (arith, p.within); pair = p.pair }) in
     record { load = omega (arith, l.load); nests = (omega (arith, joint_below t), below_more _ _ (joined_pair n (suc n) ts) (omega arith) l.nests) }
+pair_loaded n ts r p = absurd (let w = p.within in omega arith)
+
+-- ---- meanings
+
+pub factors_rewritten : {t u : Tree} {ts us : Trees} → Rewrites t u → Rewrites (mult ts) (mult us) → Rewrites (mult (more t ts)) (mult (more u us))
+factors_rewritten {t} {u} {ts} {us} h k = record {
+  no_new_name = record {
+    name = λ x c. elim (Contains-append_cases (names u) (names_of us) x c)
+        [ inl l ↦ Contains-append_left (names t) (names_of ts) x (h.no_new_name.name x l) | inr r ↦ Contains-append_right (names t) (names_of ts) x (k.no_new_name.name x r) ];
+  };
+  meanings = keeps (KeepsMeanings-product_more (kept h.meanings) (kept k.meanings));
+}
+
+first_joined : (t u : Tree) (ts : Trees) → is_partner t u ≡ true → joined (more t (more u ts)) ≡ more (joint t u) ts
+first_joined t u ts h =
+    ap (λ (k : Bool). if (if k then true else has_partner t ts) then more (joint t (if k then u else first_partner t ts)) (if k then ts else more u (without_partner t ts)) else more t (joined (more u ts))) h
+
+pub pair_rewritten : (n : ℕ) (ts : Trees) → IsPairAt n ts → Rewrites (mult ts) (mult (joined_pair n (suc n) ts))
+pair_rewritten zero (more t (more u ts)) p =
+    let all = more t (more u ts) in
+    subst (λ (us : Trees). Rewrites (mult all) (mult us)) (first_joined t u ts (partners_of_pair t u p.pair)) (record { no_new_name = no_new_name (names_joined all); meanings = keeps (joined_keeps all) })
+pair_rewritten (suc n) (more t ts) p = let w = p.within in factors_rewritten (Rewrites-refl t) (pair_rewritten n ts (record { within = omega arith; pair = p.pair }))
+pair_rewritten n ts p = absurd (let w = p.within in omega arith)

@@ -1,7 +1,6 @@
 -- How many bytes suffice where two factors of a product are joined and their joint is reduced.
-use Rattle.std.proofs.Common.{◌≡◌, ℕ, zero, suc, ◌+◌, ◌*◌, ◌^◌, ◌≤◌, ◌<◌, List, length, inl, inr, Bool, true, false, not, ◌&&◌, if◌then◌else◌, refl, sym, ap, ◌∙◌, subst, arith}
-use Rattle.std.specs.Prelude.{◌-◌, max}
-use Rattle.deep_reduce.proofs.Shared.{and_parts, eqb-true, pow_pos, is_number, is_reduced, are_reduced, is_opaque_exponent, is_whole_num, base_of, number_words, reduced_words, counted, counted_among, SpansRoot, SpansTree, SpansTrees, number_bytes, tree_bytes, counted_number, counted_other, Tree, num, mult, power, Trees, none, more, count, is_mult, size, sizes, reduced_parts, IsJoinedFrom, whole_power_room, removed, base_in, exponent_of, joint, is_single, joined_pair, nth, exponent_count, numbers_among, product_count, sum_count, sum_room, product_room, power_room, product_power_room, counts_one, product_bytes, scaled, exponents_added}
+use Rattle.std.proofs.Common.{◌≡◌, ℕ, zero, suc, ◌+◌, ◌*◌, ◌^◌, ◌≤◌, ◌<◌, List, length, inl, inr, Bool, true, false, not, ◌&&◌, if◌then◌else◌, refl, sym, ap, ◌∙◌, subst, arith, ◌-◌, max}
+use Rattle.deep_reduce.proofs.Shared.{and_parts, eqb-true, pow_pos, is_number, is_reduced, are_reduced, is_opaque_exponent, is_whole_num, base_of, number_words, reduced_words, counted, counted_among, SpansRoot, SpansTree, SpansTrees, number_bytes, tree_bytes, counted_number, counted_other, Tree, num, mult, power, Trees, none, more, count, is_mult, size, sizes, reduced_parts, IsJoinedFrom, whole_power_room, removed, base_in, exponent_of, joint, is_single, joined_pair, nth, exponent_count, numbers_among, product_count, sum_count, sum_room, product_room, power_room, product_power_room, counts_one, product_bytes, scaled, exponents_added, not-true, reduced_nth}
 use Rattle.calc_room.proofs.NumberSpans.{value_spanned}
 use Rattle.deep_reduce.proofs.Calm.{all_nth, all_removed, all_base}
 use Rattle.deep_reduce.proofs.JointCounts.{joint_count, pair_joined_count, sizes_removed, numbers_one, numbers_other}
@@ -66,17 +65,7 @@ single_apart (power b e) r n h = by (is_opaque_exponent e) refl
     by : (x : Bool) → is_opaque_exponent e ≡ x → 1 ≤ exponent_count (exponent_of (power b e))
     by true o = absurd (cc (sym h ∙ ap (λ (x : Bool). is_mult (if x then power b e else b) && not (is_number (if x then power b e else b))) o))
     by false o = rw o (product_base b e r (and_parts (is_mult b) (not (is_number b)) (sym (ap (λ (x : Bool). is_mult (if x then power b e else b) && not (is_number (if x then power b e else b))) o) ∙ h)).0)
-single_apart (mult ts) r n h = cc
 single_apart t r n h = cc
-
-is_false : (x : Bool) → not x ≡ true → x ≡ false
-is_false true h = cc
-is_false false h = refl
-
-reduced_at : (n : ℕ) (ts : Trees) → n < count ts → are_reduced ts ≡ true → is_reduced (nth n ts) ≡ true
-reduced_at n none l h = absurd (omega arith)
-reduced_at zero (more t ts) l h = (and_parts (is_reduced t) (are_reduced ts) h).0
-reduced_at (suc n) (more t ts) l h = reduced_at n ts (omega arith) (and_parts (is_reduced t) (are_reduced ts) h).1
 
 base_of_joint : (t : Tree) → IsJoint t → is_reduced (base_in t) ≡ true
 base_of_joint t j = ap (λ (x : Tree). is_reduced (base_in x)) j.is ∙ j.base_reduced
@@ -87,14 +76,14 @@ joining at ts us j =
     let w = j.pair.within in
     let (both, partner) = and_parts (is_single (nth at ts) && is_single (nth (suc at) ts)) _ j.pair.pair in
     let (a, b) = and_parts (is_single (nth at ts)) (is_single (nth (suc at) ts)) both in
-    let first : is_reduced (nth at ts) ≡ true = reduced_at at ts (omega arith) j.reduced in
+    let first : is_reduced (nth at ts) ≡ true = reduced_nth at ts (omega arith) j.reduced in
     record {
       within = p.joint.within;
       is = p.joint-is;
       base_reduced = sym (ap (λ (x : Tree). is_reduced (base_in x)) p.joint-is) ∙ base_of_joint (nth at us) (joint_at p.joint);
       others = p.joint.others;
       count-is = omega (arith, ap (λ (xs : Trees). joint_count (nth at xs) + product_count (removed at xs)) j.is, pair_joined_count at ts j.pair, ap joint_count p.joint-is);
-      apart = single_apart (nth at ts) first (is_false _ (and_parts _ _ a).1);
+      apart = single_apart (nth at ts) first (not-true _ (and_parts _ _ a).1);
     }
 
 -- ---- bytes at hand

@@ -1,8 +1,7 @@
 -- What counts in a product while two of its factors are joined and their joint is reduced, and how many bytes stand beside it.
-use Rattle.std.proofs.Common.{◌≡◌, ℕ, zero, suc, ◌+◌, ◌*◌, ◌≤◌, ◌<◌, Bool, true, false, not, ◌&&◌, if◌then◌else◌, refl, sym, ap, ◌∙◌, arith}
-use Rattle.deep_reduce.proofs.Shared.{and_parts, is_number, is_opaque_exponent, num_one, base_of, counted, counted_among, counted_number, counted_other, Tree, add, power, Trees, none, more, count, size, sizes, replaced, removed, exponent_of, is_partner, joint, is_single, IsPairAt, joined_pair, nth, exponent_count, numbers_among, product_count, counts_one, power_counts}
+use Rattle.std.proofs.Common.{◌≡◌, ℕ, zero, suc, ◌+◌, ◌*◌, ◌≤◌, ◌<◌, Bool, true, false, ◌&&◌, if◌then◌else◌, refl, sym, ap, ◌∙◌, arith}
+use Rattle.deep_reduce.proofs.Shared.{and_parts, is_number, is_opaque_exponent, num_one, base_of, counted, counted_among, counted_number, counted_other, Tree, add, power, Trees, none, more, count, size, sizes, replaced, removed, exponent_of, is_partner, joint, is_single, IsPairAt, joined_pair, nth, exponent_count, numbers_among, product_count, counts_one, power_counts, not-true, one_base}
 use Rattle.deep_reduce.proofs.Calm.{one_whole}
-use Rattle.deep_reduce.proofs.Joints.{same_base}
 
 -- ---- among factors
 
@@ -24,17 +23,13 @@ factor_counts (power b e) = by (is_opaque_exponent e)
     by false = sym (power_counts b e)
 factor_counts t = rw one_whole (omega arith)
 
-is_false : (x : Bool) → not x ≡ true → x ≡ false
-is_false true h = cc
-is_false false h = refl
-
 -- the joint of two powers of b, whose exponents are not yet added, counts what these counted
 abbrev pub joint_count : Tree → ℕ
 joint_count (power b (add (more e (more f none)))) = 2 * counted b + exponent_count e + exponent_count f
 joint_count t = counted t
 
 pub joint_counts : (t u : Tree) → is_partner t u ≡ true → joint_count (joint t u) ≡ counted t + counted u
-joint_counts t u h = omega (arith, factor_counts t, factor_counts u, ap counted (same_base t u h))
+joint_counts t u h = omega (arith, factor_counts t, factor_counts u, ap counted (one_base t u h))
 
 -- ---- two neighbours joined
 
@@ -44,13 +39,11 @@ pub record CountsJoined (n : ℕ) (ts us : Trees) : Type 0 where
   pub others : counted_among (removed n us) + joint_count (nth n us) ≡ counted_among ts
 
 pub pair_counts : (n : ℕ) (ts : Trees) → IsPairAt n ts → CountsJoined n ts (joined_pair n (suc n) ts)
-pair_counts n none p = absurd (let w = p.within in omega arith)
-pair_counts zero (more t none) p = absurd (let w = p.within in omega arith)
 pair_counts zero (more t (more u ts)) p =
     let (both, partner) = and_parts (is_single t && is_single u) (is_partner t u) p.pair in
     let (a, b) = and_parts (is_single t) (is_single u) both in
-    let first : is_number t ≡ false = is_false _ (and_parts _ _ a).0 in
-    let second : is_number u ≡ false = is_false _ (and_parts _ _ b).0 in
+    let first : is_number t ≡ false = not-true _ (and_parts _ _ a).0 in
+    let second : is_number u ≡ false = not-true _ (and_parts _ _ b).0 in
     record {
       numbers = sym (numbers_other t (more u ts) first ∙ numbers_other u ts second);
       others = omega (arith, joint_counts t u partner, counted_other t (more u ts) first, counted_other u ts second);
@@ -59,6 +52,7 @@ pair_counts (suc n) (more t ts) p =
     let w = p.within in
     let c = pair_counts n ts (record { within = omega arith; pair = p.pair }) in
     record { numbers = omega (arith, c.numbers); others = omega (arith, c.others) }
+pair_counts n ts p = absurd (let w = p.within in omega arith)
 
 pub pair_joined_count : (n : ℕ) (ts : Trees) → IsPairAt n ts → (let us = joined_pair n (suc n) ts in joint_count (nth n us) + product_count (removed n us) ≤ product_count ts)
 pair_joined_count n ts p = let c = pair_counts n ts p in omega (arith, c.numbers, c.others)

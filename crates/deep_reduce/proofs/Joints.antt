@@ -1,22 +1,8 @@
 -- The joint of two factors: how it nests, and that it is never opaque.
-use Rattle.std.proofs.Common.{◌≡◌, suc, ◌≤◌, inl, inr, Bool, true, false, ◌&&◌, not, if◌then◌else◌, length, pos, refl, sym, ap, ◌∙◌, subst, arith}
-use Rattle.std.specs.Prelude.{max}
-use Rattle.deep_reduce.proofs.Shared.{and_parts, one_fraction, nest, nest_of, weight, load_of_factor, is_number, IsNumber, IsTerm, AreTerms, is_term, terms_of, term_of, Rises, are_numbers, is_reduced, is_opaque_exponent, is_whole_num, num_one, base_of, IsSumForm, NoneIs, number_terms, other_terms, Tree, num, symbol, undef, add, mult, power, root, neg, sub, div, Trees, none, more, is_add, HasTwo, whole_denominator, number_test, number_words, term_words, reduced_parts, number_of_term, nest_over, nest_of_joint, exponent_of, is_partner, joint}
-use Rattle.std.specs.Ordering.{is_eq}
-use Rattle.std.specs.declared.cmp.Ordering.{Ordering}
-use Rattle.std.specs.declared.cmp.Ordering.TheVariants.{Less, Equal, Greater}
-use Rattle.calc_algebra.specs.TreeOrder.{tree_cmp}
-use Rattle.calc_algebra.proofs.TreeOrderLaws.{tree_cmp_equal}
-use Rattle.deep_reduce.proofs.Heavy.{exponent_reduced}
-use Rattle.deep_reduce.proofs.Nests.{to_number, to_other, base_nest, over_base, over_exponents}
-
-pub same_base : (t u : Tree) → is_partner t u ≡ true → base_of t ≡ base_of u
-same_base t u h = tree_cmp_equal (base_of t) (base_of u) (equal (tree_cmp (base_of t) (base_of u)) h)
-  where
-    equal : (o : Ordering) → is_eq o ≡ true → o ≡ Equal
-    equal Less e = cc
-    equal Equal e = refl
-    equal Greater e = cc
+use Rattle.std.proofs.Common.{◌≡◌, suc, ◌≤◌, inl, inr, Bool, true, false, ◌&&◌, not, if◌then◌else◌, length, pos, refl, sym, ap, ◌∙◌, subst, arith, max}
+use Rattle.deep_reduce.proofs.Shared.{and_parts, one_fraction, nest, nest_of, weight, load_of_factor, is_number, IsNumber, IsTerm, AreTerms, is_term, terms_of, term_of, Rises, are_numbers, is_reduced, is_opaque_exponent, is_whole_num, num_one, base_of, IsSumForm, NoneIs, number_terms, other_terms, Tree, num, add, power, Trees, none, more, is_add, HasTwo, whole_denominator, number_test, number_words, term_words, reduced_parts, number_of_term, nest_over, nest_of_joint, exponent_of, joint, cases_Bool}
+use Rattle.deep_reduce.proofs.Clashes.{contrary}
+use Rattle.deep_reduce.proofs.Heavy.{exponent_reduced, to_number, to_other, base_nest, over_base, over_exponents}
 
 -- ---- exponents
 
@@ -62,7 +48,7 @@ no_number_sum e f o p = by (is_number (add (more e (more f none)))) refl
     by true h = absurd (two_rationals e f o p (number_words (add (more e (more f none))) h))
     by false h = refl
 
-power_no_number : (b e : Tree) → is_number (power b e) ≡ false
+pub power_no_number : (b e : Tree) → is_number (power b e) ≡ false
 unfolding is_number
 power_no_number b e = refl
 
@@ -78,15 +64,7 @@ own_power (power b e) = by (is_opaque_exponent e)
     by : (x : Bool) → nest (power (if x then power b e else b) (if x then num_one else e)) ≡ nest (power b e)
     by true = to_number (power b e) num_one one_number
     by false = refl
-own_power (num q) = to_number (num q) num_one one_number
-own_power (symbol x) = to_number (symbol x) num_one one_number
-own_power undef = to_number undef num_one one_number
-own_power (add ts) = to_number (add ts) num_one one_number
-own_power (mult ts) = to_number (mult ts) num_one one_number
-own_power (root a) = to_number (root a) num_one one_number
-own_power (neg a) = to_number (neg a) num_one one_number
-own_power (sub a b) = to_number (sub a b) num_one one_number
-own_power (div a b) = to_number (div a b) num_one one_number
+own_power t = to_number t num_one one_number
 
 pub base_of_nest : (t : Tree) → nest (base_of t) ≤ nest t
 base_of_nest t = omega (arith, base_nest (base_of t) (exponent_of t), own_power t)
@@ -113,11 +91,10 @@ terms_numbers none h = refl
 terms_numbers (more t ts) h = rw (number_test t (number_of_term t h.0), terms_numbers ts h.1) refl
 
 over_sum : (b : Tree) (ts : Trees) → nest_over b ts ≤ nest (power b (add ts))
-over_sum b ts = by (is_number (add ts)) refl
-  where
-    by : (x : Bool) → is_number (add ts) ≡ x → nest_over b ts ≤ nest (power b (add ts))
-    by true h = omega (arith, to_number b (add ts) h, numbers_over b ts (terms_numbers ts (number_words (add ts) h).1))
-    by false h = omega (arith, to_other b (add ts) h, each_over b ts)
+over_sum b ts = elim (cases_Bool (is_number (add ts))) [
+  | inl h ↦ omega (arith, to_number b (add ts) h, numbers_over b ts (terms_numbers ts (number_words (add ts) h).1))
+  | inr h ↦ omega (arith, to_other b (add ts) h, each_over b ts)
+]
 
 -- a tree whose exponent is a sum nests no less with that sum
 pub joint_below : (t : Tree) → nest_of_joint t ≤ nest t
@@ -130,19 +107,15 @@ number_terms_all : (ts : Trees) → are_numbers ts ≡ true → NoneIs is_add ts
 number_terms_all none n a o = (refl, tt)
 number_terms_all (more t ts) n a o = let k = and_parts _ _ n in by k.0 (is_term t) refl (λ p. number_terms_all ts k.1 a.1 p)
   where
-    clash : {x : Bool} → x ≡ true → x ≡ false → ⊥
-    clash e f = cc
-
     by : is_number t ≡ true → (x : Bool) → is_term t ≡ x → (NoneIs is_number (other_terms ts) → (number_terms ts ≡ ts) × AreTerms ts) → (number_terms (more t ts) ≡ more t ts) × AreTerms (more t ts)
     by p true h next =
         let rest = next (subst (λ (x : Bool). NoneIs is_number (if x then other_terms ts else more t ts)) h o) in
         (ap (λ (x : Bool). if x then more t (number_terms ts) else none) h ∙ ap (more t) rest.0, (term_words t h, rest.1))
-    by p false h next = absurd (clash p (subst (λ (x : Bool). NoneIs is_number (if x then other_terms ts else more t ts)) h o).0)
+    by p false h next = contrary p (subst (λ (x : Bool). NoneIs is_number (if x then other_terms ts else more t ts)) h o).0
 
-two_terms : (ts : Trees) → HasTwo ts → 2 ≤ length (terms_of ts)
+pub two_terms : (ts : Trees) → HasTwo ts → 2 ≤ length (terms_of ts)
 two_terms (more t (more u ts)) h = omega arith
-two_terms none h = absurd h
-two_terms (more t none) h = absurd h
+two_terms ts h = absurd h
 
 -- a reduced sum of Numbers is a Number
 form_number : (ts : Trees) → IsSumForm ts → are_numbers ts ≡ true → is_number (add ts) ≡ true

@@ -1,15 +1,15 @@
 -- Where a call inside of another one finds no bytes, the outer one has fewer than it needs.
-use Rattle.std.proofs.Common.{◌≡◌, ℕ, ℤ, suc, ◌+◌, ◌^◌, ◌≤◌, ◌<◌, List, length, Bool, true, false, not, ◌&&◌, if◌then◌else◌, Result, Ok, Err, refl, sym, ap, ◌∙◌, subst, arith}
-use Rattle.std.specs.Prelude.{IfErr, IsOk}
-use Rattle.deep_reduce.proofs.Shared.{is_number, is_reduced, is_whole_num, is_half_num, base_of, counted, SpansRoot, SpansTree, SpansTrees, whole_fraction, Tree, num, add, mult, power, root, Trees, none, more, append, is_mult, size, sizes, IsOver, IsReducedProduct, IsCalmAtZero, IsJoinedFrom, IsRewritten, whole_power_room, HandsOn, IsSummed, AreReducedPowers, IsLifted, IsMultiplied, IsProductOfPowers, State, free_of, LacksBelow, full_as, refusal_as, base_in, exponent_in, parts_of, raised, LacksStep, parts_span, whole_is, exponent_of, joint, nth, children_of, Forest, empty, bytes_in, kids, root_tree, put, Stands, forest, KeepsRefusals, NumberFault, used_forest, sizes-plains, HasCalmExponent, IsCalm, AreCalm, zeros, product_count, sum_count, sum_room, product_room, power_step_room, power_room, product_power_room, whole_number, scaled}
+use Rattle.std.proofs.Common.{◌≡◌, ℕ, suc, ◌+◌, ◌^◌, ◌≤◌, ◌<◌, List, length, Bool, true, false, not, ◌&&◌, if◌then◌else◌, Result, Ok, Err, refl, sym, ap, ◌∙◌, subst, arith, inl, inr, IfErr, IsOk}
+use Rattle.deep_reduce.proofs.Shared.{is_number, is_whole_num, is_half_num, base_of, counted, SpansRoot, SpansTree, SpansTrees, whole_fraction, Tree, num, add, mult, power, root, Trees, none, more, append, is_mult, size, sizes, IsOver, IsCalmAtZero, IsJoinedFrom, IsRewritten, whole_power_room, HandsOn, IsSummed, AreReducedPowers, IsLifted, IsProductOfPowers, State, free_of, LacksBelow, full_as, refusal_as, base_in, exponent_in, parts_of, LacksStep, parts_span, whole_is, exponent_of, joint, nth, children_of, Forest, empty, bytes_in, kids, root_tree, put, Stands, forest, KeepsRefusals, NumberFault, used_forest, sizes-plains, HasCalmExponent, IsCalm, AreCalm, zeros, product_count, sum_count, sum_room, product_room, power_step_room, power_room, product_power_room, whole_number, scaled, sizes_append, cases_Bool}
+use Rattle.deep_reduce.proofs.Clashes.{clash}
 use Rattle.coefficients.proofs.Bytes.{bytes_put}
 use Rattle.deep_reduce.proofs.Children.{IsPlaced}
 use Rattle.deep_reduce.proofs.Rows.{IsNext}
 use Rattle.deep_reduce.proofs.JointRooms.{joined_calm, joined_spans, summed_calm, summed_spans}
 use Rattle.deep_reduce.proofs.Calm.{all_nth, calm_exponent, calm_no_half, calm_product, calm_power}
 use Rattle.deep_reduce.proofs.JointBytes.{IsJoining, joining, exponents_lack as sum_lacks, power_lacks as joint_power_lacks, split_bytes}
-use Rattle.deep_reduce.proofs.PowerBytes.{argument_needs, inner_needs, exponents_lack, part_lacks, product_lacks, IsSplitAt, split_at, all_first, sizes_append}
-use Rattle.deep_reduce.proofs.Rewritten.{IsByWay, of_root, of_power, of_product, by_way, parts_calm, parts_single, powers_raised, exponents_calm, exponents_span, raised_calm}
+use Rattle.deep_reduce.proofs.PowerBytes.{argument_needs, inner_needs, exponents_lack, part_lacks, product_lacks, split_at, all_first}
+use Rattle.deep_reduce.proofs.Rewritten.{parts_calm, parts_single, powers_raised, exponents_calm, exponents_span, raised_calm, by_product, by_power}
 use Rattle.calc_terms.specs.declared.kind.Kind.TheVariants as kind
 
 -- ---- refusals
@@ -144,11 +144,7 @@ step_lacks gs t free f k = full_as f k (λ full l. by (is_mult (base_in t) && no
 -- a calm power that is refused is whole
 pub power_refused : {ns : List (List ℕ)} (n m : ℕ) (t : Tree) (f : NumberFault) → t ≡ power (base_in t) (exponent_in t) → IsCalmAtZero ns t → (is_whole_num (exponent_in t) ≡ true → LacksBelow n m f)
     → (is_whole_num (exponent_in t) ≡ false → is_half_num (exponent_in t) ≡ false → false ≡ true) → LacksBelow n m f
-power_refused {ns} n m t f p c room others = by (is_whole_num (exponent_in t)) refl
-  where
-    by : (z : Bool) → is_whole_num (exponent_in t) ≡ z → LacksBelow n m f
-    by true w = room w
-    by false w = let no : false ≡ true = others w (calm_no_half (subst (IsCalmAtZero ns) p c)) in cc
+power_refused {ns} n m t f p c room others = elim (cases_Bool (is_whole_num (exponent_in t))) [ inl w ↦ room w | inr w ↦ let no : false ≡ true = others w (calm_no_half (subst (IsCalmAtZero ns) p c)) in cc ]
 
 pub power_result : {ns : List (List ℕ)} {A : Type 0} (n m : ℕ) (t : Tree) (r : Result A NumberFault) → t ≡ power (base_in t) (exponent_in t) → IsCalmAtZero ns t → (is_whole_num (exponent_in t) ≡ true → IfErr r (LacksBelow n m))
     → (is_whole_num (exponent_in t) ≡ false → is_half_num (exponent_in t) ≡ false → IsOk r) → IfErr r (LacksBelow n m)
@@ -166,80 +162,46 @@ pub record IsReadyFor (gs : List ℕ) (ns : List (List ℕ)) (need own : ℕ) (v
 -- a product of powers
 pub ready_product : (gs : List ℕ) (ns : List (List ℕ)) (b e t v : Tree) → is_mult t ≡ true → IsRewritten b e t → IsCalmAtZero ns (power b e) → SpansTree gs (power b e) → IsProductOfPowers (children_of t) v
     → IsReadyFor gs ns (product_room (product_count (children_of v)) (2 ^ length gs)) (whole_power_room b (2 ^ length gs)) v
-ready_product gs ns b e t v m w c s p = by (by_way b e t w)
-  where
-    of : (fs : Trees) → is_reduced (mult fs) ≡ true → is_number (mult fs) ≡ false → IsCalmAtZero ns (power (mult fs) e) → SpansTree gs (power (mult fs) e) → AreReducedPowers (raised (parts_of fs) e) p.factors
-        → IsReadyFor gs ns (product_room (product_count p.factors) (2 ^ length gs)) (whole_power_room (mult fs) (2 ^ length gs)) (mult p.factors)
-    of fs r n c s a =
-        let x = powers_raised ns (parts_of fs) e p.factors w.whole (calm_exponent c) (parts_calm (zeros ns) fs c.calm.1.1) (parts_single fs r n) a in
-        record {
-          calm = calm_product c.once x.calm;
-          spanned = (tt, x.spanned gs (parts_span gs fs s.1.1));
-          lacks = λ bytes l. product_lacks gs ns fs e r n w.whole c s.1.1 p.factors bytes a l;
-        }
-
-    by : IsByWay b e t → IsReadyFor gs ns (product_room (product_count (children_of v)) (2 ^ length gs)) (whole_power_room b (2 ^ length gs)) v
-    by (of_root a z i j n) = absurd (cc (sym m ∙ ap is_mult j))
-    by (of_power d f i j) = absurd (cc (sym m ∙ ap is_mult j))
-    by (of_product fs i j n) =
-        let here = of fs (sym (ap is_reduced i) ∙ w.base) n (subst (λ (x : Tree). IsCalmAtZero ns (power x e)) i c) (subst (λ (x : Tree). SpansTree gs (power x e)) i s) (subst (λ (x : Tree). AreReducedPowers (children_of x) p.factors) j p.are) in
-        subst (λ (x : Tree). IsReadyFor gs ns (product_room (product_count (children_of v)) (2 ^ length gs)) (whole_power_room x (2 ^ length gs)) v) (sym i)
-        (subst (λ (y : Tree). IsReadyFor gs ns (product_room (product_count (children_of y)) (2 ^ length gs)) (whole_power_room (mult fs) (2 ^ length gs)) y) (sym p.is) here)
+ready_product gs ns b e t v m w c s p =
+    by_product (λ (x y : Tree). IsCalmAtZero ns (power x e) → SpansTree gs (power x e) → AreReducedPowers (children_of y) p.factors
+    → IsReadyFor gs ns (product_room (product_count (children_of v)) (2 ^ length gs)) (whole_power_room x (2 ^ length gs)) v) b e t m w
+    (λ fs r n c s a.
+    let x = powers_raised ns (parts_of fs) e p.factors w.whole (calm_exponent c) (parts_calm (zeros ns) fs c.calm.1.1) (parts_single fs r n) a in
+    subst (λ (y : Tree). IsReadyFor gs ns (product_room (product_count (children_of y)) (2 ^ length gs)) (whole_power_room (mult fs) (2 ^ length gs)) y) (sym p.is) (record {
+      calm = calm_product c.once x.calm;
+      spanned = (tt, x.spanned gs (parts_span gs fs s.1.1));
+      lacks = λ bytes l. product_lacks gs ns fs e r n w.whole c s.1.1 p.factors bytes a l;
+    })) c s p.are
 
 -- a power whose exponent is lifted
 pub ready_power : (gs : List ℕ) (ns : List (List ℕ)) (b e t v : Tree) → is_mult t ≡ false → IsRewritten b e t → IsCalmAtZero ns (power b e) → SpansTree gs (power b e) → IsLifted t v
     → IsReadyFor gs ns (whole_power_room (base_in v) (2 ^ length gs)) (whole_power_room b (2 ^ length gs)) v
-ready_power gs ns b e t v m w c s l = by (by_way b e t w)
-  where
-    as_base : (x : Tree) → b ≡ x → IsReadyFor gs ns (whole_power_room (base_in v) (2 ^ length gs)) (whole_power_room x (2 ^ length gs)) v → IsReadyFor gs ns (whole_power_room (base_in v) (2 ^ length gs)) (whole_power_room b (2 ^ length gs)) v
-    as_base x i h = subst (λ (y : Tree). IsReadyFor gs ns (whole_power_room (base_in v) (2 ^ length gs)) (whole_power_room y (2 ^ length gs)) v) (sym i) h
-
-    as_tree : (x own : Tree) → v ≡ x → IsReadyFor gs ns (whole_power_room (base_in x) (2 ^ length gs)) (whole_power_room own (2 ^ length gs)) x → IsReadyFor gs ns (whole_power_room (base_in v) (2 ^ length gs)) (whole_power_room own (2 ^ length gs)) v
-    as_tree x own i h = subst (λ (y : Tree). IsReadyFor gs ns (whole_power_room (base_in y) (2 ^ length gs)) (whole_power_room own (2 ^ length gs)) y) (sym i) h
-
-    in_root : (a : Tree) (z : ℤ) → is_reduced (root a) ≡ true → is_number (root a) ≡ false → IsCalmAtZero ns (power (root a) e) → SpansTree gs (power (root a) e)
-        → IsReadyFor gs ns (whole_power_room a (2 ^ length gs)) (whole_power_room (root a) (2 ^ length gs)) (power a (num (whole_fraction z)))
-    in_root a z r n c s = record {
+ready_power gs ns b e t v m w c s l =
+    by_power (λ (x y : Tree). IsCalmAtZero ns (power x e) → SpansTree gs (power x e) → IsLifted y v → IsReadyFor gs ns (whole_power_room (base_in v) (2 ^ length gs)) (whole_power_room x (2 ^ length gs)) v) b e t m w
+    (λ a z r n c s k. as_tree (power a (num (whole_fraction z))) (root a) k (record {
       calm = calm_power (record { once = c.once; calm = c.calm.1.1 }) (record { once = c.once; calm = tt }) (whole_number (zeros ns) (num (whole_fraction z)) (whole_is z));
       spanned = (tt, s.1.1, tt);
       lacks = λ bytes l. omega (arith, l, argument_needs a (2 ^ length gs) r n);
-    }
-
-    in_power : (d f g : Tree) → is_reduced (power d f) ≡ true → IsCalmAtZero ns (power (power d f) e) → SpansTree gs (power (power d f) e) → IsReducedProduct (more f (more e none)) g
-        → IsReadyFor gs ns (whole_power_room d (2 ^ length gs)) (whole_power_room (power d f) (2 ^ length gs)) (power d g)
-    in_power d f g r c s a = record {
-      calm = raised_calm d f e g w.whole c a;
-      spanned = (tt, s.1.1, a.room.spanned gs ns (exponents_calm d f e w.whole c) (exponents_span gs d f e s));
+    }))
+    (λ d f r c s x. as_tree (power d x.exponent) (power d f) x.is (record {
+      calm = raised_calm d f e x.exponent w.whole c x.product;
+      spanned = (tt, s.1.1, x.product.room.spanned gs ns (exponents_calm d f e w.whole c) (exponents_span gs d f e s));
       lacks = λ bytes l. omega (arith, l, inner_needs d f (2 ^ length gs) r);
-    }
-
-    lifted : (d f : Tree) → b ≡ power d f → IsMultiplied d (more f (more e none)) v → IsReadyFor gs ns (whole_power_room (base_in v) (2 ^ length gs)) (whole_power_room (power d f) (2 ^ length gs)) v
-    lifted d f i x = as_tree (power d x.exponent) (power d f) x.is (in_power d f x.exponent (sym (ap is_reduced i) ∙ w.base) (subst (λ (y : Tree). IsCalmAtZero ns (power y e)) i c) (subst (λ (y : Tree). SpansTree gs (power y e)) i s) x.product)
-
-    by : IsByWay b e t → IsReadyFor gs ns (whole_power_room (base_in v) (2 ^ length gs)) (whole_power_room b (2 ^ length gs)) v
-    by (of_root a z i j n) =
-        as_base (root a) i (as_tree (power a (num (whole_fraction z))) (root a) (subst (λ (y : Tree). IsLifted y v) j l)
-        (in_root a z (sym (ap is_reduced i) ∙ w.base) n (subst (λ (y : Tree). IsCalmAtZero ns (power y e)) i c) (subst (λ (y : Tree). SpansTree gs (power y e)) i s)))
-    by (of_power d f i j) = as_base (power d f) i (lifted d f i (subst (λ (y : Tree). IsLifted y v) j l))
-    by (of_product fs i j n) = absurd (cc (sym m ∙ ap is_mult j))
+    })) c s l
+  where
+    as_tree : (x own : Tree) → v ≡ x → IsReadyFor gs ns (whole_power_room (base_in x) (2 ^ length gs)) (whole_power_room own (2 ^ length gs)) x → IsReadyFor gs ns (whole_power_room (base_in v) (2 ^ length gs)) (whole_power_room own (2 ^ length gs)) v
+    as_tree x own i h = subst (λ (y : Tree). IsReadyFor gs ns (whole_power_room (base_in y) (2 ^ length gs)) (whole_power_room own (2 ^ length gs)) y) (sym i) h
 
 -- the exponent x of a power, a product of exponents
 pub ready_exponent : (gs : List ℕ) (ns : List (List ℕ)) (b e t x : Tree) → is_mult t ≡ false → is_mult x ≡ true → x ≡ exponent_in t → IsRewritten b e t → IsCalmAtZero ns (power b e) → SpansTree gs (power b e)
     → IsCalmAtZero ns x × SpansTree gs x × ((bytes : ℕ) → bytes < product_room (product_count (children_of x)) (2 ^ length gs) → bytes + 8 + size (base_in t) < whole_power_room b (2 ^ length gs))
-ready_exponent gs ns b e t x m k h w c s = by (by_way b e t w)
+ready_exponent gs ns b e t x m k h w c s =
+    by_power (λ (d u : Tree). x ≡ exponent_in u → IsCalmAtZero ns (power d e) → SpansTree gs (power d e) → Ready x u d) b e t m w (λ a z r n h c s. clash (sym k ∙ ap is_mult h))
+    (λ d f r h c s. subst (λ (y : Tree). Ready y (power d (mult (more f (more e none)))) (power d f)) (sym h)
+    (exponents_calm d f e w.whole c, exponents_span gs d f e s, λ bytes l. exponents_lack gs d f e bytes r w.whole s.1.1 l)) h c s
   where
     Ready : Tree → Tree → Tree → Type 0
     Ready y u d = IsCalmAtZero ns y × SpansTree gs y × ((bytes : ℕ) → bytes < product_room (product_count (children_of y)) (2 ^ length gs) → bytes + 8 + size (base_in u) < whole_power_room d (2 ^ length gs))
-
-    in_power : (d f : Tree) → is_reduced (power d f) ≡ true → IsCalmAtZero ns (power (power d f) e) → SpansTree gs (power (power d f) e) → Ready (mult (more f (more e none))) (power d (mult (more f (more e none)))) (power d f)
-    in_power d f r c s = (exponents_calm d f e w.whole c, exponents_span gs d f e s, λ bytes l. exponents_lack gs d f e bytes r w.whole s.1.1 l)
-
-    by : IsByWay b e t → Ready x t b
-    by (of_root a z i j n) = absurd (cc (sym k ∙ ap is_mult (h ∙ ap exponent_in j)))
-    by (of_power d f i j) =
-        subst (λ (y : Tree). Ready x t y) (sym i) (subst (λ (y : Tree). Ready x y (power d f)) (sym j) (subst (λ (y : Tree). Ready y (power d (mult (more f (more e none)))) (power d f)) (sym (h ∙ ap exponent_in j))
-        (in_power d f (sym (ap is_reduced i) ∙ w.base) (subst (λ (y : Tree). IsCalmAtZero ns (power y e)) i c) (subst (λ (y : Tree). SpansTree gs (power y e)) i s))))
-    by (of_product fs i j n) = absurd (cc (sym m ∙ ap is_mult j))
 
 -- the next power x of a product, the first of which are reduced
 pub record IsReadyPart (gs : List ℕ) (ns : List (List ℕ)) (b x : Tree) (others : Trees) : Type 0 where
@@ -250,24 +212,15 @@ pub record IsReadyPart (gs : List ℕ) (ns : List (List ℕ)) (b x : Tree) (othe
 
 pub ready_part : (gs : List ℕ) (ns : List (List ℕ)) (b e t x : Tree) (done rest reduced : Trees) → is_mult t ≡ true → IsRewritten b e t → IsCalmAtZero ns (power b e) → SpansTree gs (power b e)
     → children_of t ≡ append done (more x rest) → AreReducedPowers done reduced → IsReadyPart gs ns b x (append reduced rest)
-ready_part gs ns b e t x done rest reduced m w c s p a = by (by_way b e t w)
-  where
-    part : (fs : Trees) → is_reduced (mult fs) ≡ true → is_number (mult fs) ≡ false → IsCalmAtZero ns (power (mult fs) e) → SpansTree gs (power (mult fs) e) → (q : IsSplitAt (parts_of fs) e done x rest)
-        → IsReadyPart gs ns (mult fs) (power q.part e) (append reduced (raised q.last e))
-    part fs r n c s q =
-        let calm = all_first (HasCalmExponent (zeros ns)) q.first (more q.part q.last) (subst (AreCalm (zeros ns)) q.split (parts_calm (zeros ns) fs c.calm.1.1)) in
-        let spanned = all_first (SpansRoot gs) q.first (more q.part q.last) (subst (SpansTrees gs) q.split (parts_span gs fs s.1.1)) in
-        record {
-          calm = calm_power (record { once = c.once; calm = calm.1.0 }) (calm_exponent c) (whole_number (zeros ns) e w.whole);
-          spanned = (tt, spanned.1.0, s.2);
-          whole = w.whole;
-          lacks = λ bytes l. part_lacks gs ns fs e r n w.whole c s.1.1 q.first q.part q.last reduced bytes q.split (subst (λ (y : Trees). AreReducedPowers y reduced) q.before-is a) l;
-        }
-
-    by : IsByWay b e t → IsReadyPart gs ns b x (append reduced rest)
-    by (of_root d z i j n) = absurd (cc (sym m ∙ ap is_mult j))
-    by (of_power d f i j) = absurd (cc (sym m ∙ ap is_mult j))
-    by (of_product fs i j n) =
-        let q = split_at (parts_of fs) e done x rest (sym (ap children_of j) ∙ p) in
-        subst (λ (y : Tree). IsReadyPart gs ns y x (append reduced rest)) (sym i) (subst (λ (y : Tree). IsReadyPart gs ns (mult fs) y (append reduced rest)) (sym q.is) (subst (λ (y : Trees). IsReadyPart gs ns (mult fs) (power q.part e) (append reduced y)) (sym q.rest-is)
-        (part fs (sym (ap is_reduced i) ∙ w.base) n (subst (λ (y : Tree). IsCalmAtZero ns (power y e)) i c) (subst (λ (y : Tree). SpansTree gs (power y e)) i s) q)))
+ready_part gs ns b e t x done rest reduced m w c s p a =
+    by_product (λ (y u : Tree). IsCalmAtZero ns (power y e) → SpansTree gs (power y e) → children_of u ≡ append done (more x rest) → IsReadyPart gs ns y x (append reduced rest)) b e t m w
+    (λ fs r n c s p.
+    let q = split_at (parts_of fs) e done x rest p in
+    let calm = all_first (HasCalmExponent (zeros ns)) q.first (more q.part q.last) (subst (AreCalm (zeros ns)) q.split (parts_calm (zeros ns) fs c.calm.1.1)) in
+    let spanned = all_first (SpansRoot gs) q.first (more q.part q.last) (subst (SpansTrees gs) q.split (parts_span gs fs s.1.1)) in
+    subst (λ (y : Tree). IsReadyPart gs ns (mult fs) y (append reduced rest)) (sym q.is) (subst (λ (y : Trees). IsReadyPart gs ns (mult fs) (power q.part e) (append reduced y)) (sym q.rest-is) (record {
+      calm = calm_power (record { once = c.once; calm = calm.1.0 }) (calm_exponent c) (whole_number (zeros ns) e w.whole);
+      spanned = (tt, spanned.1.0, s.2);
+      whole = w.whole;
+      lacks = λ bytes l. part_lacks gs ns fs e r n w.whole c s.1.1 q.first q.part q.last reduced bytes q.split (subst (λ (y : Trees). AreReducedPowers y reduced) q.before-is a) l;
+    }))) c s p

@@ -1,10 +1,7 @@
-mod Ranks
-mod Nests
-mod Counts
+mod Clashes
 mod Heavy
 mod Joints
 mod Joined
-mod Pairs
 mod Calm
 mod JointCounts
 mod JointRooms
@@ -15,17 +12,12 @@ mod PowerRooms
 mod Rewritten
 mod PowerBytes
 mod Lacking
-mod Defined
-mod Gathered
-mod Opened
+pub mod Opened
 mod HalfPowers
-mod HalfRooms
 mod Finished
 mod Measures
 mod Children
 mod Rows
-mod Chains
-mod Nested
 mod Falls
 mod Arms
 pub mod NodeRooms
@@ -38,7 +30,6 @@ pub mod Overflowing
 pub mod EasyNodes
 pub mod NodeAnswers
 pub mod Rationals
-pub mod Fitting
 pub mod Steps
 pub mod Quotients
 pub mod Parents
@@ -49,7 +40,6 @@ pub mod Sides
 pub mod Told
 pub mod HeldExponents
 pub mod HeldFactors
-pub mod Wholes
 pub mod HeldParts
 pub mod HeldPowers
 pub mod HeldJoints
@@ -58,5 +48,4 @@ pub mod HeldRoots
 pub mod HeldFits
 pub mod NodeBits
 pub mod TreeBits
-pub mod BitsBeyond
 pub mod Shared

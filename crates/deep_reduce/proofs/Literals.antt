@@ -1,6 +1,6 @@
 -- Exponents that are written as a whole number or as half of an odd one are reduced to that number.
 use Rattle.std.proofs.Common.{◌≡◌, ℕ, zero, suc, ℤ, pos, neg_ℤ, ◌*ℤ◌, [], Bool, true, false, ◌&&◌, ◌==◌, not, if◌then◌else◌, Option, Some, None, refl, sym, ap, ◌∙◌, subst, arith}
-use Rattle.deep_reduce.proofs.Shared.{and_parts, eqb-true, ints, is_half_num, half_of, half_of_is, whole_literal, whole_value, half_literal, half_value, half_quotient, int_is_two, is_half_literal, is_some, opposite, IsPlainAnswer, PlainValue, exactly, undefined, overflow, nothing, calculated, plain_value, divided, gather, values, on_one, mul_op, result_of, operation_fits, Fraction, lowest, times, negative, inverse, inverse_of, whole_fraction, lowest_parts, times_lowest, int_is_even, int_is_zero, Tree, num, neg, div, numerator, negative_parts, whole_of}
+use Rattle.deep_reduce.proofs.Shared.{and_parts, eqb-true, ints, is_half_num, half_of, half_of_is, whole_literal, whole_value, half_literal, half_value, half_quotient, int_is_two, is_half_literal, is_some, opposite, IsPlainAnswer, PlainValue, exactly, undefined, overflow, calculated, plain_value, divided, gather, values, on_one, mul_op, result_of, operation_fits, Fraction, lowest, times, negative, inverse, inverse_of, whole_fraction, lowest_parts, times_lowest, int_is_even, int_is_zero, Tree, num, neg, div, numerator, negative_parts, whole_of, not-true}
 
 chosen : (b : Bool) (m n : ℤ) → (if b then Some m else None) ≡ Some n → (b ≡ true) × (m ≡ n)
 chosen true m n e = (refl, value_in e)
@@ -43,10 +43,6 @@ is_two : (z : ℤ) → int_is_two z ≡ true → z ≡ pos 2
 is_two (pos (suc (suc zero))) h = refl
 is_two z h = cc
 
-is_false : (x : Bool) → not x ≡ true → x ≡ false
-is_false true h = cc
-is_false false h = refl
-
 one_times : (z : ℤ) → z *ℤ pos 1 ≡ z
 one_times z = omega (arith, ints)
 
@@ -74,7 +70,7 @@ quotient_half n d h =
     let (abc, z) = and_parts _ _ h in
     let (ab, y) = and_parts _ _ abc in
     let (a, b) = and_parts _ _ ab in
-    divided_half n d (eqb-true n.den 1 a) (is_false _ b) (is_two d.num y) (eqb-true d.den 1 z)
+    divided_half n d (eqb-true n.den 1 a) (not-true _ b) (is_two d.num y) (eqb-true d.den 1 z)
 
 negative_half : (q : Fraction) (n : ℤ) → IsHalfOf n (exactly q) → IsHalfOf (neg_ℤ n) (exactly (negative q))
 negative_half q n h = let p = negative_parts q q.num q.den refl refl in (ap (λ (m : ℕ). m == 2) p.den ∙ h.0, p.num ∙ ap neg_ℤ h.1)
@@ -82,8 +78,7 @@ negative_half q n h = let p = negative_parts q q.num q.den refl refl in (ap (λ 
 negated_half : (n : ℤ) (v : PlainValue) → IsHalfOf n v → IsHalfOf (neg_ℤ n) (on_one (λ q. exactly (negative q)) (gather v (values [])))
 negated_half n (exactly q) h = negative_half q n h
 negated_half n (overflow op a b) h = tt
-negated_half n undefined h = absurd h
-negated_half n nothing h = absurd h
+negated_half n v h = absurd h
 
 half_value_is : (e : Tree) (n : ℤ) → half_literal e ≡ Some n → IsHalfOf n (plain_value e)
 half_value_is (num q) n h = let (w, i) = chosen (q.den == 2) q.num n h in (w, i)
@@ -103,8 +98,7 @@ half_value_is e n h = cc
 answer_half : (n : ℤ) (v : PlainValue) (r : Tree) → IsHalfOf n v → IsPlainAnswer v r → (is_half_num r ≡ true) × (numerator r ≡ n)
 answer_half n (exactly q) r h a = (ap is_half_num a ∙ h.0, ap numerator a ∙ h.1)
 answer_half n (overflow op x y) r h a = absurd a
-answer_half n undefined r h a = absurd h
-answer_half n nothing r h a = absurd h
+answer_half n v r h a = absurd h
 
 pub half_literal_answer : (e f : Tree) (n : ℤ) → half_literal e ≡ Some n → IsPlainAnswer (plain_value e) f → (is_half_num f ≡ true) × (numerator f ≡ n)
 half_literal_answer e f n h a = answer_half n (plain_value e) f (half_value_is e n h) a

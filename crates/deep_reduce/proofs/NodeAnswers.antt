@@ -1,7 +1,8 @@
 -- The answer of a node over answered children is the answer of the whole tree.
-use Rattle.std.proofs.Common.{◌≡◌, true, false, inl, inr, refl, sym, subst}
-use Rattle.deep_reduce.proofs.Shared.{IsBad, IsEasy, Tree, undef, Trees, none, more, is_undef, IsPart, IsPartOf, itself, in_add, in_mult, in_base, in_exponent, in_root, in_neg, in_left, in_right, in_dividend, in_divisor, first, later, has_undef, IsNodeAnswer, IsReducedFrom, reduces_after, children_of}
-use Rattle.deep_reduce.proofs.EasyNodes.{answered_easy, or_true, undef_test}
+use Rattle.std.proofs.Common.{◌≡◌, true, false, refl, sym, subst}
+use Rattle.deep_reduce.proofs.Shared.{IsBad, IsEasy, Tree, undef, Trees, none, more, is_undef, IsPart, IsPartOf, itself, in_add, in_mult, in_base, in_exponent, in_root, in_neg, in_left, in_right, in_dividend, in_divisor, first, later, has_undef, IsNodeAnswer, IsReducedFrom, reduces_after, children_of, or_left, or_right}
+use Rattle.deep_reduce.proofs.Clashes.{undef_test}
+use Rattle.deep_reduce.proofs.EasyNodes.{answered_easy}
 use Rattle.deep_reduce.proofs.NodeRewrites.{AreReducedFrom, IsOver, over_sum, over_product, over_power, over_root, over_neg, over_sub, over_div, over_rewrites}
 use Rattle.deep_reduce.proofs.PlainNodes.{answered_plain, undef_has_no_value}
 use Rattle.deep_reduce.proofs.TreeBits.{node_held, node_leaf}
@@ -16,17 +17,17 @@ module _ (p : Tree) (e : IsEasy p) (b : IsBad p) where
   undef_among : (ts us : Trees) → AreReducedFrom ts us → IsPartOf p ts → has_undef us ≡ true
   undef_among none us h k = elim k [ ]
   undef_among (more t ts) none h k = absurd h
-  undef_among (more t ts) (more u us) h (first k) = or_true (is_undef u) (has_undef us) (inl (undef_answer t u h.0 k))
-  undef_among (more t ts) (more u us) h (later k) = or_true (is_undef u) (has_undef us) (inr (undef_among ts us h.1 k))
+  undef_among (more t ts) (more u us) h (first k) = or_left (is_undef u) (has_undef us) (undef_answer t u h.0 k)
+  undef_among (more t ts) (more u us) h (later k) = or_right (is_undef u) (has_undef us) (undef_among ts us h.1 k)
 
   first_undef : (c d : Tree) → is_undef c ≡ true → has_undef (more c (more d none)) ≡ true
-  first_undef c d h = or_true (is_undef c) (has_undef (more d none)) (inl h)
+  first_undef c d h = or_left (is_undef c) (has_undef (more d none)) h
 
   second_undef : (c d : Tree) → is_undef d ≡ true → has_undef (more c (more d none)) ≡ true
-  second_undef c d h = or_true (is_undef c) (has_undef (more d none)) (inr (or_true (is_undef d) false (inl h)))
+  second_undef c d h = or_right (is_undef c) (has_undef (more d none)) (or_left (is_undef d) false h)
 
   only_undef : (c : Tree) → is_undef c ≡ true → has_undef (more c none) ≡ true
-  only_undef c h = or_true (is_undef c) false (inl h)
+  only_undef c h = or_left (is_undef c) false h
 
   in_child : (t u r : Tree) → (has_undef (children_of u) ≡ true) → IsNodeAnswer u r → r ≡ undef
   in_child t u r h a = a.undefined (undef_has_no_value u h)

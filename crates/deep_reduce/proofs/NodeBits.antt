@@ -1,20 +1,14 @@
 -- What holds a node over reduced children holds its answer.
-use Rattle.std.proofs.Common.{◌≡◌, ◌≢◌, ℕ, zero, suc, ◌+◌, ◌*◌, ◌^◌, ◌≤◌, [], ◌∷◌, ℤ, pos, negsuc, Bool, true, false, ◌||◌, if◌then◌else◌, Option, Some, None, Result, Ok, Err, refl, sym, ap, ◌∙◌, subst, arith}
-use Rattle.std.specs.Prelude.{IfOk, IfErr, IsOk}
-use Rattle.deep_reduce.proofs.Shared.{pow_pos, pow-add, pow-le-pow_right, is_number, value, is_half_num, is_whole_num, num_one, Surd, surd_of, number_test, one_not_zero, IsHeld, HighLow, Fraction, zero_fraction, one_fraction, minus_one_fraction, whole_fraction, is_zero_fraction, int_is_zero, zero_test, whole_numerator, Tree, num, symbol, undef, add, mult, power, root, neg, sub, div, Trees, none, more, is_num, is_add, is_mult, is_root, is_sub, is_div, is_undef, has_undef, IsReducedPower, lacks_power, HasFewBits, is_leaf, HoldsPower, holds_whole, holds_half, holds_kept, HoldsDifference, HoldsQuotient, HoldsNode, IsNodeOverflow, is_neg, numerator, base_in, exponent_in, has_number_power, HasFewBitsRaised, HasWideRoot, IsOverflow, argument_of, IfRational, IsNoLargerThanRoot, int_is_negative, is_zero_or_one, rewritten, as_whole, IsFactorHeld, AreFactorsHeld, none_held, number_as_factor, no_factors_held, IsSumHeld, addends_of_each, trees_together, minus_one_held, nothing_held, nth, children_of, IfOverflow, OfOverflow, NumberFault}
+use Rattle.std.proofs.Common.{◌≡◌, ◌≢◌, ℕ, zero, suc, ◌+◌, ◌*◌, ◌^◌, ◌≤◌, [], ◌∷◌, ℤ, pos, negsuc, Bool, true, false, ◌||◌, if◌then◌else◌, Option, Some, None, Result, Ok, Err, refl, sym, ap, ◌∙◌, subst, arith, inl, inr, IfOk, IfErr, IsOk}
+use Rattle.deep_reduce.proofs.Shared.{pow_pos, pow-add, pow-le-pow_right, value, is_half_num, is_whole_num, num_one, Surd, surd_of, one_not_zero, IsHeld, HighLow, Fraction, zero_fraction, one_fraction, minus_one_fraction, whole_fraction, is_zero_fraction, int_is_zero, zero_test, whole_numerator, Tree, num, undef, power, Trees, none, more, is_num, is_undef, has_undef, IsReducedPower, lacks_power, HasFewBits, is_leaf, HoldsPower, holds_whole, holds_half, holds_kept, HoldsDifference, HoldsNode, IsNodeOverflow, numerator, has_number_power, HasFewBitsRaised, HasWideRoot, IsOverflow, IfRational, IsNoLargerThanRoot, int_is_negative, is_zero_or_one, rewritten, as_whole, IsFactorHeld, AreFactorsHeld, none_held, number_as_factor, no_factors_held, IsSumHeld, addends_of_each, trees_together, minus_one_held, nothing_held, children_of, IfOverflow, OfOverflow, NumberFault, or_parts, cases_Bool, symbol}
+use Rattle.deep_reduce.proofs.Clashes.{clash, rational_number}
 use Rattle.deep_reduce.proofs.HeldFactors.{factor_wider, factor_tree}
 use Rattle.deep_reduce.proofs.HeldParts.{fine}
 use Rattle.deep_reduce.proofs.HeldRoots.{root_fits}
-use Rattle.deep_reduce.proofs.Wholes.{whole_rewriting}
+use Rattle.deep_reduce.proofs.Opened.{whole_rewriting}
 use Rattle.product_reduce.specs.Bits.{factor_held}
 use Rattle.calc_bits.specs.Bounds as few
 use Rattle.tree_handles.specs.declared.fault.NumberFault.TheVariants as fault
-
-clash : {A : Type 0} → true ≡ false → A
-clash e = absurd cc
-
-rational_number : (q : Fraction) → is_number (num q) ≡ true
-rational_number q = number_test (num q) tt
 
 -- ---- rationals
 
@@ -45,19 +39,11 @@ opposite_factors a {h} {l} k = factor_held 0 0 h l minus_one (factor_held h l 0 
 pub two_factors : (a b : Tree) {p q k n h l : ℕ} → IsFactorHeld a p q → IsFactorHeld b k n → p + k ≤ h → q + n ≤ l → AreFactorsHeld (more a (more b none)) h l
 two_factors a b {p} {q} {k} {n} x y i j = factor_held p q k n x (factor_held k n 0 0 y none_held (omega arith) (omega arith)) i j
 
-or_first : (a b : Bool) → (a || b) ≡ false → a ≡ false
-or_first true b h = cc
-or_first false b h = refl
-
-or_second : (a b : Bool) → (a || b) ≡ false → b ≡ false
-or_second true b h = cc
-or_second false b h = h
-
 pub first_side : (a b : Tree) → has_undef (more a (more b none)) ≡ false → is_undef a ≡ false
-first_side a b h = or_first (is_undef a) (is_undef b || false) h
+first_side a b h = (or_parts (is_undef a) (is_undef b || false) h).0
 
 pub second_side : (a b : Tree) → has_undef (more a (more b none)) ≡ false → is_undef b ≡ false
-second_side a b h = or_first (is_undef b) false (or_second (is_undef a) (is_undef b || false) h)
+second_side a b h = (or_parts (is_undef b) false (or_parts (is_undef a) (is_undef b || false) h).1).0
 
 abbrev of : ℕ → ℕ → HighLow
 of x y = record { high = x; low = y }
@@ -81,7 +67,10 @@ only_undef a d = ap (λ (b : Bool). b || false) d
 
 -- no rule changes a power whose exponent is no rational
 kept_power : (b e r : Tree) → is_num e ≡ false → IsReducedPower b e r → is_undef r ≡ false → r ≡ power b e
-kept_power b e r n a d = by (lacks_power b e) refl
+kept_power b e r n a d = elim (cases_Bool (lacks_power b e)) [
+  | inl l ↦ clash (sym (ap is_undef (a.undefined l)) ∙ d)
+  | inr l ↦ (a.written l).kept (record { other = (none_of e n).0; no_number = (none_of e n).1; not_rewritten = not_rewritten (rewritten b e) refl })
+]
   where
     none_of : (e : Tree) → is_num e ≡ false → (is_zero_or_one e ≡ false) × (has_number_power b e ≡ false) × (is_half_num e ≡ false)
     none_of (num q) n = cc
@@ -94,10 +83,6 @@ kept_power b e r n a d = by (lacks_power b e) refl
     not_rewritten : (o : Option Tree) → rewritten b e ≡ o → o ≡ None
     not_rewritten None k = refl
     not_rewritten (Some t) k = absurd (no_whole e n (whole_rewriting b e t (sym (as_whole b e (none_of e n).2) ∙ k)))
-
-    by : (x : Bool) → lacks_power b e ≡ x → r ≡ power b e
-    by true l = clash (sym (ap is_undef (a.undefined l)) ∙ d)
-    by false l = (a.written l).kept (record { other = (none_of e n).0; no_number = (none_of e n).1; not_rewritten = not_rewritten (rewritten b e) refl })
 
 pub power_answer_held : (b e r : Tree) → IsReducedPower b e r → is_undef r ≡ false → (h l : ℕ) → HoldsPower b e h l → IsFactorHeld r h l
 power_answer_held b e r a d h l (holds_whole n p q i k x y) = factor_wider r x y (a.held n i d p q k)
@@ -134,33 +119,9 @@ held_facts ts P s (Err f) k = tt
 
 -- ---- by the kind of the node
 
-pub sum_holds : (t : Tree) {h l : ℕ} → is_add t ≡ true → HoldsNode t h l → IsSumHeld (addends_of_each (children_of t)) h l
-sum_holds (add ts) e k = k
-sum_holds t e k = cc
-
-pub product_holds : (t : Tree) {h l : ℕ} → is_mult t ≡ true → HoldsNode t h l → AreFactorsHeld (children_of t) h l
-product_holds (mult ts) e k = k
-product_holds t e k = cc
-
-pub opposite_holds : (t : Tree) {h l : ℕ} → is_neg t ≡ true → HoldsNode t h l → IsFactorHeld (nth 0 (children_of t)) h l
-opposite_holds (neg a) e k = k
-opposite_holds t e k = cc
-
-pub difference_holds : (t : Tree) {h l : ℕ} → is_sub t ≡ true → HoldsNode t h l → HoldsDifference (nth 0 (children_of t)) (nth 1 (children_of t)) h l
-difference_holds (sub a b) e k = k
-difference_holds t e k = cc
-
-pub quotient_holds : (t : Tree) {h l : ℕ} → is_div t ≡ true → HoldsNode t h l → HoldsQuotient (nth 0 (children_of t)) (nth 1 (children_of t)) h l
-quotient_holds (div a b) e k = k
-quotient_holds t e k = cc
-
-pub root_holds : (t : Tree) {h l : ℕ} → is_root t ≡ true → HoldsNode t h l → IsFactorHeld (argument_of t) h l
-root_holds (root a) e k = k.0
-root_holds t e k = cc
-
-pub power_holds : (t : Tree) {h l : ℕ} → t ≡ power (base_in t) (exponent_in t) → HoldsNode t h l → HoldsPower (base_in t) (exponent_in t) h l
-power_holds (power b e) p k = k
-power_holds t p k = cc
+-- of a tree that is another
+pub holds_as : {t u : Tree} (h l : ℕ) → t ≡ u → HoldsNode t h l → HoldsNode u h l
+holds_as h l e k = subst (λ (x : Tree). HoldsNode x h l) e k
 
 -- the power fits
 pub power_node_fits : (b e : Tree) (r : Result ℕ NumberFault) (h l : ℕ) → HoldsPower b e h l → HasFewBits h l

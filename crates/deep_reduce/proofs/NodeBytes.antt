@@ -1,9 +1,9 @@
 -- How many bytes suffice for the node of a tree over reduced children.
-use Rattle.std.proofs.Common.{◌≡◌, ℕ, negsuc, ◌+◌, ◌*◌, ◌^◌, ◌≤◌, ◌<◌, List, length, Bool, true, false, Result, Ok, Err, refl, sym, ap, arith}
-use Rattle.std.specs.Prelude.{IfErr}
-use Rattle.deep_reduce.proofs.Shared.{pow_pos, IsAssignment, is_number, is_reduced, are_reduced, is_half_num, reduced_words, counted, SpansTree, SpansTrees, num_bytes, tree_bytes, counted_number, counted_other, number_test, minus_one_fraction, Tree, num, add, mult, power, root, neg, sub, div, Trees, none, more, count, is_add, is_mult, is_root, is_num, is_sub, is_div, root_kind, size, sizes, Kind, HasNodesFor, KeepsNodeRoom, SpansNode, factors_room, is_neg, GivesSides, IsCalmAtZero, whole_power_room, power_count, State, free_of, base_in, exponent_in, whole_is, IsFull, argument_of, LacksBelow, handed_bytes, nth, plain, children_of, Forest, bytes_in, tree_of, IsHanded, Gives, root_tree, without_root, Stands, forest, KeepsRefusals, NumberFault, bytes_in-join, given_told, last_tree, used_forest, size-plain, IsCalm, zeros, product_count, sum_count, sum_room, product_room, power_room, product_power_room, simple_room, whole_number, counts_one, product_at_most, sum_bytes, product_bytes, scaled}
+use Rattle.std.proofs.Common.{◌≡◌, ℕ, negsuc, ◌+◌, ◌*◌, ◌^◌, ◌≤◌, ◌<◌, List, length, true, Result, Ok, Err, refl, sym, ap, arith, IfErr}
+use Rattle.deep_reduce.proofs.Shared.{pow_pos, IsAssignment, is_reduced, are_reduced, is_half_num, reduced_words, counted, SpansTree, SpansTrees, num_bytes, tree_bytes, minus_one_fraction, Tree, num, add, mult, power, root, neg, sub, div, Trees, none, more, count, is_add, is_mult, is_root, is_num, is_sub, is_div, root_kind, size, sizes, Kind, HasNodesFor, KeepsNodeRoom, SpansNode, factors_room, is_neg, GivesSides, IsCalmAtZero, whole_power_room, power_count, State, free_of, base_in, exponent_in, whole_is, IsFull, argument_of, LacksBelow, handed_bytes, nth, plain, children_of, Forest, bytes_in, tree_of, IsHanded, Gives, root_tree, without_root, Stands, forest, KeepsRefusals, NumberFault, bytes_in-join, given_told, last_tree, used_forest, size-plain, IsCalm, zeros, product_count, sum_count, sum_room, product_room, power_room, product_power_room, simple_room, whole_number, counts_one, product_at_most, sum_bytes, product_bytes, scaled, numbers_and_others}
+use Rattle.deep_reduce.proofs.Clashes.{rational_number}
 use Rattle.deep_reduce.proofs.Calm.{calm_power}
-use Rattle.deep_reduce.proofs.JointCounts.{numbers_one, numbers_other}
+use Rattle.deep_reduce.proofs.JointCounts.{numbers_one}
 use Rattle.deep_reduce.proofs.NodeRooms.{inverse_count}
 use Rattle.deep_reduce.proofs.PowerBytes.{needs_most}
 use Rattle.calc_terms.specs.declared.kind.Kind.TheVariants as kind
@@ -46,7 +46,6 @@ half_fits t n m p h = cc
 
 root_fits : (t : Tree) (free n m : ℕ) → 1 ≤ m → is_root t ≡ true → is_num (argument_of t) ≡ true → HasNodesFor n t → free < 96 → free + size t < simple_room n m
 root_fits (root (num q)) free n m hm e a h l = omega (arith, num_bytes q, scaled 2 n m h)
-root_fits (root b) free n m hm e a h l = cc
 root_fits t free n m hm e a h l = cc
 
 pub root_lacks : (gs : List ℕ) (t : Tree) (free n : ℕ) (f : NumberFault) → is_root t ≡ true → HasNodesFor n t → (IsFull {A = ℕ} (Err f) → is_num (argument_of t) ≡ true) → (IsFull {A = ℕ} (Err f) → free < 96) → LacksBelow (simple_room n (2 ^ length gs)) (free + size t) f
@@ -77,28 +76,7 @@ pub opposite_lacks : (gs : List ℕ) (a : Tree) (free : ℕ) → is_reduced a �
 opposite_lacks gs a free r s l = omega (arith, l, one_tree gs a r s, pow_pos (length gs))
 
 opposite_count : (a : Tree) → product_count (more (num minus_one_fraction) (more a none)) ≤ 2 + counted a
-opposite_count a = by (is_number a) refl
-  where
-    one : is_number (num minus_one_fraction) ≡ true
-    one = number_test (num minus_one_fraction) tt
-
-    by : (z : Bool) → is_number a ≡ z → product_count (more (num minus_one_fraction) (more a none)) ≤ 2 + counted a
-    by true e =
-        omega (
-          arith,
-          numbers_one (num minus_one_fraction) (more a none) one,
-          numbers_one a none e,
-          counted_number (num minus_one_fraction) (more a none) one,
-          counted_number a none e,
-        )
-    by false e =
-        omega (
-          arith,
-          numbers_one (num minus_one_fraction) (more a none) one,
-          numbers_other a none e,
-          counted_number (num minus_one_fraction) (more a none) one,
-          counted_other a none e,
-        )
+opposite_count a = omega (arith, numbers_and_others (more (num minus_one_fraction) (more a none)), numbers_one (num minus_one_fraction) (more a none) (rational_number minus_one_fraction))
 
 pub opposite_fits : (a : Tree) (m : ℕ) → product_room (product_count (more (num minus_one_fraction) (more a none))) m ≤ product_room (2 + counted a) m
 opposite_fits a m = omega (arith, scaled (product_count (more (num minus_one_fraction) (more a none))) (2 + counted a) m (opposite_count a))

@@ -1,6 +1,5 @@
 -- A node whose children are rewritten.
-use Rattle.std.proofs.Common.{ℕ, ◌⊎◌, inl, inr, List, ◌++◌}
-use Rattle.std.specs.Prelude.{Contains}
+use Rattle.std.proofs.Common.{ℕ, ◌⊎◌, inl, inr, List, ◌++◌, Contains}
 use Rattle.deep_reduce.proofs.Shared.{Contains-append_left, Contains-append_right, Contains-append_cases, Fraction, Tree, num, symbol, undef, add, mult, power, root, neg, sub, div, Trees, none, more, names, names_of, IsReducedFrom, AreAnswers, Rewrites, keeps, kept, Rewrites-refl}
 use Rattle.calc_algebra.proofs.MeaningRewrites as rewrites
 
@@ -32,9 +31,8 @@ both ks ls ms ns f g x h = by (Contains-append_cases ms ns x h)
 
 names_among : (ts us : Trees) → AreReducedFrom ts us → (x : List ℕ) → Contains (names_of us) x → Contains (names_of ts) x
 names_among none none h x c = c
-names_among none (more u us) h x c = absurd h
-names_among (more t ts) none h x c = absurd h
 names_among (more t ts) (more u us) h x c = both (names t) (names_of ts) (names u) (names_of us) h.0.reduces.no_new_name.name (names_among ts us h.1) x c
+names_among ts us h x c = absurd h
 
 pair_names : (a b c d : Tree) → IsReducedFrom a c → IsReducedFrom b d → (x : List ℕ) → Contains (names c ++ names d) x → Contains (names a ++ names b) x
 pair_names a b c d h k x m = both (names a) (names b) (names c) (names d) h.reduces.no_new_name.name k.reduces.no_new_name.name x m
@@ -46,15 +44,13 @@ means h = kept h.reduces.meanings
 
 sum_means : (ts us : Trees) → AreReducedFrom ts us → rewrites.KeepsMeanings (add ts) (add us)
 sum_means none none h = rewrites.KeepsMeanings-refl (add none)
-sum_means none (more u us) h = absurd h
-sum_means (more t ts) none h = absurd h
 sum_means (more t ts) (more u us) h = rewrites.KeepsMeanings-sum_more (means h.0) (sum_means ts us h.1)
+sum_means ts us h = absurd h
 
 product_means : (ts us : Trees) → AreReducedFrom ts us → rewrites.KeepsMeanings (mult ts) (mult us)
 product_means none none h = rewrites.KeepsMeanings-refl (mult none)
-product_means none (more u us) h = absurd h
-product_means (more t ts) none h = absurd h
 product_means (more t ts) (more u us) h = rewrites.KeepsMeanings-product_more (means h.0) (product_means ts us h.1)
+product_means ts us h = absurd h
 
 rewrites_by : {t u : Tree} → ((x : List ℕ) → Contains (names u) x → Contains (names t) x) → rewrites.KeepsMeanings t u → Rewrites t u
 rewrites_by n m = record { no_new_name = record { name = n }; meanings = keeps m }

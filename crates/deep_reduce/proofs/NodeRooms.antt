@@ -1,6 +1,6 @@
 -- What the answer for a node counts, and that it is calm and spanned as the node is.
 use Rattle.std.proofs.Common.{ℕ, ◌+◌, ◌≤◌, negsuc, List, Bool, if◌then◌else◌, ap, arith}
-use Rattle.deep_reduce.proofs.Shared.{number_test, counted, counted_among, SpansTree, Fraction, minus_one_fraction, Tree, num, symbol, undef, add, mult, power, root, neg, sub, div, Trees, none, more, KeepsNodeRoom, SpansNode, node_count, IsCalmAtZero, KeepsRoom, KeepsSumRoom, power_count, whole_is, IsRootAnswer, zeros, whole_number, counts_one, at_most_itself}
+use Rattle.deep_reduce.proofs.Shared.{number_test, counted, counted_among, SpansTree, Fraction, minus_one_fraction, Tree, num, undef, add, mult, power, root, neg, sub, div, Trees, none, more, KeepsNodeRoom, SpansNode, node_count, IsCalmAtZero, KeepsRoom, KeepsSumRoom, power_count, whole_is, IsRootAnswer, zeros, whole_number, counts_one, at_most_itself}
 use Rattle.deep_reduce.proofs.Calm.{calm_power}
 use Rattle.deep_reduce.proofs.JointRooms.{whole_count_most, sum_calm}
 use Rattle.deep_reduce.proofs.PowerRooms.{root_room, root_answer_counts, root_answer_calm, power_counts_most}
@@ -9,16 +9,11 @@ use Rattle.deep_reduce.proofs.Rewritten.{whole_count_is}
 -- ---- leaves
 
 some_count : (t : Tree) → 1 ≤ node_count t
-some_count (num q) = omega arith
-some_count (symbol x) = omega arith
-some_count undef = omega arith
-some_count (add ts) = counts_one (add ts)
-some_count (mult ts) = counts_one (mult ts)
 some_count (power b e) = omega (arith, counts_one (power b e), power_counts_most b e)
-some_count (root a) = counts_one (root a)
 some_count (neg a) = counts_one a
 some_count (sub a b) = omega arith
 some_count (div a b) = omega arith
+some_count t = counts_one t
 
 pub number_room : (t : Tree) (q : Fraction) → KeepsNodeRoom (node_count t) t (num q)
 number_room t q = record { counts = λ ns c. some_count t; calm = λ ns c. record { once = c.once; calm = tt }; spanned = λ gs ns c s. tt }

@@ -1,11 +1,24 @@
 -- What a rewriting of a power leaves to be reduced: it nests no more, and weighs less.
 use Rattle.std.proofs.Common.{◌≡◌, ℕ, ℤ, suc, ◌≤◌, ◌<◌, ◌⊎◌, inl, inr, Bool, true, false, ◌&&◌, ◌||◌, ◌==◌, not, if◌then◌else◌, pos, Some, None, refl, sym, ap, ◌∙◌, subst, arith}
-use Rattle.deep_reduce.proofs.Shared.{and_parts, whole_fraction, zero_fraction, one_fraction, is_one_fraction, nest, nest_of, weight, has_coefficient, is_number, Split, is_reduced, is_half_num, is_opaque_exponent, is_num_one, num_one, HasForm, Tree, num, undef, mult, power, root, Trees, none, more, append, count, is_num, is_undef, AllPartsOf, HasTwo, whole_denominator, number_test, factors_of, product_form_of, no_split, reduced_parts, parts_reduced, one_is_one, Leads, in_front, has_no_half_power, lacks_power, is_number_power, IsReducedPower, nest_of_rewritten, weight_of_bases, weight_below, AreTransparent, IsUnfinished, Finishes, IsHeldAsPowerOf, has_no_power, has_number_power, IsWrittenPower, IsPowerAnswer, goes_inside, half, parts_of, raised, rewritten, rewritten_whole, is_rewritable, transparent_whole, as_whole, no_half, zero_kept, one_kept, chosen, weights, weights_none, weights_more, power_nest, product_parts, Rewrites, reduces_after}
-use Rattle.deep_reduce.proofs.Heavy.{base_reduced, exponent_reduced}
-use Rattle.deep_reduce.proofs.Nests.{to_number, base_nest}
+use Rattle.deep_reduce.proofs.Shared.{and_parts, whole_fraction, zero_fraction, one_fraction, is_one_fraction, nest, nest_of, weight, has_coefficient, is_number, Split, is_reduced, is_half_num, is_opaque_exponent, is_num_one, num_one, HasForm, Tree, num, undef, mult, power, root, Trees, none, more, append, count, is_num, is_undef, AllPartsOf, HasTwo, whole_denominator, number_test, factors_of, product_form_of, no_split, reduced_parts, parts_reduced, one_is_one, Leads, in_front, has_no_half_power, lacks_power, is_number_power, IsReducedPower, nest_of_rewritten, weight_of_bases, weight_below, AreTransparent, IsUnfinished, Finishes, IsHeldAsPowerOf, has_no_power, has_number_power, IsWrittenPower, IsPowerAnswer, goes_inside, half, parts_of, raised, rewritten, rewritten_whole, is_rewritable, transparent_whole, as_whole, no_half, zero_kept, one_kept, chosen, weights, weights_none, weights_more, power_nest, product_parts, Rewrites, reduces_after, not-true, and_right, two_count, cases_Bool, is_whole_num, IsRewritten}
+use Rattle.deep_reduce.proofs.Clashes.{contrary, undef_words}
+use Rattle.deep_reduce.proofs.Heavy.{base_reduced, exponent_reduced, to_number, base_nest}
 use Rattle.deep_reduce.proofs.PowerRooms.{finished_room, undef_root_room}
-use Rattle.deep_reduce.proofs.Wholes.{is_rewritten}
 use Rattle.power_reduce.proofs.Rules.{nothing}
+
+-- only whole powers, and those by half of an odd number, are rewritten
+whole_root : (a e t : Tree) → rewritten_whole (root a) e ≡ Some t → is_whole_num e ≡ true
+whole_root a (num q) t h = chosen _ _ t (λ u. is_whole_num (num q) ≡ true) h (λ k. (and_parts _ _ (and_parts _ _ (and_parts _ _ k).0).0).0)
+whole_root a e t h = nothing t (λ u. is_whole_num e ≡ true) h
+
+pub whole_rewriting : (b e t : Tree) → rewritten_whole b e ≡ Some t → is_whole_num e ≡ true
+whole_rewriting (root a) e t h = whole_root a e t h
+whole_rewriting (power c f) e t h = chosen _ _ t (λ u. is_whole_num e ≡ true) h (λ k. (and_parts _ _ (and_parts _ _ k).0).0)
+whole_rewriting (mult ts) e t h = chosen _ _ t (λ u. is_whole_num e ≡ true) h (λ k. (and_parts _ _ (and_parts _ _ k).0).0)
+whole_rewriting b e t h = nothing t (λ u. is_whole_num e ≡ true) h
+
+pub is_rewritten : (b e t : Tree) → is_half_num e ≡ false → is_reduced b ≡ true → is_reduced e ≡ true → rewritten b e ≡ Some t → IsRewritten b e t
+is_rewritten b e t n h k r = record { base = h; exponent = k; whole = whole_rewriting b e t (sym (as_whole b e n) ∙ r); is = r }
 
 -- ---- products to a power
 
@@ -25,11 +38,6 @@ raised_count : (gs : Trees) (e : Tree) → count (raised gs e) ≡ count gs
 raised_count none e = refl
 raised_count (more g gs) e = ap suc (raised_count gs e)
 
-two_long : (ts : Trees) → HasTwo ts → 2 ≤ count ts
-two_long (more t (more u ts)) h = omega arith
-two_long none h = absurd h
-two_long (more t none) h = absurd h
-
 led_some : (c : Tree) (fs : Trees) → 2 ≤ count (append (factors_of c) fs) → 1 ≤ count (if is_num_one c then fs else more c fs)
 led_some (num q) fs h = by (is_one_fraction q)
   where
@@ -42,10 +50,10 @@ led_some t fs h = omega arith
 parts_some : (ts : Trees) → HasTwo ts → (has_coefficient ts ≡ false) ⊎ Leads ts → 1 ≤ count (parts_of ts)
 parts_some ts two (inl h) =
     let are : parts_of ts ≡ ts = ap (λ (x : Split). if is_num_one x.coefficient then x.factors else more x.coefficient x.factors) (no_split ts h) ∙ ap (λ (b : Bool). if b then ts else more num_one ts) one_is_one in
-    omega (arith, ap count are, two_long ts two)
+    omega (arith, ap count are, two_count ts two)
 parts_some ts two (inr l) =
     let are : parts_of ts ≡ (if is_num_one l.c then l.factors else more l.c l.factors) = ap (λ (x : Split). if is_num_one x.coefficient then x.factors else more x.coefficient x.factors) l.is in
-    omega (arith, ap count are, led_some l.c l.factors (omega (arith, ap count l.whole, two_long ts two)))
+    omega (arith, ap count are, led_some l.c l.factors (omega (arith, ap count l.whole, two_count ts two)))
 
 -- ---- what is left to reduce
 
@@ -58,11 +66,7 @@ whole_transparent : (z : ℤ) → is_opaque_exponent (num (whole_fraction z)) �
 whole_transparent z = by (is_number (num (whole_fraction z))) (whole_fraction z).den (whole_denominator z)
   where
     by : (x : Bool) (n : ℕ) → n ≡ 1 → (x && not (n == 1)) ≡ false
-    by x n e = rw e (last x)
-      where
-        last : (x : Bool) → (x && false) ≡ false
-        last true = refl
-        last false = refl
+    by x n e = rw e (and_right x false refl)
 
 opened_root : (a : Tree) (z : ℤ) (e : Tree) → is_number e ≡ true → is_reduced (root a) ≡ true → is_number (root a) ≡ false → IsOpened (root a) e (power a (num (whole_fraction z)))
 opened_root a z e w r n = record {
@@ -99,17 +103,13 @@ opened_product ts e r n s o =
       weighs = omega (arith, raised_weights (parts_of ts) e, ap weights are, p.are.weights-are);
     }
 
-is_false : (b : Bool) → not b ≡ true → b ≡ false
-is_false true h = cc
-is_false false h = refl
-
 inside_transparent : (e : Tree) → goes_inside e ≡ true → is_opaque_exponent e ≡ false
 inside_transparent e h = transparent_whole e (and_parts _ _ h).0
 
 opened_whole : (b e t : Tree) → is_reduced b ≡ true → is_reduced e ≡ true → rewritten_whole b e ≡ Some t → IsOpened b e t
-opened_whole (root a) (num q) t r s h = chosen _ _ t (IsOpened (root a) (num q)) h (λ k. opened_root a (half q.num) (num q) (number_test (num q) tt) r (is_false _ (and_parts _ _ k).1))
+opened_whole (root a) (num q) t r s h = chosen _ _ t (IsOpened (root a) (num q)) h (λ k. opened_root a (half q.num) (num q) (number_test (num q) tt) r (not-true _ (and_parts _ _ k).1))
 opened_whole (power c f) e t r s h = chosen _ _ t (IsOpened (power c f) e) h (λ k. opened_power c f e r s)
-opened_whole (mult ts) e t r s h = chosen _ _ t (IsOpened (mult ts) e) h (λ k. let (p, n) = and_parts _ _ k in opened_product ts e r (is_false _ n) s (inside_transparent e p))
+opened_whole (mult ts) e t r s h = chosen _ _ t (IsOpened (mult ts) e) h (λ k. let (p, n) = and_parts _ _ k in opened_product ts e r (not-true _ n) s (inside_transparent e p))
 opened_whole b e t r s h = nothing t (IsOpened b e) h
 
 pub opened : (b e t : Tree) → is_half_num e ≡ false → is_reduced b ≡ true → is_reduced e ≡ true → rewritten b e ≡ Some t → IsOpened b e t
@@ -117,16 +117,9 @@ opened b e t n r s h = opened_whole b e t r s (sym (as_whole b e n) ∙ h)
 
 -- ---- the answers
 
-clash : {x : Bool} {A : Type 0} → x ≡ true → x ≡ false → A
-clash e f = absurd cc
-
 or_false : (x : Bool) → (x || false) ≡ x
 or_false true = refl
 or_false false = refl
-
-and_false : (x : Bool) → (x && false) ≡ false
-and_false true = refl
-and_false false = refl
 
 -- an exponent that is no half asks for no root
 no_half_power : (b e : Tree) → is_half_num e ≡ false → has_no_half_power b e ≡ false
@@ -137,21 +130,17 @@ pub lacks_whole : (b e : Tree) → is_half_num e ≡ false → lacks_power b e �
 lacks_whole b e h = ap (λ (x : Bool). has_no_power b e || x) (no_half_power b e h) ∙ or_false (has_no_power b e)
 
 pub number_whole : (b e : Tree) → is_half_num e ≡ false → is_number_power b e ≡ has_number_power b e
-number_whole b e h = ap (λ (x : Bool). has_number_power b e || is_num b && x) h ∙ ap (λ (x : Bool). has_number_power b e || x) (and_false (is_num b)) ∙ or_false (has_number_power b e)
+number_whole b e h = ap (λ (x : Bool). has_number_power b e || is_num b && x) h ∙ ap (λ (x : Bool). has_number_power b e || x) (and_right (is_num b) false refl) ∙ or_false (has_number_power b e)
 
 -- nor does a power that is kept
 kept_half : (b e : Tree) → rewritten b e ≡ None → (is_half_num e ≡ false) ⊎ (is_undef b ≡ true)
-kept_half b e r = by (is_undef b) refl
-  where
-    by : (u : Bool) → is_undef b ≡ u → (is_half_num e ≡ false) ⊎ (is_undef b ≡ true)
-    by true u = inr u
-    by false u = inl (no_half b e u r)
+kept_half b e r = elim (cases_Bool (is_undef b)) [ inl u ↦ inr u | inr u ↦ inl (no_half b e u r) ]
 
 undef_lacks : (b e : Tree) → is_undef b ≡ true → lacks_power b e ≡ has_no_power b e
 undef_lacks undef e h = refl
 undef_lacks b e h = absurd cc
 
-undef_has_none : (b e : Tree) → is_undef b ≡ true → has_no_power b e ≡ true
+pub undef_has_none : (b e : Tree) → is_undef b ≡ true → has_no_power b e ≡ true
 undef_has_none undef e h = refl
 undef_has_none b e h = absurd cc
 
@@ -180,34 +169,30 @@ power_after b e t r n h k s f =
     let w = is_rewritable b e t n s.0 in
     record {
       reduces = reduces_after s.1 f.reduces;
-      undefined = λ x. clash x (lacks_whole b e n ∙ w.has_power);
-      number = λ x y. clash x (number_whole b e n ∙ w.no_number);
+      undefined = λ x. contrary x (lacks_whole b e n ∙ w.has_power);
+      number = λ x y. contrary x (number_whole b e n ∙ w.no_number);
       written = λ x. rewritten_written b e t r s.0;
       nest = omega (arith, f.nest, o.nests);
       load = λ x. omega (arith, f.load, o.weighs);
       opaque_load = omega (arith, f.load, o.weighs);
       room = f.room b e (is_rewritten b e t n h k s.0);
-      root_room = λ x. clash x n;
+      root_room = λ x. contrary x n;
       held = λ m q. f.held b e m (is_rewritten b e t n h k s.0) q;
-      root_held = λ x. clash x n;
+      root_held = λ x. contrary x n;
     }
-
-undef_is : (t : Tree) → is_undef t ≡ true → t ≡ undef
-undef_is undef h = refl
-undef_is t h = cc
 
 -- what a step answers that rewrites nothing
 pub power_finished : (b e t : Tree) → rewritten b e ≡ None → IsPowerAnswer b e t → ((n : ℤ) → e ≡ num (whole_fraction n) → IsHeldAsPowerOf n b t) → IsReducedPower b e t
 power_finished b e t r a k = record {
   reduces = a.reduces;
-  undefined = λ h. undef_is t (a.undefined ∙ sym (lacks_kept b e r) ∙ h);
+  undefined = λ h. undef_words t (a.undefined ∙ sym (lacks_kept b e r) ∙ h);
   number = λ h n. a.number (sym (number_kept b e r) ∙ h) (sym (lacks_kept b e r) ∙ n);
   written = λ n. a.written (sym (lacks_kept b e r) ∙ n);
   nest = a.nest_bound;
   opaque_load = a.opaque_bound;
   load = a.load_bound;
   room = finished_room b e t r a;
-  root_room = λ h. elim (kept_half b e r) [ inl n ↦ clash h n | inr u ↦ undef_root_room b t (undef_is t (a.undefined ∙ undef_has_none b e u)) ];
+  root_room = λ h. elim (kept_half b e r) [ inl n ↦ contrary h n | inr u ↦ undef_root_room b t (undef_words t (a.undefined ∙ undef_has_none b e u)) ];
   held = k;
-  root_held = λ h d. elim (kept_half b e r) [ inl n ↦ clash h n | inr u ↦ clash (a.undefined ∙ undef_has_none b e u) d ];
+  root_held = λ h d. elim (kept_half b e r) [ inl n ↦ contrary h n | inr u ↦ contrary (a.undefined ∙ undef_has_none b e u) d ];
 }

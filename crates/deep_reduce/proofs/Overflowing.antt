@@ -1,9 +1,9 @@
 -- The nodes up to the first overflow of plain trees, where the children before are answered.
 use Rattle.std.proofs.Common.{◌≡◌, ℕ, ◌+◌, Bool, true, false, ◌&&◌, refl, sym, ap, ◌∙◌, subst, if◌then◌else◌, arith}
-use Rattle.deep_reduce.proofs.Shared.{IsPlainAnswer, IsPlainOverflow, PlainValue, exactly, undefined, overflow, nothing, Gathered, decided, values, gather, folded, on_one, on_two, divided, calculated, powered, plain_of, plain_of_children, is_plain, are_plain, plain_value, add_op, mul_op, negative, Tree, add, mult, power, root, neg, sub, div, Trees, none, more, append, nodes, nodes_of, IsReducedFrom, Overflow, children_of}
+use Rattle.deep_reduce.proofs.Shared.{IsPlainAnswer, IsPlainOverflow, PlainValue, exactly, undefined, overflow, nothing, Gathered, decided, values, gather, folded, on_one, on_two, divided, calculated, powered, plain_of, plain_of_children, is_plain, are_plain, plain_value, add_op, mul_op, negative, Tree, add, mult, power, root, neg, sub, div, Trees, none, more, append, nodes, nodes_of, IsReducedFrom, Overflow, children_of, and_parts}
 use Rattle.calc_measures.specs.PlainOverflows.{is_overflow, with_child, nodes_to_overflow, nodes_among}
 use Rattle.deep_reduce.proofs.NodeRewrites.{AreReducedFrom, IsOver, over_sum, over_product, over_power, over_neg, over_sub, over_div}
-use Rattle.deep_reduce.proofs.PlainNodes.{is_plain_value, and_left, and_right, Decides, child_decides}
+use Rattle.deep_reduce.proofs.PlainNodes.{is_plain_value, Decides, child_decides, pair_plain, no_child}
 
 -- ---- one child
 
@@ -31,10 +31,9 @@ IsOverflowed (values qs) = ⊥
 
 -- a child that overflows, and those behind it
 this_overflows : (v : PlainValue) (g : Gathered) (o : Overflow) → IsPlainOverflow v o → IsOverflowed (gather v g) → is_overflow v ≡ true
-this_overflows (exactly q) g o a h = absurd a
-this_overflows undefined g o a h = absurd a
 this_overflows (overflow op x y) g o a h = refl
 this_overflows nothing g o a h = cc
+this_overflows v g o a h = absurd a
 
 -- an answered child, and those behind it
 later_overflow : (v : PlainValue) (u : Tree) (g : Gathered) → IsPlainAnswer v u → IsOverflowed (gather v g) → IsOverflowed g
@@ -53,30 +52,28 @@ pub record IsFirstOverflow (done : Trees) (t : Tree) (many : ℕ) : Type 0 where
 child_first : (done answers : Trees) (t : Tree) (rest : Trees) (o : Overflow) → AreReducedFrom done answers → are_plain (append done (more t rest)) ≡ true → IsPlainOverflow (plain_value t) o
     → IsOverflowed (plain_of_children (append done (more t rest))) → IsFirstOverflow done t (nodes_among (append done (more t rest)))
 child_first none none t rest o h e k x =
-    let p : is_plain t ≡ true = and_left (is_plain t) (are_plain rest) e in
+    let p : is_plain t ≡ true = (and_parts (is_plain t) (are_plain rest) e).0 in
     let f : is_overflow (plain_of t) ≡ true = this_overflows (plain_of t) (plain_of_children rest) o (subst (λ (v : PlainValue). IsPlainOverflow v o) (is_plain_value t p) k) x in
     let m : with_child t (nodes_to_overflow t) (nodes_among rest) ≡ nodes_to_overflow t = over_there t (nodes_to_overflow t) (nodes_among rest) f in
     record { overflows = ap is_overflow (is_plain_value t p) ∙ f; many-is = omega (arith, m) }
-child_first none (more u us) t rest o h e k x = absurd h
-child_first (more s ss) none t rest o h e k x = absurd h
 child_first (more s ss) (more u us) t rest o h e k x =
     let all = append ss (more t rest) in
-    let p : is_plain s ≡ true = and_left (is_plain s) (are_plain all) e in
+    let p : is_plain s ≡ true = (and_parts (is_plain s) (are_plain all) e).0 in
     let a : IsPlainAnswer (plain_of s) u = subst (λ (v : PlainValue). IsPlainAnswer v u) (is_plain_value s p) h.0.plain in
-    let r = child_first ss us t rest o h.1 (and_right (is_plain s) (are_plain all) e) k (later_overflow (plain_of s) u (plain_of_children all) a x) in
+    let r = child_first ss us t rest o h.1 (and_parts (is_plain s) (are_plain all) e).1 k (later_overflow (plain_of s) u (plain_of_children all) a x) in
     let m : with_child s (nodes_to_overflow s) (nodes_among all) ≡ nodes s + nodes_among all = over_behind s (nodes_to_overflow s) (nodes_among all) (no_overflow (plain_of s) u a) in
     let n : nodes_among all ≡ nodes_of ss + nodes_to_overflow t = r.many-is in
     record { overflows = r.overflows; many-is = omega (arith, m, n) }
+child_first ss us t rest o h e k x = absurd h
 
 -- none of them overflows
 none_overflows : (ts us : Trees) → are_plain ts ≡ true → AreReducedFrom ts us → nodes_among ts ≡ nodes_of ts + 1
 none_overflows none none e h = omega arith
-none_overflows none (more u us) e h = absurd h
-none_overflows (more t ts) none e h = absurd h
 none_overflows (more t ts) (more u us) e h =
-    let m : with_child t (nodes_to_overflow t) (nodes_among ts) ≡ nodes t + nodes_among ts = over_behind t (nodes_to_overflow t) (nodes_among ts) (answered t u (and_left (is_plain t) (are_plain ts) e) h.0) in
-    let n : nodes_among ts ≡ nodes_of ts + 1 = none_overflows ts us (and_right (is_plain t) (are_plain ts) e) h.1 in
+    let m : with_child t (nodes_to_overflow t) (nodes_among ts) ≡ nodes t + nodes_among ts = over_behind t (nodes_to_overflow t) (nodes_among ts) (answered t u (and_parts (is_plain t) (are_plain ts) e).0 h.0) in
+    let n : nodes_among ts ≡ nodes_of ts + 1 = none_overflows ts us (and_parts (is_plain t) (are_plain ts) e).1 h.1 in
     omega (arith, m, n)
+none_overflows ts us e h = absurd h
 
 -- ---- nodes
 
@@ -96,11 +93,6 @@ decided_overflows : (F : Gathered → PlainValue) (g : Gathered) (o : Overflow) 
 decided_overflows F (decided v) o d h e = sym (ap is_overflow (d v)) ∙ e
 decided_overflows F (values qs) o d h e = absurd h
 
-pair_plain : (a b : Bool) → a && b ≡ true → a && (b && true) ≡ true
-pair_plain true true e = refl
-pair_plain true false e = e
-pair_plain false b e = e
-
 module _ (done answers : Trees) (t : Tree) (rest : Trees) (o : Overflow) (reduced : AreReducedFrom done answers) (told : IsPlainOverflow (plain_value t) o) where
   by_first : (F : Gathered → PlainValue) (ts : Trees) → ((v : PlainValue) → F (decided v) ≡ v) → ts ≡ append done (more t rest) → are_plain ts ≡ true → is_overflow (F (plain_of_children ts)) ≡ true
       → IsFirstOverflow done t (nodes_among ts)
@@ -111,13 +103,6 @@ module _ (done answers : Trees) (t : Tree) (rest : Trees) (o : Overflow) (reduce
       subst (λ (us : Trees). IsFirstOverflow done t (nodes_among us)) (sym e)
       (child_first done answers t rest o reduced q told (decided_overflows F (plain_of_children all) o d (child_decides done answers t rest o reduced q told) y))
 
-  no_child : none ≡ append done (more t rest) → ⊥
-  no_child e = by done e
-    where
-      by : (ts : Trees) → none ≡ append ts (more t rest) → ⊥
-      by none e = cc
-      by (more x xs) e = cc
-
   -- where a node overflows, and the children before one that does were answered, that one is the first
   pub first_overflow : (n : Tree) → children_of n ≡ append done (more t rest) → is_overflow (plain_value n) ≡ true → IsFirstOverflow done t (nodes_to_overflow n)
   first_overflow (add ts) e x = by_first (folded add_op) ts (λ v. refl) e (overflow_plain (add ts) x) (overflow_of (add ts) x)
@@ -127,7 +112,7 @@ module _ (done answers : Trees) (t : Tree) (rest : Trees) (o : Overflow) (reduce
   first_overflow (neg a) e x = by_first (on_one (λ q. exactly (negative q))) (more a none) (λ v. refl) e (ap (λ (b : Bool). b && true) (overflow_plain (neg a) x)) (overflow_of (neg a) x)
   first_overflow (sub a b) e x = by_first (on_two (λ p q. calculated add_op p (negative q))) (more a (more b none)) (λ v. refl) e (pair_plain (is_plain a) (is_plain b) (overflow_plain (sub a b) x)) (overflow_of (sub a b) x)
   first_overflow (div a b) e x = by_first (on_two divided) (more a (more b none)) (λ v. refl) e (pair_plain (is_plain a) (is_plain b) (overflow_plain (div a b) x)) (overflow_of (div a b) x)
-  first_overflow t e x = absurd (no_child e)
+  first_overflow n e x = absurd (no_child done t rest e)
 
 one_counted : (a c : Tree) → is_plain a ≡ true → IsReducedFrom a c → nodes_among (more a none) ≡ nodes a + 1
 one_counted a c p h = omega (arith, none_overflows (more a none) (more c none) (ap (λ (b : Bool). b && true) p) (h, tt))

@@ -1,7 +1,6 @@
 -- The plain value of a node, from its children's answers.
-use Rattle.std.proofs.Common.{◌≡◌, Bool, true, false, ◌&&◌, List, [], ◌∷◌, refl, sym, ap, ◌∙◌, subst, if◌then◌else◌}
-use Rattle.std.specs.Prelude.{◌||◌}
-use Rattle.deep_reduce.proofs.Shared.{add_op, mul_op, Fraction, negative, minus_one_fraction, PlainValue, exactly, undefined, overflow, nothing, Gathered, decided, values, gather, folded, on_one, on_two, divided, calculated, powered, plain_of, plain_of_children, is_plain, are_plain, plain_value, Tree, num, symbol, undef, add, mult, power, root, neg, sub, div, Trees, none, more, append, is_undef, is_num, has_undef, are_rationals, has_no_half_power, IsNodeAnswer, IsNodeOverflow, has_no_value, IsReducedFrom, is_zero, is_at_most_zero, has_no_root, Overflow, IsPlainAnswer, IsPlainOverflow, children_of}
+use Rattle.std.proofs.Common.{◌≡◌, Bool, true, false, ◌&&◌, List, [], ◌∷◌, refl, sym, ap, ◌∙◌, subst, if◌then◌else◌, ◌||◌}
+use Rattle.deep_reduce.proofs.Shared.{add_op, mul_op, Fraction, negative, minus_one_fraction, PlainValue, exactly, undefined, overflow, nothing, Gathered, decided, values, gather, folded, on_one, on_two, divided, calculated, powered, plain_of, plain_of_children, is_plain, are_plain, plain_value, Tree, num, undef, add, mult, power, root, neg, sub, div, Trees, none, more, append, is_undef, is_num, has_undef, are_rationals, has_no_half_power, IsNodeAnswer, IsNodeOverflow, has_no_value, IsReducedFrom, is_zero, is_at_most_zero, has_no_root, Overflow, IsPlainAnswer, IsPlainOverflow, children_of, and_parts, or_right, and_from}
 use Rattle.deep_reduce.proofs.NodeRewrites.{AreReducedFrom, IsOver, over_number, over_symbol, over_undef, over_sum, over_product, over_power, over_root, over_neg, over_sub, over_div}
 
 -- a fact of a plain value holds where there is none, and where it is computed
@@ -14,18 +13,6 @@ as_plain P t n h = by (is_plain t) refl
 
 pub is_plain_value : (t : Tree) → is_plain t ≡ true → plain_value t ≡ plain_of t
 is_plain_value t e = ap (λ (b : Bool). if b then plain_of t else nothing) e
-
-pub and_left : (a b : Bool) → a && b ≡ true → a ≡ true
-and_left true b e = refl
-and_left false b e = e
-
-pub and_right : (a b : Bool) → a && b ≡ true → b ≡ true
-and_right true b e = e
-and_right false b e = cc
-
-or_right : (a b : Bool) → b ≡ true → a || b ≡ true
-or_right true b e = refl
-or_right false b e = e
 
 -- ---- answered children
 
@@ -41,17 +28,16 @@ Told (decided (overflow op a b)) us = ⊥
 Told (decided nothing) us = Unit {0}
 Told (values qs) us = us ≡ nums qs
 
+decided_told : (v : PlainValue) (u : Tree) (us : Trees) → Told (decided v) us → Told (decided v) (more u us)
+decided_told undefined u us h = or_right (is_undef u) (has_undef us) h
+decided_told nothing u us h = tt
+decided_told v u us h = absurd h
+
 more_told : (v : PlainValue) (u : Tree) (g : Gathered) (us : Trees) → IsPlainAnswer v u → Told g us → Told (gather v g) (more u us)
 more_told (exactly q) u (values qs) us a h = λ i. more (a i) (h i)
-more_told (exactly q) u (decided (exactly r)) us a h = absurd h
-more_told (exactly q) u (decided undefined) us a h = or_right (is_undef u) (has_undef us) h
-more_told (exactly q) u (decided (overflow op x y)) us a h = absurd h
-more_told (exactly q) u (decided nothing) us a h = tt
+more_told (exactly q) u (decided v) us a h = decided_told v u us h
 more_told undefined u (values qs) us a h = ap (λ (t : Tree). is_undef t || has_undef us) a
-more_told undefined u (decided (exactly r)) us a h = absurd h
-more_told undefined u (decided undefined) us a h = or_right (is_undef u) (has_undef us) h
-more_told undefined u (decided (overflow op x y)) us a h = absurd h
-more_told undefined u (decided nothing) us a h = tt
+more_told undefined u (decided v) us a h = decided_told v u us h
 more_told (overflow op x y) u g us a h = absurd a
 more_told nothing u g us a h = tt
 
@@ -63,18 +49,16 @@ none_told = refl
 
 children_told : (ts us : Trees) → are_plain ts ≡ true → AreReducedFrom ts us → Told (plain_of_children ts) us
 children_told none none e h = none_told
-children_told none (more u us) e h = absurd h
-children_told (more t ts) none e h = absurd h
-children_told (more t ts) (more u us) e h = one_told t u (plain_of_children ts) us (and_left (is_plain t) (are_plain ts) e) h.0 (children_told ts us (and_right (is_plain t) (are_plain ts) e) h.1)
+children_told (more t ts) (more u us) e h = one_told t u (plain_of_children ts) us (and_parts (is_plain t) (are_plain ts) e).0 h.0 (children_told ts us (and_parts (is_plain t) (are_plain ts) e).1 h.1)
+children_told ts us e h = absurd h
 
 -- a fact of the node's value, by what its children tell
 by_told : (P : PlainValue → Type 0) (F : Gathered → PlainValue) (g : Gathered) (us : Trees) → ((v : PlainValue) → F (decided v) ≡ v) → P nothing → (has_undef us ≡ true → P undefined)
     → ((qs : List Fraction) → us ≡ nums qs → P (F (values qs))) → Told g us → P (F g)
-by_told P F (decided (exactly q)) us d n u v h = absurd h
 by_told P F (decided undefined) us d n u v h = subst P (sym (d undefined)) (u h)
-by_told P F (decided (overflow op a b)) us d n u v h = absurd h
 by_told P F (decided nothing) us d n u v h = subst P (sym (d nothing)) n
 by_told P F (values qs) us d n u v h = v qs h
+by_told P F (decided w) us d n u v h = absurd h
 
 -- ---- rationals
 
@@ -119,7 +103,7 @@ module _ (P : PlainValue → Type 0) (n : P nothing) where
   pair_kept : (f : Fraction → Fraction → PlainValue) (a b c d : Tree) → is_plain a && is_plain b ≡ true → IsReducedFrom a c → IsReducedFrom b d → (has_undef (more c (more d none)) ≡ true → P undefined)
       → ((p q : Fraction) → c ≡ num p → d ≡ num q → P (f p q)) → P (on_two f (gather (plain_of a) (gather (plain_of b) (values []))))
   pair_kept f a b c d e h k u v = by_told P (on_two f) (gather (plain_of a) (gather (plain_of b) (values []))) (more c (more d none)) (λ x. refl) n u (λ qs s. by_pair f c d qs s v)
-      (one_told a c (gather (plain_of b) (values [])) (more d none) (and_left (is_plain a) (is_plain b) e) h (one_told b d (values []) none (and_right (is_plain a) (is_plain b) e) k none_told))
+      (one_told a c (gather (plain_of b) (values [])) (more d none) (and_parts (is_plain a) (is_plain b) e).0 h (one_told b d (values []) none (and_parts (is_plain a) (is_plain b) e).1 k none_told))
 
   pair_rational : (c d : Tree) (p q : Fraction) → c ≡ num p → d ≡ num q → are_rationals (more c (more d none)) ≡ true
   pair_rational c d p q x y = λ i. is_num (x i) && (is_num (y i) && true)
@@ -138,9 +122,8 @@ module _ (P : PlainValue → Type 0) (n : P nothing) where
 
   -- one child
   by_one : (f : Fraction → PlainValue) (c : Tree) (qs : List Fraction) → more c none ≡ nums qs → ((p : Fraction) → c ≡ num p → P (f p)) → P (on_one f (values qs))
-  by_one f c [] s k = cc
   by_one f c (p ∷ []) s k = let x : c ≡ num p = cc in k p x
-  by_one f c (p ∷ q ∷ qs) s k = cc
+  by_one f c qs s k = cc
 
   neg_kept : (a c : Tree) → IsReducedFrom a c → (has_undef (more c none) ≡ true → P undefined) → IsKept P (neg c) → P (plain_value (neg a))
   neg_kept a c h u v = as_plain P (neg a) n (λ e. by_told P (on_one (λ q. exactly (negative q))) (gather (plain_of a) (values [])) (more c none) (λ x. refl) n u
@@ -183,9 +166,6 @@ root_undefined undef e = refl
 root_undefined a e = cc
 
 pub undef_has_no_value : (u : Tree) → has_undef (children_of u) ≡ true → has_no_value u ≡ true
-undef_has_no_value (num q) e = cc
-undef_has_no_value (symbol x) e = cc
-undef_has_no_value undef e = refl
 undef_has_no_value (add ts) e = e
 undef_has_no_value (mult ts) e = e
 undef_has_no_value (power b g) e = two_undefined (is_undef b) (is_undef g) (is_zero b && is_at_most_zero g) (has_no_half_power b g) e
@@ -193,6 +173,7 @@ undef_has_no_value (root a) e = root_undefined a (or_false (is_undef a) e)
 undef_has_no_value (neg a) e = or_false (is_undef a) e
 undef_has_no_value (sub a b) e = one_undefined (is_undef a) (is_undef b) e
 undef_has_no_value (div a b) e = divisor_undefined (is_undef a) (is_undef b) (is_zero b && is_at_most_zero (num minus_one_fraction)) (has_no_half_power b (num minus_one_fraction)) e
+undef_has_no_value t e = cc
 
 -- the answer of a node over reduced children is that of the plain value
 pub answered_plain : (t u r : Tree) → IsOver t u → IsNodeAnswer u r → IsPlainAnswer (plain_value t) r
@@ -209,10 +190,9 @@ Decides (decided v) o = IsPlainOverflow v o
 Decides (values qs) o = ⊥
 
 this_decides : (v : PlainValue) (g : Gathered) (o : Overflow) → IsPlainOverflow v o → Decides (gather v g) o
-this_decides (exactly q) g o h = absurd h
-this_decides undefined g o h = absurd h
 this_decides (overflow op a b) g o h = h
 this_decides nothing g o h = tt
+this_decides v g o h = absurd h
 
 later_decides : (v : PlainValue) (u : Tree) (g : Gathered) (o : Overflow) → IsPlainAnswer v u → Decides g o → Decides (gather v g) o
 later_decides (exactly q) u (decided v) o a h = h
@@ -224,48 +204,37 @@ later_decides nothing u g o a h = tt
 
 pub child_decides : (done answers : Trees) (t : Tree) (rest : Trees) (o : Overflow) → AreReducedFrom done answers → are_plain (append done (more t rest)) ≡ true → IsPlainOverflow (plain_value t) o
     → Decides (plain_of_children (append done (more t rest))) o
-child_decides none none t rest o h e k = this_decides (plain_of t) (plain_of_children rest) o (subst (λ (v : PlainValue). IsPlainOverflow v o) (is_plain_value t (and_left (is_plain t) (are_plain rest) e)) k)
-child_decides none (more u us) t rest o h e k = absurd h
-child_decides (more x xs) none t rest o h e k = absurd h
+child_decides none none t rest o h e k = this_decides (plain_of t) (plain_of_children rest) o (subst (λ (v : PlainValue). IsPlainOverflow v o) (is_plain_value t (and_parts (is_plain t) (are_plain rest) e).0) k)
 child_decides (more x xs) (more u us) t rest o h e k =
     let all = append xs (more t rest) in
-    later_decides (plain_of x) u (plain_of_children all) o (subst (λ (v : PlainValue). IsPlainAnswer v u) (is_plain_value x (and_left (is_plain x) (are_plain all) e)) h.0.plain)
-    (child_decides xs us t rest o h.1 (and_right (is_plain x) (are_plain all) e) k)
+    later_decides (plain_of x) u (plain_of_children all) o (subst (λ (v : PlainValue). IsPlainAnswer v u) (is_plain_value x (and_parts (is_plain x) (are_plain all) e).0) h.0.plain)
+    (child_decides xs us t rest o h.1 (and_parts (is_plain x) (are_plain all) e).1 k)
+child_decides xs us t rest o h e k = absurd h
 
 decides_value : (F : Gathered → PlainValue) (g : Gathered) (o : Overflow) → ((v : PlainValue) → F (decided v) ≡ v) → Decides g o → IsPlainOverflow (F g) o
 decides_value F (decided v) o d h = subst (λ (x : PlainValue). IsPlainOverflow x o) (sym (d v)) h
 decides_value F (values qs) o d h = absurd h
+
+pub pair_plain : (a b : Bool) → a && b ≡ true → a && (b && true) ≡ true
+pair_plain true b e = and_from b true e refl
+pair_plain false b e = e
+
+pub no_child : (ts : Trees) (t : Tree) (rest : Trees) → none ≡ append ts (more t rest) → ⊥
+no_child none t rest e = cc
+no_child (more x xs) t rest e = cc
 
 module _ (done answers : Trees) (t : Tree) (rest : Trees) (o : Overflow) (reduced : AreReducedFrom done answers) (told : IsPlainOverflow (plain_value t) o) where
   by_child : (F : Gathered → PlainValue) (ts : Trees) → ((v : PlainValue) → F (decided v) ≡ v) → ts ≡ append done (more t rest) → are_plain ts ≡ true → IsPlainOverflow (F (plain_of_children ts)) o
   by_child F ts d e p = decides_value F (plain_of_children ts) o d
       (subst (λ (x : Trees). Decides (plain_of_children x) o) (sym e) (child_decides done answers t rest o reduced (subst (λ (x : Trees). are_plain x ≡ true) e p) told))
 
-  no_child : none ≡ append done (more t rest) → ⊥
-  no_child e = by done e
-    where
-      by : (ts : Trees) → none ≡ append ts (more t rest) → ⊥
-      by none e = cc
-      by (more x xs) e = cc
-
-  pair_plain : (a b : Tree) → is_plain a && is_plain b ≡ true → are_plain (more a (more b none)) ≡ true
-  pair_plain a b e = by (is_plain a) (is_plain b) e
-    where
-      by : (x y : Bool) → x && y ≡ true → x && (y && true) ≡ true
-      by true true e = refl
-      by true false e = e
-      by false y e = e
-
-  one_plain : (a : Tree) → is_plain a ≡ true → are_plain (more a none) ≡ true
-  one_plain a e = ap (λ (x : Bool). x && true) e
-
   -- a child's overflow, where those before it were answered, is the node's
   pub child_overflow : (n : Tree) → children_of n ≡ append done (more t rest) → IsPlainOverflow (plain_value n) o
   child_overflow (add ts) e = as_plain (λ v. IsPlainOverflow v o) (add ts) tt (λ p. by_child (folded add_op) ts (λ v. refl) e p)
   child_overflow (mult ts) e = as_plain (λ v. IsPlainOverflow v o) (mult ts) tt (λ p. by_child (folded mul_op) ts (λ v. refl) e p)
-  child_overflow (power a b) e = as_plain (λ v. IsPlainOverflow v o) (power a b) tt (λ p. by_child (on_two (λ p q. powered p q.num q.den)) (more a (more b none)) (λ v. refl) e (pair_plain a b p))
+  child_overflow (power a b) e = as_plain (λ v. IsPlainOverflow v o) (power a b) tt (λ p. by_child (on_two (λ p q. powered p q.num q.den)) (more a (more b none)) (λ v. refl) e (pair_plain (is_plain a) (is_plain b) p))
   child_overflow (root a) e = tt
-  child_overflow (neg a) e = as_plain (λ v. IsPlainOverflow v o) (neg a) tt (λ p. by_child (on_one (λ q. exactly (negative q))) (more a none) (λ v. refl) e (one_plain a p))
-  child_overflow (sub a b) e = as_plain (λ v. IsPlainOverflow v o) (sub a b) tt (λ p. by_child (on_two (λ p q. calculated add_op p (negative q))) (more a (more b none)) (λ v. refl) e (pair_plain a b p))
-  child_overflow (div a b) e = as_plain (λ v. IsPlainOverflow v o) (div a b) tt (λ p. by_child (on_two divided) (more a (more b none)) (λ v. refl) e (pair_plain a b p))
-  child_overflow t e = absurd (no_child e)
+  child_overflow (neg a) e = as_plain (λ v. IsPlainOverflow v o) (neg a) tt (λ p. by_child (on_one (λ q. exactly (negative q))) (more a none) (λ v. refl) e (ap (λ (x : Bool). x && true) p))
+  child_overflow (sub a b) e = as_plain (λ v. IsPlainOverflow v o) (sub a b) tt (λ p. by_child (on_two (λ p q. calculated add_op p (negative q))) (more a (more b none)) (λ v. refl) e (pair_plain (is_plain a) (is_plain b) p))
+  child_overflow (div a b) e = as_plain (λ v. IsPlainOverflow v o) (div a b) tt (λ p. by_child (on_two divided) (more a (more b none)) (λ v. refl) e (pair_plain (is_plain a) (is_plain b) p))
+  child_overflow n e = absurd (no_child done t rest e)

@@ -1,6 +1,7 @@
 -- How many bytes suffice for the calls on a whole power that is rewritten.
-use Rattle.std.proofs.Common.{◌≡◌, ℕ, ◌+◌, ◌*◌, ◌^◌, ◌≤◌, ◌<◌, List, length, Bool, true, false, not, ◌&&◌, if◌then◌else◌, refl, sym, ap, ◌∙◌, subst, arith}
-use Rattle.deep_reduce.proofs.Shared.{and_parts, pow_pos, is_number, is_reduced, are_reduced, is_num_one, is_whole_num, split_product, NoneIs, HasForm, reduced_words, counted, counted_among, SpansRoot, SpansTree, SpansTrees, tree_bytes, counted_number, counted_other, Tree, mult, power, root, Trees, none, more, append, is_mult, size, sizes, AllPartsOf, reduced_parts, parts_reduced, IsCalmAtZero, whole_power_room, AreReducedPowers, removed, parts_of, raised, parts_counted, HasFactors, product_factors, parts_span, product_parts, nth, HasCalmExponent, AreCalm, zeros, counted_in_all, numbers_among, product_count, exponent_count, product_room, power_room, product_power_room, counts_one, number_counts_one, product_at_most, raised_factor, raised_number, scaled, power_counts, exponents_multiplied}
+use Rattle.std.proofs.Common.{◌≡◌, ℕ, ◌+◌, ◌*◌, ◌^◌, ◌≤◌, ◌<◌, List, length, Bool, true, false, not, ◌&&◌, if◌then◌else◌, refl, sym, ap, ◌∙◌, subst, arith, inl, inr}
+use Rattle.deep_reduce.proofs.Shared.{and_parts, pow_pos, is_number, is_reduced, are_reduced, is_num_one, is_whole_num, split_product, NoneIs, HasForm, reduced_words, counted, counted_among, SpansRoot, SpansTree, SpansTrees, tree_bytes, counted_number, counted_other, Tree, mult, power, root, Trees, none, more, append, is_mult, size, sizes, AllPartsOf, reduced_parts, parts_reduced, IsCalmAtZero, whole_power_room, AreReducedPowers, removed, parts_of, raised, parts_counted, HasFactors, product_factors, parts_span, product_parts, nth, HasCalmExponent, AreCalm, zeros, counted_in_all, numbers_among, product_count, exponent_count, product_room, power_room, product_power_room, counts_one, number_counts_one, product_at_most, raised_factor, raised_number, scaled, power_counts, exponents_multiplied, cases_Bool, appended, sizes_append, and_cases, not-false}
+use Rattle.deep_reduce.proofs.Clashes.{contrary}
 use Rattle.deep_reduce.proofs.Calm.{calm_exponent}
 use Rattle.deep_reduce.proofs.JointBytes.{product_base}
 use Rattle.deep_reduce.proofs.JointCounts.{numbers_one, numbers_other}
@@ -94,14 +95,6 @@ numbers_append : (ts us : Trees) → numbers_among (append ts us) ≡ numbers_am
 numbers_append none us = omega arith
 numbers_append (more t ts) us = omega (arith, numbers_append ts us)
 
-counted_append : (ts us : Trees) → counted_among (append ts us) ≡ counted_among ts + counted_among us
-counted_append none us = omega arith
-counted_append (more t ts) us = omega (arith, counted_append ts us)
-
-pub sizes_append : (ts us : Trees) → sizes (append ts us) ≡ sizes ts + sizes us
-sizes_append none us = omega arith
-sizes_append (more t ts) us = omega (arith, sizes_append ts us)
-
 -- the parts before one and behind it
 pub record IsSplitAt (gs : Trees) (e : Tree) (before : Trees) (t : Tree) (rest : Trees) : Type 0 where
   pub first : Trees
@@ -141,21 +134,12 @@ reduced_first none us h = (refl, h)
 reduced_first (more t ts) us h = let (a, b) = and_parts (is_reduced t) (are_reduced (append ts us)) h in let r = reduced_first ts us b in (rw (a, r.0) refl, r.1)
 
 single_product : (t : Tree) → (is_mult t && not (is_number t)) ≡ false → is_number t ≡ false → is_mult t ≡ false
-single_product t h n = by (is_mult t) (is_number t) h n
-  where
-    by : (x y : Bool) → (x && not y) ≡ false → y ≡ false → x ≡ false
-    by true true h n = cc
-    by false y h n = refl
-    by true false h n = cc
+single_product t h n = elim (and_cases (is_mult t) (not (is_number t)) h) [ inl m ↦ m | inr k ↦ contrary (not-false (is_number t) k) n ]
 
 module _ (gs : List ℕ) where
   -- powers that are not yet reduced
   one_raised : (t e : Tree) → is_reduced t ≡ true → SpansTree gs t → (is_mult t && not (is_number t)) ≡ false → is_whole_num e ≡ true → size (power t e) ≤ 204 * counted t * 2 ^ length gs
-  one_raised t e r s p w = by (is_number t) refl
-    where
-      by : (z : Bool) → is_number t ≡ z → size (power t e) ≤ 204 * counted t * 2 ^ length gs
-      by true n = rw (number_counts_one t n) (omega (arith, raised_number gs t e n s w))
-      by false n = raised_factor gs t e r s (single_product t p n) w
+  one_raised t e r s p w = elim (cases_Bool (is_number t)) [ inl n ↦ rw (number_counts_one t n) (omega (arith, raised_number gs t e n s w)) | inr n ↦ raised_factor gs t e r s (single_product t p n) w ]
 
   raised_bytes : (ts : Trees) (e : Tree) → are_reduced ts ≡ true → SpansTrees gs ts → AreSingle ts → is_whole_num e ≡ true → sizes (raised ts e) ≤ 204 * counted_in_all ts * 2 ^ length gs
   raised_bytes none e r s p w = omega arith
@@ -169,8 +153,7 @@ module _ (gs : List ℕ) where
 answers_reduced : (ts us : Trees) → AreReducedPowers ts us → are_reduced us ≡ true
 answers_reduced none none a = refl
 answers_reduced (more t ts) (more u us) a = rw (a.0.reduces.reduced, answers_reduced ts us a.1) refl
-answers_reduced none (more u us) a = absurd a
-answers_reduced (more t ts) none a = absurd a
+answers_reduced ts us a = absurd a
 
 -- g counts in the part that is raised, o in the other parts that are no Numbers, and k of the others are Numbers
 part_fits : (c g o k m s : ℕ) → 1 ≤ m → k ≤ 1 → g + o ≤ c → s ≤ 204 * (k + o) * m → 8 + s + power_room g m ≤ product_power_room c m
@@ -229,7 +212,7 @@ module _ (gs : List ℕ) (ns : List (List ℕ)) (fs : Trees) (e : Tree) (h : is_
                   ap numbers_among p,
                   ap counted_among p,
                   numbers_append first (more part last),
-                  counted_append first (more part last),
+                  appended first (more part last),
                   numbers_one part last k,
                   counted_number part last k,
                 ))
@@ -240,7 +223,7 @@ module _ (gs : List ℕ) (ns : List (List ℕ)) (fs : Trees) (e : Tree) (h : is_
             arith,
             part_fits (counted (mult fs)) (counted part) (counted_among first + counted_among last) (numbers_among first + numbers_among last) (2 ^ length gs) (sizes (append reduced (raised last e))) (pow_pos (length gs))
                 (omega (arith, few.numbers, ap numbers_among p, numbers_append first (more part last), numbers_other part last k))
-                (omega (arith, few.others, ap counted_among p, counted_append first (more part last), counted_other part last k))
+                (omega (arith, few.others, ap counted_among p, appended first (more part last), counted_other part last k))
                 (omega (
                   arith,
                   others_bytes first part last reduced p a,

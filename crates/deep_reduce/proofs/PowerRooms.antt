@@ -1,6 +1,7 @@
 -- What reduced powers count, and that they are calm and spanned.
 use Rattle.std.proofs.Common.{◌≡◌, ℕ, ℤ, zero, suc, ◌+◌, ◌≤◌, pos, negsuc, List, Bool, true, false, not, ◌&&◌, ◌||◌, if◌then◌else◌, None, refl, sym, ap, ◌∙◌, subst, arith}
 use Rattle.deep_reduce.proofs.Shared.{is_number, natural_of, is_whole_num, number_words, counted, SpansTree, Fraction, whole_fraction, is_zero_fraction, is_one_fraction, int_is_negative, int_is_zero, Tree, num, undef, power, root, is_mult, is_num, is_undef, zero_is, one_is, IsCalmAtZero, KeepsRoom, KeepsRootRoom, SpansRootOf, whole_power_count, power_count, has_no_power, has_number_power, IsPowerAnswer, IsWrittenPower, is_zero_or_one, rewritten, answer_counts, whole_power_counts, answer_spans, whole_is, has_no_root, IsRootAnswer, zeros, number_calm, whole_number, counts_one, number_counts_one}
+use Rattle.deep_reduce.proofs.Clashes.{undef_words}
 use Rattle.deep_reduce.proofs.Calm.{calm_base, calm_power}
 use Rattle.deep_reduce.proofs.RootValues.{root_of_zero}
 
@@ -20,13 +21,9 @@ power_counts_most b e = by (is_whole_num e) refl
 
 -- ---- answers that no rule rewrites
 
-undef_is : (t : Tree) → is_undef t ≡ true → t ≡ undef
-undef_is undef h = refl
-undef_is t h = cc
-
 module _ (ns : List (List ℕ)) where
   undef_calm : (b t : Tree) → is_undef t ≡ true → IsCalmAtZero ns b → IsCalmAtZero ns t
-  undef_calm b t h c = subst (IsCalmAtZero ns) (sym (undef_is t h)) (record { once = c.once; calm = tt })
+  undef_calm b t h c = subst (IsCalmAtZero ns) (sym (undef_words t h)) (record { once = c.once; calm = tt })
 
   trivial_calm : (b e t : Tree) → is_zero_or_one e ≡ true → IsWrittenPower b e t → IsCalmAtZero ns b → IsCalmAtZero ns t
   trivial_calm b (num q) t h w c = by (is_zero_fraction q) refl h
@@ -94,7 +91,7 @@ pub root_room : (b r : Tree) → IsRootAnswer b r → ((gs : List ℕ) → Spans
 root_room b r a s = by (has_no_root b) (is_num b) refl refl
   where
     by : (x n : Bool) → has_no_root b ≡ x → is_num b ≡ n → IsRootRoom b r
-    by true n d m = subst (IsRootRoom b) (sym (undef_is r (a.undefined ∙ d))) (record { counts = omega arith; calm = λ ns c. record { once = c.once; calm = tt }; spanned = λ gs h. tt })
+    by true n d m = subst (IsRootRoom b) (sym (undef_words r (a.undefined ∙ d))) (record { counts = omega arith; calm = λ ns c. record { once = c.once; calm = tt }; spanned = λ gs h. tt })
     by false true d m = record {
       counts = omega (arith, number_counts_one r (a.number m d));
       calm = λ ns c. number_is_calm ns b r (a.number m d) c;
@@ -122,7 +119,7 @@ pub root_answer_counts : (a r : Tree) → IsRootAnswer a r → counted r ≤ cou
 root_answer_counts a r h = by (has_no_root a) (is_num a) refl refl
   where
     by : (x n : Bool) → has_no_root a ≡ x → is_num a ≡ n → counted r ≤ counted (root a)
-    by true n d m = omega (arith, ap counted (undef_is r (h.undefined ∙ d)), counts_one (root a))
+    by true n d m = omega (arith, ap counted (undef_words r (h.undefined ∙ d)), counts_one (root a))
     by false true d m = omega (arith, number_counts_one r (h.number m d), counts_one (root a))
     by false false d m = omega (arith, ap counted (h.kept m d))
 

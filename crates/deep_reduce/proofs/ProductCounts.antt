@@ -1,6 +1,7 @@
 -- The product of an exponent that counts its base and of a whole number counts it as often as both together.
-use Rattle.std.proofs.Common.{◌≡◌, ℕ, ℤ, pos, negsuc, neg_ℤ, suc, ◌*◌, ◌*ℤ◌, inr, Bool, true, false, ◌||◌, ◌==◌, List, if◌then◌else◌, refl, sym, ap, ◌∙◌, subst, arith}
-use Rattle.deep_reduce.proofs.Shared.{and_parts, is_number, value, are_reduced, is_reduced, product_tree, Same, surd_of, surd_one, Permuted, permuted_none, permuted_more, permuted_swap, permuted_trans, number_words, number_test, Same-trans, Same-refl, Same-eq, Same-surd_times, Fraction, whole_fraction, zero_fraction, one_fraction, zero_is, Tree, num, symbol, add, mult, Trees, none, more, has_undef, with_coefficient, IsMonic, reduced_parts, parts_reduced, IsCountedWithin, MultipliesCounts, is_zero, IsFinished, IsWrittenProduct, opened, numbers_in, others_in, product_of_values, coefficient_times, have_partners, whole_of, IsCountedIn, num_value, num_counted, zero_counted, put_counted, Counts, counts, multiple, counts_of, is_counted, IsWithin}
+use Rattle.std.proofs.Common.{◌≡◌, ℕ, ℤ, pos, ◌*◌, ◌*ℤ◌, Bool, true, false, ◌||◌, ◌==◌, List, if◌then◌else◌, refl, sym, ap, ◌∙◌, subst, arith, inl, inr}
+use Rattle.deep_reduce.proofs.Shared.{and_parts, is_number, value, are_reduced, is_reduced, product_tree, Same, surd_of, surd_one, number_words, Same-trans, Same-refl, Same-eq, Same-surd_times, Fraction, whole_fraction, one_fraction, Tree, num, symbol, add, mult, Trees, none, more, has_undef, with_coefficient, IsMonic, reduced_parts, IsCountedWithin, MultipliesCounts, is_zero, IsFinished, IsWrittenProduct, opened, numbers_in, others_in, product_of_values, coefficient_times, have_partners, whole_of, IsCountedIn, num_value, num_counted, zero_counted, put_counted, Counts, counts, multiple, counts_of, is_counted, IsWithin, symbol_monic, permuted_none_is, cases_Bool, ints}
+use Rattle.deep_reduce.proofs.Clashes.{clash, unclear, rational_number, zero_words}
 use Rattle.std.proofs.Math.IntN.{*ℤ_comm}
 use Rattle.calc_algebra.proofs.ExponentLaws.{whole_times}
 use Rattle.deep_reduce.proofs.HeldExponents.{counted_defined, multiple_of}
@@ -9,21 +10,12 @@ use Rattle.product_reduce.proofs.Sorted.{permuted_lists}
 use Rattle.sum_reduce.proofs.CollectedExponents.{whole_number, as_whole}
 use Rattle.sum_reduce.proofs.CountedMultiples.{within_after, product_within}
 
-clash : {A : Type 0} → true ≡ false → A
-clash e = absurd cc
-
-unclear : {A : Type 0} → false ≡ true → A
-unclear e = absurd cc
-
 -- ---- the factors
 
 -- a whole number, with a factor that counts behind it or none
 data IsParted (c : Counts) (n : ℤ) (ts : Trees) : Type 0 where
   number_alone : (z : ℤ) → Same (product_of_values (numbers_in (opened ts))) (surd_of (whole_fraction z)) → others_in (opened ts) ≡ none → IsWithin (multiple z (counts 1 0)) (multiple n c) → IsParted c n ts
   one_factor : (z : ℤ) (w : Tree) → Same (product_of_values (numbers_in (opened ts))) (surd_of (whole_fraction z)) → others_in (opened ts) ≡ more w none → IsMonic w → is_counted w ≡ true → IsWithin (multiple z (counts_of w)) (multiple n c) → IsParted c n ts
-
-rational_number : (q : Fraction) → is_number (num q) ≡ true
-rational_number q = number_test (num q) tt
 
 -- products of whole numbers
 one_product : (n : ℤ) → Same (product_of_values (more (num (whole_fraction n)) none)) (surd_of (whole_fraction n))
@@ -32,8 +24,7 @@ one_product n =
     Same-trans (Same-surd_times (num_value (whole_fraction n)) (Same-refl surd_one)) (Same-eq (ap surd_of (whole_times n (pos 1) ∙ ap whole_fraction (once n))))
   where
     once : (n : ℤ) → n *ℤ pos 1 ≡ n
-    once (pos n) = ap pos (omega arith)
-    once (negsuc n) = let e : suc n * 1 ≡ suc n = omega arith in ap (λ (m : ℕ). neg_ℤ (pos m)) e
+    once n = omega (arith, ints)
 
 two_product : (q : Fraction) (n : ℤ) → (q.den == 1) ≡ true → Same (product_of_values (more (num q) (more (num (whole_fraction n)) none))) (surd_of (whole_fraction (q.num *ℤ n)))
 two_product q n w =
@@ -59,9 +50,6 @@ symbol_number : (x : List ℕ) → is_number (symbol x) ≡ false
 unfolding is_number
 symbol_number x = refl
 
-symbol_monic : (x : List ℕ) → IsMonic (symbol x)
-symbol_monic x = record { reduced = parts_reduced (symbol x) (inr tt); defined = refl; no_coefficient = symbol_number x }
-
 -- one factor other than a Number, and the whole number
 single_parted : (w : Tree) (n : ℤ) (ts : Trees) → opened ts ≡ more w (more (num (whole_fraction n)) none) → is_number w ≡ false → IsMonic w → is_counted w ≡ true → IsParted (counts_of w) n ts
 single_parted w n ts e k m c =
@@ -78,11 +66,10 @@ parted (num q) n r c =
     let (i, j) = with_number (whole_fraction n) none in
     number_alone (q.num *ℤ n) (subst (λ (us : Trees). Same (product_of_values us) (surd_of (whole_fraction (q.num *ℤ n)))) (sym (a ∙ ap (more (num q)) i)) (two_product q n c)) (b ∙ j) (turned_within q n (counts 1 0))
 parted (symbol x) n r c = single_parted (symbol x) n (more (symbol x) (more (num (whole_fraction n)) none)) refl (symbol_number x) (symbol_monic x) c
-parted (add ts) n r c = by (is_number (add ts)) refl
-  where
-    by : (b : Bool) → is_number (add ts) ≡ b → IsParted (counts_of (add ts)) n (more (add ts) (more (num (whole_fraction n)) none))
-    by true k = let w = whole_number (add ts) (number_words (add ts) k) c in absurd (cc w.is)
-    by false k = single_parted (add ts) n (more (add ts) (more (num (whole_fraction n)) none)) refl k (record { reduced = r; defined = refl; no_coefficient = k }) c
+parted (add ts) n r c = elim (cases_Bool (is_number (add ts))) [
+  | inl k ↦ let w = whole_number (add ts) (number_words (add ts) k) c in absurd (cc w.is)
+  | inr k ↦ single_parted (add ts) n (more (add ts) (more (num (whole_fraction n)) none)) refl k (record { reduced = r; defined = refl; no_coefficient = k }) c
+]
 parted (mult (more (num q) (more t none))) n r c =
     let m = multiple_of q t (reduced_parts (mult (more (num q) (more t none))) r refl) c in
     let e : opened (more (mult (more (num q) (more t none))) (more (num (whole_fraction n)) none)) ≡ more (num q) (more (symbol m.name) (more (num (whole_fraction n)) none)) = ap (λ (u : Tree). more (num q) (more u (more (num (whole_fraction n)) none))) m.is in
@@ -97,22 +84,12 @@ parted t n r c = unclear c
 
 -- ---- what is written of them
 
-none_moved : {ts us : Trees} → Permuted ts us → ts ≡ none → us ≡ none
-none_moved permuted_none e = e
-none_moved (permuted_more k) e = cc
-none_moved permuted_swap e = cc
-none_moved (permuted_trans k l) e = none_moved l (none_moved k e)
-
 -- as the deep reducer says it
 told : {t : Tree} {c : Counts} → IsCountedIn t c → IsCountedWithin c t
 told a = record { counted = a.counted; within = a.within }
 
 told_within : {t : Tree} {c d : Counts} → IsCountedIn t c → IsWithin c d → IsCountedWithin d t
 told_within a w = record { counted = a.counted; within = within_after a.within w }
-
-zero_words : (c : Tree) → is_zero c ≡ true → c ≡ num zero_fraction
-zero_words (num q) h = ap num (zero_is q h)
-zero_words c h = unclear h
 
 written_counts : (ts : Trees) (t : Tree) (c : Counts) (n : ℤ) → IsWrittenProduct ts t → IsParted c n ts → IsCountedWithin (multiple n c) t
 written_counts ts t c n w (number_alone z same none_else fits) = by (is_zero w.coefficient) refl
@@ -127,7 +104,7 @@ written_counts ts t c n w (number_alone z same none_else fits) = by (is_zero w.c
     by true e = counts_as (w.zero e)
     by false e =
         let x = w.written e in
-        counts_as (x.is ∙ ap (coefficient_times w.coefficient) (none_moved (permuted_lists (others_in (opened ts)) x.us x.sorted.moved) none_else))
+        counts_as (x.is ∙ ap (coefficient_times w.coefficient) (permuted_none_is (permuted_lists (others_in (opened ts)) x.us x.sorted.moved) none_else))
 written_counts ts t c n w (one_factor z p same one_else monic counted fits) = by (is_zero w.coefficient) refl
   where
     i : w.coefficient ≡ num (whole_fraction z)

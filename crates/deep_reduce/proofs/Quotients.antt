@@ -1,14 +1,14 @@
 -- What a quotient answers, from the answers for the inverse and for the product.
-use Rattle.std.proofs.Common.{◌≡◌, ◌+◌, ◌*◌, negsuc, arith, ◌⊎◌, inl, inr, Bool, true, false, ◌&&◌, refl, sym, ap, ◌∙◌, subst, append-nil}
-use Rattle.std.specs.Prelude.{◌||◌, Contains, if◌then◌else◌, [], ◌++◌}
-use Rattle.deep_reduce.proofs.Shared.{fraction_fits, mul_op, Fraction, minus_one_fraction, inverse, is_zero_fraction, is_number, PlainValue, undefined, calculated, plain_value, Tree, num, undef, mult, power, div, none, names, is_undef, is_num, has_undef, are_rationals, IsNodeAnswer, IsNodeOverflow, holds_whole, lacks_power, is_number_power, Overflow, keeps, kept, reduces_after, IsPlainAnswer, IsPlainOverflow, Rewrites, Reduces}
+use Rattle.std.proofs.Common.{◌≡◌, ◌+◌, ◌*◌, negsuc, arith, ◌⊎◌, inl, inr, Bool, true, false, ◌&&◌, refl, sym, ap, ◌∙◌, subst, append-nil, ◌||◌, Contains, if◌then◌else◌, [], ◌++◌}
+use Rattle.deep_reduce.proofs.Shared.{fraction_fits, mul_op, Fraction, minus_one_fraction, inverse, is_zero_fraction, is_number, PlainValue, undefined, calculated, plain_value, Tree, num, undef, mult, power, div, none, names, is_undef, is_num, has_undef, are_rationals, IsNodeAnswer, IsNodeOverflow, holds_whole, lacks_power, is_number_power, Overflow, keeps, kept, reduces_after, IsPlainAnswer, IsPlainOverflow, Rewrites, Reduces, and_from, and_parts, or_cases, or_from, or_parts, cases_Bool}
+use Rattle.deep_reduce.proofs.Clashes.{undef_words, undef_test}
 use Rattle.calc_algebra.proofs.PowerRewrites.{div_as_product}
 use Rattle.deep_reduce.proofs.NodeBits.{two_factors, second_side, answer_defined}
-use Rattle.deep_reduce.proofs.EasyNodes.{and_true, and_first, and_second, or_none, undef_words, undef_test, number_defined}
+use Rattle.deep_reduce.proofs.EasyNodes.{number_defined}
 use Rattle.deep_reduce.proofs.NodeRewrites.{both}
 use Rattle.deep_reduce.proofs.NodeRooms.{quotient_room}
 use Rattle.deep_reduce.proofs.Rationals.{inverse_value, zero_inverse}
-use Rattle.deep_reduce.proofs.Steps.{two, or_split, or_first, or_second, left_undefined, right_undefined, two_rationals, product_value, AreTwo, are_two}
+use Rattle.deep_reduce.proofs.Steps.{two, left_undefined, right_undefined, two_rationals, product_value, AreTwo, are_two}
 use Rattle.calc_algebra.proofs.MeaningRewrites as rewrites
 
 abbrev inverse_tree : Tree → Tree
@@ -34,18 +34,10 @@ module _ (p q : Fraction) (c : Tree) (fit : fraction_fits q ≡ true) (told : Is
   other_quotient z = (ap (λ (b : Bool). if b then undefined else calculated mul_op p (inverse q)) z, subst (λ (v : PlainValue). IsPlainAnswer v c) (inverse_value q z fit) told)
 
   not_zero : is_undef c ≡ false → is_zero_fraction q ≡ false
-  not_zero d = by (is_zero_fraction q) refl
-    where
-      by : (b : Bool) → is_zero_fraction q ≡ b → is_zero_fraction q ≡ false
-      by true z = absurd (let e : is_undef c ≡ true = ap is_undef (zero_quotient z).1 in cc)
-      by false z = z
+  not_zero d = elim (cases_Bool (is_zero_fraction q)) [ inl z ↦ absurd (let e : is_undef c ≡ true = ap is_undef (zero_quotient z).1 in cc) | inr z ↦ z ]
 
   zero_divisor : c ≡ undef → plain_value (div (num p) (num q)) ≡ undefined
-  zero_divisor e = by (is_zero_fraction q) refl
-    where
-      by : (b : Bool) → is_zero_fraction q ≡ b → plain_value (div (num p) (num q)) ≡ undefined
-      by true z = (zero_quotient z).0
-      by false z = absurd (let n : num (inverse q) ≡ undef = sym (other_quotient z).1 ∙ e in cc)
+  zero_divisor e = elim (cases_Bool (is_zero_fraction q)) [ inl z ↦ (zero_quotient z).0 | inr z ↦ absurd (let n : num (inverse q) ≡ undef = sym (other_quotient z).1 ∙ e in cc) ]
 
 module _ (a b c : Tree) (fit : (q : Fraction) → b ≡ num q → fraction_fits q ≡ true) (known : IsNodeAnswer (inverse_tree b) c) where
   told : (d : AreTwo a b) → IsPlainAnswer (plain_value (inverse_tree (num d.right))) c
@@ -69,11 +61,11 @@ module _ (a b c : Tree) (fit : (q : Fraction) → b ≡ num q → fraction_fits 
   pub div_answer : (r : Tree) → IsNodeAnswer (mult (two a c)) r → IsNodeAnswer (div a b) r
   div_answer r h = record {
     reduces = reduces_after (div_rewrites a b c known.reduces) h.reduces;
-    undefined = λ e. by (or_split (is_undef a) (lacks_power b (num minus_one_fraction)) e);
+    undefined = λ e. by (or_cases (is_undef a) (lacks_power b (num minus_one_fraction)) e);
     number = λ n d.
-        let number : is_number c ≡ true = known.number (and_second (is_number a) (is_number_power b (num minus_one_fraction)) n) (or_second (is_undef a) (lacks_power b (num minus_one_fraction)) d) in
-        h.number (and_true (is_number a) (is_number c && true) (and_first (is_number a) (is_number_power b (num minus_one_fraction)) n) (and_true (is_number c) true number refl))
-        (or_none (is_undef a) (is_undef c || false) (or_first (is_undef a) (lacks_power b (num minus_one_fraction)) d) (or_none (is_undef c) false (number_defined c number) refl));
+        let number : is_number c ≡ true = known.number (and_parts (is_number a) (is_number_power b (num minus_one_fraction)) n).1 (or_parts (is_undef a) (lacks_power b (num minus_one_fraction)) d).1 in
+        h.number (and_from (is_number a) (is_number c && true) (and_parts (is_number a) (is_number_power b (num minus_one_fraction)) n).0 (and_from (is_number c) true number refl))
+        (or_from (is_undef a) (is_undef c || false) (or_parts (is_undef a) (lacks_power b (num minus_one_fraction)) d).0 (or_from (is_undef c) false (number_defined c number) refl));
     rational = λ e. by_factor (is_undef c) refl e;
     room = quotient_room a b c r known.room h.room;
     root_room = λ k. cc;
@@ -97,7 +89,7 @@ module _ (a b c : Tree) (fit : (q : Fraction) → b ≡ num q → fraction_fits 
   -- the product does not fit
   pub div_overflow : (o : Overflow) → IsNodeOverflow (mult (two a c)) o → has_undef (two a b) ≡ false → IsNodeOverflow (div a b) o
   div_overflow o h d =
-      let u = or_first (is_undef c) false (or_second (is_undef a) (is_undef c || false) h.defined) in
+      let u = (or_parts (is_undef c) false (or_parts (is_undef a) (is_undef c || false) h.defined).1).0 in
       record { defined = d; rational = λ e. subst (λ (v : PlainValue). IsPlainOverflow v o) (quotient_value u (are_two a b e)) (h.rational (factors_rational u e)) }
 
 -- the inverse of a rational fits

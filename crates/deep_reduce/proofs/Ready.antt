@@ -1,10 +1,7 @@
 -- A node over the answers of its children, from the tree as it was.
-use Rattle.std.proofs.Common.{◌≡◌, ℕ, true, Ok, Err, Result, refl, sym, subst, arith}
-use Rattle.std.specs.Prelude.{IfErr, List, length, ◌^◌, ◌+◌, false}
-use Rattle.deep_reduce.proofs.Shared.{eqb-true, is_reduced, are_reduced, is_half_num, lowest, Kind, Payload, rational, named, bare, Tree, num, symbol, undef, power, root, neg, sub, div, Trees, none, more, count, nodes, nodes_of, root_size, sizes, has_undef, HasFewBits, HoldsNode, HasNodesFor, SpansNode, IsNodeAnswer, IsNodeOverflow, IsReducedFrom, MayLack, MayOverflow, IsCalmAtZero, SpansRootOf, LacksBelow, OfFull, base_in, exponent_in, Overflow, IsNext, is_leaf, grown, compound, takes, takes_kind, nth, children_of, IfOverflow, NumberFault, simple_room, all_written_bytes}
-use Rattle.deep_reduce.proofs.BitsBeyond.{child_beyond, node_beyond}
+use Rattle.std.proofs.Common.{◌≡◌, ℕ, true, Ok, Err, Result, refl, sym, subst, arith, IfErr, List, length, ◌^◌, ◌+◌, false, ◌<◌, Bool, if◌then◌else◌, ap, inl, inr, nat_le}
+use Rattle.deep_reduce.proofs.Shared.{eqb-true, is_reduced, are_reduced, is_half_num, lowest, Kind, Payload, rational, named, bare, Tree, num, symbol, undef, power, root, neg, sub, div, Trees, none, more, count, nodes, nodes_of, root_size, sizes, has_undef, HasFewBits, HoldsNode, HasNodesFor, SpansNode, IsNodeAnswer, IsNodeOverflow, IsReducedFrom, MayLack, MayOverflow, IsCalmAtZero, SpansRootOf, LacksBelow, OfFull, base_in, exponent_in, Overflow, IsNext, is_leaf, grown, compound, takes, takes_kind, nth, children_of, IfOverflow, NumberFault, simple_room, all_written_bytes, and_from, leb-true, leb-false, all_simple, high, low, bits, most_bits, unbounded_bits, append, cases_Bool}
 use Rattle.deep_reduce.proofs.ChildRooms.{all_small, child_room, node_lacks}
-use Rattle.deep_reduce.proofs.EasyNodes.{and_true}
 use Rattle.deep_reduce.proofs.NodeAnswers.{node_answered}
 use Rattle.deep_reduce.proofs.NodeRewrites.{AreReducedFrom, IsOver, over_number, over_symbol, over_undef, over_sum, over_product, over_power, over_root, over_neg, over_sub, over_div}
 use Rattle.deep_reduce.proofs.Overflowing.{first_overflow, last_overflow}
@@ -12,6 +9,8 @@ use Rattle.deep_reduce.proofs.PlainNodes.{child_overflow, overflowed_plain}
 use Rattle.deep_reduce.proofs.Steps.{number_answer, symbol_answer, undef_answer}
 use Rattle.reduce_walk.proofs.Bytes.{root_over}
 use Rattle.reduce_walk.specs.Answers.{IsOver as IsOverAnswers}
+use Rattle.deep_reduce.proofs.TreeBits.{holds_over}
+use Rattle.reduce_walk.proofs.Bits.{child_bits, own_bits}
 use Rattle.calc_terms.specs.declared.kind.Kind.TheVariants as kind
 use Rattle.tree_handles.specs.declared.fault.NumberFault.TheVariants as number
 
@@ -69,13 +68,34 @@ over_payload (bare k) ts us e h = over_kind k ts us e h
 
 pub answers_reduced : (ts us : Trees) → AreReducedFrom ts us → are_reduced us ≡ true
 answers_reduced none none h = refl
-answers_reduced none (more u us) h = absurd h
-answers_reduced (more t ts) none h = absurd h
-answers_reduced (more t ts) (more u us) h = and_true (is_reduced u) (are_reduced us) h.0.reduces.reduced (answers_reduced ts us h.1)
+answers_reduced (more t ts) (more u us) h = and_from (is_reduced u) (are_reduced us) h.0.reduces.reduced (answers_reduced ts us h.1)
+answers_reduced ts us h = absurd h
 
 pub over_answers : {t u : Tree} → IsOverAnswers IsReducedFrom t u → IsOver t u
 over_answers {t = t} {u = u} o =
     subst (λ (x : Tree). IsOver x u) (sym o.whole) (subst (IsOver (grown o.holds (children_of t))) (sym o.node) (over_payload o.holds (children_of t) (children_of u) o.takes o.children))
+
+-- ---- bits beyond those within which all fit
+
+simple_bits : (t : Tree) → all_simple t ≡ true → bits t ≡ most_bits t
+simple_bits t s = ap (λ (b : Bool). if b then most_bits t else unbounded_bits) s
+
+other_bits : (t : Tree) → all_simple t ≡ false → bits t ≡ unbounded_bits
+other_bits t s = ap (λ (b : Bool). if b then most_bits t else unbounded_bits) s
+
+pub child_beyond : (t : Tree) (before : Trees) (c : Tree) (rest : Trees) → children_of t ≡ append before (more c rest) → 124 < bits c → 124 < bits t
+child_beyond t before c rest e l = elim (cases_Bool (all_simple t)) [
+  | inl s ↦ omega (arith, l, simple_bits t s, simple_bits c (child_room t before c rest e s).simple, child_bits t before c rest e)
+  | inr s ↦ omega (arith, other_bits t s)
+]
+
+-- a node that few bits hold fits
+pub node_beyond : (t u : Tree) → IsOver t u → ((h l : ℕ) → (has_undef (children_of u) ≡ false → HoldsNode u h l) → HasFewBits h l → ⊥) → 124 < bits t
+node_beyond t u h fits = elim (cases_Bool (all_simple t)) [ inl s ↦ simple s (nat_le (bits t) 124) refl | inr s ↦ omega (arith, other_bits t s) ]
+  where
+    simple : all_simple t ≡ true → (b : Bool) → nat_le (bits t) 124 ≡ b → 124 < bits t
+    simple s false e = leb-false (bits t) 124 e
+    simple s true e = absurd (fits (high t) (low t) (holds_over t u s h) (omega (arith, leb-true (bits t) 124 e, simple_bits t s, own_bits t)))
 
 -- ---- a child that is not reduced
 

@@ -1,6 +1,5 @@
 -- What calls on numbers return, in other words.
-use Rattle.std.proofs.Common.{◌≡◌, ℕ, ◌+◌, ◌≤◌, List, Result, Ok, Err, true, false, refl, sym, subst}
-use Rattle.std.specs.Prelude.{IfOk, IfErr, IsErr, IsErrAnd}
+use Rattle.std.proofs.Common.{◌≡◌, ℕ, ◌+◌, ◌≤◌, List, Result, Ok, Err, true, false, refl, sym, subst, IfOk, IfErr, IsErr, IsErrAnd}
 use Rattle.deep_reduce.proofs.Shared.{PlainValue, counted, counted_among, HasPowersOf, SpansTree, Tree, Trees, add, KeepsSumRoom, gives_itself, State, IfOverflow, OfOverflow, Overflow, IsPlainAnswer, IsPlainOverflow, gives_as, last_tree, plain, Forest, tree_of, Gives, forest, NumberFault}
 use Rattle.number_forms.specs.Answers.{AnswersRationals}
 use Rattle.tree_handles.specs.declared.fault.NumberFault.TheVariants as fault

@@ -1,6 +1,6 @@
 -- Whole powers that are rewritten: by which rule, and what the trees for them count.
 use Rattle.std.proofs.Common.{◌≡◌, ℕ, ℤ, suc, ◌+◌, ◌≤◌, List, inl, inr, Bool, true, false, not, ◌&&◌, if◌then◌else◌, Some, refl, sym, ap, ◌∙◌, subst, arith}
-use Rattle.deep_reduce.proofs.Shared.{and_parts, true≢false, Assignment, is_number, is_radicand, is_reduced, is_whole_num, is_num_one, split, split_product, num_one, NoneIs, number_test, counted, SpansTree, SpansTrees, whole_fraction, Tree, num, add, mult, power, root, Trees, none, more, count, is_mult, is_num, reduced_parts, IsReducedProduct, IsReducedPower, IsCalmAtZero, KeepsRoom, IsRewritten, whole_power_count, power_count, AreReducedPowers, IsLifted, IsMultiplied, IsProductOfPowers, base_in, exponent_in, half, parts_of, raised, rewritten_whole, parts_counted, whole_power_counts, as_whole, whole_no_half, HasFactors, product_factors, chosen, parts_span, whole_is, children_of, IsCalm, AreCalm, zeros, counted_in_all, product_whole, whole_number, counts_one, numbers_and_others, power_counts, of_a_power, of_a_root}
+use Rattle.deep_reduce.proofs.Shared.{and_parts, true≢false, Assignment, is_number, is_radicand, is_reduced, is_whole_num, is_num_one, split, split_product, num_one, NoneIs, number_test, counted, SpansTree, SpansTrees, whole_fraction, Tree, num, add, mult, power, root, Trees, none, more, count, is_mult, is_num, reduced_parts, IsReducedProduct, IsReducedPower, IsCalmAtZero, KeepsRoom, IsRewritten, whole_power_count, power_count, AreReducedPowers, IsLifted, IsMultiplied, IsProductOfPowers, base_in, exponent_in, half, parts_of, raised, rewritten_whole, parts_counted, whole_power_counts, as_whole, whole_no_half, HasFactors, product_factors, chosen, parts_span, whole_is, children_of, IsCalm, AreCalm, zeros, counted_in_all, product_whole, whole_number, counts_one, numbers_and_others, power_counts, of_a_power, of_a_root, not-true, and_right, not_from_true}
 use Rattle.deep_reduce.proofs.Calm.{calm_base, calm_exponent, calm_product, calm_power, calm_whole, whole_kept, whole_of_number}
 use Rattle.deep_reduce.proofs.JointBytes.{product_base}
 use Rattle.deep_reduce.proofs.JointRooms.{whole_numbers, whole_count_most}
@@ -9,23 +9,38 @@ use Rattle.power_reduce.proofs.Rules.{nothing}
 -- ---- rules
 
 -- an even power of a root, a power of a power that is not opaque, or a power of a product that is no Number
-pub data IsByWay (b e t : Tree) : Type 0 where
+data IsByWay (b e t : Tree) : Type 0 where
   of_root : (a : Tree) (z : ℤ) → b ≡ root a → t ≡ power a (num (whole_fraction z)) → is_number (root a) ≡ false → IsByWay b e t
   of_power : (c f : Tree) → b ≡ power c f → t ≡ power c (mult (more f (more e none))) → IsByWay b e t
   of_product : (fs : Trees) → b ≡ mult fs → t ≡ mult (raised (parts_of fs) e) → is_number (mult fs) ≡ false → IsByWay b e t
 
-is_false : (x : Bool) → not x ≡ true → x ≡ false
-is_false true h = cc
-is_false false h = refl
-
 by_whole : (b e t : Tree) → rewritten_whole b e ≡ Some t → IsByWay b e t
-by_whole (root a) (num q) t h = chosen _ _ t (IsByWay (root a) (num q)) h (λ k. of_root a (half q.num) refl refl (is_false _ (and_parts _ _ k).1))
+by_whole (root a) (num q) t h = chosen _ _ t (IsByWay (root a) (num q)) h (λ k. of_root a (half q.num) refl refl (not-true _ (and_parts _ _ k).1))
 by_whole (power c f) e t h = chosen _ _ t (IsByWay (power c f) e) h (λ k. of_power c f refl refl)
-by_whole (mult ts) e t h = chosen _ _ t (IsByWay (mult ts) e) h (λ k. of_product ts refl refl (is_false _ (and_parts _ _ k).1))
+by_whole (mult ts) e t h = chosen _ _ t (IsByWay (mult ts) e) h (λ k. of_product ts refl refl (not-true _ (and_parts _ _ k).1))
 by_whole b e t h = nothing t (IsByWay b e) h
 
-pub by_way : (b e t : Tree) → IsRewritten b e t → IsByWay b e t
+by_way : (b e t : Tree) → IsRewritten b e t → IsByWay b e t
 by_way b e t w = by_whole b e t (sym (as_whole b e (whole_no_half e w.whole)) ∙ w.is)
+
+-- what holds by the rule for products holds where the tree is a product
+pub by_product : (P : Tree → Tree → Type 0) (b e t : Tree) → is_mult t ≡ true → IsRewritten b e t → ((fs : Trees) → is_reduced (mult fs) ≡ true → is_number (mult fs) ≡ false → P (mult fs) (mult (raised (parts_of fs) e))) → P b t
+by_product P b e t m w of = by (by_way b e t w)
+  where
+    by : IsByWay b e t → P b t
+    by (of_product fs i j n) = subst (λ (x : Tree). P x t) (sym i) (subst (P (mult fs)) (sym j) (of fs (sym (ap is_reduced i) ∙ w.base) n))
+    by (of_root a z i j n) = absurd (cc (sym m ∙ ap is_mult j))
+    by (of_power c f i j) = absurd (cc (sym m ∙ ap is_mult j))
+
+-- and what holds by the other two where it is none
+pub by_power : (P : Tree → Tree → Type 0) (b e t : Tree) → is_mult t ≡ false → IsRewritten b e t → ((a : Tree) (z : ℤ) → is_reduced (root a) ≡ true → is_number (root a) ≡ false → P (root a) (power a (num (whole_fraction z))))
+    → ((c f : Tree) → is_reduced (power c f) ≡ true → P (power c f) (power c (mult (more f (more e none))))) → P b t
+by_power P b e t m w root_case power_case = by (by_way b e t w)
+  where
+    by : IsByWay b e t → P b t
+    by (of_root a z i j n) = subst (λ (x : Tree). P x t) (sym i) (subst (P (root a)) (sym j) (root_case a z (sym (ap is_reduced i) ∙ w.base) n))
+    by (of_power c f i j) = subst (λ (x : Tree). P x t) (sym i) (subst (P (power c f)) (sym j) (power_case c f (sym (ap is_reduced i) ∙ w.base)))
+    by (of_product fs i j n) = absurd (cc (sym m ∙ ap is_mult j))
 
 -- a whole power counts as its base does, and 1 more where that is a product
 pub whole_count_is : (b e : Tree) → is_whole_num e ≡ true → power_count b e ≡ whole_power_count b
@@ -102,12 +117,7 @@ no_products none h = tt
 no_products (more t ts) h = (ap (λ (z : Bool). z && not (is_number t)) h.0, no_products ts h.1)
 
 number_single : (c : Tree) → is_number c ≡ true → (is_mult c && not (is_number c)) ≡ false
-number_single c h = by (is_mult c) (is_number c) h
-  where
-    by : (x y : Bool) → y ≡ true → (x && not y) ≡ false
-    by true true e = refl
-    by false y e = refl
-    by true false e = cc
+number_single c h = and_right (is_mult c) (not (is_number c)) (not_from_true (is_number c) h)
 
 pub parts_single : (ts : Trees) → is_reduced (mult ts) ≡ true → is_number (mult ts) ≡ false → AreSingle (parts_of ts)
 parts_single ts r n = by (is_num_one (split_product ts).coefficient)
@@ -170,10 +180,14 @@ powers_raised ns (more g gs) e (more u us) w k c s a =
     exponent_spans rs (num q) w = tt
     exponent_spans rs e w = cc
 
+pub some_counted : (us : Trees) → 1 ≤ count us → 1 ≤ counted_in_all us
+some_counted none l = absurd (omega arith)
+some_counted (more u us) l = omega (arith, counts_one u)
+
 product_room : (fs : Trees) (e : Tree) (us : Trees) (r : Tree) → is_reduced (mult fs) ≡ true → is_number (mult fs) ≡ false → is_whole_num e ≡ true → AreReducedPowers (raised (parts_of fs) e) us → 1 ≤ count us → IsReducedProduct us r
     → KeepsRoom (power_count (mult fs) e) (power (mult fs) e) r
 product_room fs e us r h n w a m p = record {
-  counts = λ ns c. omega (arith, p.room.counts ns (calm_product c.once (are ns c).calm), numbers_and_others us, some us m, (are ns c).counts, parts_counted fs h n, whole_count_is (mult fs) e w, ap (λ (z : Bool). if not z then 1 + counted (mult fs) else counted (mult fs)) n);
+  counts = λ ns c. omega (arith, p.room.counts ns (calm_product c.once (are ns c).calm), numbers_and_others us, some_counted us m, (are ns c).counts, parts_counted fs h n, whole_count_is (mult fs) e w, ap (λ (z : Bool). if not z then 1 + counted (mult fs) else counted (mult fs)) n);
   calm = λ ns c. p.room.calm ns (calm_product c.once (are ns c).calm);
   spanned = λ gs ns c s. p.room.spanned gs ns (calm_product c.once (are ns c).calm) (tt, (are ns c).spanned gs (parts_span gs fs s.1.1));
 }
@@ -181,37 +195,20 @@ product_room fs e us r h n w a m p = record {
     are : (ns : List (List ℕ)) → IsCalmAtZero ns (power (mult fs) e) → AreRaised (parts_of fs) us ns
     are ns c = powers_raised ns (parts_of fs) e us w (calm_exponent c) (parts_calm (zeros ns) fs c.calm.1.1) (parts_single fs h n) a
 
-    some : (us : Trees) → 1 ≤ count us → 1 ≤ counted_in_all us
-    some none m = absurd (omega arith)
-    some (more u us) m = omega (arith, counts_one u)
-
 -- ---- what is answered for the tree
 
 -- a product of powers
 pub product_keeps : (t v r b e : Tree) → is_mult t ≡ true → 1 ≤ count (children_of v) → IsProductOfPowers (children_of t) v → IsReducedProduct (children_of v) r → IsRewritten b e t → KeepsRoom (power_count b e) (power b e) r
-product_keeps t v r b e m l p a w = by (by_way b e t w)
-  where
-    by : IsByWay b e t → KeepsRoom (power_count b e) (power b e) r
-    by (of_root x z i j n) = absurd (cc (sym m ∙ ap is_mult j))
-    by (of_power c f i j) = absurd (cc (sym m ∙ ap is_mult j))
-    by (of_product fs i j n) =
-        subst (λ (x : Tree). KeepsRoom (power_count x e) (power x e) r) (sym i)
-        (product_room fs e p.factors r (sym (ap is_reduced i) ∙ w.base) n w.whole (subst (λ (x : Tree). AreReducedPowers (children_of x) p.factors) j p.are) (omega (arith, ap (λ (x : Tree). count (children_of x)) p.is, l))
-        (subst (λ (x : Tree). IsReducedProduct (children_of x) r) p.is a))
+product_keeps t v r b e m l p a w =
+    by_product (λ (x y : Tree). AreReducedPowers (children_of y) p.factors → KeepsRoom (power_count x e) (power x e) r) b e t m w
+    (λ fs h n are. product_room fs e p.factors r h n w.whole are (omega (arith, ap (λ (x : Tree). count (children_of x)) p.is, l)) (subst (λ (x : Tree). IsReducedProduct (children_of x) r) p.is a)) p.are
 
 -- a power whose exponent is lifted
 lifted_power : (c f e v r : Tree) → is_reduced (power c f) ≡ true → is_whole_num e ≡ true → IsMultiplied c (more f (more e none)) v → IsReducedPower (base_in v) (exponent_in v) r → KeepsRoom (power_count (power c f) e) (power (power c f) e) r
 lifted_power c f e v r h w l a = power_room c f e l.exponent r h w l.product (subst (λ (x : Tree). KeepsRoom (power_count (base_in x) (exponent_in x)) (power (base_in x) (exponent_in x)) r) l.is a.room)
 
 pub power_keeps : (t v r b e : Tree) → is_mult t ≡ false → IsLifted t v → IsReducedPower (base_in v) (exponent_in v) r → IsRewritten b e t → KeepsRoom (power_count b e) (power b e) r
-power_keeps t v r b e m l a w = by (by_way b e t w)
-  where
-    by : IsByWay b e t → KeepsRoom (power_count b e) (power b e) r
-    by (of_root x z i j n) =
-        let k : v ≡ power x (num (whole_fraction z)) = subst (λ (y : Tree). IsLifted y v) j l in
-        subst (λ (y : Tree). KeepsRoom (power_count y e) (power y e) r) (sym i)
-        (even_root_room x e r z (sym (ap is_reduced i) ∙ w.base) n w.whole (subst (λ (y : Tree). KeepsRoom (power_count (base_in y) (exponent_in y)) (power (base_in y) (exponent_in y)) r) k a.room))
-    by (of_power c f i j) =
-        subst (λ (y : Tree). KeepsRoom (power_count y e) (power y e) r) (sym i)
-        (lifted_power c f e v r (sym (ap is_reduced i) ∙ w.base) w.whole (subst (λ (y : Tree). IsLifted y v) j l) a)
-    by (of_product fs i j n) = absurd (cc (sym m ∙ ap is_mult j))
+power_keeps t v r b e m l a w =
+    by_power (λ (x y : Tree). IsLifted y v → KeepsRoom (power_count x e) (power x e) r) b e t m w
+    (λ x z h n k. even_root_room x e r z h n w.whole (subst (λ (y : Tree). KeepsRoom (power_count (base_in y) (exponent_in y)) (power (base_in y) (exponent_in y)) r) k a.room))
+    (λ c f h k. lifted_power c f e v r h w.whole k a) l

@@ -1,6 +1,6 @@
 -- The loop over the powers of a product, each of which is taken out, reduced and put back.
 use Rattle.std.proofs.Common.{◌≡◌, ℕ, suc, ◌+◌, ◌≤◌, ◌<◌, [], ◌∷◌, refl, sym, ap, ◌∙◌, subst, arith}
-use Rattle.deep_reduce.proofs.Shared.{nest, nest_of, weight, Tree, Trees, none, more, append, count, IsOver, IsTaken, taken, over_put, IsAdded, added_as, inserted_behind, IsReducedPower, weight_of_bases, IsTransparent, AreTransparent, AreReducedPowers, base_in, exponent_in, inserted, Forest, kids, with_nth, tree_nth, without_nth, Represents, Ends, Gives, KeepsFront, root_tree, without_root, put, behind_first, front_same, front_at, front_put, append-none, put-put, put-same}
+use Rattle.deep_reduce.proofs.Shared.{nest, nest_of, weight, Tree, Trees, none, more, append, count, IsOver, IsTaken, taken, over_put, IsAdded, added_as, inserted_behind, IsReducedPower, weight_of_bases, IsTransparent, AreTransparent, AreReducedPowers, base_in, exponent_in, inserted, Forest, kids, with_nth, tree_nth, without_nth, Represents, Ends, Gives, KeepsFront, root_tree, without_root, put, behind_first, front_same, front_at, front_put, append-none, put-put, put-same, count_append}
 use Rattle.calc_terms.specs.declared.kind.Kind.TheVariants as kind
 
 -- ---- lists
@@ -9,21 +9,15 @@ append_assoc : (ts us vs : Trees) → append (append ts us) vs ≡ append ts (ap
 append_assoc none us vs = refl
 append_assoc (more t ts) us vs = ap (more t) (append_assoc ts us vs)
 
-count_append : (ts us : Trees) → count (append ts us) ≡ count ts + count us
-count_append none us = omega arith
-count_append (more t ts) us = omega (arith, count_append ts us)
-
 powers_count : (ts us : Trees) → AreReducedPowers ts us → count us ≡ count ts
 powers_count none none h = refl
 powers_count (more t ts) (more u us) h = ap suc (powers_count ts us h.1)
-powers_count none (more u us) h = absurd h
-powers_count (more t ts) none h = absurd h
+powers_count ts us h = absurd h
 
 powers_behind : (ts us : Trees) (t u : Tree) → AreReducedPowers ts us → IsReducedPower (base_in t) (exponent_in t) u → AreReducedPowers (append ts (more t none)) (append us (more u none))
 powers_behind none none t u h k = (k, tt)
 powers_behind (more x ts) (more y us) t u h k = (h.0, powers_behind ts us t u h.1 k)
-powers_behind none (more u us) t v h k = absurd h
-powers_behind (more t ts) none u v h k = absurd h
+powers_behind ts us t u h k = absurd h
 
 -- a power of a product
 pub record IsPowerOf (ts : Trees) (t : Tree) : Type 0 where

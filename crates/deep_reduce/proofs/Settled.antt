@@ -1,15 +1,13 @@
 -- A product whose joint is reduced in its place.
-use Rattle.std.proofs.Common.{◌≡◌, ℕ, zero, suc, ◌+◌, ◌≤◌, ◌<◌, inl, inr, Bool, true, false, if◌then◌else◌, refl, sym, ap, ◌∙◌, subst, arith, add-one}
-use Rattle.std.specs.Prelude.{Option, Some, None, MatchOption, IfSome}
-use Rattle.deep_reduce.proofs.Shared.{and_parts, Contains-append_left, Contains-append_right, Contains-append_cases, nest, nest_of, weight, load_of_factor, load_of_factors, is_reduced, is_opaque_exponent, num_one, base_of, are_reduced, Tree, undef, add, mult, power, Trees, none, more, count, is_mult, is_undef, names, KeepsMeanings-refl, KeepsMeanings-power, IsReducedProduct, IsReducedPower, counted, KeepsRoom, KeepsSumRoom, nest_of_joint, replaced, Joins, joins_gathered, joins_pair, joins_then, HandsOn, IsLess, IsSummed, IsSettled, parts_reduced, AddsCounts, IsHeldAsProduct, removed, base_in, exponent_in, AreJoinable, IsFinished, IsGathered, exponent_of, have_partners, IsJointAt, IsNextPair, IsPairAt, NoPairBetween, joined_pair, joint_there, neighbours_joint, Rewrites, keeps, kept, Rewrites-refl, Rewrites-trans, rewrites_of, reduces_after, IsSumAnswer, nth, children_of}
-use Rattle.deep_reduce.proofs.Heavy.{base_reduced, exponent_reduced, some_weight, factor_load}
-use Rattle.deep_reduce.proofs.Joined.{JointsBelow, IsLessLoaded, pair_loaded, numbers_opened}
-use Rattle.deep_reduce.proofs.Pairs.{factors_rewritten, pair_rewritten}
+use Rattle.std.proofs.Common.{◌≡◌, ℕ, zero, suc, ◌+◌, ◌≤◌, ◌<◌, inl, inr, true, false, refl, sym, ap, ◌∙◌, subst, arith, add-one, Option, Some, None, MatchOption, IfSome}
+use Rattle.deep_reduce.proofs.Shared.{and_parts, Contains-append_left, Contains-append_right, Contains-append_cases, nest, nest_of, weight, load_of_factor, load_of_factors, is_reduced, is_opaque_exponent, base_of, are_reduced, Tree, add, mult, power, Trees, none, more, count, is_mult, names, KeepsMeanings-refl, KeepsMeanings-power, IsReducedProduct, IsReducedPower, counted, KeepsRoom, KeepsSumRoom, nest_of_joint, replaced, Joins, joins_gathered, joins_pair, joins_then, HandsOn, IsLess, IsSummed, IsSettled, AddsCounts, IsHeldAsProduct, removed, base_in, exponent_in, AreJoinable, IsFinished, IsGathered, exponent_of, have_partners, IsJointAt, IsNextPair, IsPairAt, NoPairBetween, joined_pair, joint_there, neighbours_joint, Rewrites, keeps, kept, Rewrites-refl, Rewrites-trans, rewrites_of, reduces_after, IsSumAnswer, nth, children_of, load_product, base_is_reduced, exponent_is_reduced}
+use Rattle.deep_reduce.proofs.Clashes.{contrary, undef_words}
+use Rattle.deep_reduce.proofs.Heavy.{base_reduced, exponent_reduced, some_weight, factor_load, over_power}
+use Rattle.deep_reduce.proofs.Joined.{JointsBelow, IsLessLoaded, pair_loaded, numbers_opened, factors_rewritten, pair_rewritten}
 use Rattle.deep_reduce.proofs.JointRooms.{settled_hands_on, hands_on_next, keeps_next}
 use Rattle.deep_reduce.proofs.HeldJoints.{first_reduced, settled_held}
 use Rattle.deep_reduce.proofs.ProductCounts.{product_counts, product_joins_none}
 use Rattle.deep_reduce.proofs.Joints.{transparent_exponent, joint_load, reduced_joint}
-use Rattle.deep_reduce.proofs.Nests.{over_power, product_load}
 use Rattle.product_reduce.specs.Joining.{joint as joint_of}
 
 -- ---- rewritings inside a tree
@@ -120,25 +118,6 @@ answered t s r j sum answer =
     subst (λ (x : Tree). IsAnswered x r) (sym j-is) (answered_sum j.base j.first j.second s r j.first_transparent j.second_transparent
     (subst (λ (x : Tree). IsSumAnswer (children_of (exponent_in x)) s) j-is sum) (subst (λ (x : Tree). IsReducedPower (base_in x) s r) j-is answer))
 
-one_reduced : is_reduced num_one ≡ true
-one_reduced = parts_reduced num_one (inl tt)
-
-pub exponent_is_reduced : (t : Tree) → is_reduced t ≡ true → is_reduced (exponent_of t) ≡ true
-exponent_is_reduced (power b e) h = by (is_opaque_exponent e)
-  where
-    by : (x : Bool) → is_reduced (if x then num_one else e) ≡ true
-    by true = one_reduced
-    by false = exponent_reduced b e h
-exponent_is_reduced t h = one_reduced
-
-pub base_is_reduced : (t : Tree) → is_reduced t ≡ true → is_reduced (base_of t) ≡ true
-base_is_reduced (power b e) h = by (is_opaque_exponent e)
-  where
-    by : (x : Bool) → is_reduced (if x then power b e else b) ≡ true
-    by true = h
-    by false = base_reduced b e h
-base_is_reduced t h = h
-
 pub joint_at : {at : ℕ} {ts : Trees} → IsJointAt at ts → IsJoint (nth at ts)
 joint_at j = record {
   base = base_of j.first;
@@ -248,29 +227,22 @@ pub some_pair : (from : ℕ) (ts : Trees) (r : Option ℕ) → MatchOption r (No
 some_pair from ts None h = tt
 some_pair from ts (Some at) h = h.pair
 
-clash : {x : Bool} {A : Type 0} → x ≡ true → x ≡ false → A
-clash e f = absurd cc
-
 pub product_after : (ts : Trees) (c v t : Tree) → are_reduced ts ≡ true → AreJoinable c ts → IsLess ts v → IsReducedProduct (children_of v) t → IsReducedProduct ts t
 product_after ts c v t r j l a = record {
   reduces = reduces_after (subst (Rewrites (mult ts)) l.is l.rewrites) a.reduces;
-  undefined = λ e. clash e j.defined;
-  number = λ e. clash (j.partners) (ap have_partners (numbers_opened ts e));
+  undefined = λ e. contrary e j.defined;
+  number = λ e. contrary (j.partners) (ap have_partners (numbers_opened ts e));
   nest = omega (arith, a.nest, l.nests);
-  load = omega (arith, a.load, product_load ts, product_load (children_of v), l.loads);
+  load = omega (arith, a.load, load_product ts, load_product (children_of v), l.loads);
   room = keeps_next _ (mult (children_of v)) l.hands_on.room a.room;
   held = λ d h m k. a.held d h m (l.hands_on.held h m k);
   counts = product_joins_none ts t r j.partners;
 }
 
-undef_is : (t : Tree) → is_undef t ≡ true → t ≡ undef
-undef_is undef h = refl
-undef_is t h = cc
-
 pub product_finished : (ts : Trees) (t : Tree) → are_reduced ts ≡ true → IsFinished ts t → KeepsRoom (counted (mult ts)) (mult ts) t → IsHeldAsProduct ts t → IsReducedProduct ts t
 product_finished ts t r f k a = record {
   reduces = f.reduces;
-  undefined = λ e. undef_is t (f.undefined ∙ e);
+  undefined = λ e. undef_words t (f.undefined ∙ e);
   number = f.number;
   nest = f.nest;
   load = f.load;

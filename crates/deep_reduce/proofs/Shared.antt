@@ -1,7 +1,7 @@
 -- The names that the proofs share.
 pub use Rattle.calc_algebra.proofs.HalfLaws.{half_is_odd, half_of, half_of_is}
 pub use Rattle.calc_algebra.proofs.MeaningLaws.{Same-sym, one_meaning}
-pub use Rattle.calc_algebra.proofs.MeaningRewrites.{KeepsMeanings-power, KeepsMeanings-product_more, KeepsMeanings-refl, Permuted, permuted_more, permuted_none, permuted_swap, permuted_trans}
+pub use Rattle.calc_algebra.proofs.MeaningRewrites.{KeepsMeanings-power, KeepsMeanings-product_more, KeepsMeanings-refl}
 pub use Rattle.calc_algebra.proofs.NumberClasses.{number_rational, number_short, number_zero, one_not_zero}
 pub use Rattle.calc_algebra.proofs.NumberLaws.{number_test, number_words, numbers_defined, term_words}
 pub use Rattle.calc_algebra.proofs.ReducedLaws.{reduced_words}
@@ -39,10 +39,12 @@ pub use Rattle.calc_terms.specs.Rat.{ratio_of, value_of}
 pub use Rattle.calc_terms.specs.Trees.{AllParts, AllPartsOf, HasTwo, IsPart, IsPartOf, Tree, Trees, add, append, are_rationals, count, div, first, has_undef, in_add, in_base, in_dividend, in_divisor, in_exponent, in_left, in_mult, in_neg, in_right, in_root, is_add, is_div, is_mult, is_num, is_root, is_sub, is_symbol, is_undef, itself, later, more, mult, names, names_of, neg, nodes, nodes_of, none, num, power, root, root_kind, root_size, size, sizes, sub, symbol, undef}
 pub use Rattle.calc_terms.specs.declared.kind.Kind.{Kind}
 pub use Rattle.coefficients.proofs.Coefficients.{product_form_of}
-pub use Rattle.coefficients.proofs.Factors.{no_split}
-pub use Rattle.coefficients.proofs.Forms.{number_of_term, one_is_one, parts_reduced, reduced_parts}
+pub use Rattle.coefficients.proofs.Factors.{no_split, two_count}
+pub use Rattle.coefficients.proofs.Forms.{number_of_term, one_is_one, parts_defined, parts_reduced, reduced_parts, term_test}
 pub use Rattle.coefficients.proofs.Free.{number_refused, taken_free}
+pub use Rattle.coefficients.proofs.Lacks.{sum_whole as sum_words}
 pub use Rattle.coefficients.proofs.Rewritten.{apart_back, front_lost, given_back, over_back, put_back}
+pub use Rattle.coefficients.proofs.Rooms.{sizes_append}
 pub use Rattle.coefficients.proofs.Splits.{Leads, in_front}
 pub use Rattle.coefficients.specs.Coefficients.{IsMonic, factors_of, with_coefficient}
 pub use Rattle.deep_reduce.specs.Answers.{IsReducedPower, IsReducedProduct, has_no_half_power, is_number_power, lacks_power}
@@ -56,13 +58,15 @@ pub use Rattle.deep_reduce.specs.Reductions.{IsReducedFrom, IsWithinTree, MayLac
 pub use Rattle.deep_reduce.specs.Rooms.{IsCalmAtZero, IsJoinedFrom, IsRewritten, KeepsRoom, KeepsRootRoom, KeepsSumRoom, SpansRootOf, power_count, whole_power_count, whole_power_room}
 pub use Rattle.deep_reduce.specs.Unfinished.{AreReducedPowers, AreTransparent, Finishes, HandsOn, IsLess, IsLifted, IsMultiplied, IsNested, IsProductOfPowers, IsSettled, IsSummed, IsTransparent, IsUnfinished, Joins, joins_gathered, joins_none, joins_pair, joins_then, nest_of_joint, nest_of_rewritten, nest_over, replaced, weight_below, weight_of_bases}
 pub use Rattle.node_pool.specs.State.{State, free_of}
+pub use Rattle.number_forms.proofs.RationalBits.{as_num}
 pub use Rattle.number_forms.proofs.Rooms.{full_as, refusal_as}
 pub use Rattle.number_forms.specs.Readers.{is_zero, numerator}
 pub use Rattle.number_forms.specs.Sums.{removed}
 pub use Rattle.power_reduce.proofs.ByRule.{is_rewritable, transparent_whole}
-pub use Rattle.power_reduce.proofs.Cases.{no_plain_value, one_kept, root_once, undef_base_kept, zero_kept}
+pub use Rattle.power_reduce.proofs.Cases.{inside_other, no_plain_value, one_kept, root_once, undef_base_kept, zero_kept}
 pub use Rattle.power_reduce.proofs.Counted.{answer_counts, parts_counted, whole_power_counts}
-pub use Rattle.power_reduce.proofs.Exponents.{as_whole, by_half, no_half, one_is_not_two, whole_no_half}
+pub use Rattle.power_reduce.proofs.Exponents.{as_whole, by_half, no_half, one_is_not_two, whole_exponent, whole_no_half}
+pub use Rattle.power_reduce.proofs.Leaves.{number_reduced, symbol_reduced}
 pub use Rattle.power_reduce.proofs.RaisedBytes.{handed_bytes}
 pub use Rattle.power_reduce.proofs.Rooms.{HasFactors, product_factors}
 pub use Rattle.power_reduce.proofs.Rules.{chosen}
@@ -74,10 +78,15 @@ pub use Rattle.power_reduce.specs.Misfits.{IsPowerMisfit}
 pub use Rattle.power_reduce.specs.PowerAnswers.{IsPowerAnswer, IsStep, IsWrittenPower, base_in, exponent_in, has_no_power, has_number_power, is_at_most_zero}
 pub use Rattle.power_reduce.specs.PowerSteps.{goes_inside, half, is_zero_or_one, parts_of, power_of_root, raised, rewritten, rewritten_whole}
 pub use Rattle.power_reduce.specs.Rooms.{LacksRoot, LacksStep}
-pub use Rattle.product_reduce.proofs.Bounds.{load_number}
+pub use Rattle.product_reduce.proofs.Bounds.{load_number, load_product}
+pub use Rattle.product_reduce.proofs.Finished.{rationals_defined, reduced_nth}
 pub use Rattle.product_reduce.proofs.HeldFactors.{part_single, single_part}
 pub use Rattle.product_reduce.proofs.HeldNumbers.{no_factors_held, number_as_factor, value_held}
+pub use Rattle.product_reduce.proofs.Joined.{one_base}
+pub use Rattle.product_reduce.proofs.JointBounds.{base_reduced as base_is_reduced, exponent_reduced as exponent_is_reduced}
+pub use Rattle.product_reduce.proofs.LastSteps.{permuted_none_is}
 pub use Rattle.product_reduce.proofs.Neighbours.{joint_there, neighbours_joint, partners_of_pair}
+pub use Rattle.product_reduce.proofs.Small.{symbol_monic, undef_reduced}
 pub use Rattle.product_reduce.specs.Answers.{AreJoinable, IfFinished, IfGathered, IfJoined, IsFinished, IsWrittenProduct}
 pub use Rattle.product_reduce.specs.Bits.{AreFactorsHeld, IsFactorHeld, none_held}
 pub use Rattle.product_reduce.specs.Factors.{coefficient_times, numbers_in, opened, others_in, product_of_values}
@@ -92,11 +101,11 @@ pub use Rattle.rational128.specs.declared.overflow.Overflow.{Overflow}
 pub use Rattle.reduce_port.specs.Steps.{IfDone}
 pub use Rattle.reduce_port.specs.declared.step.Step.{Step}
 pub use Rattle.reduce_walk.proofs.Parents.{IsParent, held_at, parent_handed}
-pub use Rattle.reduce_walk.proofs.Walks.{nodes_by_children, stands_last}
+pub use Rattle.reduce_walk.proofs.Walks.{count_append, nodes_by_children, stands_last}
 pub use Rattle.reduce_walk.specs.Answers.{AreAnswers, EachTree, IsNext}
 pub use Rattle.reduce_walk.specs.Leaves.{is_leaf}
 pub use Rattle.std.proofs.Math.Nat.{dvd_refl, pow-le-pow_right}
-pub use Rattle.std.proofs.lemmas.Bool.{and_from, and_parts, eq-eqb, eqb-true, false_from_ne_true, le-leb, leb-false, leb-true, true≢false}
+pub use Rattle.std.proofs.lemmas.Bool.{and_cases, and_from, and_left, and_parts, and_right, cases_Bool, eq-eqb, eqb-true, false_from_ne_true, le-leb, leb-false, leb-true, not-false, not-true, not_from_false, not_from_true, or_cases, or_from, or_left, or_parts, or_right, true≢false}
 pub use Rattle.std.proofs.lemmas.Int.{ints}
 pub use Rattle.std.proofs.lemmas.List.Elements.{Contains-append_cases, Contains-append_left, Contains-append_right}
 pub use Rattle.std.proofs.lemmas.Nat.{mul-le, pow-add, pow_pos}
@@ -126,7 +135,8 @@ pub use Rattle.tree_handles.proofs.Places.{used_forest}
 pub use Rattle.tree_handles.proofs.Plains.{children_of-plain, nodes-plain, size-plain, sizes-plains, whole_kids}
 pub use Rattle.tree_handles.proofs.Room.{given_free, released_free}
 pub use Rattle.tree_handles.proofs.Roots.{kids-put, put-put, put-same, root-put, root_arity, root_held}
-pub use Rattle.tree_handles.proofs.Seen.{expression, kind_of_root, live, no_product_kind, product_kind, seen}
+pub use Rattle.tree_handles.proofs.Seen.{expression, kind_of_root, live, no_product_kind, product_kind, seen, sum_kind}
+pub use Rattle.tree_handles.proofs.UndefChildren.{undef_inside}
 pub use Rattle.tree_handles.specs.Expressions.{IsExpression, children_of, compound, grown, inserted, nth, plain, plains, takes, takes_kind}
 pub use Rattle.tree_handles.specs.Faults.{IfOverflow, OfOverflow}
 pub use Rattle.tree_handles.specs.Forest.{Forest, arity, bytes_in, empty, flatten, kids, nodes_in, root_count, root_payload, tree, tree_nth, with_nth, with_root_kids, without_nth}
@@ -137,7 +147,7 @@ pub use Rattle.tree_handles.specs.Roots.{has_root, put, root_tree, without_root}
 pub use Rattle.tree_handles.specs.Standing.{KeepsRefusals, Stands, forest}
 pub use Rattle.tree_handles.specs.declared.fault.NumberFault.{NumberFault}
 pub use Rattle.tree_room.proofs.Calm.{literal_whole, number_calm, parts_calm, product_whole, sum_whole, whole_number}
-pub use Rattle.tree_room.proofs.Counts.{at_most_itself, counts_one, number_counts_one, numbers_and_others, product_at_most}
+pub use Rattle.tree_room.proofs.Counts.{appended, at_most_itself, counts_one, number_counts_one, numbers_and_others, product_at_most}
 pub use Rattle.tree_room.proofs.Handed.{product_bytes, raised_factor, raised_number, sum_bytes}
 pub use Rattle.tree_room.proofs.Multiples.{scaled}
 pub use Rattle.tree_room.proofs.PowerCounts.{exponents_added, exponents_multiplied, of_a_power, of_a_root, power_counts}

@@ -32,9 +32,6 @@ new_second {j = j} {k = k} n o g = record {
   rest = given_rest g ∙ given_without n o;
 }
 
-pub apart_first : {f g : Forest} {i j : ℕ} {Told : Tree → Type 0} → Gives f g i Told → IsHanded j f → eqb i j ≡ false
-apart_first n o = given_apart n o
-
 pub apart_second : {f g : Forest} {i j : ℕ} {Told : Tree → Type 0} → Gives f g i Told → IsHanded j f → eqb j i ≡ false
 apart_second {i = i} {j = j} n o = eqb-sym i j (given_apart n o)
 

@@ -1,9 +1,9 @@
 -- What the calls on sums, products, powers and roots answer, as answers of a node.
-use Rattle.std.proofs.Common.{◌≡◌, ℕ, ◌<◌, ◌⊎◌, inl, inr, Bool, true, false, ◌&&◌, List, length, refl, sym, ap, ◌∙◌, subst, arith, append-nil}
-use Rattle.std.specs.Prelude.{◌||◌, Contains, [], ◌++◌}
-use Rattle.deep_reduce.proofs.Shared.{fraction_fits, add_op, mul_op, Fraction, minus_one_fraction, negative, zero_fraction, one_fraction, is_number, value, PlainValue, exactly, undefined, overflow, nothing, calculated, plain_value, is_reduced, int_is_negative, Kind, Tree, num, symbol, undef, add, mult, power, root, neg, sub, div, Trees, none, more, names, is_undef, is_num, IsPart, IsPartOf, itself, in_add, in_mult, in_base, in_exponent, in_root, in_neg, in_left, in_right, in_dividend, in_divisor, first, later, has_undef, are_rationals, IsReducedProduct, IsReducedPower, IsNodeAnswer, IsNodeOverflow, has_no_value, SpansTree, KeepsSumRoom, base_in, IfRational, IsRootAnswer, Overflow, keeps, kept, Rewrites-refl, reduces, reduces_after, IsPlainAnswer, IsPlainOverflow, HasNoNewName, Rewrites, Reduces, IsNoLargerThanRoot, IsSumHeld, addends_of_each, IsTreeHeld, IsSumAnswer, compound, children_of}
+use Rattle.std.proofs.Common.{◌≡◌, ℕ, ◌<◌, ◌⊎◌, inl, inr, true, false, ◌&&◌, List, length, refl, sym, ap, ◌∙◌, subst, arith, append-nil, ◌||◌, Contains, [], ◌++◌}
+use Rattle.deep_reduce.proofs.Shared.{fraction_fits, add_op, mul_op, Fraction, minus_one_fraction, negative, zero_fraction, one_fraction, is_number, value, PlainValue, exactly, undefined, overflow, nothing, calculated, plain_value, is_reduced, int_is_negative, Tree, num, symbol, undef, add, mult, power, root, neg, sub, div, Trees, none, more, names, is_undef, is_num, IsPart, IsPartOf, itself, in_add, in_mult, in_base, in_exponent, in_root, in_neg, in_left, in_right, in_dividend, in_divisor, first, later, has_undef, are_rationals, IsReducedProduct, IsReducedPower, IsNodeAnswer, IsNodeOverflow, has_no_value, SpansTree, KeepsSumRoom, base_in, IfRational, IsRootAnswer, Overflow, keeps, kept, Rewrites-refl, reduces, reduces_after, IsPlainAnswer, IsPlainOverflow, HasNoNewName, Rewrites, Reduces, IsNoLargerThanRoot, IsSumHeld, addends_of_each, IsTreeHeld, IsSumAnswer, children_of, and_from, and_parts, or_cases, or_from, or_left, or_right, or_parts, number_reduced, symbol_reduced, undef_reduced, as_num, undef_inside, rationals_defined, KeepsNodeRoom, node_count, KeepsRootRoom, HoldsNode, has_number, is_half_num, exponent_in, IsFactorHeld}
+use Rattle.deep_reduce.proofs.Clashes.{undef_words, undef_test, rational_number}
 use Rattle.calc_algebra.proofs.UndefRewrites.{undef_part}
-use Rattle.deep_reduce.proofs.EasyNodes.{and_true, and_first, and_second, or_true, or_none, undef_words, undef_test, number_defined}
+use Rattle.deep_reduce.proofs.EasyNodes.{number_defined}
 use Rattle.deep_reduce.proofs.NodeRewrites.{both}
 use Rattle.deep_reduce.proofs.HeldFactors.{tree_factor}
 use Rattle.deep_reduce.proofs.HeldRoots.{root_answer_held}
@@ -13,54 +13,14 @@ use Rattle.deep_reduce.proofs.PowerRooms.{undef_root_room}
 use Rattle.deep_reduce.proofs.PlainNodes.{undef_has_no_value}
 use Rattle.deep_reduce.proofs.Rationals.{opposite_value}
 use Rattle.calc_algebra.proofs.MeaningRewrites as rewrites
-use Rattle.calc_terms.specs.declared.kind.Kind.TheVariants as kind
 
 abbrev pub two : Tree → Tree → Trees
 two a b = more a (more b none)
 
--- ---- lists
-
-rationals_defined : (us : Trees) → are_rationals us ≡ true → has_undef us ≡ false
-rationals_defined none e = refl
-rationals_defined (more u us) e = or_none (is_undef u) (has_undef us) (num_defined u (and_first (is_num u) (are_rationals us) e)) (rationals_defined us (and_second (is_num u) (are_rationals us) e))
-  where
-    num_defined : (t : Tree) → is_num t ≡ true → is_undef t ≡ false
-    num_defined (num q) h = refl
-    num_defined t h = cc
-
 pub no_names : (t u : Tree) → names u ≡ [] → HasNoNewName t u
 no_names t u e = record { name = λ x c. absurd (let f : length (names u) ≡ 0 = ap length e in let k : c.0 < length (names u) = c.1 in omega arith) }
 
-pub undef_reduced : is_reduced undef ≡ true
-unfolding is_reduced
-undef_reduced = refl
-
-pub number_reduced : (q : Fraction) → is_reduced (num q) ≡ true
-unfolding is_reduced is_number
-number_reduced q = refl
-
-symbol_reduced : (x : List ℕ) → is_reduced (symbol x) ≡ true
-unfolding is_reduced is_number
-symbol_reduced x = refl
-
-rational_number : (q : Fraction) → is_number (num q) ≡ true
-unfolding is_number
-rational_number q = refl
-
-pub undef_number : is_number undef ≡ true → ⊥
-unfolding is_number
-undef_number e = cc
-
-num_words : (t : Tree) → is_num t ≡ true → (q : Fraction) × (t ≡ num q)
-num_words (num q) e = (q, refl)
-num_words t e = cc
-
 -- ---- Undef
-
-undef_in : (ts : Trees) → has_undef ts ≡ true → IsPartOf undef ts
-undef_in none e = cc
-undef_in (more undef ts) e = first itself
-undef_in (more t ts) e = later (undef_in ts e)
 
 in_two : (a b u : Tree) → (IsPart undef a → IsPart undef u) → (IsPart undef b → IsPart undef u) → IsPartOf undef (two a b) → IsPart undef u
 in_two a b u f g (first k) = f k
@@ -72,8 +32,6 @@ in_one a u f (first k) = f k
 in_one a u f (later k) = elim k [ ]
 
 undef_child : (u : Tree) → IsPartOf undef (children_of u) → IsPart undef u
-undef_child (num q) k = elim k [ ]
-undef_child (symbol x) k = elim k [ ]
 undef_child undef k = itself
 undef_child (add ts) k = in_add k
 undef_child (mult ts) k = in_mult k
@@ -82,18 +40,19 @@ undef_child (root a) k = in_one a (root a) (λ x. in_root x) k
 undef_child (neg a) k = in_one a (neg a) (λ x. in_neg x) k
 undef_child (sub a b) k = in_two a b (sub a b) (λ x. in_left x) (λ x. in_right x) k
 undef_child (div a b) k = in_two a b (div a b) (λ x. in_dividend x) (λ x. in_divisor x) k
+undef_child t k = elim k [ ]
 
 -- a side that is Undef, among two
 pub left_undefined : (a c : Tree) → is_undef a ≡ true → has_undef (two a c) ≡ true
-left_undefined a c e = or_true (is_undef a) (is_undef c || false) (inl e)
+left_undefined a c e = or_left (is_undef a) (is_undef c || false) e
 
 pub right_undefined : (a c : Tree) → is_undef c ≡ true → has_undef (two a c) ≡ true
-right_undefined a c e = or_true (is_undef a) (is_undef c || false) (inr (or_true (is_undef c) false (inl e)))
+right_undefined a c e = or_right (is_undef a) (is_undef c || false) (or_left (is_undef c) false e)
 
 -- a node with an Undef child
 pub undefined_answer : (u : Tree) → has_undef (children_of u) ≡ true → IsNodeAnswer u undef
 undefined_answer u e = record {
-  reduces = record { reduced = undef_reduced; no_new_name = no_names u undef refl; meanings = keeps (undef_part u (undef_child u (undef_in (children_of u) e))) };
+  reduces = record { reduced = undef_reduced; no_new_name = no_names u undef refl; meanings = keeps (undef_part u (undef_child u (undef_inside (children_of u) e))) };
   undefined = λ h. refl;
   number = λ h n. absurd (let y : has_no_value u ≡ true = undef_has_no_value u e in cc);
   rational = λ h. absurd (let n : has_undef (children_of u) ≡ false = rationals_defined (children_of u) h in cc);
@@ -103,51 +62,21 @@ undefined_answer u e = record {
   leaf = leaf_no_children u e;
 }
 
--- of two sides, where the right is Undef
-pub undefined_sides : {k : Kind} (a b : Tree) → (k ≡ kind.Add) ⊎ (k ≡ kind.Mult) → is_undef b ≡ true → IsNodeAnswer (compound k (two a b)) b
-undefined_sides {k = k} a b h e = subst (λ (t : Tree). IsNodeAnswer (compound k (two a b)) t) (sym (undef_words b e)) (by h)
-  where
-    by : (k ≡ kind.Add) ⊎ (k ≡ kind.Mult) → IsNodeAnswer (compound k (two a b)) undef
-    by (inl q) = subst (λ (x : Kind). IsNodeAnswer (compound x (two a b)) undef) (sym q) (undefined_answer (add (two a b)) (right_undefined a b e))
-    by (inr q) = subst (λ (x : Kind). IsNodeAnswer (compound x (two a b)) undef) (sym q) (undefined_answer (mult (two a b)) (right_undefined a b e))
-
 -- ---- leaves
 
+-- a tree that is its own answer
+own_answer : (t : Tree) → is_reduced t ≡ true → (has_no_value t ≡ true → t ≡ undef) → (has_number t ≡ true → has_no_value t ≡ false → is_number t ≡ true) → (are_rationals (children_of t) ≡ true → IsPlainAnswer (plain_value t) t)
+    → KeepsNodeRoom (node_count t) t t → (is_half_num (exponent_in t) ≡ true → KeepsRootRoom (base_in t) t) → ((h l : ℕ) → HoldsNode t h l → IsFactorHeld t h l) → IsNodeAnswer t t
+own_answer t r u n p k o a = record { reduces = reduces (Rewrites-refl t) r; undefined = u; number = n; rational = p; room = k; root_room = o; held = λ d. a; leaf = λ h. refl }
+
 pub number_answer : (q : Fraction) → IsNodeAnswer (num q) (num q)
-number_answer q = record {
-  reduces = reduces (Rewrites-refl (num q)) (number_reduced q);
-  undefined = λ h. cc;
-  number = λ h n. rational_number q;
-  rational = λ h. refl;
-  room = same_room (num q) (λ gs s. s);
-  root_room = λ h. cc;
-  held = λ d h l k. k;
-  leaf = λ h. refl;
-}
+number_answer q = own_answer (num q) (number_reduced q) (λ h. cc) (λ h n. rational_number q) (λ h. refl) (same_room (num q) (λ gs s. s)) (λ h. cc) (λ h l k. k)
 
 pub symbol_answer : (x : List ℕ) → IsNodeAnswer (symbol x) (symbol x)
-symbol_answer x = record {
-  reduces = reduces (Rewrites-refl (symbol x)) (symbol_reduced x);
-  undefined = λ h. cc;
-  number = λ h n. cc;
-  rational = λ h. tt;
-  room = same_room (symbol x) (λ gs s. s);
-  root_room = λ h. cc;
-  held = λ d h l k. k;
-  leaf = λ h. refl;
-}
+symbol_answer x = own_answer (symbol x) (symbol_reduced x) (λ h. cc) (λ h n. cc) (λ h. tt) (same_room (symbol x) (λ gs s. s)) (λ h. cc) (λ h l k. k)
 
 pub undef_answer : IsNodeAnswer undef undef
-undef_answer = record {
-  reduces = reduces (Rewrites-refl undef) undef_reduced;
-  undefined = λ h. refl;
-  number = λ h n. cc;
-  rational = λ h. refl;
-  room = same_room (undef) (λ gs s. s);
-  root_room = λ h. cc;
-  held = λ d h l k. k;
-  leaf = λ h. refl;
-}
+undef_answer = own_answer undef undef_reduced (λ h. refl) (λ h n. cc) (λ h. refl) (same_room undef (λ gs s. s)) (λ h. cc) (λ h l k. k)
 
 -- ---- sums, products, powers and roots
 
@@ -205,10 +134,10 @@ module _ (a r : Tree) (fit : (q : Fraction) → a ≡ num q → fraction_fits q 
   pub neg_answer : IsNodeAnswer (mult (two (num minus_one_fraction) a)) r → IsNodeAnswer (neg a) r
   neg_answer h = record {
     reduces = reduces_after (neg_rewrites a) h.reduces;
-    undefined = λ e. h.undefined (or_true (is_undef a) false (inl e));
-    number = λ n d. h.number (and_true (is_number (num minus_one_fraction)) (is_number a && true) (rational_number minus_one_fraction) (and_true (is_number a) true n refl)) (or_none (is_undef a) false d refl);
+    undefined = λ e. h.undefined (or_left (is_undef a) false e);
+    number = λ n d. h.number (and_from (is_number (num minus_one_fraction)) (is_number a && true) (rational_number minus_one_fraction) (and_from (is_number a) true n refl)) (or_from (is_undef a) false d refl);
     rational = λ e.
-        let (q, is) = num_words a (and_first (is_num a) true e) in
+        let (q, is) = as_num a (and_parts (is_num a) true e).0 in
         let w : IsPlainAnswer (exactly (negative q)) r = subst (λ (v : PlainValue). IsPlainAnswer v r) (neg_value q is) (h.rational e) in
         subst (λ (t : Tree). IsPlainAnswer (plain_value (neg t)) r) (sym is) w;
     room = opposite_room a r h.room;
@@ -221,7 +150,7 @@ module _ (a r : Tree) (fit : (q : Fraction) → a ≡ num q → fraction_fits q 
   neg_overflow o h = record {
     defined = h.defined;
     rational = λ e.
-        let (q, is) = num_words a (and_first (is_num a) true e) in
+        let (q, is) = as_num a (and_parts (is_num a) true e).0 in
         absurd (subst (λ (v : PlainValue). IsPlainOverflow v o) (neg_value q is) (h.rational e));
   }
 
@@ -232,18 +161,6 @@ sub_rewrites a b c h = record {
   no_new_name = record { name = λ x m. both (names a) (names b) (names a) (names c ++ []) (λ y k. k) (λ y k. h.no_new_name.name y (subst (λ ys. Contains ys y) (append-nil (names c)) k)) x m };
   meanings = keeps (rewrites.KeepsMeanings-trans (rewrites.sub_as_neg a b) (rewrites.KeepsMeanings-sum_more (rewrites.KeepsMeanings-refl a) (rewrites.KeepsMeanings-sum_more (kept h.meanings) (rewrites.KeepsMeanings-refl (add none)))));
 }
-
-pub or_split : (a b : Bool) → a || b ≡ true → (a ≡ true) ⊎ (b ≡ true)
-or_split true b e = inl refl
-or_split false b e = inr e
-
-pub or_first : (a b : Bool) → a || b ≡ false → a ≡ false
-or_first true b e = e
-or_first false b e = refl
-
-pub or_second : (a b : Bool) → a || b ≡ false → b ≡ false
-or_second true b e = cc
-or_second false b e = e
 
 pub two_rationals : (p q : Fraction) (a c : Tree) → a ≡ num p → c ≡ num q → are_rationals (two a c) ≡ true
 two_rationals p q a c e f = λ i. is_num (e i) && (is_num (f i) && true)
@@ -268,8 +185,8 @@ pub record AreTwo (a b : Tree) : Type 0 where
 
 pub are_two : (a b : Tree) → are_rationals (two a b) ≡ true → AreTwo a b
 are_two a b e =
-    let (p, x) = num_words a (and_first (is_num a) (is_num b && true) e) in
-    let (q, y) = num_words b (and_first (is_num b) true (and_second (is_num a) (is_num b && true) e)) in
+    let (p, x) = as_num a (and_parts (is_num a) (is_num b && true) e).0 in
+    let (q, y) = as_num b (and_parts (is_num b) true (and_parts (is_num a) (is_num b && true) e).1).0 in
     record { left = p; right = q; left-is = x; right-is = y }
 
 one_rational : (a : Tree) (q : Fraction) → a ≡ num q → are_rationals (more a none) ≡ true
@@ -290,11 +207,11 @@ module _ (a b c : Tree) (known : IsNodeAnswer (neg b) c) where
   pub sub_answer : (r : Tree) → IsNodeAnswer (add (two a c)) r → IsNodeAnswer (sub a b) r
   sub_answer r h = record {
     reduces = reduces_after (sub_rewrites a b c known.reduces) h.reduces;
-    undefined = λ e. by (or_split (is_undef a) (is_undef b) e);
+    undefined = λ e. by (or_cases (is_undef a) (is_undef b) e);
     number = λ n d.
-        let number : is_number c ≡ true = known.number (and_second (is_number a) (is_number b) n) (or_second (is_undef a) (is_undef b) d) in
-        h.number (and_true (is_number a) (is_number c && true) (and_first (is_number a) (is_number b) n) (and_true (is_number c) true number refl))
-        (or_none (is_undef a) (is_undef c || false) (or_first (is_undef a) (is_undef b) d) (or_none (is_undef c) false (number_defined c number) refl));
+        let number : is_number c ≡ true = known.number (and_parts (is_number a) (is_number b) n).1 (or_parts (is_undef a) (is_undef b) d).1 in
+        h.number (and_from (is_number a) (is_number c && true) (and_parts (is_number a) (is_number b) n).0 (and_from (is_number c) true number refl))
+        (or_from (is_undef a) (is_undef c || false) (or_parts (is_undef a) (is_undef b) d).0 (or_from (is_undef c) false (number_defined c number) refl));
     rational = λ e. subst (λ (v : PlainValue). IsPlainAnswer v r) (difference_value (are_two a b e)) (h.rational (sides_rational e));
     room = difference_room a b c r known.room h.room;
     root_room = λ k. cc;

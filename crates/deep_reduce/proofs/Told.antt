@@ -1,22 +1,13 @@
 -- What calls on a node of a kind tell, in the words of any node.
-use Rattle.std.proofs.Common.{◌≡◌, ◌≢◌, ℕ, List, pos, negsuc, Bool, true, false, ◌&&◌, refl, sym, ap, ◌∙◌, subst, arith}
-use Rattle.std.specs.Prelude.{◌||◌}
-use Rattle.deep_reduce.proofs.Shared.{false_from_ne_true, lowest, whole_fraction, zero_fraction, one_fraction, minus_one_fraction, ratio_of, value_of, PlainValue, nothing, plain_value, is_half_num, is_reduced, is_whole_num, are_reduced, Tree, num, symbol, undef, add, mult, power, root, neg, sub, div, Trees, none, more, count, is_add, is_mult, is_root, is_sub, is_div, is_num, root_kind, are_rationals, has_undef, value, int_is_negative, IsNoLargerThanRoot, IsSumHeld, addends_of_each, IsTreeHeld, IsReducedProduct, IsReducedPower, SpansTree, IsNodeAnswer, IsNodeOverflow, is_neg, KeepsSumRoom, base_in, exponent_in, no_plain_value, whole_no_half, whole_is, NamesProduct, argument_of, IfRational, IsRootAnswer, Overflow, IsPlainAnswer, IsPlainOverflow, IsSumAnswer, nth, children_of}
+use Rattle.std.proofs.Common.{◌≡◌, ◌≢◌, ℕ, List, pos, negsuc, true, false, ◌&&◌, refl, sym, ap, ◌∙◌, subst, arith, inl, inr}
+use Rattle.deep_reduce.proofs.Shared.{false_from_ne_true, lowest, whole_fraction, zero_fraction, one_fraction, minus_one_fraction, ratio_of, value_of, PlainValue, nothing, plain_value, is_half_num, is_reduced, is_whole_num, are_reduced, Tree, num, symbol, undef, add, mult, power, root, neg, sub, div, Trees, none, more, count, is_add, is_mult, is_root, is_sub, is_div, is_num, root_kind, are_rationals, has_undef, value, int_is_negative, IsNoLargerThanRoot, IsSumHeld, addends_of_each, IsTreeHeld, IsReducedProduct, IsReducedPower, SpansTree, IsNodeAnswer, IsNodeOverflow, is_neg, KeepsSumRoom, base_in, exponent_in, no_plain_value, whole_no_half, whole_is, NamesProduct, argument_of, IfRational, IsRootAnswer, Overflow, IsPlainAnswer, IsPlainOverflow, IsSumAnswer, nth, children_of, and_from, and_parts, cases_Bool}
+use Rattle.deep_reduce.proofs.Clashes.{contrary}
 use Rattle.calc_terms.specs.declared.rat.Rat.{Rat}
 use Rattle.calc_terms.specs.Ratio.{Ratio, whole}
-use Rattle.deep_reduce.proofs.EasyNodes.{and_true, and_first, and_second}
 use Rattle.deep_reduce.proofs.Steps.{two, sum_answer, product_answer, power_answer, root_answer, empty_sum_answer, empty_product_answer, number_answer, symbol_answer, undef_answer}
 use Rattle.calc_terms.specs.declared.kind.Kind.TheVariants as kind
 
 -- ---- kinds
-
-pub sum_kind : (t : Tree) → kind.Add ≡ root_kind t → is_add t ≡ true
-sum_kind (add ts) e = refl
-sum_kind t e = cc
-
-pub product_kind : (t : Tree) → kind.Mult ≡ root_kind t → is_mult t ≡ true
-product_kind (mult ts) e = refl
-product_kind t e = cc
 
 pub power_kind : (t : Tree) → kind.Pow ≡ root_kind t → t ≡ power (base_in t) (exponent_in t)
 power_kind (power b e) k = refl
@@ -40,9 +31,9 @@ div_kind t e = cc
 
 -- ---- the node by its children
 
-pub sum_words : (t : Tree) → is_add t ≡ true → t ≡ add (children_of t)
-sum_words (add ts) e = refl
-sum_words t e = cc
+pub root_is : (t : Tree) → is_root t ≡ true → t ≡ root (argument_of t)
+root_is (root a) e = refl
+root_is t e = cc
 
 pub neg_is : (t : Tree) → is_neg t ≡ true → t ≡ neg (nth 0 (children_of t))
 neg_is (neg a) e = refl
@@ -57,16 +48,13 @@ div_is (div a b) e = refl
 div_is t e = cc
 
 pub neg_children : (t : Tree) → is_neg t ≡ true → children_of t ≡ more (nth 0 (children_of t)) none
-neg_children (neg a) e = refl
-neg_children t e = cc
+neg_children t e = ap children_of (neg_is t e)
 
 pub sub_children : (t : Tree) → is_sub t ≡ true → children_of t ≡ more (nth 0 (children_of t)) (more (nth 1 (children_of t)) none)
-sub_children (sub a b) e = refl
-sub_children t e = cc
+sub_children t e = ap children_of (sub_is t e)
 
 pub div_children : (t : Tree) → is_div t ≡ true → children_of t ≡ more (nth 0 (children_of t)) (more (nth 1 (children_of t)) none)
-div_children (div a b) e = refl
-div_children t e = cc
+div_children t e = ap children_of (div_is t e)
 
 -- ---- answers
 
@@ -84,7 +72,7 @@ power_told t r k a p = cc
 
 -- both sides are rationals
 pub power_sides : (t : Tree) → t ≡ power (base_in t) (exponent_in t) → are_rationals (children_of t) ≡ true → (is_num (base_in t) ≡ true) × (is_num (exponent_in t) ≡ true)
-power_sides (power b e) k h = (and_first (is_num b) (is_num e && true) h, and_first (is_num e) true (and_second (is_num b) (is_num e && true) h))
+power_sides (power b e) k h = ((and_parts (is_num b) (is_num e && true) h).0, (and_parts (is_num e) true (and_parts (is_num b) (is_num e && true) h).1).0)
 power_sides t k h = cc
 
 -- both sides are rationals, and the exponent is no half
@@ -93,34 +81,29 @@ pub record IsRationalPower (t : Tree) : Type 0 where
   pub no_half : is_half_num (exponent_in t) ≡ false
 
 half_no_whole : (e : Tree) → is_half_num e ≡ true → is_whole_num e ≡ false
-half_no_whole e h = false_from_ne_true (is_whole_num e) (λ w. clash (is_half_num e) h (whole_no_half e w))
-  where
-    clash : (x : Bool) → x ≡ true → x ≡ false → ⊥
-    clash x e f = cc
+half_no_whole e h = false_from_ne_true (is_whole_num e) (λ w. contrary h (whole_no_half e w))
 
 -- a power by half of an odd whole number has no plain value
 half_plain : (t : Tree) → t ≡ power (base_in t) (exponent_in t) → are_rationals (children_of t) ≡ true → is_half_num (exponent_in t) ≡ true → plain_value t ≡ nothing
 half_plain t k h e = let s = power_sides t k h in ap plain_value k ∙ no_plain_value (base_in t) (exponent_in t) s.0 s.1 (half_no_whole (exponent_in t) e)
 
 pub rational_answer : (t r : Tree) → t ≡ power (base_in t) (exponent_in t) → (IsRationalPower t → IsPlainAnswer (plain_value t) r) → are_rationals (children_of t) ≡ true → IsPlainAnswer (plain_value t) r
-rational_answer t r k p h = by (is_half_num (exponent_in t)) refl
-  where
-    by : (x : Bool) → is_half_num (exponent_in t) ≡ x → IsPlainAnswer (plain_value t) r
-    by true e = subst (λ (v : PlainValue). IsPlainAnswer v r) (sym (half_plain t k h e)) tt
-    by false e = p (record { rationals = h; no_half = e })
+rational_answer t r k p h = elim (cases_Bool (is_half_num (exponent_in t))) [ inl e ↦ subst (λ (v : PlainValue). IsPlainAnswer v r) (sym (half_plain t k h e)) tt | inr e ↦ p (record { rationals = h; no_half = e }) ]
 
 pub rational_overflow : (t : Tree) (o : Overflow) → t ≡ power (base_in t) (exponent_in t) → (IsRationalPower t → IsPlainOverflow (plain_value t) o) → are_rationals (children_of t) ≡ true → IsPlainOverflow (plain_value t) o
-rational_overflow t o k p h = by (is_half_num (exponent_in t)) refl
-  where
-    by : (x : Bool) → is_half_num (exponent_in t) ≡ x → IsPlainOverflow (plain_value t) o
-    by true e = subst (λ (v : PlainValue). IsPlainOverflow v o) (sym (half_plain t k h e)) tt
-    by false e = p (record { rationals = h; no_half = e })
+rational_overflow t o k p h = elim (cases_Bool (is_half_num (exponent_in t))) [
+  | inl e ↦ subst (λ (v : PlainValue). IsPlainOverflow v o) (sym (half_plain t k h e)) tt
+  | inr e ↦ p (record { rationals = h; no_half = e })
+]
 
 pub inverse_no_half : (t b : Tree) → t ≡ power b (num minus_one_fraction) → is_half_num (exponent_in t) ≡ false
 inverse_no_half t b e = ap (λ (u : Tree). is_half_num (exponent_in u)) e ∙ whole_no_half (num minus_one_fraction) (whole_is (negsuc 0))
 
+sides_reduced : (a b : Tree) → are_reduced (two a b) ≡ true → (is_reduced a ≡ true) × (is_reduced b ≡ true)
+sides_reduced a b h = let (x, y) = and_parts (is_reduced a) (is_reduced b && true) h in (x, (and_parts (is_reduced b) true y).0)
+
 pub power_reduced : (t : Tree) → t ≡ power (base_in t) (exponent_in t) → are_reduced (children_of t) ≡ true → (is_reduced (base_in t) ≡ true) × (is_reduced (exponent_in t) ≡ true)
-power_reduced (power b e) k h = (and_first (is_reduced b) (is_reduced e && true) h, and_first (is_reduced e) true (and_second (is_reduced b) (is_reduced e && true) h))
+power_reduced (power b e) k h = sides_reduced b e h
 power_reduced t k h = cc
 
 pub root_told : (t r : Tree) → is_root t ≡ true → is_reduced (argument_of t) ≡ true → IsRootAnswer (argument_of t) r → ((gs : List ℕ) → SpansTree gs t → SpansTree gs r)
@@ -129,7 +112,7 @@ root_told (root a) r e x h s m = root_answer a r x h s m
 root_told t r e x h s m = cc
 
 pub argument_reduced : (t : Tree) → is_root t ≡ true → are_reduced (children_of t) ≡ true → is_reduced (argument_of t) ≡ true
-argument_reduced (root a) e h = and_first (is_reduced a) true h
+argument_reduced (root a) e h = (and_parts (is_reduced a) true h).0
 argument_reduced t e h = cc
 
 -- a root of rationals has no plain value
@@ -181,23 +164,17 @@ minus_one_value r e = ap (λ (x : Ratio). num (lowest x.num x.den)) e
 
 -- two reduced trees
 pub two_reduced : (a b : Tree) → is_reduced a ≡ true → is_reduced b ≡ true → are_reduced (two a b) ≡ true
-two_reduced a b h k = and_true (is_reduced a) (is_reduced b && true) h (and_true (is_reduced b) true k refl)
-
-pub first_reduced : (a b : Tree) → are_reduced (two a b) ≡ true → is_reduced a ≡ true
-first_reduced a b h = and_first (is_reduced a) (is_reduced b && true) h
-
-pub second_reduced : (a b : Tree) → are_reduced (two a b) ≡ true → is_reduced b ≡ true
-second_reduced a b h = and_first (is_reduced b) true (and_second (is_reduced a) (is_reduced b && true) h)
+two_reduced a b h k = and_from (is_reduced a) (is_reduced b && true) h (and_from (is_reduced b) true k refl)
 
 -- an overflow of a power that is the inverse of a defined tree
 pub inverse_overflowed : (t b : Tree) (o : Overflow) → t ≡ power b (num minus_one_fraction) → has_undef (children_of t) ≡ false → (are_rationals (children_of t) ≡ true → IsPlainOverflow (plain_value t) o) → IsNodeOverflow (power b (num minus_one_fraction)) o
 inverse_overflowed t b o e d h = overflow_at {t = t} o e (record { defined = d; rational = h })
 
 pub only_reduced : (ts : Trees) (a : Tree) → ts ≡ more a none → are_reduced ts ≡ true → is_reduced a ≡ true
-only_reduced ts a e h = and_first (is_reduced a) true (ap are_reduced (sym e) ∙ h)
+only_reduced ts a e h = (and_parts (is_reduced a) true (ap are_reduced (sym e) ∙ h)).0
 
 pub right_reduced : (ts : Trees) (a b : Tree) → ts ≡ two a b → are_reduced ts ≡ true → is_reduced b ≡ true
-right_reduced ts a b e h = second_reduced a b (ap are_reduced (sym e) ∙ h)
+right_reduced ts a b e h = (sides_reduced a b (ap are_reduced (sym e) ∙ h)).1
 
 pub left_reduced : (ts : Trees) (a b : Tree) → ts ≡ two a b → are_reduced ts ≡ true → is_reduced a ≡ true
-left_reduced ts a b e h = first_reduced a b (ap are_reduced (sym e) ∙ h)
+left_reduced ts a b e h = (sides_reduced a b (ap are_reduced (sym e) ∙ h)).0

@@ -1,26 +1,15 @@
 -- What holds the answers of children holds the node over them, by the bounds of the tree.
 use Rattle.std.proofs.Common.{◌≡◌, ℕ, suc, ◌+◌, ◌*◌, ◌^◌, ◌≤◌, max, ℤ, pos, negsuc, Bool, true, false, ◌&&◌, ◌||◌, Option, Some, None, refl, sym, ap, ◌∙◌, subst, arith}
-use Rattle.deep_reduce.proofs.Shared.{and_parts, mul-le, pow-add, pow-le-pow_right, whole_literal, half_literal, or_literal, is_whole_literal, is_half_literal, HighLow, all_simple, are_all_simple, is_simple_power, power_bounds, bounds, bounds_of_terms, bounds_of_factors, high, low, Tree, num, symbol, undef, add, mult, power, root, neg, sub, div, Trees, none, more, is_num, is_symbol, is_undef, has_undef, is_leaf, HoldsPower, holds_whole, holds_half, holds_kept, HoldsNode, IsNodeAnswer, IsReducedFrom, IsFactorHeld, AreFactorsHeld, none_held, AreTreesHeld, raised_high, raised_low, factor_is_held, symbol_is_held, children_of}
+use Rattle.deep_reduce.proofs.Shared.{and_parts, mul-le, pow-add, pow-le-pow_right, whole_literal, half_literal, or_literal, is_whole_literal, is_half_literal, HighLow, all_simple, are_all_simple, is_simple_power, power_bounds, bounds, bounds_of_terms, bounds_of_factors, high, low, Tree, num, symbol, add, mult, power, root, neg, div, Trees, none, more, is_num, is_symbol, is_undef, has_undef, is_leaf, HoldsPower, holds_whole, holds_half, holds_kept, HoldsNode, IsNodeAnswer, IsReducedFrom, IsFactorHeld, AreFactorsHeld, none_held, AreTreesHeld, raised_high, raised_low, factor_is_held, symbol_is_held, children_of, or_parts, number_reduced, or_from}
+use Rattle.deep_reduce.proofs.Clashes.{clash, or_other}
 use Rattle.deep_reduce.proofs.HeldFactors.{factor_tree, tree_factor, undef_factor}
 use Rattle.deep_reduce.proofs.Literals.{whole_answer, half_literal_answer}
 use Rattle.deep_reduce.proofs.NodeBits.{first_side, second_side}
 use Rattle.deep_reduce.proofs.NodeRewrites.{AreReducedFrom, IsOver, over_number, over_symbol, over_undef, over_sum, over_product, over_power, over_root, over_neg, over_sub, over_div}
 use Rattle.deep_reduce.proofs.PlainNodes.{undef_has_no_value}
-use Rattle.deep_reduce.proofs.Steps.{number_reduced}
 use Rattle.product_reduce.specs.Bits.{factor_held}
 use Rattle.tree_bits.specs.Rows.{bounds_of_each}
 use Rattle.tree_bits.proofs.Rows.{rational_row, sum_row, rational_to_symbol, symbol_to_symbol}
-
-or_first : (a b : Bool) → (a || b) ≡ false → a ≡ false
-or_first true b h = cc
-or_first false b h = refl
-
-or_second : (a b : Bool) → (a || b) ≡ false → b ≡ false
-or_second true b h = cc
-or_second false b h = h
-
-clash : {A : Type 0} → true ≡ false → A
-clash e = absurd cc
 
 -- ---- where high is 0
 
@@ -37,16 +26,13 @@ zero_power None b k e = k e
 
 mutual
   pub zero_high : (t : Tree) → high t ≡ 0 → low t ≡ 0
-  zero_high (num q) e = absurd (omega (arith, e))
-  zero_high (symbol x) e = absurd (omega (arith, e))
-  zero_high undef e = absurd (omega (arith, e))
   zero_high (add ts) e = zero_terms ts (omega (arith, e))
   zero_high (mult ts) e = zero_factors ts e
   zero_high (power b f) e = zero_power (or_literal (whole_literal f) (half_literal f)) (bounds b) (zero_high b) e
   zero_high (root a) e = zero_high a e
   zero_high (neg a) e = zero_high a e
-  zero_high (sub a b) e = absurd (omega (arith, e))
   zero_high (div a b) e = omega (arith, e, zero_high a (omega (arith, e)))
+  zero_high t e = absurd (omega (arith, e))
 
   zero_terms : (ts : Trees) → (bounds_of_terms ts).high ≡ 0 → (bounds_of_terms ts).low ≡ 0
   zero_terms none e = refl
@@ -60,20 +46,18 @@ mutual
 
 terms_held : (ts us : Trees) → are_all_simple ts ≡ true → AreReducedFrom ts us → has_undef us ≡ false → AreTreesHeld us (bounds_of_each ts)
 terms_held none none s h d = tt
-terms_held none (more u us) s h d = absurd h
-terms_held (more t ts) none s h d = absurd h
 terms_held (more t ts) (more u us) s h d =
     let (p, q) = and_parts (all_simple t) (are_all_simple ts) s in
-    let e = or_first (is_undef u) (has_undef us) d in
-    (e, factor_tree u (h.0.held p e), terms_held ts us q h.1 (or_second (is_undef u) (has_undef us) d))
+    let e = (or_parts (is_undef u) (has_undef us) d).0 in
+    (e, factor_tree u (h.0.held p e), terms_held ts us q h.1 (or_parts (is_undef u) (has_undef us) d).1)
+terms_held ts us s h d = absurd h
 
 factors_held : (ts us : Trees) → are_all_simple ts ≡ true → AreReducedFrom ts us → has_undef us ≡ false → AreFactorsHeld us (bounds_of_factors ts).high (bounds_of_factors ts).low
 factors_held none none s h d = none_held
-factors_held none (more u us) s h d = absurd h
-factors_held (more t ts) none s h d = absurd h
 factors_held (more t ts) (more u us) s h d =
     let (p, q) = and_parts (all_simple t) (are_all_simple ts) s in
-    factor_held (high t) (low t) (bounds_of_factors ts).high (bounds_of_factors ts).low (h.0.held p (or_first (is_undef u) (has_undef us) d)) (factors_held ts us q h.1 (or_second (is_undef u) (has_undef us) d)) (omega arith) (omega arith)
+    factor_held (high t) (low t) (bounds_of_factors ts).high (bounds_of_factors ts).low (h.0.held p (or_parts (is_undef u) (has_undef us) d).0) (factors_held ts us q h.1 (or_parts (is_undef u) (has_undef us) d).1) (omega arith) (omega arith)
+factors_held ts us s h d = absurd h
 
 -- ---- powers
 
@@ -103,8 +87,6 @@ row_is b e n o = record { high = omega (arith, ap (λ (m : Option ℤ). (power_b
 symbol_power : (b e : Tree) → (is_num b || is_symbol b) ≡ true → is_symbol e ≡ true → IsFactorHeld (power b e) (high (power b e)) (low (power b e))
 symbol_power (num q) (symbol x) h k = factor_is_held (power (num q) (symbol x)) (high (power (num q) (symbol x))) (low (power (num q) (symbol x))) refl (omega arith) (rational_to_symbol q x)
 symbol_power (symbol y) (symbol x) h k = factor_is_held (power (symbol y) (symbol x)) (high (power (symbol y) (symbol x))) (low (power (symbol y) (symbol x))) refl (omega arith) (symbol_to_symbol y x)
-symbol_power (num q) e h k = cc
-symbol_power (symbol y) e h k = cc
 symbol_power b e h k = cc
 
 leaf_of : (b : Tree) → (is_num b || is_symbol b) ≡ true → is_leaf b ≡ true
@@ -136,16 +118,11 @@ power_holds b c e f s p h k d = by (whole_literal e) (half_literal e) refl refl
         holds_half (high b) (low b) a.0 (zero_high b) (h.held p d) (omega (arith, w.0, r.high)) (omega (arith, w.1, r.low))
         (omega (arith, m.0, r.high, ap (λ (z : ℤ). raised_high z (high b) (low b)) a.1)) (omega (arith, m.1, r.low, ap (λ (z : ℤ). raised_low z (high b) (low b)) a.1))
     by None None i j =
-        let t = and_parts (is_num b || is_symbol b) (is_symbol e) (last (is_whole_literal e) (is_half_literal e) _ (no_literal (whole_literal e) i) (no_literal (half_literal e) j) s) in
+        let t = and_parts (is_num b || is_symbol b) (is_symbol e) (or_other (is_whole_literal e || is_half_literal e) _ s (or_from (is_whole_literal e) (is_half_literal e) (no_literal (whole_literal e) i) (no_literal (half_literal e) j))) in
         let l = symbol_leaf e t.1 in
         let c-is : c ≡ b = h.leaf (leaf_of b t.0) in
         let f-is : f ≡ e = k.leaf l.0 in
         holds_kept (ap is_num f-is ∙ l.1) (subst (λ (x : Tree). IsFactorHeld (power x f) (high (power b e)) (low (power b e))) (sym c-is) (subst (λ (x : Tree). IsFactorHeld (power b x) (high (power b e)) (low (power b e))) (sym f-is) (symbol_power b e t.0 t.1)))
-      where
-        last : (x y z : Bool) → x ≡ false → y ≡ false → (x || y || z) ≡ true → z ≡ true
-        last true y z a b h = cc
-        last false true z a b h = cc
-        last false false z a b h = h
 
 -- ---- the node
 
@@ -165,8 +142,8 @@ holds_over t u s (over_power b c e f h k) d =
     let (xy, q) = and_parts (is_simple_power b e && all_simple b) (all_simple e) s in
     let (x, p) = and_parts (is_simple_power b e) (all_simple b) xy in
     power_holds b c e f x p h k (first_side c f d)
-holds_over t u s (over_root a c h) d = (h.held s (or_first (is_undef c) false d), zero_high a)
-holds_over t u s (over_neg a c h) d = h.held s (or_first (is_undef c) false d)
+holds_over t u s (over_root a c h) d = (h.held s (or_parts (is_undef c) false d).0, zero_high a)
+holds_over t u s (over_neg a c h) d = h.held s (or_parts (is_undef c) false d).0
 holds_over t u s (over_sub a c b e h k) d =
     let (p, q) = and_parts (all_simple a) (all_simple b) s in
     record { p = high a; q = low a; k = high b; n = low b; left = h.held p (first_side c e d); right = k.held q (second_side c e d); high = two_powers (high a) (high b); low = omega arith }
@@ -188,10 +165,4 @@ pub node_leaf : (t u r : Tree) → IsOver t u → IsNodeAnswer u r → is_leaf t
 node_leaf t u r (over_number q) a l = a.leaf refl
 node_leaf t u r (over_symbol x) a l = a.leaf refl
 node_leaf t u r over_undef a l = a.leaf refl
-node_leaf t u r (over_sum ts us h) a l = cc
-node_leaf t u r (over_product ts us h) a l = cc
-node_leaf t u r (over_power b c e f h k) a l = cc
-node_leaf t u r (over_root x c h) a l = cc
-node_leaf t u r (over_neg x c h) a l = cc
-node_leaf t u r (over_sub x c b e h k) a l = cc
-node_leaf t u r (over_div x c b e h k) a l = cc
+node_leaf t u r h a l = cc

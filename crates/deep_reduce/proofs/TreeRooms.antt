@@ -1,7 +1,7 @@
 -- A tree whose powers are simple, and the answers of its children: what they count, that they are calm, and what spans them.
-use Rattle.std.proofs.Common.{◌≡◌, ℕ, suc, ◌+◌, ◌*◌, ◌≤◌, ◌<◌, ◌⊎◌, inl, inr, ◌<ℤ◌, pos, negsuc, ℤ, List, [], ◌∷◌, ◌++◌, length, Bool, true, false, ◌&&◌, ◌||◌, if◌then◌else◌, refl, ap, ◌∙◌, arith}
-use Rattle.std.specs.Prelude.{Contains}
-use Rattle.deep_reduce.proofs.Shared.{and_parts, ints, Contains-append_left, Contains-append_right, IsAssignment, natural_of, is_half_num, is_whole_num, is_whole_literal, is_half_literal, all_simple, are_all_simple, is_simple_power, roots, roots_of, counted, SpansTree, SpansTrees, Tree, num, symbol, add, mult, power, root, neg, Trees, none, more, count, nodes, names, names_of, is_num, is_symbol, HasNodesFor, SpansNode, node_count, IsNodeAnswer, IsReducedFrom, IsWithinTree, IsCalmAtZero, SpansRootOf, whole_power_count, power_count, base_in, exponent_in, CountWithin, IsCalm, AreCalm, MeansWhole, zeros, counted_in_all, literal_whole, counts_one, numbers_and_others, symbol_zero, each_once}
+use Rattle.std.proofs.Common.{◌≡◌, ℕ, suc, ◌+◌, ◌*◌, ◌≤◌, ◌<◌, ◌⊎◌, inl, inr, ◌<ℤ◌, pos, negsuc, ℤ, List, [], ◌∷◌, ◌++◌, length, Bool, true, false, ◌&&◌, ◌||◌, if◌then◌else◌, refl, ap, ◌∙◌, arith, Contains}
+use Rattle.deep_reduce.proofs.Shared.{and_parts, ints, Contains-append_left, Contains-append_right, IsAssignment, natural_of, is_half_num, is_whole_num, is_whole_literal, is_half_literal, all_simple, are_all_simple, is_simple_power, roots, roots_of, counted, SpansTree, SpansTrees, Tree, num, symbol, add, mult, power, root, neg, sub, Trees, none, more, nodes, names, names_of, is_num, is_symbol, HasNodesFor, SpansNode, node_count, IsNodeAnswer, IsReducedFrom, IsWithinTree, IsCalmAtZero, SpansRootOf, whole_power_count, power_count, base_in, exponent_in, CountWithin, IsCalm, AreCalm, MeansWhole, zeros, literal_whole, counts_one, numbers_and_others, symbol_zero, each_once}
+use Rattle.deep_reduce.proofs.Rewritten.{some_counted}
 use Rattle.std.proofs.lemmas.List.{length-append}
 use Rattle.deep_reduce.proofs.Calm.{whole_kept}
 use Rattle.deep_reduce.proofs.Literals.{half_answer}
@@ -23,8 +23,6 @@ pub record AreWithin (ts us : Trees) : Type 0 where
 
 pub are_within : (ts us : Trees) → are_all_simple ts ≡ true → AreReducedFrom ts us → AreWithin ts us
 are_within none none s h = record { counts = tt; radicands = []; few = omega arith; spanned = tt; calm = λ ns o a. tt }
-are_within none (more u us) s h = absurd h
-are_within (more t ts) none s h = absurd h
 are_within (more t ts) (more u us) s h =
     let (p, q) = and_parts (all_simple t) (are_all_simple ts) s in
     let x = h.0.room p in
@@ -36,6 +34,7 @@ are_within (more t ts) (more u us) s h =
       spanned = (tree_first x.radicands xs.radicands u x.spanned, trees_second x.radicands xs.radicands us xs.spanned);
       calm = λ ns o a. (x.calm ns o (λ y c. a y (Contains-append_left (names t) (names_of ts) y c)), xs.calm ns o (λ y c. a y (Contains-append_right (names t) (names_of ts) y c)));
     }
+are_within ts us s h = absurd h
 
 -- two of them
 record AreBothWithin (a b c d : Tree) : Type 0 where
@@ -108,10 +107,6 @@ ready_sum ts us s h =
       spanned = (tt, x.spanned);
       calm = λ ns o a. (tt, x.calm ns o a);
     }
-
-some_counted : (us : Trees) → 1 ≤ count us → 1 ≤ counted_in_all us
-some_counted none l = absurd (omega arith)
-some_counted (more u us) l = omega (arith, counts_one u)
 
 ready_product : (ts us : Trees) → are_all_simple ts ≡ true → AreReducedFrom ts us → IsReadyNode (mult ts) (mult us)
 ready_product ts us s h =
@@ -204,6 +199,19 @@ ready_neg a c s h =
       calm = λ ns o k. (tt, x.calm ns o k);
     }
 
+ready_sub : (a c b d : Tree) → all_simple a && all_simple b ≡ true → IsReducedFrom a c → IsReducedFrom b d → IsReadyNode (sub a b) (sub c d)
+ready_sub a c b d s h k =
+    let (p, q) = and_parts (all_simple a) (all_simple b) s in
+    let x = both_within a b c d p q h k in
+    record {
+      fits = omega (arith, x.left, x.right);
+      counts = omega (arith, x.left, x.right);
+      radicands = x.radicands;
+      few = x.few;
+      spanned = (tt, x.left_spanned, x.right_spanned);
+      calm = λ ns o l. (tt, (x.calm ns o l).0, (x.calm ns o l).1);
+    }
+
 pub ready : (t u : Tree) → all_simple t ≡ true → IsOver t u → IsReadyNode t u ⊎ IsReadyHalf t u
 ready t u s (over_number q) = inl (record { fits = omega arith; counts = omega arith; radicands = []; few = omega arith; spanned = tt; calm = λ ns o a. tt })
 ready t u s (over_symbol x) = inl (record { fits = omega arith; counts = omega arith; radicands = []; few = omega arith; spanned = tt; calm = λ ns o a. tt })
@@ -216,28 +224,10 @@ ready t u s (over_power b c e f h k) =
     simple_power b c e f x p q h k
 ready t u s (over_root a c h) = inl (ready_root a c s h)
 ready t u s (over_neg a c h) = inl (ready_neg a c s h)
-ready t u s (over_sub a c b d h k) =
-    let (p, q) = and_parts (all_simple a) (all_simple b) s in
-    let x = both_within a b c d p q h k in
-    inl (record {
-      fits = omega (arith, x.left, x.right);
-      counts = omega (arith, x.left, x.right);
-      radicands = x.radicands;
-      few = x.few;
-      spanned = (tt, x.left_spanned, x.right_spanned);
-      calm = λ ns o l. (tt, (x.calm ns o l).0, (x.calm ns o l).1);
-    })
+ready t u s (over_sub a c b d h k) = inl (ready_sub a c b d s h k)
 ready t u s (over_div a c b d h k) =
-    let (p, q) = and_parts (all_simple a) (all_simple b) s in
-    let x = both_within a b c d p q h k in
-    inl (record {
-      fits = omega (arith, x.left, x.right);
-      counts = omega (arith, x.left, x.right);
-      radicands = x.radicands;
-      few = x.few;
-      spanned = (tt, x.left_spanned, x.right_spanned);
-      calm = λ ns o l. (tt, (x.calm ns o l).0, (x.calm ns o l).1);
-    })
+    let x = ready_sub a c b d s h k in
+    inl (record { fits = x.fits; counts = x.counts; radicands = x.radicands; few = x.few; spanned = x.spanned; calm = x.calm })
 
 -- ---- its answer
 

@@ -1,7 +1,7 @@
 use Rattle.std.proofs.Common.{◌≡◌, ◌*◌, negsuc, rules, length, inr, true, false, ◌<◌, ◌+◌, ◌^◌, refl, sym, ap, ◌∙◌, subst, arith}
-use Rattle.deep_reduce.proofs.Shared.{fraction_fits, Fraction, minus_one_fraction, HoldsNode, holds_whole, IsFactorHeld, is_reduced, Tree, size, sizes, count, num, mult, none, more, power, has_undef, tree_of, gives_as, given_handed, given_root, given_told, nth, children_of, counted, SpansTree, expression, seen, IsNodeAnswer, IsCalmAtZero, stands_last, free_of, replaced_free, passed_on, product_count, product_room, product_power_room}
-use Rattle.deep_reduce.proofs.NodeBits.{quotient_holds, two_factors, second_side}
-use Rattle.deep_reduce.proofs.Fitting.{root_fits}
+use Rattle.deep_reduce.proofs.Shared.{fraction_fits, Fraction, minus_one_fraction, HoldsNode, holds_whole, IsFactorHeld, is_reduced, Tree, size, sizes, count, num, mult, none, more, power, has_undef, tree_of, gives_as, given_handed, given_root, given_told, nth, children_of, counted, SpansTree, expression, seen, IsNodeAnswer, IsCalmAtZero, stands_last, free_of, replaced_free, passed_on, product_count, product_room, product_power_room, HoldsQuotient}
+use Rattle.deep_reduce.proofs.NodeBits.{two_factors, second_side, holds_as}
+use Rattle.deep_reduce.proofs.Rationals.{root_fits}
 use Rattle.deep_reduce.proofs.Results.{answer_as, overflow_as, overflow_on}
 use Rattle.deep_reduce.proofs.Sides.{left_beside, rewritten_front, paired_front}
 use Rattle.deep_reduce.proofs.Steps.{undefined_answer}
@@ -52,7 +52,7 @@ returns-in_err-factor c =
       faults = search rules;
       caused = search rules;
       room = λ gs ns n h k z. let s = c.take_sides-dividend.ensures.sides in let x = quotient_sides gs ns n t c.requires.quotient h k z in let told = given_told s.right-given in let free = sides_free c.requires.stands c.take_sides-dividend.ensures.stands c.take_sides-dividend.ensures.kept c.requires.handed s in let left = left_reduced (children_of t) _ _ (div_children t c.requires.quotient) c.requires.reduced in passed_on c.from_residual.result c.in_err-factor.field-0.0 _ c.from_residual.ensures.0 c.from_residual.ensures.1 (lacks_as c.in_err-factor.field-0.0 (c.in_err-factor.ensures.room gs ns (subst (IsCalmAtZero ns) (sym told) (record { once = x.once; calm = x.right_calm })) (subst (SpansTree gs) (sym told) x.right_spanned)) (λ l. omega (arith, right_inverse_lacks gs (nth 0 (children_of t)) (nth 1 (children_of t)) n x.nodes _ left x.left_spanned (subst (λ (y : Tree). free_of c.take_sides-dividend.new.pool + size y < product_power_room (counted y) (2 ^ length gs)) told l), free)));
-      bits = λ h l k few. let x = quotient_holds t c.requires.quotient (k (defined (goal.at.returns-in_err-factor c).After-has_undefined_child c.if-has_undefined_child.false)) in let told = given_told c.take_sides-dividend.ensures.sides.right-given in overflow_on c.inverse.result c.from_residual.result _ _ _ c.in_err-factor.was (c.inverse.ensures.bits x.k x.n (subst (λ (u : Tree). IsFactorHeld u x.k x.n) (sym told) x.divisor) (omega (arith, few, x.high, x.low))) c.from_residual.ensures.0 c.from_residual.ensures.1 (λ o h. h);
+      bits = λ h l k few. let x : HoldsQuotient (nth 0 (children_of t)) (nth 1 (children_of t)) h l = holds_as h l (div_is t c.requires.quotient) (k (defined (goal.at.returns-in_err-factor c).After-has_undefined_child c.if-has_undefined_child.false)) in let told = given_told c.take_sides-dividend.ensures.sides.right-given in overflow_on c.inverse.result c.from_residual.result _ _ _ c.in_err-factor.was (c.inverse.ensures.bits x.k x.n (subst (λ (u : Tree). IsFactorHeld u x.k x.n) (sym told) x.divisor) (omega (arith, few, x.high, x.low))) c.from_residual.ensures.0 c.from_residual.ensures.1 (λ o h. h);
       stands = search rules;
     }
 
@@ -98,7 +98,7 @@ returns c =
           result_lacks c.join_sides.result (c.join_sides.ensures.product_room gs ns refl calm spans)
           (λ l. omega (arith, subst (λ (u : Tree). free_of c.inverse.new.pool + sizes (children_of u) < product_room (product_count (children_of u)) (2 ^ length gs)) tree l, free, moved, ap size (given_told s.right-given), quotient_fits gs a b n x.nodes made y.counts));
       bits = λ h l k few.
-          let x = quotient_holds t c.requires.quotient (k (defined (goal.at.returns c).After-has_undefined_child c.if-has_undefined_child.false)) in
+          let x : HoldsQuotient (nth 0 (children_of t)) (nth 1 (children_of t)) h l = holds_as h l (div_is t c.requires.quotient) (k (defined (goal.at.returns c).After-has_undefined_child c.if-has_undefined_child.false)) in
           c.join_sides.ensures.product_bits h l refl
           (λ d. subst (λ (u : Tree). HoldsNode u h l) (sym tree)
           (let e = sym (ap (λ (u : Tree). has_undef (children_of u)) tree) ∙ d in two_factors a made x.dividend (known.held (second_side a made e) (x.k + 2 * x.n) (2 * x.k + 2 * x.n) (holds_whole (negsuc 0) x.k x.n refl x.divisor (omega arith) (omega arith))) x.high x.low)) few;

@@ -1,12 +1,12 @@
 use Rattle.std.proofs.Common.{rules, length, ◌<◌, ◌+◌, ◌^◌, refl, sym, ap, ◌∙◌, subst, arith}
-use Rattle.deep_reduce.proofs.Shared.{SpansTree, num_bytes, rational, ratio_of, value_of, number_refused, factors_room, IsCalmAtZero, has_undef, Tree, num, is_mult, size, HoldsNode, free_of, both_replaced_free, refused_below, passed_on, given_free, minus_one_fraction, are_reduced, tree_of, children_of, behind_first, behind_new, front_same, front_end, front_after, front_after_two, gives_as, given_handed, given_other, given_rest, given_told, without_root}
+use Rattle.deep_reduce.proofs.Shared.{SpansTree, num_bytes, rational, ratio_of, value_of, number_refused, factors_room, IsCalmAtZero, has_undef, Tree, num, is_mult, size, HoldsNode, free_of, both_replaced_free, refused_below, passed_on, given_free, minus_one_fraction, are_reduced, tree_of, children_of, behind_first, behind_new, front_same, front_end, front_after, front_after_two, gives_as, given_handed, given_other, given_rest, given_told, without_root, number_reduced, given_apart}
 use Rattle.deep_reduce.proofs.NodeBits.{opposite_factors, second_side}
 use Rattle.deep_reduce.proofs.Lacking.{result_lacks}
 use Rattle.deep_reduce.proofs.NodeBytes.{opposite_lacks, opposite_calm, opposite_spans, opposite_fits}
-use Rattle.deep_reduce.proofs.Fitting.{root_fits}
+use Rattle.deep_reduce.proofs.Rationals.{root_fits}
 use Rattle.deep_reduce.proofs.Results.{answer_as, overflow_as}
-use Rattle.deep_reduce.proofs.Sides.{apart_first, beside_new, new_first, reduced_front}
-use Rattle.deep_reduce.proofs.Steps.{neg_answer, neg_overflow, number_reduced}
+use Rattle.deep_reduce.proofs.Sides.{beside_new, new_first, reduced_front}
+use Rattle.deep_reduce.proofs.Steps.{neg_answer, neg_overflow}
 use Rattle.deep_reduce.proofs.Told.{answer_at, overflow_at, minus_one_value, two_reduced}
 use Rattle.tree_handles.specs.declared.fault.NumberFault.TheVariants as fault
 use Rattle.calc_terms.specs.declared.kind.Kind.TheVariants as kind
@@ -22,7 +22,7 @@ pub node_over_two-requires-clause-second : goal.node_over_two-requires-clause-se
 node_over_two-requires-clause-second c = given_other c.in_ok-minus_one.ensures.given c.requires.handed
 
 pub node_over_two-requires-clause-apart : goal.node_over_two-requires-clause-apart
-node_over_two-requires-clause-apart c = apart_first c.in_ok-minus_one.ensures.given c.requires.handed
+node_over_two-requires-clause-apart c = given_apart c.in_ok-minus_one.ensures.given c.requires.handed
 
 pub returns-in_err-product-clause-front : goal.returns-in_err-product-clause-front
 returns-in_err-product-clause-front c =
@@ -51,7 +51,7 @@ returns c =
       kept = search rules;
       faults = search rules;
       caused = search rules;
-      room = λ gs ns k s. let g = c.in_ok-minus_one.ensures.given in let n = gives_as g refl (λ t e. e ∙ minus_one_value c.whole.result c.whole.ensures) in let p = new_first {k = kind.Mult} n c.requires.handed c.in_ok-product.ensures.ok in let free = given_free c.requires.stands c.in_ok-minus_one.ensures.stands c.in_ok-minus_one.ensures.kept g in let both = both_replaced_free c.in_ok-minus_one.ensures.stands c.in_ok-product.ensures.stands c.in_ok-product.ensures.kept (apart_first g c.requires.handed) (given_handed g) (given_other g c.requires.handed) c.in_ok-product.ensures.ok in let same = ap size (beside_new c.args.argument g c.requires.handed) in let w : Tree = tree_of c.in_ok-product.product c.node_over_two.new.pool in result_lacks c.multiply.result (c.multiply.ensures.room gs ns (subst (IsCalmAtZero ns) (sym p.tree) (opposite_calm a k)) (subst (SpansTree gs) (sym p.tree) (opposite_spans gs a s))) (λ l. omega (arith, subst (λ (x : Tree). free_of c.node_over_two.new.pool + size w < factors_room (children_of x) (2 ^ length gs)) p.tree l, free, both, same, opposite_fits a (2 ^ length gs)));
+      room = λ gs ns k s. let g = c.in_ok-minus_one.ensures.given in let n = gives_as g refl (λ t e. e ∙ minus_one_value c.whole.result c.whole.ensures) in let p = new_first {k = kind.Mult} n c.requires.handed c.in_ok-product.ensures.ok in let free = given_free c.requires.stands c.in_ok-minus_one.ensures.stands c.in_ok-minus_one.ensures.kept g in let both = both_replaced_free c.in_ok-minus_one.ensures.stands c.in_ok-product.ensures.stands c.in_ok-product.ensures.kept (given_apart g c.requires.handed) (given_handed g) (given_other g c.requires.handed) c.in_ok-product.ensures.ok in let same = ap size (beside_new c.args.argument g c.requires.handed) in let w : Tree = tree_of c.in_ok-product.product c.node_over_two.new.pool in result_lacks c.multiply.result (c.multiply.ensures.room gs ns (subst (IsCalmAtZero ns) (sym p.tree) (opposite_calm a k)) (subst (SpansTree gs) (sym p.tree) (opposite_spans gs a s))) (λ l. omega (arith, subst (λ (x : Tree). free_of c.node_over_two.new.pool + size w < factors_room (children_of x) (2 ^ length gs)) p.tree l, free, both, same, opposite_fits a (2 ^ length gs)));
       bits = λ h l k few. let p = new_first {k = kind.Mult} n c.requires.handed c.in_ok-product.ensures.ok in c.multiply.ensures.bits h l (λ d. subst (λ (x : Tree). HoldsNode x h l) (sym p.tree) (opposite_factors a (k (second_side (num minus_one_fraction) a (sym (ap (λ (x : Tree). has_undef (children_of x)) p.tree) ∙ d))))) few;
       stands = search rules;
     }

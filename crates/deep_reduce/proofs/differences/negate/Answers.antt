@@ -1,6 +1,6 @@
 use Rattle.std.proofs.Common.{rules, inl, length, ◌<◌, ◌+◌, ◌^◌, sym, ap, ◌∙◌, subst, arith}
 use Rattle.deep_reduce.proofs.Shared.{is_reduced, Tree, neg, count, size, is_undef, has_undef, counted, SpansTree, IsCalmAtZero, IsFactorHeld, free_of, replaced_free, product_room, keeps_after, tree_of, behind_first, behind_new, front_same, front_end, front_without, front_after_one, given_handed, given_told, given_rest, nth, children_of, parent_handed}
-use Rattle.deep_reduce.proofs.NodeBits.{opposite_holds, only_undef}
+use Rattle.deep_reduce.proofs.NodeBits.{only_undef, holds_as}
 use Rattle.deep_reduce.proofs.Lacking.{result_lacks}
 use Rattle.deep_reduce.proofs.NodeBytes.{negated_calm, negated_spans, negated_fits}
 use Rattle.deep_reduce.proofs.Parents.{alone_out, parent_children}
@@ -43,7 +43,7 @@ returns c =
           let moved = replaced_free c.requires.stands c.release.ensures.stands (keeps_after _ _ _ c.take_child-argument.ensures.kept c.release.ensures.kept) c.requires.handed g in
           result_lacks c.minus.result (c.minus.ensures.room gs ns (subst (IsCalmAtZero ns) (sym told) (negated_calm t c.requires.opposite k)) (subst (SpansTree gs) (sym told) (negated_spans gs t c.requires.opposite s)))
           (λ l. omega (arith, subst (λ (x : Tree). free_of c.release.new.pool + size x < product_room (2 + counted x) (2 ^ length gs)) told l, moved, ap size told, negated_fits t n (2 ^ length gs) c.requires.opposite h));
-      bits = λ h l k few. c.minus.ensures.bits h l (λ d. subst (λ (x : Tree). IsFactorHeld x h l) (sym (given_told g)) (opposite_holds t c.requires.opposite (k (ap has_undef (neg_children t c.requires.opposite) ∙ only_undef (nth 0 (children_of t)) (sym (ap is_undef (given_told g)) ∙ d))))) few;
+      bits = λ h l k few. c.minus.ensures.bits h l (λ d. subst (λ (x : Tree). IsFactorHeld x h l) (sym (given_told g)) (holds_as h l (neg_is t c.requires.opposite) (k (ap has_undef (neg_children t c.requires.opposite) ∙ only_undef (nth 0 (children_of t)) (sym (ap is_undef (given_told g)) ∙ d))))) few;
       kept = search rules;
       faults = search rules;
       caused = search rules;

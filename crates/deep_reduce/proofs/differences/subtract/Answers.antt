@@ -1,6 +1,6 @@
 use Rattle.std.proofs.Common.{◌≡◌, rules, length, inl, false, ◌<◌, ◌+◌, ◌^◌, refl, sym, ap, ◌∙◌, subst, arith}
-use Rattle.deep_reduce.proofs.Shared.{is_reduced, Tree, size, sizes, count, add, none, more, neg, has_undef, tree_of, gives_as, given_handed, given_told, nth, children_of, HoldsNode, IsFactorHeld, counted, SpansTree, expression, seen, IsNodeAnswer, IsCalmAtZero, stands_last, free_of, replaced_free, passed_on, sum_count, sum_room, product_room}
-use Rattle.deep_reduce.proofs.NodeBits.{difference_holds, difference_right, two_terms, second_side}
+use Rattle.deep_reduce.proofs.Shared.{is_reduced, Tree, size, sizes, count, add, none, more, neg, has_undef, tree_of, gives_as, given_handed, given_told, nth, children_of, HoldsNode, IsFactorHeld, counted, SpansTree, expression, seen, IsNodeAnswer, IsCalmAtZero, stands_last, free_of, replaced_free, passed_on, sum_count, sum_room, product_room, HoldsDifference}
+use Rattle.deep_reduce.proofs.NodeBits.{difference_right, two_terms, second_side, holds_as}
 use Rattle.deep_reduce.proofs.Results.{answer_as, overflow_as, overflow_on}
 use Rattle.deep_reduce.proofs.Sides.{left_beside, rewritten_front, paired_front}
 use Rattle.deep_reduce.proofs.Steps.{undefined_answer, sub_answer, sub_overflow, opposite_overflow}
@@ -50,7 +50,7 @@ returns-in_err-term c =
       faults = search rules;
       caused = search rules;
       room = λ gs ns n h k z. let s = c.take_sides-left.ensures.sides in let x = difference_sides gs ns n t c.requires.difference h k z in let told = given_told s.right-given in let free = sides_free c.requires.stands c.take_sides-left.ensures.stands c.take_sides-left.ensures.kept c.requires.handed s in let left = left_reduced (children_of t) _ _ (sub_children t c.requires.difference) c.requires.reduced in passed_on c.from_residual.result c.in_err-term.field-0.0 _ c.from_residual.ensures.0 c.from_residual.ensures.1 (lacks_as c.in_err-term.field-0.0 (c.in_err-term.ensures.room gs ns (subst (IsCalmAtZero ns) (sym told) (record { once = x.once; calm = x.right_calm })) (subst (SpansTree gs) (sym told) x.right_spanned)) (λ l. omega (arith, right_opposite_lacks gs (nth 0 (children_of t)) (nth 1 (children_of t)) n x.nodes _ left x.left_spanned (subst (λ (y : Tree). free_of c.take_sides-left.new.pool + size y < product_room (2 + counted y) (2 ^ length gs)) told l), free)));
-      bits = λ h l k few. let x = difference_holds t c.requires.difference (k (defined (goal.at.returns-in_err-term c).After-has_undefined_child c.if-has_undefined_child.false)) in let told = given_told c.take_sides-left.ensures.sides.right-given in overflow_on c.minus.result c.from_residual.result _ _ _ c.in_err-term.was (c.minus.ensures.bits x.k x.n (λ d. subst (λ (u : Tree). IsFactorHeld u x.k x.n) (sym told) x.right) (difference_right (nth 0 (children_of t)) (nth 1 (children_of t)) few x)) c.from_residual.ensures.0 c.from_residual.ensures.1 (λ o h. h);
+      bits = λ h l k few. let x : HoldsDifference (nth 0 (children_of t)) (nth 1 (children_of t)) h l = holds_as h l (sub_is t c.requires.difference) (k (defined (goal.at.returns-in_err-term c).After-has_undefined_child c.if-has_undefined_child.false)) in let told = given_told c.take_sides-left.ensures.sides.right-given in overflow_on c.minus.result c.from_residual.result _ _ _ c.in_err-term.was (c.minus.ensures.bits x.k x.n (λ d. subst (λ (u : Tree). IsFactorHeld u x.k x.n) (sym told) x.right) (difference_right (nth 0 (children_of t)) (nth 1 (children_of t)) few x)) c.from_residual.ensures.0 c.from_residual.ensures.1 (λ o h. h);
       stands = search rules;
     }
 
@@ -95,7 +95,7 @@ returns c =
           result_lacks c.join_sides.result (c.join_sides.ensures.sum_room gs refl spans)
           (λ l. omega (arith, subst (λ (u : Tree). free_of c.minus.new.pool + sizes (children_of u) < sum_room (sum_count (children_of u)) (2 ^ length gs)) tree l, free, moved, ap size (given_told s.right-given), difference_fits gs a b n x.nodes made y.counts));
       bits = λ h l k few.
-          let x = difference_holds t c.requires.difference (k (defined (goal.at.returns c).After-has_undefined_child c.if-has_undefined_child.false)) in
+          let x : HoldsDifference (nth 0 (children_of t)) (nth 1 (children_of t)) h l = holds_as h l (sub_is t c.requires.difference) (k (defined (goal.at.returns c).After-has_undefined_child c.if-has_undefined_child.false)) in
           c.join_sides.ensures.sum_bits h l refl
           (λ d. subst (λ (u : Tree). HoldsNode u h l) (sym tree) (let e = sym (ap (λ (u : Tree). has_undef (children_of u)) tree) ∙ d in two_terms a made e x.left (known.held (second_side a made e) x.k x.n x.right) x.high x.low)) few;
       kept = search rules;

@@ -1,7 +1,6 @@
 use Rattle.std.proofs.Common.{refl, sym, ap, ◌∙◌, arith}
 use Rattle.deep_reduce.proofs.Shared.{is_half_num, children_at, expression}
-use Rattle.deep_reduce.proofs.Children.{over_power}
-use Rattle.deep_reduce.proofs.Nested.{exponent_at}
+use Rattle.deep_reduce.proofs.Children.{over_power, exponent_at}
 use Rattle.deep_reduce.proofs.halves.has_half_exponent.Goals as goal
 
 pub child_id-exponent-requires-clause-within : goal.child_id-exponent-requires-clause-within

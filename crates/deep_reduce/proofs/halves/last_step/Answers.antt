@@ -1,5 +1,4 @@
-use Rattle.std.proofs.Common.{◌≡◌, sym, ◌∙◌, subst}
-use Rattle.std.specs.Prelude.{Some, None}
+use Rattle.std.proofs.Common.{◌≡◌, sym, ◌∙◌, subst, Some, None}
 use Rattle.deep_reduce.proofs.Shared.{Tree, IsHeldAsPowerOf, base_in, exponent_in, IfDone, Step, tree_of, passed_on, given_told}
 use Rattle.deep_reduce.proofs.Arms.{is_done, is_again}
 use Rattle.deep_reduce.proofs.HeldRoots.{last_fits}

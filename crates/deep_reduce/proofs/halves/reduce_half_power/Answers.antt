@@ -1,10 +1,8 @@
 use Rattle.std.proofs.Common.{rules, refl, sym, subst, arith}
 use Rattle.deep_reduce.proofs.Shared.{Rewrites, Tree, numerator, gives_itself, IsHeldAsPowerOf, IsFactorHeld, argument_of, free_of, replaced_free, passed_on, refusal_as, keeps_after, base_in, exponent_in, tree_of, gives_as, given_handed, given_told}
-use Rattle.deep_reduce.proofs.Arms.{is_done, is_again}
-use Rattle.deep_reduce.proofs.Chains.{gives_next, front_next}
-use Rattle.deep_reduce.proofs.HalfPowers.{half_step, half_ready, half_last, last_exponent, rooted_held, half_after}
-use Rattle.deep_reduce.proofs.Defined.{any_fault, any_refusal, misfit_fault, half_defined}
-use Rattle.deep_reduce.proofs.HalfRooms.{step_finds_none, base_finds_none, last_step, last_finds_none}
+use Rattle.deep_reduce.proofs.Arms.{is_done, is_again, any_fault, any_refusal, misfit_fault, half_defined}
+use Rattle.deep_reduce.proofs.Children.{gives_next, front_next}
+use Rattle.deep_reduce.proofs.HalfPowers.{half_step, half_ready, half_last, last_exponent, rooted_held, half_after, step_finds_none, base_finds_none, last_step, last_finds_none}
 use Rattle.deep_reduce.proofs.HeldRoots.{half_no_whole, half_fits, if_two}
 use Rattle.deep_reduce.proofs.Lacking.{lacks_as}
 use Rattle.deep_reduce.proofs.Opened.{power_finished}

@@ -1,11 +1,11 @@
 use Rattle.std.proofs.Common.{rules, ◌≡◌, ◌^◌, length, ap, ◌∙◌, sym, refl, arith, ℕ, false}
-use Rattle.deep_reduce.proofs.Shared.{has_undef, Tree, count, IsSumHeld, addends_of_each, IsTreeHeld, plain_value, tree_of, children_of, live, expression, seen, pow_pos, KeepsSumRoom}
+use Rattle.deep_reduce.proofs.Shared.{has_undef, Tree, count, IsSumHeld, addends_of_each, IsTreeHeld, plain_value, tree_of, children_of, live, expression, seen, pow_pos, KeepsSumRoom, sum_words}
 use Rattle.deep_reduce.proofs.HeldFits.{product_fits}
-use Rattle.deep_reduce.proofs.NodeBits.{as_overflow, held_facts, sum_holds}
+use Rattle.deep_reduce.proofs.NodeBits.{as_overflow, held_facts, holds_as}
 use Rattle.deep_reduce.proofs.Lacking.{result_lacks}
 use Rattle.deep_reduce.proofs.NodeBytes.{number_fits_sum}
 use Rattle.deep_reduce.proofs.Results.{answered, answer_as, overflowed_defined, with_facts, sum_facts}
-use Rattle.deep_reduce.proofs.Told.{sum_told, empty_sum_told, sum_words}
+use Rattle.deep_reduce.proofs.Told.{sum_told, empty_sum_told}
 use Rattle.deep_reduce.proofs.nodes.add_up.Goals.{After-children}
 use Rattle.deep_reduce.proofs.nodes.add_up.Goals as goal
 
@@ -36,7 +36,7 @@ returns c =
       faults = search rules;
       caused = search rules;
       room = λ gs s. c.reduce_sum.ensures.room gs s;
-      bits = λ h l k few. as_overflow c.reduce_sum.result (product_fits (children_of t) c.reduce_sum.result (λ d. c.reduce_sum.ensures.bits h l (sum_holds t c.requires.sum (k d)) few) c.reduce_sum.ensures.defined);
+      bits = λ h l k few. as_overflow c.reduce_sum.result (product_fits (children_of t) c.reduce_sum.result (λ d. c.reduce_sum.ensures.bits h l (holds_as h l (sum_words t c.requires.sum) (k d)) few) c.reduce_sum.ensures.defined);
       stands = search rules;
     }
 

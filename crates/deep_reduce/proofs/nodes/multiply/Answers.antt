@@ -1,8 +1,8 @@
 use Rattle.std.proofs.Common.{rules, ◌≡◌, ◌^◌, length, ap, ◌∙◌, sym, refl, arith}
 use Rattle.deep_reduce.proofs.Shared.{plain_value, Tree, count, tree_of, children_of, live, expression, seen}
 use Rattle.deep_reduce.proofs.HeldFits.{product_fits}
-use Rattle.deep_reduce.proofs.NodeBits.{as_overflow, product_holds}
-use Rattle.deep_reduce.proofs.Lacking.{result_lacks}
+use Rattle.deep_reduce.proofs.NodeBits.{as_overflow, holds_as}
+use Rattle.deep_reduce.proofs.Lacking.{result_lacks, product_words}
 use Rattle.deep_reduce.proofs.NodeBytes.{no_factors, some_factors}
 use Rattle.deep_reduce.proofs.Results.{answered, answer_as, overflowed_defined}
 use Rattle.deep_reduce.proofs.Told.{product_told, empty_product_told}
@@ -35,7 +35,7 @@ returns c =
       faults = search rules;
       caused = search rules;
       room = λ gs ns k s. let ts = children_of (tree_of c.args.product c.args.pool.now) in let n = many (goal.at.returns c).After-children in result_lacks c.reduce_product.result (c.reduce_product.ensures.room gs ns k s) (λ l. omega (arith, l, some_factors ts (2 ^ length gs) (omega (arith, n, c.if-children-eq0.false))));
-      bits = λ h l k few. let t : Tree = tree_of c.args.product c.args.pool.now in as_overflow c.reduce_product.result (product_fits (children_of t) c.reduce_product.result (λ d. c.reduce_product.ensures.bits h l (product_holds t c.requires.product (k d)) few) c.reduce_product.ensures.defined);
+      bits = λ h l k few. let t : Tree = tree_of c.args.product c.args.pool.now in as_overflow c.reduce_product.result (product_fits (children_of t) c.reduce_product.result (λ d. c.reduce_product.ensures.bits h l (holds_as h l (product_words t c.requires.product) (k d)) few) c.reduce_product.ensures.defined);
       stands = search rules;
     }
 

@@ -1,11 +1,11 @@
 use Rattle.std.proofs.Common.{rules, false, ◌≡◌, ◌^◌, ℕ, List, length, refl, sym, ◌∙◌, arith}
-use Rattle.deep_reduce.proofs.Shared.{plain_value, Tree, root_kind, tree_of, keeps_none, front_same, gives, represents_handed, live, kind_of_root, pow_pos, SpansTree, value, int_is_negative, base_in, exponent_in, argument_of, IfRational, IsNoLargerThanRoot, children_of, free_of}
+use Rattle.deep_reduce.proofs.Shared.{plain_value, Tree, root_kind, tree_of, keeps_none, front_same, gives, represents_handed, live, kind_of_root, pow_pos, SpansTree, value, int_is_negative, base_in, exponent_in, argument_of, IfRational, IsNoLargerThanRoot, children_of, free_of, sum_kind, product_kind}
 use Rattle.deep_reduce.proofs.HeldFits.{product_fits}
-use Rattle.deep_reduce.proofs.NodeBits.{as_overflow, node_fits, power_holds, power_node_fits, root_holds, root_node_fits, measured_facts}
+use Rattle.deep_reduce.proofs.NodeBits.{as_overflow, node_fits, power_node_fits, root_node_fits, measured_facts, holds_as}
 use Rattle.deep_reduce.proofs.Lacking.{result_lacks, power_result}
 use Rattle.deep_reduce.proofs.NodeBytes.{sum_fits, factors_fit, power_fits, half_fits, root_result, no_half_power, node_spans}
 use Rattle.deep_reduce.proofs.Results.{answered, answer_as, overflow_as, overflowed_defined, with_facts, span_facts}
-use Rattle.deep_reduce.proofs.Told.{sum_kind, product_kind, power_kind, root_kind_is, neg_kind, sub_kind, div_kind, power_told, power_sides, IsRationalPower, rational_answer, rational_overflow, power_reduced, root_told, root_overflow, argument_reduced, leaf_told}
+use Rattle.deep_reduce.proofs.Told.{power_kind, root_kind_is, neg_kind, sub_kind, div_kind, power_told, power_sides, IsRationalPower, rational_answer, rational_overflow, power_reduced, root_told, root_overflow, argument_reduced, leaf_told, root_is}
 use Rattle.deep_reduce.proofs.nodes.reduce_node.Goals.{After-kind}
 use Rattle.deep_reduce.proofs.nodes.reduce_node.Goals as goal
 
@@ -50,7 +50,7 @@ returns-in-Root c =
       caused = search rules;
       room = λ gs ns n h k s. let is = root_kind_is t (sym c.in-Root.is ∙ kind-is (goal.at.returns-in-Root c).After-kind) in root_result gs t (free_of c.args.pool.now) n c.reduce_root.result is h c.reduce_root.ensures.full_of_a_rational c.reduce_root.ensures.full_below_96_bytes;
       root_room = λ gs n h z s. no_half_power (tree_of c.args.tree c.args.pool.now) (sym c.in-Root.is ∙ kind-is (goal.at.returns-in-Root c).After-kind) (λ e. cc) z;
-      bits = λ h l k few. let is = root_kind_is t (sym c.in-Root.is ∙ kind-is (goal.at.returns-in-Root c).After-kind) in node_fits t c.reduce_root.result (overflow_as _ _ _ c.reduce_root.ensures.named (λ o h. root_overflow t o is h)) (λ d. as_overflow c.reduce_root.result (root_node_fits (argument_of t) c.reduce_root.result c.reduce_root.ensures.bits c.reduce_root.ensures.overflows.0 (root_holds t is (k d)) few));
+      bits = λ h l k few. let is = root_kind_is t (sym c.in-Root.is ∙ kind-is (goal.at.returns-in-Root c).After-kind) in node_fits t c.reduce_root.result (overflow_as _ _ _ c.reduce_root.ensures.named (λ o h. root_overflow t o is h)) (λ d. as_overflow c.reduce_root.result (root_node_fits (argument_of t) c.reduce_root.result c.reduce_root.ensures.bits c.reduce_root.ensures.overflows.0 (holds_as h l (root_is t is) (k d)).0 few));
       stands = search rules;
     }
 
@@ -75,7 +75,7 @@ returns-in-Pow c =
       caused = search rules;
       room = λ gs ns n h k s. let kind = sym c.in-Pow.is ∙ kind-is (goal.at.returns-in-Pow c).After-kind in let is = power_kind t kind in power_result _ _ t c.reduce_power.result is k (λ w. result_lacks c.reduce_power.result (c.reduce_power.ensures.room gs ns k (node_spans gs t kind (λ e. cc) s) w) (λ l. omega (arith, l, power_fits t n (2 ^ length gs) is h))) (λ w z. c.reduce_power.ensures.others w z);
       root_room = λ gs n h z s. let is = power_kind t (sym c.in-Pow.is ∙ kind-is (goal.at.returns-in-Pow c).After-kind) in result_lacks c.reduce_power.result (c.reduce_power.ensures.root_room gs z s) (λ l. omega (arith, l, half_fits t n (2 ^ length gs) is h));
-      bits = λ h l k few. let is = power_kind t (sym c.in-Pow.is ∙ kind-is (goal.at.returns-in-Pow c).After-kind) in as_overflow c.reduce_power.result (product_fits (children_of t) c.reduce_power.result (λ d. power_node_fits (base_in t) (exponent_in t) c.reduce_power.result h l (power_holds t is (k d)) few c.reduce_power.ensures.bits c.reduce_power.ensures.root_bits c.reduce_power.ensures.others) c.reduce_power.ensures.defined);
+      bits = λ h l k few. let is = power_kind t (sym c.in-Pow.is ∙ kind-is (goal.at.returns-in-Pow c).After-kind) in as_overflow c.reduce_power.result (product_fits (children_of t) c.reduce_power.result (λ d. power_node_fits (base_in t) (exponent_in t) c.reduce_power.result h l (holds_as h l is (k d)) few c.reduce_power.ensures.bits c.reduce_power.ensures.root_bits c.reduce_power.ensures.others) c.reduce_power.ensures.defined);
       stands = search rules;
     }
 

@@ -1,23 +1,18 @@
-use Rattle.std.proofs.Common.{rules, ◌≡◌, ◌<◌, ◌+◌, ◌^◌, ℕ, length, Bool, true, false, ap, ◌∙◌, refl, sym, subst, arith, Option, IfSome, Err}
+use Rattle.std.proofs.Common.{rules, ◌≡◌, ◌<◌, ◌+◌, ◌^◌, ℕ, length, true, false, ap, ◌∙◌, refl, sym, subst, arith, Option, IfSome, Err}
 use Rattle.deep_reduce.proofs.Shared.{Tree, Trees, add, mult, count, is_mult, is_undef, size, over_product, children_at, children_in, moved, moved_front, given_back, over_back, apart_back, put_back, front_lost, live, kind_of_root, product_kind, no_product_kind, if_map, passed_on, IsReducedProduct, IsReducedPower, IsSummed, joins_none, joins_then, IsHeldAsProduct, IsHeldAsPowerOf, IsFactorHeld, raised_high, raised_low, IsCalmAtZero, IsJoinedFrom, KeepsRoom, whole_power_room, counted, SpansTree, taken_free, free_of, replaced_free, gives_itself, whole_no_half, IsPairAt, base_in, exponent_in, are_reduced, is_whole_num, Rewrites, tree_of, children_of, keeps_none, keeps_after, behind_first, behind_new, front_same, front_put, front_end, front_without, front_after_one, gives, gives_as, given_handed, given_root, given_told, given_rest, represents_handed, root_held}
+use Rattle.deep_reduce.proofs.Clashes.{contrary}
 use Rattle.calc_terms.specs.Trees.{power as power_tree}
 use Rattle.coefficients.proofs.Puttings.{on_ok_after, fault_after}
-use Rattle.deep_reduce.proofs.Arms.{is_finished, is_gathered, is_at, is_few, is_done, is_again, is_held}
-use Rattle.deep_reduce.proofs.Chains.{gives_next, front_next}
-use Rattle.deep_reduce.proofs.Children.{over_power, exponent_taken, placed, factor_taken, factor_inserted, itself}
-use Rattle.deep_reduce.proofs.Nested.{exponent_seen, with_product, without_product, taken_falls}
+use Rattle.deep_reduce.proofs.Arms.{is_finished, is_gathered, is_at, is_few, is_done, is_again, is_held, gathered_hands, finished_hands, finished_holds, any_fault, any_refusal, misfit_fault, rewritten_defined}
+use Rattle.deep_reduce.proofs.Children.{over_power, exponent_taken, placed, factor_taken, factor_inserted, itself, gives_next, front_next, exponent_seen, with_product, without_product, taken_falls}
 use Rattle.deep_reduce.proofs.Falls.{joint_falls, two_falls, next_two_falls, pairs_fall, product_falls, power_falls, rewritten_falls, powers_fall, ready_product_falls, exponent_falls, ready_power_falls, one_power_falls}
 use Rattle.deep_reduce.proofs.Finished.{product_of_powers, ready_product, transparent_children, ready_power, power_lifted, power_of_kind}
-use Rattle.deep_reduce.proofs.Defined.{any_fault, any_refusal, misfit_fault, rewritten_defined}
-use Rattle.deep_reduce.proofs.Gathered.{gathered_hands, finished_hands, finished_holds}
 use Rattle.deep_reduce.proofs.HeldFits.{product_fits, powers_ready, part_ready, power_fits, exponent_ready, joint_exponents, joint_fits}
 use Rattle.deep_reduce.proofs.HeldRoots.{half_no_whole}
 use Rattle.deep_reduce.proofs.JointBytes.{joint_lacks}
 use Rattle.deep_reduce.proofs.Lacking.{lacks_as, result_lacks, product_words, handed_on, joint_sum_lacks, joint_power_short, joint_at_spans, joint_ready, placed_bytes, next_bytes, part_free, step_lacks, power_refused, power_result, ready_product as ready_for_product, ready_power as ready_for_power, ready_exponent, ready_part}
-use Rattle.deep_reduce.proofs.Measures.{few_factors}
-use Rattle.deep_reduce.proofs.Wholes.{is_rewritten}
-use Rattle.deep_reduce.proofs.Opened.{opened, power_after, power_finished}
-use Rattle.deep_reduce.proofs.Ranks.{below_measure}
+use Rattle.deep_reduce.proofs.Measures.{few_factors, below_measure}
+use Rattle.deep_reduce.proofs.Opened.{opened, power_after, power_finished, is_rewritten}
 use Rattle.deep_reduce.proofs.Rows.{IsPowerOf, none_reduced, part_front, next_power, next_within, back_within, next_of, next_taken, next_reduced, all_reduced}
 use Rattle.deep_reduce.proofs.Settled.{joint_at, ready_joint, ready_summed, pair_joined, settled_less, settled_within, less_gathered, less_next, gathered_product, some_pair, product_after, product_finished}
 use Rattle.tree_handles.specs.declared.fault.NumberFault.TheVariants as fault
@@ -329,11 +324,8 @@ reduce_joint-returns t c =
 
 -- ---- reduce_power
 
-contrary : {A : Type 0} (b : Bool) → b ≡ true → b ≡ false → A
-contrary b e f = absurd cc
-
 pub reduce_power-returns-then-has_half_exponent-clause-rationals : goal.reduce_power-returns-then-has_half_exponent-clause-rationals
-reduce_power-returns-then-has_half_exponent-clause-rationals t c = λ b e n. contrary _ (sym c.has_half_exponent.ensures ∙ c.if-has_half_exponent.true) n
+reduce_power-returns-then-has_half_exponent-clause-rationals t c = λ b e n. contrary (sym c.has_half_exponent.ensures ∙ c.if-has_half_exponent.true) n
 
 pub reduce_power-returns-in-Done-clause-ok : goal.reduce_power-returns-in-Done-clause-ok
 reduce_power-returns-in-Done-clause-ok t c =
@@ -361,21 +353,21 @@ reduce_power-returns-in-Again t c =
       faults = search rules;
       caused = search rules;
       room = λ gs ns k s w. let n = sym c.has_half_exponent.ensures ∙ c.if-has_half_exponent.false in let r = is_rewritten _ _ _ n c.requires.base c.requires.exponent (given_told g).0 in result_lacks c.reduce_rewritten.result (c.reduce_rewritten.ensures.room gs ns _ _ r (subst (IsCalmAtZero ns) c.requires.power k) (subst (SpansTree gs) c.requires.power s)) (λ l. omega (arith, l, replaced_free c.requires.stands c.in_ok-answer.ensures.stands c.in_ok-answer.ensures.kept c.requires.handed g));
-      root_room = λ gs h s. contrary _ h (sym c.has_half_exponent.ensures ∙ c.if-has_half_exponent.false);
-      others = λ w h. let r = is_rewritten _ _ _ h c.requires.base c.requires.exponent (given_told g).0 in contrary _ r.whole w;
+      root_room = λ gs h s. contrary h (sym c.has_half_exponent.ensures ∙ c.if-has_half_exponent.false);
+      others = λ w h. let r = is_rewritten _ _ _ h c.requires.base c.requires.exponent (given_told g).0 in contrary r.whole w;
       bits = λ n h l q a few. let r = is_rewritten _ _ _ (sym c.has_half_exponent.ensures ∙ c.if-has_half_exponent.false) c.requires.base c.requires.exponent (given_told g).0 in c.reduce_rewritten.ensures.bits _ _ n h l r q a few;
-      root_bits = λ h l e z a few more. contrary _ e (sym c.has_half_exponent.ensures ∙ c.if-has_half_exponent.false);
+      root_bits = λ h l e z a few more. contrary e (sym c.has_half_exponent.ensures ∙ c.if-has_half_exponent.false);
       stands = search rules;
     }
 
 pub reduce_power-returns-then-has_half_exponent-clause-room : goal.reduce_power-returns-then-has_half_exponent-clause-room
-reduce_power-returns-then-has_half_exponent-clause-room t c = λ gs ns k s w. contrary _ (sym c.has_half_exponent.ensures ∙ c.if-has_half_exponent.true) (whole_no_half (exponent_in (tree_of c.args.power c.args.pool.now)) w)
+reduce_power-returns-then-has_half_exponent-clause-room t c = λ gs ns k s w. contrary (sym c.has_half_exponent.ensures ∙ c.if-has_half_exponent.true) (whole_no_half (exponent_in (tree_of c.args.power c.args.pool.now)) w)
 
 pub reduce_power-returns-then-has_half_exponent-clause-root_room : goal.reduce_power-returns-then-has_half_exponent-clause-root_room
 reduce_power-returns-then-has_half_exponent-clause-root_room t c = λ gs h s. c.reduce_half_power.ensures.room gs s
 
 pub reduce_power-returns-then-has_half_exponent-clause-others : goal.reduce_power-returns-then-has_half_exponent-clause-others
-reduce_power-returns-then-has_half_exponent-clause-others t c = λ w h. contrary _ (sym c.has_half_exponent.ensures ∙ c.if-has_half_exponent.true) h
+reduce_power-returns-then-has_half_exponent-clause-others t c = λ w h. contrary (sym c.has_half_exponent.ensures ∙ c.if-has_half_exponent.true) h
 
 pub reduce_power-returns-in_err-answer-clause-room : goal.reduce_power-returns-in_err-answer-clause-room
 reduce_power-returns-in_err-answer-clause-room t c = λ gs ns k s w.
@@ -383,7 +375,7 @@ reduce_power-returns-in_err-answer-clause-room t c = λ gs ns k s w.
     (step_lacks gs (tree_of c.args.power c.args.pool.now) (free_of c.args.pool.now) c.in_err-answer.field-0.0 (c.in_err-answer.ensures.room gs s w))
 
 pub reduce_power-returns-in_err-answer-clause-root_room : goal.reduce_power-returns-in_err-answer-clause-root_room
-reduce_power-returns-in_err-answer-clause-root_room t c = λ gs h s. contrary _ h (sym c.has_half_exponent.ensures ∙ c.if-has_half_exponent.false)
+reduce_power-returns-in_err-answer-clause-root_room t c = λ gs h s. contrary h (sym c.has_half_exponent.ensures ∙ c.if-has_half_exponent.false)
 
 pub reduce_power-returns-in_err-answer-clause-others : goal.reduce_power-returns-in_err-answer-clause-others
 reduce_power-returns-in_err-answer-clause-others t c = λ w h. let no : false ≡ true = c.in_err-answer.ensures.others w h in cc
@@ -404,7 +396,7 @@ reduce_power-returns-in_err-answer-clause-bits t c = λ n h l q a few.
     passed_on c.from_residual.result c.in_err-answer.field-0.0 _ c.from_residual.ensures.0 c.from_residual.ensures.1 (c.in_err-answer.ensures.bits n q h l a few)
 
 pub reduce_power-returns-in_err-answer-clause-root_bits : goal.reduce_power-returns-in_err-answer-clause-root_bits
-reduce_power-returns-in_err-answer-clause-root_bits t c = λ h l e z a few more. contrary _ e (sym c.has_half_exponent.ensures ∙ c.if-has_half_exponent.false)
+reduce_power-returns-in_err-answer-clause-root_bits t c = λ h l e z a few more. contrary e (sym c.has_half_exponent.ensures ∙ c.if-has_half_exponent.false)
 
 -- ---- reduce_rewritten
 
