@@ -5,7 +5,7 @@ use Rattle.deep_reduce.proofs.JointRooms.{finished_keeps, gathered_hands_on}
 use Rattle.deep_reduce.proofs.Lacking.{product_words}
 use Rattle.deep_reduce.proofs.Settled.{gathered_product}
 use Rattle.deep_reduce.proofs.EasyNodes.{number_defined}
-use Rattle.product_reduce.specs.declared.steps.Joining.TheVariants as joining
+use Rattle.product_reduce.specs.declared.gathering.Joining.TheVariants as joining
 use Rattle.reduce_port.specs.declared.step.Step.TheVariants as step
 use Rattle.tree_handles.specs.declared.fault.NumberFault.TheVariants as fault
 

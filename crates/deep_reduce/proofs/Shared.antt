@@ -93,7 +93,7 @@ pub use Rattle.product_reduce.specs.Factors.{coefficient_times, numbers_in, open
 pub use Rattle.product_reduce.specs.Gathering.{IsGathered}
 pub use Rattle.product_reduce.specs.Joining.{IsJointAt, exponent_of, first_partner, has_partner, have_partners, is_partner, joined, joint, without_partner}
 pub use Rattle.product_reduce.specs.Neighbours.{IsNextPair, IsPairAt, NoPairBetween, is_single, joined_pair}
-pub use Rattle.product_reduce.specs.declared.steps.Joining.{Joining}
+pub use Rattle.product_reduce.specs.declared.gathering.Joining.{Joining}
 pub use Rattle.radical_forms.specs.Refusals.{HasWideRoot, IsFull, IsOverflow, NamesProduct}
 pub use Rattle.radical_forms.specs.RootAnswers.{IfRational, IsRootAnswer, argument_of, has_no_root}
 pub use Rattle.rational128.proofs.Reciprocals.{inverts, negative_parts}

@@ -1,6 +1,6 @@
 -- A coefficient before factors that are no Numbers, sorted by their bases, is a product in its form.
 use Rattle.std.specs.Prelude.{⊤}
-use Rattle.std.proofs.Common.{◌≡◌, inl, inr, Bool, true, false, ◌&&◌, not, refl, if◌then◌else◌, ap, ◌∙◌}
+use Rattle.std.proofs.Common.{◌≡◌, inl, inr, Bool, true, false, ◌&&◌, not, refl, if◌then◌else◌, ap}
 use Rattle.product_reduce.proofs.Shared.{factors_of, is_zero, and_parts, and_from, or_left, Fraction, is_zero_fraction, is_one_fraction, is_number, is_radicand, IsNumber, IsTerm, AreTerms, num_one, split, split_product, NoneIs, RisesBy, base_of, has_form, HasForm, all_parts, all_parts_of, Tree, num, symbol, undef, add, mult, power, root, neg, sub, div, Trees, none, more, append, is_mult, number_words, number_test, opened, others_in}
 use Rattle.calc_algebra.proofs.ReducedLaws.{form_words}
 

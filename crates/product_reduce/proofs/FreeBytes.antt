@@ -76,12 +76,9 @@ pub opened_size : (ts : Trees) → size (mult (opened ts)) ≤ size (mult ts)
 opened_size none = omega arith
 opened_size (more t ts) = omega (arith, sizes_append (factors_of t) (opened ts), factors_size t, opened_size ts)
 
--- beside the factors there is room for a call on Numbers, and for a coefficient before the others
+-- beside the factors there is room for a call on Numbers
 pub step_lacks_numbers : (h m size bytes : ℕ) → size ≤ 204 * h * m → bytes < product_need * m + size → bytes < product_step_room h m
 step_lacks_numbers h m size bytes s l = omega arith
-
-pub step_lacks_coefficient : (c h m bytes : ℕ) → c ≤ h → bytes < put_room c m → bytes < product_step_room h m
-step_lacks_coefficient c h m bytes s l = let g : c * m ≤ h * m = mul-le c m h m s (omega arith) in omega arith
 
 -- beside a coefficient and the others a pair is joined
 pub pair_lacks : (gs : List ℕ) (c : Tree) (ts : Trees) (free : ℕ) → is_number c ≡ true → SpansTree gs c → AreOthers ts → SpansTrees gs ts → free < 96

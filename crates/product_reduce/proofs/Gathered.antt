@@ -1,6 +1,6 @@
 -- From a coefficient beside ordered factors to the gathered product.
-use Rattle.std.proofs.Common.{ℕ, ◌≡◌, Result, Ok, Err, true, false, ◌&&◌, refl, sym, ap, ◌∙◌, subst, arith}
-use Rattle.product_reduce.proofs.Shared.{and_parts, and_from, IsPermutation-trans, is_number, base_of, is_reduced, are_reduced, NoneIs, KeepsMeanings-refl, KeepsMeanings-product_more, Permuted, permuted_none, permuted_more, permuted_swap, permuted_trans, Permuted-sym, permuted_product, within_same, within_beside, names_permuted, no_new_name, keeps, reduces_after, nest_of, load_of_factors, nest_permuted, Tree, mult, Trees, none, more, is_mult, is_undef, has_undef, names, names_of, IsSorting, list_of, State, NumberFault, Overflow, plain, children_of, Forest, Gives, root_tree, without_root, gives_as, AreOthers, IsAlone, IsEnding, opened, others_in, IsCoefficient, coefficient_before, IsGathered, IsOrdered, have_partners, SpreadingOverflows, factors_in}
+use Rattle.std.proofs.Common.{◌≡◌, true, false, ◌&&◌, refl, sym, ap, ◌∙◌, subst, arith}
+use Rattle.product_reduce.proofs.Shared.{and_parts, and_from, IsPermutation-trans, is_number, base_of, is_reduced, are_reduced, NoneIs, KeepsMeanings-refl, KeepsMeanings-product_more, Permuted, permuted_none, permuted_more, permuted_swap, permuted_trans, Permuted-sym, permuted_product, within_same, within_beside, names_permuted, no_new_name, keeps, reduces_after, nest_of, load_of_factors, nest_permuted, Tree, mult, Trees, none, more, is_mult, is_undef, has_undef, names, names_of, IsSorting, list_of, Overflow, children_of, AreOthers, IsEnding, opened, others_in, IsCoefficient, coefficient_before, IsGathered, IsOrdered, have_partners, SpreadingOverflows}
 use Rattle.calc_algebra.specs.Rewritings.{Rewrites}
 use Rattle.product_reduce.proofs.Bounds.{nest_with, nest_others, nest_opened, load_with, load_others, load_opened, load_permuted}
 use Rattle.product_reduce.proofs.Finished.{or_none, product_keeps, product_within}
@@ -8,7 +8,7 @@ use Rattle.product_reduce.proofs.JointPlaces.{in_front, before_is, front_reduced
 use Rattle.product_reduce.proofs.LastSteps.{permuted_none_is}
 use Rattle.product_reduce.proofs.Misfits.{permuted_one_is}
 use Rattle.product_reduce.proofs.Sorted.{none_permuted, permuted_lists}
-use Rattle.product_reduce.proofs.Stepped.{AreParted, others_are}
+use Rattle.product_reduce.proofs.Stepped.{others_are}
 
 -- ---- factors that changed places
 
@@ -61,10 +61,6 @@ ending_before c ts us t s e =
 pub spreading_before : (c d : Tree) (ts us : Trees) (o : Overflow) → d ≡ c → IsSorting 0 base_of ts us → SpreadingOverflows d us o → SpreadingOverflows c ts o
 spreading_before c d ts us o e s h = subst (λ (x : Tree). SpreadingOverflows x ts o) e (record { sum = h.sum; alone = permuted_one_is h.sum (Permuted-sym (permuted_lists ts us s.moved)) h.alone; named = h.named })
 
-pub alone_as : {c d : Tree} (new : State) (r : Result ℕ NumberFault) → d ≡ c → IsAlone d new r → IsAlone c new r
-alone_as new (Ok h) e a = a ∙ e
-alone_as new (Err f) e a = a
-
 -- ---- the gathered product
 
 pub gathered : (c : Tree) (ts us : Trees) (new : Tree) → are_reduced ts ≡ true → has_undef ts ≡ false → IsCoefficient c (opened ts) → us ≡ others_in (opened ts) → IsOrdered c us new → IsGathered ts new
@@ -89,7 +85,3 @@ gathered c ts us new r d k e o =
       nest = omega (arith, ap nest_of children, nest_with c o.us k.number, nest_permuted m, nest_others (opened ts), nest_opened ts);
       load = omega (arith, ap load_of_factors children, load_with c o.us k.number, load_permuted m, load_others (opened ts), load_opened ts);
     }
-
-pub gathered_given : (i h g : ℕ) (ts : Trees) (old now new : Forest) → are_reduced ts ≡ true → has_undef ts ≡ false → (p : AreParted i h ts old now) → IsCoefficient (plain (root_tree h now)) (opened ts)
-    → Gives (without_root i (without_root h now)) new g (IsOrdered (plain (root_tree h now)) (factors_in i now)) → Gives (without_root i old) new g (IsGathered ts)
-gathered_given i h g ts old now new r d p k x = gives_as x p.rest (λ t e. gathered (plain (root_tree h now)) ts (factors_in i now) t r d k p.factors e)

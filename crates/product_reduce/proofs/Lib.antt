@@ -37,4 +37,6 @@ mod HeldProducts
 mod HeldMultiples
 mod FreeBytes
 mod GatheredCounts
+mod Parted
+mod SortedBeside
 pub mod Shared

@@ -59,11 +59,6 @@ put_misfit i c p old now f d r g o h =
 
 -- ---- results
 
-pub put_named : {A : Type 0} {P Q : Overflow → Type 0} (r : Result A NumberFault) → IfErr r (OfOverflow P) → ((o : Overflow) → P o → Q o) → IfErr r (OfOverflow Q)
-put_named (Ok x) h k = tt
-put_named (Err (fault.Full full)) h k = tt
-put_named (Err (fault.Overflow o)) h k = k o h
-
 -- bytes that are lacking
 pub none_named : {A : Type 0} (r : Result A NumberFault) (f : Full) (P : Overflow → Type 0) → IsErrAnd r (λ e. e ≡ fault.Full f) → IfErr r (OfOverflow P)
 none_named (Ok x) f P h = tt

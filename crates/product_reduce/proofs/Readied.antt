@@ -1,8 +1,7 @@
 -- Factors that were sorted beside their coefficient.
 use Rattle.std.proofs.Common.{ℕ, ◌≤◌, ◌≡◌, eqb, true, false, refl, sym, ap, ◌∙◌, subst}
 use Rattle.std.specs.Prelude.{IsSortedByKey}
-use Rattle.product_reduce.proofs.Shared.{is_number, is_reduced, product_tree, RisesBy, base_of, Tree, Trees, none, count, Permuted, Permuted-refl, Permuted-sym, with_coefficient, factors_monic, IsPermutation-refl, tree_cmp, IsSorting, list_of, State, plain, children_of, Forest, IsHanded, Ends, Gives, root_tree, without_root, Stands, forest, gives, gives_as, given_rest, given_same, given_told, handed_beside, represents_handed, ends_as, eqb-sym, tree-without, without-swap, AreOthers, IsEnding, have_partners, coefficient_before, IsProduct, Becomes, factors_in}
-use Rattle.product_reduce.proofs.Beside.{tree_becomes}
+use Rattle.product_reduce.proofs.Shared.{is_number, is_reduced, product_tree, RisesBy, base_of, Tree, Trees, none, count, Permuted, Permuted-refl, Permuted-sym, with_coefficient, factors_monic, IsPermutation-refl, tree_cmp, IsSorting, list_of, plain, children_of, Forest, IsHanded, Ends, Gives, root_tree, without_root, gives, gives_as, given_rest, given_same, given_told, handed_beside, represents_handed, ends_as, eqb-sym, tree-without, without-swap, AreOthers, IsEnding, have_partners, IsProduct, factors_in}
 use Rattle.product_reduce.proofs.LastSteps.{coefficient_alone, ending, permuted_none_is, sorted_factors}
 use Rattle.product_reduce.proofs.Products.{factors_are}
 use Rattle.product_reduce.proofs.Sorted.{sorted_rising}
@@ -81,12 +80,3 @@ put_given i c p h old now f new d o n r l g k =
     gives_as k (ap (without_root c) (given_rest g) ∙ rest_readied i c old now d r)
     (λ t e. subst (λ (u : Tree). IsEnding (plain (root_tree c old)) (factors_in i old) u) (sym (e ∙ (λ j. with_coefficient (same j) (given_told g j))))
     (ending (plain (root_tree c old)) (factors_in i old) r.us o n r.sorted r.permuted r.rising l))
-
--- ---- a coefficient comes before a product that has become another one
-
-pub factors_before : {s t : State} {new : Forest} {vs : Trees} (i c : ℕ) (ts : Trees) → Stands s → Stands t → IsProduct i (forest s) ts → Becomes i (forest s) (forest t) vs → IsHanded c (forest s) → eqb c i ≡ false
-    → Becomes i (without_root c (forest t)) new (coefficient_before (plain (root_tree c (forest t))) (factors_in i (forest t))) → factors_in i new ≡ coefficient_before (plain (root_tree c (forest s))) vs
-factors_before i c ts ss st p b h d x =
-    let same = ap plain (tree_becomes c ss st p b h d) in
-    let own = factors_are b.product in
-    factors_are x.product ∙ (λ j. coefficient_before (same j) (own j))

@@ -63,24 +63,26 @@ pub use Rattle.node_pool.specs.State.{State, free_of}
 pub use Rattle.number_forms.specs.Answers.{AnswersRationals}
 pub use Rattle.number_forms.specs.Readers.{is_zero}
 pub use Rattle.number_forms.specs.Sums.{removed}
-pub use Rattle.product_reduce.specs.Answers.{AnswersRationalFactors, AreJoinable, AreOthers, IfFinished, IfGathered, IfJoined, IsAlone, IsAnswered, IsEnding, IsFinished, IsJoined, IsRejoined, IsStop, IsWritten, IsWrittenProduct, at_end, at_zero}
+pub use Rattle.product_reduce.specs.Answers.{AnswersRationalFactors, AreJoinable, AreOthers, IfFinished, IfGathered, IfJoined, IsEnding, IsFinished, IsJoined, IsRejoined, IsStop, IsWritten, IsWrittenProduct, at_end, at_zero}
 pub use Rattle.product_reduce.specs.Bits.{AreFactorsHeld, IsFactorHeld, factor_held, none_held, term_held}
 pub use Rattle.product_reduce.specs.Factors.{IsCoefficient, coefficient_before, coefficient_times, numbers_in, opened, others_in, product_of_values}
 pub use Rattle.product_reduce.specs.Gathering.{IsGathered, IsLead, IsOrdered}
-pub use Rattle.product_reduce.specs.Joining.{HasNoPartner, IsFirstJoint, IsFirstPair, IsJointAt, exponent_of, first_partner, has_partner, have_partners, is_partner, joined, joint, without_partner}
+pub use Rattle.product_reduce.specs.Joining.{HasNoPartner, IsFirstPair, IsJointAt, exponent_of, first_partner, has_partner, have_partners, is_partner, joined, joint, without_partner}
 pub use Rattle.product_reduce.specs.Misfits.{MultiplyingOverflows, NamesProduct, SpreadingOverflows, multiplying, spreading}
 pub use Rattle.product_reduce.specs.Multiplying.{IsBegun, IsProductOf, IsUnderway}
 pub use Rattle.product_reduce.specs.Neighbours.{IsNextPair, IsPairAt, NoPairBetween, is_pair, is_single, joined_pair}
 pub use Rattle.product_reduce.specs.Products.{Becomes, IsBeside, IsProduct, IsSplit, IsTakenOut, factors_in}
-pub use Rattle.product_reduce.specs.declared.steps.Joining.{Joining}
+pub use Rattle.product_reduce.specs.declared.gathering.Joining.{Joining}
 pub use Rattle.rational128.specs.declared.overflow.Overflow.{Overflow}
+pub use Rattle.reduce_port.specs.Steps.{AnswersRationalStep, IfAgain, IfDone}
+pub use Rattle.reduce_port.specs.declared.step.Step.{Step}
 pub use Rattle.std.proofs.lemmas.Bool.{and_from, and_parts, eq-eqb, eqb-true, false_from_ne_true, ltb-false, ltb-true, ne_eqb, not-false, not-true, or_left, or_right}
 pub use Rattle.std.proofs.lemmas.List.Sorted.{IsPermutation-refl, IsPermutation-trans}
 pub use Rattle.std.proofs.lemmas.Nat.{mul-le, pow_pos}
 pub use Rattle.std.specs.Int.{w128}
 pub use Rattle.std.specs.Ordering.{is_eq, is_lt, nat_cmp, ordering_reverse}
-pub use Rattle.std.specs.declared.cmp.Ordering.{Ordering}
 pub use Rattle.std.specs.declared.cmp.Ordering.TheVariants.{Equal, Greater, Less}
+pub use Rattle.std.specs.declared.cmp.Ordering.{Ordering}
 pub use Rattle.tree_bits.proofs.Factors.{distributed_held, factor_as_tree, factor_is_held}
 pub use Rattle.tree_bits.proofs.HeldTrees.{parts_multiply, wider}
 pub use Rattle.tree_bits.proofs.Numbers.{exponents_within, held_number, held_wider, nothing_held}
@@ -91,6 +93,7 @@ pub use Rattle.tree_bits.specs.Exponents.{Counts, counts, counts_of}
 pub use Rattle.tree_bits.specs.Factors.{as_factor, distributed}
 pub use Rattle.tree_bits.specs.HeldTrees.{Addend, AreWeighted, IsPartHeld, addend, addend_of, addends, addends_of, base_in, exponent_in, more_weighted, no_factor_held, none_weighted, power_high, power_low}
 pub use Rattle.tree_bits.specs.Weighted.{AreHeld, Weighted, lows, weighted, weighted_mass}
+pub use Rattle.tree_handles.proofs.Beside.{other_plain}
 pub use Rattle.tree_handles.proofs.Counted.{all-tree_nth, all-without_nth}
 pub use Rattle.tree_handles.proofs.Forests.{arity-tree_nth, arity-without_nth, keeps_after}
 pub use Rattle.tree_handles.proofs.FreeBytes.{both_replaced_free, refused_below, replaced_free}

@@ -1,13 +1,13 @@
 -- Small trees that are reduced.
 use Rattle.std.proofs.Common.{ℕ, zero, suc, ℤ, List, ◌≤◌, ◌≡◌, inr, true, refl, sym, ap, ◌∙◌, subst}
 use Rattle.std.specs.Prelude.{pos, negsuc}
-use Rattle.product_reduce.proofs.Shared.{and_from, and_parts, nat_cmp, Less, is_clean, left_of, square_root, ratio_of, value_of, Ratio, whole, lowest, zero_fraction, one_fraction, gcd, is_number, is_reduced, are_reduced, Tree, num, symbol, undef, add, mult, power, root, Trees, none, more, count, is_mult, number_words, IsMonic, parts_reduced, number_parts, plain, inserted, children_of, Forest, kids, with_nth, IsHanded, Ends, Gives, root_tree, without_root, put, gives, given_handed, given_told, represents_handed, ends_as, last_tree, Joining, IfFinished, IfJoined, IsProduct, Becomes, factors_in}
+use Rattle.product_reduce.proofs.Shared.{and_from, and_parts, nat_cmp, Less, is_clean, left_of, square_root, ratio_of, value_of, Ratio, whole, lowest, zero_fraction, one_fraction, gcd, is_number, is_reduced, are_reduced, Tree, num, symbol, undef, add, mult, power, root, Trees, none, more, count, is_mult, number_words, IsMonic, parts_reduced, number_parts, plain, inserted, children_of, Forest, kids, with_nth, IsHanded, Ends, Gives, root_tree, without_root, put, gives, given_handed, given_told, represents_handed, ends_as, last_tree, Step, IfDone, IfAgain, IsProduct, Becomes, factors_in}
 use Rattle.std.specs.Cmp.Lexicographic.{slice_cmp}
 use Rattle.calc_terms.specs.declared.rat.Rat.{Rat}
 use Rattle.product_reduce.proofs.Beside.{beside_given, beside_product}
 use Rattle.product_reduce.proofs.Joins.{put_back}
 use Rattle.product_reduce.proofs.Products.{becomes_as, factors_are}
-use Rattle.product_reduce.specs.declared.steps.Joining.TheVariants as joining
+use Rattle.reduce_port.specs.declared.step.Step.TheVariants as step
 
 pub number_reduced : (t : Tree) → is_number t ≡ true → is_reduced t ≡ true
 number_reduced t h = parts_reduced t (number_parts t (number_words t h))
@@ -100,8 +100,8 @@ moved_product {n = n} b e q m r =
 
 -- ---- answers
 
-pub handed_done : (others : Forest) {new : Forest} (Q : Tree → Type 0) {s : Joining} {h : ℕ} → s ≡ joining.Done h → IfFinished s (λ x. Gives others new x Q) → IsHanded h new
-handed_done others {new = new} Q e p = given_handed (subst (λ (y : Joining). IfFinished y (λ x. Gives others new x Q)) e p)
+pub handed_done : (others : Forest) {new : Forest} (Q : Tree → Type 0) {s : Step} {h : ℕ} → s ≡ step.Done h → IfDone s (λ x. Gives others new x Q) → IsHanded h new
+handed_done others {new = new} Q e p = given_handed (subst (λ (y : Step). IfDone y (λ x. Gives others new x Q)) e p)
 
-pub handed_joined : (others : Forest) {new : Forest} (Q : Tree → Type 0) {s : Joining} {h at : ℕ} → s ≡ joining.Joined h at → IfJoined s (λ x _. Gives others new x Q) → IsHanded h new
-handed_joined others {new = new} Q e p = given_handed (subst (λ (y : Joining). IfJoined y (λ x _. Gives others new x Q)) e p)
+pub handed_again : (others : Forest) {new : Forest} (Q : Tree → Type 0) {s : Step} {h : ℕ} → s ≡ step.Again h → IfAgain s (λ x. Gives others new x Q) → IsHanded h new
+handed_again others {new = new} Q e p = given_handed (subst (λ (y : Step). IfAgain y (λ x. Gives others new x Q)) e p)

@@ -10,8 +10,8 @@ use Rattle.node_pool.specs.State.{State}
 use Rattle.number_forms.specs.Readers.{is_zero}
 use Rattle.product_reduce.specs.Factors.{opened, others_in, IsCoefficient, coefficient_before, coefficient_times}
 use Rattle.product_reduce.specs.Joining.{have_partners, joined}
-use Rattle.product_reduce.specs.declared.steps.Joining.{Joining}
-use Rattle.product_reduce.specs.declared.steps.Joining.TheVariants as joining
+use Rattle.product_reduce.specs.declared.gathering.Joining.{Joining}
+use Rattle.product_reduce.specs.declared.gathering.Joining.TheVariants as joining
 use Rattle.calc_measures.specs.PlainTrees.{IsPlainAnswer, IsPlainOverflow}
 use Rattle.calc_algebra.specs.Rewritings.{Rewrites, Reduces}
 use Rattle.tree_handles.specs.Causes.{LacksLongForm}
@@ -61,12 +61,12 @@ abbrev pub IfFinished : Joining → (ℕ → Type 0) → Type 0
 IfFinished (joining.Done h) P = P h
 IfFinished (joining.Joined product at) P = ⊤
 
--- a fact of the product with two factors joined, and of the place of the joint
+-- a fact of the gathered product, and of the place where a pair of its factors stands
 abbrev pub IfJoined : Joining → (ℕ → ℕ → Type 0) → Type 0
 IfJoined (joining.Done h) P = ⊤
 IfJoined (joining.Joined product at) P = P product at
 
--- a fact of both
+-- a fact of either
 abbrev pub IfGathered : Joining → (ℕ → Type 0) → Type 0
 IfGathered (joining.Done h) P = P h
 IfGathered (joining.Joined product at) P = P product
@@ -106,14 +106,3 @@ pub record IsRejoined (c : Tree) (ts : Trees) (t : Tree) : Type 0 where
   pub not_zero : is_zero c ≡ false
   pub partners : have_partners ts ≡ true
   pub is : t ≡ mult (coefficient_before c (joined ts))
-
--- the coefficient alone is answered
-abbrev pub IsAnswered : Tree → State → Result Joining NumberFault → Type 0
-IsAnswered c new (Ok (joining.Done h)) = tree_of h new ≡ c
-IsAnswered c new (Ok (joining.Joined product at)) = ⊥
-IsAnswered c new (Err f) = ⊥
-
--- and so by a call that gives a tree
-abbrev pub IsAlone : Tree → State → Result ℕ NumberFault → Type 0
-IsAlone c new (Ok h) = tree_of h new ≡ c
-IsAlone c new (Err f) = ⊥

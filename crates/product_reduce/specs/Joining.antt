@@ -73,11 +73,3 @@ pub record IsNearest (i j : ℕ) (ts : Trees) : Type 0 where
 pub record IsFirstPair (i j : ℕ) (ts : Trees) : Type 0 where
   pub pair : IsNearest i j ts
   pub first : (k : ℕ) → k < i → HasNoPartner k (count ts) ts
-
--- the joint of the first pair of ts stands at a place among us: where the first of the pair stood, behind a coefficient
-pub record IsFirstJoint (at : ℕ) (ts us : Trees) : Type 0 where
-  pub first : ℕ
-  pub second : ℕ
-  pub pair : IsFirstPair first second ts
-  pub is : nth at us ≡ joint (nth first ts) (nth second ts)
-  pub place : at + count (joined ts) ≡ count us + first

@@ -7,11 +7,11 @@ ghost use Rattle.calc_terms.specs.Trees.{mult, none, size};
 ghost use Rattle.coefficients.specs.Rooms.{LacksRoom};
 ghost use Rattle.node_pool.specs.State.{free_of};
 ghost use Rattle.number_forms.specs.Readers.{is_zero};
-ghost use Rattle.product_reduce.specs.Answers.{AreOthers, IsEnding, IsAlone};
+ghost use Rattle.product_reduce.specs.Answers.{AreOthers, IsEnding};
 ghost use Rattle.product_reduce.specs.Factors.{coefficient_before};
 ghost use Rattle.product_reduce.specs.Misfits.{SpreadingOverflows};
 ghost use Rattle.tree_handles.specs.Faults.{OfOverflow, Faults};
-ghost use Rattle.product_reduce.specs.Joining.{IsFirstPair, IsFirstJoint, IsJointAt, have_partners, joined};
+ghost use Rattle.product_reduce.specs.Joining.{IsFirstPair, have_partners, joined};
 ghost use Rattle.product_reduce.specs.Products.{IsProduct, factors_in};
 ghost use Rattle.tree_handles.specs.Causes.{IsCaused};
 ghost use Rattle.tree_handles.specs.Standing.{LacksBytes, Stands, forest, KeepsRefusals, Refuses};
@@ -19,7 +19,6 @@ ghost use Rattle.calc_algebra.specs.Reduced.{are_reduced, base_of};
 ghost use Rattle.calc_algebra.specs.TreeOrder.{tree_cmp};
 ghost use Rattle.node_order.specs.Sorting.{list_of};
 ghost use Rattle.tree_handles.specs.Handed.{tree_of, IsHanded, Gives, KeepsFront};
-ghost use Rattle.tree_handles.specs.Expressions.{children_of};
 ghost use Rattle.tree_handles.specs.Roots.{without_root};
 
 use crate::factors::factor_count;
@@ -30,25 +29,22 @@ use coefficients::{put_coefficient, unwrapped};
 use node_pool::{Full, Pool};
 use tree_handles::{Handle, NumberFault, move_last, release};
 
-/// The first pair joined with the coefficient in front, and the place of the joint.
+/// The first pair joined with the coefficient in front.
 pub fn joined(
     pool: &mut Pool,
     product: Handle,
     coefficient: Handle,
     first: u16,
     second: u16,
-) -> Result<(Handle, u16), Full>
+) -> Result<Handle, Full>
     requires stands { Stands pool.old }
     requires product { IsProduct product (forest pool.old) (factors_in product (forest pool.old)) }
     requires reduced { are_reduced (factors_in product (forest pool.old)) ≡ true }
     requires pair { IsFirstPair first second (factors_in product (forest pool.old)) }
     requires coefficient { IsHanded coefficient (forest pool.old) }
-    requires number { is_number (tree_of coefficient pool.old) ≡ true }
     requires apart { (coefficient == product) ≡ false }
-    ensures ok { IfOk result (λ r. Gives (without_root product (without_root coefficient (forest pool.old))) (forest pool.new) r.0
+    ensures ok { IfOk result (λ h. Gives (without_root product (without_root coefficient (forest pool.old))) (forest pool.new) h
         (λ t. t ≡ mult (coefficient_before (tree_of coefficient pool.old) (joined (factors_in product (forest pool.old)))))) }
-    ensures place { IfOk result (λ r. IsJointAt r.1 (children_of (tree_of r.0 pool.new))) }
-    ensures of_first_pair { IfOk result (λ r. IsFirstJoint r.1 (factors_in product (forest pool.old)) (children_of (tree_of r.0 pool.new))) }
     ensures front { KeepsFront (product ∷ coefficient ∷ []) (forest pool.old) (forest pool.new) }
     ensures kept { OnOk result (KeepsRefusals pool.old pool.new) }
     ensures full { IfErr result (Refuses pool.old pool.new) }
@@ -57,11 +53,9 @@ pub fn joined(
     ensures stands { Stands pool.new }
 {
     join_pair(pool, &product, first, second)?;
-    let joined = factor_count(pool, &product);
     put_in_front(pool, &product, coefficient);
-    let in_front = factor_count(pool, &product) - joined;
     move_last(pool, &product);
-    Ok((product, in_front + first))
+    Ok(product)
 }
 
 /// Factors whose bases differ, sorted behind a coefficient.
@@ -76,7 +70,7 @@ pub fn sorted(pool: &mut Pool, product: Handle, coefficient: Handle) -> Result<H
     requires apart { (coefficient == product) ≡ false }
     ensures ok { IfOk result (λ h. Gives (without_root product (without_root coefficient (forest pool.old))) (forest pool.new) h
         (IsEnding (tree_of coefficient pool.old) (factors_in product (forest pool.old)))) }
-    ensures alone { factors_in product (forest pool.old) ≡ none → IsAlone (tree_of coefficient pool.old) pool.new result }
+    ensures alone { factors_in product (forest pool.old) ≡ none → IfErr result (λ f. ⊥) }
     ensures overflow { IfErr result (OfOverflow (SpreadingOverflows (tree_of coefficient pool.old) (factors_in product (forest pool.old)))) }
     ensures front { KeepsFront (product ∷ coefficient ∷ []) (forest pool.old) (forest pool.new) }
     ensures kept { OnOk result (KeepsRefusals pool.old pool.new) }
@@ -108,7 +102,7 @@ pub fn finished(
     requires apart { (coefficient == product) ≡ false }
     ensures ok { IfOk result (λ h. Gives (without_root product (without_root coefficient (forest pool.old))) (forest pool.new) h
         (IsEnding (tree_of coefficient pool.old) (factors_in product (forest pool.old)))) }
-    ensures alone { factors_in product (forest pool.old) ≡ none → IsAlone (tree_of coefficient pool.old) pool.new result }
+    ensures alone { factors_in product (forest pool.old) ≡ none → IfErr result (λ f. ⊥) }
     ensures overflow { IfErr result (OfOverflow (SpreadingOverflows (tree_of coefficient pool.old) (factors_in product (forest pool.old)))) }
     ensures front { KeepsFront (product ∷ coefficient ∷ []) (forest pool.old) (forest pool.new) }
     ensures kept { OnOk result (KeepsRefusals pool.old pool.new) }

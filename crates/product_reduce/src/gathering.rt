@@ -10,7 +10,7 @@ ghost use Rattle.calc_terms.specs.Trees.{Tree, count, is_mult, mult, none, are_r
 ghost use Rattle.coefficients.specs.Rooms.{LacksRoom};
 ghost use Rattle.node_pool.specs.State.{free_of};
 ghost use Rattle.tree_handles.specs.Lacking.{LacksBelow};
-ghost use Rattle.product_reduce.specs.Answers.{AreOthers, IfFinished, IfJoined, IfGathered, IsFinished, IsStop, IsAnswered, AnswersRationalFactors};
+ghost use Rattle.product_reduce.specs.Answers.{AreOthers, IfFinished, IfJoined, IfGathered, IsFinished, IsStop, AnswersRationalFactors};
 ghost use Rattle.product_reduce.specs.Bits.{AreFactorsHeld, IsFactorHeld};
 ghost use Rattle.product_reduce.specs.Factors.{others_in, coefficient_before};
 ghost use Rattle.product_reduce.specs.Gathering.{IsGathered, IsLead, IsOrdered};
@@ -33,11 +33,20 @@ use crate::joining::join_pair;
 use crate::leading::written_lead;
 use crate::numbers::take_coefficient;
 use crate::sorting::{Bases, sort_factors};
-use crate::steps::Joining;
 use coefficients::unwrapped;
 use node_pool::{Full, Pool};
 use number_forms::is_zero;
 use tree_handles::{Handle, NumberFault, move_last, undefined};
+
+/// What is made of a product whose factors are gathered.
+#[derive(Drop)]
+pub enum Joining {
+    /// A reduced tree.
+    Done(Handle),
+    /// The product, in which neighbours are to be joined, and the place of the first that has the base of the next one,
+    /// counted from 0.
+    Joined { product: Handle, at: u16 },
+}
 
 /// A product of reduced factors with its Numbers as one coefficient and its other factors in the order of their bases,
 /// and the place of the first that has the base of the next one; where there is none, the reduced tree.
@@ -144,7 +153,7 @@ fn order_or_end(
         (IsOrdered (tree_of coefficient pool.old) (factors_in product (forest pool.old))))) }
     ensures pair { IfOk result (λ s. IfJoined s (λ h at. IsPairAt at (children_of (tree_of h pool.new)))) }
     ensures fits { IfOk result (λ s. IfJoined s (λ h at. at + 1 < 2 ^ 16)) }
-    ensures alone { factors_in product (forest pool.old) ≡ none → IsAnswered (tree_of coefficient pool.old) pool.new result }
+    ensures alone { factors_in product (forest pool.old) ≡ none → IfErr result (λ f. ⊥) }
     ensures overflow { IfErr result (OfOverflow (SpreadingOverflows (tree_of coefficient pool.old) (factors_in product (forest pool.old)))) }
     ensures front { KeepsFront (product ∷ coefficient ∷ []) (forest pool.old) (forest pool.new) }
     ensures kept { OnOk result (KeepsRefusals pool.old pool.new) }

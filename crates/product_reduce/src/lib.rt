@@ -15,8 +15,8 @@ mod partners;
 mod sorting;
 mod steps;
 
-pub use gathering::{gather_factors, join_neighbours, next_pair};
-pub use steps::{Joining, joining_step, product_step};
+pub use gathering::{Joining, gather_factors, join_neighbours, next_pair};
+pub use steps::product_step;
 
 #[cfg(test)]
 mod tests;

@@ -9,10 +9,8 @@ ghost use Rattle.calc_terms.specs.Trees.{count, is_mult, mult, none, are_rationa
 ghost use Rattle.coefficients.specs.Rooms.{put_room};
 ghost use Rattle.node_pool.specs.State.{free_of};
 ghost use Rattle.tree_handles.specs.Lacking.{LacksBelow};
-ghost use Rattle.product_reduce.specs.Answers.{AreOthers, IfFinished, IfJoined, IfGathered, IsFinished, IsJoined, IsStop, IsRejoined, IsAnswered, AnswersRationalFactors};
+ghost use Rattle.product_reduce.specs.Answers.{AreOthers, IsFinished, IsJoined, IsStop, IsRejoined};
 ghost use Rattle.product_reduce.specs.Bits.{AreFactorsHeld, IsFactorHeld};
-ghost use Rattle.product_reduce.specs.Factors.{opened, others_in};
-ghost use Rattle.product_reduce.specs.Joining.{IsFirstJoint, IsJointAt};
 ghost use Rattle.product_reduce.specs.Products.{IsProduct, factors_in};
 ghost use Rattle.tree_handles.specs.Faults.{OfOverflow, Faults};
 ghost use Rattle.product_reduce.specs.Misfits.{IsFactorMisfit, SpreadingOverflows};
@@ -34,16 +32,6 @@ use node_pool::Pool;
 use number_forms::is_zero;
 use reduce_port::Step;
 use tree_handles::{Handle, NumberFault, undefined};
-
-/// What a step on a product made of it.
-#[derive(Drop)]
-pub enum Joining {
-    /// A reduced tree.
-    Done(Handle),
-    /// The product with two factors of one base as one power, and the place of that power among
-    /// its factors, counted from 0. It alone is not reduced yet.
-    Joined { product: Handle, at: u16 },
-}
 
 /// One step on a product of reduced factors: the reduced tree, or the product with the first factor
 /// that has a partner joined with the first of its partners.
@@ -84,54 +72,8 @@ pub fn product_step(pool: &mut Pool, product: Handle) -> Result<Step, NumberFaul
 
     ensures stands { Stands pool.new }
 {
-    match joining_step(pool, product)? {
-        Joining::Done(reduced) => Ok(Step::Done(reduced)),
-        Joining::Joined { product, .. } => Ok(Step::Again(product)),
-    }
-}
-
-/// The same step, with the place of the joint.
-pub fn joining_step(pool: &mut Pool, product: Handle) -> Result<Joining, NumberFault>
-    requires stands { Stands pool.old }
-    requires handed { IsHanded product (forest pool.old) }
-    requires product { is_mult (tree_of product pool.old) ≡ true }
-    requires some { 1 ≤ count (children_of (tree_of product pool.old)) }
-    requires reduced { are_reduced (children_of (tree_of product pool.old)) ≡ true }
-    ensures done { IfOk result (λ s. IfFinished s (λ h. Gives (without_root product (forest pool.old)) (forest pool.new) h
-        (IsFinished (children_of (tree_of product pool.old))))) }
-    ensures joined { IfOk result (λ s. IfJoined s (λ h _. Gives (without_root product (forest pool.old)) (forest pool.new) h
-        (IsJoined (children_of (tree_of product pool.old))))) }
-    ensures place { IfOk result (λ s. IfJoined s (λ h at. IsJointAt at (children_of (tree_of h pool.new)))) }
-    ensures of_first_pair { IfOk result (λ s. IfJoined s (λ h at.
-        IsFirstJoint at (others_in (opened (children_of (tree_of product pool.old)))) (children_of (tree_of h pool.new)))) }
-    ensures rationals { are_rationals (children_of (tree_of product pool.old)) ≡ true
-        → AnswersRationalFactors (plain_value (tree_of product pool.old)) pool.new result }
-    ensures overflow { IfErr result (OfOverflow (IsFactorMisfit (children_of (tree_of product pool.old)))) }
-    ensures defined { IfErr result (OfOverflow (λ o. has_undef (children_of (tree_of product pool.old)) ≡ false)) }
-    ensures front { KeepsFront (product ∷ []) (forest pool.old) (forest pool.new) }
-    ensures kept { OnOk result (KeepsRefusals pool.old pool.new) }
-    ensures faults { IfErr result (Faults pool.old pool.new) }
-    ensures caused { IfErr result (IsCaused pool.new) }
-
-    // Bytes are lacking only where fewer are free or in the product than the step needs, for each choice of radicands.
-    ensures room { let t = tree_of product pool.old in (gs : List ℕ) → SpansTree gs t
-        → IfErr result (LacksBelow (product_step_room (product_count (children_of t)) (2 ^ length gs)) (free_of pool.old + size t)) }
-
-    // A reduced tree counts no more than the product, and has no new powers. What spans the product spans what it becomes.
-    ensures counted { IfOk result (λ s. IfFinished s (λ h. counted (tree_of h pool.new) ≤ counted (tree_of product pool.old))) }
-    ensures powers { IfOk result (λ s. IfFinished s (λ h. HasPowersOf (children_of (tree_of product pool.old)) (tree_of h pool.new))) }
-    ensures spanned { (gs : List ℕ) → SpansTree gs (tree_of product pool.old) → IfOk result (λ s. IfGathered s (λ h. SpansTree gs (tree_of h pool.new))) }
-
-    // What holds the factors one by one holds a reduced tree, as a factor. Nothing overflows where these bits are few.
-    ensures held { (h l : ℕ) → has_undef (children_of (tree_of product pool.old)) ≡ false → AreFactorsHeld (children_of (tree_of product pool.old)) h l
-        → IfOk result (λ s. IfFinished s (λ r. IsFactorHeld (tree_of r pool.new) h l)) }
-    ensures bits { (h l : ℕ) → AreFactorsHeld (children_of (tree_of product pool.old)) h l → 2 * h + 4 * l ≤ 124
-        → IfErr result (OfOverflow (λ o. ⊥)) }
-
-    ensures stands { Stands pool.new }
-{
     if has_undef_factor(pool, &product) {
-        return Ok(Joining::Done(undefined(pool, product)));
+        return Ok(Step::Done(undefined(pool, product)));
     }
     open_products(pool, &product);
     let coefficient = take_coefficient(pool, &product)?;
@@ -139,24 +81,18 @@ pub fn joining_step(pool: &mut Pool, product: Handle) -> Result<Joining, NumberF
 }
 
 /// A step on a coefficient and the other factors.
-fn join_or_end(
-    pool: &mut Pool,
-    product: Handle,
-    coefficient: Handle,
-) -> Result<Joining, NumberFault>
+fn join_or_end(pool: &mut Pool, product: Handle, coefficient: Handle) -> Result<Step, NumberFault>
     requires stands { Stands pool.old }
     requires product { IsProduct product (forest pool.old) (factors_in product (forest pool.old)) }
     requires others { AreOthers (factors_in product (forest pool.old)) }
     requires coefficient { IsHanded coefficient (forest pool.old) }
     requires number { is_number (tree_of coefficient pool.old) ≡ true }
     requires apart { (coefficient == product) ≡ false }
-    ensures done { IfOk result (λ s. IfFinished s (λ h. Gives (without_root product (without_root coefficient (forest pool.old))) (forest pool.new) h
+    ensures done { IfOk result (λ s. IfDone s (λ h. Gives (without_root product (without_root coefficient (forest pool.old))) (forest pool.new) h
         (IsStop (tree_of coefficient pool.old) (factors_in product (forest pool.old))))) }
-    ensures joined { IfOk result (λ s. IfJoined s (λ h _. Gives (without_root product (without_root coefficient (forest pool.old))) (forest pool.new) h
+    ensures again { IfOk result (λ s. IfAgain s (λ h. Gives (without_root product (without_root coefficient (forest pool.old))) (forest pool.new) h
         (IsRejoined (tree_of coefficient pool.old) (factors_in product (forest pool.old))))) }
-    ensures place { IfOk result (λ s. IfJoined s (λ h at. IsJointAt at (children_of (tree_of h pool.new)))) }
-    ensures of_first_pair { IfOk result (λ s. IfJoined s (λ h at. IsFirstJoint at (factors_in product (forest pool.old)) (children_of (tree_of h pool.new)))) }
-    ensures alone { factors_in product (forest pool.old) ≡ none → IsAnswered (tree_of coefficient pool.old) pool.new result }
+    ensures alone { factors_in product (forest pool.old) ≡ none → IfErr result (λ f. ⊥) }
     ensures overflow { IfErr result (OfOverflow (SpreadingOverflows (tree_of coefficient pool.old) (factors_in product (forest pool.old)))) }
     ensures front { KeepsFront (product ∷ coefficient ∷ []) (forest pool.old) (forest pool.new) }
     ensures kept { OnOk result (KeepsRefusals pool.old pool.new) }
@@ -169,13 +105,13 @@ fn join_or_end(
     ensures stands { Stands pool.new }
 {
     if is_zero(pool, coefficient.id()) {
-        return Ok(Joining::Done(alone(pool, product, coefficient)));
+        return Ok(Step::Done(alone(pool, product, coefficient)));
     }
     match first_pair(pool, &product) {
         Some((first, second)) => {
-            let (product, at) = joined(pool, product, coefficient, first, second)?;
-            Ok(Joining::Joined { product, at })
+            let joined = joined(pool, product, coefficient, first, second)?;
+            Ok(Step::Again(joined))
         }
-        None => Ok(Joining::Done(sorted(pool, product, coefficient)?)),
+        None => Ok(Step::Done(sorted(pool, product, coefficient)?)),
     }
 }

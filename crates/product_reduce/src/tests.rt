@@ -14,12 +14,13 @@ ghost use Rattle.tree_handles.specs.Expressions.{children_of};
 ghost use Rattle.tree_handles.specs.Handed.{IsHanded, Gives};
 ghost use Rattle.tree_handles.specs.Standing.{Stands, forest};
 
-use super::{Joining, joining_step};
+use super::{Joining, gather_factors, product_step};
 use calc_terms::{Kind, Name, Rat};
 use coefficients::put_coefficient;
 use node_order::compare;
 use node_pool::Pool;
 use number_forms::add_numbers;
+use reduce_port::Step;
 use std::alloc::{AllocError, Global};
 use std::cmp::Ordering;
 use std::test::Fail;
@@ -230,17 +231,30 @@ fn product(pool: &mut Pool, pieces: &[Piece]) -> Result<Handle, NumberFault>
     Ok(product)
 }
 
-/// The step on a product of pieces: the place of the joint, 255 where there is none, and the tree.
-fn stepped(pool: &mut Pool, pieces: &[Piece]) -> Result<(u16, Handle), NumberFault>
+/// The step on a product of pieces: whether two of them were joined, and the tree.
+fn stepped(pool: &mut Pool, pieces: &[Piece]) -> Result<(bool, Handle), NumberFault>
     requires stands { Stands pool.old }
     requires some { 1 ≤ length pieces.now }
     ensures ok { IfOk result (λ r. IsHanded r.1 (forest pool.new)) }
     ensures stands { Stands pool.new }
 {
     let tree = product(pool, pieces)?;
-    match joining_step(pool, tree)? {
-        Joining::Done(answer) => Ok((255, answer)),
-        Joining::Joined { product, at } => Ok((at, product)),
+    match product_step(pool, tree)? {
+        Step::Done(answer) => Ok((false, answer)),
+        Step::Again(answer) => Ok((true, answer)),
+    }
+}
+
+/// The place of the first pair of neighbours where a product of pieces is gathered.
+fn pair_place(pool: &mut Pool, pieces: &[Piece]) -> Result<Option<u16>, NumberFault>
+    requires stands { Stands pool.old }
+    requires some { 1 ≤ length pieces.now }
+    ensures { Stands pool.new }
+{
+    let tree = product(pool, pieces)?;
+    match gather_factors(pool, tree)? {
+        Joining::Done(_) => Ok(None),
+        Joining::Joined { at, .. } => Ok(Some(at)),
     }
 }
 
@@ -325,19 +339,16 @@ fn wanted(pool: &mut Pool, form: Form) -> Result<Handle, NumberFault>
     }
 }
 
-/// The place of the joint in the answer, 255 where there is none, and 256 where the answer is
-/// another tree than expected.
-fn place(pool: &mut Pool, pieces: &[Piece], form: Form) -> Result<u16, NumberFault>
+/// Whether the step on a product of pieces joins two of them, or none, and its answer is the wanted one.
+fn gives(pool: &mut Pool, pieces: &[Piece], joins: bool, form: Form) -> Result<bool, NumberFault>
     requires stands { Stands pool.old }
     requires some { 1 ≤ length pieces.now }
     ensures { Stands pool.new }
 {
-    let (place, answer) = stepped(pool, pieces)?;
+    let (joined, answer) = stepped(pool, pieces)?;
     let wanted = wanted(pool, form)?;
-    match compare(pool, answer.id(), wanted.id()) {
-        Ordering::Equal => Ok(place),
-        _ => Ok(256),
-    }
+    let same = matches!(compare(pool, answer.id(), wanted.id()), Ordering::Equal);
+    Ok(same && joined == joins)
 }
 
 const X: Piece = Piece::Letter(b'x');
@@ -365,7 +376,8 @@ fn equal_bases_are_joined(rt: HostRuntime) -> Result<(), Fail> {
     ];
     for (factors, at, form) in rows {
         let mut pool = opened(rt.alloc(), 1024)?;
-        assert_eq!(rt; place(&mut pool, factors, form)?, at, "{factors:?}");
+        assert!(rt; gives(&mut pool, factors, true, form)?, "{factors:?}");
+        assert_eq!(rt; pair_place(&mut pool, factors)?, Some(at), "{factors:?}");
     }
     Ok(())
 }
@@ -407,7 +419,7 @@ fn a_coefficient_stands_in_front(rt: HostRuntime) -> Result<(), Fail> {
     ];
     for (factors, form) in rows {
         let mut pool = opened(rt.alloc(), 1024)?;
-        assert_eq!(rt; place(&mut pool, factors, form)?, 255, "{factors:?}");
+        assert!(rt; gives(&mut pool, factors, false, form)?, "{factors:?}");
     }
     Ok(())
 }
@@ -426,7 +438,7 @@ fn other_bases_are_sorted(rt: HostRuntime) -> Result<(), Fail> {
     ];
     for (factors, form) in rows {
         let mut pool = opened(rt.alloc(), 1024)?;
-        assert_eq!(rt; place(&mut pool, factors, form)?, 255, "{factors:?}");
+        assert!(rt; gives(&mut pool, factors, false, form)?, "{factors:?}");
     }
     Ok(())
 }

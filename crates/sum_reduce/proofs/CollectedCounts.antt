@@ -1,7 +1,9 @@
 -- The terms of a sum are collected to terms that count no more.
 use Rattle.std.proofs.Common.{◌≡◌, ℕ, suc, ◌+◌, ◌≤◌, max, Bool, true, false, not, if◌then◌else◌, refl, sym, ap, ◌∙◌, subst, arith}
-use Rattle.sum_reduce.proofs.Shared.{permuted_parts, first_parts, last_parts, Fraction, times, zero_fraction, is_zero_fraction, is_one_fraction, no_zero, Tree, num, symbol, undef, add, mult, power, root, neg, sub, div, Trees, none, more, append, count, is_add, AllParts, AllPartsOf, IsNumber, IsTerm, is_number, is_radicand, HasForm, NoneIs, part_of, product_tree, split, split_product, num_one, is_whole_num, Permuted, permuted_none, permuted_more, permuted_swap, permuted_trans, number_test, number_words, counted, counted_among, factors_of, spliced, rational_before, with_coefficient, IsMonic, mapped, rational_times_term, monic_sum, product_form_of, put_formed, taken, monic_parts, number_parts, parts_defined, parts_reduced, IsFactor, not_one_is, scaled, multiple, AreLike, Collects, collects_opened, collects_ordered, collects_numbers, collects_like, collects_then, terms_of_loose, opened, terms_of_number, sum_tree, leads_number, written_tree}
-use Rattle.calc_room.proofs.TreeBytes.{counted_number, counted_other, none_counted, number_counts, term_counts}
+use Rattle.sum_reduce.proofs.Shared.{permuted_parts, first_parts, last_parts, Fraction, times, zero_fraction, is_zero_fraction, is_one_fraction, no_zero, Tree, num, add, mult, root, Trees, none, more, append, count, is_add, AllParts, AllPartsOf, IsNumber, IsTerm, is_number, HasForm, NoneIs, Permuted, permuted_none, permuted_more, permuted_swap, permuted_trans, number_test, number_words, counted, counted_among, factors_of, spliced, rational_before, with_coefficient, IsMonic, mapped, rational_times_term, monic_sum, put_formed, taken, monic_parts, number_parts, parts_defined, parts_reduced, IsFactor, not_one_is, scaled, multiple, AreLike, Collects, collects_opened, collects_ordered, collects_numbers, collects_like, collects_then, terms_of_loose, opened, terms_of_number, sum_tree, leads_number, written_tree}
+use Rattle.calc_room.proofs.TreeBytes.{counted_number, none_counted, number_counts, term_counts}
+use Rattle.tree_room.proofs.Coefficients.{part_counts}
+use Rattle.tree_room.proofs.Counts.{counts_one, at_most_itself, appended}
 use Rattle.sum_reduce.proofs.CollectedParts.{opened_parts}
 use Rattle.sum_reduce.proofs.Rearranged.{of_lists}
 
@@ -10,70 +12,13 @@ abbrev pub counted_in : Tree → ℕ
 counted_in t = if is_number t then 0 else counted t
 
 counted_at_most : (t : Tree) → counted_in t ≤ counted t
-counted_at_most t = by (is_number t)
-  where
-    by : (b : Bool) → (if b then 0 else counted t) ≤ counted t
-    by true = omega arith
-    by false = omega arith
+counted_at_most t = omega (arith, at_most_itself t none)
 
 number_free : (t : Tree) → is_number t ≡ true → counted_in t ≡ 0
 number_free t e = ap (λ (b : Bool). if b then 0 else counted t) e
 
 other_counts : (t : Tree) → is_number t ≡ false → counted_in t ≡ counted t
 other_counts t e = ap (λ (b : Bool). if b then 0 else counted t) e
-
-counted_some : (t : Tree) → 1 ≤ counted t
-counted_some (num q) = omega arith
-counted_some (symbol x) = omega arith
-counted_some undef = omega arith
-counted_some (add ts) = omega arith
-counted_some (mult ts) = omega arith
-counted_some (power b e) = by (is_whole_num e) (counted_some b)
-  where
-    by : (x : Bool) → 1 ≤ counted b → 1 ≤ (if x then counted b else suc (counted b + counted e))
-    by true h = h
-    by false h = omega arith
-counted_some (root (num q)) = omega arith
-counted_some (root a) = omega arith
-counted_some (neg a) = omega arith
-counted_some (sub a b) = omega arith
-counted_some (div a b) = omega arith
-
-counted_append : (ts us : Trees) → counted_among (append ts us) ≡ counted_among ts + counted_among us
-counted_append none us = omega arith
-counted_append (more t ts) us = omega (arith, counted_append ts us)
-
--- ---- the part of a term
-
-product_counted : (ts : Trees) → NoneIs is_number ts → counted (product_tree ts) ≡ max 1 (counted_among ts)
-product_counted none h = omega arith
-product_counted (more t none) h = omega (arith, counted_other t none h.0, counted_some t)
-product_counted (more t (more u ts)) h = refl
-
--- a coefficient is free
-split_counted : (ts : Trees) → counted_among ts ≡ counted_among (split_product ts).factors
-unfolding is_number
-split_counted (more (num q) (more (root (num r)) ts)) = counted_number (num q) (more (root (num r)) ts) refl ∙ by (is_radicand r) refl
-  where
-    by : (b : Bool) → is_radicand r ≡ b → counted_among (more (root (num r)) ts) ≡ counted_among (if b then split (mult (more (num q) (more (root (num r)) none))) ts else split (num q) (more (root (num r)) ts)).factors
-    by true e = counted_number (root (num r)) ts e
-    by false e = refl
-split_counted (more (num q) ts) = counted_number (num q) ts refl
-split_counted (more (root (num r)) ts) = by (is_radicand r) refl
-  where
-    by : (b : Bool) → is_radicand r ≡ b → counted_among (more (root (num r)) ts) ≡ counted_among (if b then split (root (num r)) ts else split num_one (more (root (num r)) ts)).factors
-    by true e = counted_number (root (num r)) ts e
-    by false e = refl
-split_counted (more (add us) ts) = by (is_number (add us)) refl
-  where
-    by : (b : Bool) → is_number (add us) ≡ b → counted_among (more (add us) ts) ≡ counted_among (if b then split (add us) ts else split num_one (more (add us) ts)).factors
-    by true e = counted_number (add us) ts e
-    by false e = refl
-split_counted ts = refl
-
-part_counted : (t : Tree) → AllParts HasForm t → is_number t ≡ false → counted t ≡ counted (part_of t)
-part_counted (mult ts) h n = ap (max 1) (split_counted ts) ∙ sym (product_counted (split_product ts).factors (product_form_of ts h n).no_number)
-part_counted t h n = refl
 
 -- ---- put together again
 
@@ -98,7 +43,7 @@ times_counted q t f h a = by (is_number t) refl
     by true e = number t (number_words t e) a ∙ sym (number_free t e)
     by false e =
         let m = multiple q f t h e a in
-        other_counts _ m.no_number ∙ part_counted _ m.formed m.no_number ∙ ap counted m.part ∙ sym (part_counted t h e) ∙ sym (other_counts t e)
+        other_counts _ m.no_number ∙ sym (part_counts (rational_times_term q t)) ∙ ap counted m.part ∙ part_counts t ∙ sym (other_counts t e)
 
 mapped_counted : (q : Fraction) (ts : Trees) → IsFactor q → AllPartsOf HasForm ts → NoneIs is_add ts → counted_among (mapped (rational_times_term q) ts) ≡ counted_among ts
 mapped_counted q none f h a = refl
@@ -106,7 +51,7 @@ mapped_counted q (more t ts) f h a = λ i. times_counted q t f h.0 a.0 i + mappe
 
 factors_counted : (p : Tree) → max 1 (counted_among (factors_of p)) ≤ counted p
 factors_counted (mult ts) = omega arith
-factors_counted p = omega (arith, counted_at_most p, counted_some p)
+factors_counted p = omega (arith, counted_at_most p, counts_one p)
 
 number_factors : (c : Tree) → IsNumber c → counted_among (factors_of c) ≡ 0
 number_factors (num q) h = counted_number (num q) none (number_test (num q) tt)
@@ -116,7 +61,7 @@ number_factors (mult (more (num q) (more (root (num r)) none))) h = counted_numb
 number_factors c h = absurd h
 
 spliced_counted : (c p : Tree) → IsNumber c → counted (spliced c p) ≤ counted p
-spliced_counted c p h = omega (arith, counted_append (factors_of c) (factors_of p), number_factors c h, factors_counted p)
+spliced_counted c p h = omega (arith, appended (factors_of c) (factors_of p), number_factors c h, factors_counted p)
 
 before_counted : (q : Fraction) (p : Tree) → IsFactor q → IsMonic p → counted (rational_before q p) ≤ counted p
 before_counted q (add ts) f m = omega (arith, mapped_counted q ts f (monic_parts (add ts) m).1 (monic_sum ts m).no_sum)
@@ -126,7 +71,7 @@ pub put_counted : (c p : Tree) → IsNumber c → IsMonic p → counted_in (with
 put_counted (num q) p h m = by (is_zero_fraction q) (is_one_fraction q) refl refl
   where
     by : (x y : Bool) → is_zero_fraction q ≡ x → is_one_fraction q ≡ y → counted_in (if x then num zero_fraction else (if y then p else rational_before q p)) ≤ counted p
-    by true y e g = omega (arith, counted_at_most (num zero_fraction), counted_some p)
+    by true y e g = omega (arith, counted_at_most (num zero_fraction), counts_one p)
     by false true e g = counted_at_most p
     by false false e g =
         let f : IsFactor q = record { not_zero = no_zero q (ap not e); not_one = not_one_is q g } in
@@ -148,7 +93,7 @@ loose_counted t = alone (counted_in t)
 
 opened_counted : (ts : Trees) → counted_among (opened ts) ≤ counted_among ts
 opened_counted none = omega arith
-opened_counted (more t ts) = omega (arith, counted_append (terms_of_loose t) (opened ts), loose_counted t, opened_counted ts)
+opened_counted (more t ts) = omega (arith, appended (terms_of_loose t) (opened ts), loose_counted t, opened_counted ts)
 
 permuted_counted : {ts us : Trees} → Permuted ts us → counted_among us ≡ counted_among ts
 permuted_counted permuted_none = refl
@@ -160,9 +105,9 @@ pub like_monic : (us : Trees) (p : Tree) → 2 ≤ count us → AreLike p us →
 like_monic none p l a h = absurd (omega arith)
 like_monic (more t us) p l a h = subst IsMonic a.1 (taken t (parts_reduced t h.0) (parts_defined t h.0) a.0).monic
 
-like_counted : (us : Trees) (p : Tree) → 2 ≤ count us → AreLike p us → AllPartsOf HasForm us → counted p ≤ counted_among us
-like_counted none p l a h = absurd (omega arith)
-like_counted (more t us) p l a h = omega (arith, other_counts t a.0, part_counted t h.0 a.0, ap counted a.1)
+like_counted : (us : Trees) (p : Tree) → 2 ≤ count us → AreLike p us → counted p ≤ counted_among us
+like_counted none p l a = absurd (omega arith)
+like_counted (more t us) p l a = omega (arith, other_counts t a.0, part_counts t, ap counted a.1)
 
 -- terms stay in their form
 pub collected_formed : {ts us : Trees} → Collects ts us → AllPartsOf HasForm ts → AllPartsOf HasForm us
@@ -180,7 +125,7 @@ collected_counts (collects_ordered {ts} {us} k) h = omega (arith, permuted_count
 collected_counts (collects_numbers {ts} {a} {b} {n} x y k) h = omega (arith, counted_number n ts k.number, counted_number b ts y, counted_number a (more b ts) x)
 collected_counts (collects_like {ts} us c p l a k) h =
     let like = first_parts HasForm us ts h in
-    omega (arith, put_counted c p (number_words c k.number) (like_monic us p l a like), like_counted us p l a like, counted_append us ts)
+    omega (arith, put_counted c p (number_words c k.number) (like_monic us p l a like), like_counted us p l a, appended us ts)
 collected_counts (collects_then {ts} {us} {vs} k l) h = omega (arith, collected_counts k h, collected_counts l (collected_formed k h))
 
 -- ---- the tree of terms
@@ -219,5 +164,5 @@ written_counted (more t ts) = by (leads_number (more t ts)) refl
     by : (b : Bool) → leads_number (more t ts) ≡ b → counted (if b then sum_tree (append (terms_of_number t) ts) else sum_tree (more t ts)) ≤ suc (counted_among (more t ts))
     by true e =
         let n = led_number t ts e in
-        omega (arith, sum_tree_counted (append (terms_of_number t) ts), counted_append (terms_of_number t) ts, number_terms_counted t (number_words t n), counted_number t ts n)
+        omega (arith, sum_tree_counted (append (terms_of_number t) ts), appended (terms_of_number t) ts, number_terms_counted t (number_words t n), counted_number t ts n)
     by false e = sum_tree_counted (more t ts)

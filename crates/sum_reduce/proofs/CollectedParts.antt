@@ -1,7 +1,8 @@
 -- What holds of each part of the terms of a sum holds of each part of what they are collected to.
 use Rattle.std.proofs.Common.{◌≡◌, ◌≤◌, ◌++◌, Bool, true, false, if◌then◌else◌, subst, arith}
-use Rattle.sum_reduce.proofs.Shared.{Fraction, zero_fraction, one_fraction, is_zero_fraction, Tree, num, add, mult, root, Trees, none, more, append, count, AllParts, AllPartsOf, is_number, is_radicand, value, part_of, split, split_product, num_one, coefficient_of, AllPartsOf-append, IsNumberOf, permuted_parts, first_parts, last_parts, product_tree_parts, with_parts, AreLike, sum_of_coefficients, Collects, collects_opened, collects_ordered, collects_numbers, collects_like, collects_then, terms_of_loose, opened, terms_of_number, sum_tree, leads_number, written_tree}
+use Rattle.sum_reduce.proofs.Shared.{Fraction, zero_fraction, one_fraction, is_zero_fraction, Tree, num, add, mult, root, Trees, none, more, append, count, AllParts, AllPartsOf, is_number, value, part_of, split_product, coefficient_of, AllPartsOf-append, IsNumberOf, permuted_parts, first_parts, last_parts, product_tree_parts, with_parts, AreLike, sum_of_coefficients, Collects, collects_opened, collects_ordered, collects_numbers, collects_like, collects_then, terms_of_loose, opened, terms_of_number, sum_tree, leads_number, written_tree}
 use Rattle.sum_reduce.proofs.Rearranged.{of_lists}
+use Rattle.sum_reduce.proofs.Splits.{split_cases}
 
 -- ---- terms that are opened, change places, or stand before others
 
@@ -24,24 +25,9 @@ module _ (P : Tree → Type 0)
   -- ---- a coefficient and a part
 
   split_parts : (ts : Trees) → AllPartsOf P ts → AllParts P (split_product ts).coefficient × AllPartsOf P (split_product ts).factors
-  split_parts (more (num q) (more (root (num r)) ts)) (h, (k, hs)) = by (is_radicand r)
-    where
-      by : (b : Bool) → AllParts P (if b then split (mult (more (num q) (more (root (num r)) none))) ts else split (num q) (more (root (num r)) ts)).coefficient
-          × AllPartsOf P (if b then split (mult (more (num q) (more (root (num r)) none))) ts else split (num q) (more (root (num r)) ts)).factors
-      by true = ((of_mult (more (num q) (more (root (num r)) none)), (h, (k, tt))), hs)
-      by false = (h, (k, hs))
-  split_parts (more (num q) ts) (h, hs) = (h, hs)
-  split_parts (more (root (num r)) ts) (h, hs) = by (is_radicand r)
-    where
-      by : (b : Bool) → AllParts P (if b then split (root (num r)) ts else split num_one (more (root (num r)) ts)).coefficient × AllPartsOf P (if b then split (root (num r)) ts else split num_one (more (root (num r)) ts)).factors
-      by true = (h, hs)
-      by false = (of_num one_fraction, (h, hs))
-  split_parts (more (add us) ts) (h, hs) = by (is_number (add us))
-    where
-      by : (b : Bool) → AllParts P (if b then split (add us) ts else split num_one (more (add us) ts)).coefficient × AllPartsOf P (if b then split (add us) ts else split num_one (more (add us) ts)).factors
-      by true = (h, hs)
-      by false = (of_num one_fraction, (h, hs))
-  split_parts ts h = (of_num one_fraction, h)
+  split_parts ts =
+      split_cases (λ ts c us. AllPartsOf P ts → AllParts P c × AllPartsOf P us) (λ ts h. (of_num one_fraction, h)) (λ t ts n h. (h.0, h.1))
+      (λ q r ts e h. ((of_mult (more (num q) (more (root (num r)) none)), (h.0, (h.1.0, tt))), h.1.1)) ts
 
   pub part_parts : (t : Tree) → AllParts P t → AllParts P (part_of t)
   part_parts (mult ts) h = product_tree_parts P of_num of_add of_mult (split_product ts).factors (split_parts ts h.1).1

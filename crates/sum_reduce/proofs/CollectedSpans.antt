@@ -1,27 +1,14 @@
 -- What spans the terms of a sum spans what they are collected to.
-use Rattle.std.proofs.Common.{◌≡◌, ℕ, List, Bool, true, false, if◌then◌else◌, refl}
-use Rattle.sum_reduce.proofs.Shared.{Tree, num, add, mult, root, Trees, none, more, is_add, is_number, is_radicand, value, split, split_product, num_one, number_words, term_words, Spans, SpansRoot, SpansTree, SpansTrees, coefficient_of, IsNumberOf, sum_spans, children_of, sum_of_coefficients, Collects, written_tree}
+use Rattle.std.proofs.Common.{◌≡◌, ℕ, List, true}
+use Rattle.sum_reduce.proofs.Shared.{Tree, num, add, mult, root, Trees, none, more, is_add, value, split_product, num_one, number_words, term_words, Spans, SpansRoot, SpansTree, SpansTrees, coefficient_of, IsNumberOf, sum_spans, children_of, sum_of_coefficients, Collects, written_tree}
 use Rattle.calc_room.proofs.NumberSpans.{spans_append, spans_same, term_spanned, tree_spanned, value_spanned}
 use Rattle.sum_reduce.proofs.CollectedParts.{collected_parts, written_parts}
+use Rattle.sum_reduce.proofs.Splits.{split_cases}
 
 split_spans : (gs : List ℕ) (ts : Trees) → SpansTrees gs ts → Spans gs (value (split_product ts).coefficient)
-split_spans gs (more (num q) (more (root (num r)) ts)) (h, (k, hs)) = by (is_radicand r) refl
-  where
-    by : (b : Bool) → is_radicand r ≡ b → Spans gs (value (if b then split (mult (more (num q) (more (root (num r)) none))) ts else split (num q) (more (root (num r)) ts)).coefficient)
-    by true e = (term_spanned gs (root (num r)) (term_words (root (num r)) e) k, tt)
-    by false e = value_spanned gs (num q) tt tt
-split_spans gs (more (num q) ts) h = value_spanned gs (num q) tt tt
-split_spans gs (more (root (num r)) ts) (h, hs) = by (is_radicand r) refl
-  where
-    by : (b : Bool) → is_radicand r ≡ b → Spans gs (value (if b then split (root (num r)) ts else split num_one (more (root (num r)) ts)).coefficient)
-    by true e = (term_spanned gs (root (num r)) (term_words (root (num r)) e) h, tt)
-    by false e = value_spanned gs num_one tt tt
-split_spans gs (more (add us) ts) (h, hs) = by (is_number (add us)) refl
-  where
-    by : (b : Bool) → is_number (add us) ≡ b → Spans gs (value (if b then split (add us) ts else split num_one (more (add us) ts)).coefficient)
-    by true e = value_spanned gs (add us) (number_words (add us) e) h
-    by false e = value_spanned gs num_one tt tt
-split_spans gs ts h = value_spanned gs num_one tt tt
+split_spans gs ts =
+    split_cases (λ ts c us. SpansTrees gs ts → Spans gs (value c)) (λ ts h. value_spanned gs num_one tt tt) (λ t ts n h. value_spanned gs t (number_words t n) h.0)
+    (λ q r ts e h. (term_spanned gs (root (num r)) (term_words (root (num r)) e) h.1.0, tt)) ts
 
 coefficient_spans : (gs : List ℕ) (t : Tree) → SpansTree gs t → Spans gs (value (coefficient_of t))
 coefficient_spans gs (mult ts) h = split_spans gs ts h.1

@@ -5,7 +5,8 @@ use Rattle.sum_reduce.proofs.Addends.{term_addends}
 use Rattle.sum_reduce.proofs.Held.{held_behind, held_equal, held_permuted, few_after, few_of_both}
 use Rattle.sum_reduce.proofs.Joins.{partners, tight_other}
 use Rattle.sum_reduce.proofs.Places.{nth_behind_removed, taken_permuted}
-use Rattle.sum_reduce.proofs.Stages.{formed_permuted, none_permuted}
+use Rattle.sum_reduce.proofs.Rearranged.{none_permuted}
+use Rattle.sum_reduce.proofs.Stages.{formed_permuted}
 
 pub next_partner_few : (ts : Trees) (c : Tree) (us : Trees) (at less : ℕ) → IsJoining ts c (nth at us) (removed at us) less → IsPairAt is_partner at us → HaveFewBits (addends_of_each ts) → HasFewBits (value c ++ value (coefficient_of (nth (suc at) us)))
 next_partner_few ts c us at less j h b =

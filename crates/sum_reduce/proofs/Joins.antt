@@ -11,7 +11,8 @@ use Rattle.sum_reduce.proofs.Names.{names_of_part}
 use Rattle.sum_reduce.proofs.Nests.{nest_of_part}
 use Rattle.sum_reduce.proofs.Places.{taken_permuted, inserted_permuted, count_inserted, nth_inserted, nth_behind_inserted, removed_inserted, nth_removed, nth_behind_removed, removed_two}
 use Rattle.sum_reduce.proofs.Rearranged.{of_lists, to_lists, tight_opened, others_permuted, unlike_permuted}
-use Rattle.sum_reduce.proofs.Stages.{none_permuted, formed_permuted, stage_after, stage_permuted}
+use Rattle.sum_reduce.proofs.Rearranged.{none_permuted}
+use Rattle.sum_reduce.proofs.Stages.{formed_permuted, stage_after, stage_permuted}
 use Rattle.sum_reduce.proofs.Widths.{widths_permuted, width_other, coefficient_width}
 
 -- ---- what partners are
@@ -263,7 +264,7 @@ joining_at {ts = ts} {c = c} {p = p} {less = less} us at e q j =
     subst (λ (x : Tree). IsJoining ts c x (removed at us) less) (sym e) (subst (λ (x : Trees). IsJoining ts c p x less) (sym q) j)
 
 -- the coefficient of a term that has a partner
-pub joining_start : (ts us : Trees) (c : Tree) (at : ℕ) → AreFormed ts → NoneIs is_loose ts → IsPairAt is_partner at ts → us ≡ inserted at (more (part_of (nth at ts)) none) (removed at ts) → c ≡ coefficient_of (nth at ts)
+joining_start : (ts us : Trees) (c : Tree) (at : ℕ) → AreFormed ts → NoneIs is_loose ts → IsPairAt is_partner at ts → us ≡ inserted at (more (part_of (nth at ts)) none) (removed at ts) → c ≡ coefficient_of (nth at ts)
     → IsJoining ts c (nth at us) (removed at us) 0
 joining_start ts us c at f s h q e =
     let l : at < count ts = let w = h.within in omega (arith, w) in
@@ -274,7 +275,7 @@ joining_start ts us c at f s h q e =
     (subst (λ (x : Tree). IsJoining ts x (part_of (nth at ts)) (removed at ts) 0) (sym e) j)
 
 -- it stays a pair
-pub pair_start : (ts us : Trees) (at : ℕ) → AreFormed ts → IsPairAt is_partner at ts → us ≡ inserted at (more (part_of (nth at ts)) none) (removed at ts) → IsPairAt is_partner at us
+pair_start : (ts us : Trees) (at : ℕ) → AreFormed ts → IsPairAt is_partner at ts → us ≡ inserted at (more (part_of (nth at ts)) none) (removed at ts) → IsPairAt is_partner at us
 pair_start ts us at f h q =
     let l : at < count ts = let w = h.within in omega (arith, w) in
     let t = nth at ts in
@@ -290,6 +291,14 @@ pair_start ts us at f h q =
       within = omega (arith, ap count q, count_inserted at p (removed at ts), count_removed at ts l, h.within);
       pair = (λ i. is_partner (here i) (next i)) ∙ (λ i. not (numbers i) && not (is_number (nth (suc at) ts)) && is_eq (tree_cmp (parts i) (part_of (nth (suc at) ts)))) ∙ h.pair;
     }
+
+-- the coefficient of a term that has a partner stands beside its part, which has that partner
+pub record IsBegun (ts us : Trees) (c : Tree) (at : ℕ) : Type 0 where
+  pub pair : IsPairAt is_partner at us
+  pub joining : IsJoining ts c (nth at us) (removed at us) 0
+
+pub begins : (ts us : Trees) (c : Tree) (at : ℕ) → AreFormed ts → NoneIs is_loose ts → IsPairAt is_partner at ts → us ≡ inserted at (more (part_of (nth at ts)) none) (removed at ts) → c ≡ coefficient_of (nth at ts) → IsBegun ts us c at
+begins ts us c at f n h q k = record { pair = pair_start ts us at f h q; joining = joining_start ts us c at f n h q k }
 
 -- the next term
 pub record IsNextPartner (at : ℕ) (us : Trees) : Type 0 where

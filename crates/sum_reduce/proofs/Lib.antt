@@ -1,3 +1,4 @@
+pub mod Splits
 pub mod Places
 pub mod Names
 pub mod Nests

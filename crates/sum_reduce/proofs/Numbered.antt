@@ -9,7 +9,8 @@ use Rattle.like_children.specs.Numbers.{numbers_in, others_in, IsNextNumber, NoN
 use Rattle.sum_reduce.proofs.Held.{held_equal, few_after, few_of_both}
 use Rattle.sum_reduce.proofs.Opened.{number_tight}
 use Rattle.sum_reduce.proofs.Places.{taken_permuted}
-use Rattle.sum_reduce.proofs.Stages.{none_permuted, formed_permuted, stage_after, stage_permuted, stage_same, stage_added}
+use Rattle.sum_reduce.proofs.Rearranged.{none_permuted}
+use Rattle.sum_reduce.proofs.Stages.{formed_permuted, stage_after, stage_permuted, stage_same, stage_added}
 use Rattle.sum_reduce.proofs.Sums.{takes_rest}
 use Rattle.tree_handles.specs.declared.fault.NumberFault.TheVariants as fault
 

@@ -1,28 +1,23 @@
 -- Terms no two of which have identical parts have one order, and with a Number they are one tree.
-use Rattle.std.specs.Prelude.{IsSortedByKey}
-use Rattle.std.proofs.Common.{suc, arith, add-one, ◌≡◌, sym, ap, ◌∙◌}
-use Rattle.sum_reduce.proofs.Shared.{none_number, is_lt, is_number, part_of, NoneIs, RisesBy, tree_cmp, Tree, Trees, none, more, append, permuted_trans, Permuted-sym, tree_cmp_total, list_of, IsSorting, others_in, AreUnlike, IsWritten, terms_of_number, sum_tree}
+use Rattle.std.proofs.Common.{◌≡◌, sym, ap, ◌∙◌}
+use Rattle.sum_reduce.proofs.Shared.{none_number, is_number, part_of, NoneIs, RisesBy, Tree, Trees, none, more, append, permuted_trans, Permuted-sym, IsSorting, others_in, AreUnlike, IsWritten, terms_of_number, sum_tree}
 use Rattle.like_children.proofs.OneOrder.{rising_once}
-use Rattle.sum_reduce.proofs.Rearranged.{of_lists, unlike_permuted}
-use Rattle.sum_reduce.proofs.Settled.{apart_parts, less_of}
-use Rattle.sum_reduce.proofs.Stages.{none_permuted}
+use Rattle.sum_reduce.proofs.Rearranged.{none_permuted, of_lists, unlike_permuted}
+use Rattle.sum_reduce.proofs.Settled.{AreApart, rises_strictly}
 
 -- ---- rising strictly
 
-rises_strictly : (us : Trees) → NoneIs is_number us → AreUnlike us → IsSortedByKey part_of tree_cmp (list_of us) → RisesBy part_of us
-rises_strictly none n h s = tt
-rises_strictly (more t none) n h s = tt
-rises_strictly (more t (more u us)) n h s = (
-  less_of (tree_cmp (part_of t) (part_of u)) (apart_parts t u n.0 n.1.0 h.0.0) (ap is_lt (sym (tree_cmp_total.antisymm (part_of u) (part_of t))) ∙ s 0 t (omega arith) (omega arith)),
-  rises_strictly (more u us) n.1 h.1 (λ k d l m. rw add-one (rw add-one at (s (suc k) d (omega arith) (omega arith)))),
-)
+unlike_apart : (us : Trees) → AreUnlike us → AreApart us
+unlike_apart none h = tt
+unlike_apart (more t none) h = tt
+unlike_apart (more t (more u us)) h = (h.0.0, unlike_apart (more u us) h.1)
 
 -- ---- one order
 
 rising_sorted : (ts us : Trees) → NoneIs is_number ts → AreUnlike ts → IsSorting 0 part_of ts us → RisesBy part_of us
 rising_sorted ts us n h a =
     let p = of_lists ts us a.moved in
-    rises_strictly us (none_permuted is_number p n) (unlike_permuted p h) a.rising
+    rises_strictly us (none_permuted is_number p n) (unlike_apart us (unlike_permuted p h)) a.rising
 
 sorted_once : (ts us vs : Trees) → NoneIs is_number ts → AreUnlike ts → IsSorting 0 part_of ts us → IsSorting 0 part_of ts vs → us ≡ vs
 sorted_once ts us vs n h a b =

@@ -5,9 +5,23 @@ use Rattle.sum_reduce.proofs.Shared.{is_eq, ordering_reverse, Ordering, Less, Eq
 use Rattle.std.proofs.lemmas.List.Sorted.{IsPermutation-refl, IsPermutation-cons, IsPermutation-middle, IsPermutation-trans}
 use Rattle.sum_reduce.proofs.Opened.{tight_terms, number_tight}
 
+-- ---- the same terms in another order
+
+pub none_permuted : (p : Tree → Bool) {ts us : Trees} → Permuted ts us → NoneIs p ts → NoneIs p us
+none_permuted p permuted_none h = tt
+none_permuted p (permuted_more k) h = (h.0, none_permuted p k h.1)
+none_permuted p permuted_swap h = (h.1.0, (h.0, h.1.1))
+none_permuted p (permuted_trans k l) h = none_permuted p l (none_permuted p k h)
+
+pub count_permuted : {ts us : Trees} → Permuted ts us → count ts ≡ count us
+count_permuted permuted_none = refl
+count_permuted (permuted_more h) = omega (arith, count_permuted h)
+count_permuted permuted_swap = refl
+count_permuted (permuted_trans h k) = count_permuted h ∙ count_permuted k
+
 -- ---- lists of trees
 
-same_trees : (ts : Trees) → trees_of (list_of ts) ≡ ts
+pub same_trees : (ts : Trees) → trees_of (list_of ts) ≡ ts
 same_trees none = refl
 same_trees (more t ts) = ap (more t) (same_trees ts)
 
@@ -86,16 +100,10 @@ values_agree (permuted_swap {t} {u} {ts}) =
     Agree-trans (Agree-eq (sym (append_assoc b a v))) (Agree-trans (Agree-append (append_comm b a) (Agree-refl v)) (Agree-eq (append_assoc a b v)))
 values_agree (permuted_trans k l) = Agree-trans (values_agree l) (values_agree k)
 
-count_same : {ts us : Trees} → Permuted ts us → count ts ≡ count us
-count_same permuted_none = refl
-count_same (permuted_more h) = omega (arith, count_same h)
-count_same permuted_swap = refl
-count_same (permuted_trans h k) = count_same h ∙ count_same k
-
 -- one at most stays
-few_same : {ts us : Trees} → Permuted ts us → count ts ≤ 1 → us ≡ ts
+pub few_same : {ts us : Trees} → Permuted ts us → count ts ≤ 1 → us ≡ ts
 few_same permuted_none h = refl
-few_same (permuted_more {t} {ts} {us} k) h = ap (more t) (empty us (omega (arith, count_same k, h)) ∙ sym (empty ts (omega (arith, h))))
+few_same (permuted_more {t} {ts} {us} k) h = ap (more t) (empty us (omega (arith, count_permuted k, h)) ∙ sym (empty ts (omega (arith, h))))
   where
     empty : (x : Trees) → count x ≡ 0 → x ≡ none
     empty none e = refl
@@ -121,15 +129,9 @@ partner_turned t u =
     (λ i. and_turned (not (is_number t)) (not (is_number u)) i && is_eq (tree_cmp_total.antisymm (part_of t) (part_of u) i))
     ∙ ap (λ (b : Bool). not (is_number u) && not (is_number t) && b) (turned (tree_cmp (part_of u) (part_of t)))
 
-none_is : (p : Tree → Bool) {ts us : Trees} → Permuted ts us → NoneIs p ts → NoneIs p us
-none_is p permuted_none h = tt
-none_is p (permuted_more k) h = (h.0, none_is p k h.1)
-none_is p permuted_swap h = (h.1.0, (h.0, h.1.1))
-none_is p (permuted_trans k l) h = none_is p l (none_is p k h)
-
 pub unlike_permuted : {ts us : Trees} → Permuted ts us → AreUnlike ts → AreUnlike us
 unlike_permuted permuted_none h = tt
-unlike_permuted (permuted_more {t} k) h = (none_is (is_partner t) k h.0, unlike_permuted k h.1)
+unlike_permuted (permuted_more {t} k) h = (none_permuted (is_partner t) k h.0, unlike_permuted k h.1)
 unlike_permuted (permuted_swap {t} {u} {ts}) h = ((partner_turned u t ∙ h.0.0, h.1.0), (h.0.1, h.1.1))
 unlike_permuted (permuted_trans k l) h = unlike_permuted l (unlike_permuted k h)
 

@@ -48,12 +48,12 @@ pub apart_behind : (t : Tree) (ts : Trees) → AreApart (more t ts) → AreApart
 apart_behind t none h = tt
 apart_behind t (more u ts) h = h.1
 
-pub less_of : (o : Ordering) → is_eq o ≡ false → is_lt (ordering_reverse o) ≡ false → o ≡ Less
+less_of : (o : Ordering) → is_eq o ≡ false → is_lt (ordering_reverse o) ≡ false → o ≡ Less
 less_of Less h k = refl
 less_of Equal h k = cc
 less_of Greater h k = cc
 
-pub apart_parts : (t u : Tree) → is_number t ≡ false → is_number u ≡ false → is_partner t u ≡ false → is_eq (tree_cmp (part_of t) (part_of u)) ≡ false
+apart_parts : (t u : Tree) → is_number t ≡ false → is_number u ≡ false → is_partner t u ≡ false → is_eq (tree_cmp (part_of t) (part_of u)) ≡ false
 apart_parts t u a b h = by (is_number t) (is_number u) a b h
   where
     by : (x y : Bool) → x ≡ false → y ≡ false → (not x && not y && is_eq (tree_cmp (part_of t) (part_of u))) ≡ false → is_eq (tree_cmp (part_of t) (part_of u)) ≡ false
@@ -61,7 +61,7 @@ apart_parts t u a b h = by (is_number t) (is_number u) a b h
     by false true a b h = cc
     by false false a b h = h
 
-rises_strictly : (us : Trees) → NoneIs is_number us → AreApart us → IsSortedByKey part_of tree_cmp (list_of us) → RisesBy part_of us
+pub rises_strictly : (us : Trees) → NoneIs is_number us → AreApart us → IsSortedByKey part_of tree_cmp (list_of us) → RisesBy part_of us
 rises_strictly none n h s = tt
 rises_strictly (more t none) n h s = tt
 rises_strictly (more t (more u us)) n h s = (

@@ -1,8 +1,8 @@
 -- Terms in the order of their parts.
 use Rattle.std.specs.Prelude.{IsSortedByKey}
 use Rattle.std.proofs.Common.{ℕ, zero, suc, ◌<◌, ◌≤◌, arith, ◌≡◌, List, [], ◌∷◌, take, drop, Bool, true, false, refl, sym, ap, ◌∙◌, subst}
-use Rattle.sum_reduce.proofs.Shared.{is_number, part_of, NoneIs, is_reduced, tree_cmp, Tree, Trees, none, more, append, count, Permuted, permuted_none, permuted_more, permuted_swap, permuted_trans, Permuted-append_right, permuted_trees, trees_of, parts_reduced, list_of, IsSorting, SortsChildren, nth, plains, Forest, kids, root_tree, IsLead, IsLed, IsArranged, terms_in, IsSum, AreFormed, is_loose}
-use Rattle.sum_reduce.proofs.Stages.{none_permuted, count_permuted}
+use Rattle.sum_reduce.proofs.Shared.{is_number, part_of, NoneIs, is_reduced, tree_cmp, Tree, Trees, none, more, append, count, Permuted, Permuted-append_right, permuted_trees, trees_of, parts_reduced, list_of, IsSorting, SortsChildren, nth, plains, Forest, kids, root_tree, IsLead, IsLed, IsArranged, terms_in, IsSum, AreFormed, is_loose}
+use Rattle.sum_reduce.proofs.Rearranged.{none_permuted, same_trees}
 use Rattle.sum_reduce.proofs.Sums.{sum_over, changed, IsChanged}
 
 -- ---- terms by their places
@@ -50,10 +50,6 @@ pub none_leads : (ts : Trees) (h : IsLed ts) → is_number (nth 0 ts) ≡ false 
 none_leads ts h e = sym (lead_none h.lead h.others h.one (ap (λ (x : Trees). is_number (nth 0 x)) (sym h.split) ∙ e))
 
 -- ---- lists of trees
-
-same_trees : (ts : Trees) → trees_of (list_of ts) ≡ ts
-same_trees none = refl
-same_trees (more t ts) = ap (more t) (same_trees ts)
 
 same_list : (l : List Tree) → list_of (trees_of l) ≡ l
 same_list [] = refl
@@ -105,17 +101,6 @@ pub led_ordered : (ts us : Trees) (h : IsLed ts) → NoneIs is_loose ts → IsSo
 led_ordered ts us h s x =
     subst (λ (y : Trees). IsOrdered y us) (sym h.split)
     (ordered h.lead h.others us h.one h.no_number (none_behind is_loose h.lead h.others (subst (NoneIs is_loose) h.split s)) (subst (λ (y : Trees). IsSorting (count h.lead) part_of y us) h.split x))
-
--- one term stays
-pub permuted_alone : {ts us : Trees} → Permuted ts us → count ts ≡ 1 → us ≡ ts
-permuted_alone permuted_none h = refl
-permuted_alone (permuted_more {t} {ts} {us} k) h = ap (more t) (empty us (omega (arith, count_permuted k, h)) ∙ sym (empty ts (omega (arith, h))))
-  where
-    empty : (x : Trees) → count x ≡ 0 → x ≡ none
-    empty none e = refl
-    empty (more y x) e = absurd (omega (arith, e))
-permuted_alone permuted_swap h = absurd (omega (arith, h))
-permuted_alone (permuted_trans k l) h = let a = permuted_alone k h in permuted_alone l (ap count a ∙ h) ∙ a
 
 -- ---- the children of a root
 

@@ -1,31 +1,16 @@
 -- From stage to stage of a sum.
 use Rattle.std.proofs.Common.{◌≤◌, ◌≡◌, ◌++◌, Bool, true, false, ◌&&◌, refl, sym, ap, ◌∙◌, arith}
-use Rattle.sum_reduce.proofs.Shared.{and_parts, and_from, is_number, value, are_numbers, NoneIs, Same, Tree, Trees, more, count, names, names_of, Permuted, Permuted-refl, permuted_none, permuted_more, permuted_swap, permuted_trans, permuted_sum, joined_in_sum, number_words, sum_of_numbers, SharesDenominators, number_parts, keeps, Rewrites-trans, collects_opened, collects_ordered, collects_numbers, collects_then, IsStage, AreFormed, opened, no_new_name, within_both, within_trans, within_right, within_none, within_eq, names_permuted, number_names, nest_permuted, nest_number}
+use Rattle.sum_reduce.proofs.Shared.{HasForm, permuted_parts, and_parts, and_from, is_number, value, are_numbers, Same, Tree, Trees, more, count, names, names_of, Permuted, Permuted-refl, permuted_none, permuted_more, permuted_swap, permuted_trans, permuted_sum, joined_in_sum, number_words, sum_of_numbers, SharesDenominators, number_parts, keeps, Rewrites-trans, collects_opened, collects_ordered, collects_numbers, collects_then, IsStage, AreFormed, opened, no_new_name, within_both, within_trans, within_right, within_none, within_eq, names_permuted, number_names, nest_permuted, nest_number}
 use Rattle.sum_reduce.proofs.Held.{held_after, held_permuted}
 use Rattle.sum_reduce.proofs.HeldTerms.{opened_held, added_held}
 use Rattle.sum_reduce.proofs.Opened.{opened_keeps, names_opened, nest_opened, widths_opened, opened_formed, opened_some, opened_numbers, opened_tight}
-use Rattle.sum_reduce.proofs.Rearranged.{to_lists, tight_opened, unlike_after, rearranged_permuted, rearranged_opened, rearranged_after, rearranged_added}
+use Rattle.sum_reduce.proofs.Rearranged.{to_lists, tight_opened, unlike_after, rearranged_permuted, rearranged_opened, rearranged_after, rearranged_added, count_permuted}
 use Rattle.sum_reduce.proofs.Widths.{widths_permuted, width_number}
 
 -- ---- the same terms in another order
 
-pub none_permuted : (p : Tree → Bool) {ts us : Trees} → Permuted ts us → NoneIs p ts → NoneIs p us
-none_permuted p permuted_none h = tt
-none_permuted p (permuted_more k) h = (h.0, none_permuted p k h.1)
-none_permuted p permuted_swap h = (h.1.0, (h.0, h.1.1))
-none_permuted p (permuted_trans k l) h = none_permuted p l (none_permuted p k h)
-
 pub formed_permuted : {ts us : Trees} → Permuted ts us → AreFormed ts → AreFormed us
-formed_permuted permuted_none h = tt
-formed_permuted (permuted_more k) h = (h.0, formed_permuted k h.1)
-formed_permuted permuted_swap h = (h.1.0, (h.0, h.1.1))
-formed_permuted (permuted_trans k l) h = formed_permuted l (formed_permuted k h)
-
-pub count_permuted : {ts us : Trees} → Permuted ts us → count ts ≡ count us
-count_permuted permuted_none = refl
-count_permuted (permuted_more h) = omega (arith, count_permuted h)
-count_permuted permuted_swap = refl
-count_permuted (permuted_trans h k) = count_permuted h ∙ count_permuted k
+formed_permuted k h = permuted_parts HasForm k h
 
 swapped : (a b c : Bool) → (a && (b && c)) ≡ (b && (a && c))
 swapped true true c = refl

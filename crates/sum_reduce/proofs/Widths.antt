@@ -1,6 +1,7 @@
 -- The width of terms.
 use Rattle.std.proofs.Common.{suc, ◌+◌, ◌≤◌, ◌≡◌, ◌≢◌, ◌⊎◌, inl, inr, Bool, true, false, not, if◌then◌else◌, refl, sym, ap, ◌∙◌, subst, arith}
-use Rattle.sum_reduce.proofs.Shared.{Fraction, zero_fraction, is_zero_fraction, is_one_fraction, is_number, is_radicand, IsNumber, IsTerm, split, split_product, product_tree, part_of, num_one, NoneIs, HasForm, Tree, num, add, mult, root, Trees, none, more, append, nodes, nodes_of, is_add, AllParts, AllPartsOf, no_zero, Permuted, permuted_none, permuted_more, permuted_swap, permuted_trans, number_test, IsMonic, with_coefficient, rational_before, mapped, rational_times_term, rational_times_sum, put, zero_or_not, monic_sum, monic_no_number, monic_parts, number_of_term, IsFactor, scaled, not_one_is, EachTerm, each_term, multiple, width, widths}
+use Rattle.sum_reduce.proofs.Shared.{Fraction, zero_fraction, is_zero_fraction, is_one_fraction, is_number, IsNumber, IsTerm, split_product, product_tree, part_of, NoneIs, HasForm, Tree, num, add, mult, root, Trees, none, more, append, nodes, nodes_of, is_add, AllParts, AllPartsOf, no_zero, Permuted, permuted_none, permuted_more, permuted_swap, permuted_trans, number_test, IsMonic, with_coefficient, rational_before, mapped, rational_times_term, rational_times_sum, put, zero_or_not, monic_sum, monic_no_number, monic_parts, number_of_term, IsFactor, scaled, not_one_is, EachTerm, each_term, multiple, width, widths}
+use Rattle.sum_reduce.proofs.Splits.{split_cases}
 
 -- ---- one term
 
@@ -34,23 +35,7 @@ some_node (add ts) = omega arith
 some_node t = omega arith
 
 nodes_of_factors : (ts : Trees) → nodes_of (split_product ts).factors ≤ nodes_of ts
-nodes_of_factors (more (num q) (more (root (num r)) ts)) = by (is_radicand r)
-  where
-    by : (k : Bool) → nodes_of (if k then split (mult (more (num q) (more (root (num r)) none))) ts else split (num q) (more (root (num r)) ts)).factors ≤ nodes_of (more (num q) (more (root (num r)) ts))
-    by true = omega arith
-    by false = omega arith
-nodes_of_factors (more (num q) ts) = omega arith
-nodes_of_factors (more (root (num r)) ts) = by (is_radicand r)
-  where
-    by : (k : Bool) → nodes_of (if k then split (root (num r)) ts else split num_one (more (root (num r)) ts)).factors ≤ nodes_of (more (root (num r)) ts)
-    by true = omega arith
-    by false = omega arith
-nodes_of_factors (more (add us) ts) = by (is_number (add us))
-  where
-    by : (k : Bool) → nodes_of (if k then split (add us) ts else split num_one (more (add us) ts)).factors ≤ nodes_of (more (add us) ts)
-    by true = omega arith
-    by false = omega arith
-nodes_of_factors ts = omega arith
+nodes_of_factors ts = split_cases (λ ts c us. nodes_of us ≤ nodes_of ts) (λ ts. omega arith) (λ t ts n. omega arith) (λ q r ts e. omega arith) ts
 
 nodes_of_product : (ts : Trees) → nodes (product_tree ts) ≤ suc (nodes_of ts)
 nodes_of_product none = omega arith

@@ -9,7 +9,7 @@ add_child-requires c = record {
   within = search rules;
   root = given_root c.in_ok-factor.ensures.given;
   apart = apart c.args.product c.in_ok-factor.factor c.in_ok-factor.ensures.stands (eqb-sym c.in_ok-factor.factor c.args.product (given_apart c.in_ok-factor.ensures.given c.requires.handed))
-        (other_root c.args.product c.in_ok-factor.ensures.ok c.requires.handed.root) (given_root c.in_ok-factor.ensures.given);
+      (other_root c.args.product c.in_ok-factor.ensures.ok c.requires.handed.root) (given_root c.in_ok-factor.ensures.given);
 }
 
 pub move_last-requires-clause-root : goal.move_last-requires-clause-root

@@ -1,9 +1,9 @@
 use Rattle.std.proofs.Common.{ℕ, ◌≡◌, ◌≤◌, ◌^◌, length, ◌∙◌, ap, sym, subst, inl, arith, rules}
-use Rattle.product_reduce.proofs.Shared.{is_number, is_reduced, product_tree, counted, SpansTree, Tree, mult, count, size, put_room, result_lacks, replaced_free, tree_of, tree-without, product_counts, if_map, eqb-sym, plain, has_root, root_tree, without_root, behind_first, behind_later, behind_new, front_same, front_at, front_end, front_after_one, front_after_two, front_without, forest, given_apart, given_handed, given_other, given_same, given_told, owned, ends_as, last_tree, factors_in}
+use Rattle.product_reduce.proofs.Shared.{is_number, is_reduced, product_tree, counted, SpansTree, Tree, mult, count, size, put_room, result_lacks, refused_as, replaced_free, tree_of, tree-without, product_counts, if_map, eqb-sym, plain, has_root, root_tree, without_root, behind_first, behind_later, behind_new, front_same, front_at, front_end, front_after_one, front_after_two, front_without, forest, given_apart, given_handed, given_other, given_same, given_told, owned, ends_as, factors_in}
 use Rattle.product_reduce.proofs.GatheredParts.{spans_product}
-use Rattle.product_reduce.proofs.Misfits.{put_misfit, put_named}
+use Rattle.product_reduce.proofs.Misfits.{put_misfit}
 use Rattle.product_reduce.proofs.Products.{factors_are}
-use Rattle.product_reduce.proofs.Readied.{readied_here, alone_handed, alone_tree, alone_given, none_behind, part_reduced, part_given, put_given}
+use Rattle.product_reduce.proofs.Readied.{readied_here, alone_handed, alone_given, none_behind, part_reduced, part_given, put_given}
 use Rattle.product_reduce.proofs.endings.finished.Goals as goal
 
 pub release-requires-clause-releasable : goal.release-requires-clause-releasable
@@ -21,12 +21,6 @@ returns-then-factor_count-eq0-clause-ok c =
     let k : count (factors_in c.args.product (forest c.args.pool.now)) ≡ count r.us = ap count (factors_are r.product) in
     alone_given c.args.product c.args.coefficient _ _ _ c.requires.apart c.requires.number r (omega (arith, c.factor_count.ensures, c.if-factor_count-eq0.true, k))
     (ends_as c.move_last.ensures.last (ap (root_tree c.args.coefficient) gone) (ap (without_root c.args.coefficient) gone))
-
-pub returns-then-factor_count-eq0-clause-alone : goal.returns-then-factor_count-eq0-clause-alone
-returns-then-factor_count-eq0-clause-alone c = λ e.
-    let r = readied_here c.args.product c.args.coefficient c.requires.product c.requires.coefficient c.requires.differ c.requires.order in
-    let gone = c.release.ensures.owned (owned r.product.handed) in
-    ap plain (last_tree c.move_last.ensures.last ∙ ap (root_tree c.args.coefficient) gone) ∙ alone_tree c.args.product c.args.coefficient _ _ c.requires.apart r
 
 pub returns-then-factor_count-eq0-clause-front : goal.returns-then-factor_count-eq0-clause-front
 returns-then-factor_count-eq0-clause-front c =
@@ -69,7 +63,7 @@ returns-clause-front c =
 pub returns-clause-overflow : goal.returns-clause-overflow
 returns-clause-overflow c =
     let r = readied_here c.args.product c.args.coefficient c.requires.product c.requires.coefficient c.requires.differ c.requires.order in
-    put_named c.put_coefficient.result c.put_coefficient.ensures.named
+    refused_as c.put_coefficient.result c.put_coefficient.ensures.named
     (λ o h. put_misfit c.args.product c.args.coefficient c.unwrapped-part.result _ _ _ c.requires.apart r (part_given c.args.product c.args.coefficient c.unwrapped-part.result _ _ _ r c.unwrapped-part.ensures.tree) o h)
 
 pub returns-clause-room : goal.returns-clause-room

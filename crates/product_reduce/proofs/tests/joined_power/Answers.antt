@@ -1,19 +1,13 @@
-use Rattle.std.proofs.Common.{◌∙◌}
-use Rattle.product_reduce.proofs.Shared.{given_handed, given_other, given_apart, given_rest, given_without, gives_as, eqb-sym}
+use Rattle.std.proofs.Common.{rules}
+use Rattle.product_reduce.proofs.Shared.{given_handed, gives_as}
+use Rattle.number_forms.proofs.Pairs.{first_handed, pair_apart, pair_rest}
 use Rattle.product_reduce.proofs.tests.joined_power.Goals as goal
 
-pub node_over_two-requires-clause-first : goal.node_over_two-requires-clause-first
-node_over_two-requires-clause-first c = given_other c.in_ok-second.ensures.ok (given_handed c.in_ok-first.ensures.ok)
-
-pub node_over_two-requires-clause-second : goal.node_over_two-requires-clause-second
-node_over_two-requires-clause-second c = given_handed c.in_ok-second.ensures.ok
-
-pub node_over_two-requires-clause-apart : goal.node_over_two-requires-clause-apart
-node_over_two-requires-clause-apart c = eqb-sym c.in_ok-second.second c.in_ok-first.first (given_apart c.in_ok-second.ensures.ok (given_handed c.in_ok-first.ensures.ok))
+pub node_over_two-requires : goal.node_over_two-requires
+node_over_two-requires c =
+    let a = c.in_ok-first.ensures.ok in
+    let b = c.in_ok-second.ensures.ok in
+    record { stands = search rules; takes = search rules; first = first_handed a b; second = given_handed b; apart = pair_apart _ _ a b }
 
 pub returns-clause-ok : goal.returns-clause-ok
-returns-clause-ok c =
-    let first = c.in_ok-first.ensures.ok in
-    let second = c.in_ok-second.ensures.ok in
-    gives_as c.in_ok-tree.ensures.ok (given_without second (given_handed first) ∙ given_rest first)
-    (λ t e. tt)
+returns-clause-ok c = gives_as c.in_ok-tree.ensures.ok (pair_rest c.in_ok-first.ensures.ok c.in_ok-second.ensures.ok) (λ t e. tt)

@@ -1,24 +1,18 @@
-use Rattle.std.proofs.Common.{◌∙◌, ap}
-use Rattle.product_reduce.proofs.Shared.{is_number, is_reduced, number_words, put_reduces, plain, without_root, gives_as, given_handed, given_other, given_apart, given_rest, given_root, given_same, given_told, eqb-sym}
+use Rattle.std.proofs.Common.{◌∙◌, ap, rules}
+use Rattle.product_reduce.proofs.Shared.{is_reduced, number_words, put_reduces, without_root, gives_as, given_handed, given_rest, given_told}
+use Rattle.number_forms.proofs.Pairs.{first_handed, pair_apart, first_told}
 use Rattle.product_reduce.proofs.Results.{if_ok_map}
 use Rattle.product_reduce.proofs.tests.multiple.Goals as goal
 
-pub put_coefficient-requires-clause-first : goal.put_coefficient-requires-clause-first
-put_coefficient-requires-clause-first c = given_other c.in_ok-part.ensures.ok (given_handed c.in_ok-coefficient.ensures.ok)
-
-pub put_coefficient-requires-clause-second : goal.put_coefficient-requires-clause-second
-put_coefficient-requires-clause-second c = given_handed c.in_ok-part.ensures.ok
-
-pub put_coefficient-requires-clause-apart : goal.put_coefficient-requires-clause-apart
-put_coefficient-requires-clause-apart c = eqb-sym c.in_ok-part.part c.in_ok-coefficient.coefficient (given_apart c.in_ok-part.ensures.ok (given_handed c.in_ok-coefficient.ensures.ok))
-
-pub put_coefficient-requires-clause-reduced : goal.put_coefficient-requires-clause-reduced
-put_coefficient-requires-clause-reduced c = (given_told c.in_ok-part.ensures.ok).reduced
+pub put_coefficient-requires : goal.put_coefficient-requires
+put_coefficient-requires c =
+    let a = c.in_ok-coefficient.ensures.ok in
+    let b = c.in_ok-part.ensures.ok in
+    record { stands = search rules; first = first_handed a b; second = given_handed b; apart = pair_apart _ _ a b; reduced = (given_told b).reduced }
 
 pub returns-clause-ok : goal.returns-clause-ok
 returns-clause-ok c =
-    let k = c.in_ok-coefficient.ensures.ok in
-    let p = c.in_ok-part.ensures.ok in
-    let same = ap plain (given_same c.in_ok-coefficient.coefficient p (given_root k)) in
+    let a = c.in_ok-coefficient.ensures.ok in
+    let b = c.in_ok-part.ensures.ok in
     if_ok_map c.put_coefficient.result c.put_coefficient.ensures.ok
-    (λ h r. gives_as r (ap (without_root c.in_ok-coefficient.coefficient) (given_rest p) ∙ given_rest k) (λ t e. ap is_reduced e ∙ (put_reduces _ _ (number_words _ (ap is_number same ∙ given_told k)) (given_told p)).reduced))
+    (λ h r. gives_as r (ap (without_root c.in_ok-coefficient.coefficient) (given_rest b) ∙ given_rest a) (λ t e. ap is_reduced e ∙ (put_reduces _ _ (number_words _ (first_told a b ∙ given_told a)) (given_told b)).reduced))

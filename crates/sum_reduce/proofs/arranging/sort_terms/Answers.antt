@@ -1,6 +1,7 @@
 use Rattle.std.proofs.Common.{◌<◌, ◌∙◌, ap, sym, subst, arith}
 use Rattle.sum_reduce.proofs.Shared.{is_number, is_reduced, Trees, count, nth, forest, IsArranged, IsStage, terms_in}
-use Rattle.sum_reduce.proofs.Sorted.{formed_nth, led_behind, lead_few, children_sorted, permuted_alone}
+use Rattle.sum_reduce.proofs.Sorted.{formed_nth, led_behind, lead_few, children_sorted}
+use Rattle.sum_reduce.proofs.Rearranged.{few_same}
 use Rattle.sum_reduce.proofs.Stages.{stage_permuted}
 use Rattle.sum_reduce.proofs.Sums.{sum_over, root_arity}
 use Rattle.sum_reduce.proofs.arranging.sort_terms.Goals as goal
@@ -34,4 +35,4 @@ returns-clause-arranged c =
 pub returns-clause-alone : goal.returns-clause-alone
 returns-clause-alone c =
     let s = children_sorted c.requires.sum c.requires.led (c.lead_count-lead.ensures c.requires.led) c.requires.flat c.sort_children.ensures.sorts in
-    λ e. s.changed.terms ∙ permuted_alone s.ordered.permuted e
+    λ e. s.changed.terms ∙ few_same s.ordered.permuted (omega (arith, e))

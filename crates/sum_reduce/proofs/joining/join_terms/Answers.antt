@@ -1,6 +1,6 @@
-use Rattle.std.proofs.Common.{◌<◌, sym, subst, add-one, arith, rules}
-use Rattle.sum_reduce.proofs.Shared.{Trees, nth, forest, behind_first, front_after_two, IsStage, widths, terms_in, passed_named, result_named, Overflows, free_of, removed, passed_lacks, refusal_lacks, result_lacks, keeps_after, sum_count, addends_of_each}
-use Rattle.sum_reduce.proofs.Joins.{joining_start, pair_start, joining_formed, next_partner, first_partner, two_joined, partner_within, joining_done, joined_within, joined_others, pair_here, here_reduced, here_defined}
+use Rattle.std.proofs.Common.{◌<◌, ◌≤◌, ◌+◌, sym, subst, add-one, arith, rules, ℕ}
+use Rattle.sum_reduce.proofs.Shared.{Trees, nth, Forest, forest, State, tree_of, behind_first, front_after_two, IsStage, IsJoining, Takes, IsPairAt, widths, nodes, terms_in, passed_named, result_named, Overflows, free_of, removed, passed_lacks, refusal_lacks, result_lacks, keeps_after, sum_count, addends_of_each}
+use Rattle.sum_reduce.proofs.Joins.{IsBegun, begins, next_partner, first_partner, partner_within, joining_formed, two_joined, joining_done, joined_within, joined_others, pair_here, here_reduced, here_defined}
 use Rattle.sum_reduce.proofs.Results.{on_ok_map}
 use Rattle.sum_reduce.proofs.Sums.{takes_handed, takes_apart, takes_after, takes_behind, takes_front, takes_changes}
 use Rattle.sum_reduce.proofs.Widths.{some_node}
@@ -9,6 +9,7 @@ use Rattle.sum_reduce.proofs.Rooms.{joined_counts, joining_spans, spans_next, te
 use Rattle.sum_reduce.proofs.SumBytes.{takes_free}
 use Rattle.sum_reduce.proofs.FewBits.{next_partner_few}
 use Rattle.sum_reduce.proofs.Held.{few_after}
+use Rattle.sum_reduce.proofs.joining.join_terms.Goals.{In_ok-coefficient, In_ok-both, In_ok-total}
 use Rattle.sum_reduce.proofs.joining.join_terms.Goals as goal
 
 pub take_coefficient_at-requires : goal.take_coefficient_at-requires
@@ -21,93 +22,85 @@ take_coefficient_at-requires c = record {
   no_number = first_partner (terms_in c.args.sum.now (forest c.args.pool.now)) c.args.at c.requires.pair;
 }
 
-pub add_partner-requires-clause-sum : goal.add_partner-requires-clause-sum
-add_partner-requires-clause-sum c = c.in_ok-coefficient.ensures.ok.sum
+-- the coefficient of the first term stands beside its part
+begun : (c : In_ok-coefficient) → IsBegun (terms_in c.args.sum.now (forest c.args.pool.now)) (terms_in c.args.sum.now (forest c.take_coefficient_at.new.pool)) (tree_of c.in_ok-coefficient.coefficient c.take_coefficient_at.new.pool) c.args.at
+begun c = begins _ _ _ c.args.at c.requires.formed c.requires.flat c.requires.pair c.in_ok-coefficient.ensures.terms c.in_ok-coefficient.ensures.coefficient
 
-pub add_partner-requires-clause-within : goal.add_partner-requires-clause-within
-add_partner-requires-clause-within c =
-    let p = pair_start (terms_in c.args.sum.now (forest c.args.pool.now)) (terms_in c.args.sum.now (forest c.take_coefficient_at.new.pool)) c.args.at c.requires.formed c.requires.pair c.in_ok-coefficient.ensures.terms in
-    rw add-one p.within
+-- two coefficients or more are added, beside the part that they share
+record AreAdded (i at : ℕ) (ts us : Trees) (f : Forest) (now : State) (h : ℕ) : Type 0 where
+  pub takes : Takes i f (forest now) h
+  pub joining : IsJoining ts (tree_of h now) (nth at (terms_in i (forest now))) (removed at (terms_in i (forest now))) (0 + nodes (nth at us))
+  pub less : 1 ≤ 0 + nodes (nth at us)
 
-pub add_partner-requires-clause-reduced : goal.add_partner-requires-clause-reduced
-add_partner-requires-clause-reduced c =
-    let ts = terms_in c.args.sum.now (forest c.args.pool.now) in
+both : (c : In_ok-both) → AreAdded c.args.sum.now c.args.at (terms_in c.args.sum.now (forest c.args.pool.now)) (terms_in c.args.sum.now (forest c.take_coefficient_at.new.pool)) (forest c.args.pool.now) c.add_partner.new.pool c.in_ok-both.both
+both c = record {
+  takes = takes_after c.in_ok-coefficient.ensures.ok c.in_ok-both.ensures.ok;
+  joining = two_joined _ _ _ _ _ c.args.at c.requires.formed c.requires.flat c.requires.pair c.in_ok-coefficient.ensures.terms c.in_ok-coefficient.ensures.coefficient (rw add-one at c.in_ok-both.ensures.terms) (rw add-one at c.in_ok-both.ensures.number);
+  less = omega (arith, some_node (nth c.args.at (terms_in c.args.sum.now (forest c.take_coefficient_at.new.pool))));
+}
+
+total : (c : In_ok-total) → AreAdded c.args.sum.now c.args.at (terms_in c.args.sum.now (forest c.args.pool.now)) (terms_in c.args.sum.now (forest c.take_coefficient_at.new.pool)) (forest c.args.pool.now) c.add_partner.new.pool c.in_ok-both.both
+    → AreAdded c.args.sum.now c.args.at (terms_in c.args.sum.now (forest c.args.pool.now)) (terms_in c.args.sum.now (forest c.take_coefficient_at.new.pool)) (forest c.args.pool.now) c.add_partners.new.pool c.in_ok-total.total
+total c k = record { takes = c.in_ok-total.ensures.ok _ k.takes; joining = c.in_ok-total.ensures.joining _ _ k.joining; less = k.less }
+
+pub add_partner-requires : goal.add_partner-requires
+add_partner-requires c =
+    let b = begun (goal.at.add_partner-requires c).In_ok-coefficient in
     let us = terms_in c.args.sum.now (forest c.take_coefficient_at.new.pool) in
-    let p = pair_start ts us c.args.at c.requires.formed c.requires.pair c.in_ok-coefficient.ensures.terms in
-    let j = joining_start ts us _ c.args.at c.requires.formed c.requires.flat c.requires.pair c.in_ok-coefficient.ensures.terms c.in_ok-coefficient.ensures.coefficient in
-    rw add-one (next_partner us c.args.at (joining_formed ts _ us c.args.at _ j (pair_here c.args.at us p)) p).reduced
-
-pub add_partner-requires-clause-defined : goal.add_partner-requires-clause-defined
-add_partner-requires-clause-defined c =
-    let ts = terms_in c.args.sum.now (forest c.args.pool.now) in
-    let us = terms_in c.args.sum.now (forest c.take_coefficient_at.new.pool) in
-    let p = pair_start ts us c.args.at c.requires.formed c.requires.pair c.in_ok-coefficient.ensures.terms in
-    let j = joining_start ts us _ c.args.at c.requires.formed c.requires.flat c.requires.pair c.in_ok-coefficient.ensures.terms c.in_ok-coefficient.ensures.coefficient in
-    rw add-one (next_partner us c.args.at (joining_formed ts _ us c.args.at _ j (pair_here c.args.at us p)) p).defined
-
-pub add_partner-requires-clause-no_number : goal.add_partner-requires-clause-no_number
-add_partner-requires-clause-no_number c =
-    let ts = terms_in c.args.sum.now (forest c.args.pool.now) in
-    let us = terms_in c.args.sum.now (forest c.take_coefficient_at.new.pool) in
-    let p = pair_start ts us c.args.at c.requires.formed c.requires.pair c.in_ok-coefficient.ensures.terms in
-    let j = joining_start ts us _ c.args.at c.requires.formed c.requires.flat c.requires.pair c.in_ok-coefficient.ensures.terms c.in_ok-coefficient.ensures.coefficient in
-    rw add-one (next_partner us c.args.at (joining_formed ts _ us c.args.at _ j (pair_here c.args.at us p)) p).no_number
-
-pub add_partner-requires-clause-handed : goal.add_partner-requires-clause-handed
-add_partner-requires-clause-handed c = takes_handed c.in_ok-coefficient.ensures.ok
-
-pub add_partner-requires-clause-apart : goal.add_partner-requires-clause-apart
-add_partner-requires-clause-apart c = takes_apart c.in_ok-coefficient.ensures.ok
-
-pub add_partner-requires-clause-so_far : goal.add_partner-requires-clause-so_far
-add_partner-requires-clause-so_far c =
-    let j = joining_start (terms_in c.args.sum.now (forest c.args.pool.now)) (terms_in c.args.sum.now (forest c.take_coefficient_at.new.pool)) _ c.args.at c.requires.formed c.requires.flat c.requires.pair c.in_ok-coefficient.ensures.terms c.in_ok-coefficient.ensures.coefficient in
-    j.number
+    let n = next_partner us c.args.at (joining_formed _ _ us c.args.at _ b.joining (pair_here c.args.at us b.pair)) b.pair in
+    record {
+      stands = search rules;
+      sum = c.in_ok-coefficient.ensures.ok.sum;
+      within = rw add-one b.pair.within;
+      reduced = rw add-one n.reduced;
+      defined = rw add-one n.defined;
+      no_number = rw add-one n.no_number;
+      handed = takes_handed c.in_ok-coefficient.ensures.ok;
+      apart = takes_apart c.in_ok-coefficient.ensures.ok;
+      so_far = b.joining.number;
+    }
 
 pub add_partners-requires : goal.add_partners-requires
 add_partners-requires c =
-    let us = terms_in c.args.sum.now (forest c.take_coefficient_at.new.pool) in
-    let p = pair_start (terms_in c.args.sum.now (forest c.args.pool.now)) us c.args.at c.requires.formed c.requires.pair c.in_ok-coefficient.ensures.terms in
-    let ts = terms_in c.args.sum.now (forest c.args.pool.now) in
+    let b = begun (goal.at.add_partners-requires c).In_ok-coefficient in
+    let k = both (goal.at.add_partners-requires c).In_ok-both in
     record {
       stands = search rules;
       sum = c.in_ok-both.ensures.ok.sum;
-      taken = (_, takes_after c.in_ok-coefficient.ensures.ok c.in_ok-both.ensures.ok);
-      within = partner_within us (terms_in c.args.sum.now (forest c.add_partner.new.pool)) c.args.at p (rw add-one at c.in_ok-both.ensures.terms);
-      joining = (ts, _, two_joined ts _ _ _ _ c.args.at c.requires.formed c.requires.flat c.requires.pair c.in_ok-coefficient.ensures.terms c.in_ok-coefficient.ensures.coefficient (rw add-one at c.in_ok-both.ensures.terms) (rw add-one at c.in_ok-both.ensures.number));
+      taken = (_, k.takes);
+      within = partner_within _ (terms_in c.args.sum.now (forest c.add_partner.new.pool)) c.args.at b.pair (rw add-one at c.in_ok-both.ensures.terms);
+      joining = (_, _, k.joining);
     }
 
 pub put_back-requires : goal.put_back-requires
 put_back-requires c =
-    let ts = terms_in c.args.sum.now (forest c.args.pool.now) in
-    let k = two_joined ts _ _ _ _ c.args.at c.requires.formed c.requires.flat c.requires.pair c.in_ok-coefficient.ensures.terms c.in_ok-coefficient.ensures.coefficient (rw add-one at c.in_ok-both.ensures.terms) (rw add-one at c.in_ok-both.ensures.number) in
-    record {
-      stands = search rules;
-      sum = (c.in_ok-total.ensures.ok _ (takes_after c.in_ok-coefficient.ensures.ok c.in_ok-both.ensures.ok)).sum;
-      within = search rules;
-      reduced = (c.in_ok-total.ensures.joining ts _ k).monic.reduced;
-      handed = takes_handed (c.in_ok-total.ensures.ok _ (takes_after c.in_ok-coefficient.ensures.ok c.in_ok-both.ensures.ok));
-      apart = takes_apart (c.in_ok-total.ensures.ok _ (takes_after c.in_ok-coefficient.ensures.ok c.in_ok-both.ensures.ok));
-    }
+    let s = goal.at.put_back-requires c in
+    let d = total s.In_ok-total (both s.In_ok-both) in
+    record { stands = search rules; sum = d.takes.sum; within = search rules; reduced = d.joining.monic.reduced; handed = takes_handed d.takes; apart = takes_apart d.takes }
+
+-- ---- the joined terms
 
 pub returns-clause-ok : goal.returns-clause-ok
-returns-clause-ok c = on_ok_map c.put_back.result c.put_back.ensures.ok (takes_changes (c.in_ok-total.ensures.ok _ (takes_after c.in_ok-coefficient.ensures.ok c.in_ok-both.ensures.ok)))
+returns-clause-ok c =
+    let s = goal.at.returns-clause-ok c in
+    on_ok_map c.put_back.result c.put_back.ensures.ok (takes_changes (total s.In_ok-total (both s.In_ok-both)).takes)
 
 pub returns-clause-stage : goal.returns-clause-stage
 returns-clause-stage c =
-    let ts = terms_in c.args.sum.now (forest c.args.pool.now) in
-    let us = terms_in c.args.sum.now (forest c.take_coefficient_at.new.pool) in
-    let k = two_joined ts _ _ _ _ c.args.at c.requires.formed c.requires.flat c.requires.pair c.in_ok-coefficient.ensures.terms c.in_ok-coefficient.ensures.coefficient (rw add-one at c.in_ok-both.ensures.terms) (rw add-one at c.in_ok-both.ensures.number) in
-    let d = joining_done _ _ ts _ _ c.args.at (c.in_ok-total.ensures.joining ts _ k) (omega (arith, some_node (nth c.args.at us))) in
-    on_ok_map c.put_back.result c.put_back.ensures.terms (λ e. subst (IsStage ts) (sym e) d.stage)
+    let s = goal.at.returns-clause-stage c in
+    let d = total s.In_ok-total (both s.In_ok-both) in
+    on_ok_map c.put_back.result c.put_back.ensures.terms (λ e. subst (IsStage (terms_in c.args.sum.now (forest c.args.pool.now))) (sym e) (joining_done _ _ _ _ _ c.args.at d.joining d.less).stage)
 
 pub returns-clause-fewer : goal.returns-clause-fewer
 returns-clause-fewer c =
-    let ts = terms_in c.args.sum.now (forest c.args.pool.now) in
-    let us = terms_in c.args.sum.now (forest c.take_coefficient_at.new.pool) in
-    let k = two_joined ts _ _ _ _ c.args.at c.requires.formed c.requires.flat c.requires.pair c.in_ok-coefficient.ensures.terms c.in_ok-coefficient.ensures.coefficient (rw add-one at c.in_ok-both.ensures.terms) (rw add-one at c.in_ok-both.ensures.number) in
-    let d = joining_done _ _ ts _ _ c.args.at (c.in_ok-total.ensures.joining ts _ k) (omega (arith, some_node (nth c.args.at us))) in
-    on_ok_map c.put_back.result c.put_back.ensures.terms (λ e. subst (λ (x : Trees). widths x < widths ts) (sym e) d.fewer)
+    let s = goal.at.returns-clause-fewer c in
+    let d = total s.In_ok-total (both s.In_ok-both) in
+    on_ok_map c.put_back.result c.put_back.ensures.terms (λ e. subst (λ (x : Trees). widths x < widths (terms_in c.args.sum.now (forest c.args.pool.now))) (sym e) (joining_done _ _ _ _ _ c.args.at d.joining d.less).fewer)
+
+pub returns-clause-counts : goal.returns-clause-counts
+returns-clause-counts c =
+    let s = goal.at.returns-clause-counts c in
+    on_ok_map c.put_back.result c.put_back.ensures.terms (λ e. joined_counts _ _ _ _ _ _ c.args.at (total s.In_ok-total (both s.In_ok-both)).joining e)
 
 pub returns-clause-within : goal.returns-clause-within
 returns-clause-within c =
@@ -115,53 +108,42 @@ returns-clause-within c =
 
 pub returns-clause-others : goal.returns-clause-others
 returns-clause-others c =
-    let ts = terms_in c.args.sum.now (forest c.args.pool.now) in
-    let k = two_joined ts _ _ _ _ c.args.at c.requires.formed c.requires.flat c.requires.pair c.in_ok-coefficient.ensures.terms c.in_ok-coefficient.ensures.coefficient (rw add-one at c.in_ok-both.ensures.terms) (rw add-one at c.in_ok-both.ensures.number) in
-    on_ok_map c.put_back.result c.put_back.ensures.terms (joined_others c.args.at _ (terms_in c.args.sum.now (forest c.add_partners.new.pool)) _ c.in_ok-total.ensures.within (c.in_ok-total.ensures.joining ts _ k).no_sum)
+    let s = goal.at.returns-clause-others c in
+    let d = total s.In_ok-total (both s.In_ok-both) in
+    on_ok_map c.put_back.result c.put_back.ensures.terms (joined_others c.args.at _ (terms_in c.args.sum.now (forest c.add_partners.new.pool)) _ c.in_ok-total.ensures.within d.joining.no_sum)
+
+-- ---- what stood first stays first
+
+pub returns-in_err-both-clause-front : goal.returns-in_err-both-clause-front
+returns-in_err-both-clause-front c = let t = c.in_ok-coefficient.ensures.ok in front_after_two behind_first (takes_behind t) (takes_front t) c.add_partner.ensures.front
+
+pub returns-in_err-total-clause-front : goal.returns-in_err-total-clause-front
+returns-in_err-total-clause-front c = let t = (both (goal.at.returns-in_err-total-clause-front c).In_ok-both).takes in front_after_two behind_first (takes_behind t) (takes_front t) c.add_partners.ensures.front
 
 pub returns-clause-front : goal.returns-clause-front
 returns-clause-front c =
-    let t = c.in_ok-total.ensures.ok _ (takes_after c.in_ok-coefficient.ensures.ok c.in_ok-both.ensures.ok) in
+    let s = goal.at.returns-clause-front c in
+    let t = (total s.In_ok-total (both s.In_ok-both)).takes in
     front_after_two behind_first (takes_behind t) (takes_front t) c.put_back.ensures.front
 
-pub returns-in_err-both-clause-front : goal.returns-in_err-both-clause-front
-returns-in_err-both-clause-front c =
-    let t = c.in_ok-coefficient.ensures.ok in
-    front_after_two behind_first (takes_behind t) (takes_front t) c.add_partner.ensures.front
-
-pub returns-in_err-total-clause-front : goal.returns-in_err-total-clause-front
-returns-in_err-total-clause-front c =
-    let t = takes_after c.in_ok-coefficient.ensures.ok c.in_ok-both.ensures.ok in
-    front_after_two behind_first (takes_behind t) (takes_front t) c.add_partners.ensures.front
+-- ---- what is refused
 
 pub returns-in_err-both-clause-overflow : goal.returns-in_err-both-clause-overflow
 returns-in_err-both-clause-overflow c =
-    let ts = terms_in c.args.sum.now (forest c.args.pool.now) in
-    let us = terms_in c.args.sum.now (forest c.take_coefficient_at.new.pool) in
-    let p = pair_start ts us c.args.at c.requires.formed c.requires.pair c.in_ok-coefficient.ensures.terms in
-    let j = joining_start ts us _ c.args.at c.requires.formed c.requires.flat c.requires.pair c.in_ok-coefficient.ensures.terms c.in_ok-coefficient.ensures.coefficient in
-    passed_named c.from_residual-in_err-both.result c.in_err-both.field-0.0 _ (Overflows ts) c.from_residual-in_err-both.ensures.1 (rw add-one at c.in_err-both.ensures.overflow)
-    (partner_hinders ts _ us c.args.at 0 j p)
+    let b = begun (goal.at.returns-in_err-both-clause-overflow c).In_ok-coefficient in
+    passed_named c.from_residual-in_err-both.result c.in_err-both.field-0.0 _ _ c.from_residual-in_err-both.ensures.1 (rw add-one at c.in_err-both.ensures.overflow) (partner_hinders _ _ _ c.args.at 0 b.joining b.pair)
 
 pub returns-in_err-total-clause-overflow : goal.returns-in_err-total-clause-overflow
 returns-in_err-total-clause-overflow c =
+    let k = both (goal.at.returns-in_err-total-clause-overflow c).In_ok-both in
     let ts = terms_in c.args.sum.now (forest c.args.pool.now) in
-    let k = two_joined ts _ _ _ _ c.args.at c.requires.formed c.requires.flat c.requires.pair c.in_ok-coefficient.ensures.terms c.in_ok-coefficient.ensures.coefficient (rw add-one at c.in_ok-both.ensures.terms) (rw add-one at c.in_ok-both.ensures.number) in
-    passed_named c.from_residual-in_err-total.result c.in_err-total.field-0.0 (Overflows ts) (Overflows ts) c.from_residual-in_err-total.ensures.1 (c.in_err-total.ensures.overflow ts _ k) (λ x h. h)
+    passed_named c.from_residual-in_err-total.result c.in_err-total.field-0.0 (Overflows ts) (Overflows ts) c.from_residual-in_err-total.ensures.1 (c.in_err-total.ensures.overflow ts _ k.joining) (λ x h. h)
 
 pub returns-clause-overflow : goal.returns-clause-overflow
 returns-clause-overflow c =
-    let ts = terms_in c.args.sum.now (forest c.args.pool.now) in
-    let us = terms_in c.args.sum.now (forest c.take_coefficient_at.new.pool) in
-    let k = two_joined ts _ _ _ _ c.args.at c.requires.formed c.requires.flat c.requires.pair c.in_ok-coefficient.ensures.terms c.in_ok-coefficient.ensures.coefficient (rw add-one at c.in_ok-both.ensures.terms) (rw add-one at c.in_ok-both.ensures.number) in
-    result_named c.put_back.result _ (Overflows ts) c.put_back.ensures.overflow (part_hinders (c.in_ok-total.ensures.joining ts _ k) (omega (arith, some_node (nth c.args.at us))))
-
-pub returns-clause-counts : goal.returns-clause-counts
-returns-clause-counts c =
-    let ts = terms_in c.args.sum.now (forest c.args.pool.now) in
-    let vs = terms_in c.args.sum.now (forest c.add_partners.new.pool) in
-    let k = two_joined ts _ _ _ _ c.args.at c.requires.formed c.requires.flat c.requires.pair c.in_ok-coefficient.ensures.terms c.in_ok-coefficient.ensures.coefficient (rw add-one at c.in_ok-both.ensures.terms) (rw add-one at c.in_ok-both.ensures.number) in
-    on_ok_map c.put_back.result c.put_back.ensures.terms (λ e. joined_counts ts _ (nth c.args.at vs) (removed c.args.at vs) _ _ c.args.at (c.in_ok-total.ensures.joining ts _ k) e)
+    let s = goal.at.returns-clause-overflow c in
+    let d = total s.In_ok-total (both s.In_ok-both) in
+    result_named c.put_back.result _ _ c.put_back.ensures.overflow (part_hinders d.joining d.less)
 
 pub returns-in_err-coefficient-clause-room : goal.returns-in_err-coefficient-clause-room
 returns-in_err-coefficient-clause-room c = λ gs s.
@@ -173,53 +155,44 @@ pub returns-in_err-both-clause-room : goal.returns-in_err-both-clause-room
 returns-in_err-both-clause-room c = λ gs s.
     let ts = terms_in c.args.sum.now (forest c.args.pool.now) in
     let us = terms_in c.args.sum.now (forest c.take_coefficient_at.new.pool) in
-    let p = pair_start ts us c.args.at c.requires.formed c.requires.pair c.in_ok-coefficient.ensures.terms in
-    let j = joining_start ts us _ c.args.at c.requires.formed c.requires.flat c.requires.pair c.in_ok-coefficient.ensures.terms c.in_ok-coefficient.ensures.coefficient in
-    let w = joining_spans gs ts _ (nth c.args.at us) (removed c.args.at us) 0 j s in
+    let b = begun (goal.at.returns-in_err-both-clause-room c).In_ok-coefficient in
+    let w = joining_spans gs ts _ (nth c.args.at us) (removed c.args.at us) 0 b.joining s in
     let free = takes_free c.requires.stands c.in_ok-coefficient.ensures.stands c.in_ok-coefficient.ensures.kept c.in_ok-coefficient.ensures.ok in
     passed_lacks c.from_residual-in_err-both.result c.in_err-both.field-0.0 _ _ c.from_residual-in_err-both.ensures.1
-    (c.in_err-both.ensures.room gs w.coefficient (rw add-one (spans_next gs us c.args.at w p)))
-    (λ full l. omega (arith, partner_lacks gs ts _ us c.args.at 0 (free_of c.take_coefficient_at.new.pool) j (pair_here c.args.at us p) s l, free))
+    (c.in_err-both.ensures.room gs w.coefficient (rw add-one (spans_next gs us c.args.at w b.pair)))
+    (λ full l. omega (arith, partner_lacks gs ts _ us c.args.at 0 (free_of c.take_coefficient_at.new.pool) b.joining (pair_here c.args.at us b.pair) s l, free))
 
 pub returns-in_err-total-clause-room : goal.returns-in_err-total-clause-room
 returns-in_err-total-clause-room c = λ gs s.
-    let ts = terms_in c.args.sum.now (forest c.args.pool.now) in
-    let k = two_joined ts _ _ _ _ c.args.at c.requires.formed c.requires.flat c.requires.pair c.in_ok-coefficient.ensures.terms c.in_ok-coefficient.ensures.coefficient (rw add-one at c.in_ok-both.ensures.terms) (rw add-one at c.in_ok-both.ensures.number) in
-    let kept = keeps_after _ _ _ c.in_ok-coefficient.ensures.kept c.in_ok-both.ensures.kept in
-    let free = takes_free c.requires.stands c.in_ok-both.ensures.stands kept (takes_after c.in_ok-coefficient.ensures.ok c.in_ok-both.ensures.ok) in
-    passed_lacks c.from_residual-in_err-total.result c.in_err-total.field-0.0 _ _ c.from_residual-in_err-total.ensures.1 (c.in_err-total.ensures.room ts _ k gs s) (λ full l. omega (arith, l, free))
+    let k = both (goal.at.returns-in_err-total-clause-room c).In_ok-both in
+    let free = takes_free c.requires.stands c.in_ok-both.ensures.stands (keeps_after _ _ _ c.in_ok-coefficient.ensures.kept c.in_ok-both.ensures.kept) k.takes in
+    passed_lacks c.from_residual-in_err-total.result c.in_err-total.field-0.0 _ _ c.from_residual-in_err-total.ensures.1 (c.in_err-total.ensures.room _ _ k.joining gs s) (λ full l. omega (arith, l, free))
 
 pub returns-clause-room : goal.returns-clause-room
 returns-clause-room c = λ gs s.
+    let x = goal.at.returns-clause-room c in
+    let d = total x.In_ok-total (both x.In_ok-both) in
     let ts = terms_in c.args.sum.now (forest c.args.pool.now) in
     let vs = terms_in c.args.sum.now (forest c.add_partners.new.pool) in
-    let k = two_joined ts _ _ _ _ c.args.at c.requires.formed c.requires.flat c.requires.pair c.in_ok-coefficient.ensures.terms c.in_ok-coefficient.ensures.coefficient (rw add-one at c.in_ok-both.ensures.terms) (rw add-one at c.in_ok-both.ensures.number) in
-    let d = c.in_ok-total.ensures.joining ts _ k in
-    let w = joining_spans gs ts _ (nth c.args.at vs) (removed c.args.at vs) _ d s in
+    let w = joining_spans gs ts _ (nth c.args.at vs) (removed c.args.at vs) _ d.joining s in
     let kept = keeps_after _ _ _ (keeps_after _ _ _ c.in_ok-coefficient.ensures.kept c.in_ok-both.ensures.kept) c.in_ok-total.ensures.kept in
-    let free = takes_free c.requires.stands c.in_ok-total.ensures.stands kept (c.in_ok-total.ensures.ok _ (takes_after c.in_ok-coefficient.ensures.ok c.in_ok-both.ensures.ok)) in
-    result_lacks c.put_back.result _ _ (c.put_back.ensures.room gs d.number w.coefficient w.part)
-    (λ full l. omega (arith, part_lacks gs ts _ vs c.args.at _ (free_of c.add_partners.new.pool) d c.in_ok-total.ensures.within s l, free))
+    let free = takes_free c.requires.stands c.in_ok-total.ensures.stands kept d.takes in
+    result_lacks c.put_back.result _ _ (c.put_back.ensures.room gs d.joining.number w.coefficient w.part)
+    (λ full l. omega (arith, part_lacks gs ts _ vs c.args.at _ (free_of c.add_partners.new.pool) d.joining c.in_ok-total.ensures.within s l, free))
 
 pub returns-in_err-both-clause-bits : goal.returns-in_err-both-clause-bits
 returns-in_err-both-clause-bits c = λ b.
-    let ts = terms_in c.args.sum.now (forest c.args.pool.now) in
-    let us = terms_in c.args.sum.now (forest c.take_coefficient_at.new.pool) in
-    let p = pair_start ts us c.args.at c.requires.formed c.requires.pair c.in_ok-coefficient.ensures.terms in
-    let j = joining_start ts us _ c.args.at c.requires.formed c.requires.flat c.requires.pair c.in_ok-coefficient.ensures.terms c.in_ok-coefficient.ensures.coefficient in
+    let k = begun (goal.at.returns-in_err-both-clause-bits c).In_ok-coefficient in
     passed_named c.from_residual-in_err-both.result c.in_err-both.field-0.0 (λ o. ⊥) (λ o. ⊥) c.from_residual-in_err-both.ensures.1
-    (c.in_err-both.ensures.bits (rw add-one (next_partner_few ts _ us c.args.at 0 j p b))) (λ x h. h)
+    (c.in_err-both.ensures.bits (rw add-one (next_partner_few _ _ _ c.args.at 0 k.joining k.pair b))) (λ x h. h)
 
 pub returns-in_err-total-clause-bits : goal.returns-in_err-total-clause-bits
 returns-in_err-total-clause-bits c = λ b.
-    let ts = terms_in c.args.sum.now (forest c.args.pool.now) in
-    let k = two_joined ts _ _ _ _ c.args.at c.requires.formed c.requires.flat c.requires.pair c.in_ok-coefficient.ensures.terms c.in_ok-coefficient.ensures.coefficient (rw add-one at c.in_ok-both.ensures.terms) (rw add-one at c.in_ok-both.ensures.number) in
-    passed_named c.from_residual-in_err-total.result c.in_err-total.field-0.0 (λ o. ⊥) (λ o. ⊥) c.from_residual-in_err-total.ensures.1 (c.in_err-total.ensures.bits ts _ k b) (λ x h. h)
+    let k = both (goal.at.returns-in_err-total-clause-bits c).In_ok-both in
+    passed_named c.from_residual-in_err-total.result c.in_err-total.field-0.0 (λ o. ⊥) (λ o. ⊥) c.from_residual-in_err-total.ensures.1 (c.in_err-total.ensures.bits _ _ k.joining b) (λ x h. h)
 
 pub returns-clause-bits : goal.returns-clause-bits
 returns-clause-bits c = λ b.
-    let ts = terms_in c.args.sum.now (forest c.args.pool.now) in
-    let vs = terms_in c.args.sum.now (forest c.add_partners.new.pool) in
-    let k = two_joined ts _ _ _ _ c.args.at c.requires.formed c.requires.flat c.requires.pair c.in_ok-coefficient.ensures.terms c.in_ok-coefficient.ensures.coefficient (rw add-one at c.in_ok-both.ensures.terms) (rw add-one at c.in_ok-both.ensures.number) in
-    let d = c.in_ok-total.ensures.joining ts _ k in
-    c.put_back.ensures.bits (addends_of_each (removed c.args.at vs)) d.monic (few_after d.held b)
+    let s = goal.at.returns-clause-bits c in
+    let d = (total s.In_ok-total (both s.In_ok-both)).joining in
+    c.put_back.ensures.bits (addends_of_each (removed c.args.at (terms_in c.args.sum.now (forest c.add_partners.new.pool)))) d.monic (few_after d.held b)

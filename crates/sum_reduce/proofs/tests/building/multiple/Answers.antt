@@ -1,18 +1,11 @@
-use Rattle.std.proofs.Common.{◌∙◌, ap}
+use Rattle.std.proofs.Common.{◌∙◌, ap, rules}
 use Rattle.sum_reduce.proofs.Shared.{is_number, is_reduced, number_words, put_reduces, plain, without_root, gives_as, given_handed, given_other, given_apart, given_rest, given_same, given_told, eqb-sym, if_map}
 use Rattle.sum_reduce.proofs.tests.building.multiple.Goals as goal
 
-pub put_coefficient-requires-clause-first : goal.put_coefficient-requires-clause-first
-put_coefficient-requires-clause-first c = given_other c.in_ok-part.ensures.ok c.requires.handed
-
-pub put_coefficient-requires-clause-second : goal.put_coefficient-requires-clause-second
-put_coefficient-requires-clause-second c = given_handed c.in_ok-part.ensures.ok
-
-pub put_coefficient-requires-clause-apart : goal.put_coefficient-requires-clause-apart
-put_coefficient-requires-clause-apart c = eqb-sym c.in_ok-part.part c.args.coefficient (given_apart c.in_ok-part.ensures.ok c.requires.handed)
-
-pub put_coefficient-requires-clause-reduced : goal.put_coefficient-requires-clause-reduced
-put_coefficient-requires-clause-reduced c = (given_told c.in_ok-part.ensures.ok).reduced
+pub put_coefficient-requires : goal.put_coefficient-requires
+put_coefficient-requires c =
+    let b = c.in_ok-part.ensures.ok in
+    record { stands = search rules; first = given_other b c.requires.handed; second = given_handed b; apart = eqb-sym _ _ (given_apart b c.requires.handed); reduced = (given_told b).reduced }
 
 pub returns-clause-ok : goal.returns-clause-ok
 returns-clause-ok c =

@@ -1,21 +1,12 @@
-use Rattle.std.proofs.Common.{◌∙◌, ap}
+use Rattle.std.proofs.Common.{◌∙◌, ap, rules}
 use Rattle.sum_reduce.proofs.Shared.{if_map, first_handed, pair_apart, first_told, without_root, gives_as, given_handed, given_told, given_rest}
 use Rattle.sum_reduce.proofs.tests.building.sum_multiple.Goals as goal
 
-pub before_sum-requires-clause-first : goal.before_sum-requires-clause-first
-before_sum-requires-clause-first c = first_handed c.in_ok-coefficient.ensures.ok c.in_ok-sum.ensures.ok
-
-pub before_sum-requires-clause-second : goal.before_sum-requires-clause-second
-before_sum-requires-clause-second c = given_handed c.in_ok-sum.ensures.ok
-
-pub before_sum-requires-clause-apart : goal.before_sum-requires-clause-apart
-before_sum-requires-clause-apart c = pair_apart c.in_ok-coefficient.coefficient c.in_ok-sum.sum c.in_ok-coefficient.ensures.ok c.in_ok-sum.ensures.ok
-
-pub before_sum-requires-clause-number : goal.before_sum-requires-clause-number
-before_sum-requires-clause-number c = first_told c.in_ok-coefficient.ensures.ok c.in_ok-sum.ensures.ok ∙ given_told c.in_ok-coefficient.ensures.ok
-
-pub before_sum-requires-clause-reduced : goal.before_sum-requires-clause-reduced
-before_sum-requires-clause-reduced c = given_told c.in_ok-sum.ensures.ok
+pub before_sum-requires : goal.before_sum-requires
+before_sum-requires c =
+    let a = c.in_ok-coefficient.ensures.ok in
+    let b = c.in_ok-sum.ensures.ok in
+    record { stands = search rules; first = first_handed a b; second = given_handed b; apart = pair_apart _ _ a b; number = first_told a b ∙ given_told a; reduced = given_told b }
 
 pub returns-clause-ok : goal.returns-clause-ok
 returns-clause-ok c =

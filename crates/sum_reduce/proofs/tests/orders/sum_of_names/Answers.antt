@@ -1,4 +1,4 @@
-use Rattle.std.proofs.Common.{◌∙◌, ap, refl, arith}
+use Rattle.std.proofs.Common.{◌∙◌, ap, refl, arith, rules}
 use Rattle.sum_reduce.proofs.Shared.{count, are_reduced, tree_of, forest, given_root, given_told, given_rest, root_held, terms_in}
 use Rattle.sum_reduce.proofs.Places.{count_inserted}
 use Rattle.sum_reduce.proofs.Sums.{changes_same, changes_after, changes_rest, put_in, roots_apart, sum_live}
@@ -16,25 +16,12 @@ loop-place-init c =
 
 pub children-last-requires-clause-live : goal.children-last-requires-clause-live
 children-last-requires-clause-live c =
-    let i = c.loop-place.invariant in
-    let t = (placed i.changes.sum c.in_ok-term.ensures.ok).takes in
-    sum_live c.numbered.new.pool c.id.ensures t.sum
+    sum_live c.numbered.new.pool c.id.ensures (placed c.loop-place.invariant.changes.sum c.in_ok-term.ensures.ok).takes.sum
 
-pub add_child-requires-clause-live : goal.add_child-requires-clause-live
-add_child-requires-clause-live c =
-    let i = c.loop-place.invariant in
-    let t = (placed i.changes.sum c.in_ok-term.ensures.ok).takes in
-    root_held c.in_ok-sum.sum _ t.sum.handed.root
-
-pub add_child-requires-clause-root : goal.add_child-requires-clause-root
-add_child-requires-clause-root c =
-    given_root c.in_ok-term.ensures.ok
-
-pub add_child-requires-clause-apart : goal.add_child-requires-clause-apart
-add_child-requires-clause-apart c =
-    let i = c.loop-place.invariant in
-    let t = (placed i.changes.sum c.in_ok-term.ensures.ok).takes in
-    roots_apart c.in_ok-term.ensures.stands t
+pub add_child-requires : goal.add_child-requires
+add_child-requires c =
+    let t = (placed c.loop-place.invariant.changes.sum c.in_ok-term.ensures.ok).takes in
+    record { stands = search rules; live = root_held c.in_ok-sum.sum _ t.sum.handed.root; within = search rules; root = given_root c.in_ok-term.ensures.ok; apart = roots_apart c.in_ok-term.ensures.stands t }
 
 pub loop-place-preserved : goal.loop-place-preserved
 loop-place-preserved c =

@@ -1,0 +1,217 @@
+-- A coefficient beside the other factors of a product, and what is made of both.
+use Rattle.std.proofs.Common.{ℕ, ◌≡◌, ◌≤◌, ◌+◌, ◌*◌, ◌^◌, ◌∙◌, Bool, List, length, Result, Ok, Err, eqb, true, false, [], ◌∷◌, refl, sym, ap, subst, arith}
+use Rattle.std.specs.Prelude.{IfOk, IfErr, IsErr, IsErrAnd}
+use Rattle.product_reduce.proofs.Shared.{PlainValue, plain_value, IsPlainAnswer, counted, HasPowersOf, SpansTree, SpansTrees, put_room, product_count, counts_one, product_bytes, pow_pos, passed_lacks, result_lacks, Tree, undef, mult, Trees, none, count, is_mult, is_undef, are_rationals, has_undef, size, are_reduced, AnswersRationals, AnswersRationalFactors, AnswersRationalStep, NumberFault, Overflow, State, free_of, tree_of, children_of, Forest, forest, Stands, KeepsRefusals, IsHanded, Gives, KeepsFront, without_root, behind_first, front_after_one, front_after_two, gives_as, given_told, by_test, overflow_as, passed_on, OfOverflow, Joining, Step, IfDone, IfAgain, IfFinished, IfJoined, AreOthers, IsStop, at_zero, at_end, IsRejoined, IsFinished, IsJoined, IsOrdered, IsGathered, AreFactorsHeld, IsFactorHeld, IsCoefficient, coefficient_times, have_partners, opened, numbers_in, others_in, MultiplyingOverflows, SpreadingOverflows, multiplying, spreading, IsProduct, Becomes, IsTakenOut, factors_in}
+use Rattle.product_reduce.specs.Misfits.{IsFactorMisfit}
+use Rattle.calc_room.specs.Needs.{product_need}
+use Rattle.tree_handles.proofs.Refused.{refused_as as refused_on}
+use Rattle.tree_handles.specs.Causes.{IsCaused}
+use Rattle.tree_handles.specs.Lacking.{LacksBelow}
+use Rattle.tree_room.specs.Needs.{product_step_room}
+use Rattle.product_reduce.proofs.Beside.{beside_product, beside_apart, behind_beside}
+use Rattle.product_reduce.proofs.Finished.{reduced_opened, stopped, rejoined}
+use Rattle.product_reduce.proofs.FreeBytes.{becomes_free, taken_out_free, opened_size, step_lacks_numbers, step_lacks_pair}
+use Rattle.product_reduce.proofs.Gathered.{gathered}
+use Rattle.product_reduce.proofs.GatheredCounts.{finished_counted, others_at_most}
+use Rattle.product_reduce.proofs.GatheredParts.{finished_powers, coefficient_spanned, spans_finished, spans_factors, spans_opened, spans_others}
+use Rattle.product_reduce.proofs.HeldProducts.{apart, finished_held}
+use Rattle.product_reduce.proofs.LastSteps.{permuted_none_is}
+use Rattle.product_reduce.proofs.Products.{product_at, factors_are}
+use Rattle.product_reduce.proofs.Sorted.{permuted_lists}
+use Rattle.product_reduce.proofs.SpreadFits.{no_spreading}
+use Rattle.product_reduce.proofs.Stepped.{mult_words, handed_product, others_are, opened_value, none_beside}
+use Rattle.product_reduce.specs.declared.gathering.Joining.TheVariants as joining
+use Rattle.reduce_port.specs.declared.step.Step.TheVariants as step
+use Rattle.tree_handles.specs.declared.fault.NumberFault.TheVariants as fault
+
+-- ---- the factors are opened
+
+-- a product of reduced factors none of which is Undef, and then with the products in it opened
+pub record AreOpened (i : ℕ) (old mid : State) : Type 0 where
+  pub product : IsProduct i (forest old) (factors_in i (forest old))
+  pub some : 1 ≤ count (factors_in i (forest old))
+  pub reduced : are_reduced (factors_in i (forest old)) ≡ true
+  pub defined : has_undef (factors_in i (forest old)) ≡ false
+  pub stands : Stands mid
+  pub becomes : Becomes i (forest old) (forest mid) (opened (factors_in i (forest old)))
+  pub factors : factors_in i (forest mid) ≡ opened (factors_in i (forest old))
+  pub free : free_of mid + size (mult (opened (factors_in i (forest old)))) ≡ free_of old + size (tree_of i old)
+
+pub opens : {i : ℕ} {old mid : State} → Stands old → IsHanded i (forest old) → is_mult (tree_of i old) ≡ true → 1 ≤ count (factors_in i (forest old)) → are_reduced (factors_in i (forest old)) ≡ true → has_undef (factors_in i (forest old)) ≡ false
+    → Stands mid → KeepsRefusals old mid → Becomes i (forest old) (forest mid) (opened (factors_in i (forest old))) → AreOpened i old mid
+opens so h m n r d sm k b =
+    let p = handed_product h m in
+    record { product = p; some = n; reduced = r; defined = d; stands = sm; becomes = b; factors = factors_are b.product; free = omega (arith, becomes_free so sm k p b, ap size p.tree) }
+
+pub reduced_now : {i : ℕ} {old mid : State} → AreOpened i old mid → are_reduced (factors_in i (forest mid)) ≡ true
+reduced_now {i = i} {old = old} o = ap are_reduced o.factors ∙ reduced_opened (factors_in i (forest old)) o.reduced o.defined
+
+-- the value of rationals
+pub rationals_opened : {i : ℕ} {old mid : State} (P : PlainValue → Type 0) → AreOpened i old mid → are_rationals (factors_in i (forest old)) ≡ true
+    → (are_rationals (factors_in i (forest mid)) ≡ true → 1 ≤ count (factors_in i (forest mid)) → P (plain_value (mult (factors_in i (forest mid))))) → P (plain_value (tree_of i old))
+rationals_opened {i = i} {old = old} {mid = mid} P o r k =
+    let same : factors_in i (forest mid) ≡ factors_in i (forest old) = opened_value (factors_in i (forest old)) (factors_in i (forest mid)) r o.factors in
+    let value : plain_value (mult (factors_in i (forest mid))) ≡ plain_value (tree_of i old) = ap (λ (us : Trees). plain_value (mult us)) same ∙ ap plain_value (sym o.product.tree) in
+    subst P value (k (ap are_rationals same ∙ r) (subst (λ (us : Trees). 1 ≤ count us) (sym same) o.some))
+
+-- ---- Numbers that are not multiplied
+
+pub numbers_overflow : {A : Type 0} {i : ℕ} {old mid : State} (r : Result A NumberFault) (f : NumberFault) → IsErr r → IsErrAnd r (λ x. x ≡ f) → AreOpened i old mid
+    → OfOverflow (MultiplyingOverflows (numbers_in (factors_in i (forest mid)))) f → IfErr r (OfOverflow (IsFactorMisfit (factors_in i (forest old))))
+numbers_overflow {i = i} {old = old} r f n e o x = passed_on r f (OfOverflow (IsFactorMisfit (factors_in i (forest old)))) n e (overflow_as f x (λ v m. multiplying (subst (λ (us : Trees). MultiplyingOverflows (numbers_in us) v) o.factors m)))
+
+pub numbers_fit : {A : Type 0} {i : ℕ} {old mid : State} (r : Result A NumberFault) (f : NumberFault) (h l : ℕ) → IsErr r → IsErrAnd r (λ x. x ≡ f) → AreOpened i old mid → AreFactorsHeld (factors_in i (forest old)) h l → 2 * h + 4 * l ≤ 124
+    → ((p q : ℕ) → AreFactorsHeld (numbers_in (factors_in i (forest mid))) p q → 2 * p + 4 * q ≤ 124 → OfOverflow (λ v. ⊥) f) → IfErr r (OfOverflow (λ v. ⊥))
+numbers_fit {i = i} {old = old} r f h l n e o a few k =
+    let s = apart (factors_in i (forest old)) o.reduced o.defined a in
+    passed_on r f (OfOverflow (λ v. ⊥)) n e (k s.p s.q (subst (λ (us : Trees). AreFactorsHeld (numbers_in us) s.p s.q) (sym o.factors) s.numbers) (omega (arith, s.high, s.low, few)))
+
+pub numbers_room : {A : Type 0} {i : ℕ} {old mid : State} (gs : List ℕ) (r : Result A NumberFault) (f : NumberFault) → IsErrAnd r (λ x. x ≡ f) → AreOpened i old mid → SpansTree gs (tree_of i old)
+    → (SpansTrees gs (factors_in i (forest mid)) → LacksBelow (product_need * 2 ^ length gs) (free_of mid) f)
+    → IfErr r (LacksBelow (product_step_room (product_count (factors_in i (forest old))) (2 ^ length gs)) (free_of old + size (tree_of i old)))
+numbers_room {i = i} {old = old} gs r f e o s k =
+    let ts = factors_in i (forest old) in
+    let t = spans_factors gs _ ts o.product.tree s in
+    passed_lacks r f _ _ e (k (subst (SpansTrees gs) (sym o.factors) (spans_opened gs ts t)))
+    (λ g l. step_lacks_numbers (product_count ts) (2 ^ length gs) (size (mult ts)) _ (product_bytes gs ts o.reduced t) (omega (arith, o.free, ap size o.product.tree, opened_size ts, l)))
+
+-- ---- the coefficient is taken out
+
+-- it stands beside a product of the other factors
+pub record AreParted (i h : ℕ) (old now : State) : Type 0 where
+  pub reduced : are_reduced (factors_in i (forest old)) ≡ true
+  pub defined : has_undef (factors_in i (forest old)) ≡ false
+  pub tree : tree_of i old ≡ mult (factors_in i (forest old))
+  pub product : IsProduct i (forest now) (factors_in i (forest now))
+  pub factors : factors_in i (forest now) ≡ others_in (opened (factors_in i (forest old)))
+  pub others : AreOthers (factors_in i (forest now))
+  pub coefficient : IsCoefficient (tree_of h now) (opened (factors_in i (forest old)))
+  pub apart : eqb h i ≡ false
+  pub rest : without_root i (without_root h (forest now)) ≡ without_root i (forest old)
+  pub free : free_of now + size (tree_of h now) + size (mult (factors_in i (forest now))) ≡ free_of old + size (tree_of i old)
+  pub front : (new : Forest) → KeepsFront (i ∷ h ∷ []) (forest now) new → KeepsFront (i ∷ []) (forest old) new
+
+pub parted : {i h : ℕ} {old mid now : State} → AreOpened i old mid → Stands now → KeepsRefusals mid now → IsTakenOut i (others_in (factors_in i (forest mid))) (forest mid) (forest now) h (tree_of h now)
+    → IsCoefficient (tree_of h now) (factors_in i (forest mid)) → KeepsFront (i ∷ []) (forest mid) (forest now) → AreParted i h old now
+parted {i = i} {h = h} {old = old} {now = now} o sn k y c f =
+    let p = beside_product y.beside y.becomes.product in
+    let own : factors_in i (forest now) ≡ others_in (opened (factors_in i (forest old))) = factors_are p ∙ ap others_in o.factors in
+    record {
+      reduced = o.reduced;
+      defined = o.defined;
+      tree = o.product.tree;
+      product = product_at p refl (sym (factors_are p));
+      factors = own;
+      others = subst AreOthers (sym own) (others_are (factors_in i (forest old)) o.reduced o.defined);
+      coefficient = subst (IsCoefficient (tree_of h now)) o.factors c;
+      apart = beside_apart i y.beside y.becomes.product.handed.root;
+      rest = ap (without_root i) y.beside.rest ∙ y.becomes.others ∙ o.becomes.others;
+      free = omega (arith, o.free, taken_out_free o.stands sn k o.becomes.product y, ap (λ (us : Trees). size (mult us)) (factors_are p));
+      front = λ new l. front_after_two behind_first (behind_beside y.beside (front_after_one behind_first o.becomes.front y.becomes.front)) (front_after_one behind_first o.becomes.front f) l;
+    }
+
+-- ---- what is made of both is made of the product
+
+pub stop_given : {i h g : ℕ} {old now : State} {new : Forest} → (p : AreParted i h old now) → Gives (without_root i (without_root h (forest now))) new g (IsStop (tree_of h now) (factors_in i (forest now)))
+    → Gives (without_root i (forest old)) new g (IsFinished (factors_in i (forest old)))
+stop_given {i = i} {h = h} {old = old} {now = now} p x = gives_as x p.rest (λ t e. stopped (tree_of h now) (factors_in i (forest old)) (factors_in i (forest now)) t p.defined p.coefficient p.factors e)
+
+pub rejoin_given : {i h g : ℕ} {old now : State} {new : Forest} → (p : AreParted i h old now) → Gives (without_root i (without_root h (forest now))) new g (IsRejoined (tree_of h now) (factors_in i (forest now)))
+    → Gives (without_root i (forest old)) new g (IsJoined (factors_in i (forest old)))
+rejoin_given {i = i} {h = h} {old = old} {now = now} p x = gives_as x p.rest (λ t e. rejoined (tree_of h now) (factors_in i (forest old)) (factors_in i (forest now)) t p.defined p.coefficient p.factors e)
+
+pub gathered_given : {i h g : ℕ} {old now : State} {new : Forest} → (p : AreParted i h old now) → Gives (without_root i (without_root h (forest now))) new g (IsOrdered (tree_of h now) (factors_in i (forest now)))
+    → Gives (without_root i (forest old)) new g (IsGathered (factors_in i (forest old)))
+gathered_given {i = i} {h = h} {old = old} {now = now} p x = gives_as x p.rest (λ t e. gathered (tree_of h now) (factors_in i (forest old)) (factors_in i (forest now)) t p.reduced p.defined p.coefficient p.factors e)
+
+pub spreading_given : {A : Type 0} {i h : ℕ} {old now : State} (r : Result A NumberFault) → AreParted i h old now → IfErr r (OfOverflow (SpreadingOverflows (tree_of h now) (factors_in i (forest now))))
+    → IfErr r (OfOverflow (IsFactorMisfit (factors_in i (forest old))))
+spreading_given {h = h} {now = now} r p x = refused_on r x (λ o m. spreading (tree_of h now) p.coefficient (subst (λ (ts : Trees). SpreadingOverflows (tree_of h now) ts o) p.factors m))
+
+pub spreading_fits : {A : Type 0} {i h : ℕ} {old now : State} (new : State) (r : Result A NumberFault) (k l : ℕ) → AreParted i h old now → AreFactorsHeld (factors_in i (forest old)) k l → 2 * k + 4 * l ≤ 124
+    → IfErr r (OfOverflow (SpreadingOverflows (tree_of h now) (factors_in i (forest now)))) → IfErr r (IsCaused new) → IfErr r (OfOverflow (λ o. ⊥))
+spreading_fits {i = i} {h = h} {old = old} {now = now} new r k l p a few x u =
+    no_spreading r new (factors_in i (forest old)) (tree_of h now) k l p.reduced p.defined a few p.coefficient (refused_on r x (λ o m. subst (λ (ts : Trees). SpreadingOverflows (tree_of h now) ts o) p.factors m)) u
+
+pub parted_room : {A : Type 0} {i h : ℕ} {old now : State} (gs : List ℕ) (r : Result A NumberFault) → AreParted i h old now → SpansTree gs (tree_of i old)
+    → (SpansTree gs (tree_of h now) → SpansTrees gs (factors_in i (forest now))
+    → IfErr r (LacksBelow (put_room (counted (mult (factors_in i (forest now)))) (2 ^ length gs) + 56) (free_of now + size (tree_of h now) + size (mult (factors_in i (forest now))))))
+    → IfErr r (LacksBelow (product_step_room (product_count (factors_in i (forest old))) (2 ^ length gs)) (free_of old + size (tree_of i old)))
+parted_room {i = i} {h = h} {old = old} {now = now} gs r p s k =
+    let ts = factors_in i (forest old) in
+    let us = others_in (opened ts) in
+    let o : SpansTrees gs (opened ts) = spans_opened gs ts (spans_factors gs _ ts p.tree s) in
+    let room : put_room (counted (mult (factors_in i (forest now)))) (2 ^ length gs) ≡ put_room (counted (mult us)) (2 ^ length gs) = ap (λ (vs : Trees). put_room (counted (mult vs)) (2 ^ length gs)) p.factors in
+    result_lacks r _ _ (k (coefficient_spanned gs (opened ts) (tree_of h now) o p.coefficient) (subst (SpansTrees gs) (sym p.factors) (spans_others gs (opened ts) o)))
+    (λ g l. step_lacks_pair (counted (mult us)) (product_count ts) (2 ^ length gs) _ (pow_pos (length gs)) (others_at_most ts) (omega (arith, p.free, room, l)))
+
+-- ---- rationals
+
+-- a coefficient alone is the answer
+stop_alone : (c : Tree) (ts : Trees) (t : Tree) → ts ≡ none → IsStop c ts t → t ≡ c
+stop_alone c ts t e (at_zero z is) = is
+stop_alone c ts t e (at_end z d h) = h.written.is ∙ ap (coefficient_times c) (permuted_none_is (permuted_lists ts h.written.us h.written.sorted.moved) e)
+
+no_pair : (ts : Trees) → ts ≡ none → have_partners ts ≡ true → ⊥
+no_pair ts e h = let d = ap have_partners e in cc
+
+pub answered : {i h : ℕ} {old now : State} (others : Forest) (v : PlainValue) (new : State) (r : Result Joining NumberFault) → AreParted i h old now → are_rationals (factors_in i (forest old)) ≡ true → IsPlainAnswer v (tree_of h now)
+    → IfOk r (λ s. IfFinished s (λ g. Gives others (forest new) g (IsStop (tree_of h now) (factors_in i (forest now)))))
+    → IfOk r (λ s. IfJoined s (λ g _. Gives others (forest new) g (IsOrdered (tree_of h now) (factors_in i (forest now)))))
+    → (factors_in i (forest now) ≡ none → IfErr r (λ f. ⊥)) → AnswersRationalFactors v new r
+answered {i = i} {h = h} {old = old} {now = now} others v new (Ok (joining.Done g)) p q a d j n = subst (IsPlainAnswer v) (sym (stop_alone (tree_of h now) (factors_in i (forest now)) (tree_of g new) (p.factors ∙ none_beside (factors_in i (forest old)) q) (given_told d))) a
+answered {i = i} {h = h} {old = old} {now = now} others v new (Ok (joining.Joined g at)) p q a d j n = absurd (no_pair (factors_in i (forest now)) (p.factors ∙ none_beside (factors_in i (forest old)) q) (given_told j).partners)
+answered {i = i} {h = h} {old = old} {now = now} others v new (Err f) p q a d j n = absurd (n (p.factors ∙ none_beside (factors_in i (forest old)) q))
+
+pub step_answered : {i h : ℕ} {old now : State} (others : Forest) (v : PlainValue) (new : State) (r : Result Step NumberFault) → AreParted i h old now → are_rationals (factors_in i (forest old)) ≡ true → IsPlainAnswer v (tree_of h now)
+    → IfOk r (λ s. IfDone s (λ g. Gives others (forest new) g (IsStop (tree_of h now) (factors_in i (forest now)))))
+    → IfOk r (λ s. IfAgain s (λ g. Gives others (forest new) g (IsRejoined (tree_of h now) (factors_in i (forest now)))))
+    → (factors_in i (forest now) ≡ none → IfErr r (λ f. ⊥)) → AnswersRationalStep v new r
+step_answered {i = i} {h = h} {old = old} {now = now} others v new (Ok (step.Done g)) p q a d j n = subst (IsPlainAnswer v) (sym (stop_alone (tree_of h now) (factors_in i (forest now)) (tree_of g new) (p.factors ∙ none_beside (factors_in i (forest old)) q) (given_told d))) a
+step_answered {i = i} {h = h} {old = old} {now = now} others v new (Ok (step.Again g)) p q a d j n = absurd (no_pair (factors_in i (forest now)) (p.factors ∙ none_beside (factors_in i (forest old)) q) (given_told j).partners)
+step_answered {i = i} {h = h} {old = old} {now = now} others v new (Err f) p q a d j n = absurd (n (p.factors ∙ none_beside (factors_in i (forest old)) q))
+
+refused_words : (v : PlainValue) (new : State) (e : NumberFault) → AnswersRationals v new (Err e) → AnswersRationalFactors v new (Err e)
+refused_words v new (fault.Full full) h = h
+refused_words v new (fault.Overflow o) h = h
+
+pub refused : (v : PlainValue) (new : State) (r : Result Joining NumberFault) (e : NumberFault) → IsErrAnd r (λ x. x ≡ e) → AnswersRationals v new (Err e) → AnswersRationalFactors v new r
+refused v new (Ok x) e h k = absurd h
+refused v new (Err x) e h k = subst (λ (y : NumberFault). AnswersRationalFactors v new (Err y)) (sym h) (refused_words v new e k)
+
+step_refused_words : (v : PlainValue) (new : State) (e : NumberFault) → AnswersRationals v new (Err e) → AnswersRationalStep v new (Err e)
+step_refused_words v new (fault.Full full) h = h
+step_refused_words v new (fault.Overflow o) h = h
+
+pub step_refused : (v : PlainValue) (new : State) (r : Result Step NumberFault) (e : NumberFault) → IsErrAnd r (λ x. x ≡ e) → AnswersRationals v new (Err e) → AnswersRationalStep v new r
+step_refused v new (Ok x) e h k = absurd h
+step_refused v new (Err x) e h k = subst (λ (y : NumberFault). AnswersRationalStep v new (Err y)) (sym h) (step_refused_words v new e k)
+
+-- ---- a reduced tree
+
+-- it counts no more than the product, has no new powers, and is spanned and held by what spans and holds that
+pub record IsWithin (p t : Tree) : Type 0 where
+  pub counted : counted t ≤ counted p
+  pub powers : HasPowersOf (children_of p) t
+  pub spanned : (gs : List ℕ) → SpansTree gs p → SpansTree gs t
+  pub held : (h l : ℕ) → has_undef (children_of p) ≡ false → AreFactorsHeld (children_of p) h l → IsFactorHeld t h l
+
+undef_words : (t : Tree) → is_undef t ≡ true → t ≡ undef
+undef_words undef h = refl
+undef_words _ h = cc
+
+pub within : {t : Tree} (p : Tree) → is_mult p ≡ true → are_reduced (children_of p) ≡ true → IsFinished (children_of p) t → IsWithin p t
+within {t = t} p m r f =
+    by_test (λ (b : Bool). IsWithin p t) (has_undef (children_of p))
+    (λ u. let e = undef_words t (f.undefined ∙ u) in record {
+      counted = omega (arith, ap counted e, counts_one p);
+      powers = subst (HasPowersOf (children_of p)) (sym e) tt;
+      spanned = λ gs s. subst (SpansTree gs) (sym e) tt;
+      held = λ h l d a. absurd (let no : true ≡ false = sym u ∙ d in cc);
+    })
+    (λ d. let w = f.written d in record {
+      counted = omega (arith, ap counted (mult_words p m), finished_counted (children_of p) t r d w);
+      powers = finished_powers (children_of p) t w;
+      spanned = λ gs s. spans_finished gs (children_of p) t (spans_factors gs p (children_of p) (mult_words p m) s) w;
+      held = λ h l d a. finished_held (children_of p) t h l r d a w;
+    })
