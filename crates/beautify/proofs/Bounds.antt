@@ -9,7 +9,7 @@ use Rattle.beautify.proofs.Sizes.{sizes-append, eight_each}
 use Rattle.beautify.proofs.Trees.{unless_one_by, power_below_by}
 use Rattle.calc_terms.specs.declared.kind.Kind.TheVariants as kind
 
-size-minus : (b : Bool) (t : Tree) → size (with_minus b t) ≤ size t + 8
+pub size-minus : (b : Bool) (t : Tree) → size (with_minus b t) ≤ size t + 8
 size-minus true t = omega arith
 size-minus false t = omega arith
 
@@ -111,7 +111,7 @@ mutual
   bound (root a) h = omega (arith, size-minus (has_minus a) (unsigned_face a), bound a h.1)
   bound t h = absurd (h.0)
 
-  bound_terms : (s : SoFar) (ts : Trees) → AllPartsOf IsShowable ts → size (as_tree (next_terms s ts)) ≤ size (as_tree s) + 3 * sizes ts
+  pub bound_terms : (s : SoFar) (ts : Trees) → AllPartsOf IsShowable ts → size (as_tree (next_terms s ts)) ≤ size (as_tree s) + 3 * sizes ts
   bound_terms s none h = omega arith
   bound_terms s (more t ts) h = omega (arith, size-next s (has_minus t) (unsigned_face t), bound t h.0, bound_terms (next_term s (has_minus t) (unsigned_face t)) ts h.1)
 

@@ -13,18 +13,20 @@ pub record IsChildOf (n j i : ℕ) (g : Forest) : Type 0 where
 pub base_distinct : {g : Forest} {k : ℕ} {P : Tree → Type 0} (s : State) → Stands s → Gives g (forest s) k P → Distinct g
 base_distinct {g = g} s st h = (AreDistinct-parts (flatten g) (flatten h.tree) (subst AreDistinct (ap flatten h.ends.whole ∙ flatten-join g h.tree) (distinct s st))).0
 
-many_children : (i : ℕ) (g : Forest) → IsExpression i g → arity (kids_of i g) ≡ count (children_of (plain (tree_at i g)))
+pub many_children : (i : ℕ) (g : Forest) → IsExpression i g → arity (kids_of i g) ≡ count (children_of (plain (tree_at i g)))
 many_children i g e = sym (ap count (children_of-plain (tree_at i g) e.whole) ∙ count-plains (kids_of i g))
 
 pub within_kids : {g : Forest} {i k : ℕ} {P : Tree → Type 0} (s : State) (n : ℕ) → Gives g (forest s) k P → IsExpression i g → n < count (children_of (plain (tree_at i g))) → n < arity (kids_of i (forest s))
 within_kids {g = g} {i = i} s n h e w = omega (arith, w, many_children i g e, ap (λ (t : Forest). arity (kids t)) (in_base h e).1)
 
-pub child_of : {g : Forest} {i k : ℕ} {P : Tree → Type 0} (s : State) (n j : ℕ) → Stands s → Gives g (forest s) k P → IsExpression i g → n < count (children_of (plain (tree_at i g))) → j ≡ root_id (tree_nth n (kids_of i (forest s))) → IsChildOf n j i g
-child_of {g = g} {i = i} s n j st h e w is =
-    let here : j ≡ root_id (tree_nth n (kids_of i g)) = is ∙ ap (λ (t : Forest). root_id (tree_nth n (kids t))) (in_base h e).1 in
-    let x = child_tree n i g (base_distinct s st h) (omega (arith, w, many_children i g e)) in
+pub child_here : {i : ℕ} (n j : ℕ) (g : Forest) → Distinct g → IsExpression i g → n < count (children_of (plain (tree_at i g))) → j ≡ root_id (tree_nth n (kids_of i g)) → IsChildOf n j i g
+child_here {i = i} n j g d e w here =
+    let x = child_tree n i g d (omega (arith, w, many_children i g e)) in
     let tree : tree_at j g ≡ tree_nth n (kids_of i g) = ap (λ (m : ℕ). tree_at m g) here ∙ x.tree-is in
     record { expression = record { live = ap (λ (m : ℕ). holds m g) here ∙ x.live; whole = subst AllExpressions (sym tree) (whole_child n i g e.whole) }; plain-is = ap plain tree ∙ expression_child n i g e }
+
+pub child_of : {g : Forest} {i k : ℕ} {P : Tree → Type 0} (s : State) (n j : ℕ) → Stands s → Gives g (forest s) k P → IsExpression i g → n < count (children_of (plain (tree_at i g))) → j ≡ root_id (tree_nth n (kids_of i (forest s))) → IsChildOf n j i g
+child_of {g = g} s n j st h e w is = child_here n j g (base_distinct s st h) e w (is ∙ ap (λ (t : Forest). root_id (tree_nth n (kids t))) (in_base h e).1)
 
 -- ---- the kind of a node, and the sides of a power and of a root
 

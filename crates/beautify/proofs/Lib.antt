@@ -24,3 +24,4 @@ pub mod FaceTexts
 pub mod OwnFaces
 pub mod NaturalNodes
 pub mod Shared
+pub mod SumFaces

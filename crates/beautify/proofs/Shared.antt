@@ -3,8 +3,8 @@ pub use Rattle.beautify.specs.Lists.{behind, cut, first, gathered}
 pub use Rattle.beautify.specs.Marks.{IsChildMark, IsMark}
 pub use Rattle.beautify.specs.OwnFaces.{has_natural_numbers, holds_natural, is_natural}
 pub use Rattle.beautify.specs.Room.{fraction_room, node_room, number_room, product_room}
-pub use Rattle.beautify.specs.Showing.{AreFactors, HoldsFaces, IsFactor, IsShowable, is_negative_num, is_summed, stands_below, unsigned_faces}
-pub use Rattle.beautify.specs.Stacks.{FailsAbove, IsStack, Restacks, stacked}
+pub use Rattle.beautify.specs.Showing.{AreFactors, HoldsFaces, IsFactor, IsShowable, face_as, is_negative_num, is_single, is_summed, stands_below, unsigned_faces}
+pub use Rattle.beautify.specs.Stacks.{Fails, FailsAbove, IsStack, Restacks, stacked}
 pub use Rattle.beautify.specs.declared.marks.Mark.{Mark}
 pub use Rattle.calc_algebra.proofs.ReducedLaws.{AllParts-map, AllParts-zip, reduced_words}
 pub use Rattle.calc_algebra.specs.Meanings.{Assignment, IsPower, IsWholePower, Means, MeansProduct, MeansSum}

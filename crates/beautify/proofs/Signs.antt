@@ -1,9 +1,8 @@
 -- Signs and exponents of trees.
 use Rattle.std.proofs.Common.{◌≡◌, ℕ, zero, suc, refl, ap, arith, true, false}
 use Rattle.std.specs.Prelude.{ℤ, pos, negsuc, nat_abs}
-use Rattle.beautify.proofs.Shared.{below_zero, int_is_negative, Tree, num, root_kind, is_negative_num, le-ltb}
+use Rattle.beautify.proofs.Shared.{below_zero, int_is_negative, le-ltb}
 use lib.Signed.{lt_z}
-use Rattle.calc_terms.specs.declared.kind.Kind.TheVariants as kind
 
 pub lt_z-zero : (p : ℤ) → lt_z p (pos 0) ≡ int_is_negative p
 lt_z-zero (pos n) = le-ltb n 0 (omega arith)

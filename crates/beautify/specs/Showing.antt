@@ -1,10 +1,15 @@
 -- Nodes of reduced trees, as their faces need them.
 use Rattle.std.specs.Prelude.{ℕ, suc, ◌≡◌, ⊤, Bool, true, false, nat_lt}
-use Rattle.calc_language.specs.Faces.{unsigned_face, exponent_below, has_minus}
+use Rattle.calc_language.specs.Faces.{face, unsigned_face, exponent_below, has_minus}
 use Rattle.calc_language.specs.Grammar.{SoFar, summed}
 use Rattle.calc_terms.specs.Integers.{int_is_negative}
 use Rattle.calc_terms.specs.Trees.{Tree, num, symbol, add, mult, power, root, Trees, none, more, append, count, HasTwo}
 use Rattle.beautify.specs.Lists.{behind}
+
+-- the face of a tree, with its minus sign or without
+abbrev pub face_as : Bool → Tree → Tree
+face_as true t = face t
+face_as false t = unsigned_face t
 
 -- the faces of trees without their minus signs
 abbrev pub unsigned_faces : Trees → Trees
@@ -52,3 +57,8 @@ IsShowable _ = ⊥
 abbrev pub is_summed : SoFar → Bool
 is_summed (summed ts) = true
 is_summed _ = false
+
+-- anything else, to which `+` adds a sum of its own
+abbrev pub is_single : SoFar → Bool
+is_single (summed ts) = false
+is_single _ = true

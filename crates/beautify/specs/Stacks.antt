@@ -27,3 +27,9 @@ pub record FailsAbove (i : ℕ) (old new : State) (full : Full) : Type 0 where
   pub first : Starts (without_root i (forest old)) (forest new)
   pub refuses : Refuses old new full
   pub lacks : LacksBytes new full
+
+-- the same where all that stood still stands first
+pub record Fails (old new : State) (full : Full) : Type 0 where
+  pub first : Starts (forest old) (forest new)
+  pub refuses : Refuses old new full
+  pub lacks : LacksBytes new full

@@ -7,6 +7,7 @@ pub mod laws;
 mod marks;
 mod naturals;
 mod nodes;
+mod placing;
 mod products;
 mod reading;
 mod stack;

@@ -1,5 +1,5 @@
 use Rattle.std.proofs.Common.{◌≡◌, ◌<◌, ◌≤◌, ◌-◌, ℕ, suc, drop, length, refl, ap, sym, ◌∙◌, subst, arith, Bool, rules}
-use Rattle.beautify.proofs.Shared.{unsigned_face, has_minus, with_minus, Tree, Trees, none, more, count, sizes, first_of, free_of, plain, plains, nth, children_of, IsExpression, Forest, flatten, forest_of, nodes_in, holds, tree_at, without_root, forest, nodes-flatten, given_rest, one_at, behind, node_room, unsigned_faces, IsShowable, HoldsFaces, stacked, passed_on, least_size}
+use Rattle.beautify.proofs.Shared.{face_as, unsigned_face, has_minus, with_minus, Tree, Trees, none, more, count, sizes, first_of, free_of, plain, plains, nth, children_of, IsExpression, Forest, flatten, forest_of, nodes_in, holds, tree_at, without_root, forest, nodes-flatten, given_rest, one_at, behind, node_room, unsigned_faces, IsShowable, HoldsFaces, stacked, passed_on, least_size}
 use Rattle.beautify.proofs.Bounds.{bound}
 use Rattle.beautify.proofs.Children.{base_distinct}
 use Rattle.beautify.proofs.Marking.{at_root, same_tree, still_marked}
@@ -112,16 +112,23 @@ sign-requires c =
 signed : (us : Trees) (b d : Bool) (t : Tree) → us ≡ more (unsigned_face t) none → b ≡ d → more (with_minus b (nth 0 us)) (behind 1 us) ≡ more (with_minus d (unsigned_face t)) none
 signed us b d t e f = rw (e, f) refl
 
-pub returns : goal.returns
-returns c =
+pub returns-then-signed : goal.returns-then-signed
+returns-then-signed c =
     let base = without_root c.args.stack.now (forest c.args.pool.now) in
     let f = tree_at c.args.tree base in
     let tops = stacked_is c.loop-left.invariant.holds.gives ∙ done c.loop-left.left f (omega (arith, c.loop-left-test.false)) ∙ all_shown f (one_at c.args.tree base c.requires.expression.live) in
     record {
       ok = on_ok c.sign.result c.sign.ensures.ok
-          (λ r. restacks_as (then c.loop-left.invariant.holds r) (signed _ _ _ (plain f) tops (ap (λ (g : Forest). has_minus (plain (tree_at c.args.tree g))) (given_rest c.loop-left.invariant.holds.gives))));
+          (λ r. restacks_as (then c.loop-left.invariant.holds r)
+          (signed _ _ _ (plain f) tops (ap (λ (g : Forest). has_minus (plain (tree_at c.args.tree g))) (given_rest c.loop-left.invariant.holds.gives)) ∙ ap (λ (b : Bool). more (face_as b (plain f)) none) (sym c.if-signed.true)));
       fails = if_err c.sign.result c.sign.ensures.fails (λ e f. fails_then c.loop-left.invariant.holds f);
       room = if_err c.sign.result c.sign.ensures.room
           (λ e l. omega (arith, l, free_after c.requires.stands c.loop-left.invariant.stands c.requires.stack c.loop-left.invariant.holds, ap sizes c.requires.empty, ap sizes (sym (stacked_is c.loop-left.invariant.holds.gives) ∙ tops), bound (plain f) c.requires.showable, least_size (plain f)));
       stands = search rules;
     }
+
+pub returns-else-signed-clause-ok : goal.returns-else-signed-clause-ok
+returns-else-signed-clause-ok c =
+    let base = without_root c.args.stack.now (forest c.args.pool.now) in
+    let f = tree_at c.args.tree base in
+    restacks_as c.loop-left.invariant.holds (done c.loop-left.left f (omega (arith, c.loop-left-test.false)) ∙ all_shown f (one_at c.args.tree base c.requires.expression.live) ∙ ap (λ (b : Bool). more (face_as b (plain f)) none) (sym c.if-signed.false))
