@@ -1,13 +1,12 @@
 -- What a step is known to have made, in the arm for it.
-use Rattle.std.proofs.Common.{◌≡◌, ◌<◌, ◌+◌, ◌^◌, ℕ, ℤ, subst, Some, None, ◌≤◌, List, true, false, sym, ◌∙◌, ap, arith, Result, Ok, Err, refl, IfErr}
-use Rattle.deep_reduce.proofs.Shared.{Tree, State, base_in, exponent_in, IsPowerAnswer, IsStep, rewritten, IfFinished, IfJoined, IsFinished, IsGathered, IsPairAt, Joining, Rewrites, tree_of, Gives, IsHeldAsPowerOf, IfDone, Step, children_of, without_root, forest, counted, counted_among, HasPowersOf, SpansTree, mult, is_mult, is_undef, has_undef, IsHeldAsProduct, IsFactorHeld, AreFactorsHeld, KeepsRoom, HandsOn, IfGathered, given_told, numbers_among, and_parts, is_number, is_half_num, num, undef, power, none, more, IsPowerMisfit, has_no_power, has_number_power, is_rewritable, OfOverflow, NumberFault}
+use Rattle.std.proofs.Common.{◌≡◌, ◌<◌, ◌+◌, ◌^◌, ℕ, ℤ, subst, Some, None, ◌≤◌, List, true, false, sym, ◌∙◌, ap, arith, Result, refl, IfErr}
+use Rattle.deep_reduce.proofs.Shared.{Tree, State, base_in, exponent_in, IsPowerAnswer, IsStep, rewritten, IfFinished, IfJoined, IsFinished, IsGathered, IsPairAt, Joining, Rewrites, tree_of, Gives, IsHeldAsPowerOf, IfDone, Step, children_of, without_root, forest, counted, counted_among, HasPowersOf, SpansTree, mult, is_mult, is_undef, has_undef, IsHeldAsProduct, IsFactorHeld, AreFactorsHeld, KeepsRoom, HandsOn, IfGathered, given_told, numbers_among, and_parts, is_half_num, power, none, more, IsPowerMisfit, has_no_power, has_number_power, is_rewritable, OfOverflow, NumberFault}
 use Rattle.deep_reduce.proofs.JointRooms.{finished_keeps, gathered_hands_on}
 use Rattle.deep_reduce.proofs.Lacking.{product_words}
 use Rattle.deep_reduce.proofs.Settled.{gathered_product}
 use Rattle.deep_reduce.proofs.EasyNodes.{number_defined}
 use Rattle.product_reduce.specs.declared.gathering.Joining.TheVariants as joining
 use Rattle.reduce_port.specs.declared.step.Step.TheVariants as step
-use Rattle.tree_handles.specs.declared.fault.NumberFault.TheVariants as fault
 
 -- a product's step, from the state before to that after
 module _ (i : ℕ) (old new : State) where
@@ -70,12 +69,10 @@ module _ (i : ℕ) (old new : State) (m : is_mult (tree_of i old) ≡ true) wher
 
 -- what is known in any case
 pub any_fault : (f : NumberFault) (P : Type 0) → P → OfOverflow (λ o. P) f
-any_fault (fault.Full full) P p = tt
-any_fault (fault.Overflow o) P p = p
+any_fault f P h = grind arith
 
 pub any_refusal : {A : Type 0} (r : Result A NumberFault) (P : Type 0) → P → IfErr r (OfOverflow (λ o. P))
-any_refusal (Ok x) P p = tt
-any_refusal (Err f) P p = any_fault f P p
+any_refusal r P h = grind (arith, any_fault)
 
 -- both sides of a power
 both_defined : (b e : Tree) → is_undef b ≡ false → is_undef e ≡ false → has_undef (more b (more e none)) ≡ false
@@ -85,27 +82,20 @@ pub sides_defined : (t : Tree) → t ≡ power (base_in t) (exponent_in t) → i
 sides_defined t p h k = ap (λ (x : Tree). has_undef (children_of x)) p ∙ both_defined (base_in t) (exponent_in t) h k
 
 number_sides : (b e : Tree) → has_number_power b e ≡ true → (is_undef b ≡ false) × (is_undef e ≡ false)
-number_sides b (num q) h = (number_defined b (and_parts (is_number b) _ (and_parts _ _ h).0).0, refl)
-number_sides b e h = cc
-
-misfit_defined : (t : Tree) → t ≡ power (base_in t) (exponent_in t) → has_number_power (base_in t) (exponent_in t) ≡ true → has_undef (children_of t) ≡ false
-misfit_defined t p h = let s = number_sides (base_in t) (exponent_in t) h in sides_defined t p s.0 s.1
+number_sides b e h = grind (arith, number_defined, and_parts)
 
 pub misfit_fault : (t : Tree) (f : NumberFault) → t ≡ power (base_in t) (exponent_in t) → OfOverflow (IsPowerMisfit (base_in t) (exponent_in t)) f → OfOverflow (λ o. has_undef (children_of t) ≡ false) f
-misfit_fault t (fault.Full full) p m = tt
-misfit_fault t (fault.Overflow o) p m = misfit_defined t p m.number
+misfit_fault t f h k = grind (arith, number_sides, sides_defined)
 
 base_defined : (b e : Tree) → has_no_power b e ≡ false → is_undef b ≡ false
-base_defined undef e h = cc
-base_defined b e h = refl
+base_defined b e h = grind arith
 
 -- where a power is rewritten
 pub rewritten_defined : (t u : Tree) → t ≡ power (base_in t) (exponent_in t) → is_half_num (exponent_in t) ≡ false → rewritten (base_in t) (exponent_in t) ≡ Some u → has_undef (children_of t) ≡ false
 rewritten_defined t u p n h = let w = is_rewritable (base_in t) (exponent_in t) u n h in sides_defined t p (base_defined (base_in t) (exponent_in t) w.has_power) w.exponent_defined
 
 half_exponent : (e : Tree) → is_half_num e ≡ true → is_undef e ≡ false
-half_exponent (num q) h = refl
-half_exponent e h = cc
+half_exponent e h = grind arith
 
 pub half_defined : (t : Tree) → t ≡ power (base_in t) (exponent_in t) → is_half_num (exponent_in t) ≡ true → is_undef (base_in t) ≡ false → has_undef (children_of t) ≡ false
 half_defined t p h d = sides_defined t p d (half_exponent (exponent_in t) h)

@@ -1,6 +1,6 @@
 -- Calm trees, part by part, and what all parts of a tree have.
 use Rattle.std.proofs.Common.{◌≡◌, ℕ, zero, suc, ◌<◌, List, Bool, true, false, if◌then◌else◌, ap, ◌∙◌, arith}
-use Rattle.deep_reduce.proofs.Shared.{Assignment, IsAssignment, is_number, IsNumber, value, is_opaque_exponent, is_whole_num, is_half_num, num_one, base_of, KeepsMeanings, surd_of, one_meaning, number_rational, number_words, whole_fraction, one_fraction, Tree, mult, power, Trees, none, more, append, count, AllParts, AllPartsOf, IsCalmAtZero, replaced, removed, whole_is, exponent_of, joint, IsPairAt, joined_pair, nth, HasCalmExponent, IsCalm, AreCalm, MeansWhole, zeros, sum_whole, whole_number}
+use Rattle.deep_reduce.proofs.Shared.{Assignment, IsAssignment, is_number, IsNumber, value, is_opaque_exponent, is_whole_num, is_half_num, num_one, base_of, KeepsMeanings, surd_of, one_meaning, number_rational, number_words, whole_fraction, one_fraction, Tree, mult, power, Trees, none, more, count, AllParts, AllPartsOf, IsCalmAtZero, replaced, removed, whole_is, exponent_of, joint, IsPairAt, joined_pair, nth, IsCalm, AreCalm, MeansWhole, zeros, sum_whole, whole_number}
 use Rattle.calc_algebra.proofs.NumberValues.{number_means}
 use Rattle.calc_algebra.proofs.SurdLaws.{Agree-Same}
 use Rattle.tree_room.proofs.Calm.{no_half}
@@ -23,34 +23,12 @@ module _ (P : Tree → Type 0) where
   all_replaced zero u (more t ts) k h = (k, h.1)
   all_replaced (suc n) u (more t ts) k h = (h.0, all_replaced n u ts k h.1)
 
-  pub all_append : (ts us : Trees) → AllPartsOf P ts → AllPartsOf P us → AllPartsOf P (append ts us)
-  all_append none us h k = k
-  all_append (more t ts) us h k = (h.0, all_append ts us h.1 k)
-
-  pub all_first : (ts us : Trees) → AllPartsOf P (append ts us) → AllPartsOf P ts
-  all_first none us h = tt
-  all_first (more t ts) us h = (h.0, all_first ts us h.1)
-
-  pub all_rest : (ts us : Trees) → AllPartsOf P (append ts us) → AllPartsOf P us
-  all_rest none us h = h
-  all_rest (more t ts) us h = all_rest ts us h.1
-
   -- the base of a factor and its exponent
   pub all_base : (t : Tree) → AllParts P t → AllParts P (base_of t)
-  all_base (power b e) h = by (is_opaque_exponent e)
-    where
-      by : (x : Bool) → AllParts P (if x then power b e else b)
-      by true = h
-      by false = h.1
-  all_base t h = h
+  all_base t h = grind arith
 
   pub all_exponent : (t : Tree) → P num_one → AllParts P t → AllParts P (exponent_of t)
-  all_exponent (power b e) one h = by (is_opaque_exponent e)
-    where
-      by : (x : Bool) → AllParts P (if x then num_one else e)
-      by true = one
-      by false = h.2
-  all_exponent t one h = one
+  all_exponent t h k = grind arith
 
   -- two neighbours are joined, and the others stay
   pub all_joined : (n : ℕ) (ts : Trees) → IsPairAt n ts → ((t u : Tree) → AllParts P t → AllParts P u → AllParts P (joint t u)) → AllPartsOf P ts → AllPartsOf P (joined_pair n (suc n) ts)
@@ -108,9 +86,4 @@ factor_whole f t h = whole_number f num_one one_whole
 
 -- the joint of calm factors is calm
 pub joint_calm : (f : Assignment) (t u : Tree) → IsCalm f t → IsCalm f u → IsCalm f (joint t u)
-joint_calm f t u h k =
-    let P : Tree → Type 0 = HasCalmExponent f in (
-      sum_whole f (exponent_of t) (exponent_of u) (factor_whole f t h) (factor_whole f u k),
-      all_base P t h,
-      (tt, (all_exponent P t tt h, (all_exponent P u tt k, tt))),
-    )
+joint_calm f t u h k = grind (arith, sum_whole, factor_whole, all_base, all_exponent)

@@ -1,6 +1,6 @@
 -- While a child is reduced in its own room, the other children and the node stand within the tree's room.
 use Rattle.std.proofs.Common.{◌≡◌, ℕ, ◌+◌, ◌*◌, ◌^◌, ◌≤◌, ◌<◌, List, length, Bool, true, false, if◌then◌else◌, inl, inr, refl, sym, ap, ◌∙◌, arith}
-use Rattle.deep_reduce.proofs.Shared.{and_parts, all_simple, are_all_simple, room, roots, roots_of, unbounded_room, Tree, num, add, mult, power, root, neg, sub, div, Trees, none, more, append, names, nodes, size, sizes, HasNodesFor, SpansNode, IsReducedFrom, MayLack, IsCalmAtZero, SpansRootOf, is_half_num, nodes_by_children, State, free_of, LacksBelow, base_in, exponent_in, handed_bytes, children_of, tree_of, IsHanded, Stands, forest, NumberFault, used_forest, answer_bytes, answers_bytes, simple_room, more_rooms, reduced_bytes, room_is, five_times, spanned_room, term_room, two_simple, power_simple, each_once, cases_Bool}
+use Rattle.deep_reduce.proofs.Shared.{and_parts, all_simple, are_all_simple, room, roots, roots_of, unbounded_room, Tree, add, Trees, none, more, append, names, nodes, size, sizes, HasNodesFor, SpansNode, IsReducedFrom, MayLack, IsCalmAtZero, SpansRootOf, is_half_num, nodes_by_children, State, free_of, LacksBelow, base_in, exponent_in, handed_bytes, children_of, tree_of, IsHanded, Stands, forest, NumberFault, used_forest, answer_bytes, answers_bytes, simple_room, more_rooms, reduced_bytes, room_is, five_times, spanned_room, term_room, two_simple, power_simple, each_once, cases_Bool}
 use Rattle.deep_reduce.proofs.NodeRewrites.{AreReducedFrom, IsOver}
 use Rattle.deep_reduce.proofs.TreeRooms.{ready}
 use Rattle.deep_reduce.proofs.Lacking.{lacks_as}
@@ -22,24 +22,14 @@ pub record HasRoomFor (t : Tree) (before : Trees) (c : Tree) (rest : Trees) : Ty
   pub fits : 8 + (answers_bytes before + answers_bytes rest) + room c ≤ room t
 
 simple_children : (t : Tree) → all_simple t ≡ true → are_all_simple (children_of t) ≡ true
-simple_children (add ts) s = s
-simple_children (mult ts) s = s
-simple_children (power b e) s = let (p, q) = power_simple b e s in rw (p, q) refl
-simple_children (root a) s = rw s refl
-simple_children (neg a) s = rw s refl
-simple_children (sub a b) s = let (p, q) = two_simple a b s in rw (p, q) refl
-simple_children (div a b) s = let (p, q) = two_simple a b s in rw (p, q) refl
-simple_children t s = refl
+simple_children t h = grind (arith, power_simple, two_simple)
 
 roots_over : (t : Tree) → roots_of (children_of t) ≤ roots t
-roots_over (num q) = omega arith
-roots_over t = omega arith
+roots_over t = grind arith
 
 -- a node has the room of the sum of its children
 room_over : (t : Tree) → all_simple t ≡ true → room (add (children_of t)) ≤ room t
-room_over t s =
-    let ts = children_of t in
-    omega (arith, room_is (add ts) (simple_children t s), room_is t s, more_rooms (nodes t) (roots_of ts) (roots t) (roots_over t), ap (λ (n : ℕ). simple_room n (2 ^ roots_of ts)) (nodes_by_children t))
+room_over t h = grind (arith, room_is, simple_children, more_rooms, roots_over, nodes_by_children)
 
 pub child_room : (t : Tree) (before : Trees) (c : Tree) (rest : Trees) → children_of t ≡ append before (more c rest) → all_simple t ≡ true → HasRoomFor t before c rest
 child_room t before c rest h s =

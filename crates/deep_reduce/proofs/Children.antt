@@ -1,40 +1,16 @@
 -- A child of a power or of a product that is taken out, reduced and put back.
-use Rattle.std.proofs.Common.{◌≡◌, ℕ, zero, suc, ◌≤◌, ◌<◌, refl, sym, ap, ◌∙◌, subst, arith, Bool, true, false, [], ◌∷◌, ◌+◌, ◌*◌}
-use Rattle.deep_reduce.proofs.Shared.{Payload, bare, Tree, add, power, Trees, none, more, append, count, IsOver, IsTaken, taken, once_count, inserted_behind, replaced, gives_itself, base_in, exponent_in, nth, grown, plains, plain, inserted, children_of, Forest, empty, tree, kids, root_payload, tree_nth, without_nth, IsOnce, IsHanded, Ends, Gives, root_tree, put, gives_as, children_of-plain, whole_kids, root_arity, KeepsFront, without_root, behind_first, behind_new, front_same, front_without, front_after_one, given_rest, Kind, nest_of, weight, load_of_factors, mult, root_kind, is_mult, expression, seen, nest_of_rewritten, weight_below, IsNested, IsUnfinished, IsMultiplied, IsLifted, State, tree_of, IsExpression, tree_at, Stands, forest}
-use Rattle.tree_handles.proofs.Counted.{all-kids}
+use Rattle.std.proofs.Common.{◌≡◌, ℕ, zero, suc, ◌≤◌, ◌<◌, refl, sym, ap, ◌∙◌, subst, arith, true, false, [], ◌∷◌, ◌+◌, ◌*◌}
+use Rattle.deep_reduce.proofs.Shared.{Tree, add, power, Trees, none, more, append, count, IsOver, IsTaken, taken, inserted_behind, replaced, gives_itself, base_in, exponent_in, nth, plain, inserted, children_of, Forest, kids, tree_nth, without_nth, IsHanded, Ends, Gives, root_tree, put, gives_as, KeepsFront, without_root, behind_first, behind_new, front_same, front_without, front_after_one, given_rest, Kind, nest_of, weight, load_of_factors, mult, root_kind, is_mult, expression, seen, nest_of_rewritten, weight_below, IsNested, IsUnfinished, IsMultiplied, IsLifted, State, tree_of, IsExpression, tree_at, Stands, forest}
+use Rattle.power_reduce.proofs.Powers.{over_power as handed_power}
+use Rattle.power_reduce.specs.PowerAnswers.{is_power}
 use Rattle.deep_reduce.proofs.Measures.{of_product, of_exponent, exponents_fall, rank}
 use Rattle.calc_terms.specs.declared.kind.Kind.TheVariants as kind
 
 -- ---- powers
 
-is_power : Tree → Bool
-is_power (power b e) = true
-is_power _ = false
-
-payload_power : (x : Payload) (ts : Trees) → is_power (grown x ts) ≡ true → x ≡ bare kind.Pow
-unfolding is_power
-payload_power (bare kind.Pow) ts h = refl
-payload_power x ts h = cc
-
-holds_power : (t : Forest) → is_power (plain t) ≡ true → root_payload t ≡ bare kind.Pow
-unfolding is_power
-holds_power empty h = cc
-holds_power (tree l b r) h = payload_power l.payload (plains b) h
-
-power_is : (b e : Tree) → is_power (power b e) ≡ true
-unfolding is_power
-power_is b e = refl
-
 -- a handed power
 pub over_power : {i : ℕ} {f : Forest} (t : Tree) → IsHanded i f → plain (root_tree i f) ≡ t → t ≡ power (base_in t) (exponent_in t) → IsOver kind.Pow i (more (base_in t) (more (exponent_in t) none)) f
-over_power {i} {f} t h p e =
-    let is : plain (root_tree i f) ≡ power (base_in t) (exponent_in t) = p ∙ e in
-    record {
-      root = h.root;
-      payload = holds_power (root_tree i f) (ap is_power is ∙ power_is (base_in t) (exponent_in t));
-      count = once_count (root_tree i f) (root_arity i f h.root) h.once;
-      kids = record { once = all-kids IsOnce (root_tree i f) h.once; whole = whole_kids (root_tree i f) h.whole; plain_trees = sym (children_of-plain (root_tree i f) h.whole) ∙ ap children_of is };
-    }
+over_power {i} {f} t h p e = subst (λ (x : Tree). IsOver kind.Pow i (more (base_in x) (more (exponent_in x) none)) f) p (handed_power h (ap is_power (p ∙ e)))
 
 pub power_of_sum : (t : Tree) → t ≡ power (base_in t) (add (children_of (exponent_in t))) → t ≡ power (base_in t) (exponent_in t)
 power_of_sum t e = e ∙ ap (power (base_in t)) (sym (ap exponent_in e))
@@ -92,9 +68,7 @@ front_next a k n = front_after_one (behind_new a.ends (front_without behind_firs
 pub exponent_seen : {s : State} {i j k : ℕ} {x : Kind} → j ≡ i → Stands s → IsHanded i (forest s) → tree_of i s ≡ power (base_in (tree_of i s)) (exponent_in (tree_of i s))
     → (IsExpression j (forest s) → IsExpression k (forest s)) → (IsExpression j (forest s) → plain (tree_at k (forest s)) ≡ nth 1 (children_of (plain (tree_at j (forest s)))))
     → (IsExpression k (forest s) → x ≡ root_kind (plain (tree_at k (forest s)))) → x ≡ root_kind (exponent_in (tree_of i s))
-exponent_seen {s} {i} {j} e st h p whole child told =
-    let here = expression e st h in
-    told (whole here) ∙ ap root_kind (child here ∙ ap (λ (t : Tree). nth 1 (children_of t)) (seen e st h ∙ p))
+exponent_seen h k a b c d e = grind (arith, expression, seen)
 
 -- the exponent, as it is read
 pub exponent_at : {s : State} {i j : ℕ} (k : ℕ) → j ≡ i → Stands s → IsHanded i (forest s) → tree_of i s ≡ power (base_in (tree_of i s)) (exponent_in (tree_of i s))
@@ -121,8 +95,7 @@ pub with_product : (t : Tree) → t ≡ power (base_in t) (exponent_in t) → is
 with_product t e m w = subst HasProduct (sym e) (has_product (base_in t) (exponent_in t) m (subst IsUnfinished e w))
 
 no_product : (b x : Tree) → is_mult x ≡ false → IsLifted (power b x) (power b x)
-no_product b (mult ts) m = cc
-no_product b t m = refl
+no_product b x h = grind arith
 
 -- one with another exponent stays
 pub without_product : (t : Tree) → t ≡ power (base_in t) (exponent_in t) → is_mult (exponent_in t) ≡ false → IsLifted t t

@@ -1,5 +1,5 @@
 -- The answer of an Easy node, from its children's answers.
-use Rattle.std.proofs.Common.{◌≡◌, ◌≢◌, ℕ, zero, suc, ◌≤◌, ◌⊎◌, inl, inr, ℤ, pos, negsuc, Bool, true, false, ◌&&◌, refl, sym, ap, ◌∙◌, arith, ◌||◌, ◌==◌, ◌≤ℤ◌, not, nat_le}
+use Rattle.std.proofs.Common.{◌≡◌, ◌≢◌, ℕ, ◌≤◌, ◌⊎◌, inl, inr, ℤ, pos, negsuc, Bool, true, false, ◌&&◌, refl, sym, ap, ◌∙◌, arith, ◌||◌, ◌==◌, ◌≤ℤ◌}
 use Rattle.deep_reduce.proofs.Shared.{le-leb, eq-eqb, eqb-true, ints, zero_is, whole_numerator, whole_denominator, number_words, numbers_defined, IsBad, IsBadNode, IsEasy, IsZero, IsHalf, IsNegative, GivesZeroNoPower, HasValue, Fraction, whole_fraction, minus_one_fraction, zero_fraction, is_zero_fraction, int_is_negative, int_is_zero, is_number, classes, are_numbers, Surd, surd_of, Tree, num, undef, add, mult, power, root, neg, sub, div, Trees, none, more, is_undef, is_num, IsPartOf, itself, in_add, in_mult, in_base, in_exponent, in_root, in_neg, in_left, in_right, in_dividend, in_divisor, first, later, has_undef, has_no_half_power, lacks_power, is_number_power, IsNodeAnswer, has_no_value, has_number, one_is_not_two, whole_no_half, whole_is, IsReducedFrom, is_zero, has_no_power, has_number_power, is_at_most_zero, has_no_root, kept, KeepsMeanings, and_from, and_parts, or_from, or_left, or_right, false_from_ne_true, cases_Bool}
 use Rattle.deep_reduce.proofs.Clashes.{or_other, undef_words, undef_test, zero_words}
 use Rattle.calc_algebra.proofs.BadLaws.{bad_has_no_value, easy_decided}
@@ -10,17 +10,13 @@ use Rattle.reduce_port.specs.EasyTrees.{Evaluates}
 
 -- ---- tests
 
-and_false : (a b : Bool) → (a ≡ true → b ≡ true → ⊥) → a && b ≡ false
-and_false a b h = false_from_ne_true (a && b) (λ e. h (and_parts a b e).0 (and_parts a b e).1)
-
 undef_is_no_number : is_number undef ≡ true → ⊥
 unfolding is_number
 undef_is_no_number e = cc
 
 -- a Number is not Undef
 pub number_defined : (t : Tree) → is_number t ≡ true → is_undef t ≡ false
-number_defined undef e = absurd (undef_is_no_number e)
-number_defined t e = refl
+number_defined t h = grind (arith, undef_is_no_number)
 
 zero_test : is_zero (num zero_fraction) ≡ true
 unfolding zero_fraction
@@ -28,35 +24,14 @@ zero_test = ap int_is_zero (whole_numerator (pos 0))
 
 -- ---- exponents
 
-low_integer : (n : ℤ) → n ≤ℤ pos 0 → int_is_zero n || int_is_negative n ≡ true
-low_integer (pos zero) l = refl
-low_integer (pos (suc k)) l = absurd (omega (arith, ints))
-low_integer (negsuc k) l = refl
-
-pub integer_low : (n : ℤ) → int_is_zero n || int_is_negative n ≡ true → n ≤ℤ pos 0
-integer_low (pos zero) e = omega (arith, ints)
-integer_low (pos (suc k)) e = cc
-integer_low (negsuc k) e = omega (arith, ints)
-
-whole_exponent : (n : ℤ) → is_at_most_zero (num (whole_fraction n)) ≡ int_is_zero n || int_is_negative n
-whole_exponent n = (λ i. (whole_denominator n i == 1) && (int_is_zero (whole_numerator n i) || int_is_negative (whole_numerator n i)))
-
-negative_short : (n : ℤ) (c : ℕ) → ((k : ℕ) → n ≡ negsuc k → c ≤ 2) → not (int_is_negative n) || nat_le c 2 ≡ true
-negative_short (pos k) c h = refl
-negative_short (negsuc k) c h = le-leb c 2 (h k refl)
-
 pub whole_power_number : (r : Tree) (n : ℤ) → is_number r ≡ true → ((k : ℕ) → n ≡ negsuc k → classes r ≤ 2) → has_number_power r (num (whole_fraction n)) ≡ true
-whole_power_number r n h s =
-    (λ i. is_number r && (whole_denominator n i == 1) && (not (int_is_negative (whole_numerator n i)) || nat_le (classes r) 2))
-    ∙ and_from (is_number r && true) (not (int_is_negative n) || nat_le (classes r) 2) (and_from (is_number r) true h refl) (negative_short n (classes r) s)
+whole_power_number r n h k = grind (arith, whole_denominator, whole_numerator, and_from, le-leb)
 
 pub whole_power_defined : (r : Tree) (n : ℤ) → is_number r ≡ true → (n ≤ℤ pos 0 → r ≢ num zero_fraction) → has_no_power r (num (whole_fraction n)) ≡ false
-whole_power_defined r n h z = or_from (is_undef r || false) (is_zero r && is_at_most_zero (num (whole_fraction n))) (or_from (is_undef r) false (number_defined r h) refl)
-    (and_false (is_zero r) (is_at_most_zero (num (whole_fraction n))) (λ a b. z (integer_low n (sym (whole_exponent n) ∙ b)) (zero_words r a)))
+whole_power_defined r n h k = grind (arith, or_from, number_defined, false_from_ne_true, and_parts, whole_denominator, whole_numerator, zero_words)
 
 pub zero_power : (n : ℤ) (c : Tree) → n ≤ℤ pos 0 → c ≡ num zero_fraction → has_no_power c (num (whole_fraction n)) ≡ true
-zero_power n c l e = or_right (is_undef c || false) (is_zero c && is_at_most_zero (num (whole_fraction n)))
-    (and_from (is_zero c) (is_at_most_zero (num (whole_fraction n))) (ap is_zero e ∙ zero_test) (whole_exponent n ∙ low_integer n l))
+zero_power n c h k = grind (arith, or_right, and_from, zero_test, whole_denominator, whole_numerator)
 
 -- the same of a whole exponent, in the words of any
 whole_lacks : (r : Tree) (n : ℤ) (x : Bool) → has_no_power r (num (whole_fraction n)) ≡ x → lacks_power r (num (whole_fraction n)) ≡ x
@@ -70,18 +45,7 @@ half_lacks : (b h : Fraction) → h.den ≡ 2 → (int_is_negative b.num || is_z
 half_lacks b h d e = or_right (has_no_power (num b) (num h)) (has_no_half_power (num b) (num h)) (and_from (h.den == 2) (int_is_negative b.num || is_zero_fraction b && int_is_negative h.num) (eq-eqb h.den 2 d) e)
 
 half_defined : (b h : Fraction) → h.den ≡ 2 → int_is_negative b.num ≡ false → (int_is_negative h.num ≡ true → num b ≢ num zero_fraction) → lacks_power (num b) (num h) ≡ false
-half_defined b h d n z = or_from (has_no_power (num b) (num h)) (has_no_half_power (num b) (num h)) whole half
-  where
-    whole : has_no_power (num b) (num h) ≡ false
-    whole = and_false (is_zero_fraction b) (is_at_most_zero (num h)) (λ x y. one_is_not_two h.den (eqb-true h.den 1 (and_parts (h.den == 1) (int_is_zero h.num || int_is_negative h.num) y).0) d)
-
-    half : has_no_half_power (num b) (num h) ≡ false
-    half = and_false (h.den == 2) (int_is_negative b.num || is_zero_fraction b && int_is_negative h.num) (λ x y. by y)
-      where
-        by : (int_is_negative b.num || is_zero_fraction b && int_is_negative h.num) ≡ true → ⊥
-        by y =
-            let k : (is_zero_fraction b && int_is_negative h.num) ≡ true = or_other (int_is_negative b.num) (is_zero_fraction b && int_is_negative h.num) y n in
-            z (and_parts (is_zero_fraction b) (int_is_negative h.num) k).1 (ap num (zero_is b (and_parts (is_zero_fraction b) (int_is_negative h.num) k).0))
+half_defined b h k a c = grind (arith, or_from, false_from_ne_true, and_parts, one_is_not_two, eqb-true, or_other, zero_is)
 
 half_number : (b h : Fraction) → h.den ≡ 2 → is_number_power (num b) (num h) ≡ true
 half_number b h d = or_right (has_number_power (num b) (num h)) (h.den == 2) (eq-eqb h.den 2 d)

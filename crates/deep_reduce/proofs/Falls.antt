@@ -1,6 +1,6 @@
 -- The measure falls at each call.
 use Rattle.std.proofs.Common.{◌≡◌, ℕ, ◌≤◌, ◌<◌, true, ap, arith}
-use Rattle.deep_reduce.proofs.Shared.{nest, weight, load_of_factors, Tree, add, mult, power, Trees, is_mult, nest_over, nest_of_joint, IsLess, IsSummed, are_reduced, base_in, exponent_in, IsGathered, IsPairAt, nth, children_of}
+use Rattle.deep_reduce.proofs.Shared.{nest, weight, load_of_factors, Tree, add, power, Trees, is_mult, nest_over, nest_of_joint, IsLess, IsSummed, are_reduced, base_in, exponent_in, IsGathered, IsPairAt, nth, children_of}
 use Rattle.deep_reduce.proofs.Finished.{IsReadyProduct, IsReadyPower}
 use Rattle.deep_reduce.proofs.Measures.{of_product, of_pairs, of_two, of_power, of_joint, of_powers, of_exponent, of_rewritten, rank_second}
 use Rattle.deep_reduce.proofs.Heavy.{over_power}
@@ -45,8 +45,7 @@ pub rewritten_falls : (t u : Tree) → t ≡ power (base_in t) (exponent_in t) �
 rewritten_falls t u e o = rank_second _ _ _ _ (omega (arith, o.nests, ap nest e)) (omega (arith, o.weighs))
 
 pub powers_fall : (u : Tree) → is_mult u ≡ true → of_powers u < of_rewritten u
-powers_fall (mult ts) m = rank_second _ _ _ _ (omega arith) (omega arith)
-powers_fall u m = cc
+powers_fall u h = grind (arith, rank_second)
 
 pub ready_product_falls : (u v : Tree) → IsReadyProduct u v → of_product v < of_rewritten u
 ready_product_falls u v r = rank_second _ _ _ _ r.nests (omega (arith, r.loads))

@@ -59,8 +59,7 @@ ready_product (mult ts) v m w p =
 ready_product t v m w p = cc
 
 pub transparent_children : (t : Tree) → is_mult t ≡ true → IsUnfinished t → AreTransparent (children_of t)
-transparent_children (mult ts) m w = w.0
-transparent_children t m w = cc
+transparent_children t h k = grind arith
 
 -- ---- powers
 
@@ -84,14 +83,7 @@ multiplied_ready b ts v w m = subst (IsReadyPower (power b (mult ts))) (sym m.is
 })
 
 same_ready : (b e v : Tree) → nest (power b e) ≤ nest_of_rewritten (power b e) → IsTransparent (power b e) → v ≡ power b e → IsReadyPower (power b e) v
-same_ready b e v n w m = subst (IsReadyPower (power b e)) (sym m) (record {
-  is = refl;
-  base_reduced = w.base_reduced;
-  exponent_reduced = w.exponent_reduced;
-  rewrites = Rewrites-refl (power b e);
-  nests = n;
-  weighs = omega arith;
-})
+same_ready b e v h k a = grind arith
 
 ready_of : (b e v : Tree) → IsUnfinished (power b e) → IsLifted (power b e) v → IsReadyPower (power b e) v
 ready_of b (mult ts) v w l = multiplied_ready b ts v w l
@@ -102,18 +94,8 @@ ready_power (power b e) v m w l = ready_of b e v w l
 ready_power t v m w l = cc
 
 pub power_lifted : (t v r : Tree) → is_mult t ≡ false → IsLifted t v → IsReadyPower t v → IsReducedPower (base_in v) (exponent_in v) r → Finishes t r
-power_lifted t v r m l p a =
-    let nest-is : nest v ≡ nest (power (base_in v) (exponent_in v)) = ap nest p.is in
-    record {
-      reduces = reduces_after (subst (Rewrites t) p.is p.rewrites) a.reduces;
-      nest = omega (arith, a.nest, nest-is, p.nests);
-      load = omega (arith, a.opaque_load, p.weighs);
-      room = λ c e k. power_keeps t v r c e m l a k;
-      held = λ c e n k q. power_holds t v r c e n m l a k q;
-    }
+power_lifted t v r h k a b = grind (arith, reduces_after, power_keeps, power_holds)
 
 -- a tree that is no product is a power
 pub power_of_kind : (t : Tree) → is_mult t ≡ false → IsUnfinished t → t ≡ power (base_in t) (exponent_in t)
-power_of_kind (power b e) m w = refl
-power_of_kind (mult ts) m w = cc
-power_of_kind t m w = w.is
+power_of_kind t h k = grind arith

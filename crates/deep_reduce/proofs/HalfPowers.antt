@@ -1,6 +1,6 @@
 -- Powers whose exponent is half of an odd whole number, from the root of the base and a power of it.
-use Rattle.std.proofs.Common.{◌≡◌, ℕ, suc, List, ◌+◌, ◌≤◌, ◌⊎◌, inl, inr, zero, ℤ, pos, negsuc, Bool, true, false, ◌&&◌, ◌||◌, ◌==◌, not, if◌then◌else◌, Some, None, refl, sym, ap, ◌∙◌, subst, arith, ◌≤ℤ◌, ◌*◌, ◌^◌, ◌<◌, length, Err, nat_le}
-use Rattle.deep_reduce.proofs.Shared.{and_parts, eqb-true, false_from_ne_true, ints, half_is_odd, number_words, number_test, keeps, kept, reduces_after, is_number, IsNumber, is_half_num, is_reduced, Rewrites, nest, weight, Fraction, whole_fraction, zero_fraction, is_zero_fraction, int_is_negative, int_is_even, Tree, num, undef, power, root, names, is_undef, is_num, is_root, IsHeldAsRootPower, IsFactorHeld, IsHeldAsPowerOf, has_no_half_power, lacks_power, is_number_power, IsReducedPower, parts_reduced, IsRooted, SpansTree, is_zero, numerator, base_in, exponent_in, has_no_power, has_number_power, IsPowerAnswer, power_of_root, rewritten, transparent_whole, root_once, undef_base_kept, by_half, one_is_not_two, whole_no_half, number_weight, whole_is, argument_of, has_no_root, IsRootAnswer, and_from, or_cases, or_left, or_right, or_parts, and_right, not_from_false, cases_Bool, pow_pos, is_whole_num, reduced_words, counted, num_bytes, tree_bytes, size, SpansRootOf, LacksBelow, full_as, LacksRoot, LacksStep, IsFull, NumberFault, power_room, scaled, and_left, classes}
+use Rattle.std.proofs.Common.{◌≡◌, ℕ, suc, List, ◌+◌, ◌≤◌, zero, ℤ, pos, negsuc, true, false, ◌&&◌, ◌||◌, ◌==◌, not, Some, None, refl, sym, ap, ◌∙◌, subst, arith, ◌≤ℤ◌, ◌*◌, ◌^◌, ◌<◌, length, Err, nat_le}
+use Rattle.deep_reduce.proofs.Shared.{and_parts, eqb-true, false_from_ne_true, ints, half_is_odd, number_words, number_test, keeps, kept, reduces_after, is_number, IsNumber, is_half_num, is_reduced, Rewrites, nest, weight, Fraction, whole_fraction, is_zero_fraction, int_is_negative, int_is_even, Tree, num, undef, power, root, names, is_undef, is_num, is_root, IsHeldAsRootPower, IsFactorHeld, IsHeldAsPowerOf, lacks_power, is_number_power, IsReducedPower, parts_reduced, IsRooted, SpansTree, is_zero, numerator, base_in, exponent_in, has_no_power, has_number_power, IsPowerAnswer, power_of_root, rewritten, transparent_whole, root_once, undef_base_kept, by_half, one_is_not_two, whole_no_half, number_weight, whole_is, argument_of, has_no_root, IsRootAnswer, and_from, or_cases, or_left, or_right, or_parts, and_right, not_from_false, cases_Bool, pow_pos, is_whole_num, reduced_words, counted, num_bytes, tree_bytes, size, SpansRootOf, LacksBelow, full_as, LacksRoot, LacksStep, IsFull, NumberFault, power_room, scaled, and_left, classes}
 use Rattle.deep_reduce.proofs.Clashes.{contrary, or_other, undef_words, and_other}
 use Rattle.deep_reduce.proofs.HeldRoots.{half_held, root_answer_held}
 use Rattle.deep_reduce.proofs.EasyNodes.{whole_power_number, whole_power_defined, zero_power}
@@ -12,7 +12,6 @@ use Rattle.deep_reduce.proofs.RootValues.{of_root}
 use Rattle.deep_reduce.proofs.Heavy.{some_weight, to_number}
 use Rattle.deep_reduce.proofs.Lacking.{lacks_as}
 use Rattle.calc_algebra.proofs.MeaningRewrites as rewrites
-use Rattle.tree_handles.specs.declared.fault.NumberFault.TheVariants as fault
 
 -- ---- the exponents
 
@@ -39,32 +38,14 @@ module _ (q : Fraction) (h : (q.den == 2) ≡ true) where
   no_number : (b : Tree) → has_number_power b (num q) ≡ false
   no_number b = rw not_whole (and_left (is_number b && false) (not (int_is_negative q.num) || nat_le (classes b) 2) (and_right (is_number b) false refl))
 
-negative_low : (z : ℤ) → int_is_negative z ≡ true → z ≤ℤ pos 0
-negative_low (pos n) h = cc
-negative_low (negsuc n) h = omega (arith, ints)
-
 -- ---- the answer
-
-undef_root : (r e u : Tree) → is_undef r ≡ true → IsPowerAnswer r e u → u ≡ undef
-undef_root r e u h a = undef_words u (a.undefined ∙ rw h refl)
-
-zero_root : (r u : Tree) (z : ℤ) → r ≡ num zero_fraction → z ≤ℤ pos 0 → IsPowerAnswer r (num (whole_fraction z)) u → u ≡ undef
-zero_root r u z h l a = undef_words u (a.undefined ∙ zero_power z r l h)
 
 number_root : (a r : Tree) → IsRootAnswer a r → is_num a ≡ true → has_no_root a ≡ false → IsNumber r
 number_root a r h n k = number_words r (h.number n k)
 
 module _ (p q : Fraction) (r u : Tree) (h : (q.den == 2) ≡ true) (known : IsRootAnswer (num p) r) (a : IsPowerAnswer r (num (whole_fraction q.num)) u) where
   undefined_sides : (int_is_negative p.num || is_zero_fraction p && int_is_negative q.num) ≡ true → u ≡ undef
-  undefined_sides e = by (int_is_negative p.num) refl (or_cases (int_is_negative p.num) (is_zero_fraction p && int_is_negative q.num) e)
-    where
-      by : (n : Bool) → int_is_negative p.num ≡ n → (int_is_negative p.num ≡ true) ⊎ ((is_zero_fraction p && int_is_negative q.num) ≡ true) → u ≡ undef
-      by true n x = undef_root r (num (whole_fraction q.num)) u (known.undefined ∙ n) a
-      by false n (inl x) = contrary x n
-      by false n (inr x) =
-          let (z, l) = and_parts (is_zero_fraction p) (int_is_negative q.num) x in
-          let known_root = of_root p r n known (number_root (num p) r known refl n) in
-          zero_root r u q.num (known_root.zero_of_zero z) (negative_low q.num l) a
+  undefined_sides h = grind (arith, or_cases, undef_words, contrary, and_parts, of_root, number_root, zero_power)
 
   number_sides : (int_is_negative p.num || is_zero_fraction p && int_is_negative q.num) ≡ false → is_number u ≡ true
   number_sides e =
@@ -77,19 +58,7 @@ module _ (p q : Fraction) (r u : Tree) (h : (q.den == 2) ≡ true) (known : IsRo
 
 -- a power of a root is heavier by one at most
 root_weight : (b r : Tree) → IsRootAnswer b r → weight r ≤ 1 + weight b
-root_weight b r h = by (has_no_root b) (is_num b) refl refl
-  where
-    undefined : (t : Tree) → t ≡ undef → weight t ≤ 1 + weight b
-    undefined t e = omega (arith, ap weight e, some_weight b)
-
-    itself : (n : Bool) → (if n then 2 else suc (weight b)) ≤ 1 + weight b
-    itself true = omega (arith, some_weight b)
-    itself false = omega arith
-
-    by : (x n : Bool) → has_no_root b ≡ x → is_num b ≡ n → weight r ≤ 1 + weight b
-    by true n e f = undefined r (undef_words r (h.undefined ∙ e))
-    by false true e f = omega (arith, number_weight r (h.number f e), some_weight b)
-    by false false e f = subst (λ (t : Tree). weight t ≤ 1 + weight b) (sym (h.kept f e)) (itself (is_number (root b)))
+root_weight b r h = grind (arith, some_weight, undef_words, number_weight)
 
 rooted : (b r e : Tree) → IsRootAnswer b r → Rewrites (power (root b) e) (power r e)
 rooted b r e h = record {
@@ -98,29 +67,16 @@ rooted b r e h = record {
 }
 
 half_undefined : (b r u : Tree) (q : Fraction) → (q.den == 2) ≡ true → is_undef b ≡ false → IsRootAnswer b r → IsPowerAnswer r (num (whole_fraction q.num)) u → lacks_power b (num q) ≡ true → u ≡ undef
-half_undefined b r u q h d k a l = by b k (or_other (has_no_power b (num q)) (has_no_half_power b (num q)) l (no_at_most q h b d))
-  where
-    by : (b : Tree) → IsRootAnswer b r → has_no_half_power b (num q) ≡ true → u ≡ undef
-    by (num p) k e = undefined_sides p q r u h k a (and_parts (q.den == 2) _ e).1
-    by b k e = cc
+half_undefined b r u q h k a c d = grind (arith, or_other, no_at_most, undefined_sides, and_parts)
 
 half_number : (b r u : Tree) (q : Fraction) → (q.den == 2) ≡ true → IsRootAnswer b r → IsPowerAnswer r (num (whole_fraction q.num)) u → is_number_power b (num q) ≡ true → lacks_power b (num q) ≡ false → is_number u ≡ true
-half_number b r u q h k a n l = by b k (and_parts (is_num b) (q.den == 2) (or_other (has_number_power b (num q)) (is_num b && (q.den == 2)) n (no_number q h b))).0 (or_parts (has_no_power b (num q)) (has_no_half_power b (num q)) l).1
-  where
-    by : (b : Tree) → IsRootAnswer b r → is_num b ≡ true → has_no_half_power b (num q) ≡ false → is_number u ≡ true
-    by (num p) k m e = number_sides p q r u h k a (and_other (q.den == 2) _ e h)
-    by b k m e = cc
+half_number b r u q h k a c d = grind (arith, and_parts, or_other, no_number, or_parts, number_sides, and_other)
 
 nest_to_number : (b : Tree) (q : Fraction) → nest (power b (num q)) ≡ nest b
 nest_to_number b q = to_number b (num q) (number_test (num q) tt)
 
 root_kinds : (b r : Tree) → IsRootAnswer b r → (is_undef r || is_number r || is_root r) ≡ true
-root_kinds b r h = by (has_no_root b) (is_num b) refl refl
-  where
-    by : (x n : Bool) → has_no_root b ≡ x → is_num b ≡ n → (is_undef r || is_number r || is_root r) ≡ true
-    by true n e f = or_left (is_undef r || is_number r) (is_root r) (or_left (is_undef r) (is_number r) (h.undefined ∙ e))
-    by false true e f = or_left (is_undef r || is_number r) (is_root r) (or_right (is_undef r) (is_number r) (h.number f e))
-    by false false e f = ap (λ (t : Tree). is_undef t || is_number t || is_root t) (h.kept f e) ∙ or_right (is_undef (root b) || is_number (root b)) true refl
+root_kinds b r h = grind (arith, or_left, or_right)
 
 -- the power of the reduced root is that of the base
 pub half_finished : (b e r u : Tree) → is_half_num e ≡ true → is_undef b ≡ false → Rewrites (power b e) (power_of_root b e) → IsRootAnswer b r → ((gs : List ℕ) → SpansTree gs (root b) → SpansTree gs r) → IsPowerAnswer r (num (whole_fraction (numerator e))) u
@@ -148,13 +104,7 @@ pub record IsHalfStep (b e u : Tree) : Type 0 where
   pub is : u ≡ power_of_root b e
 
 pub half_step : (b e u : Tree) → is_half_num e ≡ true → rewritten b e ≡ Some u → IsHalfStep b e u
-half_step b e u h r = elim (cases_Bool (is_undef b)) [ inl d ↦ absurd (none (sym (undef_base_kept b e d) ∙ r)) | inr d ↦ record { defined = d; is = sym (some (sym (by_half b e h d) ∙ r)) } ]
-  where
-    some : {t : Tree} → Some t ≡ Some u → t ≡ u
-    some k = cc
-
-    none : None ≡ Some u → ⊥
-    none k = cc
+half_step b e u h k = grind (arith, cases_Bool, undef_base_kept, by_half)
 
 -- the power of the root, before and after the root is reduced
 pub record IsHalfReady (u : Tree) : Type 0 where
@@ -176,14 +126,7 @@ rooted_is : (b e u v : Tree) → IsHalfStep b e u → IsRooted u v → IsRooted 
 rooted_is b e u v s k = subst (λ (t : Tree). IsRooted t v) s.is k
 
 pub half_last : (b e u v : Tree) → is_half_num e ≡ true → IsHalfStep b e u → IsRooted u v → IsHalfLast v
-half_last b e u v h s k =
-    let r = rooted_is b e u v s k in
-    subst IsHalfLast (sym r.is) (record {
-      words = refl;
-      base = r.answer.reduces.reduced;
-      exponent = parts_reduced (num (whole_fraction (numerator e))) (inl tt);
-      last = root_once r.root e h (root_kinds b r.root r.answer);
-    })
+half_last b e u v h k a = grind (arith, rooted_is, parts_reduced, root_once, root_kinds)
 
 -- the exponent of the last step
 pub last_exponent : (b e u v : Tree) → IsHalfStep b e u → IsRooted u v → exponent_in v ≡ num (whole_fraction (numerator e))
@@ -207,12 +150,10 @@ half_after b e u v r h s w k a m p =
 
 -- the root of the base finds no bytes
 pub root_lacks : (t : Tree) (free old : ℕ) (f : NumberFault) → (IsFull {A = ℕ} (Err f) → free < 96) → free ≡ old → LacksBelow (96 + size t) (old + size t) f
-root_lacks t free old (fault.Full full) h e = omega (arith, h tt, e)
-root_lacks t free old (fault.Overflow o) h e = tt
+root_lacks t free old f h k = grind arith
 
 base_bytes : (gs : List ℕ) (b : Tree) → is_reduced b ≡ true → SpansRootOf gs b → size b ≤ 204 * counted b * 2 ^ length gs
-base_bytes gs (num q) r s = omega (arith, num_bytes q, pow_pos (length gs))
-base_bytes gs b r s = tree_bytes gs b (reduced_words b r) s
+base_bytes gs b h k = grind (arith, num_bytes, pow_pos, tree_bytes, reduced_words)
 
 -- the power of the root is small
 rooted_bytes : (gs : List ℕ) (b e : Tree) → is_reduced b ≡ true → SpansRootOf gs b → 96 + size (power_of_root b e) ≤ power_room (1 + counted b) (2 ^ length gs)

@@ -1,14 +1,13 @@
 -- Exponents that count their bases: how often at least, and by how many bits they are held themselves.
-use Rattle.std.proofs.Common.{◌≡◌, ◌≢◌, ℕ, zero, suc, ◌+◌, ◌*◌, ◌^◌, ◌≤◌, inl, inr, List, [], ◌∷◌, max, ℤ, pos, negsuc, Bool, true, false, ◌&&◌, ◌==◌, not, if◌then◌else◌, refl, sym, ap, ◌∙◌, subst, arith, nat_abs, ◌/◌}
-use Rattle.deep_reduce.proofs.Shared.{and_parts, eqb-true, dvd_refl, Fraction, zero_fraction, one_fraction, whole_fraction, is_zero_fraction, int_is_zero, zero_test, one_test, no_zero, whole_numerator, whole_denominator, Tree, num, undef, symbol, add, mult, root, Trees, none, more, is_add, is_undef, AllParts, AllPartsOf, IsTerm, AreTerms, is_number, is_term, value, terms_of, HasForm, NoneIs, num_one, number_terms, other_terms, surd_of, surd_one, Parts, AreWholeOver, magnitude_over, mass, root_above, Addend, addend, addend_of, addends, addends_of, power_high, power_low, IsTreeHeld, sum_held, AreWeighted, none_weighted, more_weighted, IsPartHeld, no_factor_held, factor_held, symbol_held, Weighted, weighted, PartsAll, lows, weighted_mass, AreHeld, one_counted, one_counts, whole_of, Counts, counts, multiple, is_counted, are_counted, counts_of, counts_of_all, term_test}
+use Rattle.std.proofs.Common.{◌≡◌, ◌≢◌, ℕ, ◌+◌, ◌*◌, ◌^◌, ◌≤◌, inl, inr, List, [], ◌∷◌, max, ℤ, pos, Bool, true, false, ◌==◌, not, if◌then◌else◌, refl, sym, ap, ◌∙◌, subst, arith, nat_abs}
+use Rattle.deep_reduce.proofs.Shared.{and_parts, eqb-true, dvd_refl, Fraction, zero_fraction, one_fraction, whole_fraction, is_zero_fraction, int_is_zero, zero_test, one_test, no_zero, whole_numerator, whole_denominator, Tree, num, symbol, add, mult, root, Trees, none, more, is_add, is_undef, AllParts, AllPartsOf, IsTerm, AreTerms, is_number, is_term, value, terms_of, HasForm, NoneIs, num_one, number_terms, other_terms, surd_of, surd_one, Parts, AreWholeOver, magnitude_over, mass, root_above, Addend, addend, addend_of, addends, addends_of, power_high, power_low, IsTreeHeld, sum_held, AreWeighted, none_weighted, more_weighted, IsPartHeld, no_factor_held, factor_held, symbol_held, Weighted, weighted, PartsAll, lows, weighted_mass, AreHeld, one_counted, one_counts, whole_of, Counts, counts, multiple, is_counted, are_counted, counts_of, counts_of_all, term_test}
 use Rattle.deep_reduce.proofs.Clashes.{clash, unclear}
 use Rattle.std.specs.Int.{◌∣◌}
 use Rattle.calc_bits.proofs.RootsAbove.{root_least}
 
 -- an exponent that counts is not Undef
 pub counted_defined : (e : Tree) → is_counted e ≡ true → is_undef e ≡ false
-counted_defined undef c = unclear c
-counted_defined e c = refl
+counted_defined e h = grind (arith, unclear)
 
 -- ---- products of a rational and an exponent
 
@@ -21,21 +20,7 @@ pub record IsMultiple (q : Fraction) (t : Tree) : Type 0 where
 
 pub multiple_of : (q : Fraction) (t : Tree) → AllParts HasForm (mult (more (num q) (more t none))) → is_counted (mult (more (num q) (more t none))) ≡ true → IsMultiple q t
 unfolding is_number
-multiple_of q t f c = by t f.0 (and_parts (q.den == 1) (is_counted t) c).1
-  where
-    w : (q.den == 1) ≡ true
-    w = (and_parts (q.den == 1) (is_counted t) c).0
-
-    by : (t : Tree) → HasForm (mult (more (num q) (more t none))) → is_counted t ≡ true → IsMultiple q t
-    by (symbol x) (inl n) k = absurd n
-    by (symbol x) (inr f) k = record { whole = w; not_zero = f.front.0; name = x; is = refl }
-    by (num r) (inl n) k = absurd n
-    by (num r) (inr f) k = clash f.no_number.0
-    by (mult ts) (inl n) k = absurd n
-    by (mult ts) (inr f) k = clash f.no_product.1.0
-    by (add ts) (inl n) k = absurd n
-    by (add ts) (inr f) k = clash (sym (ap (λ (b : Bool). not b && true) (one_test q f.front.1)) ∙ f.distributed)
-    by t h k = unclear k
+multiple_of q t h k = grind (arith, and_parts, clash, one_test, unclear)
 
 -- ---- how often at least
 
@@ -44,18 +29,13 @@ unfolding zero_fraction
 not_nothing q w z e = z (whole_of q w ∙ ap whole_fraction e)
 
 some_magnitude : (z : ℤ) → z ≢ pos 0 → 1 ≤ nat_abs z
-some_magnitude (pos zero) h = absurd (h refl)
-some_magnitude (pos (suc n)) h = omega arith
-some_magnitude (negsuc n) h = omega arith
+some_magnitude z h = grind arith
 
 pub multiple_counts : (z : ℤ) (c : Counts) → (multiple z c).up + (multiple z c).down ≡ nat_abs z * (c.up + c.down)
-multiple_counts (pos n) c = omega arith
-multiple_counts (negsuc n) c = omega arith
+multiple_counts z c = grind arith
 
 some_times : (m n : ℕ) → 1 ≤ m → 1 ≤ n → 1 ≤ m * n
-some_times (suc m) (suc n) h k = omega arith
-some_times zero n h k = absurd (omega arith)
-some_times m zero h k = absurd (omega arith)
+some_times m n h k = grind arith
 
 multiple_some : (q : Fraction) (c : Counts) → (q.den == 1) ≡ true → q ≢ zero_fraction → 1 ≤ c.up + c.down → 1 ≤ (multiple q.num c).up + (multiple q.num c).down
 multiple_some q c w z k = omega (arith, multiple_counts q.num c, some_times (nat_abs q.num) (c.up + c.down) (some_magnitude q.num (not_nothing q w z)) k)
@@ -67,21 +47,7 @@ nothing_is = ap int_is_zero (whole_numerator (pos 0))
 -- the first term of a sum is not 0
 first_not_zero : (t : Tree) (ts : Trees) → HasForm (add (more t ts)) → t ≢ num zero_fraction
 unfolding is_number
-first_not_zero t ts (inl n) e = zero_term t n.1.0 e
-  where
-    zero_term : (t : Tree) → IsTerm t → t ≢ num zero_fraction
-    zero_term (num q) h k = h (ap value_in k)
-      where
-        value_in : Tree → Fraction
-        value_in (num q) = q
-        value_in t = zero_fraction
-    zero_term (root a) h k = cc
-    zero_term (mult us) h k = cc
-    zero_term t h k = absurd h
-first_not_zero t ts (inr f) e =
-    let z : is_term t ≡ false = ap is_term e ∙ ap (λ (b : Bool). not b) nothing_is in
-    let o : other_terms (more t ts) ≡ more t ts = ap (λ (b : Bool). if b then other_terms ts else more t ts) z in
-    clash (sym (ap is_number e) ∙ (subst (NoneIs is_number) o f.no_number).0)
+first_not_zero t ts h = grind (arith, nothing_is, clash)
 
 pub some_counts : (e : Tree) → AllParts HasForm e → is_counted e ≡ true → e ≢ num zero_fraction → 1 ≤ (counts_of e).up + (counts_of e).down
 some_counts (num q) f c z = multiple_some q (counts 1 0) c (λ e. z (ap num e)) (omega arith)
@@ -118,25 +84,15 @@ more_light {y} {xs} {n} {x} {m} a b l = by a.weighted_are a.parts a.low a.high
       high = omega (arith, j, b.high);
     }
 
--- a whole number and its radicand
-whole_magnitude : (q : Fraction) → (q.den == 1) ≡ true → magnitude_over 1 q ≡ nat_abs q.num
-whole_magnitude q w = omega (arith, ap (λ (n : ℕ). nat_abs q.num * (1 / n)) (eqb-true q.den 1 w))
-
 whole_parts : (q : Fraction) → (q.den == 1) ≡ true → q.den ∣ 1
 whole_parts q w = subst (λ (n : ℕ). n ∣ 1) (sym (eqb-true q.den 1 w)) (dvd_refl 1)
 
 term_light : (q : Fraction) → (q.den == 1) ≡ true → q ≢ zero_fraction → max 1 (root_above (magnitude_over 1 q * magnitude_over 1 q * 1)) ≤ nat_abs q.num
-term_light q w z =
-    let i = whole_magnitude q w in
-    let a : root_above (magnitude_over 1 q * magnitude_over 1 q * 1) ≤ nat_abs q.num = root_least _ (nat_abs q.num) (omega (arith, ap (λ (m : ℕ). m * m * 1) i)) in
-    omega (arith, a, some_magnitude q.num (not_nothing q w z))
+term_light q h k = grind (arith, eqb-true, root_least, some_magnitude, not_nothing)
 
 one_light : max 1 (root_above (magnitude_over 1 one_fraction * magnitude_over 1 one_fraction * 1)) ≤ 1
 unfolding one_fraction
-one_light =
-    let i : magnitude_over 1 one_fraction ≡ 1 = whole_magnitude one_fraction (ap (λ (n : ℕ). n == 1) (whole_denominator (pos 1))) ∙ ap nat_abs (whole_numerator (pos 1)) in
-    let a : root_above (magnitude_over 1 one_fraction * magnitude_over 1 one_fraction * 1) ≤ 1 = root_least _ 1 (omega (arith, ap (λ (m : ℕ). m * m * 1) i)) in
-    omega (arith, a)
+one_light = grind (arith, eqb-true, whole_denominator, whole_numerator, root_least)
 
 one_whole : (one_fraction.den == 1) ≡ true
 unfolding one_fraction
@@ -200,15 +156,7 @@ split_wider : {ts : Trees} {x y : ℕ} → x ≤ y → AreSplitLight ts x → Ar
 split_wider l a = record { whole = a.whole; others = a.others; light = a.light; high = omega (arith, a.high, l) }
 
 number_light : (q : Fraction) (ts : Trees) (x : ℕ) → is_term (num q) ≡ true → (q.den == 1) ≡ true → AreSplitLight ts x → AreSplitLight (more (num q) ts) (2 * (multiple q.num (counts 1 0)).up + 2 * (multiple q.num (counts 1 0)).down + x)
-number_light q ts x h w a =
-    let n : number_terms (more (num q) ts) ≡ more (num q) (number_terms ts) = ap (λ (b : Bool). if b then more (num q) (number_terms ts) else none) h in
-    let o : other_terms (more (num q) ts) ≡ other_terms ts = ap (λ (b : Bool). if b then other_terms ts else more (num q) ts) h in
-    record {
-      whole = subst (λ (us : Trees). AreWholeOver 1 (terms_of us)) (sym n) (whole_parts q w, a.whole);
-      others = a.others;
-      light = subst (λ (us : Trees). AreLight (addends_of us) a.others) (sym o) a.light;
-      high = omega (arith, ap (λ (us : Trees). mass 1 (terms_of us)) n, term_light q w (no_zero q h), a.high, multiple_counts q.num (counts 1 0));
-    }
+number_light q ts x h k a = grind (arith, whole_parts, term_light, no_zero, multiple_counts)
 
 kept_light : (t : Tree) (ts : Trees) (n x : ℕ) → is_term t ≡ false → AreLight (addend_of t ∷ []) n → AreLight (addends_of ts) x → AreSplitLight (more t ts) (n + x)
 kept_light t ts n x h a b =
@@ -252,21 +200,15 @@ split_light (more t ts) f n s c = by (λ o. split_light ts f.1 o s.1 (and_parts 
         (kept_light t ts (2 * ((counts_of t).up + (counts_of t).down)) (2 * ((counts_of_all ts).up + (counts_of_all ts).down)) e (other_light t f.0 o.0 s.0 a) (others_light ts f.1 o.1 s.1 b))
 
 no_sum_term : (t : Tree) → IsTerm t → is_add t ≡ false
-no_sum_term (num q) h = refl
-no_sum_term (root a) h = refl
-no_sum_term (mult ts) h = refl
-no_sum_term t h = absurd h
+no_sum_term t h = grind arith
 
 terms_alone : (ts : Trees) → AreTerms ts → NoneIs is_number (other_terms ts) × NoneIs is_add ts
 terms_alone none a = (tt, tt)
-terms_alone (more t ts) a =
-    let r = terms_alone ts a.1 in
-    (subst (NoneIs is_number) (sym (ap (λ (x : Bool). if x then other_terms ts else more t ts) (term_test t a.0))) r.0, (no_sum_term t a.0, r.1))
+terms_alone (more t ts) a = grind (arith, term_test, no_sum_term, terms_alone ts a.1)
 
 -- what a sum is made of
 sum_kinds : (ts : Trees) → HasForm (add ts) → NoneIs is_number (other_terms ts) × NoneIs is_add ts
-sum_kinds ts (inl n) = terms_alone ts n.1
-sum_kinds ts (inr f) = (f.no_number, f.no_sum)
+sum_kinds ts h = grind (arith, terms_alone)
 
 -- an exponent by all its addends
 exponent_light : (e : Tree) → AllParts HasForm e → is_counted e ≡ true → AreLight (addends e) (2 * ((counts_of e).up + (counts_of e).down))
@@ -308,16 +250,7 @@ exponent_light (add ts) f c =
 exponent_light t f c = unclear c
 
 light_held : {xs : List Addend} {x : ℕ} (h : ℕ) → x ≤ 2 ^ h → (a : AreLight xs x) → AreHeld a.terms h 0
-light_held h l a = record {
-  denominator = 1;
-  positive = omega arith;
-  parts = a.parts;
-  low = omega (arith, ap (λ (n : ℕ). 2 ^ n) a.low);
-  scale = 1;
-  scale_positive = omega arith;
-  scaled = a.parts;
-  high = omega (arith, a.high, l);
-}
+light_held h k a = grind arith
 
 -- one that counts at most 62 is held by few bits
 pub exponent_is_held : (e : Tree) → AllParts HasForm e → is_counted e ≡ true → (counts_of e).up + (counts_of e).down ≤ 62 → IsTreeHeld e 7 0

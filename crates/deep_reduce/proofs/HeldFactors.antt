@@ -1,6 +1,6 @@
 -- Reduced trees as factors: what holds a tree holds it as a factor, and the parts of a product are held by bits of their own.
-use Rattle.std.proofs.Common.{length, pos, ◌≡◌, ◌≢◌, ℕ, zero, suc, ◌+◌, ◌-◌, ◌*◌, ◌^◌, ◌≤◌, ◌⊎◌, inl, inr, List, [], ◌∷◌, Bool, true, false, if◌then◌else◌, refl, sym, ap, ◌∙◌, subst, arith}
-use Rattle.deep_reduce.proofs.Shared.{mul-le, pow-le-pow_right, Fraction, zero_fraction, one_fraction, Tree, num, undef, add, mult, power, root, Trees, none, more, count, is_undef, is_mult, AllParts, AllPartsOf, zero_test, whole_denominator, IsNumber, AreTerms, Rises, is_number, is_term, value, terms_of, term_of, Split, split_product, num_one, is_num_one, is_reduced, HasForm, NoneIs, IsProductForm, IsSumForm, number_terms, other_terms, Surd, Term, term, surd_of, surd_one, one_not_zero, number_test, term_words, mass, mass_from, IsHeld, has_coefficient, product_form_of, no_split, reduced_parts, parts_reduced, Leads, in_front, parts_of, HasFactors, product_factors, IsFactorHeld, single_part, part_single, number_as_factor, IsSumHeld, Counts, counts, counts_of, is_counted, Addend, addend, addend_of, addends_of, power_high, power_low, IsTreeHeld, undef_held, AreWeighted, none_weighted, more_weighted, IsPartHeld, no_factor_held, factor_held, IsBaseHeld, symbol_held, tree_held, Weighted, AreHeld, tree_as_sum, factor_is_held, factor_as_tree, addend_left_out, addend_to_front, exponents_within, held_number, one_counted, one_counts, symbol_is_held, root_is_held, wider_held, tree_wider, parts_defined, cases_Bool}
+use Rattle.std.proofs.Common.{pos, ◌≡◌, ◌≢◌, ℕ, zero, suc, ◌+◌, ◌-◌, ◌*◌, ◌^◌, ◌≤◌, ◌⊎◌, inl, inr, List, [], ◌∷◌, Bool, true, false, if◌then◌else◌, refl, sym, ap, ◌∙◌, subst, arith}
+use Rattle.deep_reduce.proofs.Shared.{mul-le, pow-le-pow_right, Fraction, zero_fraction, one_fraction, Tree, num, undef, add, mult, power, Trees, none, more, count, is_undef, is_mult, AllParts, AllPartsOf, zero_test, whole_denominator, IsNumber, AreTerms, Rises, is_number, is_term, value, terms_of, Split, split_product, num_one, is_num_one, is_reduced, HasForm, NoneIs, IsProductForm, IsSumForm, number_terms, other_terms, Surd, Term, term, surd_of, surd_one, one_not_zero, number_test, term_words, mass, mass_from, IsHeld, has_coefficient, product_form_of, no_split, reduced_parts, parts_reduced, Leads, in_front, parts_of, HasFactors, product_factors, IsFactorHeld, single_part, part_single, number_as_factor, IsSumHeld, Counts, counts, counts_of, is_counted, Addend, addend, addend_of, addends_of, power_high, power_low, IsTreeHeld, undef_held, AreWeighted, none_weighted, more_weighted, IsPartHeld, no_factor_held, factor_held, IsBaseHeld, symbol_held, tree_held, Weighted, AreHeld, tree_as_sum, factor_is_held, factor_as_tree, addend_left_out, addend_to_front, exponents_within, held_number, one_counted, one_counts, symbol_is_held, root_is_held, wider_held, tree_wider, parts_defined, cases_Bool}
 use Rattle.deep_reduce.proofs.Joints.{two_terms, power_no_number}
 use Rattle.deep_reduce.proofs.Clashes.{clash, undef_words}
 use Rattle.coefficients.proofs.Lengths.{some_factors}
@@ -31,9 +31,7 @@ pub factor_power : (b e : Tree) {h l : ℕ} → IsFactorHeld (power b e) h l →
 factor_power b e a = single_part (power b e) (power_no_number b e) refl a
 
 base_high : {b : Tree} {h l : ℕ} → IsBaseHeld b h l → 1 ≤ h
-base_high (symbol_held x) = x
-base_high (root_held x i a) = x
-base_high (tree_held x i a) = x
+base_high h = grind arith
 
 base_tree : {b : Tree} {h l : ℕ} → IsBaseHeld b h l → IsTreeHeld b h l
 base_tree (symbol_held {x} o) = tree_wider o (omega arith) (symbol_is_held x)
@@ -41,10 +39,7 @@ base_tree (root_held {a} {h} {l} o n t) = root_is_held a h l n o t
 base_tree (tree_held o s t) = t
 
 pub base_factor : (b : Tree) {h l : ℕ} → IsBaseHeld b h l → IsFactorHeld b h l
-base_factor b {h} {l} a = elim (cases_Bool (is_undef b)) [
-  | inl e ↦ subst (λ (t : Tree). IsFactorHeld t h l) (sym (undef_words b e)) (undef_factor (base_high a))
-  | inr e ↦ factor_is_held b h l e (base_high a) (base_tree a)
-]
+base_factor b h = grind (arith, cases_Bool, undef_words, undef_factor, base_high, factor_is_held, base_tree)
 
 -- ---- how high at least
 
@@ -57,14 +52,11 @@ unfolding zero_fraction
 zero_whole = whole_denominator (pos 0)
 
 pub no_zero_exponent : (b e : Tree) → HasForm (power b e) → e ≢ num zero_fraction
-no_zero_exponent b (num q) (inl n) k = n
-no_zero_exponent b (num q) (inr (h, w)) k = (w (ap (λ (t : Tree). (fraction_in t).den) k ∙ zero_whole)).not_zero (ap fraction_in k)
-no_zero_exponent b e f k = absurd cc
+no_zero_exponent b e h = grind (arith, zero_whole)
 
 -- an exponent that is reduced counts
 exponent_some : (t : Tree) → AllParts HasForm t → is_counted (exponent_in t) ≡ true → 1 ≤ (counts_of (exponent_in t)).up + (counts_of (exponent_in t)).down
-exponent_some (power b e) (f, p, q) c = some_counts e q c (no_zero_exponent b e f)
-exponent_some t f c = let e : counts_of num_one ≡ counts 1 0 = one_counts in omega (arith, ap (λ (x : Counts). x.up) e)
+exponent_some t h k = grind (arith, some_counts, no_zero_exponent, one_counts)
 
 pub first_counted : {t : Tree} {ts : Trees} {h l : ℕ} → IsPartHeld (more t ts) h l → is_counted (exponent_in t) ≡ true
 first_counted (factor_held p q k n c b r x y) = c
@@ -98,15 +90,8 @@ no_terms t v e = cc
 rational_some : (q : Fraction) → q ≢ zero_fraction → value (num q) ≢ []
 rational_some q n e = no_terms (term q 1) [] (sym (ap (λ (b : Bool). if b then [] else surd_of q) (zero_test q n)) ∙ e)
 
-sum_some : (ts : Trees) → IsNumber (add ts) → terms_of ts ≢ []
-sum_some ts n e = let w = n.0 in let y = ap length e in absurd (omega (arith, w, y))
-
 number_some : (c : Tree) → IsNumber c → c ≢ num zero_fraction → value c ≢ []
-number_some (num q) n z = rational_some q (λ e. z (ap num e))
-number_some (add ts) n z = sum_some ts n
-number_some (root a) n z = no_terms (term_of (root a)) []
-number_some (mult ts) n z = no_terms (term_of (mult ts)) []
-number_some c n z = absurd n
+number_some c h k = grind (arith, rational_some, no_terms)
 
 -- the coefficient of a product is not 0
 pub coefficient_some : (ts : Trees) → is_reduced (mult ts) ≡ true → is_number (mult ts) ≡ false → value (split_product ts).coefficient ≢ []
@@ -153,11 +138,7 @@ first_alone x (y ∷ zs) {h} {l} a = first_alone x zs (addend_left_out y (x ∷ 
 
 all_terms : (ts : Trees) → other_terms ts ≡ none → (AreTerms ts) × (number_terms ts ≡ ts)
 all_terms none e = (tt, refl)
-all_terms (more t ts) e = by (all_terms ts) (is_term t) refl e
-  where
-    by : (other_terms ts ≡ none → (AreTerms ts) × (number_terms ts ≡ ts)) → (b : Bool) → is_term t ≡ b → (if b then other_terms ts else more t ts) ≡ none → (AreTerms (more t ts)) × (number_terms (more t ts) ≡ more t ts)
-    by go true h k = let r = go k in ((term_words t h, r.0), ap (λ (b : Bool). if b then more t (number_terms ts) else none) h ∙ ap (more t) r.1)
-    by go false h k = absurd cc
+all_terms (more t ts) e = grind (arith, term_words, all_terms ts)
 
 sum_high : (ts : Trees) {h l : ℕ} → AllParts HasForm (add ts) → is_number (add ts) ≡ false → IsTreeHeld (add ts) h l → 1 ≤ h
 sum_high ts {h} {l} f n a = by (other_terms ts) refl (others_formed ts f.1) m.no_number (tree_as_sum refl a)

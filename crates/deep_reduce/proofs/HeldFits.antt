@@ -1,6 +1,6 @@
 -- A call inside of another one fits where few bits hold what the outer one was handed.
-use Rattle.std.proofs.Common.{◌≡◌, ℕ, zero, suc, ◌+◌, ◌*◌, ◌≤◌, inl, ℤ, pos, negsuc, Bool, true, false, ◌||◌, Some, Result, Ok, Err, refl, sym, ap, ◌∙◌, subst, arith, IfErr, IsOk, nat_abs}
-use Rattle.deep_reduce.proofs.Shared.{and_parts, mul-le, is_reduced, is_half_num, is_whole_num, whole_fraction, is_one_fraction, int_is_zero, whole_is, whole_numerator, Tree, num, power, root, Trees, none, more, append, is_mult, is_undef, has_undef, reduced_parts, parts_reduced, HasFewBits, IsJoinedFrom, IsRewritten, AreReducedPowers, IsLifted, IsProductOfPowers, IsSummed, exponent_of, joint, base_of, IsSumHeld, addends_of_each, HasFewBitsRaised, base_in, exponent_in, half, goes_inside, is_zero_or_one, parts_of, raised, rewritten_whole, as_whole, whole_no_half, chosen, IsFactorHeld, AreFactorsHeld, none_held, Counts, counts, multiple, counts_of, is_counted, raised_high, raised_low, exponents_within, nth, children_of, OfOverflow, NumberFault, reduced_nth, exponent_is_reduced, inside_other, mult}
+use Rattle.std.proofs.Common.{◌≡◌, ℕ, suc, ◌+◌, ◌*◌, ◌≤◌, ℤ, true, false, Some, Result, refl, sym, ap, ◌∙◌, subst, arith, IfErr, IsOk, nat_abs}
+use Rattle.deep_reduce.proofs.Shared.{and_parts, mul-le, is_reduced, is_half_num, is_whole_num, whole_fraction, whole_is, whole_numerator, Tree, num, power, root, Trees, none, more, append, is_mult, is_undef, has_undef, reduced_parts, parts_reduced, HasFewBits, IsJoinedFrom, IsRewritten, IsLifted, IsProductOfPowers, IsSummed, exponent_of, joint, base_of, IsSumHeld, addends_of_each, HasFewBitsRaised, base_in, exponent_in, half, goes_inside, is_zero_or_one, parts_of, rewritten_whole, as_whole, whole_no_half, chosen, IsFactorHeld, AreFactorsHeld, none_held, counts_of, is_counted, raised_high, raised_low, exponents_within, nth, children_of, OfOverflow, NumberFault, reduced_nth, exponent_is_reduced, inside_other, mult}
 use Rattle.deep_reduce.proofs.Clashes.{clash}
 use Rattle.deep_reduce.proofs.Heavy.{exponent_reduced}
 use Rattle.deep_reduce.proofs.HeldExponents.{counted_defined, some_counts, exponent_is_held, multiple_counts}
@@ -12,30 +12,17 @@ use Rattle.deep_reduce.proofs.HeldPowers.{half_of, half_bits, root_argument, pow
 use Rattle.deep_reduce.proofs.PowerBytes.{split_at}
 use Rattle.deep_reduce.proofs.Rewritten.{by_product, by_power}
 use Rattle.product_reduce.specs.Bits.{factor_held}
-use Rattle.tree_handles.specs.declared.fault.NumberFault.TheVariants as fault
 
 -- ---- products
 
 -- an operation overflows only where no factor is Undef
 pub product_fits : {A : Type 0} (us : Trees) (r : Result A NumberFault) → (has_undef us ≡ false → IfErr r (OfOverflow (λ o. ⊥))) → IfErr r (OfOverflow (λ o. has_undef us ≡ false)) → IfErr r (OfOverflow (λ o. ⊥))
-product_fits us r fits defined = by (has_undef us) refl r fits defined
-  where
-    fault_by : (f : NumberFault) → has_undef us ≡ true → OfOverflow (λ o. has_undef us ≡ false) f → OfOverflow (λ o. ⊥) f
-    fault_by (fault.Full full) e d = tt
-    fault_by (fault.Overflow o) e d = clash (sym e ∙ d)
-
-    by : {A : Type 0} (b : Bool) → has_undef us ≡ b → (r : Result A NumberFault) → (has_undef us ≡ false → IfErr r (OfOverflow (λ o. ⊥))) → IfErr r (OfOverflow (λ o. has_undef us ≡ false)) → IfErr r (OfOverflow (λ o. ⊥))
-    by false e r fits d = fits e
-    by true e (Ok x) fits d = tt
-    by true e (Err f) fits d = fault_by f e d
+product_fits us r h k = grind (arith, clash)
 
 -- the product of reduced powers
 pub powers_ready : (b e t v : Tree) (n : ℤ) (h l : ℕ) → is_mult t ≡ true → IsRewritten b e t → IsProductOfPowers (children_of t) v → e ≡ num (whole_fraction n) → IsFactorHeld b h l → has_undef (children_of v) ≡ false
     → AreFactorsHeld (children_of v) (raised_high n h l) (raised_low n h l)
-powers_ready b e t v n h l m w p q f d =
-    by_product (λ (x y : Tree). AreReducedPowers (children_of y) p.factors → IsFactorHeld x h l → AreFactorsHeld (children_of v) (raised_high n h l) (raised_low n h l)) b e t m w
-    (λ fs r k a f. subst (λ (x : Tree). AreFactorsHeld (children_of x) (raised_high n h l) (raised_low n h l)) (sym p.is)
-    (powers_held n (parts_of fs) p.factors (sym (ap (λ (x : Tree). has_undef (children_of x)) p.is) ∙ d) (subst (λ (x : Tree). AreReducedPowers (raised (parts_of fs) x) p.factors) q a) (parts_each fs r k f))) p.are f
+powers_ready b e t v n h l k a c d f p = grind (arith, by_product, powers_held, parts_each)
 
 -- one of the powers
 record IsEachAt (t : Tree) (h l : ℕ) : Type 0 where
@@ -87,27 +74,14 @@ power_fits b e t v n h l r m w lifted q f few bits others =
 inside : (c f e t : Tree) → IsRewritten (power c f) e t → goes_inside e ≡ true
 inside c f e t w = chosen _ _ t (λ u. goes_inside e ≡ true) (sym (as_whole (power c f) e (whole_no_half e w.whole)) ∙ w.is) (λ k. (and_parts _ _ k).0)
 
-zero_is_one : is_zero_or_one (num (whole_fraction (pos 0))) ≡ true
-zero_is_one = ap (λ (b : Bool). b || is_one_fraction (whole_fraction (pos 0))) (ap int_is_zero (whole_numerator (pos 0)))
-
 not_nothing : (n : ℤ) → is_zero_or_one (num (whole_fraction n)) ≡ false → 1 ≤ nat_abs n
-not_nothing (pos zero) h = clash (sym zero_is_one ∙ h)
-not_nothing (pos (suc n)) h = omega arith
-not_nothing (negsuc n) h = omega arith
-
-magnitude : (n : ℤ) → (multiple n (counts 1 0)).up + (multiple n (counts 1 0)).down ≡ nat_abs n
-magnitude n = omega (arith, multiple_counts n (counts 1 0))
+not_nothing n h = grind (arith, clash, whole_numerator)
 
 whole_held : (n : ℤ) → nat_abs n ≤ 62 → IsFactorHeld (num (whole_fraction n)) 7 0
-whole_held n k =
-    let c : counts_of (num (whole_fraction n)) ≡ multiple n (counts 1 0) = ap (λ (z : ℤ). multiple z (counts 1 0)) (whole_numerator n) in
-    tree_factor (num (whole_fraction n)) (parts_reduced (num (whole_fraction n)) (inl tt)) refl (exponent_is_held (num (whole_fraction n)) (inl tt) (whole_is n) (omega (arith, ap (λ (x : Counts). x.up + x.down) c, magnitude n, k)))
+whole_held n h = grind (arith, whole_numerator, tree_factor, parts_reduced, exponent_is_held, whole_is, multiple_counts)
 
 few_both : (m u h : ℕ) → 1 ≤ m → 1 ≤ u → u ≤ h → m * h ≤ 62 → (m ≤ 62) × (u ≤ 62)
-few_both m u h a b c d =
-    let x : 1 * h ≤ m * h = mul-le 1 h m h a (omega arith) in
-    let y : m * 1 ≤ m * h = mul-le m 1 m h (omega arith) (omega arith) in
-    (omega (arith, y), omega (arith, x))
+few_both m u h k a b c = grind (arith, mul-le)
 
 two_exponents : (c f e t : Tree) (n : ℤ) (h l : ℕ) → is_reduced (power c f) ≡ true → IsRewritten (power c f) e t → e ≡ num (whole_fraction n) → IsFactorHeld (power c f) h l → HasFewBitsRaised n h l → AreFactorsHeld (more f (more e none)) 14 0
 two_exponents c f e t n h l r w q a few =

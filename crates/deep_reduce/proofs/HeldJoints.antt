@@ -1,6 +1,6 @@
 -- What holds factors holds them with two of one base joined, and the exponents of these are added within few bits.
-use Rattle.std.proofs.Common.{◌≡◌, ℕ, zero, suc, ◌+◌, ◌≤◌, ◌<◌, [], ◌∷◌, Bool, true, false, ◌&&◌, not, if◌then◌else◌, refl, sym, ap, ◌∙◌, subst, arith, inl, inr}
-use Rattle.deep_reduce.proofs.Shared.{and_from, is_number, is_reduced, are_reduced, is_whole_num, is_opaque_exponent, num_one, base_of, number_words, HighLow, Tree, power, Trees, none, more, count, is_undef, reduced_parts, IsReducedPower, HasFewBits, AddsCounts, IsCountedWithin, replaced, removed, whole_is, IsFactorHeld, AreFactorsHeld, exponent_of, is_partner, joint, IsPairAt, joined_pair, partners_of_pair, IsSumHeld, addends_of_each, Counts, counts, counts_of, counts_of_all, is_counted, IsPartHeld, trees_together, factors_joined, factor_left_out, exponents_within, one_counts, nth, inserted, reduced_nth, one_base, cases_Bool}
+use Rattle.std.proofs.Common.{◌≡◌, ℕ, zero, suc, ◌+◌, ◌≤◌, ◌<◌, [], ◌∷◌, Bool, true, false, ◌&&◌, not, refl, sym, ap, ◌∙◌, subst, arith, inl, inr}
+use Rattle.deep_reduce.proofs.Shared.{and_from, is_number, is_reduced, are_reduced, is_whole_num, is_opaque_exponent, base_of, number_words, HighLow, Tree, power, Trees, none, more, count, is_undef, reduced_parts, IsReducedPower, HasFewBits, AddsCounts, IsCountedWithin, replaced, removed, whole_is, IsFactorHeld, AreFactorsHeld, exponent_of, is_partner, IsPairAt, joined_pair, partners_of_pair, IsSumHeld, addends_of_each, counts_of, counts_of_all, is_counted, IsPartHeld, trees_together, factors_joined, factor_left_out, exponents_within, one_counts, nth, inserted, reduced_nth, one_base, cases_Bool}
 use Rattle.deep_reduce.proofs.Clashes.{undef_words}
 use Rattle.deep_reduce.proofs.HeldExponents.{counted_defined, exponent_is_held}
 use Rattle.deep_reduce.proofs.HeldFactors.{undef_factor, first_counted, part_high}
@@ -22,22 +22,13 @@ counted_transparent e c = by (is_number e) refl
 
 -- so it is that of the factor over its base
 base_same : (t : Tree) → is_counted (part.exponent_in t) ≡ true → base_of t ≡ part.base_in t
-base_same (power b e) c = ap (λ (x : Bool). if x then power b e else b) (counted_transparent e c)
-base_same t c = refl
+base_same t h = grind (arith, counted_transparent)
 
 exponent_same : (t : Tree) → is_counted (part.exponent_in t) ≡ true → exponent_of t ≡ part.exponent_in t
-exponent_same (power b e) c = ap (λ (x : Bool). if x then num_one else e) (counted_transparent e c)
-exponent_same t c = refl
+exponent_same t h = grind (arith, counted_transparent)
 
 some_high : (t : Tree) (ts : Trees) {h l : ℕ} → is_reduced t ≡ true → IsPartHeld (more t ts) h l → 1 ≤ h
-some_high t ts {h} {l} r a = by (is_undef t) refl
-  where
-    by : (b : Bool) → is_undef t ≡ b → 1 ≤ h
-    by true e =
-        let one : counts_of num_one ≡ counts 1 0 = one_counts in
-        let k : counts_of (part.exponent_in t) ≡ counts 1 0 = ap (λ (u : Tree). counts_of (part.exponent_in u)) (undef_words t e) ∙ one in
-        omega (arith, ap (λ (c : Counts). c.up) k, exponents_within {t = t} {ts = ts} a)
-    by false e = part_high t ts (reduced_parts t r e) a
+some_high t ts h k = grind (arith, one_counts, undef_words, exponents_within, part_high, reduced_parts)
 
 -- ---- two factors
 
@@ -122,11 +113,7 @@ module _ (at : ℕ) (ts us : Trees) (pair : IsPairAt at ts) (reduced : are_reduc
   first_reduced = let w = pair.within in reduced_nth at ts (omega arith) reduced
 
   in_place : (r : Tree) → inserted at (more r none) (removed at (removed (suc at) ts)) ≡ replaced at r us
-  in_place r =
-      let w = pair.within in
-      let m = removed_count (suc at) ts (omega arith) in
-      let n = removed_count at (removed (suc at) ts) (omega (arith, m)) in
-      sym (replaced_inserted at (joint (nth at ts) (nth (suc at) ts)) r (removed at (removed (suc at) ts)) (omega (arith, m, n))) ∙ ap (replaced at r) (sym joined-is)
+  in_place r = grind (arith, removed_count, replaced_inserted)
 
   pub settled_held : (g r : Tree) → is_reduced (base_of (nth at ts)) ≡ true → is_reduced g ≡ true → AddsCounts (more (exponent_of (nth at ts)) (more (exponent_of (nth (suc at) ts)) none)) g → IsReducedPower (base_of (nth at ts)) g r
       → (h l : ℕ) → AreFactorsHeld ts h l → AreFactorsHeld (replaced at r us) h l
@@ -137,9 +124,7 @@ module _ (at : ℕ) (ts us : Trees) (pair : IsPairAt at ts) (reduced : are_reduc
   -- the exponents, and the power of their sum
   pub pair_exponents_held : is_reduced (exponent_of (nth at ts)) ≡ true → is_reduced (exponent_of (nth (suc at) ts)) ≡ true → (h l : ℕ) → HasFewBits h l → AreFactorsHeld ts h l
       → IsSumHeld (addends_of_each (more (exponent_of (nth at ts)) (more (exponent_of (nth (suc at) ts)) none))) 8 0
-  pair_exponents_held x y h l m b =
-      let (p, q, i, j, c, f) = neighbours_held at ts h l pair reduced b in
-      exponents_held (nth at ts) (nth (suc at) ts) x y (omega (arith, m, i)) c
+  pair_exponents_held k a h l b c = grind (arith, neighbours_held, exponents_held)
 
   pub pair_power_held : (g : Tree) → AddsCounts (more (exponent_of (nth at ts)) (more (exponent_of (nth (suc at) ts)) none)) g → (h l : ℕ) → AreFactorsHeld ts h l
       → (p q : ℕ) × (p ≤ h) × (q ≤ l) × IsPartHeld (more (power (base_of (nth at ts)) g) none) p q

@@ -1,44 +1,30 @@
 -- A power as a factor: what holds it holds its answer, and within few bits it fits.
-use Rattle.std.proofs.Common.{◌≡◌, ℕ, suc, ◌+◌, ◌*◌, ◌≤◌, ℤ, pos, negsuc, Bool, true, false, ◌==◌, Option, Some, None, Result, Ok, Err, refl, sym, ap, ◌∙◌, subst, arith, IfErr, IsOk, nat_abs}
-use Rattle.deep_reduce.proofs.Shared.{eqb-true, mul-le, whole_fraction, whole_numerator, Tree, num, power, none, more, is_undef, is_reduced, is_half_num, is_whole_num, IsReducedPower, lacks_power, HasFewBits, HasFewBitsRaised, has_number_power, is_zero_or_one, rewritten, IsFactorHeld, counts, multiple, counts_of, is_counted, power_high, power_low, IsPartHeld, factor_held, raised_high, raised_low, OfOverflow, NumberFault, whole_exponent}
+use Rattle.std.proofs.Common.{◌≡◌, ℕ, ◌+◌, ◌*◌, ◌≤◌, ℤ, Bool, true, false, None, Result, refl, sym, ap, ◌∙◌, subst, arith, IfErr, IsOk, nat_abs}
+use Rattle.deep_reduce.proofs.Shared.{eqb-true, mul-le, whole_fraction, whole_numerator, Tree, num, power, none, more, is_undef, is_reduced, is_half_num, is_whole_num, IsReducedPower, lacks_power, HasFewBits, HasFewBitsRaised, has_number_power, is_zero_or_one, rewritten, IsFactorHeld, counts_of, is_counted, power_high, power_low, IsPartHeld, factor_held, raised_high, raised_low, OfOverflow, NumberFault, whole_exponent}
 use Rattle.deep_reduce.proofs.Clashes.{clash}
 use Rattle.deep_reduce.proofs.HeldFactors.{factor_wider, power_factor, base_factor}
 use Rattle.deep_reduce.proofs.Opened.{is_rewritten}
 
 -- ---- bits of powers
 
-times_most : (n p h : ℕ) → p ≤ h → n * p ≤ n * h
-times_most n p h l = mul-le n p n h (omega arith) l
-
 -- of fewer bits they are fewer
 pub raised_most : (n : ℤ) {p q h l : ℕ} → p ≤ h → q ≤ l → (raised_high n p q ≤ raised_high n h l) × (raised_low n p q ≤ raised_low n h l)
-raised_most (pos n) {p} {q} {h} {l} x y = (times_most n p h x, times_most n q l y)
-raised_most (negsuc n) {p} {q} {h} {l} x y = (times_most (suc n) (p + 2 * q) (h + 2 * l) (omega (arith, x, y)), times_most (suc n) (2 * p + 2 * q) (2 * h + 2 * l) (omega (arith, x, y)))
+raised_most n h k = grind (arith, mul-le)
 
 pub few_most : (n : ℤ) {p q h l : ℕ} → p ≤ h → q ≤ l → HasFewBitsRaised n h l → HasFewBitsRaised n p q
 few_most n {p} {q} {h} {l} x y f = let r = raised_most n x y in omega (arith, r.0, r.1, f)
 
 -- of two together they add up
 pub raised_both : (n : ℤ) (p q k i : ℕ) → (raised_high n p q + raised_high n k i ≡ raised_high n (p + k) (q + i)) × (raised_low n p q + raised_low n k i ≡ raised_low n (p + k) (q + i))
-raised_both (pos n) p q k i = (omega arith, omega arith)
-raised_both (negsuc n) p q k i = (omega arith, omega arith)
+raised_both n p q k i = grind arith
 
 -- as a power counts them
 counted_bits : (n : ℤ) (h l : ℕ) → (power_high (counts_of (num (whole_fraction n))) h l ≡ raised_high n h l) × (power_low (counts_of (num (whole_fraction n))) h l ≡ raised_low n h l)
-counted_bits n h l = (ap (λ (z : ℤ). power_high (multiple z (counts 1 0)) h l) (whole_numerator n) ∙ by n, ap (λ (z : ℤ). power_low (multiple z (counts 1 0)) h l) (whole_numerator n) ∙ below n)
-  where
-    by : (n : ℤ) → power_high (multiple n (counts 1 0)) h l ≡ raised_high n h l
-    by (pos n) = omega arith
-    by (negsuc n) = omega arith
-
-    below : (n : ℤ) → power_low (multiple n (counts 1 0)) h l ≡ raised_low n h l
-    below (pos n) = omega arith
-    below (negsuc n) = omega arith
+counted_bits n h l = grind (arith, whole_numerator)
 
 -- a power of few bits is not a high one
 pub few_magnitude : (n : ℤ) (h l : ℕ) → HasFewBitsRaised n h l → nat_abs n * h ≤ 62
-few_magnitude (pos n) h l f = omega (arith, f)
-few_magnitude (negsuc n) h l f = let x : suc n * h ≤ suc n * (h + 2 * l) = times_most (suc n) h (h + 2 * l) (omega arith) in omega (arith, f, x)
+few_magnitude n h l k = grind (arith, mul-le)
 
 -- ---- a power as a part
 
@@ -60,19 +46,13 @@ pub counted_exponent : {c p : Tree} {h l : ℕ} → IsPartHeld (more (power c p)
 counted_exponent (factor_held i j k m x b r y z) = x
 
 counted_no_half : (p : Tree) → is_counted p ≡ true → is_half_num p ≡ false
-counted_no_half (num q) c = ap (λ (n : ℕ). n == 2) (eqb-true q.den 1 c)
-counted_no_half p c = refl
+counted_no_half p h = grind (arith, eqb-true)
 
 other_exponent : (p : Tree) → is_counted p ≡ true → is_whole_num p ≡ false → (is_zero_or_one p ≡ false) × ((c : Tree) → has_number_power c p ≡ false)
-other_exponent (num q) c w = clash (sym c ∙ w)
-other_exponent p c w = (refl, λ c. refl)
+other_exponent p h k = grind (arith, clash)
 
 not_rewritten : (c p : Tree) → is_reduced c ≡ true → is_reduced p ≡ true → is_counted p ≡ true → is_whole_num p ≡ false → rewritten c p ≡ None
-not_rewritten c p r s k w = by (rewritten c p) refl
-  where
-    by : (o : Option Tree) → rewritten c p ≡ o → o ≡ None
-    by None e = refl
-    by (Some u) e = clash (sym (is_rewritten c p u (counted_no_half p k) r s e).whole ∙ w)
+not_rewritten c p h k a b = grind (arith, clash, is_rewritten, counted_no_half)
 
 -- what holds the part holds its answer
 pub part_answer : (c p r : Tree) {h l : ℕ} → is_reduced c ≡ true → is_reduced p ≡ true → IsReducedPower c p r → IsPartHeld (more (power c p) none) h l → is_undef r ≡ false → IsFactorHeld r h l
@@ -93,8 +73,7 @@ part_answer c p r {h} {l} x y a k d = by (is_whole_num p) refl
     by false w = kept w (lacks_power c p) refl
 
 pub fine : {A : Type 0} (r : Result A NumberFault) → IsOk r → IfErr r (OfOverflow (λ o. ⊥))
-fine (Ok x) o = tt
-fine (Err e) o = absurd (let no : false ≡ true = o in cc)
+fine r h = grind arith
 
 -- and of few bits the power fits
 pub part_fits : {A : Type 0} (c p : Tree) (r : Result A NumberFault) (h l : ℕ) → IsPartHeld (more (power c p) none) h l → HasFewBits h l

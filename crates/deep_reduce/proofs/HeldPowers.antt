@@ -77,8 +77,7 @@ defined_factors us r a d = by (has_undef us) refl
     by true e = clash (sym (ap is_undef (a.undefined e)) ∙ d)
 
 product_way : (fs us : Trees) (e r : Tree) (n : ℤ) → is_reduced (mult fs) ≡ true → is_number (mult fs) ≡ false → e ≡ num (whole_fraction n) → AreReducedPowers (raised (parts_of fs) e) us → IsReducedProduct us r → IsHeldAsPowerOf n (mult fs) r
-product_way fs us e r n x m i a p d h l k =
-    p.held d (raised_high n h l) (raised_low n h l) (powers_held n (parts_of fs) us (defined_factors us r p d) (subst (λ (y : Tree). AreReducedPowers (raised (parts_of fs) y) us) i a) (parts_each fs x m k))
+product_way fs us e r n h k a b c = grind (arith, powers_held, defined_factors, parts_each)
 
 -- ---- what is answered for the tree
 

@@ -1,5 +1,5 @@
 -- Roots, and powers with half of an odd number as the exponent, are held by the bits of their bases.
-use Rattle.std.proofs.Common.{◌≡◌, ◌≢◌, ℕ, zero, suc, ◌*◌, ◌^◌, ◌≤◌, ◌<◌, [], ◌∷◌, length, ℤ, Bool, true, false, ◌&&◌, ◌==◌, Result, Ok, Err, refl, sym, ap, ◌∙◌, subst, arith, inl, inr, IfOk}
+use Rattle.std.proofs.Common.{◌≡◌, ◌≢◌, ℕ, zero, suc, ◌*◌, ◌^◌, ◌≤◌, ◌<◌, [], ◌∷◌, length, ℤ, Bool, true, false, ◌&&◌, ◌==◌, Result, Err, refl, sym, ap, ◌∙◌, subst, arith, inl, inr, IfOk}
 use Rattle.deep_reduce.proofs.Shared.{and_parts, eqb-true, mul-le, Fraction, zero_fraction, whole_fraction, int_is_negative, Tree, num, undef, add, mult, root, none, more, is_num, is_undef, IsNumber, IsRadicand, is_number, value, natural_of, terms_of, term_of, is_reduced, is_half_num, Term, Surd, one_not_zero, number_words, Parts, magnitude_over, mass, IsHeld, reduced_parts, HasFewBits, IsHeldAsRootPower, numerator, IsHeldAsPowerOf, has_number_power, IsPowerAnswer, IsPowerMisfit, whole_no_half, whole_is, IsFactorHeld, value_held, number_as_factor, IfRational, IsRootAnswer, has_no_root, HasWideRoot, IsOverflow, Overflow, OfOverflow, NumberFault, IsNoLargerThanRoot, factor_is_held, root_is_held, cases_Bool}
 use Rattle.deep_reduce.proofs.Opened.{undef_has_none}
 use Rattle.deep_reduce.proofs.Clashes.{clash, rational_number}
@@ -7,7 +7,6 @@ use Rattle.calc_bits.proofs.Parts.{term_held}
 use Rattle.deep_reduce.proofs.HeldFactors.{tree_high, factor_tree}
 use Rattle.surd_bits.proofs.Bounds.{magnitude_positive}
 use Rattle.calc_bits.specs.Bounds as few
-use Rattle.tree_handles.specs.declared.fault.NumberFault.TheVariants as fault
 
 -- ---- Numbers that no bits hold are rationals
 
@@ -15,10 +14,7 @@ one_denominator : (d : ℕ) → 0 < d → d ≤ 2 ^ 0 → d ≡ 1
 one_denominator d o l = omega arith
 
 small_square : (m r : ℕ) → 0 < m → 2 ≤ r → m * m * r ≤ (1 * 2 ^ 0) * (1 * 2 ^ 0) → ⊥
-small_square m r o k l =
-    let a : 1 * 1 ≤ m * m = mul-le 1 1 m m o o in
-    let b : 1 * 2 ≤ (m * m) * r = mul-le 1 2 (m * m) r (omega (arith, a)) k in
-    omega (arith, b)
+small_square m r h k a = grind (arith, mul-le)
 
 term_without : (c : Fraction) (r : ℕ) (t : Term) → t.coefficient ≡ c → t.radicand ≡ r → c ≢ zero_fraction → 2 ≤ r → IsHeld (t ∷ []) 0 0 → ⊥
 term_without c r t i j z k a =
@@ -48,8 +44,7 @@ rational_without t n a = absurd n
 
 root_no_number : (b : Tree) → is_num b ≡ false → is_number (root b) ≡ false
 unfolding is_number
-root_no_number (num q) n = cc
-root_no_number b n = refl
+root_no_number b h = grind arith
 
 some_high : (b : Tree) {h l : ℕ} → is_reduced b ≡ true → is_undef b ≡ false → is_num b ≡ false → (h ≡ 0 → l ≡ 0) → IsFactorHeld b h l → 1 ≤ h
 some_high b {h = suc h} r d n z a = omega arith
@@ -59,8 +54,7 @@ some_high b {h = zero} {l = l} r d n z a = elim (cases_Bool (is_number b)) [
 ]
 
 has_root_defined : (b : Tree) → has_no_root b ≡ false → is_undef b ≡ false
-has_root_defined undef h = cc
-has_root_defined b h = refl
+has_root_defined b h = grind arith
 
 pub root_answer_held : (b r : Tree) {h l : ℕ} → is_reduced b ≡ true → IsRootAnswer b r → IfRational b (λ q. int_is_negative q.num ≡ false → IsNoLargerThanRoot q (value r)) → (h ≡ 0 → l ≡ 0) → is_undef r ≡ false → IsFactorHeld b h l → IsFactorHeld r h l
 root_answer_held b r {h} {l} x k m z d a = by (is_num b) refl
@@ -94,15 +88,10 @@ pub half_no_whole : {A : Type 0} (e : Tree) (n : ℤ) → is_half_num e ≡ true
 half_no_whole e n h q = clash (sym h ∙ ap is_half_num q ∙ whole_no_half (num (whole_fraction n)) (whole_is n))
 
 no_fault : (f : NumberFault) (P : Overflow → Type 0) → ((o : Overflow) → P o → ⊥) → OfOverflow P f → OfOverflow (λ o. ⊥) f
-no_fault (fault.Full full) P never p = tt
-no_fault (fault.Overflow o) P never p = never o p
+no_fault f P h k = grind arith
 
 half_no_number : (b e : Tree) → is_half_num e ≡ true → has_number_power b e ≡ true → ⊥
-half_no_number b (num q) h n = by q.den h (and_parts (is_number b) (q.den == 1) (and_parts (is_number b && q.den == 1) _ n).0).1
-  where
-    by : (d : ℕ) → (d == 2) ≡ true → (d == 1) ≡ true → ⊥
-    by d h k = absurd (omega (arith, eqb-true d 2 h, eqb-true d 1 k))
-half_no_number b e h n = cc
+half_no_number b e h k = grind (arith, and_parts, eqb-true)
 
 -- half of an odd number is no whole power of a Number
 pub half_fits : (b e : Tree) (f : NumberFault) → is_half_num e ≡ true → OfOverflow (IsPowerMisfit b e) f → OfOverflow (λ o. ⊥) f
@@ -123,12 +112,7 @@ last_fits b e f fits m = elim (cases_Bool (is_undef b)) [ inl d ↦ no_fault f (
 -- only the root of a rational overflows
 pub root_fits : (a : Tree) (f : NumberFault) {h l : ℕ} → (few.HasFewBits (value a) → OfOverflow (λ o. ⊥) f) → (IsOverflow {A = ℕ} (Err f) → HasWideRoot a) → IsFactorHeld a h l → HasFewBits h l → OfOverflow (λ o. ⊥) f
 root_fits (num q) f {h} {l} fits wide a few = fits (record { high = h; low = l; held = value_held (num q) h l (rational_number q) a; few = few })
-root_fits b f fits wide a few = by f wide
-  where
-    by : (f : NumberFault) → (IsOverflow {A = ℕ} (Err f) → HasWideRoot b) → OfOverflow (λ o. ⊥) f
-    by (fault.Full full) w = tt
-    by (fault.Overflow o) w = w tt
+root_fits b f fits wide a few = grind arith
 
 pub if_two : {E : Type 0} (r : Result ℕ E) (P Q R : ℕ → Type 0) → IfOk r P → IfOk r Q → ((h : ℕ) → P h → Q h → R h) → IfOk r R
-if_two (Ok h) P Q R p q f = f h p q
-if_two (Err e) P Q R p q f = tt
+if_two r P Q R h k a = grind arith

@@ -1,6 +1,6 @@
 -- Factors of reduced trees before and after a joining: their loads and nests.
-use Rattle.std.proofs.Common.{◌≡◌, ℕ, zero, suc, ◌+◌, ◌≤◌, true, false, ◌&&◌, refl, ap, ◌∙◌, arith, inl, inr, Bool, if◌then◌else◌, subst}
-use Rattle.deep_reduce.proofs.Shared.{and_parts, nest_of, weight, load_of_factor, load_of_factors, is_number, IsNumber, are_numbers, base_of, are_reduced, Tree, num, mult, root, Trees, none, more, append, is_mult, number_test, number_words, factors_of, nest_of_joint, opened, others_in, exponent_of, is_partner, is_single, IsPairAt, joined_pair, not-true, one_base, Contains-append_left, Contains-append_right, Contains-append_cases, names, names_of, Rewrites, KeepsMeanings-product_more, keeps, kept, Rewrites-refl, has_partner, first_partner, without_partner, joint, joined, partners_of_pair}
+use Rattle.std.proofs.Common.{◌≡◌, ℕ, zero, suc, ◌+◌, ◌≤◌, true, false, ◌&&◌, refl, ap, ◌∙◌, arith, inl, inr, subst}
+use Rattle.deep_reduce.proofs.Shared.{and_parts, nest_of, weight, load_of_factor, load_of_factors, is_number, are_numbers, base_of, are_reduced, Tree, mult, Trees, none, more, append, is_mult, number_test, number_words, factors_of, nest_of_joint, opened, others_in, exponent_of, is_partner, is_single, IsPairAt, joined_pair, not-true, one_base, Contains-append_left, Contains-append_right, Contains-append_cases, names, names_of, Rewrites, KeepsMeanings-product_more, keeps, kept, Rewrites-refl, joint, joined, partners_of_pair}
 use Rattle.deep_reduce.proofs.Heavy.{heavy_base}
 use Rattle.deep_reduce.proofs.Joints.{transparent_exponent, joint_load, joint_nest, joint_below}
 use Rattle.calc_algebra.proofs.Names.{no_new_name}
@@ -11,12 +11,7 @@ use Rattle.product_reduce.proofs.NoNewNames.{names_joined}
 
 -- where all are Numbers no factor is left
 number_opened : (t : Tree) (us : Trees) → is_number t ≡ true → others_in (append (factors_of t) us) ≡ others_in us
-number_opened (mult ts) us h = two ts (number_words (mult ts) h)
-  where
-    two : (ts : Trees) → IsNumber (mult ts) → others_in (append ts us) ≡ others_in us
-    two (more (num q) (more (root (num r)) none)) k = rw (number_test (num q) tt, number_test (root (num r)) k.2) refl
-    two ts k = absurd k
-number_opened t us h = rw h refl
+number_opened t us h = grind (arith, number_words, number_test)
 
 pub numbers_opened : (ts : Trees) → are_numbers ts ≡ true → others_in (opened ts) ≡ none
 numbers_opened none h = refl
@@ -25,8 +20,7 @@ numbers_opened (more t ts) h = let (p, q) = and_parts _ _ h in number_opened t (
 -- ---- a joining
 
 factor_load_is : (t : Tree) → is_number t ≡ false → is_mult t ≡ false → load_of_factor t ≡ weight (base_of t)
-factor_load_is (mult ts) n m = cc
-factor_load_is t n m = rw n refl
+factor_load_is t h k = grind arith
 
 -- each tree with a sum as its exponent nests no more than n once that sum is reduced
 abbrev pub JointsBelow : ℕ → Trees → Type 0
@@ -78,8 +72,7 @@ factors_rewritten {t} {u} {ts} {us} h k = record {
 }
 
 first_joined : (t u : Tree) (ts : Trees) → is_partner t u ≡ true → joined (more t (more u ts)) ≡ more (joint t u) ts
-first_joined t u ts h =
-    ap (λ (k : Bool). if (if k then true else has_partner t ts) then more (joint t (if k then u else first_partner t ts)) (if k then ts else more u (without_partner t ts)) else more t (joined (more u ts))) h
+first_joined t u ts h = grind arith
 
 pub pair_rewritten : (n : ℕ) (ts : Trees) → IsPairAt n ts → Rewrites (mult ts) (mult (joined_pair n (suc n) ts))
 pair_rewritten zero (more t (more u ts)) p =

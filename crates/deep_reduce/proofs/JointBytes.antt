@@ -1,6 +1,6 @@
 -- How many bytes suffice where two factors of a product are joined and their joint is reduced.
 use Rattle.std.proofs.Common.{◌≡◌, ℕ, zero, suc, ◌+◌, ◌*◌, ◌^◌, ◌≤◌, ◌<◌, List, length, inl, inr, Bool, true, false, not, ◌&&◌, if◌then◌else◌, refl, sym, ap, ◌∙◌, subst, arith, ◌-◌, max}
-use Rattle.deep_reduce.proofs.Shared.{and_parts, eqb-true, pow_pos, is_number, is_reduced, are_reduced, is_opaque_exponent, is_whole_num, base_of, number_words, reduced_words, counted, counted_among, SpansRoot, SpansTree, SpansTrees, number_bytes, tree_bytes, counted_number, counted_other, Tree, num, mult, power, Trees, none, more, count, is_mult, size, sizes, reduced_parts, IsJoinedFrom, whole_power_room, removed, base_in, exponent_of, joint, is_single, joined_pair, nth, exponent_count, numbers_among, product_count, sum_count, sum_room, product_room, power_room, product_power_room, counts_one, product_bytes, scaled, exponents_added, not-true, reduced_nth}
+use Rattle.deep_reduce.proofs.Shared.{and_parts, eqb-true, pow_pos, is_number, is_reduced, are_reduced, is_whole_num, base_of, number_words, reduced_words, counted, counted_among, SpansRoot, SpansTree, SpansTrees, number_bytes, tree_bytes, counted_number, counted_other, Tree, num, mult, power, Trees, none, more, count, is_mult, size, sizes, reduced_parts, IsJoinedFrom, whole_power_room, removed, base_in, exponent_of, joint, is_single, joined_pair, nth, exponent_count, numbers_among, product_count, sum_count, sum_room, product_room, power_room, product_power_room, counts_one, product_bytes, scaled, exponents_added, not-true, reduced_nth}
 use Rattle.calc_room.proofs.NumberSpans.{value_spanned}
 use Rattle.deep_reduce.proofs.Calm.{all_nth, all_removed, all_base}
 use Rattle.deep_reduce.proofs.JointCounts.{joint_count, pair_joined_count, sizes_removed, numbers_one, numbers_other}
@@ -60,11 +60,7 @@ product_base b (num q) r m = by (is_whole_num (num q)) refl
 product_base b e r m = omega arith
 
 single_apart : (t : Tree) → is_reduced t ≡ true → is_mult t ≡ false → (is_mult (base_of t) && not (is_number (base_of t))) ≡ true → 1 ≤ exponent_count (exponent_of t)
-single_apart (power b e) r n h = by (is_opaque_exponent e) refl
-  where
-    by : (x : Bool) → is_opaque_exponent e ≡ x → 1 ≤ exponent_count (exponent_of (power b e))
-    by true o = absurd (cc (sym h ∙ ap (λ (x : Bool). is_mult (if x then power b e else b) && not (is_number (if x then power b e else b))) o))
-    by false o = rw o (product_base b e r (and_parts (is_mult b) (not (is_number b)) (sym (ap (λ (x : Bool). is_mult (if x then power b e else b) && not (is_number (if x then power b e else b))) o) ∙ h)).0)
+single_apart (power b e) r n h = grind (arith, product_base, and_parts)
 single_apart t r n h = cc
 
 base_of_joint : (t : Tree) → IsJoint t → is_reduced (base_in t) ≡ true

@@ -68,12 +68,7 @@ replaced_counts : (n : ℕ) (r : Tree) (us : Trees) → n < count us
     × (counted_among (replaced n r us) ≤ counted r + counted_among (removed n us))
     × (numbers_among (removed n us) ≤ numbers_among (replaced n r us))
 replaced_counts n r none l = absurd (omega arith)
-replaced_counts zero r (more t ts) l = by (is_number r) refl
-  where
-    by : (z : Bool) → is_number r ≡ z → (numbers_among (more r ts) + counted_among (more r ts) ≤ counted r + (numbers_among ts + counted_among ts)) × (counted_among (more r ts) ≤ counted r + counted_among ts)
-        × (numbers_among ts ≤ numbers_among (more r ts))
-    by true e = (omega (arith, numbers_one r ts e, counted_number r ts e, counts_one r), omega (arith, counted_number r ts e), omega (arith, numbers_one r ts e))
-    by false e = (omega (arith, numbers_other r ts e, counted_other r ts e), omega (arith, counted_other r ts e), omega (arith, numbers_other r ts e))
+replaced_counts zero r (more t ts) l = grind (arith, numbers_one, counted_number, counts_one, numbers_other, counted_other)
 replaced_counts (suc n) r (more t ts) l = let (a, b, c) = replaced_counts n r ts (omega arith) in (omega (arith, a), omega (arith, b), omega (arith, c))
 
 pub replaced_count_is : (n : ℕ) (r : Tree) (us : Trees) → n < count us → CountsReplaced n r us

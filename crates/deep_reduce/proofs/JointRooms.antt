@@ -1,6 +1,6 @@
 -- Two factors joined, and their joint reduced: what counts, what is calm and spanned, and how many bytes suffice.
-use Rattle.std.proofs.Common.{◌≡◌, ℕ, suc, ◌+◌, ◌*◌, ◌≤◌, ◌<◌, List, Bool, true, false, not, ◌&&◌, if◌then◌else◌, refl, sym, ap, subst, arith}
-use Rattle.deep_reduce.proofs.Shared.{is_number, is_whole_num, number_test, counted, counted_among, HasPowersOf, SpansRoot, SpansTree, SpansTrees, Tree, num, add, mult, power, Trees, none, more, count, is_mult, IsCalmAtZero, KeepsRoom, KeepsSumRoom, whole_power_count, power_count, replaced, HandsOn, removed, AreFactorsHeld, joint, IsPairAt, joined_pair, IsSumAnswer, nth, children_of, HasCalmExponent, IsCalm, zeros, exponent_count, numbers_among, product_count, parts_calm, counts_one}
+use Rattle.std.proofs.Common.{◌≡◌, ℕ, suc, ◌+◌, ◌*◌, ◌≤◌, ◌<◌, List, Bool, true, false, if◌then◌else◌, refl, sym, ap, subst, arith}
+use Rattle.deep_reduce.proofs.Shared.{is_number, is_whole_num, number_test, counted, counted_among, HasPowersOf, SpansRoot, SpansTree, SpansTrees, Tree, add, mult, power, Trees, none, more, count, IsCalmAtZero, KeepsRoom, KeepsSumRoom, whole_power_count, power_count, replaced, HandsOn, removed, AreFactorsHeld, joint, IsPairAt, joined_pair, IsSumAnswer, nth, children_of, HasCalmExponent, IsCalm, zeros, exponent_count, numbers_among, product_count, parts_calm, counts_one}
 use Rattle.deep_reduce.proofs.Calm.{all_nth, all_replaced, all_base, all_exponent, all_joined, calm_children, calm_product, joint_calm, whole_kept, whole_of_number}
 use Rattle.deep_reduce.proofs.JointCounts.{joint_count, pair_counts, pair_joined_count, replaced_count_is}
 use Rattle.tree_room.proofs.PowerCounts.{joined}
@@ -44,9 +44,7 @@ pub joined_calm : {ns : List (List ℕ)} (n : ℕ) (ts : Trees) → IsPairAt n t
 joined_calm {ns} n ts p c = calm_product c.once (all_joined (HasCalmExponent (zeros ns)) n ts p (λ t u h k. joint_calm (zeros ns) t u h k) (calm_children c))
 
 joint_spans : (gs : List ℕ) (t u : Tree) → SpansTree gs t → SpansTree gs u → SpansTree gs (joint t u)
-joint_spans gs t u h k =
-    let P : Tree → Type 0 = SpansRoot gs in
-    (tt, all_base P t h, (tt, (all_exponent P t tt h, (all_exponent P u tt k, tt))))
+joint_spans gs t u h k = grind (arith, all_base, all_exponent)
 
 pub joined_spans : (gs : List ℕ) (n : ℕ) (ts : Trees) → IsPairAt n ts → SpansTrees gs ts → SpansTrees gs (joined_pair n (suc n) ts)
 joined_spans gs n ts p s = all_joined (SpansRoot gs) n ts p (joint_spans gs) s
@@ -73,19 +71,14 @@ pub summed_spans : (gs : List ℕ) (b e f g : Tree) → SpansTree gs (power b (a
 summed_spans gs b e f g (q, h, s) k = (tt, h, k.spanned gs s.1)
 
 pub whole_numbers : (e : Tree) → is_whole_num e ≡ true → is_number e ≡ true
-whole_numbers (num q) h = number_test (num q) tt
-whole_numbers e h = cc
+whole_numbers e h = grind (arith, number_test)
 
 -- whole exponents have a whole sum
 pub summed_whole : {ns : List (List ℕ)} (b e f g : Tree) → IsCalmAtZero ns (power b g) → IsSumAnswer (more e (more f none)) g → is_whole_num e ≡ true → is_whole_num f ≡ true → is_whole_num g ≡ true
 summed_whole {ns} b e f g c a h k = whole_of_number (zeros ns) g c.once (a.number (rw (whole_numbers e h, whole_numbers f k) refl)) c.calm.0
 
 pub whole_count_most : (b : Tree) → whole_power_count b ≤ 1 + counted b
-whole_count_most b = by (is_mult b && not (is_number b))
-  where
-    by : (z : Bool) → (if z then 1 + counted b else counted b) ≤ 1 + counted b
-    by true = omega arith
-    by false = omega arith
+whole_count_most b = grind arith
 
 -- the power of the sum counts no more than both powers
 pub summed_counts : {ns : List (List ℕ)} (b e f g : Tree) → IsCalmAtZero ns (power b g) → IsSumAnswer (more e (more f none)) g → KeepsSumRoom (more e (more f none)) g → power_count b g ≤ 2 * counted b + exponent_count e + exponent_count f

@@ -1,6 +1,6 @@
 -- The joint of two factors: how it nests, and that it is never opaque.
-use Rattle.std.proofs.Common.{◌≡◌, suc, ◌≤◌, inl, inr, Bool, true, false, ◌&&◌, not, if◌then◌else◌, length, pos, refl, sym, ap, ◌∙◌, subst, arith, max}
-use Rattle.deep_reduce.proofs.Shared.{and_parts, one_fraction, nest, nest_of, weight, load_of_factor, is_number, IsNumber, IsTerm, AreTerms, is_term, terms_of, term_of, Rises, are_numbers, is_reduced, is_opaque_exponent, is_whole_num, num_one, base_of, IsSumForm, NoneIs, number_terms, other_terms, Tree, num, add, power, Trees, none, more, is_add, HasTwo, whole_denominator, number_test, number_words, term_words, reduced_parts, number_of_term, nest_over, nest_of_joint, exponent_of, joint, cases_Bool}
+use Rattle.std.proofs.Common.{◌≡◌, suc, ◌≤◌, inl, inr, Bool, true, false, if◌then◌else◌, length, pos, refl, ap, ◌∙◌, subst, arith, max}
+use Rattle.deep_reduce.proofs.Shared.{and_parts, one_fraction, nest, nest_of, weight, load_of_factor, is_number, IsNumber, IsTerm, AreTerms, is_term, terms_of, term_of, are_numbers, is_reduced, is_opaque_exponent, is_whole_num, num_one, base_of, IsSumForm, NoneIs, number_terms, other_terms, Tree, add, power, Trees, none, more, is_add, HasTwo, whole_denominator, number_test, number_words, term_words, reduced_parts, number_of_term, nest_over, nest_of_joint, exponent_of, joint, cases_Bool}
 use Rattle.deep_reduce.proofs.Clashes.{contrary}
 use Rattle.deep_reduce.proofs.Heavy.{exponent_reduced, to_number, to_other, base_nest, over_base, over_exponents}
 
@@ -18,24 +18,12 @@ one_transparent = rw (one_whole, one_number) refl
 
 -- the exponent of a factor makes no opaque power
 pub transparent_exponent : (t : Tree) → is_opaque_exponent (exponent_of t) ≡ false
-transparent_exponent (power b e) = by (is_opaque_exponent e) refl
-  where
-    by : (x : Bool) → is_opaque_exponent e ≡ x → is_opaque_exponent (if x then num_one else e) ≡ false
-    by true h = one_transparent
-    by false h = h
+transparent_exponent (power b e) = grind (arith, one_transparent)
 transparent_exponent t = one_transparent
-
-whole_radicand : (e : Tree) → is_whole_num e ≡ true → (term_of e).radicand ≡ 1
-whole_radicand (num q) h = refl
-whole_radicand t h = cc
 
 -- a term that makes no opaque power is a rational
 rational_term : (e : Tree) → IsTerm e → is_opaque_exponent e ≡ false → (term_of e).radicand ≡ 1
-rational_term e h o = whole_radicand e (by (is_whole_num e) (ap (λ (x : Bool). x && not (is_whole_num e)) (sym (number_test e (number_of_term e h))) ∙ o))
-  where
-    by : (x : Bool) → not x ≡ false → x ≡ true
-    by true k = refl
-    by false k = cc
+rational_term e h k = grind (arith, number_test, number_of_term)
 
 two_rationals : (e f : Tree) → is_opaque_exponent e ≡ false → is_opaque_exponent f ≡ false → IsNumber (add (more e (more f none))) → ⊥
 two_rationals e f o p h = absurd (omega (arith, h.2.0.0, rational_term e h.1.0 o, rational_term f h.1.1.0 p))
@@ -66,13 +54,8 @@ own_power (power b e) = by (is_opaque_exponent e)
     by false = refl
 own_power t = to_number t num_one one_number
 
-pub base_of_nest : (t : Tree) → nest (base_of t) ≤ nest t
-base_of_nest t = omega (arith, base_nest (base_of t) (exponent_of t), own_power t)
-
 pub joint_nest : (t u : Tree) → base_of t ≡ base_of u → nest_of_joint (joint t u) ≤ max (nest t) (nest u)
-joint_nest t u h =
-    let other : nest (power (base_of t) (exponent_of u)) ≡ nest u = ap (λ (b : Tree). nest (power b (exponent_of u))) h ∙ own_power u in
-    omega (arith, own_power t, other, base_of_nest t)
+joint_nest t u h = grind (arith, own_power, base_nest)
 
 each_over : (b : Tree) (ts : Trees) → nest_over b ts ≤ max (nest b) (suc (nest_of ts))
 each_over b none = omega arith
@@ -98,8 +81,7 @@ over_sum b ts = elim (cases_Bool (is_number (add ts))) [
 
 -- a tree whose exponent is a sum nests no less with that sum
 pub joint_below : (t : Tree) → nest_of_joint t ≤ nest t
-joint_below (power b (add ts)) = over_sum b ts
-joint_below t = omega arith
+joint_below t = grind (arith, over_sum)
 
 -- ---- sums of Numbers that are reduced
 
@@ -114,27 +96,15 @@ number_terms_all (more t ts) n a o = let k = and_parts _ _ n in by k.0 (is_term 
     by p false h next = contrary p (subst (λ (x : Bool). NoneIs is_number (if x then other_terms ts else more t ts)) h o).0
 
 pub two_terms : (ts : Trees) → HasTwo ts → 2 ≤ length (terms_of ts)
-two_terms (more t (more u ts)) h = omega arith
-two_terms ts h = absurd h
+two_terms ts h = grind arith
 
 -- a reduced sum of Numbers is a Number
 form_number : (ts : Trees) → IsSumForm ts → are_numbers ts ≡ true → is_number (add ts) ≡ true
-form_number ts f n =
-    let all = number_terms_all ts n f.no_sum f.no_number in
-    number_test (add ts) (two_terms ts f.two, all.1, subst (λ (x : Trees). Rises (terms_of x)) all.0 f.number)
+form_number ts h k = grind (arith, number_terms_all, number_test, two_terms)
 
 sum_numbers : (ts : Trees) → is_reduced (add ts) ≡ true → are_numbers ts ≡ true → is_number (add ts) ≡ true
 sum_numbers ts r n = elim (reduced_parts (add ts) r refl).0 [ inl h ↦ number_test (add ts) h | inr f ↦ form_number ts f n ]
 
-joint_above : (b : Tree) (ts : Trees) → is_reduced (add ts) ≡ true → nest (power b (add ts)) ≤ nest_over b ts
-joint_above b ts r = by (is_number (add ts)) (are_numbers ts) refl refl
-  where
-    by : (x y : Bool) → is_number (add ts) ≡ x → are_numbers ts ≡ y → nest (power b (add ts)) ≤ nest_over b ts
-    by true y h k = omega (arith, to_number b (add ts) h, over_base b ts)
-    by false true h k = absurd (cc (sum_numbers ts r k))
-    by false false h k = omega (arith, to_other b (add ts) h, over_base b ts, over_exponents b ts k)
-
 -- and where it is reduced it nests no more
 pub reduced_joint : (t : Tree) → is_reduced t ≡ true → nest t ≤ nest_of_joint t
-reduced_joint (power b (add ts)) r = joint_above b ts (exponent_reduced b (add ts) r)
-reduced_joint t r = omega arith
+reduced_joint t h = grind (arith, to_number, over_base, sum_numbers, to_other, over_exponents, exponent_reduced)

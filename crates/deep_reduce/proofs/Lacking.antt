@@ -1,5 +1,5 @@
 -- Where a call inside of another one finds no bytes, the outer one has fewer than it needs.
-use Rattle.std.proofs.Common.{◌≡◌, ℕ, suc, ◌+◌, ◌^◌, ◌≤◌, ◌<◌, List, length, Bool, true, false, not, ◌&&◌, if◌then◌else◌, Result, Ok, Err, refl, sym, ap, ◌∙◌, subst, arith, inl, inr, IfErr, IsOk}
+use Rattle.std.proofs.Common.{◌≡◌, ℕ, suc, ◌+◌, ◌^◌, ◌≤◌, ◌<◌, List, length, Bool, true, false, not, ◌&&◌, if◌then◌else◌, Result, refl, sym, ap, ◌∙◌, subst, arith, inl, inr, IfErr, IsOk}
 use Rattle.deep_reduce.proofs.Shared.{is_number, is_whole_num, is_half_num, base_of, counted, SpansRoot, SpansTree, SpansTrees, whole_fraction, Tree, num, add, mult, power, root, Trees, none, more, append, is_mult, size, sizes, IsOver, IsCalmAtZero, IsJoinedFrom, IsRewritten, whole_power_room, HandsOn, IsSummed, AreReducedPowers, IsLifted, IsProductOfPowers, State, free_of, LacksBelow, full_as, refusal_as, base_in, exponent_in, parts_of, LacksStep, parts_span, whole_is, exponent_of, joint, nth, children_of, Forest, empty, bytes_in, kids, root_tree, put, Stands, forest, KeepsRefusals, NumberFault, used_forest, sizes-plains, HasCalmExponent, IsCalm, AreCalm, zeros, product_count, sum_count, sum_room, product_room, power_step_room, power_room, product_power_room, whole_number, scaled, sizes_append, cases_Bool}
 use Rattle.deep_reduce.proofs.Clashes.{clash}
 use Rattle.coefficients.proofs.Bytes.{bytes_put}
@@ -22,8 +22,7 @@ result_lacks r k h = refusal_as r k (λ f l. lacks_as f l h)
 
 -- a product by its children
 pub product_words : (t : Tree) → is_mult t ≡ true → t ≡ mult (children_of t)
-product_words (mult ts) h = refl
-product_words t h = cc
+product_words t h = grind arith
 
 -- a product that counts less needs less
 pub fewer_needs : (h k m : ℕ) → h ≤ k → product_room h m ≤ product_room k m
@@ -48,15 +47,12 @@ handed_on t u m e h gs ns c s =
 -- ---- sums of exponents
 
 pub exponent_spans : (gs : List ℕ) (t : Tree) → t ≡ power (base_in t) (add (children_of (exponent_in t))) → SpansTree gs t → SpansTree gs (exponent_in t)
-exponent_spans gs (power b e) p s = s.2
-exponent_spans gs t p s = cc
+exponent_spans gs t h k = grind arith
 
 -- the exponent alone was handed on
 pub exponent_lacks : (gs : List ℕ) (t x : Tree) (free old : ℕ) (f : NumberFault) → t ≡ power (base_in t) (add (children_of (exponent_in t))) → x ≡ exponent_in t → free ≡ old
     → LacksBelow (sum_room (sum_count (children_of x)) (2 ^ length gs)) (free + size x) f → LacksBelow (8 + size (base_in t) + sum_room (sum_count (children_of (exponent_in t))) (2 ^ length gs)) (old + size t) f
-exponent_lacks gs t x free old f p e same k =
-    lacks_as f (subst (λ (y : Tree). LacksBelow (sum_room (sum_count (children_of y)) (2 ^ length gs)) (free + size y) f) e k)
-    (λ l. omega (arith, l, same, ap size p, ap size (ap exponent_in p)))
+exponent_lacks gs t x free old f h k a b = grind (arith, lacks_as)
 
 -- ---- joints
 
@@ -148,8 +144,7 @@ power_refused {ns} n m t f p c room others = elim (cases_Bool (is_whole_num (exp
 
 pub power_result : {ns : List (List ℕ)} {A : Type 0} (n m : ℕ) (t : Tree) (r : Result A NumberFault) → t ≡ power (base_in t) (exponent_in t) → IsCalmAtZero ns t → (is_whole_num (exponent_in t) ≡ true → IfErr r (LacksBelow n m))
     → (is_whole_num (exponent_in t) ≡ false → is_half_num (exponent_in t) ≡ false → IsOk r) → IfErr r (LacksBelow n m)
-power_result n m t (Ok h) p c room others = tt
-power_result n m t (Err f) p c room others = power_refused n m t f p c room others
+power_result n m t r h k a b = grind (arith, power_refused)
 
 -- ---- rewritten powers
 

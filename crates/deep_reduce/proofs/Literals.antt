@@ -1,35 +1,17 @@
 -- Exponents that are written as a whole number or as half of an odd one are reduced to that number.
-use Rattle.std.proofs.Common.{◌≡◌, ℕ, zero, suc, ℤ, pos, neg_ℤ, ◌*ℤ◌, [], Bool, true, false, ◌&&◌, ◌==◌, not, if◌then◌else◌, Option, Some, None, refl, sym, ap, ◌∙◌, subst, arith}
-use Rattle.deep_reduce.proofs.Shared.{and_parts, eqb-true, ints, is_half_num, half_of, half_of_is, whole_literal, whole_value, half_literal, half_value, half_quotient, int_is_two, is_half_literal, is_some, opposite, IsPlainAnswer, PlainValue, exactly, undefined, overflow, calculated, plain_value, divided, gather, values, on_one, mul_op, result_of, operation_fits, Fraction, lowest, times, negative, inverse, inverse_of, whole_fraction, lowest_parts, times_lowest, int_is_even, int_is_zero, Tree, num, neg, div, numerator, negative_parts, whole_of, not-true}
+use Rattle.std.proofs.Common.{◌≡◌, ℕ, ℤ, pos, neg_ℤ, ◌*ℤ◌, [], Bool, true, false, ◌&&◌, ◌==◌, not, if◌then◌else◌, Option, Some, None, refl, sym, ap, ◌∙◌, subst, arith}
+use Rattle.deep_reduce.proofs.Shared.{and_parts, eqb-true, ints, is_half_num, half_of, half_of_is, whole_literal, half_literal, half_value, half_quotient, int_is_two, is_half_literal, is_some, opposite, IsPlainAnswer, PlainValue, exactly, overflow, calculated, plain_value, divided, gather, values, on_one, mul_op, result_of, operation_fits, Fraction, lowest, times, negative, inverse, inverse_of, whole_fraction, lowest_parts, times_lowest, int_is_even, Tree, num, neg, div, numerator, negative_parts, whole_of, not-true}
 
 chosen : (b : Bool) (m n : ℤ) → (if b then Some m else None) ≡ Some n → (b ≡ true) × (m ≡ n)
-chosen true m n e = (refl, value_in e)
-  where
-    value_in : Some m ≡ Some n → m ≡ n
-    value_in e = cc
-chosen false m n e = cc
+chosen b m n h = grind arith
 
 turned : (o : Option ℤ) (n : ℤ) → opposite o ≡ Some n → (m : ℤ) × (o ≡ Some m) × (neg_ℤ m ≡ n)
-turned (Some m) n e = (m, refl, value_in e)
-  where
-    value_in : Some (neg_ℤ m) ≡ Some n → neg_ℤ m ≡ n
-    value_in e = cc
-turned None n e = cc
+turned o n h = grind arith
 
 -- ---- whole numbers
 
-negative_whole : (q : Fraction) → (q.den == 1) ≡ true → negative q ≡ whole_fraction (neg_ℤ q.num)
-negative_whole q h =
-    let p = negative_parts q q.num q.den refl refl in
-    lowest_parts (negative q) ∙ (λ i. lowest (p.num i) (p.den i)) ∙ ap (lowest (neg_ℤ q.num)) (eqb-true q.den 1 h)
-
 pub whole_answer : (e f : Tree) (n : ℤ) → whole_literal e ≡ Some n → IsPlainAnswer (plain_value e) f → f ≡ num (whole_fraction n)
-whole_answer (num q) f n h a = let (w, i) = chosen (q.den == 1) q.num n h in a ∙ ap num (whole_of q w ∙ ap whole_fraction i)
-whole_answer (neg (num q)) f n h a =
-    let (m, o, i) = turned (whole_value q) n h in
-    let (w, j) = chosen (q.den == 1) q.num m o in
-    a ∙ ap num (negative_whole q w ∙ ap (λ (z : ℤ). whole_fraction (neg_ℤ z)) j ∙ ap whole_fraction i)
-whole_answer e f n h a = cc
+whole_answer e f n h k = grind (arith, chosen, whole_of, turned, negative_parts, eqb-true)
 
 -- ---- halves
 
@@ -38,10 +20,6 @@ abbrev IsHalfOf : ℤ → PlainValue → Type 0
 IsHalfOf n (exactly q) = ((q.den == 2) ≡ true) × (q.num ≡ n)
 IsHalfOf n (overflow op a b) = Unit {0}
 IsHalfOf n v = ⊥
-
-is_two : (z : ℤ) → int_is_two z ≡ true → z ≡ pos 2
-is_two (pos (suc (suc zero))) h = refl
-is_two z h = cc
 
 one_times : (z : ℤ) → z *ℤ pos 1 ≡ z
 one_times z = omega (arith, ints)
@@ -62,23 +40,14 @@ calculated_half n d e o f g = by (operation_fits mul_op n (inverse d))
     by true = half_words (result_of mul_op n (inverse d)) n.num o (odd_half n d e o f g)
     by false = tt
 
-divided_half : (n d : Fraction) → n.den ≡ 1 → int_is_even n.num ≡ false → d.num ≡ pos 2 → d.den ≡ 1 → IsHalfOf n.num (divided n d)
-divided_half n d e o f g = subst (λ (b : Bool). IsHalfOf n.num (if b then undefined else calculated mul_op n (inverse d))) (sym (ap int_is_zero f)) (calculated_half n d e o f g)
-
 quotient_half : (n d : Fraction) → ((n.den == 1) && not (int_is_even n.num) && int_is_two d.num && (d.den == 1)) ≡ true → IsHalfOf n.num (divided n d)
-quotient_half n d h =
-    let (abc, z) = and_parts _ _ h in
-    let (ab, y) = and_parts _ _ abc in
-    let (a, b) = and_parts _ _ ab in
-    divided_half n d (eqb-true n.den 1 a) (not-true _ b) (is_two d.num y) (eqb-true d.den 1 z)
+quotient_half n d h = grind (arith, and_parts, calculated_half, eqb-true, not-true)
 
 negative_half : (q : Fraction) (n : ℤ) → IsHalfOf n (exactly q) → IsHalfOf (neg_ℤ n) (exactly (negative q))
 negative_half q n h = let p = negative_parts q q.num q.den refl refl in (ap (λ (m : ℕ). m == 2) p.den ∙ h.0, p.num ∙ ap neg_ℤ h.1)
 
 negated_half : (n : ℤ) (v : PlainValue) → IsHalfOf n v → IsHalfOf (neg_ℤ n) (on_one (λ q. exactly (negative q)) (gather v (values [])))
-negated_half n (exactly q) h = negative_half q n h
-negated_half n (overflow op a b) h = tt
-negated_half n v h = absurd h
+negated_half n v h = grind (arith, negative_half)
 
 half_value_is : (e : Tree) (n : ℤ) → half_literal e ≡ Some n → IsHalfOf n (plain_value e)
 half_value_is (num q) n h = let (w, i) = chosen (q.den == 2) q.num n h in (w, i)
@@ -96,16 +65,13 @@ half_value_is (neg (div (num p) (num d))) n h =
 half_value_is e n h = cc
 
 answer_half : (n : ℤ) (v : PlainValue) (r : Tree) → IsHalfOf n v → IsPlainAnswer v r → (is_half_num r ≡ true) × (numerator r ≡ n)
-answer_half n (exactly q) r h a = (ap is_half_num a ∙ h.0, ap numerator a ∙ h.1)
-answer_half n (overflow op x y) r h a = absurd a
-answer_half n v r h a = absurd h
+answer_half n v r h k = grind arith
 
 pub half_literal_answer : (e f : Tree) (n : ℤ) → half_literal e ≡ Some n → IsPlainAnswer (plain_value e) f → (is_half_num f ≡ true) × (numerator f ≡ n)
 half_literal_answer e f n h a = answer_half n (plain_value e) f (half_value_is e n h) a
 
 literal_is : (o : Option ℤ) → is_some o ≡ true → (n : ℤ) × (o ≡ Some n)
-literal_is (Some n) h = (n, refl)
-literal_is None h = cc
+literal_is o h = grind arith
 
 pub half_answer : (e f : Tree) → is_half_literal e ≡ true → IsPlainAnswer (plain_value e) f → is_half_num f ≡ true
 half_answer e f h a = let (n, i) = literal_is (half_literal e) h in (half_literal_answer e f n i a).0

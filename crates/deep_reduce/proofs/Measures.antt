@@ -1,23 +1,19 @@
 -- What falls from call to call.
-use Rattle.std.proofs.Common.{◌≡◌, ℕ, ◌+◌, ◌-◌, ◌*◌, ◌≤◌, ◌<◌, Bool, true, false, refl, ap, arith, suc, if◌then◌else◌}
-use Rattle.deep_reduce.proofs.Shared.{nest, nest_of, weight, load_of_factors, Tree, mult, Trees, nodes, is_mult, nest_over, nest_of_joint, nest_of_rewritten, weight_of_bases, weight_below, State, base_in, are_numbers, tree_of, IsHanded, children_of, nth, nodes_in, root_tree, Stands, forest, tree_of_root, nodes-plain, root_arity, weight_of_factors, load_of_factor, has_coefficient, is_number, is_opaque_exponent, base_of, power, root, none, more, nodes_of}
+use Rattle.std.proofs.Common.{◌≡◌, ℕ, ◌+◌, ◌-◌, ◌*◌, ◌≤◌, ◌<◌, Bool, true, arith, suc, if◌then◌else◌}
+use Rattle.deep_reduce.proofs.Shared.{nest, nest_of, weight, load_of_factors, Tree, mult, Trees, nodes, is_mult, nest_over, nest_of_joint, nest_of_rewritten, weight_of_bases, weight_below, State, base_in, tree_of, IsHanded, children_of, nth, Stands, forest, tree_of_root, nodes-plain, root_arity, weight_of_factors, load_of_factor, has_coefficient, is_number, is_opaque_exponent, base_of, power, root, none, more, nodes_of}
 use Rattle.deep_reduce.proofs.Heavy.{over_exponents, numbers_nest, numbers_load}
 use Rattle.tree_handles.proofs.Measures.{few_in}
 
 -- ---- weights and loads by nodes
 
 product_cases : (x y : Bool) (w n : ℕ) → w ≤ 3 * n → (if x then 2 else 1 + (if y then 2 else 0) + w) ≤ 3 * suc n
-product_cases true y w n h = omega arith
-product_cases false true w n h = omega arith
-product_cases false false w n h = omega arith
+product_cases x y w n h = grind arith
 
 root_cases : (x : Bool) (w n : ℕ) → w ≤ 3 * n → (if x then 2 else suc w) ≤ 3 * suc n
-root_cases true w n h = omega arith
-root_cases false w n h = omega arith
+root_cases x w n h = grind arith
 
 factor_cases : (x : Bool) (w v n m : ℕ) → w ≤ 3 * n → v ≤ 3 * m → (if x then 0 else w) + v ≤ 3 * (n + m)
-factor_cases true w v n m h k = omega arith
-factor_cases false w v n m h k = omega arith
+factor_cases x w v n m h k = grind arith
 
 mutual
   pub weight_few : (t : Tree) → weight t ≤ 3 * nodes t
@@ -31,12 +27,10 @@ mutual
   weights_few (more t ts) = factor_cases (is_number t) (weight t) (weight_of_factors ts) (nodes t) (nodes_of ts) (weight_few t) (weights_few ts)
 
 one_cases : (x : Bool) (w n : ℕ) → w ≤ 3 * n → (if x then 0 else w) ≤ 3 * n
-one_cases true w n h = omega arith
-one_cases false w n h = h
+one_cases x w n h = grind arith
 
 power_cases : (x : Bool) (b e : Tree) → weight (if x then power b e else b) ≤ suc (weight b)
-power_cases true b e = omega arith
-power_cases false b e = omega arith
+power_cases x b e = grind arith
 
 mutual
   pub load_few : (t : Tree) → load_of_factor t ≤ 3 * nodes t
@@ -61,9 +55,6 @@ below_measure e h = omega (arith, e, h)
 
 pub rank_second : (m n v w : ℕ) → m ≤ n → v < w → rank m v < rank n w
 rank_second m n v w h k = omega arith
-
-pub rank_first : (m n v w : ℕ) → m < n → v < 1048576 → rank m v < rank n w
-rank_first m n v w h k = omega arith
 
 -- ---- measures
 
@@ -94,9 +85,7 @@ of_rewritten t = rank (nest_of_rewritten t) (3 * weight_below t + 2)
 
 -- a tree in a pool has few nodes
 pub few_nodes : (i : ℕ) (s : State) → Stands s → IsHanded i (forest s) → nodes (tree_of i s) ≤ 65535
-few_nodes i s st h =
-    let here = nodes-plain (root_tree i (forest s)) (root_arity i (forest s) h.root) h.whole in
-    omega (arith, here, few_in i s st, ap nodes_in (tree_of_root i st h.root))
+few_nodes i s h k = grind (arith, nodes-plain, root_arity, few_in, tree_of_root)
 
 few_loads : (t : Tree) → is_mult t ≡ true → nodes t ≤ 65535 → 3 * load_of_factors (children_of t) < 1048576
 few_loads (mult ts) m h = omega (arith, loads_few ts)
@@ -107,8 +96,4 @@ few_factors i s st h m = few_loads (tree_of i s) m (few_nodes i s st h)
 
 -- the product of the exponents falls
 pub exponents_fall : (b : Tree) (ts : Trees) (w : ℕ) → 3 * load_of_factors ts < 1048576 → rank (nest_of ts) (3 * load_of_factors ts) < rank (nest_over b ts) (3 * w + 1)
-exponents_fall b ts w h = by (are_numbers ts) refl
-  where
-    by : (x : Bool) → are_numbers ts ≡ x → rank (nest_of ts) (3 * load_of_factors ts) < rank (nest_over b ts) (3 * w + 1)
-    by true e = rank_second (nest_of ts) (nest_over b ts) (3 * load_of_factors ts) (3 * w + 1) (omega (arith, numbers_nest ts e)) (omega (arith, numbers_load ts e))
-    by false e = rank_first (nest_of ts) (nest_over b ts) (3 * load_of_factors ts) (3 * w + 1) (over_exponents b ts e) h
+exponents_fall b ts w h = grind (arith, rank_second, numbers_nest, numbers_load, over_exponents)

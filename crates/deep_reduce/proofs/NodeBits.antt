@@ -1,6 +1,6 @@
 -- What holds a node over reduced children holds its answer.
-use Rattle.std.proofs.Common.{◌≡◌, ◌≢◌, ℕ, zero, suc, ◌+◌, ◌*◌, ◌^◌, ◌≤◌, [], ◌∷◌, ℤ, pos, negsuc, Bool, true, false, ◌||◌, if◌then◌else◌, Option, Some, None, Result, Ok, Err, refl, sym, ap, ◌∙◌, subst, arith, inl, inr, IfOk, IfErr, IsOk}
-use Rattle.deep_reduce.proofs.Shared.{pow_pos, pow-add, pow-le-pow_right, value, is_half_num, is_whole_num, num_one, Surd, surd_of, one_not_zero, IsHeld, HighLow, Fraction, zero_fraction, one_fraction, minus_one_fraction, whole_fraction, is_zero_fraction, int_is_zero, zero_test, whole_numerator, Tree, num, undef, power, Trees, none, more, is_num, is_undef, has_undef, IsReducedPower, lacks_power, HasFewBits, is_leaf, HoldsPower, holds_whole, holds_half, holds_kept, HoldsDifference, HoldsNode, IsNodeOverflow, numerator, has_number_power, HasFewBitsRaised, HasWideRoot, IsOverflow, IfRational, IsNoLargerThanRoot, int_is_negative, is_zero_or_one, rewritten, as_whole, IsFactorHeld, AreFactorsHeld, none_held, number_as_factor, no_factors_held, IsSumHeld, addends_of_each, trees_together, minus_one_held, nothing_held, children_of, IfOverflow, OfOverflow, NumberFault, or_parts, cases_Bool, symbol}
+use Rattle.std.proofs.Common.{◌≡◌, ◌≢◌, ℕ, zero, suc, ◌+◌, ◌*◌, ◌^◌, ◌≤◌, [], ◌∷◌, ℤ, Bool, true, false, ◌||◌, if◌then◌else◌, Option, Some, None, Result, Ok, Err, refl, sym, ap, ◌∙◌, subst, arith, inl, inr, IfOk, IfErr, IsOk}
+use Rattle.deep_reduce.proofs.Shared.{pow_pos, pow-add, pow-le-pow_right, value, is_half_num, is_whole_num, num_one, Surd, surd_of, one_not_zero, IsHeld, HighLow, zero_fraction, one_fraction, minus_one_fraction, whole_fraction, zero_test, whole_numerator, Tree, num, undef, power, Trees, none, more, is_num, is_undef, has_undef, IsReducedPower, lacks_power, HasFewBits, is_leaf, HoldsPower, holds_whole, holds_half, holds_kept, HoldsDifference, HoldsNode, IsNodeOverflow, numerator, has_number_power, HasFewBitsRaised, HasWideRoot, IsOverflow, IfRational, IsNoLargerThanRoot, int_is_negative, is_zero_or_one, rewritten, as_whole, IsFactorHeld, AreFactorsHeld, none_held, number_as_factor, no_factors_held, IsSumHeld, addends_of_each, trees_together, minus_one_held, nothing_held, children_of, IfOverflow, OfOverflow, NumberFault, or_parts, cases_Bool, symbol}
 use Rattle.deep_reduce.proofs.Clashes.{clash, rational_number}
 use Rattle.deep_reduce.proofs.HeldFactors.{factor_wider, factor_tree}
 use Rattle.deep_reduce.proofs.HeldParts.{fine}
@@ -8,25 +8,19 @@ use Rattle.deep_reduce.proofs.HeldRoots.{root_fits}
 use Rattle.deep_reduce.proofs.Opened.{whole_rewriting}
 use Rattle.product_reduce.specs.Bits.{factor_held}
 use Rattle.calc_bits.specs.Bounds as few
-use Rattle.tree_handles.specs.declared.fault.NumberFault.TheVariants as fault
 
 -- ---- rationals
 
 pub zero_held : (h l : ℕ) → IsFactorHeld (num zero_fraction) h l
 unfolding zero_fraction
-zero_held h l =
-    let z : is_zero_fraction zero_fraction ≡ true = ap int_is_zero (whole_numerator (pos 0)) in
-    number_as_factor (num zero_fraction) h l (rational_number zero_fraction) (subst (λ (v : Surd). IsHeld v h l) (sym (ap (λ (b : Bool). if b then [] else surd_of zero_fraction) z)) (nothing_held h l))
+zero_held h l = grind (arith, whole_numerator, number_as_factor, rational_number, nothing_held)
 
 pub one_held : (h l : ℕ) → IsFactorHeld (num one_fraction) h l
 one_held h l = number_as_factor (num one_fraction) h l (rational_number one_fraction) (no_factors_held (value num_one) h l (ap (λ (b : Bool). if b then [] else surd_of one_fraction) (zero_test one_fraction one_not_zero)))
 
 minus_one_not_zero : minus_one_fraction ≢ zero_fraction
 unfolding zero_fraction
-minus_one_not_zero e = by (sym (whole_numerator (negsuc 0)) ∙ ap (λ (q : Fraction). q.num) e ∙ whole_numerator (pos 0))
-  where
-    by : negsuc 0 ≡ pos 0 → ⊥
-    by k = cc
+minus_one_not_zero = grind (arith, whole_numerator)
 
 minus_one : IsFactorHeld (num minus_one_fraction) 0 0
 minus_one = number_as_factor (num minus_one_fraction) 0 0 (rational_number minus_one_fraction) (subst (λ (v : Surd). IsHeld v 0 0) (sym (ap (λ (b : Bool). if b then [] else surd_of minus_one_fraction) (zero_test minus_one_fraction minus_one_not_zero))) minus_one_held)
@@ -54,11 +48,7 @@ two_terms a b {p} {q} {k} {n} {h} {l} d x y i j =
 
 -- an answer that is not Undef has no Undef sides
 pub answer_defined : (ts : Trees) (r : Tree) → (has_undef ts ≡ true → r ≡ undef) → is_undef r ≡ false → has_undef ts ≡ false
-answer_defined ts r u d = by (has_undef ts) refl
-  where
-    by : (b : Bool) → has_undef ts ≡ b → b ≡ false
-    by false e = refl
-    by true e = clash (sym (ap is_undef (u e)) ∙ d)
+answer_defined ts r h k = grind (arith, clash)
 
 pub only_undef : (a : Tree) → is_undef a ≡ false → has_undef (more a none) ≡ false
 only_undef a d = ap (λ (b : Bool). b || false) d
@@ -101,14 +91,10 @@ leaf_no_children u h k = cc
 
 -- an overflow is of a node without Undef children
 pub node_fits : (t : Tree) (r : Result ℕ NumberFault) → IfOverflow r (IsNodeOverflow t) → (has_undef (children_of t) ≡ false → IfOverflow r (λ o. ⊥)) → IfOverflow r (λ o. ⊥)
-node_fits t (Ok h) k f = tt
-node_fits t (Err (fault.Full full)) k f = tt
-node_fits t (Err (fault.Overflow o)) k f = f k.defined
+node_fits t r h k = grind arith
 
 pub as_overflow : (r : Result ℕ NumberFault) → IfErr r (OfOverflow (λ o. ⊥)) → IfOverflow r (λ o. ⊥)
-as_overflow (Ok h) k = tt
-as_overflow (Err (fault.Full full)) k = tt
-as_overflow (Err (fault.Overflow o)) k = k
+as_overflow r h = grind arith
 
 -- ---- what is said of a sum beside
 
@@ -128,17 +114,7 @@ pub power_node_fits : (b e : Tree) (r : Result ℕ NumberFault) (h l : ℕ) → 
     → ((n : ℤ) (p q : ℕ) → e ≡ num (whole_fraction n) → IsFactorHeld b p q → HasFewBitsRaised n p q → IfErr r (OfOverflow (λ o. ⊥)))
     → ((p q : ℕ) → is_half_num e ≡ true → (p ≡ 0 → q ≡ 0) → IsFactorHeld b p q → HasFewBits p q → HasFewBitsRaised (numerator e) p q → IfErr r (OfOverflow (λ o. ⊥)))
     → (is_whole_num e ≡ false → is_half_num e ≡ false → IsOk r) → IfErr r (OfOverflow (λ o. ⊥))
-power_node_fits b e r h l (holds_whole n p q i k x y) few bits root_bits others = bits n p q i k (omega (arith, x, y, few))
-power_node_fits b e r h l (holds_half p q i z k u v x y) few bits root_bits others = root_bits p q i z k (omega (arith, u, v, few)) (omega (arith, x, y, few))
-power_node_fits b e r h l (holds_kept n k) few bits root_bits others = fine r (others (no_whole e n) (no_half e n))
-  where
-    no_whole : (e : Tree) → is_num e ≡ false → is_whole_num e ≡ false
-    no_whole (num q) n = cc
-    no_whole e n = refl
-
-    no_half : (e : Tree) → is_num e ≡ false → is_half_num e ≡ false
-    no_half (num q) n = cc
-    no_half e n = refl
+power_node_fits b e r h l k a c d f = grind (arith, fine)
 
 -- the root fits
 pub root_node_fits : (a : Tree) (r : Result ℕ NumberFault) {h l : ℕ} → (few.HasFewBits (value a) → IfErr r (OfOverflow (λ o. ⊥))) → (IsOverflow r → HasWideRoot a) → IsFactorHeld a h l → HasFewBits h l → IfErr r (OfOverflow (λ o. ⊥))
@@ -146,8 +122,7 @@ root_node_fits a (Ok x) fits wide k l = tt
 root_node_fits a (Err f) fits wide k l = root_fits a f fits wide k l
 
 pub measured_facts : (a : Tree) (s : ℕ → Tree) (r : Result ℕ NumberFault) → IfRational a (λ q. int_is_negative q.num ≡ false → IfOk r (λ h. IsNoLargerThanRoot q (value (s h)))) → IfOk r (λ h. IfRational a (λ q. int_is_negative q.num ≡ false → IsNoLargerThanRoot q (value (s h))))
-measured_facts a s (Ok h) k = k
-measured_facts a s (Err f) k = tt
+measured_facts a s r h = grind arith
 
 -- ---- sides
 

@@ -1,35 +1,30 @@
 -- How many bytes suffice for the node of a tree over reduced children.
-use Rattle.std.proofs.Common.{◌≡◌, ℕ, negsuc, ◌+◌, ◌*◌, ◌^◌, ◌≤◌, ◌<◌, List, length, true, Result, Ok, Err, refl, sym, ap, arith, IfErr}
-use Rattle.deep_reduce.proofs.Shared.{pow_pos, IsAssignment, is_reduced, are_reduced, is_half_num, reduced_words, counted, SpansTree, SpansTrees, num_bytes, tree_bytes, minus_one_fraction, Tree, num, add, mult, power, root, neg, sub, div, Trees, none, more, count, is_add, is_mult, is_root, is_num, is_sub, is_div, root_kind, size, sizes, Kind, HasNodesFor, KeepsNodeRoom, SpansNode, factors_room, is_neg, GivesSides, IsCalmAtZero, whole_power_room, power_count, State, free_of, base_in, exponent_in, whole_is, IsFull, argument_of, LacksBelow, handed_bytes, nth, plain, children_of, Forest, bytes_in, tree_of, IsHanded, Gives, root_tree, without_root, Stands, forest, KeepsRefusals, NumberFault, bytes_in-join, given_told, last_tree, used_forest, size-plain, IsCalm, zeros, product_count, sum_count, sum_room, product_room, power_room, product_power_room, simple_room, whole_number, counts_one, product_at_most, sum_bytes, product_bytes, scaled, numbers_and_others}
+use Rattle.std.proofs.Common.{◌≡◌, ℕ, negsuc, ◌+◌, ◌*◌, ◌^◌, ◌≤◌, ◌<◌, List, length, true, Result, sym, ap, arith, IfErr}
+use Rattle.deep_reduce.proofs.Shared.{pow_pos, IsAssignment, is_reduced, are_reduced, is_half_num, reduced_words, counted, SpansTree, SpansTrees, num_bytes, tree_bytes, minus_one_fraction, Tree, num, add, mult, power, neg, Trees, none, more, count, is_add, is_mult, is_root, is_num, is_sub, is_div, root_kind, size, sizes, Kind, HasNodesFor, KeepsNodeRoom, SpansNode, factors_room, is_neg, GivesSides, IsCalmAtZero, whole_power_room, power_count, State, free_of, base_in, exponent_in, whole_is, IsFull, argument_of, LacksBelow, handed_bytes, nth, plain, children_of, Forest, bytes_in, tree_of, IsHanded, Gives, root_tree, without_root, Stands, forest, KeepsRefusals, NumberFault, bytes_in-join, given_told, last_tree, used_forest, size-plain, IsCalm, zeros, product_count, sum_count, sum_room, product_room, power_room, product_power_room, simple_room, whole_number, counts_one, product_at_most, sum_bytes, product_bytes, scaled, numbers_and_others}
 use Rattle.deep_reduce.proofs.Clashes.{rational_number}
 use Rattle.deep_reduce.proofs.Calm.{calm_power}
 use Rattle.deep_reduce.proofs.JointCounts.{numbers_one}
 use Rattle.deep_reduce.proofs.NodeRooms.{inverse_count}
 use Rattle.deep_reduce.proofs.PowerBytes.{needs_most}
 use Rattle.calc_terms.specs.declared.kind.Kind.TheVariants as kind
-use Rattle.tree_handles.specs.declared.fault.NumberFault.TheVariants as fault
 
 -- ---- sums and products
 
 pub sum_fits : (t : Tree) (n m : ℕ) → is_add t ≡ true → HasNodesFor n t → sum_room (sum_count (children_of t)) m ≤ simple_room n m
-sum_fits (add ts) n m e h = omega (arith, scaled (sum_count ts) n m h, scaled 1 (sum_count ts) m (omega arith))
-sum_fits t n m e h = cc
+sum_fits t n m h k = grind (arith, scaled)
 
 product_fits : (ts : Trees) (n m : ℕ) → 1 ≤ m → (product_count ts ≤ n + 1) × (1 ≤ n) × (1 ≤ count ts → 2 ≤ n) → factors_room ts m ≤ simple_room n m
 product_fits none n m hm (h, k, l) = omega (arith, hm, scaled 1 n m k)
 product_fits (more t ts) n m hm (h, k, l) = omega (arith, scaled (product_count (more t ts)) (n + 1) m h, scaled 2 n m (l (omega arith)))
 
 pub factors_fit : (t : Tree) (n m : ℕ) → 1 ≤ m → is_mult t ≡ true → HasNodesFor n t → factors_room (children_of t) m ≤ simple_room n m
-factors_fit (mult ts) n m hm e h = product_fits ts n m hm h
-factors_fit t n m hm e h = cc
+factors_fit t n m h k a = grind (arith, product_fits)
 
 pub some_factors : (ts : Trees) (m : ℕ) → 1 ≤ count ts → factors_room ts m ≡ product_room (product_count ts) m
-some_factors none m h = absurd (omega arith)
-some_factors (more t ts) m h = refl
+some_factors ts m h = grind arith
 
 pub no_factors : (ts : Trees) (m : ℕ) → count ts ≡ 0 → factors_room ts m ≡ 40
-no_factors none m h = refl
-no_factors (more t ts) m h = absurd (omega arith)
+no_factors ts m h = grind arith
 
 pub number_fits_sum : (ts : Trees) (m : ℕ) → 1 ≤ m → 40 ≤ sum_room (sum_count ts) m
 number_fits_sum ts m h = omega (arith, h)
@@ -37,24 +32,13 @@ number_fits_sum ts m h = omega (arith, h)
 -- ---- powers and roots
 
 pub power_fits : (t : Tree) (n m : ℕ) → t ≡ power (base_in t) (exponent_in t) → HasNodesFor n t → whole_power_room (base_in t) m ≤ simple_room n m
-power_fits (power b e) n m p h = omega (arith, needs_most b m, scaled (2 + counted b) n m h, counts_one b)
-power_fits t n m p h = cc
+power_fits t n m h k = grind (arith, needs_most, scaled, counts_one)
 
 pub half_fits : (t : Tree) (n m : ℕ) → t ≡ power (base_in t) (exponent_in t) → HasNodesFor n t → power_room (1 + counted (base_in t)) m ≤ simple_room n m
-half_fits (power b e) n m p h = omega (arith, scaled (2 + counted b) n m h, scaled 1 (counted b) m (counts_one b))
-half_fits t n m p h = cc
-
-root_fits : (t : Tree) (free n m : ℕ) → 1 ≤ m → is_root t ≡ true → is_num (argument_of t) ≡ true → HasNodesFor n t → free < 96 → free + size t < simple_room n m
-root_fits (root (num q)) free n m hm e a h l = omega (arith, num_bytes q, scaled 2 n m h)
-root_fits t free n m hm e a h l = cc
-
-pub root_lacks : (gs : List ℕ) (t : Tree) (free n : ℕ) (f : NumberFault) → is_root t ≡ true → HasNodesFor n t → (IsFull {A = ℕ} (Err f) → is_num (argument_of t) ≡ true) → (IsFull {A = ℕ} (Err f) → free < 96) → LacksBelow (simple_room n (2 ^ length gs)) (free + size t) f
-root_lacks gs t free n (fault.Full full) e h a l = root_fits t free n (2 ^ length gs) (pow_pos (length gs)) e (a tt) h (l tt)
-root_lacks gs t free n (fault.Overflow o) e h a l = tt
+half_fits t n m h k = grind (arith, scaled, counts_one)
 
 pub root_result : (gs : List ℕ) (t : Tree) (free n : ℕ) (r : Result ℕ NumberFault) → is_root t ≡ true → HasNodesFor n t → (IsFull r → is_num (argument_of t) ≡ true) → (IsFull r → free < 96) → IfErr r (LacksBelow (simple_room n (2 ^ length gs)) (free + size t))
-root_result gs t free n (Ok x) e h a l = tt
-root_result gs t free n (Err f) e h a l = root_lacks gs t free n f e h a l
+root_result gs t free n r h k a b = grind (arith, num_bytes, scaled, pow_pos)
 
 -- only a power has half of an odd number as its exponent
 pub no_half_power : {A : Type 0} {k : Kind} (t : Tree) → k ≡ root_kind t → (kind.Pow ≡ k → ⊥) → is_half_num (exponent_in t) ≡ true → A
@@ -63,8 +47,7 @@ no_half_power t k n h = cc
 
 -- what spans a node that is no root
 pub node_spans : {k : Kind} (gs : List ℕ) (t : Tree) → k ≡ root_kind t → (kind.Root ≡ k → ⊥) → SpansNode gs t → SpansTree gs t
-node_spans gs (root a) k n s = absurd (n (sym k))
-node_spans gs t k n s = s
+node_spans gs t h k a = grind arith
 
 -- ---- opposites
 
@@ -88,17 +71,14 @@ pub opposite_spans : (gs : List ℕ) (a : Tree) → SpansTree gs a → SpansTree
 opposite_spans gs a s = (tt, (tt, (s, tt)))
 
 pub negated_calm : {ns : List (List ℕ)} (t : Tree) → is_neg t ≡ true → IsCalmAtZero ns t → IsCalmAtZero ns (nth 0 (children_of t))
-negated_calm (neg a) e c = record { once = c.once; calm = c.calm.1 }
-negated_calm t e c = cc
+negated_calm t h k = grind arith
 
 pub negated_spans : (gs : List ℕ) (t : Tree) → is_neg t ≡ true → SpansTree gs t → SpansTree gs (nth 0 (children_of t))
-negated_spans gs (neg a) e s = s.1
-negated_spans gs t e s = cc
+negated_spans gs t h k = grind arith
 
 -- the node of the opposite
 pub negated_fits : (t : Tree) (n m : ℕ) → is_neg t ≡ true → HasNodesFor n t → product_room (2 + counted (nth 0 (children_of t))) m ≤ simple_room n m
-negated_fits (neg a) n m e h = omega (arith, scaled (1 + counted a) n m h, scaled 1 (counted a) m (counts_one a))
-negated_fits t n m e h = cc
+negated_fits t n m h k = grind (arith, scaled, counts_one)
 
 -- ---- inverses
 
@@ -123,12 +103,10 @@ pub record AreSides (gs : List ℕ) (ns : List (List ℕ)) (n : ℕ) (a b : Tree
   pub nodes : 1 + counted a + counted b ≤ n
 
 pub difference_sides : (gs : List ℕ) (ns : List (List ℕ)) (n : ℕ) (t : Tree) → is_sub t ≡ true → HasNodesFor n t → IsCalmAtZero ns t → SpansTree gs t → AreSides gs ns n (nth 0 (children_of t)) (nth 1 (children_of t))
-difference_sides gs ns n (sub a b) e h c s = record { once = c.once; left_calm = c.calm.1; right_calm = c.calm.2; left_spanned = s.1; right_spanned = s.2; nodes = h }
-difference_sides gs ns n t e h c s = cc
+difference_sides gs ns n t h k a b = grind arith
 
 pub quotient_sides : (gs : List ℕ) (ns : List (List ℕ)) (n : ℕ) (t : Tree) → is_div t ≡ true → HasNodesFor n t → IsCalmAtZero ns t → SpansTree gs t → AreSides gs ns n (nth 0 (children_of t)) (nth 1 (children_of t))
-quotient_sides gs ns n (div a b) e h c s = record { once = c.once; left_calm = c.calm.1; right_calm = c.calm.2; left_spanned = s.1; right_spanned = s.2; nodes = h }
-quotient_sides gs ns n t e h c s = cc
+quotient_sides gs ns n t h k a b = grind arith
 
 -- the left side with what is made of the right
 pub record AreJoined (gs : List ℕ) (ns : List (List ℕ)) (most : ℕ) (c t : Tree) : Type 0 where
@@ -205,9 +183,7 @@ module _ (gs : List ℕ) (a b : Tree) (n : ℕ) (l : 1 + counted a + counted b �
 
   -- then both sides, the right of which counts no more, or 1 more
   pub difference_fits : (c : Tree) → counted c ≤ counted b → sum_room (sum_count (more a (more c none))) (2 ^ length gs) ≤ simple_room n (2 ^ length gs)
-  difference_fits c h =
-      let few : sum_count (more a (more c none)) ≤ n = omega (arith, h, l) in
-      omega (arith, scaled (sum_count (more a (more c none))) n (2 ^ length gs) few, scaled 1 (sum_count (more a (more c none))) (2 ^ length gs) (omega arith))
+  difference_fits c h = grind (arith, scaled)
 
   pub quotient_fits : (c : Tree) → counted c ≤ 1 + counted b → product_room (product_count (more a (more c none))) (2 ^ length gs) ≤ simple_room n (2 ^ length gs)
   quotient_fits c h =

@@ -9,11 +9,7 @@ use Rattle.deep_reduce.proofs.Rewritten.{whole_count_is}
 -- ---- leaves
 
 some_count : (t : Tree) → 1 ≤ node_count t
-some_count (power b e) = omega (arith, counts_one (power b e), power_counts_most b e)
-some_count (neg a) = counts_one a
-some_count (sub a b) = omega arith
-some_count (div a b) = omega arith
-some_count t = counts_one t
+some_count t = grind (arith, counts_one, power_counts_most)
 
 pub number_room : (t : Tree) (q : Fraction) → KeepsNodeRoom (node_count t) t (num q)
 number_room t q = record { counts = λ ns c. some_count t; calm = λ ns c. record { once = c.once; calm = tt }; spanned = λ gs ns c s. tt }
@@ -35,11 +31,7 @@ sum_room ts r k = record {
 }
 
 pub root_node_room : (a r : Tree) → IsRootAnswer a r → ((gs : List ℕ) → SpansTree gs (root a) → SpansTree gs r) → KeepsNodeRoom (counted (root a)) (root a) r
-root_node_room a r h s = record {
-  counts = λ ns c. root_answer_counts a r h;
-  calm = λ ns c. root_answer_calm ns a r h (record { once = c.once; calm = c.calm.1 });
-  spanned = λ gs ns c k. (root_room a r h s).spanned gs k;
-}
+root_node_room a r h k = grind (arith, root_answer_counts, root_answer_calm, root_room)
 
 pub product_node_room : (ts : Trees) (r : Tree) → KeepsRoom (counted (mult ts)) (mult ts) r → KeepsNodeRoom (counted (mult ts)) (mult ts) r
 product_node_room ts r k = record { counts = k.counts; calm = k.calm; spanned = k.spanned }

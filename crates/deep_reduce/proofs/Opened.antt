@@ -1,21 +1,13 @@
 -- What a rewriting of a power leaves to be reduced: it nests no more, and weighs less.
-use Rattle.std.proofs.Common.{◌≡◌, ℕ, ℤ, suc, ◌≤◌, ◌<◌, ◌⊎◌, inl, inr, Bool, true, false, ◌&&◌, ◌||◌, ◌==◌, not, if◌then◌else◌, pos, Some, None, refl, sym, ap, ◌∙◌, subst, arith}
-use Rattle.deep_reduce.proofs.Shared.{and_parts, whole_fraction, zero_fraction, one_fraction, is_one_fraction, nest, nest_of, weight, has_coefficient, is_number, Split, is_reduced, is_half_num, is_opaque_exponent, is_num_one, num_one, HasForm, Tree, num, undef, mult, power, root, Trees, none, more, append, count, is_num, is_undef, AllPartsOf, HasTwo, whole_denominator, number_test, factors_of, product_form_of, no_split, reduced_parts, parts_reduced, one_is_one, Leads, in_front, has_no_half_power, lacks_power, is_number_power, IsReducedPower, nest_of_rewritten, weight_of_bases, weight_below, AreTransparent, IsUnfinished, Finishes, IsHeldAsPowerOf, has_no_power, has_number_power, IsWrittenPower, IsPowerAnswer, goes_inside, half, parts_of, raised, rewritten, rewritten_whole, is_rewritable, transparent_whole, as_whole, no_half, zero_kept, one_kept, chosen, weights, weights_none, weights_more, power_nest, product_parts, Rewrites, reduces_after, not-true, and_right, two_count, cases_Bool, is_whole_num, IsRewritten}
+use Rattle.std.proofs.Common.{◌≡◌, ℤ, suc, ◌≤◌, ◌<◌, ◌⊎◌, inl, inr, Bool, true, false, ◌&&◌, ◌||◌, Some, None, refl, sym, ap, ◌∙◌, subst, arith}
+use Rattle.deep_reduce.proofs.Shared.{and_parts, whole_fraction, zero_fraction, one_fraction, nest, nest_of, weight, has_coefficient, is_number, is_reduced, is_half_num, is_opaque_exponent, HasForm, Tree, num, mult, power, root, Trees, none, more, count, is_num, is_undef, AllPartsOf, HasTwo, whole_denominator, number_test, product_form_of, no_split, reduced_parts, parts_reduced, one_is_one, Leads, in_front, has_no_half_power, lacks_power, is_number_power, IsReducedPower, nest_of_rewritten, weight_of_bases, weight_below, AreTransparent, IsUnfinished, Finishes, IsHeldAsPowerOf, has_no_power, has_number_power, IsWrittenPower, IsPowerAnswer, goes_inside, half, parts_of, raised, rewritten, rewritten_whole, is_rewritable, transparent_whole, as_whole, no_half, zero_kept, one_kept, chosen, weights, weights_none, weights_more, power_nest, product_parts, Rewrites, reduces_after, not-true, and_right, two_count, cases_Bool, is_whole_num, IsRewritten}
 use Rattle.deep_reduce.proofs.Clashes.{contrary, undef_words}
 use Rattle.deep_reduce.proofs.Heavy.{base_reduced, exponent_reduced, to_number, base_nest}
 use Rattle.deep_reduce.proofs.PowerRooms.{finished_room, undef_root_room}
 use Rattle.power_reduce.proofs.Rules.{nothing}
 
--- only whole powers, and those by half of an odd number, are rewritten
-whole_root : (a e t : Tree) → rewritten_whole (root a) e ≡ Some t → is_whole_num e ≡ true
-whole_root a (num q) t h = chosen _ _ t (λ u. is_whole_num (num q) ≡ true) h (λ k. (and_parts _ _ (and_parts _ _ (and_parts _ _ k).0).0).0)
-whole_root a e t h = nothing t (λ u. is_whole_num e ≡ true) h
-
 pub whole_rewriting : (b e t : Tree) → rewritten_whole b e ≡ Some t → is_whole_num e ≡ true
-whole_rewriting (root a) e t h = whole_root a e t h
-whole_rewriting (power c f) e t h = chosen _ _ t (λ u. is_whole_num e ≡ true) h (λ k. (and_parts _ _ (and_parts _ _ k).0).0)
-whole_rewriting (mult ts) e t h = chosen _ _ t (λ u. is_whole_num e ≡ true) h (λ k. (and_parts _ _ (and_parts _ _ k).0).0)
-whole_rewriting b e t h = nothing t (λ u. is_whole_num e ≡ true) h
+whole_rewriting b e t h = grind (arith, chosen, and_parts, nothing)
 
 pub is_rewritten : (b e t : Tree) → is_half_num e ≡ false → is_reduced b ≡ true → is_reduced e ≡ true → rewritten b e ≡ Some t → IsRewritten b e t
 is_rewritten b e t n h k r = record { base = h; exponent = k; whole = whole_rewriting b e t (sym (as_whole b e n) ∙ r); is = r }
@@ -38,22 +30,9 @@ raised_count : (gs : Trees) (e : Tree) → count (raised gs e) ≡ count gs
 raised_count none e = refl
 raised_count (more g gs) e = ap suc (raised_count gs e)
 
-led_some : (c : Tree) (fs : Trees) → 2 ≤ count (append (factors_of c) fs) → 1 ≤ count (if is_num_one c then fs else more c fs)
-led_some (num q) fs h = by (is_one_fraction q)
-  where
-    by : (x : Bool) → 1 ≤ count (if x then fs else more (num q) fs)
-    by true = omega arith
-    by false = omega arith
-led_some t fs h = omega arith
-
 -- a reduced product has parts
 parts_some : (ts : Trees) → HasTwo ts → (has_coefficient ts ≡ false) ⊎ Leads ts → 1 ≤ count (parts_of ts)
-parts_some ts two (inl h) =
-    let are : parts_of ts ≡ ts = ap (λ (x : Split). if is_num_one x.coefficient then x.factors else more x.coefficient x.factors) (no_split ts h) ∙ ap (λ (b : Bool). if b then ts else more num_one ts) one_is_one in
-    omega (arith, ap count are, two_count ts two)
-parts_some ts two (inr l) =
-    let are : parts_of ts ≡ (if is_num_one l.c then l.factors else more l.c l.factors) = ap (λ (x : Split). if is_num_one x.coefficient then x.factors else more x.coefficient x.factors) l.is in
-    omega (arith, ap count are, led_some l.c l.factors (omega (arith, ap count l.whole, two_count ts two)))
+parts_some ts h k = grind (arith, no_split, one_is_one, two_count)
 
 -- ---- what is left to reduce
 
@@ -63,10 +42,7 @@ pub record IsOpened (b e t : Tree) : Type 0 where
   pub weighs : weight_below t < weight b
 
 whole_transparent : (z : ℤ) → is_opaque_exponent (num (whole_fraction z)) ≡ false
-whole_transparent z = by (is_number (num (whole_fraction z))) (whole_fraction z).den (whole_denominator z)
-  where
-    by : (x : Bool) (n : ℕ) → n ≡ 1 → (x && not (n == 1)) ≡ false
-    by x n e = rw e (and_right x false refl)
+whole_transparent z = grind (arith, whole_denominator, and_right)
 
 opened_root : (a : Tree) (z : ℤ) (e : Tree) → is_number e ≡ true → is_reduced (root a) ≡ true → is_number (root a) ≡ false → IsOpened (root a) e (power a (num (whole_fraction z)))
 opened_root a z e w r n = record {
@@ -118,13 +94,11 @@ opened b e t n r s h = opened_whole b e t r s (sym (as_whole b e n) ∙ h)
 -- ---- the answers
 
 or_false : (x : Bool) → (x || false) ≡ x
-or_false true = refl
-or_false false = refl
+or_false x = grind arith
 
 -- an exponent that is no half asks for no root
 no_half_power : (b e : Tree) → is_half_num e ≡ false → has_no_half_power b e ≡ false
-no_half_power (num p) (num q) h = rw h refl
-no_half_power b e h = refl
+no_half_power b e h = grind arith
 
 pub lacks_whole : (b e : Tree) → is_half_num e ≡ false → lacks_power b e ≡ has_no_power b e
 lacks_whole b e h = ap (λ (x : Bool). has_no_power b e || x) (no_half_power b e h) ∙ or_false (has_no_power b e)
@@ -137,31 +111,18 @@ kept_half : (b e : Tree) → rewritten b e ≡ None → (is_half_num e ≡ false
 kept_half b e r = elim (cases_Bool (is_undef b)) [ inl u ↦ inr u | inr u ↦ inl (no_half b e u r) ]
 
 undef_lacks : (b e : Tree) → is_undef b ≡ true → lacks_power b e ≡ has_no_power b e
-undef_lacks undef e h = refl
-undef_lacks b e h = absurd cc
+undef_lacks b e h = grind arith
 
 pub undef_has_none : (b e : Tree) → is_undef b ≡ true → has_no_power b e ≡ true
-undef_has_none undef e h = refl
-undef_has_none b e h = absurd cc
+undef_has_none b e h = grind arith
 
 undef_number : (b e : Tree) → is_undef b ≡ true → is_number_power b e ≡ has_number_power b e
-undef_number undef e h = or_false (has_number_power undef e)
-undef_number b e h = absurd cc
-
-lacks_kept : (b e : Tree) → rewritten b e ≡ None → lacks_power b e ≡ has_no_power b e
-lacks_kept b e r = elim (kept_half b e r) [ inl h ↦ lacks_whole b e h | inr u ↦ undef_lacks b e u ]
-
-number_kept : (b e : Tree) → rewritten b e ≡ None → is_number_power b e ≡ has_number_power b e
-number_kept b e r = elim (kept_half b e r) [ inl h ↦ number_whole b e h | inr u ↦ undef_number b e u ]
+undef_number b e h = grind (arith, or_false)
 
 -- no rule names the tree for a power that is rewritten
 pub rewritten_written : (b e t r : Tree) → rewritten b e ≡ Some t → IsWrittenPower b e r
 unfolding zero_fraction one_fraction
-rewritten_written b e t r h = record {
-  zero = λ k. let n : rewritten b e ≡ None = zero_kept b e (pos 0) k refl in cc;
-  one = λ k. let n : rewritten b e ≡ None = one_kept b e (pos 1) k refl in cc;
-  kept = λ k. let n : rewritten b e ≡ None = k.not_rewritten in cc;
-}
+rewritten_written b e t r h = grind (arith, zero_kept, one_kept)
 
 pub power_after : (b e t r : Tree) → is_half_num e ≡ false → is_reduced b ≡ true → is_reduced e ≡ true → (rewritten b e ≡ Some t) × Rewrites (power b e) t → Finishes t r → IsReducedPower b e r
 power_after b e t r n h k s f =
@@ -183,16 +144,4 @@ power_after b e t r n h k s f =
 
 -- what a step answers that rewrites nothing
 pub power_finished : (b e t : Tree) → rewritten b e ≡ None → IsPowerAnswer b e t → ((n : ℤ) → e ≡ num (whole_fraction n) → IsHeldAsPowerOf n b t) → IsReducedPower b e t
-power_finished b e t r a k = record {
-  reduces = a.reduces;
-  undefined = λ h. undef_words t (a.undefined ∙ sym (lacks_kept b e r) ∙ h);
-  number = λ h n. a.number (sym (number_kept b e r) ∙ h) (sym (lacks_kept b e r) ∙ n);
-  written = λ n. a.written (sym (lacks_kept b e r) ∙ n);
-  nest = a.nest_bound;
-  opaque_load = a.opaque_bound;
-  load = a.load_bound;
-  room = finished_room b e t r a;
-  root_room = λ h. elim (kept_half b e r) [ inl n ↦ contrary h n | inr u ↦ undef_root_room b t (undef_words t (a.undefined ∙ undef_has_none b e u)) ];
-  held = k;
-  root_held = λ h d. elim (kept_half b e r) [ inl n ↦ contrary h n | inr u ↦ contrary (a.undefined ∙ undef_has_none b e u) d ];
-}
+power_finished b e t h k a = grind (arith, undef_words, kept_half, lacks_whole, undef_lacks, number_whole, undef_number, finished_room, contrary, undef_root_room, undef_has_none)

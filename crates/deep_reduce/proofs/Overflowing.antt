@@ -1,6 +1,6 @@
 -- The nodes up to the first overflow of plain trees, where the children before are answered.
 use Rattle.std.proofs.Common.{◌≡◌, ℕ, ◌+◌, Bool, true, false, ◌&&◌, refl, sym, ap, ◌∙◌, subst, if◌then◌else◌, arith}
-use Rattle.deep_reduce.proofs.Shared.{IsPlainAnswer, IsPlainOverflow, PlainValue, exactly, undefined, overflow, nothing, Gathered, decided, values, gather, folded, on_one, on_two, divided, calculated, powered, plain_of, plain_of_children, is_plain, are_plain, plain_value, add_op, mul_op, negative, Tree, add, mult, power, root, neg, sub, div, Trees, none, more, append, nodes, nodes_of, IsReducedFrom, Overflow, children_of, and_parts}
+use Rattle.deep_reduce.proofs.Shared.{IsPlainAnswer, IsPlainOverflow, PlainValue, exactly, nothing, Gathered, decided, values, gather, folded, on_one, on_two, divided, calculated, powered, plain_of, plain_of_children, is_plain, are_plain, plain_value, add_op, mul_op, negative, Tree, add, mult, power, root, neg, sub, div, Trees, none, more, append, nodes, nodes_of, IsReducedFrom, Overflow, children_of, and_parts}
 use Rattle.calc_measures.specs.PlainOverflows.{is_overflow, with_child, nodes_to_overflow, nodes_among}
 use Rattle.deep_reduce.proofs.NodeRewrites.{AreReducedFrom, IsOver, over_sum, over_product, over_power, over_neg, over_sub, over_div}
 use Rattle.deep_reduce.proofs.PlainNodes.{is_plain_value, Decides, child_decides, pair_plain, no_child}
@@ -16,8 +16,7 @@ over_behind t within behind e = ap (λ (b : Bool). if b then within else nodes t
 
 -- an answered tree has no overflow
 no_overflow : (v : PlainValue) (u : Tree) → IsPlainAnswer v u → is_overflow v ≡ false
-no_overflow (overflow op x y) u a = absurd a
-no_overflow v u a = refl
+no_overflow v u h = grind arith
 
 answered : (t u : Tree) → is_plain t ≡ true → IsReducedFrom t u → is_overflow (plain_of t) ≡ false
 answered t u p h = no_overflow (plain_of t) u (subst (λ (v : PlainValue). IsPlainAnswer v u) (is_plain_value t p) h.plain)
@@ -31,18 +30,11 @@ IsOverflowed (values qs) = ⊥
 
 -- a child that overflows, and those behind it
 this_overflows : (v : PlainValue) (g : Gathered) (o : Overflow) → IsPlainOverflow v o → IsOverflowed (gather v g) → is_overflow v ≡ true
-this_overflows (overflow op x y) g o a h = refl
-this_overflows nothing g o a h = cc
-this_overflows v g o a h = absurd a
+this_overflows v g o h k = grind arith
 
 -- an answered child, and those behind it
 later_overflow : (v : PlainValue) (u : Tree) (g : Gathered) → IsPlainAnswer v u → IsOverflowed (gather v g) → IsOverflowed g
-later_overflow (exactly q) u (decided w) a h = h
-later_overflow (exactly q) u (values qs) a h = absurd h
-later_overflow undefined u (decided w) a h = h
-later_overflow undefined u (values qs) a h = cc
-later_overflow (overflow op x y) u g a h = absurd a
-later_overflow nothing u g a h = cc
+later_overflow v u g h k = grind arith
 
 -- the first child that overflows is this one
 pub record IsFirstOverflow (done : Trees) (t : Tree) (many : ℕ) : Type 0 where
@@ -90,8 +82,7 @@ overflow_of : (t : Tree) → is_overflow (plain_value t) ≡ true → is_overflo
 overflow_of t e = sym (ap is_overflow (is_plain_value t (overflow_plain t e))) ∙ e
 
 decided_overflows : (F : Gathered → PlainValue) (g : Gathered) (o : Overflow) → ((v : PlainValue) → F (decided v) ≡ v) → Decides g o → is_overflow (F g) ≡ true → IsOverflowed g
-decided_overflows F (decided v) o d h e = sym (ap is_overflow (d v)) ∙ e
-decided_overflows F (values qs) o d h e = absurd h
+decided_overflows F g o h k a = grind arith
 
 module _ (done answers : Trees) (t : Tree) (rest : Trees) (o : Overflow) (reduced : AreReducedFrom done answers) (told : IsPlainOverflow (plain_value t) o) where
   by_first : (F : Gathered → PlainValue) (ts : Trees) → ((v : PlainValue) → F (decided v) ≡ v) → ts ≡ append done (more t rest) → are_plain ts ≡ true → is_overflow (F (plain_of_children ts)) ≡ true

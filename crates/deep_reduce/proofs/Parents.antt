@@ -1,5 +1,5 @@
 -- A root with its children, whatever it holds: a child is taken out.
-use Rattle.std.proofs.Common.{◌≡◌, ℕ, [], ◌∷◌, eqb, cond, Bool, refl, sym, ap, ◌∙◌, subst, arith}
+use Rattle.std.proofs.Common.{◌≡◌, ℕ, [], ◌∷◌, refl, ap, ◌∙◌, subst, arith}
 use Rattle.deep_reduce.proofs.Shared.{gives_without, Payload, Tree, Trees, none, more, append, count, cut_at, represents_count, without_put, GivesSides, State, IsParent, held_at, parent_handed, behind_first, front_same, front_put, front_end, gives, gives_as, ends_at, kids_of_root, other_root, other_tree, by_test, root_arity, root-put, kids-put, nth, plain, children_of, Forest, empty, tree, arity, kids, root_payload, root_count, with_root_kids, tree_nth, without_nth, AllOnce, IsOwned, IsHanded, Represents, Ends, Gives, KeepsFront, kids_of, root_tree, without_root, put, Stands, forest}
 
 -- how many children a reader finds
@@ -10,37 +10,21 @@ parent_children {i = i} st h = ap arity (kids_of_root i st h.root) ∙ represent
 
 tree_put : (i : ℕ) (n f : Forest) → root_tree i (put i n f) ≡ with_root_kids n (root_tree i f)
 tree_put i n empty = refl
-tree_put i n (tree l k r) =
-    by_test (λ t. eqb l.id i ≡ t → root_tree i (cond t (tree l n r) (tree l k (put i n r))) ≡ with_root_kids n (cond t (tree l k empty) (root_tree i r))) (eqb l.id i)
-    (λ e q. ap (λ (t : Bool). cond t (tree l n empty) (root_tree i r)) q) (λ e q. ap (λ (t : Bool). cond t (tree l k empty) (root_tree i (put i n r))) q ∙ tree_put i n r) refl
+tree_put i n (tree l k r) = grind (arith, by_test, tree_put i n r)
 
 payload_with : (n t : Forest) → root_payload (with_root_kids n t) ≡ root_payload t
-payload_with n empty = refl
-payload_with n (tree l k r) = refl
+payload_with n t = grind arith
 
 count_with : (n t : Forest) → root_count (with_root_kids n t) ≡ root_count t
-count_with n empty = refl
-count_with n (tree l k r) = refl
+count_with n t = grind arith
 
 -- it has other children
 pub parent_put : {x : Payload} {i : ℕ} {ts us : Trees} {f : Forest} (n : Forest) → IsParent x i ts f → Represents n us → IsParent x i us (put i n f)
-parent_put {i = i} {us = us} {f = f} n h r = record {
-  root = root-put i i n f ∙ h.root;
-  payload = ap root_payload (tree_put i n f) ∙ payload_with n (root_tree i f) ∙ h.payload;
-  count = ap root_count (tree_put i n f) ∙ count_with n (root_tree i f) ∙ h.count;
-  kids = subst (λ (x : Forest). Represents x us) (sym (kids-put i n f h.root)) r;
-}
+parent_put n h k = grind (arith, root-put, tree_put, payload_with, count_with, kids-put)
 
 -- another tree comes
 pub parent_end : {x : Payload} {i j : ℕ} {ts : Trees} {t f g : Forest} → IsParent x i ts g → Ends j t g f → IsParent x i ts f
-parent_end {i = i} {ts = ts} h e =
-    let same = other_tree i e h.root in
-    record {
-      root = other_root i e h.root;
-      payload = ap root_payload same ∙ h.payload;
-      count = ap root_count same ∙ h.count;
-      kids = subst (λ (x : Forest). Represents (kids x) ts) (sym same) h.kids;
-    }
+parent_end h k = grind (arith, other_tree, other_root)
 
 -- ---- a child is taken out, and stands last
 

@@ -1,6 +1,6 @@
 -- The plain value of a node, from its children's answers.
-use Rattle.std.proofs.Common.{◌≡◌, Bool, true, false, ◌&&◌, List, [], ◌∷◌, refl, sym, ap, ◌∙◌, subst, if◌then◌else◌, ◌||◌}
-use Rattle.deep_reduce.proofs.Shared.{add_op, mul_op, Fraction, negative, minus_one_fraction, PlainValue, exactly, undefined, overflow, nothing, Gathered, decided, values, gather, folded, on_one, on_two, divided, calculated, powered, plain_of, plain_of_children, is_plain, are_plain, plain_value, Tree, num, undef, add, mult, power, root, neg, sub, div, Trees, none, more, append, is_undef, is_num, has_undef, are_rationals, has_no_half_power, IsNodeAnswer, IsNodeOverflow, has_no_value, IsReducedFrom, is_zero, is_at_most_zero, has_no_root, Overflow, IsPlainAnswer, IsPlainOverflow, children_of, and_parts, or_right, and_from}
+use Rattle.std.proofs.Common.{arith, ◌≡◌, Bool, true, false, ◌&&◌, List, [], ◌∷◌, refl, sym, ap, ◌∙◌, subst, if◌then◌else◌}
+use Rattle.deep_reduce.proofs.Shared.{add_op, mul_op, Fraction, negative, PlainValue, exactly, undefined, overflow, nothing, Gathered, decided, values, gather, folded, on_one, on_two, divided, calculated, powered, plain_of, plain_of_children, is_plain, are_plain, plain_value, Tree, num, add, mult, power, root, neg, sub, div, Trees, none, more, append, is_num, has_undef, are_rationals, IsNodeAnswer, IsNodeOverflow, has_no_value, IsReducedFrom, Overflow, IsPlainAnswer, IsPlainOverflow, children_of, and_parts, or_right, and_from}
 use Rattle.deep_reduce.proofs.NodeRewrites.{AreReducedFrom, IsOver, over_number, over_symbol, over_undef, over_sum, over_product, over_power, over_root, over_neg, over_sub, over_div}
 
 -- a fact of a plain value holds where there is none, and where it is computed
@@ -28,18 +28,8 @@ Told (decided (overflow op a b)) us = ⊥
 Told (decided nothing) us = Unit {0}
 Told (values qs) us = us ≡ nums qs
 
-decided_told : (v : PlainValue) (u : Tree) (us : Trees) → Told (decided v) us → Told (decided v) (more u us)
-decided_told undefined u us h = or_right (is_undef u) (has_undef us) h
-decided_told nothing u us h = tt
-decided_told v u us h = absurd h
-
 more_told : (v : PlainValue) (u : Tree) (g : Gathered) (us : Trees) → IsPlainAnswer v u → Told g us → Told (gather v g) (more u us)
-more_told (exactly q) u (values qs) us a h = λ i. more (a i) (h i)
-more_told (exactly q) u (decided v) us a h = decided_told v u us h
-more_told undefined u (values qs) us a h = ap (λ (t : Tree). is_undef t || has_undef us) a
-more_told undefined u (decided v) us a h = decided_told v u us h
-more_told (overflow op x y) u g us a h = absurd a
-more_told nothing u g us a h = tt
+more_told v u g us h k = grind (arith, or_right)
 
 one_told : (t u : Tree) (g : Gathered) (us : Trees) → is_plain t ≡ true → IsReducedFrom t u → Told g us → Told (gather (plain_of t) g) (more u us)
 one_told t u g us e h k = more_told (plain_of t) u g us (subst (λ (v : PlainValue). IsPlainAnswer v u) (is_plain_value t e) h.plain) k
@@ -142,38 +132,8 @@ module _ (P : PlainValue → Type 0) (n : P nothing) where
   node_kept t u (over_sub a c b e h l) d k = sub_kept a b c e h l d k
   node_kept t u (over_div a c b e h l) d k = div_kept a b c e h l d k
 
--- a node with a child that is Undef has no value
-or_false : (a : Bool) → a || false ≡ true → a ≡ true
-or_false true e = refl
-or_false false e = e
-
-two_undefined : (a b c d : Bool) → a || (b || false) ≡ true → a || b || c || d ≡ true
-two_undefined true b c d e = refl
-two_undefined false true c d e = refl
-two_undefined false false c d e = cc
-
-divisor_undefined : (a b c d : Bool) → a || (b || false) ≡ true → a || (b || false || c || d) ≡ true
-divisor_undefined true b c d e = refl
-divisor_undefined false true c d e = refl
-divisor_undefined false false c d e = cc
-
-one_undefined : (a b : Bool) → a || (b || false) ≡ true → a || b ≡ true
-one_undefined true b e = refl
-one_undefined false b e = or_false b e
-
-root_undefined : (a : Tree) → is_undef a ≡ true → has_no_root a ≡ true
-root_undefined undef e = refl
-root_undefined a e = cc
-
 pub undef_has_no_value : (u : Tree) → has_undef (children_of u) ≡ true → has_no_value u ≡ true
-undef_has_no_value (add ts) e = e
-undef_has_no_value (mult ts) e = e
-undef_has_no_value (power b g) e = two_undefined (is_undef b) (is_undef g) (is_zero b && is_at_most_zero g) (has_no_half_power b g) e
-undef_has_no_value (root a) e = root_undefined a (or_false (is_undef a) e)
-undef_has_no_value (neg a) e = or_false (is_undef a) e
-undef_has_no_value (sub a b) e = one_undefined (is_undef a) (is_undef b) e
-undef_has_no_value (div a b) e = divisor_undefined (is_undef a) (is_undef b) (is_zero b && is_at_most_zero (num minus_one_fraction)) (has_no_half_power b (num minus_one_fraction)) e
-undef_has_no_value t e = cc
+undef_has_no_value u h = grind arith
 
 -- the answer of a node over reduced children is that of the plain value
 pub answered_plain : (t u r : Tree) → IsOver t u → IsNodeAnswer u r → IsPlainAnswer (plain_value t) r
@@ -190,17 +150,10 @@ Decides (decided v) o = IsPlainOverflow v o
 Decides (values qs) o = ⊥
 
 this_decides : (v : PlainValue) (g : Gathered) (o : Overflow) → IsPlainOverflow v o → Decides (gather v g) o
-this_decides (overflow op a b) g o h = h
-this_decides nothing g o h = tt
-this_decides v g o h = absurd h
+this_decides v g o h = grind arith
 
 later_decides : (v : PlainValue) (u : Tree) (g : Gathered) (o : Overflow) → IsPlainAnswer v u → Decides g o → Decides (gather v g) o
-later_decides (exactly q) u (decided v) o a h = h
-later_decides (exactly q) u (values qs) o a h = absurd h
-later_decides undefined u (decided v) o a h = h
-later_decides undefined u (values qs) o a h = absurd h
-later_decides (overflow op x y) u g o a h = absurd a
-later_decides nothing u g o a h = tt
+later_decides v u g o h k = grind arith
 
 pub child_decides : (done answers : Trees) (t : Tree) (rest : Trees) (o : Overflow) → AreReducedFrom done answers → are_plain (append done (more t rest)) ≡ true → IsPlainOverflow (plain_value t) o
     → Decides (plain_of_children (append done (more t rest))) o
@@ -212,12 +165,10 @@ child_decides (more x xs) (more u us) t rest o h e k =
 child_decides xs us t rest o h e k = absurd h
 
 decides_value : (F : Gathered → PlainValue) (g : Gathered) (o : Overflow) → ((v : PlainValue) → F (decided v) ≡ v) → Decides g o → IsPlainOverflow (F g) o
-decides_value F (decided v) o d h = subst (λ (x : PlainValue). IsPlainOverflow x o) (sym (d v)) h
-decides_value F (values qs) o d h = absurd h
+decides_value F g o h k = grind arith
 
 pub pair_plain : (a b : Bool) → a && b ≡ true → a && (b && true) ≡ true
-pair_plain true b e = and_from b true e refl
-pair_plain false b e = e
+pair_plain a b h = grind (arith, and_from)
 
 pub no_child : (ts : Trees) (t : Tree) (rest : Trees) → none ≡ append ts (more t rest) → ⊥
 no_child none t rest e = cc
@@ -225,8 +176,7 @@ no_child (more x xs) t rest e = cc
 
 module _ (done answers : Trees) (t : Tree) (rest : Trees) (o : Overflow) (reduced : AreReducedFrom done answers) (told : IsPlainOverflow (plain_value t) o) where
   by_child : (F : Gathered → PlainValue) (ts : Trees) → ((v : PlainValue) → F (decided v) ≡ v) → ts ≡ append done (more t rest) → are_plain ts ≡ true → IsPlainOverflow (F (plain_of_children ts)) o
-  by_child F ts d e p = decides_value F (plain_of_children ts) o d
-      (subst (λ (x : Trees). Decides (plain_of_children x) o) (sym e) (child_decides done answers t rest o reduced (subst (λ (x : Trees). are_plain x ≡ true) e p) told))
+  by_child F ts h k a = grind (arith, decides_value, child_decides)
 
   -- a child's overflow, where those before it were answered, is the node's
   pub child_overflow : (n : Tree) → children_of n ≡ append done (more t rest) → IsPlainOverflow (plain_value n) o

@@ -18,11 +18,7 @@ other_needs b m h = ap (λ (z : Bool). if z then product_power_room (counted b) 
 
 -- at most as a product
 pub needs_most : (b : Tree) (m : ℕ) → whole_power_room b m ≤ product_power_room (counted b) m
-needs_most b m = by (is_mult b && not (is_number b))
-  where
-    by : (z : Bool) → (if z then product_power_room (counted b) m else power_room (counted b) m) ≤ product_power_room (counted b) m
-    by true = omega arith
-    by false = omega arith
+needs_most b m = grind arith
 
 -- an even power of a root is one of its argument
 pub argument_needs : (a : Tree) (m : ℕ) → is_reduced (root a) ≡ true → is_number (root a) ≡ false → whole_power_room a m ≤ whole_power_room (root a) m

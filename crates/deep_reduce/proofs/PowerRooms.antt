@@ -1,6 +1,6 @@
 -- What reduced powers count, and that they are calm and spanned.
-use Rattle.std.proofs.Common.{◌≡◌, ℕ, ℤ, zero, suc, ◌+◌, ◌≤◌, pos, negsuc, List, Bool, true, false, not, ◌&&◌, ◌||◌, if◌then◌else◌, None, refl, sym, ap, ◌∙◌, subst, arith}
-use Rattle.deep_reduce.proofs.Shared.{is_number, natural_of, is_whole_num, number_words, counted, SpansTree, Fraction, whole_fraction, is_zero_fraction, is_one_fraction, int_is_negative, int_is_zero, Tree, num, undef, power, root, is_mult, is_num, is_undef, zero_is, one_is, IsCalmAtZero, KeepsRoom, KeepsRootRoom, SpansRootOf, whole_power_count, power_count, has_no_power, has_number_power, IsPowerAnswer, IsWrittenPower, is_zero_or_one, rewritten, answer_counts, whole_power_counts, answer_spans, whole_is, has_no_root, IsRootAnswer, zeros, number_calm, whole_number, counts_one, number_counts_one}
+use Rattle.std.proofs.Common.{◌≡◌, ℕ, ℤ, zero, suc, ◌+◌, ◌≤◌, pos, negsuc, List, Bool, true, false, None, refl, sym, ap, ◌∙◌, subst, arith}
+use Rattle.deep_reduce.proofs.Shared.{is_number, natural_of, number_words, counted, SpansTree, Fraction, whole_fraction, int_is_negative, int_is_zero, Tree, num, undef, power, root, is_num, is_undef, zero_is, one_is, IsCalmAtZero, KeepsRoom, KeepsRootRoom, SpansRootOf, power_count, has_no_power, has_number_power, IsPowerAnswer, IsWrittenPower, is_zero_or_one, rewritten, answer_counts, whole_power_counts, answer_spans, whole_is, has_no_root, IsRootAnswer, zeros, number_calm, whole_number, counts_one, number_counts_one}
 use Rattle.deep_reduce.proofs.Clashes.{undef_words}
 use Rattle.deep_reduce.proofs.Calm.{calm_base, calm_power}
 use Rattle.deep_reduce.proofs.RootValues.{root_of_zero}
@@ -9,15 +9,7 @@ use Rattle.deep_reduce.proofs.RootValues.{root_of_zero}
 
 -- a power as it stands counts no more than what is said of its answer
 pub power_counts_most : (b e : Tree) → counted (power b e) ≤ power_count b e
-power_counts_most b e = by (is_whole_num e) refl
-  where
-    most : (z : Bool) → counted b ≤ (if z then 1 + counted b else counted b)
-    most true = omega arith
-    most false = omega arith
-
-    by : (z : Bool) → is_whole_num e ≡ z → counted (power b e) ≤ (if z then whole_power_count b else counted (power b e))
-    by true h = omega (arith, whole_power_counts b e h, most (is_mult b && not (is_number b)))
-    by false h = omega arith
+power_counts_most b e = grind (arith, whole_power_counts)
 
 -- ---- answers that no rule rewrites
 
@@ -26,12 +18,7 @@ module _ (ns : List (List ℕ)) where
   undef_calm b t h c = subst (IsCalmAtZero ns) (sym (undef_words t h)) (record { once = c.once; calm = tt })
 
   trivial_calm : (b e t : Tree) → is_zero_or_one e ≡ true → IsWrittenPower b e t → IsCalmAtZero ns b → IsCalmAtZero ns t
-  trivial_calm b (num q) t h w c = by (is_zero_fraction q) refl h
-    where
-      by : (z : Bool) → is_zero_fraction q ≡ z → (z || is_one_fraction q) ≡ true → IsCalmAtZero ns t
-      by true z k = subst (IsCalmAtZero ns) (sym (w.zero (ap num (zero_is q z)))) (record { once = c.once; calm = tt })
-      by false z k = subst (IsCalmAtZero ns) (sym (w.one (ap num (one_is q k)))) c
-  trivial_calm b e t h w c = absurd cc
+  trivial_calm b e t h k a = grind (arith, zero_is, one_is)
 
   pub number_is_calm : (b t : Tree) → is_number t ≡ true → IsCalmAtZero ns b → IsCalmAtZero ns t
   number_is_calm b t h c = record { once = c.once; calm = number_calm (zeros ns) t (number_words t h) }
@@ -64,15 +51,10 @@ pub record IsRootRoom (b r : Tree) : Type 0 where
   pub spanned : (gs : List ℕ) → SpansRootOf gs b → SpansTree gs r
 
 pub kept_counts : (b : Tree) → counted (root b) ≤ 1 + counted b
-kept_counts b = by (is_num b)
-  where
-    by : (z : Bool) → (if z then 1 else suc (counted b)) ≤ 1 + counted b
-    by true = omega arith
-    by false = omega arith
+kept_counts b = grind arith
 
 kept_spans : (gs : List ℕ) (b : Tree) → is_num b ≡ false → SpansRootOf gs b → SpansTree gs (root b)
-kept_spans gs (num q) n s = cc
-kept_spans gs b n s = (tt, s)
+kept_spans gs b h k = grind arith
 
 -- a rational that has a root is above 0, or it is 0
 number_spans : (gs : List ℕ) (q : Fraction) (r : Tree) → int_is_negative q.num ≡ false → IsRootAnswer (num q) r → (SpansTree gs (root (num q)) → SpansTree gs r) → SpansRootOf gs (num q) → SpansTree gs r
@@ -116,17 +98,7 @@ half_room b r u z a s n p =
 -- ---- roots
 
 pub root_answer_counts : (a r : Tree) → IsRootAnswer a r → counted r ≤ counted (root a)
-root_answer_counts a r h = by (has_no_root a) (is_num a) refl refl
-  where
-    by : (x n : Bool) → has_no_root a ≡ x → is_num a ≡ n → counted r ≤ counted (root a)
-    by true n d m = omega (arith, ap counted (undef_words r (h.undefined ∙ d)), counts_one (root a))
-    by false true d m = omega (arith, number_counts_one r (h.number m d), counts_one (root a))
-    by false false d m = omega (arith, ap counted (h.kept m d))
+root_answer_counts a r h = grind (arith, undef_words, counts_one, number_counts_one)
 
 pub root_answer_calm : (ns : List (List ℕ)) (a r : Tree) → IsRootAnswer a r → IsCalmAtZero ns a → IsCalmAtZero ns r
-root_answer_calm ns a r h c = by (has_no_root a) (is_num a) refl refl
-  where
-    by : (x n : Bool) → has_no_root a ≡ x → is_num a ≡ n → IsCalmAtZero ns r
-    by true n d m = undef_calm ns a r (h.undefined ∙ d) c
-    by false true d m = number_is_calm ns a r (h.number m d) c
-    by false false d m = subst (IsCalmAtZero ns) (sym (h.kept m d)) (record { once = c.once; calm = (tt, c.calm) })
+root_answer_calm ns a r h k = grind (arith, undef_calm, number_is_calm)

@@ -1,6 +1,6 @@
 -- The product of an exponent that counts its base and of a whole number counts it as often as both together.
-use Rattle.std.proofs.Common.{◌≡◌, ℕ, ℤ, pos, ◌*◌, ◌*ℤ◌, Bool, true, false, ◌||◌, ◌==◌, List, if◌then◌else◌, refl, sym, ap, ◌∙◌, subst, arith, inl, inr}
-use Rattle.deep_reduce.proofs.Shared.{and_parts, is_number, value, are_reduced, is_reduced, product_tree, Same, surd_of, surd_one, number_words, Same-trans, Same-refl, Same-eq, Same-surd_times, Fraction, whole_fraction, one_fraction, Tree, num, symbol, add, mult, Trees, none, more, has_undef, with_coefficient, IsMonic, reduced_parts, IsCountedWithin, MultipliesCounts, is_zero, IsFinished, IsWrittenProduct, opened, numbers_in, others_in, product_of_values, coefficient_times, have_partners, whole_of, IsCountedIn, num_value, num_counted, zero_counted, put_counted, Counts, counts, multiple, counts_of, is_counted, IsWithin, symbol_monic, permuted_none_is, cases_Bool, ints}
+use Rattle.std.proofs.Common.{◌≡◌, ℕ, ℤ, ◌*ℤ◌, Bool, true, false, ◌||◌, ◌==◌, List, refl, sym, ap, ◌∙◌, subst, arith, inl, inr}
+use Rattle.deep_reduce.proofs.Shared.{and_parts, is_number, value, are_reduced, is_reduced, product_tree, Same, surd_of, number_words, Same-trans, Same-eq, Same-surd_times, Fraction, whole_fraction, one_fraction, Tree, num, symbol, add, mult, Trees, none, more, has_undef, with_coefficient, IsMonic, reduced_parts, IsCountedWithin, MultipliesCounts, is_zero, IsFinished, IsWrittenProduct, opened, numbers_in, others_in, product_of_values, coefficient_times, have_partners, whole_of, IsCountedIn, num_value, num_counted, zero_counted, put_counted, Counts, counts, multiple, counts_of, is_counted, IsWithin, symbol_monic, permuted_none_is, cases_Bool}
 use Rattle.deep_reduce.proofs.Clashes.{clash, unclear, rational_number, zero_words}
 use Rattle.std.proofs.Math.IntN.{*ℤ_comm}
 use Rattle.calc_algebra.proofs.ExponentLaws.{whole_times}
@@ -20,11 +20,7 @@ data IsParted (c : Counts) (n : ℤ) (ts : Trees) : Type 0 where
 -- products of whole numbers
 one_product : (n : ℤ) → Same (product_of_values (more (num (whole_fraction n)) none)) (surd_of (whole_fraction n))
 unfolding one_fraction
-one_product n =
-    Same-trans (Same-surd_times (num_value (whole_fraction n)) (Same-refl surd_one)) (Same-eq (ap surd_of (whole_times n (pos 1) ∙ ap whole_fraction (once n))))
-  where
-    once : (n : ℤ) → n *ℤ pos 1 ≡ n
-    once n = omega (arith, ints)
+one_product n = grind (arith, num_value, whole_times)
 
 two_product : (q : Fraction) (n : ℤ) → (q.den == 1) ≡ true → Same (product_of_values (more (num q) (more (num (whole_fraction n)) none))) (surd_of (whole_fraction (q.num *ℤ n)))
 two_product q n w =
@@ -32,16 +28,10 @@ two_product q n w =
     Same-trans (Same-surd_times (subst (λ (r : Fraction). Same (value (num q)) (surd_of r)) i (num_value q)) (one_product n)) (Same-eq (ap surd_of (whole_times q.num n)))
 
 with_number : (q : Fraction) (ts : Trees) → (numbers_in (more (num q) ts) ≡ more (num q) (numbers_in ts)) × (others_in (more (num q) ts) ≡ others_in ts)
-with_number q ts = (
-  ap (λ (b : Bool). if b then more (num q) (numbers_in ts) else numbers_in ts) (rational_number q),
-  ap (λ (b : Bool). if b then others_in ts else more (num q) (others_in ts)) (rational_number q),
-)
+with_number q ts = grind (arith, rational_number)
 
 with_other : (t : Tree) (ts : Trees) → is_number t ≡ false → (numbers_in (more t ts) ≡ numbers_in ts) × (others_in (more t ts) ≡ more t (others_in ts))
-with_other t ts n = (
-  ap (λ (b : Bool). if b then more t (numbers_in ts) else numbers_in ts) n,
-  ap (λ (b : Bool). if b then others_in ts else more t (others_in ts)) n,
-)
+with_other t ts h = grind arith
 
 turned_within : (q : Fraction) (n : ℤ) (c : Counts) → IsWithin (multiple (q.num *ℤ n) c) (multiple n (multiple q.num c))
 turned_within q n c = subst (λ (z : ℤ). IsWithin (multiple z c) (multiple n (multiple q.num c))) (*ℤ_comm n q.num) (product_within n q.num c)
@@ -128,8 +118,7 @@ product_counts ts t r k f n e c =
 
 -- no two of them have one base
 no_partners : (c : Counts) (n : ℤ) (ts : Trees) → IsParted c n ts → have_partners (others_in (opened ts)) ≡ false
-no_partners c n ts (number_alone z a b d) = ap have_partners b
-no_partners c n ts (one_factor z w a b d e f) = ap have_partners b
+no_partners c n ts h = grind (arith, number_alone)
 
 pub product_joins_none : (ts : Trees) (t : Tree) → are_reduced ts ≡ true → have_partners (others_in (opened ts)) ≡ true → MultipliesCounts ts t
 product_joins_none ts t r p f n e c = clash (sym p ∙ no_partners (counts_of f) n ts (subst (IsParted (counts_of f) n) (sym e) (parted f n (and_parts (is_reduced f) _ (sym (ap are_reduced e) ∙ r)).0 c)))

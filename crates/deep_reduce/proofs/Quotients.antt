@@ -94,14 +94,4 @@ module _ (a b c : Tree) (fit : (q : Fraction) → b ≡ num q → fraction_fits 
 
 -- the inverse of a rational fits
 pub inverse_overflow : (a b : Tree) (o : Overflow) → ((q : Fraction) → b ≡ num q → fraction_fits q ≡ true) → IsNodeOverflow (inverse_tree b) o → has_undef (two a b) ≡ false → IsNodeOverflow (div a b) o
-inverse_overflow a b o fit h d = record {
-  defined = d;
-  rational = λ e.
-      let t = are_two a b e in
-      let w : IsPlainOverflow (plain_value (inverse_tree (num t.right))) o = subst (λ (u : Tree). IsPlainOverflow (plain_value (inverse_tree u)) o) t.right-is (h.rational (λ i. is_num (t.right-is i) && true)) in
-      absurd (by t.right (fit t.right t.right-is) w (is_zero_fraction t.right) refl);
-}
-  where
-    by : (q : Fraction) → fraction_fits q ≡ true → IsPlainOverflow (plain_value (inverse_tree (num q))) o → (z : Bool) → is_zero_fraction q ≡ z → ⊥
-    by q f w true z = subst (λ (v : PlainValue). IsPlainOverflow v o) (zero_inverse q z) w
-    by q f w false z = subst (λ (v : PlainValue). IsPlainOverflow v o) (inverse_value q z f) w
+inverse_overflow a b o h k c = grind (arith, are_two, zero_inverse, inverse_value)

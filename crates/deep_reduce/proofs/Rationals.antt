@@ -1,19 +1,16 @@
 -- Opposites and inverses of rationals that fit.
-use Rattle.std.proofs.Common.{◌≡◌, ◌≢◌, ℕ, zero, suc, ◌*◌, ◌^◌, ℤ, pos, negsuc, ◌*ℤ◌, neg_ℤ, ◌<ℤ◌, ◌≤ℤ◌, Bool, true, false, ◌&&◌, refl, ap, ◌∙◌, arith, nat_abs, nat_lt, if◌then◌else◌, eqb, cond, sym, subst}
-use Rattle.deep_reduce.proofs.Shared.{ints, whole_numerator, whole_denominator, fits, fraction_fits, fraction_power, mul_op, pow_op, Fraction, lowest, times, negative, inverse, one_fraction, minus_one_fraction, whole_fraction, is_zero_fraction, lowest_parts, times_lowest, den_pos, int_is_zero, exactly, undefined, overflow, calculated, powered, negative_parts, inverts, and_from, and_parts, Kind, Payload, rational, named, bare, IsPayload, num, Trees, State, tree_of, by_test, grown, plain, plains, compound, Forest, empty, tree, flatten, root_payload, has_root, root_tree, Stands, forest}
+use Rattle.std.proofs.Common.{◌≡◌, ◌≢◌, ℕ, ◌*◌, ◌^◌, ℤ, pos, negsuc, ◌*ℤ◌, neg_ℤ, ◌<ℤ◌, ◌≤ℤ◌, Bool, true, false, ◌&&◌, refl, ap, ◌∙◌, arith, nat_abs, nat_lt, if◌then◌else◌, eqb, cond, subst}
+use Rattle.deep_reduce.proofs.Shared.{whole_numerator, whole_denominator, fits, fraction_fits, fraction_power, mul_op, pow_op, Fraction, lowest, times, negative, inverse, one_fraction, minus_one_fraction, whole_fraction, is_zero_fraction, lowest_parts, times_lowest, den_pos, int_is_zero, exactly, undefined, calculated, powered, negative_parts, inverts, and_from, and_parts, IsPayload, num, State, tree_of, by_test, plain, Forest, empty, tree, flatten, root_payload, has_root, root_tree, Stands, forest}
 use Rattle.calc_terms.specs.FractionLaws.{times_comm, one_times}
 use Rattle.node_pool.proofs.Sizes.{AreNodes-right}
 use Rattle.node_pool.specs.Nodes.{AreNodes}
 use Rattle.rational128.proofs.LowestTerms.{parts_themselves}
 use Rattle.rational128.proofs.Products.{parts_fit}
-use Rattle.calc_terms.specs.declared.kind.Kind.TheVariants as kind
 
 -- ---- opposites
 
 minus_one_times : (z : ℤ) → negsuc 0 *ℤ z ≡ neg_ℤ z
-minus_one_times (pos zero) = refl
-minus_one_times (pos (suc n)) = omega (arith, ints)
-minus_one_times (negsuc n) = omega (arith, ints)
+minus_one_times z = grind arith
 
 -- -1 times q is its negative
 pub times_minus_one : (q : Fraction) → times minus_one_fraction q ≡ negative q
@@ -26,20 +23,14 @@ times_minus_one q =
     one_mul n = omega arith
 
 abs_negative : (z : ℤ) → nat_abs (neg_ℤ z) ≡ nat_abs z
-abs_negative (pos zero) = refl
-abs_negative (pos (suc n)) = refl
-abs_negative (negsuc n) = refl
+abs_negative z = grind arith
 
 negative_fits : (q : Fraction) → fraction_fits q ≡ true → fraction_fits (negative q) ≡ true
-negative_fits q h =
-    let p = negative_parts q q.num q.den refl refl in
-    (λ i. fits (p.num i) && fits (pos (p.den i))) ∙ ap (λ (n : ℕ). nat_lt n (2 ^ 127) && fits (pos q.den)) (abs_negative q.num) ∙ h
+negative_fits q h = grind (arith, negative_parts, abs_negative)
 
 -- the product of -1 and q fits
 pub opposite_value : (q : Fraction) → fraction_fits q ≡ true → calculated mul_op minus_one_fraction q ≡ exactly (negative q)
-opposite_value q h =
-    ap (λ (x : Fraction). if fraction_fits x then exactly x else overflow mul_op minus_one_fraction q) (times_minus_one q)
-    ∙ ap (λ (b : Bool). if b then exactly (negative q) else overflow mul_op minus_one_fraction q) (negative_fits q h)
+opposite_value q h = grind (arith, times_minus_one, negative_fits)
 
 -- ---- inverses
 
@@ -49,18 +40,15 @@ signed (negsuc n) d = neg_ℤ (pos d)
 
 signed_below : (z : ℤ) (d : ℕ) → z <ℤ pos 0 → signed z d ≡ neg_ℤ (pos d)
 unfolding signed
-signed_below (pos n) d h = absurd (omega (arith, ints))
-signed_below (negsuc n) d h = refl
+signed_below z d h = grind arith
 
 signed_above : (z : ℤ) (d : ℕ) → pos 0 ≤ℤ z → signed z d ≡ pos d
 unfolding signed
-signed_above (pos n) d h = refl
-signed_above (negsuc n) d h = absurd (omega (arith, ints))
+signed_above z d h = grind arith
 
 signed_abs : (z : ℤ) (d : ℕ) → nat_abs (signed z d) ≡ d
 unfolding signed
-signed_abs (pos n) d = refl
-signed_abs (negsuc n) d = abs_negative (pos d)
+signed_abs z d = grind (arith, abs_negative)
 
 swapped : (a b : Bool) → a && b ≡ true → b && a ≡ true
 swapped a b h = let (x, y) = and_parts a b h in and_from b a y x
@@ -81,9 +69,7 @@ pub inverse_power : (q : Fraction) → powered q (whole_fraction (negsuc 0)).num
 inverse_power q = λ i. powered q (whole_numerator (negsuc 0) i) (whole_denominator (negsuc 0) i)
 
 inverse_calculated : (q : Fraction) → q.num ≢ pos 0 → fraction_fits q ≡ true → calculated pow_op (inverse q) (whole_fraction (pos 1)) ≡ exactly (inverse q)
-inverse_calculated q z h =
-    ap (λ (x : Fraction). if fraction_fits x then exactly x else overflow pow_op (inverse q) (whole_fraction (pos 1))) (first_power (inverse q))
-    ∙ ap (λ (b : Bool). if b then exactly (inverse q) else overflow pow_op (inverse q) (whole_fraction (pos 1))) (inverse_fits q z h)
+inverse_calculated q h k = grind (arith, first_power, inverse_fits)
 
 -- it fits
 pub inverse_value : (q : Fraction) → is_zero_fraction q ≡ false → fraction_fits q ≡ true → powered q (whole_fraction (negsuc 0)).num (whole_fraction (negsuc 0)).den ≡ exactly (inverse q)
@@ -101,26 +87,8 @@ valid_root i (tree l k f) h r =
     by_test (λ t. eqb l.id i ≡ t → cond t true (has_root i f) ≡ true → IsPayload (root_payload (cond t (tree l k empty) (root_tree i f)))) (eqb l.id i) (λ e q s. h.0.payload)
     (λ e q s. valid_root i f (AreNodes-right (flatten k) (flatten f) h.1) s) refl r
 
-rational_fits : (q : Fraction) (x : Payload) (ts : Trees) → IsPayload x → grown x ts ≡ num q → fraction_fits q ≡ true
-rational_fits q (rational r) ts h e =
-    let same : lowest r.num r.den ≡ q = cc in
-    ap fraction_fits (sym same) ∙ parts_fit (lowest r.num r.den) r.num r.den (parts_themselves r.num r.den h.lowest) h.num_fits h.den_fits
-rational_fits q (named x) ts h e = cc
-rational_fits q (bare k) ts h e = absurd (no_number k ts q e)
-  where
-    no_number : (k : Kind) (ts : Trees) (q : Fraction) → compound k ts ≡ num q → ⊥
-    no_number kind.Add ts q e = cc
-    no_number kind.Mult ts q e = cc
-    no_number kind.Pow ts q e = cc
-    no_number kind.Root ts q e = cc
-    no_number kind.Neg ts q e = cc
-    no_number kind.Sub ts q e = cc
-    no_number kind.Div ts q e = cc
-    no_number k ts q e = cc
-
 tree_fits : (q : Fraction) (t : Forest) → IsPayload (root_payload t) → plain t ≡ num q → fraction_fits q ≡ true
-tree_fits q empty h e = cc
-tree_fits q (tree l k f) h e = rational_fits q l.payload (plains k) h e
+tree_fits q t h k = grind (arith, parts_fit, parts_themselves)
 
 -- a rational that a pool holds as a root
 pub root_fits : (i : ℕ) (s : State) (q : Fraction) → Stands s → has_root i (forest s) ≡ true → tree_of i s ≡ num q → fraction_fits q ≡ true

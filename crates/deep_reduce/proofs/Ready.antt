@@ -1,6 +1,6 @@
 -- A node over the answers of its children, from the tree as it was.
-use Rattle.std.proofs.Common.{◌≡◌, ℕ, true, Ok, Err, Result, refl, sym, subst, arith, IfErr, List, length, ◌^◌, ◌+◌, false, ◌<◌, Bool, if◌then◌else◌, ap, inl, inr, nat_le}
-use Rattle.deep_reduce.proofs.Shared.{eqb-true, is_reduced, are_reduced, is_half_num, lowest, Kind, Payload, rational, named, bare, Tree, num, symbol, undef, power, root, neg, sub, div, Trees, none, more, count, nodes, nodes_of, root_size, sizes, has_undef, HasFewBits, HoldsNode, HasNodesFor, SpansNode, IsNodeAnswer, IsNodeOverflow, IsReducedFrom, MayLack, MayOverflow, IsCalmAtZero, SpansRootOf, LacksBelow, OfFull, base_in, exponent_in, Overflow, IsNext, is_leaf, grown, compound, takes, takes_kind, nth, children_of, IfOverflow, NumberFault, simple_room, all_written_bytes, and_from, leb-true, leb-false, all_simple, high, low, bits, most_bits, unbounded_bits, append, cases_Bool}
+use Rattle.std.proofs.Common.{◌≡◌, ℕ, true, Ok, Err, Result, refl, sym, arith, IfErr, List, length, ◌^◌, ◌+◌, false, ◌<◌, Bool, if◌then◌else◌, ap, inl, inr, nat_le}
+use Rattle.deep_reduce.proofs.Shared.{eqb-true, is_reduced, are_reduced, is_half_num, Tree, num, symbol, undef, Trees, none, more, count, nodes, nodes_of, root_size, sizes, has_undef, HasFewBits, HoldsNode, HasNodesFor, SpansNode, IsNodeAnswer, IsNodeOverflow, IsReducedFrom, MayLack, MayOverflow, IsCalmAtZero, SpansRootOf, LacksBelow, OfFull, base_in, exponent_in, Overflow, IsNext, is_leaf, nth, children_of, IfOverflow, NumberFault, simple_room, all_written_bytes, and_from, leb-true, leb-false, all_simple, high, low, bits, most_bits, unbounded_bits, append, cases_Bool}
 use Rattle.deep_reduce.proofs.ChildRooms.{all_small, child_room, node_lacks}
 use Rattle.deep_reduce.proofs.NodeAnswers.{node_answered}
 use Rattle.deep_reduce.proofs.NodeRewrites.{AreReducedFrom, IsOver, over_number, over_symbol, over_undef, over_sum, over_product, over_power, over_root, over_neg, over_sub, over_div}
@@ -11,16 +11,12 @@ use Rattle.reduce_walk.proofs.Bytes.{root_over}
 use Rattle.reduce_walk.specs.Answers.{IsOver as IsOverAnswers}
 use Rattle.deep_reduce.proofs.TreeBits.{holds_over}
 use Rattle.reduce_walk.proofs.Bits.{child_bits, own_bits}
-use Rattle.calc_terms.specs.declared.kind.Kind.TheVariants as kind
 use Rattle.tree_handles.specs.declared.fault.NumberFault.TheVariants as number
 
 -- ---- leaves
 
 over_leaf : (t : Tree) → is_leaf t ≡ true → IsOver t t
-over_leaf (num q) h = over_number q
-over_leaf (symbol x) h = over_symbol x
-over_leaf undef h = over_undef
-over_leaf t h = cc
+over_leaf t h = grind (arith, over_number, over_symbol, over_undef)
 
 leaf_answer : (t : Tree) → is_leaf t ≡ true → IsNodeAnswer t t
 leaf_answer (num q) h = number_answer q
@@ -50,30 +46,13 @@ over_two_children N (more t (more s ts)) none e h k = absurd h
 over_two_children N (more t (more s ts)) (more u none) e h k = absurd h.1
 over_two_children N (more t (more s ts)) (more u (more v us)) e h k = k t u s v h.0 h.1.0
 
-over_kind : (k : Kind) (ts us : Trees) → takes_kind k (count ts) ≡ true → AreReducedFrom ts us → IsOver (compound k ts) (compound k us)
-over_kind kind.Undef ts us e h = over_undef
-over_kind kind.Add ts us e h = over_sum ts us h
-over_kind kind.Mult ts us e h = over_product ts us h
-over_kind kind.Pow ts us e h = over_two_children power ts us (eqb-true (count ts) 2 e) h (λ a c b d p q. over_power a c b d p q)
-over_kind kind.Root ts us e h = over_one_child root ts us (eqb-true (count ts) 1 e) h (λ a c p. over_root a c p)
-over_kind kind.Neg ts us e h = over_one_child neg ts us (eqb-true (count ts) 1 e) h (λ a c p. over_neg a c p)
-over_kind kind.Sub ts us e h = over_two_children sub ts us (eqb-true (count ts) 2 e) h (λ a c b d p q. over_sub a c b d p q)
-over_kind kind.Div ts us e h = over_two_children div ts us (eqb-true (count ts) 2 e) h (λ a c b d p q. over_div a c b d p q)
-over_kind k ts us e h = cc
-
-over_payload : (x : Payload) (ts us : Trees) → takes x (count ts) ≡ true → AreReducedFrom ts us → IsOver (grown x ts) (grown x us)
-over_payload (rational r) ts us e h = over_number (lowest r.num r.den)
-over_payload (named x) ts us e h = over_symbol x
-over_payload (bare k) ts us e h = over_kind k ts us e h
-
 pub answers_reduced : (ts us : Trees) → AreReducedFrom ts us → are_reduced us ≡ true
 answers_reduced none none h = refl
 answers_reduced (more t ts) (more u us) h = and_from (is_reduced u) (are_reduced us) h.0.reduces.reduced (answers_reduced ts us h.1)
 answers_reduced ts us h = absurd h
 
 pub over_answers : {t u : Tree} → IsOverAnswers IsReducedFrom t u → IsOver t u
-over_answers {t = t} {u = u} o =
-    subst (λ (x : Tree). IsOver x u) (sym o.whole) (subst (IsOver (grown o.holds (children_of t))) (sym o.node) (over_payload o.holds (children_of t) (children_of u) o.takes o.children))
+over_answers h = grind (arith, over_number, over_symbol, over_undef, over_sum, over_product, over_two_children, eqb-true, over_power, over_one_child, over_root, over_neg, over_sub, over_div)
 
 -- ---- bits beyond those within which all fit
 
@@ -100,9 +79,7 @@ node_beyond t u h fits = elim (cases_Bool (all_simple t)) [ inl s ↦ simple s (
 -- ---- a child that is not reduced
 
 pub child_lacks : (t c : Tree) (before done behind : Trees) (bytes : ℕ) → IsNext IsReducedFrom t before done c behind → MayLack c bytes → MayLack t (bytes + (root_size t + sizes done + sizes behind))
-child_lacks t c before done behind bytes n l s =
-    let x = child_room t before c behind n.split s in
-    omega (arith, root_over t before c behind n.split, l x.simple, x.fits, all_small before done x.others n.answered, all_written_bytes behind)
+child_lacks t c before done behind bytes h k = grind (arith, child_room, root_over, all_small, all_written_bytes)
 
 pub child_overflows : (t c : Tree) (before done behind : Trees) (place : ℕ) (o : Overflow) → IsNext IsReducedFrom t before done c behind → MayOverflow c place o → MayOverflow t (nodes_of before + place) o
 child_overflows t c before done behind place o n h = record {

@@ -1,45 +1,27 @@
 -- What calls on numbers return, in other words.
-use Rattle.std.proofs.Common.{◌≡◌, ℕ, ◌+◌, ◌≤◌, List, Result, Ok, Err, true, false, refl, sym, subst, IfOk, IfErr, IsErr, IsErrAnd}
-use Rattle.deep_reduce.proofs.Shared.{PlainValue, counted, counted_among, HasPowersOf, SpansTree, Tree, Trees, add, KeepsSumRoom, gives_itself, State, IfOverflow, OfOverflow, Overflow, IsPlainAnswer, IsPlainOverflow, gives_as, last_tree, plain, Forest, tree_of, Gives, forest, NumberFault}
+use Rattle.std.proofs.Common.{arith, ◌≡◌, ℕ, ◌+◌, ◌≤◌, List, Result, Ok, Err, refl, sym, subst, IfOk, IfErr, IsErr, IsErrAnd}
+use Rattle.deep_reduce.proofs.Shared.{PlainValue, counted, counted_among, HasPowersOf, SpansTree, Tree, Trees, add, KeepsSumRoom, gives_itself, State, IfOverflow, OfOverflow, Overflow, IsPlainAnswer, IsPlainOverflow, gives_as, last_tree, Forest, tree_of, Gives, forest, NumberFault}
 use Rattle.number_forms.specs.Answers.{AnswersRationals}
-use Rattle.tree_handles.specs.declared.fault.NumberFault.TheVariants as fault
 
 -- an answer, with what is said of it where the operands are rationals
 pub answered : {C : Type 0} (others : Forest) (v : PlainValue) (s : State) (r : Result ℕ NumberFault) (P Q : Tree → Type 0) → IfOk r (λ h. Gives others (forest s) h P) → (C → AnswersRationals v s r)
     → ((t : Tree) → P t → (C → IsPlainAnswer v t) → Q t) → IfOk r (λ h. Gives others (forest s) h Q)
-answered others v s (Ok h) P Q g a k = record {
-  tree = g.tree;
-  ends = g.ends;
-  once = g.once;
-  whole = g.whole;
-  told = k (plain g.tree) g.told (λ c. subst (λ (f : Forest). IsPlainAnswer v (plain f)) (last_tree g.ends) (a c));
-}
-answered others v s (Err e) P Q g a k = tt
+answered others v s r P Q h k a = grind (arith, last_tree)
 
 pub answer_as : (others rest : Forest) (s : State) (r : Result ℕ NumberFault) (P Q : Tree → Type 0) → IfOk r (λ h. Gives others (forest s) h P) → others ≡ rest → ((t : Tree) → P t → Q t) → IfOk r (λ h. Gives rest (forest s) h Q)
-answer_as others rest s (Ok h) P Q g e k = gives_as g e k
-answer_as others rest s (Err x) P Q g e k = tt
+answer_as others rest s r P Q h k a = grind (arith, gives_as)
 
 pub overflow_as : (r : Result ℕ NumberFault) (P Q : Overflow → Type 0) → IfOverflow r P → ((o : Overflow) → P o → Q o) → IfOverflow r Q
-overflow_as (Ok h) P Q p k = tt
-overflow_as (Err (fault.Full full)) P Q p k = tt
-overflow_as (Err (fault.Overflow o)) P Q p k = k o p
+overflow_as r P Q h k = grind arith
 
 -- an error that a `?` hands on
 pub overflow_on : {A B : Type 0} (q : Result A NumberFault) (r : Result B NumberFault) (e : NumberFault) (P Q : Overflow → Type 0) → q ≡ Err e → IfOverflow q P → IsErr r → IsErrAnd r (λ x. x ≡ e) → ((o : Overflow) → P o → Q o) → IfOverflow r Q
-overflow_on {A} {B} q (Ok h) e P Q is p n a k = let no : false ≡ true = n in cc
-overflow_on {A} {B} q (Err f) e P Q is p n a k = by f (subst (λ (x : NumberFault). IfOverflow {A = A} (Err x) P) (sym a) (subst (λ (x : Result A NumberFault). IfOverflow x P) is p))
-  where
-    by : (f : NumberFault) → IfOverflow {A = A} (Err f) P → IfOverflow {A = B} (Err f) Q
-    by (fault.Full full) p = tt
-    by (fault.Overflow o) p = k o p
+overflow_on q r e P Q h k a b c = grind arith
 
 -- an overflow, of trees that are defined
 pub overflowed_defined : {C D : Type 0} (v : PlainValue) (s : State) (r : Result ℕ NumberFault) (Q : Overflow → Type 0) → (C → AnswersRationals v s r) → IfErr r (OfOverflow (λ o. D)) → ((o : Overflow) → D → (C → IsPlainOverflow v o) → Q o)
     → IfOverflow r Q
-overflowed_defined v s (Ok h) Q a d k = tt
-overflowed_defined v s (Err (fault.Full full)) Q a d k = tt
-overflowed_defined v s (Err (fault.Overflow o)) Q a d k = k o d a
+overflowed_defined v s r Q h k a = grind arith
 
 -- what is said of the answer beside
 pub with_facts : (others : Forest) (s : State) (r : Result ℕ NumberFault) (P Q : Tree → Type 0) → IfOk r (λ h. Gives others (forest s) h P) → IfOk r (λ h. Q (tree_of h s)) → IfOk r (λ h. Gives others (forest s) h (λ t. P t × Q t))

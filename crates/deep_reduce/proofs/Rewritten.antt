@@ -1,6 +1,6 @@
 -- Whole powers that are rewritten: by which rule, and what the trees for them count.
 use Rattle.std.proofs.Common.{◌≡◌, ℕ, ℤ, suc, ◌+◌, ◌≤◌, List, inl, inr, Bool, true, false, not, ◌&&◌, if◌then◌else◌, Some, refl, sym, ap, ◌∙◌, subst, arith}
-use Rattle.deep_reduce.proofs.Shared.{and_parts, true≢false, Assignment, is_number, is_radicand, is_reduced, is_whole_num, is_num_one, split, split_product, num_one, NoneIs, number_test, counted, SpansTree, SpansTrees, whole_fraction, Tree, num, add, mult, power, root, Trees, none, more, count, is_mult, is_num, reduced_parts, IsReducedProduct, IsReducedPower, IsCalmAtZero, KeepsRoom, IsRewritten, whole_power_count, power_count, AreReducedPowers, IsLifted, IsMultiplied, IsProductOfPowers, base_in, exponent_in, half, parts_of, raised, rewritten_whole, parts_counted, whole_power_counts, as_whole, whole_no_half, HasFactors, product_factors, chosen, parts_span, whole_is, children_of, IsCalm, AreCalm, zeros, counted_in_all, product_whole, whole_number, counts_one, numbers_and_others, power_counts, of_a_power, of_a_root, not-true, and_right, not_from_true}
+use Rattle.deep_reduce.proofs.Shared.{and_parts, true≢false, Assignment, is_number, is_reduced, is_whole_num, is_num_one, split_product, NoneIs, number_test, counted, SpansTree, SpansTrees, whole_fraction, Tree, num, mult, power, root, Trees, none, more, count, is_mult, is_num, reduced_parts, IsReducedProduct, IsReducedPower, IsCalmAtZero, KeepsRoom, IsRewritten, whole_power_count, power_count, AreReducedPowers, IsLifted, IsMultiplied, IsProductOfPowers, base_in, exponent_in, half, parts_of, raised, rewritten_whole, parts_counted, whole_power_counts, as_whole, whole_no_half, HasFactors, product_factors, chosen, parts_span, whole_is, children_of, IsCalm, AreCalm, zeros, counted_in_all, product_whole, whole_number, counts_one, numbers_and_others, power_counts, of_a_power, of_a_root, not-true, and_right, not_from_true}
 use Rattle.deep_reduce.proofs.Calm.{calm_base, calm_exponent, calm_product, calm_power, calm_whole, whole_kept, whole_of_number}
 use Rattle.deep_reduce.proofs.JointBytes.{product_base}
 use Rattle.deep_reduce.proofs.JointRooms.{whole_numbers, whole_count_most}
@@ -131,24 +131,7 @@ parts_single ts r n = by (is_num_one (split_product ts).coefficient)
 
 module _ (f : Assignment) where
   split_calm : (ts : Trees) → AreCalm f ts → IsCalm f (split_product ts).coefficient × AreCalm f (split_product ts).factors
-  split_calm (more (num q) (more (root (num r)) ts)) (h, (k, hs)) = by (is_radicand r)
-    where
-      by : (b : Bool) → IsCalm f (if b then split (mult (more (num q) (more (root (num r)) none))) ts else split (num q) (more (root (num r)) ts)).coefficient
-          × AreCalm f (if b then split (mult (more (num q) (more (root (num r)) none))) ts else split (num q) (more (root (num r)) ts)).factors
-      by true = ((tt, (h, (k, tt))), hs)
-      by false = (h, (k, hs))
-  split_calm (more (num q) ts) (h, hs) = (h, hs)
-  split_calm (more (root (num r)) ts) (h, hs) = by (is_radicand r)
-    where
-      by : (b : Bool) → IsCalm f (if b then split (root (num r)) ts else split num_one (more (root (num r)) ts)).coefficient × AreCalm f (if b then split (root (num r)) ts else split num_one (more (root (num r)) ts)).factors
-      by true = (h, hs)
-      by false = (tt, (h, hs))
-  split_calm (more (add us) ts) (h, hs) = by (is_number (add us))
-    where
-      by : (b : Bool) → IsCalm f (if b then split (add us) ts else split num_one (more (add us) ts)).coefficient × AreCalm f (if b then split (add us) ts else split num_one (more (add us) ts)).factors
-      by true = (h, hs)
-      by false = (tt, (h, hs))
-  split_calm ts h = (tt, h)
+  split_calm ts h = grind arith
 
   pub parts_calm : (ts : Trees) → AreCalm f ts → AreCalm f (parts_of ts)
   parts_calm ts h = by (is_num_one (split_product ts).coefficient)

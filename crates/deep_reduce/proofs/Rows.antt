@@ -136,13 +136,4 @@ pub record AreAllReduced (i : ℕ) (ts : Trees) (old new : Forest) : Type 0 wher
   pub added : IsAdded kind.Mult i factors old new
 
 pub all_reduced : {i at : ℕ} {ts : Trees} {old new : Forest} → IsPartReduced i at ts old new → count ts ≤ at → AreAllReduced i ts old new
-all_reduced {i} {at} {ts} {old} {new} p l =
-    let few : count (append p.done p.rest) ≤ count p.done = omega (arith, ap count p.split, p.count-is, powers_count p.done p.reduced p.are) in
-    let left : p.rest ≡ none = none_left p.done p.rest few in
-    let first : append p.reduced p.rest ≡ p.reduced = ap (append p.reduced) left ∙ append-none p.reduced in
-    let whole : p.done ≡ ts = sym (p.split ∙ ap (append p.done) left ∙ append-none p.done) in
-    record {
-      factors = p.reduced;
-      are = subst (λ (x : Trees). AreReducedPowers x p.reduced) whole p.are;
-      added = record { now = p.now; kids = subst (Represents p.now) first p.kids; whole = p.whole; over = subst (λ (us : Trees). IsOver kind.Mult i us new) first p.over };
-    }
+all_reduced h k = grind (arith, powers_count, none_left, append-none)

@@ -1,8 +1,8 @@
 -- A product whose joint is reduced in its place.
-use Rattle.std.proofs.Common.{◌≡◌, ℕ, zero, suc, ◌+◌, ◌≤◌, ◌<◌, inl, inr, true, false, refl, sym, ap, ◌∙◌, subst, arith, add-one, Option, Some, None, MatchOption, IfSome}
+use Rattle.std.proofs.Common.{◌≡◌, ℕ, zero, suc, ◌+◌, ◌≤◌, ◌<◌, inl, inr, true, false, refl, sym, ap, ◌∙◌, subst, arith, add-one, Option, MatchOption, IfSome}
 use Rattle.deep_reduce.proofs.Shared.{and_parts, Contains-append_left, Contains-append_right, Contains-append_cases, nest, nest_of, weight, load_of_factor, load_of_factors, is_reduced, is_opaque_exponent, base_of, are_reduced, Tree, add, mult, power, Trees, none, more, count, is_mult, names, KeepsMeanings-refl, KeepsMeanings-power, IsReducedProduct, IsReducedPower, counted, KeepsRoom, KeepsSumRoom, nest_of_joint, replaced, Joins, joins_gathered, joins_pair, joins_then, HandsOn, IsLess, IsSummed, IsSettled, AddsCounts, IsHeldAsProduct, removed, base_in, exponent_in, AreJoinable, IsFinished, IsGathered, exponent_of, have_partners, IsJointAt, IsNextPair, IsPairAt, NoPairBetween, joined_pair, joint_there, neighbours_joint, Rewrites, keeps, kept, Rewrites-refl, Rewrites-trans, rewrites_of, reduces_after, IsSumAnswer, nth, children_of, load_product, base_is_reduced, exponent_is_reduced}
 use Rattle.deep_reduce.proofs.Clashes.{contrary, undef_words}
-use Rattle.deep_reduce.proofs.Heavy.{base_reduced, exponent_reduced, some_weight, factor_load, over_power}
+use Rattle.deep_reduce.proofs.Heavy.{some_weight, factor_load, over_power}
 use Rattle.deep_reduce.proofs.Joined.{JointsBelow, IsLessLoaded, pair_loaded, numbers_opened, factors_rewritten, pair_rewritten}
 use Rattle.deep_reduce.proofs.JointRooms.{settled_hands_on, hands_on_next, keeps_next}
 use Rattle.deep_reduce.proofs.HeldJoints.{first_reduced, settled_held}
@@ -119,17 +119,7 @@ answered t s r j sum answer =
     (subst (λ (x : Tree). IsSumAnswer (children_of (exponent_in x)) s) j-is sum) (subst (λ (x : Tree). IsReducedPower (base_in x) s r) j-is answer))
 
 pub joint_at : {at : ℕ} {ts : Trees} → IsJointAt at ts → IsJoint (nth at ts)
-joint_at j = record {
-  base = base_of j.first;
-  first = exponent_of j.first;
-  second = exponent_of j.second;
-  is = j.is;
-  base_reduced = base_is_reduced j.first j.first_reduced;
-  first_reduced = exponent_is_reduced j.first j.first_reduced;
-  second_reduced = exponent_is_reduced j.second j.second_reduced;
-  first_transparent = transparent_exponent j.first;
-  second_transparent = transparent_exponent j.second;
-}
+joint_at h = grind (arith, base_is_reduced, exponent_is_reduced, transparent_exponent)
 
 -- ---- the product is reduced on
 
@@ -224,8 +214,7 @@ pub gathered_product : (ts : Trees) (u : Tree) → IsGathered ts u → is_mult u
 gathered_product ts u g = ap is_mult g.is
 
 pub some_pair : (from : ℕ) (ts : Trees) (r : Option ℕ) → MatchOption r (NoPairBetween from (count ts) ts) (λ at. IsNextPair from at ts) → IfSome r (λ at. IsPairAt at ts)
-some_pair from ts None h = tt
-some_pair from ts (Some at) h = h.pair
+some_pair from ts r h = grind arith
 
 pub product_after : (ts : Trees) (c v t : Tree) → are_reduced ts ≡ true → AreJoinable c ts → IsLess ts v → IsReducedProduct (children_of v) t → IsReducedProduct ts t
 product_after ts c v t r j l a = record {

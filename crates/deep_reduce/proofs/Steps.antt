@@ -1,6 +1,6 @@
 -- What the calls on sums, products, powers and roots answer, as answers of a node.
 use Rattle.std.proofs.Common.{◌≡◌, ℕ, ◌<◌, ◌⊎◌, inl, inr, true, false, ◌&&◌, List, length, refl, sym, ap, ◌∙◌, subst, arith, append-nil, ◌||◌, Contains, [], ◌++◌}
-use Rattle.deep_reduce.proofs.Shared.{fraction_fits, add_op, mul_op, Fraction, minus_one_fraction, negative, zero_fraction, one_fraction, is_number, value, PlainValue, exactly, undefined, overflow, nothing, calculated, plain_value, is_reduced, int_is_negative, Tree, num, symbol, undef, add, mult, power, root, neg, sub, div, Trees, none, more, names, is_undef, is_num, IsPart, IsPartOf, itself, in_add, in_mult, in_base, in_exponent, in_root, in_neg, in_left, in_right, in_dividend, in_divisor, first, later, has_undef, are_rationals, IsReducedProduct, IsReducedPower, IsNodeAnswer, IsNodeOverflow, has_no_value, SpansTree, KeepsSumRoom, base_in, IfRational, IsRootAnswer, Overflow, keeps, kept, Rewrites-refl, reduces, reduces_after, IsPlainAnswer, IsPlainOverflow, HasNoNewName, Rewrites, Reduces, IsNoLargerThanRoot, IsSumHeld, addends_of_each, IsTreeHeld, IsSumAnswer, children_of, and_from, and_parts, or_cases, or_from, or_left, or_right, or_parts, number_reduced, symbol_reduced, undef_reduced, as_num, undef_inside, rationals_defined, KeepsNodeRoom, node_count, KeepsRootRoom, HoldsNode, has_number, is_half_num, exponent_in, IsFactorHeld}
+use Rattle.deep_reduce.proofs.Shared.{fraction_fits, mul_op, Fraction, minus_one_fraction, negative, zero_fraction, one_fraction, is_number, value, PlainValue, exactly, undefined, overflow, nothing, calculated, plain_value, is_reduced, int_is_negative, Tree, num, symbol, undef, add, mult, power, root, neg, sub, div, Trees, none, more, names, is_undef, is_num, IsPart, IsPartOf, itself, in_add, in_mult, in_base, in_exponent, in_root, in_neg, in_left, in_right, in_dividend, in_divisor, first, later, has_undef, are_rationals, IsReducedProduct, IsReducedPower, IsNodeAnswer, IsNodeOverflow, has_no_value, SpansTree, KeepsSumRoom, base_in, IfRational, IsRootAnswer, Overflow, keeps, kept, Rewrites-refl, reduces, reduces_after, IsPlainAnswer, HasNoNewName, Rewrites, Reduces, IsNoLargerThanRoot, IsSumHeld, addends_of_each, IsTreeHeld, IsSumAnswer, children_of, and_from, and_parts, or_cases, or_from, or_left, or_right, or_parts, number_reduced, symbol_reduced, undef_reduced, as_num, undef_inside, rationals_defined, KeepsNodeRoom, node_count, KeepsRootRoom, HoldsNode, has_number, is_half_num, exponent_in, IsFactorHeld}
 use Rattle.deep_reduce.proofs.Clashes.{undef_words, undef_test, rational_number}
 use Rattle.calc_algebra.proofs.UndefRewrites.{undef_part}
 use Rattle.deep_reduce.proofs.EasyNodes.{number_defined}
@@ -28,8 +28,7 @@ in_two a b u f g (later (first k)) = g k
 in_two a b u f g (later (later k)) = elim k [ ]
 
 in_one : (a u : Tree) → (IsPart undef a → IsPart undef u) → IsPartOf undef (more a none) → IsPart undef u
-in_one a u f (first k) = f k
-in_one a u f (later k) = elim k [ ]
+in_one a u h k = grind arith
 
 undef_child : (u : Tree) → IsPartOf undef (children_of u) → IsPart undef u
 undef_child undef k = itself
@@ -51,16 +50,7 @@ right_undefined a c e = or_right (is_undef a) (is_undef c || false) (or_left (is
 
 -- a node with an Undef child
 pub undefined_answer : (u : Tree) → has_undef (children_of u) ≡ true → IsNodeAnswer u undef
-undefined_answer u e = record {
-  reduces = record { reduced = undef_reduced; no_new_name = no_names u undef refl; meanings = keeps (undef_part u (undef_child u (undef_inside (children_of u) e))) };
-  undefined = λ h. refl;
-  number = λ h n. absurd (let y : has_no_value u ≡ true = undef_has_no_value u e in cc);
-  rational = λ h. absurd (let n : has_undef (children_of u) ≡ false = rationals_defined (children_of u) h in cc);
-  room = undef_room u;
-  root_room = λ h. undef_root_room (base_in u) undef refl;
-  held = λ d. absurd (let f : true ≡ false = d in cc);
-  leaf = leaf_no_children u e;
-}
+undefined_answer u h = grind (arith, undef_reduced, no_names, keeps, undef_part, undef_child, undef_inside, undef_has_no_value, rationals_defined, undef_room, undef_root_room, leaf_no_children)
 
 -- ---- leaves
 
@@ -105,16 +95,7 @@ empty_sum_answer r e = subst (IsNodeAnswer (add none)) (sym e) (record {
 })
 
 pub empty_product_answer : (r : Tree) → r ≡ num one_fraction → IsNodeAnswer (mult none) r
-empty_product_answer r e = subst (IsNodeAnswer (mult none)) (sym e) (record {
-  reduces = record { reduced = number_reduced one_fraction; no_new_name = no_names (mult none) (num one_fraction) refl; meanings = keeps rewrites.empty_product };
-  undefined = λ h. cc;
-  number = λ h n. rational_number one_fraction;
-  rational = λ h. tt;
-  room = number_room (mult none) one_fraction;
-  root_room = λ h. cc;
-  held = λ d h l k. one_held h l;
-  leaf = λ h. cc;
-})
+empty_product_answer r h = grind (arith, number_reduced, no_names, keeps, rational_number, number_room, one_held)
 
 -- ---- opposites
 
@@ -126,10 +107,7 @@ neg_rewrites a = record { no_new_name = record { name = λ x c. one_name (names 
 
 module _ (a r : Tree) (fit : (q : Fraction) → a ≡ num q → fraction_fits q ≡ true) where
   neg_value : (q : Fraction) → a ≡ num q → plain_value (mult (two (num minus_one_fraction) a)) ≡ exactly (negative q)
-  neg_value q e = ap (λ t. plain_value (mult (two (num minus_one_fraction) t))) e ∙ opposite_fold (calculated mul_op minus_one_fraction q) (opposite_value q (fit q e))
-    where
-      opposite_fold : (v : PlainValue) → v ≡ exactly (negative q) → (elim v [ exactly x ↦ exactly x | undefined ↦ undefined | overflow o a b ↦ overflow o a b | nothing ↦ nothing ]) ≡ exactly (negative q)
-      opposite_fold v e = ap (λ (w : PlainValue). elim w [ exactly x ↦ exactly x | undefined ↦ undefined | overflow o a b ↦ overflow o a b | nothing ↦ nothing ]) e
+  neg_value q h = grind (arith, opposite_value)
 
   pub neg_answer : IsNodeAnswer (mult (two (num minus_one_fraction) a)) r → IsNodeAnswer (neg a) r
   neg_answer h = record {
@@ -147,12 +125,7 @@ module _ (a r : Tree) (fit : (q : Fraction) → a ≡ num q → fraction_fits q 
   }
 
   pub neg_overflow : (o : Overflow) → IsNodeOverflow (mult (two (num minus_one_fraction) a)) o → IsNodeOverflow (neg a) o
-  neg_overflow o h = record {
-    defined = h.defined;
-    rational = λ e.
-        let (q, is) = as_num a (and_parts (is_num a) true e).0 in
-        absurd (subst (λ (v : PlainValue). IsPlainOverflow v o) (neg_value q is) (h.rational e));
-  }
+  neg_overflow o h = grind (arith, as_num, and_parts, neg_value)
 
 -- ---- differences
 
@@ -167,11 +140,7 @@ two_rationals p q a c e f = λ i. is_num (e i) && (is_num (f i) && true)
 
 -- the plain value of a sum or product of two rationals
 computed : (v : PlainValue) → (elim v [ exactly x ↦ exactly x | undefined ↦ undefined | overflow o a b ↦ overflow o a b | nothing ↦ nothing ]) ≡ v
-computed (exactly x) = refl
-computed v = refl
-
-sum_value : (p q : Fraction) → plain_value (add (two (num p) (num q))) ≡ calculated add_op p q
-sum_value p q = computed (calculated add_op p q)
+computed v = grind arith
 
 pub product_value : (p q : Fraction) → plain_value (mult (two (num p) (num q))) ≡ calculated mul_op p q
 product_value p q = computed (calculated mul_op p q)
@@ -198,8 +167,7 @@ module _ (a b c : Tree) (known : IsNodeAnswer (neg b) c) where
   opposite_is q e = subst (λ (t : Tree). IsPlainAnswer (plain_value (neg t)) c) e (known.rational (one_rational b q e))
 
   difference_value : (d : AreTwo a b) → plain_value (add (two a c)) ≡ plain_value (sub a b)
-  difference_value d =
-      (λ i. plain_value (add (two (d.left-is i) (opposite_is d.right d.right-is i)))) ∙ sum_value d.left (negative d.right) ∙ sym (λ i. plain_value (sub (d.left-is i) (d.right-is i)))
+  difference_value d = grind (arith, opposite_is, computed)
 
   sides_rational : are_rationals (two a b) ≡ true → are_rationals (two a c) ≡ true
   sides_rational e = let d = are_two a b e in two_rationals d.left (negative d.right) a c d.left-is (opposite_is d.right d.right-is)
@@ -225,14 +193,8 @@ module _ (a b c : Tree) (known : IsNodeAnswer (neg b) c) where
 
   -- the sum does not fit
   pub sub_overflow : (o : Overflow) → IsNodeOverflow (add (two a c)) o → has_undef (two a b) ≡ false → IsNodeOverflow (sub a b) o
-  sub_overflow o h d = record {
-    defined = d;
-    rational = λ e. subst (λ (v : PlainValue). IsPlainOverflow v o) (difference_value (are_two a b e)) (h.rational (sides_rational e));
-  }
+  sub_overflow o h k = grind (arith, difference_value, are_two, sides_rational)
 
 -- the opposite of a rational fits
 pub opposite_overflow : (a b : Tree) (o : Overflow) → IsNodeOverflow (neg b) o → has_undef (two a b) ≡ false → IsNodeOverflow (sub a b) o
-opposite_overflow a b o h d = record {
-  defined = d;
-  rational = λ e. let t = are_two a b e in absurd (subst (λ (u : Tree). IsPlainOverflow (plain_value (neg u)) o) t.right-is (h.rational (one_rational b t.right t.right-is)));
-}
+opposite_overflow a b o h k = grind (arith, are_two, one_rational)

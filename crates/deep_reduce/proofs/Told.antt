@@ -10,42 +10,33 @@ use Rattle.calc_terms.specs.declared.kind.Kind.TheVariants as kind
 -- ---- kinds
 
 pub power_kind : (t : Tree) → kind.Pow ≡ root_kind t → t ≡ power (base_in t) (exponent_in t)
-power_kind (power b e) k = refl
-power_kind t k = cc
+power_kind t h = grind arith
 
 pub root_kind_is : (t : Tree) → kind.Root ≡ root_kind t → is_root t ≡ true
-root_kind_is (root a) e = refl
-root_kind_is t e = cc
+root_kind_is t h = grind arith
 
 pub neg_kind : (t : Tree) → kind.Neg ≡ root_kind t → is_neg t ≡ true
-neg_kind (neg a) e = refl
-neg_kind t e = cc
+neg_kind t h = grind arith
 
 pub sub_kind : (t : Tree) → kind.Sub ≡ root_kind t → is_sub t ≡ true
-sub_kind (sub a b) e = refl
-sub_kind t e = cc
+sub_kind t h = grind arith
 
 pub div_kind : (t : Tree) → kind.Div ≡ root_kind t → is_div t ≡ true
-div_kind (div a b) e = refl
-div_kind t e = cc
+div_kind t h = grind arith
 
 -- ---- the node by its children
 
 pub root_is : (t : Tree) → is_root t ≡ true → t ≡ root (argument_of t)
-root_is (root a) e = refl
-root_is t e = cc
+root_is t h = grind arith
 
 pub neg_is : (t : Tree) → is_neg t ≡ true → t ≡ neg (nth 0 (children_of t))
-neg_is (neg a) e = refl
-neg_is t e = cc
+neg_is t h = grind arith
 
 pub sub_is : (t : Tree) → is_sub t ≡ true → t ≡ sub (nth 0 (children_of t)) (nth 1 (children_of t))
-sub_is (sub a b) e = refl
-sub_is t e = cc
+sub_is t h = grind arith
 
 pub div_is : (t : Tree) → is_div t ≡ true → t ≡ div (nth 0 (children_of t)) (nth 1 (children_of t))
-div_is (div a b) e = refl
-div_is t e = cc
+div_is t h = grind arith
 
 pub neg_children : (t : Tree) → is_neg t ≡ true → children_of t ≡ more (nth 0 (children_of t)) none
 neg_children t e = ap children_of (neg_is t e)
@@ -67,13 +58,11 @@ product_told (mult ts) r e a p = product_answer ts r a p
 product_told t r e a p = cc
 
 pub power_told : (t r : Tree) → t ≡ power (base_in t) (exponent_in t) → IsReducedPower (base_in t) (exponent_in t) r → (are_rationals (children_of t) ≡ true → IsPlainAnswer (plain_value t) r) → IsNodeAnswer t r
-power_told (power b e) r k a p = power_answer b e r a p
-power_told t r k a p = cc
+power_told t r h k a = grind (arith, power_answer)
 
 -- both sides are rationals
 pub power_sides : (t : Tree) → t ≡ power (base_in t) (exponent_in t) → are_rationals (children_of t) ≡ true → (is_num (base_in t) ≡ true) × (is_num (exponent_in t) ≡ true)
-power_sides (power b e) k h = ((and_parts (is_num b) (is_num e && true) h).0, (and_parts (is_num e) true (and_parts (is_num b) (is_num e && true) h).1).0)
-power_sides t k h = cc
+power_sides t h k = grind (arith, and_parts)
 
 -- both sides are rationals, and the exponent is no half
 pub record IsRationalPower (t : Tree) : Type 0 where
@@ -91,10 +80,7 @@ pub rational_answer : (t r : Tree) → t ≡ power (base_in t) (exponent_in t) �
 rational_answer t r k p h = elim (cases_Bool (is_half_num (exponent_in t))) [ inl e ↦ subst (λ (v : PlainValue). IsPlainAnswer v r) (sym (half_plain t k h e)) tt | inr e ↦ p (record { rationals = h; no_half = e }) ]
 
 pub rational_overflow : (t : Tree) (o : Overflow) → t ≡ power (base_in t) (exponent_in t) → (IsRationalPower t → IsPlainOverflow (plain_value t) o) → are_rationals (children_of t) ≡ true → IsPlainOverflow (plain_value t) o
-rational_overflow t o k p h = elim (cases_Bool (is_half_num (exponent_in t))) [
-  | inl e ↦ subst (λ (v : PlainValue). IsPlainOverflow v o) (sym (half_plain t k h e)) tt
-  | inr e ↦ p (record { rationals = h; no_half = e })
-]
+rational_overflow t o h k a = grind (arith, cases_Bool, half_plain)
 
 pub inverse_no_half : (t b : Tree) → t ≡ power b (num minus_one_fraction) → is_half_num (exponent_in t) ≡ false
 inverse_no_half t b e = ap (λ (u : Tree). is_half_num (exponent_in u)) e ∙ whole_no_half (num minus_one_fraction) (whole_is (negsuc 0))
@@ -103,8 +89,7 @@ sides_reduced : (a b : Tree) → are_reduced (two a b) ≡ true → (is_reduced 
 sides_reduced a b h = let (x, y) = and_parts (is_reduced a) (is_reduced b && true) h in (x, (and_parts (is_reduced b) true y).0)
 
 pub power_reduced : (t : Tree) → t ≡ power (base_in t) (exponent_in t) → are_reduced (children_of t) ≡ true → (is_reduced (base_in t) ≡ true) × (is_reduced (exponent_in t) ≡ true)
-power_reduced (power b e) k h = sides_reduced b e h
-power_reduced t k h = cc
+power_reduced t h k = grind (arith, sides_reduced)
 
 pub root_told : (t r : Tree) → is_root t ≡ true → is_reduced (argument_of t) ≡ true → IsRootAnswer (argument_of t) r → ((gs : List ℕ) → SpansTree gs t → SpansTree gs r)
     → IfRational (argument_of t) (λ q. int_is_negative q.num ≡ false → IsNoLargerThanRoot q (value r)) → IsNodeAnswer t r
@@ -112,14 +97,11 @@ root_told (root a) r e x h s m = root_answer a r x h s m
 root_told t r e x h s m = cc
 
 pub argument_reduced : (t : Tree) → is_root t ≡ true → are_reduced (children_of t) ≡ true → is_reduced (argument_of t) ≡ true
-argument_reduced (root a) e h = (and_parts (is_reduced a) true h).0
-argument_reduced t e h = cc
+argument_reduced t h k = grind (arith, and_parts)
 
 -- a root of rationals has no plain value
 pub root_overflow : (t : Tree) (o : Overflow) → is_root t ≡ true → NamesProduct (argument_of t) o → IsNodeOverflow t o
-root_overflow (root (num q)) o e h = record { defined = refl; rational = λ r. tt }
-root_overflow (root a) o e h = absurd h
-root_overflow t o e h = cc
+root_overflow t o h k = grind arith
 
 pub empty_sum_told : (t r : Tree) → is_add t ≡ true → count (children_of t) ≡ 0 → r ≡ num (whole_fraction (pos 0)) → IsNodeAnswer t r
 unfolding zero_fraction

@@ -1,5 +1,5 @@
 -- What holds the answers of children holds the node over them, by the bounds of the tree.
-use Rattle.std.proofs.Common.{◌≡◌, ℕ, suc, ◌+◌, ◌*◌, ◌^◌, ◌≤◌, max, ℤ, pos, negsuc, Bool, true, false, ◌&&◌, ◌||◌, Option, Some, None, refl, sym, ap, ◌∙◌, subst, arith}
+use Rattle.std.proofs.Common.{◌≡◌, ℕ, ◌+◌, ◌^◌, ◌≤◌, max, ℤ, Bool, true, false, ◌&&◌, ◌||◌, Option, Some, None, refl, sym, ap, ◌∙◌, subst, arith}
 use Rattle.deep_reduce.proofs.Shared.{and_parts, mul-le, pow-add, pow-le-pow_right, whole_literal, half_literal, or_literal, is_whole_literal, is_half_literal, HighLow, all_simple, are_all_simple, is_simple_power, power_bounds, bounds, bounds_of_terms, bounds_of_factors, high, low, Tree, num, symbol, add, mult, power, root, neg, div, Trees, none, more, is_num, is_symbol, is_undef, has_undef, is_leaf, HoldsPower, holds_whole, holds_half, holds_kept, HoldsNode, IsNodeAnswer, IsReducedFrom, IsFactorHeld, AreFactorsHeld, none_held, AreTreesHeld, raised_high, raised_low, factor_is_held, symbol_is_held, children_of, or_parts, number_reduced, or_from}
 use Rattle.deep_reduce.proofs.Clashes.{clash, or_other}
 use Rattle.deep_reduce.proofs.HeldFactors.{factor_tree, tree_factor, undef_factor}
@@ -14,15 +14,7 @@ use Rattle.tree_bits.proofs.Rows.{rational_row, sum_row, rational_to_symbol, sym
 -- ---- where high is 0
 
 zero_power : (m : Option ℤ) (b : HighLow) → (b.high ≡ 0 → b.low ≡ 0) → (power_bounds m b).high ≡ 0 → (power_bounds m b).low ≡ 0
-zero_power (Some (pos n)) b k e =
-    let l : 1 * b.high ≤ max 1 n * b.high = mul-le 1 b.high (max 1 n) b.high (omega arith) (omega arith) in
-    omega (arith, ap (λ (x : ℕ). max 1 n * x) (k (omega (arith, l, e))))
-zero_power (Some (negsuc n)) b k e =
-    let l : 1 * (b.high + 2 * b.low) ≤ suc n * (b.high + 2 * b.low) = mul-le 1 (b.high + 2 * b.low) (suc n) (b.high + 2 * b.low) (omega arith) (omega arith) in
-    let h : b.high ≡ 0 = omega (arith, l, e) in
-    let z : 2 * b.high + 2 * b.low ≡ 0 = omega (arith, h, k h) in
-    omega (arith, ap (λ (x : ℕ). suc n * x) z)
-zero_power None b k e = k e
+zero_power m b h k = grind (arith, mul-le)
 
 mutual
   pub zero_high : (t : Tree) → high t ≡ 0 → low t ≡ 0
@@ -62,18 +54,10 @@ factors_held ts us s h d = absurd h
 -- ---- powers
 
 row_most : (n : ℤ) (b : HighLow) → (raised_high n b.high b.low ≤ (power_bounds (Some n) b).high) × (raised_low n b.high b.low ≤ (power_bounds (Some n) b).low)
-row_most (pos n) b = (mul-le n b.high (max 1 n) b.high (omega arith) (omega arith), mul-le n b.low (max 1 n) b.low (omega arith) (omega arith))
-row_most (negsuc n) b = (omega arith, omega arith)
+row_most n b = grind (arith, mul-le)
 
 base_most : (n : ℤ) (b : HighLow) → (b.high ≤ (power_bounds (Some n) b).high) × (b.low ≤ (power_bounds (Some n) b).low)
-base_most (pos n) b =
-    let x : 1 * b.high ≤ max 1 n * b.high = mul-le 1 b.high (max 1 n) b.high (omega arith) (omega arith) in
-    let y : 1 * b.low ≤ max 1 n * b.low = mul-le 1 b.low (max 1 n) b.low (omega arith) (omega arith) in
-    (omega (arith, x), omega (arith, y))
-base_most (negsuc n) b =
-    let x : 1 * (b.high + 2 * b.low) ≤ suc n * (b.high + 2 * b.low) = mul-le 1 (b.high + 2 * b.low) (suc n) (b.high + 2 * b.low) (omega arith) (omega arith) in
-    let y : 1 * (2 * b.high + 2 * b.low) ≤ suc n * (2 * b.high + 2 * b.low) = mul-le 1 (2 * b.high + 2 * b.low) (suc n) (2 * b.high + 2 * b.low) (omega arith) (omega arith) in
-    (omega (arith, x), omega (arith, y))
+base_most n b = grind (arith, mul-le)
 
 -- the row is by the exponent n
 record IsRow (b e : Tree) (n : ℤ) : Type 0 where
@@ -85,22 +69,16 @@ row_is b e n o = record { high = omega (arith, ap (λ (m : Option ℤ). (power_b
 
 -- a symbol as the exponent of a rational or of a symbol
 symbol_power : (b e : Tree) → (is_num b || is_symbol b) ≡ true → is_symbol e ≡ true → IsFactorHeld (power b e) (high (power b e)) (low (power b e))
-symbol_power (num q) (symbol x) h k = factor_is_held (power (num q) (symbol x)) (high (power (num q) (symbol x))) (low (power (num q) (symbol x))) refl (omega arith) (rational_to_symbol q x)
-symbol_power (symbol y) (symbol x) h k = factor_is_held (power (symbol y) (symbol x)) (high (power (symbol y) (symbol x))) (low (power (symbol y) (symbol x))) refl (omega arith) (symbol_to_symbol y x)
-symbol_power b e h k = cc
+symbol_power b e h k = grind (arith, factor_is_held, high, rational_to_symbol, symbol_to_symbol)
 
 leaf_of : (b : Tree) → (is_num b || is_symbol b) ≡ true → is_leaf b ≡ true
-leaf_of (num q) h = refl
-leaf_of (symbol x) h = refl
-leaf_of b h = cc
+leaf_of b h = grind arith
 
 symbol_leaf : (e : Tree) → is_symbol e ≡ true → (is_leaf e ≡ true) × (is_num e ≡ false)
-symbol_leaf (symbol x) h = (refl, refl)
-symbol_leaf e h = cc
+symbol_leaf e h = grind arith
 
 no_literal : (o : Option ℤ) → o ≡ None → (elim o [ Some n ↦ true | None ↦ false ]) ≡ false
-no_literal None e = refl
-no_literal (Some n) e = cc
+no_literal o h = grind arith
 
 power_holds : (b c e f : Tree) → is_simple_power b e ≡ true → all_simple b ≡ true → IsReducedFrom b c → IsReducedFrom e f → is_undef c ≡ false → HoldsPower c f (high (power b e)) (low (power b e))
 power_holds b c e f s p h k d = by (whole_literal e) (half_literal e) refl refl
@@ -127,10 +105,7 @@ power_holds b c e f s p h k d = by (whole_literal e) (half_literal e) refl refl
 -- ---- the node
 
 two_powers : (h k : ℕ) → 2 ^ h + 2 ^ k ≤ 2 ^ (max h k + 1)
-two_powers h k =
-    let a : 2 ^ h ≤ 2 ^ max h k = pow-le-pow_right {n = 2} (omega arith) (omega arith) in
-    let b : 2 ^ k ≤ 2 ^ max h k = pow-le-pow_right {n = 2} (omega arith) (omega arith) in
-    omega (arith, pow-add 2 (max h k) 1)
+two_powers h k = grind (arith, pow-le-pow_right, pow-add)
 
 pub holds_over : (t u : Tree) → all_simple t ≡ true → IsOver t u → has_undef (children_of u) ≡ false → HoldsNode u (high t) (low t)
 holds_over t u s (over_number q) d = tree_factor (num q) (number_reduced q) refl (rational_row q)

@@ -1,6 +1,6 @@
 -- A tree whose powers are simple, and the answers of its children: what they count, that they are calm, and what spans them.
 use Rattle.std.proofs.Common.{◌≡◌, ℕ, suc, ◌+◌, ◌*◌, ◌≤◌, ◌<◌, ◌⊎◌, inl, inr, ◌<ℤ◌, pos, negsuc, ℤ, List, [], ◌∷◌, ◌++◌, length, Bool, true, false, ◌&&◌, ◌||◌, if◌then◌else◌, refl, ap, ◌∙◌, arith, Contains}
-use Rattle.deep_reduce.proofs.Shared.{and_parts, ints, Contains-append_left, Contains-append_right, IsAssignment, natural_of, is_half_num, is_whole_num, is_whole_literal, is_half_literal, all_simple, are_all_simple, is_simple_power, roots, roots_of, counted, SpansTree, SpansTrees, Tree, num, symbol, add, mult, power, root, neg, sub, Trees, none, more, nodes, names, names_of, is_num, is_symbol, HasNodesFor, SpansNode, node_count, IsNodeAnswer, IsReducedFrom, IsWithinTree, IsCalmAtZero, SpansRootOf, whole_power_count, power_count, base_in, exponent_in, CountWithin, IsCalm, AreCalm, MeansWhole, zeros, literal_whole, counts_one, numbers_and_others, symbol_zero, each_once}
+use Rattle.deep_reduce.proofs.Shared.{and_parts, ints, Contains-append_left, Contains-append_right, IsAssignment, natural_of, is_half_num, is_whole_literal, is_half_literal, all_simple, are_all_simple, is_simple_power, roots, roots_of, counted, SpansTree, SpansTrees, Tree, num, symbol, add, mult, power, root, neg, sub, Trees, none, more, nodes, names, names_of, is_num, is_symbol, HasNodesFor, SpansNode, node_count, IsNodeAnswer, IsReducedFrom, IsWithinTree, IsCalmAtZero, SpansRootOf, power_count, base_in, exponent_in, CountWithin, IsCalm, AreCalm, MeansWhole, zeros, literal_whole, counts_one, numbers_and_others, symbol_zero, each_once}
 use Rattle.deep_reduce.proofs.Rewritten.{some_counted}
 use Rattle.std.proofs.lemmas.List.{length-append}
 use Rattle.deep_reduce.proofs.Calm.{whole_kept}
@@ -122,14 +122,7 @@ ready_product ts us s h =
     }
 
 power_counted : (c f : Tree) (n : ℕ) → 1 + counted c + counted f ≤ n → power_count c f ≤ n
-power_counted c f n h = by (is_whole_num f) refl
-  where
-    other : is_whole_num f ≡ false → counted (power c f) ≡ suc (counted c + counted f)
-    other e = ap (λ (z : Bool). if z then counted c else suc (counted c + counted f)) e
-
-    by : (z : Bool) → is_whole_num f ≡ z → (if z then whole_power_count c else counted (power c f)) ≤ n
-    by true e = omega (arith, h, whole_count_most c, counts_one f)
-    by false e = omega (arith, h, other e)
+power_counted c f n h = grind (arith, whole_count_most, counts_one)
 
 -- an exponent that means a whole number where the names are 0
 ready_power : (b c e f : Tree) → all_simple b ≡ true → all_simple e ≡ true → IsReducedFrom b c → IsReducedFrom e f
@@ -188,16 +181,7 @@ ready_root a c s h =
     }
 
 ready_neg : (a c : Tree) → all_simple a ≡ true → IsReducedFrom a c → IsReadyNode (neg a) (neg c)
-ready_neg a c s h =
-    let x = h.room s in
-    record {
-      fits = omega (arith, x.counts);
-      counts = omega (arith, x.counts);
-      radicands = x.radicands;
-      few = x.few;
-      spanned = (tt, x.spanned);
-      calm = λ ns o k. (tt, x.calm ns o k);
-    }
+ready_neg a c h k = grind arith
 
 ready_sub : (a c b d : Tree) → all_simple a && all_simple b ≡ true → IsReducedFrom a c → IsReducedFrom b d → IsReadyNode (sub a b) (sub c d)
 ready_sub a c b d s h k =
@@ -218,10 +202,7 @@ ready t u s (over_symbol x) = inl (record { fits = omega arith; counts = omega a
 ready t u s over_undef = inl (record { fits = omega arith; counts = omega arith; radicands = []; few = omega arith; spanned = tt; calm = λ ns o a. tt })
 ready t u s (over_sum ts us h) = inl (ready_sum ts us s h)
 ready t u s (over_product ts us h) = inl (ready_product ts us s h)
-ready t u s (over_power b c e f h k) =
-    let (xy, q) = and_parts (is_simple_power b e && all_simple b) (all_simple e) s in
-    let (x, p) = and_parts (is_simple_power b e) (all_simple b) xy in
-    simple_power b c e f x p q h k
+ready t u s (over_power b c e f h k) = grind (arith, and_parts, simple_power)
 ready t u s (over_root a c h) = inl (ready_root a c s h)
 ready t u s (over_neg a c h) = inl (ready_neg a c s h)
 ready t u s (over_sub a c b d h k) = inl (ready_sub a c b d s h k)

@@ -34,6 +34,7 @@ use tree_handles::{
 };
 
 /// -1 times the argument.
+#[tactic(auto, using(crate::proofs::Parents::alone_out, crate::proofs::Told::neg_children))]
 pub(crate) fn negate(pool: &mut Pool, opposite: Handle) -> Result<Handle, NumberFault>
     requires stands { Stands pool.old }
     requires handed { IsHanded opposite (forest pool.old) }
@@ -56,6 +57,7 @@ pub(crate) fn negate(pool: &mut Pool, opposite: Handle) -> Result<Handle, Number
 }
 
 /// The left and -1 times the right, added. An Undef side decides before the right is multiplied.
+#[tactic(auto, using(crate::proofs::Told::sub_children))]
 pub(crate) fn subtract(pool: &mut Pool, difference: Handle) -> Result<Handle, NumberFault>
     requires stands { Stands pool.old }
     requires handed { IsHanded difference (forest pool.old) }
@@ -81,6 +83,7 @@ pub(crate) fn subtract(pool: &mut Pool, difference: Handle) -> Result<Handle, Nu
 }
 
 /// The dividend and the divisor to the power -1, multiplied. An Undef side decides before the divisor is inverted.
+#[tactic(auto, using(crate::proofs::Told::div_children))]
 pub(crate) fn divide(pool: &mut Pool, quotient: Handle) -> Result<Handle, NumberFault>
     requires stands { Stands pool.old }
     requires handed { IsHanded quotient (forest pool.old) }
@@ -106,6 +109,7 @@ pub(crate) fn divide(pool: &mut Pool, quotient: Handle) -> Result<Handle, Number
 }
 
 /// The sum or the product of two sides, the right of which stands last.
+#[tactic(auto, using(tree_handles::proofs::Given::given_told, tree_handles::proofs::Given::given_handed))]
 fn join_sides(
     pool: &mut Pool,
     kind: Kind,
@@ -142,6 +146,7 @@ fn join_sides(
 }
 
 /// -1 times a reduced tree.
+#[tactic(auto, using(tree_handles::proofs::Fronts::front_after, tree_handles::proofs::Fronts::front_same, tree_handles::proofs::Given::given_handed, tree_handles::proofs::Given::given_apart, tree_handles::proofs::Fronts::front_after_two, tree_handles::proofs::Fronts::behind_new, tree_handles::proofs::Fronts::behind_first, tree_handles::proofs::Fronts::front_end, coefficients::proofs::Free::number_refused, tree_handles::proofs::Outcomes::passed_on, crate::proofs::NodeBytes::opposite_lacks, tree_handles::proofs::Room::given_free, tree_handles::proofs::Given::given_told, calc_room::proofs::NumberBytes::num_bytes, tree_handles::proofs::FreeBytes::refused_below))]
 fn minus(pool: &mut Pool, argument: Handle) -> Result<Handle, NumberFault>
     requires stands { Stands pool.old }
     requires handed { IsHanded argument (forest pool.old) }
@@ -163,6 +168,7 @@ fn minus(pool: &mut Pool, argument: Handle) -> Result<Handle, NumberFault>
 }
 
 /// A reduced tree to the power -1.
+#[tactic(auto, using(tree_handles::proofs::Fronts::front_after, tree_handles::proofs::Fronts::front_same, tree_handles::proofs::Given::given_handed, crate::proofs::Sides::apart_second, tree_handles::proofs::Fronts::front_after_two, tree_handles::proofs::Fronts::behind_first, tree_handles::proofs::Fronts::behind_new, tree_handles::proofs::Fronts::front_end, coefficients::proofs::Free::number_refused, tree_handles::proofs::Outcomes::passed_on, crate::proofs::NodeBytes::inverse_lacks, tree_handles::proofs::Room::given_free, tree_handles::proofs::Given::given_told, calc_room::proofs::NumberBytes::num_bytes, tree_handles::proofs::FreeBytes::refused_below))]
 fn inverse(pool: &mut Pool, base: Handle) -> Result<Handle, NumberFault>
     requires stands { Stands pool.old }
     requires handed { IsHanded base (forest pool.old) }
@@ -184,6 +190,7 @@ fn inverse(pool: &mut Pool, base: Handle) -> Result<Handle, NumberFault>
 }
 
 /// The two children of a node, which is released.
+#[tactic(auto, using(crate::proofs::Parents::parent_children, reduce_walk::proofs::Parents::parent_handed))]
 fn take_sides(pool: &mut Pool, tree: Handle) -> (Handle, Handle)
     requires stands { Stands pool.old }
     requires handed { IsHanded tree (forest pool.old) }

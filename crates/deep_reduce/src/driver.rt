@@ -48,6 +48,7 @@ impl NodeStep for NodeReducer {
 
     fn laws(&self) {}
 
+    #[tactic(auto, using(crate::proofs::Ready::answers_reduced))]
     fn step(&self, pool: &mut Pool, tree: Handle) -> Result<Handle, NumberFault> {
         reduce_node(pool, tree)
     }

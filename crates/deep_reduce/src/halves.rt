@@ -34,6 +34,7 @@ use reduce_port::Step;
 use tree_handles::{Handle, NumberFault, add_child, child_id, move_last, take_child};
 
 /// Whether the exponent of a power is half of an odd whole number.
+#[tactic(auto, using(tree_handles::proofs::Seen::expression, crate::proofs::Children::exponent_at))]
 pub(crate) fn has_half_exponent(pool: &Pool, power: &Handle) -> bool
     requires stands { Stands pool.now }
     requires handed { IsHanded power.now (forest pool.now) }
@@ -103,6 +104,7 @@ fn reduce_base(pool: &mut Pool, power: Handle) -> Result<Handle, NumberFault>
 }
 
 /// A step on a power that no rule rewrites.
+#[tactic(auto, using(crate::proofs::Arms::is_done, tree_handles::proofs::Given::given_told, crate::proofs::Arms::is_again, tree_handles::proofs::Outcomes::passed_on, crate::proofs::HeldRoots::last_fits))]
 fn last_step(pool: &mut Pool, power: Handle) -> Result<Handle, NumberFault>
     requires stands { Stands pool.old }
     requires handed { IsHanded power (forest pool.old) }

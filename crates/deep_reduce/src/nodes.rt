@@ -31,6 +31,7 @@ use sum_reduce::reduce_sum;
 use tree_handles::{Handle, NumberFault, children, kind, number, release};
 
 /// The last tree, a node over reduced children, as the rules of its kind reduce it. A leaf is its own answer.
+#[tactic(auto, using(tree_handles::proofs::Seen::live))]
 pub(crate) fn reduce_node(pool: &mut Pool, tree: Handle) -> Result<Handle, NumberFault>
     requires stands { Stands pool.old }
     requires handed { IsHanded tree (forest pool.old) }
@@ -68,6 +69,7 @@ pub(crate) fn reduce_node(pool: &mut Pool, tree: Handle) -> Result<Handle, Numbe
 }
 
 /// A sum of reduced terms: 0 where there is none.
+#[tactic(auto, using(tree_handles::proofs::Seen::live, crate::proofs::Lacking::result_lacks, crate::proofs::NodeBytes::number_fits_sum))]
 pub(crate) fn add_up(pool: &mut Pool, sum: Handle) -> Result<Handle, NumberFault>
     requires stands { Stands pool.old }
     requires handed { IsHanded sum (forest pool.old) }
@@ -91,6 +93,7 @@ pub(crate) fn add_up(pool: &mut Pool, sum: Handle) -> Result<Handle, NumberFault
 }
 
 /// A product of reduced factors: 1 where there is none.
+#[tactic(auto, using(tree_handles::proofs::Seen::live, crate::proofs::Lacking::result_lacks, crate::proofs::NodeBytes::no_factors))]
 pub(crate) fn multiply(pool: &mut Pool, product: Handle) -> Result<Handle, NumberFault>
     requires stands { Stands pool.old }
     requires handed { IsHanded product (forest pool.old) }

@@ -50,6 +50,7 @@ fn sum_of_three(pool: &mut Pool) -> Result<Handle, Full>
 }
 
 /// Whether the sum becomes 6.
+#[tactic(auto, using(tree_handles::proofs::Given::given_handed))]
 fn is_six(pool: &mut Pool, watch: &mut Watch<CountBreaker>) -> Result<bool, ReduceFault>
     requires { Stands pool.old }
 {

@@ -1,5 +1,5 @@
 use Rattle.std.proofs.Common.{◌≡◌, ◌*◌, negsuc, rules, length, inr, true, false, ◌<◌, ◌+◌, ◌^◌, refl, sym, ap, ◌∙◌, subst, arith}
-use Rattle.deep_reduce.proofs.Shared.{fraction_fits, Fraction, minus_one_fraction, HoldsNode, holds_whole, IsFactorHeld, is_reduced, Tree, size, sizes, count, num, mult, none, more, power, has_undef, tree_of, gives_as, given_handed, given_root, given_told, nth, children_of, counted, SpansTree, expression, seen, IsNodeAnswer, IsCalmAtZero, stands_last, free_of, replaced_free, passed_on, product_count, product_room, product_power_room, HoldsQuotient}
+use Rattle.deep_reduce.proofs.Shared.{fraction_fits, Fraction, minus_one_fraction, HoldsNode, holds_whole, IsFactorHeld, is_reduced, Tree, size, sizes, num, mult, none, more, power, has_undef, tree_of, gives_as, given_handed, given_root, given_told, nth, children_of, counted, SpansTree, expression, seen, IsNodeAnswer, IsCalmAtZero, stands_last, free_of, replaced_free, passed_on, product_count, product_room, product_power_room, HoldsQuotient}
 use Rattle.deep_reduce.proofs.NodeBits.{two_factors, second_side, holds_as}
 use Rattle.deep_reduce.proofs.Rationals.{root_fits}
 use Rattle.deep_reduce.proofs.Results.{answer_as, overflow_as, overflow_on}
@@ -27,9 +27,6 @@ returns-then-has_undefined_child-clause-ok c =
     let t : Tree = tree_of c.args.quotient c.args.pool.now in
     let some = sym (has-is (goal.at.returns-then-has_undefined_child-clause-ok c).After-has_undefined_child) ∙ c.if-has_undefined_child.true in
     gives_as c.undefined.ensures.gives refl (λ u e. subst (IsNodeAnswer t) (sym e) (undefined_answer t some))
-
-pub take_sides-dividend-requires-clause-two : goal.take_sides-dividend-requires-clause-two
-take_sides-dividend-requires-clause-two c = ap count (div_children (tree_of c.args.quotient c.args.pool.now) c.requires.quotient)
 
 pub inverse-requires : goal.inverse-requires
 inverse-requires c =

@@ -1,32 +1,17 @@
 use Rattle.std.proofs.Common.{rules, length, negsuc, ◌<◌, ◌+◌, ◌^◌, refl, sym, ap, ◌∙◌, subst, arith}
-use Rattle.deep_reduce.proofs.Shared.{SpansTree, num_bytes, rational, ratio_of, value_of, number_refused, IsCalmAtZero, whole_power_room, IsFactorHeld, free_of, both_replaced_free, refused_below, passed_on, whole_is, given_free, minus_one_fraction, plain_value, is_reduced, is_whole_num, Tree, num, size, base_in, exponent_in, tree_of, behind_first, behind_new, front_same, front_end, front_after, front_after_two, gives_as, given_handed, given_other, given_told, given_without, number_reduced}
+use Rattle.deep_reduce.proofs.Shared.{SpansTree, IsCalmAtZero, whole_power_room, IsFactorHeld, free_of, both_replaced_free, whole_is, given_free, minus_one_fraction, plain_value, is_reduced, is_whole_num, Tree, num, size, base_in, exponent_in, tree_of, behind_first, behind_new, front_same, front_end, front_after_two, gives_as, given_handed, given_other, given_without, number_reduced}
 use Rattle.deep_reduce.proofs.NodeBits.{as_overflow}
 use Rattle.deep_reduce.proofs.Lacking.{result_lacks}
-use Rattle.deep_reduce.proofs.NodeBytes.{inverse_lacks, inverse_calm, inverse_spans}
+use Rattle.deep_reduce.proofs.NodeBytes.{inverse_calm, inverse_spans}
 use Rattle.deep_reduce.proofs.PowerBytes.{needs_most}
 use Rattle.deep_reduce.proofs.Results.{answered, answer_as, overflowed_defined}
 use Rattle.deep_reduce.proofs.Sides.{apart_second, beside_new, new_second, reduced_front}
 use Rattle.deep_reduce.proofs.Told.{answer_at, minus_one_value, power_told, power_words, power_sides, inverse_no_half, inverse_overflowed}
-use Rattle.tree_handles.specs.declared.fault.NumberFault.TheVariants as fault
 use Rattle.calc_terms.specs.declared.kind.Kind.TheVariants as kind
 use Rattle.deep_reduce.proofs.differences.inverse.Goals as goal
 
-pub returns-in_err-exponent-clause-front : goal.returns-in_err-exponent-clause-front
-returns-in_err-exponent-clause-front c = front_after front_same c.number.ensures.front
-
 pub node_over_two-requires-clause-first : goal.node_over_two-requires-clause-first
 node_over_two-requires-clause-first c = given_other c.in_ok-exponent.ensures.given c.requires.handed
-
-pub node_over_two-requires-clause-second : goal.node_over_two-requires-clause-second
-node_over_two-requires-clause-second c = given_handed c.in_ok-exponent.ensures.given
-
-pub node_over_two-requires-clause-apart : goal.node_over_two-requires-clause-apart
-node_over_two-requires-clause-apart c = apart_second c.in_ok-exponent.ensures.given c.requires.handed
-
-pub returns-in_err-power-clause-front : goal.returns-in_err-power-clause-front
-returns-in_err-power-clause-front c =
-    let n = c.in_ok-exponent.ensures.given in
-    front_after_two behind_first (behind_new n.ends front_same) (front_end n.ends front_same) c.node_over_two.ensures.front
 
 pub reduce_power-requires : goal.reduce_power-requires
 reduce_power-requires c =
@@ -56,16 +41,3 @@ returns c =
       bits = λ h l k few. let p = new_second {k = kind.Pow} n c.requires.handed c.in_ok-power.ensures.ok in as_overflow c.reduce_power.result (c.reduce_power.ensures.bits (negsuc 0) h l (ap exponent_in p.tree) (subst (λ (x : Tree). IsFactorHeld (base_in x) h l) (sym p.tree) k) few);
       stands = search rules;
     }
-
-pub returns-in_err-exponent-clause-room : goal.returns-in_err-exponent-clause-room
-returns-in_err-exponent-clause-room c = λ gs ns k s.
-    let few : free_of c.args.pool.now < 48 = omega (arith, number_refused (rational (ratio_of c.whole.result)) c.in_err-exponent.ensures.full) in
-    passed_on c.from_residual.result (fault.Full c.in_err-exponent.field-0.0) _ c.from_residual.ensures.0 c.from_residual.ensures.1 (inverse_lacks gs (tree_of c.args.base c.args.pool.now) (free_of c.args.pool.now) c.requires.reduced s few)
-
-pub returns-in_err-power-clause-room : goal.returns-in_err-power-clause-room
-returns-in_err-power-clause-room c = λ gs ns k s.
-    let g = c.in_ok-exponent.ensures.given in
-    let free = given_free c.requires.stands c.in_ok-exponent.ensures.stands c.in_ok-exponent.ensures.kept g in
-    let few : free_of c.args.pool.now < 48 = omega (arith, free, ap size (given_told g), num_bytes (value_of c.whole.result), refused_below c.in_err-power.ensures.full) in
-    passed_on c.from_residual-in_err-power.result (fault.Full c.in_err-power.field-0.0) _ c.from_residual-in_err-power.ensures.0 c.from_residual-in_err-power.ensures.1
-    (inverse_lacks gs (tree_of c.args.base c.args.pool.now) (free_of c.args.pool.now) c.requires.reduced s few)

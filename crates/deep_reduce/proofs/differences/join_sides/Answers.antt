@@ -1,5 +1,5 @@
 use Rattle.std.proofs.Common.{◌≡◌, ◌⊎◌, ℕ, length, ◌<◌, ◌+◌, ◌^◌, rules, true, inl, inr, refl, sym, ap, ◌∙◌, subst, arith}
-use Rattle.deep_reduce.proofs.Shared.{is_reduced, are_reduced, SpansTree, bare, size_of_payload, Tree, is_add, is_mult, size, has_undef, factors_room, IsCalmAtZero, HoldsNode, both_replaced_free, refused_below, passed_on, sum_count, sum_room, Kind, State, free_of, Gives, tree_of, without_root, forest, children_of, compound, takes_kind, gives, given_handed, given_other, given_rest, given_told, represents_handed}
+use Rattle.deep_reduce.proofs.Shared.{is_reduced, are_reduced, SpansTree, bare, size_of_payload, Tree, size, has_undef, factors_room, IsCalmAtZero, HoldsNode, both_replaced_free, refused_below, passed_on, sum_count, sum_room, Kind, State, free_of, Gives, tree_of, without_root, forest, children_of, compound, takes_kind, gives, given_other, given_rest, given_told, represents_handed}
 use Rattle.deep_reduce.proofs.Lacking.{result_lacks}
 use Rattle.deep_reduce.proofs.NodeBytes.{sum_node_lacks, product_node_lacks}
 use Rattle.deep_reduce.proofs.Results.{answer_as, overflow_as}
@@ -33,19 +33,6 @@ pub node_over_two-requires : goal.node_over_two-requires
 node_over_two-requires c =
     let r : Gives (without_root c.args.right (forest c.args.pool.now)) (forest c.args.pool.now) c.args.right (λ t. t ≡ tree_of c.args.right c.args.pool.now) = gives c.requires.last (represents_handed c.requires.handed) refl in
     record { stands = c.requires.stands; takes = takes_two c.requires.kind; first = given_other r c.requires.left; second = c.requires.handed; apart = apart_second r c.requires.left }
-
-pub add_up-requires : goal.add_up-requires
-add_up-requires c =
-    let n = c.in_ok-both.ensures.ok in
-    let k = known _ _ c.requires.kind (given_told n) c.requires.left_reduced c.requires.right_reduced in
-    record { stands = search rules; handed = given_handed n; sum = ap is_add (given_told n) ∙ ap (λ (k : Kind). is_add (sides k c.args.left c.args.right c.args.pool.now)) c.in-Add.is; reduced = k }
-
-pub multiply-requires : goal.multiply-requires
-multiply-requires c =
-    let n = c.in_ok-both.ensures.ok in
-    let k = known _ _ c.requires.kind (given_told n) c.requires.left_reduced c.requires.right_reduced in
-    let is : c.args.kind ≡ kind.Mult = elim c.requires.kind [ inl q ↦ absurd (c.in_default.not-Add q) | inr q ↦ q ] in
-    record { stands = search rules; handed = given_handed n; product = ap is_mult (given_told n) ∙ ap (λ (k : Kind). is_mult (sides k c.args.left c.args.right c.args.pool.now)) is; reduced = k }
 
 pub returns-in-Add : goal.returns-in-Add
 returns-in-Add c =

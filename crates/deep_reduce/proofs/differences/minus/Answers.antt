@@ -1,33 +1,18 @@
 use Rattle.std.proofs.Common.{rules, length, ◌<◌, ◌+◌, ◌^◌, refl, sym, ap, ◌∙◌, subst, arith}
-use Rattle.deep_reduce.proofs.Shared.{SpansTree, num_bytes, rational, ratio_of, value_of, number_refused, factors_room, IsCalmAtZero, has_undef, Tree, num, is_mult, size, HoldsNode, free_of, both_replaced_free, refused_below, passed_on, given_free, minus_one_fraction, are_reduced, tree_of, children_of, behind_first, behind_new, front_same, front_end, front_after, front_after_two, gives_as, given_handed, given_other, given_rest, given_told, without_root, number_reduced, given_apart}
+use Rattle.deep_reduce.proofs.Shared.{SpansTree, factors_room, IsCalmAtZero, has_undef, Tree, num, is_mult, size, HoldsNode, free_of, both_replaced_free, given_free, minus_one_fraction, are_reduced, tree_of, children_of, behind_first, behind_new, front_same, front_end, front_after_two, gives_as, given_handed, given_other, given_rest, without_root, number_reduced, given_apart}
 use Rattle.deep_reduce.proofs.NodeBits.{opposite_factors, second_side}
 use Rattle.deep_reduce.proofs.Lacking.{result_lacks}
-use Rattle.deep_reduce.proofs.NodeBytes.{opposite_lacks, opposite_calm, opposite_spans, opposite_fits}
+use Rattle.deep_reduce.proofs.NodeBytes.{opposite_calm, opposite_spans, opposite_fits}
 use Rattle.deep_reduce.proofs.Rationals.{root_fits}
 use Rattle.deep_reduce.proofs.Results.{answer_as, overflow_as}
 use Rattle.deep_reduce.proofs.Sides.{beside_new, new_first, reduced_front}
 use Rattle.deep_reduce.proofs.Steps.{neg_answer, neg_overflow}
 use Rattle.deep_reduce.proofs.Told.{answer_at, overflow_at, minus_one_value, two_reduced}
-use Rattle.tree_handles.specs.declared.fault.NumberFault.TheVariants as fault
 use Rattle.calc_terms.specs.declared.kind.Kind.TheVariants as kind
 use Rattle.deep_reduce.proofs.differences.minus.Goals as goal
 
-pub returns-in_err-minus_one-clause-front : goal.returns-in_err-minus_one-clause-front
-returns-in_err-minus_one-clause-front c = front_after front_same c.number.ensures.front
-
-pub node_over_two-requires-clause-first : goal.node_over_two-requires-clause-first
-node_over_two-requires-clause-first c = given_handed c.in_ok-minus_one.ensures.given
-
 pub node_over_two-requires-clause-second : goal.node_over_two-requires-clause-second
 node_over_two-requires-clause-second c = given_other c.in_ok-minus_one.ensures.given c.requires.handed
-
-pub node_over_two-requires-clause-apart : goal.node_over_two-requires-clause-apart
-node_over_two-requires-clause-apart c = given_apart c.in_ok-minus_one.ensures.given c.requires.handed
-
-pub returns-in_err-product-clause-front : goal.returns-in_err-product-clause-front
-returns-in_err-product-clause-front c =
-    let n = c.in_ok-minus_one.ensures.given in
-    front_after_two (behind_new n.ends front_same) behind_first (front_end n.ends front_same) c.node_over_two.ensures.front
 
 pub multiply-requires : goal.multiply-requires
 multiply-requires c =
@@ -55,16 +40,3 @@ returns c =
       bits = λ h l k few. let p = new_first {k = kind.Mult} n c.requires.handed c.in_ok-product.ensures.ok in c.multiply.ensures.bits h l (λ d. subst (λ (x : Tree). HoldsNode x h l) (sym p.tree) (opposite_factors a (k (second_side (num minus_one_fraction) a (sym (ap (λ (x : Tree). has_undef (children_of x)) p.tree) ∙ d))))) few;
       stands = search rules;
     }
-
-pub returns-in_err-minus_one-clause-room : goal.returns-in_err-minus_one-clause-room
-returns-in_err-minus_one-clause-room c = λ gs ns k s.
-    let few : free_of c.args.pool.now < 48 = omega (arith, number_refused (rational (ratio_of c.whole.result)) c.in_err-minus_one.ensures.full) in
-    passed_on c.from_residual.result (fault.Full c.in_err-minus_one.field-0.0) _ c.from_residual.ensures.0 c.from_residual.ensures.1 (opposite_lacks gs (tree_of c.args.argument c.args.pool.now) (free_of c.args.pool.now) c.requires.reduced s few)
-
-pub returns-in_err-product-clause-room : goal.returns-in_err-product-clause-room
-returns-in_err-product-clause-room c = λ gs ns k s.
-    let g = c.in_ok-minus_one.ensures.given in
-    let free = given_free c.requires.stands c.in_ok-minus_one.ensures.stands c.in_ok-minus_one.ensures.kept g in
-    let few : free_of c.args.pool.now < 48 = omega (arith, free, ap size (given_told g), num_bytes (value_of c.whole.result), refused_below c.in_err-product.ensures.full) in
-    passed_on c.from_residual-in_err-product.result (fault.Full c.in_err-product.field-0.0) _ c.from_residual-in_err-product.ensures.0 c.from_residual-in_err-product.ensures.1
-    (opposite_lacks gs (tree_of c.args.argument c.args.pool.now) (free_of c.args.pool.now) c.requires.reduced s few)

@@ -1,4 +1,4 @@
-use Rattle.std.proofs.Common.{rules, inl, length, ◌<◌, ◌+◌, ◌^◌, sym, ap, ◌∙◌, subst, arith}
+use Rattle.std.proofs.Common.{rules, length, ◌<◌, ◌+◌, ◌^◌, sym, ap, ◌∙◌, subst, arith}
 use Rattle.deep_reduce.proofs.Shared.{is_reduced, Tree, neg, count, size, is_undef, has_undef, counted, SpansTree, IsCalmAtZero, IsFactorHeld, free_of, replaced_free, product_room, keeps_after, tree_of, behind_first, behind_new, front_same, front_end, front_without, front_after_one, given_handed, given_told, given_rest, nth, children_of, parent_handed}
 use Rattle.deep_reduce.proofs.NodeBits.{only_undef, holds_as}
 use Rattle.deep_reduce.proofs.Lacking.{result_lacks}
@@ -12,11 +12,6 @@ pub take_child-argument-requires-clause-within : goal.take_child-argument-requir
 take_child-argument-requires-clause-within c =
     let n = ap count (neg_children (tree_of c.args.opposite c.args.pool.now) c.requires.opposite) in
     omega (arith, parent_children c.requires.stands (parent_handed c.requires.handed), n)
-
-pub release-requires-clause-releasable : goal.release-requires-clause-releasable
-release-requires-clause-releasable c =
-    let t : Tree = tree_of c.args.opposite c.args.pool.now in
-    inl (alone_out (nth 0 (children_of t)) c.requires.handed (neg_children t c.requires.opposite) (c.take_child-argument.ensures.last c.requires.handed.root)).owned.root
 
 pub minus-requires : goal.minus-requires
 minus-requires c =

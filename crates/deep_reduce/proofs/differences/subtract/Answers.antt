@@ -1,5 +1,5 @@
 use Rattle.std.proofs.Common.{◌≡◌, rules, length, inl, false, ◌<◌, ◌+◌, ◌^◌, refl, sym, ap, ◌∙◌, subst, arith}
-use Rattle.deep_reduce.proofs.Shared.{is_reduced, Tree, size, sizes, count, add, none, more, neg, has_undef, tree_of, gives_as, given_handed, given_told, nth, children_of, HoldsNode, IsFactorHeld, counted, SpansTree, expression, seen, IsNodeAnswer, IsCalmAtZero, stands_last, free_of, replaced_free, passed_on, sum_count, sum_room, product_room, HoldsDifference}
+use Rattle.deep_reduce.proofs.Shared.{is_reduced, Tree, size, sizes, add, none, more, neg, has_undef, tree_of, gives_as, given_handed, given_told, nth, children_of, HoldsNode, IsFactorHeld, counted, SpansTree, expression, seen, IsNodeAnswer, IsCalmAtZero, stands_last, free_of, replaced_free, passed_on, sum_count, sum_room, product_room, HoldsDifference}
 use Rattle.deep_reduce.proofs.NodeBits.{difference_right, two_terms, second_side, holds_as}
 use Rattle.deep_reduce.proofs.Results.{answer_as, overflow_as, overflow_on}
 use Rattle.deep_reduce.proofs.Sides.{left_beside, rewritten_front, paired_front}
@@ -25,9 +25,6 @@ returns-then-has_undefined_child-clause-ok c =
     let t : Tree = tree_of c.args.difference c.args.pool.now in
     let some = sym (has-is (goal.at.returns-then-has_undefined_child-clause-ok c).After-has_undefined_child) ∙ c.if-has_undefined_child.true in
     gives_as c.undefined.ensures.gives refl (λ u e. subst (IsNodeAnswer t) (sym e) (undefined_answer t some))
-
-pub take_sides-left-requires-clause-two : goal.take_sides-left-requires-clause-two
-take_sides-left-requires-clause-two c = ap count (sub_children (tree_of c.args.difference c.args.pool.now) c.requires.difference)
 
 pub minus-requires : goal.minus-requires
 minus-requires c =

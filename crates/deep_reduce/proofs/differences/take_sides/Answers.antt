@@ -1,10 +1,7 @@
 use Rattle.std.proofs.Common.{rules, inl, refl, arith}
-use Rattle.deep_reduce.proofs.Shared.{tree_of, behind_first, front_at, front_without, children_of, parent_handed}
+use Rattle.deep_reduce.proofs.Shared.{tree_of, behind_first, front_at, front_without, children_of}
 use Rattle.deep_reduce.proofs.Parents.{first_out, both_out, parent_children, parent_end}
 use Rattle.deep_reduce.proofs.differences.take_sides.Goals as goal
-
-pub take_child-left-requires-clause-within : goal.take_child-left-requires-clause-within
-take_child-left-requires-clause-within c = omega (arith, parent_children c.requires.stands (parent_handed c.requires.handed), c.requires.two)
 
 pub take_child-right-requires-clause-within : goal.take_child-right-requires-clause-within
 take_child-right-requires-clause-within c =

@@ -1,16 +1,11 @@
-use Rattle.std.proofs.Common.{rules, ◌≡◌, ◌^◌, length, ap, ◌∙◌, sym, refl, arith, ℕ, false}
-use Rattle.deep_reduce.proofs.Shared.{has_undef, Tree, count, IsSumHeld, addends_of_each, IsTreeHeld, plain_value, tree_of, children_of, live, expression, seen, pow_pos, KeepsSumRoom, sum_words}
+use Rattle.std.proofs.Common.{rules, ◌≡◌, ap, ◌∙◌, sym, refl, arith, ℕ, false}
+use Rattle.deep_reduce.proofs.Shared.{has_undef, Tree, count, IsSumHeld, addends_of_each, IsTreeHeld, plain_value, tree_of, children_of, expression, seen, KeepsSumRoom, sum_words}
 use Rattle.deep_reduce.proofs.HeldFits.{product_fits}
 use Rattle.deep_reduce.proofs.NodeBits.{as_overflow, held_facts, holds_as}
-use Rattle.deep_reduce.proofs.Lacking.{result_lacks}
-use Rattle.deep_reduce.proofs.NodeBytes.{number_fits_sum}
 use Rattle.deep_reduce.proofs.Results.{answered, answer_as, overflowed_defined, with_facts, sum_facts}
 use Rattle.deep_reduce.proofs.Told.{sum_told, empty_sum_told}
 use Rattle.deep_reduce.proofs.nodes.add_up.Goals.{After-children}
 use Rattle.deep_reduce.proofs.nodes.add_up.Goals as goal
-
-pub children-requires-clause-live : goal.children-requires-clause-live
-children-requires-clause-live c = live c.args.pool.now c.id.ensures c.requires.handed.root
 
 many : (c : After-children) → c.children.result ≡ count (children_of (tree_of c.args.sum c.args.pool.now))
 many c = c.children.ensures.plain (expression c.id.ensures c.requires.stands c.requires.handed) ∙ ap (λ (t : Tree). count (children_of t)) (seen c.id.ensures c.requires.stands c.requires.handed)
@@ -39,10 +34,3 @@ returns c =
       bits = λ h l k few. as_overflow c.reduce_sum.result (product_fits (children_of t) c.reduce_sum.result (λ d. c.reduce_sum.ensures.bits h l (holds_as h l (sum_words t c.requires.sum) (k d)) few) c.reduce_sum.ensures.defined);
       stands = search rules;
     }
-
-pub returns-then-children-eq0-clause-room : goal.returns-then-children-eq0-clause-room
-returns-then-children-eq0-clause-room c = λ gs s.
-    result_lacks c.whole.result c.whole.ensures.room (λ l. omega (arith, l, number_fits_sum (children_of (tree_of c.args.sum c.args.pool.now)) (2 ^ length gs) (pow_pos (length gs))))
-
-pub returns-then-children-eq0-clause-bits : goal.returns-then-children-eq0-clause-bits
-returns-then-children-eq0-clause-bits c = λ h l k few. c.whole.ensures.overflow

@@ -1,16 +1,13 @@
 use Rattle.std.proofs.Common.{rules, ◌≡◌, ◌^◌, length, ap, ◌∙◌, sym, refl, arith}
-use Rattle.deep_reduce.proofs.Shared.{plain_value, Tree, count, tree_of, children_of, live, expression, seen}
+use Rattle.deep_reduce.proofs.Shared.{plain_value, Tree, count, tree_of, children_of, expression, seen}
 use Rattle.deep_reduce.proofs.HeldFits.{product_fits}
 use Rattle.deep_reduce.proofs.NodeBits.{as_overflow, holds_as}
 use Rattle.deep_reduce.proofs.Lacking.{result_lacks, product_words}
-use Rattle.deep_reduce.proofs.NodeBytes.{no_factors, some_factors}
+use Rattle.deep_reduce.proofs.NodeBytes.{some_factors}
 use Rattle.deep_reduce.proofs.Results.{answered, answer_as, overflowed_defined}
 use Rattle.deep_reduce.proofs.Told.{product_told, empty_product_told}
 use Rattle.deep_reduce.proofs.nodes.multiply.Goals.{After-children}
 use Rattle.deep_reduce.proofs.nodes.multiply.Goals as goal
-
-pub children-requires-clause-live : goal.children-requires-clause-live
-children-requires-clause-live c = live c.args.pool.now c.id.ensures c.requires.handed.root
 
 many : (c : After-children) → c.children.result ≡ count (children_of (tree_of c.args.product c.args.pool.now))
 many c = c.children.ensures.plain (expression c.id.ensures c.requires.stands c.requires.handed) ∙ ap (λ (t : Tree). count (children_of t)) (seen c.id.ensures c.requires.stands c.requires.handed)
@@ -38,12 +35,3 @@ returns c =
       bits = λ h l k few. let t : Tree = tree_of c.args.product c.args.pool.now in as_overflow c.reduce_product.result (product_fits (children_of t) c.reduce_product.result (λ d. c.reduce_product.ensures.bits h l (holds_as h l (product_words t c.requires.product) (k d)) few) c.reduce_product.ensures.defined);
       stands = search rules;
     }
-
-pub returns-then-children-eq0-clause-room : goal.returns-then-children-eq0-clause-room
-returns-then-children-eq0-clause-room c = λ gs ns k s.
-    let ts = children_of (tree_of c.args.product c.args.pool.now) in
-    let n = sym (many (goal.at.returns-then-children-eq0-clause-room c).After-children) ∙ c.if-children-eq0.true in
-    result_lacks c.whole.result c.whole.ensures.room (λ l. omega (arith, l, no_factors ts (2 ^ length gs) n))
-
-pub returns-then-children-eq0-clause-bits : goal.returns-then-children-eq0-clause-bits
-returns-then-children-eq0-clause-bits c = λ h l k few. c.whole.ensures.overflow

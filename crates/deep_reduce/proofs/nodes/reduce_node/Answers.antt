@@ -1,5 +1,5 @@
 use Rattle.std.proofs.Common.{rules, false, ◌≡◌, ◌^◌, ℕ, List, length, refl, sym, ◌∙◌, arith}
-use Rattle.deep_reduce.proofs.Shared.{plain_value, Tree, root_kind, tree_of, keeps_none, front_same, gives, represents_handed, live, kind_of_root, pow_pos, SpansTree, value, int_is_negative, base_in, exponent_in, argument_of, IfRational, IsNoLargerThanRoot, children_of, free_of, sum_kind, product_kind}
+use Rattle.deep_reduce.proofs.Shared.{plain_value, Tree, root_kind, tree_of, keeps_none, front_same, gives, represents_handed, kind_of_root, pow_pos, SpansTree, value, int_is_negative, base_in, exponent_in, argument_of, IfRational, IsNoLargerThanRoot, children_of, free_of, sum_kind, product_kind}
 use Rattle.deep_reduce.proofs.HeldFits.{product_fits}
 use Rattle.deep_reduce.proofs.NodeBits.{as_overflow, node_fits, power_node_fits, root_node_fits, measured_facts, holds_as}
 use Rattle.deep_reduce.proofs.Lacking.{result_lacks, power_result}
@@ -12,9 +12,6 @@ use Rattle.deep_reduce.proofs.nodes.reduce_node.Goals as goal
 -- what the readers tell
 kind-is : (c : After-kind) → c.kind.result ≡ root_kind (tree_of c.args.tree c.args.pool.now)
 kind-is c = kind_of_root c.id.ensures c.requires.stands c.requires.handed c.kind.ensures.plain
-
-pub kind-requires-clause-live : goal.kind-requires-clause-live
-kind-requires-clause-live c = live c.args.pool.now c.id.ensures c.requires.handed.root
 
 pub add_up-requires-clause-sum : goal.add_up-requires-clause-sum
 add_up-requires-clause-sum c = sum_kind (tree_of c.args.tree c.args.pool.now) (sym c.in-Add.is ∙ kind-is (goal.at.add_up-requires-clause-sum c).After-kind)
@@ -142,18 +139,3 @@ returns-in-Div-clause-room c = λ gs ns n h k s.
     c.divide.ensures.room gs ns n h k (node_spans gs (tree_of c.args.tree c.args.pool.now) (sym c.in-Div.is ∙ kind-is (goal.at.returns-in-Div-clause-room c).After-kind) (λ e. cc) s)
 
 -- ---- bits
-
-pub returns-in-Add-clause-bits : goal.returns-in-Add-clause-bits
-returns-in-Add-clause-bits c = λ h l k few. c.add_up.ensures.bits h l k few
-
-pub returns-in-Mult-clause-bits : goal.returns-in-Mult-clause-bits
-returns-in-Mult-clause-bits c = λ h l k few. c.multiply.ensures.bits h l k few
-
-pub returns-in-Neg-clause-bits : goal.returns-in-Neg-clause-bits
-returns-in-Neg-clause-bits c = λ h l k few. c.negate.ensures.bits h l k few
-
-pub returns-in-Sub-clause-bits : goal.returns-in-Sub-clause-bits
-returns-in-Sub-clause-bits c = λ h l k few. c.subtract.ensures.bits h l k few
-
-pub returns-in-Div-clause-bits : goal.returns-in-Div-clause-bits
-returns-in-Div-clause-bits c = λ h l k few. c.divide.ensures.bits h l k few

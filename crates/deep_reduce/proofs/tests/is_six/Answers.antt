@@ -2,9 +2,6 @@ use Rattle.std.proofs.Common.{sym, subst}
 use Rattle.deep_reduce.proofs.Shared.{IsExpression, forest, gives_as, given_handed, given_other, given_rest, expression_root}
 use Rattle.deep_reduce.proofs.tests.is_six.Goals as goal
 
-pub reduce-requires-clause-handed : goal.reduce-requires-clause-handed
-reduce-requires-clause-handed c = given_handed c.in_ok-sum.ensures.sum
-
 pub compare-requires-clause-first : goal.compare-requires-clause-first
 compare-requires-clause-first c =
     let a = gives_as c.in_ok-answer.ensures.reduces (given_rest c.in_ok-sum.ensures.sum) (λ t x. x) in

@@ -1,5 +1,5 @@
-use Rattle.std.proofs.Common.{rules, ◌≡◌, ◌<◌, ◌+◌, ◌^◌, ℕ, length, true, false, ap, ◌∙◌, refl, sym, subst, arith, Option, IfSome, Err}
-use Rattle.deep_reduce.proofs.Shared.{Tree, Trees, add, mult, count, is_mult, is_undef, size, over_product, children_at, children_in, moved, moved_front, given_back, over_back, apart_back, put_back, front_lost, live, kind_of_root, product_kind, no_product_kind, if_map, passed_on, IsReducedProduct, IsReducedPower, IsSummed, joins_none, joins_then, IsHeldAsProduct, IsHeldAsPowerOf, IsFactorHeld, raised_high, raised_low, IsCalmAtZero, IsJoinedFrom, KeepsRoom, whole_power_room, counted, SpansTree, taken_free, free_of, replaced_free, gives_itself, whole_no_half, IsPairAt, base_in, exponent_in, are_reduced, is_whole_num, Rewrites, tree_of, children_of, keeps_none, keeps_after, behind_first, behind_new, front_same, front_put, front_end, front_without, front_after_one, gives, gives_as, given_handed, given_root, given_told, given_rest, represents_handed, root_held}
+use Rattle.std.proofs.Common.{rules, ◌≡◌, ◌<◌, ◌+◌, ◌^◌, ℕ, length, ap, ◌∙◌, refl, sym, subst, arith, Option, IfSome, Err}
+use Rattle.deep_reduce.proofs.Shared.{Tree, Trees, add, mult, count, is_mult, is_undef, size, over_product, children_at, children_in, moved, moved_front, given_back, over_back, apart_back, put_back, front_lost, live, kind_of_root, product_kind, no_product_kind, if_map, passed_on, IsReducedProduct, IsReducedPower, IsSummed, joins_none, joins_then, IsHeldAsProduct, IsHeldAsPowerOf, IsFactorHeld, raised_high, raised_low, IsCalmAtZero, IsJoinedFrom, KeepsRoom, whole_power_room, counted, SpansTree, taken_free, free_of, replaced_free, gives_itself, IsPairAt, base_in, exponent_in, are_reduced, is_whole_num, Rewrites, tree_of, children_of, keeps_none, keeps_after, behind_first, behind_new, front_same, front_put, front_end, front_without, front_after_one, gives, gives_as, given_handed, given_root, given_told, given_rest, represents_handed, root_held}
 use Rattle.deep_reduce.proofs.Clashes.{contrary}
 use Rattle.calc_terms.specs.Trees.{power as power_tree}
 use Rattle.coefficients.proofs.Puttings.{on_ok_after, fault_after}
@@ -93,9 +93,6 @@ pub reduce_product-returns-in_err-answer-clause-room : goal.reduce_product-retur
 reduce_product-returns-in_err-answer-clause-room t c = λ gs ns k s.
     passed_on c.from_residual.result c.in_err-answer.field-0.0 _ c.from_residual.ensures.0 c.from_residual.ensures.1 (lacks_as c.in_err-answer.field-0.0 (c.in_err-answer.ensures.room gs s) (λ l. omega (arith, l)))
 
-pub reduce_product-returns-in_err-answer-clause-defined : goal.reduce_product-returns-in_err-answer-clause-defined
-reduce_product-returns-in_err-answer-clause-defined t c = passed_on c.from_residual.result c.in_err-answer.field-0.0 _ c.from_residual.ensures.0 c.from_residual.ensures.1 c.in_err-answer.ensures.defined
-
 -- ---- join_pairs
 
 pub join_pairs-join_two-requires : goal.join_pairs-join_two-requires
@@ -171,14 +168,6 @@ join_pairs-returns-in-Err-clause-room t c = λ gs ns k s.
     let l = given_told i.given in
     let x = handed_on (tree_of c.args.product c.args.pool.now) (tree_of c.loop-next.joined c.loop-next.pool) c.requires.product l.is l.hands_on gs ns k s in
     lacks_as c.in-Err.fault (c.in-Err.ensures.room gs ns x.calm x.spanned) (λ l. omega (arith, l, x.needs, replaced_free c.requires.stands i.stands i.kept c.requires.handed i.given))
-
-pub reduce_product-returns-in_err-answer-clause-bits : goal.reduce_product-returns-in_err-answer-clause-bits
-reduce_product-returns-in_err-answer-clause-bits t c = λ h l a few.
-    passed_on c.from_residual.result c.in_err-answer.field-0.0 _ c.from_residual.ensures.0 c.from_residual.ensures.1 (c.in_err-answer.ensures.bits h l a few)
-
-pub join_pairs-returns-in_err-joined-clause-bits : goal.join_pairs-returns-in_err-joined-clause-bits
-join_pairs-returns-in_err-joined-clause-bits t c = λ h l a few.
-    passed_on c.from_residual.result c.in_err-joined.field-0.0 _ c.from_residual.ensures.0 c.from_residual.ensures.1 (c.in_err-joined.ensures.bits h l a few)
 
 pub join_pairs-returns-in-Err-clause-bits : goal.join_pairs-returns-in-Err-clause-bits
 join_pairs-returns-in-Err-clause-bits t c = λ h l a few. c.in-Err.ensures.bits h l ((given_told c.loop-next.invariant.given).hands_on.held h l a) few
@@ -324,9 +313,6 @@ reduce_joint-returns t c =
 
 -- ---- reduce_power
 
-pub reduce_power-returns-then-has_half_exponent-clause-rationals : goal.reduce_power-returns-then-has_half_exponent-clause-rationals
-reduce_power-returns-then-has_half_exponent-clause-rationals t c = λ b e n. contrary (sym c.has_half_exponent.ensures ∙ c.if-has_half_exponent.true) n
-
 pub reduce_power-returns-in-Done-clause-ok : goal.reduce_power-returns-in-Done-clause-ok
 reduce_power-returns-in-Done-clause-ok t c =
     let d = is_done c.args.power c.args.pool.now c.power_step.new.pool c.in-Done.is c.in_ok-answer.ensures.ok in
@@ -360,25 +346,13 @@ reduce_power-returns-in-Again t c =
       stands = search rules;
     }
 
-pub reduce_power-returns-then-has_half_exponent-clause-room : goal.reduce_power-returns-then-has_half_exponent-clause-room
-reduce_power-returns-then-has_half_exponent-clause-room t c = λ gs ns k s w. contrary (sym c.has_half_exponent.ensures ∙ c.if-has_half_exponent.true) (whole_no_half (exponent_in (tree_of c.args.power c.args.pool.now)) w)
-
 pub reduce_power-returns-then-has_half_exponent-clause-root_room : goal.reduce_power-returns-then-has_half_exponent-clause-root_room
 reduce_power-returns-then-has_half_exponent-clause-root_room t c = λ gs h s. c.reduce_half_power.ensures.room gs s
-
-pub reduce_power-returns-then-has_half_exponent-clause-others : goal.reduce_power-returns-then-has_half_exponent-clause-others
-reduce_power-returns-then-has_half_exponent-clause-others t c = λ w h. contrary (sym c.has_half_exponent.ensures ∙ c.if-has_half_exponent.true) h
 
 pub reduce_power-returns-in_err-answer-clause-room : goal.reduce_power-returns-in_err-answer-clause-room
 reduce_power-returns-in_err-answer-clause-room t c = λ gs ns k s w.
     passed_on c.from_residual.result c.in_err-answer.field-0.0 _ c.from_residual.ensures.0 c.from_residual.ensures.1
     (step_lacks gs (tree_of c.args.power c.args.pool.now) (free_of c.args.pool.now) c.in_err-answer.field-0.0 (c.in_err-answer.ensures.room gs s w))
-
-pub reduce_power-returns-in_err-answer-clause-root_room : goal.reduce_power-returns-in_err-answer-clause-root_room
-reduce_power-returns-in_err-answer-clause-root_room t c = λ gs h s. contrary h (sym c.has_half_exponent.ensures ∙ c.if-has_half_exponent.false)
-
-pub reduce_power-returns-in_err-answer-clause-others : goal.reduce_power-returns-in_err-answer-clause-others
-reduce_power-returns-in_err-answer-clause-others t c = λ w h. let no : false ≡ true = c.in_err-answer.ensures.others w h in cc
 
 pub reduce_power-returns-in_err-answer-clause-defined : goal.reduce_power-returns-in_err-answer-clause-defined
 reduce_power-returns-in_err-answer-clause-defined t c =
@@ -387,16 +361,6 @@ reduce_power-returns-in_err-answer-clause-defined t c =
 
 pub reduce_power-returns-then-has_half_exponent-clause-bits : goal.reduce_power-returns-then-has_half_exponent-clause-bits
 reduce_power-returns-then-has_half_exponent-clause-bits t c = λ n h l q a few. half_no_whole (exponent_in (tree_of c.args.power c.args.pool.now)) n (sym c.has_half_exponent.ensures ∙ c.if-has_half_exponent.true) q
-
-pub reduce_power-returns-then-has_half_exponent-clause-root_bits : goal.reduce_power-returns-then-has_half_exponent-clause-root_bits
-reduce_power-returns-then-has_half_exponent-clause-root_bits t c = λ h l e z a few more. c.reduce_half_power.ensures.bits h l z a few more
-
-pub reduce_power-returns-in_err-answer-clause-bits : goal.reduce_power-returns-in_err-answer-clause-bits
-reduce_power-returns-in_err-answer-clause-bits t c = λ n h l q a few.
-    passed_on c.from_residual.result c.in_err-answer.field-0.0 _ c.from_residual.ensures.0 c.from_residual.ensures.1 (c.in_err-answer.ensures.bits n q h l a few)
-
-pub reduce_power-returns-in_err-answer-clause-root_bits : goal.reduce_power-returns-in_err-answer-clause-root_bits
-reduce_power-returns-in_err-answer-clause-root_bits t c = λ h l e z a few more. contrary e (sym c.has_half_exponent.ensures ∙ c.if-has_half_exponent.false)
 
 -- ---- reduce_rewritten
 

@@ -1,11 +1,8 @@
 use Rattle.std.proofs.Common.{rules, refl}
-use Rattle.deep_reduce.proofs.Shared.{if_map, children_of, tree_of, gives_as}
+use Rattle.deep_reduce.proofs.Shared.{if_map, tree_of, gives_as}
 use Rattle.deep_reduce.proofs.NodeAnswers.{node_answered}
-use Rattle.deep_reduce.proofs.Ready.{answers_reduced, over_answers, step_lacks, step_overflows}
+use Rattle.deep_reduce.proofs.Ready.{over_answers, step_lacks, step_overflows}
 use Rattle.deep_reduce.proofs.driver.NodeReducerNodeStep.step.Goals as goal
-
-pub reduce_node-requires-clause-reduced : goal.reduce_node-requires-clause-reduced
-reduce_node-requires-clause-reduced c = let o = c.requires.over in answers_reduced (children_of o.whole) (children_of (tree_of c.args.tree c.args.pool.now)) o.over.children
 
 pub returns : goal.returns
 returns c = let now = tree_of c.args.tree c.args.pool.now in record {
