@@ -1,7 +1,7 @@
 -- Where among the nodes of a tree an operation on rationals first overflows.
 use Rattle.std.specs.Prelude.{ℕ, ◌+◌, Bool, true, false, if◌then◌else◌}
-use Rattle.calc_measures.specs.PlainValues.{PlainValue, exactly, undefined, overflow, nothing, plain_of}
-use Rattle.calc_terms.specs.Trees.{Tree, num, symbol, undef, add, mult, power, root, neg, sub, div, Trees, none, more, nodes}
+use Rattle.calc_measures.specs.PlainValues.{PlainValue, overflow, plain_of}
+use Rattle.calc_terms.specs.Trees.{Tree, add, mult, power, root, neg, sub, div, Trees, none, more, nodes}
 
 abbrev pub is_overflow : PlainValue → Bool
 is_overflow (overflow op a b) = true

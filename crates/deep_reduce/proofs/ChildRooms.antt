@@ -4,12 +4,9 @@ use Rattle.deep_reduce.proofs.Shared.{and_parts, all_simple, are_all_simple, roo
 use Rattle.deep_reduce.proofs.NodeRewrites.{AreReducedFrom, IsOver}
 use Rattle.deep_reduce.proofs.TreeRooms.{ready}
 use Rattle.deep_reduce.proofs.Lacking.{lacks_as}
+use Rattle.tree_room.proofs.Rooms.{simple_among as simple_child}
 
 -- ---- a child's room in its parent's
-
-simple_child : (ts us : Trees) (t : Tree) → are_all_simple (append ts (more t us)) ≡ true → all_simple t ≡ true
-simple_child none us t h = (and_parts (all_simple t) (are_all_simple us) h).0
-simple_child (more x ts) us t h = simple_child ts us t (and_parts (all_simple x) (are_all_simple (append ts (more t us))) h).1
 
 simple_before : (ts us : Trees) → are_all_simple (append ts us) ≡ true → are_all_simple ts ≡ true
 simple_before none us h = refl

@@ -8,8 +8,8 @@ use Rattle.deep_reduce.proofs.NodeRewrites.{both}
 use Rattle.deep_reduce.proofs.Opened.{rewritten_written}
 use Rattle.deep_reduce.proofs.Calm.{calm_no_half}
 use Rattle.deep_reduce.proofs.PowerRooms.{half_room, root_room}
-use Rattle.deep_reduce.proofs.RootValues.{of_root}
-use Rattle.deep_reduce.proofs.Heavy.{some_weight, to_number}
+use Rattle.radical_forms.proofs.RootValues.{of_root}
+use Rattle.calc_measures.proofs.Weights.{some_weight, to_number}
 use Rattle.deep_reduce.proofs.Lacking.{lacks_as}
 use Rattle.calc_algebra.proofs.MeaningRewrites as rewrites
 

@@ -4,7 +4,7 @@ use Rattle.deep_reduce.proofs.Shared.{mul-le, pow-le-pow_right, Fraction, zero_f
 use Rattle.deep_reduce.proofs.Joints.{two_terms, power_no_number}
 use Rattle.deep_reduce.proofs.Clashes.{clash, undef_words}
 use Rattle.coefficients.proofs.Lengths.{some_factors}
-use Rattle.deep_reduce.proofs.HeldExponents.{some_counts}
+use Rattle.tree_bits.proofs.ExponentBits.{some_counts}
 use Rattle.tree_bits.specs.Factors.{as_factor}
 use Rattle.tree_bits.specs.HeldTrees.{exponent_in, root_held}
 use Rattle.tree_bits.proofs.Weighted.{split_off}

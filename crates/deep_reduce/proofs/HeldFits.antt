@@ -3,7 +3,7 @@ use Rattle.std.proofs.Common.{◌≡◌, ℕ, suc, ◌+◌, ◌*◌, ◌≤◌, 
 use Rattle.deep_reduce.proofs.Shared.{and_parts, mul-le, is_reduced, is_half_num, is_whole_num, whole_fraction, whole_is, whole_numerator, Tree, num, power, root, Trees, none, more, append, is_mult, is_undef, has_undef, reduced_parts, parts_reduced, HasFewBits, IsJoinedFrom, IsRewritten, IsLifted, IsProductOfPowers, IsSummed, exponent_of, joint, base_of, IsSumHeld, addends_of_each, HasFewBitsRaised, base_in, exponent_in, half, goes_inside, is_zero_or_one, parts_of, rewritten_whole, as_whole, whole_no_half, chosen, IsFactorHeld, AreFactorsHeld, none_held, counts_of, is_counted, raised_high, raised_low, exponents_within, nth, children_of, OfOverflow, NumberFault, reduced_nth, exponent_is_reduced, inside_other, mult}
 use Rattle.deep_reduce.proofs.Clashes.{clash}
 use Rattle.deep_reduce.proofs.Heavy.{exponent_reduced}
-use Rattle.deep_reduce.proofs.HeldExponents.{counted_defined, some_counts, exponent_is_held, multiple_counts}
+use Rattle.tree_bits.proofs.ExponentBits.{counted_defined, some_counts, exponent_is_held, multiple_counts}
 use Rattle.deep_reduce.proofs.HeldFactors.{EachHeld, more_each, parts_each, tree_factor, factor_power, no_zero_exponent}
 use Rattle.deep_reduce.proofs.HeldJoints.{pair_exponents_held, pair_power_held}
 use Rattle.deep_reduce.proofs.JointBytes.{joining}

@@ -1,26 +1,15 @@
 -- A power as a factor: what holds it holds its answer, and within few bits it fits.
-use Rattle.std.proofs.Common.{◌≡◌, ℕ, ◌+◌, ◌*◌, ◌≤◌, ℤ, Bool, true, false, None, Result, refl, sym, ap, ◌∙◌, subst, arith, IfErr, IsOk, nat_abs}
-use Rattle.deep_reduce.proofs.Shared.{eqb-true, mul-le, whole_fraction, whole_numerator, Tree, num, power, none, more, is_undef, is_reduced, is_half_num, is_whole_num, IsReducedPower, lacks_power, HasFewBits, HasFewBitsRaised, has_number_power, is_zero_or_one, rewritten, IsFactorHeld, counts_of, is_counted, power_high, power_low, IsPartHeld, factor_held, raised_high, raised_low, OfOverflow, NumberFault, whole_exponent}
+use Rattle.std.proofs.Common.{◌≡◌, ℕ, ◌*◌, ◌≤◌, ℤ, Bool, true, false, None, Result, refl, sym, ap, ◌∙◌, subst, arith, IfErr, IsOk, nat_abs}
+use Rattle.deep_reduce.proofs.Shared.{eqb-true, mul-le, whole_fraction, Tree, num, power, none, more, is_undef, is_reduced, is_half_num, is_whole_num, IsReducedPower, lacks_power, HasFewBits, HasFewBitsRaised, has_number_power, is_zero_or_one, rewritten, IsFactorHeld, is_counted, IsPartHeld, factor_held, raised_high, raised_low, OfOverflow, NumberFault, whole_exponent}
 use Rattle.deep_reduce.proofs.Clashes.{clash}
 use Rattle.deep_reduce.proofs.HeldFactors.{factor_wider, power_factor, base_factor}
 use Rattle.deep_reduce.proofs.Opened.{is_rewritten}
+use Rattle.tree_bits.proofs.RaisedBits.{raised_most, counted_bits}
 
 -- ---- bits of powers
 
--- of fewer bits they are fewer
-pub raised_most : (n : ℤ) {p q h l : ℕ} → p ≤ h → q ≤ l → (raised_high n p q ≤ raised_high n h l) × (raised_low n p q ≤ raised_low n h l)
-raised_most n h k = grind (arith, mul-le)
-
 pub few_most : (n : ℤ) {p q h l : ℕ} → p ≤ h → q ≤ l → HasFewBitsRaised n h l → HasFewBitsRaised n p q
 few_most n {p} {q} {h} {l} x y f = let r = raised_most n x y in omega (arith, r.0, r.1, f)
-
--- of two together they add up
-pub raised_both : (n : ℤ) (p q k i : ℕ) → (raised_high n p q + raised_high n k i ≡ raised_high n (p + k) (q + i)) × (raised_low n p q + raised_low n k i ≡ raised_low n (p + k) (q + i))
-raised_both n p q k i = grind arith
-
--- as a power counts them
-counted_bits : (n : ℤ) (h l : ℕ) → (power_high (counts_of (num (whole_fraction n))) h l ≡ raised_high n h l) × (power_low (counts_of (num (whole_fraction n))) h l ≡ raised_low n h l)
-counted_bits n h l = grind (arith, whole_numerator)
 
 -- a power of few bits is not a high one
 pub few_magnitude : (n : ℤ) (h l : ℕ) → HasFewBitsRaised n h l → nat_abs n * h ≤ 62

@@ -8,7 +8,8 @@ use Rattle.deep_reduce.proofs.Rewritten.{by_product, by_power}
 use Rattle.product_reduce.specs.Bits.{factor_held as factors_held}
 use Rattle.tree_bits.specs.HeldTrees.{root_held}
 use Rattle.tree_bits.proofs.Powers.{part_raised, part_turned}
-use Rattle.deep_reduce.proofs.HeldParts.{raised_most, raised_both, counted_exponent, part_answer}
+use Rattle.deep_reduce.proofs.HeldParts.{counted_exponent, part_answer}
+use Rattle.tree_bits.proofs.RaisedBits.{raised_most, raised_both}
 
 -- ---- even powers of roots
 

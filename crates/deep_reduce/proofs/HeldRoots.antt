@@ -1,44 +1,11 @@
 -- Roots, and powers with half of an odd number as the exponent, are held by the bits of their bases.
-use Rattle.std.proofs.Common.{◌≡◌, ◌≢◌, ℕ, zero, suc, ◌*◌, ◌^◌, ◌≤◌, ◌<◌, [], ◌∷◌, length, ℤ, Bool, true, false, ◌&&◌, ◌==◌, Result, Err, refl, sym, ap, ◌∙◌, subst, arith, inl, inr, IfOk}
-use Rattle.deep_reduce.proofs.Shared.{and_parts, eqb-true, mul-le, Fraction, zero_fraction, whole_fraction, int_is_negative, Tree, num, undef, add, mult, root, none, more, is_num, is_undef, IsNumber, IsRadicand, is_number, value, natural_of, terms_of, term_of, is_reduced, is_half_num, Term, Surd, one_not_zero, number_words, Parts, magnitude_over, mass, IsHeld, reduced_parts, HasFewBits, IsHeldAsRootPower, numerator, IsHeldAsPowerOf, has_number_power, IsPowerAnswer, IsPowerMisfit, whole_no_half, whole_is, IsFactorHeld, value_held, number_as_factor, IfRational, IsRootAnswer, has_no_root, HasWideRoot, IsOverflow, Overflow, OfOverflow, NumberFault, IsNoLargerThanRoot, factor_is_held, root_is_held, cases_Bool}
+use Rattle.std.proofs.Common.{◌≡◌, ℕ, zero, suc, ◌≤◌, ℤ, Bool, true, false, ◌&&◌, ◌==◌, Result, Err, refl, sym, ap, ◌∙◌, subst, arith, inl, inr, IfOk}
+use Rattle.deep_reduce.proofs.Shared.{and_parts, eqb-true, whole_fraction, int_is_negative, Tree, num, undef, root, is_num, is_undef, is_number, value, is_reduced, is_half_num, number_words, IsHeld, reduced_parts, HasFewBits, IsHeldAsRootPower, numerator, IsHeldAsPowerOf, has_number_power, IsPowerAnswer, IsPowerMisfit, whole_no_half, whole_is, IsFactorHeld, value_held, number_as_factor, IfRational, IsRootAnswer, has_no_root, HasWideRoot, IsOverflow, Overflow, OfOverflow, NumberFault, IsNoLargerThanRoot, factor_is_held, root_is_held, cases_Bool}
 use Rattle.deep_reduce.proofs.Opened.{undef_has_none}
 use Rattle.deep_reduce.proofs.Clashes.{clash, rational_number}
-use Rattle.calc_bits.proofs.Parts.{term_held}
 use Rattle.deep_reduce.proofs.HeldFactors.{tree_high, factor_tree}
-use Rattle.surd_bits.proofs.Bounds.{magnitude_positive}
 use Rattle.calc_bits.specs.Bounds as few
-
--- ---- Numbers that no bits hold are rationals
-
-one_denominator : (d : ℕ) → 0 < d → d ≤ 2 ^ 0 → d ≡ 1
-one_denominator d o l = omega arith
-
-small_square : (m r : ℕ) → 0 < m → 2 ≤ r → m * m * r ≤ (1 * 2 ^ 0) * (1 * 2 ^ 0) → ⊥
-small_square m r h k a = grind (arith, mul-le)
-
-term_without : (c : Fraction) (r : ℕ) (t : Term) → t.coefficient ≡ c → t.radicand ≡ r → c ≢ zero_fraction → 2 ≤ r → IsHeld (t ∷ []) 0 0 → ⊥
-term_without c r t i j z k a =
-    let one : a.denominator ≡ 1 = one_denominator a.denominator a.parts.positive a.low in
-    let p : Parts 1 (t ∷ []) = subst (λ (d : ℕ). Parts d (t ∷ [])) one a.parts in
-    let m : 0 < magnitude_over 1 t.coefficient = magnitude_positive t.coefficient 1 (λ e. z (sym i ∙ e)) (omega arith) p.whole.0 in
-    small_square (magnitude_over 1 t.coefficient) t.radicand m (omega (arith, k, j)) (term_held t 0 0 a 1 p)
-
-two_masses : (e : ℕ) (v : Surd) → 2 ≤ length v → 2 * e ≤ mass e v
-two_masses e (t ∷ (u ∷ v)) l = omega arith
-two_masses e v l = absurd (omega arith)
-
-sum_without : (v : Surd) → 2 ≤ length v → IsHeld v 0 0 → ⊥
-sum_without v l a = omega (arith, two_masses a.scale v l, a.high, a.scaled.positive)
-
-radicand_two : (r : Fraction) → IsRadicand r → 2 ≤ natural_of r.num
-radicand_two r (w, n, i, l, c) = omega (arith, l, ap natural_of i)
-
-rational_without : (b : Tree) → IsNumber b → IsHeld (value b) 0 0 → is_num b ≡ true
-rational_without (num q) n a = refl
-rational_without (add ts) n a = absurd (sum_without (terms_of ts) n.0 a)
-rational_without (root (num r)) n a = absurd (term_without (term_of (root (num r))).coefficient (term_of (root (num r))).radicand (term_of (root (num r))) refl refl one_not_zero (radicand_two r n) a)
-rational_without (mult (more (num q) (more (root (num r)) none))) n a = absurd (term_without q (term_of (mult (more (num q) (more (root (num r)) none)))).radicand (term_of (mult (more (num q) (more (root (num r)) none)))) refl refl n.0 (radicand_two r n.2) a)
-rational_without t n a = absurd n
+use Rattle.radical_forms.proofs.HeldRationals.{rational_without}
 
 -- ---- roots
 

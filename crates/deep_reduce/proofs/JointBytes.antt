@@ -3,9 +3,10 @@ use Rattle.std.proofs.Common.{◌≡◌, ℕ, zero, suc, ◌+◌, ◌*◌, ◌^�
 use Rattle.deep_reduce.proofs.Shared.{and_parts, eqb-true, pow_pos, is_number, is_reduced, are_reduced, is_whole_num, base_of, number_words, reduced_words, counted, counted_among, SpansRoot, SpansTree, SpansTrees, number_bytes, tree_bytes, counted_number, counted_other, Tree, num, mult, power, Trees, none, more, count, is_mult, size, sizes, reduced_parts, IsJoinedFrom, whole_power_room, removed, base_in, exponent_of, joint, is_single, joined_pair, nth, exponent_count, numbers_among, product_count, sum_count, sum_room, product_room, power_room, product_power_room, counts_one, product_bytes, scaled, exponents_added, not-true, reduced_nth}
 use Rattle.calc_room.proofs.NumberSpans.{value_spanned}
 use Rattle.deep_reduce.proofs.Calm.{all_nth, all_removed, all_base}
-use Rattle.deep_reduce.proofs.JointCounts.{joint_count, pair_joined_count, sizes_removed, numbers_one, numbers_other}
+use Rattle.deep_reduce.proofs.JointCounts.{joint_count, pair_joined_count, sizes_removed, numbers_one}
 use Rattle.deep_reduce.proofs.JointRooms.{joined_spans}
 use Rattle.deep_reduce.proofs.Settled.{IsJoint, joint_at, pair_joined}
+use Rattle.tree_room.proofs.Counts.{no_number as numbers_other}
 
 -- ---- the other factors
 

@@ -2,14 +2,12 @@
 use Rattle.std.proofs.Common.{◌≡◌, ℕ, zero, suc, ◌+◌, ◌*◌, ◌≤◌, ◌<◌, Bool, true, false, ◌&&◌, if◌then◌else◌, refl, sym, ap, ◌∙◌, arith}
 use Rattle.deep_reduce.proofs.Shared.{and_parts, is_number, is_opaque_exponent, num_one, base_of, counted, counted_among, counted_number, counted_other, Tree, add, power, Trees, none, more, count, size, sizes, replaced, removed, exponent_of, is_partner, joint, is_single, IsPairAt, joined_pair, nth, exponent_count, numbers_among, product_count, counts_one, power_counts, not-true, one_base}
 use Rattle.deep_reduce.proofs.Calm.{one_whole}
+use Rattle.tree_room.proofs.Counts.{no_number as numbers_other}
 
 -- ---- among factors
 
 pub numbers_one : (t : Tree) (ts : Trees) → is_number t ≡ true → numbers_among (more t ts) ≡ suc (numbers_among ts)
 numbers_one t ts h = omega (arith, ap (λ (z : Bool). (if z then 1 else 0) + numbers_among ts) h)
-
-pub numbers_other : (t : Tree) (ts : Trees) → is_number t ≡ false → numbers_among (more t ts) ≡ numbers_among ts
-numbers_other t ts h = omega (arith, ap (λ (z : Bool). (if z then 1 else 0) + numbers_among ts) h)
 
 -- a factor counts as its base and its exponent do
 pub factor_counts : (t : Tree) → counted (base_of t) + exponent_count (exponent_of t) ≡ counted t

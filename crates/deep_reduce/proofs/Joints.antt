@@ -2,7 +2,8 @@
 use Rattle.std.proofs.Common.{◌≡◌, suc, ◌≤◌, inl, inr, Bool, true, false, if◌then◌else◌, length, pos, refl, ap, ◌∙◌, subst, arith, max}
 use Rattle.deep_reduce.proofs.Shared.{and_parts, one_fraction, nest, nest_of, weight, load_of_factor, is_number, IsNumber, IsTerm, AreTerms, is_term, terms_of, term_of, are_numbers, is_reduced, is_opaque_exponent, is_whole_num, num_one, base_of, IsSumForm, NoneIs, number_terms, other_terms, Tree, add, power, Trees, none, more, is_add, HasTwo, whole_denominator, number_test, number_words, term_words, reduced_parts, number_of_term, nest_over, nest_of_joint, exponent_of, joint, cases_Bool}
 use Rattle.deep_reduce.proofs.Clashes.{contrary}
-use Rattle.deep_reduce.proofs.Heavy.{exponent_reduced, to_number, to_other, base_nest, over_base, over_exponents}
+use Rattle.deep_reduce.proofs.Heavy.{exponent_reduced, over_base, over_exponents}
+use Rattle.calc_measures.proofs.Weights.{to_number, to_other, base_nest}
 
 -- ---- exponents
 

@@ -11,6 +11,7 @@ use Rattle.deep_reduce.proofs.JointBytes.{IsJoining, joining, exponents_lack as 
 use Rattle.deep_reduce.proofs.PowerBytes.{argument_needs, inner_needs, exponents_lack, part_lacks, product_lacks, split_at, all_first}
 use Rattle.deep_reduce.proofs.Rewritten.{parts_calm, parts_single, powers_raised, exponents_calm, exponents_span, raised_calm, by_product, by_power}
 use Rattle.calc_terms.specs.declared.kind.Kind.TheVariants as kind
+use Rattle.product_reduce.proofs.Stepped.{mult_words as product_words}
 
 -- ---- refusals
 
@@ -19,10 +20,6 @@ lacks_as f k h = full_as f k (λ full l. h l)
 
 pub result_lacks : {A : Type 0} {n m a b : ℕ} (r : Result A NumberFault) → IfErr r (LacksBelow n a) → (a < n → b < m) → IfErr r (LacksBelow m b)
 result_lacks r k h = refusal_as r k (λ f l. lacks_as f l h)
-
--- a product by its children
-pub product_words : (t : Tree) → is_mult t ≡ true → t ≡ mult (children_of t)
-product_words t h = grind arith
 
 -- a product that counts less needs less
 pub fewer_needs : (h k m : ℕ) → h ≤ k → product_room h m ≤ product_room k m

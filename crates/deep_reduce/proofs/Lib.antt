@@ -7,7 +7,6 @@ mod JointCounts
 mod JointRooms
 mod Settled
 mod JointBytes
-mod RootValues
 mod PowerRooms
 mod Rewritten
 mod PowerBytes
@@ -23,13 +22,11 @@ mod Arms
 pub mod NodeRooms
 pub mod NodeBytes
 pub mod NodeRewrites
-pub mod Literals
 pub mod TreeRooms
 pub mod PlainNodes
 pub mod Overflowing
 pub mod EasyNodes
 pub mod NodeAnswers
-pub mod Rationals
 pub mod Steps
 pub mod Quotients
 pub mod Parents
@@ -38,7 +35,6 @@ pub mod Ready
 pub mod Results
 pub mod Sides
 pub mod Told
-pub mod HeldExponents
 pub mod HeldFactors
 pub mod HeldParts
 pub mod HeldPowers

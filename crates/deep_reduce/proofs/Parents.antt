@@ -1,55 +1,13 @@
 -- A root with its children, whatever it holds: a child is taken out.
 use Rattle.std.proofs.Common.{◌≡◌, ℕ, [], ◌∷◌, refl, ap, ◌∙◌, subst, arith}
-use Rattle.deep_reduce.proofs.Shared.{gives_without, Payload, Tree, Trees, none, more, append, count, cut_at, represents_count, without_put, GivesSides, State, IsParent, held_at, parent_handed, behind_first, front_same, front_put, front_end, gives, gives_as, ends_at, kids_of_root, other_root, other_tree, by_test, root_arity, root-put, kids-put, nth, plain, children_of, Forest, empty, tree, arity, kids, root_payload, root_count, with_root_kids, tree_nth, without_nth, AllOnce, IsOwned, IsHanded, Represents, Ends, Gives, KeepsFront, kids_of, root_tree, without_root, put, Stands, forest}
+use Rattle.deep_reduce.proofs.Shared.{gives_without, Payload, Tree, Trees, none, more, count, represents_count, without_put, GivesSides, State, IsParent, held_at, parent_handed, behind_first, front_same, front_put, front_end, gives_as, ends_at, kids_of_root, nth, plain, children_of, Forest, arity, kids, tree_nth, without_nth, IsOwned, IsHanded, Ends, Gives, KeepsFront, kids_of, root_tree, without_root, put, Stands, forest}
+use Rattle.reduce_walk.proofs.TakenOut.{parent_end, IsTakenOut, taken_out, parent_owned}
 
 -- how many children a reader finds
 pub parent_children : {s : State} {x : Payload} {i : ℕ} {ts : Trees} → Stands s → IsParent x i ts (forest s) → arity (kids_of i (forest s)) ≡ count ts
 parent_children {i = i} st h = ap arity (kids_of_root i st h.root) ∙ represents_count h.kids
 
--- ---- from call to call
-
-tree_put : (i : ℕ) (n f : Forest) → root_tree i (put i n f) ≡ with_root_kids n (root_tree i f)
-tree_put i n empty = refl
-tree_put i n (tree l k r) = grind (arith, by_test, tree_put i n r)
-
-payload_with : (n t : Forest) → root_payload (with_root_kids n t) ≡ root_payload t
-payload_with n t = grind arith
-
-count_with : (n t : Forest) → root_count (with_root_kids n t) ≡ root_count t
-count_with n t = grind arith
-
--- it has other children
-pub parent_put : {x : Payload} {i : ℕ} {ts us : Trees} {f : Forest} (n : Forest) → IsParent x i ts f → Represents n us → IsParent x i us (put i n f)
-parent_put n h k = grind (arith, root-put, tree_put, payload_with, count_with, kids-put)
-
--- another tree comes
-pub parent_end : {x : Payload} {i j : ℕ} {ts : Trees} {t f g : Forest} → IsParent x i ts g → Ends j t g f → IsParent x i ts f
-parent_end h k = grind (arith, other_tree, other_root)
-
--- ---- a child is taken out, and stands last
-
-pub record IsTakenOut (x : Payload) (i : ℕ) (t : Tree) (others : Trees) (f new : Forest) (h : ℕ) : Type 0 where
-  pub now : Forest
-  pub kids : Represents now others
-  pub gives : Gives (put i now f) new h (λ u. u ≡ t)
-  pub parent : IsParent x i others (put i now f)
-
-pub taken_out : {x : Payload} {i : ℕ} {f new : Forest} {h : ℕ} (n : ℕ) (ts : Trees) (t : Tree) (us : Trees) → IsParent x i (append ts (more t us)) f → n ≡ count ts
-    → Ends h (tree_nth n (kids (root_tree i f))) (put i (without_nth n (kids (root_tree i f))) f) new → IsTakenOut x i t (append ts us) f new h
-taken_out {i = i} {f = f} n ts t us o e d =
-    let c = cut_at n ts t us (kids (root_tree i f)) e o.kids in
-    let now = without_nth n (kids (root_tree i f)) in
-    record { now = now; kids = c.rest; gives = gives d c.one refl; parent = parent_put now o c.rest }
-
 -- ---- a parent that goes
-
-once_of : (t : Forest) → arity t ≡ 1 → root_count t ≡ 1 → AllOnce (kids t) → AllOnce t
-once_of empty e c h = absurd (omega (arith, e))
-once_of (tree l b empty) e c h = (c, h, tt)
-once_of (tree l b (tree m d s)) e c h = absurd (omega arith)
-
-pub parent_owned : {x : Payload} {i : ℕ} {ts : Trees} {f : Forest} → IsParent x i ts f → IsOwned i f
-parent_owned {i = i} {f = f} h = record { root = h.root; once = once_of (root_tree i f) (root_arity i f h.root) h.count h.kids.once }
 
 -- the first child of two, and then the other, before the parent goes
 pub record AreTakenOut (i : ℕ) (ts : Trees) (old new : Forest) (left right : ℕ) : Type 0 where

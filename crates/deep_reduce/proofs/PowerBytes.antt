@@ -4,9 +4,10 @@ use Rattle.deep_reduce.proofs.Shared.{and_parts, pow_pos, is_number, is_reduced,
 use Rattle.deep_reduce.proofs.Clashes.{contrary}
 use Rattle.deep_reduce.proofs.Calm.{calm_exponent}
 use Rattle.deep_reduce.proofs.JointBytes.{product_base}
-use Rattle.deep_reduce.proofs.JointCounts.{numbers_one, numbers_other}
+use Rattle.deep_reduce.proofs.JointCounts.{numbers_one}
 use Rattle.deep_reduce.proofs.Rewritten.{AreSingle, parts_calm, parts_single, powers_raised, root_counts}
 use Rattle.tree_room.proofs.Coefficients.{split_counts}
+use Rattle.tree_room.proofs.Counts.{numbers_appended as numbers_append, no_number as numbers_other}
 
 -- ---- what a whole power of each base needs
 
@@ -86,10 +87,6 @@ counts_parts fs r n = by (is_num_one (split_product fs).coefficient) refl
           numbers = omega (arith, ap numbers_among is, numbers_one c us f.number, no_numbers us f.no_number);
           others = omega (arith, ap counted_among is, counted_number c us f.number, split_counts fs);
         }
-
-numbers_append : (ts us : Trees) → numbers_among (append ts us) ≡ numbers_among ts + numbers_among us
-numbers_append none us = omega arith
-numbers_append (more t ts) us = omega (arith, numbers_append ts us)
 
 -- the parts before one and behind it
 pub record IsSplitAt (gs : Trees) (e : Tree) (before : Trees) (t : Tree) (rest : Trees) : Type 0 where

@@ -4,7 +4,7 @@ use Rattle.deep_reduce.proofs.Shared.{and_parts, is_number, value, are_reduced, 
 use Rattle.deep_reduce.proofs.Clashes.{clash, unclear, rational_number, zero_words}
 use Rattle.std.proofs.Math.IntN.{*ℤ_comm}
 use Rattle.calc_algebra.proofs.ExponentLaws.{whole_times}
-use Rattle.deep_reduce.proofs.HeldExponents.{counted_defined, multiple_of}
+use Rattle.tree_bits.proofs.ExponentBits.{counted_defined, multiple_of}
 use Rattle.product_reduce.proofs.Misfits.{permuted_one_is}
 use Rattle.product_reduce.proofs.Sorted.{permuted_lists}
 use Rattle.sum_reduce.proofs.CollectedExponents.{whole_number, as_whole}

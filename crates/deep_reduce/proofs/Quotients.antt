@@ -7,7 +7,7 @@ use Rattle.deep_reduce.proofs.NodeBits.{two_factors, second_side, answer_defined
 use Rattle.deep_reduce.proofs.EasyNodes.{number_defined}
 use Rattle.deep_reduce.proofs.NodeRewrites.{both}
 use Rattle.deep_reduce.proofs.NodeRooms.{quotient_room}
-use Rattle.deep_reduce.proofs.Rationals.{inverse_value, zero_inverse}
+use Rattle.calc_measures.proofs.Inverses.{inverse_value, zero_inverse}
 use Rattle.deep_reduce.proofs.Steps.{two, left_undefined, right_undefined, two_rationals, product_value, AreTwo, are_two}
 use Rattle.calc_algebra.proofs.MeaningRewrites as rewrites
 

@@ -2,12 +2,9 @@
 use Rattle.std.proofs.Common.{◌≡◌, ℕ, suc, ◌+◌, ◌≤◌, ◌<◌, [], ◌∷◌, refl, sym, ap, ◌∙◌, subst, arith}
 use Rattle.deep_reduce.proofs.Shared.{nest, nest_of, weight, Tree, Trees, none, more, append, count, IsOver, IsTaken, taken, over_put, IsAdded, added_as, inserted_behind, IsReducedPower, weight_of_bases, IsTransparent, AreTransparent, AreReducedPowers, base_in, exponent_in, inserted, Forest, kids, with_nth, tree_nth, without_nth, Represents, Ends, Gives, KeepsFront, root_tree, without_root, put, behind_first, front_same, front_at, front_put, append-none, put-put, put-same, count_append}
 use Rattle.calc_terms.specs.declared.kind.Kind.TheVariants as kind
+use Rattle.reduce_walk.proofs.Walks.{append_assoc, none_left}
 
 -- ---- lists
-
-append_assoc : (ts us vs : Trees) → append (append ts us) vs ≡ append ts (append us vs)
-append_assoc none us vs = refl
-append_assoc (more t ts) us vs = ap (more t) (append_assoc ts us vs)
 
 powers_count : (ts us : Trees) → AreReducedPowers ts us → count us ≡ count ts
 powers_count none none h = refl
@@ -124,10 +121,6 @@ next_reduced {i} {at} {ts = ts} {old} {new} {end = end} n a u power g e =
       whole = x.whole ∙ put-put i x.now a.now new ∙ n.whole x.now;
       over = x.over;
     }
-
-none_left : (first rest : Trees) → count (append first rest) ≤ count first → rest ≡ none
-none_left first none l = refl
-none_left first (more t rest) l = absurd (omega (arith, count_append first (more t rest)))
 
 -- all powers are reduced
 pub record AreAllReduced (i : ℕ) (ts : Trees) (old new : Forest) : Type 0 where

@@ -11,7 +11,7 @@ use Rattle.deep_reduce.proofs.NodeBits.{zero_held, one_held, opposite_factors, t
 use Rattle.deep_reduce.proofs.NodeRooms.{product_node_room, power_node_room, undef_room, same_room, number_room, sum_room, root_node_room, opposite_room, difference_room}
 use Rattle.deep_reduce.proofs.PowerRooms.{undef_root_room}
 use Rattle.deep_reduce.proofs.PlainNodes.{undef_has_no_value}
-use Rattle.deep_reduce.proofs.Rationals.{opposite_value}
+use Rattle.calc_measures.proofs.Inverses.{opposite_value}
 use Rattle.calc_algebra.proofs.MeaningRewrites as rewrites
 
 abbrev pub two : Tree → Tree → Trees

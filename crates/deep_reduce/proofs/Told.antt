@@ -26,9 +26,6 @@ div_kind t h = grind arith
 
 -- ---- the node by its children
 
-pub root_is : (t : Tree) → is_root t ≡ true → t ≡ root (argument_of t)
-root_is t h = grind arith
-
 pub neg_is : (t : Tree) → is_neg t ≡ true → t ≡ neg (nth 0 (children_of t))
 neg_is t h = grind arith
 

@@ -1,38 +1,17 @@
 -- What holds the answers of children holds the node over them, by the bounds of the tree.
-use Rattle.std.proofs.Common.{◌≡◌, ℕ, ◌+◌, ◌^◌, ◌≤◌, max, ℤ, Bool, true, false, ◌&&◌, ◌||◌, Option, Some, None, refl, sym, ap, ◌∙◌, subst, arith}
-use Rattle.deep_reduce.proofs.Shared.{and_parts, mul-le, pow-add, pow-le-pow_right, whole_literal, half_literal, or_literal, is_whole_literal, is_half_literal, HighLow, all_simple, are_all_simple, is_simple_power, power_bounds, bounds, bounds_of_terms, bounds_of_factors, high, low, Tree, num, symbol, add, mult, power, root, neg, div, Trees, none, more, is_num, is_symbol, is_undef, has_undef, is_leaf, HoldsPower, holds_whole, holds_half, holds_kept, HoldsNode, IsNodeAnswer, IsReducedFrom, IsFactorHeld, AreFactorsHeld, none_held, AreTreesHeld, raised_high, raised_low, factor_is_held, symbol_is_held, children_of, or_parts, number_reduced, or_from}
+use Rattle.std.proofs.Common.{◌≡◌, ◌≤◌, ℤ, Bool, true, false, ◌&&◌, ◌||◌, Option, Some, None, refl, sym, ap, ◌∙◌, subst, arith}
+use Rattle.deep_reduce.proofs.Shared.{numerator, is_half_num, and_parts, whole_literal, half_literal, or_literal, is_whole_literal, is_half_literal, all_simple, are_all_simple, is_simple_power, power_bounds, bounds, bounds_of_factors, high, low, Tree, num, symbol, power, Trees, none, more, is_num, is_symbol, is_undef, has_undef, is_leaf, HoldsPower, holds_whole, holds_half, holds_kept, HoldsNode, IsNodeAnswer, IsReducedFrom, IsFactorHeld, AreFactorsHeld, none_held, AreTreesHeld, raised_high, raised_low, factor_is_held, symbol_is_held, children_of, or_parts, number_reduced, or_from}
 use Rattle.deep_reduce.proofs.Clashes.{clash, or_other}
 use Rattle.deep_reduce.proofs.HeldFactors.{factor_tree, tree_factor, undef_factor}
-use Rattle.deep_reduce.proofs.Literals.{whole_answer, half_literal_answer}
+use Rattle.calc_measures.proofs.LiteralValues.{whole_answer, half_literal_answer}
 use Rattle.deep_reduce.proofs.NodeBits.{first_side, second_side}
 use Rattle.deep_reduce.proofs.NodeRewrites.{AreReducedFrom, IsOver, over_number, over_symbol, over_undef, over_sum, over_product, over_power, over_root, over_neg, over_sub, over_div}
 use Rattle.deep_reduce.proofs.PlainNodes.{undef_has_no_value}
 use Rattle.product_reduce.specs.Bits.{factor_held}
 use Rattle.tree_bits.specs.Rows.{bounds_of_each}
-use Rattle.tree_bits.proofs.Rows.{rational_row, sum_row, rational_to_symbol, symbol_to_symbol}
-
--- ---- where high is 0
-
-zero_power : (m : Option ℤ) (b : HighLow) → (b.high ≡ 0 → b.low ≡ 0) → (power_bounds m b).high ≡ 0 → (power_bounds m b).low ≡ 0
-zero_power m b h k = grind (arith, mul-le)
-
-mutual
-  pub zero_high : (t : Tree) → high t ≡ 0 → low t ≡ 0
-  zero_high (add ts) e = zero_terms ts (omega (arith, e))
-  zero_high (mult ts) e = zero_factors ts e
-  zero_high (power b f) e = zero_power (or_literal (whole_literal f) (half_literal f)) (bounds b) (zero_high b) e
-  zero_high (root a) e = zero_high a e
-  zero_high (neg a) e = zero_high a e
-  zero_high (div a b) e = omega (arith, e, zero_high a (omega (arith, e)))
-  zero_high t e = absurd (omega (arith, e))
-
-  zero_terms : (ts : Trees) → (bounds_of_terms ts).high ≡ 0 → (bounds_of_terms ts).low ≡ 0
-  zero_terms none e = refl
-  zero_terms (more t ts) e = omega (arith, zero_high t (omega (arith, e)), zero_terms ts (omega (arith, e)))
-
-  zero_factors : (ts : Trees) → (bounds_of_factors ts).high ≡ 0 → (bounds_of_factors ts).low ≡ 0
-  zero_factors none e = refl
-  zero_factors (more t ts) e = omega (arith, zero_high t (omega (arith, e)), zero_factors ts (omega (arith, e)))
+use Rattle.tree_bits.proofs.Rows.{rational_row, sum_row, rational_to_symbol, symbol_to_symbol, two_powers_within as two_powers, raised_within as row_most}
+use Rattle.calc_measures.proofs.ZeroBounds.{zero_high}
+use Rattle.tree_bits.proofs.RaisedBits.{base_most}
 
 -- ---- children
 
@@ -52,12 +31,6 @@ factors_held (more t ts) (more u us) s h d =
 factors_held ts us s h d = absurd h
 
 -- ---- powers
-
-row_most : (n : ℤ) (b : HighLow) → (raised_high n b.high b.low ≤ (power_bounds (Some n) b).high) × (raised_low n b.high b.low ≤ (power_bounds (Some n) b).low)
-row_most n b = grind (arith, mul-le)
-
-base_most : (n : ℤ) (b : HighLow) → (b.high ≤ (power_bounds (Some n) b).high) × (b.low ≤ (power_bounds (Some n) b).low)
-base_most n b = grind (arith, mul-le)
 
 -- the row is by the exponent n
 record IsRow (b e : Tree) (n : ℤ) : Type 0 where
@@ -90,11 +63,11 @@ power_holds b c e f s p h k d = by (whole_literal e) (half_literal e) refl refl
         holds_whole n (high b) (low b) (whole_answer e f n i k.plain) (h.held p d) (omega (arith, m.0, r.high)) (omega (arith, m.1, r.low))
     by None (Some n) i j =
         let r = row_is b e n (ap (λ (o : Option ℤ). or_literal o (half_literal e)) i ∙ j) in
-        let a = half_literal_answer e f n j k.plain in
+        let (q, is, half, same) = half_literal_answer e f n j k.plain in
         let m = row_most n (bounds b) in
         let w = base_most n (bounds b) in
-        holds_half (high b) (low b) a.0 (zero_high b) (h.held p d) (omega (arith, w.0, r.high)) (omega (arith, w.1, r.low))
-        (omega (arith, m.0, r.high, ap (λ (z : ℤ). raised_high z (high b) (low b)) a.1)) (omega (arith, m.1, r.low, ap (λ (z : ℤ). raised_low z (high b) (low b)) a.1))
+        holds_half (high b) (low b) (ap is_half_num is ∙ half) (zero_high b) (h.held p d) (omega (arith, w.0, r.high)) (omega (arith, w.1, r.low))
+        (omega (arith, m.0, r.high, ap (λ (z : ℤ). raised_high z (high b) (low b)) (ap numerator is ∙ same))) (omega (arith, m.1, r.low, ap (λ (z : ℤ). raised_low z (high b) (low b)) (ap numerator is ∙ same)))
     by None None i j =
         let t = and_parts (is_num b || is_symbol b) (is_symbol e) (or_other (is_whole_literal e || is_half_literal e) _ s (or_from (is_whole_literal e) (is_half_literal e) (no_literal (whole_literal e) i) (no_literal (half_literal e) j))) in
         let l = symbol_leaf e t.1 in
@@ -103,9 +76,6 @@ power_holds b c e f s p h k d = by (whole_literal e) (half_literal e) refl refl
         holds_kept (ap is_num f-is ∙ l.1) (subst (λ (x : Tree). IsFactorHeld (power x f) (high (power b e)) (low (power b e))) (sym c-is) (subst (λ (x : Tree). IsFactorHeld (power b x) (high (power b e)) (low (power b e))) (sym f-is) (symbol_power b e t.0 t.1)))
 
 -- ---- the node
-
-two_powers : (h k : ℕ) → 2 ^ h + 2 ^ k ≤ 2 ^ (max h k + 1)
-two_powers h k = grind (arith, pow-le-pow_right, pow-add)
 
 pub holds_over : (t u : Tree) → all_simple t ≡ true → IsOver t u → has_undef (children_of u) ≡ false → HoldsNode u (high t) (low t)
 holds_over t u s (over_number q) d = tree_factor (num q) (number_reduced q) refl (rational_row q)

@@ -4,7 +4,7 @@ use Rattle.deep_reduce.proofs.Shared.{and_parts, ints, Contains-append_left, Con
 use Rattle.deep_reduce.proofs.Rewritten.{some_counted}
 use Rattle.std.proofs.lemmas.List.{length-append}
 use Rattle.deep_reduce.proofs.Calm.{whole_kept}
-use Rattle.deep_reduce.proofs.Literals.{half_answer}
+use Rattle.calc_measures.proofs.LiteralValues.{half_answer}
 use Rattle.deep_reduce.proofs.JointRooms.{whole_count_most}
 use Rattle.deep_reduce.proofs.NodeRewrites.{AreReducedFrom, IsOver, over_number, over_symbol, over_undef, over_sum, over_product, over_power, over_root, over_neg, over_sub, over_div}
 use Rattle.deep_reduce.proofs.PowerRooms.{kept_counts}

@@ -44,6 +44,7 @@ use tree_handles::{
 /// order of their bases; neighbours of one base are joined from left to right, each joint reduced before the next pair
 /// is sought; and so again until no two have one base.
 #[cycle(reduction)]
+#[tactic(auto, using(crate::proofs::Arms::is_finished, tree_handles::proofs::Given::given_told))]
 pub fn reduce_product(pool: &mut Pool, product: Handle) -> Result<Handle, NumberFault>
     requires stands { Stands pool.old }
     requires handed { IsHanded product (forest pool.old) }
@@ -85,6 +86,7 @@ pub fn reduce_product(pool: &mut Pool, product: Handle) -> Result<Handle, Number
 
 /// From a pair on, two neighbours of one base become one factor, until there is no pair behind.
 #[cycle(reduction)]
+#[tactic(auto, using(tree_handles::proofs::Given::given_handed, tree_handles::proofs::Given::given_told))]
 fn join_pairs(pool: &mut Pool, product: Handle, first: u16) -> Result<Handle, NumberFault>
     requires stands { Stands pool.old }
     requires handed { IsHanded product (forest pool.old) }
@@ -142,6 +144,7 @@ fn join_two(pool: &mut Pool, product: Handle, at: u16) -> Result<Handle, NumberF
 
 /// The joint of two factors, reduced in its place: first the sum of the exponents, then the power.
 #[cycle(reduction)]
+#[tactic(auto, using(tree_handles::proofs::Over::over_product, tree_handles::proofs::Over::children_in))]
 fn reduce_joint(pool: &mut Pool, product: Handle, at: u16) -> Result<Handle, NumberFault>
     requires stands { Stands pool.old }
     requires handed { IsHanded product (forest pool.old) }
@@ -215,6 +218,7 @@ pub fn reduce_power(pool: &mut Pool, power: Handle) -> Result<Handle, NumberFaul
 /// A power after one rewriting: its powers are reduced where it is a product, and else its exponent,
 /// and then it is reduced itself.
 #[cycle(reduction)]
+#[tactic(auto, using(tree_handles::proofs::Seen::live))]
 fn reduce_rewritten(pool: &mut Pool, tree: Handle) -> Result<Handle, NumberFault>
     requires stands { Stands pool.old }
     requires handed { IsHanded tree (forest pool.old) }
@@ -245,6 +249,7 @@ fn reduce_rewritten(pool: &mut Pool, tree: Handle) -> Result<Handle, NumberFault
 
 /// Each power of a product, reduced in its place, from left to right.
 #[cycle(reduction)]
+#[tactic(auto, using(tree_handles::proofs::Seen::live))]
 fn reduce_powers(pool: &mut Pool, product: Handle) -> Result<Handle, NumberFault>
     requires stands { Stands pool.old }
     requires handed { IsHanded product (forest pool.old) }

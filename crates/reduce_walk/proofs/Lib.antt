@@ -5,4 +5,6 @@ pub mod Bytes
 pub mod Stopping
 pub mod Ready
 pub mod Port
+pub mod HeldRationals
+pub mod TakenOut
 pub mod Shared

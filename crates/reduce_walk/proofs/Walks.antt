@@ -9,7 +9,7 @@ use Rattle.tree_handles.proofs.Releases.{arity_le, few_nodes}
 
 -- ---- lists
 
-append_assoc : (ts us vs : Trees) → append (append ts us) vs ≡ append ts (append us vs)
+pub append_assoc : (ts us vs : Trees) → append (append ts us) vs ≡ append ts (append us vs)
 append_assoc none us vs = refl
 append_assoc (more t ts) us vs = ap (more t) (append_assoc ts us vs)
 
@@ -288,7 +288,7 @@ pub record AllWalked (A : Tree → Tree → Type 0) (i : ℕ) (old new : Forest)
   pub rest : without_root i new ≡ without_root i old
   pub front : KeepsFront (i ∷ []) old new
 
-none_left : (first rest : Trees) → count (append first rest) ≤ count first → rest ≡ none
+pub none_left : (first rest : Trees) → count (append first rest) ≤ count first → rest ≡ none
 none_left first none l = refl
 none_left first (more t rest) l = absurd (omega (arith, count_append first (more t rest)))
 

@@ -8,4 +8,6 @@ pub mod FewBits
 pub mod Factors
 pub mod Rows
 pub mod Joined
+pub mod RaisedBits
+pub mod ExponentBits
 pub mod Shared

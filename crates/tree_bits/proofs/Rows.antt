@@ -75,7 +75,7 @@ sum_row ts us k =
 pub opposite_row : (a : Tree) (xs : List Addend) → IsSumHeld xs (high a) (low a) → IsSumHeld (distributed surd_minus_one xs) (high (neg a)) (low (neg a))
 opposite_row a xs k = sum_wider (omega arith) (omega arith) (distributed_held surd_minus_one xs (high a) (low a) 0 0 minus_one_held k)
 
-two_powers_within : (h k : ℕ) → 2 ^ h + 2 ^ k ≤ 2 ^ (max h k + 1)
+pub two_powers_within : (h k : ℕ) → 2 ^ h + 2 ^ k ≤ 2 ^ (max h k + 1)
 two_powers_within h k =
     let a : 2 ^ h ≤ 2 ^ max h k = pow-le-pow_right {n = 2} (omega arith) (omega arith) in
     let b : 2 ^ k ≤ 2 ^ max h k = pow-le-pow_right {n = 2} (omega arith) (omega arith) in
@@ -118,7 +118,7 @@ quotient_row a b x y z e o s t =
 times_max : (n h : ℕ) → n * h ≤ max 1 n * h
 times_max n h = mul-le n h (max 1 n) h (omega arith) (omega arith)
 
-raised_within : (n : ℤ) (b : HighLow) → (raised_high n b.high b.low ≤ (power_bounds (Some n) b).high) × (raised_low n b.high b.low ≤ (power_bounds (Some n) b).low)
+pub raised_within : (n : ℤ) (b : HighLow) → (raised_high n b.high b.low ≤ (power_bounds (Some n) b).high) × (raised_low n b.high b.low ≤ (power_bounds (Some n) b).low)
 raised_within (pos n) b = (times_max n b.high, times_max n b.low)
 raised_within (negsuc n) b = (omega arith, omega arith)
 

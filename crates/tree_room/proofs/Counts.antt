@@ -71,14 +71,14 @@ flat_product ts us = spliced (mult ts) ts us (λ e. number_product_free ts (numb
 
 -- ---- the Numbers among children
 
-numbers_appended : (ts us : Trees) → numbers_among (append ts us) ≡ numbers_among ts + numbers_among us
+pub numbers_appended : (ts us : Trees) → numbers_among (append ts us) ≡ numbers_among ts + numbers_among us
 numbers_appended none us = omega arith
 numbers_appended (more t ts) us = omega (arith, numbers_appended ts us)
 
 pub product_at_least : (ts : Trees) → 2 + counted_among ts ≤ product_count ts
 product_at_least ts = omega arith
 
-no_number : (t : Tree) (ts : Trees) → is_number t ≡ false → numbers_among (more t ts) ≡ numbers_among ts
+pub no_number : (t : Tree) (ts : Trees) → is_number t ≡ false → numbers_among (more t ts) ≡ numbers_among ts
 no_number t ts h = ap (λ z. (if z then 1 else 0) + numbers_among ts) h ∙ omega arith
 
 -- r takes the places of t and u

@@ -109,7 +109,7 @@ beside u t s n r a e l h k =
 
 -- ---- nodes with a list of children
 
-simple_among : (ts us : Trees) (t : Tree) → are_all_simple (append ts (more t us)) ≡ true → all_simple t ≡ true
+pub simple_among : (ts us : Trees) (t : Tree) → are_all_simple (append ts (more t us)) ≡ true → all_simple t ≡ true
 simple_among none us t h = (and_parts (all_simple t) (are_all_simple us) h).0
 simple_among (more x ts) us t h = simple_among ts us t (and_parts (all_simple x) (are_all_simple (append ts (more t us))) h).1
 

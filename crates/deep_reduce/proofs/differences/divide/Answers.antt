@@ -1,7 +1,7 @@
 use Rattle.std.proofs.Common.{◌≡◌, ◌*◌, negsuc, rules, length, inr, true, false, ◌<◌, ◌+◌, ◌^◌, refl, sym, ap, ◌∙◌, subst, arith}
 use Rattle.deep_reduce.proofs.Shared.{fraction_fits, Fraction, minus_one_fraction, HoldsNode, holds_whole, IsFactorHeld, is_reduced, Tree, size, sizes, num, mult, none, more, power, has_undef, tree_of, gives_as, given_handed, given_root, given_told, nth, children_of, counted, SpansTree, expression, seen, IsNodeAnswer, IsCalmAtZero, stands_last, free_of, replaced_free, passed_on, product_count, product_room, product_power_room, HoldsQuotient}
 use Rattle.deep_reduce.proofs.NodeBits.{two_factors, second_side, holds_as}
-use Rattle.deep_reduce.proofs.Rationals.{root_fits}
+use Rattle.reduce_walk.proofs.HeldRationals.{root_fits}
 use Rattle.deep_reduce.proofs.Results.{answer_as, overflow_as, overflow_on}
 use Rattle.deep_reduce.proofs.Sides.{left_beside, rewritten_front, paired_front}
 use Rattle.deep_reduce.proofs.Steps.{undefined_answer}

@@ -77,5 +77,3 @@ pub returns-in_err-both-clause-product_room : goal.returns-in_err-both-clause-pr
 returns-in_err-both-clause-product_room c = λ gs ns q k s.
     passed_on c.from_residual.result (fault.Full c.in_err-both.field-0.0) _ c.from_residual.ensures.0 c.from_residual.ensures.1
     (product_node_lacks gs (two (tree_of c.args.left c.args.pool.now) (tree_of c.args.right c.args.pool.now)) (free_of c.args.pool.now) (two_reduced _ _ c.requires.left_reduced c.requires.right_reduced) s.1 (below_node c.args.kind c.requires.kind (refused_below c.in_err-both.ensures.full)))
-
--- ---- bits

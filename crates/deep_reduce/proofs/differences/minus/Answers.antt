@@ -3,7 +3,7 @@ use Rattle.deep_reduce.proofs.Shared.{SpansTree, factors_room, IsCalmAtZero, has
 use Rattle.deep_reduce.proofs.NodeBits.{opposite_factors, second_side}
 use Rattle.deep_reduce.proofs.Lacking.{result_lacks}
 use Rattle.deep_reduce.proofs.NodeBytes.{opposite_calm, opposite_spans, opposite_fits}
-use Rattle.deep_reduce.proofs.Rationals.{root_fits}
+use Rattle.reduce_walk.proofs.HeldRationals.{root_fits}
 use Rattle.deep_reduce.proofs.Results.{answer_as, overflow_as}
 use Rattle.deep_reduce.proofs.Sides.{beside_new, new_first, reduced_front}
 use Rattle.deep_reduce.proofs.Steps.{neg_answer, neg_overflow}

@@ -77,7 +77,3 @@ returns-in_err-answer c =
       bits = λ h l z a few more. passed_on c.from_residual.result c.in_err-answer.field-0.0 _ c.from_residual.ensures.0 c.from_residual.ensures.1 (half_fits (base_in (tree_of c.args.power c.args.pool.now)) (exponent_in (tree_of c.args.power c.args.pool.now)) c.in_err-answer.field-0.0 c.requires.half c.in_err-answer.ensures.overflow);
       stands = search rules;
     }
-
--- ---- bytes at hand
-
--- ---- bits

@@ -2,12 +2,13 @@ use Rattle.std.proofs.Common.{rules, ◌≡◌, ◌^◌, length, ap, ◌∙◌, 
 use Rattle.deep_reduce.proofs.Shared.{plain_value, Tree, count, tree_of, children_of, expression, seen}
 use Rattle.deep_reduce.proofs.HeldFits.{product_fits}
 use Rattle.deep_reduce.proofs.NodeBits.{as_overflow, holds_as}
-use Rattle.deep_reduce.proofs.Lacking.{result_lacks, product_words}
+use Rattle.deep_reduce.proofs.Lacking.{result_lacks}
 use Rattle.deep_reduce.proofs.NodeBytes.{some_factors}
 use Rattle.deep_reduce.proofs.Results.{answered, answer_as, overflowed_defined}
 use Rattle.deep_reduce.proofs.Told.{product_told, empty_product_told}
 use Rattle.deep_reduce.proofs.nodes.multiply.Goals.{After-children}
 use Rattle.deep_reduce.proofs.nodes.multiply.Goals as goal
+use Rattle.product_reduce.proofs.Stepped.{mult_words as product_words}
 
 many : (c : After-children) → c.children.result ≡ count (children_of (tree_of c.args.product c.args.pool.now))
 many c = c.children.ensures.plain (expression c.id.ensures c.requires.stands c.requires.handed) ∙ ap (λ (t : Tree). count (children_of t)) (seen c.id.ensures c.requires.stands c.requires.handed)

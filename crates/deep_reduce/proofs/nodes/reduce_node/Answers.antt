@@ -5,9 +5,10 @@ use Rattle.deep_reduce.proofs.NodeBits.{as_overflow, node_fits, power_node_fits,
 use Rattle.deep_reduce.proofs.Lacking.{result_lacks, power_result}
 use Rattle.deep_reduce.proofs.NodeBytes.{sum_fits, factors_fit, power_fits, half_fits, root_result, no_half_power, node_spans}
 use Rattle.deep_reduce.proofs.Results.{answered, answer_as, overflow_as, overflowed_defined, with_facts, span_facts}
-use Rattle.deep_reduce.proofs.Told.{power_kind, root_kind_is, neg_kind, sub_kind, div_kind, power_told, power_sides, IsRationalPower, rational_answer, rational_overflow, power_reduced, root_told, root_overflow, argument_reduced, leaf_told, root_is}
+use Rattle.deep_reduce.proofs.Told.{power_kind, root_kind_is, neg_kind, sub_kind, div_kind, power_told, power_sides, IsRationalPower, rational_answer, rational_overflow, power_reduced, root_told, root_overflow, argument_reduced, leaf_told}
 use Rattle.deep_reduce.proofs.nodes.reduce_node.Goals.{After-kind}
 use Rattle.deep_reduce.proofs.nodes.reduce_node.Goals as goal
+use Rattle.radical_forms.proofs.Handed.{root_is}
 
 -- what the readers tell
 kind-is : (c : After-kind) → c.kind.result ≡ root_kind (tree_of c.args.tree c.args.pool.now)
@@ -137,5 +138,3 @@ returns-in-Sub-clause-room c = λ gs ns n h k s.
 pub returns-in-Div-clause-room : goal.returns-in-Div-clause-room
 returns-in-Div-clause-room c = λ gs ns n h k s.
     c.divide.ensures.room gs ns n h k (node_spans gs (tree_of c.args.tree c.args.pool.now) (sym c.in-Div.is ∙ kind-is (goal.at.returns-in-Div-clause-room c).After-kind) (λ e. cc) s)
-
--- ---- bits

@@ -1,5 +1,5 @@
 use Rattle.std.proofs.Common.{rules, ◌≡◌, ◌<◌, ◌+◌, ◌^◌, ℕ, length, ap, ◌∙◌, refl, sym, subst, arith, Option, IfSome, Err}
-use Rattle.deep_reduce.proofs.Shared.{Tree, Trees, add, mult, count, is_mult, is_undef, size, over_product, children_at, children_in, moved, moved_front, given_back, over_back, apart_back, put_back, front_lost, live, kind_of_root, product_kind, no_product_kind, if_map, passed_on, IsReducedProduct, IsReducedPower, IsSummed, joins_none, joins_then, IsHeldAsProduct, IsHeldAsPowerOf, IsFactorHeld, raised_high, raised_low, IsCalmAtZero, IsJoinedFrom, KeepsRoom, whole_power_room, counted, SpansTree, taken_free, free_of, replaced_free, gives_itself, IsPairAt, base_in, exponent_in, are_reduced, is_whole_num, Rewrites, tree_of, children_of, keeps_none, keeps_after, behind_first, behind_new, front_same, front_put, front_end, front_without, front_after_one, gives, gives_as, given_handed, given_root, given_told, given_rest, represents_handed, root_held}
+use Rattle.deep_reduce.proofs.Shared.{Tree, Trees, add, mult, count, is_mult, is_undef, size, over_product, children_at, children_in, moved, moved_front, given_back, over_back, apart_back, put_back, front_lost, kind_of_root, product_kind, no_product_kind, if_map, passed_on, IsReducedProduct, IsReducedPower, IsSummed, joins_none, joins_then, IsHeldAsProduct, IsHeldAsPowerOf, IsFactorHeld, raised_high, raised_low, IsCalmAtZero, IsJoinedFrom, KeepsRoom, whole_power_room, counted, SpansTree, taken_free, free_of, replaced_free, gives_itself, IsPairAt, base_in, exponent_in, are_reduced, is_whole_num, Rewrites, tree_of, children_of, keeps_none, keeps_after, behind_first, behind_new, front_same, front_put, front_end, front_without, front_after_one, gives, gives_as, given_handed, given_root, given_told, given_rest, represents_handed, root_held}
 use Rattle.deep_reduce.proofs.Clashes.{contrary}
 use Rattle.calc_terms.specs.Trees.{power as power_tree}
 use Rattle.coefficients.proofs.Puttings.{on_ok_after, fault_after}
@@ -10,13 +10,14 @@ use Rattle.deep_reduce.proofs.Finished.{product_of_powers, ready_product, transp
 use Rattle.deep_reduce.proofs.HeldFits.{product_fits, powers_ready, part_ready, power_fits, exponent_ready, joint_exponents, joint_fits}
 use Rattle.deep_reduce.proofs.HeldRoots.{half_no_whole}
 use Rattle.deep_reduce.proofs.JointBytes.{joint_lacks}
-use Rattle.deep_reduce.proofs.Lacking.{lacks_as, result_lacks, product_words, handed_on, joint_sum_lacks, joint_power_short, joint_at_spans, joint_ready, placed_bytes, next_bytes, part_free, step_lacks, power_refused, power_result, ready_product as ready_for_product, ready_power as ready_for_power, ready_exponent, ready_part}
+use Rattle.deep_reduce.proofs.Lacking.{lacks_as, result_lacks, handed_on, joint_sum_lacks, joint_power_short, joint_at_spans, joint_ready, placed_bytes, next_bytes, part_free, step_lacks, power_refused, power_result, ready_product as ready_for_product, ready_power as ready_for_power, ready_exponent, ready_part}
 use Rattle.deep_reduce.proofs.Measures.{few_factors, below_measure}
 use Rattle.deep_reduce.proofs.Opened.{opened, power_after, power_finished, is_rewritten}
 use Rattle.deep_reduce.proofs.Rows.{IsPowerOf, none_reduced, part_front, next_power, next_within, back_within, next_of, next_taken, next_reduced, all_reduced}
 use Rattle.deep_reduce.proofs.Settled.{joint_at, ready_joint, ready_summed, pair_joined, settled_less, settled_within, less_gathered, less_next, gathered_product, some_pair, product_after, product_finished}
 use Rattle.tree_handles.specs.declared.fault.NumberFault.TheVariants as fault
 use Rattle.deep_reduce.proofs.whole.+reduction.Goals as goal
+use Rattle.product_reduce.proofs.Stepped.{mult_words as product_words}
 
 -- ---- reduce_product
 
@@ -27,11 +28,6 @@ reduce_product-returns-in-Done-clause-ok t c =
     gives_as (gives_itself (is_finished c.args.product c.args.pool.now c.gather_factors.new.pool c.in-Done.is c.in_ok-answer.ensures.done)) refl
     (λ u f. product_finished ts u c.requires.reduced f.0 (subst (KeepsRoom (counted (mult ts)) (mult ts)) (sym f.1) k)
     (subst (IsHeldAsProduct ts) (sym f.1) (finished_holds c.args.product c.args.pool.now c.gather_factors.new.pool c.requires.product c.in-Done.is c.in_ok-answer.ensures.held (ap is_undef (sym f.1) ∙ f.0.undefined))))
-
-pub reduce_product-returns-in-Done-clause-written : goal.reduce_product-returns-in-Done-clause-written
-reduce_product-returns-in-Done-clause-written t c = λ d n.
-    let f = given_told (is_finished c.args.product c.args.pool.now c.gather_factors.new.pool c.in-Done.is c.in_ok-answer.ensures.done) in
-    f.written d
 
 pub reduce_product-returns-in-Done-clause-joined : goal.reduce_product-returns-in-Done-clause-joined
 reduce_product-returns-in-Done-clause-joined t c =
@@ -101,15 +97,6 @@ join_pairs-join_two-requires t c = (
   (c.requires.stands, (c.requires.handed, (c.requires.product, (c.requires.reduced, (c.requires.pair, c.requires.fits))))),
 )
 
-pub join_pairs-next_pair-next-requires-clause-handed : goal.join_pairs-next_pair-next-requires-clause-handed
-join_pairs-next_pair-next-requires-clause-handed t c = given_handed c.in_ok-joined.ensures.ok
-
-pub join_pairs-next_pair-next-requires-clause-product : goal.join_pairs-next_pair-next-requires-clause-product
-join_pairs-next_pair-next-requires-clause-product t c = ap is_mult (given_told c.in_ok-joined.ensures.ok).is
-
-pub join_pairs-next_pair-next-requires-clause-reduced : goal.join_pairs-next_pair-next-requires-clause-reduced
-join_pairs-next_pair-next-requires-clause-reduced t c = (given_told c.in_ok-joined.ensures.ok).reduced
-
 pub join_pairs-loop-next-init : goal.join_pairs-loop-next-init
 join_pairs-loop-next-init t c = record {
   stands = c.in_ok-joined.ensures.stands;
@@ -129,18 +116,6 @@ join_pairs-join_two-requires-in-Some t c =
       below_measure c.decreases (next_two_falls (tree_of c.args.product c.args.pool.now) _ l),
       (i.stands, (given_handed i.given, (ap is_mult l.is, (l.reduced, (pair, fits))))),
     )
-
-pub join_pairs-next_pair-next-requires-in-Some-clause-handed : goal.join_pairs-next_pair-next-requires-in-Some-clause-handed
-join_pairs-next_pair-next-requires-in-Some-clause-handed t c = given_handed c.in-Ok.ensures.ok
-
-pub join_pairs-next_pair-next-requires-in-Some-clause-product : goal.join_pairs-next_pair-next-requires-in-Some-clause-product
-join_pairs-next_pair-next-requires-in-Some-clause-product t c = ap is_mult (given_told c.in-Ok.ensures.ok).is
-
-pub join_pairs-next_pair-next-requires-in-Some-clause-reduced : goal.join_pairs-next_pair-next-requires-in-Some-clause-reduced
-join_pairs-next_pair-next-requires-in-Some-clause-reduced t c = (given_told c.in-Ok.ensures.ok).reduced
-
-pub join_pairs-loop-next-smaller : goal.join_pairs-loop-next-smaller
-join_pairs-loop-next-smaller t c = (given_told c.in-Ok.ensures.ok).loads
 
 pub join_pairs-loop-next-preserved : goal.join_pairs-loop-next-preserved
 join_pairs-loop-next-preserved t c =
@@ -204,11 +179,6 @@ join_two-returns-in_err-joined-clause-room t c = λ gs ns k s.
     (omega (arith, joint_lacks gs (children_of u) (free_of c.args.pool.now) c.requires.reduced (subst (SpansTree gs) w s).1 c.in_err-joined.ensures.room, ap size w))
 
 -- ---- reduce_joint
-
-pub reduce_joint-take_child-joint-requires-clause-within : goal.reduce_joint-take_child-joint-requires-clause-within
-reduce_joint-take_child-joint-requires-clause-within t c =
-    let o = over_product c.requires.handed c.requires.product in
-    omega (arith, children_in c.requires.stands o, c.requires.joint.within)
 
 pub reduce_joint-sum_exponent-requires : goal.reduce_joint-sum_exponent-requires
 reduce_joint-sum_exponent-requires t c =
@@ -364,9 +334,6 @@ reduce_power-returns-then-has_half_exponent-clause-bits t c = λ n h l q a few. 
 
 -- ---- reduce_rewritten
 
-pub reduce_rewritten-kind-requires-clause-live : goal.reduce_rewritten-kind-requires-clause-live
-reduce_rewritten-kind-requires-clause-live t c = live c.args.pool.now c.id.ensures c.requires.handed.root
-
 pub reduce_rewritten-reduce_powers-requires : goal.reduce_rewritten-reduce_powers-requires
 reduce_rewritten-reduce_powers-requires t c =
     let m = product_kind _ (sym c.in-Mult.is ∙ kind_of_root {k = c.kind.result} c.id.ensures c.requires.stands c.requires.handed c.kind.ensures.plain) in
@@ -447,9 +414,6 @@ reduce_rewritten-returns-in_err-power-in_default-clause-bits t c = λ b e n h l 
     passed_on c.from_residual-in_err-power-in_default.result c.in_err-power-in_default.field-0.0 _ c.from_residual-in_err-power-in_default.ensures.0 c.from_residual-in_err-power-in_default.ensures.1 (c.in_err-power-in_default.ensures.bits b e n h l r q a few)
 
 -- ---- reduce_powers
-
-pub reduce_powers-children-powers-requires-clause-live : goal.reduce_powers-children-powers-requires-clause-live
-reduce_powers-children-powers-requires-clause-live t c = live c.args.pool.now c.id.ensures c.requires.handed.root
 
 pub reduce_powers-loop-at-init : goal.reduce_powers-loop-at-init
 reduce_powers-loop-at-init t c = record {

@@ -1,9 +1,37 @@
 -- Exponents that count their bases: how often at least, and by how many bits they are held themselves.
 use Rattle.std.proofs.Common.{◌≡◌, ◌≢◌, ℕ, ◌+◌, ◌*◌, ◌^◌, ◌≤◌, inl, inr, List, [], ◌∷◌, max, ℤ, pos, Bool, true, false, ◌==◌, not, if◌then◌else◌, refl, sym, ap, ◌∙◌, subst, arith, nat_abs}
-use Rattle.deep_reduce.proofs.Shared.{and_parts, eqb-true, dvd_refl, Fraction, zero_fraction, one_fraction, whole_fraction, is_zero_fraction, int_is_zero, zero_test, one_test, no_zero, whole_numerator, whole_denominator, Tree, num, symbol, add, mult, root, Trees, none, more, is_add, is_undef, AllParts, AllPartsOf, IsTerm, AreTerms, is_number, is_term, value, terms_of, HasForm, NoneIs, num_one, number_terms, other_terms, surd_of, surd_one, Parts, AreWholeOver, magnitude_over, mass, root_above, Addend, addend, addend_of, addends, addends_of, power_high, power_low, IsTreeHeld, sum_held, AreWeighted, none_weighted, more_weighted, IsPartHeld, no_factor_held, factor_held, symbol_held, Weighted, weighted, PartsAll, lows, weighted_mass, AreHeld, one_counted, one_counts, whole_of, Counts, counts, multiple, is_counted, are_counted, counts_of, counts_of_all, term_test}
-use Rattle.deep_reduce.proofs.Clashes.{clash, unclear}
+use Rattle.std.proofs.Math.Nat.{dvd_refl}
+use Rattle.std.proofs.lemmas.Bool.{and_parts, eqb-true, not_from_false}
 use Rattle.std.specs.Int.{◌∣◌}
+use Rattle.calc_algebra.proofs.NumberLaws.{number_test}
+use Rattle.calc_algebra.specs.Numbers.{IsTerm, AreTerms, is_number, is_term, value, terms_of}
+use Rattle.calc_algebra.specs.Reduced.{HasForm, NoneIs, num_one, number_terms, other_terms}
+use Rattle.calc_algebra.specs.Surds.{surd_of, surd_one}
 use Rattle.calc_bits.proofs.RootsAbove.{root_least}
+use Rattle.calc_bits.specs.Denominators.{Parts, AreWholeOver, magnitude_over}
+use Rattle.calc_bits.specs.Masses.{mass, root_above}
+use Rattle.calc_measures.proofs.LiteralValues.{whole_of}
+use Rattle.calc_terms.proofs.FractionFacts.{zero_test, one_test, no_zero, whole_numerator, whole_denominator}
+use Rattle.calc_terms.specs.Fractions.{Fraction, zero_fraction, one_fraction, whole_fraction, is_zero_fraction}
+use Rattle.calc_terms.specs.Integers.{int_is_zero}
+use Rattle.calc_terms.specs.Trees.{Tree, num, symbol, add, mult, root, Trees, none, more, is_add, is_undef, AllParts, AllPartsOf}
+use Rattle.tree_bits.proofs.Sums.{one_counted, one_counts}
+use Rattle.tree_bits.specs.Exponents.{Counts, counts, multiple, is_counted, are_counted, counts_of, counts_of_all}
+use Rattle.tree_bits.specs.HeldTrees.{Addend, addend, addend_of, addends, addends_of, power_high, power_low, IsTreeHeld, sum_held, AreWeighted, none_weighted, more_weighted, IsPartHeld, no_factor_held, factor_held, symbol_held}
+use Rattle.tree_bits.specs.Weighted.{Weighted, weighted, PartsAll, lows, weighted_mass, AreHeld}
+
+clash : {A : Type 0} → true ≡ false → A
+clash e = absurd cc
+
+unclear : {A : Type 0} → false ≡ true → A
+unclear e = absurd cc
+
+term_test : (t : Tree) → IsTerm t → is_term t ≡ true
+unfolding is_number
+term_test (num q) h = not_from_false _ (zero_test q h)
+term_test (root (num r)) h = number_test (root (num r)) h
+term_test (mult (more (num q) (more (root (num r)) none))) h = number_test (mult (more (num q) (more (root (num r)) none))) h
+term_test t h = absurd h
 
 -- an exponent that counts is not Undef
 pub counted_defined : (e : Tree) → is_counted e ≡ true → is_undef e ≡ false

@@ -1,13 +1,13 @@
 -- Opposites and inverses of rationals that fit.
-use Rattle.std.proofs.Common.{◌≡◌, ◌≢◌, ℕ, ◌*◌, ◌^◌, ℤ, pos, negsuc, ◌*ℤ◌, neg_ℤ, ◌<ℤ◌, ◌≤ℤ◌, Bool, true, false, ◌&&◌, refl, ap, ◌∙◌, arith, nat_abs, nat_lt, if◌then◌else◌, eqb, cond, subst}
-use Rattle.deep_reduce.proofs.Shared.{whole_numerator, whole_denominator, fits, fraction_fits, fraction_power, mul_op, pow_op, Fraction, lowest, times, negative, inverse, one_fraction, minus_one_fraction, whole_fraction, is_zero_fraction, lowest_parts, times_lowest, den_pos, int_is_zero, exactly, undefined, calculated, powered, negative_parts, inverts, and_from, and_parts, IsPayload, num, State, tree_of, by_test, plain, Forest, empty, tree, flatten, root_payload, has_root, root_tree, Stands, forest}
+use Rattle.std.proofs.Common.{◌≡◌, ◌≢◌, ℕ, ◌*◌, ◌^◌, ℤ, pos, negsuc, ◌*ℤ◌, neg_ℤ, ◌<ℤ◌, ◌≤ℤ◌, Bool, true, false, ◌&&◌, refl, ap, ◌∙◌, arith, nat_abs, nat_lt, if◌then◌else◌}
+use Rattle.std.proofs.lemmas.Bool.{and_from, and_parts}
+use Rattle.calc_measures.specs.PlainValues.{exactly, undefined, calculated, powered}
+use Rattle.calc_terms.proofs.FractionFacts.{whole_numerator, whole_denominator}
+use Rattle.calc_terms.specs.Fits.{fits, fraction_fits, fraction_power, mul_op, pow_op}
 use Rattle.calc_terms.specs.FractionLaws.{times_comm, one_times}
-use Rattle.node_pool.proofs.Sizes.{AreNodes-right}
-use Rattle.node_pool.specs.Nodes.{AreNodes}
-use Rattle.rational128.proofs.LowestTerms.{parts_themselves}
-use Rattle.rational128.proofs.Products.{parts_fit}
-
--- ---- opposites
+use Rattle.calc_terms.specs.Fractions.{Fraction, lowest, times, negative, inverse, one_fraction, minus_one_fraction, whole_fraction, is_zero_fraction, lowest_parts, times_lowest, den_pos}
+use Rattle.calc_terms.specs.Integers.{int_is_zero}
+use Rattle.rational128.proofs.Reciprocals.{negative_parts, inverts}
 
 minus_one_times : (z : ℤ) → negsuc 0 *ℤ z ≡ neg_ℤ z
 minus_one_times z = grind arith
@@ -31,8 +31,6 @@ negative_fits q h = grind (arith, negative_parts, abs_negative)
 -- the product of -1 and q fits
 pub opposite_value : (q : Fraction) → fraction_fits q ≡ true → calculated mul_op minus_one_fraction q ≡ exactly (negative q)
 opposite_value q h = grind (arith, times_minus_one, negative_fits)
-
--- ---- inverses
 
 signed : ℤ → ℕ → ℤ
 signed (pos n) d = pos d
@@ -77,19 +75,3 @@ inverse_value q z h = inverse_power q ∙ ap (λ (b : Bool). if b then undefined
 
 pub zero_inverse : (q : Fraction) → is_zero_fraction q ≡ true → powered q (whole_fraction (negsuc 0)).num (whole_fraction (negsuc 0)).den ≡ undefined
 zero_inverse q z = inverse_power q ∙ ap (λ (b : Bool). if b then undefined else calculated pow_op (inverse q) (whole_fraction (pos 1))) z
-
--- ---- rationals of a pool
-
--- what a root holds is valid
-valid_root : (i : ℕ) (f : Forest) → AreNodes (flatten f) → has_root i f ≡ true → IsPayload (root_payload (root_tree i f))
-valid_root i empty h r = cc
-valid_root i (tree l k f) h r =
-    by_test (λ t. eqb l.id i ≡ t → cond t true (has_root i f) ≡ true → IsPayload (root_payload (cond t (tree l k empty) (root_tree i f)))) (eqb l.id i) (λ e q s. h.0.payload)
-    (λ e q s. valid_root i f (AreNodes-right (flatten k) (flatten f) h.1) s) refl r
-
-tree_fits : (q : Fraction) (t : Forest) → IsPayload (root_payload t) → plain t ≡ num q → fraction_fits q ≡ true
-tree_fits q t h k = grind (arith, parts_fit, parts_themselves)
-
--- a rational that a pool holds as a root
-pub root_fits : (i : ℕ) (s : State) (q : Fraction) → Stands s → has_root i (forest s) ≡ true → tree_of i s ≡ num q → fraction_fits q ≡ true
-root_fits i s q st h e = tree_fits q (root_tree i (forest s)) (valid_root i (forest s) (subst AreNodes st.flat st.pool.nodes) h) e

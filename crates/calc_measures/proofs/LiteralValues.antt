@@ -1,6 +1,17 @@
--- Exponents that are written as a whole number or as half of an odd one are reduced to that number.
+-- Exponents that are written as a whole number or as half of an odd one are worth that number.
 use Rattle.std.proofs.Common.{◌≡◌, ℕ, ℤ, pos, neg_ℤ, ◌*ℤ◌, [], Bool, true, false, ◌&&◌, ◌==◌, not, if◌then◌else◌, Option, Some, None, refl, sym, ap, ◌∙◌, subst, arith}
-use Rattle.deep_reduce.proofs.Shared.{and_parts, eqb-true, ints, is_half_num, half_of, half_of_is, whole_literal, half_literal, half_value, half_quotient, int_is_two, is_half_literal, is_some, opposite, IsPlainAnswer, PlainValue, exactly, overflow, calculated, plain_value, divided, gather, values, on_one, mul_op, result_of, operation_fits, Fraction, lowest, times, negative, inverse, inverse_of, whole_fraction, lowest_parts, times_lowest, int_is_even, Tree, num, neg, div, numerator, negative_parts, whole_of, not-true}
+use Rattle.std.proofs.lemmas.Bool.{and_parts, eqb-true, not-true}
+use Rattle.std.proofs.lemmas.Int.{ints}
+use Rattle.calc_algebra.proofs.HalfLaws.{half_of, half_of_is}
+use Rattle.calc_algebra.specs.Reduced.{is_half_num}
+use Rattle.calc_measures.specs.Literals.{whole_literal, half_literal, half_value, half_quotient, int_is_two, is_half_literal, is_some, opposite}
+use Rattle.calc_measures.specs.PlainTrees.{IsPlainAnswer}
+use Rattle.calc_measures.specs.PlainValues.{PlainValue, exactly, overflow, calculated, plain_value, divided, gather, values, on_one}
+use Rattle.calc_terms.specs.Fits.{mul_op, result_of, operation_fits}
+use Rattle.calc_terms.specs.Fractions.{Fraction, lowest, times, negative, inverse, inverse_of, whole_fraction, lowest_parts, times_lowest}
+use Rattle.calc_terms.specs.Integers.{int_is_even}
+use Rattle.calc_terms.specs.Trees.{Tree, num, neg, div}
+use Rattle.rational128.proofs.Reciprocals.{negative_parts}
 
 chosen : (b : Bool) (m n : ℤ) → (if b then Some m else None) ≡ Some n → (b ≡ true) × (m ≡ n)
 chosen b m n h = grind arith
@@ -9,6 +20,9 @@ turned : (o : Option ℤ) (n : ℤ) → opposite o ≡ Some n → (m : ℤ) × (
 turned o n h = grind arith
 
 -- ---- whole numbers
+
+pub whole_of : (q : Fraction) → (q.den == 1) ≡ true → q ≡ whole_fraction q.num
+whole_of q h = lowest_parts q ∙ ap (lowest q.num) (eqb-true q.den 1 h)
 
 pub whole_answer : (e f : Tree) (n : ℤ) → whole_literal e ≡ Some n → IsPlainAnswer (plain_value e) f → f ≡ num (whole_fraction n)
 whole_answer e f n h k = grind (arith, chosen, whole_of, turned, negative_parts, eqb-true)
@@ -64,14 +78,16 @@ half_value_is (neg (div (num p) (num d))) n h =
     subst (λ (z : ℤ). IsHalfOf z (plain_value (neg (div (num p) (num d))))) i (negated_half m (divided p d) (subst (λ (z : ℤ). IsHalfOf z (divided p d)) j (quotient_half p d w)))
 half_value_is e n h = cc
 
-answer_half : (n : ℤ) (v : PlainValue) (r : Tree) → IsHalfOf n v → IsPlainAnswer v r → (is_half_num r ≡ true) × (numerator r ≡ n)
-answer_half n v r h k = grind arith
+answer_half : (n : ℤ) (v : PlainValue) (r : Tree) → IsHalfOf n v → IsPlainAnswer v r → (q : Fraction) × (r ≡ num q) × (is_half_num (num q) ≡ true) × (q.num ≡ n)
+answer_half n (exactly q) r h a = (q, a, h.0, h.1)
+answer_half n (overflow op x y) r h a = absurd a
+answer_half n v r h a = absurd h
 
-pub half_literal_answer : (e f : Tree) (n : ℤ) → half_literal e ≡ Some n → IsPlainAnswer (plain_value e) f → (is_half_num f ≡ true) × (numerator f ≡ n)
+pub half_literal_answer : (e f : Tree) (n : ℤ) → half_literal e ≡ Some n → IsPlainAnswer (plain_value e) f → (q : Fraction) × (f ≡ num q) × (is_half_num (num q) ≡ true) × (q.num ≡ n)
 half_literal_answer e f n h a = answer_half n (plain_value e) f (half_value_is e n h) a
 
 literal_is : (o : Option ℤ) → is_some o ≡ true → (n : ℤ) × (o ≡ Some n)
 literal_is o h = grind arith
 
 pub half_answer : (e f : Tree) → is_half_literal e ≡ true → IsPlainAnswer (plain_value e) f → is_half_num f ≡ true
-half_answer e f h a = let (n, i) = literal_is (half_literal e) h in (half_literal_answer e f n i a).0
+half_answer e f h a = let (n, i) = literal_is (half_literal e) h in let (q, is, half, same) = half_literal_answer e f n i a in ap is_half_num is ∙ half
