@@ -1,9 +1,8 @@
 -- The answers to the powers that no rule rewrites.
-use Rattle.std.proofs.Common.{◌≡◌, ◌≤◌, ◌<◌, Bool, true, false, not, ◌&&◌, ◌||◌, [], ◌++◌, length, inl, inr, refl, sym, ap, ◌∙◌, arith}
-use Rattle.std.specs.Prelude.{nat_le}
-use Rattle.power_reduce.proofs.Shared.{and_parts, eqb-true, lt-leb, Contains-append_left, Fraction, zero_fraction, one_fraction, int_is_negative, nest, nest_of, load, is_number, classes, IsNumber, IsTerm, AreTerms, is_reduced, HasForm, IsPowerForm, num_one, Tree, num, undef, add, mult, power, root, Trees, none, more, names, names_of, AllParts, AllPartsOf, is_undef, itself, in_base, in_exponent, number_words, number_test, power_one_is_base, power_zero_is_one, reduced_test, undef_part, reduced_parts, HasNoNewName, KeepsMeanings, keeps, Rewrites-refl, reduces, is_zero, has_no_power, has_number_power, IsWrittenPower, IsPowerAnswer, is_zero_or_one}
+use Rattle.std.proofs.Common.{◌≡◌, ◌<◌, Bool, true, false, ◌&&◌, ◌||◌, [], ◌++◌, length, inl, inr, refl, sym, ap, ◌∙◌, arith}
+use Rattle.power_reduce.proofs.Shared.{and_parts, Contains-append_left, Fraction, zero_fraction, one_fraction, nest, nest_of, load, is_number, IsNumber, IsTerm, AreTerms, is_reduced, HasForm, IsPowerForm, num_one, Tree, num, undef, power, Trees, none, more, names, names_of, AllParts, AllPartsOf, is_undef, itself, in_base, in_exponent, number_words, number_test, power_one_is_base, power_zero_is_one, reduced_test, undef_part, reduced_parts, HasNoNewName, KeepsMeanings, keeps, is_zero, has_no_power, has_number_power, IsWrittenPower, IsPowerAnswer, is_zero_or_one}
 use Rattle.power_reduce.proofs.Written.{zero_written, one_written, kept_written}
-use Rattle.power_reduce.proofs.Bounds.{load_at_most_weight, transparent_load, opaque_load}
+use Rattle.power_reduce.proofs.Bounds.{load_at_most_weight}
 
 no_names : (t u : Tree) → names u ≡ [] → HasNoNewName t u
 no_names t u e = record { name = λ x c. absurd (let f : length (names u) ≡ 0 = ap length e in let k : c.0 < length (names u) = c.1 in omega arith) }
@@ -17,16 +16,10 @@ pub record IsPlain (t : Tree) : Type 0 where
   pub defined : is_undef t ≡ false
 
 term_names : (t : Tree) → IsTerm t → names t ≡ []
-term_names (num q) h = refl
-term_names (root (num r)) h = refl
-term_names (mult (more (num q) (more (root (num r)) none))) h = refl
-term_names _ h = absurd h
+term_names t h = grind arith
 
 term_nest : (t : Tree) → IsTerm t → nest t ≡ 0
-term_nest (num q) h = refl
-term_nest (root (num r)) h = refl
-term_nest (mult (more (num q) (more (root (num r)) none))) h = refl
-term_nest _ h = absurd h
+term_nest t h = grind arith
 
 terms_names : (ts : Trees) → AreTerms ts → names_of ts ≡ []
 terms_names none h = refl
@@ -37,24 +30,14 @@ terms_nest none h = refl
 terms_nest (more t ts) (h, hs) = omega (arith, term_nest t h, terms_nest ts hs)
 
 term_parts : (t : Tree) → IsTerm t → AllParts HasForm t
-term_parts (num q) h = inl tt
-term_parts (root (num r)) h = (inl h, inl tt)
-term_parts (mult (more (num q) (more (root (num r)) none))) h = (inl h, (inl tt, ((inl h.2, inl tt), tt)))
-term_parts _ h = absurd h
+term_parts t h = grind arith
 
 terms_parts : (ts : Trees) → AreTerms ts → AllPartsOf HasForm ts
 terms_parts none h = tt
 terms_parts (more t ts) (h, hs) = (term_parts t h, terms_parts ts hs)
 
-single : (t : Tree) → is_undef t ≡ false → IsTerm t → IsPlain t
-single t u h = record { no_name = term_names t h; flat = term_nest t h; reduced = reduced_test t (inr (term_parts t h)); defined = u }
-
 pub number_plain : (t : Tree) → IsNumber t → IsPlain t
-number_plain (num q) h = record { no_name = refl; flat = refl; reduced = reduced_test (num q) (inr (inl tt)); defined = refl }
-number_plain (add ts) h = record { no_name = terms_names ts h.1; flat = terms_nest ts h.1; reduced = reduced_test (add ts) (inr (inl h, terms_parts ts h.1)); defined = refl }
-number_plain (root a) h = single (root a) refl h
-number_plain (mult ts) h = single (mult ts) refl h
-number_plain _ h = absurd h
+number_plain t h = grind (arith, reduced_test, terms_names, terms_nest, terms_parts)
 
 no_load : (t : Tree) → is_number t ≡ true → load t ≡ 0
 no_load t h = rw h refl
@@ -99,21 +82,9 @@ one_exponent_answer b h u d = record {
 
 -- ---- Undef
 
-undef_load : load undef ≡ 0
-unfolding is_number
-undef_load = refl
-
 -- a power that has no meaning
 pub undefined_answer : (b e : Tree) → has_no_power b e ≡ true → KeepsMeanings (power b e) undef → IsPowerAnswer b e undef
-undefined_answer b e h k = record {
-  reduces = record { reduced = reduced_test undef (inl refl); no_new_name = no_names (power b e) undef refl; meanings = k };
-  undefined = sym h;
-  number = λ k d. absurd cc;
-  written = λ d. absurd cc;
-  nest_bound = omega arith;
-  load_bound = λ o. omega (arith, undef_load);
-  opaque_bound = omega (arith, undef_load);
-}
+undefined_answer b e h k = grind (arith, reduced_test)
 
 -- a power of Undef
 pub undef_base_answer : (e : Tree) → IsPowerAnswer undef e undef
@@ -131,16 +102,7 @@ undef_exponent_answer b = undefined_answer b undef (either (is_undef b)) (keeps 
 
 -- a reduced power is none of a Number that has a power
 whole_number : (b : Tree) (q : Fraction) → IsPowerForm b (num q) → has_number_power b (num q) ≡ true → ⊥
-whole_number b q f h =
-    let (p, s) = and_parts _ _ h in
-    let (n, d) = and_parts _ _ p in
-    let w = (f.1 (eqb-true q.den 1 d)).wide n in
-    narrow (int_is_negative q.num) (nat_le (classes b) 2) s w.0 (lt-leb _ _ (let l : 3 ≤ classes b = w.1 in omega arith))
-  where
-    narrow : (m l : Bool) → (not m || l) ≡ true → m ≡ true → l ≡ false → ⊥
-    narrow true true h a b = cc
-    narrow true false h a b = cc
-    narrow false l h a b = cc
+whole_number b q f h = grind arith
 
 power_number : (b e : Tree) → IsNumber (power b e) → ⊥
 power_number b e h = h
@@ -153,12 +115,4 @@ kept_number b (num q) h k = absurd (whole_number b q (own_power_form b (num q) h
 kept_number b e h k = cc
 
 pub kept_answer : (b e : Tree) → is_reduced (power b e) ≡ true → has_no_power b e ≡ false → is_zero_or_one e ≡ false → IsPowerAnswer b e (power b e)
-kept_answer b e h d o = record {
-  reduces = reduces (Rewrites-refl (power b e)) h;
-  undefined = sym d;
-  number = λ k x. kept_number b e h k;
-  written = λ x. kept_written b e o;
-  nest_bound = omega arith;
-  load_bound = λ x. transparent_load b e x;
-  opaque_bound = opaque_load b e;
-}
+kept_answer b e h d o = grind (arith, kept_number, kept_written)

@@ -25,11 +25,7 @@ number_load (mult ts) h = number_factors ts (number_words (mult ts) h)
 number_load _ h = rw h refl
 
 factor_part : (t : Tree) → load_of_factor t ≤ weight t → load_of_factor t ≤ (if is_number t then 0 else weight t)
-factor_part t h = by (is_number t) refl
-  where
-    by : (b : Bool) → is_number t ≡ b → load_of_factor t ≤ (if b then 0 else weight t)
-    by true e = omega (arith, number_load t e)
-    by false e = h
+factor_part t h = grind (arith, number_load)
 
 product_part : (ts : Trees) → load_of_factors ts ≤ weight_of_factors ts → load_of_factors ts ≤ weight (mult ts)
 product_part ts h = by (is_number (mult ts)) refl

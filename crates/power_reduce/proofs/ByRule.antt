@@ -1,11 +1,10 @@
 -- By which rule a power was rewritten, and what falls.
-use Rattle.std.proofs.Common.{◌≡◌, ◌+◌, ◌≤◌, ◌<◌, suc, inl, inr, Bool, true, false, ◌&&◌, ◌||◌, not, if◌then◌else◌, Some, refl, sym, ◌∙◌, subst, arith}
-use Rattle.std.specs.Prelude.{max, ◌==◌}
-use Rattle.power_reduce.proofs.Shared.{and_parts, Fraction, whole_fraction, nest, load, weight, load_of_factor, is_number, is_reduced, is_half_num, is_whole_num, is_opaque_exponent, Tree, num, mult, power, root, Trees, none, more, is_undef, whole_denominator, number_test, number_words, reduced_parts, parts_reduced, is_zero, has_no_power, has_number_power, EachTree, HalvesRoot, JoinsExponents, IsLighterPart, RaisesParts, IsByRule, IsRewritable, goes_inside, is_even_whole, half, parts_of, raised, rewritten, rewritten_whole}
-use Rattle.power_reduce.proofs.Exponents.{inside_whole, whole_defined, as_whole}
+use Rattle.std.proofs.Common.{◌≡◌, ◌+◌, ◌≤◌, ◌<◌, suc, Bool, true, false, ◌&&◌, ◌||◌, not, if◌then◌else◌, Some, refl, sym, ◌∙◌, subst, arith}
+use Rattle.std.specs.Prelude.{max}
+use Rattle.power_reduce.proofs.Shared.{and_parts, Fraction, whole_fraction, nest, load, weight, load_of_factor, is_number, is_reduced, is_half_num, is_whole_num, is_opaque_exponent, Tree, num, mult, power, root, Trees, none, more, is_undef, whole_denominator, number_test, number_words, reduced_parts, parts_reduced, is_zero, has_no_power, has_number_power, EachTree, HalvesRoot, JoinsExponents, IsLighterPart, RaisesParts, IsByRule, IsRewritable, half, parts_of, raised, rewritten, rewritten_whole}
+use Rattle.power_reduce.proofs.Exponents.{as_whole}
 use Rattle.power_reduce.proofs.Answered.{number_plain}
 use Rattle.power_reduce.proofs.Bounds.{number_load}
-use Rattle.power_reduce.proofs.Rules.{chosen, nothing}
 use Rattle.power_reduce.proofs.Weights.{product_parts, each_lighter, powers_nest, powers_load}
 
 -- ---- roots
@@ -66,11 +65,7 @@ no_load f e h = by (is_number (mult (more f (more e none)))) (and_parts _ _ h)
     by false k = omega (arith, number_load f k.0, number_load e k.1)
 
 base_nest : (c f : Tree) → nest c ≤ nest (power c f)
-base_nest c f = by (is_number f)
-  where
-    by : (b : Bool) → nest c ≤ (if b then nest c else max (nest c) (suc (nest f)))
-    by true = omega arith
-    by false = omega arith
+base_nest c f = grind arith
 
 joined_nest : (c f e p : Tree) → nest p ≤ max (nest f) (max (nest e) 0) → ((is_number f && is_number e) ≡ true → is_number p ≡ true) → nest (power c p) ≤ nest (power (power c f) e)
 joined_nest c f e p l n = by (is_number p) (is_number f && is_number e) refl refl
@@ -116,10 +111,7 @@ is_false true h = cc
 is_false false h = refl
 
 whole_by_rule : (b e t : Tree) → is_reduced b ≡ true → rewritten_whole b e ≡ Some t → IsByRule b e t
-whole_by_rule (root a) (num q) t r h = chosen _ _ t (IsByRule (root a) (num q)) h (λ k. inl (halves a q r (is_false _ (and_parts _ _ k).1)))
-whole_by_rule (power c f) e t r h = chosen _ _ t (IsByRule (power c f) e) h (λ k. inr (inl (joins c f e r)))
-whole_by_rule (mult ts) e t r h = chosen _ _ t (IsByRule (mult ts) e) h (λ k. inr (inr (raises ts e r (is_false _ (and_parts _ _ k).1))))
-whole_by_rule b e t r h = nothing t (IsByRule b e) h
+whole_by_rule b e t r h = grind (arith, halves, is_false, joins, raises)
 
 pub by_rule : (b e t : Tree) → is_half_num e ≡ false → is_reduced b ≡ true → rewritten b e ≡ Some t → IsByRule b e t
 by_rule b e t n r h = whole_by_rule b e t r (sym (as_whole b e n) ∙ h)
@@ -128,20 +120,7 @@ by_rule b e t n r h = whole_by_rule b e t r (sym (as_whole b e n) ∙ h)
 
 -- a whole exponent makes no opaque power
 pub transparent_whole : (e : Tree) → is_whole_num e ≡ true → is_opaque_exponent e ≡ false
-transparent_whole e h = rw h (never (is_number e))
-  where
-    never : (b : Bool) → (b && false) ≡ false
-    never true = refl
-    never false = refl
-
-inside : (e : Tree) → goes_inside e ≡ true → (is_undef e ≡ false) × (is_opaque_exponent e ≡ false)
-inside e h = let w = inside_whole e h in (whole_defined e w, transparent_whole e w)
-
-whole_is : (q : Fraction) → (q.den == 1) ≡ true → is_whole_num (num q) ≡ true
-whole_is q h = h
-
-even_inside : (q : Fraction) → is_even_whole q ≡ true → is_opaque_exponent (num q) ≡ false
-even_inside q h = transparent_whole (num q) (whole_is q (and_parts _ _ (and_parts _ _ h).0).0)
+transparent_whole e h = grind arith
 
 pub no_number_power : (b e : Tree) → is_number b ≡ false → has_number_power b e ≡ false
 no_number_power b (num q) h = rw h refl
@@ -154,17 +133,8 @@ power_no_number c f = refl
 pub has_power : (b e : Tree) → is_undef b ≡ false → is_zero b ≡ false → is_undef e ≡ false → has_no_power b e ≡ false
 has_power b e u z v = rw (u, z, v) refl
 
-rewritable : (b e : Tree) → is_undef b ≡ false → is_zero b ≡ false → is_number b ≡ false → is_undef e ≡ false → is_opaque_exponent e ≡ false → IsRewritable b e
-rewritable b e u z n v o = record { exponent_defined = v; transparent = o; has_power = has_power b e u z v; no_number = no_number_power b e n }
-
 whole_rewritable : (b e t : Tree) → rewritten_whole b e ≡ Some t → IsRewritable b e
-whole_rewritable (root a) (num q) t h =
-    chosen _ _ t (λ u. IsRewritable (root a) (num q)) h (λ k. let (p, n) = and_parts _ _ k in rewritable (root a) (num q) refl refl (is_false _ n) refl (even_inside q p))
-whole_rewritable (power c f) e t h =
-    chosen _ _ t (λ u. IsRewritable (power c f) e) h (λ k. let i = inside e (and_parts _ _ k).0 in rewritable (power c f) e refl refl (power_no_number c f) i.0 i.1)
-whole_rewritable (mult ts) e t h =
-    chosen _ _ t (λ u. IsRewritable (mult ts) e) h (λ k. let (p, n) = and_parts _ _ k in let i = inside e p in rewritable (mult ts) e refl refl (is_false _ n) i.0 i.1)
-whole_rewritable b e t h = nothing t (λ u. IsRewritable b e) h
+whole_rewritable b e t h = grind (arith, power_no_number)
 
 pub is_rewritable : (b e t : Tree) → is_half_num e ≡ false → rewritten b e ≡ Some t → IsRewritable b e
 is_rewritable b e t n h = whole_rewritable b e t (sym (as_whole b e n) ∙ h)

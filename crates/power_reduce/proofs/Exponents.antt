@@ -1,5 +1,5 @@
 -- Whole exponents, and those that are half of an odd whole number.
-use Rattle.std.proofs.Common.{◌≡◌, ℕ, ℤ, true, false, ◌==◌, Some, None, refl, sym, ap, ◌∙◌, arith}
+use Rattle.std.proofs.Common.{◌≡◌, ℕ, ℤ, true, false, ◌==◌, Some, None, refl, ap, arith}
 use Rattle.power_reduce.proofs.Shared.{and_parts, eqb-true, false_from_ne_true, whole_fraction, Tree, num, undef, is_undef, fraction_whole, is_half_num, is_whole_num, goes_inside, power_of_root, rewritten, rewritten_whole}
 
 -- ---- whole exponents
@@ -40,7 +40,4 @@ by_half b e h u = rw (h, u) refl
 
 -- a power that is kept has no half as its exponent
 pub no_half : (b e : Tree) → is_undef b ≡ false → rewritten b e ≡ None → is_half_num e ≡ false
-no_half b e u r = false_from_ne_true (is_half_num e) (λ h. none (sym (by_half b e h u) ∙ r))
-  where
-    none : {t : Tree} → Some t ≡ None → ⊥
-    none k = cc
+no_half b e u r = grind arith

@@ -1,30 +1,17 @@
 -- Half of an even exponent.
-use Rattle.std.proofs.Common.{◌≡◌, ◌<◌, ◌≤◌, ◌^◌, Bool, neg_ℤ, ℤ, pos, negsuc, Some, refl, sym, ap, ◌∙◌, arith, to_z, of_z, true, false, FitsSigned}
+use Rattle.std.proofs.Common.{◌≡◌, ◌<◌, ◌≤◌, ◌^◌, Bool, neg_ℤ, ℤ, pos, negsuc, Some, refl, sym, ◌∙◌, arith, to_z, of_z, true, false}
 use Rattle.std.specs.Prelude.{nat_abs, int_div, int_le, int_lt}
-use Rattle.power_reduce.proofs.Shared.{ints, quot_is, quot_fits, fits_signed_from_abs, w128, Rat, lowest, whole_fraction, is_number, ratio_of, value_of, Ratio, whole, Tree, num, power, root, is_root, size, whole_numerator, whole_denominator, number_most, and_from, and_parts, half, is_even_whole, rewritten, nth, children_of}
+use Rattle.power_reduce.proofs.Shared.{ints, w128, Rat, whole_fraction, is_number, ratio_of, value_of, whole, Tree, num, power, is_root, size, whole_numerator, whole_denominator, and_from, and_parts, half, is_even_whole, rewritten, nth, children_of}
 use Rattle.calc_terms.specs.Kind.{size_by_form}
 use Rattle.calc_terms.specs.Short.{is_short, is_short_int}
-use Rattle.power_reduce.proofs.Exponents.{as_whole, whole_no_half}
-use Rattle.power_reduce.proofs.Whole.{whole_is}
 use Rattle.calc_terms.specs.declared.kind.Kind.TheVariants as kind
 
-half_is : (z : ℤ) → int_div z (pos 2) ≡ half z
-half_is (pos n) = refl
-half_is (negsuc n) = refl
-
-two_fits : FitsSigned w128 (pos 2)
-two_fits = fits_signed_from_abs w128 (pos 2) (omega arith)
-
 pub halved : (z : ℤ) (r : Rat) → nat_abs z < 2 ^ 127 → ratio_of r ≡ whole (to_z w128 (of_z w128 (int_div (to_z w128 (of_z w128 z)) (to_z w128 (of_z w128 (pos 2)))))) → value_of r ≡ whole_fraction (half z)
-halved z r fits e =
-    let f = fits_signed_from_abs w128 z fits in
-    ap (λ (x : Ratio). lowest x.num x.den) e ∙ ap (λ x. whole_fraction x) (quot_is w128 z (pos 2) f two_fits (quot_fits w128 z (pos 2) f (omega (arith, ints))) ∙ half_is z)
+halved z r h e = grind arith
 
 pub half_rewritten : (b e : Tree) (z : ℤ) (r : Rat) → is_root b ≡ true → is_number b ≡ false → is_even_whole (whole_fraction z) ≡ true → e ≡ num (whole_fraction z) → value_of r ≡ whole_fraction (half z)
     → rewritten b e ≡ Some (power (nth 0 (children_of b)) (num (value_of r)))
-half_rewritten (root a) e z r t n even k v =
-    ap (rewritten (root a)) k ∙ as_whole (root a) (num (whole_fraction z)) (whole_no_half (num (whole_fraction z)) (whole_is z)) ∙ rw (even, n) (ap (λ x. Some (power a (num (whole_fraction (half x))))) (whole_numerator z) ∙ ap (λ q. Some (power a (num q))) (sym v))
-half_rewritten b e z r t n even k v = cc
+half_rewritten b e z r t n h k v = grind (arith, whole_numerator)
 
 -- ---- its bytes
 
@@ -44,9 +31,7 @@ short_half : (z : ℤ) → is_short_int z ≡ true → is_short_int (half z) ≡
 short_half z h = let a = and_parts (int_le (neg_ℤ (pos (2 ^ 63))) z) (int_lt z (pos (2 ^ 63))) h in and_from _ _ (low_half z a.0) (high_half z a.1)
 
 smaller_form : (b c : Bool) → (b ≡ true → c ≡ true) → size_by_form kind.Num c ≤ size_by_form kind.Num b
-smaller_form true true h = omega arith
-smaller_form true false h = let no : false ≡ true = h refl in absurd cc
-smaller_form false c h = number_most c
+smaller_form b c h = grind arith
 
 -- the half of a number takes no more bytes
 pub half_room : (z : ℤ) (r : Rat) → value_of r ≡ whole_fraction (half z) → size (num (value_of r)) ≤ size (num (whole_fraction z))

@@ -1,7 +1,7 @@
 -- Whole powers are held by the bits of their bases, times the exponent.
-use Rattle.std.proofs.Common.{◌≡◌, ℕ, zero, suc, ◌*◌, ◌<◌, ◌≤◌, ◌≤ℤ◌, ◌<ℤ◌, inr, ℤ, pos, negsuc, neg_ℤ, List, [], ◌∷◌, length, Bool, true, false, ◌&&◌, ◌||◌, not, None, Some, Result, Ok, Err, refl, sym, ap, ◌∙◌, subst, arith}
-use Rattle.std.specs.Prelude.{if◌then◌else◌, nat_abs, nat_le, IfOk, ◌==◌}
-use Rattle.power_reduce.proofs.Shared.{and_parts, leb-false, ints, mul-le, is_number, value, classes, IsNumber, IsTerm, term_of, is_opaque_exponent, is_whole_num, num_one, Surd, surd_one, number_test, number_words, term_proper, IsHeld, mass, mass_from, calculated, exactly, powered, undefined, pow_op, fraction_power, Fraction, inverse, one_fraction, whole_fraction, is_zero_fraction, is_one_fraction, Tree, num, symbol, undef, add, mult, power, root, neg, sub, div, none, more, is_undef, one_is, whole_numerator, zero_is, State, IsFactorHeld, IsHeldAsPowerOf, IsNumberPower, base_in, exponent_in, has_no_power, has_number_power, IsWrittenPower, IsPowerAnswer, IsStep, goes_inside, is_zero_or_one, parts_of, raised, rewritten, rewritten_whole, IsNoLargerThanInverse, IfDone, Step, tree_as_base, alone, held_wider, nothing_held, number_held, Forest, tree_of, NumberFault, given_told}
+use Rattle.std.proofs.Common.{◌≡◌, ℕ, zero, suc, ◌*◌, ◌≤◌, ◌≤ℤ◌, ◌<ℤ◌, inr, ℤ, pos, negsuc, neg_ℤ, List, [], ◌∷◌, length, Bool, true, false, ◌&&◌, ◌||◌, not, None, Some, Result, Ok, Err, refl, sym, ap, ◌∙◌, subst, arith}
+use Rattle.std.specs.Prelude.{if◌then◌else◌, nat_abs, IfOk}
+use Rattle.power_reduce.proofs.Shared.{and_parts, ints, is_number, value, classes, IsNumber, is_opaque_exponent, is_whole_num, num_one, Surd, surd_one, number_test, number_words, IsHeld, mass_from, calculated, exactly, powered, undefined, pow_op, fraction_power, Fraction, inverse, one_fraction, whole_fraction, is_zero_fraction, is_one_fraction, Tree, num, symbol, undef, add, mult, power, root, neg, sub, div, none, more, is_undef, one_is, whole_numerator, zero_is, State, IsFactorHeld, IsHeldAsPowerOf, IsNumberPower, base_in, exponent_in, has_no_power, has_number_power, IsWrittenPower, IsPowerAnswer, IsStep, goes_inside, is_zero_or_one, parts_of, raised, rewritten, rewritten_whole, IsNoLargerThanInverse, IfDone, Step, tree_as_base, alone, held_wider, nothing_held, number_held, Forest, tree_of, NumberFault, given_told}
 use Rattle.calc_bits.proofs.Held.{held_power}
 use Rattle.calc_bits.specs.Bounds.{IsNoLargerThanPower}
 use Rattle.power_reduce.proofs.Exponents.{as_whole, whole_no_half}
@@ -11,7 +11,7 @@ use Rattle.power_reduce.proofs.Written.{number_power, one_exponent}
 use Rattle.power_reduce.proofs.ByRule.{no_number_power as no_number_base}
 use Rattle.power_reduce.proofs.WithinBits.{rational_raised, rational_inverted, number_is_held}
 use Rattle.tree_bits.specs.Children.{IsSumHeld}
-use Rattle.tree_bits.specs.Exponents.{Counts, counts, counts_of, is_counted, are_counted, multiple}
+use Rattle.tree_bits.specs.Exponents.{Counts, counts, counts_of, is_counted, multiple}
 use Rattle.tree_bits.specs.Factors.{as_factor}
 use Rattle.tree_bits.specs.HeldTrees.{Addend, addend, addend_of, IsPartHeld, factor_held, more_weighted, none_weighted, AreWeighted, no_factor_held, power_high, power_low, base_in as factor_base, exponent_in as factor_exponent}
 use Rattle.tree_bits.specs.Powers.{raised_high, raised_low, IsHeldAsPower}
@@ -51,11 +51,7 @@ one_held : (h l : ℕ) → IsHeld surd_one h l
 one_held h l = held_wider surd_one (0 * 0) h (0 * 0) l (omega arith) (omega arith) (held_power [] 0 0 0 (nothing_held 0 0))
 
 num_one_held : (h l : ℕ) → IsHeld (value num_one) h l
-num_one_held h l = by (is_zero_fraction one_fraction)
-  where
-    by : (b : Bool) → IsHeld (if b then [] else surd_one) h l
-    by true = nothing_held h l
-    by false = one_held h l
+num_one_held h l = grind (arith, nothing_held, one_held)
 
 pub zero_power : (z : ℤ) (b t : Tree) → t ≡ num_one → IsHeldAsPower z (value b) (value t)
 zero_power z b t e h l k = subst (λ (x : Tree). IsHeld (value x) (raised_high z h l) (raised_low z h l)) (sym e) (num_one_held (raised_high z h l) (raised_low z h l))
@@ -64,9 +60,7 @@ once : (n : ℕ) → n ≡ 1 * n
 once n = omega arith
 
 pub one_power : (z : ℤ) (b t : Tree) → z ≡ pos 1 → t ≡ b → IsHeldAsPower z (value b) (value t)
-one_power z b t i e h l k =
-    subst (λ y. IsHeld (value t) (raised_high y h l) (raised_low y h l)) (sym i)
-    (subst (λ (x : Tree). IsHeld (value x) (1 * h) (1 * l)) (sym e) (subst (λ m. IsHeld (value b) m (1 * l)) (once h) (subst (λ m. IsHeld (value b) h m) (once l) k)))
+one_power z b t i e h l k = grind arith
 
 -- ---- powers of Numbers, as they are calculated
 
@@ -75,10 +69,7 @@ positive_power (pos n) y b a t l i e m = held_as_power (value b) (value t) n (su
 positive_power (negsuc n) y b a t l i e m = absurd (omega (arith, ints))
 
 pub negative_power : (z y : ℤ) (b a i t : Tree) → z <ℤ pos 0 → y ≡ neg_ℤ z → a ≡ b → IsNoLargerThanInverse (value a) (value i) → IsNoLargerThanPower (value i) (nat_abs y) (value t) → IsHeldAsPower z (value b) (value t)
-negative_power (pos n) y b a i t l j e v m = absurd (omega (arith, ints))
-negative_power (negsuc n) y b a i t l j e v m =
-    inverse_raised (value b) (value i) (value t) n (held_as_inverse (value b) (value i) (subst (λ (w : Surd). IsNoLargerThanInverse w (value i)) (ap value e) v).held)
-    (held_as_power (value i) (value t) (suc n) (subst (λ x. IsNoLargerThanPower (value i) (nat_abs x) (value t)) j m))
+negative_power z y b a i t l j e v m = grind arith
 
 fraction_raised : (q r : Fraction) (n : ℕ) → calculated pow_op q (whole_fraction (pos (suc n))) ≡ exactly r → r ≡ fraction_power q (suc n)
 fraction_raised q r n e = calculated_exactly pow_op q (whole_fraction (pos (suc n))) r e ∙ ap (λ y. fraction_power q (nat_abs y)) (whole_numerator (pos (suc n)))
@@ -129,11 +120,7 @@ mass_least m e [] = omega arith
 mass_least m e (t ∷ v) = let r = mass_least m e v in omega arith
 
 some_high : (v : Surd) (h l : ℕ) → 3 ≤ length v → IsHeld v h l → 1 ≤ h
-some_high v zero l n k =
-    let m : k.scale * length v ≤ mass k.scale v = mass_least k.scale k.scale v in
-    let x : k.scale * 3 ≤ k.scale * length v = mul-le k.scale 3 k.scale (length v) (omega arith) n in
-    absurd (omega (arith, m, x, k.high, k.scaled.positive))
-some_high v (suc h) l n k = omega arith
+some_high v h l n k = grind (arith, mass_least)
 
 wide_held : (b : Tree) (n : ℕ) (h l : ℕ) → is_number b ≡ true → 3 ≤ classes b → IsFactorHeld b h l → IsFactorHeld (power b (num (whole_fraction (negsuc n)))) (raised_high (negsuc n) h l) (raised_low (negsuc n) h l)
 wide_held b n h l m c a =
@@ -160,27 +147,8 @@ plain_held b z h l i j w n a =
 
 -- ---- an opaque exponent does not count
 
-no_both : (b : Bool) → (b && false) ≡ true → ⊥
-no_both true h = cc
-no_both false h = cc
-
-counted_term : (t : Tree) → IsTerm t → is_counted t ≡ true → (term_of t).radicand ≡ 1
-counted_term (num q) h c = refl
-counted_term (root a) h c = cc
-counted_term (mult (more (num q) (more (root (num r)) none))) h c = absurd (no_both (q.den == 1) c)
-counted_term _ h c = absurd h
-
 not_counted : (f : Tree) → IsNumber f → is_whole_num f ≡ false → is_counted f ≡ true → ⊥
-not_counted (mult (more (num q) (more (root (num r)) none))) n w c = no_both (q.den == 1) c
-not_counted (add none) n w c = let l : 2 ≤ 0 = n.0 in omega arith
-not_counted (add (more t none)) n w c = let l : 2 ≤ 1 = n.0 in omega arith
-not_counted (num q) n w c = cc
-not_counted (root a) n w c = cc
-not_counted (add (more t (more u us))) n w c =
-    let one = counted_term u (n.1.1).0 (and_parts (is_counted u) (are_counted us) (and_parts (is_counted t) (is_counted u && are_counted us) c).1).0 in
-    let less : (term_of t).radicand < (term_of u).radicand = (n.2.0).0 in
-    omega (arith, one, less, (term_proper t n.1.0).positive)
-not_counted _ n w c = absurd n
+not_counted f n w c = grind arith
 
 opaque_held : {A : Type 0} (c f : Tree) (h l : ℕ) → is_opaque_exponent f ≡ true → IsFactorHeld (power c f) h l → A
 opaque_held c f h l o a =
@@ -198,17 +166,13 @@ opaque_held c f h l o a =
 -- ---- what is kept
 
 inside : (z : ℤ) → is_zero_or_one (num (whole_fraction z)) ≡ false → goes_inside (num (whole_fraction z)) ≡ true
-inside z o =
-    let e : Tree = num (whole_fraction z) in
-    ap (λ (b : Bool). b && not (is_zero_or_one e)) (whole_is z) ∙ ap (λ (b : Bool). true && not b) o
+inside z o = grind (arith, whole_is)
 
 rewritten_is : (b : Tree) (z : ℤ) → rewritten b (num (whole_fraction z)) ≡ None → rewritten_whole b (num (whole_fraction z)) ≡ None
 rewritten_is b z r = sym (as_whole b (num (whole_fraction z)) (whole_no_half (num (whole_fraction z)) (whole_is z))) ∙ r
 
 if_inside : (x y : Bool) (t : Tree) → x ≡ true → y ≡ false → (if x && not y then Some t else None) ≡ Some t
-if_inside true false t h k = refl
-if_inside true true t h k = cc
-if_inside false y t h k = cc
+if_inside x y t h k = grind arith
 
 none_is_some : {t : Tree} {A : Type 0} → Some t ≡ None → A
 none_is_some e = absurd cc
@@ -249,12 +213,7 @@ trivial_held b t z h l o w a = by (is_zero_fraction q) refl o
 
 -- a Number's power that is none
 wide_exponent : (b : Tree) (z : ℤ) → is_number b ≡ true → has_number_power b (num (whole_fraction z)) ≡ false → (n : ℕ) × (z ≡ negsuc n) × (3 ≤ classes b)
-wide_exponent b (pos n) m k = absurd (cc (sym (number_power b (pos n) m refl) ∙ k))
-wide_exponent b (negsuc n) m k = (n, refl, leb-false (classes b) 2 (by (nat_le (classes b) 2) refl))
-  where
-    by : (x : Bool) → nat_le (classes b) 2 ≡ x → nat_le (classes b) 2 ≡ false
-    by true x = absurd (cc (sym (number_power b (negsuc n) m x) ∙ k))
-    by false x = x
+wide_exponent b z m k = grind (arith, number_power)
 
 whole_answer_held : (b t : Tree) (z : ℤ) → rewritten b (num (whole_fraction z)) ≡ None → IsPowerAnswer b (num (whole_fraction z)) t → (is_number b ≡ true → IsNumberPower z b t) → IsHeldAsPowerOf z b t
 whole_answer_held b t z r a p u h l k = by (is_zero_or_one e) (is_number b) (has_number_power b e) refl refl refl

@@ -1,19 +1,14 @@
 -- A power is rewritten where it stands: the node of its base goes, and the exponent is replaced.
 use Rattle.std.proofs.Common.{◌≡◌, ℕ, ◌≤◌, [], ◌∷◌, refl, sym, ap, ◌∙◌, subst, arith, true, false}
-use Rattle.power_reduce.proofs.Shared.{Tree, root, Trees, none, more, append, is_root, size, IsOver, IsTaken, taken, over_put, over_same, over_end, once_count, without_put, IsAdded, cut, cut_rest, represents_count, gives_put, State, free_of, released_free, is_power, base_in, exponent_in, tree_of, IsOnce, IsHanded, Represents, Ends, Gives, KeepsFront, nth, children_of, Forest, arity, kids, root_count, tree_nth, without_nth, merged_nth, holds, kids_of, root_tree, without_root, put, Stands, forest, KeepsRefusals, all-kids, behind_first, front_same, front_at, front_put, gives_as, given_root, represents_join, apart, kids_of_root, other_apart, eqb-sym, children_of-plain, whole_kids, put-put}
+use Rattle.power_reduce.proofs.Shared.{Tree, root, Trees, none, more, append, is_root, size, IsOver, IsTaken, taken, over_put, over_same, over_end, without_put, IsAdded, cut, cut_rest, gives_put, State, free_of, released_free, is_power, base_in, exponent_in, tree_of, IsOnce, IsHanded, Represents, Ends, Gives, KeepsFront, nth, children_of, Forest, kids, root_count, tree_nth, without_nth, merged_nth, holds, kids_of, root_tree, without_root, put, Stands, forest, KeepsRefusals, all-kids, behind_first, front_same, front_at, front_put, gives_as, given_root, represents_join, apart, kids_of_root, other_apart, eqb-sym, children_of-plain, whole_kids, put-put}
 use Rattle.calc_terms.specs.declared.kind.Kind.{Kind}
 use Rattle.power_reduce.proofs.Powers.{over_power}
 use Rattle.calc_terms.specs.declared.kind.Kind.TheVariants as kind
 
 -- ---- the node of the first child goes
 
-one_arity : {k : Forest} {t : Tree} → Represents k (more t none) → arity k ≡ 1
-one_arity h = represents_count h
-
 pub first_alone : {k : Kind} {i : ℕ} {t : Tree} {ts : Trees} {s : State} → Stands s → IsOver k i (more t ts) (forest s) → root_count (tree_nth 0 (kids_of i (forest s))) ≡ 1
-first_alone {i = i} {t = t} {ts = ts} {s = s} st o =
-    let one = cut (more t none) ts (kids (root_tree i (forest s))) o.kids in
-    ap (λ (x : Forest). root_count (tree_nth 0 x)) (kids_of_root i st o.root) ∙ once_count (tree_nth 0 (kids (root_tree i (forest s)))) (one_arity one) one.once
+first_alone h o = grind (arith, kids_of_root)
 
 pub merged : {k : Kind} {i : ℕ} {t : Tree} {ts : Trees} {f new : Forest} → IsOver k i (more t ts) f → new ≡ put i (merged_nth 0 (kids (root_tree i f))) f → IsAdded k i (append (children_of t) ts) f new
 merged {i = i} {t = t} {ts = ts} {f = f} o e =

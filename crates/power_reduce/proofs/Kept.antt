@@ -1,15 +1,10 @@
 -- Powers that no rule changes are reduced.
-use Rattle.std.proofs.Common.{◌≡◌, ◌≤◌, Bool, true, false, ◌&&◌, ◌||◌, ◌==◌, not, if◌then◌else◌, inl, inr, Some, None, pos, refl, sym, ap, ◌∙◌, arith}
-use Rattle.power_reduce.proofs.Shared.{and_from, eq-eqb, not_from_false, Fraction, zero_fraction, one_fraction, is_zero_fraction, is_one_fraction, int_is_zero, int_is_one, int_is_even, int_is_negative, is_number, classes, is_reduced, is_whole_num, is_transparent_power, IsReduced, HasForm, IsPowerForm, IsWholePowerForm, Tree, num, symbol, undef, add, mult, power, root, neg, sub, div, AllParts, is_undef, is_mult, is_root, whole_numerator, whole_denominator, reduced_words, reduced_test, is_zero_or_one, goes_inside, is_even_whole, rewritten, rewritten_whole}
-use Rattle.power_reduce.proofs.Exponents.{as_whole, no_half, one_is_not_two}
+use Rattle.std.proofs.Common.{◌≡◌, ◌≤◌, Bool, true, false, ◌&&◌, ◌||◌, not, if◌then◌else◌, inr, Some, None, pos, refl, ap, arith}
+use Rattle.power_reduce.proofs.Shared.{and_from, eq-eqb, not_from_false, Fraction, zero_fraction, one_fraction, is_zero_fraction, is_one_fraction, int_is_zero, int_is_one, int_is_even, int_is_negative, is_number, classes, is_reduced, is_whole_num, is_transparent_power, HasForm, IsPowerForm, IsWholePowerForm, Tree, num, symbol, undef, add, mult, power, root, neg, sub, div, AllParts, is_undef, is_mult, is_root, whole_numerator, whole_denominator, reduced_words, reduced_test, is_zero_or_one, goes_inside, is_even_whole, rewritten, rewritten_whole}
 
 -- the parts of a reduced tree that is not Undef have their forms
 parts_of : (t : Tree) → is_reduced t ≡ true → is_undef t ≡ false → AllParts HasForm t
-parts_of t h u = by (reduced_words t h)
-  where
-    by : IsReduced t → AllParts HasForm t
-    by (inl e) = absurd (let f : is_undef t ≡ true = ap is_undef e in cc)
-    by (inr p) = p
+parts_of t h u = grind (arith, reduced_words)
 
 pub reduced_power : (b e : Tree) → is_reduced b ≡ true → is_reduced e ≡ true → is_undef b ≡ false → is_undef e ≡ false → IsPowerForm b e → is_reduced (power b e) ≡ true
 reduced_power b e hb he ub ue form = reduced_test (power b e) (inr (inr form, parts_of b hb ub, parts_of e he ue))
@@ -17,11 +12,7 @@ reduced_power b e hb he ub ue form = reduced_test (power b e) (inr (inr form, pa
 -- ---- tests that fail
 
 refused : (t : Bool) (u : Tree) → (if t then Some u else None) ≡ None → t ≡ false
-refused true u h = absurd (no u h)
-  where
-    no : (u : Tree) → Some u ≡ None → ⊥
-    no u h = cc
-refused false u h = refl
+refused t u h = grind arith
 
 second_fails : (a b : Bool) → (a && b) ≡ false → a ≡ true → b ≡ false
 second_fails true b h e = h
@@ -43,15 +34,8 @@ either_fails false b h = (refl, h)
 pub whole_inside : (q : Fraction) → q.den ≡ 1 → is_zero_or_one (num q) ≡ false → goes_inside (num q) ≡ true
 whole_inside q d z = rw (z, eq-eqb q.den 1 d) refl
 
-whole_is : (q : Fraction) → q.den ≡ 1 → is_whole_num (num q) ≡ true
-whole_is q d = eq-eqb q.den 1 d
-
 no_number : (b : Tree) (q : Fraction) → q.den ≡ 1 → (is_number b && is_whole_num (num q)) ≡ false → is_number b ≡ false
-no_number b q d h = by (is_number b) (is_whole_num (num q)) h (whole_is q d)
-  where
-    by : (a c : Bool) → (a && c) ≡ false → c ≡ true → a ≡ false
-    by true c h e = absurd (contradiction c e h)
-    by false c h e = refl
+no_number b q d h = grind arith
 
 zero_test_true : is_zero_fraction zero_fraction ≡ true
 unfolding zero_fraction
@@ -62,15 +46,7 @@ unfolding one_fraction
 one_test_true = and_from _ _ (ap int_is_one (whole_numerator (pos 1))) (eq-eqb _ 1 (whole_denominator (pos 1)))
 
 whole_form : (b : Tree) (q : Fraction) → is_zero_or_one (num q) ≡ false → is_mult b ≡ false → is_transparent_power b ≡ false → (int_is_even q.num ≡ true → is_root b ≡ false) → is_number b ≡ false → IsWholePowerForm b q
-whole_form b q z m p r n =
-    let (zero, one) = either_fails (is_zero_fraction q) (is_one_fraction q) z in record {
-      not_zero = λ e. contradiction (is_zero_fraction q) (ap is_zero_fraction e ∙ zero_test_true) zero;
-      not_one = λ e. contradiction (is_one_fraction q) (ap is_one_fraction e ∙ one_test_true) one;
-      no_product = m;
-      no_power = p;
-      no_root = r;
-      wide = λ e. absurd (contradiction (is_number b) e n);
-    }
+whole_form b q z m p r n = grind (arith, zero_test_true, one_test_true)
 
 even_whole : (q : Fraction) → q.den ≡ 1 → is_zero_or_one (num q) ≡ false → int_is_even q.num ≡ true → is_even_whole q ≡ true
 even_whole q d z e = and_from _ _ (and_from _ _ (eq-eqb q.den 1 d) e) (not_from_false _ (either_fails (is_zero_fraction q) (is_one_fraction q) z).0)
@@ -92,12 +68,7 @@ whole_kept (div a c) q d z n r = whole_form (div a c) q z refl refl (λ e. refl)
 
 -- a power that no rule changes has its form
 pub kept_form : (b e : Tree) → is_undef b ≡ false → is_zero_or_one e ≡ false → (is_number b && is_whole_num e) ≡ false → rewritten b e ≡ None → IsPowerForm b e
-kept_form b (num q) u z n r =
-    let h = no_half b (num q) u r in (
-      λ d. contradiction (q.den == 2) (eq-eqb q.den 2 d) h,
-      λ d. whole_kept b q d z (no_number b q d n) (sym (as_whole b (num q) h) ∙ r),
-    )
-kept_form b e u z n r = tt
+kept_form b e u z n r = grind (arith, whole_kept, no_number)
 
 -- ---- Numbers of three classes
 
@@ -106,13 +77,6 @@ record IsWide (b : Tree) : Type 0 where
   no_power : is_transparent_power b ≡ false
   no_root : is_root b ≡ false
   defined : is_undef b ≡ false
-
-wide_sum : (b : Tree) → 3 ≤ classes b → IsWide b
-wide_sum (mult ts) h = absurd (omega arith)
-wide_sum (power c f) h = absurd (omega arith)
-wide_sum (root a) h = absurd (omega arith)
-wide_sum undef h = absurd (omega arith)
-wide_sum _ h = record { no_product = refl; no_power = refl; no_root = refl; defined = refl }
 
 zero_not_negative : int_is_negative zero_fraction.num ≡ false
 unfolding zero_fraction
@@ -123,16 +87,4 @@ unfolding one_fraction
 one_not_negative = ap int_is_negative (whole_numerator (pos 1))
 
 pub wide_power : (b : Tree) (n : Fraction) → is_reduced b ≡ true → 3 ≤ classes b → n.den ≡ 1 → int_is_negative n.num ≡ true → is_reduced (power b (num n)) ≡ true
-wide_power b n h c one l =
-    let w = wide_sum b c in
-    reduced_power b (num n) h (reduced_test (num n) (inr (inl tt))) w.defined refl (
-      (λ d. one_is_not_two n.den one d),
-      λ d. record {
-        not_zero = λ e. contradiction (int_is_negative n.num) l (ap (λ (q : Fraction). int_is_negative q.num) e ∙ zero_not_negative);
-        not_one = λ e. contradiction (int_is_negative n.num) l (ap (λ (q : Fraction). int_is_negative q.num) e ∙ one_not_negative);
-        no_product = w.no_product;
-        no_power = w.no_power;
-        no_root = λ e. w.no_root;
-        wide = λ e. (l, c);
-      },
-    )
+wide_power b n h c k l = grind (arith, reduced_power, reduced_test, zero_not_negative, one_not_negative)

@@ -33,9 +33,7 @@ zero_answer b e z t h k d u =
 -- and 1
 pub one_answer : (b e : Tree) (z : ℤ) (t : Tree) → e ≡ num (whole_fraction z) → z ≡ pos 1 → is_reduced b ≡ true → is_undef b ≡ false → has_no_power b e ≡ false → t ≡ b → IsPowerAnswer b e t
 unfolding one_fraction
-one_answer b e z t h k r u d v =
-    let w : e ≡ num one_fraction = h ∙ ap (λ x. num (whole_fraction x)) k in
-    subst (λ (x : Tree). IsPowerAnswer b x t) (sym w) (subst (IsPowerAnswer b (num one_fraction)) (sym v) (one_exponent_answer b r u (ap (has_no_power b) (sym w) ∙ d)))
+one_answer b e z t h k r u d v = grind (arith, one_exponent_answer)
 
 -- ---- exponents above 0
 
@@ -90,6 +88,4 @@ some_class (add ts) n r e = let l : 2 ≤ 0 = subst (λ k. 2 ≤ k) e (number_wo
 some_class t n r e = omega arith
 
 pub has_inverse : (i : ℕ) (a b : Tree) (f g : Forest) (x : Inverse) → a ≡ b → is_number b ≡ true → is_num b ≡ false → classes b ≤ 2 → AnswersInverse i a f g x → ((h : ℕ) → x ≡ inverse.Value h → ⊥) → ⊥
-has_inverse i a b f g (inverse.Value h) e n r l k other = other h refl
-has_inverse i a b f g inverse.Zero e n r l k other = some_class b n r (ap classes (sym e) ∙ k.0)
-has_inverse i a b f g (inverse.Wide h) e n r l k other = let c : 3 ≤ classes b = subst (λ (t : Tree). 3 ≤ classes t) e k.0 in omega arith
+has_inverse i a b f g x e n r l k h = grind (arith, some_class)

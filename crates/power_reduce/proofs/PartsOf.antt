@@ -1,5 +1,5 @@
 -- The parts of a product: its coefficient, where it is not 1, before its factors.
-use Rattle.std.proofs.Common.{◌≡◌, ℕ, ◌≤◌, Bool, true, false, Some, if◌then◌else◌, refl, sym, ap, ◌∙◌, subst, arith}
+use Rattle.std.proofs.Common.{◌≡◌, ℕ, ◌≤◌, true, false, Some, refl, sym, ap, ◌∙◌, subst, arith}
 use Rattle.power_reduce.proofs.Shared.{is_number, is_reduced, is_num_one, split_product, Tree, mult, Trees, more, count, is_mult, GivesTwo, seen, State, goes_inside, parts_of, raised, rewritten, plain, children_of, Forest, IsHanded, Gives, tree_at, root_tree, Stands, forest, given_handed, given_other, given_root, given_same, given_told}
 use Rattle.coefficients.proofs.Lengths.{some_factors}
 use Rattle.power_reduce.proofs.Exponents.{as_whole, inside_whole, whole_no_half}
@@ -29,11 +29,7 @@ gives_at {others = others} {i = i} {P = P} g e = subst (λ (x : Forest). Gives o
 -- ---- there are parts
 
 many_parts : (ts : Trees) → 1 ≤ count (split_product ts).factors → 1 ≤ count (parts_of ts)
-many_parts ts h = by (is_num_one (split_product ts).coefficient)
-  where
-    by : (b : Bool) → 1 ≤ count (if b then (split_product ts).factors else more (split_product ts).coefficient (split_product ts).factors)
-    by true = h
-    by false = omega arith
+many_parts ts h = grind arith
 
 pub some_parts : (t : Tree) → is_mult t ≡ true → is_reduced t ≡ true → is_number t ≡ false → 1 ≤ count (parts_of (children_of t))
 some_parts t m h n = many_parts (children_of t) (some_factors t m h n)
@@ -43,6 +39,4 @@ powers_rewritten (mult ts) e m n i = as_whole (mult ts) e (whole_no_half e (insi
 powers_rewritten b e m n i = absurd cc
 
 pub powers_as : (b e t u x a : Tree) → is_mult b ≡ true → is_number b ≡ false → goes_inside e ≡ true → t ≡ mult (raised (children_of u) x) → u ≡ mult (parts_of (children_of a)) → a ≡ b → x ≡ e → rewritten b e ≡ Some t
-powers_as b e t u x a m n i h p q r =
-    let w : t ≡ mult (raised (parts_of (children_of b)) e) = h ∙ (λ k. mult (raised (children_of (p k)) (r k))) ∙ ap (λ (y : Tree). mult (raised (parts_of (children_of y)) e)) q in
-    powers_rewritten b e m n i ∙ ap Some (sym w)
+powers_as b e t u x a m n i h p q r = grind arith

@@ -1,6 +1,6 @@
 -- A root of the pool that is a power: its sides, and what is left when they are taken.
-use Rattle.std.proofs.Common.{◌≡◌, ℕ, ◌+◌, ◌≤◌, [], ◌∷◌, refl, sym, ap, ◌∙◌, arith, true}
-use Rattle.power_reduce.proofs.Shared.{gives_without, Payload, bare, Tree, num, power, Trees, none, more, size, Fraction, one_fraction, num_least, num_most, whole_size, least_size, GivesTwo, IsOver, IsTaken, taken, over_put, once_count, without_put, children_at, seen, expression, State, is_power, base_in, exponent_in, tree_of, IsOnce, AllOnce, IsOwned, IsHanded, Ends, Gives, KeepsFront, nth, grown, plains, plain, IsExpression, children_of, Forest, empty, tree, arity, kids, root_payload, root_count, tree_nth, without_nth, tree_at, kids_of, root_tree, without_root, put, Stands, forest, all-kids, behind_first, front_same, front_at, front_end, front_put, front_without, gives_as, ends_without, ends_as, ends_at, children_of-plain, whole_kids, root_arity}
+use Rattle.std.proofs.Common.{◌≡◌, ℕ, ◌+◌, ◌≤◌, [], ◌∷◌, refl, ap, ◌∙◌, arith, true}
+use Rattle.power_reduce.proofs.Shared.{gives_without, Payload, bare, Tree, num, power, Trees, none, more, size, Fraction, one_fraction, num_least, num_most, whole_size, least_size, GivesTwo, IsOver, IsTaken, taken, over_put, once_count, without_put, children_at, seen, expression, State, is_power, base_in, exponent_in, tree_of, AllOnce, IsOwned, IsHanded, Ends, Gives, KeepsFront, nth, grown, plains, plain, IsExpression, children_of, Forest, empty, tree, arity, kids, root_payload, root_count, tree_nth, without_nth, tree_at, kids_of, root_tree, without_root, put, Stands, forest, all-kids, behind_first, front_same, front_at, front_end, front_put, front_without, gives_as, ends_without, ends_as, ends_at, children_of-plain, whole_kids, root_arity}
 use Rattle.calc_terms.specs.declared.kind.Kind.TheVariants as kind
 
 -- ---- powers
@@ -41,12 +41,7 @@ holds_power empty h = cc
 holds_power (tree l b r) h = payload_power l.payload (plains b) h
 
 pub over_power : {i : ℕ} {f : Forest} → IsHanded i f → is_power (plain (root_tree i f)) ≡ true → IsOver kind.Pow i (more (base_in (plain (root_tree i f))) (more (exponent_in (plain (root_tree i f))) none)) f
-over_power {i = i} {f = f} h e = record {
-  root = h.root;
-  payload = holds_power (root_tree i f) e;
-  count = once_count (root_tree i f) (root_arity i f h.root) h.once;
-  kids = record { once = all-kids IsOnce (root_tree i f) h.once; whole = whole_kids (root_tree i f) h.whole; plain_trees = sym (children_of-plain (root_tree i f) h.whole) ∙ power_children (plain (root_tree i f)) e };
-}
+over_power h e = grind (arith, holds_power, once_count, root_arity, all-kids, whole_kids, children_of-plain, power_children)
 
 -- it has two children
 pub two_sides : {s : State} {i j : ℕ} → Stands s → IsHanded i (forest s) → is_power (tree_of i s) ≡ true → j ≡ i → arity (kids_of j (forest s)) ≡ 2

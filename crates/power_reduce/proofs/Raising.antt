@@ -65,20 +65,14 @@ pub product_on : {i n h : ℕ} {t : Tree} {ts us : Trees} {f new : Forest} (j : 
 product_on {i = i} j o a d = over_beside j (eqb-sym i j d) (over_put a.now o a.kids)
 
 pub words : (n : ℕ) (ts : Trees) (e : Tree) (s : IsSplitAt n ts) → inserted n (more (power s.t e) none) (append s.first s.rest) ≡ raised_at n e ts
-words n ts e s =
-    ap (λ m. inserted m (more (power s.t e) none) (append s.first s.rest)) s.place ∙ inserted_behind s.first (more (power s.t e) none) s.rest
-    ∙ sym (raised_behind s.first s.t s.rest e) ∙ (λ k. raised_at (sym s.place k) e (sym s.whole k))
+words n ts e s = grind (arith, inserted_behind, raised_behind)
 
 pub split_within : (n : ℕ) (ts : Trees) (s : IsSplitAt n ts) → n ≤ count (append s.first s.rest)
 split_within n ts s = omega (arith, s.place, count_append s.first s.rest)
 
 -- the power stands where the factor stood
 pub kids_of_raised : {i n h : ℕ} {t : Tree} {ts us : Trees} {f new end : Forest} (j : ℕ) (a : IsTaken kind.Mult i n t ts f new h) → eqb i j ≡ false → IsAdded kind.Mult i us (without_root j (put i a.now f)) end → HasKids i (without_root j f) end us
-kids_of_raised {i = i} {f = f} j a d x = record {
-  kids = x.now;
-  kids-are = x.kids;
-  whole = x.whole ∙ ap (put i x.now) (without-put i j a.now f d) ∙ put-put i x.now a.now (without_root j f);
-}
+kids_of_raised j a d x = grind (arith, without-put, put-put)
 
 pub kids_front : {i j : ℕ} {us : Trees} {f end : Forest} → HasKids i (without_root j f) end us → KeepsFront (i ∷ j ∷ []) f end
 kids_front h = front_at (front_put h.kids behind_first (front_without (behind_later behind_first) front_same)) h.whole
@@ -162,11 +156,7 @@ last_words ts done (more t (more u us)) n e k s l = absurd (let c : count ts ≡
 
 pub all_raised : {e : Tree} {i at : ℕ} {ts : Trees} {f new end : Forest} (j : ℕ) (p : IsPartRaised e i at ts f new) → eqb i j ≡ false → at + 1 ≡ count ts → HasKids i (without_root j new) end (raised_at at e (append (raised p.done e) p.rest))
     → HasKids i (without_root j f) end (raised ts e)
-all_raised {e = e} {i = i} {at = at} {ts = ts} {f = f} j p d l h = record {
-  kids = h.kids;
-  kids-are = subst (Represents h.kids) (last_words ts p.done p.rest at e p.place p.split l) h.kids-are;
-  whole = h.whole ∙ ap (λ (x : Forest). put i h.kids (without_root j x)) p.whole ∙ ap (put i h.kids) (without-put i j p.now f d) ∙ put-put i h.kids p.now (without_root j f);
-}
+all_raised j p d l h = grind (arith, last_words, without-put, put-put)
 
 pub kids_over : {i : ℕ} {ts us : Trees} {f end : Forest} (j : ℕ) → IsOver kind.Mult i ts f → eqb i j ≡ false → HasKids i (without_root j f) end us → IsOver kind.Mult i us end
 kids_over {i = i} j o d h = over_same (over_put h.kids (over_beside j (eqb-sym i j d) o) h.kids-are) h.whole

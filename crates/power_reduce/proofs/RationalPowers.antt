@@ -1,7 +1,7 @@
 -- Whole powers of rationals.
-use Rattle.std.proofs.Common.{◌≡◌, ◌≢◌, ℕ, ◌<◌, ◌^◌, ◌≤ℤ◌, ◌<ℤ◌, ℤ, pos, negsuc, neg_ℤ, ◌-ℤ◌, zero, suc, Bool, true, false, ◌&&◌, ◌||◌, if◌then◌else◌, Result, Ok, Err, refl, sym, ap, ◌∙◌, subst, arith, to_z, of_z}
+use Rattle.std.proofs.Common.{◌≡◌, ◌≢◌, ℕ, ◌<◌, ◌^◌, ◌≤ℤ◌, ◌<ℤ◌, ℤ, pos, negsuc, neg_ℤ, ◌-ℤ◌, zero, suc, Bool, true, false, ◌&&◌, if◌then◌else◌, Result, Ok, Err, refl, sym, ap, ◌∙◌, subst, arith, to_z, of_z}
 use Rattle.std.specs.Prelude.{nat_abs, IfErr}
-use Rattle.power_reduce.proofs.Shared.{not_from_false, ints, w128, IsErrAnd, Operation, pow_op, fraction_power, operation_fits, result_of, Fraction, lowest, whole_fraction, zero_fraction, one_fraction, inverse, is_zero_fraction, int_is_zero, int_is_negative, PlainValue, calculated, powered, exactly, undefined, overflow, plain_value, Rat, ratio_of, value_of, Ratio, whole, Tree, num, undef, power, whole_numerator, whole_denominator, zero_is, no_zero, KeepsMeanings-eq, number_test, power_of_rational, negative_power_of_rational, power_zero_is_one, zero_to_nothing, State, plain_overflow, AnswersRationals, IsPowerAnswer, has_no_power, is_at_most_zero, IsWrittenPower, ratio_parts, told, Overflow, IsPlainAnswer, IsPlainOverflow, keeps, NumberFault, by_test}
+use Rattle.power_reduce.proofs.Shared.{ints, w128, IsErrAnd, Operation, pow_op, fraction_power, operation_fits, result_of, Fraction, lowest, whole_fraction, zero_fraction, one_fraction, inverse, is_zero_fraction, int_is_zero, PlainValue, calculated, powered, exactly, undefined, overflow, plain_value, Rat, ratio_of, value_of, Ratio, whole, Tree, num, undef, power, whole_numerator, whole_denominator, zero_is, KeepsMeanings-eq, number_test, power_of_rational, negative_power_of_rational, power_zero_is_one, zero_to_nothing, State, plain_overflow, AnswersRationals, IsPowerAnswer, has_no_power, is_at_most_zero, IsWrittenPower, ratio_parts, told, Overflow, IsPlainAnswer, IsPlainOverflow, keeps, NumberFault, by_test}
 use Rattle.power_reduce.proofs.Answered.{number_answer, undefined_answer}
 use Rattle.power_reduce.proofs.Written.{zero_exponent, one_exponent, number_power, few_classes, rational_classes, first_power}
 use Rattle.rational128.specs.Refusals.{operation_of}
@@ -13,36 +13,16 @@ use lib.Signed.{lt_z, le_z}
 -- ---- signs, as the program tests them
 
 pub above : (z : ℤ) → nat_abs z < 2 ^ 127 → lt_z (pos 0) (to_z w128 (of_z w128 z)) ≡ true → pos 1 ≤ℤ z
-above z fits h = by z (subst (λ x. lt_z (pos 0) x ≡ true) (told z fits) h)
-  where
-    by : (z : ℤ) → lt_z (pos 0) z ≡ true → pos 1 ≤ℤ z
-    by (pos zero) h = absurd (grind (arith, ints))
-    by (pos (suc n)) h = omega (arith, ints)
-    by (negsuc n) h = absurd (grind (arith, ints))
+above z h k = grind arith
 
 pub not_above : (z : ℤ) → nat_abs z < 2 ^ 127 → lt_z (pos 0) (to_z w128 (of_z w128 z)) ≡ false → z ≤ℤ pos 0
-not_above z fits h = by z (subst (λ x. lt_z (pos 0) x ≡ false) (told z fits) h)
-  where
-    by : (z : ℤ) → lt_z (pos 0) z ≡ false → z ≤ℤ pos 0
-    by (pos zero) h = omega (arith, ints)
-    by (pos (suc n)) h = absurd (grind (arith, ints))
-    by (negsuc n) h = omega (arith, ints)
+not_above z h k = grind arith
 
 pub at_most : (z : ℤ) → nat_abs z < 2 ^ 127 → le_z (to_z w128 (of_z w128 z)) (pos 0) ≡ true → z ≤ℤ pos 0
-at_most z fits h = by z (subst (λ x. le_z x (pos 0) ≡ true) (told z fits) h)
-  where
-    by : (z : ℤ) → le_z z (pos 0) ≡ true → z ≤ℤ pos 0
-    by (pos zero) h = omega (arith, ints)
-    by (pos (suc n)) h = absurd (grind (arith, ints))
-    by (negsuc n) h = omega (arith, ints)
+at_most z h k = grind arith
 
 pub not_at_most : (z : ℤ) → nat_abs z < 2 ^ 127 → le_z (to_z w128 (of_z w128 z)) (pos 0) ≡ false → pos 1 ≤ℤ z
-not_at_most z fits h = by z (subst (λ x. le_z x (pos 0) ≡ false) (told z fits) h)
-  where
-    by : (z : ℤ) → le_z z (pos 0) ≡ false → pos 1 ≤ℤ z
-    by (pos zero) h = absurd (grind (arith, ints))
-    by (pos (suc n)) h = omega (arith, ints)
-    by (negsuc n) h = absurd (grind (arith, ints))
+not_at_most z h k = grind arith
 
 pub zero_bits : (z : ℤ) → nat_abs z < 2 ^ 127 → of_z w128 z ≡ 0 → z ≡ pos 0
 zero_bits z fits e = sym (told z fits) ∙ ap (to_z w128) e
@@ -52,29 +32,15 @@ no_zero_bits z h e = h (ap (of_z w128) e)
 
 -- below 0, where it is neither above 0 nor 0
 pub below : (z : ℤ) → z ≤ℤ pos 0 → z ≢ pos 0 → z <ℤ pos 0
-below (pos zero) h k = absurd (k refl)
-below (pos (suc n)) h k = absurd (omega (arith, ints))
-below (negsuc n) h k = omega (arith, ints)
+below z h k = grind arith
 
 -- above 0, where it is neither below 0 nor 0
 pub not_below : (z : ℤ) → nat_abs z < 2 ^ 127 → lt_z (to_z w128 (of_z w128 z)) (pos 0) ≡ false → z ≢ pos 0 → pos 1 ≤ℤ z
-not_below z fits h k = by z (subst (λ x. lt_z x (pos 0) ≡ false) (told z fits) h) k
-  where
-    by : (z : ℤ) → lt_z z (pos 0) ≡ false → z ≢ pos 0 → pos 1 ≤ℤ z
-    by (pos zero) h k = absurd (k refl)
-    by (pos (suc n)) h k = omega (arith, ints)
-    by (negsuc n) h k = absurd (grind (arith, ints))
-
-negated : (n : ℕ) → pos 0 -ℤ negsuc n ≡ pos (suc n)
-negated n = omega (arith, ints)
+not_below z h k l = grind arith
 
 -- the negative of an exponent below 0, as the program hands it on
 pub opposite : (z : ℤ) → nat_abs z < 2 ^ 127 → z <ℤ pos 0 → to_z w128 (of_z w128 (pos 0 -ℤ to_z w128 (of_z w128 z))) ≡ neg_ℤ z
-opposite z fits h = ap (λ x. to_z w128 (of_z w128 (pos 0 -ℤ x))) (told z fits) ∙ by z fits h
-  where
-    by : (z : ℤ) → nat_abs z < 2 ^ 127 → z <ℤ pos 0 → to_z w128 (of_z w128 (pos 0 -ℤ z)) ≡ neg_ℤ z
-    by (pos n) fits h = absurd (omega (arith, ints))
-    by (negsuc n) fits h = ap (λ x. to_z w128 (of_z w128 x)) (negated n) ∙ told (pos (suc n)) fits
+opposite z h k = grind arith
 
 pub opposite_above : (z : ℤ) → z <ℤ pos 0 → pos 1 ≤ℤ neg_ℤ z
 opposite_above (pos n) h = absurd (omega (arith, ints))
@@ -83,9 +49,7 @@ opposite_above (negsuc n) h = omega (arith, ints)
 -- ---- plain values
 
 pub powered_above : (q : Fraction) (z : ℤ) → pos 1 ≤ℤ z → powered q z 1 ≡ calculated pow_op q (whole_fraction z)
-powered_above q (pos zero) h = absurd (omega (arith, ints))
-powered_above q (pos (suc n)) h = refl
-powered_above q (negsuc n) h = absurd (omega (arith, ints))
+powered_above q z h = grind arith
 
 pub powered_below : (q : Fraction) (z : ℤ) → z <ℤ pos 0 → is_zero_fraction q ≡ false → powered q z 1 ≡ calculated pow_op (inverse q) (whole_fraction (neg_ℤ z))
 powered_below q (pos n) h k = absurd (omega (arith, ints))
@@ -95,9 +59,7 @@ pub powered_zero : (q : Fraction) (z : ℤ) → z ≡ pos 0 → is_zero_fraction
 powered_zero q z e k = ap (λ x. powered q x 1) e ∙ rw k refl
 
 pub powered_undefined : (q : Fraction) (z : ℤ) → z ≤ℤ pos 0 → is_zero_fraction q ≡ true → powered q z 1 ≡ undefined
-powered_undefined q (pos zero) h k = rw k refl
-powered_undefined q (pos (suc n)) h k = absurd (omega (arith, ints))
-powered_undefined q (negsuc n) h k = rw k refl
+powered_undefined q z h k = grind arith
 
 pub calculated_is : (op : Operation) (p q r : Fraction) → (operation_fits op p q ≡ false → ⊥) → r ≡ result_of op p q → calculated op p q ≡ exactly r
 calculated_is op p q r h e = by_test (λ b. operation_fits op p q ≡ b → (if b then exactly (result_of op p q) else overflow op p q) ≡ exactly r) (operation_fits op p q) (λ x y. ap exactly (sym e)) (λ x y. absurd (h y)) refl
@@ -111,10 +73,7 @@ plain_power t b e q z h k l = ap plain_value (h ∙ (λ i. power (k i) (l i))) �
 
 -- what is not 0, since no power of 0 has an exponent of at most 0
 pub not_zero : (q : Fraction) (z : ℤ) → (is_zero_fraction q ≡ true → pos 1 ≤ℤ z) → z ≤ℤ pos 0 → is_zero_fraction q ≡ false
-not_zero q z h l = by_test (λ b. is_zero_fraction q ≡ b → b ≡ false) (is_zero_fraction q) (λ x y. absurd (apart (h y))) (λ x y. refl) refl
-  where
-    apart : pos 1 ≤ℤ z → ⊥
-    apart k = omega (arith, ints)
+not_zero q z h l = grind arith
 
 -- a power that fits, and one that doesn't, in the words of the call
 pub fitting_power : (q r : Fraction) (y z : ℤ) → y ≡ z → (operation_fits pow_op q (whole_fraction y) ≡ false → ⊥) → r ≡ fraction_power q (nat_abs y) → calculated pow_op q (whole_fraction z) ≡ exactly r
@@ -138,12 +97,7 @@ pub zero_rational : (q : Rat) (n : ℤ) → n ≡ (ratio_of q).num → of_z w128
 zero_rational q n e h = ap int_is_zero ((ratio_parts q).num ∙ sym (told q.num q.fits) ∙ ap (λ z. to_z w128 (of_z w128 z)) (sym e) ∙ ap (to_z w128) h)
 
 pub no_zero_rational : (q : Rat) (n : ℤ) → n ≡ (ratio_of q).num → (of_z w128 n ≡ 0 → ⊥) → is_zero_fraction (value_of q) ≡ true → ⊥
-no_zero_rational q n e h k = h (ap (of_z w128) (e ∙ sym (ratio_parts q).num ∙ zero_num (value_of q).num k))
-  where
-    zero_num : (z : ℤ) → int_is_zero z ≡ true → z ≡ pos 0
-    zero_num (pos zero) k = refl
-    zero_num (pos (suc n)) k = cc
-    zero_num (negsuc n) k = cc
+no_zero_rational q n e h k = grind (arith, ratio_parts)
 
 pub at_zero : (z : ℤ) → z ≡ pos 0 → z ≤ℤ pos 0
 at_zero z e = omega (arith, ints)
@@ -151,24 +105,10 @@ at_zero z e = omega (arith, ints)
 -- ---- answers
 
 at_most_zero : (z : ℤ) → z ≤ℤ pos 0 → is_at_most_zero (num (whole_fraction z)) ≡ true
-at_most_zero z h = rw (whole_numerator z, whole_denominator z) (by z h)
-  where
-    by : (z : ℤ) → z ≤ℤ pos 0 → (int_is_zero z || int_is_negative z) ≡ true
-    by (pos zero) h = refl
-    by (pos (suc n)) h = absurd (omega (arith, ints))
-    by (negsuc n) h = refl
+at_most_zero z h = grind (arith, whole_numerator, whole_denominator)
 
 above_zero : (z : ℤ) → pos 1 ≤ℤ z → is_at_most_zero (num (whole_fraction z)) ≡ false
-above_zero z h = rw (whole_numerator z, whole_denominator z) (by z h)
-  where
-    by : (z : ℤ) → pos 1 ≤ℤ z → (int_is_zero z || int_is_negative z) ≡ false
-    by (pos zero) h = absurd (omega (arith, ints))
-    by (pos (suc n)) h = refl
-    by (negsuc n) h = absurd (omega (arith, ints))
-
-and_false : (b : Bool) → (b && false) ≡ false
-and_false true = refl
-and_false false = refl
+above_zero z h = grind (arith, whole_numerator)
 
 -- 0 to a whole exponent of at most 0 is Undef
 zero_to_whole : (z : ℤ) → z ≤ℤ pos 0 → rewrites.KeepsMeanings (power (num zero_fraction) (num (whole_fraction z))) undef
@@ -188,25 +128,7 @@ has_power q z h = by_test (λ b. (is_zero_fraction q ≡ true → pos 1 ≤ℤ z
 
 value_keeps : (q : Fraction) (z : ℤ) (r : Fraction) → (is_zero_fraction q ≡ true → pos 1 ≤ℤ z) → powered q z 1 ≡ exactly r → rewrites.KeepsMeanings (power (num q) (num (whole_fraction z))) (num r)
 unfolding zero_fraction
-value_keeps q (pos zero) r h e = by_test (λ b. is_zero_fraction q ≡ b → (if b then undefined else exactly one_fraction) ≡ exactly r → rewrites.KeepsMeanings (power (num q) (num zero_fraction)) (num r)) (is_zero_fraction q)
-    (λ x y k. cc) (λ x y k. subst (λ (p : Fraction). rewrites.KeepsMeanings (power (num q) (num zero_fraction)) (num p)) (same k) (power_zero_is_one (num q))) refl e
-  where
-    same : {p s : Fraction} → exactly p ≡ exactly s → p ≡ s
-    same e = cc
-value_keeps q (pos (suc n)) r h e =
-    let s : r ≡ fraction_power q (suc n) = calculated_exactly pow_op q (whole_fraction (pos (suc n))) r e ∙ ap (λ z. fraction_power q (nat_abs z)) (whole_numerator (pos (suc n))) in
-    subst (λ (p : Fraction). rewrites.KeepsMeanings (power (num q) (num (whole_fraction (pos (suc n))))) (num p)) (sym s) (power_of_rational q n)
-value_keeps q (negsuc n) r h e = by_test (λ b. is_zero_fraction q ≡ b → rewrites.KeepsMeanings (power (num q) (num (whole_fraction (negsuc n)))) (num r)) (is_zero_fraction q)
-    (λ x y. absurd (let l = h y in no_negative n l)) (λ x y. other y) refl
-  where
-    no_negative : (n : ℕ) → pos 1 ≤ℤ negsuc n → ⊥
-    no_negative n l = omega (arith, ints)
-
-    other : is_zero_fraction q ≡ false → rewrites.KeepsMeanings (power (num q) (num (whole_fraction (negsuc n)))) (num r)
-    other k =
-        let v : calculated pow_op (inverse q) (whole_fraction (pos (suc n))) ≡ exactly r = ap (λ (b : Bool). if b then undefined else calculated pow_op (inverse q) (whole_fraction (pos (suc n)))) (sym k) ∙ e in
-        let s : r ≡ fraction_power (inverse q) (suc n) = calculated_exactly pow_op (inverse q) (whole_fraction (pos (suc n))) r v ∙ ap (λ z. fraction_power (inverse q) (nat_abs z)) (whole_numerator (pos (suc n))) in
-        subst (λ (p : Fraction). rewrites.KeepsMeanings (power (num q) (num (whole_fraction (negsuc n)))) (num p)) (sym s) (negative_power_of_rational q n (no_zero q (not_from_false _ k)))
+value_keeps q z r h e = grind (arith, power_zero_is_one, whole_numerator, power_of_rational, negative_power_of_rational)
 
 -- the powers 0 and 1 of a rational are 1 and the rational
 value_written : (q : Fraction) (z : ℤ) (r : Fraction) → powered q z 1 ≡ exactly r → IsWrittenPower (num q) (num (whole_fraction z)) (num r)
@@ -243,9 +165,4 @@ rationals_as v w s r e h = subst (λ (x : PlainValue). AnswersRationals x s r) (
 -- ---- refusals
 
 pub overflow_answer : (v : PlainValue) (s : State) (r : Result ℕ NumberFault) (o : Overflow) → IsErrAnd r (λ e. e ≡ fault.Overflow o) → IsPlainOverflow v o → AnswersRationals v s r
-overflow_answer v s (Ok h) o e k = absurd e
-overflow_answer v s (Err (fault.Full f)) o e k = absurd cc
-overflow_answer v s (Err (fault.Overflow p)) o e k = subst (IsPlainOverflow v) (sym (same p o e)) k
-  where
-    same : (p o : Overflow) → fault.Overflow p ≡ fault.Overflow o → p ≡ o
-    same p o e = cc
+overflow_answer v s r o e k = grind arith

@@ -1,7 +1,7 @@
 -- Bytes at hand for a step on a power, and what it needs.
-use Rattle.std.proofs.Common.{◌≡◌, ℕ, ◌+◌, ◌*◌, ◌^◌, ◌<◌, ◌≤◌, inl, inr, List, length, Bool, true, false, Result, Ok, Err, refl, sym, ap, ◌∙◌, subst, arith}
-use Rattle.std.specs.Prelude.{if◌then◌else◌, IfErr, IsOk, ◌==◌}
-use Rattle.power_reduce.proofs.Shared.{pow_pos, is_number, Split, is_num_one, is_reduced, is_whole_num, split_product, num_one, NoneIs, HasForm, number_test, reduced_words, counted, counted_among, SpansTree, SpansTrees, tree_bytes, counted_other, whole_fraction, Tree, num, mult, root, Trees, none, more, AllPartsOf, AllParts, is_mult, size, sizes, coefficient_length, GivesTwo, product_form_of, no_split, reduced_parts, parts_reduced, leading_factors, in_front, State, free_of, Full, numerator, LacksRoom, full_as, refusal_as, is_power, base_in, exponent_in, parts_of, power_of_root, raised, IsShortOfStep, IsShortOfRoot, LacksStep, children_of, Forest, bytes_in, tree_of, IsHanded, Gives, without_root, Stands, forest, KeepsRefusals, NumberFault, bytes_in-join, used_forest, size-plain, split_counts, number_counts_one}
+use Rattle.std.proofs.Common.{◌≡◌, ℕ, ◌+◌, ◌*◌, ◌^◌, ◌<◌, ◌≤◌, List, length, Bool, true, false, Result, Ok, Err, refl, ap, subst, arith}
+use Rattle.std.specs.Prelude.{if◌then◌else◌, IfErr, IsOk}
+use Rattle.power_reduce.proofs.Shared.{pow_pos, is_number, is_num_one, is_reduced, is_whole_num, split_product, NoneIs, HasForm, number_test, reduced_words, counted, counted_among, SpansTree, SpansTrees, tree_bytes, counted_other, whole_fraction, Tree, num, mult, root, Trees, none, more, AllPartsOf, AllParts, is_mult, size, sizes, GivesTwo, no_split, reduced_parts, parts_reduced, in_front, State, free_of, Full, numerator, LacksRoom, full_as, refusal_as, is_power, base_in, exponent_in, parts_of, power_of_root, raised, IsShortOfStep, IsShortOfRoot, LacksStep, children_of, Forest, bytes_in, tree_of, IsHanded, Gives, without_root, Stands, forest, KeepsRefusals, NumberFault, bytes_in-join, used_forest, size-plain, split_counts, number_counts_one}
 use Rattle.calc_room.specs.Needs.{power_need, inverse_need}
 use Rattle.calc_room.proofs.NumberBytes.{num_bytes}
 use Rattle.coefficients.specs.Bytes.{bytes_of_coefficient, IsShort}
@@ -31,12 +31,7 @@ pub short_below : {s t : State} {n : ℕ} {full : Full} → IsShort n s t full �
 short_below r = subst (λ (f : Full). f.free < f.needed) r.told r.lacks.lacking
 
 pub coefficient_most : (ts : Trees) → bytes_of_coefficient ts ≤ 16
-coefficient_most ts = by (coefficient_length ts == 0) (coefficient_length ts == 1)
-  where
-    by : (a b : Bool) → (if a then size num_one else (if b then 0 else 8)) ≤ 16
-    by true b = omega (arith, one_bytes)
-    by false true = omega arith
-    by false false = omega arith
+coefficient_most ts = grind (arith, one_bytes)
 
 -- as many bytes, and a need that is no less
 pub lacks_as : {A : Type 0} {a b n m : ℕ} (gs : List ℕ) (r : Result A NumberFault) → b ≡ a → n ≤ m → IfErr r (LacksRoom n a gs) → IfErr r (LacksRoom m b gs)
@@ -73,30 +68,8 @@ pub record HasFactors (ts : Trees) : Type 0 where
   pub no_number : NoneIs is_number (split_product ts).factors
   pub formed : AllPartsOf HasForm (split_product ts).factors
 
-one_number : is_number num_one ≡ true
-one_number = number_test num_one tt
-
 factors_behind : (ts : Trees) → AllParts HasForm (mult ts) → is_number (mult ts) ≡ false → HasFactors ts
-factors_behind ts p n =
-    let f = product_form_of ts p n in
-    elim (in_front ts f.no_product f.front) [
-      | inl h ↦
-          let e = no_split ts h in
-          record {
-            number = ap (λ (s : Split). is_number s.coefficient) e ∙ one_number;
-            no_product = subst (λ (s : Split). NoneIs is_mult s.factors) (sym e) f.no_product;
-            no_number = f.no_number;
-            formed = subst (λ (s : Split). AllPartsOf HasForm s.factors) (sym e) p.1;
-          }
-      | inr l ↦
-          let a = leading_factors ts l p n f in
-          record {
-            number = ap (λ (s : Split). is_number s.coefficient) l.is ∙ number_test l.c l.coefficient.number;
-            no_product = subst (λ (s : Split). NoneIs is_mult s.factors) (sym l.is) a.no_product;
-            no_number = f.no_number;
-            formed = subst (λ (s : Split). AllPartsOf HasForm s.factors) (sym l.is) a.formed;
-          }
-    ]
+factors_behind ts p n = grind (arith, in_front, no_split, number_test)
 
 pub product_factors : (ts : Trees) → is_reduced (mult ts) ≡ true → is_number (mult ts) ≡ false → HasFactors ts
 product_factors ts h n = factors_behind ts (reduced_parts (mult ts) h refl) n
@@ -143,8 +116,4 @@ module _ (gs : List ℕ) where
   -- where a factor's power finds none
   pub raised_short : (t x y b : Tree) (free old : ℕ) → is_power t ≡ true → is_mult (base_in t) ≡ true → is_reduced (base_in t) ≡ true → is_number (base_in t) ≡ false → is_whole_num (exponent_in t) ≡ true → SpansTree gs t
       → x ≡ mult (parts_of (children_of b)) → b ≡ base_in t → y ≡ exponent_in t → free + size x + size y ≡ old + size t → free + size x + size y < size (mult (raised (children_of x) y)) → IsShortOfStep gs t old
-  raised_short t x y b free old p m r n w s i j k e l =
-      let (q, h, g) = subst (SpansTree gs) (power_is t p) s in
-      let all : size (mult (raised (children_of x) y)) ≡ size (mult (raised (parts_of (children_of (base_in t))) (exponent_in t))) =
-      (λ z. size (mult (raised (children_of (i z)) (k z)))) ∙ ap (λ (a : Tree). size (mult (raised (parts_of (children_of a)) (exponent_in t)))) j in
-      parts_short (base_in t) (exponent_in t) (old + size t) m r n w h (omega (arith, e, l, all))
+  raised_short t x y b free old p m r n w s i j k e l = grind (arith, parts_short)

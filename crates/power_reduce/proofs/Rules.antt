@@ -1,6 +1,6 @@
 -- The rewritings of a power keep meanings and have no new names.
-use Rattle.std.proofs.Common.{◌≡◌, ℕ, suc, ◌+◌, ◌/◌, ◌%◌, ℤ, pos, negsuc, neg_ℤ, ◌+ℤ◌, List, ◌++◌, [], Bool, true, false, if◌then◌else◌, ◌⊎◌, inl, inr, Some, None, refl, sym, ap, ◌∙◌, subst, arith, append_assoc, append-nil}
-use Rattle.power_reduce.proofs.Shared.{ints, and_parts, eqb-true, Contains-append_left, Contains-append_right, Contains-append_cases, Fraction, whole_fraction, int_is_even, is_number, is_radicand, is_half_num, is_num_one, is_whole_num, split_product, split, num_one, Tree, num, symbol, undef, add, mult, power, root, neg, sub, div, Trees, none, more, names, names_of, is_undef, one_is, KeepsMeanings-trans, KeepsMeanings-refl, KeepsMeanings-eq, KeepsMeanings-power, one_factor_of_product, fraction_whole, split_keeps, powers, power_of_power, power_of_product, half_power, Rewrites, HasNoNewName, keeps, is_even_whole, half, raised, parts_of, rewritten, rewritten_whole}
+use Rattle.std.proofs.Common.{◌≡◌, ℕ, ℤ, ◌+ℤ◌, List, ◌++◌, [], Bool, true, false, if◌then◌else◌, ◌⊎◌, inl, inr, Some, None, refl, sym, ap, ◌∙◌, subst, arith, append_assoc, append-nil}
+use Rattle.power_reduce.proofs.Shared.{and_parts, eqb-true, Contains-append_left, Contains-append_right, Contains-append_cases, Fraction, whole_fraction, int_is_even, is_half_num, is_num_one, is_whole_num, split_product, num_one, Tree, num, mult, power, root, Trees, none, more, names, names_of, is_undef, one_is, KeepsMeanings-trans, KeepsMeanings-refl, KeepsMeanings-eq, KeepsMeanings-power, one_factor_of_product, fraction_whole, split_keeps, powers, power_of_power, power_of_product, half_power, Rewrites, HasNoNewName, keeps, is_even_whole, half, raised, parts_of, rewritten, rewritten_whole}
 use Rattle.std.specs.List.{Contains}
 use Rattle.calc_algebra.proofs.PowerRewrites.{power_of_root}
 use Rattle.power_reduce.specs.PowerSteps.{power_of_root as root_power}
@@ -10,11 +10,7 @@ use Rattle.calc_algebra.proofs.MeaningRewrites as rewrites
 -- ---- even powers of roots
 
 halves : (z : ℤ) → int_is_even z ≡ true → z ≡ half z +ℤ half z
-halves (pos n) h = let e : n % 2 ≡ 0 = eqb-true (n % 2) 0 h in ap pos (omega arith)
-halves (negsuc n) h = let e : n % 2 ≡ 1 = eqb-true (n % 2) 1 h in negated n (suc n / 2) (omega arith)
-  where
-    negated : (n m : ℕ) → suc n ≡ m + m → negsuc n ≡ neg_ℤ (pos m) +ℤ neg_ℤ (pos m)
-    negated n m e = omega (arith, ints)
+halves z h = grind arith
 
 even_root : (a : Tree) (q : Fraction) → is_even_whole q ≡ true → Rewrites (power (root a) (num q)) (power a (num (whole_fraction (half q.num))))
 even_root a q h =
@@ -50,11 +46,7 @@ one_is_written _ h = cc
 
 -- a coefficient 1 goes
 without_one : (c : Tree) (ts : Trees) → rewrites.KeepsMeanings (mult (more c ts)) (mult (if is_num_one c then ts else more c ts))
-without_one c ts = by (is_num_one c) refl
-  where
-    by : (b : Bool) → is_num_one c ≡ b → rewrites.KeepsMeanings (mult (more c ts)) (mult (if b then ts else more c ts))
-    by true e = KeepsMeanings-trans (KeepsMeanings-eq (ap (λ t. mult (more t ts)) (one_is_written c e))) (one_factor_of_product ts)
-    by false e = KeepsMeanings-refl (mult (more c ts))
+without_one c ts = grind (arith, KeepsMeanings-eq, one_is_written, one_factor_of_product, KeepsMeanings-refl)
 
 whole_powers : (ts : Trees) (e : Tree) → is_whole_num e ≡ true → rewrites.KeepsMeanings (power (mult ts) e) (mult (powers ts e))
 whole_powers ts e w = let n = whole_exponent e w in subst (λ (x : Tree). rewrites.KeepsMeanings (power (mult ts) x) (mult (powers ts x))) (sym n.is) (power_of_product ts n.exponent)
@@ -66,31 +58,10 @@ product_power ts e w =
 
 -- a coefficient and the factors behind it have the names of the product
 split_names : (ts : Trees) → names (split_product ts).coefficient ++ names_of (split_product ts).factors ≡ names_of ts
-split_names (more (num q) (more (root (num r)) ts)) = by (is_radicand r)
-  where
-    by : (b : Bool) → names (if b then split (mult (more (num q) (more (root (num r)) none))) ts else split (num q) (more (root (num r)) ts)).coefficient
-        ++ names_of (if b then split (mult (more (num q) (more (root (num r)) none))) ts else split (num q) (more (root (num r)) ts)).factors ≡ names_of ts
-    by true = refl
-    by false = refl
-split_names (more (num q) ts) = refl
-split_names (more (root (num r)) ts) = by (is_radicand r)
-  where
-    by : (b : Bool) → names (if b then split (root (num r)) ts else split num_one (more (root (num r)) ts)).coefficient ++ names_of (if b then split (root (num r)) ts else split num_one (more (root (num r)) ts)).factors ≡ names_of ts
-    by true = refl
-    by false = refl
-split_names (more (add us) ts) = by (is_number (add us))
-  where
-    by : (b : Bool) → names (if b then split (add us) ts else split num_one (more (add us) ts)).coefficient ++ names_of (if b then split (add us) ts else split num_one (more (add us) ts)).factors ≡ names_of us ++ names_of ts
-    by true = refl
-    by false = refl
-split_names ts = refl
+split_names ts = grind arith
 
 factor_names : (ts : Trees) (x : List ℕ) → Contains (names_of (parts_of ts)) x → Contains (names_of ts) x
-factor_names ts x = by (is_num_one (split_product ts).coefficient)
-  where
-    by : (b : Bool) → Contains (names_of (if b then (split_product ts).factors else more (split_product ts).coefficient (split_product ts).factors)) x → Contains (names_of ts) x
-    by true k = subst (λ l. Contains l x) (split_names ts) (Contains-append_right (names (split_product ts).coefficient) (names_of (split_product ts).factors) x k)
-    by false k = subst (λ l. Contains l x) (split_names ts) k
+factor_names ts x = grind (arith, split_names)
 
 names_joined : (t : Tree) (ts : Trees) (e : Tree) (x : List ℕ) → Contains (names t) x ⊎ Contains (names e) x → Contains (names t ++ names_of ts) x ⊎ Contains (names e) x
 names_joined t ts e x (inl h) = inl (Contains-append_left (names t) (names_of ts) x h)
@@ -131,20 +102,10 @@ rooted b e h = absurd cc
 
 -- what an outcome holds where the test is passed
 pub chosen : (b : Bool) (u t : Tree) (P : Tree → Type 0) → (if b then Some u else None) ≡ Some t → (b ≡ true → P u) → P t
-chosen true u t P e h = subst P (same u t e) (h refl)
-  where
-    same : (u t : Tree) → Some u ≡ Some t → u ≡ t
-    same u t e = cc
-chosen false u t P e h = absurd (none u t e)
-  where
-    none : (u t : Tree) → None ≡ Some t → ⊥
-    none u t e = cc
+chosen b u t P e h = grind arith
 
 pub nothing : (t : Tree) (P : Tree → Type 0) → None ≡ Some t → P t
-nothing t P e = absurd (no t e)
-  where
-    no : (t : Tree) → None ≡ Some t → ⊥
-    no t e = cc
+nothing t P e = grind arith
 
 whole_rewriting : (b e t : Tree) → rewritten_whole b e ≡ Some t → Rewrites (power b e) t
 whole_rewriting (root a) (num q) t h = chosen _ _ t (Rewrites (power (root a) (num q))) h (λ k. even_root a q (and_parts _ _ k).0)

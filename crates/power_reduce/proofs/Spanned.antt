@@ -1,7 +1,7 @@
 -- What spans a power spans what a step makes of it, but for the power of a root.
 use Rattle.std.proofs.Common.{◌≡◌, ℕ, zero, suc, ◌≤◌, ℤ, pos, negsuc, List, [], ◌∷◌, length, Bool, true, false, ◌&&◌, ◌||◌, not, Some, None, Result, Ok, Err, inl, refl, sym, ap, ◌∙◌, subst, arith}
-use Rattle.std.specs.Prelude.{if◌then◌else◌, IfOk, ◌==◌, nat_le}
-use Rattle.power_reduce.proofs.Shared.{and_parts, eqb-true, leb-true, is_number, is_radicand, value, classes, IsNumber, Rises, is_half_num, is_num_one, is_opaque_exponent, split, split_product, num_one, KeepsMeanings, Inverts, Surd, surd_of, surd_power, AreProper, value_proper, value_rises, number_words, fraction_whole, Spans, SpansTree, SpansTrees, Fraction, whole_fraction, is_zero_fraction, is_one_fraction, int_is_negative, int_is_zero, Tree, num, symbol, undef, add, mult, power, root, neg, sub, div, Trees, none, more, is_undef, whole_numerator, zero_is, one_is, State, is_zero, is_power, base_in, exponent_in, has_no_power, has_number_power, is_at_most_zero, IsWrittenPower, IsPowerAnswer, IsStep, goes_inside, is_even_whole, is_zero_or_one, parts_of, raised, rewritten, rewritten_whole, Step, SpansStep, Forest, tree_of, NumberFault, given_told}
+use Rattle.std.specs.Prelude.{IfOk, ◌==◌, nat_le}
+use Rattle.power_reduce.proofs.Shared.{and_parts, eqb-true, leb-true, is_number, value, classes, IsNumber, Rises, is_half_num, split_product, KeepsMeanings, Inverts, Surd, surd_of, surd_power, AreProper, value_proper, value_rises, number_words, fraction_whole, Spans, SpansTree, SpansTrees, Fraction, whole_fraction, int_is_negative, int_is_zero, Tree, num, undef, power, Trees, none, more, is_undef, whole_numerator, zero_is, one_is, State, is_zero, is_power, base_in, exponent_in, has_no_power, has_number_power, is_at_most_zero, IsWrittenPower, IsPowerAnswer, IsStep, is_zero_or_one, parts_of, raised, rewritten, rewritten_whole, Step, SpansStep, Forest, tree_of, NumberFault, given_told}
 use Rattle.calc_algebra.specs.Meanings.{Means}
 use Rattle.calc_algebra.proofs.InverseLaws.{inverse_of_term, inverse_of_terms, term_has_inverse, terms_have_inverse}
 use Rattle.calc_algebra.proofs.MeaningLaws.{one_meaning}
@@ -17,31 +17,10 @@ module _ (gs : List ℕ) where
   -- ---- parts of a product
 
   pub split_spans : (ts : Trees) → SpansTrees gs ts → SpansTree gs (split_product ts).coefficient × SpansTrees gs (split_product ts).factors
-  split_spans (more (num q) (more (root (num r)) ts)) (h, (k, hs)) = by (is_radicand r)
-    where
-      by : (b : Bool) → SpansTree gs (if b then split (mult (more (num q) (more (root (num r)) none))) ts else split (num q) (more (root (num r)) ts)).coefficient
-          × SpansTrees gs (if b then split (mult (more (num q) (more (root (num r)) none))) ts else split (num q) (more (root (num r)) ts)).factors
-      by true = ((tt, (h, (k, tt))), hs)
-      by false = (h, (k, hs))
-  split_spans (more (num q) ts) (h, hs) = (h, hs)
-  split_spans (more (root (num r)) ts) (h, hs) = by (is_radicand r)
-    where
-      by : (b : Bool) → SpansTree gs (if b then split (root (num r)) ts else split num_one (more (root (num r)) ts)).coefficient × SpansTrees gs (if b then split (root (num r)) ts else split num_one (more (root (num r)) ts)).factors
-      by true = (h, hs)
-      by false = (tt, (h, hs))
-  split_spans (more (add us) ts) (h, hs) = by (is_number (add us))
-    where
-      by : (b : Bool) → SpansTree gs (if b then split (add us) ts else split num_one (more (add us) ts)).coefficient × SpansTrees gs (if b then split (add us) ts else split num_one (more (add us) ts)).factors
-      by true = (h, hs)
-      by false = (tt, (h, hs))
-  split_spans ts h = (tt, h)
+  split_spans ts h = grind arith
 
   pub parts_span : (ts : Trees) → SpansTrees gs ts → SpansTrees gs (parts_of ts)
-  parts_span ts h = by (is_num_one (split_product ts).coefficient)
-    where
-      by : (b : Bool) → SpansTrees gs (if b then (split_product ts).factors else more (split_product ts).coefficient (split_product ts).factors)
-      by true = (split_spans ts h).1
-      by false = split_spans ts h
+  parts_span ts h = grind arith
 
   pub raised_span : (ts : Trees) (e : Tree) → SpansTrees gs ts → SpansTree gs e → SpansTrees gs (raised ts e)
   raised_span none e h k = tt
@@ -53,28 +32,8 @@ module _ (gs : List ℕ) where
 
   -- ---- rewritings
 
-  tree_same : {t u : Tree} → SpansTree gs t → Some t ≡ Some u → SpansTree gs u
-  tree_same h e = subst (SpansTree gs) (cc e) h
-
-  no_tree : {u : Tree} {A : Type 0} → None ≡ Some u → A
-  no_tree e = absurd cc
-
-  if_tree : (c : Bool) (t u : Tree) → SpansTree gs t → (if c then Some t else None) ≡ Some u → SpansTree gs u
-  if_tree true t u h e = tree_same h e
-  if_tree false t u h e = no_tree e
-
   whole_rewriting_spans : (b e u : Tree) → rewritten_whole b e ≡ Some u → SpansTree gs b → SpansTree gs e → SpansTree gs u
-  whole_rewriting_spans (root a) (num q) u r h k = if_tree (is_even_whole q && not (is_number (root a))) _ u (tt, h.1, tt) r
-  whole_rewriting_spans (power c f) e u r (p, h, g) k = if_tree (goes_inside e && not (is_opaque_exponent f)) _ u (tt, h, (tt, (g, (k, tt)))) r
-  whole_rewriting_spans (mult ts) e u r h k = if_tree (goes_inside e && not (is_number (mult ts))) _ u (tt, raised_span (parts_of ts) e (parts_span ts h.1) k) r
-  whole_rewriting_spans (root a) _ u r h k = no_tree r
-  whole_rewriting_spans (num q) e u r h k = no_tree r
-  whole_rewriting_spans (symbol x) e u r h k = no_tree r
-  whole_rewriting_spans undef e u r h k = no_tree r
-  whole_rewriting_spans (add ts) e u r h k = no_tree r
-  whole_rewriting_spans (neg b) e u r h k = no_tree r
-  whole_rewriting_spans (sub b c) e u r h k = no_tree r
-  whole_rewriting_spans (div b c) e u r h k = no_tree r
+  whole_rewriting_spans b e u r h k = grind (arith, raised_span, parts_span)
 
   pub rewriting_spans : (b e u : Tree) → is_half_num e ≡ false → rewritten b e ≡ Some u → SpansTree gs (power b e) → SpansTree gs u
   rewriting_spans b e u n r (p, h, k) = whole_rewriting_spans b e u (sym (as_whole b e n) ∙ r) h k
@@ -93,11 +52,7 @@ module _ (gs : List ℕ) where
   short_inverse (t ∷ u ∷ x ∷ w) p r l m s = absurd (omega arith)
 
   some_class : (b : Tree) → IsNumber b → is_zero b ≡ false → 1 ≤ length (value b)
-  some_class (num q) h z = rw z (omega arith)
-  some_class (add ts) h z = let l : 2 ≤ length (value (add ts)) = h.0 in omega arith
-  some_class (root a) h z = omega arith
-  some_class (mult ts) h z = omega arith
-  some_class b h z = absurd h
+  some_class b h z = grind arith
 
   no_zero_exponent : is_zero_or_one (num (whole_fraction (pos 0))) ≡ false → ⊥
   no_zero_exponent h = let k : is_zero_or_one (num (whole_fraction (pos 0))) ≡ true = rw (whole_numerator (pos 0)) refl in cc
@@ -118,19 +73,13 @@ module _ (gs : List ℕ) where
       tree_spanned gs t k (spans_same gs t v k (Agree-Same (one_meaning [] tt t (value t) v (number_means t [] k) w)) (spans_power gs y (suc n) p))
 
   narrow : (m l : Bool) → (not m || l) ≡ true → m ≡ true → l ≡ true
-  narrow true true h e = refl
-  narrow true false h e = cc
-  narrow false l h e = cc
+  narrow m l h e = grind arith
 
   last_false : (u v w : Bool) → (u || v || w) ≡ false → w ≡ false
-  last_false false false w h = h
-  last_false false true w h = cc
-  last_false true v w h = cc
+  last_false u v w h = grind arith
 
   first_false : (z a : Bool) → (z && a) ≡ false → a ≡ true → z ≡ false
-  first_false false a h e = refl
-  first_false true true h e = cc
-  first_false true false h e = cc
+  first_false z a h e = grind arith
 
   either : (a : Bool) → (a || true) ≡ true
   either true = refl
@@ -159,12 +108,7 @@ module _ (gs : List ℕ) where
   undef_spans t h = absurd cc
 
   trivial_spans : (b e t : Tree) → is_zero_or_one e ≡ true → IsWrittenPower b e t → SpansTree gs b → SpansTree gs t
-  trivial_spans b (num q) t h w s = by (is_zero_fraction q) refl h
-    where
-      by : (z : Bool) → is_zero_fraction q ≡ z → (z || is_one_fraction q) ≡ true → SpansTree gs t
-      by true z k = subst (SpansTree gs) (sym (w.zero (ap num (zero_is q z)))) tt
-      by false z k = subst (SpansTree gs) (sym (w.one (ap num (one_is q k)))) s
-  trivial_spans b e t h w s = absurd cc
+  trivial_spans b e t h w s = grind (arith, zero_is, one_is)
 
   pub answer_spans : (b e t : Tree) → rewritten b e ≡ None → IsPowerAnswer b e t → SpansTree gs (power b e) → SpansTree gs t
   answer_spans b e t r a (p, h, k) = by (has_no_power b e) (is_zero_or_one e) (has_number_power b e) refl refl refl

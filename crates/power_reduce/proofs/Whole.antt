@@ -1,7 +1,7 @@
 -- Whole exponents, as the program tests them.
-use Rattle.std.proofs.Common.{◌≡◌, ◌≢◌, ◌<◌, ◌^◌, ℤ, pos, negsuc, zero, suc, Bool, true, false, ◌&&◌, refl, sym, ap, ◌∙◌, to_z, of_z, nat_eq}
+use Rattle.std.proofs.Common.{arith, ◌≡◌, ◌≢◌, ◌<◌, ◌^◌, ℤ, pos, Bool, true, false, ◌&&◌, refl, sym, ap, ◌∙◌, to_z, of_z, nat_eq}
 use Rattle.std.specs.Prelude.{nat_abs}
-use Rattle.power_reduce.proofs.Shared.{w128, eqb-true, eq-eqb, whole_fraction, int_is_one, is_number, is_reduced, is_num_one, is_whole_num, is_opaque_exponent, Tree, num, power, whole_numerator, whole_denominator, reduced_parts, parts_reduced, is_power, exponent_in, told, nth, children_of, by_test}
+use Rattle.power_reduce.proofs.Shared.{w128, eq-eqb, whole_fraction, int_is_one, is_number, is_reduced, is_num_one, is_whole_num, is_opaque_exponent, Tree, num, power, whole_numerator, whole_denominator, reduced_parts, parts_reduced, is_power, exponent_in, told, nth, children_of}
 use Rattle.power_reduce.proofs.ByRule.{transparent_whole}
 use Rattle.power_reduce.proofs.Powers.{power_children}
 
@@ -11,22 +11,11 @@ and_true : (b : Bool) → (b && true) ≡ b
 and_true true = refl
 and_true false = refl
 
-no_one : (z : ℤ) → (of_z w128 z ≡ 1 → ⊥) → int_is_one z ≡ false
-no_one (pos zero) h = refl
-no_one (pos (suc zero)) h = absurd (h refl)
-no_one (pos (suc (suc n))) h = refl
-no_one (negsuc n) h = refl
-
 pub one_bits : (z : ℤ) → nat_abs z < 2 ^ 127 → of_z w128 z ≡ 1 → z ≡ pos 1
 one_bits z fits e = sym (told z fits) ∙ ap (to_z w128) e
 
 one_test : (z : ℤ) → nat_abs z < 2 ^ 127 → nat_eq (of_z w128 z) 1 ≡ int_is_one z
-one_test z fits = by_test (λ t. nat_eq (of_z w128 z) 1 ≡ t → t ≡ int_is_one z) (nat_eq (of_z w128 z) 1)
-    (λ u q. sym (ap int_is_one (one_bits z fits (eqb-true (of_z w128 z) 1 q))))
-    (λ u q. sym (no_one z (λ k. clash (sym (eq-eqb (of_z w128 z) 1 k) ∙ q)))) refl
-  where
-    clash : true ≡ false → ⊥
-    clash e = cc
+one_test z h = grind arith
 
 pub no_one_bits : (z : ℤ) → (of_z w128 z ≡ 1 → ⊥) → z ≢ pos 1
 no_one_bits z h e = h (ap (of_z w128) e)

@@ -1,7 +1,7 @@
 -- Which tree stands for a power, where a rule names it.
 use Rattle.std.proofs.Common.{◌≡◌, ◌≢◌, ◌≤◌, ◌≤ℤ◌, ℤ, pos, negsuc, Bool, true, false, ◌||◌, not, refl, sym, ap, ◌∙◌, arith}
 use Rattle.std.specs.Prelude.{nat_le}
-use Rattle.power_reduce.proofs.Shared.{le-leb, ints, whole_numerator, whole_denominator, one_times, times_comm, Fraction, whole_fraction, zero_fraction, one_fraction, is_zero_fraction, fraction_power, int_is_negative, Tree, num, power, number_test, is_number, classes, num_one, has_number_power, IsWrittenPower, is_zero_or_one}
+use Rattle.power_reduce.proofs.Shared.{le-leb, ints, whole_numerator, whole_denominator, one_times, times_comm, Fraction, whole_fraction, zero_fraction, one_fraction, fraction_power, int_is_negative, Tree, num, power, number_test, is_number, classes, num_one, has_number_power, IsWrittenPower, is_zero_or_one}
 
 -- ---- exponents
 
@@ -44,11 +44,7 @@ pub few_classes : (b : Tree) (z : ℤ) → classes b ≤ 2 → (not (int_is_nega
 few_classes b z l = rw (le-leb _ _ l) (either (not (int_is_negative z)))
 
 pub rational_classes : (q : Fraction) → classes (num q) ≤ 2
-rational_classes q = by (is_zero_fraction q) refl
-  where
-    by : (c : Bool) → is_zero_fraction q ≡ c → classes (num q) ≤ 2
-    by true e = rw e (omega arith)
-    by false e = rw e (omega arith)
+rational_classes q = grind arith
 
 pub first_power : (q : Fraction) → fraction_power q 1 ≡ q
 first_power q = times_comm q one_fraction ∙ one_times q
