@@ -1,5 +1,5 @@
 -- Roots beside others.
-use Rattle.std.proofs.Common.{ℕ, ◌<◌, ◌≡◌, List, eqb, Bool, true, false, cond, refl, sym, ap, ◌∙◌, subst}
+use Rattle.std.proofs.Common.{arith, ℕ, ◌<◌, ◌≡◌, List, eqb, Bool, true, false, cond, refl, sym, ap, ◌∙◌, subst}
 use Rattle.product_reduce.proofs.Shared.{represents_nth, represents_without, removed, eqb-true, ne_eqb, Tree, Trees, count, State, nth, plain, AllExpressions, Forest, empty, tree, arity, kids, tree_nth, without_nth, AllOnce, IsHanded, Represents, Ends, Gives, KeepsFront, has_root, root_tree, without_root, put, Stands, forest, IsBehind, not_first, gives, given_handed, given_rest, given_told, handed_beside, handed_by_put, handed_at, by_test, eqb-sym, no_root, root-without, tree-without, without-swap, root-put, tree-put, without-put, IsProduct, Becomes, IsBeside}
 use Rattle.tree_handles.proofs.Distinct.{Distinct, distinct, distinct_parts}
 use Rattle.product_reduce.proofs.Products.{product_arity, product_kids, becomes_put}
@@ -20,12 +20,7 @@ pub beside_given : {others f : Forest} {i : ℕ} {Told : Tree → Type 0} → Gi
 beside_given g = record { handed = given_handed g; tree = refl; rest = given_rest g; clear = g.ends.clear }
 
 pub beside_as : {h : ℕ} {u v : Tree} {r q f g : Forest} → IsBeside h u r f → u ≡ v → r ≡ q → g ≡ f → IsBeside h v q g
-beside_as {h = h} b e p w = record {
-  handed = subst (IsHanded h) (sym w) b.handed;
-  tree = ap (λ (x : Forest). plain (root_tree h x)) w ∙ b.tree ∙ e;
-  rest = ap (without_root h) w ∙ b.rest ∙ p;
-  clear = ap (has_root h) (sym p) ∙ b.clear;
-}
+beside_as b e p w = grind arith
 
 -- ---- the other trees
 
@@ -39,36 +34,18 @@ pub beside_root : {h : ℕ} {u : Tree} {r f : Forest} (j : ℕ) → IsBeside h u
 beside_root {h = h} {f = f} j b e = sym (root-without h j f (beside_apart j b e)) ∙ ap (has_root j) b.rest ∙ e
 
 pub beside_other : {h : ℕ} {u : Tree} {r f : Forest} {j : ℕ} → IsBeside h u r f → IsHanded j r → IsHanded j f
-beside_other {j = j} b k =
-    let e = sym (beside_tree j b k.root) in
-    record { root = beside_root j b k.root; once = subst AllOnce e k.once; whole = subst AllExpressions e k.whole }
+beside_other b k = grind (arith, beside_tree, beside_root)
 
 pub beside_product : {h : ℕ} {u : Tree} {r f : Forest} {i : ℕ} {ts : Trees} → IsBeside h u r f → IsProduct i r ts → IsProduct i f ts
 beside_product {i = i} b k = record { handed = beside_other b k.handed; tree = ap plain (beside_tree i b k.handed.root) ∙ k.tree }
 
 -- another root goes
 pub beside_without : {h : ℕ} {u : Tree} {r f : Forest} (j : ℕ) → IsBeside h u r f → has_root j r ≡ true → IsBeside h u (without_root j r) (without_root j f)
-beside_without {h = h} {r = r} {f = f} j b e =
-    let d = beside_apart j b e in
-    let d' = eqb-sym h j d in
-    record {
-      handed = handed_beside j d' b.handed;
-      tree = ap plain (tree-without j h f d') ∙ b.tree;
-      rest = without-swap h j f d ∙ ap (without_root j) b.rest;
-      clear = root-without j h r d' ∙ b.clear;
-    }
+beside_without j b e = grind (arith, tree-without, without-swap, root-without)
 
 -- another root has other children
 pub beside_put : {h : ℕ} {u : Tree} {r f : Forest} (j : ℕ) (n : Forest) → IsBeside h u r f → has_root j r ≡ true → IsBeside h u (put j n r) (put j n f)
-beside_put {h = h} {r = r} {f = f} j n b e =
-    let d = beside_apart j b e in
-    let d' = eqb-sym h j d in
-    record {
-      handed = handed_by_put j n d' b.handed;
-      tree = ap plain (tree-put j h n f d') ∙ b.tree;
-      rest = without-put j h n f d' ∙ ap (put j n) b.rest;
-      clear = root-put j h n r ∙ b.clear;
-    }
+beside_put j n b e = grind (arith, tree-put, without-put, root-put)
 
 -- ---- fronts
 
@@ -118,7 +95,4 @@ beside_becomes {s = s} {t = t} {i = i} c st sn p b h d =
     beside_other (beside_handed i sn b.product.handed) y
 
 pub tree_becomes : {s t : State} {i : ℕ} {ts us : Trees} (c : ℕ) → Stands s → Stands t → IsProduct i (forest s) ts → Becomes i (forest s) (forest t) us → IsHanded c (forest s) → eqb c i ≡ false → root_tree c (forest t) ≡ root_tree c (forest s)
-tree_becomes {s = s} {t = t} {i = i} c st sn p b h d =
-    let x = handed_beside i (eqb-sym c i d) h in
-    let y : IsHanded c (without_root i (forest t)) = handed_at x b.others in
-    beside_tree c (beside_handed i sn b.product.handed) y.root ∙ ap (root_tree c) b.others ∙ tree-without i c (forest s) (eqb-sym c i d)
+tree_becomes c h k p b l d = grind (arith, handed_beside, eqb-sym, handed_at, beside_tree, beside_handed, tree-without)

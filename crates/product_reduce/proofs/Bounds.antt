@@ -21,16 +21,10 @@ nest_others (more t ts) = by (nest_others ts) (is_number t)
     by go false = omega arith
 
 pub nest_with : (c : Tree) (ts : Trees) → is_number c ≡ true → nest_of (coefficient_before c ts) ≤ nest_of ts
-nest_with c ts h = by (is_num_one c)
-  where
-    by : (k : Bool) → nest_of (if k then ts else append (factors_of c) ts) ≤ nest_of ts
-    by true = omega arith
-    by false = omega (arith, nest-append (factors_of c) ts, nest_factors c, nest_number c h)
+nest_with c ts h = grind (arith, nest-append, nest_factors, nest_number)
 
 pub nest_tree : (ts : Trees) → nest (product_tree ts) ≤ nest_of ts
-nest_tree none = omega arith
-nest_tree (more t none) = omega arith
-nest_tree (more t (more u ts)) = omega arith
+nest_tree ts = grind arith
 
 -- ---- Load
 
@@ -40,11 +34,7 @@ load-append (more t ts) us = omega (arith, load-append ts us)
 
 load_is : (t : Tree) → IsNumber t → load_of_factor t ≡ 0
 unfolding is_number
-load_is (num q) h = refl
-load_is (add ts) h = ap (λ (k : Bool). if k then 0 else 2) (number_test (add ts) h)
-load_is (root a) h = ap (λ (k : Bool). if k then 0 else weight (root a)) (number_test (root a) h)
-load_is (mult (more (num q) (more (root (num r)) none))) h = rw (number_test (root (num r)) h.2) refl
-load_is t h = absurd h
+load_is t h = grind (arith, number_test)
 
 pub load_number : (t : Tree) → is_number t ≡ true → load_of_factor t ≡ 0
 load_number t h = load_is t (number_words t h)
@@ -66,11 +56,7 @@ load_others (more t ts) = by (load_others ts) (is_number t)
     by go false = omega arith
 
 pub load_with : (c : Tree) (ts : Trees) → is_number c ≡ true → load_of_factors (coefficient_before c ts) ≤ load_of_factors ts
-load_with c ts h = by (is_num_one c)
-  where
-    by : (k : Bool) → load_of_factors (if k then ts else append (factors_of c) ts) ≤ load_of_factors ts
-    by true = omega arith
-    by false = omega (arith, load-append (factors_of c) ts, load_factors c, load_number c h)
+load_with c ts h = grind (arith, load-append, load_factors, load_number)
 
 pub load_permuted : {ts us : Trees} → Permuted ts us → load_of_factors ts ≡ load_of_factors us
 load_permuted permuted_none = refl
@@ -78,19 +64,9 @@ load_permuted (permuted_more {t} h) = ap (λ (n : ℕ). load_of_factor t + n) (l
 load_permuted (permuted_swap {t} {u} {ts}) = omega arith
 load_permuted (permuted_trans h k) = load_permuted h ∙ load_permuted k
 
--- a tree loads as a factor does, or not at all
-pub load_at_most : (t : Tree) → load t ≤ load_of_factor t
-load_at_most t = by (is_number t || is_undef t)
-  where
-    by : (k : Bool) → (if k then 0 else load_of_factor t) ≤ load_of_factor t
-    by true = omega arith
-    by false = omega arith
-
 pub load_tree : (ts : Trees) → load (product_tree ts) ≤ load_of_factors ts
 unfolding is_number
-load_tree none = omega arith
-load_tree (more t none) = omega (arith, load_at_most t)
-load_tree (more t (more u ts)) = load_at_most (mult (more t (more u ts)))
+load_tree ts = grind arith
 
 -- a product loads as its factors do
 pub load_product : (ts : Trees) → load (mult ts) ≡ load_of_factors ts

@@ -130,12 +130,7 @@ numbers-append (more t ts) us = by (is_number t) (numbers-append ts us)
 
 number_factors : (t : Tree) → is_number t ≡ true → are_numbers (factors_of t) ≡ true
 unfolding is_number
-number_factors (mult (more (num q) (more (root (num r)) none))) h = and_from _ _ refl (and_from _ _ (and_parts _ (is_radicand r) h).1 refl)
-number_factors (mult ts) h = cc
-number_factors (num q) h = refl
-number_factors (root a) h = and_from _ _ h refl
-number_factors (add ts) h = and_from _ _ h refl
-number_factors t h = cc
+number_factors t h = grind arith
 
 numbers_opened : (ts : Trees) → are_numbers ts ≡ true → are_numbers (opened ts) ≡ true
 numbers_opened none h = refl
@@ -195,9 +190,7 @@ stopped c ts us new d k e (at_zero z q) = subst (IsFinished ts) (sym q) (zero_fi
 stopped c ts us new d k e (at_end z p x) = ending_finished c ts new d k z (ap have_partners (sym e) ∙ p) (subst (λ (y : Trees). IsEnding c y new) e x)
 
 pub rejoined : (c : Tree) (ts us : Trees) (new : Tree) → has_undef ts ≡ false → IsCoefficient c (opened ts) → us ≡ others_in (opened ts) → IsRejoined c us new → IsJoined ts new
-rejoined c ts us new d k e r =
-    subst (IsJoined ts) (sym (r.is ∙ ap (λ (x : Trees). mult (coefficient_before c (joined x))) e))
-    (joined_product c ts (record { defined = d; coefficient = k; not_zero = r.not_zero; partners = ap have_partners (sym e) ∙ r.partners }))
+rejoined c ts us new d k e r = grind (arith, joined_product)
 
 -- ---- opened factors are reduced, and rationals are as they were
 

@@ -1,6 +1,6 @@
 -- A coefficient before factors that are no Numbers, sorted by their bases, is a product in its form.
 use Rattle.std.specs.Prelude.{⊤}
-use Rattle.std.proofs.Common.{◌≡◌, inl, inr, Bool, true, false, ◌&&◌, not, refl, if◌then◌else◌, ap}
+use Rattle.std.proofs.Common.{arith, ◌≡◌, inl, inr, Bool, true, false, ◌&&◌, not, refl, if◌then◌else◌, ap}
 use Rattle.product_reduce.proofs.Shared.{factors_of, is_zero, and_parts, and_from, or_left, Fraction, is_zero_fraction, is_one_fraction, is_number, is_radicand, IsNumber, IsTerm, AreTerms, num_one, split, split_product, NoneIs, RisesBy, base_of, has_form, HasForm, all_parts, all_parts_of, Tree, num, symbol, undef, add, mult, power, root, neg, sub, div, Trees, none, more, append, is_mult, number_words, number_test, opened, others_in}
 use Rattle.calc_algebra.proofs.ReducedLaws.{form_words}
 
@@ -9,27 +9,11 @@ use Rattle.calc_algebra.proofs.ReducedLaws.{form_words}
 -- factors of which the first is no Number have no coefficient
 pub split_of_others : (ts : Trees) → NoneIs is_number ts → split_product ts ≡ split num_one ts
 unfolding is_number
-split_of_others none h = refl
-split_of_others (more (num q) ts) h = cc
-split_of_others (more (root (num r)) ts) h = ap (λ (k : Bool). if k then split (root (num r)) ts else split num_one (more (root (num r)) ts)) h.0
-split_of_others (more (add us) ts) h = ap (λ (k : Bool). if k then split (add us) ts else split num_one (more (add us) ts)) h.0
-split_of_others (more t ts) h = refl
-
--- a rational before them is the coefficient
-split_of_rational : (q : Fraction) (ts : Trees) → NoneIs is_number ts → split_product (more (num q) ts) ≡ split (num q) ts
-unfolding is_number
-split_of_rational q none h = refl
-split_of_rational q (more (root (num r)) ts) h = ap (λ (k : Bool). if k then split (mult (more (num q) (more (root (num r)) none))) ts else split (num q) (more (root (num r)) ts)) h.0
-split_of_rational q (more t ts) h = refl
+split_of_others ts h = grind arith
 
 pub split_of_number : (c : Tree) (ts : Trees) → is_number c ≡ true → NoneIs is_number ts → split_product (append (factors_of c) ts) ≡ split c ts
 unfolding is_number
-split_of_number (num q) ts h k = split_of_rational q ts k
-split_of_number (root (num r)) ts h k = ap (λ (b : Bool). if b then split (root (num r)) ts else split num_one (more (root (num r)) ts)) h
-split_of_number (add us) ts h k = ap (λ (b : Bool). if b then split (add us) ts else split num_one (more (add us) ts)) h
-split_of_number (mult (more (num q) (more (root (num r)) none))) ts h k =
-    ap (λ (b : Bool). if b then split (mult (more (num q) (more (root (num r)) none))) ts else split (num q) (more (root (num r)) ts)) (and_parts (not (is_zero_fraction q) && not (is_one_fraction q)) (is_radicand r) h).1
-split_of_number c ts h k = cc
+split_of_number c ts h k = grind arith
 
 -- ---- trees in their form
 
@@ -43,16 +27,7 @@ AllFormed none = ⊤
 AllFormed (more t ts) = IsFormed t × AllFormed ts
 
 all_at_root : (p : Tree → Bool) (t : Tree) → all_parts p t ≡ true → p t ≡ true
-all_at_root p (add ts) h = (and_parts (p (add ts)) _ h).0
-all_at_root p (mult ts) h = (and_parts (p (mult ts)) _ h).0
-all_at_root p (power b e) h = (and_parts (p (power b e)) _ (and_parts (p (power b e) && all_parts p b) _ h).0).0
-all_at_root p (root a) h = (and_parts (p (root a)) _ h).0
-all_at_root p (neg a) h = (and_parts (p (neg a)) _ h).0
-all_at_root p (sub a b) h = (and_parts (p (sub a b)) _ (and_parts (p (sub a b) && all_parts p a) _ h).0).0
-all_at_root p (div a b) h = (and_parts (p (div a b)) _ (and_parts (p (div a b) && all_parts p a) _ h).0).0
-all_at_root p (num q) h = h
-all_at_root p (symbol x) h = h
-all_at_root p undef h = h
+all_at_root p t h = grind arith
 
 pub formed : (t : Tree) → all_parts has_form t ≡ true → IsFormed t
 formed t h = record { form = form_words t (all_at_root has_form t h); parts = h }
@@ -114,21 +89,7 @@ none-append p (more t ts) us h k = (h.0, none-append p ts us h.1 k)
 
 -- those of a tree in its form
 pub factors_flat : (t : Tree) → HasForm t → NoneIs is_mult (factors_of t)
-factors_flat (mult ts) (inl h) = by ts h
-  where
-    by : (us : Trees) → IsTerm (mult us) → NoneIs is_mult us
-    by (more (num q) (more (root (num r)) none)) h = (refl, (refl, tt))
-    by us h = absurd h
-factors_flat (mult ts) (inr h) = h.no_product
-factors_flat (num q) h = (refl, tt)
-factors_flat (symbol x) h = (refl, tt)
-factors_flat undef h = (refl, tt)
-factors_flat (add ts) h = (refl, tt)
-factors_flat (power b e) h = (refl, tt)
-factors_flat (root a) h = (refl, tt)
-factors_flat (neg a) h = (refl, tt)
-factors_flat (sub a b) h = (refl, tt)
-factors_flat (div a b) h = (refl, tt)
+factors_flat t h = grind arith
 
 pub opened_flat : (ts : Trees) → AllFormed ts → NoneIs is_mult (opened ts)
 opened_flat none h = tt

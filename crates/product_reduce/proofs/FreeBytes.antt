@@ -34,12 +34,7 @@ taken_out_free {s = s} {t = t} {u = u} {ts = ts} {us = us} st su k p x =
 
 -- a factor as its base and its exponent, which together have 40 bytes more at most
 split_bytes : (t : Tree) → size (base_of t) + size (exponent_of t) ≤ size t + 40
-split_bytes (power b e) = by (is_opaque_exponent e)
-  where
-    by : (k : Bool) → size (if k then power b e else b) + size (if k then num_one else e) ≤ size (power b e) + 40
-    by true = omega (arith, num_most one_fraction)
-    by false = omega arith
-split_bytes t = omega (arith, num_most one_fraction)
+split_bytes t = grind arith
 
 pub split_free : {s t : State} {i b e : ℕ} → Stands s → Stands t → KeepsRefusals s t → IsHanded i (forest s) → IsSplit i (forest s) (forest t) b e → free_of s ≤ free_of t + 40
 split_free {s = s} {t = t} {i = i} st su k h x =

@@ -30,12 +30,7 @@ words_defined none h = refl
 words_defined (more t ts) h = rw h.0 (words_defined ts h.1)
 
 pub others_permuted : {ts us : Trees} → Permuted ts us → AreOthers ts → AreOthers us
-others_permuted {ts = ts} {us = us} m o = record {
-  reduced = reduced_permuted m o.reduced;
-  defined = words_defined us (none_permuted is_undef m (defined_words ts o.defined));
-  no_number = none_permuted is_number m o.no_number;
-  no_product = none_permuted is_mult m o.no_product;
-}
+others_permuted m o = grind (arith, reduced_permuted, words_defined, none_permuted, defined_words)
 
 -- ---- an ending of sorted factors
 

@@ -49,11 +49,7 @@ all_counted ts us p = omega (arith, permuted_counted p, others_counted (opened t
 -- ---- a coefficient is free
 
 number_factors : (c : Tree) → IsNumber c → counted_among (factors_of c) ≡ 0
-number_factors (num q) h = counted_number (num q) none (number_test (num q) tt)
-number_factors (add ts) h = counted_number (add ts) none (number_test (add ts) h)
-number_factors (root a) h = counted_number (root a) none (number_test (root a) h)
-number_factors (mult (more (num q) (more (root (num r)) none))) h = counted_number (num q) (more (root (num r)) none) (number_test (num q) tt) ∙ counted_number (root (num r)) none (number_test (root (num r)) h.2)
-number_factors c h = absurd h
+number_factors c h = grind (arith, number_test)
 
 before_counted : (c : Tree) (us : Trees) → is_number c ≡ true → counted_among (coefficient_before c us) ≤ counted_among us
 before_counted c us h = by (is_num_one c)
@@ -106,13 +102,7 @@ pub single_monic : (t : Tree) → AreOthers (more t none) → IsMonic t
 single_monic t o = factors_monic (more t none) (sorted_factors (more t none) (more t none) o (permuted_more permuted_none) tt (omega arith))
 
 written_counted : (c : Tree) (us : Trees) → is_number c ≡ true → AreOthers us → counted (coefficient_times c us) ≤ max 1 (counted_among us)
-written_counted c none h o = number_counted c 0 h
-written_counted c (more t none) h o =
-    omega (arith, put_counted c t (number_words c h) (λ e. single_monic t o), only_one t o.no_number.0)
-  where
-    only_one : (t : Tree) → is_number t ≡ false → counted t ≤ counted_among (more t none)
-    only_one t n = omega (arith, counted_other t none n)
-written_counted c (more t (more u us)) h o = put_counted c (mult (more t (more u us))) (number_words c h) (λ (e : false ≡ true). absurd (clash (sym e)))
+written_counted c us h o = grind (arith, number_counted, put_counted, number_words)
 
 pub finished_counted : (ts : Trees) (t : Tree) → are_reduced ts ≡ true → has_undef ts ≡ false → IsWrittenProduct ts t → counted t ≤ counted (mult ts)
 finished_counted ts t r d w = by (is_zero w.coefficient) refl
@@ -144,26 +134,8 @@ no_numbers : (us : Trees) → NoneIs is_number us → numbers_among us ≡ 0
 no_numbers none n = refl
 no_numbers (more t us) n = let z : (if is_number t then 1 else 0) ≡ 0 = ap {B = ℕ} (λ (b : Bool). if b then 1 else 0) n.0 in omega (arith, z, no_numbers us n.1)
 
-one_at_most : (t : Tree) (ts : Trees) → numbers_among (more t ts) ≤ 1 + numbers_among ts
-one_at_most t ts = by (is_number t)
-  where
-    by : (b : Bool) → (if b then 1 else 0) + numbers_among ts ≤ 1 + numbers_among ts
-    by true = omega arith
-    by false = omega arith
-
-two_at_most : (c : Tree) (us : Trees) → IsNumber c → numbers_among (append (factors_of c) us) ≤ 2 + numbers_among us
-two_at_most (mult (more (num q) (more (root (num r)) none))) us h = omega (arith, one_at_most (num q) (more (root (num r)) us), one_at_most (root (num r)) us)
-two_at_most (num q) us h = omega (arith, one_at_most (num q) us)
-two_at_most (add ts) us h = omega (arith, one_at_most (add ts) us)
-two_at_most (root a) us h = omega (arith, one_at_most (root a) us)
-two_at_most c us h = absurd h
-
 few_before : (c : Tree) (us : Trees) → IsNumber c → NoneIs is_number us → numbers_among (coefficient_before c us) ≤ 2
-few_before c us h n = by (is_num_one c)
-  where
-    by : (b : Bool) → numbers_among (if b then us else append (factors_of c) us) ≤ 2
-    by true = omega (arith, no_numbers us n)
-    by false = omega (arith, two_at_most c us h, no_numbers us n)
+few_before c us h n = grind (arith, no_numbers)
 
 pub gathered_few : (ts : Trees) (t : Tree) → IsGathered ts t → numbers_among (children_of t) ≤ 2
 gathered_few ts t g =

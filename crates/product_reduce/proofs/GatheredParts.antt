@@ -1,5 +1,5 @@
 -- What holds of each part of the factors of a product holds of each part of what they are gathered to.
-use Rattle.std.proofs.Common.{◌≡◌, ℕ, List, Bool, true, false, if◌then◌else◌, refl, sym, subst}
+use Rattle.std.proofs.Common.{arith, ◌≡◌, ℕ, List, Bool, true, false, if◌then◌else◌, refl, sym, subst}
 use Rattle.product_reduce.proofs.Shared.{Fraction, one_fraction, Tree, num, undef, add, mult, power, Trees, none, more, append, AllParts, AllPartsOf, is_number, value, base_of, is_num_one, is_opaque_exponent, num_one, product_tree, number_words, IsPowerOf, HasPowersOf, Spans, SpansRoot, SpansTree, SpansTrees, factors_of, AllPartsOf-append, IsSorting, is_zero, IsJoined, IsWritten, IsWrittenProduct, opened, numbers_in, others_in, product_of_values, IsCoefficient, coefficient_before, coefficient_times, IsGathered, exponent_of, first_partner, has_partner, is_partner, joined, joint, without_partner}
 use Rattle.calc_room.proofs.NumberSpans.{spans_times, spans_same, tree_spanned, value_spanned}
 use Rattle.calc_room.proofs.SpanLaws.{one_spanned}
@@ -41,11 +41,7 @@ module _ (P : Tree → Type 0)
   written_parts c (more t ts) h k = with_parts P of_num of_add of_mult c (product_tree (more t ts)) h (product_tree_parts P of_num of_add of_mult (more t ts) k)
 
   before_factors : (c : Tree) (us : Trees) → AllParts P c → AllPartsOf P us → AllParts P (mult (coefficient_before c us))
-  before_factors c us h k = (of_mult (coefficient_before c us), by (is_num_one c))
-    where
-      by : (b : Bool) → AllPartsOf P (if b then us else append (factors_of c) us)
-      by true = k
-      by false = AllPartsOf-append P (factors_of c) us (factors_parts P c h) k
+  before_factors c us h k = grind (arith, AllPartsOf-append)
 
   pub finished_parts : (ts : Trees) (t : Tree) → ((c : Tree) → IsCoefficient c (opened ts) → AllParts P c) → AllPartsOf P ts → IsWrittenProduct ts t → AllParts P t
   finished_parts ts t f h w = by (is_zero w.coefficient) refl
@@ -76,26 +72,8 @@ module _ (P : Tree → Type 0)
     (of_add : (ts : Trees) → P (add ts))
     (of_mult : (ts : Trees) → P (mult ts))
     (of_power : (b e : Tree) → P (power b e)) where
-  base_parts : (t : Tree) → AllParts P t → AllParts P (base_of t)
-  base_parts (power b e) h = by (is_opaque_exponent e)
-    where
-      by : (k : Bool) → AllParts P (if k then power b e else b)
-      by true = h
-      by false = h.1
-  base_parts t h = h
-
-  exponent_parts : (t : Tree) → AllParts P t → AllParts P (exponent_of t)
-  exponent_parts (power b e) h = by (is_opaque_exponent e)
-    where
-      by : (k : Bool) → AllParts P (if k then num_one else e)
-      by true = of_num one_fraction
-      by false = h.2
-  exponent_parts t h = of_num one_fraction
-
   joint_parts : (t u : Tree) → AllParts P t → AllParts P u → AllParts P (joint t u)
-  joint_parts t u h k =
-      let es : Trees = more (exponent_of t) (more (exponent_of u) none) in
-      (of_power (base_of t) (add es), base_parts t h, (of_add es, (exponent_parts t h, (exponent_parts u k, tt))))
+  joint_parts t u h k = grind arith
 
   partner_parts : (t : Tree) (ts : Trees) → AllPartsOf P ts → AllParts P (first_partner t ts) × AllPartsOf P (without_partner t ts)
   partner_parts t none h = (of_undef, tt)
@@ -115,10 +93,7 @@ module _ (P : Tree → Type 0)
       by false x go = (h.0, go)
 
   pub joined_parts : (ts : Trees) (t : Tree) → ((c : Tree) → IsCoefficient c (opened ts) → AllParts P c) → AllPartsOf P ts → IsJoined ts t → AllParts P t
-  joined_parts ts t f h j =
-      subst (AllParts P) (sym j.is)
-      (before_factors P of_num of_add of_mult j.coefficient (joined (others_in (opened ts))) (f j.coefficient j.joinable.coefficient)
-      (factors_joined (others_in (opened ts)) (others_parts P (opened ts) (opened_parts P ts h))))
+  joined_parts ts t f h j = grind (arith, before_factors, factors_joined, others_parts, opened_parts)
 
 -- ---- powers: a Number has none, and those of the factors are their own
 

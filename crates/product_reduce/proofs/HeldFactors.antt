@@ -20,11 +20,7 @@ factors_append (more t (more u ts)) us {k = k} {n = n} (term_held p q i j f s x 
 -- ---- one factor that is neither a Number nor a product
 
 as_single : (t : Tree) → is_number t ≡ false → is_mult t ≡ false → as_factor t ≡ addend surd_one (more t none)
-as_single t n m = ap (λ (b : Bool). if b then addend (value t) none else addend_of t) n ∙ by t m
-  where
-    by : (t : Tree) → is_mult t ≡ false → addend_of t ≡ addend surd_one (more t none)
-    by (mult ts) e = absurd (let f : true ≡ false = e in cc)
-    by t e = refl
+as_single t n m = grind arith
 
 pub single_part : (t : Tree) {p q : ℕ} → is_number t ≡ false → is_mult t ≡ false → IsFactorHeld t p q → IsPartHeld (more t none) p q
 single_part t {p = p} {q = q} n m a = let b : IsSumHeld (addend surd_one (more t none) ∷ []) p q = subst (λ (x : Addend). IsSumHeld (x ∷ []) p q) (as_single t n m) a in by b.weighted b.held
@@ -71,15 +67,8 @@ split_held s h l z a = by (value s.coefficient) refl a.weighted a.held
 rational_some : (c : Fraction) → c ≢ zero_fraction → value (num c) ≢ []
 rational_some c n e = no_terms (term c 1) [] (sym (ap (λ (b : Bool). if b then [] else surd_of c) (zero_test c n)) ∙ e)
 
-sum_some : (ts : Trees) → is_number (add ts) ≡ true → terms_of ts ≢ []
-sum_some ts n e = let w = number_words (add ts) n in absurd (let x = w.0 in let y = ap length e in omega (arith, x, y))
-
 number_some : (c : Tree) → IsNumber c → c ≢ num zero_fraction → value c ≢ []
-number_some (num q) n z = rational_some q (λ e. z (ap num e))
-number_some (add ts) n z = sum_some ts (number_test (add ts) n)
-number_some (root a) n z = no_terms (term_of (root a)) []
-number_some (mult ts) n z = no_terms (term_of (mult ts)) []
-number_some c n z = absurd n
+number_some c n z = grind (arith, rational_some)
 
 -- where a coefficient is spliced, it is one factor or two
 number_factors : (c : Tree) {p q : ℕ} → IsNumber c → IsHeld (value c) p q → AreFactorsHeld (factors_of c) p q
@@ -143,11 +132,7 @@ pub record AreHeldApart (ts : Trees) (h l : ℕ) : Type 0 where
   pub low : q + n ≤ l
 
 pub root_number : (r : Fraction) → IsFormed (root (num r)) → is_number (root (num r)) ≡ true
-root_number r f = by f.form
-  where
-    by : HasForm (root (num r)) → is_number (root (num r)) ≡ true
-    by (inl n) = number_test (root (num r)) n
-    by (inr e) = absurd (let x : true ≡ false = e in cc)
+root_number r f = grind arith
 
 one_apart : (t : Tree) (ts : Trees) {p q k n h l : ℕ} → is_mult t ≡ false → IsFactorHeld t p q → AreHeldApart ts k n → p + k ≤ h → q + n ≤ l → AreHeldApart (more t ts) h l
 one_apart t ts {p = p} {q = q} {h = h} {l = l} m a s x y = by (is_number t) refl

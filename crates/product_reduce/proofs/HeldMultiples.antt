@@ -23,19 +23,7 @@ rational_value c n = ap (λ (b : Bool). if b then [] else surd_of c) (zero_test 
 -- ---- a term as a coefficient and factors
 
 addend_parts : (t : Tree) → AllParts HasForm t → is_number t ≡ false → addend_of t ≡ addend (value (coefficient_of t)) (factors_of (part_of t))
-addend_parts (mult us) h n = by (product_form_of us h n)
-  where
-    split_flat : IsProductForm us → (has_coefficient us ≡ false) ⊎ Leads us → NoneIs is_mult (split_product us).factors × (1 ≤ count (split_product us).factors)
-    split_flat f (inl k) =
-        let e : split_product us ≡ split num_one us = no_split us k in
-        subst (λ (s : Split). NoneIs is_mult s.factors × (1 ≤ count s.factors)) (sym e) (f.no_product, omega (arith, two_count us f.two))
-    split_flat f (inr l) =
-        let a : AreFactors l.factors = leading_factors us l h n f in
-        subst (λ (s : Split). NoneIs is_mult s.factors × (1 ≤ count s.factors)) (sym l.is) (a.no_product, a.some)
-
-    by : IsProductForm us → addend_of (mult us) ≡ addend (value (coefficient_of (mult us))) (factors_of (part_of (mult us)))
-    by f = let x = split_flat f (in_front us f.no_product f.front) in ap (addend (value (split_product us).coefficient)) (sym (factors_again (split_product us).factors x.0 x.1))
-addend_parts t h n = ap (λ (v : Surd). addend v (more t none)) (sym one_value)
+addend_parts t h n = grind (arith, product_form_of, no_split, leading_factors, in_front, factors_again, one_value)
 
 -- ---- the terms behind the Number are some of the terms
 
@@ -122,9 +110,7 @@ module _ (q : Fraction) (f : IsFactor q) where
 
   unled : (ts : Trees) → has_coefficient ts ≡ false → rational_times_term q (mult ts) ≡ mult (more (num q) ts)
   unfolding is_number
-  unled (more (num c) ts) h = absurd (clash h)
-  unled (more (add us) ts) h = ap (λ (b : Bool). if b then mult (more (rational_times_number q us) ts) else mult (more (num q) (more (add us) ts))) h
-  unled ts h = refl
+  unled ts h = grind arith
 
   product_coefficient : (us : Trees) → AllParts HasForm (mult us) → is_number (mult us) ≡ false → IsProductForm us → (has_coefficient us ≡ false) ⊎ Leads us
       → value (coefficient_of (rational_times_term q (mult us))) ≡ surd_times (surd_of q) (value (coefficient_of (mult us)))
@@ -173,10 +159,4 @@ module _ (q : Fraction) (f : IsFactor q) where
       first tail (inr n) = rw (no_term t n, no_term (rational_times_term q t) (multiple q f t h.0 n s.0).no_number) refl
 
   pub sum_multiple : (ts : Trees) → AllPartsOf HasForm ts → IsSumForm ts → addends (add (mapped (rational_times_term q) ts)) ≡ distributed (surd_of q) (addends (add ts))
-  sum_multiple ts h s =
-      let k = each_term ts s.no_number in
-      let os = other_terms ts in
-      let head : terms_of (number_terms (mapped (rational_times_term q) ts)) ≡ surd_times (surd_of q) (terms_of (number_terms ts)) = terms_multiple ts h s.no_sum k ∙ sym (scaled_times q (terms_of (number_terms ts))) in
-      let tail : addends_of (other_terms (mapped (rational_times_term q) ts)) ≡ distributed (surd_of q) (addends_of os) =
-      ap addends_of (others_mapped ts h s.no_sum k) ∙ others_multiple os (others_formed ts h) s.no_number (others_no_sum ts s.no_sum) in
-      λ i. addend (head i) none ∷ tail i
+  sum_multiple ts h s = grind (arith, each_term, terms_multiple, scaled_times, others_mapped, others_multiple, others_formed, others_no_sum)

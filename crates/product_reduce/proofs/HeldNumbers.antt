@@ -21,10 +21,7 @@ with_one : (c : Fraction) → times c one_fraction ≡ c
 with_one c = times_comm c one_fraction ∙ one_times c
 
 one_of_both : (c : Fraction) (r : ℕ) → surd_times (term c 1 ∷ []) (term one_fraction r ∷ []) ≡ term c r ∷ []
-one_of_both c r = λ i. term (with_one c i) (plain r i) ∷ []
-  where
-    plain : (r : ℕ) → 1 * r ≡ r
-    plain r = omega arith
+one_of_both c r = grind (arith, with_one)
 
 lesser_root : (a b : ℕ) → a ≤ b → root_above a ≤ root_above b
 lesser_root a b l = root_least a (root_above b) (let e : b ≤ root_above b * root_above b = root_enough b in omega arith)
@@ -53,11 +50,7 @@ value_of_rational c = by (is_zero_fraction c) refl
     by false e = Same-refl (term c 1 ∷ [])
 
 rational_held : (c : Fraction) (h l : ℕ) → IsHeld (term c 1 ∷ []) h l → IsHeld (value (num c)) h l
-rational_held c h l k = by (is_zero_fraction c)
-  where
-    by : (b : Bool) → IsHeld (if b then [] else surd_of c) h l
-    by true = nothing_held h l
-    by false = k
+rational_held c h l k = grind arith
 
 radicand_some : (r : Fraction) → is_number (root (num r)) ≡ true → 1 ≤ natural_of r.num
 radicand_some r n = let (d, m, e, l, c) = number_words (root (num r)) n in omega (arith, ap natural_of e, l)

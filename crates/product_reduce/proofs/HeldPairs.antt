@@ -23,11 +23,7 @@ product_as_factors us h l r a = factors_held (mult us) (formed_unless_undef (mul
 -- ---- two neighbours
 
 single_is : (t : Tree) → is_single t ≡ true → (is_number t ≡ false) × (is_mult t ≡ false)
-single_is t h = let (a, b) = and_parts (not (is_number t)) (not (is_mult t)) h in (off (is_number t) a, off (is_mult t) b)
-  where
-    off : (b : Bool) → not b ≡ true → b ≡ false
-    off true e = absurd (clash (sym e))
-    off false e = refl
+single_is t h = grind arith
 
 -- the two are held together, and what is held so may take their place
 abbrev pub HoldsPair : ℕ → Trees → ℕ → ℕ → Type 0

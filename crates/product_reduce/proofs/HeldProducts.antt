@@ -41,9 +41,7 @@ tree_held (more t (more u fs)) {k = k} {n = n} m s l b =
 -- ---- a rational that goes into a sum
 
 sum_positive : (ts : Trees) {k n : ℕ} → IsPartHeld (more (add ts) none) k n → 1 ≤ k
-sum_positive ts b =
-    let e : counts_of num_one ≡ counts 1 0 = one_counts in
-    omega (arith, exponents_within b, ap (λ (c : Counts). c.up) e)
+sum_positive ts b = grind (arith, one_counts)
 
 pub sum_addends : (q : Fraction) (ts : Trees) {p i k n : ℕ} → is_number (add ts) ≡ false → IsHeld (surd_of q) p i → IsPartHeld (more (add ts) none) k n → IsSumHeld (distributed (surd_of q) (addends (add ts))) (p + k) (i + n)
 sum_addends q ts {p = p} {i = i} {k = k} {n = n} e a b =

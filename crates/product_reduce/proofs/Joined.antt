@@ -1,12 +1,10 @@
 -- Two factors of one base, joined: meanings are kept.
-use Rattle.std.proofs.Common.{◌≡◌, Bool, true, false, refl, if◌then◌else◌}
+use Rattle.std.proofs.Common.{arith, ◌≡◌, Bool, true, false, refl, if◌then◌else◌}
 use Rattle.product_reduce.proofs.Shared.{Ordering, Less, Equal, Greater, is_eq, base_of, tree_cmp, Tree, mult, Trees, none, more, KeepsMeanings, KeepsMeanings-refl, KeepsMeanings-trans, KeepsMeanings-product_more, Permuted, permuted_more, permuted_swap, permuted_trans, Permuted-refl, permuted_product, joined_in_product, tree_cmp_equal, is_partner, has_partner, first_partner, without_partner, joint, joined}
 use Rattle.calc_algebra.proofs.PowerRewrites.{same_bases}
 
 equal_words : (o : Ordering) → is_eq o ≡ true → o ≡ Equal
-equal_words Less h = cc
-equal_words Equal h = refl
-equal_words Greater h = cc
+equal_words o h = grind arith
 
 -- partners have one base
 pub one_base : (t u : Tree) → is_partner t u ≡ true → base_of t ≡ base_of u

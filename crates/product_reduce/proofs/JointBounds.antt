@@ -110,13 +110,7 @@ joined_load (more t ts) f m n h = by (joined_load ts f.1 m.1 n.1) (has_partner t
     by go false e g = omega (arith, go g)
 
 pub product_load : (ts : Trees) (t : Tree) → are_reduced ts ≡ true → IsJoined ts t → load_of_factors (children_of t) + 2 ≤ load (mult ts)
-product_load ts t r j =
-    let os = others_in (opened ts) in
-    let f = opened_formed ts (reduced_formed ts r j.joinable.defined) in
-    let flat = others_none is_mult (opened ts) (opened_flat ts (reduced_formed ts r j.joinable.defined)) in
-    let less : load_of_factors (joined os) + 2 ≤ load_of_factors os = joined_load os (others_formed (opened ts) f) flat (others_no_numbers (opened ts)) j.joinable.partners in
-    let same : load_of_factors (children_of t) ≡ load_of_factors (coefficient_before j.coefficient (joined os)) = ap (λ (u : Tree). load_of_factors (children_of u)) j.is in
-    omega (arith, same, load_with j.coefficient (joined os) j.joinable.coefficient.number, less, load_others (opened ts), load_opened ts, load_product ts)
+product_load ts t r j = grind (arith, opened_formed, reduced_formed, others_none, opened_flat, joined_load, others_formed, others_no_numbers, load_with, load_others, load_opened, load_product)
 
 pub others_load : (ts : Trees) (t a b : Tree) (at : ℕ) → are_reduced ts ≡ true → IsJoined ts t → at < count (children_of t) → nth at (children_of t) ≡ joint a b
     → load_of_factors (removed at (children_of t)) + (1 + weight (base_of a)) < load (mult ts)

@@ -48,19 +48,11 @@ in_front c = if is_num_one c then none else factors_of c
 
 pub before_is : (c : Tree) (ts : Trees) → coefficient_before c ts ≡ append (in_front c) ts
 unfolding in_front
-before_is c ts = by (is_num_one c)
-  where
-    by : (k : Bool) → (if k then ts else append (factors_of c) ts) ≡ append (if k then none else factors_of c) ts
-    by true = refl
-    by false = refl
+before_is c ts = grind arith
 
 pub front_reduced : (c : Tree) → is_number c ≡ true → are_reduced (in_front c) ≡ true
 unfolding in_front
-front_reduced c h = by (is_num_one c)
-  where
-    by : (k : Bool) → are_reduced (if k then none else factors_of c) ≡ true
-    by true = refl
-    by false = formed_are_reduced (factors_of c) (formed_factors c (number_formed c h))
+front_reduced c h = grind (arith, formed_are_reduced, formed_factors, number_formed)
 
 pub count_before : (c : Tree) (ts : Trees) → count ts ≤ count (coefficient_before c ts)
 count_before c ts = let e = ap count (before_is c ts) ∙ count_append (in_front c) ts in omega arith

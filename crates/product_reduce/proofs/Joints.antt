@@ -57,11 +57,7 @@ no_number : (e : Tree) → is_number e ≡ false → IsNumber e → ⊥
 no_number e n h = absurd (let k = number_test e h in cc)
 
 no_number_words : (e f : Tree) → IsExponent e → IsExponent f → IsNumber (add (more e (more f none))) → ⊥
-no_number_words e f (is_other n) y h = no_number e n (term_number e h.1.0)
-no_number_words e f x (is_other n) h = no_number f n (term_number f h.1.1.0)
-no_number_words e f (is_rational p a) (is_rational q b) h =
-    let r : Rises (terms_of (more (num p) (more (num q) none))) = subst (λ (ts : Trees). Rises (terms_of ts)) (λ i. more (a i) (more (b i) none)) h.2 in
-    absurd (let l = r.0.0 in omega arith)
+no_number_words e f x y h = grind (arith, no_number)
 
 pub sum_is_no_number : (e f : Tree) → IsExponent e → IsExponent f → is_number (add (more e (more f none))) ≡ false
 sum_is_no_number e f x y = by (is_number (add (more e (more f none)))) refl
@@ -73,13 +69,7 @@ sum_is_no_number e f x y = by (is_number (add (more e (more f none)))) refl
 -- and one of two rationals is not reduced
 no_sum_form : (p q : Fraction) → IsSumForm (more (num p) (more (num q) none)) → ⊥
 unfolding is_number
-no_sum_form p q s = by (is_zero_fraction p) (is_zero_fraction q) s.number s.no_number
-  where
-    by : (j k : Bool) → Rises (terms_of (if not j then more (num p) (if not k then more (num q) none else none) else none))
-        → NoneIs is_number (if not j then (if not k then none else more (num q) none) else more (num p) (more (num q) none)) → ⊥
-    by true k x y = absurd (let n = y.0 in cc)
-    by false true x y = absurd (let n = y.0 in cc)
-    by false false x y = absurd (let l = x.0.0 in omega arith)
+no_sum_form p q s = grind arith
 
 no_sum : (p q : Fraction) → HasForm (add (more (num p) (more (num q) none))) → ⊥
 no_sum p q (inl h) = no_number_words (num p) (num q) (is_rational p refl) (is_rational q refl) h
@@ -152,18 +142,7 @@ load_split (suc at) (more t ts) l = omega (arith, load_split at ts (omega arith)
 -- ---- weights
 
 some_weight : (t : Tree) → 1 ≤ weight t
-some_weight (root a) = by (is_number (root a))
-  where
-    by : (k : Bool) → 1 ≤ (if k then 2 else suc (weight a))
-    by true = omega arith
-    by false = omega arith
-some_weight (power b e) = omega arith
-some_weight (mult ts) = by (is_number (mult ts))
-  where
-    by : (k : Bool) → 1 ≤ (if k then 2 else 1 + (if has_coefficient ts then 2 else 0) + weight_of_factors ts)
-    by true = omega arith
-    by false = omega arith
-some_weight t = omega arith
+some_weight t = grind arith
 
 formed_weight : (t : Tree) → HasForm t → 2 ≤ weight t
 formed_weight (root a) h = by (is_number (root a)) (some_weight a)

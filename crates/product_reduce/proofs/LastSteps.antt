@@ -40,18 +40,10 @@ parts_permuted permuted_swap h = (h.1.0, (h.0, h.1.1))
 parts_permuted (permuted_trans k l) h = parts_permuted l (parts_permuted k h)
 
 pub sorted_factors : (ts us : Trees) → AreOthers ts → Permuted ts us → RisesBy base_of us → 1 ≤ count us → AreFactors us
-sorted_factors ts us o m r l = record {
-  some = l;
-  no_product = none_permuted is_mult m o.no_product;
-  no_number = none_permuted is_number m o.no_number;
-  rising = r;
-  formed = parts_permuted m (all_parts ts o.reduced o.defined);
-}
+sorted_factors ts us o m r l = grind (arith, none_permuted, parts_permuted, all_parts)
 
 tree_names : (ts : Trees) → Within (names_of ts) (names (product_tree ts))
-tree_names none = within_none (names_of none)
-tree_names (more t none) = within_left (names t) []
-tree_names (more t (more u ts)) = within_same (names_of (more t (more u ts)))
+tree_names ts = grind (arith, within_left, within_same)
 
 as_one : (c : Tree) {ts us : Trees} → Permuted ts us → KeepsMeanings (mult (more c ts)) (mult (more c (more (product_tree us) none)))
 as_one c {us = us} m =

@@ -18,13 +18,7 @@ clash e = cc
 -- ---- opened factors are some
 
 factors_some : (t : Tree) → HasForm t → 1 ≤ count (factors_of t)
-factors_some (mult ts) (inl h) = by ts h
-  where
-    by : (us : Trees) → IsTerm (mult us) → 1 ≤ count us
-    by (more (num q) (more (root (num r)) none)) h = omega arith
-    by us h = absurd h
-factors_some (mult ts) (inr h) = omega (arith, two_count ts h.two)
-factors_some t h = omega arith
+factors_some t h = grind arith
 
 pub opened_some : (ts : Trees) → AllFormed ts → 1 ≤ count ts → 1 ≤ count (opened ts)
 opened_some none h l = absurd (omega arith)
@@ -32,39 +26,11 @@ opened_some (more t ts) h l = omega (arith, factors_some t h.0.form, count_appen
 
 -- ---- how a coefficient is written
 
-rational_spliced : (q : Fraction) (p : Tree) → is_add p ≡ false → rational_before q p ≡ spliced (num q) p
-rational_spliced q (add ts) h = absurd (clash h)
-rational_spliced q p h = refl
-
-no_sum : (us : Trees) → is_one_add us ≡ false → is_add (product_tree us) ≡ false
-no_sum none h = refl
-no_sum (more t none) h = by t h
-  where
-    by : (t : Tree) → is_one_add (more t none) ≡ false → is_add t ≡ false
-    by (add ts) h = absurd (clash h)
-    by t h = refl
-no_sum (more t (more u us)) h = refl
-
 pub factors_again : (us : Trees) → NoneIs is_mult us → 1 ≤ count us → factors_of (product_tree us) ≡ us
-factors_again none n l = absurd (omega arith)
-factors_again (more t none) n l = single_factor t n.0
-factors_again (more t (more u us)) n l = refl
-
-written_before : (c : Tree) (us : Trees) → is_zero c ≡ false → is_num_one c ≡ false → NoneIs is_mult us → is_one_add us ≡ false → 1 ≤ count us → with_coefficient c (product_tree us) ≡ mult (append (factors_of c) us)
-written_before (num q) us z o n d l =
-    ap (λ (b : Bool). if b then num zero_fraction else (if is_one_fraction q then product_tree us else rational_before q (product_tree us))) z
-    ∙ ap (λ (b : Bool). if b then product_tree us else rational_before q (product_tree us)) o
-    ∙ rational_spliced q (product_tree us) (no_sum us d) ∙ ap (λ (x : Trees). mult (more (num q) x)) (factors_again us n l)
-written_before c us z o n d l = ap (λ (x : Trees). mult (append (factors_of c) x)) (factors_again us n l)
+factors_again us n l = grind arith
 
 not_one_add : (os us : Trees) → Permuted os us → is_one_add os ≡ false → is_one_add us ≡ false
-not_one_add os none p d = refl
-not_one_add os (more t none) p d = sym (ap is_one_add (permuted_one_is t (Permuted-sym p) refl)) ∙ d
-not_one_add os (more t (more u us)) p d = by t
-  where
-    by : (t : Tree) → is_one_add (more t (more u us)) ≡ false
-    by (add ts) = refl
-    by t = refl
+not_one_add os us p d = grind (arith, permuted_one_is, Permuted-sym)
 
 some_permuted : (os us : Trees) → Permuted os us → 1 ≤ count os → 1 ≤ count us
 some_permuted os none p l = absurd (let e = ap count (permuted_none_is (Permuted-sym p) refl) in omega (arith, e))
@@ -72,9 +38,7 @@ some_permuted os (more t us) p l = omega arith
 
 -- one that is neither 0, 1 nor a product, before others that are no sum alone
 times_before : (c : Tree) (os us : Trees) → is_zero c ≡ false → is_num_one c ≡ false → is_mult c ≡ false → NoneIs is_mult os → is_one_add os ≡ false → 1 ≤ count os → Permuted os us → coefficient_times c us ≡ product_tree (more c us)
-times_before c os none z o m n d l p = absurd (omega (arith, some_permuted os none p l))
-times_before c os (more t us) z o m n d l p =
-    written_before c (more t us) z o (none_permuted is_mult p n) (not_one_add os (more t us) p d) (omega arith) ∙ ap (λ (x : Trees). mult (append x (more t us))) (single_factor c m)
+times_before c os us z o m n d l p = grind (arith, none_permuted, not_one_add)
 
 -- 1 before others
 one_not_zero : is_zero num_one ≡ false
@@ -86,11 +50,7 @@ unfolding one_fraction lowest gcd
 one_is_one = refl
 
 one_times : (us : Trees) → coefficient_times num_one us ≡ product_tree us
-one_times none = refl
-one_times (more t us) =
-    let p = product_tree (more t us) in
-    ap (λ (b : Bool). if b then num zero_fraction else (if is_one_fraction one_fraction then p else rational_before one_fraction p)) one_not_zero
-    ∙ ap (λ (b : Bool). if b then p else rational_before one_fraction p) one_is_one
+one_times us = grind (arith, one_is_one)
 
 -- ---- a coefficient that stands first
 

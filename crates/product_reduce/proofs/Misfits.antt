@@ -1,5 +1,5 @@
 -- Which operation of a product does not fit, from the call that was refused.
-use Rattle.std.proofs.Common.{◌≡◌, ℕ, eqb, ◌&&◌, false, Result, Ok, Err, refl, ap, ◌∙◌}
+use Rattle.std.proofs.Common.{arith, ◌≡◌, ℕ, eqb, ◌&&◌, false, Result, Ok, Err, refl, ap, ◌∙◌}
 use Rattle.std.specs.Prelude.{IfErr, IsErrAnd}
 use Rattle.product_reduce.proofs.Shared.{Permuted, permuted_none, permuted_more, permuted_swap, permuted_trans, Permuted-sym, value, product_tree, num_one, IsPlainOverflow, calculated, mul_op, Fraction, Tree, num, add, mult, Trees, none, more, is_num, is_add, NamesPut, State, AnswersRationals, OfOverflow, NamesProduct, SpreadingOverflows, factors_in, Overflow, given_same, given_told, plain, Forest, Gives, root_tree, without_root, NumberFault}
 use Rattle.coefficients.proofs.Named.{put_as}
@@ -12,9 +12,7 @@ use Rattle.tree_handles.specs.declared.fault.NumberFault.TheVariants as fault
 -- ---- two Numbers
 
 names_product : (a b : Tree) (o : Overflow) → ((p q : Fraction) → a ≡ num p → b ≡ num q → IsPlainOverflow (calculated mul_op p q) o) → ((is_num a && is_num b) ≡ false → ProductOverflows (value a) (value b) o) → NamesProduct a b o
-names_product (num p) (num q) o h k = h p q refl refl
-names_product (num p) b o h k = k refl
-names_product a b o h k = k refl
+names_product a b o h k = grind arith
 
 pub product_named : (a b : Tree) (new : State) (r : Result ℕ NumberFault) → ((p q : Fraction) → a ≡ num p → b ≡ num q → AnswersRationals (calculated mul_op p q) new r)
     → ((is_num a && is_num b) ≡ false → IfErr r (OfOverflow (ProductOverflows (value a) (value b)))) → IfErr r (OfOverflow (NamesProduct a b))
@@ -41,15 +39,8 @@ permuted_one_is x permuted_swap e = absurd (no_two e)
     no_two e = cc
 permuted_one_is x (permuted_trans h k) e = permuted_one_is x k (permuted_one_is x h e)
 
-no_put : (c p : Tree) (o : Overflow) → is_add p ≡ false → NamesPut c p o → ⊥
-no_put (num q) (add ts) o e h = absurd cc
-no_put (num q) p o e h = h
-no_put c p o e h = h
-
 put_alone : (c : Tree) (us ts : Trees) (o : Overflow) → Permuted us ts → NamesPut c (product_tree us) o → SpreadingOverflows c ts o
-put_alone c none ts o m h = absurd (no_put c num_one o refl h)
-put_alone c (more t none) ts o m h = record { sum = t; alone = permuted_one_is t m refl; named = h }
-put_alone c (more t (more u us)) ts o m h = absurd (no_put c (mult (more t (more u us))) o refl h)
+put_alone c us ts o m h = grind (arith, permuted_one_is)
 
 pub put_misfit : (i c p : ℕ) (old now f : Forest) → eqb c i ≡ false → (r : AreReadied i c old now) → Gives (without_root i now) f p (λ t. t ≡ product_tree r.us) → (o : Overflow)
     → NamesPut (plain (root_tree c f)) (plain (root_tree p f)) o → SpreadingOverflows (plain (root_tree c old)) (factors_in i old) o
@@ -61,6 +52,4 @@ put_misfit i c p old now f d r g o h =
 
 -- bytes that are lacking
 pub none_named : {A : Type 0} (r : Result A NumberFault) (f : Full) (P : Overflow → Type 0) → IsErrAnd r (λ e. e ≡ fault.Full f) → IfErr r (OfOverflow P)
-none_named (Ok x) f P h = tt
-none_named (Err (fault.Full g)) f P h = tt
-none_named (Err (fault.Overflow o)) f P h = absurd cc
+none_named r f P h = grind arith

@@ -77,39 +77,12 @@ sorted_apart us n m s h = partners_back us (rising_apart us (rising us n m s h))
 -- ---- behind a coefficient
 
 pub pair_before : (n at : ℕ) (c : Tree) (us : Trees) → IsPairAt n us → at + count us ≡ count (coefficient_before c us) + n → IsPairAt at (coefficient_before c us)
-pair_before n at c us p e =
-    let ps = in_front c in
-    let whole = before_is c us in
-    let all : count (coefficient_before c us) ≡ count ps + count us = ap count whole ∙ count_append ps us in
-    let place : at ≡ count ps + n = omega (arith, e, all) in
-    record {
-      within = omega (arith, all, place, p.within);
-      pair = (λ i. is_pair (ap (nth at) whole i) (ap (nth (suc at)) whole i)) ∙ (λ i. is_pair (nth_behind ps us n at place i) (nth_behind ps us (suc n) (suc at) (omega (arith, place)) i)) ∙ p.pair;
-    }
+pair_before n at c us p e = grind (arith, before_is, count_append, nth_behind)
 
 -- ---- two neighbours joined
 
 pub joint_there : (n : ℕ) (ts : Trees) → IsPairAt n ts → nth n (joined_pair n (suc n) ts) ≡ joint (nth n ts) (nth (suc n) ts)
-joint_there n ts p =
-    let rest = removed n (removed (suc n) ts) in
-    let a = count_removed (suc n) ts p.within in
-    let b = count_removed n (removed (suc n) ts) (omega (arith, a, p.within)) in
-    nth_inserted n (joint (nth n ts) (nth (suc n) ts)) rest (omega (arith, a, b, p.within))
+joint_there n ts p = grind (arith, count_removed, nth_inserted)
 
 pub neighbours_joint : (n : ℕ) (ts : Trees) → are_reduced ts ≡ true → IsPairAt n ts → IsJointAt n (joined_pair n (suc n) ts)
-neighbours_joint n ts r p =
-    let rest = removed n (removed (suc n) ts) in
-    let t = joint (nth n ts) (nth (suc n) ts) in
-    let a = count_removed (suc n) ts p.within in
-    let b = count_removed n (removed (suc n) ts) (omega (arith, a, p.within)) in
-    let few : n ≤ count rest = omega (arith, a, b, p.within) in
-    record {
-      first = nth n ts;
-      second = nth (suc n) ts;
-      first_reduced = reduced_nth n ts (omega (arith, p.within)) r;
-      second_reduced = reduced_nth (suc n) ts p.within r;
-      partners = partners_of_pair _ _ p.pair;
-      within = omega (arith, count_inserted n t rest few, few);
-      is = joint_there n ts p;
-      others = ap are_reduced (removed_inserted n t rest few) ∙ reduced_removed n (removed (suc n) ts) (reduced_removed (suc n) ts r);
-    }
+neighbours_joint n ts r p = grind (arith, count_removed, reduced_nth, partners_of_pair, count_inserted, joint_there, removed_inserted, reduced_removed)

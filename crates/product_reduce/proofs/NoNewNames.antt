@@ -1,5 +1,5 @@
 -- Steps on a product bring no new name.
-use Rattle.std.proofs.Common.{◌≡◌, Bool, true, false, [], ◌++◌, refl, if◌then◌else◌, append_assoc}
+use Rattle.std.proofs.Common.{arith, ◌≡◌, Bool, true, false, [], ◌++◌, refl, if◌then◌else◌, append_assoc}
 use Rattle.product_reduce.proofs.Shared.{factors_of, one_fraction, is_number, is_opaque_exponent, base_of, is_num_one, Tree, num, mult, power, Trees, none, more, append, names, names_of, opened, others_in, coefficient_before, exponent_of, has_partner, first_partner, without_partner, joint, joined, Within, within_eq, within_same, within_trans, within_both, within_left, within_right, within_beside, within_none, names_of-append, names_permuted, number_names}
 use Rattle.product_reduce.proofs.Joined.{partner_first}
 
@@ -31,20 +31,10 @@ names_with_coefficient c ts h = by (is_num_one c)
 -- ---- joined factors
 
 names_of_base : (t : Tree) → Within (names t) (names (base_of t))
-names_of_base (power b e) = by (is_opaque_exponent e)
-  where
-    by : (k : Bool) → Within (names b ++ names e) (names (if k then power b e else b))
-    by true = within_same (names b ++ names e)
-    by false = within_left (names b) (names e)
-names_of_base t = within_same (names t)
+names_of_base t = grind (arith, within_same, within_left)
 
 names_of_exponent : (t : Tree) → Within (names t) (names (exponent_of t))
-names_of_exponent (power b e) = by (is_opaque_exponent e)
-  where
-    by : (k : Bool) → Within (names b ++ names e) (names (if k then num one_fraction else e))
-    by true = within_none (names b ++ names e)
-    by false = within_right (names b) (names e)
-names_of_exponent t = within_none (names t)
+names_of_exponent t = grind (arith, within_none, within_right)
 
 names_of_joint : (t u : Tree) → Within (names t ++ names u) (names (joint t u))
 names_of_joint t u =

@@ -1,5 +1,5 @@
 -- A product whose factors are opened and whose Numbers are one coefficient keeps its meanings.
-use Rattle.std.proofs.Common.{◌≡◌, Bool, true, false, refl, if◌then◌else◌, ap}
+use Rattle.std.proofs.Common.{arith, ◌≡◌, Bool, true, false, refl, if◌then◌else◌, ap}
 use Rattle.product_reduce.proofs.Shared.{factors_of, one_fraction, is_number, is_num_one, Same, Surd, Tree, num, mult, Trees, none, more, append, one_is, KeepsMeanings, KeepsMeanings-refl, KeepsMeanings-eq, KeepsMeanings-trans, KeepsMeanings-product_more, KeepsMeanings-product_append, nested_product, permuted_product, one_factor_of_product, product_parts, none_product, number_words, number_value, value_means, Same-trans, Same-sym, Same-surd_times, numbers_first, opened, numbers_in, others_in, product_of_values, IsCoefficient, coefficient_before}
 use Rattle.calc_algebra.specs.Meanings.{Assignment, IsAssignment, Means}
 use Rattle.calc_algebra.proofs.MeaningRewrites.{flat_product}
@@ -41,8 +41,4 @@ one_is_num (num q) h = ap num (one_is q h)
 one_is_num _ h = cc
 
 pub coefficient_in_front : (c : Tree) (ts : Trees) → KeepsMeanings (mult (more c ts)) (mult (coefficient_before c ts))
-coefficient_in_front c ts = by (is_num_one c) refl
-  where
-    by : (k : Bool) → is_num_one c ≡ k → KeepsMeanings (mult (more c ts)) (mult (if k then ts else append (factors_of c) ts))
-    by true e = KeepsMeanings-trans (KeepsMeanings-eq (ap (λ (x : Tree). mult (more x ts)) (one_is_num c e))) (one_factor_of_product ts)
-    by false e = first_opened c ts
+coefficient_in_front c ts = grind (arith, one_is_num, one_factor_of_product, first_opened)

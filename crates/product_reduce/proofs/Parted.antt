@@ -39,9 +39,7 @@ pub record AreOpened (i : ℕ) (old mid : State) : Type 0 where
 
 pub opens : {i : ℕ} {old mid : State} → Stands old → IsHanded i (forest old) → is_mult (tree_of i old) ≡ true → 1 ≤ count (factors_in i (forest old)) → are_reduced (factors_in i (forest old)) ≡ true → has_undef (factors_in i (forest old)) ≡ false
     → Stands mid → KeepsRefusals old mid → Becomes i (forest old) (forest mid) (opened (factors_in i (forest old))) → AreOpened i old mid
-opens so h m n r d sm k b =
-    let p = handed_product h m in
-    record { product = p; some = n; reduced = r; defined = d; stands = sm; becomes = b; factors = factors_are b.product; free = omega (arith, becomes_free so sm k p b, ap size p.tree) }
+opens h k m n r d l p b = grind (arith, becomes_free)
 
 pub reduced_now : {i : ℕ} {old mid : State} → AreOpened i old mid → are_reduced (factors_in i (forest mid)) ≡ true
 reduced_now {i = i} {old = old} o = ap are_reduced o.factors ∙ reduced_opened (factors_in i (forest old)) o.reduced o.defined
@@ -152,24 +150,17 @@ stop_alone : (c : Tree) (ts : Trees) (t : Tree) → ts ≡ none → IsStop c ts 
 stop_alone c ts t e (at_zero z is) = is
 stop_alone c ts t e (at_end z d h) = h.written.is ∙ ap (coefficient_times c) (permuted_none_is (permuted_lists ts h.written.us h.written.sorted.moved) e)
 
-no_pair : (ts : Trees) → ts ≡ none → have_partners ts ≡ true → ⊥
-no_pair ts e h = let d = ap have_partners e in cc
-
 pub answered : {i h : ℕ} {old now : State} (others : Forest) (v : PlainValue) (new : State) (r : Result Joining NumberFault) → AreParted i h old now → are_rationals (factors_in i (forest old)) ≡ true → IsPlainAnswer v (tree_of h now)
     → IfOk r (λ s. IfFinished s (λ g. Gives others (forest new) g (IsStop (tree_of h now) (factors_in i (forest now)))))
     → IfOk r (λ s. IfJoined s (λ g _. Gives others (forest new) g (IsOrdered (tree_of h now) (factors_in i (forest now)))))
     → (factors_in i (forest now) ≡ none → IfErr r (λ f. ⊥)) → AnswersRationalFactors v new r
-answered {i = i} {h = h} {old = old} {now = now} others v new (Ok (joining.Done g)) p q a d j n = subst (IsPlainAnswer v) (sym (stop_alone (tree_of h now) (factors_in i (forest now)) (tree_of g new) (p.factors ∙ none_beside (factors_in i (forest old)) q) (given_told d))) a
-answered {i = i} {h = h} {old = old} {now = now} others v new (Ok (joining.Joined g at)) p q a d j n = absurd (no_pair (factors_in i (forest now)) (p.factors ∙ none_beside (factors_in i (forest old)) q) (given_told j).partners)
-answered {i = i} {h = h} {old = old} {now = now} others v new (Err f) p q a d j n = absurd (n (p.factors ∙ none_beside (factors_in i (forest old)) q))
+answered others v new r p q a d j n = grind (arith, stop_alone, none_beside, given_told)
 
 pub step_answered : {i h : ℕ} {old now : State} (others : Forest) (v : PlainValue) (new : State) (r : Result Step NumberFault) → AreParted i h old now → are_rationals (factors_in i (forest old)) ≡ true → IsPlainAnswer v (tree_of h now)
     → IfOk r (λ s. IfDone s (λ g. Gives others (forest new) g (IsStop (tree_of h now) (factors_in i (forest now)))))
     → IfOk r (λ s. IfAgain s (λ g. Gives others (forest new) g (IsRejoined (tree_of h now) (factors_in i (forest now)))))
     → (factors_in i (forest now) ≡ none → IfErr r (λ f. ⊥)) → AnswersRationalStep v new r
-step_answered {i = i} {h = h} {old = old} {now = now} others v new (Ok (step.Done g)) p q a d j n = subst (IsPlainAnswer v) (sym (stop_alone (tree_of h now) (factors_in i (forest now)) (tree_of g new) (p.factors ∙ none_beside (factors_in i (forest old)) q) (given_told d))) a
-step_answered {i = i} {h = h} {old = old} {now = now} others v new (Ok (step.Again g)) p q a d j n = absurd (no_pair (factors_in i (forest now)) (p.factors ∙ none_beside (factors_in i (forest old)) q) (given_told j).partners)
-step_answered {i = i} {h = h} {old = old} {now = now} others v new (Err f) p q a d j n = absurd (n (p.factors ∙ none_beside (factors_in i (forest old)) q))
+step_answered others v new r p q a d j n = grind (arith, stop_alone, none_beside, given_told)
 
 refused_words : (v : PlainValue) (new : State) (e : NumberFault) → AnswersRationals v new (Err e) → AnswersRationalFactors v new (Err e)
 refused_words v new (fault.Full full) h = h

@@ -55,9 +55,7 @@ product_children {i = i} st h = ap children_of (plain_root i st h.handed.root �
 
 -- the parts of a product are held once
 pub product_once : {i : ℕ} {s : State} {ts : Trees} (n : ℕ) → Stands s → IsProduct i (forest s) ts → n < count ts → root_count (tree_nth n (kids_of i (forest s))) ≡ 1
-product_once {i = i} {s = s} n st h l =
-    let k = kids (root_tree i (forest s)) in
-    subst (λ (x : Forest). root_count (tree_nth n x) ≡ 1) (sym (kids_of_root i st h.handed.root)) (once_count (tree_nth n k) (arity-tree_nth n k (rw (product_arity h) l)) (all-tree_nth IsOnce n k (product_kids h).once))
+product_once n h k l = grind (arith, kids_of_root, once_count, arity-tree_nth, product_arity, all-tree_nth)
 
 pub becomes_merged : {i : ℕ} {f g : Forest} {ts : Trees} (n : ℕ) → IsProduct i f ts → n < count ts → g ≡ put i (merged_nth n (kids (root_tree i f))) f → Becomes i f g (inserted n (children_of (nth n ts)) (removed n ts))
 becomes_merged n h l e = becomes_put h (represents_merged n (rw (product_arity h) l) (product_kids h)) e

@@ -115,6 +115,4 @@ next_fits ts us d h l b a few s =
 -- ---- rationals
 
 pub total_answer : (v w : PlainValue) (new : State) (r : Result ℕ NumberFault) → v ≡ w → AnswersTotal w new r → AnswersRationals v new r
-total_answer v w new (Ok h) e t = subst (λ (x : PlainValue). IsPlainAnswer x (tree_of h new)) (sym (e ∙ t.plain)) t.is
-total_answer v w new (Err (fault.Full full)) e t = t
-total_answer v w new (Err (fault.Overflow o)) e t = subst (λ (x : PlainValue). IsPlainOverflow x o) (sym e) t
+total_answer v w new r e t = grind arith

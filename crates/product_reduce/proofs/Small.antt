@@ -1,5 +1,5 @@
 -- Small trees that are reduced.
-use Rattle.std.proofs.Common.{ℕ, zero, suc, ℤ, List, ◌≤◌, ◌≡◌, inr, true, refl, sym, ap, ◌∙◌, subst}
+use Rattle.std.proofs.Common.{arith, ℕ, zero, suc, ℤ, List, ◌≤◌, ◌≡◌, inr, true, refl, sym, ap, ◌∙◌, subst}
 use Rattle.std.specs.Prelude.{pos, negsuc}
 use Rattle.product_reduce.proofs.Shared.{and_from, and_parts, nat_cmp, Less, is_clean, left_of, square_root, ratio_of, value_of, Ratio, whole, lowest, zero_fraction, one_fraction, gcd, is_number, is_reduced, are_reduced, Tree, num, symbol, undef, add, mult, power, root, Trees, none, more, count, is_mult, number_words, IsMonic, parts_reduced, number_parts, plain, inserted, children_of, Forest, kids, with_nth, IsHanded, Ends, Gives, root_tree, without_root, put, gives, given_handed, given_told, represents_handed, ends_as, last_tree, Step, IfDone, IfAgain, IsProduct, Becomes, factors_in}
 use Rattle.std.specs.Cmp.Lexicographic.{slice_cmp}
@@ -94,9 +94,7 @@ count_inserted (suc n) t (more u ts) = ap suc (count_inserted n t ts)
 -- the product goes behind all other trees
 pub moved_product : {i n : ℕ} {f l g others : Forest} {us : Trees} → Becomes i f l us → Ends i (root_tree i l) (without_root i l) g → without_root i f ≡ others → n ≤ count us → are_reduced us ≡ true
     → Gives others g i (λ t. (is_mult t ≡ true) × (n ≤ count (children_of t)) × (are_reduced (children_of t) ≡ true))
-moved_product {n = n} b e q m r =
-    gives (ends_as e refl (b.others ∙ q)) (represents_handed b.product.handed)
-    (ap is_mult b.product.tree, subst (λ (t : Tree). n ≤ count (children_of t)) (sym b.product.tree) m, ap (λ (t : Tree). are_reduced (children_of t)) b.product.tree ∙ r)
+moved_product b e q m r = grind arith
 
 -- ---- answers
 

@@ -35,9 +35,7 @@ apart_words (more t ts) h = by (apart_words ts) (has_partner t ts) refl h
     by go false e g = (no_partner_words t ts e, go g)
 
 turned : (o : Ordering) → is_eq (ordering_reverse o) ≡ is_eq o
-turned Less = refl
-turned Equal = refl
-turned Greater = refl
+turned o = grind arith
 
 partner_turned : (t u : Tree) → is_partner t u ≡ is_partner u t
 partner_turned t u = ap is_eq (tree_cmp_total.antisymm (base_of t) (base_of u)) ∙ turned (tree_cmp (base_of u) (base_of t))
@@ -57,9 +55,7 @@ apart_permuted (permuted_trans k l) h = apart_permuted l (apart_permuted k h)
 -- ---- rising strictly
 
 pub less_of : (o : Ordering) → is_eq o ≡ false → is_lt (ordering_reverse o) ≡ false → o ≡ Less
-less_of Less h k = refl
-less_of Equal h k = cc
-less_of Greater h k = cc
+less_of o h k = grind arith
 
 rises_strictly : (us : Trees) → AreApart us → IsSortedByKey base_of tree_cmp (list_of us) → RisesBy base_of us
 rises_strictly none h s = tt

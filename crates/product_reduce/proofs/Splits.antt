@@ -20,16 +20,7 @@ record IsOpaque (t : Tree) : Type 0 where
   exponent : exponent_of t ≡ num_one
 
 opaque : (t : Tree) → is_transparent_power t ≡ false → IsOpaque t
-opaque (power b e) h = let o = not-false (is_opaque_exponent e) h in record { base = ap (λ (k : Bool). if k then power b e else b) o; exponent = ap (λ (k : Bool). if k then num_one else e) o }
-opaque (num q) h = record { base = refl; exponent = refl }
-opaque (symbol x) h = record { base = refl; exponent = refl }
-opaque undef h = record { base = refl; exponent = refl }
-opaque (add ts) h = record { base = refl; exponent = refl }
-opaque (mult ts) h = record { base = refl; exponent = refl }
-opaque (root a) h = record { base = refl; exponent = refl }
-opaque (neg a) h = record { base = refl; exponent = refl }
-opaque (sub a b) h = record { base = refl; exponent = refl }
-opaque (div a b) h = record { base = refl; exponent = refl }
+opaque t h = grind arith
 
 -- ---- a root that keeps fewer children
 

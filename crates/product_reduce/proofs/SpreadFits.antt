@@ -130,16 +130,7 @@ rest_low : (d i n l : ℕ) → d * 2 ^ (i + n) ≤ 2 ^ l → d * 2 ^ n ≤ 2 ^ l
 rest_low d i n l h = let x : 2 ^ n ≤ 2 ^ (i + n) = pow-le-pow_right {n = 2} (omega arith) (omega arith) in let y : d * 2 ^ n ≤ d * 2 ^ (i + n) = mul-le d (2 ^ n) d (2 ^ (i + n)) (omega arith) x in omega arith
 
 rest_held : (v : Surd) (p i : ℕ) (ws : List Weighted) (h l : ℕ) → AreHeld (weighted v p i ∷ ws) h l → AreHeld ws h l
-rest_held v p i ws h l a = record {
-  denominator = a.denominator;
-  positive = a.positive;
-  parts = a.parts.1;
-  low = rest_low a.denominator i (lows ws) l a.low;
-  scale = a.scale;
-  scale_positive = a.scale_positive;
-  scaled = a.scaled.1;
-  high = let x : mass a.scale v * 2 ^ p + weighted_mass a.scale ws ≤ a.scale * 2 ^ h = a.high in omega arith;
-}
+rest_held v p i ws h l a = grind (arith, rest_low)
 
 term_in : (q c : Fraction) (v : Surd) (h l : ℕ) → HasIn c v → IsHeld (surd_times (surd_of q) v) h l → HoldsTerm q c h l
 term_in q c [] h l k a = elim k [ ]
@@ -186,6 +177,4 @@ none_spreads ts e o h l r d a few k x n = by e x.sum x.named (subst AreOthers x.
 -- a refusal for it is none
 pub no_spreading : {A : Type 0} (r : Result A NumberFault) (new : State) (ts : Trees) (e : Tree) (h l : ℕ) → are_reduced ts ≡ true → has_undef ts ≡ false → AreFactorsHeld ts h l → 2 * h + 4 * l ≤ 124
     → IsCoefficient e (opened ts) → IfErr r (OfOverflow (SpreadingOverflows e (others_in (opened ts)))) → IfErr r (IsCaused new) → IfErr r (OfOverflow (λ o. ⊥))
-no_spreading (Ok x) new ts e h l r d a few k s n = tt
-no_spreading (Err (fault.Full full)) new ts e h l r d a few k s n = tt
-no_spreading (Err (fault.Overflow o)) new ts e h l r d a few k s n = none_spreads ts e o h l r d a few k s n
+no_spreading r new ts e h l k d a m n s p = grind (arith, none_spreads)

@@ -1,5 +1,5 @@
 -- From the handed product to its other factors, and from one answer to another.
-use Rattle.std.proofs.Common.{ℕ, ◌≡◌, ◌||◌, Result, Ok, Err, Bool, true, false, refl, ap, ◌∙◌}
+use Rattle.std.proofs.Common.{arith, ℕ, ◌≡◌, ◌||◌, Result, Ok, Err, Bool, true, false, refl, ap, ◌∙◌}
 use Rattle.std.specs.Prelude.{IfOk}
 use Rattle.product_reduce.proofs.Shared.{and_from, Tree, mult, Trees, none, more, is_mult, has_undef, are_rationals, are_reduced, NumberFault, plain, children_of, Forest, IsHanded, root_tree, Joining, Step, IfDone, IfAgain, AreOthers, IfFinished, IfJoined, IfGathered, opened, others_in, IsProduct, factors_in}
 use Rattle.product_reduce.proofs.Finished.{formed_defined, formed_reduced, reduced_formed, opened_rationals, rationals_alone}
@@ -25,10 +25,7 @@ formed_others (more t ts) h =
     (and_from _ _ (formed_reduced t h.0) a, ap (λ (k : Bool). k || has_undef ts) (formed_defined t h.0) ∙ b)
 
 pub others_are : (ts : Trees) → are_reduced ts ≡ true → has_undef ts ≡ false → AreOthers (others_in (opened ts))
-others_are ts r d =
-    let f = reduced_formed ts r d in
-    let (a, b) = formed_others (others_in (opened ts)) (others_formed (opened ts) (opened_formed ts f)) in
-    record { reduced = a; defined = b; no_number = others_no_numbers (opened ts); no_product = others_none is_mult (opened ts) (opened_flat ts f) }
+others_are ts r d = grind (arith, reduced_formed, formed_others, others_formed, opened_formed, others_no_numbers, others_none, opened_flat)
 
 -- the opened rationals are the rationals
 pub opened_value : (ts us : Trees) → are_rationals ts ≡ true → us ≡ opened ts → us ≡ ts
@@ -40,27 +37,17 @@ none_beside ts r = ap others_in (opened_rationals ts r) ∙ rationals_alone ts r
 -- ---- what is made of the product, in other words
 
 pub finished_map : {P Q : ℕ → Type 0} (r : Result Joining NumberFault) → IfOk r (λ s. IfFinished s P) → ((h : ℕ) → P h → Q h) → IfOk r (λ s. IfFinished s Q)
-finished_map (Ok (joining.Done h)) p f = f h p
-finished_map (Ok (joining.Joined h at)) p f = tt
-finished_map (Err e) p f = tt
+finished_map r p f = grind arith
 
 pub joined_map : {P Q : ℕ → ℕ → Type 0} (r : Result Joining NumberFault) → IfOk r (λ s. IfJoined s P) → ((h at : ℕ) → P h at → Q h at) → IfOk r (λ s. IfJoined s Q)
-joined_map (Ok (joining.Done h)) p f = tt
-joined_map (Ok (joining.Joined h at)) p f = f h at p
-joined_map (Err e) p f = tt
+joined_map r p f = grind arith
 
 pub both_map : {P : ℕ → Type 0} {Q : ℕ → ℕ → Type 0} {R : ℕ → Type 0} (r : Result Joining NumberFault) → IfOk r (λ s. IfFinished s P) → IfOk r (λ s. IfJoined s Q) → ((h : ℕ) → P h → R h) → ((h at : ℕ) → Q h at → R h)
     → IfOk r (λ s. IfGathered s R)
-both_map (Ok (joining.Done h)) p q f g = f h p
-both_map (Ok (joining.Joined h at)) p q f g = g h at q
-both_map (Err e) p q f g = tt
+both_map r p q f g = grind arith
 
 pub done_map : {P Q : ℕ → Type 0} (r : Result Step NumberFault) → IfOk r (λ s. IfDone s P) → ((h : ℕ) → P h → Q h) → IfOk r (λ s. IfDone s Q)
-done_map (Ok (step.Done h)) p f = f h p
-done_map (Ok (step.Again h)) p f = tt
-done_map (Err e) p f = tt
+done_map r p f = grind arith
 
 pub again_map : {P Q : ℕ → Type 0} (r : Result Step NumberFault) → IfOk r (λ s. IfAgain s P) → ((h : ℕ) → P h → Q h) → IfOk r (λ s. IfAgain s Q)
-again_map (Ok (step.Done h)) p f = tt
-again_map (Ok (step.Again h)) p f = f h p
-again_map (Err e) p f = tt
+again_map r p f = grind arith
