@@ -1,6 +1,6 @@
 -- The addends of terms, of multiples of terms, and of sums.
 use Rattle.std.proofs.Common.{◌≡◌, ◌≢◌, ◌≤◌, ◌⊎◌, inl, inr, [], ◌∷◌, Bool, true, false, if◌then◌else◌, refl, sym, ap, ◌∙◌, subst, arith, append-nil, map, one-mul}
-use Rattle.sum_reduce.proofs.Shared.{last_parts, Fraction, times, zero_fraction, one_fraction, is_one_fraction, zero_test, one_is, Tree, num, add, mult, root, Trees, none, more, append, count, is_add, AllParts, AllPartsOf, IsNumber, AreTerms, is_number, is_term, natural_of, terms_of, value, Split, split_product, num_one, product_tree, part_of, number_terms, other_terms, HasForm, NoneIs, IsProductForm, IsSumForm, Surd, term, surd_of, surd_one, surd_scale, term_times, surd_times, one_not_zero, number_test, term_words, has_coefficient, coefficient_of, factors_of, spliced, IsMonic, mapped, rational_times_number, rational_times_sum, rational_times_term, leading_factors, product_form_of, AreFactors, factors_monic, factors_of_tree, monic_coefficient, monic_factors, monic_part, monic_parts, monic_no_number, no_split, none_leads, spliced_split, parts_reduced, IsFactor, not_one_is, number_scaled, terms-scaled, times_one, number_term, multiple, distributed, Addend, addend, addend_of, addends, addends_of}
+use Rattle.sum_reduce.proofs.Shared.{last_parts, Fraction, times, zero_fraction, one_fraction, is_one_fraction, zero_test, one_is, Tree, num, add, mult, root, Trees, none, more, append, count, is_add, AllParts, AllPartsOf, IsNumber, AreTerms, is_number, is_term, natural_of, terms_of, value, Split, split_product, num_one, product_tree, part_of, number_terms, other_terms, HasForm, NoneIs, IsProductForm, IsSumForm, Surd, term, surd_of, surd_one, surd_scale, term_times, surd_times, one_not_zero, number_test, term_words, has_coefficient, coefficient_of, factors_of, spliced, IsMonic, mapped, rational_times_number, rational_times_sum, rational_times_term, leading_factors, product_form_of, AreFactors, factors_monic, factors_of_tree, monic_coefficient, monic_part, monic_parts, monic_no_number, no_split, none_leads, spliced_split, IsFactor, not_one_is, number_scaled, terms-scaled, times_one, number_term, multiple, distributed, Addend, addend, addend_of, addends, addends_of}
 use Rattle.calc_algebra.proofs.InverseLaws.{product_not_zero}
 use Rattle.coefficients.proofs.Splits.{IsCoefficient, Leads, in_front}
 use Rattle.sum_reduce.proofs.WrittenSums.{number_terms-terms, other_terms-terms}
@@ -18,14 +18,7 @@ rational_value q h = ap (λ (b : Bool). if b then [] else surd_of q) (zero_test 
 
 -- the factors of a product's part are those behind its coefficient
 factors_behind : (ts : Trees) → AllParts HasForm (mult ts) → is_number (mult ts) ≡ false → factors_of (product_tree (split_product ts).factors) ≡ (split_product ts).factors
-factors_behind ts h n =
-    let f = product_form_of ts h n in
-    elim (in_front ts f.no_product f.front) [
-      | inl k ↦
-          let m : IsMonic (mult ts) = record { reduced = parts_reduced (mult ts) h; defined = refl; no_coefficient = k } in
-          subst (λ (s : Split). factors_of (product_tree s.factors) ≡ s.factors) (sym (no_split ts k)) (factors_of_tree ts (monic_factors (mult ts) m))
-      | inr l ↦ subst (λ (s : Split). factors_of (product_tree s.factors) ≡ s.factors) (sym l.is) (factors_of_tree l.factors (leading_factors ts l h n f))
-    ]
+factors_behind ts h n = grind (arith, product_form_of, in_front, no_split, factors_of_tree, leading_factors)
 
 addend_is : (t : Tree) → AllParts HasForm t → is_number t ≡ false → addend_of t ≡ addend (value (coefficient_of t)) (factors_of (part_of t))
 addend_is (mult ts) h n = ap (addend (value (split_product ts).coefficient)) (sym (factors_behind ts h n))
@@ -39,10 +32,7 @@ pub term_addends : (t : Tree) → AllParts HasForm t → is_number t ≡ false �
 term_addends t h n s = one_addend t n s ∙ ap (λ (a : Addend). a ∷ []) (addend_is t h n)
 
 pub monic_addends : (p : Tree) → IsMonic p → is_add p ≡ false → addends p ≡ addend surd_one (factors_of p) ∷ []
-monic_addends p m s =
-    term_addends p (monic_parts p m) (monic_no_number p m) s
-    ∙ (λ i. addend (value (monic_coefficient p m i)) (factors_of (monic_part p m i)) ∷ [])
-    ∙ ap (λ (v : Surd). addend v (factors_of p) ∷ []) one_value
+monic_addends p m s = grind (arith, term_addends, monic_parts, monic_no_number, monic_coefficient, monic_part, one_value)
 
 pub spliced_addends : (c p : Tree) → IsNumber c → IsMonic p → is_number (spliced c p) ≡ false → addends (spliced c p) ≡ addend (value c) (factors_of p) ∷ []
 spliced_addends c p k m n =
@@ -158,9 +148,7 @@ module _ (q : Fraction) (f : IsFactor q) where
 
   unled : (ts : Trees) → has_coefficient ts ≡ false → rational_times_term q (mult ts) ≡ mult (more (num q) ts)
   unfolding is_number
-  unled (more (num c) ts) h = absurd (clash h)
-  unled (more (add us) ts) h = ap (λ (b : Bool). if b then mult (more (rational_times_number q us) ts) else mult (more (num q) (more (add us) ts))) h
-  unled ts h = refl
+  unled ts h = grind arith
 
   product_times : (ts : Trees) → AllParts HasForm (mult ts) → is_number (mult ts) ≡ false → IsProductForm ts → (has_coefficient ts ≡ false) ⊎ Leads ts
       → IsTimes (rational_times_term q (mult ts)) (value (split_product ts).coefficient)
@@ -209,11 +197,4 @@ module _ (q : Fraction) (f : IsFactor q) where
   all_multiples (more t ts) h n s = λ i. one_multiple t h.0 n.0 s.0 i ∷ all_multiples ts h.1 n.1 s.1 i
 
   pub multiple_addends : (ts : Trees) → IsSplit ts → addends (rational_times_sum q ts) ≡ distributed (surd_of q) (addends (add ts))
-  multiple_addends ts x =
-      let ns = x.numbers in
-      let os = x.others in
-      ap (λ (us : Trees). addends (rational_times_sum q us)) x.whole ∙ ap (λ (us : Trees). addends (add us)) (mapped_both ns os)
-      ∙ sum_addends (mapped (rational_times_term q) ns) (mapped (rational_times_term q) os) (number_multiples ns x.terms) (other_multiples os x.formed x.no_number x.no_sum)
-      ∙ (λ i. addend ((terms_multiples ns x.terms ∙ sym (surd_multiple q (terms_of ns))) i) none ∷ all_multiples os x.formed x.no_number x.no_sum i)
-      ∙ ap (distributed (surd_of q)) (sym (sum_addends ns os x.terms x.no_number))
-      ∙ ap (λ (us : Trees). distributed (surd_of q) (addends (add us))) (sym x.whole)
+  multiple_addends ts x = grind (arith, mapped_both, sum_addends, number_multiples, other_multiples, terms_multiples, surd_multiple, all_multiples)

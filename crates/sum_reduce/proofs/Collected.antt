@@ -1,7 +1,7 @@
 -- What is answered for terms no two of which have identical parts.
 use Rattle.std.specs.Prelude.{IsPermutation}
-use Rattle.std.proofs.Common.{◌≤◌, ◌≡◌, [], length, Bool, true, if◌then◌else◌, inl, inr, refl, sym, ap, ◌∙◌, subst, arith, append-nil}
-use Rattle.sum_reduce.proofs.Shared.{append_none, number_in, number_out, no_numbers_others, no_numbers_none, zero_fraction, is_number, value, terms_of, NoneIs, Same, Tree, num, add, Trees, none, more, append, count, number_test, number_words, AsNumber, as_number, Same-Agree, Agree-trans, Agree-eq, Agree-Same, list_of, IsLead, IsSettled, numbers_in, others_in, sum_of_values, AreUnlike, IsTotalNumber, IsWrittenSum, IsStage, IsCollected, opened, terms_of_number, sum_tree, written_tree}
+use Rattle.std.proofs.Common.{◌≤◌, ◌≡◌, [], length, true, inl, inr, refl, sym, ap, ◌∙◌, subst, arith, append-nil}
+use Rattle.sum_reduce.proofs.Shared.{append_none, no_numbers_others, no_numbers_none, zero_fraction, is_number, value, terms_of, NoneIs, Same, Tree, num, add, Trees, none, more, append, count, number_test, number_words, AsNumber, as_number, list_of, IsLead, IsSettled, numbers_in, others_in, sum_of_values, AreUnlike, IsTotalNumber, IsWrittenSum, IsStage, IsCollected, opened, terms_of_number, sum_tree, written_tree}
 use Rattle.sum_reduce.proofs.Orders.{arranged_flat}
 use Rattle.sum_reduce.proofs.Rearranged.{tight_opened}
 use Rattle.sum_reduce.proofs.WrittenSums.{zero_terms, term_in}
@@ -9,9 +9,7 @@ use Rattle.sum_reduce.proofs.WrittenSums.{zero_terms, term_in}
 -- ---- a Number alone
 
 two_tree : (ts : Trees) → 2 ≤ length (terms_of ts) → sum_tree ts ≡ add ts
-two_tree none h = absurd (omega arith)
-two_tree (more t none) h = absurd (omega arith)
-two_tree (more t (more u ts)) h = refl
+two_tree ts h = grind arith
 
 number_alone : (m : Tree) → is_number m ≡ true → m ≡ sum_tree (append (terms_of_number m) none)
 number_alone m h = by (as_number m (number_words m h))
@@ -30,25 +28,14 @@ lead_number (more m ts) = m
 
 written_led : (lead os : Trees) → IsLead lead → NoneIs is_number os → written_tree (append lead os) ≡ sum_tree (append (terms_of_number (lead_number lead)) os)
 unfolding lead_number
-written_led none none l n = sym (ap (λ (x : Trees). sum_tree (append x none)) (zero_terms (num zero_fraction) refl))
-written_led none (more t none) l n = sym (ap (λ (x : Trees). sum_tree (append x (more t none))) (zero_terms (num zero_fraction) refl))
-written_led none (more t (more u os)) l n =
-    ap (λ (b : Bool). if b then sum_tree (append (terms_of_number t) (more u os)) else sum_tree (more t (more u os))) n.0
-    ∙ sym (ap (λ (x : Trees). sum_tree (append x (more t (more u os)))) (zero_terms (num zero_fraction) refl))
-written_led (more m none) none l n = number_alone m l
-written_led (more m none) (more o os) l n = ap (λ (b : Bool). if b then sum_tree (append (terms_of_number m) (more o os)) else sum_tree (more m (more o os))) l
-written_led (more m (more k ks)) os l n = absurd l
+written_led lead os l n = grind (arith, zero_terms, number_alone)
 
 -- the Numbers among them, and the others
 lead_numbers : (lead os : Trees) → IsLead lead → NoneIs is_number os → numbers_in (append lead os) ≡ lead
-lead_numbers none os l n = no_numbers_none os n
-lead_numbers (more m none) os l n = number_in m os l ∙ ap (more m) (no_numbers_none os n)
-lead_numbers (more m (more k ks)) os l n = absurd l
+lead_numbers lead os l n = grind (arith, no_numbers_none)
 
 lead_others : (lead os : Trees) → IsLead lead → NoneIs is_number os → others_in (append lead os) ≡ os
-lead_others none os l n = no_numbers_others os n
-lead_others (more m none) os l n = number_out m os l ∙ no_numbers_others os n
-lead_others (more m (more k ks)) os l n = absurd l
+lead_others lead os l n = grind (arith, no_numbers_others)
 
 zero_value : value (num zero_fraction) ≡ []
 zero_value = by (as_number (num zero_fraction) tt)
@@ -66,18 +53,11 @@ lead_worth (more m (more k ks)) l = absurd l
 
 lead_is : (lead : Trees) → IsLead lead → is_number (lead_number lead) ≡ true
 unfolding lead_number
-lead_is none l = number_test (num zero_fraction) tt
-lead_is (more m none) l = l
-lead_is (more m (more k ks)) l = absurd l
+lead_is lead l = grind (arith, number_test)
 
 total : (ts lead : Trees) → IsLead lead → Same (sum_of_values lead) (sum_of_values (numbers_in ts)) → (count (numbers_in ts) ≤ 1 → lead ≡ numbers_in ts) → IsTotalNumber (lead_number lead) ts
 unfolding lead_number
-total ts lead l w f = record {
-  number = lead_is lead l;
-  worth = Agree-Same (Agree-trans (Agree-eq (lead_worth lead l)) (Same-Agree w));
-  absent = λ e. ap lead_number (f (omega (arith, ap count e)) ∙ e);
-  single = λ m e. ap lead_number (f (omega (arith, ap count e)) ∙ e);
-}
+total ts lead l w f = grind (arith, lead_is, lead_worth)
 
 -- ---- settled terms
 

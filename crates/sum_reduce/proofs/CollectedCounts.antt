@@ -54,11 +54,7 @@ factors_counted (mult ts) = omega arith
 factors_counted p = omega (arith, counted_at_most p, counts_one p)
 
 number_factors : (c : Tree) → IsNumber c → counted_among (factors_of c) ≡ 0
-number_factors (num q) h = counted_number (num q) none (number_test (num q) tt)
-number_factors (add ts) h = counted_number (add ts) none (number_test (add ts) h)
-number_factors (root a) h = counted_number (root a) none (number_test (root a) h)
-number_factors (mult (more (num q) (more (root (num r)) none))) h = counted_number (num q) (more (root (num r)) none) (number_test (num q) tt) ∙ counted_number (root (num r)) none (number_test (root (num r)) h.2)
-number_factors c h = absurd h
+number_factors c h = grind (arith, number_test)
 
 spliced_counted : (c p : Tree) → IsNumber c → counted (spliced c p) ≤ counted p
 spliced_counted c p h = omega (arith, appended (factors_of c) (factors_of p), number_factors c h, factors_counted p)
@@ -81,15 +77,7 @@ put_counted c p h m = omega (arith, counted_at_most (spliced c p), spliced_count
 -- ---- terms
 
 loose_counted : (t : Tree) → counted_among (terms_of_loose t) ≤ counted_in t
-loose_counted (add ts) = by (is_number (add ts)) refl
-  where
-    by : (b : Bool) → is_number (add ts) ≡ b → counted_among (if b then more (add ts) none else ts) ≤ (if b then 0 else suc (counted_among ts))
-    by true e = omega (arith, counted_number (add ts) none e)
-    by false e = omega arith
-loose_counted t = alone (counted_in t)
-  where
-    alone : (n : ℕ) → n + 0 ≤ n
-    alone n = omega arith
+loose_counted t = grind arith
 
 opened_counted : (ts : Trees) → counted_among (opened ts) ≤ counted_among ts
 opened_counted none = omega arith
@@ -131,27 +119,13 @@ collected_counts (collects_then {ts} {us} {vs} k l) h = omega (arith, collected_
 -- ---- the tree of terms
 
 number_terms_counted : (t : Tree) → IsNumber t → counted_among (terms_of_number t) ≡ 0
-number_terms_counted (num q) h = by (is_zero_fraction q)
-  where
-    by : (b : Bool) → counted_among (if b then none else more (num q) none) ≡ 0
-    by true = refl
-    by false = counted_number (num q) none (number_test (num q) tt)
-number_terms_counted (add ts) h = none_counted ts h.1
-number_terms_counted (root a) h = counted_number (root a) none (number_test (root a) h)
-number_terms_counted (mult ts) h = counted_number (mult ts) none (number_test (mult ts) h)
-number_terms_counted t h = absurd h
+number_terms_counted t h = grind (arith, number_test, none_counted)
 
 tree_counted : (t : Tree) → counted t ≤ suc (counted_in t)
-tree_counted t = by (is_number t) refl
-  where
-    by : (b : Bool) → is_number t ≡ b → counted t ≤ suc (if b then 0 else counted t)
-    by true e = omega (arith, number_counts t (number_words t e))
-    by false e = omega arith
+tree_counted t = grind (arith, number_counts, number_words)
 
 sum_tree_counted : (ts : Trees) → counted (sum_tree ts) ≤ suc (counted_among ts)
-sum_tree_counted none = omega arith
-sum_tree_counted (more t none) = omega (arith, tree_counted t)
-sum_tree_counted (more t (more u ts)) = omega arith
+sum_tree_counted ts = grind (arith, tree_counted)
 
 led_number : (t : Tree) (ts : Trees) → leads_number (more t ts) ≡ true → is_number t ≡ true
 led_number t none h = cc

@@ -1,6 +1,6 @@
 -- Exponents that count their bases are collected to exponents that count them no more often.
-use Rattle.std.proofs.Common.{◌≡◌, ℕ, ◌≤◌, ◌<◌, ◌++◌, [], length, ℤ, pos, ◌+ℤ◌, ◌*ℤ◌, Bool, true, false, ◌&&◌, ◌==◌, if◌then◌else◌, refl, sym, ap, ◌∙◌, subst, arith}
-use Rattle.sum_reduce.proofs.Shared.{first_parts, and_parts, and_from, eqb-true, Fraction, lowest, lowest_parts, times, whole_fraction, zero_fraction, one_fraction, is_zero_fraction, is_one_fraction, zero_is, one_is, whole_denominator, whole_numerator, Tree, num, symbol, undef, add, mult, root, Trees, none, more, append, count, is_add, has_undef, AllPartsOf, IsNumber, IsTerm, AreTerms, Rises, is_number, term_of, terms_of, value, NoneIs, HasForm, part_of, product_tree, Same, surd_of, Permuted, permuted_none, permuted_more, permuted_swap, permuted_trans, number_rational, number_words, Same-trans, coefficient_of, rational_before, with_coefficient, IsMonic, mapped, rational_times_term, monic_sum, monic_no_number, IsNumberOf, AreLike, sum_of_coefficients, Collects, collects_opened, collects_ordered, collects_numbers, collects_like, collects_then, terms_of_loose, opened, terms_of_number, sum_tree, leads_number, written_tree, Counts, counts, added, is_counted, are_counted, counts_of, counts_of_all, IsWithin}
+use Rattle.std.proofs.Common.{◌≡◌, ℕ, ◌≤◌, ◌++◌, [], ℤ, pos, ◌+ℤ◌, ◌*ℤ◌, Bool, true, false, ◌&&◌, ◌==◌, if◌then◌else◌, refl, sym, ap, ◌∙◌, subst, arith}
+use Rattle.sum_reduce.proofs.Shared.{first_parts, and_parts, and_from, eqb-true, Fraction, lowest, lowest_parts, times, whole_fraction, zero_fraction, one_fraction, is_zero_fraction, is_one_fraction, zero_is, one_is, whole_denominator, whole_numerator, Tree, num, symbol, undef, add, mult, Trees, none, more, append, count, is_add, has_undef, AllPartsOf, IsNumber, is_number, value, NoneIs, HasForm, part_of, product_tree, Same, surd_of, Permuted, permuted_none, permuted_more, permuted_swap, permuted_trans, number_rational, number_words, Same-trans, coefficient_of, rational_before, with_coefficient, IsMonic, mapped, rational_times_term, monic_sum, monic_no_number, IsNumberOf, AreLike, sum_of_coefficients, Collects, collects_opened, collects_ordered, collects_numbers, collects_like, collects_then, terms_of_loose, opened, terms_of_number, sum_tree, leads_number, written_tree, Counts, counts, added, is_counted, are_counted, counts_of, counts_of_all, IsWithin}
 use Rattle.calc_algebra.proofs.ExponentLaws.{whole_plus, whole_times}
 use Rattle.calc_algebra.proofs.MeaningLaws.{Same-sym}
 use Rattle.calc_algebra.proofs.TermLaws.{joined_radicand, Same-append, Same-eq, Same-refl, zero_term}
@@ -105,31 +105,12 @@ unclear e = cc
 
 -- ---- two Numbers
 
-rational_radicand : (t : Tree) → IsTerm t → is_counted t ≡ true → (term_of t).radicand ≡ 1
-rational_radicand (num q) h k = refl
-rational_radicand (root (num r)) h k = absurd (unclear k)
-rational_radicand (mult (more (num q) (more (root (num r)) none))) h k = absurd (unclear ((and_parts (q.den == 1) false k).1))
-rational_radicand t h k = absurd h
-
 pub record IsWhole (t : Tree) : Type 0 where
   pub z : ℤ
   pub is : t ≡ num (whole_fraction z)
 
-one_class : (ts : Trees) → AreTerms ts → Rises (terms_of ts) → 2 ≤ length (terms_of ts) → are_counted ts ≡ true → ⊥
-one_class none a r l h = absurd (omega arith)
-one_class (more t none) a r l h = absurd (omega arith)
-one_class (more t (more u ts)) a r l h =
-    let (x, y) = and_parts (is_counted t) (is_counted u && are_counted ts) h in
-    let (z, w) = and_parts (is_counted u) (are_counted ts) y in
-    let below : (term_of t).radicand < (term_of u).radicand = r.0.0 in
-    absurd (omega (arith, below, rational_radicand t a.0 x, rational_radicand u a.1.0 z))
-
 pub whole_number : (t : Tree) → IsNumber t → is_counted t ≡ true → IsWhole t
-whole_number (num q) h k = record { z = q.num; is = ap num (whole_of q k) }
-whole_number (add ts) h k = absurd (one_class ts h.1 h.2 h.0 k)
-whole_number (root a) h k = absurd (unclear k)
-whole_number (mult (more (num q) (more (root (num r)) none))) h k = absurd (unclear ((and_parts (q.den == 1) false k).1))
-whole_number t h k = absurd h
+whole_number t h k = grind (arith, whole_of)
 
 -- what is the whole number z
 pub as_whole : (n : Tree) (z : ℤ) → is_number n ≡ true → Same (value n) (surd_of (whole_fraction z)) → n ≡ num (whole_fraction z)
@@ -166,25 +147,15 @@ record IsWholeTerm (t : Tree) : Type 0 where
   part : is_counted (part_of t) ≡ true
   within : IsWithin (multiple z (counts_of (part_of t))) (counts_of t)
 
-once : (c : Counts) → IsWithin (multiple (pos 1) c) c
-once c = record { up = omega arith; down = omega arith }
-
 at_least_once : (c : Counts) → IsWithin c (multiple (pos 1) c)
 at_least_once c = record { up = omega arith; down = omega arith }
 
 multiple_term : (q : Fraction) (w : Tree) → is_counted (mult (more (num q) (more w none))) ≡ true → IsWholeTerm (mult (more (num q) (more w none)))
-multiple_term q (root a) h = absurd (unclear ((and_parts (q.den == 1) false h).1))
-multiple_term q w h =
-    let (x, y) = and_parts (q.den == 1) (is_counted w) h in
-    record { z = q.num; coefficient = ap num (whole_of q x); part = y; within = within_same (multiple q.num (counts_of w)) }
+multiple_term q w h = grind (arith, whole_of)
 
 whole_term : (t : Tree) → is_number t ≡ false → is_counted t ≡ true → IsWholeTerm t
 unfolding is_number
-whole_term (num q) n h = absurd (clash n)
-whole_term (symbol x) n h = record { z = pos 1; coefficient = ap num one_whole; part = h; within = once (counts 1 0) }
-whole_term (add ts) n h = record { z = pos 1; coefficient = ap num one_whole; part = h; within = once (counts_of_all ts) }
-whole_term (mult (more (num q) (more w none))) n h = multiple_term q w h
-whole_term t n h = absurd (unclear h)
+whole_term t n h = grind (arith, one_whole, multiple_term)
 
 -- their coefficients add up to a whole number
 record IsWholeSum (us : Trees) (p : Tree) : Type 0 where
@@ -217,10 +188,7 @@ one_product : (z : ℤ) → is_one_fraction (whole_fraction z) ≡ true → z �
 one_product z h = sym (whole_numerator z) ∙ ap (λ (q : Fraction). q.num) (one_is (whole_fraction z) h ∙ one_whole) ∙ whole_numerator (pos 1)
 
 before_counted : (z : ℤ) (w : Tree) → is_counted w ≡ true → IsCountedIn (mult (more (num (whole_fraction z)) (more w none))) (multiple z (counts_of w))
-before_counted z w h = record {
-  counted = and_from _ _ (whole_test z) h;
-  within = subst (λ (y : ℤ). IsWithin (multiple (whole_fraction z).num (counts_of w)) (multiple y (counts_of w))) (whole_numerator z) (within_same (multiple (whole_fraction z).num (counts_of w)));
-}
+before_counted z w h = grind (arith, whole_test, whole_numerator)
 
 module _ (z : ℤ) where
   product_is : (c : Fraction) → (c.den == 1) ≡ true → times (whole_fraction z) c ≡ whole_fraction (z *ℤ c.num)
@@ -320,13 +288,7 @@ exponents_collected (collects_then k l) f h = let a = exponents_collected k f h 
 -- ---- the tree of terms
 
 number_terms : (t : Tree) → is_counted t ≡ true → AreCounted (terms_of_number t) (counts_of t)
-number_terms (num q) h = by (is_zero_fraction q)
-  where
-    by : (b : Bool) → AreCounted (if b then none else more (num q) none) (counts_of (num q))
-    by true = none_counted (counts_of (num q))
-    by false = only_counted (record { counted = h; within = within_same (counts_of (num q)) })
-number_terms (add ts) h = record { all = h; within = within_same (counts_of_all ts) }
-number_terms t h = only_counted (record { counted = h; within = within_same (counts_of t) })
+number_terms t h = grind arith
 
 tree_of_terms : (ts : Trees) (c : Counts) → AreCounted ts c → IsCountedIn (sum_tree ts) c
 tree_of_terms none c a = zero_counted c

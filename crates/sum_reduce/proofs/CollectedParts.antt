@@ -1,18 +1,12 @@
 -- What holds of each part of the terms of a sum holds of each part of what they are collected to.
-use Rattle.std.proofs.Common.{◌≡◌, ◌≤◌, ◌++◌, Bool, true, false, if◌then◌else◌, subst, arith}
-use Rattle.sum_reduce.proofs.Shared.{Fraction, zero_fraction, one_fraction, is_zero_fraction, Tree, num, add, mult, root, Trees, none, more, append, count, AllParts, AllPartsOf, is_number, value, part_of, split_product, coefficient_of, AllPartsOf-append, IsNumberOf, permuted_parts, first_parts, last_parts, product_tree_parts, with_parts, AreLike, sum_of_coefficients, Collects, collects_opened, collects_ordered, collects_numbers, collects_like, collects_then, terms_of_loose, opened, terms_of_number, sum_tree, leads_number, written_tree}
+use Rattle.std.proofs.Common.{◌≡◌, ◌≤◌, ◌++◌, true, subst, arith}
+use Rattle.sum_reduce.proofs.Shared.{Fraction, one_fraction, Tree, num, add, mult, Trees, none, more, count, AllParts, AllPartsOf, is_number, value, part_of, split_product, coefficient_of, AllPartsOf-append, IsNumberOf, permuted_parts, first_parts, last_parts, product_tree_parts, with_parts, AreLike, sum_of_coefficients, Collects, collects_opened, collects_ordered, collects_numbers, collects_like, collects_then, terms_of_loose, opened, written_tree}
 use Rattle.sum_reduce.proofs.Rearranged.{of_lists}
-use Rattle.sum_reduce.proofs.Splits.{split_cases}
 
 -- ---- terms that are opened, change places, or stand before others
 
 loose_parts : (P : Tree → Type 0) (t : Tree) → AllParts P t → AllPartsOf P (terms_of_loose t)
-loose_parts P (add ts) h = by (is_number (add ts))
-  where
-    by : (b : Bool) → AllPartsOf P (if b then more (add ts) none else ts)
-    by true = (h, tt)
-    by false = h.1
-loose_parts P t h = (h, tt)
+loose_parts P t h = grind arith
 
 pub opened_parts : (P : Tree → Type 0) (ts : Trees) → AllPartsOf P ts → AllPartsOf P (opened ts)
 opened_parts P none h = tt
@@ -25,9 +19,7 @@ module _ (P : Tree → Type 0)
   -- ---- a coefficient and a part
 
   split_parts : (ts : Trees) → AllPartsOf P ts → AllParts P (split_product ts).coefficient × AllPartsOf P (split_product ts).factors
-  split_parts ts =
-      split_cases (λ ts c us. AllPartsOf P ts → AllParts P c × AllPartsOf P us) (λ ts h. (of_num one_fraction, h)) (λ t ts n h. (h.0, h.1))
-      (λ q r ts e h. ((of_mult (more (num q) (more (root (num r)) none)), (h.0, (h.1.0, tt))), h.1.1)) ts
+  split_parts ts = grind arith
 
   pub part_parts : (t : Tree) → AllParts P t → AllParts P (part_of t)
   part_parts (mult ts) h = product_tree_parts P of_num of_add of_mult (split_product ts).factors (split_parts ts h.1).1
@@ -43,28 +35,9 @@ module _ (P : Tree → Type 0)
   like_parts none p l a h = absurd (omega arith)
   like_parts (more t us) p l a h = subst (AllParts P) a.1 (part_parts t h.0)
 
-  number_terms_parts : (t : Tree) → AllParts P t → AllPartsOf P (terms_of_number t)
-  number_terms_parts (num q) h = by (is_zero_fraction q)
-    where
-      by : (b : Bool) → AllPartsOf P (if b then none else more (num q) none)
-      by true = tt
-      by false = (h, tt)
-  number_terms_parts (add ts) h = h.1
-  number_terms_parts t h = (h, tt)
-
-  sum_tree_parts : (ts : Trees) → AllPartsOf P ts → AllParts P (sum_tree ts)
-  sum_tree_parts none h = of_num zero_fraction
-  sum_tree_parts (more t none) h = h.0
-  sum_tree_parts (more t (more u ts)) h = (of_add (more t (more u ts)), h)
-
   -- the tree of terms
   pub written_parts : (ts : Trees) → AllPartsOf P ts → AllParts P (written_tree ts)
-  written_parts none h = of_num zero_fraction
-  written_parts (more t ts) h = by (leads_number (more t ts))
-    where
-      by : (b : Bool) → AllParts P (if b then sum_tree (append (terms_of_number t) ts) else sum_tree (more t ts))
-      by true = sum_tree_parts (append (terms_of_number t) ts) (AllPartsOf-append P (terms_of_number t) ts (number_terms_parts t h.0) h.1)
-      by false = sum_tree_parts (more t ts) h
+  written_parts ts h = grind (arith, AllPartsOf-append)
 
   -- ---- collected
 

@@ -1,8 +1,6 @@
 -- Multiples of how often an exponent counts its base.
-use Rattle.std.proofs.Common.{◌≡◌, ℕ, zero, suc, ◌+◌, ◌*◌, ◌≤◌, ℤ, pos, negsuc, ◌+ℤ◌, ◌*ℤ◌, refl, ap, arith}
-use Rattle.std.specs.Prelude.{neg_ℤ}
+use Rattle.std.proofs.Common.{◌≡◌, ℕ, suc, ◌+◌, ◌*◌, ◌≤◌, ℤ, pos, negsuc, ◌+ℤ◌, ◌*ℤ◌, refl, ap, arith}
 use Rattle.sum_reduce.proofs.Shared.{mul-le, Counts, counts, added, IsWithin}
-use Rattle.std.proofs.lemmas.Int.{ints}
 use Rattle.tree_bits.specs.Exponents.{multiple}
 
 -- ---- within
@@ -44,14 +42,7 @@ record IsSumOf (y z w : ℤ) : Type 0 where
   below-most : below w ≤ below y + below z
 
 sum_signs : (y z w : ℤ) → y +ℤ z ≡ w → IsSumOf y z w
-sum_signs (pos a) (pos b) (pos n) e = record { above-most = omega (arith, ints, e); below-most = omega arith }
-sum_signs (pos a) (pos b) (negsuc n) e = absurd (omega (arith, ints, e))
-sum_signs (pos a) (negsuc b) (pos n) e = record { above-most = omega (arith, ints, e); below-most = omega arith }
-sum_signs (pos a) (negsuc b) (negsuc n) e = record { above-most = omega arith; below-most = omega (arith, ints, e) }
-sum_signs (negsuc a) (pos b) (pos n) e = record { above-most = omega (arith, ints, e); below-most = omega arith }
-sum_signs (negsuc a) (pos b) (negsuc n) e = record { above-most = omega arith; below-most = omega (arith, ints, e) }
-sum_signs (negsuc a) (negsuc b) (pos n) e = absurd (omega (arith, ints, e))
-sum_signs (negsuc a) (negsuc b) (negsuc n) e = record { above-most = omega arith; below-most = omega (arith, ints, e) }
+sum_signs y z w e = grind arith
 
 spread : (w y z u v p : ℕ) → w ≤ y + z → u ≤ v + p → (q r : ℕ) → w * q + u * r ≤ (y * q + v * r) + (z * q + p * r)
 spread w y z u v p h k q r =
@@ -76,49 +67,14 @@ record IsProductOf (y z : ℤ) : Type 0 where
   above-is : above (y *ℤ z) ≡ above y * above z + below y * below z
   below-is : below (y *ℤ z) ≡ above y * below z + below y * above z
 
-turned : (n : ℕ) → (above (neg_ℤ (pos n)) ≡ 0) × (below (neg_ℤ (pos n)) ≡ n)
-turned zero = (refl, refl)
-turned (suc n) = (refl, refl)
-
 product_signs : (y z : ℤ) → IsProductOf y z
-product_signs (pos a) (pos b) = record { above-is = omega arith; below-is = omega arith }
-product_signs (pos a) (negsuc b) = record { above-is = omega (arith, (turned (a * suc b)).0); below-is = omega (arith, (turned (a * suc b)).1) }
-product_signs (negsuc a) (pos b) = record { above-is = omega (arith, (turned (suc a * b)).0); below-is = omega (arith, (turned (suc a * b)).1) }
-product_signs (negsuc a) (negsuc b) = record { above-is = omega arith; below-is = omega arith }
+product_signs y z = grind arith
 
 regrouped : (p n s t y z u d : ℕ) → p ≡ s * y + t * z → n ≡ s * z + t * y → p * u + n * d ≡ s * (y * u + z * d) + t * (y * d + z * u)
 regrouped p n s t y z u d e f = omega (arith, ap (λ x. x * u) e, ap (λ x. x * d) f)
 
 pub product_within : (y z : ℤ) (c : Counts) → IsWithin (multiple (y *ℤ z) c) (multiple y (multiple z c))
-product_within y z c =
-    let p = product_signs y z in
-    let a = by_signs (y *ℤ z) c in
-    let b = by_signs y (multiple z c) in
-    let d = by_signs z c in
-    record {
-      up =
-          omega (
-            arith,
-            a.up,
-            b.up,
-            ap (λ n. above y * n) d.up,
-            ap (λ n. below y * n) d.down,
-            regrouped (above (y *ℤ z)) (below (y *ℤ z)) (above y) (below y) (above z) (below z) c.up c.down p.above-is p.below-is,
-          );
-      down =
-          omega (
-            arith,
-            a.down,
-            b.down,
-            ap (λ n. above y * n) d.down,
-            ap (λ n. below y * n) d.up,
-            regrouped (above (y *ℤ z)) (below (y *ℤ z)) (above y) (below y) (above z) (below z) c.down c.up p.above-is p.below-is,
-          );
-    }
+product_within y z c = grind (arith, product_signs, by_signs, regrouped)
 
 pub multiple_added : (z : ℤ) (c d : Counts) → IsWithin (added (multiple z c) (multiple z d)) (multiple z (added c d))
-multiple_added z c d =
-    let a = by_signs z c in
-    let b = by_signs z d in
-    let e = by_signs z (added c d) in
-    record { up = omega (arith, a.up, b.up, e.up); down = omega (arith, a.down, b.down, e.down) }
+multiple_added z c d = grind arith

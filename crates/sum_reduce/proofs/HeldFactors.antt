@@ -1,6 +1,6 @@
 -- A coefficient before a sum that is one factor, and in each addend of that sum, beside any others.
 use Rattle.std.proofs.Common.{◌≡◌, ℕ, ◌+◌, ◌*◌, ◌^◌, ◌≤◌, ◌<◌, List, [], ◌∷◌, ◌++◌, map, sym, ap, subst, arith}
-use Rattle.sum_reduce.proofs.Shared.{mul-le, pow-add, pow-le-pow_right, num_one, Surd, surd_times, Parts, mass, parts_scale, parts_times, mass_scale, mass_times, mul_pos, add, Trees, none, more, KeepsHeld, IsSumHeld, Counts, counts_of, distributed, Addend, addend, addends, power_high, power_low, IsTreeHeld, sum_held, AreWeighted, none_weighted, more_weighted, IsPartHeld, no_factor_held, factor_held, tree_held, Weighted, weighted, PartsAll, lows, weighted_mass, AreHeld, weighted_both}
+use Rattle.sum_reduce.proofs.Shared.{mul-le, pow-add, pow-le-pow_right, Surd, surd_times, Parts, mass, parts_scale, parts_times, mass_scale, mass_times, mul_pos, add, Trees, none, more, KeepsHeld, IsSumHeld, distributed, Addend, addend, addends, IsTreeHeld, sum_held, AreWeighted, none_weighted, more_weighted, IsPartHeld, Weighted, weighted, PartsAll, lows, weighted_mass, AreHeld, weighted_both}
 use Rattle.tree_bits.proofs.Sums.{one_counts}
 use native.Mathlib.Nat.{mul_comm}
 
@@ -63,16 +63,7 @@ record IsOnce (us : Trees) (p q : ℕ) : Type 0 where
   held : IsTreeHeld (add us) high low
 
 once : {us : Trees} {p q : ℕ} → IsPartHeld (more (add us) none) p q → IsOnce us p q
-once {p = p} {q = q} (factor_held i j k n c (tree_held x s b) no_factor_held y z) = record {
-  high = i;
-  low = j;
-  few_high = within i (i + 2 * j) (power_high (counts_of num_one) i j) k p (ap (λ (c : Counts). power_high c i j) one_counts) y;
-  few_low = within j (2 * i + 2 * j) (power_low (counts_of num_one) i j) n q (ap (λ (c : Counts). power_low c i j) one_counts) z;
-  held = b;
-}
-  where
-    within : (i j x k p : ℕ) → x ≡ 1 * i + 0 * j → x + k ≤ p → i ≤ p
-    within i j x k p e u = omega arith
+once h = grind (arith, one_counts)
 
 pub held_distributed : (c : Surd) (us : Trees) → KeepsHeld (addend c (more (add us) none) ∷ []) (distributed c (addends (add us)))
 held_distributed c us = record { keeps = λ zs h l k. by k.weighted k.held }

@@ -1,12 +1,12 @@
 -- What holds the terms of a sum holds them opened, with one coefficient put back, and written as a tree.
 use Rattle.std.proofs.Common.{◌≡◌, ◌≤◌, ℕ, List, [], ◌∷◌, ◌++◌, Bool, true, false, if◌then◌else◌, inl, inr, refl, sym, ap, ◌∙◌, subst, arith, append_assoc, append-nil}
-use Rattle.sum_reduce.proofs.Shared.{not_from_false, Fraction, zero_fraction, is_zero_fraction, is_one_fraction, no_zero, one_is, Tree, num, add, mult, root, Trees, none, more, append, count, is_add, AllParts, IsNumber, IsTerm, AreTerms, is_number, term_of, terms_of, value, HasForm, NoneIs, part_of, Same, Surd, surd_of, surd_one, number_test, number_words, AsNumber, as_number, surd_times-surd_one, SharesDenominators, coefficient_of, factors_of, rational_before, with_coefficient, IsMonic, monic_sum, put, monic_parts, number_of_term, IsFactor, not_one_is, IsArranged, IsLead, KeepsHeld, AreFormed, terms_of_loose, opened, terms_of_number, sum_tree, written_tree, IsSumHeld, addends_of_each, distributed, Addend, addend, addend_of, addends, addends_of, IsTreeHeld, sum_as_tree, alone}
+use Rattle.sum_reduce.proofs.Shared.{not_from_false, Fraction, zero_fraction, is_zero_fraction, is_one_fraction, no_zero, one_is, Tree, num, add, Trees, none, more, append, count, is_add, AllParts, IsNumber, IsTerm, AreTerms, is_number, term_of, terms_of, value, HasForm, NoneIs, part_of, Same, Surd, surd_of, surd_one, number_test, number_words, surd_times-surd_one, SharesDenominators, coefficient_of, factors_of, rational_before, with_coefficient, IsMonic, monic_sum, put, monic_parts, number_of_term, IsFactor, not_one_is, IsArranged, IsLead, KeepsHeld, AreFormed, terms_of_loose, opened, terms_of_number, sum_tree, written_tree, IsSumHeld, addends_of_each, distributed, Addend, addend, addend_of, addends, addends_of, IsTreeHeld, sum_as_tree, alone}
 use Rattle.calc_bits.proofs.NoLarger.{no_larger}
 use Rattle.sum_reduce.proofs.Addends.{term_addends, IsSplit, split_sum, sum_addends, one_value, rational_value, monic_addends, spliced_addends, multiple_addends}
 use Rattle.sum_reduce.proofs.Held.{held_same, held_after, held_equal, held_behind, held_beside, held_joined, held_left_out, held_nothing, held_split, holds}
 use Rattle.sum_reduce.proofs.HeldFactors.{held_distributed}
 use Rattle.sum_reduce.proofs.Settled.{no_sums}
-use Rattle.sum_reduce.proofs.WrittenSums.{zero_terms, term_in, number_terms_in}
+use Rattle.sum_reduce.proofs.WrittenSums.{number_terms_in}
 
 clash : true ≡ false → ⊥
 clash e = cc
@@ -37,10 +37,7 @@ added_held d n e ts hd hn he w s =
 -- ---- sums that are opened
 
 term_value : (t : Tree) → IsTerm t → value t ≡ term_of t ∷ []
-term_value (num q) h = rational_value q h
-term_value (root a) h = refl
-term_value (mult ts) h = refl
-term_value t h = absurd h
+term_value t h = grind (arith, rational_value)
 
 -- a Number stands as its terms
 spread : (ts : Trees) → AreTerms ts → KeepsHeld (addend (terms_of ts) none ∷ []) (addends_of_each ts)
@@ -136,12 +133,7 @@ unled (more t (more u os)) l n s = let all = more t (more u os) in held_after (h
 
 -- the terms of a Number
 terms_value : (n : Tree) → IsNumber n → terms_of (terms_of_number n) ≡ value n
-terms_value n h = by (as_number n h)
-  where
-    by : AsNumber n → terms_of (terms_of_number n) ≡ value n
-    by (inl z) = ap terms_of (zero_terms n z.is) ∙ sym (ap value z.is ∙ zero_value)
-    by (inr (inl s)) = ap terms_of (term_in n s.one) ∙ sym (term_value n s.one)
-    by (inr (inr s)) = ap (λ (t : Tree). terms_of (terms_of_number t)) s.is ∙ sym (ap value s.is)
+terms_value n h = grind arith
 
 behind_others : (t : Tree) (ts : Trees) (o : Tree) (os : Trees) → sum_tree (append (more t ts) (more o os)) ≡ add (append (more t ts) (more o os))
 behind_others t none o os = refl

@@ -1,6 +1,6 @@
 -- Which operation does not fit, from stage to stage of a sum.
 use Rattle.std.specs.Prelude.{Result, Ok, Err, IfErr}
-use Rattle.std.proofs.Common.{ℕ, suc, ◌<◌, ◌≤◌, ◌≡◌, false, ◌&&◌, refl, sym, ap, ◌∙◌, subst, arith}
+use Rattle.std.proofs.Common.{ℕ, suc, ◌<◌, ◌≤◌, ◌≡◌, false, ◌&&◌, sym, ap, ◌∙◌, subst, arith}
 use Rattle.sum_reduce.proofs.Shared.{count_removed, add_op, Fraction, is_number, value, part_of, calculated, Tree, num, Trees, more, append, count, is_num, permuted_trans, Permuted-append_right, coefficient_of, NamesPut, OfOverflow, monic_part, State, AnswersRationals, removed, Overflow, nth, NumberFault, IsPairAt, Collects, collects_ordered, collects_then, IsJoining, NamesSum, Overflows, hinders_like, hinders_part, is_partner}
 use Rattle.number_forms.specs.Overflows.{SumOverflows}
 use Rattle.sum_reduce.proofs.Joins.{partners}
@@ -12,9 +12,7 @@ use Rattle.tree_handles.specs.declared.fault.NumberFault.TheVariants as fault
 
 sum_named : (a b : Tree) (o : Overflow) (new : State) → ((p q : Fraction) → a ≡ num p → b ≡ num q → AnswersRationals (calculated add_op p q) new (Err (fault.Overflow o)))
     → ((is_num a && is_num b) ≡ false → SumOverflows (value a) (value b) o) → NamesSum a b o
-sum_named (num p) (num q) o new h k = h p q refl refl
-sum_named (num p) b o new h k = k refl
-sum_named a b o new h k = k refl
+sum_named a b o new h k = grind arith
 
 pub numbers_named : (a b : Tree) (new : State) (r : Result ℕ NumberFault) → ((p q : Fraction) → a ≡ num p → b ≡ num q → AnswersRationals (calculated add_op p q) new r)
     → ((is_num a && is_num b) ≡ false → IfErr r (OfOverflow (SumOverflows (value a) (value b)))) → IfErr r (OfOverflow (NamesSum a b))

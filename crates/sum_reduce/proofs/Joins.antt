@@ -1,6 +1,6 @@
 -- Terms with identical parts become one.
 use Rattle.std.proofs.Common.{ℕ, zero, suc, ◌+◌, ◌≤◌, ◌<◌, ◌≡◌, ◌++◌, [], ◌∷◌, Bool, true, false, ◌&&◌, not, refl, sym, ap, ◌∙◌, subst, arith, append-nil}
-use Rattle.sum_reduce.proofs.Shared.{Ordering, other_in, count_removed, Less, Equal, Greater, is_eq, and_parts, is_number, value, are_numbers, part_of, NoneIs, is_reduced, Same, Surd, tree_cmp, Tree, add, mult, Trees, none, more, append, count, names, names_of, nodes, is_add, is_undef, KeepsMeanings, KeepsMeanings-refl, KeepsMeanings-eq, KeepsMeanings-trans, KeepsMeanings-sum_more, Permuted, Permuted-sym, Permuted-append_right, Permuted-to_front, permuted_more, permuted_trans, permuted_sum, joined_in_sum, same_factor, number_words, number_test, sum_of_numbers, coefficient_times_part, Same-Agree, Agree-refl, Agree-trans, Agree-eq, Agree-Same, Agree-append, append_comm, tree_cmp_equal, tree_cmp_refl, SharesDenominators, coefficient_of, factors_of, with_coefficient, taken, coefficient_same, put_formed, put_reduces, monic_part, monic_parts, monic_no_number, parts_reduced, parts_defined, keeps, kept, nth, inserted, IsPairAt, others_in, AreUnlike, AreLike, sum_of_coefficients, collects_ordered, collects_like, collects_then, IsAdded, IsJoining, IsStage, widths, removed, AreFormed, is_loose, is_partner, opened, IsNumberOver, Within, no_new_name, within_of, within_same, within_both, within_beside, within_trans, within_right, within_none, within_eq, names_permuted, number_names, addends_of_each, addend, nest_permuted, nest_number}
+use Rattle.sum_reduce.proofs.Shared.{other_in, count_removed, is_eq, is_number, value, are_numbers, part_of, NoneIs, is_reduced, Same, Surd, tree_cmp, Tree, add, mult, Trees, none, more, append, count, names, names_of, nodes, is_add, is_undef, KeepsMeanings, KeepsMeanings-refl, KeepsMeanings-eq, KeepsMeanings-trans, KeepsMeanings-sum_more, Permuted, Permuted-sym, Permuted-append_right, Permuted-to_front, permuted_more, permuted_trans, permuted_sum, joined_in_sum, same_factor, number_words, number_test, sum_of_numbers, coefficient_times_part, Same-Agree, Agree-refl, Agree-trans, Agree-eq, Agree-Same, Agree-append, append_comm, tree_cmp_equal, tree_cmp_refl, SharesDenominators, coefficient_of, factors_of, with_coefficient, taken, coefficient_same, put_formed, put_reduces, monic_part, monic_parts, monic_no_number, parts_reduced, parts_defined, keeps, kept, nth, inserted, IsPairAt, others_in, AreUnlike, AreLike, sum_of_coefficients, collects_ordered, collects_like, collects_then, IsAdded, IsJoining, IsStage, widths, removed, AreFormed, is_loose, is_partner, opened, IsNumberOver, Within, no_new_name, within_of, within_same, within_both, within_beside, within_trans, within_right, within_none, within_eq, names_permuted, number_names, addends_of_each, addend, nest_permuted, nest_number}
 use Rattle.calc_algebra.proofs.NumberRewrites.{with_coefficient as coefficient_for}
 use Rattle.coefficients.proofs.Bounds.{coefficient_nest}
 use Rattle.coefficients.proofs.Keeps.{coefficient_keeps}
@@ -17,34 +17,17 @@ use Rattle.sum_reduce.proofs.Widths.{widths_permuted, width_other, coefficient_w
 
 -- ---- what partners are
 
-equal_words : (o : Ordering) → is_eq o ≡ true → o ≡ Equal
-equal_words Less h = cc
-equal_words Equal h = refl
-equal_words Greater h = cc
-
-not_true : (b : Bool) → not b ≡ true → b ≡ false
-not_true true h = cc
-not_true false h = refl
-
 pub record ArePartners (t u : Tree) : Type 0 where
   pub first : is_number t ≡ false
   pub second : is_number u ≡ false
   pub parts : part_of t ≡ part_of u
 
 pub partners : (t u : Tree) → is_partner t u ≡ true → ArePartners t u
-partners t u h =
-    let (b, y) = and_parts (not (is_number t) && not (is_number u)) (is_eq (tree_cmp (part_of t) (part_of u))) h in
-    let (a, x) = and_parts (not (is_number t)) (not (is_number u)) b in
-    record { first = not_true (is_number t) a; second = not_true (is_number u) x; parts = tree_cmp_equal (part_of t) (part_of u) (equal_words (tree_cmp (part_of t) (part_of u)) y) }
+partners t u h = grind (arith, tree_cmp_equal)
 
 -- neither a Number nor a sum
 pub tight_other : (t : Tree) → is_loose t ≡ false → is_number t ≡ false → is_add t ≡ false
-tight_other t h n = by (is_add t) (is_number t) h n
-  where
-    by : (a k : Bool) → (a && not k) ≡ false → k ≡ false → a ≡ false
-    by true true h n = cc
-    by true false h n = cc
-    by false k h n = refl
+tight_other t h n = grind arith
 
 -- each term is its coefficient times its part
 split_term : (t : Tree) → KeepsMeanings t (mult (more (coefficient_of t) (more (part_of t) none)))
@@ -138,19 +121,7 @@ joining_more ts c p rest less at e j l q he w d =
 
 -- fewer may be told
 pub joining_less : {ts : Trees} {c p : Tree} {rest : Trees} {less : ℕ} (fewer : ℕ) → fewer ≤ less → IsJoining ts c p rest less → IsJoining ts c p rest fewer
-joining_less fewer l j = record {
-  number = j.number;
-  monic = j.monic;
-  formed = j.formed;
-  no_sum = j.no_sum;
-  meanings = j.meanings;
-  no_new_name = j.no_new_name;
-  nest = j.nest;
-  other = j.other;
-  width = omega (arith, j.width);
-  held = j.held;
-  added = let a = j.added in record { like = a.like; flat = a.flat; moved = a.moved; are = a.are; some = a.some; two = λ h. a.two (omega (arith, h, l)); worth = a.worth };
-}
+joining_less fewer l j = grind arith
 
 -- ---- terms that were added are not unlike
 
@@ -307,11 +278,7 @@ pub record IsNextPartner (at : ℕ) (us : Trees) : Type 0 where
   pub no_number : is_number (nth (suc at) us) ≡ false
 
 pub next_partner : (us : Trees) (at : ℕ) → AreFormed us → IsPairAt is_partner at us → IsNextPartner at us
-next_partner us at f h = record {
-  reduced = formed_reduced (suc at) us h.within f;
-  defined = formed_defined (suc at) us h.within f;
-  no_number = (partners (nth at us) (nth (suc at) us) h.pair).second;
-}
+next_partner us at f h = grind (arith, formed_reduced, formed_defined)
 
 pub first_partner : (us : Trees) (at : ℕ) → IsPairAt is_partner at us → is_number (nth at us) ≡ false
 first_partner us at h = (partners (nth at us) (nth (suc at) us) h.pair).first

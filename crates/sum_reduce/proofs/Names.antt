@@ -1,6 +1,6 @@
 -- Names in terms.
-use Rattle.std.proofs.Common.{[]}
-use Rattle.sum_reduce.proofs.Shared.{split_product, product_tree, part_of, Tree, mult, Trees, none, more, names, names_of, Within, within_same, within_trans, within_left, within_right, within_none}
+use Rattle.std.proofs.Common.{arith}
+use Rattle.sum_reduce.proofs.Shared.{split_product, product_tree, part_of, Tree, mult, Trees, names, names_of, Within, within_same, within_trans, within_left, within_right}
 use Rattle.sum_reduce.proofs.Splits.{split_cases}
 
 -- ---- the part of a term
@@ -10,9 +10,7 @@ names_of_factors ts =
     split_cases (λ ts c us. Within (names_of ts) (names_of us)) (λ ts. within_same (names_of ts)) (λ t ts n. within_right (names t) (names_of ts)) (λ q r ts e. within_same (names_of ts)) ts
 
 names_of_product : (ts : Trees) → Within (names_of ts) (names (product_tree ts))
-names_of_product none = within_none []
-names_of_product (more t none) = within_left (names t) []
-names_of_product (more t (more u ts)) = within_same (names_of (more t (more u ts)))
+names_of_product ts = grind (arith, within_left, within_same)
 
 pub names_of_part : (t : Tree) → Within (names t) (names (part_of t))
 names_of_part (mult ts) = within_trans (names_of_factors ts) (names_of_product (split_product ts).factors)

@@ -1,5 +1,5 @@
 -- The Numbers among the terms become one.
-use Rattle.std.specs.Prelude.{Err, Option, None, Some, MatchOption, is_some}
+use Rattle.std.specs.Prelude.{Err, Option, MatchOption, is_some}
 use Rattle.std.proofs.Common.{ℕ, suc, ◌<◌, ◌≤◌, ◌≡◌, ◌++◌, [], ◌∷◌, Bool, true, false, refl, sym, ap, ◌∙◌, subst, arith}
 use Rattle.sum_reduce.proofs.Shared.{and_parts, add_op, is_number, are_numbers, value, NoneIs, permuted_more, number_words, HasFewBits, PlainValue, fold_values, plain_value, Tree, add, Trees, none, more, append, count, is_num, are_rationals, number_parts, State, Overflow, addends_of_each, alone, NumberFault, nth, Forest, IsBehind, behind_first, behind_later, behind_new, front_same, front_at, front_put, front_without, put-put, num_number, sum_begun, plain_sum, first_of, fold_done, no_numbers, no_rationals, numbers_first, trees_assoc, both_true, front_numbers, end_numbers, numbers_are, none_number, removed, IsLead, IsLed, IsNumbered, IsFolded, AnswersFold, HaveFewBits, NamesSum, Overflows, hinders_numbers, IsStage, Takes, AreFormed, is_loose}
 use Rattle.tree_handles.specs.Roots.{put}
@@ -91,11 +91,7 @@ numbered at ts us vs ws n m h f l q e g w =
     }
 
 pub unnumbered : (ts : Trees) → IsLed ts → AreFormed ts → 1 ≤ count ts → IsNumbered ts ts
-unnumbered ts h f l = record {
-  stage = stage_same ts f l;
-  led = h;
-  no_sum = λ s. s;
-}
+unnumbered ts h f l = grind (arith, stage_same)
 
 -- where there is none, or only one, which stands first
 pub led_none : (ts : Trees) → NoNumberBetween 0 (count ts) ts → IsLed ts
@@ -106,11 +102,7 @@ led_first none h n = absurd (let l = h.within in omega (arith, l))
 led_first (more t ts) h n = record { lead = more t none; others = ts; split = refl; one = h.number; no_number = no_numbers ts (λ k f l. n (suc k) (omega arith) (omega arith)) }
 
 pub led_alone : (P : ℕ → Type 0) (ts : Trees) (n : ℕ) (r : Option ℕ) → IsNextNumber 0 n ts → n ≡ 0 → is_some r ≡ false → MatchOption r (NoNumberBetween 1 (count ts) ts) P → IsLed ts
-led_alone P ts n None h e s m = led_first ts (subst (λ (k : ℕ). IsNextNumber 0 k ts) e h) m
-led_alone P ts n (Some k) h e s m = absurd (clash s)
-  where
-    clash : true ≡ false → ⊥
-    clash e = cc
+led_alone P ts n r h e s m = grind (arith, led_first)
 
 -- ---- rationals
 

@@ -1,26 +1,16 @@
 -- Sums among the terms are opened.
-use Rattle.std.proofs.Common.{◌≤◌, ◌≡◌, inl, inr, Bool, true, false, not, ◌&&◌, if◌then◌else◌, refl, sym, ap, ◌∙◌, subst, arith}
-use Rattle.sum_reduce.proofs.Shared.{and_parts, nest, nest_of, is_number, are_numbers, HasForm, IsSumForm, NoneIs, Tree, add, Trees, none, more, append, count, names, names_of, is_add, HasTwo, AllParts, KeepsMeanings, KeepsMeanings-refl, KeepsMeanings-sum_append, flat_sum, number_test, AllPartsOf-append, children_of, append_none, count_append, width, widths, AreFormed, is_loose, terms_of_loose, opened, Within, within_same, within_beside, within_trans, within_eq, within_both, within_none, names_of-append, nest-append}
+use Rattle.std.proofs.Common.{◌≤◌, ◌≡◌, Bool, true, false, not, ◌&&◌, if◌then◌else◌, refl, sym, ap, ◌∙◌, subst, arith}
+use Rattle.sum_reduce.proofs.Shared.{and_parts, nest, nest_of, is_number, are_numbers, HasForm, IsSumForm, NoneIs, Tree, add, Trees, none, more, append, count, names, names_of, is_add, HasTwo, AllParts, KeepsMeanings, KeepsMeanings-refl, KeepsMeanings-sum_append, flat_sum, number_test, AllPartsOf-append, children_of, append_none, count_append, width, widths, AreFormed, is_loose, terms_of_loose, opened, Within, within_same, within_beside, within_trans, within_eq, within_both, names_of-append, nest-append}
 use Rattle.like_children.specs.Opening.{Opens}
 use Rattle.sum_reduce.proofs.Widths.{widths-append}
 
 -- ---- one tree
 
 loose_terms : (t : Tree) → is_loose t ≡ true → children_of t ≡ terms_of_loose t
-loose_terms (add ts) h = by (is_number (add ts)) h
-  where
-    by : (k : Bool) → not k ≡ true → ts ≡ (if k then more (add ts) none else ts)
-    by true h = cc
-    by false h = refl
-loose_terms _ h = cc
+loose_terms t h = grind arith
 
 pub tight_terms : (t : Tree) → is_loose t ≡ false → terms_of_loose t ≡ more t none
-tight_terms (add ts) h = by (is_number (add ts)) h
-  where
-    by : (k : Bool) → not k ≡ false → (if k then more (add ts) none else ts) ≡ more (add ts) none
-    by true h = refl
-    by false h = cc
-tight_terms t h = refl
+tight_terms t h = grind arith
 
 pub loose_opens : (t : Tree) (b : Bool) → b ≡ is_loose t → Opens terms_of_loose t b
 loose_opens t true e = sym (loose_terms t (sym e))
@@ -41,12 +31,7 @@ opened_keeps none = KeepsMeanings-refl (add none)
 opened_keeps (more t ts) = KeepsMeanings-sum_append {ts = more t none} (first_opened t) (opened_keeps ts)
 
 first_names : (t : Tree) → Within (names t) (names_of (terms_of_loose t))
-first_names (add us) = by (is_number (add us))
-  where
-    by : (k : Bool) → Within (names_of us) (names_of (if k then more (add us) none else us))
-    by true = within_both (names_of us) (names_of us) _ (within_same (names_of us)) (within_none (names_of us))
-    by false = within_same (names_of us)
-first_names t = within_both (names t) (names t) _ (within_same (names t)) (within_none (names t))
+first_names t = grind (arith, within_both, within_same)
 
 pub names_opened : (ts : Trees) → Within (names_of ts) (names_of (opened ts))
 names_opened none = within_same _
@@ -79,19 +64,10 @@ widths_opened (more t ts) = omega (arith, widths-append (terms_of_loose t) (open
 -- ---- the terms of a reduced sum that is no Number
 
 sum_form : (ts : Trees) → HasForm (add ts) → is_number (add ts) ≡ false → IsSumForm ts
-sum_form ts (inl k) n = absurd (clash (sym (number_test (add ts) k) ∙ n))
-  where
-    clash : true ≡ false → ⊥
-    clash e = cc
-sum_form ts (inr k) n = k
+sum_form ts h n = grind (arith, number_test)
 
 first_formed : (t : Tree) → AllParts HasForm t → AreFormed (terms_of_loose t)
-first_formed (add us) h = by (is_number (add us))
-  where
-    by : (k : Bool) → AreFormed (if k then more (add us) none else us)
-    by true = (h, tt)
-    by false = h.1
-first_formed t h = (h, tt)
+first_formed t h = grind arith
 
 pub opened_formed : (ts : Trees) → AreFormed ts → AreFormed (opened ts)
 opened_formed none h = tt
@@ -139,12 +115,7 @@ opened_some (more t ts) h l = omega (arith, count_append (terms_of_loose t) (ope
 -- ---- Numbers stay
 
 pub number_tight : (t : Tree) → is_number t ≡ true → is_loose t ≡ false
-number_tight t h = by (is_add t) (is_number t) h
-  where
-    by : (a k : Bool) → k ≡ true → (a && not k) ≡ false
-    by true true h = refl
-    by false k h = refl
-    by true false h = cc
+number_tight t h = grind arith
 
 pub opened_numbers : (ts : Trees) → are_numbers ts ≡ true → opened ts ≡ ts
 opened_numbers none h = refl

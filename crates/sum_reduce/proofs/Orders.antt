@@ -2,7 +2,6 @@
 use Rattle.std.specs.Prelude.{Err}
 use Rattle.std.proofs.Common.{ℕ, ◌≤◌, ◌≡◌, true, refl, sym, ap, ◌∙◌, subst, arith}
 use Rattle.sum_reduce.proofs.Shared.{PlainValue, plain_value, NoneIs, num, add, Trees, none, more, append, count, are_rationals, NumberFault, IsPairAt, IsFolded, AnswersFold, IsLead, IsArranged, IsStage, AreFormed, opened, is_loose, is_partner}
-use Rattle.sum_reduce.proofs.Opened.{number_tight}
 use Rattle.sum_reduce.proofs.Stages.{stage_opened}
 use Rattle.tree_handles.specs.declared.fault.NumberFault.TheVariants as fault
 
@@ -39,9 +38,7 @@ folded_alone v ts at f h = absurd (let w = h.within in let e : count ts ≡ 1 = 
 
 -- nothing among terms in order is a sum to be opened
 none_lead : (lead os : Trees) → IsLead lead → NoneIs is_loose os → NoneIs is_loose (append lead os)
-none_lead none os h s = s
-none_lead (more t none) os h s = (number_tight t h, s)
-none_lead (more t (more u ts)) os h s = absurd h
+none_lead lead os h s = grind arith
 
 pub arranged_flat : (ts : Trees) → IsArranged ts → NoneIs is_loose ts
 arranged_flat ts a = subst (NoneIs is_loose) (sym a.split) (none_lead a.lead a.others a.one a.no_sum)

@@ -1,34 +1,19 @@
 -- The key of a term's part.
-use Rattle.std.proofs.Common.{ℕ, zero, suc, ◌≤◌, ◌≡◌, ◌≢◌, ◌⊎◌, inl, inr, eqb, cond, Bool, true, false, refl, sym, ap, ◌∙◌, arith}
-use Rattle.sum_reduce.proofs.Shared.{ne_eqb, eq-eqb, is_number, Split, split_product, product_tree, part_of, is_reduced, Tree, mult, Trees, none, more, count, is_mult, coefficient_length, plain, children_of, IsExpression, Forest, tree_at}
-use Rattle.coefficients.proofs.Lengths.{IsPairLed, IsMeasured, long, measured, some_factors, product_part}
+use Rattle.std.proofs.Common.{ℕ, ◌≤◌, ◌≡◌, ◌≢◌, ◌⊎◌, inl, inr, eqb, cond, Bool, true, false, sym, ap, ◌∙◌, arith}
+use Rattle.sum_reduce.proofs.Shared.{ne_eqb, eq-eqb, is_number, split_product, product_tree, part_of, is_reduced, Tree, Trees, count, is_mult, coefficient_length, plain, children_of, IsExpression, Forest, tree_at}
+use Rattle.coefficients.proofs.Lengths.{IsMeasured, long, measured, some_factors, product_part}
 use Rattle.node_order.specs.declared.keys.Key.{Key}
 use Rattle.node_order.specs.Keys.{trees_behind, key_tree, IsKey}
 
 whole_product : (t : Tree) → is_mult t ≡ true → 2 ≤ count (children_of t) → t ≡ product_tree (children_of t)
-whole_product (mult none) m l = absurd (omega arith)
-whole_product (mult (more t none)) m l = absurd (omega arith)
-whole_product (mult (more t (more u ts))) m l = refl
-whole_product _ m l = cc
+whole_product t m l = grind arith
 
 zero_one_more : (n : ℕ) → (n ≡ 0) ⊎ ((n ≡ 1) ⊎ ((n ≢ 0) × (n ≢ 1)))
-zero_one_more zero = inl refl
-zero_one_more (suc zero) = inr (inl refl)
-zero_one_more (suc (suc n)) = inr (inr (λ e. absurd (omega (arith, e)), λ e. absurd (omega (arith, e))))
+zero_one_more n = grind arith
 
 -- what stands behind the coefficient
 behind_coefficient : (ts : Trees) → IsMeasured ts → 1 ≤ count (split_product ts).factors → trees_behind (coefficient_length ts) ts ≡ (split_product ts).factors
-behind_coefficient ts m l = elim (zero_one_more (coefficient_length ts)) [
-  | inl e ↦ ap (λ (n : ℕ). trees_behind n ts) e ∙ sym (ap (λ (s : Split). s.factors) (m.none_led e))
-  | inr (inl e) ↦ ap (λ (n : ℕ). trees_behind n ts) e ∙ ap (trees_behind 1) (m.one_led e)
-  | inr (inr h) ↦ by (m.two_led h.0 h.1)
-]
-  where
-    by : IsPairLed ts → trees_behind (coefficient_length ts) ts ≡ (split_product ts).factors
-    by p =
-        let f : (split_product ts).factors ≡ p.factors = ap (λ (s : Split). s.factors) p.is in
-        let two : coefficient_length ts ≡ 2 = omega (arith, ap count p.whole, ap count f) in
-        ap (λ (n : ℕ). trees_behind n ts) two ∙ ap (trees_behind 2) p.whole ∙ sym f
+behind_coefficient ts m l = grind arith
 
 key_value : (t : Tree) (n : ℕ) → is_mult t ≡ true → is_reduced t ≡ true → is_number t ≡ false → n ≡ coefficient_length (children_of t)
     → cond (eqb n 0) t (product_tree (trees_behind n (children_of t))) ≡ part_of t
@@ -49,10 +34,4 @@ pub record IsPartKey (k : Key) (t : Tree) (f : Forest) : Type 0 where
 -- of a product
 pub product_key : (i n : ℕ) (f : Forest) → IsExpression i f → is_mult (plain (tree_at i f)) ≡ true → is_reduced (plain (tree_at i f)) ≡ true → is_number (plain (tree_at i f)) ≡ false → n ≡ coefficient_length (children_of (plain (tree_at i f)))
     → IsPartKey (record { id = i; behind = n }) (plain (tree_at i f)) f
-product_key i n f x m r h e =
-    let some = some_factors (plain (tree_at i f)) m r h in
-    let l = long (plain (tree_at i f)) m r in
-    record {
-      valid = record { tree = x; product = λ p. m; some = λ p. omega (arith, e, some, l.two) };
-      value = key_value (plain (tree_at i f)) n m r h e;
-    }
+product_key i n f x m r h e = grind (arith, some_factors, key_value)

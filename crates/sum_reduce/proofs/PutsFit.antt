@@ -1,6 +1,6 @@
 -- A rational coefficient that is held with a sum behind it goes into each term of that sum: nothing overflows.
 use Rattle.std.proofs.Common.{◌≡◌, ◌≢◌, ◌+◌, ◌*◌, ◌≤◌, ◌⊎◌, inl, inr, ℕ, List, [], ◌∷◌, ◌++◌, Bool, true, false, if◌then◌else◌, map, refl, sym, ap, ◌∙◌, subst, arith}
-use Rattle.sum_reduce.proofs.Shared.{fraction_fits, operation_fits, Fraction, times, zero_fraction, is_zero_fraction, no_zero, Tree, num, add, mult, root, Trees, none, more, append, AllParts, AllPartsOf, IsTerm, AreTerms, is_number, is_radicand, term_of, terms_of, value, split, split_product, NoneIs, HasForm, IsProductForm, num_one, Term, Surd, term, surd_of, term_times, surd_times, IsProper, AreProper, terms_proper, value_proper, number_words, HasFewBits, IsHeld, held_left, held_right, coefficient_of, factors_of, IsMonic, Leads, LeadsIn, LeadsTerm, NamesPut, monic_sum, product_form_of, taken, monic_parts, parts_reduced, parts_defined, State, Overflow, HaveFewBits, not_from_false, nothing_held, distributed, Addend, addend, addend_of, addends, addends_of, OfOverflow, NumberFault}
+use Rattle.sum_reduce.proofs.Shared.{fraction_fits, operation_fits, Fraction, times, zero_fraction, is_zero_fraction, no_zero, Tree, num, add, mult, Trees, none, more, append, AllParts, AllPartsOf, IsTerm, AreTerms, is_number, term_of, terms_of, value, split, split_product, NoneIs, HasForm, num_one, Term, Surd, term, surd_of, term_times, surd_times, IsProper, AreProper, terms_proper, value_proper, number_words, HasFewBits, IsHeld, held_left, held_right, coefficient_of, factors_of, IsMonic, Leads, LeadsIn, LeadsTerm, NamesPut, monic_sum, taken, monic_parts, parts_reduced, parts_defined, State, Overflow, HaveFewBits, not_from_false, nothing_held, distributed, Addend, addend, addend_of, addends, addends_of, OfOverflow, NumberFault}
 use Rattle.calc_terms.specs.Rat.{value_of}
 use Rattle.surd_bits.proofs.ProductsFit.{coefficients_fit}
 use Rattle.number_forms.proofs.RationalBits.{rational_product_fits}
@@ -44,10 +44,7 @@ addend_fits q c (x ∷ xs) zs z (inr a) b =
 -- ---- what leads a term is among its coefficients
 
 term_leads : (c : Fraction) (t : Tree) → IsTerm t → Leads c t → (term_of t).coefficient ≡ c
-term_leads c (num d) h e = e
-term_leads c (root (num r)) h e = absurd e
-term_leads c (mult (more (num d) (more (root (num r)) none))) h e = e
-term_leads c t h e = absurd h
+term_leads c t h e = grind arith
 
 terms_lead : (c : Fraction) (ts : Trees) → AreTerms ts → LeadsIn Leads c ts → IsAmong c (terms_of ts)
 terms_lead c none h e = absurd e
@@ -56,10 +53,7 @@ terms_lead c (more t ts) h (inr e) = inr (terms_lead c ts h.1 e)
 
 -- the terms of a Number lead as terms of the sum
 as_leads : (c : Fraction) (t : Tree) → IsTerm t → LeadsTerm c t → Leads c t
-as_leads c (num d) h e = e
-as_leads c (root (num r)) h e = e
-as_leads c (mult (more (num d) (more (root (num r)) none))) h e = e
-as_leads c t h e = absurd h
+as_leads c t h e = grind arith
 
 all_as_leads : (c : Fraction) (ts : Trees) → AreTerms ts → LeadsIn LeadsTerm c ts → LeadsIn Leads c ts
 all_as_leads c none h e = e
@@ -70,26 +64,15 @@ rational_leads : (c d : Fraction) → d ≢ zero_fraction → d ≡ c → IsAmon
 rational_leads c d z e = subst (IsAmong c) (sym (rational_value d z)) (inl e)
 
 number_leads : (c d : Fraction) (us : Trees) → d ≢ zero_fraction → d ≡ c → IsAmong c (value (split_product (more (num d) us)).coefficient)
-number_leads c d (more (root (num r)) us) z e = by (is_radicand r)
-  where
-    by : (b : Bool) → IsAmong c (value (if b then split (mult (more (num d) (more (root (num r)) none))) us else split (num d) (more (root (num r)) us)).coefficient)
-    by true = inl e
-    by false = rational_leads c d z e
-number_leads c d us z e = rational_leads c d z e
+number_leads c d us z e = grind (arith, rational_leads)
 
 sum_leads : (c : Fraction) (us ts : Trees) → is_number (add us) ≡ true → LeadsIn Leads c us → IsAmong c (value (split_product (more (add us) ts)).coefficient)
 sum_leads c us ts n e =
     subst (λ (b : Bool). IsAmong c (value (if b then split (add us) ts else split num_one (more (add us) ts)).coefficient)) (sym n) (terms_lead c us (number_words (add us) n).1 e)
 
-front_not_zero : (d : Fraction) (us : Trees) → IsProductForm (more (num d) us) → d ≢ zero_fraction
-front_not_zero d us f = f.front.0
-
 other_leads : (c : Fraction) (t : Tree) → AllParts HasForm t → is_number t ≡ false → LeadsTerm c t → IsAmong c (value (coefficient_of t))
 unfolding is_number
-other_leads c (num d) h n e = absurd (clash n)
-other_leads c (mult (more (num d) us)) h n e = number_leads c d us (front_not_zero d us (product_form_of (more (num d) us) h n)) e
-other_leads c (mult (more (add us) ts)) h n e = sum_leads c us ts e.0 e.1
-other_leads c t h n e = absurd e
+other_leads c t h n e = grind (arith, number_leads, sum_leads)
 
 -- ---- and among those of the sum
 

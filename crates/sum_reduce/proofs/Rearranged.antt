@@ -1,7 +1,7 @@
 -- The terms of a sum that change places, are opened or added, with their Numbers and the others.
 use Rattle.std.specs.Prelude.{IsPermutation}
-use Rattle.std.proofs.Common.{◌≡◌, ◌≤◌, ◌++◌, [], ◌∷◌, Bool, true, false, ◌&&◌, not, if◌then◌else◌, refl, sym, ap, ◌∙◌, subst, arith, append_assoc}
-use Rattle.sum_reduce.proofs.Shared.{is_eq, ordering_reverse, Ordering, Less, Equal, Greater, is_number, value, part_of, NoneIs, Same, tree_cmp, Tree, Trees, none, more, append, count, Permuted, Permuted-refl, Permuted-sym, permuted_none, permuted_more, permuted_swap, permuted_trans, Permuted-append_right, Permuted-to_front, permuted_trees, trees_of, Same-Agree, Agree, Agree-refl, Agree-trans, Agree-eq, Agree-Same, Agree-append, append_comm, tree_cmp_total, list_of, number_in, number_out, numbers_in, others_in, sum_of_values, AreUnlike, IsRearranged, is_loose, is_partner, terms_of_loose, opened}
+use Rattle.std.proofs.Common.{◌≡◌, ◌≤◌, ◌++◌, [], ◌∷◌, Bool, true, false, if◌then◌else◌, refl, sym, ap, ◌∙◌, subst, arith, append_assoc}
+use Rattle.sum_reduce.proofs.Shared.{is_number, value, NoneIs, Same, Tree, Trees, none, more, append, count, Permuted, Permuted-refl, Permuted-sym, permuted_none, permuted_more, permuted_swap, permuted_trans, Permuted-append_right, Permuted-to_front, permuted_trees, trees_of, Same-Agree, Agree, Agree-refl, Agree-trans, Agree-eq, Agree-Same, Agree-append, append_comm, tree_cmp_total, list_of, number_in, number_out, numbers_in, others_in, sum_of_values, AreUnlike, IsRearranged, is_loose, is_partner, terms_of_loose, opened}
 use Rattle.std.proofs.lemmas.List.Sorted.{IsPermutation-refl, IsPermutation-cons, IsPermutation-middle, IsPermutation-trans}
 use Rattle.sum_reduce.proofs.Opened.{tight_terms, number_tight}
 
@@ -113,21 +113,8 @@ few_same (permuted_trans k l) h = let a = few_same k h in few_same l (omega (ari
 
 -- ---- no two with identical parts
 
-turned : (o : Ordering) → is_eq (ordering_reverse o) ≡ is_eq o
-turned Less = refl
-turned Equal = refl
-turned Greater = refl
-
-and_turned : (a b : Bool) → (a && b) ≡ (b && a)
-and_turned true true = refl
-and_turned true false = refl
-and_turned false true = refl
-and_turned false false = refl
-
 pub partner_turned : (t u : Tree) → is_partner t u ≡ is_partner u t
-partner_turned t u =
-    (λ i. and_turned (not (is_number t)) (not (is_number u)) i && is_eq (tree_cmp_total.antisymm (part_of t) (part_of u) i))
-    ∙ ap (λ (b : Bool). not (is_number u) && not (is_number t) && b) (turned (tree_cmp (part_of u) (part_of t)))
+partner_turned t u = grind (arith, tree_cmp_total)
 
 pub unlike_permuted : {ts us : Trees} → Permuted ts us → AreUnlike ts → AreUnlike us
 unlike_permuted permuted_none h = tt
@@ -138,23 +125,13 @@ unlike_permuted (permuted_trans k l) h = unlike_permuted l (unlike_permuted k h)
 -- ---- rearranged
 
 pub rearranged_permuted : {ts us : Trees} → Permuted ts us → IsRearranged ts us
-rearranged_permuted k =
-    let o = opened_permuted k in
-    record { others = to_lists (others_permuted o); worth = Agree-Same (values_agree (numbers_permuted o)); few = few_same (numbers_permuted o) }
+rearranged_permuted k = grind (arith, opened_permuted, to_lists, others_permuted, Agree-Same, values_agree, numbers_permuted, few_same)
 
 pub rearranged_opened : (ts us : Trees) → opened us ≡ opened ts → IsRearranged ts us
-rearranged_opened ts us e = record {
-  others = subst (λ (x : Trees). IsPermutation (list_of (others_in (opened ts))) (list_of (others_in x))) (sym e) (IsPermutation-refl _);
-  worth = subst (λ (x : Trees). Same (sum_of_values (numbers_in x)) (sum_of_values (numbers_in (opened ts)))) (sym e) (Agree-Same (Agree-refl _));
-  few = λ l. ap numbers_in e;
-}
+rearranged_opened ts us e = grind arith
 
 pub rearranged_after : {ts us vs : Trees} → IsRearranged ts us → IsRearranged us vs → IsRearranged ts vs
-rearranged_after {ts = ts} {us = us} {vs = vs} a b = record {
-  others = IsPermutation-trans (list_of (others_in (opened ts))) (list_of (others_in (opened us))) (list_of (others_in (opened vs))) a.others b.others;
-  worth = Agree-Same (Agree-trans (Same-Agree b.worth) (Same-Agree a.worth));
-  few = λ l. let e = a.few l in b.few (omega (arith, l, ap count e)) ∙ e;
-}
+rearranged_after a b = grind (arith, IsPermutation-trans, Agree-Same, Same-Agree)
 
 pub unlike_after : {ts us : Trees} → IsRearranged ts us → AreUnlike (others_in (opened ts)) → AreUnlike (others_in (opened us))
 unlike_after {ts = ts} {us = us} a h = unlike_permuted (of_lists (others_in (opened ts)) (others_in (opened us)) a.others) h

@@ -1,9 +1,8 @@
 -- How many bytes the terms of a sum have while they are collected, and for how few at hand that is refused.
 use Rattle.std.proofs.Common.{◌≡◌, ℕ, suc, ◌+◌, ◌*◌, ◌^◌, ◌<◌, ◌≤◌, List, length, Bool, true, false, if◌then◌else◌, refl, ap, ◌∙◌, subst, arith}
-use Rattle.sum_reduce.proofs.Shared.{first_parts, last_parts, permuted_parts, count_removed, sizes_taken, and_from, pow_pos, is_number, NoneIs, are_reduced, num_one, Permuted, permuted_none, permuted_more, permuted_swap, permuted_trans, number_words, counted, counted_among, SpansRoot, SpansTree, SpansTrees, one_fraction, Tree, add, mult, Trees, none, more, append, count, size, with_coefficient, put_room, parts_reduced, IsPairAt, State, free_of, removed, number_size, IsArranged, IsLead, AreLike, Collects, IsJoining, AreFormed, is_partner, nth, inserted, counted_in_all, sum_count}
+use Rattle.sum_reduce.proofs.Shared.{first_parts, last_parts, permuted_parts, count_removed, sizes_taken, and_from, pow_pos, is_number, NoneIs, are_reduced, Permuted, permuted_none, permuted_more, permuted_swap, permuted_trans, number_words, counted, counted_among, SpansRoot, SpansTree, SpansTrees, Tree, add, Trees, none, more, append, count, size, with_coefficient, put_room, parts_reduced, IsPairAt, State, free_of, removed, number_size, IsArranged, IsLead, AreLike, Collects, IsJoining, AreFormed, is_partner, nth, inserted, counted_in_all, sum_count}
 use Rattle.calc_room.specs.Needs.{sum_need}
-use Rattle.calc_room.proofs.NumberBytes.{num_bytes}
-use Rattle.coefficients.specs.Bytes.{bytes_of_coefficient, bytes_of_taking, IsShort}
+use Rattle.coefficients.specs.Bytes.{bytes_of_taking, IsShort}
 use Rattle.node_pool.specs.declared.full.Full.{Full}
 use Rattle.sum_reduce.specs.Rooms.{terms_room}
 use Rattle.sum_reduce.proofs.CollectedCounts.{counted_in, collected_counts, put_counted}
@@ -54,9 +53,7 @@ joined_counts ts c p rest vs less at j e =
 
 -- the terms are in order: a Number counts 1 more
 lead_counts : (ts : Trees) → IsLead ts → counted_in_all ts ≤ 1
-lead_counts none h = omega arith
-lead_counts (more t none) h = omega (arith, number_counts_one t h)
-lead_counts (more t (more u ts)) h = absurd h
+lead_counts ts h = grind (arith, number_counts_one)
 
 other_counts : (ts : Trees) → NoneIs is_number ts → counted_in_all ts ≤ counted_among ts
 other_counts none h = omega arith
@@ -128,18 +125,6 @@ joining_bytes gs ts c p rest less j s =
     scaled (204 * sum_count (more p rest)) (204 * sum_count ts) (2 ^ length gs) (omega (arith, joining_counts ts c p rest less j)) in
     omega (arith, a, b)
 
-taking_most : (t : Tree) → bytes_of_taking t ≤ 40
-taking_most (mult ts) = product ts
-  where
-    product : (ts : Trees) → bytes_of_coefficient ts ≤ 40
-    product ts = by _ _
-      where
-        by : (a b : Bool) → (if a then size num_one else (if b then 0 else 8)) ≤ 40
-        by true b = num_bytes one_fraction
-        by false true = omega arith
-        by false false = omega arith
-taking_most t = num_bytes one_fraction
-
 -- ---- refusals
 
 -- so few bytes are free beside terms
@@ -147,9 +132,7 @@ pub terms_lack : (gs : List ℕ) (ts : Trees) (free h : ℕ) → AreFormed ts �
 terms_lack gs ts free h f s l k = omega (arith, terms_bytes gs ts h f s l, k)
 
 pub taking_lacks : {s now : State} {full : Full} (t : Tree) → IsShort (bytes_of_taking t) s now full → free_of s < 40
-taking_lacks {s = s} t r =
-    let short : free_of s < bytes_of_taking t = subst (λ (f : Full). f.free < f.needed) r.told r.lacks.lacking in
-    omega (arith, short, taking_most t)
+taking_lacks t r = grind arith
 
 pub few_lack : (gs : List ℕ) (free : ℕ) → free < 40 → free < sum_need * 2 ^ length gs
 few_lack gs free l = let p : 0 < 2 ^ length gs = pow_pos (length gs) in omega (arith, l, p)
@@ -176,9 +159,7 @@ part_lacks gs ts c us at less free j l s k =
     omega (arith, a, b, sizes_taken at us l, k)
 
 pub fewer_lack : (gs : List ℕ) (bytes h k : ℕ) → h ≤ k → bytes < terms_room h (2 ^ length gs) → bytes < terms_room k (2 ^ length gs)
-fewer_lack gs bytes h k l b =
-    let a : 204 * h * 2 ^ length gs ≤ 204 * k * 2 ^ length gs = scaled (204 * h) (204 * k) (2 ^ length gs) (omega (arith, l)) in
-    omega (arith, a, b)
+fewer_lack gs bytes h k l b = grind arith
 
 -- the terms with one more that counts stand within the room of the sum
 pub sum_lacks : (ts : Trees) (bytes m : ℕ) → bytes < terms_room (1 + sum_count ts) m → bytes < sum_room (sum_count ts) m

@@ -1,9 +1,9 @@
 -- What is answered for settled terms.
 use Rattle.std.specs.Prelude.{⊤, IsSortedByKey}
 use Rattle.std.proofs.Common.{suc, ◌≤◌, arith, add-one, ◌≡◌, Bool, true, false, ◌&&◌, ◌||◌, not, if◌then◌else◌, refl, sym, ap, ◌∙◌, subst}
-use Rattle.sum_reduce.proofs.Shared.{Ordering, Less, Equal, Greater, is_eq, is_lt, ordering_reverse, and_parts, zero_fraction, nest, nest_of, is_number, are_numbers, part_of, NoneIs, RisesBy, HasForm, is_reduced, are_reduced, tree_cmp, Tree, num, undef, add, Trees, none, more, append, count, names, names_of, is_add, is_undef, AllParts, in_add, has_undef, KeepsMeanings, KeepsMeanings-refl, single_sum, number_test, numbers_defined, tree_cmp_total, parts_reduced, parts_defined, reduced_parts, list_of, keeps, reduces_after, NoPairBetween, IsLead, IsSettled, IsStage, IsSumAnswer, AreFormed, is_loose, is_partner, terms_of_number, sum_tree, written_tree, Within, no_new_name, within_left, within_same, within_none}
+use Rattle.sum_reduce.proofs.Shared.{Ordering, Less, is_eq, is_lt, ordering_reverse, and_parts, nest, nest_of, is_number, are_numbers, part_of, NoneIs, RisesBy, HasForm, is_reduced, are_reduced, tree_cmp, Tree, undef, add, Trees, none, more, append, count, names, names_of, is_add, is_undef, AllParts, in_add, has_undef, KeepsMeanings, single_sum, number_test, numbers_defined, tree_cmp_total, parts_reduced, parts_defined, reduced_parts, list_of, keeps, reduces_after, NoPairBetween, IsLead, IsSettled, IsStage, IsSumAnswer, AreFormed, is_loose, is_partner, terms_of_number, sum_tree, written_tree, Within, no_new_name, within_left, within_none}
 use Rattle.calc_algebra.proofs.UndefRewrites.{undef_part}
-use Rattle.sum_reduce.proofs.WrittenSums.{AreOthers, zero_terms, written_sum, written_formed, written_keeps, written_names, written_nest}
+use Rattle.sum_reduce.proofs.WrittenSums.{AreOthers, written_sum, written_formed, written_keeps, written_names, written_nest}
 use Rattle.tree_handles.proofs.UndefChildren.{undef_inside}
 
 -- ---- reduced terms
@@ -49,17 +49,10 @@ apart_behind t none h = tt
 apart_behind t (more u ts) h = h.1
 
 less_of : (o : Ordering) → is_eq o ≡ false → is_lt (ordering_reverse o) ≡ false → o ≡ Less
-less_of Less h k = refl
-less_of Equal h k = cc
-less_of Greater h k = cc
+less_of o h k = grind arith
 
 apart_parts : (t u : Tree) → is_number t ≡ false → is_number u ≡ false → is_partner t u ≡ false → is_eq (tree_cmp (part_of t) (part_of u)) ≡ false
-apart_parts t u a b h = by (is_number t) (is_number u) a b h
-  where
-    by : (x y : Bool) → x ≡ false → y ≡ false → (not x && not y && is_eq (tree_cmp (part_of t) (part_of u))) ≡ false → is_eq (tree_cmp (part_of t) (part_of u)) ≡ false
-    by true y a b h = cc
-    by false true a b h = cc
-    by false false a b h = h
+apart_parts t u a b h = grind arith
 
 pub rises_strictly : (us : Trees) → NoneIs is_number us → AreApart us → IsSortedByKey part_of tree_cmp (list_of us) → RisesBy part_of us
 rises_strictly none n h s = tt
@@ -89,48 +82,18 @@ record IsWritten (us : Trees) (t : Tree) : Type 0 where
   number-is : are_numbers us ≡ true → is_number t ≡ true
 
 alone : (t : Tree) → AllParts HasForm t → IsWritten (more t none) t
-alone t f = record {
-  formed = f;
-  keeps-meanings = single_sum t;
-  no-name = within_left (names t) _;
-  nest-is = omega arith;
-  number-is = λ h. (and_parts (is_number t) true h).0;
-}
+alone t f = grind (arith, single_sum, within_left)
 
 others_of : (os : Trees) → AreFormed os → NoneIs is_number os → NoneIs is_loose os → IsSortedByKey part_of tree_cmp (list_of os) → AreApart os → AreOthers os
 others_of os f n s r a = record { formed = f; no_number = n; no_sum = no_sums os n s; rising = rises_strictly os n a r }
 
 -- behind a Number
 led : (n : Tree) (o : Tree) (os : Trees) → is_number n ≡ true → AreOthers (more o os) → IsWritten (more n (more o os)) (written_sum n (more o os))
-led n o os h x = record {
-  formed = written_formed n (more o os) h x;
-  keeps-meanings = written_keeps n (more o os) h;
-  no-name = written_names n (more o os);
-  nest-is = written_nest n (more o os);
-  number-is = λ e.
-      let (a, b) = and_parts (is_number n) (is_number o && are_numbers os) e in
-      let (c, d) = and_parts (is_number o) (are_numbers os) b in
-      absurd (clash (sym c ∙ x.no_number.0));
-}
-  where
-    clash : true ≡ false → ⊥
-    clash e = cc
+led n o os h x = grind (arith, written_formed, written_keeps, written_names, written_nest)
 
 -- without one
 unled : (t u : Tree) (os : Trees) → AreOthers (more t (more u os)) → IsWritten (more t (more u os)) (add (more t (more u os)))
-unled t u os x = record {
-  formed = subst (AllParts HasForm) zero_first (written_formed (num zero_fraction) (more t (more u os)) (number_test (num zero_fraction) tt) x);
-  keeps-meanings = KeepsMeanings-refl _;
-  no-name = within_same _;
-  nest-is = omega arith;
-  number-is = λ e. absurd (clash (sym ((and_parts (is_number t) (is_number u && are_numbers os) e).0) ∙ x.no_number.0));
-}
-  where
-    clash : true ≡ false → ⊥
-    clash e = cc
-
-    zero_first : written_sum (num zero_fraction) (more t (more u os)) ≡ add (more t (more u os))
-    zero_first = ap (λ (x : Trees). sum_tree (append x (more t (more u os)))) (zero_terms (num zero_fraction) refl)
+unled t u os x = grind (arith, number_test)
 
 -- terms in order, however they begin
 settled : (lead os : Trees) → IsLead lead → AreFormed (append lead os) → NoneIs is_number os → NoneIs is_loose os → IsSortedByKey part_of tree_cmp (list_of os) → AreApart (append lead os) → 1 ≤ count (append lead os)

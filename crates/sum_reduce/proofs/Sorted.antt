@@ -19,29 +19,16 @@ none_nth p (suc n) (more t ts) l h = none_nth p n ts (omega arith) h.1
 
 -- behind a leading Number
 behind_lead : (lead os : Trees) → IsLead lead → NoneIs is_number os → (n : ℕ) → count lead ≤ n → n < count (append lead os) → is_number (nth n (append lead os)) ≡ false
-behind_lead none os h k n l m = none_nth is_number n os m k
-behind_lead (more t none) os h k zero l m = absurd (omega arith)
-behind_lead (more t none) os h k (suc n) l m = none_nth is_number n os (omega arith) k
-behind_lead (more t (more u ts)) os h k n l m = absurd h
+behind_lead lead os h k n l m = grind (arith, none_nth)
 
 pub led_behind : (ts : Trees) (h : IsLed ts) (n : ℕ) → count h.lead ≤ n → n < count ts → is_number (nth n ts) ≡ false
 led_behind ts h n l m = subst (λ (x : Trees). is_number (nth n x) ≡ false) (sym h.split) (behind_lead h.lead h.others h.one h.no_number n l (subst (λ (x : Trees). n < count x) h.split m))
 
 lead_one : (lead os : Trees) → IsLead lead → NoneIs is_number os → is_number (nth 0 (append lead os)) ≡ true → 1 ≤ count (append lead os) → count lead ≡ 1
-lead_one none os h k e l = absurd (clash (sym e ∙ none_nth is_number 0 os (omega arith) k))
-  where
-    clash : true ≡ false → ⊥
-    clash e = cc
-lead_one (more t none) os h k e l = refl
-lead_one (more t (more u ts)) os h k e l = absurd h
+lead_one lead os h k e l = grind (arith, none_nth)
 
 lead_none : (lead os : Trees) → IsLead lead → is_number (nth 0 (append lead os)) ≡ false → count lead ≡ 0
-lead_none none os h e = refl
-lead_none (more t none) os h e = absurd (clash (sym h ∙ e))
-  where
-    clash : true ≡ false → ⊥
-    clash e = cc
-lead_none (more t (more u ts)) os h e = absurd h
+lead_none lead os h e = grind arith
 
 pub one_leads : (ts : Trees) (h : IsLed ts) → is_number (nth 0 ts) ≡ true → 1 ≤ count ts → 1 ≡ count h.lead
 one_leads ts h e l = sym (lead_one h.lead h.others h.one h.no_number (ap (λ (x : Trees). is_number (nth 0 x)) (sym h.split) ∙ e) (subst (λ (x : Trees). 1 ≤ count x) h.split l))

@@ -1,5 +1,5 @@
 -- From stage to stage of a sum.
-use Rattle.std.proofs.Common.{◌≤◌, ◌≡◌, ◌++◌, Bool, true, false, ◌&&◌, refl, sym, ap, ◌∙◌, arith}
+use Rattle.std.proofs.Common.{◌≤◌, ◌≡◌, ◌++◌, Bool, true, ◌&&◌, refl, sym, ap, ◌∙◌, arith}
 use Rattle.sum_reduce.proofs.Shared.{HasForm, permuted_parts, and_parts, and_from, is_number, value, are_numbers, Same, Tree, Trees, more, count, names, names_of, Permuted, Permuted-refl, permuted_none, permuted_more, permuted_swap, permuted_trans, permuted_sum, joined_in_sum, number_words, sum_of_numbers, SharesDenominators, number_parts, keeps, Rewrites-trans, collects_opened, collects_ordered, collects_numbers, collects_then, IsStage, AreFormed, opened, no_new_name, within_both, within_trans, within_right, within_none, within_eq, names_permuted, number_names, nest_permuted, nest_number}
 use Rattle.sum_reduce.proofs.Held.{held_after, held_permuted}
 use Rattle.sum_reduce.proofs.HeldTerms.{opened_held, added_held}
@@ -13,10 +13,7 @@ pub formed_permuted : {ts us : Trees} → Permuted ts us → AreFormed ts → Ar
 formed_permuted k h = permuted_parts HasForm k h
 
 swapped : (a b c : Bool) → (a && (b && c)) ≡ (b && (a && c))
-swapped true true c = refl
-swapped true false c = refl
-swapped false true c = refl
-swapped false false c = refl
+swapped a b c = grind arith
 
 numbers_permuted : {ts us : Trees} → Permuted ts us → are_numbers ts ≡ are_numbers us
 numbers_permuted permuted_none = refl

@@ -1,6 +1,6 @@
 -- Free bytes and those of a sum, from call to call.
-use Rattle.std.proofs.Common.{◌≡◌, ◌∙◌, ℕ, ◌+◌, ◌<◌, ◌≤◌, ap, arith, Bool, true, false, if◌then◌else◌}
-use Rattle.sum_reduce.proofs.Shared.{Tree, add, Trees, none, more, count, size, sizes, sum_whole, State, free_of, is_number, sizes_taken, terms_in, IsSum, Changes, Takes, terms_of_loose, opened, without_put, plain, Forest, bytes_in, tree_of, root_tree, without_root, Stands, forest, KeepsRefusals, handed_beside, tree-without}
+use Rattle.std.proofs.Common.{◌≡◌, ◌∙◌, ℕ, ◌+◌, ◌<◌, ◌≤◌, ap, arith}
+use Rattle.sum_reduce.proofs.Shared.{Tree, add, Trees, none, more, count, size, sizes, sum_whole, State, free_of, sizes_taken, terms_in, IsSum, Changes, Takes, terms_of_loose, opened, without_put, plain, Forest, bytes_in, tree_of, root_tree, without_root, Stands, forest, KeepsRefusals, handed_beside, tree-without}
 use Rattle.coefficients.proofs.Rooms.{sizes_append}
 use Rattle.like_children.proofs.Many.{all_bytes, handed_bytes}
 use Rattle.sum_reduce.proofs.Sums.{IsOut, changes_rest, takes_rest, takes_handed, takes_apart}
@@ -52,15 +52,7 @@ out_free {s = s} {t = t} {i = i} {n = n} st su k l o =
 -- ---- sums that are opened
 
 loose_sizes : (t : Tree) → sizes (terms_of_loose t) ≤ size t
-loose_sizes (add ts) = by (is_number (add ts))
-  where
-    by : (b : Bool) → sizes (if b then more (add ts) none else ts) ≤ size (add ts)
-    by true = omega arith
-    by false = omega arith
-loose_sizes t = alone (size t)
-  where
-    alone : (n : ℕ) → n + 0 ≤ n
-    alone n = omega arith
+loose_sizes t = grind arith
 
 pub opened_sizes : (ts : Trees) → sizes (opened ts) ≤ sizes ts
 opened_sizes none = omega arith

@@ -1,6 +1,6 @@
 -- Roots that are sums, from call to call.
 use Rattle.std.proofs.Common.{ℕ, ◌<◌, ◌≡◌, List, [], ◌∷◌, eqb, true, false, refl, sym, ap, ◌∙◌, subst, arith}
-use Rattle.sum_reduce.proofs.Shared.{Tree, Trees, none, more, count, is_add, State, IsOver, over_sum, over_handed, over_plain, over_put, over_same, over_end, over_beside, without_put, once_count, children_in, live, expression, seen, nth, plain, inserted, children_of, IsExpression, Forest, arity, kids, root_count, tree_nth, without_nth, with_nth, merged_nth, IsOnce, IsHanded, Represents, Ends, Gives, KeepsFront, holds, tree_at, kids_of, root_tree, without_root, Stands, forest, arity-tree_nth, IsBehind, behind_first, behind_later, behind_new, front_same, front_at, front_end, front_put, front_without, gives, gives_as, given_handed, given_root, given_rest, given_same, given_told, given_other, given_without, handed_by_put, represents_handed, represents_with, apart, ends_as, other_apart, kids_of_root, last_tree, eqb-sym, root-put, put-put, put-same, tree-put, without-put, represents_nth, represents_without, represents_merged, terms_in, IsSum, Changes, Takes, removed}
+use Rattle.sum_reduce.proofs.Shared.{Tree, Trees, none, more, count, is_add, State, IsOver, over_sum, over_handed, over_plain, over_put, over_same, over_end, over_beside, without_put, once_count, children_in, live, expression, seen, nth, plain, inserted, children_of, IsExpression, Forest, arity, kids, root_count, tree_nth, without_nth, with_nth, merged_nth, IsOnce, IsHanded, Represents, Ends, Gives, KeepsFront, holds, tree_at, kids_of, root_tree, without_root, Stands, forest, arity-tree_nth, IsBehind, behind_first, behind_later, behind_new, front_same, front_at, front_end, front_put, front_without, gives, gives_as, given_handed, given_root, given_rest, given_same, given_told, given_other, given_without, handed_by_put, represents_handed, represents_with, apart, other_apart, kids_of_root, last_tree, eqb-sym, root-put, put-put, put-same, tree-put, without-put, represents_nth, represents_without, represents_merged, terms_in, IsSum, Changes, Takes, removed}
 use Rattle.coefficients.specs.Pairs.{GivesTwo}
 use Rattle.tree_handles.proofs.Cuts.{represents_count}
 use Rattle.tree_handles.proofs.Beside.{gives_put, gives_without}
@@ -128,9 +128,7 @@ takes_after {i = i} {f = f} t u = record { was = t.was; kids = u.kids; given = g
 
 -- it is handed on, and comes back beside a sum with other terms
 pub taken_given : {i h : ℕ} {f g : Forest} {P : Tree → Type 0} → Takes i f g h → P (plain (root_tree h g)) → Gives (without_root h g) g h P
-taken_given {P = P} t p =
-    let k = t.given in
-    record { tree = k.tree; ends = ends_as k.ends refl (sym (given_rest k)); once = k.once; whole = k.whole; told = subst (λ (x : Forest). P (plain x)) (last_tree k.ends) p }
+taken_given t p = grind (arith, given_rest, last_tree)
 
 pub taken_on : {i h m : ℕ} {us : Trees} {f g new : Forest} → Takes i f g h → LeavesChildren i us (without_root h g) new m → IsLeft i us f new m
 taken_on {i = i} {f = f} t l =

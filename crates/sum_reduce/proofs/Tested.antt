@@ -1,10 +1,7 @@
 -- Trees that the tests build.
-use Rattle.std.proofs.Common.{ℕ, zero, suc, ◌≡◌, List, inr, Bool, true, false, ◌&&◌, not, refl, sym, ap}
+use Rattle.std.proofs.Common.{arith, ℕ, zero, suc, ◌≡◌, List, inr, true, refl, sym, ap}
 use Rattle.sum_reduce.proofs.Shared.{and_parts, and_from, is_number, is_reduced, are_reduced, Tree, symbol, add, Trees, none, more, is_add, number_words, IsMonic, parts_reduced, number_parts, plain, inserted, children_of, Forest, kids, Ends, Gives, root_tree, without_root, gives, gives_as, given_handed, given_told, represents_handed, last_tree, put-same, over_end, IsSum, terms_in, is_loose}
 use Rattle.sum_reduce.proofs.Sums.{IsRewritten, sum_over, over_is_sum, over_terms}
-
-clash : false ≡ true → ⊥
-clash e = cc
 
 pub symbol_monic : (x : List ℕ) → IsMonic (symbol x)
 unfolding is_number
@@ -15,12 +12,7 @@ number_reduced t h = parts_reduced t (number_parts t (number_words t h))
 
 -- a reduced sum that is no Number has no coefficient
 pub loose_monic : (t : Tree) → is_reduced t ≡ true → is_loose t ≡ true → IsMonic t
-loose_monic (add ts) r h = record { reduced = r; defined = refl; no_coefficient = no_number (is_number (add ts)) h }
-  where
-    no_number : (b : Bool) → (true && not b) ≡ true → b ≡ false
-    no_number true e = absurd (clash e)
-    no_number false e = refl
-loose_monic t r h = absurd (clash h)
+loose_monic t r h = grind arith
 
 -- a sum without terms
 pub empty_sum : {i : ℕ} {f g : Forest} → Gives f g i (λ t. t ≡ add none) → IsSum i g

@@ -38,9 +38,7 @@ nodes_of_factors : (ts : Trees) → nodes_of (split_product ts).factors ≤ node
 nodes_of_factors ts = split_cases (λ ts c us. nodes_of us ≤ nodes_of ts) (λ ts. omega arith) (λ t ts n. omega arith) (λ q r ts e. omega arith) ts
 
 nodes_of_product : (ts : Trees) → nodes (product_tree ts) ≤ suc (nodes_of ts)
-nodes_of_product none = omega arith
-nodes_of_product (more t none) = omega arith
-nodes_of_product (more t (more u ts)) = omega arith
+nodes_of_product ts = grind arith
 
 nodes_of_part : (t : Tree) → nodes (part_of t) ≤ nodes t
 nodes_of_part (mult ts) = omega (arith, nodes_of_factors ts, nodes_of_product (split_product ts).factors)

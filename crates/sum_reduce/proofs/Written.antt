@@ -11,9 +11,7 @@ spread_sum (add ts) h = refl
 spread_sum _ h = cc
 
 spread_term : (t : Tree) → is_zero t ≡ false → is_add t ≡ false → more t none ≡ terms_of_number t
-spread_term (num q) z s = sym (ap (λ (b : Bool). if b then none else more (num q) none) z)
-spread_term (add ts) z s = cc
-spread_term t z s = refl
+spread_term t z s = grind arith
 
 pub spread_one : (ts : Trees) → 1 ≤ count ts → is_zero (nth 0 ts) ≡ false → is_add (nth 0 ts) ≡ false → ts ≡ append (terms_of_number (nth 0 ts)) (removed 0 ts)
 spread_one none l z s = absurd (omega arith)
@@ -22,14 +20,10 @@ spread_one (more t ts) l z s = ap (λ (x : Trees). append x ts) (spread_term t z
 -- ---- whether a Number leads
 
 pub leads_two : (ts : Trees) → 1 < count ts → leads_number ts ≡ is_number (nth 0 ts)
-leads_two none l = absurd (omega arith)
-leads_two (more t none) l = absurd (omega arith)
-leads_two (more t (more u ts)) l = refl
+leads_two ts l = grind arith
 
 leads_none : (ts : Trees) → (1 < count ts → ⊥) → leads_number ts ≡ false
-leads_none none l = refl
-leads_none (more t none) l = refl
-leads_none (more t (more u ts)) l = absurd (l (omega arith))
+leads_none ts l = grind arith
 
 not_above : (n : ℕ) → n ≤ 1 → nat_lt 1 n ≡ false
 not_above n l = by_test (λ b. nat_lt 1 n ≡ b → b ≡ false) (nat_lt 1 n) (λ p q. absurd (omega (arith, ltb-true 1 n q, l))) (λ p q. refl) refl
@@ -54,12 +48,7 @@ written_unled ts h = sym (ap (λ (b : Bool). if b then sum_tree (append (terms_o
 -- ---- a sum of one term
 
 pub only_term : (ts : Trees) → count ts ≡ 1 → nth 0 ts ≡ sum_tree ts
-only_term none h = absurd (omega (arith, h))
-only_term (more t none) h = refl
-only_term (more t (more u ts)) h = absurd (omega (arith, h))
+only_term ts h = grind arith
 
 pub other_sum : (t : Tree) → is_add t ≡ true → 1 ≤ count (children_of t) → (count (children_of t) ≡ 1 → ⊥) → t ≡ sum_tree (children_of t)
-other_sum (add none) m l h = absurd (omega arith)
-other_sum (add (more t none)) m l h = absurd (h refl)
-other_sum (add (more t (more u ts))) m l h = refl
-other_sum _ m l h = cc
+other_sum t m l h = grind arith

@@ -1,6 +1,6 @@
 -- A Number's terms and other terms whose parts rise are a reduced sum, with the meanings, the names and the nest of its parts.
-use Rattle.std.proofs.Common.{◌≡◌, inl, inr, ◌≤◌, [], Bool, true, false, not, if◌then◌else◌, refl, sym, ap, ◌∙◌, subst, arith}
-use Rattle.sum_reduce.proofs.Shared.{zero_fraction, is_zero_fraction, nest, nest_of, is_number, terms_of, IsNumber, IsTerm, AreTerms, Rises, part_of, number_terms, other_terms, HasForm, NoneIs, RisesBy, Tree, num, add, mult, root, Trees, none, more, append, names, names_of, AllParts, AllPartsOf, HasTwo, is_add, KeepsMeanings, KeepsMeanings-refl, KeepsMeanings-eq, KeepsMeanings-trans, flat_sum, zero_goes, empty_sum, single_sum, zero_test, no_zero, number_words, AsNumber, as_number, term_test, no_term, AllPartsOf-append, terms_parts, terms_of_number, sum_tree, Within, within_same, within_both, within_beside, within_trans, within_left, within_none, within_eq, names_of-append, nest-append}
+use Rattle.std.proofs.Common.{◌≡◌, inl, inr, ◌≤◌, Bool, true, false, not, if◌then◌else◌, refl, sym, ap, ◌∙◌, arith}
+use Rattle.sum_reduce.proofs.Shared.{zero_fraction, is_zero_fraction, nest, nest_of, is_number, terms_of, IsNumber, IsTerm, AreTerms, Rises, part_of, number_terms, other_terms, HasForm, NoneIs, RisesBy, Tree, num, add, Trees, none, more, append, names, names_of, AllParts, AllPartsOf, HasTwo, is_add, KeepsMeanings, KeepsMeanings-eq, KeepsMeanings-trans, flat_sum, zero_goes, empty_sum, single_sum, zero_test, no_zero, number_words, AsNumber, as_number, term_test, no_term, AllPartsOf-append, terms_parts, terms_of_number, sum_tree, Within, within_same, within_both, within_beside, within_trans, within_left, within_eq, names_of-append, nest-append}
 
 -- a Number's terms, and then the other terms
 abbrev pub written_sum : Tree → Trees → Tree
@@ -26,10 +26,7 @@ pub zero_terms : (a : Tree) → a ≡ num zero_fraction → terms_of_number a �
 zero_terms a e = ap terms_of_number e ∙ ap (λ b. if b then none else more (num zero_fraction) none) zero_is_zero
 
 pub term_in : (a : Tree) → IsTerm a → terms_of_number a ≡ more a none
-term_in (num q) h = ap (λ b. if b then none else more (num q) none) (zero_test q h)
-term_in (root a) h = refl
-term_in (mult ts) h = refl
-term_in t h = absurd h
+term_in a h = grind (arith, zero_test)
 
 -- ---- which terms make the Number
 
@@ -64,43 +61,23 @@ pub record AreNumberTerms (ts : Trees) : Type 0 where
   pub rising : Rises (terms_of ts)
 
 pub number_terms_in : (a : Tree) → IsNumber a → AreNumberTerms (terms_of_number a)
-number_terms_in a h = by (as_number a h)
-  where
-    by : AsNumber a → AreNumberTerms (terms_of_number a)
-    by (inl z) = subst AreNumberTerms (sym (zero_terms a z.is)) (record { terms = tt; rising = tt })
-    by (inr (inl s)) = subst AreNumberTerms (sym (term_in a s.one)) (record { terms = (s.one, tt); rising = (tt, tt) })
-    by (inr (inr s)) = subst AreNumberTerms (ap terms_of_number (sym s.is)) (record { terms = s.are; rising = (subst IsNumber s.is h).2 })
+number_terms_in a h = grind (arith, as_number, zero_terms, term_in)
 
 -- two terms or more in the form of a sum
 sum_formed : (ts us : Trees) → AreNumberTerms ts → AreOthers us → HasTwo (append ts us) → AllParts HasForm (add (append ts us))
-sum_formed ts us n o two = (
-  inr (record {
-    two = two;
-    no_sum = NoneIs-append is_add ts us (no_sum_terms ts n.terms) o.no_sum;
-    number = subst (λ (x : Trees). Rises (terms_of x)) (sym (number_terms-terms ts us n.terms o.no_number)) n.rising;
-    no_number = subst (NoneIs is_number) (sym (other_terms-terms ts us n.terms o.no_number)) o.no_number;
-    rising = subst (RisesBy part_of) (sym (other_terms-terms ts us n.terms o.no_number)) o.rising;
-  }),
-  AllPartsOf-append HasForm ts us (terms_parts ts n.terms) o.formed,
-)
+sum_formed ts us n o h = grind (arith, NoneIs-append, no_sum_terms, number_terms-terms, other_terms-terms, AllPartsOf-append, terms_parts)
 
 any_formed : (ts : Trees) → (HasTwo ts → AllParts HasForm (add ts)) → AllPartsOf HasForm ts → AllParts HasForm (sum_tree ts)
-any_formed none f h = inl tt
-any_formed (more t none) f h = h.0
-any_formed (more t (more u ts)) f h = f tt
+any_formed ts f h = grind arith
 
 -- what is written has its form
 pub written_formed : (a : Tree) (us : Trees) → is_number a ≡ true → AreOthers us → AllParts HasForm (written_sum a us)
-written_formed a us h o =
-    let n = number_terms_in a (number_words a h) in
-    any_formed (append (terms_of_number a) us) (sum_formed (terms_of_number a) us n o) (AllPartsOf-append HasForm (terms_of_number a) us (terms_parts (terms_of_number a) n.terms) o.formed)
+written_formed a us h o = grind (arith, number_terms_in, number_words, any_formed, sum_formed, AllPartsOf-append, terms_parts)
 
 -- ---- meanings
 
 tree_keeps : (ts : Trees) → KeepsMeanings (add ts) (sum_tree ts)
-tree_keeps none = empty_sum
-tree_keeps (more t none) = single_sum t
-tree_keeps (more t (more u ts)) = KeepsMeanings-refl (add (more t (more u ts)))
+tree_keeps ts = grind (arith, empty_sum, single_sum)
 
 number_opened : (a : Tree) (us : Trees) → IsNumber a → KeepsMeanings (add (more a us)) (add (append (terms_of_number a) us))
 number_opened a us h = by (as_number a h)
@@ -117,32 +94,16 @@ written_keeps a us h = KeepsMeanings-trans (number_opened a us (number_words a h
 -- ---- names and nest
 
 tree_names : (ts : Trees) → Within (names_of ts) (names (sum_tree ts))
-tree_names none = within_none _
-tree_names (more t none) = within_left (names t) []
-tree_names (more t (more u ts)) = within_same _
+tree_names ts = grind (arith, within_left, within_same)
 
 tree_nest : (ts : Trees) → nest (sum_tree ts) ≤ nest_of ts
-tree_nest none = omega arith
-tree_nest (more t none) = omega arith
-tree_nest (more t (more u ts)) = omega arith
+tree_nest ts = grind arith
 
 number_terms_names : (a : Tree) → Within (names a) (names_of (terms_of_number a))
-number_terms_names (num q) = by (is_zero_fraction q)
-  where
-    by : (b : Bool) → Within [] (names_of (if b then none else more (num q) none))
-    by true = within_none []
-    by false = within_none []
-number_terms_names (add ts) = within_same _
-number_terms_names t = within_both (names t) (names t) [] (within_same (names t)) (within_none (names t))
+number_terms_names a = grind (arith, within_same, within_both)
 
 number_terms_nest : (a : Tree) → nest_of (terms_of_number a) ≤ nest a
-number_terms_nest (num q) = by (is_zero_fraction q)
-  where
-    by : (b : Bool) → nest_of (if b then none else more (num q) none) ≤ 0
-    by true = omega arith
-    by false = omega arith
-number_terms_nest (add ts) = omega arith
-number_terms_nest t = omega arith
+number_terms_nest a = grind arith
 
 pub written_names : (a : Tree) (us : Trees) → Within (names_of (more a us)) (names (written_sum a us))
 written_names a us =

@@ -1,5 +1,5 @@
 use Rattle.std.proofs.Common.{◌<◌, ◌≤◌, ◌+◌, sym, subst, add-one, arith, rules, ℕ}
-use Rattle.sum_reduce.proofs.Shared.{Trees, nth, Forest, forest, State, tree_of, behind_first, front_after_two, IsStage, IsJoining, Takes, IsPairAt, widths, nodes, terms_in, passed_named, result_named, Overflows, free_of, removed, passed_lacks, refusal_lacks, result_lacks, keeps_after, sum_count, addends_of_each}
+use Rattle.sum_reduce.proofs.Shared.{Trees, nth, Forest, forest, State, tree_of, behind_first, front_after_two, IsStage, IsJoining, Takes, widths, nodes, terms_in, passed_named, result_named, Overflows, free_of, removed, passed_lacks, refusal_lacks, result_lacks, keeps_after, sum_count, addends_of_each}
 use Rattle.sum_reduce.proofs.Joins.{IsBegun, begins, next_partner, first_partner, partner_within, joining_formed, two_joined, joining_done, joined_within, joined_others, pair_here, here_reduced, here_defined}
 use Rattle.sum_reduce.proofs.Results.{on_ok_map}
 use Rattle.sum_reduce.proofs.Sums.{takes_handed, takes_apart, takes_after, takes_behind, takes_front, takes_changes}
