@@ -1,24 +1,18 @@
 -- Loads and weights of powers.
-use Rattle.std.proofs.Common.{◌≡◌, ℕ, suc, ◌+◌, ◌≤◌, Bool, true, false, ◌||◌, if◌then◌else◌, refl, arith, add-le-add}
+use Rattle.std.proofs.Common.{◌≡◌, ℕ, ◌+◌, ◌≤◌, Bool, true, false, ◌||◌, if◌then◌else◌, refl, arith, add-le-add}
 use Rattle.power_reduce.proofs.Shared.{load, weight, weight_of_factors, load_of_factor, load_of_factors, has_coefficient, is_number, IsNumber, number_test, number_words, is_opaque_exponent, base_of, Tree, num, symbol, undef, add, mult, power, root, neg, sub, div, Trees, none, more, is_undef}
 
 -- a test that leaves nothing or a number
 at_most : (t : Bool) (x n : ℕ) → x ≤ n → (if t then 0 else x) ≤ n
-at_most true x n h = omega arith
-at_most false x n h = h
+at_most t x n h = grind arith
 
 base_weight : (t : Tree) → weight (base_of t) ≤ weight t
-base_weight (power b e) = by (is_opaque_exponent e)
-  where
-    by : (t : Bool) → weight (if t then power b e else b) ≤ suc (weight b)
-    by true = omega arith
-    by false = omega arith
+base_weight (power b e) = grind arith
 base_weight _ = omega arith
 
 -- a product that is a Number has no load
 number_factors : (ts : Trees) → IsNumber (mult ts) → load_of_factors ts ≡ 0
-number_factors (more (num q) (more (root (num r)) none)) h = rw (number_test (num q) tt, number_test (root (num r)) h.2) refl
-number_factors _ h = absurd h
+number_factors ts h = grind (arith, number_test)
 
 pub number_load : (t : Tree) → is_number t ≡ true → load_of_factor t ≡ 0
 number_load (mult ts) h = number_factors ts (number_words (mult ts) h)

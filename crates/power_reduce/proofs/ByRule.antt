@@ -107,8 +107,7 @@ raises ts e r n =
 -- ---- all rewritings
 
 is_false : (b : Bool) → not b ≡ true → b ≡ false
-is_false true h = cc
-is_false false h = refl
+is_false b h = grind arith
 
 whole_by_rule : (b e t : Tree) → is_reduced b ≡ true → rewritten_whole b e ≡ Some t → IsByRule b e t
 whole_by_rule b e t r h = grind (arith, halves, is_false, joins, raises)
@@ -123,8 +122,7 @@ pub transparent_whole : (e : Tree) → is_whole_num e ≡ true → is_opaque_exp
 transparent_whole e h = grind arith
 
 pub no_number_power : (b e : Tree) → is_number b ≡ false → has_number_power b e ≡ false
-no_number_power b (num q) h = rw h refl
-no_number_power b e h = refl
+no_number_power b e h = grind arith
 
 power_no_number : (c f : Tree) → is_number (power c f) ≡ false
 unfolding is_number

@@ -1,7 +1,7 @@
 -- Which powers no rule rewrites, by what the program tests.
-use Rattle.std.proofs.Common.{◌≡◌, ◌≢◌, ℕ, ◌%◌, ◌<◌, ◌^◌, ℤ, pos, negsuc, suc, neg_ℤ, Bool, true, false, ◌&&◌, ◌||◌, not, if◌then◌else◌, Some, None, Result, Err, ◌⊎◌, inl, inr, refl, sym, ap, ◌∙◌, subst, arith, to_z, of_z, FitsSigned}
+use Rattle.std.proofs.Common.{◌≡◌, ◌≢◌, ℕ, ◌<◌, ◌^◌, ℤ, pos, Bool, true, false, ◌&&◌, ◌||◌, not, if◌then◌else◌, Some, None, Result, Err, ◌⊎◌, inl, inr, refl, sym, ap, ◌∙◌, subst, arith, to_z, of_z, FitsSigned}
 use Rattle.std.specs.Prelude.{nat_abs, int_rem, ◌==◌}
-use Rattle.power_reduce.proofs.Shared.{and_parts, eqb-true, rem_is, fits_signed_from_abs, w128, IsErrAnd, Fraction, whole_fraction, zero_fraction, is_zero_fraction, int_is_zero, int_is_one, int_is_even, is_number, PlainValue, plain_value, nothing, is_half_num, is_whole_num, is_opaque_exponent, Tree, num, undef, mult, power, root, none, more, root_kind, is_num, is_undef, is_root, whole_numerator, whole_denominator, zero_is, number_test, number_words, State, AnswersRationals, is_zero, is_power, base_in, exponent_in, is_at_most_zero, has_no_power, IsPowerAnswer, HasReducedSides, goes_inside, is_zero_or_one, is_even_whole, half, parts_of, raised, rewritten, rewritten_whole, numerator, told, Rewrites, Gives, AnswersRationalStep, Step, NumberFault, Forest, gives_as, by_test}
+use Rattle.power_reduce.proofs.Shared.{and_parts, rem_is, fits_signed_from_abs, w128, IsErrAnd, Fraction, whole_fraction, zero_fraction, is_zero_fraction, int_is_zero, int_is_one, int_is_even, is_number, PlainValue, plain_value, nothing, is_half_num, is_whole_num, is_opaque_exponent, Tree, num, undef, mult, power, root, root_kind, is_num, is_undef, is_root, whole_numerator, whole_denominator, zero_is, number_test, number_words, State, AnswersRationals, is_zero, is_power, base_in, exponent_in, is_at_most_zero, has_no_power, IsPowerAnswer, HasReducedSides, goes_inside, is_zero_or_one, is_even_whole, half, parts_of, raised, rewritten, rewritten_whole, numerator, Rewrites, Gives, AnswersRationalStep, Step, NumberFault, Forest, gives_as, by_test}
 use Rattle.calc_algebra.proofs.HalfLaws.{half_is_odd}
 use Rattle.power_reduce.proofs.Answered.{kept_answer, undef_base_answer, undef_exponent_answer}
 use Rattle.power_reduce.proofs.ByRule.{has_power}
@@ -15,18 +15,15 @@ use Rattle.calc_terms.specs.declared.kind.Kind.TheVariants as kind
 -- ---- tests
 
 and_false : (b : Bool) → (b && false) ≡ false
-and_false true = refl
-and_false false = refl
+and_false b = grind arith
 
 is_false : (b : Bool) → not b ≡ true → b ≡ false
-is_false true h = cc
-is_false false h = refl
+is_false b h = grind arith
 
 -- ---- kinds
 
 pub power_kind : (t : Tree) → kind.Pow ≡ root_kind t → is_power t ≡ true
-power_kind (power b e) h = refl
-power_kind _ h = cc
+power_kind t h = grind arith
 
 pub no_rational : {A : Type 0} (t : Tree) → is_num t ≡ true → is_num t ≡ false → A
 no_rational t h k = absurd cc
@@ -35,8 +32,7 @@ pub rational_number : (t : Tree) (q : Fraction) → t ≡ num q → is_number t 
 rational_number t q h = ap is_number h ∙ number_test (num q) tt
 
 pub no_num_kind : (t : Tree) → (kind.Num ≡ root_kind t → ⊥) → is_num t ≡ false
-no_num_kind (num q) h = absurd (h refl)
-no_num_kind t h = refl
+no_num_kind t h = grind arith
 
 -- ---- what goes inside
 
@@ -59,8 +55,7 @@ one_or_zero : (z : ℤ) → z ≢ pos 0 → z ≢ pos 1 → (int_is_zero z || in
 one_or_zero z a b = grind arith
 
 and_true : (b : Bool) → (b && true) ≡ b
-and_true true = refl
-and_true false = refl
+and_true b = grind arith
 
 whole_other : (z : ℤ) → z ≢ pos 0 → z ≢ pos 1 → is_zero_or_one (num (whole_fraction z)) ≡ false
 whole_other z a b = rw (whole_numerator z, whole_denominator z) (ap (λ (x : Bool). int_is_zero z || x) (and_true (int_is_one z)) ∙ one_or_zero z a b)
@@ -78,15 +73,13 @@ even_rem : (z : ℤ) → int_rem z (pos 2) ≡ pos 0 → int_is_even z ≡ true
 even_rem z h = grind arith
 
 rem_even : (z : ℤ) → int_is_even z ≡ true → int_rem z (pos 2) ≡ pos 0
-rem_even (pos n) h = let k : n % 2 ≡ 0 = eqb-true (n % 2) 0 h in ap pos k
-rem_even (negsuc n) h = let k : n % 2 ≡ 1 = eqb-true (n % 2) 1 h in let l : suc n % 2 ≡ 0 = omega arith in ap (λ m. neg_ℤ (pos m)) l
+rem_even z h = grind arith
 
 pub even_bits : (z : ℤ) → nat_abs z < 2 ^ 127 → of_z w128 (int_rem (to_z w128 (of_z w128 z)) (to_z w128 (of_z w128 (pos 2)))) ≡ 0 → int_is_even z ≡ true
 even_bits z fits h = even_rem z (sym (remainder z fits) ∙ ap (to_z w128) h)
 
 pub odd_bits : (z : ℤ) → nat_abs z < 2 ^ 127 → (of_z w128 (int_rem (to_z w128 (of_z w128 z)) (to_z w128 (of_z w128 (pos 2)))) ≡ 0 → ⊥) → int_is_even z ≡ false
-odd_bits z fits h = by_test (λ b. int_is_even z ≡ b → b ≡ false) (int_is_even z)
-    (λ x y. absurd (h (ap (λ a. of_z w128 (int_rem a (to_z w128 (of_z w128 (pos 2))))) (told z fits) ∙ ap (λ a. of_z w128 (int_rem z a)) (told (pos 2) (omega arith)) ∙ ap (of_z w128) (rem_even z y)))) (λ x y. refl) refl
+odd_bits z h k = grind (arith, by_test, rem_even)
 
 no_zero : (z : ℤ) → z ≢ pos 0 → int_is_zero z ≡ false
 no_zero z h = grind arith
@@ -104,8 +97,7 @@ outside_kept : (b e : Tree) → goes_inside e ≡ false → ((q : Fraction) → 
 outside_kept b e h k = grind arith
 
 pub undef_exponent_kept : (b e : Tree) → is_undef e ≡ true → rewritten b e ≡ None
-undef_exponent_kept b undef h = outside_kept b undef refl (λ q k. absurd cc)
-undef_exponent_kept b e h = absurd cc
+undef_exponent_kept b e h = grind (arith, outside_kept)
 
 pub undef_base_kept : (b e : Tree) → is_undef b ≡ true → rewritten b e ≡ None
 undef_base_kept b e h = grind arith
@@ -138,8 +130,7 @@ number_kept b e n w = as_whole b e (whole_no_half e w) ∙ whole_number_kept b e
 
 -- an opaque power
 pub sealed_kept : (b e : Tree) → is_power b ≡ true → goes_inside e ≡ true → is_opaque_exponent (exponent_in b) ≡ true → rewritten b e ≡ None
-sealed_kept (power c f) e p i h = as_whole (power c f) e (whole_no_half e (inside_whole e i)) ∙ rw h (ap (λ (x : Bool). if x then Some (power c (mult (more f (more e none)))) else None) (and_false (goes_inside e)))
-sealed_kept b e p i h = absurd cc
+sealed_kept b e p i h = grind (arith, as_whole, whole_no_half, inside_whole, and_false)
 
 -- any other base
 whole_other_kept : (b e : Tree) → (kind.Pow ≡ root_kind b → ⊥) → (kind.Mult ≡ root_kind b → ⊥) → (is_root b ≡ true → rewritten_whole b e ≡ None) → rewritten_whole b e ≡ None
@@ -163,8 +154,7 @@ root_once r e h k = grind (arith, whole_is, number_kept, odd_root_kept, half_is_
 
 no_zero_base : (b : Tree) → is_number b ≡ false → is_zero b ≡ false
 unfolding is_number
-no_zero_base (num q) h = cc
-no_zero_base b h = refl
+no_zero_base b h = grind arith
 
 pub other_power : (b e : Tree) → is_undef b ≡ false → is_undef e ≡ false → is_number b ≡ false → has_no_power b e ≡ false
 other_power b e u v n = has_power b e u (no_zero_base b n) v
@@ -212,8 +202,7 @@ undef_exponent b e h = inr h
 
 pub undef_kept : (b e : Tree) → HasUndef b e → rewritten b e ≡ None
 unfolding HasUndef
-undef_kept b e (inl h) = undef_base_kept b e h
-undef_kept b e (inr h) = undef_exponent_kept b e h
+undef_kept b e h = grind (arith, undef_base_kept, undef_exponent_kept)
 
 base_answer : (b e : Tree) → is_undef b ≡ true → IsPowerAnswer b e undef
 base_answer undef e h = undef_base_answer e
@@ -229,10 +218,8 @@ undef_answer b e t (inl h) u = subst (IsPowerAnswer b e) (sym u) (base_answer b 
 undef_answer b e t (inr h) u = subst (IsPowerAnswer b e) (sym u) (exponent_answer b e h)
 
 no_rational_undef : (t : Tree) → is_num t ≡ true → is_undef t ≡ true → ⊥
-no_rational_undef (num q) h k = cc
-no_rational_undef t h k = cc
+no_rational_undef t h k = grind arith
 
 pub defined_rationals : {A : Type 0} (b e : Tree) → HasUndef b e → is_num b ≡ true → is_num e ≡ true → A
 unfolding HasUndef
-defined_rationals b e (inl h) n m = absurd (no_rational_undef b n h)
-defined_rationals b e (inr h) n m = absurd (no_rational_undef e m h)
+defined_rationals b e h n m = grind (arith, no_rational_undef)

@@ -1,7 +1,7 @@
 -- The answer of a step counts no more than the power, and what a rewriting of a product counts.
-use Rattle.std.proofs.Common.{◌≡◌, ◌+◌, ◌≤◌, pos, Bool, true, false, ◌||◌, None, Result, Ok, Err, refl, ap, ◌∙◌, arith}
+use Rattle.std.proofs.Common.{◌≡◌, ◌+◌, ◌≤◌, pos, Bool, true, false, ◌||◌, None, Result, refl, ap, ◌∙◌, arith}
 use Rattle.std.specs.Prelude.{if◌then◌else◌, IfOk}
-use Rattle.power_reduce.proofs.Shared.{is_number, is_num_one, is_reduced, is_whole_num, num_one, split_product, NoneIs, counted, counted_among, counted_other, Fraction, one_fraction, is_zero_fraction, is_one_fraction, Tree, num, undef, mult, power, Trees, none, more, is_undef, zero_is, one_is, State, is_power, base_in, exponent_in, has_no_power, has_number_power, IsWrittenPower, IsPowerAnswer, IsStep, is_zero_or_one, parts_of, rewritten, IfDone, Step, Forest, tree_of, NumberFault, given_told, split_counts, counts_one, number_counts_one}
+use Rattle.power_reduce.proofs.Shared.{is_number, is_num_one, is_reduced, is_whole_num, num_one, split_product, NoneIs, counted, counted_among, counted_other, Fraction, one_fraction, is_zero_fraction, is_one_fraction, Tree, num, mult, power, Trees, none, more, is_undef, zero_is, one_is, State, is_power, base_in, exponent_in, has_no_power, has_number_power, IsWrittenPower, IsPowerAnswer, IsStep, is_zero_or_one, parts_of, rewritten, IfDone, Step, Forest, tree_of, NumberFault, given_told, split_counts, counts_one, number_counts_one}
 use Rattle.power_reduce.proofs.Powers.{power_is}
 use Rattle.power_reduce.proofs.Rooms.{HasFactors, product_factors}
 use Rattle.power_reduce.proofs.Whole.{whole_is}
@@ -9,8 +9,7 @@ use Rattle.tree_room.specs.Handed.{counted_in_all}
 use Rattle.reduce_port.specs.declared.step.Step.TheVariants as step
 
 undef_counts : (t : Tree) → is_undef t ≡ true → counted t ≡ 1
-undef_counts undef h = refl
-undef_counts t h = absurd cc
+undef_counts t h = grind arith
 
 one_is_whole : is_whole_num num_one ≡ true
 unfolding one_fraction
@@ -46,8 +45,7 @@ step_counts t others s (step.Done h) p (r, g) = omega (arith, answer_counts (bas
 step_counts t others s (step.Again h) p k = tt
 
 pub if_step_counts : (t : Tree) (others : Forest) (s : State) (r : Result Step NumberFault) → is_power t ≡ true → IfOk r (IsStep t others s) → IfOk r (λ x. IfDone x (λ h. counted (tree_of h s) ≤ counted t))
-if_step_counts t others s (Ok x) p k = step_counts t others s x p k
-if_step_counts t others s (Err e) p k = tt
+if_step_counts t others s r p k = grind (arith, step_counts)
 
 -- ---- the parts of a product
 

@@ -1,6 +1,6 @@
 -- Whole exponents, and those that are half of an odd whole number.
-use Rattle.std.proofs.Common.{◌≡◌, ℕ, ℤ, true, false, ◌==◌, Some, None, refl, ap, arith}
-use Rattle.power_reduce.proofs.Shared.{and_parts, eqb-true, false_from_ne_true, whole_fraction, Tree, num, undef, is_undef, fraction_whole, is_half_num, is_whole_num, goes_inside, power_of_root, rewritten, rewritten_whole}
+use Rattle.std.proofs.Common.{◌≡◌, ℕ, ℤ, true, false, ◌==◌, Some, None, refl, arith}
+use Rattle.power_reduce.proofs.Shared.{and_parts, eqb-true, false_from_ne_true, whole_fraction, Tree, num, is_undef, fraction_whole, is_half_num, is_whole_num, goes_inside, power_of_root, rewritten, rewritten_whole}
 
 -- ---- whole exponents
 
@@ -14,12 +14,7 @@ one_or_half : (d : ℕ) → d ≡ 1 → (d == 2) ≡ false
 one_or_half d h = false_from_ne_true (d == 2) (λ k. one_is_not_two d h (eqb-true d 2 k))
 
 pub whole_no_half : (e : Tree) → is_whole_num e ≡ true → is_half_num e ≡ false
-whole_no_half (num q) h = one_or_half q.den (eqb-true q.den 1 h)
-whole_no_half e h = absurd cc
-
-pub whole_defined : (e : Tree) → is_whole_num e ≡ true → is_undef e ≡ false
-whole_defined undef h = absurd cc
-whole_defined e h = refl
+whole_no_half e h = grind (arith, one_or_half)
 
 -- an exponent that is the whole number n
 pub record IsWholeExponent (e : Tree) : Type 0 where
@@ -27,8 +22,7 @@ pub record IsWholeExponent (e : Tree) : Type 0 where
   pub is : e ≡ num (whole_fraction exponent)
 
 pub whole_exponent : (e : Tree) → is_whole_num e ≡ true → IsWholeExponent e
-whole_exponent (num q) h = record { exponent = q.num; is = ap num (fraction_whole q (eqb-true q.den 1 h)) }
-whole_exponent e h = absurd cc
+whole_exponent e h = grind (arith, fraction_whole)
 
 -- ---- rewritings
 

@@ -1,7 +1,7 @@
 -- Half of an even exponent.
-use Rattle.std.proofs.Common.{◌≡◌, ◌<◌, ◌≤◌, ◌^◌, Bool, neg_ℤ, ℤ, pos, negsuc, Some, refl, sym, ◌∙◌, arith, to_z, of_z, true, false}
+use Rattle.std.proofs.Common.{◌≡◌, ◌<◌, ◌≤◌, ◌^◌, Bool, neg_ℤ, ℤ, pos, Some, refl, arith, to_z, of_z, true, false}
 use Rattle.std.specs.Prelude.{nat_abs, int_div, int_le, int_lt}
-use Rattle.power_reduce.proofs.Shared.{ints, w128, Rat, whole_fraction, is_number, ratio_of, value_of, whole, Tree, num, power, is_root, size, whole_numerator, whole_denominator, and_from, and_parts, half, is_even_whole, rewritten, nth, children_of}
+use Rattle.power_reduce.proofs.Shared.{w128, Rat, whole_fraction, is_number, ratio_of, value_of, whole, Tree, num, power, is_root, size, whole_numerator, whole_denominator, and_from, and_parts, half, is_even_whole, rewritten, nth, children_of}
 use Rattle.calc_terms.specs.Kind.{size_by_form}
 use Rattle.calc_terms.specs.Short.{is_short, is_short_int}
 use Rattle.calc_terms.specs.declared.kind.Kind.TheVariants as kind
@@ -20,12 +20,10 @@ unfolding is_short
 short_number z = rw (whole_numerator z, whole_denominator z) refl
 
 low_half : (z : ℤ) → int_le (neg_ℤ (pos (2 ^ 63))) z ≡ true → int_le (neg_ℤ (pos (2 ^ 63))) (half z) ≡ true
-low_half (pos n) h = grind (arith, ints)
-low_half (negsuc n) h = grind (arith, ints)
+low_half z h = grind arith
 
 high_half : (z : ℤ) → int_lt z (pos (2 ^ 63)) ≡ true → int_lt (half z) (pos (2 ^ 63)) ≡ true
-high_half (pos n) h = grind (arith, ints)
-high_half (negsuc n) h = grind (arith, ints)
+high_half z h = grind arith
 
 short_half : (z : ℤ) → is_short_int z ≡ true → is_short_int (half z) ≡ true
 short_half z h = let a = and_parts (int_le (neg_ℤ (pos (2 ^ 63))) z) (int_lt z (pos (2 ^ 63))) h in and_from _ _ (low_half z a.0) (high_half z a.1)
@@ -35,5 +33,4 @@ smaller_form b c h = grind arith
 
 -- the half of a number takes no more bytes
 pub half_room : (z : ℤ) (r : Rat) → value_of r ≡ whole_fraction (half z) → size (num (value_of r)) ≤ size (num (whole_fraction z))
-half_room z r e =
-    rw e (smaller_form (is_short (whole_fraction z)) (is_short (whole_fraction (half z))) (λ h. short_number (half z) ∙ short_half z (sym (short_number z) ∙ h)))
+half_room z r e = grind (arith, smaller_form, short_number, short_half)

@@ -1,7 +1,7 @@
 -- Whole powers are held by the bits of their bases, times the exponent.
-use Rattle.std.proofs.Common.{◌≡◌, ℕ, zero, suc, ◌*◌, ◌≤◌, ◌≤ℤ◌, ◌<ℤ◌, inr, ℤ, pos, negsuc, neg_ℤ, List, [], ◌∷◌, length, Bool, true, false, ◌&&◌, ◌||◌, not, None, Some, Result, Ok, Err, refl, sym, ap, ◌∙◌, subst, arith}
+use Rattle.std.proofs.Common.{◌≡◌, ℕ, zero, suc, ◌*◌, ◌≤◌, ◌≤ℤ◌, ◌<ℤ◌, inr, ℤ, pos, negsuc, neg_ℤ, List, [], ◌∷◌, length, Bool, true, false, ◌&&◌, ◌||◌, not, None, Some, Result, refl, sym, ap, ◌∙◌, subst, arith}
 use Rattle.std.specs.Prelude.{if◌then◌else◌, nat_abs, IfOk}
-use Rattle.power_reduce.proofs.Shared.{and_parts, ints, is_number, value, classes, IsNumber, is_opaque_exponent, is_whole_num, num_one, Surd, surd_one, number_test, number_words, IsHeld, mass_from, calculated, exactly, powered, undefined, pow_op, fraction_power, Fraction, inverse, one_fraction, whole_fraction, is_zero_fraction, is_one_fraction, Tree, num, symbol, undef, add, mult, power, root, neg, sub, div, none, more, is_undef, one_is, whole_numerator, zero_is, State, IsFactorHeld, IsHeldAsPowerOf, IsNumberPower, base_in, exponent_in, has_no_power, has_number_power, IsWrittenPower, IsPowerAnswer, IsStep, goes_inside, is_zero_or_one, parts_of, raised, rewritten, rewritten_whole, IsNoLargerThanInverse, IfDone, Step, tree_as_base, alone, held_wider, nothing_held, number_held, Forest, tree_of, NumberFault, given_told}
+use Rattle.power_reduce.proofs.Shared.{and_parts, is_number, value, classes, IsNumber, is_opaque_exponent, is_whole_num, num_one, Surd, surd_one, number_test, number_words, IsHeld, mass_from, calculated, exactly, powered, undefined, pow_op, fraction_power, Fraction, inverse, one_fraction, whole_fraction, is_zero_fraction, is_one_fraction, Tree, num, symbol, undef, add, mult, power, root, neg, sub, div, none, more, is_undef, one_is, whole_numerator, zero_is, State, IsFactorHeld, IsHeldAsPowerOf, IsNumberPower, base_in, exponent_in, has_no_power, has_number_power, IsWrittenPower, IsPowerAnswer, IsStep, goes_inside, is_zero_or_one, parts_of, raised, rewritten, rewritten_whole, IsNoLargerThanInverse, IfDone, Step, tree_as_base, alone, held_wider, nothing_held, number_held, Forest, tree_of, NumberFault, given_told}
 use Rattle.calc_bits.proofs.Held.{held_power}
 use Rattle.calc_bits.specs.Bounds.{IsNoLargerThanPower}
 use Rattle.power_reduce.proofs.Exponents.{as_whole, whole_no_half}
@@ -65,8 +65,7 @@ one_power z b t i e h l k = grind arith
 -- ---- powers of Numbers, as they are calculated
 
 pub positive_power : (z y : ℤ) (b a t : Tree) → pos 1 ≤ℤ z → y ≡ z → a ≡ b → IsNoLargerThanPower (value a) (nat_abs y) (value t) → IsHeldAsPower z (value b) (value t)
-positive_power (pos n) y b a t l i e m = held_as_power (value b) (value t) n (subst (λ (v : Surd). IsNoLargerThanPower v n (value t)) (ap value e) (subst (λ x. IsNoLargerThanPower (value a) (nat_abs x) (value t)) i m))
-positive_power (negsuc n) y b a t l i e m = absurd (omega (arith, ints))
+positive_power z y b a t l i e m = grind (arith, held_as_power)
 
 pub negative_power : (z y : ℤ) (b a i t : Tree) → z <ℤ pos 0 → y ≡ neg_ℤ z → a ≡ b → IsNoLargerThanInverse (value a) (value i) → IsNoLargerThanPower (value i) (nat_abs y) (value t) → IsHeldAsPower z (value b) (value t)
 negative_power z y b a i t l j e v m = grind arith
@@ -255,5 +254,4 @@ step_held t others s (step.Again h) z i k p = tt
 
 pub if_step_held : (t : Tree) (others : Forest) (s : State) (r : Result Step NumberFault) (z : ℤ) → exponent_in t ≡ num (whole_fraction z) → IfOk r (IsStep t others s)
     → (is_number (base_in t) ≡ true → IfOk r (λ x. IfDone x (λ h. IsNumberPower z (base_in t) (tree_of h s)))) → IfOk r (λ x. IfDone x (λ h. IsHeldAsPowerOf z (base_in t) (tree_of h s)))
-if_step_held t others s (Ok x) z i k p = step_held t others s x z i k p
-if_step_held t others s (Err e) z i k p = tt
+if_step_held t others s r z i k p = grind (arith, step_held)

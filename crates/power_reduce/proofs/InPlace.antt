@@ -43,8 +43,7 @@ apart_last {i = i} {j = j} st o g = apart i j st (eqb-sym j i (other_apart i g.e
 -- ---- a power of a root
 
 root_is : (b : Tree) → is_root b ≡ true → b ≡ root (nth 0 (children_of b))
-root_is (root a) h = refl
-root_is b h = cc
+root_is b h = grind arith
 
 -- over the argument and the exponent
 pub root_merged : {i : ℕ} {new : Forest} (s : State) → IsHanded i (forest s) → is_power (tree_of i s) ≡ true → is_root (base_in (tree_of i s)) ≡ true

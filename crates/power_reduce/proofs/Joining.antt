@@ -1,5 +1,5 @@
 -- The exponents of a power of a power are joined in a product, which takes their place.
-use Rattle.std.proofs.Common.{◌≡◌, ◌∙◌, ℕ, refl, ap, subst, true, false, Some}
+use Rattle.std.proofs.Common.{arith, ◌≡◌, ℕ, refl, ap, subst, true, false, Some}
 use Rattle.power_reduce.proofs.Shared.{bare, is_opaque_exponent, Tree, mult, power, Trees, none, more, append, IsOver, IsTaken, taken, over_put, IsAdded, is_power, base_in, exponent_in, goes_inside, rewritten, State, tree_of, IsHanded, Ends, Gives, Forest, empty, kids, one_tree, with_root_kids, tree_nth, with_nth, without_nth, merged_nth, root_tree, without_root, put, forest, gives, given_handed, given_rest, given_told, represents_handed, represents_node, represents_none, represents_with, ends_as}
 use Rattle.power_reduce.proofs.Exponents.{as_whole, inside_whole, whole_no_half}
 use Rattle.power_reduce.proofs.InPlace.{merged, taken_on}
@@ -45,5 +45,4 @@ alone_over o b = over_put b.now o b.kids
 -- ---- the tree
 
 pub joined : (b e : Tree) → is_power b ≡ true → goes_inside e ≡ true → is_opaque_exponent (exponent_in b) ≡ false → rewritten b e ≡ Some (power (base_in b) (mult (more (exponent_in b) (more e none))))
-joined (power c f) e p i o = as_whole (power c f) e (whole_no_half e (inside_whole e i)) ∙ rw (i, o) refl
-joined b e p i o = absurd cc
+joined b e p i o = grind (arith, as_whole, whole_no_half, inside_whole)

@@ -15,19 +15,16 @@ refused : (t : Bool) (u : Tree) → (if t then Some u else None) ≡ None → t 
 refused t u h = grind arith
 
 second_fails : (a b : Bool) → (a && b) ≡ false → a ≡ true → b ≡ false
-second_fails true b h e = h
-second_fails false b h e = cc
+second_fails a b h e = grind arith
 
 not_fails : (b : Bool) → not b ≡ false → b ≡ true
-not_fails true h = refl
-not_fails false h = cc
+not_fails b h = grind arith
 
 contradiction : (a : Bool) → a ≡ true → a ≡ false → ⊥
 contradiction a h k = cc
 
 either_fails : (a b : Bool) → (a || b) ≡ false → (a ≡ false) × (b ≡ false)
-either_fails true b h = cc
-either_fails false b h = (refl, h)
+either_fails a b h = grind arith
 
 -- ---- whole exponents
 

@@ -1,5 +1,5 @@
 -- Trees that the tests build.
-use Rattle.std.proofs.Common.{◌≡◌, ℕ, List, true, pos, Result, Ok, Err, inl, inr, refl, ap, ◌∙◌, subst}
+use Rattle.std.proofs.Common.{arith, ◌≡◌, ℕ, List, true, pos, Result, inl, inr, refl, ap, ◌∙◌, subst}
 use Rattle.std.specs.Prelude.{IfOk}
 use Rattle.power_reduce.proofs.Shared.{is_clean, left_of, Fraction, lowest, whole_fraction, zero_fraction, one_fraction, gcd, is_number, ratio_of, value_of, Ratio, whole, is_reduced, square_root, Tree, num, symbol, mult, root, none, more, Rat, number_words, reduced_test, parts_reduced, number_parts, State, IsStep, tree_of, IsHanded, IfDone, Step, NumberFault, Forest, forest, given_handed, given_told}
 use Rattle.reduce_port.specs.declared.step.Step.TheVariants as step
@@ -52,8 +52,7 @@ step_done t others new (step.Done h) k = (given_handed k.1, (given_told k.1).red
 step_done t others new (step.Again h) k = tt
 
 pub done_reduced : (r : Result Step NumberFault) (t : Tree) (others : Forest) (new : State) → IfOk r (IsStep t others new) → IfOk r (λ s. IfDone s (λ h. IsHanded h (forest new) × (is_reduced (tree_of h new) ≡ true)))
-done_reduced (Ok s) t others new k = step_done t others new s k
-done_reduced (Err e) t others new k = tt
+done_reduced r t others new k = grind (arith, step_done)
 
 pub when_done : (s : State) (x : Step) (h : ℕ) → x ≡ step.Done h → IfDone x (λ h. IsHanded h (forest s) × (is_reduced (tree_of h s) ≡ true)) → IsHanded h (forest s) × (is_reduced (tree_of h s) ≡ true)
 when_done s x h e k = subst (λ (y : Step). IfDone y (λ h. IsHanded h (forest s) × (is_reduced (tree_of h s) ≡ true))) e k

@@ -1,5 +1,5 @@
 -- Which operation of a power does not fit, from the call that was refused.
-use Rattle.std.proofs.Common.{◌≡◌, ℕ, ℤ, pos, negsuc, neg_ℤ, ◌≤ℤ◌, ◌<ℤ◌, ◌≤◌, true, false, Result, Ok, Err, refl, sym, subst, arith}
+use Rattle.std.proofs.Common.{◌≡◌, ℕ, ℤ, pos, negsuc, neg_ℤ, ◌≤ℤ◌, ◌<ℤ◌, ◌≤◌, true, false, Result, Ok, Err, sym, subst, arith}
 use Rattle.std.specs.Prelude.{nat_abs, IfErr}
 use Rattle.power_reduce.proofs.Shared.{ints, is_number, classes, value, IsPlainOverflow, calculated, plain_value, whole_numerator, pow_op, Fraction, whole_fraction, Tree, num, power, is_num, State, AnswersRationals, IsInverseOf, OfOverflow, RaisingOverflows, LoweringOverflows, inverting, raising, WholeOverflows, NamesPower, IsPowerMisfit, Overflow, NumberFault}
 use Rattle.number_forms.specs.Overflows.{InverseOverflows, PowerOverflows}
@@ -7,15 +7,13 @@ use Rattle.power_reduce.proofs.Written.{rational_power_is, inverse_power_is, pos
 use Rattle.tree_handles.specs.declared.fault.NumberFault.TheVariants as fault
 
 names_rational : (b e : Tree) (q : Fraction) (o : Overflow) → b ≡ num q → IsPlainOverflow (plain_value (power b e)) o → NamesPower b e o
-names_rational (num p) e q o h k = k
-names_rational b e q o h k = absurd cc
+names_rational b e q o h k = grind arith
 
 pub rational_misfit : (t b e : Tree) (q : Fraction) (z : ℤ) (o : Overflow) → t ≡ power b e → b ≡ num q → e ≡ num (whole_fraction z) → IsPlainOverflow (plain_value t) o → IsPowerMisfit b e o
 rational_misfit t b e q z o h k l m = record { number = rational_power_is b e q z k l; named = names_rational b e q o k (subst (λ (x : Tree). IsPlainOverflow (plain_value x) o) h m) }
 
 names_whole : (b : Tree) (z : ℤ) (o : Overflow) → is_num b ≡ false → WholeOverflows b z o → NamesPower b (num (whole_fraction z)) o
-names_whole (num p) z o h k = absurd cc
-names_whole b z o h k = subst (λ x. WholeOverflows b x o) (sym (whole_numerator z)) k
+names_whole b z o h k = grind (arith, whole_numerator)
 
 names_other : (b e : Tree) (z : ℤ) (o : Overflow) → is_num b ≡ false → e ≡ num (whole_fraction z) → WholeOverflows b z o → NamesPower b e o
 names_other b e z o h k l = subst (λ (x : Tree). NamesPower b x o) (sym k) (names_whole b z o h l)
@@ -23,8 +21,7 @@ names_other b e z o h k l = subst (λ (x : Tree). NamesPower b x o) (sym k) (nam
 -- ---- exponents above 0
 
 above : (b : Tree) (z : ℤ) (o : Overflow) → pos 1 ≤ℤ z → PowerOverflows (value b) (nat_abs z) o → WholeOverflows b z o
-above b (pos n) o l h = h
-above b (negsuc n) o l h = absurd (omega (arith, ints))
+above b z o l h = grind arith
 
 pub positive_misfit : (b e a : Tree) (y z : ℤ) (o : Overflow) → e ≡ num (whole_fraction z) → pos 1 ≤ℤ z → is_number b ≡ true → is_num b ≡ false → a ≡ b → y ≡ z → PowerOverflows (value a) (nat_abs y) o → IsPowerMisfit b e o
 positive_misfit b e a y z o k l n r p q h = record {
@@ -56,8 +53,4 @@ pub raised_misfit : (i : Tree) (y : ℤ) (new : State) (r : Result ℕ NumberFau
 raised_misfit i y new (Ok h) l a k = tt
 raised_misfit i y new (Err (fault.Full f)) l a k = tt
 raised_misfit i (negsuc n) new (Err (fault.Overflow o)) l a k = absurd (omega (arith, ints))
-raised_misfit i (pos n) new (Err (fault.Overflow o)) l a k = by i a k
-  where
-    by : (i : Tree) → ((q : Fraction) → i ≡ num q → IsPlainOverflow (calculated pow_op q (whole_fraction (pos n))) o) → (is_num i ≡ false → PowerOverflows (value i) n o) → RaisingOverflows i n o
-    by (num q) a k = a q refl
-    by i a k = k refl
+raised_misfit i (pos n) new (Err (fault.Overflow o)) l a k = grind arith

@@ -1,7 +1,7 @@
 -- Whole powers of Numbers that are no rationals.
 use Rattle.std.proofs.Common.{◌≡◌, ◌≢◌, ℕ, ◌≤◌, ◌≤ℤ◌, ◌<ℤ◌, ℤ, pos, negsuc, neg_ℤ, zero, suc, true, false, refl, sym, ap, ◌∙◌, subst, arith}
 use Rattle.std.specs.Prelude.{nat_abs}
-use Rattle.power_reduce.proofs.Shared.{ints, whole_fraction, zero_fraction, one_fraction, int_is_negative, is_number, classes, value, IsNumber, Inverts, Surd, surd_power, is_reduced, num_one, Tree, num, undef, add, power, is_num, is_undef, whole_numerator, whole_denominator, number_words, power_of_number, power_of_inverse, IsNumberOf, IsInverseOf, AnswersInverse, is_zero, IsPowerAnswer, has_no_power, base_in, exponent_in, HasReducedSides, is_zero_or_one, keeps, without_root, Forest, Gives}
+use Rattle.power_reduce.proofs.Shared.{ints, whole_fraction, zero_fraction, one_fraction, int_is_negative, is_number, classes, value, IsNumber, Inverts, Surd, surd_power, is_reduced, num_one, Tree, num, add, power, is_num, is_undef, whole_numerator, whole_denominator, number_words, power_of_number, power_of_inverse, IsNumberOf, IsInverseOf, AnswersInverse, is_zero, IsPowerAnswer, has_no_power, base_in, exponent_in, HasReducedSides, is_zero_or_one, keeps, without_root, Forest, Gives}
 use Rattle.number_forms.specs.declared.inverting.Inverse.{Inverse}
 use Rattle.power_reduce.proofs.Answered.{number_answer, zero_exponent_answer, one_exponent_answer, kept_answer}
 use Rattle.power_reduce.proofs.ByRule.{has_power}
@@ -11,12 +11,10 @@ use Rattle.power_reduce.proofs.Powers.{power_is}
 use Rattle.number_forms.specs.declared.inverting.Inverse.TheVariants as inverse
 
 no_zero : (b : Tree) → is_num b ≡ false → is_zero b ≡ false
-no_zero (num q) h = absurd cc
-no_zero b h = refl
+no_zero b h = grind arith
 
 number_defined : (b : Tree) → IsNumber b → is_undef b ≡ false
-number_defined undef h = absurd h
-number_defined b h = refl
+number_defined b h = grind arith
 
 -- a Number that is no rational has every power
 pub irrational_power : (b e : Tree) → is_number b ≡ true → is_num b ≡ false → is_undef e ≡ false → has_no_power b e ≡ false
@@ -52,12 +50,10 @@ power_answer b e a t y z k l o n d p q h =
 -- ---- exponents below 0
 
 pub negative_is : (z : ℤ) → z <ℤ pos 0 → int_is_negative z ≡ true
-negative_is (pos n) h = absurd (omega (arith, ints))
-negative_is (negsuc n) h = refl
+negative_is z h = grind arith
 
 negative_other : (z : ℤ) → z <ℤ pos 0 → is_zero_or_one (num (whole_fraction z)) ≡ false
-negative_other (pos n) h = absurd (omega (arith, ints))
-negative_other (negsuc n) h = rw (whole_numerator (negsuc n)) refl
+negative_other z h = grind (arith, whole_numerator)
 
 -- a Number of three classes or more is kept
 pub wide_answer : (t : Tree) (z : ℤ) → HasReducedSides t → exponent_in t ≡ num (whole_fraction z) → z <ℤ pos 0 → 3 ≤ classes (base_in t) → has_no_power (base_in t) (exponent_in t) ≡ false → IsPowerAnswer (base_in t) (exponent_in t) t

@@ -35,8 +35,7 @@ pub some_parts : (t : Tree) → is_mult t ≡ true → is_reduced t ≡ true →
 some_parts t m h n = many_parts (children_of t) (some_factors t m h n)
 
 pub powers_rewritten : (b e : Tree) → is_mult b ≡ true → is_number b ≡ false → goes_inside e ≡ true → rewritten b e ≡ Some (mult (raised (parts_of (children_of b)) e))
-powers_rewritten (mult ts) e m n i = as_whole (mult ts) e (whole_no_half e (inside_whole e i)) ∙ rw (i, n) refl
-powers_rewritten b e m n i = absurd cc
+powers_rewritten b e m n i = grind (arith, as_whole, whole_no_half, inside_whole)
 
 pub powers_as : (b e t u x a : Tree) → is_mult b ≡ true → is_number b ≡ false → goes_inside e ≡ true → t ≡ mult (raised (children_of u) x) → u ≡ mult (parts_of (children_of a)) → a ≡ b → x ≡ e → rewritten b e ≡ Some t
 powers_as b e t u x a m n i h p q r = grind arith

@@ -1,22 +1,19 @@
 -- A root of the pool that is a power: its sides, and what is left when they are taken.
 use Rattle.std.proofs.Common.{◌≡◌, ℕ, ◌+◌, ◌≤◌, [], ◌∷◌, refl, ap, ◌∙◌, arith, true}
-use Rattle.power_reduce.proofs.Shared.{gives_without, Payload, bare, Tree, num, power, Trees, none, more, size, Fraction, one_fraction, num_least, num_most, whole_size, least_size, GivesTwo, IsOver, IsTaken, taken, over_put, once_count, without_put, children_at, seen, expression, State, is_power, base_in, exponent_in, tree_of, AllOnce, IsOwned, IsHanded, Ends, Gives, KeepsFront, nth, grown, plains, plain, IsExpression, children_of, Forest, empty, tree, arity, kids, root_payload, root_count, tree_nth, without_nth, tree_at, kids_of, root_tree, without_root, put, Stands, forest, all-kids, behind_first, front_same, front_at, front_end, front_put, front_without, gives_as, ends_without, ends_as, ends_at, children_of-plain, whole_kids, root_arity}
+use Rattle.power_reduce.proofs.Shared.{gives_without, Payload, bare, Tree, num, power, Trees, none, more, size, Fraction, one_fraction, num_least, num_most, whole_size, least_size, GivesTwo, IsOver, IsTaken, taken, over_put, once_count, without_put, children_at, seen, expression, State, is_power, base_in, exponent_in, tree_of, AllOnce, IsOwned, IsHanded, Ends, Gives, KeepsFront, nth, grown, plain, IsExpression, children_of, Forest, empty, tree, arity, kids, root_payload, root_count, tree_nth, without_nth, tree_at, kids_of, root_tree, without_root, put, Stands, forest, all-kids, behind_first, front_same, front_at, front_end, front_put, front_without, gives_as, ends_without, ends_as, ends_at, children_of-plain, whole_kids, root_arity}
 use Rattle.calc_terms.specs.declared.kind.Kind.TheVariants as kind
 
 -- ---- powers
 
 pub power_is : (t : Tree) → is_power t ≡ true → t ≡ power (base_in t) (exponent_in t)
-power_is (power b e) h = refl
-power_is t h = cc
+power_is t h = grind arith
 
 pub power_children : (t : Tree) → is_power t ≡ true → children_of t ≡ more (base_in t) (more (exponent_in t) none)
-power_children (power b e) h = refl
-power_children t h = cc
+power_children t h = grind arith
 
 -- the bytes of a power
 pub power_bytes : (t : Tree) → is_power t ≡ true → size t ≡ 8 + (size (base_in t) + size (exponent_in t))
-power_bytes (power b e) h = omega arith
-power_bytes t h = absurd cc
+power_bytes t h = grind arith
 
 -- those of a rational's power suffice for a rational
 pub rational_room : (t : Tree) (p q r : Fraction) → is_power t ≡ true → base_in t ≡ num p → exponent_in t ≡ num q → size (num r) ≤ size t
@@ -33,12 +30,10 @@ one_room t q r h e o = omega (arith, power_bytes t h, ap size e, num_least q, le
 -- ---- a root that is a power
 
 payload_power : (x : Payload) (ts : Trees) → is_power (grown x ts) ≡ true → x ≡ bare kind.Pow
-payload_power (bare kind.Pow) ts h = refl
-payload_power x ts h = cc
+payload_power x ts h = grind arith
 
 holds_power : (t : Forest) → is_power (plain t) ≡ true → root_payload t ≡ bare kind.Pow
-holds_power empty h = cc
-holds_power (tree l b r) h = payload_power l.payload (plains b) h
+holds_power t h = grind (arith, payload_power)
 
 pub over_power : {i : ℕ} {f : Forest} → IsHanded i f → is_power (plain (root_tree i f)) ≡ true → IsOver kind.Pow i (more (base_in (plain (root_tree i f))) (more (exponent_in (plain (root_tree i f))) none)) f
 over_power h e = grind (arith, holds_power, once_count, root_arity, all-kids, whole_kids, children_of-plain, power_children)

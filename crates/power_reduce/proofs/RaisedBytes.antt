@@ -16,8 +16,7 @@ kept_free {s = s} {t = t} {i = i} st su k h g e =
 
 -- a tree that is read
 pub read_bytes : {s : State} {i j : ℕ} → Stands s → j ≡ i → IsHanded i (forest s) → bytes_in (tree_at j (forest s)) ≡ size (tree_of i s)
-read_bytes {s = s} {i = i} st e h =
-    omega (arith, ap (λ (x : ℕ). bytes_in (tree_at x (forest s))) e, ap bytes_in (tree_of_root i st h.root), size-plain (root_tree i (forest s)) (root_arity i (forest s) h.root) h.whole)
+read_bytes h e k = grind (arith, tree_of_root, size-plain, root_arity)
 
 -- ---- sizes
 
@@ -32,14 +31,12 @@ raised_least (more t ts) e = omega (arith, raised_least ts e)
 -- with one left, and with two
 one_left : (first rest : Trees) (e : Tree) → 1 ≤ count rest → sizes (append (raised first e) rest) + 8 + size e ≤ sizes (raised (append first rest) e)
 one_left first none e l = absurd (omega arith)
-one_left first (more t ts) e l =
-    omega (arith, ap sizes (raised_append first (more t ts) e), sizes_append (raised first e) (raised (more t ts) e), sizes_append (raised first e) (more t ts), raised_least ts e)
+one_left first (more t ts) e l = grind (arith, raised_append, sizes_append, raised_least)
 
 two_left : (first rest : Trees) (e : Tree) → 2 ≤ count rest → sizes (append (raised first e) rest) + 16 + 2 * size e ≤ sizes (raised (append first rest) e)
 two_left first none e l = absurd (omega arith)
 two_left first (more t none) e l = absurd (omega arith)
-two_left first (more t (more u ts)) e l =
-    omega (arith, ap sizes (raised_append first (more t (more u ts)) e), sizes_append (raised first e) (raised (more t (more u ts)) e), sizes_append (raised first e) (more t (more u ts)), raised_least ts e)
+two_left first (more t (more u ts)) e l = grind (arith, raised_append, sizes_append, raised_least)
 
 count_append : (ts us : Trees) → count (append ts us) ≡ count ts + count us
 count_append none us = omega arith

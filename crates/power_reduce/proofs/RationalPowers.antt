@@ -1,5 +1,5 @@
 -- Whole powers of rationals.
-use Rattle.std.proofs.Common.{◌≡◌, ◌≢◌, ℕ, ◌<◌, ◌^◌, ◌≤ℤ◌, ◌<ℤ◌, ℤ, pos, negsuc, neg_ℤ, ◌-ℤ◌, zero, suc, Bool, true, false, ◌&&◌, if◌then◌else◌, Result, Ok, Err, refl, sym, ap, ◌∙◌, subst, arith, to_z, of_z}
+use Rattle.std.proofs.Common.{◌≡◌, ◌≢◌, ℕ, ◌<◌, ◌^◌, ◌≤ℤ◌, ◌<ℤ◌, ℤ, pos, negsuc, neg_ℤ, ◌-ℤ◌, zero, suc, Bool, true, false, if◌then◌else◌, Result, refl, sym, ap, ◌∙◌, subst, arith, to_z, of_z}
 use Rattle.std.specs.Prelude.{nat_abs, IfErr}
 use Rattle.power_reduce.proofs.Shared.{ints, w128, IsErrAnd, Operation, pow_op, fraction_power, operation_fits, result_of, Fraction, lowest, whole_fraction, zero_fraction, one_fraction, inverse, is_zero_fraction, int_is_zero, PlainValue, calculated, powered, exactly, undefined, overflow, plain_value, Rat, ratio_of, value_of, Ratio, whole, Tree, num, undef, power, whole_numerator, whole_denominator, zero_is, KeepsMeanings-eq, number_test, power_of_rational, negative_power_of_rational, power_zero_is_one, zero_to_nothing, State, plain_overflow, AnswersRationals, IsPowerAnswer, has_no_power, is_at_most_zero, IsWrittenPower, ratio_parts, told, Overflow, IsPlainAnswer, IsPlainOverflow, keeps, NumberFault, by_test}
 use Rattle.power_reduce.proofs.Answered.{number_answer, undefined_answer}
@@ -43,8 +43,7 @@ pub opposite : (z : ℤ) → nat_abs z < 2 ^ 127 → z <ℤ pos 0 → to_z w128 
 opposite z h k = grind arith
 
 pub opposite_above : (z : ℤ) → z <ℤ pos 0 → pos 1 ≤ℤ neg_ℤ z
-opposite_above (pos n) h = absurd (omega (arith, ints))
-opposite_above (negsuc n) h = omega (arith, ints)
+opposite_above z h = grind arith
 
 -- ---- plain values
 
@@ -52,8 +51,7 @@ pub powered_above : (q : Fraction) (z : ℤ) → pos 1 ≤ℤ z → powered q z 
 powered_above q z h = grind arith
 
 pub powered_below : (q : Fraction) (z : ℤ) → z <ℤ pos 0 → is_zero_fraction q ≡ false → powered q z 1 ≡ calculated pow_op (inverse q) (whole_fraction (neg_ℤ z))
-powered_below q (pos n) h k = absurd (omega (arith, ints))
-powered_below q (negsuc n) h k = rw k refl
+powered_below q z h k = grind arith
 
 pub powered_zero : (q : Fraction) (z : ℤ) → z ≡ pos 0 → is_zero_fraction q ≡ false → powered q z 1 ≡ exactly one_fraction
 powered_zero q z e k = ap (λ x. powered q x 1) e ∙ rw k refl
@@ -90,8 +88,7 @@ pub unfit_power_of : (p q : Fraction) (y z : ℤ) (o : Overflow) → p ≡ q →
 unfit_power_of p q y z o e k h op a b = subst (λ (x : Fraction). IsPlainOverflow (calculated pow_op x (whole_fraction z)) o) e (unfit_power p y z o k h op a b)
 
 pub if_err : {A E : Type 0} (r : Result A E) (o : E) (P : E → Type 0) → IsErrAnd r (λ e. e ≡ o) → P o → IfErr r P
-if_err (Ok x) o P h k = tt
-if_err (Err e) o P h k = subst P (sym h) k
+if_err r o P h k = grind arith
 
 pub zero_rational : (q : Rat) (n : ℤ) → n ≡ (ratio_of q).num → of_z w128 n ≡ 0 → is_zero_fraction (value_of q) ≡ true
 zero_rational q n e h = ap int_is_zero ((ratio_parts q).num ∙ sym (told q.num q.fits) ∙ ap (λ z. to_z w128 (of_z w128 z)) (sym e) ∙ ap (to_z w128) h)
@@ -123,8 +120,7 @@ nothing_answer b e q z t h k o l u =
     (keeps (subst (λ (x : Fraction). rewrites.KeepsMeanings (power (num x) (num (whole_fraction z))) undef) (sym (zero_is q o)) (zero_to_whole z l))))))
 
 has_power : (q : Fraction) (z : ℤ) → (is_zero_fraction q ≡ true → pos 1 ≤ℤ z) → has_no_power (num q) (num (whole_fraction z)) ≡ false
-has_power q z h = by_test (λ b. (is_zero_fraction q ≡ true → pos 1 ≤ℤ z) → is_zero_fraction q ≡ b → (b && is_at_most_zero (num (whole_fraction z))) ≡ false) (is_zero_fraction q)
-    (λ x k y. above_zero z (k y)) (λ x k y. refl) h refl
+has_power q z h = grind (arith, by_test, above_zero)
 
 value_keeps : (q : Fraction) (z : ℤ) (r : Fraction) → (is_zero_fraction q ≡ true → pos 1 ≤ℤ z) → powered q z 1 ≡ exactly r → rewrites.KeepsMeanings (power (num q) (num (whole_fraction z))) (num r)
 unfolding zero_fraction

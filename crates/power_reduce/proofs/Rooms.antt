@@ -1,5 +1,5 @@
 -- Bytes at hand for a step on a power, and what it needs.
-use Rattle.std.proofs.Common.{◌≡◌, ℕ, ◌+◌, ◌*◌, ◌^◌, ◌<◌, ◌≤◌, List, length, Bool, true, false, Result, Ok, Err, refl, ap, subst, arith}
+use Rattle.std.proofs.Common.{◌≡◌, ℕ, ◌+◌, ◌*◌, ◌^◌, ◌<◌, ◌≤◌, List, length, Bool, true, false, Result, refl, ap, subst, arith}
 use Rattle.std.specs.Prelude.{if◌then◌else◌, IfErr, IsOk}
 use Rattle.power_reduce.proofs.Shared.{pow_pos, is_number, is_num_one, is_reduced, is_whole_num, split_product, NoneIs, HasForm, number_test, reduced_words, counted, counted_among, SpansTree, SpansTrees, tree_bytes, counted_other, whole_fraction, Tree, num, mult, root, Trees, none, more, AllPartsOf, AllParts, is_mult, size, sizes, GivesTwo, no_split, reduced_parts, parts_reduced, in_front, State, free_of, Full, numerator, LacksRoom, full_as, refusal_as, is_power, base_in, exponent_in, parts_of, power_of_root, raised, IsShortOfStep, IsShortOfRoot, LacksStep, children_of, Forest, bytes_in, tree_of, IsHanded, Gives, without_root, Stands, forest, KeepsRefusals, NumberFault, bytes_in-join, used_forest, size-plain, split_counts, number_counts_one}
 use Rattle.calc_room.specs.Needs.{power_need, inverse_need}
@@ -24,8 +24,7 @@ sides_free {s = s} {t = t} {i = i} st su k h g =
 -- ---- refusals
 
 pub no_refusal : {A E : Type 0} (P : E → Type 0) (r : Result A E) → IsOk r → IfErr r P
-no_refusal P (Ok x) h = tt
-no_refusal P (Err e) h = let no : false ≡ true = h in cc
+no_refusal P r h = grind arith
 
 pub short_below : {s t : State} {n : ℕ} {full : Full} → IsShort n s t full → free_of s < n
 short_below r = subst (λ (f : Full). f.free < f.needed) r.told r.lacks.lacking
@@ -75,8 +74,7 @@ pub product_factors : (ts : Trees) → is_reduced (mult ts) ≡ true → is_numb
 product_factors ts h n = factors_behind ts (reduced_parts (mult ts) h refl) n
 
 whole_bytes : (e : Tree) → is_whole_num e ≡ true → size e ≤ 40
-whole_bytes (num q) h = num_bytes q
-whole_bytes e h = absurd cc
+whole_bytes e h = grind (arith, num_bytes)
 
 module _ (gs : List ℕ) where
   raised_factors : (ts : Trees) (e : Tree) → is_whole_num e ≡ true → NoneIs is_mult ts → NoneIs is_number ts → AllPartsOf HasForm ts → SpansTrees gs ts → sizes (raised ts e) ≤ 204 * counted_among ts * 2 ^ length gs

@@ -41,8 +41,7 @@ raised_powers none e = refl
 raised_powers (more t ts) e = ap (more (power t e)) (raised_powers ts e)
 
 one_is_written : (c : Tree) → is_num_one c ≡ true → c ≡ num_one
-one_is_written (num q) h = ap num (one_is q h)
-one_is_written _ h = cc
+one_is_written c h = grind (arith, one_is)
 
 -- a coefficient 1 goes
 without_one : (c : Tree) (ts : Trees) → rewrites.KeepsMeanings (mult (more c ts)) (mult (if is_num_one c then ts else more c ts))
@@ -64,16 +63,13 @@ factor_names : (ts : Trees) (x : List ℕ) → Contains (names_of (parts_of ts))
 factor_names ts x = grind (arith, split_names)
 
 names_joined : (t : Tree) (ts : Trees) (e : Tree) (x : List ℕ) → Contains (names t) x ⊎ Contains (names e) x → Contains (names t ++ names_of ts) x ⊎ Contains (names e) x
-names_joined t ts e x (inl h) = inl (Contains-append_left (names t) (names_of ts) x h)
-names_joined t ts e x (inr h) = inr h
+names_joined t ts e x h = grind (arith, Contains-append_left)
 
 names_behind : (t : Tree) (ts : Trees) (e : Tree) (x : List ℕ) → Contains (names_of ts) x ⊎ Contains (names e) x → Contains (names t ++ names_of ts) x ⊎ Contains (names e) x
-names_behind t ts e x (inl h) = inl (Contains-append_right (names t) (names_of ts) x h)
-names_behind t ts e x (inr h) = inr h
+names_behind t ts e x h = grind (arith, Contains-append_right)
 
 either : {A B C : Type 0} → A ⊎ B → (A → C) → (B → C) → C
-either (inl a) f g = f a
-either (inr b) f g = g b
+either h f g = grind arith
 
 raised_names : (ts : Trees) (e : Tree) (x : List ℕ) → Contains (names_of (raised ts e)) x → Contains (names_of ts) x ⊎ Contains (names e) x
 raised_names none e x k = inl k

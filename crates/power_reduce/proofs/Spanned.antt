@@ -1,7 +1,7 @@
 -- What spans a power spans what a step makes of it, but for the power of a root.
-use Rattle.std.proofs.Common.{◌≡◌, ℕ, zero, suc, ◌≤◌, ℤ, pos, negsuc, List, [], ◌∷◌, length, Bool, true, false, ◌&&◌, ◌||◌, not, Some, None, Result, Ok, Err, inl, refl, sym, ap, ◌∙◌, subst, arith}
+use Rattle.std.proofs.Common.{◌≡◌, ℕ, zero, suc, ◌≤◌, ℤ, pos, negsuc, List, [], ◌∷◌, length, Bool, true, false, ◌&&◌, ◌||◌, not, Some, None, Result, inl, refl, sym, ap, ◌∙◌, subst, arith}
 use Rattle.std.specs.Prelude.{IfOk, ◌==◌, nat_le}
-use Rattle.power_reduce.proofs.Shared.{and_parts, eqb-true, leb-true, is_number, value, classes, IsNumber, Rises, is_half_num, split_product, KeepsMeanings, Inverts, Surd, surd_of, surd_power, AreProper, value_proper, value_rises, number_words, fraction_whole, Spans, SpansTree, SpansTrees, Fraction, whole_fraction, int_is_negative, int_is_zero, Tree, num, undef, power, Trees, none, more, is_undef, whole_numerator, zero_is, one_is, State, is_zero, is_power, base_in, exponent_in, has_no_power, has_number_power, is_at_most_zero, IsWrittenPower, IsPowerAnswer, IsStep, is_zero_or_one, parts_of, raised, rewritten, rewritten_whole, Step, SpansStep, Forest, tree_of, NumberFault, given_told}
+use Rattle.power_reduce.proofs.Shared.{and_parts, eqb-true, leb-true, is_number, value, classes, IsNumber, Rises, is_half_num, split_product, KeepsMeanings, Inverts, Surd, surd_of, surd_power, AreProper, value_proper, value_rises, number_words, fraction_whole, Spans, SpansTree, SpansTrees, Fraction, whole_fraction, int_is_negative, int_is_zero, Tree, num, power, Trees, none, more, is_undef, whole_numerator, zero_is, one_is, State, is_zero, is_power, base_in, exponent_in, has_no_power, has_number_power, is_at_most_zero, IsWrittenPower, IsPowerAnswer, IsStep, is_zero_or_one, parts_of, raised, rewritten, rewritten_whole, Step, SpansStep, Forest, tree_of, NumberFault, given_told}
 use Rattle.calc_algebra.specs.Meanings.{Means}
 use Rattle.calc_algebra.proofs.InverseLaws.{inverse_of_term, inverse_of_terms, term_has_inverse, terms_have_inverse}
 use Rattle.calc_algebra.proofs.MeaningLaws.{one_meaning}
@@ -27,8 +27,7 @@ module _ (gs : List ℕ) where
   raised_span (more t ts) e (h, hs) k = ((tt, h, k), raised_span ts e hs k)
 
   pub base_spans : (t : Tree) → is_power t ≡ true → SpansTree gs t → SpansTree gs (base_in t)
-  base_spans (power b e) p (q, h, k) = h
-  base_spans t p s = absurd cc
+  base_spans t p s = grind arith
 
   -- ---- rewritings
 
@@ -82,8 +81,7 @@ module _ (gs : List ℕ) where
   first_false z a h e = grind arith
 
   either : (a : Bool) → (a || true) ≡ true
-  either true = refl
-  either false = refl
+  either a = grind arith
 
   below : (q : Fraction) → (q.den == 1) ≡ true → int_is_negative q.num ≡ true → is_at_most_zero (num q) ≡ true
   below q w g = rw (w, g) (either (int_is_zero q.num))
@@ -104,8 +102,7 @@ module _ (gs : List ℕ) where
   -- ---- answers
 
   undef_spans : (t : Tree) → is_undef t ≡ true → SpansTree gs t
-  undef_spans undef h = tt
-  undef_spans t h = absurd cc
+  undef_spans t h = grind arith
 
   trivial_spans : (b e t : Tree) → is_zero_or_one e ≡ true → IsWrittenPower b e t → SpansTree gs b → SpansTree gs t
   trivial_spans b e t h w s = grind (arith, zero_is, one_is)
@@ -126,5 +123,4 @@ module _ (gs : List ℕ) where
   step_spans t others s (step.Again h) p n g k = rewriting_spans (base_in t) (exponent_in t) (tree_of h s) n (given_told g).0 (subst (SpansTree gs) (power_is t p) k)
 
   pub if_step_spans : (t : Tree) (others : Forest) (s : State) (r : Result Step NumberFault) → is_power t ≡ true → is_half_num (exponent_in t) ≡ false → IfOk r (IsStep t others s) → SpansTree gs t → IfOk r (SpansStep gs s)
-  if_step_spans t others s (Ok x) p n k h = step_spans t others s x p n k h
-  if_step_spans t others s (Err e) p n k h = tt
+  if_step_spans t others s r p n k h = grind (arith, step_spans)

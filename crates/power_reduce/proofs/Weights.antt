@@ -1,6 +1,6 @@
 -- The weights and nests of the parts of a product.
-use Rattle.std.proofs.Common.{◌≡◌, ℕ, ◌+◌, ◌≤◌, ◌<◌, ◌⊎◌, inl, inr, Bool, true, false, if◌then◌else◌, refl, sym, ap, subst, arith}
-use Rattle.power_reduce.proofs.Shared.{nest, nest_of, load, weight, weight_of_factors, load_of_factor, load_of_factors, has_coefficient, is_number, IsNumber, is_reduced, is_num_one, NoneIs, HasForm, IsProductForm, Tree, num, mult, power, root, Trees, none, more, append, AllParts, AllPartsOf, is_mult, one_test, number_test, number_words, factors_of, leading_factors, product_form_of, no_split, AreFactors, one_is_one, reduced_parts, parts_reduced, number_parts, Leads, in_front, IsCoefficient, EachTree, IsLighterPart, AreBoundedPowers, parts_of}
+use Rattle.std.proofs.Common.{◌≡◌, ℕ, ◌+◌, ◌≤◌, ◌<◌, ◌⊎◌, inl, inr, true, false, refl, sym, subst, arith}
+use Rattle.power_reduce.proofs.Shared.{nest, nest_of, load, weight, weight_of_factors, load_of_factor, load_of_factors, has_coefficient, is_number, IsNumber, is_reduced, is_num_one, NoneIs, HasForm, IsProductForm, Tree, mult, power, root, Trees, none, more, append, AllParts, AllPartsOf, is_mult, one_test, number_test, number_words, factors_of, leading_factors, product_form_of, no_split, AreFactors, one_is_one, reduced_parts, parts_reduced, number_parts, Leads, in_front, IsCoefficient, EachTree, IsLighterPart, AreBoundedPowers, parts_of}
 use Rattle.power_reduce.proofs.Bounds.{number_load}
 
 -- ---- weights
@@ -30,9 +30,7 @@ weights_more t ts = refl
 
 factor_weights : (ts : Trees) → NoneIs is_number ts → weight_of_factors ts ≡ weights ts
 factor_weights none h = sym weights_none
-factor_weights (more t ts) h =
-    let first : (if is_number t then 0 else weight t) ≡ weight t = ap (λ (b : Bool). if b then 0 else weight t) h.0 in
-    omega (arith, first, factor_weights ts h.1, weights_more t ts)
+factor_weights (more t ts) h = grind (arith, factor_weights ts h.1, weights_more)
 
 -- ---- the parts of a product
 
@@ -55,8 +53,7 @@ unled_parts ts p f n h = grind (arith, no_split, one_is_one, each_heavy, factor_
 -- ---- products with a coefficient
 
 no_one : (c : Tree) → IsCoefficient c → is_num_one c ≡ false
-no_one (num q) h = one_test q (λ e. h.not_one (ap num e))
-no_one _ h = refl
+no_one c h = grind (arith, one_test)
 
 -- the factors of a Number are Numbers
 number_factors : (c : Tree) → IsNumber c → EachTree (λ t. is_number t ≡ true) (factors_of c)
@@ -64,9 +61,7 @@ number_factors c h = grind (arith, number_test)
 
 weight_behind : (ts us : Trees) → EachTree (λ t. is_number t ≡ true) ts → weight_of_factors (append ts us) ≡ weight_of_factors us
 weight_behind none us h = refl
-weight_behind (more t ts) us h =
-    let first : (if is_number t then 0 else weight t) ≡ 0 = ap (λ (b : Bool). if b then 0 else weight t) h.0 in
-    omega (arith, first, weight_behind ts us h.1)
+weight_behind (more t ts) us h = grind (arith, weight_behind ts us h.1)
 
 led_parts : (ts : Trees) (l : Leads ts) → AreFactors l.factors → is_number (mult ts) ≡ false → ArePartsOf ts (more l.c l.factors)
 led_parts ts l a n = grind (arith, weight_behind, number_factors, factor_weights, number_test, no_one, number_parts, each_heavy, weights_more)
@@ -95,10 +90,7 @@ power_nest g b e h = grind arith
 
 pub each_lighter : (b e : Tree) (gs : Trees) → AllPartsOf HasForm gs → weights gs < weight b → nest_of gs ≤ nest b → EachTree (IsLighterPart b e) gs
 each_lighter b e none p w n = tt
-each_lighter b e (more g gs) p w n = (
-  record { reduced = parts_reduced g p.0; lighter = omega (arith, weights_more g gs); nest_kept = power_nest g b e (omega arith) },
-  each_lighter b e gs p.1 (omega (arith, weights_more g gs)) (omega arith),
-)
+each_lighter b e (more g gs) p w n = grind (arith, each_lighter b e gs p.1 (omega (arith, weights_more g gs)) (omega arith), parts_reduced, weights_more, power_nest)
 
 -- the load of a tree as a factor of a product
 factor_load : (u : Tree) (n : ℕ) → 2 ≤ n → load u ≤ n → load_of_factor u ≤ n

@@ -1,15 +1,14 @@
 -- Whole exponents, as the program tests them.
-use Rattle.std.proofs.Common.{arith, ◌≡◌, ◌≢◌, ◌<◌, ◌^◌, ℤ, pos, Bool, true, false, ◌&&◌, refl, sym, ap, ◌∙◌, to_z, of_z, nat_eq}
+use Rattle.std.proofs.Common.{arith, ◌≡◌, ◌≢◌, ◌<◌, ◌^◌, ℤ, pos, Bool, true, false, ◌&&◌, sym, ap, ◌∙◌, to_z, of_z, nat_eq}
 use Rattle.std.specs.Prelude.{nat_abs}
-use Rattle.power_reduce.proofs.Shared.{w128, eq-eqb, whole_fraction, int_is_one, is_number, is_reduced, is_num_one, is_whole_num, is_opaque_exponent, Tree, num, power, whole_numerator, whole_denominator, reduced_parts, parts_reduced, is_power, exponent_in, told, nth, children_of}
+use Rattle.power_reduce.proofs.Shared.{w128, eq-eqb, whole_fraction, int_is_one, is_number, is_reduced, is_num_one, is_whole_num, is_opaque_exponent, Tree, num, whole_numerator, whole_denominator, reduced_parts, parts_reduced, is_power, exponent_in, told, nth, children_of}
 use Rattle.power_reduce.proofs.ByRule.{transparent_whole}
 use Rattle.power_reduce.proofs.Powers.{power_children}
 
 -- ---- 1
 
 and_true : (b : Bool) → (b && true) ≡ b
-and_true true = refl
-and_true false = refl
+and_true b = grind arith
 
 pub one_bits : (z : ℤ) → nat_abs z < 2 ^ 127 → of_z w128 z ≡ 1 → z ≡ pos 1
 one_bits z fits e = sym (told z fits) ∙ ap (to_z w128) e
@@ -40,8 +39,7 @@ pub first_is : (b t x : Tree) → t ≡ b → is_power b ≡ true → x ≡ nth 
 first_is b t x e p h = h ∙ ap (λ (u : Tree). nth 1 (children_of u)) e ∙ ap (nth 1) (power_children b p)
 
 pub first_reduced : (b : Tree) → is_power b ≡ true → is_reduced b ≡ true → is_reduced (exponent_in b) ≡ true
-first_reduced (power c f) p h = parts_reduced f (reduced_parts (power c f) h refl).2
-first_reduced b p h = absurd cc
+first_reduced b p h = grind (arith, parts_reduced, reduced_parts)
 
 pub whole_first : (x f : Tree) (z : ℤ) → x ≡ f → x ≡ num (whole_fraction z) → false ≡ is_opaque_exponent f
 whole_first x f z e k = sym (ap is_opaque_exponent (sym e ∙ k) ∙ transparent_whole (num (whole_fraction z)) (whole_is z))

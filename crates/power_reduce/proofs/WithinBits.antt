@@ -1,7 +1,7 @@
 -- A whole power of a Number that is held within few bits does not overflow.
 use Rattle.std.proofs.Common.{◌≡◌, ◌≢◌, ℕ, zero, suc, ◌+◌, ◌*◌, ◌≤◌, ℤ, pos, negsuc, [], Bool, true, false, not, Result, Ok, Err, refl, ap, ◌∙◌, subst, arith}
 use Rattle.std.specs.Prelude.{if◌then◌else◌, nat_abs, IfErr}
-use Rattle.power_reduce.proofs.Shared.{and_parts, is_number, value, term, surd_of, IsHeld, IsPlainOverflow, PlainValue, calculated, exactly, overflow, powered, undefined, no_zero, whole_numerator, one_times, times_comm, pow_op, fraction_fits, fraction_power, result_of, Fraction, inverse, one_fraction, times, whole_fraction, zero_fraction, is_zero_fraction, Tree, num, power, rational_power, rational_power_over, IsFactorHeld, HasFewBitsRaised, IsPowerMisfit, inverting, raising, NamesPower, RaisingOverflows, WholeOverflows, has_number_power, Overflow, factor_as_tree, held_number, nothing_held, OfOverflow, NumberFault}
+use Rattle.power_reduce.proofs.Shared.{is_number, value, term, surd_of, IsHeld, IsPlainOverflow, PlainValue, calculated, exactly, overflow, powered, undefined, no_zero, whole_numerator, one_times, times_comm, pow_op, fraction_fits, fraction_power, result_of, Fraction, inverse, one_fraction, times, whole_fraction, zero_fraction, is_zero_fraction, Tree, num, power, rational_power, rational_power_over, IsFactorHeld, HasFewBitsRaised, IsPowerMisfit, inverting, raising, NamesPower, RaisingOverflows, WholeOverflows, has_number_power, Overflow, factor_as_tree, held_number, nothing_held, OfOverflow, NumberFault}
 use Rattle.number_forms.proofs.InverseBits.{inverse_no_larger}
 use Rattle.number_forms.proofs.RationalBits.{power_no_larger, power_parts, rational_power_fits}
 use Rattle.number_forms.proofs.PowersWithin.{power_within}
@@ -50,11 +50,7 @@ few_raised : (n h l : ℕ) → 2 * (n * h) + 4 * (n * l) ≤ 124 → n * (2 * h 
 few_raised n h l f = omega arith
 
 powered_within : (q : Fraction) (z : ℤ) (h l : ℕ) (o : Overflow) → IsHeld (value (num q)) h l → HasFewBitsRaised z h l → IsPlainOverflow (powered q z 1) o → ⊥
-powered_within q (pos zero) h l o k few m = by (is_zero_fraction q) m
-  where
-    by : (b : Bool) → IsPlainOverflow (if b then undefined else exactly one_fraction) o → ⊥
-    by true x = x
-    by false x = x
+powered_within q (pos zero) h l o k few m = grind arith
 powered_within q (pos (suc n)) h l o k few m = rational_within q (suc n) h l o k (few_raised (suc n) h l few) m
 powered_within q (negsuc n) h l o k few m = by (is_zero_fraction q) refl m
   where
@@ -80,8 +76,7 @@ whole_within b (negsuc n) h l o m k few (raising i v x) =
 -- ---- the misfit of a step
 
 number_base : (b e : Tree) → has_number_power b e ≡ true → is_number b ≡ true
-number_base b (num q) h = (and_parts _ _ (and_parts _ _ h).0).0
-number_base b e h = absurd cc
+number_base b e h = grind arith
 
 named_within : (b : Tree) (z : ℤ) (h l : ℕ) (o : Overflow) → is_number b ≡ true → IsHeld (value b) h l → HasFewBitsRaised z h l → NamesPower b (num (whole_fraction z)) o → ⊥
 named_within (num p) z h l o m k few w =

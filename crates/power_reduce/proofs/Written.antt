@@ -1,7 +1,7 @@
 -- Which tree stands for a power, where a rule names it.
-use Rattle.std.proofs.Common.{◌≡◌, ◌≢◌, ◌≤◌, ◌≤ℤ◌, ℤ, pos, negsuc, Bool, true, false, ◌||◌, not, refl, sym, ap, ◌∙◌, arith}
+use Rattle.std.proofs.Common.{◌≡◌, ◌≢◌, ◌≤◌, ◌≤ℤ◌, ℤ, pos, Bool, true, false, ◌||◌, not, refl, sym, ap, ◌∙◌, arith}
 use Rattle.std.specs.Prelude.{nat_le}
-use Rattle.power_reduce.proofs.Shared.{le-leb, ints, whole_numerator, whole_denominator, one_times, times_comm, Fraction, whole_fraction, zero_fraction, one_fraction, fraction_power, int_is_negative, Tree, num, power, number_test, is_number, classes, num_one, has_number_power, IsWrittenPower, is_zero_or_one}
+use Rattle.power_reduce.proofs.Shared.{le-leb, whole_numerator, whole_denominator, one_times, times_comm, Fraction, whole_fraction, zero_fraction, one_fraction, fraction_power, int_is_negative, Tree, num, power, number_test, is_number, classes, num_one, has_number_power, IsWrittenPower, is_zero_or_one}
 
 -- ---- exponents
 
@@ -37,8 +37,7 @@ pub number_power : (b : Tree) (z : ℤ) → is_number b ≡ true → (not (int_i
 number_power b z n w = rw (whole_numerator z, whole_denominator z, n) w
 
 either : (a : Bool) → (a || true) ≡ true
-either true = refl
-either false = refl
+either a = grind arith
 
 pub few_classes : (b : Tree) (z : ℤ) → classes b ≤ 2 → (not (int_is_negative z) || nat_le (classes b) 2) ≡ true
 few_classes b z l = rw (le-leb _ _ l) (either (not (int_is_negative z)))
@@ -76,5 +75,4 @@ pub inverse_power_is : (b e : Tree) (z : ℤ) → is_number b ≡ true → class
 inverse_power_is b e z n l k = ap (has_number_power b) k ∙ number_power b z n (few_classes b z l)
 
 pub positive_power_is : (b e : Tree) (z : ℤ) → is_number b ≡ true → pos 1 ≤ℤ z → e ≡ num (whole_fraction z) → has_number_power b e ≡ true
-positive_power_is b e (pos n) h l k = ap (has_number_power b) k ∙ number_power b (pos n) h refl
-positive_power_is b e (negsuc n) h l k = absurd (omega (arith, ints))
+positive_power_is b e z h l k = grind (arith, number_power)

@@ -1,6 +1,6 @@
 -- Roots beside others.
-use Rattle.std.proofs.Common.{arith, ℕ, ◌<◌, ◌≡◌, List, eqb, Bool, true, false, cond, refl, sym, ap, ◌∙◌, subst}
-use Rattle.product_reduce.proofs.Shared.{represents_nth, represents_without, removed, eqb-true, ne_eqb, Tree, Trees, count, State, nth, plain, AllExpressions, Forest, empty, tree, arity, kids, tree_nth, without_nth, AllOnce, IsHanded, Represents, Ends, Gives, KeepsFront, has_root, root_tree, without_root, put, Stands, forest, IsBehind, not_first, gives, given_handed, given_rest, given_told, handed_beside, handed_by_put, handed_at, by_test, eqb-sym, no_root, root-without, tree-without, without-swap, root-put, tree-put, without-put, IsProduct, Becomes, IsBeside}
+use Rattle.std.proofs.Common.{arith, ℕ, ◌<◌, ◌≡◌, List, eqb, Bool, true, false, cond, refl, sym, ap, ◌∙◌}
+use Rattle.product_reduce.proofs.Shared.{represents_nth, represents_without, removed, eqb-true, ne_eqb, Tree, Trees, count, State, nth, plain, Forest, empty, tree, arity, kids, tree_nth, without_nth, IsHanded, Represents, Ends, Gives, KeepsFront, has_root, root_tree, without_root, put, Stands, forest, IsBehind, not_first, gives, given_handed, given_rest, given_told, handed_beside, handed_at, by_test, eqb-sym, no_root, root-without, tree-without, without-swap, root-put, tree-put, without-put, IsProduct, Becomes, IsBeside}
 use Rattle.tree_handles.proofs.Distinct.{Distinct, distinct, distinct_parts}
 use Rattle.product_reduce.proofs.Products.{product_arity, product_kids, becomes_put}
 

@@ -1,12 +1,11 @@
 -- Nest and Load of the factors of a product.
-use Rattle.std.proofs.Common.{ℕ, ◌+◌, ◌≤◌, max, ◌≡◌, Bool, true, false, ◌||◌, refl, if◌then◌else◌, sym, ap, ◌∙◌, arith}
-use Rattle.product_reduce.proofs.Shared.{factors_of, nest, nest_of, weight, load, load_of_factor, load_of_factors, is_number, IsNumber, is_num_one, product_tree, Tree, num, add, mult, root, Trees, none, more, append, is_undef, Permuted, permuted_none, permuted_more, permuted_swap, permuted_trans, number_words, number_test, opened, others_in, coefficient_before, nest-append, nest_number}
+use Rattle.std.proofs.Common.{ℕ, ◌+◌, ◌≤◌, ◌≡◌, Bool, true, false, ◌||◌, refl, if◌then◌else◌, sym, ap, ◌∙◌, arith}
+use Rattle.product_reduce.proofs.Shared.{factors_of, nest, nest_of, load, load_of_factor, load_of_factors, is_number, IsNumber, product_tree, Tree, mult, Trees, none, more, append, Permuted, permuted_none, permuted_more, permuted_swap, permuted_trans, number_words, number_test, opened, others_in, coefficient_before, nest-append, nest_number}
 
 -- ---- Nest
 
 pub nest_factors : (t : Tree) → nest_of (factors_of t) ≡ nest t
-nest_factors (mult ts) = refl
-nest_factors t = omega arith
+nest_factors t = grind arith
 
 pub nest_opened : (ts : Trees) → nest_of (opened ts) ≡ nest_of ts
 nest_opened none = refl
@@ -14,11 +13,7 @@ nest_opened (more t ts) = omega (arith, nest-append (factors_of t) (opened ts), 
 
 pub nest_others : (ts : Trees) → nest_of (others_in ts) ≤ nest_of ts
 nest_others none = omega arith
-nest_others (more t ts) = by (nest_others ts) (is_number t)
-  where
-    by : nest_of (others_in ts) ≤ nest_of ts → (k : Bool) → nest_of (if k then others_in ts else more t (others_in ts)) ≤ max (nest t) (nest_of ts)
-    by go true = omega arith
-    by go false = omega arith
+nest_others (more t ts) = grind (arith, nest_others ts)
 
 pub nest_with : (c : Tree) (ts : Trees) → is_number c ≡ true → nest_of (coefficient_before c ts) ≤ nest_of ts
 nest_with c ts h = grind (arith, nest-append, nest_factors, nest_number)
@@ -40,8 +35,7 @@ pub load_number : (t : Tree) → is_number t ≡ true → load_of_factor t ≡ 0
 load_number t h = load_is t (number_words t h)
 
 pub load_factors : (t : Tree) → load_of_factors (factors_of t) ≡ load_of_factor t
-load_factors (mult ts) = refl
-load_factors t = omega arith
+load_factors t = grind arith
 
 pub load_opened : (ts : Trees) → load_of_factors (opened ts) ≡ load_of_factors ts
 load_opened none = refl
@@ -49,11 +43,7 @@ load_opened (more t ts) = omega (arith, load-append (factors_of t) (opened ts), 
 
 pub load_others : (ts : Trees) → load_of_factors (others_in ts) ≤ load_of_factors ts
 load_others none = omega arith
-load_others (more t ts) = by (load_others ts) (is_number t)
-  where
-    by : load_of_factors (others_in ts) ≤ load_of_factors ts → (k : Bool) → load_of_factors (if k then others_in ts else more t (others_in ts)) ≤ load_of_factor t + load_of_factors ts
-    by go true = omega arith
-    by go false = omega arith
+load_others (more t ts) = grind (arith, load_others ts)
 
 pub load_with : (c : Tree) (ts : Trees) → is_number c ≡ true → load_of_factors (coefficient_before c ts) ≤ load_of_factors ts
 load_with c ts h = grind (arith, load-append, load_factors, load_number)

@@ -1,7 +1,7 @@
 -- The trees that a step on a product gives.
-use Rattle.std.proofs.Common.{◌≡◌, inl, inr, Bool, true, false, ◌&&◌, ◌||◌, refl, if◌then◌else◌, sym, ap, ◌∙◌, subst, arith, [], ℕ, zero, suc, ◌<◌, not}
-use Rattle.std.specs.Prelude.{ℤ, Option, Some, None, MatchOption}
-use Rattle.product_reduce.proofs.Shared.{has_undef, are_rationals, Tree, num, symbol, undef, add, mult, power, root, neg, sub, div, Trees, none, more, append, names, names_of, is_undef, in_mult, root_kind, count, are_numbers, is_number, is_radicand, value, are_reduced, is_reduced, has_form, all_parts, is_whole_num, is_opaque_exponent, factors_of, is_zero, and_parts, and_from, or_right, eq-eqb, zero_fraction, lowest, whole_fraction, gcd, load, load_of_factor, surd_of, Same-eq, nth, children_of, whole_denominator, zero_is, Same-sym, KeepsMeanings, KeepsMeanings-refl, KeepsMeanings-eq, KeepsMeanings-trans, KeepsMeanings-product_more, zero_product, number_zero, number_words, numbers_defined, Same-trans, keeps, reduces_after, AreJoinable, IsJoined, IsFinished, IsEnding, IsStop, at_zero, at_end, IsRejoined, opened, others_in, IsCoefficient, coefficient_before, have_partners, joined, Within, within_eq, within_none, within_both, within_trans, number_names, no_new_name, nest_number}
+use Rattle.std.proofs.Common.{◌≡◌, Bool, true, false, ◌&&◌, ◌||◌, refl, if◌then◌else◌, sym, ap, ◌∙◌, subst, arith, [], ℕ, zero, suc, ◌<◌, not}
+use Rattle.std.specs.Prelude.{ℤ, Option, MatchOption}
+use Rattle.product_reduce.proofs.Shared.{has_undef, are_rationals, Tree, num, symbol, undef, add, mult, power, root, neg, sub, div, Trees, none, more, append, names, names_of, is_undef, in_mult, root_kind, count, are_numbers, is_number, value, are_reduced, is_reduced, has_form, all_parts, is_whole_num, is_opaque_exponent, factors_of, is_zero, and_parts, and_from, or_right, zero_fraction, lowest, whole_fraction, gcd, load, load_of_factor, Same-eq, nth, children_of, whole_denominator, zero_is, Same-sym, KeepsMeanings, KeepsMeanings-refl, KeepsMeanings-eq, KeepsMeanings-trans, KeepsMeanings-product_more, zero_product, number_zero, number_words, numbers_defined, Same-trans, keeps, reduces_after, AreJoinable, IsJoined, IsFinished, IsEnding, IsStop, at_zero, at_end, IsRejoined, opened, others_in, IsCoefficient, coefficient_before, have_partners, joined, Within, within_eq, within_none, within_both, within_trans, number_names, no_new_name, nest_number}
 use Rattle.std.specs.Option.{is_some}
 use Rattle.calc_algebra.proofs.UndefRewrites.{undef_part}
 use Rattle.product_reduce.proofs.Opened.{opened_keeps, collected, coefficient_in_front}
@@ -19,8 +19,7 @@ unfolding is_reduced
 formed_unless_undef t h d = formed t (ap (λ (k : Bool). k || all_parts has_form t) (sym d) ∙ h)
 
 pub or_none : (a b : Bool) → (a || b) ≡ false → (a ≡ false) × (b ≡ false)
-or_none true b h = cc
-or_none false b h = (refl, h)
+or_none a b h = grind arith
 
 pub reduced_formed : (ts : Trees) → are_reduced ts ≡ true → has_undef ts ≡ false → AllFormed ts
 reduced_formed none h d = tt
@@ -34,8 +33,7 @@ unfolding is_reduced
 formed_reduced t h = or_right (is_undef t) (all_parts has_form t) h.parts
 
 pub formed_defined : (t : Tree) → IsFormed t → is_undef t ≡ false
-formed_defined undef h = elim h.form [ inl x ↦ absurd x | inr x ↦ absurd x ]
-formed_defined t h = refl
+formed_defined t h = grind arith
 
 -- ---- the steps so far
 
@@ -85,12 +83,10 @@ undef_finished ts h = record {
 -- ---- Done: zero
 
 zero_words : (c : Tree) → is_zero c ≡ true → c ≡ num zero_fraction
-zero_words (num q) h = ap num (zero_is q h)
-zero_words _ h = cc
+zero_words c h = grind (arith, zero_is)
 
 zero_value : (c : Tree) → is_zero c ≡ true → value c ≡ []
-zero_value (num q) h = ap (λ (k : Bool). if k then [] else surd_of q) h
-zero_value _ h = cc
+zero_value c h = grind arith
 
 -- the coefficient is 0, whichever Number is taken for it
 zero_again : (b c : Tree) (ts : Trees) → IsCoefficient b ts → IsCoefficient c ts → is_zero c ≡ true → is_zero b ≡ true
@@ -122,11 +118,7 @@ zero_finished c ts d h z =
 
 numbers-append : (ts us : Trees) → are_numbers (append ts us) ≡ (are_numbers ts && are_numbers us)
 numbers-append none us = refl
-numbers-append (more t ts) us = by (is_number t) (numbers-append ts us)
-  where
-    by : (k : Bool) → are_numbers (append ts us) ≡ (are_numbers ts && are_numbers us) → (k && are_numbers (append ts us)) ≡ ((k && are_numbers ts) && are_numbers us)
-    by true h = h
-    by false h = refl
+numbers-append (more t ts) us = grind (arith, numbers-append ts us)
 
 number_factors : (t : Tree) → is_number t ≡ true → are_numbers (factors_of t) ≡ true
 unfolding is_number
@@ -164,8 +156,7 @@ reduced_exponent (div a b) h k = cc
 
 -- an exponent that is a Number is opaque unless it is whole
 pub opaque_unless_whole : (t : Tree) (r : Option ℤ) → is_number t ≡ true → MatchOption r (is_whole_num t ≡ false) (λ n. t ≡ num (whole_fraction n)) → is_opaque_exponent t ≡ not (is_some r)
-opaque_unless_whole t None h w = rw (h, w) refl
-opaque_unless_whole t (Some n) h w = rw h (ap not (ap is_whole_num w ∙ eq-eqb (whole_fraction n).den 1 (whole_denominator n)))
+opaque_unless_whole t r h w = grind (arith, whole_denominator)
 
 -- ---- Done, from what a reduced ending tells
 

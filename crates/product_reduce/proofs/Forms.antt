@@ -1,7 +1,7 @@
 -- A coefficient before factors that are no Numbers, sorted by their bases, is a product in its form.
 use Rattle.std.specs.Prelude.{⊤}
-use Rattle.std.proofs.Common.{arith, ◌≡◌, inl, inr, Bool, true, false, ◌&&◌, not, refl, if◌then◌else◌, ap}
-use Rattle.product_reduce.proofs.Shared.{factors_of, is_zero, and_parts, and_from, or_left, Fraction, is_zero_fraction, is_one_fraction, is_number, is_radicand, IsNumber, IsTerm, AreTerms, num_one, split, split_product, NoneIs, RisesBy, base_of, has_form, HasForm, all_parts, all_parts_of, Tree, num, symbol, undef, add, mult, power, root, neg, sub, div, Trees, none, more, append, is_mult, number_words, number_test, opened, others_in}
+use Rattle.std.proofs.Common.{arith, ◌≡◌, Bool, true, false, refl}
+use Rattle.product_reduce.proofs.Shared.{factors_of, is_zero, and_parts, and_from, or_left, is_number, IsNumber, IsTerm, AreTerms, num_one, split, split_product, NoneIs, RisesBy, base_of, has_form, HasForm, all_parts, all_parts_of, Tree, num, add, mult, root, Trees, none, more, append, is_mult, number_words, number_test, opened, others_in}
 use Rattle.calc_algebra.proofs.ReducedLaws.{form_words}
 
 -- ---- the split
@@ -50,11 +50,7 @@ opened_formed (more t ts) h = formed-append (factors_of t) (opened ts) (formed_f
 
 pub others_formed : (ts : Trees) → AllFormed ts → AllFormed (others_in ts)
 others_formed none h = tt
-others_formed (more t ts) h = by (others_formed ts h.1) (is_number t)
-  where
-    by : AllFormed (others_in ts) → (k : Bool) → AllFormed (if k then others_in ts else more t (others_in ts))
-    by go true = go
-    by go false = (h.0, go)
+others_formed (more t ts) h = grind (arith, others_formed ts h.1)
 
 -- a Number is in its form, and its parts are Numbers
 formed_term : (t : Tree) → IsTerm t → all_parts has_form t ≡ true
@@ -97,19 +93,11 @@ opened_flat (more t ts) h = none-append is_mult (factors_of t) (opened ts) (fact
 
 pub others_none : (p : Tree → Bool) (ts : Trees) → NoneIs p ts → NoneIs p (others_in ts)
 others_none p none h = tt
-others_none p (more t ts) h = by (others_none p ts h.1) (is_number t)
-  where
-    by : NoneIs p (others_in ts) → (k : Bool) → NoneIs p (if k then others_in ts else more t (others_in ts))
-    by go true = go
-    by go false = (h.0, go)
+others_none p (more t ts) h = grind (arith, others_none p ts h.1)
 
 pub others_no_numbers : (ts : Trees) → NoneIs is_number (others_in ts)
 others_no_numbers none = tt
-others_no_numbers (more t ts) = by (others_no_numbers ts) (is_number t) refl
-  where
-    by : NoneIs is_number (others_in ts) → (k : Bool) → is_number t ≡ k → NoneIs is_number (if k then others_in ts else more t (others_in ts))
-    by go true e = go
-    by go false e = (e, go)
+others_no_numbers (more t ts) = grind (arith, others_no_numbers ts)
 
 -- ---- the product
 

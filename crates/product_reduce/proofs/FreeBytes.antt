@@ -1,9 +1,8 @@
 -- Free bytes and those of a product, from one pool to the next.
-use Rattle.std.proofs.Common.{◌≡◌, ℕ, ◌+◌, ◌*◌, ◌<◌, ◌≤◌, ◌^◌, List, length, Bool, true, false, not, if◌then◌else◌, refl, Result, Ok, Err, ap, arith}
+use Rattle.std.proofs.Common.{◌≡◌, ℕ, ◌+◌, ◌*◌, ◌<◌, ◌≤◌, ◌^◌, List, length, Bool, true, not, refl, Result, ap, arith}
 use Rattle.std.specs.Prelude.{IfErr}
-use Rattle.product_reduce.proofs.Shared.{and_from, is_number, base_of, is_opaque_exponent, none_is, NoneIs, num_one, counted, counted_among, SpansTree, SpansTrees, factors_bytes, sizes_taken, all_bytes, handed_bytes, AreOthers, one_fraction, Tree, mult, power, Trees, none, more, count, size, sizes, factors_of, put_room, mul-le, opened, State, free_of, removed, nth, Forest, bytes_in, kids, tree_nth, without_nth, tree_of, IsHanded, Ends, root_tree, without_root, put, Stands, forest, KeepsRefusals, exponent_of, IsProduct, Becomes, IsBeside, IsTakenOut, IsSplit}
+use Rattle.product_reduce.proofs.Shared.{and_from, is_number, base_of, none_is, NoneIs, counted, counted_among, SpansTree, SpansTrees, factors_bytes, sizes_taken, all_bytes, handed_bytes, AreOthers, Tree, mult, Trees, none, more, count, size, sizes, factors_of, put_room, mul-le, opened, State, free_of, removed, nth, Forest, bytes_in, kids, tree_nth, without_nth, tree_of, IsHanded, Ends, root_tree, without_root, put, Stands, forest, KeepsRefusals, exponent_of, IsProduct, Becomes, IsBeside, IsTakenOut, IsSplit}
 use Rattle.number_forms.proofs.Rooms.{number_size}
-use Rattle.calc_terms.proofs.Sizes.{num_most}
 use Rattle.calc_room.specs.Needs.{product_need}
 use Rattle.coefficients.proofs.Rooms.{sizes_append}
 use Rattle.tree_room.specs.Needs.{product_step_room}
@@ -58,14 +57,12 @@ exponent_free {ts = ts} at st su k p l x = omega (arith, taken_out_free st su k 
 -- ---- refusals
 
 pub refusal_told : {A E P : Type 0} (r : Result A E) → P → IfErr r (λ e. P)
-refusal_told (Ok x) p = tt
-refusal_told (Err e) p = p
+refusal_told r p = grind arith
 
 -- ---- the need of a step
 
 factors_size : (t : Tree) → sizes (factors_of t) ≤ size t
-factors_size (mult ts) = omega arith
-factors_size t = omega arith
+factors_size t = grind arith
 
 pub opened_size : (ts : Trees) → size (mult (opened ts)) ≤ size (mult ts)
 opened_size none = omega arith

@@ -1,6 +1,6 @@
 -- A coefficient comes before the factors of a product.
 use Rattle.std.proofs.Common.{ℕ, ◌≡◌, Bool, true, false, if◌then◌else◌, refl, sym, ap, ◌∙◌, arith}
-use Rattle.product_reduce.proofs.Shared.{factors_of, is_num_one, Tree, mult, Trees, none, more, append, is_mult, children_of, Forest, kids, merged_nth, with_nth, root_tree, without_root, put, represents_handed, represents_with, represents_as, coefficient_before, IsProduct, Becomes, IsBeside}
+use Rattle.product_reduce.proofs.Shared.{factors_of, is_num_one, Tree, Trees, none, more, append, is_mult, children_of, Forest, kids, merged_nth, with_nth, root_tree, without_root, put, represents_handed, represents_with, represents_as, coefficient_before, IsProduct, Becomes, IsBeside}
 use Rattle.product_reduce.proofs.Beside.{beside_product}
 use Rattle.product_reduce.proofs.Products.{becomes_put, becomes_as, becomes_after, becomes_merged, product_kids}
 
@@ -12,12 +12,10 @@ pub other_in_front : (c : Tree) (ts : Trees) → is_num_one c ≡ false → coef
 other_in_front c ts h = ap (λ (k : Bool). if k then ts else append (factors_of c) ts) h
 
 pub product_factors : (t : Tree) → is_mult t ≡ true → children_of t ≡ factors_of t
-product_factors (mult ts) h = refl
-product_factors _ h = cc
+product_factors t h = grind arith
 
 pub single_factor : (t : Tree) → is_mult t ≡ false → factors_of t ≡ more t none
-single_factor (mult ts) h = cc
-single_factor t h = refl
+single_factor t h = grind arith
 
 -- a root comes first
 pub first_put : (i c : ℕ) (u : Tree) (ts : Trees) (l f g : Forest) → IsBeside c u l f → IsProduct i l ts → g ≡ put i (with_nth 0 (root_tree c f) (kids (root_tree i f))) (without_root c f) → Becomes i l g (more u ts)

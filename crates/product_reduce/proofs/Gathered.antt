@@ -1,6 +1,6 @@
 -- From a coefficient beside ordered factors to the gathered product.
-use Rattle.std.proofs.Common.{◌≡◌, true, false, ◌&&◌, refl, sym, ap, ◌∙◌, subst, arith}
-use Rattle.product_reduce.proofs.Shared.{and_parts, and_from, IsPermutation-trans, is_number, base_of, is_reduced, are_reduced, NoneIs, KeepsMeanings-refl, KeepsMeanings-product_more, Permuted, permuted_none, permuted_more, permuted_swap, permuted_trans, Permuted-sym, permuted_product, within_same, within_beside, names_permuted, no_new_name, keeps, reduces_after, nest_of, load_of_factors, nest_permuted, Tree, mult, Trees, none, more, is_mult, is_undef, has_undef, names, names_of, IsSorting, list_of, Overflow, children_of, AreOthers, IsEnding, opened, others_in, IsCoefficient, coefficient_before, IsGathered, IsOrdered, have_partners, SpreadingOverflows}
+use Rattle.std.proofs.Common.{◌≡◌, true, false, refl, sym, ap, ◌∙◌, subst, arith}
+use Rattle.product_reduce.proofs.Shared.{and_parts, and_from, IsPermutation-trans, base_of, is_reduced, are_reduced, NoneIs, KeepsMeanings-refl, KeepsMeanings-product_more, Permuted, permuted_none, permuted_more, permuted_swap, permuted_trans, Permuted-sym, permuted_product, within_same, within_beside, names_permuted, no_new_name, keeps, reduces_after, nest_of, load_of_factors, nest_permuted, Tree, mult, Trees, none, more, is_undef, has_undef, names, names_of, IsSorting, list_of, Overflow, children_of, AreOthers, IsEnding, opened, others_in, IsCoefficient, coefficient_before, IsGathered, IsOrdered, have_partners, SpreadingOverflows}
 use Rattle.calc_algebra.specs.Rewritings.{Rewrites}
 use Rattle.product_reduce.proofs.Bounds.{nest_with, nest_others, nest_opened, load_with, load_others, load_opened, load_permuted}
 use Rattle.product_reduce.proofs.Finished.{or_none, product_keeps, product_within}
@@ -15,10 +15,7 @@ use Rattle.product_reduce.proofs.Stepped.{others_are}
 pub reduced_permuted : {ts us : Trees} → Permuted ts us → are_reduced ts ≡ true → are_reduced us ≡ true
 reduced_permuted permuted_none h = refl
 reduced_permuted (permuted_more {t} {ts} k) h = let (a, b) = and_parts (is_reduced t) (are_reduced ts) h in and_from _ _ a (reduced_permuted k b)
-reduced_permuted (permuted_swap {t} {u} {ts}) h =
-    let (a, b) = and_parts (is_reduced t) (is_reduced u && are_reduced ts) h in
-    let (c, d) = and_parts (is_reduced u) (are_reduced ts) b in
-    and_from (is_reduced u) (is_reduced t && are_reduced ts) c (and_from (is_reduced t) (are_reduced ts) a d)
+reduced_permuted (permuted_swap {t} {u} {ts}) h = grind (arith, and_from)
 reduced_permuted (permuted_trans k l) h = reduced_permuted l (reduced_permuted k h)
 
 defined_words : (ts : Trees) → has_undef ts ≡ false → NoneIs is_undef ts

@@ -1,7 +1,7 @@
 -- The factors of a product are gathered to what counts no more.
 use Rattle.std.proofs.Common.{◌≡◌, inl, inr, ℕ, ◌+◌, ◌≤◌, max, Bool, true, false, not, if◌then◌else◌, refl, sym, ap, ◌∙◌, subst, arith}
-use Rattle.product_reduce.proofs.Shared.{Fraction, zero_fraction, is_zero_fraction, is_one_fraction, no_zero, Tree, num, add, mult, root, Trees, none, more, append, is_add, AllPartsOf, has_undef, IsNumber, is_number, base_of, HasForm, NoneIs, is_num_one, are_reduced, Permuted, permuted_none, permuted_more, permuted_swap, permuted_trans, number_test, number_words, counted, counted_among, factors_of, spliced, rational_before, with_coefficient, IsMonic, mapped, rational_times_term, monic_sum, factors_monic, monic_parts, IsFactor, not_one_is, EachTerm, each_term, number_term, multiple, IsSorting, is_zero, children_of, HasSamePart, HaveSameParts, numbers_among, product_count, same_parts, appended, at_most_itself, counts_one, flat_product, number_counts_one, AreOthers, IsWritten, IsWrittenProduct, opened, others_in, coefficient_before, coefficient_times, IsGathered}
-use Rattle.calc_room.proofs.TreeBytes.{counted_number, counted_other, term_counts}
+use Rattle.product_reduce.proofs.Shared.{Fraction, zero_fraction, is_zero_fraction, is_one_fraction, no_zero, Tree, num, add, mult, Trees, none, more, append, is_add, AllPartsOf, has_undef, IsNumber, is_number, base_of, HasForm, NoneIs, is_num_one, are_reduced, Permuted, permuted_none, permuted_more, permuted_swap, permuted_trans, number_test, number_words, counted, counted_among, factors_of, spliced, rational_before, with_coefficient, IsMonic, mapped, rational_times_term, monic_sum, factors_monic, monic_parts, IsFactor, not_one_is, EachTerm, each_term, number_term, multiple, IsSorting, is_zero, children_of, HasSamePart, HaveSameParts, numbers_among, product_count, same_parts, appended, at_most_itself, counts_one, flat_product, number_counts_one, AreOthers, IsWritten, IsWrittenProduct, opened, others_in, coefficient_before, coefficient_times, IsGathered}
+use Rattle.calc_room.proofs.TreeBytes.{term_counts}
 use Rattle.product_reduce.proofs.Forms.{others_no_numbers}
 use Rattle.product_reduce.proofs.Gathered.{others_permuted}
 use Rattle.product_reduce.proofs.LastSteps.{sorted_factors}
@@ -18,8 +18,7 @@ counted_in t = if is_number t then 0 else counted t
 -- ---- factors that are opened, parted, and change places
 
 factors_counted : (t : Tree) (ts : Trees) → counted_among (append (factors_of t) ts) ≤ counted_among (more t ts)
-factors_counted (mult us) ts = flat_product us ts
-factors_counted t ts = omega arith
+factors_counted t ts = grind (arith, flat_product)
 
 opened_counted : (ts : Trees) → counted_among (opened ts) ≤ counted_among ts
 opened_counted none = omega arith
@@ -27,19 +26,12 @@ opened_counted (more t ts) = omega (arith, factors_counted t (opened ts), opened
 
 others_counted : (ts : Trees) → counted_among (others_in ts) ≡ counted_among ts
 others_counted none = refl
-others_counted (more t ts) = by (is_number t) refl (others_counted ts)
-  where
-    by : (b : Bool) → is_number t ≡ b → counted_among (others_in ts) ≡ counted_among ts → counted_among (if b then others_in ts else more t (others_in ts)) ≡ (if b then 0 else counted t) + counted_among ts
-    by true e go = go ∙ omega arith
-    by false e go = (λ i. (if e i then 0 else counted t) + go i)
+others_counted (more t ts) = grind (arith, others_counted ts)
 
 permuted_counted : {ts us : Trees} → Permuted ts us → counted_among us ≡ counted_among ts
 permuted_counted permuted_none = refl
 permuted_counted (permuted_more {t} k) = ap (λ (n : ℕ). counted_in t + n) (permuted_counted k)
-permuted_counted (permuted_swap {t} {u} {ts}) = swapped (counted_in t) (counted_in u) (counted_among ts)
-  where
-    swapped : (a b c : ℕ) → b + (a + c) ≡ a + (b + c)
-    swapped a b c = omega arith
+permuted_counted (permuted_swap {t} {u} {ts}) = grind arith
 permuted_counted (permuted_trans k l) = permuted_counted l ∙ permuted_counted k
 
 -- the others, in any order, count no more than all factors
@@ -61,10 +53,7 @@ before_counted c us h = by (is_num_one c)
 -- ---- it is written before a part, or goes into the terms of a sum
 
 same_part : (q : Fraction) (t : Tree) → IsFactor q → AllPartsOf HasForm (more t none) → is_add t ≡ false → EachTerm (more t none) → HasSamePart (rational_times_term q t) t
-same_part q t f h a (inl k, e) =
-    let n : is_number (rational_times_term q t) ≡ true = term_counts (rational_times_term q t) (number_term q t f k).one in
-    let m : is_number t ≡ true = term_counts t k in
-    record { number = n ∙ sym m; part = λ e. absurd (clash (sym n ∙ e)) }
+same_part q t f h a (inl k, e) = grind (arith, term_counts, number_term, clash)
 same_part q t f h a (inr n, e) = let m = multiple q f t h.0 n a in record { number = m.no_number ∙ sym n; part = λ e. m.part }
 
 mapped_same : (q : Fraction) (ts : Trees) → IsFactor q → AllPartsOf HasForm ts → NoneIs is_add ts → EachTerm ts → HaveSameParts (mapped (rational_times_term q) ts) ts
@@ -72,8 +61,7 @@ mapped_same q none f h a e = tt
 mapped_same q (more t ts) f h a e = (same_part q t f (h.0, tt) a.0 (e.0, tt), mapped_same q ts f h.1 a.1 e.1)
 
 part_factors : (p : Tree) → max 1 (counted_among (factors_of p)) ≤ counted p
-part_factors (mult ts) = omega arith
-part_factors p = omega (arith, at_most_itself p none, counts_one p)
+part_factors p = grind (arith, at_most_itself, counts_one)
 
 spliced_counted : (c p : Tree) → IsNumber c → counted (spliced c p) ≤ counted p
 spliced_counted c p h = omega (arith, appended (factors_of c) (factors_of p), number_factors c h, part_factors p)

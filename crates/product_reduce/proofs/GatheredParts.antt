@@ -1,6 +1,6 @@
 -- What holds of each part of the factors of a product holds of each part of what they are gathered to.
 use Rattle.std.proofs.Common.{arith, ◌≡◌, ℕ, List, Bool, true, false, if◌then◌else◌, refl, sym, subst}
-use Rattle.product_reduce.proofs.Shared.{Fraction, one_fraction, Tree, num, undef, add, mult, power, Trees, none, more, append, AllParts, AllPartsOf, is_number, value, base_of, is_num_one, is_opaque_exponent, num_one, product_tree, number_words, IsPowerOf, HasPowersOf, Spans, SpansRoot, SpansTree, SpansTrees, factors_of, AllPartsOf-append, IsSorting, is_zero, IsJoined, IsWritten, IsWrittenProduct, opened, numbers_in, others_in, product_of_values, IsCoefficient, coefficient_before, coefficient_times, IsGathered, exponent_of, first_partner, has_partner, is_partner, joined, joint, without_partner}
+use Rattle.product_reduce.proofs.Shared.{Fraction, Tree, num, undef, add, mult, power, Trees, none, more, AllParts, AllPartsOf, is_number, value, base_of, product_tree, number_words, IsPowerOf, HasPowersOf, Spans, SpansRoot, SpansTree, SpansTrees, factors_of, AllPartsOf-append, IsSorting, is_zero, IsJoined, IsWritten, IsWrittenProduct, opened, numbers_in, others_in, product_of_values, IsCoefficient, coefficient_before, coefficient_times, IsGathered, first_partner, joined, joint, without_partner}
 use Rattle.calc_room.proofs.NumberSpans.{spans_times, spans_same, tree_spanned, value_spanned}
 use Rattle.calc_room.proofs.SpanLaws.{one_spanned}
 use Rattle.like_children.proofs.OwnPowers.{number_powers, own_powers_of}
@@ -16,19 +16,11 @@ module _ (P : Tree → Type 0) where
 
   pub numbers_parts : (ts : Trees) → AllPartsOf P ts → AllPartsOf P (numbers_in ts)
   numbers_parts none h = tt
-  numbers_parts (more t ts) h = by (is_number t) (numbers_parts ts h.1)
-    where
-      by : (b : Bool) → AllPartsOf P (numbers_in ts) → AllPartsOf P (if b then more t (numbers_in ts) else numbers_in ts)
-      by true go = (h.0, go)
-      by false go = go
+  numbers_parts (more t ts) h = grind (arith, numbers_parts ts h.1)
 
   others_parts : (ts : Trees) → AllPartsOf P ts → AllPartsOf P (others_in ts)
   others_parts none h = tt
-  others_parts (more t ts) h = by (is_number t) (others_parts ts h.1)
-    where
-      by : (b : Bool) → AllPartsOf P (others_in ts) → AllPartsOf P (if b then others_in ts else more t (others_in ts))
-      by true go = go
-      by false go = (h.0, go)
+  others_parts (more t ts) h = grind (arith, others_parts ts h.1)
 
 -- ---- gathered
 
@@ -37,8 +29,7 @@ module _ (P : Tree → Type 0)
     (of_add : (ts : Trees) → P (add ts))
     (of_mult : (ts : Trees) → P (mult ts)) where
   written_parts : (c : Tree) (us : Trees) → AllParts P c → AllPartsOf P us → AllParts P (coefficient_times c us)
-  written_parts c none h k = h
-  written_parts c (more t ts) h k = with_parts P of_num of_add of_mult c (product_tree (more t ts)) h (product_tree_parts P of_num of_add of_mult (more t ts) k)
+  written_parts c us h k = grind (arith, with_parts, product_tree_parts)
 
   before_factors : (c : Tree) (us : Trees) → AllParts P c → AllPartsOf P us → AllParts P (mult (coefficient_before c us))
   before_factors c us h k = grind (arith, AllPartsOf-append)
@@ -77,20 +68,11 @@ module _ (P : Tree → Type 0)
 
   partner_parts : (t : Tree) (ts : Trees) → AllPartsOf P ts → AllParts P (first_partner t ts) × AllPartsOf P (without_partner t ts)
   partner_parts t none h = (of_undef, tt)
-  partner_parts t (more u ts) h = by (is_partner t u) (partner_parts t ts h.1)
-    where
-      by : (k : Bool) → AllParts P (first_partner t ts) × AllPartsOf P (without_partner t ts) → AllParts P (if k then u else first_partner t ts) × AllPartsOf P (if k then ts else more u (without_partner t ts))
-      by true go = h
-      by false go = (go.0, (h.0, go.1))
+  partner_parts t (more u ts) h = grind (arith, partner_parts t ts h.1)
 
   factors_joined : (ts : Trees) → AllPartsOf P ts → AllPartsOf P (joined ts)
   factors_joined none h = tt
-  factors_joined (more t ts) h = by (has_partner t ts) (partner_parts t ts h.1) (factors_joined ts h.1)
-    where
-      by : (k : Bool) → AllParts P (first_partner t ts) × AllPartsOf P (without_partner t ts) → AllPartsOf P (joined ts)
-          → AllPartsOf P (if k then more (joint t (first_partner t ts)) (without_partner t ts) else more t (joined ts))
-      by true x go = (joint_parts t (first_partner t ts) h.0 x.0, x.1)
-      by false x go = (h.0, go)
+  factors_joined (more t ts) h = grind (arith, factors_joined ts h.1, partner_parts, joint_parts)
 
   pub joined_parts : (ts : Trees) (t : Tree) → ((c : Tree) → IsCoefficient c (opened ts) → AllParts P c) → AllPartsOf P ts → IsJoined ts t → AllParts P t
   joined_parts ts t f h j = grind (arith, before_factors, factors_joined, others_parts, opened_parts)

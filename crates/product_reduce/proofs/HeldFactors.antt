@@ -1,6 +1,6 @@
 -- What holds factors one by one holds them opened, their Numbers apart from the others, and these in any order.
-use Rattle.std.proofs.Common.{◌≡◌, ◌≢◌, ℕ, ◌+◌, ◌-◌, ◌≤◌, ◌⊎◌, List, inl, inr, [], ◌∷◌, Bool, true, false, if◌then◌else◌, length, refl, sym, ap, ◌∙◌, subst, arith}
-use Rattle.product_reduce.proofs.Shared.{Fraction, zero_fraction, one_fraction, zero_test, Tree, num, add, mult, root, Trees, none, more, append, is_mult, is_number, value, term_of, terms_of, IsNumber, NoneIs, HasForm, IsProductForm, Split, split, split_product, num_one, is_num_one, Term, Surd, term, surd_of, surd_one, Permuted, permuted_none, permuted_more, permuted_swap, permuted_trans, one_not_zero, number_words, number_test, has_coefficient, no_split, Leads, in_front, IsHeld, IsSumHeld, as_factor, counts_of, Addend, addend, addend_of, exponent_in, power_high, power_low, AreWeighted, none_weighted, more_weighted, IsPartHeld, no_factor_held, Weighted, weighted, AreHeld, wider, parts_multiply, one_weighted, split_off, IsFactorHeld, AreFactorsHeld, none_held, factor_held, term_held, factors_of, opened, numbers_in, others_in, coefficient_before}
+use Rattle.std.proofs.Common.{◌≡◌, ◌≢◌, ℕ, ◌+◌, ◌-◌, ◌≤◌, ◌⊎◌, List, inl, inr, [], ◌∷◌, Bool, true, false, if◌then◌else◌, refl, sym, ap, ◌∙◌, subst, arith}
+use Rattle.product_reduce.proofs.Shared.{Fraction, zero_fraction, one_fraction, zero_test, Tree, num, add, mult, root, Trees, none, more, append, is_mult, is_number, value, IsNumber, NoneIs, HasForm, IsProductForm, Split, split, split_product, num_one, is_num_one, Term, Surd, term, surd_of, surd_one, Permuted, permuted_none, permuted_more, permuted_swap, permuted_trans, one_not_zero, number_words, number_test, has_coefficient, no_split, Leads, in_front, IsHeld, IsSumHeld, as_factor, counts_of, Addend, addend, addend_of, exponent_in, power_high, power_low, AreWeighted, none_weighted, more_weighted, IsPartHeld, no_factor_held, Weighted, weighted, AreHeld, wider, parts_multiply, one_weighted, split_off, IsFactorHeld, AreFactorsHeld, none_held, factor_held, term_held, factors_of, opened, numbers_in, others_in, coefficient_before}
 use Rattle.product_reduce.proofs.Forms.{IsFormed, AllFormed}
 use Rattle.product_reduce.proofs.HeldNumbers.{value_held, number_as_factor}
 use Rattle.tree_bits.specs.HeldTrees as held

@@ -1,6 +1,6 @@
 -- A rational times a reduced sum, as addends: each coefficient is multiplied, and the factors are the same.
-use Rattle.std.proofs.Common.{◌≡◌, ◌≢◌, ◌≤◌, ◌*◌, ℕ, ◌⊎◌, inl, inr, [], ◌∷◌, Bool, true, false, if◌then◌else◌, refl, sym, ap, ◌∙◌, subst, arith}
-use Rattle.product_reduce.proofs.Shared.{Fraction, times, zero_fraction, one_fraction, is_one_fraction, one_is, zero_test, Tree, num, add, mult, root, Trees, none, more, append, count, is_add, is_mult, AllParts, AllPartsOf, has_coefficient, is_number, is_term, natural_of, value, terms_of, IsNumber, IsTerm, HasForm, NoneIs, IsProductForm, IsSumForm, Split, split, split_product, product_tree, part_of, num_one, number_terms, other_terms, Surd, term, surd_of, surd_one, surd_scale, surd_times, number_test, coefficient_of, factors_of, mapped, rational_times_number, rational_times_term, leading_factors, product_form_of, AreFactors, no_split, num_split, none_leads, two_count, no_term, term_test, IsFactor, number_scaled, terms-scaled, times_one, Leads, in_front, EachTerm, each_term, number_term, multiple, distributed, Addend, addend, addend_of, addends, addends_of}
+use Rattle.std.proofs.Common.{◌≡◌, ◌≢◌, ◌≤◌, ◌*◌, ℕ, ◌⊎◌, inl, inr, [], ◌∷◌, Bool, true, false, if◌then◌else◌, refl, sym, ap, ◌∙◌, arith}
+use Rattle.product_reduce.proofs.Shared.{Fraction, times, zero_fraction, one_fraction, is_one_fraction, one_is, zero_test, Tree, num, add, mult, root, Trees, none, more, append, count, is_add, is_mult, AllParts, AllPartsOf, has_coefficient, is_number, natural_of, value, terms_of, IsNumber, IsTerm, HasForm, NoneIs, IsProductForm, IsSumForm, Split, split, split_product, product_tree, part_of, num_one, number_terms, other_terms, Surd, term, surd_of, surd_one, surd_scale, surd_times, number_test, coefficient_of, factors_of, mapped, rational_times_number, rational_times_term, leading_factors, product_form_of, AreFactors, no_split, num_split, none_leads, no_term, term_test, IsFactor, number_scaled, terms-scaled, times_one, Leads, in_front, EachTerm, each_term, number_term, multiple, distributed, Addend, addend, addend_of, addends, addends_of}
 use Rattle.calc_algebra.proofs.InverseLaws.{product_not_zero}
 use Rattle.product_reduce.proofs.Leads.{factors_again}
 use Rattle.product_reduce.proofs.Progress.{one_value}
@@ -29,36 +29,23 @@ addend_parts t h n = grind (arith, product_form_of, no_split, leading_factors, i
 
 pub others_formed : (ts : Trees) → AllPartsOf HasForm ts → AllPartsOf HasForm (other_terms ts)
 others_formed none h = tt
-others_formed (more t ts) h = by (is_term t) (others_formed ts h.1)
-  where
-    by : (b : Bool) → AllPartsOf HasForm (other_terms ts) → AllPartsOf HasForm (if b then other_terms ts else more t ts)
-    by true go = go
-    by false go = h
+others_formed (more t ts) h = grind (arith, others_formed ts h.1)
 
 others_no_sum : (ts : Trees) → NoneIs is_add ts → NoneIs is_add (other_terms ts)
 others_no_sum none h = tt
-others_no_sum (more t ts) h = by (is_term t) (others_no_sum ts h.1)
-  where
-    by : (b : Bool) → NoneIs is_add (other_terms ts) → NoneIs is_add (if b then other_terms ts else more t ts)
-    by true go = go
-    by false go = h
+others_no_sum (more t ts) h = grind (arith, others_no_sum ts h.1)
 
 -- ---- the coefficient of a multiple
 
 module _ (q : Fraction) (f : IsFactor q) where
   -- before factors with no Number in front it is q
   before : (us : Trees) → has_coefficient us ≡ false → value (coefficient_of (mult (more (num q) us))) ≡ surd_times (surd_of q) (value num_one)
-  before us k =
-      ap (λ (s : Split). value s.coefficient) (num_split q us k) ∙ rational_value q f.not_zero ∙ (λ i. term (sym (times_one q) i) 1 ∷ []) ∙ ap (surd_times (surd_of q)) (sym one_value)
+  before us k = grind (arith, num_split, rational_value, times_one, one_value)
 
   -- the coefficient goes
   gone : (fs : Trees) → NoneIs is_mult fs → has_coefficient fs ≡ false → value (coefficient_of (product_tree fs)) ≡ surd_one
   gone none m k = one_value
-  gone (more t none) m k = by t m.0
-    where
-      by : (t : Tree) → is_mult t ≡ false → value (coefficient_of t) ≡ surd_one
-      by (mult us) e = absurd (clash e)
-      by t e = one_value
+  gone (more t none) m k = grind (arith, clash, one_value)
   gone (more t (more u fs)) m k = ap (λ (s : Split). value s.coefficient) (no_split (more t (more u fs)) k) ∙ one_value
 
   product_some : (c : Fraction) → c ≢ zero_fraction → times q c ≢ zero_fraction

@@ -135,8 +135,7 @@ number_as_factor t h l n k =
 
 values_append : (ts us : Trees) → Same (product_of_values (append ts us)) (surd_times (product_of_values ts) (product_of_values us))
 values_append none us = Same-eq (sym (surd_times-surd_one (product_of_values us)))
-values_append (more t ts) us =
-    Same-trans (Same-surd_times (Same-refl (value t)) (values_append ts us)) (Same-eq (sym (surd_times_assoc (value t) (product_of_values ts) (product_of_values us))))
+values_append (more t ts) us = grind (arith, values_append ts us, Same-trans, Same-surd_times, Same-refl, Same-eq, surd_times_assoc)
 
 -- ---- the root behind a rational that is multiplied already
 

@@ -1,5 +1,5 @@
 -- What holds factors one by one, where two neighbours of one base are taken out and another factor is put in their place.
-use Rattle.std.proofs.Common.{List, [], ◌∷◌, ℕ, zero, suc, ◌+◌, ◌≤◌, ◌<◌, ◌≡◌, Bool, true, false, ◌&&◌, not, refl, sym, ◌∙◌, arith}
+use Rattle.std.proofs.Common.{List, [], ◌∷◌, ℕ, zero, suc, ◌+◌, ◌≤◌, ◌<◌, ◌≡◌, true, false, ◌&&◌, refl, sym, ◌∙◌, arith}
 use Rattle.product_reduce.proofs.Shared.{and_parts, is_number, natural_of, is_reduced, are_reduced, term, IsHeld, Fraction, Tree, num, root, mult, Trees, none, more, count, is_mult, removed, AreTreesHeld, ArePositive, high_sum, low_sum, IsPartHeld, factor_is_held, parts_multiply, nth, inserted, IsFactorHeld, AreFactorsHeld, none_held, factor_held, term_held, is_single, is_pair, IsPairAt}
 use Rattle.calc_measures.specs.Measures.{HighLow}
 use Rattle.product_reduce.proofs.Finished.{formed_unless_undef}
@@ -62,8 +62,7 @@ pair_held at (more t none) w e r a = absurd (omega arith)
 pair_held zero (more t (more u ts)) w e r (factor_held p q k n a b x y) = first_pair t u ts (both_single t u e).0 (both_single t u e).1 a b x y
 pair_held zero (more (num c) (more u ts)) w e r (term_held p q k n a b x y) = absurd (rational_no_single c (both_single (num c) u e).0)
 pair_held (suc at) (more t (more u ts)) w e r (factor_held p q k n a b x y) = behind_one at t (more u ts) a (pair_held at (more u ts) (omega arith) e (reduced_tail t (more u ts) r) b) x y
-pair_held (suc zero) (more (num c) (more (root (num d)) ts)) w e r (term_held p q k n a b x y) =
-    absurd (root_no_single d (and_parts (is_reduced (root (num d))) (are_reduced ts) (reduced_tail (num c) (more (root (num d)) ts) r)).0 (both_single (root (num d)) (nth 0 ts) e).0)
+pair_held (suc zero) (more (num c) (more (root (num d)) ts)) w e r (term_held p q k n a b x y) = grind (arith, root_no_single, reduced_tail, both_single)
 pair_held (suc (suc at)) (more (num c) (more (root (num d)) ts)) w e r (term_held p q k n a b x y) =
     behind_two at c d ts a (pair_held at ts (omega arith) e (reduced_tail (root (num d)) ts (reduced_tail (num c) (more (root (num d)) ts) r)) b) x y
 

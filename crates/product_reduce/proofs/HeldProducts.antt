@@ -1,6 +1,6 @@
 -- What holds the factors of a product one by one holds what they are gathered to.
 use Rattle.std.proofs.Common.{◌≡◌, ◌≤◌, ◌+◌, ℕ, List, [], ◌∷◌, Bool, true, false, not, if◌then◌else◌, refl, sym, ap, ◌∙◌, subst, arith}
-use Rattle.product_reduce.proofs.Shared.{Fraction, zero_fraction, is_zero_fraction, is_one_fraction, no_zero, Tree, num, add, mult, Trees, none, more, append, count, is_mult, has_undef, is_number, value, NoneIs, Split, split, split_product, product_tree, num_one, are_reduced, Surd, surd_of, IsHeld, factors_of, rational_before, with_coefficient, IsMonic, mapped, rational_times_term, monic_sum, monic_parts, IsFactor, not_one_is, factors_no_number, is_zero, IsSumHeld, Counts, counts, counts_of, as_factor, distributed, Addend, addend, addend_of, addends, none_weighted, more_weighted, IsPartHeld, weighted, AreHeld, distributed_held, factor_as_tree, factor_is_held, wider, exponents_within, held_wider, one_counts, one_weighted, wider_held, put_before, children_of, AreOthers, IsWritten, IsWrittenProduct, IsFactorHeld, AreFactorsHeld, opened, others_in, coefficient_times, IsGathered}
+use Rattle.product_reduce.proofs.Shared.{Fraction, zero_fraction, is_zero_fraction, is_one_fraction, no_zero, Tree, num, add, mult, Trees, none, more, append, count, is_mult, has_undef, is_number, value, NoneIs, Split, split, split_product, product_tree, num_one, are_reduced, Surd, surd_of, IsHeld, factors_of, rational_before, with_coefficient, IsMonic, mapped, rational_times_term, monic_sum, monic_parts, IsFactor, not_one_is, factors_no_number, is_zero, IsSumHeld, as_factor, distributed, Addend, addend, addend_of, addends, none_weighted, more_weighted, IsPartHeld, weighted, AreHeld, distributed_held, factor_as_tree, factor_is_held, wider, held_wider, one_counts, one_weighted, wider_held, put_before, children_of, AreOthers, IsWritten, IsWrittenProduct, IsFactorHeld, AreFactorsHeld, opened, others_in, coefficient_times, IsGathered}
 use Rattle.tree_bits.proofs.Children.{tree_as_sum, sum_as_tree}
 use Rattle.product_reduce.proofs.Finished.{reduced_formed}
 use Rattle.product_reduce.proofs.Forms.{AllFormed, number_formed, opened_flat, opened_formed, split_of_number, split_of_others}

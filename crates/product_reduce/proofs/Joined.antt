@@ -1,6 +1,6 @@
 -- Two factors of one base, joined: meanings are kept.
 use Rattle.std.proofs.Common.{arith, ◌≡◌, Bool, true, false, refl, if◌then◌else◌}
-use Rattle.product_reduce.proofs.Shared.{Ordering, Less, Equal, Greater, is_eq, base_of, tree_cmp, Tree, mult, Trees, none, more, KeepsMeanings, KeepsMeanings-refl, KeepsMeanings-trans, KeepsMeanings-product_more, Permuted, permuted_more, permuted_swap, permuted_trans, Permuted-refl, permuted_product, joined_in_product, tree_cmp_equal, is_partner, has_partner, first_partner, without_partner, joint, joined}
+use Rattle.product_reduce.proofs.Shared.{Ordering, Equal, is_eq, base_of, tree_cmp, Tree, mult, Trees, none, more, KeepsMeanings, KeepsMeanings-refl, KeepsMeanings-trans, KeepsMeanings-product_more, Permuted, permuted_more, permuted_swap, permuted_trans, Permuted-refl, permuted_product, joined_in_product, tree_cmp_equal, is_partner, has_partner, first_partner, without_partner, joint, joined}
 use Rattle.calc_algebra.proofs.PowerRewrites.{same_bases}
 
 equal_words : (o : Ordering) → is_eq o ≡ true → o ≡ Equal
@@ -14,11 +14,7 @@ one_base t u h = tree_cmp_equal (base_of t) (base_of u) (equal_words (tree_cmp (
 
 pub partner_is : (t : Tree) (ts : Trees) → has_partner t ts ≡ true → is_partner t (first_partner t ts) ≡ true
 partner_is t none h = cc
-partner_is t (more u ts) h = by (partner_is t ts) (is_partner t u) refl h
-  where
-    by : (has_partner t ts ≡ true → is_partner t (first_partner t ts) ≡ true) → (k : Bool) → is_partner t u ≡ k → (if k then true else has_partner t ts) ≡ true → is_partner t (if k then u else first_partner t ts) ≡ true
-    by go true e g = e
-    by go false e g = go g
+partner_is t (more u ts) h = grind (arith, partner_is t ts)
 
 pub partner_first : (t : Tree) (ts : Trees) → has_partner t ts ≡ true → Permuted ts (more (first_partner t ts) (without_partner t ts))
 partner_first t none h = cc

@@ -45,10 +45,7 @@ small_base n a b (is_within h) = by (is_number (add (more (exponent_of a) (more 
     by : (k : Bool) → (if k then nest (base_of a) else max (nest (base_of a)) (suc (max (nest (exponent_of a)) (max (nest (exponent_of b)) 0)))) ≤ n → nest (base_of a) ≤ n
     by true h = omega arith
     by false h = omega arith
-small_base n a b (is_over c p q e h) = subst (λ (x : Tree). nest x ≤ n) (sym (base_in e)) h
-  where
-    base_in : {b x c y : Tree} → power b x ≡ power c y → b ≡ c
-    base_in e = cc
+small_base n a b (is_over c p q e h) = grind arith
 
 pub base_bound : (ts : Trees) (t a b : Tree) (at : ℕ) → IsJoined ts t → at < count (children_of t) → nth at (children_of t) ≡ joint a b → nest (base_of a) ≤ nest (mult ts)
 base_bound ts t a b at j l e = small_base (nest (mult ts)) a b (subst (IsSmall (nest (mult ts))) e (small_at (nest (mult ts)) at (children_of t) l (product_small ts t j)))
@@ -79,8 +76,7 @@ exponent_bound ts t a b at j l e d = small_exponent (nest (mult ts)) a b d (subs
 
 -- those that are reduced are nested no more
 reduced_small : (n : ℕ) (t : Tree) → is_reduced t ≡ true → IsSmall n t → nest t ≤ n
-reduced_small n t r (is_within h) = h
-reduced_small n t r (is_over b p q e h) = absurd (joint_of_numbers_is_not_reduced b p q (ap is_reduced (sym e) ∙ r))
+reduced_small n t r h = grind (arith, is_over, joint_of_numbers_is_not_reduced)
 
 all_reduced_small : (n : ℕ) (ts : Trees) → are_reduced ts ≡ true → AllSmall n ts → nest_of ts ≤ n
 all_reduced_small n none r h = omega arith

@@ -1,8 +1,7 @@
 -- The joint of two factors: its exponents, its nest and its load.
-use Rattle.std.proofs.Common.{ℕ, zero, suc, ◌+◌, ◌≤◌, ◌<◌, max, ◌≡◌, inl, inr, Bool, true, false, ◌&&◌, not, if◌then◌else◌, refl, sym, ap, ◌∙◌, subst, arith}
+use Rattle.std.proofs.Common.{ℕ, zero, suc, ◌+◌, ◌≤◌, ◌<◌, max, ◌≡◌, inl, inr, Bool, true, false, ◌&&◌, not, if◌then◌else◌, refl, ap, ◌∙◌, arith}
 use Rattle.std.specs.Prelude.{⊤}
-use Rattle.product_reduce.proofs.Shared.{and_parts, Fraction, one_fraction, is_zero_fraction, nest, nest_of, weight, weight_of_factors, load_of_factor, load_of_factors, has_coefficient, is_number, IsNumber, Rises, terms_of, is_opaque_exponent, is_whole_num, is_reduced, has_form, all_parts, HasForm, IsSumForm, NoneIs, base_of, Tree, num, add, mult, power, root, Trees, none, more, count, is_mult, number_words, number_test, reduced_parts, removed, nth, exponent_of, joint}
-use Rattle.number_forms.proofs.Shaped.{term_number}
+use Rattle.product_reduce.proofs.Shared.{and_parts, Fraction, one_fraction, nest, nest_of, weight, weight_of_factors, load_of_factor, load_of_factors, is_number, IsNumber, is_opaque_exponent, is_whole_num, is_reduced, has_form, all_parts, HasForm, IsSumForm, base_of, Tree, num, add, mult, power, root, Trees, none, more, count, is_mult, number_words, number_test, reduced_parts, removed, nth, exponent_of, joint}
 use Rattle.product_reduce.proofs.Forms.{IsFormed, formed}
 
 -- ---- the exponents of a joint
@@ -31,24 +30,14 @@ clash e = cc
 -- one that is no Number is nested less than its power
 pub exponent_nest : (t : Tree) → is_number (exponent_of t) ≡ false → suc (nest (exponent_of t)) ≤ nest t
 unfolding is_number
-exponent_nest (power b e) h = by (is_number e) (is_whole_num e) refl h
-  where
-    by : (k w : Bool) → is_number e ≡ k → is_number (if k && not w then num one_fraction else e) ≡ false → suc (nest (if k && not w then num one_fraction else e)) ≤ (if k then nest b else max (nest b) (suc (nest e)))
-    by true true n h = absurd (clash (sym n ∙ h))
-    by true false n h = absurd (clash h)
-    by false w n h = omega arith
+exponent_nest (power b e) h = grind (arith, clash)
 exponent_nest t h = absurd (clash h)
 
 under_power : (k : Bool) (b e : ℕ) → b ≤ (if k then b else max b (suc e))
-under_power true b e = omega arith
-under_power false b e = omega arith
+under_power k b e = grind arith
 
 pub base_nest : (t : Tree) → nest (base_of t) ≤ nest t
-base_nest (power b e) = by (is_opaque_exponent e)
-  where
-    by : (k : Bool) → nest (if k then power b e else b) ≤ nest (power b e)
-    by true = omega arith
-    by false = under_power (is_number e) (nest b) (nest e)
+base_nest (power b e) = grind (arith, under_power)
 base_nest t = omega arith
 
 -- ---- a sum of two exponents is no Number
@@ -72,8 +61,7 @@ unfolding is_number
 no_sum_form p q s = grind arith
 
 no_sum : (p q : Fraction) → HasForm (add (more (num p) (more (num q) none))) → ⊥
-no_sum p q (inl h) = no_number_words (num p) (num q) (is_rational p refl) (is_rational q refl) h
-no_sum p q (inr s) = no_sum_form p q s
+no_sum p q h = grind (arith, no_number_words, no_sum_form)
 
 pub joint_of_numbers_is_not_reduced : (b : Tree) (p q : Fraction) → is_reduced (power b (add (more (num p) (more (num q) none)))) ≡ true → ⊥
 joint_of_numbers_is_not_reduced b p q h = no_sum p q (reduced_parts (power b (add (more (num p) (more (num q) none)))) h refl).2.0
@@ -121,8 +109,7 @@ small_removed n (suc at) (more t ts) h = (h.0, small_removed n at ts h.1)
 -- ---- loads
 
 pub flat_load : (t : Tree) → is_mult t ≡ false → is_number t ≡ false → load_of_factor t ≡ weight (base_of t)
-flat_load (mult ts) m h = cc
-flat_load t m h = ap (λ (k : Bool). if k then 0 else weight (base_of t)) h
+flat_load t m h = grind arith
 
 power_is_no_number : (b x : Tree) → is_number (power b x) ≡ false
 unfolding is_number
@@ -145,11 +132,7 @@ some_weight : (t : Tree) → 1 ≤ weight t
 some_weight t = grind arith
 
 formed_weight : (t : Tree) → HasForm t → 2 ≤ weight t
-formed_weight (root a) h = by (is_number (root a)) (some_weight a)
-  where
-    by : (k : Bool) → 1 ≤ weight a → 2 ≤ (if k then 2 else suc (weight a))
-    by true l = omega arith
-    by false l = omega arith
+formed_weight (root a) h = grind (arith, some_weight)
 formed_weight (power b e) h = omega (arith, some_weight b)
 formed_weight (mult none) (inl h) = absurd h
 formed_weight (mult none) (inr h) = absurd h.two

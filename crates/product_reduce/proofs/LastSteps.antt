@@ -1,6 +1,6 @@
 -- A coefficient and sorted factors whose bases differ make a reduced tree.
 use Rattle.std.proofs.Common.{◌≡◌, ◌≤◌, [], true, false, refl, ap, arith}
-use Rattle.product_reduce.proofs.Shared.{is_number, is_reduced, product_tree, RisesBy, HasForm, base_of, are_reduced, Tree, mult, Trees, none, more, count, names, names_of, is_mult, is_undef, AllPartsOf, has_undef, KeepsMeanings, KeepsMeanings-refl, KeepsMeanings-trans, KeepsMeanings-product_more, Permuted, permuted_none, permuted_more, permuted_swap, permuted_trans, permuted_product, single_product, to_single_product, number_words, product_tree_keeps, with_coefficient, put_formed, put_reduces, AreFactors, factors_monic, reduced_parts, parts_defined, keeps, reduces_after, and_parts, IsPermutation-refl, IsSorting, AreOthers, IsEnding, coefficient_times, nest_number, nest_permuted, Within, within_left, within_same, within_trans, within_both, within_beside, within_none, names_permuted, no_new_name}
+use Rattle.product_reduce.proofs.Shared.{is_number, is_reduced, product_tree, RisesBy, HasForm, base_of, are_reduced, Tree, mult, Trees, none, more, count, names, names_of, is_undef, AllPartsOf, has_undef, KeepsMeanings, KeepsMeanings-refl, KeepsMeanings-trans, KeepsMeanings-product_more, Permuted, permuted_none, permuted_more, permuted_swap, permuted_trans, permuted_product, single_product, to_single_product, number_words, product_tree_keeps, with_coefficient, put_formed, put_reduces, AreFactors, factors_monic, reduced_parts, parts_defined, keeps, reduces_after, and_parts, IsPermutation-refl, IsSorting, AreOthers, IsEnding, coefficient_times, nest_number, nest_permuted, Within, within_left, within_same, within_trans, within_both, within_beside, within_none, names_permuted, no_new_name}
 use Rattle.coefficients.proofs.Bounds.{coefficient_nest, coefficient_load}
 use Rattle.product_reduce.proofs.Bounds.{nest_tree, load_tree, load_permuted}
 use Rattle.product_reduce.proofs.Finished.{or_none, formed_reduced, formed_defined, load_of_number}
@@ -57,8 +57,7 @@ permuted_none_is (permuted_trans h k) e = permuted_none_is k (permuted_none_is h
 
 -- the coefficient in front
 pub times_written : (c : Tree) (us : Trees) → 1 ≤ count us → with_coefficient c (product_tree us) ≡ coefficient_times c us
-times_written c none l = absurd (omega arith)
-times_written c (more t us) l = refl
+times_written c us l = grind arith
 
 pub ending : (c : Tree) (ts us : Trees) → AreOthers ts → is_number c ≡ true → IsSorting 0 base_of ts us → Permuted ts us → RisesBy base_of us → 1 ≤ count us → IsEnding c ts (with_coefficient c (product_tree us))
 ending c ts us o h s m r l =

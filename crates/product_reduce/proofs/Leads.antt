@@ -1,7 +1,7 @@
 -- A coefficient that stands first as it is written, and factors put in order behind it.
-use Rattle.std.specs.Prelude.{take, Option, None, Some, MatchOption, is_some}
-use Rattle.std.proofs.Common.{ℕ, zero, suc, ◌+◌, ◌≤◌, ◌≡◌, ◌≢◌, inl, inr, not, Bool, true, false, if◌then◌else◌, refl, sym, ap, ◌∙◌, subst, arith}
-use Rattle.product_reduce.proofs.Shared.{is_number, value, IsTerm, base_of, is_num_one, is_one_add, num_one, product_tree, NoneIs, HasForm, are_reduced, Same-sym, Permuted, permuted_more, Permuted-sym, Same-trans, Agree-Same, surd_times-one, Same-eq, Fraction, one_fraction, zero_fraction, is_one_fraction, lowest, gcd, Tree, num, add, mult, root, Trees, none, more, append, count, is_add, is_mult, factors_of, rational_before, spliced, with_coefficient, two_count, IsNextNumber, NoNumberBetween, IsSorting, list_of, is_zero, removed, nth, AreOthers, IsStop, at_end, IsEnding, AreFactorsHeld, opened, numbers_in, others_in, product_of_values, coefficient_times, IsLead, IsOrdered, have_partners, IsPairAt, IsNextPair, NoPairBetween, no_numbers, count_append, no_numbers_none, no_numbers_others}
+use Rattle.std.specs.Prelude.{take, Option, MatchOption, is_some}
+use Rattle.std.proofs.Common.{ℕ, zero, suc, ◌+◌, ◌≤◌, ◌≡◌, ◌≢◌, not, Bool, true, false, if◌then◌else◌, refl, sym, ap, ◌∙◌, subst, arith}
+use Rattle.product_reduce.proofs.Shared.{is_number, value, base_of, is_num_one, is_one_add, num_one, product_tree, NoneIs, HasForm, are_reduced, Same-sym, Permuted, permuted_more, Permuted-sym, Same-trans, Agree-Same, surd_times-one, Same-eq, one_fraction, lowest, gcd, Tree, mult, Trees, none, more, append, count, is_add, is_mult, factors_of, with_coefficient, IsNextNumber, NoNumberBetween, IsSorting, list_of, is_zero, removed, nth, AreOthers, IsStop, at_end, IsEnding, AreFactorsHeld, opened, numbers_in, others_in, product_of_values, coefficient_times, IsLead, IsOrdered, have_partners, IsPairAt, IsNextPair, NoPairBetween, no_numbers, count_append, no_numbers_none, no_numbers_others}
 use Rattle.product_reduce.proofs.Forms.{AllFormed}
 use Rattle.product_reduce.proofs.Fronts.{one_in_front, other_in_front, single_factor}
 use Rattle.product_reduce.proofs.Gathered.{others_permuted, reduced_permuted}
@@ -171,29 +171,19 @@ put_ordered n at c ts us t h s p e =
 pub one_add_behind : (ts : Trees) → count ts ≡ 2 → is_one_add (removed 0 ts) ≡ is_add (nth 1 ts)
 one_add_behind none e = absurd (omega (arith, e))
 one_add_behind (more t none) e = absurd (omega (arith, e))
-one_add_behind (more t (more u none)) e = by u
-  where
-    by : (u : Tree) → is_one_add (more u none) ≡ is_add u
-    by (add ts) = refl
-    by u = refl
+one_add_behind (more t (more u none)) e = grind arith
 one_add_behind (more t (more u (more v ts))) e = absurd (omega (arith, e))
 
 pub more_behind : (ts : Trees) → count ts ≢ 2 → is_one_add (removed 0 ts) ≡ false
 more_behind none e = refl
 more_behind (more t none) e = refl
 more_behind (more t (more u none)) e = absurd (e refl)
-more_behind (more t (more u (more v ts))) e = by u
-  where
-    by : (u : Tree) → is_one_add (more u (more v ts)) ≡ false
-    by (add us) = refl
-    by u = refl
+more_behind (more t (more u (more v ts))) e = grind arith
 
 -- ---- tests
 
 pub off : (b : Bool) → not b ≡ true → b ≡ false
-off true e = absurd (clash (sym e))
-off false e = refl
+off b e = grind (arith, clash)
 
 pub none_found : {Q : Type 0} (P : ℕ → Type 0) (r : Option ℕ) → is_some r ≡ false → MatchOption r Q P → Q
-none_found P None e h = h
-none_found P (Some k) e h = absurd (clash e)
+none_found P r e h = grind (arith, clash)

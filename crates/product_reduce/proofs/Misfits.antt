@@ -1,7 +1,7 @@
 -- Which operation of a product does not fit, from the call that was refused.
-use Rattle.std.proofs.Common.{arith, ◌≡◌, ℕ, eqb, ◌&&◌, false, Result, Ok, Err, refl, ap, ◌∙◌}
+use Rattle.std.proofs.Common.{arith, ◌≡◌, ℕ, eqb, ◌&&◌, false, Result, Ok, Err, ap, ◌∙◌}
 use Rattle.std.specs.Prelude.{IfErr, IsErrAnd}
-use Rattle.product_reduce.proofs.Shared.{Permuted, permuted_none, permuted_more, permuted_swap, permuted_trans, Permuted-sym, value, product_tree, num_one, IsPlainOverflow, calculated, mul_op, Fraction, Tree, num, add, mult, Trees, none, more, is_num, is_add, NamesPut, State, AnswersRationals, OfOverflow, NamesProduct, SpreadingOverflows, factors_in, Overflow, given_same, given_told, plain, Forest, Gives, root_tree, without_root, NumberFault}
+use Rattle.product_reduce.proofs.Shared.{Permuted, permuted_none, permuted_more, permuted_swap, permuted_trans, Permuted-sym, value, product_tree, IsPlainOverflow, calculated, mul_op, Fraction, Tree, num, Trees, none, more, is_num, NamesPut, State, AnswersRationals, OfOverflow, NamesProduct, SpreadingOverflows, factors_in, Overflow, given_same, given_told, plain, Forest, Gives, root_tree, without_root, NumberFault}
 use Rattle.coefficients.proofs.Named.{put_as}
 use Rattle.node_pool.specs.declared.full.Full.{Full}
 use Rattle.number_forms.specs.Overflows.{ProductOverflows}
@@ -24,19 +24,8 @@ product_named a b new (Err (fault.Overflow o)) h k = names_product a b o h k
 
 pub permuted_one_is : {ts us : Trees} (x : Tree) → Permuted ts us → ts ≡ more x none → us ≡ more x none
 permuted_one_is x permuted_none e = cc
-permuted_one_is x (permuted_more {t} {ts} {us} h) e =
-    let n : us ≡ none = permuted_none_is h (rest e) in
-    ap (more t) n ∙ ap (λ (y : Tree). more y none) (first e)
-  where
-    rest : {t x : Tree} {ts : Trees} → more t ts ≡ more x none → ts ≡ none
-    rest e = cc
-
-    first : {t x : Tree} {ts : Trees} → more t ts ≡ more x none → t ≡ x
-    first e = cc
-permuted_one_is x permuted_swap e = absurd (no_two e)
-  where
-    no_two : {t u x : Tree} {ts : Trees} → more t (more u ts) ≡ more x none → ⊥
-    no_two e = cc
+permuted_one_is x (permuted_more {t} {ts} {us} h) e = grind (arith, permuted_none_is)
+permuted_one_is x permuted_swap e = grind arith
 permuted_one_is x (permuted_trans h k) e = permuted_one_is x k (permuted_one_is x h e)
 
 put_alone : (c : Tree) (us ts : Trees) (o : Overflow) → Permuted us ts → NamesPut c (product_tree us) o → SpreadingOverflows c ts o

@@ -1,9 +1,9 @@
 -- Neighbours among sorted factors, and what their bases tell of all factors.
 use Rattle.std.specs.Prelude.{IsSortedByKey, IsPermutation}
-use Rattle.std.proofs.Common.{ℕ, zero, suc, ◌<◌, ◌≤◌, ◌+◌, ◌≡◌, Bool, true, false, not, ◌&&◌, if◌then◌else◌, refl, sym, ap, ◌∙◌, arith, add-one}
-use Rattle.product_reduce.proofs.Shared.{is_eq, is_lt, count_removed, and_parts, is_number, base_of, NoneIs, RisesBy, are_reduced, tree_cmp, Permuted, Permuted-sym, tree_cmp_total, Tree, Trees, none, more, count, is_mult, list_of, removed, nth, count_append, coefficient_before, is_partner, has_partner, have_partners, joint, IsJointAt, is_single, is_pair, IsPairAt, NoPairBetween, joined_pair}
+use Rattle.std.proofs.Common.{ℕ, zero, suc, ◌<◌, ◌+◌, ◌≡◌, Bool, true, false, not, ◌&&◌, if◌then◌else◌, refl, sym, ap, ◌∙◌, arith, add-one}
+use Rattle.product_reduce.proofs.Shared.{is_eq, is_lt, count_removed, and_parts, is_number, base_of, NoneIs, RisesBy, are_reduced, tree_cmp, Permuted, Permuted-sym, tree_cmp_total, Tree, Trees, none, more, count, is_mult, list_of, nth, count_append, coefficient_before, is_partner, has_partner, have_partners, joint, IsJointAt, is_single, is_pair, IsPairAt, NoPairBetween, joined_pair}
 use Rattle.product_reduce.proofs.Finished.{reduced_nth}
-use Rattle.product_reduce.proofs.JointPlaces.{in_front, before_is, nth_behind, nth_inserted, removed_inserted, count_inserted, reduced_removed}
+use Rattle.product_reduce.proofs.JointPlaces.{before_is, nth_behind, nth_inserted, removed_inserted, count_inserted, reduced_removed}
 use Rattle.product_reduce.proofs.Sorted.{AreApart, apart_words, apart_permuted, less_of, permuted_lists}
 
 -- ---- a pair tells that some factors have partners
@@ -56,12 +56,10 @@ rising (more t (more u us)) n m s h = (
 )
 
 skipped : (t u : Tree) (us : Trees) → RisesBy base_of (more t (more u us)) → RisesBy base_of (more t us)
-skipped t u none r = tt
-skipped t u (more v us) r = (tree_cmp_total.trans (base_of t) (base_of u) (base_of v) r.0 r.1.0, r.1.1)
+skipped t u us r = grind (arith, tree_cmp_total)
 
 rest_rises : (t : Tree) (us : Trees) → RisesBy base_of (more t us) → RisesBy base_of us
-rest_rises t none r = tt
-rest_rises t (more u us) r = r.1
+rest_rises t us r = grind arith
 
 rising_alone : (t : Tree) (us : Trees) → RisesBy base_of (more t us) → NoneIs (is_partner t) us
 rising_alone t none r = tt

@@ -1,13 +1,12 @@
 -- Steps on a product bring no new name.
 use Rattle.std.proofs.Common.{arith, ◌≡◌, Bool, true, false, [], ◌++◌, refl, if◌then◌else◌, append_assoc}
-use Rattle.product_reduce.proofs.Shared.{factors_of, one_fraction, is_number, is_opaque_exponent, base_of, is_num_one, Tree, num, mult, power, Trees, none, more, append, names, names_of, opened, others_in, coefficient_before, exponent_of, has_partner, first_partner, without_partner, joint, joined, Within, within_eq, within_same, within_trans, within_both, within_left, within_right, within_beside, within_none, names_of-append, names_permuted, number_names}
+use Rattle.product_reduce.proofs.Shared.{factors_of, is_number, base_of, is_num_one, Tree, Trees, none, more, append, names, names_of, opened, others_in, coefficient_before, exponent_of, has_partner, first_partner, without_partner, joint, joined, Within, within_eq, within_same, within_trans, within_both, within_left, within_right, within_beside, within_none, names_of-append, names_permuted, number_names}
 use Rattle.product_reduce.proofs.Joined.{partner_first}
 
 -- ---- factors
 
 names_of-factors : (t : Tree) → Within (names t) (names_of (factors_of t))
-names_of-factors (mult ts) = within_same (names_of ts)
-names_of-factors t = within_both (names t) (names t) [] (within_same (names t)) (within_none (names t))
+names_of-factors t = grind (arith, within_same, within_both, within_none)
 
 pub names_opened : (ts : Trees) → Within (names_of ts) (names_of (opened ts))
 names_opened none = within_same []

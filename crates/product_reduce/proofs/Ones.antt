@@ -1,10 +1,7 @@
 -- The rational 1 by its parts.
-use Rattle.std.proofs.Common.{arith, ◌≡◌, ℕ, ℤ, pos, negsuc, zero, suc, Bool, true, false, ◌&&◌, ◌↔◌, refl, sym, ap, ◌∙◌, FitsSigned, of_z, to_z, nat_eq}
+use Rattle.std.proofs.Common.{arith, ◌≡◌, ℕ, ℤ, Bool, true, false, ◌↔◌, FitsSigned, of_z, nat_eq}
 use Rattle.std.specs.Prelude.{IsTrue}
-use Rattle.product_reduce.proofs.Shared.{w128, eqb-true, eq-eqb, Fraction, is_one_fraction, by_test}
-use Rattle.std.proofs.lemmas.Int.{to_z-of_z}
-use Rattle.calc_terms.specs.Integers.{int_is_one}
-use Rattle.number_forms.proofs.CodeTests.{test_fails}
+use Rattle.product_reduce.proofs.Shared.{w128, Fraction, is_one_fraction}
 
 -- a numerator, over 1
 pub one_over_one : (q : Fraction) (z : ℤ) → FitsSigned w128 z → z ≡ q.num → q.den ≡ 1 → nat_eq (of_z w128 z) 1 ≡ is_one_fraction q
@@ -14,5 +11,4 @@ pub not_over_one : (q : Fraction) (b : Bool) (d : ℕ) → (IsTrue b ↔ (d ≡ 
 not_over_one q b d h f e = grind arith
 
 pub whole_over_one : (b : Bool) (d : ℕ) → (IsTrue b ↔ (d ≡ 1)) → b ≡ true → d ≡ 1
-whole_over_one true d h e = h.0 refl
-whole_over_one false d h e = cc
+whole_over_one b d h e = grind arith

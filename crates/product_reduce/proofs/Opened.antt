@@ -1,14 +1,13 @@
 -- A product whose factors are opened and whose Numbers are one coefficient keeps its meanings.
-use Rattle.std.proofs.Common.{arith, ◌≡◌, Bool, true, false, refl, if◌then◌else◌, ap}
-use Rattle.product_reduce.proofs.Shared.{factors_of, one_fraction, is_number, is_num_one, Same, Surd, Tree, num, mult, Trees, none, more, append, one_is, KeepsMeanings, KeepsMeanings-refl, KeepsMeanings-eq, KeepsMeanings-trans, KeepsMeanings-product_more, KeepsMeanings-product_append, nested_product, permuted_product, one_factor_of_product, product_parts, none_product, number_words, number_value, value_means, Same-trans, Same-sym, Same-surd_times, numbers_first, opened, numbers_in, others_in, product_of_values, IsCoefficient, coefficient_before}
+use Rattle.std.proofs.Common.{arith, ◌≡◌, Bool, true, false, refl, if◌then◌else◌}
+use Rattle.product_reduce.proofs.Shared.{factors_of, one_fraction, is_number, is_num_one, Same, Surd, Tree, num, mult, Trees, none, more, append, one_is, KeepsMeanings, KeepsMeanings-refl, KeepsMeanings-trans, KeepsMeanings-product_more, KeepsMeanings-product_append, nested_product, permuted_product, one_factor_of_product, product_parts, none_product, number_words, number_value, value_means, Same-trans, Same-sym, Same-surd_times, numbers_first, opened, numbers_in, others_in, product_of_values, IsCoefficient, coefficient_before}
 use Rattle.calc_algebra.specs.Meanings.{Assignment, IsAssignment, Means}
 use Rattle.calc_algebra.proofs.MeaningRewrites.{flat_product}
 
 -- ---- products in a product
 
 pub first_opened : (t : Tree) (ts : Trees) → KeepsMeanings (mult (more t ts)) (mult (append (factors_of t) ts))
-first_opened (mult us) ts = flat_product us ts
-first_opened t ts = KeepsMeanings-refl _
+first_opened t ts = grind (arith, flat_product, KeepsMeanings-refl)
 
 pub opened_keeps : (ts : Trees) → KeepsMeanings (mult ts) (mult (opened ts))
 opened_keeps none = KeepsMeanings-refl (mult none)
@@ -37,8 +36,7 @@ collected c ts h =
 -- ---- the coefficient in front
 
 pub one_is_num : (c : Tree) → is_num_one c ≡ true → c ≡ num one_fraction
-one_is_num (num q) h = ap num (one_is q h)
-one_is_num _ h = cc
+one_is_num c h = grind (arith, one_is)
 
 pub coefficient_in_front : (c : Tree) (ts : Trees) → KeepsMeanings (mult (more c ts)) (mult (coefficient_before c ts))
 coefficient_in_front c ts = grind (arith, one_is_num, one_factor_of_product, first_opened)

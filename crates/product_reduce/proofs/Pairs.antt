@@ -15,11 +15,7 @@ record IsAt (t : Tree) (n : ℕ) (ts : Trees) : Type 0 where
 
 partner_at : (t : Tree) (n : ℕ) (ts : Trees) → n < count ts → is_partner t (nth n ts) ≡ true → ((k : ℕ) → k < n → is_partner t (nth k ts) ≡ false) → IsAt t n ts
 partner_at t n none l e h = absurd (omega arith)
-partner_at t zero (more u ts) l e h = record {
-  has = ap (λ (b : Bool). if b then true else has_partner t ts) e;
-  is = ap (λ (b : Bool). if b then u else first_partner t ts) e;
-  others = ap (λ (b : Bool). if b then ts else more u (without_partner t ts)) e;
-}
+partner_at t zero (more u ts) l e h = grind arith
 partner_at t (suc n) (more u ts) l e h =
     let a = partner_at t n ts (omega arith) e (λ k m. h (suc k) (omega arith)) in
     let d = h 0 (omega arith) in
@@ -55,8 +51,7 @@ some_partners zero zero (more t ts) h = absurd (omega (arith, h.pair.order))
 some_partners zero (suc j) (more t ts) h =
     ap (λ (b : Bool). if b then true else have_partners ts) (partner_at t j ts (omega (arith, h.pair.within)) h.pair.partner (λ k l. h.pair.nearest (suc k) (omega arith) (omega arith))).has
 some_partners (suc i) zero (more t ts) h = absurd (omega (arith, h.pair.order))
-some_partners (suc i) (suc j) (more t ts) h =
-    ap (λ (b : Bool). if b then true else have_partners ts) (no_partner t ts (λ k l. h.first 0 (omega arith) (suc k) (omega arith) (omega arith))) ∙ some_partners i j ts (behind_first i j t ts h)
+some_partners (suc i) (suc j) (more t ts) h = grind (arith, some_partners i j ts (behind_first i j t ts h), no_partner, behind_first)
 
 pub joined_at : (i j : ℕ) (ts : Trees) → IsFirstPair i j ts → joined ts ≡ inserted i (more (joint (nth i ts) (nth j ts)) none) (removed i (removed j ts))
 joined_at i j none h = absurd (omega (arith, h.pair.within))

@@ -1,7 +1,7 @@
 -- A coefficient beside the other factors of a product, and what is made of both.
-use Rattle.std.proofs.Common.{ℕ, ◌≡◌, ◌≤◌, ◌+◌, ◌*◌, ◌^◌, ◌∙◌, Bool, List, length, Result, Ok, Err, eqb, true, false, [], ◌∷◌, refl, sym, ap, subst, arith}
+use Rattle.std.proofs.Common.{ℕ, ◌≡◌, ◌≤◌, ◌+◌, ◌*◌, ◌^◌, ◌∙◌, Bool, List, length, Result, Err, eqb, true, false, [], ◌∷◌, refl, sym, ap, subst, arith}
 use Rattle.std.specs.Prelude.{IfOk, IfErr, IsErr, IsErrAnd}
-use Rattle.product_reduce.proofs.Shared.{PlainValue, plain_value, IsPlainAnswer, counted, HasPowersOf, SpansTree, SpansTrees, put_room, product_count, counts_one, product_bytes, pow_pos, passed_lacks, result_lacks, Tree, undef, mult, Trees, none, count, is_mult, is_undef, are_rationals, has_undef, size, are_reduced, AnswersRationals, AnswersRationalFactors, AnswersRationalStep, NumberFault, Overflow, State, free_of, tree_of, children_of, Forest, forest, Stands, KeepsRefusals, IsHanded, Gives, KeepsFront, without_root, behind_first, front_after_one, front_after_two, gives_as, given_told, by_test, overflow_as, passed_on, OfOverflow, Joining, Step, IfDone, IfAgain, IfFinished, IfJoined, AreOthers, IsStop, at_zero, at_end, IsRejoined, IsFinished, IsJoined, IsOrdered, IsGathered, AreFactorsHeld, IsFactorHeld, IsCoefficient, coefficient_times, have_partners, opened, numbers_in, others_in, MultiplyingOverflows, SpreadingOverflows, multiplying, spreading, IsProduct, Becomes, IsTakenOut, factors_in}
+use Rattle.product_reduce.proofs.Shared.{PlainValue, plain_value, IsPlainAnswer, counted, HasPowersOf, SpansTree, SpansTrees, put_room, product_count, counts_one, product_bytes, pow_pos, passed_lacks, result_lacks, Tree, undef, mult, Trees, none, count, is_mult, is_undef, are_rationals, has_undef, size, are_reduced, AnswersRationals, AnswersRationalFactors, AnswersRationalStep, NumberFault, State, free_of, tree_of, children_of, Forest, forest, Stands, KeepsRefusals, IsHanded, Gives, KeepsFront, without_root, behind_first, front_after_one, front_after_two, gives_as, given_told, by_test, overflow_as, passed_on, OfOverflow, Joining, Step, IfDone, IfAgain, IfFinished, IfJoined, AreOthers, IsStop, at_zero, at_end, IsRejoined, IsFinished, IsJoined, IsOrdered, IsGathered, AreFactorsHeld, IsFactorHeld, IsCoefficient, coefficient_times, opened, numbers_in, others_in, MultiplyingOverflows, SpreadingOverflows, multiplying, spreading, IsProduct, Becomes, IsTakenOut, factors_in}
 use Rattle.product_reduce.specs.Misfits.{IsFactorMisfit}
 use Rattle.calc_room.specs.Needs.{product_need}
 use Rattle.tree_handles.proofs.Refused.{refused_as as refused_on}
@@ -19,10 +19,7 @@ use Rattle.product_reduce.proofs.LastSteps.{permuted_none_is}
 use Rattle.product_reduce.proofs.Products.{product_at, factors_are}
 use Rattle.product_reduce.proofs.Sorted.{permuted_lists}
 use Rattle.product_reduce.proofs.SpreadFits.{no_spreading}
-use Rattle.product_reduce.proofs.Stepped.{mult_words, handed_product, others_are, opened_value, none_beside}
-use Rattle.product_reduce.specs.declared.gathering.Joining.TheVariants as joining
-use Rattle.reduce_port.specs.declared.step.Step.TheVariants as step
-use Rattle.tree_handles.specs.declared.fault.NumberFault.TheVariants as fault
+use Rattle.product_reduce.proofs.Stepped.{mult_words, others_are, opened_value, none_beside}
 
 -- ---- the factors are opened
 
@@ -163,20 +160,16 @@ pub step_answered : {i h : ℕ} {old now : State} (others : Forest) (v : PlainVa
 step_answered others v new r p q a d j n = grind (arith, stop_alone, none_beside, given_told)
 
 refused_words : (v : PlainValue) (new : State) (e : NumberFault) → AnswersRationals v new (Err e) → AnswersRationalFactors v new (Err e)
-refused_words v new (fault.Full full) h = h
-refused_words v new (fault.Overflow o) h = h
+refused_words v new e h = grind arith
 
 pub refused : (v : PlainValue) (new : State) (r : Result Joining NumberFault) (e : NumberFault) → IsErrAnd r (λ x. x ≡ e) → AnswersRationals v new (Err e) → AnswersRationalFactors v new r
-refused v new (Ok x) e h k = absurd h
-refused v new (Err x) e h k = subst (λ (y : NumberFault). AnswersRationalFactors v new (Err y)) (sym h) (refused_words v new e k)
+refused v new r e h k = grind (arith, refused_words)
 
 step_refused_words : (v : PlainValue) (new : State) (e : NumberFault) → AnswersRationals v new (Err e) → AnswersRationalStep v new (Err e)
-step_refused_words v new (fault.Full full) h = h
-step_refused_words v new (fault.Overflow o) h = h
+step_refused_words v new e h = grind arith
 
 pub step_refused : (v : PlainValue) (new : State) (r : Result Step NumberFault) (e : NumberFault) → IsErrAnd r (λ x. x ≡ e) → AnswersRationals v new (Err e) → AnswersRationalStep v new r
-step_refused v new (Ok x) e h k = absurd h
-step_refused v new (Err x) e h k = subst (λ (y : NumberFault). AnswersRationalStep v new (Err y)) (sym h) (step_refused_words v new e k)
+step_refused v new r e h k = grind (arith, step_refused_words)
 
 -- ---- a reduced tree
 
@@ -188,8 +181,7 @@ pub record IsWithin (p t : Tree) : Type 0 where
   pub held : (h l : ℕ) → has_undef (children_of p) ≡ false → AreFactorsHeld (children_of p) h l → IsFactorHeld t h l
 
 undef_words : (t : Tree) → is_undef t ≡ true → t ≡ undef
-undef_words undef h = refl
-undef_words _ h = cc
+undef_words t h = grind arith
 
 pub within : {t : Tree} (p : Tree) → is_mult p ≡ true → are_reduced (children_of p) ≡ true → IsFinished (children_of p) t → IsWithin p t
 within {t = t} p m r f =

@@ -1,9 +1,8 @@
 -- The Numbers among the factors are multiplied from left to right.
-use Rattle.std.specs.Prelude.{Result, Ok, Err}
+use Rattle.std.specs.Prelude.{Result}
 use Rattle.std.proofs.Common.{ℕ, zero, suc, ◌<◌, ◌≤◌, ◌+◌, ◌*◌, ◌≡◌, true, refl, sym, ap, ◌∙◌, subst, arith}
-use Rattle.product_reduce.proofs.Shared.{and_parts, and_from, one_fraction, lowest, gcd, Tree, mult, Trees, none, more, append, count, is_number, are_numbers, value, are_reduced, num_one, is_reduced, Same, surd_one, surd_times, Same-sym, Same-trans, Agree-Same, surd_times_assoc, surd_times-one, surd_times-surd_one, Same-refl, Same-eq, Same-surd_times, HasFewBits, PlainValue, plain_value, IsPlainAnswer, IsPlainOverflow, SpansRoot, AnswersTotal, AreJoined, IsNextOf, IsNextNumber, NoNumberBetween, first_of, fold_begun, plain_product, no_numbers, some_number, sizes_taken, append_one, append_none, trees_assoc, count_append, front_numbers, numbers_are, numbers_removed, others_removed, no_numbers_none, parts_taken, State, AnswersRationals, removed, Overflow, nth, tree_of, NumberFault, AreFactorsHeld, numbers_in, product_of_values, IsCoefficient, NamesProduct, MultiplyingOverflows, IsProductOf, IsBegun}
+use Rattle.product_reduce.proofs.Shared.{and_parts, and_from, one_fraction, lowest, gcd, Tree, mult, Trees, none, more, append, count, is_number, are_numbers, value, are_reduced, num_one, is_reduced, Same, surd_one, surd_times, Same-sym, Same-trans, Agree-Same, surd_times_assoc, surd_times-one, surd_times-surd_one, Same-refl, Same-eq, Same-surd_times, HasFewBits, PlainValue, plain_value, SpansRoot, AnswersTotal, AreJoined, IsNextOf, IsNextNumber, NoNumberBetween, first_of, fold_begun, plain_product, no_numbers, some_number, sizes_taken, append_one, append_none, trees_assoc, count_append, front_numbers, numbers_are, numbers_removed, others_removed, no_numbers_none, parts_taken, State, AnswersRationals, removed, Overflow, nth, NumberFault, AreFactorsHeld, numbers_in, product_of_values, IsCoefficient, NamesProduct, MultiplyingOverflows, IsProductOf, IsBegun}
 use Rattle.product_reduce.proofs.HeldNumbers.{alone_held, front_held, next_held, no_factors_held}
-use Rattle.tree_handles.specs.declared.fault.NumberFault.TheVariants as fault
 
 -- ---- the first Number
 
@@ -50,8 +49,7 @@ started_at_one ts r b = record {
 
 product_append : (first : Trees) (x : Tree) → Same (surd_times (product_of_values first) (value x)) (product_of_values (append first (more x none)))
 product_append none x = Same-trans (Same-eq (surd_times-surd_one (value x))) (Same-sym (Agree-Same (surd_times-one (value x))))
-product_append (more t ts) x =
-    Same-trans (Same-eq (surd_times_assoc (value t) (product_of_values ts) (value x))) (Same-surd_times (Same-refl (value t)) (product_append ts x))
+product_append (more t ts) x = grind (arith, product_append ts x, Same-trans, Same-eq, surd_times_assoc, Same-surd_times, Same-refl)
 
 product_joined : (first xs : Trees) (d m : Tree) → are_numbers (append first xs) ≡ true → is_number d ≡ true → IsProductOf first d → AreJoined surd_times d xs m → IsProductOf (append first xs) m
 product_joined first none d m n h p e = subst (IsProductOf (append first none)) (sym e) (subst (λ (ns : Trees). IsProductOf ns d) (sym (append_none first)) p)

@@ -1,7 +1,7 @@
 -- Small trees that are reduced.
-use Rattle.std.proofs.Common.{arith, ℕ, zero, suc, ℤ, List, ◌≤◌, ◌≡◌, inr, true, refl, sym, ap, ◌∙◌, subst}
+use Rattle.std.proofs.Common.{arith, ℕ, zero, suc, ℤ, List, ◌≤◌, ◌≡◌, inr, true, refl, sym, ap, subst}
 use Rattle.std.specs.Prelude.{pos, negsuc}
-use Rattle.product_reduce.proofs.Shared.{and_from, and_parts, nat_cmp, Less, is_clean, left_of, square_root, ratio_of, value_of, Ratio, whole, lowest, zero_fraction, one_fraction, gcd, is_number, is_reduced, are_reduced, Tree, num, symbol, undef, add, mult, power, root, Trees, none, more, count, is_mult, number_words, IsMonic, parts_reduced, number_parts, plain, inserted, children_of, Forest, kids, with_nth, IsHanded, Ends, Gives, root_tree, without_root, put, gives, given_handed, given_told, represents_handed, ends_as, last_tree, Step, IfDone, IfAgain, IsProduct, Becomes, factors_in}
+use Rattle.product_reduce.proofs.Shared.{and_from, and_parts, nat_cmp, Less, is_clean, left_of, square_root, ratio_of, value_of, Ratio, whole, lowest, zero_fraction, one_fraction, gcd, is_number, is_reduced, are_reduced, Tree, num, symbol, undef, add, mult, power, root, Trees, none, more, count, is_mult, number_words, IsMonic, parts_reduced, number_parts, plain, inserted, children_of, Forest, kids, with_nth, IsHanded, Ends, Gives, root_tree, without_root, put, given_handed, given_told, last_tree, Step, IfDone, IfAgain, IsProduct, Becomes, factors_in}
 use Rattle.std.specs.Cmp.Lexicographic.{slice_cmp}
 use Rattle.calc_terms.specs.declared.rat.Rat.{Rat}
 use Rattle.product_reduce.proofs.Beside.{beside_given, beside_product}

@@ -1,7 +1,7 @@
 -- Factors in the order of their bases, no two of which are identical.
 use Rattle.std.specs.Prelude.{⊤, IsPermutation, IsSortedByKey}
-use Rattle.std.proofs.Common.{suc, arith, add-one, ◌≡◌, Bool, true, false, if◌then◌else◌, refl, sym, ap, ◌∙◌, subst}
-use Rattle.product_reduce.proofs.Shared.{Ordering, Less, Equal, Greater, is_eq, is_lt, ordering_reverse, base_of, NoneIs, RisesBy, tree_cmp, Tree, Trees, none, more, Permuted, permuted_none, permuted_more, permuted_swap, permuted_trans, permuted_trees, trees_of, tree_cmp_total, list_of, is_partner, has_partner, have_partners}
+use Rattle.std.proofs.Common.{suc, arith, add-one, ◌≡◌, Bool, false, refl, sym, ap, ◌∙◌, subst}
+use Rattle.product_reduce.proofs.Shared.{Ordering, Less, is_eq, is_lt, ordering_reverse, base_of, NoneIs, RisesBy, tree_cmp, Tree, Trees, none, more, Permuted, permuted_none, permuted_more, permuted_swap, permuted_trans, permuted_trees, trees_of, tree_cmp_total, list_of, is_partner, has_partner, have_partners}
 
 -- ---- lists of trees
 
@@ -20,19 +20,11 @@ AreApart (more t ts) = NoneIs (is_partner t) ts × AreApart ts
 
 no_partner_words : (t : Tree) (ts : Trees) → has_partner t ts ≡ false → NoneIs (is_partner t) ts
 no_partner_words t none h = tt
-no_partner_words t (more u ts) h = by (no_partner_words t ts) (is_partner t u) refl h
-  where
-    by : (has_partner t ts ≡ false → NoneIs (is_partner t) ts) → (k : Bool) → is_partner t u ≡ k → (if k then true else has_partner t ts) ≡ false → NoneIs (is_partner t) (more u ts)
-    by go true e g = cc
-    by go false e g = (e, go g)
+no_partner_words t (more u ts) h = grind (arith, no_partner_words t ts)
 
 pub apart_words : (ts : Trees) → have_partners ts ≡ false → AreApart ts
 apart_words none h = tt
-apart_words (more t ts) h = by (apart_words ts) (has_partner t ts) refl h
-  where
-    by : (have_partners ts ≡ false → AreApart ts) → (k : Bool) → has_partner t ts ≡ k → (if k then true else have_partners ts) ≡ false → AreApart (more t ts)
-    by go true e g = cc
-    by go false e g = (no_partner_words t ts e, go g)
+apart_words (more t ts) h = grind (arith, apart_words ts, no_partner_words)
 
 turned : (o : Ordering) → is_eq (ordering_reverse o) ≡ is_eq o
 turned o = grind arith

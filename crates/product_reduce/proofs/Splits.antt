@@ -1,6 +1,6 @@
 -- A factor is split into its base and its exponent.
-use Rattle.std.proofs.Common.{ℕ, ◌≡◌, [], ◌∷◌, Bool, true, false, if◌then◌else◌, refl, sym, ap, ◌∙◌, subst, arith, cond, eqb}
-use Rattle.product_reduce.proofs.Shared.{represents_kids, represents_without, removed, not-true, not-false, is_opaque_exponent, is_transparent_power, base_of, num_one, Tree, num, symbol, undef, add, mult, power, root, neg, sub, div, Trees, none, more, count, nth, plain, children_of, Forest, empty, tree, arity, kids, with_root_kids, tree_nth, without_nth, IsOnce, AllOnce, IsHanded, IsOwned, Represents, Ends, KeepsFront, has_root, root_tree, without_root, put, all-without_nth, arity-without_nth, behind_first, front_same, front_put, front_end, front_without, represents_handed, root-put, kids-put, exponent_of, IsBeside, IsSplit, without_put, by_test}
+use Rattle.std.proofs.Common.{ℕ, ◌≡◌, [], ◌∷◌, true, false, refl, sym, ap, ◌∙◌, subst, arith}
+use Rattle.product_reduce.proofs.Shared.{represents_kids, represents_without, removed, is_transparent_power, base_of, num_one, Tree, Trees, none, more, count, nth, plain, children_of, Forest, empty, tree, arity, kids, with_root_kids, tree_nth, without_nth, IsOnce, AllOnce, IsHanded, IsOwned, Represents, Ends, KeepsFront, has_root, root_tree, without_root, put, all-without_nth, arity-without_nth, behind_first, front_same, front_put, front_end, front_without, represents_handed, root-put, kids-put, exponent_of, IsBeside, IsSplit, without_put, by_test}
 use Rattle.tree_handles.proofs.Plains.{count-plains, children_of-plain}
 use Rattle.product_reduce.proofs.Beside.{beside_as, beside_root, beside_tree, beside_without, taken_beside}
 
@@ -12,8 +12,7 @@ record IsTransparent (t : Tree) : Type 0 where
   exponent : exponent_of t ≡ nth 1 (children_of t)
 
 transparent : (t : Tree) → is_transparent_power t ≡ true → IsTransparent t
-transparent (power b e) h = let o = not-true (is_opaque_exponent e) h in record { two = refl; base = ap (λ (k : Bool). if k then power b e else b) o; exponent = ap (λ (k : Bool). if k then num_one else e) o }
-transparent _ h = absurd cc
+transparent t h = grind arith
 
 record IsOpaque (t : Tree) : Type 0 where
   base : base_of t ≡ t
@@ -26,14 +25,10 @@ opaque t h = grind arith
 
 tree_put : (i : ℕ) (n f : Forest) → root_tree i (put i n f) ≡ with_root_kids n (root_tree i f)
 tree_put i n empty = refl
-tree_put i n (tree l k r) =
-    by_test (λ b. root_tree i (cond b (tree l n r) (tree l k (put i n r))) ≡ with_root_kids n (cond b (tree l k empty) (root_tree i r))) (eqb l.id i)
-    (λ e. ap (λ (b : Bool). cond b (tree l n empty) (root_tree i r)) e)
-    (λ e. ap (λ (b : Bool). cond b (tree l k empty) (root_tree i (put i n r))) e ∙ tree_put i n r)
+tree_put i n (tree l k r) = grind (arith, tree_put i n r, by_test)
 
 with_fewer : (n t : Forest) → AllOnce n → AllOnce t → AllOnce (with_root_kids n t)
-with_fewer n empty h k = tt
-with_fewer n (tree l b r) h k = (k.0, h, k.2)
+with_fewer n t h k = grind arith
 
 once_put : (i : ℕ) (f n : Forest) → AllOnce (root_tree i f) → AllOnce n → AllOnce (root_tree i (put i n f))
 once_put i f n h k = subst AllOnce (sym (tree_put i n f)) (with_fewer n (root_tree i f) k h)

@@ -1,5 +1,5 @@
 -- Where what holds the factors one by one is little, a coefficient goes into the terms of a sum without an overflow.
-use Rattle.std.proofs.Common.{◌≡◌, ◌≢◌, ◌≤◌, ◌<◌, ◌+◌, ◌*◌, ◌^◌, ℕ, inl, inr, List, [], ◌∷◌, Bool, true, false, not, if◌then◌else◌, Result, Ok, Err, refl, sym, ap, ◌∙◌, subst, arith}
+use Rattle.std.proofs.Common.{◌≡◌, ◌≢◌, ◌≤◌, ◌<◌, ◌+◌, ◌*◌, ◌^◌, ℕ, inl, inr, List, [], ◌∷◌, Bool, true, false, not, if◌then◌else◌, Result, refl, sym, ap, ◌∙◌, subst, arith}
 use Rattle.std.specs.Prelude.{IfErr}
 use Rattle.product_reduce.proofs.Shared.{mul-le, pow_pos, gcd, Fraction, lowest, times, zero_fraction, one_fraction, is_zero_fraction, fraction_fits, operation_fits, zero_times, value_of, Tree, num, add, mult, root, Trees, none, more, AllParts, AllPartsOf, has_undef, no_zero, zero_is, is_number, is_radicand, is_term, natural_of, value, term_of, terms_of, IsTerm, AreTerms, HasForm, NoneIs, split, split_product, num_one, number_terms, other_terms, are_reduced, Term, Surd, term, surd_of, surd_times, term_times, term_proper, number_words, term_words, mass, IsHeld, IsMonic, LeadsIn, LeadsTerm, NamesPut, monic_sum, product_form_of, monic_parts, State, Overflow, distributed, Addend, addend, addend_of, addends, addends_of, AreWeighted, more_weighted, IsPartHeld, Weighted, weighted, AreHeld, weighted_mass, lows, OfOverflow, NumberFault, AreOthers, AreFactorsHeld, opened, others_in, IsCoefficient, SpreadingOverflows}
 use Rattle.calc_bits.proofs.Parts.{held_left, held_right}
@@ -16,7 +16,6 @@ use Rattle.product_reduce.proofs.HeldProducts.{apart, sum_addends}
 use Rattle.product_reduce.proofs.HeldMultiples.{rational_value}
 use Rattle.product_reduce.proofs.Stepped.{others_are}
 use Rattle.calc_algebra.proofs.NumberClasses as numbers
-use Rattle.tree_handles.specs.declared.fault.NumberFault.TheVariants as fault
 
 clash : true ≡ false → ⊥
 clash e = cc
@@ -90,8 +89,7 @@ led_behind c (more t ts) h n (inr k) = later_addend (led_behind c ts h.1 n.1 k)
 
 -- a term of a Number leads as such
 as_term : (c : Fraction) (t : Tree) → IsTerm t → LeadsTerm c t → Leads c t
-as_term c (mult (more (add us) ts)) h k = absurd h
-as_term c t h k = k
+as_term c t h k = grind arith
 
 one_more : {c : Fraction} {t : Term} {v : Surd} {xs : List Addend} → HasAmong c (addend v none ∷ xs) → HasAmong c (addend (t ∷ v) none ∷ xs)
 one_more (first_addend k) = first_addend (later k)

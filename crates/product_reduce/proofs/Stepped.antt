@@ -1,17 +1,14 @@
 -- From the handed product to its other factors, and from one answer to another.
-use Rattle.std.proofs.Common.{arith, ℕ, ◌≡◌, ◌||◌, Result, Ok, Err, Bool, true, false, refl, ap, ◌∙◌}
+use Rattle.std.proofs.Common.{arith, ℕ, ◌≡◌, Result, true, false, refl, ap, ◌∙◌}
 use Rattle.std.specs.Prelude.{IfOk}
 use Rattle.product_reduce.proofs.Shared.{and_from, Tree, mult, Trees, none, more, is_mult, has_undef, are_rationals, are_reduced, NumberFault, plain, children_of, Forest, IsHanded, root_tree, Joining, Step, IfDone, IfAgain, AreOthers, IfFinished, IfJoined, IfGathered, opened, others_in, IsProduct, factors_in}
 use Rattle.product_reduce.proofs.Finished.{formed_defined, formed_reduced, reduced_formed, opened_rationals, rationals_alone}
 use Rattle.product_reduce.proofs.Forms.{AllFormed, opened_formed, others_formed, others_no_numbers, others_none, opened_flat}
-use Rattle.product_reduce.specs.declared.gathering.Joining.TheVariants as joining
-use Rattle.reduce_port.specs.declared.step.Step.TheVariants as step
 
 -- ---- the handed product
 
 pub mult_words : (t : Tree) → is_mult t ≡ true → t ≡ mult (children_of t)
-mult_words (mult ts) h = refl
-mult_words _ h = cc
+mult_words t h = grind arith
 
 pub handed_product : {i : ℕ} {f : Forest} → IsHanded i f → is_mult (plain (root_tree i f)) ≡ true → IsProduct i f (factors_in i f)
 handed_product {i = i} {f = f} h m = record { handed = h; tree = mult_words (plain (root_tree i f)) m }
@@ -20,9 +17,7 @@ handed_product {i = i} {f = f} h m = record { handed = h; tree = mult_words (pla
 
 formed_others : (ts : Trees) → AllFormed ts → (are_reduced ts ≡ true) × (has_undef ts ≡ false)
 formed_others none h = (refl, refl)
-formed_others (more t ts) h =
-    let (a, b) = formed_others ts h.1 in
-    (and_from _ _ (formed_reduced t h.0) a, ap (λ (k : Bool). k || has_undef ts) (formed_defined t h.0) ∙ b)
+formed_others (more t ts) h = grind (arith, formed_others ts h.1, and_from, formed_reduced, formed_defined)
 
 pub others_are : (ts : Trees) → are_reduced ts ≡ true → has_undef ts ≡ false → AreOthers (others_in (opened ts))
 others_are ts r d = grind (arith, reduced_formed, formed_others, others_formed, opened_formed, others_no_numbers, others_none, opened_flat)

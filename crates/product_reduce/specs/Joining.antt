@@ -1,5 +1,5 @@
 -- Factors with identical bases, joined.
-use Rattle.std.specs.Prelude.{ℕ, ◌≡◌, ◌+◌, ◌<◌, Bool, true, false, if◌then◌else◌}
+use Rattle.std.specs.Prelude.{ℕ, ◌≡◌, ◌<◌, Bool, true, false, if◌then◌else◌}
 use Rattle.std.specs.Ordering.{is_eq}
 use Rattle.calc_algebra.specs.Reduced.{is_opaque_exponent, is_reduced, base_of, num_one, are_reduced}
 use Rattle.calc_algebra.specs.TreeOrder.{tree_cmp}

@@ -1,6 +1,6 @@
 -- The addends of terms, of multiples of terms, and of sums.
 use Rattle.std.proofs.Common.{◌≡◌, ◌≢◌, ◌≤◌, ◌⊎◌, inl, inr, [], ◌∷◌, Bool, true, false, if◌then◌else◌, refl, sym, ap, ◌∙◌, subst, arith, append-nil, map, one-mul}
-use Rattle.sum_reduce.proofs.Shared.{last_parts, Fraction, times, zero_fraction, one_fraction, is_one_fraction, zero_test, one_is, Tree, num, add, mult, root, Trees, none, more, append, count, is_add, AllParts, AllPartsOf, IsNumber, AreTerms, is_number, is_term, natural_of, terms_of, value, Split, split_product, num_one, product_tree, part_of, number_terms, other_terms, HasForm, NoneIs, IsProductForm, IsSumForm, Surd, term, surd_of, surd_one, surd_scale, term_times, surd_times, one_not_zero, number_test, term_words, has_coefficient, coefficient_of, factors_of, spliced, IsMonic, mapped, rational_times_number, rational_times_sum, rational_times_term, leading_factors, product_form_of, AreFactors, factors_monic, factors_of_tree, monic_coefficient, monic_part, monic_parts, monic_no_number, no_split, none_leads, spliced_split, IsFactor, not_one_is, number_scaled, terms-scaled, times_one, number_term, multiple, distributed, Addend, addend, addend_of, addends, addends_of}
+use Rattle.sum_reduce.proofs.Shared.{last_parts, Fraction, times, zero_fraction, one_fraction, is_one_fraction, zero_test, one_is, Tree, num, add, mult, root, Trees, none, more, append, count, is_add, AllParts, AllPartsOf, IsNumber, AreTerms, is_number, natural_of, terms_of, value, Split, split_product, num_one, product_tree, part_of, number_terms, other_terms, HasForm, NoneIs, IsProductForm, IsSumForm, Surd, term, surd_of, surd_one, surd_scale, term_times, surd_times, one_not_zero, number_test, term_words, has_coefficient, coefficient_of, factors_of, spliced, IsMonic, mapped, rational_times_number, rational_times_sum, rational_times_term, leading_factors, product_form_of, AreFactors, factors_monic, factors_of_tree, monic_coefficient, monic_part, monic_parts, monic_no_number, no_split, none_leads, spliced_split, IsFactor, not_one_is, number_scaled, terms-scaled, times_one, number_term, multiple, distributed, Addend, addend, addend_of, addends, addends_of}
 use Rattle.calc_algebra.proofs.InverseLaws.{product_not_zero}
 use Rattle.coefficients.proofs.Splits.{IsCoefficient, Leads, in_front}
 use Rattle.sum_reduce.proofs.WrittenSums.{number_terms-terms, other_terms-terms}
@@ -21,12 +21,10 @@ factors_behind : (ts : Trees) → AllParts HasForm (mult ts) → is_number (mult
 factors_behind ts h n = grind (arith, product_form_of, in_front, no_split, factors_of_tree, leading_factors)
 
 addend_is : (t : Tree) → AllParts HasForm t → is_number t ≡ false → addend_of t ≡ addend (value (coefficient_of t)) (factors_of (part_of t))
-addend_is (mult ts) h n = ap (addend (value (split_product ts).coefficient)) (sym (factors_behind ts h n))
-addend_is t h n = ap (λ (v : Surd). addend v (more t none)) (sym one_value)
+addend_is t h n = grind (arith, factors_behind, one_value)
 
 one_addend : (t : Tree) → is_number t ≡ false → is_add t ≡ false → addends t ≡ addend_of t ∷ []
-one_addend (add ts) n s = absurd (clash s)
-one_addend t n s = ap (λ (b : Bool). if b then addend (value t) none ∷ [] else addend_of t ∷ []) n
+one_addend t n s = grind (arith, clash)
 
 pub term_addends : (t : Tree) → AllParts HasForm t → is_number t ≡ false → is_add t ≡ false → addends t ≡ addend (value (coefficient_of t)) (factors_of (part_of t)) ∷ []
 term_addends t h n s = one_addend t n s ∙ ap (λ (a : Addend). a ∷ []) (addend_is t h n)
@@ -35,8 +33,7 @@ pub monic_addends : (p : Tree) → IsMonic p → is_add p ≡ false → addends 
 monic_addends p m s = grind (arith, term_addends, monic_parts, monic_no_number, monic_coefficient, monic_part, one_value)
 
 pub spliced_addends : (c p : Tree) → IsNumber c → IsMonic p → is_number (spliced c p) ≡ false → addends (spliced c p) ≡ addend (value c) (factors_of p) ∷ []
-spliced_addends c p k m n =
-    one_addend (spliced c p) n refl ∙ ap (λ (s : Split). addend (value s.coefficient) s.factors ∷ []) (spliced_split c (factors_of p) k m.no_coefficient)
+spliced_addends c p k m n = grind (arith, one_addend, spliced_split)
 
 -- ---- sums
 
@@ -52,19 +49,11 @@ pub record IsSplit (ts : Trees) : Type 0 where
 
 in_two : (ts : Trees) → ts ≡ append (number_terms ts) (other_terms ts)
 in_two none = refl
-in_two (more t ts) = by (is_term t) (in_two ts)
-  where
-    by : (b : Bool) → ts ≡ append (number_terms ts) (other_terms ts) → more t ts ≡ append (if b then more t (number_terms ts) else none) (if b then other_terms ts else more t ts)
-    by true e = ap (more t) e
-    by false e = refl
+in_two (more t ts) = grind (arith, in_two ts)
 
 first_terms : (ts : Trees) → AreTerms (number_terms ts)
 first_terms none = tt
-first_terms (more t ts) = by (is_term t) refl (first_terms ts)
-  where
-    by : (b : Bool) → is_term t ≡ b → AreTerms (number_terms ts) → AreTerms (if b then more t (number_terms ts) else none)
-    by true e h = (term_words t e, h)
-    by false e h = tt
+first_terms (more t ts) = grind (arith, first_terms ts, term_words)
 
 last_none : (p : Tree → Bool) (ts us : Trees) → NoneIs p (append ts us) → NoneIs p us
 last_none p none us h = h
@@ -152,8 +141,7 @@ module _ (q : Fraction) (f : IsFactor q) where
 
   product_times : (ts : Trees) → AllParts HasForm (mult ts) → is_number (mult ts) ≡ false → IsProductForm ts → (has_coefficient ts ≡ false) ⊎ Leads ts
       → IsTimes (rational_times_term q (mult ts)) (value (split_product ts).coefficient)
-  product_times ts h n g (inl k) =
-      ap (λ (t : Tree). value (coefficient_of t)) (unled ts k) ∙ no_coefficient ts k ∙ ap (λ (s : Split). surd_scale q (value s.coefficient)) (sym (no_split ts k))
+  product_times ts h n g (inl k) = grind (arith, unled, no_coefficient, no_split)
   product_times ts h n g (inr l) =
       ap (λ (us : Trees). value (coefficient_of (rational_times_term q (mult us)))) l.whole ∙ led l.c l.factors l.coefficient (leading_factors ts l h n g)
       ∙ ap (λ (s : Split). surd_scale q (value s.coefficient)) (sym l.is)

@@ -50,8 +50,7 @@ mapped_counted q none f h a = refl
 mapped_counted q (more t ts) f h a = λ i. times_counted q t f h.0 a.0 i + mapped_counted q ts f h.1 a.1 i
 
 factors_counted : (p : Tree) → max 1 (counted_among (factors_of p)) ≤ counted p
-factors_counted (mult ts) = omega arith
-factors_counted p = omega (arith, counted_at_most p, counts_one p)
+factors_counted p = grind (arith, counted_at_most, counts_one)
 
 number_factors : (c : Tree) → IsNumber c → counted_among (factors_of c) ≡ 0
 number_factors c h = grind (arith, number_test)
@@ -94,17 +93,14 @@ like_monic none p l a h = absurd (omega arith)
 like_monic (more t us) p l a h = subst IsMonic a.1 (taken t (parts_reduced t h.0) (parts_defined t h.0) a.0).monic
 
 like_counted : (us : Trees) (p : Tree) → 2 ≤ count us → AreLike p us → counted p ≤ counted_among us
-like_counted none p l a = absurd (omega arith)
-like_counted (more t us) p l a = omega (arith, other_counts t a.0, part_counts t, ap counted a.1)
+like_counted us p l a = grind (arith, other_counts, part_counts)
 
 -- terms stay in their form
 pub collected_formed : {ts us : Trees} → Collects ts us → AllPartsOf HasForm ts → AllPartsOf HasForm us
 collected_formed (collects_opened {ts}) h = opened_parts HasForm ts h
 collected_formed (collects_ordered {ts} {us} k) h = permuted_parts HasForm (of_lists ts us k) h
 collected_formed (collects_numbers {ts} {a} {b} {n} x y k) h = (number_parts n (number_words n k.number), (h.1).1)
-collected_formed (collects_like {ts} us c p l a k) h =
-    let like = first_parts HasForm us ts h in
-    (put_formed c p (number_words c k.number) (like_monic us p l a like), last_parts HasForm us ts h)
+collected_formed (collects_like {ts} us c p l a k) h = grind (arith, first_parts, put_formed, number_words, like_monic, last_parts)
 collected_formed (collects_then k l) h = collected_formed l (collected_formed k h)
 
 pub collected_counts : {ts us : Trees} → Collects ts us → AllPartsOf HasForm ts → counted_among us ≤ counted_among ts
@@ -128,8 +124,7 @@ sum_tree_counted : (ts : Trees) → counted (sum_tree ts) ≤ suc (counted_among
 sum_tree_counted ts = grind (arith, tree_counted)
 
 led_number : (t : Tree) (ts : Trees) → leads_number (more t ts) ≡ true → is_number t ≡ true
-led_number t none h = cc
-led_number t (more u ts) h = h
+led_number t ts h = grind arith
 
 pub written_counted : (ts : Trees) → counted (written_tree ts) ≤ suc (counted_among ts)
 written_counted none = omega arith

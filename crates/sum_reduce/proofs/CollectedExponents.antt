@@ -1,5 +1,5 @@
 -- Exponents that count their bases are collected to exponents that count them no more often.
-use Rattle.std.proofs.Common.{◌≡◌, ℕ, ◌≤◌, ◌++◌, [], ℤ, pos, ◌+ℤ◌, ◌*ℤ◌, Bool, true, false, ◌&&◌, ◌==◌, if◌then◌else◌, refl, sym, ap, ◌∙◌, subst, arith}
+use Rattle.std.proofs.Common.{◌≡◌, ℕ, ◌≤◌, ◌++◌, [], ℤ, pos, ◌+ℤ◌, ◌*ℤ◌, Bool, true, false, ◌==◌, if◌then◌else◌, refl, sym, ap, ◌∙◌, subst, arith}
 use Rattle.sum_reduce.proofs.Shared.{first_parts, and_parts, and_from, eqb-true, Fraction, lowest, lowest_parts, times, whole_fraction, zero_fraction, one_fraction, is_zero_fraction, is_one_fraction, zero_is, one_is, whole_denominator, whole_numerator, Tree, num, symbol, undef, add, mult, Trees, none, more, append, count, is_add, has_undef, AllPartsOf, IsNumber, is_number, value, NoneIs, HasForm, part_of, product_tree, Same, surd_of, Permuted, permuted_none, permuted_more, permuted_swap, permuted_trans, number_rational, number_words, Same-trans, coefficient_of, rational_before, with_coefficient, IsMonic, mapped, rational_times_term, monic_sum, monic_no_number, IsNumberOf, AreLike, sum_of_coefficients, Collects, collects_opened, collects_ordered, collects_numbers, collects_like, collects_then, terms_of_loose, opened, terms_of_number, sum_tree, leads_number, written_tree, Counts, counts, added, is_counted, are_counted, counts_of, counts_of_all, IsWithin}
 use Rattle.calc_algebra.proofs.ExponentLaws.{whole_plus, whole_times}
 use Rattle.calc_algebra.proofs.MeaningLaws.{Same-sym}
@@ -43,11 +43,7 @@ append_counted (more t ts) us a b =
 -- ---- opened, and in another order
 
 loose_counted : (t : Tree) → is_counted t ≡ true → AreCounted (terms_of_loose t) (counts_of t)
-loose_counted (add ts) h = by (is_number (add ts))
-  where
-    by : (b : Bool) → AreCounted (if b then more (add ts) none else ts) (counts_of_all ts)
-    by true = only_counted (record { counted = h; within = within_same (counts_of_all ts) })
-    by false = record { all = h; within = within_same (counts_of_all ts) }
+loose_counted (add ts) h = grind (arith, only_counted, within_same)
 loose_counted t h = only_counted (record { counted = h; within = within_same (counts_of t) })
 
 opened_counted : (ts : Trees) → are_counted ts ≡ true → AreCounted (opened ts) (counts_of_all ts)
@@ -61,10 +57,7 @@ permuted_counted permuted_none h = none_counted (counts 0 0)
 permuted_counted (permuted_more {t} {ts} k) h =
     let (a, b) = and_parts (is_counted t) (are_counted ts) h in
     more_counted (record { counted = a; within = within_same (counts_of t) }) (permuted_counted k b)
-permuted_counted (permuted_swap {t} {u} {ts}) h =
-    let (a, x) = and_parts (is_counted t) (is_counted u && are_counted ts) h in
-    let (b, c) = and_parts (is_counted u) (are_counted ts) x in
-    record { all = and_from _ _ b (and_from _ _ a c); within = record { up = omega arith; down = omega arith } }
+permuted_counted (permuted_swap {t} {u} {ts}) h = grind (arith, and_from)
 permuted_counted (permuted_trans k l) h = let a = permuted_counted k h in counted_after (permuted_counted l a.all) a.within
 
 -- ---- whole numbers
@@ -276,10 +269,7 @@ both_counts (more t ts) us = let a = both_counts ts us in record { up = omega (a
 pub exponents_collected : {ts us : Trees} → Collects ts us → AllPartsOf HasForm ts → are_counted ts ≡ true → AreCounted us (counts_of_all ts)
 exponents_collected (collects_opened {ts}) f h = opened_counted ts h
 exponents_collected (collects_ordered {ts} {us} k) f h = permuted_counted (of_lists ts us k) h
-exponents_collected (collects_numbers {ts} {a} {b} {n} x y k) f h =
-    let (p, r) = and_parts (is_counted a) (is_counted b && are_counted ts) h in
-    let (q, s) = and_parts (is_counted b) (are_counted ts) r in
-    counted_after (more_counted (numbers_counted a b n x y p q k) (record { all = s; within = within_same (counts_of_all ts) })) (record { up = omega arith; down = omega arith })
+exponents_collected (collects_numbers {ts} {a} {b} {n} x y k) f h = grind (arith, counted_after, more_counted, numbers_counted, within_same)
 exponents_collected (collects_like {ts} us c p l a k) f h =
     let (x, y) = parts_of us ts h in
     counted_after (more_counted (like_counted us c p l a (first_parts HasForm us ts f) x k) (record { all = y; within = within_same (counts_of_all ts) })) (both_counts us ts)

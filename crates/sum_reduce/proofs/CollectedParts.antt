@@ -1,6 +1,6 @@
 -- What holds of each part of the terms of a sum holds of each part of what they are collected to.
 use Rattle.std.proofs.Common.{◌≡◌, ◌≤◌, ◌++◌, true, subst, arith}
-use Rattle.sum_reduce.proofs.Shared.{Fraction, one_fraction, Tree, num, add, mult, Trees, none, more, count, AllParts, AllPartsOf, is_number, value, part_of, split_product, coefficient_of, AllPartsOf-append, IsNumberOf, permuted_parts, first_parts, last_parts, product_tree_parts, with_parts, AreLike, sum_of_coefficients, Collects, collects_opened, collects_ordered, collects_numbers, collects_like, collects_then, terms_of_loose, opened, written_tree}
+use Rattle.sum_reduce.proofs.Shared.{Fraction, Tree, num, add, mult, Trees, none, more, count, AllParts, AllPartsOf, is_number, value, part_of, split_product, coefficient_of, AllPartsOf-append, IsNumberOf, permuted_parts, first_parts, last_parts, product_tree_parts, with_parts, AreLike, sum_of_coefficients, Collects, collects_opened, collects_ordered, collects_numbers, collects_like, collects_then, terms_of_loose, opened, written_tree}
 use Rattle.sum_reduce.proofs.Rearranged.{of_lists}
 
 -- ---- terms that are opened, change places, or stand before others
@@ -22,12 +22,10 @@ module _ (P : Tree → Type 0)
   split_parts ts = grind arith
 
   pub part_parts : (t : Tree) → AllParts P t → AllParts P (part_of t)
-  part_parts (mult ts) h = product_tree_parts P of_num of_add of_mult (split_product ts).factors (split_parts ts h.1).1
-  part_parts t h = h
+  part_parts t h = grind (arith, product_tree_parts, split_parts)
 
   pub coefficient_parts : (t : Tree) → AllParts P t → AllParts P (coefficient_of t)
-  coefficient_parts (mult ts) h = (split_parts ts h.1).0
-  coefficient_parts t h = of_num one_fraction
+  coefficient_parts t h = grind (arith, split_parts)
 
   -- ---- terms
 

@@ -1,6 +1,6 @@
 -- What spans the terms of a sum spans what they are collected to.
-use Rattle.std.proofs.Common.{◌≡◌, ℕ, List, true}
-use Rattle.sum_reduce.proofs.Shared.{Tree, num, add, mult, root, Trees, none, more, is_add, value, split_product, num_one, number_words, term_words, Spans, SpansRoot, SpansTree, SpansTrees, coefficient_of, IsNumberOf, sum_spans, children_of, sum_of_coefficients, Collects, written_tree}
+use Rattle.std.proofs.Common.{arith, ◌≡◌, ℕ, List, true}
+use Rattle.sum_reduce.proofs.Shared.{Tree, num, mult, root, Trees, none, more, is_add, value, split_product, num_one, number_words, term_words, Spans, SpansRoot, SpansTree, SpansTrees, coefficient_of, IsNumberOf, sum_spans, children_of, sum_of_coefficients, Collects, written_tree}
 use Rattle.calc_room.proofs.NumberSpans.{spans_append, spans_same, term_spanned, tree_spanned, value_spanned}
 use Rattle.sum_reduce.proofs.CollectedParts.{collected_parts, written_parts}
 use Rattle.sum_reduce.proofs.Splits.{split_cases}
@@ -30,5 +30,4 @@ pub spans_written : (gs : List ℕ) (ts : Trees) → SpansTrees gs ts → SpansT
 spans_written gs ts h = written_parts (SpansRoot gs) (λ q. tt) (λ vs. tt) (λ vs. tt) ts h
 
 pub spans_terms : (gs : List ℕ) (t : Tree) → is_add t ≡ true → SpansTree gs t → SpansTrees gs (children_of t)
-spans_terms gs (add ts) e h = h.1
-spans_terms gs t e h = cc
+spans_terms gs t e h = grind arith

@@ -32,8 +32,7 @@ record IsMultiple (z : ℤ) (c : Counts) : Type 0 where
   down : (multiple z c).down ≡ above z * c.down + below z * c.up
 
 by_signs : (z : ℤ) (c : Counts) → IsMultiple z c
-by_signs (pos n) c = record { up = omega arith; down = omega arith }
-by_signs (negsuc n) c = record { up = omega arith; down = omega arith }
+by_signs z c = grind arith
 
 -- ---- sums
 

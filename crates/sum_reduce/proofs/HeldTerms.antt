@@ -18,8 +18,7 @@ each_append none us = refl
 each_append (more t ts) us = ap (λ (x : List Addend). addends t ++ x) (each_append ts us) ∙ sym (append_assoc (addends t) (addends_of_each ts) (addends_of_each us))
 
 other_addends : (t : Tree) → is_number t ≡ false → is_add t ≡ false → addends t ≡ addend_of t ∷ []
-other_addends (add ts) n s = absurd (clash s)
-other_addends t n s = ap (λ (b : Bool). if b then addend (value t) none ∷ [] else addend_of t ∷ []) n
+other_addends t n s = grind (arith, clash)
 
 others_each : (ts : Trees) → NoneIs is_number ts → NoneIs is_add ts → addends_of_each ts ≡ addends_of ts
 others_each none n s = refl
@@ -156,9 +155,7 @@ written_held none (more t (more u os)) l n s c =
     let all = more t (more u os) in
     held_after (unled all (omega arith) n s) (held_equal (ap addends (sym (ap (λ (b : Bool). if b then sum_tree (append (terms_of_number t) (more u os)) else add all) n.0))))
 written_held (more m none) none l n s c = held_equal (append-nil (addends m))
-written_held (more m none) (more o os) l n s c =
-    let rest = more o os in
-    held_after (led m o os l n s) (held_equal (ap addends (sym (ap (λ (b : Bool). if b then sum_tree (append (terms_of_number m) rest) else add (more m rest)) l))))
+written_held (more m none) (more o os) l n s c = grind (arith, held_after, led, held_equal)
 written_held (more m (more k ks)) os l n s c = absurd l
 
 -- what holds terms in order holds their tree

@@ -129,20 +129,12 @@ equal_test : (t : Tree) → is_eq (tree_cmp t t) ≡ true
 equal_test t = ap is_eq (tree_cmp_refl t)
 
 like_partners : (p t u : Tree) → is_number t ≡ false → is_number u ≡ false → part_of t ≡ p → part_of u ≡ p → is_partner t u ≡ true
-like_partners p t u n m e f =
-    (λ i. not (n i) && not (m i) && is_eq (tree_cmp (e i) (f i))) ∙ equal_test p
+like_partners p t u n m e f = grind (arith, equal_test)
 
 two_like : (p : Tree) (us rest : Trees) → AreLike p us → 2 ≤ count us → AreUnlike (others_in (append us rest)) → ⊥
 two_like p none rest a l h = absurd (omega arith)
 two_like p (more t none) rest a l h = absurd (omega arith)
-two_like p (more t (more u us)) rest a l h =
-    let all : others_in (append (more t (more u us)) rest) ≡ more t (more u (others_in (append us rest))) =
-    other_in t (more u (append us rest)) a.0 ∙ ap (more t) (other_in u (append us rest) a.2.0) in
-    let k = subst AreUnlike all h in
-    clash_tests (sym (like_partners p t u a.0 a.2.0 a.1 a.2.1) ∙ k.0.0)
-  where
-    clash_tests : true ≡ false → ⊥
-    clash_tests e = cc
+two_like p (more t (more u us)) rest a l h = grind (arith, other_in, like_partners)
 
 not_unlike : (ts : Trees) (c p : Tree) (rest : Trees) (less : ℕ) → IsAdded ts c p rest less → 1 ≤ less → AreUnlike (others_in (opened ts)) → ⊥
 not_unlike ts c p rest less a l h =
@@ -214,11 +206,7 @@ none_anywhere p at ts l h s = none_permuted p (Permuted-sym (taken_permuted at t
 numbers_false : (n : ℕ) (ts : Trees) → n < count ts → is_number (nth n ts) ≡ false → are_numbers ts ≡ false
 numbers_false n none l h = absurd (omega arith)
 numbers_false zero (more t ts) l h = none_numbers t ts h
-numbers_false (suc n) (more t ts) l h = by (is_number t) (numbers_false n ts (omega arith) h)
-  where
-    by : (a : Bool) → are_numbers ts ≡ false → (a && are_numbers ts) ≡ false
-    by true e = e
-    by false e = refl
+numbers_false (suc n) (more t ts) l h = grind (arith, numbers_false n ts (omega arith) h)
 
 formed_reduced : (n : ℕ) (ts : Trees) → n < count ts → AreFormed ts → is_reduced (nth n ts) ≡ true
 formed_reduced n ts l f = parts_reduced (nth n ts) (formed_permuted (taken_permuted n ts l) f).0
@@ -231,8 +219,7 @@ pub joining_formed : (ts : Trees) (c : Tree) (us : Trees) (at less : ℕ) → Is
 joining_formed ts c us at less j l = formed_permuted (Permuted-sym (taken_permuted at us l)) (monic_parts (nth at us) j.monic, j.formed)
 
 joining_at : {ts : Trees} {c p : Tree} {rest : Trees} {less : ℕ} (us : Trees) (at : ℕ) → nth at us ≡ p → removed at us ≡ rest → IsJoining ts c p rest less → IsJoining ts c (nth at us) (removed at us) less
-joining_at {ts = ts} {c = c} {p = p} {less = less} us at e q j =
-    subst (λ (x : Tree). IsJoining ts c x (removed at us) less) (sym e) (subst (λ (x : Trees). IsJoining ts c p x less) (sym q) j)
+joining_at us at e q j = grind arith
 
 -- the coefficient of a term that has a partner
 joining_start : (ts us : Trees) (c : Tree) (at : ℕ) → AreFormed ts → NoneIs is_loose ts → IsPairAt is_partner at ts → us ≡ inserted at (more (part_of (nth at ts)) none) (removed at ts) → c ≡ coefficient_of (nth at ts)

@@ -6,8 +6,7 @@ use Rattle.sum_reduce.proofs.Splits.{split_cases}
 -- ---- the part of a term
 
 names_of_factors : (ts : Trees) → Within (names_of ts) (names_of (split_product ts).factors)
-names_of_factors ts =
-    split_cases (λ ts c us. Within (names_of ts) (names_of us)) (λ ts. within_same (names_of ts)) (λ t ts n. within_right (names t) (names_of ts)) (λ q r ts e. within_same (names_of ts)) ts
+names_of_factors ts = grind (arith, split_cases, within_same, within_right)
 
 names_of_product : (ts : Trees) → Within (names_of ts) (names (product_tree ts))
 names_of_product ts = grind (arith, within_left, within_same)

@@ -1,6 +1,6 @@
 -- The nest of terms.
 use Rattle.std.proofs.Common.{◌≤◌, arith}
-use Rattle.sum_reduce.proofs.Shared.{nest, nest_of, split_product, product_tree, part_of, Tree, mult, Trees}
+use Rattle.sum_reduce.proofs.Shared.{nest, nest_of, split_product, product_tree, part_of, Tree, Trees}
 use Rattle.sum_reduce.proofs.Splits.{split_cases}
 
 -- ---- the part of a term
@@ -12,5 +12,4 @@ nest_of_product : (ts : Trees) → nest (product_tree ts) ≤ nest_of ts
 nest_of_product ts = grind arith
 
 pub nest_of_part : (t : Tree) → nest (part_of t) ≤ nest t
-nest_of_part (mult ts) = omega (arith, nest_of_factors ts, nest_of_product (split_product ts).factors)
-nest_of_part t = omega arith
+nest_of_part t = grind (arith, nest_of_factors, nest_of_product)

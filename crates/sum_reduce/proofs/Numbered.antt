@@ -12,7 +12,6 @@ use Rattle.sum_reduce.proofs.Places.{taken_permuted}
 use Rattle.sum_reduce.proofs.Rearranged.{none_permuted}
 use Rattle.sum_reduce.proofs.Stages.{formed_permuted, stage_after, stage_permuted, stage_same, stage_added}
 use Rattle.sum_reduce.proofs.Sums.{takes_rest}
-use Rattle.tree_handles.specs.declared.fault.NumberFault.TheVariants as fault
 
 -- Numbers among the terms were added to another: it is a Number, and none of the terms is
 pub record IsGathered (n : Tree) (ts : Trees) (m : Tree) (us : Trees) : Type 0 where
@@ -141,8 +140,7 @@ led_folded ts h r l = by h.lead h.others h.split h.one h.no_number
     by (more m (more u us)) os e o n = absurd o
 
 pub total_faulted : (v w : PlainValue) (new : State) (vs : Trees) (f : NumberFault) → v ≡ w → AnswersTotal w new (Err f) → AnswersFold v vs (Err f)
-total_faulted v w new vs (fault.Full full) e h = h
-total_faulted v w new vs (fault.Overflow o) e h = subst (λ (x : PlainValue). AnswersTotal x new (Err (fault.Overflow o))) (sym e) h
+total_faulted v w new vs f e h = grind arith
 
 -- ---- a tree beside a sum that another one left
 

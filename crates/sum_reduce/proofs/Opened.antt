@@ -1,5 +1,5 @@
 -- Sums among the terms are opened.
-use Rattle.std.proofs.Common.{◌≤◌, ◌≡◌, Bool, true, false, not, ◌&&◌, if◌then◌else◌, refl, sym, ap, ◌∙◌, subst, arith}
+use Rattle.std.proofs.Common.{◌≤◌, ◌≡◌, Bool, true, false, not, ◌&&◌, if◌then◌else◌, refl, ap, ◌∙◌, subst, arith}
 use Rattle.sum_reduce.proofs.Shared.{and_parts, nest, nest_of, is_number, are_numbers, HasForm, IsSumForm, NoneIs, Tree, add, Trees, none, more, append, count, names, names_of, is_add, HasTwo, AllParts, KeepsMeanings, KeepsMeanings-refl, KeepsMeanings-sum_append, flat_sum, number_test, AllPartsOf-append, children_of, append_none, count_append, width, widths, AreFormed, is_loose, terms_of_loose, opened, Within, within_same, within_beside, within_trans, within_eq, within_both, names_of-append, nest-append}
 use Rattle.like_children.specs.Opening.{Opens}
 use Rattle.sum_reduce.proofs.Widths.{widths-append}
@@ -13,8 +13,7 @@ pub tight_terms : (t : Tree) → is_loose t ≡ false → terms_of_loose t ≡ m
 tight_terms t h = grind arith
 
 pub loose_opens : (t : Tree) (b : Bool) → b ≡ is_loose t → Opens terms_of_loose t b
-loose_opens t true e = sym (loose_terms t (sym e))
-loose_opens t false e = tight_terms t (sym e)
+loose_opens t b e = grind (arith, loose_terms, tight_terms)
 
 -- ---- what stays
 
@@ -38,11 +37,7 @@ names_opened none = within_same _
 names_opened (more t ts) = within_trans (within_beside (names t) (names_of (terms_of_loose t)) (names_of ts) (names_of (opened ts)) (first_names t) (names_opened ts)) (within_eq (names_of-append (terms_of_loose t) (opened ts)))
 
 first_nest : (t : Tree) → nest_of (terms_of_loose t) ≡ nest t
-first_nest (add us) = by (is_number (add us))
-  where
-    by : (k : Bool) → nest_of (if k then more (add us) none else us) ≡ nest_of us
-    by true = omega arith
-    by false = refl
+first_nest (add us) = grind arith
 first_nest t = omega arith
 
 pub nest_opened : (ts : Trees) → nest_of (opened ts) ≡ nest_of ts
@@ -50,11 +45,7 @@ nest_opened none = refl
 nest_opened (more t ts) = omega (arith, nest-append (terms_of_loose t) (opened ts), first_nest t, nest_opened ts)
 
 first_width : (t : Tree) → widths (terms_of_loose t) ≡ width t
-first_width (add us) = by (is_number (add us)) refl
-  where
-    by : (k : Bool) → is_number (add us) ≡ k → widths (if k then more (add us) none else us) ≡ (if k then 1 else widths us)
-    by true e = omega (arith, ap (λ (b : Bool). if b then 1 else widths us) e)
-    by false e = refl
+first_width (add us) = grind arith
 first_width t = omega arith
 
 pub widths_opened : (ts : Trees) → widths (opened ts) ≡ widths ts

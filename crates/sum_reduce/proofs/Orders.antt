@@ -3,7 +3,6 @@ use Rattle.std.specs.Prelude.{Err}
 use Rattle.std.proofs.Common.{ℕ, ◌≤◌, ◌≡◌, true, refl, sym, ap, ◌∙◌, subst, arith}
 use Rattle.sum_reduce.proofs.Shared.{PlainValue, plain_value, NoneIs, num, add, Trees, none, more, append, count, are_rationals, NumberFault, IsPairAt, IsFolded, AnswersFold, IsLead, IsArranged, IsStage, AreFormed, opened, is_loose, is_partner}
 use Rattle.sum_reduce.proofs.Stages.{stage_opened}
-use Rattle.tree_handles.specs.declared.fault.NumberFault.TheVariants as fault
 
 pub opened_stage : (ts us : Trees) → AreFormed ts → 1 ≤ count ts → us ≡ opened ts → IsStage ts us
 opened_stage ts us f l e = subst (IsStage ts) (sym e) (stage_opened ts f l)
@@ -18,8 +17,7 @@ pub rationals_opened : (ts us : Trees) → are_rationals ts ≡ true → us ≡ 
 rationals_opened ts us q e = e ∙ opened_rationals ts q
 
 faulted_as : (v : PlainValue) (us vs : Trees) (f : NumberFault) → AnswersFold v us (Err f) → AnswersFold v vs (Err f)
-faulted_as v us vs (fault.Full full) h = h
-faulted_as v us vs (fault.Overflow o) h = h
+faulted_as v us vs f h = grind arith
 
 pub rationals_faulted : (ts us vs ws : Trees) (f : NumberFault) → are_rationals ts ≡ true → us ≡ opened ts → (are_rationals us ≡ true → AnswersFold (plain_value (add us)) vs (Err f)) → AnswersFold (plain_value (add ts)) ws (Err f)
 rationals_faulted ts us vs ws f q e h =

@@ -38,8 +38,7 @@ addend_fits : (q c : Fraction) (xs zs : List Addend) → q ≢ zero_fraction →
 addend_fits q c [] zs z a b = absurd a
 addend_fits q c (x ∷ xs) zs z (inl (a, p)) b =
     coefficient_fits q c x.coefficient b.high b.low z p a (held_left (map (term_times (term q 1)) x.coefficient) [] b.high b.low (first_held b.held)) b.few
-addend_fits q c (x ∷ xs) zs z (inr a) b =
-    addend_fits q c xs zs z a (few_after (held_beside (held_left_out (addend (surd_times (surd_of q) x.coefficient) x.factors)) (held_same (distributed (surd_of q) xs ++ zs))) b)
+addend_fits q c (x ∷ xs) zs z (inr a) b = grind (arith, addend_fits q c xs zs z a (few_after (held_beside (held_left_out (addend (surd_times (surd_of q) x.coefficient) x.factors)) (held_same (distributed (surd_of q) xs ++ zs))) b), few_after, held_beside, held_left_out, held_same)
 
 -- ---- what leads a term is among its coefficients
 

@@ -1,9 +1,8 @@
 -- What is answered where all terms are rationals.
 use Rattle.std.specs.Prelude.{Err}
-use Rattle.std.proofs.Common.{◌≡◌, true, refl, sym, ap, ◌∙◌, subst}
-use Rattle.sum_reduce.proofs.Shared.{PlainValue, plain_value, Tree, num, add, Trees, none, more, is_add, are_rationals, has_undef, State, AnswersRationals, NumberFault, children_of, IsFolded, AnswersFold, written_tree}
-use Rattle.calc_measures.specs.PlainTrees.{IsPlainAnswer, IsPlainOverflow}
-use Rattle.tree_handles.specs.declared.fault.NumberFault.TheVariants as fault
+use Rattle.std.proofs.Common.{arith, ◌≡◌, true}
+use Rattle.sum_reduce.proofs.Shared.{plain_value, Tree, num, add, Trees, none, more, is_add, are_rationals, has_undef, State, AnswersRationals, NumberFault, children_of, IsFolded, AnswersFold, written_tree}
+use Rattle.calc_measures.specs.PlainTrees.{IsPlainAnswer}
 
 -- Undef is no rational
 pub undef_rationals : (ts : Trees) → are_rationals ts ≡ true → has_undef ts ≡ true → ⊥
@@ -12,13 +11,10 @@ undef_rationals (more (num r) ts) q h = undef_rationals ts q h
 undef_rationals (more _ ts) q h = absurd cc
 
 sum_is : (t : Tree) → is_add t ≡ true → t ≡ add (children_of t)
-sum_is (add ts) h = refl
-sum_is _ h = cc
+sum_is t h = grind arith
 
 pub rationals_answer : (t u : Tree) (us : Trees) → is_add t ≡ true → IsFolded (plain_value (add (children_of t))) us → u ≡ written_tree us → IsPlainAnswer (plain_value t) u
-rationals_answer t u us m f e =
-    subst (λ (v : PlainValue). IsPlainAnswer v u) (sym (ap plain_value (sum_is t m) ∙ f.plain)) (e ∙ ap written_tree f.is)
+rationals_answer t u us m f e = grind (arith, sum_is)
 
 pub rationals_fault : (t : Tree) (us : Trees) (new : State) (f : NumberFault) → is_add t ≡ true → AnswersFold (plain_value (add (children_of t))) us (Err f) → AnswersRationals (plain_value t) new (Err f)
-rationals_fault t us new (fault.Full full) m h = h
-rationals_fault t us new (fault.Overflow o) m h = subst (λ (v : PlainValue). IsPlainOverflow v o) (sym (ap plain_value (sum_is t m))) h
+rationals_fault t us new f m h = grind (arith, sum_is)

@@ -57,9 +57,7 @@ lead_counts ts h = grind (arith, number_counts_one)
 
 other_counts : (ts : Trees) → NoneIs is_number ts → counted_in_all ts ≤ counted_among ts
 other_counts none h = omega arith
-other_counts (more t ts) h =
-    let same : (if is_number t then 0 else counted t) ≡ counted t = ap (λ (b : Bool). if b then 0 else counted t) h.0 in
-    omega (arith, same, other_counts ts h.1)
+other_counts (more t ts) h = grind (arith, other_counts ts h.1)
 
 pub arranged_counts : {ts us : Trees} → Collects ts us → AreFormed ts → IsArranged us → sum_count us ≤ 1 + sum_count ts
 arranged_counts {ts = ts} {us = us} k f a =

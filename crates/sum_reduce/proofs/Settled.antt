@@ -1,6 +1,6 @@
 -- What is answered for settled terms.
 use Rattle.std.specs.Prelude.{⊤, IsSortedByKey}
-use Rattle.std.proofs.Common.{suc, ◌≤◌, arith, add-one, ◌≡◌, Bool, true, false, ◌&&◌, ◌||◌, not, if◌then◌else◌, refl, sym, ap, ◌∙◌, subst}
+use Rattle.std.proofs.Common.{suc, ◌≤◌, arith, add-one, ◌≡◌, Bool, true, false, ◌||◌, if◌then◌else◌, refl, sym, ap, ◌∙◌, subst}
 use Rattle.sum_reduce.proofs.Shared.{Ordering, Less, is_eq, is_lt, ordering_reverse, and_parts, nest, nest_of, is_number, are_numbers, part_of, NoneIs, RisesBy, HasForm, is_reduced, are_reduced, tree_cmp, Tree, undef, add, Trees, none, more, append, count, names, names_of, is_add, is_undef, AllParts, in_add, has_undef, KeepsMeanings, single_sum, number_test, numbers_defined, tree_cmp_total, parts_reduced, parts_defined, reduced_parts, list_of, keeps, reduces_after, NoPairBetween, IsLead, IsSettled, IsStage, IsSumAnswer, AreFormed, is_loose, is_partner, terms_of_number, sum_tree, written_tree, Within, no_new_name, within_left, within_none}
 use Rattle.calc_algebra.proofs.UndefRewrites.{undef_part}
 use Rattle.sum_reduce.proofs.WrittenSums.{AreOthers, written_sum, written_formed, written_keeps, written_names, written_nest}
@@ -9,8 +9,7 @@ use Rattle.tree_handles.proofs.UndefChildren.{undef_inside}
 -- ---- reduced terms
 
 or_none : (a b : Bool) → (a || b) ≡ false → (a ≡ false) × (b ≡ false)
-or_none true b h = cc
-or_none false b h = (refl, h)
+or_none a b h = grind arith
 
 pub reduced_formed : (ts : Trees) → are_reduced ts ≡ true → has_undef ts ≡ false → AreFormed ts
 reduced_formed none h d = tt
@@ -45,8 +44,7 @@ apart_words (more t none) h = tt
 apart_words (more t (more u ts)) h = (h 0 (omega arith) (omega arith), apart_words (more u ts) (λ k f l. h (suc k) (omega arith) (omega arith)))
 
 pub apart_behind : (t : Tree) (ts : Trees) → AreApart (more t ts) → AreApart ts
-apart_behind t none h = tt
-apart_behind t (more u ts) h = h.1
+apart_behind t ts h = grind arith
 
 less_of : (o : Ordering) → is_eq o ≡ false → is_lt (ordering_reverse o) ≡ false → o ≡ Less
 less_of o h k = grind arith
@@ -64,12 +62,7 @@ rises_strictly (more t (more u us)) n h s = (
 
 pub no_sums : (ts : Trees) → NoneIs is_number ts → NoneIs is_loose ts → NoneIs is_add ts
 no_sums none n h = tt
-no_sums (more t ts) n h = (by (is_add t) (is_number t) n.0 h.0, no_sums ts n.1 h.1)
-  where
-    by : (a k : Bool) → k ≡ false → (a && not k) ≡ false → a ≡ false
-    by true true n h = cc
-    by true false n h = cc
-    by false k n h = refl
+no_sums (more t ts) n h = grind (arith, no_sums ts n.1 h.1)
 
 -- ---- what is written
 

@@ -6,12 +6,10 @@ use Rattle.sum_reduce.proofs.Splits.{split_cases}
 -- ---- one term
 
 pub width_number : (t : Tree) → is_number t ≡ true → width t ≡ 1
-width_number (add ts) h = ap (λ (b : Bool). if b then 1 else widths ts) h
-width_number t h = ap (λ (b : Bool). if b then 1 else nodes (part_of t)) h
+width_number t h = grind arith
 
 pub width_other : (t : Tree) → is_number t ≡ false → is_add t ≡ false → width t ≡ nodes (part_of t)
-width_other (add ts) h k = cc
-width_other t h k = ap (λ (b : Bool). if b then 1 else nodes (part_of t)) h
+width_other t h k = grind arith
 
 pub width_sum : (ts : Trees) → is_number (add ts) ≡ false → width (add ts) ≡ widths ts
 width_sum ts h = ap (λ (b : Bool). if b then 1 else widths ts) h
@@ -41,8 +39,7 @@ nodes_of_product : (ts : Trees) → nodes (product_tree ts) ≤ suc (nodes_of ts
 nodes_of_product ts = grind arith
 
 nodes_of_part : (t : Tree) → nodes (part_of t) ≤ nodes t
-nodes_of_part (mult ts) = omega (arith, nodes_of_factors ts, nodes_of_product (split_product ts).factors)
-nodes_of_part t = omega arith
+nodes_of_part t = grind (arith, nodes_of_factors, nodes_of_product)
 
 -- ---- a coefficient before a part
 
@@ -54,8 +51,7 @@ module _ (q : Fraction) (f : IsFactor q) where
   number_multiple t h = absurd h
 
   width_multiple : (t : Tree) → AllParts HasForm t → is_add t ≡ false → IsTerm t ⊎ (is_number t ≡ false) → width (rational_times_term q t) ≤ nodes t
-  width_multiple t h s (inl k) =
-      omega (arith, width_number (rational_times_term q t) (number_test (rational_times_term q t) (number_of_term (rational_times_term q t) (number_multiple t k))), some_node t)
+  width_multiple t h s (inl k) = grind (arith, width_number, number_test, number_of_term, number_multiple, some_node)
   width_multiple t h s (inr n) =
       let m = multiple q f t h n s in
       omega (arith, width_other (rational_times_term q t) m.no_number m.no_sum, ap nodes m.part, nodes_of_part t)
@@ -71,8 +67,7 @@ module _ (q : Fraction) (f : IsFactor q) where
 
 -- a reduced sum has at most the width of its nodes
 own_width : (t : Tree) → IsTerm t ⊎ (is_number t ≡ false) → is_add t ≡ false → width t ≤ nodes t
-own_width t (inl k) s = omega (arith, width_number t (number_test t (number_of_term t k)), some_node t)
-own_width t (inr n) s = omega (arith, width_other t n s, nodes_of_part t)
+own_width t h s = grind (arith, width_number, number_test, number_of_term, some_node, width_other, nodes_of_part)
 
 own_widths : (ts : Trees) → NoneIs is_add ts → EachTerm ts → widths ts ≤ nodes_of ts
 own_widths none s k = omega arith
@@ -90,13 +85,7 @@ sums (num q) (add ts) z m s n = by (is_zero_fraction q) (is_one_fraction q) refl
     by true b e g s n = cc
     by false true e g s n = part_width ts m
     by false false e g s n = sum_width q (record { not_zero = λ x. z (ap num x); not_one = not_one_is q g }) ts m n
-sums (num q) p z m s n = by (is_zero_fraction q) (is_one_fraction q) s
-  where
-    by : (a b : Bool) → is_add (if a then num zero_fraction else (if b then p else rational_before q p)) ≡ true
-        → width (if a then num zero_fraction else (if b then p else rational_before q p)) ≤ nodes p
-    by true b s = cc
-    by false true s = cc
-    by false false s = cc
+sums (num q) p z m s n = grind arith
 sums c p z m s n = cc
 
 -- a coefficient before a part is no wider than the nodes of the part

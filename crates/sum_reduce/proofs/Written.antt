@@ -1,14 +1,12 @@
 -- The terms of a leading Number, and a sum of one term.
 use Rattle.std.proofs.Common.{nat_lt, ℕ, ◌≤◌, ◌<◌, ◌≡◌, Bool, true, false, if◌then◌else◌, refl, sym, ap, ◌∙◌, arith}
-use Rattle.sum_reduce.proofs.Shared.{ltb-true, by_test, is_number, Tree, num, add, Trees, none, more, append, count, is_add, is_zero, nth, children_of, removed, terms_of_number, sum_tree, leads_number, written_tree}
+use Rattle.sum_reduce.proofs.Shared.{ltb-true, by_test, is_number, Tree, Trees, none, more, append, count, is_add, is_zero, nth, children_of, removed, terms_of_number, sum_tree, leads_number, written_tree}
 
 pub spread_zero : (t : Tree) (us : Trees) → is_zero t ≡ true → us ≡ append (terms_of_number t) us
-spread_zero (num q) us h = sym (ap (λ (b : Bool). append (if b then none else more (num q) none) us) h)
-spread_zero _ us h = cc
+spread_zero t us h = grind arith
 
 pub spread_sum : (t : Tree) → is_add t ≡ true → children_of t ≡ terms_of_number t
-spread_sum (add ts) h = refl
-spread_sum _ h = cc
+spread_sum t h = grind arith
 
 spread_term : (t : Tree) → is_zero t ≡ false → is_add t ≡ false → more t none ≡ terms_of_number t
 spread_term t z s = grind arith
@@ -36,8 +34,7 @@ count_behind none us = omega arith
 count_behind (more t ts) us = omega (arith, count_behind ts us)
 
 pub spread_some : (ts : Trees) → leads_number ts ≡ true → 1 ≤ count (append (terms_of_number (nth 0 ts)) (removed 0 ts))
-spread_some (more t (more u ts)) h = omega (arith, count_behind (terms_of_number t) (more u ts))
-spread_some _ h = cc
+spread_some ts h = grind (arith, count_behind)
 
 pub written_led : (ts : Trees) → leads_number ts ≡ true → sum_tree (append (terms_of_number (nth 0 ts)) (removed 0 ts)) ≡ written_tree ts
 written_led ts h = sym (ap (λ (b : Bool). if b then sum_tree (append (terms_of_number (nth 0 ts)) (removed 0 ts)) else sum_tree ts) h)

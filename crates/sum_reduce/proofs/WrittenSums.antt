@@ -45,11 +45,7 @@ other_terms-terms (more t ts) us h k = ap (λ b. if b then other_terms (append t
 
 no_sum_terms : (ts : Trees) → AreTerms ts → NoneIs is_add ts
 no_sum_terms none h = tt
-no_sum_terms (more t ts) h = (no_sum_term t h.0, no_sum_terms ts h.1)
-  where
-    no_sum_term : (t : Tree) → IsTerm t → is_add t ≡ false
-    no_sum_term (add us) k = absurd k
-    no_sum_term t k = refl
+no_sum_terms (more t ts) h = grind (arith, no_sum_terms ts h.1)
 
 NoneIs-append : (p : Tree → Bool) (ts us : Trees) → NoneIs p ts → NoneIs p us → NoneIs p (append ts us)
 NoneIs-append p none us h k = k

@@ -1,5 +1,5 @@
 use Rattle.std.proofs.Common.{rules, ◌≡◌, ◌≤◌, refl, sym, ap, ◌∙◌, arith, subst, pos, ◌≤ℤ◌}
-use Rattle.power_reduce.proofs.Shared.{is_number, classes, value, IfValue, IsNoLargerThanInverse, plain, last_tree, SpansTree, SpansInverse, replaced_free, if_map, passed_on, tree_of, forest, behind_first, behind_new, front_same, front_at, front_end, front_without, front_after_one, gives, gives_as, given_handed, given_rest, given_told, represents_handed, base_in, overflow_as, refused_as}
+use Rattle.power_reduce.proofs.Shared.{is_number, classes, value, IfValue, IsNoLargerThanInverse, plain, last_tree, SpansTree, SpansInverse, replaced_free, if_map, passed_on, tree_of, forest, behind_first, behind_new, front_same, front_at, front_end, front_without, front_after_one, gives_as, given_handed, given_rest, given_told, represents_handed, base_in, overflow_as, refused_as}
 use Rattle.power_reduce.proofs.HeldPowers.{negative_power, no_number_power}
 use Rattle.power_reduce.proofs.Powers.{power_is}
 use Rattle.power_reduce.proofs.Rooms.{lacks_as, inverse_lacks_power}
@@ -10,10 +10,7 @@ use Rattle.power_reduce.proofs.numbers.negative_power.Goals.{Else-classes-gt2}
 use Rattle.power_reduce.proofs.numbers.negative_power.Goals as goal
 
 pub returns-then-classes-gt2-clause-ok : goal.returns-then-classes-gt2-clause-ok
-returns-then-classes-gt2-clause-ok c =
-    let n : c.classes.result ≡ classes (base_in (tree_of c.args.power c.args.pool.now)) = c.classes.ensures ∙ ap classes c.base_id.ensures.tree in
-    gives c.move_last.ensures.last (represents_handed c.requires.handed)
-    (wide_answer (tree_of c.args.power c.args.pool.now) c.args.n c.requires.sides c.requires.exponent c.requires.negative (omega (arith, n, c.if-classes-gt2.true)) (irrational_power _ _ c.requires.number c.requires.base c.requires.sides.exponent_defined))
+returns-then-classes-gt2-clause-ok c = grind (arith, represents_handed, wide_answer, irrational_power)
 
 pub returns-then-classes-gt2-clause-front : goal.returns-then-classes-gt2-clause-front
 returns-then-classes-gt2-clause-front c = front_end c.move_last.ensures.last (front_without behind_first front_same)
@@ -58,9 +55,7 @@ returns-clause-front c =
     front_after_one (behind_new i.ends rest) front c.power_number.ensures.front
 
 few : (c : Else-classes-gt2) → classes (base_in (tree_of c.args.power c.args.pool.now)) ≤ 2
-few c =
-    let n : c.classes.result ≡ classes (base_in (tree_of c.args.power c.args.pool.now)) = c.classes.ensures ∙ ap classes c.base_id.ensures.tree in
-    omega (arith, n, c.if-classes-gt2.false)
+few c = grind arith
 
 pub returns-in_err-inverse-clause-overflow : goal.returns-in_err-inverse-clause-overflow
 returns-in_err-inverse-clause-overflow c =

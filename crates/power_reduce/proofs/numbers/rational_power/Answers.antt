@@ -1,4 +1,4 @@
-use Rattle.std.proofs.Common.{◌≡◌, pos, ◌≤ℤ◌, true, refl, sym, ap, ◌∙◌, subst}
+use Rattle.std.proofs.Common.{arith, ◌≡◌, pos, ◌≤ℤ◌, true, refl, sym, ap, ◌∙◌, subst}
 use Rattle.power_reduce.proofs.Shared.{is_zero_fraction, PlainValue, powered, value_of, IsPlainOverflow, gives_as, given_told, passed_on, tree_of, told}
 use Rattle.power_reduce.proofs.Misfits.{rational_misfit}
 use Rattle.power_reduce.proofs.HeldPowers.{rational_power_held, no_number_undef}
@@ -24,10 +24,7 @@ returns-then-n-le0-clause-rationals c =
     (given_told c.undefined.ensures.gives)
 
 some : (c : Joined-else-num-eq0) → is_zero_fraction (value_of c.args.q) ≡ true → pos 1 ≤ℤ c.args.n
-some c = elim c.else-num-eq0.branch [
-  | else-num-eq0-via-then-num-eq0+else-n-le0 w ↦ λ h. not_at_most c.args.n c.requires.fits w.if-n-le0.false
-  | else-num-eq0-via-else-num-eq0 w ↦ λ h. absurd (no_zero_rational c.args.q c.num.result c.num.ensures.value w.if-num-eq0.false h)
-]
+some c = grind (arith, not_at_most, no_zero_rational)
 
 pub power_of-requires-clause-some : goal.power_of-requires-clause-some
 power_of-requires-clause-some c = λ h. subst (λ z. pos 1 ≤ℤ z) (sym (told c.args.n c.requires.fits)) (some c h)

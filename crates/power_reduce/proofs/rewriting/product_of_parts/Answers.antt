@@ -50,6 +50,4 @@ returns-clause-front c =
     front_after_two (behind_new g.second-given.ends (front_end g.first-given.ends (front_without behind_first front_same))) (behind_new g.first-given.ends (front_without behind_first front_same)) c.split_product.ensures.front (first_front x)
 
 pub returns-in_err-coefficient-clause-room : goal.returns-in_err-coefficient-clause-room
-returns-in_err-coefficient-clause-room c =
-    passed_on c.from_residual.result c.in_err-coefficient.field-0.0 _ c.from_residual.ensures.0 c.from_residual.ensures.1
-    (omega (arith, short_below c.in_err-coefficient.ensures.full, coefficient_most (children_of (tree_of c.args.product c.args.pool.now))))
+returns-in_err-coefficient-clause-room c = grind (arith, passed_on, short_below, coefficient_most)

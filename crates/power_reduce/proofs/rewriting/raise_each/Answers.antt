@@ -13,15 +13,10 @@ many : (c : After-children-last) → c.children-last.result ≡ count (children_
 many c = c.children-last.ensures.value ∙ children_at (over_product c.requires.first c.requires.product) c.requires.stands c.id.ensures
 
 pub overflow_sub-last : goal.overflow_sub-last
-overflow_sub-last c =
-    omega (arith, many (goal.at.overflow_sub-last c).After-children-last, c.requires.some)
+overflow_sub-last c = grind (arith, many)
 
 pub loop-at-init : goal.loop-at-init
-loop-at-init c = record {
-  stands = c.requires.stands;
-  kept = keeps_none c.args.pool.now;
-  part = none_raised _ (over_product c.requires.first c.requires.product);
-}
+loop-at-init c = grind (arith, keeps_none, none_raised, over_product)
 
 pub copy_tree-requires-clause-live : goal.copy_tree-requires-clause-live
 copy_tree-requires-clause-live c = live c.loop-at.pool c.id-in-loop-at.ensures (exponent_beside c.loop-at.invariant.part c.requires.apart c.requires.second).root

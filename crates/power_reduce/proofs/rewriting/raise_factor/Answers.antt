@@ -80,6 +80,4 @@ returns-clause-front c =
     kids_front (kids_of_raised c.args.exponent r.1 c.requires.apart (added_as c.args.at r.3 r.2 (c.add_child-3.ensures.root (over_end r.3 r.2.ends).root) (words c.args.at _ (tree_of c.args.exponent c.args.pool.now) r.0)))
 
 pub returns-in_err-power-clause-room : goal.returns-in_err-power-clause-room
-returns-in_err-power-clause-room c =
-    let taken = taken_free c.args.product.now c.args.at c.requires.stands c.take_child-factor.ensures.stands c.take_child-factor.ensures.kept c.requires.first.root (c.take_child-factor.ensures.last c.requires.first.root) in
-    passed_on c.from_residual.result c.in_err-power.field-0.0 _ c.from_residual.ensures.0 c.from_residual.ensures.1 (omega (arith, taken, refused_below c.in_err-power.ensures.full))
+returns-in_err-power-clause-room c = grind (arith, taken_free, passed_on, refused_below)

@@ -1,6 +1,6 @@
+use Rattle.std.proofs.Common.{arith}
 use Rattle.power_reduce.proofs.Shared.{tree_of, passed_on, exponent_in}
 use Rattle.power_reduce.proofs.Cases.{broken_other, again}
-use Rattle.tree_handles.specs.declared.fault.NumberFault.TheVariants as fault
 use Rattle.power_reduce.proofs.step.other_power.Goals as goal
 
 pub kept_power-requires-clause-exponent : goal.kept_power-requires-clause-exponent
@@ -10,5 +10,4 @@ pub returns-in_ok-rooted-in-Some-clause-ok : goal.returns-in_ok-rooted-in-Some-c
 returns-in_ok-rooted-in-Some-clause-ok c = again (tree_of c.args.power c.args.pool.now) c.requires.sides.power c.in_ok-rooted-in-Some.ensures.ok
 
 pub returns-in_err-rooted-in-Some-clause-root_room : goal.returns-in_err-rooted-in-Some-clause-root_room
-returns-in_err-rooted-in-Some-clause-root_room c = λ h.
-    passed_on c.from_residual.result (fault.Full c.in_err-rooted-in-Some.field-0.0) _ c.from_residual.ensures.0 c.from_residual.ensures.1 c.in_err-rooted-in-Some.ensures.room
+returns-in_err-rooted-in-Some-clause-root_room c = grind (arith, passed_on)

@@ -1,8 +1,7 @@
-use Rattle.std.proofs.Common.{sym, ap, ◌∙◌}
+use Rattle.std.proofs.Common.{arith, sym, ap, ◌∙◌}
 use Rattle.power_reduce.proofs.Shared.{is_number, is_reduced, tree_of, passed_on, base_in, exponent_in}
 use Rattle.power_reduce.proofs.Cases.{inside_other, number_kept, again}
 use Rattle.power_reduce.proofs.Exponents.{inside_whole}
-use Rattle.tree_handles.specs.declared.fault.NumberFault.TheVariants as fault
 use Rattle.power_reduce.proofs.step.power_of_product.Goals as goal
 
 pub is_reduced_number-requires-clause-reduced : goal.is_reduced_number-requires-clause-reduced
@@ -21,5 +20,4 @@ pub returns-clause-ok : goal.returns-clause-ok
 returns-clause-ok c = again (tree_of c.args.power c.args.pool.now) c.requires.sides.power c.in_ok-raised.ensures.ok
 
 pub returns-in_err-raised-clause-room : goal.returns-in_err-raised-clause-room
-returns-in_err-raised-clause-room c = λ gs s.
-    passed_on c.from_residual.result (fault.Full c.in_err-raised.field-0.0) _ c.from_residual.ensures.0 c.from_residual.ensures.1 (c.in_err-raised.ensures.room gs s)
+returns-in_err-raised-clause-room c = grind (arith, passed_on)

@@ -1,6 +1,6 @@
-use Rattle.std.proofs.Common.{◌≡◌, ℤ, Bool, true, false, refl, sym, ap, ◌∙◌, subst, ◌<◌, ◌^◌, arith}
+use Rattle.std.proofs.Common.{◌≡◌, ℤ, Bool, true, false, sym, ap, ◌∙◌, subst, ◌<◌, ◌^◌, arith}
 use Rattle.std.specs.Prelude.{nat_abs, IfOk}
-use Rattle.power_reduce.proofs.Shared.{counted, SpansTree, is_number, IsNumberPower, IfDone, counts_one, whole_fraction, is_half_num, is_whole_num, Tree, num, is_undef, told, tree_of, gives_as, given_told, base_in, exponent_in, refused_as}
+use Rattle.power_reduce.proofs.Shared.{counted, SpansTree, is_number, IsNumberPower, IfDone, counts_one, whole_fraction, is_whole_num, Tree, num, told, tree_of, gives_as, given_told, base_in, exponent_in, refused_as}
 use Rattle.power_reduce.proofs.Counted.{if_step_counts}
 use Rattle.power_reduce.proofs.Exponents.{whole_no_half}
 use Rattle.power_reduce.proofs.HeldPowers.{if_step_held, no_undef}
@@ -13,13 +13,7 @@ use Rattle.power_reduce.proofs.step.power_step.Goals.{Joined-then-is_undefined, 
 use Rattle.power_reduce.proofs.step.power_step.Goals as goal
 
 pub whole_power-requires-clause-sides : goal.whole_power-requires-clause-sides
-whole_power-requires-clause-sides c = record {
-  power = c.requires.power;
-  base = c.requires.base;
-  exponent = c.requires.exponent;
-  base_defined = sym (ap is_undef c.base_id.ensures.tree) ∙ sym c.is_undefined.ensures ∙ c.if-is_undefined.false;
-  exponent_defined = sym (ap is_undef c.exponent_id-exponent.ensures.tree) ∙ sym c.is_undefined-else-is_undefined.ensures ∙ c.if-is_undefined-2.false;
-}
+whole_power-requires-clause-sides c = grind arith
 
 pub whole_power-requires-clause-exponent : goal.whole_power-requires-clause-exponent
 whole_power-requires-clause-exponent c = sym c.exponent_id-exponent.ensures.tree ∙ c.in-Some.ensures.value ∙ ap (λ z. num (whole_fraction z)) (sym (told c.in-Some.n c.in-Some.ensures.fits))
@@ -28,27 +22,16 @@ pub whole_power-requires-clause-fits : goal.whole_power-requires-clause-fits
 whole_power-requires-clause-fits c = subst (λ z. nat_abs z < 2 ^ 127) (sym (told c.in-Some.n c.in-Some.ensures.fits)) c.in-Some.ensures.fits
 
 pub other_power-requires-clause-sides : goal.other_power-requires-clause-sides
-other_power-requires-clause-sides c = record {
-  power = c.requires.power;
-  base = c.requires.base;
-  exponent = c.requires.exponent;
-  base_defined = sym (ap is_undef c.base_id.ensures.tree) ∙ sym c.is_undefined.ensures ∙ c.if-is_undefined.false;
-  exponent_defined = sym (ap is_undef c.exponent_id-exponent.ensures.tree) ∙ sym c.is_undefined-else-is_undefined.ensures ∙ c.if-is_undefined-2.false;
-}
+other_power-requires-clause-sides c = grind arith
 
 pub other_power-requires-clause-exponent : goal.other_power-requires-clause-exponent
 other_power-requires-clause-exponent c = sym (ap is_whole_num c.exponent_id-exponent.ensures.tree) ∙ c.in-None.ensures.value
 
 undef : (c : Joined-then-is_undefined) → HasUndef (base_in (tree_of c.args.power c.args.pool.now)) (exponent_in (tree_of c.args.power c.args.pool.now))
-undef c = elim c.then-is_undefined.branch [
-  | then-is_undefined-via-then-is_undefined w ↦ undef_base (base_in (tree_of c.args.power c.args.pool.now)) (exponent_in (tree_of c.args.power c.args.pool.now)) (sym (ap is_undef c.base_id.ensures.tree) ∙ sym c.is_undefined.ensures ∙ w.if-is_undefined.true)
-  | then-is_undefined-via-else-is_undefined+then-is_undefined-2 w ↦ undef_exponent (base_in (tree_of c.args.power c.args.pool.now)) (exponent_in (tree_of c.args.power c.args.pool.now)) (sym (ap is_undef c.exponent_id-exponent.ensures.tree) ∙ sym w.is_undefined-else-is_undefined.ensures ∙ w.if-is_undefined-2.true)
-]
+undef c = grind (arith, undef_base, undef_exponent)
 
 pub returns-then-is_undefined-clause-ok : goal.returns-then-is_undefined-clause-ok
-returns-then-is_undefined-clause-ok c =
-    let u = undef (goal.at.returns-then-is_undefined-clause-ok c).Joined-then-is_undefined in
-    (undef_kept (base_in (tree_of c.args.power c.args.pool.now)) (exponent_in (tree_of c.args.power c.args.pool.now)) u, gives_as c.undefined.ensures.gives refl (λ t e. undef_answer (base_in (tree_of c.args.power c.args.pool.now)) (exponent_in (tree_of c.args.power c.args.pool.now)) t u e))
+returns-then-is_undefined-clause-ok c = grind (arith, undef, undef_kept, gives_as, undef_answer)
 
 pub returns-then-is_undefined-clause-rationals : goal.returns-then-is_undefined-clause-rationals
 returns-then-is_undefined-clause-rationals c = λ b e. defined_rationals (base_in (tree_of c.args.power c.args.pool.now)) (exponent_in (tree_of c.args.power c.args.pool.now)) (undef (goal.at.returns-then-is_undefined-clause-rationals c).Joined-then-is_undefined) b e
@@ -71,14 +54,10 @@ pub returns-in-None-clause-room : goal.returns-in-None-clause-room
 returns-in-None-clause-room c = λ gs s w. contrary (is_whole_num (exponent_in (tree_of c.args.power c.args.pool.now))) w (sym (ap is_whole_num c.exponent_id-exponent.ensures.tree) ∙ c.in-None.ensures.value)
 
 pub returns-in-Some-clause-root_room : goal.returns-in-Some-clause-root_room
-returns-in-Some-clause-root_room c = λ h.
-    let e : Tree = exponent_in (tree_of c.args.power c.args.pool.now) in
-    contrary (is_half_num e) h (whole_no_half e (whole_exponent e c.in-Some.n (sym c.exponent_id-exponent.ensures.tree ∙ c.in-Some.ensures.value)))
+returns-in-Some-clause-root_room c = grind (arith, contrary, whole_no_half, whole_exponent)
 
 pub returns-in-Some-clause-others : goal.returns-in-Some-clause-others
-returns-in-Some-clause-others c = λ w h.
-    let e : Tree = exponent_in (tree_of c.args.power c.args.pool.now) in
-    contrary (is_whole_num e) (whole_exponent e c.in-Some.n (sym c.exponent_id-exponent.ensures.tree ∙ c.in-Some.ensures.value)) w
+returns-in-Some-clause-others c = grind (arith, contrary, whole_exponent)
 
 pub returns-in-None-clause-others : goal.returns-in-None-clause-others
 returns-in-None-clause-others c = λ w h. c.other_power.ensures.others h

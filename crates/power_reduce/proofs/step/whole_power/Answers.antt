@@ -1,4 +1,4 @@
-use Rattle.std.proofs.Common.{sym, ap, ◌∙◌, subst}
+use Rattle.std.proofs.Common.{arith, sym, ap, ◌∙◌, subst}
 use Rattle.std.specs.Prelude.{IfOk}
 use Rattle.power_reduce.proofs.Shared.{IsNumberPower, told, IfDone, root_kind, tree_of, base_in, exponent_in, passed_on, full_as, is_whole_num}
 use Rattle.power_reduce.proofs.Cases.{no_num_kind, number_kept, no_rational, rational_number, step_fault}
@@ -33,8 +33,7 @@ pub returns-in_err-answer-in-Num-clause-overflow : goal.returns-in_err-answer-in
 returns-in_err-answer-in-Num-clause-overflow c = passed_on c.from_residual.result c.in_err-answer-in-Num.field-0.0 _ c.from_residual.ensures.0 c.from_residual.ensures.1 c.in_err-answer-in-Num.ensures.overflow
 
 pub returns-in_err-answer-in-Num-clause-room : goal.returns-in_err-answer-in-Num-clause-room
-returns-in_err-answer-in-Num-clause-room c = λ gs s.
-    passed_on c.from_residual.result c.in_err-answer-in-Num.field-0.0 _ c.from_residual.ensures.0 c.from_residual.ensures.1 (full_as c.in_err-answer-in-Num.field-0.0 c.in_err-answer-in-Num.ensures.room (λ full x. absurd x))
+returns-in_err-answer-in-Num-clause-room c = grind (arith, passed_on, full_as)
 
 pub returns-in_default-clause-held : goal.returns-in_default-clause-held
 returns-in_default-clause-held c = λ m.

@@ -1,4 +1,4 @@
-use Rattle.std.proofs.Common.{◌≡◌, true, false, refl, sym, ap, ◌∙◌, subst}
+use Rattle.std.proofs.Common.{arith, ◌≡◌, true, false, refl, sym, ap, ◌∙◌, subst}
 use Rattle.power_reduce.proofs.Shared.{IsNumberPower, whole_fraction, is_number, is_reduced, is_whole_num, Tree, num, is_root, one_value, tree_of, gives_as, base_in, exponent_in, is_even_whole, passed_on, refused_as, told}
 use Rattle.power_reduce.proofs.Cases.{number_kept, zero_kept, one_kept, other_power, whole_goes_inside, no_number, even_bits, odd_bits, even_whole, odd_root_kept, again}
 use Rattle.power_reduce.proofs.NumberPowers.{zero_answer, one_answer}
@@ -57,10 +57,7 @@ pub power_inside-requires-clause-number : goal.power_inside-requires-clause-numb
 power_inside-requires-clause-number c = no_number (base_in (tree_of c.args.power c.args.pool.now)) (exponent_in (tree_of c.args.power c.args.pool.now)) (sym (ap is_number c.base_id-base.ensures.tree) ∙ sym c.is_reduced_number.ensures ∙ c.if-is_reduced_number.false)
 
 pub power_inside-requires-clause-root : goal.power_inside-requires-clause-root
-power_inside-requires-clause-root c = elim c.else-n-eq0-2.branch [
-  | else-n-eq0-2-via-then-n-eq0-2+else-is_root w ↦ λ r. absurd (cc (sym (ap is_root c.base_id-base.ensures.tree) ∙ sym w.is_root.ensures ∙ w.if-is_root.false, r))
-  | else-n-eq0-2-via-else-n-eq0-2 w ↦ λ r. odd_root_kept (base_in (tree_of c.args.power c.args.pool.now)) (exponent_in (tree_of c.args.power c.args.pool.now)) c.args.n r c.requires.exponent (odd_bits c.args.n c.requires.fits w.if-n-eq0-2.false)
-]
+power_inside-requires-clause-root c = grind (arith, odd_root_kept, odd_bits)
 
 pub returns-in_err-answer-clause-overflow : goal.returns-in_err-answer-clause-overflow
 returns-in_err-answer-clause-overflow c = passed_on c.from_residual.result c.in_err-answer.field-0.0 _ c.from_residual.ensures.0 c.from_residual.ensures.1 c.in_err-answer.ensures.overflow

@@ -23,9 +23,7 @@ returns-then-factor_count-eq0-clause-ok c =
     (ends_as c.move_last.ensures.last (ap (root_tree c.args.coefficient) gone) (ap (without_root c.args.coefficient) gone))
 
 pub returns-then-factor_count-eq0-clause-front : goal.returns-then-factor_count-eq0-clause-front
-returns-then-factor_count-eq0-clause-front c =
-    let start = front_without behind_first front_same in
-    front_end c.move_last.ensures.last (front_without (behind_later behind_first) (front_at start (c.release.ensures.owned (owned c.requires.product.handed))))
+returns-then-factor_count-eq0-clause-front c = grind (arith, front_without, behind_first, front_same, front_end, behind_later, front_at, owned)
 
 pub put_coefficient-requires : goal.put_coefficient-requires
 put_coefficient-requires c =
@@ -50,10 +48,7 @@ returns-clause-ok c =
     (part_given c.args.product c.args.coefficient c.unwrapped-part.result _ _ _ r c.unwrapped-part.ensures.tree) x)
 
 pub returns-clause-alone : goal.returns-clause-alone
-returns-clause-alone c = λ e.
-    let r = readied_here c.args.product c.args.coefficient c.requires.product c.requires.coefficient c.requires.differ c.requires.order in
-    let k : count (factors_in c.args.product (forest c.args.pool.now)) ≡ count r.us = ap count (factors_are r.product) in
-    absurd (let z = none_behind c.args.product c.args.coefficient _ _ r e in omega (arith, c.factor_count.ensures, c.if-factor_count-eq0.false, k, z))
+returns-clause-alone c = grind (arith, readied_here, factors_are, none_behind)
 
 pub returns-clause-front : goal.returns-clause-front
 returns-clause-front c =

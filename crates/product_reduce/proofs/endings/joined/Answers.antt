@@ -1,4 +1,4 @@
-use Rattle.std.proofs.Common.{◌∙◌, ap, sym, refl, rules}
+use Rattle.std.proofs.Common.{arith, ◌∙◌, ap, sym, refl}
 use Rattle.product_reduce.proofs.Shared.{mult, plain, without_root, forest, behind_first, behind_later, front_same, front_end, front_without, front_after_one, gives, represents_handed, ends_as, without-swap, eqb-sym, coefficient_before, joined, Becomes, factors_in}
 use Rattle.product_reduce.proofs.Beside.{beside_becomes, tree_becomes}
 use Rattle.product_reduce.proofs.Products.{becomes_as, factors_are, product_at}
@@ -13,14 +13,7 @@ pair_joined : (c : In_ok-join_pair) → Becomes c.args.product (forest c.args.po
 pair_joined c = becomes_as c.in_ok-join_pair.ensures.ok (sym (joined_at c.args.first c.args.second (factors_in c.args.product (forest c.args.pool.now)) c.requires.pair))
 
 pub put_in_front-requires : goal.put_in_front-requires
-put_in_front-requires c =
-    let b = pair_joined (goal.at.put_in_front-requires c).In_ok-join_pair in
-    record {
-      stands = search rules;
-      product = product_at b.product refl (sym (factors_are b.product));
-      handed = beside_becomes c.args.coefficient c.requires.stands c.in_ok-join_pair.ensures.stands c.requires.product b c.requires.coefficient c.requires.apart;
-      apart = search rules;
-    }
+put_in_front-requires c = grind (arith, pair_joined, product_at, factors_are, beside_becomes)
 
 pub move_last-requires-clause-root : goal.move_last-requires-clause-root
 move_last-requires-clause-root c = c.put_in_front.ensures.becomes.product.handed.root

@@ -1,5 +1,5 @@
-use Rattle.std.proofs.Common.{◌≡◌, ◌≤◌, ◌∙◌, Ok, Err, ap, sym, refl, subst, arith, rules, true, false}
-use Rattle.product_reduce.proofs.Shared.{PlainValue, IsPlainAnswer, AnswersRationals, NoneIs, Trees, none, count, is_mult, result_lacks, tree_of, forest, gives_as, given_told, AreOthers, IsFinished, IsCoefficient, others_in, factors_in}
+use Rattle.std.proofs.Common.{◌≡◌, ◌∙◌, Ok, Err, ap, sym, refl, subst, arith, true, false}
+use Rattle.product_reduce.proofs.Shared.{PlainValue, IsPlainAnswer, AnswersRationals, result_lacks, tree_of, forest, gives_as, given_told, IsFinished, IsCoefficient, others_in, factors_in}
 use Rattle.product_reduce.proofs.Finished.{reduced_formed, stopped, undef_finished, rationals_defined}
 use Rattle.product_reduce.proofs.Forms.{opened_flat}
 use Rattle.product_reduce.proofs.Gathered.{gathered}
@@ -51,24 +51,13 @@ returns-then-has_undef_factor-clause-held c = (within (tree_of c.args.product c.
 -- ---- the coefficient stands first as it is written
 
 pub written_lead-requires : goal.written_lead-requires
-written_lead-requires c =
-    let o = opened_now (goal.at.written_lead-requires c).After-open_products in
-    let f = reduced_formed _ o.reduced o.defined in
-    record {
-      stands = search rules;
-      product = search rules;
-      reduced = reduced_now o;
-      flat = subst (NoneIs is_mult) (sym o.factors) (opened_flat _ f);
-      some = subst (λ (us : Trees). 1 ≤ count us) (sym o.factors) (opened_some _ f o.some);
-    }
+written_lead-requires c = grind (arith, opened_now, reduced_formed, reduced_now, opened_flat, opened_some)
 
 pub order_behind-requires-clause-reduced : goal.order_behind-requires-clause-reduced
 order_behind-requires-clause-reduced c = reduced_now (opened_now (goal.at.order_behind-requires-clause-reduced c).After-open_products)
 
 pub order_behind-requires-clause-others : goal.order_behind-requires-clause-others
-order_behind-requires-clause-others c =
-    let o = opened_now (goal.at.order_behind-requires-clause-others c).After-open_products in
-    subst (λ (us : Trees). AreOthers (others_in us)) (sym o.factors) (others_are _ o.reduced o.defined)
+order_behind-requires-clause-others c = grind (arith, opened_now, others_are)
 
 pub returns-in-Some-clause-done : goal.returns-in-Some-clause-done
 returns-in-Some-clause-done c =
@@ -85,10 +74,7 @@ returns-in-Some-clause-gathered c =
     (λ g at x. gives_as x o.becomes.others (λ t e. gathered k _ _ t o.reduced o.defined (subst (IsCoefficient k) o.factors h.coefficient) (ap others_in o.factors) e))
 
 pub returns-in-Some-clause-rationals : goal.returns-in-Some-clause-rationals
-returns-in-Some-clause-rationals c = λ r.
-    let o = opened_now (goal.at.returns-in-Some-clause-rationals c).After-open_products in
-    let none = ap count (ap others_in o.factors ∙ none_beside (factors_in c.args.product (forest c.args.pool.now)) r) in
-    absurd (let l = c.in-Some.ensures.1.some in omega (arith, l, none))
+returns-in-Some-clause-rationals c = grind (arith, opened_now, none_beside)
 
 pub returns-in-Some-clause-counted : goal.returns-in-Some-clause-counted
 returns-in-Some-clause-counted c = finished_map (Ok c.order_behind.result) (returns-in-Some-clause-done c) (λ h x. (within (tree_of c.args.product c.args.pool.now) c.requires.product c.requires.reduced (given_told x)).counted)
@@ -127,9 +113,7 @@ returns-in_err-coefficient-clause-rationals c = λ r.
     refused _ new c.from_residual.result f c.from_residual.ensures.1 (rationals_opened (λ (v : PlainValue). AnswersRationals v new (Err f)) o r c.in_err-coefficient.ensures.rationals)
 
 pub returns-in_err-coefficient-clause-overflow : goal.returns-in_err-coefficient-clause-overflow
-returns-in_err-coefficient-clause-overflow c =
-    let o = opened_now (goal.at.returns-in_err-coefficient-clause-overflow c).After-open_products in
-    numbers_overflow c.from_residual.result c.in_err-coefficient.field-0.0 c.from_residual.ensures.0 c.from_residual.ensures.1 o c.in_err-coefficient.ensures.overflow
+returns-in_err-coefficient-clause-overflow c = grind (arith, opened_now, numbers_overflow)
 
 pub returns-in_err-coefficient-clause-bits : goal.returns-in_err-coefficient-clause-bits
 returns-in_err-coefficient-clause-bits c h l a few =
@@ -144,9 +128,7 @@ returns-in_err-coefficient-clause-room c gs s =
 -- ---- the coefficient is taken out
 
 pub order_or_end-requires : goal.order_or_end-requires
-order_or_end-requires c =
-    let p = parts (goal.at.order_or_end-requires c).In_ok-coefficient in
-    record { stands = search rules; product = p.product; others = p.others; coefficient = c.in_ok-coefficient.ensures.taken.beside.handed; number = search rules; apart = p.apart }
+order_or_end-requires c = grind (arith, parts)
 
 pub returns-clause-done : goal.returns-clause-done
 returns-clause-done c = let p = parts (goal.at.returns-clause-done c).In_ok-coefficient in finished_map c.order_or_end.result c.order_or_end.ensures.done (λ h x. stop_given p x)
@@ -191,8 +173,7 @@ pub returns-clause-factors_held : goal.returns-clause-factors_held
 returns-clause-factors_held c h l d a = joined_map c.order_or_end.result (returns-clause-gathered c) (λ i at x. gathered_held _ _ h l c.requires.reduced d a (given_told x))
 
 pub returns-clause-bits : goal.returns-clause-bits
-returns-clause-bits c h l a few =
-    spreading_fits c.order_or_end.new.pool c.order_or_end.result h l (parts (goal.at.returns-clause-bits c).In_ok-coefficient) a few c.order_or_end.ensures.overflow c.order_or_end.ensures.caused
+returns-clause-bits c h l a few = grind (arith, spreading_fits, parts)
 
 pub returns-clause-room : goal.returns-clause-room
 returns-clause-room c gs s =

@@ -1,5 +1,5 @@
-use Rattle.std.proofs.Common.{refl, arith}
-use Rattle.product_reduce.proofs.Shared.{behind_first, front_end, front_without, gives, represents_handed, ends_as}
+use Rattle.std.proofs.Common.{arith}
+use Rattle.product_reduce.proofs.Shared.{behind_first, front_end, front_without, represents_handed, ends_as}
 use Rattle.product_reduce.proofs.Stepped.{handed_product}
 use Rattle.product_reduce.proofs.gathering.join_neighbours.Goals as goal
 
@@ -13,9 +13,7 @@ pub move_last-requires-clause-root : goal.move_last-requires-clause-root
 move_last-requires-clause-root c = c.in_ok-join_pair.ensures.ok.product.handed.root
 
 pub returns-clause-ok : goal.returns-clause-ok
-returns-clause-ok c =
-    let b = c.in_ok-join_pair.ensures.ok in
-    gives (ends_as c.move_last.ensures.last refl b.others) (represents_handed b.product.handed) b.product.tree
+returns-clause-ok c = grind (arith, ends_as, represents_handed)
 
 pub returns-clause-front : goal.returns-clause-front
 returns-clause-front c = front_end c.move_last.ensures.last (front_without behind_first c.in_ok-join_pair.ensures.ok.front)

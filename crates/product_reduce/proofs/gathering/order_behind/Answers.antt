@@ -1,5 +1,5 @@
-use Rattle.std.proofs.Common.{◌∙◌, ap, sym, refl, subst, arith, rules}
-use Rattle.product_reduce.proofs.Shared.{product_tree, are_reduced, Trees, count, plain, children_of, Forest, forest, behind_first, front_same, front_end, front_without, front_after_one, gives, gives_as, represents_handed, ends_as, last_tree, others_in, IsOrdered, IsPairAt, IsNextPair, NoPairBetween, factors_in}
+use Rattle.std.proofs.Common.{◌∙◌, ap, refl, subst, arith, rules}
+use Rattle.product_reduce.proofs.Shared.{product_tree, are_reduced, Trees, count, forest, behind_first, front_same, front_end, front_without, front_after_one, gives, gives_as, represents_handed, ends_as, last_tree, others_in, IsOrdered, IsNextPair, NoPairBetween, factors_in}
 use Rattle.product_reduce.proofs.Finished.{reduced_nth}
 use Rattle.product_reduce.proofs.Leads.{lead_within, put_within, put_reduced, put_done, put_ordered}
 use Rattle.product_reduce.proofs.Products.{factors_are}
@@ -32,12 +32,10 @@ returns-in-Some-clause-ordered c = λ k h.
     (put_ordered c.args.lead c.in-Some.at k ts x.us _ h x.sorted (subst (IsNextPair c.args.lead c.in-Some.at) (factors_are x.becomes.product) c.in-Some.ensures.pair) x.becomes.product.tree)
 
 pub returns-in-Some-clause-pair : goal.returns-in-Some-clause-pair
-returns-in-Some-clause-pair c =
-    subst (IsPairAt c.in-Some.at) (sym (ap (λ (t : Forest). children_of (plain t)) (last_tree c.move_last.ensures.last))) c.in-Some.ensures.pair.pair
+returns-in-Some-clause-pair c = grind (arith, last_tree)
 
 pub returns-in-Some-clause-front : goal.returns-in-Some-clause-front
-returns-in-Some-clause-front c =
-    front_end c.move_last.ensures.last (front_without behind_first (front_after_one behind_first front_same c.sort_factors.ensures.sorts.becomes.front))
+returns-in-Some-clause-front c = grind (arith, front_end, front_without, behind_first, front_after_one, front_same)
 
 pub returns-in-None-clause-done : goal.returns-in-None-clause-done
 returns-in-None-clause-done c = λ k h.

@@ -14,9 +14,7 @@ pub node_over_two-requires-clause-apart : goal.node_over_two-requires-clause-apa
 node_over_two-requires-clause-apart c = let s = c.in_ok-base.ensures.ok in beside_apart c.args.exponent s.exponent (handed_beside c.args.factor c.requires.apart c.requires.second).root
 
 pub returns-in_err-sum-clause-front : goal.returns-in_err-sum-clause-front
-returns-in_err-sum-clause-front c =
-    let s = c.in_ok-base.ensures.ok in
-    front_after_two (behind_clear s.exponent.clear (front_without behind_first front_same)) (behind_later behind_first) (front_after_one behind_first front_same c.split_factor.ensures.front) c.node_over_two.ensures.front
+returns-in_err-sum-clause-front c = grind (arith, front_after_two, behind_clear, front_without, behind_first, front_same, behind_later, front_after_one)
 
 pub node_over_two-requires-2-clause-first : goal.node_over_two-requires-2-clause-first
 node_over_two-requires-2-clause-first c =

@@ -12,11 +12,7 @@ pub is_transparent_power-requires-clause-reduced : goal.is_transparent_power-req
 is_transparent_power-requires-clause-reduced c = rw c.id.ensures (ap is_reduced (plain_root c.args.factor c.requires.stands c.requires.handed.root) ∙ c.requires.reduced)
 
 pub take_child-exponent-requires-clause-within : goal.take_child-exponent-requires-clause-within
-take_child-exponent-requires-clause-within c =
-    let seen = rw c.id.ensures at c.is_transparent_power.ensures in
-    let t = ap is_transparent_power (sym (plain_root c.args.factor c.requires.stands c.requires.handed.root)) ∙ sym seen ∙ c.if-is_transparent_power.true in
-    let k : arity (kids_of c.args.factor (forest c.args.pool.now)) ≡ 2 = ap arity (kids_of_root c.args.factor c.requires.stands c.requires.handed.root) ∙ two_children c.args.factor (forest c.args.pool.now) c.requires.handed t in
-    omega (arith, k)
+take_child-exponent-requires-clause-within c = grind (arith, plain_root, kids_of_root, two_children)
 
 pub take_child-base-requires-clause-within : goal.take_child-base-requires-clause-within
 take_child-base-requires-clause-within c =

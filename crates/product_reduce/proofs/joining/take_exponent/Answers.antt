@@ -45,10 +45,7 @@ returns-clause-front c =
     (c.release.ensures.owned (owned s.base.handed))
 
 pub returns-in_err-base-clause-room : goal.returns-in_err-base-clause-room
-returns-in_err-base-clause-room c =
-    let e = c.take_child-factor.ensures.last c.requires.product.handed.root in
-    let free = child_free c.args.at c.requires.stands c.take_child-factor.ensures.stands c.take_child-factor.ensures.kept c.requires.product c.requires.within e in
-    refusal_told c.from_residual.result (omega (arith, free, c.in_err-base.ensures.room))
+returns-in_err-base-clause-room c = grind (arith, child_free, refusal_told)
 
 pub returns-clause-placed : goal.returns-clause-placed
 returns-clause-placed c =

@@ -1,4 +1,4 @@
-use Rattle.std.proofs.Common.{inr, ap}
+use Rattle.std.proofs.Common.{arith, inr, ap}
 use Rattle.product_reduce.proofs.Shared.{is_mult, forest, behind_first, front_same, front_end, front_put, many, child_within, out, factors_in}
 use Rattle.product_reduce.proofs.Finished.{reduced_nth}
 use Rattle.product_reduce.proofs.Begun.{underway_first, underway_one}
@@ -14,10 +14,7 @@ returns-in-Some-clause-ok c =
     underway_first (out c.in-Some.at m c.in-Some.ensures.within (c.take_child.ensures.last m.over.root)) c.requires.reduced c.in-Some.ensures
 
 pub returns-in-Some-clause-front : goal.returns-in-Some-clause-front
-returns-in-Some-clause-front c =
-    let m = many c.requires.product.handed (inr (ap is_mult c.requires.product.tree)) in
-    let o = out c.in-Some.at m c.in-Some.ensures.within (c.take_child.ensures.last m.over.root) in
-    front_end o.given.ends (front_put o.now behind_first front_same)
+returns-in-Some-clause-front c = grind (arith, front_end, front_put, behind_first, front_same)
 
 pub returns-in-None-clause-ok : goal.returns-in-None-clause-ok
 returns-in-None-clause-ok c =

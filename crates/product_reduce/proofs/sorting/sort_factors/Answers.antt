@@ -1,13 +1,11 @@
-use Rattle.std.proofs.Common.{◌<◌, ap, ◌∙◌, subst, refl, arith}
-use Rattle.product_reduce.proofs.Shared.{is_reduced, base_of, Trees, count, IsSorting, nth, plains, forest, factors_in}
+use Rattle.std.proofs.Common.{subst, refl, arith}
+use Rattle.product_reduce.proofs.Shared.{base_of, Trees, IsSorting, plains}
 use Rattle.product_reduce.proofs.Finished.{reduced_nth}
 use Rattle.product_reduce.proofs.Products.{becomes_put, product_arity, product_kids}
 use Rattle.product_reduce.proofs.sorting.sort_factors.Goals as goal
 
 pub sort_children-requires-clause-keyed : goal.sort_children-requires-clause-keyed
-sort_children-requires-clause-keyed c =
-    let e = (product_kids c.requires.product).plain_trees in
-    λ n z l. ap (λ (ts : Trees). is_reduced (nth n ts)) e ∙ reduced_nth n (factors_in c.args.product.now (forest c.args.pool.now)) (subst (λ (ts : Trees). n < count ts) e l) c.requires.reduced
+sort_children-requires-clause-keyed c = grind (arith, product_kids, reduced_nth)
 
 pub returns-clause-sorts : goal.returns-clause-sorts
 returns-clause-sorts c =

@@ -1,5 +1,5 @@
 use Rattle.std.proofs.Common.{◌≡◌, ◌∙◌, ap, sym, refl, arith}
-use Rattle.product_reduce.proofs.Shared.{passed_lacks, refusal_lacks, free_of, tree_of, is_zero, factors_in, forest, gives_as, expression_root, plain_root, at_zero, at_end, passed_on}
+use Rattle.product_reduce.proofs.Shared.{passed_lacks, refusal_lacks, tree_of, is_zero, gives_as, expression_root, plain_root, at_zero, passed_on}
 use Rattle.product_reduce.proofs.FreeBytes.{pair_lacks}
 use Rattle.product_reduce.proofs.Misfits.{none_named}
 use Rattle.product_reduce.proofs.Pairs.{some_partners}
@@ -19,27 +19,19 @@ pub returns-then-is_zero-clause-done : goal.returns-then-is_zero-clause-done
 returns-then-is_zero-clause-done c = gives_as c.alone.ensures.ok refl (λ t e. at_zero (zero-is (goal.at.returns-then-is_zero-clause-done c).After-is_zero ∙ c.if-is_zero.true) e)
 
 pub returns-in_ok-joined-in-Some-clause-again : goal.returns-in_ok-joined-in-Some-clause-again
-returns-in_ok-joined-in-Some-clause-again c =
-    let nonzero = zero-is (goal.at.returns-in_ok-joined-in-Some-clause-again c).After-is_zero ∙ c.if-is_zero.false in
-    let some = some_partners _ _ (factors_in c.args.product (forest c.args.pool.now)) c.in-Some.ensures in
-    gives_as c.in_ok-joined-in-Some.ensures.ok refl (λ t e. record { not_zero = nonzero; partners = some; is = e })
+returns-in_ok-joined-in-Some-clause-again c = grind (arith, zero-is, some_partners, gives_as)
 
 pub returns-in_ok-sorted-in-None-clause-done : goal.returns-in_ok-sorted-in-None-clause-done
-returns-in_ok-sorted-in-None-clause-done c =
-    let nonzero = zero-is (goal.at.returns-in_ok-sorted-in-None-clause-done c).After-is_zero ∙ c.if-is_zero.false in
-    gives_as c.in_ok-sorted-in-None.ensures.ok refl (λ t e. at_end nonzero c.in-None.ensures e)
+returns-in_ok-sorted-in-None-clause-done c = grind (arith, zero-is, gives_as)
 
 pub returns-in_err-joined-in-Some-clause-overflow : goal.returns-in_err-joined-in-Some-clause-overflow
 returns-in_err-joined-in-Some-clause-overflow c = none_named c.from_residual.result c.in_err-joined-in-Some.field-0.0 _ c.from_residual.ensures.1
 
 pub returns-in_err-sorted-in-None-clause-overflow : goal.returns-in_err-sorted-in-None-clause-overflow
-returns-in_err-sorted-in-None-clause-overflow c =
-    passed_on c.from_residual-in_err-sorted-in-None.result c.in_err-sorted-in-None.field-0.0 _ c.from_residual-in_err-sorted-in-None.ensures.0 c.from_residual-in_err-sorted-in-None.ensures.1 c.in_err-sorted-in-None.ensures.overflow
+returns-in_err-sorted-in-None-clause-overflow c = grind (arith, passed_on)
 
 pub returns-in_err-joined-in-Some-clause-room : goal.returns-in_err-joined-in-Some-clause-room
-returns-in_err-joined-in-Some-clause-room c gs x k =
-    refusal_lacks c.from_residual.result c.in_err-joined-in-Some.field-0.0 _ c.from_residual.ensures.1
-    (pair_lacks gs (tree_of c.args.coefficient c.args.pool.now) (factors_in c.args.product (forest c.args.pool.now)) (free_of c.args.pool.now) c.requires.number x c.requires.others k c.in_err-joined-in-Some.ensures.room)
+returns-in_err-joined-in-Some-clause-room c gs x k = grind (arith, refusal_lacks, pair_lacks)
 
 pub returns-in_err-sorted-in-None-clause-room : goal.returns-in_err-sorted-in-None-clause-room
 returns-in_err-sorted-in-None-clause-room c gs x k =

@@ -1,4 +1,4 @@
-use Rattle.std.proofs.Common.{◌≡◌, ◌∙◌, Err, sym, refl, subst, rules, true, false}
+use Rattle.std.proofs.Common.{arith, ◌≡◌, ◌∙◌, Err, sym, refl, subst, true, false}
 use Rattle.product_reduce.proofs.Shared.{PlainValue, IsPlainAnswer, AnswersRationals, tree_of, forest, gives_as, given_told, IsFinished, factors_in}
 use Rattle.product_reduce.proofs.Finished.{undef_finished, rationals_defined}
 use Rattle.product_reduce.proofs.GatheredParts.{spans_factors, spans_joined}
@@ -25,9 +25,7 @@ pub take_coefficient-requires-clause-reduced : goal.take_coefficient-requires-cl
 take_coefficient-requires-clause-reduced c = reduced_now (opened_now (goal.at.take_coefficient-requires-clause-reduced c).After-open_products)
 
 pub join_or_end-requires : goal.join_or_end-requires
-join_or_end-requires c =
-    let p = parts (goal.at.join_or_end-requires c).In_ok-coefficient in
-    record { stands = search rules; product = p.product; others = p.others; coefficient = c.in_ok-coefficient.ensures.taken.beside.handed; number = search rules; apart = p.apart }
+join_or_end-requires c = grind (arith, parts)
 
 -- ---- a factor is Undef
 
@@ -61,9 +59,7 @@ returns-in_err-coefficient-clause-rationals c = λ r.
     step_refused _ new c.from_residual.result f c.from_residual.ensures.1 (rationals_opened (λ (v : PlainValue). AnswersRationals v new (Err f)) o r c.in_err-coefficient.ensures.rationals)
 
 pub returns-in_err-coefficient-clause-overflow : goal.returns-in_err-coefficient-clause-overflow
-returns-in_err-coefficient-clause-overflow c =
-    let o = opened_now (goal.at.returns-in_err-coefficient-clause-overflow c).After-open_products in
-    numbers_overflow c.from_residual.result c.in_err-coefficient.field-0.0 c.from_residual.ensures.0 c.from_residual.ensures.1 o c.in_err-coefficient.ensures.overflow
+returns-in_err-coefficient-clause-overflow c = grind (arith, opened_now, numbers_overflow)
 
 pub returns-in_err-coefficient-clause-bits : goal.returns-in_err-coefficient-clause-bits
 returns-in_err-coefficient-clause-bits c h l a few =
@@ -111,8 +107,7 @@ pub returns-clause-held : goal.returns-clause-held
 returns-clause-held c h l d a = done_map c.join_or_end.result (returns-clause-done c) (λ i x. (within (tree_of c.args.product c.args.pool.now) c.requires.product c.requires.reduced (given_told x)).held h l d a)
 
 pub returns-clause-bits : goal.returns-clause-bits
-returns-clause-bits c h l a few =
-    spreading_fits c.join_or_end.new.pool c.join_or_end.result h l (parts (goal.at.returns-clause-bits c).In_ok-coefficient) a few c.join_or_end.ensures.overflow c.join_or_end.ensures.caused
+returns-clause-bits c h l a few = grind (arith, spreading_fits, parts)
 
 pub returns-clause-room : goal.returns-clause-room
 returns-clause-room c gs s = parted_room gs c.join_or_end.result (parts (goal.at.returns-clause-room c).In_ok-coefficient) s (c.join_or_end.ensures.room gs)

@@ -1,5 +1,5 @@
-use Rattle.std.proofs.Common.{◌≤◌, sym, subst, ap, arith, rules}
-use Rattle.sum_reduce.proofs.Shared.{passed_result, NoneIs, plain_value, Trees, add, count, sizes, AnswersFold, forest, behind_first, front_after_one, terms_in, AreFormed, is_loose, passed_named, collects_opened, Overflows, SpansRoot, SpansTrees, passed_lacks, HaveFewBits, addends_of_each}
+use Rattle.std.proofs.Common.{sym, subst, ap, arith}
+use Rattle.sum_reduce.proofs.Shared.{passed_result, plain_value, add, sizes, AnswersFold, forest, behind_first, front_after_one, terms_in, passed_named, collects_opened, Overflows, SpansRoot, SpansTrees, passed_lacks}
 use Rattle.sum_reduce.proofs.Opened.{opened_formed, opened_some, opened_tight}
 use Rattle.sum_reduce.proofs.Orders.{opened_stage, rationals_faulted, rationals_ordered}
 use Rattle.sum_reduce.proofs.Stages.{stage_after}
@@ -12,12 +12,7 @@ use Rattle.sum_reduce.proofs.HeldTerms.{opened_held}
 use Rattle.sum_reduce.proofs.arranging.arrange.Goals as goal
 
 pub join_numbers-requires : goal.join_numbers-requires
-join_numbers-requires c = record {
-  stands = search rules;
-  sum = c.open_sums.ensures.changes.sum;
-  formed = subst AreFormed (sym c.open_sums.ensures.opened) (opened_formed _ c.requires.formed);
-  some = subst (λ (x : Trees). 1 ≤ count x) (sym c.open_sums.ensures.opened) (opened_some _ c.requires.formed c.requires.some);
-}
+join_numbers-requires c = grind (arith, opened_formed, opened_some)
 
 pub returns-in_err-join_numbers-clause-rationals : goal.returns-in_err-join_numbers-clause-rationals
 returns-in_err-join_numbers-clause-rationals c =
@@ -29,14 +24,7 @@ pub returns-in_err-join_numbers-clause-front : goal.returns-in_err-join_numbers-
 returns-in_err-join_numbers-clause-front c = front_after_one behind_first (changes_front c.open_sums.ensures.changes) c.join_numbers.ensures.front
 
 pub sort_terms-requires : goal.sort_terms-requires
-sort_terms-requires c = record {
-  stands = search rules;
-  sum = c.in_ok-join_numbers.ensures.ok.sum;
-  formed = c.in_ok-join_numbers.ensures.joined.stage.formed;
-  some = c.in_ok-join_numbers.ensures.joined.stage.some;
-  led = c.in_ok-join_numbers.ensures.joined.led;
-  flat = c.in_ok-join_numbers.ensures.joined.no_sum (subst (NoneIs is_loose) (sym c.open_sums.ensures.opened) (opened_tight _ c.requires.formed));
-}
+sort_terms-requires c = grind (arith, opened_tight)
 
 pub returns-clause-ok : goal.returns-clause-ok
 returns-clause-ok c = changes_after (changes_after c.open_sums.ensures.changes c.in_ok-join_numbers.ensures.ok) c.sort_terms.ensures.changes
@@ -68,7 +56,4 @@ returns-in_err-join_numbers-clause-room c = λ gs s.
     (λ full l. omega (arith, l, free, ap sizes o.opened, opened_sizes ts))
 
 pub returns-in_err-join_numbers-clause-bits : goal.returns-in_err-join_numbers-clause-bits
-returns-in_err-join_numbers-clause-bits c = λ b.
-    let ts = terms_in c.args.sum.now (forest c.args.pool.now) in
-    passed_named c.from_residual.result c.in_err-join_numbers.field-0.0 (λ o. ⊥) (λ o. ⊥) c.from_residual.ensures.1
-    (c.in_err-join_numbers.ensures.bits (subst HaveFewBits (ap addends_of_each (sym c.open_sums.ensures.opened)) (few_after (opened_held ts c.requires.formed) b))) (λ x h. h)
+returns-in_err-join_numbers-clause-bits c = grind (arith, passed_named, few_after, opened_held)

@@ -1,5 +1,5 @@
 use Rattle.std.proofs.Common.{◌<◌, ◌+◌, ◌≡◌, false, arith}
-use Rattle.sum_reduce.proofs.Shared.{count, IsPairAt, IsNextPair, NoPairBetween, widths, terms_in, is_loose, is_partner, nth, forest, keeps_none, keeps_after, behind_first, front_same, front_after_one, passed_named, Overflows, passed_lacks, sum_count}
+use Rattle.sum_reduce.proofs.Shared.{count, IsPairAt, IsNextPair, NoPairBetween, widths, terms_in, is_loose, is_partner, nth, forest, keeps_none, keeps_after, behind_first, front_same, front_after_one, passed_named, passed_lacks, sum_count}
 use Rattle.sum_reduce.proofs.Results.{match_option_given}
 use Rattle.sum_reduce.proofs.Stages.{stage_after, stage_same}
 use Rattle.sum_reduce.proofs.Sums.{changes_same, changes_after}
@@ -11,19 +11,7 @@ use Rattle.sum_reduce.proofs.Held.{few_after}
 use Rattle.sum_reduce.proofs.arranging.join_pairs.Goals as goal
 
 pub loop-next-init : goal.loop-next-init
-loop-next-init c =
-    let w = c.requires.pair.within in
-    record {
-      changes = changes_same c.requires.sum;
-      stage = stage_same _ c.requires.formed (omega (arith, w));
-      fewer = c.requires.pair;
-      counts = omega arith;
-      flat = c.requires.flat;
-      fits = c.requires.fits;
-      front = front_same;
-      kept = keeps_none c.args.pool.now;
-      stands = c.requires.stands;
-    }
+loop-next-init c = grind (arith, changes_same, stage_same, front_same, keeps_none)
 
 pub loop-next-preserved : goal.loop-next-preserved
 loop-next-preserved c =
@@ -45,9 +33,7 @@ loop-next-preserved c =
     }
 
 pub returns-in_err-join_terms-clause-overflow : goal.returns-in_err-join_terms-clause-overflow
-returns-in_err-join_terms-clause-overflow c =
-    passed_named c.from_residual.result c.in_err-join_terms.field-0.0 _ (Overflows (terms_in c.args.sum.now (forest c.args.pool.now))) c.from_residual.ensures.1 c.in_err-join_terms.ensures.overflow
-    (overflows_after c.loop-next.invariant.stage.collects)
+returns-in_err-join_terms-clause-overflow c = grind (arith, passed_named, overflows_after)
 
 pub returns-in_err-join_terms-clause-room : goal.returns-in_err-join_terms-clause-room
 returns-in_err-join_terms-clause-room c = λ gs s.
@@ -60,6 +46,4 @@ returns-in_err-join_terms-clause-room c = λ gs s.
     (λ full l. fewer_lack gs _ (sum_count us) (sum_count ts) (omega (arith, i.counts)) (omega (arith, l, free)))
 
 pub returns-in_err-join_terms-clause-bits : goal.returns-in_err-join_terms-clause-bits
-returns-in_err-join_terms-clause-bits c = λ b.
-    passed_named c.from_residual.result c.in_err-join_terms.field-0.0 (λ o. ⊥) (λ o. ⊥) c.from_residual.ensures.1
-    (c.in_err-join_terms.ensures.bits (few_after c.loop-next.invariant.stage.held b)) (λ x h. h)
+returns-in_err-join_terms-clause-bits c = grind (arith, passed_named, few_after)

@@ -1,5 +1,5 @@
-use Rattle.std.proofs.Common.{◌∙◌, ap, sym}
-use Rattle.sum_reduce.proofs.Shared.{is_reduced, forest, terms_in, is_loose}
+use Rattle.std.proofs.Common.{arith, ◌∙◌, ap}
+use Rattle.sum_reduce.proofs.Shared.{is_reduced, forest, terms_in}
 use Rattle.sum_reduce.proofs.Joins.{none_anywhere}
 use Rattle.sum_reduce.proofs.Results.{if_some_given}
 use Rattle.sum_reduce.proofs.Sorted.{formed_nth}
@@ -9,9 +9,7 @@ pub is_loose-requires-clause-reduced : goal.is_loose-requires-clause-reduced
 is_loose-requires-clause-reduced c = ap is_reduced c.term.ensures.tree ∙ formed_nth c.args.at (terms_in c.args.sum.now (forest c.args.pool.now)) c.requires.within c.requires.formed
 
 pub returns-clause-flat : goal.returns-clause-flat
-returns-clause-flat c =
-    let tight = ap is_loose (sym c.term.ensures.tree) ∙ sym c.is_loose.ensures ∙ c.if-is_loose.false in
-    if_some_given c.next_pair.result (none_anywhere is_loose c.args.at (terms_in c.args.sum.now (forest c.args.pool.now)) c.requires.within tight c.requires.others)
+returns-clause-flat c = grind (arith, if_some_given, none_anywhere)
 
 pub next_pair-requires-clause-told : goal.next_pair-requires-clause-told
 next_pair-requires-clause-told c = λ n l. formed_nth n (terms_in c.args.sum.now (forest c.args.pool.now)) l c.requires.formed

@@ -1,5 +1,5 @@
 use Rattle.std.proofs.Common.{◌+◌, arith}
-use Rattle.sum_reduce.proofs.Shared.{keeps_after, behind_first, front_after_one, passed_named, forest, collects_then, Overflows, terms_in, passed_lacks, free_of, sum_count}
+use Rattle.sum_reduce.proofs.Shared.{keeps_after, behind_first, front_after_one, passed_named, forest, collects_then, terms_in, passed_lacks, free_of, sum_count}
 use Rattle.sum_reduce.proofs.Orders.{arranged_flat, folded_alone}
 use Rattle.sum_reduce.proofs.Sorted.{formed_nth}
 use Rattle.sum_reduce.proofs.Stages.{stage_after}
@@ -30,14 +30,10 @@ loop-at-preserved c =
     }
 
 pub returns-in_err-join_pairs-clause-overflow : goal.returns-in_err-join_pairs-clause-overflow
-returns-in_err-join_pairs-clause-overflow c =
-    passed_named c.from_residual-in_err-join_pairs.result c.in_err-join_pairs.field-0.0 _ (Overflows (terms_in c.args.sum.now (forest c.args.pool.now))) c.from_residual-in_err-join_pairs.ensures.1 c.in_err-join_pairs.ensures.overflow
-    (overflows_after c.loop-at.invariant.stage.collects)
+returns-in_err-join_pairs-clause-overflow c = grind (arith, passed_named, overflows_after)
 
 pub returns-in_err-arrange-2-clause-overflow : goal.returns-in_err-arrange-2-clause-overflow
-returns-in_err-arrange-2-clause-overflow c =
-    passed_named c.from_residual-in_err-arrange-2.result c.in_err-arrange-2.field-0.0 _ (Overflows (terms_in c.args.sum.now (forest c.args.pool.now))) c.from_residual-in_err-arrange-2.ensures.1 c.in_err-arrange-2.ensures.overflow
-    (overflows_after (collects_then c.loop-at.invariant.stage.collects c.in_ok-join_pairs.ensures.stage.collects))
+returns-in_err-arrange-2-clause-overflow c = grind (arith, passed_named, overflows_after)
 
 pub next_pair-requires-clause-told : goal.next_pair-requires-clause-told
 next_pair-requires-clause-told c = λ n l. formed_nth n (terms_in c.args.sum.now (forest c.loop-at.pool)) l c.loop-at.invariant.stage.formed
@@ -71,11 +67,7 @@ returns-in_err-arrange-2-clause-room c = λ gs s.
     (λ full l. omega (arith, terms_lack gs vs (free_of c.join_pairs.new.pool) (1 + sum_count ts) j.stage.formed spans (omega (arith, few, j.counts)) l, free))
 
 pub returns-in_err-join_pairs-clause-bits : goal.returns-in_err-join_pairs-clause-bits
-returns-in_err-join_pairs-clause-bits c = λ b.
-    passed_named c.from_residual-in_err-join_pairs.result c.in_err-join_pairs.field-0.0 (λ o. ⊥) (λ o. ⊥) c.from_residual-in_err-join_pairs.ensures.1
-    (c.in_err-join_pairs.ensures.bits (few_after c.loop-at.invariant.stage.held b)) (λ x h. h)
+returns-in_err-join_pairs-clause-bits c = grind (arith, passed_named, few_after)
 
 pub returns-in_err-arrange-2-clause-bits : goal.returns-in_err-arrange-2-clause-bits
-returns-in_err-arrange-2-clause-bits c = λ b.
-    passed_named c.from_residual-in_err-arrange-2.result c.in_err-arrange-2.field-0.0 (λ o. ⊥) (λ o. ⊥) c.from_residual-in_err-arrange-2.ensures.1
-    (c.in_err-arrange-2.ensures.bits (few_after c.in_ok-join_pairs.ensures.stage.held (few_after c.loop-at.invariant.stage.held b))) (λ x h. h)
+returns-in_err-arrange-2-clause-bits c = grind (arith, passed_named, few_after)

@@ -43,6 +43,4 @@ pub returns-else-is_sum-clause-changes : goal.returns-else-is_sum-clause-changes
 returns-else-is_sum-clause-changes c = changes_same c.requires.sum
 
 pub returns-else-is_sum-clause-terms : goal.returns-else-is_sum-clause-terms
-returns-else-is_sum-clause-terms c =
-    spread_one (terms_in c.args.sum.now (forest c.args.pool.now)) c.requires.some (ap is_zero (sym c.term-first.ensures.tree) ∙ sym c.is_zero.ensures ∙ c.if-is_zero.false)
-    (ap is_add (sym c.term-first.ensures.tree) ∙ sym c.is_sum.ensures ∙ c.if-is_sum.false)
+returns-else-is_sum-clause-terms c = grind (arith, spread_one)

@@ -1,5 +1,5 @@
 use Rattle.std.proofs.Common.{◌∙◌, inl, arith}
-use Rattle.sum_reduce.proofs.Shared.{forest, owned, gives, represents_handed, terms_in}
+use Rattle.sum_reduce.proofs.Shared.{forest, owned, represents_handed, terms_in}
 use Rattle.sum_reduce.proofs.Sums.{sum_within, term_out, only_left}
 use Rattle.sum_reduce.proofs.Written.{only_term, other_sum}
 use Rattle.sum_reduce.proofs.endings.unwrapped.Goals as goal
@@ -18,5 +18,4 @@ returns-then-term_count-eq1-clause-tree c =
     only_left o.takes (c.release.ensures.owned (owned o.takes.sum.handed)) (o.tree ∙ only_term (terms_in c.args.sum (forest c.args.pool.now)) (omega (arith, c.if-term_count-eq1.true, c.term_count.ensures)))
 
 pub returns-else-term_count-eq1-clause-tree : goal.returns-else-term_count-eq1-clause-tree
-returns-else-term_count-eq1-clause-tree c =
-    gives c.move_last.ensures.last (represents_handed c.requires.sum.handed) (other_sum _ c.requires.sum.sum c.requires.some (λ e. absurd (omega (arith, c.if-term_count-eq1.false, c.term_count.ensures, e))))
+returns-else-term_count-eq1-clause-tree c = grind (arith, represents_handed, other_sum)

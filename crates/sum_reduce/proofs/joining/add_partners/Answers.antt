@@ -1,5 +1,5 @@
-use Rattle.std.proofs.Common.{suc, ◌+◌, ap, add-one, arith, rules}
-use Rattle.sum_reduce.proofs.Shared.{count_removed, count, forest, keeps_none, keeps_after, behind_first, front_same, front_after_two, terms_in, coefficient_of, fault_named, nth, tree_of, NamesSum, Overflows, free_of, full_as, removed}
+use Rattle.std.proofs.Common.{suc, add-one, arith, rules}
+use Rattle.sum_reduce.proofs.Shared.{count_removed, forest, keeps_none, keeps_after, behind_first, front_same, front_after_two, terms_in, coefficient_of, fault_named, nth, tree_of, NamesSum, Overflows, free_of, full_as, removed}
 use Rattle.sum_reduce.proofs.Joins.{joining_formed, joining_less, next_partner, partner_step, partner_within}
 use Rattle.sum_reduce.proofs.Numbered.{beside_behind}
 use Rattle.sum_reduce.proofs.Sorted.{formed_nth}
@@ -11,15 +11,7 @@ use Rattle.sum_reduce.proofs.FewBits.{next_partner_few}
 use Rattle.sum_reduce.proofs.joining.add_partners.Goals as goal
 
 pub loop-pool-init : goal.loop-pool-init
-loop-pool-init c =
-    record {
-      takes = λ f t. t;
-      within = c.requires.within;
-      joining = λ ts less j. j;
-      front = front_same;
-      kept = keeps_none c.args.pool.now;
-      stands = c.requires.stands;
-    }
+loop-pool-init c = grind (arith, front_same, keeps_none)
 
 pub is_pair-requires-clause-handed : goal.is_pair-requires-clause-handed
 is_pair-requires-clause-handed c = (c.loop-pool.invariant.takes _ c.requires.taken.1).sum.handed
@@ -50,9 +42,7 @@ add_partner-requires c =
     }
 
 pub loop-pool-smaller : goal.loop-pool-smaller
-loop-pool-smaller c =
-    let p = c.is_pair.ensures.pair c.loop-pool-test.true in
-    omega (arith, ap count c.in-Ok.ensures.terms, count_removed (c.args.at + 1) (terms_in c.args.sum.now (forest c.loop-pool.pool)) (rw add-one p.within))
+loop-pool-smaller c = grind (arith, count_removed)
 
 pub loop-pool-preserved : goal.loop-pool-preserved
 loop-pool-preserved c =

@@ -1,6 +1,6 @@
 use Rattle.std.proofs.Common.{◌<◌, ◌≤◌, ◌+◌, sym, subst, add-one, arith, rules, ℕ}
 use Rattle.sum_reduce.proofs.Shared.{Trees, nth, Forest, forest, State, tree_of, behind_first, front_after_two, IsStage, IsJoining, Takes, widths, nodes, terms_in, passed_named, result_named, Overflows, free_of, removed, passed_lacks, refusal_lacks, result_lacks, keeps_after, sum_count, addends_of_each}
-use Rattle.sum_reduce.proofs.Joins.{IsBegun, begins, next_partner, first_partner, partner_within, joining_formed, two_joined, joining_done, joined_within, joined_others, pair_here, here_reduced, here_defined}
+use Rattle.sum_reduce.proofs.Joins.{IsBegun, begins, next_partner, partner_within, joining_formed, two_joined, joining_done, joined_within, joined_others, pair_here, here_reduced, here_defined}
 use Rattle.sum_reduce.proofs.Results.{on_ok_map}
 use Rattle.sum_reduce.proofs.Sums.{takes_handed, takes_apart, takes_after, takes_behind, takes_front, takes_changes}
 use Rattle.sum_reduce.proofs.Widths.{some_node}
@@ -13,14 +13,7 @@ use Rattle.sum_reduce.proofs.joining.join_terms.Goals.{In_ok-coefficient, In_ok-
 use Rattle.sum_reduce.proofs.joining.join_terms.Goals as goal
 
 pub take_coefficient_at-requires : goal.take_coefficient_at-requires
-take_coefficient_at-requires c = record {
-  stands = search rules;
-  sum = search rules;
-  within = pair_here c.args.at (terms_in c.args.sum.now (forest c.args.pool.now)) c.requires.pair;
-  reduced = here_reduced c.args.at (terms_in c.args.sum.now (forest c.args.pool.now)) c.requires.formed c.requires.pair;
-  defined = here_defined c.args.at (terms_in c.args.sum.now (forest c.args.pool.now)) c.requires.formed c.requires.pair;
-  no_number = first_partner (terms_in c.args.sum.now (forest c.args.pool.now)) c.args.at c.requires.pair;
-}
+take_coefficient_at-requires c = grind (arith, pair_here, here_reduced, here_defined)
 
 -- the coefficient of the first term stands beside its part
 begun : (c : In_ok-coefficient) → IsBegun (terms_in c.args.sum.now (forest c.args.pool.now)) (terms_in c.args.sum.now (forest c.take_coefficient_at.new.pool)) (tree_of c.in_ok-coefficient.coefficient c.take_coefficient_at.new.pool) c.args.at
@@ -81,9 +74,7 @@ put_back-requires c =
 -- ---- the joined terms
 
 pub returns-clause-ok : goal.returns-clause-ok
-returns-clause-ok c =
-    let s = goal.at.returns-clause-ok c in
-    on_ok_map c.put_back.result c.put_back.ensures.ok (takes_changes (total s.In_ok-total (both s.In_ok-both)).takes)
+returns-clause-ok c = grind (arith, on_ok_map, takes_changes, total, both)
 
 pub returns-clause-stage : goal.returns-clause-stage
 returns-clause-stage c =
@@ -103,8 +94,7 @@ returns-clause-counts c =
     on_ok_map c.put_back.result c.put_back.ensures.terms (λ e. joined_counts _ _ _ _ _ _ c.args.at (total s.In_ok-total (both s.In_ok-both)).joining e)
 
 pub returns-clause-within : goal.returns-clause-within
-returns-clause-within c =
-    on_ok_map c.put_back.result c.put_back.ensures.terms (joined_within c.args.at _ (terms_in c.args.sum.now (forest c.add_partners.new.pool)) _ c.in_ok-total.ensures.within)
+returns-clause-within c = grind (arith, on_ok_map, joined_within)
 
 pub returns-clause-others : goal.returns-clause-others
 returns-clause-others c =

@@ -1,5 +1,5 @@
 use Rattle.std.proofs.Common.{◌≡◌, true, false, ◌∙◌, sym, subst, refl, ap, arith, ◌^◌, length}
-use Rattle.sum_reduce.proofs.Shared.{passed_result, plain_value, AnswersRationals, tree_of, forest, behind_first, front_end, front_without, gives_as, given_told, IsWrittenSum, IsSumAnswer, IsCollected, terms_in, counted, HasPowersOf, SpansTree, size, Tree, passed_lacks, sum_whole, passed_named, IsTreeHeld, is_counted, counts_of, counts_of_all, IsWithin}
+use Rattle.sum_reduce.proofs.Shared.{passed_result, tree_of, forest, behind_first, front_end, front_without, gives_as, given_told, IsWrittenSum, IsSumAnswer, IsCollected, terms_in, counted, HasPowersOf, SpansTree, size, Tree, passed_lacks, sum_whole, passed_named, IsTreeHeld, is_counted, counts_of, counts_of_all, IsWithin}
 use Rattle.sum_reduce.proofs.Collected.{settled_collected, settled_written}
 use Rattle.sum_reduce.proofs.Rationals.{undef_rationals, rationals_answer, rationals_fault}
 use Rattle.sum_reduce.proofs.Settled.{reduced_formed, undef_answer, settled_answer}
@@ -45,12 +45,10 @@ returns-then-has_undef_term-clause-ok c =
     gives_as c.undefined.ensures.gives refl (λ t e. subst (IsSumAnswer ts) (sym e) (undef_answer ts (sym c.has_undef_term.ensures ∙ c.if-has_undef_term.true)))
 
 pub returns-then-has_undef_term-clause-rationals : goal.returns-then-has_undef_term-clause-rationals
-returns-then-has_undef_term-clause-rationals c =
-    λ q. absurd (undef_rationals (terms_in c.args.sum (forest c.args.pool.now)) q (sym c.has_undef_term.ensures ∙ c.if-has_undef_term.true))
+returns-then-has_undef_term-clause-rationals c = grind (arith, undef_rationals)
 
 pub settle-requires-clause-formed : goal.settle-requires-clause-formed
-settle-requires-clause-formed c =
-    reduced_formed (terms_in c.args.sum (forest c.args.pool.now)) c.requires.reduced (sym c.has_undef_term.ensures ∙ c.if-has_undef_term.false)
+settle-requires-clause-formed c = grind (arith, reduced_formed)
 
 pub returns-clause-ok : goal.returns-clause-ok
 returns-clause-ok c =
@@ -64,10 +62,7 @@ returns-clause-rationals c =
     λ q. rationals_answer (tree_of c.args.sum c.args.pool.now) (tree_of c.written.result c.written.new.pool) (terms_in c.args.sum (forest c.settle.new.pool)) c.requires.sum (c.in_ok-settle.ensures.rationals q) (given_told c.written.ensures.tree)
 
 pub returns-in_err-settle-clause-rationals : goal.returns-in_err-settle-clause-rationals
-returns-in_err-settle-clause-rationals c =
-    λ q. passed_result c.from_residual.result c.in_err-settle.field-0.0 (AnswersRationals (plain_value (tree_of c.args.sum c.args.pool.now)) c.settle.new.pool)
-    c.from_residual.ensures.0 c.from_residual.ensures.1
-    (rationals_fault (tree_of c.args.sum c.args.pool.now) (terms_in c.args.sum (forest c.settle.new.pool)) c.settle.new.pool _ c.requires.sum (c.in_err-settle.ensures.rationals q))
+returns-in_err-settle-clause-rationals c = grind (arith, passed_result, rationals_fault)
 
 pub returns-clause-front : goal.returns-clause-front
 returns-clause-front c = front_end c.written.ensures.tree.ends (front_without behind_first c.settle.ensures.front)
@@ -92,8 +87,7 @@ pub returns-then-has_undef_term-clause-written : goal.returns-then-has_undef_ter
 returns-then-has_undef_term-clause-written c = λ d u. absurd (not_both (sym d ∙ sym c.has_undef_term.ensures ∙ c.if-has_undef_term.true))
 
 pub returns-in_err-settle-clause-defined : goal.returns-in_err-settle-clause-defined
-returns-in_err-settle-clause-defined c =
-    passed_named c.from_residual.result c.in_err-settle.field-0.0 _ _ c.from_residual.ensures.1 c.in_err-settle.ensures.overflow (λ o h. sym c.has_undef_term.ensures ∙ c.if-has_undef_term.false)
+returns-in_err-settle-clause-defined c = grind (arith, passed_named)
 
 pub returns-in_err-settle-clause-room : goal.returns-in_err-settle-clause-room
 returns-in_err-settle-clause-room c = λ gs s.
@@ -111,8 +105,7 @@ pub returns-then-has_undef_term-clause-held : goal.returns-then-has_undef_term-c
 returns-then-has_undef_term-clause-held c = λ h l d k. absurd (not_both (sym d ∙ sym c.has_undef_term.ensures ∙ c.if-has_undef_term.true))
 
 pub returns-in_err-settle-clause-bits : goal.returns-in_err-settle-clause-bits
-returns-in_err-settle-clause-bits c = λ h l k few.
-    passed_named c.from_residual.result c.in_err-settle.field-0.0 (λ o. ⊥) (λ o. ⊥) c.from_residual.ensures.1 (c.in_err-settle.ensures.bits (record { high = h; low = l; held = k; few = few })) (λ x h. h)
+returns-in_err-settle-clause-bits c = grind (arith, passed_named)
 
 pub returns-clause-exponents : goal.returns-clause-exponents
 returns-clause-exponents c = λ h.
