@@ -1,6 +1,6 @@
 -- What the kind of a root and the number of its children tell of a tree.
-use Rattle.std.proofs.Common.{◌≡◌, ◌≢◌, ℕ, refl, sym, ap, ◌∙◌, true, arith, subst}
-use Rattle.number_forms.proofs.Shared.{Fraction, Tree, num, symbol, undef, add, mult, power, root, neg, sub, div, none, more, count, root_kind, is_mult, classes, value, is_number, IsSum, IsSumOf, Same-refl, nth, children_of, plain, IsExpression, Forest, arity, kids, tree_at, kids_of, children_of-plain, count-plains}
+use Rattle.std.proofs.Common.{◌≡◌, ℕ, refl, sym, ap, ◌∙◌, true, arith, subst}
+use Rattle.number_forms.proofs.Shared.{Fraction, Tree, num, add, mult, root, none, more, count, root_kind, is_mult, classes, value, is_number, IsSum, IsSumOf, Same-refl, nth, children_of, plain, IsExpression, Forest, arity, kids, tree_at, kids_of, children_of-plain, count-plains}
 use Rattle.number_forms.proofs.Shaped.{length-terms_of, added_number}
 use Rattle.calc_terms.specs.declared.kind.Kind.TheVariants as kind
 

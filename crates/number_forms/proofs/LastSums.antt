@@ -1,6 +1,6 @@
 -- A sum that stands last, with other children.
 use Rattle.std.proofs.Common.{◌≡◌, ℕ, zero, suc, refl, sym, ap, ◌∙◌, subst, arith, true, ◌<◌}
-use Rattle.number_forms.proofs.Shared.{Payload, rational, named, bare, count, Tree, num, symbol, undef, add, mult, power, root, neg, sub, div, Trees, none, more, IsSum, removed, nth, grown, compound, plains, plain, children_of, takes, AllExpressions, IsWhole, Forest, empty, tree, arity, kids, root_id, with_root_kids, first_trees, rest_trees, tree_nth, without_nth, AllOnce, IsOnce, IsHanded, Represents, Ends, Gives, put, root_tree, without_root, gives, represents_as, given_root, given_handed, given_rest, last_put, last_tree, ends_without, ends_as, ends_at, other_handed, alone, count-plains, plain-tree_nth, children_of-plain, whole_kids}
+use Rattle.number_forms.proofs.Shared.{Payload, rational, named, bare, count, Tree, add, Trees, none, more, IsSum, removed, nth, grown, compound, plains, plain, children_of, takes, AllExpressions, IsWhole, Forest, empty, tree, arity, kids, root_id, with_root_kids, first_trees, rest_trees, tree_nth, without_nth, AllOnce, IsOnce, IsHanded, Represents, Ends, Gives, put, root_tree, without_root, gives, represents_as, given_root, given_handed, given_rest, last_put, last_tree, ends_without, ends_as, ends_at, other_handed, alone, count-plains, plain-tree_nth, children_of-plain, whole_kids}
 use Rattle.calc_terms.specs.declared.kind.Kind.{Kind}
 use Rattle.tree_handles.proofs.Forests.{all-first_trees, all-rest_trees, all-join}
 use Rattle.calc_terms.specs.declared.kind.Kind.TheVariants as kind

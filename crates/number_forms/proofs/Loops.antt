@@ -3,7 +3,6 @@ use Rattle.std.proofs.Common.{◌≡◌, ℕ, zero, suc, ◌≤◌, ◌∷◌, �
 use Rattle.number_forms.proofs.Shared.{value, Same, Term, Surd, SharesDenominators, Tree, Same-trans, Same-refl, State, IsSum, IsSumOf, plain, Gives, KeepsFront, root_tree, without_root, Stands, forest, KeepsRefusals, behind_first, front_after_one, front_same, given_told, given_rest, gives_as, kept_same, kept_after, gives_itself}
 use Rattle.number_forms.proofs.Denominators.{shares_eq, parts_step, parts_end, parts_part}
 use Rattle.number_forms.proofs.Worth.{terms_from, join_step, join_end, part_step}
-use Rattle.tree_handles.specs.declared.fault.NumberFault.TheVariants as fault
 
 -- a sum, and with what is left of a list it is worth the whole, over the common denominators of the whole
 pub record IsSumWith (left whole : Surd) (t : Tree) : Type 0 where

@@ -3,7 +3,6 @@ use Rattle.std.proofs.Common.{◌≡◌, ℕ, ◌+◌, ◌*◌, ◌/◌, ◌<◌
 use Rattle.number_forms.proofs.Shared.{value, Same, Term, Surd, surd_times, Tree, count, Same-trans, Same-append, Same-refl, SharesDenominators, IsNumberOver, IsPowerOver, JoinOverflows, SumOverflows, ProductOverflows, SquareOverflows, PowerOverflows, Overflow, calculation_of, first_misfit, joining_calculations, children_of, nth}
 use Rattle.calc_algebra.specs.Numbers.{term_of}
 use Rattle.number_forms.proofs.Over.{shares_append, squared_power}
-use Rattle.tree_handles.specs.declared.fault.NumberFault.TheVariants as fault
 
 -- the term of a sum at a place, once it is read
 pub join_overflow : (sum : Tree) (at : ℕ) (x t : Term) (o : Overflow) → at < count (children_of sum) → x ≡ term_of (nth at (children_of sum)) → Some (calculation_of o) ≡ first_misfit (joining_calculations x t) → JoinOverflows sum t o

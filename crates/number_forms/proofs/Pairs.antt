@@ -1,7 +1,9 @@
 -- Two trees that were made one after the other.
 use Rattle.std.proofs.Common.{◌≡◌, ℕ, eqb, true, false, ap, ◌∙◌}
-use Rattle.number_forms.proofs.Shared.{Fraction, is_number, is_term, Tree, num, number_test, term_words, other_plain, plain, Forest, IsHanded, Gives, root_tree, without_root, given_handed, given_root, given_other, given_apart, given_rest, given_without, eqb-sym}
+use Rattle.number_forms.proofs.Shared.{Fraction, is_number, is_term, Tree, num, number_test, term_words, other_plain, plain, Forest, IsHanded, Gives, root_tree, without_root, given_handed, given_root, given_told, given_other, given_apart, given_rest, given_without, eqb-sym}
 use Rattle.number_forms.proofs.Shaped.{term_number}
+use Rattle.number_forms.specs.Answers.{IsNumberOf}
+use Rattle.calc_algebra.specs.Surds.{Surd}
 
 pub first_handed : {f g h : Forest} {a b : ℕ} {P Q : Tree → Type 0} → Gives f g a P → Gives g h b Q → IsHanded a h
 first_handed x y = given_other y (given_handed x)
@@ -20,3 +22,17 @@ rational_test t q e = ap is_number e ∙ number_test (num q) tt
 
 pub term_is_number : (t : Tree) → is_term t ≡ true → is_number t ≡ true
 term_is_number t h = number_test t (term_number t (term_words t h))
+
+-- ---- Numbers that were made one after the other
+
+pub number_made : {f g : Forest} {a : ℕ} → Gives f g a (λ t. is_number t ≡ true) → is_number (plain (root_tree a g)) ≡ true
+number_made x = given_told x
+
+pub number_of_made : {f g : Forest} {a : ℕ} (v : Surd) → Gives f g a (IsNumberOf v) → is_number (plain (root_tree a g)) ≡ true
+number_of_made v x = (given_told x).number
+
+pub first_number : {f g h : Forest} {a b : ℕ} {Q : Tree → Type 0} → Gives f g a (λ t. is_number t ≡ true) → Gives g h b Q → is_number (plain (root_tree a h)) ≡ true
+first_number x y = first_told x y ∙ number_made x
+
+-- what calls on such Numbers ask for
+pub ruleset made = (given_handed, number_made, number_of_made, pair_apart, first_number)

@@ -1,7 +1,7 @@
 -- Whether the bytes of a term's tree suffice.
 use Rattle.std.proofs.Common.{◌≡◌, ◌≢◌, ◌↔◌, ℕ, ◌+◌, ◌-◌, ◌==◌, ◌<◌, ◌≤◌, true, false, Bool, pos, List, length, [], ◌∷◌, ◌++◌, Result, Ok, Err, refl, sym, ap, ◌∙◌, subst, arith}
 use Rattle.std.specs.Prelude.{IsOk, IsErr, IfOk, IfErr, nat_le, if◌then◌else◌}
-use Rattle.number_forms.proofs.Shared.{eqb-true, eq-eqb, le-leb, lt-leb, leb-false, Fraction, lowest, one_fraction, is_one_fraction, is_zero_fraction, whole_fraction, gcd, Tree, num, symbol, undef, add, mult, power, root, neg, sub, div, Trees, more, none, size, sizes, root_size, one_is, value, classes, Term, surd_of, State, free_of, Full, term_tree, building, node_sizes, nodes_sizes, taking, LacksLongForm, Forest, tree_of, Gives, root_tree, plain, last_tree, Stands, forest, KeepsRefusals, IsRefused, given_told, given_free}
+use Rattle.number_forms.proofs.Shared.{eqb-true, eq-eqb, le-leb, lt-leb, leb-false, Fraction, lowest, one_fraction, is_one_fraction, is_zero_fraction, whole_fraction, gcd, Tree, num, add, mult, power, root, neg, sub, div, Trees, more, none, size, sizes, root_size, one_is, value, classes, Term, surd_of, State, free_of, Full, term_tree, building, node_sizes, nodes_sizes, taking, LacksLongForm, Forest, tree_of, Gives, root_tree, plain, last_tree, Stands, forest, KeepsRefusals, IsRefused, given_told, given_free}
 use Rattle.calc_terms.specs.Kind.{size_by_form}
 use Rattle.calc_terms.specs.Short.{is_short}
 use Rattle.calc_terms.specs.declared.kind.Kind.TheVariants as kind

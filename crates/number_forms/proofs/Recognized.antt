@@ -1,7 +1,7 @@
 -- What is a Number and what is none, by kind and by parts.
 use Rattle.std.proofs.Common.{◌≡◌, ◌≢◌, ℕ, ◌*◌, ◌<◌, ◌≤◌, ◌↔◌, Bool, true, false, not, ◌&&◌, length, refl, sym, ap, ◌∙◌, subst, arith}
 use Rattle.std.specs.Prelude.{ℤ, pos, negsuc, nat_abs, IsTrue, nat_le, ◌==◌}
-use Rattle.number_forms.proofs.Shared.{ints, le-leb, lt-leb, eq-eqb, eqb-true, is_clean, IsClean, Rat, Fraction, one_fraction, is_one_fraction, whole_fraction, lowest, gcd, is_number, is_term, is_radicand, natural_of, are_terms, rises, terms_of, ratio_of, value_of, Tree, num, symbol, undef, add, mult, power, root, neg, sub, div, count, root_kind, is_add, one_test, whole_numerator, whole_denominator, clean_test, clean_words, children_of}
+use Rattle.number_forms.proofs.Shared.{ints, le-leb, lt-leb, eq-eqb, eqb-true, is_clean, IsClean, Rat, Fraction, one_fraction, is_one_fraction, whole_fraction, lowest, gcd, is_number, is_term, is_radicand, natural_of, are_terms, rises, terms_of, ratio_of, value_of, Tree, num, add, count, root_kind, is_add, one_test, whole_numerator, whole_denominator, clean_test, clean_words, children_of}
 use Rattle.number_forms.proofs.Shaped.{length-terms_of}
 use Rattle.number_forms.proofs.TermTrees.{is_one_value, not_one_num, not_one_den}
 use lib.Signed.{lt_z}

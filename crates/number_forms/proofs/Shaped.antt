@@ -1,7 +1,7 @@
 -- Numbers from sums of terms, and sums of terms from Numbers.
 use Rattle.std.proofs.Common.{◌≡◌, ◌≢◌, ℕ, zero, suc, ◌≤◌, ◌<◌, [], ◌∷◌, length, Some, Bool, true, if◌then◌else◌, refl, sym, ap, ◌∙◌, subst, arith}
 use Rattle.std.specs.Prelude.{slice_get, pos}
-use Rattle.number_forms.proofs.Shared.{Fraction, lowest, int_is_zero, IsNumber, IsTerm, AreTerms, Rises, is_number, terms_of, value, Surd, surd_of, Tree, num, symbol, undef, add, mult, power, root, neg, sub, div, Trees, none, more, count, zero_test, whole_numerator, number_test, number_words, Same-refl, Same-eq, IsNumberOver, IsSum, IsSumOf, nth, children_of}
+use Rattle.number_forms.proofs.Shared.{Fraction, lowest, int_is_zero, IsNumber, IsTerm, AreTerms, Rises, is_number, terms_of, value, Surd, surd_of, Tree, num, add, mult, root, Trees, none, more, count, zero_test, whole_numerator, number_test, number_words, Same-refl, Same-eq, IsNumberOver, IsSum, IsSumOf, nth, children_of}
 use Rattle.calc_algebra.specs.Numbers.{term_of}
 use Rattle.number_forms.proofs.Denominators.{shares_eq}
 

@@ -1,5 +1,5 @@
 -- Sums of terms whose radicands are so small that each class has one.
-use Rattle.std.proofs.Common.{◌∷◌, [], ◌≡◌, ℕ, zero, suc, ◌-◌, ◌<◌, ◌≤◌, ◌^◌, ◌⊎◌, inl, inr, false, refl, sym, ap, ◌∙◌, subst, arith}
+use Rattle.std.proofs.Common.{◌∷◌, [], ◌≡◌, ℕ, zero, suc, ◌<◌, ◌≤◌, ◌^◌, ◌⊎◌, inl, inr, false, refl, sym, ap, ◌∙◌, subst, arith}
 use Rattle.number_forms.proofs.Shared.{false_from_ne_true, IsClean, IsBelowAll, Rises, terms_of, are_alike, Term, SharesDenominators, Tree, Trees, none, more, add, count, IsSum, IsApart, IsPlace, AreBelow, joined_den, nth, children_of}
 use Rattle.calc_algebra.specs.Numbers.{term_of}
 use Rattle.calc_algebra.proofs.CleanLaws.{IsSquareFree, clean_square_free, alike_square_free}

@@ -1,6 +1,6 @@
 -- A sum that stands last: as it is read, with a term more, and with a term less.
 use Rattle.std.proofs.Common.{◌≡◌, ℕ, ◌<◌, [], ◌∷◌, ◌++◌, true, refl, sym, ap, ◌∙◌, subst}
-use Rattle.number_forms.proofs.Shared.{IsTerm, AreTerms, Rises, is_term, terms_of, value, Same, are_alike, Term, Surd, AreWholeOver, Parts, SharesDenominators, Tree, Trees, none, more, add, count, IsProper, term_words, Same-trans, Same-refl, Same-eq, Same-cons, Same-append, Same-to_front, State, IsSum, IsSumOf, IsApart, IsPlace, removed, nth, plain, children_of, inserted, IsExpression, Forest, arity, kids, with_nth, without_nth, tree_nth, IsHanded, Represents, Ends, Gives, tree_at, kids_of, has_root, root_tree, without_root, put, Stands, forest, represents_handed, represents_with, given_root, given_handed, given_told, given_rest, given_same, last_tree, last_rest, expression_root, plain_root, seen}
+use Rattle.number_forms.proofs.Shared.{IsTerm, AreTerms, Rises, is_term, terms_of, value, Same, are_alike, Term, Surd, AreWholeOver, Parts, SharesDenominators, Tree, Trees, none, more, add, count, IsProper, term_words, Same-trans, Same-refl, Same-eq, Same-cons, Same-append, Same-to_front, State, IsSum, IsSumOf, IsApart, IsPlace, removed, nth, plain, children_of, inserted, Forest, arity, kids, with_nth, without_nth, tree_nth, IsHanded, Represents, Ends, Gives, tree_at, kids_of, root_tree, without_root, put, Stands, forest, represents_handed, represents_with, given_root, given_handed, given_told, given_rest, given_same, last_tree, last_rest, expression_root, plain_root, seen}
 use Rattle.calc_algebra.specs.Numbers.{term_of}
 use Rattle.number_forms.specs.Joins.{IsMatch}
 use Rattle.number_forms.specs.declared.joining.Match.{Match}

@@ -1,7 +1,7 @@
 -- Terms as trees, and trees as terms.
 use Rattle.std.proofs.Common.{◌≡◌, ◌≢◌, ℕ, ◌≤◌, ◌<◌, inl, inr, Bool, true, false, not, length, [], if◌then◌else◌, Result, Ok, Err, refl, sym, ap, ◌∙◌, arith}
 use Rattle.std.specs.Prelude.{ℤ, pos, nat_abs, IfOk}
-use Rattle.number_forms.proofs.Shared.{IsClean, Rat, Fraction, lowest, zero_fraction, one_fraction, whole_fraction, fraction_path, IsTerm, IsRadicand, is_term, is_number, natural_of, value, classes, ratio_of, value_of, Term, term, surd_of, Tree, num, symbol, undef, add, mult, power, root, neg, sub, div, none, more, root_kind, is_add, zero_test, whole_numerator, whole_denominator, number_test, number_words, int_is_zero, is_zero, ratio_parts, Forest, Gives, gives_as}
+use Rattle.number_forms.proofs.Shared.{IsClean, Rat, Fraction, lowest, zero_fraction, one_fraction, whole_fraction, fraction_path, IsTerm, IsRadicand, is_term, is_number, natural_of, value, classes, ratio_of, value_of, Term, term, surd_of, Tree, num, mult, root, none, more, root_kind, is_add, zero_test, whole_numerator, whole_denominator, number_test, number_words, int_is_zero, is_zero, ratio_parts, Forest, Gives, gives_as}
 use Rattle.calc_algebra.specs.Numbers.{term_of}
 use Rattle.calc_terms.specs.Ratio.{Ratio, whole}
 use Rattle.calc_algebra.proofs.NumberShapes.{AsNumber, as_number}

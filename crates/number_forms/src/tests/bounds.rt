@@ -1,5 +1,7 @@
 //! Numbers at the bounds within which no call overflows: magnitudes of 2^62, denominators of 30 bits, radicands of 122 bits, and
 //! products whose radicands have 124 bits.
+#![tactic(auto, using(crate::proofs::Pairs::made))]
+
 ghost use Rattle.std.specs.Prelude.{◌≡◌, IfOk, true};
 ghost use Rattle.calc_algebra.specs.Numbers.{is_number};
 ghost use Rattle.tree_handles.specs.Handed.{Gives};

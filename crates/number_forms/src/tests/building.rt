@@ -1,4 +1,6 @@
 //! Numbers that are built from rows.
+#![tactic(auto, using(crate::proofs::Pairs::made))]
+
 ghost use Rattle.std.specs.Prelude.{◌≡◌, ◌<ℤ◌, pos, IfOk, true};
 ghost use Rattle.calc_algebra.specs.Numbers.{is_number};
 ghost use Rattle.calc_terms.specs.Rat.{ratio_of};

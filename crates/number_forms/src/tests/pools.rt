@@ -1,6 +1,8 @@
 //! Calls in pools of just enough bytes and of eight too few. The sizes follow from the order of work: a small whole number
 //! takes 16 bytes, a fraction 40, every other node 8, and beside the operands stand the sum so far and the term that is
 //! joined to it.
+#![tactic(auto, using(crate::proofs::Pairs::made))]
+
 ghost use Rattle.std.specs.Prelude.{◌≡◌, IfOk, true};
 ghost use Rattle.calc_algebra.specs.Numbers.{is_number};
 ghost use Rattle.tree_handles.specs.Handed.{tree_of, IsHanded, Gives};

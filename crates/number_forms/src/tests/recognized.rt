@@ -1,4 +1,6 @@
 //! Which trees are Numbers.
+#![tactic(auto, using(crate::proofs::Pairs::made))]
+
 ghost use Rattle.std.specs.Prelude.{IfOk, ⊤};
 ghost use Rattle.tree_handles.specs.Handed.{Gives};
 ghost use Rattle.tree_handles.specs.Standing.{Stands, forest};

@@ -1,5 +1,7 @@
 //! Calls on Numbers of 1, 2, 4, 8 and 16 classes behind a number of 16 bytes: in a pool of exactly the bytes that the call
 //! needs for so many classes it is answered, and in each smaller one it is answered or refused for bytes.
+#![tactic(auto, using(crate::proofs::Pairs::made))]
+
 ghost use Rattle.std.specs.Prelude.{◌≡◌, IfOk, true};
 ghost use Rattle.calc_algebra.specs.Numbers.{is_number};
 ghost use Rattle.tree_handles.specs.Handed.{Gives};

@@ -1,4 +1,6 @@
 //! Squares and powers of products of all √p + 1, whose coefficients are products of those of (√p + 1)^n = u·√p + v.
+#![tactic(auto, using(crate::proofs::Pairs::made))]
+
 ghost use Rattle.std.specs.Prelude.{◌≡◌, IfOk, true};
 ghost use Rattle.calc_algebra.specs.Numbers.{is_number};
 ghost use Rattle.tree_handles.specs.Handed.{Gives};

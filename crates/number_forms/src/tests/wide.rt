@@ -1,4 +1,6 @@
 //! Numbers of 64 square classes. The product of all p - 1 is that of all √p + 1 and all √p - 1.
+#![tactic(auto, using(crate::proofs::Pairs::made))]
+
 ghost use Rattle.std.specs.Prelude.{◌≡◌, IfOk, true};
 ghost use Rattle.calc_algebra.specs.Numbers.{is_number};
 ghost use Rattle.tree_handles.specs.Handed.{Gives};

@@ -2,11 +2,5 @@ use Rattle.number_forms.proofs.Shared.{given_handed, given_told, given_rest}
 use Rattle.number_forms.proofs.TermTrees.{if_given}
 use Rattle.number_forms.proofs.tests.pools.inverse.Goals as goal
 
-pub inverted-requires-clause-handed : goal.inverted-requires-clause-handed
-inverted-requires-clause-handed c = given_handed c.in_ok-number.ensures.ok
-
-pub inverted-requires-clause-number : goal.inverted-requires-clause-number
-inverted-requires-clause-number c = given_told c.in_ok-number.ensures.ok
-
 pub returns-clause-ok : goal.returns-clause-ok
 returns-clause-ok c = if_given _ _ _ _ _ c.inverted.result c.inverted.ensures.ok (given_rest c.in_ok-number.ensures.ok) (λ t h. h)

@@ -3,12 +3,5 @@ use Rattle.number_forms.proofs.Shared.{given_handed, given_told}
 use Rattle.number_forms.proofs.Pairs.{first_handed, pair_apart, first_told}
 use Rattle.number_forms.proofs.tests.pools.product_of_primes.Goals as goal
 
-pub multiply_numbers-requires : goal.multiply_numbers-requires
-multiply_numbers-requires c = record {
-  stands = search rules;
-  first = first_handed c.in_ok-a.ensures.ok c.in_ok-b.ensures.ok;
-  second = given_handed c.in_ok-b.ensures.ok;
-  apart = pair_apart c.in_ok-a.a c.in_ok-b.b c.in_ok-a.ensures.ok c.in_ok-b.ensures.ok;
-  first_number = first_told c.in_ok-a.ensures.ok c.in_ok-b.ensures.ok ∙ given_told c.in_ok-a.ensures.ok;
-  second_number = given_told c.in_ok-b.ensures.ok;
-}
+pub multiply_numbers-requires-clause-first : goal.multiply_numbers-requires-clause-first
+multiply_numbers-requires-clause-first c = first_handed c.in_ok-a.ensures.ok c.in_ok-b.ensures.ok

@@ -1,15 +1,9 @@
-use Rattle.std.proofs.Common.{◌∙◌}
-use Rattle.number_forms.proofs.Shared.{given_handed, given_other, given_apart, given_rest, given_without, gives_as, eqb-sym}
+use Rattle.number_forms.proofs.Shared.{gives_as}
+use Rattle.number_forms.proofs.Pairs.{first_handed, pair_rest}
 use Rattle.number_forms.proofs.tests.recognized.two.Goals as goal
 
 pub node_over_two-requires-clause-first : goal.node_over_two-requires-clause-first
-node_over_two-requires-clause-first c = given_other c.in_ok-second.ensures.ok (given_handed c.in_ok-first.ensures.ok)
-
-pub node_over_two-requires-clause-second : goal.node_over_two-requires-clause-second
-node_over_two-requires-clause-second c = given_handed c.in_ok-second.ensures.ok
-
-pub node_over_two-requires-clause-apart : goal.node_over_two-requires-clause-apart
-node_over_two-requires-clause-apart c = eqb-sym c.in_ok-second.second c.in_ok-first.first (given_apart c.in_ok-second.ensures.ok (given_handed c.in_ok-first.ensures.ok))
+node_over_two-requires-clause-first c = first_handed c.in_ok-first.ensures.ok c.in_ok-second.ensures.ok
 
 pub returns-clause-ok : goal.returns-clause-ok
-returns-clause-ok c = gives_as c.in_ok-tree.ensures.ok (given_without c.in_ok-second.ensures.ok (given_handed c.in_ok-first.ensures.ok) ∙ given_rest c.in_ok-first.ensures.ok) (λ t e. tt)
+returns-clause-ok c = gives_as c.in_ok-tree.ensures.ok (pair_rest c.in_ok-first.ensures.ok c.in_ok-second.ensures.ok) (λ t e. tt)

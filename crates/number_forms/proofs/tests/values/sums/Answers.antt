@@ -1,8 +1,0 @@
-use Rattle.number_forms.proofs.Shared.{given_handed, given_told}
-use Rattle.number_forms.proofs.tests.values.sums.Goals as goal
-
-pub has_terms-requires-clause-handed : goal.has_terms-requires-clause-handed
-has_terms-requires-clause-handed _ c = given_handed c.in_ok-answer.ensures.ok
-
-pub has_terms-requires-clause-number : goal.has_terms-requires-clause-number
-has_terms-requires-clause-number _ c = given_told c.in_ok-answer.ensures.ok
