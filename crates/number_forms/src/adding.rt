@@ -23,8 +23,9 @@ ghost use Rattle.tree_handles.specs.Faults.{Faults, OfOverflow};
 ghost use Rattle.tree_handles.specs.Roots.{without_root};
 
 use crate::joining::{NOWHERE, join_term};
-use crate::rationals::{is_rational, keep_other, take_rationals};
-use crate::read::{is_zero, term_count};
+use crate::rationals::{keep_other, take_rationals};
+use crate::read::term_count;
+use crate::roots;
 use crate::term::listed_term;
 use calc_terms::{Kind, Rat};
 use child_lists::{ChildList, FEW, MANY, NONE};
@@ -57,7 +58,7 @@ pub fn add_numbers(pool: &mut Pool, a: Handle, b: Handle) -> Result<Handle, Numb
     ensures spanned { (gs : List ℕ) → SpansTree gs (tree_of a pool.old) → SpansTree gs (tree_of b pool.old) → IfOk result (λ h. SpansTree gs (tree_of h pool.new)) }
     ensures stands { Stands pool.new }
 {
-    if is_rational(pool, a.id()) && is_rational(pool, b.id()) {
+    if roots::is_rational(pool, &a) && roots::is_rational(pool, &b) {
         add_rationals(pool, a, b)
     } else {
         add_terms(pool, a, b)
@@ -105,10 +106,10 @@ fn add_terms(pool: &mut Pool, a: Handle, b: Handle) -> Result<Handle, NumberFaul
     ensures second_zero { is_zero (tree_of a pool.old) ≡ false → is_zero (tree_of b pool.old) ≡ true → AnswersItself a pool.old pool.new result }
     ensures stands { Stands pool.new }
 {
-    if is_zero(pool, a.id()) {
+    if roots::is_zero(pool, &a) {
         keep_other(pool, a, &b);
         Ok(b)
-    } else if is_zero(pool, b.id()) {
+    } else if roots::is_zero(pool, &b) {
         keep_other(pool, b, &a);
         Ok(a)
     } else {
@@ -133,7 +134,7 @@ fn add_others(pool: &mut Pool, a: Handle, b: Handle) -> Result<Handle, NumberFau
     ensures room { (gs : List ℕ) → SpansTree gs (tree_of a pool.old) → SpansTree gs (tree_of b pool.old) → IfErr result (LacksRoom sum_need (free_of pool.old + size (tree_of a pool.old) + size (tree_of b pool.old)) gs) }
     ensures stands { Stands pool.new }
 {
-    let terms = term_count(pool, a.id()).saturating_add(term_count(pool, b.id()));
+    let terms = roots::term_count(pool, &a).saturating_add(roots::term_count(pool, &b));
     let terms = usize::from(terms);
     if terms <= 2 {
         add_within::<NONE>(pool, a, b)
@@ -206,7 +207,7 @@ fn sum_over_term(pool: &mut Pool, a: Handle) -> Result<Handle, Full>
     ensures room { IfErr result (λ full. free_of pool.old < 8) }
     ensures stands { Stands pool.new }
 {
-    if is_zero(pool, a.id()) {
+    if roots::is_zero(pool, &a) {
         release(pool, a);
         node(pool, Kind::Add)
     } else {

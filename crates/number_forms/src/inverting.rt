@@ -23,8 +23,7 @@ ghost use Rattle.tree_handles.specs.Roots.{without_root};
 ghost use Rattle.tree_handles.specs.Standing.{Stands, forest, KeepsRefusals, LacksBytes, Refuses};
 
 use crate::placing::place_term;
-use crate::read::term_count;
-use crate::term::nth_term;
+use crate::roots;
 use calc_terms::Kind;
 use node_pool::{Full, Pool};
 use surd_terms::{Term, inverse, inverse_of_sum};
@@ -62,7 +61,7 @@ pub fn invert_number(pool: &mut Pool, a: Handle) -> Result<Inverse, NumberFault>
     ensures spanned { (gs : List ℕ) → SpansTree gs (tree_of a pool.old) → IfOk result (SpansInverse gs pool.new) }
     ensures stands { Stands pool.new }
 {
-    let terms = term_count(pool, a.id());
+    let terms = roots::term_count(pool, &a);
     if terms == 0 {
         release(pool, a);
         Ok(Inverse::Zero)
@@ -92,7 +91,7 @@ fn invert_one(pool: &mut Pool, a: Handle) -> Result<Handle, NumberFault>
     ensures caused { IfErr result (IsCaused pool.new) }
     ensures stands { Stands pool.new }
 {
-    let inverse = inverse(nth_term(pool, a.id(), 0))?;
+    let inverse = inverse(roots::nth_term(pool, &a, 0))?;
     release(pool, a);
     Ok(place_term(pool, inverse)?)
 }
@@ -113,8 +112,8 @@ fn invert_two(pool: &mut Pool, a: Handle) -> Result<Handle, NumberFault>
     ensures caused { IfErr result (IsCaused pool.new) }
     ensures stands { Stands pool.new }
 {
-    let first = nth_term(pool, a.id(), 0);
-    let second = nth_term(pool, a.id(), 1);
+    let first = roots::nth_term(pool, &a, 0);
+    let second = roots::nth_term(pool, &a, 1);
     let inverse = inverse_of_sum(first, second)?;
     release(pool, a);
     Ok(place_sum(pool, inverse.0, inverse.1)?)

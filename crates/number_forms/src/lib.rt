@@ -12,6 +12,7 @@ mod radicand;
 mod rationals;
 mod read;
 mod recognize;
+mod roots;
 mod shape;
 mod squaring;
 mod term;

@@ -26,8 +26,9 @@ ghost use Rattle.tree_handles.specs.Standing.{Stands, forest, KeepsRefusals};
 
 use crate::adding::number_of;
 use crate::joining::{clean_radicand, join_term};
-use crate::rationals::{is_rational, keep_other, take_rationals};
-use crate::read::{is_num_one, term_count};
+use crate::rationals::{keep_other, take_rationals};
+use crate::read::term_count;
+use crate::roots;
 use crate::term::{listed_term, nth_term};
 use calc_terms::Kind;
 use child_lists::{ChildList, FEW, MANY, NONE};
@@ -59,7 +60,7 @@ pub fn multiply_numbers(pool: &mut Pool, a: Handle, b: Handle) -> Result<Handle,
     ensures spanned { (gs : List ℕ) → SpansTree gs (tree_of a pool.old) → SpansTree gs (tree_of b pool.old) → IfOk result (λ h. SpansTree gs (tree_of h pool.new)) }
     ensures stands { Stands pool.new }
 {
-    if is_rational(pool, a.id()) && is_rational(pool, b.id()) {
+    if roots::is_rational(pool, &a) && roots::is_rational(pool, &b) {
         multiply_rationals(pool, a, b)
     } else {
         multiply_terms(pool, a, b)
@@ -107,10 +108,10 @@ fn multiply_terms(pool: &mut Pool, a: Handle, b: Handle) -> Result<Handle, Numbe
     ensures second_one { is_num_one (tree_of a pool.old) ≡ false → is_num_one (tree_of b pool.old) ≡ true → AnswersItself a pool.old pool.new result }
     ensures stands { Stands pool.new }
 {
-    if is_num_one(pool, a.id()) {
+    if roots::is_num_one(pool, &a) {
         keep_other(pool, a, &b);
         Ok(b)
-    } else if is_num_one(pool, b.id()) {
+    } else if roots::is_num_one(pool, &b) {
         keep_other(pool, b, &a);
         Ok(a)
     } else {
@@ -157,7 +158,7 @@ pub(crate) fn product_of(pool: &mut Pool, a: &Handle, b: &Handle) -> Result<Hand
     ensures room { (gs : List ℕ) → SpansTree gs (tree_of a.now pool.old) → SpansTree gs (tree_of b.now pool.old) → IfErr result (LacksRoom joining_need (free_of pool.old) gs) }
     ensures stands { Stands pool.new }
 {
-    let terms = term_count(pool, a.id()).saturating_mul(term_count(pool, b.id()));
+    let terms = roots::term_count(pool, a).saturating_mul(roots::term_count(pool, b));
     let terms = usize::from(terms);
     if terms <= 1 {
         product_within::<NONE>(pool, a, b)

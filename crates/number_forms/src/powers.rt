@@ -21,7 +21,8 @@ ghost use Rattle.tree_handles.specs.Roots.{without_root};
 ghost use Rattle.tree_handles.specs.Standing.{Stands, forest, KeepsRefusals};
 
 use crate::multiplying::product_of;
-use crate::rationals::{is_rational, take_rational};
+use crate::rationals::take_rational;
+use crate::roots;
 use crate::squaring::square_of;
 use node_pool::Pool;
 use rational128::pow;
@@ -46,7 +47,7 @@ pub fn power_number(pool: &mut Pool, a: Handle, n: i128) -> Result<Handle, Numbe
     ensures spanned { (gs : List ℕ) → SpansTree gs (tree_of a pool.old) → IfOk result (λ h. SpansTree gs (tree_of h pool.new)) }
     ensures stands { Stands pool.new }
 {
-    if is_rational(pool, a.id()) {
+    if roots::is_rational(pool, &a) {
         power_rational(pool, a, n)
     } else if n == 1 {
         move_last(pool, &a);

@@ -24,6 +24,7 @@ use crate::adding::number_of;
 use crate::joining::{NOWHERE, join_term};
 use crate::multiplying::join_products;
 use crate::read::term_count;
+use crate::roots;
 use crate::term::listed_term;
 use calc_terms::Kind;
 use child_lists::{ChildList, FEW, MANY, NONE};
@@ -46,7 +47,7 @@ pub(crate) fn square_of(pool: &mut Pool, a: &Handle) -> Result<Handle, NumberFau
     ensures room { (gs : List ℕ) → SpansTree gs (tree_of a.now pool.old) → IfErr result (LacksRoom joining_need (free_of pool.old) gs) }
     ensures stands { Stands pool.new }
 {
-    let terms = term_count(pool, a.id());
+    let terms = roots::term_count(pool, a);
     let pairs = usize::from(terms.saturating_mul(terms) / 2);
     if pairs == 0 {
         square_within::<NONE>(pool, a)

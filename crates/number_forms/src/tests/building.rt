@@ -7,9 +7,7 @@ ghost use Rattle.calc_terms.specs.Rat.{ratio_of};
 ghost use Rattle.tree_handles.specs.Handed.{tree_of, IsHanded, Gives};
 ghost use Rattle.tree_handles.specs.Standing.{Stands, forest};
 
-use crate::read::term_count;
-use crate::term::nth_term;
-use crate::{add_numbers, multiply_numbers, place_term};
+use crate::{add_numbers, multiply_numbers, place_term, roots};
 use calc_terms::Rat;
 use node_pool::Pool;
 use rational128::Overflow;
@@ -122,12 +120,11 @@ pub(super) fn has_terms(pool: &Pool, number: &Handle, rows: &Rows) -> bool
     requires handed { IsHanded number.now (forest pool.now) }
     requires number { is_number (tree_of number.now pool.now) ≡ true }
 {
-    let id = number.id();
-    let count = term_count(pool, id);
+    let count = roots::term_count(pool, number);
     let mut at = 0;
     for row in rows {
         if row[0] != 0 {
-            if at >= count || !is_row(nth_term(pool, id, at), row) {
+            if at >= count || !is_row(roots::nth_term(pool, number, at), row) {
                 return false;
             }
             at += 1;
@@ -142,10 +139,9 @@ pub(super) fn has_terms_at(pool: &Pool, number: &Handle, rows: &[(u16, Row); 4])
     requires handed { IsHanded number.now (forest pool.now) }
     requires number { is_number (tree_of number.now pool.now) ≡ true }
 {
-    let id = number.id();
-    let count = term_count(pool, id);
+    let count = roots::term_count(pool, number);
     for (at, row) in rows {
-        if *at >= count || !is_row(nth_term(pool, id, *at), row) {
+        if *at >= count || !is_row(roots::nth_term(pool, number, *at), row) {
             return false;
         }
     }

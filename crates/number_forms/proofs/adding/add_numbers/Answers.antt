@@ -1,6 +1,5 @@
-use Rattle.std.proofs.Common.{◌≡◌, true, sym, ap, ◌∙◌}
-use Rattle.std.specs.Prelude.{◌&&◌}
-use Rattle.number_forms.proofs.Shared.{tree_of, is_num, refused_as, expression, seen}
+use Rattle.std.proofs.Common.{sym, ap, ◌∙◌}
+use Rattle.number_forms.proofs.Shared.{tree_of, is_num, refused_as}
 use Rattle.number_forms.proofs.Kept.{no_zero}
 use Rattle.number_forms.proofs.Over.{if_number, if_no_larger, of_over}
 use Rattle.number_forms.proofs.RationalBits.{sum_not_refused}
@@ -20,37 +19,14 @@ pub returns-else-is_rational-clause-spanned : goal.returns-else-is_rational-clau
 returns-else-is_rational-clause-spanned c = λ gs s t.
     answer_spans gs c.add_terms.result _ c.add_terms.new.pool c.add_terms.ensures.ok (λ u h. sum_spans gs _ _ u c.requires.first_number c.requires.second_number (of_over h) s t)
 
-pub is_rational-requires-clause-expression : goal.is_rational-requires-clause-expression
-is_rational-requires-clause-expression c = expression c.id.ensures c.requires.stands c.requires.first
-
-pub is_rational-requires-then-is_rational-clause-expression : goal.is_rational-requires-then-is_rational-clause-expression
-is_rational-requires-then-is_rational-clause-expression c = expression c.id-then-is_rational.ensures c.requires.stands c.requires.second
-
-pub add_rationals-requires-clause-first_rational : goal.add_rationals-requires-clause-first_rational
-add_rationals-requires-clause-first_rational c =
-    sym (c.is_rational.ensures ∙ ap is_num (seen c.id.ensures c.requires.stands c.requires.first)) ∙ c.if-is_rational.true
-
-pub add_rationals-requires-clause-second_rational : goal.add_rationals-requires-clause-second_rational
-add_rationals-requires-clause-second_rational c =
-    sym (c.is_rational-then-is_rational.ensures ∙ ap is_num (seen c.id-then-is_rational.ensures c.requires.stands c.requires.second)) ∙ c.if-is_rational-2.true
-
 pub returns-else-is_rational-clause-rationals : goal.returns-else-is_rational-clause-rationals
 returns-else-is_rational-clause-rationals c = λ p q k l.
     absurd (elim c.else-is_rational.branch [
       | else-is_rational-via-then-is_rational+else-is_rational-2 w ↦
-          let read = w.is_rational-then-is_rational.ensures ∙ ap is_num (seen w.id-then-is_rational.ensures c.requires.stands c.requires.second) in
-          cc (read ∙ ap is_num l, w.if-is_rational-2.false)
+          cc (w.is_rational-then-is_rational.ensures ∙ ap is_num l, w.if-is_rational-2.false)
       | else-is_rational-via-else-is_rational w ↦
-          let read = c.is_rational.ensures ∙ ap is_num (seen c.id.ensures c.requires.stands c.requires.first) in
-          cc (read ∙ ap is_num k, w.if-is_rational.false)
+          cc (c.is_rational.ensures ∙ ap is_num k, w.if-is_rational.false)
     ])
-
-pub returns-then-is_rational-2-clause-overflow : goal.returns-then-is_rational-2-clause-overflow
-returns-then-is_rational-2-clause-overflow c = λ other.
-    let first = sym (c.is_rational.ensures ∙ ap is_num (seen c.id.ensures c.requires.stands c.requires.first)) ∙ c.if-is_rational.true in
-    let second = sym (c.is_rational-then-is_rational.ensures ∙ ap is_num (seen c.id-then-is_rational.ensures c.requires.stands c.requires.second)) ∙ c.if-is_rational-2.true in
-    let both : (is_num (tree_of c.args.a c.args.pool.now) && is_num (tree_of c.args.b c.args.pool.now)) ≡ true = λ i. first i && second i in
-    absurd (cc (both, other))
 
 pub returns-then-is_rational-2-clause-ok : goal.returns-then-is_rational-2-clause-ok
 returns-then-is_rational-2-clause-ok c = if_number c.add_rationals.result _ _ _ c.add_rationals.ensures.ok
@@ -66,22 +42,14 @@ returns-else-is_rational-clause-measured c = if_no_larger c.add_terms.result _ c
 
 pub returns-then-is_rational-2-clause-bits : goal.returns-then-is_rational-2-clause-bits
 returns-then-is_rational-2-clause-bits c = λ few.
-    let first = sym (c.is_rational.ensures ∙ ap is_num (seen c.id.ensures c.requires.stands c.requires.first)) ∙ c.if-is_rational.true in
-    let second = sym (c.is_rational-then-is_rational.ensures ∙ ap is_num (seen c.id-then-is_rational.ensures c.requires.stands c.requires.second)) ∙ c.if-is_rational-2.true in
+    let first = sym c.is_rational.ensures ∙ c.if-is_rational.true in
+    let second = sym c.is_rational-then-is_rational.ensures ∙ c.if-is_rational-2.true in
     sum_not_refused (tree_of c.args.a c.args.pool.now) (tree_of c.args.b c.args.pool.now) c.add_rationals.new.pool c.add_rationals.result first second c.add_rationals.ensures.rationals few
 
 pub returns-else-is_rational-clause-bits : goal.returns-else-is_rational-clause-bits
 returns-else-is_rational-clause-bits c = λ few. refused_as c.add_terms.result c.add_terms.ensures.overflow (λ o s. absurd (sum_within _ _ o few s))
 
 -- ---- a tree that stays as it is
-
-pub returns-then-is_rational-2-clause-first_zero : goal.returns-then-is_rational-2-clause-first_zero
-returns-then-is_rational-2-clause-first_zero c = λ zero other.
-    absurd (cc (sym (c.is_rational-then-is_rational.ensures ∙ ap is_num (seen c.id-then-is_rational.ensures c.requires.stands c.requires.second)) ∙ c.if-is_rational-2.true, other))
-
-pub returns-then-is_rational-2-clause-second_zero : goal.returns-then-is_rational-2-clause-second_zero
-returns-then-is_rational-2-clause-second_zero c = λ zero other.
-    absurd (cc (sym (c.is_rational.ensures ∙ ap is_num (seen c.id.ensures c.requires.stands c.requires.first)) ∙ c.if-is_rational.true, other))
 
 pub returns-else-is_rational-clause-first_zero : goal.returns-else-is_rational-clause-first_zero
 returns-else-is_rational-clause-first_zero c = λ zero other. c.add_terms.ensures.first_zero zero

@@ -1,5 +1,5 @@
-use Rattle.std.proofs.Common.{sym, ap, ◌∙◌, refl, ◌<◌, arith}
-use Rattle.number_forms.proofs.Shared.{bare, is_zero, tree_of, behind_first, front_same, front_at, front_end, front_without, front_after, represents_none, represents_handed, represents_with, represents_node, gives, owned, last_held, last_apart, other_root, free_of, Full, refused_below, passed_on, released_free, expression, seen}
+use Rattle.std.proofs.Common.{sym, ◌∙◌, refl, ◌<◌, arith}
+use Rattle.number_forms.proofs.Shared.{bare, tree_of, behind_first, front_same, front_at, front_end, front_without, front_after, represents_none, represents_handed, represents_with, represents_node, gives, owned, last_held, last_apart, other_root, free_of, Full, refused_below, passed_on, released_free}
 use Rattle.number_forms.proofs.Shaped.{no_term_sum_of, one_term_sum_of}
 use Rattle.number_forms.proofs.TermTrees.{if_given, nonzero_term, zero_value}
 use Rattle.number_forms.proofs.Rooms.{refusal_as}
@@ -15,9 +15,6 @@ pub returns-in_err-sum-clause-room : goal.returns-in_err-sum-clause-room
 returns-in_err-sum-clause-room c =
     passed_on c.from_residual.result c.in_err-sum.field-0.0 (λ (full : Full). free_of c.args.pool.now < 8) c.from_residual.ensures.0 c.from_residual.ensures.1 (refused_below c.in_err-sum.ensures.full)
 
-pub is_zero-requires-clause-expression : goal.is_zero-requires-clause-expression
-is_zero-requires-clause-expression c = expression c.id.ensures c.requires.stands c.requires.handed
-
 pub add_child-requires-clause-live : goal.add_child-requires-clause-live
 add_child-requires-clause-live c = last_held c.in_ok-sum.ensures.ok
 
@@ -29,8 +26,7 @@ add_child-requires-clause-apart c = last_apart c.args.a c.in_ok-sum.ensures.stan
 
 pub returns-then-is_zero-clause-ok : goal.returns-then-is_zero-clause-ok
 returns-then-is_zero-clause-ok c =
-    let same = seen c.id.ensures c.requires.stands c.requires.handed in
-    let zero = sym (c.is_zero.ensures ∙ ap is_zero same) ∙ c.if-is_zero.true in
+    let zero = sym c.is_zero.ensures ∙ c.if-is_zero.true in
     if_given _ _ _ _ _ c.node.result (c.node.ensures.given refl) (c.release.ensures.owned (owned c.requires.handed)) (λ t e. no_term_sum_of _ t (zero_value (tree_of c.args.a c.args.pool.now) zero) e)
 
 pub returns-then-is_zero-clause-front : goal.returns-then-is_zero-clause-front
@@ -38,8 +34,7 @@ returns-then-is_zero-clause-front c = front_after (front_at (front_without behin
 
 pub returns-in_ok-sum-clause-ok : goal.returns-in_ok-sum-clause-ok
 returns-in_ok-sum-clause-ok c =
-    let same = seen c.id.ensures c.requires.stands c.requires.handed in
-    let nonzero = sym (c.is_zero.ensures ∙ ap is_zero same) ∙ c.if-is_zero.false in
+    let nonzero = sym c.is_zero.ensures ∙ c.if-is_zero.false in
     gives (c.add_child.ensures.last _ _ c.in_ok-sum.ensures.ok c.requires.handed.root)
     (represents_node c.in_ok-sum.sum (bare kind.Add) (represents_with 0 (represents_handed c.requires.handed) represents_none) refl)
     (one_term_sum_of (tree_of c.args.a c.args.pool.now) _ (nonzero_term (tree_of c.args.a c.args.pool.now) c.requires.number c.requires.no_sum nonzero) refl)

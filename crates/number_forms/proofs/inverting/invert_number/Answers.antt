@@ -1,5 +1,5 @@
-use Rattle.std.proofs.Common.{◌≡◌, ◌≢◌, ◌≤◌, ℕ, refl, sym, ap, ◌∙◌, arith, ◌+◌}
-use Rattle.number_forms.proofs.Shared.{is_number, value, classes, tree_of, behind_first, front_same, front_at, front_without, owned, given_told, OfOverflow, passed_on, overflow_as, inverse_need, size, free_of, LacksRoom, expression, seen}
+use Rattle.std.proofs.Common.{◌≡◌, ◌≢◌, ◌≤◌, ℕ, refl, sym, ◌∙◌, arith, ◌+◌}
+use Rattle.number_forms.proofs.Shared.{value, classes, tree_of, behind_first, front_same, front_at, front_without, owned, given_told, OfOverflow, passed_on, overflow_as, inverse_need, size, free_of, LacksRoom}
 use Rattle.number_forms.proofs.InverseBits.{inverse_no_larger}
 use Rattle.number_forms.proofs.WithinBits.{inverse_within}
 use Rattle.number_forms.proofs.Placings.{rational_classes}
@@ -14,7 +14,7 @@ returns-in_err-invert_one-clause-room c = λ gs.
 
 pub returns-in_ok-invert_one-clause-spanned : goal.returns-in_ok-invert_one-clause-spanned
 returns-in_ok-invert_one-clause-spanned c = λ gs s.
-    let few : classes (tree_of c.args.a c.args.pool.now) ≡ 1 = sym (c.term_count-terms.ensures ∙ ap classes (seen c.id.ensures c.requires.stands c.requires.handed)) ∙ c.if-terms-eq1.true in
+    let few : classes (tree_of c.args.a c.args.pool.now) ≡ 1 = sym c.term_count-terms.ensures ∙ c.if-terms-eq1.true in
     inverse_spans gs _ _ c.requires.number (omega (arith, few)) (given_told c.in_ok-invert_one.ensures.ok) s
 
 pub returns-in_err-invert_two-clause-room : goal.returns-in_err-invert_two-clause-room
@@ -24,7 +24,7 @@ returns-in_err-invert_two-clause-room c = λ gs.
 
 pub returns-in_ok-invert_two-clause-spanned : goal.returns-in_ok-invert_two-clause-spanned
 returns-in_ok-invert_two-clause-spanned c = λ gs s.
-    let few : classes (tree_of c.args.a c.args.pool.now) ≡ 2 = sym (c.term_count-terms.ensures ∙ ap classes (seen c.id.ensures c.requires.stands c.requires.handed)) ∙ c.if-terms-eq2.true in
+    let few : classes (tree_of c.args.a c.args.pool.now) ≡ 2 = sym c.term_count-terms.ensures ∙ c.if-terms-eq2.true in
     inverse_spans gs _ _ c.requires.number (omega (arith, few)) (given_told c.in_ok-invert_two.ensures.ok) s
 
 pub returns-else-terms-eq2-clause-spanned : goal.returns-else-terms-eq2-clause-spanned
@@ -33,21 +33,9 @@ returns-else-terms-eq2-clause-spanned c = λ gs s. s
 three_from : (n : ℕ) → n ≢ 0 → n ≢ 1 → n ≢ 2 → 3 ≤ n
 three_from n x y z = grind arith
 
-pub term_count-terms-requires-clause-expression : goal.term_count-terms-requires-clause-expression
-term_count-terms-requires-clause-expression c = expression c.id.ensures c.requires.stands c.requires.handed
-
-pub term_count-terms-requires-clause-number : goal.term_count-terms-requires-clause-number
-term_count-terms-requires-clause-number c = ap is_number (seen c.id.ensures c.requires.stands c.requires.handed) ∙ c.requires.number
-
-pub invert_one-requires-clause-classes : goal.invert_one-requires-clause-classes
-invert_one-requires-clause-classes c = sym (c.term_count-terms.ensures ∙ ap classes (seen c.id.ensures c.requires.stands c.requires.handed)) ∙ c.if-terms-eq1.true
-
-pub invert_two-requires-clause-classes : goal.invert_two-requires-clause-classes
-invert_two-requires-clause-classes c = sym (c.term_count-terms.ensures ∙ ap classes (seen c.id.ensures c.requires.stands c.requires.handed)) ∙ c.if-terms-eq2.true
-
 pub returns-then-terms-eq0-clause-ok : goal.returns-then-terms-eq0-clause-ok
 returns-then-terms-eq0-clause-ok c =
-    let none : classes (tree_of c.args.a c.args.pool.now) ≡ 0 = sym (c.term_count-terms.ensures ∙ ap classes (seen c.id.ensures c.requires.stands c.requires.handed)) ∙ c.if-terms-eq0.true in
+    let none : classes (tree_of c.args.a c.args.pool.now) ≡ 0 = sym c.term_count-terms.ensures ∙ c.if-terms-eq0.true in
     (none, c.release.ensures.owned (owned c.requires.handed))
 
 pub returns-then-terms-eq0-clause-front : goal.returns-then-terms-eq0-clause-front
@@ -55,35 +43,35 @@ returns-then-terms-eq0-clause-front c = front_at (front_without behind_first fro
 
 pub returns-in_ok-invert_one-clause-ok : goal.returns-in_ok-invert_one-clause-ok
 returns-in_ok-invert_one-clause-ok c =
-    let one : classes (tree_of c.args.a c.args.pool.now) ≡ 1 = sym (c.term_count-terms.ensures ∙ ap classes (seen c.id.ensures c.requires.stands c.requires.handed)) ∙ c.if-terms-eq1.true in
+    let one : classes (tree_of c.args.a c.args.pool.now) ≡ 1 = sym c.term_count-terms.ensures ∙ c.if-terms-eq1.true in
     (omega (arith, one), omega (arith, one), c.in_ok-invert_one.ensures.ok)
 
 pub returns-in_ok-invert_two-clause-ok : goal.returns-in_ok-invert_two-clause-ok
 returns-in_ok-invert_two-clause-ok c =
-    let two : classes (tree_of c.args.a c.args.pool.now) ≡ 2 = sym (c.term_count-terms.ensures ∙ ap classes (seen c.id.ensures c.requires.stands c.requires.handed)) ∙ c.if-terms-eq2.true in
+    let two : classes (tree_of c.args.a c.args.pool.now) ≡ 2 = sym c.term_count-terms.ensures ∙ c.if-terms-eq2.true in
     (omega (arith, two), omega (arith, two), c.in_ok-invert_two.ensures.ok)
 
 pub returns-else-terms-eq2-clause-ok : goal.returns-else-terms-eq2-clause-ok
 returns-else-terms-eq2-clause-ok c =
-    let all : c.term_count-terms.result ≡ classes (tree_of c.args.a c.args.pool.now) = c.term_count-terms.ensures ∙ ap classes (seen c.id.ensures c.requires.stands c.requires.handed) in
+    let all : c.term_count-terms.result ≡ classes (tree_of c.args.a c.args.pool.now) = c.term_count-terms.ensures in
     let many : 3 ≤ c.term_count-terms.result = three_from c.term_count-terms.result c.if-terms-eq0.false c.if-terms-eq1.false c.if-terms-eq2.false in
     (omega (arith, all, many), refl, refl)
 
 pub returns-in_err-invert_two-clause-rational : goal.returns-in_err-invert_two-clause-rational
 returns-in_err-invert_two-clause-rational c = λ q e.
-    let two = sym (c.term_count-terms.ensures ∙ ap classes (seen c.id.ensures c.requires.stands c.requires.handed)) ∙ c.if-terms-eq2.true in
+    let two = sym c.term_count-terms.ensures ∙ c.if-terms-eq2.true in
     absurd (rational_classes (tree_of c.args.a c.args.pool.now) q e two)
 
 -- ---- exactly where there is an inverse, or none to make
 
 pub returns-then-terms-eq0-clause-exactly : goal.returns-then-terms-eq0-clause-exactly
 returns-then-terms-eq0-clause-exactly c =
-    let none = sym (c.term_count-terms.ensures ∙ ap classes (seen c.id.ensures c.requires.stands c.requires.handed)) ∙ c.if-terms-eq0.true in
+    let none = sym c.term_count-terms.ensures ∙ c.if-terms-eq0.true in
     (λ _. none_to_make (value (tree_of c.args.a c.args.pool.now)) _ none, λ _. refl)
 
 pub returns-else-terms-eq2-clause-exactly : goal.returns-else-terms-eq2-clause-exactly
 returns-else-terms-eq2-clause-exactly c =
-    let all : c.term_count-terms.result ≡ classes (tree_of c.args.a c.args.pool.now) = c.term_count-terms.ensures ∙ ap classes (seen c.id.ensures c.requires.stands c.requires.handed) in
+    let all : c.term_count-terms.result ≡ classes (tree_of c.args.a c.args.pool.now) = c.term_count-terms.ensures in
     let many : 3 ≤ c.term_count-terms.result = three_from c.term_count-terms.result c.if-terms-eq0.false c.if-terms-eq1.false c.if-terms-eq2.false in
     (λ _. too_wide (value (tree_of c.args.a c.args.pool.now)) _ (omega (arith, all, many)), λ _. refl)
 

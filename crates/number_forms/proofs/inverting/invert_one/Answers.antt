@@ -1,21 +1,10 @@
-use Rattle.std.proofs.Common.{rules, ◌≡◌, Some, sym, ap, ◌∙◌, arith, [], ◌∷◌, ◌≤◌, ◌+◌, refl}
-use Rattle.std.specs.Prelude.{slice_get}
-use Rattle.number_forms.proofs.Shared.{is_number, value, classes, Tree, more, none, size, inverse_trees, LacksInverse, OfFull, num_least, building, OnlyLacksLongForm, inverse_of, tree_of, term_of, behind_first, front_same, front_at, front_without, front_after, gives_as, owned, InverseOverflows, inverting_calculations, OfOverflow, passed_on, first_misfit, calculation_of, Term, free_of, released_free, term_tree, expression, seen}
+use Rattle.std.proofs.Common.{◌≡◌, sym, ap, ◌∙◌, arith, [], ◌∷◌, ◌≤◌, ◌+◌, refl}
+use Rattle.number_forms.proofs.Shared.{value, Tree, more, none, size, inverse_trees, LacksInverse, OfFull, num_least, building, OnlyLacksLongForm, inverse_of, tree_of, term_of, behind_first, front_same, front_at, front_without, front_after, gives_as, owned, InverseOverflows, inverting_calculations, OfOverflow, passed_on, first_misfit, calculation_of, Term, free_of, released_free, term_tree}
 use Rattle.number_forms.proofs.InverseSteps.{only_term, inverse_term, tree_of_one, fits_as, unfit, has_inverse, room_for, lacks_inverse}
 use Rattle.number_forms.proofs.Placings.{number_alone, rational_radicand, rational_term, refused, given_tree}
 use Rattle.number_forms.proofs.inverting.invert_one.Goals.{After-nth_term}
 use Rattle.tree_handles.specs.declared.fault.NumberFault.TheVariants as fault
 use Rattle.number_forms.proofs.inverting.invert_one.Goals as goal
-
-pub nth_term-requires : goal.nth_term-requires
-nth_term-requires c =
-    let same = ap classes (seen c.id.ensures c.requires.stands c.requires.handed) in
-    record {
-      stands = search rules;
-      expression = expression c.id.ensures c.requires.stands c.requires.handed;
-      number = ap is_number (seen c.id.ensures c.requires.stands c.requires.handed) ∙ c.requires.number;
-      within = omega (arith, same, c.requires.classes);
-    }
 
 pub returns-in_err-place_term-clause-front : goal.returns-in_err-place_term-clause-front
 returns-in_err-place_term-clause-front c = front_after (front_at (front_without behind_first front_same) (c.release.ensures.owned (owned c.requires.handed))) c.place_term.ensures.front
@@ -25,26 +14,21 @@ returns-clause-front c = front_after (front_at (front_without behind_first front
 
 pub returns-clause-ok : goal.returns-clause-ok
 returns-clause-ok c =
-    let same = seen c.id.ensures c.requires.stands c.requires.handed in
     let x = term_of c.nth_term.result in
-    let first : slice_get (value (tree_of c.args.a c.args.pool.now)) 0 ≡ Some x = ap (λ (t : Tree). slice_get (value t) 0) (sym same) ∙ c.nth_term.ensures in
-    let one = only_term (value (tree_of c.args.a c.args.pool.now)) x c.requires.classes first in
+    let one = only_term (value (tree_of c.args.a c.args.pool.now)) x c.requires.classes c.nth_term.ensures in
     gives_as (given_tree c.in_ok-place_term.ensures.ok c.in_ok-place_term.ensures.tree) (c.release.ensures.owned (owned c.requires.handed))
     (λ t h. inverse_term (value (tree_of c.args.a c.args.pool.now)) t x (term_of c.in_ok-inverse.inverse) one c.in_ok-inverse.ensures.inverts h.0.0 h.0.1
     (tree_of_one (value (tree_of c.args.a c.args.pool.now)) x (term_of c.in_ok-inverse.inverse) one c.in_ok-inverse.ensures.value ∙ ap (λ (u : Tree). more u none) (sym h.1)))
 
 pub returns-in_err-inverse-clause-overflow : goal.returns-in_err-inverse-clause-overflow
 returns-in_err-inverse-clause-overflow c =
-    let same = seen c.id.ensures c.requires.stands c.requires.handed in
     let x = term_of c.nth_term.result in
-    let first : slice_get (value (tree_of c.args.a c.args.pool.now)) 0 ≡ Some x = ap (λ (t : Tree). slice_get (value t) 0) (sym same) ∙ c.nth_term.ensures in
     passed_on c.from_residual.result (fault.Overflow c.in_err-inverse.field-0.0) (OfOverflow (InverseOverflows (value (tree_of c.args.a c.args.pool.now)))) c.from_residual.ensures.0 c.from_residual.ensures.1
-    (c.in_err-inverse.ensures.overflow ∙ ap (λ v. first_misfit (inverting_calculations v)) (sym (only_term (value (tree_of c.args.a c.args.pool.now)) x c.requires.classes first)))
+    (c.in_err-inverse.ensures.overflow ∙ ap (λ v. first_misfit (inverting_calculations v)) (sym (only_term (value (tree_of c.args.a c.args.pool.now)) x c.requires.classes c.nth_term.ensures)))
 
 only : (c : After-nth_term) → value (tree_of c.args.a c.args.pool.now) ≡ term_of c.nth_term.result ∷ []
 only c =
-    let same = seen c.id.ensures c.requires.stands c.requires.handed in
-    only_term (value (tree_of c.args.a c.args.pool.now)) (term_of c.nth_term.result) c.requires.classes (ap (λ (t : Tree). slice_get (value t) 0) (sym same) ∙ c.nth_term.ensures)
+    only_term (value (tree_of c.args.a c.args.pool.now)) (term_of c.nth_term.result) c.requires.classes c.nth_term.ensures
 
 pub returns-in_err-inverse-clause-rational : goal.returns-in_err-inverse-clause-rational
 returns-in_err-inverse-clause-rational c = λ q e. absurd (cc (c.in_err-inverse.ensures.rational (rational_radicand (tree_of c.args.a c.args.pool.now) q _ e (only (goal.at.returns-in_err-inverse-clause-rational c).After-nth_term))))

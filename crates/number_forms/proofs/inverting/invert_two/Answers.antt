@@ -1,40 +1,17 @@
-use Rattle.std.proofs.Common.{rules, ◌≡◌, ◌≤◌, ◌+◌, [], ◌∷◌, Some, refl, sym, ap, ◌∙◌, arith}
-use Rattle.std.specs.Prelude.{slice_get}
-use Rattle.number_forms.proofs.Shared.{is_number, value, classes, Tree, more, none, size, Term, free_of, inverse_trees, LacksInverse, OfFull, sum_of_terms, first_of_inverse, second_of_inverse, released_free, InverseOverflows, inverting_calculations, OfOverflow, passed_on, first_misfit, calculation_of, tree_of, term_of, behind_first, front_same, front_at, front_without, front_after, gives_as, owned, expression, seen}
+use Rattle.std.proofs.Common.{◌≡◌, ◌≤◌, ◌+◌, [], ◌∷◌, refl, sym, ap, ◌∙◌, arith}
+use Rattle.number_forms.proofs.Shared.{value, Tree, more, none, size, Term, free_of, inverse_trees, LacksInverse, OfFull, sum_of_terms, first_of_inverse, second_of_inverse, released_free, InverseOverflows, inverting_calculations, OfOverflow, passed_on, first_misfit, calculation_of, tree_of, term_of, behind_first, front_same, front_at, front_without, front_after, gives_as, owned}
 use Rattle.number_forms.proofs.InverseSteps.{both_terms, apart_terms, inverse_number, two_rise, tree_of_two, fits_as, unfit, has_inverse, room_for, lacks_inverse}
 use Rattle.number_forms.proofs.Placings.{refused, given_tree}
 use Rattle.number_forms.proofs.inverting.invert_two.Goals.{After-nth_term-second}
 use Rattle.tree_handles.specs.declared.fault.NumberFault.TheVariants as fault
 use Rattle.number_forms.proofs.inverting.invert_two.Goals as goal
 
-pub nth_term-first-requires : goal.nth_term-first-requires
-nth_term-first-requires c =
-    let same = ap classes (seen c.id.ensures c.requires.stands c.requires.handed) in
-    record {
-      stands = search rules;
-      expression = expression c.id.ensures c.requires.stands c.requires.handed;
-      number = ap is_number (seen c.id.ensures c.requires.stands c.requires.handed) ∙ c.requires.number;
-      within = omega (arith, same, c.requires.classes);
-    }
-
-pub nth_term-second-requires : goal.nth_term-second-requires
-nth_term-second-requires c =
-    let same = ap classes (seen c.id-2.ensures c.requires.stands c.requires.handed) in
-    record {
-      stands = search rules;
-      expression = expression c.id-2.ensures c.requires.stands c.requires.handed;
-      number = ap is_number (seen c.id-2.ensures c.requires.stands c.requires.handed) ∙ c.requires.number;
-      within = omega (arith, same, c.requires.classes);
-    }
-
 both : (c : After-nth_term-second) → value (tree_of c.args.a c.args.pool.now) ≡ term_of c.nth_term-first.result ∷ term_of c.nth_term-second.result ∷ []
 both c =
     let sum = tree_of c.args.a c.args.pool.now in
     let x = term_of c.nth_term-first.result in
     let y = term_of c.nth_term-second.result in
-    let first : slice_get (value sum) 0 ≡ Some x = ap (λ (t : Tree). slice_get (value t) 0) (sym (seen c.id.ensures c.requires.stands c.requires.handed)) ∙ c.nth_term-first.ensures in
-    let second : slice_get (value sum) 1 ≡ Some y = ap (λ (t : Tree). slice_get (value t) 1) (sym (seen c.id-2.ensures c.requires.stands c.requires.handed)) ∙ c.nth_term-second.ensures in
-    both_terms (value sum) x y c.requires.classes first second
+    both_terms (value sum) x y c.requires.classes c.nth_term-first.ensures c.nth_term-second.ensures
 
 made : (c : After-nth_term-second) (p q : Term) → p ≡ first_of_inverse (term_of c.nth_term-first.result) (term_of c.nth_term-second.result) → q ≡ second_of_inverse (term_of c.nth_term-first.result) (term_of c.nth_term-second.result)
     → inverse_trees (value (tree_of c.args.a c.args.pool.now)) ≡ more (sum_of_terms p q) none

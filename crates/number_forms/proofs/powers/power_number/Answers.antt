@@ -1,6 +1,6 @@
 use Rattle.std.proofs.Common.{◌≡◌, inl, refl, sym, ap, ◌∙◌, rules, FitsSigned, ◌+◌, subst, ℕ, ◌*◌, ◌≤◌, arith, to_z, of_z}
 use Rattle.std.specs.Prelude.{ℤ, nat_abs}
-use Rattle.number_forms.proofs.Shared.{w128, to_z-of_z, value, surd_power, is_num, size, Tree, Same-refl, gives_without, tree_of, behind_first, front_same, front_at, front_without, front_after, front_end, given_other, gives_as, owned, given_told, power_need, SpansTree, free_of, LacksRoom, passed_on, overflow_as, last_tree, plain, Forest, IsNoLargerThanPower, OfOverflow, IsNumberOf, IsPowerOver, expression, seen}
+use Rattle.number_forms.proofs.Shared.{w128, to_z-of_z, value, surd_power, size, Tree, Same-refl, gives_without, tree_of, behind_first, front_same, front_at, front_without, front_after, front_end, given_other, gives_as, owned, given_told, power_need, SpansTree, free_of, LacksRoom, passed_on, overflow_as, last_tree, plain, Forest, IsNoLargerThanPower, OfOverflow, IsNumberOf, IsPowerOver}
 use Rattle.number_forms.proofs.Rooms.{answer_spans, full_as, power_lacks, power_spans}
 use Rattle.number_forms.proofs.Over.{of_power, power_itself}
 use Rattle.number_forms.proofs.RationalBits.{at_least_one, power_no_larger, if_power_no_larger, power_not_refused}
@@ -29,17 +29,6 @@ returns-in_ok-power-clause-spanned c = λ gs s.
     let left = gives_without c.args.a power c.requires.handed.root (c.release.ensures.owned (owned (given_other power c.requires.handed))) in
     power_spans gs _ _ c.unsigned_abs.result c.requires.number (of_power (given_told left)) s
 
-pub is_rational-requires-clause-expression : goal.is_rational-requires-clause-expression
-is_rational-requires-clause-expression c = expression c.id.ensures c.requires.stands c.requires.handed
-
-pub power_rational-requires-clause-rational : goal.power_rational-requires-clause-rational
-power_rational-requires-clause-rational c = sym (c.is_rational.ensures ∙ ap is_num (seen c.id.ensures c.requires.stands c.requires.handed)) ∙ c.if-is_rational.true
-
-pub returns-in_err-power-clause-rational : goal.returns-in_err-power-clause-rational
-returns-in_err-power-clause-rational c = λ q e.
-    let read = c.is_rational.ensures ∙ ap is_num (seen c.id.ensures c.requires.stands c.requires.handed) in
-    absurd (cc (read ∙ ap is_num e, c.if-is_rational.false))
-
 pub release-requires-clause-releasable : goal.release-requires-clause-releasable
 release-requires-clause-releasable c = inl (given_other c.in_ok-power.ensures.ok c.requires.handed).root
 
@@ -51,24 +40,9 @@ returns-in_ok-power-clause-ok c =
     gives_as (gives_without c.args.a power c.requires.handed.root (c.release.ensures.owned (owned (given_other power c.requires.handed)))) refl
     (λ t h. subst (λ (n : ℕ). IsNumberOf (surd_power (value (tree_of c.args.a c.args.pool.now)) n) t) many (of_power h))
 
-pub returns-in_ok-power-clause-rational : goal.returns-in_ok-power-clause-rational
-returns-in_ok-power-clause-rational c = λ q e.
-    let read = c.is_rational.ensures ∙ ap is_num (seen c.id.ensures c.requires.stands c.requires.handed) in
-    absurd (cc (read ∙ ap is_num e, c.if-is_rational.false))
-
 pub returns-in_ok-power-clause-front : goal.returns-in_ok-power-clause-front
 returns-in_ok-power-clause-front c =
     front_at (front_without behind_first (front_after front_same c.power_of.ensures.front)) (c.release.ensures.owned (owned (given_other c.in_ok-power.ensures.ok c.requires.handed)))
-
-pub returns-then-is_rational-clause-overflow : goal.returns-then-is_rational-clause-overflow
-returns-then-is_rational-clause-overflow c = λ other.
-    let read = c.is_rational.ensures ∙ ap is_num (seen c.id.ensures c.requires.stands c.requires.handed) in
-    absurd (cc (sym read ∙ c.if-is_rational.true, other))
-
-pub returns-then-n-eq1-clause-rational : goal.returns-then-n-eq1-clause-rational
-returns-then-n-eq1-clause-rational c = λ q e.
-    let read = c.is_rational.ensures ∙ ap is_num (seen c.id.ensures c.requires.stands c.requires.handed) in
-    absurd (cc (read ∙ ap is_num e, c.if-is_rational.false))
 
 pub returns-then-n-eq1-clause-front : goal.returns-then-n-eq1-clause-front
 returns-then-n-eq1-clause-front c = front_end c.move_last.ensures.last (front_without behind_first front_same)
@@ -106,7 +80,7 @@ returns-in_ok-power-clause-measured c =
 pub returns-then-is_rational-clause-bits : goal.returns-then-is_rational-clause-bits
 returns-then-is_rational-clause-bits c = λ h l k few.
     let fits : FitsSigned w128 c.args.n = search rules in
-    let rational = sym (c.is_rational.ensures ∙ ap is_num (seen c.id.ensures c.requires.stands c.requires.handed)) ∙ c.if-is_rational.true in
+    let rational = sym c.is_rational.ensures ∙ c.if-is_rational.true in
     power_not_refused (tree_of c.args.a c.args.pool.now) (to_z w128 (of_z w128 c.args.n)) c.power_rational.new.pool c.power_rational.result rational c.power_rational.ensures.rational h l k
     (subst (λ (z : ℤ). nat_abs z * (2 * h + 4 * l) ≤ 124) (sym (to_z-of_z w128 c.args.n fits)) few)
 
