@@ -32,7 +32,7 @@ use child_lists::{ChildList, FEW, MANY, NONE};
 use node_pool::{Full, Id, Pool};
 use rational128::add;
 use tree_handles::{
-    Handle, NumberFault, add_child, children, kind, move_last, node, number, release, take_child,
+    Handle, NumberFault, children, kind, move_last, node, node_over, number, release, take_child,
 };
 
 /// The sum of two Numbers, which are consumed. 0 and a Number that is no rational are that tree as it stands.
@@ -211,9 +211,7 @@ fn sum_over_term(pool: &mut Pool, a: Handle) -> Result<Handle, Full>
         release(pool, a);
         node(pool, Kind::Add)
     } else {
-        let sum = node(pool, Kind::Add)?;
-        add_child(pool, &sum, 0, a);
-        Ok(sum)
+        node_over(pool, Kind::Add, a)
     }
 }
 

@@ -27,7 +27,7 @@ use crate::roots;
 use calc_terms::Kind;
 use node_pool::{Full, Pool};
 use surd_terms::{Term, inverse, inverse_of_sum};
-use tree_handles::{Handle, NumberFault, add_child, node, release};
+use tree_handles::{Handle, NumberFault, node_over_two, release};
 
 /// What inverting a Number comes to.
 #[derive(Drop)]
@@ -120,6 +120,7 @@ fn invert_two(pool: &mut Pool, a: Handle) -> Result<Handle, NumberFault>
 }
 
 /// A new last tree that is the sum of two terms whose radicands rise.
+#[tactic(auto, using(crate::proofs::Pairs::made))]
 fn place_sum(pool: &mut Pool, a: Term, b: Term) -> Result<Handle, Full>
     requires stands { Stands pool.old }
     requires rises { Rises (term_of a ∷ term_of b ∷ []) }
@@ -135,8 +136,5 @@ fn place_sum(pool: &mut Pool, a: Term, b: Term) -> Result<Handle, Full>
 {
     let first = place_term(pool, a)?;
     let second = place_term(pool, b)?;
-    let sum = node(pool, Kind::Add)?;
-    add_child(pool, &sum, 0, second);
-    add_child(pool, &sum, 0, first);
-    Ok(sum)
+    node_over_two(pool, Kind::Add, first, second)
 }

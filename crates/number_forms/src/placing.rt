@@ -14,7 +14,7 @@ ghost use Rattle.tree_handles.specs.Handed.{tree_of, Gives, KeepsFront};
 use calc_terms::{Kind, Rat};
 use node_pool::{Full, Pool};
 use surd_terms::Term;
-use tree_handles::{Handle, add_child, node, number};
+use tree_handles::{Handle, node_over, node_over_two, number};
 
 /// A new last tree that is the term: a rational, a root, or a rational other than 1 times a root. It takes 96
 /// bytes at most. Numbers are placed first; a refusal names the first node that lacks bytes.
@@ -55,12 +55,11 @@ fn place_root(pool: &mut Pool, radicand: u128) -> Result<Handle, Full>
     ensures stands { Stands pool.new }
 {
     let rational = number(pool, whole(radicand))?;
-    let root = node(pool, Kind::Root)?;
-    add_child(pool, &root, 0, rational);
-    Ok(root)
+    node_over(pool, Kind::Root, rational)
 }
 
 /// A new last tree `Mult(Num coefficient, Root(Num radicand))`.
+#[tactic(auto, using(crate::proofs::Pairs::made))]
 fn place_multiple(pool: &mut Pool, coefficient: Rat, radicand: u128) -> Result<Handle, Full>
     requires stands { Stands pool.old }
     requires fits { radicand < 2 ^ 127 }
@@ -75,10 +74,7 @@ fn place_multiple(pool: &mut Pool, coefficient: Rat, radicand: u128) -> Result<H
 {
     let rational = number(pool, coefficient)?;
     let root = place_root(pool, radicand)?;
-    let product = node(pool, Kind::Mult)?;
-    add_child(pool, &product, 0, root);
-    add_child(pool, &product, 0, rational);
-    Ok(product)
+    node_over_two(pool, Kind::Mult, rational, root)
 }
 
 /// The whole number n.
