@@ -1,4 +1,5 @@
 -- The nest and the load of a coefficient before a part.
+use Rattle.std.proofs.lemmas.Bool.{true≢false}
 use Rattle.std.proofs.Common.{◌≡◌, ℕ, ◌+◌, ◌≤◌, max, Bool, true, false, ◌||◌, if◌then◌else◌, refl, sym, ap, ◌∙◌, arith}
 use Rattle.coefficients.proofs.Shared.{Fraction, times, zero_fraction, is_zero_fraction, is_one_fraction, nest, nest_of, load, load_of_factor, load_of_factors, weight, is_number, IsNumber, IsTerm, product_tree, base_of, Tree, num, add, mult, root, Trees, none, more, append, is_undef, is_mult, number_test, factors_of, spliced, rational_before, with_coefficient, IsMonic, mapped, rational_times_factors, rational_times, rational_times_number, rational_times_term, rational_times_sum}
 use Rattle.coefficients.proofs.Factors.{monic_no_number}
@@ -86,10 +87,7 @@ coefficient_nest c p = omega (arith, spliced_nest c p)
 -- ---- loads
 
 number_load : (t : Tree) → is_mult t ≡ false → is_number t ≡ true → load_of_factor t ≡ 0
-number_load (mult ts) m h = absurd (clash m)
-  where
-    clash : true ≡ false → ⊥
-    clash e = cc
+number_load (mult ts) m h = absurd (true≢false m)
 number_load t m h = ap (λ (b : Bool). if b then 0 else weight (base_of t)) h
 
 factors_load : (c : Tree) → IsNumber c → load_of_factors (factors_of c) ≡ 0

@@ -1,4 +1,5 @@
 -- Laws of the coefficient of a reduced tree, of its part, and of the two put together.
+use Rattle.std.proofs.lemmas.Bool.{true≢false}
 use Rattle.std.proofs.Common.{◌≡◌, ◌≢◌, ℕ, ◌⊎◌, inl, inr, ◌++◌, List, Bool, true, false, if◌then◌else◌, refl, sym, ap, ◌∙◌, subst, arith, append_assoc, append-nil}
 use Rattle.std.specs.Prelude.{Contains, []}
 use Rattle.coefficients.proofs.Shared.{not_from_false, Fraction, zero_fraction, one_fraction, is_zero_fraction, is_one_fraction, has_coefficient, is_number, IsNumber, Split, split, split_product, num_one, product_tree, part_of, is_reduced, is_undistributed, is_one_add, IsProductForm, IsSumForm, HasForm, Tree, num, add, mult, Trees, none, more, append, names, names_of, AllParts, AllPartsOf, is_add, is_undef, zero_is, zero_test, one_test, no_zero, number_test, keeps, coefficient_of, factors_of, spliced, rational_before, with_coefficient, IsMonic, rational_times_sum}
@@ -13,9 +14,6 @@ use Rattle.coefficients.proofs.Splits.{IsCoefficient, Leads, in_front, IsSpread,
 use Rattle.coefficients.proofs.SumMultiples.{sum_form_multiple, parts_multiple, no_number_multiple}
 use Rattle.coefficients.proofs.TermMultiples.{factors_behind, spread_behind, irrational, rational}
 use Rattle.calc_algebra.proofs.NumberRewrites as lower
-
-clash : true ≡ false → ⊥
-clash e = cc
 
 -- the same coefficient as in the laws of meanings
 pub coefficient_same : (t : Tree) → coefficient_of t ≡ lower.coefficient_of t
@@ -58,7 +56,7 @@ before_factors (num q) us k a d =
     ∙ by us (d refl) ∙ ap (λ (x : Trees). mult (more (num q) x)) (factors_of_tree us a)
   where
     no_add : (t : Tree) → is_one_add (more t none) ≡ false → rational_before q t ≡ spliced (num q) t
-    no_add (add ts) h = absurd (clash h)
+    no_add (add ts) h = absurd (true≢false h)
     no_add t h = refl
 
     by : (us : Trees) → is_one_add us ≡ false → rational_before q (product_tree us) ≡ spliced (num q) (product_tree us)
@@ -91,7 +89,7 @@ product_taken ts h n f (inl k) = monic_taken (mult ts) (record { reduced = parts
 product_taken ts h n f (inr l) = led_taken ts l (leading_factors ts l h n f) f
 
 pub product_form_of : (ts : Trees) → AllParts HasForm (mult ts) → is_number (mult ts) ≡ false → IsProductForm ts
-product_form_of ts h n = elim (h.0) [ inl k ↦ absurd (clash (sym (number_test (mult ts) k) ∙ n)) | inr k ↦ k ]
+product_form_of ts h n = elim (h.0) [ inl k ↦ absurd (true≢false (sym (number_test (mult ts) k) ∙ n)) | inr k ↦ k ]
 
 taken_parts : (t : Tree) → AllParts HasForm t → is_number t ≡ false → IsTaken t
 taken_parts (mult ts) h n = let f = product_form_of ts h n in product_taken ts h n f (in_front ts f.no_product f.front)
@@ -117,7 +115,7 @@ put_spliced c p k m d =
     record { formed = x.formed; no_number = x.no_number; part = λ s. x.part ∙ tree_of_factors p m }
 
 sum_form_of : (ts : Trees) → IsMonic (add ts) → HasForm (add ts) → IsSumForm ts
-sum_form_of ts m (inl k) = absurd (clash (sym (number_test (add ts) k) ∙ monic_no_number (add ts) m))
+sum_form_of ts m (inl k) = absurd (true≢false (sym (number_test (add ts) k) ∙ monic_no_number (add ts) m))
 sum_form_of ts m (inr k) = k
 
 pub monic_sum : (ts : Trees) → IsMonic (add ts) → IsSumForm ts
@@ -130,7 +128,7 @@ put_sum q ts f m =
     record {
       formed = (inr (sum_form_multiple q f ts s parts), parts_multiple q f ts s parts);
       no_number = no_number_multiple q f ts s parts (monic_no_number (add ts) m);
-      part = λ (e : true ≡ false). absurd (clash e);
+      part = λ (e : true ≡ false). absurd (true≢false e);
     }
 
 put_before : (q : Fraction) (p : Tree) → IsFactor q → IsMonic p → IsPut p (rational_before q p)
@@ -151,7 +149,7 @@ put (num q) p h z m = by (is_zero_fraction q) (is_one_fraction q) refl refl
     by true b e g = absurd (z (ap num (zero_is q e)))
     by false true e g = put_whole p p m refl
     by false false e g = put_before q p (record { not_zero = λ x. z (ap num x); not_one = not_one_is q g }) m
-put c p h z m = put_spliced c p (irrational c h refl) m (λ (e : false ≡ true). absurd (clash (sym e)))
+put c p h z m = put_spliced c p (irrational c h refl) m (λ (e : false ≡ true). absurd (true≢false (sym e)))
 
 -- whether a Number is zero
 pub zero_or_not : (c : Tree) → (c ≡ num zero_fraction) ⊎ (c ≢ num zero_fraction)

@@ -1,17 +1,15 @@
 -- The factors behind a coefficient, and trees without one.
+use Rattle.std.proofs.lemmas.Bool.{true≢false}
 use Rattle.std.proofs.Common.{◌≡◌, ◌≤◌, inl, inr, Bool, true, false, if◌then◌else◌, refl, sym, ap, ◌∙◌, subst, arith}
 use Rattle.coefficients.proofs.Shared.{Fraction, has_coefficient, is_number, IsNumber, Split, split, split_product, num_one, product_tree, part_of, base_of, is_undistributed, NoneIs, RisesBy, IsFrontForm, IsProductForm, HasForm, Tree, num, add, mult, root, Trees, none, more, append, count, HasTwo, AllParts, AllPartsOf, is_mult, number_words, number_test, coefficient_of, factors_of, IsMonic}
 use Rattle.coefficients.proofs.Forms.{reduced_parts, parts_reduced, own_form, parts_defined, one_is_one}
 
 -- ---- what stands in front
 
-clash : true ≡ false → ⊥
-clash e = cc
-
 -- with no Number in front the coefficient is 1
 pub no_split : (ts : Trees) → has_coefficient ts ≡ false → split_product ts ≡ split num_one ts
 unfolding is_number
-no_split (more (num q) ts) h = absurd (clash h)
+no_split (more (num q) ts) h = absurd (true≢false h)
 no_split (more (root (num r)) ts) h = ap (λ (b : Bool). if b then split (root (num r)) ts else split num_one (more (root (num r)) ts)) h
 no_split (more (add us) ts) h = ap (λ (b : Bool). if b then split (add us) ts else split num_one (more (add us) ts)) h
 no_split ts h = refl
@@ -46,11 +44,11 @@ none_leads (more t ts) h = h.0
 
 pub front_of : (ts : Trees) → has_coefficient ts ≡ false → IsFrontForm ts
 unfolding is_number
-front_of (more (num q) ts) h = absurd (clash h)
+front_of (more (num q) ts) h = absurd (true≢false h)
 front_of ts h = tt
 
 pub single_factors : (t : Tree) → is_mult t ≡ false → factors_of t ≡ more t none
-single_factors (mult ts) h = absurd (clash h)
+single_factors (mult ts) h = absurd (true≢false h)
 single_factors t h = refl
 
 -- ---- factors
@@ -98,7 +96,7 @@ factors_monic (more t (more u ts)) h =
     }
 
 monic_form : (ts : Trees) → IsMonic (mult ts) → HasForm (mult ts) → IsProductForm ts
-monic_form ts m (inl h) = absurd (clash (sym (number_leads (mult ts) h) ∙ m.no_coefficient))
+monic_form ts m (inl h) = absurd (true≢false (sym (number_leads (mult ts) h) ∙ m.no_coefficient))
 monic_form ts m (inr h) = h
 
 pub monic_parts : (t : Tree) → IsMonic t → AllParts HasForm t
@@ -135,7 +133,7 @@ pub monic_no_number : (t : Tree) → IsMonic t → is_number t ≡ false
 monic_no_number t m = by (is_number t) refl
   where
     by : (b : Bool) → is_number t ≡ b → is_number t ≡ false
-    by true e = absurd (clash (sym (number_leads t (number_words t e)) ∙ m.no_coefficient))
+    by true e = absurd (true≢false (sym (number_leads t (number_words t e)) ∙ m.no_coefficient))
     by false e = e
 
 -- ---- factors as one tree

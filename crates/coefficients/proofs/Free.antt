@@ -1,6 +1,6 @@
 -- Free bytes while the terms of a sum are taken out, rewritten and put back.
 use Rattle.std.proofs.Common.{◌≡◌, ℕ, ◌+◌, ◌≤◌, ◌<◌, ap, arith}
-use Rattle.coefficients.proofs.Shared.{Payload, size_of_payload, factors_of, LeavesRest, Full, replaced_free, refused_below, bytes_without, tree_of, IsHanded, Gives, root_arity, Kind, Tree, mult, Trees, more, append, size, sizes, mapped, IsOver, IsTaken, State, free_of, empty, bytes_in, kids, root_tree, without_root, put, Stands, forest, KeepsRefusals, IsRefused, bytes_in-join, used_forest, size-plain, sizes-plains}
+use Rattle.coefficients.proofs.Shared.{Payload, size_of_payload, factors_of, Full, replaced_free, refused_below, tree_of, IsHanded, Gives, Kind, Tree, mult, Trees, more, append, size, sizes, mapped, IsOver, IsTaken, State, free_of, empty, bytes_in, kids, root_tree, without_root, put, Stands, forest, KeepsRefusals, IsRefused, bytes_in-join, used_forest, size-plain, sizes-plains}
 use Rattle.calc_terms.proofs.Sizes.{payload_most}
 use Rattle.coefficients.proofs.Bytes.{bytes_put}
 use Rattle.coefficients.proofs.Loops.{IsNext}

@@ -1,12 +1,8 @@
 -- The rational or the sum that leads a product.
 use Rattle.std.proofs.Common.{◌≡◌, ℕ, ◌≤◌, [], ◌∷◌, Bool, true, false, if◌then◌else◌, refl, sym, ap, ◌∙◌, subst, arith}
-use Rattle.coefficients.proofs.Shared.{Fraction, times, is_one_fraction, is_number, product_tree, is_reduced, Tree, num, add, mult, Trees, none, more, count, root_kind, is_mult, State, tree_of, IsHanded, Ends, KeepsFront, nth, plain, children_of, IsExpression, Forest, kids, tree_nth, without_nth, tree_at, root_tree, without_root, put, Stands, forest, behind_first, front_same, front_at, front_put, given_rest, factors_of, LeavesRest, rational_times, rational_times_factors, rational_times_number, rational_times_term, leads_sum, IsOver, over_product, over_put, over_same, IsAdded, expression, seen, IsTaken, taken}
+use Rattle.coefficients.proofs.Shared.{Fraction, times, is_one_fraction, is_number, product_tree, is_reduced, Tree, num, add, mult, Trees, none, more, count, root_kind, is_mult, State, tree_of, IsHanded, Ends, KeepsFront, nth, plain, children_of, IsExpression, Forest, kids, tree_nth, without_nth, tree_at, root_tree, without_root, put, Stands, forest, behind_first, front_same, front_at, front_put, given_rest, factors_of, rational_times, rational_times_factors, rational_times_number, rational_times_term, leads_sum, IsOver, over_product, over_put, over_same, IsAdded, expression, seen, IsTaken, taken}
 use Rattle.coefficients.proofs.Lengths.{long}
-use Rattle.coefficients.proofs.Steps.{leaves_one}
 use Rattle.calc_terms.specs.declared.kind.Kind.TheVariants as kind
-
-clash : false ≡ true → ⊥
-clash e = cc
 
 -- ---- a rational in front
 
@@ -85,7 +81,7 @@ pub record IsSumLed (t : Tree) : Type 0 where
 
 pub sum_led : (t : Tree) → leads_sum t ≡ true → IsSumLed t
 sum_led (mult (more (add us) ts)) h = record { terms = us; rest = ts; whole = refl; number = h }
-sum_led t h = absurd (clash h)
+sum_led t h = cc
 
 pub led_children : {t : Tree} (l : IsSumLed t) → children_of t ≡ more (add l.terms) l.rest
 led_children l = ap children_of l.whole

@@ -1,21 +1,15 @@
 -- How many leading factors of a reduced product are Numbers.
-use Rattle.std.proofs.Common.{◌≡◌, ℕ, zero, suc, ◌+◌, ◌-◌, ◌<◌, ◌≤◌, ◌⊎◌, inl, inr, Bool, true, false, if◌then◌else◌, refl, sym, ap, ◌∙◌, subst, arith}
+use Rattle.std.proofs.lemmas.Bool.{true≢false}
+use Rattle.std.proofs.Common.{◌≡◌, ℕ, zero, suc, ◌-◌, ◌<◌, ◌≤◌, ◌⊎◌, inl, inr, Bool, true, false, if◌then◌else◌, refl, sym, ap, ◌∙◌, subst, arith}
 use Rattle.coefficients.proofs.Shared.{has_coefficient, Fraction, is_number, IsNumber, Split, split, split_product, num_one, product_tree, part_of, is_reduced, IsProductForm, HasForm, Tree, num, add, mult, root, Trees, none, more, append, count, AllParts, AllPartsOf, is_mult, number_test, number_words, nth, children_of, coefficient_length, coefficient_of, factors_of}
 use Rattle.coefficients.proofs.Coefficients.{leading_factors, product_form_of}
 use Rattle.coefficients.proofs.Factors.{no_split, spliced_split, two_count, AreFactors}
 use Rattle.coefficients.proofs.Forms.{reduced_parts, parts_reduced}
 use Rattle.coefficients.proofs.Splits.{Leads, in_front, number_has_no_factors}
 
-clash : true ≡ false → ⊥
-clash e = cc
-
 -- 0, 1 or 2, as the first and the second are Numbers
 abbrev pub leading_numbers : Trees → ℕ
 leading_numbers ts = if is_number (nth 0 ts) then (if is_number (nth 1 ts) then 2 else 1) else 0
-
-count_append : (ts us : Trees) → count (append ts us) ≡ count ts + count us
-count_append none us = omega arith
-count_append (more t ts) us = omega (arith, count_append ts us)
 
 by_split : (ts us : Trees) (c : Tree) → split_product ts ≡ split c us → coefficient_length ts ≡ count ts - count us
 by_split ts us c e = ap (λ (s : Split). count ts - count s.factors) e
@@ -89,7 +83,7 @@ long_form ts p false e = let f = product_form_of ts p e in product_long ts p e f
 
 pub long : (t : Tree) → is_mult t ≡ true → is_reduced t ≡ true → IsLong (children_of t)
 long (mult ts) m h = long_form ts (reduced_parts (mult ts) h refl) (is_number (mult ts)) refl
-long t m h = absurd (clash (sym m))
+long t m h = absurd (true≢false (sym m))
 
 -- ---- what the length tells of the factors
 
@@ -155,7 +149,7 @@ measured_form ts p false e = let f = product_form_of ts p e in product_measured 
 
 pub measured : (t : Tree) → is_mult t ≡ true → is_reduced t ≡ true → IsMeasured (children_of t)
 measured (mult ts) m h = measured_form ts (reduced_parts (mult ts) h refl) (is_number (mult ts)) refl
-measured t m h = absurd (clash (sym m))
+measured t m h = absurd (true≢false (sym m))
 
 -- factors stand behind the coefficient of a product that is no Number
 some_form : (ts : Trees) → AllParts HasForm (mult ts) → is_number (mult ts) ≡ false → IsProductForm ts → (has_coefficient ts ≡ false) ⊎ Leads ts → 1 ≤ count (split_product ts).factors
@@ -167,21 +161,21 @@ some_factors (mult ts) m h n =
     let p = reduced_parts (mult ts) h refl in
     let f = product_form_of ts p n in
     some_form ts p n f (in_front ts f.no_product f.front)
-some_factors t m h n = absurd (clash (sym m))
+some_factors t m h n = absurd (true≢false (sym m))
 
 -- the parts of a product by its children, and of another tree
 pub product_coefficient : (t : Tree) → is_mult t ≡ true → (split_product (children_of t)).coefficient ≡ coefficient_of t
 product_coefficient (mult ts) m = refl
-product_coefficient t m = absurd (clash (sym m))
+product_coefficient t m = absurd (true≢false (sym m))
 
 pub product_part : (t : Tree) → is_mult t ≡ true → product_tree (split_product (children_of t)).factors ≡ part_of t
 product_part (mult ts) m = refl
-product_part t m = absurd (clash (sym m))
+product_part t m = absurd (true≢false (sym m))
 
 pub other_coefficient : (t : Tree) → is_mult t ≡ false → num_one ≡ coefficient_of t
-other_coefficient (mult ts) m = absurd (clash m)
+other_coefficient (mult ts) m = absurd (true≢false m)
 other_coefficient t m = refl
 
 pub other_part : (t : Tree) → is_mult t ≡ false → t ≡ part_of t
-other_part (mult ts) m = absurd (clash m)
+other_part (mult ts) m = absurd (true≢false m)
 other_part t m = refl

@@ -5,7 +5,7 @@ use Rattle.calc_terms.specs.declared.kind.Kind.TheVariants as kind
 
 -- ---- lists
 
-append_assoc : (ts us vs : Trees) → append (append ts us) vs ≡ append ts (append us vs)
+pub append_assoc : (ts us vs : Trees) → append (append ts us) vs ≡ append ts (append us vs)
 append_assoc none us vs = refl
 append_assoc (more t ts) us vs = ap (more t) (append_assoc ts us vs)
 
@@ -17,7 +17,7 @@ count_mapped : (f : Tree → Tree) (ts : Trees) → count (mapped f ts) ≡ coun
 count_mapped f none = refl
 count_mapped f (more t ts) = ap suc (count_mapped f ts)
 
-count_append : (ts us : Trees) → count (append ts us) ≡ count ts + count us
+pub count_append : (ts us : Trees) → count (append ts us) ≡ count ts + count us
 count_append none us = omega arith
 count_append (more t ts) us = omega (arith, count_append ts us)
 

@@ -1,7 +1,7 @@
 -- Which operation does not fit, from call to call.
 use Rattle.std.specs.Prelude.{Result, Ok, Err, IfErr, IsErrAnd}
 use Rattle.std.proofs.Common.{◌≡◌, inl, inr, true, refl, sym, ap, subst}
-use Rattle.coefficients.proofs.Shared.{Fraction, value_of, Rat, is_number, Tree, num, add, mult, Trees, none, more, append, is_add, is_mult, Leads, LeadsIn, LeadsTerm, IsMultiple, NamesPut, OfOverflow, Full, children_of, NumberFault}
+use Rattle.coefficients.proofs.Shared.{Fraction, value_of, Rat, is_number, Tree, num, add, mult, Trees, none, more, append, is_add, is_mult, Leads, LeadsIn, LeadsTerm, IsMultiple, NamesPut, OfOverflow, children_of, NumberFault}
 use Rattle.rational128.specs.declared.overflow.Op.TheVariants.{Mul}
 use Rattle.rational128.specs.declared.overflow.Overflow.{Overflow}
 use Rattle.tree_handles.specs.declared.fault.NumberFault.TheVariants as fault

@@ -3,7 +3,6 @@ use Rattle.std.proofs.Common.{◌≡◌, ℕ, ◌≤◌, arith, true}
 use Rattle.coefficients.proofs.Shared.{is_reduced, is_mult, plain, IsExpression, Forest, arity, tree_at, kids_of}
 use Rattle.number_forms.proofs.ByKind.{children_number}
 use Rattle.coefficients.proofs.Lengths.{long}
-use Rattle.calc_terms.specs.declared.kind.Kind.TheVariants as kind
 
 -- ---- reading
 

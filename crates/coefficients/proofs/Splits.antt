@@ -1,11 +1,9 @@
 -- A coefficient and the factors behind it: how a reduced product is taken apart, and what is put together again.
+use Rattle.std.proofs.lemmas.Bool.{true≢false}
 use Rattle.std.proofs.Common.{◌≡◌, ◌≢◌, ◌≤◌, ◌⊎◌, inl, inr, Bool, true, false, ◌&&◌, not, if◌then◌else◌, refl, sym, ap, ◌∙◌, subst, arith}
 use Rattle.coefficients.proofs.Shared.{Fraction, zero_fraction, one_fraction, is_one_fraction, has_coefficient, is_number, is_radicand, IsNumber, Split, split, split_product, num_one, product_tree, part_of, base_of, is_undistributed, is_one_add, NoneIs, RisesBy, IsFrontForm, IsProductForm, HasForm, Tree, num, add, mult, root, Trees, none, more, append, count, HasTwo, AllParts, AllPartsOf, is_num, is_add, is_mult, number_words, number_test, coefficient_of, factors_of}
 use Rattle.coefficients.proofs.Forms.{number_parts, AllPartsOf-append}
 use Rattle.coefficients.proofs.Factors.{spliced_split, none_leads, AreFactors}
-
-clash : true ≡ false → ⊥
-clash e = cc
 
 -- ---- a Number that is written in front
 
@@ -133,7 +131,7 @@ num_path : {p q : Fraction} → num p ≡ num q → p ≡ q
 num_path e = cc
 
 no_num : {t : Tree} {q : Fraction} → is_num t ≡ false → t ≢ num q
-no_num h e = absurd (clash (sym (ap is_num e) ∙ h))
+no_num h e = absurd (true≢false (sym (ap is_num e) ∙ h))
 
 -- no Number in front, or a coefficient
 pub in_front : (ts : Trees) → NoneIs is_mult ts → IsFrontForm ts → (has_coefficient ts ≡ false) ⊎ Leads ts
@@ -160,5 +158,5 @@ in_front (more (add us) ts) n f = by (is_number (add us)) refl
     by true e = inr (leads _ ts (add us) (ap (λ (b : Bool). if b then split (add us) ts else split num_one (more (add us) ts)) e) refl
         (number_words (add us) e) (no_num refl) (no_num refl))
     by false e = inl e
-in_front (more (mult us) ts) n f = absurd (clash n.0)
+in_front (more (mult us) ts) n f = absurd (true≢false n.0)
 in_front ts n f = inl refl

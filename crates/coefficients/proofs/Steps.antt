@@ -1,9 +1,10 @@
 -- Steps of calls on a root that is a product or a sum: a child is taken out, put in, and the root goes last.
 use Rattle.std.proofs.Common.{◌≡◌, ℕ, ◌≤◌, ◌∷◌, refl, sym, ap, ◌∙◌, subst, arith, true, []}
 use Rattle.std.specs.Prelude.{pos}
-use Rattle.coefficients.proofs.Shared.{product_tree, is_reduced, num_one, Tree, num, mult, root, Trees, none, more, count, is_mult, size, State, tree_of, IsHanded, Represents, Ends, Gives, KeepsFront, plain, children_of, Forest, empty, one_tree, with_root_kids, kids, with_nth, tree_nth, without_nth, tree_at, has_root, root_tree, without_root, put, Stands, forest, behind_first, front_same, front_end, front_put, gives, gives_as, given_handed, given_told, given_rest, given_root, represents_handed, represents_node, represents_none, represents_with, ends_as, ends_at, ends_without, put-put, Rat, Fraction, lowest, one_fraction, ratio_of, value_of, Ratio, whole, bare, factors_of, coefficient_length, GivesTwo, LeavesRest, over_product, IsOver, taken, over_put, over_end, over_handed, over_gives, without_put, gives_put, gives_without, seen}
+use Rattle.coefficients.proofs.Shared.{product_tree, is_reduced, num_one, Tree, num, mult, root, Trees, none, more, count, is_mult, size, State, tree_of, IsHanded, Represents, Ends, Gives, KeepsFront, plain, children_of, Forest, kids, tree_nth, without_nth, tree_at, root_tree, without_root, put, Stands, forest, behind_first, front_same, front_end, front_put, gives_as, given_told, given_root, ends_as, ends_at, ends_without, put-put, Rat, Fraction, lowest, one_fraction, ratio_of, value_of, Ratio, whole, factors_of, coefficient_length, GivesTwo, LeavesRest, over_product, IsOver, taken, over_put, over_end, over_handed, over_gives, without_put, gives_put, gives_without, seen}
 use Rattle.coefficients.proofs.Lengths.{measured, IsPairLed}
 use Rattle.calc_terms.specs.declared.kind.Kind.TheVariants as kind
+use Rattle.tree_handles.proofs.Beside.{other_plain}
 
 pub product_factors : (t : Tree) → is_mult t ≡ true → t ≡ mult (factors_of t)
 product_factors (mult ts) h = refl
@@ -93,25 +94,9 @@ length_seen e st h k = ap (λ (t : Tree). coefficient_length (children_of t)) (s
 pub leaves_one : {i h : ℕ} {t : Tree} {ts : Trees} {old new : Forest} → IsOver kind.Mult i (more t ts) old → Ends h (tree_nth 0 (kids (root_tree i old))) (put i (without_nth 0 (kids (root_tree i old))) old) new → LeavesRest i old new h t ts
 leaves_one {t = t} {ts = ts} o d = let a = taken 0 none t ts o refl d in record { kids = a.now; rest-are = a.kids; given = a.gives }
 
--- two trees go into the last root, which becomes their product
-pub record IsPaired (i p : ℕ) (t u : Tree) (ts : Trees) (old new : Forest) : Type 0 where
-  pub now : Forest
-  pub kids : Represents now ts
-  pub given : Gives (put i now old) new p (λ x. x ≡ mult (more t (more u none)))
-
-pub paired : {i h k p : ℕ} {t u : Tree} {ts : Trees} {old f g new : Forest} (a : IsPairTaken i t u ts old f h k) → Ends p (with_root_kids (with_nth 0 (root_tree k f) empty) (one_tree p (bare kind.Mult) empty)) (without_root k f) g
-    → ((others : Forest) → Ends p (with_root_kids (with_nth 0 (root_tree k f) empty) (one_tree p (bare kind.Mult) empty)) others g → has_root h others ≡ true
-    → Ends p (with_root_kids (with_nth 0 (root_tree h others) (with_nth 0 (root_tree k f) empty)) (one_tree p (bare kind.Mult) empty)) (without_root h others) new)
-    → IsPaired i p t u ts old new
-paired {h = h} {p = p} {t = t} {u = u} a e next =
-    let one = ends_as e refl (given_rest a.second) in
-    let two = next a.between one (given_root a.first) in
-    record {
-      now = a.now;
-      kids = a.kids;
-      given = gives_as (gives two (represents_node p (bare kind.Mult) (represents_with 0 (represents_handed (given_handed a.first)) (represents_with 0 (represents_handed (given_handed a.second)) represents_none)) refl) refl) (given_rest a.first)
-          (λ x y. y ∙ (λ i. mult (more (given_told a.first i) (more (given_told a.second i) none))));
-    }
+-- a product of them
+pub pair_tree : {i h k : ℕ} {t u : Tree} {ts : Trees} {old new : Forest} → IsPairTaken i t u ts old new h k → mult (more (plain (root_tree h new)) (more (plain (root_tree k new)) none)) ≡ mult (more t (more u none))
+pair_tree {h = h} p = λ i. mult (more ((other_plain h p.second (given_root p.first) ∙ given_told p.first) i) (more (given_told p.second i) none))
 
 -- the first child of a spliced coefficient was taken
 pub record IsFirstTaken (i : ℕ) (s : State) (f : Forest) : Type 0 where

@@ -1,4 +1,5 @@
 -- A rational times a reduced sum: a reduced sum of as many terms with the same parts, in the same order.
+use Rattle.std.proofs.lemmas.Bool.{true≢false}
 use Rattle.std.proofs.Common.{◌≡◌, ◌≤◌, length, arith, ◌⊎◌, ◌∷◌, inl, inr, Bool, true, false, if◌then◌else◌, refl, sym, ap, ◌∙◌, subst}
 use Rattle.coefficients.proofs.Shared.{Fraction, is_number, is_term, IsNumber, IsTerm, AreTerms, Rises, terms_of, part_of, number_terms, other_terms, NoneIs, RisesBy, IsSumForm, HasForm, surd_scale, Tree, num, add, mult, root, Trees, none, more, HasTwo, AllPartsOf, is_add, term_words, number_test, number_words, mapped, rational_times_term, rational_times_sum}
 use Rattle.calc_algebra.specs.TreeOrder.{tree_cmp}
@@ -34,9 +35,6 @@ term_no_sum : (t : Tree) → IsTerm t → is_add t ≡ false
 term_no_sum (add ts) h = absurd h
 term_no_sum t h = refl
 
-clash : true ≡ false → ⊥
-clash e = cc
-
 all_of : (ts : Trees) → AreTerms ts → number_terms ts ≡ ts
 all_of none h = refl
 all_of (more t ts) h = rw (term_test t h.0) (ap (more t) (all_of ts h.1))
@@ -46,11 +44,6 @@ two_terms (more t (more u ts)) h = omega arith
 two_terms ts h = absurd h
 
 module _ (q : Fraction) (f : IsFactor q) where
-  -- it stays a term of the Number, or behind it
-  same_test : (t : Tree) → AllPartsOf HasForm (more t none) → is_add t ≡ false → IsTerm t ⊎ (is_number t ≡ false) → is_term (rational_times_term q t) ≡ is_term t
-  same_test t h s (inl k) = term_test (rational_times_term q t) (number_term q t f k).one ∙ sym (term_test t k)
-  same_test t h s (inr n) = no_term (rational_times_term q t) (multiple q f t h.0 n s).no_number ∙ sym (no_term t n)
-
   number_terms-mapped : (ts : Trees) → AllPartsOf HasForm ts → NoneIs is_add ts → EachTerm ts → terms_of (number_terms (mapped (rational_times_term q) ts)) ≡ surd_scale q (terms_of (number_terms ts))
   number_terms-mapped none h s k = refl
   number_terms-mapped (more t ts) h s k = first (number_terms-mapped ts h.1 s.1 k.1) k.0
@@ -140,7 +133,7 @@ module _ (q : Fraction) (f : IsFactor q) where
   all_terms none h s k a = tt
   all_terms (more t ts) h s (inl i, ks) a = (i, all_terms ts h.1 s.1 ks a.1)
   all_terms (more t ts) h s (inr n, ks) a =
-      absurd (clash (sym (number_test (rational_times_term q t) (number_of_term (rational_times_term q t) a.0)) ∙ (multiple q f t h.0 n s.0).no_number))
+      absurd (true≢false (sym (number_test (rational_times_term q t) (number_of_term (rational_times_term q t) a.0)) ∙ (multiple q f t h.0 n s.0).no_number))
 
   pub no_number_multiple : (ts : Trees) → IsSumForm ts → AllPartsOf HasForm ts → is_number (add ts) ≡ false → is_number (rational_times_sum q ts) ≡ false
   no_number_multiple ts s h n = by (is_number (rational_times_sum q ts)) refl
@@ -150,4 +143,4 @@ module _ (q : Fraction) (f : IsFactor q) where
       by true e =
           let a : AreTerms ts = all_terms ts h s.no_sum (each_term ts s.no_number) (number_words (rational_times_sum q ts) e).1 in
           let k : IsNumber (add ts) = (two_terms ts s.two, a, subst (λ (us : Trees). Rises (terms_of us)) (all_of ts a) s.number) in
-          absurd (clash (sym (number_test (add ts) k) ∙ n))
+          absurd (true≢false (sym (number_test (add ts) k) ∙ n))

@@ -1,13 +1,11 @@
 -- A rational times a term of a reduced sum.
+use Rattle.std.proofs.lemmas.Bool.{true≢false}
 use Rattle.std.proofs.Common.{◌≡◌, ◌≢◌, ◌≤◌, ◌⊎◌, inl, inr, Bool, true, false, ◌&&◌, not, if◌then◌else◌, refl, sym, ap, ◌∙◌, subst, arith}
 use Rattle.coefficients.proofs.Shared.{Fraction, times, zero_fraction, one_fraction, is_one_fraction, has_coefficient, is_number, IsNumber, Split, split, split_product, product_tree, part_of, base_of, is_undistributed, is_one_add, NoneIs, RisesBy, IsProductForm, HasForm, Tree, num, add, mult, root, Trees, none, more, append, count, HasTwo, AllParts, AllPartsOf, is_num, is_add, is_mult, one_test, product_not_zero, number_test, factors_of, IsMonic, rational_times_number, rational_times_term}
 use Rattle.coefficients.proofs.Forms.{parts_reduced, parts_defined}
 use Rattle.coefficients.proofs.Factors.{no_split, AreFactors, factors_monic, monic_factors, monic_parts, monic_part, monic_no_number}
 use Rattle.coefficients.proofs.NumberMultiples.{IsFactor, number_scaled, not_one_is}
 use Rattle.coefficients.proofs.Splits.{IsCoefficient, Leads, in_front, IsSpread, put_together}
-
-clash : true ≡ false → ⊥
-clash e = cc
 
 -- ---- the factors behind a coefficient
 
@@ -24,7 +22,7 @@ no_rest : (c : Tree) → IsNumber c → HasTwo (append (factors_of c) none) → 
 no_rest (num q) k t n = t
 no_rest (add us) k t n = t
 no_rest (root a) k t n = t
-no_rest (mult (more (num q) (more (root (num r)) none))) k t n = clash (sym (number_test (mult (more (num q) (more (root (num r)) none))) k) ∙ n)
+no_rest (mult (more (num q) (more (root (num r)) none))) k t n = true≢false (sym (number_test (mult (more (num q) (more (root (num r)) none))) k) ∙ n)
 no_rest c k t n = absurd k
 
 some_rest : (c : Tree) (us : Trees) → IsNumber c → HasTwo (append (factors_of c) us) → is_number (mult (append (factors_of c) us)) ≡ false → 1 ≤ count us
@@ -46,7 +44,7 @@ spread_behind (num q) us k h = λ e. left_true (one_test q (λ g. k.not_one (ap 
   where
     left_true : is_one_fraction q ≡ false → (true && not (is_one_fraction q) && is_one_add us) ≡ false → is_one_add us ≡ false
     left_true g h = sym (ap (λ (b : Bool). true && not b && is_one_add us) g) ∙ h
-spread_behind c us k h = λ (e : false ≡ true). absurd (clash (sym e))
+spread_behind c us k h = λ (e : false ≡ true). absurd (true≢false (sym e))
 
 two_no_add : (ts : Trees) → HasTwo ts → is_one_add ts ≡ false
 two_no_add (more (add us) (more u ts)) h = refl
@@ -74,11 +72,11 @@ rational q z o = record { number = tt; not_zero = λ e. z (num_path e); not_one 
     num_path e = cc
 
 pub irrational : (c : Tree) → IsNumber c → is_num c ≡ false → IsCoefficient c
-irrational c n h = record { number = n; not_zero = λ e. clash (sym (ap is_num e) ∙ h); not_one = λ e. clash (sym (ap is_num e) ∙ h) }
+irrational c n h = record { number = n; not_zero = λ e. true≢false (sym (ap is_num e) ∙ h); not_one = λ e. true≢false (sym (ap is_num e) ∙ h) }
 
 alone_no_add : (us : Trees) → is_one_add us ≡ false → is_add (product_tree us) ≡ false
 alone_no_add none h = refl
-alone_no_add (more (add us) none) h = absurd (clash h)
+alone_no_add (more (add us) none) h = absurd (true≢false h)
 alone_no_add (more t none) h = refl
 alone_no_add (more t (more u us)) h = refl
 
@@ -101,26 +99,26 @@ module _ (q : Fraction) (f : IsFactor q) where
               → IsMultiple (mult (more (num c) us)) (if b then product_tree us else mult (more (num (times q c)) us))
           rational_led c z d e true g = gone (mult (more (num c) us)) us a d e
           rational_led c z d e false g = multiple_of (num (times q c)) (mult (more (num c) us)) us (more (num (times q c)) us) (rational (times q c) z (not_one_is (times q c) g)) a (λ h. d) e refl
-      by (root (num r)) n z d e = multiple_of (mult (more (num q) (more (root (num r)) none))) _ us _ (irrational _ (f.not_zero, f.not_one, n) refl) a (λ h. absurd (clash (sym h))) e refl
+      by (root (num r)) n z d e = multiple_of (mult (more (num q) (more (root (num r)) none))) _ us _ (irrational _ (f.not_zero, f.not_one, n) refl) a (λ h. absurd (true≢false (sym h))) e refl
       by (mult (more (num c) (more (root (num r)) none))) n z d e = root_led (is_one_fraction (times q c)) refl
         where
           root_led : (b : Bool) → is_one_fraction (times q c) ≡ b
               → IsMultiple (mult (more (num c) (more (root (num r)) us))) (if b then product_tree (more (root (num r)) us) else mult (more (num (times q c)) (more (root (num r)) us)))
-          root_led true g = whole us a.some (multiple_of (root (num r)) _ us (more (root (num r)) us) (irrational (root (num r)) n.2 refl) a (λ h. absurd (clash (sym h))) e refl)
+          root_led true g = whole us a.some (multiple_of (root (num r)) _ us (more (root (num r)) us) (irrational (root (num r)) n.2 refl) a (λ h. absurd (true≢false (sym h))) e refl)
             where
               whole : (us : Trees) → 1 ≤ count us → IsMultiple (mult (more (num c) (more (root (num r)) us))) (mult (more (root (num r)) us)) → IsMultiple (mult (more (num c) (more (root (num r)) us))) (product_tree (more (root (num r)) us))
               whole none l h = absurd (omega arith)
               whole (more u us) l h = h
-          root_led false g = multiple_of (mult (more (num (times q c)) (more (root (num r)) none))) _ us _ (irrational _ (product_not_zero q c f.not_zero n.0, not_one_is (times q c) g, n.2) refl) a (λ h. absurd (clash (sym h))) e refl
+          root_led false g = multiple_of (mult (more (num (times q c)) (more (root (num r)) none))) _ us _ (irrational _ (product_not_zero q c f.not_zero n.0, not_one_is (times q c) g, n.2) refl) a (λ h. absurd (true≢false (sym h))) e refl
       by (add ts) n z d e =
           subst (λ (b : Bool). IsMultiple (mult (more (add ts) us)) (if b then mult (more (rational_times_number q ts) us) else mult (more (num q) (more (add ts) us)))) (sym (number_test (add ts) n))
-          (multiple_of (rational_times_number q ts) _ us _ (irrational _ (number_scaled q ts f n) refl) a (λ h. absurd (clash (sym h))) e refl)
+          (multiple_of (rational_times_number q ts) _ us _ (irrational _ (number_scaled q ts f n) refl) a (λ h. absurd (true≢false (sym h))) e refl)
       by c n z d e = absurd n
 
   -- before factors with no Number in front
   unled : (ts : Trees) → has_coefficient ts ≡ false → rational_times_term q (mult ts) ≡ mult (more (num q) ts)
   unfolding is_number
-  unled (more (num c) ts) h = absurd (clash h)
+  unled (more (num c) ts) h = absurd (true≢false h)
   unled (more (add us) ts) h = ap (λ (b : Bool). if b then mult (more (rational_times_number q us) ts) else mult (more (num q) (more (add us) ts))) h
   unled ts h = refl
 
@@ -140,16 +138,16 @@ module _ (q : Fraction) (f : IsFactor q) where
       (led l.c l.factors l.coefficient a (spread_behind l.c l.factors l.coefficient (sym (ap is_undistributed is) ∙ form.distributed)) (ap (λ (s : Split). product_tree s.factors) is))
 
   product_form_of : (ts : Trees) → AllParts HasForm (mult ts) → is_number (mult ts) ≡ false → IsProductForm ts
-  product_form_of ts h n = elim (h.0) [ inl k ↦ absurd (clash (sym (number_test (mult ts) k) ∙ n)) | inr k ↦ k ]
+  product_form_of ts h n = elim (h.0) [ inl k ↦ absurd (true≢false (sym (number_test (mult ts) k) ∙ n)) | inr k ↦ k ]
 
   pub multiple : (t : Tree) → AllParts HasForm t → is_number t ≡ false → is_add t ≡ false → IsMultiple t (rational_times_term q t)
   unfolding is_number
-  multiple (num c) h n s = absurd (clash n)
-  multiple (add ts) h n s = absurd (clash s)
+  multiple (num c) h n s = absurd (true≢false n)
+  multiple (add ts) h n s = absurd (true≢false s)
   multiple (mult ts) h n s = let g = product_form_of ts h n in product_multiple ts h n g (in_front ts g.no_product g.front)
   multiple t h n s =
       before t (more t none) (monic_factors t (record { reduced = parts_reduced t h; defined = parts_defined t h; no_coefficient = n })) (no_add t s) refl
     where
       no_add : (t : Tree) → is_add t ≡ false → is_one_add (more t none) ≡ false
-      no_add (add ts) s = absurd (clash s)
+      no_add (add ts) s = absurd (true≢false s)
       no_add t s = refl

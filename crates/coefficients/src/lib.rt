@@ -1,5 +1,5 @@
 //! The coefficient of a term or a product: taken off, and put back.
-#![tactic(auto)]
+#![tactic(auto, using(tree_handles::proofs::Roots::root_held))]
 
 pub mod laws;
 mod multiples;

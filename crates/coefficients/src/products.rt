@@ -15,7 +15,7 @@ ghost use Rattle.tree_handles.specs.Roots.{without_root};
 use calc_terms::{Kind, Rat};
 use node_pool::{Full, Pool};
 use tree_handles::{
-    Handle, add_child, children, kind, move_last, node, number, release, take_child,
+    Handle, add_child, children, kind, move_last, node_over, number, release, take_child,
 };
 
 /// A product itself, and a product of one factor for any other tree.
@@ -34,11 +34,7 @@ pub(crate) fn as_product(pool: &mut Pool, tree: Handle) -> Result<Handle, Full>
             move_last(pool, &tree);
             Ok(tree)
         }
-        _ => {
-            let product = node(pool, Kind::Mult)?;
-            add_child(pool, &product, 0, tree);
-            Ok(product)
-        }
+        _ => { node_over(pool, Kind::Mult, tree) }
     }
 }
 

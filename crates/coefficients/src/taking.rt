@@ -17,7 +17,7 @@ use crate::products::unwrapped;
 use calc_terms::{Kind, Rat};
 use node_pool::{Full, Id, Pool};
 use number_forms::is_reduced_number;
-use tree_handles::{Handle, add_child, child_id, kind, move_last, node, number, take_child};
+use tree_handles::{Handle, child_id, kind, move_last, node_over_two, number, take_child};
 
 /// How many leading children of a reduced product make its coefficient: none, 1, or 2 where it has
 /// one square class and is spliced.
@@ -109,8 +109,5 @@ fn take_leading(pool: &mut Pool, product: &Handle) -> Result<Handle, Full>
     }
     let rational = take_child(pool, product, 0);
     let root = take_child(pool, product, 0);
-    let coefficient = node(pool, Kind::Mult)?;
-    add_child(pool, &coefficient, 0, root);
-    add_child(pool, &coefficient, 0, rational);
-    Ok(coefficient)
+    node_over_two(pool, Kind::Mult, rational, root)
 }

@@ -1,4 +1,5 @@
 -- Numbers by their places, and rationals calculated from left to right.
+use Rattle.std.proofs.lemmas.Bool.{true≢false}
 use Rattle.std.specs.Prelude.{Err}
 use Rattle.std.proofs.Common.{ℕ, zero, suc, ◌≤◌, ◌≡◌, List, ◌∷◌, Bool, true, false, if◌then◌else◌, refl, sym, ap, ◌∙◌, subst, arith}
 use Rattle.like_children.proofs.Shared.{and_parts, Fraction, is_number, PlainValue, exactly, overflow, calculated, fold_values, gather, values, plain_of_children, plain_value, are_plain, NoneIs, Tree, num, add, mult, Trees, none, more, count, is_num, are_rationals, State, AnswersRationals, Overflow, NumberFault, nth, removed, rational_of, rationals_of, AreFolded, IsTotal, AnswersTotal, NoNumberBetween, IsNextNumber, others_in}
@@ -6,9 +7,6 @@ use Rattle.calc_terms.specs.Fits.{Operation, add_op, mul_op, operation_fits, res
 use Rattle.calc_measures.specs.PlainTrees.{IsPlainAnswer, IsPlainOverflow}
 use Rattle.like_children.proofs.NumbersIn.{number_out}
 use Rattle.tree_handles.specs.declared.fault.NumberFault.TheVariants as fault
-
-clash : true ≡ false → ⊥
-clash e = cc
 
 -- ---- Numbers by their places
 
@@ -65,7 +63,7 @@ pub record IsFirst (at : ℕ) (us : Trees) : Type 0 where
 pub first_of : (at : ℕ) (us : Trees) → are_rationals us ≡ true → IsNextNumber 0 at us → IsFirst at us
 first_of at none r h = absurd (let l = h.within in omega (arith, l))
 first_of zero (more t ts) r h = let (a, b) = and_parts (is_num t) (are_rationals ts) r in record { rest = ts; is = refl; left = refl; rational = a; rationals = b }
-first_of (suc n) (more t ts) r h = absurd (clash (sym (num_number t (and_parts (is_num t) (are_rationals ts) r).0) ∙ h.before 0 (omega arith) (omega arith)))
+first_of (suc n) (more t ts) r h = absurd (true≢false (sym (num_number t (and_parts (is_num t) (are_rationals ts) r).0) ∙ h.before 0 (omega arith) (omega arith)))
 
 rationals_first : (at : ℕ) (us : Trees) (f : IsFirst at us) → rationals_of us ≡ rational_of (nth at us) ∷ rationals_of f.rest
 rationals_first at us f = ap rationals_of f.is
@@ -128,7 +126,7 @@ fold_faulted v at us d new (fault.Overflow o) a h k = fold_overflowed v at us d 
 -- none is left
 pub no_rationals : (us : Trees) → NoneIs is_number us → are_rationals us ≡ true → us ≡ none
 no_rationals none b h = refl
-no_rationals (more t us) b h = absurd (clash (sym (num_number t (and_parts (is_num t) (are_rationals us) h).0) ∙ b.0))
+no_rationals (more t us) b h = absurd (true≢false (sym (num_number t (and_parts (is_num t) (are_rationals us) h).0) ∙ b.0))
 
 pub fold_done : {op : Operation} (v : PlainValue) (us : Trees) (d : Tree) → AreFolded op v d us → NoneIs is_number us → IsTotal v d
 fold_done {op = op} v us d a b =
@@ -142,7 +140,7 @@ fold_done {op = op} v us d a b =
 -- rationals have a Number among them
 pub some_number : (ts : Trees) → are_rationals ts ≡ true → 1 ≤ count ts → NoNumberBetween 0 (count ts) ts → ⊥
 some_number none q m b = absurd (omega arith)
-some_number (more t ts) q m b = clash (sym (num_number t (and_parts (is_num t) (are_rationals ts) q).0) ∙ b 0 (omega arith) (omega arith))
+some_number (more t ts) q m b = true≢false (sym (num_number t (and_parts (is_num t) (are_rationals ts) q).0) ∙ b 0 (omega arith) (omega arith))
 
 -- and nothing else
 pub rational_others : (ts : Trees) → are_rationals ts ≡ true → others_in ts ≡ none

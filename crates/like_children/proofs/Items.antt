@@ -1,10 +1,7 @@
 -- Children by their identifiers.
-use Rattle.std.proofs.Common.{ℕ, suc, ◌<◌, ◌≤◌, ◌≡◌, List, [], ◌∷◌, true, sym, ap, ◌∙◌, arith}
-use Rattle.like_children.proofs.Shared.{Tree, count, State, root_ids, nth, plain, children_of, IsExpression, arity, kids, rest_trees, tree_of, IsHanded, holds, tree_at, kids_of, root_tree, Stands, forest, kids_of_root, plain_root, expression_root, count-plains, children_of-plain, root_held}
+use Rattle.std.proofs.Common.{ℕ, suc, ◌<◌, ◌≤◌, ◌≡◌, List, [], ◌∷◌, sym, ap, ◌∙◌, arith}
+use Rattle.like_children.proofs.Shared.{Tree, count, State, root_ids, nth, plain, children_of, IsExpression, arity, kids, rest_trees, tree_of, IsHanded, tree_at, kids_of, root_tree, Stands, forest, kids_of_root, plain_root, expression_root, count-plains, children_of-plain}
 use Rattle.tree_handles.proofs.ChildPlaces.{seen_child, step_on, no_more}
-
-pub root_live : (s : State) {i j : ℕ} → j ≡ i → IsHanded i (forest s) → holds j (forest s) ≡ true
-root_live s {i = i} e h = ap (λ (k : ℕ). holds k (forest s)) e ∙ root_held i (forest s) h.root
 
 pub children_count : {s : State} {i : ℕ} → Stands s → IsHanded i (forest s) → arity (kids_of i (forest s)) ≡ count (children_of (tree_of i s))
 children_count {s = s} {i = i} st h =

@@ -1,5 +1,8 @@
 -- The Numbers among trees, and the others.
-use Rattle.std.proofs.Common.{ℕ, zero, suc, ◌+◌, ◌<◌, ◌≡◌, Bool, true, false, ◌&&◌, if◌then◌else◌, refl, sym, ap, ◌∙◌, arith}
+pub use Rattle.coefficients.proofs.Loops.{append_assoc as trees_assoc, count_append}
+pub use Rattle.tree_handles.proofs.Given.{append-none as append_none}
+pub use Rattle.std.proofs.lemmas.Bool.{and_parts as both_true}
+use Rattle.std.proofs.Common.{ℕ, zero, suc, ◌<◌, ◌≡◌, Bool, true, false, if◌then◌else◌, refl, sym, ap, ◌∙◌, arith}
 use Rattle.like_children.proofs.Shared.{and_from, is_number, are_numbers, NoneIs, Permuted, permuted_none, permuted_more, permuted_trans, Permuted-sym, Permuted-to_front, Tree, Trees, none, more, append, count, removed, nth, numbers_in, others_in, IsNextNumber}
 
 -- ---- the first one
@@ -61,24 +64,7 @@ pub append_one : (first : Trees) (x : Tree) (rest : Trees) → append first (mor
 append_one none x rest = refl
 append_one (more t ts) x rest = ap (more t) (append_one ts x rest)
 
-pub trees_assoc : (ts us vs : Trees) → append (append ts us) vs ≡ append ts (append us vs)
-trees_assoc none us vs = refl
-trees_assoc (more t ts) us vs = ap (more t) (trees_assoc ts us vs)
-
-pub count_append : (ts us : Trees) → count (append ts us) ≡ count ts + count us
-count_append none us = omega arith
-count_append (more t ts) us = omega (arith, count_append ts us)
-
-pub append_none : (ts : Trees) → append ts none ≡ ts
-append_none none = refl
-append_none (more t ts) = ap (more t) (append_none ts)
-
 -- ---- they are Numbers, and the others are none
-
-pub both_true : (a b : Bool) → (a && b) ≡ true → (a ≡ true) × (b ≡ true)
-both_true true true h = (refl, refl)
-both_true true false h = cc
-both_true false b h = cc
 
 pub front_numbers : (ts us : Trees) → are_numbers (append ts us) ≡ true → are_numbers ts ≡ true
 front_numbers none us n = refl

@@ -1,6 +1,6 @@
 //! What sums and products do alike with their children: they open those of their own kind, join the Numbers among them, and find
 //! neighbours with one key.
-#![tactic(auto)]
+#![tactic(auto, using(tree_handles::proofs::Roots::root_held))]
 
 mod collecting;
 mod neighbours;

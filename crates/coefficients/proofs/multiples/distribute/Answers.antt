@@ -1,5 +1,5 @@
 use Rattle.std.proofs.Common.{rules, ◌+◌, ◌^◌, ◌<◌, length, ap, ◌∙◌, refl, sym, subst, arith}
-use Rattle.coefficients.proofs.Shared.{value_of, is_reduced, keeps_none, keeps_after, given_handed, given_root, given_told, root_held, rational_times_term, leads_sum, mapped, LeadsTerm, LeadsIn, over_sum, children_at, children_in, moved, moved_front, live, counted, SpansTree, Tree, add, append, more, size, sizes, put_room, OfFull, free_of, tree_of}
+use Rattle.coefficients.proofs.Shared.{value_of, is_reduced, keeps_none, keeps_after, given_handed, given_root, given_told, root_held, rational_times_term, leads_sum, mapped, LeadsTerm, LeadsIn, over_sum, children_in, moved, moved_front, counted, SpansTree, Tree, add, append, more, size, sizes, put_room, OfFull, free_of, tree_of}
 use Rattle.coefficients.proofs.Loops.{none_done, next_of, next_within, back_within, next_taken, next_done, all_of, part_front}
 use Rattle.coefficients.proofs.Named.{passed_named, multiple_of, leads_behind}
 use Rattle.coefficients.proofs.Rewritten.{given_as, over_back, apart_back, front_lost, term_reduced}
@@ -8,9 +8,6 @@ use Rattle.coefficients.proofs.Lacks.{passed_lacks, factor_of, sum_whole, taken_
 use Rattle.coefficients.proofs.Rooms.{term_lacks, spanned_sum, spans_at}
 use Rattle.tree_room.specs.Needs as need
 use Rattle.coefficients.proofs.multiples.distribute.Goals as goal
-
-pub children-terms-requires-clause-live : goal.children-terms-requires-clause-live
-children-terms-requires-clause-live c = live c.args.pool.now c.id.ensures c.requires.handed.root
 
 pub loop-at-init : goal.loop-at-init
 loop-at-init c = record {

@@ -1,4 +1,5 @@
-use Rattle.std.proofs.Common.{◌≡◌, ℕ, ℤ, pos, negsuc, zero, suc, Bool, true, false, ◌&&◌, refl, sym, ap, ◌∙◌, rules, FitsSigned, of_z, to_z, nat_eq}
+use Rattle.std.proofs.lemmas.Bool.{true≢false}
+use Rattle.std.proofs.Common.{◌≡◌, ℕ, ℤ, pos, negsuc, zero, suc, Bool, false, ◌&&◌, refl, sym, ap, ◌∙◌, rules, FitsSigned, of_z, to_z, nat_eq}
 use Rattle.std.specs.Prelude.{◌==◌}
 use Rattle.coefficients.proofs.Shared.{w128, eqb-true, eq-eqb, to_z-of_z, int_is_one, value_of, unequal, ratio_parts, by_test}
 use Rattle.coefficients.proofs.multiples.is_one.Goals as goal
@@ -12,10 +13,7 @@ one_bits z fits e = sym (to_z-of_z w128 z fits) ∙ ap (to_z w128) e
 whole_bits : (z : ℤ) (d : ℕ) → FitsSigned w128 z → z ≡ pos d → nat_eq (of_z w128 z) 1 ≡ (d == 1)
 whole_bits z d fits e = by_test (λ t. nat_eq (of_z w128 z) 1 ≡ t → t ≡ (d == 1)) (nat_eq (of_z w128 z) 1)
     (λ u q. sym (eq-eqb d 1 (one_of (sym e ∙ one_bits z fits (eqb-true (of_z w128 z) 1 q)))))
-    (λ u q. sym (unequal d 1 (λ k. clash (sym (eq-eqb (of_z w128 z) 1 (ap (of_z w128) (e ∙ ap pos k))) ∙ q)))) refl
-  where
-    clash : true ≡ false → ⊥
-    clash e = cc
+    (λ u q. sym (unequal d 1 (λ k. true≢false (sym (eq-eqb (of_z w128 z) 1 (ap (of_z w128) (e ∙ ap pos k))) ∙ q)))) refl
 
 no_one : (z : ℤ) → (of_z w128 z ≡ 1 → ⊥) → int_is_one z ≡ false
 no_one (pos zero) h = refl

@@ -1,16 +1,10 @@
 use Rattle.std.proofs.Common.{ap, ◌∙◌, sym, refl, arith}
-use Rattle.coefficients.proofs.Shared.{released_free, rational, ratio_of, value_of, Fraction, num, Leads, IsMultiple, tree_of, behind_first, front_after, front_at, front_same, front_without, gives_as, owned, live, seen, kind_of_root, product_kind, if_map}
+use Rattle.coefficients.proofs.Shared.{released_free, rational, ratio_of, value_of, Fraction, num, Leads, IsMultiple, tree_of, behind_first, front_after, front_at, front_same, front_without, gives_as, owned, seen, kind_of_root, product_kind, if_map}
 use Rattle.coefficients.proofs.Named.{named, multiple_named, leads_number}
 use Rattle.coefficients.proofs.LedFactors.{times_number, times_product, times_other}
 use Rattle.coefficients.proofs.Free.{number_refused}
 use Rattle.coefficients.proofs.Lacks.{refusal_lacks}
 use Rattle.coefficients.proofs.multiples.rational_times.Goals as goal
-
-pub kind-requires-clause-live : goal.kind-requires-clause-live
-kind-requires-clause-live c = live c.args.pool.now c.id.ensures c.requires.handed.root
-
-pub rational-requires-clause-live : goal.rational-requires-clause-live
-rational-requires-clause-live c = live c.args.pool.now c.id-in-Num.ensures c.requires.handed.root
 
 pub returns-in_err-number-in-Num-clause-front : goal.returns-in_err-number-in-Num-clause-front
 returns-in_err-number-in-Num-clause-front c =

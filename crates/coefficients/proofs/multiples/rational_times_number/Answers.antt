@@ -1,5 +1,5 @@
 use Rattle.std.proofs.Common.{rules, ap, ◌∙◌, refl, sym, subst, arith, ◌+◌, ◌*◌, ◌^◌, ◌<◌, length}
-use Rattle.coefficients.proofs.Shared.{value_of, is_reduced, keeps_none, keeps_after, given_handed, given_root, given_told, root_held, mapped, rational_times, Leads, LeadsIn, over_sum, children_at, children_in, moved, moved_front, live, SpansTree, Tree, add, size, sizes, is_number, free_of, tree_of}
+use Rattle.coefficients.proofs.Shared.{value_of, is_reduced, keeps_none, keeps_after, given_handed, given_root, given_told, root_held, mapped, rational_times, Leads, LeadsIn, over_sum, children_in, moved, moved_front, SpansTree, Tree, add, size, sizes, is_number, free_of, tree_of}
 use Rattle.coefficients.proofs.Loops.{none_done, next_of, next_within, back_within, next_taken, next_done, all_of, part_front}
 use Rattle.coefficients.proofs.Named.{passed_named, multiple_of, leads_behind}
 use Rattle.coefficients.proofs.Rewritten.{given_as, over_back, apart_back, front_lost, term_reduced}
@@ -7,9 +7,6 @@ use Rattle.coefficients.proofs.Free.{next_free, taken_free}
 use Rattle.coefficients.proofs.Lacks.{passed_lacks, factor_of, sum_whole, taken_sizes}
 use Rattle.coefficients.proofs.Rooms.{number_lacks}
 use Rattle.coefficients.proofs.multiples.rational_times_number.Goals as goal
-
-pub children-terms-requires-clause-live : goal.children-terms-requires-clause-live
-children-terms-requires-clause-live c = live c.args.pool.now c.id.ensures c.requires.handed.root
 
 pub loop-at-init : goal.loop-at-init
 loop-at-init c = record {

@@ -1,4 +1,5 @@
-use Rattle.std.proofs.Common.{rules, ap, ◌∙◌, sym, refl, subst, arith, true, false, ◌≡◌, ◌+◌, ◌^◌, ◌<◌, length}
+use Rattle.std.proofs.lemmas.Bool.{true≢false}
+use Rattle.std.proofs.Common.{rules, ap, ◌∙◌, sym, refl, subst, arith, ◌+◌, ◌^◌, ◌<◌, length}
 use Rattle.coefficients.proofs.Shared.{tree_of, forest, more, IsTaken, IsAdded, value_of, is_reduced, Tree, add, none, is_add, size, children_of, front_same, gives_as, given_handed, given_root, given_told, root_held, leads_sum, rational_times_number, Leads, LeadsIn, taken, children_in, moved, moved_front, expression, seen, if_map, is_number, counted, SpansTree, free_of}
 use Rattle.coefficients.proofs.Named.{passed_named, multiple_of, leads_coefficient}
 use Rattle.coefficients.proofs.LedFactors.{IsSumLed, sum_led, led_over, led_reduced, times_led, times_sum_unled}
@@ -89,16 +90,10 @@ returns-in_err-multiple-clause-named c =
     (multiple_of (λ x h. leads_coefficient x _ d.0.terms d.0.rest d.0.whole d.0.number (subst (λ (u : Tree). LeadsIn Leads x (children_of u)) (given_told d.1.gives) h)))
 
 pub returns-in_err-multiple-clause-few : goal.returns-in_err-multiple-clause-few
-returns-in_err-multiple-clause-few c unled = absurd (clash (sym (ap leads_sum (sym (seen c.id.ensures c.requires.stands c.requires.handed)) ∙ sym c.if-not-is_led_by_sum.ensures) ∙ unled))
-  where
-    clash : true ≡ false → ⊥
-    clash e = cc
+returns-in_err-multiple-clause-few c unled = absurd (true≢false (sym (ap leads_sum (sym (seen c.id.ensures c.requires.stands c.requires.handed)) ∙ sym c.if-not-is_led_by_sum.ensures) ∙ unled))
 
 pub returns-then-not-is_led_by_sum-clause-room : goal.returns-then-not-is_led_by_sum-clause-room
-returns-then-not-is_led_by_sum-clause-room c gs z o s led = absurd (clash (sym led ∙ ap leads_sum (sym (seen c.id.ensures c.requires.stands c.requires.handed)) ∙ sym c.if-not-is_led_by_sum.ensures))
-  where
-    clash : true ≡ false → ⊥
-    clash e = cc
+returns-then-not-is_led_by_sum-clause-room c gs z o s led = absurd (true≢false (sym led ∙ ap leads_sum (sym (seen c.id.ensures c.requires.stands c.requires.handed)) ∙ sym c.if-not-is_led_by_sum.ensures))
 
 pub returns-in_err-multiple-clause-room : goal.returns-in_err-multiple-clause-room
 returns-in_err-multiple-clause-room c gs z o s led =

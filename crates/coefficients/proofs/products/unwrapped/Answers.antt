@@ -1,10 +1,7 @@
 use Rattle.std.proofs.Common.{◌∙◌, inl}
-use Rattle.coefficients.proofs.Shared.{behind_first, front_at, front_end, front_put, front_same, front_without, gives, represents_handed, owned, over_product, count_is, children_at, live}
+use Rattle.coefficients.proofs.Shared.{behind_first, front_at, front_end, front_put, front_same, front_without, gives, represents_handed, owned, over_product, count_is, children_at}
 use Rattle.coefficients.proofs.Steps.{only_taken, many_factors}
 use Rattle.coefficients.proofs.products.unwrapped.Goals as goal
-
-pub children-requires-clause-live : goal.children-requires-clause-live
-children-requires-clause-live c = live c.args.pool.now c.id.ensures c.requires.handed.root
 
 pub release-requires-clause-releasable : goal.release-requires-clause-releasable
 release-requires-clause-releasable c =

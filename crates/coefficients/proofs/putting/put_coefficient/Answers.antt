@@ -1,16 +1,10 @@
 use Rattle.std.proofs.Common.{◌∙◌, sym, ap, refl, ◌^◌, length, subst, arith}
-use Rattle.coefficients.proofs.Shared.{released_free, is_reduced, plain, Forest, root_tree, without_root, forest, behind_first, behind_later, front_after_one, front_at, front_same, front_without, gives_as, handed_at, handed_beside, owned, eqb-sym, if_map, tree-without, without-swap, with_coefficient, live, seen, kind_of_root, counted, SpansTree, Tree, size, put_room, free_of, refused_below, tree_of}
+use Rattle.coefficients.proofs.Shared.{released_free, is_reduced, plain, Forest, root_tree, without_root, forest, behind_first, behind_later, front_after_one, front_at, front_same, front_without, gives_as, handed_at, handed_beside, owned, eqb-sym, if_map, tree-without, without-swap, with_coefficient, seen, kind_of_root, counted, SpansTree, Tree, size, put_room, free_of, refused_below, tree_of}
 use Rattle.coefficients.proofs.Named.{result_named, put_as}
 use Rattle.coefficients.proofs.Puttings.{on_ok_after, fault_after, with_irrational}
 use Rattle.coefficients.proofs.Lacks.{refusal_lacks, result_lacks}
 use Rattle.coefficients.proofs.Rooms.{both_lack}
 use Rattle.coefficients.proofs.putting.put_coefficient.Goals as goal
-
-pub kind-requires-clause-live : goal.kind-requires-clause-live
-kind-requires-clause-live c = live c.args.pool.now c.id.ensures c.requires.first.root
-
-pub rational-q-requires-clause-live : goal.rational-q-requires-clause-live
-rational-q-requires-clause-live c = live c.args.pool.now c.id-in-Num.ensures c.requires.first.root
 
 pub put_rational-requires-clause-handed : goal.put_rational-requires-clause-handed
 put_rational-requires-clause-handed c = handed_at (handed_beside c.args.coefficient c.requires.apart c.requires.second) (c.release.ensures.owned (owned c.requires.first))

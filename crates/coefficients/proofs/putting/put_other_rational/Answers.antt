@@ -1,13 +1,10 @@
 use Rattle.std.proofs.Common.{◌∙◌, sym, refl}
-use Rattle.coefficients.proofs.Shared.{value_of, gives_as, live, kind_of_root, sum_kind, no_sum_kind, if_map, free_of, tree_of}
+use Rattle.coefficients.proofs.Shared.{value_of, gives_as, kind_of_root, sum_kind, no_sum_kind, if_map, free_of, tree_of}
 use Rattle.coefficients.proofs.Named.{result_named, names_sum}
 use Rattle.coefficients.proofs.Puttings.{before_sum, before_other}
 use Rattle.coefficients.proofs.Lacks.{refusal_lacks}
 use Rattle.coefficients.proofs.Rooms.{part_lacks}
 use Rattle.coefficients.proofs.putting.put_other_rational.Goals as goal
-
-pub kind-requires-clause-live : goal.kind-requires-clause-live
-kind-requires-clause-live c = live c.args.pool.now c.id.ensures c.requires.handed.root
 
 pub distribute-requires-clause-sum : goal.distribute-requires-clause-sum
 distribute-requires-clause-sum c =

@@ -1,11 +1,8 @@
 use Rattle.std.proofs.Common.{rules, ◌∙◌, ap, sym}
-use Rattle.coefficients.proofs.Shared.{Trees, mult, more, append, is_mult, plain, children_of, root_tree, forest, keeps_after, behind_first, behind_later, behind_new, front_after_one, front_after_two, front_same, front_without, gives_as, given_handed, given_other, given_apart, given_same, given_told, given_without, handed_beside, eqb-sym, tree-without, factors_of, live, kind_of_root, product_kind, no_product_kind}
+use Rattle.coefficients.proofs.Shared.{Trees, mult, more, append, is_mult, plain, children_of, root_tree, forest, keeps_after, behind_first, behind_later, behind_new, front_after_one, front_after_two, front_same, front_without, gives_as, given_handed, given_other, given_apart, given_same, given_told, given_without, handed_beside, eqb-sym, tree-without, factors_of, kind_of_root, product_kind, no_product_kind}
 use Rattle.coefficients.proofs.Factors.{single_factors}
 use Rattle.coefficients.proofs.FirstFactors.{product_children}
 use Rattle.coefficients.proofs.splicing.splice.Goals as goal
-
-pub kind-requires-clause-live : goal.kind-requires-clause-live
-kind-requires-clause-live c = live c.args.pool.now c.id.ensures c.requires.first.root
 
 pub put_factors-spliced-requires : goal.put_factors-spliced-requires
 put_factors-spliced-requires c =

@@ -1,12 +1,9 @@
 use Rattle.std.proofs.Common.{rules, ◌≤◌, ◌∙◌, ap, refl, sym, subst}
-use Rattle.coefficients.proofs.Shared.{gives_without, product_tree, Tree, num, count, is_mult, plain, children_of, keeps_none, keeps_after, behind_first, behind_new, front_after_one, front_same, front_end, front_without, gives, gives_as, given_handed, given_other, given_rest, given_same, given_told, represents_handed, other_root, without_root, forest, live, kind_of_root, product_kind, no_product_kind}
+use Rattle.coefficients.proofs.Shared.{gives_without, product_tree, Tree, num, count, is_mult, plain, children_of, keeps_none, keeps_after, behind_first, behind_new, front_after_one, front_same, front_end, front_without, gives, gives_as, given_handed, given_other, given_rest, given_same, given_told, represents_handed, other_root, without_root, forest, kind_of_root, product_kind, no_product_kind}
 use Rattle.coefficients.proofs.Bytes.{taking_product, taking_other, as_bytes, never, refused_once, short, short_as, passed_short}
 use Rattle.coefficients.proofs.Lengths.{some_factors, product_coefficient, product_part, other_coefficient, other_part}
 use Rattle.coefficients.proofs.Steps.{one_value, one_size}
 use Rattle.coefficients.proofs.taking.take_coefficient.Goals as goal
-
-pub kind-requires-clause-live : goal.kind-requires-clause-live
-kind-requires-clause-live c = live c.args.pool.now c.id.ensures c.requires.handed.root
 
 pub split_product-requires-clause-product : goal.split_product-requires-clause-product
 split_product-requires-clause-product c =

@@ -1,10 +1,12 @@
 use Rattle.std.proofs.Common.{rules, ◌≡◌, ℕ, ◌∙◌, ap, refl, sym, subst, arith}
-use Rattle.coefficients.proofs.Shared.{root, Fraction, Split, is_reduced, num_one, Trees, num, is_mult, Forest, kids, Represents, Gives, root_tree, forest, behind_first, front_after, front_end, front_put, front_same, gives_as, given_rest, given_root, last_held, last_apart, other_root, ends_as, put-same, LeavesRest, keeps_after, IsOver, over_product, children_in, expression, seen, if_map}
-use Rattle.coefficients.proofs.Bytes.{none_bytes, one_bytes, two_bytes, pair_free, always, never, no_bytes, as_bytes, refused_once, short, passed_short, result_short}
+use Rattle.coefficients.proofs.Shared.{root, Fraction, Split, is_reduced, num_one, Trees, num, is_mult, Forest, kids, Represents, Gives, root_tree, forest, behind_first, front_end, front_put, front_same, gives_as, put-same, LeavesRest, keeps_after, IsOver, over_product, children_in, expression, seen, if_map}
+use Rattle.coefficients.proofs.Bytes.{none_bytes, one_bytes, two_bytes, pair_free, always, no_bytes, as_bytes, short, result_short}
 use Rattle.coefficients.proofs.Lengths.{long, measured}
-use Rattle.coefficients.proofs.Steps.{IsFirstTaken, IsPairTaken, length_seen, leaves_one, first_taken, pair_taken, pair_front, paired, one_value, one_size}
+use Rattle.coefficients.proofs.Steps.{IsFirstTaken, IsPairTaken, length_seen, leaves_one, first_taken, pair_taken, pair_front, one_value, one_size}
 use Rattle.calc_terms.specs.declared.kind.Kind.TheVariants as kind
 use Rattle.coefficients.proofs.taking.take_leading.Goals.{After-take_child-root}
+use Rattle.coefficients.proofs.Shared.{refusal_as, first_handed, given_handed, pair_apart, pair_rest, front_after_two, behind_new, keeps_after}
+use Rattle.coefficients.proofs.Steps.{pair_tree}
 use Rattle.coefficients.proofs.taking.take_leading.Goals as goal
 
 pub coefficient_length-length-requires : goal.coefficient_length-length-requires
@@ -56,41 +58,31 @@ pair c =
     let t = first_taken c.id.ensures c.requires.stands c.requires.handed c.requires.product c.requires.reduced c.coefficient_length-length.ensures c.if-length-eq0.false c.if-length-eq1.false (c.take_child-rational.ensures.last c.requires.handed.root) in
     (t, pair_taken t.start (c.take_child-rational.ensures.last c.requires.handed.root) (c.take_child-root.ensures.last t.over.root))
 
-pub returns-in_err-coefficient-clause-front : goal.returns-in_err-coefficient-clause-front
-returns-in_err-coefficient-clause-front c = front_after (pair_front (pair (goal.at.returns-in_err-coefficient-clause-front c).After-take_child-root).1) c.node.ensures.front
-
-pub add_child-requires : goal.add_child-requires
-add_child-requires c =
-    let d = pair (goal.at.add_child-requires c).After-take_child-root in
+pub node_over_two-requires : goal.node_over_two-requires
+node_over_two-requires c =
+    let d = (pair (goal.at.node_over_two-requires c).After-take_child-root).1 in
     record {
       stands = search rules;
-      live = last_held c.in_ok-coefficient.ensures.ok;
-      within = search rules;
-      root = other_root c.take_child-root.result c.in_ok-coefficient.ensures.ok (given_root d.1.second);
-      apart = last_apart c.take_child-root.result c.in_ok-coefficient.ensures.stands c.in_ok-coefficient.ensures.ok (given_root d.1.second);
+      takes = refl;
+      first = first_handed d.first d.second;
+      second = given_handed d.second;
+      apart = pair_apart c.take_child-rational.result c.take_child-root.result d.first d.second;
     }
-
-pub add_child-requires-2-clause-root : goal.add_child-requires-2-clause-root
-add_child-requires-2-clause-root c = other_root c.take_child-rational.result (ends_as (c.add_child.ensures.last _ _ c.in_ok-coefficient.ensures.ok (given_root (pair (goal.at.add_child-requires-2-clause-root c).After-take_child-root).1.second)) refl (given_rest (pair (goal.at.add_child-requires-2-clause-root c).After-take_child-root).1.second)) (given_root (pair (goal.at.add_child-requires-2-clause-root c).After-take_child-root).1.first)
-
-pub add_child-requires-2-clause-apart : goal.add_child-requires-2-clause-apart
-add_child-requires-2-clause-apart c = last_apart c.take_child-rational.result c.add_child.ensures.stands (ends_as (c.add_child.ensures.last _ _ c.in_ok-coefficient.ensures.ok (given_root (pair (goal.at.add_child-requires-2-clause-apart c).After-take_child-root).1.second)) refl (given_rest (pair (goal.at.add_child-requires-2-clause-apart c).After-take_child-root).1.second)) (given_root (pair (goal.at.add_child-requires-2-clause-apart c).After-take_child-root).1.first)
 
 pub returns-clause-ok : goal.returns-clause-ok
 returns-clause-ok c =
     let d = pair (goal.at.returns-clause-ok c).After-take_child-root in
-    let x = paired d.1 (c.add_child.ensures.last _ _ c.in_ok-coefficient.ensures.ok (given_root d.1.second)) (λ others e r. c.add_child-2.ensures.last _ others e r) in
-    record {
-      kids = x.now;
-      rest-are = subst (Represents x.now) (sym (ap (λ (s : Split). s.factors) d.0.led.is)) x.kids;
-      given = gives_as x.given refl (λ u e. e ∙ sym (ap (λ (s : Split). s.coefficient) d.0.led.is));
-    }
+    if_map c.node_over_two.result _ _ c.node_over_two.ensures.ok (λ h g. record {
+      kids = d.1.now;
+      rest-are = subst (Represents d.1.now) (sym (ap (λ (s : Split). s.factors) d.0.led.is)) d.1.kids;
+      given = gives_as g (pair_rest d.1.first d.1.second) (λ u e. e ∙ pair_tree d.1 ∙ sym (ap (λ (s : Split). s.coefficient) d.0.led.is));
+    })
 
 pub returns-clause-front : goal.returns-clause-front
 returns-clause-front c =
-    let d = pair (goal.at.returns-clause-front c).After-take_child-root in
-    let x = paired d.1 (c.add_child.ensures.last _ _ c.in_ok-coefficient.ensures.ok (given_root d.1.second)) (λ others e r. c.add_child-2.ensures.last _ others e r) in
-    front_end x.given.ends (front_put x.now behind_first front_same)
+    let d = (pair (goal.at.returns-clause-front c).After-take_child-root).1 in
+    let first = front_put d.now behind_first front_same in
+    front_after_two (behind_new d.first.ends first) (behind_new d.second.ends (front_end d.first.ends first)) (pair_front d) c.node_over_two.ensures.front
 
 pub returns-then-length-eq0-clause-full : goal.returns-then-length-eq0-clause-full
 returns-then-length-eq0-clause-full c =
@@ -107,26 +99,18 @@ returns-then-length-eq1-clause-exactly c =
     let n = length_seen c.id.ensures c.requires.stands c.requires.handed c.coefficient_length-length.ensures ∙ c.if-length-eq1.true in
     always (one_bytes _ n) no_bytes
 
-pub returns-in_err-coefficient-clause-full : goal.returns-in_err-coefficient-clause-full
-returns-in_err-coefficient-clause-full c =
-    let d = pair (goal.at.returns-in_err-coefficient-clause-full c).After-take_child-root in
+pub returns-clause-full : goal.returns-clause-full
+returns-clause-full c =
+    let d = pair (goal.at.returns-clause-full c).After-take_child-root in
     let len = length_seen c.id.ensures c.requires.stands c.requires.handed c.coefficient_length-length.ensures in
     let kept = keeps_after _ _ _ c.take_child-rational.ensures.kept c.take_child-root.ensures.kept in
-    passed_short c.from_residual.result c.in_err-coefficient.field-0.0 c.from_residual.ensures.1
-    (short kept (pair_free c.requires.stands c.take_child-root.ensures.stands kept d.0.start d.1) (two_bytes _ (λ x. c.if-length-eq0.false (sym len ∙ x)) (λ x. c.if-length-eq1.false (sym len ∙ x))) c.in_err-coefficient.ensures.full)
-
-pub returns-in_err-coefficient-clause-exactly : goal.returns-in_err-coefficient-clause-exactly
-returns-in_err-coefficient-clause-exactly c =
-    let d = pair (goal.at.returns-in_err-coefficient-clause-exactly c).After-take_child-root in
-    let len = length_seen c.id.ensures c.requires.stands c.requires.handed c.coefficient_length-length.ensures in
-    let free = pair_free c.requires.stands c.take_child-root.ensures.stands (keeps_after _ _ _ c.take_child-rational.ensures.kept c.take_child-root.ensures.kept) d.0.start d.1 in
-    never c.from_residual.result c.from_residual.ensures.0 (two_bytes _ (λ x. c.if-length-eq0.false (sym len ∙ x)) (λ x. c.if-length-eq1.false (sym len ∙ x)))
-    (λ l. refused_once (c.in_err-coefficient.ensures.exactly.1 (omega (arith, l, free))))
+    refusal_as c.node_over_two.result c.node_over_two.ensures.full
+    (λ full r. short kept (pair_free c.requires.stands c.take_child-root.ensures.stands kept d.0.start d.1) (two_bytes _ (λ x. c.if-length-eq0.false (sym len ∙ x)) (λ x. c.if-length-eq1.false (sym len ∙ x))) r)
 
 pub returns-clause-exactly : goal.returns-clause-exactly
 returns-clause-exactly c =
     let d = pair (goal.at.returns-clause-exactly c).After-take_child-root in
     let len = length_seen c.id.ensures c.requires.stands c.requires.handed c.coefficient_length-length.ensures in
     let free = pair_free c.requires.stands c.take_child-root.ensures.stands (keeps_after _ _ _ c.take_child-rational.ensures.kept c.take_child-root.ensures.kept) d.0.start d.1 in
-    let room = c.in_ok-coefficient.ensures.exactly.0 refl in
-    always (two_bytes _ (λ x. c.if-length-eq0.false (sym len ∙ x)) (λ x. c.if-length-eq1.false (sym len ∙ x))) (omega (arith, room, free))
+    as_bytes (two_bytes _ (λ x. c.if-length-eq0.false (sym len ∙ x)) (λ x. c.if-length-eq1.false (sym len ∙ x)))
+    (λ o. omega (arith, free, c.node_over_two.ensures.exactly.0 o), λ l. c.node_over_two.ensures.exactly.1 (omega (arith, free, l)))

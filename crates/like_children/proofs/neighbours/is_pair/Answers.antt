@@ -1,11 +1,8 @@
 use Rattle.std.proofs.Common.{suc, ◌∙◌, sym, subst, arith}
 use Rattle.like_children.proofs.Shared.{forest}
-use Rattle.like_children.proofs.Items.{root_live, children_count, children_told, next_child, last_child}
+use Rattle.like_children.proofs.Items.{children_count, children_told, next_child, last_child}
 use Rattle.like_children.proofs.Pairs.{key_valid, key_as, one_key}
 use Rattle.like_children.proofs.neighbours.is_pair.Goals as goal
-
-pub child_ids-ids-requires-clause-live : goal.child_ids-ids-requires-clause-live
-child_ids-ids-requires-clause-live g c = root_live c.args.pool.now c.id-2.ensures c.requires.handed
 
 pub child_ids-ids-requires-clause-within : goal.child_ids-ids-requires-clause-within
 child_ids-ids-requires-clause-within g c = rw c.id-2.ensures (omega (arith, children_count c.requires.stands c.requires.handed, c.requires.within))
@@ -69,9 +66,6 @@ pub returns-clause-fits : goal.returns-clause-fits
 returns-clause-fits g c = λ e.
     let m = children_told c.requires.stands c.requires.handed c.id.ensures c.children.ensures.value in
     omega (arith, m, c.requires.within, c.children.type_inv)
-
-pub children-requires-clause-live : goal.children-requires-clause-live
-children-requires-clause-live g c = root_live c.args.pool.now c.id.ensures c.requires.handed
 
 pub overflow_sub-children : goal.overflow_sub-children
 overflow_sub-children g c = omega (arith, c.requires.within, children_told c.requires.stands c.requires.handed c.id.ensures c.children.ensures.value)

@@ -1,11 +1,8 @@
 use Rattle.std.proofs.Common.{suc, ◌∙◌, sym, subst, arith, add-one}
 use Rattle.like_children.proofs.Shared.{children_of, tree_of, forest, are_alike}
-use Rattle.like_children.proofs.Items.{root_live, children_count, next_child, last_child, children_told}
+use Rattle.like_children.proofs.Items.{children_count, next_child, last_child, children_told}
 use Rattle.like_children.proofs.Pairs.{key_valid, key_as, one_key, no_pair_more}
 use Rattle.like_children.proofs.neighbours.next_pair.Goals as goal
-
-pub child_ids-ids-requires-clause-live : goal.child_ids-ids-requires-clause-live
-child_ids-ids-requires-clause-live g c = root_live c.args.pool.now c.id.ensures c.requires.handed
 
 pub child_ids-ids-requires-clause-within : goal.child_ids-ids-requires-clause-within
 child_ids-ids-requires-clause-within g c = rw c.id.ensures (omega (arith, children_count c.requires.stands c.requires.handed, c.requires.within))
@@ -21,9 +18,6 @@ pub key_if_any-left-requires-clause-told : goal.key_if_any-left-requires-clause-
 key_if_any-left-requires-clause-told g c =
     let t = next_child {n = c.args.from} c.requires.stands c.requires.handed (rw (← c.id.ensures) c.child_ids-ids.ensures) c.in_ok-next.ensures.steps in
     subst g.L.Likes.can_tell (sym t.tree) (c.requires.told c.args.from t.within)
-
-pub children-at-end-requires-clause-live : goal.children-at-end-requires-clause-live
-children-at-end-requires-clause-live g c = root_live c.args.pool.now c.id-2.ensures c.requires.handed
 
 pub overflow_sub-at-end : goal.overflow_sub-at-end
 overflow_sub-at-end g c =

@@ -1,17 +1,11 @@
 use Rattle.std.proofs.Common.{ap, ◌∙◌, sym, arith, add-one}
 use Rattle.like_children.proofs.Shared.{is_number, is_reduced, children_of, tree_of}
-use Rattle.like_children.proofs.Items.{root_live, children_count, children_told, next_child, last_child}
+use Rattle.like_children.proofs.Items.{children_count, children_told, next_child, last_child}
 use Rattle.like_children.proofs.Before.{no_number_more}
 use Rattle.like_children.proofs.numbers.next_number.Goals as goal
 
-pub child_ids-ids-requires-clause-live : goal.child_ids-ids-requires-clause-live
-child_ids-ids-requires-clause-live c = root_live c.args.pool.now c.id.ensures c.requires.handed
-
 pub child_ids-ids-requires-clause-within : goal.child_ids-ids-requires-clause-within
 child_ids-ids-requires-clause-within c = rw c.id.ensures (omega (arith, children_count c.requires.stands c.requires.handed, c.requires.within))
-
-pub children-at-end-requires-clause-live : goal.children-at-end-requires-clause-live
-children-at-end-requires-clause-live c = root_live c.args.pool.now c.id-2.ensures c.requires.handed
 
 pub loop-at-init : goal.loop-at-init
 loop-at-init c = record {

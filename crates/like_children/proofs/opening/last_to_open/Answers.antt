@@ -1,12 +1,9 @@
 use Rattle.std.proofs.Common.{sym, subst, arith, add-one}
 use Rattle.like_children.proofs.Shared.{Tree, Opens, children_of, tree_of}
-use Rattle.like_children.proofs.Items.{root_live, next_child, last_child}
+use Rattle.like_children.proofs.Items.{next_child, last_child}
 use Rattle.like_children.proofs.Openings.{last_still, last_here}
 use Rattle.like_children.proofs.opening.last_to_open.Goals.{then-opens, else-opens}
 use Rattle.like_children.proofs.opening.last_to_open.Goals as goal
-
-pub child_ids-ids-requires-clause-live : goal.child_ids-ids-requires-clause-live
-child_ids-ids-requires-clause-live g c = root_live c.args.pool.now c.id.ensures c.requires.handed
 
 pub returns-in_err-next : goal.returns-in_err-next
 returns-in_err-next g c = absurd (omega (arith, last_child c.requires.stands c.requires.handed c.loop-at.invariant.ids c.in_err-next.ensures.steps.0, c.loop-at-test.true, c.requires.within))

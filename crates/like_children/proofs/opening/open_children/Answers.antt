@@ -1,13 +1,10 @@
 use Rattle.std.proofs.Common.{◌≡◌, ap, ◌∙◌, sym, subst, arith, rules}
 use Rattle.like_children.proofs.Shared.{count, opened_from, opened_from_end, NoneOpensBetween, IsLastToOpen, nth, children_of, kids, merged_nth, tree_of, root_tree, forest, keeps_none, keeps_after}
-use Rattle.like_children.proofs.Items.{root_live, children_told}
+use Rattle.like_children.proofs.Items.{children_told}
 use Rattle.like_children.proofs.Kids.{represents_merged}
 use Rattle.like_children.proofs.Many.{many, many_handed, many_children, place_within, child_within, child_once}
 use Rattle.like_children.proofs.Openings.{nth_before, count_before, opened_down, found, has_same, has_after, has_as, has_many}
 use Rattle.like_children.proofs.opening.open_children.Goals as goal
-
-pub children-first-requires-clause-live : goal.children-first-requires-clause-live
-children-first-requires-clause-live g c = root_live c.args.pool.now c.id.ensures c.requires.handed
 
 pub loop-at-init : goal.loop-at-init
 loop-at-init g c =
