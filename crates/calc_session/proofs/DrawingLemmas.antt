@@ -1,6 +1,6 @@
 -- Lemmas on the layout of the last answer, and on the rows of its picture.
 use Rattle.std.proofs.Common.{◌*◌, ◌≡◌, ◌∙◌, ℕ, zero, suc, ◌+◌, ◌≤◌, ◌==◌, if◌then◌else◌, List, [], ◌∷◌, ◌++◌, length, encode_utf8_all, Bool, true, false, nat_le, Option, Some, None, Result, Ok, Err, refl, sym, ap, subst, arith, append_assoc, append-nil, length-append}
-use Rattle.calc_session.proofs.Shared.{Appends-trans, leb-true, leb-false, Appends, IsHeld, Table, Full, free_of, GivesLayout, IsLayout, drawing, given_drawing, Block, before_cut, cut, picture, AllExpressions, IsExpression, IsWhole, plain, bytes_in, forest_of, tree_at, has_root, KeepsRefusals, Refuses, Stands, forest, CountsRefusal, tree_of_root, root_held, Content, extended, after, IsDrawn, IsDrawnInPart, first_rows, lack_in, row_text, told_at}
+use Rattle.calc_session.proofs.Shared.{Appends-trans, leb-true, leb-false, Appends, IsHeld, Table, Full, free_of, GivesLayout, IsLayout, drawing, given_drawing, Block, before_cut, cut, picture, AllExpressions, IsExpression, IsWhole, plain, bytes_in, forest_of, tree_at, has_root, Stands, forest, tree_of_root, root_held, Content, extended, after, IsDrawn, IsDrawnInPart, first_rows, row_text, told_at}
 use Rattle.std.proofs.lemmas.Str.{encodes-append}
 use Rattle.calc_edges.specs.Taken.{AppendsPart}
 use Rattle.calc_edges.proofs.Parts.{AppendsPart-after, AppendsPart-more}
@@ -21,9 +21,6 @@ answer_expression {t = t} {s = s} st h =
 
 pub told_where : (told : Layout → List ℕ) (i : ℕ) (p : PoolState) (left : ℕ) → laying (free_of p) (layout (plain (tree_at i (forest p)))) ≡ Ok left → told_at told i p ≡ Ok (told (layout (plain (tree_at i (forest p)))))
 told_where told i p left e = ap (λ (r : Result ℕ Full). elim r [ Ok left ↦ Ok (told (layout (plain (tree_at i (forest p))))) | Err full ↦ Err full ]) e
-
-pub refused_where : (told : Layout → List ℕ) (i : ℕ) (p : PoolState) (full : Full) → laying (free_of p) (layout (plain (tree_at i (forest p)))) ≡ Err full → told_at told i p ≡ Err full
-refused_where told i p full e = ap (λ (r : Result ℕ Full). elim r [ Ok left ↦ Ok (told (layout (plain (tree_at i (forest p))))) | Err full ↦ Err full ]) e
 
 pub drawn_all : (r : Result (List ℕ) Full) (rows : List ℕ) (a b : Option (List ℕ)) → r ≡ Ok rows → Appends a b rows → IsDrawn r a b
 drawn_all r rows a b e h = subst (λ x. IsDrawn x a b) (sym e) h
@@ -96,9 +93,3 @@ module _ (told : Layout → List ℕ) (i : ℕ) (p q : PoolState) where
   pub given_told : (h j left : ℕ) → Stands q → GivesLayout (forest p) (forest q) h (layout (plain (tree_at i (forest p)))) → j ≡ h → laying (free_of p) (layout (plain (tree_at i (forest p)))) ≡ Ok left
       → told_at told i p ≡ Ok (told (drawing (tree_at j (forest q))))
   given_told h j left st g same fits = told_where told i p left fits ∙ ap (λ (l : Layout). Ok (told l)) (sym (ap (λ k. drawing (tree_at k (forest q))) same ∙ given_drawing st g))
-
-  pub given_counted : (left : ℕ) → laying (free_of p) (layout (plain (tree_at i (forest p)))) ≡ Ok left → KeepsRefusals p q → CountsRefusal (lack_in (told_at told i p)) p q
-  given_counted left fits k = subst (λ r. CountsRefusal (lack_in r) p q) (sym (told_where told i p left fits)) k
-
-  pub refused_counted : (full : Full) → laying (free_of p) (layout (plain (tree_at i (forest p)))) ≡ Err full → Refuses p q full → CountsRefusal (lack_in (told_at told i p)) p q
-  refused_counted full lacks k = subst (λ r. CountsRefusal (lack_in r) p q) (sym (refused_where told i p full lacks)) k

@@ -1,5 +1,6 @@
 -- What the answers to lines that ask for an expansion mean, and when there is one.
-use Rattle.std.proofs.Common.{◌≡◌, ◌↔◌, ℕ, ◌≤◌, ◌<◌, List, length, Bool, true, false, Option, refl, ap, subst, arith}
+use Rattle.std.proofs.lemmas.Bool.{both_ways}
+use Rattle.std.proofs.Common.{◌≡◌, ◌↔◌, ℕ, ◌≤◌, ◌<◌, List, length, true, false, Option, refl, ap, subst, arith}
 use Rattle.calc_session.proofs.Shared.{reduced_face_means, IsCommandLine, diff, solve, expand, once, face, text, Tree, nodes, expanded, sum_tree, term_trees, expansion_room, is_polynomial, polynomial_of, tree_expanded_reduced, TripsWithin, IsReplyToCalculation, IsReplyToExpression, derives, solves, expands, IsReplyToExpansion, expansion_text, is_no_polynomial, is_expanded, Reply, long, not_polynomial, report, State, free_bytes, IsReply}
 use Rattle.breakers.specs.State.{State as Breaker}
 use Rattle.calc_measures.specs.Measures.{bits as bits_of}
@@ -25,9 +26,6 @@ no_long told e = cc
 told_is : (a b : List ℕ) → report a ≡ report b → b ≡ a
 told_is a b e = cc
 
-clash : (b : Bool) → b ≡ true → b ≡ false → ⊥
-clash b e f = cc
-
 -- ---- the replies to a tree
 
 module _ {free left : ℕ} {before after : List Breaker} {t : Tree} where
@@ -42,14 +40,14 @@ module _ {free left : ℕ} {before after : List Breaker} {t : Tree} where
   -- no polynomial
   denied_tree : (reply : Reply) → IsReplyToExpansion free before after left t reply → (reply ≡ not_polynomial) ↔ (is_polynomial t ≡ false)
   denied_tree reply (is_no_polynomial n same) = (λ e. n, λ e. refl)
-  denied_tree reply (is_interrupted p h) = (λ e. absurd cc, λ e. absurd (clash (is_polynomial t) p e))
-  denied_tree reply (does_not_fit o p h) = (λ e. absurd cc, λ e. absurd (clash (is_polynomial t) p e))
-  denied_tree reply (lacks_bytes p h) = (λ e. absurd cc, λ e. absurd (clash (is_polynomial t) p e))
-  denied_tree reply (is_expanded p c) = (λ e. absurd cc, λ e. absurd (clash (is_polynomial t) p e))
+  denied_tree reply (is_interrupted p h) = (λ e. absurd cc, λ e. absurd (both_ways (is_polynomial t) e p))
+  denied_tree reply (does_not_fit o p h) = (λ e. absurd cc, λ e. absurd (both_ways (is_polynomial t) e p))
+  denied_tree reply (lacks_bytes p h) = (λ e. absurd cc, λ e. absurd (both_ways (is_polynomial t) e p))
+  denied_tree reply (is_expanded p c) = (λ e. absurd cc, λ e. absurd (both_ways (is_polynomial t) e p))
 
   -- where nothing is lacking
   expanded_tree : (reply : Reply) → is_polynomial t ≡ true → bits_of t ≤ 124 → expansion_room t ≤ free → ((place : ℕ) → ¬ (TripsWithin (nodes t) before after place)) → IsReplyToExpansion free before after left t reply → reply ≡ report (expansion_text t)
-  expanded_tree reply is narrow roomy calm (is_no_polynomial n same) = absurd (clash (is_polynomial t) is n)
+  expanded_tree reply is narrow roomy calm (is_no_polynomial n same) = absurd (both_ways (is_polynomial t) n is)
   expanded_tree reply is narrow roomy calm (is_interrupted {by = by} p h) = absurd (calm by h)
   expanded_tree reply is narrow roomy calm (does_not_fit o p h) = absurd (let beyond = h.beyond_bits in omega (arith, beyond, narrow))
   expanded_tree reply is narrow roomy calm (lacks_bytes p h) = absurd (let beyond = h.beyond_room in omega (arith, beyond, roomy))

@@ -1,5 +1,6 @@
 -- Lemmas on a new session.
-use Rattle.std.proofs.Common.{◌≡◌, ◌∙◌, ℕ, zero, suc, List, [], ◌∷◌, true, false, Result, Ok, IfOk, OnOk, None, refl, sym, ap, subst, arith}
+use Rattle.std.proofs.lemmas.Bool.{true≢false}
+use Rattle.std.proofs.Common.{◌≡◌, ◌∙◌, ℕ, zero, suc, List, [], ◌∷◌, Result, Ok, IfOk, OnOk, None, refl, sym, ap, subst, arith}
 use Rattle.std.specs.Prelude.{pos}
 use Rattle.calc_session.proofs.Shared.{Node, fresh, rational, Ratio, whole, whole_num, IsHeld, IsKeepable, Table, first_table, Full, IsLeastFree, has, empty, flatten, forest_of, one_tree, Ends, Stands, forest, KeepsRefusals, forest_of_whole, gives, represents_node, represents_none, ends_as, Seen, State, first_state, state_of}
 use Rattle.name_table.proofs.Ready.{first_held}
@@ -8,13 +9,10 @@ use Rattle.node_pool.specs.State.{State as PoolState}
 keepable_zero : (i : ℕ) → IsKeepable None (first_table i) (whole_num 0)
 keepable_zero i = record { writable = (0, refl); clear = λ x m (k, l, e). absurd (omega arith) }
 
-clash : true ≡ false → ⊥
-clash e = cc
-
 -- the first identifier is 0
 first_id : (i : ℕ) (nodes : List Node) → nodes ≡ [] → IsLeastFree i nodes → i ≡ 0
 first_id zero nodes e h = refl
-first_id (suc i) nodes e h = absurd (clash (sym (h.least 0 (omega arith)) ∙ ap (has 0) e))
+first_id (suc i) nodes e h = absurd (true≢false (sym (h.least 0 (omega arith)) ∙ ap (has 0) e))
 
 -- what a new session holds
 pub record IsOpened (p q : PoolState) (i : ℕ) : Type 0 where

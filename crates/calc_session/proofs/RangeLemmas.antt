@@ -1,5 +1,5 @@
 -- Lemmas on equations by where they stand in a text, from left to right.
-use Rattle.std.proofs.Common.{◌≡◌, ◌∙◌, ℕ, zero, suc, ◌+◌, ◌<◌, ◌≤◌, List, [], ◌∷◌, ◌++◌, length, get_or, map, take, drop, refl, sym, ap, subst, arith}
+use Rattle.std.proofs.Common.{◌≡◌, ◌∙◌, ℕ, zero, suc, ◌+◌, ◌<◌, List, [], ◌∷◌, ◌++◌, length, get_or, map, take, drop, refl, sym, ap, subst, arith}
 use Rattle.std.specs.Prelude.{None}
 use Rattle.calc_session.proofs.Shared.{AllZip, Tree, Placed, Equation, EquationRange, IsNoExpression, ReadsText, bytes_before, Pieces, all_placed, AreSplit, between, pieces_at, Reply, IsNoEquation, IsReplyToEquations, ReadsEquation, are_not_read, State}
 use Rattle.breakers.specs.State.{State as Breaker}

@@ -1,4 +1,5 @@
 -- Lemmas on the state of a session, and on what a line leaves of it.
+use Rattle.std.proofs.lemmas.Bool.{both_ways}
 use Rattle.std.specs.Prelude.{min}
 use Rattle.std.proofs.Common.{◌≡◌, ◌∙◌, ◌↔◌, ℕ, ◌+◌, ◌-◌, ◌^◌, ◌*◌, ◌≤◌, ◌==◌, List, [], ◌∷◌, ◌++◌, length, codes, Bool, true, false, if◌then◌else◌, Option, Some, None, refl, sym, ap, subst, arith}
 use Rattle.calc_session.proofs.Shared.{eqb-true, TripsRose, is_command, text, Node, Tree, none, more, size, Placed, values, held_by, Table, with_answer, Full, has, free_of, IsExpression, plain, Forest, flatten, Gives, tree_at, Stands, forest, flatten-join, has-flatten, given_handed, given_root, given_told, expression_root, plain_root, alone, LineAnswer, Refusal, answer_to, Answers, AnswersCommand, AnswersUntold, CountsRefusal, IsAnswer, IsTextOf, reply_of, IsReplyTo, IsReplyUnread, ReadsTree, Reply, blank, displayed, refusal_in, text_of, undefined, Seen, Counts, pool_of, State, state_of, IsReply, is_unread, is_commanded, is_evaluated, Leaves, LeavesAnswer}
@@ -38,16 +39,13 @@ refused_leaves refusal.TooMany s t e = e
 
 -- ---- a new answer
 
-clash : (t : Bool) → t ≡ true → t ≡ false → ⊥
-clash t p q = cc
-
 -- an identifier is not on both sides
 apart_from : (a b : List Node) (id : ℕ) → AreApart a b → has id b ≡ true → has id a ≡ false
 apart_from [] b id h k = refl
 apart_from (n ∷ a) b id h k = by (n.id == id) refl (apart_from a b id h.1 k)
   where
     by : (x : Bool) → (n.id == id) ≡ x → has id a ≡ false → (if n.id == id then true else has id a) ≡ false
-    by true e f = let same : n.id ≡ id = eqb-true n.id id e in absurd (clash (has id b) k (subst (λ i. has i b ≡ false) same h.0))
+    by true e f = let same : n.id ≡ id = eqb-true n.id id e in absurd (both_ways (has id b) (subst (λ i. has i b ≡ false) same h.0) k)
     by false e f = ap (λ (t : Bool). if t then true else has id a) e ∙ f
 
 module _ (old mid new : PoolState) (table table' : Table) (h : ℕ) (u : Tree) (store : Option (List ℕ)) (st : Stands old) (st' : Stands mid) (g : Gives (forest old) (forest mid) h (λ x. x ≡ u)) where
@@ -148,12 +146,7 @@ module _ (room bits : Option (Tree → ℕ)) (before after : List Breaker) (line
     text_is = a.text_is;
   }
 
-  -- the text of a refusal is written too
-  pub told_refusal : (s t : State) (refusal : Refusal) (before_text written : List ℕ) → AnswersUntold room bits s before line (answer.Refused refusal) before_text t after → Some written ≡ text_of (reply_of refusal)
-      → Answers room bits s before line (answer.Refused refusal) written t after
-  told_refusal s t refusal before_text written a is = record { reply = a.reply; step = a.step; answer_is = a.answer_is; text_is = is ∙ sym (ap text_of a.answer_is) }
-
-  -- any other text is written already
+  -- a text that is no refusal's is written already
   pub told_other : (s t : State) (given : LineAnswer) (written : List ℕ) → ((r : Refusal) → given ≡ answer.Refused r → ⊥) → AnswersUntold room bits s before line given written t after
       → Answers room bits s before line given written t after
   unfolding text_of

@@ -1,6 +1,6 @@
 -- Lemmas on equations that are solved.
 use Rattle.std.proofs.Common.{◌≡◌, ◌∙◌, ◌↔◌, ℕ, zero, suc, ◌+◌, ◌<◌, ◌≤◌, List, [], ◌∷◌, length, get_or, map, take, Bool, true, false, not, cond, Option, Some, None, Result, Ok, Err, below_more, refl, sym, ap, subst, arith}
-use Rattle.std.specs.Prelude.{All, nat_lt, ◌&&◌, IfOk, IfErr, OnOk}
+use Rattle.std.specs.Prelude.{All, nat_lt, IfOk, IfErr, OnOk}
 use Rattle.calc_session.proofs.Shared.{position_or_len, le-ltb, lt-ltb, position_or_len_is, TripsRose, Name, name_of, Equation, equation_at, equations_in, nodes_of_sides, OfOverflow, StopsWithin, solving, misfit_of, IsExpression, Forest, Refusal, Listed, reply_of, names_listed, AreNamesOf, refusal_to_solve, IsReplyToSolve, are_linear, does_not_fit, first_not_linear, is_interrupted, is_linear_equation}
 use Rattle.std.proofs.lemmas.List.Quantifiers.{position-Some}
 use Rattle.breakers.specs.State.{State as Breaker}

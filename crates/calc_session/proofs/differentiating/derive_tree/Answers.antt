@@ -1,4 +1,5 @@
-use Rattle.std.proofs.Common.{◌≡◌, ◌∙◌, ◌+◌, ◌≤◌, ℕ, Bool, true, false, inl, inr, refl, sym, ap, subst, arith}
+use Rattle.std.proofs.lemmas.Bool.{both_ways}
+use Rattle.std.proofs.Common.{◌≡◌, ◌∙◌, ◌+◌, ◌≤◌, ℕ, false, inl, inr, refl, sym, ap, subst, arith}
 use Rattle.calc_session.proofs.Shared.{states, name_of, depth, size, HasDerivative, derivative, free_of, IsExpression, plain, tree_of, Gives, tree_at, without_root, forest, KeepsRefusals, keeps_after, given_handed, given_other, given_rest, given_root, given_told, gives_as, owned, expression_root, plain_root, Refusal, refusal_of_evaluation, reply_of, IsReplyToDerivative, LacksDerivative, has_none, refusal_in, reported}
 use Rattle.node_pool.specs.State.{State}
 use Rattle.calc_session.specs.Deriving.{lacks_bytes}
@@ -24,12 +25,9 @@ has_derivative-requires-clause-expression g c = expression g (goal.at.has_deriva
 pub has_derivative-requires-clause-shallow : goal.has_derivative-requires-clause-shallow
 has_derivative-requires-clause-shallow g c = shallow g (goal.at.has_derivative-requires-clause-shallow g c).After-id-id
 
-clash : (b : Bool) → b ≡ true → b ≡ false → ⊥
-clash b e f = cc
-
 pub returns-then-not-has_derivative-clause-reply : goal.returns-then-not-has_derivative-clause-reply
 returns-then-not-has_derivative-clause-reply g c =
-    has_none (λ h. clash c.has_derivative.result (c.has_derivative.ensures.1 (subst (HasDerivative (name_of c.args.name)) (sym (same g (goal.at.returns-then-not-has_derivative-clause-reply g c).After-id-id)) h)) c.if-not-has_derivative.true) refl
+    has_none (λ h. both_ways c.has_derivative.result c.if-not-has_derivative.true (c.has_derivative.ensures.1 (subst (HasDerivative (name_of c.args.name)) (sym (same g (goal.at.returns-then-not-has_derivative-clause-reply g c).After-id-id)) h))) refl
 
 uninterrupted : (place : ℕ) → refusal.NoDerivative ≡ refusal.Interrupted place → ⊥
 uninterrupted place e = cc
@@ -94,7 +92,7 @@ lacks : (g : _) (c : After-refused g) → LacksDerivative (name_of c.args.name) 
 lacks g c =
     let x = name_of c.args.name in
     subst (λ t. LacksDerivative x (free_of c.args.pool.now) t c.in-Err.full) (same_refused g c)
-    (record { derivable = c.has_derivative.ensures.0 c.if-not-has_derivative.false; short = over _ _ (λ fits. clash false (c.in-Err.ensures.exactly.1 fits) refl); refusal_is = c.in-Err.ensures.full })
+    (record { derivable = c.has_derivative.ensures.0 c.if-not-has_derivative.false; short = over _ _ (λ fits. both_ways false refl (c.in-Err.ensures.exactly.1 fits)); refusal_is = c.in-Err.ensures.full })
 
 pub returns-in-Err-clause-reply : goal.returns-in-Err-clause-reply
 returns-in-Err-clause-reply g c =

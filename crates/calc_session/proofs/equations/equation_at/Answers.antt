@@ -1,3 +1,4 @@
+use Rattle.std.proofs.lemmas.Bool.{both_ways}
 use Rattle.std.proofs.Common.{◌≡◌, ◌∙◌, ◌+◌, ◌-◌, ℕ, List, ◌++◌, length, take, drop, Bool, true, false, IsTrue, refl, sym, ap, subst, arith, length-drop}
 use Rattle.std.specs.Prelude.{Contains}
 use Rattle.calc_session.proofs.Shared.{take_all, AreSides, Sides, written, EndsPiece, is_blank_line}
@@ -9,19 +10,16 @@ use Rattle.calc_session.proofs.equations.equation_at.Goals as goal
 whole : (begin : ℕ) (text : List ℕ) → take (length text - begin) (drop begin text) ≡ drop begin text
 whole begin text = take_all (length text - begin) (drop begin text) (omega (arith, length-drop begin text))
 
-clash : (b : Bool) → b ≡ true → b ≡ false → ⊥
-clash b e f = absurd cc
-
 -- the left side is not blank
 left_dark : (rest : List ℕ) (sign end : ℕ) → IsFirst 61 sign rest → IsFirst 59 end rest → is_blank_line (take sign rest) ≡ true → (e : Sides) (behind : List ℕ) → AreSides e → EndsPiece behind → rest ≡ written e ++ behind → ⊥
-left_dark rest sign end f g b e behind h m q = clash (is_blank_line e.left) (ap is_blank_line (sym (there rest sign end e behind f g h m q).left_is) ∙ b) h.left.some
+left_dark rest sign end f g b e behind h m q = both_ways (is_blank_line e.left) h.left.some (ap is_blank_line (sym (there rest sign end e behind f g h m q).left_is) ∙ b)
 
 right_side : (rest : List ℕ) (sign end : ℕ) → IsFirst 61 sign rest → IsFirst 59 end rest → (b : Bool)
     → ((is_blank_line (take (end - (sign + 1)) (drop (sign + 1) rest)) ≡ false) × ¬ (Contains (take (end - (sign + 1)) (drop (sign + 1) rest)) 61) → IsTrue b) → b ≡ false
     → (e : Sides) (behind : List ℕ) → AreSides e → EndsPiece behind → rest ≡ written e ++ behind → ⊥
 right_side rest sign end f g b is fails e behind h m q =
     let r = (there rest sign end e behind f g h m q).right_is in
-    clash b (is (subst (λ t. (is_blank_line t ≡ false) × ¬ (Contains t 61)) (sym r) (h.right.some, h.right.no_equals))) fails
+    both_ways b fails (is (subst (λ t. (is_blank_line t ≡ false) × ¬ (Contains t 61)) (sym r) (h.right.some, h.right.no_equals)))
 
 pub returns-then-sign-end : goal.returns-then-sign-end
 returns-then-sign-end c = λ e behind h m q.
