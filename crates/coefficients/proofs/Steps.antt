@@ -1,7 +1,8 @@
 -- Steps of calls on a root that is a product or a sum: a child is taken out, put in, and the root goes last.
+pub use Rattle.number_forms.proofs.TermTrees.{one_value}
 use Rattle.std.proofs.Common.{◌≡◌, ℕ, ◌≤◌, ◌∷◌, refl, sym, ap, ◌∙◌, subst, arith, true, []}
 use Rattle.std.specs.Prelude.{pos}
-use Rattle.coefficients.proofs.Shared.{product_tree, is_reduced, num_one, Tree, num, mult, root, Trees, none, more, count, is_mult, size, State, tree_of, IsHanded, Represents, Ends, Gives, KeepsFront, plain, children_of, Forest, kids, tree_nth, without_nth, tree_at, root_tree, without_root, put, Stands, forest, behind_first, front_same, front_end, front_put, gives_as, given_told, given_root, ends_as, ends_at, ends_without, put-put, Rat, Fraction, lowest, one_fraction, ratio_of, value_of, Ratio, whole, factors_of, coefficient_length, GivesTwo, LeavesRest, over_product, IsOver, taken, over_put, over_end, over_handed, over_gives, without_put, gives_put, gives_without, seen}
+use Rattle.coefficients.proofs.Shared.{product_tree, is_reduced, num_one, Tree, num, mult, root, Trees, none, more, count, is_mult, size, State, tree_of, IsHanded, Represents, Ends, Gives, KeepsFront, plain, children_of, Forest, kids, tree_nth, without_nth, tree_at, root_tree, without_root, put, Stands, forest, behind_first, front_same, front_end, front_put, gives_as, given_told, given_root, ends_as, ends_at, ends_without, put-put, Rat, Fraction, ratio_of, value_of, whole, factors_of, coefficient_length, GivesTwo, LeavesRest, over_product, IsOver, taken, over_put, over_end, over_handed, over_gives, without_put, gives_put, gives_without, seen}
 use Rattle.coefficients.proofs.Lengths.{measured, IsPairLed}
 use Rattle.calc_terms.specs.declared.kind.Kind.TheVariants as kind
 use Rattle.tree_handles.proofs.Beside.{other_plain}
@@ -79,10 +80,6 @@ pair_taken {i = i} {t = t} {u = u} {ts = ts} {old = old} {f = f} o d e =
 
 pub pair_front : {i h k : ℕ} {t u : Tree} {ts : Trees} {old new : Forest} → IsPairTaken i t u ts old new h k → KeepsFront (i ∷ []) old new
 pair_front p = front_end p.second.ends (front_end p.first.ends (front_put p.now behind_first front_same))
-
-pub one_value : (r : Rat) → ratio_of r ≡ whole (pos 1) → value_of r ≡ one_fraction
-unfolding one_fraction
-one_value r e = ap (λ (x : Ratio). lowest x.num x.den) e
 
 pub one_size : (r : Rat) → ratio_of r ≡ whole (pos 1) → size num_one ≡ size (num (value_of r))
 one_size r e = ap (λ (q : Fraction). size (num q)) (sym (one_value r e))
