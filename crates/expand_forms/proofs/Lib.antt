@@ -11,6 +11,7 @@ pub mod FactorTrees
 pub mod ExpandedMeanings
 pub mod ReducedExpansions
 pub mod SameCoefficients
+pub mod Shorts
 pub mod MonomialProducts
 pub mod TermPolynomials
 pub mod SumPlaces

@@ -26,11 +26,10 @@ ghost use Rattle.tree_handles.specs.Standing.{KeepsRefusals, LacksBytes, Refuses
 use crate::factors::{self, Factors};
 use crate::monomials::{completed, place_merged};
 use crate::ordering::place_of;
-use crate::rationals::is_zero;
+use crate::rationals::{add, is_zero};
 use calc_terms::Rat;
 use child_lists::{ChildList, next_child, put_before};
 use node_pool::{Full, Id, Pool};
-use rational128::add;
 use tree_handles::{Handle, NumberFault, release, replace_known_child, take_known_child};
 
 /// Joins a coefficient times the monomials of two terms to a sum: with the term that has its monomial, which may leave

@@ -23,11 +23,11 @@ ghost use Rattle.tree_handles.specs.Standing.{KeepsRefusals, Stands, forest};
 
 use crate::adding::join_product;
 use crate::factors::{Factors, coefficient};
+use crate::rationals::{add, mul};
 use crate::terms::{term_count, term_id};
 use calc_terms::Rat;
 use child_lists::{ChildList, FEW, MANY};
 use node_pool::{Id, Pool};
-use rational128::{add, mul};
 use tree_handles::{Handle, NumberFault, children};
 
 /// Joins the product of each term of an expanded tree and each of another to a sum. Where both are one tree, its mixed pairs are made once.

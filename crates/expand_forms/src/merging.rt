@@ -22,10 +22,10 @@ ghost use Rattle.tree_handles.specs.Inside.{tree_at};
 ghost use Rattle.tree_handles.specs.Standing.{KeepsRefusals, LacksBytes, Refuses, Stands, forest};
 
 use crate::factors::{Factor, Factors};
-use crate::rationals::is_one;
+use crate::rationals::{add, is_one};
 use calc_terms::Kind;
 use node_pool::{Full, Id, Pool};
-use rational128::{Overflow, add};
+use rational128::Overflow;
 use std::cmp::Ordering;
 use tree_handles::{Handle, NumberFault, adopt, node, number, symbol};
 

@@ -215,4 +215,4 @@ returns-in_err-product-clause-fits g c = λ m n h l hm hn held k.
 pub returns-in_err-total-in-Ok-clause-fits : goal.returns-in_err-total-in-Ok-clause-fits
 returns-in_err-total-in-Ok-clause-fits g c = λ m n h l hm hn held k.
     contradiction (total_fits (given_told c.requires.sum) (summand (value_of c.args.coefficient) (monomial_times m n)) c.in-Ok.at (within g (goal.at.returns-in_err-total-in-Ok-clause-fits g c).In-Ok) held k (value_of c.coefficient.result)
-    (c.coefficient.ensures ∙ ap coefficient_in (other g (goal.at.returns-in_err-total-in-Ok-clause-fits g c).After-child-other))) (c.in_err-total-in-Ok.ensures.refused.0 refl)
+    (c.coefficient.ensures ∙ ap coefficient_in (other g (goal.at.returns-in_err-total-in-Ok-clause-fits g c).After-child-other))) (c.in_err-total-in-Ok.ensures.refused)

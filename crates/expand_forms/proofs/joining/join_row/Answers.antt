@@ -88,7 +88,7 @@ pub returns-in_err-product-clause-fits : goal.returns-in_err-product-clause-fits
 returns-in_err-product-clause-fits g c = λ h l held k.
     let at = (goal.at.returns-in_err-product-clause-fits g c).After-term_id-other in
     let q = times (value_of c.args.factor) (value_of c.coefficient.result) in
-    contradiction (first_fits (summand q (monomial_times c.requires.first_term.summand.monomial (here g at).term.summand.monomial)) (part_held c.loop-at.invariant.joined (next g at q _ c.coefficient.ensures refl) held) k) (c.in_err-product.ensures.refused.0 refl)
+    contradiction (first_fits (summand q (monomial_times c.requires.first_term.summand.monomial (here g at).term.summand.monomial)) (part_held c.loop-at.invariant.joined (next g at q _ c.coefficient.ensures refl) held) k) (c.in_err-product.ensures.refused)
 
 pub returns-in_err-place-clause-fits : goal.returns-in_err-place-clause-fits
 returns-in_err-place-clause-fits g c = λ h l held k.

@@ -152,7 +152,7 @@ returns-in_err-square-clause-fits g c = λ h l held k.
     let at = (goal.at.returns-in_err-square-clause-fits g c).After-coefficient-factor in
     let q = times (value_of c.coefficient-factor.result) (value_of c.coefficient-factor.result) in
     let m = (here g at).term.summand.monomial in
-    contradiction (first_fits (summand q (monomial_times m m)) (part_held c.loop-at.invariant.joined (next g at q refl) held) k) (c.in_err-square.ensures.refused.0 refl)
+    contradiction (first_fits (summand q (monomial_times m m)) (part_held c.loop-at.invariant.joined (next g at q refl) held) k) (c.in_err-square.ensures.refused)
 
 pub returns-in_err-join_product-clause-fits : goal.returns-in_err-join_product-clause-fits
 returns-in_err-join_product-clause-fits g c = λ h l held k.
@@ -165,7 +165,7 @@ returns-in_err-join_product-clause-fits g c = λ h l held k.
 pub returns-in_err-double-clause-fits : goal.returns-in_err-double-clause-fits
 returns-in_err-double-clause-fits g c = λ h l held k.
     let at = (goal.at.returns-in_err-double-clause-fits g c).After-coefficient-factor in
-    contradiction (twice_coefficient_fits c.coefficient-factor.result c.in_ok-square.square c.in_ok-square.ensures.product (product_nonzero c.in_ok-square.ensures.product (nonzero g at) refl (nonzero g at))) (c.in_err-double.ensures.refused.0 refl)
+    contradiction (twice_coefficient_fits c.coefficient-factor.result c.in_ok-square.square c.in_ok-square.ensures.product (product_nonzero c.in_ok-square.ensures.product (nonzero g at) refl (nonzero g at))) (c.in_err-double.ensures.refused)
 
 pub returns-in_err-join_row-clause-fits : goal.returns-in_err-join_row-clause-fits
 returns-in_err-join_row-clause-fits g c = λ h l held k.

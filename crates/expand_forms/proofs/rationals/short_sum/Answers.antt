@@ -1,0 +1,25 @@
+use Rattle.std.proofs.Common.{◌∙◌}
+use Rattle.expand_forms.proofs.Shorts.{IsShortOne, short_one, short_sum, sum_value}
+use Rattle.expand_forms.proofs.rationals.short_sum.Goals as goal
+use Rattle.expand_forms.proofs.rationals.short_sum.Goals.{After-num-2}
+
+left : (c : After-num-2) → IsShortOne c.args.a c.num.result
+left c = short_one c.args.a c.num.result c.requires.first c.num.ensures.value c.num.ensures.rat
+
+right : (c : After-num-2) → IsShortOne c.args.b c.num-2.result
+right c = short_one c.args.b c.num-2.result c.requires.second c.num-2.ensures.value c.num-2.ensures.rat
+
+pub overflow_add-num : goal.overflow_add-num
+overflow_add-num c =
+    let at = (goal.at.overflow_add-num c).After-num-2 in
+    (short_sum c.args.a c.args.b _ _ (left at) (right at)).fits
+
+pub whole-requires : goal.whole-requires
+whole-requires c =
+    let at = (goal.at.whole-requires c).After-num-2 in
+    (short_sum c.args.a c.args.b _ _ (left at) (right at)).small
+
+pub returns : goal.returns
+returns c =
+    let at = (goal.at.returns c).After-num-2 in
+    sum_value c.args.a c.args.b c.whole.result _ _ _ (left at) (right at) c.whole.ensures (short_sum c.args.a c.args.b _ _ (left at) (right at)).told
