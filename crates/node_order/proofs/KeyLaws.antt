@@ -1,6 +1,6 @@
 -- Keys, and the fronts of their trees.
 use Rattle.std.proofs.Common.{◌≡◌, ◌≢◌, ℕ, zero, suc, ◌-◌, ◌^◌, ◌<◌, ◌≤◌, [], ◌∷◌, length, eqb, cond, refl, sym, ap, ◌∙◌, subst, arith, append-nil, true}
-use Rattle.node_order.proofs.Shared.{ne_eqb, Kind, Payload, rational, named, bare, Tree, mult, Trees, none, count, is_mult, Front, Key, Shows, trees_behind, key_tree, IsKey, State, Visit, grown, compound, plains, plain, takes, children_of, IsWhole, IsExpression, Forest, empty, tree, arity, first_trees, rest_trees, kids, nodes_in, holds, tree_at, kids_of, payload_in, Stands, forest, visits_of, arity-rest_trees, all-rest_trees, few_in, children_of-plain, count-plains, whole_kids, expression_children, found, found-kids, found-rest_trees, visits_length}
+use Rattle.node_order.proofs.Shared.{ne_eqb, Kind, Payload, rational, named, bare, Tree, mult, Trees, none, count, is_mult, Front, Key, Shows, trees_behind, key_tree, IsKey, State, Visit, grown, compound, plains, plain, takes, children_of, IsWhole, IsExpression, Forest, empty, tree, arity, rest_trees, kids, nodes_in, holds, tree_at, kids_of, payload_in, Stands, forest, visits_of, arity-rest_trees, all-rest_trees, few_in, children_of-plain, count-plains, whole_kids, expression_children, found, found-kids, found-rest_trees, visits_length}
 use Rattle.calc_algebra.specs.Reduced.{product_tree}
 use Rattle.node_order.proofs.Pairs.{shows_first}
 use Rattle.node_order.proofs.Roots.{is_grown}

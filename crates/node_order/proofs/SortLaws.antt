@@ -1,6 +1,6 @@
 -- Sorted children, from the order of their places.
 use Rattle.std.proofs.Common.{◌≡◌, ℕ, zero, suc, ◌+◌, ◌-◌, ◌<◌, ◌≤◌, List, [], ◌∷◌, ◌++◌, length, take, drop, get_or, map, refl, sym, ap, ◌∙◌, subst, arith, min, add-one, zero-add, All, IsPermutation, true}
-use Rattle.node_order.proofs.Shared.{range_with_len, IsSorted, IsSortedByKey, IsStableByKey, is_lt, take-append_seam, drop-append_seam, get_or-map, length-map, IsPermutation-map, All-head, All-tail, All-get_or, tree_cmp, Tree, Trees, none, more, append, undef, Key, key_tree, place_cmp, ranked_tree, picked, picked_behind, list_of, IsSorting, KeepsTies, SortsChildren, plains, plain, nth, IsWhole, AllExpressions, Label, Forest, empty, tree, join, arity, first_trees, rest_trees, tree_nth, kids, AllNodes, IsOnce, AllOnce, State, tree_at, kids_of, holds, Stands, forest, kids_of_root, has_root, root_tree, put, root_held, first-rest, arity-tree_nth, arity-first_trees, arity-rest_trees, all-join, all-first_trees, all-rest_trees, all-tree_nth, plains-join, plain-tree_nth, alone}
+use Rattle.node_order.proofs.Shared.{range_with_len, IsSorted, IsSortedByKey, IsStableByKey, is_lt, take-append_seam, drop-append_seam, get_or-map, length-map, IsPermutation-map, All-head, All-tail, tree_cmp, Tree, Trees, none, more, append, undef, Key, key_tree, place_cmp, ranked_tree, picked, picked_behind, list_of, IsSorting, KeepsTies, SortsChildren, plains, plain, nth, IsWhole, AllExpressions, Label, Forest, empty, tree, join, arity, first_trees, rest_trees, tree_nth, kids, AllNodes, IsOnce, AllOnce, State, tree_at, kids_of, holds, Stands, forest, kids_of_root, has_root, root_tree, put, root_held, first-rest, arity-tree_nth, arity-first_trees, arity-rest_trees, all-join, all-first_trees, all-rest_trees, all-tree_nth, plains-join, plain-tree_nth, alone}
 use Rattle.node_order.proofs.Places.{range_inside, inside_range}
 use Rattle.node_order.proofs.Picks.{AreInside}
 use Rattle.node_order.proofs.Ties.{places_same, trees_rise, trees_stable}

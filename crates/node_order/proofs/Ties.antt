@@ -1,5 +1,5 @@
 -- Places in the order of their trees, and of one tree in their own order: trees with one key keep their order.
-use Rattle.std.proofs.Common.{◌≡◌, ℕ, zero, suc, ◌+◌, ◌≤◌, ◌<◌, List, [], ◌∷◌, length, get_or, map, Bool, true, false, not, ◌&&◌, cond, eqb, sum_by, true≢false, eqb-true, eq-eqb, refl, sym, ap, ◌∙◌, subst, arith, add-one, All, IsPermutation}
+use Rattle.std.proofs.Common.{◌≡◌, ℕ, zero, suc, ◌+◌, ◌≤◌, ◌<◌, List, [], ◌∷◌, length, get_or, map, Bool, true, false, not, ◌&&◌, cond, eqb, sum_by, true≢false, eqb-true, eq-eqb, refl, sym, ap, ◌∙◌, arith, All, IsPermutation}
 use Rattle.node_order.proofs.Shared.{Ordering, Less, Equal, Greater, IsTotalOrder, nat_cmp_total, on_total, ranked, then_total, filter, range_with_len, IsSorted, IsSortedByKey, IsStableByKey, is_lt, MatchOrdering, nat_cmp, ordering_reverse, ordering_then, All-get_or, ranks_by, sorted_far, sum_by-IsPermutation, tree_cmp, Tree, place_cmp}
 use Rattle.std.proofs.lemmas.List.Sums.{sum_by-cons}
 use Rattle.calc_algebra.proofs.TreeOrderLaws.{tree_cmp_total, tree_cmp_equal, tree_cmp_refl}

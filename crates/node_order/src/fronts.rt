@@ -1,13 +1,18 @@
 //! The fronts of trees: a root, and the nodes behind it.
+ghost use Rattle.std.specs.Cmp.Lexicographic.{slice_cmp};
+ghost use Rattle.std.specs.Ordering.{nat_cmp};
 ghost use Rattle.std.specs.Prelude.{◌≡◌, ◌<◌, ◌∷◌, length, true};
+ghost use Rattle.calc_terms.specs.Fractions.{fraction_cmp};
+ghost use Rattle.calc_terms.specs.Leaf.{name_of};
 ghost use Rattle.calc_terms.specs.Payload.{kind_of_payload};
+ghost use Rattle.calc_terms.specs.Rat.{value_of};
 ghost use Rattle.node_order.specs.Fronts.{Shows};
 ghost use Rattle.node_order.specs.Roots.{payload_cmp};
 ghost use Rattle.tree_handles.specs.Expressions.{IsExpression, plain};
 ghost use Rattle.tree_handles.specs.Inside.{holds, tree_at, payload_in};
 ghost use Rattle.tree_handles.specs.Standing.{Stands, forest};
 
-use calc_terms::Kind;
+use calc_terms::{Kind, Name, Rat};
 use node_pool::{Id, Pool};
 use rational128::compare as compare_rationals;
 use std::cmp::Ordering;
@@ -60,11 +65,29 @@ pub fn compare_roots(pool: &Pool, left: &Visit, right: &Visit) -> Ordering
 {
     match (left.kind, right.kind) {
         (Kind::Num, Kind::Num) => {
-            compare_rationals(rational(pool, left.id), rational(pool, right.id))
+            compare_numbers(rational(pool, left.id), rational(pool, right.id))
         }
-        (Kind::Sym, Kind::Sym) => name(pool, left.id)
-            .bytes()
-            .cmp(name(pool, right.id).bytes()),
+        (Kind::Sym, Kind::Sym) => compare_names(name(pool, left.id), name(pool, right.id)),
         (left, right) => left.code().cmp(&right.code()),
     }
+}
+
+/// Two rationals by value. Whole ones are compared by their numerators.
+fn compare_numbers(left: Rat, right: Rat) -> Ordering
+    ensures { result ≡ fraction_cmp (value_of left) (value_of right) }
+{
+    if left.is_whole() && right.is_whole() {
+        return left.num().cmp(&right.num());
+    }
+    compare_rationals(left, right)
+}
+
+/// Two names by their bytes. One name is told at once.
+fn compare_names(left: Name, right: Name) -> Ordering
+    ensures { result ≡ slice_cmp nat_cmp (name_of left) (name_of right) }
+{
+    if left == right {
+        return Ordering::Equal;
+    }
+    left.bytes().cmp(right.bytes())
 }

@@ -88,6 +88,7 @@ impl<'a> Iterator for Nodes<'a> {
 
     ghost remaining = { λ left. at_most (length left) };
 
+    #[inline(always)]
     fn next(&mut self) -> Option<Visit> {
         if self.owed == 0 {
             return None;
