@@ -53,8 +53,9 @@ pub fn node_over_two(
     ensures stands { Stands pool.new }
 {
     let pair = node(pool, kind)?;
+    // Where both stand last, the left one is moved once.
+    add_child(pool, &pair, 0, right);
     add_child(pool, &pair, 0, left);
-    add_child(pool, &pair, 1, right);
     Ok(pair)
 }
 

@@ -1,37 +1,42 @@
 use Rattle.std.proofs.Common.{refl}
 use Rattle.tree_handles.proofs.Shared.{bare, forest}
 use Rattle.tree_handles.proofs.Fronts.{behind_first, behind_later, front_same, front_end, front_without}
-use Rattle.tree_handles.proofs.Given.{represents_none, represents_handed, represents_with, represents_node, gives, handed_beside}
+use Rattle.tree_handles.proofs.Given.{represents_none, represents_handed, represents_with, represents_node, gives, gives_as, handed_beside}
 use Rattle.tree_handles.proofs.Lasts.{last_held, last_apart, other_root}
-use Rattle.tree_handles.proofs.Roots.{tree-without}
+use Rattle.tree_handles.proofs.Outcomes.{eqb-sym}
+use Rattle.tree_handles.proofs.Roots.{tree-without, without-swap}
 use Rattle.tree_handles.proofs.building.node_over_two.Goals as goal
 
 pub add_child-requires-clause-live : goal.add_child-requires-clause-live
 add_child-requires-clause-live c = last_held c.in_ok-pair.ensures.ok
 
 pub add_child-requires-clause-root : goal.add_child-requires-clause-root
-add_child-requires-clause-root c = other_root c.args.left c.in_ok-pair.ensures.ok c.requires.first.root
+add_child-requires-clause-root c = other_root c.args.right c.in_ok-pair.ensures.ok c.requires.second.root
 
 pub add_child-requires-clause-apart : goal.add_child-requires-clause-apart
-add_child-requires-clause-apart c = last_apart c.args.left c.in_ok-pair.ensures.stands c.in_ok-pair.ensures.ok c.requires.first.root
+add_child-requires-clause-apart c = last_apart c.args.right c.in_ok-pair.ensures.stands c.in_ok-pair.ensures.ok c.requires.second.root
 
 pub add_child-requires-2-clause-root : goal.add_child-requires-2-clause-root
-add_child-requires-2-clause-root c = other_root c.args.right (c.add_child.ensures.last _ _ c.in_ok-pair.ensures.ok c.requires.first.root) (handed_beside c.args.left c.requires.apart c.requires.second).root
+add_child-requires-2-clause-root c =
+    other_root c.args.left (c.add_child.ensures.last _ _ c.in_ok-pair.ensures.ok c.requires.second.root) (handed_beside c.args.right (eqb-sym c.args.left c.args.right c.requires.apart) c.requires.first).root
 
 pub add_child-requires-2-clause-apart : goal.add_child-requires-2-clause-apart
 add_child-requires-2-clause-apart c =
-    last_apart c.args.right c.add_child.ensures.stands (c.add_child.ensures.last _ _ c.in_ok-pair.ensures.ok c.requires.first.root) (handed_beside c.args.left c.requires.apart c.requires.second).root
+    last_apart c.args.left c.add_child.ensures.stands (c.add_child.ensures.last _ _ c.in_ok-pair.ensures.ok c.requires.second.root) (handed_beside c.args.right (eqb-sym c.args.left c.args.right c.requires.apart) c.requires.first).root
 
 pub returns-clause-ok : goal.returns-clause-ok
 returns-clause-ok c =
-    let one = c.add_child.ensures.last _ _ c.in_ok-pair.ensures.ok c.requires.first.root in
-    let beside = handed_beside c.args.left c.requires.apart c.requires.second in
+    let turned = eqb-sym c.args.left c.args.right c.requires.apart in
+    let one = c.add_child.ensures.last _ _ c.in_ok-pair.ensures.ok c.requires.second.root in
+    let beside = handed_beside c.args.right turned c.requires.first in
     let two = c.add_child-2.ensures.last _ _ one beside.root in
-    gives two (represents_node c.in_ok-pair.pair (bare c.args.kind) (represents_with 1 (represents_handed beside) (represents_with 0 (represents_handed c.requires.first) represents_none)) c.requires.takes)
-    (rw (tree-without c.args.left c.args.right (forest c.args.pool.now) c.requires.apart) refl)
+    gives_as
+    (gives two (represents_node c.in_ok-pair.pair (bare c.args.kind) (represents_with 0 (represents_handed beside) (represents_with 0 (represents_handed c.requires.second) represents_none)) c.requires.takes)
+    (rw (tree-without c.args.right c.args.left (forest c.args.pool.now) turned) refl))
+    (without-swap c.args.left c.args.right (forest c.args.pool.now) c.requires.apart) (λ t e. e)
 
 pub returns-clause-front : goal.returns-clause-front
 returns-clause-front c =
-    let one = c.add_child.ensures.last _ _ c.in_ok-pair.ensures.ok c.requires.first.root in
-    let two = c.add_child-2.ensures.last _ _ one (handed_beside c.args.left c.requires.apart c.requires.second).root in
-    front_end two (front_without (behind_later behind_first) (front_without behind_first front_same))
+    let one = c.add_child.ensures.last _ _ c.in_ok-pair.ensures.ok c.requires.second.root in
+    let two = c.add_child-2.ensures.last _ _ one (handed_beside c.args.right (eqb-sym c.args.left c.args.right c.requires.apart) c.requires.first).root in
+    front_end two (front_without behind_first (front_without (behind_later behind_first) front_same))
