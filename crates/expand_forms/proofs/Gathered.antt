@@ -1,5 +1,5 @@
 -- Polynomials with some summands added up, and in another order: they have the same coefficients, and are no larger.
-use Rattle.std.proofs.Common.{◌≡◌, ◌⊎◌, inl, inr, ℕ, ◌+◌, ◌≤◌, ◌<◌, List, [], ◌∷◌, ◌++◌, length, sym, ap, ◌∙◌, subst, arith, append_assoc}
+use Rattle.std.proofs.Common.{◌≡◌, ◌⊎◌, inl, inr, ℕ, ◌≤◌, ◌<◌, List, [], ◌∷◌, ◌++◌, length, sym, ap, ◌∙◌, subst, arith, append_assoc}
 use Rattle.expand_forms.proofs.Shared.{length-append, Tree, normal, AreWhole, HaveExponents, IsHeld, mass, AreNamed, HasFewTerms, IsNamed, Polynomial, product, polynomial_of, AreSame, IsExpanded, IsSumOf}
 use Rattle.expand_forms.proofs.AllMonomials.{append_all, normal_all}
 use Rattle.expand_forms.proofs.Joins.{sum_polynomial_is}

@@ -1,7 +1,7 @@
 -- A product of terms that is joined to a sum.
 use Rattle.std.proofs.Common.{◌≡◌, ◌≢◌, ◌≤◌, ◌<◌, ℕ, zero, suc, ◌+◌, [], ◌∷◌, drop, Bool, true, false, refl, sym, ap, ◌∙◌, subst, arith}
 use Rattle.std.specs.Prelude.{if◌then◌else◌}
-use Rattle.expand_forms.proofs.Shared.{Equal, no_zero, zero_is, not_from_false, Fraction, is_zero_fraction, plus, zero_fraction, Tree, Trees, add, mult, none, more, count, factor_trees, normal, term_tree, term_trees, IsMonomial, Monomial, Polynomial, Summand, monomial_times, product, summand, polynomial_of, IsPlace, IsSum, IsSumOf, with_term, HasMonomial, IsTerm, coefficient_in, term_cmp, removed, Forest, tree_at, State, IsExpression, children_of, inserted, nth, plain, Gives, put, root_tree, without_root, Stands, forest, given_handed, given_other, given_rest, given_root, given_same, given_told, gives_as, seen}
+use Rattle.expand_forms.proofs.Shared.{Equal, no_zero, zero_is, not_from_false, Fraction, is_zero_fraction, plus, zero_fraction, Tree, Trees, add, mult, none, more, count, factor_trees, term_tree, term_trees, IsMonomial, Monomial, Polynomial, Summand, monomial_times, summand, polynomial_of, IsPlace, IsSum, IsSumOf, with_term, HasMonomial, IsTerm, coefficient_in, term_cmp, removed, Forest, tree_at, State, IsExpression, children_of, inserted, nth, plain, Gives, root_tree, without_root, Stands, forest, given_handed, given_other, given_rest, given_root, given_same, given_told, gives_as, seen}
 use Rattle.expand_forms.proofs.MonomialTrees.{equal_is}
 use Rattle.expand_forms.proofs.SameCoefficients.{same_is, same_trans}
 use Rattle.expand_forms.proofs.SumPlaces.{IsAt, IsFound, drop_at, drop_monomials, drop_normal, drop_trees, found, put_at, put_monomials, put_normal, put_same, put_trees, set_at, set_monomials, set_normal, term_order}

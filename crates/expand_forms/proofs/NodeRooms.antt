@@ -1,5 +1,5 @@
 -- For how few bytes a node over expanded children is refused.
-use Rattle.std.proofs.Common.{◌≡◌, ℕ, zero, suc, ◌-◌, ◌≤◌, [], length, true, refl, sym, subst, arith}
+use Rattle.std.proofs.Common.{◌≡◌, ℕ, zero, suc, ◌≤◌, [], length, true, refl, sym, subst, arith}
 use Rattle.expand_forms.proofs.Shared.{mul-le, Within, no_new_name, within_left, within_none, within_of, within_right, within_same, within_trans, HasNoNewName, num_most, Tree, num, symbol, undef, add, mult, power, root, neg, sub, div, Trees, none, more, names, names_of, root_kind, size, HasFewTerms, has_polynomial_root, polynomial_of, product_of, AreExpanded, children_of, nth}
 use Rattle.expand_forms.proofs.ChildRooms.{child_names}
 use Rattle.expand_forms.proofs.FewTerms.{few_names, some_expanded}

@@ -1,5 +1,5 @@
 -- Sums and products of short numbers, as the code finds them.
-use Rattle.std.proofs.Common.{◌≡◌, ◌<◌, ◌≤◌, ◌^◌, ◌*◌, ◌+ℤ◌, ◌*ℤ◌, ℤ, pos, sym, ap, ◌∙◌, subst, arith, to_z, of_z, FitsSigned}
+use Rattle.std.proofs.Common.{◌≡◌, ◌<◌, ◌≤◌, ◌^◌, ◌+ℤ◌, ◌*ℤ◌, ℤ, sym, ap, ◌∙◌, subst, arith, to_z, of_z, FitsSigned}
 use Rattle.std.specs.Prelude.{nat_abs, true}
 use Rattle.std.specs.Int.{w64}
 use Rattle.std.proofs.lemmas.Int.{ints, fits_signed_from_abs, unsigned_abs-mul}

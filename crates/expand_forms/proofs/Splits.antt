@@ -1,6 +1,6 @@
 -- Polynomials in two parts, one of which is joined to a sum: both are held as the whole is.
 use Rattle.std.proofs.Common.{◌≡◌, ◌⊎◌, inl, inr, ℕ, zero, suc, ◌+◌, ◌^◌, ◌≤◌, ◌<◌, [], ◌∷◌, ◌++◌, pos, Bool, true, false, refl, sym, ap, ◌∙◌, subst, arith}
-use Rattle.expand_forms.proofs.Shared.{mul-le, pow-add, pow_below, magnitude_over, den_divides, magnitude_lowest, fraction_fits, sum_fits, Fraction, lowest, Tree, Trees, count, normal, sum_tree, term_trees, AreWhole, IsHeld, mass, AreMonomials, Polynomial, Summand, summand, polynomial_of, IsExpanded, IsSum, coefficient_in, children_of, nth}
+use Rattle.expand_forms.proofs.Shared.{mul-le, pow-add, pow_below, magnitude_over, den_divides, magnitude_lowest, fraction_fits, sum_fits, Fraction, lowest, Tree, Trees, count, normal, sum_tree, term_trees, AreWhole, IsHeld, mass, AreMonomials, Polynomial, Summand, polynomial_of, IsExpanded, IsSum, coefficient_in, children_of, nth}
 use Rattle.std.specs.Int.{◌∣◌}
 use Rattle.calc_bits.proofs.Fitting.{multiple_fits, sum_fits_over}
 use Rattle.expand_forms.proofs.Joins.{sum_polynomial_is}

@@ -113,10 +113,11 @@ fn join_rows<const N: usize, const M: usize>(
 {
     let firsts: ChildList<M> = ChildList::of(pool, a);
     let seconds: ChildList<M> = ChildList::of(pool, b);
+    let mut near = 0;
     for at in 0..term_count(pool, a) {
         let term = term_id(pool, a, &firsts, at);
         let factor = coefficient(pool, term);
-        join_row(pool, sum, list, factor, term, b, &seconds, 0)?;
+        near = join_row(pool, sum, list, factor, term, b, &seconds, 0, near)?;
     }
     Ok(())
 }
@@ -150,20 +151,24 @@ fn join_squares<const N: usize, const M: usize>(
     ensures stands { Stands pool.new }
 {
     let terms: ChildList<M> = ChildList::of(pool, a);
+    let mut near = 0;
     for at in 0..term_count(pool, a) {
         let term = term_id(pool, a, &terms, at);
         let factor = coefficient(pool, term);
         let square = mul(factor, factor)?;
         let factors = Factors::of(pool, term);
-        join_product(pool, sum, list, square, &factors, term, term, at)?;
+        let place = join_product(pool, sum, list, square, &factors, term, term, near)?;
+        near = place.saturating_add(1);
         // It fits, since the square does.
         let double = add(factor, factor)?;
-        join_row(pool, sum, list, double, term, a, &terms, at + 1)?;
+        near = join_row(pool, sum, list, double, term, a, &terms, at + 1, near)?;
     }
     Ok(())
 }
 
-/// Joins a factor times the monomial of a term and each term of an expanded tree from a place on to a sum.
+/// Joins a factor times the monomial of a term and each term of an expanded tree from a place on to a sum. The place of the
+/// first of them is sought from `near` on, and each other's from behind the one before it. Tells where the next row's first
+/// is sought, which is behind this one's.
 fn join_row<const N: usize, const M: usize>(
     pool: &mut Pool,
     sum: &Handle,
@@ -173,7 +178,8 @@ fn join_row<const N: usize, const M: usize>(
     b: Id,
     seconds: &ChildList<M>,
     from: u16,
-) -> Result<(), NumberFault>
+    near: u16,
+) -> Result<u16, NumberFault>
     requires stands { Stands pool.old }
     requires sum { Gives (without_root sum.now (forest pool.old)) (forest pool.old) sum.now IsSum }
     requires lists { Lists list.old sum.now (forest pool.old) }
@@ -198,12 +204,16 @@ fn join_row<const N: usize, const M: usize>(
     ensures stands { Stands pool.new }
 {
     let left = Factors::of(pool, term);
-    let mut near = from;
+    let mut next = near;
+    let mut near = near;
     for at in from..term_count(pool, b) {
         let other = term_id(pool, b, seconds, at);
         let product = mul(factor, coefficient(pool, other))?;
         let place = join_product(pool, sum, list, product, &left, term, other, near)?;
         near = place.saturating_add(1);
+        if at == from {
+            next = near;
+        }
     }
-    Ok(())
+    Ok(next)
 }

@@ -1,4 +1,4 @@
-use Rattle.std.proofs.Common.{rules, ◌≡◌, ◌<◌, ◌∙◌, [], ◌∷◌, ap, refl, sym, subst, arith, length}
+use Rattle.std.proofs.Common.{rules, ◌≡◌, ◌<◌, ◌∙◌, [], ◌∷◌, ap, sym, subst, arith, length}
 use Rattle.expand_forms.proofs.Shared.{not_from_false, no_zero, plus, value_of, Tree, count, is_mult, size, lists_at, term_tree, IsNoOverflow, term_bytes, Monomial, monomial_times, summand, IsPlace, IsSum, HasMonomial, coefficient_in, term_cmp, free_of, OfFull, gives_rest, passed_on, children_of, nth, plain, Forest, Gives, KeepsFront, tree_of, tree_at, without_root, forest, behind_first, behind_new, front_after, front_after_one, front_after_two, front_same, given_handed, given_other, given_rest, given_root, given_same, given_told, gives_as, given_free, expression}
 use Rattle.expand_forms.proofs.Joins.{placed_behind, put_in, set_in, sum_read, term_read}
 use Rattle.expand_forms.proofs.ListedTerms.{lists_behind}

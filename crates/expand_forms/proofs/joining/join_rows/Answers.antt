@@ -56,13 +56,13 @@ join_row-requires g c =
     let x = here g at in
     (search rules, (omega (arith, c.requires.few), (j.stands, (gives_rest j.gives (λ t h. h.sum), (c.loop-at.invariant.lists, (is_nonzero _ (λ z. x.term.nonzero (sym (next_coefficient x c.coefficient-factor.ensures) ∙ z)), (x.expression, (subst (IsExpression c.args.b) r c.requires.second, (x.term, (subst (λ (f : Forest). IsExpanded (plain (tree_at c.args.b f))) r c.requires.second_expanded, lists_beside c.requires.sum j.gives c.requires.second (lists_listed _ c.of-seconds.ensures)))))))))))
 
-pub returns-in_err-join_row-clause-front : goal.returns-in_err-join_row-clause-front
-returns-in_err-join_row-clause-front g c = front_after_one behind_first c.loop-at.invariant.joined.front c.join_row.ensures.front
+pub returns-in_err-near-clause-front : goal.returns-in_err-near-clause-front
+returns-in_err-near-clause-front g c = front_after_one behind_first c.loop-at.invariant.joined.front c.join_row.ensures.front
 
 pub loop-at-preserved : goal.loop-at-preserved
 loop-at-preserved g c = record {
-  lists = c.in_ok-join_row.ensures.lists;
-  joined = joined_more c.loop-at.invariant.joined (next g (goal.at.loop-at-preserved g c).After-coefficient-factor) c.in_ok-join_row.ensures.ok c.join_row.ensures.front c.in_ok-join_row.ensures.kept c.join_row.ensures.stands;
+  lists = c.in_ok-near.ensures.lists;
+  joined = joined_more c.loop-at.invariant.joined (next g (goal.at.loop-at-preserved g c).After-coefficient-factor) c.in_ok-near.ensures.ok c.join_row.ensures.front c.in_ok-near.ensures.kept c.join_row.ensures.stands;
 }
 
 pub returns-clause-ok : goal.returns-clause-ok
@@ -71,15 +71,15 @@ returns-clause-ok g c =
     let many = terms_read c.requires.sum c.requires.first c.requires.first_expanded c.term_count-at-end.ensures in
     joined_all c.loop-at.invariant.joined (ap (λ (v : Polynomial). product v (normal (polynomial_of (plain (tree_at c.args.b o))))) (no_summands c.loop-at.at (normal (polynomial_of (plain (tree_at c.args.a o)))) (omega (arith, many, c.loop-at-test.false))))
 
-pub returns-in_err-join_row-clause-room : goal.returns-in_err-join_row-clause-room
-returns-in_err-join_row-clause-room g c = λ ns n few.
-    let at = (goal.at.returns-in_err-join_row-clause-room g c).After-coefficient-factor in
+pub returns-in_err-near-clause-room : goal.returns-in_err-near-clause-room
+returns-in_err-near-clause-room g c = λ ns n few.
+    let at = (goal.at.returns-in_err-near-clause-room g c).After-coefficient-factor in
     let j = c.loop-at.invariant.joined in
-    passed_on c.from_residual.result c.in_err-join_row.field-0.0 (OfFull (λ full. free_of c.args.pool.now + size (tree_of c.args.sum.now c.args.pool.now) < sum_bytes ns n)) c.from_residual.ensures.0 c.from_residual.ensures.1
-    (full_as c.in_err-join_row.field-0.0 (c.in_err-join_row.ensures.room ns n (part_few j (next g at) few)) (λ full short. joined_lacks (sum_bytes ns n) j c.requires.stands (given_handed c.requires.sum) short))
+    passed_on c.from_residual.result c.in_err-near.field-0.0 (OfFull (λ full. free_of c.args.pool.now + size (tree_of c.args.sum.now c.args.pool.now) < sum_bytes ns n)) c.from_residual.ensures.0 c.from_residual.ensures.1
+    (full_as c.in_err-near.field-0.0 (c.in_err-near.ensures.room ns n (part_few j (next g at) few)) (λ full short. joined_lacks (sum_bytes ns n) j c.requires.stands (given_handed c.requires.sum) short))
 
-pub returns-in_err-join_row-clause-fits : goal.returns-in_err-join_row-clause-fits
-returns-in_err-join_row-clause-fits g c = λ h l held k.
-    let at = (goal.at.returns-in_err-join_row-clause-fits g c).After-coefficient-factor in
-    passed_on c.from_residual.result c.in_err-join_row.field-0.0 IsNoOverflow c.from_residual.ensures.0 c.from_residual.ensures.1
-    (c.in_err-join_row.ensures.fits h l (part_held c.loop-at.invariant.joined (next g at) held) k)
+pub returns-in_err-near-clause-fits : goal.returns-in_err-near-clause-fits
+returns-in_err-near-clause-fits g c = λ h l held k.
+    let at = (goal.at.returns-in_err-near-clause-fits g c).After-coefficient-factor in
+    passed_on c.from_residual.result c.in_err-near.field-0.0 IsNoOverflow c.from_residual.ensures.0 c.from_residual.ensures.1
+    (c.in_err-near.ensures.fits h l (part_held c.loop-at.invariant.joined (next g at) held) k)

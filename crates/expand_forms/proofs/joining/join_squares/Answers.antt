@@ -12,7 +12,7 @@ use Rattle.expand_forms.proofs.TermPolynomials.{tree_normal}
 use Rattle.expand_forms.proofs.TermReadings.{beside, term_monomial}
 use Rattle.expand_forms.proofs.TreeMonomials.{monomial_times_monomial}
 use Rattle.expand_forms.proofs.joining.join_squares.Given.{Over}
-use Rattle.expand_forms.proofs.joining.join_squares.Goals.{After-coefficient-factor, In_ok-join_product}
+use Rattle.expand_forms.proofs.joining.join_squares.Goals.{After-coefficient-factor, In_ok-place}
 use Rattle.expand_forms.proofs.joining.join_squares.Goals as goal
 
 here : (g : Over) (c : After-coefficient-factor g) → IsNextTerm c.loop-at.at c.term_id-term.result (plain (tree_at c.args.a (without_root c.args.sum.now (forest c.args.pool.now)))) (without_root c.args.sum.now (forest c.loop-at.pool)) (forest c.loop-at.pool)
@@ -58,28 +58,28 @@ join_product-requires g c =
     let m = x.term.summand.monomial in
     (search rules, (j.stands, (gives_rest j.gives (λ t h. h.sum), (c.loop-at.invariant.lists, (product_nonzero c.in_ok-square.ensures.product (nonzero g at) refl (nonzero g at), (c.of-factors.ensures, (x.expression, (x.expression, (m, m, term_monomial x.term, term_monomial x.term)))))))))
 
-pub returns-in_err-join_product-clause-front : goal.returns-in_err-join_product-clause-front
-returns-in_err-join_product-clause-front g c = front_after_one behind_first c.loop-at.invariant.joined.front c.join_product.ensures.front
+pub returns-in_err-place-clause-front : goal.returns-in_err-place-clause-front
+returns-in_err-place-clause-front g c = front_after_one behind_first c.loop-at.invariant.joined.front c.join_product.ensures.front
 
 -- ---- after the square of the term
 
-abbrev read : (g : Over) → In_ok-join_product g → After-coefficient-factor g
+abbrev read : (g : Over) → In_ok-place g → After-coefficient-factor g
 read g c = c.before.before.before.before.before.before.before.before.before.before
 
-squared : (g : Over) (c : In_ok-join_product g) → Gives (without_root c.args.sum.now (forest c.loop-at.pool)) (forest c.join_product.new.pool) c.args.sum.now (IsSumOf (summand (value_of c.in_ok-square.square) (monomial_times (here g (read g c)).term.summand.monomial (here g (read g c)).term.summand.monomial) ∷ polynomial_of (tree_of c.args.sum.now c.loop-at.pool)))
+squared : (g : Over) (c : In_ok-place g) → Gives (without_root c.args.sum.now (forest c.loop-at.pool)) (forest c.join_product.new.pool) c.args.sum.now (IsSumOf (summand (value_of c.in_ok-square.square) (monomial_times (here g (read g c)).term.summand.monomial (here g (read g c)).term.summand.monomial) ∷ polynomial_of (tree_of c.args.sum.now c.loop-at.pool)))
 squared g c =
     let x = here g (read g c) in
     let m = x.term.summand.monomial in
-    c.in_ok-join_product.ensures.ok m m (term_monomial x.term) (term_monomial x.term)
+    c.in_ok-place.ensures.ok m m (term_monomial x.term) (term_monomial x.term)
 
-joined : (g : Over) (c : In_ok-join_product g) → IsJoined c.args.sum.now
+joined : (g : Over) (c : In_ok-place g) → IsJoined c.args.sum.now
     (row (plus (value_of c.coefficient-factor.result) (value_of c.coefficient-factor.result)) (plain (tree_at c.term_id-term.result (without_root c.args.sum.now (forest c.loop-at.pool)))) (c.loop-at.at + 1) (plain (tree_at c.args.a (without_root c.args.sum.now (forest c.args.pool.now))))
     ++ square (drop (c.loop-at.at + 1) (normal (polynomial_of (plain (tree_at c.args.a (without_root c.args.sum.now (forest c.args.pool.now))))))))
     (product (polynomial_of (plain (tree_at c.args.a (without_root c.args.sum.now (forest c.args.pool.now))))) (polynomial_of (plain (tree_at c.args.a (without_root c.args.sum.now (forest c.args.pool.now))))) ++ polynomial_of (tree_of c.args.sum.now c.args.pool.now)) c.args.pool.now c.join_product.new.pool
-joined g c = joined_more c.loop-at.invariant.joined (next g (read g c) (value_of c.in_ok-square.square) c.in_ok-square.ensures.product) (squared g c) c.join_product.ensures.front c.in_ok-join_product.ensures.kept c.join_product.ensures.stands
+joined g c = joined_more c.loop-at.invariant.joined (next g (read g c) (value_of c.in_ok-square.square) c.in_ok-square.ensures.product) (squared g c) c.join_product.ensures.front c.in_ok-place.ensures.kept c.join_product.ensures.stands
 
 -- the row, as the sum stands then
-rest : (g : Over) (c : In_ok-join_product g) (d : Fraction) → d ≡ plus (value_of c.coefficient-factor.result) (value_of c.coefficient-factor.result)
+rest : (g : Over) (c : In_ok-place g) (d : Fraction) → d ≡ plus (value_of c.coefficient-factor.result) (value_of c.coefficient-factor.result)
     → IsNextPart (row (plus (value_of c.coefficient-factor.result) (value_of c.coefficient-factor.result)) (plain (tree_at c.term_id-term.result (without_root c.args.sum.now (forest c.loop-at.pool)))) (c.loop-at.at + 1) (plain (tree_at c.args.a (without_root c.args.sum.now (forest c.args.pool.now))))
     ++ square (drop (c.loop-at.at + 1) (normal (polynomial_of (plain (tree_at c.args.a (without_root c.args.sum.now (forest c.args.pool.now))))))))
     (row d (plain (tree_at c.term_id-term.result (without_root c.args.sum.now (forest c.join_product.new.pool)))) (c.loop-at.at + 1) (plain (tree_at c.args.a (without_root c.args.sum.now (forest c.join_product.new.pool)))))
@@ -91,7 +91,7 @@ rest g c d e =
 
 pub join_row-requires : goal.join_row-requires
 join_row-requires g c =
-    let at = (goal.at.join_row-requires g c).In_ok-join_product in
+    let at = (goal.at.join_row-requires g c).In_ok-place in
     let j = joined g at in
     let x = here g (read g at) in
     let r = sym (given_rest (squared g at)) in
@@ -101,20 +101,20 @@ join_row-requires g c =
     let first_term = subst (λ (f : Forest). IsTerm (plain (tree_at c.term_id-term.result f))) r x.term in
     let expanded = subst (λ (f : Forest). IsExpanded (plain (tree_at c.args.a f))) s c.requires.expanded in
     let terms = lists_beside c.requires.sum j.gives c.requires.expression (lists_listed _ c.of-terms.ensures) in
-    (search rules, (omega (arith, c.requires.few), (j.stands, (gives_rest j.gives (λ t h. h.sum), (c.in_ok-join_product.ensures.lists, (nonzero, (first, (subst (IsExpression c.args.a) s c.requires.expression, (first_term, (expanded, terms))))))))))
+    (search rules, (omega (arith, c.requires.few), (j.stands, (gives_rest j.gives (λ t h. h.sum), (c.in_ok-place.ensures.lists, (nonzero, (first, (subst (IsExpression c.args.a) s c.requires.expression, (first_term, (expanded, terms))))))))))
 
 pub returns-in_err-double-clause-front : goal.returns-in_err-double-clause-front
-returns-in_err-double-clause-front g c = (joined g (goal.at.returns-in_err-double-clause-front g c).In_ok-join_product).front
+returns-in_err-double-clause-front g c = (joined g (goal.at.returns-in_err-double-clause-front g c).In_ok-place).front
 
-pub returns-in_err-join_row-clause-front : goal.returns-in_err-join_row-clause-front
-returns-in_err-join_row-clause-front g c = front_after_one behind_first (joined g (goal.at.returns-in_err-join_row-clause-front g c).In_ok-join_product).front c.join_row.ensures.front
+pub returns-in_err-near-clause-front : goal.returns-in_err-near-clause-front
+returns-in_err-near-clause-front g c = front_after_one behind_first (joined g (goal.at.returns-in_err-near-clause-front g c).In_ok-place).front c.join_row.ensures.front
 
 pub loop-at-preserved : goal.loop-at-preserved
 loop-at-preserved g c =
-    let at = (goal.at.loop-at-preserved g c).In_ok-join_product in
+    let at = (goal.at.loop-at-preserved g c).In_ok-place in
     record {
-      lists = c.in_ok-join_row.ensures.lists;
-      joined = joined_more (joined g at) (rest g at (value_of c.in_ok-double.double) c.in_ok-double.ensures.sum) c.in_ok-join_row.ensures.ok c.join_row.ensures.front c.in_ok-join_row.ensures.kept c.join_row.ensures.stands;
+      lists = c.in_ok-near.ensures.lists;
+      joined = joined_more (joined g at) (rest g at (value_of c.in_ok-double.double) c.in_ok-double.ensures.sum) c.in_ok-near.ensures.ok c.join_row.ensures.front c.in_ok-near.ensures.kept c.join_row.ensures.stands;
     }
 
 pub returns-clause-ok : goal.returns-clause-ok
@@ -125,25 +125,25 @@ returns-clause-ok g c =
 
 -- ---- few bytes
 
-pub returns-in_err-join_product-clause-room : goal.returns-in_err-join_product-clause-room
-returns-in_err-join_product-clause-room g c = λ ns n few.
-    let at = (goal.at.returns-in_err-join_product-clause-room g c).After-coefficient-factor in
+pub returns-in_err-place-clause-room : goal.returns-in_err-place-clause-room
+returns-in_err-place-clause-room g c = λ ns n few.
+    let at = (goal.at.returns-in_err-place-clause-room g c).After-coefficient-factor in
     let j = c.loop-at.invariant.joined in
     let x = here g at in
     let m = x.term.summand.monomial in
     let q = value_of c.in_ok-square.square in
     let all = part_few j (next g at q c.in_ok-square.ensures.product) few in
-    passed_on c.from_residual-in_err-join_product.result c.in_err-join_product.field-0.0 (OfFull (λ full. free_of c.args.pool.now + size (tree_of c.args.sum.now c.args.pool.now) < sum_bytes ns n)) c.from_residual-in_err-join_product.ensures.0 c.from_residual-in_err-join_product.ensures.1
-    (full_as c.in_err-join_product.field-0.0 (c.in_err-join_product.ensures.room m m (term_monomial x.term) (term_monomial x.term))
+    passed_on c.from_residual-in_err-place.result c.in_err-place.field-0.0 (OfFull (λ full. free_of c.args.pool.now + size (tree_of c.args.sum.now c.args.pool.now) < sum_bytes ns n)) c.from_residual-in_err-place.ensures.0 c.from_residual-in_err-place.ensures.1
+    (full_as c.in_err-place.field-0.0 (c.in_err-place.ensures.room m m (term_monomial x.term) (term_monomial x.term))
     (λ full short. term_lacks (summand q (monomial_times m m)) (monomial_times_monomial m m x.term.monomial x.term.monomial) j c.requires.stands (given_handed c.requires.sum) all short))
 
-pub returns-in_err-join_row-clause-room : goal.returns-in_err-join_row-clause-room
-returns-in_err-join_row-clause-room g c = λ ns n few.
-    let at = (goal.at.returns-in_err-join_row-clause-room g c).In_ok-join_product in
+pub returns-in_err-near-clause-room : goal.returns-in_err-near-clause-room
+returns-in_err-near-clause-room g c = λ ns n few.
+    let at = (goal.at.returns-in_err-near-clause-room g c).In_ok-place in
     let j = joined g at in
     let all = part_few j (rest g at (value_of c.in_ok-double.double) c.in_ok-double.ensures.sum) few in
-    passed_on c.from_residual-in_err-join_row.result c.in_err-join_row.field-0.0 (OfFull (λ full. free_of c.args.pool.now + size (tree_of c.args.sum.now c.args.pool.now) < sum_bytes ns n)) c.from_residual-in_err-join_row.ensures.0 c.from_residual-in_err-join_row.ensures.1
-    (full_as c.in_err-join_row.field-0.0 (c.in_err-join_row.ensures.room ns n all) (λ full short. joined_lacks (sum_bytes ns n) j c.requires.stands (given_handed c.requires.sum) short))
+    passed_on c.from_residual-in_err-near.result c.in_err-near.field-0.0 (OfFull (λ full. free_of c.args.pool.now + size (tree_of c.args.sum.now c.args.pool.now) < sum_bytes ns n)) c.from_residual-in_err-near.ensures.0 c.from_residual-in_err-near.ensures.1
+    (full_as c.in_err-near.field-0.0 (c.in_err-near.ensures.room ns n all) (λ full short. joined_lacks (sum_bytes ns n) j c.requires.stands (given_handed c.requires.sum) short))
 
 -- ---- what fits
 
@@ -154,21 +154,21 @@ returns-in_err-square-clause-fits g c = λ h l held k.
     let m = (here g at).term.summand.monomial in
     contradiction (first_fits (summand q (monomial_times m m)) (part_held c.loop-at.invariant.joined (next g at q refl) held) k) (c.in_err-square.ensures.refused)
 
-pub returns-in_err-join_product-clause-fits : goal.returns-in_err-join_product-clause-fits
-returns-in_err-join_product-clause-fits g c = λ h l held k.
-    let at = (goal.at.returns-in_err-join_product-clause-fits g c).After-coefficient-factor in
+pub returns-in_err-place-clause-fits : goal.returns-in_err-place-clause-fits
+returns-in_err-place-clause-fits g c = λ h l held k.
+    let at = (goal.at.returns-in_err-place-clause-fits g c).After-coefficient-factor in
     let x = here g at in
     let m = x.term.summand.monomial in
-    passed_on c.from_residual-in_err-join_product.result c.in_err-join_product.field-0.0 IsNoOverflow c.from_residual-in_err-join_product.ensures.0 c.from_residual-in_err-join_product.ensures.1
-    (c.in_err-join_product.ensures.fits m m h l (term_monomial x.term) (term_monomial x.term) (part_held c.loop-at.invariant.joined (next g at (value_of c.in_ok-square.square) c.in_ok-square.ensures.product) held) k)
+    passed_on c.from_residual-in_err-place.result c.in_err-place.field-0.0 IsNoOverflow c.from_residual-in_err-place.ensures.0 c.from_residual-in_err-place.ensures.1
+    (c.in_err-place.ensures.fits m m h l (term_monomial x.term) (term_monomial x.term) (part_held c.loop-at.invariant.joined (next g at (value_of c.in_ok-square.square) c.in_ok-square.ensures.product) held) k)
 
 pub returns-in_err-double-clause-fits : goal.returns-in_err-double-clause-fits
 returns-in_err-double-clause-fits g c = λ h l held k.
     let at = (goal.at.returns-in_err-double-clause-fits g c).After-coefficient-factor in
     contradiction (twice_coefficient_fits c.coefficient-factor.result c.in_ok-square.square c.in_ok-square.ensures.product (product_nonzero c.in_ok-square.ensures.product (nonzero g at) refl (nonzero g at))) (c.in_err-double.ensures.refused)
 
-pub returns-in_err-join_row-clause-fits : goal.returns-in_err-join_row-clause-fits
-returns-in_err-join_row-clause-fits g c = λ h l held k.
-    let at = (goal.at.returns-in_err-join_row-clause-fits g c).In_ok-join_product in
-    passed_on c.from_residual-in_err-join_row.result c.in_err-join_row.field-0.0 IsNoOverflow c.from_residual-in_err-join_row.ensures.0 c.from_residual-in_err-join_row.ensures.1
-    (c.in_err-join_row.ensures.fits h l (part_held (joined g at) (rest g at (value_of c.in_ok-double.double) c.in_ok-double.ensures.sum) held) k)
+pub returns-in_err-near-clause-fits : goal.returns-in_err-near-clause-fits
+returns-in_err-near-clause-fits g c = λ h l held k.
+    let at = (goal.at.returns-in_err-near-clause-fits g c).In_ok-place in
+    passed_on c.from_residual-in_err-near.result c.in_err-near.field-0.0 IsNoOverflow c.from_residual-in_err-near.ensures.0 c.from_residual-in_err-near.ensures.1
+    (c.in_err-near.ensures.fits h l (part_held (joined g at) (rest g at (value_of c.in_ok-double.double) c.in_ok-double.ensures.sum) held) k)

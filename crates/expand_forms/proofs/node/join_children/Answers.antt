@@ -1,4 +1,4 @@
-use Rattle.std.proofs.Common.{rules, ◌≡◌, ◌<◌, ◌+◌, ◌∙◌, ◌++◌, ap, sym, subst, arith, ◌≤◌, ◌-◌}
+use Rattle.std.proofs.Common.{rules, ◌≡◌, ◌<◌, ◌+◌, ◌∙◌, ◌++◌, ap, sym, subst, arith, ◌≤◌}
 use Rattle.expand_forms.proofs.Shared.{one_fraction, Tree, count, size, Polynomial, product, polynomial_of, sum_of, IsExpanded, children_number, gives_rest, IsExpression, children_of, nth, plain, Forest, arity, tree_of, kids_of, tree_at, without_root, forest, behind_first, front_after_one, given_rest, given_handed, sum_bytes, free_of, OfFull, passed_on, full_as, IsNoOverflow}
 use Rattle.expand_forms.proofs.Expansions.{constant_is_expanded}
 use Rattle.expand_forms.proofs.Gathered.{gathered_refl}

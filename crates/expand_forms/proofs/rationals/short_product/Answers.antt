@@ -1,4 +1,3 @@
-use Rattle.std.proofs.Common.{◌∙◌}
 use Rattle.expand_forms.proofs.Shorts.{IsShortOne, short_one, short_product, product_value}
 use Rattle.expand_forms.proofs.rationals.short_product.Goals as goal
 use Rattle.expand_forms.proofs.rationals.short_product.Goals.{After-num-2}

@@ -1,4 +1,3 @@
-use Rattle.std.proofs.Common.{◌∙◌}
 use Rattle.expand_forms.proofs.Shorts.{IsShortOne, short_one, short_sum, sum_value}
 use Rattle.expand_forms.proofs.rationals.short_sum.Goals as goal
 use Rattle.expand_forms.proofs.rationals.short_sum.Goals.{After-num-2}
