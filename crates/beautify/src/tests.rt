@@ -1,15 +1,12 @@
 //! Faces of numbers, worked by hand: a sign of 8 bytes, a line of 8 bytes, and 16 for each short
 //! number, where a denominator of 1 is not written.
-ghost use Rattle.std.specs.Prelude.{IfOk};
-ghost use Rattle.node_pool.specs.State.{IsPoolSize};
 ghost use Rattle.tree_handles.specs.Standing.{Stands};
 
 use crate::face_of;
 use calc_terms::Rat;
 use node_pool::Pool;
-use std::alloc::{AllocError, Global};
 use std::test::Fail;
-use tree_handles::number;
+use tree_handles::{number, open_pool};
 
 /// A numerator, a denominator, and the bytes of the face.
 const ROWS: [(i8, u8, u32); 10] = [
@@ -24,15 +21,6 @@ const ROWS: [(i8, u8, u32); 10] = [
     (-5, 1, 24),
     (-128, 255, 48),
 ];
-
-/// A pool with no tree in it.
-fn opened(alloc: Global, size: u32) -> Result<Pool, AllocError>
-    requires { IsPoolSize size }
-    ensures { IfOk result Stands }
-{
-    let pool = Pool::open(alloc, size)?;
-    Ok(pool)
-}
 
 /// The bytes that are used when the face of a number stands alone, or none where a placing was
 /// refused.
@@ -60,7 +48,7 @@ fn rational(num: i8, den: u8) -> Rat {
 #[test]
 fn faces_of_numbers(rt: HostRuntime) -> Result<(), Fail> {
     for (num, den, bytes) in ROWS {
-        let mut pool = opened(rt.alloc(), 512)?;
+        let mut pool = open_pool(rt.alloc(), 512)?;
         let used = bytes_of_face(&mut pool, rational(num, den));
         assert_eq!(rt; used, Some(bytes), "{num}/{den}");
     }
@@ -71,12 +59,12 @@ fn faces_of_numbers(rt: HostRuntime) -> Result<(), Fail> {
 #[test]
 fn small_pools_refuse(rt: HostRuntime) -> Result<(), Fail> {
     for size in [64u32, 72, 80, 88] {
-        let mut pool = opened(rt.alloc(), size)?;
+        let mut pool = open_pool(rt.alloc(), size)?;
         let used = bytes_of_face(&mut pool, rational(-3, 2));
         assert_eq!(rt; used, None, "{size}");
         assert_eq!(rt; pool.refusals(), 1, "{size}");
     }
-    let mut pool = opened(rt.alloc(), 96)?;
+    let mut pool = open_pool(rt.alloc(), 96)?;
     assert_eq!(rt; bytes_of_face(&mut pool, rational(-3, 2)), Some(48));
     Ok(())
 }
@@ -84,7 +72,7 @@ fn small_pools_refuse(rt: HostRuntime) -> Result<(), Fail> {
 /// A whole number at least 0 is its own face, which takes no byte: in a full pool there are four.
 #[test]
 fn full_pools_show_whole_numbers(rt: HostRuntime) -> Result<(), Fail> {
-    let mut pool = opened(rt.alloc(), 64)?;
+    let mut pool = open_pool(rt.alloc(), 64)?;
     for bytes in [16u32, 32, 48, 64] {
         assert_eq!(rt; bytes_of_face(&mut pool, rational(7, 1)), Some(bytes));
     }

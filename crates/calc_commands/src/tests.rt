@@ -1,7 +1,5 @@
 //! Command lines, and the reports of a small pool.
-ghost use Rattle.std.specs.Prelude.{◌≡◌, ◌≤◌, IfOk};
-ghost use Rattle.node_pool.specs.State.{IsPoolSize};
-ghost use Rattle.tree_handles.specs.Standing.{Stands};
+ghost use Rattle.std.specs.Prelude.{◌≡◌, ◌≤◌};
 
 use super::*;
 use calc_terms::{Name, Rat};
@@ -9,7 +7,7 @@ use line_text::Text;
 use node_pool::Pool;
 use std::alloc::{AllocError, Global};
 use std::test::Fail;
-use tree_handles::{number, symbol};
+use tree_handles::{number, open_pool, symbol};
 
 /// Lines, and what they ask for.
 const ASKED: &str = "\
@@ -64,15 +62,6 @@ pool = none";
 const ZERO: &str = "\
 01 01 00 00 01 00 00 00\n\
 00 00 00 00 00 00 00 00";
-
-/// A pool with no tree in it.
-fn opened(alloc: Global, size: u32) -> Result<Pool, AllocError>
-    requires { IsPoolSize size }
-    ensures { IfOk result Stands }
-{
-    let pool = Pool::open(alloc, size)?;
-    Ok(pool)
-}
 
 /// What a line asks for, in words.
 fn tell(line: &[u8], text: &mut Text)
@@ -154,7 +143,7 @@ fn command_lines_are_read(rt: HostRuntime) -> Result<(), Fail> {
 #[test]
 fn reports_tell_the_pool(rt: HostRuntime) -> Result<(), Fail> {
     let mut text = Text::open(rt.alloc(), 448)?;
-    let mut pool = opened(rt.alloc(), 64)?;
+    let mut pool = open_pool(rt.alloc(), 64)?;
     dump(&pool, &mut text);
     assert_eq!(rt; text.bytes(), b"".as_slice());
     number(&mut pool, Rat::whole(0)).expect(&rt, "it fits");

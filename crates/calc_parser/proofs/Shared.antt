@@ -40,7 +40,6 @@ pub use Rattle.tree_handles.proofs.Given.{append-none, gives, gives_as, represen
 pub use Rattle.tree_handles.proofs.Lasts.{ends_as}
 pub use Rattle.tree_handles.proofs.Outcomes.{by_test}
 pub use Rattle.tree_handles.proofs.Places.{free_forest, used_forest}
-pub use Rattle.tree_handles.proofs.Tested.{stands_open}
 pub use Rattle.tree_handles.specs.Forest.{Forest, arity, before_last, bytes_in, empty, join, last_trees, one_tree, tree}
 pub use Rattle.tree_handles.specs.Handed.{Ends, Gives, IsOnce, KeepsFront, Represents}
 pub use Rattle.tree_handles.specs.Standing.{IsRefused, KeepsRefusals, LacksBytes, Refuses, Stands, forest}

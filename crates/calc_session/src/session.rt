@@ -31,7 +31,7 @@ use pool_layouts::Drafter;
 use reduce_port::Reducer;
 use std::alloc::{AllocError, Global};
 use std::marker::Model;
-use tree_handles::number;
+use tree_handles::{number, open_pool};
 
 /// A pool, the table of the trees that stand in it, which are the last answer and the stored ones, the parser that each
 /// line is read by, and the drafter that answers are drawn with.
@@ -69,7 +69,7 @@ impl Session {
         requires { IsPoolSize size }
         ensures { IfOk result (λ session. session ≡ record { state = first_state size; refusals = 0; last_refused = record { needed = 0; free = 0 }; text = [] }) }
     {
-        let mut pool = Pool::open(alloc, size)?;
+        let mut pool = open_pool(alloc, size)?;
         let text = Text::open(alloc, 3 * size + 8_448)?;
         let parser = Parser::open(alloc)?;
         let drafter = Drafter::open(alloc, size)?;

@@ -1,7 +1,6 @@
 //! Rationals before a symbol and before a sum. The expected bytes are worked out by hand.
 ghost use Rattle.std.specs.Prelude.{◌≡◌, IfOk, true};
 ghost use Rattle.calc_algebra.specs.Numbers.{is_number};
-ghost use Rattle.node_pool.specs.State.{IsPoolSize};
 ghost use Rattle.tree_handles.specs.Handed.{Gives};
 ghost use Rattle.tree_handles.specs.Standing.{Stands, forest};
 
@@ -9,19 +8,9 @@ use super::put_coefficient;
 use calc_terms::{Kind, Name, Rat};
 use node_pool::Pool;
 use number_forms::{add_numbers, place_term};
-use std::alloc::{AllocError, Global};
 use std::test::Fail;
 use surd_terms::square_root;
-use tree_handles::{Handle, NumberFault, node, number, symbol};
-
-/// A pool with no tree in it.
-fn opened(alloc: Global, size: u32) -> Result<Pool, AllocError>
-    requires { IsPoolSize size }
-    ensures { IfOk result Stands }
-{
-    let pool = Pool::open(alloc, size)?;
-    Ok(pool)
-}
+use tree_handles::{Handle, NumberFault, node, number, open_pool, symbol};
 
 /// q·ans
 fn times_name(pool: &mut Pool, q: Rat) -> Result<Handle, NumberFault>
@@ -81,10 +70,10 @@ const MULTIPLES: [[i128; 3]; 4] = [[0, 16, 16], [1, 16, 56], [2, 40, 104], [-1, 
 #[test]
 fn zero_one_and_others(rt: HostRuntime) -> Result<(), Fail> {
     for [q, name, sum] in MULTIPLES {
-        let mut first = opened(rt.alloc(), 1024)?;
+        let mut first = open_pool(rt.alloc(), 1024)?;
         let multiple = times_name(&mut first, Rat::whole(q.max(-1)));
         assert_eq!(rt; i128::from(outcome(&first, &multiple)), name, "{q} ans");
-        let mut second = opened(rt.alloc(), 1024)?;
+        let mut second = open_pool(rt.alloc(), 1024)?;
         let multiple = times_sum(&mut second, Rat::whole(q.max(-1)));
         assert_eq!(rt;
             i128::from(outcome(&second, &multiple)),
@@ -97,7 +86,7 @@ fn zero_one_and_others(rt: HostRuntime) -> Result<(), Fail> {
 
 #[test]
 fn eight_bytes_too_few(rt: HostRuntime) -> Result<(), Fail> {
-    let mut pool = opened(rt.alloc(), 64)?;
+    let mut pool = open_pool(rt.alloc(), 64)?;
     let _undef = node(&mut pool, Kind::Undef)?;
     let multiple = times_name(&mut pool, Rat::ratio(1, 2));
     assert_eq!(rt; outcome(&pool, &multiple), 1);

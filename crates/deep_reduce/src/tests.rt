@@ -1,7 +1,6 @@
 //! The sum of 1, 2 and 3 under a breaker: it has four nodes, and each makes a check.
 ghost use Rattle.std.specs.Prelude.{◌≡◌, ◌≤◌, true, IfOk};
 ghost use Rattle.calc_terms.specs.Trees.{is_add};
-ghost use Rattle.node_pool.specs.State.{IsPoolSize};
 ghost use Rattle.tree_handles.specs.Handed.{Gives};
 ghost use Rattle.tree_handles.specs.Standing.{Stands, forest};
 
@@ -14,16 +13,7 @@ use reduce_port::{ReduceFault, Reducer};
 use std::alloc::{AllocError, Global};
 use std::cmp::Ordering;
 use std::test::Fail;
-use tree_handles::{Handle, add_child, children, move_last, node, number};
-
-/// A pool with no tree in it.
-fn opened(alloc: Global, size: u32) -> Result<Pool, AllocError>
-    requires { IsPoolSize size }
-    ensures { IfOk result Stands }
-{
-    let pool = Pool::open(alloc, size)?;
-    Ok(pool)
-}
+use tree_handles::{Handle, add_child, children, move_last, node, number, open_pool};
 
 /// A watch over one breaker, which trips after so many polls.
 fn armed(alloc: Global, polls: u64) -> Result<Watch<CountBreaker>, AllocError> {
@@ -62,7 +52,7 @@ fn is_six(pool: &mut Pool, watch: &mut Watch<CountBreaker>) -> Result<bool, Redu
 
 #[test]
 fn three_polls_are_too_few(rt: HostRuntime) -> Result<(), Fail> {
-    let mut pool = opened(rt.alloc(), 512)?;
+    let mut pool = open_pool(rt.alloc(), 512)?;
     let mut watch = armed(rt.alloc(), 3)?;
     let found = is_six(&mut pool, &mut watch);
     let is_interrupted = matches!(found, Err(ReduceFault::Interrupted(Interrupted { by: 0 })));
@@ -73,7 +63,7 @@ fn three_polls_are_too_few(rt: HostRuntime) -> Result<(), Fail> {
 /// With four polls there is an answer, and the next poll trips.
 #[test]
 fn four_polls_are_enough(rt: HostRuntime) -> Result<(), Fail> {
-    let mut pool = opened(rt.alloc(), 512)?;
+    let mut pool = open_pool(rt.alloc(), 512)?;
     let mut watch = armed(rt.alloc(), 4)?;
     let found = is_six(&mut pool, &mut watch);
     assert!(rt; matches!(found, Ok(true)));

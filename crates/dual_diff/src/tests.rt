@@ -11,9 +11,7 @@ use node_pool::{Full, Id, Pool};
 use std::alloc::{AllocError, Global};
 use std::process::Abort;
 use std::test::Fail;
-use tree_handles::{
-    Handle, child_ids, kind, name, node, node_over, node_over_two, number, rational, symbol,
-};
+use tree_handles::{Handle, child_ids, kind, name, node, node_over, node_over_two, number, open_pool, rational, symbol};
 use tree_walks::is_deeper;
 
 /// A node with two children.
@@ -67,15 +65,6 @@ enum Shape<'a> {
     Number(i8),
     Two(Pair, &'a Shape<'a>, &'a Shape<'a>),
     One(Single, &'a Shape<'a>),
-}
-
-/// A pool with no tree in it.
-fn opened(alloc: Global, size: u32) -> Result<Pool, AllocError>
-    requires { IsPoolSize size }
-    ensures { IfOk result Stands }
-{
-    let pool = Pool::open(alloc, size)?;
-    Ok(pool)
 }
 
 /// A new last tree of that shape.
@@ -193,7 +182,7 @@ fn root_of(_pool: &Pool, tree: &Handle) -> Id
 /// The letters of the derivative, or none where there is none.
 fn derivative_letters(rt: &impl Abort, alloc: Global, shape: &Shape) -> Result<Vec<u8>, Fail> {
     let x = Name::read(b"x").expect(rt, "x is a name");
-    let mut pool = opened(alloc, 4096)?;
+    let mut pool = open_pool(alloc, 4096)?;
     let mut letters = Vec::new(alloc);
     let tree = grow(&mut pool, shape)?;
     let id = root_of(&pool, &tree);
@@ -266,7 +255,7 @@ fn refusal(rt: &impl Abort, alloc: Global, shape: &Shape, size: u32) -> Result<O
     requires { IsPoolSize size }
 {
     let x = Name::read(b"x").expect(rt, "x is a name");
-    let mut pool = opened(alloc, size)?;
+    let mut pool = open_pool(alloc, size)?;
     let tree = grow(&mut pool, shape)?;
     let id = root_of(&pool, &tree);
     if is_deeper(&pool, id) || !has_derivative(&pool, id, x) {

@@ -1,6 +1,5 @@
 //! Trees of a table that are polynomials, and trees that are none.
 ghost use Rattle.std.specs.Prelude.{◌≡◌, IfOk, true, ⊤};
-ghost use Rattle.node_pool.specs.State.{IsPoolSize};
 ghost use Rattle.tree_handles.specs.Expressions.{IsExpression, takes_kind};
 ghost use Rattle.tree_handles.specs.Handed.{Gives, IsHanded};
 ghost use Rattle.tree_handles.specs.Standing.{Stands, forest};
@@ -14,7 +13,7 @@ use reduce_port::ReduceFault;
 use std::alloc::{AllocError, Global};
 use std::cmp::Ordering;
 use std::test::Fail;
-use tree_handles::{Handle, node, node_over, node_over_two, number, symbol};
+use tree_handles::{Handle, node, node_over, node_over_two, number, open_pool, symbol};
 
 /// A node with two children.
 #[derive(Clone, Copy, Debug)]
@@ -67,15 +66,6 @@ enum Shape<'a> {
     Number(i8),
     Two(Pair, &'a Shape<'a>, &'a Shape<'a>),
     One(Single, &'a Shape<'a>),
-}
-
-/// A pool with no tree in it.
-fn opened(alloc: Global, size: u32) -> Result<Pool, AllocError>
-    requires { IsPoolSize size }
-    ensures { IfOk result Stands }
-{
-    let pool = Pool::open(alloc, size)?;
-    Ok(pool)
 }
 
 /// A new last tree of that shape.
@@ -147,7 +137,7 @@ fn root_of(_pool: &Pool, tree: &Handle) -> Id
 
 /// Whether a tree of that shape is a polynomial.
 fn answer(alloc: Global, shape: &Shape) -> Result<bool, Fail> {
-    let mut pool = opened(alloc, 4096)?;
+    let mut pool = open_pool(alloc, 4096)?;
     let tree = grow(&mut pool, shape)?;
     Ok(is_polynomial(&pool, root_of(&pool, &tree)))
 }
@@ -278,7 +268,7 @@ const EXPANDED: [(Shape<'static>, Shape<'static>); 8] = [
 #[test]
 fn polynomials_are_expanded(rt: HostRuntime) -> Result<(), Fail> {
     for (at, (shape, expected)) in EXPANDED.iter().enumerate() {
-        let mut pool = opened(rt.alloc(), 4096)?;
+        let mut pool = open_pool(rt.alloc(), 4096)?;
         let mut watch = armed(rt.alloc(), 1_000)?;
         let found = expands_to(&mut pool, shape, expected, &mut watch);
         assert!(rt; matches!(found, Ok(true)), "polynomial {at}");
@@ -373,7 +363,7 @@ const ALIKE: [(Shape<'static>, Shape<'static>); 5] = [
 
 /// Whether the difference of two shapes expands to 0.
 fn vanishes(alloc: Global, left: &Shape, right: &Shape) -> Result<bool, Fail> {
-    let mut pool = opened(alloc, 65_536)?;
+    let mut pool = open_pool(alloc, 65_536)?;
     let mut watch = armed(alloc, 1_000)?;
     let difference = Shape::Two(Pair::Difference, left, right);
     let found = expands_to(&mut pool, &difference, &Shape::Number(0), &mut watch);

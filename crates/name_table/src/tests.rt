@@ -10,13 +10,13 @@ use calc_terms::{Kind, Name, Rat};
 use node_pool::{Full, Pool};
 use std::alloc::Global;
 use std::test::Fail;
-use tree_handles::{count_trees, kind, number, rational, release, symbol};
+use tree_handles::{count_trees, kind, number, open_pool, rational, release, symbol};
 
 /// A table in a pool of 512 bytes, whose last answer is 0.
 fn opened(alloc: Global) -> Result<(Pool, NameTable), Fail>
     ensures { IfOk result (λ r. Stands r.0 × IsHeld r.1 (forest r.0)) }
 {
-    let mut pool = Pool::open(alloc, 512)?;
+    let mut pool = open_pool(alloc, 512)?;
     let zero = number(&mut pool, Rat::whole(0))?;
     Ok((pool, NameTable::new(zero)))
 }

@@ -1,5 +1,4 @@
 ghost use Rattle.std.specs.Prelude.{◌≡◌, IfOk, ⊤, true, []};
-ghost use Rattle.node_pool.specs.State.{IsPoolSize};
 ghost use Rattle.calc_terms.specs.Trees.{is_mult, count};
 ghost use Rattle.tree_handles.specs.Expressions.{takes_kind, children_of};
 ghost use Rattle.calc_terms.specs.declared.kind.Kind.TheVariants.{Add};
@@ -12,22 +11,9 @@ ghost use Rattle.tree_handles.specs.Standing.{Stands, forest};
 use super::*;
 use calc_terms::{Kind, Name, Rat};
 use node_pool::{Full, Id, Pool};
-use std::alloc::{AllocError, Global};
 use std::cmp::Ordering;
 use std::test::Fail;
-use tree_handles::{
-    Handle, add_child, child_id, children, kind, name, node, node_over, node_over_two, number,
-    symbol,
-};
-
-/// A pool with no tree in it.
-fn opened(alloc: Global, size: u32) -> Result<Pool, AllocError>
-    requires { IsPoolSize size }
-    ensures { IfOk result Stands }
-{
-    let pool = Pool::open(alloc, size)?;
-    Ok(pool)
-}
+use tree_handles::{Handle, add_child, child_id, children, kind, name, node, node_over, node_over_two, number, open_pool, symbol};
 
 /// A small tree.
 #[derive(Clone, Copy, Debug)]
@@ -164,7 +150,7 @@ fn trees_rise(rt: HostRuntime) -> Result<(), Fail> {
         (Shape::SumOfSum(b'a', b'z'), Shape::SumOfSum(b'b', b'a')),
     ];
     for (less, more) in rows {
-        let mut pool = opened(rt.alloc(), 640)?;
+        let mut pool = open_pool(rt.alloc(), 640)?;
         match order_of(&mut pool, less, more) {
             Ok(order) => assert_eq!(rt; order, Ordering::Less, "{less:?} {more:?}"),
             Err(_) => assert!(rt; false, "no room"),
@@ -218,7 +204,7 @@ fn keys_leave_factors_out(rt: HostRuntime) -> Result<(), Fail> {
         ((b'x', b'b'), b'c', Ordering::Less),
     ];
     for (factors, letter, order) in rows {
-        let mut pool = opened(rt.alloc(), 640)?;
+        let mut pool = open_pool(rt.alloc(), 640)?;
         match key_order(&mut pool, factors, letter) {
             Ok(found) => assert_eq!(rt; found, order, "{factors:?} {letter}"),
             Err(_) => assert!(rt; false, "no room"),
@@ -262,7 +248,7 @@ fn first_sorted(pool: &mut Pool, first: u8, second: u8) -> Result<Option<Name>, 
 #[test]
 fn children_are_put_in_order(rt: HostRuntime) -> Result<(), Fail> {
     for (first, second) in [(b'a', b'b'), (b'b', b'a')] {
-        let mut pool = opened(rt.alloc(), 640)?;
+        let mut pool = open_pool(rt.alloc(), 640)?;
         match first_sorted(&mut pool, first, second) {
             Ok(Some(least)) => assert_eq!(rt; least.bytes(), b"a".as_slice()),
             _ => assert!(rt; false, "no room"),
@@ -324,7 +310,7 @@ fn are_sorted(pool: &mut Pool, trees: u16) -> Result<bool, Full>
 #[test]
 fn many_children_are_put_in_order(rt: HostRuntime) -> Result<(), Fail> {
     for trees in [0, 1, 2, 63, 64, 65, 300] {
-        let mut pool = opened(rt.alloc(), 65_528)?;
+        let mut pool = open_pool(rt.alloc(), 65_528)?;
         match are_sorted(&mut pool, trees) {
             Ok(sorted) => assert!(rt; sorted, "{trees} trees"),
             Err(_) => assert!(rt; false, "no room"),

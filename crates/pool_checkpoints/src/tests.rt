@@ -1,24 +1,13 @@
 //! Trees are built above marks, and pools are rolled back to these.
 ghost use Rattle.std.specs.Prelude.{⊤, IfOk, []};
-ghost use Rattle.node_pool.specs.State.{IsPoolSize};
 ghost use Rattle.tree_handles.specs.Handed.{Gives, KeepsFront};
 ghost use Rattle.tree_handles.specs.Standing.{Stands, forest};
 
 use crate::{commit, open_mark, roll_back};
 use calc_terms::{Kind, Rat};
 use node_pool::{Full, Pool};
-use std::alloc::{AllocError, Global};
 use std::test::Fail;
-use tree_handles::{Handle, kind, node_over, number, release};
-
-/// A pool with no tree in it.
-fn opened(alloc: Global, size: u32) -> Result<Pool, AllocError>
-    requires { IsPoolSize size }
-    ensures { IfOk result Stands }
-{
-    let pool = Pool::open(alloc, size)?;
-    Ok(pool)
-}
+use tree_handles::{Handle, kind, node_over, number, open_pool, release};
 
 /// The opposite of a number, in 24 bytes.
 fn opposite(pool: &mut Pool, n: i8) -> Result<Handle, Full>
@@ -48,7 +37,7 @@ fn fill(pool: &mut Pool, most: u32) -> u32
 
 #[test]
 fn a_tree_above_a_mark_goes(rt: HostRuntime) -> Result<(), Fail> {
-    let mut pool = opened(rt.alloc(), 512)?;
+    let mut pool = open_pool(rt.alloc(), 512)?;
     let below = opposite(&mut pool, 7).expect(&rt, "it fits");
     let before = pool.bytes().to_vec(rt.alloc())?;
     let mark = open_mark(&pool);
@@ -65,7 +54,7 @@ fn a_tree_above_a_mark_goes(rt: HostRuntime) -> Result<(), Fail> {
 
 #[test]
 fn marks_are_nested(rt: HostRuntime) -> Result<(), Fail> {
-    let mut pool = opened(rt.alloc(), 512)?;
+    let mut pool = open_pool(rt.alloc(), 512)?;
     opposite(&mut pool, 1).expect(&rt, "it fits");
     let before = pool.bytes().to_vec(rt.alloc())?;
     let outer = open_mark(&pool);
@@ -85,7 +74,7 @@ fn marks_are_nested(rt: HostRuntime) -> Result<(), Fail> {
 
 #[test]
 fn what_an_inner_mark_kept_goes_with_the_outer(rt: HostRuntime) -> Result<(), Fail> {
-    let mut pool = opened(rt.alloc(), 512)?;
+    let mut pool = open_pool(rt.alloc(), 512)?;
     let before = pool.bytes().to_vec(rt.alloc())?;
     let outer = open_mark(&pool);
     let inner = open_mark(&pool);
@@ -100,7 +89,7 @@ fn what_an_inner_mark_kept_goes_with_the_outer(rt: HostRuntime) -> Result<(), Fa
 
 #[test]
 fn nothing_above_a_mark_changes_nothing(rt: HostRuntime) -> Result<(), Fail> {
-    let mut pool = opened(rt.alloc(), 64)?;
+    let mut pool = open_pool(rt.alloc(), 64)?;
     for trees in 0..3u32 {
         let before = pool.bytes().to_vec(rt.alloc())?;
         let mark = open_mark(&pool);
@@ -114,7 +103,7 @@ fn nothing_above_a_mark_changes_nothing(rt: HostRuntime) -> Result<(), Fail> {
 
 #[test]
 fn a_full_pool_is_rolled_back(rt: HostRuntime) -> Result<(), Fail> {
-    let mut pool = opened(rt.alloc(), 240)?;
+    let mut pool = open_pool(rt.alloc(), 240)?;
     opposite(&mut pool, 7).expect(&rt, "it fits");
     let before = pool.bytes().to_vec(rt.alloc())?;
     let mark = open_mark(&pool);

@@ -1,6 +1,5 @@
 //! Layouts of lines, drawn and written, and how they are refused.
-ghost use Rattle.std.specs.Prelude.{◌≡◌, ◌≤◌, IfOk};
-ghost use Rattle.node_pool.specs.State.{IsPoolSize};
+ghost use Rattle.std.specs.Prelude.{◌≡◌, ◌≤◌};
 ghost use Rattle.tree_handles.specs.Standing.{Stands};
 
 use crate::{Drafter, layout_of, rows, write_row, write_serial};
@@ -11,7 +10,7 @@ use line_text::Text;
 use node_pool::{Full, Pool};
 use std::alloc::{AllocError, Global};
 use std::test::Fail;
-use tree_handles::number;
+use tree_handles::{number, open_pool};
 use unicode_width::UnicodeWidthStr;
 
 /// A line, the serial text of its layout, and the rows of its picture.
@@ -77,15 +76,6 @@ x×(-y)^2 = x×(-y)^(2)|      2|x×(-y)\n\
 x×--y = x×--y|x×--y\n\
 (x^(y/z))^(1/2) = (x^(((y)/(z))))^(((1)/(2)))|( y)1|( -)-|( z)2|(x )";
 
-/// A pool with no tree in it.
-fn opened(alloc: Global, size: u32) -> Result<Pool, AllocError>
-    requires { IsPoolSize size }
-    ensures { IfOk result (λ pool. Stands pool × (pool.size ≡ size)) }
-{
-    let pool = Pool::open(alloc, size)?;
-    Ok(pool)
-}
-
 /// How the layout of the greatest number is refused beside it, where it is.
 fn refused(pool: &mut Pool, drafter: &mut Drafter) -> Option<Full>
     requires stands { Stands pool.old }
@@ -141,7 +131,7 @@ fn draw(alloc: Global, pool: &mut Pool, line: &[u8], text: &mut Text) -> bool
 
 #[test]
 fn a_layout_that_finds_no_room(rt: HostRuntime) -> Result<(), Fail> {
-    let mut pool = opened(rt.alloc(), 64)?;
+    let mut pool = open_pool(rt.alloc(), 64)?;
     let full = Full {
         needed: 40,
         free: 24,
@@ -154,7 +144,7 @@ fn a_layout_that_finds_no_room(rt: HostRuntime) -> Result<(), Fail> {
 /// What is drawn of a line in the smallest pool that has room for it.
 fn drawn(alloc: Global, line: &[u8]) -> Result<Option<Text>, AllocError> {
     for step in 0..600u32 {
-        let mut pool = opened(alloc, 64 + 8 * step)?;
+        let mut pool = open_pool(alloc, 64 + 8 * step)?;
         let mut text = Text::open(alloc, 16_384)?;
         if draw(alloc, &mut pool, line, &mut text) {
             return Ok(Some(text));

@@ -5,7 +5,6 @@ ghost use Rattle.calc_algebra.specs.Numbers.{is_number};
 ghost use Rattle.calc_terms.specs.Rat.{value_of};
 ghost use Rattle.calc_algebra.specs.Reduced.{is_reduced};
 ghost use Rattle.calc_terms.specs.Trees.{num, root as root_tree_of};
-ghost use Rattle.node_pool.specs.State.{IsPoolSize};
 ghost use Rattle.tree_handles.specs.Handed.{tree_of, IsHanded, Gives};
 ghost use Rattle.reduce_port.specs.Steps.{IfDone};
 ghost use Rattle.tree_handles.specs.Standing.{Stands, forest};
@@ -15,18 +14,8 @@ use calc_terms::{Kind, Name, Rat};
 use node_pool::Pool;
 use number_forms::add_numbers;
 use reduce_port::Step;
-use std::alloc::{AllocError, Global};
 use std::test::Fail;
-use tree_handles::{Handle, NumberFault, node_over, node_over_two, number, symbol};
-
-/// A pool with no tree in it.
-fn opened(alloc: Global, size: u32) -> Result<Pool, AllocError>
-    requires { IsPoolSize size }
-    ensures { IfOk result Stands }
-{
-    let pool = Pool::open(alloc, size)?;
-    Ok(pool)
-}
+use tree_handles::{Handle, NumberFault, node_over, node_over_two, number, open_pool, symbol};
 
 /// One step on a base to the power q.
 fn step(pool: &mut Pool, base: Handle, q: Rat) -> Result<Step, NumberFault>
@@ -186,7 +175,7 @@ const RATIONALS: [([i128; 4], u64); 12] = [
 fn powers_of_rationals(rt: HostRuntime) -> Result<(), Fail> {
     for ([p, q, n, d], want) in RATIONALS {
         if p != i128::MIN && n != i128::MIN && 1 <= q && 1 <= d {
-            let mut pool = opened(rt.alloc(), 88)?;
+            let mut pool = open_pool(rt.alloc(), 88)?;
             let answer = rational_step(&mut pool, Rat::ratio(p, q), Rat::ratio(n, d));
             assert_eq!(rt; outcome(&pool, &answer), want, "({p}/{q})^({n}/{d})");
         }
@@ -198,7 +187,7 @@ fn powers_of_rationals(rt: HostRuntime) -> Result<(), Fail> {
 fn powers_of_a_symbol(rt: HostRuntime) -> Result<(), Fail> {
     if let Some(x) = Name::read(b"x") {
         for (n, want) in [(0, 16), (1, 16), (2, 40), (-1, 40)] {
-            let mut pool = opened(rt.alloc(), 64)?;
+            let mut pool = open_pool(rt.alloc(), 64)?;
             let answer = symbol_step(&mut pool, x, Rat::whole(n));
             assert_eq!(rt; outcome(&pool, &answer), want, "x^{n}");
         }
@@ -211,11 +200,11 @@ fn powers_of_a_symbol(rt: HostRuntime) -> Result<(), Fail> {
 fn roots_of_a_symbol(rt: HostRuntime) -> Result<(), Fail> {
     if let Some(x) = Name::read(b"x") {
         for (n, want) in [(1, 1048), (3, 1048), (-1, 1048), (-3, 1048)] {
-            let mut pool = opened(rt.alloc(), 72)?;
+            let mut pool = open_pool(rt.alloc(), 72)?;
             let answer = symbol_step(&mut pool, x, Rat::ratio(n, 2));
             assert_eq!(rt; outcome(&pool, &answer), want, "x^({n}/2)");
         }
-        let mut pool = opened(rt.alloc(), 64)?;
+        let mut pool = open_pool(rt.alloc(), 64)?;
         let answer = symbol_step(&mut pool, x, Rat::ratio(1, 3));
         assert_eq!(rt; outcome(&pool, &answer), 64);
     }
@@ -227,7 +216,7 @@ fn roots_of_a_symbol(rt: HostRuntime) -> Result<(), Fail> {
 fn powers_of_a_root(rt: HostRuntime) -> Result<(), Fail> {
     if let Some(x) = Name::read(b"x") {
         for (n, want) in [(2, 1040), (-4, 1040), (3, 48), (1, 24)] {
-            let mut pool = opened(rt.alloc(), 72)?;
+            let mut pool = open_pool(rt.alloc(), 72)?;
             let answer = root_step(&mut pool, x, Rat::whole(n));
             assert_eq!(rt; outcome(&pool, &answer), want, "√x^{n}");
         }
@@ -239,10 +228,10 @@ fn powers_of_a_root(rt: HostRuntime) -> Result<(), Fail> {
 #[test]
 fn powers_of_a_power(rt: HostRuntime) -> Result<(), Fail> {
     if let Some(x) = Name::read(b"x") {
-        let mut pool = opened(rt.alloc(), 112)?;
+        let mut pool = open_pool(rt.alloc(), 112)?;
         let answer = nested_step(&mut pool, x, Rat::whole(2), Rat::whole(3));
         assert_eq!(rt; outcome(&pool, &answer), 1064);
-        let mut pool = opened(rt.alloc(), 112)?;
+        let mut pool = open_pool(rt.alloc(), 112)?;
         let answer = nested_step(&mut pool, x, Rat::ratio(1, 3), Rat::whole(2));
         assert_eq!(rt; outcome(&pool, &answer), 88);
     }
@@ -253,10 +242,10 @@ fn powers_of_a_power(rt: HostRuntime) -> Result<(), Fail> {
 #[test]
 fn powers_of_a_product(rt: HostRuntime) -> Result<(), Fail> {
     if let Some(x) = Name::read(b"x") {
-        let mut pool = opened(rt.alloc(), 88)?;
+        let mut pool = open_pool(rt.alloc(), 88)?;
         let answer = product_step(&mut pool, x, Rat::whole(3));
         assert_eq!(rt; outcome(&pool, &answer), 1088);
-        let mut pool = opened(rt.alloc(), 80)?;
+        let mut pool = open_pool(rt.alloc(), 80)?;
         let answer = product_step(&mut pool, x, Rat::whole(3));
         assert_eq!(rt; outcome(&pool, &answer), 1);
     }
@@ -267,7 +256,7 @@ fn powers_of_a_product(rt: HostRuntime) -> Result<(), Fail> {
 #[test]
 fn powers_of_a_number(rt: HostRuntime) -> Result<(), Fail> {
     for (n, want) in [(2, 16), (-1, 72), (-2, 40), (0, 16)] {
-        let mut pool = opened(rt.alloc(), 512)?;
+        let mut pool = open_pool(rt.alloc(), 512)?;
         let answer = number_step(&mut pool, Rat::whole(n));
         assert_eq!(rt; outcome(&pool, &answer), want, "√2^{n}");
     }
@@ -277,10 +266,10 @@ fn powers_of_a_number(rt: HostRuntime) -> Result<(), Fail> {
 // (√2+√3)^-2 is (√3-√2)^2, 5-2×√6. The inverse of 1+√2+√3 is kept.
 #[test]
 fn inverses_of_sums(rt: HostRuntime) -> Result<(), Fail> {
-    let mut pool = opened(rt.alloc(), 1024)?;
+    let mut pool = open_pool(rt.alloc(), 1024)?;
     let answer = two_class_step(&mut pool, Rat::whole(-2));
     assert_eq!(rt; outcome(&pool, &answer), 72);
-    let mut pool = opened(rt.alloc(), 1024)?;
+    let mut pool = open_pool(rt.alloc(), 1024)?;
     let answer = three_class_step(&mut pool, Rat::whole(-1));
     assert_eq!(rt; outcome(&pool, &answer), 96);
     Ok(())

@@ -9,7 +9,6 @@ ghost use Rattle.calc_terms.specs.Rat.{value_of};
 ghost use Rattle.calc_algebra.specs.Reduced.{is_reduced, are_reduced};
 ghost use Rattle.calc_terms.specs.Trees.{num, symbol as symbol_tree_of, power as power_tree_of, root as root_tree_of, count, is_mult};
 ghost use Rattle.coefficients.specs.Coefficients.{IsMonic};
-ghost use Rattle.node_pool.specs.State.{IsPoolSize};
 ghost use Rattle.tree_handles.specs.Expressions.{children_of};
 ghost use Rattle.tree_handles.specs.Handed.{IsHanded, Gives};
 ghost use Rattle.tree_handles.specs.Standing.{Stands, forest};
@@ -21,22 +20,9 @@ use node_order::compare;
 use node_pool::Pool;
 use number_forms::add_numbers;
 use reduce_port::Step;
-use std::alloc::{AllocError, Global};
 use std::cmp::Ordering;
 use std::test::Fail;
-use tree_handles::{
-    Handle, NumberFault, add_child, children, move_last, node, node_over, node_over_two, number,
-    symbol,
-};
-
-/// A pool with no tree in it.
-fn opened(alloc: Global, size: u32) -> Result<Pool, AllocError>
-    requires { IsPoolSize size }
-    ensures { IfOk result Stands }
-{
-    let pool = Pool::open(alloc, size)?;
-    Ok(pool)
-}
+use tree_handles::{Handle, NumberFault, add_child, children, move_last, node, node_over, node_over_two, number, open_pool, symbol};
 
 /// A small reduced tree.
 #[derive(Clone, Copy, Debug)]
@@ -375,7 +361,7 @@ fn equal_bases_are_joined(rt: HostRuntime) -> Result<(), Fail> {
         (&[X, Multiple(2, b'x')], 1, Form::JointBehind(X, ONE, ONE)),
     ];
     for (factors, at, form) in rows {
-        let mut pool = opened(rt.alloc(), 1024)?;
+        let mut pool = open_pool(rt.alloc(), 1024)?;
         assert!(rt; gives(&mut pool, factors, true, form)?, "{factors:?}");
         assert_eq!(rt; pair_place(&mut pool, factors)?, Some(at), "{factors:?}");
     }
@@ -418,7 +404,7 @@ fn a_coefficient_stands_in_front(rt: HostRuntime) -> Result<(), Fail> {
         ),
     ];
     for (factors, form) in rows {
-        let mut pool = opened(rt.alloc(), 1024)?;
+        let mut pool = open_pool(rt.alloc(), 1024)?;
         assert!(rt; gives(&mut pool, factors, false, form)?, "{factors:?}");
     }
     Ok(())
@@ -437,7 +423,7 @@ fn other_bases_are_sorted(rt: HostRuntime) -> Result<(), Fail> {
         ),
     ];
     for (factors, form) in rows {
-        let mut pool = opened(rt.alloc(), 1024)?;
+        let mut pool = open_pool(rt.alloc(), 1024)?;
         assert!(rt; gives(&mut pool, factors, false, form)?, "{factors:?}");
     }
     Ok(())
@@ -445,7 +431,7 @@ fn other_bases_are_sorted(rt: HostRuntime) -> Result<(), Fail> {
 
 #[test]
 fn a_missing_exponent_is_placed(rt: HostRuntime) -> Result<(), Fail> {
-    let mut pool = opened(rt.alloc(), 64)?;
+    let mut pool = open_pool(rt.alloc(), 64)?;
     match stepped(&mut pool, &[X, X]) {
         Ok(_) => panic!(rt; "joined"),
         Err(NumberFault::Full(full)) => assert_eq!(rt; full.needed, 16),

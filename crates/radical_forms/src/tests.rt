@@ -1,23 +1,11 @@
 //! Roots of rationals, of a symbol and of Undef. The expected kinds and bytes are worked out by hand.
-ghost use Rattle.std.specs.Prelude.{IfOk};
-ghost use Rattle.node_pool.specs.State.{IsPoolSize};
 ghost use Rattle.tree_handles.specs.Standing.{Stands};
 
 use super::reduce_root;
 use calc_terms::{Kind, Name, Rat};
 use node_pool::Pool;
-use std::alloc::{AllocError, Global};
 use std::test::Fail;
-use tree_handles::{Handle, NumberFault, node, node_over, number, symbol};
-
-/// A pool with no tree in it.
-fn opened(alloc: Global, size: u32) -> Result<Pool, AllocError>
-    requires { IsPoolSize size }
-    ensures { IfOk result Stands }
-{
-    let pool = Pool::open(alloc, size)?;
-    Ok(pool)
-}
+use tree_handles::{Handle, NumberFault, node, node_over, number, open_pool, symbol};
 
 /// √q, reduced.
 fn rational_root(pool: &mut Pool, q: Rat) -> Result<Handle, NumberFault>
@@ -81,7 +69,7 @@ const ROOTS: [[i128; 3]; 14] = [
 fn roots_of_rationals(rt: HostRuntime) -> Result<(), Fail> {
     for [p, q, bytes] in ROOTS {
         if p != i128::MIN && 1 <= q {
-            let mut pool = opened(rt.alloc(), 96)?;
+            let mut pool = open_pool(rt.alloc(), 96)?;
             let root = rational_root(&mut pool, Rat::ratio(p, q));
             assert_eq!(rt; i128::from(outcome(&pool, &root)), bytes, "√({p}/{q})");
         }
@@ -91,7 +79,7 @@ fn roots_of_rationals(rt: HostRuntime) -> Result<(), Fail> {
 
 #[test]
 fn eight_bytes_too_few(rt: HostRuntime) -> Result<(), Fail> {
-    let mut pool = opened(rt.alloc(), 64)?;
+    let mut pool = open_pool(rt.alloc(), 64)?;
     let root = rational_root(&mut pool, Rat::ratio(8, 9));
     assert_eq!(rt; outcome(&pool, &root), 1);
     assert_eq!(rt; pool.refusals(), 1);
@@ -100,7 +88,7 @@ fn eight_bytes_too_few(rt: HostRuntime) -> Result<(), Fail> {
 
 #[test]
 fn other_roots(rt: HostRuntime) -> Result<(), Fail> {
-    let mut pool = opened(rt.alloc(), 64)?;
+    let mut pool = open_pool(rt.alloc(), 64)?;
     let root = undefined_root(&mut pool);
     assert_eq!(rt; outcome(&pool, &root), 8);
     if let Some(x) = Name::read(b"x") {

@@ -3,7 +3,6 @@ ghost use Rattle.std.specs.Prelude.{◌≡◌, ℕ, ◌+◌, IfOk, OnOk, [], ◌
 ghost use Rattle.breakers.specs.Breakers.{CalmChecks};
 ghost use Rattle.breakers.specs.Watch.{states};
 ghost use Rattle.calc_terms.specs.Trees.{nodes};
-ghost use Rattle.node_pool.specs.State.{IsPoolSize};
 ghost use Rattle.tree_handles.specs.Standing.{LacksBytes, Stands, forest, Refuses};
 ghost use Rattle.calc_algebra.specs.Rewritings.{Reduces};
 ghost use Rattle.tree_handles.specs.Handed.{tree_of, IsHanded, Gives, KeepsFront};
@@ -15,7 +14,7 @@ use calc_terms::{Kind, Rat};
 use node_pool::{Full, Id, Pool};
 use std::alloc::{AllocError, Global};
 use std::test::Fail;
-use tree_handles::{Handle, kind, move_last, node, node_over, number};
+use tree_handles::{Handle, kind, move_last, node, node_over, number, open_pool};
 
 /// Answers a number, a symbol and `undef` by themselves. For any other tree it fills the pool, and
 /// so has a refusal to answer.
@@ -80,15 +79,6 @@ fn reduce_twice<R: Reducer, B: Breaker>(
     reducer.reduce(pool, once, watch)
 }
 
-/// A pool with no tree in it.
-fn opened(alloc: Global, size: u32) -> Result<Pool, AllocError>
-    requires { IsPoolSize size }
-    ensures { IfOk result Stands }
-{
-    let pool = Pool::open(alloc, size)?;
-    Ok(pool)
-}
-
 /// A watch over one breaker, which trips after so many polls.
 fn armed(alloc: Global, polls: u64) -> Result<Watch<CountBreaker>, AllocError> {
     let mut breaker = CountBreaker::new();
@@ -143,7 +133,7 @@ fn any_reducer_is_called_through_its_bound(rt: HostRuntime) -> Result<(), Fail> 
         // A number has 16 bytes and its opposite 8 more, so that five nodes of 8 bytes fill the pool.
         (true, 1, Outcome::Full(full), 7, 1),
     ] {
-        let mut pool = opened(rt.alloc(), 64)?;
+        let mut pool = open_pool(rt.alloc(), 64)?;
         let mut watch = armed(rt.alloc(), polls)?;
         let reduced = reduce_seven(&mut pool, is_opposite, &mut watch);
         assert_eq!(rt; outcome_of(reduced), outcome, "{is_opposite} {polls}");

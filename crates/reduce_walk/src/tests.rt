@@ -1,6 +1,5 @@
 //! The opposite of 7, walked by a step that leaves each node as it is: it has two nodes, and each makes a check.
-ghost use Rattle.std.specs.Prelude.{◌≡◌, IfOk};
-ghost use Rattle.node_pool.specs.State.{IsPoolSize};
+ghost use Rattle.std.specs.Prelude.{◌≡◌};
 ghost use Rattle.tree_handles.specs.Standing.{Stands};
 
 use crate::{NodeStep, walk};
@@ -10,7 +9,7 @@ use node_pool::{Id, Pool};
 use reduce_port::ReduceFault;
 use std::alloc::{AllocError, Global};
 use std::test::Fail;
-use tree_handles::{Handle, NumberFault, node_over, number};
+use tree_handles::{Handle, NumberFault, node_over, number, open_pool};
 
 /// Leaves each node as it is.
 struct Unchanged;
@@ -31,15 +30,6 @@ impl NodeStep for Unchanged {
     fn step(&self, _pool: &mut Pool, tree: Handle) -> Result<Handle, NumberFault> {
         Ok(tree)
     }
-}
-
-/// A pool with no tree in it.
-fn opened(alloc: Global, size: u32) -> Result<Pool, AllocError>
-    requires { IsPoolSize size }
-    ensures { IfOk result Stands }
-{
-    let pool = Pool::open(alloc, size)?;
-    Ok(pool)
 }
 
 /// A watch over one breaker, which trips after so many polls.
@@ -63,7 +53,7 @@ fn walk_opposite(pool: &mut Pool, watch: &mut Watch<CountBreaker>) -> Result<Id,
 
 #[test]
 fn one_poll_is_too_few(rt: HostRuntime) -> Result<(), Fail> {
-    let mut pool = opened(rt.alloc(), 512)?;
+    let mut pool = open_pool(rt.alloc(), 512)?;
     let mut watch = armed(rt.alloc(), 1)?;
     let found = walk_opposite(&mut pool, &mut watch);
     let is_interrupted = matches!(found, Err(ReduceFault::Interrupted(Interrupted { by: 0 })));
@@ -74,7 +64,7 @@ fn one_poll_is_too_few(rt: HostRuntime) -> Result<(), Fail> {
 /// With two polls there is an answer, and the next poll trips.
 #[test]
 fn two_polls_are_enough(rt: HostRuntime) -> Result<(), Fail> {
-    let mut pool = opened(rt.alloc(), 512)?;
+    let mut pool = open_pool(rt.alloc(), 512)?;
     let mut watch = armed(rt.alloc(), 2)?;
     let found = walk_opposite(&mut pool, &mut watch);
     assert!(rt; matches!(found, Ok(_)));

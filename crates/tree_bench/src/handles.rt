@@ -10,7 +10,9 @@ use node_pool::{Full, Pool};
 use std::io;
 use std::rt::Clock;
 use std::time::Instant;
-use tree_handles::{Handle, children, copy_tree, node_over_two, number, release, swap_children};
+use tree_handles::{
+    Handle, children, copy_tree, node_over_two, number, open_pool, release, swap_children,
+};
 
 /// Nodes that are copied in all, and as many that are released, whatever the size of the tree.
 const COPIED: u32 = 1_000_000;
@@ -33,7 +35,7 @@ pub fn measure(rt: &HostRuntime, word: &str) -> anyhow::Result<()> {
         println!(rt; "{nodes} nodes: at least 3 are wanted")?;
         return Ok(());
     }
-    let mut pool = Pool::open(rt.alloc(), 524_280)?;
+    let mut pool = open_pool(rt.alloc(), 524_280)?;
     match nested_sums(&mut pool, nodes) {
         Ok(sum) => report(rt, &mut pool, &sum, nodes)?,
         Err(full) => println!(rt;

@@ -13,7 +13,7 @@ use std::rt::Clock;
 use std::time::Instant;
 use std::{fmt, io};
 use surd_terms::square_root;
-use tree_handles::{Handle, NumberFault, number, release};
+use tree_handles::{Handle, NumberFault, number, open_pool, release};
 
 /// Calls for Numbers of one class, of which those with more have fewer, by the square of the classes.
 const CALLS: u32 = 4_000;
@@ -66,7 +66,7 @@ impl fmt::Display for Rate {
 /// Measures Numbers of that many classes.
 pub fn measure(rt: &HostRuntime, word: &str) -> anyhow::Result<()> {
     let classes: usize = word.parse().context("no number of classes")?;
-    let mut pool = Pool::open(rt.alloc(), 524_280)?;
+    let mut pool = open_pool(rt.alloc(), 524_280)?;
     let sums = sums(rt, &mut pool, classes)?.per_second();
     let products = products(rt, &mut pool, classes)?.per_second();
     let inverses = inverses(rt, &mut pool, classes)?.per_second();

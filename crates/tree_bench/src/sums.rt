@@ -14,7 +14,7 @@ use std::io;
 use std::rt::Clock;
 use std::time::Instant;
 use sum_reduce::reduce_sum;
-use tree_handles::{Handle, add_child, node, release, symbol};
+use tree_handles::{Handle, add_child, node, open_pool, release, symbol};
 
 /// Names that are put in order in all, whatever the number of names of a sum.
 const NAMES: u32 = 20_000;
@@ -33,7 +33,7 @@ pub fn measure(rt: &HostRuntime, word: &str) -> anyhow::Result<()> {
         println!(rt; "{names} names: at least 1 is wanted")?;
         return Ok(());
     }
-    let mut pool = Pool::open(rt.alloc(), 524_280)?;
+    let mut pool = open_pool(rt.alloc(), 524_280)?;
     let times = sums(rt, &mut pool, names)?;
     let nanos = times.nanos / times.sums.max(1);
     let each = nanos / u128::from(names).max(1);

@@ -9,6 +9,7 @@ mod fault;
 mod handle;
 mod measure;
 mod moving;
+mod opening;
 mod read;
 mod releasing;
 mod siblings;
@@ -27,6 +28,7 @@ pub use moving::{
     add_before, add_child, adopt, merge_children, move_last, replace_child, replace_known_child,
     swap_children, swap_siblings, take_child, take_known_child,
 };
+pub use opening::open_pool;
 pub use read::{child_id, children, count, kind, name, rational};
 pub use releasing::{drop_behind, release};
 pub use siblings::{ChildIds, child_ids};

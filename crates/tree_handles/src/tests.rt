@@ -1,8 +1,7 @@
 mod conditions;
 mod upper;
 
-ghost use Rattle.std.specs.Prelude.{◌≡◌, ◌<◌, IfOk, true};
-ghost use Rattle.node_pool.specs.State.{IsPoolSize};
+ghost use Rattle.std.specs.Prelude.{◌≡◌, ◌<◌, true};
 ghost use Rattle.tree_handles.specs.Inside.{holds};
 ghost use Rattle.tree_handles.specs.Standing.{Stands, forest};
 
@@ -10,7 +9,6 @@ use super::*;
 use calc_terms::{Kind, Name, Rat};
 use conditions::{has_root, is_inside, is_node};
 use node_pool::{Full, Id, Pool};
-use std::alloc::{AllocError, Global};
 use std::process::Abort;
 use std::test::Fail;
 
@@ -199,15 +197,6 @@ fn call_last(pool: &mut Pool, id: Id) -> bool
     true
 }
 
-/// A pool with no tree in it.
-fn opened(alloc: Global, size: u32) -> Result<Pool, AllocError>
-    requires { IsPoolSize size }
-    ensures { IfOk result Stands }
-{
-    let pool = Pool::open(alloc, size)?;
-    Ok(pool)
-}
-
 /// Makes the calls one after another.
 fn make_all(rt: &impl Abort, pool: &mut Pool, calls: &[Call])
     requires { Stands pool.old }
@@ -256,7 +245,7 @@ const SCRIPT: [(Call, u64); 21] = [
 
 #[test]
 fn a_product_is_built_copied_and_released(rt: HostRuntime) -> Result<(), Fail> {
-    let mut pool = opened(rt.alloc(), 512)?;
+    let mut pool = open_pool(rt.alloc(), 512)?;
     for (made, bytes) in SCRIPT {
         assert!(rt; make(&mut pool, made), "{made:?}");
         assert_eq!(rt; checksum(START, pool.bytes()), bytes, "{made:?}");
@@ -277,7 +266,7 @@ const SUM: [Call; 5] = [
 
 #[test]
 fn a_copy_that_does_not_fit_changes_nothing(rt: HostRuntime) -> Result<(), Fail> {
-    let mut pool = opened(rt.alloc(), 72)?;
+    let mut pool = open_pool(rt.alloc(), 72)?;
     make_all(&rt, &mut pool, &SUM);
     let before = checksum(START, pool.bytes());
     assert_eq!(rt; before, 0x97cd_4bac_a690_7e0d);
@@ -309,7 +298,7 @@ fn are_behind_root(pool: &Pool, tree: Id) -> bool
 
 #[test]
 fn walks_come_to_each_parent_before_its_children(rt: HostRuntime) -> Result<(), Fail> {
-    let mut pool = opened(rt.alloc(), 72)?;
+    let mut pool = open_pool(rt.alloc(), 72)?;
     make_all(&rt, &mut pool, &SUM);
     let sum = Id::of(2);
     assert!(rt; is_node(&pool, sum));
@@ -392,7 +381,7 @@ fn play(pool: &mut Pool, draws: &mut Draws, mut sum: u64) -> (u32, u64)
 
 #[test]
 fn many_calls_leave_the_bytes_of_the_plain_trees(rt: HostRuntime) -> Result<(), Fail> {
-    let mut pool = opened(rt.alloc(), 480)?;
+    let mut pool = open_pool(rt.alloc(), 480)?;
     make_all(&rt, &mut pool, &SUM);
     make_all(
         &rt,
@@ -443,7 +432,7 @@ fn part(pool: &Pool, root: Id, path: &[u16]) -> Option<Id>
 
 #[test]
 fn what_upper_calls_give_is_read(rt: HostRuntime) -> Result<(), Fail> {
-    let mut pool = opened(rt.alloc(), 512)?;
+    let mut pool = open_pool(rt.alloc(), 512)?;
     let root = upper::root_of_difference(&mut pool, Name::ans()).expect(&rt, "it fits");
     let parts: [(&[u16], (Kind, i128)); 6] = [
         (&[], (Kind::Root, 1)),
@@ -468,7 +457,7 @@ fn what_upper_calls_give_is_read(rt: HostRuntime) -> Result<(), Fail> {
 
 #[test]
 fn trees_behind_a_root_are_adopted(rt: HostRuntime) -> Result<(), Fail> {
-    let mut pool = opened(rt.alloc(), 64)?;
+    let mut pool = open_pool(rt.alloc(), 64)?;
     let sum = upper::sum_behind(&mut pool, 3, 4).expect(&rt, "it fits");
     let parts: [(&[u16], (Kind, i128)); 3] = [
         (&[], (Kind::Add, 2)),

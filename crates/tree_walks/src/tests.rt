@@ -1,7 +1,6 @@
 //! Walks over differences that are told by their leaves: `xy7` is the tree of `x-y-7`, and `---xy7#` its kinds in prefix order.
 ghost use Rattle.std.specs.Prelude.{◌≡◌, ◌<◌, length, IfOk, ⊤, true};
 ghost use Rattle.calc_terms.specs.Payload.{kind_of_payload};
-ghost use Rattle.node_pool.specs.State.{IsPoolSize};
 ghost use Rattle.tree_handles.specs.Expressions.{IsExpression};
 ghost use Rattle.tree_handles.specs.Handed.{Gives};
 ghost use Rattle.tree_handles.specs.Inside.{holds, payload_in};
@@ -13,9 +12,7 @@ use calc_terms::{Kind, Name, Rat};
 use node_pool::{Full, Id, Pool};
 use std::alloc::{AllocError, Global};
 use std::test::Fail;
-use tree_handles::{
-    Handle, Visit, count_trees, node_over, node_over_two, nodes_of, number, symbol,
-};
+use tree_handles::{Handle, Visit, count_trees, node_over, node_over_two, nodes_of, number, open_pool, symbol};
 
 /// The leaves of a tree, in which `x` is replaced by the tree of other leaves, and the nodes of the answer.
 const REPLACED: &str = "\
@@ -26,15 +23,6 @@ xxx y = --yyy\n\
 yx7 xx = --y-xx#\n\
 y7 xx = -y#\n\
 xy x = -xy";
-
-/// A pool with no tree in it.
-fn opened(alloc: Global, size: u32) -> Result<Pool, AllocError>
-    requires { IsPoolSize size }
-    ensures { IfOk result Stands }
-{
-    let pool = Pool::open(alloc, size)?;
-    Ok(pool)
-}
 
 /// A letter by its name, and a digit by a number.
 fn leaf(pool: &mut Pool, byte: u8) -> Result<Handle, Full>
@@ -133,7 +121,7 @@ fn first_other(alloc: Global, table: &str, names: [Name; 2]) -> Result<Option<us
         if leaves.is_empty() || source.is_empty() {
             return Ok(Some(place));
         }
-        let mut pool = opened(alloc, 512)?;
+        let mut pool = open_pool(alloc, 512)?;
         let Ok(tree) = substituted(&mut pool, leaves.as_bytes(), names[0], source.as_bytes()) else {
             return Ok(Some(place));
         };
@@ -159,7 +147,7 @@ fn leaves_become_copies(rt: HostRuntime) -> Result<(), Fail> {
 fn many_leaves_become_copies(rt: HostRuntime) -> Result<(), Fail> {
     let x = Name::read(b"x").expect(&rt, "x is a name");
     let y = Name::read(b"y").expect(&rt, "y is a name");
-    let mut pool = opened(rt.alloc(), 32768)?;
+    let mut pool = open_pool(rt.alloc(), 32768)?;
     let tree = substituted(&mut pool, &[b'x'; 600], x, b"xx").expect(&rt, "it fits");
     let found = letters_of(rt.alloc(), &pool, tree.id(), [x, y])?;
     assert_eq!(rt; found.len(), 599 + 3 * 600);
@@ -174,9 +162,9 @@ fn many_leaves_become_copies(rt: HostRuntime) -> Result<(), Fail> {
 #[test]
 fn the_second_copy_finds_no_room(rt: HostRuntime) -> Result<(), Fail> {
     let x = Name::read(b"x").expect(&rt, "x is a name");
-    let mut before = opened(rt.alloc(), 64)?;
+    let mut before = open_pool(rt.alloc(), 64)?;
     differences(&mut before, b"77y").expect(&rt, "it fits");
-    let mut pool = opened(rt.alloc(), 192)?;
+    let mut pool = open_pool(rt.alloc(), 192)?;
     let full = Full {
         needed: 64,
         free: 16,
@@ -194,7 +182,7 @@ fn the_second_copy_finds_no_room(rt: HostRuntime) -> Result<(), Fail> {
 fn names_are_found_in_their_tree(rt: HostRuntime) -> Result<(), Fail> {
     let x = Name::read(b"x").expect(&rt, "x is a name");
     let y = Name::read(b"y").expect(&rt, "y is a name");
-    let mut pool = opened(rt.alloc(), 512)?;
+    let mut pool = open_pool(rt.alloc(), 512)?;
     let tree = substituted(&mut pool, b"7x7", x, b"77y").expect(&rt, "it fits");
     assert!(rt; holds_name(&pool, tree.id(), y));
     assert!(rt; !holds_name(&pool, tree.id(), x));
@@ -204,7 +192,7 @@ fn names_are_found_in_their_tree(rt: HostRuntime) -> Result<(), Fail> {
 #[test]
 fn trees_are_counted_and_deep_ones_told(rt: HostRuntime) -> Result<(), Fail> {
     let x = Name::read(b"x").expect(&rt, "x is a name");
-    let mut pool = opened(rt.alloc(), 2048)?;
+    let mut pool = open_pool(rt.alloc(), 2048)?;
     assert_eq!(rt; count_trees(&pool), 0);
     let shallow = opposites(&mut pool, x, 63).expect(&rt, "it fits");
     assert!(rt; !is_deeper(&pool, shallow.id()));

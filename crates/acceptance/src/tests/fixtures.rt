@@ -1,6 +1,5 @@
 //! What the tests share: pools, breakers, and the trees of lines.
 ghost use Rattle.std.specs.Prelude.{◌≡◌, IfOk, IfSome};
-ghost use Rattle.node_pool.specs.State.{IsPoolSize};
 ghost use Rattle.tree_handles.specs.Handed.{IsHanded, Gives};
 ghost use Rattle.tree_handles.specs.Standing.{Stands, forest};
 
@@ -18,15 +17,6 @@ use tree_handles::{Handle, kind};
 
 /// The bytes of a pool in which there is room enough.
 pub const SIZE: u32 = 16_384;
-
-/// A pool with no tree in it.
-pub fn opened(alloc: Global, size: u32) -> Result<Pool, AllocError>
-    requires { IsPoolSize size }
-    ensures { IfOk result Stands }
-{
-    let pool = Pool::open(alloc, size)?;
-    Ok(pool)
-}
 
 /// A watch over one breaker, which trips after so many polls.
 pub fn armed(alloc: Global, polls: u64) -> Result<Watch<CountBreaker>, AllocError> {

@@ -7,14 +7,14 @@ ghost use Rattle.tree_handles.specs.Handed.{IsHanded};
 ghost use Rattle.tree_handles.specs.Roots.{root_tree};
 ghost use Rattle.tree_handles.specs.Standing.{Stands, forest};
 
-use super::fixtures::{is_tree_of, opened};
+use super::fixtures::is_tree_of;
 use line_text::{Text, write_text};
 use node_pool::Pool;
 use shapes::{Pair, Shape, Single, grow};
 use std::alloc::{AllocError, Global};
 use std::process::Abort;
 use std::test::Fail;
-use tree_handles::{Handle, tree_bytes};
+use tree_handles::{Handle, open_pool, tree_bytes};
 
 /// The text of a tree, in twice its bytes.
 fn written(rt: &impl Abort, alloc: Global, pool: &Pool, tree: &Handle) -> Result<Text, AllocError>
@@ -32,7 +32,7 @@ fn written(rt: &impl Abort, alloc: Global, pool: &Pool, tree: &Handle) -> Result
 
 /// Writes the tree of a shape, compares its text, and reads it again.
 fn round_trip(rt: &impl Abort, alloc: Global, shape: &Shape, expected: &str) -> Result<(), Fail> {
-    let mut pool = opened(alloc, 1024)?;
+    let mut pool = open_pool(alloc, 1024)?;
     let tree = grow(&mut pool, shape)?;
     let text = written(rt, alloc, &pool, &tree)?;
     assert_eq!(rt; text.bytes(), expected.as_bytes(), "{expected}");

@@ -2,13 +2,14 @@
 //! line, a sum, a product, a power or a root, and 16 for each whole number.
 ghost use Rattle.tree_handles.specs.Standing.{Stands};
 
-use super::fixtures::{SIZE, answer, armed, opened, read};
+use super::fixtures::{SIZE, answer, armed, read};
 use breakers::{CountBreaker, Watch};
 use deep_reduce::DeepReducer;
 use node_pool::Pool;
 use reduce_port::Reducer;
 use std::alloc::{AllocError, Global};
 use std::test::Fail;
+use tree_handles::open_pool;
 
 /// Lines, and the bytes of their faces.
 const BYTES: &str = "\
@@ -62,7 +63,7 @@ fn first_other(alloc: Global, table: &str) -> Result<Option<usize>, AllocError> 
         let Some((line, bytes)) = row.split_once(" = ") else {
             return Ok(Some(place));
         };
-        let mut pool = opened(alloc, SIZE)?;
+        let mut pool = open_pool(alloc, SIZE)?;
         let mut watch = armed(alloc, u64::MAX)?;
         let found = bytes_of_face(alloc, &DeepReducer, &mut pool, line.as_bytes(), &mut watch);
         if found.is_none() || found != bytes.parse().ok() {

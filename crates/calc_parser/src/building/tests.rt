@@ -1,6 +1,5 @@
 //! Trees of lines in a pool.
-ghost use Rattle.std.specs.Prelude.{◌≤◌, length, IfOk};
-ghost use Rattle.node_pool.specs.State.{IsPoolSize};
+ghost use Rattle.std.specs.Prelude.{◌≤◌, length};
 ghost use Rattle.tree_handles.specs.Standing.{Stands};
 
 use super::*;
@@ -9,14 +8,7 @@ use calc_tokens::scan;
 use std::alloc::{AllocError, Global};
 use std::fmt::Write;
 use std::test::Fail;
-
-fn opened(alloc: Global, size: u32) -> Result<Pool, AllocError>
-    requires { IsPoolSize size }
-    ensures { IfOk result Stands }
-{
-    let pool = Pool::open(alloc, size)?;
-    Ok(pool)
-}
+use tree_handles::open_pool;
 
 /// What `build` answers, where the line is one.
 fn built(alloc: Global, pool: &mut Pool, line: &[u8]) -> Option<Result<Handle, Full>>
@@ -80,7 +72,7 @@ fn lines_are_built(rt: HostRuntime) -> Result<(), Fail> {
     for (line, want) in rows {
         let line = line.as_bytes();
         assert!(rt; line.len() <= 1024);
-        let mut pool = opened(rt.alloc(), 1024)?;
+        let mut pool = open_pool(rt.alloc(), 1024)?;
         let answer = built(rt.alloc(), &mut pool, line);
         assert!(rt; matches!(answer, Some(Ok(_))));
         assert_eq!(rt; shown(rt.alloc(), pool.bytes())?.as_str(), want);
@@ -91,7 +83,7 @@ fn lines_are_built(rt: HostRuntime) -> Result<(), Fail> {
 // A fraction takes 40 bytes, a name 16 and any other node 8.
 #[test]
 fn a_full_pool_keeps_what_stands_first(rt: HostRuntime) -> Result<(), Fail> {
-    let mut pool = opened(rt.alloc(), 104)?;
+    let mut pool = open_pool(rt.alloc(), 104)?;
     assert!(rt; matches!(built(rt.alloc(), &mut pool, b"0.5"), Some(Ok(_))));
     let refused = built(rt.alloc(), &mut pool, b"0.5+0.5");
     assert!(rt;

@@ -1,18 +1,10 @@
 //! One parser over several lines.
-ghost use Rattle.std.specs.Prelude.{◌≤◌, length, IfOk};
-ghost use Rattle.node_pool.specs.State.{IsPoolSize};
+ghost use Rattle.std.specs.Prelude.{◌≤◌, length};
 ghost use Rattle.tree_handles.specs.Standing.{Stands};
 
 use super::*;
 use std::test::Fail;
-
-fn opened(alloc: Global, size: u32) -> Result<Pool, AllocError>
-    requires { IsPoolSize size }
-    ensures { IfOk result Stands }
-{
-    let pool = Pool::open(alloc, size)?;
-    Ok(pool)
-}
+use tree_handles::open_pool;
 
 /// The depth and the number of nodes of a line and the bytes that its tree takes; or why it has none.
 fn answered(
@@ -63,7 +55,7 @@ fn lines_one_after_another(rt: HostRuntime) -> Result<(), Fail> {
         ("√(x)^2→y", "3 4 56 8"),
         ("x", "1 1 full 16 8"),
     ];
-    let mut pool = opened(rt.alloc(), 136)?;
+    let mut pool = open_pool(rt.alloc(), 136)?;
     let mut parser = Parser::open(rt.alloc())?;
     for (line, want) in rows {
         let line = line.as_bytes();

@@ -13,7 +13,7 @@ use node_pool::Pool;
 use rational128::Overflow;
 use std::alloc::{AllocError, Global};
 use surd_terms::{Term, product, square_root};
-use tree_handles::{Handle, NumberFault, number};
+use tree_handles::{Handle, NumberFault, number, open_pool};
 
 /// A term: numerator, denominator, number under the root.
 pub(super) type Row = [i128; 3];
@@ -26,7 +26,7 @@ pub(super) fn opened(alloc: Global, size: u16) -> Result<Pool, AllocError>
     ensures { IfOk result Stands }
 {
     let eights = u32::from(size.max(64)) / 8;
-    let pool = Pool::open(alloc, eights * 8)?;
+    let pool = open_pool(alloc, eights * 8)?;
     Ok(pool)
 }
 

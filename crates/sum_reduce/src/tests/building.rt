@@ -19,8 +19,8 @@ use number_forms::{add_numbers, multiply_numbers, place_term};
 use std::alloc::{AllocError, Global};
 use surd_terms::square_root;
 use tree_handles::{
-    Handle, NumberFault, add_child, children, move_last, node, node_over_two, number, release,
-    symbol,
+    Handle, NumberFault, add_child, children, move_last, node, node_over_two, number, open_pool,
+    release, symbol,
 };
 
 /// A pool with no tree in it, of about this size.
@@ -28,7 +28,7 @@ pub(super) fn opened(alloc: Global, size: u16) -> Result<Pool, AllocError>
     ensures { IfOk result Stands }
 {
     let eights = u32::from(size.max(64)) / 8;
-    let pool = Pool::open(alloc, eights * 8)?;
+    let pool = open_pool(alloc, eights * 8)?;
     Ok(pool)
 }
 

@@ -1,13 +1,13 @@
 //! Lines tried one by one, each in a pool of its own.
 ghost use Rattle.tree_handles.specs.Standing.{Stands};
 
-use crate::tests::fixtures::{SIZE, answer, armed, is_tree_of, opened, read};
+use crate::tests::fixtures::{SIZE, answer, armed, is_tree_of, read};
 use breakers::{CountBreaker, Interrupted, Watch};
 use deep_reduce::DeepReducer;
 use node_pool::Pool;
 use reduce_port::{ReduceFault, Reducer};
 use std::alloc::{AllocError, Global};
-use tree_handles::tree_nodes;
+use tree_handles::{open_pool, tree_nodes};
 
 /// What became of a line.
 #[derive(Clone, Copy, Debug, PartialEq, Eq)]
@@ -67,7 +67,7 @@ fn outcome_of(
     text: &str,
     watch: &mut Watch<CountBreaker>,
 ) -> Result<Outcome, AllocError> {
-    let mut pool = opened(alloc, SIZE)?;
+    let mut pool = open_pool(alloc, SIZE)?;
     let found = tried(
         alloc,
         &DeepReducer,
@@ -106,7 +106,7 @@ pub fn first_other(
 /// Whether a line is interrupted where the breaker lets fewer polls pass than the line has nodes, and answered where
 /// it lets as many pass, and then the next poll trips.
 fn has_a_check_for_each_node(alloc: Global, line: &str, text: &str) -> Result<bool, AllocError> {
-    let mut pool = opened(alloc, SIZE)?;
+    let mut pool = open_pool(alloc, SIZE)?;
     let nodes = nodes_of(alloc, &mut pool, line.as_bytes());
     for polls in 0..nodes {
         let mut watch = armed(alloc, u64::from(polls))?;

@@ -1,0 +1,7 @@
+use Rattle.std.proofs.Common.{ap}
+use Rattle.node_pool.specs.State.{State}
+use Rattle.tree_handles.proofs.Opened.{stands_open}
+use Rattle.tree_handles.proofs.opening.open_pool.Goals as goal
+
+pub returns-clause-stands : goal.returns-clause-stands
+returns-clause-stands c = stands_open c.in_ok-pool.pool (ap (λ (s : State). s.nodes) c.in_ok-pool.ensures) (rw (ap (λ (s : State). s.size) c.in_ok-pool.ensures) c.requires)
