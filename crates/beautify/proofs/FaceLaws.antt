@@ -1,7 +1,7 @@
 -- A face keeps each meaning of its tree.
-use Rattle.std.proofs.Common.{◌≡◌, ℕ, zero, suc, ◌*◌, ◌<◌, ◌++◌, [], ℤ, pos, negsuc, ◌*ℤ◌, nat_abs, Bool, true, false, not, if◌then◌else◌, refl, sym, ap, ◌∙◌, arith, subst, append_assoc, append-nil, inl, inr}
+use Rattle.std.proofs.Common.{◌≡◌, ℕ, zero, suc, ◌*◌, ◌<◌, ◌++◌, [], ℤ, pos, negsuc, ◌*ℤ◌, nat_abs, Bool, true, false, not, refl, sym, ap, ◌∙◌, arith, subst, append_assoc, append-nil, inl, inr}
 use Rattle.std.specs.Prelude.{⊤}
-use Rattle.beautify.proofs.Shared.{int_is_negative, parts, diffs, eq_diff, Fraction, lowest, times, whole_fraction, minus_one_fraction, lowest_parts, same_lowest, times_lowest, den_pos, mul_pos, Tree, num, symbol, undef, add, mult, power, root, neg, sub, div, Trees, none, more, AllParts, AllPartsOf, is_num, whole_num, Surd, surd_of, surd_one, surd_scale, surd_times, surd_power, Assignment, Means, MeansSum, MeansProduct, IsPower, IsWholePower, SoFar, single, summed, multiplied, as_tree, face, has_minus, with_minus, unsigned_face, unless_one, product_of, fraction_of, power_below, exponent_below, below_zero, factor_above, factor_below, factors_above, factors_below, face_of_sum, next_term, next_terms, is_radicand, IsTerm, none_is, num_one, split, split_product, is_reduced, NoneIs, HasForm, IsReduced, reduced_words, AllParts-map, ints, and_parts, one_fraction, is_number}
+use Rattle.beautify.proofs.Shared.{int_is_negative, parts, diffs, eq_diff, Fraction, lowest, times, whole_fraction, minus_one_fraction, lowest_parts, same_lowest, times_lowest, den_pos, mul_pos, Tree, num, symbol, undef, add, mult, power, root, neg, sub, div, Trees, none, more, AllParts, AllPartsOf, is_num, whole_num, Surd, surd_of, surd_one, surd_scale, surd_times, surd_power, Assignment, Means, MeansSum, MeansProduct, IsPower, IsWholePower, SoFar, single, summed, multiplied, as_tree, face, has_minus, with_minus, unsigned_face, unless_one, product_of, fraction_of, power_below, exponent_below, below_zero, factor_above, factor_below, factors_above, factors_below, face_of_sum, next_term, next_terms, IsTerm, none_is, split_product, is_reduced, NoneIs, HasForm, IsReduced, reduced_words, AllParts-map, ints, and_parts, one_fraction, is_number}
 use Rattle.calc_algebra.proofs.SurdLaws.{Agree, Agree-refl, Agree-sym, Agree-trans, Agree-eq, Agree-Same, Agree-append, Agree-surd_times, Agree-surd_times_right, surd_times_assoc, surd_times-surd_one, surd_times-one, surd_times_left_comm, surd_times-surd_of, inverse_times, inverse_power}
 use Rattle.calc_algebra.proofs.TermLaws.{Same-refl}
 use Rattle.calc_algebra.proofs.SquareClassLaws.{Same-Agree}
@@ -52,8 +52,7 @@ module _ (f : Assignment) where
     same : Agree v (turned (has_minus t) value)
 
   signed : (b : Bool) (t : Tree) (v u : Surd) → Means t f u → Agree v (turned b u) → Means (with_minus b t) f v
-  signed true t v u m e = (u, m, Agree-Same e)
-  signed false t v u m e = Means-Same t f u v m (Agree-Same (Agree-sym e))
+  signed b t v u m e = grind (arith, Agree-Same, Means-Same, Agree-sym)
 
   with_sign : (t : Tree) (v : Surd) → Unsigned t v → Means (face t) f v
   with_sign t v h = signed (has_minus t) (unsigned_face t) v h.value h.means h.same
@@ -100,9 +99,7 @@ module _ (f : Assignment) where
 
   product_means : (ts : Trees) (v : Surd) → MeansProduct ts f v → Means (product_of ts) f v
   unfolding one_fraction
-  product_means none v e = Agree-Same (Agree-eq e)
-  product_means (more t none) v (p, q, m, n, e) = Means-Same t f p v m (Agree-Same (Agree-sym (Agree-trans (Agree-eq (e ∙ ap (surd_times p) n)) (surd_times-one p))))
-  product_means (more t (more u ts)) v h = (v, h, Same-refl v)
+  product_means ts v e = grind (arith, Agree-Same, Agree-eq, Means-Same, Agree-sym, Agree-trans, surd_times-one, Same-refl)
 
   fraction_means : (above below : Trees) (v : Surd) → Sides above below v → Means (fraction_of above below) f v
   fraction_means above none v h =
@@ -265,34 +262,14 @@ none_num (more t ts) h = none_num ts h.1
 
 -- a product of one term has a rational in front at most
 number_leads : (t : Tree) (ts : Trees) → IsTerm (mult (more t ts)) → none_is is_num ts ≡ true
-number_leads (num q) (more (root (num r)) none) h = refl
-number_leads _ _ h = absurd h
+number_leads t ts h = grind arith
 
 -- in a product's form there is none behind the coefficient
 product_leads : (t : Tree) (ts : Trees) → NoneIs is_number (split_product (more t ts)).factors → none_is is_num ts ≡ true
-product_leads (num q) (more (root (num r)) ts) h = by (is_radicand r) h
-  where
-    by : (k : Bool) → NoneIs is_number (if k then split (mult (more (num q) (more (root (num r)) none))) ts else split (num q) (more (root (num r)) ts)).factors → none_is is_num ts ≡ true
-    by true h = none_num ts h
-    by false h = none_num ts h.1
-product_leads (num q) ts h = none_num ts h
-product_leads (root (num r)) ts h = by (is_radicand r) h
-  where
-    by : (k : Bool) → NoneIs is_number (if k then split (root (num r)) ts else split num_one (more (root (num r)) ts)).factors → none_is is_num ts ≡ true
-    by true h = none_num ts h
-    by false h = none_num ts h.1
-product_leads (add us) ts h = by (is_number (add us)) h
-  where
-    by : (k : Bool) → NoneIs is_number (if k then split (add us) ts else split num_one (more (add us) ts)).factors → none_is is_num ts ≡ true
-    by true h = none_num ts h
-    by false h = none_num ts h.1
-product_leads t ts h = none_num ts h.1
+product_leads t ts h = grind (arith, none_num)
 
 pub form_leads : (t : Tree) → HasForm t → LeadsOnly t
-form_leads (mult none) h = tt
-form_leads (mult (more t ts)) (inl h) = number_leads t ts h
-form_leads (mult (more t ts)) (inr h) = product_leads t ts h.no_number
-form_leads _ h = tt
+form_leads t h = grind (arith, number_leads, product_leads)
 
 -- the face of a reduced tree keeps its meanings
 pub reduced_face_means : (t : Tree) → is_reduced t ≡ true → (f : Assignment) (v : Surd) → Means t f v → Means (face t) f v

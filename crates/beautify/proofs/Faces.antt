@@ -1,6 +1,6 @@
 -- The face of a tree that is handed, in its place.
-use Rattle.std.proofs.Common.{◌≡◌, ◌<◌, ◌≤◌, ◌+◌, ℕ, ◌∷◌, [], ap, sym, ◌∙◌, subst, arith, true, Result, Ok, Err, IfOk}
-use Rattle.beautify.proofs.Shared.{face, is_reduced, Tree, add, none, State, free_of, Full, LacksBytes, Stands, forest, KeepsRefusals, IsRefused, KeepsMeanings, Forest, join, IsHanded, Gives, Ends, Starts, KeepsFront, without_root, join_assoc, ends_without, used_forest, Fails, FailsAbove, refuses_after, empty, given_rest, gives_as}
+use Rattle.std.proofs.Common.{◌≡◌, ◌≤◌, ◌+◌, ℕ, ◌∷◌, [], ap, sym, ◌∙◌, subst, arith, true, Result, IfOk}
+use Rattle.beautify.proofs.Shared.{face, is_reduced, Tree, add, none, State, free_of, Full, Stands, forest, KeepsRefusals, IsRefused, KeepsMeanings, Forest, join, IsHanded, Gives, Ends, Starts, KeepsFront, without_root, join_assoc, ends_without, used_forest, Fails, FailsAbove, refuses_after, empty, given_rest}
 use Rattle.tree_handles.proofs.Forests.{join-empty}
 use Rattle.beautify.proofs.FaceLaws.{reduced_face_means}
 use Rattle.beautify.proofs.Stacking.{bytes_of_stack}
@@ -20,10 +20,6 @@ keeps_before {f = f} {g = g} s = record { keeps = λ p q n. record { behind = jo
 pub first_free : {i : ℕ} (s t : State) → Stands s → Stands t → KeepsRefusals s t → Gives (forest s) (forest t) i (λ x. x ≡ add none) → free_of s ≤ free_of t + 8
 first_free s t st su k g = omega (arith, used_forest s st, bytes_of_stack t su g, k.size)
 
--- a refused placing of a node
-pub lacks_at_once : {n : ℕ} {s t : State} {full : Full} → IsRefused n s t full → free_of s < n → LacksBytes t full
-lacks_at_once r lack = record { free = ap (λ (x : Full). x.free) r.told ∙ sym (ap free_of r.state); lacking = subst (λ (x : Full). x.free < x.needed) (sym r.told) lack }
-
 -- ---- a refusal that leaves all that stood first
 
 pub refused_fails : {n : ℕ} {s t : State} {full : Full} → IsRefused n s t full → Fails s t full
@@ -35,13 +31,8 @@ above_fails {s = s} {t = t} {u = u} {full = full} g k f = record { first = subst
 
 -- behind a new tree
 pub later_fails : {i : ℕ} {s t u : State} {full : Full} {P : Tree → Type 0} → Gives (forest s) (forest t) i P → KeepsRefusals s t → Fails t u full → Fails s u full
-later_fails {s = s} {t = t} {u = u} {full = full} g k f = record {
-  first = record { behind = join g.tree f.first.behind; whole = f.first.whole ∙ ap (λ (x : Forest). join x f.first.behind) g.ends.whole ∙ join_assoc (forest s) g.tree f.first.behind };
-  refuses = refuses_after s t u full k f.refuses;
-  lacks = f.lacks;
-}
+later_fails g k f = grind (arith, join_assoc, refuses_after)
 
 -- what a call gave, in other words
 pub if_ok_as : {E : Type 0} {g f : Forest} {P Q : Tree → Type 0} (new : Forest) (r : Result ℕ E) → IfOk r (λ h. Gives g new h P) → g ≡ f → ((t : Tree) → P t → Q t) → IfOk r (λ h. Gives f new h Q)
-if_ok_as new (Ok h) k e q = gives_as k e q
-if_ok_as new (Err x) k e q = tt
+if_ok_as new r k e q = grind arith

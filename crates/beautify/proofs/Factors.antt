@@ -1,6 +1,6 @@
 -- The factors of a product on a stack, split one after another from the last.
 use Rattle.std.proofs.Common.{◌≡◌, ℕ, zero, suc, ◌+◌, ◌<◌, ◌≤◌, refl, sym, ap, ◌∙◌, arith, true}
-use Rattle.beautify.proofs.Shared.{fraction_of, unsigned_face, factor_above, factor_below, factors_above, factors_below, Tree, mult, Trees, none, more, append, count, is_mult, nth, children_of, first, behind, unsigned_faces, IsShowable, IsFactor, AreFactors, HoldsFaces}
+use Rattle.beautify.proofs.Shared.{fraction_of, unsigned_face, factor_above, factor_below, factors_above, factors_below, Tree, Trees, none, more, append, count, is_mult, nth, children_of, first, behind, unsigned_faces, IsShowable, IsFactor, AreFactors, HoldsFaces}
 use Rattle.beautify.proofs.Splits.{fraction_lists}
 use Rattle.beautify.proofs.Trees.{append_assoc, count-append, count-first}
 
@@ -35,10 +35,7 @@ abbrev pub in_split : ℕ → Trees → Trees → Trees
 in_split n us rest = append (unsigned_faces (first n us)) (append (factors_above (behind n us)) (append (factors_below (behind n us)) rest))
 
 pub split_start : (n : ℕ) (us ts : Trees) → n ≡ count us → HoldsFaces us ts → ts ≡ in_split n us (behind (count us) ts)
-split_start n us ts e h =
-    let f : first n us ≡ us = rw e (all_first us) in
-    let b : behind n us ≡ none = rw e (behind-all us) in
-    h.begins ∙ rw (f, b) refl
+split_start n us ts e h = grind (arith, all_first, behind-all)
 
 pub none_above : (n : ℕ) (us : Trees) → n ≡ count us → 0 ≡ count (factors_above (behind n us))
 none_above n us e = rw (e, behind-all us) refl
@@ -48,9 +45,7 @@ none_below n us e = rw (e, behind-all us) refl
 
 -- the next one
 pub split_next : (n : ℕ) (us rest : Trees) → n < count us → in_split (suc n) us rest ≡ append (unsigned_faces (first n us)) (more (unsigned_face (nth n us)) (append (factors_above (behind (suc n) us)) (append (factors_below (behind (suc n) us)) rest)))
-split_next n us rest h =
-    let z = append (factors_above (behind (suc n) us)) (append (factors_below (behind (suc n) us)) rest) in
-    ap (λ (x : Trees). append (unsigned_faces x) z) (first-suc n us h) ∙ ap (λ (x : Trees). append x z) (faces-append (first n us) (more (nth n us) none)) ∙ append_assoc (unsigned_faces (first n us)) (more (unsigned_face (nth n us)) none) z
+split_next n us rest h = grind (arith, first-suc, faces-append, append_assoc)
 
 pub split_done : (n : ℕ) (us rest : Trees) → n < count us
     → append (unsigned_faces (first n us)) (append (factor_above (nth n us) (factors_above (behind (suc n) us))) (append (factor_below (nth n us) (factors_below (behind (suc n) us))) rest)) ≡ in_split n us rest
@@ -74,10 +69,7 @@ pub split_face : (n : ℕ) (us rest tops : Trees) → n < count us → tops ≡ 
 split_face n us rest tops h e = ap (nth n) (e ∙ split_next n us rest h) ∙ nth-faces (unsigned_faces (first n us)) _ (unsigned_face (nth n us)) n (places n us (omega (arith, h)))
 
 pub split_room : (n a b : ℕ) (us rest tops : Trees) → n < count us → a ≡ count (factors_above (behind (suc n) us)) → b ≡ count (factors_below (behind (suc n) us)) → tops ≡ in_split (suc n) us rest → n + 1 + a + b ≤ count tops
-split_room n a b us rest tops h e f g =
-    let high = factors_above (behind (suc n) us) in
-    let low = factors_below (behind (suc n) us) in
-    omega (arith, ap count g, count-append (unsigned_faces (first (suc n) us)) (append high (append low rest)), count-append high (append low rest), count-append low rest, places (suc n) us (omega (arith, h)), e, f)
+split_room n a b us rest tops h e f g = grind (arith, count-append, places)
 
 factor_nth : (n : ℕ) (us : Trees) → AreFactors us → n < count us → IsFactor (nth n us)
 factor_nth n none f h = absurd (omega (arith, h))
@@ -85,19 +77,12 @@ factor_nth zero (more t us) f h = f.0
 factor_nth (suc n) (more t us) f h = factor_nth n us f.1 (omega (arith, h))
 
 pub factor_of : (n : ℕ) (t : Tree) → is_mult t ≡ true → IsShowable t → n < count (children_of t) → IsFactor (nth n (children_of t))
-factor_of n (mult us) m s h = factor_nth n us s.1 h
-factor_of n _ m s h = absurd cc
+factor_of n t m s h = grind (arith, factor_nth)
 
 -- the fraction at the end
 pub split_end : (n a b : ℕ) (t : Tree) (rest tops : Trees) → is_mult t ≡ true → n ≡ 0 → a ≡ count (factors_above (behind n (children_of t))) → b ≡ count (factors_below (behind n (children_of t))) → tops ≡ in_split n (children_of t) rest
     → more (fraction_of (first a tops) (first b (behind a tops))) (behind (a + b) tops) ≡ more (unsigned_face t) rest
-split_end n a b (mult us) rest tops m z e f g =
-    let h : tops ≡ append (factors_above us) (append (factors_below us) rest) = g ∙ rw z refl in
-    fraction_lists a b (factors_above us) (factors_below us) rest tops (e ∙ rw z refl) (f ∙ rw z refl) h
-split_end n a b _ rest tops m z e f g = absurd cc
+split_end n a b t rest tops m z e f g = grind (arith, fraction_lists)
 
 pub split_fits : (n a b : ℕ) (us rest tops : Trees) → a ≡ count (factors_above (behind n us)) → b ≡ count (factors_below (behind n us)) → tops ≡ in_split n us rest → a + b ≤ count tops
-split_fits n a b us rest tops e f g =
-    let high = factors_above (behind n us) in
-    let low = factors_below (behind n us) in
-    omega (arith, ap count g, count-append (unsigned_faces (first n us)) (append high (append low rest)), count-append high (append low rest), count-append low rest, e, f)
+split_fits n a b us rest tops e f g = grind (arith, count-append)

@@ -1,6 +1,6 @@
 -- The rationals of a tree, node by node.
 use Rattle.std.proofs.Common.{◌≡◌, ℕ, List, [], ◌∷◌, ◌++◌, ℤ, Bool, true, false, not, ◌&&◌, ◌==◌, refl, sym, ap, ◌∙◌, arith}
-use Rattle.beautify.proofs.Shared.{is_natural, has_natural_numbers, holds_natural, all_parts, all_parts_of, Node, int_is_negative, Payload, rational, named, bare, kind_of_payload, Trees, none, more, count, Kind, Visit, flatten-join, seen, found-join, visit_here, visits_left, no_visit, one_at, by_test, alone, count-plains, nth, grown, compound, plains, plain, takes, takes_kind, AllExpressions, IsExpression, Forest, empty, tree, join, flatten, root_payload, holds, payload_in, tree_at, eqb-true, eq-eqb}
+use Rattle.beautify.proofs.Shared.{is_natural, has_natural_numbers, holds_natural, all_parts, all_parts_of, Node, int_is_negative, Payload, kind_of_payload, Trees, count, Kind, Visit, flatten-join, seen, found-join, visit_here, visits_left, no_visit, one_at, by_test, alone, count-plains, nth, grown, compound, plains, plain, takes, takes_kind, AllExpressions, IsExpression, Forest, empty, tree, join, flatten, root_payload, holds, payload_in, tree_at, eqb-true, eq-eqb}
 use Rattle.tree_handles.specs.Visits.{visits_of, visit_at, AreFound}
 use Rattle.calc_terms.specs.declared.kind.Kind.TheVariants as kind
 
@@ -10,12 +10,10 @@ hold_naturals [] = true
 hold_naturals (n ∷ ns) = holds_natural n.payload && hold_naturals ns
 
 and_assoc : (a b c : Bool) → ((a && b) && c) ≡ (a && (b && c))
-and_assoc true b c = refl
-and_assoc false b c = refl
+and_assoc a b c = grind arith
 
 and_true : (a : Bool) → (a && true) ≡ a
-and_true true = refl
-and_true false = refl
+and_true a = grind arith
 
 hold-append : (ns ms : List Node) → hold_naturals (ns ++ ms) ≡ (hold_naturals ns && hold_naturals ms)
 hold-append [] ms = refl
@@ -24,35 +22,19 @@ hold-append (n ∷ ns) ms = ap (λ (b : Bool). holds_natural n.payload && b) (ho
 -- ---- a node over its children
 
 none_of : (ts : Trees) → (count ts == 0) ≡ true → all_parts_of is_natural ts ≡ true
-none_of none h = refl
-none_of (more t ts) h = absurd (omega (arith, eqb-true (count (more t ts)) 0 h))
+none_of ts h = grind arith
 
 one_of : (ts : Trees) → (count ts == 1) ≡ true → all_parts is_natural (nth 0 ts) ≡ all_parts_of is_natural ts
-one_of none h = absurd (omega (arith, eqb-true 0 1 h))
-one_of (more a none) h = sym (and_true (all_parts is_natural a))
-one_of (more a (more b ts)) h = absurd (omega (arith, eqb-true (count (more a (more b ts))) 1 h))
+one_of ts h = grind (arith, and_true)
 
 two_of : (ts : Trees) → (count ts == 2) ≡ true → (all_parts is_natural (nth 0 ts) && all_parts is_natural (nth 1 ts)) ≡ all_parts_of is_natural ts
-two_of none h = absurd (omega (arith, eqb-true 0 2 h))
-two_of (more a none) h = absurd (omega (arith, eqb-true 1 2 h))
-two_of (more a (more b none)) h = ap (λ (x : Bool). all_parts is_natural a && x) (sym (and_true (all_parts is_natural b)))
-two_of (more a (more b (more c ts))) h = absurd (omega (arith, eqb-true (count (more a (more b (more c ts)))) 2 h))
+two_of ts h = grind (arith, and_true)
 
 kind_natural : (k : Kind) (ts : Trees) → takes_kind k (count ts) ≡ true → all_parts is_natural (compound k ts) ≡ all_parts_of is_natural ts
-kind_natural kind.Undef ts h = sym (none_of ts h)
-kind_natural kind.Add ts h = refl
-kind_natural kind.Mult ts h = refl
-kind_natural kind.Pow ts h = two_of ts h
-kind_natural kind.Root ts h = one_of ts h
-kind_natural kind.Neg ts h = one_of ts h
-kind_natural kind.Sub ts h = two_of ts h
-kind_natural kind.Div ts h = two_of ts h
-kind_natural k ts h = cc
+kind_natural k ts h = grind (arith, none_of, two_of, one_of)
 
 node_natural : (x : Payload) (ts : Trees) → takes x (count ts) ≡ true → all_parts is_natural (grown x ts) ≡ (holds_natural x && all_parts_of is_natural ts)
-node_natural (rational r) ts h = sym (and_true (holds_natural (rational r))) ∙ ap (λ (b : Bool). holds_natural (rational r) && b) (sym (none_of ts h))
-node_natural (named x) ts h = sym (none_of ts h)
-node_natural (bare k) ts h = kind_natural k ts h
+node_natural x ts h = grind (arith, and_true, none_of, kind_natural)
 
 forest_natural : (f : Forest) → AllExpressions f → hold_naturals (flatten f) ≡ all_parts_of is_natural (plains f)
 forest_natural empty w = refl
@@ -108,6 +90,4 @@ pub natural_whole : (p : ℤ) (d : ℕ) → d ≡ 1 → ((d == 1) && not (int_is
 natural_whole p d e = ap (λ (b : Bool). b && not (int_is_negative p)) (eq-eqb d 1 e)
 
 pub no_rational : (x : Payload) → (kind_of_payload x ≡ kind.Num → ⊥) → holds_natural x ≡ true
-no_rational (rational r) h = absurd (h refl)
-no_rational (named x) h = refl
-no_rational (bare k) h = refl
+no_rational x h = grind arith

@@ -1,6 +1,6 @@
 -- What a node is, by the kind of its root.
-use Rattle.std.proofs.Common.{◌≡◌, ◌≤◌, refl, sym, ap, subst, arith, true}
-use Rattle.beautify.proofs.Shared.{unsigned_face, has_minus, with_minus, Tree, num, symbol, undef, add, mult, power, root, neg, Trees, none, more, count, root_kind, is_add, is_mult, Kind, nth, children_of, behind, node_room, IsShowable, HoldsFaces}
+use Rattle.std.proofs.Common.{◌≡◌, ◌≤◌, sym, ap, subst, arith, true}
+use Rattle.beautify.proofs.Shared.{unsigned_face, has_minus, with_minus, Tree, undef, add, mult, power, root, neg, Trees, none, more, count, root_kind, is_add, is_mult, Kind, nth, children_of, behind, node_room, IsShowable, HoldsFaces}
 use Rattle.calc_terms.specs.declared.kind.Kind.TheVariants as kind
 
 abbrev is_pow_kind : Kind → Tree
@@ -16,37 +16,26 @@ pub record IsPower (t b e : Tree) : Type 0 where
   pub parts : children_of t ≡ more b (more e none)
 
 pub power_parts : (t : Tree) → root_kind t ≡ kind.Pow → IsPower t (nth 0 (children_of t)) (nth 1 (children_of t))
-power_parts (power b e) h = record { is = refl; parts = refl }
-power_parts _ h = absurd (cc (ap (λ (k : Kind). is_add (is_pow_kind k)) h))
+power_parts t h = grind arith
 
 pub record IsRoot (t a : Tree) : Type 0 where
   pub is : t ≡ root a
   pub parts : children_of t ≡ more a none
 
 pub root_parts : (t : Tree) → root_kind t ≡ kind.Root → IsRoot t (nth 0 (children_of t))
-root_parts (root a) h = record { is = refl; parts = refl }
-root_parts _ h = absurd (cc (ap (λ (k : Kind). is_mult (is_pow_kind k)) h))
+root_parts t h = grind arith
 
 pub add_of_kind : (t : Tree) → root_kind t ≡ kind.Add → is_add t ≡ true
-add_of_kind (add ts) h = refl
-add_of_kind _ h = absurd (cc (ap (λ (k : Kind). root_kind (is_pow_kind k)) h))
+add_of_kind t h = grind arith
 
 pub mult_of_kind : (t : Tree) → root_kind t ≡ kind.Mult → is_mult t ≡ true
-mult_of_kind (mult ts) h = refl
-mult_of_kind _ h = absurd (cc (ap (λ (k : Kind). root_kind (is_pow_kind k)) h))
+mult_of_kind t h = grind arith
 
 pub mult_room : (t : Tree) → root_kind t ≡ kind.Mult → node_room t ≡ 32
-mult_room (mult ts) h = refl
-mult_room _ h = absurd (cc (ap (λ (k : Kind). root_kind (is_pow_kind k)) h))
+mult_room t h = grind arith
 
 pub no_other : (t : Tree) → IsShowable t → (root_kind t ≡ kind.Num → ⊥) → (root_kind t ≡ kind.Sym → ⊥) → (root_kind t ≡ kind.Add → ⊥) → (root_kind t ≡ kind.Mult → ⊥) → (root_kind t ≡ kind.Pow → ⊥) → (root_kind t ≡ kind.Root → ⊥) → ⊥
-no_other (num q) s a b c d e f = a refl
-no_other (symbol x) s a b c d e f = b refl
-no_other (add ts) s a b c d e f = c refl
-no_other (mult ts) s a b c d e f = d refl
-no_other (power x y) s a b c d e f = e refl
-no_other (root x) s a b c d e f = f refl
-no_other t s a b c d e f = s
+no_other t s a b c d e f = grind arith
 
 -- the same tree
 pub shown_as : (t u : Tree) (ts : Trees) → t ≡ u → more (unsigned_face u) (behind (count (children_of u)) ts) ≡ more (unsigned_face t) (behind (count (children_of t)) ts)

@@ -1,6 +1,6 @@
 -- A node over trees that stands last, and trees that come to it or leave it.
 use Rattle.std.proofs.Common.{◌≡◌, ℕ, zero, suc, ◌<◌, refl, sym, ap, ◌∙◌, subst, arith, true}
-use Rattle.beautify.proofs.Shared.{Payload, rational, named, bare, is_bare, kind_of_payload, Tree, Trees, none, more, count, root_kind, Kind, nth, inserted, compound, grown, plain, plains, takes_kind, children_of, IsWhole, AllExpressions, Label, Forest, empty, tree, join, arity, kids, one_tree, first_trees, rest_trees, tree_nth, without_nth, with_nth, IsOnce, AllOnce, IsOwned, Represents, Ends, Gives, root_tree, without_root, put, all-join, all-first_trees, all-rest_trees, arity-tree_nth, gives, represents_node, represents_handed, represents_with, given_handed, given_same, given_rest, given_told, last_root, last_tree, last_rest, last_put, ends_put, ends_without, ends_as, other_tree, count-plains, plain-tree_nth, alone, grown_whole, cut}
+use Rattle.beautify.proofs.Shared.{Payload, bare, is_bare, kind_of_payload, Tree, Trees, none, more, count, root_kind, Kind, nth, inserted, compound, grown, plain, plains, takes_kind, children_of, IsWhole, AllExpressions, Label, Forest, empty, tree, join, arity, kids, one_tree, rest_trees, tree_nth, without_nth, with_nth, IsOnce, AllOnce, IsOwned, Represents, Ends, Gives, root_tree, without_root, put, all-join, all-first_trees, all-rest_trees, arity-tree_nth, gives, represents_node, represents_handed, represents_with, given_handed, given_same, given_rest, given_told, last_root, last_tree, last_rest, last_put, ends_put, ends_without, ends_as, other_tree, count-plains, plain-tree_nth, alone, grown_whole, cut}
 
 -- a node of a kind over these trees stands last, behind the others
 pub record Opens (others f : Forest) (i : ℕ) (k : Kind) (ts : Trees) : Type 0 where
@@ -13,14 +13,10 @@ opens_as {others = others} {f = f} {i = i} {k = k} o e = subst (Opens others f i
 
 -- a given tree, by the kind of its root
 bare_payload : (x : Payload) (k : Kind) → is_bare k ≡ true → kind_of_payload x ≡ k → x ≡ bare k
-bare_payload (rational r) k b e = absurd (cc (ap is_bare e, b))
-bare_payload (named x) k b e = absurd (cc (ap is_bare e, b))
-bare_payload (bare j) k b e = ap bare e
+bare_payload x k b e = grind arith
 
 open_node : (l : Label) (below : Forest) (i : ℕ) (k : Kind) (others f : Forest) → Ends i (tree l below empty) others f → AllOnce (tree l below empty) → AllExpressions (tree l below empty) → l.payload ≡ bare k → Opens others f i k (plains below)
-open_node l below i k others f e o w p =
-    let label : l ≡ record { id = i; count = 1; payload = bare k } = λ j. record { id = e.root j; count = o.0 j; payload = p j } in
-    record { below = below; ends = subst (λ (x : Label). Ends i (tree x below empty) others f) label e; holds = record { once = o.1; whole = w.1; plain_trees = refl } }
+open_node l below i k others f e o w p = grind arith
 
 open_tree : (t : Forest) (i : ℕ) (k : Kind) (others f : Forest) → Ends i t others f → AllOnce t → AllExpressions t → is_bare k ≡ true → root_kind (plain t) ≡ k → Opens others f i k (children_of (plain t))
 open_tree empty i k others f e o w b h = absurd (omega (arith, e.alone))
@@ -30,9 +26,7 @@ open_tree (tree l below empty) i k others f e o w b h =
 open_tree (tree l below (tree m j s)) i k others f e o w b h = absurd (omega (arith, e.alone))
 
 pub opened : {others f : Forest} {i : ℕ} {P : Tree → Type 0} (k : Kind) → Gives others f i P → is_bare k ≡ true → root_kind (plain (root_tree i f)) ≡ k → Opens others f i k (children_of (plain (root_tree i f)))
-opened {others = others} {f = f} {i = i} k g b h =
-    let e = last_tree g.ends in
-    opens_as (open_tree g.tree i k others f g.ends g.once g.whole b (sym (ap (λ (x : Forest). root_kind (plain x)) e) ∙ h)) (sym (ap (λ (x : Forest). children_of (plain x)) e))
+opened k g b h = grind (arith, last_tree, opens_as, open_tree)
 
 -- the same where the tree is known
 pub opened_as : {others f : Forest} {i : ℕ} {u : Tree} (k : Kind) → Gives others f i (λ t. t ≡ u) → is_bare k ≡ true → root_kind u ≡ k → Opens others f i k (children_of u)
@@ -70,11 +64,7 @@ represents_nth {f = f} {ts = ts} n r h =
     }
 
 represents_without : {f : Forest} {ts : Trees} (n : ℕ) → Represents f ts → Represents (without_nth n f) (cut n 1 ts)
-represents_without {f = f} n r = record {
-  once = all-join IsOnce (first_trees n f) (rest_trees 1 (rest_trees n f)) (all-first_trees IsOnce n f r.once) (all-rest_trees IsOnce 1 (rest_trees n f) (all-rest_trees IsOnce n f r.once));
-  whole = all-join IsWhole (first_trees n f) (rest_trees 1 (rest_trees n f)) (all-first_trees IsWhole n f r.whole) (all-rest_trees IsWhole 1 (rest_trees n f) (all-rest_trees IsWhole n f r.whole));
-  plain_trees = plains-without_nth n f ∙ ap (cut n 1) r.plain_trees;
-}
+represents_without n r = grind (arith, all-join, all-first_trees, all-rest_trees, plains-without_nth)
 
 -- the node without one of its trees
 pub put_without : {g f : Forest} {i : ℕ} {k : Kind} {ts : Trees} (at : ℕ) → Opens g f i k ts → Opens g (put i (without_nth at (kids (root_tree i f))) f) i k (cut at 1 ts)

@@ -1,12 +1,11 @@
 -- What changes at a place of a stack leave of the trees around it.
-use Rattle.std.proofs.Common.{◌≡◌, ℕ, zero, suc, ◌+◌, ◌<◌, ◌≤◌, refl, sym, ap, ◌∙◌, arith, Bool, if◌then◌else◌}
+use Rattle.std.proofs.Common.{◌≡◌, ℕ, zero, suc, ◌+◌, ◌<◌, ◌≤◌, refl, ap, ◌∙◌, arith, Bool, if◌then◌else◌}
 use Rattle.beautify.proofs.Shared.{product_of, fraction_of, unless_one, Tree, mult, neg, div, Trees, none, more, append, count, whole_num, nth, inserted, first, behind, cut, gathered, fraction_room, product_room, whole_size, ne_eqb}
 use Rattle.beautify.proofs.Trees.{count-first, count-behind, count-append}
 use Rattle.calc_terms.specs.declared.kind.Kind.TheVariants as kind
 
 pub nth-first : (us : Trees) → nth 0 (first 1 us) ≡ nth 0 us
-nth-first none = refl
-nth-first (more t ts) = refl
+nth-first us = grind arith
 
 pub nth-first-behind : (at : ℕ) (ts : Trees) → nth 0 (first 1 (behind at ts)) ≡ nth at ts
 nth-first-behind zero ts = nth-first ts
@@ -30,8 +29,7 @@ inserted-none (suc at) (more t ts) = ap (more t) (inserted-none at ts)
 -- ---- products
 
 one_factor : (us : Trees) → 1 ≤ count us → product_of (first 1 us) ≡ nth 0 us
-one_factor none h = absurd (omega arith)
-one_factor (more t ts) h = refl
+one_factor us h = grind arith
 
 pub product-one : (at : ℕ) (ts : Trees) → at + 1 ≤ count ts → product_of (first 1 (behind at ts)) ≡ nth at ts
 product-one zero ts h = one_factor ts (omega (arith, h))
@@ -39,17 +37,13 @@ product-one (suc at) none h = absurd (omega arith)
 product-one (suc at) (more t ts) h = product-one at ts (omega (arith, h))
 
 pub product-more : (us : Trees) → 2 ≤ count us → product_of us ≡ mult us
-product-more none h = absurd (omega arith)
-product-more (more t none) h = absurd (omega arith)
-product-more (more t (more u ts)) h = refl
+product-more us h = grind arith
 
 pub product_room-small : (n : ℕ) → product_room n ≤ 16
-product_room-small zero = omega (arith, whole_size 1 (omega arith))
-product_room-small (suc n) = omega arith
+product_room-small n = grind (arith, whole_size)
 
 pub fraction_room-small : (a b : ℕ) → fraction_room a b ≤ 32
-fraction_room-small a zero = omega (arith, product_room-small a)
-fraction_room-small a (suc b) = omega (arith, product_room-small a)
+fraction_room-small a b = grind (arith, product_room-small)
 
 -- ---- fractions
 
@@ -73,24 +67,16 @@ behind-changed (suc a) n us (more t ts) h = behind-changed a n us ts (omega arit
     later k m e = rw e refl
 
 pub fraction-above : (a : ℕ) (ts : Trees) (b : ℕ) → b ≡ 0 → more (product_of (first a ts)) (behind a ts) ≡ more (fraction_of (first a ts) (first b (behind a ts))) (behind (a + b) ts)
-fraction-above a ts zero e = ap (λ (k : ℕ). more (product_of (first a ts)) (behind k ts)) (omega arith)
-fraction-above a ts (suc b) e = absurd (omega (arith, e))
+fraction-above a ts b e = grind arith
 
 fraction-some : (us vs : Trees) → 1 ≤ count vs → fraction_of us vs ≡ div (product_of us) (product_of vs)
-fraction-some us none h = absurd (omega arith)
-fraction-some us (more v vs) h = refl
+fraction-some us vs h = grind arith
 
 -- the two products under a bar
 pub fraction-both : (a b : ℕ) (ts ts1 ts2 : Trees) → 1 ≤ b → a + b ≤ count ts
     → ts1 ≡ inserted a (more (product_of (first b (behind a ts))) none) (cut a b ts) → ts2 ≡ more (product_of (first a ts1)) (behind a ts1)
     → gathered kind.Div 0 2 ts2 ≡ more (fraction_of (first a ts) (first b (behind a ts))) (behind (a + b) ts)
-fraction-both a b ts ts1 ts2 some w e f =
-    let low = product_of (first b (behind a ts)) in
-    let many : count (first b (behind a ts)) ≡ b = count-first b (behind a ts) (omega (arith, count-behind a ts, w)) in
-    let top : first a ts1 ≡ first a ts = ap (first a) e ∙ first-changed a b (more low none) ts (omega (arith, w)) in
-    let rest : behind a ts1 ≡ more low (behind (a + b) ts) = ap (behind a) e ∙ behind-changed a b (more low none) ts (omega (arith, w)) in
-    let now : ts2 ≡ more (product_of (first a ts)) (more low (behind (a + b) ts)) = f ∙ rw (top, rest) refl in
-    ap (gathered kind.Div 0 2) now ∙ ap (λ (t : Tree). more t (behind (a + b) ts)) (sym (fraction-some (first a ts) (first b (behind a ts)) (omega (arith, many, some))))
+fraction-both a b ts ts1 ts2 h w e f = grind (arith, count-first, count-behind, first-changed, behind-changed, fraction-some)
 
 -- ---- whole numbers, unless they are 1
 

@@ -1,9 +1,8 @@
 -- Bytes of the trees of a stack, before a change and after it.
-use Rattle.std.proofs.Common.{◌≡◌, ℕ, zero, suc, ◌+◌, ◌*◌, ◌<◌, ◌≤◌, ap, ◌∙◌, arith, true}
-use Rattle.beautify.proofs.Shared.{Tree, add, div, Trees, none, more, append, count, size, sizes, is_add, is_div, Kind, used, State, free_of, nth, inserted, compound, takes_kind, children_of, Stands, forest, first, behind, cut, gathered, stacked, IsStack, Restacks, least_size, eqb-true}
+use Rattle.std.proofs.Common.{◌≡◌, ℕ, zero, suc, ◌+◌, ◌*◌, ◌<◌, ◌≤◌, arith, true}
+use Rattle.beautify.proofs.Shared.{Tree, add, Trees, none, more, append, count, size, sizes, is_add, is_div, Kind, used, State, free_of, nth, inserted, compound, takes_kind, children_of, Stands, forest, first, behind, cut, gathered, stacked, IsStack, Restacks, least_size}
 use Rattle.beautify.proofs.Stacking.{free_after, bytes_of_stack, same_stack}
 use Rattle.beautify.proofs.Trees.{count-first, count-behind}
-use Rattle.calc_terms.specs.declared.kind.Kind.TheVariants as kind
 
 pub sizes-append : (xs ys : Trees) → sizes (append xs ys) ≡ sizes xs + sizes ys
 sizes-append none ys = omega arith
@@ -36,21 +35,10 @@ two (more t ts) h = omega (arith, one ts (omega (arith, h)))
 
 -- a node over trees takes 8 bytes more than they
 pub size-compound : (k : Kind) (ts : Trees) → takes_kind k (count ts) ≡ true → size (compound k ts) ≤ sizes ts + 8
-size-compound kind.Undef ts h = omega arith
-size-compound kind.Add ts h = omega arith
-size-compound kind.Mult ts h = omega arith
-size-compound kind.Pow ts h = omega (arith, two ts (eqb-true (count ts) 2 h))
-size-compound kind.Root ts h = omega (arith, one ts (eqb-true (count ts) 1 h))
-size-compound kind.Neg ts h = omega (arith, one ts (eqb-true (count ts) 1 h))
-size-compound kind.Sub ts h = omega (arith, two ts (eqb-true (count ts) 2 h))
-size-compound kind.Div ts h = omega (arith, two ts (eqb-true (count ts) 2 h))
-size-compound k ts h = absurd cc
+size-compound k ts h = grind (arith, two, one)
 
 pub sizes-gathered : (k : Kind) (at n : ℕ) (ts : Trees) → takes_kind k n ≡ true → at + n ≤ count ts → sizes (gathered k at n ts) ≤ sizes ts + 8
-sizes-gathered k at n ts h w =
-    let us = first n (behind at ts) in
-    let many : count us ≡ n = count-first n (behind at ts) (omega (arith, count-behind at ts, w)) in
-    omega (arith, sizes-inserted at (more (compound k us) none) (cut at n ts), size-compound k us (ap (takes_kind k) many ∙ h), sizes-cut at n ts)
+sizes-gathered k at n ts h w = grind (arith, count-first, count-behind, sizes-inserted, size-compound, sizes-cut)
 
 pub size-nth : (n : ℕ) (ts : Trees) → n < count ts → sizes (first 1 (behind n ts)) ≡ size (nth n ts)
 size-nth n none h = absurd (omega arith)
@@ -61,8 +49,7 @@ pub sizes-without : (n : ℕ) (ts : Trees) → n < count ts → size (nth n ts) 
 sizes-without n ts h = omega (arith, size-nth n ts h, sizes-cut n 1 ts)
 
 second_size : (t : Tree) → is_div t ≡ true → size (nth 1 (children_of t)) ≤ size t
-second_size (div a b) h = omega arith
-second_size _ h = absurd cc
+second_size t h = grind arith
 
 -- ---- in words of free bytes
 
@@ -74,20 +61,16 @@ pub frees : {i : ℕ} {s t : State} (at : ℕ) → Stands s → Stands t → IsS
 frees {i = i} {s = s} at st su h w r = omega (arith, free_after st su h r, sizes-without at (stacked i (forest s)) w)
 
 sum_size : (t : Tree) (us : Trees) → is_add t ≡ true → size (add (append (children_of t) us)) ≡ size t + sizes us
-sum_size (add ts) us h = omega (arith, sizes-append ts us)
-sum_size _ us h = absurd cc
+sum_size t us h = grind (arith, sizes-append)
 
 first_two : (ts : Trees) → 2 ≤ count ts → sizes ts ≡ size (nth 0 ts) + size (nth 1 ts) + sizes (behind 2 ts)
-first_two none h = absurd (omega (arith, h))
-first_two (more t none) h = absurd (omega (arith, h))
-first_two (more t (more u ts)) h = omega arith
+first_two ts h = grind arith
 
 pub sizes-extended : (ts : Trees) → 2 ≤ count ts → is_add (nth 0 ts) ≡ true → sizes (more (add (append (children_of (nth 0 ts)) (more (nth 1 ts) none))) (behind 2 ts)) ≤ sizes ts + 0
 sizes-extended ts w h = omega (arith, sum_size (nth 0 ts) (more (nth 1 ts) none) h, first_two ts w)
 
 pub sizes-divisor : (at to : ℕ) (ts : Trees) → is_div (nth at ts) ≡ true → at < count ts → sizes (inserted to (more (nth 1 (children_of (nth at ts))) none) (cut at 1 ts)) ≤ sizes ts + 0
-sizes-divisor at to ts h w =
-    omega (arith, sizes-inserted to (more (nth 1 (children_of (nth at ts))) none) (cut at 1 ts), second_size (nth at ts) h, sizes-without at ts w)
+sizes-divisor at to ts h w = grind (arith, sizes-inserted, second_size, sizes-without)
 
 -- ---- how many trees
 

@@ -1,8 +1,7 @@
 -- Fractions on a stack: numbers, powers and factors.
-use Rattle.std.proofs.Common.{◌≡◌, ℕ, zero, suc, ◌+◌, ◌<◌, ◌≤◌, refl, sym, ap, ◌∙◌, arith, Bool, true, false, ◌==◌, nat_abs, if◌then◌else◌}
-use Rattle.std.specs.Prelude.{ℤ, pos, negsuc}
-use Rattle.beautify.proofs.Shared.{fraction_of, product_of, power_below, unsigned_face, unless_one, exponent_below, below_zero, has_minus, with_minus, factor_above, factor_below, Fraction, Tree, num, symbol, add, power, root, Trees, none, more, append, count, is_div, whole_num, root_kind, nth, inserted, children_of, first, behind, cut, node_room, IsFactor, HoldsFaces, stands_below, ltb-true, ltb-false, ne_eqb}
-use Rattle.beautify.proofs.Trees.{first-append, behind-append, append_assoc, count-append, inserted-append, cut-append, unless_one_test}
+use Rattle.std.proofs.Common.{◌≡◌, ℕ, zero, suc, ◌+◌, ◌≤◌, refl, sym, ap, ◌∙◌, arith, true, false, nat_abs}
+use Rattle.beautify.proofs.Shared.{fraction_of, power_below, unsigned_face, unless_one, exponent_below, has_minus, with_minus, factor_above, factor_below, Fraction, Tree, num, power, Trees, none, more, append, count, is_div, root_kind, nth, inserted, children_of, first, behind, cut, node_room, IsFactor, HoldsFaces, stands_below}
+use Rattle.beautify.proofs.Trees.{first-append, behind-append, append_assoc, count-append, inserted-append, cut-append}
 use Rattle.calc_terms.specs.declared.kind.Kind.TheVariants as kind
 
 -- the lists of a fraction, by their lengths
@@ -14,9 +13,6 @@ fraction_lists a b us vs ts ts2 e f g =
     let sum : a + b ≡ count (append us vs) = omega (arith, e, f, count-append us vs) in
     let end : behind (a + b) ts2 ≡ ts = rw (sum, g) (ap (behind (count (append us vs))) (sym (append_assoc us vs ts)) ∙ behind-append (append us vs) ts) in
     rw (top, low, end) refl
-
-pub number_face : (n d : ℕ) (q : Fraction) (ts : Trees) → n ≡ nat_abs q.num → d ≡ q.den → more (fraction_of (unless_one n none) (unless_one d none)) ts ≡ more (unsigned_face (num q)) ts
-number_face n d q ts e f = rw (e, f) refl
 
 -- ---- powers
 
@@ -39,23 +35,6 @@ signed t = with_minus (has_minus t) (unsigned_face t)
 pub power_face : (b e : Tree) (k : ℕ) → exponent_below e ≡ k → unsigned_face (power b e) ≡ face_by k (signed b) (signed e)
 power_face b e k h = ap (λ (n : ℕ). face_by n (signed b) (signed e)) h
 
-one_or_more : (n : ℕ) → product_of (unless_one n none) ≡ whole_num n
-one_or_more n = unless_one_test (λ us. product_of us ≡ whole_num n) n none (λ e. ap whole_num (sym e)) refl
-
--- the face of an exponent below the line
-below_face : (n d k : ℕ) → below_zero (negsuc n) d ≡ suc k → fraction_of (unless_one (suc n) none) (unless_one d none) ≡ whole_num (suc k)
-below_face n zero k h = absurd (omega (arith, h))
-below_face n (suc zero) k h = one_or_more (suc n) ∙ ap whole_num h
-below_face n (suc (suc d)) k h = absurd (omega (arith, h))
-
-number_below : (p : ℤ) (d k : ℕ) → below_zero p d ≡ suc k → fraction_of (unless_one (nat_abs p) none) (unless_one d none) ≡ whole_num (suc k)
-number_below (pos n) d k h = absurd (omega (arith, h))
-number_below (negsuc n) d k h = below_face n d k h
-
-pub exponent_face : (e : Tree) (k : ℕ) → exponent_below e ≡ suc k → unsigned_face e ≡ whole_num (suc k)
-exponent_face (num q) k h = number_below q.num q.den k h
-exponent_face _ k h = absurd (omega (arith, h))
-
 pub node_room-power : (b e : Tree) (k : ℕ) → exponent_below e ≡ k → node_room (power b e) ≡ room_by k
 node_room-power b e k h = ap room_by h
 
@@ -77,23 +56,14 @@ pub stack_of_one : (b e : Tree) (ts : Trees) → HoldsFaces (more b (more e none
     → more (fraction_of none (more (with_minus (has_minus b) (nth 0 ts)) none)) (behind 2 ts) ≡ more (unsigned_face (power b e)) (behind 2 ts)
 stack_of_one b e ts h k = ap (λ (us : Trees). more (fraction_of none (more (with_minus (has_minus b) (nth 0 us)) none)) (behind 2 ts)) (begun b e ts h) ∙ ap (λ (t : Tree). more t (behind 2 ts)) (sym (power_face b e 1 k))
 
-below_more : (b : Tree) (k : ℕ) → fraction_of none (more (power (signed b) (whole_num (suc (suc k)))) none) ≡ fraction_of none (more (power_below (signed b) (suc (suc k))) none)
-below_more b k = ap (λ (c : Bool). fraction_of none (more (if c then signed b else power (signed b) (whole_num (suc (suc k)))) none)) (sym (ne_eqb (suc (suc k)) 1 (λ e. omega (arith, e))))
-
 pub stack_of_more : (b e : Tree) (k : ℕ) (ts : Trees) → HoldsFaces (more b (more e none)) ts → exponent_below e ≡ suc (suc k)
     → more (fraction_of none (more (power (with_minus (has_minus b) (nth 0 ts)) (nth 1 ts)) none)) (behind 2 ts) ≡ more (unsigned_face (power b e)) (behind 2 ts)
-stack_of_more b e k ts h n =
-    ap (λ (us : Trees). more (fraction_of none (more (power (with_minus (has_minus b) (nth 0 us)) (nth 1 us)) none)) (behind 2 ts)) (begun b e ts h)
-    ∙ ap (λ (t : Tree). more (fraction_of none (more (power (signed b) t) none)) (behind 2 ts)) (exponent_face e (suc k) n) ∙ ap (λ (t : Tree). more t (behind 2 ts)) (below_more b k ∙ sym (power_face b e (suc (suc k)) n))
+stack_of_more b e k ts h n = grind arith
 
 -- a rational on a stack
 pub number_stack : (n d a b : ℕ) (q : Fraction) (ts ts1 ts2 : Trees) → a ≡ count (unless_one n none) → b ≡ count (unless_one d none) → n ≡ nat_abs q.num → d ≡ q.den
     → ts1 ≡ append (unless_one d none) ts → ts2 ≡ append (unless_one n none) ts1 → (a + b ≤ count ts2) × (more (fraction_of (first a ts2) (first b (behind a ts2))) (behind (a + b) ts2) ≡ more (unsigned_face (num q)) ts)
-number_stack n d a b q ts ts1 ts2 e f g h p r =
-    let us = unless_one n none in
-    let vs = unless_one d none in
-    let all : ts2 ≡ append us (append vs ts) = r ∙ ap (append us) p in
-    (omega (arith, e, f, ap count all, count-append us (append vs ts), count-append vs ts), fraction_lists a b us vs ts ts2 e f all ∙ number_face n d q ts g h)
+number_stack n d a b q ts ts1 ts2 e f g h p r = grind arith
 
 -- ---- factors
 
@@ -103,41 +73,19 @@ pub record IsBelow (t : Tree) : Type 0 where
   pub above : (us : Trees) → factor_above t us ≡ us
   pub below : (us : Trees) → factor_below t us ≡ more (nth 1 (children_of (unsigned_face t))) us
 
-is_power_below : (b e : Tree) (k : ℕ) → exponent_below e ≡ suc k → IsBelow (power b e)
-is_power_below b e k h =
-    let face = power_face b e (suc k) h in
-    record { quotient = ap is_div face; above = λ us. ap (λ (n : ℕ). above_by n (signed b) (signed e) us) h; below = λ us. ap (λ (n : ℕ). below_by n (signed b) us) h ∙ ap (λ (t : Tree). more (nth 1 (children_of t)) us) (sym face) }
-
-some : (n : ℕ) → 0 < n → (k : ℕ) × (n ≡ suc k)
-some zero h = absurd (omega (arith, h))
-some (suc k) h = (k, refl)
-
 pub below_factor : (t : Tree) → stands_below t ≡ true → IsBelow t
-below_factor (power b e) h = let s = some (exponent_below e) (ltb-true 0 (exponent_below e) h) in is_power_below b e (s.0) (s.1)
-below_factor _ h = absurd cc
+below_factor t h = grind arith
 
 -- another factor stands above with its face
 pub record IsAbove (t : Tree) : Type 0 where
   pub above : (us : Trees) → factor_above t us ≡ more (unsigned_face t) us
   pub below : (us : Trees) → factor_below t us ≡ us
 
-power_is_above : (b e : Tree) → exponent_below e ≡ 0 → IsAbove (power b e)
-power_is_above b e h = record { above = λ us. ap (λ (n : ℕ). above_by n (signed b) (signed e) us) h ∙ ap (λ (t : Tree). more t us) (sym (power_face b e 0 h)); below = λ us. ap (λ (n : ℕ). below_by n (signed b) us) h }
-
 pub above_factor : (t : Tree) → IsFactor t → (root_kind t ≡ kind.Num → ⊥) → stands_below t ≡ false → IsAbove t
-above_factor (num q) f n h = absurd (n refl)
-above_factor (symbol x) f n h = record { above = λ us. refl; below = λ us. refl }
-above_factor (add ts) f n h = record { above = λ us. refl; below = λ us. refl }
-above_factor (power b e) f n h = power_is_above b e (omega (arith, ltb-false 0 (exponent_below e) h))
-above_factor (root a) f n h = record { above = λ us. refl; below = λ us. refl }
-above_factor t f n h = absurd f
+above_factor t f n h = grind arith
 
 pub unless_one-append : (n : ℕ) (us : Trees) → unless_one n us ≡ append (unless_one n none) us
-unless_one-append n us = by (n == 1)
-  where
-    by : (b : Bool) → (if b then us else more (whole_num n) us) ≡ append (if b then none else more (whole_num n) none) us
-    by true = refl
-    by false = refl
+unless_one-append n us = grind arith
 
 -- ---- a factor among the others
 
@@ -156,15 +104,7 @@ above_came at before us ns ts2 e g = rw (← e, g) (inserted-append before ns us
 -- the list of those above and below after each case
 pub number_split : (at a n d : ℕ) (f : Tree) (before above below rest ts ts1 ts2 ts3 : Trees) → count before ≡ at → count above ≡ a → ts ≡ append before (more f (append above (append below rest)))
     → ts1 ≡ cut at 1 ts → ts2 ≡ inserted (at + a) (unless_one d none) ts1 → ts3 ≡ inserted at (unless_one n none) ts2 → ts3 ≡ append before (append (unless_one n above) (append (unless_one d below) rest))
-number_split at a n d f before above below rest ts ts1 ts2 ts3 e g t p q r =
-    let ds = unless_one d none in
-    let ns = unless_one n none in
-    let one : ts1 ≡ append before (append above (append below rest)) = p ∙ factor_gone at before (append above (append below rest)) f ts e t in
-    let two : ts2 ≡ append before (append above (append ds (append below rest))) = q ∙ below_came at a before above (append below rest) ds ts1 e g one in
-    let three : ts3 ≡ append before (append ns (append above (append ds (append below rest)))) = r ∙ above_came at before (append above (append ds (append below rest))) ns ts2 e two in
-    let low : append ds (append below rest) ≡ append (unless_one d below) rest = sym (append_assoc ds below rest) ∙ ap (λ (us : Trees). append us rest) (sym (unless_one-append d below)) in
-    let high : append ns (append above (append (unless_one d below) rest)) ≡ append (unless_one n above) (append (unless_one d below) rest) = sym (append_assoc ns above (append (unless_one d below) rest)) ∙ ap (λ (us : Trees). append us (append (unless_one d below) rest)) (sym (unless_one-append n above)) in
-    three ∙ ap (λ (us : Trees). append before (append ns (append above us))) low ∙ ap (append before) high
+number_split at a n d f before above below rest ts ts1 ts2 ts3 e g t p q r = grind (arith, factor_gone, below_came, above_came, append_assoc, unless_one-append)
 
 pub unless_one-count : (k a n : ℕ) (us : Trees) → k ≡ count (unless_one n none) → count us ≡ a → a + k ≡ count (unless_one n us)
 unless_one-count k a n us e f = omega (arith, e, f, ap count (unless_one-append n us), count-append (unless_one n none) us)
@@ -178,5 +118,4 @@ below_split at a t before above below rest ts ts1 h e g p s q =
     ∙ ap (λ (us : Trees). append before (append us (more x (append below rest)))) (sym (h.above above)) ∙ ap (λ (us : Trees). append before (append (factor_above t above) (append us rest))) (sym (h.below below))
 
 pub above_split : (t : Tree) (before above below rest ts : Trees) → IsAbove t → ts ≡ append before (more (unsigned_face t) (append above (append below rest))) → ts ≡ append before (append (factor_above t above) (append (factor_below t below) rest))
-above_split t before above below rest ts h p =
-    p ∙ ap (λ (us : Trees). append before (append us (append below rest))) (sym (h.above above)) ∙ ap (λ (us : Trees). append before (append (factor_above t above) (append us rest))) (sym (h.below below))
+above_split t before above below rest ts h p = grind arith

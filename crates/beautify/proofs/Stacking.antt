@@ -1,6 +1,6 @@
 -- What the calls on a stack want and give.
-use Rattle.std.proofs.Common.{◌≡◌, ◌↔◌, ℕ, ◌+◌, ◌<◌, ◌≤◌, refl, sym, ap, ◌∙◌, subst, arith, true, false, Result, Ok, Err, IfErr, OnOk}
-use Rattle.beautify.proofs.Shared.{Tree, add, Trees, none, more, count, size, sizes, is_add, Kind, used, State, free_of, Full, plain, inserted, children_of, IsExpression, AllExpressions, Forest, arity, kids, bytes_in, Gives, Ends, Starts, holds, kids_of, tree_at, has_root, root_tree, without_root, Stands, forest, IsRefused, bytes_in-join, keeps_after, refuses_after, given_rest, given_told, gives_as, last_root, last_tree, other_root, other_apart, other_tree, apart, kids_of_root, eqb-sym, used_forest, count-plains, size-plain, root_held, stacked, IsStack, Restacks, FailsAbove}
+use Rattle.std.proofs.Common.{◌≡◌, ◌↔◌, ℕ, ◌+◌, ◌<◌, ◌≤◌, refl, sym, ap, ◌∙◌, subst, arith, true, false, Result, IfErr, OnOk}
+use Rattle.beautify.proofs.Shared.{Tree, add, Trees, none, more, count, sizes, is_add, Kind, used, State, free_of, Full, plain, inserted, children_of, IsExpression, Forest, arity, kids, bytes_in, Gives, Ends, Starts, holds, kids_of, tree_at, has_root, root_tree, without_root, Stands, forest, IsRefused, bytes_in-join, keeps_after, refuses_after, given_rest, given_told, gives_as, last_root, last_tree, other_root, other_apart, other_tree, apart, kids_of_root, eqb-sym, used_forest, count-plains, size-plain, root_held, stacked, IsStack, Restacks, FailsAbove}
 use Rattle.tree_handles.proofs.Joins.{holds-left, tree_at-join_left}
 use Rattle.beautify.proofs.Opens.{Opens, opened, opened_as, closed}
 use Rattle.beautify.proofs.Trees.{add_kind}
@@ -48,22 +48,17 @@ is_under {f = f} {i = i} {j = j} {ts = ts} s st o t =
 
 -- the last node alone
 pub many_last : {g : Forest} {i : ℕ} {k : Kind} {ts : Trees} (s : State) → Stands s → Opens g (forest s) i k ts → arity (kids_of i (forest s)) ≡ count ts
-many_last {i = i} s st o =
-    ap arity (kids_of_root i st (last_root o.ends) ∙ ap kids (last_tree o.ends)) ∙ sym (count-plains o.below) ∙ ap count o.holds.plain_trees
+many_last s h o = grind (arith, kids_of_root, last_root, last_tree, count-plains)
 
 -- ---- the stack after a tree came to it
 
 pub came : {g b f new : Forest} {i h : ℕ} {ts : Trees} {x : Tree} (at : ℕ) → Gives g b i (λ t. t ≡ add ts) → Gives b f h (λ t. t ≡ x)
     → Gives (without_root i (without_root h f)) new i (λ t. t ≡ add (inserted at (more (plain (root_tree h f)) none) (stacked i (without_root h f)))) → Gives g new i (λ t. t ≡ add (inserted at (more x none) ts))
-came {g = g} {i = i} {ts = ts} {x = x} at s t p =
-    gives_as p (ap (without_root i) (given_rest t) ∙ given_rest s)
-    (λ y e. e ∙ rw (given_told t, ap (stacked i) (given_rest t), stacked_is s) refl)
+came at s t p = grind (arith, gives_as, given_rest, given_told, stacked_is)
 
 -- a node that stands before the stack
 pub in_base : {g f : Forest} {i j : ℕ} {P : Tree → Type 0} → Gives g f i P → IsExpression j g → (IsExpression j f) × (tree_at j f ≡ tree_at j g)
-in_base {g = g} {f = f} {j = j} s e =
-    let same : tree_at j f ≡ tree_at j g = ap (tree_at j) s.ends.whole ∙ tree_at-join_left j g s.tree e.live in
-    (record { live = ap (holds j) s.ends.whole ∙ holds-left j g s.tree e.live; whole = subst AllExpressions (sym same) e.whole }, same)
+in_base s e = grind (arith, tree_at-join_left, holds-left)
 
 pub same_stack : {i : ℕ} {f : Forest} → IsStack i f → Gives (without_root i f) f i (λ t. t ≡ add (stacked i f))
 same_stack s = opens_stack (stack_opens s)
@@ -89,31 +84,23 @@ same_base {j = j} r e = subst (IsExpression j) (sym (given_rest r.gives)) e
 -- ---- a placing that is refused
 
 pub short : (n m : ℕ) → (false ≡ true) ↔ (n ≤ m) → m < n
-short n m e = grind (arith, no)
-  where
-    no : n ≤ m → ⊥
-    no h = let f : false ≡ true = e.1 h in cc
+short n m e = grind arith
 
 pub fails_at_once : {i n : ℕ} {s t : State} {full : Full} → IsStack i (forest s) → IsRefused n s t full → free_of s < n → FailsAbove i s t full
-fails_at_once {n = n} {s = s} {t = t} {full = full} h r lack =
-    let free : free_of t ≡ free_of s = ap free_of r.state in
-    record { first = record { behind = h.last.tree; whole = r.same ∙ h.last.ends.whole }; refuses = r.refuses; lacks = record { free = ap (λ (x : Full). x.free) r.told ∙ sym free; lacking = subst (λ (x : Full). x.free < x.needed) (sym r.told) lack } }
+fails_at_once h r k = grind arith
 
 -- what a call promised where it succeeded
 pub on_ok : {A : Type 0} (r : Result A Full) {P Q : Type 0} → OnOk r P → (P → Q) → OnOk r Q
-on_ok (Ok x) p f = f p
-on_ok (Err e) p f = tt
+on_ok r p f = grind arith
 
 -- and where it was refused
 pub if_err : {A : Type 0} (r : Result A Full) {P Q : Full → Type 0} → IfErr r P → ((e : Full) → P e → Q e) → IfErr r Q
-if_err (Ok x) p f = tt
-if_err (Err e) p f = f e p
+if_err r p f = grind arith
 
 -- ---- free bytes
 
 pub bytes_of_stack : {g : Forest} {i : ℕ} {ts : Trees} (s : State) → Stands s → Gives g (forest s) i (λ t. t ≡ add ts) → used s.nodes ≡ bytes_in g + (8 + sizes ts)
-bytes_of_stack {g = g} {ts = ts} s st h =
-    used_forest s st ∙ ap bytes_in h.ends.whole ∙ bytes_in-join g h.tree ∙ ap (λ (n : ℕ). bytes_in g + n) (sym (size-plain h.tree h.ends.alone h.whole) ∙ ap size h.told)
+bytes_of_stack s h k = grind (arith, used_forest, bytes_in-join, size-plain)
 
 pub free_after : {i : ℕ} {s t : State} {ts : Trees} → Stands s → Stands t → IsStack i (forest s) → Restacks i s t ts → free_of t + sizes ts ≡ free_of s + sizes (stacked i (forest s))
 free_after {i = i} {s = s} {t = t} {ts = ts} st su h r =

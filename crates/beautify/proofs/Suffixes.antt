@@ -1,6 +1,6 @@
 -- The nodes of a tree from the last to the first.
 use Rattle.std.proofs.Common.{◌≡◌, ℕ, zero, suc, ◌+◌, ◌*◌, ◌<◌, ◌≤◌, List, [], ◌∷◌, ◌++◌, length, take, drop, refl, sym, ap, ◌∙◌, subst, arith, true, false}
-use Rattle.beautify.proofs.Shared.{unsigned_face, Node, Tree, num, symbol, undef, add, mult, power, root, Trees, none, more, append, count, size, sizes, root_size, AllParts, AllPartsOf, has, first_of, place_of, AreDistinct, plain, plains, grown, children_of, IsExpression, AllExpressions, IsWhole, Label, Forest, empty, tree, join, arity, flatten, node_of, holds, tree_at, kids_of, Distinct, distinct-tree_at, tree_at-inside, holds-tree_at, not_before, forest_of-flatten, forest_of_whole, has-flatten, first_trees-join, rest_trees-join, all-join, at, has_mid, plains-join, grown_whole, alone, behind, unsigned_faces, IsShowable, HoldsFaces, one_at, node_room, split_at, tail_of, forest_of}
+use Rattle.beautify.proofs.Shared.{unsigned_face, Node, Tree, Trees, none, more, append, count, size, sizes, root_size, AllParts, AllPartsOf, has, first_of, place_of, AreDistinct, plain, plains, grown, children_of, IsExpression, AllExpressions, IsWhole, Label, Forest, empty, tree, join, arity, flatten, node_of, holds, tree_at, kids_of, Distinct, distinct-tree_at, tree_at-inside, holds-tree_at, not_before, forest_of-flatten, forest_of_whole, has-flatten, first_trees-join, rest_trees-join, all-join, at, has_mid, plains-join, grown_whole, alone, behind, unsigned_faces, IsShowable, HoldsFaces, one_at, node_room, split_at, tail_of, forest_of}
 use Rattle.node_pool.specs.Places.{since}
 use Rattle.node_pool.proofs.Cuts.{since-append}
 use Rattle.node_pool.proofs.Splits.{place_of-append}
@@ -55,25 +55,13 @@ parts_append none us h k = k
 parts_append (more t ts) us h k = (h.0, parts_append ts us h.1 k)
 
 below_parts : (t : Tree) → AllParts IsShowable t → AllPartsOf IsShowable (children_of t)
-below_parts (num q) h = tt
-below_parts (symbol x) h = tt
-below_parts undef h = absurd h
-below_parts (add ts) h = h.1
-below_parts (mult ts) h = h.1
-below_parts (power b e) h = (h.1, (h.2, tt))
-below_parts (root a) h = (h.1, tt)
-below_parts t h = absurd (h.0)
+below_parts t h = grind arith
 
 pub own_part : (t : Tree) → AllParts IsShowable t → IsShowable t
-own_part (num q) h = h
-own_part (symbol x) h = h
-own_part undef h = h
-own_part t h = h.0
+own_part t h = grind arith
 
 size_parts : (t : Tree) → size t ≡ root_size t + sizes (children_of t)
-size_parts (add ts) = refl
-size_parts (mult ts) = refl
-size_parts t = omega arith
+size_parts t = grind arith
 
 -- the first tree goes, and its children stay
 record IsOpened (l : Label) (k others : Forest) : Type 0 where
@@ -118,9 +106,7 @@ pub record Shows (i : ℕ) (g : Forest) (n : ℕ) (t : Tree) (ts : Trees) : Type
   pub own : size t ≤ size (plain (tree_at i g))
 
 holds_faces : (us ts zs : Trees) → ts ≡ append (unsigned_faces us) zs → HoldsFaces us ts × (behind (count us) ts ≡ zs)
-holds_faces us ts zs e =
-    let rest : behind (count us) ts ≡ zs = rw (← count-faces us, e) (behind-append (unsigned_faces us) zs) in
-    (record { begins = e ∙ ap (append (unsigned_faces us)) (sym rest) }, rest)
+holds_faces us ts zs e = grind (arith, count-faces, behind-append)
 
 pub show_next : (i : ℕ) (g : Forest) (n : ℕ) (ts : Trees) → Distinct g → IsExpression i g → AllParts IsShowable (plain (tree_at i g)) → n < length (flatten (tree_at i g)) → ts ≡ unsigned_faces (plains (forest_of (drop (suc n) (flatten (tree_at i g)))))
     → (t : Tree) × Shows i g n t ts

@@ -1,6 +1,6 @@
 -- The face of a sum, term by term, and its bytes.
 use Rattle.std.proofs.Common.{◌≡◌, ℕ, zero, suc, ◌+◌, ◌-◌, ◌*◌, ◌<◌, ◌≤◌, Bool, true, false, refl, ap, arith}
-use Rattle.beautify.proofs.Shared.{face, next_term, has_minus, with_minus, unsigned_face, SoFar, single, summed, multiplied, as_tree, Tree, add, Trees, none, more, append, count, is_add, AllParts, AllPartsOf, size, sizes, nth, children_of, first, is_single, IsShowable}
+use Rattle.beautify.proofs.Shared.{face, next_term, has_minus, with_minus, unsigned_face, SoFar, single, as_tree, Tree, add, Trees, none, more, append, count, is_add, AllParts, AllPartsOf, size, sizes, nth, children_of, first, is_single, IsShowable}
 use Rattle.calc_language.specs.Grammar.{plus_term}
 use Rattle.beautify.proofs.Bounds.{bound, bound_terms, size-minus}
 use Rattle.beautify.proofs.Terms.{so_far, so_far-more}
@@ -8,38 +8,24 @@ use Rattle.beautify.proofs.Terms.{so_far, so_far-more}
 -- ---- what a term adds
 
 pub summed_is : (s : SoFar) → is_single s ≡ false → is_add (as_tree s) ≡ true
-summed_is (summed ts) h = refl
-summed_is (single t) h = cc
-summed_is (multiplied ts) h = cc
+summed_is s h = grind arith
 
 pub plus_more : (s : SoFar) (u : Tree) → is_single s ≡ false → add (append (children_of (as_tree s)) (more u none)) ≡ as_tree (plus_term s u)
-plus_more (summed ts) u h = refl
-plus_more (single t) u h = cc
-plus_more (multiplied ts) u h = cc
+plus_more s u h = grind arith
 
 pub plus_made : (s : SoFar) (u : Tree) → is_single s ≡ true → add (more (as_tree s) (more u none)) ≡ as_tree (plus_term s u)
-plus_made (single t) u h = refl
-plus_made (multiplied ts) u h = refl
-plus_made (summed ts) u h = cc
-
-plus_summed : (s : SoFar) (u : Tree) → false ≡ is_single (plus_term s u)
-plus_summed (single t) u = refl
-plus_summed (multiplied ts) u = refl
-plus_summed (summed ts) u = refl
+plus_made s u h = grind arith
 
 pub single_next : (s : SoFar) (b : Bool) (u : Tree) → b ≡ is_single (next_term s b u)
-single_next s true u = refl
-single_next s false u = plus_summed s u
+single_next s b u = grind arith
 
 pub single_first : (us : Trees) → true ≡ is_single (so_far 0 us)
-single_first none = refl
-single_first (more t us) = refl
+single_first us = grind arith
 
 -- ---- the terms so far
 
 pub first_face : (us : Trees) → 1 ≤ count us → face (nth 0 us) ≡ as_tree (so_far 0 us)
-first_face none h = absurd (omega (arith, h))
-first_face (more t us) h = refl
+first_face us h = grind arith
 
 pub next_made : (n : ℕ) (us : Trees) (negative : Bool) (u : Tree) → 1 ≤ n → n < count us → negative ≡ has_minus (nth n us) → u ≡ unsigned_face (nth n us) → next_term (so_far (n - 1) us) negative u ≡ so_far (n + 1 - 1) us
 next_made zero us negative u o w m e = absurd (omega (arith, o))
@@ -49,8 +35,7 @@ next_made (suc k) us negative u o w m e =
     rw (one, two, so_far-more k us (omega (arith, w)), m, e) refl
 
 pub sum_unsigned : (t : Tree) → is_add t ≡ true → unsigned_face t ≡ face t
-sum_unsigned (add ts) h = refl
-sum_unsigned _ h = absurd cc
+sum_unsigned t h = grind arith
 
 -- ---- bytes
 
@@ -66,12 +51,10 @@ module _ (P : Tree → Type 0) where
   all_first (suc n) (more t ts) h = (h.0, all_first n ts h.1)
 
 pub sum_parts : (t : Tree) → is_add t ≡ true → AllParts IsShowable t → AllPartsOf IsShowable (children_of t)
-sum_parts (add ts) h w = w.1
-sum_parts _ h w = absurd cc
+sum_parts t h w = grind arith
 
 pub sum_size : (t : Tree) → is_add t ≡ true → size t ≡ 8 + sizes (children_of t)
-sum_size (add ts) h = refl
-sum_size _ h = absurd cc
+sum_size t h = grind arith
 
 pub nth_size : (n : ℕ) (ts : Trees) → n < count ts → size (nth n ts) ≤ sizes ts
 nth_size n none h = absurd (omega (arith, h))

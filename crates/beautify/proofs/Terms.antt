@@ -14,16 +14,13 @@ next_terms-more zero s (more t ts) h = refl
 next_terms-more (suc n) s (more t ts) h = next_terms-more n (next_term s (has_minus t) (unsigned_face t)) ts (omega (arith, h))
 
 pub so_far-more : (n : ℕ) (ts : Trees) → n + 1 < count ts → so_far (suc n) ts ≡ next_term (so_far n ts) (has_minus (nth (suc n) ts)) (unsigned_face (nth (suc n) ts))
-so_far-more n none h = absurd (omega (arith, h))
-so_far-more n (more t ts) h = next_terms-more n (single (with_minus (has_minus t) (unsigned_face t))) ts (omega (arith, h))
+so_far-more n ts h = grind (arith, next_terms-more)
 
 first-all : (n : ℕ) (ts : Trees) → count ts ≡ n → first n ts ≡ ts
 first-all n ts h = subst (λ (k : ℕ). first k ts ≡ ts) h (all_first ts)
 
 pub so_far-all : (n : ℕ) (t : Tree) → is_add t ≡ true → count (children_of t) ≡ n + 1 → as_tree (so_far n (children_of t)) ≡ unsigned_face t
-so_far-all n (add none) h e = absurd (omega (arith, e))
-so_far-all n (add (more t ts)) h e = ap (λ (us : Trees). as_tree (next_terms (single (with_minus (has_minus t) (unsigned_face t))) us)) (first-all n ts (omega (arith, e)))
-so_far-all n _ h e = absurd cc
+so_far-all n t h e = grind (arith, first-all)
 
 -- the faces of the terms that are left
 pub faces-nth : (n : ℕ) (ts rest : Trees) → n < count ts → behind n (append (unsigned_faces ts) rest) ≡ more (unsigned_face (nth n ts)) (behind (suc n) (append (unsigned_faces ts) rest))
@@ -34,24 +31,16 @@ faces-nth (suc n) (more t ts) rest h = faces-nth n ts rest (omega (arith, h))
 -- ---- on a stack
 
 pub two_terms : (t : Tree) → is_add t ≡ true → IsShowable t → 2 ≤ count (children_of t)
-two_terms (add none) h w = absurd w
-two_terms (add (more t none)) h w = absurd w
-two_terms (add (more t (more u ts))) h w = omega arith
-two_terms _ h w = absurd cc
+two_terms t h w = grind arith
 
 pub sum_room : (t : Tree) → is_add t ≡ true → node_room t ≡ 8 * count (children_of t)
-sum_room (add ts) h = refl
-sum_room _ h = absurd cc
+sum_room t h = grind arith
 
 pub sum_start : (us ts : Trees) (m : Bool) → 1 ≤ count us → HoldsFaces us ts → m ≡ has_minus (nth 0 us) → more (with_minus m (nth 0 ts)) (behind 1 ts) ≡ more (as_tree (so_far 0 us)) (behind 1 ts)
-sum_start none ts m w h e = absurd (omega (arith, w))
-sum_start (more t us) ts m w h e =
-    let top : nth 0 ts ≡ unsigned_face t = ap (nth 0) h.begins in
-    ap (λ (x : Tree). more x (behind 1 ts)) (rw (e, top) refl)
+sum_start us ts m w h e = grind arith
 
 pub not_summed : (us : Trees) → false ≡ is_summed (so_far 0 us)
-not_summed none = refl
-not_summed (more t us) = refl
+not_summed us = grind arith
 
 pub next_face : (n : ℕ) (us ts : Trees) → n < count us → HoldsFaces us ts → behind n ts ≡ more (unsigned_face (nth n us)) (behind (suc n) ts)
 next_face n us ts w h = ap (behind n) h.begins ∙ faces-nth n us (behind (count us) ts) w ∙ ap (λ (x : Trees). more (unsigned_face (nth n us)) (behind (suc n) x)) (sym h.begins)
@@ -78,6 +67,4 @@ pub summed_step : (n : ℕ) (us ts tops : Trees) (negative now : Bool) → 1 ≤
 summed_step n us ts tops negative now o w h e m i = i ∙ ap is_summed (step n us ts tops negative o w h e m).0
 
 pub sum_end : (n m : ℕ) (t : Tree) (ts : Trees) → is_add t ≡ true → n ≡ m → 1 ≤ n → m ≡ count (children_of t) → more (as_tree (so_far (n - 1) (children_of t))) (behind n ts) ≡ more (unsigned_face t) (behind (count (children_of t)) ts)
-sum_end n m t ts h e o f =
-    let all : n ≡ count (children_of t) = e ∙ f in
-    ap (λ (x : Tree). more x (behind n ts)) (so_far-all (n - 1) t h (omega (arith, all, o))) ∙ ap (λ (k : ℕ). more (unsigned_face t) (behind k ts)) all
+sum_end n m t ts h e o f = grind (arith, so_far-all)

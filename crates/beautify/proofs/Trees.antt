@@ -1,6 +1,6 @@
 -- Lists of trees and their places.
 use Rattle.std.proofs.Common.{◌≡◌, ℕ, zero, suc, ◌+◌, ◌-◌, ◌<◌, ◌≤◌, refl, ap, ◌∙◌, arith, true, ◌==◌, if◌then◌else◌}
-use Rattle.beautify.proofs.Shared.{Tree, add, div, Trees, none, more, append, count, is_add, is_div, root_kind, is_bare, Kind, nth, inserted, takes_kind, children_of, first, behind, cut, append-none, whole_num, power, unless_one, power_below, by_test, eqb-true}
+use Rattle.beautify.proofs.Shared.{Tree, Trees, none, more, append, count, is_add, is_div, root_kind, is_bare, Kind, nth, inserted, takes_kind, children_of, first, behind, cut, append-none, whole_num, power, unless_one, power_below, by_test, eqb-true}
 use Rattle.calc_terms.specs.declared.kind.Kind.TheVariants as kind
 
 pub behind-behind : (n : ℕ) (ts : Trees) → behind 1 (behind n ts) ≡ behind (suc n) ts
@@ -84,16 +84,13 @@ count-append (more x xs) ys = omega (arith, count-append xs ys)
 -- ---- kinds of nodes
 
 pub add_kind : (t : Tree) → is_add t ≡ true → root_kind t ≡ kind.Add
-add_kind (add ts) h = refl
-add_kind _ h = absurd cc
+add_kind t h = grind arith
 
 pub div_kind : (t : Tree) → is_div t ≡ true → root_kind t ≡ kind.Div
-div_kind (div a b) h = refl
-div_kind _ h = absurd cc
+div_kind t h = grind arith
 
 pub two_parts : (t : Tree) → is_div t ≡ true → count (children_of t) ≡ 2
-two_parts (div a b) h = refl
-two_parts _ h = absurd cc
+two_parts t h = grind arith
 
 pub div_within : (n : ℕ) (ts : Trees) → is_div (nth n ts) ≡ true → n < count ts
 div_within n none h = absurd cc
@@ -101,9 +98,7 @@ div_within zero (more t ts) h = omega arith
 div_within (suc n) (more t ts) h = omega (arith, div_within n ts h)
 
 pub bare_takes : (k : Kind) (n : ℕ) → takes_kind k n ≡ true → is_bare k ≡ true
-bare_takes kind.Num n h = absurd cc
-bare_takes kind.Sym n h = absurd cc
-bare_takes k n h = refl
+bare_takes k n h = grind arith
 
 -- ---- the place before one
 

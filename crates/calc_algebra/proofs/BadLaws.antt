@@ -1,7 +1,7 @@
 -- A Bad tree has no value, and an Easy tree has one or is Bad.
-use Rattle.std.proofs.Common.{◌≡◌, ℕ, zero, suc, ◌⊎◌, inl, inr, ℤ, pos, negsuc, [], true, sym, ap, ◌∙◌, arith}
+use Rattle.std.proofs.Common.{◌≡◌, ℕ, ◌⊎◌, inl, inr, ℤ, pos, [], true, sym, ap, ◌∙◌, arith}
 use Rattle.std.specs.Prelude.{◌≤ℤ◌}
-use Rattle.calc_algebra.proofs.Shared.{ints, int_is_negative, Fraction, zero_fraction, one_fraction, whole_fraction, lowest, gcd, Tree, undef, add, mult, power, root, neg, sub, div, Trees, none, more, IsPart, itself, in_add, in_mult, in_base, in_exponent, in_root, in_neg, in_left, in_right, in_dividend, in_divisor, IsPartOf, first, later, Surd, surd_of, surd_one, Same, Inverts, MeansSum, MeansProduct, IsWholePower, IsPower, IsRootOf, IsAssignment, HasValue, IsNegative, IsHalf, GivesZeroNoPower, IsBadNode, IsBad, IsEasy}
+use Rattle.calc_algebra.proofs.Shared.{int_is_negative, Fraction, zero_fraction, one_fraction, whole_fraction, lowest, gcd, Tree, undef, add, mult, power, root, neg, sub, div, Trees, none, more, IsPart, itself, in_add, in_mult, in_base, in_exponent, in_root, in_neg, in_left, in_right, in_dividend, in_divisor, IsPartOf, first, later, Surd, surd_of, surd_one, Same, Inverts, MeansSum, MeansProduct, IsWholePower, IsPower, IsRootOf, IsAssignment, HasValue, IsNegative, IsHalf, GivesZeroNoPower, IsBadNode, IsBad, IsEasy}
 use Rattle.calc_algebra.proofs.SurdLaws.{Agree, Agree-Same, Agree-sym, Agree-trans, Agree-eq, Agree-surd_times_right, surd_times-nil}
 use Rattle.calc_algebra.proofs.SquareClassLaws.{Same-Agree}
 use Rattle.calc_algebra.proofs.PowerLaws.{root_zero}
@@ -55,17 +55,13 @@ no_inverse y w z i =
     zero_is_not_one (h.at 1 ∙ class_coefficient-surd_of one_fraction)
 
 no_power : (k : ℤ) (w v : Surd) → Agree w [] → k ≤ℤ pos 0 → IsWholePower k w v → ⊥
-no_power (pos zero) w v z l (h, e) = h (Agree-Same z)
-no_power (pos (suc n)) w v z l h = absurd (omega (arith, ints))
-no_power (negsuc n) w v z l (y, i, e) = no_inverse y w z i
+no_power k w v z l h = grind (arith, Agree-Same, no_inverse)
 
 no_root : (z : ℤ) (d : ℕ) (v : Surd) → int_is_negative z ≡ true → IsRootOf z d v → ⊥
-no_root (pos n) d v h i = cc
-no_root (negsuc n) d v h i = i
+no_root z d v h i = grind arith
 
 no_negative_power : (k : ℤ) (w v : Surd) → Agree w [] → int_is_negative k ≡ true → IsWholePower k w v → ⊥
-no_negative_power (pos n) w v z l h = cc
-no_negative_power (negsuc n) w v z l (y, i, e) = no_inverse y w z i
+no_negative_power k w v z l h = grind (arith, no_inverse)
 
 -- the meaning of an exponent
 module _ (e : Tree) (x : Surd) (n : HasValue e x) where

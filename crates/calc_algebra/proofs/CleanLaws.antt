@@ -1,5 +1,5 @@
 -- A clean radicand below 10^12 is square-free, and square-free radicands that are alike are equal.
-use Rattle.std.proofs.Common.{◌≡◌, ℕ, zero, suc, ◌+◌, ◌*◌, ◌/◌, ◌%◌, ◌-◌, ◌≤◌, ◌<◌, ◌^◌, ◌⊎◌, inl, inr, true, refl, sym, ap, ◌∙◌, arith, subst}
+use Rattle.std.proofs.Common.{◌≡◌, ℕ, zero, suc, ◌+◌, ◌*◌, ◌/◌, ◌%◌, ◌≤◌, ◌<◌, ◌^◌, ◌⊎◌, inl, inr, true, refl, sym, ap, ◌∙◌, arith, subst}
 use Rattle.calc_algebra.proofs.Shared.{dvd_trans, mod-eq-zero_of_dvd, dvd_of_mod-eq-zero, without, left_from, left_of, is_clean, IsClean, mul_pos, gcd, gcd_is, gauss, divided, are_alike, square_root}
 use Rattle.std.specs.Int.{IsGcd}
 use Rattle.calc_algebra.proofs.NumberLaws.{clean_words}
@@ -14,14 +14,10 @@ IsSquareFree r = (d : ℕ) → 1 < d → d * d ∣ r → ⊥
 -- ---- what trial division leaves of s * k, where no divisor that is tried has a common divisor with s
 
 factor_pos : (a b n : ℕ) → a * b ≡ n → 0 < n → 0 < b
-factor_pos a zero n e h = absurd (omega arith)
-factor_pos a (suc b) n e h = omega arith
+factor_pos a b n e h = grind arith
 
 halved : (e s k n : ℕ) → 2 ≤ e → 0 < s * k → s * (e * k) ≤ suc n → s * k ≤ n
-halved e s k n h p l = at (e - 2) (omega arith)
-  where
-    at : (f : ℕ) → e ≡ 2 + f → s * k ≤ n
-    at f g = let l' : s * ((2 + f) * k) ≤ suc n = rw (← g) l in omega arith
+halved e s k n h p l = grind arith
 
 over_divisor : (e s k : ℕ) → 0 < e → (s * (e * k)) / e ≡ s * k
 over_divisor e s k h = ap (λ n. n / e) (exchange s e k) ∙ mul-div_cancel_left (s * k) h
@@ -93,10 +89,7 @@ left_from_is (suc n) e s k h p q l apart low =
 -- ---- clean radicands
 
 few_left : (d k r : ℕ) → 10000 < d → d * d * k ≡ r → r < 10 ^ 12 → k < 10001
-few_left d k r h e l = at (d - 10001) (omega arith)
-  where
-    at : (f : ℕ) → d ≡ 10001 + f → k < 10001
-    at f g = let e' : (10001 + f) * (10001 + f) * k ≡ r = rw (← g) e in omega arith
+few_left d k r h e l = grind arith
 
 clean_positive : (r : ℕ) → IsClean r → 0 < r
 clean_positive zero c = absurd (c.no_square 2 (omega arith) (omega arith) (dvd-zero 4))

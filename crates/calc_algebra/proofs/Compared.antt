@@ -1,5 +1,5 @@
 -- A test that surds are the same, for examples that compute.
-use Rattle.std.proofs.Common.{◌≡◌, ℕ, zero, suc, [], ◌∷◌, List, Bool, true, false, ◌&&◌, ◌==◌, ap, arith}
+use Rattle.std.proofs.Common.{◌≡◌, ℕ, zero, suc, [], ◌∷◌, List, Bool, true, false, ◌&&◌, ◌==◌, arith}
 use Rattle.std.specs.Prelude.{ℤ, pos, negsuc, Contains}
 use Rattle.calc_algebra.proofs.Shared.{and_parts, eqb-true, Fraction, fraction_path, Surd, class_coefficient, radicands, Same}
 
@@ -9,9 +9,7 @@ same_int (negsuc m) (negsuc n) = m == n
 same_int _ _ = false
 
 same_int-true : (x y : ℤ) → same_int x y ≡ true → x ≡ y
-same_int-true (pos m) (pos n) h = ap pos (eqb-true m n h)
-same_int-true (negsuc m) (negsuc n) h = ap negsuc (eqb-true m n h)
-same_int-true _ _ h = cc
+same_int-true x y h = grind arith
 
 abbrev same_fractions : Fraction → Fraction → Bool
 same_fractions p q = same_int p.num q.num && (p.den == q.den)
@@ -37,6 +35,4 @@ abbrev pub compared : Surd → Surd → Bool
 compared v w = same_at_all v w (radicands v) && same_at_all v w (radicands w)
 
 pub compared_same : (v w : Surd) → compared v w ≡ true → Same v w
-compared_same v w h =
-    let (a, b) = and_parts (same_at_all v w (radicands v)) (same_at_all v w (radicands w)) h in
-    record { of_first = same_at v w (radicands v) a; of_second = same_at v w (radicands w) b }
+compared_same v w h = grind (arith, same_at)

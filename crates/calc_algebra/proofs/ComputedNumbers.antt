@@ -2,7 +2,6 @@
 use Rattle.std.proofs.Common.{◌≡◌, ℕ, zero, suc, ◌+◌, ◌*◌, ◌^◌, ◌≤◌, ◌<◌, true, refl, arith, inl, inr, ◌/◌, ◌%◌, ap, sym, subst}
 use Rattle.std.specs.Prelude.{◌⊎◌}
 use Rattle.calc_algebra.proofs.Shared.{mod-eq-zero_of_dvd, dvd_of_mod-eq-zero, dvd_trans, square_root, trial_limit, without, left_from, left_of, IsTried, empty_product, one_factor_more, are_alike}
-use Rattle.std.proofs.Math.Nat.{two-pow-succ}
 use Rattle.calc_algebra.proofs.SquareClassLaws.{alike_from, alike_true}
 use native.Mathlib.Nat.{dvd-mul_right, mul-div_cancel'}
 use Prim.Native.Nat.{◌∣◌}
@@ -23,17 +22,10 @@ alike_test r s (t, p, e) = alike_true r s t (record { square = e; positive = p }
 -- ---- trial division
 
 positive_quotient : (d q r : ℕ) → 0 < r → d * q ≡ r → 0 < q
-positive_quotient d zero r p e = absurd (omega arith)
-positive_quotient d (suc q) r p e = omega arith
+positive_quotient d q r p e = grind arith
 
 smaller_quotient : (steps d q r : ℕ) → 2 ≤ d → d * q ≡ r → r < 2 ^ suc steps → q < 2 ^ steps
-smaller_quotient steps d q r h e l = let p = two-pow-succ steps in half q r (twice d q r h e) (2 ^ steps) (omega (arith, p))
-  where
-    twice : (d q r : ℕ) → 2 ≤ d → d * q ≡ r → 2 * q ≤ r
-    twice d q r h e = grind arith
-
-    half : (q r : ℕ) → 2 * q ≤ r → (x : ℕ) → r < x + x → q < x
-    half q r h x l = omega arith
+smaller_quotient steps d q r h e l = grind arith
 
 without_free : (steps d r : ℕ) → 2 ≤ d → 0 < r → r < 2 ^ steps → d ∣ without steps d r → ⊥
 without_free zero d r h p l x = absurd (omega arith)
@@ -68,8 +60,7 @@ tried_times {n = n} empty_product u = subst IsTried (omega arith) u
 tried_times {n = n} (one_factor_more {d} {m} h k t) u = subst IsTried (omega arith) (one_factor_more h k (tried_times t u))
 
 positive_left : (r x m : ℕ) → 0 < r → r ≡ x * m → 0 < x
-positive_left r zero m p e = absurd (omega arith)
-positive_left r (suc x) m p e = omega arith
+positive_left r x m p e = grind arith
 
 free_from : (steps d w x : ℕ) → LeftOf steps (suc d) w x → (d ∣ w → ⊥) → (e : ℕ) → d ≤ e → e < d + suc steps → e ∣ x → ⊥
 free_from steps d w x l none e a b y = by (order d e a)

@@ -1,7 +1,7 @@
 -- Bad and Easy trees from their children, and what their reduced trees tell.
-use Rattle.std.proofs.Common.{◌≡◌, ◌≢◌, ℕ, ◌≤◌, ◌⊎◌, inl, inr, ℤ, pos, negsuc, List, [], ◌∷◌, ◌++◌, true, false, refl, subst}
+use Rattle.std.proofs.Common.{arith, ◌≡◌, ◌≢◌, ℕ, ◌≤◌, ◌⊎◌, inl, inr, ℤ, pos, negsuc, List, [], ◌∷◌, ◌++◌, true, false, refl, subst}
 use Rattle.std.specs.Prelude.{◌≤ℤ◌}
-use Rattle.calc_algebra.proofs.Shared.{HasValue, IsZero, IsWhole, IsNegative, GivesZeroNoPower, IsBadNode, IsBad, IsEasy, Fraction, zero_fraction, whole_fraction, int_is_negative, Means, IsPower, IsRootOf, IsNumber, value, classes, Same, Surd, surd_of, Tree, num, undef, add, mult, power, root, neg, sub, div, Trees, none, more, names, names_of, IsPart, itself, in_add, in_mult, in_base, in_exponent, in_root, in_neg, in_left, in_right, in_dividend, in_divisor, IsPartOf, first, later}
+use Rattle.calc_algebra.proofs.Shared.{HasValue, IsZero, IsWhole, IsNegative, GivesZeroNoPower, IsBadNode, IsBad, IsEasy, Fraction, zero_fraction, whole_fraction, int_is_negative, IsPower, IsRootOf, IsNumber, value, classes, Same, Surd, surd_of, Tree, num, undef, add, mult, power, root, neg, sub, div, Trees, none, more, names, names_of, IsPart, itself, in_add, in_mult, in_base, in_exponent, in_root, in_neg, in_left, in_right, in_dividend, in_divisor, IsPartOf, first, later}
 use Rattle.calc_algebra.proofs.MeaningLaws.{Means-Same, Same-sym}
 use Rattle.calc_algebra.proofs.MeaningRewrites.{KeepsMeanings}
 use Rattle.calc_algebra.proofs.NumberClasses.{number_zero, number_rational, number_short}
@@ -89,8 +89,7 @@ bad_among (more t ts) (inr h) = let (p, k, b) = bad_among ts h in (p, later k, b
 
 -- a sum is Bad exactly where a child is
 sum_by_part : (p : Tree) (ts : Trees) → IsPart p (add ts) → IsBadNode p → HasBad ts
-sum_by_part p ts itself b = absurd b
-sum_by_part p ts (in_add h) b = has_bad p ts h b
+sum_by_part p ts h b = grind (arith, has_bad)
 
 pub bad_sum : (ts : Trees) → IsBad (add ts) → HasBad ts
 bad_sum ts (p, h, b) = sum_by_part p ts h b
@@ -100,8 +99,7 @@ sum_of_bad ts h = let (p, k, b) = bad_among ts h in (p, in_add k, b)
 
 -- and a product
 product_by_part : (p : Tree) (ts : Trees) → IsPart p (mult ts) → IsBadNode p → HasBad ts
-product_by_part p ts itself b = absurd b
-product_by_part p ts (in_mult h) b = has_bad p ts h b
+product_by_part p ts h b = grind (arith, has_bad)
 
 pub bad_product : (ts : Trees) → IsBad (mult ts) → HasBad ts
 bad_product ts (p, h, b) = product_by_part p ts h b
@@ -110,25 +108,20 @@ pub product_of_bad : (ts : Trees) → HasBad ts → IsBad (mult ts)
 product_of_bad ts h = let (p, k, b) = bad_among ts h in (p, in_mult k, b)
 
 neg_by_part : (p a : Tree) → IsPart p (neg a) → IsBadNode p → IsBad a
-neg_by_part p a itself b = absurd b
-neg_by_part p a (in_neg h) b = (p, h, b)
+neg_by_part p a h b = grind arith
 
 pub bad_neg : (a : Tree) → IsBad (neg a) → IsBad a
 bad_neg a (p, h, b) = neg_by_part p a h b
 
 sub_by_part : (p a b : Tree) → IsPart p (sub a b) → IsBadNode p → IsBad a ⊎ IsBad b
-sub_by_part p a b itself n = absurd n
-sub_by_part p a b (in_left h) n = inl (p, h, n)
-sub_by_part p a b (in_right h) n = inr (p, h, n)
+sub_by_part p a b h n = grind arith
 
 pub bad_sub : (a b : Tree) → IsBad (sub a b) → IsBad a ⊎ IsBad b
 bad_sub a b (p, h, n) = sub_by_part p a b h n
 
 -- a quotient is Bad where a child is, or the divisor is zero
 div_by_part : (p a b : Tree) → IsPart p (div a b) → IsBadNode p → IsBad a ⊎ (IsBad b ⊎ IsZero b)
-div_by_part p a b itself n = inr (inr n)
-div_by_part p a b (in_dividend h) n = inl (p, h, n)
-div_by_part p a b (in_divisor h) n = inr (inl (p, h, n))
+div_by_part p a b h n = grind arith
 
 pub bad_div : (a b : Tree) → IsBad (div a b) → IsBad a ⊎ (IsBad b ⊎ IsZero b)
 bad_div a b (p, h, n) = div_by_part p a b h n
@@ -190,9 +183,7 @@ zero_reduced t r k h z = number_zero r h (Same-sym (value_reduced t r [] k h z))
 
 -- and only that
 pub reduced_to_zero : (t r : Tree) → KeepsMeanings t r → r ≡ num zero_fraction → (v : Surd) → HasValue t v → IsZero t
-reduced_to_zero t r k e v m =
-    let n : Means (num zero_fraction) [] v = subst (λ x. Means x [] v) e (k.means [] tt v m) in
-    Means-Same t [] v [] m (Same-trans n (zero_surd_of zero_fraction refl))
+reduced_to_zero t r k e v m = grind (arith, Means-Same, Same-trans, zero_surd_of)
 
 -- what means a whole number is reduced to it
 pub whole_reduced : (t r : Tree) (n : ℤ) → KeepsMeanings t r → IsNumber r → IsWhole t n → r ≡ num (whole_fraction n)
@@ -235,8 +226,7 @@ pub record EasyHalfPower (r x : Tree) : Type 0 where
   pub not_zero : int_is_negative exponent.num ≡ true → r ≢ num zero_fraction
 
 not_negative : (z : ℤ) (d : ℕ) (v : Surd) → IsRootOf z d v → int_is_negative z ≡ false
-not_negative (pos n) d v h = refl
-not_negative (negsuc n) d v h = absurd h
+not_negative z d v h = grind arith
 
 pub easy_power : (b g r x : Tree) → IsEasy (power b g) → ¬ (IsBad (power b g)) → KeepsMeanings b r → KeepsMeanings g x → IsNumber r → IsNumber x → EasyWholePower r x ⊎ EasyHalfPower r x
 easy_power b g r x e n k l h j = let (v, m) = easy_has_value (power b g) e n in by m.0 m.1 v m.2 m.3 m.4

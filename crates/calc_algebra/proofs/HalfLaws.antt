@@ -1,43 +1,24 @@
 -- Halves of odd whole numbers: fractions whose denominator is 2.
-use Rattle.std.proofs.Common.{◌≡◌, ℕ, zero, suc, ◌<◌, ◌%◌, ◌/◌, Bool, true, false, ◌==◌, ℤ, pos, negsuc, ◌+ℤ◌, ◌*ℤ◌, refl, ap, ◌∙◌, subst, arith}
+use Rattle.std.proofs.Common.{◌≡◌, ℕ, ◌%◌, ◌/◌, true, false, ◌==◌, ℤ, pos, negsuc, ◌+ℤ◌, ◌*ℤ◌, refl, ap, ◌∙◌, arith}
 use Rattle.std.specs.Prelude.{nat_abs, nat_lt}
-use Rattle.calc_algebra.proofs.Shared.{eqb-true, eq-eqb, ints, Fraction, lowest, Holds, held, second_held, is_lowest, lowest_parts, same_lowest, plus, plus_lowest, times, times_lowest, whole_fraction, gcd, gcd_in, int_is_even}
+use Rattle.calc_algebra.proofs.Shared.{eqb-true, eq-eqb, ints, Fraction, lowest, Holds, held, is_lowest, lowest_parts, same_lowest, plus, plus_lowest, times, times_lowest, whole_fraction, gcd, gcd_in, int_is_even}
 
 gcd_two : (a r : ℕ) → a % 2 ≡ r → gcd a 2 ≡ gcd_in 1 2 r
 unfolding gcd
 gcd_two a r e = ap (gcd_in 1 2) e
 
 even_abs : (z : ℤ) → int_is_even z ≡ true → nat_abs z % 2 ≡ 0
-even_abs (pos n) h = eqb-true (n % 2) 0 h
-even_abs (negsuc n) h = let e : n % 2 ≡ 1 = eqb-true (n % 2) 1 h in omega arith
-
-no_zero : (r : ℕ) → r < 2 → (r == 0) ≡ false → r ≡ 1
-no_zero zero l h = cc
-no_zero (suc zero) l h = refl
-no_zero (suc (suc r)) l h = absurd (omega arith)
-
-no_one : (r : ℕ) → r < 2 → (r == 1) ≡ false → r ≡ 0
-no_one zero l h = refl
-no_one (suc zero) l h = cc
-no_one (suc (suc r)) l h = absurd (omega arith)
+even_abs z h = grind arith
 
 odd_abs : (z : ℤ) → int_is_even z ≡ false → nat_abs z % 2 ≡ 1
-odd_abs (pos n) h = no_zero (n % 2) (omega arith) h
-odd_abs (negsuc n) h = let e : n % 2 ≡ 0 = no_one (n % 2) (omega arith) h in omega arith
+odd_abs z h = grind arith
 
 one_is_not_two : (a b : ℕ) → a ≡ 1 → b ≡ 2 → a ≡ b → ⊥
 one_is_not_two a b h k e = absurd (omega arith)
 
 -- a numerator over 2 is odd
 pub half_is_odd : (h : Fraction) → h.den ≡ 2 → int_is_even h.num ≡ false
-half_is_odd h d = by (int_is_even h.num) refl
-  where
-    one : gcd (nat_abs h.num) 2 ≡ 1
-    one = subst (λ n. gcd (nat_abs h.num) n ≡ 1) d (eqb-true (gcd (nat_abs h.num) h.den) 1 (second_held (nat_lt 0 h.den) (gcd (nat_abs h.num) h.den == 1) h.lowest))
-
-    by : (b : Bool) → int_is_even h.num ≡ b → int_is_even h.num ≡ false
-    by false e = e
-    by true e = absurd (one_is_not_two _ _ one (gcd_two (nat_abs h.num) 0 (even_abs h.num e)) refl)
+half_is_odd h d = grind (arith, one_is_not_two, gcd_two, even_abs)
 
 pub odd_holds : (n : ℤ) → int_is_even n ≡ false → Holds (is_lowest n 2)
 odd_holds n o = held (nat_lt 0 2) (gcd (nat_abs n) 2 == 1) refl (eq-eqb (gcd (nat_abs n) 2) 1 (gcd_two (nat_abs n) 1 (odd_abs n o)))

@@ -31,9 +31,6 @@ module _ (p r : ℤ) (q s : ℕ) (hq : 0 < q) (hs : 0 < s) where
 pub negative_times : (a b : Fraction) → times (negative a) b ≡ negative (times a b)
 negative_times a b = rw (lowest_parts a, lowest_parts b) (negative_times_in _ _ _ _ (den_pos a) (den_pos b))
 
-pub times_left_comm : (a b c : Fraction) → times a (times b c) ≡ times b (times a c)
-times_left_comm a b c = sym (times_assoc a b c) ∙ ap (λ x. times x c) (times_comm a b) ∙ times_assoc b a c
-
 -- a - b is 0 only for equal fractions
 pub same_from_difference : (a b : Fraction) → plus a (negative b) ≡ zero_fraction → a ≡ b
 same_from_difference a b e =
@@ -64,8 +61,7 @@ Inverts-surd_one = Same-eq (λ i. term (one_times one_fraction i) 1 ∷ [])
 
 -- the inverse of a power
 pub Inverts-surd_power : (n : ℕ) (y w : Surd) → Inverts y w → Inverts (surd_power y n) (surd_power w n)
-Inverts-surd_power zero y w h = Inverts-surd_one
-Inverts-surd_power (suc n) y w h = Agree-Same (inverse_power n y w (Same-Agree h))
+Inverts-surd_power n y w h = grind (arith, Inverts-surd_one, Agree-Same, inverse_power, Same-Agree)
 
 -- two inverses of the same surd are the same
 pub Inverts-one : (y z w : Surd) → Inverts y w → Inverts z w → Same y z
@@ -167,8 +163,7 @@ Inverts-terms a b m r s e =
     turned = omega arith
 
 abs_square : (p : ℤ) → p *ℤ p ≡ pos (nat_abs p * nat_abs p)
-abs_square (pos n) = refl
-abs_square (negsuc n) = refl
+abs_square p = grind arith
 
 -- a * a * r as a quotient of naturals
 squared_over : (a : Fraction) (r : ℕ) → times (times a a) (whole_fraction (pos r)) ≡ quotient (nat_abs a.num * nat_abs a.num * r) (a.den * a.den)
@@ -190,9 +185,7 @@ alike_from_scaled u q v p r s hu hp hr hs e =
     root_pos (suc t) n f h = omega arith
 
 abs_pos : (z : ℤ) → (z ≡ pos 0 → ⊥) → 0 < nat_abs z
-abs_pos (pos zero) h = absurd (h refl)
-abs_pos (pos (suc n)) h = omega arith
-abs_pos (negsuc n) h = omega arith
+abs_pos z h = grind arith
 
 -- for roots that are not alike the difference of the squares is not 0
 pub difference_not_zero : (a b : Fraction) (r s : ℕ) → a ≢ zero_fraction → 0 < r → 0 < s → are_alike r s ≡ false → square_difference a r b s ≢ zero_fraction

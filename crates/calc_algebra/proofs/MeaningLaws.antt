@@ -10,14 +10,10 @@ pub Same-sym : {v w : Surd} → Same v w → Same w v
 Same-sym h = record { of_first = λ s c. sym (h.of_second s c); of_second = λ s c. sym (h.of_first s c) }
 
 power_same : (n : ℤ) (w v u : Surd) → IsWholePower n w v → Same v u → IsWholePower n w u
-power_same (pos zero) w v u (h, k) e = (h, Same-trans (Same-sym e) k)
-power_same (pos (suc n)) w v u h e = Same-trans (Same-sym e) h
-power_same (negsuc n) w v u (y, h, k) e = (y, h, Same-trans (Same-sym e) k)
+power_same n w v u h e = grind (arith, Same-trans, Same-sym)
 
 root_same : (p : ℤ) (q : ℕ) (v u : Surd) → IsRootOf p q v → Same v u → IsRootOf p q u
-root_same (pos zero) q v u h e = Same-trans (Same-sym e) h
-root_same (pos (suc p)) q v u h e = Same-trans (Same-sym e) h
-root_same (negsuc p) q v u h e = h
+root_same p q v u h e = grind (arith, Same-trans, Same-sym)
 
 row_same : (w x v u : Surd) → IsPower w x v → Same v u → IsPower w x u
 row_same w x v u (inl (n, i, h)) e = inl (n, i, power_same n w v u h e)
@@ -57,9 +53,7 @@ one_power (pos (suc n)) w x v u a h k = join h k (Agree-surd_power (suc n) a)
 one_power (negsuc n) w x v u a (y, i, h) (y', i', h') = join h h' (Agree-surd_power (suc n) (one_inverse' y y' w x i i' a))
 
 one_root : (p : ℤ) (q : ℕ) (v u : Surd) → IsRootOf p q v → IsRootOf p q u → Agree v u
-one_root (pos zero) q v u h k = join h k (Agree-refl [])
-one_root (pos (suc p)) q v u h k = join h k (Agree-refl _)
-one_root (negsuc p) q v u h k = absurd h
+one_root p q v u h k = grind (arith, join, Agree-refl)
 
 -- a surd that is two rationals
 pub one_rational : (p q : Fraction) (x y : Surd) → Agree x y → Same x (surd_of p) → Same y (surd_of q) → p ≡ q
@@ -88,8 +82,7 @@ one_row w w' x x' v u a b (inr (q, d, i, r, k, h)) (inr (q', d', i', r', k', h')
 
 -- one element is the first or is contained in the rest
 at_front : {X : Type 0} (x : X) (xs : List X) (z : X) → Contains (x ∷ xs) z → (x ≡ z) ⊎ Contains xs z
-at_front x xs z (zero, l, e) = inl e
-at_front x xs z (suc k, l, e) = inr (k, omega arith, e)
+at_front x xs z h = grind arith
 
 name_bound : (f : Assignment) (b : Binding) → Contains f b → Contains (bound_names f) b.name
 name_bound f b (k, l, e) = (k, rw length-map l, get_or-map (λ b. b.name) f k b b.name l ∙ ap (λ b. b.name) e)

@@ -79,9 +79,7 @@ pub product_one : (f : Assignment) (t : Tree) (v : Surd) → Means t f v → Mea
 product_one f t v m = product_more f t none v v surd_one m (product_none f surd_one (Same-refl surd_one)) (Agree-Same (Agree-sym (surd_times-one v)))
 
 pub one_product : (f : Assignment) (t : Tree) (v : Surd) → Means (mult (more t none)) f v → Means t f v
-one_product f t v m =
-    let p = product_parts f t none v m in
-    Means-Same t f p.first v p.first_means (Same-sym (Same-trans p.same (Same-trans (Same-surd_times (Same-refl p.first) (none_product f p.rest p.rest_means)) (Agree-Same (surd_times-one p.first)))))
+one_product f t v m = grind (arith, product_parts, Means-Same, Same-sym, Same-trans, Same-surd_times, Same-refl, none_product, Agree-Same, surd_times-one)
 
 -- two children
 pub sum_two : (f : Assignment) (t u : Tree) (v a b : Surd) → Means t f a → Means u f b → Same v (a ++ b) → Means (add (two t u)) f v

@@ -1,7 +1,7 @@
 -- The names in trees, and in lists of trees.
 use Rattle.std.proofs.Common.{ℕ, ◌≡◌, ◌⊎◌, inl, inr, true, List, [], ◌++◌, refl, sym, ap, ◌∙◌, subst, append_assoc, arith}
 use Rattle.std.specs.Prelude.{Contains}
-use Rattle.calc_algebra.proofs.Shared.{Contains-append_left, Contains-append_right, Contains-append_cases, IsNumber, IsTerm, AreTerms, is_number, Tree, num, add, mult, root, Trees, none, more, append, names, names_of, HasNoNewName}
+use Rattle.calc_algebra.proofs.Shared.{Contains-append_left, Contains-append_right, Contains-append_cases, IsNumber, IsTerm, AreTerms, is_number, Tree, Trees, none, more, append, names, names_of, HasNoNewName}
 use Rattle.calc_algebra.proofs.MeaningRewrites.{Permuted, permuted_none, permuted_more, permuted_swap, permuted_trans}
 use Rattle.calc_algebra.proofs.NumberLaws.{number_words}
 
@@ -66,21 +66,14 @@ names_permuted (permuted_trans h k) = within_trans (names_permuted h) (names_per
 -- ---- Numbers have no names
 
 names_of_term : (t : Tree) → IsTerm t → names t ≡ []
-names_of_term (num q) h = refl
-names_of_term (root (num r)) h = refl
-names_of_term (mult (more (num q) (more (root (num r)) none))) h = refl
-names_of_term t h = absurd h
+names_of_term t h = grind arith
 
 names_of_terms : (ts : Trees) → AreTerms ts → names_of ts ≡ []
 names_of_terms none h = refl
 names_of_terms (more t ts) h = rw (names_of_term t h.0, names_of_terms ts h.1) refl
 
 names_of_a_number : (t : Tree) → IsNumber t → names t ≡ []
-names_of_a_number (num q) h = refl
-names_of_a_number (add ts) h = names_of_terms ts h.1
-names_of_a_number (root a) h = names_of_term (root a) h
-names_of_a_number (mult ts) h = names_of_term (mult ts) h
-names_of_a_number t h = absurd h
+names_of_a_number t h = grind (arith, names_of_terms, names_of_term)
 
 pub number_names : (t : Tree) → is_number t ≡ true → names t ≡ []
 number_names t h = names_of_a_number t (number_words t h)

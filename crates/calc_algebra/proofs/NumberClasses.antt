@@ -1,7 +1,7 @@
 -- What the value of a Number tells of its tree, with no bound on radicands: zero, a rational, how many classes.
 use Rattle.std.proofs.Common.{◌≡◌, ◌≢◌, ℕ, zero, suc, ◌*◌, ◌<◌, ◌≤◌, ◌⊎◌, inl, inr, pos, [], ◌∷◌, Bool, true, false, ◌==◌, ◌&&◌, length, refl, sym, ap, ◌∙◌, arith, subst}
 use Rattle.std.specs.Prelude.{⊤, nat_le}
-use Rattle.calc_algebra.proofs.Shared.{false_from_ne_true, IsClean, times_comm, one_times, zero_plus, Fraction, plus, times, zero_fraction, one_fraction, plus_comm, quotient, same_lowest, IsNumber, IsTerm, AreTerms, IsBelowAll, Rises, value, classes, term_of, terms_of, are_alike, term_share, class_coefficient, Same, square_root, Term, Surd, term, surd_of, Tree, num, add, Trees, none, more}
+use Rattle.calc_algebra.proofs.Shared.{false_from_ne_true, IsClean, times_comm, one_times, zero_plus, Fraction, plus, times, zero_fraction, one_fraction, plus_comm, quotient, same_lowest, IsNumber, IsTerm, AreTerms, IsBelowAll, Rises, value, classes, term_of, terms_of, are_alike, term_share, class_coefficient, Same, square_root, Term, Surd, term, surd_of, Tree, num, Trees, none, more}
 use Rattle.calc_algebra.proofs.CleanLaws.{clean_no_square}
 use Rattle.calc_algebra.proofs.InverseLaws.{one_is_not_zero}
 use Rattle.calc_algebra.proofs.MeaningLaws.{Same-sym, surd_of_one}
@@ -72,9 +72,7 @@ pub one_not_zero : one_fraction ≢ zero_fraction
 one_not_zero e = one_is_not_zero (zero_surd_of one_fraction e)
 
 by_kind : (t : Tree) → AsTerm t → IsProper (term_of t)
-by_kind t (inl a) = subst IsProper (sym a.term_is) (record { not_zero = a.not_zero; positive = omega arith })
-by_kind t (inr (inl a)) = subst IsProper (sym a.term_is) (record { not_zero = one_not_zero; positive = let l = a.two in omega arith })
-by_kind t (inr (inr a)) = subst IsProper (sym a.term_is) (record { not_zero = a.not_zero; positive = let l = a.two in omega arith })
+by_kind t h = grind (arith, one_not_zero)
 
 pub term_proper : (t : Tree) → IsTerm t → IsProper (term_of t)
 term_proper t h = by_kind t (as_term t h)
@@ -89,11 +87,7 @@ record IsValue (v : Surd) : Type 0 where
   rising : Rises v
 
 by_form : (t : Tree) → AsNumber t → IsNumber t → IsValue (value t)
-by_form t (inl a) h = subst IsValue (sym a.value_is) (record { proper = tt; rising = tt })
-by_form t (inr (inl a)) h = subst IsValue (sym a.value_is) (record { proper = (term_proper t a.one, tt); rising = (tt, tt) })
-by_form t (inr (inr a)) h =
-    let k : IsNumber (add a.ts) = subst IsNumber a.is h in
-    subst IsValue (sym a.value_is) (record { proper = terms_proper a.ts a.are; rising = k.2 })
+by_form t h k = grind (arith, term_proper, terms_proper)
 
 is_value : (t : Tree) → IsNumber t → IsValue (value t)
 is_value t h = by_form t (as_number t h) h
@@ -111,9 +105,7 @@ no_terms [] h e = refl
 no_terms (t ∷ v) h e = absurd (proper_not_zero t v (h.proper.0) (h.rising.0) e)
 
 zero_by_form : (t : Tree) → value t ≡ [] → AsNumber t → t ≡ num zero_fraction
-zero_by_form t e (inl a) = a.is
-zero_by_form t e (inr (inl a)) = let f : term_of t ∷ [] ≡ [] = sym a.value_is ∙ e in cc
-zero_by_form t e (inr (inr a)) = absurd (let f : length (terms_of a.ts) ≡ 0 = ap length (sym a.value_is ∙ e) in let l = a.two in omega arith)
+zero_by_form t e h = grind arith
 
 -- a Number that is zero is Num 0
 pub number_zero : (t : Tree) → IsNumber t → Same (value t) [] → t ≡ num zero_fraction
@@ -122,11 +114,7 @@ number_zero t h e = zero_by_form t (no_terms (value t) (is_value t h) e) (as_num
 -- ---- a rational
 
 share_found : (q : Fraction) (r s : ℕ) → term_share (term q r) s ≢ zero_fraction → are_alike r s ≡ true
-share_found q r s h = by (are_alike r s) refl
-  where
-    by : (b : Bool) → are_alike r s ≡ b → are_alike r s ≡ true
-    by true e = e
-    by false e = absurd (h (share_apart q r s e))
+share_found q r s h = grind arith
 
 -- where a list agrees with one term, a coefficient other than 0 tells that the radicand is alike
 alike_one : (v : Surd) (q : Fraction) (r s : ℕ) → Agree v (term q r ∷ []) → class_coefficient v s ≢ zero_fraction → are_alike r s ≡ true
@@ -194,12 +182,7 @@ clash r s h k = cc
 -- of three numbers, each alike one of two, two are alike
 pigeonhole : (r c x y z : ℕ) → are_alike x y ≡ false → are_alike x z ≡ false → are_alike y z ≡ false
     → (are_alike r x ≡ true) ⊎ (are_alike c x ≡ true) → (are_alike r y ≡ true) ⊎ (are_alike c y ≡ true) → (are_alike r z ≡ true) ⊎ (are_alike c z ≡ true) → ⊥
-pigeonhole r c x y z a b d (inl p) (inl q) k = clash x y a (alike_common x y r p q)
-pigeonhole r c x y z a b d (inr p) (inr q) k = clash x y a (alike_common x y c p q)
-pigeonhole r c x y z a b d (inl p) (inr q) (inl k) = clash x z b (alike_common x z r p k)
-pigeonhole r c x y z a b d (inl p) (inr q) (inr k) = clash y z d (alike_common y z c q k)
-pigeonhole r c x y z a b d (inr p) (inl q) (inl k) = clash y z d (alike_common y z r q k)
-pigeonhole r c x y z a b d (inr p) (inl q) (inr k) = clash x z b (alike_common x z c p k)
+pigeonhole r c x y z a b d h k l = grind (arith, clash, alike_common)
 
 three_not_two : (t u x : Term) (v : Surd) (p q : Fraction) (r c : ℕ) → AreProper (t ∷ u ∷ x ∷ v) → Rises (t ∷ u ∷ x ∷ v) → Agree (t ∷ u ∷ x ∷ v) (term p r ∷ term q c ∷ []) → ⊥
 three_not_two t u x v p q r c (s, (s', (s'', ss))) (b, (b', (b'', bs))) a =

@@ -1,6 +1,6 @@
 -- The tests for clean radicands and for Numbers say what their words say, both ways.
-use Rattle.std.proofs.Common.{◌≡◌, ℕ, zero, suc, ◌+◌, ◌*◌, ◌%◌, ◌≤◌, ◌<◌, ◌⊎◌, inl, inr, Bool, true, false, not, ◌&&◌, ◌||◌, refl, sym, ap, ◌∙◌, arith, subst, ℤ, pos, negsuc, [], ◌∷◌, nat_lt, nat_le, ◌==◌, length}
-use Rattle.calc_algebra.proofs.Shared.{mod-eq-zero_of_dvd, dvd_of_mod-eq-zero, and_from, not_from_false, le-leb, lt-ltb, eq-eqb, and_parts, ltb-true, leb-true, eqb-true, not-true, no_zero, no_one, zero_test, one_test, left_of, is_clean, IsClean, no_square_divides, Fraction, is_one_fraction, is_zero_fraction, IsRadicand, IsTerm, IsNumber, AreTerms, IsBelowAll, Rises, natural_of, terms_of, is_radicand, is_term, rises, is_number, are_terms, is_below_all, are_numbers, are_alike, square_root, Term, Surd, Tree, num, add, mult, root, Trees, none, more, undef, has_undef, is_undef}
+use Rattle.std.proofs.Common.{◌≡◌, ℕ, zero, suc, ◌+◌, ◌*◌, ◌%◌, ◌≤◌, ◌<◌, ◌⊎◌, inl, inr, Bool, true, false, not, ◌&&◌, ◌||◌, refl, sym, ap, ◌∙◌, arith, [], ◌∷◌, nat_lt, nat_le, ◌==◌, length}
+use Rattle.calc_algebra.proofs.Shared.{mod-eq-zero_of_dvd, dvd_of_mod-eq-zero, and_from, not_from_false, le-leb, lt-ltb, eq-eqb, and_parts, ltb-true, leb-true, eqb-true, not-true, no_zero, no_one, zero_test, one_test, left_of, is_clean, IsClean, no_square_divides, Fraction, IsRadicand, IsTerm, IsNumber, AreTerms, IsBelowAll, Rises, terms_of, is_radicand, is_term, rises, is_number, are_terms, is_below_all, are_numbers, are_alike, square_root, Term, Surd, Tree, num, add, mult, root, Trees, none, more, undef, has_undef, is_undef}
 use Rattle.calc_algebra.proofs.SquareRootLaws.{square_root-square}
 use Prim.Native.Nat.{◌∣◌}
 
@@ -20,11 +20,7 @@ none_below (suc steps) d r e h a b x = by (r % (d * d)) refl h (λ h' a'. none_b
     by (suc m) p h go (inr q) = go h q
 
 not_both : (a b : Bool) → not (a && b) ≡ true → a ≡ true → b ≡ true → ⊥
-not_both a b h p q = let e : (a && b) ≡ true = (λ i. p i && q i) in clash (a && b) h e
-  where
-    clash : (x : Bool) → not x ≡ true → x ≡ true → ⊥
-    clash true h e = cc
-    clash false h e = cc
+not_both a b h p q = grind arith
 
 pub clean_words : (r : ℕ) → is_clean r ≡ true → IsClean r
 unfolding is_clean
@@ -65,23 +61,10 @@ clean_test r h =
     by false y e f = refl
 
 radicand_words : (q : Fraction) → is_radicand q ≡ true → IsRadicand q
-radicand_words q h =
-    let (dr, c) = and_parts ((q.den == 1) && nat_le 2 (natural_of q.num)) (is_clean (natural_of q.num)) h in
-    let (d, r) = and_parts (q.den == 1) (nat_le 2 (natural_of q.num)) dr in
-    (eqb-true q.den 1 d, natural_of q.num, whole q.num r, leb-true 2 (natural_of q.num) r, clean_words (natural_of q.num) c)
-  where
-    whole : (z : ℤ) → nat_le 2 (natural_of z) ≡ true → z ≡ pos (natural_of z)
-    whole (pos n) h = refl
-    whole (negsuc n) h = cc
+radicand_words q h = grind (arith, clean_words)
 
 pub term_words : (t : Tree) → is_term t ≡ true → IsTerm t
-term_words (num q) h = no_zero q h
-term_words (root (num r)) h = radicand_words r h
-term_words (mult (more (num q) (more (root (num r)) none))) h =
-    let (ab, c) = and_parts (not (is_zero_fraction q) && not (is_one_fraction q)) (is_radicand r) h in
-    let (a, b) = and_parts (not (is_zero_fraction q)) (not (is_one_fraction q)) ab in
-    (no_zero q a, no_one q b, radicand_words r c)
-term_words _ h = cc
+term_words t h = grind (arith, no_zero, radicand_words, no_one)
 
 terms_words : (ts : Trees) → are_terms ts ≡ true → AreTerms ts
 terms_words none h = tt
@@ -112,15 +95,10 @@ number_words _ h = cc
 -- ---- from the words to the test
 
 radicand_test : (q : Fraction) → IsRadicand q → is_radicand q ≡ true
-radicand_test q (d, r, e, h, c) =
-    let g : natural_of q.num ≡ r = ap natural_of e in
-    and_from _ _ (and_from _ _ (eq-eqb q.den 1 d) (le-leb 2 (natural_of q.num) (rw g h))) (clean_test (natural_of q.num) (subst IsClean (sym g) c))
+radicand_test q h = grind (arith, and_from, clean_test)
 
 term_test : (t : Tree) → IsTerm t → is_term t ≡ true
-term_test (num q) h = not_from_false _ (zero_test q h)
-term_test (root (num r)) h = radicand_test r h
-term_test (mult (more (num q) (more (root (num r)) none))) h = and_from _ _ (and_from _ _ (not_from_false _ (zero_test q h.0)) (not_from_false _ (one_test q h.1))) (radicand_test r h.2)
-term_test _ h = absurd h
+term_test t h = grind (arith, not_from_false, zero_test, radicand_test, and_from, one_test)
 
 terms_test : (ts : Trees) → AreTerms ts → are_terms ts ≡ true
 terms_test none h = refl

@@ -1,5 +1,5 @@
 -- Rewritings with Numbers that keep meanings: their sums, products, powers, inverses and roots, and coefficients.
-use Rattle.std.proofs.Common.{◌≡◌, ◌≢◌, ℕ, zero, suc, ◌*◌, ◌<◌, ℤ, pos, negsuc, [], ◌∷◌, ◌++◌, Bool, true, false, if◌then◌else◌, sym, ap, ◌∙◌, arith, subst}
+use Rattle.std.proofs.Common.{◌≡◌, ◌≢◌, ℕ, suc, ◌*◌, ◌<◌, ℤ, pos, negsuc, [], ◌∷◌, ◌++◌, Bool, true, false, if◌then◌else◌, sym, ap, ◌∙◌, arith, subst}
 use Rattle.calc_algebra.proofs.Shared.{fraction_power, Fraction, lowest, times, inverse, zero_fraction, whole_fraction, lowest_parts, times_lowest, Assignment, IsAssignment, Means, IsRootOf, IsNumber, value, is_radicand, is_number, split, split_product, product_tree, part_of, num_one, Same, Inverts, Surd, term, surd_of, surd_power, Tree, num, add, mult, power, root, Trees, none, more}
 use Rattle.calc_algebra.proofs.MeaningLaws.{one_meaning, Means-Same, Same-sym, surd_of_one}
 use Rattle.calc_algebra.proofs.NumberValues.{number_means}
@@ -79,9 +79,7 @@ fraction_whole q e = lowest_parts q ∙ ap (lowest q.num) e
 -- ---- roots of rationals
 
 one_root_of : (z : ℤ) (d : ℕ) (v w : Surd) → IsRootOf z d v → IsRootOf z d w → Same v w
-one_root_of (pos zero) d v w h k = Same-trans h (Same-sym k)
-one_root_of (pos (suc p)) d v w h k = Same-trans h (Same-sym k)
-one_root_of (negsuc p) d v w h k = absurd h
+one_root_of z d v w h k = grind (arith, Same-trans, Same-sym)
 
 -- a meaning of the root of p/q
 pub root_parts : (f : Assignment) (q : Fraction) (v : Surd) → Means (root (num q)) f v → IsRootOf q.num q.den v

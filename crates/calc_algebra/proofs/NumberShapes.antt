@@ -1,5 +1,5 @@
 -- The shapes of a Number, and that it is told by its value.
-use Rattle.std.proofs.Common.{◌≡◌, ◌≢◌, ℕ, ◌≤◌, ◌⊎◌, inl, inr, pos, [], ◌∷◌, Bool, true, false, if◌then◌else◌, length, refl, sym, ap, ◌∙◌, arith}
+use Rattle.std.proofs.Common.{◌≡◌, ◌≢◌, ℕ, ◌≤◌, ◌⊎◌, inl, inr, pos, [], ◌∷◌, Bool, true, false, if◌then◌else◌, length, refl, ap, ◌∙◌, arith}
 use Rattle.calc_algebra.proofs.Shared.{not_from_false, IsClean, Fraction, lowest, zero_fraction, one_fraction, is_zero_fraction, lowest_parts, whole_fraction, IsNumber, IsTerm, AreTerms, value, term_of, terms_of, natural_of, Term, Surd, term, surd_of, Tree, num, add, mult, root, Trees, none, more, zero_is, no_zero}
 
 -- ---- terms as trees
@@ -49,24 +49,8 @@ as_term (mult (more (num q) (more (root (num r)) none))) (y, z, (d, n, e, l, c))
 }))
 as_term t h = absurd h
 
-coefficients : {t u : Term} → t ≡ u → t.coefficient ≡ u.coefficient
-coefficients e = ap (λ x. x.coefficient) e
-
-radicands_of : {t u : Term} → t ≡ u → t.radicand ≡ u.radicand
-radicands_of e = ap (λ x. x.radicand) e
-
 by_term : (t u : Tree) → term_of t ≡ term_of u → AsTerm t → AsTerm u → t ≡ u
-by_term t u e (inl a) (inl b) = a.is ∙ ap num (coefficients (sym a.term_is ∙ e ∙ b.term_is)) ∙ sym b.is
-by_term t u e (inl a) (inr (inl b)) = absurd (let f : 1 ≡ b.n = radicands_of (sym a.term_is ∙ e ∙ b.term_is) in omega arith)
-by_term t u e (inl a) (inr (inr b)) = absurd (let f : 1 ≡ b.n = radicands_of (sym a.term_is ∙ e ∙ b.term_is) in omega arith)
-by_term t u e (inr (inl a)) (inl b) = absurd (let f : a.n ≡ 1 = radicands_of (sym a.term_is ∙ e ∙ b.term_is) in omega arith)
-by_term t u e (inr (inl a)) (inr (inl b)) = a.is ∙ ap (λ n. root (num (whole_fraction (pos n)))) (radicands_of (sym a.term_is ∙ e ∙ b.term_is)) ∙ sym b.is
-by_term t u e (inr (inl a)) (inr (inr b)) = absurd (b.not_one (sym (coefficients (sym a.term_is ∙ e ∙ b.term_is))))
-by_term t u e (inr (inr a)) (inl b) = absurd (let f : a.n ≡ 1 = radicands_of (sym a.term_is ∙ e ∙ b.term_is) in omega arith)
-by_term t u e (inr (inr a)) (inr (inl b)) = absurd (a.not_one (coefficients (sym a.term_is ∙ e ∙ b.term_is)))
-by_term t u e (inr (inr a)) (inr (inr b)) =
-    let f : term a.q a.n ≡ term b.q b.n = sym a.term_is ∙ e ∙ b.term_is in
-    a.is ∙ (λ i. mult (more (num (coefficients f i)) (more (root (num (whole_fraction (pos (radicands_of f i))))) none))) ∙ sym b.is
+by_term t u e h k = grind arith
 
 -- a term is told by its coefficient and its radicand
 pub one_term : (t u : Tree) → IsTerm t → IsTerm u → term_of t ≡ term_of u → t ≡ u
@@ -117,15 +101,7 @@ as_number (mult ts) h = inr (inl (record { one = h; value_is = refl }))
 as_number t h = absurd h
 
 by_value : (t u : Tree) → value t ≡ value u → AsNumber t → AsNumber u → t ≡ u
-by_value t u e (inl a) (inl b) = a.is ∙ sym b.is
-by_value t u e (inl a) (inr (inl b)) = let f : [] ≡ term_of u ∷ [] = sym a.value_is ∙ e ∙ b.value_is in cc
-by_value t u e (inl a) (inr (inr b)) = absurd (let f : 0 ≡ length (terms_of b.ts) = ap length (sym a.value_is ∙ e ∙ b.value_is) in let g : 2 ≤ length (terms_of b.ts) = b.two in omega arith)
-by_value t u e (inr (inl a)) (inl b) = let f : term_of t ∷ [] ≡ [] = sym a.value_is ∙ e ∙ b.value_is in cc
-by_value t u e (inr (inl a)) (inr (inl b)) = one_term t u a.one b.one (first_is (sym a.value_is ∙ e ∙ b.value_is))
-by_value t u e (inr (inl a)) (inr (inr b)) = absurd (let f : 1 ≡ length (terms_of b.ts) = ap length (sym a.value_is ∙ e ∙ b.value_is) in let g : 2 ≤ length (terms_of b.ts) = b.two in omega arith)
-by_value t u e (inr (inr a)) (inl b) = absurd (let f : length (terms_of a.ts) ≡ 0 = ap length (sym a.value_is ∙ e ∙ b.value_is) in let g : 2 ≤ length (terms_of a.ts) = a.two in omega arith)
-by_value t u e (inr (inr a)) (inr (inl b)) = absurd (let f : length (terms_of a.ts) ≡ 1 = ap length (sym a.value_is ∙ e ∙ b.value_is) in let g : 2 ≤ length (terms_of a.ts) = a.two in omega arith)
-by_value t u e (inr (inr a)) (inr (inr b)) = a.is ∙ ap add (one_list_of_terms a.ts b.ts a.are b.are (sym a.value_is ∙ e ∙ b.value_is)) ∙ sym b.is
+by_value t u e h k = grind (arith, one_term, first_is, one_list_of_terms)
 
 -- a Number is told by its value
 pub one_number_of_value : (t u : Tree) → IsNumber t → IsNumber u → value t ≡ value u → t ≡ u

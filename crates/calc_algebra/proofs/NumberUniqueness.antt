@@ -1,7 +1,7 @@
 -- Numbers with the same value, all radicands below 10^12, are one tree.
 use Rattle.std.proofs.Common.{◌≡◌, ◌≢◌, ℕ, ◌<◌, ◌≤◌, ◌^◌, ◌⊎◌, inl, inr, [], ◌∷◌, refl, sym, ap, ◌∙◌, arith, subst}
 use Rattle.std.specs.Prelude.{Contains, ⊤}
-use Rattle.calc_algebra.proofs.Shared.{false_from_ne_true, Contains-append_right, IsClean, zero_plus, plus_negative, Fraction, plus, negative, zero_fraction, one_fraction, plus_comm, plus_assoc, IsNumber, IsTerm, AreTerms, IsBelowAll, Rises, value, term_of, terms_of, are_alike, term_share, class_coefficient, radicands, Same, Term, Surd, term, Tree, add, Trees, none, more}
+use Rattle.calc_algebra.proofs.Shared.{false_from_ne_true, Contains-append_right, IsClean, zero_plus, plus_negative, Fraction, plus, negative, zero_fraction, one_fraction, plus_comm, plus_assoc, IsNumber, IsTerm, AreTerms, IsBelowAll, Rises, value, term_of, terms_of, term_share, class_coefficient, radicands, Same, Term, Surd, term, Tree, add, Trees, none, more}
 use Rattle.calc_algebra.proofs.NumberShapes.{AsTerm, as_term, AsNumber, as_number, one_number_of_value}
 use Rattle.calc_algebra.proofs.NumberClasses.{IsProper, first_coefficient, one_not_zero}
 use Rattle.calc_algebra.proofs.CleanLaws.{IsSquareFree, clean_square_free, one_square_free, alike_square_free}
@@ -24,20 +24,13 @@ abbrev IsBelow : ℕ → Surd → Type 0
 IsBelow r [] = ⊤
 IsBelow r (u ∷ v) = (r < u.radicand) × IsBelow r v
 
-below_all : (t : Term) (v : Surd) → IsBelowAll t v → IsBelow t.radicand v
-below_all t [] h = tt
-below_all t (u ∷ v) (a, b, c) = (a, below_all t v c)
-
 below_first : (r : ℕ) (t : Term) (v : Surd) → r < t.radicand → IsBelowAll t v → IsBelow r v
 below_first r t [] h b = tt
 below_first r t (u ∷ v) h (a, b, c) = (omega arith, below_first r t v h c)
 
 -- a term gives nothing to a smaller square-free radicand
 share_below : (r : ℕ) (t : Term) → IsSquareFree r → IsSimplest t → r < t.radicand → term_share t r ≡ zero_fraction
-share_below r t f s h = share_apart t.coefficient t.radicand r (false_from_ne_true (are_alike t.radicand r) (λ a. absurd (unequal (alike_square_free t.radicand r a s.square_free f))))
-  where
-    unequal : t.radicand ≡ r → ⊥
-    unequal e = omega arith
+share_below r t f s h = grind (arith, share_apart, false_from_ne_true, alike_square_free)
 
 none_below : (r : ℕ) (v : Surd) → IsSquareFree r → AreSimplest v → IsBelow r v → class_coefficient v r ≡ zero_fraction
 none_below r [] f s h = refl

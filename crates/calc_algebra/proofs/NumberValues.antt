@@ -1,24 +1,14 @@
 -- A Number means its terms under every assignment.
-use Rattle.std.proofs.Common.{◌≡◌, ℕ, zero, suc, ◌*◌, ◌≤◌, ℤ, pos, negsuc, [], ◌∷◌, Bool, true, false, if◌then◌else◌, refl, sym, ap, ◌∙◌, arith}
-use Rattle.calc_algebra.proofs.Shared.{times_comm, one_times, zero_times, zero_plus, Fraction, lowest, times, zero_fraction, one_fraction, plus, quotient, int_is_zero, Assignment, Means, MeansSum, IsRootOf, IsNumber, IsTerm, IsRadicand, value, term_of, terms_of, natural_of, AreTerms, Same, term_share, are_alike, square_root, Surd, term, surd_one, surd_times, surd_of, Tree, num, add, mult, root, Trees, none, more, zero_is}
+use Rattle.std.proofs.Common.{◌≡◌, ℕ, ◌*◌, ◌≤◌, ℤ, pos, [], ◌∷◌, Bool, true, false, if◌then◌else◌, refl, sym, ap, ◌∙◌, arith}
+use Rattle.calc_algebra.proofs.Shared.{times_comm, one_times, zero_times, zero_plus, Fraction, times, zero_fraction, one_fraction, plus, quotient, int_is_zero, Assignment, Means, MeansSum, IsRootOf, IsNumber, IsTerm, IsRadicand, value, term_of, terms_of, natural_of, AreTerms, Same, term_share, are_alike, square_root, Surd, term, surd_one, surd_times, surd_of, Tree, num, add, mult, root, Trees, none, more, zero_is}
 use Rattle.calc_algebra.proofs.SurdLaws.{Agree, Agree-refl, Agree-trans, Agree-eq, Agree-Same}
-use native.Mathlib.Nat.{mul-one}
 
 Same-refl : (v : Surd) → Same v v
 Same-refl v = Agree-Same (Agree-refl v)
 
 root_of_whole : (p : ℤ) (n r : ℕ) → n ≡ 1 → p ≡ pos r → 2 ≤ r → IsRootOf p n (term one_fraction (natural_of p) ∷ [])
 unfolding one_fraction
-root_of_whole (pos zero) n r d e h = absurd (zero_two r e h)
-  where
-    zero_two : (r : ℕ) → pos zero ≡ pos r → 2 ≤ r → ⊥
-    zero_two zero e h = omega arith
-    zero_two (suc r) e h = cc
-root_of_whole (pos (suc k)) n r d e h = Agree-Same (Agree-eq (λ i. term (lowest (pos 1) (sym d i)) (size i) ∷ []))
-  where
-    size : suc k ≡ suc k * n
-    size = sym (ap (λ x. suc k * x) d ∙ mul-one (suc k))
-root_of_whole (negsuc k) n r d e h = cc
+root_of_whole p n r d e h = grind arith
 
 root_means : (q : Fraction) (f : Assignment) → IsRadicand q → Means (root (num q)) f (term one_fraction (natural_of q.num) ∷ [])
 root_means q f (d, r, e, h, c) = (surd_of q, Same-refl (surd_of q), (q, Same-refl (surd_of q), root_of_whole q.num q.den r d e h))

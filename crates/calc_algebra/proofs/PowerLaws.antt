@@ -1,6 +1,6 @@
 -- Powers: laws of exponents for natural and for whole exponents, powers of products, of powers and of roots, and powers of rationals.
-use Rattle.std.proofs.Common.{◌≡◌, ◌≢◌, ℕ, zero, suc, ◌+◌, ◌*◌, ◌<◌, ◌⊎◌, inl, inr, ℤ, pos, negsuc, neg_ℤ, ◌+ℤ◌, ◌*ℤ◌, [], refl, sym, ap, ◌∙◌, arith, subst}
-use Rattle.calc_algebra.proofs.Shared.{ints, fraction_power, Fraction, lowest, times, inverse, zero_fraction, same_lowest, lowest_parts, den_pos, times_lowest, mul_pos, whole_fraction, gcd, parts, diff_eq, mul_diff, IsWholePower, IsRootOf, IsRoot, Same, Inverts, Surd, surd_of, surd_one, surd_times, surd_power}
+use Rattle.std.proofs.Common.{◌≡◌, ℕ, zero, suc, ◌+◌, ◌*◌, ◌<◌, ◌⊎◌, inl, inr, ℤ, pos, negsuc, neg_ℤ, ◌+ℤ◌, ◌*ℤ◌, [], refl, sym, ap, ◌∙◌, arith, subst}
+use Rattle.calc_algebra.proofs.Shared.{ints, fraction_power, Fraction, lowest, times, zero_fraction, same_lowest, lowest_parts, den_pos, times_lowest, mul_pos, whole_fraction, gcd, parts, diff_eq, mul_diff, IsWholePower, IsRootOf, IsRoot, Same, Inverts, Surd, surd_of, surd_one, surd_times, surd_power}
 use Rattle.calc_algebra.proofs.MeaningLaws.{class_coefficient-surd_of, Same-sym}
 use Rattle.calc_algebra.proofs.SquareClassLaws.{Same-Agree, Same-trans}
 use Rattle.calc_algebra.proofs.SurdLaws.{Agree, Agree-refl, Agree-sym, Agree-trans, Agree-eq, Agree-Same, Agree-surd_times, Agree-surd_times_right, Agree-surd_power, surd_times_comm, surd_times_assoc, surd_times-surd_one, surd_times-one, surd_times_exchange}
@@ -11,8 +11,7 @@ use borrow.Author.Differences.{up, down}
 -- ---- natural exponents
 
 pub Agree-power_suc : (v : Surd) (n : ℕ) → Agree (surd_power v (suc n)) (surd_times v (surd_power v n))
-Agree-power_suc v zero = Agree-sym (surd_times-one v)
-Agree-power_suc v (suc n) = Agree-refl (surd_power v (suc (suc n)))
+Agree-power_suc v n = grind (arith, Agree-sym, surd_times-one, Agree-refl)
 
 pub Agree-power_add : (v : Surd) (a b : ℕ) → Agree (surd_power v (a + b)) (surd_times (surd_power v a) (surd_power v b))
 Agree-power_add v zero b = Agree-trans (Agree-eq (ap (surd_power v) (plain b))) (Agree-eq (sym (surd_times-surd_one (surd_power v b))))
@@ -144,15 +143,11 @@ module _ (w y : Surd) (h : Inverts y w) where
       (Agree-trans (Agree-surd_power (suc n) (Same-Agree (Inverts-one x y w i h))) (Agree-eq (sym (surd_times-surd_one (surd_power y (suc n))))))
 
   pub whole_power_from : (n : ℤ) (v : Surd) → Agree v (integer_power w y n) → IsWholePower n w v
-  whole_power_from (pos zero) v k = (Inverts-not_zero y w h, Agree-Same (Agree-trans k (Agree-eq (surd_times-surd_one surd_one))))
-  whole_power_from (pos (suc n)) v k = Agree-Same (Agree-trans k (surd_times-one (surd_power w (suc n))))
-  whole_power_from (negsuc n) v k = (y, h, Agree-Same (Agree-trans k (Agree-eq (surd_times-surd_one (surd_power y (suc n))))))
+  whole_power_from n v k = grind (arith, Inverts-not_zero, Agree-Same, Agree-trans, Agree-eq, surd_times-surd_one, surd_times-one)
 
   -- the inverse of a power
   pub Inverts-integer_power : (n : ℤ) → Inverts (integer_power y w n) (integer_power w y n)
-  Inverts-integer_power n =
-      Inverts-surd_times (surd_power y (up n)) (surd_power w (up n)) (surd_power w (down n)) (surd_power y (down n))
-      (Inverts-surd_power (up n) y w h) (Inverts-surd_power (down n) w y (Inverts-sym y w h))
+  Inverts-integer_power n = grind (arith, Inverts-surd_times, Inverts-surd_power, Inverts-sym)
 
   powers_over : (p q r s : ℕ) → Agree (power_over (power_over w y p q) (power_over y w p q) r s) (power_over w y (p * r + q * s) (p * s + q * r))
   powers_over p q r s =
@@ -182,16 +177,13 @@ IsWholePower-Same (pos (suc n)) a b h = Same-trans (Same-sym b) (Same-trans h (S
 IsWholePower-Same (negsuc n) a b (y, i, k) = (y, Inverts-Same (Same-refl y) a i, Same-trans (Same-sym b) k)
 
 natural_power_is : (n : ℕ) (w v : Surd) → IsWholePower (pos n) w v → Same v (surd_power w n)
-natural_power_is zero w v (h, k) = k
-natural_power_is (suc n) w v k = k
+natural_power_is n w v k = grind arith
 
 natural_power_from : (n : ℕ) (w v : Surd) → (n ≡ 0 → ¬ (Same w [])) → Same v (surd_power w n) → IsWholePower (pos n) w v
-natural_power_from zero w v h k = (h refl, k)
-natural_power_from (suc n) w v h k = k
+natural_power_from n w v h k = grind arith
 
 not_zero_to_zero : (n : ℕ) (w v : Surd) → IsWholePower (pos n) w v → n ≡ 0 → ¬ (Same w [])
-not_zero_to_zero zero w v (h, k) e = h
-not_zero_to_zero (suc n) w v k e = absurd (omega arith)
+not_zero_to_zero n w v k e = grind arith
 
 -- w^m * w^n where w has an inverse
 by_inverse : (m n : ℤ) (w u v y : Surd) → Inverts y w → IsWholePower m w u → IsWholePower n w v → IsWholePower (m +ℤ n) w (surd_times u v)
@@ -301,8 +293,7 @@ rational_power q n = Same-sym (surd_power-surd_of q (suc n))
 
 -- zero has no power with an exponent of at most 0
 pub no_power_of_zero : (n : ℕ) (w v : Surd) → Same w [] → IsWholePower (neg_ℤ (pos n)) w v → ⊥
-no_power_of_zero zero w v z (h, k) = h z
-no_power_of_zero (suc n) w v z (y, i, k) = Inverts-not_zero y w i z
+no_power_of_zero n w v z h = grind (arith, Inverts-not_zero)
 
 -- ---- powers of roots
 
@@ -331,9 +322,7 @@ pub root_squared : (x v : Surd) → IsRoot x v → Same (surd_times v v) x
 root_squared x v (q, s, k) = Same-trans (root_of_squared q.num q.den v (den_pos q) k) (Same-trans (Same-eq (ap surd_of (sym (lowest_parts q)))) (Same-sym s))
 
 root_of_zero : (z : ℤ) (d : ℕ) (v : Surd) → z ≡ pos 0 → IsRootOf z d v → Same v []
-root_of_zero (pos zero) d v e k = k
-root_of_zero (pos (suc p)) d v e k = absurd (omega (arith, ints))
-root_of_zero (negsuc p) d v e k = absurd k
+root_of_zero z d v e k = grind arith
 
 -- only zero has the root zero
 pub root_zero : (x v : Surd) → IsRoot x v → Same x [] → Same v []

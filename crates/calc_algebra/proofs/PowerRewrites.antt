@@ -1,5 +1,5 @@
 -- Rewritings of quotients, powers and roots that keep meanings.
-use Rattle.std.proofs.Common.{◌≡◌, inl, inr, ℤ, pos, negsuc, ◌+ℤ◌, ◌++◌, Bool, true, false, sym, ap, subst, if◌then◌else◌}
+use Rattle.std.proofs.Common.{arith, ◌≡◌, inl, inr, ℤ, pos, negsuc, ◌+ℤ◌, ◌++◌, sym, ap, subst, if◌then◌else◌}
 use Rattle.calc_algebra.proofs.Shared.{Fraction, zero_fraction, one_fraction, minus_one_fraction, whole_fraction, Assignment, Means, IsPower, IsWholePower, IsRoot, is_opaque_exponent, base_of, Same, Surd, surd_of, surd_times, Tree, num, add, mult, power, root, div, Trees, none, more}
 use Rattle.calc_algebra.proofs.MeaningLaws.{one_meaning, Means-Same, Same-sym, whole_one, one_rational, whole_is_no_half}
 use Rattle.calc_algebra.proofs.SurdLaws.{Agree-refl, Agree-Same}
@@ -76,12 +76,7 @@ exponent_of t = num one_fraction
 
 -- a factor is its base to its exponent
 pub power_of_base : (t : Tree) → KeepsMeanings t (power (base_of t) (exponent_of t))
-power_of_base (power b e) = by (is_opaque_exponent e)
-  where
-    by : (c : Bool) → KeepsMeanings (power b e) (power (if c then power b e else b) (if c then num one_fraction else e))
-    by true = to_power_one (power b e)
-    by false = KeepsMeanings-refl (power b e)
-power_of_base t = to_power_one t
+power_of_base t = grind (arith, to_power_one, KeepsMeanings-refl)
 
 -- factors with one base are that base to the sum of their exponents
 pub same_bases : (t u : Tree) → base_of t ≡ base_of u → KeepsMeanings (mult (two t u)) (power (base_of t) (add (two (exponent_of t) (exponent_of u))))

@@ -1,6 +1,6 @@
 -- The test for reduced trees says what its words say.
-use Rattle.std.proofs.Common.{◌≡◌, ◌≢◌, ◌⊎◌, inl, inr, ℕ, Bool, true, false, not, ◌&&◌, ◌||◌, ◌==◌, nat_le, if◌then◌else◌, refl, ap, arith}
-use Rattle.calc_algebra.proofs.Shared.{Ordering, Less, Equal, Greater, is_lt, and_parts, and_from, or_left, or_right, not-true, not_from_false, eqb-true, eq-eqb, leb-true, le-leb, false_from_ne_true, int_is_negative, int_is_even, Fraction, is_zero_fraction, is_one_fraction, Tree, num, symbol, undef, add, mult, power, root, neg, sub, div, Trees, none, more, has_two, HasTwo, AllParts, AllPartsOf, is_num, is_add, is_mult, is_root, is_undef, tree_cmp, is_number, terms_of, rises, classes, is_transparent_power, base_of, whole_power_form, power_form, split_product, part_of, none_is, rises_by, number_terms, other_terms, sum_form, front_form, is_undistributed, product_form, node_form, has_form, all_parts, all_parts_of, is_reduced, NoneIs, RisesBy, IsWholePowerForm, IsPowerForm, IsSumForm, IsFrontForm, IsProductForm, IsNodeForm, HasForm, IsReduced, no_zero, no_one, zero_test, one_test}
+use Rattle.std.proofs.Common.{◌≡◌, inl, inr, ℕ, Bool, true, false, not, ◌&&◌, ◌||◌, ◌==◌, nat_le, if◌then◌else◌, refl, ap, arith}
+use Rattle.calc_algebra.proofs.Shared.{Ordering, Less, is_lt, and_parts, and_from, or_left, or_right, not-true, not_from_false, eqb-true, leb-true, false_from_ne_true, int_is_negative, int_is_even, Fraction, is_zero_fraction, is_one_fraction, Tree, num, symbol, undef, add, mult, power, root, neg, sub, div, Trees, none, more, has_two, HasTwo, AllParts, AllPartsOf, is_add, is_mult, is_root, is_undef, tree_cmp, is_number, terms_of, rises, classes, is_transparent_power, base_of, whole_power_form, power_form, split_product, part_of, none_is, rises_by, number_terms, other_terms, sum_form, front_form, is_undistributed, product_form, node_form, has_form, all_parts, all_parts_of, is_reduced, NoneIs, RisesBy, IsWholePowerForm, IsPowerForm, IsSumForm, IsFrontForm, IsProductForm, IsNodeForm, HasForm, IsReduced, no_zero, no_one, zero_test, one_test}
 use Rattle.calc_algebra.proofs.NumberLaws.{number_words, number_test, rises_words, rises_test}
 
 -- ---- Booleans
@@ -8,28 +8,20 @@ use Rattle.calc_algebra.proofs.NumberLaws.{number_words, number_test, rises_word
 from_not : (b : Bool) → not b ≡ true → b ≡ false
 from_not b h = not-true b h
 
-true_or_false : (b : Bool) → (b ≡ true) ⊎ (b ≡ false)
-true_or_false true = inl refl
-true_or_false false = inr refl
-
 -- a implies b
 implies : (a b : Bool) → (not a || b) ≡ true → a ≡ true → b ≡ true
-implies true b h e = h
-implies false b h e = cc
+implies a b h e = grind arith
 
 implied : (a b : Bool) → (a ≡ true → b ≡ true) → (not a || b) ≡ true
-implied true b h = h refl
-implied false b h = refl
+implied a b h = grind arith
 
 -- ---- lists
 
 two_words : (ts : Trees) → has_two ts ≡ true → HasTwo ts
-two_words (more t (more u ts)) h = tt
-two_words _ h = cc
+two_words ts h = grind arith
 
 two_test : (ts : Trees) → HasTwo ts → has_two ts ≡ true
-two_test (more t (more u ts)) h = refl
-two_test _ h = absurd h
+two_test ts h = grind arith
 
 pub none_words : (p : Tree → Bool) (ts : Trees) → none_is p ts ≡ true → NoneIs p ts
 none_words p none h = tt
@@ -40,9 +32,7 @@ none_test p none h = refl
 none_test p (more t ts) h = and_from (not (p t)) (none_is p ts) (not_from_false (p t) h.0) (none_test p ts h.1)
 
 lt_words : (o : Ordering) → is_lt o ≡ true → o ≡ Less
-lt_words Less h = refl
-lt_words Equal h = cc
-lt_words Greater h = cc
+lt_words o h = grind arith
 
 pub rises_by_words : (key : Tree → Tree) (ts : Trees) → rises_by key ts ≡ true → RisesBy key ts
 rises_by_words key none h = tt
@@ -75,26 +65,13 @@ whole_power_words b n h =
     }
 
 pub whole_power_test : (b : Tree) (n : Fraction) → IsWholePowerForm b n → whole_power_form b n ≡ true
-whole_power_test b n h =
-    and_from _ _ (and_from _ _ (and_from _ _ (and_from _ _ (and_from _ _ (not_from_false _ (zero_test n h.not_zero)) (not_from_false _ (one_test n h.not_one)))
-    (not_from_false _ h.no_product)) (not_from_false _ h.no_power))
-    (implied (int_is_even n.num) (not (is_root b)) (λ e. not_from_false _ (h.no_root e))))
-    (implied (is_number b) _ (λ e. and_from _ _ (h.wide e).0 (le-leb 3 (classes b) (h.wide e).1)))
+whole_power_test b n h = grind (arith, and_from, not_from_false, zero_test, one_test, implied)
 
 one_and_two : (n : ℕ) → n ≡ 1 → n ≡ 2 → ⊥
 one_and_two n e f = absurd (omega arith)
 
 pub power_words : (b e : Tree) → power_form b e ≡ true → IsPowerForm b e
-power_words b (num q) h = by (q.den == 1) refl h
-  where
-    by : (k : Bool) → (q.den == 1) ≡ k → (if k then whole_power_form b q else not (q.den == 2)) ≡ true → (q.den ≢ 2) × (q.den ≡ 1 → IsWholePowerForm b q)
-    by true e h = ((λ d. absurd (one_and_two q.den (eqb-true q.den 1 e) d)), λ d. whole_power_words b q h)
-    by false e h = ((λ d. contrary (q.den == 2) (eq-eqb q.den 2 d) h), λ d. contrary (q.den == 1) (eq-eqb q.den 1 d) (not_from_false (q.den == 1) e))
-      where
-        contrary : {A : Type 0} (k : Bool) → k ≡ true → not k ≡ true → A
-        contrary true e f = cc
-        contrary false e f = cc
-power_words b e h = tt
+power_words b e h = grind (arith, one_and_two, whole_power_words, not_from_false)
 
 pub power_test : (b e : Tree) → IsPowerForm b e → power_form b e ≡ true
 power_test b (num q) h = by (q.den == 1) refl
@@ -121,17 +98,13 @@ sum_words ts h =
     }
 
 pub sum_test : (ts : Trees) → IsSumForm ts → sum_form ts ≡ true
-sum_test ts h =
-    and_from _ _ (and_from _ _ (and_from _ _ (and_from _ _ (two_test ts h.two) (none_test is_add ts h.no_sum)) (rises_test (terms_of (number_terms ts)) h.number))
-    (none_test is_number (other_terms ts) h.no_number)) (rises_by_test part_of (other_terms ts) h.rising)
+sum_test ts h = grind (arith, and_from, two_test, none_test, rises_test, rises_by_test)
 
 front_words : (ts : Trees) → front_form ts ≡ true → IsFrontForm ts
-front_words (more (num q) ts) h = let (a, b) = and_parts (not (is_zero_fraction q)) _ h in (no_zero q a, no_one q b)
-front_words _ h = tt
+front_words ts h = grind (arith, no_zero, no_one)
 
 front_test : (ts : Trees) → IsFrontForm ts → front_form ts ≡ true
-front_test (more (num q) ts) h = and_from _ _ (not_from_false _ (zero_test q h.0)) (not_from_false _ (one_test q h.1))
-front_test _ h = refl
+front_test ts h = grind (arith, and_from, not_from_false, zero_test, one_test)
 
 pub product_words : (ts : Trees) → product_form ts ≡ true → IsProductForm ts
 product_words ts h =
@@ -150,38 +123,21 @@ product_words ts h =
     }
 
 pub product_test : (ts : Trees) → IsProductForm ts → product_form ts ≡ true
-product_test ts h =
-    and_from _ _ (and_from _ _ (and_from _ _ (and_from _ _ (and_from _ _ (two_test ts h.two) (none_test is_mult ts h.no_product)) (front_test ts h.front))
-    (none_test is_number (split_product ts).factors h.no_number)) (rises_by_test base_of (split_product ts).factors h.rising)) (not_from_false _ h.distributed)
+product_test ts h = grind (arith, and_from, two_test, none_test, front_test, rises_by_test, not_from_false)
 
 -- ---- nodes and parts
 
 node_words : (t : Tree) → node_form t ≡ true → IsNodeForm t
-node_words (symbol x) h = tt
-node_words (root a) h = from_not (is_num a) h
-node_words (power b e) h = power_words b e h
-node_words (add ts) h = sum_words ts h
-node_words (mult ts) h = product_words ts h
-node_words _ h = cc
+node_words t h = grind (arith, from_not, power_words, sum_words, product_words)
 
 node_test : (t : Tree) → IsNodeForm t → node_form t ≡ true
-node_test (symbol x) h = refl
-node_test (root a) h = not_from_false _ h
-node_test (power b e) h = power_test b e h
-node_test (add ts) h = sum_test ts h
-node_test (mult ts) h = product_test ts h
-node_test _ h = absurd h
+node_test t h = grind (arith, not_from_false, power_test, sum_test, product_test)
 
 pub form_words : (t : Tree) → has_form t ≡ true → HasForm t
-form_words t h = by (is_number t) refl h
-  where
-    by : (k : Bool) → is_number t ≡ k → (k || node_form t) ≡ true → HasForm t
-    by true e h = inl (number_words t e)
-    by false e h = inr (node_words t h)
+form_words t h = grind (arith, number_words, node_words)
 
 pub form_test : (t : Tree) → HasForm t → has_form t ≡ true
-form_test t (inl h) = or_left _ _ (number_test t h)
-form_test t (inr h) = or_right (is_number t) _ (node_test t h)
+form_test t h = grind (arith, or_left, number_test, or_right, node_test)
 
 module _ (p : Tree → Bool) (P : Tree → Type 0) where
   mutual
@@ -264,8 +220,7 @@ module _ (P Q R : Tree → Type 0) (f : (t : Tree) → P t → Q t → R t) wher
     AllPartsOf-zip (more t ts) h k = (AllParts-zip t h.0 k.0, AllPartsOf-zip ts h.1 k.1)
 
 undef_words : (t : Tree) → is_undef t ≡ true → t ≡ undef
-undef_words undef h = refl
-undef_words _ h = cc
+undef_words t h = grind arith
 
 pub reduced_words : (t : Tree) → is_reduced t ≡ true → IsReduced t
 unfolding is_reduced

@@ -1,8 +1,8 @@
 -- Being alike is an equivalence, and surds that are equal class by class agree at every number.
-use Rattle.std.specs.Prelude.{ℕ, zero, suc, ◌*◌, ◌≡◌, ◌≤◌, ◌<◌, ◌⊎◌, pos, ◌*ℤ◌, [], ◌∷◌, Bool, true, false, ◌==◌, nat_le, Contains}
+use Rattle.std.specs.Prelude.{ℕ, zero, suc, ◌*◌, ◌≡◌, ◌<◌, ◌⊎◌, pos, ◌*ℤ◌, [], ◌∷◌, Bool, true, false, Contains}
 use Rattle.std.proofs.Common.{refl, sym, ap, ◌∙◌, arith, inl, inr}
-use Rattle.calc_algebra.proofs.Shared.{Contains-append_right, eqb-true, leb-true, eq-eqb, le-leb, and_from, and_parts, times_comm, times_assoc, times_plus, zero_plus, zero_times, Fraction, plus, times, zero_fraction, same_lowest, times_lowest, mul_pos, quotient, are_alike, term_share, class_coefficient, radicands, Same, square_root, Term, Surd}
-use Rattle.calc_algebra.proofs.SquareRootLaws.{square_root-square, square_from_scaled, square_le}
+use Rattle.calc_algebra.proofs.Shared.{Contains-append_right, and_from, times_comm, times_assoc, times_plus, zero_plus, zero_times, Fraction, plus, times, zero_fraction, same_lowest, times_lowest, mul_pos, quotient, are_alike, term_share, class_coefficient, radicands, Same, square_root, Term, Surd}
+use Rattle.calc_algebra.proofs.SquareRootLaws.{square_root-square, square_from_scaled}
 use Rattle.calc_algebra.proofs.SurdLaws.{Agree, Agree-Same, Agree-trans}
 
 -- the product is the square of t, which is not 0
@@ -11,33 +11,22 @@ pub record Alike (r s t : ℕ) : Type 0 where
   pub positive : 0 < t
 
 pub alike_from : (r s : ℕ) → are_alike r s ≡ true → Alike r s (square_root (r * s))
-alike_from r s h =
-    let (p, q) = and_parts (square_root (r * s) * square_root (r * s) == r * s) (nat_le 1 (square_root (r * s))) h in
-    record { square = eqb-true (square_root (r * s) * square_root (r * s)) (r * s) p; positive = leb-true 1 (square_root (r * s)) q }
+alike_from r s h = grind arith
 
 root_of : (r s t : ℕ) → Alike r s t → square_root (r * s) ≡ t
 root_of r s t a = rw (← a.square) (square_root-square t)
 
 pub alike_true : (r s t : ℕ) → Alike r s t → are_alike r s ≡ true
-alike_true r s t a =
-    let e : square_root (r * s) ≡ t = root_of r s t a in
-    and_from _ _ (eq-eqb (square_root (r * s) * square_root (r * s)) (r * s) (rw e (a.square))) (le-leb 1 (square_root (r * s)) (rw e (a.positive)))
+alike_true r s t a = grind (arith, root_of, and_from)
 
 same_squares : (a b : ℕ) → a * a ≡ b * b → a ≡ b
-same_squares a b e =
-    let p : a ≤ b = square_le a b (omega arith) in
-    let q : b ≤ a = square_le b a (omega arith) in
-    omega arith
+same_squares a b e = grind arith
 
 pub alike_sym : (r s t : ℕ) → Alike r s t → Alike s r t
 alike_sym r s t a = record { square = omega (arith, a.square); positive = a.positive }
 
 positive_right : (r s t : ℕ) → Alike r s t → 0 < s
-positive_right r s t a = factor r s (omega (arith, a.square, mul_pos t t (a.positive) (a.positive)))
-  where
-    factor : (r s : ℕ) → 0 < r * s → 0 < s
-    factor r zero h = absurd (omega arith)
-    factor r (suc s) h = omega arith
+positive_right r s t a = grind arith
 
 -- being alike passes on, and how the roots go together
 pub alike_trans : (r c s t u : ℕ) → Alike r c t → Alike c s u → (x : ℕ) × Alike r s x × (x * c ≡ t * u)
@@ -58,9 +47,7 @@ alike_trans r c s t u a b =
 
 -- the coefficient at one number of a class tells that at another
 same_bool : (a b : Bool) → (a ≡ true → b ≡ true) → (b ≡ true → a ≡ true) → a ≡ b
-same_bool true b f g = sym (f refl)
-same_bool false true f g = g refl
-same_bool false false f g = refl
+same_bool a b f g = grind arith
 
 module _ (c s u : ℕ) (b : Alike c s u) where
   test_moved : (r : ℕ) → are_alike r s ≡ are_alike r c

@@ -25,10 +25,7 @@ pub square_le : (a b : ℕ) → a * a < (b + 1) * (b + 1) → a ≤ b
 square_le a b h = grind arith
 
 pub one_square_root : (n r s : ℕ) → IsSquareRoot n r → IsSquareRoot n s → r ≡ s
-one_square_root n r s h k =
-    let a : r ≤ s = square_le r s (omega (arith, h.within, k.above)) in
-    let b : s ≤ r = square_le s r (omega (arith, k.within, h.above)) in
-    omega arith
+one_square_root n r s h k = grind arith
 
 pub square_root-square : (t : ℕ) → square_root (t * t) ≡ t
 square_root-square t = one_square_root (t * t) _ t (square_root_is (t * t)) (record { within = omega arith; above = omega arith })

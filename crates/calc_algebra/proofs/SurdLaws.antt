@@ -112,15 +112,11 @@ alike_positive n t b a s e h =
 
 share_cases : (b : Bool) (q c : Fraction) (t a s : ℕ) → (b ≡ true → (0 < a) × (0 < s))
     → (if b then times (times q c) (quotient t s) else zero_fraction) ≡ times (times q (lowest (pos a) 1)) (if b then times c (quotient t (a * s)) else zero_fraction)
-share_cases true q c t a s h = let (ha, hs) = h refl in ap (times (times q c)) (ratio_split t a s ha hs) ∙ times_exchange q c (lowest (pos a) 1) (quotient t (a * s))
-share_cases false q c t a s h = sym (times_zero (times q (lowest (pos a) 1)))
+share_cases b q c t a s h = grind (arith, ratio_split, times_exchange, times_zero)
 
 -- the coefficient of a product with one term
 pub term_share-term_times : (t u : Term) (s : ℕ) → term_share (term_times t u) s ≡ times (times t.coefficient (lowest (pos t.radicand) 1)) (term_share u (t.radicand * s))
-term_share-term_times t u s =
-    let n : ℕ = u.radicand * (t.radicand * s) in
-    ap (λ n. if (square_root n * square_root n == n) && nat_le 1 (square_root n) then times (times t.coefficient u.coefficient) (quotient (square_root n) s) else zero_fraction) (regrouped t.radicand u.radicand s)
-    ∙ share_cases _ t.coefficient u.coefficient (square_root n) t.radicand s (λ e. alike_positive n (square_root n) u.radicand t.radicand s refl e)
+term_share-term_times t u s = grind (arith, regrouped, share_cases, alike_positive)
 
 pub class_coefficient-map : (t : Term) (w : Surd) (s : ℕ) → class_coefficient (map (term_times t) w) s ≡ times (times t.coefficient (lowest (pos t.radicand) 1)) (class_coefficient w (t.radicand * s))
 class_coefficient-map t [] s = sym (times_zero (times t.coefficient (lowest (pos t.radicand) 1)))
@@ -190,9 +186,7 @@ surd_times_left_comm u v w =
     (Agree-trans (Agree-surd_times (surd_times_comm u v) (Agree-refl w)) (Agree-eq (surd_times_assoc v u w)))
 
 pub surd_times_exchange : (a b c d : Surd) → Agree (surd_times (surd_times a b) (surd_times c d)) (surd_times (surd_times a c) (surd_times b d))
-surd_times_exchange a b c d =
-    Agree-trans (Agree-eq (surd_times_assoc a b (surd_times c d)))
-    (Agree-trans (Agree-surd_times_right a (surd_times_left_comm b c d)) (Agree-eq (sym (surd_times_assoc a c (surd_times b d)))))
+surd_times_exchange a b c d = grind (arith, Agree-trans, Agree-eq, surd_times_assoc, Agree-surd_times_right, surd_times_left_comm)
 
 -- the inverse of a product
 pub inverse_times : (y w z u : Surd) → Agree (surd_times y w) surd_one → Agree (surd_times z u) surd_one → Agree (surd_times (surd_times y z) (surd_times w u)) surd_one

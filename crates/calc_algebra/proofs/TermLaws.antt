@@ -1,7 +1,6 @@
 -- Surds term by term: what respects sameness, terms of one class joined, squares taken out, products of two terms, and the order of terms.
-use Rattle.std.proofs.Common.{length, get_or, set, ◌≡◌, ℕ, zero, suc, ◌*◌, ◌/◌, ◌<◌, pos, [], ◌∷◌, ◌++◌, Bool, true, false, if◌then◌else◌, refl, sym, ap, ◌∙◌, arith, append_assoc}
+use Rattle.std.proofs.Common.{◌≡◌, ℕ, zero, suc, ◌*◌, ◌<◌, pos, [], ◌∷◌, ◌++◌, Bool, true, false, if◌then◌else◌, refl, sym, ap, ◌∙◌, arith, append_assoc}
 use Rattle.calc_algebra.proofs.Shared.{times_comm, times_assoc, times_plus, zero_plus, zero_times, Fraction, lowest, plus, times, zero_fraction, plus_assoc, times_lowest, mul_pos, quotient, whole_fraction, are_alike, term_share, Same, square_root, Term, Surd, term, surd_scale, surd_times, surd_power, false_from_ne_true}
-use Rattle.std.specs.Int.{◌∣◌}
 use Rattle.calc_algebra.proofs.SquareRootLaws.{square_root-square, square_from_scaled}
 use Rattle.calc_algebra.proofs.SurdLaws.{Agree, Agree-refl, Agree-sym, Agree-trans, Agree-eq, Agree-Same, Agree-append, append_comm, Agree-surd_scale, Agree-surd_times, Agree-surd_power, times_zero}
 use Rattle.calc_algebra.proofs.SquareClassLaws.{Alike, alike_from, alike_true, Same-Agree}
@@ -45,40 +44,20 @@ Agree-to_front v t w =
 pub Same-to_front : (v : Surd) (t : Term) (w : Surd) → Same (v ++ (t ∷ w)) (t ∷ (v ++ w))
 Same-to_front v t w = Agree-Same (Agree-to_front v t w)
 
-exchanged_first : (t : Term) (v : Surd) (j : ℕ) (d : Term) → j < length v → Agree (t ∷ v) (get_or v j d ∷ set v j t)
-exchanged_first t [] j d h = absurd (omega arith)
-exchanged_first t (u ∷ v) zero d h = Agree-to_front (t ∷ []) u v
-exchanged_first t (u ∷ v) (suc j) d h =
-    Agree-trans (Agree-to_front (t ∷ []) u v)
-    (Agree-trans (Agree-append {v = u ∷ []} {v' = u ∷ []} (Agree-refl (u ∷ [])) (exchanged_first t v j d (omega arith))) (Agree-to_front (u ∷ []) (get_or v j d) (set v j t)))
-
-exchanged : (v : Surd) (i j : ℕ) (d : Term) → i < length v → j < length v → Agree v (set (set v i (get_or v j d)) j (get_or v i d))
-exchanged [] i j d h k = absurd (omega arith)
-exchanged (t ∷ v) zero zero d h k = Agree-refl (t ∷ v)
-exchanged (t ∷ v) zero (suc j) d h k = exchanged_first t v j d (omega arith)
-exchanged (t ∷ v) (suc i) zero d h k = exchanged_first t v i d (omega arith)
-exchanged (t ∷ v) (suc i) (suc j) d h k = Agree-append {v = t ∷ []} {v' = t ∷ []} (Agree-refl (t ∷ [])) (exchanged v i j d (omega arith) (omega arith))
-
 -- ---- the share of one term
 
 pub alike_right : (r s t : ℕ) → Alike r s t → 0 < s
-alike_right r s t a = factor r s (omega (arith, a.square, mul_pos t t (a.positive) (a.positive)))
-  where
-    factor : (r s : ℕ) → 0 < r * s → 0 < s
-    factor r zero h = absurd (omega arith)
-    factor r (suc s) h = omega arith
+alike_right r s t a = grind arith
 
 share_at : (b : Bool) (q : Fraction) (n t s : ℕ) → b ≡ true → n ≡ t → (if b then times q (quotient n s) else zero_fraction) ≡ times q (quotient t s)
-share_at true q n t s h e = ap (λ n. times q (quotient n s)) e
-share_at false q n t s h e = cc
+share_at b q n t s h e = grind arith
 
 -- the share of a term that is alike
 pub share_alike : (q : Fraction) (r s t : ℕ) → Alike r s t → term_share (term q r) s ≡ times q (quotient t s)
 share_alike q r s t a = share_at (are_alike r s) q (square_root (r * s)) t s (alike_true r s t a) (ap square_root (sym (a.square)) ∙ square_root-square t)
 
 share_off : (b : Bool) (x : Fraction) → b ≡ false → (if b then x else zero_fraction) ≡ zero_fraction
-share_off true x h = cc
-share_off false x h = refl
+share_off b x h = grind arith
 
 -- the share of a term that is not
 pub share_apart : (q : Fraction) (r s : ℕ) → are_alike r s ≡ false → term_share (term q r) s ≡ zero_fraction
@@ -186,11 +165,3 @@ joined c d r s g a b e f =
 
 pub surd_times-terms : (q c : Fraction) (r s : ℕ) → surd_times (term q r ∷ []) (term c s ∷ []) ≡ term (times q c) (r * s) ∷ []
 surd_times-terms q c r s = refl
-
--- with g dividing both radicands, √r * √s is g * √((r/g) * (s/g))
-pub product_of_terms : (q c : Fraction) (r s g a b : ℕ) → r ≡ g * a → s ≡ g * b
-    → Same (surd_times (term q r ∷ []) (term c s ∷ [])) (term (times (times q c) (whole_fraction (pos g))) (a * b) ∷ [])
-product_of_terms q c r s g a b e f = extracted (times q c) (r * s) g (a * b) (by e f)
-  where
-    by : r ≡ g * a → s ≡ g * b → r * s ≡ g * g * (a * b)
-    by e f = omega (arith, ap (λ n. n * s) e, ap (λ n. g * a * n) f)

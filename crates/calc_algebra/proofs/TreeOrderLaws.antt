@@ -1,12 +1,10 @@
 -- The order of trees is total, and Equal exactly for identical trees.
-use Rattle.std.specs.Prelude.{ℕ, ◌+◌, ◌*◌, ◌≡◌, ℤ, pos, ◌*ℤ◌, ◌<ℤ◌, ◌<◌, List, [], ◌∷◌, Bool, true, false, ◌&&◌, ◌≤◌, nat_eq}
+use Rattle.std.specs.Prelude.{ℕ, ◌+◌, ◌*◌, ◌≡◌, ℤ, pos, ◌*ℤ◌, ◌<ℤ◌, ◌<◌, List, [], ◌∷◌, false, ◌&&◌, nat_eq}
 use Rattle.std.proofs.Common.{refl, sym, ap, ◌∙◌, arith}
-use Rattle.calc_algebra.proofs.Shared.{Ordering, Less, Equal, Greater, nat_cmp, int_cmp, ordering_then, ordering_reverse, MatchOrdering, ints, Fraction, same_fraction, den_pos, fraction_cmp, tree_cmp, trees_cmp, root_code, Tree, num, symbol, undef, add, mult, power, root, neg, sub, div, Trees, none, more}
+use Rattle.calc_algebra.proofs.Shared.{Ordering, Less, Equal, nat_cmp, int_cmp, ordering_then, ordering_reverse, MatchOrdering, ints, Fraction, same_fraction, den_pos, fraction_cmp, tree_cmp, trees_cmp, root_code, Tree, num, symbol, undef, add, mult, power, root, neg, sub, div, Trees, none, more}
 use Rattle.std.specs.Cmp.Lexicographic.{slice_cmp, nat_list_cmp_total}
 use Rattle.std.specs.Cmp.{int_cmp_total, nat_cmp_total, tied_itself, ranked, int_ranked, IsTotalOrder}
-use Rattle.std.proofs.lemmas.Bool.Decides.{nat_tests}
 use borrow.Author.Differences.{up, down}
-use lib.Dec.{T}
 
 then_equal : (a b : Ordering) → a ≡ Equal → b ≡ Equal → ordering_then a b ≡ Equal
 then_equal a b p q = rw (p, q) refl
@@ -36,9 +34,7 @@ mutual
   trees_cmp_refl (more t ts) = then_equal _ _ (tree_cmp_refl t) (trees_cmp_refl ts)
 
 both_equal : (a b : Ordering) → ordering_then a b ≡ Equal → (a ≡ Equal) × (b ≡ Equal)
-both_equal Less b h = cc
-both_equal Equal b h = (refl, h)
-both_equal Greater b h = cc
+both_equal a b h = grind arith
 
 is_equal : (A B C : Type 0) (r : Ordering) → MatchOrdering r A B C → r ≡ Equal → B
 is_equal A B C r m h = rw h at m
@@ -71,9 +67,7 @@ mutual
   trees_cmp_equal _ _ h = cc
 
 then_turned : (a b c d : Ordering) → a ≡ ordering_reverse c → b ≡ ordering_reverse d → ordering_then a b ≡ ordering_reverse (ordering_then c d)
-then_turned a b Less d p q = rw p refl
-then_turned a b Equal d p q = rw (p, q) refl
-then_turned a b Greater d p q = rw p refl
+then_turned a b c d p q = grind arith
 
 mutual
   pub tree_cmp_turned : (t u : Tree) → tree_cmp t u ≡ ordering_reverse (tree_cmp u t)
@@ -98,13 +92,7 @@ chain_then : (ab bc ac ab' bc' ac' : Ordering)
     → (ab ≡ Less → bc ≡ Less → ac ≡ Less) → (ab ≡ Equal → ac ≡ bc) → (bc ≡ Equal → ac ≡ ab)
     → (ab' ≡ Less → bc' ≡ Less → ac' ≡ Less)
     → ordering_then ab ab' ≡ Less → ordering_then bc bc' ≡ Less → ordering_then ac ac' ≡ Less
-chain_then Less Less ac ab' bc' ac' f g k m p q = rw (f refl refl) refl
-chain_then Less Equal ac ab' bc' ac' f g k m p q = rw (k refl) refl
-chain_then Less Greater ac ab' bc' ac' f g k m p q = cc
-chain_then Equal Less ac ab' bc' ac' f g k m p q = rw (g refl) refl
-chain_then Equal Equal ac ab' bc' ac' f g k m p q = rw (g refl) (m p q)
-chain_then Equal Greater ac ab' bc' ac' f g k m p q = cc
-chain_then Greater bc ac ab' bc' ac' f g k m p q = cc
+chain_then ab bc ac ab' bc' ac' f g k m p q = grind arith
 
 equal_left : (t u z : Tree) → tree_cmp t u ≡ Equal → tree_cmp t z ≡ tree_cmp u z
 equal_left t u z h = rw (tree_cmp_equal t u h) refl
@@ -116,11 +104,7 @@ is_less : (A B C : Type 0) (r : Ordering) → MatchOrdering r A B C → r ≡ Le
 is_less A B C r m h = rw h at m
 
 less_int : (x y : ℤ) → x <ℤ y → int_cmp x y ≡ Less
-less_int x y h = rw (true_from _ (h.lt)) refl
-  where
-    true_from : (b : Bool) → T b → b ≡ true
-    true_from true t = refl
-    true_from false t = absurd t
+less_int x y h = grind arith
 
 scale_lt : (x y k : ℕ) → 0 < k → x < y → x * k < y * k
 scale_lt x y k p h = grind arith
@@ -138,44 +122,8 @@ cross_chain a b c p q r hp hq hr h k =
     let g : up a * r + down c * p < up c * p + down a * r = nat_chain (up a) (down a) (up b) (down b) (up c) (down c) p q r hp hr h' k' in
     omega (arith, ints)
 
--- the kinds decide first
-by_code : (t u : Tree) → tree_cmp t u ≡ ordering_then (nat_cmp (root_code t) (root_code u)) (tree_cmp t u)
-by_code (num p) (num q) = refl
-by_code (symbol x) (symbol y) = refl
-by_code undef undef = refl
-by_code (add ts) (add us) = refl
-by_code (mult ts) (mult us) = refl
-by_code (power a b) (power c d) = refl
-by_code (root a) (root c) = refl
-by_code (neg a) (neg c) = refl
-by_code (sub a b) (sub c d) = refl
-by_code (div a b) (div c d) = refl
-by_code _ _ = refl
-
-then_code : (m n : ℕ) (r : Ordering) → ordering_then (nat_cmp m n) r ≡ Less → m ≤ n
-then_code m n r h = split _ (ranked m n _ refl) h
-  where
-    split : (o : Ordering) → MatchOrdering o (m < n) (m ≡ n) (n < m) → ordering_then o r ≡ Less → m ≤ n
-    split Less l e = omega arith
-    split Equal l e = omega arith
-    split Greater l e = cc
-
-then_less : (m n : ℕ) (r : Ordering) → m < n → ordering_then (nat_cmp m n) r ≡ Less
-then_less m n r h = split _ (ranked m n _ refl)
-  where
-    split : (o : Ordering) → MatchOrdering o (m < n) (m ≡ n) (n < m) → ordering_then o r ≡ Less
-    split Less l = refl
-    split Equal l = absurd (omega arith)
-    split Greater l = absurd (omega arith)
-
 mixed : (t u z : Tree) → (nat_eq (root_code t) (root_code u) && nat_eq (root_code u) (root_code z)) ≡ false → tree_cmp t u ≡ Less → tree_cmp u z ≡ Less → tree_cmp t z ≡ Less
-mixed t u z d h k =
-    let a : root_code t ≤ root_code u = then_code _ _ _ (sym (by_code t u) ∙ h) in
-    let b : root_code u ≤ root_code z = then_code _ _ _ (sym (by_code u z) ∙ k) in
-    by_code t z ∙ then_less _ _ _ (apart (root_code t) (root_code u) (root_code z) d a b)
-  where
-    apart : (x y z : ℕ) → (nat_eq x y && nat_eq y z) ≡ false → x ≤ y → y ≤ z → x < z
-    apart x y z d a b = grind (arith, nat_tests)
+mixed t u z d h k = grind arith
 
 fraction_chain : (p q r : Fraction) → fraction_cmp p q ≡ Less → fraction_cmp q r ≡ Less → fraction_cmp p r ≡ Less
 fraction_chain p q r h k =

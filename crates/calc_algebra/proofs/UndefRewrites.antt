@@ -1,5 +1,5 @@
 -- Trees that have no meaning: a part without one, zero to a power of at most 0, a division by zero, the root of a negative rational.
-use Rattle.std.proofs.Common.{[], ◌≡◌, ℕ, ℤ, pos, negsuc, neg_ℤ, true}
+use Rattle.std.proofs.Common.{arith, [], ◌≡◌, ℕ, ℤ, pos, neg_ℤ, true}
 use Rattle.calc_algebra.proofs.Shared.{Fraction, zero_fraction, whole_fraction, int_is_negative, Assignment, IsAssignment, Means, MeansSum, MeansProduct, IsRootOf, Same, Surd, Tree, num, undef, add, mult, power, root, neg, sub, div, Trees, none, more, IsPart, itself, in_add, in_mult, in_base, in_exponent, in_root, in_neg, in_left, in_right, in_dividend, in_divisor, IsPartOf, first, later}
 use Rattle.calc_algebra.proofs.MeaningRewrites.{KeepsMeanings, KeepsMeanings-refl}
 use Rattle.calc_algebra.proofs.NumberRewrites.{root_parts}
@@ -46,11 +46,7 @@ part_means f p t h v m = part_of_meaning f p t h v m
 
 -- a tree with a part that has no meaning has none
 pub undefined_part : (p t : Tree) → IsPart p t → KeepsMeanings p undef → KeepsMeanings t undef
-undefined_part p t h k = record {
-  means = λ f once v m.
-      let (w, n) = part_means f p t h v m in
-      k.means f once w n;
-}
+undefined_part p t h k = grind (arith, part_means)
 
 -- a tree with Undef in it has no meaning
 pub undef_part : (t : Tree) → IsPart undef t → KeepsMeanings t undef
@@ -68,8 +64,7 @@ zero_to_nothing b n h = record {
 }
 
 no_root : (z : ℤ) (d : ℕ) (v : Surd) → int_is_negative z ≡ true → IsRootOf z d v → ⊥
-no_root (pos n) d v h i = cc
-no_root (negsuc n) d v h i = i
+no_root z d v h i = grind arith
 
 -- the root of a negative rational
 pub root_of_negative : (q : Fraction) → int_is_negative q.num ≡ true → KeepsMeanings (root (num q)) undef

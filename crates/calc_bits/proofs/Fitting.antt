@@ -3,7 +3,7 @@ use Rattle.std.proofs.Common.{◌≡◌, ℕ, zero, suc, ◌+◌, ◌*◌, ◌/�
 use Rattle.std.specs.Prelude.{nat_abs}
 use Rattle.std.specs.Int.{IsGcd, ◌∣◌}
 use Rattle.std.proofs.lemmas.Int.{ints, unsigned_abs-mul}
-use Rattle.std.proofs.lemmas.Bool.{lt-ltb, and_from}
+use Rattle.std.proofs.lemmas.Bool.{and_from}
 use Rattle.std.proofs.lemmas.Nat.Gcd.{le_of_dvd, same_from_IsGcd, IsGcd-swap}
 use Rattle.std.proofs.Math.Nat.{mul-div_cancel', dvd_of_mul-dvd-mul_left, pos_of_dvd_of_pos, mul-le-mul_left, pow-suc, pow-zero}
 use native.Mathlib.Nat.{mul_comm}
@@ -14,17 +14,12 @@ use Rattle.calc_bits.specs.Denominators.{magnitude_over}
 use Rattle.calc_bits.proofs.Quotients.{den_divides, den_at_most, num_at_most, plus_den, magnitude_cross, times_den, magnitude_times, magnitude_is, cancel_le, abs_cross}
 
 bounded : (z : ℤ) (n : ℕ) → nat_abs z ≤ n → n < 2 ^ 127 → fits z ≡ true
-bounded z n h k = lt-ltb (nat_abs z) (2 ^ 127) (below (nat_abs z) n (2 ^ 127) h k)
-  where
-    below : (a b c : ℕ) → a ≤ b → b < c → a < c
-    below a b c h k = omega arith
+bounded z n h k = grind arith
 
 -- ---- one fraction
 
 pub quotient_fits : (x : Fraction) (n : ℤ) (d : ℕ) → 0 < d → x ≡ lowest n d → nat_abs n < 2 ^ 127 → d < 2 ^ 127 → fraction_fits x ≡ true
-quotient_fits x n d p e h k =
-    subst (λ y. fraction_fits y ≡ true) (sym e)
-    (and_from (fits (lowest n d).num) (fits (pos (lowest n d).den)) (bounded (lowest n d).num (nat_abs n) (num_at_most n d p) h) (bounded (pos (lowest n d).den) d (den_at_most n d p) k))
+quotient_fits x n d p e h k = grind (arith, and_from, bounded, num_at_most, den_at_most)
 
 -- |x| is at most d * |x|, where that is whole
 pub num_over : (d : ℕ) (x : Fraction) → 0 < d → x.den ∣ d → nat_abs x.num ≤ magnitude_over d x

@@ -1,7 +1,6 @@
 -- Scales, sums and products of masses.
-use Rattle.std.proofs.Common.{◌≡◌, ℕ, ◌+◌, ◌*◌, ◌≤◌, ◌<◌, ◌⊎◌, inl, inr, max, min, [], ◌∷◌, ◌++◌, map, sym, ap, ◌∙◌, subst, arith}
+use Rattle.std.proofs.Common.{◌≡◌, ℕ, ◌+◌, ◌*◌, ◌≤◌, ◌<◌, ◌⊎◌, max, min, [], ◌∷◌, ◌++◌, map, sym, ap, ◌∙◌, subst, arith}
 use Rattle.std.specs.Int.{◌∣◌}
-use Rattle.std.proofs.lemmas.Nat.{mul-le}
 use Rattle.std.proofs.lemmas.Nat.Gcd.{dvd_trans}
 use Rattle.std.proofs.Math.Nat.{dvd-mul_left}
 use Rattle.calc_terms.specs.Fractions.{times, mul_pos}
@@ -47,10 +46,7 @@ mass-append m e (t ∷ v) w = let h : mass_from m e (v ++ w) ≡ mass_from m e v
 -- ---- scales
 
 scaled_max : (j m u r s : ℕ) → s ≤ j * r → u ≡ s → max (j * m) u ≤ j * max m r
-scaled_max j m u r s h e =
-    let a : j * m ≤ j * max m r = mul-le j m j (max m r) (omega arith) (omega arith) in
-    let b : j * r ≤ j * max m r = mul-le j r j (max m r) (omega arith) (omega arith) in
-    omega arith
+scaled_max j m u r s h e = grind arith
 
 scaled_square : (j n k r : ℕ) → k ≡ j * n → k * k * r ≡ j * j * (n * n * r)
 scaled_square j n k r e = ap (λ x. x * x * r) e ∙ omega arith
@@ -75,10 +71,7 @@ mass_scale j m e v h = mass_scale_whole j m e v h.whole
 -- ---- products
 
 times_max : (m n u w x : ℕ) → x ≤ u * w → max (m * n) x ≤ max m u * max n w
-times_max m n u w x h =
-    let a : m * n ≤ max m u * max n w = mul-le m n (max m u) (max n w) (omega arith) (omega arith) in
-    let b : u * w ≤ max m u * max n w = mul-le u w (max m u) (max n w) (omega arith) (omega arith) in
-    omega arith
+times_max m n u w x h = grind arith
 
 times_square : (a b k r s : ℕ) → k ≡ a * b → k * k * (r * s) ≡ (a * a * r) * (b * b * s)
 times_square a b k r s e = ap (λ x. x * x * (r * s)) e ∙ omega arith
@@ -117,12 +110,4 @@ order a b = grind arith
 
 -- what bounds one number and what bounds the other, together
 pub held_meet : (v : Surd) (h k l n : ℕ) → IsHeld v h l → IsHeld v k n → IsHeld v (min h k) (min l n)
-held_meet v h k l n a b = by (order h k) (order l n)
-  where
-    by : (min h k ≡ h) ⊎ (min h k ≡ k) → (min l n ≡ l) ⊎ (min l n ≡ n) → IsHeld v (min h k) (min l n)
-    by (inl e) (inl f) = subst (λ x. IsHeld v x (min l n)) (sym e) (subst (IsHeld v h) (sym f) a)
-    by (inl e) (inr f) = subst (λ x. IsHeld v x (min l n)) (sym e) (subst (IsHeld v h) (sym f)
-        (record { denominator = b.denominator; parts = b.parts; low = b.low; scale = a.scale; scaled = a.scaled; high = a.high }))
-    by (inr e) (inl f) = subst (λ x. IsHeld v x (min l n)) (sym e) (subst (IsHeld v k) (sym f)
-        (record { denominator = a.denominator; parts = a.parts; low = a.low; scale = b.scale; scaled = b.scaled; high = b.high }))
-    by (inr e) (inr f) = subst (λ x. IsHeld v x (min l n)) (sym e) (subst (IsHeld v k) (sym f) b)
+held_meet v h k l n a b = grind (arith, order)

@@ -15,12 +15,7 @@ use Rattle.calc_bits.proofs.Parts.{parts_left, mass_of_same, held_same, held_sam
 use Rattle.calc_terms.specs.Trees.{Tree}
 
 pub no_larger : (t : Tree) (v : Surd) → is_number t ≡ true → Same (value t) v → SharesDenominators v (value t) → IsNoLarger v (value t)
-no_larger t v n s f = record {
-  parts = f;
-  mass = λ m e p. mass_of_same m e (value t) v (value_proper t (number_words t n)) (value_rises t (number_words t n)) s p (f e p);
-  held = λ h l. held_same (value t) v h l (value_proper t (number_words t n)) (value_rises t (number_words t n)) s f;
-  by_one = λ h l. held_same_by_one (value t) v h l (value_proper t (number_words t n)) (value_rises t (number_words t n)) s f;
-}
+no_larger t v n s f = grind (arith, mass_of_same, value_proper, number_words, value_rises, held_same, held_same_by_one)
 
 -- ---- powers
 

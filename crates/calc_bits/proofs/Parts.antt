@@ -33,43 +33,14 @@ pub parts_right : (d : ℕ) (v w : Surd) → Parts d (v ++ w) → Parts d w
 parts_right d v w p = record { positive = p.positive; whole = whole_right d v w p.whole }
 
 pub held_left : (v w : Surd) (h l : ℕ) → IsHeld (v ++ w) h l → IsHeld v h l
-held_left v w h l k = record {
-  denominator = k.denominator;
-  parts = parts_left k.denominator v w k.parts;
-  low = k.low;
-  scale = k.scale;
-  scaled = parts_left k.scale v w k.scaled;
-  high = let e : mass k.scale (v ++ w) ≡ mass k.scale v + mass k.scale w = mass-append k.scale k.scale v w in let f : mass k.scale (v ++ w) ≤ k.scale * 2 ^ h = k.high in omega arith;
-}
+held_left v w h l k = grind (arith, parts_left, mass-append)
 
 pub held_right : (v w : Surd) (h l : ℕ) → IsHeld (v ++ w) h l → IsHeld w h l
-held_right v w h l k = record {
-  denominator = k.denominator;
-  parts = parts_right k.denominator v w k.parts;
-  low = k.low;
-  scale = k.scale;
-  scaled = parts_right k.scale v w k.scaled;
-  high = let e : mass k.scale (v ++ w) ≡ mass k.scale v + mass k.scale w = mass-append k.scale k.scale v w in let f : mass k.scale (v ++ w) ≤ k.scale * 2 ^ h = k.high in omega arith;
-}
+held_right v w h l k = grind (arith, parts_right, mass-append)
 
 -- one term of a list with one of another
 pub held_pair : (u : Surd) (a : Term) (v w : Surd) (b : Term) (x : Surd) (h l : ℕ) → IsHeld ((u ++ (a ∷ v)) ++ (w ++ (b ∷ x))) h l → IsHeld (a ∷ b ∷ []) h l
-held_pair u a v w b x h l k = record {
-  denominator = k.denominator;
-  parts = record { positive = k.parts.positive; whole = both k.denominator k.parts.whole };
-  low = k.low;
-  scale = k.scale;
-  scaled = record { positive = k.scaled.positive; whole = both k.scale k.scaled.whole };
-  high =
-      let p : mass k.scale ((u ++ (a ∷ v)) ++ (w ++ (b ∷ x))) ≡ mass k.scale (u ++ (a ∷ v)) + mass k.scale (w ++ (b ∷ x)) = mass-append k.scale k.scale (u ++ (a ∷ v)) (w ++ (b ∷ x)) in
-      let q : mass k.scale (u ++ (a ∷ v)) ≡ mass k.scale u + mass k.scale (a ∷ v) = mass-append k.scale k.scale u (a ∷ v) in
-      let r : mass k.scale (w ++ (b ∷ x)) ≡ mass k.scale w + mass k.scale (b ∷ x) = mass-append k.scale k.scale w (b ∷ x) in
-      let f : mass k.scale ((u ++ (a ∷ v)) ++ (w ++ (b ∷ x))) ≤ k.scale * 2 ^ h = k.high in
-      omega arith;
-}
-  where
-    both : (d : ℕ) → AreWholeOver d ((u ++ (a ∷ v)) ++ (w ++ (b ∷ x))) → AreWholeOver d (a ∷ b ∷ [])
-    both d c = ((whole_right d u (a ∷ v) (whole_left d (u ++ (a ∷ v)) (w ++ (b ∷ x)) c)).0, ((whole_right d w (b ∷ x) (whole_right d (u ++ (a ∷ v)) (w ++ (b ∷ x)) c)).0, tt))
+held_pair u a v w b x h l k = grind (arith, mass-append, whole_right, whole_left)
 
 -- ---- what is the same
 
@@ -102,28 +73,10 @@ held_same_with p v w h l a r s f k = record {
     both d q = parts_append d p w (f d (parts_left d v w q)) (parts_right d v w q)
 
 pub held_same : (p v : Surd) (h l : ℕ) → AreProper p → Rises p → Same p v → ((d : ℕ) → Parts d v → Parts d p) → IsHeld v h l → IsHeld p h l
-held_same p v h l a r s f k = record {
-  denominator = k.denominator;
-  parts = f k.denominator k.parts;
-  low = k.low;
-  scale = k.scale;
-  scaled = f k.scale k.scaled;
-  high =
-      let z : mass k.scale p ≤ mass k.scale v = mass_of_same k.scale k.scale p v a r s k.scaled (f k.scale k.scaled) in
-      let t : mass k.scale v ≤ k.scale * 2 ^ h = k.high in
-      omega arith;
-}
+held_same p v h l a r s f k = grind (arith, mass_of_same)
 
 pub held_same_by_one : (p v : Surd) (h l : ℕ) → AreProper p → Rises p → Same p v → ((d : ℕ) → Parts d v → Parts d p) → IsHeldByOne v h l → IsHeldByOne p h l
-held_same_by_one p v h l a r s f k = record {
-  denominator = k.denominator;
-  parts = f k.denominator k.parts;
-  low = k.low;
-  high =
-      let z : mass_from 0 k.denominator p ≤ mass_from 0 k.denominator v = mass_of_same 0 k.denominator p v a r s k.parts (f k.denominator k.parts) in
-      let t : mass_from 0 k.denominator v ≤ k.denominator * 2 ^ h = k.high in
-      omega arith;
-}
+held_same_by_one p v h l a r s f k = grind (arith, mass_of_same)
 
 -- ---- what stands behind both is left out
 

@@ -47,10 +47,7 @@ pub over_den : (e : ℕ) (q : Fraction) → q.den ∣ e → (e / q.den) * q.den 
 over_den e q h = mul_comm (e / q.den) q.den ∙ mul-div_cancel' q.den h
 
 pub magnitude_cross : (e : ℕ) (q : Fraction) → q.den ∣ e → magnitude_over e q * q.den ≡ nat_abs q.num * e
-magnitude_cross e q h = regrouped (nat_abs q.num) (e / q.den) q.den e (over_den e q h)
-  where
-    regrouped : (n k d e : ℕ) → k * d ≡ e → (n * k) * d ≡ n * e
-    regrouped n k d e h = omega (arith, ap (λ x. n * x) h)
+magnitude_cross e q h = grind (arith, over_den)
 
 -- the magnitude of e * x is told by any quotient n/d that is |x|
 pub magnitude_is : (e : ℕ) (x : Fraction) (n d m : ℕ) → x.den ∣ e → 0 < d → nat_abs x.num * d ≡ n * x.den → m * d ≡ n * e → magnitude_over e x ≡ m

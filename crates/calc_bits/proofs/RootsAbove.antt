@@ -8,14 +8,7 @@ use Rattle.calc_algebra.proofs.SquareRootLaws.{square_root_is, square_le}
 use Rattle.calc_bits.specs.Masses.{root_above}
 
 pub root_enough : (n : ℕ) → n ≤ root_above n * root_above n
-root_enough n = by (square_root n * square_root n == n) refl
-  where
-    r : ℕ
-    r = square_root n
-
-    by : (b : Bool) → (r * r == n) ≡ b → n ≤ (if b then r else suc r) * (if b then r else suc r)
-    by true e = let f : r * r ≡ n = eqb-true (r * r) n e in omega arith
-    by false e = let h : n < (r + 1) * (r + 1) = (square_root_is n).above in omega arith
+root_enough n = grind (arith, square_root_is)
 
 pub root_least : (n u : ℕ) → n ≤ u * u → root_above n ≤ u
 root_least n u h = by (square_root n * square_root n == n) refl

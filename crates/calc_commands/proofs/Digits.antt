@@ -1,5 +1,5 @@
 -- Lemmas on decimal digits.
-use Rattle.std.proofs.Common.{◌≡◌, ℕ, List, true, Some, None, MatchResult, Result, Ok, Err, subst, rules}
+use Rattle.std.proofs.Common.{arith, ◌≡◌, ℕ, List, true, Some, None, MatchResult, Result, rules}
 use Rattle.std.proofs.lemmas.Str.{IsUtf8-from_ascii}
 use Rattle.std.proofs.lemmas.Fmt.{IsAscii-from_digits}
 use Rattle.std.proofs.lemmas.Str.Parse.{IsNumeralModel, numerals_by_value}
@@ -21,9 +21,7 @@ digits_are_utf8 text h = IsUtf8-from_ascii text (IsAscii-from_digits text (digit
 
 -- what stands in a result
 pub at_some : {X E : Type 0} (r : Result X E) (P : X → Type 0) (Q : E → Type 0) (x : X) → Some x ≡ result_ok r → MatchResult r P Q → P x
-at_some (Ok y) P Q x e h = let same : y ≡ x = cc in subst P same h
-at_some (Err d) P Q x e h = cc
+at_some r P Q x e h = grind arith
 
 pub at_none : {X E : Type 0} (r : Result X E) (P : X → Type 0) (U : Type 0) (V : E → Type 0) → None ≡ result_ok r → MatchResult r P (λ e. (¬ U) × V e) → ¬ U
-at_none (Ok y) P U V e h = cc
-at_none (Err d) P U V e h = h.0
+at_none r P U V e h = grind arith

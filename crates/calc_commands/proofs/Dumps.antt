@@ -1,5 +1,5 @@
 -- The bytes in use, and their text.
-use Rattle.std.proofs.Common.{◌≡◌, ◌∙◌, ℕ, ◌+◌, ◌*◌, ◌<◌, ◌≤◌, ◌%◌, List, [], ◌∷◌, ◌++◌, length, get_or, take, replicate, cond, eqb, sym, ap, arith, append_assoc, length-append, Bool, true, false}
+use Rattle.std.proofs.Common.{◌≡◌, ◌∙◌, ℕ, ◌+◌, ◌*◌, ◌<◌, ◌≤◌, List, [], ◌∷◌, ◌++◌, length, get_or, take, replicate, sym, ap, arith, append_assoc, length-append}
 use Rattle.std.proofs.lemmas.List.{append-nil, length-take, take_at, take_more}
 use Rattle.node_pool.specs.Nodes.{used, encodings}
 use Rattle.node_pool.specs.State.{State, IsPool, bytes_of, free_of}
@@ -17,12 +17,7 @@ used_there s n bytes p e q = ap (λ k. take k bytes) e ∙ ap (take (used s.node
 -- ---- entries
 
 parting_len : (at : ℕ) → length (parting at) ≤ 1
-parting_len at = tests (eqb at 0) (eqb (at % 8) 0)
-  where
-    tests : (first row : Bool) → length {A = ℕ} (cond first [] (cond row (10 ∷ []) (32 ∷ []))) ≤ 1
-    tests true row = omega arith
-    tests false true = omega arith
-    tests false false = omega arith
+parting_len at = grind arith
 
 pub entry_len : (at b : ℕ) → length (entry at b) ≤ 3
 entry_len at b = omega (arith, length-append (parting at) (byte_text b), parting_len at)

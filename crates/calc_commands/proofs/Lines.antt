@@ -4,10 +4,9 @@ use Rattle.std.specs.Prelude.{◌&&◌, ◌||◌, not, codes, IfSome, IsNone}
 use Rattle.std.specs.List.{list_all}
 use Rattle.std.specs.Option.{option_map, option_and_then}
 use Rattle.std.specs.Str.{bytes_eq}
-use Rattle.std.proofs.lemmas.Bool.{eqb-true, lt-ltb, ltb-true, ne_eqb}
+use Rattle.std.proofs.lemmas.Bool.{eqb-true, lt-ltb, ne_eqb}
 use Rattle.std.proofs.lemmas.List.{append-nil}
 use Rattle.std.proofs.lemmas.Slice.Eq.{bytes_eq-Decides}
-use Rattle.std.specs.Char.{is_ascii_digit}
 use Rattle.calc_terms.specs.Name.{is_name, is_name_byte}
 use Rattle.calc_terms.proofs.Names.{spelled}
 use Rattle.calc_language.specs.Tokens.{is_blank, leading_run}
@@ -20,15 +19,13 @@ use Rattle.calc_commands.proofs.Runs.{run_whole, run_all, run_stops, stops, run_
 use Rattle.calc_commands.proofs.Values.{not_digits}
 
 by_test : (P : Bool → Type 0) (t : Bool) → (t ≡ true → P true) → (t ≡ false → P false) → P t
-by_test P true y n = y refl
-by_test P false y n = n refl
+by_test P t y n = grind arith
 
 -- ---- bytes
 
 -- a blank is one of two bytes
 blank_cases : (P : ℕ → Type 0) (b : ℕ) → is_blank b ≡ true → P 32 → P 9 → P b
-blank_cases P b h p q =
-    by_test (λ t. eqb b 32 ≡ t → (t || eqb b 9) ≡ true → P b) (eqb b 32) (λ e k g. subst P (sym (eqb-true b 32 k)) p) (λ e k g. subst P (sym (eqb-true b 9 g)) q) refl h
+blank_cases P b h p q = grind arith
 
 no_letter : (b : ℕ) → is_blank b ≡ true → not (is_in class.SmallLetter b) ≡ true
 no_letter b h = blank_cases (λ x. not (is_in class.SmallLetter x) ≡ true) b h refl refl
@@ -37,32 +34,20 @@ no_dark : (b : ℕ) → is_blank b ≡ true → not (is_in class.Dark b) ≡ tru
 no_dark b h = blank_cases (λ x. not (is_in class.Dark x) ≡ true) b h refl refl
 
 dark_by : (p : ℕ → Bool) → p 32 ≡ false → p 9 ≡ false → (b : ℕ) → p b ≡ true → is_in class.Dark b ≡ true
-dark_by p s t b h =
-    by_test (λ x. is_blank b ≡ x → not x ≡ true) (is_blank b)
-    (λ e k. absurd (blank_cases (λ y. p y ≡ true → ⊥) b k (λ g. clash (p 32) s g) (λ g. clash (p 9) t g) h)) (λ e k. refl) refl
-  where
-    clash : (x : Bool) → x ≡ false → x ≡ true → ⊥
-    clash x e h = cc
+dark_by p s t b h = grind arith
 
 pub dark_name : (x : List ℕ) → is_name x ≡ true → list_all (is_in class.Dark) x ≡ true
 dark_name x h = all_other is_name_byte (is_in class.Dark) (dark_by is_name_byte refl refl) x (spelled x h).spelled
 
 pub dark_digits : (x : List ℕ) (k : ℕ) → value_of x ≡ Some k → list_all (is_in class.Dark) x ≡ true
-dark_digits x k h =
-    all_other is_ascii_digit (is_in class.Dark) (dark_by is_ascii_digit refl refl) x
-    (by_test (λ t. list_all is_ascii_digit x ≡ t → t ≡ true) (list_all is_ascii_digit x) (λ e q. refl) (λ e q. absurd (neither (value_of x) (not_digits x q) h)) refl)
-  where
-    neither : (o : Option ℕ) → o ≡ None → o ≡ Some k → ⊥
-    neither o e q = cc
+dark_digits x k h = grind (arith, all_other, dark_by, by_test, not_digits)
 
 -- blanks stop letters and what is dark
 stops_letters : (bytes : List ℕ) → list_all is_blank bytes ≡ true → stops (is_in class.SmallLetter) bytes ≡ true
-stops_letters [] h = refl
-stops_letters (b ∷ bytes) h = no_letter b (first_of_all is_blank b bytes h)
+stops_letters bytes h = grind arith
 
 stops_dark : (bytes : List ℕ) → list_all is_blank bytes ≡ true → stops (is_in class.Dark) bytes ≡ true
-stops_dark [] h = refl
-stops_dark (b ∷ bytes) h = no_dark b (first_of_all is_blank b bytes h)
+stops_dark bytes h = grind arith
 
 -- ---- the parts are found
 
@@ -93,9 +78,7 @@ record HasWord (line word rest : List ℕ) : Type 0 where
   blank_before : list_all is_blank before ≡ true
 
 word_found : (line word rest : List ℕ) → HasWord line word rest → list_all (is_in class.SmallLetter) word ≡ true → stops (is_in class.SmallLetter) rest ≡ true → word_and_rest line ≡ Some (word, rest)
-word_found line word rest h w s =
-    let start : leading_run is_blank line ≡ (h.before, 58 ∷ (word ++ rest)) = ap (leading_run is_blank) h.whole ∙ run_of is_blank h.before (58 ∷ (word ++ rest)) h.blank_before refl in
-    rw (start, run_of (is_in class.SmallLetter) word rest w s) refl
+word_found line word rest h w s = grind (arith, run_of)
 
 begins_word : {line word argument : List ℕ} (h : Has line word argument) → HasWord line word (h.gap ++ (argument ++ h.behind))
 begins_word h = record { before = h.before; whole = h.whole; blank_before = h.blank_before }
@@ -106,29 +89,23 @@ begins_text h = record { before = h.before; whole = h.whole; blank_before = h.bl
 -- ---- and so are texts
 
 stops_blanks : (text : List ℕ) → begins_dark text ≡ true → stops is_blank text ≡ true
-stops_blanks [] d = refl
-stops_blanks (b ∷ text) d = d
+stops_blanks text d = grind arith
 
 some_byte : (text : List ℕ) → begins_dark text ≡ true → 0 < length text
-some_byte [] d = absurd cc
-some_byte (b ∷ text) d = omega arith
+some_byte text d = grind arith
 
 not_empty : (bytes : List ℕ) → 0 < length bytes → eqb (length bytes) 0 ≡ false
 not_empty bytes l = ne_eqb (length bytes) 0 (λ e. omega (arith, l, e))
 
 text_found : (gap text : List ℕ) → IsTextBehind gap text → text_behind (gap ++ text) ≡ Some text
-text_found gap text h =
-    let run : leading_run is_blank (gap ++ text) ≡ (gap, text) = run_of is_blank gap text h.blank (stops_blanks text h.dark) in
-    rw (run, not_empty gap h.some, not_empty text (some_byte text h.dark)) refl
+text_found gap text h = grind (arith, run_of, stops_blanks, not_empty, some_byte)
 
 stops_at_blank : (p : ℕ → Bool) → ((b : ℕ) → is_blank b ≡ true → not (p b) ≡ true) → (gap text : List ℕ) → list_all is_blank gap ≡ true → 0 < length gap → stops p (gap ++ text) ≡ true
 stops_at_blank p f [] text a l = absurd (omega (arith, l))
 stops_at_blank p f (b ∷ gap) text a l = f b (first_of_all is_blank b gap a)
 
 name_found : (name gap text : List ℕ) → is_name name ≡ true → IsTextBehind gap text → name_and_text (name ++ (gap ++ text)) ≡ Some (name, text)
-name_found name gap text n h =
-    let run : leading_run (is_in class.Dark) (name ++ (gap ++ text)) ≡ (name, gap ++ text) = run_of (is_in class.Dark) name (gap ++ text) (dark_name name n) (stops_at_blank (is_in class.Dark) no_dark gap text h.blank h.some) in
-    rw (run, n, text_found gap text h) refl
+name_found name gap text n h = grind (arith, run_of, dark_name, stops_at_blank, no_dark, text_found)
 
 -- ---- and what is found is there
 
@@ -142,35 +119,13 @@ record IsArgument (rest argument : List ℕ) : Type 0 where
 
 argument_by : (rest gap text argument behind given : List ℕ) → gap ++ text ≡ rest → argument ++ behind ≡ text → list_all is_blank gap ≡ true
     → cond ((eqb (length argument) 0 || ltb 0 (length gap)) && are_blanks behind) (Some argument) None ≡ Some given → IsArgument rest given
-argument_by rest gap text argument behind given e f g h =
-    tests (eqb (length argument) 0) (ltb 0 (length gap)) (are_blanks behind) refl refl refl h
-  where
-    no_argument : None ≡ Some given → IsArgument rest given
-    no_argument q = absurd cc
-
-    there : are_blanks behind ≡ true → (0 < length argument → 0 < length gap) → Some argument ≡ Some given → IsArgument rest given
-    there b apart q =
-        let same : argument ≡ given = cc in
-        subst (IsArgument rest) same (record { gap = gap; behind = behind; whole = sym e ∙ ap (λ y. gap ++ y) (sym f); blank_gap = g; blank_behind = b; apart = apart })
-
-    tests : (none some alone : Bool) → eqb (length argument) 0 ≡ none → ltb 0 (length gap) ≡ some → are_blanks behind ≡ alone → cond ((none || some) && alone) (Some argument) None ≡ Some given → IsArgument rest given
-    tests true some true a b c q = let zero = eqb-true (length argument) 0 a in there c (λ k. absurd (omega arith)) q
-    tests true some false a b c q = no_argument q
-    tests false true true a b c q = there c (λ k. ltb-true 0 (length gap) b) q
-    tests false true false a b c q = no_argument q
-    tests false false alone a b c q = no_argument q
+argument_by rest gap text argument behind given e f g h = grind arith
 
 argument_there : (rest given : List ℕ) → argument_of rest ≡ Some given → IsArgument rest given
-argument_there rest given h =
-    let gap = leading_run is_blank rest in
-    let text = leading_run (is_in class.Dark) gap.1 in
-    argument_by rest gap.0 gap.1 text.0 text.1 given (run_whole is_blank rest) (run_whole (is_in class.Dark) gap.1) (run_all is_blank rest) h
+argument_there rest given h = grind (arith, argument_by, run_whole, run_all)
 
 colon_there : (bytes text : List ℕ) → behind_colon bytes ≡ Some text → bytes ≡ 58 ∷ text
-colon_there [] text h = absurd cc
-colon_there (b ∷ bytes) text h =
-    by_test (λ t. eqb b 58 ≡ t → cond t (Some bytes) None ≡ Some text → b ∷ bytes ≡ 58 ∷ text) (eqb b 58)
-    (λ e q k. let same : bytes ≡ text = cc in ap (λ x. x ∷ bytes) (eqb-true b 58 q) ∙ ap (λ y. 58 ∷ y) same) (λ e q k. absurd cc) refl h
+colon_there bytes text h = grind arith
 
 pairs : (v w a b : List ℕ) → ◌≡◌ {A = Option (List ℕ × List ℕ)} (Some (v, a)) (Some (w, b)) → (v ≡ w) × (a ≡ b)
 pairs v w a b e = let same : ◌≡◌ {A = List ℕ × List ℕ} (v, a) (w, b) = cc in (ap (λ (p : List ℕ × List ℕ). p.0) same, ap (λ (p : List ℕ × List ℕ). p.1) same)
@@ -209,28 +164,13 @@ record IsText (rest text : List ℕ) : Type 0 where
   behind : IsTextBehind gap text
 
 some_length : (bytes : List ℕ) → eqb (length bytes) 0 ≡ false → 0 < length bytes
-some_length [] e = absurd cc
-some_length (b ∷ bytes) e = omega arith
+some_length bytes e = grind arith
 
 dark_by_stop : (text : List ℕ) → stops is_blank text ≡ true → eqb (length text) 0 ≡ false → begins_dark text ≡ true
-dark_by_stop [] s e = absurd cc
-dark_by_stop (b ∷ text) s e = s
+dark_by_stop text s e = grind arith
 
 text_there : (rest text : List ℕ) → text_behind rest ≡ Some text → IsText rest text
-text_there rest text h =
-    let run = leading_run is_blank rest in
-    by run.0 run.1 (run_whole is_blank rest) (run_all is_blank rest) (run_stops is_blank rest) h
-  where
-    tests : (gap behind : List ℕ) → gap ++ behind ≡ rest → list_all is_blank gap ≡ true → stops is_blank behind ≡ true → (none nothing : Bool) → eqb (length gap) 0 ≡ none → eqb (length behind) 0 ≡ nothing
-        → cond (none || nothing) None (Some behind) ≡ Some text → IsText rest text
-    tests gap behind w a s true nothing e f q = absurd cc
-    tests gap behind w a s false true e f q = absurd cc
-    tests gap behind w a s false false e f q =
-        let same : behind ≡ text = cc in
-        subst (IsText rest) same (record { gap = gap; whole = sym w; behind = record { blank = a; some = some_length gap e; dark = dark_by_stop behind s f } })
-
-    by : (gap behind : List ℕ) → gap ++ behind ≡ rest → list_all is_blank gap ≡ true → stops is_blank behind ≡ true → cond (eqb (length gap) 0 || eqb (length behind) 0) None (Some behind) ≡ Some text → IsText rest text
-    by gap behind w a s q = tests gap behind w a s (eqb (length gap) 0) (eqb (length behind) 0) refl refl q
+text_there rest text h = grind (arith, run_whole, run_all, run_stops, stops, nothing, some_length, dark_by_stop)
 
 record IsNameAndText (bytes name text : List ℕ) : Type 0 where
   rest : List ℕ
@@ -294,15 +234,7 @@ argument_sound line word argument q h e =
 
 -- a word with a text
 text_sound : {line word rest text : List ℕ} (wanted : List ℕ) → bytes_eq word wanted ≡ true → HasWord line word rest → IsText rest text → HasText line wanted text
-text_sound {line} {word} {rest} {text} wanted e h x =
-    let same = (bytes_eq-Decides word wanted).0 e in
-    record {
-      before = h.before;
-      gap = x.gap;
-      whole = h.whole ∙ ap (λ w. h.before ++ (58 ∷ (w ++ rest))) same ∙ ap (λ y. h.before ++ (58 ∷ (wanted ++ y))) x.whole;
-      blank_before = h.blank_before;
-      behind = x.behind;
-    }
+text_sound wanted e h x = grind (arith, bytes_eq-Decides)
 
 solve_sound : (line word rest : List ℕ) (q : Asked) → bytes_eq word (codes "solve") ≡ true → HasWord line word rest → (found : Option (List ℕ)) → text_behind rest ≡ found → option_map solve found ≡ Some q → IsCommandLine line q
 solve_sound line word rest q w h None e k = absurd cc
@@ -388,12 +320,7 @@ asks_for line word rest q e h =
     ap (λ w. asked_in w rest) (sym same.0) ∙ ap (asked_in x.word) (sym same.1) ∙ x.asks
 
 pub once : (line : List ℕ) (a b : Asked) → IsCommandLine line a → IsCommandLine line b → a ≡ b
-once line a b h k =
-    let x = complete line a h in
-    some_same (sym x.asks ∙ asks_for line x.word x.rest b x.parts k)
-  where
-    some_same : Some a ≡ Some b → a ≡ b
-    some_same e = cc
+once line a b h k = grind (arith, complete, asks, asks_for)
 
 -- ---- what the reader answers
 

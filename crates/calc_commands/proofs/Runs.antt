@@ -1,7 +1,7 @@
 -- Runs of bytes at the front.
 use Rattle.std.specs.Prelude.{ℕ, ◌+◌, ◌≡◌, List, [], ◌∷◌, ◌++◌, Bool, true, false, take, drop, ◌&&◌, not}
 use Rattle.std.specs.List.{prefix_len, list_all}
-use Rattle.std.proofs.Common.{refl, ap, ◌∙◌, cond}
+use Rattle.std.proofs.Common.{arith, refl, ap, ◌∙◌, cond}
 use Rattle.std.proofs.Math.Numerals.{one-add}
 use Rattle.calc_language.specs.Tokens.{leading_run, keep}
 
@@ -44,8 +44,7 @@ stops p [] = true
 stops p (b ∷ bytes) = not (p b)
 
 both : (a b : Bool) → (a && b) ≡ true → (a ≡ true) × (b ≡ true)
-both true b h = (refl, h)
-both false b h = absurd cc
+both a b h = grind arith
 
 pub run_of : (p : ℕ → Bool) (front rest : List ℕ) → list_all p front ≡ true → stops p rest ≡ true → leading_run p (front ++ rest) ≡ (front, rest)
 run_of p [] [] a s = refl

@@ -1,6 +1,6 @@
 -- A text reads as at most one tree, and what is written is read again.
 use Rattle.std.specs.Prelude.{ℕ, ◌≡◌, List, [], ◌∷◌, Bool, true, false, ◌==◌, ◌||◌, Some, None}
-use Rattle.std.proofs.Common.{refl, sym, ap, ◌∙◌, subst}
+use Rattle.std.proofs.Common.{arith, refl, sym, ap, ◌∙◌, subst}
 use Rattle.std.proofs.lemmas.Bool.{eqb-true}
 use Rattle.calc_language.specs.Grammar.{as_tree, IsSum}
 use Rattle.calc_language.specs.Reads.{Reads}
@@ -20,12 +20,10 @@ blank_no_token b bs h = by (b == 32) refl h
     by false e k = ap (λ n. token_at (n ∷ bs)) (eqb-true b 9 k)
 
 at_end_only : {us : List Token} → Scans [] us → [] ≡ us
-at_end_only at_end = refl
-at_end_only (at_token e d) = cc
+at_end_only h = grind arith
 
 after_blank : {b : ℕ} {bs : List ℕ} {ts us : List Token} → is_blank b ≡ true → ((us : List Token) → Scans bs us → ts ≡ us) → Scans (b ∷ bs) us → ts ≡ us
-after_blank h go (at_blank k d) = go _ d
-after_blank {b} {bs} h go (at_token e d) = let f : token_at (b ∷ bs) ≡ None = blank_no_token b bs h in cc
+after_blank h k l = grind arith
 
 some_is : (p q : Token × List ℕ) → Some p ≡ Some q → p ≡ q
 some_is p q e = cc

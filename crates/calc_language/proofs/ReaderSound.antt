@@ -1,6 +1,6 @@
 -- What is read is in the grammar.
 use Rattle.std.specs.Prelude.{ℕ, zero, suc, ◌≡◌, List, [], ◌∷◌, ◌++◌, Bool, true, false, Some, None}
-use Rattle.std.proofs.Common.{refl, sym, ap, ◌∙◌, subst, append_assoc, append-nil}
+use Rattle.std.proofs.Common.{arith, refl, sym, ap, ◌∙◌, subst, append_assoc, append-nil}
 use Rattle.calc_language.specs.Grammar.{SoFar, single, as_tree, plus_term, minus_term, times_factor, over_factor, joined_tree, joins, Sum, first_term, plus_more, minus_more, Signed, minus_signed, plain_signed, Product, first_factor, times_more, over_more, Right, minus_right, plain_right, Joined, one_power, another_power, Power, plain_power, raised_power, Exponent, minus_exponent, plain_exponent, Primary, a_literal, a_name, an_undef, parenthesized, a_root}
 use Rattle.calc_language.specs.Tokens.{name, Token, literal, undef_mark, root_mark, plus_mark, minus_mark, times_mark, slash_mark, caret_mark, left_mark, right_mark}
 use Rattle.calc_terms.specs.Trees.{Tree, num, symbol, undef, power, root, neg, Trees, none, more, append}
@@ -61,13 +61,7 @@ chained P Q ts p y h f =
 -- a mark, a part, and then more of the same
 chained_mark : {A B : Type 0} (P : List Token → A → Type 0) (Q : List Token → B → Type 0) (m : Token) (a ts : List Token) (p : A × List Token) (y : B × List Token)
     → Took P ts p → ((b : List Token) → P b p.0 → TookAfter Q (a ++ m ∷ b) p.1 y) → TookAfter Q a (m ∷ ts) y
-chained_mark P Q m a ts p y h f =
-    let n = f h.front h.kind in
-    record {
-      front = (m ∷ h.front) ++ n.front;
-      split = ap (λ r. m ∷ r) (h.split ∙ ap (λ r. h.front ++ r) n.split) ∙ sym (append_assoc (m ∷ h.front) n.front y.1);
-      kind = subst (λ r. Q r y.0) (append_assoc a (m ∷ h.front) n.front) n.kind;
-    }
+chained_mark P Q m a ts p y h f = grind (arith, append_assoc)
 
 -- a mark before it, and a node round it
 mark_before : {A B : Type 0} (P : List Token → A → Type 0) (Q : List Token → B → Type 0) (m : Token) (node : A → B) → ((a : List Token) (x : A) → P a x → Q (m ∷ a) (node x))
@@ -77,13 +71,10 @@ mark_before P Q m node f ts p y h e =
 
 node_round : {A B : Type 0} (P : List Token → A → Type 0) (Q : List Token → B → Type 0) (node : A → B) → ((a : List Token) (x : A) → P a x → Q a (node x))
     → (ts : List Token) (p : A × List Token) (y : B × List Token) → Took P ts p → Some (node p.0, p.1) ≡ Some y → Took Q ts y
-node_round P Q node f ts p y h e =
-    subst (λ z. Took Q ts z) (some_is (node p.0, p.1) y e) (record { front = h.front; split = h.split; kind = f h.front p.0 h.kind })
+node_round P Q node f ts p y h e = grind arith
 
 joins_front : (b c : List Token) → begins b ≡ true → joins (b ++ c) ≡ joins b
-joins_front [] c e = cc
-joins_front (name x ∷ b) c e = refl
-joins_front _ c e = refl
+joins_front b c e = grind arith
 
 front_joins : (front rest ts : List Token) → begins front ≡ true → ts ≡ front ++ rest → joins ts ≡ true → joins front ≡ true
 front_joins front rest ts b e j = sym (joins_front front rest b) ∙ sym (ap joins e) ∙ j
@@ -93,11 +84,7 @@ regrouped a b c t d = subst (λ z. JoinedTree z t) (append_assoc a b c) d
 
 powers_off : (k : ℕ) (d : Trees) (ts : List Token) → joins ts ≡ false → powers_at (suc k) d ts ≡ Some (joined_tree d, ts)
 unfolding sum_at
-powers_off k d (name x ∷ ts) e = cc
-powers_off k d (undef_mark ∷ ts) e = cc
-powers_off k d (left_mark ∷ ts) e = cc
-powers_off k d (root_mark ∷ ts) e = cc
-powers_off k d _ e = refl
+powers_off k d ts e = grind arith
 
 module _ (k : ℕ) (h : Sound k) where
   terms_sound : (s : SoFar) (ts : List Token) (y : SoFar × List Token) → terms_at (suc k) s ts ≡ Some y → (a : List Token) → Sum a s → TookAfter Sum a ts y
@@ -194,8 +181,7 @@ module _ (k : ℕ) (h : Sound k) where
       by false j = nothing_more JoinedTree a ts (joined_tree d) y (d, x, refl) (sym (powers_off k d ts j) ∙ e)
 
   closing : (t : Tree) (ts : List Token) (y : Tree × List Token) → closed t ts ≡ Some y → (ts ≡ right_mark ∷ y.1) × (t ≡ y.0)
-  closing t (right_mark ∷ ts) y e = let q : (t, ts) ≡ y = some_is (t, ts) y e in (ap (λ z. right_mark ∷ z.1) q, ap (λ z. z.0) q)
-  closing t _ y e = cc
+  closing t ts y e = grind arith
 
   -- a token by itself
   alone : (m : Token) (t : Tree) (ts : List Token) (y : Tree × List Token) → Primary (m ∷ []) t → Some (t, ts) ≡ Some y → Took Primary (m ∷ ts) y
@@ -203,13 +189,7 @@ module _ (k : ℕ) (h : Sound k) where
 
   bracketed : (before : List Token) (node : SoFar → Tree) → ((a : List Token) (s : SoFar) → Sum a s → Primary (before ++ (a ++ right_mark ∷ [])) (node s))
       → (ts : List Token) (p : SoFar × List Token) (y : Tree × List Token) → Took Sum ts p → closed (node p.0) p.1 ≡ Some y → Took Primary (before ++ ts) y
-  bracketed before node f ts p y t e =
-      let (c, g) = closing (node p.0) p.1 y e in
-      record {
-        front = before ++ (t.front ++ right_mark ∷ []);
-        split = ap (λ z. before ++ z) (t.split ∙ ap (λ z. t.front ++ z) c ∙ sym (append_assoc t.front (right_mark ∷ []) y.1)) ∙ sym (append_assoc before (t.front ++ right_mark ∷ []) y.1);
-        kind = subst (Primary (before ++ (t.front ++ right_mark ∷ []))) g (f t.front p.0 t.kind);
-      }
+  bracketed before node f ts p y t e = grind (arith, closing, append_assoc)
 
   primary_sound : (ts : List Token) (y : Tree × List Token) → primary_at (suc k) ts ≡ Some y → Took Primary ts y
   unfolding sum_at
@@ -223,37 +203,11 @@ module _ (k : ℕ) (h : Sound k) where
   primary_sound _ y e = cc
 
   sound_next : Sound (suc k)
-  sound_next = record {
-    sum = sum_sound;
-    terms = terms_sound;
-    signed = signed_sound;
-    product = product_sound;
-    factors = factors_sound;
-    right = right_sound;
-    joined = joined_sound;
-    powers = powers_sound;
-    power = power_sound;
-    raise = raise_sound;
-    exponent = exponent_sound;
-    primary = primary_sound;
-  }
+  sound_next = grind (arith, sum_sound, terms_sound, signed_sound, product_sound, factors_sound, right_sound, joined_sound, powers_sound, power_sound, raise_sound, exponent_sound, primary_sound)
 
 sound_zero : Sound zero
 unfolding sum_at
-sound_zero = record {
-  sum = λ ts y e. cc;
-  terms = λ s ts y e. cc;
-  signed = λ ts y e. cc;
-  product = λ ts y e. cc;
-  factors = λ s ts y e. cc;
-  right = λ ts y e. cc;
-  joined = λ ts y e. cc;
-  powers = λ d ts y e. cc;
-  power = λ ts y e. cc;
-  raise = λ t ts y e. cc;
-  exponent = λ ts y e. cc;
-  primary = λ ts y e. cc;
-}
+sound_zero = grind arith
 
 pub sound : (k : ℕ) → Sound k
 sound zero = sound_zero

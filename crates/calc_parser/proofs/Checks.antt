@@ -1,7 +1,7 @@
 -- Lines, and what stands before an arrow and a name at their end.
 use Rattle.std.specs.Prelude.{ℕ, ◌+◌, ◌≡◌, ◌≤◌, List, [], ◌∷◌, ◌++◌, length, map, Option, Some, None}
 use Rattle.std.proofs.Common.{refl, sym, ap, ◌∙◌, subst, arith, length-append, append_assoc}
-use Rattle.calc_parser.proofs.Shared.{map-append, Token, name, arrow_mark, Tree, IsSum, one_sum_tree, token_of, placed, bare, Expects, Operand, Parenthesis, Operator, postfix, State, step, then_run, run, start, IsLine, stored, IsSplit, tokens_in}
+use Rattle.calc_parser.proofs.Shared.{map-append, Token, name, arrow_mark, Tree, IsSum, one_sum_tree, token_of, placed, bare, postfix, State, step, then_run, run, start, IsLine, stored, IsSplit, tokens_in}
 use Rattle.calc_tokens.specs.declared.tokens.Token.{Token as Placed}
 use Rattle.calc_parser.proofs.ReadsSums.{sum_is_read}
 
@@ -32,12 +32,7 @@ same_ends (u ∷ us) (v ∷ vs) a b c d e =
 -- no arrow stands in a sum
 arrow_step : (st : State) → step st arrow_mark ≡ None
 unfolding step
-arrow_step st = by st.expects
-  where
-    by : (x : Expects) → ◌≡◌ {A = Option State} (elim x [ Operand ↦ None | Parenthesis ↦ None | Operator ↦ None ]) None
-    by Operand = refl
-    by Parenthesis = refl
-    by Operator = refl
+arrow_step st = grind arith
 
 arrow_run : (us : List Token) (st : State) (c : List Token) → run st (us ++ arrow_mark ∷ c) ≡ None
 unfolding run
@@ -57,8 +52,7 @@ no_arrow us c t d =
 -- ---- lines
 
 pub line_of_sum : (ts us : List Token) (store : Option (List ℕ)) (t : Tree) → IsSplit ts us store → IsSum us t → IsLine ts store t
-line_of_sum ts us (Some x) t e d = (us, e, d)
-line_of_sum ts us None t (e, n) d = subst (λ x. IsSum x t) (sym e) d
+line_of_sum ts us store t e d = grind arith
 
 pub sum_of_line : (ts us : List Token) (store y : Option (List ℕ)) (t : Tree) → IsSplit ts us store → IsLine ts y t → IsSum us t
 sum_of_line ts us (Some x) None t e d = absurd (no_arrow us (name x ∷ []) t (subst (λ x. IsSum x t) e d))
@@ -95,11 +89,7 @@ short_stores_nothing ts h = λ vs x e.
     omega arith
 
 pub unstored : (ts us : List Token) (a b : Token) → ts ≡ us ++ a ∷ b ∷ [] → None ≡ stored a b → StoresNothing ts
-unstored ts us a b e n = λ vs x f.
-    let same : SameEnds us vs a b arrow_mark (name x) = same_ends us vs a b arrow_mark (name x) (sym e ∙ f) in
-    let some : stored a b ≡ Some x = ap (λ a. stored a b) same.firsts ∙ ap (stored arrow_mark) same.seconds in
-    let none : None ≡ Some x = n ∙ some in
-    cc
+unstored ts us a b e n = grind (arith, same_ends)
 
 -- ---- lists of tokens with and without places
 

@@ -1,12 +1,11 @@
 -- How a run ends, by what is open.
-use Rattle.std.specs.Prelude.{◌≡◌, ◌⊎◌, List, [], ◌∷◌, Option, Some, None}
-use Rattle.std.proofs.Common.{refl, sym, ap, ◌∙◌, inl, inr}
+use Rattle.std.specs.Prelude.{◌≡◌, ◌⊎◌, List, Some, None}
+use Rattle.std.proofs.Common.{arith, sym, ap}
 use Rattle.calc_parser.proofs.Shared.{Token, Open, Expects, Operand, Parenthesis, Operator, Node, state, end_product, sum_nodes, when_closed, at_operand, at_parenthesis, at_operator, step, finish, innermost}
 
 pub not_finished : (x : Expects) (s : List Open) (o : List Node) → (x ≡ Operand) ⊎ (x ≡ Parenthesis) → finish (state x s o) ≡ None
 unfolding finish
-not_finished x s o (inl e) = ap (λ x. finish (state x s o)) e
-not_finished x s o (inr e) = ap (λ x. finish (state x s o)) e
+not_finished x s o h = grind arith
 
 -- the state when the sum has ended
 module _ (x y : Expects) (s s' : List Open) (o o' : List Node) (operator : x ≡ Operator) (ends : state y s' o' ≡ state x ((end_product s o).nesting) (sum_nodes (end_product s o))) where
@@ -15,18 +14,10 @@ module _ (x y : Expects) (s s' : List Open) (o o' : List Node) (operator : x ≡
   finish_closes = ap (λ x. finish (state x s o)) operator
 
   pub nothing_open : None ≡ innermost s' → finish (state x s o) ≡ Some o'
-  nothing_open e = finish_closes ∙ by ((end_product s o).nesting) (ap (λ st. innermost st.nesting) ends) ∙ ap (λ st. Some st.nodes) (sym ends)
-    where
-      by : (r : List Open) → innermost s' ≡ innermost r → elim r as (λ r. Option (List Node)) [ [] ↦ Some (sum_nodes (end_product s o)) | z ∷ r ↦ None ] ≡ Some (sum_nodes (end_product s o))
-      by [] f = refl
-      by (z ∷ r) f = cc
+  nothing_open e = grind (arith, finish_closes)
 
   pub something_open : (z : Open) → Some z ≡ innermost s' → finish (state x s o) ≡ None
-  something_open z e = finish_closes ∙ by ((end_product s o).nesting) (ap (λ st. innermost st.nesting) ends)
-    where
-      by : (r : List Open) → innermost s' ≡ innermost r → elim r as (λ r. Option (List Node)) [ [] ↦ Some (sum_nodes (end_product s o)) | z ∷ r ↦ None ] ≡ None
-      by [] f = cc
-      by (z ∷ r) f = refl
+  something_open z e = grind (arith, finish_closes)
 
 -- ---- a step, by what is expected
 module _ (x : Expects) (s : List Open) (o : List Node) (m : Token) where

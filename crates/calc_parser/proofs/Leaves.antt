@@ -1,6 +1,6 @@
 -- Leaves by their tokens.
-use Rattle.std.specs.Prelude.{◌≡◌, ℕ, Result, Ok, Err, IfOk}
-use Rattle.std.proofs.Common.{refl, sym, ap}
+use Rattle.std.specs.Prelude.{◌≡◌, ℕ, Result, IfOk}
+use Rattle.std.proofs.Common.{arith, refl, sym, ap}
 use Rattle.calc_parser.proofs.Shared.{Name, name_of, Payload, rational, named, Trees, undef, root_size, What, token_of, Full, Forest, empty, one_tree, before_last, last_trees, Ends, ends_as, leaf, bytes_of_node, tree_over, Grows, before_none, last_none}
 use Rattle.calc_terms.specs.declared.rat.Rat.{Rat}
 use Rattle.calc_terms.specs.Payload.{bare}
@@ -9,8 +9,7 @@ use Rattle.calc_terms.specs.declared.kind.Kind.TheVariants as kind
 use Rattle.calc_tokens.specs.declared.tokens.What.TheVariants as what
 
 pub ok_as : {P Q : ℕ → Type 0} (r : Result ℕ Full) → IfOk r P → ((h : ℕ) → P h → Q h) → IfOk r Q
-ok_as (Ok h) p q = q h p
-ok_as (Err e) p q = tt
+ok_as r p q = grind arith
 
 over_none : (id : ℕ) (x : Payload) (f new : Forest) → Ends id (one_tree id x empty) f new → Ends id (one_tree id x (last_trees 0 f)) (before_last 0 f) new
 over_none id x f new e = ends_as e (ap (one_tree id x) (sym (last_none f))) (sym (before_none f))
@@ -26,22 +25,8 @@ pub record IsUndef (w : What) : Type 0 where
   pub bytes : bytes_of_node (leaf (token_of w)) ≡ root_size undef
   pub tree : (ts : Trees) → undef ≡ tree_over (leaf (token_of w)) ts
 
-is_undef : {w : What} → bytes_of_node (leaf (token_of w)) ≡ root_size undef → ((ts : Trees) → undef ≡ tree_over (leaf (token_of w)) ts) → IsUndef w
-is_undef b t = record { bytes = b; tree = t }
-
 pub other : (w : What) → ((r : Rat) → w ≡ what.Number r → ⊥) → ((x : Name) → w ≡ what.Name x → ⊥) → IsUndef w
-other (what.Number r) h k = absurd (h r refl)
-other (what.Name x) h k = absurd (k x refl)
-other what.Plus h k = is_undef refl (λ ts. refl)
-other what.Minus h k = is_undef refl (λ ts. refl)
-other what.Times h k = is_undef refl (λ ts. refl)
-other what.Slash h k = is_undef refl (λ ts. refl)
-other what.Caret h k = is_undef refl (λ ts. refl)
-other what.Left h k = is_undef refl (λ ts. refl)
-other what.Right h k = is_undef refl (λ ts. refl)
-other what.Root h k = is_undef refl (λ ts. refl)
-other what.Undef h k = is_undef refl (λ ts. refl)
-other what.Arrow h k = is_undef refl (λ ts. refl)
+other w h k = grind arith
 
 pub other_grows : (w : What) → IsUndef w → (f new : Forest) (id : ℕ) → Ends id (one_tree id (bare kind.Undef) empty) f new → Grows (leaf (token_of w)) f new id
 other_grows w u f new id e = record { payload = bare kind.Undef; ends = over_none id _ f new e; tree_is = u.tree; takes_them = λ h. refl; bytes_are = sym u.bytes }

@@ -1,11 +1,10 @@
 -- What `Parser::read` answers, from what it found.
 use Rattle.std.specs.Prelude.{ℕ, ◌≡◌, ◌≤◌, ◌↔◌, List, Option, Result, Ok, Err, MatchResult, IsOk}
-use Rattle.std.proofs.Common.{refl, ap, subst}
+use Rattle.std.proofs.Common.{arith, refl, ap, subst}
 use Rattle.calc_parser.proofs.Shared.{option_map, Token, name_of, Tree, depth, Placed, bare, IsLine, IsShallow, IsFaultOf, ParseFault, Syntax, Deep, Shape}
 use Rattle.calc_tokens.specs.Faults.{IsFaultOf as IsTokenFaultOf}
 use Rattle.calc_tokens.specs.Scanned.{AreTokensOf}
 use Rattle.calc_tokens.specs.declared.tokens.TokenFault.{TokenFault}
-use Rattle.calc_tokens.specs.declared.tokens.TokenFault.TheVariants.{Character, Number}
 use Rattle.calc_tokens.proofs.OneScan.{character_or_all, wide_or_all, character_or_wide, one_character, one_wide, one_list}
 use Rattle.calc_parser.specs.Refused.{IsLineFaultOf}
 use Rattle.calc_parser.specs.declared.parser.LineFault.{LineFault}
@@ -18,24 +17,17 @@ Answers line r = MatchResult r (λ shape. (ts : List Placed) × AreTokensOf ts l
 
 -- a line with tokens has no fault of a token
 no_token_fault : (line : List ℕ) (ts : List Placed) (fault : TokenFault) → AreTokensOf ts line → IsTokenFaultOf line fault → ⊥
-no_token_fault line ts (Character at) d f = character_or_all line at ts f d
-no_token_fault line ts (Number at) d f = wide_or_all line at ts f d
+no_token_fault line ts fault d f = grind (arith, character_or_all, wide_or_all)
 
 one_token_fault : (line : List ℕ) (f g : TokenFault) → IsTokenFaultOf line f → IsTokenFaultOf line g → f ≡ g
-one_token_fault line (Character p) (Character q) h k = ap Character (one_character line p q h k)
-one_token_fault line (Character p) (Number q) h k = absurd (character_or_wide line p q h k)
-one_token_fault line (Number p) (Character q) h k = absurd (character_or_wide line q p k h)
-one_token_fault line (Number p) (Number q) h k = ap Number (one_wide line p q h k)
+one_token_fault line f g h k = grind (arith, one_character, character_or_wide, one_wide)
 
 no_parse_fault : (ts : List Token) (shape : Shape) (fault : ParseFault) → IsShallow ts shape → IsFaultOf ts fault → ⊥
 no_parse_fault ts shape Syntax h n = n (option_map name_of shape.store) h.0.tree h.0.line
 no_parse_fault ts shape Deep h o = not_deep ts shape h o
 
 one_parse_fault : (ts : List Token) (f g : ParseFault) → IsFaultOf ts f → IsFaultOf ts g → f ≡ g
-one_parse_fault ts Syntax Syntax h k = refl
-one_parse_fault ts Syntax Deep n o = absurd (n o.store o.tree o.line)
-one_parse_fault ts Deep Syntax o n = absurd (n o.store o.tree o.line)
-one_parse_fault ts Deep Deep h k = refl
+one_parse_fault ts f g h k = grind arith
 
 pub faults_exact : (line : List ℕ) (r : Result Shape LineFault) → Answers line r → (fault : LineFault) → (r ≡ Err fault) ↔ IsLineFaultOf line fault
 faults_exact line r h fault = (λ e. subst (Answers line) e h, back r h fault)

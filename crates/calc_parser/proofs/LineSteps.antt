@@ -1,7 +1,7 @@
 -- The steps of a line's tree, from the sum before its store.
-use Rattle.std.specs.Prelude.{ℕ, ◌≡◌, ◌≤◌, List, [], ◌∷◌, map, Option, Some, None}
+use Rattle.std.specs.Prelude.{ℕ, ◌≡◌, List, [], map, Option, Some, None}
 use Rattle.std.proofs.Common.{refl, sym, ap, ◌∙◌, subst, arith}
-use Rattle.calc_parser.proofs.Shared.{Token, name, arrow_mark, IsSum, one_sum_tree, Tree, Placed, bare, placed, finish, run, start, postfix, node_of, tokens_in, IsSplit, Step}
+use Rattle.calc_parser.proofs.Shared.{Token, IsSum, one_sum_tree, Tree, Placed, bare, placed, finish, run, start, postfix, node_of, tokens_in, IsSplit, Step}
 use Rattle.calc_tokens.specs.declared.tokens.Token.{Token as Listed}
 use Rattle.calc_parser.specs.Steps.{AreStepsOf}
 use Rattle.calc_parser.proofs.Checks.{bare-placed, same_ends, short_stores_nothing}
@@ -9,10 +9,7 @@ use Rattle.calc_parser.proofs.ReadsSums.{sum_is_read}
 
 -- the store of a line is one
 one_split : (ts us vs : List Token) (x y : Option (List ℕ)) → IsSplit ts us x → IsSplit ts vs y → us ≡ vs
-one_split ts us vs (Some x) (Some y) e f = (same_ends us vs arrow_mark (name x) arrow_mark (name y) (sym e ∙ f)).fronts
-one_split ts us vs (Some x) None e (f, n) = absurd (n us x e)
-one_split ts us vs None (Some y) (e, n) f = absurd (n vs y f)
-one_split ts us vs None None (e, n) (f, m) = sym e ∙ f
+one_split ts us vs x y e f = grind (arith, same_ends)
 
 pub steps_of_sum : (steps : List Step) (ts us : List Token) (store : Option (List ℕ)) (t : Tree) → IsSplit ts us store → IsSum us t → map (node_of us) steps ≡ postfix t → AreStepsOf steps ts
 steps_of_sum steps ts us store t s d e = λ vs other u s' d'.

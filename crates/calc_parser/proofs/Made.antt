@@ -1,7 +1,7 @@
 -- The nodes of what a sum or a product has made so far.
-use Rattle.std.specs.Prelude.{ℕ, ◌+◌, ◌≡◌, ◌≤◌, List, [], ◌∷◌, ◌++◌, Bool, true, false, ◌==◌, if◌then◌else◌}
+use Rattle.std.specs.Prelude.{ℕ, ◌+◌, ◌≡◌, ◌≤◌, List, [], ◌∷◌, ◌++◌}
 use Rattle.std.proofs.Common.{refl, sym, ap, ◌∙◌, arith, append_assoc, append-nil}
-use Rattle.calc_parser.proofs.Shared.{eqb-true, Kind, Token, Tree, add, mult, Trees, none, more, append, count, SoFar, single, summed, multiplied, as_tree, plus_term, times_factor, joined_tree, Sum, first_term, plus_more, minus_more, Product, first_factor, times_more, over_more, Node, parent, postfix, postfixes, gathered}
+use Rattle.calc_parser.proofs.Shared.{Kind, Token, Tree, add, mult, Trees, none, more, append, count, SoFar, single, summed, multiplied, as_tree, plus_term, times_factor, joined_tree, Sum, first_term, plus_more, minus_more, Product, first_factor, times_more, over_more, Node, parent, postfix, postfixes, gathered}
 use Rattle.calc_terms.specs.declared.kind.Kind.TheVariants as kind
 
 pub postfixes-append : (ts us : Trees) → postfixes (append ts us) ≡ postfixes ts ++ postfixes us
@@ -16,19 +16,13 @@ count-one_more none u = refl
 count-one_more (more t ts) u = let h : count (append ts (more u none)) ≡ count ts + 1 = count-one_more ts u in omega arith
 
 pub gathered_many : (k : Kind) (n : ℕ) → 2 ≤ n → gathered k n ≡ parent k n ∷ []
-gathered_many k n h = by (n == 1) refl
-  where
-    by : (x : Bool) → (n == 1) ≡ x → (if x then [] else parent k n ∷ []) ≡ parent k n ∷ []
-    by true e = let same : n ≡ 1 = eqb-true n 1 e in absurd (omega arith)
-    by false e = refl
+gathered_many k n h = grind arith
 
 pub alone_nodes : (o : List Node) → o ≡ o ++ []
 alone_nodes o = sym (append-nil o)
 
 pub joined_nodes : (ts : Trees) → postfix (joined_tree ts) ≡ postfixes ts ++ gathered kind.Mult (count ts)
-joined_nodes none = refl
-joined_nodes (more t none) = alone_nodes (postfix t) ∙ alone_nodes (postfix t ++ [])
-joined_nodes (more t (more u ts)) = ap (λ o. postfix t ++ (postfix u ++ postfixes ts) ++ o) (sym (gathered_many kind.Mult (count (more t (more u ts))) (omega arith)))
+joined_nodes ts = grind (arith, alone_nodes, gathered_many)
 
 abbrev pub product_nodes : SoFar → List Node
 product_nodes (multiplied ts) = postfixes ts
@@ -55,14 +49,10 @@ HasTerms (summed ts) = 2 ≤ count ts
 HasTerms p = Unit {0}
 
 pub whole_product : (p : SoFar) → HasFactors p → postfix (as_tree p) ≡ product_nodes p ++ gathered kind.Mult (product_count p)
-whole_product (single t) h = alone_nodes (postfix t)
-whole_product (summed ts) h = alone_nodes (postfix (add ts))
-whole_product (multiplied ts) h = ap (λ o. postfixes ts ++ o) (sym (gathered_many kind.Mult (count ts) h))
+whole_product p h = grind (arith, alone_nodes, gathered_many)
 
 pub whole_sum : (p : SoFar) → HasTerms p → postfix (as_tree p) ≡ sum_nodes_of p ++ gathered kind.Add (sum_count p)
-whole_sum (single t) h = alone_nodes (postfix t)
-whole_sum (multiplied ts) h = alone_nodes (postfix (mult ts))
-whole_sum (summed ts) h = ap (λ o. postfixes ts ++ o) (sym (gathered_many kind.Add (count ts) h))
+whole_sum p h = grind (arith, alone_nodes, gathered_many)
 
 pub times_nodes : (p : SoFar) (u : Tree) → product_nodes (times_factor p u) ≡ product_nodes p ++ postfix u
 times_nodes (single t) u = ap (λ o. postfix t ++ o) (append-nil (postfix u))
@@ -70,9 +60,7 @@ times_nodes (summed ts) u = ap (λ o. postfix (add ts) ++ o) (append-nil (postfi
 times_nodes (multiplied ts) u = postfixes-one_more ts u
 
 pub times_count : (p : SoFar) (u : Tree) → product_count (times_factor p u) ≡ product_count p + 1
-times_count (single t) u = refl
-times_count (summed ts) u = refl
-times_count (multiplied ts) u = count-one_more ts u
+times_count p u = grind (arith, count-one_more)
 
 pub plus_nodes : (p : SoFar) (u : Tree) → sum_nodes_of (plus_term p u) ≡ sum_nodes_of p ++ postfix u
 plus_nodes (single t) u = ap (λ o. postfix t ++ o) (append-nil (postfix u))
@@ -80,19 +68,13 @@ plus_nodes (multiplied ts) u = ap (λ o. postfix (mult ts) ++ o) (append-nil (po
 plus_nodes (summed ts) u = postfixes-one_more ts u
 
 pub plus_count : (p : SoFar) (u : Tree) → sum_count (plus_term p u) ≡ sum_count p + 1
-plus_count (single t) u = refl
-plus_count (multiplied ts) u = refl
-plus_count (summed ts) u = count-one_more ts u
+plus_count p u = grind (arith, count-one_more)
 
 pub times_has : (p : SoFar) (u : Tree) → HasFactors p → HasFactors (times_factor p u)
-times_has (single t) u h = omega arith
-times_has (summed ts) u h = omega arith
-times_has (multiplied ts) u h = let e : count (append ts (more u none)) ≡ count ts + 1 = count-one_more ts u in omega arith
+times_has p u h = grind (arith, count-one_more)
 
 pub plus_has : (p : SoFar) (u : Tree) → HasTerms p → HasTerms (plus_term p u)
-plus_has (single t) u h = omega arith
-plus_has (multiplied ts) u h = omega arith
-plus_has (summed ts) u h = let e : count (append ts (more u none)) ≡ count ts + 1 = count-one_more ts u in omega arith
+plus_has p u h = grind (arith, count-one_more)
 
 pub has_factors : {a : List Token} {p : SoFar} → Product a p → HasFactors p
 has_factors (first_factor d) = tt

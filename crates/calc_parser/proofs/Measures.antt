@@ -1,7 +1,7 @@
 -- Depth and number of nodes of a tree, from its nodes in postfix order.
 use Rattle.std.specs.Prelude.{ℕ, zero, suc, ◌+◌, ◌-◌, ◌≡◌, ◌≤◌, ◌<◌, max, List, [], ◌∷◌, ◌++◌, length, map, take, drop}
 use Rattle.std.proofs.Common.{refl, sym, ap, ◌∙◌, arith, length-append, append_assoc, append-nil, get_or, drop-cons, add-one}
-use Rattle.calc_parser.proofs.Shared.{drop_all, Kind, Tree, num, symbol, undef, add, mult, power, root, neg, sub, div, Trees, none, more, count, depth, depths, nodes, nodes_of, Step, Node, leaf, parent, postfix, postfixes, deepest, with_node, with_nodes}
+use Rattle.calc_parser.proofs.Shared.{drop_all, Kind, Tree, num, symbol, undef, add, mult, power, root, neg, sub, div, Trees, none, more, count, depth, depths, nodes, nodes_of, Step, Node, parent, postfix, postfixes, deepest, with_node, with_nodes}
 use Rattle.calc_terms.specs.declared.kind.Kind.TheVariants as kind
 
 -- ---- depths
@@ -115,13 +115,7 @@ deepest_drop (suc n) [] = omega arith
 deepest_drop (suc n) (d ∷ ds) = let rest : deepest (drop n ds) ≤ deepest ds = deepest_drop n ds in omega arith
 
 pub with_node_small : (ds : List ℕ) (x : Node) → deepest (with_node ds x) ≤ deepest ds + 1
-with_node_small ds (leaf t) = let all : deepest (ds ++ 1 ∷ []) ≡ max (deepest ds) (deepest (1 ∷ [])) = deepest-append ds (1 ∷ []) in omega arith
-with_node_small ds (parent k n) =
-    let at : ℕ = length ds - n in
-    let kept : deepest (take at ds) ≤ deepest ds = deepest_take at ds in
-    let gone : deepest (drop at ds) ≤ deepest ds = deepest_drop at ds in
-    let all : deepest (take at ds ++ suc (deepest (drop at ds)) ∷ []) ≡ max (deepest (take at ds)) (deepest (suc (deepest (drop at ds)) ∷ [])) = deepest-append (take at ds) (suc (deepest (drop at ds)) ∷ []) in
-    omega arith
+with_node_small ds x = grind (arith, deepest-append, deepest_take, deepest_drop)
 
 -- ---- the steps, one further
 

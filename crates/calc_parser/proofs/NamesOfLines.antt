@@ -1,7 +1,7 @@
 -- The names in the tokens of a line are those in its tree, in their order.
 use Rattle.std.specs.Prelude.{◌≡◌, ◌↔◌, ◌⊎◌, ℕ, zero, suc, List, [], ◌∷◌, ◌++◌, Bool, true, false, ◌||◌, map, None, IsTrue, Contains}
 use Rattle.std.proofs.Common.{refl, sym, ap, ◌∙◌, subst, inl, inr, arith, append_assoc, append-nil}
-use Rattle.calc_parser.proofs.Shared.{list_any, Token, literal, name, undef_mark, root_mark, plus_mark, minus_mark, times_mark, slash_mark, caret_mark, left_mark, right_mark, arrow_mark, Tree, Trees, none, more, append, names, names_of, IsSum, SoFar, single, summed, multiplied, as_tree, plus_term, times_factor, joined_tree, Sum, first_term, plus_more, minus_more, Signed, minus_signed, plain_signed, Product, first_factor, times_more, over_more, Right, minus_right, plain_right, Joined, one_power, another_power, Power, plain_power, raised_power, Exponent, minus_exponent, plain_exponent, Primary, a_literal, a_name, an_undef, parenthesized, a_root, Placed, bare, placed, token_of, IsLine}
+use Rattle.calc_parser.proofs.Shared.{list_any, Token, literal, name, undef_mark, root_mark, plus_mark, minus_mark, times_mark, slash_mark, caret_mark, left_mark, right_mark, arrow_mark, Tree, Trees, none, more, append, names, names_of, SoFar, single, summed, multiplied, as_tree, plus_term, times_factor, joined_tree, Sum, first_term, plus_more, minus_more, Signed, minus_signed, plain_signed, Product, first_factor, times_more, over_more, Right, minus_right, plain_right, Joined, one_power, another_power, Power, plain_power, raised_power, Exponent, minus_exponent, plain_exponent, Primary, a_literal, a_name, an_undef, parenthesized, a_root, Placed, bare, placed, token_of, IsLine}
 use Rattle.std.specs.Str.{bytes_eq}
 use Rattle.std.proofs.lemmas.Slice.Eq.{bytes_eq-Decides}
 use Rattle.calc_tokens.specs.declared.tokens.Token.{Token as Scanned}

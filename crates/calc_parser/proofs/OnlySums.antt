@@ -1,6 +1,6 @@
 -- What is read is a sum.
-use Rattle.std.specs.Prelude.{◌≡◌, List, [], ◌∷◌, ◌++◌, Bool, true, false, Option, Some, None}
-use Rattle.std.proofs.Common.{refl, sym, ap, ◌∙◌, subst, append_assoc, append-nil}
+use Rattle.std.specs.Prelude.{◌≡◌, List, [], ◌∷◌, ◌++◌, true, false, Option, Some, None}
+use Rattle.std.proofs.Common.{arith, refl, sym, ap, ◌∙◌, subst, append_assoc, append-nil}
 use Rattle.calc_parser.proofs.Shared.{Token, literal, name, undef_mark, root_mark, plus_mark, minus_mark, times_mark, slash_mark, caret_mark, left_mark, right_mark, arrow_mark, Tree, num, symbol, undef, root, count, IsSum, SoFar, as_tree, joins, Sum, plain_power, Primary, a_literal, a_name, an_undef, parenthesized, a_root, Open, Operand, Parenthesis, Operator, Expects, Node, parent, postfix, postfixes, State, state, Ended, gathered, end_power, end_powers, end_product, sum_nodes, begin_operand, at_operand, at_parenthesis, at_operator, join_power, minus_in, leave_parentheses, step, when_closed, finish, then_run, run, start}
 use Rattle.calc_parser.proofs.Made.{product_nodes, sum_nodes_of}
 use Rattle.calc_parser.proofs.Spots.{is_joined, JoinsWhere, Spot, JoinedAt, ProductAt, SumAt, joined_as, power_ends, powers_end, product_whole, product_end, sum_whole, at_start, in_parentheses, in_root, behind_plus, behind_minus, behind_term_sign, behind_times, behind_slash, behind_factor_sign, behind_powers, behind_base, behind_exponent_sign}
@@ -35,19 +35,13 @@ Valid a st = elim st.expects [
 ]
 
 valid_as : (a : List Token) (st st' : State) → Some st ≡ Some st' → Valid a st → Valid a st'
-valid_as a st st' e v = let f : st ≡ st' = some_is st st' e in subst (Valid a) f v
-  where
-    some_is : (x y : State) → Some x ≡ Some y → x ≡ y
-    some_is x y e = cc
+valid_as a st st' e v = grind arith
 
 spot_as : {a b : List Token} {s : List Open} {o n : List Node} → a ≡ b → o ≡ n → Spot a s o → Spot b s n
 spot_as {a} {b} {s} {o} {n} e f q = subst (λ x. Spot x s n) e (subst (λ x. Spot a s x) f q)
 
 not_joined : (s : List Open) (c : List Token) → is_joined s ≡ false → JoinsWhere s c
-not_joined s c h k = absurd (clash (is_joined s) k h)
-  where
-    clash : (b : Bool) → b ≡ true → b ≡ false → ⊥
-    clash b e f = cc
+not_joined s c h k = grind arith
 
 -- a minus sign where an operand is due
 minus_valid : {a : List Token} {s : List Open} {o : List Node} → Spot a s o → is_joined s ≡ false → Valid (a ++ minus_mark ∷ []) (state Operand (minus_in s ∷ s) o)
@@ -189,13 +183,7 @@ operator_valid arrow_mark st b e = cc
 
 step_valid : (a : List Token) (st : State) (m : Token) (st' : State) → Valid a st → step st m ≡ Some st' → Valid (a ++ m ∷ []) st'
 unfolding step
-step_valid a st m st' v e = by st.expects v e
-  where
-    by : (x : Expects) → (elim x as (λ x. Type 0) [ Operand ↦ Spot a st.nesting st.nodes × (is_joined st.nesting ≡ false) | Parenthesis ↦ BehindRoot a st.nesting st.nodes | Operator ↦ BehindOperand a st.nesting st.nodes ])
-        → elim x as (λ x. Option State) [ Operand ↦ at_operand m st.nesting st.nodes | Parenthesis ↦ at_parenthesis m st.nesting st.nodes | Operator ↦ at_operator m st.nesting st.nodes ] ≡ Some st' → Valid (a ++ m ∷ []) st'
-    by Operand v e = operand_valid m st' (v.0) (v.1) e
-    by Parenthesis v e = parenthesis_valid m st' v e
-    by Operator v e = operator_valid m st' v e
+step_valid a st m st' v e = grind (arith, operand_valid, parenthesis_valid, operator_valid)
 
 -- ---- whole runs
 

@@ -1,7 +1,7 @@
 -- What the reader does behind an operand is what the automaton does.
 use Rattle.std.specs.Prelude.{ℕ, ◌≡◌, ◌⊎◌, List, ◌∷◌, ◌++◌, Some, Result}
-use Rattle.std.proofs.Common.{sym, ap, ◌∙◌, subst, inl, inr}
-use Rattle.calc_parser.proofs.Shared.{Name, Token, What, token_of, Open, Expects, Operand, Node, State, state, ended, gathered, end_power, end_powers, end_product, sum_nodes, begin_operand, leave_parentheses, join_power, at_operator, open_in, nodes_in, state_in, IsStep}
+use Rattle.std.proofs.Common.{arith, sym, ap, ◌∙◌}
+use Rattle.calc_parser.proofs.Shared.{Name, Token, What, token_of, Open, Expects, Operand, Node, State, state, ended, gathered, end_power, end_powers, end_product, sum_nodes, begin_operand, leave_parentheses, at_operator, open_in, nodes_in, state_in, IsStep}
 use Rattle.calc_parser.specs.declared.reader.Reader.{Reader}
 use Rattle.calc_parser.specs.declared.postfix.Postfix.{Postfix}
 use Rattle.calc_terms.specs.declared.kind.Kind.TheVariants as kind
@@ -10,17 +10,14 @@ use Rattle.calc_parser.specs.declared.nesting.Open.TheVariants as opened
 
 -- the state behind something that opens
 pub entered : (ts : List Token) (r : Reader) (x : Open) (s : List Open) (p : Postfix) → open_in r.nesting ≡ x ∷ s → r.postfix ≡ p → r.expects ≡ Operand → state_in ts r ≡ state Operand (x ∷ s) (nodes_in ts p)
-entered ts r x s p e f g =
-    ap (λ y. state y (open_in r.nesting) (nodes_in ts r.postfix)) g ∙ ap (λ n. state Operand n (nodes_in ts r.postfix)) e ∙ ap (λ q. state Operand (x ∷ s) (nodes_in ts q)) f
+entered ts r x s p e f g = grind arith
 
 module _ (w : What) (s s' : List Open) (o o' : List Node) where
   pub times_step : (k : ℕ) (st : State) → w ≡ what.Times → ended s' o' k ≡ end_powers s o → st ≡ state Operand (opened.Product k ∷ s') o' → at_operator (token_of w) s o ≡ Some st
   times_step k st e f g = ap (λ w. at_operator (token_of w) s o) e ∙ sym (ap (λ e. Some (state Operand (opened.Product e.count ∷ e.nesting) e.nodes)) f) ∙ ap Some (sym g)
 
   pub slash_step : (k : ℕ) (n : List Node) (st : State) → w ≡ what.Slash → ended s' o' k ≡ end_powers s o → n ≡ o' ++ gathered kind.Mult k → st ≡ state Operand (opened.Quotient ∷ s') n → at_operator (token_of w) s o ≡ Some st
-  slash_step k n st e f h g =
-      ap (λ w. at_operator (token_of w) s o) e ∙ sym (ap (λ e. Some (state Operand (opened.Quotient ∷ e.nesting) (e.nodes ++ gathered kind.Mult e.count))) f)
-      ∙ ap (λ n. Some (state Operand (opened.Quotient ∷ s') n)) (sym h) ∙ ap Some (sym g)
+  slash_step k n st e f h g = grind arith
 
   pub plus_step : (k : ℕ) (st : State) → w ≡ what.Plus → ended s' o' k ≡ end_product s o → st ≡ state Operand (opened.Sum k ∷ s') o' → at_operator (token_of w) s o ≡ Some st
   plus_step k st e f g = ap (λ w. at_operator (token_of w) s o) e ∙ sym (ap (λ e. Some (state Operand (opened.Sum e.count ∷ e.nesting) e.nodes)) f) ∙ ap Some (sym g)
@@ -31,22 +28,11 @@ module _ (w : What) (s s' : List Open) (o o' : List Node) where
 
   pub right_step : {T E : Type 0} (x y : Expects) (r : Result T E) (st : State) → w ≡ what.Right → state x s' o' ≡ state y ((end_product s o).nesting) (sum_nodes (end_product s o)) → IsStep r st (leave_parentheses s' o')
       → IsStep r st (at_operator (token_of w) s o)
-  right_step x y r st e f h =
-      let same : leave_parentheses s' o' ≡ at_operator (token_of w) s o = ap (λ st. leave_parentheses st.nesting st.nodes) f ∙ ap (λ w. at_operator (token_of w) s o) (sym e) in
-      subst (IsStep r st) same h
+  right_step x y r st e f h = grind arith
 
   abbrev pub JoinsAPower : Type 0
   JoinsAPower = ((x : Name) × (w ≡ what.Name x)) ⊎ ((w ≡ what.Undef) ⊎ ((w ≡ what.Left) ⊎ (w ≡ what.Root)))
 
-  joins_as : JoinsAPower → join_power (token_of w) (end_power s o) ≡ at_operator (token_of w) s o
-  joins_as (inl (x, e)) = ap (λ w. join_power (token_of w) (end_power s o)) e ∙ ap (λ w. at_operator (token_of w) s o) (sym e)
-  joins_as (inr (inl e)) = ap (λ w. join_power (token_of w) (end_power s o)) e ∙ ap (λ w. at_operator (token_of w) s o) (sym e)
-  joins_as (inr (inr (inl e))) = ap (λ w. join_power (token_of w) (end_power s o)) e ∙ ap (λ w. at_operator (token_of w) s o) (sym e)
-  joins_as (inr (inr (inr e))) = ap (λ w. join_power (token_of w) (end_power s o)) e ∙ ap (λ w. at_operator (token_of w) s o) (sym e)
-
   pub join_step : {T E : Type 0} (k : ℕ) (s2 : List Open) (o2 : List Node) (r : Result T E) (st : State) → JoinsAPower → ended s' o' k ≡ end_power s o → s2 ≡ opened.Joined k ∷ s' → o2 ≡ o' → IsStep r st (begin_operand (token_of w) s2 o2)
       → IsStep r st (at_operator (token_of w) s o)
-  join_step k s2 o2 r st j f g i h =
-      let same : begin_operand (token_of w) s2 o2 ≡ at_operator (token_of w) s o
-      = ap (λ s. begin_operand (token_of w) s o2) g ∙ ap (λ o. begin_operand (token_of w) (opened.Joined k ∷ s') o) i ∙ ap (join_power (token_of w)) f ∙ joins_as j in
-      subst (IsStep r st) same h
+  join_step k s2 o2 r st j f g i h = grind arith

@@ -1,6 +1,6 @@
 -- A run over a list of tokens, by place.
 use Rattle.std.specs.Prelude.{ℕ, suc, ◌+◌, ◌≡◌, ◌≤◌, ◌<◌, List, [], ◌∷◌, length, drop, Option, Some, None, Result, Ok, Err, MatchResult, OnErr, OnOk}
-use Rattle.std.proofs.Common.{refl, sym, ap, ◌∙◌, get_or, drop-cons, add-one}
+use Rattle.std.proofs.Common.{arith, refl, sym, ap, ◌∙◌, get_or, drop-cons, add-one}
 use Rattle.calc_parser.proofs.Shared.{get_or-map, drop_all, Token, undef_mark, Tree, IsSum, token_of, Node, postfix, State, step, then_run, finish, run, start, token_in, tokens_in}
 use Rattle.calc_tokens.specs.declared.tokens.Token.{Token as Placed}
 use Rattle.calc_parser.specs.declared.reader.NoSum.{NoSum}
@@ -37,15 +37,13 @@ pub no_sum : (ts : List Token) → run start ts ≡ None → (t : Tree) → IsSu
 no_sum ts e t d = let f : run start ts ≡ Some (postfix t) = sum_is_read ts t d in cc
 
 pub on_err : {T E : Type 0} (P : Type 0) (r : Result T E) → P → OnErr r P
-on_err P (Ok x) p = tt
-on_err P (Err e) p = p
+on_err P r p = grind arith
 
 abbrev pub Finishes : {T : Type 0} → State → List Node → Result T NoSum → Type 0
 Finishes st nodes r = MatchResult r (λ x. finish st ≡ Some nodes) (λ fault. finish st ≡ None)
 
 pub finished_sum : {T : Type 0} (ts : List Token) (st : State) (nodes : List Node) (r : Result T NoSum) → finish st ≡ run start ts → Finishes st nodes r → OnOk r ((t : Tree) × IsSum ts t × (nodes ≡ postfix t))
-finished_sum ts st nodes (Ok x) e h = only_sums ts nodes (sym e ∙ h)
-finished_sum ts st nodes (Err fault) e h = tt
+finished_sum ts st nodes r e h = grind (arith, only_sums)
 
 pub finished_none : {T : Type 0} (ts : List Token) (st : State) (nodes : List Node) (r : Result T NoSum) → finish st ≡ run start ts → Finishes st nodes r → OnErr r ((t : Tree) → IsSum ts t → ⊥)
 finished_none ts st nodes (Ok x) e h = tt

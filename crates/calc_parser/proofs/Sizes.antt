@@ -47,9 +47,7 @@ room (n ∷ ns) free left e =
     (λ x q h. omega (arith, leb-true (bytes_of_node n) free q, room ns (free - bytes_of_node n) left h)) (λ x q h. absurd cc) refl e
 
 pub building_takes_the_size : (free : ℕ) (t : Tree) → (building free t ≡ Ok (free - size t)) ↔ (size t ≤ free)
-building_takes_the_size free t =
-    let s = bytes_of-postfix t in
-    (λ e. let h = room (postfix t) free (free - size t) e in omega arith, λ h. fits (postfix t) free (omega arith) ∙ ap (λ (k : ℕ). Ok (free - k)) s)
+building_takes_the_size free t = grind (arith, bytes_of-postfix, room, fits)
 
 pub takes_room : (free left : ℕ) (t : Tree) → building free t ≡ Ok left → size t ≤ free
 takes_room free left t e = omega (arith, room (postfix t) free left e, bytes_of-postfix t)

@@ -1,6 +1,6 @@
 -- Tokens that leave something open, and the parts that end with them.
 use Rattle.std.specs.Prelude.{◌≡◌, List, [], ◌∷◌, ◌++◌, Bool, true, false}
-use Rattle.std.proofs.Common.{refl, sym, ap, ◌∙◌, subst, append_assoc}
+use Rattle.std.proofs.Common.{arith, refl, sym, ap, ◌∙◌, subst, append_assoc}
 use Rattle.calc_parser.proofs.Shared.{Token, root_mark, plus_mark, minus_mark, times_mark, slash_mark, caret_mark, left_mark, Tree, power, neg, Trees, none, more, append, count, SoFar, single, as_tree, plus_term, minus_term, times_factor, over_factor, joined_tree, joins, Sum, first_term, plus_more, minus_more, Signed, minus_signed, plain_signed, Product, first_factor, times_more, over_more, Right, minus_right, plain_right, Joined, one_power, another_power, Power, raised_power, Exponent, minus_exponent, plain_exponent, Primary, Open, Node, parent, postfix, postfixes, Ended, ended, gathered, end_power, end_factor, end_term, sum_nodes}
 use Rattle.calc_parser.proofs.Contexts.{begins_sum, begins_term, begins_right, begins_exponent, begins_factor, sum_alone, term_alone}
 use Rattle.calc_parser.proofs.Made.{postfixes-one_more, count-one_more, alone_nodes, joined_nodes, product_nodes, product_count, sum_nodes_of, sum_count, whole_product, whole_sum, times_nodes, times_count, plus_nodes, plus_count, has_factors, has_terms}
@@ -107,13 +107,7 @@ pub record PowerEnds (b : List Token) (s : List Open) (o : List Node) : Type 0 w
 -- where a part stands by itself
 pub alone_ends : {b : List Token} {s : List Open} {o : List Node} → Spot b s o → begins_factor s ≡ true → begins_exponent s ≡ false
     → ((n : List Node) → end_power s n ≡ ended s n 1) → PowerEnds b s o
-alone_ends {b} {s} {o} q h k f = record {
-  powers = λ c t d j. subst (JoinedAt (b ++ c)) (sym (f (o ++ postfix t))) (power_alone q h d);
-  exponents = λ c t d e. absurd (clash (begins_exponent s) e k);
-}
-  where
-    clash : (b : Bool) → b ≡ true → b ≡ false → ⊥
-    clash b e f = cc
+alone_ends q h k f = grind (arith, power_alone)
 
 pub only_exponents : {b : List Token} {s : List Open} {o : List Node} → ((c : List Token) (t : Tree) → Exponent c t → JoinedAt (b ++ c) (end_power s (o ++ postfix t))) → PowerEnds b s o
 only_exponents f = record { powers = λ c t d j. f c t (plain_exponent d); exponents = λ c t d e. f c t d }
@@ -162,10 +156,7 @@ pub record FactorEnds (b : List Token) (s : List Open) (o : List Node) : Type 0 
   pub rights : (c : List Token) (t : Tree) → Right c t → begins_right s ≡ true → ProductAt (b ++ c) (end_factor s (o ++ postfix t))
 
 pub no_right : {b : List Token} {s : List Open} {o : List Node} → begins_right s ≡ false → FactorEnds b s o
-no_right {b} {s} {o} k = record { rights = λ c t d e. absurd (clash (begins_right s) e k) }
-  where
-    clash : (b : Bool) → b ≡ true → b ≡ false → ⊥
-    clash b e f = cc
+no_right k = grind arith
 
 pub times_ends : {a b : List Token} {s : List Open} {o : List Node} {p : SoFar} → Spot a s o → begins_term s ≡ true → Product b p → FactorEnds ((a ++ b) ++ times_mark ∷ []) (opened.Product (product_count p) ∷ s) (o ++ product_nodes p)
 times_ends {a} {b} {s} {o} {p} q h x = record {
@@ -220,11 +211,7 @@ factor_ends (behind_base q x i) = no_right refl
 factor_ends (behind_exponent_sign q k) = no_right refl
 
 pub term_place : (s : List Open) → begins_factor s ≡ true → begins_right s ≡ false → begins_term s ≡ true
-term_place s h k = by (begins_right s) h k
-  where
-    by : (x : Bool) → elim x as (λ x. Bool) [ true ↦ true | false ↦ begins_term s ] ≡ true → x ≡ false → begins_term s ≡ true
-    by true h k = cc
-    by false h k = h
+term_place s h k = grind arith
 
 -- powers side by side end a factor
 pub powers_end : (a : List Token) (e : Ended) → JoinedAt a e → ProductAt a (end_factor e.nesting (e.nodes ++ gathered kind.Mult e.count))
@@ -259,10 +246,7 @@ pub record TermEnds (b : List Token) (s : List Open) (o : List Node) : Type 0 wh
   pub terms : (c : List Token) (t : Tree) → Signed c t → begins_term s ≡ true → SumAt (b ++ c) (end_term s (o ++ postfix t))
 
 pub no_term : {b : List Token} {s : List Open} {o : List Node} → begins_term s ≡ false → TermEnds b s o
-no_term {b} {s} {o} k = record { terms = λ c t d e. absurd (clash (begins_term s) e k) }
-  where
-    clash : (b : Bool) → b ≡ true → b ≡ false → ⊥
-    clash b e f = cc
+no_term k = grind arith
 
 pub first_ends : {b : List Token} {s : List Open} {o : List Node} → Spot b s o → begins_sum s ≡ true → TermEnds b s o
 first_ends {b} {s} {o} q h = record {
@@ -324,15 +308,11 @@ term_ends (behind_exponent_sign q h) = no_term refl
 
 -- a product ends a term
 pub product_whole : (a : List Token) (e : Ended) (p : ProductAt a e) → e.nodes ++ gathered kind.Mult e.count ≡ p.nodes ++ postfix (as_tree p.made)
-product_whole a e p =
-    ap (λ n. n ++ gathered kind.Mult e.count) p.nodes_are ∙ ap (λ k. (p.nodes ++ product_nodes p.made) ++ gathered kind.Mult k) p.count_is
-    ∙ append_assoc p.nodes (product_nodes p.made) (gathered kind.Mult (product_count p.made)) ∙ ap (λ n. p.nodes ++ n) (sym (whole_product p.made (has_factors p.derives)))
+product_whole a e p = grind (arith, append_assoc, whole_product, has_factors)
 
 pub product_end : (a : List Token) (e : Ended) → ProductAt a e → SumAt a (end_term e.nesting (e.nodes ++ gathered kind.Mult e.count))
 product_end a e p =
     sum_as (end_term e.nesting) (sym p.split) (sym (product_whole a e p)) ((term_ends p.spot).terms p.last (as_tree p.made) (plain_signed p.derives) p.place)
 
 pub sum_whole : (a : List Token) (e : Ended) (p : SumAt a e) → sum_nodes e ≡ p.nodes ++ postfix (as_tree p.made)
-sum_whole a e p =
-    ap (λ n. n ++ gathered kind.Add e.count) p.nodes_are ∙ ap (λ k. (p.nodes ++ sum_nodes_of p.made) ++ gathered kind.Add k) p.count_is
-    ∙ append_assoc p.nodes (sum_nodes_of p.made) (gathered kind.Add (sum_count p.made)) ∙ ap (λ n. p.nodes ++ n) (sym (whole_sum p.made (has_terms p.derives)))
+sum_whole a e p = grind (arith, append_assoc, whole_sum, has_terms)

@@ -90,19 +90,7 @@ pub record IsUnderWay (old now : State) (places : List ℕ) (all rest : List Nod
   pub stands : Stands now
 
 pub begins : (old : State) (all : List Node) (t : Tree) → all ≡ postfix t → Stands old → IsUnderWay old old [] all all
-begins old all t e st = record {
-  trees = empty;
-  plain = none;
-  whole = sym (join-empty (forest old));
-  places-are = refl;
-  represents = represents_none;
-  goal = t;
-  all-are = e;
-  makes = replayed t all e;
-  budget = refl;
-  keeps = keeps_none old;
-  stands = st;
-}
+begins old all t e h = grind (arith, join-empty, represents_none, replayed, keeps_none)
 
 -- a node that may be placed over the last trees, which begin at a place
 pub record IsReady (n : Node) (now : State) (from : ℕ) : Type 0 where
@@ -135,10 +123,7 @@ first_places base front last places k p e =
     ap (λ i. take i places) index ∙ ap (take (length (places_from at front))) (p ∙ places_from-join at front last) ∙ take-append_seam (places_from at front) (places_from (at + bytes_in front) last)
 
 grown_bytes : (base front last f g : Forest) (id : ℕ) (x : Payload) (n : Node) → f ≡ join base (join front last) → g ≡ join (join base front) (one_tree id x last) → size_of_payload x ≡ bytes_of_node n → bytes_in g ≡ bytes_in f + bytes_of_node n
-grown_bytes base front last f g id x n e h s =
-    let old : bytes_in f ≡ bytes_in base + (bytes_in front + bytes_in last) = ap bytes_in e ∙ bytes_in-join base (join front last) ∙ ap (λ k. bytes_in base + k) (bytes_in-join front last) in
-    let new : bytes_in g ≡ bytes_in base + bytes_in front + (size_of_payload x + (bytes_in last + 0)) = ap bytes_in h ∙ bytes_in-join (join base front) (one_tree id x last) ∙ ap (λ k. k + (size_of_payload x + (bytes_in last + 0))) (bytes_in-join base front) in
-    omega arith
+grown_bytes base front last f g id x n e h s = grind (arith, bytes_in-join)
 
 pub by_room : (n : Node) (rest : List Node) (free : ℕ) → bytes_of_node n ≤ free → placing free (n ∷ rest) ≡ placing (free - bytes_of_node n) rest
 by_room n rest free h = ap (λ (t : Bool). if t then placing (free - bytes_of_node n) rest else Err (record { needed = bytes_of_node n; free = free })) (le-leb (bytes_of_node n) free h)
@@ -148,9 +133,7 @@ no_room n rest free h = ap (λ (t : Bool). if t then placing (free - bytes_of_no
 
 fits_next : (n : Node) (rest : List Node) (now next : State) → Stands now → Stands next → KeepsRefusals now next → bytes_of_node n ≤ free_of now → bytes_in (forest next) ≡ bytes_in (forest now) + bytes_of_node n
     → placing (free_of now) (n ∷ rest) ≡ placing (free_of next) rest
-fits_next n rest now next st st' k room e =
-    let left : free_of now - bytes_of_node n ≡ free_of next = omega (arith, free_forest now st, free_forest next st', k.size) in
-    by_room n rest (free_of now) room ∙ ap (λ free. placing free rest) left
+fits_next n rest now next h k l m e = grind (arith, free_forest, by_room)
 
 module _ (old now : State) (places : List ℕ) (all : List Node) (n : Node) (rest : List Node) (u : IsUnderWay old now places all (n ∷ rest)) where
   pub ready : (from end : ℕ) → end ≡ bytes_in (forest now) → from ≡ get_or places (length places - children_in n) end → IsReady n now from

@@ -1,10 +1,10 @@
 -- How many classes and how many bytes a Number has at most.
-use Rattle.std.proofs.Common.{◌≡◌, ℕ, zero, suc, ◌+◌, ◌*◌, ◌^◌, ◌≤◌, ◌<◌, ◌⊎◌, inl, inr, List, [], ◌∷◌, length, Bool, true, false, refl, sym, ap, ◌∙◌, subst, arith}
+use Rattle.std.proofs.Common.{◌≡◌, ℕ, suc, ◌+◌, ◌*◌, ◌^◌, ◌≤◌, ◌<◌, ◌⊎◌, inl, inr, List, [], ◌∷◌, length, Bool, true, false, refl, sym, ap, ◌∙◌, subst, arith}
 use Rattle.std.specs.Prelude.{⊤, nat_le, if◌then◌else◌}
 use Rattle.std.proofs.lemmas.Nat.{pow_pos}
 use Rattle.calc_terms.specs.Fractions.{Fraction}
 use Rattle.calc_terms.proofs.Sizes.{num_most}
-use Rattle.calc_terms.specs.Trees.{Tree, num, add, root, mult, Trees, none, more, count, size, sizes}
+use Rattle.calc_terms.specs.Trees.{Tree, num, add, Trees, none, more, count, size, sizes}
 use Rattle.calc_algebra.specs.Numbers.{IsNumber, IsTerm, AreTerms, IsBelowAll, Rises, value, classes, term_of, terms_of}
 use Rattle.calc_algebra.specs.SquareClasses.{are_alike, radicands, Same}
 use Rattle.calc_algebra.specs.Surds.{Term, Surd}
@@ -25,36 +25,21 @@ num_bytes q = num_most q
 rational_bytes : (t : Tree) (q : Fraction) → t ≡ num q → size t ≤ 40
 rational_bytes t q e = subst (λ x. size x ≤ 40) (sym e) (num_bytes q)
 
-root_bytes : (t : Tree) (q : Fraction) → t ≡ root (num q) → size t ≤ 96
-root_bytes t q e = subst (λ x. size x ≤ 96) (sym e) (omega (arith, num_bytes q))
-
-multiple_bytes : (t : Tree) (p q : Fraction) → t ≡ mult (more (num p) (more (root (num q)) none)) → size t ≤ 96
-multiple_bytes t p q e = subst (λ x. size x ≤ 96) (sym e) (omega (arith, num_bytes p, num_bytes q))
-
 term_bytes_by : (t : Tree) → AsTerm t → size t ≤ 96
-term_bytes_by t (inl a) = let l : size t ≤ 40 = rational_bytes t a.q a.is in omega arith
-term_bytes_by t (inr (inl a)) = root_bytes t _ a.is
-term_bytes_by t (inr (inr a)) = multiple_bytes t _ _ a.is
+term_bytes_by t h = grind arith
 
 pub term_bytes : (t : Tree) → IsTerm t → size t ≤ 96
 term_bytes t h = term_bytes_by t (as_term t h)
 
-one_and_two : (t : Tree) (n : ℕ) (u : Term) → term_of t ≡ u → u.radicand ≡ n → 2 ≤ n → (term_of t).radicand ≡ 1 → ⊥
-one_and_two t n u e f l g = let h : (term_of t).radicand ≡ n = ap (λ x. x.radicand) e ∙ f in absurd (omega arith)
-
 rational_by : (t : Tree) → AsTerm t → (term_of t).radicand ≡ 1 → size t ≤ 40
-rational_by t (inl a) e = rational_bytes t a.q a.is
-rational_by t (inr (inl a)) e = absurd (one_and_two t a.n _ a.term_is refl a.two e)
-rational_by t (inr (inr a)) e = absurd (one_and_two t a.n _ a.term_is refl a.two e)
+rational_by t h e = grind arith
 
 pub rational_term_bytes : (t : Tree) → IsTerm t → (term_of t).radicand ≡ 1 → size t ≤ 40
 rational_term_bytes t h e = rational_by t (as_term t h) e
 
 -- a radicand of 2 or more is not alike with 1
 apart_by : (t : Tree) → AsTerm t → 2 ≤ (term_of t).radicand → are_alike 1 (term_of t).radicand ≡ false
-apart_by t (inl a) l = absurd (let e : (term_of t).radicand ≡ 1 = ap (λ x. x.radicand) a.term_is in omega arith)
-apart_by t (inr (inl a)) l = ap (λ x. are_alike 1 x.radicand) a.term_is ∙ one_apart_from_clean a.n a.two a.clean
-apart_by t (inr (inr a)) l = ap (λ x. are_alike 1 x.radicand) a.term_is ∙ one_apart_from_clean a.n a.two a.clean
+apart_by t h l = grind (arith, one_apart_from_clean)
 
 -- ---- lists of terms
 
@@ -126,9 +111,7 @@ all_roots : (s c r l m : ℕ) → s ≤ 96 * c → r ≤ l → l ≡ c → suc c
 all_roots s c r l m b d e f = (omega arith, omega arith)
 
 one_or_more : (n : ℕ) → 0 < n → (n ≡ 1) ⊎ (2 ≤ n)
-one_or_more zero h = absurd (omega arith)
-one_or_more (suc zero) h = inl refl
-one_or_more (suc (suc n)) h = inr (omega arith)
+one_or_more n h = grind arith
 
 headed : (gs : List ℕ) (ts : Trees) → AreTerms ts → Rises (terms_of ts) → Spans gs (terms_of ts) → Headed ts (2 ^ length gs)
 headed gs none h r s = let p : 0 < 2 ^ length gs = pow_pos (length gs) in record { bytes = omega arith; roots = omega arith }
@@ -185,6 +168,4 @@ number_roots gs t h s = (bytes_by gs t (as_number t h) (value_rises t h) s).1
 -- ---- sums of any number of terms
 
 pub partial_bytes : (gs : List ℕ) (ts : Trees) (v : Surd) → AreTerms ts → Rises (terms_of ts) → Same (terms_of ts) v → Spans gs v → size (add ts) + 48 ≤ 96 * 2 ^ length gs
-partial_bytes gs ts v h r e s =
-    let l : sizes ts + 56 ≤ 96 * 2 ^ length gs = sum_bytes gs ts h r (spans_same_terms gs (terms_of ts) v (terms_proper ts h) r e s) in
-    omega arith
+partial_bytes gs ts v h r e s = grind (arith, sum_bytes, spans_same_terms, terms_proper)

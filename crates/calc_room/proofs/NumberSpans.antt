@@ -2,7 +2,7 @@
 use Rattle.std.proofs.Common.{ℤ, pos, negsuc, ◌≡◌, ◌≢◌, ℕ, zero, suc, ◌*◌, ◌≤◌, ◌<◌, inl, inr, List, [], ◌∷◌, ◌++◌, map, length, Bool, true, false, refl, sym, ap, ◌∙◌, subst, arith}
 use Rattle.calc_terms.specs.Fractions.{Fraction, lowest, plus, zero_fraction, mul_pos}
 use Rattle.calc_terms.specs.FractionLaws.{zero_plus}
-use Rattle.calc_terms.specs.Trees.{Tree, num, add, mult, root, Trees, none, more}
+use Rattle.calc_terms.specs.Trees.{Tree, num, add, root, Trees, none, more}
 use Rattle.calc_algebra.specs.Numbers.{IsNumber, IsTerm, AreTerms, Rises, value, classes, term_of, terms_of, natural_of}
 use Rattle.calc_algebra.specs.SquareClasses.{are_alike, class_coefficient, Same, Inverts}
 use Rattle.calc_algebra.specs.SquareRoots.{square_root}
@@ -49,9 +49,7 @@ square_times : (r s t : ℕ) → r ≡ s * s * t → (s * t) * (s * t) ≡ r * t
 square_times r s t e = omega (arith, ap (λ n. n * t) e)
 
 factors : (s t r : ℕ) → r ≡ s * s * t → 0 < r → (0 < s) × (0 < t)
-factors zero t r e h = absurd (omega arith)
-factors (suc s) zero r e h = absurd (omega arith)
-factors (suc s) (suc t) r e h = (omega arith, omega arith)
+factors s t r e h = grind arith
 
 -- what is left under the root, once a square is taken out
 pub left_alike : (r s t : ℕ) → 0 < r → r ≡ s * s * t → are_alike r t ≡ true
@@ -63,8 +61,7 @@ pub spanned_itself : (r : ℕ) → 0 < r → IsSpanned (r ∷ []) r
 spanned_itself r h = record { chosen = true ∷ []; alike = alike_true (r * 1) r r (record { square = omega arith; positive = h }) }
 
 right_pos : (a b : ℕ) → 0 < a * b → 0 < b
-right_pos a zero h = absurd (omega arith)
-right_pos a (suc b) h = omega arith
+right_pos a b h = grind arith
 
 pub spanned_pos : (gs : List ℕ) (r : ℕ) → IsSpanned gs r → 0 < r
 spanned_pos gs r h =
@@ -123,39 +120,22 @@ short_inverse gs y (t ∷ u ∷ x ∷ w) p r l i k = absurd (omega arith)
 
 -- what spans a Number of one class or two spans its inverse
 pub spans_inverse : (gs : List ℕ) (t u : Tree) → IsNumber t → IsNumber u → classes t ≤ 2 → Inverts (value u) (value t) → Spans gs (value t) → Spans gs (value u)
-spans_inverse gs t u h k l i s =
-    let (z, e, m) = short_inverse gs (value u) (value t) (value_proper t h) (value_rises t h) l i s in
-    spans_same gs u z k e m
+spans_inverse gs t u h k l i s = grind (arith, short_inverse, value_proper, value_rises, spans_same)
 
 -- ---- Numbers as trees
 
 by_one : (gs : List ℕ) (n d : ℕ) → d ≡ 1 → IsSpanned gs (n * d) → IsSpanned gs n
-by_one gs n d e h = subst (IsSpanned gs) (times_one n d e) h
-  where
-    times_one : (n d : ℕ) → d ≡ 1 → n * d ≡ n
-    times_one n d e = ap (λ x. n * x) e ∙ omega arith
-
-to_one : (gs : List ℕ) (n d : ℕ) → d ≡ 1 → IsSpanned gs n → IsSpanned gs (n * d)
-to_one gs n d e h = subst (IsSpanned gs) (one_times n d e) h
-  where
-    one_times : (n d : ℕ) → d ≡ 1 → n ≡ n * d
-    one_times n d e = let f : n * d ≡ n * 1 = ap (λ x. n * x) e in omega arith
+by_one gs n d e h = grind arith
 
 pub term_spanned : (gs : List ℕ) (t : Tree) → IsTerm t → SpansTree gs t → IsSpanned gs (term_of t).radicand
-term_spanned gs (num q) h s = one_spanned gs
-term_spanned gs (root (num r)) h s = by_one gs (natural_of r.num) r.den h.0 s.0
-term_spanned gs (mult (more (num q) (more (root (num r)) none))) h s = by_one gs (natural_of r.num) r.den (h.2).0 (((s.1).1).0).0
-term_spanned gs t h s = absurd h
+term_spanned gs t h s = grind (arith, one_spanned, by_one)
 
 pub terms_spanned : (gs : List ℕ) (ts : Trees) → AreTerms ts → SpansTrees gs ts → Spans gs (terms_of ts)
 terms_spanned gs none h s = tt
 terms_spanned gs (more t ts) (h, hs) (s, ss) = (term_spanned gs t h s, terms_spanned gs ts hs ss)
 
 term_spans : (gs : List ℕ) (t : Tree) → IsTerm t → IsSpanned gs (term_of t).radicand → SpansTree gs t
-term_spans gs (num q) h s = tt
-term_spans gs (root (num r)) h s = (to_one gs (natural_of r.num) r.den h.0 s, tt)
-term_spans gs (mult (more (num q) (more (root (num r)) none))) h s = (tt, (tt, ((to_one gs (natural_of r.num) r.den (h.2).0 s, tt), tt)))
-term_spans gs t h s = absurd h
+term_spans gs t h s = grind arith
 
 terms_span : (gs : List ℕ) (ts : Trees) → AreTerms ts → Spans gs (terms_of ts) → SpansTrees gs ts
 terms_span gs none h s = tt
@@ -173,9 +153,7 @@ pub value_spanned : (gs : List ℕ) (t : Tree) → IsNumber t → SpansTree gs t
 value_spanned gs t h s = value_by_form gs t (as_number t h) s
 
 tree_by_form : (gs : List ℕ) (t : Tree) → AsNumber t → Spans gs (value t) → SpansTree gs t
-tree_by_form gs t (inl a) s = subst (SpansTree gs) (sym a.is) tt
-tree_by_form gs t (inr (inl a)) s = let k : Spans gs (term_of t ∷ []) = subst (Spans gs) a.value_is s in term_spans gs t a.one k.0
-tree_by_form gs t (inr (inr a)) s = subst (SpansTree gs) (sym a.is) (tt, terms_span gs a.ts a.are (subst (Spans gs) a.value_is s))
+tree_by_form gs t h s = grind (arith, term_spans, terms_span)
 
 -- and the other way round
 pub tree_spanned : (gs : List ℕ) (t : Tree) → IsNumber t → Spans gs (value t) → SpansTree gs t

@@ -1,5 +1,5 @@
 -- What a list of radicands spans.
-use Rattle.std.proofs.Common.{◌≡◌, ℕ, zero, suc, ◌*◌, ◌<◌, List, [], ◌∷◌, Bool, true, false, refl, sym, ap, ◌∙◌, arith}
+use Rattle.std.proofs.Common.{◌≡◌, ℕ, ◌*◌, ◌<◌, List, [], ◌∷◌, Bool, true, false, refl, sym, ap, ◌∙◌, arith}
 use Rattle.calc_terms.specs.Fractions.{mul_pos}
 use Rattle.calc_algebra.specs.SquareClasses.{are_alike}
 use Rattle.calc_algebra.specs.SquareRoots.{square_root}
@@ -11,21 +11,17 @@ use Rattle.calc_room.specs.Spans.{chosen_product, IsSpanned}
 -- ---- alike numbers
 
 left_factor : (a b n : ℕ) → a * b ≡ n → 0 < n → 0 < a
-left_factor zero b n e h = absurd (omega arith)
-left_factor (suc a) b n e h = omega arith
+left_factor a b n e h = grind arith
 
 alike_left : (r s t : ℕ) → Alike r s t → 0 < r
 alike_left r s t a = left_factor r s (t * t) (sym a.square) (mul_pos t t a.positive a.positive)
 
 root_pos : (t n : ℕ) → n ≡ t * t → 0 < n → 0 < t
-root_pos zero n f h = absurd (omega arith)
-root_pos (suc t) n f h = omega arith
+root_pos t n f h = grind arith
 
 -- where n times a square other than 0 is r * s times a square, n is alike to both together
 scaled_alike : (n r s k m : ℕ) → 0 < k → 0 < n * (r * s) → (n * (r * s)) * (k * k) ≡ m * m → are_alike n (r * s) ≡ true
-scaled_alike n r s k m h p e =
-    let (t, f) = square_from_scaled (n * (r * s)) k m h e in
-    alike_true n (r * s) t (record { square = sym f; positive = root_pos t (n * (r * s)) f p })
+scaled_alike n r s k m h p e = grind (arith, square_from_scaled, alike_true, root_pos)
 
 -- ---- products of chosen radicands
 
@@ -61,8 +57,7 @@ neither_squared : (a b n k : ℕ) → a * b ≡ n * (k * k) → (1 * a) * (1 * b
 neither_squared a b n k e = omega (arith, e)
 
 right_factor : (a b : ℕ) → 0 < a * b → 0 < b
-right_factor a zero h = absurd (omega arith)
-right_factor a (suc b) h = omega arith
+right_factor a b h = grind arith
 
 once : (gs : List ℕ) (cs ds : List Bool) → 0 < chosen_product gs cs → 0 < chosen_product gs ds → Squared (chosen_product gs cs) (chosen_product gs ds) (chosen_product gs (chosen_once cs ds))
 unfolding chosen_once

@@ -1,5 +1,5 @@
 -- How many bytes a reduced tree has at most.
-use Rattle.std.proofs.Common.{◌≡◌, ℕ, suc, ◌+◌, ◌*◌, ◌^◌, ◌≤◌, ◌<◌, ◌⊎◌, inl, inr, max, List, length, Bool, true, false, not, ◌==◌, refl, sym, ap, ◌∙◌, subst, arith}
+use Rattle.std.proofs.Common.{◌≡◌, ℕ, ◌+◌, ◌*◌, ◌^◌, ◌≤◌, ◌<◌, ◌⊎◌, inl, inr, max, List, length, Bool, true, false, ◌==◌, refl, sym, ap, ◌∙◌, subst, arith}
 use Rattle.std.specs.Prelude.{⊤, if◌then◌else◌}
 use Rattle.std.proofs.lemmas.Nat.{pow_pos, mul-le}
 use Rattle.std.proofs.lemmas.Bool.{eqb-true}
@@ -11,23 +11,17 @@ use Rattle.calc_algebra.proofs.NumberLaws.{number_test, term_words, number_words
 use Rattle.calc_room.specs.Counts.{counted, counted_among}
 use Rattle.calc_room.specs.Spans.{SpansTree, SpansTrees}
 use Rattle.calc_room.proofs.NumberSpans.{value_spanned, terms_spanned}
-use Rattle.calc_room.proofs.NumberBytes.{num_bytes, number_bytes, sum_bytes}
+use Rattle.calc_room.proofs.NumberBytes.{number_bytes, sum_bytes}
 
 -- ---- what counts
 
 term_is_number : (t : Tree) → is_term t ≡ true → is_number t ≡ true
 unfolding is_number
-term_is_number (num q) h = refl
-term_is_number (root a) h = h
-term_is_number (mult ts) h = h
-term_is_number _ h = cc
+term_is_number t h = grind arith
 
 pub term_counts : (t : Tree) → IsTerm t → is_number t ≡ true
 unfolding is_number
-term_counts (num q) h = refl
-term_counts (root a) h = number_test (root a) h
-term_counts (mult ts) h = number_test (mult ts) h
-term_counts t h = absurd h
+term_counts t h = grind (arith, number_test)
 
 -- a Number counts nothing among children, and another tree what it counts
 pub counted_number : (t : Tree) (ts : Trees) → is_number t ≡ true → counted_among (more t ts) ≡ counted_among ts
@@ -43,11 +37,7 @@ none_counted (more t ts) (h, hs) = counted_number t ts (term_counts t h) ∙ non
 -- a Number counts once
 pub number_counts : (t : Tree) → IsNumber t → counted t ≡ 1
 unfolding is_number
-number_counts (num q) h = refl
-number_counts (add ts) h = ap suc (none_counted ts h.1)
-number_counts (root (num r)) h = refl
-number_counts (mult (more (num q) (more (root (num r)) none))) h = ap (max 1) (counted_number (num q) (more (root (num r)) none) refl ∙ counted_number (root (num r)) none (number_test (root (num r)) h.2))
-number_counts t h = absurd h
+number_counts t h = grind (arith, none_counted, counted_number, number_test)
 
 -- ---- the three bounds
 
@@ -159,39 +149,18 @@ module _ (gs : List ℕ) (m : ℕ) (hm : 0 < m)
       omega arith
 
   sum_base : (ts ns : Trees) → SumParts gs m ts ns → Rises (terms_of ns) → Bounded m (add ts)
-  sum_base ts ns p r =
-      let a : sizes ns + 56 ≤ 96 * m = sb ns p.are r p.spans in
-      let b : sizes ts ≤ sizes ns + 204 * counted_among ts * m = p.bytes in
-      from_base m (add ts) (omega arith)
+  sum_base ts ns p r = grind arith
 
   number_base : (t : Tree) → IsNumber t → SpansTree gs t → Bounded m t
-  number_base t h s =
-      let a : size t + 48 ≤ 96 * m = nb t h s in
-      from_base m t (rw (number_counts t h) (omega arith))
+  number_base t h s = grind arith
 
   -- a power with another exponent than a whole number
   other_power : (b e : Tree) → is_whole_num e ≡ false → Bounded m b → Bounded m e → Bounded m (power b e)
-  other_power b e h x y =
-      let a : size b ≤ 204 * counted b * m = x.tree in
-      let c : size e ≤ 204 * counted e * m = y.tree in
-      let k : counted (power b e) ≡ suc (counted b + counted e) = ap (λ z. if z then counted b else suc (counted b + counted e)) h in
-      from_base m (power b e) (rw k (omega arith))
+  other_power b e h x y = grind arith
 
   whole_exponent : (b : Tree) (q : Fraction) → (q.den == 1) ≡ true → IsWholePowerForm b q → Bounded m b → Bounded m (power b (num q))
   unfolding is_number
-  whole_exponent b q h f x =
-      let a : size b + 96 * m + 8 ≤ 204 * counted b * m = x.base f.no_product f.no_power in
-      let k : counted (power b (num q)) ≡ counted b = ap (λ z. if z then counted b else suc (counted b + 1)) h in
-      let l : size (num q) ≤ 40 = num_bytes q in
-      record {
-        tree = rw k (omega arith);
-        factor = λ e. rw k (omega arith);
-        base = λ e g. absurd (contrary (q.den == 1) h g);
-      }
-    where
-      contrary : (z : Bool) → z ≡ true → not (not z) ≡ false → ⊥
-      contrary true e g = cc
-      contrary false e g = cc
+  whole_exponent b q h f x = grind arith
 
   power_base : (b e : Tree) → IsPowerForm b e → Bounded m b → Bounded m e → Bounded m (power b e)
   power_base b (num q) f x y = by (q.den == 1) refl
@@ -202,21 +171,13 @@ module _ (gs : List ℕ) (m : ℕ) (hm : 0 < m)
   power_base b e f x y = other_power b e refl x y
 
   root_base : (a : Tree) → is_num a ≡ false → Bounded m a → Bounded m (root a)
-  root_base a h x =
-      let l : size a ≤ 204 * counted a * m = x.tree in
-      let k : counted (root a) ≡ suc (counted a) = ap (λ z. if z then 1 else suc (counted a)) h in
-      from_base m (root a) (rw k (omega arith))
+  root_base a h x = grind arith
 
   product_base : (ts : Trees) → IsProductForm ts → SpansTrees gs ts → AllBounded m ts → Bounded m (mult ts)
-  product_base ts f s b = record {
-    tree = product_bytes ts (split_product ts).factors (product_parts ts f.front s f.no_product b) f.no_number;
-    factor = λ e. cc;
-    base = λ e g. cc;
-  }
+  product_base ts f s b = grind (arith, product_bytes, product_parts)
 
   no_form : ⊥ ⊎ ⊥ → ⊥
-  no_form (inl h) = h
-  no_form (inr h) = h
+  no_form h = grind arith
 
   add_by : (ts : Trees) → HasForm (add ts) → SpansTree gs (add ts) → AllBounded m ts → Bounded m (add ts)
   add_by ts (inl h) s b = number_base (add ts) h s
@@ -227,12 +188,10 @@ module _ (gs : List ℕ) (m : ℕ) (hm : 0 < m)
   mult_by ts (inr f) s b = product_base ts f s.1 b
 
   power_by : (b e : Tree) → HasForm (power b e) → Bounded m b → Bounded m e → Bounded m (power b e)
-  power_by b e (inl h) x y = absurd h
-  power_by b e (inr f) x y = power_base b e f x y
+  power_by b e h x y = grind (arith, power_base)
 
   root_by : (a : Tree) → HasForm (root a) → SpansTree gs (root a) → Bounded m a → Bounded m (root a)
-  root_by a (inl h) s x = number_base (root a) h s
-  root_by a (inr f) s x = root_base a f x
+  root_by a h s x = grind (arith, number_base, root_base)
 
   mutual
     bounded : (t : Tree) → AllParts HasForm t → SpansTree gs t → Bounded m t

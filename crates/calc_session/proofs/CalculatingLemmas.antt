@@ -1,9 +1,9 @@
 -- Lemmas on command lines that calculate.
-use Rattle.std.proofs.Common.{◌≡◌, ◌∙◌, ℕ, ◌≤◌, List, [], ◌∷◌, ◌++◌, length, length-append, true, Option, Some, None, inl, inr, refl, sym, ap, subst, arith}
+use Rattle.std.proofs.Common.{◌≡◌, ℕ, ◌≤◌, List, [], ◌∷◌, ◌++◌, length, length-append, true, Option, None, refl, sym, ap, subst, arith}
 use Rattle.calc_session.proofs.Shared.{HasText, IsCommandLine, asks_diff, asks_solve, asks_expand, diff, solve, expand, is_command, Tree, Placed, values, Table, Full, free_of, forest, LineAnswer, Refusal, AnswersUntold, CountsRefusal, TellsReply, reply_of, IsNoExpression, ReadsText, bytes_before, IsReplyToCalculation, is_no_expression, is_read, derives, AsksForTooMuch, IsCountedBut, LacksDerivativeOf, IsReplyToDerivative, IsReplyToMade, made, Seen, Counts, pool_of, Reply, State, state_of, is_calculated, Leaves}
 use Rattle.breakers.specs.State.{State as Breaker}
 use Rattle.node_pool.specs.State.{State as PoolState}
-use Rattle.calc_session.proofs.SessionLemmas.{counts_refusal, refused_leaves, same_counts}
+use Rattle.calc_session.proofs.SessionLemmas.{refused_leaves}
 use Rattle.calc_session.specs.declared.answers.LineAnswer.TheVariants as answer
 
 -- a text that is calculated with stands in its line
@@ -54,24 +54,16 @@ module _ (room bits : Option (Tree → ℕ)) (p : PoolState) (table : Table) (be
   -- its refusal is counted, or known before
   pub counts_derivative : (new : PoolState) (tokens : List Placed) (t : Tree) (r : Option Full) → ReadsText text tokens None t
       → IsCountedBut (LacksDerivativeOf (made (free_of p) (values table (forest p)) t) x) (λ y. CountsRefusal y p new) r → IsCountedBut (AsksForTooMuch (state_of p table) line) (λ y. CountsRefusal y p new) r
-  counts_derivative new tokens t r reads (inl c) = inl c
-  counts_derivative new tokens t r reads (inr (lack, e, l, c)) = inr (lack, e, record { name = x; text = text; asks = asked; tokens = tokens; tree = t; reads = reads; lacks = l }, c)
+  counts_derivative new tokens t r h k = grind arith
 
 -- ---- as a session is seen
 
 pub counted_seen : (Known : Full → Type 0) (old new : Seen) (r : Option Full) → IsCountedBut Known (λ y. CountsRefusal y (pool_of old) (pool_of new)) r → IsCountedBut Known (λ y. Counts y old new) r
-counted_seen Known old new r (inl c) = inl (counts_refusal r old new c)
-counted_seen Known old new r (inr (lack, e, k, c)) = inr (lack, e, k, counts_refusal None old new c)
+counted_seen Known old new r h = grind arith
 
 pub same_counted : (line : List ℕ) (a b new : Seen) (r : Option Full) → a.state ≡ b.state → a.refusals ≡ b.refusals → a.last_refused ≡ b.last_refused
     → IsCountedBut (AsksForTooMuch a.state line) (λ y. Counts y a new) r → IsCountedBut (AsksForTooMuch b.state line) (λ y. Counts y b new) r
-same_counted line a b new r s e f (inl c) = inl (same_counts r a b new e f c)
-same_counted line a b new r s e f (inr (lack, is, k, c)) = inr (lack, is, subst (λ t. AsksForTooMuch t line lack) s k, same_counts None a b new e f c)
+same_counted line a b new r s e f h = grind arith
 
 pub counted_renewed : (Known : Full → Type 0) (old new end : Seen) (r : Option Full) → end.refusals ≡ new.refusals → end.last_refused ≡ new.last_refused → IsCountedBut Known (λ y. Counts y old new) r → IsCountedBut Known (λ y. Counts y old end) r
-counted_renewed Known old new end r e f (inl c) = inl (renewed r c)
-  where
-    renewed : (q : Option Full) → Counts q old new → Counts q old end
-    renewed None h = (e ∙ h.0, f ∙ h.1)
-    renewed (Some full) h = (e ∙ h.0, f ∙ h.1)
-counted_renewed Known old new end r e f (inr (lack, is, k, c)) = inr (lack, is, k, (e ∙ c.0, f ∙ c.1))
+counted_renewed Known old new end r e f h = grind arith

@@ -1,17 +1,13 @@
 -- Lemmas on what the derivative of a tree comes to.
-use Rattle.std.proofs.Common.{◌≡◌, ℕ, ◌+◌, ◌≤◌, ◌<◌, List, [], ◌∷◌, nat_le, nat_lt, cond, Bool, true, false, Option, None, Result, Ok, Err, refl, ap, subst, arith}
-use Rattle.calc_session.proofs.Shared.{leb-false, leb-true, ltb-false, IsWritable, building, Tree, depth, root_size, size, symbol, HasDerivative, derivative, NamedTree, Filling, lacks, too_deep, fills, filling, filling_one, Full, free_of, Forest, tree_of, Gives, IsHanded, KeepsFront, without_root, Stands, forest, behind_first, behind_new, front_after_one, front_at, front_end, front_same, front_without, given_rest, given_told, ends_at, ends_without, occurrences, replaced, replacing, Evaluation, ComesTo, IsDisplayOf, IsReplyToDerivative, IsReduction, made, reported}
+use Rattle.std.proofs.Common.{◌≡◌, ℕ, ◌+◌, ◌≤◌, ◌<◌, List, [], ◌∷◌, Option, None, refl, ap, subst, arith}
+use Rattle.calc_session.proofs.Shared.{IsWritable, Tree, depth, size, HasDerivative, derivative, NamedTree, Filling, lacks, too_deep, fills, filling, filling_one, free_of, Forest, tree_of, Gives, IsHanded, KeepsFront, without_root, Stands, forest, behind_first, behind_new, front_after_one, front_at, front_end, front_same, front_without, given_rest, given_told, ends_at, ends_without, Evaluation, ComesTo, IsDisplayOf, IsReplyToDerivative, IsReduction, made, reported}
 use Rattle.breakers.specs.State.{State as Breaker}
 use Rattle.node_pool.specs.State.{State}
 use Rattle.calc_session.specs.Deriving.{is_reduced}
 use Rattle.calc_session.proofs.EvaluationLemmas.{comes_as, free_same}
 
 pub over : (a b : ℕ) → (a ≤ b → ⊥) → b < a
-over a b h = by (nat_le a b) refl
-  where
-    by : (t : Bool) → nat_le a b ≡ t → b < a
-    by true e = absurd (h (leb-true a b e))
-    by false e = leb-false a b e
+over a b h = grind arith
 
 -- ---- the depth of a filled tree
 
@@ -19,15 +15,7 @@ filled_is : (l m : ℕ) (t u : Tree) → fills l t ≡ fills m u → t ≡ u
 filled_is l m t u e = cc
 
 one_shallow : (free : ℕ) (v : NamedTree) (t : Tree) (left : ℕ) (u : Tree) → filling_one free v t ≡ fills left u → depth u ≤ 64
-one_shallow free v t left u e = by (replacing free (occurrences v.name t) (size v.tree) (root_size (symbol v.name))) e
-  where
-    test : (n : ℕ) (b : Bool) → nat_lt 64 (depth (replaced v.name v.tree t)) ≡ b → cond b too_deep (fills n (replaced v.name v.tree t)) ≡ fills left u → depth u ≤ 64
-    test n true d k = absurd cc
-    test n false d k = omega (arith, ltb-false 64 (depth (replaced v.name v.tree t)) d, ap depth (filled_is n left (replaced v.name v.tree t) u k))
-
-    by : (r : Result ℕ Full) → elim r [ Err full ↦ lacks full | Ok n ↦ cond (nat_lt 64 (depth (replaced v.name v.tree t))) too_deep (fills n (replaced v.name v.tree t)) ] ≡ fills left u → depth u ≤ 64
-    by (Err full) k = absurd cc
-    by (Ok n) k = test n (nat_lt 64 (depth (replaced v.name v.tree t))) refl k
+one_shallow free v t left u e = grind arith
 
 filling_shallow : (vs : List NamedTree) (free : ℕ) (t : Tree) (left : ℕ) (u : Tree) → depth t ≤ 64 → filling free vs t ≡ fills left u → depth u ≤ 64
 filling_shallow [] free t left u d e = omega (arith, d, ap depth (filled_is free left t u e))
@@ -40,11 +28,7 @@ filling_shallow (v ∷ vs) free t left u d e = by (filling_one free v t) refl (�
     by (fills l w) one more k = more l w (one_shallow free v t l w one) k
 
 pub made_shallow : (free : ℕ) (vs : List NamedTree) (t : Tree) (left : ℕ) (u : Tree) → depth t ≤ 64 → made free vs t ≡ fills left u → depth u ≤ 64
-made_shallow free vs t left u d e = by (building free t) e
-  where
-    by : (r : Result ℕ Full) → elim r [ Err refusal ↦ lacks refusal | Ok n ↦ filling n vs t ] ≡ fills left u → depth u ≤ 64
-    by (Err full) k = absurd cc
-    by (Ok n) k = filling_shallow vs n t left u d k
+made_shallow free vs t left u d e = grind (arith, filling_shallow)
 
 -- ---- the derivative in the place of its tree
 

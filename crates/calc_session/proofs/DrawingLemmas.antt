@@ -1,5 +1,5 @@
 -- Lemmas on the layout of the last answer, and on the rows of its picture.
-use Rattle.std.proofs.Common.{◌*◌, ◌≡◌, ◌∙◌, ℕ, zero, suc, ◌+◌, ◌≤◌, ◌==◌, if◌then◌else◌, List, [], ◌∷◌, ◌++◌, length, encode_utf8_all, Bool, true, false, nat_le, Option, Some, None, Result, Ok, Err, refl, sym, ap, subst, arith, append_assoc, append-nil, length-append}
+use Rattle.std.proofs.Common.{◌*◌, ◌≡◌, ◌∙◌, ℕ, zero, suc, ◌+◌, ◌≤◌, List, [], ◌∷◌, ◌++◌, length, encode_utf8_all, Bool, true, false, nat_le, Option, Result, Ok, Err, refl, sym, ap, subst, arith, append_assoc, append-nil, length-append}
 use Rattle.calc_session.proofs.Shared.{Appends-trans, leb-true, leb-false, Appends, IsHeld, Table, Full, free_of, GivesLayout, IsLayout, drawing, given_drawing, Block, before_cut, cut, picture, AllExpressions, IsExpression, IsWhole, plain, bytes_in, forest_of, tree_at, has_root, Stands, forest, tree_of_root, root_held, Content, extended, after, IsDrawn, IsDrawnInPart, first_rows, row_text, told_at}
 use Rattle.std.proofs.lemmas.Str.{encodes-append}
 use Rattle.calc_edges.specs.Taken.{AppendsPart}
@@ -41,9 +41,7 @@ rows_front b m (suc n) h = by (nat_le m n) refl (rows_front b m n)
 
 -- one row more
 pub rows_more : (b : Block) (y : ℕ) (x u v : Option (List ℕ)) (written : List ℕ) → Appends x u (first_rows b y) → written ≡ row_text b y → Appends u v written → Appends x v (first_rows b (y + 1))
-rows_more b y x u v written before e h =
-    let next : suc y ≡ y + 1 = omega arith in
-    subst (λ n. Appends x v (first_rows b n)) next (Appends-trans x u v (first_rows b y) (row_text b y) before (subst (Appends u v) e h))
+rows_more b y x u v written h e k = grind (arith, Appends-trans)
 
 -- a row is cut off
 pub rows_cut : (b : Block) (y n : ℕ) (x u v : Option (List ℕ)) (written : List ℕ) → suc y ≤ n → Appends x u (first_rows b y) → written ≡ row_text b y → AppendsPart u v written → AppendsPart x v (first_rows b n)
@@ -56,12 +54,7 @@ bytes_cons : (c : ℕ) (cs : List ℕ) → length (encode_utf8_all (c ∷ cs)) �
 bytes_cons c cs = ap length (encodes-append (c ∷ []) cs) ∙ length-append (encode_utf8_all (c ∷ [])) (encode_utf8_all cs)
 
 cut_before : (c : ℕ) (cs : List ℕ) → length (encode_utf8_all (before_cut c cs)) ≤ length (encode_utf8_all (c ∷ [])) + length (encode_utf8_all cs)
-cut_before c [] = by (c == 32)
-  where
-    by : (t : Bool) → length (encode_utf8_all (if t then [] else c ∷ [])) ≤ length (encode_utf8_all (c ∷ [])) + 0
-    by true = omega arith
-    by false = omega arith
-cut_before c (d ∷ ds) = omega (arith, bytes_cons c (d ∷ ds))
+cut_before c cs = grind (arith, bytes_cons)
 
 cut_bytes : (cs : List ℕ) → length (encode_utf8_all (cut cs)) ≤ length (encode_utf8_all cs)
 cut_bytes [] = omega arith
@@ -75,14 +68,12 @@ row_fits s i y st x =
 
 -- the text of a row: it was empty, the row was appended, and then a newline
 pub row_written : (old clear row new : Content) (line : List ℕ) (more : List ℕ) → clear ≡ record old { bytes = [] } → row ≡ extended clear line → new ≡ extended row more → new.bytes ≡ line ++ more
-row_written old clear row new line more e f h =
-    ap (λ (x : Content). x.bytes) h ∙ ap (λ (x : Content). x.bytes ++ more) f ∙ ap (λ (x : Content). (x.bytes ++ line) ++ more) e
+row_written old clear row new line more e f h = grind arith
 
 -- ---- the pool behind a rolling back
 
 pub nodes_kept : (lack : Option Full) (p q : PoolState) → q ≡ after lack p.nodes p → q.nodes ≡ p.nodes
-nodes_kept None p q e = ap (λ (s : PoolState). s.nodes) e
-nodes_kept (Some full) p q e = ap (λ (s : PoolState). s.nodes) e
+nodes_kept lack p q e = grind arith
 
 pub still_held : (lack : Option Full) (t : Table) (p q : PoolState) → q ≡ after lack p.nodes p → IsHeld t (forest p) → IsHeld t (forest q)
 still_held lack t p q e h = subst (λ ns. IsHeld t (forest_of ns)) (sym (nodes_kept lack p q e)) h

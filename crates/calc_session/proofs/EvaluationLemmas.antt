@@ -1,7 +1,7 @@
 -- Lemmas on what the tree of a line comes to.
 use Rattle.std.proofs.Common.{◌≡◌, ◌∙◌, ◌↔◌, ℕ, zero, suc, ◌+◌, ◌*◌, ◌≤◌, ◌<◌, List, [], ◌∷◌, true, false, Option, Some, None, Result, Ok, Err, ◌⊎◌, inl, inr, refl, sym, ap, subst, arith}
 use Rattle.std.specs.Prelude.{Contains}
-use Rattle.calc_session.proofs.Shared.{Contains-append_cases, CalmChecks, TripsRose, IsEasy, Reduces, face, HasNames, Token, building, IsTreeOf, one_line, name_of, Tree, num, symbol, undef, add, mult, power, root, neg, sub, div, is_undef, names, nodes, root_kind, size, NamedTree, values, LacksNames, Filling, lacks, too_deep, fills, filling, refused_filling, FaultsFilling, IsKeepable, names_with, Table, table_names, Full, AreNodes, used, free_of, AreNodes-right, MayExceed, Covers, CalmUpTo, TripsWithin, Evaluates, HasEasyBadPart, CountsRefusals, IfFull, IfInterrupted, IfOverflow, ReduceFault, Overflows, plain, Forest, flatten, bytes_in, tree_of, Gives, KeepsFront, Starts, root_tree, without_root, LacksBytes, Stands, forest, KeepsRefusals, bytes_in-join, flatten-join, refuses_after, behind_first, behind_new, front_after_one, front_at, front_end, front_same, front_without, given_rest, given_told, gives_as, last_tree, size-plain, Refusal, Evaluation, Face, Undefined, Refused, ComesTo, CountsRefusal, IsDisplayOf, LacksName, refusal_of, refusal_to_fill, reply_of, HasFittingRationals, IsAnswerTo, IsReplyWith, has_no_value, holds_its_name, is_shown, is_stored, OverflowsAt, IsReduction, lacks_bytes, is_answered, made, Unmade, IsReplyTo, finds_no_room, becomes_too_deep, Reply, displayed, circular, refusal_in}
+use Rattle.calc_session.proofs.Shared.{Contains-append_cases, CalmChecks, TripsRose, IsEasy, Reduces, face, HasNames, Token, building, IsTreeOf, one_line, name_of, Tree, num, symbol, undef, add, mult, power, root, neg, sub, div, is_undef, names, nodes, root_kind, size, NamedTree, values, LacksNames, Filling, lacks, too_deep, fills, filling, refused_filling, FaultsFilling, IsKeepable, names_with, Table, table_names, Full, AreNodes, used, free_of, AreNodes-right, MayExceed, Covers, CalmUpTo, TripsWithin, Evaluates, HasEasyBadPart, CountsRefusals, IfFull, IfInterrupted, IfOverflow, ReduceFault, Overflows, plain, Forest, flatten, bytes_in, tree_of, Gives, KeepsFront, Starts, root_tree, without_root, LacksBytes, Stands, forest, KeepsRefusals, bytes_in-join, flatten-join, behind_first, behind_new, front_after_one, front_at, front_end, front_same, front_without, given_rest, given_told, gives_as, last_tree, size-plain, Refusal, Evaluation, Face, Undefined, Refused, ComesTo, CountsRefusal, IsDisplayOf, LacksName, refusal_of, refusal_to_fill, reply_of, HasFittingRationals, IsAnswerTo, IsReplyWith, has_no_value, holds_its_name, is_shown, is_stored, OverflowsAt, IsReduction, lacks_bytes, is_answered, made, Unmade, IsReplyTo, finds_no_room, becomes_too_deep, Reply, displayed, circular, refusal_in}
 use Rattle.breakers.specs.State.{State as Breaker}
 use Rattle.calc_measures.specs.PlainOverflows.{is_overflow, nodes_to_overflow}
 use Rattle.calc_measures.specs.PlainTrees.{IsPlainAnswer, IsPlainOverflow}
@@ -15,7 +15,6 @@ use Rattle.calc_session.proofs.FaceNames.{face_names}
 use Rattle.calc_session.proofs.StoredTrees.{fitting_tree, named_tree}
 use Rattle.calc_session.proofs.WritableFaces.{face_written}
 use Rattle.calc_terms.specs.declared.kind.Kind.TheVariants as kind
-use Rattle.name_table.specs.declared.fault.FillFault.TheVariants as fill
 use Rattle.reduce_port.specs.declared.fault.ReduceFault.TheVariants as fault
 use Rattle.calc_session.specs.declared.answers.Refusal.TheVariants as refusal
 
@@ -23,8 +22,7 @@ use Rattle.calc_session.specs.declared.answers.Refusal.TheVariants as refusal
 
 -- what a last tree takes of the bytes
 pub last_bytes : {s : State} {others : Forest} {i : ℕ} {Told : Tree → Type 0} → Stands s → Gives others (forest s) i Told → used s.nodes ≡ bytes_in others + size (tree_of i s)
-last_bytes {s} {others} {i} st g =
-    omega (arith, used_forest s st, ap bytes_in g.ends.whole, bytes_in-join others g.tree, size-plain g.tree g.ends.alone g.whole, ap (λ (x : Forest). size (plain x)) (last_tree g.ends))
+last_bytes h g = grind (arith, used_forest, bytes_in-join, size-plain, last_tree)
 
 -- the bytes that are free without the last tree
 pub free_without : {s : State} {others : Forest} {i : ℕ} {Told : Tree → Type 0} → Stands s → Gives others (forest s) i Told → bytes_in others + (free_of s + size (tree_of i s)) ≡ s.size
@@ -45,8 +43,7 @@ free_there {s} {t} {others} st st' e g k =
 
 -- the nodes of a last tree are nodes of the pool
 pub last_nodes : {s : State} {others : Forest} {i : ℕ} {Told : Tree → Type 0} → Stands s → (g : Gives others (forest s) i Told) → AreNodes (flatten g.tree)
-last_nodes {s} {others} st g =
-    AreNodes-right (flatten others) (flatten g.tree) (subst AreNodes (st.flat ∙ ap flatten g.ends.whole ∙ flatten-join others g.tree) st.pool.nodes)
+last_nodes h g = grind (arith, AreNodes-right, flatten-join)
 
 -- others stand first still
 pub first_still : {others f g : Forest} {i : ℕ} {Told : Tree → Type 0} → Gives others f i Told → KeepsFront (i ∷ []) f g → Starts others g
@@ -85,8 +82,7 @@ pub record IsAnswered (room : Option (Tree → ℕ)) (before after : List Breake
 
 -- where four times an answer's bytes are not free, its tree's room is more than was free for both
 exceeds : (room : Option (Tree → ℕ)) (t : Tree) (free left bytes : ℕ) → left + bytes ≡ free → left < 4 * bytes → Covers room t (5 * bytes) → MayExceed room t free
-exceeds None t free left bytes e h c = tt
-exceeds (Some told) t free left bytes e h c = omega (arith, c)
+exceeds room t free left bytes e h c = grind arith
 
 -- a name under which it may be stored
 kept_reply : (answer : Tree) (store : Option (List ℕ)) → is_undef answer ≡ false → LacksName store answer → IsReplyWith answer store (displayed store (face answer))
@@ -151,16 +147,10 @@ module _ (room bits : Option (Tree → ℕ)) (before after : List Breaker) (stor
 pub overflow_at : (A : Type 0) (bits : Option (Tree → ℕ)) (t : Tree) (before after : List Breaker) (r : Result A ReduceFault) → IfOverflow r Overflows → IfOverflow r (IsPlainOverflow (plain_value t))
     → IfOverflow r (λ _. MayExceed bits t 124) → IfOverflow r (λ _. CalmUpTo (nodes t) before after)
     → IfOverflow r (λ _. is_overflow (plain_value t) ≡ true → CalmChecks (nodes_to_overflow t) before after) → IfOverflow r (OverflowsAt bits t before after)
-overflow_at A bits t before after (Ok x) a b c d e = tt
-overflow_at A bits t before after (Err (fault.Full full)) a b c d e = tt
-overflow_at A bits t before after (Err (fault.Overflow o)) a b c d e = record { does_not_fit = a; plain = b; beyond_bits = c; checks = d; plain_checks = e }
-overflow_at A bits t before after (Err (fault.Interrupted i)) a b c d e = tt
+overflow_at A bits t before after r a b c d e = grind arith
 
 pub full_both : (A : Type 0) (r : Result A ReduceFault) (P Q : Type 0) → IfFull r (λ _. P) → IfFull r (λ _. Q) → IfFull r (λ _. P × Q)
-full_both A (Ok x) P Q p q = tt
-full_both A (Err (fault.Full full)) P Q p q = (p, q)
-full_both A (Err (fault.Overflow o)) P Q p q = tt
-full_both A (Err (fault.Interrupted i)) P Q p q = tt
+full_both A r P Q p q = grind arith
 
 -- ---- interruptions
 
@@ -173,42 +163,20 @@ none_rose (b ∷ bs) (suc place) h = none_rose bs place h
 is_refused : (r s : Refusal) → Refused r ≡ Refused s → r ≡ s
 is_refused r s e = cc
 
-never_interrupted : (f : ReduceFault) (place : ℕ) → refusal_of f ≡ refusal.Interrupted place → f ≡ fault.Interrupted (record { by = place })
-never_interrupted (fault.Full full) place e = cc
-never_interrupted (fault.Overflow o) place e = cc
-never_interrupted (fault.Interrupted i) place e = ap (λ by. fault.Interrupted (record { by = by })) (let e' : i.by ≡ place = cc in e')
-
-err_is : (A : Type 0) (r : Result A ReduceFault) (a b : ReduceFault) → r ≡ Err a → r ≡ Err b → a ≡ b
-err_is A r a b e f = cc
-
 -- an interruption of the reducer is answered as one
 pub interruption : (A : Type 0) (r : Result A ReduceFault) (f : ReduceFault) (place : ℕ) (Rose : Type 0) → r ≡ Err f → ((r ≡ Err (fault.Interrupted (record { by = place }))) ↔ Rose)
     → ((Refused (refusal_of f) ≡ Refused (refusal.Interrupted place)) ↔ Rose)
-interruption A r f place Rose is told = (
-  λ e. told.0 (is ∙ ap Err (never_interrupted f place (is_refused (refusal_of f) (refusal.Interrupted place) e))),
-  λ rose. ap (λ x. Refused (refusal_of x)) (err_is A r f (fault.Interrupted (record { by = place })) is (told.1 rose)),
-)
-
-two_results : (A : Type 0) (r : Result A ReduceFault) (x : A) (f : ReduceFault) → r ≡ Ok x → r ≡ Err f → ⊥
-two_results A r x f e g = cc
-
-shows_no_interruption : (store : Option (List ℕ)) (i : ℕ) (old new : State) (result : Evaluation) (place : ℕ) → Shows store i old new result → result ≡ Refused (refusal.Interrupted place) → ⊥
-shows_no_interruption store i old new result place s e = subst (Shows store i old new) e s
+interruption A r f place Rose h k = grind arith
 
 pub no_interruption : (A : Type 0) (r : Result A ReduceFault) (x : A) (store : Option (List ℕ)) (i : ℕ) (old new : State) (result : Evaluation) (place : ℕ) (Rose : Type 0) → r ≡ Ok x → ((r ≡ Err (fault.Interrupted (record { by = place }))) ↔ Rose)
     → Shows store i old new result → ((result ≡ Refused (refusal.Interrupted place)) ↔ Rose)
-no_interruption A r x store i old new result place Rose is told s = (
-  λ e. absurd (shows_no_interruption store i old new result place s e),
-  λ rose. absurd (two_results A r x (fault.Interrupted (record { by = place })) is (told.1 rose)),
-)
+no_interruption A r x store i old new result place Rose h k s = grind arith
 
 -- ---- built and filled trees
 
 -- what is said of the replies and of what is displayed may be said otherwise, also of the trees before
 pub comes_as : {Is Now : Reply → Type 0} {Fits Will : Tree → Type 0} {f g : Forest} (store : Option (List ℕ)) (new : Forest) (result : Evaluation) → ((r : Reply) → Is r → Now r) → ((t : Tree) → Fits t → Will t) → f ≡ g → ComesTo Is Fits store f new result → ComesTo Now Will store g new result
-comes_as store new (Face h) to will same (t, is, w, g) = (t, to _ is, will t w, gives_as g same (λ u x. x))
-comes_as store new Undefined to will same is = to _ is
-comes_as store new (Refused r) to will same is = to _ is
+comes_as store new result h k l m = grind arith
 
 pub that_tree : (ts : List Token) (t u : Tree) → IsTreeOf ts t → IsTreeOf ts u → t ≡ u
 that_tree ts t u (x, d) (y, e) = (one_line ts x y t u d e).trees
@@ -220,8 +188,7 @@ pub made_none : (free : ℕ) (values : List NamedTree) (t : Tree) (full : Full) 
 made_none free values t full e = rw (e, made) refl
 
 only : (x y : List ℕ) → Contains (x ∷ []) y → x ≡ y
-only x y (zero, l, e) = e
-only x y (suc k, l, e) = absurd (omega arith)
+only x y h = grind arith
 
 -- what is displayed holds no name of the table
 pub keepable : (store : Option (List ℕ)) (table : Table) (t shown : Tree) → LacksNames (table_names table) t → IsDisplayOf store t shown → IsKeepable store table shown
@@ -241,30 +208,18 @@ keepable store table t shown clear d = record { writable = d.writable; clear = b
 -- ---- refusals of the pool
 
 pub keeps_then : (refusal : Option Full) (s t u : State) → KeepsRefusals s t → CountsRefusal refusal t u → CountsRefusal refusal s u
-keeps_then None s t u k r = record { size = r.size ∙ k.size; refusals = r.refusals ∙ k.refusals; last_refused = r.last_refused ∙ k.last_refused }
-keeps_then (Some full) s t u k r = refuses_after s t u full k r
+keeps_then refusal s t u k r = grind arith
 
 pub size_kept : (refusal : Option Full) (s t : State) → CountsRefusal refusal s t → t.size ≡ s.size
-size_kept None s t r = r.size
-size_kept (Some full) s t r = r.size
+size_kept refusal s t r = grind arith
 
 -- ---- kinds
 
 pub undef_by_kind : (t : Tree) → root_kind t ≡ kind.Undef → is_undef t ≡ true
-undef_by_kind undef e = refl
-undef_by_kind (num q) e = cc
-undef_by_kind (symbol x) e = cc
-undef_by_kind (add ts) e = cc
-undef_by_kind (mult ts) e = cc
-undef_by_kind (power b x) e = cc
-undef_by_kind (root a) e = cc
-undef_by_kind (neg a) e = cc
-undef_by_kind (sub a b) e = cc
-undef_by_kind (div a b) e = cc
+undef_by_kind t e = grind arith
 
 pub defined_by_kind : (t : Tree) → (root_kind t ≡ kind.Undef → ⊥) → is_undef t ≡ false
-defined_by_kind undef e = absurd (e refl)
-defined_by_kind _ e = refl
+defined_by_kind t e = grind arith
 
 -- ---- from the tree that was read to the one that is reduced
 
@@ -276,11 +231,7 @@ module _ (table : Table) (old mid : State) {i : ℕ} (ts : List Token) (t : Tree
       ∙ ap (filling (free_of mid) (values table (without_root i (forest mid)))) (that_tree ts t (tree_of i mid) is (given_told g))
 
   pub unfilled : (f : FillFault) (r : Refusal) → filling (free_of mid) (values table (without_root i (forest mid))) (tree_of i mid) ≡ refused_filling f → r ≡ refusal_to_fill f → Unmade (made (free_of old) (values table (forest old)) t) (reply_of r)
-  unfilled f r filled is' = subst (λ x. Unmade x (reply_of r)) (sym (made_filled ∙ filled)) (subst (λ x. Unmade (refused_filling f) (reply_of x)) (sym is') (by f))
-    where
-      by : (f : FillFault) → Unmade (refused_filling f) (reply_of (refusal_to_fill f))
-      by (fill.Full full) = refl
-      by fill.Deep = refl
+  unfilled f r h k = grind (arith, made_filled)
 
 pub unbuilt : (table : Table) (old : State) (t : Tree) (full : Full) (r : Refusal) → building (free_of old) t ≡ Err full → r ≡ refusal.Full full.needed full.free → Unmade (made (free_of old) (values table (forest old)) t) (reply_of r)
 unbuilt table old t full r e is = subst (λ x. Unmade x (reply_of r)) (sym (made_none (free_of old) (values table (forest old)) t full e)) (ap reply_of is)
@@ -308,11 +259,7 @@ module _ (room bits : Option (Tree → ℕ)) (before after : List Breaker) (stor
       by (fills left u) e k = absurd k
 
 pub unfilled_count : (s t : State) (f : FillFault) (r : Refusal) → r ≡ refusal_to_fill f → FaultsFilling s t f → CountsRefusal (refusal_in (reply_of r)) s t
-unfilled_count s t f r is h = subst (λ x. CountsRefusal (refusal_in (reply_of x)) s t) (sym is) (by f h)
-  where
-    by : (f : FillFault) → FaultsFilling s t f → CountsRefusal (refusal_in (reply_of (refusal_to_fill f))) s t
-    by (fill.Full full) h = h.0
-    by fill.Deep h = h
+unfilled_count s t f r h k = grind arith
 
 -- a refusal before the first check
 calm_at : (r : Refusal) (bs : List Breaker) (place : ℕ) → (r ≡ refusal.Interrupted place → ⊥) → ((Refused r ≡ Refused (refusal.Interrupted place)) ↔ TripsRose bs bs place)
@@ -322,14 +269,7 @@ pub calm_refused : (r : Refusal) (bs : List Breaker) → ((place : ℕ) → r �
 calm_refused r bs h place = calm_at r bs place (h place)
 
 pub full_interrupts_none : (r : Refusal) (needed free place : ℕ) → r ≡ refusal.Full needed free → r ≡ refusal.Interrupted place → ⊥
-full_interrupts_none r needed free place is e = clash (sym is ∙ e)
-  where
-    clash : refusal.Full needed free ≡ refusal.Interrupted place → ⊥
-    clash e = cc
+full_interrupts_none r needed free place h e = grind arith
 
 pub fault_interrupts_none : (r : Refusal) (f : FillFault) (place : ℕ) → r ≡ refusal_to_fill f → r ≡ refusal.Interrupted place → ⊥
-fault_interrupts_none r f place is e = clash f (sym is ∙ e)
-  where
-    clash : (f : FillFault) → refusal_to_fill f ≡ refusal.Interrupted place → ⊥
-    clash (fill.Full full) e = cc
-    clash fill.Deep e = cc
+fault_interrupts_none r f place h e = grind arith

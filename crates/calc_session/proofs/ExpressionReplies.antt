@@ -1,14 +1,8 @@
 -- The replies to a text that is calculated with, by what it becomes.
-use Rattle.std.proofs.Common.{◌≡◌, ◌∙◌, ℕ, List, None, sym, subst}
-use Rattle.calc_session.proofs.Shared.{Tree, Placed, Filling, fills, ReadsText, IsReplyToExpression, is_no_expression, is_read, made_in, IsReplyToMade, Unmade, is_made, is_not_made, Reply, report, State}
+use Rattle.std.proofs.Common.{arith, ◌≡◌, ℕ, List, None, sym, subst}
+use Rattle.calc_session.proofs.Shared.{Tree, Placed, Filling, fills, ReadsText, IsReplyToExpression, is_no_expression, is_read, made_in, IsReplyToMade, Reply, report, State}
 use Rattle.breakers.specs.State.{State as Breaker}
-use Rattle.calc_session.proofs.TextLemmas.{misread_unreported, one_text, read_at_all, unmade_unreported}
-
-filled_left : (l m : ℕ) (u v : Tree) → fills l u ≡ fills m v → l ≡ m
-filled_left l m u v e = cc
-
-pub filled_tree : (l m : ℕ) (u v : Tree) → fills l u ≡ fills m v → u ≡ v
-filled_tree l m u v e = cc
+use Rattle.calc_session.proofs.TextLemmas.{misread_unreported, one_text, read_at_all}
 
 -- the text was read as a tree that becomes another, and the reply is one to that
 pub record RepliesToText (old : State) (text : List ℕ) (Is : ℕ → Tree → Reply → Type 0) (reply : Reply) : Type 0 where
@@ -21,13 +15,10 @@ pub record RepliesToText (old : State) (text : List ℕ) (Is : ℕ → Tree → 
   pub reply_is : Is left becomes reply
 
 made_text : {old : State} {before after : List Breaker} {text : List ℕ} {Is : ℕ → Tree → Reply → Type 0} {tokens : List Placed} {tree : Tree} (reply : Reply) (told : List ℕ) → ReadsText text tokens None tree → IsReplyToMade (made_in old tree) before after Is reply → reply ≡ report told → RepliesToText old text Is reply
-made_text {old} {tree = tree} reply told reads (is_not_made u same) e = absurd (unmade_unreported (made_in old tree) reply told u e)
-made_text {tokens = tokens} {tree = tree} reply told reads (is_made {left = left} {t = t} is h) e = record { tokens = tokens; tree = tree; reads = reads; left = left; becomes = t; is_made = is; reply_is = h }
+made_text reply told h k e = grind arith
 
 made_tree : {before after : List Breaker} {Is : ℕ → Tree → Reply → Type 0} {making : Filling} {left : ℕ} {t : Tree} → making ≡ fills left t → (reply : Reply) → IsReplyToMade making before after Is reply → Is left t reply
-made_tree is reply (is_not_made u same) = absurd (subst (λ m. Unmade m reply) is u)
-made_tree {Is = Is} {left = left} {t = t} is reply (is_made {left = l} {t = u} also h) =
-    let e = sym also ∙ is in subst (λ k. Is k t reply) (filled_left l left u t e) (subst (λ v. Is l v reply) (filled_tree l left u t e) h)
+made_tree h reply k = grind arith
 
 module _ {old : State} {before after : List Breaker} {line text : List ℕ} {Is : ℕ → Tree → Reply → Type 0} where
   -- a report

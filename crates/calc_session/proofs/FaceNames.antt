@@ -25,15 +25,10 @@ nothing_in many = λ x (k, l, e). absurd (omega arith)
 
 module _ (many : List (List ℕ)) where
   of_minus : (b : Bool) (t : Tree) → AreIn (names t) many → AreIn (names (with_minus b t)) many
-  of_minus true t h = h
-  of_minus false t h = h
+  of_minus b t h = grind arith
 
   of_unless_one : (n : ℕ) (ts : Trees) → AreIn (names_of ts) many → AreIn (names_of (unless_one n ts)) many
-  of_unless_one n ts h = by (n == 1)
-    where
-      by : (b : Bool) → AreIn (names_of (if b then ts else more (whole_num n) ts)) many
-      by true = h
-      by false = both [] (names_of ts) many (nothing_in many) h
+  of_unless_one n ts h = grind arith
 
   of_product : (ts : Trees) → AreIn (names_of ts) many → AreIn (names (product_of ts)) many
   of_product none h = h

@@ -1,7 +1,7 @@
 -- Lemmas on the tree of a constant and multiples of names: it is reduced, what it means, and its bytes.
-use Rattle.std.proofs.Common.{◌≡◌, ◌∙◌, inl, inr, ℕ, suc, ◌+◌, ◌*◌, ◌≤◌, List, [], ◌∷◌, length, Bool, true, false, if◌then◌else◌, not, refl, sym, ap, subst, arith}
+use Rattle.std.proofs.Common.{◌≡◌, ◌∙◌, inl, inr, ℕ, suc, ◌*◌, ◌≤◌, List, [], ◌∷◌, length, Bool, true, false, if◌then◌else◌, not, refl, sym, ap, subst, arith}
 use Rattle.std.specs.Prelude.{All, ◌&&◌}
-use Rattle.calc_session.proofs.Shared.{Assignment, Means, is_number, terms_of, HasForm, IsProductForm, NoneIs, RisesBy, is_reduced, number_terms, other_terms, part_of, surd_of, tree_cmp, Same-sym, reduced_test, Same-trans, Same-eq, Same-refl, joined_radicand, surd_times-terms, zero_term, no_one, no_zero, one_is, zero_is, Fraction, plus, times, is_one_fraction, is_zero_fraction, zero_fraction, is_short, AllParts, AllPartsOf, Tree, num, symbol, add, mult, Trees, none, more, count, is_add, size, sizes, Assigns, worth, Rises, is_before, form_tree, multiple_of, multiples, sum_of_trees, summands}
+use Rattle.calc_session.proofs.Shared.{Assignment, Means, is_number, terms_of, HasForm, IsProductForm, NoneIs, RisesBy, is_reduced, number_terms, other_terms, part_of, surd_of, tree_cmp, Same-sym, reduced_test, Same-trans, Same-eq, Same-refl, joined_radicand, surd_times-terms, zero_term, no_one, no_zero, one_is, zero_is, Fraction, plus, times, is_one_fraction, is_zero_fraction, zero_fraction, AllParts, AllPartsOf, Tree, num, symbol, add, mult, Trees, none, more, count, is_add, size, sizes, Assigns, worth, Rises, is_before, form_tree, multiple_of, multiples, sum_of_trees, summands}
 use Rattle.calc_algebra.specs.Meanings.{Gives}
 use Rattle.calc_algebra.specs.Numbers.{Rises as TermsRise}
 use Rattle.calc_algebra.proofs.MeaningRewrites.{none_sum, one_sum, product_more, product_one, sum_more, sum_none}
@@ -11,40 +11,20 @@ use Rattle.calc_session.proofs.RisingLemmas.{before_is}
 -- ---- a multiple of a name
 
 part_is : (q : Fraction) (x : List ℕ) → part_of (multiple_of q x) ≡ symbol x
-part_is q x = by (is_one_fraction q)
-  where
-    by : (b : Bool) → part_of (if b then symbol x else mult (more (num q) (more (symbol x) none))) ≡ symbol x
-    by true = refl
-    by false = refl
+part_is q x = grind arith
 
 no_sum_of : (q : Fraction) (x : List ℕ) → is_add (multiple_of q x) ≡ false
-no_sum_of q x = by (is_one_fraction q)
-  where
-    by : (b : Bool) → is_add (if b then symbol x else mult (more (num q) (more (symbol x) none))) ≡ false
-    by true = refl
-    by false = refl
+no_sum_of q x = grind arith
 
 no_number_of : (q : Fraction) (x : List ℕ) → is_number (multiple_of q x) ≡ false
 unfolding is_number
-no_number_of q x = by (is_one_fraction q)
-  where
-    by : (b : Bool) → is_number (if b then symbol x else mult (more (num q) (more (symbol x) none))) ≡ false
-    by true = refl
-    by false = refl
+no_number_of q x = grind arith
 
 no_term_of : (q : Fraction) (x : List ℕ) (ts : Trees) → number_terms (more (multiple_of q x) ts) ≡ none
-no_term_of q x ts = by (is_one_fraction q)
-  where
-    by : (b : Bool) → number_terms (more (if b then symbol x else mult (more (num q) (more (symbol x) none))) ts) ≡ none
-    by true = refl
-    by false = refl
+no_term_of q x ts = grind arith
 
 other_of : (q : Fraction) (x : List ℕ) (ts : Trees) → other_terms (more (multiple_of q x) ts) ≡ more (multiple_of q x) ts
-other_of q x ts = by (is_one_fraction q)
-  where
-    by : (b : Bool) → other_terms (more (if b then symbol x else mult (more (num q) (more (symbol x) none))) ts) ≡ more (if b then symbol x else mult (more (num q) (more (symbol x) none))) ts
-    by true = refl
-    by false = refl
+other_of q x ts = grind arith
 
 not_true : (b : Bool) → b ≡ false → not b ≡ true
 not_true b e = ap not e
@@ -149,10 +129,7 @@ are_summands xs q qs h = by (is_zero_fraction q) refl
     }
 
 sum_reduced : (ts : Trees) → AreSummands ts → is_reduced (sum_of_trees ts) ≡ true
-sum_reduced none h = reduced_test (num zero_fraction) (inr (inl tt))
-sum_reduced (more t none) h = reduced_test t (inr h.parts.0)
-sum_reduced (more t (more u ts)) h =
-    reduced_test (add (more t (more u ts))) (inr (inr (record { two = tt; no_sum = h.no_sum; number = h.number; no_number = h.no_number; rising = h.rising }), h.parts))
+sum_reduced ts h = grind (arith, reduced_test)
 
 -- the tree of a form is reduced
 pub form_reduced : (xs : List (List ℕ)) (q : Fraction) (qs : List Fraction) → Rises xs → is_reduced (form_tree xs q qs) ≡ true
@@ -194,15 +171,7 @@ form_means f xs q qs vs g l = sum_means f (summands xs q qs) (plus q (worth qs v
 -- ---- its bytes
 
 size_of_multiple : (q : Fraction) (x : List ℕ) → size (multiple_of q x) ≤ 64
-size_of_multiple q x = by (is_one_fraction q)
-  where
-    by : (b : Bool) → size (if b then symbol x else mult (more (num q) (more (symbol x) none))) ≤ 64
-    by true = omega arith
-    by false = short (is_short q)
-      where
-        short : (c : Bool) → 8 + ((if c then 16 else 40) + (16 + 0)) ≤ 64
-        short true = omega arith
-        short false = omega arith
+size_of_multiple q x = grind arith
 
 pub sizes_of_multiples : (xs : List (List ℕ)) (qs : List Fraction) → sizes (multiples xs qs) ≤ 64 * count (multiples xs qs)
 sizes_of_multiples [] qs = omega arith

@@ -1,6 +1,6 @@
 -- A tree in which a name is replaced is no smaller than before.
 use Rattle.std.proofs.Common.{ℕ, ◌*◌, ◌≤◌, max, List, cond, arith}
-use Rattle.calc_session.proofs.Shared.{bytes_eq, mul-le, root_most, Tree, num, symbol, undef, add, mult, power, root, neg, sub, div, Trees, none, more, depth, depths, nodes, nodes_of, root_size, size, sizes, by_test, bytes_of_replaced, occurrences, replaced, replaced_in}
+use Rattle.calc_session.proofs.Shared.{bytes_eq, root_most, Tree, num, symbol, undef, add, mult, power, root, neg, sub, div, Trees, none, more, depth, depths, nodes, nodes_of, root_size, size, sizes, by_test, bytes_of_replaced, replaced, replaced_in}
 use Rattle.std.proofs.Math.Nat.{le-max_left, le-max_right, max-le}
 use Rattle.reduce_port.proofs.Leaves.{one_node}
 
@@ -66,9 +66,7 @@ mutual
 -- ---- its bytes
 
 pub size_grows : (x : List ℕ) (u t : Tree) → root_size (symbol x) ≤ size u → size t ≤ size (replaced x u t)
-size_grows x u t h =
-    let more_there : occurrences x t * root_size (symbol x) ≤ occurrences x t * size u = mul-le (occurrences x t) (root_size (symbol x)) (occurrences x t) (size u) (omega arith) h in
-    omega (arith, bytes_of_replaced x u t, more_there)
+size_grows x u t h = grind (arith, bytes_of_replaced)
 
 -- each node has 40 at most
 mutual

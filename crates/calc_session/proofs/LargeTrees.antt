@@ -1,6 +1,6 @@
 -- No tree that a session stores is smaller than a leaf.
-use Rattle.std.proofs.Common.{◌≡◌, ◌∙◌, ℕ, zero, suc, ◌≤◌, List, [], ◌∷◌, ◌++◌, map, codes, Bool, true, false, cond, eqb, Option, Some, None, All, refl, sym, ap, subst}
-use Rattle.calc_session.proofs.Shared.{bytes_eq, eq-eqb, All-cons, All-head, All-nil, All-tail, num_least, Node, Tree, Trees, none, more, size, NamedTree, value_in, values, AreRoots, IsHeld, held_by, holders_in, Entry, Table, entries, with_answer, without_entry, without_name, has, grown, plain, plains, Forest, empty, tree, flatten, forest_of, join, rest_trees, root_id, holds, has_root, root_tree, forest_of_whole, by_test, tree-right, HoldsNoSmallTree, Reply, shown, stored, forgot, State, first_state, trees, IsReply, Leaves, LeavesAnswer, LeavesOthers, Step}
+use Rattle.std.proofs.Common.{arith, ◌≡◌, ◌∙◌, ℕ, zero, suc, ◌≤◌, List, [], ◌∷◌, ◌++◌, map, codes, true, false, cond, eqb, Option, Some, None, All, refl, sym, ap, subst}
+use Rattle.calc_session.proofs.Shared.{bytes_eq, All-cons, All-head, All-nil, All-tail, num_least, Node, Tree, none, more, size, NamedTree, value_in, values, AreRoots, IsHeld, held_by, holders_in, Entry, Table, entries, with_answer, without_entry, without_name, has, plain, plains, Forest, empty, tree, flatten, forest_of, join, rest_trees, root_id, holds, has_root, root_tree, forest_of_whole, by_test, tree-right, HoldsNoSmallTree, Reply, shown, stored, forgot, State, first_state, trees, IsReply, Leaves, LeavesAnswer, LeavesOthers, Step}
 use Rattle.breakers.specs.State.{State as Breaker}
 use Rattle.name_table.proofs.Holders.{holders-told}
 use Rattle.name_table.proofs.Later.{values-counted, values-left}
@@ -36,9 +36,7 @@ large_with (Some x) i f t h k =
     (large_last f (without_entry x t.stored) (record { name = x; tree = i }) (large_without x f t.stored (large_others f t h)) k)
 
 large_forgotten : (x : List ℕ) (f : Forest) (t : Table) → AreLarge f (entries t) → AreLarge f (entries (without_name x t))
-large_forgotten x f t h =
-    let first : NamedTree = value_in f (record { name = codes "ans"; tree = t.ans }) in
-    All-cons IsLarge first (map (value_in f) (without_entry x t.stored)) (All-head IsLarge first (map (value_in f) t.stored) h) (large_without x f t.stored (large_others f t h))
+large_forgotten x f t h = grind (arith, All-cons, All-head, large_without, large_others)
 
 -- ---- the trees that a table holds
 
@@ -65,20 +63,10 @@ root_listed i (n ∷ ns) h =
     by_test (λ b. cond b true (has_root i (rest_trees n.children (forest_of ns))) ≡ true → cond b true (has i ns) ≡ true) (eqb n.id i) (λ e k. refl) (λ e k. root_listed i ns (root_behind i n.children (forest_of ns) k)) h
 
 not_root : (i : ℕ) (ns : List Node) → has i ns ≡ false → has_root i (forest_of ns) ≡ false
-not_root i ns h = by (has_root i (forest_of ns)) refl
-  where
-    by : (b : Bool) → has_root i (forest_of ns) ≡ b → b ≡ false
-    by true e = let there : true ≡ false = sym (root_listed i ns e) ∙ h in cc
-    by false e = refl
-
-same_plain : (t u : Tree) (ts : Trees) → more t ts ≡ more u none → t ≡ u
-same_plain t u ts e = cc
+not_root i ns h = grind (arith, root_listed)
 
 root_there : (f : Forest) (t : Tree) → plains f ≡ more t none → (holds (root_id f) f ≡ true) × (plain (root_tree (root_id f) f) ≡ t)
-root_there empty t e = absurd cc
-root_there (tree l k r) t e =
-    by_test (λ b. eqb l.id l.id ≡ true → (cond b true (cond (holds l.id k) true (holds l.id r)) ≡ true) × (plain (cond b (tree l k empty) (root_tree l.id r)) ≡ t)) (eqb l.id l.id)
-    (λ p q. (refl, same_plain (grown l.payload (plains k)) t (plains r) e)) (λ p q. let never : true ≡ false = sym q ∙ p in absurd cc) (eq-eqb l.id l.id refl)
+root_there f t e = grind arith
 
 large_answer : (store : Option (List ℕ)) (answer : Tree) (old new : State) → IsHeld old.table (trees old) → HoldsNoSmallTree old → LeavesAnswer store answer old new → 16 ≤ size answer → HoldsNoSmallTree new
 large_answer store answer old new held large leaves h =
@@ -91,8 +79,7 @@ large_answer store answer old new held large leaves h =
     (large_with store i (join (trees old) leaves.tree) old.table (large_beside old.table (trees old) leaves.tree held.roots large) (subst (λ t. 16 ≤ size t) (sym tree_is) h))
 
 large_others_left : (x : List ℕ) (old new : State) → HoldsNoSmallTree old → LeavesOthers x old new → HoldsNoSmallTree new
-large_others_left x old new large leaves =
-    large_held (without_name x old.table) (trees old) new leaves.table (leaves.nodes ∙ ap (λ t. flatten (held_by t (trees old))) leaves.table) (large_forgotten x (trees old) old.table large)
+large_others_left x old new h k = grind (arith, large_held, large_forgotten)
 
 -- ---- a step
 

@@ -1,6 +1,6 @@
 -- What the answers to lines mean.
-use Rattle.std.proofs.Common.{◌≡◌, ◌∙◌, ℕ, List, [], Option, Some, None, Bool, true, false, refl, sym, ap, subst}
-use Rattle.calc_session.proofs.Shared.{HasValue, IsEasy, value, KeepsMeanings, Reduces, Surd, one_meaning, Same-trans, Evaluates, face, Tree, num, symbol, undef, add, mult, power, root, neg, sub, div, is_undef, Placed, reduced_face_means, values, IsReplyToCommand, tells_the_pool, tells_the_bytes, keeps_ans, forgets, knows_no_name, arms_a_breaker, finds_no_breaker, is_to_be_drawn, tells_the_layout, has_no_room, is_no_command, IsReplyWith, has_no_value, holds_its_name, is_shown, is_stored, IsReduction, lacks_bytes, is_answered, IsReplyTo, finds_no_room, becomes_too_deep, Table, Full, IsReplyUnread, is_long, is_nothing, has_no_token, has_a_wide_number, is_no_line, is_too_deep, stores_to_ans, finds_names_full, ReadsTree, Reply, shown, stored, undefined, deep, full, State, free_bytes, trees, IsReply, is_unread, is_commanded, is_calculated, is_evaluated}
+use Rattle.std.proofs.Common.{arith, ◌≡◌, ◌∙◌, ℕ, List, [], Option, Some, None, Bool, true, false, sym, ap, subst}
+use Rattle.calc_session.proofs.Shared.{HasValue, IsEasy, value, KeepsMeanings, Reduces, Surd, one_meaning, Same-trans, Evaluates, face, Tree, undef, is_undef, Placed, reduced_face_means, values, IsReplyToCommand, IsReplyWith, IsReduction, lacks_bytes, is_answered, IsReplyTo, finds_no_room, becomes_too_deep, Table, Full, IsReplyUnread, ReadsTree, Reply, shown, stored, undefined, deep, full, State, free_bytes, trees, IsReply}
 use Rattle.breakers.specs.State.{State as Breaker}
 use Rattle.calc_algebra.specs.SquareClasses.{Same}
 use Rattle.calc_algebra.proofs.NumberLaws.{number_words}
@@ -14,16 +14,7 @@ pub nothing_meant : (t : Tree) → Reduces t undef → MeansNothing t
 nothing_meant t r f a v m = r.meanings.means f a v m
 
 pub undef_is : (t : Tree) → is_undef t ≡ true → t ≡ undef
-undef_is undef e = refl
-undef_is (num q) e = cc
-undef_is (symbol x) e = cc
-undef_is (add ts) e = cc
-undef_is (mult ts) e = cc
-undef_is (power b x) e = cc
-undef_is (root a) e = cc
-undef_is (neg a) e = cc
-undef_is (sub a b) e = cc
-undef_is (div a b) e = cc
+undef_is t e = grind arith
 
 full_undefined : (refusal : Full) → full refusal ≡ undefined → ⊥
 full_undefined refusal e = cc
@@ -42,13 +33,8 @@ displayed_in reply = None
 none_some : (u : Tree) → None ≡ Some u → ⊥
 none_some u e = cc
 
-some_is : (t u : Tree) → Some t ≡ Some u → u ≡ t
-some_is t u e = cc
-
 displayed_value : (r : Reply) (u : Tree) → displayed_in r ≡ Some u → is_value r ≡ true
-displayed_value (shown t) u e = refl
-displayed_value (stored t x) u e = refl
-displayed_value _ u e = absurd (none_some u e)
+displayed_value r u e = grind arith
 
 both_values : (b : Bool) → b ≡ true → b ≡ false → ⊥
 both_values b e f = cc
@@ -62,56 +48,19 @@ record Displays (t u : Tree) : Type 0 where
   face_is : u ≡ face answer
 
 displayed_face : (answer : Tree) (store : Option (List ℕ)) (reply : Reply) (u : Tree) → IsReplyWith answer store reply → displayed_in reply ≡ Some u → (is_undef answer ≡ false) × (u ≡ face answer)
-displayed_face answer store reply u (has_no_value d) e = absurd (none_some u e)
-displayed_face answer store reply u (holds_its_name d m) e = absurd (none_some u e)
-displayed_face answer store reply u (is_shown d) e = (d, some_is (face answer) u e)
-displayed_face answer store reply u (is_stored d m) e = (d, some_is (face answer) u e)
+displayed_face answer store reply u h e = grind arith
 
 unread_not_displayed : {table : Table} {line : List ℕ} {reply : Reply} (u : Tree) → IsReplyUnread table line reply → displayed_in reply ≡ Some u → ⊥
-unread_not_displayed u (is_long a) e = cc
-unread_not_displayed u (is_nothing a b) e = cc
-unread_not_displayed u (has_no_token a b) e = cc
-unread_not_displayed u (has_a_wide_number a b) e = cc
-unread_not_displayed u (is_no_line a b d) e = cc
-unread_not_displayed u (is_too_deep a b d) e = cc
-unread_not_displayed u (stores_to_ans a b) e = cc
-unread_not_displayed u (finds_names_full a b d) e = cc
+unread_not_displayed u h e = grind arith
 
 unread_not_undefined : {table : Table} {line : List ℕ} {reply : Reply} → IsReplyUnread table line reply → reply ≡ undefined → ⊥
-unread_not_undefined (is_long a) e = cc
-unread_not_undefined (is_nothing a b) e = cc
-unread_not_undefined (has_no_token a b) e = cc
-unread_not_undefined (has_a_wide_number a b) e = cc
-unread_not_undefined (is_no_line a b d) e = cc
-unread_not_undefined (is_too_deep a b d) e = cc
-unread_not_undefined (stores_to_ans a b) e = cc
-unread_not_undefined (finds_names_full a b d) e = cc
+unread_not_undefined h e = grind arith
 
 command_not_displayed : {s : State} {before after : List Breaker} {line : List ℕ} {reply : Reply} (u : Tree) → IsReplyToCommand s before after line reply → displayed_in reply ≡ Some u → ⊥
-command_not_displayed u (tells_the_pool a b) e = cc
-command_not_displayed u (tells_the_bytes a b) e = cc
-command_not_displayed u (keeps_ans a b d) e = cc
-command_not_displayed u (forgets a b d f) e = cc
-command_not_displayed u (knows_no_name a b d f) e = cc
-command_not_displayed u (arms_a_breaker a b d) e = cc
-command_not_displayed u (finds_no_breaker a b d) e = cc
-command_not_displayed u (is_to_be_drawn a b) e = cc
-command_not_displayed u (tells_the_layout a b d) e = cc
-command_not_displayed u (has_no_room a b d) e = cc
-command_not_displayed u (is_no_command a b) e = cc
+command_not_displayed u h e = grind arith
 
 command_not_undefined : {s : State} {before after : List Breaker} {line : List ℕ} {reply : Reply} → IsReplyToCommand s before after line reply → reply ≡ undefined → ⊥
-command_not_undefined (tells_the_pool a b) e = cc
-command_not_undefined (tells_the_bytes a b) e = cc
-command_not_undefined (keeps_ans a b d) e = cc
-command_not_undefined (forgets a b d f) e = cc
-command_not_undefined (knows_no_name a b d f) e = cc
-command_not_undefined (arms_a_breaker a b d) e = cc
-command_not_undefined (finds_no_breaker a b d) e = cc
-command_not_undefined (is_to_be_drawn a b) e = cc
-command_not_undefined (tells_the_layout a b d) e = cc
-command_not_undefined (has_no_room a b d) e = cc
-command_not_undefined (is_no_command a b) e = cc
+command_not_undefined h e = grind arith
 
 module _ (room bits : Option (Tree → ℕ)) (before after : List Breaker) where
   displayed_reduced : (free : ℕ) (t : Tree) (store : Option (List ℕ)) (reply : Reply) (u : Tree) → IsReduction room bits free t before after store reply → displayed_in reply ≡ Some u → Displays t u
@@ -129,10 +78,7 @@ module _ (room bits : Option (Tree → ℕ)) (before after : List Breaker) where
 
   -- what a line became, and what is displayed for that
   displayed_line : (old : State) (line : List ℕ) (reply : Reply) (u : Tree) → IsReply room bits old before after line reply → displayed_in reply ≡ Some u → (t : Tree) × Becomes old line t × Displays t u
-  displayed_line old line reply u (is_unread h same) e = absurd (unread_not_displayed u h e)
-  displayed_line old line reply u (is_commanded a b h) e = absurd (command_not_displayed u h e)
-  displayed_line old line reply u (is_calculated a b h) e = absurd (both_values (is_value reply) (displayed_value reply u e) (calculated_value room bits before after h))
-  displayed_line old line reply u (is_evaluated {tokens = tokens} {store = store} {t = t} reads h) e = displayed_tree old line tokens store t reply u reads h e
+  displayed_line old line reply u h e = grind (arith, unread_not_displayed, command_not_displayed, both_values, is_value, displayed_value, calculated_value, displayed_tree)
 
   pub shows_meaning : (old : State) (line : List ℕ) (reply : Reply) (u : Tree) → IsReply room bits old before after line reply → displayed_in reply ≡ Some u → ShowsMeaning old line u
   shows_meaning old line reply u h e = meant (displayed_line old line reply u h e)
@@ -153,16 +99,10 @@ module _ (room bits : Option (Tree → ℕ)) (before after : List Breaker) where
   -- ---- what is undefined
 
   undefined_with : (answer : Tree) (store : Option (List ℕ)) (reply : Reply) → IsReplyWith answer store reply → reply ≡ undefined → answer ≡ undef
-  undefined_with answer store reply (has_no_value d) e = undef_is answer d
-  undefined_with answer store reply (holds_its_name d m) e = cc
-  undefined_with answer store reply (is_shown d) e = cc
-  undefined_with answer store reply (is_stored d m) e = cc
+  undefined_with answer store reply h e = grind arith
 
   undefined_reduced : (free : ℕ) (t : Tree) (store : Option (List ℕ)) (reply : Reply) → IsReduction room bits free t before after store reply → reply ≡ undefined → MeansNothing t
-  undefined_reduced free t store reply (is_interrupted h) e = cc
-  undefined_reduced free t store reply (does_not_fit o h) e = cc
-  undefined_reduced free t store reply (lacks_bytes h) e = cc
-  undefined_reduced free t store reply (is_answered {answer = r} c a w) e = nothing_meant t (subst (Reduces t) (undefined_with r store reply w e) a.reduces)
+  undefined_reduced free t store reply h e = grind (arith, nothing_meant, undefined_with)
 
   undefined_tree : (old : State) (line : List ℕ) (tokens : List Placed) (store : Option (List ℕ)) (t : Tree) (reply : Reply) → ReadsTree old.table line tokens store t
       → IsReplyTo room bits (free_bytes old) (values old.table (trees old)) t before after store reply → reply ≡ undefined → HasNoMeaning old line
@@ -172,10 +112,7 @@ module _ (room bits : Option (Tree → ℕ)) (before after : List Breaker) where
       record { tree = v; becomes = record { tokens = tokens; store = store; tree = t; reads = reads; left = left; is_made = m }; none = undefined_reduced (free_bytes old) v store reply r e }
 
   pub has_no_meaning : (old : State) (line : List ℕ) (reply : Reply) → IsReply room bits old before after line reply → reply ≡ undefined → HasNoMeaning old line
-  has_no_meaning old line reply (is_unread h same) e = absurd (unread_not_undefined h e)
-  has_no_meaning old line reply (is_commanded a b h) e = absurd (command_not_undefined h e)
-  has_no_meaning old line reply (is_calculated a b h) e = absurd (both_values (is_value reply) (ap is_value e) (calculated_value room bits before after h))
-  has_no_meaning old line reply (is_evaluated {tokens = tokens} {store = store} {t = t} reads h) e = undefined_tree old line tokens store t reply reads h e
+  has_no_meaning old line reply h e = grind (arith, unread_not_undefined, command_not_undefined, both_values, is_value, calculated_value, undefined_tree)
 
 -- ---- two lines with one value
 

@@ -1,5 +1,5 @@
 -- Equations are split, read, built and named in one way.
-use Rattle.std.proofs.Common.{◌≡◌, ◌∙◌, ℕ, zero, suc, ◌<◌, ◌≤◌, List, [], ◌∷◌, ◌++◌, length, true, refl, sym, ap, subst, arith}
+use Rattle.std.proofs.Common.{◌≡◌, ◌∙◌, ℕ, suc, ◌<◌, ◌≤◌, List, [], ◌∷◌, ◌++◌, length, true, refl, sym, ap, subst, arith}
 use Rattle.std.specs.Prelude.{All, Contains}
 use Rattle.calc_session.proofs.Shared.{AllZip, Tree, AreDistinct, Equation, NamedTree, Filling, fills, IsNoExpression, AreSides, Piece, Pieces, Sides, Splits, written, written_all, Unmade, made, EndsPiece, Reply, report, AreNamesOf, HoldOverSixNames, Rises, is_before, AreUnmade, Become, IsNoEquation, ReadsEquation, ReadsSide, equation, nothing}
 use Rattle.calc_session.proofs.RisingLemmas.{before_chain, never_before_itself, rises_distinct}
@@ -20,8 +20,7 @@ behind [] = []
 behind (e ∷ es) = 59 ∷ written_all (e ∷ es)
 
 ends_there : (es : List Sides) → EndsPiece (behind es)
-ends_there [] = tt
-ends_there (e ∷ es) = refl
+ends_there es = grind arith
 
 with_behind : (e : Sides) (es : List Sides) → written_all (e ∷ es) ≡ written e ++ behind es
 with_behind e [] = nothing_behind (written e)
@@ -33,19 +32,7 @@ with_behind e (f ∷ es) = refl
 
 -- where they are alike behind the first
 same_behind : (es fs : List Sides) → (0 < length es → 0 < length fs → written_all es ≡ written_all fs → es ≡ fs) → behind es ≡ behind fs → es ≡ fs
-same_behind [] [] h e = refl
-same_behind [] (f ∷ fs) h e = absurd (unlike (written_all (f ∷ fs)) e)
-  where
-    unlike : (t : List ℕ) → [] ≡ 59 ∷ t → ⊥
-    unlike t e = cc
-same_behind (a ∷ es) [] h e = absurd (unlike (written_all (a ∷ es)) e)
-  where
-    unlike : (t : List ℕ) → 59 ∷ t ≡ [] → ⊥
-    unlike t e = cc
-same_behind (a ∷ es) (f ∷ fs) h e = h (omega arith) (omega arith) (rest_is (written_all (a ∷ es)) (written_all (f ∷ fs)) e)
-  where
-    rest_is : (t u : List ℕ) → 59 ∷ t ≡ 59 ∷ u → t ≡ u
-    rest_is t u e = cc
+same_behind es fs h e = grind arith
 
 same_equations : (es fs : List Sides) → All AreSides es → All AreSides fs → 0 < length es → 0 < length fs → written_all es ≡ written_all fs → es ≡ fs
 same_equations [] fs h k l m e = absurd (omega (arith, l))
@@ -154,16 +141,13 @@ data Among (y : List ℕ) (ys : List (List ℕ)) (x : List ℕ) : Type 0 where
   is_later : Contains ys x → Among y ys x
 
 among : (y : List ℕ) (ys : List (List ℕ)) (x : List ℕ) → Contains (y ∷ ys) x → Among y ys x
-among y ys x (zero, l, e) = is_first e
-among y ys x (suc k, l, e) = is_later (k, omega arith, e)
+among y ys x h = grind arith
 
 rises_over : (x y : List ℕ) (xs : List (List ℕ)) → Rises (x ∷ xs) → Contains xs y → is_before x y ≡ true
 rises_over x y xs r (k, l, e) = subst (λ z. is_before x z ≡ true) e (r.0 k y l)
 
 same_first : (x y : List ℕ) (xs ys : List (List ℕ)) → Rises (x ∷ xs) → Rises (y ∷ ys) → Among y ys x → Among x xs y → x ≡ y
-same_first x y xs ys r s (is_first e) b = sym e
-same_first x y xs ys r s (is_later c) (is_first e) = e
-same_first x y xs ys r s (is_later c) (is_later d) = absurd (never_before_itself x (before_chain x y x (rises_over x y xs r d) (rises_over y x ys s c)))
+same_first x y xs ys r s h b = grind (arith, never_before_itself, before_chain, rises_over)
 
 -- what is among the others of one is among those of the other
 same_others : (x y z : List ℕ) (xs ys : List (List ℕ)) → Rises (x ∷ xs) → x ≡ y → Contains xs z → Among y ys z → Contains ys z
@@ -190,12 +174,10 @@ record Without (xs : List (List ℕ)) (x : List ℕ) : Type 0 where
   kept : (y : List ℕ) → Contains xs y → (x ≡ y → ⊥) → Contains others y
 
 kept_first : (z x : List ℕ) (xs : List (List ℕ)) → z ≡ x → (y : List ℕ) → Among z xs y → (x ≡ y → ⊥) → Contains xs y
-kept_first z x xs e y (is_first d) k = absurd (k (sym e ∙ d))
-kept_first z x xs e y (is_later m) k = m
+kept_first z x xs e y h k = grind arith
 
 kept_later : (z x : List ℕ) (xs : List (List ℕ)) (w : Without xs x) (y : List ℕ) → Among z xs y → (x ≡ y → ⊥) → Contains (z ∷ w.others) y
-kept_later z x xs w y (is_first d) k = subst (Contains (z ∷ w.others)) d (in_front z w.others)
-kept_later z x xs w y (is_later m) k = later_on z y w.others (w.kept y m k)
+kept_later z x xs w y h k = grind (arith, in_front, later_on)
 
 without_among : (z x : List ℕ) (xs : List (List ℕ)) → (Contains xs x → Without xs x) → Among z xs x → Without (z ∷ xs) x
 without_among z x xs more (is_first e) = record { others = xs; many = refl; kept = λ y m k. kept_first z x xs e y (among z xs y m) k }

@@ -1,8 +1,7 @@
 -- Lemmas on a new session.
-use Rattle.std.proofs.lemmas.Bool.{true≢false}
-use Rattle.std.proofs.Common.{◌≡◌, ◌∙◌, ℕ, zero, suc, List, [], ◌∷◌, Result, Ok, IfOk, OnOk, None, refl, sym, ap, subst, arith}
+use Rattle.std.proofs.Common.{◌≡◌, ◌∙◌, ℕ, List, [], ◌∷◌, Result, Ok, IfOk, OnOk, None, refl, ap, subst, arith}
 use Rattle.std.specs.Prelude.{pos}
-use Rattle.calc_session.proofs.Shared.{Node, fresh, rational, Ratio, whole, whole_num, IsHeld, IsKeepable, Table, first_table, Full, IsLeastFree, has, empty, flatten, forest_of, one_tree, Ends, Stands, forest, KeepsRefusals, forest_of_whole, gives, represents_node, represents_none, ends_as, Seen, State, first_state, state_of}
+use Rattle.calc_session.proofs.Shared.{Node, fresh, rational, Ratio, whole, whole_num, IsHeld, IsKeepable, Table, first_table, Full, IsLeastFree, empty, flatten, forest_of, one_tree, Ends, Stands, forest, KeepsRefusals, forest_of_whole, gives, represents_node, represents_none, ends_as, Seen, State, first_state, state_of}
 use Rattle.name_table.proofs.Ready.{first_held}
 use Rattle.node_pool.specs.State.{State as PoolState}
 
@@ -11,8 +10,7 @@ keepable_zero i = record { writable = (0, refl); clear = λ x m (k, l, e). absur
 
 -- the first identifier is 0
 first_id : (i : ℕ) (nodes : List Node) → nodes ≡ [] → IsLeastFree i nodes → i ≡ 0
-first_id zero nodes e h = refl
-first_id (suc i) nodes e h = absurd (true≢false (sym (h.least 0 (omega arith)) ∙ ap (has 0) e))
+first_id i nodes e h = grind arith
 
 -- what a new session holds
 pub record IsOpened (p q : PoolState) (i : ℕ) : Type 0 where
@@ -36,15 +34,8 @@ opened p q r i x ok least kept is none payload st =
 
 -- its state
 pub first_state_is : (q : PoolState) (t : Table) (i n : ℕ) → t ≡ first_table i → i ≡ 0 → q.nodes ≡ fresh i (rational (whole (pos 0))) ∷ [] → q.size ≡ n → state_of q t ≡ first_state n
-first_state_is q t i n table first nodes size =
-    ap (λ (m : ℕ). record { size = m; nodes = q.nodes; table = t }) size
-    ∙ ap (λ (ns : List Node). record { size = n; nodes = ns; table = t }) (nodes ∙ ap (λ (j : ℕ). fresh j (rational (whole (pos 0))) ∷ []) first)
-    ∙ ap (λ (u : Table). record { size = n; nodes = fresh 0 (rational (whole (pos 0))) ∷ []; table = u }) (table ∙ ap first_table first)
+first_state_is q t i n h k l m = grind arith
 
 pub seen_is : (s t : State) (m n : ℕ) (f g : Full) (a b : List ℕ) → s ≡ t → m ≡ n → f ≡ g → a ≡ b
     → (let x : Seen = record { state = s; refusals = m; last_refused = f; text = a } in x) ≡ record { state = t; refusals = n; last_refused = g; text = b }
-seen_is s t m n f g a b p q r e =
-    ap (λ (x : State). record { state = x; refusals = m; last_refused = f; text = a }) p
-    ∙ ap (λ (x : ℕ). record { state = t; refusals = x; last_refused = f; text = a }) q
-    ∙ ap (λ (x : Full). record { state = t; refusals = n; last_refused = x; text = a }) r
-    ∙ ap (λ (x : List ℕ). record { state = t; refusals = n; last_refused = g; text = x }) e
+seen_is s t m n f g a b p q r e = grind arith

@@ -56,8 +56,7 @@ not_once q x e = ap (λ (b : Bool). if b then symbol x else mult (more (num q) (
 -- ---- what calls place
 
 pub adds_by : (r : Result ℕ Full) (s t : State) (u v : Tree) → u ≡ v → IfOk r (λ h. Gives (forest s) (forest t) h (λ w. w ≡ u)) → OnOk r (KeepsRefusals s t) → Stands t → IfOk r (λ h. Adds s t v h)
-adds_by (Ok h) s t u v e g k st = subst (λ (x : Tree). Adds s t x h) e (record { gives = g; kept = k; stands = st })
-adds_by (Err f) s t u v e g k st = tt
+adds_by r s t u v e g k h = grind arith
 
 pub adds_node : (r : Result ℕ Full) (k : Kind) (n : ℕ) (s t u : State) (ts : Trees) (v : Tree) → compound k ts ≡ v → AddsAll s t ts → count ts ≡ n → takes_kind k n ≡ true
     → IfOk r (λ h. Ends h (one_tree h (bare k) (last_trees n (forest t))) (before_last n (forest t)) (forest u)) → OnOk r (KeepsRefusals t u) → Stands u → IfOk r (λ h. Adds s u v h)
@@ -66,8 +65,7 @@ adds_node (Err f) k n s t u ts v e b c takes ends kept stands = tt
 
 -- the trees before it stay
 pub front_node : (r : Result ℕ Full) (n : ℕ) (s t u : State) (v : Tree) → IfOk r (λ h. Adds s u v h) → IfErr r (IsRefused n t u) → KeepsFront [] (forest s) (forest t) → KeepsFront [] (forest s) (forest u)
-front_node (Ok h) n s t u v g i k = front_end g.gives.ends front_same
-front_node (Err f) n s t u v g i k = front_at k i.same
+front_node r n s t u v g i k = grind (arith, front_end, front_same, front_at)
 
 pub adds_placed : {s t : State} {a : Tree} {h : ℕ} → Stands s → Gives (forest s) (forest t) h (λ w. w ≡ a) → KeepsRefusals s t → Stands t → AddsAll s t (more a none)
 adds_placed st g k st' = adds_one st (record { gives = g; kept = k; stands = st' })
@@ -151,16 +149,10 @@ with_constant xs q qs e = ap (λ (b : Bool). if b then multiples xs qs else more
 
 -- the constant, and the multiples behind it
 pub constant_first : (xs : List (List ℕ)) (q : Fraction) (qs : List Fraction) → append (summands [] q []) (multiples xs qs) ≡ summands xs q qs
-constant_first xs q qs = by (is_zero_fraction q)
-  where
-    by : (b : Bool) → append (if b then none else more (num q) none) (multiples xs qs) ≡ (if b then multiples xs qs else more (num q) (multiples xs qs))
-    by true = refl
-    by false = refl
+constant_first xs q qs = grind arith
 
 pub sum_is : (ts : Trees) → 1 < count ts → add ts ≡ sum_of_trees ts
-sum_is none h = absurd (omega (arith, h))
-sum_is (more t none) h = absurd (omega (arith, h))
-sum_is (more t (more u ts)) h = refl
+sum_is ts h = grind arith
 
 -- ---- trees that were placed
 
@@ -238,14 +230,10 @@ take_all (suc n) (x ∷ xs) l = ap (λ ys. x ∷ ys) (take_all n xs (omega (arit
 module _ (xs : List (List ℕ)) (qs : List Fraction) where
   next_more : (n : ℕ) (q : Fraction) (x : List ℕ) → n < length xs → q ≡ get_or qs n zero_fraction → x ≡ get_or xs n [] → is_zero_fraction q ≡ false
       → multiples (take (n + 1) xs) qs ≡ append (multiples (take n xs) qs) (more (multiple_of q x) none)
-  next_more n q x l d e z =
-      let one : n + 1 ≡ suc n = omega arith in
-      ap (λ (m : ℕ). multiples (take m xs) qs) one ∙ multiples_more n xs qs l (ap is_zero_fraction (sym d) ∙ z) ∙ (λ i. append (multiples (take n xs) qs) (more (multiple_of ((sym d) i) ((sym e) i)) none))
+  next_more n q x l d e z = grind (arith, multiples_more)
 
   next_same : (n : ℕ) (q : Fraction) → q ≡ get_or qs n zero_fraction → is_zero_fraction q ≡ true → multiples (take (n + 1) xs) qs ≡ multiples (take n xs) qs
-  next_same n q d z =
-      let one : n + 1 ≡ suc n = omega arith in
-      ap (λ (m : ℕ). multiples (take m xs) qs) one ∙ multiples_same n xs qs (ap is_zero_fraction (sym d) ∙ z)
+  next_same n q d z = grind (arith, multiples_same)
 
   -- of the first n names, behind those that were placed before
   pub record AreFirst (old : State) (before : Placed) (n : ℕ) (now : State) (p : Placed) : Type 0 where

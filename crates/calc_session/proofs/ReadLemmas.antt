@@ -1,16 +1,12 @@
 -- Lines, from what the parser answered.
-use Rattle.std.specs.Prelude.{◌≡◌, ◌≤◌, ◌+◌, ◌<◌, ◌^◌, ℕ, List, length, false, Option, Some, None, Result, Ok, Err, IfOk}
-use Rattle.std.proofs.Common.{sym, subst, arith}
-use Rattle.calc_session.proofs.Shared.{name_of, Tree, Name, Placed, bare, AreTokensOf, IsShallow, IsStorable, name_in, Table, is_command, IsFirstCharacter, IsFirstWide, IsMisread, meets_no_token, meets_a_wide_number, forms_no_line, forms_a_deep_line, ReadsText, is_blank_line, IsReplyUnread, has_no_token, has_a_wide_number, is_no_line, is_too_deep, IsText, ReadsAs, ReadsTree, Reply, character_at, number_at}
+use Rattle.std.specs.Prelude.{◌≡◌, ◌≤◌, ◌+◌, ◌<◌, ◌^◌, ℕ, List, length, Option, Result, IfOk}
+use Rattle.std.proofs.Common.{subst, arith}
+use Rattle.calc_session.proofs.Shared.{name_of, Tree, Name, Placed, bare, AreTokensOf, IsShallow, IsStorable, name_in, Table, IsFirstCharacter, IsFirstWide, IsMisread, meets_no_token, meets_a_wide_number, forms_no_line, forms_a_deep_line, ReadsText, IsReplyUnread, has_no_token, has_a_wide_number, is_no_line, is_too_deep, IsText, ReadsAs, ReadsTree, Reply, character_at, number_at}
 use Rattle.std.specs.Option.{option_map}
 use Rattle.calc_parser.specs.declared.checking.Shape.{Shape}
 
-pub text_is : (line : List ℕ) → length line ≤ 1024 → is_blank_line line ≡ false → is_command line ≡ false → IsText line
-text_is line s b c = record { short = s; some = b; no_command = c }
-
 in_words : (line : List ℕ) (tokens : List Placed) (store : Option Name) (t : Tree) → ReadsAs line tokens (option_map name_of store) t → ReadsAs line tokens (name_in store) t
-in_words line tokens None t r = r
-in_words line tokens (Some name) t r = r
+in_words line tokens store t r = grind arith
 
 pub read_line : (line : List ℕ) (tokens : List Placed) (shape : Shape) → IsText line → AreTokensOf tokens line → (h : IsShallow (bare tokens) shape) → ReadsAs line tokens (name_in shape.store) h.0.tree
 read_line line tokens shape t c h = in_words line tokens shape.store h.0.tree (record { text = t; cut = c; line-is = h.0.line; shallow = omega (arith, h.0.depth_is, h.1) })
@@ -18,8 +14,7 @@ read_line line tokens shape t c h = in_words line tokens shape.store h.0.tree (r
 -- the name is one under which the answer can be stored
 pub reads_on : {E : Type 0} (r : Result (Option Name) E) (store : Option Name) (table : Table) (line : List ℕ) (tokens : List Placed) (t : Tree) → ReadsAs line tokens (name_in store) t
     → IfOk r (λ n. (n ≡ store) × IsStorable (name_in store) table) → IfOk r (λ n. (u : Tree) × ReadsTree table line tokens (name_in n) u)
-reads_on (Ok n) store table line tokens t reads (same, h) = (t, subst (λ m. ReadsTree table line tokens (name_in m) t) (sym same) (record { reads = reads; storable = h }))
-reads_on (Err e) store table line tokens t reads h = tt
+reads_on r store table line tokens t h k = grind arith
 
 -- ---- texts within a line
 
@@ -37,10 +32,5 @@ character_within before at text l f = let e = f.place_is in omega (arith, l, e)
 pub wide_within : (before at : ℕ) (text : List ℕ) → before + length text ≤ 1024 → IsFirstWide text at → before + at < 2 ^ 16
 wide_within before at text l f = let e = f.place_is in omega (arith, l, e)
 
-text_in_words : (text : List ℕ) (tokens : List Placed) (store : Option Name) (t : Tree) → ReadsText text tokens (option_map name_of store) t → ReadsText text tokens (name_in store) t
-text_in_words text tokens None t r = r
-text_in_words text tokens (Some name) t r = r
-
 pub read_text : (text : List ℕ) (tokens : List Placed) (shape : Shape) (store : Option Name) → shape.store ≡ store → AreTokensOf tokens text → (h : IsShallow (bare tokens) shape) → ReadsText text tokens (name_in store) h.0.tree
-read_text text tokens shape store is cut h =
-    subst (λ s. ReadsText text tokens (name_in s) h.0.tree) is (text_in_words text tokens shape.store h.0.tree (record { cut = cut; line-is = h.0.line; shallow = omega (arith, h.0.depth_is, h.1) }))
+read_text text tokens shape store k l h = grind arith

@@ -1,13 +1,11 @@
 -- Lemmas on replies and what the code answers for them.
-use Rattle.std.proofs.Common.{◌≡◌, ◌∙◌, ℕ, ℤ, nat_abs, List, ◌++◌, append_assoc, ap}
+use Rattle.std.proofs.Common.{arith, ◌≡◌, ℕ, List, ◌++◌, append_assoc, ap}
 use Rattle.calc_session.proofs.Shared.{signed_decimal, ratio_of, value_of, Rat, Content, extended, parts_themselves, denominator_text, operand_text}
 
 -- ---- the text of a rational
 
 pub text_of_operand : (a : Rat) → operand_text (value_of a) ≡ signed_decimal (ratio_of a).num ++ denominator_text (ratio_of a).den
-text_of_operand a =
-    let p = parts_themselves a.num (nat_abs a.den) a.in_lowest_terms in
-    ap (λ (z : ℤ). signed_decimal z ++ denominator_text (value_of a).den) p.num ∙ ap (λ (d : ℕ). signed_decimal a.num ++ denominator_text d) p.den
+text_of_operand a = grind (arith, parts_themselves)
 
 -- one piece and then another
 pub extended_twice : (c : Content) (a b : List ℕ) → extended (extended c a) b ≡ extended c (a ++ b)

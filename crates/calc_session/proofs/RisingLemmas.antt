@@ -1,7 +1,7 @@
 -- Lemmas on names in the order of their bytes.
 use Rattle.std.proofs.Common.{◌≡◌, ◌∙◌, ◌⊎◌, inl, inr, ℕ, zero, suc, ◌+◌, ◌<◌, ◌≤◌, List, [], ◌∷◌, ◌++◌, length, take, get_or, Bool, true, false, cond, refl, sym, ap, subst, arith, append_assoc}
 use Rattle.std.specs.Prelude.{◌||◌, All, Contains}
-use Rattle.calc_session.proofs.Shared.{insert, list_any, prefix_len, bytes_eq, Contains-append_cases, Contains-append_left, Contains-append_right, tree_cmp, name_of, Tree, num, symbol, undef, add, mult, power, root, neg, sub, div, Trees, none, more, count, is_symbol, names, names_of, root_kind, AreDistinct, equations_in, children_of, nth, plain, Forest, tree_at, Listed, names_listed, AreNamesOf, HoldOverSixNames, Includes, IsNameIn, Rises, is_before, names_at}
+use Rattle.calc_session.proofs.Shared.{insert, list_any, prefix_len, bytes_eq, Contains-append_cases, Contains-append_left, Contains-append_right, tree_cmp, name_of, Tree, symbol, Trees, none, more, count, is_symbol, names, names_of, root_kind, AreDistinct, equations_in, children_of, nth, plain, Forest, tree_at, Listed, names_listed, AreNamesOf, HoldOverSixNames, Includes, IsNameIn, Rises, is_before, names_at}
 use Rattle.std.specs.Cmp.Lexicographic.{slice_cmp}
 use Rattle.std.specs.Ordering.{is_lt, nat_cmp, ordering_reverse}
 use Rattle.std.specs.declared.cmp.Ordering.{Ordering}
@@ -11,9 +11,7 @@ use Rattle.calc_algebra.proofs.TreeOrderLaws.{tree_chain, tree_cmp_equal, tree_c
 use Rattle.calc_terms.specs.declared.kind.Kind.TheVariants as kind
 
 less_is : (o : Ordering) → is_lt o ≡ true → o ≡ Less
-less_is Less e = refl
-less_is Equal e = absurd cc
-less_is Greater e = absurd cc
+less_is o e = grind arith
 
 pub before_is : (x y : List ℕ) → is_before x y ≡ true → tree_cmp (symbol x) (symbol y) ≡ Less
 before_is x y e = less_is (slice_cmp nat_cmp x y) e
@@ -52,8 +50,7 @@ all_others : (P : List ℕ → Type 0) (x : List ℕ) (xs : List (List ℕ)) →
 all_others P x xs h = λ k d l. h (suc k) d (omega arith)
 
 all_more : (P : List ℕ → Type 0) (x : List ℕ) (xs : List (List ℕ)) → P x → All P xs → All P (x ∷ xs)
-all_more P x xs p h zero d l = p
-all_more P x xs p h (suc k) d l = h k d (omega arith)
+all_more P x xs p h k d l = grind arith
 
 all_member : (P : List ℕ → Type 0) (xs : List (List ℕ)) (x : List ℕ) → All P xs → Contains xs x → P x
 all_member P xs x h (k, l, e) = subst P e (h k x l)
@@ -109,17 +106,11 @@ from_insert (suc n) y (z ∷ xs) x (zero, l, e) = inl (0, omega arith, e)
 from_insert (suc n) y (z ∷ xs) x (suc k, l, e) = elim (from_insert n y xs x (k, omega arith, e)) [ inl (j, b, q) ↦ inl (suc j, omega arith, q) | inr m ↦ inr m ]
 
 only_one : (y x : List ℕ) → Contains (y ∷ []) x → y ≡ x
-only_one y x (zero, l, e) = e
-only_one y x (suc k, l, e) = absurd (omega (arith, l))
+only_one y x h = grind arith
 
 -- a name that is there already
 pub includes_there : (y : List ℕ) (xs : List (List ℕ)) → Contains xs y → Includes (y ∷ []) xs xs true
-includes_there y xs m = record {
-  kept = λ x c. c;
-  only = λ x c. inl c;
-  all = λ e x c. subst (λ z. Contains xs z) (only_one y x c) m;
-  lacks = λ e. absurd cc;
-}
+includes_there y xs m = grind arith
 
 -- one for which there is no room
 pub includes_none : (y : List ℕ) (xs : List (List ℕ)) → length xs ≡ 6 → (Contains xs y → ⊥) → Includes (y ∷ []) xs xs false
@@ -227,29 +218,11 @@ nil_behind [] = refl
 nil_behind (x ∷ xs) = ap (λ ys. x ∷ ys) (nil_behind xs)
 
 pub no_symbol : (t : Tree) → (root_kind t ≡ kind.Sym → ⊥) → is_symbol t ≡ false
-no_symbol (symbol x) h = absurd (h refl)
-no_symbol (num q) h = refl
-no_symbol undef h = refl
-no_symbol (add ts) h = refl
-no_symbol (mult ts) h = refl
-no_symbol (power b e) h = refl
-no_symbol (root a) h = refl
-no_symbol (neg a) h = refl
-no_symbol (sub a b) h = refl
-no_symbol (div a b) h = refl
+no_symbol t h = grind arith
 
 -- a tree that is no symbol has its children's names
 pub names_below : (t : Tree) → is_symbol t ≡ false → names_of (children_of t) ≡ names t
-names_below (num q) h = refl
-names_below (symbol x) h = absurd cc
-names_below undef h = refl
-names_below (add ts) h = refl
-names_below (mult ts) h = refl
-names_below (power b e) h = ap (λ xs. names b ++ xs) (nil_behind (names e))
-names_below (root a) h = nil_behind (names a)
-names_below (neg a) h = nil_behind (names a)
-names_below (sub a b) h = ap (λ xs. names a ++ xs) (nil_behind (names b))
-names_below (div a b) h = ap (λ xs. names a ++ xs) (nil_behind (names b))
+names_below t h = grind (arith, nil_behind)
 
 -- ---- names of sides
 

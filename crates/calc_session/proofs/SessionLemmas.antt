@@ -1,7 +1,6 @@
 -- Lemmas on the state of a session, and on what a line leaves of it.
 use Rattle.std.proofs.lemmas.Bool.{both_ways}
-use Rattle.std.specs.Prelude.{min}
-use Rattle.std.proofs.Common.{◌≡◌, ◌∙◌, ◌↔◌, ℕ, ◌+◌, ◌-◌, ◌^◌, ◌*◌, ◌≤◌, ◌==◌, List, [], ◌∷◌, ◌++◌, length, codes, Bool, true, false, if◌then◌else◌, Option, Some, None, refl, sym, ap, subst, arith}
+use Rattle.std.proofs.Common.{◌≡◌, ◌∙◌, ◌↔◌, ℕ, ◌+◌, ◌*◌, ◌≤◌, ◌==◌, List, [], ◌∷◌, ◌++◌, length, codes, Bool, true, false, if◌then◌else◌, Option, None, refl, sym, ap, subst, arith}
 use Rattle.calc_session.proofs.Shared.{eqb-true, TripsRose, is_command, text, Node, Tree, none, more, size, Placed, values, held_by, Table, with_answer, Full, has, free_of, IsExpression, plain, Forest, flatten, Gives, tree_at, Stands, forest, flatten-join, has-flatten, given_handed, given_root, given_told, expression_root, plain_root, alone, LineAnswer, Refusal, answer_to, Answers, AnswersCommand, AnswersUntold, CountsRefusal, IsAnswer, IsTextOf, reply_of, IsReplyTo, IsReplyUnread, ReadsTree, Reply, blank, displayed, refusal_in, text_of, undefined, Seen, Counts, pool_of, State, state_of, IsReply, is_unread, is_commanded, is_evaluated, Leaves, LeavesAnswer}
 use Rattle.breakers.specs.State.{State as Breaker}
 use Rattle.node_pool.specs.Nodes.{AreDistinct}
@@ -15,27 +14,11 @@ use Rattle.calc_session.specs.declared.answers.Refusal.TheVariants as refusal
 -- ---- the same state
 
 pub same_after : (refusal : Option Full) (p q : PoolState) (t : Table) → q ≡ undone refusal p.nodes p → state_of q t ≡ state_of p t
-same_after None p q t e = ap (λ (s : PoolState). state_of s t) e
-same_after (Some full) p q t e = ap (λ (s : PoolState). state_of s t) e
+same_after refusal p q t e = grind arith
 
 -- what is refused leaves all as it was
 pub refused_leaves : (refusal : Refusal) (s t : State) → t ≡ s → Leaves (reply_of refusal) s t
-refused_leaves refusal.Long s t e = e
-refused_leaves (refusal.Character at) s t e = e
-refused_leaves (refusal.Number at) s t e = e
-refused_leaves refusal.Syntax s t e = e
-refused_leaves refusal.Deep s t e = e
-refused_leaves refusal.Reserved s t e = e
-refused_leaves refusal.NamesFull s t e = e
-refused_leaves (refusal.Full needed free) s t e = e
-refused_leaves (refusal.Overflow op a b) s t e = e
-refused_leaves (refusal.Interrupted by) s t e = e
-refused_leaves (refusal.Circular name) s t e = e
-refused_leaves refusal.Command s t e = e
-refused_leaves refusal.NotPolynomial s t e = e
-refused_leaves refusal.NoDerivative s t e = e
-refused_leaves (refusal.NotLinear equation) s t e = e
-refused_leaves refusal.TooMany s t e = e
+refused_leaves refusal s t e = grind arith
 
 -- ---- a new answer
 
@@ -68,17 +51,14 @@ module _ (old mid new : PoolState) (table table' : Table) (h : ℕ) (u : Tree) (
   }
 
 pub displayed_leaves : (store : Option (List ℕ)) (u : Tree) (s t : State) → LeavesAnswer store u s t → Leaves (displayed store u) s t
-displayed_leaves None u s t l = l
-displayed_leaves (Some x) u s t l = l
+displayed_leaves store u s t l = grind arith
 
 answers_displayed : (store : Option (List ℕ)) (u : Tree) → IsAnswer (answer_to store) (displayed store u)
-answers_displayed None u = (u, refl)
-answers_displayed (Some x) u = (u, x, refl)
+answers_displayed store u = grind arith
 
 text_displayed : (store : Option (List ℕ)) (u : Tree) (written : List ℕ) → written ≡ text u → IsTextOf (answer_to store) written (displayed store u)
 unfolding text_of
-text_displayed None u written e = ap Some e
-text_displayed (Some x) u written e = ap Some e
+text_displayed store u written e = grind arith
 
 -- ---- answers
 
@@ -91,23 +71,13 @@ module _ (room bits : Option (Tree → ℕ)) (before after : List Breaker) (line
   pub answers_refusal : (p q : PoolState) (table : Table) (tokens : List Placed) (store : Option (List ℕ)) (t : Tree) (refusal : Refusal) (written : List ℕ) → Stands p → ReadsTree table line tokens store t
       → IsReplyTo room bits (free_of p) (values table (forest p)) t before after store (reply_of refusal) → q ≡ undone (refusal_in (reply_of refusal)) p.nodes p → written ≡ []
       → AnswersUntold room bits (state_of p table) before line (answer.Refused refusal) written (state_of q table) after
-  answers_refusal p q table tokens store t refusal written st reads h same empty = record {
-    reply = reply_of refusal;
-    step = record { reply_is = evaluated p table tokens store t (reply_of refusal) st reads h; state_is = refused_leaves refusal (state_of p table) (state_of q table) (same_after (refusal_in (reply_of refusal)) p q table same) };
-    answer_is = refl;
-    text_is = empty;
-  }
+  answers_refusal p q table tokens store t refusal written h k l m n = grind (arith, evaluated, refused_leaves, same_after)
 
   pub answers_undefined : (p q : PoolState) (table : Table) (tokens : List Placed) (store : Option (List ℕ)) (t : Tree) (written : List ℕ) → Stands p → ReadsTree table line tokens store t
       → IsReplyTo room bits (free_of p) (values table (forest p)) t before after store undefined → q ≡ undone None p.nodes p → written ≡ codes "undef"
       → AnswersUntold room bits (state_of p table) before line answer.Undef written (state_of q table) after
   unfolding text_of
-  answers_undefined p q table tokens store t written st reads h same is = record {
-    reply = undefined;
-    step = record { reply_is = evaluated p table tokens store t undefined st reads h; state_is = same_after None p q table same };
-    answer_is = refl;
-    text_is = ap Some is;
-  }
+  answers_undefined p q table tokens store t written h k l m n = grind (arith, evaluated, same_after)
 
   pub answers_face : (p q : PoolState) (table table' : Table) (tokens : List Placed) (store : Option (List ℕ)) (t u : Tree) (written : List ℕ) → Stands p → ReadsTree table line tokens store t
       → IsReplyTo room bits (free_of p) (values table (forest p)) t before after store (displayed store u) → LeavesAnswer store u (state_of p table) (state_of q table') → written ≡ text u
@@ -150,19 +120,12 @@ module _ (room bits : Option (Tree → ℕ)) (before after : List Breaker) (line
   pub told_other : (s t : State) (given : LineAnswer) (written : List ℕ) → ((r : Refusal) → given ≡ answer.Refused r → ⊥) → AnswersUntold room bits s before line given written t after
       → Answers room bits s before line given written t after
   unfolding text_of
-  told_other s t answer.Blank written other a = record { reply = a.reply; step = a.step; answer_is = a.answer_is; text_is = sym (ap text_of a.answer_is) }
-  told_other s t answer.Shown written other a = record { reply = a.reply; step = a.step; answer_is = a.answer_is; text_is = a.text_is }
-  told_other s t answer.Stored written other a = record { reply = a.reply; step = a.step; answer_is = a.answer_is; text_is = a.text_is }
-  told_other s t answer.Undef written other a = record { reply = a.reply; step = a.step; answer_is = a.answer_is; text_is = a.text_is }
-  told_other s t answer.Report written other a = record { reply = a.reply; step = a.step; answer_is = a.answer_is; text_is = a.text_is }
-  told_other s t answer.Draw written other a = record { reply = a.reply; step = a.step; answer_is = a.answer_is; text_is = sym (ap text_of a.answer_is) }
-  told_other s t (answer.Refused r) written other a = absurd (other r refl)
+  told_other s t given written h a = grind arith
 
 -- ---- what the pool refused
 
 pub counts_refusal : (refusal : Option Full) (old new : Seen) → CountsRefusal refusal (pool_of old) (pool_of new) → Counts refusal old new
-counts_refusal None old new k = (k.refusals, k.last_refused)
-counts_refusal (Some full) old new k = (k.refusals, k.last_refused)
+counts_refusal refusal old new k = grind arith
 
 -- ---- the face before it is kept
 
@@ -206,5 +169,4 @@ pub draw_text : (room bits : Option (Tree → ℕ)) (s t : State) (before after 
 draw_text room bits s t before after line written given a e = subst (λ (x : LineAnswer). IsTextOf x written a.reply) e a.text_is
 
 pub same_counts : (refusal : Option Full) (a b new : Seen) → a.refusals ≡ b.refusals → a.last_refused ≡ b.last_refused → Counts refusal a new → Counts refusal b new
-same_counts None a b new r l h = (h.0 ∙ r, h.1 ∙ l)
-same_counts (Some full) a b new r l h = (h.0 ∙ ap (λ n. min (n + 1) (2 ^ 64 - 1)) r, h.1)
+same_counts refusal a b new r l h = grind arith

@@ -1,6 +1,6 @@
 -- Lemmas on the sides of equations, as they are read and built.
-use Rattle.std.proofs.Common.{◌≡◌, ℕ, List, [], ◌∷◌, ◌++◌, Some, None, refl, sym, ap, subst, arith}
-use Rattle.calc_session.proofs.Shared.{IsLine, IsLineOver, IsTreeOf, SameLine, one_line, Tree, depth, Placed, bare, AreTokensOf, character_or_all, wide_or_all, one_list, NamedTree, fills, values, Table, Equation, free_of, Adds, Gives, tree_of, KeepsRefusals, Stands, forest, IsNoExpression, ReadsText, forms_a_deep_line, forms_a_store, forms_no_line, is_misread, meets_a_wide_number, meets_no_token, made, Reply, BuildsSide, AreUnmade, Become, ReadsSide, equation, nothing}
+use Rattle.std.proofs.Common.{◌≡◌, ℕ, List, [], ◌∷◌, ◌++◌, Some, None, ap, subst, arith}
+use Rattle.calc_session.proofs.Shared.{IsLine, IsLineOver, IsTreeOf, SameLine, one_line, Tree, depth, Placed, bare, AreTokensOf, character_or_all, wide_or_all, one_list, NamedTree, fills, values, Table, Equation, free_of, Gives, tree_of, KeepsRefusals, Stands, forest, IsNoExpression, ReadsText, forms_a_deep_line, forms_a_store, forms_no_line, is_misread, meets_a_wide_number, meets_no_token, made, Reply, BuildsSide, AreUnmade, Become, ReadsSide, equation, nothing}
 use Rattle.node_pool.specs.State.{State}
 use Rattle.calc_session.specs.Solving.{later as unmade_later}
 use Rattle.calc_session.proofs.EvaluationLemmas.{gives_told}
@@ -37,11 +37,7 @@ no_expression_reads before {text = text} {t = t} n (ts, r) h = by h
 -- ---- they are built
 
 pub builds_side : (table : Table) (old new : State) (t : Tree) (h id : ℕ) {P : Tree → Type 0} → Gives (forest old) (forest new) h P → made (free_of old) (values table (forest old)) t ≡ fills (free_of new) (tree_of h new) → KeepsRefusals old new → Stands new → id ≡ h → BuildsSide table old new t id
-builds_side table old new t h id g m k st e = record {
-  built = tree_of h new;
-  is_made = m;
-  adds = subst (λ (i : ℕ). Adds old new (tree_of h new) i) (sym e) (record { gives = gives_told (λ u. u ≡ tree_of h new) g refl; kept = k; stands = st });
-}
+builds_side table old new t h id g m k l e = grind (arith, gives_told)
 
 -- one more equation
 pub become_more : {vs : List NamedTree} {free left : ℕ} {es fs : List Equation} → Become vs free es left fs → (e : Equation) (between behind : ℕ) (l r : Tree) → made left vs e.left ≡ fills between l → made between vs e.right ≡ fills behind r

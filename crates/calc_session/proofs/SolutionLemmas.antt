@@ -1,6 +1,6 @@
 -- Lemmas on the texts of solutions.
 use Rattle.std.proofs.Common.{◌≡◌, ◌≢◌, ◌⊎◌, ◌∙◌, ℕ, zero, suc, ◌+◌, ◌*◌, ◌<◌, ◌≤◌, List, [], ◌∷◌, ◌++◌, append_assoc, length, length-append, take, map, get_or, codes, inl, inr, Bool, true, false, refl, sym, ap, subst, arith}
-use Rattle.std.specs.Prelude.{if◌then◌else◌, not, Result, Ok, Err, OnErr, zip}
+use Rattle.std.specs.Prelude.{if◌then◌else◌, not, Result, OnErr, zip}
 use Rattle.calc_session.proofs.Shared.{cases_lt, get_or-map, length-map, is_reduced, face, HasNames, IsWritable, text, Fraction, is_zero_fraction, zero_fraction, no_zero, zero_is, Name, name_of, Tree, more, count, is_undef, size, Adds, adds_free, adds_one, Content, extended, Line, form_told, Form, free, bound, HoldLaterFreeNames, multiple_in, free_of, IsExpression, plain, Gives, tree_of, tree_at, without_root, Stands, forest, given_rest, given_told, gives_as, IsSmall, IsSmallForm, form_room, operand_text, Rises, comma_before, form_tree, line_text, line_texts, lines_text, multiple_of, multiples, with_commas}
 use Rattle.line_text.specs.Lengths.{HasFittingNumbers}
 use Rattle.line_text.proofs.Fitting.{fitting}
@@ -77,8 +77,7 @@ module _ (xs : List (List ℕ)) (q : Fraction) (qs : List Fraction) {s t u : Sta
 -- ---- texts with commas between them
 
 pub comma_short : (at : ℕ) → length (comma_before at) ≤ 1
-comma_short zero = omega arith
-comma_short (suc at) = omega arith
+comma_short at = grind arith
 
 commas_next : (n : ℕ) (ts : List (List ℕ)) → n < length ts → with_commas (take (suc n) ts) ≡ with_commas (take n ts) ++ (comma_before n ++ get_or ts n [])
 commas_next n [] l = absurd (omega (arith, l))
@@ -116,8 +115,7 @@ pub all_taken : (n : ℕ) (ts : List (List ℕ)) → length ts ≤ n → with_co
 all_taken n ts l = ap with_commas (take_all n ts l)
 
 pub lines_are : (xs : List (List ℕ)) (forms : List Form) → 0 < length xs → lines_text xs forms ≡ with_commas (line_texts xs forms)
-lines_are [] forms h = absurd (omega (arith, h))
-lines_are (x ∷ xs) forms h = refl
+lines_are xs forms h = grind arith
 
 -- ---- multiples that are small
 
@@ -158,8 +156,7 @@ form_small xs forms i few many l later = by (get_or forms i free) refl
 
 pub told_next : (head : List ℕ) (ts : List (List ℕ)) (n : ℕ) (t comma : List ℕ) (a b d : Content) → n < length ts → t ≡ get_or ts n [] → a.bytes ≡ head ++ with_commas (take n ts) → b ≡ extended a comma → comma ≡ comma_before n → d ≡ extended b t
     → d.bytes ≡ head ++ with_commas (take (n + 1) ts)
-told_next head ts n t comma a b d l e told p is q =
-    ap (λ (x : Content). x.bytes) q ∙ ap (λ (x : List ℕ). x ++ t) (ap (λ (x : Content). x.bytes) p ∙ (λ i. told i ++ is i)) ∙ text_next head ts n t l e
+told_next head ts n t comma a b d l e h p k q = grind (arith, text_next)
 
 pub long_next : (t comma : List ℕ) (a b d : Content) (n : ℕ) → b ≡ extended a comma → comma ≡ comma_before n → length b.bytes ≤ length a.bytes + 1
 long_next t comma a b d n p is = omega (arith, ap (λ (x : Content). length x.bytes) p, length-append a.bytes comma, ap length is, comma_short n)
@@ -188,5 +185,4 @@ line_small ns lines k d few h l =
     subst (IsSmallForm (map name_of ns)) (get_or-map form_told lines k d free l) (form_small (map name_of ns) (map form_told lines) k (omega (arith, few, many)) (h.0 ∙ sym many) (omega (arith, l, forms)) h.1)
 
 pub on_err : {A E : Type 0} (r : Result A E) (P : Type 0) → P → OnErr r P
-on_err (Ok x) P p = tt
-on_err (Err e) P p = p
+on_err r P p = grind arith

@@ -1,28 +1,20 @@
 -- What the texts of solutions say is so.
-use Rattle.std.proofs.Common.{◌≡◌, ◌∙◌, ◌↔◌, ◌<◌, ◌≤◌, inl, inr, ℕ, zero, suc, List, [], ◌∷◌, length, get_or, map, Bool, true, false, not, cond, Option, Some, None, Ok, refl, sym, subst, arith}
-use Rattle.std.specs.Prelude.{All, nat_lt, ◌==◌, if◌then◌else◌, ⊤}
-use Rattle.calc_session.proofs.Shared.{AllZip, enumerate_from, position_or_len, and_parts, ltb-false, not-false, fails_before_first, reduced_face_means, Assignment, IsAssignment, Means, surd_of, Same-refl, face, Fraction, negative, plus, zero_fraction, symbol, names, Assigns, Equation, IsLinearIn, SolvesAll, and_then, Answer, never, solved, Form, free, bound, HasItsValue, HaveTheirValues, answer_of, answer_with, form_of, forms_of, multipliers, Row, entry, worth, solving, forms_are_later, forms_are_many, multipliers_are_many, never_solved, one_from, solved_where, Reply, report, AreNamesOf, IsNameIn, Rises, form_tree, solution_text, HasPrintedValue, TellsSolutions, tells_forms, tells_none, IsSolution, does_not_fit, first_not_linear, is_interrupted, is_linear_equation, is_told}
+use Rattle.std.proofs.Common.{◌≡◌, ◌∙◌, ◌↔◌, ◌<◌, ◌≤◌, inl, inr, ℕ, zero, suc, List, [], ◌∷◌, length, get_or, map, true, Option, Some, None, Ok, sym, subst, arith}
+use Rattle.std.specs.Prelude.{All, ⊤}
+use Rattle.calc_session.proofs.Shared.{AllZip, enumerate_from, and_parts, not-false, fails_before_first, reduced_face_means, Assignment, IsAssignment, Means, surd_of, Same-refl, face, Fraction, plus, symbol, names, Assigns, Equation, IsLinearIn, SolvesAll, and_then, Answer, never, solved, Form, free, bound, HasItsValue, HaveTheirValues, answer_of, answer_with, form_of, forms_of, multipliers, Row, worth, solving, forms_are_later, forms_are_many, multipliers_are_many, never_solved, one_from, solved_where, Reply, report, AreNamesOf, IsNameIn, Rises, form_tree, solution_text, HasPrintedValue, TellsSolutions, tells_forms, tells_none, IsSolution, first_not_linear, is_linear_equation}
 use Rattle.std.proofs.lemmas.List.FromFn.{length-map-range_with_len}
 use Rattle.breakers.specs.State.{State as Breaker}
 use Rattle.calc_algebra.specs.Meanings.{Gives}
 use Rattle.linear_solve.specs.Elimination.{Rows, equation_rows, first_with, row_at, settled_up_to}
 use Rattle.linear_solve.proofs.Calculations.{both, ok_is}
 use Rattle.linear_solve.proofs.Meanings.{one_rational_meaning}
-use Rattle.calc_session.specs.Solving.{lacks_bytes}
 use Rattle.calc_session.proofs.FormLemmas.{form_means, form_reduced}
 use Rattle.calc_session.proofs.RisingLemmas.{rises_distinct}
 
 -- ---- the equations are linear in their names
 
 none_at : (es : List Equation) (k : ℕ) (d : Equation) → first_not_linear es ≡ None → k < length es → is_linear_equation (get_or es k d) ≡ true
-none_at es k d e l = not-false _ (fails_before_first (λ (x : Equation). not (is_linear_equation x)) es k d (past (position_or_len (λ (x : Equation). not (is_linear_equation x)) es) e))
-  where
-    past : (m : ℕ) → cond (nat_lt m (length es)) (Some m) None ≡ None → k < m
-    past m e = by (nat_lt m (length es)) refl e
-      where
-        by : (b : Bool) → nat_lt m (length es) ≡ b → cond b (Some m) None ≡ None → k < m
-        by true f e = cc
-        by false f e = let h : length es ≤ m = ltb-false m (length es) f in omega (arith, h, l)
+none_at es k d e l = grind (arith, not-false, fails_before_first)
 
 name_in : (es : List Equation) (k : ℕ) (d : Equation) (x : List ℕ) → k < length es → IsNameIn (get_or es k d ∷ []) x → IsNameIn es x
 name_in [] k d x l h = absurd (omega (arith, l))
@@ -51,8 +43,7 @@ AreWide n [] = ⊤
 AreWide n (form ∷ forms) = IsWide n form × AreWide n forms
 
 wide_form : (n at : ℕ) (r : Option Row) → IsWide n (form_of n at r)
-wide_form n at None = tt
-wide_form n at (Some r) = omega (arith, length-map-range_with_len (λ (j : ℕ). if j == at then zero_fraction else negative (entry j r)) 0 n)
+wide_form n at r = grind (arith, length-map-range_with_len)
 
 wide_forms : (n : ℕ) (ps : List (ℕ × Option Row)) → AreWide n (map (λ (p : ℕ × Option Row). form_of n p.0 p.1) ps)
 wide_forms n [] = tt
@@ -126,14 +117,7 @@ module _ (xs : List (List ℕ)) (es : List Equation) (are : AreNamesOf es xs) (l
       tells_none cs are (multipliers_are_many xs es distinct lin cs e) (λ f vs ls rs once gives hl hr. one_from xs es distinct lin f vs once gives cs ls rs e hl hr) (λ f vs once gives. never_solved xs es distinct lin f vs once gives cs e)
 
   says : (answer : Answer) → solving xs es ≡ Ok answer → TellsSolutions es (solution_text xs answer)
-  says (never cs) e = says_none cs e
-  says (solved forms) e = says_forms forms e
+  says answer e = grind (arith, says_none, says_forms)
 
   pub told_says : (room : ℕ) (before after : List Breaker) (told : List ℕ) (reply : Reply) → reply ≡ report told → IsSolution room xs es before after reply → TellsSolutions es told
-  told_says room before after told reply e (is_interrupted {by} t) = absurd cc
-  told_says room before after told reply e (does_not_fit {m} s c) = absurd cc
-  told_says room before after told reply e (lacks_bytes s c l short) = absurd cc
-  told_says room before after told reply e (is_told {answer} s c) = subst (TellsSolutions es) (same (solution_text xs answer) e) (says answer s)
-    where
-      same : (t : List ℕ) → report t ≡ report told → t ≡ told
-      same t e = cc
+  told_says room before after told reply e h = grind (arith, says)

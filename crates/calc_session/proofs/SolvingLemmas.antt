@@ -1,5 +1,5 @@
 -- Lemmas on equations that are solved.
-use Rattle.std.proofs.Common.{◌≡◌, ◌∙◌, ◌↔◌, ℕ, zero, suc, ◌+◌, ◌<◌, ◌≤◌, List, [], ◌∷◌, length, get_or, map, take, Bool, true, false, not, cond, Option, Some, None, Result, Ok, Err, below_more, refl, sym, ap, subst, arith}
+use Rattle.std.proofs.Common.{◌≡◌, ◌∙◌, ◌↔◌, ℕ, zero, suc, ◌+◌, ◌<◌, ◌≤◌, List, [], ◌∷◌, length, get_or, map, take, Bool, true, false, not, cond, Option, Some, None, Result, Err, below_more, refl, sym, ap, subst, arith}
 use Rattle.std.specs.Prelude.{All, nat_lt, IfOk, IfErr, OnOk}
 use Rattle.calc_session.proofs.Shared.{position_or_len, le-ltb, lt-ltb, position_or_len_is, TripsRose, Name, name_of, Equation, equation_at, equations_in, nodes_of_sides, OfOverflow, StopsWithin, solving, misfit_of, IsExpression, Forest, Refusal, Listed, reply_of, names_listed, AreNamesOf, refusal_to_solve, IsReplyToSolve, are_linear, does_not_fit, first_not_linear, is_interrupted, is_linear_equation}
 use Rattle.std.proofs.lemmas.List.Quantifiers.{position-Some}
@@ -78,16 +78,13 @@ expression_at f is k i l h e = subst (λ j. IsExpression j f) (sym e) (h k i l)
 -- ---- results that are handed on
 
 pub ok_as : {A E : Type 0} {P Q : A → Type 0} (r : Result A E) → IfOk r P → ((x : A) → P x → Q x) → IfOk r Q
-ok_as (Ok x) p h = h x p
-ok_as (Err e) p h = tt
+ok_as r p h = grind arith
 
 pub err_as : {A E : Type 0} {P Q : E → Type 0} (r : Result A E) → IfErr r P → ((e : E) → P e → Q e) → IfErr r Q
-err_as (Ok x) p h = tt
-err_as (Err e) p h = h e p
+err_as r p h = grind arith
 
 pub on_ok : {A E : Type 0} (r : Result A E) (P : Type 0) → P → OnOk r P
-on_ok (Ok x) P p = p
-on_ok (Err e) P p = tt
+on_ok r P p = grind arith
 
 -- a refusal without a check
 pub calm_refusal : (r : Refusal) (bs : List Breaker) → ((place : ℕ) → r ≡ refusal.Interrupted place → ⊥) → (place : ℕ) → (r ≡ refusal.Interrupted place) ↔ TripsRose bs bs place
@@ -99,5 +96,4 @@ pub names_same : (items slice : List Listed) (array : List Name) (len : ℕ) →
 names_same items slice array len e l h = ap (λ (m : ℕ). map name_of (take m array)) (l ∙ sym (ap length e)) ∙ h ∙ ap names_listed e
 
 pub none_there : (r : Option ℕ) (es : List Equation) → ((at : ℕ) → r ≡ Some at → ⊥) → r ≡ first_not_linear es → first_not_linear es ≡ None
-none_there None es h e = sym e
-none_there (Some at) es h e = absurd (h at refl)
+none_there r es h e = grind arith

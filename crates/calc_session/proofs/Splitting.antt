@@ -42,10 +42,7 @@ same_end (x ∷ xs) (y ∷ ys) us vs h k m n e =
 
 -- the first equation is one, and so is what stands behind it
 pub same_equation : (a b : Sides) (us vs : List ℕ) → AreSides a → AreSides b → EndsPiece us → EndsPiece vs → written a ++ us ≡ written b ++ vs → (a ≡ b) × (us ≡ vs)
-same_equation a b us vs h k m n e =
-    let p = same_front 61 a.left b.left (a.right ++ us) (b.right ++ vs) h.left.no_equals k.left.no_equals (sym (append_assoc a.left (61 ∷ a.right) us) ∙ e ∙ append_assoc b.left (61 ∷ b.right) vs) in
-    let q = same_end a.right b.right us vs h.right.no_semicolon k.right.no_semicolon m n p.1 in
-    ((λ i. record { left = p.0 i; right = q.0 i }), q.1)
+same_equation a b us vs h k m n e = grind (arith, same_front, append_assoc, same_end)
 
 -- ---- equations so far
 
@@ -247,8 +244,7 @@ all_within c (suc n) (suc m) [] h = λ (k, b, e). absurd (omega (arith, b, lengt
 all_within c (suc n) (suc m) (x ∷ xs) h = let same : suc m - suc n ≡ m - n = omega arith in subst (λ j. ¬ (Contains (take j (drop n xs)) c)) (sym same) (all_within c n m xs (λ k. h (later_in x c (take m xs) k)))
 
 ends_piece : (t : List ℕ) → EndsAt 59 t → EndsPiece t
-ends_piece t (inl e) = subst EndsPiece (sym e) tt
-ends_piece t (inr (rest, e)) = subst EndsPiece (sym e) refl
+ends_piece t h = grind arith
 
 -- the equation that is found
 pub record IsFound (text : List ℕ) (r : EquationRange) : Type 0 where
@@ -313,14 +309,7 @@ pub record IsSplitting (text : List ℕ) (begin : ℕ) (many : Bool) (rs : List 
   pub over : many ≡ true → (length rs ≡ 6) × (6 < length equations)
 
 pub split_start : (text : List ℕ) → IsSplitting text 0 false []
-split_start text = record {
-  equations = [];
-  sides = λ k d l. absurd (omega (arith, l));
-  begun = λ l. (refl, refl);
-  done = λ l. absurd (omega (arith, l));
-  few = λ e. (omega arith, (λ before. refl), (λ k d l. absurd (omega (arith, l))));
-  over = λ e. absurd cc;
-}
+split_start text = grind arith
 
 semicolon : (text : List ℕ) (end : ℕ) → end < length text → EndsPiece (drop end text) → drop end text ≡ 59 ∷ drop (end + 1) text
 semicolon text end l h =
@@ -338,13 +327,7 @@ module _ (text : List ℕ) (begin : ℕ) (many : Bool) (rs : List EquationRange)
   whole_is = (s.begun l).0 ∙ ap (λ t. ended s.equations ++ t) (ap (λ n. drop n text) (sym at_is) ∙ written_there text r w)
 
   begun_next : r.end + 1 ≤ length text → text ≡ ended (s.equations ++ sides_at text r ∷ []) ++ drop (r.end + 1) text
-  begun_next m =
-      let e : Sides = sides_at text r in
-      let rest : List ℕ = drop (r.end + 1) text in
-      whole_is
-      ∙ ap (λ t. ended s.equations ++ (written (sides_at text r) ++ t)) (semicolon text r.end (omega (arith, m)) ends)
-      ∙ sym (ap (λ t. t ++ drop (r.end + 1) text) (ended-push s.equations (sides_at text r)) ∙ append_assoc (ended s.equations) (written (sides_at text r) ++ 59 ∷ []) (drop (r.end + 1) text)
-      ∙ ap (λ t. ended s.equations ++ t) (append_assoc (written (sides_at text r)) (59 ∷ []) (drop (r.end + 1) text)))
+  begun_next m = grind (arith, whole_is, semicolon, ended-push, append_assoc)
 
   done_next : length text < r.end + 1 → text ≡ written_all (s.equations ++ sides_at text r ∷ [])
   done_next m =
@@ -402,10 +385,7 @@ module _ (text : List ℕ) (begin : ℕ) (many : Bool) (rs : List EquationRange)
       by_over (no_room m) e = over_next m
 
 pub split_end : (text : List ℕ) (begin : ℕ) (rs : List EquationRange) → IsSplitting text begin false rs → length text < begin → AreSplit text rs
-split_end text begin rs s l =
-    let (a, b, c) = s.few refl in
-    let (some, whole) = s.done l in
-    record { equations = s.equations; splits = record { some = some; whole = whole; sides = s.sides }; few = a; placed_are = b; within = c }
+split_end text begin rs s l = grind arith
 
 pub split_over : (text : List ℕ) (begin : ℕ) (rs : List EquationRange) → IsSplitting text begin true rs → length text < begin → (es : List Sides) × Splits text es × (6 < length es)
 split_over text begin rs s l = let (some, whole) = s.done l in (s.equations, record { some = some; whole = whole; sides = s.sides }, (s.over refl).1)

@@ -1,24 +1,12 @@
 -- A text is read in one way, and what is not made is no report.
-use Rattle.std.proofs.Common.{◌≡◌, ◌∙◌, ℕ, List, Option, Some, None, sym, ap, subst, arith}
-use Rattle.calc_session.proofs.Shared.{IsLine, SameLine, one_line, Tree, depth, Placed, bare, AreTokensOf, character_or_all, wide_or_all, one_list, Filling, lacks, too_deep, fills, Full, meets_no_token, meets_a_wide_number, forms_no_line, forms_a_deep_line, IsNoExpression, is_misread, forms_a_store, ReadsText, Unmade, Reply, report, deep, full}
+use Rattle.std.proofs.Common.{◌≡◌, ℕ, List, Option, Some, None, ap, subst, arith}
+use Rattle.calc_session.proofs.Shared.{IsLine, SameLine, one_line, Tree, depth, Placed, bare, AreTokensOf, character_or_all, wide_or_all, one_list, Filling, meets_no_token, meets_a_wide_number, forms_no_line, forms_a_deep_line, IsNoExpression, is_misread, forms_a_store, ReadsText, Unmade, Reply, report}
 
 pub misread_unreported : {n : ℕ} {text : List ℕ} (reply : Reply) (told : List ℕ) → IsNoExpression n text reply → reply ≡ report told → ⊥
-misread_unreported reply told (is_misread (meets_no_token f)) e = cc
-misread_unreported reply told (is_misread (meets_a_wide_number f)) e = cc
-misread_unreported reply told (is_misread (forms_no_line c d)) e = cc
-misread_unreported reply told (is_misread (forms_a_deep_line c d)) e = cc
-misread_unreported reply told (forms_a_store r) e = cc
+misread_unreported reply told h e = grind arith
 
 pub unmade_unreported : (making : Filling) (reply : Reply) (told : List ℕ) → Unmade making reply → reply ≡ report told → ⊥
-unmade_unreported (lacks refusal) reply told u e = clash_full refusal (sym u ∙ e)
-  where
-    clash_full : (r : Full) → full r ≡ report told → ⊥
-    clash_full r k = cc
-unmade_unreported too_deep reply told u e = clash_deep (sym u ∙ e)
-  where
-    clash_deep : deep ≡ report told → ⊥
-    clash_deep k = cc
-unmade_unreported (fills left t) reply told u e = absurd u
+unmade_unreported making reply told u e = grind arith
 
 pub no_store : (y : List ℕ) → None ≡ Some y → ⊥
 no_store y e = cc

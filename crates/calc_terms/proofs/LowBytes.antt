@@ -1,5 +1,5 @@
 -- Numbers as bytes.
-use Rattle.std.proofs.Common.{◌≡◌, ℕ, zero, suc, ◌/◌, ◌^◌, ◌<◌, [], ◌∷◌, length, refl, ap, arith}
+use Rattle.std.proofs.Common.{◌≡◌, ℕ, zero, suc, ◌/◌, ◌^◌, ◌<◌, length, refl, ap, arith}
 use Rattle.calc_terms.specs.Node.{low_bytes, from_bytes}
 
 pub length-low_bytes : (k n : ℕ) → length (low_bytes k n) ≡ k

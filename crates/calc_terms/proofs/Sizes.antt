@@ -1,5 +1,5 @@
 -- The bytes of a node: 8 at least, 16 or 40 for a number, and always a multiple of 8.
-use Rattle.std.proofs.Common.{◌≡◌, ℕ, pos, ◌%◌, ◌^◌, ◌<◌, ◌≤◌, Bool, true, false, refl, arith}
+use Rattle.std.proofs.Common.{◌≡◌, ℕ, pos, ◌^◌, ◌<◌, ◌≤◌, Bool, true, false, refl, arith}
 use Rattle.calc_terms.specs.declared.kind.Kind.{Kind}
 use Rattle.calc_terms.specs.declared.kind.Kind.TheVariants as kind
 use Rattle.calc_terms.specs.Fractions.{Fraction, lowest}
@@ -42,9 +42,6 @@ payload_least x = form_least (kind_of_payload x) (has_short_form x)
 
 pub payload_most : (x : Payload) → size_of_payload x ≤ 40
 payload_most x = form_most (kind_of_payload x) (has_short_form x)
-
-pub root_least : (t : Tree) → 8 ≤ root_size t
-root_least t = form_least (root_kind t) (has_short_root t)
 
 pub root_most : (t : Tree) → root_size t ≤ 40
 root_most t = form_most (root_kind t) (has_short_root t)

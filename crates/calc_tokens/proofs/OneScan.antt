@@ -1,13 +1,10 @@
 -- A line has one list of tokens, or one first fault.
-use Rattle.std.specs.Prelude.{ℕ, ◌≡◌, List, [], ◌∷◌, Bool, true, false, ◌||◌, ◌&&◌, ◌==◌, not, if◌then◌else◌, Option, Some, None}
+use Rattle.std.specs.Prelude.{ℕ, ◌≡◌, List, [], ◌∷◌, Bool, true, false, ◌||◌, ◌==◌, Some, None}
 use Rattle.std.proofs.Common.{refl, sym, ap, ◌∙◌, subst, arith}
 use Rattle.std.proofs.lemmas.Bool.{eqb-true}
-use Rattle.std.proofs.lemmas.Bool.Decides.{nat_tests}
-use Rattle.calc_terms.specs.Name.{is_digit, is_letter}
-use Rattle.calc_language.specs.Tokens.{Token, is_blank, token_at, literal_at, word_at, first_mark, marks}
-use Rattle.calc_tokens.specs.Literals.{literal_fits}
+use Rattle.calc_language.specs.Tokens.{Token, is_blank, token_at}
 use Rattle.calc_tokens.specs.Placed.{Placed}
-use Rattle.calc_tokens.specs.Scanned.{Leads, nothing, blank, token, begins, begins_blank, begins_wide, BeginsToken, BeginsNoToken, IsFirstCharacter, IsFirstWide, AreTokensOf, place}
+use Rattle.calc_tokens.specs.Scanned.{Leads, nothing, blank, token, begins_blank, begins_wide, BeginsToken, BeginsNoToken, IsFirstCharacter, IsFirstWide, AreTokensOf, place}
 
 -- no token begins with a blank
 pub blank_no_token : (b : ℕ) (bytes : List ℕ) → is_blank b ≡ true → token_at (b ∷ bytes) ≡ None
@@ -34,16 +31,8 @@ stops_at_end = record { no_blank = refl; no_token = λ t behind b. let e : token
 pub stops_at_none : (rest : List ℕ) → BeginsNoToken rest → Stops rest
 stops_at_none rest h = record { no_blank = h.no_blank; no_token = λ t behind b. let e : None ≡ Some (t, behind) = sym h.no_token ∙ b.longest in cc }
 
-digit_no_blank : (b : ℕ) → is_digit b ≡ true → is_blank b ≡ false
-digit_no_blank b h = grind (arith, nat_tests)
-
-first_holds : (a b : Bool) → (a && b) ≡ true → a ≡ true
-first_holds true b h = refl
-first_holds false b h = h
-
 wide_no_blank : (rest : List ℕ) → begins_wide rest ≡ true → begins_blank rest ≡ false
-wide_no_blank [] h = refl
-wide_no_blank (b ∷ bytes) h = digit_no_blank b (first_holds (is_digit b) (not (literal_fits (b ∷ bytes))) h)
+wide_no_blank rest h = grind arith
 
 pub stops_at_wide : (rest : List ℕ) → begins_wide rest ≡ true → Stops rest
 stops_at_wide rest h = record { no_blank = wide_no_blank rest h; no_token = λ t behind b. clash (begins_wide rest) h b.fits }
@@ -60,12 +49,7 @@ module _ {line : List ℕ} where
   from_stop h (token b d) = absurd (h.no_token _ _ b)
 
   from_blank : {b : ℕ} {bytes r s : List ℕ} {ts us : List Placed} → is_blank b ≡ true → ((us : List Placed) → Leads line bytes us s → Same ts us r s) → Stops s → Leads line (b ∷ bytes) us s → Same ts us r s
-  from_blank {b} k go h nothing = absurd (clash (is_blank b) k h.no_blank)
-  from_blank k go h (blank k' d) = go _ d
-  from_blank {b} {bytes} k go h (token {behind} {t = t} c d) = absurd (none_some (blank_no_token b bytes k) c.longest)
-    where
-      none_some : token_at (b ∷ bytes) ≡ None → token_at (b ∷ bytes) ≡ Some (t, behind) → ⊥
-      none_some e f = cc
+  from_blank k h l m = grind arith
 
   from_token : {bytes behind r s : List ℕ} {t : Token} {ts us : List Placed} → BeginsToken bytes t behind → ((us : List Placed) → Leads line behind us s → Same ts us r s) → Stops s → Leads line bytes us s
       → Same (record { token = t; at = place line bytes } ∷ ts) us r s
@@ -107,38 +91,22 @@ pub at_all : (line : List ℕ) (ts : List Placed) → AreTokensOf ts line → Ou
 at_all line ts d = (d, stops_at_end)
 
 pub character_or_all : (line : List ℕ) (at : ℕ) (ts : List Placed) → IsFirstCharacter line at → AreTokensOf ts line → ⊥
-character_or_all line at ts f d =
-    let same : [] ≡ f.rest = one_rest line ts f.tokens [] f.rest (at_all line ts d) (at_character f) in
-    clash (begins f.rest) f.here.some (ap begins (sym same))
+character_or_all line at ts f d = grind (arith, one_rest, at_all, at_character, clash)
 
 pub wide_or_all : (line : List ℕ) (at : ℕ) (ts : List Placed) → IsFirstWide line at → AreTokensOf ts line → ⊥
-wide_or_all line at ts f d =
-    let same : [] ≡ f.rest = one_rest line ts f.tokens [] f.rest (at_all line ts d) (at_wide f) in
-    clash (begins_wide f.rest) f.here (ap begins_wide (sym same))
+wide_or_all line at ts f d = grind (arith, one_rest, at_all, at_wide, clash)
 
 wide_token : (rest : List ℕ) → begins_wide rest ≡ true → token_at rest ≡ None → ⊥
-wide_token [] h e = cc
-wide_token (b ∷ bytes) h e =
-    by (is_digit b) (if is_letter b then word_at (b ∷ bytes) else first_mark marks (b ∷ bytes)) e (first_holds (is_digit b) (not (literal_fits (b ∷ bytes))) h)
-  where
-    by : (x : Bool) (r : Option (Token × List ℕ)) → (if x then Some (literal_at (b ∷ bytes)) else r) ≡ None → x ≡ true → ⊥
-    by true r e f = cc
-    by false r e f = cc
+wide_token rest h e = grind arith
 
 pub character_or_wide : (line : List ℕ) (at at' : ℕ) → IsFirstCharacter line at → IsFirstWide line at' → ⊥
-character_or_wide line at at' f g =
-    let same : f.rest ≡ g.rest = one_rest line f.tokens g.tokens f.rest g.rest (at_character f) (at_wide g) in
-    wide_token g.rest g.here (ap token_at (sym same) ∙ f.here.no_token)
+character_or_wide line at at' f g = grind (arith, one_rest, at_character, at_wide, wide_token)
 
 pub one_character : (line : List ℕ) (at at' : ℕ) → IsFirstCharacter line at → IsFirstCharacter line at' → at ≡ at'
-one_character line at at' f g =
-    let same : f.rest ≡ g.rest = one_rest line f.tokens g.tokens f.rest g.rest (at_character f) (at_character g) in
-    f.place_is ∙ ap (place line) same ∙ sym g.place_is
+one_character line at at' f g = grind (arith, one_rest, at_character)
 
 pub one_wide : (line : List ℕ) (at at' : ℕ) → IsFirstWide line at → IsFirstWide line at' → at ≡ at'
-one_wide line at at' f g =
-    let same : f.rest ≡ g.rest = one_rest line f.tokens g.tokens f.rest g.rest (at_wide f) (at_wide g) in
-    f.place_is ∙ ap (place line) same ∙ sym g.place_is
+one_wide line at at' f g = grind (arith, one_rest, at_wide)
 
 pub one_list : (line : List ℕ) (ts us : List Placed) → AreTokensOf ts line → AreTokensOf us line → ts ≡ us
 one_list line ts us d e = (one_front d stops_at_end e stops_at_end).tokens

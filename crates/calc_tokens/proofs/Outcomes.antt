@@ -1,6 +1,6 @@
 -- What is answered, from what was found.
 use Rattle.std.specs.Prelude.{ℕ, ◌≡◌, List, Result, Ok, Err, MatchResult, IsOkAnd, ◌↔◌}
-use Rattle.std.proofs.Common.{ap, subst}
+use Rattle.std.proofs.Common.{arith, ap, subst}
 use Rattle.calc_tokens.specs.declared.tokens.TokenFault.{TokenFault}
 use Rattle.calc_tokens.specs.declared.tokens.TokenFault.TheVariants.{Character, Number}
 use Rattle.calc_tokens.specs.Placed.{Placed}
@@ -29,11 +29,8 @@ number_exact {T} tokens line r h at = (λ e. subst (Found tokens line) e h, back
     back (Err (Number p)) h f = ap (λ n. Err (Number n)) (one_wide line p at h f)
 
 pub accepted : {T : Type 0} (tokens : T → List Placed) (line : List ℕ) (r : Result T TokenFault) → Found tokens line r → (ts : List Placed) → AreTokensOf ts line → IsOkAnd r (λ x. tokens x ≡ ts)
-accepted tokens line (Ok x) h ts d = one_list line (tokens x) ts h d
-accepted tokens line (Err (Character p)) h ts d = absurd (character_or_all line p ts h d)
-accepted tokens line (Err (Number p)) h ts d = absurd (wide_or_all line p ts h d)
+accepted tokens line r h ts d = grind (arith, one_list, character_or_all, wide_or_all)
 
 -- a fault that is told exactly is the fault of the line
 pub fault_found : {T : Type 0} (line : List ℕ) (r : Result T TokenFault) (fault : TokenFault) → r ≡ Err fault → ((at : ℕ) → (r ≡ Err (Character at)) ↔ IsFirstCharacter line at) → ((at : ℕ) → (r ≡ Err (Number at)) ↔ IsFirstWide line at) → IsFaultOf line fault
-fault_found line r (Character at) e h k = (h at).0 e
-fault_found line r (Number at) e h k = (k at).0 e
+fault_found line r fault e h k = grind arith

@@ -1,34 +1,25 @@
 -- The parts of a literal: whether they fit, and its value.
-use Rattle.std.specs.Prelude.{ℕ, suc, ◌+◌, ◌-◌, ◌*◌, ◌^◌, ◌≡◌, ◌≤◌, ◌<◌, List, [], ◌∷◌, ◌++◌, Bool, true, false, ◌==◌, ◌&&◌, length, nat_lt, if◌then◌else◌, pos, ◌<ℤ◌, nat_abs}
+use Rattle.std.specs.Prelude.{ℕ, suc, ◌+◌, ◌-◌, ◌*◌, ◌^◌, ◌≡◌, ◌<◌, List, [], ◌∷◌, ◌++◌, Bool, true, false, ◌==◌, ◌&&◌, length, nat_lt, if◌then◌else◌, pos, ◌<ℤ◌, nat_abs}
 use Rattle.std.specs.Int.{w128}
 use Rattle.std.specs.List.{AllPass}
 use Rattle.std.proofs.Common.{refl, sym, ap, ◌∙◌, arith, to_z}
 use Rattle.std.proofs.Math.Nat.{one-le-pow, pow-suc}
 use Rattle.std.proofs.lemmas.Nat.{pow-add}
-use Rattle.std.proofs.lemmas.Int.{ints, to_z_pos}
-use Rattle.std.proofs.lemmas.Bool.{lt-ltb, ltb-true, eqb-true}
+use Rattle.std.proofs.lemmas.Bool.{lt-ltb, eqb-true}
 use Rattle.calc_terms.specs.Fractions.{lowest, same_lowest}
 use Rattle.calc_terms.specs.Name.{is_digit}
 use Rattle.calc_language.specs.Tokens.{digits_value, decimals}
 use Rattle.calc_tokens.specs.Literals.{trimmed, kept_before, unscaled, scale, parts_fit}
 use Rattle.std.proofs.lemmas.List.Elements.{All-nil, All-cons, All-head, All-tail}
-use Rattle.calc_tokens.proofs.Runs.{chosen, run_passes}
+use Rattle.calc_tokens.proofs.Runs.{run_passes}
 use Rattle.calc_tokens.proofs.Digits.{digits_value-append, digits_value_grows}
 
 test_fails : (n : ℕ) (b : Bool) → (n < 2 ^ 127 → ⊥) → (nat_lt n (2 ^ 127) && b) ≡ false
-test_fails n b h = by (nat_lt n (2 ^ 127)) refl
-  where
-    by : (x : Bool) → nat_lt n (2 ^ 127) ≡ x → (x && b) ≡ false
-    by true e = absurd (h (ltb-true n (2 ^ 127) e))
-    by false e = refl
+test_fails n b h = grind arith
 
 -- digits before the point that are too many
 pub whole_too_wide : (whole kept : List ℕ) → (digits_value 0 whole < 2 ^ 127 → ⊥) → parts_fit whole kept ≡ false
-whole_too_wide whole kept h =
-    test_fails (unscaled whole kept) (nat_lt (scale kept) (2 ^ 127))
-    (λ fits. h (let same : unscaled whole kept ≡ digits_value (digits_value 0 whole) kept = digits_value-append 0 whole kept in
-    let grows : digits_value 0 whole ≤ digits_value (digits_value 0 whole) kept = digits_value_grows (digits_value 0 whole) kept in
-    omega arith))
+whole_too_wide whole kept h = grind (arith, test_fails, digits_value-append, digits_value_grows)
 
 pub kept_too_wide : (n : ℕ) (whole kept : List ℕ) → n ≡ digits_value 0 whole → (digits_value n kept < 2 ^ 127 → ⊥) → parts_fit whole kept ≡ false
 kept_too_wide n whole kept e h = test_fails (unscaled whole kept) (nat_lt (scale kept) (2 ^ 127)) (rw (digits_value-append 0 whole kept, ← e) h)
@@ -40,28 +31,15 @@ pub scale_pos : (kept : List ℕ) → 0 < scale kept
 scale_pos kept = one-le-pow (length kept) 10 (omega arith)
 
 pub positive_scale : (d : ℕ) (kept : List ℕ) → d ≡ scale kept → scale kept < 2 ^ 127 → pos 0 <ℤ to_z w128 d
-positive_scale d kept e h =
-    let some : 0 < scale kept = scale_pos kept in
-    let small : d < 2 ^ 127 = omega arith in
-    rw (to_z_pos w128 d small) (omega (arith, ints))
+positive_scale d kept e h = grind (arith, scale_pos)
 
 pub value_is : (v m d : ℕ) (whole kept : List ℕ) → v ≡ digits_value 0 whole → m ≡ digits_value v kept → digits_value v kept < 2 ^ 127 → d ≡ scale kept → scale kept < 2 ^ 127
     → lowest (to_z w128 m) (nat_abs (to_z w128 d)) ≡ lowest (pos (unscaled whole kept)) (scale kept)
-value_is v m d whole kept e f g h k =
-    let m_small : m < 2 ^ 127 = omega arith in
-    let d_small : d < 2 ^ 127 = omega arith in
-    let m_is : m ≡ unscaled whole kept = f ∙ ap (λ n. digits_value n kept) e ∙ sym (digits_value-append 0 whole kept) in
-    rw (to_z_pos w128 m m_small, to_z_pos w128 d d_small, m_is, h) refl
+value_is v m d whole kept e f g h k = grind (arith, digits_value-append)
 
 -- ---- digits all along
 pub decimals_pass : (bytes : List ℕ) → AllPass is_digit ((decimals bytes).0)
-decimals_pass [] = All-nil (λ x. is_digit x ≡ true)
-decimals_pass (b ∷ []) = All-nil (λ x. is_digit x ≡ true)
-decimals_pass (b ∷ c ∷ bytes) = by ((b == 46) && is_digit c)
-  where
-    by : (x : Bool) → AllPass is_digit ((chosen x b c bytes).0)
-    by true = run_passes is_digit (c ∷ bytes)
-    by false = All-nil (λ x. is_digit x ≡ true)
+decimals_pass bytes = grind (arith, All-nil, run_passes)
 
 kept_pass : (d : ℕ) (ds : List ℕ) → is_digit d ≡ true → AllPass is_digit ds → AllPass is_digit (kept_before d ds)
 kept_pass d [] e h = by (d == 48)

@@ -45,10 +45,4 @@ is_continued t others rest behind e f = rw (whole_prefix others rest e, f) refl
 -- one or the other
 pub either_token : (a b : Option (What × Bor (List ℕ))) (x y : Option (List ℕ)) (t u : Token)
     → option_map front_of a ≡ option_map (λ after. (t, after)) x → option_map front_of b ≡ option_map (λ after. (u, after)) y → option_map front_of (option_or a b) ≡ or_else x t (or_else y u None)
-either_token (Some p) b (Some r) y t u e f = e
-either_token (Some p) b None y t u e f = cc
-either_token None b (Some r) y t u e f = cc
-either_token None (Some q) None (Some r) t u e f = f
-either_token None (Some q) None None t u e f = cc
-either_token None None None (Some r) t u e f = cc
-either_token None None None None t u e f = refl
+either_token a b x y t u e f = grind arith

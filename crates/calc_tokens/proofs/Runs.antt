@@ -1,5 +1,5 @@
 -- A run of bytes at the front, by its length.
-use Rattle.std.specs.Prelude.{ℕ, suc, ◌+◌, ◌≡◌, ◌≤◌, ◌<◌, List, [], ◌∷◌, Bool, true, false, length, take, drop, ◌&&◌, ◌==◌}
+use Rattle.std.specs.Prelude.{ℕ, suc, ◌+◌, ◌≡◌, ◌≤◌, ◌<◌, List, [], ◌∷◌, Bool, true, false, length, take, drop}
 use Rattle.std.specs.List.{prefix_len, AllPass}
 use Rattle.std.proofs.Common.{refl, ap, arith, cond}
 use Rattle.std.proofs.Math.Numerals.{one-add}
@@ -48,10 +48,7 @@ abbrev pub chosen : Bool → ℕ → ℕ → List ℕ → List ℕ × List ℕ
 chosen x b c bytes = elim x as (λ x. List ℕ × List ℕ) [ true ↦ leading_run is_digit (c ∷ bytes) | false ↦ ([], b ∷ c ∷ bytes) ]
 
 chosen_le : (x : Bool) (b c : ℕ) (bytes : List ℕ) → length ((chosen x b c bytes).1) ≤ suc (suc (length bytes))
-chosen_le true b c bytes = let h : length ((leading_run is_digit (c ∷ bytes)).1) ≤ suc (length bytes) = run_back_le is_digit (c ∷ bytes) in omega arith
-chosen_le false b c bytes = omega arith
+chosen_le x b c bytes = grind (arith, run_back_le)
 
 pub decimals_le : (bytes : List ℕ) → length ((decimals bytes).1) ≤ length bytes
-decimals_le [] = omega arith
-decimals_le (b ∷ []) = omega arith
-decimals_le (b ∷ c ∷ bytes) = chosen_le ((b == 46) && is_digit c) b c bytes
+decimals_le bytes = grind (arith, chosen_le)

@@ -48,8 +48,7 @@ have_bytes [] = true
 have_bytes (m ∷ ms) = nat_lt 0 (length m.bytes) && have_bytes ms
 
 first_holds : (a b : Bool) → (a && b) ≡ true → (a ≡ true) × (b ≡ true)
-first_holds true b h = (refl, h)
-first_holds false b h = cc
+first_holds a b h = grind arith
 
 mark_leaves : (ms : List Mark) (bytes : List ℕ) → have_bytes ms ≡ true → Leaves bytes (first_mark ms bytes)
 mark_leaves [] bytes h = tt

@@ -1,11 +1,11 @@
 -- Words: a run of letters and digits is a reserved word, a name, or too long.
-use Rattle.std.specs.Prelude.{ℕ, ◌≡◌, List, [], ◌∷◌, Bool, true, false, ◌&&◌, ◌||◌, not, nat_le, nat_eq, ◌==◌, length, if◌then◌else◌, codes, Some, None}
+use Rattle.std.specs.Prelude.{ℕ, ◌≡◌, List, [], ◌∷◌, Bool, true, false, ◌&&◌, nat_le, nat_eq, ◌==◌, length, if◌then◌else◌, codes, Some, None}
 use Rattle.std.specs.List.{list_all}
 use Rattle.std.specs.Cmp.Lexicographic.{pointwise}
-use Rattle.std.proofs.Common.{refl, sym, ap, ◌∙◌}
+use Rattle.std.proofs.Common.{arith, refl, sym, ap, ◌∙◌}
 use Rattle.std.proofs.lemmas.Slice.Eq.{bytes_eq-Decides}
 use Rattle.calc_language.specs.Tokens.{name, root_mark, undef_mark, leading_run, keep, same_bytes, token_of_word, word_at}
-use Rattle.calc_terms.specs.Name.{begins_with_letter, is_name, is_letter, is_name_byte}
+use Rattle.calc_terms.specs.Name.{begins_with_letter, is_name, is_name_byte}
 
 same_bytes-pointwise : (x y : List ℕ) → same_bytes x y ≡ pointwise nat_eq x y
 same_bytes-pointwise [] [] = refl
@@ -23,11 +23,7 @@ run_all p (b ∷ bytes) = by (p b) refl (run_all p bytes)
 
 -- a run that begins with a letter
 run_begins : (bytes : List ℕ) → begins_with_letter bytes ≡ true → begins_with_letter ((leading_run is_name_byte bytes).0) ≡ true
-run_begins [] h = h
-run_begins (b ∷ bytes) h =
-    let letter : is_letter b ≡ true = h in
-    let name_byte : is_name_byte b ≡ true = rw letter refl in
-    rw name_byte letter
+run_begins bytes h = grind arith
 
 -- what the front of the bytes is, and what stands behind it
 pub record Runs (bytes front behind : List ℕ) : Type 0 where
@@ -50,14 +46,7 @@ undef_is bytes front behind r e =
     sym (word_at-run bytes front behind r ∙ ap (λ x. if nat_le (length x) 7 then Some (token_of_word x, behind) else None) same)
 
 name_test : (bytes front behind : List ℕ) → Runs bytes front behind → pointwise nat_eq front (codes "sqrt") ≡ false → pointwise nat_eq front (codes "undef") ≡ false → is_name front ≡ nat_le (length front) 7
-name_test bytes front behind r e f =
-    let begins : begins_with_letter front ≡ true = ap begins_with_letter r.front_is ∙ run_begins bytes r.letter in
-    let all : list_all is_name_byte front ≡ true = ap (list_all is_name_byte) r.front_is ∙ run_all is_name_byte bytes in
-    rw (begins, all, e, f) (by (nat_le (length front) 7))
-  where
-    by : (x : Bool) → (true && true && x && not (false || false)) ≡ x
-    by true = refl
-    by false = refl
+name_test bytes front behind r e f = grind (arith, run_begins, run_all)
 
 -- a run that is no reserved word is a name, or too long
 pub name_word : (bytes front behind : List ℕ) → Runs bytes front behind → pointwise nat_eq front (codes "sqrt") ≡ false → pointwise nat_eq front (codes "undef") ≡ false → is_name front ≡ true

@@ -69,10 +69,6 @@ lists_less {l = l} {i = i} {f = f} {g = g} at e h new = record { ids-are = λ is
 pub children_number : (i : ℕ) (f : Forest) → IsExpression i f → arity (kids_of i f) ≡ count (children_of (plain (tree_at i f)))
 children_number i f h = sym (ap count (children_of-plain (tree_at i f) h.whole) ∙ count-plains (kids (tree_at i f)))
 
-ids_length : (f : Forest) → length (root_ids f) ≡ arity f
-ids_length empty = refl
-ids_length (tree l k r) = ap suc (ids_length r)
-
 pub ids_nth : (n d : ℕ) (f : Forest) → n < arity f → get_or (root_ids f) n d ≡ root_id (tree_nth n f)
 ids_nth n d empty h = absurd (omega arith)
 ids_nth zero d (tree l k r) h = refl

@@ -35,9 +35,7 @@ one_arity : {k : Forest} {t : Tree} → Represents k (more t none) → arity k �
 one_arity h = represents_count h
 
 pub first_alone : {i : ℕ} {t : Tree} {ts : Trees} {s : State} → Stands s → IsOver kind.Mult i (more t ts) (forest s) → root_count (tree_nth 0 (kids_of i (forest s))) ≡ 1
-first_alone {i = i} {t = t} {ts = ts} {s = s} st o =
-    let one = cut (more t none) ts (kids (root_tree i (forest s))) o.kids in
-    ap (λ (x : Forest). root_count (tree_nth 0 x)) (kids_of_root i st o.root) ∙ once_count (tree_nth 0 (kids (root_tree i (forest s)))) (one_arity one) one.once
+first_alone h o = grind (arith, kids_of_root, once_count, one_arity)
 
 pub first_within : {i : ℕ} {t : Tree} {ts : Trees} {s : State} → Stands s → IsOver kind.Mult i (more t ts) (forest s) → 0 < arity (kids_of i (forest s))
 first_within {i = i} st o = omega (arith, ap arity (kids_of_root i st o.root), represents_count o.kids)
@@ -56,5 +54,4 @@ first_merged {i = i} {j = j} {t = t} {ts = ts} {old = old} {f = f} {new = new} x
     record { now = now; whole = e ∙ ap (put i now) x.whole ∙ put-put i now x.now (without_root j old); over = over_same (over_put now x.over (represents_join inner rest)) e }
 
 pub product_children : (t : Tree) → is_mult t ≡ true → children_of t ≡ factors_of t
-product_children (mult ts) m = refl
-product_children t m = cc
+product_children t m = grind arith

@@ -1,6 +1,6 @@
 -- Free bytes while the terms of a sum are taken out, rewritten and put back.
 use Rattle.std.proofs.Common.{◌≡◌, ℕ, ◌+◌, ◌≤◌, ◌<◌, ap, arith}
-use Rattle.coefficients.proofs.Shared.{Payload, size_of_payload, factors_of, Full, replaced_free, refused_below, tree_of, IsHanded, Gives, Kind, Tree, mult, Trees, more, append, size, sizes, mapped, IsOver, IsTaken, State, free_of, empty, bytes_in, kids, root_tree, without_root, put, Stands, forest, KeepsRefusals, IsRefused, bytes_in-join, used_forest, size-plain, sizes-plains}
+use Rattle.coefficients.proofs.Shared.{Payload, size_of_payload, factors_of, Full, replaced_free, refused_below, tree_of, IsHanded, Gives, Kind, Tree, mult, Trees, more, append, size, sizes, mapped, IsOver, IsTaken, State, free_of, empty, bytes_in, kids, root_tree, without_root, Stands, forest, KeepsRefusals, IsRefused, bytes_in-join, used_forest, size-plain, sizes-plains}
 use Rattle.calc_terms.proofs.Sizes.{payload_most}
 use Rattle.coefficients.proofs.Bytes.{bytes_put}
 use Rattle.coefficients.proofs.Loops.{IsNext}
@@ -29,26 +29,7 @@ next_free {i = i} {s = s} {u = u} st su r o n =
 -- a child is taken out
 pub taken_free : {k : Kind} {i n h : ℕ} {t : Tree} {ts others : Trees} {s u : State} → Stands s → Stands u → KeepsRefusals s u → IsOver k i ts (forest s)
     → IsTaken k i n t others (forest s) (forest u) h → sizes ts ≡ size t + sizes others → free_of u ≡ free_of s
-taken_free {i = i} {s = s} {u = u} st su r o a e =
-    let g = a.gives in
-    omega (
-      arith,
-      e,
-      used_forest s st,
-      used_forest u su,
-      r.size,
-      st.pool.fits,
-      su.pool.fits,
-      ap bytes_in g.ends.whole,
-      bytes_in-join (put i a.now (forest s)) g.tree,
-      size-plain g.tree g.ends.alone g.whole,
-      ap size g.told,
-      bytes_put i a.now (forest s) o.root,
-      sizes-plains (kids (root_tree i (forest s))) o.kids.whole,
-      ap sizes o.kids.plain_trees,
-      sizes-plains a.now a.kids.whole,
-      ap sizes a.kids.plain_trees,
-    )
+taken_free h k r o a e = grind (arith, used_forest, bytes_in-join, size-plain, bytes_put, sizes-plains)
 
 -- a tree is put into a product of its own, unless it is one
 pub product_free : {i h : ℕ} {s u : State} {Told : Tree → Type 0} → Stands s → Stands u → KeepsRefusals s u → IsHanded i (forest s) → Gives (without_root i (forest s)) (forest u) h Told
@@ -56,8 +37,7 @@ pub product_free : {i h : ℕ} {s u : State} {Told : Tree → Type 0} → Stands
 product_free st su r h g l = omega (arith, replaced_free st su r h g, l)
 
 pub as_product_size : (t : Tree) → size (mult (factors_of t)) ≤ size t + 8
-as_product_size (mult ts) = omega arith
-as_product_size t = omega arith
+as_product_size t = grind arith
 
 -- ---- refusals
 

@@ -1,5 +1,5 @@
 -- What a rational times a term or a sum means, its names and its nest; and so a coefficient before a part.
-use Rattle.std.proofs.Common.{◌≡◌, ◌++◌, Bool, true, false, if◌then◌else◌, refl, sym, ap, append-nil}
+use Rattle.std.proofs.Common.{arith, ◌≡◌, ◌++◌, Bool, true, false, if◌then◌else◌, refl, sym, ap, append-nil}
 use Rattle.coefficients.proofs.Shared.{Fraction, times, zero_fraction, is_zero_fraction, is_one_fraction, is_number, product_tree, Tree, num, add, mult, Trees, none, more, names, names_of, zero_is, one_is, factors_of, spliced, rational_before, with_coefficient, mapped, rational_times_factors, rational_times, rational_times_number, rational_times_term, rational_times_sum}
 use Rattle.calc_algebra.proofs.MeaningRewrites.{KeepsMeanings, KeepsMeanings-refl, KeepsMeanings-eq, KeepsMeanings-trans, KeepsMeanings-sum_more, KeepsMeanings-product_more, two, flat_product, joined_in_product, one_factor_of_product, single_product, to_single_product, multiples, distributed, zero_product}
 use Rattle.calc_algebra.proofs.NumberRewrites.{product_of_rationals, product_tree_keeps, one_times_part}
@@ -20,8 +20,7 @@ led_keeps q c ts = by (is_one_fraction (times q c)) refl
     by false e = joined
 
 factors_keep : (q : Fraction) (ts : Trees) → KeepsMeanings (mult (more (num q) ts)) (rational_times_factors q ts)
-factors_keep q (more (num c) ts) = led_keeps q c ts
-factors_keep q ts = KeepsMeanings-refl (mult (more (num q) ts))
+factors_keep q ts = grind (arith, led_keeps, KeepsMeanings-refl)
 
 -- the factors of a product come up
 raised : (c : Tree) (ts : Trees) → KeepsMeanings (mult (two c (mult ts))) (mult (more c ts))
@@ -54,8 +53,7 @@ pub sum_keeps : (q : Fraction) (ts : Trees) → KeepsMeanings (mult (two (num q)
 sum_keeps q ts = KeepsMeanings-trans (distributed (num q) ts) (mapped_keeps (num q) (rational_times_term q) (term_keeps q) ts)
 
 factors_up : (t : Tree) → KeepsMeanings t (mult (factors_of t))
-factors_up (mult ts) = KeepsMeanings-refl (mult ts)
-factors_up t = to_single_product t
+factors_up t = grind (arith, KeepsMeanings-refl, to_single_product)
 
 pub spliced_keeps : (c p : Tree) → KeepsMeanings (mult (two c p)) (spliced c p)
 spliced_keeps c p =
@@ -87,12 +85,7 @@ tree_names (more t none) = sym (append-nil (names t))
 tree_names (more t (more u ts)) = refl
 
 factors_names : (q : Fraction) (ts : Trees) → names (rational_times_factors q ts) ≡ names_of ts
-factors_names q (more (num c) ts) = by (is_one_fraction (times q c))
-  where
-    by : (b : Bool) → names (if b then product_tree ts else mult (more (num (times q c)) ts)) ≡ names_of ts
-    by true = tree_names ts
-    by false = refl
-factors_names q ts = refl
+factors_names q ts = grind (arith, tree_names)
 
 pub rational_names : (q : Fraction) (t : Tree) → names (rational_times q t) ≡ names t
 rational_names q (num c) = refl

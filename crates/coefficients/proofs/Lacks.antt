@@ -1,27 +1,20 @@
 -- Facts of the bytes that are lacking where a call is refused, and the premises of these facts.
-use Rattle.std.proofs.Common.{◌≡◌, ◌+◌, true, false, not, Result, Ok, Err, refl, sym, ap, subst, arith}
+use Rattle.std.proofs.Common.{◌≡◌, ◌+◌, true, false, not, Result, ap, arith}
 use Rattle.std.specs.Prelude.{IfErr, IsErrAnd}
 use Rattle.coefficients.proofs.Shared.{Fraction, is_zero_fraction, is_one_fraction, no_zero, Tree, add, Trees, more, append, is_add, size, sizes, Full, OfFull, children_of, NumberFault}
 use Rattle.coefficients.proofs.NumberMultiples.{IsFactor, not_one_is}
 use Rattle.coefficients.proofs.Rooms.{sizes_append}
 use Rattle.tree_handles.specs.declared.fault.NumberFault.TheVariants as fault
 
-fault_lacks : (f : NumberFault) (P Q : Full → Type 0) → OfFull P f → ((g : Full) → P g → Q g) → OfFull Q f
-fault_lacks (fault.Full g) P Q h k = k g h
-fault_lacks (fault.Overflow o) P Q h k = tt
-
 pub result_lacks : {A : Type 0} (r : Result A NumberFault) (P Q : Full → Type 0) → IfErr r (OfFull P) → ((g : Full) → P g → Q g) → IfErr r (OfFull Q)
-result_lacks (Ok x) P Q h k = tt
-result_lacks (Err f) P Q h k = fault_lacks f P Q h k
+result_lacks r P Q h k = grind arith
 
 -- what a `?` passes on
 pub passed_lacks : {A : Type 0} (r : Result A NumberFault) (f : NumberFault) (P Q : Full → Type 0) → IsErrAnd r (λ e. e ≡ f) → OfFull P f → ((g : Full) → P g → Q g) → IfErr r (OfFull Q)
-passed_lacks (Ok x) f P Q h p k = tt
-passed_lacks (Err e) f P Q h p k = subst (OfFull Q) (sym h) (fault_lacks f P Q p k)
+passed_lacks r f P Q h p k = grind arith
 
 pub refusal_lacks : {A : Type 0} (r : Result A NumberFault) (g : Full) (Q : Full → Type 0) → IsErrAnd r (λ e. e ≡ fault.Full g) → Q g → IfErr r (OfFull Q)
-refusal_lacks (Ok x) g Q h k = tt
-refusal_lacks (Err e) g Q h k = subst (OfFull Q) (sym h) k
+refusal_lacks r g Q h k = grind arith
 
 -- ---- premises
 
@@ -29,8 +22,7 @@ pub factor_of : (q : Fraction) → is_zero_fraction q ≡ false → is_one_fract
 factor_of q z o = record { not_zero = no_zero q (ap not z); not_one = not_one_is q o }
 
 pub sum_whole : (t : Tree) → is_add t ≡ true → t ≡ add (children_of t)
-sum_whole (add ts) h = refl
-sum_whole t h = cc
+sum_whole t h = grind arith
 
 pub taken_sizes : (done : Trees) (t : Tree) (rest : Trees) → sizes (append done (more t rest)) ≡ size t + sizes (append done rest)
 taken_sizes done t rest = omega (arith, sizes_append done (more t rest), sizes_append done rest)

@@ -1,5 +1,5 @@
 -- Loops over the terms of a sum, in which each term is taken out, rewritten and put back.
-use Rattle.std.proofs.Common.{◌≡◌, ℕ, suc, ◌+◌, ◌≤◌, ◌<◌, [], ◌∷◌, refl, sym, ap, ◌∙◌, subst, arith}
+use Rattle.std.proofs.Common.{◌≡◌, ℕ, suc, ◌+◌, ◌≤◌, ◌<◌, [], ◌∷◌, refl, sym, ap, ◌∙◌, arith}
 use Rattle.coefficients.proofs.Shared.{Tree, Trees, none, more, append, count, mapped, inserted, Forest, kids, with_nth, tree_nth, without_nth, Represents, Ends, Gives, KeepsFront, root_tree, without_root, put, behind_first, front_same, front_at, front_put, gives_as, given_rest, append-none, put-put, put-same, IsOver, IsTaken, taken, over_put, IsAdded, added_as, inserted_behind, State, Stands, forest, kids_of, arity, children_at}
 use Rattle.calc_terms.specs.declared.kind.Kind.TheVariants as kind
 
@@ -111,12 +111,7 @@ none_left first (more t rest) l = absurd (omega (arith, count_append first (more
 
 -- all terms are rewritten
 pub all_done : {f : Tree → Tree} {i at : ℕ} {ts : Trees} {old new : Forest} → IsPartDone f i at ts old new → count ts ≤ at → IsAdded kind.Add i (mapped f ts) old new
-all_done {f = f} {i = i} {at = at} {ts = ts} {old = old} {new = new} p l =
-    let few : count (append p.done p.rest) ≤ count p.done = subst (λ (x : Trees). count x ≤ count p.done) p.split (subst (λ (n : ℕ). count ts ≤ n) p.count-is l) in
-    let left : p.rest ≡ none = none_left p.done p.rest few in
-    let whole : append (mapped f p.done) p.rest ≡ mapped f ts =
-    ap (append (mapped f p.done)) left ∙ append-none (mapped f p.done) ∙ ap (mapped f) (sym (p.split ∙ ap (append p.done) left ∙ append-none p.done)) in
-    record { now = p.now; kids = subst (Represents p.now) whole p.kids; whole = p.whole; over = subst (λ (us : Trees). IsOver kind.Add i us new) whole p.over }
+all_done p l = grind (arith, none_left, append-none)
 
 pub all_of : {f : Tree → Tree} {s : State} {i j at n : ℕ} {ts : Trees} {new : Forest} → IsOver kind.Add i ts (forest s) → Stands s → j ≡ i → n ≡ arity (kids_of j (forest s)) → IsPartDone f i at ts (forest s) new → n ≤ at
     → IsAdded kind.Add i (mapped f ts) (forest s) new

@@ -1,6 +1,6 @@
 -- Which operation does not fit, from call to call.
-use Rattle.std.specs.Prelude.{Result, Ok, Err, IfErr, IsErrAnd}
-use Rattle.std.proofs.Common.{◌≡◌, inl, inr, true, refl, sym, ap, subst}
+use Rattle.std.specs.Prelude.{Result, IfErr, IsErrAnd}
+use Rattle.std.proofs.Common.{arith, ◌≡◌, inl, inr, true, sym, ap, subst}
 use Rattle.coefficients.proofs.Shared.{Fraction, value_of, Rat, is_number, Tree, num, add, mult, Trees, none, more, append, is_add, is_mult, Leads, LeadsIn, LeadsTerm, IsMultiple, NamesPut, OfOverflow, children_of, NumberFault}
 use Rattle.rational128.specs.declared.overflow.Op.TheVariants.{Mul}
 use Rattle.rational128.specs.declared.overflow.Overflow.{Overflow}
@@ -9,25 +9,17 @@ use Rattle.tree_handles.specs.declared.fault.NumberFault.TheVariants as fault
 -- ---- results
 
 pub named : {A : Type 0} (r : Result A NumberFault) (o : Overflow) (P : Overflow → Type 0) → IsErrAnd r (λ e. e ≡ fault.Overflow o) → P o → IfErr r (OfOverflow P)
-named (Ok x) o P h k = tt
-named (Err (fault.Full g)) o P h k = tt
-named (Err (fault.Overflow p)) o P h k = subst P (sym (same p o h)) k
-  where
-    same : (p o : Overflow) → fault.Overflow p ≡ fault.Overflow o → p ≡ o
-    same p o e = cc
+named r o P h k = grind arith
 
 pub fault_named : (f : NumberFault) (P Q : Overflow → Type 0) → OfOverflow P f → ((o : Overflow) → P o → Q o) → OfOverflow Q f
-fault_named (fault.Full g) P Q h k = tt
-fault_named (fault.Overflow o) P Q h k = k o h
+fault_named f P Q h k = grind arith
 
 pub result_named : {A : Type 0} (r : Result A NumberFault) (P Q : Overflow → Type 0) → IfErr r (OfOverflow P) → ((o : Overflow) → P o → Q o) → IfErr r (OfOverflow Q)
-result_named (Ok x) P Q h k = tt
-result_named (Err f) P Q h k = fault_named f P Q h k
+result_named r P Q h k = grind arith
 
 -- what a `?` passes on
 pub passed_named : {A : Type 0} (r : Result A NumberFault) (f : NumberFault) (P Q : Overflow → Type 0) → IsErrAnd r (λ e. e ≡ f) → OfOverflow P f → ((o : Overflow) → P o → Q o) → IfErr r (OfOverflow Q)
-passed_named (Ok x) f P Q h p k = tt
-passed_named (Err e) f P Q h p k = subst (OfOverflow Q) (sym h) (fault_named f P Q p k)
+passed_named r f P Q h p k = grind arith
 
 -- ---- what leads
 
@@ -45,15 +37,13 @@ pub leads_coefficient : (c : Fraction) (t : Tree) (us ts : Trees) → t ≡ mult
 leads_coefficient c t us ts e n h = subst (LeadsTerm c) (sym e) (n, h)
 
 pub names_sum : (q : Fraction) (t : Tree) → is_add t ≡ true → (o : Overflow) → IsMultiple q (λ c. LeadsIn LeadsTerm c (children_of t)) o → NamesPut (num q) t o
-names_sum q (add ts) m o h = h
-names_sum q t m o h = cc
+names_sum q t m o h = grind arith
 
 pub multiple_named : {q b : Rat} (L : Fraction → Type 0) (o : Overflow) → o ≡ record { op = Mul; a = q; b = b } → L (value_of b) → IsMultiple (value_of q) L o
 multiple_named L o e h = record { product = ap (λ (x : Overflow). x.op) e; first = ap (λ (x : Overflow). value_of x.a) e; second = subst L (sym (ap (λ (x : Overflow). value_of x.b) e)) h }
 
 pub leads_children : (c : Fraction) (t : Tree) (rest : Trees) → is_mult t ≡ true → children_of t ≡ more (num c) rest → Leads c t
-leads_children c (mult ts) rest m e = subst (λ (us : Trees). Leads c (mult us)) (sym e) refl
-leads_children c t rest m e = cc
+leads_children c t rest m e = grind arith
 
 pub put_as : {c d p q : Tree} (o : Overflow) → c ≡ d → p ≡ q → NamesPut c p o → NamesPut d q o
 put_as {c = c} {d = d} {p = p} {q = q} o e f h = subst (λ (x : Tree). NamesPut x q o) e (subst (λ (x : Tree). NamesPut c x o) f h)

@@ -1,6 +1,5 @@
 -- A rational times the terms of a Number.
-use Rattle.std.proofs.lemmas.Bool.{true≢false}
-use Rattle.std.proofs.Common.{◌≡◌, ◌≢◌, ℕ, suc, ◌≤◌, [], ◌∷◌, length, Bool, true, false, if◌then◌else◌, refl, sym, ap, ◌∙◌, subst}
+use Rattle.std.proofs.Common.{arith, ◌≡◌, ◌≢◌, ℕ, suc, ◌≤◌, [], ◌∷◌, length, Bool, true, false, if◌then◌else◌, refl, sym, ap, ◌∙◌, subst}
 use Rattle.coefficients.proofs.Shared.{Fraction, times, zero_fraction, one_fraction, is_one_fraction, IsNumber, IsTerm, AreTerms, IsBelowAll, Rises, term_of, terms_of, natural_of, product_tree, Term, Surd, term, term_scale, surd_scale, Tree, num, add, mult, root, Trees, none, more, one_is, product_not_zero, mapped, rational_times, rational_times_number}
 use Rattle.calc_terms.specs.FractionLaws.{times_comm, one_times}
 use Rattle.coefficients.proofs.Forms.{one_is_one}
@@ -14,7 +13,7 @@ pub times_one : (q : Fraction) → times q one_fraction ≡ q
 times_one q = times_comm q one_fraction ∙ one_times q
 
 pub not_one_is : (q : Fraction) → is_one_fraction q ≡ false → q ≢ one_fraction
-not_one_is q h e = true≢false (sym (one_is_one) ∙ sym (ap is_one_fraction e) ∙ h)
+not_one_is q h e = grind (arith, one_is_one)
 
 -- a term is a term again, with the coefficient times the rational
 pub record IsScaled (q : Fraction) (t u : Tree) : Type 0 where

@@ -1,29 +1,24 @@
 -- A coefficient before a part, by the kinds of both.
-use Rattle.std.proofs.Common.{◌≡◌, ℕ, Bool, true, false, if◌then◌else◌, refl, sym, ap, ◌∙◌, Result, Ok, Err}
+use Rattle.std.proofs.Common.{arith, ◌≡◌, ℕ, Bool, true, false, if◌then◌else◌, sym, ap, ◌∙◌, Result}
 use Rattle.std.specs.Prelude.{OnOk, IfErr, pos}
-use Rattle.coefficients.proofs.Shared.{Rat, Fraction, lowest, zero_fraction, is_zero_fraction, is_one_fraction, ratio_of, value_of, Ratio, whole, Tree, num, add, root_kind, is_add, State, NumberFault, children_of, Faults, KeepsRefusals, keeps_after, spliced, rational_before, with_coefficient, rational_times_sum}
-use Rattle.tree_handles.proofs.Refused.{faults_after}
+use Rattle.coefficients.proofs.Shared.{Rat, Fraction, lowest, zero_fraction, is_zero_fraction, is_one_fraction, ratio_of, value_of, Ratio, whole, Tree, num, root_kind, is_add, State, NumberFault, children_of, Faults, KeepsRefusals, spliced, rational_before, with_coefficient, rational_times_sum}
 use Rattle.calc_terms.specs.declared.kind.Kind.TheVariants as kind
 
 -- ---- refusals of a call that comes after others
 
 pub on_ok_after : {E : Type 0} (r : Result ℕ E) (s t u : State) → KeepsRefusals s t → OnOk r (KeepsRefusals t u) → OnOk r (KeepsRefusals s u)
-on_ok_after (Ok h) s t u k p = keeps_after s t u k p
-on_ok_after (Err e) s t u k p = tt
+on_ok_after r s t u k p = grind arith
 
 pub fault_after : (r : Result ℕ NumberFault) (s t u : State) → KeepsRefusals s t → IfErr r (Faults t u) → IfErr r (Faults s u)
-fault_after (Ok h) s t u k p = tt
-fault_after (Err e) s t u k p = faults_after s t u e k p
+fault_after r s t u k p = grind arith
 
 -- ---- a rational before a part
 
 pub before_sum : (q : Fraction) (t : Tree) → is_add t ≡ true → rational_times_sum q (children_of t) ≡ rational_before q t
-before_sum q (add ts) m = refl
-before_sum q t m = cc
+before_sum q t m = grind arith
 
 pub before_other : (q : Fraction) (t : Tree) → is_add t ≡ false → spliced (num q) t ≡ rational_before q t
-before_other q (add ts) m = cc
-before_other q t m = refl
+before_other q t m = grind arith
 
 pub zero_value : (r : Rat) → ratio_of r ≡ whole (pos 0) → value_of r ≡ zero_fraction
 unfolding zero_fraction
@@ -44,5 +39,4 @@ with_other q t z o = sym (with_no_zero q t z ∙ ap (λ (b : Bool). if b then t 
 -- ---- no rational
 
 pub with_irrational : (c t : Tree) → (kind.Num ≡ root_kind c → ⊥) → spliced c t ≡ with_coefficient c t
-with_irrational (num q) t h = absurd (h refl)
-with_irrational c t h = refl
+with_irrational c t h = grind arith

@@ -1,6 +1,6 @@
 -- A child that was taken out of a root is rewritten, and put back.
-use Rattle.std.proofs.Common.{◌≡◌, ℕ, List, [], ◌∷◌, refl, ◌∙◌, subst, true, false}
-use Rattle.coefficients.proofs.Shared.{Kind, is_reduced, HasForm, Tree, add, Trees, none, more, append, is_add, AllParts, AllPartsOf, State, children_of, inserted, Forest, kids, with_nth, Ends, Gives, KeepsFront, holds, root_tree, without_root, put, Stands, forest, behind_first, behind_new, front_after_one, front_end, front_put, gives_as, given_rest, given_root, apart, other_apart, eqb-sym, put-put, IsOver, IsTaken, over_end, over_put, IsAdded, added_as}
+use Rattle.std.proofs.Common.{arith, ◌≡◌, ℕ, List, [], ◌∷◌, refl, ◌∙◌, true, false}
+use Rattle.coefficients.proofs.Shared.{Kind, is_reduced, HasForm, Tree, Trees, none, more, append, is_add, AllParts, AllPartsOf, State, children_of, inserted, Forest, kids, with_nth, Ends, Gives, KeepsFront, holds, root_tree, without_root, put, Stands, forest, behind_first, behind_new, front_after_one, front_end, front_put, gives_as, given_rest, given_root, apart, other_apart, eqb-sym, put-put, IsOver, IsTaken, over_end, over_put, IsAdded, added_as}
 use Rattle.coefficients.proofs.Forms.{reduced_parts, parts_reduced}
 
 -- what is given stands behind the root without the child
@@ -36,5 +36,4 @@ part_at none t rest h = h.0
 part_at (more u us) t rest h = part_at us t rest h.1
 
 pub term_reduced : (before : Trees) (t : Tree) (rest : Trees) (s : Tree) → is_add s ≡ true → is_reduced s ≡ true → children_of s ≡ append before (more t rest) → is_reduced t ≡ true
-term_reduced before t rest (add ts) m h e = parts_reduced t (part_at before t rest (subst (AllPartsOf HasForm) e (reduced_parts (add ts) h refl).1))
-term_reduced before t rest s m h e = cc
+term_reduced before t rest s m h e = grind (arith, parts_reduced, part_at, reduced_parts)

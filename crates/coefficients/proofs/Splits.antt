@@ -1,7 +1,7 @@
 -- A coefficient and the factors behind it: how a reduced product is taken apart, and what is put together again.
 use Rattle.std.proofs.lemmas.Bool.{true≢false}
-use Rattle.std.proofs.Common.{◌≡◌, ◌≢◌, ◌≤◌, ◌⊎◌, inl, inr, Bool, true, false, ◌&&◌, not, if◌then◌else◌, refl, sym, ap, ◌∙◌, subst, arith}
-use Rattle.coefficients.proofs.Shared.{Fraction, zero_fraction, one_fraction, is_one_fraction, has_coefficient, is_number, is_radicand, IsNumber, Split, split, split_product, num_one, product_tree, part_of, base_of, is_undistributed, is_one_add, NoneIs, RisesBy, IsFrontForm, IsProductForm, HasForm, Tree, num, add, mult, root, Trees, none, more, append, count, HasTwo, AllParts, AllPartsOf, is_num, is_add, is_mult, number_words, number_test, coefficient_of, factors_of}
+use Rattle.std.proofs.Common.{◌≡◌, ◌≢◌, ◌≤◌, ◌⊎◌, inl, inr, Bool, true, false, if◌then◌else◌, refl, sym, ap, ◌∙◌, subst, arith}
+use Rattle.coefficients.proofs.Shared.{Fraction, zero_fraction, one_fraction, has_coefficient, is_number, is_radicand, IsNumber, Split, split, split_product, num_one, product_tree, part_of, is_undistributed, is_one_add, NoneIs, IsFrontForm, IsProductForm, HasForm, Tree, num, add, mult, root, Trees, none, more, append, count, HasTwo, AllParts, AllPartsOf, is_num, is_add, is_mult, number_words, number_test, coefficient_of, factors_of}
 use Rattle.coefficients.proofs.Forms.{number_parts, AllPartsOf-append}
 use Rattle.coefficients.proofs.Factors.{spliced_split, none_leads, AreFactors}
 
@@ -14,18 +14,10 @@ pub record IsCoefficient (c : Tree) : Type 0 where
   pub not_one : c ≢ num one_fraction
 
 number_some : (c : Tree) → IsNumber c → 1 ≤ count (factors_of c)
-number_some (num q) h = omega arith
-number_some (add ts) h = omega arith
-number_some (root a) h = omega arith
-number_some (mult (more (num q) (more (root (num r)) none))) h = omega arith
-number_some c h = absurd h
+number_some c h = grind arith
 
 number_no_product : (c : Tree) → IsNumber c → NoneIs is_mult (factors_of c)
-number_no_product (num q) h = (refl, tt)
-number_no_product (add ts) h = (refl, tt)
-number_no_product (root a) h = (refl, tt)
-number_no_product (mult (more (num q) (more (root (num r)) none))) h = (refl, (refl, tt))
-number_no_product c h = absurd h
+number_no_product c h = grind arith
 
 pub number_factor_parts : (c : Tree) → IsNumber c → AllPartsOf HasForm (factors_of c)
 number_factor_parts (mult ts) h = (number_parts (mult ts) h).1
@@ -35,14 +27,7 @@ number_factor_parts (root a) h = (number_parts (root a) h, tt)
 number_factor_parts c h = absurd h
 
 front : (c : Tree) (ts : Trees) → IsCoefficient c → IsFrontForm (append (factors_of c) ts)
-front c ts h = by c h.number h.not_zero h.not_one
-  where
-    by : (c : Tree) → IsNumber c → c ≢ num zero_fraction → c ≢ num one_fraction → IsFrontForm (append (factors_of c) ts)
-    by (num q) n z o = (λ e. z (ap num e), λ e. o (ap num e))
-    by (add us) n z o = tt
-    by (root a) n z o = tt
-    by (mult (more (num q) (more (root (num r)) none))) n z o = (n.0, n.1)
-    by c n z o = absurd n
+front c ts h = grind arith
 
 joined_two : (ts us : Trees) → 1 ≤ count ts → 1 ≤ count us → HasTwo (append ts us)
 joined_two none us h k = absurd (omega arith)
@@ -58,25 +43,11 @@ NoneIs-append p (more t ts) us h k = (h.0, NoneIs-append p ts us h.1 k)
 abbrev pub IsSpread : Tree → Trees → Type 0
 IsSpread c ts = is_num c ≡ true → is_one_add ts ≡ false
 
-right_false : (b : Bool) → (b && false) ≡ false
-right_false true = refl
-right_false false = refl
-
 spread : (c : Tree) (ts : Trees) → IsSpread c ts → is_undistributed (split c ts) ≡ false
-spread (num q) ts h = rw (h refl) (right_false (not (is_one_fraction q)))
-spread c ts h = refl
+spread c ts h = grind arith
 
 pub spliced_form : (c : Tree) (ts : Trees) → IsCoefficient c → AreFactors ts → IsSpread c ts → IsProductForm (append (factors_of c) ts)
-spliced_form c ts h k d =
-    let is : split_product (append (factors_of c) ts) ≡ split c ts = spliced_split c ts h.number (none_leads ts k.no_number) in
-    record {
-      two = joined_two (factors_of c) ts (number_some c h.number) k.some;
-      no_product = NoneIs-append is_mult (factors_of c) ts (number_no_product c h.number) k.no_product;
-      front = front c ts h;
-      no_number = subst (λ (s : Split). NoneIs is_number s.factors) (sym is) k.no_number;
-      rising = subst (λ (s : Split). RisesBy base_of s.factors) (sym is) k.rising;
-      distributed = ap is_undistributed is ∙ spread c ts d;
-    }
+spliced_form c ts h k d = grind (arith, spliced_split, none_leads, joined_two, number_some, NoneIs-append, number_no_product, front, spread)
 
 -- ---- coefficient and factors as one product
 

@@ -8,19 +8,13 @@ use Rattle.calc_terms.specs.declared.kind.Kind.TheVariants as kind
 use Rattle.tree_handles.proofs.Beside.{other_plain}
 
 pub product_factors : (t : Tree) → is_mult t ≡ true → t ≡ mult (factors_of t)
-product_factors (mult ts) h = refl
-product_factors t h = cc
+product_factors t h = grind arith
 
 pub one_tree_of : (ts : Trees) → count ts ≡ 1 → ts ≡ more (product_tree ts) none
-one_tree_of none e = absurd (omega arith)
-one_tree_of (more t none) e = refl
-one_tree_of (more t (more u ts)) e = absurd (omega arith)
+one_tree_of ts e = grind arith
 
 pub many_factors : (t : Tree) → is_mult t ≡ true → 1 ≤ count (children_of t) → (count (children_of t) ≡ 1 → ⊥) → t ≡ product_tree (children_of t)
-many_factors (mult none) m l h = absurd (omega arith)
-many_factors (mult (more t none)) m l h = absurd (h refl)
-many_factors (mult (more t (more u ts))) m l h = refl
-many_factors t m l h = cc
+many_factors t m l h = grind arith
 
 -- the factor stands last, and the product is empty
 pub record IsEmptied (i : ℕ) (t : Tree) (old new : Forest) (h : ℕ) : Type 0 where

@@ -11,7 +11,6 @@ use Rattle.tree_handles.proofs.Places.{used_forest}
 use Rattle.dual_diff.proofs.Forms.{count_append}
 use Rattle.dual_diff.proofs.Products.{AreMade, made_more, made_none, made_same}
 use Rattle.dual_diff.proofs.Slices.{slice_last}
-use Rattle.calc_terms.specs.declared.kind.Kind.TheVariants as kind
 
 -- the tree of a node
 abbrev pub tree_of : ℕ → State → Tree
@@ -58,8 +57,7 @@ adds_first {s} {t} {u} b g =
 -- ---- bytes
 
 pub adds_free : {s t : State} {ts : Trees} → Stands s → AddsAll s t ts → free_of s ≡ free_of t + sizes ts
-adds_free {s = s} {t = t} h b =
-    omega (arith, used_forest s h, used_forest t b.stands, b.kept.size, h.pool.fits, b.stands.pool.fits, ap bytes_in b.whole, bytes_in-join (forest s) b.made, sizes-plains b.made b.represents.whole, ap sizes b.represents.plain_trees)
+adds_free h b = grind (arith, used_forest, bytes_in-join, sizes-plains)
 
 pub added_arity : {s t : State} {ts : Trees} (b : AddsAll s t ts) → arity b.made ≡ count ts
 added_arity b = sym (count-plains b.made) ∙ ap count b.represents.plain_trees
@@ -89,9 +87,7 @@ pub still_plain : {s t : State} {ts : Trees} {j : ℕ} → AddsAll s t ts → Is
 still_plain {s = s} {j = j} b h = ap plain (ap (tree_at j) b.whole ∙ tree_at-join_left j (forest s) b.made h.live)
 
 pub takes_bare : (k : Kind) (n : ℕ) → takes_kind k n ≡ true → is_bare k ≡ true
-takes_bare kind.Num n h = absurd cc
-takes_bare kind.Sym n h = absurd cc
-takes_bare k n h = refl
+takes_bare k n h = grind arith
 
 pub still_count : {s t : State} {ts : Trees} {j : ℕ} → AddsAll s t ts → IsExpression j (forest s) → count (children_of (tree_of j t)) ≡ count (children_of (tree_of j s))
 still_count b h = ap (λ (u : Tree). count (children_of u)) (still_plain b h)
@@ -143,16 +139,13 @@ last_more (more v none) b g = tt
 last_more (more v (more w us)) b g = tt
 
 pub last_some : (made : Trees) (s t : State) (last : Option ℕ) → count made ≡ 1 → LastIs made s t last → IsSome last
-last_some (more u none) s t last c (h, e, g) = subst (λ (o : Option ℕ). IsSome o) (sym e) refl
-last_some us s t last c l = absurd (omega arith)
+last_some made s t last c l = grind arith
 
 pub last_is : (made : Trees) (s t : State) (last : Option ℕ) (h : ℕ) → count made ≡ 1 → LastIs made s t last → last ≡ Some h → Adds s t (sum_of_products made) h
-last_is (more u none) s t last h c (k, f, g) e = let same : k ≡ h = (let both : Some k ≡ Some h = sym f ∙ e in cc) in subst (Adds s t u) same g
-last_is us s t last h c l e = absurd (omega arith)
+last_is made s t last h c l e = grind arith
 
 pub more_than_one : (us : Trees) → 1 < count us → add us ≡ sum_of_products us
-more_than_one (more u (more v us)) h = refl
-more_than_one us h = absurd (omega arith)
+more_than_one us h = grind arith
 
 -- products of the first factors that stand behind the others
 pub record ArePlaced (x : List ℕ) (at many : ℕ) (last : Option ℕ) (s t : State) (ts : Trees) : Type 0 where

@@ -1,33 +1,18 @@
 -- Trees whose nodes are all derivable.
 use Rattle.std.proofs.Common.{◌≡◌, ℕ, zero, suc, ◌<◌, ◌≤◌, List, true, sym, subst, arith}
-use Rattle.dual_diff.proofs.Shared.{Tree, add, mult, power, root, neg, sub, div, Trees, none, more, count, nodes, root_kind, AllParts, AllPartsOf, nth, children_of, HasDerivative, IsDerivable, IsDerivableExponent, first, occurs}
+use Rattle.dual_diff.proofs.Shared.{Tree, Trees, none, more, count, nodes, root_kind, AllParts, AllPartsOf, nth, children_of, HasDerivative, IsDerivable, IsDerivableExponent, first, occurs}
 use Rattle.dual_diff.proofs.Exponents.{derivable_exponent}
 use Rattle.dual_diff.proofs.Forms.{first_all, smaller_child}
 use Rattle.calc_terms.specs.declared.kind.Kind.TheVariants as kind
 
 pub of_root : (x : List ℕ) (t : Tree) → HasDerivative x t → IsDerivable x t
-of_root x (power b e) h = h.0
-of_root x t h = tt
+of_root x t h = grind arith
 
 pub of_children : (x : List ℕ) (t : Tree) → HasDerivative x t → AllPartsOf (IsDerivable x) (children_of t)
-of_children x (add ts) h = h.1
-of_children x (mult ts) h = h.1
-of_children x (power b e) h = (h.1, (h.2, tt))
-of_children x (root a) h = (h.1, tt)
-of_children x (neg a) h = (h.1, tt)
-of_children x (sub a b) h = (h.1, (h.2, tt))
-of_children x (div a b) h = (h.1, (h.2, tt))
-of_children x t h = tt
+of_children x t h = grind arith
 
 pub of_node : (x : List ℕ) (t : Tree) → IsDerivable x t → AllPartsOf (IsDerivable x) (children_of t) → HasDerivative x t
-of_node x (add ts) h k = (tt, k)
-of_node x (mult ts) h k = (tt, k)
-of_node x (power b e) h k = (h, k.0, k.1.0)
-of_node x (root a) h k = (tt, k.0)
-of_node x (neg a) h k = (tt, k.0)
-of_node x (sub a b) h k = (tt, k.0, k.1.0)
-of_node x (div a b) h k = (tt, k.0, k.1.0)
-of_node x t h k = tt
+of_node x t h k = grind arith
 
 pub at_place : (P : Tree → Type 0) (n : ℕ) (ts : Trees) → n < count ts → AllPartsOf P ts → AllParts P (nth n ts)
 at_place P n none l h = absurd (omega arith)

@@ -1,7 +1,7 @@
 -- The derivative of a tree means the slope of each pair of it.
 use Rattle.std.proofs.Common.{◌≡◌, ℕ, zero, suc, List, [], ◌++◌, Bool, true, false, refl, sym, ap, ◌∙◌, subst, inl, inr, append-nil, arith}
 use Rattle.std.specs.Prelude.{ℤ, pos, negsuc, ◌*ℤ◌, ◌-ℤ◌, neg_ℤ, ◌==◌, ◌||◌, if◌then◌else◌, Option, Some, None}
-use Rattle.dual_diff.proofs.Shared.{Fraction, times, minus_one_fraction, whole_fraction, quotient, Tree, num, symbol, undef, add, mult, power, root, neg, sub, div, Trees, none, more, append, whole_num, Assignment, IsWholePower, Means, MeansSum, MeansProduct, Same, Inverts, Surd, surd_of, surd_one, surd_scale, surd_times, surd_power, Inverts-surd_times, Means-Same, Same-sym, Same-trans, Same-Agree, Agree, Agree-refl, Agree-sym, Agree-trans, Agree-eq, Agree-append, Agree-Same, surd_times-nil, surd_times-surd_one, surd_times-surd_of, Same-refl, Same-eq, whole_value, opposite, whole_literal, occurs, occurs_in, Pair, SamePair, pair_over, HasPair, HasPairSum, HasPairProduct, IsPowerSlope, IsRootPair, two, where_occurs, quotient_rule, lowered, power_rule, literal_power_rule, root_rule, sum_of_products, derivative, derivatives, products, eqb-true, ints, bytes_eq, one_fraction}
+use Rattle.dual_diff.proofs.Shared.{Fraction, times, minus_one_fraction, whole_fraction, quotient, Tree, num, symbol, undef, add, mult, power, root, neg, sub, div, Trees, none, more, append, whole_num, Assignment, IsWholePower, Means, MeansSum, MeansProduct, Same, Inverts, Surd, surd_of, surd_one, surd_scale, surd_times, surd_power, Inverts-surd_times, Means-Same, Same-sym, Same-trans, Same-Agree, Agree, Agree-refl, Agree-sym, Agree-trans, Agree-eq, Agree-append, Agree-Same, surd_times-nil, surd_times-surd_one, surd_times-surd_of, Same-refl, Same-eq, whole_value, opposite, whole_literal, occurs, occurs_in, Pair, SamePair, pair_over, HasPair, HasPairSum, HasPairProduct, IsPowerSlope, IsRootPair, two, where_occurs, quotient_rule, lowered, power_rule, literal_power_rule, root_rule, sum_of_products, derivative, derivatives, products, ints, bytes_eq, one_fraction}
 use Rattle.calc_algebra.proofs.MeaningRewrites.{product_more, product_one, product_two, product_append}
 use Rattle.calc_algebra.proofs.ExponentLaws.{whole_times}
 use Rattle.calc_algebra.proofs.NumberRewrites.{fraction_whole}
@@ -25,8 +25,7 @@ guarded true t f d z m = m
 guarded false t f d z m = zero_means f d (z refl)
 
 guarded_held : (b : Bool) (t : Tree) (f : Assignment) (d : Surd) → b ≡ true → Means t f d → Means (where_occurs b t) f d
-guarded_held true t f d h m = m
-guarded_held false t f d h m = absurd cc
+guarded_held b t f d h m = grind arith
 
 guarded_absent : (b : Bool) (t : Tree) (f : Assignment) (d : Surd) → b ≡ false → Agree d [] → Means (where_occurs b t) f d
 guarded_absent true t f d h z = absurd cc
@@ -94,8 +93,7 @@ literal_means f l n b b' d e m = subst (λ (z : Option ℤ). Means (literal_powe
 
 -- a fraction that is a whole literal, and its opposite
 whole_by : (b : Bool) (q : Fraction) (n : ℤ) → (q.den == 1) ≡ b → (if b then Some q.num else None) ≡ Some n → q ≡ whole_fraction n
-whole_by true q n d h = fraction_whole q (eqb-true q.den 1 d) ∙ ap whole_fraction (let same : q.num ≡ n = cc in same)
-whole_by false q n d h = absurd cc
+whole_by b q n d h = grind (arith, fraction_whole)
 
 rational_literal : (q : Fraction) (n : ℤ) → whole_value q ≡ Some n → Same (surd_of (whole_fraction n)) (surd_of q)
 rational_literal q n h = Same-eq (ap (λ (z : Fraction). surd_of z) (sym (whole_by (q.den == 1) q n refl h)))

@@ -1,7 +1,7 @@
 -- Exponents that are whole literals, and the powers that are derivable.
-use Rattle.std.proofs.Common.{◌≡◌, ℕ, List, ℤ, ◌≤◌, Bool, true, false, refl, sym, ap, ◌∙◌, subst}
+use Rattle.std.proofs.Common.{arith, ◌≡◌, ℕ, List, ℤ, ◌≤◌, Bool, true, false, sym, ap, ◌∙◌}
 use Rattle.std.specs.Prelude.{◌==◌, ◌↔◌, Contains, IsTrue, Some, None, neg_ℤ, nat_abs, if◌then◌else◌}
-use Rattle.dual_diff.proofs.Shared.{whole_value, opposite, whole_literal, Rat, Fraction, negative, ratio_of, value_of, Tree, power, names, root_kind, ratio_parts, nth, children_of, by_test, IsDerivable, IsDerivableExponent, exponent_limit, occurs, eqb-true, eq-eqb}
+use Rattle.dual_diff.proofs.Shared.{whole_value, opposite, whole_literal, Rat, Fraction, negative, ratio_of, value_of, Tree, names, root_kind, ratio_parts, nth, children_of, IsDerivable, IsDerivableExponent, exponent_limit, occurs, eq-eqb}
 use Rattle.rational128.proofs.Reciprocals.{negative_parts}
 use Rattle.dual_diff.proofs.Occurring.{told, names_occur}
 use Rattle.calc_terms.specs.declared.kind.Kind.TheVariants as kind
@@ -15,52 +15,39 @@ pub whole_some : (q : Fraction) (z : ℤ) → z ≡ q.num → q.den ≡ 1 → So
 whole_some q z e d = ap Some e ∙ sym (value_by true q (eq-eqb q.den 1 d))
 
 pub whole_none : (q : Fraction) (b : Bool) → (IsTrue b ↔ (q.den ≡ 1)) → b ≡ false → None ≡ whole_value q
-whole_none q b h f =
-    by_test (λ t. (q.den == 1) ≡ t → None ≡ whole_value q) (q.den == 1)
-    (λ e d. let yes : b ≡ true = h.1 (eqb-true q.den 1 d) in absurd cc)
-    (λ e d. sym (value_by false q d)) refl
+whole_none q b h f = grind arith
 
 pub rat_whole : (r : Rat) (b : Bool) → (IsTrue b ↔ ((ratio_of r).den ≡ 1)) → (IsTrue b ↔ ((value_of r).den ≡ 1))
 rat_whole r b h = (λ t. (ratio_parts r).den ∙ h.0 t, λ d. h.1 (sym (ratio_parts r).den ∙ d))
 
 opposite_by : (b : Bool) (q : Fraction) → (if b then Some (neg_ℤ q.num) else None) ≡ opposite (if b then Some q.num else None)
-opposite_by true q = refl
-opposite_by false q = refl
+opposite_by b q = grind arith
 
 pub opposite_whole : (q : Fraction) → whole_value (negative q) ≡ opposite (whole_value q)
-opposite_whole q =
-    let p = negative_parts q q.num q.den refl refl in
-    (λ i. if p.den i == 1 then Some (p.num i) else None) ∙ opposite_by (q.den == 1) q
+opposite_whole q = grind (arith, negative_parts, opposite_by)
 
 -- ---- literals by the kind of the root
 
 -- ---- derivable powers
 
 pub power_derivable : (x : List ℕ) (t : Tree) → root_kind t ≡ kind.Pow → IsDerivableExponent (nth 1 (children_of t)) → IsDerivable x t
-power_derivable x (power b e) h d = λ o. d
-power_derivable x t h d = absurd cc
+power_derivable x t h d = grind arith
 
 pub derivable_exponent : (x : List ℕ) (t : Tree) → root_kind t ≡ kind.Pow → occurs x t ≡ true → IsDerivable x t → IsDerivableExponent (nth 1 (children_of t))
-derivable_exponent x (power b e) h o d = d o
-derivable_exponent x t h o d = absurd cc
+derivable_exponent x t h o d = grind arith
 
 pub absent_derivable : (x : List ℕ) (t : Tree) → occurs x t ≡ false → IsDerivable x t
-absent_derivable x (power b e) o = λ held. absurd (cc (held, o))
-absent_derivable x t o = tt
+absent_derivable x t o = grind arith
 
 pub other_derivable : (x : List ℕ) (t : Tree) → (root_kind t ≡ kind.Pow → ⊥) → IsDerivable x t
-other_derivable x (power b e) o = absurd (o refl)
-other_derivable x t o = tt
+other_derivable x t o = grind arith
 
 -- what a reader tells
 pub held : (b : Bool) (x : List ℕ) (t : Tree) → (IsTrue b ↔ Contains (names t) x) → occurs x t ≡ b
 held b x t h = sym (told b (occurs x t) (Contains (names t) x) h (names_occur x t))
 
 pub exponent_small : (t : Tree) (z : ℤ) → Some z ≡ whole_literal t → IsDerivableExponent t → nat_abs z ≤ exponent_limit
-exponent_small t z e d =
-    let both : Some z ≡ Some d.number = e ∙ d.literal in
-    let same : d.number ≡ z = cc in
-    subst (λ (n : ℤ). nat_abs n ≤ exponent_limit) same d.small
+exponent_small t z e d = grind arith
 
 pub exponent_none : (t : Tree) → None ≡ whole_literal t → IsDerivableExponent t → ⊥
 exponent_none t e d = let both : None ≡ Some d.number = e ∙ d.literal in absurd cc

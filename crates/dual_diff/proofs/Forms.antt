@@ -1,44 +1,37 @@
 -- The form of a tree by the kind of its root, and its children.
 use Rattle.std.proofs.Common.{◌≡◌, ℕ, zero, suc, ◌+◌, ◌<◌, ◌≤◌, refl, sym, ap, ◌∙◌, arith}
-use Rattle.dual_diff.proofs.Shared.{Tree, undef, add, mult, power, root, div, Trees, none, more, append, count, root_kind, root_size, nodes, nodes_of, size, sizes, nth, children_of, behind, first}
+use Rattle.dual_diff.proofs.Shared.{Tree, undef, mult, root, div, Trees, none, more, append, count, root_kind, root_size, nodes, nodes_of, size, sizes, nth, children_of, behind, first}
 use Rattle.tree_handles.proofs.Room.{least_size}
 use Rattle.calc_terms.specs.declared.kind.Kind.TheVariants as kind
 
 pub quotient_form : (t : Tree) → root_kind t ≡ kind.Div → t ≡ div (nth 0 (children_of t)) (nth 1 (children_of t))
-quotient_form (div a b) h = refl
-quotient_form t h = absurd cc
+quotient_form t h = grind arith
 
 pub quotient_nodes : (t : Tree) {a b : Tree} → root_kind t ≡ kind.Div → a ≡ nth 0 (children_of t) → b ≡ nth 1 (children_of t) → nodes t ≡ suc (nodes a + nodes b)
 quotient_nodes t h e f = omega (arith, ap nodes (quotient_form t h), ap nodes e, ap nodes f)
 
 pub root_form : (t : Tree) → root_kind t ≡ kind.Root → t ≡ root (nth 0 (children_of t))
-root_form (root a) h = refl
-root_form t h = absurd cc
+root_form t h = grind arith
 
 pub root_of : (t : Tree) {a : Tree} → root_kind t ≡ kind.Root → a ≡ nth 0 (children_of t) → t ≡ root a
 root_of t h e = root_form t h ∙ ap root (sym e)
 
 pub product_form : (t : Tree) → root_kind t ≡ kind.Mult → t ≡ mult (children_of t)
-product_form (mult ts) h = refl
-product_form t h = absurd cc
+product_form t h = grind arith
 
 pub two_children : (t : Tree) → root_kind t ≡ kind.Div → count (children_of t) ≡ 2
-two_children (div a b) h = refl
-two_children t h = absurd cc
+two_children t h = grind arith
 
 pub base_and_exponent : (t : Tree) → root_kind t ≡ kind.Pow → count (children_of t) ≡ 2
-base_and_exponent (power b e) h = refl
-base_and_exponent t h = absurd cc
+base_and_exponent t h = grind arith
 
 pub one_argument : (t : Tree) → root_kind t ≡ kind.Root → count (children_of t) ≡ 1
-one_argument (root a) h = refl
-one_argument t h = absurd cc
+one_argument t h = grind arith
 
 -- ---- children by their places
 
 pub nodes_children : (t : Tree) → nodes t ≡ suc (nodes_of (children_of t))
-nodes_children (add ts) = refl
-nodes_children t = omega arith
+nodes_children t = grind arith
 
 nodes_nth : (n : ℕ) (ts : Trees) → n < count ts → nodes (nth n ts) ≤ nodes_of ts
 nodes_nth n none h = absurd (omega arith)
@@ -114,8 +107,7 @@ append_assoc none us vs = refl
 append_assoc (more t ts) us vs = ap (more t) (append_assoc ts us vs)
 
 pub size_children : (t : Tree) → size t ≡ root_size t + sizes (children_of t)
-size_children (add ts) = refl
-size_children t = omega arith
+size_children t = grind arith
 
 size_nth : (n : ℕ) (ts : Trees) → n < count ts → size (nth n ts) ≤ sizes ts
 size_nth n none h = absurd (omega arith)

@@ -1,7 +1,7 @@
 -- Whole numbers that are placed.
-use Rattle.std.proofs.Common.{◌≡◌, ◌<◌, ◌≤◌, ◌^◌, ℕ, List, zero, suc, ℤ, pos, negsuc, ◌-ℤ◌, true, false, nat_eq, of_z, to_z, refl, sym, ap, ◌∙◌, subst, arith}
+use Rattle.std.proofs.Common.{◌≡◌, ◌<◌, ◌≤◌, ◌^◌, ℕ, List, ℤ, pos, ◌-ℤ◌, true, false, nat_eq, of_z, to_z, sym, ap, ◌∙◌, subst, arith}
 use Rattle.std.specs.Prelude.{FitsSigned, Some, nat_abs}
-use Rattle.dual_diff.proofs.Shared.{whole_literal, Rat, lowest, whole_fraction, rational, size_of_payload, ratio_of, value_of, Tree, num, root_kind, size, whole_num, told, by_test, children_of, nth, derivative, exponent_limit, lowered, power_rule, occurs, eqb-true, fits_signed_from_abs, ints, w128}
+use Rattle.dual_diff.proofs.Shared.{whole_literal, Rat, lowest, whole_fraction, rational, size_of_payload, ratio_of, value_of, Tree, num, root_kind, size, whole_num, told, children_of, nth, derivative, exponent_limit, lowered, power_rule, occurs, fits_signed_from_abs, w128}
 use Rattle.calc_terms.specs.Integers.{int_is_one, int_is_zero}
 use Rattle.calc_terms.specs.Ratio.{Ratio, whole}
 use Rattle.dual_diff.proofs.Rules.{power_by_rule}
@@ -15,44 +15,28 @@ placed_size r z fits e = ap (λ (x : Ratio). size_of_payload (rational x)) e ∙
 
 -- ---- tests of 0 and of 1
 
-zero_bits : (z : ℤ) → nat_eq (of_z w128 z) 0 ≡ false → false ≡ int_is_zero z
-zero_bits (pos zero) e = cc
-zero_bits n e = refl
-
-one_bits : (z : ℤ) → nat_eq (of_z w128 z) 1 ≡ false → false ≡ int_is_one z
-one_bits (pos (suc zero)) e = cc
-one_bits n e = refl
-
 pub told_zero : (z : ℤ) → nat_abs z < 2 ^ 127 → nat_eq (of_z w128 z) 0 ≡ int_is_zero z
-told_zero z fits = by_test (λ t. nat_eq (of_z w128 z) 0 ≡ t → t ≡ int_is_zero z) (nat_eq (of_z w128 z) 0)
-    (λ e q. sym (ap int_is_zero (sym (told z fits) ∙ ap (to_z w128) (eqb-true (of_z w128 z) 0 q)))) (λ e q. zero_bits z q) refl
+told_zero z h = grind arith
 
 pub told_one : (z : ℤ) → nat_abs z < 2 ^ 127 → nat_eq (of_z w128 z) 1 ≡ int_is_one z
-told_one z fits = by_test (λ t. nat_eq (of_z w128 z) 1 ≡ t → t ≡ int_is_one z) (nat_eq (of_z w128 z) 1)
-    (λ e q. sym (ap int_is_one (sym (told z fits) ∙ ap (to_z w128) (eqb-true (of_z w128 z) 1 q)))) (λ e q. one_bits z q) refl
+told_one z h = grind arith
 
 -- ---- the rule of powers by them
 
 pub zero_rule : (n : ℤ) (b b' : Tree) → int_is_zero n ≡ true → power_rule n b b' ≡ whole_num 0
-zero_rule (pos zero) b b' h = refl
-zero_rule n b b' h = absurd cc
+zero_rule n b b' h = grind arith
 
 pub one_rule : (n : ℤ) (b b' : Tree) → int_is_one n ≡ true → power_rule n b b' ≡ b'
-one_rule (pos (suc zero)) b b' h = refl
-one_rule n b b' h = absurd cc
+one_rule n b b' h = grind arith
 
 pub lowered_rule : (n : ℤ) (b b' : Tree) → int_is_zero n ≡ false → int_is_one n ≡ false → power_rule n b b' ≡ lowered n b b'
-lowered_rule (pos zero) b b' h k = absurd cc
-lowered_rule (pos (suc zero)) b b' h k = absurd cc
-lowered_rule n b b' h k = refl
+lowered_rule n b b' h k = grind arith
 
 pub small_fits : (z : ℤ) → nat_abs z ≤ exponent_limit → nat_abs z < 2 ^ 127
 small_fits z h = omega arith
 
 pub less_fits : (z : ℤ) → nat_abs z ≤ exponent_limit → nat_abs (z -ℤ pos 1) < 2 ^ 127
-less_fits (pos zero) h = omega (arith, ints)
-less_fits (pos (suc n)) h = subst (λ (k : ℤ). nat_abs k < 2 ^ 127) (let e : pos n ≡ pos (suc n) -ℤ pos 1 = omega (arith, ints) in e) (omega arith)
-less_fits (negsuc n) h = subst (λ (k : ℤ). nat_abs k < 2 ^ 127) (let e : negsuc (suc n) ≡ negsuc n -ℤ pos 1 = omega (arith, ints) in e) (omega arith)
+less_fits z h = grind arith
 
 -- ---- as the machine holds them
 

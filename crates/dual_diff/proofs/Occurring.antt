@@ -1,33 +1,27 @@
 -- Where a name occurs.
-use Rattle.std.proofs.Common.{◌≡◌, ℕ, List, [], ◌∷◌, ◌++◌, Bool, true, false, refl, subst, inl, inr, arith}
+use Rattle.std.proofs.Common.{◌≡◌, ℕ, List, [], ◌∷◌, ◌++◌, Bool, true, false, subst, inl, inr, arith}
 use Rattle.std.specs.Prelude.{◌||◌, ◌⊎◌, ◌↔◌, Contains, IsTrue}
 use Rattle.dual_diff.proofs.Shared.{Tree, num, symbol, undef, add, mult, power, root, neg, sub, div, Trees, none, more, names, names_of, occurs, occurs_in}
 use Rattle.std.proofs.lemmas.List.Elements.{Contains-append_left, Contains-append_right, Contains-append_cases, Contains-push, Contains-push_cases}
 use Rattle.std.proofs.lemmas.Slice.Eq.{bytes_eq-Decides}
 
 pub either_left : (a b : Bool) → (a || b) ≡ false → a ≡ false
-either_left true b h = h
-either_left false b h = refl
+either_left a b h = grind arith
 
 pub either_right : (a b : Bool) → (a || b) ≡ false → b ≡ false
-either_right true b h = absurd cc
-either_right false b h = h
+either_right a b h = grind arith
 
 pub neither : (a b : Bool) → a ≡ false → b ≡ false → (a || b) ≡ false
-neither true b h k = h
-neither false b h k = k
+neither a b h k = grind arith
 
 pub one_of : (a b : Bool) → (a || b) ≡ true → (a ≡ true) ⊎ (b ≡ true)
-one_of true b h = inl refl
-one_of false b h = inr h
+one_of a b h = grind arith
 
 pub left_holds : (a b : Bool) → a ≡ true → (a || b) ≡ true
-left_holds true b h = refl
-left_holds false b h = absurd cc
+left_holds a b h = grind arith
 
 pub right_holds : (a b : Bool) → b ≡ true → (a || b) ≡ true
-right_holds true b h = refl
-right_holds false b h = h
+right_holds a b h = grind arith
 
 nobody : (y : List ℕ) → Contains [] y → ⊥
 nobody y (k, h, e) = absurd (omega arith)
@@ -80,7 +74,4 @@ names_occur x t = (named x t, found x t)
 
 -- what a reader tells of a name
 pub told : (b c : Bool) (P : Type 0) → (IsTrue b ↔ P) → ((c ≡ true) ↔ P) → b ≡ c
-told true true P h k = refl
-told true false P h k = absurd (let no : false ≡ true = k.1 (h.0 refl) in cc)
-told false true P h k = absurd (let no : false ≡ true = h.1 (k.0 refl) in cc)
-told false false P h k = refl
+told b c P h k = grind arith

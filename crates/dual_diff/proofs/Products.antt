@@ -19,8 +19,7 @@ pub derivatives_more : (x : List ℕ) (n : ℕ) (ts : Trees) → n < count ts �
 derivatives_more x n ts h = sym (derivatives_next x n ts h) ∙ ap (λ (k : ℕ). derivatives x (first k ts)) (let one : suc n ≡ n + 1 = omega arith in one)
 
 pub derivatives_sizes : (x : List ℕ) (n m : ℕ) (ts : Trees) → n < count ts → suc n ≡ m → sizes (derivatives x (first m ts)) ≡ sizes (derivatives x (first n ts)) + size (derivative x (nth n ts))
-derivatives_sizes x n m ts h next =
-    omega (arith, ap (λ (k : ℕ). sizes (derivatives x (first k ts))) next, ap sizes (derivatives_next x n ts h), sizes_append (derivatives x (first n ts)) (more (derivative x (nth n ts)) none))
+derivatives_sizes x n m ts h k = grind (arith, derivatives_next, sizes_append)
 
 pub derivatives_all : (x : List ℕ) (n : ℕ) (ts : Trees) → count ts ≤ n → derivatives x (first n ts) ≡ derivatives x ts
 derivatives_all x n ts h = ap (derivatives x) (first_all n ts h)
@@ -45,25 +44,13 @@ made_none x ts = record { all = refl }
 
 step_by : (x : List ℕ) (n : ℕ) (ts : Trees) → n < count ts
     → products x (first n ts) (behind n ts) ≡ (if occurs x (nth n ts) then more (with_derivative x n ts) (products x (first (suc n) ts) (behind (suc n) ts)) else products x (first (suc n) ts) (behind (suc n) ts))
-step_by x n ts h =
-    ap (products x (first n ts)) (behind_at n ts h)
-    ∙ (λ i. if occurs x (nth n ts) then more (mult (append (first n ts) (more (derivative x (nth n ts)) (behind (place i) ts)))) (products x (next i) (behind (suc n) ts)) else products x (next i) (behind (suc n) ts))
-  where
-    place : suc n ≡ n + 1
-    place = omega arith
-
-    next : append (first n ts) (more (nth n ts) none) ≡ first (suc n) ts
-    next = sym (first_next n ts h)
+step_by x n ts h = grind (arith, behind_at, first_next)
 
 pub made_more : (x : List ℕ) (n : ℕ) (made ts : Trees) → n < count ts → occurs x (nth n ts) ≡ true → AreMade x n made ts → AreMade x (suc n) (append made (more (with_derivative x n ts) none)) ts
-made_more x n made ts h o m =
-    let rest = products x (first (suc n) ts) (behind (suc n) ts) in
-    record { all = m.all ∙ ap (append made) (step_by x n ts h ∙ ap (λ (b : Bool). if b then more (with_derivative x n ts) rest else rest) o) ∙ sym (append_assoc made (more (with_derivative x n ts) none) rest) }
+made_more x n made ts h o m = grind (arith, step_by, append_assoc)
 
 pub made_same : (x : List ℕ) (n : ℕ) (made ts : Trees) → n < count ts → occurs x (nth n ts) ≡ false → AreMade x n made ts → AreMade x (suc n) made ts
-made_same x n made ts h o m =
-    let rest = products x (first (suc n) ts) (behind (suc n) ts) in
-    record { all = m.all ∙ ap (append made) (step_by x n ts h ∙ ap (λ (b : Bool). if b then more (with_derivative x n ts) rest else rest) o) }
+made_same x n made ts h o m = grind (arith, step_by)
 
 pub made_all : (x : List ℕ) (n : ℕ) (made ts : Trees) → count ts ≤ n → AreMade x n made ts → products x none ts ≡ made
 made_all x n made ts h m = m.all ∙ ap (λ (us : Trees). append made (products x (first n ts) us)) (behind_all n ts h) ∙ append-none made
@@ -114,12 +101,10 @@ pub counted_same : {x : List ℕ} {n m many bytes : ℕ} {ts : Trees} → n < co
 counted_same {x} {n} {m} {ts = ts} h next o k = record { made = k.made; is = subst (λ (i : ℕ). AreMade x i k.made ts) next (made_same x n k.made ts h o k.is); many-is = k.many-is; few = omega (arith, next, k.few); bytes-are = k.bytes-are }
 
 pub sum_bytes_one : (us : Trees) (bytes : ℕ) → count us ≡ 1 → bytes ≡ capped (sizes us) → bytes ≡ capped (size (sum_of_products us))
-sum_bytes_one (more t none) bytes c b = omega (arith, b)
-sum_bytes_one us bytes c b = absurd (omega arith)
+sum_bytes_one us bytes c b = grind arith
 
 pub sum_bytes_more : (us : Trees) (bytes node total : ℕ) → 1 < count us → bytes ≡ capped (sizes us) → node ≡ 8 → total ≡ capped (bytes + node) → total ≡ capped (size (sum_of_products us))
-sum_bytes_more (more t (more u us)) bytes node total c b n t' = omega (arith, b, t')
-sum_bytes_more us bytes node total c b n t' = absurd (omega arith)
+sum_bytes_more us bytes node total c b n h = grind arith
 
 -- some product is there where some factor holds the name
 pub some_product : (x : List ℕ) (earlier ts : Trees) → occurs_in x ts ≡ true → 1 ≤ count (products x earlier ts)
@@ -137,8 +122,7 @@ made_some x n made t k o h m = subst (λ us. 1 ≤ count us) (made_all x n made 
 -- ---- room
 
 pub sum_room : (us : Trees) → sizes us ≤ size (sum_of_products us)
-sum_room (more t none) = omega arith
-sum_room us = omega arith
+sum_room us = grind arith
 
 pub products_room : (x : List ℕ) (n : ℕ) (made ts : Trees) → n < count ts → occurs x (nth n ts) ≡ true → AreMade x n made ts → sizes made + size (with_derivative x n ts) ≤ sizes (products x none ts)
 products_room x n made ts h o m =

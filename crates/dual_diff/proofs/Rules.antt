@@ -1,27 +1,20 @@
 -- The derivative of a tree by the kind of its root, where the tree holds the name.
 use Rattle.std.proofs.Common.{◌≡◌, ℕ, ◌+◌, ℤ, List, Bool, true, false, refl, ap, sym, subst, ◌∙◌, arith}
 use Rattle.std.specs.Prelude.{◌||◌, if◌then◌else◌, Some}
-use Rattle.dual_diff.proofs.Shared.{whole_literal, Kind, bare, size_of_payload, Tree, num, symbol, undef, add, mult, power, root, neg, sub, div, Trees, none, more, append, count, root_kind, size, sizes, whole_num, nth, children_of, compound, takes_kind, derivative, derivatives, is_linear, literal_power_rule, power_rule, products, quotient_rule, root_rule, sum_of_products, where_occurs, occurs, occurs_in, bytes_eq}
+use Rattle.dual_diff.proofs.Shared.{whole_literal, Kind, bare, size_of_payload, Tree, num, symbol, undef, add, mult, power, root, neg, sub, div, Trees, none, more, append, count, root_kind, size, sizes, whole_num, nth, children_of, compound, takes_kind, derivative, derivatives, is_linear, power_rule, products, quotient_rule, root_rule, sum_of_products, where_occurs, occurs, occurs_in, bytes_eq}
 use Rattle.dual_diff.proofs.Occurring.{either_left, either_right}
 use Rattle.calc_terms.specs.declared.kind.Kind.TheVariants as kind
 
 -- ---- a tree without the name
 
 absent_where : (b : Bool) (d : Tree) → b ≡ false → where_occurs b d ≡ whole_num 0
-absent_where true d o = absurd cc
-absent_where false d o = refl
-
-pub held_where : (b : Bool) (d : Tree) → b ≡ true → where_occurs b d ≡ d
-held_where true d o = refl
-held_where false d o = absurd cc
+absent_where b d o = grind arith
 
 absent_symbol : (b : Bool) → b ≡ false → (if b then whole_num 1 else whole_num 0) ≡ whole_num 0
-absent_symbol true o = absurd cc
-absent_symbol false o = refl
+absent_symbol b o = grind arith
 
 absent_factor : (b : Bool) (t : Tree) (ts : Trees) → b ≡ false → (if b then more t ts else ts) ≡ ts
-absent_factor true t ts o = absurd cc
-absent_factor false t ts o = refl
+absent_factor b t ts o = grind arith
 
 no_products : (x : List ℕ) (earlier ts : Trees) → occurs_in x ts ≡ false → products x earlier ts ≡ none
 no_products x earlier none o = refl
@@ -30,8 +23,7 @@ no_products x earlier (more t ts) o =
     ∙ no_products x (append earlier (more t none)) ts (either_right (occurs x t) (occurs_in x ts) o)
 
 absent_quotient : (b c : Bool) (d e : Tree) → c ≡ false → b ≡ false → (if c then d else where_occurs b e) ≡ whole_num 0
-absent_quotient b true d e o h = absurd cc
-absent_quotient b false d e o h = absent_where b e h
+absent_quotient b c d e o h = grind arith
 
 pub absent_zero : (x : List ℕ) (t : Tree) → occurs x t ≡ false → derivative x t ≡ whole_num 0
 absent_zero x (num q) o = refl
@@ -47,13 +39,8 @@ absent_zero x (div a b) o = absent_quotient (occurs x a) (occurs x b) _ _ (eithe
 
 -- ---- a tree with the name
 
-held_symbol : (b : Bool) → b ≡ true → (if b then whole_num 1 else whole_num 0) ≡ whole_num 1
-held_symbol true o = refl
-held_symbol false o = absurd cc
-
 pub symbol_one : (x : List ℕ) (t : Tree) → root_kind t ≡ kind.Sym → occurs x t ≡ true → derivative x t ≡ whole_num 1
-symbol_one x (symbol y) h o = held_symbol (bytes_eq y x) o
-symbol_one x t h o = absurd cc
+symbol_one x t h o = grind arith
 
 -- a sum, a difference or an opposite
 pub record IsSame (x : List ℕ) (k : Kind) (t : Tree) : Type 0 where
@@ -61,67 +48,33 @@ pub record IsSame (x : List ℕ) (k : Kind) (t : Tree) : Type 0 where
   pub bytes : size (derivative x t) ≡ size_of_payload (bare k) + sizes (derivatives x (children_of t))
   pub takes : takes_kind k (count (children_of t)) ≡ true
 
-same_from : (x : List ℕ) (t d : Tree) → derivative x t ≡ d → d ≡ compound (root_kind t) (derivatives x (children_of t)) → size d ≡ size_of_payload (bare (root_kind t)) + sizes (derivatives x (children_of t)) → takes_kind (root_kind t) (count (children_of t)) ≡ true → IsSame x (root_kind t) t
-same_from x t d e r s l = record { rule = e ∙ r; bytes = ap size e ∙ s; takes = l }
-
 same_root : (x : List ℕ) (t : Tree) → occurs x t ≡ true → is_linear (root_kind t) ≡ true → IsSame x (root_kind t) t
-same_root x (add ts) o l = same_from x (add ts) (add (derivatives x ts)) (held_where (occurs_in x ts) (add (derivatives x ts)) o) refl refl refl
-same_root x (neg a) o l = same_from x (neg a) (neg (derivative x a)) (held_where (occurs x a) (neg (derivative x a)) o) refl (omega arith) refl
-same_root x (sub a b) o l = same_from x (sub a b) (sub (derivative x a) (derivative x b)) (held_where (occurs x a || occurs x b) (sub (derivative x a) (derivative x b)) o) refl (omega arith) refl
-same_root x t o l = absurd cc
+same_root x t o l = grind arith
 
 pub same_node : (x : List ℕ) (k : Kind) (t : Tree) → k ≡ root_kind t → is_linear k ≡ true → occurs x t ≡ true → IsSame x k t
 same_node x k t e l o = subst (λ (j : Kind). is_linear j ≡ true → IsSame x j t) (sym e) (same_root x t o) l
 
 -- the kind of a tree that holds the name and is none of those with a rule of their own
 pub other_linear : (x : List ℕ) (k : Kind) (t : Tree) → k ≡ root_kind t → occurs x t ≡ true → (k ≡ kind.Sym → ⊥) → (k ≡ kind.Mult → ⊥) → (k ≡ kind.Div → ⊥) → (k ≡ kind.Pow → ⊥) → (k ≡ kind.Root → ⊥) → is_linear k ≡ true
-other_linear x k (symbol y) e o s m d p r = absurd (s e)
-other_linear x k (mult ts) e o s m d p r = absurd (m e)
-other_linear x k (div a b) e o s m d p r = absurd (d e)
-other_linear x k (power b e') e o s m d p r = absurd (p e)
-other_linear x k (root a) e o s m d p r = absurd (r e)
-other_linear x k (add ts) e o s m d p r = ap is_linear e
-other_linear x k (neg a) e o s m d p r = ap is_linear e
-other_linear x k (sub a b) e o s m d p r = ap is_linear e
-other_linear x k t e o s m d p r = absurd cc
+other_linear x k t e o s m d p r = grind arith
 
 pub product_sum : (x : List ℕ) (t : Tree) → root_kind t ≡ kind.Mult → derivative x t ≡ sum_of_products (products x none (children_of t))
-product_sum x (mult ts) h = refl
-product_sum x t h = absurd cc
+product_sum x t h = grind arith
 
 pub product_held : (x : List ℕ) (t : Tree) → root_kind t ≡ kind.Mult → occurs x t ≡ true → occurs_in x (children_of t) ≡ true
-product_held x (mult ts) h o = o
-product_held x t h o = absurd cc
-
-if_true : (b : Bool) (d e : Tree) → b ≡ true → (if b then d else e) ≡ d
-if_true true d e o = refl
-if_true false d e o = absurd cc
-
-if_false : (b : Bool) (d e : Tree) → b ≡ false → (if b then d else e) ≡ e
-if_false true d e o = absurd cc
-if_false false d e o = refl
-
-left_of : (a b : Bool) → (a || b) ≡ true → b ≡ false → a ≡ true
-left_of true b h k = refl
-left_of false b h k = absurd (cc (h, k))
+product_held x t h o = grind arith
 
 -- a quotient a/b whose divisor holds the name, and one whose dividend alone does
 pub quotient_whole : (x : List ℕ) (t : Tree) {a b : Tree} → root_kind t ≡ kind.Div → a ≡ nth 0 (children_of t) → b ≡ nth 1 (children_of t) → occurs x b ≡ true → derivative x t ≡ quotient_rule a (derivative x a) b (derivative x b)
-quotient_whole x (div c d) h e f o = if_true (occurs x d) _ _ (ap (occurs x) (sym f) ∙ o) ∙ (λ i. quotient_rule (sym e i) (derivative x (sym e i)) (sym f i) (derivative x (sym f i)))
-quotient_whole x t h e f o = absurd cc
+quotient_whole x t h e f o = grind arith
 
 pub quotient_divided : (x : List ℕ) (t : Tree) {a b : Tree} → root_kind t ≡ kind.Div → occurs x t ≡ true → a ≡ nth 0 (children_of t) → b ≡ nth 1 (children_of t) → occurs x b ≡ false → derivative x t ≡ div (derivative x a) b
-quotient_divided x (div c d) h o e f n =
-    let absent : occurs x d ≡ false = ap (occurs x) (sym f) ∙ n in
-    if_false (occurs x d) _ _ absent ∙ held_where (occurs x c) _ (left_of (occurs x c) (occurs x d) o absent) ∙ (λ i. div (derivative x (sym e i)) (sym f i))
-quotient_divided x t h o e f n = absurd cc
+quotient_divided x t h o e f n = grind arith
 
 -- the power of a base b
 pub power_by_rule : (x : List ℕ) (t : Tree) (n : ℤ) {b : Tree} → root_kind t ≡ kind.Pow → occurs x t ≡ true → whole_literal (nth 1 (children_of t)) ≡ Some n → b ≡ nth 0 (children_of t) → derivative x t ≡ power_rule n b (derivative x b)
-power_by_rule x (power c e) n h o l f = held_where (occurs x c || occurs x e) _ o ∙ ap (λ k. literal_power_rule k c (derivative x c)) l ∙ (λ i. power_rule n (sym f i) (derivative x (sym f i)))
-power_by_rule x t n h o l f = absurd cc
+power_by_rule x t n h o l f = grind arith
 
 -- the root of an argument a
 pub root_by_rule : (x : List ℕ) (t : Tree) {a : Tree} → root_kind t ≡ kind.Root → occurs x t ≡ true → a ≡ nth 0 (children_of t) → derivative x t ≡ root_rule a (derivative x a)
-root_by_rule x (root c) h o e = held_where (occurs x c) _ o ∙ (λ i. root_rule (sym e i) (derivative x (sym e i)))
-root_by_rule x t h o e = absurd cc
+root_by_rule x t h o e = grind arith

@@ -50,8 +50,7 @@ product_slope p a a' b b' e h =
 
 -- where a' is 0
 pub product_still : (p a a' b b' e : Surd) → Agree a' [] → Agree e (surd_times (surd_times p a) b') → Agree e (surd_times p (surd_times a b' ++ surd_times a' b))
-product_still p a a' b b' e z h =
-    Agree-trans (Agree-trans h (Agree-eq (surd_times_assoc p a b'))) (Agree-surd_times_right p (Agree-sym (zero_right (times_zero b z))))
+product_still p a a' b b' e z h = grind (arith, Agree-trans, Agree-eq, surd_times_assoc, Agree-surd_times_right, Agree-sym, zero_right, times_zero)
 
 -- ---- quotients
 

@@ -11,7 +11,10 @@ use node_pool::{Full, Id, Pool};
 use std::alloc::{AllocError, Global};
 use std::process::Abort;
 use std::test::Fail;
-use tree_handles::{Handle, child_ids, kind, name, node, node_over, node_over_two, number, open_pool, rational, symbol};
+use tree_handles::{
+    Handle, child_ids, kind, name, node, node_over, node_over_two, number, open_pool, rational,
+    symbol,
+};
 use tree_walks::is_deeper;
 
 /// A node with two children.

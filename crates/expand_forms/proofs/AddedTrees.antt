@@ -1,7 +1,7 @@
 -- New trees behind others, and a node that adopts them.
 use Rattle.std.proofs.Common.{◌≡◌, ◌≤◌, ℕ, ◌+◌, true, refl, sym, ap, ◌∙◌, subst, arith}
 use Rattle.std.specs.Prelude.{Option, drop}
-use Rattle.expand_forms.proofs.Shared.{bare, size_of_payload, Tree, Trees, none, more, append, count, is_mult, mult, sizes, Kind, represents_count, AddsTrees, AreFactors, BeginsWith, HasMonomial, factors_in, first_place, Monomial, State, free_of, last_with, lists_with, root_ids, AllExpressions, IsExpression, children_of, compound, plain, takes_kind, Forest, Label, arity, bytes_in, empty, join, kids, one_tree, tree, with_nth, Ends, Gives, holds, kids_of, tree_at, adopted, behind_root, has_root, put, root_tree, without_root, KeepsRefusals, Stands, forest, bytes_in-join, join-empty, join_assoc, given_handed, given_rest, given_told, gives, gives_as, represents_join, represents_node, represents_none, holds-left, kids_of-join_left, tree_at-join_left, ends_as, ends_at, last_rest, last_root, last_tree, alone, sizes-plains, root-left}
+use Rattle.expand_forms.proofs.Shared.{bare, size_of_payload, Tree, Trees, none, more, append, count, is_mult, mult, sizes, Kind, represents_count, AddsTrees, AreFactors, BeginsWith, HasMonomial, factors_in, first_place, Monomial, State, free_of, last_with, lists_with, root_ids, IsExpression, children_of, compound, plain, takes_kind, Forest, Label, arity, bytes_in, empty, join, kids, one_tree, tree, with_nth, Ends, Gives, kids_of, tree_at, adopted, behind_root, has_root, put, root_tree, without_root, KeepsRefusals, Stands, forest, bytes_in-join, join-empty, join_assoc, given_handed, given_rest, given_told, gives, gives_as, represents_join, represents_node, represents_none, holds-left, kids_of-join_left, tree_at-join_left, ends_as, ends_at, last_rest, last_root, last_tree, alone, sizes-plains, root-left}
 use Rattle.tree_handles.proofs.Over.{over_product, added_as, moved}
 use Rattle.expand_forms.specs.declared.factors.Factor.{Factor as Read}
 use Rattle.expand_forms.specs.declared.factors.Factors.{Factors}
@@ -22,12 +22,7 @@ adds_more {f = f} a p = record {
 
 -- another node, beside them
 pub adds_beside : {ts : Trees} {g f : Forest} {j : ℕ} → AddsTrees ts g f → IsExpression j g → IsBeside j g f
-adds_beside {g = g} {f = f} {j = j} a h =
-    let same : tree_at j f ≡ tree_at j g = ap (tree_at j) a.whole ∙ tree_at-join_left j g a.trees h.live in
-    record {
-      expression = record { live = ap (holds j) a.whole ∙ holds-left j g a.trees h.live; whole = subst AllExpressions (sym same) h.whole };
-      same = ap plain same;
-    }
+adds_beside a h = grind (arith, tree_at-join_left, holds-left)
 
 pub factors_beside : {ts : Trees} {g f : Forest} {j : ℕ} {x : Factors} → AddsTrees ts g f → IsExpression j g → AreFactors x j g → AreFactors x j f
 factors_beside {g = g} {j = j} a h x =
@@ -56,8 +51,7 @@ head_beside {m = m} k o a h get x = get m (subst (HasMonomial m) (sym (adds_besi
 
 -- they take their bytes
 pub adds_free : {ts : Trees} {s t : State} → Stands s → Stands t → KeepsRefusals s t → AddsTrees ts (forest s) (forest t) → free_of s ≡ free_of t + sizes ts
-adds_free {s = s} {t = t} h k r a =
-    omega (arith, used_forest s h, used_forest t k, r.size, h.pool.fits, k.pool.fits, ap bytes_in a.whole, bytes_in-join (forest s) a.trees, sizes-plains a.trees a.represents.whole, ap sizes a.represents.plain_trees)
+adds_free h k r a = grind (arith, used_forest, bytes_in-join, sizes-plains)
 
 -- ---- a new node before them
 

@@ -1,7 +1,7 @@
 -- The polynomial of a node over expanded children has the coefficients of that over the children themselves.
 use Rattle.std.proofs.Common.{◌≡◌, ◌≢◌, ℕ, zero, suc, [], true, refl, sym, ap, ◌∙◌, subst, arith, negsuc}
 use Rattle.std.specs.Prelude.{not}
-use Rattle.expand_forms.proofs.Shared.{and_parts, eqb-true, Kind, no_zero, zero_test, factor_not_zero, product_not_zero, negative_lowest, Fraction, inverse, is_zero_fraction, lowest, minus_one_fraction, negative, one_fraction, times, zero_fraction, Payload, rational, named, bare, Tree, num, symbol, power, neg, sub, div, Trees, none, more, count, expanded, Polynomial, constant, raised, scaled, are_polynomials, divisor_of, exponent_of, has_polynomial_root, is_divisor, is_exponent, is_polynomial, is_small, natural_of, polynomial_of, product_of, sum_of, AreExpanded, AreSame, IsExpanded, AreExpandedFrom, IsExpandedFrom, compound, grown, nth, takes, takes_kind}
+use Rattle.expand_forms.proofs.Shared.{and_parts, eqb-true, Kind, no_zero, zero_test, factor_not_zero, product_not_zero, negative_lowest, Fraction, inverse, is_zero_fraction, lowest, minus_one_fraction, negative, one_fraction, times, zero_fraction, Payload, rational, named, bare, Tree, num, symbol, power, neg, sub, div, Trees, none, more, count, expanded, Polynomial, constant, raised, scaled, are_polynomials, divisor_of, exponent_of, has_polynomial_root, is_divisor, is_exponent, is_polynomial, polynomial_of, product_of, sum_of, AreExpanded, AreSame, IsExpanded, AreExpandedFrom, IsExpandedFrom, compound, grown, nth, takes, takes_kind}
 use Rattle.expand_forms.proofs.Expansions.{constant_expanded, is_expanded, same_polynomial}
 use Rattle.expand_forms.proofs.Numbers.{opposite_whole}
 use Rattle.expand_forms.proofs.SameCoefficients.{product_both, same_append, same_refl, scaled_same}
@@ -50,13 +50,7 @@ opposite_expanded : (q : Fraction) → expanded (scaled minus_one_fraction (cons
 opposite_expanded q = constant_expanded (times minus_one_fraction q) ∙ ap num (minus_one_times q)
 
 pub exponent_same : (e u : Tree) → is_exponent e ≡ true → IsExpandedFrom e u → (exponent_of u ≡ exponent_of e) × (is_exponent u ≡ true) × IsExpanded u
-exponent_same (num q) u h x =
-    let is : u ≡ num q = x refl ∙ constant_expanded q in
-    (ap exponent_of is, ap is_exponent is ∙ h, child_expanded (num q) u refl x)
-exponent_same (neg (num q)) u h x =
-    let is : u ≡ num (negative q) = x refl ∙ opposite_expanded q in
-    (ap exponent_of is ∙ ap natural_of (opposite_whole q), ap is_exponent is ∙ ap is_small (opposite_whole q) ∙ h, child_expanded (neg (num q)) u refl x)
-exponent_same e u h x = cc
+exponent_same e u h x = grind (arith, constant_expanded, child_expanded, opposite_expanded, opposite_whole)
 
 minus_one_nonzero : minus_one_fraction ≢ zero_fraction
 unfolding one_fraction
@@ -66,13 +60,7 @@ negative_nonzero : (q : Fraction) → not (is_zero_fraction q) ≡ true → not 
 negative_nonzero q h = ap not (zero_test (negative q) (λ z. product_not_zero minus_one_fraction q minus_one_nonzero (no_zero q h) (minus_one_times q ∙ z)))
 
 pub divisor_same : (d u : Tree) → is_divisor d ≡ true → IsExpandedFrom d u → (divisor_of u ≡ divisor_of d) × (is_divisor u ≡ true) × IsExpanded u
-divisor_same (num q) u h x =
-    let is : u ≡ num q = x refl ∙ constant_expanded q in
-    (ap divisor_of is, ap is_divisor is ∙ h, child_expanded (num q) u refl x)
-divisor_same (neg (num q)) u h x =
-    let is : u ≡ num (negative q) = x refl ∙ opposite_expanded q in
-    (ap divisor_of is, ap is_divisor is ∙ negative_nonzero q h, child_expanded (neg (num q)) u refl x)
-divisor_same d u h x = cc
+divisor_same d u h x = grind (arith, constant_expanded, child_expanded, opposite_expanded, negative_nonzero)
 
 -- ---- nodes
 

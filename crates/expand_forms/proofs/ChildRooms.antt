@@ -1,7 +1,7 @@
 -- The room of an expansion, from that of a child's.
-use Rattle.std.proofs.Common.{◌≡◌, ℕ, suc, ◌+◌, ◌*◌, ◌≤◌, ◌<◌, max, List, [], ◌++◌, Bool, true, refl, sym, ap, ◌∙◌, subst, arith}
+use Rattle.std.proofs.Common.{◌≡◌, ℕ, suc, ◌+◌, ◌*◌, ◌≤◌, ◌<◌, List, [], ◌++◌, Bool, true, refl, sym, ap, ◌∙◌, subst, arith}
 use Rattle.std.specs.Prelude.{◌&&◌}
-use Rattle.expand_forms.proofs.Shared.{le-max_left, le-max_right, max-le, and_parts, mul-le, Within, names_of-append, within_both, within_eq, within_left, within_none, within_right, within_same, within_trans, root_most, Tree, num, symbol, undef, add, mult, power, root, neg, sub, div, Trees, none, more, append, names, names_of, nodes, nodes_of, size, sizes, count_distinct, expansion_room, most_terms, most_terms_of, node_bytes, sum_bytes, terms, are_polynomials, is_polynomial, AreExpandedFrom, nodes_append, nodes_by_children, children_of}
+use Rattle.expand_forms.proofs.Shared.{le-max_left, le-max_right, max-le, and_parts, mul-le, Within, names_of-append, within_both, within_eq, within_left, within_none, within_right, within_same, within_trans, root_most, Tree, num, symbol, undef, add, mult, power, root, neg, sub, div, Trees, none, more, append, names, names_of, nodes, nodes_of, size, sizes, count_distinct, expansion_room, most_terms, most_terms_of, node_bytes, sum_bytes, are_polynomials, is_polynomial, AreExpandedFrom, nodes_append, nodes_by_children, children_of}
 use Rattle.expand_forms.proofs.TermCounts.{answer_most, most_of_all, some_nodes, some_terms}
 use Rattle.expand_forms.proofs.Widths.{names_rise}
 
@@ -33,34 +33,10 @@ one_name : (a : Tree) → Within (names a) (names a ++ [])
 one_name a = within_both (names a) (names a) [] (within_same (names a)) (within_none (names a))
 
 pub child_names : (t : Tree) → Within (names t) (names_of (children_of t))
-child_names (num q) = within_none []
-child_names (symbol x) = within_none (names (symbol x))
-child_names undef = within_none []
-child_names (add ts) = within_same (names_of ts)
-child_names (mult ts) = within_same (names_of ts)
-child_names (power b e) = two_names b e
-child_names (root a) = one_name a
-child_names (neg a) = one_name a
-child_names (sub a b) = two_names a b
-child_names (div a b) = two_names a b
-
-two_terms : (n a b : ℕ) → max a (max b 0) ≤ max n (max a b)
-two_terms n a b = max-le (omega (arith, le-max_left a b, le-max_right n (max a b))) (max-le (omega (arith, le-max_right a b, le-max_right n (max a b))) (omega arith))
-
-one_terms : (n a : ℕ) → max a 0 ≤ max n a
-one_terms n a = max-le (le-max_right n a) (omega arith)
+child_names t = grind (arith, within_none, within_same, two_names, one_name)
 
 pub child_terms : (t : Tree) → most_terms_of (children_of t) ≤ most_terms t
-child_terms (num q) = omega arith
-child_terms (symbol x) = omega arith
-child_terms undef = omega arith
-child_terms (add ts) = le-max_right (terms (add ts)) (most_terms_of ts)
-child_terms (mult ts) = le-max_right (terms (mult ts)) (most_terms_of ts)
-child_terms (power b e) = two_terms (terms (power b e)) (most_terms b) (most_terms e)
-child_terms (root a) = one_terms (terms (root a)) (most_terms a)
-child_terms (neg a) = one_terms (terms (neg a)) (most_terms a)
-child_terms (sub a b) = two_terms (terms (sub a b)) (most_terms a) (most_terms b)
-child_terms (div a b) = two_terms (terms (div a b)) (most_terms a) (most_terms b)
+child_terms t = grind arith
 
 -- ---- the answers of children
 
@@ -110,9 +86,7 @@ some_width : (t : Tree) → is_polynomial t ≡ true → 1 ≤ suc (count_distin
 some_width t p = mul-le 1 1 (suc (count_distinct (names t))) (most_terms t) (omega arith) (omega (arith, some_terms t p, most_of_all t))
 
 room_of : (t : Tree) (n : ℕ) → nodes t ≡ n → 512 * (suc (count_distinct (names t)) * most_terms t) * n ≡ expansion_room t
-room_of t n e =
-    let all : 512 * (suc (count_distinct (names t)) * most_terms t) * n ≡ 512 * suc (count_distinct (names t)) * most_terms t * n = omega arith in
-    all ∙ ap (λ (k : ℕ). 512 * suc (count_distinct (names t)) * most_terms t * k) (sym e)
+room_of t n e = grind arith
 
 pub room_above : (t c : Tree) (done rest us : Trees) (e : ℕ) → is_polynomial t ≡ true → are_polynomials (children_of t) ≡ true → children_of t ≡ append done (more c rest) → AreExpandedFrom done us → e < expansion_room c
     → e + (40 + sizes us + sizes rest) < expansion_room t

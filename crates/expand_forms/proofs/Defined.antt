@@ -1,14 +1,9 @@
 -- Expanded trees are not Undef.
-use Rattle.std.proofs.Common.{◌≡◌, Bool, true, false, [], ◌∷◌, refl}
-use Rattle.std.specs.Prelude.{◌==◌, if◌then◌else◌}
-use Rattle.expand_forms.proofs.Shared.{product_tree, is_one_fraction, num, symbol, power, more, is_undef, whole_num, expanded, factor_tree, factor_trees, monomial_tree, normal, sum_tree, term_tree, term_trees, Factor, Monomial, Polynomial, Summand}
+use Rattle.std.proofs.Common.{arith, ◌≡◌, false, [], ◌∷◌, refl}
+use Rattle.expand_forms.proofs.Shared.{product_tree, num, more, is_undef, expanded, factor_tree, factor_trees, monomial_tree, normal, sum_tree, term_tree, term_trees, Factor, Monomial, Polynomial, Summand}
 
 factor_defined : (f : Factor) → is_undef (factor_tree f) ≡ false
-factor_defined f = by (f.exponent == 1)
-  where
-    by : (b : Bool) → is_undef (if b then symbol f.name else power (symbol f.name) (whole_num f.exponent)) ≡ false
-    by true = refl
-    by false = refl
+factor_defined f = grind arith
 
 monomial_defined : (m : Monomial) → is_undef (monomial_tree m) ≡ false
 monomial_defined [] = refl
@@ -16,15 +11,10 @@ monomial_defined (f ∷ []) = factor_defined f
 monomial_defined (f ∷ g ∷ m) = refl
 
 scaled_defined : (s : Summand) (m : Monomial) → is_undef (product_tree (more (num s.coefficient) (factor_trees m))) ≡ false
-scaled_defined s [] = refl
-scaled_defined s (f ∷ m) = refl
+scaled_defined s m = grind arith
 
 term_defined : (s : Summand) → is_undef (term_tree s) ≡ false
-term_defined s = by (is_one_fraction s.coefficient)
-  where
-    by : (b : Bool) → is_undef (if b then monomial_tree s.monomial else product_tree (more (num s.coefficient) (factor_trees s.monomial))) ≡ false
-    by true = monomial_defined s.monomial
-    by false = scaled_defined s s.monomial
+term_defined s = grind (arith, monomial_defined, scaled_defined)
 
 pub expanded_defined : (v : Polynomial) → is_undef (expanded v) ≡ false
 expanded_defined v = by (normal v)

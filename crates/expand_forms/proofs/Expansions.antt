@@ -1,9 +1,9 @@
 -- Expanded trees as answers.
 use Rattle.std.proofs.Common.{◌≡◌, ◌≤◌, ℕ, suc, ◌+◌, List, [], ◌∷◌, ◌++◌, Bool, true, false, refl, sym, ap, ◌∙◌, arith, pos, append-nil}
 use Rattle.std.specs.Prelude.{not, if◌then◌else◌}
-use Rattle.expand_forms.proofs.Shared.{no_one, one_is, zero_is, zero_test, product_tree, Rat, ratio_of, value_of, Ratio, whole, Fraction, is_one_fraction, is_zero_fraction, lowest, one_fraction, zero_fraction, Tree, Trees, num, symbol, add, none, more, count, IsNormal, expanded, normal, sum_tree, term_trees, AreMonomials, IsMonomial, Polynomial, coefficient_at, constant, factor, product, raised, summand, variable, polynomial_of, AreSame, IsExpanded, IsSum, IsSumOf, children_of, nth}
+use Rattle.expand_forms.proofs.Shared.{no_one, one_is, zero_is, zero_test, product_tree, Rat, ratio_of, value_of, Ratio, whole, Fraction, is_one_fraction, is_zero_fraction, lowest, one_fraction, zero_fraction, Tree, num, symbol, add, none, more, count, IsNormal, expanded, normal, sum_tree, term_trees, AreMonomials, IsMonomial, Polynomial, coefficient_at, constant, factor, product, raised, summand, variable, polynomial_of, AreSame, IsExpanded, IsSum, IsSumOf, children_of, nth}
 use Rattle.calc_algebra.proofs.NumberClasses.{one_not_zero}
-use Rattle.expand_forms.proofs.AllMonomials.{AllHave, normal_all, product_all, raised_all}
+use Rattle.expand_forms.proofs.AllMonomials.{AllHave, normal_all, raised_all}
 use Rattle.expand_forms.proofs.Joins.{sum_polynomial_is}
 use Rattle.expand_forms.proofs.MonomialProducts.{raised_add}
 use Rattle.expand_forms.proofs.NormalForms.{normal_coefficient, normal_is, one_normal}
@@ -35,24 +35,13 @@ same_polynomial {v = v} h e = same_trans (record { at = λ m. ap (λ (u : Tree).
 pub is_expanded : {t : Tree} (v : Polynomial) → AllHave IsMonomial v → t ≡ expanded v → IsExpanded t
 is_expanded v h e = e ∙ expanded_same (same_sym (same_polynomial h e))
 
-pub product_monomials : (t u : Tree) → AllHave IsMonomial (product (polynomial_of t) (polynomial_of u))
-product_monomials t u = product_all IsMonomial monomial_closed (polynomial_of t) (polynomial_of u) (tree_monomials t) (tree_monomials u)
-
 pub raised_monomials : (t : Tree) (n : ℕ) → AllHave IsMonomial (raised (polynomial_of t) n)
 raised_monomials t n = raised_all IsMonomial monomial_closed (polynomial_of t) n (tree_monomials t)
 
 -- ---- rationals
 
 pub constant_expanded : (q : Fraction) → expanded (constant q) ≡ num q
-constant_expanded q = by (is_zero_fraction q) refl
-  where
-    one : (b : Bool) → is_one_fraction q ≡ b → (if b then num one_fraction else num q) ≡ num q
-    one true e = ap num (sym (one_is q e))
-    one false e = refl
-
-    by : (b : Bool) → is_zero_fraction q ≡ b → sum_tree (term_trees (if b then [] else summand q [] ∷ [])) ≡ num q
-    by true e = ap num (sym (zero_is q e))
-    by false e = one (is_one_fraction q) refl
+constant_expanded q = grind (arith, one_is, zero_is)
 
 pub constant_is_expanded : (q : Fraction) → IsExpanded (num q)
 constant_is_expanded q = sym (constant_expanded q)
@@ -60,27 +49,13 @@ constant_is_expanded q = sym (constant_expanded q)
 -- ---- sums that are finished
 
 pub none_sum : {t : Tree} (s : IsSum t) → count (children_of t) ≡ 0 → expanded (polynomial_of t) ≡ num zero_fraction
-none_sum {t} s e = sum_expanded s ∙ by (children_of t) e
-  where
-    by : (ts : Trees) → count ts ≡ 0 → sum_tree ts ≡ num zero_fraction
-    by none e = refl
-    by (more u us) e = absurd (omega (arith, e))
+none_sum s e = grind (arith, sum_expanded)
 
 pub one_sum : {t : Tree} (s : IsSum t) → count (children_of t) ≡ 1 → nth 0 (children_of t) ≡ expanded (polynomial_of t)
-one_sum {t} s e = by (children_of t) e ∙ sym (sum_expanded s)
-  where
-    by : (ts : Trees) → count ts ≡ 1 → nth 0 ts ≡ sum_tree ts
-    by none e = absurd (omega (arith, e))
-    by (more u none) e = refl
-    by (more u (more v us)) e = absurd (omega (arith, e))
+one_sum s e = grind (arith, sum_expanded)
 
 pub more_sum : {t : Tree} (s : IsSum t) → 2 ≤ count (children_of t) → t ≡ expanded (polynomial_of t)
-more_sum {t} s l = sum_is s ∙ by (children_of t) l ∙ sym (sum_expanded s)
-  where
-    by : (ts : Trees) → 2 ≤ count ts → add ts ≡ sum_tree ts
-    by none l = absurd (omega (arith, l))
-    by (more u none) l = absurd (omega (arith, l))
-    by (more u (more v us)) l = refl
+more_sum s l = grind (arith, sum_is, sum_expanded)
 
 -- a sum of these coefficients
 pub sum_same : {t : Tree} {v : Polynomial} → IsSumOf v t → expanded (polynomial_of t) ≡ expanded v
@@ -89,9 +64,7 @@ sum_same h = ap expanded (sum_polynomial_is h.sum) ∙ expanded_same h.same
 -- ---- powers
 
 pub square_same : {t : Tree} (v : Polynomial) (n : ℕ) → AllHave IsMonomial (raised v n) → t ≡ expanded (raised v n) → expanded (product (polynomial_of t) (polynomial_of t)) ≡ expanded (raised v (n + n))
-square_same {t} v n h e =
-    let same = same_polynomial h e in
-    expanded_same (same_trans (product_both same same) (record { at = λ m. ap (coefficient_at m) (sym (raised_add v n n)) }))
+square_same v n h e = grind (arith, same_polynomial, expanded_same, same_trans, product_both, raised_add)
 
 pub more_same : {t : Tree} (v : Polynomial) (n : ℕ) → AllHave IsMonomial (raised v n) → t ≡ expanded (raised v n) → expanded (product v (polynomial_of t)) ≡ expanded (raised v (suc n))
 more_same v n h e = expanded_same (product_right v (same_polynomial h e))

@@ -1,5 +1,5 @@
 -- The trees of monomials and of terms have the form of reduced trees.
-use Rattle.std.proofs.Common.{◌≡◌, ◌≢◌, ◌≤◌, inl, inr, ℕ, zero, suc, pos, [], ◌∷◌, Bool, true, false, refl, sym, ap, ◌∙◌, subst, arith}
+use Rattle.std.proofs.Common.{◌≡◌, ◌≢◌, ◌≤◌, inl, inr, ℕ, pos, [], ◌∷◌, Bool, true, false, refl, sym, ap, ◌∙◌, subst, arith}
 use Rattle.std.specs.Prelude.{◌==◌, ◌&&◌, not, if◌then◌else◌}
 use Rattle.expand_forms.proofs.Shared.{Less, Greater, eq-eqb, false_from_ne_true, IsNumber, is_number, is_term, HasForm, IsFrontForm, IsPowerForm, IsProductForm, NoneIs, RisesBy, Split, base_of, is_num_one, is_one_add, is_opaque_exponent, is_undistributed, num_one, part_of, product_tree, split, split_product, tree_cmp, whole_one, tree_cmp_refl, no_one, whole_denominator, not_from_false, Fraction, is_one_fraction, one_fraction, zero_fraction, AllParts, AllPartsOf, HasTwo, Tree, num, symbol, mult, power, Trees, more, is_add, is_mult, is_num, whole_num, factor_tree, factor_trees, monomial_tree, term_tree, Factor, IsMonomial, Monomial, Summand}
 use Rattle.calc_algebra.proofs.NumberLaws.{number_words}
@@ -10,11 +10,7 @@ use Rattle.expand_forms.proofs.Nodes.{and_false}
 
 -- a factor is a name or a power of one
 pub on_factor : (P : Tree → Type 0) (f : Factor) → P (symbol f.name) → P (power (symbol f.name) (whole_num f.exponent)) → P (factor_tree f)
-on_factor P f h k = by (f.exponent == 1)
-  where
-    by : (b : Bool) → P (if b then symbol f.name else power (symbol f.name) (whole_num f.exponent))
-    by true = h
-    by false = k
+on_factor P f h k = grind arith
 
 no_number : (t : Tree) → (IsNumber t → ⊥) → is_number t ≡ false
 no_number t h = false_from_ne_true (is_number t) (λ e. h (number_words t e))
@@ -26,8 +22,7 @@ whole_no_opaque : (n : ℕ) → is_opaque_exponent (whole_num n) ≡ false
 whole_no_opaque n = ap (λ b. is_number (whole_num n) && not b) (eq-eqb _ 1 (whole_denominator (pos n))) ∙ and_false (is_number (whole_num n))
 
 pub factor_base : (f : Factor) → base_of (factor_tree f) ≡ symbol f.name
-factor_base f = on_factor (λ t. base_of t ≡ symbol f.name) f refl
-    (ap (λ b. if b then power (symbol f.name) (whole_num f.exponent) else symbol f.name) (whole_no_opaque f.exponent))
+factor_base f = grind (arith, on_factor, whole_no_opaque)
 
 -- an exponent of at least 2 makes a power
 whole_power : (f : Factor) → 2 ≤ f.exponent → IsPowerForm (symbol f.name) (whole_num f.exponent)
@@ -45,16 +40,10 @@ whole_power f l = (
 )
 
 at_least_two : (n : ℕ) → 1 ≤ n → (n == 1) ≡ false → 2 ≤ n
-at_least_two zero l e = absurd (omega arith)
-at_least_two (suc zero) l e = cc
-at_least_two (suc (suc n)) l e = omega arith
+at_least_two n l e = grind arith
 
 factor_parts : (f : Factor) → 1 ≤ f.exponent → AllParts HasForm (factor_tree f)
-factor_parts f l = by (f.exponent == 1) refl
-  where
-    by : (b : Bool) → (f.exponent == 1) ≡ b → AllParts HasForm (if b then symbol f.name else power (symbol f.name) (whole_num f.exponent))
-    by true e = inr tt
-    by false e = (inr (whole_power f (at_least_two f.exponent l e)), inr tt, inl tt)
+factor_parts f l = grind (arith, whole_power, at_least_two)
 
 -- ---- products of factors
 
@@ -125,26 +114,16 @@ pub term_parts : (s : Summand) (f : Factor) (m : Monomial) → s.monomial ≡ f 
 term_parts s f m is z h = on_term (AllParts HasForm) s f m is (monomial_parts (f ∷ m) h) (λ o. multiple_parts s f m z o h)
 
 pub term_no_number : (s : Summand) (f : Factor) (m : Monomial) → s.monomial ≡ f ∷ m → is_number (term_tree s) ≡ false
-term_no_number s f m is = on_term (λ t. is_number t ≡ false) s f m is
-    (on_monomial (λ t. is_number t ≡ false) f m (factor_no_number f) (λ g n. on_factor (λ t. is_number (mult (more t (factor_trees (g ∷ n)))) ≡ false) f (no_number _ (λ h. h)) (no_number _ (λ h. h))))
-    (λ o. on_factor (λ t. is_number (mult (more (num s.coefficient) (more t (factor_trees m)))) ≡ false) f (no_number _ (λ h. h)) (no_number _ (λ h. h)))
+term_no_number s f m h = grind (arith, on_term, on_monomial, factor_no_number, on_factor, no_number)
 
 pub term_no_term : (s : Summand) (f : Factor) (m : Monomial) → s.monomial ≡ f ∷ m → is_term (term_tree s) ≡ false
-term_no_term s f m is = on_term (λ t. is_term t ≡ false) s f m is
-    (on_monomial (λ t. is_term t ≡ false) f m (on_factor (λ t. is_term t ≡ false) f refl refl) (λ g n. on_factor (λ t. is_term (mult (more t (factor_trees (g ∷ n)))) ≡ false) f refl refl))
-    (λ o. on_factor (λ t. is_term (mult (more (num s.coefficient) (more t (factor_trees m)))) ≡ false) f refl refl)
+term_no_term s f m h = grind arith
 
 pub term_no_add : (s : Summand) (f : Factor) (m : Monomial) → s.monomial ≡ f ∷ m → is_add (term_tree s) ≡ false
-term_no_add s f m is = on_term (λ t. is_add t ≡ false) s f m is
-    (on_monomial (λ t. is_add t ≡ false) f m (on_factor (λ t. is_add t ≡ false) f refl refl) (λ g n. refl)) (λ o. refl)
+term_no_add s f m h = grind arith
 
 pub term_part : (s : Summand) (f : Factor) (m : Monomial) → s.monomial ≡ f ∷ m → part_of (term_tree s) ≡ monomial_tree (f ∷ m)
-term_part s f m is = on_term (λ t. part_of t ≡ monomial_tree (f ∷ m)) s f m is (of_monomial m)
-    (λ o. ap (λ (x : Split). product_tree x.factors) (split_multiple s.coefficient f (factor_trees m)))
-  where
-    of_monomial : (n : Monomial) → part_of (monomial_tree (f ∷ n)) ≡ monomial_tree (f ∷ n)
-    of_monomial [] = on_factor (λ t. part_of t ≡ t) f refl refl
-    of_monomial (g ∷ n) = ap (λ (x : Split). product_tree x.factors) (split_factors f (factor_trees (g ∷ n)))
+term_part s f m h = grind arith
 
 -- ---- rationals come first
 

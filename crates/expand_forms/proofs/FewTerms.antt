@@ -34,10 +34,7 @@ few_raised {ns} {n} {v} k h = record {
 }
 
 pub few_scaled : {ns : List (List ℕ)} {n : ℕ} {v : Polynomial} (c : Fraction) → HasFewTerms ns n v → HasFewTerms ns n (scaled c v)
-few_scaled {ns} {n} {v} c h = record {
-  named = are_named ns (scaled c v) (scaled_all (IsNamed ns) c v (all_named ns v h.named));
-  few = omega (arith, scaled_length c v, h.few);
-}
+few_scaled c h = grind (arith, are_named, scaled_all, all_named, scaled_length)
 
 pub few_constant : (ns : List (List ℕ)) (c : Fraction) → HasFewTerms ns 1 (constant c)
 few_constant ns c = record { named = (tt, tt); few = omega arith }

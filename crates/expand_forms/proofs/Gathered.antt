@@ -1,12 +1,12 @@
 -- Polynomials with some summands added up, and in another order: they have the same coefficients, and are no larger.
-use Rattle.std.proofs.Common.{◌≡◌, ◌⊎◌, inl, inr, ℕ, ◌≤◌, ◌<◌, List, [], ◌∷◌, ◌++◌, length, sym, ap, ◌∙◌, subst, arith, append_assoc}
+use Rattle.std.proofs.Common.{◌≡◌, ℕ, ◌≤◌, ◌<◌, List, [], ◌∷◌, ◌++◌, length, sym, ◌∙◌, subst, arith, append_assoc}
 use Rattle.expand_forms.proofs.Shared.{length-append, Tree, normal, AreWhole, HaveExponents, IsHeld, mass, AreNamed, HasFewTerms, IsNamed, Polynomial, product, polynomial_of, AreSame, IsExpanded, IsSumOf}
 use Rattle.expand_forms.proofs.AllMonomials.{append_all, normal_all}
 use Rattle.expand_forms.proofs.Joins.{sum_polynomial_is}
 use Rattle.expand_forms.proofs.Masses.{exponents_append, exponents_left, exponents_normal, exponents_right, mass_append, normal_mass, normal_whole, whole_append, whole_left, whole_right}
 use Rattle.expand_forms.proofs.Names.{all_named, are_named}
 use Rattle.expand_forms.proofs.NormalForms.{normal_coefficient, normal_is, one_normal}
-use Rattle.expand_forms.proofs.SameCoefficients.{product_both, product_nil, same_append, same_normal, same_refl, same_trans, same_turned}
+use Rattle.expand_forms.proofs.SameCoefficients.{product_both, product_nil, same_append, same_normal, same_refl, same_turned}
 use Rattle.expand_forms.proofs.Splits.{normal_or_none}
 use Rattle.expand_forms.proofs.TermBytes.{normal_length}
 
@@ -25,14 +25,7 @@ pub gathered_is : {v w : Polynomial} → v ≡ w → IsGathered v w
 gathered_is {v} e = subst (IsGathered v) e (gathered_refl v)
 
 pub gathered_trans : {u v w : Polynomial} → IsGathered u v → IsGathered v w → IsGathered u w
-gathered_trans h k = record {
-  same = same_trans k.same h.same;
-  wholes = λ d z a. k.wholes d z (h.wholes d z a);
-  masses = λ d z a. omega (arith, h.masses d z a, k.masses d z (h.wholes d z a));
-  exponents = λ n a. k.exponents n (h.exponents n a);
-  named = λ ns a. k.named ns (h.named ns a);
-  few = omega (arith, h.few, k.few);
-}
+gathered_trans h k = grind arith
 
 -- ---- two parts
 
@@ -74,44 +67,23 @@ gathered_second u v w = gathered_trans (gathered_is (sym (append_assoc u v w))) 
 -- ---- normal polynomials
 
 pub gathered_normal : (v : Polynomial) → IsGathered v (normal v)
-gathered_normal v = record {
-  same = same_normal v;
-  wholes = λ d z a. normal_whole d v z a;
-  masses = λ d z a. normal_mass d v z a;
-  exponents = λ n a. exponents_normal n v a;
-  named = λ ns a. are_named ns (normal v) (normal_all (IsNamed ns) v (all_named ns v a));
-  few = normal_length v;
-}
+gathered_normal v = grind (arith, same_normal, normal_whole, normal_mass, exponents_normal, are_named, normal_all, all_named, normal_length)
 
 pub gathered_sum : {v : Polynomial} {t : Tree} → IsSumOf v t → IsGathered v (polynomial_of t)
 gathered_sum {v} s = subst (IsGathered v) (sym (sum_polynomial_is s.sum ∙ one_normal s.sum.summands (normal v) s.sum.normal (normal_is v) (λ m. s.same.at m ∙ sym (normal_coefficient m v)))) (gathered_normal v)
 
 -- all of it cancels
 gathered_none : {v w : Polynomial} → w ≡ [] → AreSame w v → IsGathered v w
-gathered_none {v} {w} e same =
-    subst (λ (u : Polynomial). AreSame u v → IsGathered v u) (sym e)
-    (λ h. record { same = h; wholes = λ d z a. tt; masses = λ d z a. omega arith; exponents = λ n a. tt; named = λ ns a. tt; few = omega arith }) same
+gathered_none e h = grind arith
 
 -- the products of the terms of expanded trees, of which 0 has none
 pub gathered_products : (t u : Tree) → IsExpanded t → IsExpanded u → IsGathered (product (polynomial_of t) (polynomial_of u)) (product (normal (polynomial_of t)) (normal (polynomial_of u)))
-gathered_products t u e f = by (normal (polynomial_of t)) (normal (polynomial_of u)) (normal_or_none t e) (normal_or_none u f) (product_both (same_normal (polynomial_of t)) (same_normal (polynomial_of u)))
-  where
-    by : (v w : Polynomial) → (v ≡ polynomial_of t) ⊎ (v ≡ []) → (w ≡ polynomial_of u) ⊎ (w ≡ []) → AreSame (product v w) (product (polynomial_of t) (polynomial_of u)) → IsGathered (product (polynomial_of t) (polynomial_of u)) (product v w)
-    by v w (inl p) (inl q) same = gathered_is (sym (λ i. product (p i) (q i)))
-    by v w (inr p) k same = gathered_none (ap (λ (x : Polynomial). product x w) p) same
-    by v w k (inr q) same = gathered_none (ap (product v) q ∙ product_nil v) same
+gathered_products t u e f = grind (arith, normal_or_none, product_both, same_normal, gathered_is, gathered_none, product_nil)
 
 -- ---- how large they are
 
 pub gathered_held : {v w : Polynomial} {h l : ℕ} → IsGathered v w → IsHeld v h l → IsHeld w h l
-gathered_held {h = h} g x = record {
-  denominator = x.denominator;
-  positive = x.positive;
-  whole = g.wholes x.denominator x.positive x.whole;
-  low = x.low;
-  high = omega (arith, x.high, g.masses x.denominator x.positive x.whole);
-  exponents = g.exponents h x.exponents;
-}
+gathered_held g x = grind arith
 
 pub gathered_few : {v w : Polynomial} {ns : List (List ℕ)} {n : ℕ} → IsGathered v w → HasFewTerms ns n v → HasFewTerms ns n w
 gathered_few {ns = ns} g x = record { named = g.named ns x.named; few = omega (arith, g.few, x.few) }

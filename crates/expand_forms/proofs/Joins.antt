@@ -121,6 +121,4 @@ put_in {i} z at e r nonzero monomial place new =
 pub set_in : {i h : ℕ} {g f f1 f2 : Forest} {P : Tree → Type 0} (z : Summand) (at : ℕ) (q : Fraction) (e : Gives g f i IsSum) (p : Gives f f1 h P) → at < count (children_of (plain (root_tree i f)))
     → term_cmp (nth at (children_of (plain (root_tree i f)))) (term_tree z) ≡ Equal → q ≡ plus (coefficient_in (nth at (children_of (plain (root_tree i f))))) z.coefficient
     → Gives (without_root i (without_root h f1)) f2 i (λ u. u ≡ add (with_term at (summand q z.monomial) (children_of (plain (root_tree i f1))))) → Gives g f2 i (IsSumOf (z ∷ polynomial_of (plain (root_tree i f))))
-set_in {i} z at q e p l same sum new =
-    gives_as new (ap (without_root i) (given_rest p) ∙ given_rest e)
-    (λ u k. joined_same (given_told e) z at q l same sum (k ∙ ap (λ (t : Forest). add (with_term at (summand q z.monomial) (children_of (plain t)))) (given_same i p (given_root e))))
+set_in z at q e p l h k m = grind (arith, gives_as, given_rest, joined_same, given_told, given_same, given_root)

@@ -1,6 +1,6 @@
 -- The factors of two terms, merged into new trees.
 use Rattle.std.proofs.Common.{◌≡◌, ◌≤◌, ◌<◌, ◌^◌, ℕ, ◌+◌, [], ◌∷◌, ◌++◌, length, drop, refl, sym, ap, ◌∙◌, subst, arith, append_assoc, append-nil}
-use Rattle.std.specs.Prelude.{None, Option, Some}
+use Rattle.std.specs.Prelude.{Option, Some}
 use Rattle.expand_forms.proofs.Shared.{length-append, Trees, represents_count, factor_tree, factor_trees, AddsTrees, GoesOn, IsNext, Next, Monomial, monomial_times, State, Forest, arity, Gives, Stands, forest, arity-join}
 use Rattle.expand_forms.proofs.AddedTrees.{adds_more, adds_none}
 use Rattle.expand_forms.proofs.TermReadings.{count_factors, drop_length, drop_more, factors_append}
@@ -40,8 +40,7 @@ pub merged_all : {m n : Monomial} {i j many : ℕ} {old now : Forest} (w : IsMer
 merged_all w e k = sym (append-nil w.done) ∙ sym (λ s. w.done ++ monomial_times (e s) (k s)) ∙ w.split
 
 pub all_gone : {m n : Monomial} (o : Option Next) → GoesOn m n o → ((x : Next) → o ≡ Some x → ⊥) → (m ≡ []) × (n ≡ [])
-all_gone None h k = h
-all_gone (Some x) h k = absurd (k x refl)
+all_gone o h k = grind arith
 
 -- one more is among those of the product
 pub merged_length : {m n : Monomial} {i j many : ℕ} {old now : Forest} {x : Next} (w : IsMerged m n i j many old now) → IsNext (drop i m) (drop j n) x → length w.done + 1 ≤ length (monomial_times m n)

@@ -154,9 +154,7 @@ pub left_first : (f g : Factor) (m n : Monomial) → IsMonomial (f ∷ m) → Is
 left_first f g m n h k l = put_first f (monomial_times m (g ∷ n)) (below_times f.name m (g ∷ n) h.1 (l, below_more f.name g.name n l k.1))
 
 pub right_is_first : (f g : Factor) (m n : Monomial) → IsMonomial (f ∷ m) → IsMonomial (g ∷ n) → slice_cmp nat_cmp f.name g.name ≡ Greater → monomial_times (f ∷ m) (g ∷ n) ≡ g ∷ monomial_times (f ∷ m) n
-right_is_first f g m n h k e =
-    let l = names_turned f.name g.name e in
-    right_first g (f ∷ m) n (l, below_more g.name f.name m l h.1)
+right_is_first f g m n h k e = grind (arith, names_turned, right_first, below_more)
 
 pub both_first : (f g : Factor) (m n : Monomial) → IsMonomial (f ∷ m) → IsMonomial (g ∷ n) → slice_cmp nat_cmp f.name g.name ≡ Equal → monomial_times (f ∷ m) (g ∷ n) ≡ factor f.name (f.exponent + g.exponent) ∷ monomial_times m n
 both_first f g m n h k e =

@@ -1,6 +1,6 @@
 -- Monomials are one where their trees are.
-use Rattle.std.proofs.Common.{◌≡◌, ℕ, List, pos, [], ◌∷◌, Bool, true, false, refl, sym, ap, ◌∙◌}
-use Rattle.std.specs.Prelude.{◌==◌, ◌&&◌, if◌then◌else◌}
+use Rattle.std.proofs.Common.{arith, ◌≡◌, ℕ, List, pos, [], ◌∷◌, Bool, true, false, refl, sym, ap, ◌∙◌}
+use Rattle.std.specs.Prelude.{◌==◌, ◌&&◌}
 use Rattle.expand_forms.proofs.Shared.{bytes_eq, and_from, and_parts, eq-eqb, eqb-true, false_from_ne_true, bytes_eq-Decides, Less, Equal, Greater, ordering_reverse, whole_one, tree_chain, tree_cmp_equal, tree_cmp_same, tree_cmp_turned, Fraction, zero_fraction, Tree, num, symbol, undef, mult, power, Trees, none, more, is_mult, is_num, whole_num, Factor, Monomial, factor, is_same_monomial, factor_tree, factor_trees, monomial_cmp, monomial_tree}
 
 -- ---- parts of trees
@@ -39,28 +39,13 @@ whole_num_one : (m n : ℕ) → whole_num m ≡ whole_num n → m ≡ n
 whole_num_one m n e = let z : pos m ≡ pos n = whole_one (pos m) (pos n) (ap fraction_in e) in cc
 
 one_factor : (f g : Factor) → factor_tree f ≡ factor_tree g → f ≡ g
-one_factor f g e = by (f.exponent == 1) (g.exponent == 1) refl refl e
-  where
-    by : (a b : Bool) → (f.exponent == 1) ≡ a → (g.exponent == 1) ≡ b
-        → (if a then symbol f.name else power (symbol f.name) (whole_num f.exponent)) ≡ (if b then symbol g.name else power (symbol g.name) (whole_num g.exponent)) → f ≡ g
-    by true true p q e = λ i. factor (ap name_in e i) ((eqb-true f.exponent 1 p ∙ sym (eqb-true g.exponent 1 q)) i)
-    by true false p q e = cc
-    by false true p q e = cc
-    by false false p q e = λ i. factor (ap (λ t. name_in (base_in t)) e i) (whole_num_one f.exponent g.exponent (ap exponent_in e) i)
+one_factor f g e = grind (arith, whole_num_one)
 
 pub factor_no_num : (f : Factor) → is_num (factor_tree f) ≡ false
-factor_no_num f = by (f.exponent == 1)
-  where
-    by : (b : Bool) → is_num (if b then symbol f.name else power (symbol f.name) (whole_num f.exponent)) ≡ false
-    by true = refl
-    by false = refl
+factor_no_num f = grind arith
 
 pub factor_no_mult : (f : Factor) → is_mult (factor_tree f) ≡ false
-factor_no_mult f = by (f.exponent == 1)
-  where
-    by : (b : Bool) → is_mult (if b then symbol f.name else power (symbol f.name) (whole_num f.exponent)) ≡ false
-    by true = refl
-    by false = refl
+factor_no_mult f = grind arith
 
 -- ---- monomials
 

@@ -1,7 +1,7 @@
 -- The names of polynomials, and of expanded trees.
-use Rattle.std.proofs.Common.{◌≡◌, ℕ, zero, suc, ◌+◌, List, [], ◌∷◌, Bool, true, false, subst, arith}
-use Rattle.std.specs.Prelude.{Contains, ◌==◌, if◌then◌else◌}
-use Rattle.expand_forms.proofs.Shared.{Ordering, Less, Equal, Greater, nat_cmp, slice_cmp, Within, no_new_name, within_both, within_left, within_none, within_right, within_same, within_trans, product_tree, HasNoNewName, inverse, is_one_fraction, minus_one_fraction, Tree, num, symbol, undef, add, mult, power, root, neg, sub, div, Trees, none, more, names, names_of, whole_num, expanded, factor_tree, factor_trees, monomial_tree, normal, sum_tree, term_tree, term_trees, AreNamed, IsNamed, Factor, Monomial, Polynomial, Summand, factor, monomial_times, scaled, with_factor, divisor_of, exponent_of, polynomial_of, product_of, sum_of}
+use Rattle.std.proofs.Common.{ℕ, ◌+◌, List, [], ◌∷◌, Bool, true, false, arith}
+use Rattle.std.specs.Prelude.{Contains, if◌then◌else◌}
+use Rattle.expand_forms.proofs.Shared.{Ordering, Less, Equal, Greater, nat_cmp, slice_cmp, Within, no_new_name, within_both, within_left, within_none, within_right, within_same, within_trans, product_tree, HasNoNewName, inverse, is_one_fraction, minus_one_fraction, Tree, num, symbol, undef, add, mult, power, root, neg, sub, div, Trees, none, more, names, names_of, expanded, factor_tree, factor_trees, monomial_tree, normal, sum_tree, term_tree, term_trees, AreNamed, IsNamed, Factor, Monomial, Polynomial, Summand, factor, monomial_times, scaled, with_factor, divisor_of, exponent_of, polynomial_of, product_of, sum_of}
 use Rattle.std.proofs.lemmas.List.Elements.{Contains-push}
 use Rattle.expand_forms.proofs.AllMonomials.{AllHave, IsClosed, append_all, normal_all, product_all, raised_all, scaled_all}
 
@@ -61,28 +61,15 @@ mutual
 
 -- ---- trees of polynomials
 
-name_within : (ns : List (List ℕ)) (x : List ℕ) → Contains ns x → Within ns (x ∷ [])
-name_within ns x h = record { name = λ y m. subst (Contains ns) (only m) h }
-  where
-    only : {y : List ℕ} → Contains (x ∷ []) y → x ≡ y
-    only (zero, l, e) = e
-    only (suc k, l, e) = absurd (omega arith)
-
 factor_names : (ns : List (List ℕ)) (f : Factor) → Contains ns f.name → Within ns (names (factor_tree f))
-factor_names ns f h = by (f.exponent == 1)
-  where
-    by : (b : Bool) → Within ns (names (if b then symbol f.name else power (symbol f.name) (whole_num f.exponent)))
-    by true = name_within ns f.name h
-    by false = name_within ns f.name h
+factor_names ns f h = grind arith
 
 factors_names : (ns : List (List ℕ)) (m : Monomial) → IsNamed ns m → Within ns (names_of (factor_trees m))
 factors_names ns [] h = within_none ns
 factors_names ns (f ∷ m) h = within_both ns (names (factor_tree f)) (names_of (factor_trees m)) (factor_names ns f h.0) (factors_names ns m h.1)
 
 product_names : (ns : List (List ℕ)) (ts : Trees) → Within ns (names_of ts) → Within ns (names (product_tree ts))
-product_names ns none h = within_none ns
-product_names ns (more t none) h = within_trans h (within_left (names t) [])
-product_names ns (more t (more u us)) h = h
+product_names ns ts h = grind (arith, within_none, within_trans, within_left)
 
 term_names : (ns : List (List ℕ)) (s : Summand) → IsNamed ns s.monomial → Within ns (names (term_tree s))
 term_names ns s h = by (is_one_fraction s.coefficient)
@@ -99,9 +86,7 @@ terms_names ns [] h = within_none ns
 terms_names ns (s ∷ v) h = within_both ns (names (term_tree s)) (names_of (term_trees v)) (term_names ns s h.0) (terms_names ns v h.1)
 
 sum_names : (ns : List (List ℕ)) (ts : Trees) → Within ns (names_of ts) → Within ns (names (sum_tree ts))
-sum_names ns none h = within_none ns
-sum_names ns (more t none) h = within_trans h (within_left (names t) [])
-sum_names ns (more t (more u us)) h = h
+sum_names ns ts h = grind (arith, within_none, within_trans, within_left)
 
 pub expanded_names : (ns : List (List ℕ)) (v : Polynomial) → AllHave (IsNamed ns) v → Within ns (names (expanded v))
 expanded_names ns v h = sum_names ns (term_trees (normal v)) (terms_names ns (normal v) (normal_all (IsNamed ns) v h))

@@ -29,11 +29,7 @@ pub even_half : (n : ℕ) → n % 2 ≡ 0 → n / 2 + n / 2 ≡ n
 even_half n e = omega (arith, e)
 
 pub odd_half : (n : ℕ) → (n % 2 ≡ 0 → ⊥) → suc (n / 2 + n / 2) ≡ n
-odd_half n e = by (n % 2) refl
-  where
-    by : (k : ℕ) → n % 2 ≡ k → suc (n / 2 + n / 2) ≡ n
-    by zero q = absurd (e q)
-    by (suc k) q = omega (arith, q)
+odd_half n e = grind arith
 
 -- ---- differences
 
@@ -81,5 +77,4 @@ next_product {t = t} n ts l s e h =
     h ∙ ap (λ (x : Tree). expanded (product (polynomial_of x) (polynomial_of t))) s ∙ expanded_same (product_right (polynomial_of (nth n ts)) (same_polynomial (tree_monomials (mult rest)) e)) ∙ ap expanded (sym (product_from n ts l))
 
 pub product_polynomial_of : (t : Tree) → is_mult t ≡ true → product_of (children_of t) ≡ polynomial_of t
-product_polynomial_of (mult ts) h = refl
-product_polynomial_of t h = cc
+product_polynomial_of t h = grind arith

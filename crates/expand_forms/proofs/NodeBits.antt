@@ -1,35 +1,22 @@
 -- By what bits the step of a node over expanded children is held.
-use Rattle.std.proofs.Common.{◌≡◌, ◌<◌, ◌≤◌, ◌+◌, ◌*◌, ℕ, zero, suc, Result, Ok, Err, Bool, true, false, refl, sym, ap, ◌∙◌, subst, arith}
-use Rattle.std.specs.Prelude.{IfErr, nat_le, if◌then◌else◌}
-use Rattle.expand_forms.proofs.Shared.{and_parts, leb-false, leb-true, all_simple, bits, bits_of, high, low, most_bits, Kind, Fraction, inverse, minus_one_fraction, Payload, rational, named, bare, Tree, add, mult, power, neg, sub, div, Trees, none, more, count, root_kind, AreHeldTogether, IsHeld, IsNoOverflow, scaled, divisor_of, exponent_of, is_divisor, is_exponent, is_polynomial, polynomial_of, product_of, AreExpandedFrom, IsOver, refused_as, children_of, compound, grown, nth, OfOverflow, NumberFault}
+use Rattle.std.proofs.Common.{◌≡◌, ◌<◌, ◌≤◌, ◌+◌, ◌*◌, ℕ, zero, suc, Result, true, sym, ap, ◌∙◌, subst, arith}
+use Rattle.std.specs.Prelude.{IfErr}
+use Rattle.expand_forms.proofs.Shared.{and_parts, bits, bits_of, high, low, most_bits, Fraction, inverse, minus_one_fraction, Payload, Tree, add, power, sub, div, Trees, none, more, count, root_kind, AreHeldTogether, IsHeld, IsNoOverflow, scaled, divisor_of, exponent_of, is_divisor, is_exponent, is_polynomial, polynomial_of, product_of, AreExpandedFrom, IsOver, children_of, grown, nth, OfOverflow, NumberFault}
 use Rattle.expand_forms.proofs.ChildExpansions.{divisor_same, exponent_same}
 use Rattle.expand_forms.proofs.Held.{held_more, held_opposite, held_product, one_held}
 use Rattle.expand_forms.proofs.Nodes.{from}
 use Rattle.expand_forms.proofs.TreeBits.{answers_held, difference_held, expanded_held, held_together, power_within, quotient_held, sum_held}
 use Rattle.expand_forms.proofs.TreeMonomials.{tree_monomials}
 use Rattle.calc_terms.specs.declared.kind.Kind.TheVariants as kind
-use Rattle.tree_handles.specs.declared.fault.NumberFault.TheVariants as fault
 
 -- ---- few bits, or more
 
 pub few_bits : (t : Tree) → bits_of t ≤ 124 → high t + low t < 127
 few_bits t l = omega (arith, l)
 
-of_overflow : {P : Type 0} (e : NumberFault) → P → OfOverflow (λ o. P) e
-of_overflow (fault.Full full) p = tt
-of_overflow (fault.Overflow o) p = p
-
-beyond : {A : Type 0} {P : Type 0} (r : Result A NumberFault) → P → IfErr r (OfOverflow (λ o. P))
-beyond (Ok x) p = tt
-beyond (Err e) p = of_overflow e p
-
 -- a call that makes no overflow of few bits
 pub within_bits : {A : Type 0} (r : Result A NumberFault) (t : Tree) → (bits_of t ≤ 124 → IfErr r IsNoOverflow) → IfErr r (OfOverflow (λ o. 124 < bits_of t))
-within_bits r t k = by (nat_le (bits_of t) 124) refl
-  where
-    by : (b : Bool) → nat_le (bits_of t) 124 ≡ b → IfErr r (OfOverflow (λ o. 124 < bits_of t))
-    by true e = refused_as r (k (leb-true (bits_of t) 124 e)) (λ o h. absurd h)
-    by false e = beyond r (leb-false (bits_of t) 124 e)
+within_bits r t k = grind arith
 
 -- ---- by the kind of the node
 
@@ -42,8 +29,7 @@ sum_over (add ts) u k l p e = by u l e
 sum_over w u k l p e = cc
 
 pub product_over : (w u : Tree) → kind.Mult ≡ root_kind w → is_polynomial w ≡ true → AreExpandedFrom (children_of w) (children_of u) → AreHeldTogether (children_of u) (high w) (low w)
-product_over (mult ts) u k p e = held_together ts (children_of u) (answers_held ts (children_of u) p e)
-product_over w u k p e = cc
+product_over w u k p e = grind (arith, held_together, answers_held)
 
 pub power_over : (w u : Tree) → kind.Pow ≡ root_kind w → kind.Pow ≡ root_kind u → is_polynomial w ≡ true → AreExpandedFrom (children_of w) (children_of u) → bits_of w ≤ 124
     → (h : ℕ) × (l : ℕ) × IsHeld (polynomial_of (nth 0 (children_of u))) h l × (exponent_of (nth 1 (children_of u)) * (h + l) < 127)
@@ -59,21 +45,11 @@ power_over (power b x) u k l p e few = by u l e
 power_over w u k l p e few = cc
 
 pub opposite_over : (w u : Tree) → kind.Neg ≡ root_kind w → kind.Neg ≡ root_kind u → is_polynomial w ≡ true → AreExpandedFrom (children_of w) (children_of u) → IsHeld (scaled minus_one_fraction (polynomial_of (nth 0 (children_of u)))) (high w) (low w)
-opposite_over (neg a) u k l p e = by u l e
-  where
-    by : (v : Tree) → kind.Neg ≡ root_kind v → AreExpandedFrom (more a none) (children_of v) → IsHeld (scaled minus_one_fraction (polynomial_of (nth 0 (children_of v)))) (high a) (low a)
-    by (neg b) l e = held_opposite (expanded_held a b p e.0)
-    by v l e = cc
-opposite_over w u k l p e = cc
+opposite_over w u k l p e = grind (arith, held_opposite, expanded_held)
 
 pub difference_over : (w u : Tree) → kind.Sub ≡ root_kind w → kind.Sub ≡ root_kind u → is_polynomial w ≡ true → AreExpandedFrom (children_of w) (children_of u)
     → IsHeld (polynomial_of (sub (nth 0 (children_of u)) (nth 1 (children_of u)))) (high w) (low w)
-difference_over (sub a b) u k l p e = by u l e
-  where
-    by : (v : Tree) → kind.Sub ≡ root_kind v → AreExpandedFrom (more a (more b none)) (children_of v) → IsHeld (polynomial_of (sub (nth 0 (children_of v)) (nth 1 (children_of v)))) (high (sub a b)) (low (sub a b))
-    by (sub c d) l e = let (x, y) = and_parts (is_polynomial a) (is_polynomial b) p in difference_held (expanded_held a c x e.0) (expanded_held b d y e.1.0)
-    by v l e = cc
-difference_over w u k l p e = cc
+difference_over w u k l p e = grind (arith, difference_held, expanded_held)
 
 pub quotient_over : (w u : Tree) → kind.Div ≡ root_kind w → kind.Div ≡ root_kind u → is_polynomial w ≡ true → AreExpandedFrom (children_of w) (children_of u)
     → IsHeld (scaled (inverse (divisor_of (nth 1 (children_of u)))) (polynomial_of (nth 0 (children_of u)))) (high w) (low w)
@@ -106,19 +82,7 @@ together_next (suc k) (more t ts) {h} {l} few (a, b, c, d, x, y, m, n) =
 -- ---- nodes that hold the same
 
 same_root : (x : Payload) (ts us : Trees) → root_kind (grown x us) ≡ root_kind (grown x ts)
-same_root (rational r) ts us = refl
-same_root (named x) ts us = refl
-same_root (bare k) ts us = by k
-  where
-    by : (k : Kind) → root_kind (compound k us) ≡ root_kind (compound k ts)
-    by kind.Add = refl
-    by kind.Mult = refl
-    by kind.Pow = refl
-    by kind.Root = refl
-    by kind.Neg = refl
-    by kind.Sub = refl
-    by kind.Div = refl
-    by k = refl
+same_root x ts us = grind arith
 
 pub over_kind : (t now : Tree) → IsOver t now → root_kind now ≡ root_kind t
 over_kind t now o = ap root_kind o.node ∙ same_root o.holds (children_of t) (children_of now) ∙ sym (ap root_kind o.whole)
@@ -126,8 +90,4 @@ over_kind t now o = ap root_kind o.node ∙ same_root o.holds (children_of t) (c
 -- ---- more bits
 
 pub beyond_bits : (t : Tree) → 124 < most_bits t → 124 < bits t
-beyond_bits t l = by (all_simple t)
-  where
-    by : (b : Bool) → 124 < (if b then most_bits t else 125)
-    by true = l
-    by false = omega arith
+beyond_bits t l = grind arith

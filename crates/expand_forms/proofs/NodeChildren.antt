@@ -1,6 +1,6 @@
 -- The expanded children of a node, one after another.
 use Rattle.std.proofs.Common.{◌≡◌, ◌<◌, ◌≤◌, ℕ, zero, suc, ◌+◌, [], ◌++◌, true, refl, ap, ◌∙◌, arith}
-use Rattle.expand_forms.proofs.Shared.{Tree, Trees, add, none, more, count, is_add, polynomial_of, sum_of, AreExpanded, IsExpanded, children_of, nth}
+use Rattle.expand_forms.proofs.Shared.{Tree, Trees, none, more, count, is_add, polynomial_of, sum_of, AreExpanded, IsExpanded, children_of, nth}
 use Rattle.expand_forms.proofs.Nodes.{from}
 
 pub expanded_nth : (n : ℕ) (ts : Trees) → AreExpanded ts → n < count ts → IsExpanded (nth n ts)
@@ -22,5 +22,4 @@ from_none zero (more t ts) l = absurd (omega (arith, l))
 from_none (suc n) (more t ts) l = from_none n ts (omega (arith, l))
 
 pub sum_polynomial_of : (t : Tree) → is_add t ≡ true → sum_of (children_of t) ≡ polynomial_of t
-sum_polynomial_of (add ts) h = refl
-sum_polynomial_of t h = cc
+sum_polynomial_of t h = grind arith

@@ -1,6 +1,6 @@
 -- For how few bytes a node over expanded children is refused.
-use Rattle.std.proofs.Common.{◌≡◌, ℕ, zero, suc, ◌≤◌, [], length, true, refl, sym, subst, arith}
-use Rattle.expand_forms.proofs.Shared.{mul-le, Within, no_new_name, within_left, within_none, within_of, within_right, within_same, within_trans, HasNoNewName, num_most, Tree, num, symbol, undef, add, mult, power, root, neg, sub, div, Trees, none, more, names, names_of, root_kind, size, HasFewTerms, has_polynomial_root, polynomial_of, product_of, AreExpanded, children_of, nth}
+use Rattle.std.proofs.Common.{◌≡◌, ℕ, zero, suc, ◌≤◌, [], length, true, sym, subst, arith}
+use Rattle.expand_forms.proofs.Shared.{mul-le, Within, no_new_name, within_left, within_none, within_of, within_right, within_same, within_trans, HasNoNewName, Tree, Trees, none, more, names, names_of, root_kind, size, HasFewTerms, has_polynomial_root, polynomial_of, product_of, AreExpanded, children_of, nth}
 use Rattle.expand_forms.proofs.ChildRooms.{child_names}
 use Rattle.expand_forms.proofs.FewTerms.{few_names, some_expanded}
 use Rattle.expand_forms.proofs.Names.{are_named, product_named}
@@ -54,13 +54,4 @@ few_rest {whole} {t} n h =
 -- ---- leaves
 
 pub leaf_size : (t : Tree) → has_polynomial_root t ≡ true → (root_kind t ≡ kind.Add → ⊥) → (root_kind t ≡ kind.Mult → ⊥) → (root_kind t ≡ kind.Pow → ⊥) → (root_kind t ≡ kind.Neg → ⊥) → (root_kind t ≡ kind.Sub → ⊥) → (root_kind t ≡ kind.Div → ⊥) → size t ≤ 40
-leaf_size (num q) h a b c d e f = num_most q
-leaf_size (symbol x) h a b c d e f = omega arith
-leaf_size undef h a b c d e f = omega arith
-leaf_size (add ts) h a b c d e f = absurd (a refl)
-leaf_size (mult ts) h a b c d e f = absurd (b refl)
-leaf_size (power x y) h a b c d e f = absurd (c refl)
-leaf_size (root x) h a b c d e f = cc
-leaf_size (neg x) h a b c d e f = absurd (d refl)
-leaf_size (sub x y) h a b c d e f = absurd (e refl)
-leaf_size (div x y) h a b c d e f = absurd (f refl)
+leaf_size t h a b c d e f = grind arith

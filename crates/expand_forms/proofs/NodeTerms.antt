@@ -1,6 +1,6 @@
 -- A node over the answers of its children has no more terms and no other names than the node that was handed.
-use Rattle.std.proofs.Common.{◌≡◌, ℕ, zero, suc, ◌^◌, ◌≤◌, ◌<◌, [], ◌++◌, length, true, false, refl, sym, ap, subst, arith}
-use Rattle.expand_forms.proofs.Shared.{le-max_right, pow-le-pow_left, and_parts, eqb-true, length-append, mul-le, Within, no_new_name, within_beside, within_left, within_none, within_of, within_same, within_trans, HasNoNewName, inverse, minus_one_fraction, Payload, rational, named, bare, Kind, Tree, num, symbol, undef, add, mult, power, root, neg, sub, div, Trees, none, more, count, is_symbol, names, names_of, product_of_terms, sum_of_terms, terms, are_polynomials, divisor_of, exponent_of, is_divisor, is_exponent, is_polynomial, polynomial_of, product_of, sum_of, AreExpandedFrom, IsExpandedFrom, children_of, compound, grown, nth, takes, takes_kind}
+use Rattle.std.proofs.Common.{◌≡◌, ℕ, zero, suc, ◌^◌, ◌≤◌, ◌<◌, [], ◌++◌, length, true, false, sym, ap, subst, arith}
+use Rattle.expand_forms.proofs.Shared.{le-max_right, pow-le-pow_left, and_parts, eqb-true, length-append, mul-le, Within, no_new_name, within_beside, within_left, within_none, within_of, within_same, within_trans, HasNoNewName, inverse, minus_one_fraction, Payload, rational, named, bare, Kind, Tree, symbol, neg, Trees, none, more, count, is_symbol, names, names_of, product_of_terms, sum_of_terms, terms, are_polynomials, divisor_of, exponent_of, is_divisor, is_exponent, is_polynomial, polynomial_of, product_of, sum_of, AreExpandedFrom, IsExpandedFrom, children_of, compound, grown, nth, takes, takes_kind}
 use Rattle.expand_forms.proofs.ChildExpansions.{exponent_same}
 use Rattle.expand_forms.proofs.ChildRooms.{child_names}
 use Rattle.expand_forms.proofs.FewTerms.{expanded_few, few_names}
@@ -71,9 +71,7 @@ over_kind kind.Div ts us e h p =
 over_kind k ts us e h p = cc
 
 pub over_terms : (x : Payload) (ts us : Trees) → takes x (count ts) ≡ true → AreExpandedFrom ts us → is_polynomial (grown x ts) ≡ true → length (polynomial_of (grown x us)) ≤ terms (grown x ts)
-over_terms (rational r) ts us e h p = omega arith
-over_terms (named x) ts us e h p = omega arith
-over_terms (bare k) ts us e h p = over_kind k ts us e h p
+over_terms x ts us e h p = grind (arith, over_kind)
 
 -- ---- names of a node
 
@@ -89,26 +87,10 @@ two_names : (a b : Tree) → Within (names a ++ (names b ++ [])) (names a ++ nam
 two_names a b = within_beside (names a) (names a) (names b ++ []) (names b) (within_same (names a)) (within_left (names b) [])
 
 node_names : (t : Tree) → is_symbol t ≡ false → Within (names_of (children_of t)) (names t)
-node_names (num q) h = within_none []
-node_names (symbol x) h = cc
-node_names undef h = within_none []
-node_names (add ts) h = within_same (names_of ts)
-node_names (mult ts) h = within_same (names_of ts)
-node_names (power b e) h = two_names b e
-node_names (root a) h = within_left (names a) []
-node_names (neg a) h = within_left (names a) []
-node_names (sub a b) h = two_names a b
-node_names (div a b) h = two_names a b
+node_names t h = grind (arith, within_none, within_same, two_names, within_left)
 
 no_symbol : (k : Kind) (us : Trees) → is_symbol (compound k us) ≡ false
-no_symbol kind.Add us = refl
-no_symbol kind.Mult us = refl
-no_symbol kind.Pow us = refl
-no_symbol kind.Root us = refl
-no_symbol kind.Neg us = refl
-no_symbol kind.Sub us = refl
-no_symbol kind.Div us = refl
-no_symbol k us = refl
+no_symbol k us = grind arith
 
 -- of the node as it was, and as it is over the answers of its children
 pub over_names : (x : Payload) (ts us : Trees) → children_of (grown x ts) ≡ ts → children_of (grown x us) ≡ us → are_polynomials ts ≡ true → AreExpandedFrom ts us → HasNoNewName (grown x ts) (grown x us)

@@ -1,5 +1,5 @@
 -- The normal polynomial keeps coefficients, and is the only one with them.
-use Rattle.std.proofs.Common.{◌≡◌, [], ◌∷◌, Bool, true, false, refl, sym, ap, ◌∙◌, subst}
+use Rattle.std.proofs.Common.{arith, ◌≡◌, [], ◌∷◌, Bool, true, false, refl, sym, ap, ◌∙◌, subst}
 use Rattle.std.specs.Prelude.{if◌then◌else◌}
 use Rattle.expand_forms.proofs.Shared.{Ordering, Less, Equal, Greater, zero_is, no_zero, zero_plus, Fraction, is_zero_fraction, plus, plus_assoc, zero_fraction, not_from_false, Monomial, Polynomial, Summand, coefficient_at, is_same_monomial, summand, IsBeforeAll, IsNormal, joined, monomial_cmp, normal, with_summand, without_zeros}
 use Rattle.expand_forms.proofs.Arithmetic.{plus_left_comm, plus_zero}
@@ -18,10 +18,7 @@ both_added true p q x = plus_assoc p q x
 both_added false p q x = refl
 
 exchanged : (a b : Bool) (p q x : Fraction) → (if a then plus p (if b then plus q x else x) else (if b then plus q x else x)) ≡ (if b then plus q (if a then plus p x else x) else (if a then plus p x else x))
-exchanged true true p q x = plus_left_comm p q x
-exchanged true false p q x = refl
-exchanged false true p q x = refl
-exchanged false false p q x = refl
+exchanged a b p q x = grind (arith, plus_left_comm)
 
 pub with_summand_coefficient : (m : Monomial) (s : Summand) (v : Polynomial) → coefficient_at m (with_summand s v) ≡ coefficient_at m (s ∷ v)
 with_summand_coefficient m s [] = refl

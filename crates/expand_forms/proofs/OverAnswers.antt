@@ -1,13 +1,12 @@
 -- A node over the expanded trees of its children, from the tree as it was.
-use Rattle.std.proofs.Common.{◌≡◌, ℕ, ◌+◌, ◌≤◌, ◌<◌, length, Bool, true, false, Result, Ok, Err, refl, sym, ap, ◌∙◌, subst, arith}
+use Rattle.std.proofs.Common.{◌≡◌, ℕ, ◌+◌, ◌≤◌, ◌<◌, length, true, Result, Ok, Err, sym, ap, ◌∙◌, subst, arith}
 use Rattle.std.specs.Prelude.{IfErr}
-use Rattle.expand_forms.proofs.Shared.{and_parts, HasNoNewName, bits_of, root_most, Tree, num, symbol, undef, Trees, none, more, names, nodes, root_size, size, sizes, expanded, most_terms, node_bytes, are_polynomials, has_polynomial_root, is_polynomial, polynomial_of, AreExpanded, IsExpandedFrom, IsOver, IsPolynomial, MayLack, MayOverflow, own_bits, OfFull, children_of, grown, IfOverflow, OfOverflow, NumberFault}
+use Rattle.expand_forms.proofs.Shared.{and_parts, HasNoNewName, bits_of, Tree, Trees, none, more, names, nodes, root_size, size, sizes, expanded, most_terms, node_bytes, are_polynomials, has_polynomial_root, is_polynomial, polynomial_of, AreExpanded, IsExpandedFrom, IsOver, IsPolynomial, MayLack, MayOverflow, OfFull, children_of, grown, IfOverflow, OfOverflow, NumberFault}
 use Rattle.expand_forms.proofs.ChildExpansions.{IsOver as IsOverSame, over_payload}
 use Rattle.expand_forms.proofs.ChildRooms.{room_above, room_at_node}
 use Rattle.expand_forms.proofs.Expansions.{constant_expanded, expanded_same, name_expanded}
 use Rattle.reduce_walk.proofs.Bytes.{root_over}
 use Rattle.expand_forms.proofs.NodeTerms.{over_names, over_terms}
-use Rattle.expand_forms.proofs.Nodes.{by_children, by_root}
 use Rattle.expand_forms.proofs.TermCounts.{most_of_all}
 use Rattle.reduce_walk.specs.Answers.{EachTree, IsNext}
 use Rattle.reduce_walk.specs.Leaves.{is_leaf}
@@ -16,24 +15,14 @@ use Rattle.tree_handles.specs.declared.fault.NumberFault.TheVariants as number
 -- ---- children
 
 pub all_polynomials : (t : Tree) → is_polynomial t ≡ true → are_polynomials (children_of t) ≡ true
-all_polynomials t h = by (has_polynomial_root t) refl
-  where
-    by : (b : Bool) → has_polynomial_root t ≡ b → are_polynomials (children_of t) ≡ true
-    by true k = by_children t k ∙ h
-    by false k = clash (sym h ∙ by_root t k)
-      where
-        clash : true ≡ false → are_polynomials (children_of t) ≡ true
-        clash z = cc
+all_polynomials t h = grind arith
 
 pub each_polynomial : (ts : Trees) → are_polynomials ts ≡ true → EachTree IsPolynomial ts
 each_polynomial none h = tt
 each_polynomial (more t ts) h = let (a, b) = and_parts (is_polynomial t) (are_polynomials ts) h in (a, each_polynomial ts b)
 
 pub leaf_expanded : (t : Tree) → is_leaf t ≡ true → IsExpandedFrom t t
-leaf_expanded (num q) h = λ p. sym (constant_expanded q)
-leaf_expanded (symbol x) h = λ p. sym (name_expanded x)
-leaf_expanded undef h = λ p. cc
-leaf_expanded t h = cc
+leaf_expanded t h = grind (arith, constant_expanded, name_expanded)
 
 pub child_lacks : (t c : Tree) (before done behind : Trees) (bytes : ℕ) → is_polynomial t ≡ true → IsNext IsExpandedFrom t before done c behind → MayLack c bytes → MayLack t (bytes + (root_size t + sizes done + sizes behind))
 child_lacks t c before done behind bytes p n l = omega (arith, root_over t before c behind n.split, room_above t c before behind done bytes p (all_polynomials t p) n.split n.answered l)
@@ -41,8 +30,7 @@ child_lacks t c before done behind bytes p n l = omega (arith, root_over t befor
 -- ---- the node
 
 root_bytes : (t : Tree) → size t ≤ 40 + sizes (children_of t)
-root_bytes (num q) = omega (arith, root_most (num q))
-root_bytes t = omega arith
+root_bytes t = grind arith
 
 module _ (t now : Tree) (o : IsOver t now) (p : is_polynomial t ≡ true) where
   poly : is_polynomial (grown o.holds (children_of t)) ≡ true
@@ -79,6 +67,4 @@ module _ (t now : Tree) (o : IsOver t now) (p : is_polynomial t ≡ true) where
       by (Err (number.Overflow x)) l = tt
 
 pub step_overflows : (t : Tree) (r : Result ℕ NumberFault) → IfErr r (OfOverflow (λ o. 124 < bits_of t)) → IfOverflow r (MayOverflow t (nodes t))
-step_overflows t (Ok a) l = tt
-step_overflows t (Err (number.Full full)) l = tt
-step_overflows t (Err (number.Overflow o)) l = omega (arith, own_bits t, l)
+step_overflows t r l = grind arith

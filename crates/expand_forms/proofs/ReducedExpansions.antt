@@ -1,7 +1,7 @@
 -- The expanded tree of a polynomial is reduced.
-use Rattle.std.proofs.Common.{◌≡◌, ◌≢◌, inl, inr, [], ◌∷◌, Bool, true, false, refl, sym, ap, ◌∙◌, subst}
+use Rattle.std.proofs.Common.{arith, ◌≡◌, ◌≢◌, inl, inr, [], ◌∷◌, true, refl, sym, ap, ◌∙◌, subst}
 use Rattle.std.specs.Prelude.{if◌then◌else◌}
-use Rattle.expand_forms.proofs.Shared.{not_from_false, Less, Rises, is_number, is_term, terms_of, HasForm, IsSumForm, NoneIs, RisesBy, is_reduced, num_one, number_terms, other_terms, part_of, product_tree, tree_cmp, one_is, zero_test, Fraction, is_one_fraction, zero_fraction, AllParts, AllPartsOf, HasTwo, Tree, num, Trees, none, more, is_add, IsBeforeAll, IsNormal, expanded, factor_trees, monomial_cmp, monomial_tree, normal, sum_tree, term_tree, term_trees, Factor, IsMonomial, Monomial, Polynomial, Summand, polynomial_of}
+use Rattle.expand_forms.proofs.Shared.{not_from_false, Less, is_number, HasForm, IsSumForm, NoneIs, RisesBy, is_reduced, number_terms, other_terms, part_of, tree_cmp, one_is, zero_test, Fraction, zero_fraction, AllParts, AllPartsOf, HasTwo, Tree, num, Trees, none, more, is_add, IsBeforeAll, IsNormal, expanded, monomial_cmp, monomial_tree, normal, sum_tree, term_tree, term_trees, Factor, IsMonomial, Monomial, Polynomial, Summand, polynomial_of}
 use Rattle.calc_algebra.proofs.ReducedLaws.{reduced_test}
 use Rattle.expand_forms.proofs.AllMonomials.{AllHave, normal_all}
 use Rattle.expand_forms.proofs.FactorTrees.{not_before_one, term_no_add, term_no_number, term_no_term, term_part, term_parts}
@@ -52,11 +52,7 @@ all_other_terms (s ∷ v) h = ap (λ b. if b then other_terms (term_trees v) els
 -- ---- the term without names
 
 constant_term : (s : Summand) → s.monomial ≡ [] → term_tree s ≡ num s.coefficient
-constant_term s e = ap (λ m. if is_one_fraction s.coefficient then monomial_tree m else product_tree (more (num s.coefficient) (factor_trees m))) e ∙ by (is_one_fraction s.coefficient) refl
-  where
-    by : (b : Bool) → is_one_fraction s.coefficient ≡ b → (if b then num_one else num s.coefficient) ≡ num s.coefficient
-    by true f = ap num (sym (one_is s.coefficient f))
-    by false f = refl
+constant_term s e = grind (arith, one_is)
 
 any_parts : (s : Summand) (m : Monomial) → s.monomial ≡ m → s.coefficient ≢ zero_fraction → IsMonomial s.monomial → AllParts HasForm (term_tree s)
 any_parts s [] e z h = subst (AllParts HasForm) (sym (constant_term s e)) (inl tt)
@@ -69,32 +65,11 @@ all_term_parts (s ∷ v) n h = (any_parts s s.monomial refl n.0 h.0, all_term_pa
 -- ---- sums
 
 named_sum : (ts : Trees) (v : Polynomial) → ts ≡ term_trees v → HasTwo ts → IsNormal v → AllHave HasNames v → IsSumForm ts
-named_sum ts v e two n h = record {
-  two = two;
-  no_sum = subst (NoneIs is_add) (sym e) (terms_no_add v h);
-  number = subst (λ us. Rises (terms_of us)) (sym (ap number_terms e ∙ no_number_terms v h)) tt;
-  no_number = subst (NoneIs is_number) (sym (ap other_terms e ∙ all_other_terms v h)) (terms_no_number v h);
-  rising = subst (RisesBy part_of) (sym (ap other_terms e ∙ all_other_terms v h)) (terms_rise v n h);
-}
+named_sum ts v e h n k = grind (arith, terms_no_add, no_number_terms, all_other_terms, terms_no_number, terms_rise)
 
 -- a rational before terms with names
 rational_sum : (q : Fraction) (v : Polynomial) → q ≢ zero_fraction → HasTwo (more (num q) (term_trees v)) → IsNormal v → AllHave HasNames v → IsSumForm (more (num q) (term_trees v))
-rational_sum q v z two n h = record {
-  two = two;
-  no_sum = (refl, terms_no_add v h);
-  number = subst (λ us. Rises (terms_of us)) (sym numbers) (tt, tt);
-  no_number = subst (NoneIs is_number) (sym others) (terms_no_number v h);
-  rising = subst (RisesBy part_of) (sym others) (terms_rise v n h);
-}
-  where
-    term : is_term (num q) ≡ true
-    term = not_from_false _ (zero_test q z)
-
-    numbers : number_terms (more (num q) (term_trees v)) ≡ more (num q) none
-    numbers = ap (λ b. if b then more (num q) (number_terms (term_trees v)) else none) term ∙ ap (more (num q)) (no_number_terms v h)
-
-    others : other_terms (more (num q) (term_trees v)) ≡ term_trees v
-    others = ap (λ b. if b then other_terms (term_trees v) else more (num q) (term_trees v)) term ∙ all_other_terms v h
+rational_sum q v z h n k = grind (arith, terms_no_add, terms_no_number, terms_rise, not_from_false, zero_test, no_number_terms, all_other_terms)
 
 sum_is : (s t : Summand) (v : Polynomial) (m : Monomial) → s.monomial ≡ m → IsNormal (s ∷ t ∷ v) → IsSumForm (term_trees (s ∷ t ∷ v))
 sum_is s t v [] e n =

@@ -1,5 +1,5 @@
 -- Rows of products, one after another.
-use Rattle.std.proofs.Common.{◌≡◌, ◌≢◌, ◌≤◌, ◌<◌, ◌^◌, ℕ, ◌+◌, [], ◌∷◌, ◌++◌, drop, map, Bool, true, false, refl, sym, ap, ◌∙◌, subst, append-nil}
+use Rattle.std.proofs.Common.{arith, ◌≡◌, ◌≢◌, ◌≤◌, ◌<◌, ◌^◌, ℕ, ◌+◌, [], ◌∷◌, ◌++◌, drop, map, true, false, sym, ap, ◌∙◌, subst, append-nil}
 use Rattle.std.specs.Prelude.{nat_abs}
 use Rattle.expand_forms.proofs.Shared.{not_from_false, product_not_zero, no_zero, zero_is, sum_fits, Fraction, is_zero_fraction, one_fraction, plus, times, zero_fraction, value_of, Tree, count, Rat, normal, term_trees, Polynomial, Summand, monomial_times, product, summand, summand_times, polynomial_of, row, with_coefficient, IsTerm, coefficient_in, twice_fits, ratio_parts, plain, Forest, tree_at}
 use Rattle.expand_forms.proofs.Arithmetic.{times_one}
@@ -15,11 +15,7 @@ pub next_coefficient : {n j : ℕ} {t : Tree} {others f : Forest} (x : IsNextTer
 next_coefficient x e = e ∙ ap coefficient_in (x.same ∙ x.term.tree) ∙ term_coefficient x.term.summand
 
 pub is_nonzero : (q : Fraction) → q ≢ zero_fraction → is_zero_fraction q ≡ false
-is_nonzero q h = by (is_zero_fraction q) refl
-  where
-    by : (b : Bool) → is_zero_fraction q ≡ b → b ≡ false
-    by true e = absurd (h (zero_is q e))
-    by false e = refl
+is_nonzero q h = grind (arith, zero_is)
 
 pub product_nonzero : {a b c q : Fraction} → q ≡ times a b → a ≢ zero_fraction → b ≡ c → c ≢ zero_fraction → is_zero_fraction q ≡ false
 product_nonzero {a} {b} {c} {q} e h k l = is_nonzero q (λ z. product_not_zero a c h l (sym (e ∙ ap (times a) k) ∙ z))

@@ -10,14 +10,7 @@ use Rattle.expand_forms.proofs.TermReadings.{sum_children}
 
 -- the part that stands behind
 pub held_behind : (v w : Polynomial) {h l : ℕ} → IsHeld (v ++ w) h l → IsHeld w h l
-held_behind v w {h} {l} x = record {
-  denominator = x.denominator;
-  positive = x.positive;
-  whole = whole_right x.denominator v w x.whole;
-  low = x.low;
-  high = omega (arith, x.high, mass_append x.denominator v w);
-  exponents = exponents_right h v w x.exponents;
-}
+held_behind v w x = grind (arith, whole_right, mass_append, exponents_right)
 
 -- ---- an expanded tree has a normal polynomial, or is 0
 

@@ -1,5 +1,5 @@
 -- A term more, and a term with another coefficient, in a normal polynomial.
-use Rattle.std.proofs.Common.{◌≡◌, ◌≢◌, ◌≤◌, ◌<◌, ℕ, zero, suc, [], ◌∷◌, length, Bool, true, false, refl, sym, ap, ◌∙◌, arith}
+use Rattle.std.proofs.Common.{◌≡◌, ◌≢◌, ◌≤◌, ◌<◌, ℕ, zero, suc, [], ◌∷◌, Bool, true, false, refl, sym, ap, ◌∙◌, arith}
 use Rattle.std.specs.Prelude.{if◌then◌else◌}
 use Rattle.expand_forms.proofs.Shared.{Less, product_tree, tree_cmp, tree_chain, zero_plus, Fraction, plus, plus_assoc, plus_comm, zero_fraction, Tree, Trees, none, more, count, IsBeforeAll, IsNormal, monomial_cmp, term_tree, term_trees, AreMonomials, IsMonomial, Monomial, Polynomial, Summand, coefficient_at, is_same_monomial, summand, AreSame, IsPlace, HasMonomial, factors_in, monomial_in, term_cmp, removed, inserted, nth}
 use Rattle.expand_forms.proofs.MonomialTrees.{turned}
@@ -11,10 +11,6 @@ use Rattle.expand_forms.proofs.TermPolynomials.{term_factors}
 
 pub term_order : (s t : Summand) → term_cmp (term_tree s) (term_tree t) ≡ monomial_cmp s.monomial t.monomial
 term_order s t = λ i. tree_cmp (product_tree (term_factors s i)) (product_tree (term_factors t i))
-
-pub count_terms : (v : Polynomial) → count (term_trees v) ≡ length v
-count_terms [] = refl
-count_terms (s ∷ v) = ap suc (count_terms v)
 
 -- the summand at a place
 pub record IsAt (n : ℕ) (s : Summand) (v : Polynomial) : Type 0 where
@@ -76,9 +72,7 @@ has_order {m} q h u = λ i. tree_cmp (monomial_in u) (product_tree ((term_factor
 
 -- a term has the place of its factors
 pub place_as : {m : Monomial} {t : Tree} {n : ℕ} {ts : Trees} (q : Fraction) → HasMonomial m t → IsPlace n t ts → IsPlace n (term_tree (summand q m)) ts
-place_as {m} {t} {n} {ts} q h p =
-    let same = has_order q h in
-    record { within = p.within; below = λ k l. same (nth k ts) ∙ p.below k l; above = λ l. same (nth n ts) ∙ p.above l }
+place_as q h p = grind (arith, has_order)
 
 -- ---- a term less
 

@@ -1,6 +1,6 @@
 -- A sum that stands last, with other terms.
-use Rattle.std.proofs.Common.{◌≡◌, ℕ, zero, suc, ◌+◌, ◌<◌, ◌≤◌, refl, sym, ap, ◌∙◌, subst, arith}
-use Rattle.expand_forms.proofs.Shared.{Less, term_cmp, Tree, Trees, none, more, add, count, IsSum, removed, gives_at, kids_represented, once_nth, represents_without, resum, children_of, inserted, nth, plain, Forest, arity, kids, set_nth, tree_nth, with_nth, without_nth, AllOnce, Ends, Gives, IsHanded, IsOwned, Represents, put, root_tree, without_root, given_handed, given_rest, given_root, given_same, given_told, represents_as, represents_handed, represents_with, last_rest, last_root, last_tree, alone, count-plains}
+use Rattle.std.proofs.Common.{◌≡◌, ℕ, ◌<◌, ◌≤◌, refl, sym, ap, ◌∙◌, subst, arith}
+use Rattle.expand_forms.proofs.Shared.{Less, term_cmp, Tree, Trees, none, more, add, count, IsSum, removed, gives_at, kids_represented, once_nth, represents_without, resum, children_of, inserted, nth, plain, Forest, arity, kids, set_nth, tree_nth, with_nth, without_nth, Ends, Gives, IsHanded, IsOwned, Represents, put, root_tree, without_root, given_handed, given_rest, given_root, given_same, given_told, represents_as, represents_handed, represents_with, last_rest, last_root, last_tree, alone, count-plains}
 use Rattle.expand_forms.proofs.SumPlaces.{below_up_to}
 use Rattle.expand_forms.proofs.TermReadings.{sum_children}
 use Rattle.tree_handles.proofs.Nths.{with_nth-without_nth}
@@ -51,9 +51,7 @@ exchanged_terms {i} {h} {g} {f} at e s p l q =
 
 -- a child that was taken out is owned
 pub taken_owned : {i h : ℕ} {f g f1 : Forest} (at : ℕ) → IsHanded i f → Ends h (tree_nth at (kids (root_tree i f))) g f1 → IsOwned h f1
-taken_owned {i} {h} {f} at handed x =
-    let tree = root_tree i f in
-    record { root = last_root x; once = subst AllOnce (sym (last_tree x)) (once_nth at (kids tree) (kids_represented tree handed.once handed.whole).once) }
+taken_owned at h x = grind (arith, last_root, last_tree, once_nth, kids_represented)
 
 -- ---- its order
 
@@ -62,8 +60,3 @@ sum_below {t} s j n u i l e =
     let c = sum_children s in
     subst (λ (ts : Trees). term_cmp (nth j ts) u ≡ Less) (sym c)
     (below_up_to s.summands j n u s.normal i (subst (λ (ts : Trees). n < count ts) c l) (subst (λ (ts : Trees). term_cmp (nth n ts) u ≡ Less) c e))
-
-pub count_removed : (n : ℕ) (ts : Trees) → n < count ts → count (removed n ts) + 1 ≡ count ts
-count_removed n none l = absurd (omega arith)
-count_removed zero (more t ts) l = omega arith
-count_removed (suc n) (more t ts) l = omega (arith, count_removed n ts (omega arith))

@@ -1,18 +1,14 @@
 -- How many bytes terms and sums of them have.
-use Rattle.std.proofs.Common.{ℕ, suc, ◌+◌, ◌*◌, ◌≤◌, pos, List, [], ◌∷◌, length, Bool, true, false, arith}
-use Rattle.std.specs.Prelude.{◌==◌, if◌then◌else◌}
-use Rattle.expand_forms.proofs.Shared.{Ordering, Less, Equal, Greater, mul-le, product_tree, num_most, is_one_fraction, is_zero_fraction, lowest, one_fraction, plus, zero_fraction, num, symbol, power, more, size, sizes, whole_num, expanded, factor_tree, factor_trees, joined, monomial_cmp, monomial_tree, normal, sum_tree, term_tree, term_trees, with_summand, without_zeros, IsNamed, count_distinct, term_bytes, terms_bytes, sum_bytes, Factor, IsMonomial, Monomial, Polynomial, Summand, summand}
+use Rattle.std.proofs.Common.{ℕ, suc, ◌+◌, ◌*◌, ◌≤◌, List, [], ◌∷◌, length, Bool, true, false, arith}
+use Rattle.std.specs.Prelude.{if◌then◌else◌}
+use Rattle.expand_forms.proofs.Shared.{Ordering, Less, Equal, Greater, mul-le, product_tree, num_most, is_one_fraction, is_zero_fraction, one_fraction, plus, num, more, size, sizes, expanded, factor_tree, factor_trees, joined, monomial_cmp, monomial_tree, normal, sum_tree, term_tree, term_trees, with_summand, without_zeros, IsNamed, count_distinct, term_bytes, terms_bytes, sum_bytes, Factor, IsMonomial, Monomial, Polynomial, Summand, summand}
 use Rattle.expand_forms.proofs.AllMonomials.{AllHave, normal_all}
 use Rattle.expand_forms.proofs.Widths.{few_factors}
 
 -- ---- terms
 
 pub factor_most : (f : Factor) → size (factor_tree f) ≤ 64
-factor_most f = by (f.exponent == 1)
-  where
-    by : (b : Bool) → size (if b then symbol f.name else power (symbol f.name) (whole_num f.exponent)) ≤ 64
-    by true = omega arith
-    by false = omega (arith, num_most (lowest (pos f.exponent) 1))
+factor_most f = grind arith
 
 pub factors_most : (m : Monomial) → sizes (factor_trees m) ≤ 64 * length m
 factors_most [] = omega arith
@@ -74,9 +70,7 @@ pub some_bytes : (ns : List (List ℕ)) (n : ℕ) → 1 ≤ n → 64 ≤ terms_b
 some_bytes ns n l = omega (arith, terms_rise ns 1 n l)
 
 sum_most : (ns : List (List ℕ)) (v : Polynomial) (n : ℕ) → AllHave (IsNamedMonomial ns) v → length v ≤ n → 1 ≤ n → size (sum_tree (term_trees v)) ≤ sum_bytes ns n
-sum_most ns [] n h l k = omega (arith, num_most zero_fraction, some_bytes ns n k)
-sum_most ns (s ∷ []) n h l k = omega (arith, named_term_most ns s h.0, terms_rise ns 1 n k)
-sum_most ns (s ∷ t ∷ v) n h l k = omega (arith, terms_most ns (s ∷ t ∷ v) h, terms_rise ns (suc (suc (length v))) n l)
+sum_most ns v n h l k = grind (arith, num_most, some_bytes, named_term_most, terms_rise, terms_most)
 
 pub expanded_most : (ns : List (List ℕ)) (v : Polynomial) (n : ℕ) → AllHave (IsNamedMonomial ns) v → length v ≤ n → 1 ≤ n → size (expanded v) ≤ sum_bytes ns n
 expanded_most ns v n h l k = sum_most ns (normal v) n (normal_all (IsNamedMonomial ns) v h) (omega (arith, normal_length v, l)) k

@@ -1,6 +1,6 @@
 -- How many summands the polynomial of a tree has, and the room of an expansion.
-use Rattle.std.proofs.Common.{◌≡◌, ℕ, zero, suc, ◌*◌, ◌^◌, ◌≤◌, max, List, [], ◌∷◌, length, map, true, sym, ap, ◌∙◌, arith}
-use Rattle.expand_forms.proofs.Shared.{le-max_left, le-max_right, one-le-pow, pow-le-pow_left, pow-succ', pow-zero, and_parts, length-append, length-map, mul-le, Within, within_same, Fraction, inverse, minus_one_fraction, times, Tree, num, symbol, undef, add, mult, power, root, neg, sub, div, Trees, none, more, names, nodes, size, expanded, IsNamed, count_distinct, expansion_room, most_terms, most_terms_of, product_of_terms, sum_bytes, sum_of_terms, terms, IsMonomial, Polynomial, Summand, product, raised, scaled, summand, summand_times, are_polynomials, divisor_of, exponent_of, is_divisor, is_exponent, is_polynomial, polynomial_of, product_of, sum_of, nodes_by_children}
+use Rattle.std.proofs.Common.{◌≡◌, ℕ, zero, suc, ◌*◌, ◌^◌, ◌≤◌, List, [], ◌∷◌, length, map, true, sym, ap, ◌∙◌, arith}
+use Rattle.expand_forms.proofs.Shared.{le-max_left, le-max_right, one-le-pow, pow-le-pow_left, pow-succ', pow-zero, and_parts, length-append, length-map, mul-le, Within, within_same, Fraction, inverse, minus_one_fraction, times, Tree, num, symbol, undef, add, mult, power, root, neg, sub, div, Trees, none, more, names, nodes, size, expanded, IsNamed, count_distinct, expansion_room, most_terms, product_of_terms, sum_bytes, sum_of_terms, terms, IsMonomial, Polynomial, Summand, product, raised, scaled, summand, summand_times, are_polynomials, divisor_of, exponent_of, is_divisor, is_exponent, is_polynomial, polynomial_of, product_of, sum_of, nodes_by_children}
 use Rattle.expand_forms.proofs.AllMonomials.{AllHave}
 use Rattle.expand_forms.proofs.Names.{tree_named}
 use Rattle.expand_forms.proofs.TermBytes.{IsNamedMonomial, expanded_most}
@@ -62,16 +62,7 @@ mutual
       mul-le 1 1 (terms t) (product_of_terms ts) (some_terms t a) (some_in_product ts b)
 
 pub most_of_all : (t : Tree) → terms t ≤ most_terms t
-most_of_all (num q) = omega arith
-most_of_all (symbol x) = omega arith
-most_of_all undef = omega arith
-most_of_all (add ts) = le-max_left (terms (add ts)) (most_terms_of ts)
-most_of_all (mult ts) = le-max_left (terms (mult ts)) (most_terms_of ts)
-most_of_all (power b e) = le-max_left (terms (power b e)) (max (most_terms b) (most_terms e))
-most_of_all (root a) = le-max_left (terms (root a)) (most_terms a)
-most_of_all (neg a) = le-max_left (terms (neg a)) (most_terms a)
-most_of_all (sub a b) = le-max_left (terms (sub a b)) (max (most_terms a) (most_terms b))
-most_of_all (div a b) = le-max_left (terms (div a b)) (max (most_terms a) (most_terms b))
+most_of_all t = grind arith
 
 -- ---- the bytes of an expanded tree
 

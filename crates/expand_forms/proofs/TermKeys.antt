@@ -1,17 +1,15 @@
 -- The keys of monomials, and their order.
-use Rattle.std.proofs.Common.{◌≡◌, ◌≢◌, ◌≤◌, ℕ, zero, suc, [], ◌∷◌, Bool, true, false, refl, sym, ap, ◌∙◌, arith}
+use Rattle.std.proofs.Common.{◌≡◌, ◌≢◌, ◌≤◌, ℕ, [], ◌∷◌, true, refl, sym, ap, ◌∙◌, arith}
 use Rattle.std.specs.Prelude.{◌==◌, if◌then◌else◌, None}
-use Rattle.expand_forms.proofs.Shared.{eqb-true, Less, Greater, product_tree, tree_cmp, one_fraction, Tree, num, mult, Trees, none, more, count, is_mult, root_kind, many_factors, factor_trees, monomial_cmp, Monomial, HasMonomial, IsMonomialKey, factors_in, first_place, monomial_in, term_cmp, children_of, nth, Forest}
+use Rattle.expand_forms.proofs.Shared.{Less, Greater, product_tree, tree_cmp, one_fraction, Tree, num, count, is_mult, root_kind, factor_trees, monomial_cmp, Monomial, HasMonomial, IsMonomialKey, factors_in, first_place, monomial_in, term_cmp, children_of, Forest}
 use Rattle.expand_forms.proofs.FactorTrees.{on_factor, on_monomial}
-use Rattle.expand_forms.proofs.TermReadings.{first_count}
 use Rattle.node_order.specs.Keys.{trees_behind}
 use Rattle.calc_terms.specs.declared.kind.Kind.TheVariants as kind
 
 -- ---- how many factors there are
 
 pub number_factors : (t : Tree) → kind.Num ≡ root_kind t → count (factors_in t) ≡ 0
-number_factors (num q) e = refl
-number_factors t e = cc
+number_factors t e = grind arith
 
 no_factors : (m : Monomial) → count (factor_trees m) ≡ 0 → m ≡ []
 no_factors [] e = refl
@@ -22,30 +20,9 @@ no_key {m} f h e = no_factors m (sym (ap count h.factors) ∙ e)
 
 -- ---- a product's key
 
-behind_first : (t : Tree) → is_mult t ≡ true → trees_behind (first_place (children_of t)) (children_of t) ≡ factors_in t
-behind_first (mult none) h = refl
-behind_first (mult (more (num q) ts)) h = refl
-behind_first (mult (more t ts)) h = refl
-behind_first t h = cc
-
-behind_at : (t : Tree) (n : ℕ) → is_mult t ≡ true → n ≡ first_place (children_of t) → trees_behind n (children_of t) ≡ factors_in t
-behind_at t n h e = ap (λ (k : ℕ). trees_behind k (children_of t)) e ∙ behind_first t h
-
-nth_behind : (n : ℕ) (ts : Trees) → nth n ts ≡ nth 0 (trees_behind n ts)
-nth_behind zero ts = refl
-nth_behind (suc n) none = refl
-nth_behind (suc n) (more t ts) = nth_behind n ts
-
 -- that of more
 pub keyed : (t : Tree) (n : ℕ) → is_mult t ≡ true → n ≡ first_place (children_of t) → 2 ≤ count (factors_in t) → (if n == 0 then t else product_tree (trees_behind n (children_of t))) ≡ monomial_in t
-keyed t n h e l = by (n == 0) refl
-  where
-    whole : t ≡ product_tree (children_of t)
-    whole = many_factors t h (omega (arith, l, first_count t h)) (λ o. absurd (omega (arith, o, l, first_count t h)))
-
-    by : (b : Bool) → (n == 0) ≡ b → (if b then t else product_tree (trees_behind n (children_of t))) ≡ monomial_in t
-    by true q = whole ∙ ap product_tree (sym (ap (λ (k : ℕ). trees_behind k (children_of t)) (eqb-true n 0 q)) ∙ behind_at t n h e)
-    by false q = ap product_tree (behind_at t n h e)
+keyed t n h e l = grind arith
 
 -- ---- their order
 

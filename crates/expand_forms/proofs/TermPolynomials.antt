@@ -1,7 +1,7 @@
 -- The polynomials of terms and of expanded trees, and how these are read.
-use Rattle.std.proofs.Common.{◌≡◌, ◌≢◌, ◌≤◌, ℕ, zero, suc, pos, Some, None, List, [], ◌∷◌, ◌++◌, Bool, true, false, refl, sym, ap, ◌∙◌, arith}
-use Rattle.std.specs.Prelude.{◌==◌, not, if◌then◌else◌}
-use Rattle.expand_forms.proofs.Shared.{eq-eqb, eqb-true, false_from_ne_true, product_tree, no_zero, one_is, whole_denominator, whole_numerator, zero_is, one_times, zero_plus, Fraction, is_one_fraction, is_zero_fraction, lowest, one_fraction, plus, times, zero_fraction, Tree, num, symbol, mult, power, none, more, whole_num, IsNormal, expanded, factor_tree, factor_trees, monomial_tree, normal, sum_tree, term_tree, term_trees, AreMonomials, Factor, IsMonomial, Monomial, Polynomial, Summand, constant, factor, is_same_monomial, product, raised, summand, variable, exponent_of, natural_of, polynomial_of, product_of, sum_of, AreSame, IsExpanded, coefficient_in, factors_in, terms_in}
+use Rattle.std.proofs.Common.{◌≡◌, ◌≢◌, ◌≤◌, ℕ, zero, suc, List, [], ◌∷◌, ◌++◌, Bool, true, false, refl, sym, ap, ◌∙◌, arith}
+use Rattle.std.specs.Prelude.{not, if◌then◌else◌}
+use Rattle.expand_forms.proofs.Shared.{false_from_ne_true, product_tree, no_zero, one_is, whole_denominator, whole_numerator, zero_is, one_times, zero_plus, Fraction, is_one_fraction, is_zero_fraction, one_fraction, plus, times, zero_fraction, Tree, num, mult, none, more, whole_num, IsNormal, expanded, factor_tree, factor_trees, monomial_tree, normal, sum_tree, term_tree, term_trees, AreMonomials, Factor, IsMonomial, Monomial, Polynomial, Summand, constant, factor, is_same_monomial, product, raised, summand, variable, exponent_of, polynomial_of, product_of, sum_of, AreSame, IsExpanded, coefficient_in, factors_in, terms_in}
 use Rattle.expand_forms.proofs.AllMonomials.{normal_all}
 use Rattle.expand_forms.proofs.Arithmetic.{times_one}
 use Rattle.expand_forms.proofs.FactorTrees.{on_factor}
@@ -13,9 +13,7 @@ use Rattle.expand_forms.proofs.TreeMonomials.{all_monomials, tree_monomials}
 -- ---- factors
 
 exponent_is : (n : ℕ) → exponent_of (whole_num n) ≡ n
-exponent_is n =
-    let q = lowest (pos n) 1 in
-    ap (λ (b : Bool). natural_of (if b then Some q.num else None)) (eq-eqb q.den 1 (whole_denominator (pos n))) ∙ ap (λ z. natural_of (Some z)) (whole_numerator (pos n))
+exponent_is n = grind (arith, whole_denominator, whole_numerator)
 
 one_by_one : times one_fraction one_fraction ≡ one_fraction
 one_by_one = one_times one_fraction
@@ -26,15 +24,10 @@ raised_name x (suc n) =
     ap (product (variable x)) (raised_name x n) ∙ (λ i. summand (one_by_one i) (name_again x (suc n) i) ∷ [])
 
 raised_some : (x : List ℕ) (n : ℕ) → 1 ≤ n → raised (variable x) n ≡ summand one_fraction (factor x n ∷ []) ∷ []
-raised_some x zero l = absurd (omega arith)
-raised_some x (suc n) l = raised_name x n
+raised_some x n l = grind (arith, raised_name)
 
 factor_polynomial : (f : Factor) → 1 ≤ f.exponent → polynomial_of (factor_tree f) ≡ summand one_fraction (f ∷ []) ∷ []
-factor_polynomial f l = by (f.exponent == 1) refl
-  where
-    by : (b : Bool) → (f.exponent == 1) ≡ b → polynomial_of (if b then symbol f.name else power (symbol f.name) (whole_num f.exponent)) ≡ summand one_fraction (f ∷ []) ∷ []
-    by true e = λ i. summand one_fraction (factor f.name (sym (eqb-true f.exponent 1 e) i) ∷ []) ∷ []
-    by false e = ap (raised (variable f.name)) (exponent_is f.exponent) ∙ raised_some f.name f.exponent l
+factor_polynomial f l = grind (arith, exponent_is, raised_some)
 
 factors_polynomial : (m : Monomial) → IsMonomial m → product_of (factor_trees m) ≡ summand one_fraction m ∷ []
 factors_polynomial [] h = refl
@@ -49,14 +42,7 @@ monomial_polynomial (f ∷ g ∷ m) h = factors_polynomial (f ∷ g ∷ m) h
 -- ---- terms
 
 pub term_polynomial : (s : Summand) → IsMonomial s.monomial → polynomial_of (term_tree s) ≡ s ∷ []
-term_polynomial s h = by (is_one_fraction s.coefficient) refl s.monomial h
-  where
-    by : (b : Bool) → is_one_fraction s.coefficient ≡ b → (m : Monomial) → IsMonomial m
-        → polynomial_of (if b then monomial_tree m else product_tree (more (num s.coefficient) (factor_trees m))) ≡ summand s.coefficient m ∷ []
-    by true e m k = monomial_polynomial m k ∙ (λ i. summand (sym (one_is s.coefficient e) i) m ∷ [])
-    by false e [] k = refl
-    by false e (f ∷ m) k =
-        ap (product (constant s.coefficient)) (factors_polynomial (f ∷ m) k) ∙ (λ i. summand (times_one s.coefficient i) (f ∷ m) ∷ [])
+term_polynomial s h = grind (arith, monomial_polynomial, one_is, factors_polynomial, times_one)
 
 pub terms_polynomial : (v : Polynomial) → AreMonomials v → sum_of (term_trees v) ≡ v
 terms_polynomial [] h = refl

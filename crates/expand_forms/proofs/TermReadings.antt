@@ -1,7 +1,7 @@
 -- What readers of terms are told.
-use Rattle.std.proofs.Common.{◌≡◌, ◌≤◌, ◌<◌, ℕ, ℤ, pos, zero, suc, ◌+◌, length, [], ◌∷◌, ◌++◌, drop, Bool, true, false, Result, Ok, Err, refl, sym, ap, ◌∙◌, subst, arith}
-use Rattle.std.specs.Prelude.{◌==◌, ◌&&◌, IfOk, if◌then◌else◌}
-use Rattle.expand_forms.proofs.Shared.{Ordering, Less, Equal, Greater, nat_cmp, slice_cmp, ne_eqb, ints, product_tree, one_is, whole_denominator, whole_numerator, int_is_one, value_of, Fraction, is_one_fraction, lowest, one_fraction, plus, plus_lowest, Tree, num, symbol, add, mult, power, Trees, none, more, append, count, is_add, is_mult, is_num, root_kind, whole_num, factor_tree, factor_trees, term_tree, term_trees, IsFirst, IsFirstBy, IsNext, Next, Factor, IsMonomial, Monomial, factor, monomial_times, summand, IsSum, HasMonomial, IsRead, IsTerm, coefficient_in, factors_in, first_place, led_by, terms_in, holds-left, tree_at-join_left, AllExpressions, IsExpression, children_of, nth, plain, Forest, Gives, holds, tree_at}
+use Rattle.std.proofs.Common.{◌≡◌, ◌≤◌, ◌<◌, ℕ, ℤ, pos, zero, suc, ◌+◌, length, [], ◌∷◌, ◌++◌, drop, true, false, Result, refl, sym, ap, ◌∙◌, subst, arith}
+use Rattle.std.specs.Prelude.{◌==◌, IfOk}
+use Rattle.expand_forms.proofs.Shared.{ints, product_tree, one_is, whole_denominator, whole_numerator, int_is_one, value_of, Fraction, is_one_fraction, lowest, one_fraction, plus, plus_lowest, Tree, num, symbol, mult, power, Trees, more, append, count, is_add, is_mult, is_num, root_kind, factor_tree, factor_trees, term_tree, term_trees, IsFirst, IsNext, Next, Factor, IsMonomial, Monomial, summand, IsSum, HasMonomial, IsRead, IsTerm, coefficient_in, factors_in, first_place, led_by, terms_in, holds-left, tree_at-join_left, IsExpression, children_of, nth, plain, Forest, Gives, tree_at}
 use Rattle.calc_terms.specs.Leaf.{name_of}
 use Rattle.expand_forms.specs.declared.factors.Factor.{Factor as Read}
 use Rattle.expand_forms.proofs.FactorTrees.{on_factor}
@@ -13,27 +13,16 @@ use Rattle.calc_terms.specs.declared.kind.Kind.TheVariants as kind
 -- ---- a product's factors among its children
 
 pub first_count : (t : Tree) → is_mult t ≡ true → count (factors_in t) + first_place (children_of t) ≡ count (children_of t)
-first_count (mult none) h = refl
-first_count (mult (more (num q) ts)) h = omega arith
-first_count (mult (more t ts)) h = omega arith
-first_count t h = cc
+first_count t h = grind arith
 
 pub leading_is : (t : Tree) → is_mult t ≡ true → first_place (children_of t) ≡ 0 → coefficient_in t ≡ one_fraction
-leading_is (mult none) h e = refl
-leading_is (mult (more (num q) ts)) h e = cc
-leading_is (mult (more t ts)) h e = refl
-leading_is t h e = cc
+leading_is t h e = grind arith
 
 pub leading_some : (t : Tree) → is_mult t ≡ true → (first_place (children_of t) ≡ 0 → ⊥) → (is_num (nth 0 (children_of t)) ≡ true) × (nth 0 (children_of t) ≡ num (coefficient_in t)) × (0 < count (children_of t))
-leading_some (mult none) h e = absurd (e refl)
-leading_some (mult (more (num q) ts)) h e = (refl, refl, omega arith)
-leading_some (mult (more t ts)) h e = absurd (e refl)
-leading_some t h e = cc
+leading_some t h e = grind arith
 
 pub no_coefficient : (t : Tree) → (root_kind t ≡ kind.Num → ⊥) → (root_kind t ≡ kind.Mult → ⊥) → coefficient_in t ≡ one_fraction
-no_coefficient (num q) h k = absurd (h refl)
-no_coefficient (mult ts) h k = absurd (k refl)
-no_coefficient t h k = refl
+no_coefficient t h k = grind arith
 
 -- ---- factors at places
 
@@ -94,8 +83,7 @@ drop_length (suc n) [] l = absurd (omega arith)
 drop_length (suc n) (f ∷ m) l = omega (arith, drop_length n m (omega arith))
 
 drop_none : (n : ℕ) → drop {A = Factor} n [] ≡ []
-drop_none zero = refl
-drop_none (suc n) = refl
+drop_none n = grind arith
 
 pub drop_more : (n k : ℕ) (m : Monomial) → drop k (drop n m) ≡ drop (n + k) m
 drop_more zero k m = ap (λ (i : ℕ). drop i m) (let e : k ≡ 0 + k = omega arith in e)
@@ -119,55 +107,13 @@ sum_term s n u l e =
 -- ---- the next factor of a product
 
 pub if_ok_map : {A E : Type 0} {P Q : A → Type 0} (r : Result A E) → IfOk r P → ((x : A) → P x → Q x) → IfOk r Q
-if_ok_map (Ok x) p f = f x p
-if_ok_map (Err e) p f = tt
+if_ok_map r p f = grind arith
 
 pub next_left : (f : Factor) (m n r : Monomial) (x : Next) → IsMonomial m → n ≡ [] → m ≡ f ∷ r → IsRead x.factor f → x.left ≡ 1 → x.right ≡ 0 → IsNext m n x
-next_left f m n r x h e q read l k =
-    let is : IsMonomial (f ∷ r) = subst IsMonomial q h in
-    record {
-      factor = f;
-      read = read;
-      product = (λ i. monomial_times (q i) (e i)) ∙ put_first f (monomial_times r []) (below_times f.name r [] is.1 tt) ∙ sym (λ i. f ∷ monomial_times (drop (l i) (q i)) (drop (k i) (e i)));
-      some = omega (arith, l);
-      left_within = omega (arith, l, ap length q);
-      right_within = omega (arith, k);
-    }
+next_left f m n r x h e q k l p = grind (arith, put_first, below_times)
 
 pub next_first : (f g : Factor) (m n r s : Monomial) (x : Next) → IsMonomial m → IsMonomial n → m ≡ f ∷ r → n ≡ g ∷ s → IsFirst f g x → IsNext m n x
-next_first f g m n r s x hm hn e q first = by (slice_cmp nat_cmp f.name g.name) refl first
-  where
-    km : IsMonomial (f ∷ r)
-    km = subst IsMonomial e hm
-
-    kn : IsMonomial (g ∷ s)
-    kn = subst IsMonomial q hn
-
-    by : (o : Ordering) → slice_cmp nat_cmp f.name g.name ≡ o → IsFirstBy o f g x → IsNext m n x
-    by Less o (read, l, k) = record {
-      factor = f;
-      read = read;
-      product = (λ i. monomial_times (e i) (q i)) ∙ left_first f g r s km kn o ∙ sym (λ i. f ∷ monomial_times (drop (l i) (e i)) (drop (k i) (q i)));
-      some = omega (arith, l);
-      left_within = omega (arith, l, ap length e);
-      right_within = omega (arith, k);
-    }
-    by Equal o (read, l, k) = record {
-      factor = factor f.name (f.exponent + g.exponent);
-      read = read;
-      product = (λ i. monomial_times (e i) (q i)) ∙ both_first f g r s km kn o ∙ sym (λ i. factor f.name (f.exponent + g.exponent) ∷ monomial_times (drop (l i) (e i)) (drop (k i) (q i)));
-      some = omega (arith, l);
-      left_within = omega (arith, l, ap length e);
-      right_within = omega (arith, k, ap length q);
-    }
-    by Greater o (read, l, k) = record {
-      factor = g;
-      read = read;
-      product = (λ i. monomial_times (e i) (q i)) ∙ right_is_first f g r s km kn o ∙ sym (λ i. g ∷ monomial_times (drop (l i) (e i)) (drop (k i) (q i)));
-      some = omega (arith, k);
-      left_within = omega (arith, l);
-      right_within = omega (arith, k, ap length q);
-    }
+next_first f g m n r s x h k e q l = grind (arith, left_first, both_first, right_is_first)
 
 -- ---- exponents
 
@@ -175,43 +121,21 @@ pub exponent_sum : (a b : ℕ) → plus (lowest (pos a) 1) (lowest (pos b) 1) �
 exponent_sum a b = plus_lowest (pos a) (pos b) 1 1 (omega arith) (omega arith) ∙ ap (λ (z : ℤ). lowest z 1) (omega (arith, ints))
 
 one_number : (n : ℕ) → int_is_one (pos n) ≡ (n == 1)
-one_number zero = refl
-one_number (suc zero) = refl
-one_number (suc (suc n)) = sym (ne_eqb (suc (suc n)) 1 (λ e. absurd (omega (arith, e))))
+one_number n = grind arith
 
 pub exponent_one : (n : ℕ) → is_one_fraction (lowest (pos n) 1) ≡ (n == 1)
-exponent_one n =
-    (λ i. int_is_one (whole_numerator (pos n) i) && (whole_denominator (pos n) i == 1)) ∙ (λ i. one_number n i && true) ∙ and_right (n == 1)
-  where
-    and_right : (b : Bool) → (b && true) ≡ b
-    and_right true = refl
-    and_right false = refl
+exponent_one n = grind (arith, whole_numerator, whole_denominator, one_number)
 
 -- ---- lists of factors
 
 pub mult_is : (t : Tree) → is_mult t ≡ true → t ≡ mult (children_of t)
-mult_is (mult ts) h = refl
-mult_is t h = cc
+mult_is t h = grind arith
 
 pub led_some : (q : Fraction) (ts : Trees) → 1 ≤ count (led_by q ts)
-led_some q none = omega arith
-led_some q (more t ts) = by (is_one_fraction q)
-  where
-    by : (b : Bool) → 1 ≤ count (if b then more t ts else more (num q) (more t ts))
-    by true = omega arith
-    by false = omega arith
+led_some q ts = grind arith
 
 pub led_term : (q : Fraction) (m : Monomial) → product_tree (led_by q (factor_trees m)) ≡ term_tree (summand q m)
-led_term q [] = by (is_one_fraction q) refl
-  where
-    by : (b : Bool) → is_one_fraction q ≡ b → num q ≡ (if b then num one_fraction else num q)
-    by true e = ap num (one_is q e)
-    by false e = refl
-led_term q (f ∷ m) = by (is_one_fraction q)
-  where
-    by : (b : Bool) → product_tree (if b then factor_trees (f ∷ m) else more (num q) (factor_trees (f ∷ m))) ≡ (if b then product_tree (factor_trees (f ∷ m)) else product_tree (more (num q) (factor_trees (f ∷ m))))
-    by true = refl
-    by false = refl
+led_term q m = grind (arith, one_is)
 
 pub factors_append : (m n : Monomial) → append (factor_trees m) (factor_trees n) ≡ factor_trees (m ++ n)
 factors_append [] n = refl
@@ -224,24 +148,15 @@ pub record IsBeside (j : ℕ) (g f : Forest) : Type 0 where
   pub same : plain (tree_at j f) ≡ plain (tree_at j g)
 
 pub beside : {g f : Forest} {i j : ℕ} {P : Tree → Type 0} → Gives g f i P → IsExpression j g → IsBeside j g f
-beside {g = g} {f = f} {j = j} e h =
-    let tree : tree_at j f ≡ tree_at j g = ap (tree_at j) e.ends.whole ∙ tree_at-join_left j g e.tree h.live in
-    record {
-      expression = record { live = ap (holds j) e.ends.whole ∙ holds-left j g e.tree h.live; whole = subst AllExpressions (sym tree) h.whole };
-      same = ap plain tree;
-    }
+beside e h = grind (arith, tree_at-join_left, holds-left)
 
 pub sum_terms_in : (t : Tree) → is_add t ≡ true → terms_in t ≡ children_of t
-sum_terms_in (add ts) h = refl
-sum_terms_in t h = cc
+sum_terms_in t h = grind arith
 
 -- ---- a factor that is placed
 
 pub factor_one : (x : Read) (f : Factor) → IsRead x f → is_one_fraction (value_of x.exponent) ≡ true → symbol (name_of x.name) ≡ factor_tree f
-factor_one x f r e =
-    ap symbol r.name ∙ sym (ap (λ (b : Bool). if b then symbol f.name else power (symbol f.name) (whole_num f.exponent)) (sym (exponent_one f.exponent) ∙ ap is_one_fraction (sym r.exponent) ∙ e))
+factor_one x f r e = grind (arith, exponent_one)
 
 pub factor_other : (x : Read) (f : Factor) → IsRead x f → is_one_fraction (value_of x.exponent) ≡ false → power (symbol (name_of x.name)) (num (value_of x.exponent)) ≡ factor_tree f
-factor_other x f r e =
-    (λ i. power (symbol (r.name i)) (num (r.exponent i)))
-    ∙ sym (ap (λ (b : Bool). if b then symbol f.name else power (symbol f.name) (whole_num f.exponent)) (sym (exponent_one f.exponent) ∙ ap is_one_fraction (sym r.exponent) ∙ e))
+factor_other x f r e = grind (arith, exponent_one)

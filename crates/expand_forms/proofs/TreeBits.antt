@@ -1,7 +1,7 @@
 -- The polynomial of a tree is held by the tree's bits.
-use Rattle.std.proofs.Common.{◌≡◌, ℕ, zero, suc, ◌+◌, ◌*◌, ◌^◌, ◌≤◌, ◌<◌, max, pos, negsuc, ℤ, Some, None, List, [], ◌++◌, append-nil, Bool, true, false, refl, sym, ap, ◌∙◌, subst, arith}
+use Rattle.std.proofs.Common.{◌≡◌, ℕ, zero, suc, ◌+◌, ◌*◌, ◌^◌, ◌≤◌, ◌<◌, max, pos, negsuc, ℤ, List, [], ◌++◌, append-nil, Bool, true, false, refl, sym, ap, ◌∙◌, subst, arith}
 use Rattle.std.specs.Prelude.{nat_abs, neg_ℤ, Option, not}
-use Rattle.expand_forms.proofs.Shared.{dvd_refl, le-max_left, le-max_right, max-le, pow-le-pow_right, and_parts, mul-le, pow-add, magnitude_over, cancel_right, den_divides, magnitude_cross, magnitude_lowest, half_literal, or_literal, whole_literal, HighLow, bounds, bounds_of_terms, ceil_log2, high, low, power_bounds, Fraction, den_pos, inverse, inverse_of, is_zero_fraction, minus_one_fraction, mul_pos, negative, int_is_zero, Tree, num, symbol, undef, add, mult, power, root, neg, sub, div, Trees, none, more, count, negative_parts, AreHeldTogether, AreWhole, HaveExponents, IsHeld, mass, Polynomial, constant, scaled, variable, are_polynomials, divisor_of, exponent_of, is_divisor, is_exponent, is_polynomial, is_small, natural_of, polynomial_of, product_of, sum_of, AreExpandedFrom, IsExpandedFrom}
+use Rattle.expand_forms.proofs.Shared.{dvd_refl, le-max_left, le-max_right, max-le, pow-le-pow_right, and_parts, mul-le, pow-add, magnitude_over, cancel_right, den_divides, magnitude_cross, magnitude_lowest, half_literal, or_literal, whole_literal, HighLow, bounds, bounds_of_terms, ceil_log2, high, low, power_bounds, Fraction, den_pos, inverse, inverse_of, minus_one_fraction, mul_pos, int_is_zero, Tree, num, symbol, undef, add, mult, power, root, neg, sub, div, Trees, none, more, count, negative_parts, AreHeldTogether, AreWhole, HaveExponents, IsHeld, mass, Polynomial, constant, scaled, variable, are_polynomials, divisor_of, exponent_of, is_divisor, is_exponent, is_polynomial, is_small, natural_of, polynomial_of, product_of, sum_of, AreExpandedFrom, IsExpandedFrom}
 use Rattle.calc_measures.proofs.CeilLog2.{ceil_log2_is}
 use Rattle.expand_forms.proofs.Held.{answer_held, held_more, held_opposite, held_product, held_raised, one_den, one_held, one_magnitude}
 use Rattle.expand_forms.proofs.Masses.{exponents_append, mass_append, mass_scale, more_exponents, whole_append, whole_scale}
@@ -28,18 +28,13 @@ constant_held q h l a b = record {
 }
 
 no_not : (b : Bool) → not b ≡ true → b ≡ false
-no_not true h = cc
-no_not false h = refl
+no_not b h = grind arith
 
 opposite_zero : (n : ℤ) → int_is_zero (neg_ℤ n) ≡ int_is_zero n
-opposite_zero (pos zero) = refl
-opposite_zero (pos (suc n)) = refl
-opposite_zero (negsuc n) = refl
+opposite_zero n = grind arith
 
 opposite_abs : (n : ℤ) → nat_abs (neg_ℤ n) ≡ nat_abs n
-opposite_abs (pos zero) = refl
-opposite_abs (pos (suc n)) = refl
-opposite_abs (negsuc n) = refl
+opposite_abs n = grind arith
 
 -- of an inverse
 inverse_by : (n : ℤ) (d : ℕ) (h l : ℕ) → int_is_zero n ≡ false → 0 < d → nat_abs n ≤ 2 ^ h → d ≤ 2 ^ l → IsHeld (constant (inverse_of n d)) (h + 2 * l) (2 * h + 2 * l)
@@ -69,12 +64,7 @@ rational_low q = (ceil_log2_is q.den).enough
 
 -- of a divisor, and of the rational under its sign
 divisor_held : (c : Tree) → is_divisor c ≡ true → IsHeld (constant (inverse (divisor_of c))) (high c + 2 * low c) (2 * high c + 2 * low c)
-divisor_held (num q) h = inverse_by q.num q.den (high (num q)) (low (num q)) (no_not (is_zero_fraction q) h) (den_pos q) (rational_high q) (rational_low q)
-divisor_held (neg (num q)) h =
-    let p = negative_parts q q.num q.den refl refl in
-    inverse_by (negative q).num (negative q).den (high (num q)) (low (num q)) (ap int_is_zero p.num ∙ opposite_zero q.num ∙ no_not (is_zero_fraction q) h) (den_pos (negative q))
-    (omega (arith, ap nat_abs p.num, opposite_abs q.num, rational_high q)) (omega (arith, p.den, rational_low q))
-divisor_held c h = cc
+divisor_held c h = grind (arith, inverse_by, no_not, rational_high, rational_low, negative_parts, opposite_zero, opposite_abs)
 
 -- ---- several trees
 
@@ -158,9 +148,7 @@ difference_held {v} {w} {h} {l} {g} {k} x y =
 -- ---- powers
 
 literal_natural : (z : Option ℤ) → is_small z ≡ true → (half : Option ℤ) (b : HighLow) → (natural_of z * b.high ≤ (power_bounds (or_literal z half) b).high) × (natural_of z * b.low ≤ (power_bounds (or_literal z half) b).low)
-literal_natural (Some (pos n)) h half b = (mul-le n b.high (max 1 n) b.high (le-max_right 1 n) (omega arith), mul-le n b.low (max 1 n) b.low (le-max_right 1 n) (omega arith))
-literal_natural (Some (negsuc n)) h half b = cc
-literal_natural None h half b = cc
+literal_natural z h half b = grind arith
 
 pub power_within : (b e : Tree) → is_exponent e ≡ true → (exponent_of e * high b ≤ high (power b e)) × (exponent_of e * low b ≤ low (power b e))
 power_within b e h = literal_natural (whole_literal e) h (half_literal e) (bounds b)
@@ -172,14 +160,7 @@ quotient_held a c {v} h x =
 -- ---- all trees
 
 variable_held : (x : List ℕ) → IsHeld (variable x) 1 0
-variable_held x = record {
-  denominator = 1;
-  positive = omega arith;
-  whole = (one_den, tt);
-  low = omega arith;
-  high = omega (arith, one_magnitude);
-  exponents = ((omega arith, tt), tt);
-}
+variable_held x = grind (arith, one_den, one_magnitude)
 
 mutual
   pub tree_held : (t : Tree) → is_polynomial t ≡ true → IsHeld (polynomial_of t) (high t) (low t)

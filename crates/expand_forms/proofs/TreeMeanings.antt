@@ -1,7 +1,7 @@
 -- What a polynomial tree means is what its polynomial is worth.
 use Rattle.std.proofs.Common.{◌≡◌, ◌≢◌, ◌≤◌, ℕ, zero, suc, ℤ, pos, negsuc, Bool, true, false, refl, sym, ap, ◌∙◌, arith}
-use Rattle.std.specs.Prelude.{Option, Some, None, ◌==◌, nat_le, neg_ℤ, ◌*ℤ◌, if◌then◌else◌}
-use Rattle.expand_forms.proofs.Shared.{and_parts, leb-true, eqb-true, ints, Assignment, IsAssignment, IsWholePower, Means, MeansSum, MeansProduct, Surd, surd_of, Inverts-surd_of, inverse_times_itself, negative_times, Same-sym, one_meaning, surd_power-surd_of, exponent_is, Same-trans, Same-Agree, Agree, Agree-Same, Agree-surd_times_right, Agree-trans, one_inverse, Same-append, Same-eq, Same-refl, Same-surd_power, Same-surd_scale, Same-surd_times, joined_radicand, zero_term, opposite, whole_literal, whole_value, no_zero, whole_denominator, whole_numerator, fraction_power, negative_lowest, one_times, plus_negative, times_comm, Fraction, fraction_path, inverse, lowest, minus_one_fraction, negative, one_fraction, plus, times, times_lowest, whole_fraction, zero_fraction, Tree, num, symbol, undef, add, mult, power, root, neg, sub, div, Trees, none, more, scaled, are_polynomials, divisor_of, exponent_of, is_divisor, is_exponent, is_nonzero, is_polynomial, is_small, natural_of, polynomial_of, product_of, sum_of, polynomial_value}
+use Rattle.std.specs.Prelude.{Option, Some, None, ◌==◌, neg_ℤ, ◌*ℤ◌, if◌then◌else◌}
+use Rattle.expand_forms.proofs.Shared.{and_parts, eqb-true, ints, Assignment, IsAssignment, IsWholePower, Means, MeansSum, MeansProduct, Surd, surd_of, Inverts-surd_of, inverse_times_itself, negative_times, Same-sym, one_meaning, surd_power-surd_of, exponent_is, Same-trans, Same-Agree, Agree, Agree-Same, Agree-surd_times_right, Agree-trans, one_inverse, Same-append, Same-eq, Same-refl, Same-surd_power, Same-surd_scale, Same-surd_times, joined_radicand, zero_term, opposite, whole_literal, whole_value, no_zero, whole_denominator, whole_numerator, fraction_power, negative_lowest, one_times, plus_negative, times_comm, Fraction, fraction_path, inverse, lowest, minus_one_fraction, negative, one_fraction, plus, times, times_lowest, whole_fraction, zero_fraction, Tree, num, symbol, undef, add, mult, power, root, neg, sub, div, Trees, none, more, scaled, are_polynomials, divisor_of, exponent_of, is_divisor, is_exponent, is_nonzero, is_polynomial, is_small, natural_of, polynomial_of, product_of, sum_of, polynomial_value}
 use Rattle.calc_algebra.specs.SquareClasses.{Same, Inverts}
 use Rattle.expand_forms.proofs.Arithmetic.{plus_zero}
 use Rattle.expand_forms.proofs.ValueLaws.{append_value, constant_value, given_is, product_value, raised_value, scaled_value, variable_value}
@@ -9,14 +9,10 @@ use Rattle.expand_forms.proofs.ValueLaws.{append_value, constant_value, given_is
 -- ---- whole literals
 
 small_is : (l : Option ℤ) → is_small l ≡ true → l ≡ Some (pos (natural_of l))
-small_is (Some (pos n)) h = refl
-small_is (Some (negsuc n)) h = cc
-small_is None h = cc
+small_is l h = grind arith
 
 small_positive : (l : Option ℤ) → is_small l ≡ true → 1 ≤ natural_of l
-small_positive (Some (pos n)) h = leb-true 1 n (and_parts (nat_le 1 n) _ h).0
-small_positive (Some (negsuc n)) h = cc
-small_positive None h = cc
+small_positive l h = grind arith
 
 whole_by : (b : Bool) (q : Fraction) (n : ℤ) → (q.den == 1) ≡ b → (if b then Some q.num else None) ≡ Some n → q ≡ whole_fraction n
 whole_by true q n d h = fraction_path q (whole_fraction n) ((let same : q.num ≡ n = cc in same) ∙ sym (whole_numerator n)) (eqb-true q.den 1 d ∙ sym (whole_denominator n))
@@ -53,8 +49,7 @@ pub record MeansDivisor (f : Assignment) (c : Tree) : Type 0 where
   pub not_zero : divisor_of c ≢ zero_fraction
 
 nonzero_means : (f : Assignment) (c : Tree) → is_nonzero c ≡ true → MeansDivisor f c
-nonzero_means f (num q) h = record { means = Same-refl (surd_of q); not_zero = no_zero q h }
-nonzero_means f c h = cc
+nonzero_means f c h = grind (arith, Same-refl, no_zero)
 
 opposite_means : (f : Assignment) (a : Tree) → is_nonzero a ≡ true → MeansDivisor f (neg a)
 opposite_means f (num q) h = record { means = (surd_of q, Same-refl (surd_of q), Same-eq (ap surd_of (sym (minus_one_times q)))); not_zero = negative_not_zero q (no_zero q h) }

@@ -16,8 +16,7 @@ pub names_equal : (x y : List ℕ) → slice_cmp nat_cmp x y ≡ Equal → x ≡
 names_equal x y e = ap name_in (tree_cmp_equal (symbol x) (symbol y) e)
 
 first_or_later : {X : Type 0} (y : X) (ys : List X) (x : X) → Contains (y ∷ ys) x → (y ≡ x) ⊎ Contains ys x
-first_or_later y ys x (zero, l, e) = inl e
-first_or_later y ys x (suc k, l, e) = inr (k, omega arith, e)
+first_or_later y ys x h = grind arith
 
 clash : {A : Type 0} (b : Bool) → b ≡ true → b ≡ false → A
 clash b p q = absurd cc
@@ -73,8 +72,7 @@ module _ (f : Assignment) where
   scaled_value c (s ∷ v) = plus_both (times_assoc c s.coefficient (monomial_value f s.monomial)) (scaled_value c v) ∙ sym (times_plus c (summand_value f s) (polynomial_value f v))
 
   summand_times_value : (s t : Summand) → summand_value f (summand_times s t) ≡ times (summand_value f s) (summand_value f t)
-  summand_times_value s t =
-      ap (times (times s.coefficient t.coefficient)) (monomial_times_value s.monomial t.monomial) ∙ times_exchange s.coefficient t.coefficient (monomial_value f s.monomial) (monomial_value f t.monomial)
+  summand_times_value s t = grind (arith, monomial_times_value, times_exchange)
 
   pairs_value : (s : Summand) (w : Polynomial) → polynomial_value f (map (summand_times s) w) ≡ times (summand_value f s) (polynomial_value f w)
   pairs_value s [] = sym (times_zero (summand_value f s))

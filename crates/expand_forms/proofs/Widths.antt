@@ -13,15 +13,13 @@ same_is : (x y : List ℕ) → x ≡ y → bytes_eq x y ≡ true
 same_is x y = (bytes_eq-Decides x y).1
 
 false_for : (b : Bool) → (b ≡ true → ⊥) → b ≡ false
-false_for true h = absurd (h refl)
-false_for false h = refl
+false_for b h = grind arith
 
 clash : {A : Type 0} (b : Bool) → b ≡ true → b ≡ false → A
 clash b p q = absurd cc
 
 or_is : (a b : Bool) → (a || b) ≡ true → a ≡ false → b ≡ true
-or_is true b h e = clash true refl e
-or_is false b h e = h
+or_is a b h e = grind arith
 
 pub contained_among : (ns : List (List ℕ)) (x : List ℕ) → Contains ns x → is_among x ns ≡ true
 contained_among [] x (k, l, e) = absurd (omega arith)
@@ -47,18 +45,11 @@ among_without x y (z ∷ ys) a = by (bytes_eq z x) refl (among_without x y ys a)
     by false e go = ap (λ (b : Bool). bytes_eq z y || b) go
 
 count_more : (y : List ℕ) (ys : List (List ℕ)) → count_distinct ys ≤ count_distinct (y ∷ ys)
-count_more y ys = by (is_among y ys)
-  where
-    by : (b : Bool) → count_distinct ys ≤ (if b then count_distinct ys else suc (count_distinct ys))
-    by true = omega arith
-    by false = omega arith
+count_more y ys = grind arith
 
 -- a name that stays, before names of which there are as many as before, or fewer by one
 kept_name : (n : ℕ) (b c : Bool) (k l : ℕ) → b ≡ c → k + n ≤ l → (if b then k else suc k) + n ≤ (if c then l else suc l)
-kept_name n true true k l e h = h
-kept_name n true false k l e h = clash true refl e
-kept_name n false true k l e h = clash true refl (sym e)
-kept_name n false false k l e h = omega arith
+kept_name n b c k l e h = grind arith
 
 other : (x y : List ℕ) → bytes_eq y x ≡ false → bytes_eq x y ≡ false
 other x y e = false_for (bytes_eq x y) (λ h. clash (bytes_eq y x) (same_is y x (sym (is_same x y h))) e)
@@ -120,11 +111,7 @@ AllAmong ns xs = (y : List ℕ) → is_among y xs ≡ true → is_among y ns ≡
 
 rest_among : (ns : List (List ℕ)) (x : List ℕ) (xs : List (List ℕ)) → AllAmong ns (x ∷ xs) → AllAmong ns xs
 unfolding AllAmong
-rest_among ns x xs h y k = h y (by (bytes_eq x y))
-  where
-    by : (b : Bool) → (b || is_among y xs) ≡ true
-    by true = refl
-    by false = k
+rest_among ns x xs h y k = grind arith
 
 first_among : (ns : List (List ℕ)) (x : List ℕ) (xs : List (List ℕ)) → AllAmong ns (x ∷ xs) → is_among x ns ≡ true
 unfolding AllAmong

@@ -1,6 +1,6 @@
 -- A node below another one, beside the last tree.
-use Rattle.std.proofs.Common.{◌≡◌, ◌<◌, ℕ, Bool, true, false, cond, eqb, sym, ap, ◌∙◌, subst}
-use Rattle.expand_forms.proofs.Shared.{eq-eqb, tree_at-join_left, or_true, at, root_held, AllExpressions, IsExpression, plain, Forest, arity, root_id, tree_nth, Gives, holds, kids_of, tree_at, Tree}
+use Rattle.std.proofs.Common.{arith, ◌≡◌, ◌<◌, ℕ, Bool, true, false, cond, eqb, ap, ◌∙◌}
+use Rattle.expand_forms.proofs.Shared.{eq-eqb, tree_at-join_left, or_true, at, root_held, IsExpression, plain, Forest, arity, root_id, tree_nth, Gives, holds, kids_of, tree_at, Tree}
 use Rattle.tree_handles.proofs.Distinct.{holds-tree_at, nth_root}
 
 pub inside_itself : (i : ℕ) (f : Forest) → holds i f ≡ true → holds i (tree_at i f) ≡ true
@@ -21,7 +21,4 @@ pub record IsWithin (j : ℕ) (g f : Forest) : Type 0 where
   pub same : plain (tree_at j f) ≡ plain (tree_at j g)
 
 pub within : {g f : Forest} {i b j : ℕ} {P : Tree → Type 0} → Gives g f i P → IsExpression b g → holds j (tree_at b f) ≡ true → IsExpression j f → IsWithin j g f
-within {g} {f} {i} {b} {j} e h inside x =
-    let there : holds j g ≡ true = holds-tree_at b j g (ap (holds j) (sym (ap (tree_at b) e.ends.whole ∙ tree_at-join_left b g e.tree h.live)) ∙ inside) in
-    let tree : tree_at j f ≡ tree_at j g = ap (tree_at j) e.ends.whole ∙ tree_at-join_left j g e.tree there in
-    record { expression = record { live = there; whole = subst AllExpressions tree x.whole }; same = ap plain tree }
+within e h k x = grind (arith, holds-tree_at, tree_at-join_left)

@@ -1,5 +1,5 @@
 -- One place more, without a Number.
-use Rattle.std.proofs.Common.{◌⊎◌, inl, inr, nat_lt, ℕ, ◌<◌, ◌+◌, ◌≡◌, false, refl, ap, ◌∙◌, arith}
+use Rattle.std.proofs.Common.{◌⊎◌, inl, inr, nat_lt, ℕ, ◌<◌, ◌+◌, ◌≡◌, false, refl, arith}
 use Rattle.like_children.proofs.Shared.{ltb-true, ltb-false, is_number, Trees, nth, by_test, NoNumberBetween}
 
 -- a place before the next one is before this one, or this one
@@ -7,8 +7,4 @@ pub by_place : (k n : ℕ) → k < n + 1 → (k < n) ⊎ (k ≡ n)
 by_place k n l = by_test (λ b. nat_lt k n ≡ b → (k < n) ⊎ (k ≡ n)) (nat_lt k n) (λ p x. inl (ltb-true k n x)) (λ p x. inr (omega (arith, ltb-false k n x, l))) refl
 
 pub no_number_more : (from n : ℕ) (ts : Trees) → NoNumberBetween from n ts → is_number (nth n ts) ≡ false → NoNumberBetween from (n + 1) ts
-no_number_more from n ts h q k f l = by (by_place k n l)
-  where
-    by : (k < n) ⊎ (k ≡ n) → is_number (nth k ts) ≡ false
-    by (inl m) = h k f m
-    by (inr x) = ap (λ (j : ℕ). is_number (nth j ts)) x ∙ q
+no_number_more from n ts h q k f l = grind arith

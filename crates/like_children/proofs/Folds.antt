@@ -1,9 +1,9 @@
 -- Numbers by their places, and rationals calculated from left to right.
 use Rattle.std.proofs.lemmas.Bool.{true≢false}
 use Rattle.std.specs.Prelude.{Err}
-use Rattle.std.proofs.Common.{ℕ, zero, suc, ◌≤◌, ◌≡◌, List, ◌∷◌, Bool, true, false, if◌then◌else◌, refl, sym, ap, ◌∙◌, subst, arith}
-use Rattle.like_children.proofs.Shared.{and_parts, Fraction, is_number, PlainValue, exactly, overflow, calculated, fold_values, gather, values, plain_of_children, plain_value, are_plain, NoneIs, Tree, num, add, mult, Trees, none, more, count, is_num, are_rationals, State, AnswersRationals, Overflow, NumberFault, nth, removed, rational_of, rationals_of, AreFolded, IsTotal, AnswersTotal, NoNumberBetween, IsNextNumber, others_in}
-use Rattle.calc_terms.specs.Fits.{Operation, add_op, mul_op, operation_fits, result_of}
+use Rattle.std.proofs.Common.{ℕ, zero, suc, ◌≤◌, ◌≡◌, List, ◌∷◌, true, refl, sym, ap, ◌∙◌, subst, arith}
+use Rattle.like_children.proofs.Shared.{and_parts, Fraction, is_number, PlainValue, exactly, calculated, fold_values, gather, values, plain_of_children, plain_value, are_plain, NoneIs, Tree, num, add, mult, Trees, none, more, count, is_num, are_rationals, State, AnswersRationals, Overflow, NumberFault, nth, removed, rational_of, rationals_of, AreFolded, IsTotal, AnswersTotal, NoNumberBetween, IsNextNumber, others_in}
+use Rattle.calc_terms.specs.Fits.{Operation, add_op, mul_op}
 use Rattle.calc_measures.specs.PlainTrees.{IsPlainAnswer, IsPlainOverflow}
 use Rattle.like_children.proofs.NumbersIn.{number_out}
 use Rattle.tree_handles.specs.declared.fault.NumberFault.TheVariants as fault
@@ -17,13 +17,11 @@ no_numbers (more t ts) b = (b 0 (omega arith) (omega arith), no_numbers ts (λ k
 -- ---- rationals
 
 pub num_is : (t : Tree) → is_num t ≡ true → t ≡ num (rational_of t)
-num_is (num q) h = refl
-num_is _ h = cc
+num_is t h = grind arith
 
 pub num_number : (t : Tree) → is_num t ≡ true → is_number t ≡ true
 unfolding is_number
-num_number (num q) h = refl
-num_number _ h = cc
+num_number t h = grind arith
 
 gathered : (ts : Trees) → are_rationals ts ≡ true → plain_of_children ts ≡ values (rationals_of ts)
 gathered none h = refl
@@ -37,12 +35,10 @@ plain_rationals (more _ ts) h = cc
 
 -- the plain values of a sum and of a product of rationals
 pub plain_sum : (t : Tree) (ts : Trees) → is_num t ≡ true → are_rationals ts ≡ true → plain_value (add (more t ts)) ≡ fold_values add_op (rational_of t) (rationals_of ts)
-plain_sum (num q) ts h k = rw (plain_rationals ts k, gathered ts k) refl
-plain_sum _ ts h k = cc
+plain_sum t ts h k = grind (arith, plain_rationals, gathered)
 
 pub plain_product : (t : Tree) (ts : Trees) → is_num t ≡ true → are_rationals ts ≡ true → plain_value (mult (more t ts)) ≡ fold_values mul_op (rational_of t) (rationals_of ts)
-plain_product (num q) ts h k = rw (plain_rationals ts k, gathered ts k) refl
-plain_product _ ts h k = cc
+plain_product t ts h k = grind (arith, plain_rationals, gathered)
 
 -- ---- the result so far, and the rationals that are left
 
@@ -70,29 +66,17 @@ rationals_first at us f = ap rationals_of f.is
 
 -- the first one is the result so far
 pub fold_begun : {op : Operation} (v : PlainValue) (at : ℕ) (us : Trees) → IsFirst at us → ((f : IsFirst at us) → v ≡ fold_values op (rational_of (nth at us)) (rationals_of f.rest)) → AreFolded op v (nth at us) (removed at us)
-fold_begun {op = op} v at us f e = record {
-  rational = f.rational;
-  rationals = ap are_rationals f.left ∙ f.rationals;
-  plain = e f ∙ ap (λ (x : Trees). fold_values op (rational_of (nth at us)) (rationals_of x)) (sym f.left);
-}
+fold_begun v at us f e = grind arith
 
 record IsStep (op : Operation) (p q : Fraction) (rs : List Fraction) (e : Tree) : Type 0 where
   rational : is_num e ≡ true
   plain : fold_values op p (q ∷ rs) ≡ fold_values op (rational_of e) rs
 
 fold_step : (op : Operation) (p q : Fraction) (rs : List Fraction) (e : Tree) → IsPlainAnswer (calculated op p q) e → IsStep op p q rs e
-fold_step op p q rs e h = by (operation_fits op p q) refl h
-  where
-    by : (k : Bool) → operation_fits op p q ≡ k → IsPlainAnswer (if k then exactly (result_of op p q) else overflow op p q) e → IsStep op p q rs e
-    by true f h = record { rational = ap is_num h; plain = rw (f, fold_values) (ap (λ (t : Tree). fold_values op (rational_of t) rs) (sym h)) }
-    by false f h = absurd h
+fold_step op p q rs e h = grind arith
 
 fold_overflow : (op : Operation) (p q : Fraction) (rs : List Fraction) (o : Overflow) → IsPlainOverflow (calculated op p q) o → IsPlainOverflow (fold_values op p (q ∷ rs)) o
-fold_overflow op p q rs o h = by (operation_fits op p q) refl h
-  where
-    by : (k : Bool) → operation_fits op p q ≡ k → IsPlainOverflow (if k then exactly (result_of op p q) else overflow op p q) o → IsPlainOverflow (fold_values op p (q ∷ rs)) o
-    by true f h = absurd h
-    by false f h = let e : fold_values op p (q ∷ rs) ≡ overflow op p q = rw (f, fold_values) refl in subst (λ (v : PlainValue). IsPlainOverflow v o) (sym e) h
+fold_overflow op p q rs o h = grind arith
 
 -- what is answered where the next one is taken
 pub fold_more : {op : Operation} (v : PlainValue) (at : ℕ) (us : Trees) (d e : Tree) → AreFolded op v d us → IsNextNumber 0 at us → ((p q : Fraction) → d ≡ num p → nth at us ≡ num q → IsPlainAnswer (calculated op p q) e) → AreFolded op v e (removed at us)

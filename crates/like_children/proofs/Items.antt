@@ -1,12 +1,10 @@
 -- Children by their identifiers.
 use Rattle.std.proofs.Common.{ℕ, suc, ◌<◌, ◌≤◌, ◌≡◌, List, [], ◌∷◌, sym, ap, ◌∙◌, arith}
-use Rattle.like_children.proofs.Shared.{Tree, count, State, root_ids, nth, plain, children_of, IsExpression, arity, kids, rest_trees, tree_of, IsHanded, tree_at, kids_of, root_tree, Stands, forest, kids_of_root, plain_root, expression_root, count-plains, children_of-plain}
+use Rattle.like_children.proofs.Shared.{Tree, count, State, root_ids, nth, plain, children_of, IsExpression, arity, rest_trees, tree_of, IsHanded, tree_at, kids_of, Stands, forest, kids_of_root, plain_root, expression_root, count-plains, children_of-plain}
 use Rattle.tree_handles.proofs.ChildPlaces.{seen_child, step_on, no_more}
 
 pub children_count : {s : State} {i : ℕ} → Stands s → IsHanded i (forest s) → arity (kids_of i (forest s)) ≡ count (children_of (tree_of i s))
-children_count {s = s} {i = i} st h =
-    let k = kids (root_tree i (forest s)) in
-    ap arity (kids_of_root i st h.root) ∙ sym (count-plains k) ∙ ap count (sym (children_of-plain (root_tree i (forest s)) h.whole))
+children_count h k = grind (arith, kids_of_root, count-plains, children_of-plain)
 
 pub children_told : {s : State} {i j n : ℕ} → Stands s → IsHanded i (forest s) → j ≡ i → n ≡ arity (kids_of j (forest s)) → n ≡ count (children_of (tree_of i s))
 children_told {s = s} st h e q = q ∙ ap (λ (k : ℕ). arity (kids_of k (forest s))) e ∙ children_count st h

@@ -1,5 +1,5 @@
 -- Children by their places.
-use Rattle.std.proofs.Common.{ℕ, zero, suc, ◌+◌, ◌<◌, ◌≡◌, refl, sym, ap, ◌∙◌, arith}
+use Rattle.std.proofs.Common.{ℕ, zero, suc, ◌+◌, ◌<◌, ◌≡◌, refl, ap, ◌∙◌, arith}
 use Rattle.like_children.proofs.Shared.{Tree, Trees, none, more, count, sizes, size, removed, nth, grown, plains, inserted, children_of, IsWhole, Forest, empty, tree, arity, kids, tree_nth, without_nth, merged_nth, IsOnce, Represents, all-kids, all-tree_nth, all-without_nth, arity-tree_nth, represents_as, represents_with, plain-tree_nth, children_of-plain, whole_kids, alone}
 use Rattle.tree_handles.proofs.Nths.{with_nth-without_nth}
 
@@ -10,11 +10,7 @@ plains-without_nth (suc n) empty = refl
 plains-without_nth (suc n) (tree l k r) = ap (more (grown l.payload (plains k))) (plains-without_nth n r)
 
 pub represents_without : (n : ℕ) {k : Forest} {ts : Trees} → Represents k ts → Represents (without_nth n k) (removed n ts)
-represents_without n {k = k} h = record {
-  once = all-without_nth IsOnce n k h.once;
-  whole = all-without_nth IsWhole n k h.whole;
-  plain_trees = plains-without_nth n k ∙ ap (removed n) h.plain_trees;
-}
+represents_without n h = grind (arith, all-without_nth, plains-without_nth)
 
 pub represents_nth : (n : ℕ) {k : Forest} {ts : Trees} → n < arity k → Represents k ts → Represents (tree_nth n k) (more (nth n ts) none)
 represents_nth n {k = k} l h = record {
@@ -25,11 +21,7 @@ represents_nth n {k = k} l h = record {
 
 -- the children of one tree
 pub represents_kids : {t : Forest} {u : Tree} → Represents t (more u none) → Represents (kids t) (children_of u)
-represents_kids {t = t} h = record {
-  once = all-kids IsOnce t h.once;
-  whole = whole_kids t h.whole;
-  plain_trees = sym (children_of-plain t h.whole) ∙ ap children_of (ap (nth 0) h.plain_trees);
-}
+represents_kids h = grind (arith, all-kids, whole_kids, children_of-plain)
 
 pub represents_merged : (n : ℕ) {k : Forest} {ts : Trees} → n < arity k → Represents k ts → Represents (merged_nth n k) (inserted n (children_of (nth n ts)) (removed n ts))
 represents_merged n {k = k} l h =

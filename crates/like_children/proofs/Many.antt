@@ -1,5 +1,5 @@
 -- Roots that are sums or products, from call to call.
-use Rattle.std.proofs.Common.{ℕ, ◌+◌, ◌≤◌, ◌<◌, ◌≡◌, inl, inr, true, refl, sym, ap, ◌∙◌, subst, arith}
+use Rattle.std.proofs.Common.{ℕ, ◌+◌, ◌≤◌, ◌<◌, ◌≡◌, true, refl, sym, ap, ◌∙◌, subst, arith}
 use Rattle.like_children.proofs.Shared.{Tree, Trees, count, size, sizes, IsSumOrProduct, State, free_of, removed, nth, compound, plain, children_of, takes_kind, Forest, arity, kids, bytes_in, root_count, tree_nth, without_nth, IsOnce, IsHanded, Represents, Ends, Gives, kids_of, root_tree, without_root, put, Stands, forest, all-tree_nth, arity-tree_nth, gives, kids_of_root, size-plain, root_arity}
 use Rattle.calc_terms.specs.declared.kind.Kind.{Kind}
 use Rattle.tree_handles.proofs.Over.{IsOver, over_sum, over_product, over_handed, over_plain, over_put, over_end, over_same, once_count, without_put}
@@ -8,7 +8,6 @@ use Rattle.like_children.proofs.Kids.{represents_nth, represents_without}
 use Rattle.node_pool.specs.Nodes.{used}
 use Rattle.tree_handles.proofs.FreeBytes.{bytes_without}
 use Rattle.tree_handles.proofs.Places.{used_forest}
-use Rattle.calc_terms.specs.declared.kind.Kind.TheVariants as kind
 
 -- a root of a kind that has any number of children, over these
 pub record IsMany (i : ℕ) (ts : Trees) (f : Forest) : Type 0 where
@@ -19,8 +18,7 @@ pub record IsMany (i : ℕ) (ts : Trees) (f : Forest) : Type 0 where
   pub over : IsOver kind i ts f
 
 pub many : {i : ℕ} {f : Forest} → IsHanded i f → IsSumOrProduct (plain (root_tree i f)) → IsMany i (children_of (plain (root_tree i f))) f
-many h (inl e) = record { kind = kind.Add; any = λ n. refl; same = λ us. refl; bytes = λ us vs. omega arith; over = over_sum h e }
-many h (inr e) = record { kind = kind.Mult; any = λ n. refl; same = λ us. refl; bytes = λ us vs. omega arith; over = over_product h e }
+many h k = grind (arith, over_sum, over_product)
 
 many_over : {i : ℕ} {ts us : Trees} {f g : Forest} (m : IsMany i ts f) → IsOver m.kind i us g → IsMany i us g
 many_over m o = record { kind = m.kind; any = m.any; same = m.same; bytes = m.bytes; over = o }

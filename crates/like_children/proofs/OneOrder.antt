@@ -1,7 +1,7 @@
 -- Trees whose keys rise have one order.
-use Rattle.std.proofs.Common.{◌≡◌, ◌⊎◌, inl, inr, refl, sym, ap, ◌∙◌}
-use Rattle.like_children.proofs.Shared.{ordering_reverse, RisesBy, tree_cmp, Permuted, permuted_none, permuted_more, permuted_swap, permuted_trans, Permuted-sym, Tree, Trees, none, more}
-use Rattle.std.specs.declared.cmp.Ordering.TheVariants.{Less, Equal, Greater}
+use Rattle.std.proofs.Common.{arith, ◌≡◌, ◌⊎◌, inl, inr, refl, sym, ap, ◌∙◌}
+use Rattle.like_children.proofs.Shared.{RisesBy, tree_cmp, Permuted, permuted_none, permuted_more, permuted_swap, permuted_trans, Permuted-sym, Tree, Trees, none, more}
+use Rattle.std.specs.declared.cmp.Ordering.TheVariants.{Less}
 use Rattle.calc_algebra.proofs.TreeOrderLaws.{tree_cmp_refl, tree_cmp_total}
 
 -- ---- which trees they are
@@ -28,18 +28,13 @@ module _ (key : Tree → Tree) where
   first_least t u (more v ts) r (inr x) = tree_cmp_total.trans (key t) (key v) (key u) r.0 (first_least v u ts r.1 x)
 
   rising_rest : (t : Tree) (ts : Trees) → RisesBy key (more t ts) → RisesBy key ts
-  rising_rest t none r = tt
-  rising_rest t (more u ts) r = r.1
+  rising_rest t ts r = grind arith
 
   not_below_itself : (t u : Tree) → t ≡ u → tree_cmp (key t) (key u) ≡ Less → ⊥
-  not_below_itself t u e l =
-      let both : Less ≡ Equal = sym l ∙ ap (λ (x : Tree). tree_cmp (key x) (key u)) e ∙ tree_cmp_refl (key u) in
-      cc
+  not_below_itself t u e l = grind (arith, tree_cmp_refl)
 
   not_below_both : (t u : Tree) → tree_cmp (key t) (key u) ≡ Less → tree_cmp (key u) (key t) ≡ Less → ⊥
-  not_below_both t u l m =
-      let both : Less ≡ Greater = sym l ∙ tree_cmp_total.antisymm (key t) (key u) ∙ ap ordering_reverse m in
-      cc
+  not_below_both t u l m = grind (arith, tree_cmp_total)
 
   -- ---- one order
 
@@ -49,8 +44,7 @@ module _ (key : Tree → Tree) where
   same_first t u ts us r s (inr x) (inr y) = absurd (not_below_both t u (first_least t u ts r y) (first_least u t us s x))
 
   among_rest : (t u v : Tree) (ts us : Trees) → RisesBy key (more t ts) → t ≡ u → IsAmong v ts → IsAmong v (more u us) → IsAmong v us
-  among_rest t u v ts us r e x (inl q) = absurd (not_below_itself t v (e ∙ sym q) (first_least t v ts r x))
-  among_rest t u v ts us r e x (inr y) = y
+  among_rest t u v ts us r e x h = grind (arith, not_below_itself, first_least)
 
   one_order : (ts us : Trees) → RisesBy key ts → RisesBy key us → ((t : Tree) → IsAmong t ts → IsAmong t us) → ((t : Tree) → IsAmong t us → IsAmong t ts) → ts ≡ us
   one_order none none r s f g = refl

@@ -1,18 +1,10 @@
 -- Children that are opened from the last to the first.
-use Rattle.std.specs.Prelude.{Option, Some, None, MatchOption}
-use Rattle.std.proofs.Common.{ℕ, zero, suc, ◌+◌, ◌-◌, ◌≤◌, ◌<◌, ◌≡◌, ◌⊎◌, inl, inr, refl, sym, ap, ◌∙◌, subst, arith}
+use Rattle.std.specs.Prelude.{Option, MatchOption}
+use Rattle.std.proofs.Common.{ℕ, zero, suc, ◌+◌, ◌-◌, ◌≤◌, ◌<◌, ◌≡◌, refl, sym, ap, ◌∙◌, subst, arith}
 use Rattle.like_children.proofs.Shared.{Tree, Trees, none, more, count, opened_from, nth_opened, opened_at, opened_beside, IsSumOrProduct, HasChildren, NoneOpensBetween, IsLastToOpen, removed, nth, inserted, plain, children_of, Forest, kids, IsHanded, Represents, root_tree, put, put-put, put-same}
-use Rattle.like_children.proofs.Before.{by_place}
 use Rattle.like_children.proofs.Many.{IsMany, many, many_put, many_same}
 
 -- ---- the last one that gives way
-
-none_to : (parts : Tree → Trees) (from n : ℕ) (ts : Trees) → NoneOpensBetween parts from n ts → parts (nth n ts) ≡ more (nth n ts) none → NoneOpensBetween parts from (n + 1) ts
-none_to parts from n ts h e k a b = by (by_place k n b)
-  where
-    by : (k < n) ⊎ (k ≡ n) → parts (nth k ts) ≡ more (nth k ts) none
-    by (inl m) = h k a m
-    by (inr q) = subst (λ (j : ℕ). parts (nth j ts) ≡ more (nth j ts) none) (sym q) e
 
 -- with one more child seen
 pub last_here : (parts : Tree → Trees) (n : ℕ) (ts : Trees) → parts (nth n ts) ≡ children_of (nth n ts) → IsLastToOpen parts n (n + 1) ts
@@ -20,8 +12,7 @@ last_here parts n ts e = record { before = omega arith; opens = e; last = λ k a
 
 pub last_still : (parts : Tree → Trees) (r : Option ℕ) (n : ℕ) (ts : Trees) → MatchOption r (NoneOpensBetween parts 0 n ts) (λ at. IsLastToOpen parts at n ts) → parts (nth n ts) ≡ more (nth n ts) none
     → MatchOption r (NoneOpensBetween parts 0 (n + 1) ts) (λ at. IsLastToOpen parts at (n + 1) ts)
-last_still parts None n ts h e = none_to parts 0 n ts h e
-last_still parts (Some at) n ts h e = record { before = omega (arith, h.before); opens = h.opens; last = none_to parts (suc at) n ts h.last e }
+last_still parts r n ts h e = grind arith
 
 -- ---- the children before those that were opened
 

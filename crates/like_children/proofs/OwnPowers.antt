@@ -1,14 +1,12 @@
 -- The powers of trees are parts of them, and a Number has none.
+use Rattle.std.proofs.Common.{arith}
 use Rattle.like_children.proofs.Shared.{Tree, num, symbol, undef, add, mult, power, root, neg, sub, div, Trees, none, more, AllPartsOf, IsPart, IsPartOf, itself, in_add, in_mult, in_base, in_exponent, in_root, in_neg, in_left, in_right, in_dividend, in_divisor, first, later, IsNumber, IsTerm, AreTerms}
 use Rattle.calc_room.specs.Powers.{IsPowerOf, HasPowersOf}
 
 -- ---- a Number has no power
 
 term_powers : (ts : Trees) (t : Tree) → IsTerm t → HasPowersOf ts t
-term_powers ts (num q) h = tt
-term_powers ts (root (num r)) h = (tt, tt)
-term_powers ts (mult (more (num q) (more (root (num r)) none))) h = (tt, (tt, ((tt, tt), tt)))
-term_powers ts t h = absurd h
+term_powers ts t h = grind arith
 
 terms_powers : (ts us : Trees) → AreTerms us → AllPartsOf (IsPowerOf ts) us
 terms_powers ts none h = tt

@@ -1,5 +1,5 @@
 -- Numbers among children that are taken out, one after another, and joined.
-use Rattle.std.specs.Prelude.{Result, Ok, Err, IfOk}
+use Rattle.std.specs.Prelude.{Result, IfOk}
 use Rattle.std.proofs.Common.{ℕ, zero, suc, ◌+◌, ◌<◌, ◌≤◌, ◌≡◌, [], ◌∷◌, eqb, true, false, refl, sym, ap, ◌∙◌, subst, arith}
 use Rattle.like_children.proofs.Shared.{is_number, value, Tree, Trees, none, more, append, count, size, sizes, AllParts, AllPartsOf, IsSumOrProduct, LeavesChildren, IsJoint, AreJoined, IsNextOf, numbers_in, others_in, IsNextNumber, NoNumberBetween, State, free_of, IsNumberOf, removed, Overflow, nth, plain, children_of, Forest, bytes_in, kids, tree_nth, without_nth, tree_of, IsHanded, Ends, Gives, KeepsFront, has_root, root_tree, without_root, put, Stands, forest, KeepsRefusals, NumberFault, behind_first, behind_later, behind_new, front_same, front_end, front_put, front_without, front_after_two, gives_as, given_apart, given_handed, given_other, given_rest, given_same, given_told, given_without, handed_by_put, last_tree, other_apart, eqb-sym, root-put, tree-put, tree-without, without-put, put-put, put-same}
 use Rattle.calc_algebra.specs.Surds.{Surd}
@@ -17,10 +17,7 @@ parts_taken P (suc n) (more t ts) l h = let k = parts_taken P n ts (omega arith)
 -- what a call on two Numbers answers
 pub joint_given : (both : Surd → Surd → Surd) (a b : Tree) (g : Forest) (s : State) (r : Result ℕ NumberFault) → IfOk r (λ h. Gives g (forest s) h (IsNumberOf (both (value a) (value b)))) → IfOk r (λ h. IsNoLarger (both (value a) (value b)) (value (tree_of h s)))
     → IfOk r (λ h. Gives g (forest s) h (IsJoint both a b))
-joint_given both a b g s (Ok h) k m =
-    let t = subst (λ (x : Forest). IsNoLarger (both (value a) (value b)) (value (plain x))) (last_tree k.ends) m in
-    record { tree = k.tree; ends = k.ends; once = k.once; whole = k.whole; told = record { number = k.told.number; worth = k.told.worth; no_larger = t } }
-joint_given both a b g s (Err e) k m = tt
+joint_given both a b g s r k m = grind (arith, last_tree)
 
 -- ---- the Numbers so far
 
@@ -73,12 +70,7 @@ pub record AreDone (both : Surd → Surd → Surd) (n : Tree) (ts us : Trees) (d
   pub joined : AreJoined both n (numbers_in ts) d
 
 pub all_done : (both : Surd → Surd → Surd) (n : Tree) (ts us : Trees) (d : Tree) → IsSoFar both n ts us d → NoNumberBetween 0 (count us) us → AreDone both n ts us d
-all_done both n ts us d s b =
-    let k = no_numbers us b in
-    record {
-      left = sym (no_numbers_others us k) ∙ s.others;
-      joined = subst (λ (ns : Trees). AreJoined both n ns d) (sym (s.is ∙ ap (append s.first) (no_numbers_none us k) ∙ append_none s.first)) s.joined;
-    }
+all_done both n ts us d s b = grind (arith, no_numbers, no_numbers_others, no_numbers_none, append_none)
 
 -- ---- the roots
 

@@ -1,22 +1,12 @@
 -- The digits of the text rules are those that std writes.
-use Rattle.std.proofs.Common.{◌≡◌, ◌∙◌, ℕ, zero, suc, ◌+◌, ◌-◌, ◌/◌, ◌%◌, ◌^◌, ◌<◌, ◌≤◌, List, [], ◌∷◌, length, refl, sym, ap, subst, inl, inr, arith}
+use Rattle.std.proofs.Common.{◌≡◌, ◌∙◌, ℕ, suc, ◌^◌, ◌<◌, ◌≤◌, [], length, ap, inl, inr, arith}
 use Rattle.line_text.proofs.Shared.{append-nil, cases_lt, digits_before}
 use Rattle.std.proofs.lemmas.Fmt.{PrependsLastDigit, decimal_from_prepends_wide, length-decimal-le_wide, length-decimal-le_succ}
 use Rattle.std.specs.Fmt.{decimal}
 use Rattle.calc_language.specs.Texts as texts
 
--- digits are put in front of those that are there, the last one first
-step : (k n m : ℕ) (acc : List ℕ) → n / 10 ≡ suc m → digits_before (suc k) n acc ≡ digits_before k (n / 10) ((48 + n % 10) ∷ acc)
-step k n m acc e = subst (λ (q : ℕ). elim q [ zero ↦ (48 + n) ∷ acc | suc j ↦ digits_before k (n / 10) ((48 + n % 10) ∷ acc) ] ≡ digits_before k (n / 10) ((48 + n % 10) ∷ acc)) (sym e) refl
-
-last : (k n : ℕ) (acc : List ℕ) → n / 10 ≡ 0 → digits_before (suc k) n acc ≡ (48 + n) ∷ acc
-last k n acc e = subst (λ (q : ℕ). elim q [ zero ↦ (48 + n) ∷ acc | suc j ↦ digits_before k (n / 10) ((48 + n % 10) ∷ acc) ] ≡ (48 + n) ∷ acc) (sym e) refl
-
 prepends : PrependsLastDigit digits_before
-prepends = record {
-  one = λ k n acc h. last k n acc (omega arith);
-  more = λ k n acc h. step k n (n / 10 - 1) acc (omega arith);
-}
+prepends = grind arith
 
 -- a number has at most as many digits as that, and one
 few : (n : ℕ) → n < 10 ^ 64 → length (decimal n) ≤ suc n

@@ -1,13 +1,11 @@
 -- The numbers in a pool fit, so a text is short.
-use Rattle.std.proofs.Common.{◌≡◌, ◌∙◌, ℕ, zero, suc, ◌-◌, ◌*◌, ◌≤◌, List, ◌∷◌, ◌++◌, length, nat_abs, true, sym, ap, subst, arith}
-use Rattle.line_text.proofs.Shared.{length-append, lt-ltb, Kind, Payload, rational, named, bare, IsPayload, text, IsWritable, Trees, none, more, AllParts, AllPartsOf, size, State, nth, grown, compound, plain, plains, IsExpression, Forest, empty, tree, flatten, node_of, nodes_in, holds, tree_at, kids_of, Stands, forest, bytes-flatten, nodes-flatten, one_at, size-plain, IsFitting, HasFittingNumbers}
-use Rattle.calc_terms.specs.Fits.{fits}
+use Rattle.std.proofs.Common.{◌≡◌, ◌∙◌, ℕ, zero, suc, ◌-◌, ◌*◌, ◌≤◌, List, ◌∷◌, ◌++◌, length, true, sym, subst, arith}
+use Rattle.line_text.proofs.Shared.{length-append, Kind, Payload, IsPayload, text, IsWritable, Trees, none, more, AllParts, AllPartsOf, size, State, nth, grown, compound, plain, plains, IsExpression, Forest, empty, tree, flatten, node_of, nodes_in, holds, tree_at, kids_of, Stands, forest, bytes-flatten, nodes-flatten, one_at, size-plain, IsFitting, HasFittingNumbers}
 use Rattle.node_pool.specs.Nodes.{AreNodes}
 use Rattle.node_pool.proofs.Sizes.{AreNodes-left, AreNodes-right, length_le_used}
 use Rattle.tree_handles.proofs.Parts.{live_at}
 use Rattle.line_text.proofs.Leaves.{numerator_is}
 use Rattle.line_text.proofs.Lengths.{short}
-use Rattle.calc_terms.specs.declared.kind.Kind.TheVariants as kind
 
 nth_fitting : (n : ℕ) (ts : Trees) → AllPartsOf IsFitting ts → AllParts IsFitting (nth n ts)
 nth_fitting n none h = tt
@@ -15,19 +13,10 @@ nth_fitting zero (more t ts) h = h.0
 nth_fitting (suc n) (more t ts) h = nth_fitting n ts h.1
 
 compound_fitting : (k : Kind) (ts : Trees) → AllPartsOf IsFitting ts → AllParts IsFitting (compound k ts)
-compound_fitting kind.Add ts h = (tt, h)
-compound_fitting kind.Mult ts h = (tt, h)
-compound_fitting kind.Pow ts h = (tt, nth_fitting 0 ts h, nth_fitting 1 ts h)
-compound_fitting kind.Root ts h = (tt, nth_fitting 0 ts h)
-compound_fitting kind.Neg ts h = (tt, nth_fitting 0 ts h)
-compound_fitting kind.Sub ts h = (tt, nth_fitting 0 ts h, nth_fitting 1 ts h)
-compound_fitting kind.Div ts h = (tt, nth_fitting 0 ts h, nth_fitting 1 ts h)
-compound_fitting k ts h = tt
+compound_fitting k ts h = grind (arith, nth_fitting)
 
 grown_fitting : (x : Payload) (ts : Trees) → IsPayload x → AllPartsOf IsFitting ts → AllParts IsFitting (grown x ts)
-grown_fitting (rational r) ts p h = ap fits (numerator_is r p) ∙ lt-ltb (nat_abs r.num) _ p.num_fits
-grown_fitting (named x) ts p h = tt
-grown_fitting (bare k) ts p h = compound_fitting k ts h
+grown_fitting x ts p h = grind (arith, numerator_is, compound_fitting)
 
 all_fitting : (f : Forest) → AreNodes (flatten f) → AllPartsOf IsFitting (plains f)
 all_fitting empty h = tt

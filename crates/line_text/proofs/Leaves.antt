@@ -1,7 +1,7 @@
 -- What is written of a node without children.
 use Rattle.std.proofs.Common.{◌≡◌, ◌∙◌, ℕ, ◌^◌, ◌<◌, ℤ, List, nat_abs, sym, ap, subst, arith, FitsSigned}
 use Rattle.line_text.proofs.Shared.{Fraction, lowest, Holds, lowest_parts, Ratio, IsRat, decimal, Tree, num, leaf_text}
-use Rattle.std.proofs.lemmas.Int.{ints, to_z-of_z}
+use Rattle.std.proofs.lemmas.Int.{ints}
 use Rattle.std.specs.Int.{w128, cast_signed, cast_unsigned}
 use Rattle.line_text.proofs.Decimals.{decimal_is}
 use Rattle.std.specs.Fmt as fmt
@@ -11,9 +11,7 @@ signed_fits z h = omega (arith, ints)
 
 -- the digits that std writes of a magnitude
 pub digits_are : (bytes : List ℕ) (z v : ℤ) (n : ℕ) → nat_abs v < 2 ^ 127 → z ≡ v → n ≡ nat_abs (cast_signed w128 (cast_unsigned w128 z)) → bytes ≡ fmt.decimal n → bytes ≡ decimal (nat_abs v)
-digits_are bytes z v n small e m t =
-    let back : n ≡ nat_abs v = m ∙ ap (λ (x : ℤ). nat_abs (cast_signed w128 (cast_unsigned w128 x))) e ∙ ap nat_abs (to_z-of_z w128 v (signed_fits v small)) in
-    t ∙ ap fmt.decimal back ∙ sym (decimal_is (nat_abs v) (omega arith))
+digits_are bytes z v n h e m t = grind (arith, signed_fits, decimal_is)
 
 -- a ratio in lowest terms keeps its numerator
 pub numerator_is : (r : Ratio) → IsRat r → (lowest r.num r.den).num ≡ r.num

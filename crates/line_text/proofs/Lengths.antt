@@ -18,8 +18,7 @@ placed p t bytes = enclosed (admits p t) bytes
 
 -- a number by its form
 pub number_text : (b : Bool) (q : Fraction) → is_short q ≡ b → nat_abs q.num < 2 ^ 127 → length (decimal (nat_abs q.num)) + 4 ≤ 2 * size_by_form kind.Num b
-number_text true q e f = omega (arith, decimal_shorter (nat_abs q.num) (short_magnitude q e))
-number_text false q e f = omega (arith, decimal_short (nat_abs q.num) f)
+number_text b q e f = grind (arith, decimal_shorter, short_magnitude, decimal_short)
 
 mutual
   pub short : (t : Tree) → IsWritable t → HasFittingNumbers t → length (text t) + 4 ≤ 2 * size t

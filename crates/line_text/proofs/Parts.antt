@@ -1,6 +1,6 @@
 -- The text of a tree is what is written of its root, the texts of its children, and what closes it.
 use Rattle.std.proofs.Common.{◌≡◌, ◌∙◌, ℕ, ◌+◌, ◌≤◌, List, [], ◌++◌, Bool, true, false, nat_le, codes, cond, length, refl, sym, ap, arith, append_assoc, append-nil}
-use Rattle.line_text.proofs.Shared.{length-append, Kind, root_sign, later_of_sum, left_of_quotient, later_of_product, base, exponent, level, admits, admits_signed, at_place, in_parentheses, text, text_of_sum, text_of_terms, text_of_product, text_of_factors, Tree, num, symbol, undef, add, mult, power, root, neg, sub, div, Trees, none, more, root_kind, is_root, is_sub, is_div, children_of, WholeText, FirstOfSum, LaterOfSum, LeftOfDifference, RightOfDifference, UnderSign, FirstOfProduct, LaterOfProduct, LeftOfQuotient, RightOfQuotient, Base, Exponent, UnderRoot, Pending, rule_of, sign_before, first_place, level_of, is_sub_kind, is_div_kind, is_root_kind, kind_behind_opposites, deciding_kind, admits_kind, text_there, texts_from, owed_text, leaf_text, opening, pending_below}
+use Rattle.line_text.proofs.Shared.{Kind, root_sign, later_of_sum, left_of_quotient, later_of_product, base, exponent, level, admits, admits_signed, at_place, text, text_of_sum, text_of_terms, text_of_product, text_of_factors, Tree, num, symbol, undef, add, mult, power, root, neg, sub, div, Trees, none, more, root_kind, is_root, is_sub, is_div, children_of, FirstOfSum, LaterOfSum, FirstOfProduct, LaterOfProduct, Pending, rule_of, sign_before, first_place, level_of, is_sub_kind, is_div_kind, is_root_kind, kind_behind_opposites, deciding_kind, admits_kind, text_there, texts_from, owed_text, leaf_text, opening, pending_below}
 use Rattle.line_text.specs.declared.place.Place.{Place}
 use Rattle.calc_terms.specs.declared.kind.Kind.TheVariants as kind
 
@@ -51,40 +51,13 @@ text_is (div a b) = two_are (at_place left_of_quotient a (text a)) (codes "/") (
 -- ---- parentheses
 
 level_is : (t : Tree) → level t ≡ level_of (root_kind t)
-level_is (num q) = refl
-level_is (symbol x) = refl
-level_is undef = refl
-level_is (add ts) = refl
-level_is (mult ts) = refl
-level_is (power b e) = refl
-level_is (root a) = refl
-level_is (neg a) = refl
-level_is (sub a b) = refl
-level_is (div a b) = refl
+level_is t = grind arith
 
 is_sub_is : (t : Tree) → is_sub t ≡ is_sub_kind (root_kind t)
-is_sub_is (num q) = refl
-is_sub_is (symbol x) = refl
-is_sub_is undef = refl
-is_sub_is (add ts) = refl
-is_sub_is (mult ts) = refl
-is_sub_is (power b e) = refl
-is_sub_is (root a) = refl
-is_sub_is (neg a) = refl
-is_sub_is (sub a b) = refl
-is_sub_is (div a b) = refl
+is_sub_is t = grind arith
 
 is_div_is : (t : Tree) → is_div t ≡ is_div_kind (root_kind t)
-is_div_is (num q) = refl
-is_div_is (symbol x) = refl
-is_div_is undef = refl
-is_div_is (add ts) = refl
-is_div_is (mult ts) = refl
-is_div_is (power b e) = refl
-is_div_is (root a) = refl
-is_div_is (neg a) = refl
-is_div_is (sub a b) = refl
-is_div_is (div a b) = refl
+is_div_is t = grind arith
 
 signed_is : (t : Tree) → admits_signed t ≡ nat_le 3 (level_of (kind_behind_opposites t))
 signed_is (neg a) = signed_is a
@@ -99,47 +72,10 @@ signed_is (sub a b) = refl
 signed_is (div a b) = refl
 
 pub admits_is : (p : Place) (t : Tree) → admits (rule_of p) t ≡ admits_kind p (deciding_kind p t)
-admits_is WholeText t = refl
-admits_is FirstOfSum t = rw (level_is t, is_sub_is t) refl
-admits_is LaterOfSum t = ap (nat_le 1) (level_is t)
-admits_is LeftOfDifference t = refl
-admits_is RightOfDifference t = ap (nat_le 1) (level_is t)
-admits_is UnderSign t = ap (nat_le 1) (level_is t)
-admits_is FirstOfProduct t = rw (level_is t, is_div_is t) refl
-admits_is LaterOfProduct t = signed_is t
-admits_is LeftOfQuotient t = ap (nat_le 2) (level_is t)
-admits_is RightOfQuotient t = signed_is t
-admits_is Base t = ap (nat_le 4) (level_is t)
-admits_is Exponent t = signed_is t
-admits_is UnderRoot t = refl
-
--- a root stands nowhere in parentheses
-root_admitted : (p : Place) (a : Tree) → admits (rule_of p) (root a) ≡ true
-root_admitted WholeText a = refl
-root_admitted FirstOfSum a = refl
-root_admitted LaterOfSum a = refl
-root_admitted LeftOfDifference a = refl
-root_admitted RightOfDifference a = refl
-root_admitted UnderSign a = refl
-root_admitted FirstOfProduct a = refl
-root_admitted LaterOfProduct a = refl
-root_admitted LeftOfQuotient a = refl
-root_admitted RightOfQuotient a = refl
-root_admitted Base a = refl
-root_admitted Exponent a = refl
-root_admitted UnderRoot a = refl
+admits_is p t = grind (arith, level_is, is_sub_is, is_div_is, signed_is)
 
 not_root : (p : Place) (t : Tree) → admits (rule_of p) t ≡ false → is_root t ≡ false
-not_root p (num q) h = refl
-not_root p (symbol x) h = refl
-not_root p undef h = refl
-not_root p (add ts) h = refl
-not_root p (mult ts) h = refl
-not_root p (power b e) h = refl
-not_root p (root a) h = absurd (cc (root_admitted p a))
-not_root p (neg a) h = refl
-not_root p (sub a b) h = refl
-not_root p (div a b) h = refl
+not_root p t h = grind arith
 
 -- ---- a tree in its place
 
@@ -149,34 +85,15 @@ spread a b c d e = simp append_assoc
 -- where it stands bare
 bare_text : (p : Place) (t : Tree) (r : Pending) (old : List ℕ) → admits (rule_of p) t ≡ true → r.place ≡ first_place (root_kind t) → r.closes ≡ is_root t
     → ((old ++ (sign_before p ++ [])) ++ leaf_text t) ++ owed_text r (children_of t) ≡ old ++ text_there p t
-bare_text p t r old b e c =
-    let inner : leaf_text t ++ owed_text r (children_of t) ≡ text t = rw (e, c) (sym (text_is t)) in
-    let there : text_there p t ≡ sign_before p ++ text t = ap (λ (x : Bool). sign_before p ++ cond x (text t) (in_parentheses (text t))) b in
-    spread old (sign_before p) [] (leaf_text t) (owed_text r (children_of t)) ∙ ap (λ (x : List ℕ). old ++ (sign_before p ++ x)) inner ∙ ap (λ (x : List ℕ). old ++ x) (sym there)
+bare_text p t r old b e c = grind (arith, text_is, spread)
 
 -- where it stands in parentheses
 enclosed_text : (p : Place) (t : Tree) (r : Pending) (old : List ℕ) → admits (rule_of p) t ≡ false → r.place ≡ first_place (root_kind t) → r.closes ≡ true
     → ((old ++ (sign_before p ++ codes "(")) ++ leaf_text t) ++ owed_text r (children_of t) ≡ old ++ text_there p t
-enclosed_text p t r old b e c =
-    let below = texts_from (first_place (root_kind t)) (children_of t) in
-    let last : closing (is_root t) ≡ [] = ap closing (not_root p t b) in
-    let whole : text t ≡ leaf_text t ++ below = text_is t ∙ ap (λ (x : List ℕ). leaf_text t ++ (below ++ x)) last ∙ ap (λ (x : List ℕ). leaf_text t ++ x) (append-nil below) in
-    let inner : leaf_text t ++ owed_text r (children_of t) ≡ text t ++ codes ")" =
-    rw (e, c) (sym (append_assoc (leaf_text t) below (codes ")")) ∙ ap (λ (x : List ℕ). x ++ codes ")") (sym whole)) in
-    let there : text_there p t ≡ sign_before p ++ (codes "(" ++ (text t ++ codes ")")) = ap (λ (x : Bool). sign_before p ++ cond x (text t) (in_parentheses (text t))) b in
-    spread old (sign_before p) (codes "(") (leaf_text t) (owed_text r (children_of t)) ∙ ap (λ (x : List ℕ). old ++ (sign_before p ++ (codes "(" ++ x))) inner ∙ ap (λ (x : List ℕ). old ++ x) (sym there)
+enclosed_text p t r old b e c = grind (arith, not_root, text_is, append_assoc, spread)
 
 is_root_is : (t : Tree) → is_root t ≡ is_root_kind (root_kind t)
-is_root_is (num q) = refl
-is_root_is (symbol x) = refl
-is_root_is undef = refl
-is_root_is (add ts) = refl
-is_root_is (mult ts) = refl
-is_root_is (power b e) = refl
-is_root_is (root a) = refl
-is_root_is (neg a) = refl
-is_root_is (sub a b) = refl
-is_root_is (div a b) = refl
+is_root_is t = grind arith
 
 node_text : (p : Place) (t : Tree) (n : ℕ) (old : List ℕ) → let b = admits (rule_of p) t in ((old ++ opening p b) ++ leaf_text t) ++ owed_text (pending_below (root_kind t) n b) (children_of t) ≡ old ++ text_there p t
 node_text p t n old = by (admits (rule_of p) t) refl
@@ -192,21 +109,10 @@ node_written p t k n b old e h = rw (e ∙ sym (admits_is p t), h) (node_text p 
 
 -- which has room where the whole has
 pub node_room : (p : Place) (t : Tree) (b : Bool) → b ≡ admits_kind p (deciding_kind p t) → length (opening p b) + length (leaf_text t) ≤ length (text_there p t)
-node_room p t b e =
-    let r = pending_below (root_kind t) 0 b in
-    omega (arith, ap length (node_written p t (root_kind t) 0 b [] e refl), length-append (opening p b ++ leaf_text t) (owed_text r (children_of t)), length-append (opening p b) (leaf_text t))
+node_room p t b e = grind arith
 
 -- ---- opposites
 
 -- where it is not of an opposite, it is the root's
 pub not_opposite : (t : Tree) → (root_kind t ≡ kind.Neg → ⊥) → kind_behind_opposites t ≡ root_kind t
-not_opposite (num q) h = refl
-not_opposite (symbol x) h = refl
-not_opposite undef h = refl
-not_opposite (add ts) h = refl
-not_opposite (mult ts) h = refl
-not_opposite (power b e) h = refl
-not_opposite (root a) h = refl
-not_opposite (neg a) h = absurd (h refl)
-not_opposite (sub a b) h = refl
-not_opposite (div a b) h = refl
+not_opposite t h = grind arith

@@ -1,6 +1,6 @@
 -- What a node shows of its tree.
 use Rattle.std.proofs.Common.{◌≡◌, ◌∙◌, ℕ, List, [], ◌∷◌, nat_abs, true, refl, sym, ap, subst, arith}
-use Rattle.line_text.proofs.Shared.{eqb-true, Kind, Payload, rational, named, bare, kind_of_payload, IsPayload, Ratio, decimal, neg, root_kind, State, Visit, plain, plains, grown, takes, AllExpressions, IsExpression, Label, Forest, empty, tree, arity, root_payload, holds, tree_at, payload_in, Stands, forest, visits_of, visit_at, join-empty, root_kind-plain, seen, plain_number, expression_kind, visit_here, visits_left, no_visit, leaf_text, kind_behind_opposites}
+use Rattle.line_text.proofs.Shared.{Kind, Payload, rational, bare, kind_of_payload, IsPayload, Ratio, decimal, neg, root_kind, State, Visit, plain, AllExpressions, IsExpression, Label, Forest, empty, tree, arity, root_payload, holds, tree_at, payload_in, Stands, forest, visits_of, visit_at, join-empty, root_kind-plain, seen, plain_number, expression_kind, visit_here, visits_left, no_visit, leaf_text, kind_behind_opposites}
 use Rattle.line_text.proofs.Leaves.{number_text}
 use Rattle.line_text.proofs.Parts.{not_opposite}
 use Rattle.calc_terms.specs.declared.kind.Kind.TheVariants as kind
@@ -19,9 +19,7 @@ number_here {r = r} i s st h e =
 -- ---- opposites
 
 neg_payload : (x : Payload) → kind_of_payload x ≡ kind.Neg → x ≡ bare kind.Neg
-neg_payload (rational r) h = absurd cc
-neg_payload (named y) h = absurd cc
-neg_payload (bare j) h = ap bare h
+neg_payload x h = grind arith
 
 -- a tree whose kind behind opposites is wanted, and whose nodes are left
 pub record IsBehind (wanted : Kind) (left : List Visit) : Type 0 where
@@ -33,8 +31,7 @@ pub record IsBehind (wanted : Kind) (left : List Visit) : Type 0 where
 
 -- behind an opposite stands what it is of
 opposite_of : (l : Label) (k : Forest) → l.payload ≡ bare kind.Neg → AllExpressions (tree l k empty) → (arity k ≡ 1) × (plain (tree l k empty) ≡ neg (plain k))
-opposite_of l k e w =
-    (eqb-true (arity k) 1 (ap (λ (y : Payload). takes y (arity k)) (sym e) ∙ w.0), ap (λ (y : Payload). grown y (plains k)) e)
+opposite_of l k e w = grind arith
 
 pub behind_opposite : {wanted : Kind} {v : Visit} {xs left : List Visit} → IsBehind wanted xs → xs ≡ v ∷ left → v.kind ≡ kind.Neg → IsBehind wanted left
 behind_opposite {wanted = wanted} {v = v} {left = left} b e n = by b.rest (sym b.left-are ∙ e) b.one b.whole b.same
@@ -54,13 +51,7 @@ behind_opposite {wanted = wanted} {v = v} {left = left} b e n = by b.rest (sym b
 
 -- where the root is no opposite, its kind is wanted
 pub no_opposite : {wanted : Kind} {v : Visit} {xs left : List Visit} → IsBehind wanted xs → xs ≡ v ∷ left → (v.kind ≡ kind.Neg → ⊥) → v.kind ≡ wanted
-no_opposite {wanted = wanted} {v = v} {left = left} b e n = by b.rest (sym b.left-are ∙ e) b.one b.whole b.same
-  where
-    by : (f : Forest) → visits_of f ≡ v ∷ left → arity f ≡ 1 → AllExpressions f → kind_behind_opposites (plain f) ≡ wanted → v.kind ≡ wanted
-    by empty q one w s = absurd cc
-    by (tree l k r) q one w s =
-        let is : v.kind ≡ root_kind (plain (tree l k r)) = ap (λ (y : Visit). y.kind) (visit_here l k r q) ∙ sym (root_kind-plain (tree l k r) one w) in
-        is ∙ sym (not_opposite (plain (tree l k r)) (λ h. n (is ∙ h))) ∙ s
+no_opposite b e n = grind (arith, visit_here, root_kind-plain, not_opposite)
 
 -- a node is left
 pub some_behind : {wanted : Kind} {xs : List Visit} → IsBehind wanted xs → xs ≡ [] → ⊥

@@ -1,6 +1,6 @@
 -- A walk over the nodes of a tree that knows what is still to be written.
 use Rattle.std.proofs.Common.{◌≡◌, ◌∙◌, ℕ, suc, ◌+◌, ◌-◌, ◌<◌, ◌≤◌, List, [], ◌∷◌, ◌++◌, length, Bool, true, false, codes, refl, sym, ap, subst, arith, append_assoc, append-nil}
-use Rattle.line_text.proofs.Shared.{length-append, IsWritable, AreWritable, text, Tree, num, symbol, undef, add, mult, power, root, neg, sub, div, Trees, none, more, Visit, plain, plains, grown, children_of, AllExpressions, IsExpression, Label, Forest, empty, tree, join, arity, node_of, nodes_in, tree_at, visit_of, visits_of, AreFound, join-empty, alone, grown_whole, children_of-plain, IsSeen, found-join, visit_here, visits_left, visits_length, Pending, WholeText, text_there, texts_from, owed_text, next_place}
+use Rattle.line_text.proofs.Shared.{length-append, IsWritable, AreWritable, text, Tree, Trees, none, more, Visit, plain, plains, grown, children_of, AllExpressions, IsExpression, Label, Forest, empty, tree, join, arity, node_of, nodes_in, tree_at, visit_of, visits_of, AreFound, join-empty, alone, grown_whole, children_of-plain, IsSeen, found-join, visit_here, visits_left, visits_length, Pending, WholeText, text_there, texts_from, owed_text, next_place}
 use Rattle.tree_handles.proofs.Visiting.{seen}
 use Rattle.line_text.proofs.Parts.{closing}
 
@@ -127,16 +127,7 @@ closed {base = base} {total = total} {left = left} {r = r} {pending = pending} {
 
 -- the children of a tree that can be written can
 writable_children : (t : Tree) → IsWritable t → AreWritable (children_of t)
-writable_children (num q) w = tt
-writable_children (symbol x) w = tt
-writable_children undef w = tt
-writable_children (add ts) w = w
-writable_children (mult ts) w = w
-writable_children (power b e) w = (w.0, (w.1, tt))
-writable_children (root a) w = (w, tt)
-writable_children (neg a) w = (w, tt)
-writable_children (sub a b) w = (w.0, (w.1, tt))
-writable_children (div a b) w = (w.0, (w.1, tt))
+writable_children t w = grind arith
 
 -- where one is left, a node is left
 pub some_left : {base : Forest} {total : ℕ} {left : List Visit} {r : Pending} {pending : List Pending} {bytes whole : List ℕ} → IsTaken base total left r pending bytes whole → 0 < r.left → 0 < length left

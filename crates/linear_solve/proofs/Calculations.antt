@@ -1,23 +1,18 @@
 -- Calculations of which an operation may not fit.
-use Rattle.std.proofs.Common.{◌≡◌, ◌<◌, ◌≤◌, ℕ, zero, suc, ◌+◌, List, [], ◌∷◌, ◌++◌, length, take, drop, get_or, map, Bool, true, false, if◌then◌else◌, Result, Ok, Err, refl, sym, ap, ◌∙◌, arith}
+use Rattle.std.proofs.Common.{◌≡◌, ◌<◌, ◌≤◌, ℕ, zero, suc, ◌+◌, List, [], ◌∷◌, ◌++◌, length, take, drop, get_or, map, Bool, false, if◌then◌else◌, Result, Ok, Err, refl, sym, ap, ◌∙◌, arith}
 use Rattle.std.specs.Prelude.{All}
 use Rattle.linear_solve.proofs.Shared.{take_more, take_all, drop_more, take-append-drop, All-nil, All-cons, All-head, All-tail, All-same, Operation, operation_fits, result_of, Fraction, Misfit, and_then, fitted, each}
 
 -- ---- one after another
 
 pub both : {A B : Type 0} (r : Result A Misfit) (f : A → Result B Misfit) (y : B) → and_then r f ≡ Ok y → (x : A) × (r ≡ Ok x) × (f x ≡ Ok y)
-both (Ok x) f y e = (x, refl, e)
-both (Err m) f y e = cc
+both r f y e = grind arith
 
 pub then_ok : {A B : Type 0} (r : Result A Misfit) (f : A → Result B Misfit) (x : A) → r ≡ Ok x → and_then r f ≡ f x
 then_ok r f x e = ap (λ s. and_then s f) e
 
 pub then_err : {A B : Type 0} (r : Result A Misfit) (f : A → Result B Misfit) (m : Misfit) → r ≡ Err m → and_then r f ≡ Err m
 then_err r f m e = ap (λ s. and_then s f) e
-
-pub then_assoc : {A B C : Type 0} (r : Result A Misfit) (f : A → Result B Misfit) (g : B → Result C Misfit) → and_then (and_then r f) g ≡ and_then r (λ x. and_then (f x) g)
-then_assoc (Ok x) f g = refl
-then_assoc (Err m) f g = refl
 
 pub ok_is : {A : Type 0} {E : Type 0} (x y : A) → ◌≡◌ {A = Result A E} (Ok x) (Ok y) → x ≡ y
 ok_is x y e = cc
@@ -28,30 +23,19 @@ abbrev told : Operation → Fraction → Fraction → Bool → Result Fraction M
 told op a b fits = if fits then Ok (result_of op a b) else Err (record { op = op; a = a; b = b })
 
 pub fitted_ok : (op : Operation) (a b r : Fraction) → r ≡ result_of op a b → ¬ (operation_fits op a b ≡ false) → fitted op a b ≡ Ok r
-fitted_ok op a b r e h = by (operation_fits op a b) refl
-  where
-    by : (fits : Bool) → operation_fits op a b ≡ fits → told op a b fits ≡ Ok r
-    by true f = ap Ok (sym e)
-    by false f = absurd (h f)
+fitted_ok op a b r e h = grind arith
 
 pub fitted_err : (op : Operation) (a b : Fraction) → operation_fits op a b ≡ false → fitted op a b ≡ Err (record { op = op; a = a; b = b })
 fitted_err op a b h = ap (told op a b) h
 
 pub fitted_is : (op : Operation) (a b r : Fraction) → fitted op a b ≡ Ok r → r ≡ result_of op a b
-fitted_is op a b r e = by (operation_fits op a b) e
-  where
-    by : (fits : Bool) → told op a b fits ≡ Ok r → r ≡ result_of op a b
-    by true f = sym (ok_is _ _ f)
-    by false f = cc
+fitted_is op a b r e = grind arith
 
 -- ---- each of a list
 
 module _ {A B : Type 0} (f : A → Result B Misfit) where
   pub each_cons : (x : A) (xs : List A) (zs : List B) → each f (x ∷ xs) ≡ Ok zs → (y : B) × (ys : List B) × (f x ≡ Ok y) × (each f xs ≡ Ok ys) × (zs ≡ y ∷ ys)
-  each_cons x xs zs e =
-      let (y, p, q) = both (f x) (λ y. and_then (each f xs) (λ ys. Ok (y ∷ ys))) zs e in
-      let (ys, p', q') = both (each f xs) (λ ys. Ok (y ∷ ys)) zs q in
-      (y, ys, p, p', sym (ok_is _ _ q'))
+  each_cons x xs zs e = grind arith
 
   pub each_push : (xs : List A) (ys : List B) (x : A) (y : B) → each f xs ≡ Ok ys → f x ≡ Ok y → each f (xs ++ x ∷ []) ≡ Ok (ys ++ y ∷ [])
   each_push [] ys x y e h =

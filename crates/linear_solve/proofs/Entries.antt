@@ -1,11 +1,11 @@
 -- The entries of rows, and loops over them.
-use Rattle.std.proofs.Common.{◌≡◌, ◌≢◌, ◌<◌, ◌≤◌, ◌↔◌, ℕ, pos, ◌+◌, min, List, [], ◌∷◌, ◌++◌, length, take, get_or, map, true, false, Result, Ok, Err, IfOk, IfErr, IsErr, refl, sym, ap, ◌∙◌, arith}
+use Rattle.std.proofs.Common.{◌≡◌, ◌≢◌, ◌<◌, ◌≤◌, ◌↔◌, ℕ, pos, ◌+◌, min, List, [], ◌∷◌, ◌++◌, length, take, get_or, map, false, Result, Ok, Err, IfOk, IfErr, IsErr, sym, ap, ◌∙◌, arith}
 use Rattle.std.specs.Prelude.{zip}
-use Rattle.linear_solve.proofs.Shared.{length_push, map_more, take_all, length-zip, get_or-zip, add_op, mul_op, Fraction, lowest, plus, times, is_zero_fraction, zero_fraction, one_fraction, int_is_zero, ratio_parts, ratio_of, value_of, Overflow, Misfit, each, sum_of, product_of, Row, entry, misfit_of}
+use Rattle.linear_solve.proofs.Shared.{length_push, map_more, take_all, length-zip, get_or-zip, Fraction, lowest, plus, times, is_zero_fraction, zero_fraction, one_fraction, ratio_parts, ratio_of, value_of, Overflow, Misfit, each, sum_of, product_of, Row, entry, misfit_of}
 use Rattle.calc_terms.specs.declared.rat.Rat.{Rat}
 use Rattle.calc_terms.specs.Ratio.{Ratio, whole}
 use Rattle.rational128.specs.Refusals.{DoesNotFit}
-use Rattle.linear_solve.proofs.Calculations.{each_all, each_more, each_stops, fitted_err, fitted_ok}
+use Rattle.linear_solve.proofs.Calculations.{each_all, each_more, each_stops}
 use Rattle.rational128.specs.declared.overflow.Op.TheVariants as op
 
 -- ---- rationals
@@ -23,16 +23,11 @@ abbrev pub rat_told : Result Rat Overflow → Result Fraction Misfit
 rat_told (Ok r) = Ok (value_of r)
 rat_told (Err o) = Err (misfit_of o)
 
-no_error : {A : Type 0} → false ≡ true → A
-no_error e = cc
-
 pub add_told : (a b : Rat) (r : Result Rat Overflow) → IfOk r (λ x. value_of x ≡ plus (value_of a) (value_of b)) → (IsErr r ↔ DoesNotFit op.Add (value_of a) (value_of b)) → IfErr r (λ e. e ≡ record { op = op.Add; a = a; b = b }) → rat_told r ≡ sum_of (value_of a) (value_of b)
-add_told a b (Ok x) s h n = sym (fitted_ok add_op (value_of a) (value_of b) (value_of x) s (λ f. no_error (h.1 f)))
-add_told a b (Err o) s h n = ap (λ (o : Overflow). Err (misfit_of o)) n ∙ sym (fitted_err add_op (value_of a) (value_of b) (h.0 refl))
+add_told a b r s h n = grind arith
 
 pub mul_told : (a b : Rat) (r : Result Rat Overflow) → IfOk r (λ x. value_of x ≡ times (value_of a) (value_of b)) → (IsErr r ↔ DoesNotFit op.Mul (value_of a) (value_of b)) → IfErr r (λ e. e ≡ record { op = op.Mul; a = a; b = b }) → rat_told r ≡ product_of (value_of a) (value_of b)
-mul_told a b (Ok x) s h n = sym (fitted_ok mul_op (value_of a) (value_of b) (value_of x) s (λ f. no_error (h.1 f)))
-mul_told a b (Err o) s h n = ap (λ (o : Overflow). Err (misfit_of o)) n ∙ sym (fitted_err mul_op (value_of a) (value_of b) (h.0 refl))
+mul_told a b r s h n = grind arith
 
 -- ---- loops over one row
 
@@ -65,10 +60,7 @@ pub longer : (new old : Row) (x : Fraction) (n : ℕ) → new ≡ old ++ x ∷ [
 longer new old x n e l = ap length e ∙ length_push old x ∙ ap (λ m. m + 1) l
 
 pub nonzero_numerator : (r : Rat) → is_zero_fraction (value_of r) ≡ false → (ratio_of r).num ≢ pos 0
-nonzero_numerator r h z = clash (sym h ∙ ap int_is_zero ((ratio_parts r).num ∙ z))
-  where
-    clash : false ≡ true → ⊥
-    clash e = cc
+nonzero_numerator r h z = grind (arith, ratio_parts)
 
 -- a loop that makes an entry for each
 pub mapped_more : {X : Type 0} (f : X → Fraction) (xs : List X) (i : ℕ) (d : X) (new old : Row) (x : Fraction) → i < length xs → new ≡ old ++ x ∷ [] → old ≡ map f (take i xs) → x ≡ f (get_or xs i d) → new ≡ map f (take (i + 1) xs)

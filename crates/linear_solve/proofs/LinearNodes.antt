@@ -1,7 +1,7 @@
 -- A node is linear by its children.
-use Rattle.std.proofs.Common.{◌≡◌, ◌<◌, ◌≤◌, ℕ, ◌+◌, Bool, true, false, List, [], ◌∷◌, drop, Option, Some, None, refl, sym, ap, ◌∙◌, subst, arith, zero-add}
+use Rattle.std.proofs.Common.{◌≡◌, ◌<◌, ◌≤◌, ℕ, ◌+◌, Bool, true, false, List, [], ◌∷◌, drop, Option, Some, None, refl, sym, ap, ◌∙◌, arith}
 use Rattle.std.specs.Prelude.{◌&&◌, ◌||◌, if◌then◌else◌, nat_le, option_and_then}
-use Rattle.linear_solve.proofs.Shared.{lt-leb, drop_more, drop_all, Kind, Tree, num, symbol, undef, add, mult, power, root, neg, sub, div, Trees, none, more, count, root_kind, are_linear, count_named, has_name, have_name, is_divisor, is_linear, is_nonzero, joined_name, name_where_linear, root_name, nth, children_of}
+use Rattle.linear_solve.proofs.Shared.{lt-leb, drop_more, drop_all, Kind, Tree, undef, Trees, none, more, count, root_kind, are_linear, count_named, has_name, have_name, is_divisor, is_linear, joined_name, name_where_linear, root_name, nth, children_of}
 use Rattle.linear_solve.proofs.TreeLists.{get_or-listed, length-listed, listed}
 use Rattle.calc_terms.specs.declared.kind.Kind.TheVariants as kind
 
@@ -15,8 +15,7 @@ abbrev answer : Bool → Bool → Option Bool
 answer linear named = if linear then Some named else None
 
 or_assoc : (a b c : Bool) → ((a || b) || c) ≡ (a || (b || c))
-or_assoc true b c = refl
-or_assoc false b c = refl
+or_assoc a b c = grind arith
 
 -- one that is no product
 plain_asked : (k : Kind) → ((b c : Bool) → joined_name k b c ≡ Some (b || c)) → (ts : Trees) (b : Bool) → asked k b (listed ts) ≡ answer (are_linear ts) (b || have_name ts)
@@ -62,21 +61,14 @@ product_asked (more t ts) b = by (is_linear t) b (has_name t) (product_asked ts 
         same : 0 + count_named ts ≡ 0 + (0 + count_named ts)
         same = omega arith
 
-nonzero_divisor : (c : Tree) → is_nonzero c ≡ true → (is_linear c ≡ true) × (has_name c ≡ false)
-nonzero_divisor (num q) h = (refl, refl)
-nonzero_divisor c h = cc
-
 pub divisor_linear : (c : Tree) → is_divisor c ≡ true → (is_linear c ≡ true) × (has_name c ≡ false)
-divisor_linear (neg a) h = nonzero_divisor a h
-divisor_linear c h = nonzero_divisor c h
+divisor_linear c h = grind arith
 
 and_true : (a : Bool) → (a && true) ≡ a
-and_true true = refl
-and_true false = refl
+and_true a = grind arith
 
 or_false : (a : Bool) → (a || false) ≡ a
-or_false true = refl
-or_false false = refl
+or_false a = grind arith
 
 some_false : (b : Bool) → Some false ≡ Some b → false ≡ b
 some_false b e = cc
@@ -85,26 +77,11 @@ two_asked : (k : Kind) → ((b c : Bool) → joined_name k b c ≡ Some (b || c)
 two_asked k h a c = plain_asked k h (more a (more c none)) false ∙ (λ i. answer (is_linear a && and_true (is_linear c) i) (has_name a || or_false (has_name c) i))
 
 by_divisor : (d b : Bool) → (if d then Some false else None) ≡ Some b → (d ≡ true) × (false ≡ b)
-by_divisor true b e = (refl, some_false b e)
-by_divisor false b e = cc
+by_divisor d b e = grind arith
 
 -- what the root and the children say of the tree
 pub asked_all : (t : Tree) (b : Bool) → root_name t ≡ Some b → asked (root_kind t) b (listed (children_of t)) ≡ name_where_linear t
-asked_all (num q) b e = sym e
-asked_all (symbol x) b e = sym e
-asked_all undef b e = cc
-asked_all (add ts) b e = subst (λ b. asked kind.Add b (listed ts) ≡ name_where_linear (add ts)) (some_false b e) (plain_asked kind.Add (λ b c. refl) ts false)
-asked_all (mult ts) b e = subst (λ b. asked kind.Mult b (listed ts) ≡ name_where_linear (mult ts)) (some_false b e) (product_asked ts false ∙ ap (λ n. answer (are_linear ts && nat_le n 1) (have_name ts)) (zero-add (count_named ts)))
-asked_all (power x y) b e = cc
-asked_all (root a) b e = cc
-asked_all (neg a) b e = subst (λ b. asked kind.Neg b (a ∷ []) ≡ name_where_linear (neg a)) (some_false b e)
-    (plain_asked kind.Neg (λ b c. refl) (more a none) false ∙ (λ i. answer (and_true (is_linear a) i) (or_false (has_name a) i)))
-asked_all (sub x y) b e = subst (λ b. asked kind.Sub b (x ∷ y ∷ []) ≡ name_where_linear (sub x y)) (some_false b e) (two_asked kind.Sub (λ b c. refl) x y)
-asked_all (div a c) b e =
-    let d = by_divisor (is_divisor c) b e in
-    let n = divisor_linear c d.0 in
-    subst (λ b. asked kind.Div b (a ∷ c ∷ []) ≡ name_where_linear (div a c)) d.1
-    (two_asked kind.Div (λ b c. refl) a c ∙ ap (λ x. answer (is_linear a && x) (has_name a || has_name c)) (n.0 ∙ sym d.0))
+asked_all t b e = grind (arith, some_false, plain_asked, product_asked, and_true, or_false, two_asked, by_divisor, divisor_linear)
 
 -- ---- a loop over the children
 

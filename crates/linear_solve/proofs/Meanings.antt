@@ -1,5 +1,5 @@
 -- The row of a linear tree is worth what the tree means.
-use Rattle.std.proofs.Common.{◌≡◌, ◌≢◌, ◌≤◌, ◌⊎◌, inl, inr, ℕ, zero, suc, ◌+◌, List, [], ◌∷◌, ◌++◌, length, map, Bool, true, false, Ok, refl, sym, ap, ◌∙◌, subst, arith, length-append, pos}
+use Rattle.std.proofs.Common.{◌≡◌, ◌≢◌, ◌≤◌, ◌⊎◌, inl, inr, ℕ, suc, ◌+◌, List, [], ◌∷◌, ◌++◌, length, map, Bool, true, false, Ok, refl, sym, ap, ◌∙◌, subst, arith, length-append, pos}
 use Rattle.std.specs.Prelude.{◌&&◌, ◌||◌, if◌then◌else◌, nat_le, Contains}
 use Rattle.linear_solve.proofs.Shared.{bytes_eq, and_parts, leb-true, false_from_ne_true, length-map, get_or_at, Contains-append_left, Contains-append_right, Contains-push, Assignment, IsAssignment, Gives, Means, surd_of, surd_one, Inverts-surd_of, inverse_times_itself, Same-sym, one_meaning, surd_of_one, Same-trans, Same-eq, Same-refl, joined_radicand, surd_times-terms, zero_term, no_zero, negative_lowest, one_times, zero_times, zero_plus, Fraction, plus, times, negative, inverse, zero_fraction, one_fraction, minus_one_fraction, Tree, num, symbol, undef, add, mult, power, root, neg, sub, div, Trees, none, more, names, names_of, AreDistinct, Assigns, and_then, are_linear, count_named, has_name, have_name, is_divisor, is_linear, is_nonzero, Row, worth, Side, constant_row, difference_row, joined_from, name_row, own_row, product_row, quotient_row, row_of, rows_of, sum_row}
 use Rattle.std.proofs.lemmas.Slice.Eq.{bytes_eq-Decides}
@@ -72,8 +72,7 @@ absent_worth (y ∷ ys) x (v ∷ vs) h =
     plus_both (ap (λ b. times (if b then one_fraction else zero_fraction) v) apart ∙ zero_times v) (absent_worth ys x vs (λ c. h (in_tail y ys x c))) ∙ zero_plus zero_fraction
 
 first_or_later : {X : Type 0} (y : X) (ys : List X) (x : X) → Contains (y ∷ ys) x → (y ≡ x) ⊎ Contains ys x
-first_or_later y ys x (zero, l, e) = inl e
-first_or_later y ys x (suc k, l, e) = inr (k, omega arith, e)
+first_or_later y ys x h = grind arith
 
 clash : (b : Bool) → b ≡ false → b ≡ true → ⊥
 clash b p q = cc
@@ -225,20 +224,10 @@ module _ (f : Assignment) (once : IsAssignment f) (xs : List (List ℕ)) (vs : L
   opposite_worth a v h m = cc
 
   divisor_worth : (c : Tree) (v : Fraction) → is_divisor c ≡ true → Means c f (surd_of v) → v ≢ zero_fraction
-  divisor_worth (neg a) v h m = opposite_worth a v h m
-  divisor_worth c v h m = nonzero_worth c v h m
-
-  nonzero_unnamed : (a : Tree) → is_nonzero a ≡ true → (has_name a ≡ false) × (is_linear a ≡ true)
-  nonzero_unnamed (num q) h = (refl, refl)
-  nonzero_unnamed a h = cc
+  divisor_worth c v h m = grind (arith, opposite_worth, nonzero_worth)
 
   divisor_unnamed : (c : Tree) → is_divisor c ≡ true → (has_name c ≡ false) × (is_linear c ≡ true)
-  divisor_unnamed (neg a) h = nonzero_unnamed a h
-  divisor_unnamed c h = nonzero_unnamed c h
-
-  -- the names of parts
-  Among : List (List ℕ) → Type 0
-  Among ns = (x : List ℕ) → Contains ns x → Contains xs x
+  divisor_unnamed c h = grind arith
 
   among_left : (ms ns : List (List ℕ)) → ((x : List ℕ) → Contains (ms ++ ns) x → Contains xs x) → (x : List ℕ) → Contains ms x → Contains xs x
   among_left ms ns h x c = h x (Contains-append_left ms ns x c)

@@ -1,5 +1,5 @@
 -- What the rows of nodes are worth where the names have values.
-use Rattle.std.proofs.Common.{◌≡◌, ℕ, suc, List, [], ◌∷◌, length, Bool, true, false, Ok, refl, sym, ap, ◌∙◌, subst}
+use Rattle.std.proofs.Common.{arith, ◌≡◌, ℕ, suc, List, [], ◌∷◌, length, Bool, true, false, Ok, refl, sym, ap, ◌∙◌, subst}
 use Rattle.std.specs.Prelude.{◌&&◌, ◌||◌, if◌then◌else◌}
 use Rattle.linear_solve.proofs.Shared.{times_comm, times_assoc, one_times, Fraction, plus, times, negative, inverse, zero_fraction, one_fraction, plus_assoc, Row, added, entry, negated, scaled, worth, Side, constant_of, difference_row, joined_rows, over_both, product_row, quotient_row, sum_row}
 use Rattle.linear_solve.proofs.Arithmetic.{plus_both, plus_zero, times_one, negative_is}
@@ -14,12 +14,10 @@ pub record IsRow (n : ℕ) (vs : List Fraction) (v : Fraction) (named : Bool) (r
   pub constant : named ≡ false → entry n r.entries ≡ v
 
 or_first : (a b : Bool) → (a || b) ≡ false → a ≡ false
-or_first true b e = e
-or_first false b e = refl
+or_first a b e = grind arith
 
 or_second : (a b : Bool) → (a || b) ≡ false → b ≡ false
-or_second true b e = cc
-or_second false b e = e
+or_second a b e = grind arith
 
 module _ {n : ℕ} {vs : List Fraction} {v w : Fraction} {b c : Bool} {r s : Side} where
   pub sum_is : (t : Side) → IsRow n vs v b r → IsRow n vs w c s → sum_row r s ≡ Ok t → IsRow n vs (plus v w) (b || c) t
@@ -124,12 +122,10 @@ AreRows n vs (w ∷ ws) (b ∷ bs) (r ∷ rs) = IsRow n vs w b r × AreRows n vs
 AreRows n vs _ _ _ = ⊥
 
 or_assoc : (a b c : Bool) → ((a || b) || c) ≡ (a || (b || c))
-or_assoc true b c = refl
-or_assoc false b c = refl
+or_assoc a b c = grind arith
 
 or_false : (a : Bool) → (a || false) ≡ a
-or_false true = refl
-or_false false = refl
+or_false a = grind arith
 
 row_as : {n : ℕ} {vs : List Fraction} {v w : Fraction} {b c : Bool} {r : Side} → v ≡ w → b ≡ c → IsRow n vs v b r → IsRow n vs w c r
 row_as {n} {vs} {v} {w} {b} {c} {r} p q h = subst (λ x. IsRow n vs x c r) p (subst (λ x. IsRow n vs v x r) q h)

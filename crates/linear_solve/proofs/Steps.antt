@@ -1,7 +1,7 @@
 -- One name after another is eliminated, and the rows keep their solutions.
-use Rattle.std.proofs.Common.{◌≡◌, ◌≢◌, ◌<◌, ◌≤◌, ◌⊎◌, inl, inr, ℕ, zero, suc, ◌+◌, ◌-◌, List, [], ◌∷◌, ◌++◌, length, drop, get_or, set, Bool, true, false, cond, Option, Some, None, Result, Ok, refl, sym, ap, ◌∙◌, subst, arith, length-drop, add-one}
-use Rattle.std.specs.Prelude.{All, swap, not, nat_lt, if◌then◌else◌}
-use Rattle.linear_solve.proofs.Shared.{position_or_len, cases_eq, cases_lt, not-true, not-false, ltb-false, get_or_append_left, get_or_push, get_or_past, get_or_default, get_or-drop, length_push, swapped_from_swap, length-swap, All-drop, All-set, All-get_or, prefix_len_passes, inverse_times_itself, times_zero, zero_is, no_zero, times_comm, times_assoc, one_times, zero_times, plus_negative, Fraction, plus, times, negative, inverse, is_zero_fraction, zero_fraction, one_fraction, Rows, cleared, cleared_pivot, first_with, others, row_at, settled, settled_at, settled_up_to, Misfit, and_then, each, Row, entry, scaled, without, worth}
+use Rattle.std.proofs.Common.{◌≡◌, ◌≢◌, ◌<◌, ◌⊎◌, inl, inr, ℕ, zero, suc, ◌+◌, ◌-◌, List, [], ◌∷◌, ◌++◌, length, drop, get_or, set, Bool, true, false, Option, Some, None, Result, Ok, refl, sym, ap, ◌∙◌, subst, arith, length-drop, add-one}
+use Rattle.std.specs.Prelude.{All, swap, if◌then◌else◌}
+use Rattle.linear_solve.proofs.Shared.{cases_eq, cases_lt, not-false, get_or_append_left, get_or_push, get_or_past, get_or_default, get_or-drop, length_push, swapped_from_swap, length-swap, All-drop, All-set, All-get_or, prefix_len_passes, inverse_times_itself, times_zero, zero_is, no_zero, times_comm, times_assoc, one_times, zero_times, plus_negative, Fraction, plus, times, negative, inverse, is_zero_fraction, zero_fraction, one_fraction, Rows, cleared, cleared_pivot, first_with, others, row_at, settled, settled_at, settled_up_to, Misfit, and_then, each, Row, entry, scaled, without, worth}
 use Rattle.std.proofs.lemmas.List.Quantifiers.{position-Some}
 use Rattle.linear_solve.proofs.Arithmetic.{plus_zero, negative_zero, times_one}
 use Rattle.linear_solve.proofs.Calculations.{both, each_at, each_long, each_forward, each_back, ok_is}
@@ -13,13 +13,7 @@ abbrev pub pivot_at : ℕ → List (Option Row) → Option Row
 pivot_at c ps = get_or ps c None
 
 pub some_within : (c : ℕ) (ps : List (Option Row)) (r : Row) → pivot_at c ps ≡ Some r → c < length ps
-some_within c ps r e = elim (cases_lt c (length ps)) [
-  | inl l ↦ l
-  | inr l ↦ absurd (no (pivot_at c ps) e (get_or_past ps c None l))
-]
-  where
-    no : (o : Option Row) → o ≡ Some r → o ≡ None → ⊥
-    no o e f = cc
+some_within c ps r e = grind (arith, get_or_past)
 
 -- one more pivot, or none
 pushed : (ps : List (Option Row)) (x : Option Row) (n c : ℕ) (r : Row) → length ps ≡ n → pivot_at c (ps ++ x ∷ []) ≡ Some r
@@ -38,16 +32,7 @@ push_below ps x n c r l e = get_or_append_left ps (x ∷ []) None c (some_within
 -- ---- the first row that has a name
 
 pub none_has : (n : ℕ) (rs : List Row) → first_with n rs ≡ None → All (λ r. entry n r ≡ zero_fraction) rs
-none_has n rs e k d l =
-    let p : Row → Bool = λ r. not (is_zero_fraction (entry n r)) in
-    zero_is (entry n (get_or rs k d)) (not-false _ (not-true _ (prefix_len_passes (λ x. not (p x)) rs k d (past (position_or_len p rs) refl e))))
-  where
-    past : (m : ℕ) → m ≡ position_or_len (λ r. not (is_zero_fraction (entry n r))) rs → cond (nat_lt m (length rs)) (Some m) None ≡ None → k < m
-    past m q e = by (nat_lt m (length rs)) refl e
-      where
-        by : (b : Bool) → nat_lt m (length rs) ≡ b → cond b (Some m) None ≡ None → k < m
-        by true f e = cc
-        by false f e = let h : length rs ≤ m = ltb-false m (length rs) f in omega arith
+none_has n rs e k d l = grind (arith, zero_is, not-false, prefix_len_passes)
 
 -- a row that has it
 pub record HasName (n at : ℕ) (rs : List Row) : Type 0 where
@@ -55,9 +40,7 @@ pub record HasName (n at : ℕ) (rs : List Row) : Type 0 where
   pub has : entry n (row_at at rs) ≢ zero_fraction
 
 pub first_has : (n at : ℕ) (rs : List Row) → first_with n rs ≡ Some at → HasName n at rs
-first_has n at rs e =
-    let s = position-Some (λ r. not (is_zero_fraction (entry n r))) rs at [] e in
-    record { within = s.0; has = no_zero (entry n (row_at at rs)) s.1 }
+first_has n at rs e = grind (arith, position-Some, no_zero)
 
 -- ---- the first row and another change places, and the first is left out
 
@@ -195,9 +178,6 @@ none_keeps n s l = record {
 -- a row is the pivot
 module _ (n width at : ℕ) (s : Rows) (q : Row) (ps : List (Option Row)) (rs : List Row) (h : IsSettled n width s) (o : HasName n at s.left)
     (made : scaled (inverse (entry n (row_at at s.left))) (row_at at s.left) ≡ Ok q) (up : each (cleared_pivot n q) s.pivots ≡ Ok ps) (down : each (cleared n q) (others at s.left) ≡ Ok rs) where
-  chosen : Row
-  chosen = row_at at s.left
-
   pivot_multiple : IsMultiple (inverse (entry n (row_at at s.left))) (row_at at s.left) q
   pivot_multiple = scaled_is _ _ _ made
 

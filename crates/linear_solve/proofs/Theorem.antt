@@ -1,7 +1,7 @@
 -- Forms and multipliers say which assignments solve the equations.
 use Rattle.std.proofs.Common.{◌≡◌, ◌≢◌, ◌<◌, inl, inr, ℕ, zero, suc, ◌+◌, List, [], ◌∷◌, ◌++◌, length, drop, get_or, map, Option, Some, None, Ok, refl, sym, ap, ◌∙◌, subst, arith, length-append, append_assoc, zero-add, ◌↔◌, length-drop}
 use Rattle.std.specs.Prelude.{All, Contains, ◌==◌, if◌then◌else◌, zip}
-use Rattle.linear_solve.proofs.Shared.{AllZip, enumerate_from, range_with_len, cases_eq, cases_lt, eq-eqb, ne_eqb, length-map, get_or-map, get_or_past, All-from_get_or, All-get_or, length-enumerate_from, get_or-enumerate_from, length-map-range_with_len, get_or-map-range_with_len, AllZip-long, length-zip, get_or-zip, Assignment, Binding, Gives, IsAssignment, Means, bound_names, surd_of, inverse_times_itself, negative_times, same_from_difference, one_meaning, surd_of_one, Same-Agree, Agree-sym, Agree-trans, Same-refl, one_times, zero_times, zero_plus, plus_negative, Fraction, plus, times, negative, inverse, zero_fraction, one_fraction, plus_comm, plus_assoc, undef, Rows, difference_of, equation_row, equation_rows, first_with, row_at, settled_up_to, unit, AreDistinct, Assigns, Equation, IsLinearIn, Solves, SolvesAll, and_then, Answer, never, solved, Form, free, HasItsValue, HaveTheirValues, HoldLaterFreeNames, answer_of, answer_with, differences, form_of, forms_of, IsFree, multiple_in, multipliers, Row, added, entry, negated, worth, Side, row_of, solving}
+use Rattle.linear_solve.proofs.Shared.{AllZip, enumerate_from, range_with_len, cases_eq, cases_lt, eq-eqb, ne_eqb, length-map, get_or-map, get_or_past, All-from_get_or, All-get_or, length-enumerate_from, get_or-enumerate_from, length-map-range_with_len, get_or-map-range_with_len, AllZip-long, length-zip, get_or-zip, Assignment, Binding, Gives, IsAssignment, Means, bound_names, surd_of, inverse_times_itself, negative_times, same_from_difference, one_meaning, surd_of_one, Same-Agree, Agree-sym, Agree-trans, Same-refl, one_times, zero_times, zero_plus, plus_negative, Fraction, plus, times, negative, inverse, zero_fraction, one_fraction, plus_comm, plus_assoc, undef, Rows, difference_of, equation_row, equation_rows, first_with, row_at, settled_up_to, unit, AreDistinct, Assigns, Equation, IsLinearIn, Solves, SolvesAll, and_then, Answer, never, solved, Form, free, HasItsValue, HaveTheirValues, HoldLaterFreeNames, answer_of, differences, form_of, forms_of, IsFree, multiple_in, multipliers, Row, added, entry, negated, worth, Side, row_of, solving}
 use Rattle.linear_solve.proofs.Arithmetic.{plus_both, plus_zero, times_one, negative_is, negative_plus, negative_zero, negative_twice, negative_plus_self, opposite_is, times_negative}
 use Rattle.linear_solve.proofs.Calculations.{both, each_at, each_long, ok_is}
 use Rattle.linear_solve.proofs.Meanings.{long_values, one_rational_meaning, row_means}
@@ -178,15 +178,7 @@ module _ (f : Assignment) (once : IsAssignment f) (xs : List (List ℕ)) (vs : L
       ap (λ x. plus x (negative h.right)) same ∙ plus_negative h.right
 
   zero_solves : (n : ℕ) (e : Equation) (d : Row) → (h : IsDifference f n vs e d) → plus h.left (negative h.right) ≡ zero_fraction → Solves f e
-  zero_solves n e d h z =
-      let same : h.left ≡ h.right = same_from_difference h.left h.right z in
-      record {
-        left = surd_of h.left;
-        right = surd_of h.left;
-        left_means = h.left_means;
-        right_means = subst (λ x. Means e.right f (surd_of x)) (sym same) h.right_means;
-        same = Same-refl (surd_of h.left);
-      }
+  zero_solves n e d h z = grind (arith, same_from_difference, Same-refl)
 
   -- ---- all rows
 
@@ -402,10 +394,7 @@ record Parts (xs : List (List ℕ)) (es : List Equation) (a : Answer) : Type 0 w
 
 parts_of : (xs : List (List ℕ)) (es : List Equation) (a : Answer) → solving xs es ≡ Ok a → Parts xs es a
 unfolding solving
-parts_of xs es a e =
-    let (rows, p, e1) = both (equation_rows xs es) (λ rows. and_then (settled_up_to (length xs) (record { pivots = []; left = rows })) (λ s. answer_of (length xs) s)) a e in
-    let (s, q, e2) = both (settled_up_to (length xs) (record { pivots = []; left = rows })) (λ s. answer_of (length xs) s) a e1 in
-    record { rows = rows; made = p; s = s; reached = q; answer = e2 }
+parts_of xs es a e = grind arith
 
 -- where forms are answered
 record IsSolvedBy (n : ℕ) (s : Rows) (forms : List Form) : Type 0 where
@@ -413,17 +402,7 @@ record IsSolvedBy (n : ℕ) (s : Rows) (forms : List Form) : Type 0 where
   are : forms ≡ forms_of n s.pivots
 
 solved_by : (n : ℕ) (s : Rows) (forms : List Form) → answer_of n s ≡ Ok (solved forms) → IsSolvedBy n s forms
-solved_by n s forms e = by (first_with n s.left) refl e
-  where
-    by : (at : Option ℕ) → first_with n s.left ≡ at → answer_with n at s ≡ Ok (solved forms) → IsSolvedBy n s forms
-    by None f e = record { none = f; are = same (ok_is _ _ e) }
-      where
-        same : solved (forms_of n s.pivots) ≡ solved forms → forms ≡ forms_of n s.pivots
-        same e = cc
-    by (Some at) f e = let (cs, p, q) = both (multipliers n (row_at at s.left)) (λ cs. Ok (never cs)) (solved forms) e in absurd (clash cs (ok_is _ _ q))
-      where
-        clash : (cs : List Fraction) → never cs ≡ solved forms → ⊥
-        clash cs e = cc
+solved_by n s forms e = grind arith
 
 -- and where multipliers are
 record IsRefuted (n : ℕ) (s : Rows) (cs : List Fraction) : Type 0 where
@@ -432,19 +411,7 @@ record IsRefuted (n : ℕ) (s : Rows) (cs : List Fraction) : Type 0 where
   are : multipliers n (row_at at s.left) ≡ Ok cs
 
 refuted_by : (n : ℕ) (s : Rows) (cs : List Fraction) → answer_of n s ≡ Ok (never cs) → IsRefuted n s cs
-refuted_by n s cs e = by (first_with n s.left) refl e
-  where
-    by : (at : Option ℕ) → first_with n s.left ≡ at → answer_with n at s ≡ Ok (never cs) → IsRefuted n s cs
-    by None f e = absurd (clash (ok_is _ _ e))
-      where
-        clash : solved (forms_of n s.pivots) ≡ never cs → ⊥
-        clash e = cc
-    by (Some at) f e =
-        let (ds, p, q) = both (multipliers n (row_at at s.left)) (λ cs. Ok (never cs)) (never cs) e in
-        record { at = at; has = first_has n at s.left f; are = p ∙ ap Ok (same ds (ok_is _ _ q)) }
-      where
-        same : (ds : List Fraction) → never ds ≡ never cs → ds ≡ cs
-        same ds e = cc
+refuted_by n s cs e = grind (arith, ok_is, both, first_has)
 
 module _ (xs : List (List ℕ)) (es : List Equation) (distinct : AreDistinct xs) (linear : All (IsLinearIn xs) es) where
   module _ (f : Assignment) (vs : List Fraction) (once : IsAssignment f) (gives : Assigns f xs vs) where

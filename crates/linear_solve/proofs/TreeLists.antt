@@ -1,6 +1,6 @@
 -- The children of a node as a list.
-use Rattle.std.proofs.Common.{◌≡◌, ◌<◌, ◌≤◌, ℕ, zero, suc, ◌+◌, List, [], ◌∷◌, ◌++◌, length, get_or, take, sym, refl, ap, ◌∙◌, arith}
-use Rattle.linear_solve.proofs.Shared.{take_more, take_all, Tree, num, symbol, undef, add, mult, power, root, neg, sub, div, Trees, none, more, count, nodes, nodes_of, nth, children_of}
+use Rattle.std.proofs.Common.{◌≡◌, ◌<◌, ◌≤◌, ℕ, zero, suc, ◌+◌, List, [], ◌∷◌, ◌++◌, length, get_or, take, refl, ap, ◌∙◌, arith}
+use Rattle.linear_solve.proofs.Shared.{take_more, take_all, Tree, undef, Trees, none, more, count, nodes, nodes_of, nth, children_of}
 
 abbrev pub listed : Trees → List Tree
 listed none = []
@@ -38,16 +38,7 @@ nodes-listed (more t ts) = ap (λ n. nodes t + n) (nodes-listed ts)
 
 -- a tree has one node more than its children
 pub nodes_below : (t : Tree) → nodes t ≡ suc (node_sum (listed (children_of t)))
-nodes_below (num q) = refl
-nodes_below (symbol x) = refl
-nodes_below undef = refl
-nodes_below (add ts) = ap suc (sym (nodes-listed ts))
-nodes_below (mult ts) = ap suc (sym (nodes-listed ts))
-nodes_below (power b e) = omega arith
-nodes_below (root a) = omega arith
-nodes_below (neg a) = omega arith
-nodes_below (sub a b) = omega arith
-nodes_below (div a b) = omega arith
+nodes_below t = grind (arith, nodes-listed)
 
 at_most_all : (ts : List Tree) (i : ℕ) → i < length ts → nodes (get_or ts i undef) ≤ node_sum ts
 at_most_all [] i l = absurd (omega arith)

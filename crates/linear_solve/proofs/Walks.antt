@@ -1,13 +1,12 @@
 -- The rows of a node's children, one after another, and the checks between.
 use Rattle.std.proofs.Common.{◌≡◌, ◌<◌, ◌≤◌, ℕ, zero, suc, ◌+◌, true, false, List, [], ◌∷◌, ◌++◌, length, map, take, Result, Ok, Err, refl, sym, ap, ◌∙◌, subst, arith, Some, None, IfErr, IsErrAnd}
-use Rattle.linear_solve.proofs.Shared.{err_from_is_err_and, Overflow, and_parts, not-true, get_or-map, get_or_at, length-append, length-map, length_push, CalmChecks-append, Check, CalmChecks, State, no_zero, zero_test, Kind, Fraction, negative, is_zero_fraction, zero_fraction, Tree, num, symbol, undef, add, mult, power, root, neg, sub, div, Trees, none, more, count, nodes, root_kind, SolveFault, OfOverflow, StopsWithin, Misfit, and_then, each, are_linear, is_divisor, is_linear, is_nonzero, entry, negated, Names, Side, bare_row, constant_of, constant_row, joined_from, joined_row, joined_rows, own_row, row_of, rows_of, signed_row, children_of, nth}
+use Rattle.linear_solve.proofs.Shared.{err_from_is_err_and, Overflow, and_parts, get_or-map, get_or_at, length-append, length-map, length_push, CalmChecks-append, Check, CalmChecks, State, no_zero, zero_test, Kind, Fraction, negative, is_zero_fraction, zero_fraction, Tree, undef, neg, Trees, none, more, count, nodes, root_kind, SolveFault, OfOverflow, StopsWithin, Misfit, and_then, each, are_linear, is_divisor, is_linear, is_nonzero, entry, negated, Names, Side, bare_row, constant_of, constant_row, joined_from, joined_row, joined_rows, own_row, row_of, rows_of, signed_row, children_of, nth}
 use Rattle.linear_solve.specs.Checks.{TripsWithin}
 use Rattle.linear_solve.proofs.Arithmetic.{negative_twice, negative_zero}
 use Rattle.linear_solve.proofs.Calculations.{each_all, each_more, each_stops, ok_is, then_err, then_ok}
 use Rattle.linear_solve.proofs.LinearNodes.{divisor_linear}
 use Rattle.linear_solve.proofs.TreeLists.{get_or-listed, length-listed, listed, node_sum, node_sum_all, node_sum_more, nodes_below}
 use Rattle.calc_terms.specs.declared.kind.Kind.TheVariants as kind
-use Rattle.linear_solve.specs.declared.fault.SolveFault.TheVariants as fault
 
 -- ---- a tree's row by those of its children
 
@@ -16,25 +15,13 @@ rows_listed xs none = refl
 rows_listed xs (more t ts) = ap (λ z. and_then (row_of xs t) (λ r. and_then z (λ rs. Ok (r ∷ rs)))) (rows_listed xs ts)
 
 one_row : {B : Type 0} (r : Result Side Misfit) (g : List Side → Result B Misfit) → and_then r (λ x. g (x ∷ [])) ≡ and_then (and_then r (λ y. Ok (y ∷ []))) g
-one_row (Ok x) g = refl
-one_row (Err m) g = refl
+one_row r g = grind arith
 
 two_rows : {B : Type 0} (r s : Result Side Misfit) (g : List Side → Result B Misfit) → and_then r (λ x. and_then s (λ y. g (x ∷ y ∷ []))) ≡ and_then (and_then r (λ y. and_then (and_then s (λ z. Ok (z ∷ []))) (λ ys. Ok (y ∷ ys)))) g
-two_rows (Ok x) (Ok y) g = refl
-two_rows (Ok x) (Err m) g = refl
-two_rows (Err m) s g = refl
+two_rows r s g = grind arith
 
 pub by_children : (xs : Names) (t : Tree) → row_of xs t ≡ and_then (each (row_of xs) (listed (children_of t))) (λ rs. own_row xs t rs)
-by_children xs (num q) = refl
-by_children xs (symbol x) = refl
-by_children xs undef = refl
-by_children xs (add ts) = ap (λ z. and_then z (λ rs. own_row xs (add ts) rs)) (rows_listed xs ts)
-by_children xs (mult ts) = ap (λ z. and_then z (λ rs. own_row xs (mult ts) rs)) (rows_listed xs ts)
-by_children xs (power b e) = two_rows (row_of xs b) (row_of xs e) (λ rs. own_row xs (power b e) rs)
-by_children xs (root a) = one_row (row_of xs a) (λ rs. own_row xs (root a) rs)
-by_children xs (neg a) = one_row (row_of xs a) (λ rs. own_row xs (neg a) rs)
-by_children xs (sub a b) = two_rows (row_of xs a) (row_of xs b) (λ rs. own_row xs (sub a b) rs)
-by_children xs (div a b) = two_rows (row_of xs a) (row_of xs b) (λ rs. own_row xs (div a b) rs)
+by_children xs t = grind (arith, rows_listed, two_rows, one_row)
 
 -- ---- rows joined so far
 
@@ -99,21 +86,7 @@ linear_in (more t ts) zero h l = (and_parts (is_linear t) (are_linear ts) h).0
 linear_in (more t ts) (suc i) h l = linear_in ts i (and_parts (is_linear t) (are_linear ts) h).1 (omega arith)
 
 pub child_linear : (t : Tree) (i : ℕ) → is_linear t ≡ true → i < count (children_of t) → is_linear (nth i (children_of t)) ≡ true
-child_linear (num q) i h l = absurd (omega arith)
-child_linear (symbol x) i h l = absurd (omega arith)
-child_linear undef i h l = absurd (omega arith)
-child_linear (add ts) i h l = linear_in ts i h l
-child_linear (mult ts) i h l = linear_in ts i (and_parts (are_linear ts) _ h).0 l
-child_linear (power b e) i h l = cc
-child_linear (root a) i h l = cc
-child_linear (neg a) zero h l = h
-child_linear (neg a) (suc i) h l = absurd (omega arith)
-child_linear (sub a b) zero h l = (and_parts (is_linear a) (is_linear b) h).0
-child_linear (sub a b) (suc zero) h l = (and_parts (is_linear a) (is_linear b) h).1
-child_linear (sub a b) (suc (suc i)) h l = absurd (omega arith)
-child_linear (div a c) zero h l = (and_parts (is_linear a) (is_divisor c) h).0
-child_linear (div a c) (suc zero) h l = (divisor_linear c (and_parts (is_linear a) (is_divisor c) h).1).0
-child_linear (div a c) (suc (suc i)) h l = absurd (omega arith)
+child_linear t i h l = grind (arith, linear_in, divisor_linear)
 
 -- the constant of a divisor is not 0
 constant_entry : (xs : Names) (q : Fraction) → constant_of (length xs) (constant_row xs q) ≡ q
@@ -127,24 +100,17 @@ opposite_entry xs q =
     inside a b = omega arith
 
 nonzero_row : (xs : Names) (a : Tree) (r : Side) → is_nonzero a ≡ true → row_of xs a ≡ Ok r → is_zero_fraction (constant_of (length xs) r) ≡ false
-nonzero_row xs (num q) r h e = ap (λ x. is_zero_fraction (constant_of (length xs) x)) (sym (ok_is _ _ e)) ∙ ap is_zero_fraction (constant_entry xs q) ∙ not-true (is_zero_fraction q) h
-nonzero_row xs a r h e = cc
+nonzero_row xs a r h e = grind (arith, ok_is, constant_entry)
 
 opposite_nonzero : (xs : Names) (a : Tree) (r : Side) → is_nonzero a ≡ true → row_of xs (neg a) ≡ Ok r → is_zero_fraction (constant_of (length xs) r) ≡ false
-opposite_nonzero xs (num q) r h e =
-    ap (λ x. is_zero_fraction (constant_of (length xs) x)) (sym (ok_is _ _ e)) ∙ ap is_zero_fraction (opposite_entry xs q)
-    ∙ zero_test (negative q) (λ z. no_zero q h (sym (negative_twice q) ∙ ap negative z ∙ negative_zero))
-opposite_nonzero xs a r h e = cc
+opposite_nonzero xs a r h e = grind (arith, ok_is, opposite_entry, zero_test, no_zero, negative_twice, negative_zero)
 
 divisor_row : (xs : Names) (c : Tree) (r : Side) → is_divisor c ≡ true → row_of xs c ≡ Ok r → is_zero_fraction (constant_of (length xs) r) ≡ false
 divisor_row xs (neg a) r h e = opposite_nonzero xs a r h e
 divisor_row xs c r h e = nonzero_row xs c r h e
 
 pub divisor_at : (xs : Names) (t : Tree) (i n : ℕ) (r : Side) → n ≡ length xs → root_kind t ≡ kind.Div → is_linear t ≡ true → 0 < i → i < count (children_of t) → row_of xs (nth i (children_of t)) ≡ Ok r → is_zero_fraction (constant_of n r) ≡ false
-divisor_at xs (div a c) zero n r en k h z l e = absurd (omega arith)
-divisor_at xs (div a c) (suc zero) n r en k h z l e = ap (λ m. is_zero_fraction (constant_of m r)) en ∙ divisor_row xs c r (and_parts (is_linear a) (is_divisor c) h).1 e
-divisor_at xs (div a c) (suc (suc i)) n r en k h z l e = absurd (omega arith)
-divisor_at xs t i n r en k h z l e = cc
+divisor_at xs t i n r h k l z m e = grind (arith, divisor_row)
 
 -- ---- checks
 
@@ -152,8 +118,7 @@ pub one_calm : (old new : List State) → Check old new None → CalmChecks 1 ol
 one_calm old new c = (new, c, refl)
 
 pub stops_after : (n m most : ℕ) (old between new : List State) (f : SolveFault) → n + m ≤ most → CalmChecks n old between → StopsWithin m between new f → StopsWithin most old new f
-stops_after n m most old between new (fault.Overflow o) l c h = record { checks = n + h.checks; few = omega (arith, h.few); calm = CalmChecks-append n h.checks old between new c h.calm }
-stops_after n m most old between new (fault.Interrupted i) l c h = record { passed = n + h.passed; few = omega (arith, h.few); between = h.between; calm = CalmChecks-append n h.passed old between h.between c h.calm; trips = h.trips }
+stops_after n m most old between new f l c h = grind (arith, CalmChecks-append)
 
 pub trips_after : (n most : ℕ) (old between new : List State) (place : ℕ) → n < most → CalmChecks n old between → Check between new (Some place) → TripsWithin most old new place
 trips_after n most old between new place l c t = record { passed = n; few = l; between = between; calm = c; trips = t }
@@ -173,8 +138,7 @@ all_nodes t at l = omega (arith, node_sum_all (children_of t) at l, nodes_below 
 -- ---- faults
 
 pub overflow_as : (f : SolveFault) {P Q : Overflow → Type 0} → ((o : Overflow) → P o → Q o) → OfOverflow P f → OfOverflow Q f
-overflow_as (fault.Overflow o) h p = h o p
-overflow_as (fault.Interrupted i) h p = tt
+overflow_as f h p = grind arith
 
 -- what a `?` hands on
 pub handed_on : {A : Type 0} {E : Type 0} (r : Result A E) (e : E) (P : E → Type 0) → IsErrAnd r (λ y. y ≡ e) → P e → IfErr r P

@@ -17,11 +17,7 @@ pub record IsMultiple (k : Fraction) (r t : Row) : Type 0 where
   pub value : (vs : List Fraction) → worth t vs ≡ times k (worth r vs)
 
 multiple_cons : (k a : Fraction) (r t : Row) → IsMultiple k r t → IsMultiple k (a ∷ r) (times k a ∷ t)
-multiple_cons k a r t m = record { long = ap suc m.long; value = at }
-  where
-    at : (vs : List Fraction) → worth (times k a ∷ t) vs ≡ times k (worth (a ∷ r) vs)
-    at [] = sym (times_zero k)
-    at (v ∷ vs) = ap (plus (times (times k a) v)) (m.value vs) ∙ scaled_entry k a v (worth r vs)
+multiple_cons k a r t m = grind (arith, times_zero, scaled_entry)
 
 each_multiple : (k : Fraction) (f : Fraction → Result Fraction Misfit) → ((a c : Fraction) → f a ≡ Ok c → c ≡ times k a) → (r t : Row) → each f r ≡ Ok t → IsMultiple k r t
 each_multiple k f h [] t e = subst (IsMultiple k []) (ok_is _ _ e) (record { long = refl; value = λ vs. sym (times_zero k) })
@@ -46,11 +42,7 @@ nothing_added : (k : Fraction) → zero_fraction ≡ plus zero_fraction (times k
 nothing_added k = sym (zero_plus (times k zero_fraction) ∙ times_zero k)
 
 combined_cons : (k a b : Fraction) (r s t : Row) → IsCombined k r s t → IsCombined k (a ∷ r) (b ∷ s) (plus a (times k b) ∷ t)
-combined_cons k a b r s t m = record { long = ap suc m.long; value = at }
-  where
-    at : (vs : List Fraction) → worth (plus a (times k b) ∷ t) vs ≡ plus (worth (a ∷ r) vs) (times k (worth (b ∷ s) vs))
-    at [] = nothing_added k
-    at (v ∷ vs) = ap (plus (times (plus a (times k b)) v)) (m.value vs) ∙ combined_entry k a b v (worth r vs) (worth s vs)
+combined_cons k a b r s t m = grind (arith, nothing_added, combined_entry)
 
 each_combined : (k : Fraction) (f : Fraction × Fraction → Result Fraction Misfit) → ((a b c : Fraction) → f (a, b) ≡ Ok c → c ≡ plus a (times k b)) → (r s t : Row) → length r ≡ length s → each f (zip r s) ≡ Ok t → IsCombined k r s t
 each_combined k f h [] [] t l e = subst (IsCombined k [] []) (ok_is _ _ e) (record { long = refl; value = λ vs. nothing_added k })
@@ -104,8 +96,7 @@ worth_constant (e ∷ r) [] c = ap (plus (times e c)) (worth-nil r) ∙ plus_zer
 worth_constant (e ∷ r) (v ∷ vs) c = ap (plus (times e v)) (worth_constant r vs c) ∙ sym (plus_assoc (times e v) (worth r vs) (times (entry (length vs) r) c))
 
 pub drop-nil : (n : ℕ) → drop {A = Fraction} n [] ≡ []
-drop-nil zero = refl
-drop-nil (suc n) = refl
+drop-nil n = grind arith
 
 -- a row without names
 pub worth_behind : (r : Row) (vs us : List Fraction) → ((j : ℕ) → j < length vs → entry j r ≡ zero_fraction) → worth r (vs ++ one_fraction ∷ us) ≡ plus (entry (length vs) r) (worth (drop (length vs + 1) r) us)

@@ -102,9 +102,7 @@ same_beside g h i f s n c = counted-same g f (counts_beside g h i f s n c)
 
 -- a root with its count kept
 kept_root : (g : ℕ → ℕ) (l : Label) (k r : Forest) → 1 ≤ l.count → l.count ≡ g l.id → counted_by g (tree l k r) ≡ tree l k (counted_by g r)
-kept_root g l k r p e =
-    ap (λ (t : Bool). cond t (counted_by g r) (tree (record l { count = g l.id }) k (counted_by g r))) (some l.count (g l.id) p e)
-    ∙ ap (λ (m : Label). tree m k (counted_by g r)) (same_label l (g l.id) e)
+kept_root g l k r p e = grind arith
 
 beside_more : (i : ℕ) (h : ℕ → ℕ) (j : ℕ) → eqb i j ≡ false → one_more i h j ≡ h j
 beside_more i h j e = rw e refl

@@ -1,12 +1,11 @@
 -- The entries one after another.
 use Rattle.std.proofs.Common.{◌≡◌, ℕ, suc, ◌+◌, ◌<◌, ◌≤◌, List, [], ◌∷◌, length, map, drop, get_or, codes, IsSome, true, refl, sym, ap, ◌∙◌, subst, arith, drop-cons}
 use Rattle.std.specs.Prelude.{⊤}
-use Rattle.name_table.proofs.Shared.{drop_all, name_of, Tree, State, free_of, plain, Forest, Gives, KeepsFront, tree_of, has_root, root_tree, without_root, KeepsRefusals, Stands, forest, keeps_after, keeps_none, refuses_after, given_rest, given_told, gives_as, last_tree, replaced, FaultsFilling, LacksNames, NamedTree, filled, filling, filling_one, fills, refused_filling, value_in, values, AreRoots, HasEntries, AreUsed, entry_of, root_in, Entry, Table, entries, table_names, Slot}
+use Rattle.name_table.proofs.Shared.{drop_all, name_of, Tree, State, free_of, plain, Forest, Gives, KeepsFront, tree_of, has_root, root_tree, without_root, KeepsRefusals, Stands, forest, keeps_after, keeps_none, given_rest, given_told, gives_as, last_tree, replaced, FaultsFilling, LacksNames, NamedTree, filled, filling, filling_one, fills, refused_filling, value_in, values, AreRoots, HasEntries, AreUsed, entry_of, root_in, Entry, Table, entries, table_names, Slot}
 use Rattle.tree_handles.proofs.Fronts.{IsBehind, front_after_one, front_same, not_first, starts_without}
 use Rattle.name_table.specs.declared.fault.FillFault.{FillFault}
 use Rattle.name_table.proofs.FilledNames.{entries_lack}
 use Rattle.name_table.proofs.Slots.{used_at}
-use Rattle.name_table.specs.declared.fault.FillFault.TheVariants as fault
 
 -- the last tree is filled but for the rest of the entries
 pub record IsFilled (t : Table) (i0 : ℕ) (s0 : State) (rest : List Entry) (i : ℕ) (s : State) : Type 0 where
@@ -51,8 +50,7 @@ one_more_filled : (free left : ℕ) (v : NamedTree) (vs : List NamedTree) (t u :
 one_more_filled free left v vs t u e = rw (e, filling) refl
 
 refused_there : (free : ℕ) (v : NamedTree) (vs : List NamedTree) (t : Tree) (f : FillFault) → filling_one free v t ≡ refused_filling f → filling free (v ∷ vs) t ≡ refused_filling f
-refused_there free v vs t (fault.Full full) e = rw (e, filling) refl
-refused_there free v vs t fault.Deep e = rw (e, filling) refl
+refused_there free v vs t f e = grind arith
 
 -- the tree is not among those that stood first
 pub is_behind : {t : Table} {i0 i : ℕ} {s0 s : State} {rest : List Entry} → IsFilled t i0 s0 rest i s → IsBehind i (i0 ∷ []) (forest s0)
@@ -93,8 +91,7 @@ filled_refused {i0 = i0} {i = i} {s0 = s0} {s = s} {rest = rest} e x f q =
     (ap (filling_one (free_of s) (value_in others e)) (sym (next_tree f)) ∙ subst (λ (o : Forest). filling_one (free_of s) (value_in o e) (tree_of i s) ≡ refused_filling x) (next_rest f) q)
 
 pub filled_faults : {t : Table} {i0 i : ℕ} {s0 s : State} {rest : List Entry} (u : State) (x : FillFault) → IsFilled t i0 s0 rest i s → FaultsFilling s u x → FaultsFilling s0 u x
-filled_faults {s0 = s0} {s = s} u (fault.Full full) f g = (refuses_after s0 s u full f.kept g.0, g.1)
-filled_faults {s0 = s0} {s = s} u fault.Deep f g = keeps_after s0 s u f.kept g
+filled_faults u x f g = grind arith
 
 pub filled_given : {t : Table} {i0 i : ℕ} {s0 s : State} → IsFilled t i0 s0 [] i s → Gives (without_root i0 (forest s0)) (forest s) i (λ w. w ≡ filled (values t (without_root i0 (forest s0))) (tree_of i0 s0))
 filled_given f = gives_as f.given refl (λ w e. e ∙ sym f.filled_is)
@@ -108,9 +105,7 @@ filled_clear {t = t} {i0 = i0} {s0 = s0} held f = subst (LacksNames (table_names
 -- ---- the entries as the slots of the code tell them
 
 first_entry : (t : Table) (x : List ℕ) (i a : ℕ) (items now : List Slot) → x ≡ codes "ans" → i ≡ a → record { ans = a; stored = map entry_of items } ≡ t → now ≡ items → entries t ≡ record { name = x; tree = i } ∷ map entry_of now
-first_entry t x i a items now p q e n =
-    ap entries (sym e) ∙ ap (λ (y : List ℕ). record { name = y; tree = a } ∷ map entry_of items) (sym p) ∙ ap (λ (k : ℕ). record { name = x; tree = k } ∷ map entry_of items) (sym q)
-    ∙ ap (λ (ss : List Slot). record { name = x; tree = i } ∷ map entry_of ss) (sym n)
+first_entry t x i a items now p q e n = grind arith
 
 pub filled_first : {t : Table} {i0 : ℕ} {s0 : State} (x : List ℕ) (i a : ℕ) (items now : List Slot) → x ≡ codes "ans" → i ≡ a → record { ans = a; stored = map entry_of items } ≡ t → now ≡ items
     → Stands s0 → HasEntries t (without_root i0 (forest s0)) → Gives (without_root i0 (forest s0)) (forest s0) i0 (λ u. ⊤) → IsFilled t i0 s0 (record { name = x; tree = i } ∷ map entry_of now) i0 s0

@@ -1,7 +1,7 @@
 -- Names of filled trees, and what filling in the free bytes gives.
-use Rattle.std.proofs.Common.{◌≡◌, ℕ, ◌⊎◌, inl, inr, List, [], ◌∷◌, map, Bool, true, false, cond, ltb, Result, Ok, Err, refl, sym, ap, ◌∙◌, subst}
+use Rattle.std.proofs.Common.{arith, ◌≡◌, ℕ, ◌⊎◌, inl, inr, List, [], ◌∷◌, map, refl, sym, ap, ◌∙◌, subst}
 use Rattle.std.specs.Prelude.{Contains}
-use Rattle.name_table.proofs.Shared.{Tree, depth, root_size, size, symbol, Full, Forest, occurrences, replaced, replacing, Filling, LacksNames, NamedTree, fills, filled, filling, filling_one, lacks, too_deep, value_in, values, HasEntries, HoldLaterNames, IsHeld, Entry, Table, entries, table_names}
+use Rattle.name_table.proofs.Shared.{Tree, Forest, replaced, Filling, LacksNames, NamedTree, fills, filled, filling, filling_one, lacks, too_deep, value_in, values, HasEntries, HoldLaterNames, IsHeld, Entry, Table, entries, table_names}
 use Rattle.tree_walks.proofs.Composing.{names_of_replaced}
 use Rattle.name_table.proofs.Later.{behind, in_front, names_of_entries, none_in, where_in}
 
@@ -38,15 +38,7 @@ filled_lacks t f u held = entries_lack t f u (record { roots = held.roots; whole
 -- ---- the tree that fills is the filled one
 
 one_fills_as : (free left : ℕ) (v : NamedTree) (t u : Tree) → filling_one free v t ≡ fills left u → u ≡ replaced v.name v.tree t
-one_fills_as free left v t u e = by_room (replacing free (occurrences v.name t) (size v.tree) (root_size (symbol v.name))) e
-  where
-    by_depth : (b : Bool) (n : ℕ) → cond b too_deep (fills n (replaced v.name v.tree t)) ≡ fills left u → u ≡ replaced v.name v.tree t
-    by_depth true n e = absurd cc
-    by_depth false n e = cc
-
-    by_room : (r : Result ℕ Full) → elim r [ Err full ↦ lacks full | Ok n ↦ cond (ltb 64 (depth (replaced v.name v.tree t))) too_deep (fills n (replaced v.name v.tree t)) ] ≡ fills left u → u ≡ replaced v.name v.tree t
-    by_room (Err full) e = absurd cc
-    by_room (Ok n) e = by_depth (ltb 64 (depth (replaced v.name v.tree t))) n e
+one_fills_as free left v t u e = grind arith
 
 pub fills_as : (free left : ℕ) (vs : List NamedTree) (t u : Tree) → filling free vs t ≡ fills left u → u ≡ filled vs t
 fills_as free left [] t u e = cc

@@ -1,6 +1,6 @@
 -- One stored tree in place of its name.
-use Rattle.std.proofs.Common.{◌≡◌, ℕ, ◌<◌, List, Bool, true, cond, ltb, Ok, Err, refl, sym, ap, ◌∙◌, subst, arith}
-use Rattle.name_table.proofs.Shared.{le-ltb, lt-ltb, Tree, symbol, size, root_size, depth, Full, State, AllExpressions, IsExpression, IsWhole, plain, Forest, Gives, tree_of, tree_at, has_root, root_tree, Stands, forest, gives_as, given_handed, given_root, given_told, expression_root, other_root, other_tree, plain_root, tree_of_root, root_held, occurrences, replaced, replacing, NamedTree, filling_one, fills, lacks, too_deep}
+use Rattle.std.proofs.Common.{◌≡◌, ℕ, ◌<◌, List, true, Ok, Err, refl, sym, ap, ◌∙◌, subst, arith}
+use Rattle.name_table.proofs.Shared.{Tree, symbol, size, root_size, depth, Full, State, AllExpressions, IsExpression, IsWhole, plain, Forest, Gives, tree_of, tree_at, has_root, root_tree, Stands, forest, gives_as, given_handed, given_root, given_told, expression_root, other_root, other_tree, plain_root, tree_of_root, root_held, occurrences, replaced, replacing, NamedTree, filling_one, fills, lacks, too_deep}
 use Rattle.tree_handles.proofs.Counted.{all-root_tree}
 
 -- ---- a tree beside the last one
@@ -33,12 +33,10 @@ one_lacks : (free : ℕ) (v : NamedTree) (t : Tree) (full : Full) → replacing 
 one_lacks free v t full e = rw (e, filling_one) refl
 
 one_deep : (free left : ℕ) (v : NamedTree) (t u : Tree) → replacing free (occurrences v.name t) (size v.tree) (root_size (symbol v.name)) ≡ Ok left → u ≡ replaced v.name v.tree t → 64 < depth u → filling_one free v t ≡ too_deep
-one_deep free left v t u e q d =
-    rw (e, filling_one) (ap (λ (b : Bool). cond b too_deep (fills left (replaced v.name v.tree t))) (ap (λ (w : Tree). ltb 64 (depth w)) (sym q) ∙ lt-ltb 64 (depth u) d))
+one_deep free left v t u e q d = grind arith
 
 one_fills : (free left : ℕ) (v : NamedTree) (t u : Tree) → replacing free (occurrences v.name t) (size v.tree) (root_size (symbol v.name)) ≡ Ok left → u ≡ replaced v.name v.tree t → (64 < depth u → ⊥) → filling_one free v t ≡ fills left u
-one_fills free left v t u e q d =
-    rw (e, filling_one) (ap (λ (b : Bool). cond b too_deep (fills left (replaced v.name v.tree t))) (ap (λ (w : Tree). ltb 64 (depth w)) (sym q) ∙ le-ltb 64 (depth u) (omega arith)) ∙ ap (fills left) (sym q))
+one_fills free left v t u e q d = grind arith
 
 pub refused_lacks : {old : State} {others : Forest} {i : ℕ} {Told : Tree → Type 0} (x : List ℕ) (k free : ℕ) (t : Tree) (full : Full) → Stands old → Gives others (forest old) i Told → has_root k others ≡ true
     → replacing free (occurrences x t) (size (plain (tree_at k (forest old)))) (root_size (symbol x)) ≡ Err full → filling_one free (record { name = x; tree = plain (root_tree k others) }) t ≡ lacks full

@@ -4,10 +4,7 @@ use Rattle.name_table.proofs.Shared.{bytes_eq, eq-eqb, eqb-true, Forest, has_roo
 use Rattle.name_table.proofs.Counting.{one_less, one_more}
 
 swapped : (a b : Bool) (n : ℕ) → cond a (suc (cond b (suc n) n)) (cond b (suc n) n) ≡ cond b (suc (cond a (suc n) n)) (cond a (suc n) n)
-swapped true true n = refl
-swapped true false n = refl
-swapped false true n = refl
-swapped false false n = refl
+swapped a b n = grind arith
 
 -- one entry more at the end
 pub holders-last : (es : List Entry) (e : Entry) (j : ℕ) → holders j (es ++ e ∷ []) ≡ one_more e.tree (λ i. holders i es) j
@@ -16,22 +13,17 @@ holders-last (d ∷ es) e j = ap (λ (n : ℕ). cond (eqb d.tree j) (suc n) n) (
 
 -- one entry less
 pub less_below : (a b : Bool) (w h : ℕ) → w ≡ cond b (h - 1) h → (b ≡ true → 1 ≤ h) → cond a (suc w) w ≡ cond b (cond a (suc h) h - 1) (cond a (suc h) h)
-less_below true true w h e p = let q : 1 ≤ h = p refl in omega arith
-less_below true false w h e p = ap suc e
-less_below false true w h e p = e
-less_below false false w h e p = e
+less_below a b w h e p = grind arith
 
 first_less : (a : Bool) (h : ℕ) → h ≡ cond a (cond a (suc h) h - 1) (cond a (suc h) h)
-first_less true h = omega arith
-first_less false h = refl
+first_less a h = grind arith
 
 pub record IsOneLess (i j : ℕ) (es rest : List Entry) : Type 0 where
   pub less : holders j rest ≡ one_less i (λ k. holders k es) j
   pub some : eqb i j ≡ true → 1 ≤ holders j es
 
 some_more : (a b : Bool) (h : ℕ) → (b ≡ true → 1 ≤ h) → b ≡ true → 1 ≤ cond a (suc h) h
-some_more true b h p q = omega arith
-some_more false b h p q = p q
+some_more a b h p q = grind arith
 
 same_root : (i k : ℕ) → Some i ≡ Some k → i ≡ k
 same_root i k e = cc

@@ -1,7 +1,7 @@
 -- Names of trees, and where they stand in a table.
-use Rattle.std.proofs.Common.{◌≡◌, ℕ, zero, suc, ◌<◌, ◌≤◌, ◌⊎◌, inl, inr, List, [], ◌∷◌, ◌++◌, length, map, Bool, true, false, cond, ltb, Some, refl, sym, ap, ◌∙◌, subst, arith}
-use Rattle.std.specs.Prelude.{◌||◌, Contains}
-use Rattle.name_table.proofs.Shared.{bytes_eq, ltb-true, map-append, bytes_eq-Decides, Tree, Forest, join, has_root, root_tree, plain, by_test, root-left, tree-left, LacksNames, NamedTree, value_in, AreDistinctNames, AreRoots, HoldLaterNames, counted_by, Entry, Table, has_entry, has_room_for, name_limit, tree_under, without_entry}
+use Rattle.std.proofs.Common.{◌≡◌, ℕ, suc, ◌<◌, ◌≤◌, ◌⊎◌, inl, inr, List, [], ◌∷◌, ◌++◌, length, map, Bool, true, false, cond, Some, refl, sym, ap, ◌∙◌, subst, arith}
+use Rattle.std.specs.Prelude.{Contains}
+use Rattle.name_table.proofs.Shared.{bytes_eq, map-append, bytes_eq-Decides, Tree, Forest, join, has_root, root_tree, plain, by_test, root-left, tree-left, LacksNames, NamedTree, value_in, AreDistinctNames, AreRoots, HoldLaterNames, counted_by, Entry, Table, has_entry, has_room_for, name_limit, tree_under, without_entry}
 use Rattle.std.proofs.lemmas.List.Elements.{Contains-append_cases}
 use Rattle.name_table.proofs.Counting.{plain-counted, root-counted}
 use Rattle.name_table.proofs.Holders.{AreTold}
@@ -15,8 +15,7 @@ pub behind : (x y : List ℕ) (xs : List (List ℕ)) → Contains xs y → Conta
 behind x y xs c = let h : c.0 < length xs = c.1 in (suc c.0, omega arith, c.2)
 
 pub where_in : (x y : List ℕ) (xs : List (List ℕ)) → Contains (x ∷ xs) y → (x ≡ y) ⊎ Contains xs y
-where_in x y xs (zero, h, e) = inl e
-where_in x y xs (suc k, h, e) = inr (k, omega arith, e)
+where_in x y xs h = grind arith
 
 pub none_in : (y : List ℕ) → Contains [] y → ⊥
 none_in y (k, h, e) = absurd (omega arith)
@@ -84,11 +83,7 @@ length-stored x (e ∷ es) h =
     (λ p q. let k : length (without_entry x es) < length es = length-stored x es q in omega arith) h
 
 pub room-without : (x : List ℕ) (t : Table) → length t.stored ≤ name_limit → has_room_for x t ≡ true → length (without_entry x t.stored) < 64
-room-without x t few room =
-    by_test (λ u. has_entry x t.stored ≡ u → (u || ltb (length t.stored) 64) ≡ true → length (without_entry x t.stored) < 64) (has_entry x t.stored)
-    (λ p q r. let k : length (without_entry x t.stored) < length t.stored = length-stored x t.stored q in omega arith)
-    (λ p q r. let k : length (without_entry x t.stored) ≤ length t.stored = length-without x t.stored in let m : length t.stored < 64 = ltb-true (length t.stored) 64 r in omega arith)
-    refl room
+room-without x t h k = grind (arith, by_test, length-stored, length-without)
 
 -- ---- names that a tree lacks
 

@@ -1,7 +1,7 @@
 -- Slots of the code, and the entries that they are.
 use Rattle.std.proofs.Common.{◌≡◌, ℕ, zero, suc, ◌+◌, ◌<◌, ◌≤◌, List, [], ◌∷◌, ◌++◌, length, map, get_or, slice_get, Bool, true, false, cond, eqb, ltb, Option, Some, None, IsSome, refl, sym, ap, ◌∙◌, subst, arith}
 use Rattle.std.specs.Prelude.{◌||◌, not, position, remove, is_some}
-use Rattle.name_table.proofs.Shared.{bytes_eq, eqb-true, eqb-false, le-ltb, lt-ltb, length-map, name_of, by_test, Slot, AreUsed, entry_of, root_in, Entry, Table, has_entry, has_room_for, name_limit, tree_under, without_entry}
+use Rattle.name_table.proofs.Shared.{bytes_eq, length-map, name_of, by_test, Slot, AreUsed, entry_of, root_in, Entry, Table, has_entry, has_room_for, name_limit, tree_under, without_entry}
 use Rattle.std.proofs.lemmas.List.Quantifiers.{position-Some}
 use Rattle.std.specs.List.{position_from}
 use Rattle.std.proofs.lemmas.Iterator.Adapters.{position_from-zero}
@@ -40,8 +40,7 @@ pub record IsSlotAt (x : List ℕ) (ss : List Slot) (i : ℕ) : Type 0 where
   pub used : AreUsed ss → AreUsed (remove ss i)
 
 root_some : (o : Option ℕ) → IsSome o → o ≡ Some (root_in o)
-root_some None h = absurd cc
-root_some (Some i) h = refl
+root_some o h = grind arith
 
 slot_at : (x : List ℕ) (ss : List Slot) (i : ℕ) (d : Slot) → i < length ss → is_slot x (get_or ss i d) ≡ true → ((k : ℕ) → k < i → is_slot x (get_or ss k d) ≡ false) → IsSlotAt x ss i
 slot_at x [] i d h p n = absurd (omega arith)
@@ -132,11 +131,7 @@ room_found x items now t e n (Some i) p h b q =
     q ∙ sym (ap (λ (u : Bool). u || ltb (length t.stored) name_limit) (ap (has_entry x) (sym e) ∙ f.stored))
 
 fits_limit : (n : ℕ) (full : Bool) → full ≡ eqb n 64 → n ≤ 64 → not full ≡ ltb n 64
-fits_limit n full e h =
-    by_test (λ t. full ≡ t → not t ≡ ltb n 64) full
-    (λ u q. sym (le-ltb n 64 (omega (arith, eqb-true n 64 (sym e ∙ q)))))
-    (λ u q. sym (lt-ltb n 64 (omega (arith, eqb-false n 64 (sym e ∙ q)))))
-    refl
+fits_limit n full e h = grind arith
 
 pub room_beside : (x : List ℕ) (items now : List Slot) (t : Table) → map entry_of items ≡ t.stored → now ≡ items → (o : Option ℕ) → o ≡ position (is_slot x) now → is_some o ≡ false → (full : Bool) → full ≡ eqb (length items) 64 → length items ≤ 64 → not full ≡ has_room_for x t
 room_beside x items now t e n None p h full q few =

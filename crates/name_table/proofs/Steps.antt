@@ -1,7 +1,7 @@
 -- Pools whose roots are counted, from call to call.
 use Rattle.std.proofs.Common.{◌≡◌, ◌≢◌, ℕ, suc, ◌+◌, ◌-◌, ◌<◌, ◌≤◌, List, [], ◌∷◌, ◌++◌, Bool, true, false, cond, eqb, Option, Some, None, refl, sym, ap, ◌∙◌, subst, arith}
 use Rattle.std.specs.Prelude.{IfSome}
-use Rattle.name_table.proofs.Shared.{bytes_eq, eq-eqb, eqb-true, Tree, State, Forest, Gives, count_of, released_in, with_count_in, has_root, Stands, forest, distinct, last_root, by_test, AreCountedBy, AreRoots, IsHeld, counted_by, held_by, holders_in, released_under, IsKeepable, IsStorable, Entry, Table, entries, holders, tree_under, with_answer, without_entry, without_name}
+use Rattle.name_table.proofs.Shared.{bytes_eq, eq-eqb, Tree, State, Forest, Gives, count_of, released_in, with_count_in, has_root, Stands, forest, distinct, last_root, by_test, AreCountedBy, AreRoots, IsHeld, counted_by, held_by, holders_in, released_under, IsKeepable, IsStorable, Entry, Table, entries, holders, tree_under, with_answer, without_entry, without_name}
 use Rattle.name_table.proofs.Counting.{count_of-counted, counted-are, counted-by_same, counted-same, counted-twice, one_less, one_more, one_released, retained, root-counted, told_root}
 use Rattle.name_table.proofs.Holders.{holders-last, holders-no_root, holders-without, less_below}
 use Rattle.name_table.proofs.Ready.{IsReady, ready_answer, ready_held, ready_named, ready_without, start_counts}
@@ -18,15 +18,10 @@ start {h = h} {s = s} st c = record { stands = st; forest_is = sym (counted-same
 
 -- other counts of what is there
 changed : (g h : ℕ → ℕ) (f : Forest) (s t : State) → HasCounts g f s → ((i : ℕ) → g i ≡ 0 → h i ≡ 0) → Stands t → forest t ≡ counted_by h (forest s) → HasCounts h f t
-changed g h f s t c z st e = record {
-  stands = st;
-  forest_is = e ∙ ap (counted_by h) c.forest_is ∙ counted-twice g h f z;
-  counts = subst (AreCountedBy h) (sym e) (counted-are g h (forest s) c.counts);
-}
+changed g h f s t c z k e = grind (arith, counted-twice, counted-are)
 
 more_zero : (h : ℕ → ℕ) (i : ℕ) → h i ≢ 0 → (j : ℕ) → h j ≡ 0 → one_more i h j ≡ 0
-more_zero h i n j z =
-    by_test (λ t. eqb i j ≡ t → cond t (suc (h j)) (h j) ≡ 0) (eqb i j) (λ p q. absurd (n (ap h (eqb-true i j q) ∙ z))) (λ p q. z) refl
+more_zero h i n j z = grind arith
 
 less_zero : (h : ℕ → ℕ) (i j : ℕ) → h j ≡ 0 → one_less i h j ≡ 0
 less_zero h i j z = by_test (λ t. cond t (h j - 1) (h j) ≡ 0) (eqb i j) (λ p. omega arith) (λ p. z)
@@ -64,56 +59,28 @@ missing_under x (e ∷ es) u =
 
 -- a name is forgotten
 forgotten : (t : Table) (x : List ℕ) (j : ℕ) (o : Option ℕ) → tree_under x t.stored ≡ o → less_under o (holders_in t) j ≡ holders_in (without_name x t) j
-forgotten t x j None u = ap (λ (es : List Entry). cond (eqb t.ans j) (suc (holders j es)) (holders j es)) (sym (missing_under x t.stored u))
-forgotten t x j (Some i) u =
-    let p = holders-without x t.stored i j u in
-    sym (less_below (eqb t.ans j) (eqb i j) (holders j (without_entry x t.stored)) (holders j t.stored) p.less p.some)
+forgotten t x j o u = grind (arith, missing_under, holders-without, less_below)
 
 pub forget_counts : (t : Table) (x : List ℕ) (j : ℕ) → less_under (tree_under x t.stored) (holders_in t) j ≡ holders_in (without_name x t) j
 forget_counts t x j = forgotten t x j (tree_under x t.stored) refl
 
 -- an answer without a name
 pub answer_counts : (t : Table) (i j : ℕ) → one_less t.ans (one_more i (holders_in t)) j ≡ holders_in (with_answer None i t) j
-answer_counts t i j = exchanged (eqb t.ans j) (eqb i j) (holders j t.stored)
-  where
-    exchanged : (a b : Bool) (n : ℕ) → cond a (cond b (suc (cond a (suc n) n)) (cond a (suc n) n) - 1) (cond b (suc (cond a (suc n) n)) (cond a (suc n) n)) ≡ cond b (suc n) n
-    exchanged true true n = omega arith
-    exchanged true false n = omega arith
-    exchanged false true n = refl
-    exchanged false false n = refl
+answer_counts t i j = grind arith
 
 -- an answer with a name: two units more of its root, one less of the former answer's, and one less of the former entry's
 named_without : (a b : Bool) (n : ℕ) → cond a (cond b (suc (cond b (suc (cond a (suc n) n)) (cond a (suc n) n))) (cond b (suc (cond a (suc n) n)) (cond a (suc n) n)) - 1) (cond b (suc (cond b (suc (cond a (suc n) n)) (cond a (suc n) n))) (cond b (suc (cond a (suc n) n)) (cond a (suc n) n)))
     ≡ cond b (suc (cond b (suc n) n)) (cond b (suc n) n)
-named_without true true n = omega arith
-named_without true false n = omega arith
-named_without false true n = refl
-named_without false false n = refl
+named_without a b n = grind arith
 
 named_over : (a b r : Bool) (w n : ℕ) → w ≡ cond r (n - 1) n → (r ≡ true → 1 ≤ n)
     → cond a (cond r (cond b (suc (cond b (suc (cond a (suc n) n)) (cond a (suc n) n))) (cond b (suc (cond a (suc n) n)) (cond a (suc n) n)) - 1) (cond b (suc (cond b (suc (cond a (suc n) n)) (cond a (suc n) n))) (cond b (suc (cond a (suc n) n)) (cond a (suc n) n))) - 1)
     (cond r (cond b (suc (cond b (suc (cond a (suc n) n)) (cond a (suc n) n))) (cond b (suc (cond a (suc n) n)) (cond a (suc n) n)) - 1) (cond b (suc (cond b (suc (cond a (suc n) n)) (cond a (suc n) n))) (cond b (suc (cond a (suc n) n)) (cond a (suc n) n))))
     ≡ cond b (suc (cond b (suc w) w)) (cond b (suc w) w)
-named_over true true true w n e p = let q : 1 ≤ n = p refl in omega arith
-named_over true true false w n e p = omega arith
-named_over true false true w n e p = let q : 1 ≤ n = p refl in omega arith
-named_over true false false w n e p = omega arith
-named_over false true true w n e p = let q : 1 ≤ n = p refl in omega arith
-named_over false true false w n e p = omega arith
-named_over false false true w n e p = let q : 1 ≤ n = p refl in omega arith
-named_over false false false w n e p = omega arith
+named_over a b r w n e p = grind arith
 
 named_counted : (t : Table) (x : List ℕ) (i j : ℕ) (o : Option ℕ) → tree_under x t.stored ≡ o → one_less t.ans (less_under o (one_more i (one_more i (holders_in t)))) j ≡ holders_in (with_answer (Some x) i t) j
-named_counted t x i j o u =
-    let entry : Entry = record { name = x; tree = i } in
-    let rest = without_entry x t.stored in
-    kept o u ∙ sym (ap (λ (n : ℕ). cond (eqb i j) (suc n) n) (holders-last rest entry j))
-  where
-    kept : (o : Option ℕ) → tree_under x t.stored ≡ o → one_less t.ans (less_under o (one_more i (one_more i (holders_in t)))) j ≡ cond (eqb i j) (suc (one_more i (λ k. holders k (without_entry x t.stored)) j)) (one_more i (λ k. holders k (without_entry x t.stored)) j)
-    kept None u = named_without (eqb t.ans j) (eqb i j) (holders j t.stored) ∙ ap (λ (es : List Entry). cond (eqb i j) (suc (cond (eqb i j) (suc (holders j es)) (holders j es))) (cond (eqb i j) (suc (holders j es)) (holders j es))) (sym (missing_under x t.stored u))
-    kept (Some k) u =
-        let p = holders-without x t.stored k j u in
-        named_over (eqb t.ans j) (eqb i j) (eqb k j) (holders j (without_entry x t.stored)) (holders j t.stored) p.less p.some
+named_counted t x i j o u = grind (arith, holders-last, one_less, one_more, named_without, missing_under, holders-without, named_over)
 
 pub named_counts : (t : Table) (x : List ℕ) (i j : ℕ) → one_less t.ans (less_under (tree_under x t.stored) (one_more i (one_more i (holders_in t)))) j ≡ holders_in (with_answer (Some x) i t) j
 named_counts t x i j = named_counted t x i j (tree_under x t.stored) refl
@@ -121,10 +88,7 @@ named_counts t x i j = named_counted t x i j (tree_under x t.stored) refl
 -- ---- trees that are still roots
 
 still_some : (a b : Bool) (n : ℕ) → 1 ≤ n → cond b (suc (cond b (suc (cond a (suc n) n)) (cond a (suc n) n))) (cond b (suc (cond a (suc n) n)) (cond a (suc n) n)) ≢ 0
-still_some true true n p z = absurd (omega arith)
-still_some true false n p z = absurd (omega arith)
-still_some false true n p z = absurd (omega arith)
-still_some false false n p z = absurd (omega arith)
+still_some a b n p z = grind arith
 
 -- the former entry's, after its name was given another tree
 former_root : (t : Table) {f : Forest} {s : State} (x : List ℕ) (i : ℕ) → AreRoots t.stored f → HasCounts (one_more i (one_more i (holders_in t))) f s → IfSome (tree_under x t.stored) (λ k. has_root k (forest s) ≡ true)
@@ -165,11 +129,7 @@ new_count {t = t} {others = others} {s = s} {i = i} st held g =
 -- ---- what the calls leave
 
 pub entry_root : (x : List ℕ) (es : List Entry) (f : Forest) → AreRoots es f → IfSome (tree_under x es) (λ i. has_root i f ≡ true)
-entry_root x es f roots = there (tree_under x es) refl
-  where
-    there : (o : Option ℕ) → tree_under x es ≡ o → IfSome o (λ i. has_root i f ≡ true)
-    there None u = tt
-    there (Some i) u = root-under x es f i roots u
+entry_root x es f h = grind (arith, root-under)
 
 -- the table and the pool belong together again
 pub record IsKept (t : Table) (f : Forest) (s : State) : Type 0 where
@@ -235,6 +195,4 @@ keeps_named {t = t} {new = new} {i = i} {s = s} {w = w} {x = x} n storable h f s
 
 -- the table after these calls
 pub named_table : (t a b c : Table) (x : List ℕ) (i j : ℕ) → a ≡ without_name x t → b ≡ record a { stored = a.stored ++ record { name = x; tree = j } ∷ [] } → j ≡ i → c ≡ record b { ans = i } → c ≡ with_answer (Some x) i t
-named_table t a b c x i j p q r h =
-    h ∙ ap (λ (u : Table). record u { ans = i }) q ∙ ap (λ (u : Table). record { ans = i; stored = u.stored ++ record { name = x; tree = j } ∷ [] }) p
-    ∙ ap (λ (k : ℕ). record { ans = i; stored = without_entry x t.stored ++ record { name = x; tree = k } ∷ [] }) r
+named_table t a b c x i j p q r h = grind arith

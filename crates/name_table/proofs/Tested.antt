@@ -1,24 +1,18 @@
 -- What tests know of numbers that they keep and of names that they use.
-use Rattle.std.proofs.Common.{◌≡◌, ℕ, List, [], refl, sym, ap, ◌∙◌, subst, None}
+use Rattle.std.proofs.Common.{arith, ◌≡◌, ℕ, List, [], refl, sym, ap, ◌∙◌, subst, None}
 use Rattle.std.specs.Prelude.{ℤ, pos, Option, ⊤}
 use Rattle.name_table.proofs.Shared.{Tree, num, State, Forest, forest_of, Gives, IsOwned, without_root, forest, given_handed, given_rest, gives_as, owned, IsHeld, IsKeepable, Table, first_table}
 use Rattle.calc_terms.specs.declared.rat.Rat.{Rat}
-use Rattle.calc_terms.specs.Fractions.{lowest, whole_fraction}
 use Rattle.calc_terms.specs.Rat.{ratio_of, value_of}
-use Rattle.calc_terms.specs.Ratio.{Ratio, whole}
-use Rattle.name_table.proofs.Later.{none_in}
+use Rattle.calc_terms.specs.Ratio.{whole}
 use Rattle.name_table.proofs.Ready.{first_held}
 
 -- a whole number of at least 0 can be written and has no names
 keepable : (store : Option (List ℕ)) (t : Table) (r : Rat) (z : ℤ) (n : ℕ) → ratio_of r ≡ whole z → z ≡ pos n → IsKeepable store t (num (value_of r))
-keepable store t r z n e q = record {
-  writable = (n, ap (λ (x : Ratio). lowest x.num x.den) e ∙ ap whole_fraction q);
-  clear = λ x c k. none_in x k;
-}
+keepable store t r z n e q = grind arith
 
 pub number_kept : {others f : Forest} {i : ℕ} (store : Option (List ℕ)) (t : Table) (r : Rat) (z : ℤ) (n : ℕ) → ratio_of r ≡ whole z → z ≡ pos n → Gives others f i (λ u. u ≡ num (value_of r)) → Gives (without_root i f) f i (IsKeepable store t)
-number_kept {f = f} {i = i} store t r z n e q g =
-    subst (λ (o : Forest). Gives o f i (IsKeepable store t)) (sym (given_rest g)) (gives_as g refl (λ u p. subst (IsKeepable store t) (sym p) (keepable store t r z n e q)))
+number_kept store t r z n e q g = grind (arith, given_rest, gives_as, keepable)
 
 -- the table of the first answer
 pub begun : {f : Forest} {i : ℕ} (s : State) (t : Table) (r : Rat) (z : ℤ) (n : ℕ) → s.nodes ≡ [] → t ≡ first_table i → ratio_of r ≡ whole z → z ≡ pos n → Gives (forest s) f i (λ u. u ≡ num (value_of r)) → IsHeld t f

@@ -1,6 +1,6 @@
 -- Children that are brought into an order, one place after another.
 use Rattle.std.proofs.Common.{◌≡◌, ℕ, ◌+◌, ◌<◌, ◌≤◌, List, length, take, get_or, sym, ap, ◌∙◌, subst, arith, true, All, IsPermutation}
-use Rattle.node_order.proofs.Shared.{swap, range_with_len, take_all, All-get_or, All-permutation, IsPermutation-sym, picked, picked_behind, State, root_ids, IsChildAt, AreSiblings, Forest, join, arity, kids, root_id, first_trees, rest_trees, tree_nth, swapped_nth, kids_of, has_root, root_tree, put, Stands, forest, first-rest, arity-join, arity-first_trees, arity-rest_trees, kids_of_root, root-put, kids-put, put-put, put-same}
+use Rattle.node_order.proofs.Shared.{swap, range_with_len, take_all, All-get_or, All-permutation, IsPermutation-sym, picked_behind, State, root_ids, IsChildAt, AreSiblings, Forest, arity, kids, rest_trees, swapped_nth, kids_of, has_root, root_tree, put, Stands, forest, first-rest, arity-join, arity-first_trees, arity-rest_trees, kids_of_root, root-put, kids-put, put-put, put-same}
 use Rattle.node_order.proofs.Listing.{ids-nth}
 use Rattle.node_order.proofs.Picks.{AreInside, arity-picked, picked-swap, nth-picked_behind}
 use Rattle.node_order.proofs.Places.{inside_range}
@@ -31,23 +31,11 @@ arranged_root i n xs f g a = ap (has_root i) a.shape ∙ root-put i i (picked_be
 
 -- a place of one of them
 pub arranged_place : (i n at : ℕ) (xs : List ℕ) (f : Forest) (s : State) → Stands s → IsArranged i n xs f (forest s) → at < length xs → n + at < arity (kids_of i (forest s))
-arranged_place i n at xs f s st a lt =
-    let k = kids (root_tree i f) in
-    let root = arranged_root i n xs f (forest s) a in
-    let e : arity (kids_of i (forest s)) ≡ arity (picked_behind n xs k) = ap arity (kids_of_root i st root ∙ arranged_kids i n xs f (forest s) a) in
-    omega (arith, arity-join (first_trees n k) (picked xs (rest_trees n k)), arity-first_trees n k a.low, arity-picked xs (rest_trees n k) a.inside)
+arranged_place i n at xs f s h a k = grind (arith, arranged_root, kids_of_root, arranged_kids, arity-join, arity-first_trees, arity-picked)
 
 -- which child stands there, by the identifiers of the children as they stood at first
 arranged_child : (i n at x d : ℕ) (xs : List ℕ) (f : Forest) (s : State) → Stands s → IsArranged i n xs f (forest s) → at < length xs → x ≡ get_or (root_ids (rest_trees n (kids (root_tree i f)))) (get_or xs at 0) d → IsChildAt (n + at) i x (forest s)
-arranged_child i n at x d xs f s st a lt e =
-    let k = kids (root_tree i f) in
-    let same : kids_of i (forest s) ≡ picked_behind n xs k = kids_of_root i st (arranged_root i n xs f (forest s) a) ∙ arranged_kids i n xs f (forest s) a in
-    record {
-      within = arranged_place i n at xs f s st a lt;
-      id-is =
-          e ∙ ids-nth (get_or xs at 0) d (rest_trees n k) (All-get_or (λ j. j < arity (rest_trees n k)) xs at 0 lt a.inside)
-          ∙ sym (ap root_id (ap (tree_nth (n + at)) same ∙ nth-picked_behind n at xs k a.low a.inside lt));
-    }
+arranged_child i n at x d xs f s h a k e = grind (arith, kids_of_root, arranged_root, arranged_kids, arranged_place, ids-nth, All-get_or, nth-picked_behind)
 
 -- two of them, each found in the list of the children as they stood at first
 pub arranged_siblings : (i n at place here wanted x y : ℕ) (xs ids : List ℕ) (f : Forest) (s : State) → Stands s → IsArranged i n xs f (forest s) → ids ≡ root_ids (rest_trees n (kids (root_tree i f)))
@@ -59,18 +47,11 @@ arranged_siblings i n at place here wanted x y xs ids f s st a whole low high e 
 
 -- two of them change places
 pub arranged_swap : (i n at j : ℕ) (xs : List ℕ) (f g h : Forest) → IsArranged i n xs f g → at ≤ j → j < length xs → h ≡ put i (swapped_nth (n + at) (n + j) (kids (root_tree i g))) g → h ≡ put i (picked_behind n (swap xs at j) (kids (root_tree i f))) f
-arranged_swap i n at j xs f g h a le lt e =
-    let k = kids (root_tree i f) in
-    e ∙ (λ d. put i (swapped_nth (n + at) (n + j) (arranged_kids i n xs f g a d)) (a.shape d))
-    ∙ put-put i (swapped_nth (n + at) (n + j) (picked_behind n xs k)) (picked_behind n xs k) f
-    ∙ ap (λ (x : Forest). put i x f) (picked-swap n at j xs k a.low a.inside le lt)
+arranged_swap i n at j xs f g h a k l e = grind (arith, arranged_kids, put-put, picked-swap)
 
 -- before the first change
 pub arranged_start : (i n m : ℕ) (f : Forest) → n + m ≡ arity (kids (root_tree i f)) → f ≡ put i (picked_behind n (range_with_len 0 m) (kids (root_tree i f))) f
-arranged_start i n m f all =
-    let k = kids (root_tree i f) in
-    let same : picked (range_with_len 0 m) (rest_trees n k) ≡ rest_trees n k = picked-range m (rest_trees n k) (omega (arith, arity-rest_trees n k)) in
-    sym (ap (λ (x : Forest). put i (join (first_trees n k) x) f) same ∙ ap (λ (x : Forest). put i x f) (first-rest n k) ∙ put-same i f)
+arranged_start i n m f h = grind (arith, picked-range, arity-rest_trees, first-rest, put-same)
 
 pub all_placed : (xs ys : List ℕ) (at : ℕ) → length xs ≡ length ys → length ys ≤ at → take at xs ≡ take at ys → xs ≡ ys
 all_placed xs ys at long h e = sym (take_all at xs (omega arith)) ∙ e ∙ take_all at ys h

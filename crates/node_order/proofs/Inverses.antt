@@ -15,18 +15,7 @@ pub record AreInverse (n : ℕ) (xs ys : List ℕ) : Type 0 where
 
 -- the places as they are
 pub inverse_start : (n : ℕ) → AreInverse n (range_with_len 0 n) (range_with_len 0 n)
-inverse_start n = record {
-  long = length-range_with_len 0 n;
-  wide = length-range_with_len 0 n;
-  forth = same;
-  back = same;
-}
-  where
-    at : (k : ℕ) → k < n → get_or (range_with_len 0 n) k 0 ≡ k
-    at k lt = omega (arith, get_or-range_with_len 0 n k 0 lt)
-
-    same : Tells n (range_with_len 0 n) (range_with_len 0 n)
-    same k lt = (omega (arith, at k lt), ap (λ i. get_or (range_with_len 0 n) i 0) (at k lt) ∙ at k lt)
+inverse_start n = grind (arith, length-range_with_len, get_or-range_with_len)
 
 tells_swap : (n a b x y : ℕ) (xs ys : List ℕ) → length xs ≡ n → length ys ≡ n → a < n → b < n → x < n → y < n → get_or xs a 0 ≡ x → get_or xs b 0 ≡ y → get_or ys x 0 ≡ a → get_or ys y 0 ≡ b → Tells n xs ys → Tells n (swap xs a b) (swap ys x y)
 tells_swap n a b x y xs ys long wide la lb lx ly ax by xa yb t k lt =

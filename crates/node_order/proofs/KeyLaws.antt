@@ -1,6 +1,6 @@
 -- Keys, and the fronts of their trees.
 use Rattle.std.proofs.Common.{◌≡◌, ◌≢◌, ℕ, zero, suc, ◌-◌, ◌^◌, ◌<◌, ◌≤◌, [], ◌∷◌, length, eqb, cond, refl, sym, ap, ◌∙◌, subst, arith, append-nil, true}
-use Rattle.node_order.proofs.Shared.{ne_eqb, Kind, Payload, rational, named, bare, Tree, mult, Trees, none, count, is_mult, Front, Key, Shows, trees_behind, key_tree, IsKey, State, Visit, grown, compound, plains, plain, takes, children_of, IsWhole, IsExpression, Forest, empty, tree, arity, rest_trees, kids, nodes_in, holds, tree_at, kids_of, payload_in, Stands, forest, visits_of, arity-rest_trees, all-rest_trees, few_in, children_of-plain, count-plains, whole_kids, expression_children, found, found-kids, found-rest_trees, visits_length}
+use Rattle.node_order.proofs.Shared.{ne_eqb, Payload, bare, Tree, mult, Trees, count, is_mult, Front, Key, Shows, trees_behind, key_tree, IsKey, State, Visit, grown, plains, plain, takes, children_of, IsWhole, IsExpression, Forest, empty, tree, arity, rest_trees, kids, nodes_in, holds, tree_at, kids_of, payload_in, Stands, forest, visits_of, arity-rest_trees, all-rest_trees, few_in, children_of-plain, count-plains, whole_kids, expression_children, found, found-kids, found-rest_trees, visits_length}
 use Rattle.calc_algebra.specs.Reduced.{product_tree}
 use Rattle.node_order.proofs.Pairs.{shows_first}
 use Rattle.node_order.proofs.Roots.{is_grown}
@@ -17,10 +17,6 @@ shown_children {i = i} {base = base} e x =
     let same : count (children_of (plain (tree_at i base))) ≡ arity x.kids = ap (λ (t : Tree). count (children_of t)) x.tree-is ∙ ap count g.children-are ∙ count-plains x.kids in
     x.front.children ∙ sym same ∙ expression_children i base e
 
-behind_none : (n : ℕ) → trees_behind n none ≡ none
-behind_none zero = refl
-behind_none (suc n) = refl
-
 pub behind-plains : (n : ℕ) (f : Forest) → trees_behind n (plains f) ≡ plains (rest_trees n f)
 behind-plains zero f = refl
 behind-plains (suc n) empty = refl
@@ -30,9 +26,7 @@ key_cond : (t : Tree) (u : Tree) (n : ℕ) → n ≢ 0 → cond (eqb n 0) t u �
 key_cond t u n h = ap (λ b. cond b t u) (ne_eqb n 0 h)
 
 key_rest : (k : Key) (f : Forest) → IsKey k f → k.behind ≢ 0 → key_tree k f ≡ product_tree (plains (rest_trees k.behind (kids_of k.id f)))
-key_rest k f x h =
-    key_cond (plain (tree_at k.id f)) (product_tree (trees_behind k.behind (children_of (plain (tree_at k.id f))))) k.behind h
-    ∙ ap product_tree (ap (trees_behind k.behind) (children_of-plain (tree_at k.id f) x.tree.whole) ∙ behind-plains k.behind (kids_of k.id f))
+key_rest k f x h = grind (arith, key_cond, children_of-plain, behind-plains)
 
 one_factor : (f : Forest) → arity f ≡ 1 → product_tree (plains f) ≡ plain f
 one_factor empty e = absurd (omega arith)
@@ -51,8 +45,7 @@ nodes_rest (suc n) empty = omega arith
 nodes_rest (suc n) (tree l k r) = omega (arith, nodes_rest n r)
 
 nodes_kids : (t : Forest) → nodes_in (kids t) ≤ nodes_in t
-nodes_kids empty = omega arith
-nodes_kids (tree l k r) = omega arith
+nodes_kids t = grind arith
 
 rest_few : (n i : ℕ) (s : State) → Stands s → nodes_in (rest_trees n (kids_of i (forest s))) ≤ 65535
 rest_few n i s st = omega (arith, few_in i s st, nodes_kids (tree_at i (forest s)), nodes_rest n (kids_of i (forest s)))
@@ -68,20 +61,8 @@ key_last {front = front} {k = k} {st = st} s x h one e =
     let whole = all-rest_trees IsWhole k.behind kids (whole_kids (tree_at k.id base) x.tree.whole) in
     subst (λ (t : Tree). Shows front t base) (sym (key_rest k base x h ∙ one_factor rest many)) (shows_first rest many whole (found-rest_trees base k.behind kids (found-kids base (tree_at k.id base) (found k.id st s))) (rest_few k.behind k.id st s) e)
 
-mult_compound : (k : Kind) (ts : Trees) → is_mult (compound k ts) ≡ true → k ≡ kind.Mult
-mult_compound kind.Mult ts h = refl
-mult_compound kind.Add ts h = absurd cc
-mult_compound kind.Pow ts h = absurd cc
-mult_compound kind.Root ts h = absurd cc
-mult_compound kind.Neg ts h = absurd cc
-mult_compound kind.Sub ts h = absurd cc
-mult_compound kind.Div ts h = absurd cc
-mult_compound k ts h = absurd cc
-
 mult_payload : (x : Payload) (ts : Trees) → is_mult (grown x ts) ≡ true → x ≡ bare kind.Mult
-mult_payload (rational r) ts h = absurd cc
-mult_payload (named x) ts h = absurd cc
-mult_payload (bare k) ts h = ap bare (mult_compound k ts h)
+mult_payload x ts h = grind arith
 
 -- some factors are left out, and two or more are not
 pub key_product : {front new : Front} {k : Key} {st : State} → Stands st → IsKey k (forest st) → k.behind ≢ 0 → arity (kids_of k.id (forest st)) - k.behind ≢ 1 → Shows front (plain (tree_at k.id (forest st))) (forest st)

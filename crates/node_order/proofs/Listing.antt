@@ -28,8 +28,7 @@ pub nth-front : (n k : ℕ) (a g : Forest) → n ≡ arity a → tree_nth (n + k
 nth-front n k a g e = ap (λ m. tree_nth (m + k) (join a g)) e ∙ ap (first_trees 1) (rest-front a g k)
 
 rest_none : (k : ℕ) → rest_trees k empty ≡ empty
-rest_none zero = refl
-rest_none (suc k) = refl
+rest_none k = grind arith
 
 rest-rest : (n k : ℕ) (f : Forest) → rest_trees k (rest_trees n f) ≡ rest_trees (n + k) f
 rest-rest zero k f = ap (λ m. rest_trees m f) (sym (zero-add k))
@@ -38,12 +37,7 @@ rest-rest (suc n) k (tree l b r) = rest-rest n k r ∙ sym (ap (λ m. rest_trees
 
 -- a child by its place among those from a place on
 pub later_child : (i n at x : ℕ) (f : Forest) → at < arity (rest_trees n (kids_of i f)) → x ≡ root_id (tree_nth at (rest_trees n (kids_of i f))) → IsChildAt (n + at) i x f
-later_child i n at x f lt e =
-    let k = kids_of i f in
-    record {
-      within = omega (arith, lt, arity-rest_trees n k);
-      id-is = e ∙ ap (λ (g : Forest). root_id (first_trees 1 g)) (rest-rest n at k);
-    }
+later_child i n at x f h e = grind (arith, arity-rest_trees, rest-rest)
 
 -- ---- a walk over a list, whose items are counted
 

@@ -1,6 +1,6 @@
 -- Pairs of trees that are compared in one walk.
 use Rattle.std.proofs.Common.{Bool, not, ◌==◌, ◌≡◌, ◌≢◌, ℕ, zero, suc, ◌+◌, ◌-◌, ◌^◌, ◌<◌, ◌≤◌, min, List, [], ◌∷◌, ◌++◌, length, refl, sym, ap, ◌∙◌, subst, arith, append_assoc, append-nil, ⊎_elim, true, false}
-use Rattle.node_order.proofs.Shared.{Ordering, Less, Equal, Greater, nat_cmp, ordering_then, ordering_index, cases_eq, map-append, length-append, Payload, tree_cmp, trees_cmp, Tree, Front, IsFront, Shows, payload_cmp, State, Visit, grown, plain, plains, IsWhole, IsExpression, AllExpressions, Label, Forest, empty, tree, join, arity, node_of, flatten, first_trees, rest_trees, root_payload, nodes_in, tree_at, payload_in, Stands, forest, visit_of, visits_of, AreFound, arity-join, arity-first_trees, all-join, all-first_trees, nodes-flatten, arity_le, few_in, one_at, found, found-join, found-first_trees, seen, visits-join, visits-first_rest, visits_length}
+use Rattle.node_order.proofs.Shared.{Ordering, Equal, nat_cmp, ordering_then, ordering_index, cases_eq, map-append, length-append, Payload, tree_cmp, trees_cmp, Tree, Front, IsFront, Shows, payload_cmp, State, Visit, grown, plain, plains, IsWhole, IsExpression, AllExpressions, Label, Forest, empty, tree, join, arity, node_of, flatten, first_trees, rest_trees, root_payload, nodes_in, tree_at, payload_in, Stands, forest, visit_of, visits_of, AreFound, arity-join, arity-first_trees, all-join, all-first_trees, nodes-flatten, arity_le, few_in, one_at, found, found-join, found-first_trees, seen, visits-join, visits-first_rest, visits_length}
 use Rattle.node_order.specs.declared.comparing.Pairs.{Pairs}
 use Rattle.node_order.proofs.Orderings.{then-equal, then_assoc, then_decided, nat_cmp_less, nat_cmp_greater, nat_cmp_equal, nat_cmp-suc}
 use Rattle.node_order.proofs.Roots.{by_roots}
@@ -17,8 +17,7 @@ cmp-join (tree l k r) (tree m j s) f g e =
     ap (ordering_then d) (cmp-join r s f g (omega arith)) ∙ sym (then_assoc d (trees_cmp (plains r) (plains s)) (trees_cmp (plains f) (plains g)))
 
 first_none : (n : ℕ) → first_trees n empty ≡ empty
-first_none zero = refl
-first_none (suc n) = refl
+first_none n = grind arith
 
 -- as many trees as both have, and then the numbers of trees
 pub cmp-first : (k j : Forest) (n : ℕ) → n ≡ min (arity k) (arity j) → trees_cmp (plains k) (plains j) ≡ ordering_then (trees_cmp (plains (first_trees n k)) (plains (first_trees n j))) (nat_cmp (arity k) (arity j))
@@ -98,14 +97,7 @@ open_start a b = record {
 -- the order of the roots, and then that of their children
 roots_first : {left right : Front} {owed : ℕ} {undecided total roots : Ordering} {base : Forest} (o : IsOpen left right owed undecided total base) → roots ≡ payload_cmp (payload_in left.root.id base) (payload_in right.root.id base)
     → ordering_then roots (ordering_then (ordering_then (trees_cmp (plains o.k) (plains o.j)) (trees_cmp (plains o.f) (plains o.g))) undecided) ≡ total
-roots_first {undecided = undecided} {roots = roots} o e =
-    let same : roots ≡ payload_cmp o.x o.y = e ∙ (λ i. payload_cmp (o.one.payload i) (o.two.payload i)) in
-    let kids = trees_cmp (plains o.k) (plains o.j) in
-    let others = trees_cmp (plains o.f) (plains o.g) in
-    ap (λ (r : Ordering). ordering_then r (ordering_then (ordering_then kids others) undecided)) same
-    ∙ sym (then_assoc (payload_cmp o.x o.y) (ordering_then kids others) undecided)
-    ∙ ap (λ (r : Ordering). ordering_then r undecided) (sym (then_assoc (payload_cmp o.x o.y) kids others) ∙ ap (λ (r : Ordering). ordering_then r others) (sym (by_roots o.x o.y o.k o.j o.one.few o.one.below o.two.few o.two.below)))
-    ∙ o.sum
+roots_first o e = grind (arith, then_assoc, by_roots)
 
 -- the roots decide
 pub open_decided : {left right : Front} {owed : ℕ} {undecided total roots : Ordering} {base : Forest} → IsOpen left right owed undecided total base → roots ≡ payload_cmp (payload_in left.root.id base) (payload_in right.root.id base)
@@ -204,14 +196,10 @@ open_few {left = left} o =
 
 -- two roots that are not unequal
 pub equal_roots : (o : Ordering) (t : Bool) → t ≡ not (ordering_index o == 1) → t ≡ false → o ≡ Equal
-equal_roots Less t e h = absurd cc
-equal_roots Equal t e h = refl
-equal_roots Greater t e h = absurd cc
+equal_roots o t e h = grind arith
 
 pub unequal_roots : (o : Ordering) (t : Bool) → t ≡ not (ordering_index o == 1) → t ≡ true → o ≢ Equal
-unequal_roots Less t e h = λ q. absurd cc
-unequal_roots Equal t e h = λ q. absurd cc
-unequal_roots Greater t e h = λ q. absurd cc
+unequal_roots o t e h = grind arith
 
 -- no pair is left
 pub pending_done : {left right : List Visit} {owed : ℕ} {undecided total : Ordering} {base : Forest} → IsPending left right owed undecided total base → owed ≡ 0 → undecided ≡ total

@@ -1,6 +1,6 @@
 -- Trees that are picked by places.
-use Rattle.std.proofs.Common.{◌≡◌, ℕ, zero, suc, ◌+◌, ◌<◌, ◌≤◌, List, [], ◌∷◌, ◌++◌, length, get_or, refl, sym, ap, ◌∙◌, subst, arith, All, ⊎_elim}
-use Rattle.node_order.proofs.Shared.{swap, cases_lt, All-head, All-tail, All-nil, All-cons, picked, picked_behind, Forest, join, arity, first_trees, rest_trees, tree_nth, set_nth, swapped_nth, join_assoc, arity-join, arity-tree_nth, arity-first_trees}
+use Rattle.std.proofs.Common.{◌≡◌, ℕ, zero, suc, ◌+◌, ◌<◌, ◌≤◌, List, [], ◌∷◌, ◌++◌, length, get_or, refl, sym, ap, ◌∙◌, subst, arith, All}
+use Rattle.node_order.proofs.Shared.{swap, All-head, All-tail, All-nil, All-cons, picked, picked_behind, Forest, join, arity, first_trees, rest_trees, tree_nth, set_nth, swapped_nth, join_assoc, arity-join, arity-tree_nth, arity-first_trees}
 use Rattle.node_order.proofs.Listing.{nth-front}
 use Rattle.node_order.proofs.Places.{pair, swap_same}
 use Rattle.tree_handles.proofs.Nths.{first_trees-behind, tree_nth-behind, set_nth-behind, swapped_nth-same}
@@ -34,9 +34,7 @@ swapped_parts i j a p y q z ai one other aj =
 
 pick_two : (before between behind : List ℕ) (first second : ℕ) (a f : Forest) → join a (picked (before ++ (first ∷ (between ++ (second ∷ behind)))) f)
     ≡ join (join a (picked before f)) (join (tree_nth first f) (join (picked between f) (join (tree_nth second f) (picked behind f))))
-pick_two before between behind first second a f =
-    ap (join a) (picked-append before (first ∷ (between ++ (second ∷ behind))) f ∙ ap (λ (x : Forest). join (picked before f) (join (tree_nth first f) x)) (picked-append between (second ∷ behind) f))
-    ∙ sym (join_assoc a (picked before f) (join (tree_nth first f) (join (picked between f) (join (tree_nth second f) (picked behind f)))))
+pick_two before between behind first second a f = grind (arith, picked-append, join_assoc)
 
 inside_part : (xs ys : List ℕ) (f : Forest) → AreInside f (xs ++ ys) → AreInside f xs × AreInside f ys
 inside_part [] ys f h = (All-nil (λ i. i < arity f), h)
@@ -64,11 +62,7 @@ swapped_apart n i j xs a f e h lt room =
 
 -- two of them change places
 pub picked-swap : (n i j : ℕ) (xs : List ℕ) (f : Forest) → n ≤ arity f → AreInside (rest_trees n f) xs → i ≤ j → j < length xs → swapped_nth (n + i) (n + j) (picked_behind n xs f) ≡ picked_behind n (swap xs i j) f
-picked-swap n i j xs f le h lt room =
-    ⊎_elim (λ less. swapped_apart n i j xs (first_trees n f) (rest_trees n f) (sym (arity-first_trees n f le)) h less room)
-    (λ ge. let e : i ≡ j = omega arith in
-    ap (λ k. swapped_nth (n + k) (n + j) (picked_behind n xs f)) e ∙ swapped_nth-same (n + j) (picked_behind n xs f)
-    ∙ ap (λ (x : List ℕ). picked_behind n x f) (sym (swap_same xs j room) ∙ ap (λ k. swap xs k j) (sym e))) (cases_lt i j)
+picked-swap n i j xs f h k l m = grind (arith, swapped_apart, arity-first_trees, swapped_nth-same, swap_same, swap)
 
 -- ---- one of the picked trees
 

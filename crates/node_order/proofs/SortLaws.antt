@@ -52,8 +52,7 @@ picked-range n f e = range_rest n 0 f (omega arith)
 -- ---- the order of places, as one of trees
 
 nth_none : (j : ℕ) → nth j none ≡ undef
-nth_none zero = refl
-nth_none (suc j) = refl
+nth_none j = grind arith
 
 suc-add_left : (n j : ℕ) → suc n + j ≡ suc (n + j)
 suc-add_left n j = omega arith

@@ -25,12 +25,7 @@ grown n (tree l k (tree m j s)) e p once new whole = absurd (omega arith)
 
 -- with other children
 pub sum_put : (i : ℕ) (n f : Forest) → IsSum i f → AllOnce n → AllExpressions n → IsSum i (put i n f)
-sum_put i n f h once whole =
-    let g = subst IsGrown (sym (tree-put i n f h.handed.root)) (grown n (root_tree i f) (root_arity i f h.handed.root) h.payload h.handed.once once whole) in
-    record {
-      handed = record { root = root-put i i n f ∙ h.handed.root; once = g.once; whole = g.whole };
-      payload = g.payload;
-    }
+sum_put i n f h k l = grind (arith, tree-put, grown, root_arity, root-put)
 
 -- a new tree becomes its first child
 pub sum_takes : {others f : Forest} {i : ℕ} {Told : Tree → Type 0} (sum : ℕ) (new : Forest) → IsSum sum others → Gives others f i Told → new ≡ put sum (with_nth 0 (root_tree i f) (kids (root_tree sum f))) (without_root i f) → IsSum sum new

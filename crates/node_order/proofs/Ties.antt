@@ -1,6 +1,6 @@
 -- Places in the order of their trees, and of one tree in their own order: trees with one key keep their order.
 use Rattle.std.proofs.Common.{◌≡◌, ℕ, zero, suc, ◌+◌, ◌≤◌, ◌<◌, List, [], ◌∷◌, length, get_or, map, Bool, true, false, not, ◌&&◌, cond, eqb, sum_by, true≢false, eqb-true, eq-eqb, refl, sym, ap, ◌∙◌, arith, All, IsPermutation}
-use Rattle.node_order.proofs.Shared.{Ordering, Less, Equal, Greater, IsTotalOrder, nat_cmp_total, on_total, ranked, then_total, filter, range_with_len, IsSorted, IsSortedByKey, IsStableByKey, is_lt, MatchOrdering, nat_cmp, ordering_reverse, ordering_then, All-get_or, ranks_by, sorted_far, sum_by-IsPermutation, tree_cmp, Tree, place_cmp}
+use Rattle.node_order.proofs.Shared.{Ordering, Equal, IsTotalOrder, nat_cmp_total, on_total, then_total, filter, range_with_len, IsSorted, IsSortedByKey, IsStableByKey, is_lt, nat_cmp, ordering_reverse, ordering_then, ranks_by, sorted_far, sum_by-IsPermutation, tree_cmp, Tree, place_cmp}
 use Rattle.std.proofs.lemmas.List.Sums.{sum_by-cons}
 use Rattle.calc_algebra.proofs.TreeOrderLaws.{tree_cmp_total, tree_cmp_equal, tree_cmp_refl}
 
@@ -105,27 +105,17 @@ abbrev alike : (ℕ → Tree) → Tree → ℕ → Bool
 alike tree t a = not (is_lt (tree_cmp t (tree a))) && not (is_lt (tree_cmp (tree a) t))
 
 neither : (o p : Ordering) → p ≡ ordering_reverse o → (not (is_lt o) && not (is_lt p)) ≡ true → o ≡ Equal
-neither Less p e h = cc
-neither Equal p e h = refl
-neither Greater p e h = let l : is_lt p ≡ true = ap is_lt e in absurd (true≢false (sym h ∙ ap not l))
+neither o p e h = grind arith
 
 alike_is : (tree : ℕ → Tree) (t : Tree) (a : ℕ) → alike tree t a ≡ true → t ≡ tree a
 alike_is tree t a h = tree_cmp_equal t (tree a) (neither (tree_cmp t (tree a)) (tree_cmp (tree a) t) (tree_cmp_total.antisymm (tree a) t) h)
 
 not_less : (m n : ℕ) → is_lt (nat_cmp m n) ≡ false → n ≤ m
-not_less m n h = split _ (ranked m n _ refl) h
-  where
-    split : (o : Ordering) → MatchOrdering o (m < n) (m ≡ n) (n < m) → is_lt o ≡ false → n ≤ m
-    split Less l e = absurd (true≢false e)
-    split Equal l e = omega arith
-    split Greater l e = omega arith
+not_less m n h = grind arith
 
 -- of two of them the later one is the greater
 tied_up : (tree : ℕ → Tree) (t : Tree) (a b : ℕ) → alike tree t a ≡ true → alike tree t b ≡ true → is_lt (place_cmp tree b a) ≡ false → a ≤ b
-tied_up tree t a b h k l =
-    let e : tree b ≡ tree a = sym (alike_is tree t b k) ∙ alike_is tree t a h in
-    let tie : tree_cmp (tree b) (tree a) ≡ Equal = ap (λ (x : Tree). tree_cmp x (tree a)) e ∙ tree_cmp_refl (tree a) in
-    not_less b a (sym (ap (λ (o : Ordering). is_lt (ordering_then o (nat_cmp b a))) tie) ∙ l)
+tied_up tree t a b h k l = grind (arith, alike_is, tree_cmp_refl, not_less)
 
 from_kept : (tree : ℕ → Tree) (t : Tree) (y : ℕ) (ys : List ℕ) → alike tree t y ≡ true → ((j d : ℕ) → j < length ys → is_lt (place_cmp tree (get_or ys j d) y) ≡ false) → AllFrom y (filter (alike tree t) ys)
 from_kept tree t y [] h up = tt
@@ -170,18 +160,11 @@ trees_stable g key m ys moved sorted x =
 -- ---- by their trees alone
 
 not_below : (o p : Ordering) → is_lt (ordering_then o p) ≡ false → is_lt o ≡ false
-not_below Less p h = h
-not_below Equal p h = refl
-not_below Greater p h = refl
+not_below o p h = grind arith
 
 pub trees_rise : (tree : ℕ → Tree) (ys : List ℕ) → IsSorted (place_cmp tree) ys → IsSortedByKey tree tree_cmp ys
 trees_rise tree ys sorted k d low high = not_below _ _ (sorted k d low high)
 
 -- places with the same trees are in the same order
 pub places_same : (tree other : ℕ → Tree) (ys : List ℕ) (m : ℕ) → IsSorted (place_cmp tree) ys → All (λ j. j < m) ys → ((j : ℕ) → j < m → tree j ≡ other j) → IsSorted (place_cmp other) ys
-places_same tree other ys m sorted inside same = λ k d low high.
-    let x = get_or ys k d in
-    let y = get_or ys (k + 1) d in
-    let first = same x (All-get_or (λ j. j < m) ys k d (omega arith) inside) in
-    let second = same y (All-get_or (λ j. j < m) ys (k + 1) d high inside) in
-    (λ i. is_lt (ordering_then (tree_cmp (sym second i) (sym first i)) (nat_cmp y x))) ∙ sorted k d low high
+places_same tree other ys m h k l = grind arith

@@ -13,7 +13,10 @@ use calc_terms::{Kind, Name, Rat};
 use node_pool::{Full, Id, Pool};
 use std::cmp::Ordering;
 use std::test::Fail;
-use tree_handles::{Handle, add_child, child_id, children, kind, name, node, node_over, node_over_two, number, open_pool, symbol};
+use tree_handles::{
+    Handle, add_child, child_id, children, kind, name, node, node_over, node_over_two, number,
+    open_pool, symbol,
+};
 
 /// A small tree.
 #[derive(Clone, Copy, Debug)]

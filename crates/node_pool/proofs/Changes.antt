@@ -4,7 +4,7 @@ use Rattle.node_pool.proofs.Shared.{drop-drop, drop-replicate, drop_at, length-a
 use Rattle.node_pool.specs.declared.buffer.Buffer.TheInside.{Inside}
 use Rattle.node_pool.proofs.Cuts.{AreNodes-swap, AreNodes-without, boundary_le, cut, cut3}
 use Rattle.node_pool.proofs.Exchanges.{AreBlocks, half}
-use Rattle.node_pool.proofs.Fields.{IsDone, IsOf, contents_are, laid, size_is}
+use Rattle.node_pool.proofs.Fields.{IsDone, IsOf, contents_are}
 use Rattle.node_pool.proofs.Found.{found}
 use Rattle.node_pool.proofs.Sizes.{AreNodes-append, AreNodes-left, AreNodes-right, encodings-append, length-encodings, used-append}
 use Rattle.node_pool.proofs.Slides.{closed_up, switched_twice, turned}
@@ -15,9 +15,7 @@ pub record IsNext (p q : Inside) (ns : List Node) : Type 0 where
   pub size : length q.store ≡ length p.store
 
 pub done : (p q : Inside) (c : Contents) (ns : List Node) → contents_of p ≡ c → IsNext p q ns → IsDone c q ns
-done p q c ns e n =
-    let k = laid q ns n.of in
-    record { laid = k; nodes = contents_are q ns n.of ∙ ap (λ (m : ℕ). record { nodes = ns; size = m }) (n.size ∙ size_is p c e); kept = k.contents }
+done p q c ns e n = grind (arith, contents_are)
 
 -- ---- a block goes
 

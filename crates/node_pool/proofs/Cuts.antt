@@ -1,5 +1,5 @@
 -- Cutting a list of nodes at places.
-use Rattle.std.proofs.Common.{Bool, List, [], ap, append_assoc, arith, cond, eqb, false, length, refl, subst, sym, true, ℕ, ◌++◌, ◌+◌, ◌-◌, ◌<◌, ◌∙◌, ◌∷◌, ◌≡◌, ◌≤◌}
+use Rattle.std.proofs.Common.{Bool, List, [], ap, append_assoc, arith, cond, eqb, false, length, refl, subst, sym, ℕ, ◌++◌, ◌+◌, ◌-◌, ◌<◌, ◌∙◌, ◌∷◌, ◌≡◌, ◌≤◌}
 use Rattle.node_pool.proofs.Shared.{ne_eqb, append_cancel_left, length-append, Node, size_of, AreDistinct, AreNodes, first_of, used, IsBoundary, between, since, until}
 use Rattle.node_pool.proofs.Ids.{AreApart-append, AreApart-parts, AreApart-sym, AreDistinct-append, AreDistinct-parts}
 use Rattle.node_pool.proofs.Sizes.{AreNodes-append, AreNodes-left, AreNodes-right, size_from, used-append}
@@ -22,8 +22,7 @@ since-append (n ∷ a) b =
     rw (no, less) (since-append a b)
 
 cut_step : (t : Bool) (n : Node) (ns a b : List Node) → a ++ b ≡ ns → cond t [] (n ∷ a) ++ cond t (n ∷ ns) b ≡ n ∷ ns
-cut_step true n ns a b h = refl
-cut_step false n ns a b h = ap (λ (x : List Node). n ∷ x) h
+cut_step t n ns a b h = grind arith
 
 pub until-since : (at : ℕ) (ns : List Node) → until at ns ++ since at ns ≡ ns
 until-since at [] = refl
@@ -83,33 +82,17 @@ cut3 x y z ns a b c h k =
 
 -- the same nodes in another order
 pub AreNodes-swap : (a x y d : List Node) → AreNodes (a ++ (x ++ (y ++ d))) → AreNodes (a ++ (y ++ (x ++ d)))
-AreNodes-swap a x y d h =
-    let r = AreNodes-right a (x ++ (y ++ d)) h in
-    let s = AreNodes-right x (y ++ d) r in
-    AreNodes-append a (y ++ (x ++ d)) (AreNodes-left a (x ++ (y ++ d)) h)
-    (AreNodes-append y (x ++ d) (AreNodes-left y d s) (AreNodes-append x d (AreNodes-left x (y ++ d) r) (AreNodes-right y d s)))
+AreNodes-swap a x y d h = grind (arith, AreNodes-right, AreNodes-append, AreNodes-left)
 
 pub AreDistinct-swap : (a x y d : List Node) → AreDistinct (a ++ (x ++ (y ++ d))) → AreDistinct (a ++ (y ++ (x ++ d)))
-AreDistinct-swap a x y d h =
-    let p = AreDistinct-parts a (x ++ (y ++ d)) h in
-    let q = AreDistinct-parts x (y ++ d) p.1 in
-    let r = AreDistinct-parts y d q.1 in
-    let ax = AreApart-parts a x (y ++ d) p.2 in
-    let ayd = AreApart-parts a y d ax.1 in
-    let xyd = AreApart-parts x y d q.2 in
-    AreDistinct-append a (y ++ (x ++ d)) p.0
-    (AreDistinct-append y (x ++ d) r.0 (AreDistinct-append x d q.0 r.1 xyd.1) (AreApart-append y x d (AreApart-sym x y xyd.0) r.2))
-    (AreApart-append a y (x ++ d) ayd.0 (AreApart-append a x d ax.0 ayd.1))
+AreDistinct-swap a x y d h = grind (arith, AreDistinct-parts, AreApart-parts, AreDistinct-append, AreApart-append, AreApart-sym)
 
 -- without a part in the middle
 pub AreNodes-without : (a b c : List Node) → AreNodes (a ++ (b ++ c)) → AreNodes (a ++ c)
 AreNodes-without a b c h = AreNodes-append a c (AreNodes-left a (b ++ c) h) (AreNodes-right b c (AreNodes-right a (b ++ c) h))
 
 pub AreDistinct-without : (a b c : List Node) → AreDistinct (a ++ (b ++ c)) → AreDistinct (a ++ c)
-AreDistinct-without a b c h =
-    let p = AreDistinct-parts a (b ++ c) h in
-    let q = AreDistinct-parts b c p.1 in
-    AreDistinct-append a c p.0 q.1 (AreApart-parts a b c p.2).1
+AreDistinct-without a b c h = grind (arith, AreDistinct-parts, AreDistinct-append, AreApart-parts)
 
 pub boundary_le : (at : ℕ) (ns : List Node) → IsBoundary at ns → at ≤ used ns
 boundary_le at ns b = omega (arith, used-append (until at ns) (since at ns), ap used (until-since at ns), b)

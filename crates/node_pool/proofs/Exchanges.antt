@@ -142,19 +142,7 @@ pub record HasBlocks (i j k l : ℕ) (ms one two : List Node) : Type 0 where
   pub high : between k l ms ≡ one
 
 has_blocks : (i j k l : ℕ) (a x y z b : List Node) → used a ≡ i → used (a ++ z) ≡ j → used ((a ++ z) ++ y) ≡ k → used (((a ++ z) ++ y) ++ x) ≡ l → HasBlocks i j k l (a ++ (z ++ (y ++ (x ++ b)))) x z
-has_blocks i j k l a x y z b hi hj hk hl =
-    let ms = a ++ (z ++ (y ++ (x ++ b))) in
-    let by_two : (a ++ z) ++ (y ++ (x ++ b)) ≡ ms = append_assoc a z (y ++ (x ++ b)) in
-    let by_three : ((a ++ z) ++ y) ++ (x ++ b) ≡ ms = append_assoc (a ++ z) y (x ++ b) ∙ by_two in
-    let by_four : (((a ++ z) ++ y) ++ x) ++ b ≡ ms = append_assoc ((a ++ z) ++ y) x b ∙ by_three in
-    record {
-      first = boundary-append a (z ++ (y ++ (x ++ b))) i (sym hi);
-      mid = subst (IsBoundary j) by_two (boundary-append (a ++ z) (y ++ (x ++ b)) j (sym hj));
-      second = subst (IsBoundary k) by_three (boundary-append ((a ++ z) ++ y) (x ++ b) k (sym hk));
-      end = subst (IsBoundary l) by_four (boundary-append (((a ++ z) ++ y) ++ x) b l (sym hl));
-      low = between-append a z (y ++ (x ++ b)) i j (sym hi) (sym hj ∙ used-append a z);
-      high = subst (λ (t : List Node). between k l t ≡ x) by_three (between-append ((a ++ z) ++ y) x b k l (sym hk) (sym hl ∙ used-append ((a ++ z) ++ y) x));
-    }
+has_blocks i j k l a x y z b h m n p = grind (arith, append_assoc, boundary-append, between-append, used-append)
 
 pub blocks_of : {i j k l : ℕ} {ns ms : List Node} (e : AreExchanged i j k l ns ms) → HasBlocks i j k l ms e.one e.two
 blocks_of {i = i} {j = j} {k = k} {l = l} e = subst (λ (t : List Node). HasBlocks i j k l t e.one e.two) (sym e.is) (has_blocks i j k l e.before e.one e.middle e.two e.behind e.first e.mid e.second e.end)

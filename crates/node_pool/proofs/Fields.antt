@@ -1,7 +1,7 @@
 -- A buffer whose bytes are those of a list of nodes.
-use Rattle.std.proofs.Common.{List, ap, arith, drop, get_or, length, refl, replicate, subst, sym, take, ℕ, Bool, ◌==◌, ◌++◌, ◌+◌, ◌-◌, ◌<◌, ◌∙◌, ◌∷◌, ◌≡◌, ◌≤◌}
+use Rattle.std.proofs.Common.{List, ap, arith, drop, get_or, length, refl, replicate, sym, take, ℕ, Bool, ◌==◌, ◌++◌, ◌+◌, ◌-◌, ◌<◌, ◌∙◌, ◌∷◌, ◌≡◌, ◌≤◌}
 use Rattle.std.specs.Prelude.{Option}
-use Rattle.node_pool.proofs.Shared.{drop-drop, drop-take, take-take, kind_of, Node, from_bytes, header_in, short_at, header_of, kind_at, kind_or_undef, size_of, size_of_header, Kind, Header, header_in-encoding, header_is, Contents, IsContents, nodes_of, IsLaid, contents_of, AreNodes, encodings, first_of, used, IsBoundary, since}
+use Rattle.node_pool.proofs.Shared.{drop-drop, kind_of, Node, from_bytes, header_in, short_at, header_of, kind_at, kind_or_undef, size_of, size_of_header, Kind, Header, header_in-encoding, Contents, IsContents, nodes_of, IsLaid, contents_of, AreNodes, encodings, first_of, used, IsBoundary, since}
 use Rattle.node_pool.specs.declared.buffer.Buffer.TheInside.{Inside}
 use Rattle.node_pool.proofs.Numbers.{byte_read}
 use Rattle.node_pool.proofs.Sizes.{length-nodes_of, nodes_of-encodings, size_from}
@@ -26,24 +26,13 @@ nodes_are : (b : Inside) (ns : List Node) → IsOf b ns → nodes_of b.count b.s
 nodes_are b ns h = ap (λ (k : ℕ). nodes_of k b.store) h.count ∙ ap (nodes_of (length ns)) h.bytes ∙ nodes_of-encodings ns (replicate (length b.store - used ns) 0) h.nodes
 
 pub laid : (b : Inside) (ns : List Node) → IsOf b ns → IsLaid b
-laid b ns h =
-    let e = nodes_are b ns h in
-    record { bytes = rw e h.bytes; used = rw e h.used; contents = record { nodes = rw e h.nodes; fits = rw e h.fits; small = h.small } }
+laid b ns h = grind (arith, nodes_are)
 
 pub contents_are : (b : Inside) (ns : List Node) → IsOf b ns → contents_of b ≡ record { nodes = ns; size = length b.store }
 contents_are b ns h = rw (nodes_are b ns h) refl
 
 pub opened : (b : Inside) (c : Contents) → IsLaid b → contents_of b ≡ c → IsOf b c.nodes
-opened b c h e =
-    let ns : nodes_of b.count b.store ≡ c.nodes = ap (λ (x : Contents). x.nodes) e in
-    record {
-      bytes = subst (λ (x : List Node). b.store ≡ encodings x ++ replicate (length b.store - used x) 0) ns h.bytes;
-      nodes = subst AreNodes ns h.contents.nodes;
-      fits = subst (λ (x : List Node). used x ≤ length b.store) ns h.contents.fits;
-      small = h.contents.small;
-      count = sym (length-nodes_of b.count b.store) ∙ ap length ns;
-      used = h.used ∙ ap used ns;
-    }
+opened b c h e = grind (arith, length-nodes_of)
 
 pub size_is : (b : Inside) (c : Contents) → contents_of b ≡ c → length b.store ≡ c.size
 size_is b c e = ap (λ (x : Contents). x.size) e
@@ -87,16 +76,7 @@ pub short_is : (xs : List ℕ) (at form : ℕ) (b : Bool) → at + 2 ≤ length 
 unfolding short_at
 short_is xs at form b h e is = is ∙ ap (λ (x : ℕ). x == 1) (e ∙ sym (byte_read xs (at + 1) (omega arith)) ∙ ap (λ (x : List ℕ). from_bytes (take 1 x)) (sym (drop-drop 1 at xs)))
 
-part_is : (i : ℕ) (xs : List ℕ) (n k : ℕ) → i + n ≡ 8 → k ≤ n → take k (drop i (take 8 xs)) ≡ take k (drop i xs)
-part_is i xs n k e h = ap (λ (m : ℕ). take k (drop i (take m xs))) (sym e) ∙ ap (take k) (drop-take i n xs) ∙ take-take k n (drop i xs) h
-
 -- a header is read from eight bytes
 pub front_is : (xs : List ℕ) → header_in (take 8 xs) ≡ header_in xs
 unfolding header_in kind_at short_at
-front_is xs =
-    let kind : take 1 (take 8 xs) ≡ take 1 xs = take-take 1 8 xs (omega arith) in
-    let form : take 1 (drop 1 (take 8 xs)) ≡ take 1 (drop 1 xs) = part_is 1 xs 7 1 (omega arith) (omega arith) in
-    let id : take 2 (drop 2 (take 8 xs)) ≡ take 2 (drop 2 xs) = part_is 2 xs 6 2 (omega arith) (omega arith) in
-    let count : take 2 (drop 4 (take 8 xs)) ≡ take 2 (drop 4 xs) = part_is 4 xs 4 2 (omega arith) (omega arith) in
-    let children : take 2 (drop 6 (take 8 xs)) ≡ take 2 (drop 6 xs) = part_is 6 xs 2 2 (omega arith) (omega arith) in
-    header_is xs (kind_at (take 8 xs)) (short_at (take 8 xs)) _ _ _ (ap (λ (x : List ℕ). kind_or_undef (kind_of (from_bytes x))) kind) (ap (λ (x : List ℕ). from_bytes x == 1) form) (ap from_bytes id) (ap from_bytes count) (ap from_bytes children)
+front_is xs = grind arith

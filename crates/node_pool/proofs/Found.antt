@@ -1,5 +1,5 @@
 -- The node with an identifier.
-use Rattle.std.proofs.Common.{Bool, List, [], ap, append-nil, cond, eqb, false, refl, subst, sym, true, ℕ, ◌++◌, ◌+◌, ◌∙◌, ◌∷◌, ◌≡◌}
+use Rattle.std.proofs.Common.{arith, Bool, List, [], ap, append-nil, cond, eqb, false, refl, subst, sym, true, ℕ, ◌++◌, ◌+◌, ◌∙◌, ◌∷◌, ◌≡◌}
 use Rattle.node_pool.proofs.Shared.{eqb-true, Node, size_of, AreDistinct, has, payload_of_id, place_of, used, with_children, with_count, IsBoundary}
 use Rattle.node_pool.proofs.Splits.{boundary-append}
 
@@ -41,8 +41,7 @@ found_behind id n ns e f = record {
 }
 
 found_step : (id : ℕ) (n : Node) (ns : List Node) (t : Bool) → eqb n.id id ≡ t → cond t true (has id ns) ≡ true → (has id ns ≡ true → IsFound id ns) → IsFound id (n ∷ ns)
-found_step id n ns true e h rec = found_here id n ns e
-found_step id n ns false e h rec = found_behind id n ns e (rec h)
+found_step id n ns t e h k = grind (arith, found_here, found_behind)
 
 pub found : (id : ℕ) (ns : List Node) → has id ns ≡ true → IsFound id ns
 found id [] h = absurd cc

@@ -1,10 +1,9 @@
 -- Identifiers of lists of nodes.
-use Rattle.std.proofs.Common.{Bool, List, [], ap, cond, eqb, false, refl, sym, true, ℕ, ◌++◌, ◌∙◌, ◌∷◌, ◌≡◌}
-use Rattle.node_pool.proofs.Shared.{eqb-false, eqb-true, ne_eqb, Node, AreDistinct, has}
+use Rattle.std.proofs.Common.{arith, Bool, List, [], cond, eqb, false, refl, sym, true, ℕ, ◌++◌, ◌∙◌, ◌∷◌, ◌≡◌}
+use Rattle.node_pool.proofs.Shared.{eqb-false, ne_eqb, Node, AreDistinct, has}
 
 has_step : (t x y z : Bool) → z ≡ cond x true y → cond t true z ≡ cond (cond t true x) true y
-has_step true x y z h = refl
-has_step false x y z h = h
+has_step t x y z h = grind arith
 
 pub has-append : (i : ℕ) (a b : List Node) → has i (a ++ b) ≡ cond (has i a) true (has i b)
 has-append i [] b = refl
@@ -16,8 +15,7 @@ AreApart [] b = Unit {0}
 AreApart (n ∷ a) b = (has n.id b ≡ false) × AreApart a b
 
 or_false : (x y : Bool) → cond x true y ≡ false → (x ≡ false) × (y ≡ false)
-or_false true y h = absurd cc
-or_false false y h = (refl, h)
+or_false x y h = grind arith
 
 pub or_is_false : (x y : Bool) → x ≡ false → y ≡ false → cond x true y ≡ false
 or_is_false x y h k = rw (h, k) refl
@@ -67,8 +65,7 @@ AreApart-parts (n ∷ a) b c p =
 
 -- an identifier of one of two lists that are apart
 apart_step : (i : ℕ) (n : Node) (a b : List Node) (t : Bool) → eqb n.id i ≡ t → has n.id b ≡ false → cond t true (has i a) ≡ true → (has i a ≡ true → has i b ≡ false) → has i b ≡ false
-apart_step i n a b true e p h rec = ap (λ (x : ℕ). has x b) (sym (eqb-true n.id i e)) ∙ p
-apart_step i n a b false e p h rec = rec h
+apart_step i n a b t e p h k = grind arith
 
 pub not_both : (i : ℕ) (a b : List Node) → AreApart a b → has i a ≡ true → has i b ≡ false
 not_both i [] b p h = absurd cc

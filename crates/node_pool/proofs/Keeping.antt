@@ -1,6 +1,6 @@
 -- What a change of the nodes leaves of the pool's fields.
-use Rattle.std.proofs.Common.{Bool, List, [], ap, arith, cond, eqb, false, length, refl, set, subst, sym, true, ℕ, ◌++◌, ◌+◌, ◌-◌, ◌/◌, ◌<◌, ◌^◌, ◌∙◌, ◌∷◌, ◌≡◌, ◌≤◌}
-use Rattle.node_pool.proofs.Shared.{eq-eqb, eqb-false, eqb-true, ne_eqb, length-set, Node, fresh, Payload, Contents, IsContents, AreBelow, AreFlagsOf, HasUnused, IsLeastUnused, flag, without_ids, IsKept, state_of, ArePlacesOf, noted, AreDistinct, has, place_of, used, with_children, with_count, IsBoundary, between, exchanged, since, swapped, until, without, IsPoolSize, State, Inside}
+use Rattle.std.proofs.Common.{Bool, List, [], ap, arith, cond, eqb, false, length, refl, set, subst, sym, true, ℕ, ◌++◌, ◌+◌, ◌-◌, ◌<◌, ◌^◌, ◌∙◌, ◌∷◌, ◌≡◌, ◌≤◌}
+use Rattle.node_pool.proofs.Shared.{eq-eqb, eqb-false, eqb-true, ne_eqb, length-set, Node, fresh, Payload, Contents, IsContents, AreBelow, AreFlagsOf, HasUnused, IsLeastUnused, flag, without_ids, IsKept, state_of, ArePlacesOf, noted, AreDistinct, has, place_of, used, with_children, with_count, IsBoundary, between, exchanged, since, swapped, until, without, State, Inside}
 use Rattle.node_pool.proofs.Cuts.{AreDistinct-swap, AreDistinct-without, boundary_le, cut, cut3}
 use Rattle.node_pool.proofs.Exchanges.{AreBlocks, are_exchanged, blocks_of, exchanged_places, half}
 use Rattle.node_pool.proofs.Found.{AreDistinct-same, found, has-same}
@@ -26,17 +26,7 @@ pub record SameIds (ns ms : List Node) : Type 0 where
 
 pub kept : (p q : Inside) (ms : List Node) → IsKept p → q.buffer ≡ record p.buffer { nodes = ms } → IsContents q.buffer → length q.taken ≡ length p.taken → length q.places ≡ length p.places
     → AreDistinct ms → AreFlagsOf ms q.taken → ArePlacesOf ms q.places → IsKept q
-kept p q ms k e h flags_len places_len d f s =
-    let nodes : q.buffer.nodes ≡ ms = ap (λ (c : Contents). c.nodes) e in
-    let size : q.buffer.size ≡ p.buffer.size = ap (λ (c : Contents). c.size) e in
-    let eights : p.buffer.size / 8 ≡ q.buffer.size / 8 = ap (λ (n : ℕ). n / 8) (sym size) in
-    record {
-      pool = record { nodes = h.nodes; distinct = subst AreDistinct (sym nodes) d; fits = h.fits; size = subst IsPoolSize (sym size) k.pool.size };
-      flags = subst (λ (x : List Node). AreFlagsOf x q.taken) (sym nodes) f;
-      places = subst (λ (x : List Node). ArePlacesOf x q.places) (sym nodes) s;
-      flags_length = flags_len ∙ k.flags_length ∙ eights;
-      places_length = places_len ∙ k.places_length ∙ eights;
-    }
+kept p q ms k e h l m d f s = grind arith
 
 -- the identifiers stay
 pub kept_same : (p q : Inside) (ms : List Node) → IsKept p → q.buffer ≡ record p.buffer { nodes = ms } → IsContents q.buffer → q.taken ≡ p.taken → length q.places ≡ length p.places → SameIds p.buffer.nodes ms → ArePlacesOf ms q.places → IsKept q
@@ -81,27 +71,13 @@ inside p k i h = omega (arith, flag_inside i p.taken (k.flags i ∙ h), k.flags_
 -- ---- blocks change places
 
 turn : (a x y d : Bool) → cond a true (cond y true (cond x true d)) ≡ cond a true (cond x true (cond y true d))
-turn true x y d = refl
-turn false true true d = refl
-turn false true false d = refl
-turn false false true d = refl
-turn false false false d = refl
+turn a x y d = grind arith
 
 has-four : (i : ℕ) (a x y d : List Node) → has i (a ++ (x ++ (y ++ d))) ≡ cond (has i a) true (cond (has i x) true (cond (has i y) true (has i d)))
-has-four i a x y d =
-    has-append i a (x ++ (y ++ d)) ∙ ap (λ (b : Bool). cond (has i a) true b) (has-append i x (y ++ d) ∙ ap (λ (b : Bool). cond (has i x) true b) (has-append i y d))
+has-four i a x y d = grind (arith, has-append)
 
 swapped_ids : (i j k : ℕ) (ns : List Node) → IsBoundary i ns → IsBoundary j ns → IsBoundary k ns → i ≤ j → j ≤ k → AreDistinct ns → SameIds ns (swapped i j k ns)
-swapped_ids i j k ns a b c h1 h2 d =
-    let w = (cut3 i j k ns a b c h1 h2).whole in
-    let p = until i ns in
-    let x = between i j ns in
-    let y = between j k ns in
-    let z = since k ns in
-    record {
-      distinct = AreDistinct-swap p x y z (subst AreDistinct w d);
-      same = λ n. has-four n p y x z ∙ turn (has n p) (has n x) (has n y) (has n z) ∙ sym (has-four n p x y z) ∙ ap (has n) (sym w);
-    }
+swapped_ids i j k ns a b c h l d = grind (arith, cut3, AreDistinct-swap, has-four, turn)
 
 between_has : (i at to : ℕ) (ns : List Node) → IsBoundary at ns → IsBoundary to ns → at ≤ to → has i (between at to ns) ≡ true → has i ns ≡ true
 between_has i at to ns a b le h =

@@ -1,5 +1,5 @@
 -- Fewer identifiers than nodes.
-use Rattle.std.proofs.Common.{Bool, List, [], ap, arith, cond, eqb, false, length, refl, suc, sym, true, zero, ℕ, ◌<◌, ◌∙◌, ◌∷◌, ◌≡◌, ◌≤◌}
+use Rattle.std.proofs.Common.{Bool, List, [], arith, cond, eqb, length, refl, suc, sym, true, zero, ℕ, ◌<◌, ◌∙◌, ◌∷◌, ◌≡◌, ◌≤◌}
 use Rattle.node_pool.proofs.Shared.{eqb-true, Node, has}
 
 -- without the first node of that identifier
@@ -8,14 +8,10 @@ without i [] = []
 without i (n ∷ ns) = cond (eqb n.id i) ns (n ∷ without i ns)
 
 shorter_step : (t : Bool) (n : Node) (ns ms : List Node) (b : Bool) → cond t true b ≡ true → (b ≡ true → suc (length ms) ≡ length ns) → suc (length (cond t ns (n ∷ ms))) ≡ suc (length ns)
-shorter_step true n ns ms b h k = refl
-shorter_step false n ns ms b h k = ap suc (k h)
+shorter_step t n ns ms b h k = grind arith
 
 without_step : (t u : Bool) (n : Node) (b : Bool) (j : ℕ) (ns ms : List Node) → eqb n.id j ≡ u → (t ≡ true → u ≡ true → ⊥) → cond u true b ≡ true → b ≡ has j ns → (b ≡ true → has j ms ≡ true) → has j (cond t ns (n ∷ ms)) ≡ true
-without_step true true n b j ns ms e ne h q k = absurd (ne refl refl)
-without_step true false n b j ns ms e ne h q k = sym q ∙ h
-without_step false true n b j ns ms e ne h q k = rw e refl
-without_step false false n b j ns ms e ne h q k = rw e (k h)
+without_step t u n b j ns ms e h k q l = grind arith
 
 shorter : (i : ℕ) (ns : List Node) → has i ns ≡ true → suc (length (without i ns)) ≡ length ns
 shorter i [] h = absurd cc

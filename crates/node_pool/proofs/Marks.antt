@@ -1,6 +1,6 @@
 -- Flags of identifiers, and the identifiers of nodes.
 use Rattle.std.proofs.Common.{get_or-set_other, get_or-set_same, Bool, List, [], ap, arith, cond, eqb, false, inl, inr, length, refl, set, subst, suc, sym, true, zero, ℕ, ◌<◌, ◌∙◌, ◌∷◌, ◌≡◌, ◌≢◌, ◌⊎◌}
-use Rattle.node_pool.proofs.Shared.{eq-eqb, eqb-false, eqb-true, ne_eqb, length-set, Node, AreBelow, AreFlagsOf, AreTakenBelow, HasUnused, flag, without_ids, has}
+use Rattle.node_pool.proofs.Shared.{eq-eqb, eqb-false, eqb-true, length-set, Node, AreBelow, AreFlagsOf, AreTakenBelow, HasUnused, flag, without_ids, has}
 use Rattle.node_pool.proofs.LeastFree.{holes}
 
 -- ---- what goes
@@ -30,12 +30,7 @@ flag-set id k flags b h = flag-set_step id k flags b (eqb id k) h refl
 
 -- the flags without those of some nodes
 gone_step : (i k : ℕ) (t h f : Bool) → eqb i k ≡ t → cond h false (cond t false f) ≡ cond (cond (eqb k i) true h) false f
-gone_step i k true h f e = let back : eqb k i ≡ true = eq-eqb k i (sym (eqb-true i k e)) in rw back (both h)
-  where
-    both : (h : Bool) → cond h false false ≡ false
-    both true = refl
-    both false = refl
-gone_step i k false h f e = let back : eqb k i ≡ false = ne_eqb k i (λ q. eqb-false i k e (sym q)) in rw back refl
+gone_step i k t h f e = grind arith
 
 pub flag-without_ids : (i : ℕ) (ns : List Node) (flags : List Bool) → AreBelow (length flags) ns → flag i (without_ids ns flags) ≡ cond (has i ns) false (flag i flags)
 flag-without_ids i [] flags h = refl

@@ -1,6 +1,6 @@
 -- Places that are noted, and the places of nodes.
 use Rattle.std.proofs.Common.{get_or-set_other, get_or-set_same, Bool, List, [], ap, append-nil, append_assoc, arith, cond, eqb, false, length, refl, set, subst, sym, true, ℕ, ◌++◌, ◌+◌, ◌-◌, ◌<◌, ◌∙◌, ◌∷◌, ◌≡◌, ◌≢◌, ◌≤◌}
-use Rattle.node_pool.proofs.Shared.{eqb-false, eqb-true, length-set, Node, size_of, AreBelow, place_in, noted, ArePlacesOf, AreDistinct, has, place_of, used, IsBoundary, between, since, swapped, until, without}
+use Rattle.node_pool.proofs.Shared.{eqb-true, length-set, Node, size_of, AreBelow, place_in, noted, ArePlacesOf, AreDistinct, has, place_of, used, IsBoundary, between, since, swapped, until, without}
 use Rattle.node_pool.proofs.Cuts.{cut3, since-append, until-append, until-since}
 use Rattle.node_pool.proofs.Ids.{AreApart, AreApart-parts, AreApart-sym, AreDistinct-parts, has-append, not_both}
 use Rattle.node_pool.proofs.Sizes.{used-append}
@@ -24,8 +24,7 @@ noted_more places new ms rest n at id next e i s q h =
 
 -- of a node that is not among these
 absent_step : (i : ℕ) (n : Node) (h t : Bool) → eqb n.id i ≡ t → cond t true h ≡ false → (n.id ≢ i) × (h ≡ false)
-absent_step i n h true e k = absurd cc
-absent_step i n h false e k = (eqb-false n.id i e, k)
+absent_step i n h t e k = grind arith
 
 pub noted_other : (i at : ℕ) (ns : List Node) (ps : List ℕ) → has i ns ≡ false → place_in i (noted at ns ps) ≡ place_in i ps
 noted_other i at [] ps h = refl
@@ -51,9 +50,7 @@ noted_in i at (n ∷ ns) ps d b h =
 -- ---- the place of a node in two lists
 
 place_step : (t h : Bool) (s x u y : ℕ) (z : ℕ) → z ≡ cond h x (u + y) → cond t 0 (s + z) ≡ cond (cond t true h) (cond t 0 (s + x)) (s + u + y)
-place_step true h s x u y z e = refl
-place_step false true s x u y z e = ap (λ (k : ℕ). s + k) e
-place_step false false s x u y z e = ap (λ (k : ℕ). s + k) e ∙ omega arith
+place_step t h s x u y z e = grind arith
 
 pub place-append : (i : ℕ) (a b : List Node) → place_of i (a ++ b) ≡ cond (has i a) (place_of i a) (used a + place_of i b)
 place-append i [] b = omega arith
@@ -94,18 +91,13 @@ renoted a m d ps distinct below o i h = in_first (has i a) refl
 
 -- the same, from what was noted of the nodes when others stood in the middle
 or_true : (x : Bool) → cond x true true ≡ true
-or_true true = refl
-or_true false = refl
+or_true x = grind arith
 
 pub before_places : (a r : List Node) (ps : List ℕ) → ArePlacesOf (a ++ r) ps → (i : ℕ) → has i a ≡ true → place_in i ps ≡ place_of i a
-before_places a r ps h i e =
-    h i (has-append i a r ∙ ap (λ (b : Bool). cond b true (has i r)) e) ∙ place-append i a r ∙ ap (λ (b : Bool). cond b (place_of i a) (used a + place_of i r)) e
+before_places a r ps h i e = grind (arith, has-append, place-append)
 
 pub behind_places : (a d : List Node) (ps : List ℕ) → AreDistinct (a ++ d) → ArePlacesOf (a ++ d) ps → (i : ℕ) → has i d ≡ true → place_in i ps ≡ used a + place_of i d
-behind_places a d ps distinct h i e =
-    let apart = AreApart-sym a d (AreDistinct-parts a d distinct).2 in
-    h i (has-append i a d ∙ ap (λ (b : Bool). cond (has i a) true b) e ∙ or_true (has i a))
-    ∙ place-append i a d ∙ ap (λ (b : Bool). cond b (place_of i a) (used a + place_of i d)) (not_both i d a apart e)
+behind_places a d ps h k i e = grind (arith, AreApart-sym, AreDistinct-parts, has-append, or_true, place-append, not_both)
 
 pub outside : (a m x d : List Node) (ps : List ℕ) → AreDistinct (a ++ (x ++ d)) → ArePlacesOf (a ++ (x ++ d)) ps → used m ≡ used x → AreOutside a m d ps
 outside a m x d ps distinct h e =
@@ -160,12 +152,7 @@ turned_end {k = k} t =
     subst (IsBoundary k) (grouped ∙ sym t.is) (boundary-append (t.before ++ t.middle) t.behind k (omega (arith, used-append t.before t.middle, t.end)))
 
 pub turned_places : {i k : ℕ} {ns ms : List Node} (ps : List ℕ) → IsTurned i k ns ms → AreDistinct ns → AreDistinct ms → AreBelow (length ps) (between i k ms) → ArePlacesOf ns ps → ArePlacesOf ms (noted i (between i k ms) ps)
-turned_places {i = i} {k = k} {ns = ns} {ms = ms} ps t dn dm below h =
-    let part : between i k ms ≡ t.middle = ap (between i k) t.is ∙ between_middle t.before t.middle t.behind i k t.start t.end in
-    let o = outside t.before t.middle t.old t.behind ps (subst AreDistinct t.was dn) (subst (λ (x : List Node). ArePlacesOf x ps) t.was h) t.size in
-    let r = renoted t.before t.middle t.behind ps (subst AreDistinct t.is dm) (subst (AreBelow (length ps)) part below) o in
-    subst (λ (x : List Node). ArePlacesOf x (noted i (between i k ms) ps)) (sym t.is) (subst (λ (j : ℕ). ArePlacesOf (t.before ++ (t.middle ++ t.behind)) (noted j (between i k ms) ps)) t.start
-    (subst (λ (m : List Node). ArePlacesOf (t.before ++ (t.middle ++ t.behind)) (noted (used t.before) m ps)) (sym part) r))
+turned_places ps t h k l m = grind (arith, between_middle, outside, renoted)
 
 -- ---- a block goes
 

@@ -1,11 +1,10 @@
 -- Numbers, byte by byte.
-use Rattle.std.proofs.Common.{List, ap, arith, drop, get_or, length, refl, suc, sym, take, zero, ℕ, ◌%◌, ◌*◌, ◌++◌, ◌+◌, ◌/◌, ◌<◌, ◌^◌, ◌∙◌, ◌∷◌, ◌≡◌, ◌≤◌}
+use Rattle.std.proofs.Common.{List, ap, arith, drop, get_or, length, refl, suc, sym, take, zero, ℕ, ◌%◌, ◌*◌, ◌++◌, ◌+◌, ◌/◌, ◌<◌, ◌^◌, ◌∙◌, ◌∷◌, ◌≡◌}
 use Rattle.node_pool.proofs.Shared.{drop_more, byte_at, bytes_low_first, to_le_bytes, w64, from_bytes, low_bytes}
 use Rattle.std.proofs.Math.Nat.{div-div-eq-div-mul, mul_assoc, mul_comm, pow-suc}
 
 byte_is : (i n : ℕ) → byte_at i n ≡ n / 256 ^ i % 256
-byte_is zero n = omega arith
-byte_is (suc i) n = refl
+byte_is i n = grind arith
 
 further : (i n : ℕ) → n / 256 ^ i / 256 ≡ n / 256 ^ suc i
 further i n = div-div-eq-div-mul n (256 ^ i) 256 ∙ ap (λ (p : ℕ). n / p) (sym (pow-suc 256 i))
@@ -56,6 +55,4 @@ halves_are n =
 
 -- one byte is a number
 pub byte_read : (xs : List ℕ) (at : ℕ) → at < length xs → from_bytes (take 1 (drop at xs)) ≡ get_or xs at 0
-byte_read xs at h =
-    let cut : drop at xs ≡ get_or xs at 0 ∷ drop (at + 1) xs = drop_more xs at 0 h in
-    rw cut (omega arith)
+byte_read xs at h = grind (arith, drop_more)

@@ -1,6 +1,6 @@
 -- Writing one list after another.
-use Rattle.std.proofs.Common.{List, [], ap, append_assoc, arith, drop, length, refl, sym, take, ℕ, ◌%◌, ◌++◌, ◌+◌, ◌<◌, ◌∙◌, ◌∷◌, ◌≡◌, ◌≤◌}
-use Rattle.node_pool.proofs.Shared.{drop-drop, drop_at, length-append, length-drop, length-take, take-append-drop, take_at, code_of, encoding, form_of, fresh, header_bytes, header_of, low_bytes, payload_bytes, Payload, Header, length-header_bytes, length-low_bytes, put, put-put}
+use Rattle.std.proofs.Common.{List, [], ap, arith, length, refl, sym, ℕ, ◌%◌, ◌++◌, ◌+◌, ◌<◌, ◌∙◌, ◌∷◌, ◌≡◌, ◌≤◌}
+use Rattle.node_pool.proofs.Shared.{code_of, encoding, form_of, fresh, header_bytes, header_of, low_bytes, payload_bytes, Payload, Header, length-header_bytes, length-low_bytes, put, put-put}
 
 -- one write more
 pub then_put : (s0 s1 s2 : List ℕ) (at : ℕ) (ys : List ℕ) (next : ℕ) (zs : List ℕ) → at ≤ length s0 → next ≡ at + length ys → s1 ≡ put s0 at ys → s2 ≡ put s1 next zs → s2 ≡ put s0 at (ys ++ zs)
@@ -20,12 +20,9 @@ header_put s0 s1 s2 s3 s4 at k f h small hk byte hf form e1 e2 e3 e4 =
     rw (← hk, ← hf) f4
 
 pub rational_put : (s0 s1 s2 : List ℕ) (at a b p q : ℕ) → at + 32 ≤ length s0 → p ≡ a → q ≡ b → s1 ≡ put s0 at (low_bytes 16 p) → s2 ≡ put s1 (at + 16) (low_bytes 16 q) → s2 ≡ put s0 at (low_bytes 16 a ++ low_bytes 16 b)
-rational_put s0 s1 s2 at a b p q small hp hq e1 e2 =
-    rw (← hp, ← hq) (then_put s0 s1 s2 at (low_bytes 16 p) (at + 16) (low_bytes 16 q) (omega arith) (omega (arith, length-low_bytes 16 p)) e1 e2)
+rational_put s0 s1 s2 at a b p q h k l m n = grind (arith, then_put, length-low_bytes)
 
 pub node_put : (s0 s1 s2 : List ℕ) (at id : ℕ) (x : Payload) (h : Header) → at + 8 ≤ length s0 → h ≡ header_of (fresh id x)
     → s1 ≡ put s0 at (header_bytes h) → s2 ≡ put s1 (at + 8) (payload_bytes x) → s2 ≡ put s0 at (encoding (fresh id x))
 unfolding encoding
-node_put s0 s1 s2 at id x h small e e1 e2 =
-    let f : s2 ≡ put s0 at (header_bytes h ++ payload_bytes x) = then_put s0 s1 s2 at (header_bytes h) (at + 8) (payload_bytes x) (omega arith) (omega (arith, length-header_bytes h)) e1 e2 in
-    f ∙ ap (λ (y : Header). put s0 at (header_bytes y ++ payload_bytes x)) e
+node_put s0 s1 s2 at id x h k e l m = grind (arith, then_put, length-header_bytes)

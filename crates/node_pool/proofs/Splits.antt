@@ -1,6 +1,6 @@
 -- Changes of a list of nodes that is known in parts.
-use Rattle.std.proofs.Common.{Bool, List, [], ap, append_assoc, arith, cond, eqb, false, leb, refl, subst, sym, true, ℕ, ◌++◌, ◌+◌, ◌-◌, ◌<◌, ◌∙◌, ◌∷◌, ◌≡◌}
-use Rattle.node_pool.proofs.Shared.{eq-eqb, le-leb, lt-leb, Node, size_of, has, place_of, used, with_children, with_count, IsBoundary, between, moved, since, swapped, until, without}
+use Rattle.std.proofs.Common.{Bool, List, [], ap, append_assoc, arith, cond, eqb, false, refl, subst, sym, true, ℕ, ◌++◌, ◌+◌, ◌-◌, ◌<◌, ◌∙◌, ◌∷◌, ◌≡◌}
+use Rattle.node_pool.proofs.Shared.{eq-eqb, Node, size_of, has, place_of, used, with_children, with_count, IsBoundary, between, moved, since, swapped, until, without}
 use Rattle.node_pool.proofs.Cuts.{since-append, until-append}
 use Rattle.node_pool.proofs.Sizes.{used-append}
 
@@ -9,16 +9,14 @@ boundary-append a b at e = ap (λ (k : ℕ). used (until k (a ++ b))) e ∙ ap u
 
 -- the place of an identifier that is not before
 place_step : (t : Bool) (i : ℕ) (m : Node) (r s : ℕ) (b : Bool) → cond t true b ≡ false → (b ≡ false → r ≡ s) → cond t 0 (size_of m + r) ≡ size_of m + s
-place_step true i m r s b h k = absurd cc
-place_step false i m r s b h k = ap (λ (x : ℕ). size_of m + x) (k h)
+place_step t i m r s b h k = grind arith
 
 pub place_of-append : (i : ℕ) (a : List Node) (n : Node) (b : List Node) → has i a ≡ false → n.id ≡ i → place_of i (a ++ n ∷ b) ≡ used a
 place_of-append i [] n b h e = ap (λ (t : Bool). cond t 0 (size_of n + place_of i b)) (eq-eqb n.id i e)
 place_of-append i (m ∷ a) n b h e = place_step (eqb m.id i) i m (place_of i (a ++ n ∷ b)) (used a) (has i a) h (λ k. place_of-append i a n b k e)
 
 count_step : (t : Bool) (c : ℕ) (m : Node) (xs ys : List Node) (b : Bool) → cond t true b ≡ false → (b ≡ false → xs ≡ ys) → (zs : List Node) → cond t zs (m ∷ xs) ≡ m ∷ ys
-count_step true c m xs ys b h k zs = absurd cc
-count_step false c m xs ys b h k zs = ap (λ (x : List Node). m ∷ x) (k h)
+count_step t c m xs ys b h k zs = grind arith
 
 pub with_count-append : (i c : ℕ) (a : List Node) (n : Node) (b : List Node) → has i a ≡ false → n.id ≡ i → with_count i c (a ++ n ∷ b) ≡ a ++ record n { count = c } ∷ b
 with_count-append i c [] n b h e = ap (λ (t : Bool). cond t (record n { count = c } ∷ b) (n ∷ with_count i c b)) (eq-eqb n.id i e)
@@ -40,9 +38,7 @@ since-append_two a x b j hj =
     ap (since j) (sym (append_assoc a x b)) ∙ ap (λ (k : ℕ). since k ((a ++ x) ++ b)) (hj ∙ sym (used-append a x)) ∙ since-append (a ++ x) b
 
 pub without-append : (a x b : List Node) (i j : ℕ) → i ≡ used a → j ≡ used a + used x → without i j (a ++ (x ++ b)) ≡ a ++ b
-without-append a x b i j hi hj =
-    let first : until i (a ++ (x ++ b)) ≡ a = ap (λ (k : ℕ). until k (a ++ (x ++ b))) hi ∙ until-append a (x ++ b) in
-    rw (first, since-append_two a x b j hj) refl
+without-append a x b i j h k = grind (arith, until-append, since-append_two)
 
 pub swapped-append : (a x y d : List Node) (i j k : ℕ) → i ≡ used a → j ≡ used a + used x → k ≡ used a + used x + used y → swapped i j k (a ++ (x ++ (y ++ d))) ≡ a ++ (y ++ (x ++ d))
 swapped-append a x y d i j k hi hj hk =
@@ -56,11 +52,7 @@ swapped-append a x y d i j k hi hj hk =
 
 -- a block goes to the right, or to the left
 pub moved_right : (a x y d : List Node) (from len to : ℕ) → from ≡ used a → len ≡ used x → to ≡ used a + used x + used y → 0 < len → moved from len to (a ++ (x ++ (y ++ d))) ≡ a ++ (y ++ (x ++ d))
-moved_right a x y d from len to hf hl ht some =
-    let no : leb to from ≡ false = lt-leb to from (omega arith) in
-    rw no (swapped-append a x y d from (from + len) to hf (omega arith) ht)
+moved_right a x y d from len to h k l m = grind (arith, swapped-append)
 
 pub moved_left : (a x y d : List Node) (from len to : ℕ) → to ≡ used a → from ≡ used a + used x → len ≡ used y → moved from len to (a ++ (x ++ (y ++ d))) ≡ a ++ (y ++ (x ++ d))
-moved_left a x y d from len to ht hf hl =
-    let yes : leb to from ≡ true = le-leb to from (omega arith) in
-    rw yes (swapped-append a x y d to from (from + len) ht hf (omega arith))
+moved_left a x y d from len to h k l = grind (arith, swapped-append)

@@ -1,6 +1,6 @@
 -- What a node holds, read from its bytes.
-use Rattle.std.proofs.Common.{Bool, FitsSigned, List, ap, arith, drop, false, length, of_z, pos, refl, replicate, subst, sym, take, to_z, true, unsigned_abs, ℕ, ℤ, ◌++◌, ◌+◌, ◌-◌, ◌<ℤ◌, ◌<◌, ◌∙◌, ◌∷◌, ◌≡◌, ◌≤◌}
-use Rattle.node_pool.proofs.Shared.{ints, to_z-of_z, to_z_pos, drop-drop, take_at, w128, Node, from_bytes, number_at, short_at, payload_bytes, ratio_at, IsPayload, Payload, bare, has_short_form, is_bare, kind_of_payload, named, rational, size_of_payload, IsRat, Ratio, size_by_form, Kind, drop-encoding, short_at-encoding, number_at-number_bytes, short_parts, Contents, IsLaid, contents_of, first_of, has, payload_of_id, place_of, used, IsBoundary, since}
+use Rattle.std.proofs.Common.{FitsSigned, List, ap, arith, drop, false, length, of_z, pos, refl, replicate, subst, sym, take, to_z, true, unsigned_abs, ℕ, ℤ, ◌++◌, ◌+◌, ◌-◌, ◌<ℤ◌, ◌<◌, ◌∙◌, ◌∷◌, ◌≡◌, ◌≤◌}
+use Rattle.node_pool.proofs.Shared.{ints, to_z-of_z, to_z_pos, drop-drop, take_at, w128, Node, from_bytes, number_at, short_at, payload_bytes, ratio_at, IsPayload, Payload, bare, has_short_form, is_bare, kind_of_payload, named, rational, size_of_payload, IsRat, size_by_form, Kind, drop-encoding, short_at-encoding, number_at-number_bytes, short_parts, Contents, IsLaid, contents_of, first_of, has, payload_of_id, place_of, used, IsBoundary, since}
 use Rattle.calc_terms.specs.Name.{HoldsName, before_zero, is_name, padded}
 use Rattle.calc_terms.proofs.Names.{before_zero-padded, length-padded}
 use Rattle.node_pool.specs.declared.buffer.Buffer.TheInside.{Inside}
@@ -48,12 +48,7 @@ bare_number : (k : Kind) → is_bare k ≡ true → k ≡ kind.Num → ⊥
 bare_number k h e = let no : is_bare k ≡ false = ap is_bare e in cc
 
 pub holds_rational : (x : Payload) (at : ℕ) (store : List ℕ) → IsHeld x at store → kind_of_payload x ≡ kind.Num → HoldsRational x at store
-holds_rational (rational r) at store h k =
-    let s = has_short_form (rational r) in
-    let e : number_at (short_at (drop at store)) (drop (at + 8) store) ≡ r = ap (λ (b : Bool). number_at b (drop (at + 8) store)) h.form ∙ ap (number_at s) h.bytes ∙ number_at-number_bytes s r h.behind h.valid (short_parts r h.valid) in
-    record { room = subst (λ (b : Bool). at + size_by_form kind.Num b ≤ length store) (sym h.form) h.room; is = ap (λ (y : Ratio). rational y) (sym e); rat = rw e h.valid }
-holds_rational (named x) at store h k = absurd cc
-holds_rational (bare k) at store h e = absurd (bare_number k h.valid e)
+holds_rational x at store h k = grind (arith, number_at-number_bytes, short_parts, bare_number)
 
 positive : (d : ℕ) → 1 ≤ d → pos 0 <ℤ pos d
 positive d h = omega (arith, ints)

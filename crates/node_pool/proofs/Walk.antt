@@ -62,8 +62,7 @@ since_end at (n ∷ ns) h =
 
 -- there is room for a header at the place of an identifier
 room_step : (t : Bool) (i : ℕ) (n : Node) (ns : List Node) → cond t true (has i ns) ≡ true → (has i ns ≡ true → place_of i ns + 8 ≤ used ns) → cond t 0 (size_of n + place_of i ns) + 8 ≤ size_of n + used ns
-room_step true i n ns h k = omega (arith, size_from n)
-room_step false i n ns h k = omega (arith, k h)
+room_step t i n ns h k = grind arith
 
 pub place_room : (i : ℕ) (ns : List Node) → has i ns ≡ true → place_of i ns + 8 ≤ used ns
 place_room i [] h = absurd cc

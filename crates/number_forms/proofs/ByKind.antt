@@ -1,6 +1,6 @@
 -- What the kind of a root and the number of its children tell of a tree.
-use Rattle.std.proofs.Common.{◌≡◌, ℕ, refl, sym, ap, ◌∙◌, true, arith, subst}
-use Rattle.number_forms.proofs.Shared.{Fraction, Tree, num, add, mult, root, none, more, count, root_kind, is_mult, classes, value, is_number, IsSum, IsSumOf, Same-refl, nth, children_of, plain, IsExpression, Forest, arity, kids, tree_at, kids_of, children_of-plain, count-plains}
+use Rattle.std.proofs.Common.{◌≡◌, ℕ, sym, ap, ◌∙◌, true, arith}
+use Rattle.number_forms.proofs.Shared.{Fraction, Tree, num, add, mult, root, none, more, count, root_kind, is_mult, classes, value, is_number, IsSumOf, Same-refl, nth, children_of, plain, IsExpression, Forest, arity, kids, tree_at, kids_of, children_of-plain, count-plains}
 use Rattle.number_forms.proofs.Shaped.{length-terms_of, added_number}
 use Rattle.calc_terms.specs.declared.kind.Kind.TheVariants as kind
 
@@ -10,8 +10,7 @@ children_number i f h = sym (ap count (children_of-plain (tree_at i f) h.whole) 
 -- ---- by kind
 
 pub add_by_kind : (t : Tree) → root_kind t ≡ kind.Add → t ≡ add (children_of t)
-add_by_kind (add ts) e = refl
-add_by_kind _ e = cc
+add_by_kind t e = grind arith
 
 pub product_by_children : (t : Tree) (q r : Fraction) → is_mult t ≡ true → count (children_of t) ≡ 2 → nth 0 (children_of t) ≡ num q → nth 1 (children_of t) ≡ root (num r) → t ≡ mult (more (num q) (more (root (num r)) none))
 product_by_children (mult none) q r m e f g = absurd (omega arith)
@@ -24,6 +23,4 @@ pub sum_classes : (t : Tree) → root_kind t ≡ kind.Add → classes t ≡ coun
 sum_classes t e = let s : t ≡ add (children_of t) = add_by_kind t e in ap classes s ∙ length-terms_of (children_of t)
 
 pub sum_of_number : (t : Tree) → is_number t ≡ true → root_kind t ≡ kind.Add → IsSumOf (value t) t
-sum_of_number t h e =
-    let s : t ≡ add (children_of t) = add_by_kind t e in
-    record { sum = subst IsSum (sym s) (added_number (children_of t) (subst (λ (u : Tree). is_number u ≡ true) s h)); worth = Same-refl (value t); parts = λ d p. p }
+sum_of_number t h e = grind (arith, add_by_kind, added_number, Same-refl)

@@ -1,6 +1,6 @@
 -- How large the inverse of a Number is.
-use Rattle.std.proofs.Common.{◌≡◌, ◌≢◌, ◌==◌, [], ◌∷◌, Bool, true, false, pos, if◌then◌else◌, refl, sym, ap, ◌∙◌, subst}
-use Rattle.number_forms.proofs.Shared.{eqb-true, Rises, is_number, natural_of, value, Term, Surd, term, surd_of, inverse_times_itself, factor_not_zero, term_not_zero, AreProper, value_proper, value_rises, number_words, times_comm, Fraction, zero_fraction, is_one_fraction, inverse, whole_fraction, Tree, num, mult, root, none, more, one_is, zero_test, whole_numerator, inverse_trees, IsInverseOf, term_tree, inverse_of, first_of_inverse, second_of_inverse}
+use Rattle.std.proofs.Common.{arith, ◌≡◌, ◌≢◌, [], ◌∷◌, Bool, true, pos, if◌then◌else◌, sym, ap, ◌∙◌, subst}
+use Rattle.number_forms.proofs.Shared.{Rises, is_number, value, Term, Surd, inverse_times_itself, factor_not_zero, term_not_zero, AreProper, value_proper, value_rises, number_words, times_comm, Fraction, zero_fraction, inverse, whole_fraction, Tree, num, mult, root, none, more, one_is, zero_test, whole_numerator, inverse_trees, IsInverseOf, term_tree, inverse_of, first_of_inverse, second_of_inverse}
 use Rattle.calc_algebra.specs.Numbers.{term_of}
 use Rattle.surd_bits.specs.Inverted.{IsNoLargerThanInverse}
 use Rattle.surd_bits.proofs.Inverted.{one_no_larger, two_no_larger}
@@ -14,20 +14,10 @@ tree_by s b o =
     else mult (more (num s.coefficient) (more (root (num (whole_fraction (pos s.radicand)))) none))
 
 written_term : (s : Term) → term_of (term_tree s) ≡ s
-written_term s = by (s.radicand == 1) refl (is_one_fraction s.coefficient) refl
-  where
-    by : (b : Bool) → (s.radicand == 1) ≡ b → (o : Bool) → is_one_fraction s.coefficient ≡ o → term_of (tree_by s b o) ≡ s
-    by true e o f = λ i. term s.coefficient (sym (eqb-true s.radicand 1 e) i)
-    by false e true f = λ i. term (sym (one_is s.coefficient f) i) (ap natural_of (whole_numerator (pos s.radicand)) i)
-    by false e false f = λ i. term s.coefficient (ap natural_of (whole_numerator (pos s.radicand)) i)
+written_term s = grind (arith, one_is, whole_numerator)
 
 written_value : (s : Term) → s.coefficient ≢ zero_fraction → value (term_tree s) ≡ s ∷ []
-written_value s n = by (s.radicand == 1) refl (is_one_fraction s.coefficient) refl
-  where
-    by : (b : Bool) → (s.radicand == 1) ≡ b → (o : Bool) → is_one_fraction s.coefficient ≡ o → value (tree_by s b o) ≡ s ∷ []
-    by true e o f = ap (λ (z : Bool). if z then [] else surd_of s.coefficient) (zero_test s.coefficient n) ∙ (λ i. term s.coefficient (sym (eqb-true s.radicand 1 e) i) ∷ [])
-    by false e true f = λ i. term (sym (one_is s.coefficient f) i) (ap natural_of (whole_numerator (pos s.radicand)) i) ∷ []
-    by false e false f = λ i. term s.coefficient (ap natural_of (whole_numerator (pos s.radicand)) i) ∷ []
+written_value s n = grind (arith, zero_test, one_is, whole_numerator)
 
 -- ---- inverses
 

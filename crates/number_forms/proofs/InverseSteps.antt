@@ -1,9 +1,8 @@
 -- Inverses by terms.
-use Rattle.std.proofs.Common.{◌≡◌, ℕ, ◌≤◌, [], ◌∷◌, Some, Err, length, true, false, refl, sym, ap, ◌∙◌, subst, arith}
+use Rattle.std.proofs.Common.{◌≡◌, ℕ, ◌≤◌, [], ◌∷◌, Some, Err, length, true, false, sym, ap, ◌∙◌, arith}
 use Rattle.std.specs.Prelude.{slice_get, None}
-use Rattle.number_forms.proofs.Shared.{is_number, is_term, value, Rises, are_alike, Inverts, Term, Surd, Tree, add, Trees, more, none, size, sizes, Inverts-Same, value_rises, number_words, term_words, Same-trans, Same-eq, IsNumberOf, IsNumberOver, Full, inverse_trees, IsInverseOf, HasInverse, LacksInverse, inverting_calculations, term_tree, sum_of_terms, Calculation, first_misfit, inverse_of, first_of_inverse, second_of_inverse, building, node_sizes, nodes_sizes, taking}
+use Rattle.number_forms.proofs.Shared.{is_number, is_term, value, Rises, are_alike, Inverts, Term, Surd, Tree, add, more, none, size, sizes, Inverts-Same, value_rises, number_words, term_words, Same-trans, Same-eq, IsNumberOf, Full, inverse_trees, IsInverseOf, HasInverse, LacksInverse, inverting_calculations, term_tree, sum_of_terms, Calculation, first_misfit, inverse_of, first_of_inverse, second_of_inverse, building}
 use Rattle.calc_algebra.specs.Numbers.{term_of}
-use Rattle.number_forms.proofs.Placings.{lacking_on}
 use Rattle.number_forms.proofs.Over.{of_over}
 use Rattle.number_forms.proofs.Shaped.{single_number, sum_number}
 use Rattle.number_forms.proofs.Worth.{Same-sym}
@@ -23,32 +22,21 @@ both_terms (a ∷ b ∷ []) x y l e f = λ i. some_term e i ∷ some_term f i �
 both_terms (a ∷ b ∷ c ∷ v) x y l e f = absurd (omega arith)
 
 pub apart_terms : (t : Tree) (x y : Term) → is_number t ≡ true → value t ≡ x ∷ y ∷ [] → are_alike x.radicand y.radicand ≡ false
-apart_terms t x y h e = by (value t) e (value_rises t (number_words t h))
-  where
-    by : (v : Surd) → v ≡ x ∷ y ∷ [] → Rises v → are_alike x.radicand y.radicand ≡ false
-    by v q r = let w : Rises (x ∷ y ∷ []) = subst Rises q r in w.0.1
+apart_terms t x y h e = grind (arith, value_rises, number_words)
 
 pub inverse_term : (v : Surd) (t : Tree) (x y : Term) → v ≡ x ∷ [] → Inverts (y ∷ []) (x ∷ []) → is_term t ≡ true → term_of t ≡ y → inverse_trees v ≡ more t none → IsInverseOf v t
-inverse_term v t x y e i h f w =
-    let n : IsNumberOver (term_of t ∷ []) t = single_number t (term_words t h) in
-    record { number = n.number; inverts = Inverts-Same (Same-sym (Same-trans n.worth (Same-eq (ap (λ (z : Term). z ∷ []) f)))) (Same-eq (sym e)) i; written = w }
+inverse_term v t x y e i h f w = grind (arith, single_number, term_words, Inverts-Same, Same-sym, Same-trans, Same-eq)
 
 pub inverse_number : (v w : Surd) (t : Tree) (u : Surd) → v ≡ w → Inverts u w → IsNumberOf u t → inverse_trees v ≡ more t none → IsInverseOf v t
 inverse_number v w t u e i n r = record { number = n.number; inverts = Inverts-Same (Same-sym n.worth) (Same-eq (sym e)) i; written = r }
 
 -- the terms of a Number of two classes rise, and so do terms with their radicands
 pub two_rise : (t : Tree) (x y p q : Term) → is_number t ≡ true → value t ≡ x ∷ y ∷ [] → p.radicand ≡ x.radicand → q.radicand ≡ y.radicand → Rises (p ∷ q ∷ [])
-two_rise t x y p q h e f g =
-    let r : Rises (x ∷ y ∷ []) = subst Rises e (value_rises t (number_words t h)) in
-    ((rw (f, g) (r.0.0), rw (f, g) (r.0.1), tt), (tt, tt))
+two_rise t x y p q h e f g = grind (arith, value_rises, number_words)
 
 -- the sum of two terms whose radicands rise
 pub placed_two : (t u x : Tree) (a b : Term) → t ≡ add (more u (more x none)) → is_term u ≡ true → term_of u ≡ a → is_term x ≡ true → term_of x ≡ b → Rises (a ∷ b ∷ []) → IsNumberOf (a ∷ b ∷ []) t
-placed_two t u x a b e h f k g r =
-    let these : term_of u ∷ term_of x ∷ [] ≡ a ∷ b ∷ [] = λ i. f i ∷ g i ∷ [] in
-    subst (λ (s : Tree). IsNumberOf (a ∷ b ∷ []) s) (sym e)
-    (subst (λ (v : Surd). IsNumberOf v (add (more u (more x none)))) these
-    (of_over (sum_number (more u (more x none)) (omega arith) (term_words u h, (term_words x k, tt)) (subst Rises (sym these) r))))
+placed_two t u x a b e h f k g r = grind (arith, of_over, sum_number, term_words)
 
 -- ---- the new tree, and whether its bytes suffice
 
@@ -71,18 +59,11 @@ pub room_for : (v : Surd) (t : Tree) (free : ℕ) → inverse_trees v ≡ more t
 room_for v t free w h = omega (arith, ap sizes w, h.room)
 
 pub lacks_inverse : (v : Surd) (t : Tree) (now free : ℕ) (full : Full) → first_misfit (inverting_calculations v) ≡ None → inverse_trees v ≡ more t none → now ≡ free → building now t ≡ Err full → LacksInverse v free full
-lacks_inverse v t now free full m w e b = record {
-  calculated = m;
-  lacks = ap (λ (ts : Trees). taking free (nodes_sizes ts)) w ∙ lacking_on free (node_sizes t) [] full (subst (λ (n : ℕ). building n t ≡ Err full) e b);
-}
+lacks_inverse v t now free full m w e b = grind arith
 
 -- none is made for no class, or for three or more
 pub none_to_make : (v : Surd) (free : ℕ) → length v ≡ 0 → HasInverse v free
-none_to_make [] free e = record { calculated = refl; room = omega arith }
-none_to_make (x ∷ v) free e = absurd (omega arith)
+none_to_make v free e = grind arith
 
 pub too_wide : (v : Surd) (free : ℕ) → 3 ≤ length v → HasInverse v free
-too_wide [] free l = absurd (omega arith)
-too_wide (x ∷ []) free l = absurd (omega arith)
-too_wide (x ∷ y ∷ []) free l = absurd (omega arith)
-too_wide (x ∷ y ∷ z ∷ v) free l = record { calculated = refl; room = omega arith }
+too_wide v free l = grind arith

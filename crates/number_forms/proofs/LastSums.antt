@@ -1,36 +1,13 @@
 -- A sum that stands last, with other children.
 use Rattle.std.proofs.Common.{◌≡◌, ℕ, zero, suc, refl, sym, ap, ◌∙◌, subst, arith, true, ◌<◌}
-use Rattle.number_forms.proofs.Shared.{Payload, rational, named, bare, count, Tree, add, Trees, none, more, IsSum, removed, nth, grown, compound, plains, plain, children_of, takes, AllExpressions, IsWhole, Forest, empty, tree, arity, kids, root_id, with_root_kids, first_trees, rest_trees, tree_nth, without_nth, AllOnce, IsOnce, IsHanded, Represents, Ends, Gives, put, root_tree, without_root, gives, represents_as, given_root, given_handed, given_rest, last_put, last_tree, ends_without, ends_as, ends_at, other_handed, alone, count-plains, plain-tree_nth, children_of-plain, whole_kids}
-use Rattle.calc_terms.specs.declared.kind.Kind.{Kind}
+use Rattle.number_forms.proofs.Shared.{Payload, bare, count, Tree, add, Trees, none, more, IsSum, removed, nth, grown, plains, plain, children_of, takes, AllExpressions, IsWhole, Forest, empty, tree, arity, kids, root_id, with_root_kids, rest_trees, tree_nth, without_nth, AllOnce, IsOnce, IsHanded, Represents, Ends, Gives, put, root_tree, without_root, gives, represents_as, given_root, given_handed, given_rest, last_put, last_tree, ends_without, ends_as, ends_at, other_handed, alone, count-plains, plain-tree_nth, children_of-plain, whole_kids}
 use Rattle.tree_handles.proofs.Forests.{all-first_trees, all-rest_trees, all-join}
 use Rattle.calc_terms.specs.declared.kind.Kind.TheVariants as kind
 
 -- ---- a node with other children
 
-add_kind : (k : Kind) (us ts : Trees) → compound k us ≡ add ts → k ≡ kind.Add
-add_kind kind.Add us ts e = refl
-add_kind kind.Mult us ts e = cc
-add_kind kind.Pow us ts e = cc
-add_kind kind.Root us ts e = cc
-add_kind kind.Neg us ts e = cc
-add_kind kind.Sub us ts e = cc
-add_kind kind.Div us ts e = cc
-add_kind kind.Num us ts e = cc
-add_kind kind.Sym us ts e = cc
-add_kind kind.Undef us ts e = cc
-add_kind kind.Row us ts e = cc
-add_kind kind.Fraction us ts e = cc
-add_kind kind.Raised us ts e = cc
-add_kind kind.Radical us ts e = cc
-add_kind kind.Paren us ts e = cc
-add_kind kind.Plus us ts e = cc
-add_kind kind.Minus us ts e = cc
-add_kind kind.Times us ts e = cc
-
 add_payload : (x : Payload) (us ts : Trees) → grown x us ≡ add ts → x ≡ bare kind.Add
-add_payload (rational r) us ts e = cc
-add_payload (named x) us ts e = cc
-add_payload (bare k) us ts e = ap bare (add_kind k us ts e)
+add_payload x us ts e = grind arith
 
 with_many : (x : Payload) (n : ℕ) → x ≡ bare kind.Add → takes x n ≡ true
 with_many x n e = ap (λ (y : Payload). takes y n) e
@@ -50,26 +27,18 @@ resummed (tree l k empty) n us ts a o w p r =
     }
 
 arity-with_root_kids : (n t : Forest) → arity (with_root_kids n t) ≡ arity t
-arity-with_root_kids n empty = refl
-arity-with_root_kids n (tree l k r) = refl
+arity-with_root_kids n t = grind arith
 
 root_id-with_root_kids : (n t : Forest) → root_id (with_root_kids n t) ≡ root_id t
-root_id-with_root_kids n empty = refl
-root_id-with_root_kids n (tree l k r) = refl
+root_id-with_root_kids n t = grind arith
 
 pub last_with : {i : ℕ} {t g f : Forest} (n : Forest) → Ends i t g f → Ends i (with_root_kids n t) g (put i n f)
-last_with {t = t} n e = record {
-  whole = last_put n e;
-  alone = arity-with_root_kids n t ∙ e.alone;
-  root = root_id-with_root_kids n t ∙ e.root;
-  clear = e.clear;
-}
+last_with n e = grind (arith, last_put, arity-with_root_kids, root_id-with_root_kids)
 
 -- ---- its children
 
 once_kids : (t : Forest) → AllOnce t → AllOnce (kids t)
-once_kids empty o = tt
-once_kids (tree l k r) o = o.1
+once_kids t o = grind arith
 
 pub kids_represented : (t : Forest) → AllOnce t → AllExpressions t → Represents (kids t) (children_of (plain t))
 kids_represented t o w = record { once = once_kids t o; whole = whole_kids t w; plain_trees = sym (children_of-plain t w) }
@@ -81,11 +50,7 @@ plains-without_nth zero (tree l k r) = refl
 plains-without_nth (suc n) (tree l k r) = ap (more (grown l.payload (plains k))) (plains-without_nth n r)
 
 pub represents_without : {k : Forest} {ts : Trees} (n : ℕ) → Represents k ts → Represents (without_nth n k) (removed n ts)
-represents_without {k = k} n r = record {
-  once = all-join IsOnce (first_trees n k) (rest_trees 1 (rest_trees n k)) (all-first_trees IsOnce n k r.once) (all-rest_trees IsOnce 1 (rest_trees n k) (all-rest_trees IsOnce n k r.once));
-  whole = all-join IsWhole (first_trees n k) (rest_trees 1 (rest_trees n k)) (all-first_trees IsWhole n k r.whole) (all-rest_trees IsWhole 1 (rest_trees n k) (all-rest_trees IsWhole n k r.whole));
-  plain_trees = plains-without_nth n k ∙ ap (removed n) r.plain_trees;
-}
+represents_without n r = grind (arith, all-join, all-first_trees, all-rest_trees, plains-without_nth)
 
 pub once_nth : (n : ℕ) (k : Forest) → AllOnce k → AllOnce (tree_nth n k)
 once_nth n k o = all-first_trees IsOnce 1 (rest_trees n k) (all-rest_trees IsOnce n k o)
@@ -93,8 +58,7 @@ once_nth n k o = all-first_trees IsOnce 1 (rest_trees n k) (all-rest_trees IsOnc
 -- ---- the sum
 
 pub sum_is : (t : Tree) → IsSum t → t ≡ add (children_of t)
-sum_is (add ts) h = refl
-sum_is _ h = absurd h
+sum_is t h = grind arith
 
 -- a sum that stands last, with other children
 pub resum : {i : ℕ} {g f : Forest} {P Q : Tree → Type 0} (e : Gives g f i P) (n : Forest) (us ts : Trees) → plain e.tree ≡ add ts → Represents n us → Q (add us) → Gives g (put i n f) i Q

@@ -1,7 +1,7 @@
 -- Numbers over the common denominators of what they are worth, and of powers of it.
-use Rattle.std.proofs.Common.{◌≡◌, ℕ, ◌+◌, ◌*◌, ◌/◌, ◌%◌, ◌^◌, ◌≢◌, ◌++◌, Result, Ok, Err, refl, sym, subst, arith}
+use Rattle.std.proofs.Common.{◌≡◌, ℕ, ◌+◌, ◌*◌, ◌/◌, ◌%◌, ◌^◌, ◌≢◌, ◌++◌, Result, Ok, Err, sym, subst, arith}
 use Rattle.std.specs.Prelude.{IfOk}
-use Rattle.number_forms.proofs.Shared.{pow-add, value, Same, Surd, surd_times, surd_power, surd_power-squared, Same-trans, IsNoLarger, SharesPowers, Parts, SharesDenominators, power_once, parts_append, parts_times, no_larger, parts_left, parts_right, Tree, IsNumberOf, IsNumberOver, IsPowerOver, State, Forest, tree_of, Gives, forest, given_told, gives_as}
+use Rattle.number_forms.proofs.Shared.{pow-add, value, Same, Surd, surd_times, surd_power, surd_power-squared, Same-trans, IsNoLarger, SharesPowers, Parts, SharesDenominators, power_once, parts_append, parts_times, no_larger, parts_left, parts_right, Tree, IsNumberOf, IsNumberOver, IsPowerOver, State, Forest, tree_of, Gives, forest, given_told}
 use Rattle.number_forms.proofs.PowerSteps.{half_even, half_odd, power_odd}
 
 pub of_over : {v : Surd} {t : Tree} → IsNumberOver v t → IsNumberOf v t
@@ -19,8 +19,7 @@ shares_append {v = v} {v' = v'} {w = w} {w' = w'} f g = λ d p. parts_append d v
 -- ---- answers of calls
 
 pub if_number : {E : Type 0} (r : Result ℕ E) (f g : Forest) (v : Surd) → IfOk r (λ h. Gives f g h (IsNumberOver v)) → IfOk r (λ h. Gives f g h (IsNumberOf v))
-if_number (Ok h) f g v e = gives_as e refl (λ t n. of_over n)
-if_number (Err x) f g v e = tt
+if_number r f g v e = grind arith
 
 pub if_no_larger : {E : Type 0} (r : Result ℕ E) (f : Forest) (s : State) (v : Surd) → IfOk r (λ h. Gives f (forest s) h (IsNumberOver v)) → IfOk r (λ h. IsNoLarger v (value (tree_of h s)))
 if_no_larger (Ok h) f s v e = let n = given_told e in no_larger (tree_of h s) v n.number n.worth n.parts

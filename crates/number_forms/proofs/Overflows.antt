@@ -1,5 +1,5 @@
 -- What a call on Numbers is refused for, from the call that was refused.
-use Rattle.std.proofs.Common.{◌≡◌, ℕ, ◌+◌, ◌*◌, ◌/◌, ◌<◌, ◌≤◌, Some, inl, inr, refl, ap, ◌∙◌, subst, arith}
+use Rattle.std.proofs.Common.{◌≡◌, ℕ, ◌+◌, ◌*◌, ◌/◌, ◌<◌, ◌≤◌, Some, inl, ap, ◌∙◌, subst, arith}
 use Rattle.number_forms.proofs.Shared.{value, Same, Term, Surd, surd_times, Tree, count, Same-trans, Same-append, Same-refl, SharesDenominators, IsNumberOver, IsPowerOver, JoinOverflows, SumOverflows, ProductOverflows, SquareOverflows, PowerOverflows, Overflow, calculation_of, first_misfit, joining_calculations, children_of, nth}
 use Rattle.calc_algebra.specs.Numbers.{term_of}
 use Rattle.number_forms.proofs.Over.{shares_append, squared_power}
@@ -40,18 +40,7 @@ power_overflows_more v m n o l p = record {
 }
 
 pub square_overflows : (v : Surd) (h : Tree) (n : ℕ) (o : Overflow) → 1 ≤ n / 2 → IsPowerOver v (n / 2) h → SquareOverflows (value h) o → PowerOverflows v n o
-square_overflows v h n o l i p = record {
-  low = n / 2;
-  high = n / 2;
-  within = omega arith;
-  low_positive = l;
-  high_positive = l;
-  first = h;
-  second = h;
-  first_power = i;
-  second_power = i;
-  product = inr (refl, p);
-}
+square_overflows v h n o l i p = grind arith
 
 pub last_overflows : (h q a : Tree) (n : ℕ) (o : Overflow) → 1 ≤ n / 2 → 2 * (n / 2) + 1 ≤ n → IsPowerOver (value a) (n / 2) h → IsNumberOver (surd_times (value h) (value h)) q → IsPowerOver (value a) 1 a
     → ProductOverflows (value q) (value a) o → PowerOverflows (value a) n o

@@ -1,7 +1,7 @@
 -- Whether the bytes of a term's tree suffice.
-use Rattle.std.proofs.Common.{◌≡◌, ◌≢◌, ◌↔◌, ℕ, ◌+◌, ◌-◌, ◌==◌, ◌<◌, ◌≤◌, true, false, Bool, pos, List, length, [], ◌∷◌, ◌++◌, Result, Ok, Err, refl, sym, ap, ◌∙◌, subst, arith}
+use Rattle.std.proofs.Common.{◌≡◌, ◌≢◌, ◌↔◌, ℕ, ◌+◌, ◌-◌, ◌==◌, ◌<◌, ◌≤◌, true, false, Bool, pos, List, [], ◌∷◌, ◌++◌, Result, Ok, Err, refl, sym, ap, ◌∙◌, subst, arith}
 use Rattle.std.specs.Prelude.{IsOk, IsErr, IfOk, IfErr, nat_le, if◌then◌else◌}
-use Rattle.number_forms.proofs.Shared.{eqb-true, eq-eqb, le-leb, lt-leb, leb-false, Fraction, lowest, one_fraction, is_one_fraction, is_zero_fraction, whole_fraction, gcd, Tree, num, add, mult, power, root, neg, sub, div, Trees, more, none, size, sizes, root_size, one_is, value, classes, Term, surd_of, State, free_of, Full, term_tree, building, node_sizes, nodes_sizes, taking, LacksLongForm, Forest, tree_of, Gives, root_tree, plain, last_tree, Stands, forest, KeepsRefusals, IsRefused, given_told, given_free}
+use Rattle.number_forms.proofs.Shared.{eq-eqb, lt-leb, leb-false, Fraction, lowest, one_fraction, is_one_fraction, whole_fraction, gcd, Tree, num, add, mult, power, root, neg, sub, div, Trees, more, none, size, sizes, root_size, one_is, value, classes, Term, State, free_of, Full, term_tree, building, node_sizes, nodes_sizes, taking, LacksLongForm, Forest, tree_of, Gives, root_tree, plain, last_tree, Stands, forest, KeepsRefusals, IsRefused, given_told, given_free}
 use Rattle.calc_terms.specs.Kind.{size_by_form}
 use Rattle.calc_terms.specs.Short.{is_short}
 use Rattle.calc_terms.specs.declared.kind.Kind.TheVariants as kind
@@ -15,16 +15,12 @@ pub answered : {A E : Type 0} (r : Result A E) (P : Type 0) → IsOk r → P →
 answered r P o p = (λ _. p, λ _. o)
 
 pub refused : {A E : Type 0} (r : Result A E) (P : Type 0) → IsErr r → (P → ⊥) → IsOk r ↔ P
-refused (Ok x) P e n = let no : false ≡ true = e in cc
-refused (Err x) P e n = (λ o. let no : false ≡ true = o in cc, λ p. absurd (n p))
+refused r P e n = grind arith
 
 -- ---- the first node that lacks bytes
 
 pub taken : (free left n : ℕ) (ns : List ℕ) → free ≡ left + n → taking free (n ∷ ns) ≡ taking left ns
-taken free left n ns e =
-    let enough : n ≤ free = omega (arith, e) in
-    let same : free - n ≡ left = omega (arith, e) in
-    ap (λ b. if b then taking (free - n) ns else Err (record { needed = n; free = free })) (le-leb n free enough) ∙ ap (λ m. taking m ns) same
+taken free left n ns e = grind arith
 
 pub lacking : {s t : State} {n : ℕ} {full : Full} (ns : List ℕ) → IsRefused n s t full → taking (free_of s) (n ∷ ns) ≡ Err full
 lacking {s = s} {n = n} {full = full} ns r =
@@ -93,20 +89,11 @@ pub placed_before : (free mid left : ℕ) (x y : Tree) (ms : List ℕ) → free 
 placed_before free mid left x y ms e f = past free left (nodes_sizes (more x (more y none))) ms (omega (arith, total-nodes_sizes (more x (more y none))))
 
 pub number_lacks : {A : Type 0} (s t : State) (n : ℕ) (r : Result A Full) → IfErr r (IsRefused n s t) → IfErr r (λ full. taking (free_of s) (n ∷ []) ≡ Err full)
-number_lacks s t n (Ok x) h = tt
-number_lacks s t n (Err full) h = lacking [] h
+number_lacks s t n r h = grind arith
 
 -- a number that lacks bytes where those of a short one are free
 lacking_form : (b : Bool) (free : ℕ) (full : Full) → 16 ≤ free → (if nat_le (size_by_form kind.Num b) free then Ok (free - size_by_form kind.Num b) else Err (record { needed = size_by_form kind.Num b; free = free })) ≡ Err full → full.needed ≡ size_by_form kind.Num false
-lacking_form true free full h e = absurd (no_error (sym (ap (λ b. if b then Ok (free - 16) else Err (record { needed = 16; free = free })) (le-leb 16 free h)) ∙ e))
-  where
-    no_error : {n : ℕ} → Ok n ≡ Err full → ⊥
-    no_error f = cc
-lacking_form false free full h e = by (nat_le 40 free) e
-  where
-    by : (b : Bool) → (if b then Ok (free - 40) else Err (record { needed = 40; free = free })) ≡ Err full → full.needed ≡ 40
-    by true f = cc
-    by false f = cc
+lacking_form b free full h e = grind arith
 
 pub number_alone : (q : Fraction) (free : ℕ) (full : Full) → 16 ≤ free → building free (num q) ≡ Err full → LacksLongForm full
 number_alone q free full h e = lacking_form (is_short q) free full h e
@@ -116,57 +103,33 @@ unfolding one_fraction lowest gcd
 one_test = refl
 
 not_one_test : (q : Fraction) → q ≢ one_fraction → is_one_fraction q ≡ false
-not_one_test q h = by (is_one_fraction q) refl
-  where
-    by : (b : Bool) → is_one_fraction q ≡ b → is_one_fraction q ≡ false
-    by true e = absurd (h (one_is q e))
-    by false e = e
+not_one_test q h = grind (arith, one_is)
 
 not_one : (n : ℕ) → n ≢ 1 → (n == 1) ≡ false
-not_one n h = by (n == 1) refl
-  where
-    by : (b : Bool) → (n == 1) ≡ b → (n == 1) ≡ false
-    by true e = absurd (h (eqb-true n 1 e))
-    by false e = e
+not_one n h = grind arith
 
 pub rational_term : (t : Term) → t.radicand ≡ 1 → term_tree t ≡ num t.coefficient
 rational_term t e = ap (λ b. if b then num t.coefficient else if is_one_fraction t.coefficient then root (num (whole_fraction (pos t.radicand))) else mult (more (num t.coefficient) (more (root (num (whole_fraction (pos t.radicand)))) none))) (eq-eqb t.radicand 1 e)
 
 pub root_term : (t : Term) → t.radicand ≢ 1 → t.coefficient ≡ one_fraction → term_tree t ≡ root (num (whole_fraction (pos t.radicand)))
-root_term t h e =
-    ap (λ b. if b then num t.coefficient else if is_one_fraction t.coefficient then root (num (whole_fraction (pos t.radicand))) else mult (more (num t.coefficient) (more (root (num (whole_fraction (pos t.radicand)))) none))) (not_one t.radicand h)
-    ∙ ap (λ b. if b then root (num (whole_fraction (pos t.radicand))) else mult (more (num t.coefficient) (more (root (num (whole_fraction (pos t.radicand)))) none))) (ap is_one_fraction e ∙ one_test)
+root_term t h e = grind (arith, not_one, one_test)
 
 pub multiple_term : (t : Term) → t.radicand ≢ 1 → t.coefficient ≢ one_fraction → term_tree t ≡ mult (more (num t.coefficient) (more (root (num (whole_fraction (pos t.radicand)))) none))
-multiple_term t h e =
-    ap (λ b. if b then num t.coefficient else if is_one_fraction t.coefficient then root (num (whole_fraction (pos t.radicand))) else mult (more (num t.coefficient) (more (root (num (whole_fraction (pos t.radicand)))) none))) (not_one t.radicand h)
-    ∙ ap (λ b. if b then root (num (whole_fraction (pos t.radicand))) else mult (more (num t.coefficient) (more (root (num (whole_fraction (pos t.radicand)))) none))) (not_one_test t.coefficient e)
+multiple_term t h e = grind (arith, not_one, not_one_test)
 
 -- a rational has one class at most
 pub rational_classes : (t : Tree) (q : Fraction) → t ≡ num q → classes t ≡ 2 → ⊥
-rational_classes t q e f = by (is_zero_fraction q) (sym (ap classes e) ∙ f)
-  where
-    by : (b : Bool) → length (if b then [] else surd_of q) ≡ 2 → ⊥
-    by true g = absurd (omega (arith, g))
-    by false g = absurd (omega (arith, g))
+rational_classes t q e f = grind arith
 
 -- a term that is a rational has radicand 1
 pub rational_radicand : (t : Tree) (q : Fraction) (x : Term) → t ≡ num q → value t ≡ x ∷ [] → x.radicand ≡ 1
-rational_radicand t q x e f = by (is_zero_fraction q) (sym (ap value e) ∙ f)
-  where
-    by : (b : Bool) → (if b then [] else surd_of q) ≡ x ∷ [] → x.radicand ≡ 1
-    by true g = cc
-    by false g = ap (λ (y : Term). y.radicand) (sym (first_of g))
-      where
-        first_of : {y z : Term} → y ∷ [] ≡ z ∷ [] → y ≡ z
-        first_of k = cc
+rational_radicand t q x e f = grind arith
 
 -- ---- the very tree
 
 -- an answer that is this tree
 pub told_tree : {E : Type 0} (r : Result ℕ E) (f : Forest) (s : State) (u v : Tree) → IfOk r (λ h. Gives f (forest s) h (λ t. t ≡ u)) → u ≡ v → IfOk r (λ h. tree_of h s ≡ v)
-told_tree (Ok h) f s u v g e = given_told g ∙ e
-told_tree (Err x) f s u v g e = tt
+told_tree r f s u v g e = grind (arith, given_told)
 
 -- what is told of it, and that it is this one
 pub given_tree : {f g : Forest} {i : ℕ} {P : Tree → Type 0} {u : Tree} → Gives f g i P → plain (root_tree i g) ≡ u → Gives f g i (λ t. P t × (t ≡ u))

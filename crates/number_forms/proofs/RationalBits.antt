@@ -1,10 +1,9 @@
 -- Rationals among Numbers: their common denominators, and the operations that fit.
-use Rattle.std.proofs.Common.{◌≡◌, ◌≢◌, ℕ, zero, suc, ◌+◌, ◌*◌, ◌/◌, ◌^◌, ◌≤◌, ◌<◌, [], ◌++◌, true, false, not, Result, Ok, Err, ℤ, pos, negsuc, ◌≤ℤ◌, if◌then◌else◌, max, refl, sym, ap, ◌∙◌, subst, arith}
+use Rattle.std.proofs.Common.{◌≡◌, ◌≢◌, ℕ, ◌+◌, ◌*◌, ◌/◌, ◌^◌, ◌≤◌, ◌<◌, [], ◌++◌, true, false, not, Result, ℤ, pos, ◌≤ℤ◌, if◌then◌else◌, refl, sym, ap, ◌∙◌, subst, arith}
 use Rattle.std.specs.Prelude.{IfOk, IfErr, nat_abs}
-use Rattle.number_forms.proofs.Shared.{ints, mul-le, dvd-mul_left, value, Surd, surd_of, term, surd_times, HasFewBits, IsNoLargerThanPower, SharesPowers, Parts, SharesDenominators, magnitude_over, root_above, mass, IsHeld, multiple_fits, sum_fits_over, power_den, magnitude_power, magnitudes_cross, power_bound, low_power, parts_power, mass-append, no_larger_power, parts_left, parts_right, cancel_le, plus_den, root_enough, IsPlainOverflow, calculated, exactly, overflow, Operation, add_op, mul_op, pow_op, operation_fits, result_of, fraction_fits, sum_fits, fraction_power, zero_times, times_comm, Fraction, plus, times, zero_fraction, is_zero_fraction, whole_fraction, int_is_zero, Tree, num, is_num, zero_is, no_zero, whole_numerator, whole_denominator, IsPowerOver, AnswersRationals, State, held_bound, power_fits, denominator_bound, coefficients_fit, OfOverflow, Forest, tree_of, Gives, forest, NumberFault, given_told, by_test}
+use Rattle.number_forms.proofs.Shared.{mul-le, dvd-mul_left, value, Surd, surd_of, term, surd_times, HasFewBits, IsNoLargerThanPower, SharesPowers, Parts, SharesDenominators, magnitude_over, root_above, mass, IsHeld, multiple_fits, sum_fits_over, power_den, magnitude_power, magnitudes_cross, power_bound, low_power, parts_power, mass-append, no_larger_power, parts_left, parts_right, cancel_le, plus_den, root_enough, calculated, Operation, add_op, mul_op, pow_op, operation_fits, fraction_fits, sum_fits, fraction_power, zero_times, times_comm, Fraction, plus, times, zero_fraction, is_zero_fraction, whole_fraction, int_is_zero, Tree, num, is_num, zero_is, no_zero, whole_numerator, whole_denominator, IsPowerOver, AnswersRationals, State, held_bound, power_fits, denominator_bound, coefficients_fit, OfOverflow, Forest, tree_of, Gives, forest, NumberFault, given_told, by_test}
 use Rattle.std.specs.Int.{◌∣◌}
 use Rattle.calc_algebra.proofs.SquareRootLaws.{square_le}
-use Rattle.tree_handles.specs.declared.fault.NumberFault.TheVariants as fault
 
 -- ---- common denominators
 
@@ -26,8 +25,7 @@ at_num : (a : Tree) (p : Fraction) (d : ℕ) → a ≡ num p → Parts d (value 
 at_num a p d e h = den_of p d (subst (λ (t : Tree). Parts d (value t)) e h)
 
 pub sum_parts : (p q : Fraction) (a b : Tree) → a ≡ num p → b ≡ num q → SharesDenominators (value a ++ value b) (value (num (plus p q)))
-sum_parts p q a b e f = λ d h.
-    parts_of_rational (plus p q) d h.positive (plus_den p q d h.positive (at_num a p d e (parts_left d (value a) (value b) h)) (at_num b q d f (parts_right d (value a) (value b) h)))
+sum_parts p q a b e f = grind (arith, parts_of_rational, plus_den, at_num, parts_left, parts_right)
 
 times_den : (p q : Fraction) (d : ℕ) → Parts d (surd_times (value (num p)) (value (num q))) → (times p q).den ∣ d
 times_den p q d h =
@@ -37,9 +35,7 @@ times_den p q d h =
     (λ z k. subst (λ x. x.den ∣ d) (sym (ap (times p) (zero_is q z) ∙ times_comm p zero_fraction ∙ zero_times p)) (zero_den d)) (λ z k. k.whole.0)) h
 
 pub product_parts : (p q : Fraction) (a b : Tree) → a ≡ num p → b ≡ num q → SharesDenominators (surd_times (value a) (value b)) (value (num (times p q)))
-product_parts p q a b e f = λ d h.
-    parts_of_rational (times p q) d h.positive
-    (times_den p q d (subst (λ (t : Tree). Parts d (surd_times (value t) (value (num q)))) e (subst (λ (t : Tree). Parts d (surd_times (value a) (value t))) f h)))
+product_parts p q a b e f = grind (arith, parts_of_rational, times_den)
 
 pub power_parts : (p : Fraction) (n : ℕ) (a : Tree) → a ≡ num p → SharesPowers (value a) n (value (num (fraction_power p n)))
 power_parts p n a e = λ d h. parts_of_rational (fraction_power p n) (d ^ n) (parts_power d (value a) n h).positive (power_den p d n (at_num a p d e h))
@@ -47,30 +43,20 @@ power_parts p n a e = λ d h. parts_of_rational (fraction_power p n) (d ^ n) (pa
 -- ---- what fits
 
 abs_zero : (z : ℤ) → int_is_zero z ≡ true → nat_abs z ≡ 0
-abs_zero (pos zero) h = refl
-abs_zero (pos (suc n)) h = cc
-abs_zero (negsuc n) h = cc
+abs_zero z h = grind arith
 
 zero_magnitude : (q : Fraction) (d : ℕ) → is_zero_fraction q ≡ true → magnitude_over d q ≡ 0
 zero_magnitude q d z = ap (λ n. n * (d / q.den)) (abs_zero q.num z) ∙ omega arith
 
 zero_fits : fraction_fits zero_fraction ≡ true
 unfolding zero_fraction
-zero_fits =
-    let m : magnitude_over 1 zero_fraction ≡ 0 = zero_magnitude zero_fraction 1 (ap int_is_zero (whole_numerator (pos 0))) in
-    multiple_fits 1 zero_fraction (omega arith) (zero_den 1) (omega arith) (subst (λ n. n < 2 ^ 127) (sym m) (omega arith))
+zero_fits = grind (arith, zero_magnitude, whole_numerator, multiple_fits, zero_den)
 
 within_root : (m : ℕ) → m ≤ root_above (m * m * 1)
 within_root m = let a : m * m * 1 ≤ root_above (m * m * 1) * root_above (m * m * 1) = root_enough (m * m * 1) in square_le m (root_above (m * m * 1)) (omega arith)
 
 rational_mass : (q : Fraction) (e : ℕ) → magnitude_over e q ≤ mass e (value (num q))
-rational_mass q e =
-    by_test (λ b. magnitude_over e q ≤ mass e (if b then [] else surd_of q)) (is_zero_fraction q) (λ z. let m : magnitude_over e q ≡ 0 = zero_magnitude q e z in omega arith)
-    (λ z. let m : magnitude_over e q ≤ root_above (magnitude_over e q * magnitude_over e q * 1) = within_root (magnitude_over e q) in
-    at (magnitude_over e q) (root_above (magnitude_over e q * magnitude_over e q * 1)) e m)
-  where
-    at : (m r e : ℕ) → m ≤ r → m ≤ max e r + 0
-    at m r e h = omega arith
+rational_mass q e = grind (arith, by_test, zero_magnitude, within_root)
 
 -- over one common denominator as over another
 moved_bound : (m n d e p : ℕ) → 0 < e → m * e ≡ d * n → n ≤ e * p → m ≤ d * p
@@ -158,9 +144,7 @@ as_num _ h = cc
 
 -- an operation that fits is not refused for it
 not_refused : (op : Operation) (p q : Fraction) (s : State) (r : Result ℕ NumberFault) → operation_fits op p q ≡ true → AnswersRationals (calculated op p q) s r → IfErr r (OfOverflow (λ o. ⊥))
-not_refused op p q s (Ok h) f a = tt
-not_refused op p q s (Err (fault.Full full)) f a = tt
-not_refused op p q s (Err (fault.Overflow o)) f a = subst (λ b. IsPlainOverflow (if b then exactly (result_of op p q) else overflow op p q) o) f a
+not_refused op p q s r f a = grind arith
 
 pub sum_not_refused : (a b : Tree) (s : State) (r : Result ℕ NumberFault) → is_num a ≡ true → is_num b ≡ true → ((p q : Fraction) → a ≡ num p → b ≡ num q → AnswersRationals (calculated add_op p q) s r)
     → HasFewBits (value a ++ value b) → IfErr r (OfOverflow (λ o. ⊥))
@@ -186,12 +170,10 @@ power_not_refused a z s r m f h l k few =
 -- ---- powers that are answered
 
 pub at_least_one : (z : ℤ) → pos 1 ≤ℤ z → 1 ≤ nat_abs z
-at_least_one (pos n) h = omega (arith, ints)
-at_least_one (negsuc n) h = absurd (omega (arith, ints))
+at_least_one z h = grind arith
 
 pub power_no_larger : {v : Surd} {n : ℕ} {t : Tree} → 1 ≤ n → IsPowerOver v n t → IsNoLargerThanPower v n (value t)
 power_no_larger {v = v} {n = n} {t = t} l p = no_larger_power t v n l p.number p.worth p.parts
 
 pub if_power_no_larger : {E : Type 0} (r : Result ℕ E) (f : Forest) (s : State) (v : Surd) (n : ℕ) → 1 ≤ n → IfOk r (λ h. Gives f (forest s) h (IsPowerOver v n)) → IfOk r (λ h. IsNoLargerThanPower v n (value (tree_of h s)))
-if_power_no_larger (Ok h) f s v n l e = power_no_larger l (given_told e)
-if_power_no_larger (Err x) f s v n l e = tt
+if_power_no_larger r f s v n l e = grind (arith, power_no_larger, given_told)

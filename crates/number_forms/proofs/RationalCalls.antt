@@ -1,6 +1,6 @@
 -- Rationals in place of others.
-use Rattle.std.proofs.Common.{◌≡◌, ℕ, ◌++◌, Result, true, false, if◌then◌else◌, refl, sym, ap, ◌∙◌, subst, []}
-use Rattle.number_forms.proofs.Shared.{Operation, operation_fits, result_of, fraction_power, value, Same, Surd, surd_of, surd_times, surd_power, zero_is, number_test, zero_surd_of, surd_power-surd_of, Same-trans, Same-refl, Same-eq, Same-append, Same-surd_times, Same-surd_power, joined_radicand, surd_times-terms, SharesPowers, SharesDenominators, IsNumberOver, IsPowerOver, AnswersRationals, NumberFault, Fraction, plus, times, is_zero_fraction, calculated, exactly, overflow, value_of, Tree, num, is_num, State, operation_of, Overflow, IsPlainAnswer, IsPlainOverflow, by_test}
+use Rattle.std.proofs.Common.{arith, ◌≡◌, ℕ, ◌++◌, Result, false, if◌then◌else◌, refl, sym, ap, ◌∙◌, subst, []}
+use Rattle.number_forms.proofs.Shared.{Operation, operation_fits, result_of, fraction_power, value, Same, Surd, surd_of, surd_times, surd_power, zero_is, number_test, zero_surd_of, surd_power-surd_of, Same-trans, Same-refl, Same-eq, Same-append, Same-surd_times, Same-surd_power, joined_radicand, surd_times-terms, SharesPowers, SharesDenominators, IsNumberOver, IsPowerOver, AnswersRationals, NumberFault, Fraction, plus, times, is_zero_fraction, calculated, exactly, overflow, value_of, Tree, num, State, operation_of, Overflow, IsPlainAnswer, IsPlainOverflow, by_test}
 use Rattle.number_forms.proofs.Worth.{Same-sym}
 
 -- ---- what an operation answers
@@ -13,9 +13,6 @@ plain_overflow op p q o h x y z = by_test (λ b. operation_fits op p q ≡ b →
 
 pub num_same : {p q : Fraction} → num p ≡ num q → p ≡ q
 num_same e = cc
-
-pub rational_is : (t : Tree) (p : Fraction) → t ≡ num p → is_num t ≡ true
-rational_is t p e = ap is_num e
 
 rational_value : (q : Fraction) → Same (value (num q)) (surd_of q)
 rational_value q = by_test (λ b. is_zero_fraction q ≡ b → Same (if b then [] else surd_of q) (surd_of q)) (is_zero_fraction q) (λ e f. Same-sym (zero_surd_of q (zero_is q f))) (λ e f. Same-refl (surd_of q)) refl
@@ -43,5 +40,4 @@ pub rational_power : (p : Fraction) (n : ℕ) (a : Tree) → a ≡ num p → Sam
 rational_power p n a e = Same-sym (Same-trans (Same-surd_power n (Same-trans (Same-eq (ap value e)) (rational_value p))) (surd_power-surd_of p n))
 
 pub at_rationals : (op : Operation) (p q x y : Fraction) (a b : Tree) (s : State) (r : Result ℕ NumberFault) → a ≡ num x → b ≡ num y → AnswersRationals (calculated op x y) s r → a ≡ num p → b ≡ num q → AnswersRationals (calculated op p q) s r
-at_rationals op p q x y a b s r e f h k l =
-    subst (λ (z : Fraction). AnswersRationals (calculated op p z) s r) (num_same (sym f ∙ l)) (subst (λ (z : Fraction). AnswersRationals (calculated op z y) s r) (num_same (sym e ∙ k)) h)
+at_rationals op p q x y a b s r e f h k l = grind arith

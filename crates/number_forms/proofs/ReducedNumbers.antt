@@ -1,89 +1,31 @@
 -- Of a reduced tree the shape tells whether it is a Number.
 use Rattle.std.proofs.Common.{◌≡◌, ◌≢◌, ℕ, zero, suc, ◌≤◌, ◌<◌, ◌⊎◌, inl, inr, Bool, true, false, not, ◌&&◌, ◌||◌, if◌then◌else◌, length, refl, sym, ap, ◌∙◌, subst, arith}
 use Rattle.std.specs.Prelude.{nat_le}
-use Rattle.number_forms.proofs.Shared.{and_parts, and_from, le-leb, leb-true, not-true, Fraction, is_zero_fraction, is_one_fraction, is_number, is_term, is_radicand, are_terms, rises, terms_of, is_reduced, has_form, sum_form, product_form, front_form, all_parts, all_parts_of, none_is, number_terms, other_terms, rises_by, part_of, base_of, split_product, is_undistributed, Tree, num, undef, add, mult, root, Trees, none, more, count, has_two, is_add, is_mult, is_undef, root_kind, has_term_shape, nth}
+use Rattle.number_forms.proofs.Shared.{and_parts, and_from, le-leb, not-true, is_number, is_term, are_terms, rises, terms_of, is_reduced, has_form, sum_form, all_parts, all_parts_of, none_is, number_terms, other_terms, rises_by, part_of, Tree, add, Trees, none, more, count, has_two, is_add, root_kind, has_term_shape, nth}
 use Rattle.number_forms.proofs.Shaped.{length-terms_of}
 use Rattle.calc_terms.specs.declared.kind.Kind.TheVariants as kind
 
 true_or_false : (b : Bool) → (b ≡ true) ⊎ (b ≡ false)
-true_or_false true = inl refl
-true_or_false false = inr refl
+true_or_false b = grind arith
 
 either : (a b : Bool) → (a || b) ≡ true → (a ≡ true) ⊎ (b ≡ true)
-either true b h = inl refl
-either false b h = inr h
-
-or_false : (a : Bool) → (a || false) ≡ true → a ≡ true
-or_false true h = refl
-or_false false h = h
+either a b h = grind arith
 
 -- ---- a term's shape
 
-root_form : (r : Fraction) → all_parts has_form (root (num r)) ≡ true → is_radicand r ≡ true
-unfolding is_number
-root_form r h = or_false (is_radicand r) ((and_parts (has_form (root (num r))) (all_parts has_form (num r)) h).0)
-
-product_parts : (q r : Fraction) → all_parts has_form (mult (more (num q) (more (root (num r)) none))) ≡ true → is_radicand r ≡ true
-unfolding is_number
-product_parts q r h =
-    let (a, b) = and_parts (has_form (mult (more (num q) (more (root (num r)) none)))) (all_parts_of has_form (more (num q) (more (root (num r)) none))) h in
-    let (c, d) = and_parts (all_parts has_form (num q)) (all_parts_of has_form (more (root (num r)) none)) b in
-    let (e, f) = and_parts (all_parts has_form (root (num r))) true d in
-    root_form r e
-
-product_front : (q : Fraction) (ts : Trees) → product_form (more (num q) ts) ≡ true → (not (is_zero_fraction q) && not (is_one_fraction q)) ≡ true
-product_front q ts h =
-    let all = more (num q) ts in
-    let (h1, _) = and_parts (has_two all && none_is is_mult all && front_form all && none_is is_number (split_product all).factors && rises_by base_of (split_product all).factors) (not (is_undistributed (split_product all))) h in
-    let (h2, _) = and_parts (has_two all && none_is is_mult all && front_form all && none_is is_number (split_product all).factors) (rises_by base_of (split_product all).factors) h1 in
-    let (h3, _) = and_parts (has_two all && none_is is_mult all && front_form all) (none_is is_number (split_product all).factors) h2 in
-    (and_parts (has_two all && none_is is_mult all) (front_form all) h3).1
-
-product_number : (q r : Fraction) → all_parts has_form (mult (more (num q) (more (root (num r)) none))) ≡ true → is_number (mult (more (num q) (more (root (num r)) none))) ≡ true
-unfolding is_number
-product_number q r h = by (either (is_number (mult (more (num q) (more (root (num r)) none)))) (product_form (more (num q) (more (root (num r)) none))) ((and_parts (has_form (mult (more (num q) (more (root (num r)) none)))) (all_parts_of has_form (more (num q) (more (root (num r)) none))) h).0))
-  where
-    by : (is_number (mult (more (num q) (more (root (num r)) none))) ≡ true) ⊎ (product_form (more (num q) (more (root (num r)) none)) ≡ true) → is_number (mult (more (num q) (more (root (num r)) none))) ≡ true
-    by (inl e) = e
-    by (inr e) = and_from (not (is_zero_fraction q) && not (is_one_fraction q)) (is_radicand r) (product_front q (more (root (num r)) none) e) (product_parts q r h)
-
 shaped_number : (t : Tree) → all_parts has_form t ≡ true → has_term_shape t ≡ true → is_number t ≡ true
 unfolding is_number
-shaped_number (num q) h s = refl
-shaped_number (root (num r)) h s = root_form r h
-shaped_number (mult (more (num q) (more (root (num r)) none))) h s = product_number q r h
-shaped_number _ h s = cc
-
-unshaped : (t : Tree) → has_term_shape t ≡ false → is_add t ≡ false → is_number t ≡ false
-unfolding is_number
-unshaped (num q) h e = cc
-unshaped (root (num r)) h e = cc
-unshaped (mult (more (num q) (more (root (num r)) none))) h e = cc
-unshaped (add ts) h e = cc
-unshaped _ h e = refl
+shaped_number t h s = grind arith
 
 pub unshaped_term : (t : Tree) → has_term_shape t ≡ false → is_term t ≡ false
-unshaped_term (num q) h = cc
-unshaped_term (root (num r)) h = cc
-unshaped_term (mult (more (num q) (more (root (num r)) none))) h = cc
-unshaped_term _ h = refl
+unshaped_term t h = grind arith
 
 pub no_add : (t : Tree) → root_kind t ≢ kind.Add → is_add t ≡ false
-no_add (add ts) h = absurd (h refl)
-no_add _ h = refl
+no_add t h = grind arith
 
 pub reduced_other : (t : Tree) → is_reduced t ≡ true → root_kind t ≢ kind.Add → has_term_shape t ≡ is_number t
 unfolding is_reduced is_number
-reduced_other t h k = by (either (is_undef t) (all_parts has_form t) h) (true_or_false (has_term_shape t))
-  where
-    undefined : (u : Tree) → is_undef u ≡ true → has_term_shape u ≡ is_number u
-    undefined undef e = refl
-    undefined _ e = cc
-
-    by : (is_undef t ≡ true) ⊎ (all_parts has_form t ≡ true) → (has_term_shape t ≡ true) ⊎ (has_term_shape t ≡ false) → has_term_shape t ≡ is_number t
-    by (inl e) s = undefined t e
-    by (inr e) (inl s) = s ∙ sym (shaped_number t e s)
-    by (inr e) (inr s) = s ∙ sym (unshaped t s (no_add t k))
+reduced_other t h k = grind arith
 
 -- ---- a sum, by its last term
 
@@ -131,16 +73,11 @@ all_terms (more t (more u us)) (suc n) e h o = by (λ o. all_terms (more u us) n
     by again false f o = absurd (cc (none_nth is_number (more t (more u us)) (suc n) o (omega arith), h))
 
 two_of : (ts : Trees) → has_two ts ≡ true → 2 ≤ count ts
-two_of (more t (more u us)) h = omega arith
-two_of none h = cc
-two_of (more t none) h = cc
+two_of ts h = grind arith
 
 number_two : (ts : Trees) → is_number (add ts) ≡ true → 2 ≤ count ts
 unfolding is_number
-number_two ts h =
-    let (ab, c) = and_parts (nat_le 2 (length (terms_of ts)) && are_terms ts) (rises (terms_of ts)) h in
-    let l : 2 ≤ length (terms_of ts) = leb-true 2 (length (terms_of ts)) ((and_parts (nat_le 2 (length (terms_of ts))) (are_terms ts) ab).0) in
-    subst (λ (n : ℕ). 2 ≤ n) (length-terms_of ts) l
+number_two ts h = grind (arith, length-terms_of)
 
 pub record SumParts (ts : Trees) : Type 0 where
   pub two : has_two ts ≡ true
@@ -163,11 +100,7 @@ sum_by_terms ts s a =
 
 not_by_terms : (ts : Trees) → are_terms ts ≡ false → is_number (add ts) ≡ false
 unfolding is_number
-not_by_terms ts h = by (nat_le 2 (length (terms_of ts))) (are_terms ts) (rises (terms_of ts)) h
-  where
-    by : (a b c : Bool) → b ≡ false → (a && b && c) ≡ false
-    by true b c e = ap (λ (x : Bool). x && c) e
-    by false b c e = refl
+not_by_terms ts h = grind arith
 
 sum_has_form : (ts : Trees) → is_reduced (add ts) ≡ true → ((is_number (add ts) ≡ true) ⊎ (sum_form ts ≡ true)) × (all_parts_of has_form ts ≡ true)
 unfolding is_reduced
@@ -176,11 +109,7 @@ sum_has_form ts h =
     (either (is_number (add ts)) (sum_form ts) a, b)
 
 pub reduced_two : (ts : Trees) → is_reduced (add ts) ≡ true → 2 ≤ count ts
-reduced_two ts h = by (sum_has_form ts h).0
-  where
-    by : (is_number (add ts) ≡ true) ⊎ (sum_form ts ≡ true) → 2 ≤ count ts
-    by (inl e) = number_two ts e
-    by (inr e) = two_of ts (sum_parts ts e).two
+reduced_two ts h = grind (arith, sum_has_form, number_two, two_of, sum_parts)
 
 pub reduced_sum : (ts : Trees) (n : ℕ) → is_reduced (add ts) ≡ true → suc n ≡ count ts → has_term_shape (nth n ts) ≡ is_number (add ts)
 reduced_sum ts n h e = by (sum_has_form ts h).0 (true_or_false (has_term_shape (nth n ts)))

@@ -36,14 +36,10 @@ terms_end ts n l = ap are_terms (from_end ts n l)
 -- ---- their radicands rise
 
 pub rises_next : (ts : Trees) (n : ℕ) → n < count ts → is_below_all (term_of (nth n ts)) (terms_of (trees_from (n + 1) ts)) ≡ true → rises (terms_of (trees_from n ts)) ≡ rises (terms_of (trees_from (n + 1) ts))
-rises_next ts n l h =
-    ap (λ (us : Trees). rises (terms_of us)) (from_next ts n l)
-    ∙ ap (λ (b : Bool). b && rises (terms_of (trees_from (n + 1) ts))) h
+rises_next ts n l h = grind (arith, from_next)
 
 pub no_rise : (ts : Trees) (n : ℕ) → n < count ts → is_below_all (term_of (nth n ts)) (terms_of (trees_from (n + 1) ts)) ≡ false → rises (terms_of (trees_from n ts)) ≡ false
-no_rise ts n l h =
-    ap (λ (us : Trees). rises (terms_of us)) (from_next ts n l)
-    ∙ ap (λ (b : Bool). b && rises (terms_of (trees_from (n + 1) ts))) h
+no_rise ts n l h = grind (arith, from_next)
 
 pub rises_end : (ts : Trees) (n : ℕ) → count ts ≤ n → rises (terms_of (trees_from n ts)) ≡ true
 rises_end ts n l = ap (λ (us : Trees). rises (terms_of us)) (from_end ts n l)

@@ -1,23 +1,20 @@
 -- How many bytes stand while Numbers are added, multiplied and raised, and for how few at hand a call is refused.
-use Rattle.std.proofs.Common.{◌≡◌, ℕ, zero, suc, ◌+◌, ◌*◌, ◌^◌, ◌<◌, ◌≤◌, List, length, [], ◌∷◌, ◌++◌, Bool, true, false, pos, Some, Result, Ok, Err, sym, ap, ◌∙◌, subst, arith}
-use Rattle.std.specs.Prelude.{IfOk, IfErr, slice_get, ◌==◌, if◌then◌else◌}
-use Rattle.number_forms.proofs.Shared.{pow_pos, Fraction, plus, times, negative, zero_fraction, one_fraction, is_one_fraction, whole_fraction, plus_comm, plus_assoc, times_comm, times_plus, zero_plus, zero_times, one_times, plus_negative, Tree, num, root, mult, add, none, more, size, sizes, num_most, is_number, value, terms_of, classes, class_coefficient, Same, Term, Surd, surd_scale, surd_times, surd_power, terms_proper, number_words, Same-Agree, Agree-Same, class_coefficient-append, class_coefficient-surd_scale, sum_need, product_need, power_need, inverse_need, IsSpanned, Spans, SpansTree, spans_append, spans_scale, spans_same_terms, value_spanned, sum_spanned, product_spanned, power_spanned, inverse_spanned, State, free_of, Full, IsNumberOf, inverse_trees, IsInverseOf, LacksInverse, OfFull, terms_from, joining_need, raising_need, term_tree, IsSum, IsSumOf, replaced_free, inverse_of, first_of_inverse, second_of_inverse, children_of, Forest, tree_of, IsHanded, Gives, Stands, forest, NumberFault, given_told}
+use Rattle.std.proofs.Common.{◌≡◌, ℕ, zero, suc, ◌+◌, ◌*◌, ◌^◌, ◌<◌, ◌≤◌, List, length, [], ◌∷◌, ◌++◌, true, Some, Result, sym, ap, ◌∙◌, subst, arith}
+use Rattle.std.specs.Prelude.{IfOk, IfErr, slice_get}
+use Rattle.number_forms.proofs.Shared.{pow_pos, Fraction, plus, times, negative, zero_fraction, one_fraction, plus_comm, plus_assoc, times_comm, times_plus, zero_plus, zero_times, one_times, plus_negative, Tree, add, size, sizes, is_number, value, terms_of, classes, Same, Term, Surd, surd_scale, surd_times, surd_power, terms_proper, number_words, Same-Agree, Agree-Same, class_coefficient-append, class_coefficient-surd_scale, sum_need, product_need, power_need, inverse_need, IsSpanned, Spans, SpansTree, spans_append, spans_scale, spans_same_terms, value_spanned, sum_spanned, product_spanned, power_spanned, inverse_spanned, State, free_of, Full, IsNumberOf, inverse_trees, IsInverseOf, LacksInverse, OfFull, terms_from, joining_need, raising_need, IsSum, IsSumOf, replaced_free, children_of, Forest, tree_of, IsHanded, Gives, Stands, forest, NumberFault, given_told}
 use Rattle.calc_room.proofs.NumberBytes.{number_bytes, partial_bytes}
 use Rattle.number_forms.proofs.LastSums.{sum_is}
 use Rattle.number_forms.proofs.Loops.{IsSumWith, IsJoined}
 use Rattle.number_forms.proofs.Placings.{lacking_below}
 use Rattle.number_forms.proofs.SumChanges.{sum_value}
-use Rattle.tree_handles.specs.declared.fault.NumberFault.TheVariants as fault
 
 -- ---- facts of a refusal
 
 pub full_as : {P Q : Full → Type 0} (e : NumberFault) → OfFull P e → ((f : Full) → P f → Q f) → OfFull Q e
-full_as (fault.Full f) p k = k f p
-full_as (fault.Overflow o) p k = tt
+full_as e p k = grind arith
 
 pub refusal_as : {A E : Type 0} {P Q : E → Type 0} (r : Result A E) → IfErr r P → ((e : E) → P e → Q e) → IfErr r Q
-refusal_as (Ok x) p k = p
-refusal_as (Err e) p k = k e p
+refusal_as r p k = grind arith
 
 -- ---- sums under way
 
@@ -35,15 +32,7 @@ taken_off x a = plus_assoc x a (times minus_one a) ∙ ap (plus x) (opposite a) 
 
 -- the sum so far is the whole without what is left
 without_rest : (t left whole : Surd) → Same (t ++ left) whole → Same t (whole ++ surd_scale minus_one left)
-without_rest t left whole h = Agree-Same (record { at = at })
-  where
-    at : (s : ℕ) → class_coefficient t s ≡ class_coefficient (whole ++ surd_scale minus_one left) s
-    at s =
-        let l : Fraction = class_coefficient left s in
-        let both : plus (class_coefficient t s) l ≡ class_coefficient whole s = sym (class_coefficient-append t left s) ∙ (Same-Agree h).at s in
-        let all : class_coefficient (whole ++ surd_scale minus_one left) s ≡ plus (class_coefficient whole s) (times minus_one l) =
-        class_coefficient-append whole (surd_scale minus_one left) s ∙ ap (plus (class_coefficient whole s)) (class_coefficient-surd_scale minus_one left s) in
-        sym (taken_off (class_coefficient t s) l) ∙ ap (λ (x : Fraction). plus x (times minus_one l)) both ∙ sym all
+without_rest t left whole h = grind (arith, Agree-Same, class_coefficient-append, Same-Agree, class_coefficient-surd_scale, taken_off)
 
 pub spans_from : (gs : List ℕ) (v : Surd) (n : ℕ) → Spans gs v → Spans gs (terms_from n v)
 spans_from gs v zero h = h
@@ -116,8 +105,7 @@ inverse_spans gs a t h c k = inverse_spanned gs a t (number_words a h) (number_w
 
 -- the answer of a call
 pub answer_spans : (gs : List ℕ) {P : Tree → Type 0} (r : Result ℕ NumberFault) (g : Forest) (s : State) → IfOk r (λ h. Gives g (forest s) h P) → ((t : Tree) → P t → SpansTree gs t) → IfOk r (λ h. SpansTree gs (tree_of h s))
-answer_spans gs (Ok h) g s e k = k (tree_of h s) (given_told e)
-answer_spans gs (Err f) g s e k = tt
+answer_spans gs r g s e k = grind (arith, given_told)
 
 -- ---- bytes at hand
 
@@ -154,19 +142,8 @@ few_for_joining gs bytes l = omega (arith, pow_pos (length gs))
 
 -- ---- inverses
 
-term_tree_bytes : (t : Term) → size (term_tree t) ≤ 96
-term_tree_bytes t = by (t.radicand == 1) (is_one_fraction t.coefficient)
-  where
-    by : (x y : Bool) → size (if x then num t.coefficient else if y then root (num (whole_fraction (pos t.radicand))) else mult (more (num t.coefficient) (more (root (num (whole_fraction (pos t.radicand)))) none))) ≤ 96
-    by true y = omega (arith, num_most t.coefficient)
-    by false true = omega (arith, num_most (whole_fraction (pos t.radicand)))
-    by false false = omega (arith, num_most t.coefficient, num_most (whole_fraction (pos t.radicand)))
-
 inverse_bytes : (v : Surd) → sizes (inverse_trees v) ≤ 200
-inverse_bytes [] = omega arith
-inverse_bytes (x ∷ []) = omega (arith, term_tree_bytes (inverse_of x))
-inverse_bytes (x ∷ y ∷ []) = omega (arith, term_tree_bytes (first_of_inverse x y), term_tree_bytes (second_of_inverse x y))
-inverse_bytes (x ∷ y ∷ z ∷ v) = omega arith
+inverse_bytes v = grind arith
 
 pub inverse_lacks : (gs : List ℕ) (v : Surd) (bytes : ℕ) (full : Full) → LacksInverse v bytes full → bytes < inverse_need * 2 ^ length gs
 inverse_lacks gs v bytes full l = omega (arith, lacking_below bytes (inverse_trees v) full l.lacks, inverse_bytes v, pow_pos (length gs))

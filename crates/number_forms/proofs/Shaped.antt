@@ -1,7 +1,7 @@
 -- Numbers from sums of terms, and sums of terms from Numbers.
 use Rattle.std.proofs.Common.{◌≡◌, ◌≢◌, ℕ, zero, suc, ◌≤◌, ◌<◌, [], ◌∷◌, length, Some, Bool, true, if◌then◌else◌, refl, sym, ap, ◌∙◌, subst, arith}
 use Rattle.std.specs.Prelude.{slice_get, pos}
-use Rattle.number_forms.proofs.Shared.{Fraction, lowest, int_is_zero, IsNumber, IsTerm, AreTerms, Rises, is_number, terms_of, value, Surd, surd_of, Tree, num, add, mult, root, Trees, none, more, count, zero_test, whole_numerator, number_test, number_words, Same-refl, Same-eq, IsNumberOver, IsSum, IsSumOf, nth, children_of}
+use Rattle.number_forms.proofs.Shared.{Fraction, lowest, int_is_zero, IsNumber, IsTerm, AreTerms, Rises, is_number, terms_of, value, Surd, surd_of, Tree, num, add, Trees, none, more, count, zero_test, whole_numerator, number_test, number_words, Same-refl, Same-eq, IsNumberOver, IsSum, IsSumOf, nth, children_of}
 use Rattle.calc_algebra.specs.Numbers.{term_of}
 use Rattle.number_forms.proofs.Denominators.{shares_eq}
 
@@ -18,26 +18,16 @@ pub zero_number : IsNumberOver [] (num (lowest (pos 0) 1))
 zero_number = record { number = number_test (num (lowest (pos 0) 1)) tt; worth = Same-eq none_value; parts = shares_eq (sym none_value) }
 
 pub term_number : (t : Tree) → IsTerm t → IsNumber t
-term_number (num q) h = tt
-term_number (root a) h = h
-term_number (mult ts) h = h
-term_number _ h = absurd h
+term_number t h = grind arith
 
 pub term_value : (t : Tree) → IsTerm t → value t ≡ term_of t ∷ []
-term_value (num q) h = ap (λ (b : Bool). if b then [] else surd_of q) (zero_test q h)
-term_value (root a) h = refl
-term_value (mult ts) h = refl
-term_value _ h = absurd h
+term_value t h = grind (arith, zero_test)
 
 pub single_number : (t : Tree) → IsTerm t → IsNumberOver (term_of t ∷ []) t
 single_number t h = record { number = number_test t (term_number t h); worth = Same-eq (term_value t h); parts = shares_eq (sym (term_value t h)) }
 
 pub sum_number : (ts : Trees) → 2 ≤ count ts → AreTerms ts → Rises (terms_of ts) → IsNumberOver (terms_of ts) (add ts)
-sum_number ts l a r = record {
-  number = number_test (add ts) (subst (λ (n : ℕ). 2 ≤ n) (sym (length-terms_of ts)) l, a, r);
-  worth = Same-refl (terms_of ts);
-  parts = λ d p. p;
-}
+sum_number ts l a r = grind (arith, number_test, length-terms_of, Same-refl)
 
 -- ---- from a Number
 
@@ -80,9 +70,7 @@ one_sum t ts h e l =
     subst (λ (v : Surd). IsNumberOver v (nth 0 ts)) (sym (ap value e)) (one_of_sum ts parts.0 l)
 
 pub more_sum : (t : Tree) (ts : Trees) → IsSum t → t ≡ add ts → 2 ≤ count ts → IsNumberOver (value t) t
-more_sum t ts h e l =
-    let parts : IsSum (add ts) = subst IsSum e h in
-    subst (λ (u : Tree). IsNumberOver (value u) u) (sym e) (sum_number ts l parts.0 parts.1)
+more_sum t ts h e l = grind (arith, sum_number)
 
 pub zero_number_of : (v : Surd) (t : Tree) (q : Fraction) → v ≡ [] → t ≡ num q → q ≡ lowest (pos 0) 1 → IsNumberOver v t
 zero_number_of v t q e f g = subst (λ (w : Surd). IsNumberOver w t) (sym e) (subst (IsNumberOver []) (sym (f ∙ ap num g)) zero_number)

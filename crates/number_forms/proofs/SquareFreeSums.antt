@@ -1,10 +1,10 @@
 -- Sums of terms whose radicands are so small that each class has one.
-use Rattle.std.proofs.Common.{◌∷◌, [], ◌≡◌, ℕ, zero, suc, ◌<◌, ◌≤◌, ◌^◌, ◌⊎◌, inl, inr, false, refl, sym, ap, ◌∙◌, subst, arith}
+use Rattle.std.proofs.Common.{◌∷◌, [], ◌≡◌, ℕ, zero, suc, ◌<◌, ◌≤◌, ◌^◌, ◌⊎◌, inl, inr, false, ap, ◌∙◌, subst, arith}
 use Rattle.number_forms.proofs.Shared.{false_from_ne_true, IsClean, IsBelowAll, Rises, terms_of, are_alike, Term, SharesDenominators, Tree, Trees, none, more, add, count, IsSum, IsApart, IsPlace, AreBelow, joined_den, nth, children_of}
 use Rattle.calc_algebra.specs.Numbers.{term_of}
 use Rattle.calc_algebra.proofs.CleanLaws.{IsSquareFree, clean_square_free, alike_square_free}
 use Rattle.calc_algebra.proofs.NumberUniqueness.{term_simplest}
-use Rattle.number_forms.proofs.Joined.{apart_each, apart_turned}
+use Rattle.number_forms.proofs.Joined.{apart_each}
 use Rattle.number_forms.proofs.LastSums.{sum_is}
 use Rattle.number_forms.proofs.Shaped.{nth_is_term}
 use Rattle.surd_terms.specs.Sums.{Joins, IfTerm, IsSum as IsSumOfTwo}
@@ -19,10 +19,7 @@ pub read_radicand : (x : ℕ) (s : Term) (u v : Tree) → x ≡ s.radicand → s
 read_radicand x s u v e f g = e ∙ ap (λ (t : Term). t.radicand) (f ∙ ap term_of g)
 
 pub read_apart : (j : Joined) (s x : Term) (u v : Tree) → j ≡ joined.Apart → Joins j s x → s ≡ term_of u → u ≡ v → are_alike x.radicand (term_of v).radicand ≡ false
-read_apart j s x u v e h f g =
-    let apart : are_alike s.radicand x.radicand ≡ false = subst (λ (k : Joined). Joins k s x) e h in
-    let same : s.radicand ≡ (term_of v).radicand = read_radicand s.radicand s u v refl f g in
-    apart_turned (term_of v).radicand x.radicand (subst (λ (n : ℕ). are_alike n x.radicand ≡ false) same apart)
+read_apart j s x u v e h f g = grind arith
 
 pub read_joined : (j k : Joined) (s x : Term) (u v : Tree) → j ≡ k → Joins j s x → s ≡ term_of u → u ≡ v → Joins k (term_of v) x
 read_joined j k s x u v e h f g = subst (λ (i : Joined). Joins i (term_of v) x) e (subst (λ (t : Term). Joins j t x) (f ∙ ap term_of g) h)
@@ -61,11 +58,7 @@ rises_in_sum t m n h k l = rises_nth m n (children_of t) (sum_parts t h).1 k l
 
 -- up to a place, where the radicand there is below
 pub below_up_to : (t : Tree) (m k r : ℕ) → IsSum t → m < count (children_of t) → (term_of (nth m (children_of t))).radicand < r → k ≤ m → (term_of (nth k (children_of t))).radicand < r
-below_up_to t m k r h l b x = by (at_most k m x)
-  where
-    by : (k < m) ⊎ (k ≡ m) → (term_of (nth k (children_of t))).radicand < r
-    by (inl y) = let z = rises_in_sum t k m h y l in omega (arith, z, b)
-    by (inr e) = subst (λ (n : ℕ). (term_of (nth n (children_of t))).radicand < r) (sym e) b
+below_up_to t m k r h l b x = grind (arith, at_most, rises_in_sum)
 
 -- the place of a radicand that a term has
 pub place_there : (t : Tree) (n r : ℕ) → IsSum t → n < count (children_of t) → r ≡ (term_of (nth n (children_of t))).radicand → IsPlace n r (children_of t)

@@ -1,5 +1,5 @@
 -- A sum that stands last: as it is read, with a term more, and with a term less.
-use Rattle.std.proofs.Common.{◌≡◌, ℕ, ◌<◌, [], ◌∷◌, ◌++◌, true, refl, sym, ap, ◌∙◌, subst}
+use Rattle.std.proofs.Common.{arith, ◌≡◌, ℕ, ◌<◌, [], ◌∷◌, ◌++◌, true, refl, sym, ap, ◌∙◌, subst}
 use Rattle.number_forms.proofs.Shared.{IsTerm, AreTerms, Rises, is_term, terms_of, value, Same, are_alike, Term, Surd, AreWholeOver, Parts, SharesDenominators, Tree, Trees, none, more, add, count, IsProper, term_words, Same-trans, Same-refl, Same-eq, Same-cons, Same-append, Same-to_front, State, IsSum, IsSumOf, IsApart, IsPlace, removed, nth, plain, children_of, inserted, Forest, arity, kids, with_nth, without_nth, tree_nth, IsHanded, Represents, Ends, Gives, tree_at, kids_of, root_tree, without_root, put, Stands, forest, represents_handed, represents_with, given_root, given_handed, given_told, given_rest, given_same, last_tree, last_rest, expression_root, plain_root, seen}
 use Rattle.calc_algebra.specs.Numbers.{term_of}
 use Rattle.number_forms.specs.Joins.{IsMatch}
@@ -75,9 +75,7 @@ removed_sum {i} {h} {g} {f} at e x q =
     (q ∙ last_rest x)
 
 pub removed_is_sum : (n : ℕ) (t u : Tree) → IsSum t → u ≡ add (removed n (children_of t)) → IsSum u
-removed_is_sum n t u h e =
-    let parts : IsSum (add (children_of t)) = subst IsSum (sum_is t h) h in
-    subst IsSum (sym e) (are_removed n (children_of t) parts.0, rises_removed n (children_of t) parts.1)
+removed_is_sum n t u h e = grind (arith, sum_is, are_removed, rises_removed)
 
 pub joined_rest : (n : ℕ) (ts : Trees) (v : Surd) (t : Term) → n < count ts → Same v (term_of (nth n ts) ∷ t ∷ []) → Same (v ++ terms_of (removed n ts)) (t ∷ terms_of ts)
 joined_rest n ts v t l h =
@@ -117,6 +115,4 @@ matched t u v m n e f h = subst (λ (x : Match). IsMatch t (children_of v) x) f 
 
 pub apart_rest : (n : ℕ) (t u : Tree) (s j : Term) → IsSum t → n < count (children_of t) → IsProper j → are_alike (term_of (nth n (children_of t))).radicand s.radicand ≡ true → Same (j ∷ []) (term_of (nth n (children_of t)) ∷ s ∷ [])
     → u ≡ add (removed n (children_of t)) → IsApart j.radicand (value u)
-apart_rest n t u s j h l p a k e =
-    let parts : IsSum (add (children_of t)) = subst IsSum (sum_is t h) h in
-    subst (IsApart j.radicand) (sym (ap value e)) (apart_removed j.radicand n (children_of t) parts.1 l (alike_sum j (term_of (nth n (children_of t))) s p a k))
+apart_rest n t u s j h l p a k e = grind (arith, sum_is, apart_removed, alike_sum)

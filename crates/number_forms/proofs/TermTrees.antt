@@ -1,7 +1,7 @@
 -- Terms as trees, and trees as terms.
-use Rattle.std.proofs.Common.{◌≡◌, ◌≢◌, ℕ, ◌≤◌, ◌<◌, inl, inr, Bool, true, false, not, length, [], if◌then◌else◌, Result, Ok, Err, refl, sym, ap, ◌∙◌, arith}
+use Rattle.std.proofs.Common.{◌≡◌, ◌≢◌, ℕ, ◌≤◌, ◌<◌, inl, inr, true, false, not, [], Result, sym, ap, ◌∙◌, arith}
 use Rattle.std.specs.Prelude.{ℤ, pos, nat_abs, IfOk}
-use Rattle.number_forms.proofs.Shared.{IsClean, Rat, Fraction, lowest, zero_fraction, one_fraction, whole_fraction, fraction_path, IsTerm, IsRadicand, is_term, is_number, natural_of, value, classes, ratio_of, value_of, Term, term, surd_of, Tree, num, mult, root, none, more, root_kind, is_add, zero_test, whole_numerator, whole_denominator, number_test, number_words, int_is_zero, is_zero, ratio_parts, Forest, Gives, gives_as}
+use Rattle.number_forms.proofs.Shared.{IsClean, Rat, Fraction, lowest, zero_fraction, one_fraction, whole_fraction, fraction_path, IsTerm, IsRadicand, is_term, is_number, natural_of, value, classes, ratio_of, value_of, Term, term, Tree, num, mult, root, none, more, root_kind, is_add, zero_test, whole_numerator, whole_denominator, number_test, number_words, int_is_zero, is_zero, ratio_parts, Forest, Gives}
 use Rattle.calc_algebra.specs.Numbers.{term_of}
 use Rattle.calc_terms.specs.Ratio.{Ratio, whole}
 use Rattle.calc_algebra.proofs.NumberShapes.{AsNumber, as_number}
@@ -27,14 +27,10 @@ root_tree n s t c r l h e = (ap is_term e ∙ term_test (root (num (whole_fracti
 
 pub multiple_tree : (q : Fraction) (n : ℕ) (s : Term) (t : Tree) → q ≡ s.coefficient → s.coefficient ≢ zero_fraction → q ≢ one_fraction → n ≡ s.radicand → 2 ≤ n → IsClean n
     → t ≡ mult (more (num q) (more (root (num (whole_fraction (pos n)))) none)) → (is_term t ≡ true) × (term_of t ≡ s)
-multiple_tree q n s t c z o r l h e = (
-  ap is_term e ∙ term_test (mult (more (num q) (more (root (num (whole_fraction (pos n)))) none))) ((λ k. z (sym c ∙ k)), o, whole_radicand n l h),
-  ap term_of e ∙ (λ i. term (c i) ((ap natural_of (whole_numerator (pos n)) ∙ r) i)),
-)
+multiple_tree q n s t c z o r l h e = grind (arith, term_test, whole_radicand, whole_numerator)
 
 pub if_gives : {E : Type 0} (r : Result ℕ E) (f g : Forest) (P Q : Tree → Type 0) → IfOk r (λ h. Gives f g h P) → ((t : Tree) → P t → Q t) → IfOk r (λ h. Gives f g h Q)
-if_gives (Ok h) f g P Q e k = gives_as e refl k
-if_gives (Err x) f g P Q e k = tt
+if_gives r f g P Q e k = grind arith
 
 -- ---- rationals of the code
 
@@ -63,16 +59,10 @@ natural_abs z n e = ap nat_abs e ∙ sym (ap natural_of e)
 -- ---- a Number that is no sum
 
 pub single_term : (t : Tree) (n : ℕ) → is_number t ≡ true → root_kind t ≢ kind.Add → n < classes t → IsTerm t
-single_term t n h k l = by (as_number t (number_words t h))
-  where
-    by : AsNumber t → IsTerm t
-    by (inl z) = absurd (let m : n < length (value t) = l in let e : length (value t) ≡ 0 = ap length z.value_is in omega arith)
-    by (inr (inl s)) = s.one
-    by (inr (inr s)) = absurd (k (ap root_kind s.is))
+single_term t n h k l = grind (arith, as_number, number_words)
 
 pub if_given : {E : Type 0} (f g h : Forest) (P Q : Tree → Type 0) (r : Result ℕ E) → IfOk r (λ i. Gives f g i P) → f ≡ h → ((t : Tree) → P t → Q t) → IfOk r (λ i. Gives h g i Q)
-if_given f g h P Q (Ok i) e q k = gives_as e q k
-if_given f g h P Q (Err x) e q k = tt
+if_given f g h P Q r e q k = grind arith
 
 pub nonzero_term : (t : Tree) → is_number t ≡ true → is_add t ≡ false → is_zero t ≡ false → IsTerm t
 unfolding zero_fraction
@@ -84,5 +74,4 @@ nonzero_term t h k z = by (as_number t (number_words t h))
     by (inr (inr s)) = absurd (let x : is_add t ≡ true = ap is_add s.is in cc (x, k))
 
 pub zero_value : (t : Tree) → is_zero t ≡ true → value t ≡ []
-zero_value (num q) h = ap (λ (b : Bool). if b then [] else surd_of q) h
-zero_value _ h = cc
+zero_value t h = grind arith

@@ -1,7 +1,7 @@
 -- Terms that are added to themselves, and what that does to their products.
-use Rattle.std.proofs.Common.{◌≡◌, ◌≢◌, ℕ, ◌+◌, ◌*◌, ◌/◌, ◌^◌, ◌≤◌, ◌<◌, ◌⊎◌, inl, inr, ◌*ℤ◌, max, [], ◌∷◌, ◌++◌, map, true, pos, refl, sym, ap, ◌∙◌, subst, arith}
+use Rattle.std.proofs.Common.{◌≡◌, ◌≢◌, ℕ, ◌+◌, ◌*◌, ◌/◌, ◌^◌, ◌≤◌, ◌<◌, ◌*ℤ◌, max, [], ◌∷◌, ◌++◌, map, true, pos, refl, sym, ap, ◌∙◌, subst, arith}
 use Rattle.std.specs.Prelude.{nat_abs}
-use Rattle.number_forms.proofs.Shared.{IsGcd, unsigned_abs-mul, mul-le, dvd-mul_right, Term, Surd, term_times, class_coefficient, IsProper, Agree, class_coefficient-append, class_coefficient-map, AreWholeOver, magnitude_over, root_above, term_mass, mass_from, sum_fits_over, abs_cross, cancel_right, coprime, multiple_den, over_den, plus_over, root_scale, sum_fits, times_comm, times_plus, one_times, Fraction, lowest, plus, times, one_fraction, zero_fraction, whole_fraction, times_lowest, den_pos, mul_pos, gauss, value_of, whole_numerator, twice, DoesNotFit, ratio_parts, magnitude_whole, magnitude_positive, IsExtracted, term_of}
+use Rattle.number_forms.proofs.Shared.{IsGcd, unsigned_abs-mul, dvd-mul_right, Term, Surd, term_times, IsProper, Agree, class_coefficient-append, class_coefficient-map, AreWholeOver, magnitude_over, root_above, term_mass, mass_from, sum_fits_over, abs_cross, cancel_right, coprime, multiple_den, over_den, plus_over, root_scale, sum_fits, times_comm, times_plus, one_times, Fraction, lowest, plus, times, one_fraction, zero_fraction, whole_fraction, times_lowest, den_pos, mul_pos, gauss, whole_numerator, twice, DoesNotFit, ratio_parts, magnitude_whole, magnitude_positive, IsExtracted, term_of}
 use Rattle.std.specs.Int.{◌∣◌}
 use Rattle.std.proofs.lemmas.Nat.Gcd.{le_of_dvd, dvd_refl}
 use Rattle.rational128.proofs.Coprime.{IsCoprime, IsCoprime-from_gcd, IsGcd-from_coprime, IsCoprime-swap, IsCoprime-mul}
@@ -52,16 +52,7 @@ whole_twice d x (y ∷ w) (h, hs) = (subst (λ (q : Fraction). q.den ∣ d) (sym
 
 -- twice the products of x count as much as the products of twice x
 pub twice_agrees : (x : Term) (w : Surd) → Agree (map (term_times (twice x)) w) (map (term_times x) w ++ map (term_times x) w)
-twice_agrees x w = record { at = at }
-  where
-    at : (s : ℕ) → class_coefficient (map (term_times (twice x)) w) s ≡ class_coefficient (map (term_times x) w ++ map (term_times x) w) s
-    at s =
-        let c : Fraction = x.coefficient in
-        let r : Fraction = lowest (pos x.radicand) 1 in
-        let k : Fraction = class_coefficient w (x.radicand * s) in
-        let once = sym (class_coefficient-map x w s) in
-        class_coefficient-map (twice x) w s ∙ ap (λ (u : Fraction). times u k) (times_doubled c r) ∙ times_doubled (times c r) k
-        ∙ (λ i. plus (once i) (once i)) ∙ sym (class_coefficient-append (map (term_times x) w) (map (term_times x) w) s)
+twice_agrees x w = grind (arith, class_coefficient-map, times_doubled, class_coefficient-append)
 
 twice_square : (n r : ℕ) → (n * 2) * (n * 2) * r ≡ 2 * 2 * (n * n * r)
 twice_square n r = omega arith
@@ -113,15 +104,8 @@ square_divides c n =
     regrouped : (m e k b n f : ℕ) → m * (e * 1) ≡ k * f → k ≡ b * n → m * e ≡ b * (n * f)
     regrouped m e k b n f g h = omega (arith, g, ap (λ z. z * f) h)
 
-order : (a b : ℕ) → ((a < b) ⊎ (b ≤ a))
-order a b = grind arith
-
 small : (a b : ℕ) → a * a ≤ b → b < 2 ^ 127 → a + a < 2 ^ 127
-small a b h l = by (order a (2 ^ 64))
-  where
-    by : (a < 2 ^ 64) ⊎ (2 ^ 64 ≤ a) → a + a < 2 ^ 127
-    by (inl k) = omega (arith, k)
-    by (inr k) = let m : (2 ^ 64) * (2 ^ 64) ≤ a * a = mul-le (2 ^ 64) (2 ^ 64) a a k k in absurd (omega (arith, m, h, l))
+small a b h l = grind arith
 
 own_magnitude : (q : Fraction) → magnitude_over q.den q ≡ nat_abs q.num
 own_magnitude q = ap (λ k. nat_abs q.num * k) (cancel_right (q.den / q.den) 1 q.den (den_pos q) (over_den q.den q (dvd_refl q.den) ∙ omega arith)) ∙ omega arith
@@ -134,7 +118,4 @@ twice_fits c q n e h num den =
 
 -- of the code's terms
 pub twice_refused : (t q : CodeTerm) → IsExtracted (term_of q) (term_times (term_of t) (term_of t)) → DoesNotFit Op.Add (term_of t).coefficient (term_of t).coefficient → ⊥
-twice_refused t q e misfit =
-    let num : nat_abs (value_of q.coefficient).num < 2 ^ 127 = subst (λ z. nat_abs z < 2 ^ 127) (sym (ratio_parts q.coefficient).num) q.coefficient.fits in
-    let den : (value_of t.coefficient).den < 2 ^ 127 = subst (λ n. n < 2 ^ 127) (sym (ratio_parts t.coefficient).den) t.coefficient.den_fits in
-    cc (misfit, twice_fits (value_of t.coefficient) (value_of q.coefficient) e.root e.coefficient q.not_zero num den)
+twice_refused t q e h = grind (arith, ratio_parts, twice_fits)

@@ -53,8 +53,7 @@ no_misfit a b h l o k few m = let n : first_misfit (joining_calculations a b) �
 
 -- the sum so far, with what is left
 pub so_far : (t : Tree) (v w : Surd) (h l : ℕ) (whole : Surd) → whole ≡ v ++ w → IsSum t → Same (value t ++ w) whole → SharesDenominators whole (value t ++ w) → IsHeld whole h l → IsHeld (value t ++ w) h l
-so_far t v w h l whole e is s f k =
-    held_so_far (value t) v w h l (sum_proper t is) (sum_rises t is) (subst (λ (x : Surd). Same (value t ++ w) x) e s) (subst (λ (x : Surd). SharesDenominators x (value t ++ w)) e f) (subst (λ (x : Surd). IsHeld x h l) e k)
+so_far t v w h l whole e k s f m = grind (arith, held_so_far, sum_proper, sum_rises)
 
 pub sum_within : (v w : Surd) (o : Overflow) → HasFewBits (v ++ w) → SumOverflows v w o → ⊥
 sum_within v w o b s =
@@ -66,8 +65,7 @@ sum_within v w o b s =
 -- ---- products
 
 rest_positive : (n root rest : ℕ) → 0 < n → n ≡ root * root * rest → 0 < rest
-rest_positive n root zero p e = absurd (omega arith)
-rest_positive n root (suc rest) p e = omega arith
+rest_positive n root rest p e = grind arith
 
 product_positive : (a b : ℕ) → 0 < a → 0 < b → 0 < a * b
 product_positive a b h k = grind arith

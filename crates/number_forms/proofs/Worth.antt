@@ -1,5 +1,5 @@
 -- What a sum is worth, from one joined term to the next.
-use Rattle.std.proofs.Common.{◌≡◌, ℕ, zero, suc, ◌-◌, ◌≤◌, [], ◌∷◌, ◌++◌, Some, length, map, refl, ap, ◌∙◌, subst, append_assoc, arith}
+use Rattle.std.proofs.Common.{◌≡◌, ℕ, zero, suc, ◌-◌, ◌≤◌, [], ◌∷◌, ◌++◌, Some, map, refl, ap, ◌∙◌, subst, append_assoc, arith}
 use Rattle.std.specs.Prelude.{slice_get}
 use Rattle.number_forms.proofs.Shared.{Same, Term, Surd, term_times, surd_times, Same-trans, Same-Agree, Agree-sym, Agree-Same, Same-refl, Same-eq, Same-append, Same-append_comm, Same-to_front}
 pub use Rattle.number_forms.specs.Overflows.{terms_from}
@@ -14,10 +14,6 @@ pub from_next : (v : Surd) (n : ℕ) (x : Term) → slice_get v n ≡ Some x →
 from_next [] n x e = cc
 from_next (y ∷ v) zero x e = ap (λ (z : Term). z ∷ v) (some_term e)
 from_next (y ∷ v) (suc n) x e = from_next v n x e
-
-pub from_end : (v : Surd) → terms_from (length v) v ≡ []
-from_end [] = refl
-from_end (x ∷ v) = from_end v
 
 -- terms from a place on, from a later one on
 pub from_from : (m n : ℕ) (v : Surd) → m ≤ n → terms_from (n - m) (terms_from m v) ≡ terms_from n v

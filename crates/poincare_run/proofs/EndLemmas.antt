@@ -32,13 +32,6 @@ broken start lines others out a b c h more = record {
 }
 
 module _ (start : Moment) (t t' k k' : Option (List ℕ)) (left : ℕ) (dialog : Place) (h : IsUnderWay start t t' k k' left dialog) where
-  pub read_fails : (u : Option (List ℕ)) → 0 < left → Keeps t' u → ReadsPart start t u k k'
-  read_fails u more kept = record {
-    input = h.input;
-    read = Consumes-kept t t' u h.input h.read kept;
-    within = omega (arith, h.limit);
-    written = record { out = h.out; transcript = (dialog.now, h.answered.steps); appended = h.appended };
-  }
 
   pub reads_on : (u j : Option (List ℕ)) (bytes : List ℕ) (n : ℕ) (new : Place) → n ≤ left → length bytes ≡ n → Consumes t' u bytes
       → ((start : Moment) (before out : List ℕ) → Answered start before out dialog → Goes start before bytes out new k' j) → IsUnderWay start t u k j (left - n) new

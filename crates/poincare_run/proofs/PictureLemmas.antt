@@ -20,10 +20,6 @@ drawn_part s a b h = by (rows_in s) h
     by (Ok rows) h = h
     by (Err lack) h = absurd h
 
--- in place of a picture that finds no room
-pub not_drawn : (s : State) (lack : Full) (text : List ℕ) → rows_in s ≡ Err lack → Some text ≡ text_of (full lack) → picture_text s ≡ text ++ 10 ∷ []
-not_drawn s lack text e is = ap text_for e ∙ ap with_newline (sym is)
-
 module _ (old mid : Place) (bytes : List ℕ) (answer : LineAnswer) (text : List ℕ) (t : TakesLine old mid bytes answer text) (a b : Option (List ℕ)) (out : List ℕ) (is : written t.reply mid.now ≡ out) where
   pub answers_so : (new : Place) → new ≡ mid → Appends a b out → AnswersLine old new bytes a b
   answers_so new same all = subst (λ (p : Place). AnswersLine old p bytes a b) (sym same) (record { reply = t.reply; step = t.step; appended = subst (Appends a b) (sym is) all })

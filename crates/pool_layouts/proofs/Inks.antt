@@ -1,8 +1,7 @@
 -- The characters of ink, and their bytes.
-use Rattle.std.proofs.Common.{◌≡◌, ◌≢◌, ◌∙◌, ℕ, zero, suc, ◌+◌, ◌<◌, List, [], ◌∷◌, ◌++◌, replicate, codes, nat_abs, Bool, true, encode_utf8_all, refl, sym, ap, arith, append_assoc, append-nil}
-use Rattle.pool_layouts.proofs.Shared.{list_all, and_parts, nat_tests, replicate-append-replicate, encodes-append, is_digit, is_name_byte, Payload, rational, named, bare, IsPayload, spelled, decimal, decimal_is, Content, extended, Forest, payload_in, Ink, Nothing, Leaf, Bar, Roof, Root, Open, Close, IsBlack, IsInk, leaf_characters, ink_characters, inked, blanks_left, leaf_serial, blanks}
+use Rattle.std.proofs.Common.{◌≡◌, ◌≢◌, ◌∙◌, ℕ, zero, suc, ◌+◌, ◌<◌, List, [], ◌∷◌, ◌++◌, replicate, Bool, true, encode_utf8_all, sym, ap, arith, append_assoc, append-nil}
+use Rattle.pool_layouts.proofs.Shared.{list_all, and_parts, nat_tests, replicate-append-replicate, encodes-append, is_digit, is_name_byte, Payload, named, IsPayload, spelled, decimal, decimal_is, Content, extended, Forest, payload_in, Ink, Leaf, IsBlack, IsInk, leaf_characters, ink_characters, inked, blanks_left, leaf_serial, blanks}
 use Rattle.pool_layouts.proofs.Lines.{AreSmall, small_bytes, replicate_small, times_encoded}
-use Rattle.calc_terms.specs.declared.kind.Kind.TheVariants as kind
 
 -- ---- characters of leaves
 
@@ -39,33 +38,17 @@ pub names_black : (x : List ℕ) → IsPayload (named x) → IsBlack x
 names_black x h = all_black is_name_byte name_black x (spelled x h).spelled
 
 leaf_encoded : (x : Payload) → IsPayload x → encode_utf8_all (leaf_characters x) ≡ leaf_serial x
-leaf_encoded (rational r) h = small_bytes (decimal (nat_abs r.num)) (decimal_small (nat_abs r.num))
-leaf_encoded (named x) h = small_bytes x (names_small x h)
-leaf_encoded (bare kind.Plus) h = small_bytes (codes "+") (omega arith, tt)
-leaf_encoded (bare kind.Minus) h = small_bytes (codes "-") (omega arith, tt)
-leaf_encoded (bare kind.Times) h = times_encoded
-leaf_encoded (bare k) h = refl
+leaf_encoded x h = grind (arith, small_bytes, decimal_small, names_small, times_encoded)
 
 leaf_black : (x : Payload) → IsPayload x → IsBlack (leaf_characters x)
-leaf_black (rational r) h = decimal_black (nat_abs r.num)
-leaf_black (named x) h = names_black x h
-leaf_black (bare kind.Plus) h = (omega arith, tt)
-leaf_black (bare kind.Minus) h = (omega arith, tt)
-leaf_black (bare kind.Times) h = (omega arith, tt)
-leaf_black (bare k) h = tt
+leaf_black x h = grind (arith, decimal_black, names_black)
 
 replicate_black : (n c : ℕ) → c ≢ 32 → IsBlack (replicate n c)
 replicate_black zero c h = tt
 replicate_black (suc n) c h = (h, replicate_black n c h)
 
 pub ink_black : (f : Forest) (ink : Ink) → IsInk f ink → IsBlack (ink_characters f ink)
-ink_black f Nothing h = tt
-ink_black f (Leaf i) h = leaf_black (payload_in i f) h.1
-ink_black f (Bar n) h = replicate_black n 45 (omega arith)
-ink_black f (Roof n) h = replicate_black n 95 (omega arith)
-ink_black f Root h = (omega arith, tt)
-ink_black f Open h = (omega arith, tt)
-ink_black f Close h = (omega arith, tt)
+ink_black f ink h = grind (arith, leaf_black, replicate_black)
 
 -- ---- what is written
 
@@ -73,12 +56,10 @@ pub blanks_encoded : (n : ℕ) → encode_utf8_all (blanks n) ≡ replicate n 32
 blanks_encoded n = small_bytes (blanks n) (replicate_small n 32 (omega arith))
 
 pub inked_some : (n : ℕ) (cs : List ℕ) → cs ≢ [] → inked n cs ≡ blanks n ++ cs
-inked_some n [] h = absurd (h refl)
-inked_some n (c ∷ cs) h = refl
+inked_some n cs h = grind arith
 
 pub none_owed : (n : ℕ) (cs : List ℕ) → cs ≢ [] → blanks_left n cs ≡ 0
-none_owed n [] h = absurd (h refl)
-none_owed n (c ∷ cs) h = refl
+none_owed n cs h = grind arith
 
 -- a leaf behind blanks
 pub leaf_inked : (f : Forest) (i n : ℕ) → IsInk f (Leaf i) → encode_utf8_all (inked n (leaf_characters (payload_in i f))) ≡ replicate n 32 ++ leaf_serial (payload_in i f)

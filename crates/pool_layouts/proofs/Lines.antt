@@ -1,6 +1,6 @@
 -- The rows of a picture: how long they are, and how many bytes they take.
-use Rattle.std.proofs.Common.{◌≡◌, ◌≢◌, ◌∙◌, if◌then◌else◌, ℕ, zero, suc, ◌+◌, ◌-◌, ◌*◌, ◌/◌, ◌<◌, ◌≤◌, max, List, [], ◌∷◌, ◌++◌, length, replicate, codes, nat_lt, nat_eq, nat_abs, Bool, true, false, Option, Some, None, encode_utf8_all, refl, sym, ap, arith}
-use Rattle.pool_layouts.proofs.Shared.{eqb-true, length-append, length-replicate, encodes-append, encode_ascii, decimal, times_sign, root_sign, IsBlack, Layout, number, name, plus, minus, times, row, fraction, raised, radical, paren, Layouts, nothing, beside, Block, height, blanks, bar, roof, root_character, level, line_or_blanks, level_line, level_lines, centred, widths, most_above, times_character, picture, pictures, cut, before_cut}
+use Rattle.std.proofs.Common.{◌≡◌, ◌≢◌, ◌∙◌, if◌then◌else◌, ℕ, zero, suc, ◌+◌, ◌-◌, ◌*◌, ◌/◌, ◌<◌, ◌≤◌, max, List, [], ◌∷◌, ◌++◌, length, replicate, codes, nat_lt, nat_eq, nat_abs, Bool, true, false, Option, encode_utf8_all, refl, sym, ap, arith}
+use Rattle.pool_layouts.proofs.Shared.{length-append, length-replicate, encodes-append, encode_ascii, decimal, times_sign, root_sign, IsBlack, Layout, number, name, plus, minus, times, row, fraction, raised, radical, paren, Layouts, nothing, beside, Block, height, blanks, bar, roof, root_character, level, line_or_blanks, level_line, level_lines, centred, widths, most_above, times_character, picture, pictures, cut, before_cut}
 use Rattle.std.specs.Char.{encode_utf8}
 
 -- ---- each row has as many characters as the picture is wide
@@ -15,8 +15,7 @@ roof_long : (n : ℕ) → length (roof n) ≡ n
 roof_long n = length-replicate n 95
 
 level_long : (b : Block) (o : Option ℕ) → ((y : ℕ) → length (b.line y) ≡ b.width) → length (line_or_blanks b o) ≡ b.width
-level_long b (Some y) h = h y
-level_long b None h = blanks_long b.width
+level_long b o h = grind (arith, blanks_long)
 
 centred_long : (w : ℕ) (b : Block) (y : ℕ) → b.width ≤ w → length (b.line y) ≡ b.width → length (centred w b y) ≡ w
 centred_long w b y few h =
@@ -31,8 +30,7 @@ centred_long w b y few h =
     )
 
 if_long : (t : Bool) (a b : List ℕ) (n : ℕ) → length a ≡ n → length b ≡ n → length (if t then a else b) ≡ n
-if_long true a b n g h = g
-if_long false a b n g h = h
+if_long t a b n g h = grind arith
 
 mutual
   pub lines_long : (l : Layout) (y : ℕ) → length ((picture l).line y) ≡ (picture l).width
@@ -128,24 +126,13 @@ bytes-blanks : (n : ℕ) → length (encode_utf8_all (blanks n)) ≡ n
 bytes-blanks n = bytes-small (blanks n) (replicate_small n 32 (omega arith)) ∙ blanks_long n
 
 level_bytes : (b : Block) (o : Option ℕ) (n : ℕ) → ((y : ℕ) → length (encode_utf8_all (b.line y)) ≤ b.width + n) → length (encode_utf8_all (line_or_blanks b o)) ≤ b.width + n
-level_bytes b (Some y) n h = h y
-level_bytes b None n h = omega (arith, bytes-blanks b.width)
+level_bytes b o n h = grind (arith, bytes-blanks)
 
 centred_bytes : (w : ℕ) (b : Block) (y n : ℕ) → b.width ≤ w → length (encode_utf8_all (b.line y)) ≤ b.width + n → length (encode_utf8_all (centred w b y)) ≤ w + n
-centred_bytes w b y n few h =
-    omega (
-      arith,
-      few,
-      h,
-      bytes-append (blanks ((w - b.width) / 2)) (b.line y ++ blanks (w - b.width - (w - b.width) / 2)),
-      bytes-append (b.line y) (blanks (w - b.width - (w - b.width) / 2)),
-      bytes-blanks ((w - b.width) / 2),
-      bytes-blanks (w - b.width - (w - b.width) / 2),
-    )
+centred_bytes w b y n h k = grind (arith, bytes-append, bytes-blanks)
 
 if_bytes : (t : Bool) (a b : List ℕ) (n : ℕ) → length (encode_utf8_all a) ≤ n → length (encode_utf8_all b) ≤ n → length (encode_utf8_all (if t then a else b)) ≤ n
-if_bytes true a b n g h = g
-if_bytes false a b n g h = h
+if_bytes t a b n g h = grind arith
 
 root_bytes : (t : Bool) (cs : List ℕ) → length (encode_utf8_all ((if t then root_character else 32) ∷ cs)) ≤ 3 + length (encode_utf8_all cs)
 root_bytes true cs = omega (arith, bytes-append (root_character ∷ []) cs, ap length root_encoded)
@@ -198,11 +185,7 @@ before_cut_some : (c d : ℕ) (ds rest : List ℕ) → rest ≡ d ∷ ds → bef
 before_cut_some c d ds rest e = ap (before_cut c) e ∙ ap (λ (x : List ℕ). c ∷ x) (sym e)
 
 black_head : (c : ℕ) → c ≢ 32 → before_cut c [] ≡ c ∷ []
-black_head c h = by (nat_eq c 32) refl
-  where
-    by : (t : Bool) → nat_eq c 32 ≡ t → (if t then [] else c ∷ []) ≡ c ∷ []
-    by true e = absurd (h (eqb-true c 32 e))
-    by false e = refl
+black_head c h = grind arith
 
 -- what ends with other characters keeps all of them
 pub cut_black : (c : ℕ) (cs : List ℕ) → IsBlack (c ∷ cs) → cut (c ∷ cs) ≡ c ∷ cs
@@ -215,12 +198,7 @@ cut_kept (x ∷ []) c cs h = before_cut_some x c cs (cut (c ∷ cs)) (cut_black 
 cut_kept (x ∷ y ∷ xs) c cs h = before_cut_some x y (xs ++ (c ∷ cs)) (cut (y ∷ (xs ++ (c ∷ cs)))) (cut_kept (y ∷ xs) c cs h) ∙ ap (λ (z : List ℕ). x ∷ z) (cut_kept (y ∷ xs) c cs h)
 
 before_short : (c : ℕ) (cs : List ℕ) → length (before_cut c cs) ≤ suc (length cs)
-before_short c [] = by (nat_eq c 32)
-  where
-    by : (t : Bool) → length {A = ℕ} (if t then [] else c ∷ []) ≤ 1
-    by true = omega arith
-    by false = omega arith
-before_short c (d ∷ ds) = omega arith
+before_short c cs = grind arith
 
 pub cut_short : (cs : List ℕ) → length (cut cs) ≤ length cs
 cut_short [] = omega arith

@@ -1,9 +1,8 @@
 -- The extents of layouts: what they are for each kind of node, and that they are small.
-use Rattle.std.proofs.Common.{◌≡◌, ◌∙◌, ℕ, suc, ◌+◌, ◌*◌, ◌^◌, ◌<◌, ◌≤◌, ◌≢◌, max, ℤ, List, [], ◌∷◌, ◌++◌, length, drop, drop-cons, add-one, get_or, nat_abs, nat_eq, true, refl, sym, ap, subst, arith, append_assoc}
+use Rattle.std.proofs.Common.{◌≡◌, ◌∙◌, ℕ, suc, ◌+◌, ◌*◌, ◌<◌, ◌≤◌, ◌≢◌, max, ℤ, List, [], ◌∷◌, ◌++◌, length, drop, drop-cons, add-one, get_or, nat_abs, nat_eq, true, refl, sym, ap, subst, arith, append_assoc}
 use Rattle.pool_layouts.proofs.Shared.{eqb-true, length-append, length-drop, drop-drop, drop_at, Kind, Payload, rational, named, bare, is_bare, kind_of_payload, size_of_payload, IsPayload, begins_with_letter, spelled, decimal_is, decimal, numerator_is, size_from, Label, Forest, empty, tree, join, arity, node_of, bytes_in, nodes_in, Extent, composed, drawn, drawings, composes, composes_kind, AllComposed, extent_from, extent_of, extents_of, HasSmall, HasPair, IsOver, IsSmall, AllValid, leaf_width, Layout, Layouts, nothing, beside, leaf_characters, Block, height, picture, pictures, widths, most_above, most_below, side_by_side}
 use Rattle.calc_terms.specs.Fractions.{lowest}
 use Rattle.calc_terms.specs.Ratio.{Ratio, IsRat}
-use Rattle.calc_terms.specs.Short.{is_short}
 use Rattle.line_text.proofs.Lengths.{number_text}
 use Rattle.calc_terms.specs.declared.kind.Kind.TheVariants as kind
 
@@ -59,15 +58,10 @@ composed_bounded j k h w n = absurd cc
 
 -- the digits of a number, and its node
 pub digits_fit : (r : Ratio) → IsRat r → length (decimal (nat_abs (lowest r.num r.den).num)) ≤ 2 * size_of_payload (rational r)
-digits_fit r p =
-    let q = lowest r.num r.den in
-    let small : nat_abs q.num < 2 ^ 127 = rw (numerator_is r p) p.num_fits in
-    omega (arith, number_text (is_short q) q refl small)
+digits_fit r p = grind (arith, numerator_is, number_text)
 
 pub drawn_bounded : (x : Payload) (k : Forest) → composes x (arity k) ≡ true → IsPayload x → widths (blocks_of k) ≤ 2 * bytes_in k → heights (blocks_of k) ≤ nodes_in k → IsBounded (block_of x k) (nodes_in k) (size_of_payload x + bytes_in k)
-drawn_bounded (rational r) k h p w n = record { width = omega (arith, digits_fit r p); rows = omega arith }
-drawn_bounded (named y) k h p w n = record { width = omega (arith, (spelled y p).short); rows = omega arith }
-drawn_bounded (bare j) k h p w n = composed_bounded j k h w n
+drawn_bounded x k h p w n = grind (arith, digits_fit, composed_bounded)
 
 pub record AreBounded (f : Forest) : Type 0 where
   pub widths_are : widths (blocks_of f) ≤ 2 * bytes_in f
@@ -83,15 +77,7 @@ bounded (tree l k r) c v =
 
 -- the first of small extents is small
 pub small_first : (l : Label) (k r : Forest) → AllComposed (tree l k r) → AllValid (tree l k r) → bytes_in (tree l k r) ≤ 524280 → IsSmall (extent_of l.payload k)
-small_first l k r c v few =
-    let a = bounded k c.1 v.1 in
-    let b = drawn_bounded l.payload k c.0 v.0 a.widths_are a.heights_are in
-    record {
-      nodes = omega (arith, few, bytes_nodes k, size_from (node_of l k));
-      width = omega (arith, few, b.width);
-      above = omega (arith, few, b.rows, bytes_nodes k, size_from (node_of l k));
-      below = omega (arith, few, b.rows, bytes_nodes k, size_from (node_of l k));
-    }
+small_first l k r c v h = grind (arith, bounded, drawn_bounded, bytes_nodes, size_from)
 
 -- ---- reading the list
 
@@ -143,9 +129,7 @@ first_small l k r first es h = small_first l k r h.composed_parts h.valid_parts 
 -- ---- a node by its kind
 
 pub extent_same : (n m w v a b d e : ℕ) → n ≡ m → w ≡ v → a ≡ b → d ≡ e → (let r : Extent = record { nodes = n; width = w; above = a; below = d } in r) ≡ (let s : Extent = record { nodes = m; width = v; above = b; below = e } in s)
-extent_same n m w v a b d e p q r s =
-    ap (λ (x : ℕ). let t : Extent = record { nodes = x; width = w; above = a; below = d } in t) p ∙ ap (λ (x : ℕ). let t : Extent = record { nodes = m; width = x; above = a; below = d } in t) q
-    ∙ ap (λ (x : ℕ). let t : Extent = record { nodes = m; width = v; above = x; below = d } in t) r ∙ ap (λ (x : ℕ). let t : Extent = record { nodes = m; width = v; above = b; below = x } in t) s
+extent_same n m w v a b d e p q r s = grind arith
 
 -- one part
 pub record HasOne (j : Kind) (x : Payload) (k : Forest) : Type 0 where
@@ -174,9 +158,7 @@ two_parts_of x (tree l a (tree m b empty)) e h = record { upper = l; above = a; 
 two_parts_of x (tree l a (tree m b (tree o d r))) e h = absurd (omega (arith, eqb-true (arity (tree l a (tree m b (tree o d r)))) 2 h))
 
 pub bare_of : (x : Payload) (j : Kind) → IsPayload x → is_bare j ≡ true → kind_of_payload x ≡ j → x ≡ bare j
-bare_of (rational r) j p b e = absurd (cc (ap is_bare e ∙ b))
-bare_of (named y) j p b e = absurd (cc (ap is_bare e ∙ b))
-bare_of (bare i) j p b e = ap bare e
+bare_of x j p b e = grind arith
 
 -- a leaf
 pub leaf_extent : (x : Payload) (k : Forest) → IsPayload x → composes x (arity k) ≡ true → (kind_of_payload x ≡ kind.Row → ⊥) → (kind_of_payload x ≡ kind.Fraction → ⊥) → (kind_of_payload x ≡ kind.Raised → ⊥) → (kind_of_payload x ≡ kind.Radical → ⊥) → (kind_of_payload x ≡ kind.Paren → ⊥)
@@ -239,23 +221,17 @@ pub two_extent : {x : Payload} {k : Forest} {first : ℕ} {es : List Extent} (t 
 two_extent {x = x} t = ap (λ (y : Payload). extent_of y (tree t.upper t.above (tree t.lower t.below empty))) (sym t.payload_is) ∙ ap (extent_of x) (sym t.parts_are)
 
 pub raised_is : (l : Label) (b : Forest) (e new : Extent) → e ≡ extent_of l.payload b → new ≡ (record { nodes = 1 + e.nodes; width = e.width; above = e.above + 1 + e.below; below = 0 }) → new ≡ extent_of (bare kind.Raised) (tree l b empty)
-raised_is l b e new h g =
-    g ∙ extent_same _ _ _ _ _ _ _ _ (omega (arith, ap (λ (x : Extent). x.nodes) h)) (ap (λ (x : Extent). x.width) h) (omega (arith, ap (λ (x : Extent). x.above) h, ap (λ (x : Extent). x.below) h)) refl
+raised_is l b e new h g = grind arith
 
 pub radical_is : (l : Label) (b : Forest) (e new : Extent) → e ≡ extent_of l.payload b → new ≡ (record { nodes = 1 + e.nodes; width = 1 + e.width; above = e.above + 1; below = e.below }) → new ≡ extent_of (bare kind.Radical) (tree l b empty)
-radical_is l b e new h g =
-    g ∙ extent_same _ _ _ _ _ _ _ _ (omega (arith, ap (λ (x : Extent). x.nodes) h)) (omega (arith, ap (λ (x : Extent). x.width) h)) (omega (arith, ap (λ (x : Extent). x.above) h)) (ap (λ (x : Extent). x.below) h)
+radical_is l b e new h g = grind arith
 
 pub paren_is : (l : Label) (b : Forest) (e new : Extent) → e ≡ extent_of l.payload b → new ≡ (record { nodes = 1 + e.nodes; width = e.width + 2; above = e.above; below = e.below }) → new ≡ extent_of (bare kind.Paren) (tree l b empty)
-paren_is l b e new h g =
-    g ∙ extent_same _ _ _ _ _ _ _ _ (omega (arith, ap (λ (x : Extent). x.nodes) h)) (omega (arith, ap (λ (x : Extent). x.width) h)) (ap (λ (x : Extent). x.above) h) (ap (λ (x : Extent). x.below) h)
+paren_is l b e new h g = grind arith
 
 pub fraction_is : (l : Label) (a : Forest) (m : Label) (b : Forest) (d e new : Extent) → d ≡ extent_of l.payload a → e ≡ extent_of m.payload b
     → new ≡ (record { nodes = 1 + d.nodes + e.nodes; width = max d.width e.width; above = d.above + 1 + d.below; below = e.above + 1 + e.below }) → new ≡ extent_of (bare kind.Fraction) (tree l a (tree m b empty))
-fraction_is l a m b d e new h i g =
-    g ∙ extent_same _ _ _ _ _ _ _ _ (omega (arith, ap (λ (x : Extent). x.nodes) h, ap (λ (x : Extent). x.nodes) i))
-    (ap (λ (x : ℕ). max x e.width) (ap (λ (x : Extent). x.width) h) ∙ ap (max (block_of l.payload a).width) (ap (λ (x : Extent). x.width) i))
-    (omega (arith, ap (λ (x : Extent). x.above) h, ap (λ (x : Extent). x.below) h)) (omega (arith, ap (λ (x : Extent). x.above) i, ap (λ (x : Extent). x.below) i))
+fraction_is l a m b d e new h i g = grind arith
 
 pub row_is : (x : Payload) (k : Forest) → IsPayload x → kind_of_payload x ≡ kind.Row → extent_from (1 + nodes_in k) (side_by_side (pictures (drawings k))) ≡ extent_of x k
 row_is x k p e = extent_same _ _ _ _ _ _ _ _ (omega arith) refl refl refl ∙ ap (λ (y : Payload). extent_of y k) (sym (bare_of x kind.Row p refl e))
@@ -264,25 +240,13 @@ row_is x k p e = extent_same _ _ _ _ _ _ _ _ (omega arith) refl refl refl ∙ ap
 
 pub leaf_line : (x : Payload) (k : Forest) (y : ℕ) → IsPayload x → composes x (arity k) ≡ true → (kind_of_payload x ≡ kind.Row → ⊥) → (kind_of_payload x ≡ kind.Fraction → ⊥) → (kind_of_payload x ≡ kind.Raised → ⊥) → (kind_of_payload x ≡ kind.Radical → ⊥) → (kind_of_payload x ≡ kind.Paren → ⊥)
     → (block_of x k).line y ≡ leaf_characters x
-leaf_line (rational r) k y p c a b d e f = ap (λ (z : ℤ). decimal (nat_abs z)) (numerator_is r p)
-leaf_line (named x) k y p c a b d e f = refl
-leaf_line (bare kind.Plus) k y p c a b d e f = refl
-leaf_line (bare kind.Minus) k y p c a b d e f = refl
-leaf_line (bare kind.Times) k y p c a b d e f = refl
-leaf_line (bare kind.Row) k y p c a b d e f = absurd (a refl)
-leaf_line (bare kind.Fraction) k y p c a b d e f = absurd (b refl)
-leaf_line (bare kind.Raised) k y p c a b d e f = absurd (d refl)
-leaf_line (bare kind.Radical) k y p c a b d e f = absurd (e refl)
-leaf_line (bare kind.Paren) k y p c a b d e f = absurd (f refl)
-leaf_line (bare j) k y p c a b d e f = absurd cc
+leaf_line x k y p c a b d e f = grind (arith, numerator_is)
 
 some_list : (xs : List ℕ) → 0 < length xs → xs ≢ []
-some_list [] h e = absurd (omega (arith, h))
-some_list (x ∷ xs) h e = cc
+some_list xs h e = grind arith
 
 name_some : (x : List ℕ) → begins_with_letter x ≡ true → x ≢ []
-name_some [] h e = absurd (cc h)
-name_some (c ∷ cs) h e = cc
+name_some x h e = grind arith
 
 pub leaf_some : (x : Payload) (k : Forest) → IsPayload x → composes x (arity k) ≡ true → (kind_of_payload x ≡ kind.Row → ⊥) → (kind_of_payload x ≡ kind.Fraction → ⊥) → (kind_of_payload x ≡ kind.Raised → ⊥) → (kind_of_payload x ≡ kind.Radical → ⊥) → (kind_of_payload x ≡ kind.Paren → ⊥)
     → leaf_characters x ≢ []

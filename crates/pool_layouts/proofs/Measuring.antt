@@ -110,5 +110,4 @@ pub measured_first : (s : State) (i : ℕ) (es : List Extent) → IsMeasured s i
 measured_first s i es m = (m.label, m.below, empty, m.small)
 
 pub rows_are : (s : State) (i : ℕ) (es : List Extent) (e : Extent) (m : IsMeasured s i es) → e ≡ extent_of m.label.payload m.below → e.above + 1 + e.below ≡ height (picture (drawing (tree_at i (forest s))))
-rows_are s i es e m q =
-    ap (λ (x : Extent). x.above + 1 + x.below) q ∙ ap (λ (f : Forest). height (picture (drawing f))) (sym m.tree_is)
+rows_are s i es e m q = grind arith

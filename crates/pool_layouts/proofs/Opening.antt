@@ -1,6 +1,6 @@
 -- What the steps of a row open to.
-use Rattle.std.proofs.Common.{◌≡◌, ◌≢◌, ◌∙◌, if◌then◌else◌, ℕ, suc, ◌+◌, ◌-◌, ◌*◌, ◌/◌, ◌<◌, ◌≤◌, ◌^◌, max, List, [], ◌∷◌, ◌++◌, length, map, drop, get_or, codes, nat_lt, nat_le, nat_eq, ◌&&◌, Bool, true, false, Option, Some, None, refl, sym, ap, subst, arith, append_assoc, append-nil}
-use Rattle.pool_layouts.proofs.Shared.{ltb-true, and_parts, lt-ltb, le-ltb, map-append, drop-drop, drop_at, Kind, Node, Payload, bare, kind_of_payload, IsPayload, Label, Forest, empty, tree, flatten, node_of, nodes_in, holds, payload_in, Visit, Extent, Nothing, Leaf, Bar, Roof, Root, Close, Step, Opened, visit_of, visits_of, extent_of, extents_of, HasSmall, IsOver, IsSmall, IsSpanOf, ShowsPart, ShowsLevel, Shows, ShowsIf, Opens, IsInk, ink_characters, weight_if, count_if, leaf_characters, opened, span_of, part_of, level_if, level_opened, centred_opened, fraction_opened, raised_opened, radical_opened, paren_opened, row_opened, Block, height, blanks, bar, roof, root_character, level, line_or_blanks, level_lines, centred, most_above, visits_length}
+use Rattle.std.proofs.Common.{◌≡◌, ◌≢◌, ◌∙◌, if◌then◌else◌, ℕ, suc, ◌+◌, ◌-◌, ◌*◌, ◌<◌, ◌≤◌, ◌^◌, max, List, [], ◌∷◌, ◌++◌, length, map, drop, get_or, codes, nat_lt, nat_eq, Bool, Option, Some, None, refl, sym, ap, subst, arith, append_assoc, append-nil}
+use Rattle.pool_layouts.proofs.Shared.{lt-ltb, le-ltb, map-append, drop-drop, drop_at, Kind, Node, Payload, bare, kind_of_payload, IsPayload, Label, Forest, empty, tree, flatten, node_of, nodes_in, holds, payload_in, Visit, Extent, Nothing, Leaf, Bar, Roof, Root, Close, Step, Opened, visit_of, visits_of, extent_of, extents_of, HasSmall, IsOver, IsSmall, IsSpanOf, ShowsPart, ShowsLevel, Shows, ShowsIf, Opens, IsInk, ink_characters, weight_if, count_if, leaf_characters, opened, span_of, part_of, level_if, level_opened, centred_opened, fraction_opened, raised_opened, radical_opened, paren_opened, row_opened, Block, height, blanks, bar, roof, root_character, level, line_or_blanks, level_lines, centred, most_above, visits_length}
 use Rattle.pool_layouts.specs.declared.steps.Span.{Span}
 use Rattle.pool_layouts.proofs.Measures.{blocks_of, block_of, others_read, behind_first, first_small, IsOneOver, IsTwoOver, bare_of, leaf_line, leaf_some}
 use Rattle.pool_layouts.proofs.Shown.{first_is, others_are, inside_list}
@@ -69,25 +69,18 @@ is_over l k s = record { small = (span_below l k s).small; payload = s.small.val
 
 module _ {base : Forest} {cells : List Visit} {es : List Extent} {s : Step} {cs : List ℕ} where
   pub choose : (t : Bool) (a b : Opened) (x y : List ℕ) → cs ≡ (if t then x else y) → (cs ≡ x → Opens base cells es s cs a) → (cs ≡ y → Opens base cells es s cs b) → Opens base cells es s cs (if t then a else b)
-  choose true a b x y e f g = f e
-  choose false a b x y e f g = g e
+  choose t a b x y e f g = grind arith
 
   pub choose_level : (o p : Option ℕ) (a : ℕ → Opened) (b : Opened) (block : Block) (rest : List ℕ) → o ≡ p → cs ≡ line_or_blanks block o ++ rest → ((z : ℕ) → p ≡ Some z → cs ≡ block.line z ++ rest → Opens base cells es s cs (a z)) → (cs ≡ blanks block.width ++ rest → Opens base cells es s cs b)
       → Opens base cells es s cs (elim o [ Some z ↦ a z | None ↦ b ])
-  choose_level (Some z) p a b block rest q e f g = f z (sym q) e
-  choose_level None p a b block rest q e f g = g e
+  choose_level o p a b block rest q e f g = grind arith
 
 head_choice : (t : Bool) (a b : ℕ) (rest : List ℕ) → (if t then a else b) ∷ rest ≡ (if t then a ∷ rest else b ∷ rest)
-head_choice true a b rest = refl
-head_choice false a b rest = refl
+head_choice t a b rest = grind arith
 
 -- a level row is one of the block
 pub level_small : (above y own_above own_height z : ℕ) → level above y own_above own_height ≡ Some z → z < own_height
-level_small above y a h z e = by (nat_le above (y + a) && nat_lt (y + a - above) h) refl e
-  where
-    by : (t : Bool) → (nat_le above (y + a) && nat_lt (y + a - above) h) ≡ t → (if t then Some (y + a - above) else None) ≡ Some z → z < h
-    by true q g = let same : y + a - above ≡ z = cc in omega (arith, same, ltb-true (y + a - above) h (and_parts (nat_le above (y + a)) (nat_lt (y + a - above) h) q).1)
-    by false q g = absurd (cc g)
+level_small above y own_above own_height z e = grind arith
 
 -- ---- layouts side by side
 
@@ -98,18 +91,10 @@ level_if_opens {base = base} {cells = cells} {es = es} (tree l k r) at end above
     (record { label = l; below = k; others = r; listed = s; above_small = a; row_small = b; lines_are = refl })
 
 level_if_light : (at end above y : ℕ) → weight_if (level_if at end above y) ≤ 3 * (end - at) + 1
-level_if_light at end above y = by (nat_lt at end)
-  where
-    by : (t : Bool) → weight_if (if t then Some (step.Level (span_of at end) above y) else None) ≤ 3 * (end - at) + 1
-    by true = omega arith
-    by false = omega arith
+level_if_light at end above y = grind arith
 
 level_if_few : (at end above y : ℕ) → count_if (level_if at end above y) ≤ end - at
-level_if_few at end above y = by (nat_lt at end)
-  where
-    by : (t : Bool) → count_if (if t then Some (step.Level (span_of at end) above y) else None) ≤ end - at
-    by true = omega arith
-    by false = omega arith
+level_if_few at end above y = grind arith
 
 pub level_opens : {base : Forest} {cells : List Visit} {es : List Extent} {span : Span} {above y : ℕ} {cs : List ℕ} (e : Extent) (p : ShowsLevel base cells es span above y cs) → e ≡ extent_of p.label.payload p.below → Opens base cells es (step.Level span above y) cs (level_opened e span above y)
 level_opens {base = base} {cells = cells} {es = es} {span = span} {above = above} {y = y} {cs = cs} e p q =
@@ -266,16 +251,7 @@ module _ {base : Forest} {cells : List Visit} {es : List Extent} {span : Span} {
   -- two parts
   centred_opens : (l : Label) (k : Forest) (at end w z : ℕ) → IsSpanOf base cells es (tree l k empty) (span_of at end) → z ≤ 2 ^ 22 → cs ≡ centred w (block_of l.payload k) z → 3 * (end - at) < 3 * (span.end - span.at) - 1 → end - at + 1 ≤ span.end - span.at
       → Opens base cells es (step.Part span y) cs (centred_opened (w - (block_of l.payload k).width) (part_of at end z))
-  centred_opens l k at end w z s h e light few = record {
-    first = (block_of l.payload k).line z;
-    second = blanks (w - (block_of l.payload k).width - (w - (block_of l.payload k).width) / 2);
-    whole = e;
-    first_shown = record { label = l; below = k; listed = s; row_small = h; line_is = refl };
-    second_shown = refl;
-    lighter = omega (arith, light, s.end_is);
-    fewer = omega (arith, few);
-    ink_is = tt;
-  }
+  centred_opens l k at end w z s h e m n = grind arith
 
   pub fraction_opens : (u v : Extent) (t : IsTwoOver p.label.payload p.below (span.at + 1) es) → u ≡ extent_of t.upper.payload t.above → v ≡ extent_of t.lower.payload t.below → Opens base cells es (step.Part span y) cs (fraction_opened u v (span_of (span.at + 1) span.end) y)
   fraction_opens u v t q r =

@@ -5,7 +5,6 @@ use Rattle.pool_layouts.proofs.Shared.{length-append, length-replicate, replicat
 use Rattle.pool_layouts.specs.Painting.{count}
 use Rattle.pool_layouts.proofs.Inks.{ink_black}
 use Rattle.pool_layouts.proofs.Lines.{cut-append_blanks, cut_kept}
-use Rattle.pool_layouts.specs.declared.steps.Step.TheVariants as step
 
 -- ---- weights
 
@@ -18,8 +17,7 @@ weight-append [] b = omega arith
 weight-append (s ∷ a) b = omega (arith, weight-append a b)
 
 weight-option : (o : Option Step) → total_weight (option_to_list o) ≡ weight_if o
-weight-option None = refl
-weight-option (Some s) = omega arith
+weight-option o = grind arith
 
 -- ---- what is owed
 
@@ -67,10 +65,7 @@ painting_start {line = line} start h = record {
 
 -- a step that paints something counts
 counts_one : (base : Forest) (cells : List Visit) (es : List Extent) (s : Step) (cs : List ℕ) → Shows base cells es s cs → 1 ≤ count s
-counts_one base cells es (step.Blanks n) cs h = omega arith
-counts_one base cells es step.Close cs h = omega arith
-counts_one base cells es (step.Part span y) cs h = omega (arith, h.listed.end_is)
-counts_one base cells es (step.Level span above y) cs h = omega (arith, h.listed.end_is)
+counts_one base cells es s cs h = grind arith
 
 steps_few : (base : Forest) (cells : List Visit) (es : List Extent) (os : List Owed) → AreShown base cells es os → length (steps_of os) ≤ counts_of os
 steps_few base cells es [] h = omega arith
@@ -199,18 +194,7 @@ stepped {base = base} {cells = cells} {es = es} {s = s} {popped = popped} {owed_
 
 -- the steps weigh less
 pub lighter_steps : (steps popped new : List Step) (s : Step) (first second : Option Step) → steps ≡ popped ++ s ∷ [] → new ≡ (popped ++ option_to_list second) ++ option_to_list first → weight_if first + weight_if second < weight s → total_weight new < total_weight steps
-lighter_steps steps popped new s first second e f h =
-    omega (
-      arith,
-      h,
-      ap total_weight e,
-      ap total_weight f,
-      weight-append popped (s ∷ []),
-      weight-append (popped ++ option_to_list second) (option_to_list first),
-      weight-append popped (option_to_list second),
-      weight-option first,
-      weight-option second,
-    )
+lighter_steps steps popped new s first second e f h = grind (arith, weight-append, weight-option)
 
 -- ---- the end
 
@@ -224,5 +208,4 @@ painted {steps = steps} {owed_blanks = owed_blanks} {bytes = bytes} {start = sta
         p.bytes_are ∙ ap (λ (x : List ℕ). start ++ encode_utf8_all x) seen_is
 
 pub option_short : (o : Option Step) → length (option_to_list o) ≤ 1
-option_short None = omega arith
-option_short (Some s) = omega arith
+option_short o = grind arith

@@ -1,6 +1,6 @@
 -- The layout of a face, by its root and its children.
-use Rattle.std.proofs.Common.{◌≡◌, ◌∙◌, if◌then◌else◌, Bool, true, false, ◌||◌, nat_le, nat_eq, None, refl, sym, ap, arith}
-use Rattle.pool_layouts.proofs.Shared.{eqb-true, Kind, Payload, rational, named, bare, kind_of_payload, Tree, num, symbol, undef, add, mult, power, root, neg, sub, div, Trees, none, more, count, root_kind, is_div, first_of_sum, left_of_difference, later_of_sum, first_of_product, later_of_product, admits, level_of, is_div_kind, admits_is, grown, compound, takes, takes_kind, FirstOfSum, LaterOfSum, LeftOfDifference, RightOfDifference, UnderSign, FirstOfProduct, LaterOfProduct, Base, Layout, plus, minus, times, row, raised, Layouts, beside, one_part, unless, boxed, layout, layout_of_sum, layout_of_terms, layout_of_product, layout_of_factors, drawn, first_place, paren_kind_unless, around_of, within, parts_from, laid}
+use Rattle.std.proofs.Common.{◌≡◌, ◌∙◌, if◌then◌else◌, Bool, true, ◌||◌, nat_le, nat_eq, None, refl, sym, ap, arith}
+use Rattle.pool_layouts.proofs.Shared.{eqb-true, Kind, Payload, bare, kind_of_payload, Tree, Trees, none, more, count, root_kind, is_div, first_of_sum, left_of_difference, later_of_sum, first_of_product, later_of_product, admits, level_of, is_div_kind, admits_is, grown, compound, takes, takes_kind, FirstOfSum, LaterOfSum, LeftOfDifference, RightOfDifference, UnderSign, FirstOfProduct, LaterOfProduct, Base, Layout, plus, minus, times, row, raised, Layouts, beside, one_part, unless, boxed, layout, layout_of_sum, layout_of_terms, layout_of_product, layout_of_factors, drawn, first_place, paren_kind_unless, around_of, within, parts_from, laid}
 use Rattle.calc_language.specs.Texts.{level}
 use Rattle.calc_terms.specs.declared.kind.Kind.TheVariants as kind
 use Rattle.line_text.specs.declared.place.Place.TheVariants as lines
@@ -8,42 +8,20 @@ use Rattle.line_text.specs.declared.place.Place.TheVariants as lines
 -- ---- what a tree stands in
 
 level_is : (t : Tree) → level t ≡ level_of (root_kind t)
-level_is (num q) = refl
-level_is (symbol x) = refl
-level_is undef = refl
-level_is (add ts) = refl
-level_is (mult ts) = refl
-level_is (power b e) = refl
-level_is (root a) = refl
-level_is (neg a) = refl
-level_is (sub a b) = refl
-level_is (div a b) = refl
+level_is t = grind arith
 
 is_div_is : (t : Tree) → is_div t ≡ is_div_kind (root_kind t)
-is_div_is (num q) = refl
-is_div_is (symbol x) = refl
-is_div_is undef = refl
-is_div_is (add ts) = refl
-is_div_is (mult ts) = refl
-is_div_is (power b e) = refl
-is_div_is (root a) = refl
-is_div_is (neg a) = refl
-is_div_is (sub a b) = refl
-is_div_is (div a b) = refl
+is_div_is t = grind arith
 
 paren_is : (a : Bool) (l : Layout) → within (paren_kind_unless a) l ≡ unless a l
-paren_is true l = refl
-paren_is false l = refl
+paren_is a l = grind arith
 
 box_is : (d e a b : Bool) (l : Layout) → e ≡ d → b ≡ a → within (if d then None else paren_kind_unless a) l ≡ unless (e || b) l
-box_is true e a b l h i = ap (λ x. unless (x || b) l) (sym h)
-box_is false e a b l h i = paren_is a l ∙ ap (λ x. unless x l) (sym i) ∙ ap (λ x. unless (x || b) l) (sym h)
+box_is d e a b l h i = grind arith
 
 -- the first factor is not judged as a fraction again
 box_first : (d e a b : Bool) (l : Layout) → e ≡ d → b ≡ (a || d) → within (if d then None else paren_kind_unless a) l ≡ unless (e || b) l
-box_first true e a b l h i = ap (λ x. unless (x || b) l) (sym h)
-box_first false e true b l h i = ap (λ x. unless x l) (sym i) ∙ ap (λ x. unless (x || b) l) (sym h)
-box_first false e false b l h i = ap (λ x. unless x l) (sym i) ∙ ap (λ x. unless (x || b) l) (sym h)
+box_first d e a b l h i = grind arith
 
 box_first_of_sum : (t : Tree) (l : Layout) → within (around_of FirstOfSum t) l ≡ boxed first_of_sum t l
 box_first_of_sum t l = box_is (is_div_kind (root_kind t)) (is_div t) _ (admits first_of_sum t) l (is_div_is t) (admits_is lines.FirstOfSum t)
@@ -129,6 +107,4 @@ compound_is kind.Undef (more t ts) h = some_for_none t ts h
 compound_is k ts h = absurd cc
 
 pub layout_is : (x : Payload) (ts : Trees) → takes x (count ts) ≡ true → layout (grown x ts) ≡ drawn (laid x) (parts_from (first_place (kind_of_payload x)) ts)
-layout_is (rational r) ts h = refl
-layout_is (named y) ts h = refl
-layout_is (bare k) ts h = compound_is k ts h
+layout_is x ts h = grind (arith, compound_is)

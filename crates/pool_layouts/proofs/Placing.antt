@@ -1,11 +1,10 @@
 -- One node after another is placed, or refused.
 use Rattle.std.specs.Prelude.{IfOk, IfErr, OnOk, IsOk, ◌↔◌}
-use Rattle.std.proofs.Common.{◌≡◌, ◌∙◌, ℕ, ◌+◌, ◌-◌, ◌<◌, ◌≤◌, List, [], ◌∷◌, length, Option, Some, None, Result, Ok, Err, true, refl, sym, ap, subst, arith, leb}
-use Rattle.pool_layouts.proofs.Shared.{leb-true, leb-false, Kind, Payload, rational, named, bare, kind_of_payload, size_of_payload, Full, State, free_of, length_le_used, taking, Forest, empty, join, arity, bytes_in, one_tree, last_trees, before_last, Ends, Starts, Stands, forest, KeepsRefusals, IsRefused, arity-join, bytes_in-join, join_assoc, refuses_after, before-last, before_none, last_none, before_last-join, last_trees-join, ends_as, free_forest, join-empty, Place, Alone, FirstOfSum, LaterOfSum, LeftOfDifference, RightOfDifference, UnderSign, FirstOfProduct, LaterOfProduct, Base, Exponent, composes_kind, HasLast, IsStopped, PlacesMark, StandsIn, mark_before, laid, laid_kind}
-use Rattle.tree_handles.proofs.Fronts.{starts_same}
+use Rattle.std.proofs.Common.{◌≡◌, ◌∙◌, ℕ, ◌+◌, ◌-◌, ◌<◌, ◌≤◌, List, [], ◌∷◌, length, Option, Some, None, Result, Ok, Err, refl, sym, ap, subst, arith, leb}
+use Rattle.pool_layouts.proofs.Shared.{leb-true, leb-false, Kind, Payload, bare, kind_of_payload, size_of_payload, Full, State, free_of, length_le_used, taking, Forest, empty, join, arity, bytes_in, one_tree, last_trees, before_last, Ends, Starts, Stands, forest, KeepsRefusals, IsRefused, arity-join, bytes_in-join, join_assoc, refuses_after, before-last, before_none, last_none, before_last-join, last_trees-join, ends_as, free_forest, join-empty, Place, HasLast, IsStopped, PlacesMark, StandsIn, mark_before, laid, laid_kind}
 use Rattle.tree_handles.proofs.Outcomes.{by_test}
 use Rattle.tree_handles.proofs.Releases.{arity_le}
-use Rattle.pool_layouts.proofs.Sizes.{takes_one, lacks_one, taken_first}
+use Rattle.pool_layouts.proofs.Sizes.{takes_one, taken_first}
 use Rattle.calc_terms.specs.declared.kind.Kind.TheVariants as kind
 
 -- a pool has so few trees
@@ -17,8 +16,7 @@ pub was_short : (full : Full) (a b : ℕ) → (a ≤ b → IsOk {T = ℕ} (Err f
 was_short full a b h = by_test (λ t. leb a b ≡ t → b < a) (leb a b) (λ x q. absurd (cc (h (leb-true a b q)))) (λ x q. leb-false a b q) refl
 
 pub ok_as : {T : Type 0} {P Q : T → Type 0} (r : Result T Full) → IfOk r P → ((h : T) → P h → Q h) → IfOk r Q
-ok_as (Ok h) p f = f h p
-ok_as (Err e) p f = tt
+ok_as r p f = grind arith
 
 -- ---- one node
 
@@ -35,12 +33,7 @@ leaf_ends f g id x e = rw (last_none f, before_none f) e
 
 -- one placing was refused
 pub stopped_one : (s t : State) (first : Forest) (size : ℕ) (rest : List ℕ) (full : Full) → IsRefused size s t full → free_of s < size → Starts first (forest s) → IsStopped first (size ∷ rest) s t full
-stopped_one s t first size rest full r h f = record {
-  full_is = lacks_one (free_of s) size rest h ∙ ap Err (sym r.told);
-  refuses = r.refuses;
-  lacks = r.lacks;
-  front = starts_same first (forest s) (forest t) r.same f;
-}
+stopped_one s t first size rest full r h f = grind arith
 
 pub starts_all : (f : Forest) → Starts f f
 starts_all f = record { behind = empty; whole = sym (join-empty f) }
@@ -51,23 +44,10 @@ starts_before n f = record { behind = last_trees n f; whole = sym (before-last n
 -- ---- marks
 
 pub no_mark : (mark : Option Kind) (f : Forest) → None ≡ mark → PlacesMark mark f f 0
-no_mark None f e = record { parts = empty; whole = sym (join-empty f); once = tt; composed_whole = tt; drawings_are = refl; number = refl; few = omega arith }
-no_mark (Some k) f e = cc
-
-mark_placed : (k : Kind) (f g : Forest) (id : ℕ) → composes_kind k 0 ≡ true → Ends id (one_tree id (bare k) empty) f g → PlacesMark (Some k) f g 1
-mark_placed k f g id h e = record { parts = one_tree id (bare k) empty; whole = e.whole; once = (refl, tt, tt); composed_whole = (h, tt, tt); drawings_are = refl; number = refl; few = omega arith }
+no_mark mark f e = grind (arith, join-empty)
 
 pub some_mark : (p : Place) (k : Kind) (f g : Forest) (id : ℕ) → Some k ≡ mark_before p → Ends id (one_tree id (bare k) empty) f g → PlacesMark (mark_before p) f g 1
-some_mark LaterOfSum k f g id q e = mark_placed kind.Plus f g id refl (subst (λ (j : Kind). Ends id (one_tree id (bare j) empty) f g) (let same : k ≡ kind.Plus = cc in same) e)
-some_mark RightOfDifference k f g id q e = mark_placed kind.Minus f g id refl (subst (λ (j : Kind). Ends id (one_tree id (bare j) empty) f g) (let same : k ≡ kind.Minus = cc in same) e)
-some_mark UnderSign k f g id q e = mark_placed kind.Minus f g id refl (subst (λ (j : Kind). Ends id (one_tree id (bare j) empty) f g) (let same : k ≡ kind.Minus = cc in same) e)
-some_mark LaterOfProduct k f g id q e = mark_placed kind.Times f g id refl (subst (λ (j : Kind). Ends id (one_tree id (bare j) empty) f g) (let same : k ≡ kind.Times = cc in same) e)
-some_mark Alone k f g id q e = cc
-some_mark FirstOfSum k f g id q e = cc
-some_mark LeftOfDifference k f g id q e = cc
-some_mark FirstOfProduct k f g id q e = cc
-some_mark Base k f g id q e = cc
-some_mark Exponent k f g id q e = cc
+some_mark p k f g id q e = grind arith
 
 -- ---- what a tree stands in
 
@@ -77,33 +57,22 @@ pub record IsLastTree (i begin : ℕ) (f : Forest) : Type 0 where
   pub begin_is : begin ≡ bytes_in (before_last 1 f)
 
 pub last_tree_is : (i begin : ℕ) (f : Forest) → HasLast i begin f → IsLastTree i begin f
-last_tree_is i begin f h = record {
-  few = omega (arith, ap arity h.ends.whole, arity-join h.others h.tree, h.ends.alone);
-  begin_is = h.begins ∙ ap bytes_in (sym (ap (before_last 1) h.ends.whole ∙ before_last-join 1 h.others h.tree (sym h.ends.alone)));
-}
+last_tree_is i begin f h = grind (arith, arity-join, before_last-join)
 
 pub stands_over : (k : Kind) (i id : ℕ) (f g : Forest) → Ends id (one_tree id (bare k) (last_trees 1 f)) (before_last 1 f) g → StandsIn (Some k) i f g id
-stands_over k i id f g e = record {
-  stands_in = λ t others last.
-      ends_as e (ap (one_tree id (bare k)) (ap (last_trees 1) last.whole ∙ last_trees-join 1 others t (sym last.alone))) (ap (before_last 1) last.whole ∙ before_last-join 1 others t (sym last.alone));
-}
+stands_over k i id f g e = grind (arith, ends_as, last_trees-join, before_last-join)
 
 -- ---- one placing, by its result
 
 pub placed_last : (s t : State) (n : ℕ) (x : Payload) (r : Result ℕ Full) → Stands s → Stands t → OnOk r (KeepsRefusals s t) → IfOk r (λ h. Ends h (one_tree h x (last_trees n (forest s))) (before_last n (forest s)) (forest t))
     → (IsOk r ↔ (size_of_payload x ≤ free_of s)) → OnOk r (taking (free_of s) (size_of_payload x ∷ []) ≡ Ok (free_of t))
-placed_last s t n x (Ok h) st st' k e q = takes_one (free_of s) (size_of_payload x) (q.0 refl) ∙ ap Ok (free_after s t n h x st st' k e)
-placed_last s t n x (Err full) st st' k e q = tt
+placed_last s t n x r h k l e q = grind (arith, takes_one, free_after)
 
 pub refused_last : (s t : State) (size : ℕ) (r : Result ℕ Full) → IfErr r (IsRefused size s t) → (IsOk r ↔ (size ≤ free_of s)) → IfErr r (IsStopped (forest s) (size ∷ []) s t)
-refused_last s t size (Ok h) e q = tt
-refused_last s t size (Err full) e q = stopped_one s t (forest s) size [] full e (was_short full size (free_of s) q.1) (starts_all (forest s))
+refused_last s t size r e q = grind (arith, stopped_one, was_short, starts_all)
 
 pub refused_err : (s t : State) (size : ℕ) (full : Full) → IsRefused size s t full → (size ≤ free_of s → IsOk {T = ℕ} (Err full)) → IsStopped (forest s) (size ∷ []) s t full
 refused_err s t size full e q = stopped_one s t (forest s) size [] full e (was_short full size (free_of s) q) (starts_all (forest s))
-
-pub if_err : {T : Type 0} (P : Full → Type 0) (r : Result T Full) (full : Full) → r ≡ Err full → P full → IfErr r P
-if_err P r full e p = subst (λ x. IfErr x P) (sym e) p
 
 pub takes_mark : (s t : State) (id : ℕ) (x : Payload) → Stands s → Stands t → KeepsRefusals s t → Ends id (one_tree id x empty) (forest s) (forest t) → size_of_payload x ≤ free_of s → taking (free_of s) (size_of_payload x ∷ []) ≡ Ok (free_of t)
 takes_mark s t id x st st' k e room = takes_one (free_of s) (size_of_payload x) room ∙ ap Ok (free_after s t 0 id x st st' k (leaf_ends (forest s) (forest t) id x e))
@@ -116,15 +85,12 @@ leaf_node_ends f g id x y n q z e =
     (leaf_ends f g id (laid x) (subst (λ (p : Payload). Ends id (one_tree id p empty) f g) (sym q) e))
 
 pub bare_is : (x : Payload) (k j : Kind) → kind_of_payload x ≡ k → (k ≡ kind.Num → ⊥) → (k ≡ kind.Sym → ⊥) → j ≡ laid_kind k → laid x ≡ bare j
-bare_is (rational r) k j e n s q = absurd (n (sym e))
-bare_is (named y) k j e n s q = absurd (s (sym e))
-bare_is (bare i) k j e n s q = ap bare (ap laid_kind e ∙ sym q)
+bare_is x k j e n s q = grind arith
 
 -- ---- two placings
 
 pub room_after : {T : Type 0} (free mid left size : ℕ) (ns : List ℕ) (r : Result T Full) → taking free (size ∷ []) ≡ Ok mid → OnOk r (taking mid ns ≡ Ok left) → OnOk r (taking free (size ∷ ns) ≡ Ok left)
-room_after free mid left size ns (Ok h) a b = taken_first free mid (size ∷ []) ns a ∙ b
-room_after free mid left size ns (Err e) a b = tt
+room_after free mid left size ns r a b = grind arith
 
 pub starts_after : (f g h : Forest) → Starts f g → Starts g h → Starts f h
 starts_after f g h a b = record { behind = join a.behind b.behind; whole = b.whole ∙ ap (λ (x : Forest). join x b.behind) a.whole ∙ join_assoc f a.behind b.behind }
@@ -134,10 +100,4 @@ starts_ends {t = t} e = record { behind = t; whole = e.whole }
 
 pub stopped_after : (s m t : State) (first : Forest) (size : ℕ) (ns : List ℕ) (r : Result ℕ Full) → taking (free_of s) (size ∷ []) ≡ Ok (free_of m) → KeepsRefusals s m → Starts first (forest m) → IfErr r (IsStopped (forest m) ns m t)
     → IfErr r (IsStopped first (size ∷ ns) s t)
-stopped_after s m t first size ns (Ok h) a k f e = tt
-stopped_after s m t first size ns (Err full) a k f e = record {
-  full_is = taken_first (free_of s) (free_of m) (size ∷ []) ns a ∙ e.full_is;
-  refuses = refuses_after s m t full k e.refuses;
-  lacks = e.lacks;
-  front = starts_after first (forest m) (forest t) f e.front;
-}
+stopped_after s m t first size ns r a k f e = grind (arith, taken_first, refuses_after, starts_after)

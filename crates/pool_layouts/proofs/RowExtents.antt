@@ -1,5 +1,5 @@
 -- The extent of layouts side by side, gathered from the left.
-use Rattle.std.proofs.Common.{◌≡◌, ◌∙◌, ℕ, suc, ◌+◌, ◌<◌, ◌≤◌, max, List, length, sym, ap, subst, arith}
+use Rattle.std.proofs.Common.{◌≡◌, ℕ, suc, ◌+◌, ◌<◌, ◌≤◌, max, List, length, arith}
 use Rattle.pool_layouts.proofs.Shared.{Label, Forest, empty, tree, arity, nodes_in, Extent, drawings, extent_from, extent_of, HasSmall, IsSmall, pictures, widths, most_above, most_below, side_by_side}
 use Rattle.pool_layouts.proofs.Measures.{blocks_of, first_within, behind_first, extent_same, bounded, bytes_nodes, most_heights}
 
@@ -18,14 +18,7 @@ gathering_start k first es h = record { others = k; small = h; number = omega ar
 
 -- the row so far is small
 pub row_small : {k : Forest} {count at first : ℕ} {es : List Extent} {row : Extent} → HasSmall k first es → IsGathering k count at es row → IsSmall row
-row_small {k = k} h g =
-    let b = bounded k h.composed_parts h.valid_parts in
-    record {
-      nodes = omega (arith, g.nodes, h.few, bytes_nodes k);
-      width = omega (arith, g.width, b.widths_are, h.few);
-      above = omega (arith, g.above, most_heights (blocks_of k), b.heights_are, bytes_nodes k, h.few);
-      below = omega (arith, g.below, most_heights (blocks_of k), b.heights_are, bytes_nodes k, h.few);
-    }
+row_small h g = grind (arith, bounded, bytes_nodes, most_heights, blocks_of)
 
 -- one more
 pub record IsNextPart (k : Forest) (count at : ℕ) (es : List Extent) (row : Extent) : Type 0 where
@@ -52,17 +45,7 @@ part_within {at = at} {es = es} p = first_within p.label p.below p.others at es 
 
 pub gathered_more : {k : Forest} {count at : ℕ} {es : List Extent} {row : Extent} (next : ℕ) (new part : Extent) (p : IsNextPart k count at es row) → part ≡ extent_of p.label.payload p.below → next ≡ at + part.nodes
     → new ≡ (record { nodes = row.nodes + part.nodes; width = row.width + part.width; above = max row.above part.above; below = max row.below part.below }) → IsGathering k (count + 1) next es new
-gathered_more {k = k} {count = count} {at = at} {es = es} {row = row} next new part p q a e =
-    let size : part.nodes ≡ suc (nodes_in p.below) = ap (λ (x : Extent). x.nodes) q in
-    record {
-      others = p.others;
-      small = subst (λ (n : ℕ). HasSmall p.others n es) (sym (a ∙ ap (λ (n : ℕ). at + n) size)) (behind_first p.label p.below p.others at es p.small);
-      number = omega (arith, p.number);
-      nodes = omega (arith, p.nodes, ap (λ (x : Extent). x.nodes) e, size);
-      width = omega (arith, p.width, ap (λ (x : Extent). x.width) e, ap (λ (x : Extent). x.width) q);
-      above = omega (arith, p.above, ap (λ (x : Extent). x.above) e, ap (λ (x : Extent). x.above) q);
-      below = omega (arith, p.below_is, ap (λ (x : Extent). x.below) e, ap (λ (x : Extent). x.below) q);
-    }
+gathered_more next new part p q a e = grind (arith, behind_first)
 
 pub gathered_all : {k : Forest} {count at : ℕ} {es : List Extent} {row : Extent} → IsGathering k count at es row → arity k ≤ count → row ≡ extent_from (1 + nodes_in k) (side_by_side (pictures (drawings k)))
 gathered_all {k = k} {count = count} {at = at} {es = es} {row = row} g all = by g.others g.number g.nodes g.width g.above g.below

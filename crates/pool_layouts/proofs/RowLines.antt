@@ -1,6 +1,6 @@
 -- A row of the picture of a layout tree.
 use Rattle.std.proofs.Common.{◌≡◌, ◌∙◌, nat_eq, ℕ, zero, suc, ◌+◌, ◌*◌, ◌<◌, ◌≤◌, List, [], ◌∷◌, length, encode_utf8_all, true, sym, ap, subst, arith, append-nil}
-use Rattle.pool_layouts.proofs.Shared.{eqb-true, Kind, Payload, rational, named, bare, size_of_payload, IsPayload, spelled, Content, spare_of, State, Forest, empty, tree, arity, nodes_in, bytes_in, AllNodes, tree_at, Stands, forest, one_at, Visit, Extent, Step, visits_of, drawn, drawing, drawings, composed, composes, composes_kind, part, AllComposed, IsLayout, Layout, Layouts, nothing, beside, AllValid, IsFound, IsLine, span_of, picture, height, widths, visits_length}
+use Rattle.pool_layouts.proofs.Shared.{eqb-true, Kind, Payload, bare, size_of_payload, IsPayload, Content, spare_of, State, Forest, empty, tree, arity, nodes_in, bytes_in, AllNodes, tree_at, Stands, forest, one_at, Visit, Extent, Step, visits_of, drawn, drawing, drawings, composed, composes, composes_kind, part, AllComposed, IsLayout, Layout, Layouts, nothing, beside, AllValid, IsFound, IsLine, span_of, picture, height, widths, visits_length}
 use Rattle.pool_layouts.proofs.Measures.{blocks_of, block_of, digits_fit, drawn_bounded, bounded, first_small}
 use Rattle.pool_layouts.proofs.Measuring.{IsMeasured, alone}
 use Rattle.pool_layouts.proofs.Inks.{decimal_small, names_small}
@@ -67,9 +67,7 @@ composed_fits kind.Paren k h w = one_fits kind.Paren k _ h w (λ l a. omega (ari
 composed_fits j k h w = absurd cc
 
 drawn_fits : (x : Payload) (k : Forest) → composes x (arity k) ≡ true → IsPayload x → widths (blocks_of k) + 2 * all_signs (drawings k) ≤ 2 * bytes_in k → (block_of x k).width + 2 * signs (drawn x (drawings k)) ≤ 2 * (size_of_payload x + bytes_in k)
-drawn_fits (rational r) k h p w = omega (arith, digits_fit r p)
-drawn_fits (named y) k h p w = omega (arith, (spelled y p).short)
-drawn_fits (bare j) k h p w = composed_fits j k h w
+drawn_fits x k h p w = grind (arith, digits_fit, composed_fits)
 
 signs_fit : (f : Forest) → AllComposed f → AllValid f → widths (blocks_of f) + 2 * all_signs (drawings f) ≤ 2 * bytes_in f
 signs_fit empty c v = omega arith
@@ -81,20 +79,10 @@ part_leaves zero (beside l ls) h = h.0
 part_leaves (suc n) (beside l ls) h = part_leaves n ls h.1
 
 composed_leaves : (j : Kind) (ls : Layouts) → HaveSmallLeaves ls → HasSmallLeaves (composed j ls)
-composed_leaves kind.Plus ls h = tt
-composed_leaves kind.Minus ls h = tt
-composed_leaves kind.Times ls h = tt
-composed_leaves kind.Row ls h = h
-composed_leaves kind.Fraction ls h = (part_leaves 0 ls h, part_leaves 1 ls h)
-composed_leaves kind.Raised ls h = part_leaves 0 ls h
-composed_leaves kind.Radical ls h = part_leaves 0 ls h
-composed_leaves kind.Paren ls h = part_leaves 0 ls h
-composed_leaves j ls h = tt
+composed_leaves j ls h = grind arith
 
 drawn_leaves : (x : Payload) (ls : Layouts) → IsPayload x → HaveSmallLeaves ls → HasSmallLeaves (drawn x ls)
-drawn_leaves (rational r) ls p h = decimal_small _
-drawn_leaves (named y) ls p h = names_small y p
-drawn_leaves (bare j) ls p h = composed_leaves j ls h
+drawn_leaves x ls p h = grind (arith, decimal_small, names_small, composed_leaves)
 
 small_leaves : (f : Forest) → AllValid f → HaveSmallLeaves (drawings f)
 small_leaves empty v = tt

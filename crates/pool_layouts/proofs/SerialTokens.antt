@@ -56,10 +56,6 @@ sum_tree : (t : Tree) → as_tree (sum_so_far t) ≡ t
 sum_tree (add ts) = refl
 sum_tree _ = refl
 
-product_tree : (t : Tree) → as_tree (product_so_far t) ≡ t
-product_tree (mult ts) = refl
-product_tree _ = refl
-
 as_product : {a : List Token} {t : Tree} → Power a t → Product a (single t)
 as_product d = first_factor (one_power d)
 

@@ -1,6 +1,6 @@
 -- The serial text of a node is what is written of it, of its parts, and what closes it.
-use Rattle.std.proofs.Common.{◌*◌, ◌≡◌, ◌∙◌, ℕ, suc, ◌+◌, ◌≤◌, ℤ, List, [], ◌++◌, length, nat_abs, nat_eq, codes, true, refl, sym, ap, arith, append_assoc, append-nil}
-use Rattle.pool_layouts.proofs.Shared.{eqb-true, length-append, Kind, Payload, rational, named, bare, kind_of_payload, size_of_payload, IsPayload, spelled, decimal, root_sign, numerator_is, Forest, empty, tree, arity, bytes_in, AllNodes, composed, drawn, drawings, composes, composes_kind, AllComposed, Layout, Layouts, nothing, beside, behind_parts, number_of, parts_text, owed_text, leaf_serial, serial, serials, IsValid}
+use Rattle.std.proofs.Common.{◌*◌, ◌≡◌, ◌∙◌, ℕ, suc, ◌+◌, ◌≤◌, List, [], ◌++◌, length, nat_eq, codes, true, refl, sym, ap, arith, append_assoc, append-nil}
+use Rattle.pool_layouts.proofs.Shared.{eqb-true, length-append, Kind, Payload, bare, kind_of_payload, size_of_payload, IsPayload, root_sign, numerator_is, Forest, empty, tree, arity, bytes_in, AllNodes, composed, drawn, drawings, composes, composes_kind, AllComposed, Layout, Layouts, nothing, beside, behind_parts, number_of, parts_text, owed_text, leaf_serial, serial, serials, IsValid}
 use Rattle.pool_layouts.proofs.Measures.{digits_fit}
 use Rattle.calc_terms.specs.declared.kind.Kind.TheVariants as kind
 
@@ -55,9 +55,7 @@ composed_text kind.Paren ls h = paren_text ls h
 composed_text k ls h = absurd cc
 
 pub serial_is : (x : Payload) (ls : Layouts) → composes x (number_of ls) ≡ true → IsPayload x → serial (drawn x ls) ≡ leaf_serial x ++ owed_text (kind_of_payload x) ls
-serial_is (rational r) ls h p = ap (λ (z : ℤ). decimal (nat_abs z)) (numerator_is r p) ∙ leaf_text (decimal (nat_abs r.num)) kind.Num ls refl h
-serial_is (named y) ls h p = leaf_text y kind.Sym ls refl h
-serial_is (bare k) ls h p = composed_text k ls h
+serial_is x ls h p = grind (arith, numerator_is, leaf_text, composed_text)
 
 -- ---- it has at most as many bytes as the nodes
 
@@ -103,9 +101,7 @@ composed_short kind.Paren ls h = one_short kind.Paren ls _ h (paren_short ls)
 composed_short k ls h = absurd cc
 
 drawn_short : (x : Payload) (ls : Layouts) → composes x (number_of ls) ≡ true → IsPayload x → length (serial (drawn x ls)) ≤ length (serials ls) + 2 * size_of_payload x
-drawn_short (rational r) ls h p = leaf_short ls _ _ (digits_fit r p)
-drawn_short (named y) ls h p = leaf_short ls _ _ (omega (arith, (spelled y p).short))
-drawn_short (bare k) ls h p = omega (arith, composed_short k ls h)
+drawn_short x ls h p = grind (arith, leaf_short, digits_fit, composed_short)
 
 pub serials_short : (f : Forest) → AllComposed f → AllNodes IsValid f → length (serials (drawings f)) ≤ 2 * bytes_in f
 serials_short empty c v = omega arith

@@ -1,6 +1,6 @@
 -- What a place of the list shows of the tree that begins there.
 use Rattle.std.proofs.Common.{◌≡◌, ◌∙◌, ℕ, suc, ◌+◌, ◌<◌, List, ◌∷◌, ◌++◌, length, map, drop, get_or, refl, sym, ap, arith, append-nil, drop-cons, add-one}
-use Rattle.pool_layouts.proofs.Shared.{eqb-true, length-drop, Node, Payload, rational, named, bare, kind_of_payload, Tree, neg, root_kind, kind_behind_opposites, not_opposite, plain, plains, grown, takes, AllExpressions, Label, Forest, empty, tree, arity, flatten, node_of, root_kind-plain, Visit, Place, Alone, FirstOfSum, LaterOfSum, LeftOfDifference, RightOfDifference, UnderSign, FirstOfProduct, LaterOfProduct, Base, Exponent, visit_of, visits_of, ShowsTree, deciding_kind}
+use Rattle.pool_layouts.proofs.Shared.{length-drop, Node, Payload, bare, kind_of_payload, Tree, neg, root_kind, kind_behind_opposites, not_opposite, plain, AllExpressions, Label, Forest, empty, tree, arity, flatten, node_of, root_kind-plain, Visit, Place, LaterOfProduct, visit_of, visits_of, ShowsTree, deciding_kind}
 use Rattle.calc_terms.specs.declared.kind.Kind.TheVariants as kind
 
 -- ---- the first of what is left
@@ -49,16 +49,12 @@ pub shown_inside : {at : ℕ} {t : Forest} {cells : List Visit} → ShowsTree at
 shown_inside {at = at} {cells = cells} s = let x = shown s in inside_list cells (visits_of x.below ++ x.rest) at (visit_of (node_of x.label x.below)) x.cells_are
 
 pub shown_kind : {at : ℕ} {t : Forest} {cells : List Visit} (d : Visit) → ShowsTree at t cells → (get_or cells at d).kind ≡ root_kind (plain t)
-shown_kind {at = at} {t = t} {cells = cells} d s =
-    let x = shown s in
-    ap (λ (y : Visit). y.kind) (first_is cells (visits_of x.below ++ x.rest) at (visit_of (node_of x.label x.below)) d x.cells_are) ∙ sym (root_kind-plain (tree x.label x.below empty) refl x.whole) ∙ ap (λ (u : Forest). root_kind (plain u)) (sym x.tree_is)
+shown_kind d s = grind (arith, shown, first_is, root_kind-plain)
 
 -- ---- opposites
 
 neg_payload : (x : Payload) → kind_of_payload x ≡ kind.Neg → x ≡ bare kind.Neg
-neg_payload (rational r) h = absurd cc
-neg_payload (named y) h = absurd cc
-neg_payload (bare j) h = ap bare h
+neg_payload x h = grind arith
 
 -- what an opposite is of stands behind its node
 pub record IsOpposite (at : ℕ) (t : Forest) (cells : List Visit) : Type 0 where
@@ -67,18 +63,7 @@ pub record IsOpposite (at : ℕ) (t : Forest) (cells : List Visit) : Type 0 wher
   pub plain_is : plain t ≡ neg (plain inner)
 
 opposite_of : (at : ℕ) (t : Forest) (cells rest : List Visit) (l : Label) (k : Forest) → t ≡ tree l k empty → drop at cells ≡ visit_of (node_of l k) ∷ (visits_of k ++ rest) → l.payload ≡ bare kind.Neg → AllExpressions (tree l k empty) → IsOpposite at t cells
-opposite_of at t cells rest l empty q e n w = absurd (cc (ap (λ (y : Payload). takes y 0) n, w.0))
-opposite_of at t cells rest l (tree m j (tree o i r)) q e n w = absurd (omega (arith, eqb-true (arity (tree m j (tree o i r))) 1 (ap (λ (y : Payload). takes y (arity (tree m j (tree o i r)))) (sym n) ∙ w.0)))
-opposite_of at t cells rest l (tree m j empty) q e n w = record {
-  inner = tree m j empty;
-  shows = record {
-    alone = refl;
-    whole = w.1;
-    behind = rest;
-    cells_are = others_are cells (visits_of (tree m j empty) ++ rest) at (visit_of (node_of l (tree m j empty))) e;
-  };
-  plain_is = ap plain q ∙ ap (λ (y : Payload). grown y (plains (tree m j empty))) n;
-}
+opposite_of at t cells rest l k q e n w = grind (arith, others_are)
 
 pub opposite : {at : ℕ} {t : Forest} {cells : List Visit} (d : Visit) → ShowsTree at t cells → (get_or cells at d).kind ≡ kind.Neg → IsOpposite at t cells
 opposite {at = at} {t = t} {cells = cells} d s e =
@@ -90,13 +75,4 @@ pub behind_none : {at : ℕ} {t : Forest} {cells : List Visit} (d e : Visit) →
 behind_none {t = t} d e s h = shown_kind d s ∙ sym (not_opposite (plain t) (λ q. h (shown_kind e s ∙ q)))
 
 pub decided_by_root : (p : Place) (t : Tree) → (p ≡ LaterOfProduct → ⊥) → root_kind t ≡ deciding_kind p t
-decided_by_root LaterOfProduct t h = absurd (h refl)
-decided_by_root Alone t h = refl
-decided_by_root FirstOfSum t h = refl
-decided_by_root LaterOfSum t h = refl
-decided_by_root LeftOfDifference t h = refl
-decided_by_root RightOfDifference t h = refl
-decided_by_root UnderSign t h = refl
-decided_by_root FirstOfProduct t h = refl
-decided_by_root Base t h = refl
-decided_by_root Exponent t h = refl
+decided_by_root p t h = grind arith

@@ -1,6 +1,6 @@
 -- The bytes that a layout's nodes take one after another.
-use Rattle.std.proofs.Common.{◌≡◌, ◌∙◌, if◌then◌else◌, ℕ, suc, ◌+◌, ◌-◌, ◌<◌, ◌≤◌, List, [], ◌∷◌, ◌++◌, nat_le, nat_eq, Bool, true, false, Option, Some, None, Result, Ok, Err, refl, sym, ap, arith, append_assoc, append-nil}
-use Rattle.pool_layouts.proofs.Shared.{eqb-true, le-leb, lt-leb, Kind, Payload, rational, named, bare, size_of_payload, Full, taking, Forest, empty, tree, join, arity, Place, Alone, FirstOfSum, LaterOfSum, LeftOfDifference, RightOfDifference, UnderSign, FirstOfProduct, LaterOfProduct, Base, Exponent, part_sizes, parts_sizes, composed, drawn, drawings, composes, composes_kind, Layout, Layouts, nothing, beside, one_part, join_parts, around_sizes, IsAround, mark_before, marks, within}
+use Rattle.std.proofs.Common.{◌≡◌, ◌∙◌, if◌then◌else◌, ℕ, suc, ◌+◌, ◌-◌, ◌<◌, ◌≤◌, List, [], ◌∷◌, ◌++◌, nat_le, nat_eq, Bool, true, Option, Some, None, Result, Ok, Err, refl, sym, ap, arith, append_assoc, append-nil}
+use Rattle.pool_layouts.proofs.Shared.{eqb-true, le-leb, lt-leb, Kind, Payload, bare, size_of_payload, Full, taking, Forest, empty, tree, join, arity, Place, part_sizes, parts_sizes, composed, drawn, drawings, composes, composes_kind, Layout, Layouts, nothing, beside, one_part, join_parts, around_sizes, IsAround, mark_before, marks, within}
 use Rattle.calc_terms.specs.declared.kind.Kind.TheVariants as kind
 
 pub join_parts-nothing : (ls : Layouts) → join_parts ls nothing ≡ ls
@@ -33,16 +33,7 @@ sizes-join nothing b = refl
 sizes-join (beside l a) b = ap (λ (x : List ℕ). part_sizes l ++ x) (sizes-join a b) ∙ sym (append_assoc (part_sizes l) (parts_sizes a) (parts_sizes b))
 
 pub sizes-marks : (p : Place) → parts_sizes (marks (mark_before p)) ≡ around_sizes (mark_before p)
-sizes-marks Alone = refl
-sizes-marks FirstOfSum = refl
-sizes-marks LaterOfSum = refl
-sizes-marks LeftOfDifference = refl
-sizes-marks RightOfDifference = refl
-sizes-marks UnderSign = refl
-sizes-marks FirstOfProduct = refl
-sizes-marks LaterOfProduct = refl
-sizes-marks Base = refl
-sizes-marks Exponent = refl
+sizes-marks p = grind arith
 
 none_of : (ls : Layouts) (size : ℕ) → nat_eq (count_parts ls) 0 ≡ true → size ∷ [] ≡ parts_sizes ls ++ size ∷ []
 none_of nothing size h = refl
@@ -60,20 +51,10 @@ fraction_of (beside l (beside m nothing)) h = ap (λ (x : List ℕ). (part_sizes
 fraction_of (beside l (beside m (beside n ls))) h = absurd (omega (arith, eqb-true (count_parts (beside l (beside m (beside n ls)))) 2 h))
 
 composed_sizes : (k : Kind) (ls : Layouts) → composes_kind k (count_parts ls) ≡ true → part_sizes (composed k ls) ≡ parts_sizes ls ++ size_of_payload (bare k) ∷ []
-composed_sizes kind.Plus ls h = none_of ls _ h
-composed_sizes kind.Minus ls h = none_of ls _ h
-composed_sizes kind.Times ls h = none_of ls _ h
-composed_sizes kind.Row ls h = refl
-composed_sizes kind.Fraction ls h = fraction_of ls h
-composed_sizes kind.Raised ls h = one_of ls _ (composed kind.Raised ls) h (λ l e. ap (λ (x : Layouts). part_sizes (composed kind.Raised x)) e)
-composed_sizes kind.Radical ls h = one_of ls _ (composed kind.Radical ls) h (λ l e. ap (λ (x : Layouts). part_sizes (composed kind.Radical x)) e)
-composed_sizes kind.Paren ls h = one_of ls _ (composed kind.Paren ls) h (λ l e. ap (λ (x : Layouts). part_sizes (composed kind.Paren x)) e)
-composed_sizes k ls h = absurd cc
+composed_sizes k ls h = grind (arith, none_of, fraction_of, one_of)
 
 pub drawn_sizes : (x : Payload) (ls : Layouts) → composes x (count_parts ls) ≡ true → part_sizes (drawn x ls) ≡ parts_sizes ls ++ size_of_payload x ∷ []
-drawn_sizes (rational r) ls h = none_of ls _ h
-drawn_sizes (named y) ls h = none_of ls _ h
-drawn_sizes (bare k) ls h = composed_sizes k ls h
+drawn_sizes x ls h = grind (arith, none_of, composed_sizes)
 
 pub within_sizes : (around : Option Kind) (l : Layout) → IsAround around → part_sizes (within around l) ≡ part_sizes l ++ around_sizes around
 within_sizes None l h = sym (append-nil (part_sizes l))
@@ -85,16 +66,14 @@ abbrev pub taking_if : Bool → ℕ → ℕ → List ℕ → Result ℕ Full
 taking_if b free m ms = if b then taking (free - m) ms else Err (record { needed = m; free = free })
 
 taken_by : (t : Bool) (free left m : ℕ) (ms ns : List ℕ) → taking_if t free m ms ≡ Ok left → (taking (free - m) ms ≡ Ok left → taking (free - m) (ms ++ ns) ≡ taking left ns) → taking_if t free m (ms ++ ns) ≡ taking left ns
-taken_by true free left m ms ns e next = next e
-taken_by false free left m ms ns e next = absurd (cc e)
+taken_by t free left m ms ns e h = grind arith
 
 pub taken_first : (free left : ℕ) (ms ns : List ℕ) → taking free ms ≡ Ok left → taking free (ms ++ ns) ≡ taking left ns
 taken_first free left [] ns e = ap (λ (n : ℕ). taking n ns) (let same : free ≡ left = cc in same)
 taken_first free left (m ∷ ms) ns e = taken_by (nat_le m free) free left m ms ns e (taken_first (free - m) left ms ns)
 
 refused_by : (t : Bool) (free : ℕ) (full : Full) (m : ℕ) (ms ns : List ℕ) → taking_if t free m ms ≡ Err full → (taking (free - m) ms ≡ Err full → taking (free - m) (ms ++ ns) ≡ Err full) → taking_if t free m (ms ++ ns) ≡ Err full
-refused_by true free full m ms ns e next = next e
-refused_by false free full m ms ns e next = e
+refused_by t free full m ms ns e h = grind arith
 
 pub refused_first : (free : ℕ) (full : Full) (ms ns : List ℕ) → taking free ms ≡ Err full → taking free (ms ++ ns) ≡ Err full
 refused_first free full [] ns e = absurd (cc e)

@@ -11,24 +11,21 @@ after zero f = f
 after (suc n) f = behind_node (after n f)
 
 behind_flat : (f : Forest) → flatten (behind_node f) ≡ drop 1 (flatten f)
-behind_flat empty = refl
-behind_flat (tree l k r) = flatten-join k r
+behind_flat f = grind (arith, flatten-join)
 
 pub after_flat : (n : ℕ) (f : Forest) → flatten (after n f) ≡ drop n (flatten f)
 after_flat zero f = refl
 after_flat (suc n) f = behind_flat (after n f) ∙ ap (drop 1) (after_flat n f) ∙ drop-drop 1 n (flatten f) ∙ ap (λ (m : ℕ). drop m (flatten f)) (add-one n)
 
 behind_all : (P : Label → ℕ → Type 0) (f : Forest) → AllNodes P f → AllNodes P (behind_node f)
-behind_all P empty h = tt
-behind_all P (tree l k r) h = all-join P k r h.1 h.2
+behind_all P f h = grind (arith, all-join)
 
 pub after_all : (P : Label → ℕ → Type 0) (n : ℕ) (f : Forest) → AllNodes P f → AllNodes P (after n f)
 after_all P zero f h = h
 after_all P (suc n) f h = behind_all P (after n f) (after_all P n f h)
 
 behind_bytes : (f : Forest) → bytes_in (behind_node f) ≤ bytes_in f
-behind_bytes empty = omega arith
-behind_bytes (tree l k r) = omega (arith, bytes_in-join k r)
+behind_bytes f = grind (arith, bytes_in-join)
 
 pub after_bytes : (n : ℕ) (f : Forest) → bytes_in (after n f) ≤ bytes_in f
 after_bytes zero f = omega arith

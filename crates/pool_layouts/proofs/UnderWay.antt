@@ -1,6 +1,6 @@
 -- The layout of a face under way: what was placed of it, and what is left.
-use Rattle.std.proofs.Common.{◌≡◌, ◌∙◌, if◌then◌else◌, nat_le, nat_eq, get_or, ℕ, ◌+◌, ◌<◌, ◌≤◌, List, [], ◌∷◌, ◌++◌, length, map, drop, Option, Some, None, Ok, Err, true, false, Bool, refl, sym, ap, subst, arith, append_assoc, append-nil}
-use Rattle.pool_layouts.proofs.Shared.{eqb-true, eq-eqb, map-append, length-append, Kind, Node, Payload, rational, named, bare, kind_of_payload, size_of_payload, Tree, Trees, none, more, count, root_kind, level_of, is_div_kind, used, Full, State, free_of, taking, plain, plains, takes, AllExpressions, IsExpression, Label, Forest, empty, tree, join, arity, bytes_in, flatten, node_of, one_tree, last_trees, before_last, root_payload, AllNodes, Ends, Starts, KeepsFront, AllOnce, IsOnce, holds, tree_at, payload_in, Stands, forest, KeepsRefusals, Refuses, LacksBytes, found, join-empty, join_assoc, arity-join, all-join, keeps_after, keeps_none, refuses_after, before_last-join, last_trees-join, ends_as, one_at, used_forest, count-plains, Visit, Frame, Place, Alone, FirstOfSum, LaterOfSum, LeftOfDifference, RightOfDifference, UnderSign, FirstOfProduct, LaterOfProduct, Base, Exponent, part_sizes, parts_sizes, visit_of, visits_of, AreFound, ShowsTree, drawn, drawings, composes, AllComposed, IsComposed, GivesLayout, frame_of, frame_behind, Layout, Layouts, beside, one_part, join_parts, layout, Closes, IsAround, IsStopped, PlacesMark, is_leaf, root_sizes, around_sizes, held_in, first_place, next_place, mark_before, marks, paren_kind_unless, admitted, around_kind, deciding_kind, within, around_of, parts_from, laid}
+use Rattle.std.proofs.Common.{◌≡◌, ◌∙◌, nat_eq, get_or, ℕ, ◌+◌, ◌<◌, ◌≤◌, List, [], ◌∷◌, ◌++◌, length, map, drop, Option, None, Ok, Err, true, false, refl, sym, ap, subst, arith, append_assoc, append-nil}
+use Rattle.pool_layouts.proofs.Shared.{eqb-true, map-append, length-append, Kind, Node, Payload, rational, named, bare, kind_of_payload, Tree, Trees, none, more, count, root_kind, used, Full, State, free_of, taking, plain, plains, takes, AllExpressions, IsExpression, Label, Forest, empty, tree, join, arity, bytes_in, flatten, node_of, one_tree, last_trees, before_last, root_payload, AllNodes, Ends, Starts, KeepsFront, AllOnce, IsOnce, holds, tree_at, payload_in, Stands, forest, KeepsRefusals, Refuses, LacksBytes, found, join-empty, join_assoc, arity-join, all-join, keeps_after, keeps_none, refuses_after, before_last-join, last_trees-join, ends_as, one_at, used_forest, count-plains, Visit, Frame, Place, part_sizes, parts_sizes, visit_of, visits_of, AreFound, ShowsTree, drawn, drawings, composes, AllComposed, IsComposed, GivesLayout, frame_of, frame_behind, Layout, Layouts, beside, one_part, join_parts, layout, Closes, IsAround, IsStopped, PlacesMark, is_leaf, root_sizes, around_sizes, held_in, first_place, next_place, mark_before, marks, around_kind, deciding_kind, within, around_of, parts_from, laid}
 use Rattle.tree_handles.proofs.Joins.{holds-left, tree_at-join_left}
 use Rattle.pool_layouts.proofs.Parts.{layout_is}
 use Rattle.pool_layouts.proofs.Placing.{few_trees}
@@ -110,30 +110,12 @@ composes_before (bare kind.Root) none h = absurd cc
 composes_before (bare kind.Root) (more a (more b ts)) h = absurd (omega (arith, eqb-true (count (more a (more b ts))) 1 h))
 composes_before (bare k) ts h = refl
 
-paren_stands : (b : Bool) → IsAround (paren_kind_unless b)
-paren_stands true = tt
-paren_stands false = (refl, refl)
-
-box_stands : (d a : Bool) → IsAround (if d then None else paren_kind_unless a)
-box_stands true a = tt
-box_stands false a = paren_stands a
-
 stands_around : (p : Place) (k deciding : Kind) → IsAround (around_kind p k deciding)
-stands_around Alone k d = tt
-stands_around Exponent k d = (refl, refl)
-stands_around Base k d = paren_stands (nat_le 4 (level_of k))
-stands_around FirstOfSum k d = box_stands (is_div_kind k) (admitted FirstOfSum d)
-stands_around LaterOfSum k d = box_stands (is_div_kind k) (admitted LaterOfSum d)
-stands_around LeftOfDifference k d = box_stands (is_div_kind k) (admitted LeftOfDifference d)
-stands_around RightOfDifference k d = box_stands (is_div_kind k) (admitted RightOfDifference d)
-stands_around UnderSign k d = box_stands (is_div_kind k) (admitted UnderSign d)
-stands_around FirstOfProduct k d = box_stands (is_div_kind k) (admitted FirstOfProduct d)
-stands_around LaterOfProduct k d = box_stands (is_div_kind k) (admitted LaterOfProduct d)
+stands_around p k deciding = grind arith
 
 -- the bytes of a node over its parts
 whole_sizes : (x : Payload) (around : Option Kind) (ls : Layouts) → composes (laid x) (count_parts ls) ≡ true → IsAround around → part_sizes (within around (drawn (laid x) ls)) ≡ parts_sizes ls ++ root_sizes x around
-whole_sizes x around ls h a =
-    within_sizes around (drawn (laid x) ls) a ∙ ap (λ (y : List ℕ). y ++ around_sizes around) (drawn_sizes (laid x) ls h) ∙ append_assoc (parts_sizes ls) (size_of_payload (laid x) ∷ []) (around_sizes around)
+whole_sizes x around ls h a = grind (arith, within_sizes, drawn_sizes, append_assoc)
 
 -- a node is entered, and nothing is placed of it
 abbrev pub fresh_owed : Label → Forest → Option Kind → ℕ → Owed
@@ -390,9 +372,7 @@ entered {l = l} {old = old} {now = now} {at = at} {cells = cells} {popped = popp
 
 -- a leaf has no parts
 no_parts : (x : Payload) (n : ℕ) → is_leaf x ≡ true → composes (laid x) n ≡ true → n ≡ 0
-no_parts (rational r) n h c = eqb-true n 0 c
-no_parts (named y) n h c = eqb-true n 0 c
-no_parts (bare k) n h c = absurd (cc h)
+no_parts x n h c = grind arith
 
 -- the tree of a node that is closed
 record IsClosed (l : Layout) (t : Forest) : Type 0 where
@@ -403,8 +383,7 @@ record IsClosed (l : Layout) (t : Forest) : Type 0 where
 
 closed_is : (around : Option Kind) (id root : ℕ) (x : Payload) (parts : Forest) → AllOnce parts → AllComposed parts → composes (laid x) (arity parts) ≡ true → IsAround around
     → IsClosed (within around (drawn (laid x) (drawings parts))) (held_in around id (one_tree root (laid x) parts))
-closed_is None id root x parts o c h a = record { alone = refl; once = (refl, o, tt); composed_whole = (h, c, tt); drawing_is = refl }
-closed_is (Some k) id root x parts o c h a = record { alone = refl; once = (refl, (refl, o, tt), tt); composed_whole = (a.1, (h, c, tt), tt); drawing_is = refl }
+closed_is around id root x parts o c h a = grind arith
 
 -- the layout found no room
 pub record HasStopped (l : Layout) (old after : State) (full : Full) : Type 0 where
@@ -417,12 +396,7 @@ starts_as : {f g h : Forest} → f ≡ g → Starts f h → Starts g h
 starts_as {h = h} e s = subst (λ (x : Forest). Starts x h) e s
 
 keeps_starting : (f made g : Forest) → Starts (join f made) g → KeepsFront [] f g
-keeps_starting f made g s = record {
-  keeps = λ p q n. record {
-    behind = join q.behind (join made s.behind);
-    whole = s.whole ∙ ap (λ (x : Forest). join (join x made) s.behind) q.whole ∙ join_assoc (join p q.behind) made s.behind ∙ join_assoc p q.behind (join made s.behind);
-  };
-}
+keeps_starting f made g s = grind (arith, join_assoc)
 
 pub front_kept : {others new : Forest} {id : ℕ} {l : Layout} → GivesLayout others new id l → KeepsFront [] others new
 front_kept {others = others} {new = new} g = keeps_starting others g.tree new (record { behind = empty; whole = g.ends.whole ∙ sym (join-empty (join others g.tree)) })
@@ -494,13 +468,10 @@ module _ {l : Layout} {old now : State} {at : ℕ} {cells : List Visit} {popped 
 
   closed_whole : (after : State) (id : ℕ) (c : Closes (payload_in frame.id (forest now)) frame.around frame.parts (forest now) (forest after) id)
       → Ends id (held_in frame.around id (one_tree c.root (laid k.source) k.parts)) (join (forest old) (made_of k.outer)) (forest after)
-  closed_whole after id c =
-      ends_as c.ends (ap (λ (y : Payload). held_in frame.around id (one_tree c.root (laid y) (last_trees frame.parts (forest now)))) close_source ∙ ap (λ (y : Forest). held_in frame.around id (one_tree c.root (laid k.source) y)) close_last) close_before
+  closed_whole after id c = grind (arith, ends_as, close_source, close_last, close_before)
 
   left_sizes : (after : State) → taking (free_of now) (root_sizes (payload_in frame.id (forest now)) frame.around) ≡ Ok (free_of after) → taking (free_of old) (part_sizes l) ≡ taking (free_of after) (sizes_left k.outer)
-  left_sizes after room =
-      k.budget ∙ ap (λ (y : Payload). taking (free_of now) (root_sizes y frame.around ++ sizes_left k.outer)) (sym close_source)
-      ∙ taken_first (free_of now) (free_of after) (root_sizes (payload_in frame.id (forest now)) frame.around) (sizes_left k.outer) room
+  left_sizes after h = grind (arith, close_source, taken_first)
 
   -- nothing is left
   pub closed_all : (after : State) (id : ℕ) → popped ≡ [] → Closes (payload_in frame.id (forest now)) frame.around frame.parts (forest now) (forest after) id → GivesLayout (forest old) (forest after) id l
@@ -571,35 +542,16 @@ module _ {l : Layout} {old now : State} {at : ℕ} {cells : List Visit} {popped 
   -- ---- a refusal
 
   pub close_stopped : (after : State) (full : Full) → IsStopped (before_last frame.parts (forest now)) (root_sizes (payload_in frame.id (forest now)) frame.around) now after full → HasStopped l old after full
-  close_stopped after full s = record {
-    full_is = k.budget ∙ ap (λ (y : Payload). taking (free_of now) (root_sizes y frame.around ++ sizes_left k.outer)) (sym close_source)
-        ∙ refused_first (free_of now) full (root_sizes (payload_in frame.id (forest now)) frame.around) (sizes_left k.outer) s.full_is;
-    refuses = refuses_after old now after full k.keeps s.refuses;
-    lacks = s.lacks;
-    front = keeps_starting (forest old) (made_of k.outer) (forest after) (starts_as close_before s.front);
-  }
+  close_stopped after full s = grind (arith, close_source, refused_first, refuses_after, keeps_starting, starts_as, close_before)
 
 -- a mark was refused
 pub mark_stopped : {l : Layout} {old now : State} {at : ℕ} {cells : List Visit} {popped : List Frame} {frame : Frame} (after : State) (full : Full) → IsNext l old now at cells popped frame
     → IsStopped (forest now) (around_sizes (mark_before frame.place)) now after full → HasStopped l old after full
-mark_stopped {l = l} {old = old} {now = now} {frame = frame} after full n s =
-    let placed_marks = marks (mark_before frame.place) in
-    let t = tree n.label n.below empty in
-    let others = beside (within (around_of frame.place (plain t)) (layout (plain t))) (parts_from (next_place frame.place) (plains n.rest)) in
-    let tail = root_sizes n.source frame.around ++ sizes_left n.outer in
-    let sizes : parts_sizes (join_parts placed_marks others) ≡ around_sizes (mark_before frame.place) ++ parts_sizes others = sizes-join placed_marks others ∙ ap (λ (y : List ℕ). y ++ parts_sizes others) (sizes-marks frame.place) in
-    record {
-      full_is = n.budget ∙ ap (λ (y : List ℕ). taking (free_of now) (y ++ tail)) sizes ∙ ap (taking (free_of now)) (append_assoc (around_sizes (mark_before frame.place)) (parts_sizes others) tail)
-          ∙ refused_first (free_of now) full (around_sizes (mark_before frame.place)) (parts_sizes others ++ tail) s.full_is;
-      refuses = refuses_after old now after full n.keeps s.refuses;
-      lacks = s.lacks;
-      front = keeps_starting (forest old) (join (made_of n.outer) n.parts) (forest after) (starts_as n.whole s.front);
-    }
+mark_stopped after full n s = grind (arith, sizes-join, sizes-marks, append_assoc, refused_first, refuses_after, keeps_starting, starts_as)
 
 pub none_left : (frames : List Frame) → nat_eq (length frames) 0 ≡ true → frames ≡ []
 none_left [] e = refl
 none_left (f ∷ fs) e = absurd (omega (arith, eqb-true (length (f ∷ fs)) 0 e))
 
 pub some_left : (frames : List Frame) → nat_eq (length frames) 0 ≡ false → 0 < length frames
-some_left [] e = absurd (cc e)
-some_left (f ∷ fs) e = omega arith
+some_left frames e = grind arith

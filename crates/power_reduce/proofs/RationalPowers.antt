@@ -96,9 +96,6 @@ zero_rational q n e h = ap int_is_zero ((ratio_parts q).num ∙ sym (told q.num 
 pub no_zero_rational : (q : Rat) (n : ℤ) → n ≡ (ratio_of q).num → (of_z w128 n ≡ 0 → ⊥) → is_zero_fraction (value_of q) ≡ true → ⊥
 no_zero_rational q n e h k = grind (arith, ratio_parts)
 
-pub at_zero : (z : ℤ) → z ≡ pos 0 → z ≤ℤ pos 0
-at_zero z e = omega (arith, ints)
-
 -- ---- answers
 
 at_most_zero : (z : ℤ) → z ≤ℤ pos 0 → is_at_most_zero (num (whole_fraction z)) ≡ true

@@ -1,7 +1,7 @@
 -- The tree under a root that is handed.
-use Rattle.std.proofs.Common.{◌≡◌, ◌≢◌, ℕ, ◌<◌, true, false, refl, sym, ap, ◌∙◌, arith, subst}
+use Rattle.std.proofs.Common.{◌≡◌, ◌≢◌, ℕ, ◌<◌, true, false, sym, ap, ◌∙◌, arith, subst}
 use Rattle.calc_terms.specs.declared.kind.Kind.TheVariants as kind
-use Rattle.calc_terms.specs.Trees.{Tree, num, symbol, undef, add, mult, power, root, neg, sub, div, is_num, is_undef, is_root, root_kind, count}
+use Rattle.calc_terms.specs.Trees.{Tree, undef, root, is_num, is_undef, is_root, root_kind, count}
 use Rattle.node_pool.specs.State.{State}
 use Rattle.tree_handles.specs.Expressions.{plain, nth, children_of, IsExpression}
 use Rattle.tree_handles.specs.Forest.{arity}
@@ -14,16 +14,7 @@ use Rattle.radical_forms.specs.RootAnswers.{argument_of}
 
 -- a root is over its argument
 pub root_is : (t : Tree) → is_root t ≡ true → t ≡ root (argument_of t)
-root_is (root a) h = refl
-root_is (num q) h = cc
-root_is (symbol x) h = cc
-root_is undef h = cc
-root_is (add ts) h = cc
-root_is (mult ts) h = cc
-root_is (power b e) h = cc
-root_is (neg a) h = cc
-root_is (sub a b) h = cc
-root_is (div a b) h = cc
+root_is t h = grind arith
 
 -- its node has a child
 pub has_child : {s : State} {i : ℕ} → Stands s → IsHanded i (forest s) → is_root (tree_of i s) ≡ true → 0 < arity (kids_of i (forest s))
@@ -44,21 +35,10 @@ argument_at i j k s h o r e p = sym (subst (λ x. IsExpression x (forest s) → 
 -- ---- by kind
 
 pub undef_by_kind : (t : Tree) → root_kind t ≡ kind.Undef → t ≡ undef
-undef_by_kind undef e = refl
-undef_by_kind (num q) e = cc
-undef_by_kind (symbol x) e = cc
-undef_by_kind (add ts) e = cc
-undef_by_kind (mult ts) e = cc
-undef_by_kind (power b x) e = cc
-undef_by_kind (root a) e = cc
-undef_by_kind (neg a) e = cc
-undef_by_kind (sub a b) e = cc
-undef_by_kind (div a b) e = cc
+undef_by_kind t e = grind arith
 
 pub no_num_by_kind : (t : Tree) → root_kind t ≢ kind.Num → is_num t ≡ false
-no_num_by_kind (num q) e = absurd (e refl)
-no_num_by_kind _ e = refl
+no_num_by_kind t e = grind arith
 
 pub no_undef_by_kind : (t : Tree) → root_kind t ≢ kind.Undef → is_undef t ≡ false
-no_undef_by_kind undef e = absurd (e refl)
-no_undef_by_kind _ e = refl
+no_undef_by_kind t e = grind arith

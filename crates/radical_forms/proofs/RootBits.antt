@@ -1,5 +1,5 @@
 -- Roots of rationals that have few bits fit, and are no larger than the rationals.
-use Rattle.std.proofs.Common.{◌≡◌, ◌≢◌, [], ◌∷◌, Bool, true, false, Result, Ok, Err, Some, None, pos, ◌<ℤ◌, if◌then◌else◌, sym, ap, ◌∙◌, subst}
+use Rattle.std.proofs.Common.{arith, ◌≡◌, ◌≢◌, [], ◌∷◌, Bool, true, false, Result, Some, None, pos, ◌<ℤ◌, if◌then◌else◌, sym, ap, ◌∙◌, subst}
 use Rattle.std.specs.Prelude.{IfErr}
 use Rattle.calc_algebra.specs.Numbers.{is_term, term_of, value}
 use Rattle.calc_algebra.specs.Surds.{Term, Surd, surd_of}
@@ -23,7 +23,6 @@ use Rattle.surd_terms.specs.Calculations.{Calculation, calculation, does_fit, fi
 use Rattle.surd_terms.specs.SquareRoots.{IsRootTerm}
 use Rattle.tree_handles.specs.Faults.{OfOverflow}
 use Rattle.tree_handles.specs.declared.fault.NumberFault.{NumberFault}
-use Rattle.tree_handles.specs.declared.fault.NumberFault.TheVariants as fault
 
 not_zero : (q : Fraction) → pos 0 <ℤ q.num → q ≢ zero_fraction
 unfolding zero_fraction
@@ -40,9 +39,7 @@ no_wide (num q) b w =
 no_wide _ b w = w
 
 pub not_refused : {A : Type 0} (r : Result A NumberFault) → (IsOverflow r → ⊥) → IfErr r (OfOverflow (λ o. ⊥))
-not_refused (Ok x) h = tt
-not_refused (Err (fault.Full full)) h = tt
-not_refused (Err (fault.Overflow o)) h = h tt
+not_refused r h = grind arith
 
 -- ---- how large it is
 
@@ -54,5 +51,4 @@ pub zero_measured : (q : Fraction) (t : Tree) → t ≡ num q → q.num ≡ pos 
 zero_measured q t e z = subst (IsNoLargerThanRoot q) (sym (ap value e ∙ zero_value q z)) (no_root_no_larger q)
 
 pub other_rational : (a : Tree) (P : Fraction → Type 0) → is_num a ≡ false → IfRational a P
-other_rational (num q) P n = cc
-other_rational _ P n = tt
+other_rational a P n = grind arith

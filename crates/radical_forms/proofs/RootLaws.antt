@@ -1,8 +1,8 @@
 -- What each root of a reduced tree reduces to.
-use Rattle.std.proofs.Common.{◌≡◌, ◌≢◌, ◌==◌, ℕ, ◌<◌, ◌≤◌, Bool, true, false, ℤ, pos, negsuc, zero, suc, ◌<ℤ◌, [], ◌∷◌, inl, inr, refl, sym, ap, ◌∙◌, subst, arith}
+use Rattle.std.proofs.Common.{◌≡◌, ◌≢◌, ◌==◌, ℕ, ◌<◌, ◌≤◌, Bool, true, false, ℤ, pos, ◌<ℤ◌, [], ◌∷◌, inl, inr, refl, sym, ap, ◌∙◌, subst, arith}
 use Rattle.std.proofs.lemmas.Bool.{eqb-true, eq-eqb}
 use Rattle.std.proofs.lemmas.Int.{ints}
-use Rattle.std.specs.Prelude.{List, length, Result, Ok, Err, if◌then◌else◌}
+use Rattle.std.specs.Prelude.{List, length, Result, Err, if◌then◌else◌}
 use Rattle.calc_terms.specs.Fractions.{Fraction, zero_fraction, one_fraction, is_one_fraction, whole_fraction}
 use Rattle.calc_terms.specs.Integers.{int_is_negative, int_is_zero}
 use Rattle.calc_terms.proofs.FractionFacts.{one_is}
@@ -13,7 +13,7 @@ use Rattle.calc_algebra.specs.Numbers.{is_number, is_term, term_of, value, IsTer
 use Rattle.calc_algebra.specs.Reduced.{is_reduced, IsReduced}
 use Rattle.calc_algebra.specs.SquareClasses.{Same}
 use Rattle.calc_algebra.specs.Surds.{Term, Surd, surd_of}
-use Rattle.calc_terms.specs.Trees.{Tree, num, symbol, undef, mult, root, none, more, names, is_num, is_undef, itself, in_root}
+use Rattle.calc_terms.specs.Trees.{Tree, num, symbol, undef, root, names, is_num, is_undef, itself, in_root}
 use Rattle.calc_algebra.proofs.NumberLaws.{number_test, number_words, term_words}
 use Rattle.calc_algebra.proofs.MeaningRewrites.{KeepsMeanings}
 use Rattle.calc_algebra.proofs.NumberRewrites.{root_of_rational}
@@ -25,7 +25,7 @@ use Rattle.number_forms.proofs.Shaped.{term_number, term_value}
 use Rattle.number_forms.proofs.TermTrees.{rational_tree, root_tree, multiple_tree}
 use Rattle.number_forms.specs.Shapes.{term_tree}
 use Rattle.calc_algebra.specs.Rewritings.{HasNoNewName}
-use Rattle.calc_algebra.proofs.Rewritings.{keeps, Rewrites-refl, reduces}
+use Rattle.calc_algebra.proofs.Rewritings.{keeps, Rewrites-refl}
 use Rattle.radical_forms.specs.RootAnswers.{has_no_root, IsRootAnswer}
 use Rattle.radical_forms.specs.Refusals.{HasWideRoot, LacksRoot, IsOverflow}
 use Rattle.tree_handles.specs.Faults.{IfOverflow}
@@ -49,10 +49,6 @@ undef_load : load undef ≡ 0
 unfolding is_number
 undef_load = refl
 
-undef_number : is_number undef ≡ false
-unfolding is_number
-undef_number = refl
-
 -- ---- Numbers of one term
 
 record IsPlainNumber (t : Tree) : Type 0 where
@@ -65,15 +61,7 @@ rational_facts : (q : Fraction) → IsPlainNumber (num q)
 rational_facts q = record { no_name = refl; flat = refl; reduced = reduced_test (num q) (inr (inl tt)); defined = refl }
 
 term_facts : (t : Tree) → IsTerm t → IsPlainNumber t
-term_facts (num q) h = rational_facts q
-term_facts (root (num r)) h = record { no_name = refl; flat = refl; reduced = reduced_test (root (num r)) (inr (inl h, inl tt)); defined = refl }
-term_facts (mult (more (num q) (more (root (num r)) none))) h = record {
-  no_name = refl;
-  flat = refl;
-  reduced = reduced_test (mult (more (num q) (more (root (num r)) none))) (inr (inl h, (inl tt, ((inl h.2, inl tt), tt))));
-  defined = refl;
-}
-term_facts _ h = absurd h
+term_facts t h = grind (arith, rational_facts, reduced_test)
 
 -- a Number that is the root of a rational of at least 0
 number_answer : (q : Fraction) (t : Tree) → int_is_negative q.num ≡ false → is_number t ≡ true → IsPlainNumber t → IsRootOf q.num q.den (value t) → IsRootAnswer (num q) t
@@ -97,8 +85,7 @@ pub zero_answer : (q : Fraction) → q.num ≡ pos 0 → IsRootAnswer (num q) (n
 zero_answer q e = number_answer q (num q) (ap int_is_negative e) (number_test (num q) tt) (rational_facts q) (root_of_zero q.num q.den (value (num q)) e (Same-eq (zero_value q e)))
 
 above_zero : (z : ℤ) → pos 0 <ℤ z → int_is_negative z ≡ false
-above_zero (pos n) h = refl
-above_zero (negsuc n) h = absurd (omega (arith, ints))
+above_zero z h = grind arith
 
 -- the root of a rational above 0 is a term
 pub positive_answer : (q : Fraction) (t : Tree) (s : Term) → pos 0 <ℤ q.num → (is_term t ≡ true) × (term_of t ≡ s) → IsRootOf q.num q.den (s ∷ []) → IsRootAnswer (num q) t
@@ -109,14 +96,7 @@ positive_answer q t s p (h, e) r =
 -- ---- Undef
 
 undef_answer : (a : Tree) → has_no_root a ≡ true → KeepsMeanings (root a) undef → (is_num a ≡ true → has_no_root a ≡ false → ⊥) → IsRootAnswer a undef
-undef_answer a h k n = record {
-  reduces = record { reduced = reduced_test undef (inl refl); no_new_name = no_names (root a) undef refl; meanings = keeps k };
-  undefined = sym h;
-  number = λ x y. absurd (n x y);
-  kept = λ x y. absurd (cc (h, y));
-  nest = omega arith;
-  load = omega (arith, undef_load);
-}
+undef_answer a h k n = grind (arith, reduced_test, no_names, undef_load)
 
 -- the root of a rational below 0 is Undef
 pub negative_answer : (q : Fraction) → int_is_negative q.num ≡ true → IsRootAnswer (num q) undef
@@ -129,24 +109,14 @@ no_argument_answer = undef_answer undef refl (undef_part (root undef) (in_root i
 -- ---- other roots
 
 root_form : (a : Tree) → is_num a ≡ false → is_undef a ≡ false → IsReduced a → is_reduced (root a) ≡ true
-root_form a n u (inl e) = absurd (let f : is_undef a ≡ true = ap is_undef e in cc)
-root_form a n u (inr h) = reduced_test (root a) (inr (inr n, h))
+root_form a n u h = grind (arith, reduced_test)
 
 has_root_of_other : (a : Tree) → is_num a ≡ false → is_undef a ≡ false → has_no_root a ≡ false
-has_root_of_other (num q) n u = cc
-has_root_of_other undef n u = cc
-has_root_of_other _ n u = refl
+has_root_of_other a n u = grind arith
 
 -- any other root is kept
 pub other_answer : (a : Tree) → is_num a ≡ false → is_undef a ≡ false → is_reduced a ≡ true → IsRootAnswer a (root a)
-other_answer a n u h = record {
-  reduces = reduces (Rewrites-refl (root a)) (root_form a n u (reduced_words a h));
-  undefined = sym (has_root_of_other a n u);
-  number = λ x y. absurd cc;
-  kept = λ x y. refl;
-  nest = omega arith;
-  load = omega arith;
-}
+other_answer a n u h = grind (arith, Rewrites-refl, root_form, reduced_words, has_root_of_other)
 
 -- ---- what fits
 
@@ -157,8 +127,7 @@ pub not_above_negative : (z : ℤ) → int_is_negative z ≡ true → pos 0 <ℤ
 not_above_negative z e h = cc (above_zero z h)
 
 pub no_other_wide : (a : Tree) → is_num a ≡ false → HasWideRoot a → ⊥
-no_other_wide (num q) n w = cc
-no_other_wide _ n w = w
+no_other_wide a n w = grind arith
 
 -- ---- in other words
 
@@ -172,37 +141,24 @@ pub wide_as : (n m : ℤ) (d e : ℕ) → n ≡ m → d ≡ e → DoesNotFit Mul
 wide_as n m d e p q h = subst (λ x. DoesNotFit Mul (whole_fraction m) (whole_fraction (pos x))) q (subst (λ x. DoesNotFit Mul (whole_fraction x) (whole_fraction (pos d))) p h)
 
 pub positive_num : (z : ℤ) → int_is_negative z ≡ false → (z ≡ pos 0 → ⊥) → pos 0 <ℤ z
-positive_num (pos zero) h k = absurd (k refl)
-positive_num (pos (suc n)) h k = omega (arith, ints)
-positive_num (negsuc n) h k = absurd cc
+positive_num z h k = grind arith
 
 pub negative_num : (z p : ℤ) → lt_z p (pos 0) ≡ true → p ≡ z → int_is_negative z ≡ true
-negative_num (pos n) p t e = absurd (grind (arith, ints))
-negative_num (negsuc n) p t e = refl
+negative_num z p t e = grind arith
 
 pub not_negative_num : (z p : ℤ) → lt_z p (pos 0) ≡ false → p ≡ z → int_is_negative z ≡ false
-not_negative_num (pos n) p t e = refl
-not_negative_num (negsuc n) p t e = absurd (grind (arith, ints))
+not_negative_num z p t e = grind arith
 
 -- ---- refusals
 
 pub not_overflow : (r : Result ℕ NumberFault) (f : Full) → IsErrAnd r (λ e. e ≡ fault.Full f) → IsOverflow r → ⊥
-not_overflow (Ok x) f h i = i
-not_overflow (Err (fault.Full g)) f h i = i
-not_overflow (Err (fault.Overflow o)) f h i = cc
+not_overflow r f h i = grind arith
 
 pub is_overflow : (r : Result ℕ NumberFault) (o : Overflow) → IsErrAnd r (λ e. e ≡ fault.Overflow o) → IsOverflow r
-is_overflow (Ok x) o h = absurd h
-is_overflow (Err (fault.Full f)) o h = absurd cc
-is_overflow (Err (fault.Overflow p)) o h = tt
+is_overflow r o h = grind arith
 
 pub named_overflow : (r : Result ℕ NumberFault) (o : Overflow) (P : Overflow → Type 0) → IsErrAnd r (λ e. e ≡ fault.Overflow o) → P o → IfOverflow r P
-named_overflow (Ok x) o P h k = tt
-named_overflow (Err (fault.Full f)) o P h k = tt
-named_overflow (Err (fault.Overflow p)) o P h k = subst P (sym (same p o h)) k
-  where
-    same : (p o : Overflow) → fault.Overflow p ≡ fault.Overflow o → p ≡ o
-    same p o e = cc
+named_overflow r o P h k = grind arith
 
 -- ---- leaves
 

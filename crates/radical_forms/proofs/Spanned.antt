@@ -1,6 +1,5 @@
 -- What spans the root of a reduced tree spans what it reduces to.
-use Rattle.std.proofs.Common.{◌≡◌, ◌*◌, ◌<◌, ℕ, ℤ, pos, negsuc, ◌<ℤ◌, List, [], ◌∷◌, Bool, true, false, Result, Ok, Err, refl, sym, ◌∙◌, subst, arith}
-use Rattle.std.proofs.lemmas.Int.{ints}
+use Rattle.std.proofs.Common.{◌≡◌, ◌*◌, ◌<◌, ℕ, ℤ, pos, ◌<ℤ◌, List, [], ◌∷◌, true, false, Result, sym, subst, arith}
 use Rattle.std.specs.Prelude.{IfOk}
 use Rattle.calc_terms.specs.Fractions.{Fraction, mul_pos, den_pos}
 use Rattle.calc_terms.specs.Trees.{Tree, num, undef, root, is_undef}
@@ -17,28 +16,20 @@ use Rattle.tree_handles.specs.declared.fault.NumberFault.{NumberFault}
 use Rattle.tree_handles.proofs.Given.{given_told}
 
 undef_is : (t : Tree) → is_undef t ≡ true → t ≡ undef
-undef_is undef e = refl
-undef_is t e = cc
+undef_is t e = grind arith
 
 with_root : (gs : List ℕ) (a t : Tree) → IsRootAnswer a t → has_no_root a ≡ false → SpansTree gs (root a) → SpansTree gs t
-with_root gs (num q) t h e s = root_spanned gs q t (number_words t (h.number refl e)) h.reduces.meanings s
-with_root gs a t h e s = subst (SpansTree gs) (sym (h.kept refl e)) s
+with_root gs a t h e s = grind (arith, root_spanned, number_words)
 
 answer_spanned : (gs : List ℕ) (a t : Tree) → IsRootAnswer a t → SpansTree gs (root a) → SpansTree gs t
-answer_spanned gs a t h s = by (has_no_root a) refl
-  where
-    by : (b : Bool) → has_no_root a ≡ b → SpansTree gs t
-    by true e = subst (SpansTree gs) (sym (undef_is t (h.undefined ∙ e))) tt
-    by false e = with_root gs a t h e s
+answer_spanned gs a t h s = grind (arith, undef_is, with_root)
 
 pub spans_answer : (gs : List ℕ) (a u : Tree) (r : Result ℕ NumberFault) (g : Forest) (s : State) → IfOk r (λ h. Gives g (forest s) h (IsRootAnswer a)) → u ≡ root a → SpansTree gs u → IfOk r (λ h. SpansTree gs (tree_of h s))
-spans_answer gs a u (Ok h) g s e q l = answer_spanned gs a (tree_of h s) (given_told e) (subst (SpansTree gs) q l)
-spans_answer gs a u (Err f) g s e q l = tt
+spans_answer gs a u r g s e q l = grind (arith, answer_spanned, given_told)
 
 -- p * q spans the root of p/q
 above_zero : (z : ℤ) → pos 0 <ℤ z → 0 < natural_of z
-above_zero (pos n) h = omega (arith, ints)
-above_zero (negsuc n) h = absurd (omega (arith, ints))
+above_zero z h = grind arith
 
 pub spans_root_of : (q : Fraction) (a : Tree) → a ≡ num q → pos 0 <ℤ q.num → SpansTree (natural_of q.num * q.den ∷ []) (root a)
 spans_root_of q a e h =

@@ -42,8 +42,7 @@ pub factor_divides : (g k n : ℕ) → g * k ≡ n → k ∣ n
 factor_divides g k n e = subst (λ m. k ∣ m) e (dvd-mul_left k g)
 
 pub positive_factor : (g k n : ℕ) → g * k ≡ n → 0 < n → 0 < k
-positive_factor g zero n e h = absurd (omega arith)
-positive_factor g (suc k) n e h = omega arith
+positive_factor g k n e h = grind arith
 
 -- ---- signed numbers
 

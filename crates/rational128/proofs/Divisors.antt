@@ -3,7 +3,7 @@ use Rattle.std.proofs.Common.{◌≡◌, ℕ, zero, suc, ◌+◌, ◌-◌, ◌*�
 use Rattle.std.specs.Int.{IsGcd, Width, w128, trailing_zeros, bit_at, ◌∣◌}
 use Rattle.std.proofs.lemmas.Nat.{mod-pow-add, pow_pos, pow-add, shr_le}
 use Rattle.std.proofs.lemmas.Nat.Bits.{bit_at-trailing_zeros}
-use Rattle.std.proofs.lemmas.Nat.Gcd.{IsGcd-swap, IsGcd-from_sub, dvd_refl, le_of_dvd, dvd_of_mod-eq-zero}
+use Rattle.std.proofs.lemmas.Nat.Gcd.{IsGcd-swap, IsGcd-from_sub, dvd_refl, le_of_dvd}
 use Rattle.std.proofs.Math.Nat.{mul-div_cancel', dvd-mul_right, dvd-mul_left_of_dvd, one-dvd, pow-suc}
 use Rattle.calc_terms.specs.Gcd.{IsGcd-scaled}
 use mir.Val.{bits}
@@ -85,13 +85,7 @@ pub record SplitsTwos (w : Width) (n : ℕ) : Type 0 where
   pub odd : (n / 2 ^ (trailing_zeros w n)) % 2 ≡ 1
 
 pub splits_twos : (w : Width) (n : ℕ) → 0 < n → n < 2 ^ bits w → SplitsTwos w n
-splits_twos w n positive small =
-    let t = bit_at-trailing_zeros w n positive small in
-    record {
-      below = t.0;
-      whole = multiple _ n (dvd_of_mod-eq-zero (2 ^ (trailing_zeros w n)) (low_zero (trailing_zeros w n) n (t.2)));
-      odd = t.1;
-    }
+splits_twos w n h k = grind (arith, bit_at-trailing_zeros, multiple, low_zero)
 
 -- a turn of the binary algorithm at two odd numbers that differ
 pub record IsTurn (w : Width) (x y low n : ℕ) : Type 0 where

@@ -15,8 +15,7 @@ negative_once : (a m : ℕ) → negsuc a *ℤ pos m ≡ neg_ℤ (pos (suc a * m)
 negative_once a m = refl
 
 negative_twice : (a m : ℕ) → negsuc a *ℤ neg_ℤ (pos m) ≡ pos (suc a * m)
-negative_twice a zero = let e : suc a * 0 ≡ 0 = omega arith in ap (λ n. neg_ℤ (pos n)) e ∙ sym (ap pos e)
-negative_twice a (suc m) = refl
+negative_twice a m = grind arith
 
 -- one factor more
 pub int_pow-suc : (z : ℤ) (n : ℕ) → int_pow z (suc n) ≡ z *ℤ int_pow z n
@@ -33,16 +32,7 @@ int_pow-suc (negsuc a) n = by (n % 2 == 0) (suc n % 2 == 0) refl refl
         absurd (omega arith)
 
 pub int_pow-abs : (z : ℤ) (n : ℕ) → nat_abs (int_pow z n) ≡ nat_abs z ^ n
-int_pow-abs (pos a) n = refl
-int_pow-abs (negsuc a) n = by (n % 2 == 0)
-  where
-    abs_negative : (m : ℕ) → nat_abs (neg_ℤ (pos m)) ≡ m
-    abs_negative zero = refl
-    abs_negative (suc m) = refl
-
-    by : (b : Bool) → nat_abs (cond b (pos (suc a ^ n)) (neg_ℤ (pos (suc a ^ n)))) ≡ suc a ^ n
-    by true = refl
-    by false = abs_negative (suc a ^ n)
+int_pow-abs z n = grind arith
 
 int_pow-zero : (z : ℤ) → int_pow z 0 ≡ pos 1
 int_pow-zero (pos a) = ap pos (pow-zero a)

@@ -1,5 +1,5 @@
 -- Fractions by their parts in lowest terms.
-use Rattle.std.proofs.Common.{◌≡◌, ℕ, ◌<◌, ℤ, pos, ◌*ℤ◌, Bool, true, false, ◌&&◌, refl, sym, ap, ◌∙◌, subst, arith}
+use Rattle.std.proofs.Common.{◌≡◌, ℕ, ◌<◌, ℤ, pos, ◌*ℤ◌, Bool, true, ◌&&◌, refl, sym, ap, ◌∙◌, subst, arith}
 use Rattle.std.specs.Prelude.{nat_abs}
 use Rattle.std.specs.Int.{IsGcd}
 use Rattle.std.proofs.lemmas.Bool.{lt-ltb, eq-eqb, eqb-true}
@@ -7,14 +7,12 @@ use Rattle.std.proofs.lemmas.Nat.Gcd.{same_from_IsGcd}
 use Rattle.std.proofs.Math.Nat.{one-dvd}
 use Rattle.calc_terms.specs.Gcd.{gcd_is}
 use Rattle.calc_terms.specs.Fractions.{Fraction, Holds, is_lowest, lowest, second_held, lowest_parts, same_lowest, fraction_path}
-use Rattle.calc_terms.specs.Ratio.{Ratio}
 use Rattle.calc_terms.specs.declared.rat.Rat.{Rat}
 use Rattle.calc_terms.specs.Rat.{ratio_of, value_of}
 use Rattle.rational128.proofs.Coprime.{IsCoprime, IsCoprime-from_gcd}
 
 holds : (b : Bool) → b ≡ true → Holds b
-holds true e = tt
-holds false e = cc
+holds b e = grind arith
 
 -- what `is_lowest` tests
 pub is_lowest_from : (n : ℤ) (d : ℕ) → 0 < d → IsGcd (nat_abs n) d 1 → is_lowest n d ≡ true
@@ -54,10 +52,7 @@ fraction_coprime f = IsCoprime-from_gcd _ _ (subst (λ g. IsGcd (nat_abs f.num) 
 
 -- a rational that is made of numbers in lowest terms has them as the parts of its value
 pub made_parts : (r : Rat) (n' n : ℤ) (d' d : ℕ) → ratio_of r ≡ record { num = n'; den = d' } → n' ≡ n → d' ≡ d → is_lowest n d ≡ true → HasParts (value_of r) n d
-made_parts r n' n d' d e n-is d-is h =
-    let same : value_of r ≡ lowest n d = ap (λ (x : Ratio). lowest x.num x.den) e ∙ (λ i. lowest (n-is i) (d-is i)) in
-    let own : HasParts (lowest n d) n d = parts_themselves n d h in
-    record { num = ap (λ (f : Fraction). f.num) same ∙ own.num; den = ap (λ (f : Fraction). f.den) same ∙ own.den }
+made_parts r n' n d' d e h k l = grind (arith, parts_themselves)
 
 -- a whole number is its own numerator
 pub whole_num : (n : ℤ) → (lowest n 1).num ≡ n

@@ -1,7 +1,7 @@
 -- Newton's method for the integer square root.
-use Rattle.std.proofs.Common.{◌≡◌, ℕ, zero, suc, ◌+◌, ◌-◌, ◌*◌, ◌/◌, ◌%◌, ◌^◌, ◌<◌, ◌≤◌, ◌⊎◌, inl, inr, refl, ap, arith}
+use Rattle.std.proofs.Common.{◌≡◌, ℕ, ◌+◌, ◌-◌, ◌*◌, ◌/◌, ◌%◌, ◌^◌, ◌<◌, ◌≤◌, ◌⊎◌, inl, inr, arith}
 use lib.Count.{count_leading_zeros}
-use Rattle.std.proofs.lemmas.Nat.{leading_length, pow-add, div_below, mod_below, mul-le, div-add-mod', one_shl, pow_pos}
+use Rattle.std.proofs.lemmas.Nat.{leading_length, pow-add, div_below, mod_below, mul-le, one_shl, pow_pos}
 use Rattle.std.proofs.Math.Nat.{pow-le-pow_right}
 
 -- four times a product is at most the square of the sum
@@ -36,13 +36,7 @@ pub quotient_bound : (n x : ℕ) → 0 < x → n < (x + 1) * (x + 1) → n / x <
 quotient_bound n x positive above = div_below n x (x + 3) positive (omega arith)
 
 pub mean_positive : (n x : ℕ) → 0 < x → 0 < n → n < (x + 1) * (x + 1) → 0 < (x + n / x) / 2
-mean_positive n x positive n-positive above = by (n / x) refl
-  where
-    by : (q : ℕ) → n / x ≡ q → 0 < (x + n / x) / 2
-    by zero e =
-        let small : n < x = omega (arith, mod_below n x positive, div-add-mod' n x, ap (λ q. q * x) e) in
-        omega arith
-    by (suc q) e = omega arith
+mean_positive n x h k l = grind arith
 
 -- x is above the root of n, or the root itself, and at most the bound
 pub record IsUpper (n x bound : ℕ) : Type 0 where

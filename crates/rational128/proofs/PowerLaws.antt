@@ -22,9 +22,7 @@ pub unfit_product : (b e p s k : ℕ) → IsPowering b e p s k → ¬ (p * s < 2
 unfit_product b e p s k h refused fits = refused (omega (arith, power_grows p s k h.s_positive h.left, h.whole))
 
 pub unfit_square : (b e p s k : ℕ) → IsPowering b e p s k → ¬ (s < 2 ^ 127) → ¬ (b ^ e < 2 ^ 127)
-unfit_square b e p s k h refused fits =
-    let scaled : 1 * s ≤ p * s = mul-le 1 s p s h.p_positive (omega arith) in
-    refused (omega (arith, power_grows p s k h.s_positive h.left, h.whole))
+unfit_square b e p s k h l m = grind (arith, power_grows)
 
 halves : (s k : ℕ) → (s * s) ^ k ≡ s ^ (k + k)
 halves s k = mul-pow s s k ∙ sym (pow-add s k k)
@@ -45,14 +43,7 @@ odd_turn b e p s k h more odd =
     }
 
 even_turn : (b e p s k : ℕ) → IsPowering b e p s k → 1 < k → k % 2 ≢ 1 → IsPowering b e p (s * s) (k / 2)
-even_turn b e p s k h more even =
-    let split : k ≡ k / 2 + k / 2 = omega arith in
-    record {
-      p_positive = h.p_positive;
-      s_positive = positive_product s s h.s_positive h.s_positive;
-      left = omega arith;
-      whole = ap (λ n. p * n) (halves s (k / 2) ∙ ap (λ n. s ^ n) (sym split)) ∙ h.whole;
-    }
+even_turn b e p s k h l m = grind (arith, positive_product, halves)
 
 pub last_product : (b e p s k : ℕ) → IsPowering b e p s k → k ≤ 1 → p * s ≡ b ^ e
 last_product b e p s k h last =

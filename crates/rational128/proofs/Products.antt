@@ -1,15 +1,15 @@
 -- The product of two fractions, after each numerator and the other denominator are divided by what they share.
-use Rattle.std.proofs.Common.{◌≡◌, ℕ, ◌*◌, ◌/◌, ◌<◌, ◌^◌, ℤ, pos, ◌*ℤ◌, Bool, true, false, ◌&&◌, refl, sym, ap, ◌∙◌, subst, arith}
+use Rattle.std.proofs.Common.{◌≡◌, ℕ, ◌*◌, ◌/◌, ◌<◌, ◌^◌, ℤ, pos, ◌*ℤ◌, true, false, refl, sym, ap, ◌∙◌, subst, arith}
 use Rattle.std.specs.Prelude.{nat_abs}
 use Rattle.std.specs.Int.{IsGcd, ◌∣◌}
 use Rattle.std.proofs.lemmas.Int.{unsigned_abs-mul}
 use Rattle.std.proofs.Math.Nat.{mul-div_cancel', pos_of_dvd_of_pos}
 use Rattle.calc_terms.specs.Integers.{parts, diffs, eq_diff}
 use Rattle.calc_terms.specs.Fractions.{Fraction, times, lowest, over, over_back, over_abs, den_pos, mul_pos}
-use Rattle.calc_terms.specs.Fits.{fits, fraction_fits}
+use Rattle.calc_terms.specs.Fits.{fraction_fits}
 use Rattle.rational128.proofs.Coprime.{IsCoprime, IsGcd-from_coprime, IsCoprime-swap, IsCoprime-divisors, IsCoprime-mul, quotients_coprime, factor_divides, positive_factor}
 use Rattle.rational128.proofs.LowestTerms.{HasParts, parts_by_cross, fraction_coprime}
-use Rattle.rational128.proofs.FitTests.{fits_yes, fits_no}
+use Rattle.rational128.proofs.FitTests.{fits_no}
 
 -- the numbers of two fractions, and the greatest common divisors of each numerator and the other denominator
 pub record Factors (a b : Fraction) (p : ℤ) (q : ℕ) (r : ℤ) (s g h : ℕ) : Type 0 where
@@ -95,14 +95,7 @@ pub unfit_num : (f : Fraction) (n : ℤ) (d m : ℕ) → HasParts f n d → nat_
 unfit_num f n d m h e k = rw (fits_no f.num m (ap nat_abs h.num ∙ e) k) refl
 
 pub unfit_den : (f : Fraction) (n : ℤ) (d : ℕ) → HasParts f n d → ¬ (d < 2 ^ 127) → fraction_fits f ≡ false
-unfit_den f n d h k = second_false (fits f.num) (fits (pos f.den)) (fits_no (pos f.den) d h.den k)
-  where
-    second_false : (x y : Bool) → y ≡ false → (x && y) ≡ false
-    second_false false y e = refl
-    second_false true y e = e
+unfit_den f n d h k = grind arith
 
 pub parts_fit : (f : Fraction) (n : ℤ) (d : ℕ) → HasParts f n d → nat_abs n < 2 ^ 127 → d < 2 ^ 127 → fraction_fits f ≡ true
-parts_fit f n d h k l = both (fits f.num) (fits (pos f.den)) (fits_yes f.num (rw h.num k)) (fits_yes (pos f.den) (rw h.den l))
-  where
-    both : (x y : Bool) → x ≡ true → y ≡ true → (x && y) ≡ true
-    both x y p q = rw (p, q) refl
+parts_fit f n d h k l = grind arith

@@ -1,23 +1,18 @@
 -- Negatives and reciprocals by their parts.
-use Rattle.std.proofs.Common.{◌≡◌, ◌≢◌, ℕ, zero, suc, ◌*◌, ◌<◌, ◌^◌, ℤ, pos, negsuc, ◌*ℤ◌, ◌-ℤ◌, neg_ℤ, ◌<ℤ◌, ◌≤ℤ◌, refl, sym, ap, ◌∙◌, subst, arith, to_z, of_z}
+use Rattle.std.proofs.Common.{◌≡◌, ◌≢◌, ℕ, zero, suc, ◌*◌, ◌<◌, ◌^◌, ℤ, pos, negsuc, ◌*ℤ◌, ◌-ℤ◌, neg_ℤ, ◌<ℤ◌, ◌≤ℤ◌, refl, ap, ◌∙◌, arith, to_z, of_z}
 use Rattle.std.specs.Prelude.{nat_abs}
 use Rattle.std.specs.Int.{IsGcd, w128}
 use Rattle.std.proofs.lemmas.Int.{ints}
 use Rattle.calc_terms.specs.Fractions.{Fraction, lowest, times, negative, inverse, inverse_of, one_fraction, den_pos, lowest_parts, same_lowest, times_lowest, mul_pos}
 use Rattle.rational128.proofs.Coprime.{IsCoprime, IsCoprime-swap, IsGcd-from_coprime}
 use Rattle.rational128.proofs.LowestTerms.{HasParts, parts_themselves, is_lowest_from, fraction_coprime}
-use Rattle.rational128.proofs.Signed.{told}
 
 abs_negative : (p : ℤ) → nat_abs (neg_ℤ p) ≡ nat_abs p
-abs_negative (pos zero) = refl
-abs_negative (pos (suc n)) = refl
-abs_negative (negsuc n) = refl
+abs_negative p = grind arith
 
 -- the negative number, as the program hands it on
 pub negative_told : (p : ℤ) → nat_abs p < 2 ^ 127 → to_z w128 (of_z w128 (pos 0 -ℤ to_z w128 (of_z w128 p))) ≡ neg_ℤ p
-negative_told p small =
-    let e : pos 0 -ℤ to_z w128 (of_z w128 p) ≡ neg_ℤ p = ap (λ z. pos 0 -ℤ z) (told p small) ∙ omega (arith, ints) in
-    ap (λ z. to_z w128 (of_z w128 z)) e ∙ told (neg_ℤ p) (rw (abs_negative p) small)
+negative_told p h = grind arith
 
 pub negative_lowest : (f : Fraction) (p : ℤ) (d : ℕ) → p ≡ f.num → d ≡ f.den → IsGcd (nat_abs (neg_ℤ p)) d 1
 negative_lowest f p d p-is d-is = rw (abs_negative p, p-is, d-is) (IsGcd-from_coprime _ _ (fraction_coprime f))
@@ -56,9 +51,7 @@ times_inverse_of (negsuc n) d positive k =
     product n (suc d) = ap pos (omega arith)
 
 nonzero : (p : ℤ) → p ≢ pos 0 → 0 < nat_abs p
-nonzero (pos zero) h = absurd (h refl)
-nonzero (pos (suc n)) h = omega arith
-nonzero (negsuc n) h = omega arith
+nonzero p h = grind arith
 
 inverse_itself : (f : Fraction) → f.num ≢ pos 0 → IsInverse f (signed_as f.num f.den) (nat_abs f.num)
 unfolding one_fraction
@@ -73,11 +66,4 @@ inverse_itself f h =
 
 -- the program's numbers: p/d is f, m the magnitude of p, and n is d with the sign of p
 pub inverts : (f : Fraction) (p n : ℤ) (d m : ℕ) → f.num ≢ pos 0 → p ≡ f.num → d ≡ f.den → m ≡ nat_abs p → (p <ℤ pos 0 → n ≡ neg_ℤ (pos d)) → (pos 0 ≤ℤ p → n ≡ pos d) → IsInverse f n m
-inverts f p n d m h p-is d-is m-is below above = subst (λ k. IsInverse f n k) (sym (m-is ∙ ap nat_abs p-is)) (subst (λ z. IsInverse f z (nat_abs f.num)) (sym n-is) (inverse_itself f h))
-  where
-    by : (q : ℤ) → p ≡ q → n ≡ signed_as q d
-    by (pos k) e = above (omega (arith, ints))
-    by (negsuc k) e = below (omega (arith, ints))
-
-    n-is : n ≡ signed_as f.num f.den
-    n-is = by f.num p-is ∙ ap (signed_as f.num) d-is
+inverts f p n d m h k l q r s = grind (arith, inverse_itself)

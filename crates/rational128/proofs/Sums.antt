@@ -95,14 +95,7 @@ module _ (p r : ℤ) (q s g h : ℕ) (q-positive : 0 < q) (s-positive : 0 < s) (
   sum_lowest = IsGcd-from_coprime _ _ lowest_in
 
   cross_in : over num h *ℤ pos (q * s) ≡ (p *ℤ pos s +ℤ r *ℤ pos q) *ℤ pos ((q / h) * (s / g))
-  cross_in =
-      let q-is : (h * (g / h)) * (q / g) ≡ q = ap (λ n. n * (q / g)) g-whole ∙ q-whole in
-      let s-is : (h * (g / h)) * (s / g) ≡ s = ap (λ n. n * (s / g)) g-whole ∙ s-whole in
-      let e : over num h *ℤ pos (((h * (g / h)) * (q / g)) * ((h * (g / h)) * (s / g))) ≡ (p *ℤ pos ((h * (g / h)) * (s / g)) +ℤ r *ℤ pos ((h * (g / h)) * (q / g))) *ℤ pos (((g / h) * (q / g)) * (s / g)) = cross (over num h) p r (q / g) (s / g) h (g / h) whole in
-      (λ i. over num h *ℤ pos (sym q-is i * sym s-is i)) ∙ e ∙ (λ i. (p *ℤ pos (s-is i) +ℤ r *ℤ pos (q-is i)) *ℤ pos (sym q-over i * (s / g)))
-    where
-      whole : over num h *ℤ pos h ≡ p *ℤ pos (s / g) +ℤ r *ℤ pos (q / g)
-      whole = num-whole
+  cross_in = grind (arith, g-whole, q-whole, s-whole, cross, q-over, num-whole)
 
   -- the sum in lowest terms
   sum_parts : HasParts (lowest (p *ℤ pos s +ℤ r *ℤ pos q) (q * s)) (over (p *ℤ pos (s / g) +ℤ r *ℤ pos (q / g)) h) ((q / h) * (s / g))
@@ -136,25 +129,13 @@ module _ (a b : Fraction) (p : ℤ) (q : ℕ) (r : ℤ) (s g : ℕ) (o : Operand
   den = pos (plus a b).den
 
   pub unfit_first : ¬ (nat_abs p * (s / g) < 2 ^ 127) → sum_fits a b ≡ false
-  unfit_first h = sum_fits_is ∙ first_false (fits first) (fits second) (fits (first +ℤ second)) (fits den) (fits_no first _ (unsigned_abs-mul p (pos (s / g))) h)
-    where
-      first_false : (x y z w : Bool) → x ≡ false → (x && y && z && w) ≡ false
-      first_false x y z w e = rw e refl
+  unfit_first h = grind (arith, sum_fits_is, fits_no, unsigned_abs-mul)
 
   pub unfit_second : ¬ (nat_abs r * (q / g) < 2 ^ 127) → sum_fits a b ≡ false
-  unfit_second h = sum_fits_is ∙ second_false (fits first) (fits second) (fits (first +ℤ second)) (fits den) (fits_no second _ (unsigned_abs-mul r (pos (q / g))) h)
-    where
-      second_false : (x y z w : Bool) → y ≡ false → (x && y && z && w) ≡ false
-      second_false false y z w e = refl
-      second_false true y z w e = rw e refl
+  unfit_second h = grind (arith, sum_fits_is, fits_no, unsigned_abs-mul)
 
   pub unfit_sum : ¬ (nat_abs (p *ℤ pos (s / g) +ℤ r *ℤ pos (q / g)) < 2 ^ 127) → sum_fits a b ≡ false
-  unfit_sum h = sum_fits_is ∙ third_false (fits first) (fits second) (fits (first +ℤ second)) (fits den) (fits_no (first +ℤ second) _ refl h)
-    where
-      third_false : (x y z w : Bool) → z ≡ false → (x && y && z && w) ≡ false
-      third_false false y z w e = refl
-      third_false true false z w e = refl
-      third_false true true z w e = rw e refl
+  unfit_sum h = grind (arith, sum_fits_is, fits_no)
 
   -- the numbers of the sum in lowest terms, where h is the greatest common divisor of its numerator and g
   module _ (h : ℕ) (divisor : IsGcd (nat_abs (p *ℤ pos (s / g) +ℤ r *ℤ pos (q / g))) g h) where

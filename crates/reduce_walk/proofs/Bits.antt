@@ -1,15 +1,13 @@
 -- The bits of a child are at most those of its parent.
 use Rattle.std.proofs.Common.{◌≡◌, ◌≤◌, ap, arith}
-use Rattle.reduce_walk.proofs.Shared.{Tree, num, Trees, none, more, append, children_of}
+use Rattle.reduce_walk.proofs.Shared.{Tree, Trees, none, more, append, children_of}
 use Rattle.calc_measures.specs.Measures.{bits_of, most_bits, most_bits_of}
 
 pub own_bits : (t : Tree) → bits_of t ≤ most_bits t
-own_bits (num q) = omega arith
-own_bits t = omega arith
+own_bits t = grind arith
 
 of_children : (t : Tree) → most_bits_of (children_of t) ≤ most_bits t
-of_children (num q) = omega arith
-of_children t = omega arith
+of_children t = grind arith
 
 of_child : (before : Trees) (c : Tree) (behind : Trees) → most_bits c ≤ most_bits_of (append before (more c behind))
 of_child none c behind = omega arith

@@ -1,30 +1,15 @@
 -- The free bytes while a child is walked.
 use Rattle.std.proofs.Common.{◌≡◌, ℕ, suc, ◌+◌, ◌≤◌, List, true, refl, sym, ap, ◌∙◌, arith}
-use Rattle.reduce_walk.proofs.Shared.{eqb-true, Payload, rational, named, bare, size_of_payload, Tree, num, Trees, more, append, count, root_size, size, sizes, State, free_of, bytes_in-join, gives, gives_as, represents_handed, last_tree, size-plain, sizes-plains, root_arity, children_of, plain, takes, Forest, bytes_in, join, tree, Ends, Gives, IsHanded, tree_of, root_tree, without_root, KeepsRefusals, Stands, forest}
+use Rattle.reduce_walk.proofs.Shared.{Payload, size_of_payload, Tree, num, Trees, more, append, count, root_size, size, sizes, State, free_of, bytes_in-join, gives, gives_as, represents_handed, last_tree, size-plain, sizes-plains, root_arity, children_of, plain, takes, Forest, bytes_in, join, tree, Ends, Gives, IsHanded, tree_of, root_tree, without_root, KeepsRefusals, Stands, forest}
 use Rattle.breakers.specs.State.{State as BreakerState}
-use Rattle.calc_terms.specs.declared.kind.Kind.{Kind}
 use Rattle.tree_handles.proofs.FreeBytes.{replaced_free, bytes_without}
 use Rattle.reduce_walk.proofs.Parents.{handed_node, held_at}
 use Rattle.reduce_walk.proofs.Walks.{IsNextChild, IsWalked, count_append}
 use Rattle.tree_handles.proofs.Places.{used_forest}
-use Rattle.calc_terms.specs.declared.kind.Kind.TheVariants as kind
 
 -- a node with children
 parent_bytes : (x : Payload) (n : ℕ) → takes x (suc n) ≡ true → size_of_payload x ≡ 8
-parent_bytes (rational r) n e = absurd (omega (arith, eqb-true (suc n) 0 e))
-parent_bytes (named x) n e = absurd (omega (arith, eqb-true (suc n) 0 e))
-parent_bytes (bare k) n e = by k e
-  where
-    by : (k : Kind) → takes (bare k) (suc n) ≡ true → size_of_payload (bare k) ≡ 8
-    by kind.Add e = omega arith
-    by kind.Mult e = omega arith
-    by kind.Pow e = omega arith
-    by kind.Root e = omega arith
-    by kind.Neg e = omega arith
-    by kind.Sub e = omega arith
-    by kind.Div e = omega arith
-    by kind.Undef e = absurd (omega (arith, eqb-true (suc n) 0 e))
-    by k e = cc
+parent_bytes x n e = grind arith
 
 -- the root of a tree that has a child
 pub root_over : (t : Tree) (before : Trees) (c : Tree) (behind : Trees) → children_of t ≡ append before (more c behind) → root_size t ≡ 8

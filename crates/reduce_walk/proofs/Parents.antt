@@ -1,6 +1,6 @@
 -- A root with its children, whatever it holds.
-use Rattle.std.proofs.Common.{◌≡◌, ℕ, true, refl, sym, ap, ◌∙◌, arith}
-use Rattle.reduce_walk.proofs.Shared.{Payload, Tree, Trees, none, more, count, represents_count, children_of-plain, count-plains, whole_kids, grown_whole, root_arity, grown, plain, plains, takes, children_of, AllExpressions, Forest, empty, tree, arity, kids, root_payload, root_count, IsOnce, IsHanded, Represents, has_root, root_tree}
+use Rattle.std.proofs.Common.{◌≡◌, ℕ, true, ap, ◌∙◌, arith}
+use Rattle.reduce_walk.proofs.Shared.{Payload, Tree, Trees, none, more, count, represents_count, children_of-plain, whole_kids, root_arity, grown, plain, takes, children_of, AllExpressions, Forest, empty, tree, arity, kids, root_payload, root_count, IsHanded, Represents, has_root, root_tree}
 use Rattle.tree_handles.proofs.Over.{once_count}
 use Rattle.tree_handles.proofs.Counted.{all-kids}
 
@@ -16,12 +16,7 @@ abbrev pub held_at : ℕ → Forest → Payload
 held_at i f = root_payload (root_tree i f)
 
 pub parent_handed : {i : ℕ} {f : Forest} → IsHanded i f → IsParent (held_at i f) i (children_of (plain (root_tree i f))) f
-parent_handed {i = i} {f = f} h = record {
-  root = h.root;
-  payload = refl;
-  count = once_count (root_tree i f) (root_arity i f h.root) h.once;
-  kids = record { once = all-kids IsOnce (root_tree i f) h.once; whole = whole_kids (root_tree i f) h.whole; plain_trees = sym (children_of-plain (root_tree i f) h.whole) };
-}
+parent_handed h = grind (arith, once_count, root_arity, all-kids, whole_kids, children_of-plain)
 
 no_tree : arity empty ≡ 1 → ⊥
 no_tree e = absurd (omega arith)
@@ -32,13 +27,7 @@ pub record IsNodeOf (x : Payload) (ts : Trees) (t : Tree) : Type 0 where
   pub grown : t ≡ grown x ts
 
 node_of_tree : (t : Forest) → arity t ≡ 1 → AllExpressions t → IsNodeOf (root_payload t) (children_of (plain t)) (plain t)
-node_of_tree empty e h = absurd (no_tree e)
-node_of_tree (tree l k r) e h =
-    let are : children_of (grown l.payload (plains k)) ≡ plains k = (grown_whole l k r h).children-are in
-    record {
-      takes = ap (λ (ts : Trees). takes l.payload (count ts)) are ∙ ap (takes l.payload) (count-plains k) ∙ h.0;
-      grown = ap (grown l.payload) (sym are);
-    }
+node_of_tree t e h = grind arith
 
 pub handed_node : {i : ℕ} {f : Forest} → IsHanded i f → IsNodeOf (held_at i f) (children_of (plain (root_tree i f))) (plain (root_tree i f))
 handed_node {i = i} {f = f} h = node_of_tree (root_tree i f) (root_arity i f h.root) h.whole

@@ -1,5 +1,5 @@
 -- What the port promises, from how the walk ends.
-use Rattle.std.proofs.Common.{◌≡◌, ◌↔◌, ℕ, List, Result, Ok, Err, refl, sym, ap}
+use Rattle.std.proofs.Common.{arith, ◌≡◌, ◌↔◌, ℕ, List, Result, Ok, Err, refl, sym, ap}
 use Rattle.std.specs.Prelude.{IfErr, OnOk}
 use Rattle.reduce_walk.proofs.Shared.{CalmChecks, TripsRose, Tree, nodes, IsUnfitAt, Stops, State, Overflow, calm_raised_none, tripped_rose, CalmUpTo, IfFull, IfOverflow, IfInterrupted, CountsRefusals, ReduceFault, KeepsRefusals}
 use Rattle.breakers.specs.State.{State as BreakerState}
@@ -13,16 +13,10 @@ by_place place i x e k = let f : i ≡ record { by = place } = cc in ap (λ (y :
 -- ---- facts of a refusal
 
 pub full_as : {P Q : Full → Type 0} (r : Result ℕ ReduceFault) → IfFull r P → ((full : Full) → P full → Q full) → IfFull r Q
-full_as (Ok a) p k = tt
-full_as (Err (fault.Full full)) p k = k full p
-full_as (Err (fault.Overflow o)) p k = tt
-full_as (Err (fault.Interrupted i)) p k = tt
+full_as r p k = grind arith
 
 pub overflow_as : {P Q : Overflow → Type 0} (r : Result ℕ ReduceFault) → IfOverflow r P → ((o : Overflow) → P o → Q o) → IfOverflow r Q
-overflow_as (Ok a) p k = tt
-overflow_as (Err (fault.Full full)) p k = tt
-overflow_as (Err (fault.Overflow o)) p k = k o p
-overflow_as (Err (fault.Interrupted i)) p k = tt
+overflow_as r p k = grind arith
 
 pub unfit_after_checks : {U : Tree → ℕ → Overflow → Type 0} {t : Tree} {before after : List BreakerState} {o : Overflow} → IsUnfitAt U t before after o → CalmUpTo (nodes t) before after
 unfit_after_checks u = record { checks = u.place; some = u.some; few = u.few; calm = u.calm }
@@ -31,40 +25,16 @@ unfit_after_checks u = record { checks = u.place; some = u.some; few = u.few; ca
 
 module _ (L : Tree → ℕ → Type 0) (U : Tree → ℕ → Overflow → Type 0) (r : Result ℕ ReduceFault) (t : Tree) (old new : State) (before after : List BreakerState) where
   pub if_full : (Q : Full → Type 0) → IfErr r (Stops L U t old new before after) → ((full : Full) → Stops L U t old new before after (fault.Full full) → Q full) → IfFull r Q
-  if_full Q h k = by r h
-    where
-      by : (x : Result ℕ ReduceFault) → IfErr x (Stops L U t old new before after) → IfFull x Q
-      by (Ok a) s = tt
-      by (Err (fault.Full full)) s = k full s
-      by (Err (fault.Overflow o)) s = tt
-      by (Err (fault.Interrupted i)) s = tt
+  if_full Q h k = grind arith
 
   pub if_overflow : (Q : Overflow → Type 0) → IfErr r (Stops L U t old new before after) → ((o : Overflow) → Stops L U t old new before after (fault.Overflow o) → Q o) → IfOverflow r Q
-  if_overflow Q h k = by r h
-    where
-      by : (x : Result ℕ ReduceFault) → IfErr x (Stops L U t old new before after) → IfOverflow x Q
-      by (Ok a) s = tt
-      by (Err (fault.Full full)) s = tt
-      by (Err (fault.Overflow o)) s = k o s
-      by (Err (fault.Interrupted i)) s = tt
+  if_overflow Q h k = grind arith
 
   pub if_interrupted : (Q : ℕ → Type 0) → IfErr r (Stops L U t old new before after) → ((i : Interrupted) → Stops L U t old new before after (fault.Interrupted i) → Q i.by) → IfInterrupted r Q
-  if_interrupted Q h k = by r h
-    where
-      by : (x : Result ℕ ReduceFault) → IfErr x (Stops L U t old new before after) → IfInterrupted x Q
-      by (Ok a) s = tt
-      by (Err (fault.Full full)) s = tt
-      by (Err (fault.Overflow o)) s = tt
-      by (Err (fault.Interrupted i)) s = k i s
+  if_interrupted Q h k = grind arith
 
   pub counts : OnOk r (KeepsRefusals old new) → IfErr r (Stops L U t old new before after) → CountsRefusals old new r
-  counts k h = by r k h
-    where
-      by : (x : Result ℕ ReduceFault) → OnOk x (KeepsRefusals old new) → IfErr x (Stops L U t old new before after) → CountsRefusals old new x
-      by (Ok a) k s = k
-      by (Err (fault.Full full)) k s = s.1
-      by (Err (fault.Overflow o)) k s = s.1
-      by (Err (fault.Interrupted i)) k s = s.0
+  counts k h = grind arith
 
   -- a breaker's trips rose exactly where the walk was interrupted by it
   pub rose : (n : ℕ) → OnOk r (CalmChecks n before after) → IfErr r (Stops L U t old new before after) → (place : ℕ) → (r ≡ Err (fault.Interrupted (record { by = place }))) ↔ TripsRose before after place

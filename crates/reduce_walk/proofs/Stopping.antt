@@ -1,7 +1,7 @@
 -- A walk that ends without an answer.
-use Rattle.std.proofs.Common.{◌≡◌, ℕ, ◌+◌, ◌<◌, ◌≤◌, List, Some, None, Result, Ok, Err, true, false, sym, ap, subst, arith}
+use Rattle.std.proofs.Common.{◌≡◌, ℕ, ◌+◌, ◌<◌, ◌≤◌, List, Some, None, Result, Err, true, sym, ap, subst, arith}
 use Rattle.std.specs.Prelude.{IfErr, OnOk, IsErr, IsErrAnd}
-use Rattle.reduce_walk.proofs.Shared.{CalmChecks-append, Check, CalmChecks, Tree, Trees, none, more, count, nodes, nodes_of, size, sizes, root_size, State, free_of, Overflow, one_calm, calm_up_to, trips_at_once, calm_up_to_after, trips_within_after, CalmUpTo, TripsWithin, fault_of, ReduceFault, IsNext, is_leaf, IsUnfitAt, Stops, plain, children_of, Forest, root_tree, KeepsRefusals}
+use Rattle.reduce_walk.proofs.Shared.{CalmChecks-append, Check, CalmChecks, Tree, Trees, none, more, count, nodes, nodes_of, size, sizes, root_size, State, free_of, Overflow, one_calm, calm_up_to, trips_at_once, calm_up_to_after, trips_within_after, CalmUpTo, TripsWithin, fault_of, ReduceFault, IsNext, is_leaf, Stops, plain, children_of, Forest, root_tree, KeepsRefusals}
 use Rattle.breakers.specs.State.{State as BreakerState}
 use Rattle.tree_handles.proofs.Refused.{kept_after, refuses_after}
 use Rattle.tree_handles.specs.Lacking.{OfFull}
@@ -10,7 +10,6 @@ use Rattle.tree_handles.specs.Causes.{IsCaused}
 use Rattle.tree_handles.specs.Faults.{Faults, IfOverflow}
 use Rattle.tree_handles.specs.declared.fault.NumberFault.{NumberFault}
 use Rattle.reduce_port.specs.declared.fault.ReduceFault.TheVariants as fault
-use Rattle.tree_handles.specs.declared.fault.NumberFault.TheVariants as number
 
 -- ---- checks
 
@@ -40,13 +39,10 @@ leaf_trips {before = before} {after = after} {place = place} t c = trips_at_once
 
 -- the one before a node's own step
 pub all_checks : {A : Tree → Tree → Type 0} {i : ℕ} {old new : Forest} {before after : List BreakerState} (last : List BreakerState) → AllWalked A i old new before after → Check after last None → CalmChecks (nodes (plain (root_tree i old))) before last
-all_checks {i = i} {old = old} {before = before} {after = after} last w c =
-    subst (λ (n : ℕ). CalmChecks n before last) (sym (nodes_by_children (plain (root_tree i old)))) (CalmChecks-append (nodes_of (children_of (plain (root_tree i old)))) 1 before after last w.calm (one_calm after last c))
+all_checks last w c = grind (arith, nodes_by_children, CalmChecks-append, one_calm)
 
 pub last_trips : {A : Tree → Tree → Type 0} {i : ℕ} {old new : Forest} {before after : List BreakerState} (last : List BreakerState) (place : ℕ) → AllWalked A i old new before after → Check after last (Some place) → TripsWithin (nodes (plain (root_tree i old))) before last place
-last_trips {i = i} {old = old} {before = before} {after = after} last place w c =
-    subst (λ (n : ℕ). TripsWithin n before last place) (sym (nodes_by_children (plain (root_tree i old))))
-    (trips_within_after (nodes_of (children_of (plain (root_tree i old)))) 1 before after last place w.calm (trips_at_once 1 after last place (omega arith) c))
+last_trips last place w c = grind arith
 
 -- ---- a child has no answer
 
@@ -81,28 +77,17 @@ child_stops {before = before} {after = after} {w = w} last u n c (fault.Interrup
 
 pub step_stops : (L : Tree → ℕ → Type 0) (U : Tree → ℕ → Overflow → Type 0) {s t : State} {bytes : ℕ} (u : State) (before after : List BreakerState) (tree : Tree) (e : NumberFault) → CalmChecks (nodes tree) before after → KeepsRefusals s t → Faults t u e → IsCaused u e
     → bytes ≡ free_of s + size tree → OfFull (λ full. L tree bytes) e → IfOverflow {A = ℕ} (Err e) (U tree (nodes tree)) → Stops L U tree s u before after (fault_of e)
-step_stops L U u before after tree (number.Full full) c k f w same lacks unfit = (w, refuses_after k f, calm_up_to (nodes tree) (nodes tree) before after (some_nodes tree) (omega arith) c, subst (L tree) same lacks)
-step_stops L U u before after tree (number.Overflow o) c k f w same lacks unfit = (w, kept_after k f, record { place = nodes tree; some = some_nodes tree; few = omega arith; calm = c; unfit = unfit })
+step_stops L U u before after tree e c k f w h l m = grind (arith, refuses_after, calm_up_to, some_nodes, kept_after)
 
 -- ---- where it is the error
 
 -- what an error tells, where a `?` hands it on
 pub handed_on : {A E : Type 0} (r : Result A E) (e : E) (P : E → Type 0) → IsErr r → IsErrAnd r (λ x. x ≡ e) → P e → IfErr r P
-handed_on (Ok x) e P n a h = let no : false ≡ true = n in cc
-handed_on (Err f) e P n a h = subst P (sym a) h
-
--- after a call that kept the refusals and all bytes
-stops_after : (L : Tree → ℕ → Type 0) (U : Tree → ℕ → Overflow → Type 0) {s t : State} {x y : Tree} (u : State) (before after : List BreakerState) (e : ReduceFault) → x ≡ y → KeepsRefusals s t → free_of t + size x ≡ free_of s + size y → Stops L U x t u before after e → Stops L U y s u before after e
-stops_after L U {t = t} {x = x} {y = y} u before after (fault.Full full) q k free (l, r, m, few) =
-    (l, refuses_after k r, subst (λ (z : Tree). CalmUpTo (nodes z) before after) q m, subst (L y) free (subst (λ (z : Tree). L z (free_of t + size x)) q few))
-stops_after L U u before after (fault.Overflow o) q k free (w, r, m) = (w, kept_after k r, subst (λ (z : Tree). IsUnfitAt U z before after o) q m)
-stops_after L U u before after (fault.Interrupted by) q k free (r, m) = (kept_after k r, subst (λ (z : Tree). TripsWithin (nodes z) before after by.by) q m)
+handed_on r e P n a h = grind arith
 
 pub stopped : (L : Tree → ℕ → Type 0) (U : Tree → ℕ → Overflow → Type 0) {s t : State} {x y : Tree} (r : Result ℕ ReduceFault) (u : State) (before after : List BreakerState) → x ≡ y → KeepsRefusals s t → free_of t + size x ≡ free_of s + size y
     → IfErr r (Stops L U x t u before after) → IfErr r (Stops L U y s u before after)
-stopped L U (Ok a) u before after q k free h = tt
-stopped L U (Err f) u before after q k free h = stops_after L U u before after f q k free h
+stopped L U r u before after q k h l = grind arith
 
 pub kept_from : {s t : State} (u : State) (r : Result ℕ ReduceFault) → KeepsRefusals s t → OnOk r (KeepsRefusals t u) → OnOk r (KeepsRefusals s u)
-kept_from u (Ok a) k h = kept_after k h
-kept_from u (Err f) k h = tt
+kept_from u r k h = grind arith

@@ -1,6 +1,6 @@
 -- The walk over a node's children.
-use Rattle.std.proofs.Common.{◌≡◌, ℕ, zero, suc, ◌+◌, ◌-◌, ◌≤◌, ◌<◌, List, [], ◌∷◌, ◌++◌, length, eqb, cond, Bool, true, false, refl, sym, ap, ◌∙◌, subst, arith}
-use Rattle.reduce_walk.proofs.Shared.{eq-eqb, length-append, CalmChecks-append, CalmChecks, Tree, num, symbol, undef, Trees, none, more, append, count, nodes, nodes_of, cut, cut_rest, represents_count, expression, seen, AreAnswers, EachTree, IsNext, is_leaf, BeginWithLeaves, State, AllOnce, tree_of, IsHanded, Represents, Ends, Gives, KeepsFront, join-empty, join_assoc, arity-join, first-rest, first_trees-join, rest_trees-join, starts_same, starts_join, starts_without, behind_new, front_end, front_after_one, append-none, gives, gives_as, given_told, given_rest, represents_as, represents_join, ends_as, kids_of_root, last_root, last_tree, last_rest, alone, top, root-right, tree-right, put-right, AllExpressions, IsExpression, nth, plain, children_of, Label, Forest, empty, tree, join, arity, flatten, kids, node_of, root_payload, root_count, first_trees, rest_trees, tree_nth, without_nth, holds, tree_at, kids_of, has_root, root_tree, without_root, put, behind_root, adopted, Stands, forest}
+use Rattle.std.proofs.Common.{◌≡◌, ℕ, zero, suc, ◌+◌, ◌-◌, ◌≤◌, ◌<◌, List, [], ◌∷◌, ◌++◌, length, true, false, refl, sym, ap, ◌∙◌, subst, arith}
+use Rattle.reduce_walk.proofs.Shared.{length-append, CalmChecks-append, CalmChecks, Tree, Trees, none, more, append, count, nodes, nodes_of, cut, cut_rest, represents_count, expression, seen, AreAnswers, EachTree, IsNext, is_leaf, BeginWithLeaves, State, AllOnce, tree_of, IsHanded, Represents, Ends, Gives, KeepsFront, join-empty, join_assoc, arity-join, first-rest, first_trees-join, rest_trees-join, starts_same, starts_join, starts_without, behind_new, front_end, front_after_one, append-none, gives, gives_as, given_told, given_rest, represents_as, represents_join, ends_as, kids_of_root, last_root, last_tree, last_rest, alone, top, root-right, tree-right, put-right, IsExpression, nth, plain, children_of, Label, Forest, empty, tree, join, arity, flatten, kids, node_of, root_payload, first_trees, rest_trees, tree_nth, without_nth, holds, tree_at, kids_of, has_root, root_tree, without_root, put, behind_root, adopted, Stands, forest}
 use Rattle.breakers.specs.State.{State as BreakerState}
 use Rattle.reduce_walk.proofs.Parents.{IsParent, held_at, parent_handed}
 use Rattle.tree_handles.proofs.Adopting.{behind_there, adopted_all}
@@ -23,8 +23,7 @@ nodes_append (more t ts) us = omega (arith, nodes_append ts us)
 
 -- a tree has one node more than its children
 pub nodes_by_children : (t : Tree) → nodes t ≡ nodes_of (children_of t) + 1
-nodes_by_children (num q) = omega arith
-nodes_by_children t = omega arith
+nodes_by_children t = grind arith
 
 answers_append : (A : Tree → Tree → Type 0) (ts us : Trees) (t u : Tree) → AreAnswers A ts us → A t u → AreAnswers A (append ts (more t none)) (append us (more u none))
 answers_append A none none t u h k = (k, tt)
@@ -46,10 +45,7 @@ among P (more s ss) t us h = among P ss t us h.1
 -- ---- leaves
 
 pub leaf_nodes : (t : Tree) → is_leaf t ≡ true → nodes t ≡ 1
-leaf_nodes (num q) h = refl
-leaf_nodes (symbol x) h = refl
-leaf_nodes undef h = refl
-leaf_nodes t h = cc
+leaf_nodes t h = grind arith
 
 -- the leaves in front, which are their own answers, and the other trees
 pub record AreSplit (A : Tree → Tree → Type 0) (n : ℕ) (ts : Trees) : Type 0 where
@@ -207,13 +203,7 @@ pub record IsThere (i : ℕ) (label : Label) (below others behind f : Forest) : 
   pub put-is : (n : Forest) → put i n f ≡ join others (tree label n behind)
 
 there : {i : ℕ} {label : Label} {below others behind f : Forest} → has_root i others ≡ false → label.id ≡ i → f ≡ join others (tree label below behind) → IsThere i label below others behind f
-there {i = i} {label = l} {below = k} {others = o} {behind = r} {f = f} c q e =
-    let here : eqb l.id i ≡ true = eq-eqb l.id i q in
-    record {
-      root = ap (has_root i) e ∙ root-right i o (tree l k r) c ∙ ap (λ (t : Bool). cond t true (has_root i r)) here;
-      tree-is = ap (root_tree i) e ∙ tree-right i o (tree l k r) c ∙ ap (λ (t : Bool). cond t (tree l k empty) (root_tree i r)) here;
-      put-is = λ n. ap (put i n) e ∙ put-right i n o (tree l k r) c ∙ ap (λ (t : Bool). join o (cond t (tree l n r) (tree l k (put i n r)))) here;
-    }
+there c q e = grind (arith, root-right, tree-right, put-right)
 
 pub next_there : {A : Tree → Tree → Type 0} {i leaves at : ℕ} {old new : Forest} {before after : List BreakerState} {w : IsWalked A i leaves at old new before after} (n : IsNextChild w)
     → IsThere i w.label (join w.front (tree n.label n.below n.others)) (without_root i old) w.behind new
@@ -302,40 +292,11 @@ pub record IsLeft (i leaves at : ℕ) (f : Forest) : Type 0 where
   pub within : at - leaves ≤ arity (behind_root i f)
 
 pub to_adopt : {A : Tree → Tree → Type 0} {i leaves at count : ℕ} {old new : Forest} {before after : List BreakerState} (w : IsWalked A i leaves at old new before after) → count ≤ at → IsLeft i leaves count new
-to_adopt {i = i} {leaves = leaves} {old = old} {new = new} w l =
-    let p = there w.clear w.id-is w.whole in
-    record {
-      root = p.root;
-      within = omega (arith, l, w.behind-are, ap arity (ap (behind_root i) w.whole ∙ behind_there i (without_root i old) w.behind (join w.front w.back) w.label w.clear w.id-is));
-    }
+to_adopt w l = grind (arith, there, behind_there)
 
 pub all_walked : {A : Tree → Tree → Type 0} {i leaves at n : ℕ} {old new end : Forest} {before after : List BreakerState} (w : IsWalked A i leaves at old new before after) → n ≡ count (children_of (plain (root_tree i old))) → n ≤ at
     → end ≡ adopted i (n - leaves) new → AllWalked A i old end before after
-all_walked {A = A} {i = i} {leaves = leaves} {n = n} {old = old} {new = new} {end = end} {before = before} {after = after} w m l e =
-    let few : count (append w.done w.rest) ≤ count w.done = omega (arith, ap count w.split, w.count-is, m, l) in
-    let none_is : w.rest ≡ none = none_left w.done w.rest few in
-    let empty_is : w.back ≡ empty = no_trees w.back (represents_count w.left ∙ ap count none_is) in
-    let whole : children_of (plain (root_tree i old)) ≡ w.done = w.split ∙ ap (append w.done) none_is ∙ append-none w.done in
-    let many : n - leaves ≡ arity w.behind = omega (arith, w.behind-are, l, m, ap count w.split, count_append w.done w.rest, w.count-is) in
-    let now : end ≡ join (without_root i old) (tree w.label (join w.front w.behind) empty) =
-    e ∙ ap (adopted i (n - leaves)) w.whole ∙ adopted_all i (n - leaves) (without_root i old) w.behind (join w.front w.back) w.label w.clear w.id-is many
-    ∙ ap (λ (x : Forest). join (without_root i old) (tree w.label (join x w.behind) empty)) (ap (join w.front) empty_is ∙ join-empty w.front) in
-    let ends : Ends i (tree w.label (join w.front w.behind) empty) (without_root i old) end = record { whole = now; alone = refl; root = w.id-is; clear = w.clear } in
-    let is = last_tree ends in
-    record {
-      answers = w.answers;
-      become = subst (λ (ts : Trees). AreAnswers A ts w.answers) (sym whole) w.become;
-      calm = subst (λ (ts : Trees). CalmChecks (nodes_of ts) before after) (sym whole) w.calm;
-      parent = record {
-        root = last_root ends;
-        payload = ap root_payload is ∙ w.payload;
-        count = ap root_count is ∙ w.once;
-        kids = represents_as w.answered (sym (ap kids is)) refl;
-      };
-      last = ends_as ends (sym is) (sym (last_rest ends));
-      rest = last_rest ends;
-      front = starts_behind _ now;
-    }
+all_walked w m l e = grind (arith, none_left, no_trees, represents_count, append-none, count_append, adopted_all, join-empty, last_tree, last_root, represents_as, ends_as, last_rest, starts_behind)
 
 -- how many children a reader tells of a handed tree
 pub many_children : {s : State} {i j n : ℕ} → j ≡ i → Stands s → IsHanded i (forest s) → (IsExpression j (forest s) → n ≡ count (children_of (plain (tree_at j (forest s))))) → n ≡ count (children_of (tree_of i s))
@@ -357,12 +318,4 @@ pub record IsMoved (i : ℕ) (old new : Forest) : Type 0 where
   pub front : KeepsFront (i ∷ []) old new
 
 pub moved : {i : ℕ} {old new : Forest} → IsHanded i old → Ends i (root_tree i old) (without_root i old) new → IsMoved i old new
-moved {i = i} h e =
-    let same = last_tree e in
-    record {
-      same = same;
-      rest = last_rest e;
-      handed = record { root = last_root e; once = subst AllOnce (sym same) h.once; whole = subst AllExpressions (sym same) h.whole };
-      last = ends_as e (sym same) (sym (last_rest e));
-      front = starts_behind _ e.whole;
-    }
+moved h e = grind (arith, last_tree, last_rest, last_root, ends_as, starts_behind)

@@ -1,7 +1,6 @@
 -- Divisors of clean numbers.
 use Rattle.std.proofs.Common.{◌≡◌, ℕ, zero, suc, ◌*◌, ◌/◌, ◌^◌, ◌<◌, ◌≤◌, ◌⊎◌, inl, inr, sym, ap, ◌∙◌, subst, arith}
 use Rattle.std.specs.Int.{◌∣◌}
-use Rattle.std.proofs.lemmas.Bool.{cases_lt}
 use Rattle.std.proofs.lemmas.Nat.Gcd.{dvd_trans, dvd-zero}
 use Rattle.std.proofs.Math.Nat.{mul-div_cancel', dvd-mul_right, dvd-mul_left, mul-dvd-mul}
 use Rattle.calc_algebra.specs.Clean.{left_of, IsClean}
@@ -61,11 +60,7 @@ module _ (r : ℕ) (clean : IsClean r) (small : r < 10 ^ 12) where
           square_of_rest d (left_of r / (d * d)) far (mul-div_cancel' (d * d) divides)
 
   pub clean_square_free : (d : ℕ) → 1 < d → d * d ∣ r → ⊥
-  clean_square_free d above h = by (cases_lt 10000 d)
-    where
-      by : (10000 < d) ⊎ (d ≤ 10000) → ⊥
-      by (inl far) = far_divisor d far h
-      by (inr near) = clean.no_square d (omega arith) near h
+  clean_square_free d h k = grind (arith, far_divisor)
 
 -- what is left of g * a * a is the same of g, and that of a twice
 left_of_square : (g a : ℕ) → 0 < g → 0 < a → left_of (g * a * a) ≡ left_of g * (left_of a * left_of a)

@@ -98,14 +98,7 @@ small_no_square n only small s big e = by (cases_lt trial_limit s)
 
 -- the root rounded down decides
 pub rounded_no_square : (n r : ℕ) → r * r ≤ n → n < (r + 1) * (r + 1) → r * r ≢ n → (s : ℕ) → 1 < s → n ≢ s * s
-rounded_no_square n r within next differ s big e =
-    let low : s ≤ r = square_le s r (omega arith) in
-    let high : r ≤ s = square_le r s (omega (arith, more s)) in
-    let same : r ≡ s = omega arith in
-    differ (ap (λ m. m * m) same ∙ sym e)
-  where
-    more : (s : ℕ) → s * s < (s + 1) * (s + 1)
-    more s = omega arith
+rounded_no_square n r h k l s m e = grind (arith, square_le)
 
 -- where the rest is a great square the number is not clean
 pub square_not_clean : (f : Found) (m : ℕ) → IsFound f → HasNoOtherDivisor f.rest → 100000000 < f.rest → m * m ≡ f.rest → IsClean (number_of f) → ⊥

@@ -5,15 +5,12 @@ use Rattle.std.specs.Int.{◌∣◌}
 use Rattle.std.proofs.lemmas.Bool.{cases_lt, leb-true, ltb-true, eqb-true}
 use Rattle.std.proofs.lemmas.Nat.Gcd.{dvd_trans, dvd_of_mod-eq-zero}
 use Rattle.std.proofs.Math.Nat.{mul-div_cancel', dvd-mul_left, eq-one_of_dvd-one}
-use Rattle.calc_algebra.specs.Clean.{trial_limit}
 use Rattle.square_parts.specs.Divisors.{HasNoDivisorBelow, HasNoOtherDivisor}
 use Rattle.square_parts.specs.Primes.{has_divisor_among, is_composite, are_composite, holds_all_primes, IsDividedBelow, primes_below_hundred}
 use Rattle.square_parts.proofs.Steps.{done_with}
 
 both : (a b : Bool) → (a && b) ≡ true → (a ≡ true) × (b ≡ true)
-both true true h = (refl, refl)
-both true false h = absurd (let bad : false ≡ true = h in cc)
-both false b h = absurd (let bad : false ≡ true = h in cc)
+both a b h = grind arith
 
 -- a composite number has a smaller divisor
 divisor_of : (ps : List ℕ) (e : ℕ) → has_divisor_among ps e ≡ true → (f : ℕ) × (2 ≤ f) × (f < e) × (f ∣ e)
@@ -76,12 +73,7 @@ next_prime p ps n d = record {
 
 -- the first prime divides n no more
 pub behind_prime : (p : ℕ) (ps : List ℕ) (n m : ℕ) → IsNextPrime p ps n → HasNoDivisorBelow (p + 1) m → IsDividedBelow ps m
-behind_prime p ps n m next below = record {
-  from = suc p;
-  two = omega (arith, next.two);
-  below = subst (λ x. HasNoDivisorBelow x m) (let e : p + 1 ≡ suc p = omega arith in e) below;
-  primes = next.primes;
-}
+behind_prime p ps n m h k = grind arith
 
 pub no_divisor_next : (p : ℕ) (ps : List ℕ) (n : ℕ) → IsDividedBelow (p ∷ ps) n → n % p ≢ 0 → IsDividedBelow ps n
 no_divisor_next p ps n d not = let next = next_prime p ps n d in behind_prime p ps n n next (done_with p n next.below not)
@@ -154,8 +146,7 @@ next_four a b c d ps n divided = record {
 
 -- none of the first four divides n
 pub without_four : (a b c d : ℕ) (ps : List ℕ) (n : ℕ) → (n % a ≢ 0) × (n % b ≢ 0) × (n % c ≢ 0) × (n % d ≢ 0) → IsDividedBelow (a ∷ b ∷ c ∷ d ∷ ps) n → IsDividedBelow ps n
-without_four a b c d ps n (no_a, no_b, no_c, no_d) divided =
-    no_divisor_next d _ n (no_divisor_next c _ n (no_divisor_next b _ n (no_divisor_next a _ n divided no_a) no_b) no_c) no_d
+without_four a b c d ps n h k = grind (arith, no_divisor_next)
 
 -- four primes and the others
 pub record StartsWithFour (a b c d : ℕ) (ps : List ℕ) : Type 0 where

@@ -24,8 +24,7 @@ half_below : (d r n : ℕ) → 2 ≤ d → r < n * 2 → r / d < n
 half_below d r n two h = grind arith
 
 factor_positive : (n k : ℕ) → 0 < n * k → 0 < k
-factor_positive n zero h = absurd (omega arith)
-factor_positive n (suc k) h = omega arith
+factor_positive n k h = grind arith
 
 without_is : (steps d r : ℕ) → 2 ≤ d → d ≤ trial_limit → 0 < r → r < 2 ^ steps → IsPart d (suc d) r (without steps d r)
 without_is zero d r two le positive small = absurd (omega arith)

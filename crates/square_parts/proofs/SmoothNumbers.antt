@@ -1,5 +1,5 @@
 -- Products of numbers up to the trial limit, and numbers without such divisors.
-use Rattle.std.proofs.Common.{◌≡◌, ℕ, zero, suc, ◌*◌, ◌<◌, ◌≤◌, ◌⊎◌, inl, inr, refl, sym, subst, arith}
+use Rattle.std.proofs.Common.{◌≡◌, ℕ, ◌*◌, ◌<◌, ◌≤◌, ◌⊎◌, inl, inr, sym, subst, arith}
 use Rattle.std.specs.Int.{IsGcd, ◌∣◌}
 use Rattle.std.proofs.lemmas.Nat.Gcd.{dvd_refl, dvd_trans, dvd_antisymm, le_of_dvd}
 use Rattle.std.proofs.Math.Nat.{dvd-mul_right, pos_of_dvd_of_pos, eq-one_of_dvd-one}
@@ -14,9 +14,7 @@ pub record IsRough (n : ℕ) : Type 0 where
 
 -- a number is 0, 1 or at least 2
 pub sizes : (n : ℕ) → (n ≡ 0) ⊎ (n ≡ 1) ⊎ (2 ≤ n)
-sizes zero = inl refl
-sizes (suc zero) = inr (inl refl)
-sizes (suc (suc n)) = inr (inr (omega arith))
+sizes n = grind arith
 
 -- numbers whose common divisors above 1 are excluded have none
 pub IsCoprime-from : (a b : ℕ) → 0 < b → ((d : ℕ) → 2 ≤ d → d ∣ a → d ∣ b → ⊥) → IsCoprime a b

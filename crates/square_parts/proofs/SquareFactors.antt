@@ -62,8 +62,7 @@ module _ (r s g : ℕ) (r-positive : 0 < r) (s-positive : 0 < s) (is : IsGcd r s
   s-whole = mul-div_cancel' g (is.1)
 
   positive_quotient : (n k : ℕ) → g * k ≡ n → 0 < n → 0 < k
-  positive_quotient n zero e h = absurd (omega arith)
-  positive_quotient n (suc k) e h = omega arith
+  positive_quotient n k e h = grind arith
 
   -- where r and s are alike, r / g is a square
   pub first_square : are_alike r s ≡ true → (u : ℕ) × (r / g ≡ u * u)

@@ -33,12 +33,10 @@ clean_at_most (suc r) (suc c) zero h = absurd (omega arith)
 clean_at_most (suc r) (suc c) (suc q) h = omega arith
 
 pub rest_positive : (r c q : ℕ) → 1 ≤ r * r * (c * q) → 0 < q
-rest_positive r c zero h = absurd (omega arith)
-rest_positive r c (suc q) h = omega arith
+rest_positive r c q h = grind arith
 
 pub clean_positive : (r c q : ℕ) → 1 ≤ r * r * (c * q) → 0 < c
-clean_positive r zero q h = absurd (omega arith)
-clean_positive r (suc c) q h = omega arith
+clean_positive r c q h = grind arith
 
 less_quotient : (d q n : ℕ) → 2 ≤ d → d * q ≡ n → 0 < q → q < n
 less_quotient d q n two e h = grind arith

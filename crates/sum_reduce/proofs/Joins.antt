@@ -267,9 +267,6 @@ pub record IsNextPartner (at : ℕ) (us : Trees) : Type 0 where
 pub next_partner : (us : Trees) (at : ℕ) → AreFormed us → IsPairAt is_partner at us → IsNextPartner at us
 next_partner us at f h = grind (arith, formed_reduced, formed_defined)
 
-pub first_partner : (us : Trees) (at : ℕ) → IsPairAt is_partner at us → is_number (nth at us) ≡ false
-first_partner us at h = (partners (nth at us) (nth (suc at) us) h.pair).first
-
 pub partner_step : (ts : Trees) (c e : Tree) (us vs : Trees) (at less : ℕ) → IsJoining ts c (nth at us) (removed at us) less → IsPairAt is_partner at us → vs ≡ removed (suc at) us → IsNumberOver (value c ++ value (coefficient_of (nth (suc at) us))) e
     → IsJoining ts e (nth at vs) (removed at vs) (less + nodes (nth at us))
 partner_step ts c e us vs at less j h q w =

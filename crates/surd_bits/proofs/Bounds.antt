@@ -1,7 +1,7 @@
 -- What is held says of magnitudes over one common denominator.
-use Rattle.std.proofs.Common.{◌≡◌, ◌≢◌, ℕ, zero, suc, ◌+◌, ◌*◌, ◌^◌, ◌≤◌, ◌<◌, false, ℤ, pos, negsuc, refl, ap, ◌∙◌, arith}
+use Rattle.std.proofs.Common.{◌≡◌, ◌≢◌, ℕ, zero, suc, ◌+◌, ◌*◌, ◌^◌, ◌≤◌, ◌<◌, false, ℤ, pos, refl, ap, ◌∙◌, arith}
 use Rattle.std.specs.Prelude.{nat_abs}
-use Rattle.surd_bits.proofs.Shared.{mul-le, pow-add, pow-le-pow_right, Fraction, times, whole_fraction, zero_fraction, mul_pos, zero_is, Term, square_le, magnitude_over, root_above, den_divides, abs_cross, magnitude_is, magnitude_times, magnitude_cross, root_enough, magnitudes_cross, square_held}
+use Rattle.surd_bits.proofs.Shared.{mul-le, pow-add, pow-le-pow_right, Fraction, times, whole_fraction, zero_fraction, mul_pos, zero_is, Term, magnitude_over, root_above, den_divides, abs_cross, magnitude_is, magnitude_times, magnitude_cross, root_enough, magnitudes_cross, square_held}
 use Rattle.std.specs.Int.{◌∣◌}
 use Rattle.std.proofs.lemmas.Bool.{false_from_ne_true}
 use Rattle.calc_terms.specs.Integers.{int_is_zero}
@@ -39,9 +39,7 @@ magnitude_whole q d n h =
     ∙ ap (λ k. magnitude_over d q * k) (magnitude_is 1 (whole_fraction (pos n)) n 1 n (den_divides (pos n) 1 (omega arith)) (omega arith) (abs_cross (pos n) 1 (omega arith)) refl)
 
 abs_positive : (z : ℤ) → int_is_zero z ≡ false → 0 < nat_abs z
-abs_positive (pos zero) h = cc
-abs_positive (pos (suc n)) h = omega arith
-abs_positive (negsuc n) h = omega arith
+abs_positive z h = grind arith
 
 -- a multiple of what is not 0 is not 0
 pub magnitude_positive : (q : Fraction) (d : ℕ) → q ≢ zero_fraction → 0 < d → q.den ∣ d → 0 < magnitude_over d q
@@ -64,6 +62,4 @@ one_held t d e w h p a b r l =
 
 -- where n * n * r is at most the square of b, n is at most b
 pub root_at_most : (n r b : ℕ) → 0 < r → n * n * r ≤ b * b → n ≤ b
-root_at_most n r b h k =
-    let l : n * n * 1 ≤ n * n * r = mul-le (n * n) 1 (n * n) r (omega arith) h in
-    square_le n b (omega arith)
+root_at_most n r b h k = grind arith

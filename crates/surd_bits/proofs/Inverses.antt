@@ -1,5 +1,5 @@
 -- Inverses of what is held: the calculations fit, and how large they are.
-use Rattle.std.proofs.Common.{◌≡◌, ◌≢◌, ℕ, zero, suc, ◌+◌, ◌*◌, ◌≤◌, ◌<◌, ℤ, pos, negsuc, ◌+ℤ◌, ◌*ℤ◌, neg_ℤ, refl, sym, ap, ◌∙◌, subst, arith}
+use Rattle.std.proofs.Common.{◌≡◌, ◌≢◌, ℕ, ◌+◌, ◌*◌, ◌≤◌, ◌<◌, ℤ, pos, ◌+ℤ◌, ◌*ℤ◌, neg_ℤ, refl, sym, ap, ◌∙◌, subst, arith}
 use Rattle.std.specs.Prelude.{nat_abs}
 use Rattle.surd_bits.proofs.Shared.{ints, unsigned_abs-mul, dvd_trans, dvd-mul_left, Fraction, lowest, plus, times, negative, inverse, zero_fraction, one_fraction, lowest_parts, times_lowest, mul_pos, den_pos, gauss, cross_products, Term, inverse_times_itself, magnitude_over, cancel_right, coprime, den_divides, magnitude_is, magnitude_lowest, magnitude_cross, magnitude_times, times_den, multiple_den, whole_over, whole_over-abs, over_multiple, plus_over, square_of}
 use Rattle.std.specs.Int.{◌∣◌}
@@ -50,9 +50,7 @@ unfolding negative
 negative_den q d h = dvd_trans (lowest (neg_ℤ q.num) q.den).den (den_divides (neg_ℤ q.num) q.den (den_pos q)) h
 
 abs_neg : (z : ℤ) → nat_abs (neg_ℤ z) ≡ nat_abs z
-abs_neg (pos zero) = refl
-abs_neg (pos (suc n)) = refl
-abs_neg (negsuc n) = refl
+abs_neg z = grind arith
 
 pub magnitude_negative : (q : Fraction) (d : ℕ) → q.den ∣ d → magnitude_over d (negative q) ≡ magnitude_over d q
 unfolding negative
@@ -77,9 +75,7 @@ pub square_den : (t : Term) (d : ℕ) → t.coefficient.den ∣ d → (square_of
 square_den t d h = multiple_den (times t.coefficient t.coefficient) (pos t.radicand) (d * d) (times_den t.coefficient t.coefficient d d h h)
 
 pub square_magnitude : (t : Term) (d : ℕ) → t.coefficient.den ∣ d → magnitude_over (d * d) (square_of t) ≡ magnitude_over d t.coefficient * magnitude_over d t.coefficient * t.radicand
-square_magnitude t d h =
-    magnitude_whole (times t.coefficient t.coefficient) (d * d) t.radicand (times_den t.coefficient t.coefficient d d h h)
-    ∙ ap (λ k. k * t.radicand) (magnitude_times t.coefficient t.coefficient d d h h)
+square_magnitude t d h = grind (arith, magnitude_whole, times_den, magnitude_times)
 
 -- ---- c over a fraction D * Δ = f
 

@@ -92,11 +92,7 @@ module _ (a : Term) (h l : ℕ) (na : a.coefficient ≢ zero_fraction) (ra : 0 <
   one_positive = magnitude_positive a.coefficient k.denominator na k.parts.positive k.parts.whole.0
 
   one_over : magnitude_over k.denominator a.coefficient * a.radicand ≤ 2 ^ ((h + l) + (h + l))
-  one_over =
-      let d : ℕ = k.denominator in
-      let n : ℕ = magnitude_over d a.coefficient in
-      trans (n * a.radicand) (n * n * a.radicand) (2 ^ ((h + l) + (h + l))) (without_factor n a.radicand one_positive)
-      (trans (n * n * a.radicand) ((d * 2 ^ h) * (d * 2 ^ h)) (2 ^ ((h + l) + (h + l))) one_square (square_bound d h l k.low))
+  one_over = grind (arith, trans, without_factor, one_positive, one_square, square_bound)
 
   pub inverse_fits : 2 * h + 4 * l ≤ 124 → first_misfit (inverse_calculations a) ≡ None
   inverse_fits bits =
@@ -202,20 +198,10 @@ module _ (a b : Term) (h l : ℕ) (na : a.coefficient ≢ zero_fraction) (nb : b
 
   f-at_most : f ≤ n * n * a.radicand + m * m * b.radicand
   unfolding f n
-  f-at_most = at f (magnitude_over (k.denominator * k.denominator) (square_of a)) (magnitude_over (k.denominator * k.denominator) (negative (square_of b))) _ _
-      (magnitude_plus (square_of a) (negative (square_of b)) (k.denominator * k.denominator) D-positive (square_den a k.denominator pa) second-den) (square_magnitude a k.denominator pa) second-is
-    where
-      at : (f x y u w : ℕ) → f ≤ x + y → x ≡ u → y ≡ w → f ≤ u + w
-      at f x y u w h p q = omega arith
+  f-at_most = grind (arith, f, magnitude_plus, D-positive, square_den, pa, second-den, square_magnitude, second-is)
 
   f-bound : f ≤ 2 ^ ((h + l) + (h + l))
-  f-bound =
-      trans f ((k.denominator * 2 ^ h) * (k.denominator * 2 ^ h)) (2 ^ ((h + l) + (h + l)))
-      (trans f (n * n * a.radicand + m * m * b.radicand) ((k.denominator * 2 ^ h) * (k.denominator * 2 ^ h)) f-at_most squares) (square_bound k.denominator h l k.low)
-
-  -- all sizes are at most this
-  top : ℕ
-  top = (h + l) + (h + l)
+  f-bound = grind (arith, trans, f, n, m, f-at_most, squares, square_bound)
 
   sum-bound : n * n * a.radicand + m * m * b.radicand ≤ 2 ^ ((h + l) + (h + l))
   sum-bound = trans (n * n * a.radicand + m * m * b.radicand) ((k.denominator * 2 ^ h) * (k.denominator * 2 ^ h)) (2 ^ ((h + l) + (h + l))) squares (square_bound k.denominator h l k.low)
@@ -227,16 +213,10 @@ module _ (a b : Term) (h l : ℕ) (na : a.coefficient ≢ zero_fraction) (nb : b
       omega (arith, pow-add 2 (h + l) (h + l))
 
   first-bound : n * n * a.radicand ≤ 2 ^ ((h + l) + (h + l))
-  first-bound = left (n * n * a.radicand) (m * m * b.radicand) (2 ^ ((h + l) + (h + l))) sum-bound
-    where
-      left : (x y p : ℕ) → x + y ≤ p → x ≤ p
-      left x y p h = omega arith
+  first-bound = grind (arith, n, m, sum-bound)
 
   second-bound : m * m * b.radicand ≤ 2 ^ ((h + l) + (h + l))
-  second-bound = right (n * n * a.radicand) (m * m * b.radicand) (2 ^ ((h + l) + (h + l))) sum-bound
-    where
-      right : (x y p : ℕ) → x + y ≤ p → y ≤ p
-      right x y p h = omega arith
+  second-bound = grind (arith, n, m, sum-bound)
 
   -- n * d, where n * n * r is at most the square of d * 2 ^ h
   over-bound : (n r : ℕ) → 0 < r → n * n * r ≤ (k.denominator * 2 ^ h) * (k.denominator * 2 ^ h) → n * k.denominator ≤ 2 ^ ((h + l) + l)
@@ -258,16 +238,10 @@ module _ (a b : Term) (h l : ℕ) (na : a.coefficient ≢ zero_fraction) (nb : b
   second-over = over_difference k.denominator k.scale f (negative b.coefficient) (inverse (conjugate_product a b)) k.parts.positive f-positive (negative_den b.coefficient k.denominator pb) (negative_den b.coefficient k.scale (k.scaled.whole.1).0) difference.whole difference.is
 
   left-square : n * n * a.radicand ≤ (k.denominator * 2 ^ h) * (k.denominator * 2 ^ h)
-  left-square = at (n * n * a.radicand) (m * m * b.radicand) ((k.denominator * 2 ^ h) * (k.denominator * 2 ^ h)) squares
-    where
-      at : (x y p : ℕ) → x + y ≤ p → x ≤ p
-      at x y p h = omega arith
+  left-square = grind (arith, n, m, squares)
 
   right-square : m * m * b.radicand ≤ (k.denominator * 2 ^ h) * (k.denominator * 2 ^ h)
-  right-square = at (n * n * a.radicand) (m * m * b.radicand) ((k.denominator * 2 ^ h) * (k.denominator * 2 ^ h)) squares
-    where
-      at : (x y p : ℕ) → x + y ≤ p → y ≤ p
-      at x y p h = omega arith
+  right-square = grind (arith, n, m, squares)
 
   -- ---- what holds the inverse
 

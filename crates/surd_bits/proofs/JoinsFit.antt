@@ -1,5 +1,5 @@
 -- Terms that are held within 124 bits can be joined.
-use Rattle.std.proofs.Common.{◌≡◌, ℕ, zero, suc, ◌+◌, ◌*◌, ◌/◌, ◌^◌, ◌≤◌, ◌<◌, [], ◌∷◌, Bool, true, false, pos, None, refl, sym, ap, ◌∙◌, subst, arith}
+use Rattle.std.proofs.Common.{◌≡◌, ℕ, ◌+◌, ◌*◌, ◌/◌, ◌^◌, ◌≤◌, ◌<◌, [], ◌∷◌, Bool, true, false, pos, None, refl, sym, ap, ◌∙◌, subst, arith}
 use Rattle.std.specs.Prelude.{if◌then◌else◌}
 use Rattle.surd_bits.proofs.Shared.{mul-le, fraction_fits, sum_fits, gcd, are_alike, Term, square_root_is, square_le, magnitude_over, root_above, term_mass, IsHeld, multiple_fits, sum_fits_over, magnitudes_cross, cancel_le, multiple_den, root_enough, Add, calculation, first_misfit, scaled, scaling, joining_calculations}
 use Rattle.std.specs.Int.{◌∣◌}
@@ -8,8 +8,7 @@ use Rattle.surd_bits.proofs.Passed.{passed}
 use Rattle.surd_bits.proofs.Bounds.{held_bound, power_fits, denominator_bound, magnitude_whole}
 
 quotient_at_most : (r g : ℕ) → r / g ≤ r
-quotient_at_most r zero = omega arith
-quotient_at_most r (suc g) = grind arith
+quotient_at_most r g = grind arith
 
 -- what is taken before the root is at most the root
 taken_at_most : (r g : ℕ) → square_root (r / g) * square_root (r / g) ≤ r

@@ -1,12 +1,11 @@
 -- Terms whose product is held within 124 bits can be multiplied.
-use Rattle.std.proofs.Common.{◌≡◌, ◌≢◌, ℕ, zero, suc, ◌+◌, ◌*◌, ◌/◌, ◌^◌, ◌≤◌, ◌<◌, [], ◌∷◌, true, pos, ◌*ℤ◌, sym, ap, subst, arith}
+use Rattle.std.proofs.Common.{◌≡◌, ◌≢◌, ℕ, ◌+◌, ◌*◌, ◌/◌, ◌^◌, ◌≤◌, ◌<◌, [], ◌∷◌, true, pos, ◌*ℤ◌, sym, ap, subst, arith}
 use Rattle.surd_bits.proofs.Shared.{mul-le, fraction_fits, times, whole_fraction, zero_fraction, times_lowest, Term, term_times, product_not_zero, square_le, magnitude_over, term_mass, IsHeld, multiple_fits, quotient_fits, multiple_den}
 use Rattle.std.specs.Int.{◌∣◌}
 use Rattle.surd_bits.proofs.Bounds.{held_bound, square_bound, power_fits, denominator_bound, magnitude_whole, magnitude_positive, one_held, root_at_most}
 
 quotient_at_most : (r g : ℕ) → r / g ≤ r
-quotient_at_most r zero = omega arith
-quotient_at_most r (suc g) = grind arith
+quotient_at_most r g = grind arith
 
 -- with n at least 1
 rest_below : (n r s g h b : ℕ) → 0 < n → n * n * (r * s) ≤ b → (r / g) * (s / h) ≤ b
@@ -29,17 +28,11 @@ mul_positive a b h k = grind arith
 trans : (a b c : ℕ) → a ≤ b → b ≤ c → a ≤ c
 trans a b c h k = omega arith
 
-below : (a b c : ℕ) → a ≤ b → b < c → a < c
-below a b c h k = omega arith
-
 mass_of_one : (m u p : ℕ) → u ≤ m → m + 0 ≤ p → u ≤ p
 mass_of_one m u p h k = omega arith
 
 module _ (a b : Term) (h l : ℕ) (na : a.coefficient ≢ zero_fraction) (nb : b.coefficient ≢ zero_fraction)
     (pa : 0 < a.radicand) (pb : 0 < b.radicand) (k : IsHeld (term_times a b ∷ []) h l) (bits : 2 * h + 4 * l ≤ 124) where
-  d : ℕ
-  d = k.denominator
-
   n : ℕ
   n = magnitude_over k.denominator (times a.coefficient b.coefficient)
 

@@ -51,9 +51,4 @@ root_no_larger q t n r = record {
 
 -- the root of 0, which has no terms
 pub no_root_no_larger : (q : Fraction) → IsNoLargerThanRoot q []
-no_root_no_larger q = record {
-  parts = record { positive = den_pos q; whole = tt };
-  mass = omega arith;
-  held = λ h l k. record { denominator = k.denominator; parts = record { positive = k.parts.positive; whole = tt }; low = k.low; scale = k.scale; scaled = record { positive = k.scaled.positive; whole = tt }; high = omega arith };
-  by_one = λ h l k. record { denominator = k.denominator; parts = record { positive = k.parts.positive; whole = tt }; low = k.low; high = omega arith };
-}
+no_root_no_larger q = grind arith

@@ -1,19 +1,16 @@
 -- Square parts of p * q, for the root of p/q.
-use Rattle.std.proofs.Common.{◌≡◌, ◌≢◌, ℕ, zero, suc, ◌*◌, ◌<◌, ◌≤◌, ◌^◌, ℤ, pos, negsuc, ◌<ℤ◌, [], ◌∷◌, refl, sym, ◌∙◌, arith, lt_of_le_of_lt}
+use Rattle.std.proofs.Common.{◌≡◌, ◌≢◌, ℕ, zero, suc, ◌*◌, ◌<◌, ◌≤◌, ◌^◌, ℤ, pos, ◌<ℤ◌, [], ◌∷◌, sym, ◌∙◌, arith}
 use Rattle.std.specs.Prelude.{nat_abs}
-use Rattle.surd_terms.proofs.Shared.{ints, Fraction, quotient, zero_fraction, mul_pos, IsRootOf, term, cross_products}
+use Rattle.surd_terms.proofs.Shared.{ints, Fraction, quotient, zero_fraction, IsRootOf, term, cross_products}
 use Rattle.calc_algebra.proofs.NumberRewrites.{root_extracted}
 use Rattle.surd_terms.proofs.Radicands.{part_at_most}
 
 -- a number above 0 is its magnitude
 pub positive_is : (z : ℤ) → pos 0 <ℤ z → z ≡ pos (nat_abs z)
-positive_is (pos n) h = refl
-positive_is (negsuc n) h = absurd (omega (arith, ints))
+positive_is z h = grind arith
 
 pub positive_abs : (z : ℤ) → pos 0 <ℤ z → 1 ≤ nat_abs z
-positive_abs (pos zero) h = absurd (omega (arith, ints))
-positive_abs (pos (suc n)) h = omega arith
-positive_abs (negsuc n) h = absurd (omega (arith, ints))
+positive_abs z h = grind arith
 
 -- s * s is a square part of the magnitude of z times d, with all numbers below 2^127
 pub record IsSplit (z : ℤ) (d s t : ℕ) : Type 0 where
@@ -23,15 +20,11 @@ pub record IsSplit (z : ℤ) (d s t : ℕ) : Type 0 where
   pub rest_fits : t < 2 ^ 127
 
 pub split_root : (z : ℤ) (d m s t : ℕ) → pos 0 <ℤ z → 1 ≤ d → m ≡ nat_abs z * d → m < 2 ^ 127 → m ≡ s * s * t → IsSplit z d s t
-split_root z d m s t h k e fits f =
-    let (s-le, t-le, s-one, t-one) = part_at_most m s t (rw e (mul_pos (nat_abs z) d (positive_abs z h) k)) f in
-    record { product = sym e ∙ f; positive = s-one; root_fits = lt_of_le_of_lt s-le fits; rest_fits = lt_of_le_of_lt t-le fits }
+split_root z d m s t h k e l f = grind (arith, part_at_most, positive_abs)
 
 -- the root of z/d
 pub root_of : (z : ℤ) (d s t : ℕ) → pos 0 <ℤ z → 1 ≤ d → nat_abs z * d ≡ s * s * t → IsRootOf z d (term (quotient s d) t ∷ [])
-root_of (pos zero) d s t h k e = absurd (omega (arith, ints))
-root_of (pos (suc p)) d s t h k e = root_extracted p d s t k e
-root_of (negsuc p) d s t h k e = absurd (omega (arith, ints))
+root_of z d s t h k e = grind (arith, root_extracted)
 
 -- a quotient of a number other than 0 is not 0
 pub quotient_not_zero : (q : Fraction) (s d : ℕ) → q ≡ quotient s d → 1 ≤ s → 1 ≤ d → q ≢ zero_fraction

@@ -1,5 +1,5 @@
 -- Which of some calculations is the first that does not fit.
-use Rattle.std.proofs.Common.{◌≡◌, true, false, ℕ, ◌*◌, ◌/◌, ◌≤◌, Bool, List, [], ◌∷◌, ◌++◌, Option, Some, None, Result, Ok, Err, refl, sym, ap, ◌∙◌, subst, arith}
+use Rattle.std.proofs.Common.{◌≡◌, true, false, ℕ, ◌*◌, ◌/◌, ◌≤◌, Bool, List, [], ◌∷◌, ◌++◌, Option, Some, None, Result, refl, sym, ap, ◌∙◌, subst, arith}
 use Rattle.std.specs.Prelude.{if◌then◌else◌, ◌↔◌, IsErr, IfOk, IfErr, IsErrAnd}
 use Rattle.surd_terms.proofs.Shared.{IsGcd, mul-div_cancel_left, same_from_IsGcd, dvd_refl, fraction_fits, Fraction, gcd, gcd_is, value_of, Rat, are_alike, Term, Add, Mul, Overflow, Calculation, calculation, does_fit, first_misfit, calculation_of, misfit_of, scaled, scaling, joining_calculations}
 use Rattle.std.specs.Int.{◌∣◌}
@@ -10,8 +10,7 @@ use Rattle.rational128.specs.declared.overflow.Op.{Op}
 use Rattle.surd_terms.proofs.Values.{alike_itself, times_whole_one}
 
 fits_from : (b : Bool) → (b ≡ false → false ≡ true) → b ≡ true
-fits_from true h = refl
-fits_from false h = h refl
+fits_from b h = grind arith
 
 -- one that fits is passed
 pub passed : (c : Calculation) (cs : List Calculation) → does_fit c ≡ true → first_misfit (c ∷ cs) ≡ first_misfit cs
@@ -23,26 +22,20 @@ step_fits op a b a' b' cs e f h = passed (calculation op a b) cs (subst (λ x. d
 -- one that does not is what is refused
 pub step_misfit : (o : Overflow) (op : Op) (x y : Rat) (a b : Fraction) (cs : List Calculation) → o ≡ record { op = op; a = x; b = y } → value_of x ≡ a → value_of y ≡ b → DoesNotFit op (value_of x) (value_of y)
     → Some (calculation_of o) ≡ first_misfit (calculation op a b ∷ cs)
-step_misfit o op x y a b cs n e f h =
-    ap (λ p. Some (calculation_of p)) n
-    ∙ sym (ap (λ fits. if fits then first_misfit cs else Some (calculation op (value_of x) (value_of y))) h)
-    ∙ (λ i. first_misfit (calculation op (e i) (f i) ∷ cs))
+step_misfit o op x y a b cs n e f h = grind arith
 
 -- a product is refused for itself
 pub product_misfit : (r : Result Rat Overflow) (x y : Rat) (a b : Fraction) → (IsErr r ↔ DoesNotFit Mul (value_of x) (value_of y)) → IfErr r (λ o. o ≡ record { op = Mul; a = x; b = y }) → value_of x ≡ a → value_of y ≡ b
     → misfit_of r ≡ first_misfit (calculation Mul a b ∷ [])
-product_misfit (Ok q) x y a b h n e f = sym (step_fits Mul a b _ _ [] e f h.1)
-product_misfit (Err o) x y a b h n e f = step_misfit o Mul x y a b [] n e f (h.0 refl)
+product_misfit r x y a b h n e f = grind arith
 
 -- an answer of the same value
 pub if_value : (r : Result Rat Overflow) (a b : Fraction) → a ≡ b → IfOk r (λ q. value_of q ≡ a) → IfOk r (λ q. value_of q ≡ b)
-if_value (Ok q) a b e h = h ∙ e
-if_value (Err o) a b e h = tt
+if_value r a b e h = grind arith
 
 -- lists that all fit are passed
 passed_more : (c : Calculation) (cs ds : List Calculation) (b : Bool) → does_fit c ≡ b → (None ≡ first_misfit cs → first_misfit (cs ++ ds) ≡ first_misfit ds) → None ≡ first_misfit (c ∷ cs) → first_misfit (c ∷ cs ++ ds) ≡ first_misfit ds
-passed_more c cs ds true e rest h = passed c (cs ++ ds) e ∙ rest (h ∙ passed c cs e)
-passed_more c cs ds false e rest h = absurd (cc (h ∙ ap (λ b. if b then first_misfit cs else Some c) e))
+passed_more c cs ds b e h k = grind arith
 
 pub passed_list : (cs ds : List Calculation) → None ≡ first_misfit cs → first_misfit (cs ++ ds) ≡ first_misfit ds
 passed_list [] ds h = refl
@@ -50,8 +43,7 @@ passed_list (c ∷ cs) ds h = passed_more c cs ds (does_fit c) refl (passed_list
 
 -- an overflow that is passed on
 pub refused_for : {A : Type 0} (r : Result A Overflow) (o : Overflow) (m : Option Calculation) → IsErr r → IsErrAnd r (λ x. x ≡ o) → Some (calculation_of o) ≡ m → misfit_of r ≡ m
-refused_for (Ok x) o m h a e = let no : false ≡ true = h in cc
-refused_for (Err f) o m h a e = ap (λ x. Some (calculation_of x)) a ∙ e
+refused_for r o m h a e = grind arith
 
 -- ---- the parts of radicands
 

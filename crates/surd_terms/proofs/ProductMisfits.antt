@@ -1,18 +1,13 @@
 -- What the product of two terms is refused for.
-use Rattle.std.proofs.Common.{◌≡◌, ◌≢◌, true, false, ℕ, zero, suc, ◌*◌, ◌/◌, ◌≤◌, ◌⊎◌, inl, inr, Bool, List, [], ◌∷◌, Option, Some, None, Result, pos, refl, sym, ap, ◌∙◌, subst, arith}
-use Rattle.std.specs.Prelude.{if◌then◌else◌, ◌||◌, ◌==◌, IsErr, IsErrAnd}
-use Rattle.surd_terms.proofs.Shared.{IsGcd, eq-eqb, ne_eqb, one-dvd, IsClean, Term, fraction_fits, gcd, Fraction, whole_fraction, times, Mul, Overflow, Calculation, calculation, does_fit, first_misfit, has_rational, radicand_calculations, cancelled_calculations, IsCancelled, IsCancelledMisfit, IsProductMisfit, calculation_of, misfit_of, HasRational}
-use Rattle.surd_terms.proofs.Misfits.{passed, refused_for}
+use Rattle.std.proofs.Common.{◌≡◌, ◌≢◌, true, false, ℕ, ◌*◌, ◌/◌, inl, inr, List, [], ◌∷◌, Option, Some, None, Result, pos, refl, sym, ap, ◌∙◌, subst, arith}
+use Rattle.std.specs.Prelude.{if◌then◌else◌, IsErr, IsErrAnd}
+use Rattle.surd_terms.proofs.Shared.{one-dvd, IsClean, Term, gcd, Fraction, whole_fraction, Mul, Overflow, Calculation, calculation, does_fit, first_misfit, has_rational, radicand_calculations, cancelled_calculations, IsCancelled, IsCancelledMisfit, IsProductMisfit, calculation_of, misfit_of, HasRational}
+use Rattle.surd_terms.proofs.Misfits.{refused_for}
 use Rattle.surd_terms.proofs.Values.{times_whole_one}
 use Rattle.surd_terms.proofs.WholeFactors.{cancelled_misfit}
 
 is_rational : (a b : Term) → HasRational a b → has_rational a b ≡ true
-is_rational a b (inl e) = ap (λ x. x || (b.radicand == 1)) (eq-eqb a.radicand 1 e)
-is_rational a b (inr e) = ap (λ x. (a.radicand == 1) || x) (eq-eqb b.radicand 1 e) ∙ or_true (a.radicand == 1)
-  where
-    or_true : (x : Bool) → (x || true) ≡ true
-    or_true true = refl
-    or_true false = refl
+is_rational a b h = grind arith
 
 nothing_of_radicands : (a b : Term) → HasRational a b → radicand_calculations a b ≡ []
 nothing_of_radicands a b h = ap (λ x. if x then [] else (calculation Mul (whole_fraction (pos (a.radicand / gcd a.radicand b.radicand))) (whole_fraction (pos (b.radicand / gcd a.radicand b.radicand))) ∷ [])) (is_rational a b h)
@@ -29,16 +24,7 @@ nothing_cancelled c d = record {
 }
 
 by_one : (c d : Fraction) → first_misfit (cancelled_calculations c d 1 1 1) ≡ first_misfit (calculation Mul c d ∷ [])
-by_one c d =
-    (λ i. first_misfit (calculation Mul (times_whole_one c i) (times_whole_one d i) ∷ calculation Mul (times (times_whole_one c i) (times_whole_one d i)) (whole_fraction (pos 1)) ∷ []))
-    ∙ by (does_fit (calculation Mul c d)) refl
-  where
-    by : (b : Bool) → does_fit (calculation Mul c d) ≡ b → first_misfit (calculation Mul c d ∷ calculation Mul (times c d) (whole_fraction (pos 1)) ∷ []) ≡ first_misfit (calculation Mul c d ∷ [])
-    by true e =
-        passed (calculation Mul c d) (calculation Mul (times c d) (whole_fraction (pos 1)) ∷ []) e
-        ∙ passed (calculation Mul (times c d) (whole_fraction (pos 1))) [] (ap fraction_fits (times_whole_one (times c d)) ∙ e)
-        ∙ sym (passed (calculation Mul c d) [] e)
-    by false e = stopped (calculation Mul c d) (calculation Mul (times c d) (whole_fraction (pos 1)) ∷ []) e ∙ sym (stopped (calculation Mul c d) [] e)
+by_one c d = grind (arith, times_whole_one, stopped)
 
 -- with a rational factor it is the product of the coefficients
 pub rational_misfit : (a b : Term) (misfit : Option Calculation) → HasRational a b → IsClean a.radicand → IsClean b.radicand → misfit ≡ first_misfit (calculation Mul a.coefficient b.coefficient ∷ []) → IsProductMisfit a b misfit
@@ -58,12 +44,7 @@ rational_misfit a b misfit h p q e = record {
 -- with two roots it is that of the radicands over what they share
 pub two_roots : (a b : Term) (r s : ℕ) → r ≡ a.radicand → s ≡ b.radicand → r ≢ 1 → s ≢ 1
     → None ≡ first_misfit (calculation Mul (whole_fraction (pos (r / gcd r s))) (whole_fraction (pos (s / gcd r s))) ∷ []) → None ≡ first_misfit (radicand_calculations a b)
-two_roots a b r s e f h k n =
-    n ∙ (λ i. first_misfit (calculation Mul (whole_fraction (pos (e i / gcd (e i) (f i)))) (whole_fraction (pos (f i / gcd (e i) (f i)))) ∷ []))
-    ∙ ap (λ x. first_misfit (if x then [] else (calculation Mul (whole_fraction (pos (a.radicand / gcd a.radicand b.radicand))) (whole_fraction (pos (b.radicand / gcd a.radicand b.radicand))) ∷ []))) (sym none_rational)
-  where
-    none_rational : has_rational a b ≡ false
-    none_rational = (λ i. ne_eqb a.radicand 1 (λ g. h (e ∙ g)) i || ne_eqb b.radicand 1 (λ g. k (f ∙ g)) i)
+two_roots a b r s e f h k n = grind arith
 
 -- a refusal that is passed on
 pub cancelled_for : {A : Type 0} (r : Result A Overflow) (o : Overflow) (c d c' d' : Fraction) (n : ℕ) → IsErr r → IsErrAnd r (λ x. x ≡ o) → c ≡ c' → d ≡ d' → IsCancelledMisfit c d n (Some (calculation_of o)) → IsCancelledMisfit c' d' n (misfit_of r)
@@ -71,11 +52,4 @@ cancelled_for r o c d c' d' n h a e f m = subst (λ x. IsCancelledMisfit c' d' n
 
 -- where they have one
 pub coefficients_misfit : (a b : Term) (misfit : Option Calculation) (root rest : ℕ) → None ≡ first_misfit (radicand_calculations a b) → a.radicand * b.radicand ≡ root * root * rest → IsClean rest → IsCancelledMisfit a.coefficient b.coefficient root misfit → IsProductMisfit a b misfit
-coefficients_misfit a b misfit root rest none e clean m = record {
-  root = root;
-  rest = rest;
-  square = λ _. e;
-  clean = λ _. clean;
-  of_radicands = λ c f. absurd (let e : None ≡ Some c = none ∙ f in cc);
-  of_coefficients = λ _. m;
-}
+coefficients_misfit a b misfit root rest h e k m = grind arith

@@ -1,18 +1,12 @@
 -- Clean radicands, and how large the parts of a radicand are.
 use Rattle.std.proofs.Common.{◌≡◌, ℕ, zero, suc, ◌*◌, ◌/◌, ◌<◌, ◌≤◌, ◌^◌, sym, ap, ◌∙◌, arith, mul-le-mul, lt_of_le_of_lt}
-use Rattle.surd_terms.proofs.Shared.{IsGcd, mul-div_cancel', dvd-zero, IsClean, mul_pos}
+use Rattle.surd_terms.proofs.Shared.{IsGcd, mul-div_cancel', IsClean, mul_pos}
 use Rattle.std.specs.Int.{◌∣◌}
 use Rattle.square_parts.proofs.LeftOf.{left_of_is}
 use native.Mathlib.Nat.{pos_of_dvd_of_pos}
 
--- a clean number is at least 1
-pub clean_positive : (r : ℕ) → IsClean r → 1 ≤ r
-clean_positive zero h = absurd (h.no_square 2 (omega arith) (omega arith) (dvd-zero 4))
-clean_positive (suc r) h = omega arith
-
 square_above_one : (d n : ℕ) → 1 ≡ d * d * n → 1 < d → ⊥
-square_above_one d zero e h = absurd (omega arith)
-square_above_one d (suc n) e h = let two : 2 ≤ d = omega arith in let one : 1 ≤ suc n = omega arith in omega (arith, mul-le-mul (mul-le-mul two two) one)
+square_above_one d n e h = grind arith
 
 pub clean_one : IsClean 1
 clean_one = record {

@@ -1,5 +1,5 @@
 -- Rationals of the code that are not 0, and whole ones.
-use Rattle.std.proofs.Common.{◌≡◌, true, ◌≢◌, ℕ, zero, suc, ◌*◌, ◌≤◌, ℤ, pos, sym, ap, ◌∙◌, arith}
+use Rattle.std.proofs.Common.{◌≡◌, true, ◌≢◌, ℕ, ◌*◌, ◌≤◌, ℤ, pos, sym, ap, ◌∙◌, arith}
 use Rattle.surd_terms.proofs.Shared.{fraction_fits, times_comm, one_times, Fraction, lowest, times, zero_fraction, one_fraction, times_lowest, whole_fraction, int_is_zero, ratio_of, value_of, Rat, zero_is, whole_numerator, ratio_parts, parts_fit}
 use Rattle.calc_terms.specs.Ratio.{Ratio, whole}
 
@@ -31,8 +31,7 @@ whole_num_of r n e = sym (ratio_parts r).num ∙ ap (λ (f : Fraction). f.num) e
 -- a whole number that is not 0
 pub whole_not_zero : (n : ℕ) → 1 ≤ n → whole_fraction (pos n) ≢ zero_fraction
 unfolding zero_fraction
-whole_not_zero zero h e = absurd (omega arith)
-whole_not_zero (suc n) h e = let f : pos (suc n) ≡ pos 0 = sym (whole_numerator (pos (suc n))) ∙ ap (λ (x : Fraction). x.num) e ∙ whole_numerator (pos 0) in cc
+whole_not_zero n h e = grind (arith, whole_numerator)
 
 -- the fraction that a rational is fits
 pub rational_fits : (r : Rat) → fraction_fits (value_of r) ≡ true

@@ -21,9 +21,7 @@ sum_joins joined.Zero t a b h s c =
 sum_joins (joined.Term u) t a b h s c = (h, Same-trans (Same-eq (ap (λ x. x ∷ []) c)) (sum_value t a b s))
 
 pub sum_is : (j : Joined) (t a b : Term) → IsSum t a b → ComesTo j t → IfTerm j (λ u. IsSum u a b)
-sum_is joined.Apart t a b s c = absurd c
-sum_is joined.Zero t a b s c = tt
-sum_is (joined.Term u) t a b s c = rw c s
+sum_is j t a b s c = grind arith
 
 -- a square before the root keeps the value
 pub extracted_value : (t u : Term) → IsExtracted t u → Same (t ∷ []) (u ∷ [])
@@ -65,14 +63,7 @@ times_not_zero q a b a' b' h k e f g z = product_not_zero a b h k (sym (λ i. ti
 
 -- where nothing is taken out
 pub extracted_nothing : (t u : Term) → t ≡ u → IsExtracted t u
-extracted_nothing t u e = record {
-  root = 1;
-  square = ap (λ (x : Term). x.radicand) (sym e) ∙ once t.radicand;
-  coefficient = ap (λ (x : Term). x.coefficient) e ∙ sym (times_whole_one u.coefficient);
-}
-  where
-    once : (n : ℕ) → n ≡ 1 * 1 * n
-    once n = omega arith
+extracted_nothing t u e = grind (arith, times_whole_one)
 
 -- ---- inverses
 
@@ -90,6 +81,4 @@ conjugates_not_zero a b h k l n = difference_not_zero a.coefficient b.coefficien
 -- the inverse of the sum of two terms, by its formula
 pub conjugate_inverts : (t u a b : Term) → a.coefficient ≢ zero_fraction → 1 ≤ a.radicand → 1 ≤ b.radicand → are_alike a.radicand b.radicand ≡ false
     → t ≡ first_of_inverse a b → u ≡ second_of_inverse a b → Inverts (t ∷ u ∷ []) (a ∷ b ∷ [])
-conjugate_inverts t u a b h k l n e f =
-    Inverts-Same (Same-eq (λ i. sym e i ∷ sym f i ∷ [])) (Same-refl (a ∷ b ∷ []))
-    (terms_have_inverse a.coefficient b.coefficient a.radicand b.radicand h k l n)
+conjugate_inverts t u a b h k l n e f = grind (arith, Inverts-Same, Same-eq, Same-refl, terms_have_inverse)

@@ -1,9 +1,8 @@
 -- A whole number cancelled against the denominators of two fractions.
-use Rattle.std.proofs.Common.{◌≡◌, true, false, ◌≢◌, ℕ, zero, suc, ◌*◌, ◌/◌, ◌<◌, ◌≤◌, ◌^◌, ℤ, pos, ◌*ℤ◌, Bool, Option, Some, None, [], ◌∷◌, refl, sym, ap, ◌∙◌, subst, arith}
+use Rattle.std.proofs.Common.{◌≡◌, true, ℕ, zero, suc, ◌*◌, ◌/◌, ◌<◌, ◌≤◌, ℤ, pos, ◌*ℤ◌, Bool, Option, Some, None, sym, ap, ◌∙◌, subst, arith}
 use Rattle.std.specs.Prelude.{nat_abs, if◌then◌else◌}
-use Rattle.surd_terms.proofs.Shared.{and_parts, ltb-true, IsGcd, ints, unsigned_abs-mul, dvd_refl, dvd_trans, mul-div_cancel', mul-div_cancel_left, dvd-mul_right, dvd-mul_left, mul-dvd-mul, pos_of_dvd_of_pos, times_comm, times_assoc, fraction_fits, Fraction, lowest, times, whole_fraction, times_lowest, lowest_parts, den_pos, same_lowest, is_lowest, mul_pos, gcd, gcd_is, parts, diffs, eq_diff, IsCoprime, IsCoprime-swap, IsGcd-from_coprime, IsCoprime-divisors, IsCoprime-mul, quotients_coprime, factor_divides, positive_factor, HasParts, parts_by_cross, parts_themselves, fraction_coprime, is_lowest_from, unfit_num, unfit_den, parts_fit, Mul, Calculation, calculation, does_fit, first_misfit, IsCancelled, cancelled_calculations, IsCancelledMisfit}
+use Rattle.surd_terms.proofs.Shared.{IsGcd, unsigned_abs-mul, dvd_refl, dvd_trans, mul-div_cancel', mul-div_cancel_left, dvd-mul_right, dvd-mul_left, mul-dvd-mul, pos_of_dvd_of_pos, times_comm, times_assoc, fraction_fits, Fraction, lowest, times, whole_fraction, times_lowest, lowest_parts, den_pos, same_lowest, is_lowest, mul_pos, gcd, gcd_is, parts, diffs, eq_diff, IsCoprime, IsCoprime-swap, IsGcd-from_coprime, IsCoprime-divisors, IsCoprime-mul, quotients_coprime, factor_divides, positive_factor, HasParts, parts_by_cross, parts_themselves, fraction_coprime, is_lowest_from, Mul, Calculation, calculation, first_misfit, IsCancelled, cancelled_calculations, IsCancelledMisfit}
 use Rattle.std.specs.Int.{◌∣◌}
-use Rattle.surd_terms.proofs.Misfits.{passed}
 use Rattle.surd_terms.proofs.Rationals.{whole_times}
 use native.Mathlib.Nat.{div-mul_cancel, mul-one}
 
@@ -63,13 +62,7 @@ below_part m n b h k = grind arith
 
 -- a fraction fits where its product with such a number does
 part_fits : (q : Fraction) (n : ℕ) → 1 ≤ n → IsCoprime n q.den → fraction_fits (times q (whole_fraction (pos n))) ≡ true → fraction_fits q ≡ true
-part_fits q n h apart fits =
-    let p = whole_product_parts q n apart in
-    let (u, v) = and_parts _ _ fits in
-    let size : nat_abs (times q (whole_fraction (pos n))).num ≡ nat_abs q.num * n = ap nat_abs p.num ∙ unsigned_abs-mul q.num (pos n) in
-    let num : nat_abs q.num < 2 ^ 127 = below_part (nat_abs q.num) n (2 ^ 127) h (subst (λ m. m < 2 ^ 127) size (ltb-true _ _ u)) in
-    let den : q.den < 2 ^ 127 = subst (λ m. m < 2 ^ 127) p.den (ltb-true _ _ v) in
-    parts_fit q q.num q.den (record { num = refl; den = refl }) num den
+part_fits q n h k l = grind (arith, whole_product_parts, unsigned_abs-mul, below_part)
 
 -- ---- a whole number that is cancelled
 
@@ -87,11 +80,7 @@ module _ (c d : Fraction) (n first second rest : ℕ) (h : 1 ≤ n) (is : IsCanc
   second_positive = pos_of_dvd_of_pos is.with_second.1 (den_pos d)
 
   pub rest_positive : 1 ≤ rest
-  rest_positive = by rest (subst (λ m. 1 ≤ m) is.whole h)
-    where
-      by : (r : ℕ) → 1 ≤ first * second * r → 1 ≤ r
-      by zero k = absurd (omega arith)
-      by (suc r) k = omega arith
+  rest_positive = grind arith
 
   left_is : n / first ≡ second * rest
   left_is = ap (λ m. m / first) (is.whole ∙ regrouped) ∙ mul-div_cancel_left (second * rest) first_positive
@@ -134,35 +123,16 @@ module _ (c d : Fraction) (n first second rest : ℕ) (h : 1 ≤ n) (is : IsCanc
   two = calculation Mul (times x y) (whole_fraction (pos rest))
 
   none_is : (p q : Bool) → (if p then (if q then None else Some two) else Some one) ≡ None → q ≡ true
-  none_is true true e = refl
-  none_is true false e = absurd (cc e)
-  none_is false q e = absurd (cc e)
+  none_is p q e = grind arith
 
   -- so that something is refused exactly where the whole does not fit
   pub cancelled_misfit : (misfit : Option Calculation) → misfit ≡ first_misfit (cancelled_calculations c d first second rest) → IsCancelledMisfit c d n misfit
   unfolding one two
-  cancelled_misfit misfit named = record {
-    first = first;
-    second = second;
-    rest = rest;
-    cancelled = is;
-    named = named;
-    exactly = (forward, back);
-  }
-    where
-      forward : misfit ≡ None → fraction_fits (times (times c d) (whole_fraction (pos n))) ≡ true
-      forward e = ap fraction_fits (sym cancelled_product) ∙ none_is (does_fit one) (does_fit two) (sym named ∙ e)
-
-      back : fraction_fits (times (times c d) (whole_fraction (pos n))) ≡ true → misfit ≡ None
-      back fits =
-          let second-fits : does_fit two ≡ true = ap fraction_fits cancelled_product ∙ fits in
-          let first-fits : does_fit one ≡ true = part_fits (times x y) rest rest_positive apart second-fits in
-          named ∙ passed one (two ∷ []) first-fits ∙ passed two [] second-fits
+  cancelled_misfit misfit h = grind (arith, cancelled_product, none_is, one, two, part_fits, rest_positive, apart)
 
 -- a quotient is no greater than the number
 pub part_le : (n h : ℕ) → n / h ≤ n
-part_le n zero = omega arith
-part_le n (suc h) = grind arith
+part_le n h = grind arith
 
 -- what is cancelled against the two denominators, with the rest, makes the number
 pub cancelled_is : (c d : Fraction) (n q s first second : ℕ) → 1 ≤ n → q ≡ c.den → s ≡ d.den → IsGcd n q first → IsGcd (n / first) s second → IsCancelled n c d first second (n / first / second)

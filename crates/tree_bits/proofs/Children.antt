@@ -1,11 +1,10 @@
 -- Sums of several trees.
-use Rattle.std.proofs.Common.{◌≡◌, ℕ, ◌+◌, ◌*◌, ◌^◌, ◌≤◌, List, [], ◌∷◌, ◌++◌, true, false, arith}
-use Rattle.tree_bits.proofs.Shared.{mul-le, pow-add, pow-le-pow_right, HighLow, Tree, Trees, none, more, count, is_undef, IsSumHeld, addends_of_each, AreTreesHeld, power_sum, largest_high, low_sum, Addend, addends, IsTreeHeld, undef_held, sum_held, AreWeighted, none_weighted, more_weighted, Weighted}
+use Rattle.std.proofs.Common.{◌≡◌, ℕ, ◌+◌, ◌*◌, ◌^◌, ◌≤◌, List, [], ◌∷◌, ◌++◌, false, arith}
+use Rattle.tree_bits.proofs.Shared.{mul-le, pow-add, pow-le-pow_right, HighLow, Tree, Trees, none, more, count, is_undef, IsSumHeld, addends_of_each, AreTreesHeld, power_sum, largest_high, low_sum, Addend, addends, IsTreeHeld, sum_held, AreWeighted, none_weighted, more_weighted, Weighted}
 use Rattle.tree_bits.proofs.Sums.{AreWithin, are_within, held_within, sums_within}
 
 pub tree_as_sum : {t : Tree} {h l : ℕ} → is_undef t ≡ false → IsTreeHeld t h l → IsSumHeld (addends t) h l
-tree_as_sum u undef_held = absurd (let e : true ≡ false = u in cc)
-tree_as_sum u (sum_held ws a k) = record { terms = ws; weighted = a; held = k }
+tree_as_sum u h = grind arith
 
 pub weighted_both : {xs ys : List Addend} {ws vs : List Weighted} → AreWeighted xs ws → AreWeighted ys vs → AreWeighted (xs ++ ys) (ws ++ vs)
 weighted_both none_weighted b = b

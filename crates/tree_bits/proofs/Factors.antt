@@ -1,6 +1,6 @@
 -- Trees as factors, products, and coefficients that are distributed.
 use Rattle.std.proofs.Common.{◌≡◌, ℕ, ◌+◌, ◌*◌, ◌^◌, ◌-◌, ◌≤◌, List, [], ◌∷◌, Bool, true, false, if◌then◌else◌, not, negsuc, refl, sym, ap, ◌∙◌, subst, arith}
-use Rattle.tree_bits.proofs.Shared.{mul-le, pow-add, is_number, value, Surd, term, surd_one, surd_times, Parts, magnitude_over, root_above, mass, IsHeld, two_powers, parts_times, mass_times, abs_cross, den_divides, magnitude_is, root_least, HighLow, lowest, one_fraction, minus_one_fraction, mul_pos, num_one, Tree, symbol, root, add, Trees, none, more, is_add, is_undef, Counts, counts, counts_of, IsSumHeld, AreTreesHeld, ArePositive, high_sum, low_sum, as_factor, multiplied, product_of, distributed, surd_minus_one, Addend, addend, addend_of, addends, base_in, exponent_in, power_high, power_low, IsTreeHeld, AreWeighted, none_weighted, more_weighted, IsPartHeld, no_factor_held, factor_held, IsBaseHeld, symbol_held, root_held, tree_held, Weighted, weighted, PartsAll, lows, weighted_mass, AreHeld}
+use Rattle.tree_bits.proofs.Shared.{mul-le, pow-add, is_number, value, Surd, term, surd_one, surd_times, Parts, magnitude_over, mass, IsHeld, two_powers, parts_times, mass_times, abs_cross, den_divides, magnitude_is, root_least, HighLow, lowest, one_fraction, minus_one_fraction, mul_pos, num_one, Tree, symbol, root, add, Trees, none, more, is_add, is_undef, Counts, counts, counts_of, IsSumHeld, AreTreesHeld, ArePositive, high_sum, low_sum, as_factor, multiplied, product_of, distributed, surd_minus_one, Addend, addend, addend_of, addends, base_in, exponent_in, power_high, power_low, IsTreeHeld, AreWeighted, none_weighted, more_weighted, IsPartHeld, no_factor_held, factor_held, IsBaseHeld, symbol_held, root_held, tree_held, Weighted, weighted, PartsAll, lows, weighted_mass, AreHeld}
 use Rattle.tree_bits.proofs.Children.{tree_as_sum, sum_as_tree}
 use Rattle.tree_bits.proofs.HeldTrees.{parts_multiply}
 use Rattle.tree_bits.proofs.Numbers.{alone}
@@ -10,12 +10,7 @@ use Rattle.tree_bits.proofs.Sums.{tree_wider, one_weighted, one_counted, one_cou
 -- ---- trees as factors
 
 no_sum : (t : Tree) → is_add t ≡ false → addends t ≡ as_factor t ∷ []
-no_sum (add ts) h = absurd (let e : true ≡ false = h in cc)
-no_sum t h = by (is_number t)
-  where
-    by : (b : Bool) → (if b then addend (value t) none ∷ [] else addend_of t ∷ []) ≡ (if b then addend (value t) none else addend_of t) ∷ []
-    by true = refl
-    by false = refl
+no_sum t h = grind arith
 
 as_number : (t : Tree) → is_number t ≡ true → as_factor t ≡ addend (value t) none
 as_number t h = ap (λ (b : Bool). if b then addend (value t) none else addend_of t) h
@@ -189,14 +184,4 @@ minus_one_magnitude : magnitude_over 1 minus_one_fraction ≡ 1
 minus_one_magnitude = magnitude_is 1 (lowest (negsuc 0) 1) 1 1 1 (den_divides (negsuc 0) 1 (omega arith)) (omega arith) (abs_cross (negsuc 0) 1 (omega arith)) refl
 
 pub minus_one_held : IsHeld surd_minus_one 0 0
-minus_one_held = record {
-  denominator = 1;
-  parts = one_parts;
-  low = omega arith;
-  scale = 1;
-  scaled = one_parts;
-  high = let l : root_above (magnitude_over 1 minus_one_fraction * magnitude_over 1 minus_one_fraction * 1) ≤ 1 = root_least _ 1 (omega (arith, ap (λ k. k * k * 1) minus_one_magnitude)) in omega arith;
-}
-  where
-    one_parts : Parts 1 surd_minus_one
-    one_parts = record { positive = omega arith; whole = (den_divides (negsuc 0) 1 (omega arith), tt) }
+minus_one_held = grind (arith, root_least, minus_one_magnitude, den_divides)

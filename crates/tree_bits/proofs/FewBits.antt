@@ -1,14 +1,12 @@
 -- The bits of the parts of a tree, and highs of at least 1.
-use Rattle.std.proofs.Common.{◌≡◌, ℕ, suc, ◌+◌, ◌*◌, ◌≤◌, max, ℤ, pos, negsuc, Bool, true, false, if◌then◌else◌, refl, arith}
-use Rattle.std.specs.Prelude.{Option, Some, None}
-use Rattle.tree_bits.proofs.Shared.{mul-le, whole_literal, half_literal, or_literal, HighLow, power_bounds, bounds, high, bits, most_bits, most_bits_of, all_simple, Tree, num, symbol, undef, add, mult, power, root, neg, sub, div, Trees, none, more, AllParts, AllPartsOf, IsComplete, IsWithinBits}
+use Rattle.std.proofs.Common.{◌≡◌, ℕ, ◌≤◌, ℤ, Bool, true, if◌then◌else◌, arith}
+use Rattle.std.specs.Prelude.{Option}
+use Rattle.tree_bits.proofs.Shared.{whole_literal, half_literal, or_literal, HighLow, power_bounds, bounds, high, bits, most_bits, most_bits_of, all_simple, Tree, num, symbol, undef, add, mult, power, root, neg, sub, div, Trees, none, more, AllParts, AllPartsOf, IsComplete, IsWithinBits}
 
 -- ---- highs of at least 1
 
 power_positive : (n : Option ℤ) (b : HighLow) → 1 ≤ b.high → 1 ≤ (power_bounds n b).high
-power_positive None b h = h
-power_positive (Some (pos n)) b h = let a : 1 * 1 ≤ max 1 n * b.high = mul-le 1 1 (max 1 n) b.high (omega arith) h in omega arith
-power_positive (Some (negsuc n)) b h = let a : 1 * 1 ≤ suc n * (b.high + 2 * b.low) = mul-le 1 1 (suc n) (b.high + 2 * b.low) (omega arith) (omega arith) in omega arith
+power_positive n b h = grind arith
 
 mutual
   pub high_positive : (t : Tree) → IsComplete t → 1 ≤ high t
@@ -45,8 +43,7 @@ mutual
   all_parts_within (more t ts) h = (parts_within t (omega arith), all_parts_within ts (omega arith))
 
 few : (b : Bool) (n : ℕ) → (if b then n else 125) ≤ 124 → (b ≡ true) × (n ≤ 124)
-few true n h = (refl, h)
-few false n h = absurd (omega arith)
+few b n h = grind arith
 
 pub few_simple : (t : Tree) → bits t ≤ 124 → all_simple t ≡ true
 few_simple t h = (few (all_simple t) (most_bits t) h).0

@@ -1,21 +1,15 @@
 -- What holds trees: the lesser of two bounds, and products of parts.
-use Rattle.std.proofs.Common.{◌≡◌, ℕ, ◌+◌, ◌*◌, ◌≤◌, List, ◌∷◌, min, Bool, true, false, not, refl, ap, arith}
-use Rattle.tree_bits.proofs.Shared.{mul-le, is_number, Surd, Tree, root, Trees, append, Counts, counts_of, Addend, exponent_in, power_high, power_low, IsTreeHeld, undef_held, sum_held, AreWeighted, none_weighted, more_weighted, IsPartHeld, no_factor_held, factor_held, IsBaseHeld, symbol_held, root_held, tree_held, Weighted, coefficients, lesser}
+use Rattle.std.proofs.Common.{◌≡◌, ℕ, ◌+◌, ◌≤◌, List, ◌∷◌, min, Bool, true, false, not, refl, ap, arith}
+use Rattle.tree_bits.proofs.Shared.{is_number, Surd, Tree, root, Trees, append, Counts, counts_of, Addend, exponent_in, power_high, power_low, IsTreeHeld, undef_held, sum_held, AreWeighted, none_weighted, more_weighted, IsPartHeld, no_factor_held, factor_held, IsBaseHeld, symbol_held, root_held, tree_held, Weighted, coefficients, lesser}
 use Rattle.tree_bits.proofs.Weighted.{held_by_both}
 
 -- ---- powers of a base that is held by less
 
 pub high_at_most : (c : Counts) (p q h l : ℕ) → p ≤ h → q ≤ l → power_high c p q ≤ power_high c h l
-high_at_most c p q h l x y =
-    let a : c.up * p ≤ c.up * h = mul-le c.up p c.up h (omega arith) x in
-    let b : c.down * (p + 2 * q) ≤ c.down * (h + 2 * l) = mul-le c.down (p + 2 * q) c.down (h + 2 * l) (omega arith) (omega arith) in
-    omega arith
+high_at_most c p q h l x y = grind arith
 
 pub low_at_most : (c : Counts) (p q h l : ℕ) → p ≤ h → q ≤ l → power_low c p q ≤ power_low c h l
-low_at_most c p q h l x y =
-    let a : c.up * q ≤ c.up * l = mul-le c.up q c.up l (omega arith) y in
-    let b : c.down * (2 * p + 2 * q) ≤ c.down * (2 * h + 2 * l) = mul-le c.down (2 * p + 2 * q) c.down (2 * h + 2 * l) (omega arith) (omega arith) in
-    omega arith
+low_at_most c p q h l x y = grind arith
 
 pub min_first : (a b : ℕ) → min a b ≤ a
 min_first a b = omega arith
@@ -34,8 +28,7 @@ same_coefficients none_weighted none_weighted = refl
 same_coefficients (more_weighted {a = a} h l p x) (more_weighted k n q y) = ap (λ (cs : List Surd). a.coefficient ∷ cs) (same_coefficients x y)
 
 no_number : (b : Bool) → b ≡ false → not b ≡ false → ⊥
-no_number true h k = cc
-no_number false h k = cc
+no_number b h k = grind arith
 
 -- ---- the lesser of two bounds
 

@@ -1,15 +1,13 @@
 -- Numbers are held as trees as they are held as surds.
-use Rattle.std.proofs.Common.{◌≡◌, ℕ, ◌+◌, ◌-◌, ◌*◌, ◌^◌, ◌≤◌, List, [], ◌∷◌, Bool, true, false, if◌then◌else◌, refl, sym, ap, ◌∙◌, subst, arith}
+use Rattle.std.proofs.Common.{◌≡◌, ℕ, ◌+◌, ◌-◌, ◌*◌, ◌^◌, ◌≤◌, List, [], ◌∷◌, Bool, true, if◌then◌else◌, refl, sym, ap, ◌∙◌, subst, arith}
 use Rattle.std.specs.Prelude.{◌&&◌, nat_le, length}
-use Rattle.tree_bits.proofs.Shared.{mul-le, pow_pos, pow-le-pow_right, is_number, is_term, are_terms, rises, terms_of, value, number_terms, other_terms, Surd, mass, IsHeld, Tree, undef, add, Trees, none, more, counts_of, Addend, addend, addend_of, addends, addends_of, exponent_in, IsTreeHeld, undef_held, sum_held, AreWeighted, none_weighted, more_weighted, IsPartHeld, no_factor_held, factor_held, IsBaseHeld, symbol_held, root_held, tree_held, Weighted, weighted, AreHeld}
+use Rattle.tree_bits.proofs.Shared.{mul-le, pow_pos, pow-le-pow_right, is_number, is_term, are_terms, rises, terms_of, value, number_terms, other_terms, Surd, mass, IsHeld, Tree, undef, add, Trees, none, more, counts_of, Addend, addend, addends, exponent_in, IsTreeHeld, sum_held, AreWeighted, none_weighted, more_weighted, IsPartHeld, no_factor_held, factor_held, IsBaseHeld, Weighted, weighted, AreHeld}
 use Rattle.tree_bits.proofs.Weighted.{put_before, split_off}
 
 -- ---- the one addend of a Number
 
 both_true : (a b : Bool) → (a && b) ≡ true → (a ≡ true) × (b ≡ true)
-both_true true true h = (refl, refl)
-both_true true false h = cc
-both_true false b h = cc
+both_true a b h = grind arith
 
 all_number : (ts : Trees) → are_terms ts ≡ true → number_terms ts ≡ ts
 all_number none h = refl
@@ -28,8 +26,7 @@ unfolding is_number
 sum_terms ts h = (both_true (nat_le 2 (length (terms_of ts))) (are_terms ts) (both_true (nat_le 2 (length (terms_of ts)) && are_terms ts) (rises (terms_of ts)) h).0).1
 
 pub alone : (t : Tree) → is_number t ≡ true → addends t ≡ addend (value t) none ∷ []
-alone (add ts) h = let a = sum_terms ts h in λ i. addend (terms_of (all_number ts a i)) none ∷ addends_of (no_other ts a i)
-alone t h = ap (λ (b : Bool). if b then addend (value t) none ∷ [] else addend_of t ∷ []) h
+alone t h = grind (arith, sum_terms, all_number, no_other)
 
 -- ---- held by more
 
@@ -77,21 +74,15 @@ unfolding is_number
 no_undef h = cc
 
 pub held_number : {t : Tree} {h l : ℕ} → is_number t ≡ true → IsTreeHeld t h l → IsHeld (value t) h l
-held_number n undef_held = absurd (no_undef n)
-held_number {t = t} n (sum_held ws a x) = of_one (subst (λ (x : List Addend). AreWeighted x ws) (alone t n) a) x
+held_number n h = grind (arith, no_undef, of_one, alone)
 
 -- ---- exponents
 
 base_positive : {b : Tree} {h l : ℕ} → IsBaseHeld b h l → 1 ≤ h
-base_positive (symbol_held x) = x
-base_positive (root_held x i a) = x
-base_positive (tree_held x i a) = x
+base_positive h = grind arith
 
 counted_within : (u v p q k h : ℕ) → 1 ≤ p → (u * p + v * (p + 2 * q)) + k ≤ h → u + v ≤ h
-counted_within u v p q k h x y =
-    let a : u * 1 ≤ u * p = mul-le u 1 u p (omega arith) x in
-    let b : v * 1 ≤ v * (p + 2 * q) = mul-le v 1 v (p + 2 * q) (omega arith) (omega arith) in
-    omega arith
+counted_within u v p q k h x y = grind arith
 
 pub exponents_within : {t : Tree} {ts : Trees} {h l : ℕ} → IsPartHeld (more t ts) h l → (counts_of (exponent_in t)).up + (counts_of (exponent_in t)).down ≤ h
 exponents_within {t = t} {h = h} (factor_held p q k n c b r x y) = counted_within (counts_of (exponent_in t)).up (counts_of (exponent_in t)).down p q k h (base_positive b) x

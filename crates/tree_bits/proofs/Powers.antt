@@ -48,8 +48,7 @@ part_turned n (more t ts) (more u us) h l (e, es) (factor_held p q k j c b r x y
     (turned_low (suc n) (counts_of (exponent_in t)).up (counts_of (exponent_in t)).down _ _ p q k j h l e.within.up e.within.down x y)
 
 part_power : (n : ℤ) (ts us : Trees) (h l : ℕ) → IsPartPower n ts us → IsPartHeld ts h l → IsPartHeld us (raised_high n h l) (raised_low n h l)
-part_power (pos n) ts us h l e a = part_raised n ts us h l e a
-part_power (negsuc n) ts us h l e a = part_turned n ts us h l e a
+part_power n ts us h l e a = grind (arith, part_raised, part_turned)
 
 -- ---- coefficients
 
@@ -60,10 +59,7 @@ pub held_as_inverse : (v w : Surd) → ((h l : ℕ) → IsHeld v h l → IsHeld 
 held_as_inverse v w f h l a = held_wider w (h + 2 * l) (raised_high (negsuc 0) h l) (2 * h + 2 * l) (raised_low (negsuc 0) h l) (omega arith) (omega arith) (f h l a)
 
 pub inverse_raised : (v w u : Surd) (n : ℕ) → IsHeldAsPower (negsuc 0) v w → IsHeldAsPower (pos (suc n)) w u → IsHeldAsPower (negsuc n) v u
-inverse_raised v w u n f g h l a =
-    let x : ℕ = raised_high (negsuc 0) h l in
-    let y : ℕ = raised_low (negsuc 0) h l in
-    held_wider u (raised_high (pos (suc n)) x y) (raised_high (negsuc n) h l) (raised_low (pos (suc n)) x y) (raised_low (negsuc n) h l) (omega arith) (omega arith) (g x y (f h l a))
+inverse_raised v w u n f g h l a = grind arith
 
 -- ---- coefficients with their parts
 
@@ -71,12 +67,10 @@ times_sum : (n a b h : ℕ) → a + b ≤ h → n * a + n * b ≤ n * h
 times_sum n a b h x = let y : n * (a + b) ≤ n * h = mul-le n (a + b) n h (omega arith) x in omega arith
 
 split_high : (n : ℤ) (h l p q : ℕ) → p ≤ h → q ≤ l → raised_high n (h - p) (l - q) + raised_high n p q ≤ raised_high n h l
-split_high (pos n) h l p q x y = times_sum n (h - p) p h (omega arith)
-split_high (negsuc n) h l p q x y = times_sum (suc n) ((h - p) + 2 * (l - q)) (p + 2 * q) (h + 2 * l) (omega arith)
+split_high n h l p q x y = grind (arith, times_sum)
 
 split_low : (n : ℤ) (h l p q : ℕ) → p ≤ h → q ≤ l → raised_low n (h - p) (l - q) + raised_low n p q ≤ raised_low n h l
-split_low (pos n) h l p q x y = times_sum n (l - q) q l (omega arith)
-split_low (negsuc n) h l p q x y = times_sum (suc n) (2 * (h - p) + 2 * (l - q)) (2 * p + 2 * q) (2 * h + 2 * l) (omega arith)
+split_low n h l p q x y = grind (arith, times_sum)
 
 none_left : (n : ℤ) (us : Trees) → IsPartPower n none us → us ≡ none
 none_left n none e = refl

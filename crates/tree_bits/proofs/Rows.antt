@@ -1,7 +1,7 @@
 -- What the bounds on the bits of a node hold, where those of its children hold what these become.
-use Rattle.std.proofs.Common.{◌≡◌, ℕ, suc, ◌+◌, ◌*◌, ◌^◌, ◌≤◌, ◌<◌, List, [], ◌∷◌, ◌++◌, max, ℤ, pos, negsuc, Bool, true, false, if◌then◌else◌, refl, sym, ap, subst, arith}
+use Rattle.std.proofs.Common.{◌≡◌, ℕ, suc, ◌+◌, ◌*◌, ◌^◌, ◌≤◌, ◌<◌, List, [], ◌∷◌, ◌++◌, max, ℤ, negsuc, true, false, refl, sym, ap, subst, arith}
 use Rattle.std.specs.Prelude.{nat_abs, Option, Some}
-use Rattle.tree_bits.proofs.Shared.{mul-le, pow-add, pow_pos, pow-le-pow_right, dvd_refl, is_number, surd_of, magnitude_over, root_above, IsHeld, cancel_right, magnitude_cross, root_least, whole_literal, half_literal, or_literal, HighLow, ceil_log2, power_bounds, bounds, bounds_of_terms, bounds_of_factors, high, low, Fraction, is_zero_fraction, den_pos, Tree, num, symbol, add, mult, power, root, neg, sub, div, Trees, none, more, count, IsComplete, AreComplete, IsSumHeld, addends_of_each, AreTreesHeld, ArePositive, largest_high, high_sum, low_sum, Counts, counts, multiple, counts_of, is_counted, multiplied, product_of, distributed, surd_minus_one, Addend, power_high, power_low, IsTreeHeld, symbol_held, tree_held, IsWithin, IsAddendPower, IsZeroAlone, raised_high, raised_low, bounds_of_each}
+use Rattle.tree_bits.proofs.Shared.{mul-le, pow-add, pow_pos, pow-le-pow_right, dvd_refl, is_number, surd_of, magnitude_over, root_above, IsHeld, cancel_right, magnitude_cross, root_least, whole_literal, half_literal, or_literal, HighLow, ceil_log2, power_bounds, bounds, bounds_of_terms, bounds_of_factors, high, low, Fraction, den_pos, Tree, num, symbol, add, mult, power, root, neg, sub, div, Trees, none, more, count, IsComplete, AreComplete, IsSumHeld, addends_of_each, AreTreesHeld, ArePositive, largest_high, high_sum, low_sum, Counts, counts, multiple, counts_of, is_counted, multiplied, product_of, distributed, surd_minus_one, Addend, power_high, power_low, IsTreeHeld, symbol_held, tree_held, IsWithin, IsAddendPower, IsZeroAlone, raised_high, raised_low, bounds_of_each}
 use Rattle.calc_measures.proofs.CeilLog2.{ceil_log2_is}
 use Rattle.tree_bits.proofs.Children.{weighted_both, trees_by_count}
 use Rattle.tree_bits.proofs.Factors.{tree_as_base, multiplied_held, products_held, distributed_held, minus_one_held}
@@ -45,11 +45,7 @@ unfolding is_number
 rational_is_number q = refl
 
 pub rational_row : (q : Fraction) → IsTreeHeld (num q) (high (num q)) (low (num q))
-rational_row q = number_held (num q) (high (num q)) (low (num q)) (rational_is_number q) (by (is_zero_fraction q))
-  where
-    by : (b : Bool) → IsHeld (if b then [] else surd_of q) (high (num q)) (low (num q))
-    by true = nothing_held (high (num q)) (low (num q))
-    by false = rational_held q
+rational_row q = grind (arith, number_held, rational_is_number, nothing_held, rational_held)
 
 -- ---- sums
 
@@ -68,9 +64,7 @@ lows_of_terms none = refl
 lows_of_terms (more t ts) = ap (λ n. low t + n) (lows_of_terms ts)
 
 pub sum_row : (ts us : Trees) → AreTreesHeld us (bounds_of_each ts) → IsSumHeld (addends_of_each us) (high (add ts)) (low (add ts))
-sum_row ts us k =
-    trees_by_count us (bounds_of_each ts) (bounds_of_terms ts).high (ceil_log2 (count ts)) (bounds_of_terms ts).low k
-    (omega (arith, largest_of_terms ts)) (subst (λ n. n ≤ 2 ^ ceil_log2 (count ts)) (sym (same_count ts us k)) (ceil_log2_is (count ts)).enough) (omega (arith, lows_of_terms ts))
+sum_row ts us k = grind (arith, trees_by_count, largest_of_terms, same_count, ceil_log2_is, lows_of_terms)
 
 pub opposite_row : (a : Tree) (xs : List Addend) → IsSumHeld xs (high a) (low a) → IsSumHeld (distributed surd_minus_one xs) (high (neg a)) (low (neg a))
 opposite_row a xs k = sum_wider (omega arith) (omega arith) (distributed_held surd_minus_one xs (high a) (low a) 0 0 minus_one_held k)
@@ -115,12 +109,8 @@ quotient_row a b x y z e o s t =
 
 -- ---- powers
 
-times_max : (n h : ℕ) → n * h ≤ max 1 n * h
-times_max n h = mul-le n h (max 1 n) h (omega arith) (omega arith)
-
 pub raised_within : (n : ℤ) (b : HighLow) → (raised_high n b.high b.low ≤ (power_bounds (Some n) b).high) × (raised_low n b.high b.low ≤ (power_bounds (Some n) b).low)
-raised_within (pos n) b = (times_max n b.high, times_max n b.low)
-raised_within (negsuc n) b = (omega arith, omega arith)
+raised_within n b = grind arith
 
 by_exponent : (b e : Tree) (n : ℤ) (x y : ℕ) → or_literal (whole_literal e) (half_literal e) ≡ Some n → (x ≤ (power_bounds (Some n) (bounds b)).high) × (y ≤ (power_bounds (Some n) (bounds b)).low)
     → (x ≤ high (power b e)) × (y ≤ low (power b e))
@@ -134,17 +124,10 @@ power_row b e n x y o p z k =
 
 -- counted n times at most, and in the other direction not at all
 one_way : (u v n x y : ℕ) → u ≤ n * 1 → v ≤ n * 0 → u * x + v * y ≤ n * x
-one_way u v n x y a b =
-    let p : u * x ≤ n * x = mul-le u x n x (omega arith) (omega arith) in
-    let q : v * y ≤ 0 * y = mul-le v y 0 y (omega arith) (omega arith) in
-    omega arith
+one_way u v n x y a b = grind arith
 
 kept_bits : (c : Counts) (n : ℤ) (h l : ℕ) → IsWithin c (multiple n (counts 1 0)) → (power_high c h l ≤ raised_high n h l) × (power_low c h l ≤ raised_low n h l)
-kept_bits c (pos n) h l w = (one_way c.up c.down n h (h + 2 * l) w.up w.down, one_way c.up c.down n l (2 * h + 2 * l) w.up w.down)
-kept_bits c (negsuc n) h l w =
-    let a : c.down * (h + 2 * l) + c.up * h ≤ suc n * (h + 2 * l) = one_way c.down c.up (suc n) (h + 2 * l) h w.down w.up in
-    let b : c.down * (2 * h + 2 * l) + c.up * l ≤ suc n * (2 * h + 2 * l) = one_way c.down c.up (suc n) (2 * h + 2 * l) l w.down w.up in
-    (omega (arith, a), omega (arith, b))
+kept_bits c n h l w = grind (arith, one_way)
 
 pub kept_row : (b e c d : Tree) (n : ℤ) → or_literal (whole_literal e) (half_literal e) ≡ Some n → is_counted d ≡ true → IsWithin (counts_of d) (multiple n (counts 1 0))
     → IsComplete b → IsTreeHeld c (high b) (low b) → IsTreeHeld (power c d) (high (power b e)) (low (power b e))

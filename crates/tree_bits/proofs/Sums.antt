@@ -123,10 +123,7 @@ one_held : IsHeld surd_one (0 * 0) (0 * 0)
 one_held = held_power [] 0 0 0 (nothing_held 0 0)
 
 pub one_weighted : (p q : ℕ) → AreHeld (weighted surd_one p q ∷ []) p q
-one_weighted p q = subst (λ x. AreHeld (weighted surd_one p q ∷ []) x q) (nothing p) (subst (λ x. AreHeld (weighted surd_one p q ∷ []) (0 * 0 + p) x) (nothing q) (put_before surd_one (0 * 0) (0 * 0) p q one_held))
-  where
-    nothing : (x : ℕ) → 0 * 0 + x ≡ x
-    nothing x = omega arith
+one_weighted p q = grind (arith, put_before, one_held)
 
 by_itself : (t : Tree) (h l : ℕ) → addends t ≡ addend surd_one (more t none) ∷ [] → IsPartHeld (more t none) h l → IsTreeHeld t h l
 by_itself t h l e p =

@@ -105,9 +105,7 @@ add_right i n from end to left right ct ns p single some e h ha hc hf he b r =
     )
 
 other_step : (t u v : Bool) → cond t true (cond u true v) ≡ true → t ≡ false → u ≡ false → v ≡ true
-other_step true u v h p q = absurd cc
-other_step false true v h p q = absurd cc
-other_step false false v h p q = h
+other_step t u v h p q = grind arith
 
 used_one : (l : Label) (k : Forest) → 0 < used (flatten (tree l k empty))
 used_one l k = omega (arith, size_from (node_of l k))

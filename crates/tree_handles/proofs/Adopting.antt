@@ -25,8 +25,7 @@ pub behind_there : (i : ℕ) (f r k : Forest) (l : Label) → has_root i f ≡ f
 behind_there i f r k l h e = behind-right i f (tree l k r) h ∙ ap (λ (t : Bool). cond t r (behind_root i r)) (eq-eqb l.id i e)
 
 adopted_there : (i n : ℕ) (f r k : Forest) (l : Label) → has_root i f ≡ false → l.id ≡ i → adopted i n (join f (tree l k r)) ≡ join f (tree l (join k (first_trees n r)) (rest_trees n r))
-adopted_there i n f r k l h e =
-    adopted-right i n f (tree l k r) h ∙ ap (λ (t : Bool). join f (cond t (tree l (join k (first_trees n r)) (rest_trees n r)) (tree l k (adopted i n r)))) (eq-eqb l.id i e)
+adopted_there i n f r k l h e = grind (arith, adopted-right)
 
 -- all of them
 pub adopted_all : (i n : ℕ) (f r k : Forest) (l : Label) → has_root i f ≡ false → l.id ≡ i → n ≡ arity r → adopted i n (join f (tree l k r)) ≡ join f (tree l (join k r) empty)
@@ -42,10 +41,7 @@ behind_alone i (tree l k (tree m j s)) r a e = absurd (omega arith)
 
 -- two trees that came after it
 pub two_behind : {i j k : ℕ} {t u v others f g h : Forest} → Ends i t others f → Ends j u f g → Ends k v g h → 2 ≤ arity (behind_root i h)
-two_behind {i = i} {t = t} {u = u} {v = v} {others = others} a b c =
-    let whole = c.whole ∙ ap (λ (x : Forest). join x v) (b.whole ∙ ap (λ (x : Forest). join x u) a.whole ∙ join_assoc others t u) ∙ join_assoc others (join t u) v ∙ ap (join others) (join_assoc t u v) in
-    let behind = ap (behind_root i) whole ∙ behind-right i others (join t (join u v)) a.clear ∙ behind_alone i t (join u v) a.alone a.root in
-    omega (arith, ap arity behind, arity-join u v, b.alone, c.alone)
+two_behind a b c = grind (arith, join_assoc, behind-right, behind_alone, arity-join)
 
 -- the tree just behind a root
 pub record IsNextAdopted (i : ℕ) (t u f new : Forest) : Type 0 where

@@ -30,12 +30,7 @@ other_than i j f a h =
 
 pub added_root : (i at j : ℕ) (s t : State) → Stands s → has_root j (forest s) ≡ true → holds i (root_tree j (forest s)) ≡ false → forest t ≡ with_kids i (with_nth at (root_tree j (forest s)) (kids_of i (forest s))) (without_root j (forest s))
     → has_root i (forest s) ≡ true → forest t ≡ put i (with_nth at (root_tree j (forest s)) (kids (root_tree i (forest s)))) (without_root j (forest s))
-added_root i at j s t st root a e top_i =
-    let f = forest s in
-    let d = distinct s st in
-    let n = other_than i j f a root in
-    e ∙ put-root i (with_nth at (root_tree j f) (kids_of i f)) (without_root j f) (distinct-without j f d root) (root-without j i f (eqb-sym i j n) ∙ top_i)
-    ∙ ap (λ (k : Forest). put i (with_nth at (root_tree j f) k) (without_root j f)) (kids_of_root i st top_i)
+added_root i at j s t h k a e l = grind (arith, other_than, put-root, distinct-without, root-without, eqb-sym, kids_of_root)
 
 pub added_last : (i at j : ℕ) (s t : State) → Stands s → has_root j (forest s) ≡ true → holds i (root_tree j (forest s)) ≡ false → forest t ≡ with_kids i (with_nth at (root_tree j (forest s)) (kids_of i (forest s))) (without_root j (forest s))
     → (u g : Forest) → Ends i u g (forest s) → has_root j g ≡ true → Ends i (with_root_kids (with_nth at (root_tree j g) (kids u)) u) (without_root j g) (forest t)
@@ -51,21 +46,12 @@ pub record IsMore (i : ℕ) (f g : Forest) : Type 0 where
   pub many : arity (kids_of i g) ≡ arity (kids_of i f) + 1
 
 pub added_more : (i at j : ℕ) (f g : Forest) → holds i f ≡ true → at ≤ arity (kids_of i f) → has_root j f ≡ true → holds i (root_tree j f) ≡ false → g ≡ with_kids i (with_nth at (root_tree j f) (kids_of i f)) (without_root j f) → IsMore i f g
-added_more i at j f g live within root a e =
-    let beside = held_beside j i f a live in
-    let n = with_nth at (root_tree j f) (kids_of i f) in
-    record {
-      live = ap (holds i) e ∙ holds-with_kids i n (without_root j f) beside;
-      many = ap arity (ap (kids_of i) e ∙ kids_of-with_kids i n (without_root j f) beside) ∙ omega (arith, arity-with_nth at (root_tree j f) (kids_of i f) within, root_arity j f root);
-    }
+added_more i at j f g h k l a e = grind (arith, held_beside, holds-with_kids, kids_of-with_kids, arity-with_nth, root_arity)
 
 -- ---- a root's child becomes the last root
 
 pub taken_last : (i at h : ℕ) (s t : State) (g : Forest) → Stands s → Stands t → at < arity (kids_of i (forest s)) → forest t ≡ join g (tree_nth at (kids_of i (forest s))) → h ≡ root_id (tree_nth at (kids_of i (forest s))) → Ends h (tree_nth at (kids_of i (forest s))) g (forest t)
-taken_last i at h s t g st sn within e q =
-    let c = tree_nth at (kids_of i (forest s)) in
-    let one = arity-tree_nth at (kids_of i (forest s)) within in
-    record { whole = e; alone = one; root = sym q; clear = clear_front h g c (forest t) e q one (distinct t sn) }
+taken_last i at h s t g k l m e q = grind (arith, arity-tree_nth, clear_front)
 
 -- from a root
 pub taken_root : (i at h : ℕ) (s t : State) → Stands s → Stands t → at < arity (kids_of i (forest s)) → forest t ≡ join (with_kids i (without_nth at (kids_of i (forest s))) (forest s)) (tree_nth at (kids_of i (forest s))) → h ≡ root_id (tree_nth at (kids_of i (forest s)))
@@ -91,14 +77,9 @@ exchanged_root i at j h s t st sn within root a e q top_i =
 -- ---- other children of a root
 
 pub changed_root : (i : ℕ) (s t : State) (new : Forest → Forest) → Stands s → forest t ≡ with_kids i (new (kids_of i (forest s))) (forest s) → has_root i (forest s) ≡ true → forest t ≡ put i (new (kids (root_tree i (forest s)))) (forest s)
-changed_root i s t new st e root =
-    let f = forest s in
-    e ∙ put-root i (new (kids_of i f)) f (distinct s st) root ∙ ap (λ (x : Forest). put i (new x) f) (kids_of_root i st root)
+changed_root i s t new h e k = grind (arith, put-root, kids_of_root)
 
 -- ---- a root that moves behind all others
 
 pub moved_last : (i : ℕ) (s t : State) → Stands s → Stands t → has_root i (forest s) ≡ true → forest t ≡ join (without_root i (forest s)) (root_tree i (forest s)) → Ends i (root_tree i (forest s)) (without_root i (forest s)) (forest t)
-moved_last i s t st sn root e =
-    let f = forest s in
-    let id = root_id-root_tree i f root in
-    record { whole = e; alone = root_arity i f root; root = id; clear = clear_front i (without_root i f) (root_tree i f) (forest t) e (sym id) (root_arity i f root) (distinct t sn) }
+moved_last i s t h k l e = grind (arith, root_id-root_tree, root_arity, clear_front)

@@ -28,13 +28,10 @@ forest_of-skip (suc k) (n ∷ ns) = forest_of-skip (k + n.children) ns ∙ sym (
 
 first_id : (ns : List Node) → 0 < arity (forest_of ns) → (ns ≡ first_of ns ∷ drop 1 ns) × (root_id (forest_of ns) ≡ (first_of ns).id)
 unfolding forest_of
-first_id [] h = absurd (omega arith)
-first_id (n ∷ ns) h = (refl, refl)
+first_id ns h = grind arith
 
 ids_step : (left : ℕ) (f : Forest) → 0 < left → left ≤ arity f → root_ids (first_trees left f) ≡ root_id f ∷ root_ids (first_trees (left - 1) (rest_trees 1 f))
-ids_step zero f some h = absurd (omega arith)
-ids_step (suc left) empty some h = absurd (omega arith)
-ids_step (suc left) (tree l k r) some h = ap (λ (j : ℕ). l.id ∷ root_ids (first_trees j r)) {x = left} (omega arith)
+ids_step left f h k = grind arith
 
 -- the next of some trees that begin at a place
 pub record IsNext (left place next : ℕ) (ns : List Node) : Type 0 where

@@ -1,5 +1,5 @@
 -- Copies of nodes, and of trees.
-use Rattle.std.proofs.Common.{◌≡◌, ℕ, suc, ◌+◌, ◌<◌, List, [], ◌∷◌, ◌++◌, refl, sym, ap, ◌∙◌, subst, true, false}
+use Rattle.std.proofs.Common.{arith, ◌≡◌, ℕ, suc, ◌+◌, ◌<◌, List, [], ◌∷◌, ◌++◌, refl, sym, ap, ◌∙◌, subst, true, false}
 use Rattle.tree_handles.proofs.Shared.{Header, Node, IsNode, size_of, header_of, fresh, Payload, kind_of_payload, has, used, first_of, payload_of_id, AreNodes, AreDistinct, with_children, since, until, IsBoundary, State, IsPool, until-since, step, AreNodes-since, with_children-append, IsCopy, AreCopies, copy_of, Label, Forest, empty, tree, arity, node_of, flatten}
 use Rattle.tree_handles.proofs.Parts.{has_mid}
 use Rattle.tree_handles.proofs.Readings.{payload_of_id-append}
@@ -65,8 +65,7 @@ there_split : (a : List Node) (n : Node) (b : List Node) → AreDistinct (a ++ n
 there_split a n b d v = record { live = has_mid n.id a n b refl; payload-is = payload_of_id-append n.id a n b (not_before a n b d) refl; valid = v }
 
 first_valid : (ns b : List Node) → ns ≡ first_of ns ∷ b → AreNodes ns → IsNode (first_of ns)
-first_valid [] b e h = absurd cc
-first_valid (n ∷ ns) b e h = h.0
+first_valid ns b e h = grind arith
 
 pub there : (s : State) (at : ℕ) → IsPool s → IsBoundary at s.nodes → at < used s.nodes → IsThere (first_of (since at s.nodes)) s.nodes
 there s at p b lt =

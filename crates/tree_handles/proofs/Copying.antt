@@ -1,8 +1,8 @@
 -- Copying nodes, one after the other.
 use Rattle.std.proofs.Common.{◌≡◌, ℕ, suc, ◌+◌, ◌-◌, ◌<◌, ◌≤◌, List, [], ◌∷◌, ◌++◌, refl, sym, ap, ◌∙◌, subst, arith, append_assoc, true}
-use Rattle.tree_handles.proofs.Shared.{append-nil, Node, size_of, used, first_of, place_of, since, until, between, IsBoundary, IsPool, State, free_of, used-append, size_from, until-since, since-append, step, cut, boundary_le, between_next, between_none, boundary-append, between-append, place_of-append, AreCopies, copy_of, IsCopy, nth, plains, plain, AllExpressions, IsExpression, Forest, empty, tree, join, arity, node_of, flatten, forest_of, root_id, bytes_in, AllNodes, AllOnce, Gives, holds, tree_at, kids_of, Stands, forest, IsCounted, KeepsRefusals, skip}
+use Rattle.tree_handles.proofs.Shared.{append-nil, Node, size_of, used, first_of, place_of, since, until, between, IsBoundary, IsPool, State, free_of, used-append, size_from, until-since, since-append, step, cut, boundary_le, between_next, between_none, boundary-append, between-append, place_of-append, AreCopies, copy_of, IsCopy, plains, plain, AllExpressions, IsExpression, Forest, empty, tree, join, arity, node_of, flatten, forest_of, root_id, bytes_in, AllNodes, AllOnce, Gives, holds, tree_at, kids_of, Stands, forest, IsCounted, KeepsRefusals, skip}
 use Rattle.tree_handles.proofs.Copies.{AreCopies-push, copied}
-use Rattle.tree_handles.proofs.Distinct.{distinct, clear_front}
+use Rattle.tree_handles.proofs.Distinct.{clear_front}
 use Rattle.tree_handles.proofs.Forests.{flatten-join, skip-flatten, stands, forest_of_whole, bytes-flatten, all-join, keeps}
 use Rattle.tree_handles.proofs.Parts.{live_at, place_is}
 
@@ -24,8 +24,7 @@ boundary_more at ns ms b =
     subst (IsBoundary at) whole (boundary-append (until at ns) (since at ns ++ ms) at (sym b))
 
 first_more : (xs b ms : List Node) → xs ≡ first_of xs ∷ b → first_of (xs ++ ms) ≡ first_of xs
-first_more [] b ms e = absurd cc
-first_more (n ∷ xs) b ms e = refl
+first_more xs b ms e = grind arith
 
 pub first_same : (at : ℕ) (ns ms : List Node) → IsBoundary at ns → at < used ns → first_of (since at (ns ++ ms)) ≡ first_of (since at ns)
 first_same at ns ms b lt = ap first_of (since_more at ns ms b) ∙ first_more (since at ns) _ ms (step at ns b lt).rest
@@ -200,18 +199,11 @@ copy_tree_is i from end place s t st x h m =
     }
 
 pub copy_done : (i from end place : ℕ) (s m t : State) → Stands s → IsTree i from end s → m ≡ s → place ≡ used m.nodes → (made : List Node) × (t ≡ record m { nodes = m.nodes ++ made }) × AreCopies (between from end m.nodes) made → IsCopyTree i place s t
-copy_done i from end place s m t st x e h g =
-    copy_tree_is i from end place s t st x (h ∙ ap (λ (y : State). used y.nodes) e) (subst (λ (y : State). (made : List Node) × (t ≡ record y { nodes = y.nodes ++ made }) × AreCopies (between from end y.nodes) made) e g)
+copy_done i from end place s m t h x e k g = grind (arith, copy_tree_is)
 
 -- the copy as an answer
 pub copy_given : (i h place : ℕ) (s t : State) (x : IsCopyTree i place s t) → h ≡ root_id x.copy → Stands t → IsExpression i (forest s) → Gives (forest s) (forest t) h (λ u. u ≡ plain (tree_at i (forest s)))
-copy_given i h place s t x e st w = record {
-  tree = x.copy;
-  ends = record { whole = x.forest-is; alone = x.alone; root = sym e; clear = clear_front h (forest s) x.copy (forest t) x.forest-is e x.alone (distinct t st) };
-  once = once_copy (tree_at i (forest s)) x.copy x.same;
-  whole = copy_whole (tree_at i (forest s)) x.copy x.same w.whole;
-  told = ap (nth 0) (copy_plains (tree_at i (forest s)) x.copy x.same);
-}
+copy_given i h place s t x e k w = grind (arith, clear_front, once_copy, copy_whole, copy_plains)
 
 -- the size decides
 pub fits_iff : (P : Type 0) (len need free : ℕ) → len ≡ need → (P → len ≤ free) × (len ≤ free → P) → (P → need ≤ free) × (need ≤ free → P)

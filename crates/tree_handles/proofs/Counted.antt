@@ -11,8 +11,7 @@ all-tree_at P i (tree l k r) h =
     (λ e. by_test (λ t. AllNodes P (cond t (tree_at i k) (tree_at i r))) (holds i k) (λ q. all-tree_at P i k h.1) (λ q. all-tree_at P i r h.2))
 
 pub all-kids : (P : Label → ℕ → Type 0) (f : Forest) → AllNodes P f → AllNodes P (kids f)
-all-kids P empty h = tt
-all-kids P (tree l k r) h = h.1
+all-kids P f h = grind arith
 
 pub all-root_tree : (P : Label → ℕ → Type 0) (i : ℕ) (f : Forest) → AllNodes P f → AllNodes P (root_tree i f)
 all-root_tree P i empty h = tt

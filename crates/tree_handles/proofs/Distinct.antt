@@ -123,8 +123,7 @@ child_below n (tree l k r) d e h =
     )
 
 some_kids : (t : Forest) (n : ℕ) → n < arity (kids t) → 1 ≤ arity t
-some_kids empty n h = absurd (omega arith)
-some_kids (tree l k r) n h = omega arith
+some_kids t n h = grind arith
 
 pub distinct-tree_at : (i : ℕ) (f : Forest) → Distinct f → Distinct (tree_at i f)
 distinct-tree_at i empty d = tt

@@ -12,18 +12,7 @@ pub record StandsFirst (bytes : ℕ) (first : Forest) (s : State) : Type 0 where
   pub within : bytes ≤ used s.nodes
 
 pub stands_first : {bytes : ℕ} {first : Forest} {s : State} → Stands s → Starts first (forest s) → bytes ≡ bytes_in first → StandsFirst bytes first s
-stands_first {bytes = bytes} {first = first} {s = s} st x e =
-    let a = flatten first in
-    let b = flatten x.behind in
-    let nodes : s.nodes ≡ a ++ b = st.flat ∙ ap flatten x.whole ∙ flatten-join first x.behind in
-    let ends : bytes ≡ used a = e ∙ sym (bytes-flatten first) in
-    record {
-      behind = b;
-      nodes = nodes;
-      ends = ends;
-      boundary = subst (IsBoundary bytes) (sym nodes) (boundary-append a b bytes ends);
-      within = omega (arith, ap used nodes, used-append a b, ends);
-    }
+stands_first h x e = grind (arith, flatten-join, bytes-flatten, boundary-append, used-append)
 
 -- the nodes that are left
 nodes_left : {bytes : ℕ} {first : Forest} {s : State} → StandsFirst bytes first s → without bytes (used s.nodes) s.nodes ≡ flatten first

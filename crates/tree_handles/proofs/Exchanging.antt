@@ -1,6 +1,6 @@
 -- A root that stands last and a child among the trees before it change places.
 use Rattle.std.proofs.Common.{◌≡◌, ℕ, ◌+◌, ◌<◌, ◌≤◌, List, [], ◌∷◌, ◌++◌, refl, sym, ap, ◌∙◌, subst, arith, append_assoc, true, false}
-use Rattle.tree_handles.proofs.Shared.{append-nil, Node, has, used, place_of, AreDistinct, since, exchanged, IsBoundary, State, since-append, exchanged-append, AreDistinct-parts, used-append, place_of-append, IsChildAt, Label, Forest, empty, tree, join, arity, kids, root_id, node_of, flatten, first_trees, rest_trees, tree_nth, set_nth, AllNodes, Ends, holds, tree_at, kids_of, with_kids, has_root, root_tree, put, forest, Stands, IsCounted, skip}
+use Rattle.tree_handles.proofs.Shared.{append-nil, Node, has, used, place_of, AreDistinct, since, exchanged, IsBoundary, State, since-append, exchanged-append, AreDistinct-parts, used-append, place_of-append, IsChildAt, Label, Forest, empty, tree, join, arity, kids, root_id, node_of, flatten, first_trees, rest_trees, tree_nth, set_nth, AllNodes, Ends, tree_at, kids_of, with_kids, has_root, root_tree, put, forest, Stands, IsCounted, skip}
 use Rattle.tree_handles.proofs.Counted.{all-kids, all-tree_at, all-with_kids, all-tree_nth, all-set_nth}
 use Rattle.tree_handles.proofs.Distinct.{Distinct, distinct, child_tree, clear_front, held_parent, not_before, put-root, tree_at-root}
 use Rattle.tree_handles.proofs.Forests.{flatten-join, has-flatten, arity-set_nth, arity-tree_nth, nth_tree, nth_parts, all-join, all-left, all-right}
@@ -16,9 +16,7 @@ pub record IsExchange (i n first mid second end : ℕ) (t others : Forest) (ns :
   pub done : exchanged first mid second end ns ≡ flatten (join (with_kids i (set_nth n t (kids_of i others)) others) (tree_nth n (kids_of i others)))
 
 regroup : (b : List Node) (m : Node) (x c y z w : List Node) → (b ++ (m ∷ ((x ++ (c ++ y)) ++ z))) ++ w ≡ (b ++ (m ∷ x)) ++ (c ++ ((y ++ z) ++ w))
-regroup b m x c y z w =
-    let left : b ++ (m ∷ ((x ++ (c ++ y)) ++ z)) ≡ (b ++ (m ∷ x)) ++ (c ++ (y ++ z)) = ap (λ (t : List Node). b ++ (m ∷ t)) (append_assoc x (c ++ y) z ∙ ap (λ (t : List Node). x ++ t) (append_assoc c y z)) ∙ sym (append_assoc b (m ∷ x) (c ++ (y ++ z))) in
-    ap (λ (t : List Node). t ++ w) left ∙ append_assoc (b ++ (m ∷ x)) (c ++ (y ++ z)) w ∙ ap (λ (t : List Node). (b ++ (m ∷ x)) ++ t) (append_assoc c (y ++ z) w)
+regroup b m x c y z w = grind (arith, append_assoc)
 
 exchange_parts : (i n x j first mid second end : ℕ) (l : Label) (m others : Forest) (ns : List Node) (q : IsAt i others) → ns ≡ flatten (join others (tree l m empty)) → AreDistinct ns → l.id ≡ j → n < arity (kids_of i others) → x ≡ root_id (tree_nth n (kids_of i others))
     → first ≡ place_of x ns → second ≡ place_of j ns → IsBoundary mid ns → since mid ns ≡ skip 1 (since first ns) → IsBoundary end ns → since end ns ≡ skip 1 (since second ns) → IsExchange i n first mid second end (tree l m empty) others ns
@@ -80,9 +78,7 @@ front_distinct s t others st e = (AreDistinct-parts (flatten others) (flatten t)
 
 -- both are nodes
 pub known_live : (i n x j : ℕ) (t others : Forest) (s : State) → Stands s → Ends j t others (forest s) → IsChildAt n i x others → has x s.nodes ≡ true
-known_live i n x j t others s st h k =
-    let live = (child_tree n i others (front_distinct s t others st h.whole) k.within).live in
-    ap (has x) st.flat ∙ has-flatten x (forest s) ∙ ap (holds x) h.whole ∙ holds-left x others t (ap (λ (y : ℕ). holds y others) k.id-is ∙ live)
+known_live i n x j t others s h k l = grind (arith, child_tree, front_distinct, has-flatten, holds-left)
 
 exchange_ended : (i n x j first mid second end : ℕ) (t others : Forest) (ns : List Node) (q : IsAt i others) → arity t ≡ 1 → ns ≡ flatten (join others t) → AreDistinct ns → root_id t ≡ j → n < arity (kids_of i others) → x ≡ root_id (tree_nth n (kids_of i others))
     → first ≡ place_of x ns → second ≡ place_of j ns → IsBoundary mid ns → since mid ns ≡ skip 1 (since first ns) → IsBoundary end ns → since end ns ≡ skip 1 (since second ns) → IsExchange i n first mid second end t others ns
@@ -106,16 +102,4 @@ counted_exchanged i n t others s st e =
 -- a root's child
 pub exchanged_last : (i n h : ℕ) (t others : Forest) (s u : State) → Stands s → Stands u → forest s ≡ join others t → n < arity (kids_of i others) → forest u ≡ join (with_kids i (set_nth n t (kids_of i others)) others) (tree_nth n (kids_of i others))
     → h ≡ root_id (tree_nth n (kids_of i others)) → has_root i others ≡ true → Ends h (tree_nth n (kids (root_tree i others))) (put i (set_nth n t (kids (root_tree i others))) others) (forest u)
-exchanged_last i n h t others s u st su e within now is root =
-    let d = front_distinct s t others st e in
-    let k = kids_of i others in
-    let same : k ≡ kids (root_tree i others) = ap kids (tree_at-root i others d root) in
-    let whole : forest u ≡ join (put i (set_nth n t k) others) (tree_nth n k) = now ∙ ap (λ (y : Forest). join y (tree_nth n k)) (put-root i (set_nth n t k) others d root) in
-    let one = arity-tree_nth n k within in
-    let ends : Ends h (tree_nth n k) (put i (set_nth n t k) others) (forest u) = record {
-      whole = whole;
-      alone = one;
-      root = sym is;
-      clear = clear_front h (put i (set_nth n t k) others) (tree_nth n k) (forest u) whole is one (distinct u su);
-    } in
-    subst (λ (y : Forest). Ends h (tree_nth n y) (put i (set_nth n t y) others) (forest u)) same ends
+exchanged_last i n h t others s u k l e m p q r = grind (arith, front_distinct, tree_at-root, put-root, arity-tree_nth, clear_front)

@@ -159,9 +159,7 @@ all-rest_trees P n f h = all-right P (first_trees n f) (rest_trees n f) (subst (
 
 -- a list of nodes that is a forest's
 pub stands : (s : State) (f : Forest) → s.nodes ≡ flatten f → IsPool s → AllNodes IsCounted f → (forest s ≡ f) × Stands s
-stands s f e p c =
-    let g : forest s ≡ f = ap forest_of e ∙ forest_of_whole f in
-    (g, record { flat = e ∙ ap flatten (sym g); pool = p; counted = subst (AllNodes IsCounted) (sym g) c })
+stands s f e p c = grind (arith, forest_of_whole)
 
 -- one node more at the end
 pub placed : (f : Forest) (ns ms : List Node) (id : ℕ) (x : Payload) → ns ≡ flatten f → ms ≡ ns ++ fresh id x ∷ [] → ms ≡ flatten (join f (one_tree id x empty))
@@ -184,22 +182,10 @@ refuses_after s t u full a b = record { size = b.size ∙ a.size; refusals = b.r
 
 -- what is not within the free bytes exceeds them
 pub not_within : {need free : ℕ} {A : Type 0} → A × (need ≤ free → false ≡ true) → free < need
-not_within {need = need} {free = free} h = below need free (λ l. no (h.1 l))
-  where
-    no : false ≡ true → ⊥
-    no e = cc
-
-    below : (a b : ℕ) → (a ≤ b → ⊥) → b < a
-    below a b h = grind arith
+not_within h = grind arith
 
 pub is_refused : (needed : ℕ) (s t : State) (full : Full) → full ≡ record { needed = needed; free = free_of s } → t ≡ refused s full → free_of s < needed → IsRefused needed s t full
-is_refused needed s t full e q short = record {
-  told = e;
-  state = q;
-  same = ap forest q;
-  refuses = record { size = ap (λ (x : State). x.size) q; refusals = ap (λ (x : State). x.refusals) q; last_refused = ap (λ (x : State). x.last_refused) q };
-  lacks = record { free = ap (λ (x : Full). x.free) e ∙ sym (ap free_of q); lacking = omega (arith, ap (λ (x : Full). x.free) e, ap (λ (x : Full). x.needed) e, short) };
-}
+is_refused needed s t full e q h = grind arith
 
 -- after a refusal the pool stands as before
 pub stands_refused : (s t : State) (full : Full) → t ≡ refused s full → IsPool t → Stands s → Stands t

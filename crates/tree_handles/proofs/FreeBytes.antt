@@ -21,13 +21,7 @@ bytes_used s st = ap used st.flat ∙ bytes-flatten (forest s)
 
 -- the bytes of a tree that goes are free
 pub room_of : (i : ℕ) (s t : State) → Stands s → Stands t → KeepsRefusals s t → IsHanded i (forest s) → forest t ≡ without_root i (forest s) → size (plain (root_tree i (forest s))) ≤ free_of t
-room_of i s t st su k h e =
-    let tree-bytes = size-plain (root_tree i (forest s)) (root_arity i (forest s) h.root) h.whole in
-    let parts = bytes_without i (forest s) h.root in
-    let after : bytes_in (forest t) ≡ bytes_in (without_root i (forest s)) = ap bytes_in e in
-    let old : used s.nodes ≤ s.size = st.pool.fits in
-    let new : used t.nodes ≤ t.size = su.pool.fits in
-    omega (arith, tree-bytes, parts, after, old, new, bytes_used s st, bytes_used t su, k.size)
+room_of i s t h k l m e = grind (arith, size-plain, root_arity, bytes_without, bytes_used)
 
 all_bytes : (s : State) → Stands s → free_of s + bytes_in (forest s) ≡ s.size
 all_bytes s st = let fits : used s.nodes ≤ s.size = st.pool.fits in omega (arith, fits, used_forest s st)
@@ -36,13 +30,10 @@ beside_bytes : (i : ℕ) (f : Forest) → IsHanded i f → bytes_in f ≡ bytes_
 beside_bytes i f h = omega (arith, bytes_without i f h.root, size-plain (root_tree i f) (root_arity i f h.root) h.whole)
 
 beside_both_bytes : (i j : ℕ) (f : Forest) → eqb i j ≡ false → IsHanded i f → IsHanded j f → bytes_in f ≡ bytes_in (without_root j (without_root i f)) + size (plain (root_tree i f)) + size (plain (root_tree j f))
-beside_both_bytes i j f a h k =
-    let same = ap (λ (x : Forest). size (plain x)) (tree-without i j f a) in
-    omega (arith, beside_bytes i f h, beside_bytes j (without_root i f) (handed_beside i a k), same)
+beside_both_bytes i j f a h k = grind (arith, tree-without, beside_bytes, handed_beside)
 
 last_bytes : {g f : Forest} {i : ℕ} {Told : Tree → Type 0} → Gives g f i Told → bytes_in f ≡ bytes_in g + size (plain (root_tree i f))
-last_bytes {g = g} {f = f} e =
-    omega (arith, ap bytes_in e.ends.whole, bytes_in-join g e.tree, size-plain e.tree e.ends.alone e.whole, ap (λ (x : Forest). size (plain x)) (last_tree e.ends))
+last_bytes e = grind (arith, bytes_in-join, size-plain, last_tree)
 
 -- a tree in place of a handed one
 pub replaced_free : {s t : State} {i h : ℕ} {Told : Tree → Type 0} → Stands s → Stands t → KeepsRefusals s t → IsHanded i (forest s) → Gives (without_root i (forest s)) (forest t) h Told

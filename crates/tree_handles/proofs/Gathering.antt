@@ -88,9 +88,7 @@ gathered_in s t id n end total from x st st' few new ends hf he ht =
     gathered id n end (total - end) from x (forest s) t.nodes few new e hf (he ∙ used_forest s st) (omega (arith, used_forest s st))
 
 pub longer : (s t : State) (id end total : ℕ) (x : Payload) → Stands s → Stands t → Ends id (one_tree id x empty) (forest s) (forest t) → end ≡ used s.nodes → total ≡ used t.nodes → end ≤ total
-longer s t id end total x st st' ends he ht =
-    let size : used t.nodes ≡ bytes_in (forest s) + bytes_in (one_tree id x empty) = used_forest t st' ∙ ap bytes_in ends.whole ∙ bytes_in-join (forest s) (one_tree id x empty) in
-    omega (arith, used_forest s st)
+longer s t id end total x h k l m n = grind (arith, used_forest, bytes_in-join)
 
 -- what stands then
 pub record IsOver (id n : ℕ) (x : Payload) (f : Forest) (s : State) : Type 0 where

@@ -1,6 +1,6 @@
 -- Trees that are built from roots and from new nodes.
-use Rattle.std.proofs.Common.{◌≡◌, ℕ, zero, suc, eqb, refl, sym, ap, ◌∙◌, subst, true, false}
-use Rattle.tree_handles.proofs.Shared.{Payload, Tree, Trees, none, more, append, count, nth, grown, plains, plain, inserted, takes, IsWhole, AllExpressions, Forest, empty, tree, join, arity, with_nth, one_tree, IsOnce, AllOnce, IsOwned, IsHanded, Represents, Ends, Gives, has_root, root_tree, without_root, put}
+use Rattle.std.proofs.Common.{arith, ◌≡◌, ℕ, zero, suc, eqb, refl, sym, ap, subst, true, false}
+use Rattle.tree_handles.proofs.Shared.{Payload, Tree, Trees, none, more, append, count, nth, grown, plains, plain, inserted, takes, Forest, empty, tree, join, with_nth, one_tree, IsOwned, IsHanded, Represents, Ends, Gives, has_root, root_tree, without_root, put}
 use Rattle.tree_handles.proofs.Counted.{all-with_nth}
 use Rattle.tree_handles.proofs.Forests.{join-empty, all-join}
 use Rattle.tree_handles.proofs.Lasts.{last_root, last_tree, last_rest, other_tree, other_apart, other_handed, ends_without, ends_as}
@@ -25,28 +25,14 @@ pub represents_handed : {i : ℕ} {f : Forest} → IsHanded i f → Represents (
 represents_handed {i = i} {f = f} h = record { once = h.once; whole = h.whole; plain_trees = alone (root_tree i f) (root_arity i f h.root) }
 
 pub represents_with : {c k : Forest} {us ts : Trees} (n : ℕ) → Represents c us → Represents k ts → Represents (with_nth n c k) (inserted n us ts)
-represents_with {c = c} {k = k} n a b = record {
-  once = all-with_nth IsOnce n c k a.once b.once;
-  whole = all-with_nth IsWhole n c k a.whole b.whole;
-  plain_trees = plains-with_nth n c k ∙ rw (a.plain_trees, b.plain_trees) refl;
-}
+represents_with n a b = grind (arith, all-with_nth, plains-with_nth)
 
 pub represents_join : {f g : Forest} {ts us : Trees} → Represents f ts → Represents g us → Represents (join f g) (append ts us)
-represents_join {f = f} {g = g} a b = record {
-  once = all-join IsOnce f g a.once b.once;
-  whole = all-join IsWhole f g a.whole b.whole;
-  plain_trees = plains-join f g ∙ rw (a.plain_trees, b.plain_trees) refl;
-}
+represents_join a b = grind (arith, all-join, plains-join)
 
 -- a node that takes that many children
 pub represents_node : {k : Forest} {ts : Trees} (i : ℕ) (x : Payload) → Represents k ts → takes x (count ts) ≡ true → Represents (one_tree i x k) (more (grown x ts) none)
-represents_node {k = k} {ts = ts} i x h e =
-    let number : count ts ≡ arity k = ap count (sym h.plain_trees) ∙ count-plains k in
-    record {
-      once = (refl, h.once, tt);
-      whole = (ap (takes x) (sym number) ∙ e, h.whole, tt);
-      plain_trees = ap (λ (us : Trees). more (grown x us) none) h.plain_trees;
-    }
+represents_node i x h e = grind (arith, count-plains)
 
 -- the same, in other words
 pub represents_as : {f g : Forest} {ts us : Trees} → Represents f ts → f ≡ g → ts ≡ us → Represents g us
@@ -61,11 +47,7 @@ pub given_root : {others f : Forest} {i : ℕ} {Told : Tree → Type 0} → Give
 given_root g = last_root g.ends
 
 pub given_handed : {others f : Forest} {i : ℕ} {Told : Tree → Type 0} → Gives others f i Told → IsHanded i f
-given_handed g = record {
-  root = last_root g.ends;
-  once = subst AllOnce (sym (last_tree g.ends)) g.once;
-  whole = subst AllExpressions (sym (last_tree g.ends)) g.whole;
-}
+given_handed g = grind (arith, last_root, last_tree)
 
 pub given_told : {others f : Forest} {i : ℕ} {Told : Tree → Type 0} → Gives others f i Told → Told (plain (root_tree i f))
 given_told {Told = Told} g = subst (λ (x : Forest). Told (plain x)) (sym (last_tree g.ends)) g.told
@@ -97,18 +79,10 @@ owned h = record { root = h.root; once = h.once }
 
 -- beside a root that goes, or has other children
 pub handed_beside : {j : ℕ} {f : Forest} (i : ℕ) → eqb i j ≡ false → IsHanded j f → IsHanded j (without_root i f)
-handed_beside {j = j} {f = f} i d h = record {
-  root = root-without i j f d ∙ h.root;
-  once = subst AllOnce (sym (tree-without i j f d)) h.once;
-  whole = subst AllExpressions (sym (tree-without i j f d)) h.whole;
-}
+handed_beside i d h = grind (arith, root-without, tree-without)
 
 pub handed_by_put : {j : ℕ} {f : Forest} (i : ℕ) (n : Forest) → eqb i j ≡ false → IsHanded j f → IsHanded j (put i n f)
-handed_by_put {j = j} {f = f} i n d h = record {
-  root = root-put i j n f ∙ h.root;
-  once = subst AllOnce (sym (tree-put i j n f d)) h.once;
-  whole = subst AllExpressions (sym (tree-put i j n f d)) h.whole;
-}
+handed_by_put i n d h = grind (arith, root-put, tree-put)
 
 pub handed_at : {i : ℕ} {f g : Forest} → IsHanded i f → g ≡ f → IsHanded i g
 handed_at {i = i} h e = subst (IsHanded i) (sym e) h

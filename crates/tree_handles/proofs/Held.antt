@@ -98,8 +98,7 @@ held_at i (tree l k r) c =
     (λ e q c. by_test (λ t. holds i k ≡ t → 1 < root_count (cond t (tree_at i k) (tree_at i r)) → IsHeld i (tree l k r)) (holds i k) (λ u v c. held_below i l k r q v (held_at i k c)) (λ u v c. held_behind i l k r q v (held_at i r c)) refl c) refl c
 
 both : (i : ℕ) (s : State) → Stands s → IsReleasable i (forest s) → IsReleased i (forest s)
-both i s st (inl h) = at_a_root i (forest s) s.nodes st.flat st.pool.distinct h
-both i s st (inr h) = (held_at i (forest s) h).released
+both i s h k = grind (arith, at_a_root, held_at)
 
 pub releasable_held : (i : ℕ) (f : Forest) → IsReleasable i f → holds i f ≡ true
 releasable_held i f (inl h) = root_held i f h

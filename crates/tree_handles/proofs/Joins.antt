@@ -1,12 +1,10 @@
 -- A node in the first or in the last of two forests.
-use Rattle.std.proofs.Common.{◌≡◌, ℕ, cond, eqb, refl, ap, ◌∙◌, Bool, true, false}
+use Rattle.std.proofs.Common.{arith, ◌≡◌, ℕ, cond, eqb, refl, ap, ◌∙◌, Bool, true, false}
 use Rattle.tree_handles.proofs.Shared.{Forest, empty, tree, join, kids, holds, tree_at, kids_of, with_kids, released, released_in}
 use Rattle.tree_handles.proofs.Outcomes.{by_test, or_true}
 
 or_or : (t u v w : Bool) → cond t true (cond u true (cond v true w)) ≡ cond (cond t true (cond u true v)) true w
-or_or true u v w = refl
-or_or false true v w = refl
-or_or false false v w = refl
+or_or t u v w = grind arith
 
 pub holds-join : (i : ℕ) (f g : Forest) → holds i (join f g) ≡ cond (holds i f) true (holds i g)
 holds-join i empty g = refl
@@ -19,19 +17,13 @@ pub holds-right : (i : ℕ) (f g : Forest) → holds i g ≡ true → holds i (j
 holds-right i f g h = holds-join i f g ∙ ap (cond (holds i f) true) h ∙ or_true (holds i f)
 
 left_step : (t u v : Bool) (a b c d : Forest) → cond t true (cond u true v) ≡ true → (v ≡ true → d ≡ c) → cond t a (cond u b d) ≡ cond t a (cond u b c)
-left_step true u v a b c d h p = refl
-left_step false true v a b c d h p = refl
-left_step false false v a b c d h p = p h
+left_step t u v a b c d h p = grind arith
 
 join_step : (t u v : Bool) (a b c d g : Forest) → cond t true (cond u true v) ≡ true → (v ≡ true → d ≡ join c g) → cond t (join a g) (cond u (join b g) d) ≡ join (cond t a (cond u b c)) g
-join_step true u v a b c d g h p = refl
-join_step false true v a b c d g h p = refl
-join_step false false v a b c d g h p = p h
+join_step t u v a b c d g h p = grind arith
 
 right_step : (t u v : Bool) (a b c d : Forest) → cond t true (cond u true v) ≡ false → (v ≡ false → c ≡ d) → cond t a (cond u b c) ≡ d
-right_step true u v a b c d h p = absurd cc
-right_step false true v a b c d h p = absurd cc
-right_step false false v a b c d h p = p h
+right_step t u v a b c d h p = grind arith
 
 pub tree_at-join_left : (i : ℕ) (f g : Forest) → holds i f ≡ true → tree_at i (join f g) ≡ tree_at i f
 tree_at-join_left i empty g h = absurd cc

@@ -45,28 +45,14 @@ pub other_owned : {i j : ℕ} {t g f : Forest} → Ends i t g f → IsOwned j g 
 other_owned {j = j} h r = record { root = other_root j h r.root; once = subst AllOnce (sym (other_tree j h r.root)) r.once }
 
 pub other_handed : {i j : ℕ} {t g f : Forest} → Ends i t g f → IsHanded j g → IsHanded j f
-other_handed {j = j} h r = record {
-  root = other_root j h r.root;
-  once = subst AllOnce (sym (other_tree j h r.root)) r.once;
-  whole = subst AllExpressions (sym (other_tree j h r.root)) r.whole;
-}
+other_handed h r = grind (arith, other_root, other_tree)
 
 -- another root goes, or has other children
 pub ends_without : {i : ℕ} {t g f : Forest} (j : ℕ) → Ends i t g f → has_root j g ≡ true → Ends i t (without_root j g) (without_root j f)
-ends_without {i = i} {g = g} j h r = record {
-  whole = other_rest j h r;
-  alone = h.alone;
-  root = h.root;
-  clear = root-without j i g (eqb-sym i j (other_apart j h r)) ∙ h.clear;
-}
+ends_without j h r = grind (arith, other_rest, root-without, eqb-sym, other_apart)
 
 pub ends_put : {i : ℕ} {t g f : Forest} (j : ℕ) (n : Forest) → Ends i t g f → has_root j g ≡ true → Ends i t (put j n g) (put j n f)
-ends_put {i = i} {t = t} {g = g} j n h r = record {
-  whole = ap (put j n) h.whole ∙ put-left j n g t r;
-  alone = h.alone;
-  root = h.root;
-  clear = root-put j i n g ∙ h.clear;
-}
+ends_put j n h r = grind (arith, put-left, root-put)
 
 -- the same forest, and others in other words
 pub ends_at : {i : ℕ} {t g f new : Forest} → Ends i t g f → new ≡ f → Ends i t g new
@@ -78,12 +64,10 @@ ends_as {i = i} {u = u} {g = g} {f = f} e p q = subst (λ (x : Forest). Ends i u
 -- ---- the last tree takes a child
 
 with_kids_alone : (n t : Forest) → arity (with_root_kids n t) ≡ arity t
-with_kids_alone n empty = refl
-with_kids_alone n (tree l k r) = refl
+with_kids_alone n t = grind arith
 
 with_kids_root : (n t : Forest) → root_id (with_root_kids n t) ≡ root_id t
-with_kids_root n empty = refl
-with_kids_root n (tree l k r) = refl
+with_kids_root n t = grind arith
 
 -- a root from those before it
 pub takes_root : {i : ℕ} {t g f new : Forest} (j at : ℕ) → Ends i t g f → has_root j g ≡ true → new ≡ put i (with_nth at (root_tree j f) (kids (root_tree i f))) (without_root j f)

@@ -18,11 +18,7 @@ set_nth-behind n c a t b h one = rw (first_trees-behind n a (join t b) h, rest_t
 
 -- a tree goes, and others come in its place
 pub with_nth-without_nth : (n : ℕ) (c f : Forest) → n < arity f → with_nth n c (without_nth n f) ≡ set_nth n c f
-with_nth-without_nth n c f h =
-    let a = first_trees n f in
-    let b = rest_trees 1 (rest_trees n f) in
-    let count : n ≡ arity a = sym (arity-first_trees n f (omega arith)) in
-    rw (first_trees-behind n a b count, rest_trees-behind n a b count) refl
+with_nth-without_nth n c f h = grind (arith, arity-first_trees, first_trees-behind, rest_trees-behind)
 
 -- the trees round one
 pub record IsThird (n : ℕ) (f : Forest) : Type 0 where
@@ -31,11 +27,7 @@ pub record IsThird (n : ℕ) (f : Forest) : Type 0 where
   pub one : arity (tree_nth n f) ≡ 1
 
 pub third : (n : ℕ) (f : Forest) → n < arity f → IsThird n f
-third n f h = record {
-  whole = sym (first-rest n f) ∙ ap (join (first_trees n f)) (sym (first-rest 1 (rest_trees n f)));
-  count = sym (arity-first_trees n f (omega arith));
-  one = arity-tree_nth n f h;
-}
+third n f h = grind (arith, first-rest, arity-first_trees, arity-tree_nth)
 
 pub set_nth-same : (n : ℕ) (f : Forest) → set_nth n (tree_nth n f) f ≡ f
 set_nth-same n f = ap (join (first_trees n f)) (first-rest 1 (rest_trees n f)) ∙ first-rest n f

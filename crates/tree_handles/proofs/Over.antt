@@ -1,6 +1,6 @@
 -- A root over these trees, and what it becomes: a child is taken out or put in, and the root goes last.
 use Rattle.std.proofs.Common.{◌≡◌, ℕ, eqb, cond, refl, sym, ap, ◌∙◌, subst, arith, Bool, true, false, ◌∷◌, []}
-use Rattle.tree_handles.proofs.Shared.{Kind, Payload, bare, Tree, Trees, none, more, append, count, is_mult, is_add, nth, grown, compound, plains, plain, takes, takes_kind, children_of, inserted, Forest, empty, tree, arity, kids, root_payload, root_count, with_root_kids, tree_nth, without_nth, with_nth, IsOnce, AllOnce, IsHanded, Represents, Ends, Gives, KeepsFront, kids_of, has_root, root_tree, without_root, put, State, Stands, forest}
+use Rattle.tree_handles.proofs.Shared.{Kind, Payload, bare, Tree, Trees, none, more, append, count, is_mult, is_add, nth, grown, compound, plain, takes, takes_kind, children_of, inserted, Forest, empty, tree, arity, kids, root_payload, root_count, with_root_kids, tree_nth, without_nth, with_nth, AllOnce, IsHanded, Represents, Ends, Gives, KeepsFront, kids_of, has_root, root_tree, without_root, put, State, Stands, forest}
 use Rattle.tree_handles.proofs.Given.{gives, gives_as, given_handed, given_told, given_rest, represents_handed, represents_with}
 use Rattle.tree_handles.proofs.Lasts.{other_tree, other_root, kids_of_root}
 use Rattle.tree_handles.proofs.Plains.{children_of-plain, whole_kids}
@@ -25,33 +25,17 @@ pub record IsOver (k : Kind) (i : ℕ) (ts : Trees) (f : Forest) : Type 0 where
 no_tree : arity empty ≡ 1 → ⊥
 no_tree e = absurd (omega arith)
 
-payload_mult : (x : Payload) (ts : Trees) → is_mult (grown x ts) ≡ true → x ≡ bare kind.Mult
-payload_mult (bare kind.Mult) ts h = refl
-payload_mult x ts h = cc
-
-payload_add : (x : Payload) (ts : Trees) → is_add (grown x ts) ≡ true → x ≡ bare kind.Add
-payload_add (bare kind.Add) ts h = refl
-payload_add x ts h = cc
-
 holds_mult : (t : Forest) → is_mult (plain t) ≡ true → root_payload t ≡ bare kind.Mult
-holds_mult empty h = cc
-holds_mult (tree l b r) h = payload_mult l.payload (plains b) h
+holds_mult t h = grind arith
 
 holds_add : (t : Forest) → is_add (plain t) ≡ true → root_payload t ≡ bare kind.Add
-holds_add empty h = cc
-holds_add (tree l b r) h = payload_add l.payload (plains b) h
+holds_add t h = grind arith
 
 pub once_count : (t : Forest) → arity t ≡ 1 → AllOnce t → root_count t ≡ 1
-once_count empty e h = absurd (no_tree e)
-once_count (tree l b r) e h = h.0
+once_count t e h = grind arith
 
 over : {i : ℕ} {f : Forest} (k : Kind) → IsHanded i f → root_payload (root_tree i f) ≡ bare k → IsOver k i (children_of (plain (root_tree i f))) f
-over {i = i} {f = f} k h e = record {
-  root = h.root;
-  payload = e;
-  count = once_count (root_tree i f) (root_arity i f h.root) h.once;
-  kids = record { once = all-kids IsOnce (root_tree i f) h.once; whole = whole_kids (root_tree i f) h.whole; plain_trees = sym (children_of-plain (root_tree i f) h.whole) };
-}
+over k h e = grind (arith, once_count, root_arity, all-kids, whole_kids, children_of-plain)
 
 -- a handed product
 pub over_product : {i : ℕ} {f : Forest} → IsHanded i f → is_mult (plain (root_tree i f)) ≡ true → IsOver kind.Mult i (children_of (plain (root_tree i f))) f
@@ -95,29 +79,17 @@ without_put i n (tree l k r) =
     (λ e q. ap (λ (t : Bool). cond t r (tree l n (without_root i r))) q) (λ e q. ap (λ (t : Bool). cond t (put i n r) (tree l k (without_root i (put i n r)))) q ∙ ap (λ (x : Forest). tree l k x) (without_put i n r)) refl
 
 payload_with : (n t : Forest) → root_payload (with_root_kids n t) ≡ root_payload t
-payload_with n empty = refl
-payload_with n (tree l k r) = refl
+payload_with n t = grind arith
 
 count_with : (n t : Forest) → root_count (with_root_kids n t) ≡ root_count t
-count_with n empty = refl
-count_with n (tree l k r) = refl
+count_with n t = grind arith
 
 -- it has other children
 pub over_put : {k : Kind} {i : ℕ} {ts us : Trees} {f : Forest} (n : Forest) → IsOver k i ts f → Represents n us → IsOver k i us (put i n f)
-over_put {i = i} {us = us} {f = f} n h r = record {
-  root = root-put i i n f ∙ h.root;
-  payload = ap root_payload (tree_put i n f) ∙ payload_with n (root_tree i f) ∙ h.payload;
-  count = ap root_count (tree_put i n f) ∙ count_with n (root_tree i f) ∙ h.count;
-  kids = subst (λ (x : Forest). Represents x us) (sym (kids-put i n f h.root)) r;
-}
+over_put n h r = grind (arith, root-put, tree_put, payload_with, count_with, kids-put)
 
 at_tree : {k : Kind} {i : ℕ} {ts : Trees} {f g : Forest} → IsOver k i ts f → has_root i g ≡ true → root_tree i g ≡ root_tree i f → IsOver k i ts g
-at_tree {ts = ts} h r e = record {
-  root = r;
-  payload = ap root_payload e ∙ h.payload;
-  count = ap root_count e ∙ h.count;
-  kids = subst (λ (x : Forest). Represents (kids x) ts) (sym e) h.kids;
-}
+at_tree h r e = grind arith
 
 -- another tree comes, or goes
 pub over_end : {k : Kind} {i j : ℕ} {ts : Trees} {t f g : Forest} → IsOver k i ts g → Ends j t g f → IsOver k i ts f

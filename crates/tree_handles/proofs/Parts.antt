@@ -1,6 +1,6 @@
 -- A node in a forest, with its children and what is around it.
 use Rattle.std.proofs.Common.{◌≡◌, ℕ, zero, suc, ◌+◌, ◌-◌, ◌<◌, ◌≤◌, List, [], ◌∷◌, ◌++◌, drop, cond, eqb, refl, sym, ap, ◌∙◌, arith, append_assoc, Bool, true, false}
-use Rattle.tree_handles.proofs.Shared.{eqb-true, eq-eqb, append_cancel_right, append-nil, Node, State, has, used, place_of, first_of, with_children, with_count, since, until, IsBoundary, moved, used-append, size_from, has-append, or_is_false, since-append, until-since, place_of-append, moved_right, with_children-append, with_count-append, forest, Stands, IsCounted, Label, Forest, empty, tree, join, arity, node_of, flatten, first_trees, rest_trees, root_id, tree_nth, without_nth, AllNodes, holds, tree_at, kids_of, with_kids, with_count_in, skip}
+use Rattle.tree_handles.proofs.Shared.{eqb-true, append_cancel_right, append-nil, Node, State, has, used, place_of, first_of, with_children, with_count, since, until, IsBoundary, moved, used-append, size_from, has-append, or_is_false, since-append, until-since, place_of-append, moved_right, with_children-append, with_count-append, forest, Stands, IsCounted, Label, Forest, empty, tree, join, arity, node_of, flatten, first_trees, rest_trees, root_id, tree_nth, without_nth, AllNodes, holds, tree_at, kids_of, with_kids, with_count_in, skip}
 use Rattle.tree_handles.proofs.Counted.{all-kids, all-tree_at, all-with_kids, all-without_nth, all-tree_nth}
 use Rattle.tree_handles.proofs.Forests.{all-join, has-flatten, skip-flatten, skip-first, first-rest, flatten-join, nth_parts, arity-tree_nth, arity-without_nth}
 
@@ -68,9 +68,7 @@ at_behind i l k r e h p =
 
 at_step : (i : ℕ) (l : Label) (k r : Forest) (t u : Bool) → eqb l.id i ≡ t → holds i k ≡ u → cond t true (cond u true (holds i r)) ≡ true
     → (holds i k ≡ true → IsAt i k) → (holds i r ≡ true → IsAt i r) → IsAt i (tree l k r)
-at_step i l k r true u e h q pk pr = at_root i l k r e
-at_step i l k r false true e h q pk pr = at_below i l k r e h (pk h)
-at_step i l k r false false e h q pk pr = at_behind i l k r e h (pr q)
+at_step i l k r t u e h q m n = grind (arith, at_root, at_below, at_behind)
 
 pub at : (i : ℕ) (f : Forest) → holds i f ≡ true → IsAt i f
 at i empty h = absurd cc
@@ -123,8 +121,7 @@ regroup_after b m x y z c =
     append_assoc b (m ∷ x) ((y ++ z) ++ (c ++ [])) ∙ ap (λ (t : List Node). b ++ (m ∷ t)) (ap (λ (t : List Node). x ++ ((y ++ z) ++ t)) (append-nil c) ∙ sym (append_assoc x (y ++ z) c))
 
 regroup_put : (b : List Node) (m : Node) (x y z c : List Node) → (b ++ (m ∷ ((x ++ y) ++ z))) ++ c ≡ b ++ (m ∷ ((x ++ (y ++ z)) ++ c))
-regroup_put b m x y z c =
-    append_assoc b (m ∷ ((x ++ y) ++ z)) c ∙ ap (λ (t : List Node). b ++ (m ∷ (t ++ c))) (append_assoc x y z)
+regroup_put b m x y z c = grind (arith, append_assoc)
 
 pub record IsTaken (i n from end : ℕ) (f : Forest) (ns : List Node) : Type 0 where
   pub some : from < end
@@ -132,11 +129,7 @@ pub record IsTaken (i n from end : ℕ) (f : Forest) (ns : List Node) : Type 0 w
   pub forest : with_children i (arity (kids_of i f) - 1) (moved from (end - from) (used ns) ns) ≡ flatten (join (with_kids i (without_nth n (kids_of i f)) f) (tree_nth n (kids_of i f)))
 
 pub has_mid : (i : ℕ) (a : List Node) (n : Node) (b : List Node) → n.id ≡ i → has i (a ++ n ∷ b) ≡ true
-has_mid i a n b e = has-append i a (n ∷ b) ∙ last (has i a) (eq-eqb n.id i e)
-  where
-    last : (t : Bool) → eqb n.id i ≡ true → cond t true (cond (eqb n.id i) true (has i b)) ≡ true
-    last true q = refl
-    last false q = ap (λ (x : Bool). cond x true (has i b)) q
+has_mid i a n b e = grind (arith, has-append)
 
 used_some : (f : Forest) → arity f ≡ 1 → 0 < used (flatten f)
 used_some empty h = absurd (omega arith)
@@ -179,8 +172,7 @@ taken i n from end f ns p e h k be re =
     }
 
 root_first : (g : Forest) → root_id g ≡ root_id (first_trees 1 g)
-root_first empty = refl
-root_first (tree l k r) = refl
+root_first g = grind arith
 
 pub root_nth : (n : ℕ) (f : Forest) → root_id (rest_trees n f) ≡ root_id (tree_nth n f)
 root_nth n f = root_first (rest_trees n f)

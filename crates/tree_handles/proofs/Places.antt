@@ -1,5 +1,5 @@
 -- Bytes and places of the trees that stand first.
-use Rattle.std.proofs.Common.{◌≡◌, ℕ, ◌+◌, ◌-◌, List, [], ◌∷◌, ◌++◌, cond, eqb, refl, ap, ◌∙◌, true}
+use Rattle.std.proofs.Common.{arith, ◌≡◌, ℕ, ◌+◌, ◌-◌, List, [], ◌∷◌, ◌++◌, cond, eqb, refl, ap, ◌∙◌, true}
 use Rattle.tree_handles.proofs.Shared.{Node, size_of, has, place_of, used, State, free_of, Forest, join, flatten, bytes_in, holds, Stands, forest}
 use Rattle.tree_handles.proofs.Forests.{flatten-join, has-flatten, bytes-flatten}
 use Rattle.tree_handles.proofs.Outcomes.{by_test}
@@ -18,5 +18,4 @@ place_of-left i (n ∷ a) b h =
 
 -- and their nodes have the places that they have alone
 pub first_place : (i : ℕ) (s : State) (first behind : Forest) → Stands s → forest s ≡ join first behind → holds i first ≡ true → place_of i s.nodes ≡ place_of i (flatten first)
-first_place i s first behind st e h =
-    ap (place_of i) (st.flat ∙ ap flatten e ∙ flatten-join first behind) ∙ place_of-left i (flatten first) (flatten behind) (has-flatten i first ∙ h)
+first_place i s first behind h e k = grind (arith, flatten-join, place_of-left, has-flatten)

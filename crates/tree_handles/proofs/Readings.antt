@@ -1,5 +1,5 @@
 -- What a node's header and payload tell of its tree.
-use Rattle.std.proofs.Common.{◌≡◌, ℕ, List, [], ◌∷◌, ◌++◌, cond, eqb, refl, sym, ap, ◌∙◌, subst, Bool, true, false}
+use Rattle.std.proofs.Common.{arith, ◌≡◌, ℕ, List, [], ◌∷◌, ◌++◌, cond, eqb, refl, sym, ap, ◌∙◌, subst, Bool, true, false}
 use Rattle.tree_handles.proofs.Shared.{eq-eqb, Header, lowest, Node, header_of, Payload, rational, named, kind_of_payload, IsPayload, Ratio, num, symbol, is_num, is_symbol, root_kind, count, has, place_of, first_of, payload_of_id, AreNodes, used, since, State, AreNodes-right, since-append, place_of-append, Label, Forest, empty, tree, arity, node_of, flatten, root_payload, root_count, tree_nth, rest_trees, holds, tree_at, kids_of, count_of, payload_in, nth, grown, plains, plain, IsWhole, IsExpression, AllExpressions, children_of, Stands, forest}
 use Rattle.tree_handles.proofs.Forests.{all-first_trees, all-rest_trees}
 use Rattle.tree_handles.proofs.Parts.{at, live_at}
@@ -7,8 +7,7 @@ use Rattle.tree_handles.proofs.Plains.{is_num-plain, is_symbol-plain, root_kind-
 use Rattle.calc_terms.specs.declared.kind.Kind.TheVariants as kind
 
 leaf_step : (t : Bool) (m : Node) (x y : Payload) (b : Bool) → cond t true b ≡ false → (b ≡ false → x ≡ y) → cond t m.payload x ≡ y
-leaf_step true m x y b h k = absurd cc
-leaf_step false m x y b h k = k h
+leaf_step t m x y b h k = grind arith
 
 pub payload_of_id-append : (i : ℕ) (a : List Node) (n : Node) (b : List Node) → has i a ≡ false → n.id ≡ i → payload_of_id i (a ++ n ∷ b) ≡ n.payload
 payload_of_id-append i [] n b h e = ap (λ (t : Bool). cond t n.payload (payload_of_id i b)) (eq-eqb n.id i e)

@@ -1,19 +1,16 @@
 -- What a call is refused for, after calls that were not, and in other words.
-use Rattle.std.proofs.Common.{ℕ, ◌+◌, Result, Ok, Err, refl, ap, ◌∙◌, ◌-◌, ◌^◌, min}
+use Rattle.std.proofs.Common.{arith, ℕ, ◌+◌, Result, refl, ap, ◌∙◌, ◌-◌, ◌^◌, min}
 use Rattle.std.specs.Prelude.{IfErr}
 use Rattle.tree_handles.proofs.Shared.{Full, State, KeepsRefusals, Refuses}
 use Rattle.tree_handles.specs.Faults.{OfOverflow, Faults}
 use Rattle.rational128.specs.declared.overflow.Overflow.{Overflow}
 use Rattle.tree_handles.specs.declared.fault.NumberFault.{NumberFault}
-use Rattle.tree_handles.specs.declared.fault.NumberFault.TheVariants as fault
 
 pub overflow_as : {P Q : Overflow → Type 0} (e : NumberFault) → OfOverflow P e → ((o : Overflow) → P o → Q o) → OfOverflow Q e
-overflow_as (fault.Full full) p k = tt
-overflow_as (fault.Overflow o) p k = k o p
+overflow_as e p k = grind arith
 
 pub refused_as : {A : Type 0} {P Q : Overflow → Type 0} (r : Result A NumberFault) → IfErr r (OfOverflow P) → ((o : Overflow) → P o → Q o) → IfErr r (OfOverflow Q)
-refused_as (Ok x) p k = p
-refused_as (Err e) p k = overflow_as e p k
+refused_as r p k = grind arith
 
 pub kept_same : (s : State) → KeepsRefusals s s
 kept_same s = record { size = refl; refusals = refl; last_refused = refl }
@@ -27,5 +24,4 @@ pub refuses_after : {a b x : State} {full : Full} → KeepsRefusals a b → Refu
 refuses_after k r = record { size = r.size ∙ k.size; refusals = r.refusals ∙ ap (λ (n : ℕ). min (n + 1) (2 ^ 64 - 1)) k.refusals; last_refused = r.last_refused }
 
 pub faults_after : (a b x : State) (e : NumberFault) → KeepsRefusals a b → Faults b x e → Faults a x e
-faults_after a b x (fault.Full full) k r = refuses_after k r
-faults_after a b x (fault.Overflow o) k r = kept_after k r
+faults_after a b x e k r = grind arith

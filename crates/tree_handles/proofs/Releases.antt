@@ -30,20 +30,12 @@ some_tree (tree l k r) h = omega arith
 
 -- at the start
 pub owed_start : (ns : List Node) (at : ℕ) → IsBoundary at ns → at < used ns → since at ns ≡ flatten (forest_of (since at ns)) → IsOwed ns at 1 (released_at at 1 ns)
-owed_start ns at b lt e = record {
-  before = until at ns;
-  trees = forest_of (since at ns);
-  whole = sym (until-since at ns) ∙ ap (λ (x : List Node). until at ns ++ x) e;
-  place = sym b;
-  few = some_tree (forest_of (since at ns)) (omega (arith, ap used (until-since at ns), used-append (until at ns) (since at ns), ap used e));
-  rest = refl;
-}
+owed_start ns at b h e = grind (arith, until-since, some_tree, used-append)
 
 -- ---- laws of release
 
 released_step : (t : Bool) (l : Label) (k a b c d : Forest) → d ≡ join b c → cond t (tree l k d) (join a d) ≡ join (cond t (tree l k b) (join a b)) c
-released_step true l k a b c d e = ap (λ (x : Forest). tree l k x) e
-released_step false l k a b c d e = ap (join a) e ∙ sym (join_assoc a b c)
+released_step t l k a b c d e = grind (arith, join_assoc)
 
 pub released-join : (f g : Forest) → released (join f g) ≡ join (released f) (released g)
 released-join empty g = refl

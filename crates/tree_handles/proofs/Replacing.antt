@@ -16,9 +16,7 @@ has_root-with_kids c p n (tree l k r) =
 
 -- the node is not in the tree of the root
 neither : (t u : Bool) → cond t true (cond u true false) ≡ false → (t ≡ false) × (u ≡ false)
-neither true u h = absurd cc
-neither false true h = absurd cc
-neither false false h = (refl, refl)
+neither t u h = grind arith
 
 pub root_tree-with_kids : (c p : ℕ) (n f : Forest) → holds p (root_tree c f) ≡ false → root_tree c (with_kids p n f) ≡ root_tree c f
 root_tree-with_kids c p n empty a = refl

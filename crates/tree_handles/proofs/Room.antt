@@ -10,8 +10,7 @@ use Rattle.tree_handles.proofs.Roots.{top, root_arity}
 
 -- a new tree takes its bytes
 pub given_free : {s t : State} {i : ℕ} {Told : Tree → Type 0} → Stands s → Stands t → KeepsRefusals s t → Gives (forest s) (forest t) i Told → free_of s ≡ free_of t + size (plain (root_tree i (forest t)))
-given_free {s = s} {t = t} {i = i} h k r g =
-    omega (arith, used_forest s h, used_forest t k, r.size, h.pool.fits, k.pool.fits, ap bytes_in g.ends.whole, bytes_in-join (forest s) g.tree, size-plain g.tree g.ends.alone g.whole, ap (λ (x : Forest). size (plain x)) (last_tree g.ends))
+given_free h k r g = grind (arith, used_forest, bytes_in-join, size-plain, last_tree)
 
 -- the bytes of a forest are those of a root's tree and of the others
 bytes_in-root : (i : ℕ) (f : Forest) → has_root i f ≡ true → bytes_in f ≡ bytes_in (root_tree i f) + bytes_in (without_root i f)
@@ -21,8 +20,7 @@ bytes_in-root i f h =
 
 -- a tree that goes gives its bytes back
 pub released_free : {s t : State} {i : ℕ} → Stands s → Stands t → KeepsRefusals s t → IsHanded i (forest s) → forest t ≡ without_root i (forest s) → free_of t ≡ free_of s + size (plain (root_tree i (forest s)))
-released_free {s = s} {t = t} {i = i} h k r o e =
-    omega (arith, used_forest s h, used_forest t k, r.size, h.pool.fits, k.pool.fits, ap bytes_in e, bytes_in-root i (forest s) o.root, size-plain (root_tree i (forest s)) (root_arity i (forest s) o.root) o.whole)
+released_free h k r o e = grind (arith, used_forest, bytes_in-root, size-plain, root_arity)
 
 -- each tree has the bytes of its root
 pub least_size : (t : Tree) → 8 ≤ size t

@@ -1,6 +1,6 @@
 -- What a reader sees of a root.
-use Rattle.std.proofs.Common.{◌≡◌, ℕ, refl, sym, ap, ◌∙◌, subst, true, false}
-use Rattle.tree_handles.proofs.Shared.{Kind, Tree, num, symbol, undef, add, mult, power, root, neg, sub, div, root_kind, is_mult, is_add, State, tree_of, IsHanded, plain, IsExpression, holds, tree_at, has_root, Stands, forest}
+use Rattle.std.proofs.Common.{arith, ◌≡◌, ℕ, sym, ap, ◌∙◌, subst, true, false}
+use Rattle.tree_handles.proofs.Shared.{Kind, Tree, root_kind, is_mult, is_add, State, tree_of, IsHanded, plain, IsExpression, holds, tree_at, has_root, Stands, forest}
 use Rattle.tree_handles.proofs.Lasts.{expression_root, plain_root}
 use Rattle.tree_handles.proofs.Roots.{root_held}
 use Rattle.calc_terms.specs.declared.kind.Kind.TheVariants as kind
@@ -23,33 +23,13 @@ pub kind_of_root : {s : State} {i j : ℕ} {k : Kind} → j ≡ i → Stands s �
 kind_of_root e st h told = told (expression e st h) ∙ ap root_kind (seen e st h)
 
 pub product_kind : (t : Tree) → kind.Mult ≡ root_kind t → is_mult t ≡ true
-product_kind (mult ts) e = refl
-product_kind (num q) e = cc
-product_kind (symbol x) e = cc
-product_kind undef e = cc
-product_kind (add ts) e = cc
-product_kind (power b x) e = cc
-product_kind (root a) e = cc
-product_kind (neg a) e = cc
-product_kind (sub a b) e = cc
-product_kind (div a b) e = cc
+product_kind t e = grind arith
 
 pub no_product_kind : (t : Tree) → (kind.Mult ≡ root_kind t → ⊥) → is_mult t ≡ false
-no_product_kind (mult ts) h = absurd (h refl)
-no_product_kind t h = refl
+no_product_kind t h = grind arith
 
 pub sum_kind : (t : Tree) → kind.Add ≡ root_kind t → is_add t ≡ true
-sum_kind (add ts) e = refl
-sum_kind (num q) e = cc
-sum_kind (symbol x) e = cc
-sum_kind undef e = cc
-sum_kind (mult ts) e = cc
-sum_kind (power b x) e = cc
-sum_kind (root a) e = cc
-sum_kind (neg a) e = cc
-sum_kind (sub a b) e = cc
-sum_kind (div a b) e = cc
+sum_kind t e = grind arith
 
 pub no_sum_kind : (t : Tree) → (kind.Add ≡ root_kind t → ⊥) → is_add t ≡ false
-no_sum_kind (add ts) h = absurd (h refl)
-no_sum_kind t h = refl
+no_sum_kind t h = grind arith

@@ -29,13 +29,10 @@ behind_one at place ns x t rest one b r h e =
     place_is at ns (x ++ flatten t) rest b (e ∙ sym (append_assoc x (flatten t) rest)) behind ∙ used-append x (flatten t)
 
 flatten-four : (a b c d e : Forest) → flatten (join a (join b (join c (join d e)))) ≡ flatten a ++ (flatten b ++ (flatten c ++ (flatten d ++ flatten e)))
-flatten-four a b c d e =
-    flatten-join a (join b (join c (join d e))) ∙ ap (λ (x : List Node). flatten a ++ x) (flatten-join b (join c (join d e)) ∙ ap (λ (x : List Node). flatten b ++ x) (flatten-join c (join d e) ∙ ap (λ (x : List Node). flatten c ++ x) (flatten-join d e)))
+flatten-four a b c d e = grind (arith, flatten-join)
 
 regroup : (b : List Node) (m : Node) (x y z u v w : List Node) → b ++ (m ∷ ((x ++ (y ++ (z ++ (u ++ v)))) ++ w)) ≡ (b ++ (m ∷ x)) ++ (y ++ (z ++ (u ++ (v ++ w))))
-regroup b m x y z u v w =
-    ap (λ (t : List Node). b ++ (m ∷ t)) (append_assoc x (y ++ (z ++ (u ++ v))) w ∙ ap (λ (t : List Node). x ++ t) (append_assoc y (z ++ (u ++ v)) w ∙ ap (λ (t : List Node). y ++ t) (append_assoc z (u ++ v) w ∙ ap (λ (t : List Node). z ++ t) (append_assoc u v w))))
-    ∙ sym (append_assoc b (m ∷ x) (y ++ (z ++ (u ++ (v ++ w)))))
+regroup b m x y z u v w = grind (arith, append_assoc)
 
 pub swaps : (i n m first mid second end : ℕ) (s : State) → Stands s → n < m → m < arity (kids_of i (forest s))
     → IsBoundary first s.nodes → since first s.nodes ≡ skip n (drop 1 (since (place_of i s.nodes) s.nodes)) → IsBoundary second s.nodes → since second s.nodes ≡ skip m (drop 1 (since (place_of i s.nodes) s.nodes))

@@ -1,7 +1,7 @@
 -- Conditions that the tests try.
-use Rattle.std.proofs.Common.{◌≡◌, ℕ, ◌+◌, ◌-◌, ◌<◌, ◌≤◌, List, [], ◌∷◌, ◌++◌, cond, refl, sym, ap, ◌∙◌, subst, arith, Bool, true, false}
-use Rattle.tree_handles.proofs.Shared.{eq-eqb, ne_eqb, Node, size_of, header_of, Header, has, used, first_of, AreNodes, AreDistinct, since, until, between, IsBoundary, State, IsPool, IsPoolSize, until-since, until-append, between_next, used-append, size_from, since-zero, append-nil, Forest, empty, tree, arity, node_of, flatten, has_root, Stands, forest, skip}
-use Rattle.tree_handles.proofs.Forests.{skip-flatten, stands}
+use Rattle.std.proofs.Common.{◌≡◌, ℕ, ◌+◌, ◌-◌, ◌<◌, ◌≤◌, List, [], ◌∷◌, ◌++◌, cond, refl, sym, ap, ◌∙◌, arith, Bool, true, false}
+use Rattle.tree_handles.proofs.Shared.{eq-eqb, ne_eqb, Node, size_of, header_of, Header, has, used, first_of, since, until, between, IsBoundary, State, until-since, until-append, between_next, used-append, size_from, since-zero, append-nil, Forest, empty, tree, arity, node_of, flatten, has_root, Stands, forest, skip}
+use Rattle.tree_handles.proofs.Forests.{skip-flatten}
 
 -- the roots that are still to be looked at
 pub record IsRootsLeft (i at : ℕ) (ns : List Node) (answer : Bool) : Type 0 where
@@ -66,11 +66,6 @@ between_all end ns e =
     ap (λ (x : List Node). until (end - 0) x) (since-zero ns) ∙ ap (λ (j : ℕ). until j ns) (omega arith) ∙ ap (until (used ns)) (sym (append-nil ns)) ∙ whole
 
 -- ---- a pool that was opened
-
-pub stands_open : (s : State) → s.nodes ≡ [] → IsPoolSize s.size → Stands s
-stands_open s e size =
-    let pool : IsPool s = record { nodes = subst AreNodes (sym e) tt; distinct = subst AreDistinct (sym e) tt; fits = omega (arith, ap used e); size = size } in
-    (stands s empty e pool tt).1
 
 -- a node more of a block
 pub one_more : (at next to : ℕ) (ns : List Node) → IsBoundary at ns → IsBoundary to ns → at < to → since at ns ≡ first_of (since at ns) ∷ since next ns → next ≡ at + size_of (first_of (since at ns))

@@ -1,11 +1,11 @@
 -- Walks over nodes, and what they come to.
-use Rattle.std.proofs.Common.{◌≡◌, ℕ, zero, suc, ◌+◌, ◌-◌, ◌<◌, ◌≤◌, List, [], ◌∷◌, ◌++◌, length, map, drop, Option, Some, None, refl, sym, ap, ◌∙◌, subst, arith, append-nil, true}
+use Rattle.std.proofs.Common.{◌≡◌, ℕ, zero, suc, ◌+◌, ◌-◌, ◌<◌, ◌≤◌, List, [], ◌∷◌, ◌++◌, length, map, drop, Option, Some, refl, sym, ap, ◌∙◌, subst, arith, append-nil, true}
 use Rattle.std.specs.Prelude.{IsSome}
 use Rattle.tree_handles.proofs.Shared.{eq-eqb, length-append, length-map, map-append, Header, Node, header_of, kind_of_payload, used, place_of, first_of, since, until, IsBoundary, State, IsPool, until-since, length_le_used, Visit, Label, Forest, empty, tree, join, arity, node_of, flatten, first_trees, rest_trees, forest_of, kids, root_payload, nodes_in, holds, tree_at, kids_of, Stands, forest, visit_of, visits_of, visit_at, AreFound, BeginsTrees, skip}
 use Rattle.std.specs.Iterator.{YieldsFirst, Drains}
 use Rattle.std.proofs.lemmas.Iterator.{items_from_drains}
 use Rattle.std.proofs.lemmas.Iterator.Consumers.{YieldsList-from_first}
-use Rattle.tree_handles.proofs.Distinct.{Distinct, distinct, distinct_parts, distinct-tree_at, holds-tree_at, tree_at-inside, other_id}
+use Rattle.tree_handles.proofs.Distinct.{Distinct, distinct_parts, distinct-tree_at, holds-tree_at, tree_at-inside, other_id}
 use Rattle.tree_handles.proofs.Forests.{arity-join, arity-rest_trees, first-rest, flatten-join, forest_of-flatten, nodes-flatten}
 use Rattle.tree_handles.proofs.Measures.{before}
 use Rattle.tree_handles.proofs.Nths.{first_trees-behind}
@@ -97,10 +97,7 @@ pub visit_here : {v : Visit} {left : List Visit} (l : Label) (k r : Forest) → 
 visit_here l k r e = cc
 
 pub visits_left : {v : Visit} {left : List Visit} (l : Label) (k r : Forest) → visits_of (tree l k r) ≡ v ∷ left → left ≡ visits_of (join k r)
-visits_left {left = left} l k r e = others e ∙ ap (map visit_of) (sym (flatten-join k r))
-  where
-    others : {v : Visit} → visit_of (node_of l k) ∷ map visit_of (flatten k ++ flatten r) ≡ v ∷ left → left ≡ map visit_of (flatten k ++ flatten r)
-    others e = cc
+visits_left l k r e = grind (arith, flatten-join)
 
 pub visits-join : (f g : Forest) → visits_of (join f g) ≡ visits_of f ++ visits_of g
 visits-join f g = ap (map visit_of) (flatten-join f g) ∙ map-append visit_of (flatten f) (flatten g)
@@ -129,32 +126,17 @@ found-rest_trees base (suc n) empty h = tt
 found-rest_trees base (suc n) (tree l k r) h = found-rest_trees base n r h.2
 
 pub found-kids : (base f : Forest) → AreFound base f → AreFound base (kids f)
-found-kids base empty h = tt
-found-kids base (tree l k r) h = h.1
+found-kids base f h = grind arith
 
 -- a forest that has the trees of another where it has them
 record HasTrees (base f : Forest) : Type 0 where
   pub has : (i : ℕ) → holds i f ≡ true → (holds i base ≡ true) × (tree_at i base ≡ tree_at i f)
 
 has_below : (base : Forest) (l : Label) (k r : Forest) → Distinct (tree l k r) → HasTrees base (tree l k r) → HasTrees base k
-has_below base l k r d h = record {
-  has = λ i e.
-      let apart = other_id l.id i k (distinct_parts l k r d).not_below e in
-      let here : holds i (tree l k r) ≡ true = rw (apart, e) refl in
-      let same : tree_at i (tree l k r) ≡ tree_at i k = rw (apart, e) refl in
-      ((h.has i here).0, (h.has i here).1 ∙ same);
-}
+has_below base l k r d h = grind (arith, other_id, distinct_parts)
 
 has_behind : (base : Forest) (l : Label) (k r : Forest) → Distinct (tree l k r) → HasTrees base (tree l k r) → HasTrees base r
-has_behind base l k r d h = record {
-  has = λ i e.
-      let p = distinct_parts l k r d in
-      let apart = other_id l.id i r p.not_behind e in
-      let elsewhere = p.apart i e in
-      let here : holds i (tree l k r) ≡ true = rw (apart, elsewhere, e) refl in
-      let same : tree_at i (tree l k r) ≡ tree_at i r = rw (apart, elsewhere) refl in
-      ((h.has i here).0, (h.has i here).1 ∙ same);
-}
+has_behind base l k r d h = grind (arith, distinct_parts, other_id)
 
 found_all : (base f : Forest) → Distinct f → HasTrees base f → AreFound base f
 found_all base empty d h = tt
@@ -166,9 +148,7 @@ found_all base (tree l k r) d h =
 
 -- so are the nodes of a pool's tree
 pub found : (i : ℕ) (s : State) → Stands s → AreFound (forest s) (tree_at i (forest s))
-found i s st =
-    let d = distinct s st in
-    found_all (forest s) (tree_at i (forest s)) (distinct-tree_at i (forest s) d) (record { has = λ j h. (holds-tree_at i j (forest s) h, tree_at-inside i j (forest s) d h) })
+found i s h = grind (arith, found_all, distinct-tree_at, holds-tree_at, tree_at-inside)
 
 -- a tree's root, as a visit
 abbrev root_visit : ℕ → Forest → Visit
@@ -181,14 +161,7 @@ pub record IsSeen (v : Visit) (label : Label) (below base : Forest) : Type 0 whe
   pub visit-is : v ≡ visit_at v.id base
 
 pub seen : {base : Forest} {v : Visit} (l : Label) (k r : Forest) → AreFound base (tree l k r) → v ≡ visit_of (node_of l k) → IsSeen v l k base
-seen {base = base} {v = v} l k r h e =
-    let id-is : v.id ≡ l.id = ap (λ (y : Visit). y.id) e in
-    let here : tree_at v.id base ≡ tree l k empty = ap (λ (i : ℕ). tree_at i base) id-is ∙ h.0.1 in
-    record {
-      live = ap (λ (i : ℕ). holds i base) id-is ∙ h.0.0;
-      tree-is = here;
-      visit-is = e ∙ ap (λ (i : ℕ). root_visit i (tree l k empty)) (sym id-is) ∙ ap (root_visit v.id) (sym here);
-    }
+seen l k r h e = grind arith
 
 -- how many there are
 pub visits_length : (f : Forest) → length (visits_of f) ≡ nodes_in f
@@ -201,8 +174,7 @@ Steps = YieldsFirst (λ (xs : List Visit). xs)
 
 -- a node comes where one is left
 pub some_next : (r : Option Visit) (xs left : List Visit) → Steps xs r left → 0 < length xs → IsSome r
-some_next None xs left e h = absurd (omega (arith, ap length e.0))
-some_next (Some v) xs left e h = refl
+some_next r xs left e h = grind arith
 
 pub next_is : (r : Option Visit) (v : Visit) (xs left : List Visit) → Steps xs r left → r ≡ Some v → xs ≡ v ∷ left
 next_is r v xs left e q = subst (λ (o : Option Visit). Steps xs o left) q e

@@ -1,5 +1,5 @@
 -- Steps over nodes.
-use Rattle.std.proofs.Common.{◌≡◌, ℕ, zero, suc, ◌≤◌, List, [], refl, sym, ap, ◌∙◌}
+use Rattle.std.proofs.Common.{arith, ◌≡◌, ℕ, ◌≤◌, List, [], sym, ap, ◌∙◌}
 use Rattle.tree_handles.proofs.Shared.{Header, Node, size_of, header_of, size_of_header, used, first_of, since, State, since_end, skip}
 
 -- the size that a header tells
@@ -7,8 +7,7 @@ pub size_at : (s : State) (at size : ℕ) (h : Header) → h ≡ header_of (firs
 size_at s at size h e q = q ∙ ap size_of_header e
 
 skip_nil : (k : ℕ) → skip k [] ≡ []
-skip_nil zero = refl
-skip_nil (suc k) = refl
+skip_nil k = grind arith
 
 pub owed_end : (ns : List Node) (at owed : ℕ) → used ns ≤ at → skip owed (since at ns) ≡ since at ns
 owed_end ns at owed h = ap (skip owed) (since_end at ns h) ∙ skip_nil owed ∙ sym (since_end at ns h)

@@ -1,5 +1,5 @@
 -- Exponents that mean whole numbers.
-use Rattle.std.proofs.Common.{◌≡◌, negsuc, ◌+ℤ◌, ◌*ℤ◌, Bool, true, false, ◌==◌, refl, sym, ap}
+use Rattle.std.proofs.Common.{arith, ◌≡◌, negsuc, ◌+ℤ◌, ◌*ℤ◌, Bool, true, false, ◌==◌, refl, ap}
 use Rattle.std.proofs.lemmas.Bool.{eqb-true}
 use Rattle.std.specs.Prelude.{Some, None, if◌then◌else◌}
 use Rattle.calc_measures.specs.Literals.{is_whole_literal, is_some, opposite}
@@ -23,8 +23,7 @@ use Rattle.tree_room.specs.Exponents.{MeansWhole, HasCalmExponent, IsCalm, AreCa
 -- ---- what means a whole number
 
 pub whole_number : (f : Assignment) (e : Tree) → is_whole_num e ≡ true → MeansWhole f e
-whole_number f (num q) h = (q.num, Same-eq (ap surd_of (sym (fraction_whole q (eqb-true q.den 1 h)))))
-whole_number f e h = cc
+whole_number f e h = grind (arith, Same-eq, fraction_whole)
 
 pub sum_whole : (f : Assignment) (d e : Tree) → MeansWhole f d → MeansWhole f e → MeansWhole f (add (more d (more e none)))
 sum_whole f d e (m, h) (n, k) = (
@@ -67,10 +66,7 @@ no_half f e h = refl
 -- ---- calm trees
 
 term_calm : (f : Assignment) (t : Tree) → IsTerm t → IsCalm f t
-term_calm f (num q) h = tt
-term_calm f (root (num r)) h = (tt, tt)
-term_calm f (mult (more (num q) (more (root (num r)) none))) h = (tt, (tt, ((tt, tt), tt)))
-term_calm f t h = absurd h
+term_calm f t h = grind arith
 
 terms_calm : (f : Assignment) (ts : Trees) → AreTerms ts → AreCalm f ts
 terms_calm f none h = tt

@@ -1,7 +1,6 @@
 -- A coefficient changes no count.
-use Rattle.std.proofs.Common.{◌≡◌, ℕ, ◌+◌, ◌≤◌, max, Bool, true, false, refl, sym, ap, ◌∙◌, arith}
+use Rattle.std.proofs.Common.{◌≡◌, ◌+◌, ◌≤◌, max, Bool, true, false, refl, sym, ap, ◌∙◌, arith}
 use Rattle.std.specs.Prelude.{if◌then◌else◌}
-use Rattle.std.proofs.lemmas.Bool.{true≢false, false≢true}
 use Rattle.calc_algebra.specs.Numbers.{is_number, is_radicand}
 use Rattle.calc_algebra.specs.Reduced.{split, split_product, product_tree, part_of, num_one}
 use Rattle.calc_room.specs.Counts.{counted, counted_among}
@@ -43,23 +42,13 @@ split_counts ts = refl
 -- ---- what is put together
 
 only_one : (t : Tree) → counted t ≡ max 1 (counted_among (more t none))
-only_one t = by (is_number t) refl
-  where
-    by : (z : Bool) → is_number t ≡ z → counted t ≡ max 1 (counted_among (more t none))
-    by true e = number_counts_one t e ∙ sym (ap (max 1) (counted_number t none e))
-    by false e = at_least (counted t) (counts_one t) ∙ sym (ap (max 1) (counted_other t none e))
-      where
-        at_least : (n : ℕ) → 1 ≤ n → n ≡ max 1 (n + 0)
-        at_least n h = omega arith
+only_one t = grind (arith, number_counts_one, counted_number, counts_one, counted_other)
 
 pub product_counts : (ts : Trees) → counted (product_tree ts) ≡ counted (mult ts)
-product_counts none = refl
-product_counts (more t none) = only_one t
-product_counts (more t (more u ts)) = refl
+product_counts ts = grind (arith, only_one)
 
 pub part_counts : (t : Tree) → counted (part_of t) ≡ counted t
-part_counts (mult ts) = product_counts (split_product ts).factors ∙ ap (max 1) (split_counts ts)
-part_counts t = refl
+part_counts t = grind (arith, product_counts, split_counts)
 
 pub put_before : (c : Tree) (ts : Trees) → is_number c ≡ true → counted (mult (more c ts)) ≡ counted (product_tree ts)
 put_before c ts h = ap (max 1) (counted_number c ts h) ∙ sym (product_counts ts)
@@ -70,13 +59,7 @@ same_counts : (t u : Tree) → part_of t ≡ part_of u → counted t ≡ counted
 same_counts t u e = sym (part_counts t) ∙ ap counted e ∙ part_counts u
 
 same_alone : (t u : Tree) → HasSamePart t u → (if is_number t then 0 else counted t) ≡ (if is_number u then 0 else counted u)
-same_alone t u h = by (is_number t) refl (is_number u) (sym h.number)
-  where
-    by : (y : Bool) → is_number t ≡ y → (z : Bool) → z ≡ is_number t → (if y then 0 else counted t) ≡ (if z then 0 else counted u)
-    by true e true f = refl
-    by true e false f = absurd (false≢true (f ∙ e))
-    by false e true f = absurd (true≢false (f ∙ e))
-    by false e false f = same_counts t u (h.part e)
+same_alone t u h = grind (arith, same_counts)
 
 pub same_parts : (ts us : Trees) → HaveSameParts ts us → counted_among ts ≡ counted_among us
 same_parts none none h = refl
@@ -84,10 +67,7 @@ same_parts (more t ts) (more u us) (h, hs) = (λ i. same_alone t u h i + same_pa
 same_parts _ _ h = absurd h
 
 pub like_terms : (t u r : Tree) (ts : Trees) → is_number t ≡ false → part_of r ≡ part_of t → counted_among (more r ts) ≤ counted_among (more t (more u ts))
-like_terms t u r ts n e = omega (arith, at_most_itself r ts, same_counts r t e, counted_other t (more u ts) n, more_counts)
-  where
-    more_counts : counted_among ts ≤ counted_among (more u ts)
-    more_counts = omega arith
+like_terms t u r ts n e = grind (arith, at_most_itself, same_counts, counted_other)
 
 pub spread : (q : Fraction) (ts us : Trees) → HaveSameParts ts us → counted (add us) ≤ counted (mult (more (num q) (more (add ts) none)))
 spread q ts us h = omega (arith, same_parts ts us h, only_one (add ts), rational_free q (more (add ts) none))

@@ -34,11 +34,7 @@ number_counts_one t h = number_counts t (number_words t h)
 
 -- among children each counts at most what it counts by itself
 pub at_most_itself : (t : Tree) (ts : Trees) → counted_among (more t ts) ≤ counted t + counted_among ts
-at_most_itself t ts = by (is_number t)
-  where
-    by : (z : Bool) → (if z then 0 else counted t) + counted_among ts ≤ counted t + counted_among ts
-    by true = omega arith
-    by false = omega arith
+at_most_itself t ts = grind arith
 
 pub appended : (ts us : Trees) → counted_among (append ts us) ≡ counted_among ts + counted_among us
 appended none us = omega arith
@@ -52,16 +48,11 @@ number_sum_free : (ts : Trees) → IsNumber (add ts) → counted_among ts ≡ 0
 number_sum_free ts h = none_counted ts h.1
 
 number_product_free : (ts : Trees) → IsNumber (mult ts) → counted_among ts ≡ 0
-number_product_free (more (num q) (more (root (num r)) none)) h = none_counted (more (num q) (more (root (num r)) none)) (h.0, (h.2, tt))
-number_product_free ts h = absurd h
+number_product_free ts h = grind (arith, none_counted)
 
 -- spliced children count at most what their parent counts among others
 spliced : (t : Tree) (ts us : Trees) → (is_number t ≡ true → counted_among ts ≡ 0) → counted_among ts ≤ counted t → counted_among (append ts us) ≤ counted_among (more t us)
-spliced t ts us f h = by (is_number t) refl
-  where
-    by : (z : Bool) → is_number t ≡ z → counted_among (append ts us) ≤ counted_among (more t us)
-    by true e = omega (arith, appended ts us, counted_number t us e, f e)
-    by false e = omega (arith, appended ts us, counted_other t us e, h)
+spliced t ts us f h = grind (arith, appended, counted_number, counted_other)
 
 pub flat_sum : (ts us : Trees) → counted_among (append ts us) ≤ counted_among (more (add ts) us)
 flat_sum ts us = spliced (add ts) ts us (λ e. number_sum_free ts (number_words (add ts) e)) (omega arith)

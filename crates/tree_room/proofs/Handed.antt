@@ -9,10 +9,10 @@ use Rattle.calc_algebra.proofs.NumberLaws.{number_words}
 use Rattle.calc_algebra.proofs.ReducedLaws.{reduced_words}
 use Rattle.calc_room.specs.Counts.{counted, counted_among}
 use Rattle.calc_room.specs.Spans.{SpansTree, SpansTrees}
-use Rattle.calc_room.proofs.NumberBytes.{num_bytes, number_bytes}
+use Rattle.calc_room.proofs.NumberBytes.{number_bytes}
 use Rattle.calc_room.proofs.NumberSpans.{value_spanned}
 use Rattle.calc_room.proofs.TreeBytes.{tree_bytes, factor_bytes, counted_other}
-use Rattle.calc_terms.specs.Trees.{Tree, num, add, mult, power, Trees, none, more, is_mult, size, sizes}
+use Rattle.calc_terms.specs.Trees.{Tree, add, mult, power, Trees, none, more, is_mult, size, sizes}
 use Rattle.tree_room.specs.Handed.{counted_in_all, sum_count, numbers_among, product_count}
 
 -- s bytes for n nodes that count, and as many bytes for each of k Numbers
@@ -68,8 +68,7 @@ module _ (gs : List ℕ) where
   -- ---- powers under way
 
   whole_bytes : (e : Tree) → is_whole_num e ≡ true → size e ≤ 40
-  whole_bytes (num q) h = num_bytes q
-  whole_bytes e h = cc
+  whole_bytes e h = grind arith
 
   pub raised_factor : (t e : Tree) → is_reduced t ≡ true → SpansTree gs t → is_mult t ≡ false → is_whole_num e ≡ true → size (power t e) ≤ 204 * counted t * 2 ^ length gs
   raised_factor t e h s n w = omega (arith, factor_bytes gs t (reduced_words t h) s n, whole_bytes e w, pow_pos (length gs))

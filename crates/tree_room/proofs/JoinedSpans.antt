@@ -5,7 +5,7 @@ use Rattle.calc_algebra.specs.SquareClasses.{are_alike}
 use Rattle.calc_algebra.proofs.ReducedLaws.{AllParts-map, AllPartsOf-map}
 use Rattle.calc_room.specs.Spans.{chosen_product, IsSpanned, SpansRoot, SpansTree, SpansTrees}
 use Rattle.calc_room.proofs.SpanLaws.{none_chosen}
-use Rattle.calc_terms.specs.Trees.{Tree, num, root, Trees}
+use Rattle.calc_terms.specs.Trees.{Tree, Trees}
 
 -- one choice for each radicand; one that is missing does not take it
 abbrev choices : List ℕ → List Bool → List Bool
@@ -30,8 +30,7 @@ spanned_second gs hs r h = record { chosen = choices gs [] ++ h.chosen; alike = 
 
 -- by a longer list
 root_by : (gs hs : List ℕ) → ((r : ℕ) → IsSpanned gs r → IsSpanned hs r) → (t : Tree) → SpansRoot gs t → SpansRoot hs t
-root_by gs hs f (root (num q)) h = f _ h
-root_by gs hs f t h = tt
+root_by gs hs f t h = grind arith
 
 pub tree_first : (gs hs : List ℕ) (t : Tree) → SpansTree gs t → SpansTree (gs ++ hs) t
 tree_first gs hs t h = AllParts-map (SpansRoot gs) (SpansRoot (gs ++ hs)) (root_by gs (gs ++ hs) (spanned_first gs hs)) t h

@@ -6,7 +6,7 @@ use Rattle.calc_algebra.specs.Numbers.{is_number}
 use Rattle.calc_algebra.specs.Reduced.{is_whole_num}
 use Rattle.calc_room.specs.Counts.{counted, counted_among}
 use Rattle.calc_room.proofs.TreeBytes.{counted_number, counted_other}
-use Rattle.calc_terms.specs.Trees.{Tree, num, mult, power, root, Trees, none, more, is_num}
+use Rattle.calc_terms.specs.Trees.{Tree, mult, power, root, Trees, none, more, is_num}
 use Rattle.tree_room.specs.Handed.{numbers_among, sum_count, product_count, exponent_count}
 use Rattle.tree_room.proofs.Counts.{counts_one, at_most_itself}
 
@@ -18,46 +18,27 @@ record Whole (e : Tree) : Type 0 where
 
 whole : (e : Tree) → is_whole_num e ≡ true → Whole e
 unfolding is_number
-whole (num q) h = record { number = refl; one = refl; adds = ap (λ z. if z then 0 else 2) h }
-whole e h = cc
+whole e h = grind arith
 
 other : (e : Tree) → is_whole_num e ≡ false → exponent_count e ≡ suc (counted e)
 other e h = ap (λ z. if z then 0 else suc (counted e)) h
 
 pub power_counts : (b e : Tree) → counted (power b e) ≡ counted b + exponent_count e
-power_counts b e = by (is_whole_num e)
-  where
-    by : (z : Bool) → (if z then counted b else suc (counted b + counted e)) ≡ counted b + (if z then 0 else suc (counted e))
-    by true = omega arith
-    by false = omega arith
+power_counts b e = grind arith
 
 -- an exponent counts 1 more than it adds at most, and less than it adds where it is not whole
 pub adds : (e : Tree) → counted e ≤ 1 + exponent_count e
-adds e = by (is_whole_num e) refl
-  where
-    by : (z : Bool) → is_whole_num e ≡ z → counted e ≤ 1 + exponent_count e
-    by true h = let w : Whole e = whole e h in omega (arith, w.one)
-    by false h = omega (arith, other e h)
+adds e = grind arith
 
 pub exponents_added : (e f : Tree) → sum_count (more e (more f none)) ≤ 3 + exponent_count e + exponent_count f
 exponents_added e f = omega (arith, adds e, adds f)
 
 numbers_at_most : (e f : Tree) → numbers_among (more f (more e none)) ≤ 2
-numbers_at_most e f = by (is_number f) (is_number e)
-  where
-    by : (y z : Bool) → (if y then 1 else 0) + ((if z then 1 else 0) + 0) ≤ 2
-    by true true = omega arith
-    by true false = omega arith
-    by false true = omega arith
-    by false false = omega arith
+numbers_at_most e f = grind arith
 
 -- among children an exponent counts at most what it adds
 among : (e : Tree) (ts : Trees) → counted_among (more e ts) ≤ exponent_count e + counted_among ts
-among e ts = by (is_whole_num e) refl
-  where
-    by : (z : Bool) → is_whole_num e ≡ z → counted_among (more e ts) ≤ exponent_count e + counted_among ts
-    by true h = let w : Whole e = whole e h in omega (arith, counted_number e ts w.number)
-    by false h = omega (arith, at_most_itself e ts, other e h)
+among e ts = grind (arith, whole, counted_number, at_most_itself, other)
 
 pub exponents_multiplied : (e f : Tree) → is_whole_num e ≡ true → product_count (more f (more e none)) ≤ 2 + exponent_count f
 exponents_multiplied e f h = let w : Whole e = whole e h in omega (arith, numbers_at_most e f, among f (more e none), counted_number e none w.number)

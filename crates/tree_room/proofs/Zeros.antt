@@ -1,5 +1,5 @@
 -- Every name is 0.
-use Rattle.std.proofs.Common.{◌≡◌, ℕ, zero, suc, pos, ◌⊎◌, inl, inr, List, [], ◌∷◌, Bool, true, false, refl, sym, ap, ◌∙◌, subst, arith}
+use Rattle.std.proofs.Common.{◌≡◌, ℕ, suc, pos, ◌⊎◌, inl, inr, List, [], ◌∷◌, Bool, true, false, refl, sym, ap, ◌∙◌, subst, arith}
 use Rattle.std.specs.Prelude.{Contains}
 use Rattle.std.specs.Str.{bytes_eq}
 use Rattle.std.proofs.lemmas.Bool.{true≢false}
@@ -32,8 +32,7 @@ behind : (y x : List ℕ) (ns : List (List ℕ)) → Contains ns x → Contains 
 behind y x ns (k, l, e) = (suc k, omega arith, e)
 
 where_in : (y x : List ℕ) (ns : List (List ℕ)) → Contains (y ∷ ns) x → (y ≡ x) ⊎ Contains ns x
-where_in y x ns (zero, l, e) = inl e
-where_in y x ns (suc k, l, e) = inr (k, omega arith, e)
+where_in y x ns h = grind arith
 
 none_in : (x : List ℕ) → Contains [] x → ⊥
 none_in x (k, l, e) = absurd (omega arith)

@@ -12,7 +12,9 @@ use calc_terms::{Kind, Name, Rat};
 use node_pool::{Full, Id, Pool};
 use std::alloc::{AllocError, Global};
 use std::test::Fail;
-use tree_handles::{Handle, Visit, count_trees, node_over, node_over_two, nodes_of, number, open_pool, symbol};
+use tree_handles::{
+    Handle, Visit, count_trees, node_over, node_over_two, nodes_of, number, open_pool, symbol,
+};
 
 /// The leaves of a tree, in which `x` is replaced by the tree of other leaves, and the nodes of the answer.
 const REPLACED: &str = "\

@@ -1,4 +1,3 @@
-use Rattle.std.proofs.Common.{◌≡◌}
 use Rattle.calc_parser.proofs.building.build.Goals as goal
 
 pub unreachable-requires : goal.unreachable-requires

@@ -1,5 +1,3 @@
-use Rattle.std.specs.Prelude.{◌≡◌, map}
-use Rattle.std.proofs.Common.{ap, ◌∙◌}
 use Rattle.calc_parser.proofs.Shared.{option_map, name_of, bare, tokens_of, IsNoLine, steps_in, tokens_in, IsSplit}
 use Rattle.calc_parser.proofs.Checks.{sum_of_line}
 use Rattle.calc_parser.proofs.Runs.{on_err}

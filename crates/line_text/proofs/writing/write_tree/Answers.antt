@@ -1,4 +1,4 @@
-use Rattle.std.proofs.Common.{◌≡◌, ◌∙◌, ◌+◌, ◌++◌, ℕ, Bool, List, [], ◌∷◌, length, refl, sym, ap, subst, arith, append-nil}
+use Rattle.std.proofs.Common.{◌≡◌, ◌∙◌, ◌++◌, ℕ, Bool, List, [], ◌∷◌, length, refl, sym, ap, subst, arith, append-nil}
 use Rattle.line_text.proofs.Shared.{length-append, text, Visit, plain, nodes_in, tree_at, forest, visits_of, one_at, found, some_next, next_is, Pending, Content, extended}
 use Rattle.line_text.proofs.Parts.{closing}
 use Rattle.line_text.proofs.Fitting.{has_room, many_bytes}

@@ -1,5 +1,5 @@
-use Rattle.std.proofs.Common.{Bool, List, false, ap, arith, length, refl, rules, sym, true, ℕ, ℤ, ◌+◌, ◌∙◌, ◌≡◌, ◌≤◌, ◌<◌, ◌^◌, FitsSigned, unsigned_abs}
-use Rattle.node_pool.proofs.Shared.{w64, w128, cast_signed, cast_unsigned, ints, to_z-of_z, size_by_form, low_bytes, number_bytes, payload_bytes, rational, has_short_form, ratio_of, Ratio, length-low_bytes, short_parts, put, length-put}
+use Rattle.std.proofs.Common.{Bool, false, ap, arith, length, refl, sym, true, ℕ, ℤ, ◌+◌, ◌∙◌, ◌≡◌, ◌≤◌, ◌<◌, ◌^◌, FitsSigned, unsigned_abs}
+use Rattle.node_pool.proofs.Shared.{w64, w128, cast_signed, cast_unsigned, ints, to_z-of_z, size_by_form, low_bytes, number_bytes, rational, has_short_form, ratio_of, Ratio, length-low_bytes, short_parts, put, length-put}
 use Rattle.calc_terms.specs.declared.kind.Kind.TheVariants.{Num}
 use Rattle.node_pool.proofs.node.write_number.Goals as goal
 

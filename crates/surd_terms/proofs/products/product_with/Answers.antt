@@ -1,6 +1,5 @@
-use Rattle.std.proofs.Common.{◌≡◌, ◌*◌, inl, inr, pos, [], refl, ap, sym, ◌∙◌, subst, arith}
-use Rattle.std.specs.Prelude.{true, false}
-use Rattle.surd_terms.proofs.Shared.{times, whole_fraction, value_of, Term, term, term_times, Mul, misfit_of, IsProductMisfit, IsExtracted, term_of}
+use Rattle.std.proofs.Common.{◌≡◌, ◌*◌, inl, inr, pos, [], refl, ap, sym, ◌∙◌, arith}
+use Rattle.surd_terms.proofs.Shared.{times, whole_fraction, Term, term, term_times, Mul, IsExtracted, term_of}
 use Rattle.surd_terms.proofs.Misfits.{refused_for, step_misfit, step_fits}
 use Rattle.surd_terms.proofs.ProductMisfits.{rational_misfit, coefficients_misfit, two_roots, cancelled_for}
 use Rattle.surd_terms.proofs.Rationals.{whole_not_zero}

@@ -1,7 +1,7 @@
-use Rattle.std.proofs.Common.{◌≡◌, ◌<◌, ◌∷◌, ◌*◌, ◌∙◌, ℕ, List, [], ap, sym, subst, rules, arith, drop, length, slice_index}
+use Rattle.std.proofs.Common.{◌<◌, ◌*◌, ◌∙◌, sym, subst, rules, drop}
 use Rattle.square_parts.specs.Primes.{IsDividedBelow}
 use Rattle.square_parts.proofs.Steps.{rest_positive}
-use Rattle.square_parts.proofs.Ends.{starts_with_four, next_prime, end_by_square, end_by_limit, divided_by_first, divided_by_none}
+use Rattle.square_parts.proofs.Ends.{starts_with_four, end_by_square, end_by_limit, divided_by_first, divided_by_none}
 use Rattle.square_parts.proofs.division.Found.divided_by_primes.Goals as goal
 
 pub returns-then-from-found-clause-no_other : goal.returns-then-from-found-clause-no_other
