@@ -45,3 +45,4 @@ pub mod HeldFits
 pub mod NodeBits
 pub mod TreeBits
 pub mod Shared
+pub mod NumberBeside

@@ -146,7 +146,7 @@ fn join_sides(
 }
 
 /// -1 times a reduced tree.
-#[tactic(auto, using(tree_handles::proofs::Fronts::front_after, tree_handles::proofs::Fronts::front_same, tree_handles::proofs::Given::given_handed, tree_handles::proofs::Given::given_apart, tree_handles::proofs::Fronts::front_after_two, tree_handles::proofs::Fronts::behind_new, tree_handles::proofs::Fronts::behind_first, tree_handles::proofs::Fronts::front_end, coefficients::proofs::Free::number_refused, tree_handles::proofs::Outcomes::passed_on, crate::proofs::NodeBytes::opposite_lacks, tree_handles::proofs::Room::given_free, tree_handles::proofs::Given::given_told, calc_room::proofs::NumberBytes::num_bytes, tree_handles::proofs::FreeBytes::refused_below))]
+#[tactic(auto, using(crate::proofs::NumberBeside::number_beside))]
 fn minus(pool: &mut Pool, argument: Handle) -> Result<Handle, NumberFault>
     requires stands { Stands pool.old }
     requires handed { IsHanded argument (forest pool.old) }
@@ -168,7 +168,7 @@ fn minus(pool: &mut Pool, argument: Handle) -> Result<Handle, NumberFault>
 }
 
 /// A reduced tree to the power -1.
-#[tactic(auto, using(tree_handles::proofs::Fronts::front_after, tree_handles::proofs::Fronts::front_same, tree_handles::proofs::Given::given_handed, crate::proofs::Sides::apart_second, tree_handles::proofs::Fronts::front_after_two, tree_handles::proofs::Fronts::behind_first, tree_handles::proofs::Fronts::behind_new, tree_handles::proofs::Fronts::front_end, coefficients::proofs::Free::number_refused, tree_handles::proofs::Outcomes::passed_on, crate::proofs::NodeBytes::inverse_lacks, tree_handles::proofs::Room::given_free, tree_handles::proofs::Given::given_told, calc_room::proofs::NumberBytes::num_bytes, tree_handles::proofs::FreeBytes::refused_below))]
+#[tactic(auto, using(crate::proofs::NumberBeside::number_beside))]
 fn inverse(pool: &mut Pool, base: Handle) -> Result<Handle, NumberFault>
     requires stands { Stands pool.old }
     requires handed { IsHanded base (forest pool.old) }
