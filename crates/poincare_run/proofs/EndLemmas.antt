@@ -32,7 +32,6 @@ broken start lines others out a b c h more = record {
 }
 
 module _ (start : Moment) (t t' k k' : Option (List ℕ)) (left : ℕ) (dialog : Place) (h : IsUnderWay start t t' k k' left dialog) where
-
   pub reads_on : (u j : Option (List ℕ)) (bytes : List ℕ) (n : ℕ) (new : Place) → n ≤ left → length bytes ≡ n → Consumes t' u bytes
       → ((start : Moment) (before out : List ℕ) → Answered start before out dialog → Goes start before bytes out new k' j) → IsUnderWay start t u k j (left - n) new
   reads_on u j bytes n new fits many read next =

@@ -22,7 +22,10 @@ use number_forms::add_numbers;
 use reduce_port::Step;
 use std::cmp::Ordering;
 use std::test::Fail;
-use tree_handles::{Handle, NumberFault, add_child, children, move_last, node, node_over, node_over_two, number, open_pool, symbol};
+use tree_handles::{
+    Handle, NumberFault, add_child, children, move_last, node, node_over, node_over_two, number,
+    open_pool, symbol,
+};
 
 /// A small reduced tree.
 #[derive(Clone, Copy, Debug)]
