@@ -5,8 +5,7 @@ use Rattle.expand_forms.proofs.Shared.{bare, size_of_payload, Tree, Trees, none,
 use Rattle.tree_handles.proofs.Over.{over_product, added_as, moved}
 use Rattle.expand_forms.specs.declared.factors.Factor.{Factor as Read}
 use Rattle.expand_forms.specs.declared.factors.Factors.{Factors}
-use Rattle.expand_forms.proofs.TermReadings.{IsBeside, beside}
-use Rattle.expand_forms.proofs.ListedTerms.{lists_beside}
+use Rattle.expand_forms.proofs.TermReadings.{IsBeside}
 use Rattle.tree_handles.proofs.Adopting.{adopted_all, behind_there}
 use Rattle.tree_handles.proofs.Places.{used_forest}
 
@@ -32,17 +31,6 @@ factors_beside {g = g} {j = j} a h x =
       first = x.first ∙ ap (λ (t : Tree). first_place (children_of t)) same;
       count = x.count ∙ ap (λ (t : Tree). count (factors_in t)) same;
       lists = lists_with (ap root_ids (sym (ap (kids_of j) a.whole ∙ kids_of-join_left j g a.trees h.live))) x.lists;
-    }
-
--- the tree beside them is another
-pub factors_still : {g f h : Forest} {i j : ℕ} {x : Factors} {P Q : Tree → Type 0} → Gives g f i P → Gives g h i Q → IsExpression j g → AreFactors x j f → AreFactors x j h
-factors_still {f = f} {h = h} {j = j} a b e x =
-    let same : plain (tree_at j f) ≡ plain (tree_at j h) = (beside a e).same ∙ sym (beside b e).same in
-    record {
-      product = x.product ∙ ap is_mult same;
-      first = x.first ∙ ap (λ (t : Tree). first_place (children_of t)) same;
-      count = x.count ∙ ap (λ (t : Tree). count (factors_in t)) same;
-      lists = lists_beside a b e x.lists;
     }
 
 pub head_beside : {ts : Trees} {g f : Forest} {j : ℕ} {m : Monomial} (k : ℕ) (o : Option Read) → AddsTrees ts g f → IsExpression j g → ((n : Monomial) → HasMonomial n (plain (tree_at j f)) → BeginsWith o (drop k n))

@@ -16,10 +16,16 @@ pub mod MonomialProducts
 pub mod TermPolynomials
 pub mod SumPlaces
 pub mod TermReadings
+pub mod FactorOrders
+pub mod FactorWalks
+pub mod ListedWalks
 pub mod AddedTrees
 pub mod Merged
+pub mod FactorLists
 pub mod TermKeys
 pub mod Sums
+pub mod Inner
+pub mod PlacedFactors
 pub mod ListedTerms
 pub mod Joins
 pub mod Within

@@ -15,7 +15,7 @@ pub use Rattle.calc_algebra.specs.Reduced.{HasForm, IsFrontForm, IsPowerForm, Is
 unfoldable pub use Rattle.calc_algebra.specs.Reduced.{is_reduced}
 pub use Rattle.calc_algebra.specs.Rewritings.{HasNoNewName}
 pub use Rattle.calc_algebra.specs.Surds.{Surd, surd_of, surd_one}
-pub use Rattle.calc_algebra.specs.TreeOrder.{tree_cmp}
+pub use Rattle.calc_algebra.specs.TreeOrder.{tree_cmp, trees_cmp}
 pub use Rattle.calc_bits.proofs.Quotients.{cancel_right, den_divides, magnitude_cross, magnitude_lowest, magnitude_scale, magnitude_times, over_multiple, plus_den, plus_over, times_den, whole_over, whole_over-abs}
 pub use Rattle.calc_bits.specs.Denominators.{magnitude_over}
 pub use Rattle.calc_measures.specs.Literals.{half_literal, opposite, or_literal, whole_literal, whole_value}
@@ -30,7 +30,7 @@ pub use Rattle.calc_terms.specs.Integers.{int_is_one, int_is_zero}
 pub use Rattle.calc_terms.specs.Payload.{Payload, bare, named, rational, size_of_payload}
 pub use Rattle.calc_terms.specs.Rat.{ratio_of, value_of}
 pub use Rattle.calc_terms.specs.Ratio.{Ratio, whole}
-pub use Rattle.calc_terms.specs.Trees.{AllParts, AllPartsOf, HasTwo, Tree, Trees, add, append, count, div, is_add, is_mult, is_num, is_symbol, is_undef, more, mult, names, names_of, neg, nodes, nodes_of, none, num, power, root, root_kind, root_size, size, sizes, sub, symbol, undef, whole_num}
+pub use Rattle.calc_terms.specs.Trees.{AllParts, AllPartsOf, HasTwo, Tree, Trees, add, append, count, div, is_add, is_mult, is_num, is_symbol, is_undef, more, mult, names, names_of, neg, nodes, nodes_of, none, num, power, root, root_code, root_kind, root_size, size, sizes, sub, symbol, undef, whole_num}
 pub use Rattle.calc_terms.specs.declared.kind.Kind.{Kind}
 pub use Rattle.calc_terms.specs.declared.rat.Rat.{Rat}
 pub use Rattle.child_lists.proofs.ListedChildren.{ids_exchanged, ids_with, ids_without, lists_at, lists_less, lists_listed, lists_more, lists_none, lists_other, lists_with}
@@ -40,6 +40,7 @@ pub use Rattle.coefficients.proofs.Steps.{many_factors, one_value}
 pub use Rattle.expand_forms.specs.ExpandedTrees.{IsBeforeAll, IsNormal, expanded, factor_tree, factor_trees, joined, monomial_cmp, monomial_tree, normal, sum_tree, term_tree, term_trees, with_summand, without_zeros}
 pub use Rattle.expand_forms.specs.ExpansionBits.{AreHeldTogether, AreWhole, HasExponents, HaveExponents, IsHeld, IsNoOverflow, mass}
 pub use Rattle.expand_forms.specs.ExpansionRoom.{AreNamed, HasFewTerms, IsNamed, count_distinct, expansion_room, factor_bytes, is_among, most_terms, most_terms_of, node_bytes, number_bytes, product_of_terms, sum_bytes, sum_of_terms, term_bytes, terms, terms_bytes}
+pub use Rattle.expand_forms.specs.Listed.{AreAhead, AreRead}
 pub use Rattle.expand_forms.specs.Merging.{AddsTrees, AreFactors, BeginsWith, GoesOn, IsFirst, IsFirstBy, IsNext}
 pub use Rattle.expand_forms.specs.PolynomialTrees.{are_polynomials, divisor_of, exponent_limit, exponent_of, has_polynomial_root, is_divisor, is_exponent, is_nonzero, is_polynomial, is_small, natural_of, polynomial_of, product_of, sum_of}
 pub use Rattle.expand_forms.specs.Polynomials.{AreMonomials, Factor, IsBelowAll, IsMonomial, Monomial, Polynomial, Summand, coefficient_at, constant, factor, is_same_monomial, monomial_times, product, raised, scaled, summand, summand_times, variable, with_factor}
@@ -69,7 +70,7 @@ pub use Rattle.std.proofs.lemmas.Nat.Gcd.{dvd_trans}
 pub use Rattle.std.proofs.lemmas.Slice.Eq.{bytes_eq-Decides}
 pub use Rattle.std.specs.Cmp.Lexicographic.{nat_list_cmp_total, slice_cmp}
 pub use Rattle.std.specs.Int.{w128}
-pub use Rattle.std.specs.Ordering.{is_eq, nat_cmp, ordering_reverse}
+pub use Rattle.std.specs.Ordering.{is_eq, nat_cmp, ordering_index, ordering_reverse, ordering_then}
 pub use Rattle.std.specs.Str.{bytes_eq}
 pub use Rattle.std.specs.declared.cmp.Ordering.{Ordering}
 pub use Rattle.std.specs.declared.cmp.Ordering.TheVariants.{Equal, Greater, Less}

@@ -1,7 +1,7 @@
 -- A term more, and a term with another coefficient, in a normal polynomial.
 use Rattle.std.proofs.Common.{◌≡◌, ◌≢◌, ◌≤◌, ◌<◌, ℕ, zero, suc, [], ◌∷◌, Bool, true, false, refl, sym, ap, ◌∙◌, arith}
 use Rattle.std.specs.Prelude.{if◌then◌else◌}
-use Rattle.expand_forms.proofs.Shared.{Less, product_tree, tree_cmp, tree_chain, zero_plus, Fraction, plus, plus_assoc, plus_comm, zero_fraction, Tree, Trees, none, more, count, IsBeforeAll, IsNormal, monomial_cmp, term_tree, term_trees, AreMonomials, IsMonomial, Monomial, Polynomial, Summand, coefficient_at, is_same_monomial, summand, AreSame, IsPlace, HasMonomial, factors_in, monomial_in, term_cmp, removed, inserted, nth}
+use Rattle.expand_forms.proofs.Shared.{Less, product_tree, tree_cmp, tree_chain, zero_plus, Fraction, plus, plus_assoc, plus_comm, zero_fraction, Tree, none, more, count, IsBeforeAll, IsNormal, monomial_cmp, term_tree, term_trees, AreMonomials, IsMonomial, Monomial, Polynomial, Summand, coefficient_at, is_same_monomial, summand, AreSame, IsPlace, factors_in, term_cmp, removed, inserted, nth}
 use Rattle.expand_forms.proofs.MonomialTrees.{turned}
 use Rattle.expand_forms.proofs.NormalForms.{before_more}
 use Rattle.expand_forms.proofs.SameCoefficients.{same_cons, same_refl, same_second, same_trans}
@@ -66,13 +66,6 @@ put_normal (suc n) s (t ∷ v) h z p =
       above = λ i. p.above (omega arith);
     } in
     (h.0, put_before t.monomial n s v l h.1, put_normal n s v h.2 z q)
-
-pub has_order : {m : Monomial} {t : Tree} (q : Fraction) → HasMonomial m t → (u : Tree) → term_cmp u (term_tree (summand q m)) ≡ term_cmp u t
-has_order {m} q h u = λ i. tree_cmp (monomial_in u) (product_tree ((term_factors (summand q m) ∙ sym h.factors) i))
-
--- a term has the place of its factors
-pub place_as : {m : Monomial} {t : Tree} {n : ℕ} {ts : Trees} (q : Fraction) → HasMonomial m t → IsPlace n t ts → IsPlace n (term_tree (summand q m)) ts
-place_as q h p = grind (arith, has_order)
 
 -- ---- a term less
 

@@ -1,9 +1,8 @@
 -- The keys of monomials, and their order.
-use Rattle.std.proofs.Common.{◌≡◌, ◌≢◌, ◌≤◌, ℕ, [], ◌∷◌, true, refl, sym, ap, ◌∙◌, arith}
-use Rattle.std.specs.Prelude.{◌==◌, if◌then◌else◌, None}
-use Rattle.expand_forms.proofs.Shared.{Less, Greater, product_tree, tree_cmp, one_fraction, Tree, num, count, is_mult, root_kind, factor_trees, monomial_cmp, Monomial, HasMonomial, IsMonomialKey, factors_in, first_place, monomial_in, term_cmp, children_of, Forest}
+use Rattle.std.proofs.Common.{◌≡◌, ◌≢◌, [], ◌∷◌, refl, sym, ap, ◌∙◌, arith}
+use Rattle.std.specs.Prelude.{None}
+use Rattle.expand_forms.proofs.Shared.{Less, Greater, product_tree, tree_cmp, one_fraction, Tree, num, count, root_kind, factor_trees, monomial_cmp, Monomial, HasMonomial, IsMonomialKey, factors_in, term_cmp, Forest}
 use Rattle.expand_forms.proofs.FactorTrees.{on_factor, on_monomial}
-use Rattle.node_order.specs.Keys.{trees_behind}
 use Rattle.calc_terms.specs.declared.kind.Kind.TheVariants as kind
 
 -- ---- how many factors there are
@@ -17,12 +16,6 @@ no_factors (f ∷ m) e = absurd (omega (arith, e))
 
 pub no_key : {m : Monomial} {t : Tree} (f : Forest) → HasMonomial m t → count (factors_in t) ≡ 0 → IsMonomialKey m f None
 no_key {m} f h e = no_factors m (sym (ap count h.factors) ∙ e)
-
--- ---- a product's key
-
--- that of more
-pub keyed : (t : Tree) (n : ℕ) → is_mult t ≡ true → n ≡ first_place (children_of t) → 2 ≤ count (factors_in t) → (if n == 0 then t else product_tree (trees_behind n (children_of t))) ≡ monomial_in t
-keyed t n h e l = grind arith
 
 -- ---- their order
 

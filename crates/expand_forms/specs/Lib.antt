@@ -9,3 +9,4 @@ pub mod Sums
 pub mod Rows
 pub mod Merging
 pub mod Walks
+pub mod Listed

@@ -11,7 +11,7 @@ ghost use Rattle.tree_handles.specs.Inside.{tree_at};
 ghost use Rattle.tree_handles.specs.Standing.{Stands, forest};
 
 use calc_terms::{Kind, Name, Rat};
-use child_lists::ChildList;
+use child_lists::{ChildList, FEW};
 use node_pool::{Id, Pool};
 use tree_handles::{child_id, children, kind, name, rational};
 
@@ -20,6 +20,15 @@ use tree_handles::{child_id, children, kind, name, rational};
 pub(crate) struct Factor {
     pub name: Name,
     pub exponent: Rat,
+}
+
+impl Default for Factor {
+    fn default() -> Factor {
+        Factor {
+            name: Name::ans(),
+            exponent: Rat::whole(1),
+        }
+    }
 }
 
 /// The place of a product's first factor among its children: behind the coefficient, where there is one.
@@ -51,16 +60,13 @@ fn factor_count(pool: &Pool, term: Id) -> u16
     }
 }
 
-/// How many factors are listed.
-const LISTED: usize = 8;
-
 /// The factors of a term, each of which is found at once by its place.
 #[derive(Drop)]
 pub(crate) struct Factors {
     is_product: bool,
     first: u16,
     count: u16,
-    list: ChildList<LISTED>,
+    list: ChildList<FEW>,
 }
 
 impl Factors {

@@ -22,7 +22,8 @@ ghost use Rattle.tree_handles.specs.Roots.{without_root};
 ghost use Rattle.tree_handles.specs.Standing.{KeepsRefusals, Stands, forest};
 
 use crate::adding::join_product;
-use crate::factors::{Factors, coefficient};
+use crate::factors::coefficient;
+use crate::multiplying::Multiplier;
 use crate::rationals::{add, mul};
 use crate::terms::{term_count, term_id};
 use calc_terms::Rat;
@@ -156,8 +157,8 @@ fn join_squares<const N: usize, const M: usize>(
         let term = term_id(pool, a, &terms, at);
         let factor = coefficient(pool, term);
         let square = mul(factor, factor)?;
-        let factors = Factors::of(pool, term);
-        let place = join_product(pool, sum, list, square, &factors, term, term, near)?;
+        let mut left = Multiplier::of(pool, term);
+        let place = join_product(pool, sum, list, square, &mut left, term, term, near)?;
         near = place.saturating_add(1);
         // It fits, since the square does.
         let double = add(factor, factor)?;
@@ -203,13 +204,13 @@ fn join_row<const N: usize, const M: usize>(
         → IfErr result (OfFull (λ full. free_of pool.old + size (tree_of sum.now pool.old) < sum_bytes ns n)) }
     ensures stands { Stands pool.new }
 {
-    let left = Factors::of(pool, term);
+    let mut left = Multiplier::of(pool, term);
     let mut next = near;
     let mut near = near;
     for at in from..term_count(pool, b) {
         let other = term_id(pool, b, seconds, at);
         let product = mul(factor, coefficient(pool, other))?;
-        let place = join_product(pool, sum, list, product, &left, term, other, near)?;
+        let place = join_product(pool, sum, list, product, &mut left, term, other, near)?;
         near = place.saturating_add(1);
         if at == from {
             next = near;

@@ -32,13 +32,17 @@ use tree_handles::{Handle, NumberFault, adopt, node, number, symbol};
 /// The next factor of a product, and how many factors of the left and of the right term are in it.
 #[derive(Clone, Copy)]
 pub(crate) struct Next {
-    factor: Factor,
-    left: u16,
-    right: u16,
+    pub factor: Factor,
+    pub left: u16,
+    pub right: u16,
 }
 
 /// The first factor of a product of monomials that begin with these, none where both are 1.
-fn next_factor(left: Option<Factor>, right: Option<Factor>) -> Result<Option<Next>, Overflow>
+#[inline(always)]
+pub(crate) fn next_factor(
+    left: Option<Factor>,
+    right: Option<Factor>,
+) -> Result<Option<Next>, Overflow>
     requires monomials { (m : Monomial) × (n : Monomial) × BeginsWith left m × BeginsWith right n }
     ensures next { (m n : Monomial) → IsMonomial m → IsMonomial n → BeginsWith left m → BeginsWith right n → IfOk result (GoesOn m n) }
     ensures overflow { IfErr result Overflows }
@@ -65,6 +69,7 @@ fn next_factor(left: Option<Factor>, right: Option<Factor>) -> Result<Option<Nex
 }
 
 /// The first of two factors, or both as one where they have one name.
+#[inline(always)]
 fn first_of(left: Factor, right: Factor) -> Result<Next, Overflow>
     requires first { (f : FactorOf) × IsRead left f }
     requires second { (g : FactorOf) × IsRead right g }
@@ -99,7 +104,7 @@ fn first_of(left: Factor, right: Factor) -> Result<Next, Overflow>
 }
 
 /// A new last tree: a name, or a power of one.
-fn place_factor(pool: &mut Pool, factor: Factor) -> Result<Handle, Full>
+pub(crate) fn place_factor(pool: &mut Pool, factor: Factor) -> Result<Handle, Full>
     requires stands { Stands pool.old }
     requires read { (f : FactorOf) × IsRead factor f }
     ensures ok { (f : FactorOf) → IsRead factor f → IfOk result (λ h. Gives (forest pool.old) (forest pool.new) h (λ t. t ≡ factor_tree f)) }

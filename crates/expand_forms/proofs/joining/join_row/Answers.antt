@@ -1,10 +1,10 @@
 use Rattle.std.proofs.Common.{rules, ◌≡◌, ◌+◌, ◌∙◌, ◌∷◌, [], ap, refl, sym, subst, arith, ◌<◌}
 use Rattle.expand_forms.proofs.Shared.{not_from_false, no_zero, Fraction, times, value_of, size, IsNoOverflow, sum_bytes, Monomial, monomial_times, summand, row, HasMonomial, coefficient_in, free_of, OfFull, gives_rest, passed_on, full_as, IsExpression, plain, Forest, tree_of, tree_at, without_root, forest, behind_first, front_after_one, given_handed, given_rest}
 use Rattle.expand_forms.proofs.Gathered.{gathered_refl}
+use Rattle.expand_forms.specs.Listed.{HasLeft}
 use Rattle.expand_forms.proofs.JoinLoops.{IsNextPart, IsNextTerm, joined_all, joined_more, joined_none, next_term, part_few, part_held, place_read, terms_read}
 use Rattle.expand_forms.proofs.JoinRooms.{term_lacks}
 use Rattle.expand_forms.proofs.ListedTerms.{lists_beside}
-use Rattle.expand_forms.proofs.AddedTrees.{factors_still}
 use Rattle.expand_forms.proofs.Rows.{next_coefficient, product_nonzero, row_end, row_next}
 use Rattle.expand_forms.proofs.Splits.{contradiction, first_fits}
 use Rattle.expand_forms.proofs.TermReadings.{beside, term_monomial}
@@ -33,15 +33,22 @@ pub term_count-at-end-requires-clause-expression : goal.term_count-at-end-requir
 term_count-at-end-requires-clause-expression g c = (beside c.requires.sum c.requires.second).expression
 
 pub of-left-requires : goal.of-left-requires
-of-left-requires g c = record { stands = c.requires.stands; expression = (beside c.requires.sum c.requires.first).expression }
+of-left-requires g c =
+    let x = beside c.requires.sum c.requires.first in
+    let m = c.requires.first_term.summand.monomial in
+    record { stands = c.requires.stands; expression = x.expression; monomial = (m, subst (HasMonomial m) (sym x.same) (term_monomial c.requires.first_term)) }
 
 pub loop-at-init : goal.loop-at-init
-loop-at-init g c = record { lists = c.requires.lists; joined = joined_none c.args.sum.now _ _ c.args.pool.now c.requires.stands c.requires.sum (gathered_refl _) }
+loop-at-init g c = record { left = λ m h. c.of-left.ensures m (subst (HasMonomial m) (sym (beside c.requires.sum c.requires.first).same) h); lists = c.requires.lists; joined = joined_none c.args.sum.now _ _ c.args.pool.now c.requires.stands c.requires.sum (gathered_refl _) }
 
 pub term_id-other-requires : goal.term_id-other-requires
 term_id-other-requires g c =
     let j = c.loop-at.invariant.joined in
     (search rules, (j.stands, ((beside j.gives c.requires.second).expression, (lists_beside c.requires.sum j.gives c.requires.second c.requires.seconds, place_read j.gives c.requires.sum c.requires.second c.term_count-at-end.ensures c.loop-at-test.true))))
+
+-- the factors of the term are the same with the sum behind it
+left_still : (g : Over) (c : After-term_id-other g) → (m : Monomial) → HasMonomial m (plain (tree_at c.args.term (without_root c.args.sum.now (forest c.loop-at.pool)))) → HasLeft m c.loop-at.left
+left_still g c m h = c.loop-at.invariant.left m (subst (λ (f : Forest). HasMonomial m (plain (tree_at c.args.term f))) (given_rest c.loop-at.invariant.joined.gives) h)
 
 pub join_product-requires : goal.join_product-requires
 join_product-requires g c =
@@ -50,7 +57,7 @@ join_product-requires g c =
     let x = here g at in
     let nonzero = product_nonzero c.in_ok-product.ensures.product (no_zero _ (not_from_false _ c.requires.nonzero)) (next_coefficient x c.coefficient.ensures) x.term.nonzero in
     let term = subst (IsExpression c.args.term) (sym (given_rest j.gives)) c.requires.first in
-    (search rules, (j.stands, (gives_rest j.gives (λ t h. h.sum), (c.loop-at.invariant.lists, (nonzero, (factors_still c.requires.sum j.gives c.requires.first c.of-left.ensures, (term, (x.expression, (c.requires.first_term.summand.monomial, x.term.summand.monomial, first g at, term_monomial x.term)))))))))
+    (search rules, (j.stands, (gives_rest j.gives (λ t h. h.sum), (c.loop-at.invariant.lists, (nonzero, (left_still g at, (term, (x.expression, (c.requires.first_term.summand.monomial, x.term.summand.monomial, first g at, term_monomial x.term)))))))))
 
 pub returns-in_err-place-clause-front : goal.returns-in_err-place-clause-front
 returns-in_err-place-clause-front g c = front_after_one behind_first c.loop-at.invariant.joined.front c.join_product.ensures.front
@@ -60,6 +67,7 @@ loop-at-preserved g c =
     let at = (goal.at.loop-at-preserved g c).After-term_id-other in
     let x = here g at in
     record {
+      left = λ m h. c.in_ok-place.ensures.left m (c.loop-at.invariant.left m h);
       lists = c.in_ok-place.ensures.lists;
       joined = joined_more c.loop-at.invariant.joined (next g at (value_of c.in_ok-product.product) _ c.coefficient.ensures c.in_ok-product.ensures.product)
           (c.in_ok-place.ensures.ok c.requires.first_term.summand.monomial x.term.summand.monomial (first g at) (term_monomial x.term)) c.join_product.ensures.front c.in_ok-place.ensures.kept c.join_product.ensures.stands;

@@ -1,5 +1,5 @@
 use Rattle.std.proofs.Common.{rules, ◌≡◌, ◌≢◌, ◌+◌, ◌<◌, ◌∙◌, [], ◌∷◌, ◌++◌, drop, ap, refl, sym, subst, arith}
-use Rattle.expand_forms.proofs.Shared.{Fraction, plus, times, zero_fraction, value_of, size, normal, IsNoOverflow, sum_bytes, monomial_times, product, summand, polynomial_of, row, IsExpanded, IsSumOf, IsTerm, free_of, OfFull, gives_rest, passed_on, full_as, sum_not_zero, IsExpression, plain, Forest, Gives, tree_of, tree_at, without_root, forest, behind_first, front_after_one, given_handed, given_rest, lists_listed}
+use Rattle.expand_forms.proofs.Shared.{Fraction, plus, times, zero_fraction, value_of, size, normal, IsNoOverflow, sum_bytes, monomial_times, product, summand, polynomial_of, row, HasMonomial, IsExpanded, IsSumOf, IsTerm, free_of, OfFull, gives_rest, passed_on, full_as, sum_not_zero, IsExpression, plain, Forest, Gives, tree_of, tree_at, without_root, forest, behind_first, front_after_one, given_handed, given_rest, lists_listed}
 use Rattle.expand_forms.proofs.Gathered.{gathered_append, gathered_products, gathered_refl, gathered_trans}
 use Rattle.expand_forms.proofs.JoinLoops.{IsJoined, IsNextPart, IsNextTerm, joined_all, joined_lacks, joined_more, joined_none, next_part, next_term, part_few, part_held, place_read, terms_read}
 use Rattle.expand_forms.proofs.JoinRooms.{term_lacks}
@@ -50,13 +50,26 @@ term_id-term-requires g c =
     let j = c.loop-at.invariant.joined in
     (omega (arith, c.requires.few), (j.stands, ((beside j.gives c.requires.expression).expression, (lists_beside c.requires.sum j.gives c.requires.expression (lists_listed _ c.of-terms.ensures), place_read j.gives c.requires.sum c.requires.expression c.term_count-at-end.ensures c.loop-at-test.true))))
 
+-- the term is the same with the sum behind it
+same : (g : Over) (c : After-coefficient-factor g) → plain (tree_at c.term_id-term.result (forest c.loop-at.pool)) ≡ plain (tree_at c.term_id-term.result (without_root c.args.sum.now (forest c.loop-at.pool)))
+same g c =
+    let rest = given_rest c.loop-at.invariant.joined.gives in
+    (beside c.loop-at.invariant.joined.gives (subst (IsExpression c.term_id-term.result) rest (here g c).expression)).same ∙ ap (λ (f : Forest). plain (tree_at c.term_id-term.result f)) (sym rest)
+
+pub of-left-requires-clause-monomial : goal.of-left-requires-clause-monomial
+of-left-requires-clause-monomial g c =
+    let at = (goal.at.of-left-requires-clause-monomial g c).After-coefficient-factor in
+    let x = here g at in
+    let m = x.term.summand.monomial in
+    (m, subst (HasMonomial m) (sym (same g at)) (term_monomial x.term))
+
 pub join_product-requires : goal.join_product-requires
 join_product-requires g c =
     let at = (goal.at.join_product-requires g c).After-coefficient-factor in
     let j = c.loop-at.invariant.joined in
     let x = here g at in
     let m = x.term.summand.monomial in
-    (search rules, (j.stands, (gives_rest j.gives (λ t h. h.sum), (c.loop-at.invariant.lists, (product_nonzero c.in_ok-square.ensures.product (nonzero g at) refl (nonzero g at), (c.of-factors.ensures, (x.expression, (x.expression, (m, m, term_monomial x.term, term_monomial x.term)))))))))
+    (search rules, (j.stands, (gives_rest j.gives (λ t h. h.sum), (c.loop-at.invariant.lists, (product_nonzero c.in_ok-square.ensures.product (nonzero g at) refl (nonzero g at), (λ n h. c.of-left.ensures n (subst (HasMonomial n) (sym (same g at)) h), (x.expression, (x.expression, (m, m, term_monomial x.term, term_monomial x.term)))))))))
 
 pub returns-in_err-place-clause-front : goal.returns-in_err-place-clause-front
 returns-in_err-place-clause-front g c = front_after_one behind_first c.loop-at.invariant.joined.front c.join_product.ensures.front
