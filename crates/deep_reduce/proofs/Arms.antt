@@ -1,7 +1,7 @@
 -- What a step is known to have made, in the arm for it.
 use Rattle.std.proofs.Common.{◌≡◌, ◌<◌, ◌+◌, ◌^◌, ℕ, ℤ, subst, Some, None, ◌≤◌, List, true, false, sym, ◌∙◌, ap, arith, Result, refl, IfErr}
 use Rattle.deep_reduce.proofs.Shared.{Tree, State, base_in, exponent_in, IsPowerAnswer, IsStep, rewritten, IfFinished, IfJoined, IsFinished, IsGathered, IsPairAt, Joining, Rewrites, tree_of, Gives, IsHeldAsPowerOf, IfDone, Step, children_of, without_root, forest, counted, counted_among, HasPowersOf, SpansTree, mult, is_mult, is_undef, has_undef, IsHeldAsProduct, IsFactorHeld, AreFactorsHeld, KeepsRoom, HandsOn, IfGathered, given_told, numbers_among, and_parts, is_half_num, power, none, more, IsPowerMisfit, has_no_power, has_number_power, is_rewritable, OfOverflow, NumberFault}
-use Rattle.deep_reduce.proofs.JointRooms.{finished_keeps, gathered_hands_on}
+use Rattle.node_bounds.proofs.JointRooms.{finished_keeps, gathered_hands_on}
 use Rattle.deep_reduce.proofs.Settled.{gathered_product}
 use Rattle.deep_reduce.proofs.EasyNodes.{number_defined}
 use Rattle.product_reduce.specs.declared.gathering.Joining.TheVariants as joining

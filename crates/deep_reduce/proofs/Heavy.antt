@@ -1,14 +1,9 @@
 -- How much reduced trees weigh at least, and how Numbers and powers nest.
 use Rattle.std.proofs.Common.{◌≡◌, ℕ, ◌≤◌, Bool, true, false, refl, arith, ◌<◌, ◌&&◌, max}
-use Rattle.deep_reduce.proofs.Shared.{load, weight, load_of_factor, is_number, is_reduced, base_of, Tree, power, none, more, reduced_parts, parts_reduced, load_number, and_parts, nest, nest_of, load_of_factors, are_numbers, Trees, nest_over}
+use Rattle.deep_reduce.proofs.Shared.{load, weight, load_of_factor, is_number, is_reduced, base_of, Tree, power, none, more, load_number, and_parts, nest, nest_of, load_of_factors, are_numbers, Trees, nest_over}
 use Rattle.calc_measures.proofs.Nests.{nest_number}
 use Rattle.calc_measures.proofs.Weights.{heavy, numbers_nest, to_number, to_other, exponent_nest}
-
-pub base_reduced : (b e : Tree) → is_reduced (power b e) ≡ true → is_reduced b ≡ true
-base_reduced b e h = parts_reduced b (reduced_parts (power b e) h refl).1
-
-pub exponent_reduced : (b e : Tree) → is_reduced (power b e) ≡ true → is_reduced e ≡ true
-exponent_reduced b e h = parts_reduced e (reduced_parts (power b e) h refl).2
+use Rattle.node_bounds.proofs.Clashes.{base_reduced}
 
 pub heavy_base : (t : Tree) → is_reduced t ≡ true → 2 ≤ weight (base_of t)
 heavy_base t h = grind (arith, heavy, base_reduced)

@@ -1,8 +1,8 @@
 -- The joint of two factors: how it nests, and that it is never opaque.
-use Rattle.std.proofs.Common.{◌≡◌, suc, ◌≤◌, inl, inr, Bool, true, false, if◌then◌else◌, length, pos, refl, ap, ◌∙◌, subst, arith, max}
-use Rattle.deep_reduce.proofs.Shared.{and_parts, one_fraction, nest, nest_of, weight, load_of_factor, is_number, IsNumber, IsTerm, AreTerms, is_term, terms_of, term_of, are_numbers, is_reduced, is_opaque_exponent, is_whole_num, num_one, base_of, IsSumForm, NoneIs, number_terms, other_terms, Tree, add, power, Trees, none, more, is_add, HasTwo, whole_denominator, number_test, number_words, term_words, reduced_parts, number_of_term, nest_over, nest_of_joint, exponent_of, joint, cases_Bool}
-use Rattle.deep_reduce.proofs.Clashes.{contrary}
-use Rattle.deep_reduce.proofs.Heavy.{exponent_reduced, over_base, over_exponents}
+use Rattle.std.proofs.Common.{◌≡◌, suc, ◌≤◌, inl, inr, Bool, true, false, if◌then◌else◌, pos, refl, ap, ◌∙◌, subst, arith, max}
+use Rattle.deep_reduce.proofs.Shared.{and_parts, one_fraction, nest, nest_of, weight, load_of_factor, is_number, IsNumber, IsTerm, AreTerms, is_term, term_of, are_numbers, is_reduced, is_opaque_exponent, is_whole_num, num_one, base_of, IsSumForm, NoneIs, number_terms, other_terms, Tree, add, power, Trees, none, more, is_add, whole_denominator, number_test, number_words, term_words, reduced_parts, number_of_term, nest_over, nest_of_joint, exponent_of, joint, cases_Bool}
+use Rattle.node_bounds.proofs.Clashes.{contrary, exponent_reduced, two_terms, power_no_number}
+use Rattle.deep_reduce.proofs.Heavy.{over_base, over_exponents}
 use Rattle.calc_measures.proofs.Weights.{to_number, to_other, base_nest}
 
 -- ---- exponents
@@ -36,10 +36,6 @@ no_number_sum e f o p = by (is_number (add (more e (more f none)))) refl
     by : (x : Bool) → is_number (add (more e (more f none))) ≡ x → x ≡ false
     by true h = absurd (two_rationals e f o p (number_words (add (more e (more f none))) h))
     by false h = refl
-
-pub power_no_number : (b e : Tree) → is_number (power b e) ≡ false
-unfolding is_number
-power_no_number b e = refl
 
 -- the load of a joint is the weight of its base
 pub joint_load : (b e f : Tree) → is_opaque_exponent e ≡ false → is_opaque_exponent f ≡ false → load_of_factor (power b (add (more e (more f none)))) ≡ weight b
@@ -95,9 +91,6 @@ number_terms_all (more t ts) n a o = let k = and_parts _ _ n in by k.0 (is_term 
         let rest = next (subst (λ (x : Bool). NoneIs is_number (if x then other_terms ts else more t ts)) h o) in
         (ap (λ (x : Bool). if x then more t (number_terms ts) else none) h ∙ ap (more t) rest.0, (term_words t h, rest.1))
     by p false h next = contrary p (subst (λ (x : Bool). NoneIs is_number (if x then other_terms ts else more t ts)) h o).0
-
-pub two_terms : (ts : Trees) → HasTwo ts → 2 ≤ length (terms_of ts)
-two_terms ts h = grind arith
 
 -- a reduced sum of Numbers is a Number
 form_number : (ts : Trees) → IsSumForm ts → are_numbers ts ≡ true → is_number (add ts) ≡ true

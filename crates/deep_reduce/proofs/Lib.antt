@@ -1,15 +1,7 @@
-mod Clashes
 mod Heavy
 mod Joints
 mod Joined
-mod Calm
-mod JointCounts
-mod JointRooms
 mod Settled
-mod JointBytes
-mod PowerRooms
-mod Rewritten
-mod PowerBytes
 mod Lacking
 pub mod Opened
 mod HalfPowers
@@ -19,8 +11,6 @@ mod Children
 mod Rows
 mod Falls
 mod Arms
-pub mod NodeRooms
-pub mod NodeBytes
 pub mod NodeRewrites
 pub mod TreeRooms
 pub mod PlainNodes
@@ -35,14 +25,6 @@ pub mod Ready
 pub mod Results
 pub mod Sides
 pub mod Told
-pub mod HeldFactors
-pub mod HeldParts
-pub mod HeldPowers
-pub mod HeldJoints
-pub mod ProductCounts
-pub mod HeldRoots
-pub mod HeldFits
-pub mod NodeBits
 pub mod TreeBits
 pub mod Shared
 pub mod NumberBeside

@@ -1,7 +1,7 @@
 -- What the checker cites where a number is made beside a handed tree, and both are put under a new node.
 use Rattle.calc_room.proofs.NumberBytes.{num_bytes}
 use Rattle.coefficients.proofs.Free.{number_refused}
-use Rattle.deep_reduce.proofs.NodeBytes.{inverse_lacks, opposite_lacks}
+use Rattle.node_bounds.proofs.NodeBytes.{inverse_lacks, opposite_lacks}
 use Rattle.deep_reduce.proofs.Sides.{apart_second}
 use Rattle.tree_handles.proofs.FreeBytes.{refused_below}
 use Rattle.tree_handles.proofs.Fronts.{behind_first, behind_new, front_after, front_after_two, front_end, front_same}

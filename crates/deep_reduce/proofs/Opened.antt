@@ -1,17 +1,11 @@
 -- What a rewriting of a power leaves to be reduced: it nests no more, and weighs less.
 use Rattle.std.proofs.Common.{◌≡◌, ℤ, suc, ◌≤◌, ◌<◌, ◌⊎◌, inl, inr, Bool, true, false, ◌&&◌, ◌||◌, Some, None, refl, sym, ap, ◌∙◌, subst, arith}
-use Rattle.deep_reduce.proofs.Shared.{and_parts, whole_fraction, zero_fraction, one_fraction, nest, nest_of, weight, has_coefficient, is_number, is_reduced, is_half_num, is_opaque_exponent, HasForm, Tree, num, mult, power, root, Trees, none, more, count, is_num, is_undef, AllPartsOf, HasTwo, whole_denominator, number_test, product_form_of, no_split, reduced_parts, parts_reduced, one_is_one, Leads, in_front, has_no_half_power, lacks_power, is_number_power, IsReducedPower, nest_of_rewritten, weight_of_bases, weight_below, AreTransparent, IsUnfinished, Finishes, IsHeldAsPowerOf, has_no_power, has_number_power, IsWrittenPower, IsPowerAnswer, goes_inside, half, parts_of, raised, rewritten, rewritten_whole, is_rewritable, transparent_whole, as_whole, no_half, zero_kept, one_kept, chosen, weights, weights_none, weights_more, power_nest, product_parts, Rewrites, reduces_after, not-true, and_right, two_count, cases_Bool, is_whole_num, IsRewritten}
-use Rattle.deep_reduce.proofs.Clashes.{contrary, undef_words}
-use Rattle.deep_reduce.proofs.Heavy.{base_reduced, exponent_reduced}
+use Rattle.deep_reduce.proofs.Shared.{and_parts, whole_fraction, zero_fraction, one_fraction, nest, nest_of, weight, has_coefficient, is_number, is_reduced, is_half_num, is_opaque_exponent, HasForm, Tree, num, mult, power, root, Trees, none, more, count, is_num, is_undef, AllPartsOf, HasTwo, whole_denominator, number_test, product_form_of, no_split, reduced_parts, parts_reduced, one_is_one, Leads, in_front, has_no_half_power, lacks_power, is_number_power, IsReducedPower, nest_of_rewritten, weight_of_bases, weight_below, AreTransparent, IsUnfinished, Finishes, IsHeldAsPowerOf, has_no_power, has_number_power, IsWrittenPower, IsPowerAnswer, goes_inside, half, parts_of, raised, rewritten, rewritten_whole, is_rewritable, transparent_whole, as_whole, no_half, zero_kept, one_kept, chosen, weights, weights_none, weights_more, power_nest, product_parts, Rewrites, reduces_after, not-true, and_right, two_count, cases_Bool}
+use Rattle.node_bounds.proofs.Clashes.{contrary, undef_words, base_reduced, exponent_reduced, undef_has_none}
 use Rattle.calc_measures.proofs.Weights.{to_number, base_nest}
-use Rattle.deep_reduce.proofs.PowerRooms.{finished_room, undef_root_room}
+use Rattle.node_bounds.proofs.PowerRooms.{finished_room, undef_root_room}
 use Rattle.power_reduce.proofs.Rules.{nothing}
-
-pub whole_rewriting : (b e t : Tree) → rewritten_whole b e ≡ Some t → is_whole_num e ≡ true
-whole_rewriting b e t h = grind (arith, chosen, and_parts, nothing)
-
-pub is_rewritten : (b e t : Tree) → is_half_num e ≡ false → is_reduced b ≡ true → is_reduced e ≡ true → rewritten b e ≡ Some t → IsRewritten b e t
-is_rewritten b e t n h k r = record { base = h; exponent = k; whole = whole_rewriting b e t (sym (as_whole b e n) ∙ r); is = r }
+use Rattle.node_bounds.proofs.Rewritten.{is_rewritten}
 
 -- ---- products to a power
 
@@ -113,9 +107,6 @@ kept_half b e r = elim (cases_Bool (is_undef b)) [ inl u ↦ inr u | inr u ↦ i
 
 undef_lacks : (b e : Tree) → is_undef b ≡ true → lacks_power b e ≡ has_no_power b e
 undef_lacks b e h = grind arith
-
-pub undef_has_none : (b e : Tree) → is_undef b ≡ true → has_no_power b e ≡ true
-undef_has_none b e h = grind arith
 
 undef_number : (b e : Tree) → is_undef b ≡ true → is_number_power b e ≡ has_number_power b e
 undef_number b e h = grind (arith, or_false)

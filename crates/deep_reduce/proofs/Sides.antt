@@ -1,6 +1,6 @@
 -- Two trees taken from a node, or made, and put under a new one.
-use Rattle.std.proofs.Common.{◌≡◌, ℕ, eqb, false, [], ◌∷◌, ap, ◌∙◌}
-use Rattle.deep_reduce.proofs.Shared.{Tree, Trees, Kind, GivesSides, behind_first, behind_later, behind_new, front_same, front_at, front_end, front_without, front_after_one, front_after_two, given_handed, given_told, given_rest, given_same, given_apart, given_without, handed_at, eqb-sym, nth, plain, compound, Forest, IsHanded, Gives, KeepsFront, root_tree, without_root}
+use Rattle.std.proofs.Common.{◌≡◌, ℕ, eqb, false, [], ◌∷◌, ap, ◌∙◌, ◌+◌, arith}
+use Rattle.deep_reduce.proofs.Shared.{Tree, Trees, Kind, GivesSides, behind_first, behind_later, behind_new, front_same, front_at, front_end, front_without, front_after_one, front_after_two, given_handed, given_told, given_rest, given_same, given_apart, given_without, handed_at, eqb-sym, nth, plain, compound, Forest, IsHanded, Gives, KeepsFront, root_tree, without_root, size, bytes_in, bytes_in-join, size-plain, last_tree, State, Stands, forest, KeepsRefusals, free_of, tree_of, used_forest, handed_bytes}
 use Rattle.deep_reduce.proofs.Steps.{two}
 
 -- ---- a new tree and one that was handed
@@ -81,3 +81,26 @@ without_both = front_without (behind_later behind_first) (front_without behind_f
 -- both were put under a new node, which was reduced
 pub joined_front : {f h end : Forest} {left made p : ℕ} {Told : Tree → Type 0} → KeepsFront (left ∷ made ∷ []) f h → Gives (without_root made (without_root left f)) h p Told → KeepsFront (p ∷ []) h end → KeepsFront (left ∷ made ∷ []) f end
 joined_front k g l = front_after_one (behind_new g.ends without_both) k l
+
+-- ---- bytes
+
+given_bytes : {g f : Forest} {i : ℕ} {Told : Tree → Type 0} → Gives g f i Told → bytes_in f ≡ bytes_in g + size (plain (root_tree i f))
+given_bytes {g = g} e = omega (arith, ap bytes_in e.ends.whole, bytes_in-join g e.tree, size-plain e.tree e.ends.alone e.whole, ap (λ (x : Forest). size (plain x)) (last_tree e.ends))
+
+-- both sides stand by themselves
+pub sides_free : {s t : State} {i h j : ℕ} {ts : Trees} → Stands s → Stands t → KeepsRefusals s t → IsHanded i (forest s) → GivesSides ts (without_root i (forest s)) (forest t) h j
+    → free_of t + size (nth 0 ts) + size (nth 1 ts) ≡ free_of s + size (tree_of i s)
+sides_free {s = s} {t = t} {i = i} st su k h g =
+    omega (
+      arith,
+      used_forest s st,
+      used_forest t su,
+      k.size,
+      st.pool.fits,
+      su.pool.fits,
+      handed_bytes i (forest s) h,
+      given_bytes g.left-given,
+      given_bytes g.right-given,
+      ap size (given_told g.left-given),
+      ap size (given_told g.right-given),
+    )

@@ -1,15 +1,15 @@
 -- What the calls on sums, products, powers and roots answer, as answers of a node.
 use Rattle.std.proofs.Common.{◌≡◌, ℕ, ◌<◌, ◌⊎◌, inl, inr, true, false, ◌&&◌, List, length, refl, sym, ap, ◌∙◌, subst, arith, append-nil, ◌||◌, Contains, [], ◌++◌}
-use Rattle.deep_reduce.proofs.Shared.{fraction_fits, mul_op, Fraction, minus_one_fraction, negative, zero_fraction, one_fraction, is_number, value, PlainValue, exactly, undefined, overflow, nothing, calculated, plain_value, is_reduced, int_is_negative, Tree, num, symbol, undef, add, mult, power, root, neg, sub, div, Trees, none, more, names, is_undef, is_num, IsPart, IsPartOf, itself, in_add, in_mult, in_base, in_exponent, in_root, in_neg, in_left, in_right, in_dividend, in_divisor, first, later, has_undef, are_rationals, IsReducedProduct, IsReducedPower, IsNodeAnswer, IsNodeOverflow, has_no_value, SpansTree, KeepsSumRoom, base_in, IfRational, IsRootAnswer, Overflow, keeps, kept, Rewrites-refl, reduces, reduces_after, IsPlainAnswer, HasNoNewName, Rewrites, Reduces, IsNoLargerThanRoot, IsSumHeld, addends_of_each, IsTreeHeld, IsSumAnswer, children_of, and_from, and_parts, or_cases, or_from, or_left, or_right, or_parts, number_reduced, symbol_reduced, undef_reduced, as_num, undef_inside, rationals_defined, KeepsNodeRoom, node_count, KeepsRootRoom, HoldsNode, has_number, is_half_num, exponent_in, IsFactorHeld}
-use Rattle.deep_reduce.proofs.Clashes.{undef_words, undef_test, rational_number}
+use Rattle.deep_reduce.proofs.Shared.{fraction_fits, mul_op, Fraction, minus_one_fraction, negative, zero_fraction, one_fraction, is_number, value, PlainValue, exactly, undefined, overflow, nothing, calculated, plain_value, is_reduced, int_is_negative, Tree, num, symbol, undef, add, mult, power, root, neg, sub, div, Trees, none, more, names, is_undef, is_num, IsPart, IsPartOf, itself, in_add, in_mult, in_base, in_exponent, in_root, in_neg, in_left, in_right, in_dividend, in_divisor, first, later, has_undef, are_rationals, IsReducedProduct, IsReducedPower, IsNodeAnswer, IsNodeOverflow, has_no_value, SpansTree, KeepsSumRoom, base_in, IfRational, IsRootAnswer, Overflow, keeps, kept, Rewrites-refl, reduces, reduces_after, IsPlainAnswer, HasNoNewName, Rewrites, Reduces, IsNoLargerThanRoot, IsSumHeld, addends_of_each, IsTreeHeld, IsSumAnswer, children_of, and_from, and_parts, or_cases, or_from, or_left, or_right, or_parts, number_reduced, symbol_reduced, undef_reduced, as_num, undef_inside, rationals_defined, KeepsNodeRoom, node_count, KeepsRootRoom, HoldsNode, has_number, is_half_num, exponent_in, IsFactorHeld, is_leaf}
+use Rattle.node_bounds.proofs.Clashes.{undef_words, undef_test, rational_number}
 use Rattle.calc_algebra.proofs.UndefRewrites.{undef_part}
 use Rattle.deep_reduce.proofs.EasyNodes.{number_defined}
 use Rattle.deep_reduce.proofs.NodeRewrites.{both}
-use Rattle.deep_reduce.proofs.HeldFactors.{tree_factor}
-use Rattle.deep_reduce.proofs.HeldRoots.{root_answer_held}
-use Rattle.deep_reduce.proofs.NodeBits.{zero_held, one_held, opposite_factors, two_terms, second_side, answer_defined, power_answer_held, leaf_no_children}
-use Rattle.deep_reduce.proofs.NodeRooms.{product_node_room, power_node_room, undef_room, same_room, number_room, sum_room, root_node_room, opposite_room, difference_room}
-use Rattle.deep_reduce.proofs.PowerRooms.{undef_root_room}
+use Rattle.node_bounds.proofs.HeldFactors.{tree_factor}
+use Rattle.node_bounds.proofs.HeldRoots.{root_answer_held}
+use Rattle.node_bounds.proofs.NodeBits.{zero_held, one_held, opposite_factors, two_terms, second_side, answer_defined, power_answer_held}
+use Rattle.node_bounds.proofs.NodeRooms.{product_node_room, power_node_room, undef_room, same_room, number_room, sum_room, root_node_room, opposite_room, difference_room}
+use Rattle.node_bounds.proofs.PowerRooms.{undef_root_room}
 use Rattle.deep_reduce.proofs.PlainNodes.{undef_has_no_value}
 use Rattle.calc_measures.proofs.Inverses.{opposite_value}
 use Rattle.calc_algebra.proofs.MeaningRewrites as rewrites
@@ -47,6 +47,12 @@ left_undefined a c e = or_left (is_undef a) (is_undef c || false) e
 
 pub right_undefined : (a c : Tree) → is_undef c ≡ true → has_undef (two a c) ≡ true
 right_undefined a c e = or_right (is_undef a) (is_undef c || false) (or_left (is_undef c) false e)
+
+leaf_no_children : {A : Type 0} (u : Tree) → has_undef (children_of u) ≡ true → is_leaf u ≡ true → A
+leaf_no_children (num q) h k = cc
+leaf_no_children (symbol x) h k = cc
+leaf_no_children undef h k = cc
+leaf_no_children u h k = cc
 
 -- a node with an Undef child
 pub undefined_answer : (u : Tree) → has_undef (children_of u) ≡ true → IsNodeAnswer u undef

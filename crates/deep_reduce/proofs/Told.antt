@@ -1,7 +1,7 @@
 -- What calls on a node of a kind tell, in the words of any node.
-use Rattle.std.proofs.Common.{◌≡◌, ◌≢◌, ℕ, List, pos, negsuc, true, false, ◌&&◌, refl, sym, ap, ◌∙◌, subst, arith, inl, inr}
-use Rattle.deep_reduce.proofs.Shared.{false_from_ne_true, lowest, whole_fraction, zero_fraction, one_fraction, minus_one_fraction, ratio_of, value_of, PlainValue, nothing, plain_value, is_half_num, is_reduced, is_whole_num, are_reduced, Tree, num, symbol, undef, add, mult, power, root, neg, sub, div, Trees, none, more, count, is_add, is_mult, is_root, is_sub, is_div, is_num, root_kind, are_rationals, has_undef, value, int_is_negative, IsNoLargerThanRoot, IsSumHeld, addends_of_each, IsTreeHeld, IsReducedProduct, IsReducedPower, SpansTree, IsNodeAnswer, IsNodeOverflow, is_neg, KeepsSumRoom, base_in, exponent_in, no_plain_value, whole_no_half, whole_is, NamesProduct, argument_of, IfRational, IsRootAnswer, Overflow, IsPlainAnswer, IsPlainOverflow, IsSumAnswer, nth, children_of, and_from, and_parts, cases_Bool}
-use Rattle.deep_reduce.proofs.Clashes.{contrary}
+use Rattle.std.proofs.Common.{◌≡◌, ◌≢◌, ℕ, List, pos, negsuc, true, false, ◌&&◌, refl, sym, ap, ◌∙◌, subst, arith, inl, inr, Result}
+use Rattle.deep_reduce.proofs.Shared.{false_from_ne_true, lowest, whole_fraction, zero_fraction, one_fraction, minus_one_fraction, ratio_of, value_of, PlainValue, nothing, plain_value, is_half_num, is_reduced, is_whole_num, are_reduced, Tree, num, symbol, undef, add, mult, power, root, neg, sub, div, Trees, none, more, count, is_add, is_mult, is_root, is_sub, is_div, is_num, root_kind, are_rationals, has_undef, value, int_is_negative, IsNoLargerThanRoot, IsSumHeld, addends_of_each, IsTreeHeld, IsReducedProduct, IsReducedPower, SpansTree, IsNodeAnswer, IsNodeOverflow, is_neg, KeepsSumRoom, base_in, exponent_in, no_plain_value, whole_no_half, whole_is, NamesProduct, argument_of, IfRational, IsRootAnswer, Overflow, IsPlainAnswer, IsPlainOverflow, IsSumAnswer, nth, children_of, and_from, and_parts, cases_Bool, NumberFault, IfOverflow}
+use Rattle.node_bounds.proofs.Clashes.{contrary}
 use Rattle.calc_terms.specs.declared.rat.Rat.{Rat}
 use Rattle.calc_terms.specs.Ratio.{Ratio, whole}
 use Rattle.deep_reduce.proofs.Steps.{two, sum_answer, product_answer, power_answer, root_answer, empty_sum_answer, empty_product_answer, number_answer, symbol_answer, undef_answer}
@@ -157,3 +157,7 @@ right_reduced ts a b e h = (sides_reduced a b (ap are_reduced (sym e) ∙ h)).1
 
 pub left_reduced : (ts : Trees) (a b : Tree) → ts ≡ two a b → are_reduced ts ≡ true → is_reduced a ≡ true
 left_reduced ts a b e h = (sides_reduced a b (ap are_reduced (sym e) ∙ h)).0
+
+-- an overflow is of a node without Undef children
+pub node_fits : (t : Tree) (r : Result ℕ NumberFault) → IfOverflow r (IsNodeOverflow t) → (has_undef (children_of t) ≡ false → IfOverflow r (λ o. ⊥)) → IfOverflow r (λ o. ⊥)
+node_fits t r h k = grind arith

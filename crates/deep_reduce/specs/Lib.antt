@@ -1,10 +1,5 @@
-pub mod Answers
 pub mod Halves
 pub mod Unfinished
 pub mod Nodes
 pub mod Reductions
 pub mod Pairs
-pub mod Rooms
-pub mod NodeRooms
-pub mod Bits
-pub mod NodeBits

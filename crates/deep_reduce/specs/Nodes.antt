@@ -5,12 +5,12 @@ use Rattle.calc_algebra.specs.Numbers.{is_number, are_numbers}
 use Rattle.calc_measures.specs.PlainValues.{plain_value}
 use Rattle.calc_terms.specs.Trees.{Tree, num, undef, add, mult, power, root, neg, sub, div, is_num, is_undef, has_undef, are_rationals}
 use Rattle.calc_algebra.specs.Reduced.{is_half_num}
-use Rattle.deep_reduce.specs.Answers.{lacks_power, is_number_power}
+use Rattle.node_bounds.specs.Answers.{lacks_power, is_number_power}
 use Rattle.reduce_walk.specs.Leaves.{is_leaf}
-use Rattle.deep_reduce.specs.NodeBits.{HoldsNode}
+use Rattle.node_bounds.specs.NodeBits.{HoldsNode}
 use Rattle.product_reduce.specs.Bits.{IsFactorHeld}
-use Rattle.deep_reduce.specs.NodeRooms.{KeepsNodeRoom, node_count}
-use Rattle.deep_reduce.specs.Rooms.{KeepsRootRoom}
+use Rattle.node_bounds.specs.NodeRooms.{KeepsNodeRoom, node_count}
+use Rattle.node_bounds.specs.Rooms.{KeepsRootRoom}
 use Rattle.power_reduce.specs.PowerAnswers.{base_in, exponent_in}
 use Rattle.radical_forms.specs.RootAnswers.{has_no_root}
 use Rattle.rational128.specs.declared.overflow.Overflow.{Overflow}

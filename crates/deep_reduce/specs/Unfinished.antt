@@ -1,15 +1,14 @@
 -- Trees after one rewriting, some of whose powers are still to be reduced, and bounds on what comes of them.
-use Rattle.std.specs.Prelude.{ℕ, ℤ, List, zero, suc, ◌+◌, ◌≡◌, ◌≤◌, ◌<◌, max, true, false}
+use Rattle.std.specs.Prelude.{ℕ, ℤ, suc, ◌+◌, ◌≡◌, ◌≤◌, ◌<◌, max, true, false}
 use Rattle.calc_measures.specs.Loads.{nest, nest_of, load, load_of_factors, weight}
 use Rattle.calc_algebra.specs.Reduced.{is_reduced, is_opaque_exponent, are_reduced, base_of}
 use Rattle.calc_terms.specs.Fractions.{whole_fraction}
 use Rattle.calc_terms.specs.Trees.{Tree, num, add, mult, power, Trees, none, more, count}
-use Rattle.calc_room.specs.Counts.{counted}
-use Rattle.deep_reduce.specs.Answers.{IsReducedProduct, IsReducedPower}
-use Rattle.deep_reduce.specs.Bits.{AddsCounts}
+use Rattle.node_bounds.specs.HandedOn.{HandsOn, replaced}
+use Rattle.node_bounds.specs.Answers.{IsReducedPower}
+use Rattle.node_bounds.specs.Bits.{AddsCounts}
 use Rattle.power_reduce.specs.Bits.{IsHeldAsPowerOf}
-use Rattle.product_reduce.specs.Bits.{AreFactorsHeld}
-use Rattle.deep_reduce.specs.Rooms.{IsCalmAtZero, KeepsRoom, KeepsSumRoom, IsRewritten, power_count}
+use Rattle.node_bounds.specs.Rooms.{KeepsRoom, KeepsSumRoom, IsRewritten, power_count}
 use Rattle.power_reduce.specs.PowerAnswers.{base_in, exponent_in}
 use Rattle.product_reduce.specs.Answers.{IsFinished}
 use Rattle.product_reduce.specs.Gathering.{IsGathered}
@@ -17,7 +16,6 @@ use Rattle.product_reduce.specs.Joining.{exponent_of}
 use Rattle.product_reduce.specs.Neighbours.{IsPairAt, joined_pair}
 use Rattle.calc_algebra.specs.Rewritings.{Rewrites, Reduces}
 use Rattle.sum_reduce.specs.SumAnswers.{IsSumAnswer}
-use Rattle.tree_room.specs.Handed.{product_count}
 use Rattle.tree_handles.specs.Expressions.{nth, children_of}
 
 -- ---- bounds
@@ -87,43 +85,6 @@ pub record Finishes (t r : Tree) : Type 0 where
   pub room : (b e : Tree) → IsRewritten b e t → KeepsRoom (power_count b e) (power b e) r
   pub held : (b e : Tree) (n : ℤ) → IsRewritten b e t → e ≡ num (whole_fraction n) → IsHeldAsPowerOf n b r
 
--- a power whose exponent was a sum of these, and is reduced
-pub record IsSummed (b : Tree) (ts : Trees) (t : Tree) : Type 0 where
-  pub exponent : Tree
-  pub sum : IsSumAnswer ts exponent
-  pub room : KeepsSumRoom ts exponent
-  pub counts : AddsCounts ts exponent
-  pub is : t ≡ power b exponent
-
--- a power whose exponent is a product of these, and is reduced
-pub record IsMultiplied (b : Tree) (ts : Trees) (t : Tree) : Type 0 where
-  pub exponent : Tree
-  pub product : IsReducedProduct ts exponent
-  pub is : t ≡ power b exponent
-
--- a tree whose exponent is reduced, if it is a product
-abbrev pub IsLifted : Tree → Tree → Type 0
-IsLifted (power b (mult ts)) u = IsMultiplied b ts u
-IsLifted t u = u ≡ t
-
--- each power of one list is reduced in the other
-abbrev pub AreReducedPowers : Trees → Trees → Type 0
-AreReducedPowers none none = Unit {0}
-AreReducedPowers (more t ts) (more u us) = IsReducedPower (base_in t) (exponent_in t) u × AreReducedPowers ts us
-AreReducedPowers _ _ = ⊥
-
--- a product whose powers are reduced
-pub record IsProductOfPowers (ts : Trees) (t : Tree) : Type 0 where
-  pub factors : Trees
-  pub are : AreReducedPowers ts factors
-  pub is : t ≡ mult factors
-
--- another tree at a place, counted from 0
-abbrev pub replaced : ℕ → Tree → Trees → Trees
-replaced n u none = none
-replaced zero u (more t ts) = more u ts
-replaced (suc n) u (more t ts) = more t (replaced n u ts)
-
 -- a product in which the joint at a place is reduced
 pub record IsSettled (at : ℕ) (ts : Trees) (t : Tree) : Type 0 where
   pub exponent : Tree
@@ -148,13 +109,6 @@ pub record IsJoinedProduct (ts : Trees) (t : Tree) : Type 0 where
   pub us : Trees
   pub joins : Joins ts us
   pub finished : IsFinished us t
-
--- Where the first product is calm, no more is handed on of it, and nothing that is not calm or not spanned; and what is handed on is
--- held by the same bits.
-pub record HandsOn (ts us : Trees) : Type 0 where
-  pub counts : (ns : List (List ℕ)) → IsCalmAtZero ns (mult ts) → product_count us ≤ product_count ts
-  pub room : KeepsRoom (counted (mult ts)) (mult ts) (mult us)
-  pub held : (h l : ℕ) → AreFactorsHeld ts h l → AreFactorsHeld us h l
 
 -- a product of reduced factors with what these factors mean, which loads less
 pub record IsLess (ts : Trees) (u : Tree) : Type 0 where

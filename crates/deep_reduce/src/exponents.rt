@@ -2,13 +2,13 @@
 ghost use Rattle.std.specs.Prelude.{ℕ, List, length, ◌≡◌, ◌≤◌, ◌+◌, ◌^◌, IfOk, IfErr, OnOk, [], ◌∷◌, true};
 ghost use Rattle.calc_terms.specs.Trees.{add, count, size, power as power_tree};
 ghost use Rattle.calc_room.specs.Spans.{SpansTree};
-ghost use Rattle.deep_reduce.specs.Unfinished.{IsSummed};
+ghost use Rattle.node_bounds.specs.HandedOn.{IsSummed};
 ghost use Rattle.node_pool.specs.State.{free_of};
 ghost use Rattle.tree_handles.specs.Lacking.{LacksBelow};
 ghost use Rattle.tree_room.specs.Handed.{sum_count};
 ghost use Rattle.tree_room.specs.Needs.{sum_room};
 ghost use Rattle.power_reduce.specs.PowerAnswers.{base_in, exponent_in};
-ghost use Rattle.deep_reduce.specs.Bits.{HasFewBits};
+ghost use Rattle.node_bounds.specs.Bits.{HasFewBits};
 ghost use Rattle.tree_bits.specs.Children.{IsSumHeld, addends_of_each};
 ghost use Rattle.tree_handles.specs.Causes.{IsCaused};
 ghost use Rattle.calc_algebra.specs.Reduced.{are_reduced};

@@ -6,14 +6,14 @@ ghost use Rattle.calc_room.specs.Counts.{counted};
 ghost use Rattle.calc_room.specs.Spans.{SpansTree};
 ghost use Rattle.node_pool.specs.State.{free_of};
 ghost use Rattle.calc_terms.specs.Fractions.{whole_fraction};
-ghost use Rattle.deep_reduce.specs.Bits.{HasFewBits};
-ghost use Rattle.deep_reduce.specs.Rooms.{SpansRootOf};
+ghost use Rattle.node_bounds.specs.Bits.{HasFewBits};
+ghost use Rattle.node_bounds.specs.Rooms.{SpansRootOf};
 ghost use Rattle.number_forms.specs.Readers.{numerator};
 ghost use Rattle.power_reduce.specs.Bits.{IsHeldAsPowerOf, HasFewBitsRaised};
 ghost use Rattle.product_reduce.specs.Bits.{IsFactorHeld};
 ghost use Rattle.tree_handles.specs.Lacking.{LacksBelow};
 ghost use Rattle.tree_room.specs.Needs.{power_room};
-ghost use Rattle.deep_reduce.specs.Answers.{IsReducedPower};
+ghost use Rattle.node_bounds.specs.Answers.{IsReducedPower};
 ghost use Rattle.deep_reduce.specs.Halves.{IsRooted};
 ghost use Rattle.power_reduce.specs.PowerAnswers.{base_in, exponent_in, IsPowerAnswer};
 ghost use Rattle.power_reduce.specs.PowerSteps.{rewritten};
@@ -104,7 +104,7 @@ fn reduce_base(pool: &mut Pool, power: Handle) -> Result<Handle, NumberFault>
 }
 
 /// A step on a power that no rule rewrites.
-#[tactic(auto, using(crate::proofs::Arms::is_done, tree_handles::proofs::Given::given_told, crate::proofs::Arms::is_again, tree_handles::proofs::Outcomes::passed_on, crate::proofs::HeldRoots::last_fits))]
+#[tactic(auto, using(crate::proofs::Arms::is_done, tree_handles::proofs::Given::given_told, crate::proofs::Arms::is_again, tree_handles::proofs::Outcomes::passed_on, node_bounds::proofs::HeldRoots::last_fits))]
 fn last_step(pool: &mut Pool, power: Handle) -> Result<Handle, NumberFault>
     requires stands { Stands pool.old }
     requires handed { IsHanded power (forest pool.old) }

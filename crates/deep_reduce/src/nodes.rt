@@ -3,11 +3,11 @@ ghost use Rattle.std.specs.Prelude.{ℕ, List, length, ◌≡◌, ◌<◌, ◌+�
 ghost use Rattle.calc_terms.specs.Fractions.{whole_fraction};
 ghost use Rattle.calc_terms.specs.Trees.{num, is_add, is_mult, has_undef, size};
 ghost use Rattle.calc_room.specs.Spans.{SpansTree};
-ghost use Rattle.deep_reduce.specs.Bits.{HasFewBits};
-ghost use Rattle.deep_reduce.specs.NodeBits.{HoldsNode};
-ghost use Rattle.deep_reduce.specs.NodeRooms.{HasNodesFor, SpansNode, factors_room};
+ghost use Rattle.node_bounds.specs.Bits.{HasFewBits};
+ghost use Rattle.node_bounds.specs.NodeBits.{HoldsNode};
+ghost use Rattle.node_bounds.specs.NodeRooms.{HasNodesFor, SpansNode, factors_room};
 ghost use Rattle.deep_reduce.specs.Nodes.{IsNodeAnswer, IsNodeOverflow};
-ghost use Rattle.deep_reduce.specs.Rooms.{IsCalmAtZero, SpansRootOf};
+ghost use Rattle.node_bounds.specs.Rooms.{IsCalmAtZero, SpansRootOf};
 ghost use Rattle.node_pool.specs.State.{free_of};
 ghost use Rattle.tree_handles.specs.Lacking.{LacksBelow};
 ghost use Rattle.power_reduce.specs.PowerAnswers.{base_in, exponent_in};
@@ -69,7 +69,7 @@ pub(crate) fn reduce_node(pool: &mut Pool, tree: Handle) -> Result<Handle, Numbe
 }
 
 /// A sum of reduced terms: 0 where there is none.
-#[tactic(auto, using(tree_handles::proofs::Seen::live, crate::proofs::Lacking::result_lacks, crate::proofs::NodeBytes::number_fits_sum))]
+#[tactic(auto, using(tree_handles::proofs::Seen::live, crate::proofs::Lacking::result_lacks, node_bounds::proofs::NodeBytes::number_fits_sum))]
 pub(crate) fn add_up(pool: &mut Pool, sum: Handle) -> Result<Handle, NumberFault>
     requires stands { Stands pool.old }
     requires handed { IsHanded sum (forest pool.old) }
@@ -93,7 +93,7 @@ pub(crate) fn add_up(pool: &mut Pool, sum: Handle) -> Result<Handle, NumberFault
 }
 
 /// A product of reduced factors: 1 where there is none.
-#[tactic(auto, using(tree_handles::proofs::Seen::live, crate::proofs::Lacking::result_lacks, crate::proofs::NodeBytes::no_factors))]
+#[tactic(auto, using(tree_handles::proofs::Seen::live, crate::proofs::Lacking::result_lacks, node_bounds::proofs::NodeBytes::no_factors))]
 pub(crate) fn multiply(pool: &mut Pool, product: Handle) -> Result<Handle, NumberFault>
     requires stands { Stands pool.old }
     requires handed { IsHanded product (forest pool.old) }

@@ -1,14 +1,14 @@
 use Rattle.std.proofs.Common.{◌≡◌, ◌*◌, negsuc, rules, length, inr, true, false, ◌<◌, ◌+◌, ◌^◌, refl, sym, ap, ◌∙◌, subst, arith}
 use Rattle.deep_reduce.proofs.Shared.{fraction_fits, Fraction, minus_one_fraction, HoldsNode, holds_whole, IsFactorHeld, is_reduced, Tree, size, sizes, num, mult, none, more, power, has_undef, tree_of, gives_as, given_handed, given_root, given_told, nth, children_of, counted, SpansTree, expression, seen, IsNodeAnswer, IsCalmAtZero, stands_last, free_of, replaced_free, passed_on, product_count, product_room, product_power_room, HoldsQuotient}
-use Rattle.deep_reduce.proofs.NodeBits.{two_factors, second_side, holds_as}
+use Rattle.node_bounds.proofs.NodeBits.{two_factors, second_side, holds_as}
 use Rattle.reduce_walk.proofs.HeldRationals.{root_fits}
 use Rattle.deep_reduce.proofs.Results.{answer_as, overflow_as, overflow_on}
-use Rattle.deep_reduce.proofs.Sides.{left_beside, rewritten_front, paired_front}
+use Rattle.deep_reduce.proofs.Sides.{left_beside, rewritten_front, paired_front, sides_free}
 use Rattle.deep_reduce.proofs.Steps.{undefined_answer}
 use Rattle.deep_reduce.proofs.Quotients.{div_answer, div_overflow, inverse_overflow}
 use Rattle.deep_reduce.proofs.Told.{answer_at, overflow_at, div_is, div_children, right_reduced, left_reduced}
 use Rattle.deep_reduce.proofs.Lacking.{lacks_as, result_lacks}
-use Rattle.deep_reduce.proofs.NodeBytes.{quotient_sides, right_inverse_lacks, quotient_fits, quotient_keeps, sides_free}
+use Rattle.node_bounds.proofs.NodeBytes.{quotient_sides, right_inverse_lacks, quotient_fits, quotient_keeps}
 use Rattle.deep_reduce.proofs.differences.divide.Goals.{After-has_undefined_child}
 use Rattle.deep_reduce.proofs.differences.divide.Goals as goal
 

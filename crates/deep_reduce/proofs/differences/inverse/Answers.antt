@@ -1,9 +1,9 @@
 use Rattle.std.proofs.Common.{rules, length, negsuc, ◌<◌, ◌+◌, ◌^◌, refl, sym, ap, ◌∙◌, subst, arith}
 use Rattle.deep_reduce.proofs.Shared.{SpansTree, IsCalmAtZero, whole_power_room, IsFactorHeld, free_of, both_replaced_free, whole_is, given_free, minus_one_fraction, plain_value, is_reduced, is_whole_num, Tree, num, size, base_in, exponent_in, tree_of, behind_first, behind_new, front_same, front_end, front_after_two, gives_as, given_handed, given_other, given_without, number_reduced}
-use Rattle.deep_reduce.proofs.NodeBits.{as_overflow}
+use Rattle.node_bounds.proofs.NodeBits.{as_overflow}
 use Rattle.deep_reduce.proofs.Lacking.{result_lacks}
-use Rattle.deep_reduce.proofs.NodeBytes.{inverse_calm, inverse_spans}
-use Rattle.deep_reduce.proofs.PowerBytes.{needs_most}
+use Rattle.node_bounds.proofs.NodeBytes.{inverse_calm, inverse_spans}
+use Rattle.node_bounds.proofs.PowerBytes.{needs_most}
 use Rattle.deep_reduce.proofs.Results.{answered, answer_as, overflowed_defined}
 use Rattle.deep_reduce.proofs.Sides.{apart_second, beside_new, new_second, reduced_front}
 use Rattle.deep_reduce.proofs.Told.{answer_at, minus_one_value, power_told, power_words, power_sides, inverse_no_half, inverse_overflowed}

@@ -1,7 +1,7 @@
 use Rattle.std.proofs.Common.{◌≡◌, ◌⊎◌, ℕ, length, ◌<◌, ◌+◌, ◌^◌, rules, true, inl, inr, refl, sym, ap, ◌∙◌, subst, arith}
 use Rattle.deep_reduce.proofs.Shared.{is_reduced, are_reduced, SpansTree, bare, size_of_payload, Tree, size, has_undef, factors_room, IsCalmAtZero, HoldsNode, both_replaced_free, refused_below, passed_on, sum_count, sum_room, Kind, State, free_of, Gives, tree_of, without_root, forest, children_of, compound, takes_kind, gives, given_other, given_rest, given_told, represents_handed}
 use Rattle.deep_reduce.proofs.Lacking.{result_lacks}
-use Rattle.deep_reduce.proofs.NodeBytes.{sum_node_lacks, product_node_lacks}
+use Rattle.node_bounds.proofs.NodeBytes.{sum_node_lacks, product_node_lacks}
 use Rattle.deep_reduce.proofs.Results.{answer_as, overflow_as}
 use Rattle.deep_reduce.proofs.Sides.{apart_second, joined_front}
 use Rattle.deep_reduce.proofs.Steps.{two}

@@ -1,8 +1,8 @@
 use Rattle.std.proofs.Common.{rules, length, ◌<◌, ◌+◌, ◌^◌, refl, sym, ap, ◌∙◌, subst, arith}
 use Rattle.deep_reduce.proofs.Shared.{SpansTree, factors_room, IsCalmAtZero, has_undef, Tree, num, is_mult, size, HoldsNode, free_of, both_replaced_free, given_free, minus_one_fraction, are_reduced, tree_of, children_of, behind_first, behind_new, front_same, front_end, front_after_two, gives_as, given_handed, given_other, given_rest, without_root, number_reduced, given_apart}
-use Rattle.deep_reduce.proofs.NodeBits.{opposite_factors, second_side}
+use Rattle.node_bounds.proofs.NodeBits.{opposite_factors, second_side}
 use Rattle.deep_reduce.proofs.Lacking.{result_lacks}
-use Rattle.deep_reduce.proofs.NodeBytes.{opposite_calm, opposite_spans, opposite_fits}
+use Rattle.node_bounds.proofs.NodeBytes.{opposite_calm, opposite_spans, opposite_fits}
 use Rattle.reduce_walk.proofs.HeldRationals.{root_fits}
 use Rattle.deep_reduce.proofs.Results.{answer_as, overflow_as}
 use Rattle.deep_reduce.proofs.Sides.{beside_new, new_first, reduced_front}

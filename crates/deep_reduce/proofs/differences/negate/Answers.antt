@@ -1,8 +1,8 @@
 use Rattle.std.proofs.Common.{rules, length, ◌<◌, ◌+◌, ◌^◌, sym, ap, ◌∙◌, subst, arith}
 use Rattle.deep_reduce.proofs.Shared.{is_reduced, Tree, neg, count, size, is_undef, has_undef, counted, SpansTree, IsCalmAtZero, IsFactorHeld, free_of, replaced_free, product_room, keeps_after, tree_of, behind_first, behind_new, front_same, front_end, front_without, front_after_one, given_handed, given_told, given_rest, nth, children_of, parent_handed}
-use Rattle.deep_reduce.proofs.NodeBits.{only_undef, holds_as}
+use Rattle.node_bounds.proofs.NodeBits.{only_undef, holds_as}
 use Rattle.deep_reduce.proofs.Lacking.{result_lacks}
-use Rattle.deep_reduce.proofs.NodeBytes.{negated_calm, negated_spans, negated_fits}
+use Rattle.node_bounds.proofs.NodeBytes.{negated_calm, negated_spans, negated_fits}
 use Rattle.deep_reduce.proofs.Parents.{alone_out, parent_children}
 use Rattle.deep_reduce.proofs.Results.{answer_as, overflow_as}
 use Rattle.deep_reduce.proofs.Told.{answer_at, overflow_at, neg_is, neg_children, only_reduced}
@@ -36,8 +36,8 @@ returns c =
       room = λ gs ns n h k s.
           let told = given_told g in
           let moved = replaced_free c.requires.stands c.release.ensures.stands (keeps_after _ _ _ c.take_child-argument.ensures.kept c.release.ensures.kept) c.requires.handed g in
-          result_lacks c.minus.result (c.minus.ensures.room gs ns (subst (IsCalmAtZero ns) (sym told) (negated_calm t c.requires.opposite k)) (subst (SpansTree gs) (sym told) (negated_spans gs t c.requires.opposite s)))
-          (λ l. omega (arith, subst (λ (x : Tree). free_of c.release.new.pool + size x < product_room (2 + counted x) (2 ^ length gs)) told l, moved, ap size told, negated_fits t n (2 ^ length gs) c.requires.opposite h));
+          result_lacks c.minus.result (c.minus.ensures.room gs ns (subst (IsCalmAtZero ns) (sym told) (negated_calm t (neg_is t c.requires.opposite) k)) (subst (SpansTree gs) (sym told) (negated_spans gs t (neg_is t c.requires.opposite) s)))
+          (λ l. omega (arith, subst (λ (x : Tree). free_of c.release.new.pool + size x < product_room (2 + counted x) (2 ^ length gs)) told l, moved, ap size told, negated_fits t n (2 ^ length gs) (neg_is t c.requires.opposite) h));
       bits = λ h l k few. c.minus.ensures.bits h l (λ d. subst (λ (x : Tree). IsFactorHeld x h l) (sym (given_told g)) (holds_as h l (neg_is t c.requires.opposite) (k (ap has_undef (neg_children t c.requires.opposite) ∙ only_undef (nth 0 (children_of t)) (sym (ap is_undef (given_told g)) ∙ d))))) few;
       kept = search rules;
       faults = search rules;

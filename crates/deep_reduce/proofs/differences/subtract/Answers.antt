@@ -1,12 +1,12 @@
 use Rattle.std.proofs.Common.{◌≡◌, rules, length, inl, false, ◌<◌, ◌+◌, ◌^◌, refl, sym, ap, ◌∙◌, subst, arith}
 use Rattle.deep_reduce.proofs.Shared.{is_reduced, Tree, size, sizes, add, none, more, neg, has_undef, tree_of, gives_as, given_handed, given_told, nth, children_of, HoldsNode, IsFactorHeld, counted, SpansTree, expression, seen, IsNodeAnswer, IsCalmAtZero, stands_last, free_of, replaced_free, passed_on, sum_count, sum_room, product_room, HoldsDifference}
-use Rattle.deep_reduce.proofs.NodeBits.{difference_right, two_terms, second_side, holds_as}
+use Rattle.node_bounds.proofs.NodeBits.{difference_right, two_terms, second_side, holds_as}
 use Rattle.deep_reduce.proofs.Results.{answer_as, overflow_as, overflow_on}
-use Rattle.deep_reduce.proofs.Sides.{left_beside, rewritten_front, paired_front}
+use Rattle.deep_reduce.proofs.Sides.{left_beside, rewritten_front, paired_front, sides_free}
 use Rattle.deep_reduce.proofs.Steps.{undefined_answer, sub_answer, sub_overflow, opposite_overflow}
 use Rattle.deep_reduce.proofs.Told.{answer_at, overflow_at, sub_is, sub_children, right_reduced, left_reduced}
 use Rattle.deep_reduce.proofs.Lacking.{lacks_as, result_lacks}
-use Rattle.deep_reduce.proofs.NodeBytes.{difference_sides, right_opposite_lacks, difference_fits, difference_keeps, sides_free}
+use Rattle.node_bounds.proofs.NodeBytes.{difference_sides, right_opposite_lacks, difference_fits, difference_keeps}
 use Rattle.deep_reduce.proofs.differences.subtract.Goals.{After-has_undefined_child}
 use Rattle.deep_reduce.proofs.differences.subtract.Goals as goal
 

@@ -1,6 +1,6 @@
 use Rattle.std.proofs.Common.{rules, ap, sym, ◌∙◌, refl, arith, subst}
 use Rattle.deep_reduce.proofs.Shared.{Tree, count, is_add, over_back, apart_back, put_back, front_lost, children_in, moved, moved_front, taken_free, SpansTree, passed_on, free_of, exponent_in, are_reduced, IsSumHeld, addends_of_each, are_counted, counts_of, counts_of_all, IsWithin, tree_of, IsSumAnswer, children_of, front_same, given_handed, given_root, given_told, root_held}
-use Rattle.deep_reduce.proofs.JointRooms.{sum_keeps}
+use Rattle.node_bounds.proofs.JointRooms.{sum_keeps}
 use Rattle.deep_reduce.proofs.Lacking.{exponent_lacks, exponent_spans}
 use Rattle.deep_reduce.proofs.Children.{over_power, power_of_sum, exponent_taken, itself}
 use Rattle.deep_reduce.proofs.exponents.sum_exponent.Goals as goal

@@ -1,6 +1,6 @@
 use Rattle.std.proofs.Common.{◌≡◌, false, rules, refl, sym, ap, ◌∙◌, subst, arith}
 use Rattle.deep_reduce.proofs.Shared.{value, int_is_negative, IsFactorHeld, IsNoLargerThanRoot, SpansTree, taken_free, free_of, passed_on, is_reduced, Tree, is_root, over_back, apart_back, put_back, front_lost, children_in, moved, moved_front, argument_of, IfRational, IsRootAnswer, tree_of, front_same, given_handed, given_root, given_told, root_held}
-use Rattle.deep_reduce.proofs.HeldRoots.{root_fits}
+use Rattle.node_bounds.proofs.HeldRoots.{root_fits}
 use Rattle.deep_reduce.proofs.HalfPowers.{root_lacks}
 use Rattle.deep_reduce.proofs.Children.{over_power, base_taken, itself}
 use Rattle.deep_reduce.proofs.halves.reduce_base.Goals as goal

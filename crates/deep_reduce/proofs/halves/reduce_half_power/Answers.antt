@@ -3,7 +3,7 @@ use Rattle.deep_reduce.proofs.Shared.{Rewrites, Tree, numerator, gives_itself, I
 use Rattle.deep_reduce.proofs.Arms.{is_done, is_again, any_fault, any_refusal, misfit_fault, half_defined}
 use Rattle.deep_reduce.proofs.Children.{gives_next, front_next}
 use Rattle.deep_reduce.proofs.HalfPowers.{half_step, half_ready, half_last, last_exponent, rooted_held, half_after, step_finds_none, base_finds_none, last_step, last_finds_none}
-use Rattle.deep_reduce.proofs.HeldRoots.{half_no_whole, half_fits, if_two}
+use Rattle.node_bounds.proofs.HeldRoots.{half_no_whole, half_fits, if_two}
 use Rattle.deep_reduce.proofs.Lacking.{lacks_as}
 use Rattle.deep_reduce.proofs.Opened.{power_finished}
 use Rattle.deep_reduce.proofs.halves.reduce_half_power.Goals as goal

@@ -1,7 +1,7 @@
 use Rattle.std.proofs.Common.{rules, ◌≡◌, ap, ◌∙◌, sym, refl, arith, ℕ, false}
 use Rattle.deep_reduce.proofs.Shared.{has_undef, Tree, count, IsSumHeld, addends_of_each, IsTreeHeld, plain_value, tree_of, children_of, expression, seen, KeepsSumRoom, sum_words}
-use Rattle.deep_reduce.proofs.HeldFits.{product_fits}
-use Rattle.deep_reduce.proofs.NodeBits.{as_overflow, held_facts, holds_as}
+use Rattle.node_bounds.proofs.HeldFits.{product_fits}
+use Rattle.node_bounds.proofs.NodeBits.{as_overflow, held_facts, holds_as}
 use Rattle.deep_reduce.proofs.Results.{answered, answer_as, overflowed_defined, with_facts, sum_facts}
 use Rattle.deep_reduce.proofs.Told.{sum_told, empty_sum_told}
 use Rattle.deep_reduce.proofs.nodes.add_up.Goals.{After-children}

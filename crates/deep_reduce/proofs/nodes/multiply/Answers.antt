@@ -1,9 +1,9 @@
 use Rattle.std.proofs.Common.{rules, ◌≡◌, ◌^◌, length, ap, ◌∙◌, sym, refl, arith}
 use Rattle.deep_reduce.proofs.Shared.{plain_value, Tree, count, tree_of, children_of, expression, seen}
-use Rattle.deep_reduce.proofs.HeldFits.{product_fits}
-use Rattle.deep_reduce.proofs.NodeBits.{as_overflow, holds_as}
+use Rattle.node_bounds.proofs.HeldFits.{product_fits}
+use Rattle.node_bounds.proofs.NodeBits.{as_overflow, holds_as}
 use Rattle.deep_reduce.proofs.Lacking.{result_lacks}
-use Rattle.deep_reduce.proofs.NodeBytes.{some_factors}
+use Rattle.node_bounds.proofs.NodeBytes.{some_factors}
 use Rattle.deep_reduce.proofs.Results.{answered, answer_as, overflowed_defined}
 use Rattle.deep_reduce.proofs.Told.{product_told, empty_product_told}
 use Rattle.deep_reduce.proofs.nodes.multiply.Goals.{After-children}

@@ -1,11 +1,11 @@
 use Rattle.std.proofs.Common.{rules, false, ◌≡◌, ◌^◌, ℕ, List, length, refl, sym, ◌∙◌, arith}
 use Rattle.deep_reduce.proofs.Shared.{plain_value, Tree, root_kind, tree_of, keeps_none, front_same, gives, represents_handed, kind_of_root, pow_pos, SpansTree, value, int_is_negative, base_in, exponent_in, argument_of, IfRational, IsNoLargerThanRoot, children_of, free_of, sum_kind, product_kind}
-use Rattle.deep_reduce.proofs.HeldFits.{product_fits}
-use Rattle.deep_reduce.proofs.NodeBits.{as_overflow, node_fits, power_node_fits, root_node_fits, measured_facts, holds_as}
+use Rattle.node_bounds.proofs.HeldFits.{product_fits}
+use Rattle.node_bounds.proofs.NodeBits.{as_overflow, power_node_fits, root_node_fits, measured_facts, holds_as}
 use Rattle.deep_reduce.proofs.Lacking.{result_lacks, power_result}
-use Rattle.deep_reduce.proofs.NodeBytes.{sum_fits, factors_fit, power_fits, half_fits, root_result, no_half_power, node_spans}
+use Rattle.node_bounds.proofs.NodeBytes.{sum_fits, factors_fit, power_fits, half_fits, root_result, no_half_power, node_spans}
 use Rattle.deep_reduce.proofs.Results.{answered, answer_as, overflow_as, overflowed_defined, with_facts, span_facts}
-use Rattle.deep_reduce.proofs.Told.{power_kind, root_kind_is, neg_kind, sub_kind, div_kind, power_told, power_sides, IsRationalPower, rational_answer, rational_overflow, power_reduced, root_told, root_overflow, argument_reduced, leaf_told}
+use Rattle.deep_reduce.proofs.Told.{power_kind, root_kind_is, neg_kind, sub_kind, div_kind, power_told, power_sides, IsRationalPower, rational_answer, rational_overflow, power_reduced, root_told, root_overflow, argument_reduced, leaf_told, node_fits}
 use Rattle.deep_reduce.proofs.nodes.reduce_node.Goals.{After-kind}
 use Rattle.deep_reduce.proofs.nodes.reduce_node.Goals as goal
 use Rattle.radical_forms.proofs.Handed.{root_is}

@@ -1,23 +1,24 @@
 use Rattle.std.proofs.Common.{rules, ◌≡◌, ◌<◌, ◌+◌, ◌^◌, ℕ, length, ap, ◌∙◌, refl, sym, subst, arith, Option, IfSome, Err}
 use Rattle.deep_reduce.proofs.Shared.{Tree, Trees, add, mult, count, is_mult, is_undef, size, over_product, children_at, children_in, moved, moved_front, given_back, over_back, apart_back, put_back, front_lost, kind_of_root, product_kind, no_product_kind, if_map, passed_on, IsReducedProduct, IsReducedPower, IsSummed, joins_none, joins_then, IsHeldAsProduct, IsHeldAsPowerOf, IsFactorHeld, raised_high, raised_low, IsCalmAtZero, IsJoinedFrom, KeepsRoom, whole_power_room, counted, SpansTree, taken_free, free_of, replaced_free, gives_itself, IsPairAt, base_in, exponent_in, are_reduced, is_whole_num, Rewrites, tree_of, children_of, keeps_none, keeps_after, behind_first, behind_new, front_same, front_put, front_end, front_without, front_after_one, gives, gives_as, given_handed, given_root, given_told, given_rest, represents_handed, root_held}
-use Rattle.deep_reduce.proofs.Clashes.{contrary}
+use Rattle.node_bounds.proofs.Clashes.{contrary}
 use Rattle.calc_terms.specs.Trees.{power as power_tree}
 use Rattle.coefficients.proofs.Puttings.{on_ok_after, fault_after}
 use Rattle.deep_reduce.proofs.Arms.{is_finished, is_gathered, is_at, is_few, is_done, is_again, is_held, gathered_hands, finished_hands, finished_holds, any_fault, any_refusal, misfit_fault, rewritten_defined}
 use Rattle.deep_reduce.proofs.Children.{over_power, exponent_taken, placed, factor_taken, factor_inserted, itself, gives_next, front_next, exponent_seen, with_product, without_product, taken_falls}
 use Rattle.deep_reduce.proofs.Falls.{joint_falls, two_falls, next_two_falls, pairs_fall, product_falls, power_falls, rewritten_falls, powers_fall, ready_product_falls, exponent_falls, ready_power_falls, one_power_falls}
 use Rattle.deep_reduce.proofs.Finished.{product_of_powers, ready_product, transparent_children, ready_power, power_lifted, power_of_kind}
-use Rattle.deep_reduce.proofs.HeldFits.{product_fits, powers_ready, part_ready, power_fits, exponent_ready, joint_exponents, joint_fits}
-use Rattle.deep_reduce.proofs.HeldRoots.{half_no_whole}
-use Rattle.deep_reduce.proofs.JointBytes.{joint_lacks}
+use Rattle.node_bounds.proofs.HeldFits.{product_fits, powers_ready, part_ready, power_fits, exponent_ready, joint_exponents, joint_fits}
+use Rattle.node_bounds.proofs.HeldRoots.{half_no_whole}
+use Rattle.node_bounds.proofs.JointBytes.{joint_lacks}
 use Rattle.deep_reduce.proofs.Lacking.{lacks_as, result_lacks, handed_on, joint_sum_lacks, joint_power_short, joint_at_spans, joint_ready, placed_bytes, next_bytes, part_free, step_lacks, power_refused, power_result, ready_product as ready_for_product, ready_power as ready_for_power, ready_exponent, ready_part}
 use Rattle.deep_reduce.proofs.Measures.{few_factors, below_measure}
-use Rattle.deep_reduce.proofs.Opened.{opened, power_after, power_finished, is_rewritten}
+use Rattle.deep_reduce.proofs.Opened.{opened, power_after, power_finished}
 use Rattle.deep_reduce.proofs.Rows.{IsPowerOf, none_reduced, part_front, next_power, next_within, back_within, next_of, next_taken, next_reduced, all_reduced}
 use Rattle.deep_reduce.proofs.Settled.{joint_at, ready_joint, ready_summed, pair_joined, settled_less, settled_within, less_gathered, less_next, gathered_product, some_pair, product_after, product_finished}
 use Rattle.tree_handles.specs.declared.fault.NumberFault.TheVariants as fault
 use Rattle.deep_reduce.proofs.whole.+reduction.Goals as goal
 use Rattle.product_reduce.proofs.Stepped.{mult_words as product_words}
+use Rattle.node_bounds.proofs.Rewritten.{is_rewritten}
 
 -- ---- reduce_product
 

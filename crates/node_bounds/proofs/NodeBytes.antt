@@ -1,11 +1,11 @@
 -- How many bytes suffice for the node of a tree over reduced children.
-use Rattle.std.proofs.Common.{◌≡◌, ℕ, negsuc, ◌+◌, ◌*◌, ◌^◌, ◌≤◌, ◌<◌, List, length, true, Result, sym, ap, arith, IfErr}
-use Rattle.deep_reduce.proofs.Shared.{pow_pos, IsAssignment, is_reduced, are_reduced, is_half_num, reduced_words, counted, SpansTree, SpansTrees, num_bytes, tree_bytes, minus_one_fraction, Tree, num, add, mult, power, neg, Trees, none, more, count, is_add, is_mult, is_root, is_num, is_sub, is_div, root_kind, size, sizes, Kind, HasNodesFor, KeepsNodeRoom, SpansNode, factors_room, is_neg, GivesSides, IsCalmAtZero, whole_power_room, power_count, State, free_of, base_in, exponent_in, whole_is, IsFull, argument_of, LacksBelow, handed_bytes, nth, plain, children_of, Forest, bytes_in, tree_of, IsHanded, Gives, root_tree, without_root, Stands, forest, KeepsRefusals, NumberFault, bytes_in-join, given_told, last_tree, used_forest, size-plain, IsCalm, zeros, product_count, sum_count, sum_room, product_room, power_room, product_power_room, simple_room, whole_number, counts_one, product_at_most, sum_bytes, product_bytes, scaled, numbers_and_others}
-use Rattle.deep_reduce.proofs.Clashes.{rational_number}
-use Rattle.deep_reduce.proofs.Calm.{calm_power}
-use Rattle.deep_reduce.proofs.JointCounts.{numbers_one}
-use Rattle.deep_reduce.proofs.NodeRooms.{inverse_count}
-use Rattle.deep_reduce.proofs.PowerBytes.{needs_most}
+use Rattle.std.proofs.Common.{◌≡◌, ℕ, negsuc, ◌+◌, ◌*◌, ◌^◌, ◌≤◌, ◌<◌, List, length, true, Result, sym, arith, IfErr}
+use Rattle.node_bounds.proofs.Shared.{pow_pos, IsAssignment, is_reduced, are_reduced, is_half_num, reduced_words, counted, SpansTree, SpansTrees, num_bytes, tree_bytes, minus_one_fraction, Tree, num, add, mult, power, neg, Trees, none, more, count, is_add, is_mult, is_root, is_num, is_sub, is_div, root_kind, size, sizes, Kind, HasNodesFor, KeepsNodeRoom, SpansNode, factors_room, IsCalmAtZero, whole_power_room, power_count, base_in, exponent_in, whole_is, IsFull, argument_of, LacksBelow, nth, children_of, NumberFault, IsCalm, zeros, product_count, sum_count, sum_room, product_room, power_room, product_power_room, simple_room, whole_number, counts_one, product_at_most, sum_bytes, product_bytes, scaled, numbers_and_others}
+use Rattle.node_bounds.proofs.Clashes.{rational_number}
+use Rattle.node_bounds.proofs.Calm.{calm_power}
+use Rattle.node_bounds.proofs.JointCounts.{numbers_one}
+use Rattle.node_bounds.proofs.NodeRooms.{inverse_count}
+use Rattle.node_bounds.proofs.PowerBytes.{needs_most}
 use Rattle.calc_terms.specs.declared.kind.Kind.TheVariants as kind
 
 -- ---- sums and products
@@ -70,14 +70,14 @@ opposite_calm a c = record { once = c.once; calm = (tt, (tt, (c.calm, tt))) }
 pub opposite_spans : (gs : List ℕ) (a : Tree) → SpansTree gs a → SpansTree gs (mult (more (num minus_one_fraction) (more a none)))
 opposite_spans gs a s = (tt, (tt, (s, tt)))
 
-pub negated_calm : {ns : List (List ℕ)} (t : Tree) → is_neg t ≡ true → IsCalmAtZero ns t → IsCalmAtZero ns (nth 0 (children_of t))
+pub negated_calm : {ns : List (List ℕ)} (t : Tree) → t ≡ neg (nth 0 (children_of t)) → IsCalmAtZero ns t → IsCalmAtZero ns (nth 0 (children_of t))
 negated_calm t h k = grind arith
 
-pub negated_spans : (gs : List ℕ) (t : Tree) → is_neg t ≡ true → SpansTree gs t → SpansTree gs (nth 0 (children_of t))
+pub negated_spans : (gs : List ℕ) (t : Tree) → t ≡ neg (nth 0 (children_of t)) → SpansTree gs t → SpansTree gs (nth 0 (children_of t))
 negated_spans gs t h k = grind arith
 
 -- the node of the opposite
-pub negated_fits : (t : Tree) (n m : ℕ) → is_neg t ≡ true → HasNodesFor n t → product_room (2 + counted (nth 0 (children_of t))) m ≤ simple_room n m
+pub negated_fits : (t : Tree) (n m : ℕ) → t ≡ neg (nth 0 (children_of t)) → HasNodesFor n t → product_room (2 + counted (nth 0 (children_of t))) m ≤ simple_room n m
 negated_fits t n m h k = grind (arith, scaled, counts_one)
 
 -- ---- inverses
@@ -139,27 +139,6 @@ sum_node_lacks gs ts free r s l = omega (arith, l, sum_bytes gs ts r s, pow_pos 
 
 pub product_node_lacks : (gs : List ℕ) (ts : Trees) (free : ℕ) → are_reduced ts ≡ true → SpansTrees gs ts → free < 8 → free + sizes ts < product_room (product_count ts) (2 ^ length gs)
 product_node_lacks gs ts free r s l = omega (arith, l, product_bytes gs ts r s, pow_pos (length gs))
-
-given_bytes : {g f : Forest} {i : ℕ} {Told : Tree → Type 0} → Gives g f i Told → bytes_in f ≡ bytes_in g + size (plain (root_tree i f))
-given_bytes {g = g} e = omega (arith, ap bytes_in e.ends.whole, bytes_in-join g e.tree, size-plain e.tree e.ends.alone e.whole, ap (λ (x : Forest). size (plain x)) (last_tree e.ends))
-
--- both sides stand by themselves
-pub sides_free : {s t : State} {i h j : ℕ} {ts : Trees} → Stands s → Stands t → KeepsRefusals s t → IsHanded i (forest s) → GivesSides ts (without_root i (forest s)) (forest t) h j
-    → free_of t + size (nth 0 ts) + size (nth 1 ts) ≡ free_of s + size (tree_of i s)
-sides_free {s = s} {t = t} {i = i} st su k h g =
-    omega (
-      arith,
-      used_forest s st,
-      used_forest t su,
-      k.size,
-      st.pool.fits,
-      su.pool.fits,
-      handed_bytes i (forest s) h,
-      given_bytes g.left-given,
-      given_bytes g.right-given,
-      ap size (given_told g.left-given),
-      ap size (given_told g.right-given),
-    )
 
 module _ (gs : List ℕ) (a b : Tree) (n : ℕ) (l : 1 + counted a + counted b ≤ n) where
   left_bytes : is_reduced a ≡ true → SpansTree gs a → size a ≤ 204 * counted a * 2 ^ length gs

@@ -1,11 +1,10 @@
 -- How many bytes suffice where two factors of a product are joined and their joint is reduced.
-use Rattle.std.proofs.Common.{◌≡◌, ℕ, zero, suc, ◌+◌, ◌*◌, ◌^◌, ◌≤◌, ◌<◌, List, length, inl, inr, Bool, true, false, not, ◌&&◌, if◌then◌else◌, refl, sym, ap, ◌∙◌, subst, arith, ◌-◌, max}
-use Rattle.deep_reduce.proofs.Shared.{and_parts, eqb-true, pow_pos, is_number, is_reduced, are_reduced, is_whole_num, base_of, number_words, reduced_words, counted, counted_among, SpansRoot, SpansTree, SpansTrees, number_bytes, tree_bytes, counted_number, counted_other, Tree, num, mult, power, Trees, none, more, count, is_mult, size, sizes, reduced_parts, IsJoinedFrom, whole_power_room, removed, base_in, exponent_of, joint, is_single, joined_pair, nth, exponent_count, numbers_among, product_count, sum_count, sum_room, product_room, power_room, product_power_room, counts_one, product_bytes, scaled, exponents_added, not-true, reduced_nth}
+use Rattle.std.proofs.Common.{◌≡◌, ℕ, zero, suc, ◌+◌, ◌*◌, ◌^◌, ◌≤◌, ◌<◌, List, length, inl, inr, Bool, true, false, not, ◌&&◌, if◌then◌else◌, refl, sym, ap, subst, arith, ◌-◌, max}
+use Rattle.node_bounds.proofs.Shared.{and_parts, eqb-true, pow_pos, is_number, is_reduced, are_reduced, is_whole_num, base_of, number_words, reduced_words, counted, counted_among, SpansRoot, SpansTree, SpansTrees, number_bytes, tree_bytes, counted_number, counted_other, Tree, num, mult, power, Trees, none, more, count, is_mult, size, sizes, reduced_parts, IsJoinedFrom, whole_power_room, removed, exponent_of, joint, is_single, nth, exponent_count, numbers_among, product_count, sum_count, sum_room, product_room, power_room, product_power_room, counts_one, product_bytes, scaled, exponents_added, not-true, reduced_nth, neighbours_joint, joint_there, base_is_reduced}
 use Rattle.calc_room.proofs.NumberSpans.{value_spanned}
-use Rattle.deep_reduce.proofs.Calm.{all_nth, all_removed, all_base}
-use Rattle.deep_reduce.proofs.JointCounts.{joint_count, pair_joined_count, sizes_removed, numbers_one}
-use Rattle.deep_reduce.proofs.JointRooms.{joined_spans}
-use Rattle.deep_reduce.proofs.Settled.{IsJoint, joint_at, pair_joined}
+use Rattle.node_bounds.proofs.Calm.{all_nth, all_removed, all_base}
+use Rattle.node_bounds.proofs.JointCounts.{joint_count, pair_joined_count, sizes_removed, numbers_one}
+use Rattle.node_bounds.proofs.JointRooms.{joined_spans}
 use Rattle.tree_room.proofs.Counts.{no_number as numbers_other}
 
 -- ---- the other factors
@@ -64,24 +63,21 @@ single_apart : (t : Tree) → is_reduced t ≡ true → is_mult t ≡ false → 
 single_apart (power b e) r n h = grind (arith, product_base, and_parts)
 single_apart t r n h = cc
 
-base_of_joint : (t : Tree) → IsJoint t → is_reduced (base_in t) ≡ true
-base_of_joint t j = ap (λ (x : Tree). is_reduced (base_in x)) j.is ∙ j.base_reduced
-
 pub joining : (at : ℕ) (ts us : Trees) → IsJoinedFrom at ts us → IsJoining at ts us
 joining at ts us j =
-    let p = pair_joined at ts (mult us) j.reduced j.pair (ap mult j.is ∙ ap (λ (n : ℕ). mult (joined_pair at n ts)) (omega arith)) in
+    let p = neighbours_joint at ts j.reduced j.pair in
     let w = j.pair.within in
     let (both, partner) = and_parts (is_single (nth at ts) && is_single (nth (suc at) ts)) _ j.pair.pair in
     let (a, b) = and_parts (is_single (nth at ts)) (is_single (nth (suc at) ts)) both in
     let first : is_reduced (nth at ts) ≡ true = reduced_nth at ts (omega arith) j.reduced in
-    record {
-      within = p.joint.within;
-      is = p.joint-is;
-      base_reduced = sym (ap (λ (x : Tree). is_reduced (base_in x)) p.joint-is) ∙ base_of_joint (nth at us) (joint_at p.joint);
-      others = p.joint.others;
-      count-is = omega (arith, ap (λ (xs : Trees). joint_count (nth at xs) + product_count (removed at xs)) j.is, pair_joined_count at ts j.pair, ap joint_count p.joint-is);
+    subst (IsJoining at ts) (sym j.is) (record {
+      within = p.within;
+      is = joint_there at ts j.pair;
+      base_reduced = base_is_reduced (nth at ts) first;
+      others = p.others;
+      count-is = omega (arith, pair_joined_count at ts j.pair, ap joint_count (joint_there at ts j.pair));
       apart = single_apart (nth at ts) first (not-true _ (and_parts _ _ a).1);
-    }
+    })
 
 -- ---- bytes at hand
 

@@ -3,7 +3,7 @@ use Rattle.std.specs.Prelude.{ℕ, ◌+◌, ◌≤◌, List}
 use Rattle.calc_room.specs.Counts.{counted}
 use Rattle.calc_room.specs.Spans.{SpansTree}
 use Rattle.calc_terms.specs.Trees.{Tree, add, mult, power, root, neg, sub, div, Trees, none, count}
-use Rattle.deep_reduce.specs.Rooms.{IsCalmAtZero, SpansRootOf, power_count}
+use Rattle.node_bounds.specs.Rooms.{IsCalmAtZero, SpansRootOf, power_count}
 use Rattle.tree_room.specs.Handed.{sum_count, product_count}
 use Rattle.tree_room.specs.Needs.{product_room}
 

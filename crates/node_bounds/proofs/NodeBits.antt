@@ -1,13 +1,13 @@
 -- What holds a node over reduced children holds its answer.
 use Rattle.std.proofs.Common.{◌≡◌, ◌≢◌, ℕ, zero, suc, ◌+◌, ◌*◌, ◌^◌, ◌≤◌, [], ◌∷◌, ℤ, Bool, true, false, ◌||◌, if◌then◌else◌, Option, Some, None, Result, Ok, Err, refl, sym, ap, ◌∙◌, subst, arith, inl, inr, IfOk, IfErr, IsOk}
-use Rattle.deep_reduce.proofs.Shared.{pow_pos, pow-add, pow-le-pow_right, value, is_half_num, is_whole_num, num_one, Surd, surd_of, one_not_zero, IsHeld, HighLow, zero_fraction, one_fraction, minus_one_fraction, whole_fraction, zero_test, whole_numerator, Tree, num, undef, power, Trees, none, more, is_num, is_undef, has_undef, IsReducedPower, lacks_power, HasFewBits, is_leaf, HoldsPower, holds_whole, holds_half, holds_kept, HoldsDifference, HoldsNode, IsNodeOverflow, numerator, has_number_power, HasFewBitsRaised, HasWideRoot, IsOverflow, IfRational, IsNoLargerThanRoot, int_is_negative, is_zero_or_one, rewritten, as_whole, IsFactorHeld, AreFactorsHeld, none_held, number_as_factor, no_factors_held, IsSumHeld, addends_of_each, trees_together, minus_one_held, nothing_held, children_of, IfOverflow, OfOverflow, NumberFault, or_parts, cases_Bool, symbol}
-use Rattle.deep_reduce.proofs.Clashes.{clash, rational_number}
-use Rattle.deep_reduce.proofs.HeldFactors.{factor_wider, factor_tree}
-use Rattle.deep_reduce.proofs.HeldParts.{fine}
-use Rattle.deep_reduce.proofs.HeldRoots.{root_fits}
-use Rattle.deep_reduce.proofs.Opened.{whole_rewriting}
+use Rattle.node_bounds.proofs.Shared.{pow_pos, pow-add, pow-le-pow_right, value, is_half_num, is_whole_num, num_one, Surd, surd_of, one_not_zero, IsHeld, HighLow, zero_fraction, one_fraction, minus_one_fraction, whole_fraction, zero_test, whole_numerator, Tree, num, undef, power, Trees, none, more, is_num, is_undef, has_undef, IsReducedPower, lacks_power, HasFewBits, HoldsPower, holds_whole, holds_half, holds_kept, HoldsDifference, HoldsNode, numerator, has_number_power, HasFewBitsRaised, HasWideRoot, IsOverflow, IfRational, IsNoLargerThanRoot, int_is_negative, is_zero_or_one, rewritten, as_whole, IsFactorHeld, AreFactorsHeld, none_held, number_as_factor, no_factors_held, IsSumHeld, addends_of_each, trees_together, minus_one_held, nothing_held, IfOverflow, OfOverflow, NumberFault, or_parts, cases_Bool}
+use Rattle.node_bounds.proofs.Clashes.{clash, rational_number}
+use Rattle.node_bounds.proofs.HeldFactors.{factor_wider, factor_tree}
+use Rattle.node_bounds.proofs.HeldParts.{fine}
+use Rattle.node_bounds.proofs.HeldRoots.{root_fits}
 use Rattle.product_reduce.specs.Bits.{factor_held}
 use Rattle.calc_bits.specs.Bounds as few
+use Rattle.node_bounds.proofs.Rewritten.{whole_rewriting}
 
 -- ---- rationals
 
@@ -81,17 +81,7 @@ power_answer_held b e r a d h l (holds_kept n k) = subst (λ (t : Tree). IsFacto
 
 -- ---- leaves
 
-pub leaf_no_children : {A : Type 0} (u : Tree) → has_undef (children_of u) ≡ true → is_leaf u ≡ true → A
-leaf_no_children (num q) h k = cc
-leaf_no_children (symbol x) h k = cc
-leaf_no_children undef h k = cc
-leaf_no_children u h k = cc
-
 -- ---- overflows
-
--- an overflow is of a node without Undef children
-pub node_fits : (t : Tree) (r : Result ℕ NumberFault) → IfOverflow r (IsNodeOverflow t) → (has_undef (children_of t) ≡ false → IfOverflow r (λ o. ⊥)) → IfOverflow r (λ o. ⊥)
-node_fits t r h k = grind arith
 
 pub as_overflow : (r : Result ℕ NumberFault) → IfErr r (OfOverflow (λ o. ⊥)) → IfOverflow r (λ o. ⊥)
 as_overflow r h = grind arith

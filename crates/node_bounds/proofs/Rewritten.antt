@@ -1,9 +1,9 @@
 -- Whole powers that are rewritten: by which rule, and what the trees for them count.
 use Rattle.std.proofs.Common.{◌≡◌, ℕ, ℤ, suc, ◌+◌, ◌≤◌, List, inl, inr, Bool, true, false, not, ◌&&◌, if◌then◌else◌, Some, refl, sym, ap, ◌∙◌, subst, arith}
-use Rattle.deep_reduce.proofs.Shared.{and_parts, true≢false, Assignment, is_number, is_reduced, is_whole_num, is_num_one, split_product, NoneIs, number_test, counted, SpansTree, SpansTrees, whole_fraction, Tree, num, mult, power, root, Trees, none, more, count, is_mult, is_num, reduced_parts, IsReducedProduct, IsReducedPower, IsCalmAtZero, KeepsRoom, IsRewritten, whole_power_count, power_count, AreReducedPowers, IsLifted, IsMultiplied, IsProductOfPowers, base_in, exponent_in, half, parts_of, raised, rewritten_whole, parts_counted, whole_power_counts, as_whole, whole_no_half, HasFactors, product_factors, chosen, parts_span, whole_is, children_of, IsCalm, AreCalm, zeros, counted_in_all, product_whole, whole_number, counts_one, numbers_and_others, power_counts, of_a_power, of_a_root, not-true, and_right, not_from_true}
-use Rattle.deep_reduce.proofs.Calm.{calm_base, calm_exponent, calm_product, calm_power, calm_whole, whole_kept, whole_of_number}
-use Rattle.deep_reduce.proofs.JointBytes.{product_base}
-use Rattle.deep_reduce.proofs.JointRooms.{whole_numbers, whole_count_most}
+use Rattle.node_bounds.proofs.Shared.{and_parts, true≢false, Assignment, is_number, is_reduced, is_whole_num, is_num_one, split_product, NoneIs, number_test, counted, SpansTree, SpansTrees, whole_fraction, Tree, num, mult, power, root, Trees, none, more, count, is_mult, is_num, reduced_parts, IsReducedProduct, IsReducedPower, IsCalmAtZero, KeepsRoom, IsRewritten, whole_power_count, power_count, AreReducedPowers, IsLifted, IsMultiplied, IsProductOfPowers, base_in, exponent_in, half, parts_of, raised, rewritten_whole, parts_counted, whole_power_counts, as_whole, whole_no_half, HasFactors, product_factors, chosen, parts_span, whole_is, children_of, IsCalm, AreCalm, zeros, counted_in_all, product_whole, whole_number, counts_one, numbers_and_others, power_counts, of_a_power, of_a_root, not-true, and_right, not_from_true, is_half_num, rewritten}
+use Rattle.node_bounds.proofs.Calm.{calm_base, calm_exponent, calm_product, calm_power, calm_whole, whole_kept, whole_of_number}
+use Rattle.node_bounds.proofs.JointBytes.{product_base}
+use Rattle.node_bounds.proofs.JointRooms.{whole_numbers, whole_count_most}
 use Rattle.power_reduce.proofs.Rules.{nothing}
 
 -- ---- rules
@@ -22,6 +22,12 @@ by_whole b e t h = nothing t (IsByWay b e) h
 
 by_way : (b e t : Tree) → IsRewritten b e t → IsByWay b e t
 by_way b e t w = by_whole b e t (sym (as_whole b e (whole_no_half e w.whole)) ∙ w.is)
+
+pub whole_rewriting : (b e t : Tree) → rewritten_whole b e ≡ Some t → is_whole_num e ≡ true
+whole_rewriting b e t h = grind (arith, chosen, and_parts, nothing)
+
+pub is_rewritten : (b e t : Tree) → is_half_num e ≡ false → is_reduced b ≡ true → is_reduced e ≡ true → rewritten b e ≡ Some t → IsRewritten b e t
+is_rewritten b e t n h k r = record { base = h; exponent = k; whole = whole_rewriting b e t (sym (as_whole b e n) ∙ r); is = r }
 
 -- what holds by the rule for products holds where the tree is a product
 pub by_product : (P : Tree → Tree → Type 0) (b e t : Tree) → is_mult t ≡ true → IsRewritten b e t → ((fs : Trees) → is_reduced (mult fs) ≡ true → is_number (mult fs) ≡ false → P (mult fs) (mult (raised (parts_of fs) e))) → P b t

@@ -1,7 +1,7 @@
 -- What counts in a product while two of its factors are joined and their joint is reduced, and how many bytes stand beside it.
 use Rattle.std.proofs.Common.{◌≡◌, ℕ, zero, suc, ◌+◌, ◌*◌, ◌≤◌, ◌<◌, Bool, true, false, ◌&&◌, if◌then◌else◌, refl, sym, ap, ◌∙◌, arith}
-use Rattle.deep_reduce.proofs.Shared.{and_parts, is_number, is_opaque_exponent, num_one, base_of, counted, counted_among, counted_number, counted_other, Tree, add, power, Trees, none, more, count, size, sizes, replaced, removed, exponent_of, is_partner, joint, is_single, IsPairAt, joined_pair, nth, exponent_count, numbers_among, product_count, counts_one, power_counts, not-true, one_base}
-use Rattle.deep_reduce.proofs.Calm.{one_whole}
+use Rattle.node_bounds.proofs.Shared.{and_parts, is_number, is_opaque_exponent, num_one, base_of, counted, counted_among, counted_number, counted_other, Tree, add, power, Trees, none, more, count, size, sizes, replaced, removed, exponent_of, is_partner, joint, is_single, IsPairAt, joined_pair, nth, exponent_count, numbers_among, product_count, counts_one, power_counts, not-true, one_base}
+use Rattle.node_bounds.proofs.Calm.{one_whole}
 use Rattle.tree_room.proofs.Counts.{no_number as numbers_other}
 
 -- ---- among factors

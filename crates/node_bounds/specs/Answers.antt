@@ -8,10 +8,10 @@ use Rattle.calc_algebra.specs.Reduced.{is_half_num, is_opaque_exponent}
 use Rattle.calc_room.specs.Counts.{counted}
 use Rattle.calc_terms.specs.Trees.{Tree, num, undef, mult, power, Trees, has_undef, is_num}
 use Rattle.power_reduce.specs.PowerAnswers.{has_no_power, has_number_power, IsWrittenPower}
-use Rattle.deep_reduce.specs.Bits.{IsHeldAsProduct, IsHeldAsRootPower, MultipliesCounts}
+use Rattle.node_bounds.specs.Bits.{IsHeldAsProduct, IsHeldAsRootPower, MultipliesCounts}
 use Rattle.number_forms.specs.Readers.{numerator}
 use Rattle.power_reduce.specs.Bits.{IsHeldAsPowerOf}
-use Rattle.deep_reduce.specs.Rooms.{KeepsRoom, KeepsRootRoom, power_count}
+use Rattle.node_bounds.specs.Rooms.{KeepsRoom, KeepsRootRoom, power_count}
 use Rattle.product_reduce.specs.Answers.{AreJoinable, IsWrittenProduct}
 use Rattle.calc_algebra.specs.Rewritings.{Reduces}
 

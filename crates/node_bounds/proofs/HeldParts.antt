@@ -1,10 +1,10 @@
 -- A power as a factor: what holds it holds its answer, and within few bits it fits.
 use Rattle.std.proofs.Common.{◌≡◌, ℕ, ◌*◌, ◌≤◌, ℤ, Bool, true, false, None, Result, refl, sym, ap, ◌∙◌, subst, arith, IfErr, IsOk, nat_abs}
-use Rattle.deep_reduce.proofs.Shared.{eqb-true, mul-le, whole_fraction, Tree, num, power, none, more, is_undef, is_reduced, is_half_num, is_whole_num, IsReducedPower, lacks_power, HasFewBits, HasFewBitsRaised, has_number_power, is_zero_or_one, rewritten, IsFactorHeld, is_counted, IsPartHeld, factor_held, raised_high, raised_low, OfOverflow, NumberFault, whole_exponent}
-use Rattle.deep_reduce.proofs.Clashes.{clash}
-use Rattle.deep_reduce.proofs.HeldFactors.{factor_wider, power_factor, base_factor}
-use Rattle.deep_reduce.proofs.Opened.{is_rewritten}
+use Rattle.node_bounds.proofs.Shared.{eqb-true, mul-le, whole_fraction, Tree, num, power, none, more, is_undef, is_reduced, is_half_num, is_whole_num, IsReducedPower, lacks_power, HasFewBits, HasFewBitsRaised, has_number_power, is_zero_or_one, rewritten, IsFactorHeld, is_counted, IsPartHeld, factor_held, raised_high, raised_low, OfOverflow, NumberFault, whole_exponent}
+use Rattle.node_bounds.proofs.Clashes.{clash}
+use Rattle.node_bounds.proofs.HeldFactors.{factor_wider, power_factor, base_factor}
 use Rattle.tree_bits.proofs.RaisedBits.{raised_most, counted_bits}
+use Rattle.node_bounds.proofs.Rewritten.{is_rewritten}
 
 -- ---- bits of powers
 

@@ -1,0 +1,6 @@
+pub mod Bits
+pub mod Rooms
+pub mod Answers
+pub mod HandedOn
+pub mod NodeBits
+pub mod NodeRooms
