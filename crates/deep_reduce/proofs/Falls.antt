@@ -34,8 +34,7 @@ summed_falls b ts p h = (omega (arith, over_power b ts h.exponent h.sum.number h
 joint_power : (t p : Tree) → t ≡ power (base_in t) (add (children_of (exponent_in t))) → IsSummed (base_in t) (children_of (exponent_in t)) p → (nest p ≤ nest_of_joint t) × (weight (base_in p) ≡ weight (base_in t))
 joint_power t p e h =
     let f = summed_falls (base_in t) (children_of (exponent_in t)) p h in
-    let n : nest_of_joint t ≡ nest_over (base_in t) (children_of (exponent_in t)) = ap nest_of_joint e in
-    (omega (arith, f.0, n), f.1)
+    (omega (arith, f.0, ap nest_of_joint e), f.1)
 
 pub power_falls : (u p : Tree) (at : ℕ) → (let t = nth at (children_of u) in t ≡ power (base_in t) (add (children_of (exponent_in t))))
     → IsSummed (base_in (nth at (children_of u))) (children_of (exponent_in (nth at (children_of u)))) p → of_power p < of_joint at u

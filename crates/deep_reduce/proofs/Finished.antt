@@ -74,14 +74,7 @@ pub record IsReadyPower (t v : Tree) : Type 0 where
   pub weighs : weight (base_in v) ≤ weight_below t
 
 multiplied_ready : (b : Tree) (ts : Trees) (v : Tree) → IsUnfinished (power b (mult ts)) → IsMultiplied b ts v → IsReadyPower (power b (mult ts)) v
-multiplied_ready b ts v w m = subst (IsReadyPower (power b (mult ts))) (sym m.is) (record {
-  is = refl;
-  base_reduced = w.base_reduced;
-  exponent_reduced = m.product.reduces.reduced;
-  rewrites = exponent_rewritten b (rewrites_of m.product.reduces);
-  nests = over_power b ts m.exponent m.product.number m.product.nest;
-  weighs = omega arith;
-})
+multiplied_ready b ts v w m = grind (arith, rewrites_of, over_power, exponent_rewritten)
 
 same_ready : (b e v : Tree) → nest (power b e) ≤ nest_of_rewritten (power b e) → IsTransparent (power b e) → v ≡ power b e → IsReadyPower (power b e) v
 same_ready b e v h k a = grind arith

@@ -134,9 +134,7 @@ last_exponent b e u v s k = ap exponent_in (rooted_is b e u v s k).is
 
 -- what holds the base holds the root, unless that is Undef
 pub rooted_held : (b e u v : Tree) {h l : ℕ} → is_reduced b ≡ true → IsHalfStep b e u → IsRooted u v → (h ≡ 0 → l ≡ 0) → is_undef (base_in v) ≡ false → IsFactorHeld b h l → IsFactorHeld (base_in v) h l
-rooted_held b e u v {h} {l} m s k z d a =
-    let t = rooted_is b e u v s k in
-    subst (λ (x : Tree). IsFactorHeld x h l) (sym (ap base_in t.is)) (root_answer_held b t.root m t.answer t.measured z (sym (ap (λ (x : Tree). is_undef (base_in x)) t.is) ∙ d) a)
+rooted_held b e u v m s k z d a = grind (arith, root_answer_held, rooted_is)
 
 pub half_after : (b e u v r : Tree) → is_half_num e ≡ true → IsHalfStep b e u → Rewrites (power b e) u → IsRooted u v → IsPowerAnswer (base_in v) (exponent_in v) r
     → is_reduced b ≡ true → IsHeldAsPowerOf (numerator e) (base_in v) r → IsReducedPower b e r

@@ -1,6 +1,6 @@
 -- Factors of reduced trees before and after a joining: their loads and nests.
-use Rattle.std.proofs.Common.{◌≡◌, ℕ, zero, suc, ◌+◌, ◌≤◌, true, false, ◌&&◌, refl, ap, ◌∙◌, arith, inl, inr, subst}
-use Rattle.deep_reduce.proofs.Shared.{and_parts, nest_of, weight, load_of_factor, load_of_factors, is_number, are_numbers, base_of, are_reduced, Tree, mult, Trees, none, more, append, is_mult, number_test, number_words, factors_of, nest_of_joint, opened, others_in, exponent_of, is_partner, is_single, IsPairAt, joined_pair, not-true, one_base, Contains-append_left, Contains-append_right, Contains-append_cases, names, names_of, Rewrites, KeepsMeanings-product_more, keeps, kept, Rewrites-refl, joint, joined, partners_of_pair}
+use Rattle.std.proofs.Common.{◌≡◌, ℕ, zero, suc, ◌+◌, ◌≤◌, true, false, refl, ◌∙◌, arith, inl, inr, subst}
+use Rattle.deep_reduce.proofs.Shared.{and_parts, nest_of, weight, load_of_factor, load_of_factors, is_number, are_numbers, base_of, are_reduced, Tree, mult, Trees, none, more, append, is_mult, number_test, number_words, factors_of, nest_of_joint, opened, others_in, is_partner, IsPairAt, joined_pair, not-true, one_base, Contains-append_left, Contains-append_right, Contains-append_cases, names, names_of, Rewrites, KeepsMeanings-product_more, keeps, kept, Rewrites-refl, joint, joined, partners_of_pair}
 use Rattle.deep_reduce.proofs.Heavy.{heavy_base}
 use Rattle.deep_reduce.proofs.Joints.{transparent_exponent, joint_load, joint_nest, joint_below}
 use Rattle.calc_algebra.proofs.Names.{no_new_name}
@@ -41,20 +41,7 @@ below_more n m (more t ts) l h = (omega (arith, h.0), below_more n m ts l h.1)
 
 -- two neighbours joined
 pub pair_loaded : (n : ℕ) (ts : Trees) → are_reduced ts ≡ true → IsPairAt n ts → IsLessLoaded ts (joined_pair n (suc n) ts)
-pair_loaded zero (more t (more u ts)) r p =
-    let (both, partner) = and_parts (is_single t && is_single u) (is_partner t u) p.pair in
-    let (a, b) = and_parts (is_single t) (is_single u) both in
-    let (x, y) = and_parts _ _ a in
-    let (v, w) = and_parts _ _ b in
-    let same = one_base t u partner in
-    let one = joint_load (base_of t) (exponent_of t) (exponent_of u) (transparent_exponent t) (transparent_exponent u) in
-    let first = factor_load_is t (not-true _ x) (not-true _ y) in
-    let second = factor_load_is u (not-true _ v) (not-true _ w) in
-    let heavy = heavy_base t (and_parts _ _ r).0 in
-    record {
-      load = omega (arith, one, first, second, ap weight same, heavy);
-      nests = (omega (arith, joint_nest t u same), all_below _ ts (omega arith));
-    }
+pair_loaded zero (more t (more u ts)) r p = grind (arith, and_parts, not-true, one_base, heavy_base, transparent_exponent, joint_load, joint_nest, factor_load_is, all_below)
 pair_loaded (suc n) (more t ts) r p =
     let l = pair_loaded n ts (and_parts _ _ r).1 (record { within = omega (arith, p.within); pair = p.pair }) in
     record { load = omega (arith, l.load); nests = (omega (arith, joint_below t), below_more _ _ (joined_pair n (suc n) ts) (omega arith) l.nests) }

@@ -19,8 +19,7 @@ one_transparent = rw (one_whole, one_number) refl
 
 -- the exponent of a factor makes no opaque power
 pub transparent_exponent : (t : Tree) → is_opaque_exponent (exponent_of t) ≡ false
-transparent_exponent (power b e) = grind (arith, one_transparent)
-transparent_exponent t = one_transparent
+transparent_exponent t = grind (arith, one_transparent)
 
 -- a term that makes no opaque power is a rational
 rational_term : (e : Tree) → IsTerm e → is_opaque_exponent e ≡ false → (term_of e).radicand ≡ 1
@@ -44,11 +43,7 @@ joint_load b e f o p = rw (power_no_number b (add (more e (more f none))), no_nu
 -- ---- nests
 
 pub own_power : (t : Tree) → nest (power (base_of t) (exponent_of t)) ≡ nest t
-own_power (power b e) = by (is_opaque_exponent e)
-  where
-    by : (x : Bool) → nest (power (if x then power b e else b) (if x then num_one else e)) ≡ nest (power b e)
-    by true = to_number (power b e) num_one one_number
-    by false = refl
+own_power (power b e) = grind (arith, to_number, one_number)
 own_power t = to_number t num_one one_number
 
 pub joint_nest : (t u : Tree) → base_of t ≡ base_of u → nest_of_joint (joint t u) ≤ max (nest t) (nest u)

@@ -1,6 +1,6 @@
 -- Where a call inside of another one finds no bytes, the outer one has fewer than it needs.
-use Rattle.std.proofs.Common.{◌≡◌, ℕ, suc, ◌+◌, ◌^◌, ◌≤◌, ◌<◌, List, length, Bool, true, false, not, ◌&&◌, if◌then◌else◌, Result, refl, sym, ap, ◌∙◌, subst, arith, inl, inr, IfErr, IsOk}
-use Rattle.deep_reduce.proofs.Shared.{is_number, is_whole_num, is_half_num, base_of, counted, SpansRoot, SpansTree, SpansTrees, whole_fraction, Tree, num, add, mult, power, root, Trees, none, more, append, is_mult, size, sizes, IsOver, IsCalmAtZero, IsJoinedFrom, IsRewritten, whole_power_room, HandsOn, IsSummed, AreReducedPowers, IsLifted, IsProductOfPowers, State, free_of, LacksBelow, full_as, refusal_as, base_in, exponent_in, parts_of, LacksStep, parts_span, whole_is, exponent_of, joint, nth, children_of, Forest, empty, bytes_in, kids, root_tree, put, Stands, forest, KeepsRefusals, NumberFault, used_forest, sizes-plains, HasCalmExponent, IsCalm, AreCalm, zeros, product_count, sum_count, sum_room, product_room, power_step_room, power_room, product_power_room, whole_number, scaled, sizes_append, cases_Bool}
+use Rattle.std.proofs.Common.{rules, ◌≡◌, ℕ, suc, ◌+◌, ◌^◌, ◌≤◌, ◌<◌, List, length, true, false, Result, refl, sym, ap, ◌∙◌, subst, arith, inl, inr, IfErr, IsOk}
+use Rattle.deep_reduce.proofs.Shared.{is_whole_num, is_half_num, base_of, SpansRoot, SpansTree, SpansTrees, whole_fraction, Tree, num, add, mult, power, root, Trees, none, more, append, is_mult, size, sizes, IsOver, IsCalmAtZero, IsJoinedFrom, IsRewritten, whole_power_room, HandsOn, IsSummed, AreReducedPowers, IsLifted, IsProductOfPowers, State, free_of, LacksBelow, full_as, refusal_as, base_in, exponent_in, parts_of, LacksStep, parts_span, whole_is, exponent_of, joint, nth, children_of, Forest, empty, bytes_in, kids, root_tree, put, Stands, forest, KeepsRefusals, NumberFault, used_forest, sizes-plains, HasCalmExponent, IsCalm, AreCalm, zeros, product_count, sum_count, sum_room, product_room, whole_number, scaled, sizes_append, cases_Bool}
 use Rattle.node_bounds.proofs.Clashes.{clash}
 use Rattle.coefficients.proofs.Bytes.{bytes_put}
 use Rattle.deep_reduce.proofs.Children.{IsPlaced}
@@ -70,8 +70,7 @@ module _ (gs : List ℕ) (at : ℕ) (ts us : Trees) (k : IsJoinedFrom at ts us) 
   -- and then the power v of its base
   pub joint_power_short : (x v : Tree) (free old : ℕ) → x ≡ nth at us → base_in v ≡ base_in x → free ≡ old + size x → free < whole_power_room (base_in v) (2 ^ length gs) → old + size (mult us) < product_room (product_count ts) (2 ^ length gs)
   joint_power_short x v free old e b same l =
-      let j : IsJoining at ts us = joining at ts us k in
-      let base : base_in v ≡ base_of (nth at ts) = b ∙ ap base_in (e ∙ j.is) in
+      let base : base_in v ≡ base_of (nth at ts) = b ∙ ap base_in (e ∙ (joining at ts us k).is) in
       omega (arith, joint_power_lacks gs at ts us k s free (subst (λ (y : Tree). free < whole_power_room y (2 ^ length gs)) base l), split_bytes gs at ts us k s, ap size e, same)
 
 pub joint_at_spans : (gs : List ℕ) (at : ℕ) (ts us : Trees) → IsJoinedFrom at ts us → SpansTrees gs ts → SpansTree gs (nth at us)
@@ -127,12 +126,7 @@ part_free {i} {s = s} {t = t} st su r o w p =
 
 -- a step needs less than the power
 pub step_lacks : (gs : List ℕ) (t : Tree) (free : ℕ) (f : NumberFault) → LacksStep gs t free f → LacksBelow (whole_power_room (base_in t) (2 ^ length gs)) (free + size t) f
-step_lacks gs t free f k = full_as f k (λ full l. by (is_mult (base_in t) && not (is_number (base_in t))) l)
-  where
-    by : (z : Bool) → free + size t < power_step_room (counted (base_in t)) (2 ^ length gs)
-        → free + size t < (if z then product_power_room (counted (base_in t)) (2 ^ length gs) else power_room (counted (base_in t)) (2 ^ length gs))
-    by true l = omega (arith, l)
-    by false l = omega (arith, l)
+step_lacks gs t free f k = search (rules, full_as)
 
 -- a calm power that is refused is whole
 pub power_refused : {ns : List (List ℕ)} (n m : ℕ) (t : Tree) (f : NumberFault) → t ≡ power (base_in t) (exponent_in t) → IsCalmAtZero ns t → (is_whole_num (exponent_in t) ≡ true → LacksBelow n m f)

@@ -1,6 +1,6 @@
 -- What falls from call to call.
 use Rattle.std.proofs.Common.{◌≡◌, ℕ, ◌+◌, ◌-◌, ◌*◌, ◌≤◌, ◌<◌, true, arith}
-use Rattle.deep_reduce.proofs.Shared.{nest, nest_of, weight, load_of_factors, Tree, mult, Trees, nodes, is_mult, nest_over, nest_of_joint, nest_of_rewritten, weight_of_bases, weight_below, State, base_in, tree_of, IsHanded, children_of, nth, Stands, forest, tree_of_root, nodes-plain, root_arity}
+use Rattle.deep_reduce.proofs.Shared.{nest, nest_of, weight, load_of_factors, Tree, Trees, nodes, is_mult, nest_over, nest_of_joint, nest_of_rewritten, weight_of_bases, weight_below, State, base_in, tree_of, IsHanded, children_of, nth, Stands, forest, tree_of_root, nodes-plain, root_arity}
 use Rattle.deep_reduce.proofs.Heavy.{over_exponents, numbers_load}
 use Rattle.calc_measures.proofs.Weights.{numbers_nest}
 use Rattle.tree_handles.proofs.Measures.{few_in}
@@ -51,8 +51,7 @@ pub few_nodes : (i : ℕ) (s : State) → Stands s → IsHanded i (forest s) →
 few_nodes i s h k = grind (arith, nodes-plain, root_arity, few_in, tree_of_root)
 
 few_loads : (t : Tree) → is_mult t ≡ true → nodes t ≤ 65535 → 3 * load_of_factors (children_of t) < 1048576
-few_loads (mult ts) m h = omega (arith, loads_few ts)
-few_loads t m h = cc
+few_loads t m h = grind (arith, loads_few)
 
 pub few_factors : (i : ℕ) (s : State) → Stands s → IsHanded i (forest s) → is_mult (tree_of i s) ≡ true → 3 * load_of_factors (children_of (tree_of i s)) < 1048576
 few_factors i s st h m = few_loads (tree_of i s) m (few_nodes i s st h)

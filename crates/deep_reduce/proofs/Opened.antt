@@ -52,11 +52,7 @@ opened_root a z e w r n = record {
 }
 
 opened_power : (c f e : Tree) → is_reduced (power c f) ≡ true → is_reduced e ≡ true → IsOpened (power c f) e (power c (mult (more f (more e none))))
-opened_power c f e r s = record {
-  unfinished = record { base_reduced = base_reduced c f r; reduced = rw (exponent_reduced c f r, s) refl; some = omega arith };
-  nests = omega (arith, base_nest (power c f) e, base_nest c f, power_nest c (power c f) e (base_nest c f));
-  weighs = omega arith;
-}
+opened_power c f e r s = grind (arith, power_nest, base_reduced, exponent_reduced, base_nest)
 
 opened_product : (ts : Trees) (e : Tree) → is_reduced (mult ts) ≡ true → is_number (mult ts) ≡ false → is_reduced e ≡ true → is_opaque_exponent e ≡ false
     → IsOpened (mult ts) e (mult (raised (parts_of ts) e))

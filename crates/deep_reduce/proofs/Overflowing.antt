@@ -43,19 +43,12 @@ pub record IsFirstOverflow (done : Trees) (t : Tree) (many : ℕ) : Type 0 where
 
 child_first : (done answers : Trees) (t : Tree) (rest : Trees) (o : Overflow) → AreReducedFrom done answers → are_plain (append done (more t rest)) ≡ true → IsPlainOverflow (plain_value t) o
     → IsOverflowed (plain_of_children (append done (more t rest))) → IsFirstOverflow done t (nodes_among (append done (more t rest)))
-child_first none none t rest o h e k x =
-    let p : is_plain t ≡ true = (and_parts (is_plain t) (are_plain rest) e).0 in
-    let f : is_overflow (plain_of t) ≡ true = this_overflows (plain_of t) (plain_of_children rest) o (subst (λ (v : PlainValue). IsPlainOverflow v o) (is_plain_value t p) k) x in
-    let m : with_child t (nodes_to_overflow t) (nodes_among rest) ≡ nodes_to_overflow t = over_there t (nodes_to_overflow t) (nodes_among rest) f in
-    record { overflows = ap is_overflow (is_plain_value t p) ∙ f; many-is = omega (arith, m) }
+child_first none none t rest o h e k x = grind (arith, and_parts, is_plain_value, over_there, this_overflows)
 child_first (more s ss) (more u us) t rest o h e k x =
     let all = append ss (more t rest) in
-    let p : is_plain s ≡ true = (and_parts (is_plain s) (are_plain all) e).0 in
-    let a : IsPlainAnswer (plain_of s) u = subst (λ (v : PlainValue). IsPlainAnswer v u) (is_plain_value s p) h.0.plain in
+    let a : IsPlainAnswer (plain_of s) u = subst (λ (v : PlainValue). IsPlainAnswer v u) (is_plain_value s ((and_parts (is_plain s) (are_plain all) e).0)) h.0.plain in
     let r = child_first ss us t rest o h.1 (and_parts (is_plain s) (are_plain all) e).1 k (later_overflow (plain_of s) u (plain_of_children all) a x) in
-    let m : with_child s (nodes_to_overflow s) (nodes_among all) ≡ nodes s + nodes_among all = over_behind s (nodes_to_overflow s) (nodes_among all) (no_overflow (plain_of s) u a) in
-    let n : nodes_among all ≡ nodes_of ss + nodes_to_overflow t = r.many-is in
-    record { overflows = r.overflows; many-is = omega (arith, m, n) }
+    record { overflows = r.overflows; many-is = omega (arith, over_behind s (nodes_to_overflow s) (nodes_among all) (no_overflow (plain_of s) u a), r.many-is) }
 child_first ss us t rest o h e k x = absurd h
 
 -- none of them overflows
@@ -63,8 +56,7 @@ none_overflows : (ts us : Trees) → are_plain ts ≡ true → AreReducedFrom ts
 none_overflows none none e h = omega arith
 none_overflows (more t ts) (more u us) e h =
     let m : with_child t (nodes_to_overflow t) (nodes_among ts) ≡ nodes t + nodes_among ts = over_behind t (nodes_to_overflow t) (nodes_among ts) (answered t u (and_parts (is_plain t) (are_plain ts) e).0 h.0) in
-    let n : nodes_among ts ≡ nodes_of ts + 1 = none_overflows ts us (and_parts (is_plain t) (are_plain ts) e).1 h.1 in
-    omega (arith, m, n)
+    omega (arith, m, none_overflows ts us (and_parts (is_plain t) (are_plain ts) e).1 h.1)
 none_overflows ts us e h = absurd h
 
 -- ---- nodes

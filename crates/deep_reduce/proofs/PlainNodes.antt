@@ -1,5 +1,5 @@
 -- The plain value of a node, from its children's answers.
-use Rattle.std.proofs.Common.{arith, ◌≡◌, Bool, true, false, ◌&&◌, List, [], ◌∷◌, refl, sym, ap, ◌∙◌, subst, if◌then◌else◌}
+use Rattle.std.proofs.Common.{arith, ◌≡◌, Bool, true, false, ◌&&◌, List, [], ◌∷◌, refl, ap, ◌∙◌, subst, if◌then◌else◌}
 use Rattle.deep_reduce.proofs.Shared.{add_op, mul_op, Fraction, negative, PlainValue, exactly, undefined, overflow, nothing, Gathered, decided, values, gather, folded, on_one, on_two, divided, calculated, powered, plain_of, plain_of_children, is_plain, are_plain, plain_value, Tree, num, add, mult, power, root, neg, sub, div, Trees, none, more, append, is_num, has_undef, are_rationals, IsNodeAnswer, IsNodeOverflow, has_no_value, IsReducedFrom, Overflow, IsPlainAnswer, IsPlainOverflow, children_of, and_parts, or_right, and_from}
 use Rattle.deep_reduce.proofs.NodeRewrites.{AreReducedFrom, IsOver, over_number, over_symbol, over_undef, over_sum, over_product, over_power, over_root, over_neg, over_sub, over_div}
 
@@ -45,10 +45,7 @@ children_told ts us e h = absurd h
 -- a fact of the node's value, by what its children tell
 by_told : (P : PlainValue → Type 0) (F : Gathered → PlainValue) (g : Gathered) (us : Trees) → ((v : PlainValue) → F (decided v) ≡ v) → P nothing → (has_undef us ≡ true → P undefined)
     → ((qs : List Fraction) → us ≡ nums qs → P (F (values qs))) → Told g us → P (F g)
-by_told P F (decided undefined) us d n u v h = subst P (sym (d undefined)) (u h)
-by_told P F (decided nothing) us d n u v h = subst P (sym (d nothing)) n
-by_told P F (values qs) us d n u v h = v qs h
-by_told P F (decided w) us d n u v h = absurd h
+by_told P F g us d n u v h = grind arith
 
 -- ---- rationals
 
@@ -87,8 +84,7 @@ module _ (P : PlainValue → Type 0) (n : P nothing) where
 
   -- two children
   by_pair : (f : Fraction → Fraction → PlainValue) (c d : Tree) (qs : List Fraction) → more c (more d none) ≡ nums qs → ((p q : Fraction) → c ≡ num p → d ≡ num q → P (f p q)) → P (on_two f (values qs))
-  by_pair f c d (p ∷ q ∷ []) s k = let x : c ≡ num p = cc in let y : d ≡ num q = cc in k p q x y
-  by_pair f c d t s k = cc
+  by_pair f c d qs s k = grind arith
 
   pair_kept : (f : Fraction → Fraction → PlainValue) (a b c d : Tree) → is_plain a && is_plain b ≡ true → IsReducedFrom a c → IsReducedFrom b d → (has_undef (more c (more d none)) ≡ true → P undefined)
       → ((p q : Fraction) → c ≡ num p → d ≡ num q → P (f p q)) → P (on_two f (gather (plain_of a) (gather (plain_of b) (values []))))
@@ -112,8 +108,7 @@ module _ (P : PlainValue → Type 0) (n : P nothing) where
 
   -- one child
   by_one : (f : Fraction → PlainValue) (c : Tree) (qs : List Fraction) → more c none ≡ nums qs → ((p : Fraction) → c ≡ num p → P (f p)) → P (on_one f (values qs))
-  by_one f c (p ∷ []) s k = let x : c ≡ num p = cc in k p x
-  by_one f c qs s k = cc
+  by_one f c qs s k = grind arith
 
   neg_kept : (a c : Tree) → IsReducedFrom a c → (has_undef (more c none) ≡ true → P undefined) → IsKept P (neg c) → P (plain_value (neg a))
   neg_kept a c h u v = as_plain P (neg a) n (λ e. by_told P (on_one (λ q. exactly (negative q))) (gather (plain_of a) (values [])) (more c none) (λ x. refl) n u

@@ -22,10 +22,7 @@ leaf_answer : (t : Tree) → is_leaf t ≡ true → IsNodeAnswer t t
 leaf_answer (num q) h = number_answer q
 leaf_answer (symbol x) h = symbol_answer x
 leaf_answer undef h = undef_answer
-leaf_answer t h = absurd (no_leaf h)
-  where
-    no_leaf : false ≡ true → ⊥
-    no_leaf e = cc
+leaf_answer t h = grind arith
 
 pub leaf_reduced : (t : Tree) → is_leaf t ≡ true → IsReducedFrom t t
 leaf_reduced t h = node_answered t t t (over_leaf t h) (leaf_answer t h)

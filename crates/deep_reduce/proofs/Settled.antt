@@ -36,9 +36,7 @@ replaced_reduced n u none h k = refl
 replaced_reduced zero u (more t ts) h k = rw (h, k) refl
 replaced_reduced (suc n) u (more t ts) h k =
     let b = and_parts (is_reduced t) (are_reduced (removed n ts)) k in
-    let first : is_reduced t ≡ true = b.0 in
-    let rest : are_reduced (replaced n u ts) ≡ true = replaced_reduced n u ts h b.1 in
-    rw (first, rest) refl
+    rw (b.0, replaced_reduced n u ts h b.1) refl
 
 replaced_load : (n : ℕ) (u : Tree) (ts : Trees) → n < count ts → load_of_factors (replaced n u ts) + load_of_factor (nth n ts) ≡ load_of_factors ts + load_of_factor u
 replaced_load n u none h = absurd (omega arith)

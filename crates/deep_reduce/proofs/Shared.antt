@@ -81,7 +81,7 @@ pub use Rattle.product_reduce.specs.Bits.{AreFactorsHeld, IsFactorHeld, none_hel
 pub use Rattle.product_reduce.specs.Factors.{opened, others_in}
 pub use Rattle.product_reduce.specs.Gathering.{IsGathered}
 pub use Rattle.product_reduce.specs.Joining.{IsJointAt, exponent_of, have_partners, is_partner, joined, joint}
-pub use Rattle.product_reduce.specs.Neighbours.{IsNextPair, IsPairAt, NoPairBetween, is_single, joined_pair}
+pub use Rattle.product_reduce.specs.Neighbours.{IsNextPair, IsPairAt, NoPairBetween, joined_pair}
 pub use Rattle.product_reduce.specs.declared.gathering.Joining.{Joining}
 pub use Rattle.radical_forms.specs.Refusals.{IsFull, NamesProduct}
 pub use Rattle.radical_forms.specs.RootAnswers.{IfRational, IsRootAnswer, argument_of, has_no_root}
@@ -136,4 +136,4 @@ pub use Rattle.tree_room.proofs.Zeros.{each_once, symbol_zero}
 pub use Rattle.tree_room.specs.Children.{CountWithin, answer_bytes, answers_bytes}
 pub use Rattle.tree_room.specs.Exponents.{AreCalm, HasCalmExponent, IsCalm, MeansWhole, zeros}
 pub use Rattle.tree_room.specs.Handed.{numbers_among, product_count, sum_count}
-pub use Rattle.tree_room.specs.Needs.{power_room, power_step_room, product_power_room, product_room, simple_room, sum_room}
+pub use Rattle.tree_room.specs.Needs.{power_room, product_power_room, product_room, simple_room, sum_room}

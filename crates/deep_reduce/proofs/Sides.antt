@@ -1,5 +1,5 @@
 -- Two trees taken from a node, or made, and put under a new one.
-use Rattle.std.proofs.Common.{◌≡◌, ℕ, eqb, false, [], ◌∷◌, ap, ◌∙◌, ◌+◌, arith}
+use Rattle.std.proofs.Common.{rules, ◌≡◌, ℕ, eqb, false, [], ◌∷◌, ap, ◌∙◌, ◌+◌, arith}
 use Rattle.deep_reduce.proofs.Shared.{Tree, Trees, Kind, GivesSides, behind_first, behind_later, behind_new, front_same, front_at, front_end, front_without, front_after_one, front_after_two, given_handed, given_told, given_rest, given_same, given_apart, given_without, handed_at, eqb-sym, nth, plain, compound, Forest, IsHanded, Gives, KeepsFront, root_tree, without_root, size, bytes_in, bytes_in-join, size-plain, last_tree, State, Stands, forest, KeepsRefusals, free_of, tree_of, used_forest, handed_bytes}
 use Rattle.deep_reduce.proofs.Steps.{two}
 
@@ -57,17 +57,12 @@ left_beside {left = left} s m =
 
 -- once the right was rewritten
 pub rewritten_front : {ts : Trees} {old f g : Forest} {i left right : ℕ} → GivesSides ts (without_root i old) f left right → KeepsFront (right ∷ []) f g → KeepsFront (i ∷ []) old g
-rewritten_front s k =
-    let between = front_end s.left-given.ends (front_without behind_first front_same) in
-    front_after_one (behind_new s.right-given.ends between) (front_end s.right-given.ends between) k
+rewritten_front s k = search (rules, behind_first, behind_new, front_same, front_end, front_without, front_after_one)
 
 -- and both were put under a new node
 pub paired_front : {ts : Trees} {old f g h : Forest} {i left right made : ℕ} {Told : Tree → Type 0} → GivesSides ts (without_root i old) f left right → KeepsFront (right ∷ []) f g → Gives (without_root right f) g made Told
     → KeepsFront (left ∷ made ∷ []) g h → KeepsFront (i ∷ []) old h
-paired_front s k m l =
-    let without = front_without behind_first front_same in
-    let between = front_end s.left-given.ends without in
-    front_after_two (behind_new s.left-given.ends without) (behind_new m.ends (front_at between (given_rest s.right-given))) (rewritten_front s k) l
+paired_front s k m l = search (rules, behind_first, behind_new, front_same, front_at, front_end, front_without, front_after_two, given_rest, rewritten_front)
 
 -- and the new node was reduced
 pub reduced_front : {old h end : Forest} {i p : ℕ} {Told : Tree → Type 0} {others : Forest} → KeepsFront (i ∷ []) old h → Gives others h p Told → others ≡ without_root i old → KeepsFront (p ∷ []) h end → KeepsFront (i ∷ []) old end

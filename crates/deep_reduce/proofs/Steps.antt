@@ -49,10 +49,7 @@ pub right_undefined : (a c : Tree) → is_undef c ≡ true → has_undef (two a 
 right_undefined a c e = or_right (is_undef a) (is_undef c || false) (or_left (is_undef c) false e)
 
 leaf_no_children : {A : Type 0} (u : Tree) → has_undef (children_of u) ≡ true → is_leaf u ≡ true → A
-leaf_no_children (num q) h k = cc
-leaf_no_children (symbol x) h k = cc
-leaf_no_children undef h k = cc
-leaf_no_children u h k = cc
+leaf_no_children u h k = grind arith
 
 -- a node with an Undef child
 pub undefined_answer : (u : Tree) → has_undef (children_of u) ≡ true → IsNodeAnswer u undef

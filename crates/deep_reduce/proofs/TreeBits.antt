@@ -89,12 +89,8 @@ holds_over t u s (over_power b c e f h k) d =
     power_holds b c e f x p h k (first_side c f d)
 holds_over t u s (over_root a c h) d = (h.held s (or_parts (is_undef c) false d).0, zero_high a)
 holds_over t u s (over_neg a c h) d = h.held s (or_parts (is_undef c) false d).0
-holds_over t u s (over_sub a c b e h k) d =
-    let (p, q) = and_parts (all_simple a) (all_simple b) s in
-    record { p = high a; q = low a; k = high b; n = low b; left = h.held p (first_side c e d); right = k.held q (second_side c e d); high = two_powers (high a) (high b); low = omega arith }
-holds_over t u s (over_div a c b e h k) d =
-    let (p, q) = and_parts (all_simple a) (all_simple b) s in
-    record { p = high a; q = low a; k = high b; n = low b; dividend = h.held p (first_side c e d); divisor = k.held q (second_side c e d); high = omega arith; low = omega arith }
+holds_over t u s (over_sub a c b e h k) d = grind (arith, and_parts, first_side, second_side, over_sub, two_powers)
+holds_over t u s (over_div a c b e h k) d = grind (arith, and_parts, first_side, second_side, over_div)
 
 defined_node : (u r : Tree) → IsNodeAnswer u r → is_undef r ≡ false → has_undef (children_of u) ≡ false
 defined_node u r a d = by (has_undef (children_of u)) refl

@@ -1,6 +1,6 @@
 -- Reduced trees as factors: what holds a tree holds it as a factor, and the parts of a product are held by bits of their own.
 use Rattle.std.proofs.Common.{pos, ◌≡◌, ◌≢◌, ℕ, zero, suc, ◌+◌, ◌-◌, ◌*◌, ◌^◌, ◌≤◌, ◌⊎◌, inl, inr, List, [], ◌∷◌, Bool, true, false, if◌then◌else◌, refl, sym, ap, ◌∙◌, subst, arith}
-use Rattle.node_bounds.proofs.Shared.{mul-le, pow-le-pow_right, Fraction, zero_fraction, one_fraction, Tree, num, undef, add, mult, power, Trees, none, more, count, is_undef, is_mult, AllParts, AllPartsOf, zero_test, whole_denominator, IsNumber, AreTerms, Rises, is_number, is_term, value, terms_of, Split, split_product, num_one, is_num_one, is_reduced, HasForm, NoneIs, IsProductForm, IsSumForm, number_terms, other_terms, Surd, Term, term, surd_of, surd_one, one_not_zero, number_test, term_words, mass, mass_from, IsHeld, has_coefficient, product_form_of, no_split, reduced_parts, parts_reduced, Leads, in_front, parts_of, HasFactors, product_factors, IsFactorHeld, single_part, part_single, number_as_factor, IsSumHeld, Counts, counts, counts_of, is_counted, Addend, addend, addend_of, addends_of, power_high, power_low, IsTreeHeld, undef_held, AreWeighted, none_weighted, more_weighted, IsPartHeld, no_factor_held, factor_held, IsBaseHeld, symbol_held, tree_held, Weighted, AreHeld, tree_as_sum, factor_is_held, factor_as_tree, addend_left_out, addend_to_front, exponents_within, held_number, one_counted, one_counts, symbol_is_held, root_is_held, wider_held, tree_wider, parts_defined, cases_Bool}
+use Rattle.node_bounds.proofs.Shared.{mul-le, pow-le-pow_right, Fraction, zero_fraction, one_fraction, Tree, num, undef, add, mult, power, Trees, none, more, count, is_undef, is_mult, AllParts, AllPartsOf, zero_test, whole_denominator, IsNumber, AreTerms, Rises, is_number, value, terms_of, Split, split_product, num_one, is_num_one, is_reduced, HasForm, NoneIs, IsProductForm, IsSumForm, number_terms, other_terms, Surd, Term, term, surd_of, surd_one, one_not_zero, number_test, term_words, mass, mass_from, IsHeld, has_coefficient, product_form_of, no_split, reduced_parts, parts_reduced, Leads, in_front, parts_of, HasFactors, product_factors, IsFactorHeld, single_part, part_single, number_as_factor, IsSumHeld, Counts, counts, counts_of, is_counted, Addend, addend, addend_of, addends_of, power_high, power_low, IsTreeHeld, undef_held, AreWeighted, none_weighted, more_weighted, IsPartHeld, no_factor_held, factor_held, IsBaseHeld, symbol_held, tree_held, Weighted, AreHeld, tree_as_sum, factor_is_held, factor_as_tree, addend_left_out, addend_to_front, exponents_within, held_number, one_counted, one_counts, symbol_is_held, root_is_held, wider_held, tree_wider, parts_defined, cases_Bool}
 use Rattle.node_bounds.proofs.Clashes.{clash, undef_words, two_terms, power_no_number}
 use Rattle.coefficients.proofs.Lengths.{some_factors}
 use Rattle.tree_bits.proofs.ExponentBits.{some_counts}
@@ -42,10 +42,6 @@ base_factor b h = grind (arith, cases_Bool, undef_words, undef_factor, base_high
 
 -- ---- how high at least
 
-abbrev fraction_in : Tree → Fraction
-fraction_in (num q) = q
-fraction_in t = zero_fraction
-
 zero_whole : zero_fraction.den ≡ 1
 unfolding zero_fraction
 zero_whole = whole_denominator (pos 0)
@@ -75,8 +71,7 @@ led_high c t ts {h} {l} z f a = by a.weighted a.held
     least (suc h) s m p o k i j = omega arith
     least zero s m p o k i j =
         let x : 2 ^ 1 ≤ 2 ^ p = pow-le-pow_right {n = 2} (omega arith) i in
-        let y : m * 2 ^ 1 ≤ m * 2 ^ p = mul-le m (2 ^ 1) m (2 ^ p) (omega arith) x in
-        absurd (omega (arith, y))
+        absurd (omega (arith, mul-le m (2 ^ 1) m (2 ^ p) (omega arith) x))
 
     by : {ws : List Weighted} → AreWeighted (addend c (more t ts) ∷ []) ws → AreHeld ws h l → 1 ≤ h
     by (more_weighted p q b none_weighted) k = least h k.scale (mass k.scale c) p (omega (arith, k.scale_positive)) (some_mass k.scale k.scale c z) (part_high t ts f b) k.high
@@ -124,11 +119,7 @@ term_high t f n a = led_high surd_one t none (no_terms (term one_fraction 1) [])
 
 others_formed : (ts : Trees) → AllPartsOf HasForm ts → AllPartsOf HasForm (other_terms ts)
 others_formed none h = tt
-others_formed (more t ts) h = by (is_term t) (others_formed ts h.1)
-  where
-    by : (b : Bool) → AllPartsOf HasForm (other_terms ts) → AllPartsOf HasForm (if b then other_terms ts else more t ts)
-    by true go = go
-    by false go = h
+others_formed (more t ts) h = grind (arith, others_formed ts h.1)
 
 -- an addend alone
 first_alone : (x : Addend) (xs : List Addend) {h l : ℕ} → IsSumHeld (x ∷ xs) h l → IsSumHeld (x ∷ []) h l
@@ -177,8 +168,7 @@ part_each : (ts : Trees) {h l : ℕ} → NoneIs is_number ts → NoneIs is_mult 
 part_each none n m a = none_each
 part_each (more t ts) n m (factor_held p q k i c b r x y) =
     let high : ℕ = power_high (counts_of (exponent_in t)) p q in
-    let low : ℕ = power_low (counts_of (exponent_in t)) p q in
-    more_each high low k i (part_single t n.0 m.0 (factor_held p q 0 0 c b no_factor_held (omega arith) (omega arith))) (part_each ts n.1 m.1 r) x y
+    more_each high (power_low (counts_of (exponent_in t)) p q) k i (part_single t n.0 m.0 (factor_held p q 0 0 c b no_factor_held (omega arith) (omega arith))) (part_each ts n.1 m.1 r) x y
 
 -- a coefficient other than 0, and the factors behind it
 record IsTakenApart (c : Surd) (ts : Trees) (h l : ℕ) : Type 0 where

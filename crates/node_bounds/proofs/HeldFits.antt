@@ -106,10 +106,7 @@ module _ (at : ℕ) (ts us : Trees) (k : IsJoinedFrom at ts us) (x : Tree) (is :
   words = is ∙ (joining at ts us k).is
 
   pub joint_exponents : (h l : ℕ) → AreFactorsHeld ts h l → HasFewBits h l → IsSumHeld (addends_of_each (children_of (exponent_in x))) 8 0
-  joint_exponents h l a few =
-      let w = k.pair.within in
-      subst (λ (y : Tree). IsSumHeld (addends_of_each (children_of (exponent_in y))) 8 0) (sym words)
-      (pair_exponents_held at ts us k.pair k.reduced k.is (exponent_is_reduced (nth at ts) (reduced_nth at ts (omega arith) k.reduced)) (exponent_is_reduced (nth (suc at) ts) (reduced_nth (suc at) ts (omega arith) k.reduced)) h l few a)
+  joint_exponents h l a few = grind (arith, reduced_nth, exponent_is_reduced, pair_exponents_held, words)
 
   pub joint_fits : {A : Type 0} (v : Tree) (h l : ℕ) (r : Result A NumberFault) → IsSummed (base_in x) (children_of (exponent_in x)) v → AreFactorsHeld ts h l → HasFewBits h l
       → ((m : ℤ) (i j : ℕ) → exponent_in v ≡ num (whole_fraction m) → IsFactorHeld (base_in v) i j → HasFewBitsRaised m i j → IfErr r (OfOverflow (λ o. ⊥)))

@@ -1,5 +1,5 @@
 -- Powers are held by the bits of their bases, also those that are rewritten.
-use Rattle.std.proofs.Common.{neg_ℤ, ◌≡◌, ℕ, zero, suc, ◌+◌, ◌*◌, ◌≤◌, inr, ℤ, pos, negsuc, Bool, true, false, not, Some, refl, sym, ap, ◌∙◌, subst, arith, ◌/◌}
+use Rattle.std.proofs.Common.{neg_ℤ, ◌≡◌, ℕ, zero, suc, ◌+◌, ◌*◌, ◌≤◌, inr, ℤ, pos, negsuc, true, false, not, Some, refl, sym, ap, ◌∙◌, subst, arith, ◌/◌}
 use Rattle.node_bounds.proofs.Shared.{mul-le, Fraction, whole_fraction, whole_numerator, Tree, num, mult, power, root, Trees, none, more, is_mult, is_undef, has_undef, is_number, is_reduced, num_one, IsReducedProduct, IsReducedPower, IsCountedWithin, IsRewritten, AreReducedPowers, IsLifted, IsProductOfPowers, IsHeldAsPowerOf, base_in, exponent_in, half, parts_of, raised, rewritten_whole, as_whole, whole_no_half, chosen, IsFactorHeld, AreFactorsHeld, none_held, Counts, counts, multiple, counts_of, is_counted, power_high, power_low, IsPartHeld, factor_held, IsBaseHeld, tree_held, IsFactorPower, raised_high, raised_low, single_part, tree_as_base, one_counts, children_of, or_parts}
 use Rattle.node_bounds.proofs.Clashes.{clash, base_reduced}
 use Rattle.node_bounds.proofs.HeldFactors.{parts_each, factor_wider, factor_power, base_factor, EachHeld, more_each}
@@ -53,9 +53,7 @@ pub factor_counted : (c f : Tree) {h l : ℕ} → IsFactorHeld (power c f) h l �
 factor_counted c f k = counted_exponent (factor_power c f k)
 
 power_way : (c f e g r : Tree) (n : ℤ) → is_reduced c ≡ true → e ≡ num (whole_fraction n) → IsReducedProduct (more f (more e none)) g → IsReducedPower c g r → IsHeldAsPowerOf n (power c f) r
-power_way c f e g r n x i p a d h l k =
-    let w = p.counts f n (ap (λ (y : Tree). more f (more y none)) i) (factor_counted c f k) in
-    part_answer c g r x p.reduces.reduced a (power_raised c f g n w k) d
+power_way c f e g r n x i p a d h l k = part_answer c g r x p.reduces.reduced a (power_raised c f g n (p.counts f n (ap (λ (y : Tree). more f (more y none)) i) (factor_counted c f k)) k) d
 
 -- ---- powers of products
 
@@ -70,11 +68,7 @@ module _ (n : ℤ) where
   powers_held gs us d a k = absurd a
 
 defined_factors : (us : Trees) (r : Tree) → IsReducedProduct us r → is_undef r ≡ false → has_undef us ≡ false
-defined_factors us r a d = by (has_undef us) refl
-  where
-    by : (b : Bool) → has_undef us ≡ b → b ≡ false
-    by false e = refl
-    by true e = clash (sym (ap is_undef (a.undefined e)) ∙ d)
+defined_factors us r a d = grind (arith, clash)
 
 product_way : (fs us : Trees) (e r : Tree) (n : ℤ) → is_reduced (mult fs) ≡ true → is_number (mult fs) ≡ false → e ≡ num (whole_fraction n) → AreReducedPowers (raised (parts_of fs) e) us → IsReducedProduct us r → IsHeldAsPowerOf n (mult fs) r
 product_way fs us e r n h k a b c = grind (arith, powers_held, defined_factors, parts_each)
@@ -82,9 +76,7 @@ product_way fs us e r n h k a b c = grind (arith, powers_held, defined_factors, 
 -- ---- what is answered for the tree
 
 pub product_holds : (t v r b e : Tree) (n : ℤ) → is_mult t ≡ true → IsProductOfPowers (children_of t) v → IsReducedProduct (children_of v) r → IsRewritten b e t → e ≡ num (whole_fraction n) → IsHeldAsPowerOf n b r
-product_holds t v r b e n m p a w q =
-    by_product (λ (x y : Tree). AreReducedPowers (children_of y) p.factors → IsHeldAsPowerOf n x r) b e t m w
-    (λ fs h k are. product_way fs p.factors e r n h k q are (subst (λ (x : Tree). IsReducedProduct (children_of x) r) p.is a)) p.are
+product_holds t v r b e n m p a w q = grind (arith, by_product, product_way)
 
 even_way : (a e t v r : Tree) (n : ℤ) → is_number (root a) ≡ false → IsRewritten (root a) e t → e ≡ num (whole_fraction n) → v ≡ t → IsReducedPower (base_in v) (exponent_in v) r → IsHeldAsPowerOf n (root a) r
 even_way a e t v r n k w q l p =

@@ -64,10 +64,7 @@ pub half_fits : (b e : Tree) (f : NumberFault) → is_half_num e ≡ true → Of
 half_fits b e f h m = no_fault f (IsPowerMisfit b e) (λ o p. half_no_number b e h p.number) m
 
 number_defined : (b e : Tree) → has_number_power b e ≡ true → is_undef b ≡ false
-number_defined undef (num q) n = absurd (undef_number (and_parts (is_number undef) (q.den == 1) (and_parts (is_number undef && q.den == 1) _ n).0).0)
-  where
-    undef_number : is_number undef ≡ true → ⊥
-    undef_number k = number_words undef k
+number_defined undef (num q) n = absurd (number_words undef (and_parts (is_number undef) (q.den == 1) (and_parts (is_number undef && q.den == 1) _ n).0).0)
 number_defined undef e n = cc
 number_defined b e n = refl
 

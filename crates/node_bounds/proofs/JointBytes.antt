@@ -60,8 +60,7 @@ product_base b (num q) r m = by (is_whole_num (num q)) refl
 product_base b e r m = omega arith
 
 single_apart : (t : Tree) → is_reduced t ≡ true → is_mult t ≡ false → (is_mult (base_of t) && not (is_number (base_of t))) ≡ true → 1 ≤ exponent_count (exponent_of t)
-single_apart (power b e) r n h = grind (arith, product_base, and_parts)
-single_apart t r n h = cc
+single_apart t r n h = grind (arith, and_parts, product_base)
 
 pub joining : (at : ℕ) (ts us : Trees) → IsJoinedFrom at ts us → IsJoining at ts us
 joining at ts us j =
@@ -83,27 +82,13 @@ joining at ts us j =
 
 -- c counts in the base, to which the exponents add x and y, and r in the other factors, of which q are Numbers but one
 exponents_fit : (m c x y q r h z s w : ℕ) → 1 ≤ m → 1 ≤ c → 1 ≤ q → 2 * c + x + y + suc (q + r) ≤ h → z ≤ 3 + x + y → s ≤ 204 * r * m + 96 * (1 + q) * m → w ≤ 204 * c * m → 8 + w + sum_room z m + s ≤ product_room h m
-exponents_fit m c x y q r h z s w hm hc hq k l u v =
-    let all : (2 * c + x + y + suc (q + r)) * m ≤ h * m = scaled (2 * c + x + y + suc (q + r)) h m k in
-    let sum : z * m ≤ (3 + x + y) * m = scaled z (3 + x + y) m l in
-    let base : 1 * m ≤ c * m = scaled 1 c m hc in
-    let numbers : 1 * m ≤ q * m = scaled 1 q m hq in
-    omega (arith, all, sum, base, numbers)
+exponents_fit m c x y q r h z s w hm hc hq k l u v = omega (arith, scaled (2 * c + x + y + suc (q + r)) h m k, scaled z (3 + x + y) m l, scaled 1 c m hc, scaled 1 q m hq)
 
 power_fits : (m c x y q r h s : ℕ) → 1 ≤ m → 1 ≤ c → 1 ≤ q → 2 * c + x + y + suc (q + r) ≤ h → s ≤ 204 * r * m + 96 * (1 + q) * m → power_room c m + s ≤ product_room h m
-power_fits m c x y q r h s hm hc hq k u =
-    let all : (2 * c + x + y + suc (q + r)) * m ≤ h * m = scaled (2 * c + x + y + suc (q + r)) h m k in
-    let base : 1 * m ≤ c * m = scaled 1 c m hc in
-    let numbers : 1 * m ≤ q * m = scaled 1 q m hq in
-    omega (arith, all, base, numbers)
+power_fits m c x y q r h s hm hc hq k u = omega (arith, scaled (2 * c + x + y + suc (q + r)) h m k, scaled 1 c m hc, scaled 1 q m hq)
 
 product_power_fits : (m c x y q r h s : ℕ) → 1 ≤ m → 1 ≤ c → 1 ≤ q → 1 ≤ x → 2 * c + x + y + suc (q + r) ≤ h → s ≤ 204 * r * m + 96 * (1 + q) * m → product_power_room c m + s ≤ product_room h m
-product_power_fits m c x y q r h s hm hc hq hx k u =
-    let all : (2 * c + x + y + suc (q + r)) * m ≤ h * m = scaled (2 * c + x + y + suc (q + r)) h m k in
-    let base : 1 * m ≤ c * m = scaled 1 c m hc in
-    let numbers : 1 * m ≤ q * m = scaled 1 q m hq in
-    let exponent : 1 * m ≤ x * m = scaled 1 x m hx in
-    omega (arith, all, base, numbers, exponent)
+product_power_fits m c x y q r h s hm hc hq hx k u = omega (arith, scaled (2 * c + x + y + suc (q + r)) h m k, scaled 1 c m hc, scaled 1 q m hq, scaled 1 x m hx)
 
 joint_fits : (m p s : ℕ) → 1 ≤ m → s ≤ 204 * p * m → s + 96 ≤ product_room p m
 joint_fits m p s hm h = omega arith

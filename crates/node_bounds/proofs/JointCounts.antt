@@ -1,6 +1,6 @@
 -- What counts in a product while two of its factors are joined and their joint is reduced, and how many bytes stand beside it.
-use Rattle.std.proofs.Common.{◌≡◌, ℕ, zero, suc, ◌+◌, ◌*◌, ◌≤◌, ◌<◌, Bool, true, false, ◌&&◌, if◌then◌else◌, refl, sym, ap, ◌∙◌, arith}
-use Rattle.node_bounds.proofs.Shared.{and_parts, is_number, is_opaque_exponent, num_one, base_of, counted, counted_among, counted_number, counted_other, Tree, add, power, Trees, none, more, count, size, sizes, replaced, removed, exponent_of, is_partner, joint, is_single, IsPairAt, joined_pair, nth, exponent_count, numbers_among, product_count, counts_one, power_counts, not-true, one_base}
+use Rattle.std.proofs.Common.{◌≡◌, ℕ, zero, suc, ◌+◌, ◌*◌, ◌≤◌, ◌<◌, Bool, true, if◌then◌else◌, refl, ap, arith}
+use Rattle.node_bounds.proofs.Shared.{and_parts, is_number, base_of, counted, counted_among, counted_number, counted_other, Tree, add, power, Trees, none, more, count, size, sizes, replaced, removed, exponent_of, is_partner, joint, IsPairAt, joined_pair, nth, exponent_count, numbers_among, product_count, counts_one, power_counts, not-true, one_base}
 use Rattle.node_bounds.proofs.Calm.{one_whole}
 use Rattle.tree_room.proofs.Counts.{no_number as numbers_other}
 
@@ -11,14 +11,7 @@ numbers_one t ts h = omega (arith, ap (λ (z : Bool). (if z then 1 else 0) + num
 
 -- a factor counts as its base and its exponent do
 pub factor_counts : (t : Tree) → counted (base_of t) + exponent_count (exponent_of t) ≡ counted t
-factor_counts (power b e) = by (is_opaque_exponent e)
-  where
-    by : (x : Bool) → counted (if x then power b e else b) + exponent_count (if x then num_one else e) ≡ counted (power b e)
-    by true = alone (power b e)
-      where
-        alone : (t : Tree) → counted t + exponent_count num_one ≡ counted t
-        alone t = rw one_whole (omega arith)
-    by false = sym (power_counts b e)
+factor_counts (power b e) = grind (arith, power_counts, one_whole)
 factor_counts t = rw one_whole (omega arith)
 
 -- the joint of two powers of b, whose exponents are not yet added, counts what these counted
@@ -37,19 +30,8 @@ pub record CountsJoined (n : ℕ) (ts us : Trees) : Type 0 where
   pub others : counted_among (removed n us) + joint_count (nth n us) ≡ counted_among ts
 
 pub pair_counts : (n : ℕ) (ts : Trees) → IsPairAt n ts → CountsJoined n ts (joined_pair n (suc n) ts)
-pair_counts zero (more t (more u ts)) p =
-    let (both, partner) = and_parts (is_single t && is_single u) (is_partner t u) p.pair in
-    let (a, b) = and_parts (is_single t) (is_single u) both in
-    let first : is_number t ≡ false = not-true _ (and_parts _ _ a).0 in
-    let second : is_number u ≡ false = not-true _ (and_parts _ _ b).0 in
-    record {
-      numbers = sym (numbers_other t (more u ts) first ∙ numbers_other u ts second);
-      others = omega (arith, joint_counts t u partner, counted_other t (more u ts) first, counted_other u ts second);
-    }
-pair_counts (suc n) (more t ts) p =
-    let w = p.within in
-    let c = pair_counts n ts (record { within = omega arith; pair = p.pair }) in
-    record { numbers = omega (arith, c.numbers); others = omega (arith, c.others) }
+pair_counts zero (more t (more u ts)) p = grind (arith, and_parts, counted_other, not-true, numbers_other, joint_counts)
+pair_counts (suc n) (more t ts) p = grind (arith, pair_counts n ts (record { within = omega arith; pair = p.pair }))
 pair_counts n ts p = absurd (let w = p.within in omega arith)
 
 pub pair_joined_count : (n : ℕ) (ts : Trees) → IsPairAt n ts → (let us = joined_pair n (suc n) ts in joint_count (nth n us) + product_count (removed n us) ≤ product_count ts)

@@ -15,11 +15,7 @@ keeps_next t u k l = record {
 }
 
 pub hands_on_next : (ts us vs : Trees) → HandsOn ts us → HandsOn us vs → HandsOn ts vs
-hands_on_next ts us vs h k = record {
-  counts = λ ns c. omega (arith, h.counts ns c, k.counts ns (h.room.calm ns c));
-  room = keeps_next (mult ts) (mult us) h.room k.room;
-  held = λ m l a. k.held m l (h.held m l a);
-}
+hands_on_next ts us vs h k = grind (arith, keeps_next)
 
 calm_by_powers : {ns : List (List ℕ)} (ts : Trees) (t : Tree) → HasPowersOf ts t → IsCalmAtZero ns (mult ts) → IsCalmAtZero ns t
 calm_by_powers {ns} ts t h c = record { once = c.once; calm = parts_calm (zeros ns) ts t h (calm_children c) }

@@ -1,6 +1,6 @@
 -- What holds a node over reduced children holds its answer.
-use Rattle.std.proofs.Common.{◌≡◌, ◌≢◌, ℕ, zero, suc, ◌+◌, ◌*◌, ◌^◌, ◌≤◌, [], ◌∷◌, ℤ, Bool, true, false, ◌||◌, if◌then◌else◌, Option, Some, None, Result, Ok, Err, refl, sym, ap, ◌∙◌, subst, arith, inl, inr, IfOk, IfErr, IsOk}
-use Rattle.node_bounds.proofs.Shared.{pow_pos, pow-add, pow-le-pow_right, value, is_half_num, is_whole_num, num_one, Surd, surd_of, one_not_zero, IsHeld, HighLow, zero_fraction, one_fraction, minus_one_fraction, whole_fraction, zero_test, whole_numerator, Tree, num, undef, power, Trees, none, more, is_num, is_undef, has_undef, IsReducedPower, lacks_power, HasFewBits, HoldsPower, holds_whole, holds_half, holds_kept, HoldsDifference, HoldsNode, numerator, has_number_power, HasFewBitsRaised, HasWideRoot, IsOverflow, IfRational, IsNoLargerThanRoot, int_is_negative, is_zero_or_one, rewritten, as_whole, IsFactorHeld, AreFactorsHeld, none_held, number_as_factor, no_factors_held, IsSumHeld, addends_of_each, trees_together, minus_one_held, nothing_held, IfOverflow, OfOverflow, NumberFault, or_parts, cases_Bool}
+use Rattle.std.proofs.Common.{◌≡◌, ◌≢◌, ℕ, suc, ◌+◌, ◌*◌, ◌^◌, ◌≤◌, [], ◌∷◌, ℤ, Bool, true, false, ◌||◌, if◌then◌else◌, Option, Some, None, Result, Ok, Err, refl, sym, ap, ◌∙◌, subst, arith, inl, inr, IfOk, IfErr, IsOk}
+use Rattle.node_bounds.proofs.Shared.{pow_pos, pow-add, pow-le-pow_right, value, is_half_num, is_whole_num, num_one, Surd, surd_of, one_not_zero, IsHeld, HighLow, zero_fraction, one_fraction, minus_one_fraction, whole_fraction, zero_test, whole_numerator, Tree, num, undef, power, Trees, none, more, is_num, is_undef, has_undef, IsReducedPower, lacks_power, HasFewBits, HoldsPower, HoldsDifference, HoldsNode, numerator, has_number_power, HasFewBitsRaised, HasWideRoot, IsOverflow, IfRational, IsNoLargerThanRoot, int_is_negative, is_zero_or_one, rewritten, as_whole, IsFactorHeld, AreFactorsHeld, none_held, number_as_factor, no_factors_held, IsSumHeld, addends_of_each, trees_together, minus_one_held, nothing_held, IfOverflow, OfOverflow, NumberFault, or_parts, cases_Bool}
 use Rattle.node_bounds.proofs.Clashes.{clash, rational_number}
 use Rattle.node_bounds.proofs.HeldFactors.{factor_wider, factor_tree}
 use Rattle.node_bounds.proofs.HeldParts.{fine}
@@ -75,9 +75,7 @@ kept_power b e r n a d = elim (cases_Bool (lacks_power b e)) [
     not_rewritten (Some t) k = absurd (no_whole e n (whole_rewriting b e t (sym (as_whole b e (none_of e n).2) ∙ k)))
 
 pub power_answer_held : (b e r : Tree) → IsReducedPower b e r → is_undef r ≡ false → (h l : ℕ) → HoldsPower b e h l → IsFactorHeld r h l
-power_answer_held b e r a d h l (holds_whole n p q i k x y) = factor_wider r x y (a.held n i d p q k)
-power_answer_held b e r a d h l (holds_half p q i z k u v x y) = factor_wider r x y (a.root_held i d p q z k)
-power_answer_held b e r a d h l (holds_kept n k) = subst (λ (t : Tree). IsFactorHeld t h l) (sym (kept_power b e r n a d)) k
+power_answer_held b e r a d h l k = grind (arith, factor_wider, kept_power)
 
 -- ---- leaves
 
@@ -121,14 +119,7 @@ twice k = let e : suc k ≡ 1 + k = omega arith in ap (λ (n : ℕ). 2 ^ n) e �
 
 -- a power of 2 that is less
 below : (k h x : ℕ) → 1 ≤ x → x + 2 ^ k ≤ 2 ^ h → k ≤ h
-below zero h x o l = omega arith
-below (suc k) zero x o l =
-    let a : 2 ^ 1 ≤ 2 ^ suc k = pow-le-pow_right {n = 2} (omega arith) {i = 1} {j = suc k} (omega arith) in
-    absurd (omega (arith, l, a))
-below (suc k) (suc h) x o l =
-    let i : 2 ^ suc k ≡ 2 ^ 1 * 2 ^ k = twice k in
-    let j : 2 ^ suc h ≡ 2 ^ 1 * 2 ^ h = twice h in
-    omega (arith, below k h 1 (omega arith) (omega (arith, l, i, j, o)))
+below k h x o l = grind (arith, pow-le-pow_right, twice)
 
 pub difference_right : (a b : Tree) {h l : ℕ} → HasFewBits h l → (d : HoldsDifference a b h l) → HasFewBits d.k d.n
 difference_right a b {h} {l} few d = omega (arith, few, below d.k h (2 ^ d.p) (pow_pos d.p) d.high, d.low)

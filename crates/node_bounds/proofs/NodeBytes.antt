@@ -1,5 +1,5 @@
 -- How many bytes suffice for the node of a tree over reduced children.
-use Rattle.std.proofs.Common.{◌≡◌, ℕ, negsuc, ◌+◌, ◌*◌, ◌^◌, ◌≤◌, ◌<◌, List, length, true, Result, sym, arith, IfErr}
+use Rattle.std.proofs.Common.{◌≡◌, ℕ, negsuc, ◌+◌, ◌*◌, ◌^◌, ◌≤◌, ◌<◌, List, length, true, Result, arith, IfErr}
 use Rattle.node_bounds.proofs.Shared.{pow_pos, IsAssignment, is_reduced, are_reduced, is_half_num, reduced_words, counted, SpansTree, SpansTrees, num_bytes, tree_bytes, minus_one_fraction, Tree, num, add, mult, power, neg, Trees, none, more, count, is_add, is_mult, is_root, is_num, is_sub, is_div, root_kind, size, sizes, Kind, HasNodesFor, KeepsNodeRoom, SpansNode, factors_room, IsCalmAtZero, whole_power_room, power_count, base_in, exponent_in, whole_is, IsFull, argument_of, LacksBelow, nth, children_of, NumberFault, IsCalm, zeros, product_count, sum_count, sum_room, product_room, power_room, product_power_room, simple_room, whole_number, counts_one, product_at_most, sum_bytes, product_bytes, scaled, numbers_and_others}
 use Rattle.node_bounds.proofs.Clashes.{rational_number}
 use Rattle.node_bounds.proofs.Calm.{calm_power}
@@ -42,8 +42,7 @@ root_result gs t free n r h k a b = grind (arith, num_bytes, scaled, pow_pos)
 
 -- only a power has half of an odd number as its exponent
 pub no_half_power : {A : Type 0} {k : Kind} (t : Tree) → k ≡ root_kind t → (kind.Pow ≡ k → ⊥) → is_half_num (exponent_in t) ≡ true → A
-no_half_power (power b e) k n h = absurd (n (sym k))
-no_half_power t k n h = cc
+no_half_power t k n h = grind arith
 
 -- what spans a node that is no root
 pub node_spans : {k : Kind} (gs : List ℕ) (t : Tree) → k ≡ root_kind t → (kind.Root ≡ k → ⊥) → SpansNode gs t → SpansTree gs t

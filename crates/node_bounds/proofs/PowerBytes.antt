@@ -50,11 +50,7 @@ exponents_lack gs c f e bytes r w s l =
 
 all_counted : (ts : Trees) → counted_in_all ts ≡ numbers_among ts + counted_among ts
 all_counted none = refl
-all_counted (more t ts) = by (is_number t) refl (all_counted ts)
-  where
-    by : (z : Bool) → is_number t ≡ z → counted_in_all ts ≡ numbers_among ts + counted_among ts → counted_in_all (more t ts) ≡ numbers_among (more t ts) + counted_among (more t ts)
-    by true e h = omega (arith, h, number_counts_one t e, numbers_one t ts e, counted_number t ts e)
-    by false e h = omega (arith, h, numbers_other t ts e, counted_other t ts e)
+all_counted (more t ts) = grind (arith, all_counted ts, counted_number, counted_other, number_counts_one, numbers_one, numbers_other)
 
 no_numbers : (ts : Trees) → NoneIs is_number ts → numbers_among ts ≡ 0
 no_numbers none h = refl

@@ -1,6 +1,6 @@
 -- What reduced powers count, and that they are calm and spanned.
-use Rattle.std.proofs.Common.{◌≡◌, ℕ, ℤ, zero, suc, ◌+◌, ◌≤◌, pos, negsuc, List, Bool, true, false, None, refl, sym, ap, ◌∙◌, subst, arith}
-use Rattle.node_bounds.proofs.Shared.{is_number, natural_of, number_words, counted, SpansTree, Fraction, whole_fraction, int_is_negative, int_is_zero, Tree, num, undef, power, root, is_num, is_undef, zero_is, one_is, IsCalmAtZero, KeepsRoom, KeepsRootRoom, SpansRootOf, power_count, has_no_power, has_number_power, IsPowerAnswer, IsWrittenPower, is_zero_or_one, rewritten, answer_counts, whole_power_counts, answer_spans, whole_is, has_no_root, IsRootAnswer, zeros, number_calm, whole_number, counts_one, number_counts_one}
+use Rattle.std.proofs.Common.{◌≡◌, ℕ, ℤ, ◌+◌, ◌≤◌, List, Bool, true, false, None, refl, sym, ◌∙◌, subst, arith}
+use Rattle.node_bounds.proofs.Shared.{is_number, number_words, counted, SpansTree, Fraction, whole_fraction, int_is_negative, Tree, num, undef, power, root, is_num, is_undef, zero_is, one_is, IsCalmAtZero, KeepsRoom, KeepsRootRoom, SpansRootOf, power_count, has_no_power, has_number_power, IsPowerAnswer, IsWrittenPower, is_zero_or_one, rewritten, answer_counts, whole_power_counts, answer_spans, whole_is, has_no_root, IsRootAnswer, zeros, number_calm, whole_number, counts_one, number_counts_one}
 use Rattle.node_bounds.proofs.Clashes.{undef_words}
 use Rattle.node_bounds.proofs.Calm.{calm_base, calm_power}
 use Rattle.radical_forms.proofs.RootValues.{root_of_zero}
@@ -58,12 +58,7 @@ kept_spans gs b h k = grind arith
 
 -- a rational that has a root is above 0, or it is 0
 number_spans : (gs : List ℕ) (q : Fraction) (r : Tree) → int_is_negative q.num ≡ false → IsRootAnswer (num q) r → (SpansTree gs (root (num q)) → SpansTree gs r) → SpansRootOf gs (num q) → SpansTree gs r
-number_spans gs q r k a s h = by q.num refl
-  where
-    by : (i : ℤ) → q.num ≡ i → SpansTree gs r
-    by (pos zero) e = subst (SpansTree gs) (sym (root_of_zero q r k a (ap int_is_zero e))) tt
-    by (pos (suc n)) e = s (h (omega (arith, ap natural_of e)))
-    by (negsuc n) e = absurd (cc (sym k ∙ ap int_is_negative e))
+number_spans gs q r k a s h = grind (arith, root_of_zero)
 
 rooted_spans : (gs : List ℕ) (b r : Tree) → is_num b ≡ true → has_no_root b ≡ false → IsRootAnswer b r → (SpansTree gs (root b) → SpansTree gs r) → SpansRootOf gs b → SpansTree gs r
 rooted_spans gs (num q) r n k a s h = number_spans gs q r k a s h

@@ -24,8 +24,7 @@ one_product n = grind (arith, num_value, whole_times)
 
 two_product : (q : Fraction) (n : ℤ) → (q.den == 1) ≡ true → Same (product_of_values (more (num q) (more (num (whole_fraction n)) none))) (surd_of (whole_fraction (q.num *ℤ n)))
 two_product q n w =
-    let i : q ≡ whole_fraction q.num = whole_of q w in
-    Same-trans (Same-surd_times (subst (λ (r : Fraction). Same (value (num q)) (surd_of r)) i (num_value q)) (one_product n)) (Same-eq (ap surd_of (whole_times q.num n)))
+    Same-trans (Same-surd_times (subst (λ (r : Fraction). Same (value (num q)) (surd_of r)) (whole_of q w) (num_value q)) (one_product n)) (Same-eq (ap surd_of (whole_times q.num n)))
 
 with_number : (q : Fraction) (ts : Trees) → (numbers_in (more (num q) ts) ≡ more (num q) (numbers_in ts)) × (others_in (more (num q) ts) ≡ others_in ts)
 with_number q ts = grind (arith, rational_number)

@@ -1,5 +1,5 @@
 -- Whole powers that are rewritten: by which rule, and what the trees for them count.
-use Rattle.std.proofs.Common.{◌≡◌, ℕ, ℤ, suc, ◌+◌, ◌≤◌, List, inl, inr, Bool, true, false, not, ◌&&◌, if◌then◌else◌, Some, refl, sym, ap, ◌∙◌, subst, arith}
+use Rattle.std.proofs.Common.{rules, ◌≡◌, ℕ, ℤ, suc, ◌+◌, ◌≤◌, List, inl, inr, Bool, true, false, not, ◌&&◌, if◌then◌else◌, Some, refl, sym, ap, ◌∙◌, subst, arith}
 use Rattle.node_bounds.proofs.Shared.{and_parts, true≢false, Assignment, is_number, is_reduced, is_whole_num, is_num_one, split_product, NoneIs, number_test, counted, SpansTree, SpansTrees, whole_fraction, Tree, num, mult, power, root, Trees, none, more, count, is_mult, is_num, reduced_parts, IsReducedProduct, IsReducedPower, IsCalmAtZero, KeepsRoom, IsRewritten, whole_power_count, power_count, AreReducedPowers, IsLifted, IsMultiplied, IsProductOfPowers, base_in, exponent_in, half, parts_of, raised, rewritten_whole, parts_counted, whole_power_counts, as_whole, whole_no_half, HasFactors, product_factors, chosen, parts_span, whole_is, children_of, IsCalm, AreCalm, zeros, counted_in_all, product_whole, whole_number, counts_one, numbers_and_others, power_counts, of_a_power, of_a_root, not-true, and_right, not_from_true, is_half_num, rewritten}
 use Rattle.node_bounds.proofs.Calm.{calm_base, calm_exponent, calm_product, calm_power, calm_whole, whole_kept, whole_of_number}
 use Rattle.node_bounds.proofs.JointBytes.{product_base}
@@ -31,22 +31,12 @@ is_rewritten b e t n h k r = record { base = h; exponent = k; whole = whole_rewr
 
 -- what holds by the rule for products holds where the tree is a product
 pub by_product : (P : Tree → Tree → Type 0) (b e t : Tree) → is_mult t ≡ true → IsRewritten b e t → ((fs : Trees) → is_reduced (mult fs) ≡ true → is_number (mult fs) ≡ false → P (mult fs) (mult (raised (parts_of fs) e))) → P b t
-by_product P b e t m w of = by (by_way b e t w)
-  where
-    by : IsByWay b e t → P b t
-    by (of_product fs i j n) = subst (λ (x : Tree). P x t) (sym i) (subst (P (mult fs)) (sym j) (of fs (sym (ap is_reduced i) ∙ w.base) n))
-    by (of_root a z i j n) = absurd (cc (sym m ∙ ap is_mult j))
-    by (of_power c f i j) = absurd (cc (sym m ∙ ap is_mult j))
+by_product P b e t m w of = grind (arith, by_way)
 
 -- and what holds by the other two where it is none
 pub by_power : (P : Tree → Tree → Type 0) (b e t : Tree) → is_mult t ≡ false → IsRewritten b e t → ((a : Tree) (z : ℤ) → is_reduced (root a) ≡ true → is_number (root a) ≡ false → P (root a) (power a (num (whole_fraction z))))
     → ((c f : Tree) → is_reduced (power c f) ≡ true → P (power c f) (power c (mult (more f (more e none))))) → P b t
-by_power P b e t m w root_case power_case = by (by_way b e t w)
-  where
-    by : IsByWay b e t → P b t
-    by (of_root a z i j n) = subst (λ (x : Tree). P x t) (sym i) (subst (P (root a)) (sym j) (root_case a z (sym (ap is_reduced i) ∙ w.base) n))
-    by (of_power c f i j) = subst (λ (x : Tree). P x t) (sym i) (subst (P (power c f)) (sym j) (power_case c f (sym (ap is_reduced i) ∙ w.base)))
-    by (of_product fs i j n) = absurd (cc (sym m ∙ ap is_mult j))
+by_power P b e t m w root_case power_case = search (rules, by_way)
 
 -- a whole power counts as its base does, and 1 more where that is a product
 pub whole_count_is : (b e : Tree) → is_whole_num e ≡ true → power_count b e ≡ whole_power_count b
@@ -80,19 +70,14 @@ pub exponents_span : (gs : List ℕ) (c f e : Tree) → SpansTree gs (power (pow
 exponents_span gs c f e s = (tt, (s.1.2, (s.2, tt)))
 
 pub raised_calm : {ns : List (List ℕ)} (c f e g : Tree) → is_whole_num e ≡ true → IsCalmAtZero ns (power (power c f) e) → IsReducedProduct (more f (more e none)) g → IsCalmAtZero ns (power c g)
-raised_calm {ns} c f e g w k a = calm_power (calm_base (calm_base k)) (a.room.calm ns (exponents_calm c f e w k))
-    (whole_kept (zeros ns) (mult (more f (more e none))) g k.once a.reduces.meanings (product_whole (zeros ns) f e (calm_whole (calm_base k)) (calm_whole k)))
+raised_calm c f e g w k a = grind (arith, product_whole, calm_base, calm_power, calm_whole, whole_kept, exponents_calm)
 
 pub raised_whole : {ns : List (List ℕ)} (c f e g : Tree) → is_whole_num e ≡ true → IsCalmAtZero ns (power (power c f) e) → IsReducedProduct (more f (more e none)) g → is_whole_num f ≡ true → is_whole_num g ≡ true
 raised_whole {ns} c f e g w k a h = whole_of_number (zeros ns) g k.once (a.number (rw (whole_numbers f h, whole_numbers e w) refl)) (calm_whole (raised_calm c f e g w k a))
 
 -- under a whole exponent stands no product but a Number, and one under another counts for the exponent too
 pub over_product : (c f : Tree) → is_reduced (power c f) ≡ true → whole_power_count c ≤ counted (power c f)
-over_product c f r = by (is_mult c && not (is_number c)) refl
-  where
-    by : (z : Bool) → (is_mult c && not (is_number c)) ≡ z → (if z then 1 + counted c else counted c) ≤ counted (power c f)
-    by true e = omega (arith, product_base c f r (and_parts _ _ e).0, power_counts c f)
-    by false e = omega (arith, power_counts c f)
+over_product c f r = grind (arith, and_parts, power_counts, product_base)
 
 power_room : (c f e g r : Tree) → is_reduced (power c f) ≡ true → is_whole_num e ≡ true → IsReducedProduct (more f (more e none)) g → KeepsRoom (power_count c g) (power c g) r → KeepsRoom (power_count (power c f) e) (power (power c f) e) r
 power_room c f e g r h w a k = record {
@@ -140,11 +125,7 @@ module _ (f : Assignment) where
   split_calm ts h = grind arith
 
   pub parts_calm : (ts : Trees) → AreCalm f ts → AreCalm f (parts_of ts)
-  parts_calm ts h = by (is_num_one (split_product ts).coefficient)
-    where
-      by : (b : Bool) → AreCalm f (if b then (split_product ts).factors else more (split_product ts).coefficient (split_product ts).factors)
-      by true = (split_calm ts h).1
-      by false = split_calm ts h
+  parts_calm ts h = grind (arith, split_calm)
 
 -- what is known of the powers of these, once they are reduced
 pub record AreRaised (gs us : Trees) (ns : List (List ℕ)) : Type 0 where

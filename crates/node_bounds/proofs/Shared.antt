@@ -6,7 +6,7 @@ pub use Rattle.calc_algebra.proofs.ReducedLaws.{reduced_words}
 pub use Rattle.calc_algebra.proofs.SquareClassLaws.{Same-trans}
 pub use Rattle.calc_algebra.proofs.TermLaws.{Same-eq, Same-surd_times}
 pub use Rattle.calc_algebra.specs.Meanings.{Assignment, IsAssignment}
-pub use Rattle.calc_algebra.specs.Numbers.{AreTerms, IsNumber, Rises, is_term, natural_of, terms_of, value}
+pub use Rattle.calc_algebra.specs.Numbers.{AreTerms, IsNumber, Rises, terms_of, value}
 unfoldable pub use Rattle.calc_algebra.specs.Numbers.{is_number}
 pub use Rattle.calc_algebra.specs.Reduced.{HasForm, IsProductForm, IsSumForm, NoneIs, Split, are_reduced, base_of, is_half_num, is_num_one, is_opaque_exponent, is_whole_num, num_one, number_terms, other_terms, product_tree, split_product}
 unfoldable pub use Rattle.calc_algebra.specs.Reduced.{is_reduced}
@@ -24,7 +24,7 @@ pub use Rattle.calc_room.specs.Spans.{SpansRoot, SpansTree, SpansTrees}
 pub use Rattle.calc_terms.proofs.FractionFacts.{one_is, whole_denominator, whole_numerator, zero_is, zero_test}
 pub use Rattle.calc_terms.specs.Fractions.{Fraction, minus_one_fraction, whole_fraction}
 unfoldable pub use Rattle.calc_terms.specs.Fractions.{one_fraction, zero_fraction}
-pub use Rattle.calc_terms.specs.Integers.{int_is_negative, int_is_zero}
+pub use Rattle.calc_terms.specs.Integers.{int_is_negative}
 pub use Rattle.calc_terms.specs.Trees.{AllParts, AllPartsOf, HasTwo, Tree, Trees, add, append, count, div, has_undef, is_add, is_div, is_mult, is_num, is_root, is_sub, is_undef, more, mult, neg, none, num, power, root, root_kind, size, sizes, sub, symbol, undef}
 pub use Rattle.calc_terms.specs.declared.kind.Kind.{Kind}
 pub use Rattle.coefficients.proofs.Coefficients.{product_form_of}
@@ -36,7 +36,7 @@ pub use Rattle.coefficients.specs.Coefficients.{IsMonic, with_coefficient}
 pub use Rattle.node_bounds.specs.Answers.{IsReducedPower, IsReducedProduct, lacks_power}
 pub use Rattle.node_bounds.specs.Bits.{AddsCounts, HasFewBits, IsCountedWithin, IsHeldAsRootPower, MultipliesCounts}
 pub use Rattle.node_bounds.specs.HandedOn.{AreReducedPowers, HandsOn, IsLifted, IsMultiplied, IsProductOfPowers, IsSummed, replaced}
-pub use Rattle.node_bounds.specs.NodeBits.{HoldsDifference, HoldsNode, HoldsPower, holds_half, holds_kept, holds_whole}
+pub use Rattle.node_bounds.specs.NodeBits.{HoldsDifference, HoldsNode, HoldsPower}
 pub use Rattle.node_bounds.specs.NodeRooms.{HasNodesFor, KeepsNodeRoom, SpansNode, factors_room, node_count}
 pub use Rattle.node_bounds.specs.Rooms.{IsCalmAtZero, IsJoinedFrom, IsRewritten, KeepsRoom, KeepsRootRoom, KeepsSumRoom, SpansRootOf, power_count, whole_power_count, whole_power_room}
 pub use Rattle.number_forms.specs.Readers.{is_zero, numerator}

@@ -10,8 +10,7 @@ use Rattle.deep_reduce.proofs.differences.negate.Goals as goal
 
 pub take_child-argument-requires-clause-within : goal.take_child-argument-requires-clause-within
 take_child-argument-requires-clause-within c =
-    let n = ap count (neg_children (tree_of c.args.opposite c.args.pool.now) c.requires.opposite) in
-    omega (arith, parent_children c.requires.stands (parent_handed c.requires.handed), n)
+    omega (arith, parent_children c.requires.stands (parent_handed c.requires.handed), ap count (neg_children (tree_of c.args.opposite c.args.pool.now) c.requires.opposite))
 
 pub minus-requires : goal.minus-requires
 minus-requires c =

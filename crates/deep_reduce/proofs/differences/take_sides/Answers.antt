@@ -12,8 +12,7 @@ take_child-right-requires-clause-within c =
 pub release-requires-clause-releasable : goal.release-requires-clause-releasable
 release-requires-clause-releasable c =
     let a = first_out c.requires.handed c.requires.two (c.take_child-left.ensures.last c.requires.handed.root) in
-    let b = both_out a (c.take_child-right.ensures.last (parent_end a.parent a.gives.ends).root) (children_of (tree_of c.args.tree c.args.pool.now)) refl refl in
-    inl b.owned.root
+    inl (both_out a (c.take_child-right.ensures.last (parent_end a.parent a.gives.ends).root) (children_of (tree_of c.args.tree c.args.pool.now)) refl refl).owned.root
 
 pub returns : goal.returns
 returns c =

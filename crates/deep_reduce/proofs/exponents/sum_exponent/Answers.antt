@@ -6,9 +6,7 @@ use Rattle.deep_reduce.proofs.Children.{over_power, power_of_sum, exponent_taken
 use Rattle.deep_reduce.proofs.exponents.sum_exponent.Goals as goal
 
 pub take_child-exponent-requires-clause-within : goal.take_child-exponent-requires-clause-within
-take_child-exponent-requires-clause-within c =
-    let o = over_power _ c.requires.handed refl (power_of_sum _ c.requires.power) in
-    omega (arith, children_in c.requires.stands o)
+take_child-exponent-requires-clause-within c = omega (arith, children_in c.requires.stands (over_power _ c.requires.handed refl (power_of_sum _ c.requires.power)))
 
 pub reduce_sum-requires : goal.reduce_sum-requires
 reduce_sum-requires c =

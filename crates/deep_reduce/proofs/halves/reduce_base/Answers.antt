@@ -52,18 +52,16 @@ move_last-requires-clause-root c =
     let g = itself c.in_ok-reduced.ensures.ok in
     (put_back o a g (c.add_child.ensures.root (over_back o a g).root) refl).over.root
 
-pub returns : goal.returns
-returns c =
+pub returns-clause-ok : goal.returns-clause-ok
+returns-clause-ok c =
     let o = over_power _ c.requires.handed refl c.requires.power in
     let a = base_taken o (c.take_child-root.ensures.last c.requires.handed.root) in
     let g = itself c.in_ok-reduced.ensures.ok in
-    record {
-      ok = let q = put_back o a g (c.add_child.ensures.root (over_back o a g).root) refl in let v = tree_of c.in_ok-reduced.reduced c.reduce_root.new.pool in moved q refl c.move_last.ensures.last (record { root = v; answer = subst (λ (x : Tree). IsRootAnswer (argument_of x) v) (given_told a.gives) (given_told c.in_ok-reduced.ensures.ok); spanned = λ gs s. c.in_ok-reduced.ensures.spanned gs (subst (SpansTree gs) (sym (given_told a.gives)) s); measured = subst (λ (x : Tree). IfRational (argument_of x) (λ q. int_is_negative q.num ≡ false → IsNoLargerThanRoot q (value v))) (given_told a.gives) c.in_ok-reduced.ensures.measured; is = refl });
-      front = moved_front (put_back o a g (c.add_child.ensures.root (over_back o a g).root) refl) c.move_last.ensures.last;
-      kept = search rules;
-      faults = search rules;
-      caused = search rules;
-      room = search rules;
-      bits = search rules;
-      stands = search rules;
-    }
+    let q = put_back o a g (c.add_child.ensures.root (over_back o a g).root) refl in let v = tree_of c.in_ok-reduced.reduced c.reduce_root.new.pool in moved q refl c.move_last.ensures.last (record { root = v; answer = subst (λ (x : Tree). IsRootAnswer (argument_of x) v) (given_told a.gives) (given_told c.in_ok-reduced.ensures.ok); spanned = λ gs s. c.in_ok-reduced.ensures.spanned gs (subst (SpansTree gs) (sym (given_told a.gives)) s); measured = subst (λ (x : Tree). IfRational (argument_of x) (λ q. int_is_negative q.num ≡ false → IsNoLargerThanRoot q (value v))) (given_told a.gives) c.in_ok-reduced.ensures.measured; is = refl })
+
+pub returns-clause-front : goal.returns-clause-front
+returns-clause-front c =
+    let o = over_power _ c.requires.handed refl c.requires.power in
+    let a = base_taken o (c.take_child-root.ensures.last c.requires.handed.root) in
+    let g = itself c.in_ok-reduced.ensures.ok in
+    moved_front (put_back o a g (c.add_child.ensures.root (over_back o a g).root) refl) c.move_last.ensures.last

@@ -22,19 +22,17 @@ reduce_base-requires c = record {
   reduced = (half_ready (base_in (tree_of c.args.power c.args.pool.now)) (exponent_in (tree_of c.args.power c.args.pool.now)) (tree_of c.in-Again.tree c.power_step.new.pool) c.requires.base (half_step (base_in (tree_of c.args.power c.args.pool.now)) (exponent_in (tree_of c.args.power c.args.pool.now)) (tree_of c.in-Again.tree c.power_step.new.pool) c.requires.half (given_told (is_again c.args.power c.args.pool.now c.power_step.new.pool c.in-Again.is c.in_ok-answer.ensures.ok)).0)).reduced;
 }
 
-pub returns-in_err-rooted-in-Again : goal.returns-in_err-rooted-in-Again
-returns-in_err-rooted-in-Again c =
-    record {
-      ok = search rules;
-      defined = let h = half_step (base_in (tree_of c.args.power c.args.pool.now)) (exponent_in (tree_of c.args.power c.args.pool.now)) (tree_of c.in-Again.tree c.power_step.new.pool) c.requires.half (given_told (is_again c.args.power c.args.pool.now c.power_step.new.pool c.in-Again.is c.in_ok-answer.ensures.ok)).0 in passed_on c.from_residual-in_err-rooted-in-Again.result c.in_err-rooted-in-Again.field-0.0 _ c.from_residual-in_err-rooted-in-Again.ensures.0 c.from_residual-in_err-rooted-in-Again.ensures.1 (any_fault c.in_err-rooted-in-Again.field-0.0 _ (half_defined (tree_of c.args.power c.args.pool.now) c.requires.power c.requires.half h.defined));
-      front = front_next (is_again c.args.power c.args.pool.now c.power_step.new.pool c.in-Again.is c.in_ok-answer.ensures.ok) c.power_step.ensures.front c.reduce_base.ensures.front;
-      kept = search rules;
-      faults = search rules;
-      caused = search rules;
-      room = λ gs s. let g = is_again c.args.power c.args.pool.now c.power_step.new.pool c.in-Again.is c.in_ok-answer.ensures.ok in let h = half_step (base_in (tree_of c.args.power c.args.pool.now)) (exponent_in (tree_of c.args.power c.args.pool.now)) (tree_of c.in-Again.tree c.power_step.new.pool) c.requires.half (given_told g).0 in let moved = replaced_free c.requires.stands c.in_ok-answer.ensures.stands c.in_ok-answer.ensures.kept c.requires.handed g in passed_on c.from_residual-in_err-rooted-in-Again.result c.in_err-rooted-in-Again.field-0.0 _ c.from_residual-in_err-rooted-in-Again.ensures.0 c.from_residual-in_err-rooted-in-Again.ensures.1 (base_finds_none gs (base_in (tree_of c.args.power c.args.pool.now)) (exponent_in (tree_of c.args.power c.args.pool.now)) (tree_of c.in-Again.tree c.power_step.new.pool) (free_of c.power_step.new.pool) _ c.in_err-rooted-in-Again.field-0.0 c.requires.base s h moved c.in_err-rooted-in-Again.ensures.room);
-      bits = λ h l z a few more. let s = half_step (base_in (tree_of c.args.power c.args.pool.now)) (exponent_in (tree_of c.args.power c.args.pool.now)) (tree_of c.in-Again.tree c.power_step.new.pool) c.requires.half (given_told (is_again c.args.power c.args.pool.now c.power_step.new.pool c.in-Again.is c.in_ok-answer.ensures.ok)).0 in passed_on c.from_residual-in_err-rooted-in-Again.result c.in_err-rooted-in-Again.field-0.0 _ c.from_residual-in_err-rooted-in-Again.ensures.0 c.from_residual-in_err-rooted-in-Again.ensures.1 (c.in_err-rooted-in-Again.ensures.bits h l (subst (λ (x : Tree). IsFactorHeld (argument_of (base_in x)) h l) (sym s.is) a) few);
-      stands = search rules;
-    }
+pub returns-in_err-rooted-in-Again-clause-defined : goal.returns-in_err-rooted-in-Again-clause-defined
+returns-in_err-rooted-in-Again-clause-defined c = let h = half_step (base_in (tree_of c.args.power c.args.pool.now)) (exponent_in (tree_of c.args.power c.args.pool.now)) (tree_of c.in-Again.tree c.power_step.new.pool) c.requires.half (given_told (is_again c.args.power c.args.pool.now c.power_step.new.pool c.in-Again.is c.in_ok-answer.ensures.ok)).0 in passed_on c.from_residual-in_err-rooted-in-Again.result c.in_err-rooted-in-Again.field-0.0 _ c.from_residual-in_err-rooted-in-Again.ensures.0 c.from_residual-in_err-rooted-in-Again.ensures.1 (any_fault c.in_err-rooted-in-Again.field-0.0 _ (half_defined (tree_of c.args.power c.args.pool.now) c.requires.power c.requires.half h.defined))
+
+pub returns-in_err-rooted-in-Again-clause-front : goal.returns-in_err-rooted-in-Again-clause-front
+returns-in_err-rooted-in-Again-clause-front c = front_next (is_again c.args.power c.args.pool.now c.power_step.new.pool c.in-Again.is c.in_ok-answer.ensures.ok) c.power_step.ensures.front c.reduce_base.ensures.front
+
+pub returns-in_err-rooted-in-Again-clause-room : goal.returns-in_err-rooted-in-Again-clause-room
+returns-in_err-rooted-in-Again-clause-room c = λ gs s. let g = is_again c.args.power c.args.pool.now c.power_step.new.pool c.in-Again.is c.in_ok-answer.ensures.ok in let h = half_step (base_in (tree_of c.args.power c.args.pool.now)) (exponent_in (tree_of c.args.power c.args.pool.now)) (tree_of c.in-Again.tree c.power_step.new.pool) c.requires.half (given_told g).0 in let moved = replaced_free c.requires.stands c.in_ok-answer.ensures.stands c.in_ok-answer.ensures.kept c.requires.handed g in passed_on c.from_residual-in_err-rooted-in-Again.result c.in_err-rooted-in-Again.field-0.0 _ c.from_residual-in_err-rooted-in-Again.ensures.0 c.from_residual-in_err-rooted-in-Again.ensures.1 (base_finds_none gs (base_in (tree_of c.args.power c.args.pool.now)) (exponent_in (tree_of c.args.power c.args.pool.now)) (tree_of c.in-Again.tree c.power_step.new.pool) (free_of c.power_step.new.pool) _ c.in_err-rooted-in-Again.field-0.0 c.requires.base s h moved c.in_err-rooted-in-Again.ensures.room)
+
+pub returns-in_err-rooted-in-Again-clause-bits : goal.returns-in_err-rooted-in-Again-clause-bits
+returns-in_err-rooted-in-Again-clause-bits c = λ h l z a few more. let s = half_step (base_in (tree_of c.args.power c.args.pool.now)) (exponent_in (tree_of c.args.power c.args.pool.now)) (tree_of c.in-Again.tree c.power_step.new.pool) c.requires.half (given_told (is_again c.args.power c.args.pool.now c.power_step.new.pool c.in-Again.is c.in_ok-answer.ensures.ok)).0 in passed_on c.from_residual-in_err-rooted-in-Again.result c.in_err-rooted-in-Again.field-0.0 _ c.from_residual-in_err-rooted-in-Again.ensures.0 c.from_residual-in_err-rooted-in-Again.ensures.1 (c.in_err-rooted-in-Again.ensures.bits h l (subst (λ (x : Tree). IsFactorHeld (argument_of (base_in x)) h l) (sym s.is) a) few)
 
 pub last_step-requires : goal.last_step-requires
 last_step-requires c = record {
@@ -64,16 +62,11 @@ returns-in_ok-rooted-in-Again c =
 
 -- ---- operations that do not fit
 
-pub returns-in_err-answer : goal.returns-in_err-answer
-returns-in_err-answer c =
-    record {
-      ok = search rules;
-      defined = passed_on c.from_residual.result c.in_err-answer.field-0.0 _ c.from_residual.ensures.0 c.from_residual.ensures.1 (misfit_fault (tree_of c.args.power c.args.pool.now) c.in_err-answer.field-0.0 c.requires.power c.in_err-answer.ensures.overflow);
-      front = search rules;
-      kept = search rules;
-      faults = search rules;
-      caused = search rules;
-      room = λ gs s. passed_on c.from_residual.result c.in_err-answer.field-0.0 _ c.from_residual.ensures.0 c.from_residual.ensures.1 (step_finds_none gs (tree_of c.args.power c.args.pool.now) (free_of c.args.pool.now) c.in_err-answer.field-0.0 c.requires.base s (c.in_err-answer.ensures.root_room c.requires.half));
-      bits = λ h l z a few more. passed_on c.from_residual.result c.in_err-answer.field-0.0 _ c.from_residual.ensures.0 c.from_residual.ensures.1 (half_fits (base_in (tree_of c.args.power c.args.pool.now)) (exponent_in (tree_of c.args.power c.args.pool.now)) c.in_err-answer.field-0.0 c.requires.half c.in_err-answer.ensures.overflow);
-      stands = search rules;
-    }
+pub returns-in_err-answer-clause-defined : goal.returns-in_err-answer-clause-defined
+returns-in_err-answer-clause-defined c = passed_on c.from_residual.result c.in_err-answer.field-0.0 _ c.from_residual.ensures.0 c.from_residual.ensures.1 (misfit_fault (tree_of c.args.power c.args.pool.now) c.in_err-answer.field-0.0 c.requires.power c.in_err-answer.ensures.overflow)
+
+pub returns-in_err-answer-clause-room : goal.returns-in_err-answer-clause-room
+returns-in_err-answer-clause-room c = λ gs s. passed_on c.from_residual.result c.in_err-answer.field-0.0 _ c.from_residual.ensures.0 c.from_residual.ensures.1 (step_finds_none gs (tree_of c.args.power c.args.pool.now) (free_of c.args.pool.now) c.in_err-answer.field-0.0 c.requires.base s (c.in_err-answer.ensures.root_room c.requires.half))
+
+pub returns-in_err-answer-clause-bits : goal.returns-in_err-answer-clause-bits
+returns-in_err-answer-clause-bits c = λ h l z a few more. passed_on c.from_residual.result c.in_err-answer.field-0.0 _ c.from_residual.ensures.0 c.from_residual.ensures.1 (half_fits (base_in (tree_of c.args.power c.args.pool.now)) (exponent_in (tree_of c.args.power c.args.pool.now)) c.in_err-answer.field-0.0 c.requires.half c.in_err-answer.ensures.overflow)

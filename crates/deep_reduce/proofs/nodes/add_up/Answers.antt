@@ -16,9 +16,7 @@ returns-then-children-eq0-clause-ok c =
     (λ t e. empty_sum_told (tree_of c.args.sum c.args.pool.now) t c.requires.sum (sym (many (goal.at.returns-then-children-eq0-clause-ok c).After-children) ∙ c.if-children-eq0.true) e)
 
 pub reduce_sum-requires-clause-some : goal.reduce_sum-requires-clause-some
-reduce_sum-requires-clause-some c =
-    let n = many (goal.at.reduce_sum-requires-clause-some c).After-children in
-    omega (arith, n, c.if-children-eq0.false)
+reduce_sum-requires-clause-some c = omega (arith, many (goal.at.reduce_sum-requires-clause-some c).After-children, c.if-children-eq0.false)
 
 pub returns : goal.returns
 returns c =

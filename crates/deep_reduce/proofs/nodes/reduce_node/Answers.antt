@@ -102,8 +102,7 @@ pub returns-in-Add-clause-room : goal.returns-in-Add-clause-room
 returns-in-Add-clause-room c = λ gs ns n h k s.
     let t : Tree = tree_of c.args.tree c.args.pool.now in
     let kind = sym c.in-Add.is ∙ kind-is (goal.at.returns-in-Add-clause-room c).After-kind in
-    let is = sum_kind t kind in
-    result_lacks c.add_up.result (c.add_up.ensures.room gs (node_spans gs t kind (λ e. cc) s)) (λ l. omega (arith, l, sum_fits t n (2 ^ length gs) is h))
+    result_lacks c.add_up.result (c.add_up.ensures.room gs (node_spans gs t kind (λ e. cc) s)) (λ l. omega (arith, l, sum_fits t n (2 ^ length gs) (sum_kind t kind) h))
 
 pub returns-in-Mult-clause-room : goal.returns-in-Mult-clause-room
 returns-in-Mult-clause-room c = λ gs ns n h k s.

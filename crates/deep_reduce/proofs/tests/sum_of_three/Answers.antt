@@ -8,9 +8,7 @@ pub loop-n-init : goal.loop-n-init
 loop-n-init c = record { changes = changes_same (empty_sum (c.in_ok-sum.ensures.given refl)); stands = c.in_ok-sum.ensures.stands }
 
 pub children-last-requires-clause-live : goal.children-last-requires-clause-live
-children-last-requires-clause-live c =
-    let t = (placed c.loop-n.invariant.changes.sum c.in_ok-term.ensures.given).takes in
-    sum_live c.number.new.pool c.id.ensures t.sum
+children-last-requires-clause-live c = sum_live c.number.new.pool c.id.ensures ((placed c.loop-n.invariant.changes.sum c.in_ok-term.ensures.given).takes).sum
 
 pub add_child-requires : goal.add_child-requires
 add_child-requires c =
@@ -27,8 +25,7 @@ pub loop-n-preserved : goal.loop-n-preserved
 loop-n-preserved c =
     let i = c.loop-n.invariant in
     let t = (placed i.changes.sum c.in_ok-term.ensures.given).takes in
-    let x = put_in c.children-last.result t (c.add_child.ensures.root t.sum.handed.root) in
-    record { changes = changes_after i.changes x.changes; stands = c.add_child.ensures.stands }
+    record { changes = changes_after i.changes (put_in c.children-last.result t (c.add_child.ensures.root t.sum.handed.root)).changes; stands = c.add_child.ensures.stands }
 
 pub returns-clause-sum : goal.returns-clause-sum
 returns-clause-sum c =

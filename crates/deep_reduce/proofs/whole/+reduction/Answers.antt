@@ -44,22 +44,17 @@ reduce_product-join_pairs-requires t c =
       (c.in_ok-answer.ensures.stands, (given_handed g, (gathered_product _ _ j, (j.reduced, (place, is_few c.args.product c.args.pool.now c.gather_factors.new.pool c.in-Joined.is c.in_ok-answer.ensures.fits))))),
     )
 
-pub reduce_product-returns-in_err-joined-in-Joined : goal.reduce_product-returns-in_err-joined-in-Joined
-reduce_product-returns-in_err-joined-in-Joined t c =
-    record {
-      ok = search rules;
-      joined = search rules;
-      written = search rules;
-      rationals = search rules;
-      defined = let j = given_told (is_gathered c.args.product c.args.pool.now c.gather_factors.new.pool c.in-Joined.is c.in_ok-answer.ensures.gathered) in passed_on c.from_residual-in_err-joined-in-Joined.result c.in_err-joined-in-Joined.field-0.0 _ c.from_residual-in_err-joined-in-Joined.ensures.0 c.from_residual-in_err-joined-in-Joined.ensures.1 (any_fault c.in_err-joined-in-Joined.field-0.0 _ j.joinable.defined);
-      front = front_next (is_gathered c.args.product c.args.pool.now c.gather_factors.new.pool c.in-Joined.is c.in_ok-answer.ensures.gathered) c.gather_factors.ensures.front c.join_pairs.ensures.front;
-      kept = search rules;
-      faults = search rules;
-      caused = search rules;
-      room = λ gs ns k s. let g = is_gathered c.args.product c.args.pool.now c.gather_factors.new.pool c.in-Joined.is c.in_ok-answer.ensures.gathered in let u : Tree = tree_of c.in-Joined.product c.gather_factors.new.pool in let x = handed_on (tree_of c.args.product c.args.pool.now) u c.requires.product (product_words u (gathered_product _ _ (given_told g))) (gathered_hands c.args.product c.args.pool.now c.gather_factors.new.pool c.requires.product c.in-Joined.is c.in_ok-answer.ensures.gathered c.in_ok-answer.ensures.counted_among c.in_ok-answer.ensures.few_numbers c.in_ok-answer.ensures.powers c.in_ok-answer.ensures.spanned c.in_ok-answer.ensures.factors_held) gs ns k s in passed_on c.from_residual-in_err-joined-in-Joined.result c.in_err-joined-in-Joined.field-0.0 _ c.from_residual-in_err-joined-in-Joined.ensures.0 c.from_residual-in_err-joined-in-Joined.ensures.1 (lacks_as c.in_err-joined-in-Joined.field-0.0 (c.in_err-joined-in-Joined.ensures.room gs ns x.calm x.spanned) (λ l. omega (arith, l, x.needs, replaced_free c.requires.stands c.in_ok-answer.ensures.stands c.in_ok-answer.ensures.kept c.requires.handed g)));
-      bits = λ h l a few. passed_on c.from_residual-in_err-joined-in-Joined.result c.in_err-joined-in-Joined.field-0.0 _ c.from_residual-in_err-joined-in-Joined.ensures.0 c.from_residual-in_err-joined-in-Joined.ensures.1 (c.in_err-joined-in-Joined.ensures.bits h l ((gathered_hands c.args.product c.args.pool.now c.gather_factors.new.pool c.requires.product c.in-Joined.is c.in_ok-answer.ensures.gathered c.in_ok-answer.ensures.counted_among c.in_ok-answer.ensures.few_numbers c.in_ok-answer.ensures.powers c.in_ok-answer.ensures.spanned c.in_ok-answer.ensures.factors_held).held h l a) few);
-      stands = search rules;
-    }
+pub reduce_product-returns-in_err-joined-in-Joined-clause-defined : goal.reduce_product-returns-in_err-joined-in-Joined-clause-defined
+reduce_product-returns-in_err-joined-in-Joined-clause-defined t c = let j = given_told (is_gathered c.args.product c.args.pool.now c.gather_factors.new.pool c.in-Joined.is c.in_ok-answer.ensures.gathered) in passed_on c.from_residual-in_err-joined-in-Joined.result c.in_err-joined-in-Joined.field-0.0 _ c.from_residual-in_err-joined-in-Joined.ensures.0 c.from_residual-in_err-joined-in-Joined.ensures.1 (any_fault c.in_err-joined-in-Joined.field-0.0 _ j.joinable.defined)
+
+pub reduce_product-returns-in_err-joined-in-Joined-clause-front : goal.reduce_product-returns-in_err-joined-in-Joined-clause-front
+reduce_product-returns-in_err-joined-in-Joined-clause-front t c = front_next (is_gathered c.args.product c.args.pool.now c.gather_factors.new.pool c.in-Joined.is c.in_ok-answer.ensures.gathered) c.gather_factors.ensures.front c.join_pairs.ensures.front
+
+pub reduce_product-returns-in_err-joined-in-Joined-clause-room : goal.reduce_product-returns-in_err-joined-in-Joined-clause-room
+reduce_product-returns-in_err-joined-in-Joined-clause-room t c = λ gs ns k s. let g = is_gathered c.args.product c.args.pool.now c.gather_factors.new.pool c.in-Joined.is c.in_ok-answer.ensures.gathered in let u : Tree = tree_of c.in-Joined.product c.gather_factors.new.pool in let x = handed_on (tree_of c.args.product c.args.pool.now) u c.requires.product (product_words u (gathered_product _ _ (given_told g))) (gathered_hands c.args.product c.args.pool.now c.gather_factors.new.pool c.requires.product c.in-Joined.is c.in_ok-answer.ensures.gathered c.in_ok-answer.ensures.counted_among c.in_ok-answer.ensures.few_numbers c.in_ok-answer.ensures.powers c.in_ok-answer.ensures.spanned c.in_ok-answer.ensures.factors_held) gs ns k s in passed_on c.from_residual-in_err-joined-in-Joined.result c.in_err-joined-in-Joined.field-0.0 _ c.from_residual-in_err-joined-in-Joined.ensures.0 c.from_residual-in_err-joined-in-Joined.ensures.1 (lacks_as c.in_err-joined-in-Joined.field-0.0 (c.in_err-joined-in-Joined.ensures.room gs ns x.calm x.spanned) (λ l. omega (arith, l, x.needs, replaced_free c.requires.stands c.in_ok-answer.ensures.stands c.in_ok-answer.ensures.kept c.requires.handed g)))
+
+pub reduce_product-returns-in_err-joined-in-Joined-clause-bits : goal.reduce_product-returns-in_err-joined-in-Joined-clause-bits
+reduce_product-returns-in_err-joined-in-Joined-clause-bits t c = λ h l a few. passed_on c.from_residual-in_err-joined-in-Joined.result c.in_err-joined-in-Joined.field-0.0 _ c.from_residual-in_err-joined-in-Joined.ensures.0 c.from_residual-in_err-joined-in-Joined.ensures.1 (c.in_err-joined-in-Joined.ensures.bits h l ((gathered_hands c.args.product c.args.pool.now c.gather_factors.new.pool c.requires.product c.in-Joined.is c.in_ok-answer.ensures.gathered c.in_ok-answer.ensures.counted_among c.in_ok-answer.ensures.few_numbers c.in_ok-answer.ensures.powers c.in_ok-answer.ensures.spanned c.in_ok-answer.ensures.factors_held).held h l a) few)
 
 pub reduce_product-reduce_product-requires : goal.reduce_product-reduce_product-requires
 reduce_product-reduce_product-requires t c =
@@ -215,8 +210,7 @@ reduce_joint-returns-in_err-power t c =
 pub reduce_joint-reduce_power-requires : goal.reduce_joint-reduce_power-requires
 reduce_joint-reduce_power-requires t c =
     let o = over_product c.requires.handed c.requires.product in
-    let n = placed c.args.at _ c.requires.joint.within in
-    let a = factor_taken c.args.at n o (c.take_child-joint.ensures.last c.requires.handed.root) in
+    let a = factor_taken c.args.at (placed c.args.at _ c.requires.joint.within) o (c.take_child-joint.ensures.last c.requires.handed.root) in
     let r = ready_joint _ (joint_at c.requires.joint) in
     let g = c.in_ok-power.ensures.ok in
     let s = subst (λ (x : Tree). IsSummed (base_in x) (children_of (exponent_in x)) (tree_of c.in_ok-power.power c.sum_exponent.new.pool)) (given_told a.gives) (given_told g) in
@@ -294,8 +288,7 @@ reduce_power-returns-in-Done-clause-ok t c =
 pub reduce_power-reduce_rewritten-requires : goal.reduce_power-reduce_rewritten-requires
 reduce_power-reduce_rewritten-requires t c =
     let g = is_again c.args.power c.args.pool.now c.power_step.new.pool c.in-Again.is c.in_ok-answer.ensures.ok in
-    let w = given_told g in
-    let o = opened _ _ _ (sym c.has_half_exponent.ensures ∙ c.if-has_half_exponent.false) c.requires.base c.requires.exponent w.0 in
+    let o = opened _ _ _ (sym c.has_half_exponent.ensures ∙ c.if-has_half_exponent.false) c.requires.base c.requires.exponent (given_told g).0 in
     (below_measure c.decreases (rewritten_falls _ _ c.requires.power o), (c.in_ok-answer.ensures.stands, (given_handed g, o.unfinished)))
 
 pub reduce_power-returns-in-Again : goal.reduce_power-returns-in-Again
@@ -371,9 +364,8 @@ reduce_rewritten-reduce_exponent-requires t c =
 pub reduce_rewritten-reduce_power-requires : goal.reduce_rewritten-reduce_power-requires
 reduce_rewritten-reduce_power-requires t c =
     let k = kind_of_root {k = c.kind.result} c.id.ensures c.requires.stands c.requires.handed c.kind.ensures.plain in
-    let p = power_of_kind _ (no_product_kind _ (λ e. c.in_default.not-Mult (k ∙ sym e))) c.requires.unfinished in
     let g = c.in_ok-power-in_default.ensures.ok in
-    let y = ready_power _ _ p c.requires.unfinished (given_told g) in
+    let y = ready_power _ _ (power_of_kind _ (no_product_kind _ (λ e. c.in_default.not-Mult (k ∙ sym e))) c.requires.unfinished) c.requires.unfinished (given_told g) in
     (below_measure c.decreases (ready_power_falls _ _ y), (c.in_ok-power-in_default.ensures.stands, (given_handed g, (y.is, (y.base_reduced, y.exponent_reduced)))))
 
 pub reduce_rewritten-returns-in_ok-power-in_default : goal.reduce_rewritten-returns-in_ok-power-in_default
@@ -487,15 +479,12 @@ reduce_powers-returns-clause-ok t c =
 pub reduce_powers-returns-clause-front : goal.reduce_powers-returns-clause-front
 reduce_powers-returns-clause-front t c =
     let many = c.children-powers.ensures.value ∙ children_at (over_product c.requires.handed c.requires.product) c.requires.stands c.id.ensures in
-    let x = all_reduced c.loop-at.invariant.part (omega (arith, many, c.loop-at-test.false)) in
-    moved_front x.added c.move_last.ensures.last
+    moved_front (all_reduced c.loop-at.invariant.part (omega (arith, many, c.loop-at-test.false))).added c.move_last.ensures.last
 
 -- ---- reduce_exponent
 
 pub reduce_exponent-child_id-exponent-requires-clause-within : goal.reduce_exponent-child_id-exponent-requires-clause-within
-reduce_exponent-child_id-exponent-requires-clause-within t c =
-    let o = over_power _ c.requires.handed refl c.requires.power in
-    omega (arith, children_at o c.requires.stands c.id.ensures)
+reduce_exponent-child_id-exponent-requires-clause-within t c = omega (arith, children_at (over_power _ c.requires.handed refl c.requires.power) c.requires.stands c.id.ensures)
 
 pub reduce_exponent-reduce_product-requires : goal.reduce_exponent-reduce_product-requires
 reduce_exponent-reduce_product-requires t c =
