@@ -1,15 +1,12 @@
 -- The joint of two factors: how it nests, and that it is never opaque.
-use Rattle.std.proofs.Common.{◌≡◌, suc, ◌≤◌, inl, inr, Bool, true, false, if◌then◌else◌, pos, refl, ap, ◌∙◌, subst, arith, max}
-use Rattle.deep_reduce.proofs.Shared.{and_parts, one_fraction, nest, nest_of, weight, load_of_factor, is_number, IsNumber, IsTerm, AreTerms, is_term, term_of, are_numbers, is_reduced, is_opaque_exponent, is_whole_num, num_one, base_of, IsSumForm, NoneIs, number_terms, other_terms, Tree, add, power, Trees, none, more, is_add, whole_denominator, number_test, number_words, term_words, reduced_parts, number_of_term, nest_over, nest_of_joint, exponent_of, joint, cases_Bool}
+use Rattle.std.proofs.Common.{◌≡◌, suc, ◌≤◌, inl, inr, Bool, true, false, if◌then◌else◌, refl, ap, ◌∙◌, subst, arith, max}
+use Rattle.deep_reduce.proofs.Shared.{and_parts, nest, nest_of, weight, load_of_factor, is_number, IsNumber, IsTerm, AreTerms, is_term, term_of, are_numbers, is_reduced, is_opaque_exponent, num_one, base_of, IsSumForm, NoneIs, number_terms, other_terms, Tree, add, power, Trees, none, more, is_add, number_test, number_words, term_words, reduced_parts, number_of_term, nest_over, nest_of_joint, exponent_of, joint, cases_Bool}
+use Rattle.node_bounds.proofs.Calm.{one_whole}
 use Rattle.node_bounds.proofs.Clashes.{contrary, exponent_reduced, two_terms, power_no_number}
 use Rattle.deep_reduce.proofs.Heavy.{over_base, over_exponents}
 use Rattle.calc_measures.proofs.Weights.{to_number, to_other, base_nest}
 
 -- ---- exponents
-
-one_whole : is_whole_num num_one ≡ true
-unfolding one_fraction
-one_whole = rw (whole_denominator (pos 1)) refl
 
 one_number : is_number num_one ≡ true
 one_number = number_test num_one tt
@@ -30,11 +27,7 @@ two_rationals e f o p h = absurd (omega (arith, h.2.0.0, rational_term e h.1.0 o
 
 -- the sum of two such exponents is no Number as it stands
 pub no_number_sum : (e f : Tree) → is_opaque_exponent e ≡ false → is_opaque_exponent f ≡ false → is_number (add (more e (more f none))) ≡ false
-no_number_sum e f o p = by (is_number (add (more e (more f none)))) refl
-  where
-    by : (x : Bool) → is_number (add (more e (more f none))) ≡ x → x ≡ false
-    by true h = absurd (two_rationals e f o p (number_words (add (more e (more f none))) h))
-    by false h = refl
+no_number_sum e f o p = elim (cases_Bool (is_number (add (more e (more f none))))) [ inl h ↦ absurd (two_rationals e f o p (number_words (add (more e (more f none))) h)) | inr h ↦ h ]
 
 -- the load of a joint is the weight of its base
 pub joint_load : (b e f : Tree) → is_opaque_exponent e ≡ false → is_opaque_exponent f ≡ false → load_of_factor (power b (add (more e (more f none)))) ≡ weight b

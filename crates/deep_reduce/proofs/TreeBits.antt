@@ -1,6 +1,6 @@
 -- What holds the answers of children holds the node over them, by the bounds of the tree.
-use Rattle.std.proofs.Common.{◌≡◌, ◌≤◌, ℤ, Bool, true, false, ◌&&◌, ◌||◌, Option, Some, None, refl, sym, ap, ◌∙◌, subst, arith}
-use Rattle.deep_reduce.proofs.Shared.{numerator, is_half_num, and_parts, whole_literal, half_literal, or_literal, is_whole_literal, is_half_literal, all_simple, are_all_simple, is_simple_power, power_bounds, bounds, bounds_of_factors, high, low, Tree, num, symbol, power, Trees, none, more, is_num, is_symbol, is_undef, has_undef, is_leaf, HoldsPower, holds_whole, holds_half, holds_kept, HoldsNode, IsNodeAnswer, IsReducedFrom, IsFactorHeld, AreFactorsHeld, none_held, AreTreesHeld, raised_high, raised_low, factor_is_held, symbol_is_held, children_of, or_parts, number_reduced, or_from}
+use Rattle.std.proofs.Common.{◌≡◌, ◌≤◌, ℤ, true, false, ◌&&◌, ◌||◌, Option, Some, None, refl, sym, ap, ◌∙◌, subst, arith, inl, inr}
+use Rattle.deep_reduce.proofs.Shared.{numerator, is_half_num, and_parts, whole_literal, half_literal, or_literal, is_whole_literal, is_half_literal, all_simple, are_all_simple, is_simple_power, power_bounds, bounds, bounds_of_factors, high, low, Tree, num, symbol, power, Trees, none, more, is_num, is_symbol, is_undef, has_undef, is_leaf, HoldsPower, holds_whole, holds_half, holds_kept, HoldsNode, IsNodeAnswer, IsReducedFrom, IsFactorHeld, AreFactorsHeld, none_held, AreTreesHeld, raised_high, raised_low, factor_is_held, symbol_is_held, children_of, or_parts, number_reduced, or_from, cases_Bool}
 use Rattle.node_bounds.proofs.Clashes.{clash, or_other}
 use Rattle.node_bounds.proofs.HeldFactors.{factor_tree, tree_factor, undef_factor}
 use Rattle.calc_measures.proofs.LiteralValues.{whole_answer, half_literal_answer}
@@ -93,11 +93,7 @@ holds_over t u s (over_sub a c b e h k) d = grind (arith, and_parts, first_side,
 holds_over t u s (over_div a c b e h k) d = grind (arith, and_parts, first_side, second_side, over_div)
 
 defined_node : (u r : Tree) → IsNodeAnswer u r → is_undef r ≡ false → has_undef (children_of u) ≡ false
-defined_node u r a d = by (has_undef (children_of u)) refl
-  where
-    by : (b : Bool) → has_undef (children_of u) ≡ b → b ≡ false
-    by false e = refl
-    by true e = clash (sym (ap is_undef (a.undefined (undef_has_no_value u e))) ∙ d)
+defined_node u r a d = elim (cases_Bool (has_undef (children_of u))) [ inl e ↦ clash (sym (ap is_undef (a.undefined (undef_has_no_value u e))) ∙ d) | inr e ↦ e ]
 
 pub node_held : (t u r : Tree) → IsOver t u → IsNodeAnswer u r → all_simple t ≡ true → is_undef r ≡ false → IsFactorHeld r (high t) (low t)
 node_held t u r h a s d = a.held d (high t) (low t) (holds_over t u s h (defined_node u r a d))

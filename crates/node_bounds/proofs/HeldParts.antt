@@ -1,6 +1,6 @@
 -- A power as a factor: what holds it holds its answer, and within few bits it fits.
-use Rattle.std.proofs.Common.{◌≡◌, ℕ, ◌*◌, ◌≤◌, ℤ, Bool, true, false, None, Result, refl, sym, ap, ◌∙◌, subst, arith, IfErr, IsOk, nat_abs}
-use Rattle.node_bounds.proofs.Shared.{eqb-true, mul-le, whole_fraction, Tree, num, power, none, more, is_undef, is_reduced, is_half_num, is_whole_num, IsReducedPower, lacks_power, HasFewBits, HasFewBitsRaised, has_number_power, is_zero_or_one, rewritten, IsFactorHeld, is_counted, IsPartHeld, factor_held, raised_high, raised_low, OfOverflow, NumberFault, whole_exponent}
+use Rattle.std.proofs.Common.{◌≡◌, ℕ, ◌*◌, ◌≤◌, ℤ, Bool, true, false, None, Result, refl, sym, ap, ◌∙◌, subst, arith, IfErr, IsOk, nat_abs, inl, inr}
+use Rattle.node_bounds.proofs.Shared.{eqb-true, mul-le, whole_fraction, Tree, num, power, none, more, is_undef, is_reduced, is_half_num, is_whole_num, IsReducedPower, lacks_power, HasFewBits, HasFewBitsRaised, has_number_power, is_zero_or_one, rewritten, IsFactorHeld, is_counted, IsPartHeld, factor_held, raised_high, raised_low, OfOverflow, NumberFault, whole_exponent, cases_Bool}
 use Rattle.node_bounds.proofs.Clashes.{clash}
 use Rattle.node_bounds.proofs.HeldFactors.{factor_wider, power_factor, base_factor}
 use Rattle.tree_bits.proofs.RaisedBits.{raised_most, counted_bits}
@@ -68,11 +68,7 @@ fine r h = grind arith
 pub part_fits : {A : Type 0} (c p : Tree) (r : Result A NumberFault) (h l : ℕ) → IsPartHeld (more (power c p) none) h l → HasFewBits h l
     → ((n : ℤ) (i j : ℕ) → p ≡ num (whole_fraction n) → IsFactorHeld c i j → HasFewBitsRaised n i j → IfErr r (OfOverflow (λ o. ⊥)))
     → (is_whole_num p ≡ false → is_half_num p ≡ false → IsOk r) → IfErr r (OfOverflow (λ o. ⊥))
-part_fits c p r h l k f bits others = by (is_whole_num p) refl
-  where
-    by : (b : Bool) → is_whole_num p ≡ b → IfErr r (OfOverflow (λ o. ⊥))
-    by true w =
-        let z = whole_exponent p w in
-        let m = base_of_part c p z.exponent z.is k in
-        bits z.exponent m.i m.j z.is m.base (omega (arith, m.high, m.low, f))
-    by false w = fine r (others w (counted_no_half p (counted_exponent k)))
+part_fits c p r h l k f bits others = elim (cases_Bool (is_whole_num p)) [
+  | inl w ↦ let z = whole_exponent p w in let m = base_of_part c p z.exponent z.is k in bits z.exponent m.i m.j z.is m.base (omega (arith, m.high, m.low, f))
+  | inr w ↦ fine r (others w (counted_no_half p (counted_exponent k)))
+]
