@@ -58,11 +58,6 @@ abbrev pub AreTransparent : Trees → Type 0
 AreTransparent none = Unit {0}
 AreTransparent (more t ts) = IsTransparent t × AreTransparent ts
 
--- no tree of these makes a power opaque
-abbrev pub NoneIsOpaque : Trees → Type 0
-NoneIsOpaque none = Unit {0}
-NoneIsOpaque (more t ts) = (is_opaque_exponent t ≡ false) × NoneIsOpaque ts
-
 -- a reduced base to the power of a product of reduced trees
 pub record IsNested (b : Tree) (ts : Trees) : Type 0 where
   pub base_reduced : is_reduced b ≡ true
