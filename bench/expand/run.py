@@ -3,9 +3,10 @@
 
     bench/expand/run.py [PROGRAM] [RUNS]
 
-Each line is expanded 20 times by a process of its own. What is printed is the wall time of one expansion, starting up left
-out: the least of RUNS runs (3), less what a process takes that reads nothing. A ratio is the other program's time over this
-program's. The last lines name the highest powers of sums of names that the default pool holds.
+Each line is expanded 100 times by a process of its own, in a pool that holds it and its face. What is printed is the wall
+time of one expansion, starting up left out: the least of RUNS runs (3), less what a process takes that reads nothing. A ratio
+is the other program's time over this program's. The last lines name the highest powers of sums of names that the default
+pool holds.
 """
 import pathlib
 import shutil
@@ -15,7 +16,7 @@ import sys
 sys.path.insert(0, str(pathlib.Path(__file__).resolve().parent.parent))
 from timed import built, least_seconds, plain
 
-TIMES = 20
+TIMES = 100
 
 LINES = [
     "(1+x)^32", "(x+y+z)^12", "(a+b+c+d)^6×(a-b)^3", "(x-1)^31×(x+1)", "(1+x)^16×(1-x)^16", "(1+x+x^2)^16", "(x+1/2)^20",
@@ -33,7 +34,7 @@ GREATEST_EXPONENT = 32
 
 def programs(program):
     """Each program with its words, what it reads first, and how it is asked to expand a line."""
-    yield "poincare", [program], "", ":expand {}\n".format
+    yield "poincare", [program, "--pool", "65536"], "", ":expand {}\n".format
     if shutil.which("ginsh"):
         yield "ginsh", ["ginsh"], "", lambda line: f"expand({plain(line)});\n"
     if shutil.which("maxima"):
