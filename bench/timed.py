@@ -1,52 +1,87 @@
-"""What benchmarks share that set this program beside others: each reads all lines from its standard input in a process of
-its own, and its answers go nowhere."""
+"""What the measures share: a row of the table, and the times of a process over lines.
+
+Each process reads all its lines from its standard input, and its answers go nowhere. Times are the least of a number of
+runs: processor times of the process and of what it starts, with starting up included unless a measure says otherwise.
+"""
 import os
+import pathlib
+import resource
 import subprocess
-import sys
 import tempfile
 import time
+from dataclasses import asdict, dataclass, field
 
-TOP = os.path.join(os.path.dirname(os.path.abspath(__file__)), "..")
+TOP = pathlib.Path(__file__).resolve().parent.parent
 
-PROGRAM = os.path.join(TOP, "crates", "poincare", "out", "poincare")
+
+@dataclass
+class Row:
+    """What was measured: its name, the number with its unit, and each peer's number over ours."""
+
+    name: str
+    value: float | None
+    unit: str
+    ratios: dict[str, float] = field(default_factory=dict)
+    note: str = ""
+
+    def as_json(self):
+        return {key: value for key, value in asdict(self).items() if value not in ({}, "")}
 
 
 def built():
     """The program, proved and built where it was not."""
-    subprocess.run([os.path.join(TOP, "poincare")], stdin=subprocess.DEVNULL, check=True)
-    return PROGRAM
+    subprocess.run([TOP / "poincare"], stdin=subprocess.DEVNULL, stdout=subprocess.DEVNULL, check=True)
+    return str(TOP / "crates" / "poincare" / "out" / "poincare")
 
 
 def plain(line):
+    """A line with the signs that other programs read."""
     return line.replace("√", "sqrt").replace("×", "*")
 
 
-def started(command, text):
-    """A process over the lines."""
+def as_input(text):
     source = tempfile.TemporaryFile()
     source.write(text.encode())
     source.seek(0)
-    return subprocess.Popen(command, stdin=source, stdout=subprocess.DEVNULL, stderr=subprocess.DEVNULL)
+    return source
 
 
-def seconds_of(command, text):
-    begin = time.monotonic()
-    if started(command, text).wait() != 0:
-        print(f"{command[0]} did not end well", file=sys.stderr)
-    return time.monotonic() - begin
+def run(command, text, limit=None):
+    """The processor time and the wall time of one run; nothing where it takes more than `limit` seconds."""
+    before, begun = resource.getrusage(resource.RUSAGE_CHILDREN), time.monotonic()
+    how = {"stdin": as_input(text), "stdout": subprocess.DEVNULL, "stderr": subprocess.DEVNULL}
+    try:
+        done = subprocess.run(command, timeout=limit, **how)
+    except subprocess.TimeoutExpired:
+        return None
+    if done.returncode:
+        raise SystemExit(f"{command[0]} ended with {done.returncode}")
+    after, wall = resource.getrusage(resource.RUSAGE_CHILDREN), time.monotonic() - begun
+    return after.ru_utime - before.ru_utime + after.ru_stime - before.ru_stime, wall
 
 
-def least_seconds(command, text, runs):
-    return min(seconds_of(command, text) for _ in range(runs))
+def least(command, text, runs, limit=None):
+    """The least processor time of some runs, or nothing where one takes too long."""
+    times = []
+    for _ in range(runs):
+        found = run(command, text, limit)
+        if found is None:
+            return None
+        times.append(found[0])
+    return min(times)
 
 
-def kilobytes_of(command, text):
+def least_wall(command, text, runs):
+    return min(run(command, text)[1] for _ in range(runs))
+
+
+def resident_kilobytes(command, text):
     """The greatest resident size, read again and again until the process has ended."""
-    process, most = started(command, text), 0
+    how = {"stdin": as_input(text), "stdout": subprocess.DEVNULL, "stderr": subprocess.DEVNULL}
+    process, most = subprocess.Popen(command, **how), 0
     while process.poll() is None:
         try:
-            with open(f"/proc/{process.pid}/status") as status:
-                sizes = [line.split()[1] for line in status if line.startswith("VmHWM")]
+            sizes = [line.split()[1] for line in open(f"/proc/{process.pid}/status") if line.startswith("VmHWM")]
         except OSError:
             break
         most = max([most, *map(int, sizes)])

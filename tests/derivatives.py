@@ -1,14 +1,15 @@
 #!/usr/bin/env python3
 """Runs `:diff`: answers of a model, pools of every size, interruptions at every check, and slopes against sympy.
 
+    tests/derivatives.py [PROGRAM]
+
 `tests/derivatives.txt` has sessions as `tests/sessions.txt` has them; their answers come from a model apart from this
-code. 200 random lines are differentiated by `sympy`, too, and both are compared at random rationals. The last line says
-how many checks passed and failed; the status is 1 where one failed.
+code. 200 random lines are differentiated by `sympy`, too, and both are compared at random rationals.
 """
 import random
 import sys
 
-from sessions import answers, pool_and_bytes, run, sessions
+from asked import answer_and_change, answers, are_answered, checks_of, each, is_interrupted_at_each_of, run, sympy as installed_sympy
 
 TABLE = "derivatives.txt"
 POOL_LINES = [":diff x x^3", ":diff x 1/x", ":diff x √(x)×y", ":diff x (x+1)^2×(x-y)", ":diff y y^2/(1+y)", ":diff z 2+x"]
@@ -17,40 +18,26 @@ CHECKED_LINES = [":diff x x^3", ":diff x √(x)", ":diff x (x+1)^2", ":diff x x�
 
 def check_answers():
     """The answers are those of the model."""
-    return all(answers(lines) == wanted for lines, wanted in sessions(TABLE))
+    return are_answered(TABLE)
 
 
 def check_pools():
     """In pools of every size a line is answered as in a large one, or is Full; the pool is as it was."""
     for line in POOL_LINES:
         wanted = answers([line])[0]
-        answered = False
-        for size in range(64, 1400, 8):
-            word = f"--pool={size}"
-            given = answers([line], word)[0]
-            if given != wanted and (answered or not given.startswith("! full needed ")):
-                return False
-            answered = given == wanted
-            if pool_and_bytes([line], word) != pool_and_bytes([], word):
-                return False
-        if not answered:
+        told = list(each(lambda size: answer_and_change([], line, f"--pool={size}"), [(size,) for size in range(64, 1400, 8)]))
+        held = [given == wanted for given, _ in told]
+        least = held.index(True)
+        full = [given.startswith("! full needed ") for given, _ in told[:least]]
+        if not all(full) or not all(held[least:]) or not all(stays for _, stays in told):
+            print(line)
             return False
     return True
 
 
 def check_interruptions():
     """A line is interrupted by each of its checks, with the pool as it was, and answered where none is left."""
-    for line in CHECKED_LINES:
-        wanted = answers([line])[0]
-        before = pool_and_bytes([])
-        checks = 0
-        while answers([f":after {checks}", line])[-1] == "! interrupted":
-            if pool_and_bytes([f":after {checks}", line]) != before or checks > 200:
-                return False
-            checks += 1
-        if checks == 0 or answers([f":after {checks}", line])[-1] != wanted:
-            return False
-    return True
+    return all(0 < checks_of(line) <= 200 and is_interrupted_at_each_of(checks_of(line), line) for line in CHECKED_LINES)
 
 
 def random_line(random_source, depth):
@@ -78,8 +65,7 @@ def as_python(text):
 
 def check_slopes():
     """The slopes of 200 random lines are those of sympy."""
-    import sympy
-
+    sympy = installed_sympy()
     x, y = sympy.symbols("x y")
     source = random.Random(19)
     lines = [random_line(source, 3) for _ in range(200)]

@@ -1,18 +1,20 @@
 #!/usr/bin/env python3
 """Tries the edges of the program: words, standard input and output that fail, and memory that is refused.
 
+    tests/edges.py [PROGRAM] [memory]
+
 The built program is run. With the word `memory` its sources are run, too, by `rt try`, one refused request a run,
-which takes half an hour. The last line says how many checks passed and failed; the status is 1 where one failed.
+which takes half an hour.
 """
 import os
-import pathlib
 import subprocess
 import sys
 import tempfile
 import time
 
-TOP = pathlib.Path(__file__).resolve().parent.parent
-PROGRAM = TOP / "poincare"
+from asked import PROGRAM, TOP
+from asked import run as run_checks
+
 USAGE = b"usage: poincare"
 MOST_REQUESTS = 128
 
@@ -159,21 +161,5 @@ CHECKS = [
 MEMORY = [memory_refused_at_opening, memory_refused_at_words, memory_refused_in_generated_session]
 
 
-def main():
-    # The first run builds the program, so that what the build says is not taken for the program's own.
-    if subprocess.run([PROGRAM], stdin=subprocess.DEVNULL, stdout=subprocess.DEVNULL).returncode != 0:
-        print("the program is not built")
-        return 1
-    checks = CHECKS + (MEMORY if "memory" in sys.argv[1:] else [])
-    failed = 0
-    for check in checks:
-        good = check()
-        failed += not good
-        if not good:
-            print("failed:", check.__name__)
-    print(f"{len(checks) - failed} passed, {failed} failed")
-    return 1 if failed else 0
-
-
 if __name__ == "__main__":
-    sys.exit(main())
+    sys.exit(run_checks(CHECKS + (MEMORY if "memory" in sys.argv[1:] else [])))

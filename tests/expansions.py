@@ -1,18 +1,19 @@
 #!/usr/bin/env python3
 """Runs `:expand`: answers of a model, expansions against sympy, pools of every size, and interruptions at every check.
 
+    tests/expansions.py [PROGRAM]
+
 `tests/expansions.txt` has sessions as `tests/sessions.txt` has them; their answers come from a model apart from this
-code. Those of a single line are compared with what `sympy` expands, too. The last line says how many checks passed and
-failed; the status is 1 where one failed.
+code. Those of a single line are compared with what `sympy` expands, too.
 """
 import sys
 
-from sessions import answers, is_interrupted_at_each_of, pool_and_bytes, run, sessions
+from asked import GREATEST_POOL, answer_and_change, answers, are_answered, each, is_interrupted_at_each_of, pool_and_bytes, run, sessions
+from asked import sympy as installed_sympy
 from solutions import names_in, parsed
 
 TABLE = "expansions.txt"
 COMMAND = ":expand "
-GREATEST_POOL = "--pool=524280"
 
 # Each with its nodes, and the bytes within which it is expanded: 512 for each node, each name and one more, and each term
 # that its largest part may have.
@@ -42,18 +43,12 @@ ALIKE = [
 
 def check_answers():
     """The answers are those of the model, with as much room as there can be."""
-    for lines, wanted in sessions(TABLE):
-        given = answers(lines, GREATEST_POOL)
-        if given != wanted:
-            print(f"{lines}: {given}")
-            return False
-    return True
+    return are_answered(TABLE, GREATEST_POOL)
 
 
 def check_meanings():
     """Lines and answers are alike when sympy expands them."""
-    import sympy
-
+    sympy = installed_sympy()
     compared = 0
     for lines, _ in sessions(TABLE):
         given = answers(lines, GREATEST_POOL)[0]
@@ -83,24 +78,27 @@ def check_pools():
     """In pools of every size a line is answered as in a large one, or is Full; the pool is as it was. It is answered where
     its room is free."""
     for line, (_, room) in LINES.items():
-        wanted = answers([COMMAND + line])
-        answered = 0
-        size = 64
-        while answered < 20:
-            word = f"--pool={size}"
-            given = answers([COMMAND + line], word)
-            if given != wanted and (answered or not given[0].startswith("! full needed ")):
-                print(f"{line} in {word}: {given}")
+        asked = COMMAND + line
+        wanted = answers([asked])
+        least = least_pool(asked, wanted[0], room + 16)
+        told = each(lambda size: answer_and_change([], asked, f"--pool={size}"), [(size,) for size in range(64, least + 160, 8)])
+        for size, (given, stays) in zip(range(64, least + 160, 8), told):
+            if not stays or (given != wanted[0] if size >= least else not given.startswith("! full needed ")):
+                print(f"{line} in {size} bytes: {given}")
                 return False
-            answered += given == wanted
-            if pool_and_bytes([COMMAND + line], word) != pool_and_bytes([], word):
-                print(f"{line} in {word}: the pool is another")
-                return False
-            size += 8
-        if size > room or answers([COMMAND + line], f"--pool={room + 16}") != wanted:
+        if answers([asked], f"--pool={room + 16}") != wanted:
             print(f"{line}: within {room} bytes")
             return False
     return True
+
+
+def least_pool(line, wanted, enough):
+    """The least pool in which a line is answered, by halves."""
+    low, high = 64, enough // 8 * 8
+    while low < high:
+        middle = (low + high) // 16 * 8
+        low, high = (low, middle) if answers([line], f"--pool={middle}")[0] == wanted else (middle + 8, high)
+    return low
 
 
 def check_interruptions():

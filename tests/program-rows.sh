@@ -1,8 +1,9 @@
 #!/bin/sh
-# Runs the program on rows: its words, its input and its whole output, or the words that it refuses.
+# Runs the program on rows: its words, its input and its whole output, or the words that it refuses. Its argument is the
+# program; without one it is the launcher, which builds the program at first.
 # The last line says how many rows passed and failed; the status is 1 where one failed.
 top=$(cd "$(dirname "$0")/.." && pwd) || exit 1
-program=$top/poincare
+program=${1:-$top/poincare}
 folder=$(mktemp -d) || exit 1
 trap 'rm -rf "$folder"' EXIT
 passed=0

@@ -1,7 +1,12 @@
 #!/usr/bin/env python3
 """Runs the program on the samples of README.md and docs/LANGUAGE.md: sessions with their answers, lines that read
 alike, lines that are none, and pictures. With the word `table` it writes the sessions as the rows that the gate runs.
-The last line says how many samples passed and failed; the status is 1 where one failed."""
+
+    tests/samples.py [PROGRAM]
+    tests/samples.py table
+
+The last line says how many samples passed and failed; the status is 1 where one failed.
+"""
 
 import pathlib
 import re
@@ -9,7 +14,6 @@ import subprocess
 import sys
 
 TOP = pathlib.Path(__file__).resolve().parent.parent
-PROGRAM = TOP / "poincare"
 
 
 def cells_of(row):
@@ -67,6 +71,8 @@ def pictures_of(text):
 
 
 def written(words, lines):
+    from asked import PROGRAM
+
     done = subprocess.run([PROGRAM, *words], input="".join(line + "\n" for line in lines).encode(), capture_output=True, check=False)
     return done.returncode, done.stdout.decode().splitlines()
 

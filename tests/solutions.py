@@ -1,14 +1,16 @@
 #!/usr/bin/env python3
 """Runs `:solve`: answers of a model, solution sets against sympy, pools of every size, and interruptions at every check.
 
+    tests/solutions.py [PROGRAM]
+
 `tests/solutions.txt` has sessions as `tests/sessions.txt` has them; their answers come from a model apart from this
-code. The first 100 end with a system whose answer is compared as a set of solutions with that of `sympy`, too. The last
-line says how many checks passed and failed; the status is 1 where one failed.
+code. The first 100 end with a system whose answer is compared as a set of solutions with that of `sympy`, too.
 """
 import re
 import sys
 
-from sessions import answers, is_interrupted_at_each_of, pool_and_bytes, run, sessions
+from asked import answer_and_change, answers, are_answered, each, is_interrupted_at_each_of, run, sessions
+from asked import sympy as installed_sympy
 
 TABLE = "solutions.txt"
 SYSTEMS = 100
@@ -29,7 +31,7 @@ CHECKED_LINES = {":solve x=1": 3, ":solve x+y=3;x-y=1": 10, ":solve 1=2;0=-1/2":
 
 def check_answers():
     """The answers are those of the model."""
-    return all(answers(lines) == wanted for lines, wanted in sessions(TABLE))
+    return are_answered(TABLE)
 
 
 # ---- sets of solutions
@@ -62,15 +64,13 @@ def as_python(text):
 
 
 def parsed(text, symbols):
-    import sympy
-
+    sympy = installed_sympy()
     return sympy.sympify(as_python(text), locals=symbols, rational=True)
 
 
 def is_none(differences, symbols, given):
     """The printed rationals bring left minus right to 1, and sympy finds no solution."""
-    import sympy
-
+    sympy = installed_sympy()
     multipliers = [sympy.Rational(word) for word in given.split(",")]
     brought = sympy.expand(sum(m * d for m, d in zip(multipliers, differences)))
     solutions = sympy.linsolve(differences, symbols) if symbols else sympy.EmptySet
@@ -79,8 +79,7 @@ def is_none(differences, symbols, given):
 
 def is_all(differences, symbols, given):
     """The printed forms solve the equations, and are as many as the rank, which sympy tells."""
-    import sympy
-
+    sympy = installed_sympy()
     forms = {}
     free = []
     for symbol, told in zip(symbols, given.split(",")):
@@ -98,8 +97,7 @@ def is_all(differences, symbols, given):
 
 def is_solution(equations, given):
     """An answer is right for equations, in which no name is stored."""
-    import sympy
-
+    sympy = installed_sympy()
     symbols = [sympy.Symbol(name) for name in sorted(names_in(equations))]
     known = {symbol.name: symbol for symbol in symbols}
     sides = [piece.split("=") for piece in equations.split(";")]
@@ -125,23 +123,18 @@ def check_sets():
 # ---- pools and checks
 
 def check_pools():
-    """In pools of every size a line is answered as in a large one, or is Full; the pool is as it was. Where 2,048 bytes
-    are free it is answered."""
+    """In pools of every size a line is answered as in a large one, or is Full; the pool is as it was but for an empty
+    `ans`. Where 2,048 bytes are free it is answered."""
     for line in POOL_LINES:
         wanted = answers([line])[0]
-        answered = False
-        for size in range(64, MOST_NEEDED + 256, 8):
-            word = f"--pool={size}"
-            given = answers([line], word)[0]
-            before = pool_and_bytes([], word)
-            free = size - int(before[0].split()[1].split("/")[0])
-            if given != wanted and (answered or free >= MOST_NEEDED or not given.startswith("! full needed ")):
-                print(f"{line} in {word}: {given}")
-                return False
-            answered = given == wanted
-            if pool_and_bytes([line], word) != before:
-                print(f"{line} in {word}: the pool is another")
-                return False
+        sizes = range(64, MOST_NEEDED + 256, 8)
+        told = list(each(lambda size: answer_and_change([], line, f"--pool={size}"), [(size,) for size in sizes]))
+        held = [given == wanted for given, _ in told]
+        least = held.index(True)
+        full = [given.startswith("! full needed ") for given, _ in told[:least]]
+        if not all(held[least:]) or not all(full) or not all(stays for _, stays in told) or sizes[least] - 16 >= MOST_NEEDED + 8:
+            print(line, "in a pool of", sizes[least])
+            return False
     return True
 
 

@@ -2,7 +2,8 @@
 # Runs the program on the lines that take most of the machine's stack, with little of it: 128 KiB for the default pool,
 # 384 KiB for the greatest. Its argument is the program. Each row has to be answered as it is with all the stack there is.
 # The last line says how many rows passed and failed; the status is 1 where one failed.
-program=${1:?usage: tests/stack.sh PROGRAM}
+program=${1:-$(dirname "$0")/../crates/poincare/out/poincare}
+[ -x "$program" ] || { echo "the program is not built: ./poincare builds it"; exit 1; }
 folder=$(mktemp -d) || exit 1
 trap 'rm -rf "$folder"' EXIT
 passed=0

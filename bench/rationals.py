@@ -1,22 +1,19 @@
-#!/usr/bin/env python3
-"""Sums, products and square parts per second, by processor time: the crates rational128 and square_parts, C with
+"""Sums, products and square parts of random operands by processor time: the crates rational128 and square_parts, C with
 unsigned __int128 where gcc is there, and Python's fractions.
 
-    bench/numbers/run.py [FOLDER]
-
-It makes a small repository in FOLDER, or else in a temporary folder, of copies of the crates and of the program that
-program.txt holds, and runs it with rt. Each number is the best of three runs; the last column is the time here over
-that of C.
+A small repository is made in a temporary folder, of copies of the crates and of the program that program.txt holds, and run with rt.
+Each number is the best of three runs.
 """
 import os
 import shutil
 import subprocess
-import sys
 import tempfile
 import time
 from fractions import Fraction
 
-HERE = os.path.dirname(os.path.abspath(__file__))
+from timed import Row
+
+HERE = os.path.join(os.path.dirname(os.path.abspath(__file__)), "rationals_beside")
 CRATES = os.path.join(HERE, "..", "..", "crates")
 NEEDED = {"calc_terms": "", "rational128": "calc_terms", "square_parts": "rational128 calc_terms"}
 PAIRS = 100 * 64 * 64
@@ -37,7 +34,7 @@ def build(folder):
         file.write(f"numbers_bench: {' '.join(NEEDED)}\n")
     done = subprocess.run(["rt", "run"], cwd=program, capture_output=True, text=True)
     if done.returncode != 0:
-        sys.exit(done.stdout[-4000:] + done.stderr[-4000:])
+        raise SystemExit(done.stdout[-4000:] + done.stderr[-4000:])
     return os.path.join(program, "out", "numbers_bench")
 
 
@@ -80,23 +77,16 @@ def python_times():
     return times
 
 
-def main():
-    with tempfile.TemporaryDirectory() as scratch:
-        folder = sys.argv[1] if len(sys.argv) > 1 else scratch
-        os.makedirs(folder, exist_ok=True)
-        ours = best([build(folder)])
-        in_c = {}
+def rows(program, runs):
+    """Sums, products and square parts a second, for operands of each length in bits."""
+    with tempfile.TemporaryDirectory() as folder:
+        ours, in_c = best([build(folder)]), {}
         if shutil.which("gcc"):
-            binary = os.path.join(scratch, "numbers")
+            binary = os.path.join(folder, "rationals")
             subprocess.run(["gcc", "-O2", "-o", binary, os.path.join(HERE, "numbers.c")], check=True)
             in_c = best([binary])
     in_python = python_times()
-    print(f"{'per second':>12} {'bits':>4} {'here':>12} {'C':>12} {'Python':>12} {'time/C':>7}")
     for (name, bits), micros in ours.items():
         count = SPLITS[bits] if name == "split" else PAIRS
-        columns = [f"{count * 1e6 / t:12,.0f}" if t else " " * 12 for t in (micros, in_c.get((name, bits)), in_python.get((name, bits)))]
-        ratio = f"{micros / in_c[name, bits]:7.2f}" if (name, bits) in in_c else ""
-        print(f"{name:>12} {bits:>4} {' '.join(columns)} {ratio}")
-
-
-main()
+        others = {peer: times[name, bits] / micros for peer, times in (("C", in_c), ("Python", in_python)) if times.get((name, bits)) and micros}
+        yield Row(f"{name}, {bits} bits", count / micros if micros else None, "million a second", others)
