@@ -5,7 +5,8 @@ A clause is cited in code marks as `function: clause` or `function: clause, clau
 what a trait or a type states of itself as `Type: fact`. In the README of a crate such a clause stands in that crate; so it does
 in a row of a table whose first cell links to a crate's README; elsewhere in some crate. A name in code marks with a `_` or a
 capital in front is declared there, too. Each public item of a crate is named in its README, in code marks. A file that is named
-or linked to is there. The crates of `crates.txt` stand in the order of the tables of docs/ARCHITECTURE.md.
+or linked to is there. Each crate of crates.txt stands in one of the tables of docs/ARCHITECTURE.md, in the same order, and docs/crates.svg
+has the arrows that docs/crates.py draws.
 
 usage: tests/documents.py [--selftest]
 
@@ -18,13 +19,16 @@ import tempfile
 from pathlib import Path
 
 HERE = Path(__file__).resolve().parent.parent
+sys.path.insert(0, str(HERE / "docs"))
+
+from crates import find_arrows, read_crates
 
 CONTEXT = re.compile(r"(?:unsafe )?(?:pub )?(?:impl|trait|struct|enum)\b")
 FUNCTION = re.compile(r"\s*(pub )?(?:const |unsafe )*fn (\w+)")
 CLAUSE = re.compile(r"\s*(?:ensures|requires)\*? (\w+) \{")
 FACT = re.compile(r"    ghost (\w+)(?::| =)")
 ITEM = re.compile(r"pub (?:fn|struct|enum|trait|const|type) (\w+)")
-CITATION = re.compile(r"([A-Za-z_]\w*(?:::\w+)?): (\w+(?:, \w+)*)")
+CITATION = re.compile(r"([A-Za-z_]\w*(?:::\w+)?): ([a-z]\w*(?:, [a-z]\w*)*)")
 NAME = re.compile(r"[A-Za-z_]\w*(?:::\w+)*")
 PATH = re.compile(r"(?<![\w/.])(?:bench|crates|docs|launcher|tests)/[\w./-]*\w")
 LINK = re.compile(r"\[[^\]]*\]\(([^)\s]+)\)")
@@ -132,8 +136,9 @@ class Repository:
     def wrong_names(self):
         for page in self.pages:
             for line, span in self.spans(page):
-                if NAME.fullmatch(span) and ("_" in span or span[0].isupper()) and span not in self.crates:
-                    where = [*self.about(page, line), *self.crates.values()] if page.name != "README.md" else self.about(page, line)
+                told = NAME.fullmatch(span) and ("_" in span or span[0].isupper())
+                if told and span not in self.crates and not (self.root / span).exists():
+                    where = self.crates.values() if page.parent.name == "docs" else self.about(page, line)
                     if not any(it.declares(span) for it in where):
                         yield f"{page.relative_to(self.root)}: no declaration of `{span}`"
 
@@ -168,14 +173,27 @@ class Repository:
 
     def wrong_order(self):
         page = self.root / "docs" / "ARCHITECTURE.md"
-        rows = re.findall(r"^\| \[(\w+)\]\(\.\./crates/\w+/README\.md\)", page.read_text(), re.M)
-        if rows != self.listed:
-            place = next((i for i, (a, b) in enumerate(zip(rows, self.listed)) if a != b), min(len(rows), len(self.listed)))
-            there = [it[place] if place < len(it) else "nothing" for it in (rows, self.listed)]
-            yield f"docs/ARCHITECTURE.md: row {place + 1} is {there[0]}, and line {place + 1} of crates.txt is {there[1]}"
+        told = []
+        for table in re.findall(r"(?:^\|.*\n)+", page.read_text(), re.M):
+            rows = re.findall(r"^\| \[(\w+)\]\(\.\./crates/\w+/README\.md\)", table, re.M)
+            told += rows
+            for row, name in zip(rows, [it for it in self.listed if it in rows]):
+                if row != name:
+                    yield f"docs/ARCHITECTURE.md: {row} stands where crates.txt has {name}"
+                    break
+        for name in sorted({*told, *self.listed}):
+            if told.count(name) != 1 or name not in self.listed:
+                yield f"docs/ARCHITECTURE.md: {name} is told {told.count(name)} times"
+
+    def wrong_picture(self):
+        text = (self.root / "docs" / "crates.svg").read_text()
+        drawn = set(re.findall(r"<title>(\w+)(?:&#45;&gt;|->)(\w+)</title>", text))
+        arrows = set(find_arrows(read_crates((self.root / "crates.txt").read_text())))
+        if drawn != arrows:
+            yield f"docs/crates.svg: docs/crates.py draws it anew, since arrows differ: {sorted(drawn ^ arrows)[:3]}"
 
     def checks(self):
-        return [self.wrong_clauses, self.wrong_names, self.unnamed_items, self.wrong_paths, self.wrong_order]
+        return [self.wrong_clauses, self.wrong_names, self.unnamed_items, self.wrong_paths, self.wrong_order, self.wrong_picture]
 
 
 def anchors(page):
@@ -204,6 +222,7 @@ pub fn fill(cup: &mut Cup)
     "crates/high/src/laws.rt": "pub fn cups_are_full()\n    ensures { full }\n{}\n",
     "crates/high/README.md": "Law: `cups_are_full`.\n",
     "docs/ARCHITECTURE.md": "# Crates\n\n| [low](../crates/low/README.md) | `fill: full` |\n| [high](../crates/high/README.md) | |\n",
+    "docs/crates.svg": "<title>high&#45;&gt;low</title>",
     "README.md": "See [the crates](docs/ARCHITECTURE.md#crates), and crates/low.\n",
 }
 WRONG = [
@@ -215,7 +234,9 @@ WRONG = [
     ("README.md", "ARCHITECTURE.md#crates", "NOTHING.md", "no file docs/NOTHING.md"),
     ("README.md", "#crates", "#cups", "no heading docs/ARCHITECTURE.md#cups"),
     ("README.md", "and crates/low", "and crates/middle", "no file crates/middle"),
-    ("crates.txt", "low:\nhigh: low", "high: low\nlow:", "row 1 is low, and line 1 of crates.txt is high"),
+    ("crates.txt", "low:\nhigh: low", "high: low\nlow:", "low stands where crates.txt has high"),
+    ("docs/ARCHITECTURE.md", "| [high](../crates/high/README.md) | |\n", "", "high is told 0 times"),
+    ("crates.txt", "high: low", "high:", "docs/crates.svg: docs/crates.py draws it anew"),
 ]
 
 
