@@ -3,10 +3,10 @@
 
 A clause is cited in code marks as `function: clause` or `function: clause, clause`, a method as `Type::method: clause`, and
 what a trait or a type states of itself as `Type: fact`. In the README of a crate such a clause stands in that crate; so it does
-in a row of a table whose first cell links to a crate's README; elsewhere in some crate. A name in code marks with a `_` or a
-capital in front is declared there, too. Each public item of a crate is named in its README, in code marks. A file that is named
-or linked to is there. Each crate of crates.txt stands in one of the tables of docs/ARCHITECTURE.md, in the same order, and docs/crates.svg
-has the arrows that docs/crates.py draws.
+in a row of a table whose first cell links to a crate's README; elsewhere in some crate. What is called a law is a function
+there, and a name in code marks with a `_` or a capital in front is declared there. Each public item of a crate is named in its
+README, in code marks. A file that is named or linked to is there. Each crate of crates.txt stands in one of the tables of
+docs/ARCHITECTURE.md, in the same order, and docs/crates.svg has the arrows that docs/crates.py draws.
 
 usage: tests/documents.py [--selftest]
 
@@ -24,10 +24,10 @@ sys.path.insert(0, str(HERE / "docs"))
 from crates import find_arrows, read_crates
 
 CONTEXT = re.compile(r"(?:unsafe )?(?:pub )?(?:impl|trait|struct|enum)\b")
-FUNCTION = re.compile(r"\s*(pub )?(?:const |unsafe )*fn (\w+)")
+FUNCTION = re.compile(r"\s*(pub )?(?:const |unsafe |extern \S+ )*fn (\w+)")
 CLAUSE = re.compile(r"\s*(?:ensures|requires)\*? (\w+) \{")
 FACT = re.compile(r"    ghost (\w+)(?::| =)")
-ITEM = re.compile(r"pub (?:fn|struct|enum|trait|const|type) (\w+)")
+ITEM = re.compile(r"pub (?:unsafe |extern \S+ )*(?:fn|struct|enum|trait|const|type) (\w+)")
 CITATION = re.compile(r"([A-Za-z_]\w*(?:::\w+)?): ([a-z]\w*(?:, [a-z]\w*)*)")
 NAME = re.compile(r"[A-Za-z_]\w*(?:::\w+)*")
 PATH = re.compile(r"(?<![\w/.])(?:bench|crates|docs|launcher|tests)/[\w./-]*\w")
@@ -49,6 +49,7 @@ class Crate:
         self.clauses = {}
         self.methods = {}
         self.items = {}
+        self.exports = []
         self.words = set()
         for file in sorted((folder / "src").rglob("*.rt")):
             if "tests" not in file.relative_to(folder).parts and file.name != "tests.rt":
@@ -70,6 +71,8 @@ class Crate:
                 context, function = None, None
             if found := ITEM.match(line):
                 self.items.setdefault(file.stem, []).append(found[1])
+                if " extern " in line:
+                    self.exports.append(found[1])
             if found := FUNCTION.match(line):
                 function = f"{context}::{found[2]}" if context else found[2]
                 self.clauses.setdefault(function, set())
@@ -81,12 +84,12 @@ class Crate:
                 self.clauses.setdefault(context, set()).add(found[1])
 
     def public(self):
-        """The public items, each method behind its type."""
+        """The public items, each method behind its type, and the functions that C may call."""
         root = self.folder / "src" / "lib.rt"
         if not root.is_file():
             return []
         text = root.read_text()
-        named = []
+        named = [*self.items.get("lib", []), *self.exports]
         for found in re.finditer(r"^pub use [\w:]+::(?:\{([^}]*)\}|(\w+));", text, re.M):
             named += re.findall(r"\w+", found[1] or found[2])
         for found in re.finditer(r"^pub mod (\w+);", text, re.M):
@@ -132,6 +135,9 @@ class Repository:
                     clauses = set(found[2].split(", "))
                     if not any(it.has_clauses(found[1], clauses) for it in self.about(page, line)):
                         yield f"{page.relative_to(self.root)}: no clause `{span}`"
+            for law in re.findall(r"\blaws? `(\w+)`", page.read_text()):
+                if not any(law in it.clauses for it in self.about(page, "")):
+                    yield f"{page.relative_to(self.root)}: no law `{law}`"
 
     def wrong_names(self):
         for page in self.pages:
@@ -204,7 +210,8 @@ def anchors(page):
 
 SMALL = {
     "crates.txt": "low:\nhigh: low\n",
-    "crates/low/src/lib.rt": "mod a;\npub use a::{Cup, fill};\n",
+    "crates/low/src/lib.rt": "mod a;\nmod c;\npub use a::{Cup, fill};\n",
+    "crates/low/src/c.rt": "pub unsafe extern \"C\" fn pour()\n{}\n",
     "crates/low/src/a.rt": """pub struct Cup {
 }
 impl Cup {
@@ -217,10 +224,10 @@ pub fn fill(cup: &mut Cup)
     ensures kept { cup.new }
 {}
 """,
-    "crates/low/README.md": "`Cup` has a `size` (`Cup::size: value`). `fill` (`fill: full, kept`).\n",
+    "crates/low/README.md": "`Cup` has a `size` (`Cup::size: value`). `fill` (`fill: full, kept`). C calls `pour`.\n",
     "crates/high/src/lib.rt": "pub mod laws;\n",
     "crates/high/src/laws.rt": "pub fn cups_are_full()\n    ensures { full }\n{}\n",
-    "crates/high/README.md": "Law: `cups_are_full`.\n",
+    "crates/high/README.md": "What is full: law `cups_are_full`.\n",
     "docs/ARCHITECTURE.md": "# Crates\n\n| [low](../crates/low/README.md) | `fill: full` |\n| [high](../crates/high/README.md) | |\n",
     "docs/crates.svg": "<title>high&#45;&gt;low</title>",
     "README.md": "See [the crates](docs/ARCHITECTURE.md#crates), and crates/low.\n",
@@ -229,7 +236,9 @@ WRONG = [
     ("crates/low/README.md", "full, kept", "full, empty", "no clause `fill: full, empty`"),
     ("crates/low/README.md", "`Cup` has", "`Mug` has", "no declaration of `Mug`"),
     ("crates/low/README.md", "a `size` (`Cup::size: value`)", "a size", "`Cup::size` is not named"),
+    ("crates/low/README.md", "C calls `pour`.", "", "`pour` is not named"),
     ("crates/high/README.md", "`cups_are_full`", "cups", "`cups_are_full` is not named"),
+    ("README.md", "See ", "By the law `cups_are_round`: see ", "no law `cups_are_round`"),
     ("docs/ARCHITECTURE.md", "| `fill: full` |", "| `fill: value` |", "no clause `fill: value`"),
     ("README.md", "ARCHITECTURE.md#crates", "NOTHING.md", "no file docs/NOTHING.md"),
     ("README.md", "#crates", "#cups", "no heading docs/ARCHITECTURE.md#cups"),
