@@ -1,10 +1,11 @@
 -- Which numbers have the short form.
 use Rattle.std.proofs.Common.{◌≡◌, ℕ, ℤ, pos, neg_ℤ, nat_abs, ◌<◌, ◌≤◌, ◌^◌, Bool, true, false, refl, sym, ap, ◌∙◌, arith, FitsSigned}
-use Rattle.std.specs.Prelude.{◌&&◌, ◌==◌, int_le, int_lt}
+use Rattle.std.specs.Prelude.{◌&&◌, ◌==◌, ◌↔◌, IsTrue, int_le, int_lt}
 use Rattle.std.specs.Int.{w64}
 use Rattle.std.proofs.lemmas.Int.{ints}
 use Rattle.std.proofs.lemmas.Bool.{and_from, and_parts, eqb-true, ne_eqb}
-use Rattle.calc_terms.specs.Fractions.{Fraction, Holds, is_lowest, lowest, lowest_parts}
+use Rattle.calc_terms.specs.Fractions.{Fraction, Holds, is_lowest, is_one_fraction, lowest, lowest_parts}
+use Rattle.calc_terms.specs.Integers.{int_is_one}
 use Rattle.calc_terms.specs.Ratio.{Ratio, IsRat}
 use Rattle.calc_terms.specs.Short.{is_short, is_short_int}
 use Rattle.calc_terms.proofs.FractionFacts.{whole_numerator, whole_denominator}
@@ -23,6 +24,12 @@ lowest_itself p q h =
 pub short_by : (p : ℤ) (q : ℕ) → is_lowest p q ≡ true → is_short (lowest p q) ≡ ((q == 1) && is_short_int p)
 unfolding is_short
 short_by p q h = let e = lowest_itself p q h in rw (e.0, e.1) refl
+
+pub one_by : (p : ℤ) (q : ℕ) → is_lowest p q ≡ true → is_one_fraction (lowest p q) ≡ (int_is_one p && (q == 1))
+one_by p q h = let e = lowest_itself p q h in rw (e.0, e.1) refl
+
+pub whole_test : (b : Bool) (q : ℕ) → (IsTrue b ↔ (q ≡ 1)) → b ≡ (q == 1)
+whole_test b q h = grind arith
 
 pub record IsShort (f : Ratio) : Type 0 where
   pub whole : f.den ≡ 1

@@ -1,6 +1,7 @@
 //! Rationals in lowest terms whose parts end at 127 bits.
 ghost use Rattle.std.specs.Prelude.{◌≡◌, ◌<◌, ◌≤◌, ◌^◌, ◌↔◌, ℤ, pos, ◌<ℤ◌, ◌*ℤ◌, nat_abs, IsTrue};
-ghost use Rattle.calc_terms.specs.Fractions.{is_lowest};
+ghost use Rattle.calc_terms.specs.Fractions.{is_lowest, is_one_fraction, is_zero_fraction};
+ghost use Rattle.calc_terms.specs.Integers.{int_is_one, int_is_zero};
 ghost use Rattle.calc_terms.specs.Ratio.{IsRat, whole};
 ghost use Rattle.calc_terms.specs.Short.{is_short_int};
 
@@ -70,6 +71,20 @@ impl Rat {
         Rat::divided(num, den)
     }
 
+    /// Whether it is 0.
+    pub fn is_zero(self) -> bool
+        ensures { result ≡ is_zero_fraction (value_of self) }
+    {
+        is_zero_int(self.num)
+    }
+
+    /// Whether it is 1.
+    pub fn is_one(self) -> bool
+        ensures { result ≡ is_one_fraction (value_of self) }
+    {
+        is_one_int(self.num) && self.is_whole()
+    }
+
     /// Whether the denominator is 1.
     pub fn is_whole(self) -> bool
         ensures { IsTrue result ↔ ((ratio_of self).den ≡ 1) }
@@ -97,6 +112,18 @@ impl Rat {
             den: under as i128,
         }
     }
+}
+
+fn is_zero_int(n: i128) -> bool
+    ensures { result ≡ int_is_zero n }
+{
+    n == 0
+}
+
+fn is_one_int(n: i128) -> bool
+    ensures { result ≡ int_is_one n }
+{
+    n == 1
 }
 
 fn is_short_int(n: i128) -> bool
