@@ -1,10 +1,10 @@
 -- Common divisors and factors of 2.
 use Rattle.std.proofs.Common.{◌≡◌, ℕ, zero, suc, ◌+◌, ◌-◌, ◌*◌, ◌/◌, ◌%◌, ◌^◌, ◌<◌, ◌≤◌, min, max, ◌≢◌, ◌⊎◌, inl, inr, refl, sym, ap, ◌∙◌, subst, arith}
-use Rattle.std.specs.Int.{IsGcd, Width, w128, trailing_zeros, bit_at, ◌∣◌}
+use Rattle.std.specs.Int.{IsGcd, Width, trailing_zeros, bit_at, ◌∣◌}
 use Rattle.std.proofs.lemmas.Nat.{mod-pow-add, pow_pos, pow-add, shr_le}
 use Rattle.std.proofs.lemmas.Nat.Bits.{bit_at-trailing_zeros}
 use Rattle.std.proofs.lemmas.Nat.Gcd.{IsGcd-swap, IsGcd-from_sub, dvd_refl, le_of_dvd}
-use Rattle.std.proofs.Math.Nat.{mul-div_cancel', dvd-mul_right, dvd-mul_left_of_dvd, one-dvd, pow-suc}
+use Rattle.std.proofs.Math.Nat.{mod-eq_of_lt, mul-div_cancel', dvd-mul_right, dvd-mul_left_of_dvd, one-dvd, pow-suc}
 use Rattle.calc_terms.specs.Gcd.{IsGcd-scaled}
 use mir.Val.{bits}
 
@@ -160,19 +160,19 @@ IsGcd-ordered x y low high g low-is high-is h = by (order x y)
         rw (← e, ← d) (IsGcd-swap _ _ _ h)
 
 -- the answer from the odd parts of both numbers, in the bits of the type
-pub IsGcd-from_odd : (a b g m : ℕ) → 0 < a → 0 < b → a < 2 ^ 128 → b < 2 ^ 128
-    → IsGcd (a / 2 ^ (trailing_zeros w128 a)) (b / 2 ^ (trailing_zeros w128 b)) g
-    → m ≡ min (trailing_zeros w128 a) (trailing_zeros w128 b) → IsGcd a b (g * 2 ^ m % 2 ^ 128)
-IsGcd-from_odd a b g m a-positive b-positive a-small b-small h m-is =
-    let sa : SplitsTwos w128 a = splits_twos w128 a a-positive a-small in
-    let sb : SplitsTwos w128 b = splits_twos w128 b b-positive b-small in
-    let i : ℕ = trailing_zeros w128 a in
-    let j : ℕ = trailing_zeros w128 b in
+pub IsGcd-from_odd : (w : Width) (a b g m : ℕ) → 0 < a → 0 < b → a < 2 ^ bits w → b < 2 ^ bits w
+    → IsGcd (a / 2 ^ (trailing_zeros w a)) (b / 2 ^ (trailing_zeros w b)) g
+    → m ≡ min (trailing_zeros w a) (trailing_zeros w b) → IsGcd a b (g * 2 ^ m % 2 ^ bits w)
+IsGcd-from_odd w a b g m a-positive b-positive a-small b-small h m-is =
+    let sa : SplitsTwos w a = splits_twos w a a-positive a-small in
+    let sb : SplitsTwos w b = splits_twos w b b-positive b-small in
+    let i : ℕ = trailing_zeros w a in
+    let j : ℕ = trailing_zeros w b in
     let parts : IsGcd (2 ^ i * (a / 2 ^ i)) (2 ^ j * (b / 2 ^ j)) (2 ^ (min i j) * g) = IsGcd-twos i j (a / 2 ^ i) (b / 2 ^ j) g sa.odd sb.odd h in
     let whole : IsGcd a b (2 ^ (min i j) * g) = subst (λ n. IsGcd n b (2 ^ (min i j) * g)) sa.whole (subst (λ n. IsGcd (2 ^ i * (a / 2 ^ i)) n (2 ^ (min i j) * g)) sb.whole parts) in
     let e : g * 2 ^ m ≡ 2 ^ (min i j) * g = ap (λ n. g * 2 ^ n) m-is ∙ omega arith in
     let small : 2 ^ (min i j) * g ≤ a = le_of_dvd a-positive (whole.0) in
-    let fits : g * 2 ^ m % 2 ^ 128 ≡ 2 ^ (min i j) * g = omega arith in
+    let fits : g * 2 ^ m % 2 ^ bits w ≡ 2 ^ (min i j) * g = ap (λ n. n % 2 ^ bits w) e ∙ mod-eq_of_lt (omega arith) in
     subst (λ n. IsGcd a b n) (sym fits) whole
 
 -- 1 has no other divisor

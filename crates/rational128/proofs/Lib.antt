@@ -9,3 +9,4 @@ pub mod Sums
 pub mod PowerLaws
 pub mod FractionPowers
 pub mod Reciprocals
+pub mod Shorts

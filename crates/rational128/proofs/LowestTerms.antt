@@ -54,9 +54,15 @@ fraction_coprime f = IsCoprime-from_gcd _ _ (subst (λ g. IsGcd (nat_abs f.num) 
 pub made_parts : (r : Rat) (n' n : ℤ) (d' d : ℕ) → ratio_of r ≡ record { num = n'; den = d' } → n' ≡ n → d' ≡ d → is_lowest n d ≡ true → HasParts (value_of r) n d
 made_parts r n' n d' d e h k l = grind (arith, parts_themselves)
 
--- a whole number is its own numerator
+-- a whole number is its own numerator, over 1
+whole_parts : (n : ℤ) → HasParts (lowest n 1) n 1
+whole_parts n = parts_themselves n 1 (is_lowest_from n 1 (omega arith) (one-dvd (nat_abs n), one-dvd 1, λ d dn d1. d1))
+
 pub whole_num : (n : ℤ) → (lowest n 1).num ≡ n
-whole_num n = (parts_themselves n 1 (is_lowest_from n 1 (omega arith) (one-dvd (nat_abs n), one-dvd 1, λ d dn d1. d1))).num
+whole_num n = (whole_parts n).num
+
+pub whole_den : (n : ℤ) → (lowest n 1).den ≡ 1
+whole_den n = (whole_parts n).den
 
 -- what a rational shows are the parts of its value
 pub ratio_parts : (r : Rat) → HasParts (value_of r) (ratio_of r).num (ratio_of r).den

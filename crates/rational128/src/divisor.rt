@@ -6,18 +6,32 @@ ghost use Rattle.std.specs.Int.{IsGcd};
 pub fn gcd(a: u128, b: u128) -> u128
     ensures { IsGcd a b result }
 {
+    if a == 1 || b == 1 {
+        return 1;
+    }
     if a == 0 {
         return b;
     }
     if b == 0 {
         return a;
     }
-    if a == 1 || b == 1 {
-        return 1;
+    if a < 1 << 64 && b < 1 << 64 {
+        return u128::from(gcd_64(a as u64, b as u64));
     }
     let first = a.trailing_zeros();
     let second = b.trailing_zeros();
     odd_gcd(a >> first, b >> second) << first.min(second)
+}
+
+/// The same in 64 bits, where neither is 0.
+fn gcd_64(a: u64, b: u64) -> u64
+    requires first { 0 < a }
+    requires second { 0 < b }
+    ensures { IsGcd a b result }
+{
+    let first = a.trailing_zeros();
+    let second = b.trailing_zeros();
+    odd_gcd_64(a >> first, b >> second) << first.min(second)
 }
 
 /// The greatest common divisor of two odd numbers, by differences without their factors of 2.
@@ -41,7 +55,7 @@ fn odd_gcd(a: u128, b: u128) -> u128
     x
 }
 
-/// The same in 64 bits.
+/// That of two odd numbers in 64 bits.
 fn odd_gcd_64(a: u64, b: u64) -> u64
     requires a_is_odd { a % 2 ≡ 1 }
     requires b_is_odd { b % 2 ≡ 1 }

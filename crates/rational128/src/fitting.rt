@@ -1,5 +1,5 @@
 //! Products, quotients and sums of whole numbers whose magnitude is at most 2^127 - 1.
-ghost use Rattle.std.specs.Prelude.{◌≡◌, ◌*◌, ◌<◌, ◌^◌, pos, ◌*ℤ◌, ◌+ℤ◌, nat_abs};
+ghost use Rattle.std.specs.Prelude.{◌≡◌, ◌*◌, ◌/◌, ◌<◌, ◌^◌, pos, ◌*ℤ◌, ◌+ℤ◌, nat_abs};
 ghost use Rattle.std.specs.Option.{SomeIff};
 ghost use Rattle.calc_terms.specs.Fractions.{over};
 
@@ -35,12 +35,26 @@ pub(crate) fn sum(a: i128, b: i128) -> Option<i128>
     (sum != i128::MIN).then_some(sum)
 }
 
+/// a / divisor, rounded down, in 64 bits where both have no more.
+pub(crate) fn divided(a: u128, divisor: u128) -> u128
+    requires { 0 < divisor }
+    ensures { result ≡ a / divisor }
+{
+    if divisor == 1 {
+        a
+    } else if a < 1 << 64 && divisor < 1 << 64 {
+        u128::from(a as u64 / divisor as u64)
+    } else {
+        a / divisor
+    }
+}
+
 /// a / divisor, rounded toward zero.
 pub(crate) fn quotient(a: i128, divisor: u128) -> i128
     requires fits { nat_abs a < 2 ^ 127 }
     requires positive { 0 < divisor }
     ensures { result ≡ over a divisor }
 {
-    let magnitude = (a.unsigned_abs() / divisor) as i128;
+    let magnitude = divided(a.unsigned_abs(), divisor) as i128;
     if a < 0 { -magnitude } else { magnitude }
 }

@@ -10,6 +10,7 @@ mod overflow;
 mod parts;
 mod powers;
 mod reciprocal;
+mod short;
 mod square_root;
 
 pub use addition::add;

@@ -6,9 +6,10 @@ ghost use Rattle.calc_terms.specs.Fits.{fraction_fits};
 ghost use Rattle.rational128.specs.Refusals.{DoesNotFit, Answers};
 
 use crate::divisor::gcd;
-use crate::fitting::{product, quotient, signed_product};
+use crate::fitting::{divided, product, quotient, signed_product};
 use crate::overflow::{Op, Overflow};
 use crate::parts::{parts, rational};
+use crate::short::short_product;
 use calc_terms::Rat;
 
 /// The product in lowest terms.
@@ -20,8 +21,17 @@ pub fn mul(a: Rat, b: Rat) -> Result<Rat, Overflow>
     fitted_product(a, b).ok_or(Overflow { op: Op::Mul, a, b })
 }
 
-/// The product, with what the numerators share with the denominators divided out first.
 fn fitted_product(a: Rat, b: Rat) -> Option<Rat>
+    ensures { Answers result (fraction_fits (times (value_of a) (value_of b))) (times (value_of a) (value_of b)) }
+{
+    if a.is_short() && b.is_short() {
+        return Some(short_product(a, b));
+    }
+    cancelled_product(a, b)
+}
+
+/// The product, with what the numerators share with the denominators divided out first.
+fn cancelled_product(a: Rat, b: Rat) -> Option<Rat>
     ensures { Answers result (fraction_fits (times (value_of a) (value_of b))) (times (value_of a) (value_of b)) }
 {
     let (a_num, a_den) = parts(a);
@@ -29,6 +39,6 @@ fn fitted_product(a: Rat, b: Rat) -> Option<Rat>
     let first = gcd(a_num.unsigned_abs(), b_den);
     let second = gcd(b_num.unsigned_abs(), a_den);
     let num = signed_product(quotient(a_num, first), quotient(b_num, second))?;
-    let den = product(a_den / second, b_den / first)?;
+    let den = product(divided(a_den, second), divided(b_den, first))?;
     Some(rational(num, den))
 }

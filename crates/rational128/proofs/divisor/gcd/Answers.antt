@@ -13,4 +13,7 @@ pub odd_gcd-requires-clause-b_is_odd : goal.odd_gcd-requires-clause-b_is_odd
 odd_gcd-requires-clause-b_is_odd c = (splits_twos w128 _ (omega arith) (omega arith)).odd
 
 pub returns : goal.returns
-returns c = IsGcd-from_odd _ _ _ _ (omega arith) (omega arith) (omega arith) (omega arith) c.odd_gcd.ensures c.min.ensures
+returns c = IsGcd-from_odd w128 _ _ _ _ (omega arith) (omega arith) (omega arith) (omega arith) c.odd_gcd.ensures c.min.ensures
+
+pub returns-then-b : goal.returns-then-b
+returns-then-b c = rw c.from.ensures c.gcd_64.ensures
