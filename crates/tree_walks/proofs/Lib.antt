@@ -6,4 +6,5 @@ pub mod Chunks
 pub mod Levels
 pub mod Searches
 pub mod Composing
+pub mod Absent
 pub mod Shared

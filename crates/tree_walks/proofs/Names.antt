@@ -1,6 +1,8 @@
 -- Names and replaced names, node by node.
-use Rattle.std.proofs.Common.{◌≡◌, ℕ, zero, suc, ◌+◌, List, cond, refl, ap, arith, Bool, true, false}
-use Rattle.tree_walks.proofs.Shared.{count_by, bytes_eq, eqb-true, append-nil, sum_by-append, Payload, rational, named, bare, Tree, num, symbol, undef, power, root, neg, sub, div, Trees, none, more, names, names_of, nth, compound, grown, plains, takes, AllExpressions, children_of, Label, Forest, empty, tree, arity, grown_whole, replaced, replaced_in, occurrences, has_name}
+use Rattle.std.proofs.Common.{◌≡◌, ℕ, zero, suc, ◌+◌, List, cond, refl, sym, ap, ◌∙◌, arith, Bool, true, false}
+use Rattle.tree_walks.proofs.Shared.{count_by, bytes_eq, bytes_eq-Decides, eqb-true, name_of, append-nil, sum_by-append, Payload, rational, named, bare, Tree, num, symbol, undef, power, root, neg, sub, div, Trees, none, more, names, names_of, nth, compound, grown, plains, takes, AllExpressions, children_of, Label, Forest, empty, tree, arity, grown_whole, replaced, replaced_in, occurrences, has_name}
+use Rattle.calc_terms.specs.Name.{before_zero, padded}
+use Rattle.calc_terms.specs.declared.name.Name.{Name}
 use Rattle.calc_terms.specs.declared.kind.Kind.{Kind}
 use Rattle.calc_terms.specs.declared.kind.Kind.TheVariants as kind
 
@@ -86,3 +88,13 @@ no_trees (tree l k r) h = absurd (omega arith)
 
 pub leaf_alone : (x : List ℕ) (l : Label) (k r : Forest) → has_name x l.payload ≡ true → AllExpressions (tree l k r) → k ≡ empty
 leaf_alone x l k r h w = no_trees k (leaf_takes x l.payload (arity k) h w.0)
+
+-- ---- names by their eight bytes
+
+same_tests : (s t : Bool) → (s ≡ true → t ≡ true) → (t ≡ true → s ≡ true) → s ≡ t
+same_tests s t h k = grind arith
+
+pub same_name : (a b : Name) → bytes_eq a.text b.text ≡ bytes_eq (name_of a) (name_of b)
+same_name a b = same_tests _ _
+    (λ h. (bytes_eq-Decides (name_of a) (name_of b)).1 (ap before_zero ((bytes_eq-Decides a.text b.text).0 h)))
+    (λ h. (bytes_eq-Decides a.text b.text).1 (a.holds_name.whole ∙ ap padded ((bytes_eq-Decides (name_of a) (name_of b)).0 h) ∙ sym b.holds_name.whole))

@@ -67,7 +67,7 @@ pub fn is_leaf_of(pool: &Pool, id: Id, kind: Kind, name: Name) -> bool
     ensures { result ≡ has_name (name_of name) (payload_in id (forest pool.now)) }
 {
     match kind {
-        Kind::Sym => name_of_leaf(pool, id).bytes() == name.bytes(),
+        Kind::Sym => name_of_leaf(pool, id) == name,
         _ => false,
     }
 }

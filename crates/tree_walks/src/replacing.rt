@@ -13,12 +13,14 @@ ghost use Rattle.tree_walks.specs.Replacing.{replaced, replacing, occurrences};
 ghost use Rattle.tree_walks.specs.Walks.{IsLeafAt, PutsCopy};
 
 use crate::leaves::{LEAVES, count_leaves, find_leaves, is_leaf_of};
+use crate::searching::holds_name;
 use calc_terms::Name;
 use node_pool::{Full, Id, Pool};
 use tree_handles::{Handle, copy_tree, kind, release, replace_known_child};
 
 /// Each leaf of a name in the last tree becomes a copy of another tree, in prefix order: a copy is placed at the end, takes
 /// the place of the leaf, and the leaf is released. Answers the root, which is another one where the whole tree was such a leaf.
+/// A tree without the name is read once, and nothing else is done.
 ///
 /// Where a copy finds no room, the leaves before it have been replaced.
 pub fn replace_name(pool: &mut Pool, tree: Handle, name: Name, source: Id) -> Result<Handle, Full>
@@ -42,6 +44,9 @@ pub fn replace_name(pool: &mut Pool, tree: Handle, name: Name, source: Id) -> Re
     ensures stands { Stands pool.new }
 {
     let root = tree.id();
+    if !holds_name(pool, root, name) {
+        return Ok(tree);
+    }
     if is_leaf_of(pool, root, kind(pool, root), name) {
         let copy = copy_tree(pool, source)?;
         release(pool, tree);

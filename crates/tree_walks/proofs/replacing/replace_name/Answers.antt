@@ -1,8 +1,29 @@
-use Rattle.std.proofs.Common.{◌≡◌, ◌∙◌, ℕ, inl, sym, ap, refl, arith}
-use Rattle.tree_walks.proofs.Shared.{passed_on, name_of, plain, payload_in, tree_at, forest, owned, last_held, has_name}
+use Rattle.std.proofs.Common.{◌≡◌, ◌∙◌, ℕ, Bool, true, false, inl, sym, ap, refl, arith}
+use Rattle.tree_walks.proofs.Shared.{passed_on, name_of, plain, given_handed, payload_in, tree_at, forest, owned, last_held, has_name}
+use Rattle.tree_handles.proofs.Seen.{expression}
+use Rattle.tree_walks.proofs.Absent.{absent}
 use Rattle.tree_walks.proofs.Chunks.{found_all, headed, put, goes_on, all_passed, more_passed, all_gone, few_passed, fewer}
 use Rattle.tree_walks.proofs.Filling.{IsDone, source, source_in, begins, next, stopped, ended, leaf, leaf_stopped, leaf_goes, leaf_done}
 use Rattle.tree_walks.proofs.replacing.replace_name.Goals as goal
+use Rattle.tree_walks.proofs.replacing.replace_name.Goals.{Then-not-holds_name}
+
+pub holds_name-requires-clause-expression : goal.holds_name-requires-clause-expression
+holds_name-requires-clause-expression c = expression c.id-root.ensures c.requires.stands (given_handed c.requires.last)
+
+stays : (c : Then-not-holds_name) → IsDone c.args.tree c.args.tree (name_of c.args.name) (plain (tree_at c.args.source (forest c.args.pool.now))) c.args.pool.now c.args.pool.now
+stays c = absent c.id-root.ensures c.requires.stands c.requires.last (λ h. both (c.holds_name.ensures.1 h) c.if-not-holds_name.true)
+  where
+    both : {t : Bool} → t ≡ true → t ≡ false → ⊥
+    both {t} p q = cc
+
+pub returns-then-not-holds_name-clause-ok : goal.returns-then-not-holds_name-clause-ok
+returns-then-not-holds_name-clause-ok c = (stays c).gives
+
+pub returns-then-not-holds_name-clause-ok_room : goal.returns-then-not-holds_name-clause-ok_room
+returns-then-not-holds_name-clause-ok_room c = (stays c).room
+
+pub returns-then-not-holds_name-clause-front : goal.returns-then-not-holds_name-clause-front
+returns-then-not-holds_name-clause-front c = (stays c).front
 
 pub kind-requires-clause-live : goal.kind-requires-clause-live
 kind-requires-clause-live c = rw c.id-root.ensures (last_held c.requires.last.ends)
