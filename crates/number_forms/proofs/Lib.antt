@@ -1,4 +1,5 @@
 pub mod ByKind
+pub mod TermNodes
 pub mod Children
 pub mod Joined
 pub mod LastSums

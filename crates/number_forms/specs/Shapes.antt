@@ -1,9 +1,12 @@
 -- The shapes of terms.
-use Rattle.std.specs.Prelude.{Bool, true, false, ◌≡◌, ◌==◌, pos, if◌then◌else◌}
+use Rattle.std.specs.Prelude.{Bool, true, false, ◌≡◌, ◌==◌, ◌&&◌, pos, if◌then◌else◌, List, [], ◌∷◌, drop}
 use Rattle.calc_terms.specs.Fractions.{is_one_fraction, whole_fraction}
 use Rattle.calc_terms.specs.Rat.{value_of}
 use Rattle.calc_terms.specs.Trees.{Tree, num, add, mult, root, none, more}
 use Rattle.calc_algebra.specs.Surds.{Term}
+use Rattle.calc_terms.specs.declared.kind.Kind.{Kind}
+use Rattle.calc_terms.specs.declared.kind.Kind.TheVariants as kind
+use Rattle.tree_handles.specs.declared.visits.Visit.{Visit}
 use Rattle.number_forms.specs.declared.shape.Shape.{Shape}
 use Rattle.number_forms.specs.declared.shape.Shape.TheVariants as shape
 
@@ -36,3 +39,25 @@ term_tree t =
 -- the tree of the sum of two terms
 abbrev pub sum_of_terms : Term → Term → Tree
 sum_of_terms s t = add (more (term_tree s) (more (term_tree t) none))
+
+-- the kind of the first of some nodes, and Undef where there is none
+abbrev pub first_kind : List Visit → Kind
+first_kind [] = kind.Undef
+first_kind (v ∷ vs) = v.kind
+
+-- the kind of a number, and that of a root
+abbrev pub is_num_kind : Kind → Bool
+is_num_kind kind.Num = true
+is_num_kind _ = false
+
+abbrev pub is_root_kind : Kind → Bool
+is_root_kind kind.Root = true
+is_root_kind _ = false
+
+-- a number comes next
+abbrev pub is_number_next : List Visit → Bool
+is_number_next vs = is_num_kind (first_kind vs)
+
+-- a number, a root and a number come next
+abbrev pub is_multiple_next : List Visit → Bool
+is_multiple_next vs = is_num_kind (first_kind vs) && (is_root_kind (first_kind (drop 1 vs)) && is_number_next (drop 1 (drop 1 vs)))

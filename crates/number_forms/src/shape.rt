@@ -1,15 +1,15 @@
 //! The shape of a term: a rational, the root of one, or a rational times the root of one.
-ghost use Rattle.std.specs.Prelude.{◌≡◌, true, false, MatchOption};
+ghost use Rattle.std.specs.Prelude.{◌≡◌, drop, true, false, MatchOption};
 ghost use Rattle.calc_terms.specs.Rat.{value_of};
 ghost use Rattle.calc_terms.specs.Trees.{num, root, is_num, is_mult};
-ghost use Rattle.number_forms.specs.Shapes.{IsShape, has_term_shape, is_root_of_num};
+ghost use Rattle.number_forms.specs.Shapes.{IsShape, first_kind, has_term_shape, is_multiple_next, is_number_next, is_root_of_num};
 ghost use Rattle.tree_handles.specs.Expressions.{IsExpression, plain};
 ghost use Rattle.tree_handles.specs.Inside.{tree_at};
 ghost use Rattle.tree_handles.specs.Standing.{Stands, forest};
 
 use calc_terms::{Kind, Rat};
 use node_pool::{Id, Pool};
-use tree_handles::{child_id, children, kind, rational};
+use tree_handles::{Nodes, child_id, children, kind, nodes_of, rational};
 
 /// A term's shape, with its rationals as they stand. Whether they make a term is not looked at.
 #[derive(Clone, Copy)]
@@ -20,15 +20,49 @@ pub(crate) enum Shape {
     Other,
 }
 
-/// Whether a tree has a term's shape.
+/// Whether a tree has a term's shape, which the kinds of its first nodes tell.
 pub(crate) fn has_term_shape(pool: &Pool, id: Id) -> bool
     requires stands { Stands pool.now }
     requires expression { IsExpression id (forest pool.now) }
     ensures { result ≡ has_term_shape (plain (tree_at id (forest pool.now))) }
 {
-    match shape_of(pool, id) {
-        Shape::Other => false,
-        _ => true,
+    let mut nodes = nodes_of(pool, id);
+    match next_kind(&mut nodes) {
+        Kind::Num => true,
+        Kind::Root => is_number_next(&mut nodes),
+        Kind::Mult => children(pool, id) == 2 && is_multiple_next(&mut nodes),
+        _ => false,
+    }
+}
+
+/// Whether a number comes next.
+fn is_number_next(nodes: &mut Nodes<'_>) -> bool
+    ensures { result ≡ is_number_next nodes.old }
+{
+    match next_kind(nodes) {
+        Kind::Num => true,
+        _ => false,
+    }
+}
+
+/// Whether a number comes next, and then a root over a number.
+fn is_multiple_next(nodes: &mut Nodes<'_>) -> bool
+    ensures { result ≡ is_multiple_next nodes.old }
+{
+    match (next_kind(nodes), next_kind(nodes)) {
+        (Kind::Num, Kind::Root) => is_number_next(nodes),
+        _ => false,
+    }
+}
+
+/// The kind of the next node, and Undef behind the last one.
+fn next_kind(nodes: &mut Nodes<'_>) -> Kind
+    ensures kind { result ≡ first_kind nodes.old }
+    ensures rest { nodes.new ≡ drop 1 nodes.old }
+{
+    match nodes.next() {
+        Some(node) => node.kind,
+        None => Kind::Undef,
     }
 }
 
