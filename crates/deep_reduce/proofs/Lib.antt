@@ -19,6 +19,7 @@ pub mod EasyNodes
 pub mod NodeAnswers
 pub mod Steps
 pub mod Quotients
+pub mod Folded
 pub mod Parents
 pub mod ChildRooms
 pub mod Ready

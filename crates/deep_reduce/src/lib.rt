@@ -4,6 +4,7 @@
 mod differences;
 mod driver;
 mod exponents;
+mod folding;
 mod halves;
 mod nodes;
 mod whole;

@@ -1,6 +1,7 @@
 //! One node whose children are reduced.
 ghost use Rattle.std.specs.Prelude.{ℕ, List, length, ◌≡◌, ◌<◌, ◌+◌, ◌^◌, nat_abs, true, false, IfOk, IfErr, OnOk, [], ◌∷◌};
 ghost use Rattle.calc_terms.specs.Fractions.{whole_fraction};
+ghost use Rattle.calc_terms.specs.Rat.{value_of};
 ghost use Rattle.calc_terms.specs.Trees.{num, is_add, is_mult, has_undef, size};
 ghost use Rattle.calc_room.specs.Spans.{SpansTree};
 ghost use Rattle.node_bounds.specs.Bits.{HasFewBits};
@@ -23,6 +24,7 @@ ghost use Rattle.tree_handles.specs.Roots.{root_tree, without_root};
 ghost use Rattle.tree_handles.specs.Standing.{Stands, forest, KeepsRefusals};
 
 use crate::differences::{divide, negate, subtract};
+use crate::folding::folded;
 use crate::whole::{reduce_power, reduce_product};
 use calc_terms::{Kind, Rat};
 use node_pool::{Id, Pool};
@@ -56,6 +58,9 @@ pub(crate) fn reduce_node(pool: &mut Pool, tree: Handle) -> Result<Handle, Numbe
 
     ensures stands { Stands pool.new }
 {
+    if let Some(value) = folded(pool, &tree) {
+        return put(pool, tree, value);
+    }
     match kind(pool, tree.id()) {
         Kind::Add => add_up(pool, tree),
         Kind::Mult => multiply(pool, tree),
@@ -116,6 +121,23 @@ pub(crate) fn multiply(pool: &mut Pool, product: Handle) -> Result<Handle, Numbe
     reduce_product(pool, product)
 }
 
+/// A rational in the place of a tree.
+fn put(pool: &mut Pool, tree: Handle, value: Rat) -> Result<Handle, NumberFault>
+    requires stands { Stands pool.old }
+    requires handed { IsHanded tree (forest pool.old) }
+    ensures ok { IfOk result (λ h. Gives (without_root tree (forest pool.old)) (forest pool.new) h (λ t. t ≡ num (value_of value))) }
+    ensures overflow { IfOverflow result (λ o. ⊥) }
+    ensures front { KeepsFront (tree ∷ []) (forest pool.old) (forest pool.new) }
+    ensures kept { OnOk result (KeepsRefusals pool.old pool.new) }
+    ensures faults { IfErr result (Faults pool.old pool.new) }
+    ensures caused { IfErr result (IsCaused pool.new) }
+    ensures room { IfErr result (LacksBelow 40 (free_of pool.old + size (tree_of tree pool.old))) }
+    ensures stands { Stands pool.new }
+{
+    release(pool, tree);
+    Ok(number(pool, value)?)
+}
+
 /// A whole number in the place of a tree.
 fn whole(pool: &mut Pool, tree: Handle, n: i128) -> Result<Handle, NumberFault>
     requires stands { Stands pool.old }
@@ -130,6 +152,5 @@ fn whole(pool: &mut Pool, tree: Handle, n: i128) -> Result<Handle, NumberFault>
     ensures room { IfErr result (LacksBelow 40 (free_of pool.old + size (tree_of tree pool.old))) }
     ensures stands { Stands pool.new }
 {
-    release(pool, tree);
-    Ok(number(pool, Rat::whole(n))?)
+    put(pool, tree, Rat::whole(n))
 }

@@ -1,7 +1,8 @@
-use Rattle.std.proofs.Common.{rules, false, ◌≡◌, ◌^◌, ℕ, List, length, refl, sym, ◌∙◌, arith}
-use Rattle.deep_reduce.proofs.Shared.{plain_value, Tree, root_kind, tree_of, keeps_none, front_same, gives, represents_handed, kind_of_root, pow_pos, SpansTree, value, int_is_negative, base_in, exponent_in, argument_of, IfRational, IsNoLargerThanRoot, children_of, free_of, sum_kind, product_kind}
+use Rattle.std.proofs.Common.{rules, subst, false, ◌≡◌, ◌^◌, ℕ, List, length, refl, sym, ◌∙◌, arith}
+use Rattle.deep_reduce.proofs.Shared.{IsNodeAnswer, plain_value, Tree, root_kind, tree_of, keeps_none, front_same, gives, represents_handed, kind_of_root, pow_pos, SpansTree, value, int_is_negative, base_in, exponent_in, argument_of, IfRational, IsNoLargerThanRoot, children_of, free_of, sum_kind, product_kind}
 use Rattle.node_bounds.proofs.HeldFits.{product_fits}
 use Rattle.node_bounds.proofs.NodeBits.{as_overflow, power_node_fits, root_node_fits, measured_facts, holds_as}
+use Rattle.deep_reduce.proofs.Folded.{number_needs}
 use Rattle.deep_reduce.proofs.Lacking.{result_lacks, power_result}
 use Rattle.node_bounds.proofs.NodeBytes.{sum_fits, factors_fit, power_fits, half_fits, root_result, no_half_power, node_spans}
 use Rattle.deep_reduce.proofs.Results.{answered, answer_as, overflow_as, overflowed_defined, with_facts, span_facts}
@@ -77,14 +78,14 @@ returns-in-Pow c =
       stands = search rules;
     }
 
-pub returns-in_default : goal.returns-in_default
-returns-in_default c =
+pub returns-in_default-kind : goal.returns-in_default-kind
+returns-in_default-kind c =
     let t : Tree = tree_of c.args.tree c.args.pool.now in
-    let is = kind-is (goal.at.returns-in_default c).After-kind in
+    let is = kind-is (goal.at.returns-in_default-kind c).After-kind in
     record {
       ok = gives c.requires.last (represents_handed c.requires.handed)
-          (leaf_told t (λ e. c.in_default.not-Add (is ∙ sym e)) (λ e. c.in_default.not-Mult (is ∙ sym e)) (λ e. c.in_default.not-Pow (is ∙ sym e)) (λ e. c.in_default.not-Root (is ∙ sym e))
-          (λ e. c.in_default.not-Neg (is ∙ sym e)) (λ e. c.in_default.not-Sub (is ∙ sym e)) (λ e. c.in_default.not-Div (is ∙ sym e)));
+          (leaf_told t (λ e. c.in_default-kind.not-Add (is ∙ sym e)) (λ e. c.in_default-kind.not-Mult (is ∙ sym e)) (λ e. c.in_default-kind.not-Pow (is ∙ sym e)) (λ e. c.in_default-kind.not-Root (is ∙ sym e))
+          (λ e. c.in_default-kind.not-Neg (is ∙ sym e)) (λ e. c.in_default-kind.not-Sub (is ∙ sym e)) (λ e. c.in_default-kind.not-Div (is ∙ sym e)));
       overflow = tt;
       front = front_same;
       kept = keeps_none c.args.pool.now;
@@ -137,3 +138,18 @@ returns-in-Sub-clause-room c = λ gs ns n h k s.
 pub returns-in-Div-clause-room : goal.returns-in-Div-clause-room
 returns-in-Div-clause-room c = λ gs ns n h k s.
     c.divide.ensures.room gs ns n h k (node_spans gs (tree_of c.args.tree c.args.pool.now) (sym c.in-Div.is ∙ kind-is (goal.at.returns-in-Div-clause-room c).After-kind) (λ e. cc) s)
+
+-- ---- rationals
+
+pub returns-in-Some-clause-ok : goal.returns-in-Some-clause-ok
+returns-in-Some-clause-ok c =
+    let t : Tree = tree_of c.args.tree c.args.pool.now in
+    answer_as _ _ c.put.new.pool _ _ _ c.put.ensures.ok refl (λ u e. subst (IsNodeAnswer t) (sym e) c.in-Some.ensures)
+
+pub returns-in-Some-clause-room : goal.returns-in-Some-clause-room
+returns-in-Some-clause-room c = λ gs ns n h k s.
+    result_lacks c.put.result c.put.ensures.room (λ l. omega (arith, l, number_needs (tree_of c.args.tree c.args.pool.now) n (2 ^ length gs) h (pow_pos (length gs))))
+
+pub returns-in-Some-clause-root_room : goal.returns-in-Some-clause-root_room
+returns-in-Some-clause-root_room c = λ gs n h z s.
+    result_lacks c.put.result c.put.ensures.room (λ l. omega (arith, l, number_needs (tree_of c.args.tree c.args.pool.now) n (2 ^ length gs) h (pow_pos (length gs))))

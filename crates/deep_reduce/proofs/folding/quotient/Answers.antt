@@ -1,0 +1,15 @@
+use Rattle.std.proofs.Common.{◌≡◌, false, sym, ◌∙◌}
+use Rattle.deep_reduce.proofs.Shared.{mul_op, is_zero_fraction, value_of}
+use Rattle.rational128.proofs.LowestTerms.{ratio_parts}
+use Rattle.deep_reduce.proofs.Folded.{calculated_is, other_than_zero, quotient_answered, rational_fits, some_told}
+use Rattle.deep_reduce.proofs.folding.quotient.Goals as goal
+
+pub invert-inverse-requires : goal.invert-inverse-requires
+invert-inverse-requires c = λ e. other_than_zero (value_of c.args.divisor) (sym c.is_zero.ensures ∙ c.if-is_zero.false) ((ratio_parts c.args.divisor).num ∙ e)
+
+pub returns : goal.returns
+returns c =
+    let p = value_of c.args.dividend in
+    let z : is_zero_fraction (value_of c.args.divisor) ≡ false = sym c.is_zero.ensures ∙ c.if-is_zero.false in
+    some_told c.ok.result (calculated_is mul_op p (value_of c.invert-inverse.result) c.mul.result c.ok.result c.ok.ensures.value c.mul.ensures.product c.mul.ensures.refused)
+    (λ x h. quotient_answered (value_of c.args.divisor) (value_of c.invert-inverse.result) z (rational_fits c.args.divisor) c.invert-inverse.ensures.inverse p (value_of x) h.0 h.1)
