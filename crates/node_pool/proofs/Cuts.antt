@@ -1,6 +1,6 @@
 -- Cutting a list of nodes at places.
 use Rattle.std.proofs.Common.{Bool, List, [], ap, append_assoc, arith, cond, eqb, false, length, refl, subst, sym, ℕ, ◌++◌, ◌+◌, ◌-◌, ◌<◌, ◌∙◌, ◌∷◌, ◌≡◌, ◌≤◌}
-use Rattle.node_pool.proofs.Shared.{ne_eqb, append_cancel_left, length-append, Node, size_of, AreDistinct, AreNodes, first_of, used, IsBoundary, between, since, until}
+use Rattle.node_pool.proofs.Shared.{ne_eqb, append_cancel_left, length-append, Node, size_of, AreDistinct, AreNodes, first_of, used, IsBoundary, between, since, swapped, until}
 use Rattle.node_pool.proofs.Ids.{AreApart-append, AreApart-parts, AreApart-sym, AreDistinct-append, AreDistinct-parts}
 use Rattle.node_pool.proofs.Sizes.{AreNodes-append, AreNodes-left, AreNodes-right, size_from, used-append}
 
@@ -113,6 +113,13 @@ until-zero (n ∷ ns) = refl
 
 pub between_none : (at to : ℕ) (ns : List Node) → to ≤ at → between at to ns ≡ []
 between_none at to ns h = let e : to - at ≡ 0 = omega arith in rw e (until-zero (since at ns))
+
+-- nothing changes places with what stands beside it
+pub swapped_front : (i k : ℕ) (ns : List Node) → IsBoundary i ns → IsBoundary k ns → i ≤ k → swapped i i k ns ≡ ns
+swapped_front i k ns a b h = ap (λ (x : List Node). until i ns ++ (between i k ns ++ (x ++ since k ns))) (between_none i i ns (omega arith)) ∙ sym (cut i k ns a b h).whole
+
+pub swapped_back : (i k : ℕ) (ns : List Node) → IsBoundary i ns → IsBoundary k ns → i ≤ k → swapped i k k ns ≡ ns
+swapped_back i k ns a b h = ap (λ (x : List Node). until i ns ++ (x ++ (between i k ns ++ since k ns))) (between_none k k ns (omega arith)) ∙ sym (cut i k ns a b h).whole
 
 pub between_few : (at to : ℕ) (ns : List Node) → IsBoundary at ns → IsBoundary to ns → at ≤ to → length (between at to ns) ≤ length ns
 between_few at to ns a b h =

@@ -265,6 +265,9 @@ impl Pool {
     {
         let buffer = &mut self.buffer;
         let end = from + len;
+        if to == from || from == end {
+            return;
+        }
         buffer.rotate(to, from, end);
         note_block(&mut self.places, buffer, to, end);
     }
