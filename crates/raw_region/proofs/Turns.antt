@@ -1,7 +1,7 @@
 -- Parts of a list that change places.
-use Rattle.std.proofs.Common.{List, ap, append_assoc, arith, drop, length, refl, sym, take, ℕ, ◌++◌, ◌+◌, ◌-◌, ◌∙◌, ◌≡◌, ◌≤◌}
-use Rattle.std.proofs.lemmas.List.{drop-drop, drop-take, drop_at, length-append, length-drop, length-take-le, take-take, take_at}
-use Rattle.raw_region.specs.Bytes.{put, slid, rotated, switched}
+use Rattle.std.proofs.Common.{List, ap, append_assoc, arith, drop, length, refl, replicate, sym, take, ℕ, ◌++◌, ◌+◌, ◌-◌, ◌∙◌, ◌≡◌, ◌≤◌}
+use Rattle.std.proofs.lemmas.List.{drop-drop, drop-take, drop_at, length-append, length-drop, length-take-le, take-take, take_at, length-replicate, replicate-append-replicate}
+use Rattle.raw_region.specs.Bytes.{put, slid, cleared, rotated, switched}
 
 pub rotated_is : (xs ys : List ℕ) (a b c : ℕ) → a ≤ b → b ≤ c → ys ≡ drop (b - a) (take (c - a) (drop a xs)) ++ take (b - a) (take (c - a) (drop a xs)) → take a xs ++ (ys ++ drop (c - a) (drop a xs)) ≡ rotated xs a b c
 rotated_is xs ys a b c h k e =
@@ -46,3 +46,28 @@ pub rotated_by : (xs s z room rest : List ℕ) (a b c : ℕ) → a ≤ b → b �
 rotated_by xs s z room rest a b c h k fits e r q =
     let long : length room ≡ b - a = ap length r ∙ length-take-le (b - a) (drop a xs) (omega (arith, length-drop a xs)) in
     q ∙ ap (λ (l : List ℕ). put l (c - (b - a)) (take (b - a) (room ++ rest))) e ∙ rotated_down xs (take (b - a) (room ++ rest)) a b c h k fits (take_at room rest (b - a) long ∙ r)
+
+-- zeros at both ends of a part that they cover
+pub cleared_ends : (xs ys zs : List ℕ) (a b n : ℕ) → a + n ≤ b → b ≤ a + n + n → b ≤ length xs → ys ≡ put xs a (replicate n 0) → zs ≡ put ys (b - n) (replicate n 0) → zs ≡ cleared xs a b
+cleared_ends xs ys zs a b n h k fits e q =
+    let z : List ℕ = replicate n 0 in
+    let front = take a xs in
+    let more : List ℕ = replicate (b - n - a) 0 in
+    let rest : List ℕ = replicate (n - (b - n - a)) 0 in
+    let d = drop (a + n) xs in
+    let count : length z ≡ n = length-replicate {A = ℕ} n 0 in
+    let some : length more ≡ b - n - a = length-replicate {A = ℕ} (b - n - a) 0 in
+    let first : length front ≡ a = length-take-le a xs (omega arith) in
+    let now : ys ≡ front ++ (z ++ d) = e ∙ ap (λ (i : ℕ). front ++ (z ++ drop (a + i) xs)) count in
+    let parts : z ≡ more ++ rest = sym (replicate-append-replicate (b - n - a) (n - (b - n - a)) 0 ∙ ap (λ (i : ℕ). replicate i 0) (omega arith)) in
+    let split : ys ≡ (front ++ more) ++ (rest ++ d) = now ∙ ap (λ (l : List ℕ). front ++ (l ++ d)) parts ∙ simp append_assoc in
+    let below : take (b - n) ys ≡ front ++ more = ap (take (b - n)) split ∙ take_at (front ++ more) (rest ++ d) (b - n) (omega (arith, length-append front more)) in
+    let whole : ys ≡ (front ++ z) ++ d = now ∙ sym (append_assoc front z d) in
+    let over : drop (a + n) ys ≡ d = ap (drop (a + n)) whole ∙ drop_at (front ++ z) d (a + n) (omega (arith, length-append front z)) in
+    let reach : a + n + (b - (a + n)) ≡ b = omega arith in
+    let far = λ (l : List ℕ). let step : drop (b - (a + n)) (drop (a + n) l) ≡ drop b l = drop-drop (b - (a + n)) (a + n) l ∙ ap (λ (i : ℕ). drop i l) reach in step in
+    let last : b - n + length z ≡ b = omega (arith, count) in
+    let above : drop (b - n + length z) ys ≡ drop b xs = ap (λ (i : ℕ). drop i ys) last ∙ sym (far ys) ∙ ap (drop (b - (a + n))) over ∙ far xs in
+    let joined : more ++ z ≡ replicate (b - a) 0 = replicate-append-replicate (b - n - a) n 0 ∙ ap (λ (i : ℕ). replicate i 0) (omega arith) in
+    q ∙ ap (λ (l : List ℕ). l ++ (z ++ drop (b - n + length z) ys)) below ∙ ap (λ (l : List ℕ). (front ++ more) ++ (z ++ l)) above
+    ∙ append_assoc front more (z ++ drop b xs) ∙ ap (λ (l : List ℕ). front ++ l) (sym (append_assoc more z (drop b xs)) ∙ ap (λ (l : List ℕ). l ++ drop b xs) joined)

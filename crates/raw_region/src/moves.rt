@@ -1,9 +1,10 @@
 //! How bytes move within a slice.
 ghost use Rattle.std.specs.Prelude.{◌≡◌, ◌+◌, ◌-◌, ◌≤◌, ◌<◌, length, take, drop};
-ghost use Rattle.raw_region.specs.Bytes.{put, slid, rotated, switched};
+ghost use Rattle.raw_region.specs.Bytes.{put, slid, cleared, rotated, switched};
 
-/// The most bytes that wait aside while longer runs move past them.
+/// The most bytes that wait aside while longer runs move past them, and how many are few.
 const ROOM: usize = 256;
+const FEW: usize = 64;
 
 /// How many bytes move at once as long as there are so many.
 const WIDE: usize = 32;
@@ -78,7 +79,7 @@ pub fn write(bytes: &mut [u8], at: usize, run: &[u8])
     bytes[at..at + run.len()].copy_from_slice(run);
 }
 
-/// The bytes from `mid` to `end`, and then those from `start` to `mid`.
+/// The bytes from `mid` to `end`, and then those from `start` to `mid`. The sizes of single nodes are moved in registers.
 pub fn rotate(bytes: &mut [u8], start: usize, mid: usize, end: usize)
     requires low { start ≤ mid }
     requires high { mid ≤ end }
@@ -86,10 +87,31 @@ pub fn rotate(bytes: &mut [u8], start: usize, mid: usize, end: usize)
     ensures { bytes.new ≡ rotated bytes.old start mid end }
 {
     let (front, back) = (mid - start, end - mid);
-    if front <= 16 {
-        rotate_down::<16>(bytes, start, mid, end);
-    } else if back <= 16 {
-        rotate_up::<16>(bytes, start, mid, end);
+    if front == 8 {
+        turn_down::<8>(bytes, start, mid, end);
+    } else if back == 8 {
+        turn_up::<8>(bytes, start, mid, end);
+    } else if front == 16 {
+        turn_down::<16>(bytes, start, mid, end);
+    } else if back == 16 {
+        turn_up::<16>(bytes, start, mid, end);
+    } else {
+        rotate_long(bytes, start, mid, end);
+    }
+}
+
+/// The same for parts of any length: the shorter one waits in a room where it is short.
+fn rotate_long(bytes: &mut [u8], start: usize, mid: usize, end: usize)
+    requires low { start ≤ mid }
+    requires high { mid ≤ end }
+    requires inside { end ≤ length bytes.old }
+    ensures { bytes.new ≡ rotated bytes.old start mid end }
+{
+    let (front, back) = (mid - start, end - mid);
+    if front <= back && front <= FEW {
+        rotate_down::<FEW>(bytes, start, mid, end);
+    } else if back <= FEW {
+        rotate_up::<FEW>(bytes, start, mid, end);
     } else if front <= ROOM {
         rotate_down::<ROOM>(bytes, start, mid, end);
     } else if back <= ROOM {
@@ -97,6 +119,30 @@ pub fn rotate(bytes: &mut [u8], start: usize, mid: usize, end: usize)
     } else {
         bytes[start..end].rotate_left(front);
     }
+}
+
+/// The bytes from `mid` to `end` move down over the `N` before them, which come behind them.
+fn turn_down<const N: usize>(bytes: &mut [u8], start: usize, mid: usize, end: usize)
+    requires run { mid ≡ start + N }
+    requires high { mid ≤ end }
+    requires inside { end ≤ length bytes.old }
+    ensures { bytes.new ≡ rotated bytes.old start mid end }
+{
+    let run: [u8; N] = read(bytes, start);
+    slide(bytes, mid, start, end - mid);
+    write(bytes, end - N, &run);
+}
+
+/// The bytes from `start` to `mid` move up over the `N` behind them, which come before them.
+fn turn_up<const N: usize>(bytes: &mut [u8], start: usize, mid: usize, end: usize)
+    requires low { start ≤ mid }
+    requires run { end ≡ mid + N }
+    requires inside { end ≤ length bytes.old }
+    ensures { bytes.new ≡ rotated bytes.old start mid end }
+{
+    let run: [u8; N] = read(bytes, mid);
+    slide(bytes, start, start + N, mid - start);
+    write(bytes, start, &run);
 }
 
 /// The bytes from `mid` to `end` move down, while those before them wait in a room of `N` bytes.
@@ -139,4 +185,34 @@ pub fn exchange(bytes: &mut [u8], low: usize, high: usize, len: usize)
 {
     let (front, back) = bytes.split_at_mut(high);
     front[low..low + len].swap_with_slice(&mut back[..len]);
+}
+
+/// Zeros from `from` to before `to`. Up to 64 of them are written without a call.
+pub fn clear(bytes: &mut [u8], from: usize, to: usize)
+    requires order { from ≤ to }
+    requires inside { to ≤ length bytes.old }
+    ensures { bytes.new ≡ cleared bytes.old from to }
+{
+    let len = to - from;
+    if len < 8 || len > FEW {
+        bytes[from..to].fill(0);
+    } else if len <= 16 {
+        clear_ends::<8>(bytes, from, to);
+    } else if len <= 32 {
+        clear_ends::<16>(bytes, from, to);
+    } else {
+        clear_ends::<32>(bytes, from, to);
+    }
+}
+
+/// Zeros in the first and the last `N` bytes from `from` to before `to`, which are all.
+fn clear_ends<const N: usize>(bytes: &mut [u8], from: usize, to: usize)
+    requires first { from + N ≤ to }
+    requires last { to ≤ from + N + N }
+    requires inside { to ≤ length bytes.old }
+    ensures { bytes.new ≡ cleared bytes.old from to }
+{
+    let zeros = [0; N];
+    write(bytes, from, &zeros);
+    write(bytes, to - N, &zeros);
 }

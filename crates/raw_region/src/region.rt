@@ -106,7 +106,7 @@ impl Region {
         requires inside { to ≤ length self.old }
         ensures { self.new ≡ cleared self.old from to }
     {
-        self.bytes_mut()[from as usize..to as usize].fill(0);
+        moves::clear(self.bytes_mut(), from as usize, to as usize);
     }
 
     /// The bytes from `mid` to `end`, and then those from `start` to `mid`.
