@@ -1,7 +1,7 @@
 -- Bytes that move in parts.
 use Rattle.std.proofs.Common.{List, ap, append_assoc, arith, drop, length, refl, sym, take, ℕ, ◌++◌, ◌+◌, ◌-◌, ◌∙◌, ◌≡◌, ◌≤◌}
 use Rattle.std.proofs.Math.Seq.{take-add}
-use Rattle.std.proofs.lemmas.List.{drop-drop, drop-take, drop_at, length-append, length-drop, length-take-le, take-take, take_at}
+use Rattle.std.proofs.lemmas.List.{drop-drop, drop-take, drop_at, length-append, length-drop, length-take-le, take-append-drop, take-take, take_at}
 use Rattle.raw_region.specs.Bytes.{put, slid}
 use Rattle.raw_region.proofs.Puts.{length-put, put-put}
 
@@ -69,3 +69,9 @@ pub slid_before : (xs ys : List ℕ) (a b len left m : ℕ) → a ≤ b → b + 
 slid_before xs ys a b len left m le h k s e =
     let long : length ys ≡ length xs = ap length e ∙ length-slid xs (a + left) (b + left) (len - left) (omega arith) (omega arith) in
     slid_less xs ys (slid ys (a + m) (b + m) (left - m)) (take (left - m) (drop (a + m) ys)) a b len left m (left - m) le h k (omega arith) e refl (slid_put ys (a + m) (b + m) (left - m) (omega arith))
+
+-- nothing moves
+pub slid_none : (xs : List ℕ) (a b len : ℕ) → len ≡ 0 → xs ≡ slid xs a b len
+slid_none xs a b len e =
+    let none : b + 0 ≡ b = omega arith in
+    rw (e, none) (sym (take-append-drop b xs))

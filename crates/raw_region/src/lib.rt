@@ -5,4 +5,5 @@ mod block;
 mod moves;
 mod region;
 
+pub use moves::read;
 pub use region::Region;

@@ -4,6 +4,7 @@ ghost use Rattle.raw_region.specs.Bytes.{put, slid, cleared, rotated, switched};
 
 /// The most bytes that wait aside while longer runs move past them, and how many are few.
 const ROOM: usize = 256;
+
 const FEW: usize = 64;
 
 /// How many bytes move at once as long as there are so many.
@@ -15,6 +16,9 @@ pub fn slide(bytes: &mut [u8], from: usize, to: usize, len: usize)
     requires target { to + len ≤ length bytes.old }
     ensures { bytes.new ≡ slid bytes.old from to len }
 {
+    if len == 0 {
+        return;
+    }
     if to <= from {
         let done = slide_down::<WIDE>(bytes, from, to, len);
         let more = slide_down::<8>(bytes, from + done, to + done, len - done);
@@ -63,6 +67,8 @@ fn slide_up<const N: usize>(bytes: &mut [u8], from: usize, to: usize, len: usize
     left
 }
 
+/// The `N` bytes from `at` on.
+#[inline(always)]
 pub fn read<const N: usize>(bytes: &[u8], at: usize) -> [u8; N]
     requires { at + N ≤ length bytes.now }
     ensures { result ≡ take N (drop at bytes.now) }

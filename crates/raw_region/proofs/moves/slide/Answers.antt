@@ -1,7 +1,10 @@
 use Rattle.std.proofs.Common.{ℕ, ◌+◌, ◌-◌, ◌≤◌, ◌≡◌, ◌∙◌, arith, ap}
 use Rattle.raw_region.specs.Bytes.{slid}
-use Rattle.raw_region.proofs.Slides.{slid_after, slid_before}
+use Rattle.raw_region.proofs.Slides.{slid_after, slid_before, slid_none}
 use Rattle.raw_region.proofs.moves.slide.Goals as goal
+
+pub returns-then-len-eq0 : goal.returns-then-len-eq0
+returns-then-len-eq0 c = slid_none c.args.bytes.now c.args.from c.args.to c.args.len c.if-len-eq0.true
 
 pub returns-then-to-from : goal.returns-then-to-from
 returns-then-to-from c =
