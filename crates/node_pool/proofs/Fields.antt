@@ -1,7 +1,7 @@
 -- A buffer whose bytes are those of a list of nodes.
 use Rattle.std.proofs.Common.{List, ap, arith, drop, get_or, length, refl, replicate, sym, take, ℕ, Bool, ◌==◌, ◌++◌, ◌+◌, ◌-◌, ◌<◌, ◌∙◌, ◌∷◌, ◌≡◌, ◌≤◌}
 use Rattle.std.specs.Prelude.{Option}
-use Rattle.node_pool.proofs.Shared.{drop-drop, kind_of, Node, from_bytes, header_in, short_at, header_of, kind_at, kind_or_undef, size_of, size_of_header, Kind, Header, header_in-encoding, Contents, IsContents, nodes_of, IsLaid, contents_of, AreNodes, encodings, first_of, used, IsBoundary, since}
+use Rattle.node_pool.proofs.Shared.{bytes_in, drop-drop, kind_of, Node, from_bytes, header_in, short_at, header_of, kind_at, kind_or_undef, size_of, size_of_header, Kind, Header, header_in-encoding, Contents, IsContents, nodes_of, IsLaid, contents_of, AreNodes, encodings, first_of, used, IsBoundary, since}
 use Rattle.node_pool.specs.declared.buffer.Buffer.TheInside.{Inside}
 use Rattle.node_pool.proofs.Numbers.{byte_read}
 use Rattle.node_pool.proofs.Sizes.{length-nodes_of, nodes_of-encodings, size_from}
@@ -58,6 +58,10 @@ seen b c h at k e place lt q =
       rest = rw size (x.1.rest ∙ ap (λ (n : Node). n ∷ since (at + size_of x.0) ns) (sym first));
       within = rw size x.1.room;
     }
+
+-- the bytes that are told are those that are kept
+pub stored : (b : Inside) (c : Contents) (bytes : List ℕ) → IsLaid b → contents_of b ≡ c → bytes ≡ bytes_in c → bytes ≡ b.store
+stored b c bytes k e h = h ∙ ap bytes_in (sym e) ∙ sym k.bytes
 
 -- there is room for a header at each place before the end
 pub has_room : (b : Inside) (c : Contents) (at : ℕ) → IsLaid b → contents_of b ≡ c → IsBoundary at c.nodes → at < used c.nodes → at + 8 ≤ length b.store

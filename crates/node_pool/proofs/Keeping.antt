@@ -1,7 +1,7 @@
 -- What a change of the nodes leaves of the pool's fields.
 use Rattle.std.proofs.Common.{Bool, List, [], ap, arith, cond, eqb, false, length, refl, set, subst, sym, true, ℕ, ◌++◌, ◌+◌, ◌-◌, ◌<◌, ◌^◌, ◌∙◌, ◌∷◌, ◌≡◌, ◌≤◌}
 use Rattle.node_pool.proofs.Shared.{eq-eqb, eqb-false, eqb-true, ne_eqb, length-set, Node, fresh, Payload, Contents, IsContents, AreBelow, AreFlagsOf, HasUnused, IsLeastUnused, flag, without_ids, IsKept, state_of, ArePlacesOf, noted, AreDistinct, has, place_of, used, with_children, with_count, IsBoundary, between, exchanged, since, swapped, until, without, State, Inside}
-use Rattle.node_pool.proofs.Cuts.{AreDistinct-swap, AreDistinct-without, boundary_le, cut, cut3}
+use Rattle.node_pool.proofs.Cuts.{AreDistinct-swap, AreDistinct-without, boundary_le, cut, cut3, until-since}
 use Rattle.node_pool.proofs.Exchanges.{AreBlocks, are_exchanged, blocks_of, exchanged_places, half}
 use Rattle.node_pool.proofs.Found.{AreDistinct-same, found, has-same}
 use Rattle.node_pool.proofs.Ids.{AreApart, AreApart-parts, AreApart-sym, AreDistinct-append, AreDistinct-parts, has-append, not_both, or_is_false}
@@ -83,6 +83,13 @@ between_has : (i at to : ℕ) (ns : List Node) → IsBoundary at ns → IsBounda
 between_has i at to ns a b le h =
     let w = (cut at to ns a b le).whole in
     ap (has i) w ∙ has-append i (until at ns) (between at to ns ++ since to ns) ∙ ap (λ (x : Bool). cond (has i (until at ns)) true x) (has-append i (between at to ns) (since to ns) ∙ ap (λ (x : Bool). cond x true (has i (since to ns))) h) ∙ always (has i (until at ns))
+  where
+    always : (x : Bool) → cond x true true ≡ true
+    always true = refl
+    always false = refl
+
+since_has : (i at : ℕ) (ns : List Node) → has i (since at ns) ≡ true → has i ns ≡ true
+since_has i at ns h = ap (has i) (sym (until-since at ns)) ∙ has-append i (until at ns) (since at ns) ∙ ap (λ (x : Bool). cond (has i (until at ns)) true x) h ∙ always (has i (until at ns))
   where
     always : (x : Bool) → cond x true true ≡ true
     always true = refl
@@ -200,35 +207,24 @@ without_has i a b c d = by_test (has i b) refl (AreDistinct-parts a (b ++ c) d)
 pub between_below : (p : Inside) (at to : ℕ) → IsKept p → IsBoundary at p.buffer.nodes → IsBoundary to p.buffer.nodes → at ≤ to → AreBelow (length p.taken) (between at to p.buffer.nodes)
 between_below p at to k a b le = below (length p.taken) _ (λ i h. flag_inside i p.taken (k.flags i ∙ between_has i at to p.buffer.nodes a b le h))
 
--- the nodes that close up
-pub closed_known : (p : Inside) (at to end : ℕ) → IsKept p → IsBoundary at p.buffer.nodes → IsBoundary to p.buffer.nodes → at ≤ to → end ≡ used (without at to p.buffer.nodes)
-    → AreBelow (length p.places) (between at end (without at to p.buffer.nodes))
-closed_known p at to end k a b le e =
-    let ns = p.buffer.nodes in
-    let w = (cut at to ns a b le).whole in
-    let part : between at end (without at to ns) ≡ since to ns = ap (λ (j : ℕ). between at j (without at to ns)) e ∙ closed_part at to ns a in
-    subst (AreBelow (length p.places)) (sym part) (below (length p.places) _ (λ i h. inside p k i (since_has i h w)))
-  where
-    always : (x : Bool) → cond x true true ≡ true
-    always true = refl
-    always false = refl
+-- the nodes behind a place
+pub behind_known : (p : Inside) (to : ℕ) → IsKept p → AreBelow (length p.places) (since to p.buffer.nodes)
+behind_known p to k = below (length p.places) _ (λ i h. inside p k i (since_has i to p.buffer.nodes h))
 
-    since_has : (i : ℕ) → has i (since to p.buffer.nodes) ≡ true → p.buffer.nodes ≡ until at p.buffer.nodes ++ (between at to p.buffer.nodes ++ since to p.buffer.nodes) → has i p.buffer.nodes ≡ true
-    since_has i h w =
-        let x = until at p.buffer.nodes in
-        let y = between at to p.buffer.nodes in
-        let z = since to p.buffer.nodes in
-        ap (has i) w ∙ has-append i x (y ++ z) ∙ ap (λ (t : Bool). cond (has i x) true t) (has-append i y z ∙ ap (λ (t : Bool). cond (has i y) true t) h ∙ always (has i y)) ∙ always (has i x)
-
-pub removed_block : (p q : Inside) (at to end : ℕ) → IsKept p → IsBoundary at p.buffer.nodes → IsBoundary to p.buffer.nodes → at ≤ to → end ≡ used (without at to p.buffer.nodes) → q.taken ≡ without_ids (between at to p.buffer.nodes) p.taken
-    → q.places ≡ noted at (between at end (without at to p.buffer.nodes)) p.places → q.buffer ≡ record p.buffer { nodes = without at to p.buffer.nodes } → IsContents q.buffer → IsKept q
-removed_block p q at to end k a b le u t s e h =
+pub removed_block : (p q : Inside) (at to : ℕ) → IsKept p → IsBoundary at p.buffer.nodes → IsBoundary to p.buffer.nodes → at ≤ to → q.taken ≡ without_ids (between at to p.buffer.nodes) p.taken
+    → q.places ≡ noted at (since to p.buffer.nodes) p.places → q.buffer ≡ record p.buffer { nodes = without at to p.buffer.nodes } → IsContents q.buffer → IsKept q
+removed_block p q at to k a b le t s e h =
     let ns = p.buffer.nodes in
     let ms = without at to ns in
     let w = (cut at to ns a b le).whole in
     let d : AreDistinct (until at ns ++ (between at to ns ++ since to ns)) = subst AreDistinct w k.pool.distinct in
     let distinct = AreDistinct-without (until at ns) (between at to ns) (since to ns) d in
-    let places : q.places ≡ noted at (between at (used ms) ms) p.places = s ∙ ap (λ (j : ℕ). noted at (between at j ms) p.places) u in
-    kept p q ms k e h (ap length t ∙ length-without_ids (between at to ns) p.taken) (ap length s ∙ length-noted at (between at end ms) p.places) distinct
+    let part : since to ns ≡ between at (used ms) ms = sym (closed_part at to ns a) in
+    let places : q.places ≡ noted at (between at (used ms) ms) p.places = s ∙ ap (λ (l : List Node). noted at l p.places) part in
+    kept p q ms k e h (ap length t ∙ length-without_ids (between at to ns) p.taken) (ap length s ∙ length-noted at (since to ns) p.places) distinct
     (λ i. ap (flag i) t ∙ flag-without_ids i (between at to ns) p.taken (between_below p at to k a b le) ∙ ap (λ (x : Bool). cond (has i (between at to ns)) false x) (k.flags i ∙ ap (has i) w) ∙ without_has i (until at ns) (between at to ns) (since to ns) d)
-    (subst (ArePlacesOf ms) (sym places) (closed_places at to ns p.places a distinct (subst (λ (j : ℕ). AreBelow (length p.places) (between at j ms)) u (closed_known p at to end k a b le u)) k.places))
+    (subst (ArePlacesOf ms) (sym places) (closed_places at to ns p.places a distinct (subst (AreBelow (length p.places)) part (behind_known p to k)) k.places))
+
+-- the flags of the nodes behind a place
+pub since_below : (p : Inside) (at : ℕ) → IsKept p → AreBelow (length p.taken) (since at p.buffer.nodes)
+since_below p at k = below (length p.taken) _ (λ i h. flag_inside i p.taken (k.flags i ∙ since_has i at p.buffer.nodes h))

@@ -16,3 +16,4 @@ pub mod Marks
 pub mod Noting
 pub mod Keeping
 pub mod Shared
+pub mod Unheld

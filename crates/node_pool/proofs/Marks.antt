@@ -11,6 +11,9 @@ released ids new ms rest n id e i q h =
     let len : length new ≡ length ids = ap length q ∙ length-set ids id false in
     (subst (λ (k : ℕ). AreBelow k rest) (sym len) known.1, ap (without_ids rest) (q ∙ ap (λ (k : ℕ). set ids k false) i) ∙ ap (λ (x : List Node). without_ids x ids) (sym e))
 
+pub released_rest : (ids new : List Bool) (ms rest : List Node) (n : Node) (id : ℕ) → ms ≡ n ∷ rest → id ≡ n.id → new ≡ set ids id false → without_ids rest new ≡ without_ids ms ids
+released_rest ids new ms rest n id e i q = ap (without_ids rest) (q ∙ ap (λ (k : ℕ). set ids k false) i) ∙ ap (λ (x : List Node). without_ids x ids) (sym e)
+
 pub length-without_ids : (ns : List Node) (flags : List Bool) → length (without_ids ns flags) ≡ length flags
 length-without_ids [] flags = refl
 length-without_ids (n ∷ ns) flags = length-without_ids ns (set flags n.id false) ∙ length-set flags n.id false

@@ -11,7 +11,7 @@ pub use Rattle.calc_terms.specs.Rat.{ratio_of}
 pub use Rattle.calc_terms.specs.Ratio.{IsRat, Ratio}
 pub use Rattle.calc_terms.specs.declared.kind.Kind.{Kind}
 pub use Rattle.calc_terms.specs.declared.leaf.Header.{Header}
-pub use Rattle.node_pool.specs.Contents.{Contents, IsContents}
+pub use Rattle.node_pool.specs.Contents.{Contents, IsContents, bytes_in}
 unfoldable pub use Rattle.node_pool.specs.Contents.{nodes_of}
 pub use Rattle.node_pool.specs.Flags.{AreBelow, AreFlagsOf, AreTakenBelow, HasUnused, IsLeastUnused, flag, without_ids}
 pub use Rattle.node_pool.specs.Kept.{IsKept, state_of}
@@ -20,6 +20,7 @@ pub use Rattle.node_pool.specs.Nodes.{AreDistinct, AreNodes, encodings, first_of
 pub use Rattle.node_pool.specs.Noted.{ArePlacesOf, noted, place_in}
 pub use Rattle.node_pool.specs.Places.{IsBoundary, between, exchanged, moved, since, swapped, until, without}
 pub use Rattle.node_pool.specs.State.{IsPoolSize, State, free_of}
+pub use Rattle.node_pool.specs.Unheld.{owed_behind, unheld}
 pub use Rattle.node_pool.specs.declared.pool.Pool.TheInside.{Inside}
 pub use Rattle.raw_region.proofs.Puts.{length-put, put-nil, put-put}
 pub use Rattle.raw_region.specs.Bytes.{cleared, put, rotated, slid, switched}

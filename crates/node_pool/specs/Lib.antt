@@ -5,4 +5,5 @@ pub mod Contents
 pub mod Laid
 pub mod Flags
 pub mod Noted
+pub mod Unheld
 pub mod Kept

@@ -89,7 +89,24 @@ impl Buffer {
         ensures within { at + size_of_header result ≤ used self.now.nodes }
         ensures kept { IsContents self.now }
     {
-        node::header_at(&self.store, at)
+        self.header_in(self.store.bytes(), at)
+    }
+
+    /// The same from the buffer's bytes, which a loop takes once.
+    #[inline(always)]
+    pub fn header_in(&self, bytes: &[u8], at: u32) -> Header
+        requires bytes { bytes.now ≡ bytes_in self.now }
+        requires boundary { IsBoundary at self.now.nodes }
+        requires inside { at < used self.now.nodes }
+        ensures value { result ≡ header_of (first_of (since at self.now.nodes)) }
+        ensures next { IsBoundary (at + size_of_header result) self.now.nodes }
+        ensures rest { since at self.now.nodes ≡ first_of (since at self.now.nodes) ∷ since (at + size_of_header result) self.now.nodes }
+        ensures within { at + size_of_header result ≤ used self.now.nodes }
+        ensures kept { IsContents self.now }
+    {
+        // What a buffer keeps is known once a field is read.
+        let _used = self.used;
+        node::header_at(bytes, at)
     }
 
     pub fn rational(&self, id: u16, at: u32) -> Rat
@@ -110,15 +127,17 @@ impl Buffer {
         node::name_at(&self.store, at)
     }
 
-    /// A new node at the end.
-    pub fn push(&mut self, id: u16, leaf: Leaf)
+    /// A new node at the end, of which the header and the size are told.
+    pub fn push(&mut self, header: Header, size: u32, leaf: Leaf)
         requires usable { IsUsable leaf }
+        requires header { header ≡ header_of (fresh header.id (payload_of leaf)) }
+        requires size { size ≡ size_of_payload (payload_of leaf) }
         requires room { size_of_payload (payload_of leaf) ≤ self.old.size - used self.old.nodes }
-        ensures nodes { self.new ≡ record self.old { nodes = self.old.nodes ++ fresh id (payload_of leaf) ∷ [] } }
+        ensures nodes { self.new ≡ record self.old { nodes = self.old.nodes ++ fresh header.id (payload_of leaf) ∷ [] } }
         ensures kept { IsContents self.new }
     {
-        node::write_node(&mut self.store, self.used, id, leaf);
-        self.used += leaf.size();
+        node::write_node(&mut self.store, self.used, header, leaf);
+        self.used += size;
         self.count += 1;
     }
 
@@ -140,16 +159,16 @@ impl Buffer {
         node::write_children(&mut self.store, at, children);
     }
 
-    /// The nodes in the `len` bytes at `at` are removed, and those behind them close up.
-    pub fn remove(&mut self, at: u32, len: u32)
+    /// The nodes from `at` to before `end`, so many as `gone` tells, are removed, and those behind them close up.
+    pub fn remove(&mut self, at: u32, end: u32, gone: u32)
         requires from { IsBoundary at self.old.nodes }
-        requires to { IsBoundary (at + len) self.old.nodes }
-        ensures nodes { self.new ≡ record self.old { nodes = without at (at + len) self.old.nodes } }
+        requires to { IsBoundary end self.old.nodes }
+        requires order { at ≤ end }
+        requires gone { gone ≡ length (between at end self.old.nodes) }
+        ensures nodes { self.new ≡ record self.old { nodes = without at end self.old.nodes } }
         ensures kept { IsContents self.new }
     {
         let used = self.used;
-        let end = at + len;
-        let gone = self.count_between(at, end);
         let rest = used - end;
         self.store.slide(end, at, rest);
         self.store.clear(at + rest, used);
@@ -185,21 +204,5 @@ impl Buffer {
         ensures kept { IsContents self.new }
     {
         self.store.exchange(first, second, end - second);
-    }
-
-    /// How many nodes begin from `from` to before `to`.
-    fn count_between(&self, from: u32, to: u32) -> u32
-        requires from { IsBoundary from self.now.nodes }
-        requires to { IsBoundary to self.now.nodes }
-        requires order { from ≤ to }
-        ensures { result ≡ length (between from to self.now.nodes) }
-    {
-        let mut at = from;
-        let mut count = 0;
-        while at < to {
-            at += self.header(at).size();
-            count += 1;
-        }
-        count
     }
 }

@@ -1,7 +1,10 @@
 //! Which identifiers are in use.
-ghost use Rattle.std.specs.Prelude.{◌≡◌, ◌+◌, ◌<◌, ◌^◌, length, replicate, slice_set, IfOk, true, false};
-ghost use Rattle.node_pool.specs.Places.{between, IsBoundary};
-ghost use Rattle.node_pool.specs.Flags.{IsLeastUnused, HasUnused, AreBelow, without_ids};
+ghost use Rattle.std.specs.Prelude.{◌≡◌, ◌+◌, ◌<◌, ◌≤◌, ◌^◌, length, replicate, slice_set, IfOk, true, false};
+ghost use Rattle.node_pool.specs.Places.{between, since, IsBoundary};
+ghost use Rattle.node_pool.specs.Nodes.{used};
+ghost use Rattle.node_pool.specs.Unheld.{unheld, owed_behind};
+ghost use Rattle.node_pool.specs.Flags.{IsLeastUnused, HasUnused, AreBelow, AreTakenBelow, without_ids};
+ghost use Rattle.node_pool.specs.Contents.{bytes_in};
 
 use crate::buffer::Buffer;
 use std::alloc::{AllocError, Global};
@@ -52,30 +55,129 @@ impl Identifiers {
         self.below = id + 1;
         id as u16
     }
-
-    pub fn release(&mut self, id: u16)
-        requires { id < length self.old }
-        ensures { self.new ≡ slice_set self.old id false }
-    {
-        let id = usize::from(id);
-        self.taken[id] = false;
-        self.below = self.below.min(id);
-    }
 }
 
-/// The identifiers of the nodes in the `len` bytes at `from` are in use no more.
-pub fn release_block(ids: &mut Identifiers, buffer: &Buffer, from: u32, len: u32)
+/// The identifiers of the nodes from one place to before another are in use no more. Answers how many nodes these are.
+pub fn release_block(ids: &mut Identifiers, buffer: &Buffer, from: u32, to: u32) -> u32
     requires from { IsBoundary from buffer.now.nodes }
-    requires to { IsBoundary (from + len) buffer.now.nodes }
-    requires small { from + len < 2 ^ 32 }
-    requires known { AreBelow (length ids.old) (between from (from + len) buffer.now.nodes) }
-    ensures { ids.new ≡ without_ids (between from (from + len) buffer.now.nodes) ids.old }
+    requires to { IsBoundary to buffer.now.nodes }
+    requires order { from ≤ to }
+    requires known { AreBelow (length ids.old) (between from to buffer.now.nodes) }
+    ensures ids { ids.new ≡ without_ids (between from to buffer.now.nodes) ids.old }
+    ensures gone { result ≡ length (between from to buffer.now.nodes) }
 {
-    let to = from + len;
+    let below = ids.below;
+    let flags = ids.taken.as_mut_slice();
+    let (below, gone) = release_nodes(flags, below, buffer, buffer.bytes(), from, to);
+    ids.below = below;
+    gone
+}
+
+/// The same, of so many trees that begin at a place up to a node that is held more than once. Answers where the last of these nodes
+/// ends, how many trees are still to come there, and how many nodes these are.
+pub fn release_unheld(
+    ids: &mut Identifiers,
+    buffer: &Buffer,
+    from: u32,
+    trees: u64,
+) -> (u32, u64, u32)
+    requires from { IsBoundary from buffer.now.nodes }
+    requires few { trees < 2 ^ 16 }
+    requires known { AreBelow (length ids.old) (since from buffer.now.nodes) }
+    ensures to { IsBoundary result.0 buffer.now.nodes }
+    ensures end { result.0 ≡ from + used (unheld trees (since from buffer.now.nodes)) }
+    ensures owed { result.1 ≡ owed_behind trees (unheld trees (since from buffer.now.nodes)) }
+    ensures gone { result.2 ≡ length (unheld trees (since from buffer.now.nodes)) }
+    ensures ids { ids.new ≡ without_ids (unheld trees (since from buffer.now.nodes)) ids.old }
+{
+    let below = ids.below;
+    let flags = ids.taken.as_mut_slice();
+    let (below, end, owed, gone) = release_trees(flags, below, buffer, buffer.bytes(), from, trees);
+    ids.below = below;
+    (end, owed, gone)
+}
+
+/// The flags of the nodes from one place to before another are cleared. Answers below which identifier all are in use, and how
+/// many nodes these are.
+fn release_nodes(
+    flags: &mut [bool],
+    below: usize,
+    buffer: &Buffer,
+    bytes: &[u8],
+    from: u32,
+    to: u32,
+) -> (usize, u32)
+    requires bytes { bytes.now ≡ bytes_in buffer.now }
+    requires from { IsBoundary from buffer.now.nodes }
+    requires to { IsBoundary to buffer.now.nodes }
+    requires order { from ≤ to }
+    requires known { AreBelow (length flags.old) (between from to buffer.now.nodes) }
+    requires taken { AreTakenBelow below flags.old }
+    ensures flags { flags.new ≡ without_ids (between from to buffer.now.nodes) flags.old }
+    ensures taken { AreTakenBelow result.0 flags.new }
+    ensures gone { result.1 ≡ length (between from to buffer.now.nodes) }
+{
     let mut at = from;
+    let mut below = below;
+    let mut gone = 0;
     while at < to {
-        let header = buffer.header(at);
-        ids.release(header.id);
+        let header = buffer.header_in(bytes, at);
+        below = release(flags, below, header.id);
         at += header.size();
+        gone += 1;
     }
+    (below, gone)
+}
+
+/// The same of so many trees up to a node that is held more than once. Answers where the last of these nodes ends and how many trees
+/// are still to come, too.
+fn release_trees(
+    flags: &mut [bool],
+    below: usize,
+    buffer: &Buffer,
+    bytes: &[u8],
+    from: u32,
+    trees: u64,
+) -> (usize, u32, u64, u32)
+    requires bytes { bytes.now ≡ bytes_in buffer.now }
+    requires from { IsBoundary from buffer.now.nodes }
+    requires few { trees < 2 ^ 16 }
+    requires known { AreBelow (length flags.old) (since from buffer.now.nodes) }
+    requires taken { AreTakenBelow below flags.old }
+    ensures flags { flags.new ≡ without_ids (unheld trees (since from buffer.now.nodes)) flags.old }
+    ensures taken { AreTakenBelow result.0 flags.new }
+    ensures to { IsBoundary result.1 buffer.now.nodes }
+    ensures end { result.1 ≡ from + used (unheld trees (since from buffer.now.nodes)) }
+    ensures owed { result.2 ≡ owed_behind trees (unheld trees (since from buffer.now.nodes)) }
+    ensures gone { result.3 ≡ length (unheld trees (since from buffer.now.nodes)) }
+{
+    let end = buffer.used();
+    let mut at = from;
+    let mut below = below;
+    let mut owed = trees;
+    let mut gone = 0;
+    while owed > 0 && at < end {
+        let header = buffer.header_in(bytes, at);
+        if header.count > 1 {
+            break;
+        }
+        below = release(flags, below, header.id);
+        at += header.size();
+        owed = owed - 1 + u64::from(header.children);
+        gone += 1;
+    }
+    (below, at, owed, gone)
+}
+
+/// One flag is cleared. Answers below which identifier all are in use then.
+#[inline(always)]
+fn release(flags: &mut [bool], below: usize, id: u16) -> usize
+    requires inside { id < length flags.old }
+    requires taken { AreTakenBelow below flags.old }
+    ensures flags { flags.new ≡ slice_set flags.old id false }
+    ensures taken { AreTakenBelow result flags.new }
+{
+    let id = usize::from(id);
+    flags[id] = false;
+    below.min(id)
 }

@@ -9,23 +9,23 @@ ghost use Rattle.calc_terms.specs.Rat.{ratio_of};
 ghost use Rattle.calc_terms.specs.Name.{HoldsName, before_zero};
 ghost use Rattle.calc_terms.specs.declared.kind.Kind.TheVariants.{Num};
 ghost use Rattle.calc_terms.specs.Kind.{size_by_form};
-ghost use Rattle.calc_terms.specs.Payload.{rational, size_of_payload};
+ghost use Rattle.calc_terms.specs.Payload.{rational, has_short_form, size_of_payload};
 ghost use Rattle.calc_terms.specs.Leaf.{payload_of, name_of, IsUsable};
-ghost use Rattle.calc_terms.specs.Node.{header_in, kind_at, short_at, ratio_at, number_at, fresh, encoding, header_bytes, low_bytes, payload_bytes, ratio_bytes, from_bytes};
+ghost use Rattle.calc_terms.specs.Node.{header_in, header_of, kind_at, short_at, ratio_at, number_at, fresh, encoding, header_bytes, low_bytes, payload_bytes, ratio_bytes, from_bytes};
 ghost use Rattle.raw_region.specs.Bytes.{put};
 
 use crate::store::Store;
 use calc_terms::{Header, Kind, Leaf, Name, Rat};
+use raw_region::read;
 
 /// The header of the node whose bytes stand at a place. It is inlined, so that a caller decodes only the fields that it
 /// uses.
 #[inline(always)]
-pub fn header_at(store: &Store, at: u32) -> Header
-    requires inside { at + 8 ≤ length store.now }
-    requires small { length store.now < 2 ^ 32 }
-    ensures { result ≡ header_in (drop at store.now) }
+pub fn header_at(bytes: &[u8], at: u32) -> Header
+    requires inside { at + 8 ≤ length bytes.now }
+    ensures { result ≡ header_in (drop at bytes.now) }
 {
-    let front = store.eight(at);
+    let front: [u8; 8] = read(bytes, at as usize);
     Header {
         kind: kind_in(front),
         short: is_short_in(front),
@@ -80,17 +80,18 @@ pub fn name_at(store: &Store, at: u32) -> Name
     Name::from_padded(store.eight(at + 8))
 }
 
-/// Writes a new node, held once and without children.
-pub fn write_node(store: &mut Store, at: u32, id: u16, leaf: Leaf)
+/// Writes a new node, held once and without children, of which the header is told.
+pub fn write_node(store: &mut Store, at: u32, header: Header, leaf: Leaf)
     requires usable { IsUsable leaf }
+    requires header { header ≡ header_of (fresh header.id (payload_of leaf)) }
     requires inside { at + size_of_payload (payload_of leaf) ≤ length store.old }
     requires small { length store.old < 2 ^ 32 }
-    ensures put { store.new ≡ put store.old at (encoding (fresh id (payload_of leaf))) }
+    ensures put { store.new ≡ put store.old at (encoding (fresh header.id (payload_of leaf))) }
     ensures len { length store.new ≡ length store.old }
 {
-    write_header(store, at, leaf.header(id));
+    write_header(store, at, header);
     match leaf {
-        Leaf::Num(value) => write_number(store, at + 8, value),
+        Leaf::Num(value) => write_number(store, at + 8, value, header.short),
         Leaf::Sym(name) => store.put(at + 8, &name.padded()),
         Leaf::Plain(_) => {}
     }
@@ -151,26 +152,37 @@ fn is_short_at(store: &Store, at: u32) -> bool
     store.get(at + 1) == 1
 }
 
+/// The eight bytes are written at once.
 fn write_header(store: &mut Store, at: u32, header: Header)
     requires inside { at + 8 ≤ length store.old }
     requires small { length store.old < 2 ^ 32 }
     ensures put { store.new ≡ put store.old at (header_bytes header) }
     ensures len { length store.new ≡ length store.old }
 {
-    store.put(at, &[header.kind.code(), u8::from(header.short)]);
-    store.put_pair(at + 2, header.id);
-    store.put_pair(at + 4, header.count);
-    store.put_pair(at + 6, header.children);
+    store.put(
+        at,
+        &[
+            header.kind.code(),
+            u8::from(header.short),
+            (header.id % 256) as u8,
+            (header.id / 256) as u8,
+            (header.count % 256) as u8,
+            (header.count / 256) as u8,
+            (header.children % 256) as u8,
+            (header.children / 256) as u8,
+        ],
+    );
 }
 
 /// Writes a number in its form.
-fn write_number(store: &mut Store, at: u32, value: Rat)
+fn write_number(store: &mut Store, at: u32, value: Rat, short: bool)
+    requires form { short ≡ has_short_form (rational (ratio_of value)) }
     requires inside { at + size_of_payload (rational (ratio_of value)) ≤ length store.old + 8 }
     requires small { length store.old < 2 ^ 32 }
     ensures put { store.new ≡ put store.old at (payload_bytes (rational (ratio_of value))) }
     ensures len { length store.new ≡ length store.old }
 {
-    if value.is_short() {
+    if short {
         store.put_long(at, (value.num() as i64).cast_unsigned());
     } else {
         write_rational(store, at, value);

@@ -1,5 +1,6 @@
 //! Where the node of each identifier begins.
 ghost use Rattle.std.specs.Prelude.{◌≡◌, ◌+◌, ◌≤◌, ◌<◌, ◌^◌, length, replicate, slice_set, IfOk};
+ghost use Rattle.node_pool.specs.Contents.{bytes_in};
 ghost use Rattle.node_pool.specs.Flags.{AreBelow};
 ghost use Rattle.node_pool.specs.Noted.{place_in, noted};
 ghost use Rattle.node_pool.specs.Places.{between, IsBoundary};
@@ -55,10 +56,23 @@ pub fn note_block(places: &mut Places, buffer: &Buffer, from: u32, to: u32)
     requires known { AreBelow (length places.old) (between from to buffer.now.nodes) }
     ensures { places.new ≡ noted from (between from to buffer.now.nodes) places.old }
 {
+    let list = places.noted.as_mut_slice();
+    note_nodes(list, buffer, buffer.bytes(), from, to);
+}
+
+/// The same in a list of places, from the buffer's bytes.
+fn note_nodes(list: &mut [u32], buffer: &Buffer, bytes: &[u8], from: u32, to: u32)
+    requires bytes { bytes.now ≡ bytes_in buffer.now }
+    requires from { IsBoundary from buffer.now.nodes }
+    requires to { IsBoundary to buffer.now.nodes }
+    requires order { from ≤ to }
+    requires known { AreBelow (length list.old) (between from to buffer.now.nodes) }
+    ensures { list.new ≡ noted from (between from to buffer.now.nodes) list.old }
+{
     let mut at = from;
     while at < to {
-        let header = buffer.header(at);
-        places.note(header.id, at);
+        let header = buffer.header_in(bytes, at);
+        list[usize::from(header.id)] = at;
         at += header.size();
     }
 }

@@ -1,18 +1,22 @@
 //! The pool: nodes one after another in bytes that are taken once.
-ghost use Rattle.std.specs.Prelude.{◌≡◌, ◌+◌, ◌-◌, ◌≤◌, ◌<◌, ◌↔◌, ◌⊎◌, [], ◌∷◌, ◌++◌, length, IfOk, IfErr, IsOk, OnOk, true};
+ghost use Rattle.std.specs.Prelude.{◌≡◌, ◌+◌, ◌-◌, ◌≤◌, ◌<◌, ◌↔◌, ◌⊎◌, [], ◌∷◌, ◌++◌, ◌^◌, length, IfOk, IfErr, IsOk, OnOk, true};
 ghost use Rattle.calc_terms.specs.declared.kind.Kind.TheVariants.{Num, Sym};
 ghost use Rattle.calc_terms.specs.Rat.{ratio_of};
 ghost use Rattle.calc_terms.specs.Payload.{rational, named, kind_of_payload, size_of_payload};
 ghost use Rattle.calc_terms.specs.Leaf.{payload_of, name_of, IsUsable};
 ghost use Rattle.calc_terms.specs.Node.{header_of, fresh};
 ghost use Rattle.node_pool.specs.Nodes.{used, has, place_of, first_of, payload_of_id, with_count, with_children, IsLeastFree};
-ghost use Rattle.node_pool.specs.Places.{since, without, swapped, moved, exchanged, IsBoundary};
+ghost use Rattle.node_pool.specs.Places.{since, between, without, swapped, moved, exchanged, IsBoundary};
+ghost use Rattle.node_pool.specs.Contents.{IsContents};
+ghost use Rattle.node_pool.specs.Flags.{AreBelow};
+ghost use Rattle.node_pool.specs.Noted.{noted};
+ghost use Rattle.node_pool.specs.Unheld.{unheld, owed_behind};
 ghost use Rattle.node_pool.specs.State.{bytes_of, free_of, IsPoolSize, IsPool, refused};
 
 use crate::buffer::Buffer;
 use crate::full::Full;
 use crate::id::Id;
-use crate::identifiers::{Identifiers, release_block};
+use crate::identifiers::{Identifiers, release_block, release_unheld};
 use crate::places::{Places, note_block};
 use calc_terms::{Header, Leaf, Name, Rat};
 use std::alloc::{AllocError, Global};
@@ -170,14 +174,16 @@ impl Pool {
 
         ensures pool { IsPool self.new }
     {
-        let needed = leaf.size();
+        let mut header = leaf.header(0);
+        let needed = header.size();
         if needed > self.free() {
             return Err(self.refuse(needed));
         }
         let id = self.taken.take_least();
         let at = self.buffer.used();
         self.places.note(id, at);
-        self.buffer.push(id, leaf);
+        header.id = id;
+        self.buffer.push(header, needed, leaf);
         Ok(Id::of(id))
     }
 
@@ -321,11 +327,41 @@ impl Pool {
         ensures nodes { self.new ≡ record self.old { nodes = without at (at + len) self.old.nodes } }
         ensures pool { IsPool self.new }
     {
-        release_block(&mut self.taken, &self.buffer, at, len);
-        self.buffer.remove(at, len);
-        let used = self.buffer.used();
-        note_block(&mut self.places, &self.buffer, at, used);
+        let taken = &mut self.taken;
+        let end = at + len;
+        let gone = release_block(taken, &self.buffer, at, end);
+        close_up(&mut self.buffer, &mut self.places, at, end, gone);
     }
+
+    /// Of so many trees that begin at `at`, the nodes before the first one that is held more than once are removed, those behind
+    /// them close up, and their identifiers are free. Answers how many trees are still to come at `at` then.
+    pub fn remove_unheld(&mut self, at: u32, trees: u64) -> u64
+        requires boundary { IsBoundary at self.old.nodes }
+        requires few { trees < 2 ^ 16 }
+        ensures nodes { self.new ≡ record self.old { nodes = without at (at + used (unheld trees (since at self.old.nodes))) self.old.nodes } }
+        ensures owed { result ≡ owed_behind trees (unheld trees (since at self.old.nodes)) }
+        ensures pool { IsPool self.new }
+    {
+        let (end, owed, gone) = release_unheld(&mut self.taken, &self.buffer, at, trees);
+        close_up(&mut self.buffer, &mut self.places, at, end, gone);
+        owed
+    }
+}
+
+/// The nodes from `at` to before `end`, so many as `gone` tells, are removed, and where those behind them stand then is noted.
+fn close_up(buffer: &mut Buffer, places: &mut Places, at: u32, end: u32, gone: u32)
+    requires from { IsBoundary at buffer.old.nodes }
+    requires to { IsBoundary end buffer.old.nodes }
+    requires order { at ≤ end }
+    requires gone { gone ≡ length (between at end buffer.old.nodes) }
+    requires known { AreBelow (length places.old) (since end buffer.old.nodes) }
+    ensures nodes { buffer.new ≡ record buffer.old { nodes = without at end buffer.old.nodes } }
+    ensures kept { IsContents buffer.new }
+    ensures places { places.new ≡ noted at (since end buffer.old.nodes) places.old }
+{
+    buffer.remove(at, end, gone);
+    let used = buffer.used();
+    note_block(places, buffer, at, used);
 }
 
 #[cfg(test)]

@@ -1,20 +1,31 @@
-use Rattle.std.proofs.Common.{arith, ap, sym, ◌∙◌, ◌+◌}
-use Rattle.node_pool.proofs.Shared.{Header, size_of_header, without_ids}
-use Rattle.node_pool.proofs.Cuts.{boundary_le, between_next, between_none}
+use Rattle.std.proofs.Common.{arith, ap, length, sym, ◌∙◌, ◌≤◌}
+use Rattle.node_pool.proofs.Sizes.{length_le_used}
+use Rattle.node_pool.proofs.Shared.{Header, size_of_header, between, without_ids}
+use Rattle.node_pool.proofs.Cuts.{boundary_le, cut, between_next, between_none}
 use Rattle.node_pool.proofs.Marks.{released}
-use Rattle.node_pool.proofs.identifiers.release_block.Goals as goal
+use Rattle.node_pool.proofs.identifiers.release_nodes.Goals as goal
 
-pub header-header-requires-clause-inside : goal.header-header-requires-clause-inside
-header-header-requires-clause-inside c = omega (arith, boundary_le (c.args.from + c.args.len) c.args.buffer.now.nodes c.requires.to)
+pub header_in-header-requires-clause-inside : goal.header_in-header-requires-clause-inside
+header_in-header-requires-clause-inside c = omega (arith, boundary_le c.args.to c.args.buffer.now.nodes c.requires.to)
+
+pub overflow_add-gone : goal.overflow_add-gone
+overflow_add-gone c =
+    let ns = c.args.buffer.now.nodes in
+    let k = c.header_in-header.ensures.kept in
+    let few : length (between c.args.from c.args.to ns) ≤ 524280 = omega (arith, length_le_used (between c.args.from c.args.to ns), (cut c.args.from c.args.to ns c.requires.from c.requires.to c.requires.order).size, boundary_le c.args.to ns c.requires.to, k.fits, k.small) in
+    record { fits = omega (arith, few, c.loop-at.invariant.gone) }
 
 pub loop-at-preserved : goal.loop-at-preserved
 loop-at-preserved c =
     let ns = c.args.buffer.now.nodes in
-    let h = c.header-header.ensures in
+    let h = c.header_in-header.ensures in
     let i = c.loop-at.invariant in
-    let more = between_next c.loop-at.at c.size-at.result (c.args.from + c.args.len) ns i.boundary c.requires.to c.loop-at-test.true (rw c.size-at.ensures h.rest) (c.size-at.ensures ∙ ap size_of_header h.value) in
-    let r = released c.loop-at.ids c.release.new.self _ _ _ c.header-header.result.id more.0 (ap (λ (y : Header). y.id) h.value) c.release.ensures i.known in
-    record { boundary = rw c.size-at.ensures h.next; within = more.1; known = r.0; rest = r.1 ∙ i.rest }
+    let more = between_next c.loop-at.at c.size-at.result c.args.to ns i.boundary c.requires.to c.loop-at-test.true (rw c.size-at.ensures h.rest) (c.size-at.ensures ∙ ap size_of_header h.value) in
+    let r = released c.loop-at.flags c.release-below.new.flags _ _ _ c.header_in-header.result.id more.0 (ap (λ (y : Header). y.id) h.value) c.release-below.ensures.flags i.known in
+    record { boundary = rw c.size-at.ensures h.next; within = more.1; known = r.0; taken = c.release-below.ensures.taken; rest = r.1 ∙ i.rest; gone = omega (arith, i.gone, ap length more.0) }
 
-pub returns : goal.returns
-returns c = ap (λ ms. without_ids ms c.loop-at.ids) (sym (between_none c.loop-at.at (c.args.from + c.args.len) c.args.buffer.now.nodes c.loop-at-test.false)) ∙ c.loop-at.invariant.rest
+pub returns-clause-flags : goal.returns-clause-flags
+returns-clause-flags c = ap (λ ms. without_ids ms c.loop-at.flags) (sym (between_none c.loop-at.at c.args.to c.args.buffer.now.nodes c.loop-at-test.false)) ∙ c.loop-at.invariant.rest
+
+pub returns-clause-gone : goal.returns-clause-gone
+returns-clause-gone c = omega (arith, c.loop-at.invariant.gone, ap length (between_none c.loop-at.at c.args.to c.args.buffer.now.nodes c.loop-at-test.false))

@@ -11,7 +11,7 @@ same : (x y : ℤ) → unsigned_abs y < 2 ^ 127 → x ≡ y → cast_signed w128
 same x y small e = ap (λ (z : ℤ). cast_signed w128 (cast_unsigned w128 z)) e ∙ to_z-of_z w128 y (wide y small)
 
 pub overflow_cast-num : goal.overflow_cast-num
-overflow_cast-num c = rw (same c.num.result (ratio_of c.args.value).num c.num.ensures.rat.num_fits c.num.ensures.value) (short_parts (ratio_of c.args.value) c.num.ensures.rat (sym c.is_short.ensures ∙ c.if-is_short.true)).fits
+overflow_cast-num c = rw (same c.num.result (ratio_of c.args.value).num c.num.ensures.rat.num_fits c.num.ensures.value) (short_parts (ratio_of c.args.value) c.num.ensures.rat (sym c.requires.form ∙ c.if-short.true)).fits
 
 -- in the short form
 formed : (b : Bool) (f : Ratio) → b ≡ true → low_bytes 8 (cast_unsigned w64 f.num) ≡ number_bytes b f
@@ -21,10 +21,10 @@ formed b f e = rw e refl
 written : (r : ℕ) (x y : ℤ) → unsigned_abs y < 2 ^ 127 → FitsSigned w64 y → x ≡ y → r ≡ cast_unsigned w64 (cast_signed w64 (cast_unsigned w64 (cast_signed w128 (cast_unsigned w128 x)))) → r ≡ cast_unsigned w64 y
 written r x y small fits e h = h ∙ ap (λ (z : ℤ). cast_unsigned w64 (cast_signed w64 (cast_unsigned w64 z))) (same x y small e) ∙ ap (cast_unsigned w64) (to_z-of_z w64 y fits)
 
-pub returns-then-is_short-clause-put : goal.returns-then-is_short-clause-put
-returns-then-is_short-clause-put c =
+pub returns-then-short-clause-put : goal.returns-then-short-clause-put
+returns-then-short-clause-put c =
     let f = ratio_of c.args.value in
-    let s : has_short_form (rational f) ≡ true = sym c.is_short.ensures ∙ c.if-is_short.true in
+    let s : has_short_form (rational f) ≡ true = sym c.requires.form ∙ c.if-short.true in
     let number = written c.cast_unsigned.result c.num.result f.num c.num.ensures.rat.num_fits (short_parts f c.num.ensures.rat s).fits c.num.ensures.value c.cast_unsigned.ensures in
     c.put_long.ensures ∙ ap (λ (n : ℕ). put c.args.store.now c.args.at (low_bytes 8 n)) number ∙ ap (put c.args.store.now c.args.at) (formed (has_short_form (rational f)) f s)
 
@@ -32,8 +32,8 @@ room : (b : Bool) (at n : ℕ) → b ≡ true → at + size_by_form Num b ≤ n 
 room true at n e h = omega arith
 room false at n e h = absurd cc
 
-pub returns-then-is_short-clause-len : goal.returns-then-is_short-clause-len
-returns-then-is_short-clause-len c =
+pub returns-then-short-clause-len : goal.returns-then-short-clause-len
+returns-then-short-clause-len c =
     let n = c.cast_unsigned.result in
-    let inside = room (has_short_form (rational (ratio_of c.args.value))) c.args.at (length c.args.store.now) (sym c.is_short.ensures ∙ c.if-is_short.true) c.requires.inside in
+    let inside = room (has_short_form (rational (ratio_of c.args.value))) c.args.at (length c.args.store.now) (sym c.requires.form ∙ c.if-short.true) c.requires.inside in
     ap length c.put_long.ensures ∙ length-put c.args.store.now c.args.at (low_bytes 8 n) (omega (arith, length-low_bytes 8 n))

@@ -1,13 +1,13 @@
 use Rattle.std.proofs.Common.{◌≡◌, ◌-◌, ◌≤◌, length}
 use Rattle.node_pool.proofs.Shared.{AreBelow, noted, between, IsBoundary}
-use Rattle.node_pool.proofs.places.note_block.Given as goal
+use Rattle.node_pool.proofs.places.note_nodes.Given as goal
 
 abbrev pub invariant-loop-at : goal.invariant-loop-at
 invariant-loop-at l = record {
   boundary : IsBoundary l.at l.buffer.nodes;
   within : l.at ≤ l.to;
-  known : AreBelow (length l.places) (between l.at l.to l.buffer.nodes);
-  rest : noted l.at (between l.at l.to l.buffer.nodes) l.places ≡ noted l.fn.from (between l.fn.from l.to l.buffer.nodes) l.initial.places;
+  known : AreBelow (length l.list) (between l.at l.to l.buffer.nodes);
+  rest : noted l.at (between l.at l.to l.buffer.nodes) l.list ≡ noted l.fn.from (between l.fn.from l.to l.buffer.nodes) l.initial.list;
 }
 
 abbrev pub decreases-loop-at : goal.decreases-loop-at

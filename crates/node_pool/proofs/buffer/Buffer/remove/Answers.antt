@@ -5,40 +5,35 @@ use Rattle.node_pool.proofs.Fields.{IsDone, opened}
 use Rattle.node_pool.proofs.Changes.{done, removed}
 use Rattle.node_pool.proofs.buffer.Buffer.remove.Goals as goal
 
-pub overflow_add-end : goal.overflow_add-end
-overflow_add-end c =
-    let o = opened c.self.inside c.args.self.now c.self.invariant c.self.view_is in
-    record { fits = omega (arith, boundary_le (c.args.at + c.args.len) c.args.self.now.nodes c.requires.to, o.fits, o.small) }
-
 pub overflow_sub-rest : goal.overflow_sub-rest
 overflow_sub-rest c =
     let o = opened c.self.inside c.args.self.now c.self.invariant c.self.view_is in
-    omega (arith, boundary_le (c.args.at + c.args.len) c.args.self.now.nodes c.requires.to, o.used, o.fits)
+    omega (arith, boundary_le c.args.end c.args.self.now.nodes c.requires.to, o.used, o.fits)
 
 pub slide-requires-clause-source : goal.slide-requires-clause-source
 slide-requires-clause-source c =
     let o = opened c.self.inside c.args.self.now c.self.invariant c.self.view_is in
-    omega (arith, boundary_le (c.args.at + c.args.len) c.args.self.now.nodes c.requires.to, o.used, o.fits)
+    omega (arith, boundary_le c.args.end c.args.self.now.nodes c.requires.to, o.used, o.fits)
 
 pub slide-requires-clause-target : goal.slide-requires-clause-target
 slide-requires-clause-target c =
     let o = opened c.self.inside c.args.self.now c.self.invariant c.self.view_is in
-    omega (arith, boundary_le (c.args.at + c.args.len) c.args.self.now.nodes c.requires.to, o.used, o.fits)
+    omega (arith, boundary_le c.args.end c.args.self.now.nodes c.requires.to, o.used, o.fits)
 
 pub clear-requires-clause-order : goal.clear-requires-clause-order
 clear-requires-clause-order c =
     let o = opened c.self.inside c.args.self.now c.self.invariant c.self.view_is in
-    omega (arith, boundary_le (c.args.at + c.args.len) c.args.self.now.nodes c.requires.to, o.used, o.fits)
+    omega (arith, boundary_le c.args.end c.args.self.now.nodes c.requires.to, o.used, o.fits)
 
 pub overflow_sub-self : goal.overflow_sub-self
 overflow_sub-self c =
     let o = opened c.self.inside c.args.self.now c.self.invariant c.self.view_is in
-    omega (arith, between_few c.args.at (c.args.at + c.args.len) c.args.self.now.nodes c.requires.from c.requires.to (omega arith), o.count, c.count_between-gone.ensures)
+    omega (arith, between_few c.args.at c.args.end c.args.self.now.nodes c.requires.from c.requires.to c.requires.order, o.count, c.requires.gone)
 
-all : (c : goal.After-self-2-1) → IsDone c.args.self.now (record { store = c.clear.new.self; used = c.args.at + (c.self.inside.used - (c.args.at + c.args.len)); count = c.self.inside.count - c.count_between-gone.result }) (without c.args.at (c.args.at + c.args.len) c.args.self.now.nodes)
+all : (c : goal.After-self-2-1) → IsDone c.args.self.now (record { store = c.clear.new.self; used = c.args.at + (c.self.inside.used - c.args.end); count = c.self.inside.count - c.args.gone }) (without c.args.at c.args.end c.args.self.now.nodes)
 all c =
     let o = opened c.self.inside c.args.self.now c.self.invariant c.self.view_is in
-    done c.self.inside _ c.args.self.now _ c.self.view_is (removed c.self.inside _ c.slide.new.self c.args.self.now.nodes c.args.at (c.args.at + c.args.len) o c.requires.from c.requires.to (omega arith) c.slide.ensures c.clear.ensures refl (ap (λ (n : ℕ). c.self.inside.count - n) c.count_between-gone.ensures))
+    done c.self.inside _ c.args.self.now _ c.self.view_is (removed c.self.inside _ c.slide.new.self c.args.self.now.nodes c.args.at c.args.end o c.requires.from c.requires.to c.requires.order c.slide.ensures c.clear.ensures refl (ap (λ (n : ℕ). c.self.inside.count - n) c.requires.gone))
 
 pub invariant_of-self : goal.invariant_of-self
 invariant_of-self c = (all c).laid

@@ -16,7 +16,7 @@ returns-then-to-from-clause-nodes c =
     let r = c.requires in
     let end = c.args.from + c.args.len in
     elim c.then-to-from.branch [
-      then-to-from-via-then-to-from w ↦ ap state_of w.self-inside-is ∙ c.self.view_is ∙ still s _ (subst (λ (i : ℕ). swapped c.args.to i end s.nodes ≡ s.nodes) w.if-to-from.true (swapped_front c.args.to end s.nodes r.to r.end (omega arith)))
+      | then-to-from-via-then-to-from w ↦ ap state_of w.self-inside-is ∙ c.self.view_is ∙ still s _ (subst (λ (i : ℕ). swapped c.args.to i end s.nodes ≡ s.nodes) w.if-to-from.true (swapped_front c.args.to end s.nodes r.to r.end (omega arith)))
       | then-to-from-via-else-to-from+then-from-end w ↦ ap state_of w.self-inside-is ∙ c.self.view_is ∙ still s _ (subst (λ (k : ℕ). swapped c.args.to c.args.from k s.nodes ≡ s.nodes) w.if-from-end.true (swapped_back c.args.to c.args.from s.nodes r.to r.from r.order))
     ]
 

@@ -1,12 +1,13 @@
-use Rattle.std.proofs.Common.{arith, ap, set, ◌∙◌}
-use Rattle.node_pool.proofs.Shared.{payload_of, IsKept, free_of}
+use Rattle.std.proofs.Common.{arith, ap, set, ◌∙◌, ◌≡◌}
+use Rattle.node_pool.proofs.Shared.{Header, header_of, fresh, size_of_header, size_of_payload, payload_of, IsKept, free_of}
 use Rattle.node_pool.proofs.Sizes.{size_leaf}
 use Rattle.node_pool.proofs.Keeping.{placed, room_unused}
 use Rattle.node_pool.proofs.pool.Pool.place.Goals as goal
 
 pub take_least-id-requires-clause-some : goal.take_least-id-requires-clause-some
 take_least-id-requires-clause-some c =
-    room_unused c.self.inside c.size-needed.result c.self.invariant (omega (arith, size_leaf (payload_of c.args.leaf), c.size-needed.ensures))
+    let size : c.size-needed.result ≡ size_of_payload (payload_of c.args.leaf) = c.size-needed.ensures ∙ ap size_of_header c.header-header.ensures in
+    room_unused c.self.inside c.size-needed.result c.self.invariant (omega (arith, size_leaf (payload_of c.args.leaf), size))
     (omega (arith, c.if-needed-free.false, c.free.ensures.value, ap free_of c.self.view_is))
 
 pub note-requires : goal.note-requires
@@ -20,3 +21,9 @@ invariant_of-self c = all c
 
 pub returns-clause-pool : goal.returns-clause-pool
 returns-clause-pool c = (all c).pool
+
+pub push-requires-clause-header : goal.push-requires-clause-header
+push-requires-clause-header c = ap (λ (h : Header). let r : Header = record h { id = c.take_least-id.result } in r) c.header-header.ensures
+
+pub push-requires-clause-size : goal.push-requires-clause-size
+push-requires-clause-size c = c.size-needed.ensures ∙ ap size_of_header c.header-header.ensures
