@@ -1,6 +1,6 @@
 -- Releasing trees, node after node.
-use Rattle.std.proofs.Common.{◌≡◌, ℕ, zero, suc, ◌+◌, ◌-◌, ◌<◌, ◌≤◌, List, [], ◌∷◌, ◌++◌, length, cond, ltb, refl, sym, ap, ◌∙◌, subst, arith, append_assoc, Bool, true, false}
-use Rattle.tree_handles.proofs.Shared.{lt-ltb, le-ltb, length-append, Node, size_of, has, used, first_of, with_count, AreDistinct, until, since, between, without, IsBoundary, State, IsPool, used-append, size_from, length_le_used, since-append, until-append, until-since, cut, boundary-append, with_count-append, without-append, Label, Forest, empty, tree, join, arity, node_of, flatten, first_trees, rest_trees, forest_of, released, release_first, released_at, skip, IsOwed, IsNearer, owed_nodes}
+use Rattle.std.proofs.Common.{◌≡◌, ℕ, zero, suc, ◌+◌, ◌-◌, ◌<◌, ◌≤◌, List, [], ◌∷◌, ◌++◌, length, cond, eqb, leb, ltb, refl, sym, ap, ◌∙◌, subst, arith, append_assoc, Bool, true, false}
+use Rattle.tree_handles.proofs.Shared.{eqb-false, leb-true, lt-ltb, le-ltb, IsStep, step, unheld, unheld_more, owed_behind, length-append, Node, size_of, has, used, first_of, with_count, AreDistinct, until, since, between, without, IsBoundary, State, IsPool, used-append, size_from, length_le_used, since-append, until-append, until-since, cut, boundary-append, with_count-append, without-append, Label, Forest, empty, tree, join, arity, node_of, flatten, first_trees, rest_trees, forest_of, released, release_first, released_at, skip, IsOwed, IsNearer, owed_nodes}
 use Rattle.tree_handles.proofs.Distinct.{not_before}
 use Rattle.tree_handles.proofs.Forests.{flatten-join, arity-join, join_assoc, forest_of_whole, skip-flatten}
 use Rattle.tree_handles.proofs.Parts.{place_is, has_mid}
@@ -240,3 +240,49 @@ run_more ns place owed at still next more b r some few bn e q s =
 -- what is no node stays as it was
 pub kept_others : (a s t : State) (ns : List Node) → s ≡ record a { nodes = s.nodes } → t ≡ record s { nodes = ns } → t ≡ record a { nodes = t.nodes }
 kept_others a s t ns e q = q ∙ ap (λ (x : State). record x { nodes = ns }) e ∙ ap (λ (ms : List Node). record a { nodes = ms }) (sym (ap (λ (x : State). x.nodes) q))
+
+-- ---- all nodes of a run
+
+run_step : (t u : Bool) (n : Node) (m ns : List Node) (place owed at still : ℕ) → eqb still 0 ≡ t → leb n.count 1 ≡ u → IsBoundary place ns → IsRun ns place owed at still → since at ns ≡ n ∷ m
+    → ((next more : ℕ) → IsRun ns place owed next more → since next ns ≡ m → IsRun ns place owed (next + used (unheld more m)) (owed_behind more (unheld more m)))
+    → IsRun ns place owed (at + used (cond t [] (cond u (n ∷ unheld (still - 1 + n.children) m) []))) (owed_behind still (cond t [] (cond u (n ∷ unheld (still - 1 + n.children) m) [])))
+run_step true u n m ns place owed at still et eu b r e rec =
+    let same : at ≡ at + 0 = omega arith in
+    subst (λ (k : ℕ). IsRun ns place owed k still) same r
+run_step false false n m ns place owed at still et eu b r e rec =
+    let same : at ≡ at + 0 = omega arith in
+    subst (λ (k : ℕ). IsRun ns place owed k still) same r
+run_step false true n m ns place owed at still et eu b r e rec =
+    let ne : still ≡ 0 → ⊥ = eqb-false still 0 et in
+    let some : 0 < still = omega arith in
+    let few : n.count ≤ 1 = leb-true n.count 1 eu in
+    let first : first_of (since at ns) ≡ n = ap first_of e in
+    let next = at + size_of n in
+    let one : IsStep at next ns = subst (λ (x : Node). IsStep at (at + size_of x) ns) first (step at ns r.boundary (run_inside ns place owed at still b r some)) in
+    let rest : since next ns ≡ m = cc (e, one.rest) in
+    let more = still - 1 + n.children in
+    let run : IsRun ns place owed next more =
+    run_more ns place owed at still next more b r some (subst (λ (x : Node). x.count ≤ 1) (sym first) few) one.boundary (ap (λ (x : Node). at + size_of x) (sym first)) one.rest (ap (λ (x : Node). still - 1 + x.children) (sym first)) in
+    let behind : next + used (unheld more m) ≡ at + (size_of n + used (unheld more m)) = omega arith in
+    subst (λ (k : ℕ). IsRun ns place owed k (owed_behind more (unheld more m))) behind (rec next more run rest)
+
+run_all : (m ns : List Node) (place owed at still : ℕ) → IsBoundary place ns → IsRun ns place owed at still → since at ns ≡ m → IsRun ns place owed (at + used (unheld still m)) (owed_behind still (unheld still m))
+run_all [] ns place owed at still b r e =
+    let same : at ≡ at + 0 = omega arith in
+    subst (λ (k : ℕ). IsRun ns place owed k still) same r
+run_all (n ∷ m) ns place owed at still b r e = run_step (eqb still 0) (leb n.count 1) n m ns place owed at still refl refl b r e (λ next more q h. run_all m ns place owed next more b q h)
+
+-- a node that nothing else holds goes, and those behind it up to one that is held
+pub gone_unheld : (ns : List Node) (place owed : ℕ) → IsOwed ns place owed (released_at place owed ns) → 0 < owed → (first_of (since place ns)).count ≤ 1
+    → IsNearer ns (without place (place + used (unheld owed (since place ns))) ns) place owed place (owed_behind owed (unheld owed (since place ns))) (released_at place owed ns)
+gone_unheld ns place owed o some few =
+    let end = released_at place owed ns in
+    let n = first_of (since place ns) in
+    let next = place + size_of n in
+    let still = owed - 1 + n.children in
+    let one = step place ns (owed_boundary ns place owed end o) (owed_inside ns place owed end o some) in
+    let run = run_all (since next ns) ns place owed next still (owed_boundary ns place owed end o) (run_start ns place owed next still o some few one.boundary refl refl) refl in
+    let all : unheld owed (since place ns) ≡ n ∷ unheld still (since next ns) = unheld_more owed (since place ns) n (since next ns) one.rest some few in
+    let behind : next + used (unheld still (since next ns)) ≡ place + (size_of n + used (unheld still (since next ns))) = omega arith in
+    subst (λ (l : List Node). IsNearer ns (without place (place + used l) ns) place owed place (owed_behind owed l) end) (sym all)
+    (subst (λ (k : ℕ). IsNearer ns (without place k ns) place owed place (owed_behind still (unheld still (since next ns))) end) behind run.nearer)

@@ -13,13 +13,15 @@ pub use Rattle.node_pool.proofs.Exchanges.{exchanged-append}
 pub use Rattle.node_pool.proofs.Ids.{AreApart, AreApart-parts, AreApart-sym, AreDistinct-append, AreDistinct-parts, has-append, or_is_false}
 pub use Rattle.node_pool.proofs.Sizes.{AreNodes-right, length_le_used, size_from, used-append}
 pub use Rattle.node_pool.proofs.Splits.{between-append, boundary-append, moved_left, moved_right, place_of-append, with_children-append, with_count-append, without-append}
+pub use Rattle.node_pool.proofs.Unheld.{unheld_more}
 pub use Rattle.node_pool.proofs.Walk.{since-zero, since_end, starts}
 pub use Rattle.node_pool.specs.Nodes.{AreDistinct, AreNodes, first_of, has, payload_of_id, place_of, used, with_children, with_count}
 pub use Rattle.node_pool.specs.Places.{IsBoundary, between, exchanged, moved, since, until, without}
 pub use Rattle.node_pool.specs.State.{IsPool, IsPoolSize, State, free_of, refused}
+pub use Rattle.node_pool.specs.Unheld.{owed_behind, unheld}
 pub use Rattle.node_pool.specs.declared.full.Full.{Full}
 pub use Rattle.std.proofs.Math.ListN.{set}
-pub use Rattle.std.proofs.lemmas.Bool.{cases_Bool, eq-eqb, eqb-false, eqb-true, le-ltb, lt-ltb, ltb-true, ne_eqb}
+pub use Rattle.std.proofs.lemmas.Bool.{cases_Bool, eq-eqb, eqb-false, eqb-true, le-ltb, leb-true, lt-ltb, ltb-true, ne_eqb}
 pub use Rattle.std.proofs.lemmas.List.{append-nil, append_cancel_right, get_or-set_other, get_or-set_same, length-append, length-map, length-set, map-append}
 pub use Rattle.tree_handles.specs.Children.{AreSiblings, IsChildAt, root_ids}
 pub use Rattle.tree_handles.specs.Copies.{AreCopies, IsCopy, copy_of}

@@ -1,14 +1,14 @@
 //! Releasing trees.
-ghost use Rattle.std.specs.Prelude.{◌≡◌, ◌<◌, ◌≤◌, ◌+◌, ◌-◌, ℕ, true};
-ghost use Rattle.node_pool.specs.Nodes.{used, first_of};
-ghost use Rattle.node_pool.specs.Places.{since, without, IsBoundary};
+ghost use Rattle.std.specs.Prelude.{◌≡◌, ◌<◌};
+ghost use Rattle.node_pool.specs.Nodes.{used};
+ghost use Rattle.node_pool.specs.Places.{since, IsBoundary};
 ghost use Rattle.node_pool.specs.State.{IsPool};
 ghost use Rattle.tree_handles.specs.Forest.{Forest, bytes_in, forest_of, flatten};
 ghost use Rattle.tree_handles.specs.Handed.{IsOwned, Starts};
 ghost use Rattle.tree_handles.specs.Inside.{released_in};
 ghost use Rattle.tree_handles.specs.Roots.{IsReleasable, without_root};
 ghost use Rattle.tree_handles.specs.Standing.{Stands, forest, KeepsRefusals};
-ghost use Rattle.tree_handles.specs.Walks.{IsOwed, IsNearer, released_at};
+ghost use Rattle.tree_handles.specs.Walks.{released_at};
 
 use crate::handle::Handle;
 use crate::walk::{behind, step};
@@ -58,32 +58,7 @@ fn release_at(pool: &mut Pool, at: u32)
             place = behind(pool, place, 1);
             owed -= 1;
         } else {
-            let (end, left) = gone(pool, place, owed);
-            pool.remove_block(place, end - place);
-            owed = left;
+            owed = pool.remove_unheld(place, owed);
         }
     }
-}
-
-/// The place behind the nodes that are removed, up to the next one that is held, and how many trees are
-/// still owed there.
-fn gone(pool: &Pool, place: u32, owed: u64) -> (u32, u64)
-    requires owed { IsOwed pool.now.nodes place owed (released_at place owed pool.now.nodes) }
-    requires some { 0 < owed }
-    requires alone { (first_of (since place pool.now.nodes)).count ≤ 1 }
-    ensures boundary { IsBoundary result.0 pool.now.nodes }
-    ensures order { place ≤ result.0 }
-    ensures nearer { IsNearer pool.now.nodes (without place result.0 pool.now.nodes) place owed place result.1 (released_at place owed pool.now.nodes) }
-{
-    let (first, mut at) = step(pool, place);
-    let mut owed = owed - 1 + u64::from(first.children);
-    while owed > 0 {
-        let (node, next) = step(pool, at);
-        if node.count > 1 {
-            break;
-        }
-        at = next;
-        owed = owed - 1 + u64::from(node.children);
-    }
-    (at, owed)
 }

@@ -1,6 +1,6 @@
 use Rattle.std.proofs.Common.{◌≡◌, ℕ, ◌-◌, ◌+◌, ◌<◌, ◌≤◌, ap, subst, ◌∙◌, arith, refl}
 use Rattle.tree_handles.proofs.Shared.{Header, State, first_of, with_count, since, without, IsNearer, released_at}
-use Rattle.tree_handles.proofs.Releases.{owed_start, owed_boundary, owed_inside, owed_live, owed_now, nearer_end, held, held_boundary, kept_others}
+use Rattle.tree_handles.proofs.Releases.{few_nodes, gone_unheld, owed_few, owed_start, owed_boundary, owed_inside, owed_live, owed_now, nearer_end, held, held_boundary, kept_others}
 use Rattle.tree_handles.proofs.releasing.release_at.Goals as goal
 
 pub loop-owed-init : goal.loop-owed-init
@@ -39,25 +39,24 @@ loop-owed-smaller-then-header-gt1 c = (held-next c).less
 pub loop-owed-preserved-then-header-gt1 : goal.loop-owed-preserved-then-header-gt1
 loop-owed-preserved-then-header-gt1 c = record { owed = (held-next c).now; pool = c.set_count.ensures.pool; others = kept_others c.args.pool.now c.loop-owed.pool c.set_count.new.self _ c.loop-owed.invariant.others c.set_count.ensures.nodes }
 
-pub gone-end-requires-clause-owed : goal.gone-end-requires-clause-owed
-gone-end-requires-clause-owed c = owed_now c.loop-owed.pool.nodes c.loop-owed.place c.loop-owed.owed (released_at c.args.at 1 c.args.pool.now.nodes) c.loop-owed.invariant.owed
+pub remove_unheld-owed-requires : goal.remove_unheld-owed-requires
+remove_unheld-owed-requires c = record {
+  boundary = owed_boundary c.loop-owed.pool.nodes c.loop-owed.place c.loop-owed.owed (released_at c.args.at 1 c.args.pool.now.nodes) c.loop-owed.invariant.owed;
+  few = omega (arith, owed_few c.loop-owed.pool.nodes c.loop-owed.place c.loop-owed.owed (released_at c.args.at 1 c.args.pool.now.nodes) c.loop-owed.invariant.owed, few_nodes c.loop-owed.pool c.loop-owed.invariant.pool);
+}
 
-pub gone-end-requires-clause-alone : goal.gone-end-requires-clause-alone
-gone-end-requires-clause-alone c = subst (λ (h : Header). h.count ≤ 1) c.step.ensures.header c.if-header-gt1.false
-
-pub remove_block-requires-clause-from : goal.remove_block-requires-clause-from
-remove_block-requires-clause-from c = owed_boundary c.loop-owed.pool.nodes c.loop-owed.place c.loop-owed.owed (released_at c.args.at 1 c.args.pool.now.nodes) c.loop-owed.invariant.owed
-
-gone-next : (c : goal.After-remove_block) → IsNearer c.loop-owed.pool.nodes c.remove_block.new.self.nodes c.loop-owed.place c.loop-owed.owed c.loop-owed.place c.gone-end.result.1 (released_at c.args.at 1 c.args.pool.now.nodes)
+gone-next : (c : goal.After-remove_unheld-owed) → IsNearer c.loop-owed.pool.nodes c.remove_unheld-owed.new.self.nodes c.loop-owed.place c.loop-owed.owed c.loop-owed.place c.remove_unheld-owed.result (released_at c.args.at 1 c.args.pool.now.nodes)
 gone-next c =
     let ns = c.loop-owed.pool.nodes in
     let place = c.loop-owed.place in
-    let end : place + (c.gone-end.result.0 - place) ≡ c.gone-end.result.0 = omega (arith, c.gone-end.ensures.order) in
-    let now : c.remove_block.new.self.nodes ≡ without place c.gone-end.result.0 ns = ap (λ (s : State). s.nodes) c.remove_block.ensures.nodes ∙ ap (λ (k : ℕ). without place k ns) end in
-    rw now (nearer_end ns _ place c.loop-owed.owed place c.gone-end.result.1 (released_at c.args.at 1 c.args.pool.now.nodes) c.loop-owed.invariant.owed c.gone-end.ensures.nearer)
+    let end = released_at c.args.at 1 c.args.pool.now.nodes in
+    let owed = c.loop-owed.invariant.owed in
+    let few : (first_of (since place ns)).count ≤ 1 = subst (λ (h : Header). h.count ≤ 1) c.step.ensures.header c.if-header-gt1.false in
+    rw (ap (λ (s : State). s.nodes) c.remove_unheld-owed.ensures.nodes, c.remove_unheld-owed.ensures.owed)
+    (nearer_end ns _ place c.loop-owed.owed place _ end owed (gone_unheld ns place c.loop-owed.owed (owed_now ns place c.loop-owed.owed end owed) c.loop-owed-test.true few))
 
 pub loop-owed-smaller : goal.loop-owed-smaller
 loop-owed-smaller c = (gone-next c).less
 
 pub loop-owed-preserved : goal.loop-owed-preserved
-loop-owed-preserved c = record { owed = (gone-next c).now; pool = c.remove_block.ensures.pool; others = kept_others c.args.pool.now c.loop-owed.pool c.remove_block.new.self _ c.loop-owed.invariant.others c.remove_block.ensures.nodes }
+loop-owed-preserved c = record { owed = (gone-next c).now; pool = c.remove_unheld-owed.ensures.pool; others = kept_others c.args.pool.now c.loop-owed.pool c.remove_unheld-owed.new.self _ c.loop-owed.invariant.others c.remove_unheld-owed.ensures.nodes }
