@@ -1,0 +1,8 @@
+pub mod Worth
+pub mod Exponents
+pub mod Normal
+pub mod Merges
+pub mod MergeLoops
+pub mod Scaled
+pub mod Products
+pub mod Coefficients

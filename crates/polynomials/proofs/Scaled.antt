@@ -1,0 +1,41 @@
+-- A rational times a polynomial, and the polynomial 1.
+use Rattle.std.proofs.Common.{◌≡◌, ℕ, List, [], ◌∷◌, false, refl, ap, ◌∙◌, pos}
+use Rattle.calc_terms.proofs.FractionFacts.{whole_numerator}
+use Rattle.calc_terms.specs.Fractions.{Fraction, is_zero_fraction, lowest, one_fraction, times}
+use Rattle.calc_terms.specs.Integers.{int_is_zero}
+use Rattle.calc_terms.specs.Rat.{ratio_of, value_of}
+use Rattle.calc_terms.specs.Ratio.{Ratio, whole}
+use Rattle.calc_terms.specs.declared.rat.Rat.{Rat}
+use Rattle.polynomials.specs.declared.term.Term.{Term}
+use Rattle.polynomials.specs.Polynomials.{HaveExponents, constant, one_monomial, row, scaled, Summand, summand}
+use Rattle.polynomials.specs.Terms.{AreTermsOf, polynomial_of, summand_of}
+use Rattle.polynomials.proofs.Exponents.{one_times_packed, packed_exponents}
+use Rattle.polynomials.proofs.Worth.{same_is}
+
+pub row_constant : (q : Fraction) (ts : List Term) → row (summand q one_monomial) (polynomial_of ts) ≡ scaled q (polynomial_of ts)
+row_constant q [] = refl
+row_constant q (t ∷ ts) = λ i. summand (times q (value_of t.coefficient)) (one_times_packed t.monomial i) ∷ row_constant q ts i
+
+pub have_scaled : (d : ℕ) (q : Fraction) (ts : List Term) → HaveExponents d (polynomial_of ts) → HaveExponents d (scaled q (polynomial_of ts))
+have_scaled d q [] h = tt
+have_scaled d q (t ∷ ts) h = (h.0, have_scaled d q ts (h.1))
+
+pub have_packed : (ts : List Term) → HaveExponents 255 (polynomial_of ts)
+have_packed [] = tt
+have_packed (t ∷ ts) = (packed_exponents t.monomial, have_packed ts)
+
+-- ---- the polynomial 1
+
+one_value : (r : Rat) → ratio_of r ≡ whole (pos 1) → value_of r ≡ one_fraction
+unfolding one_fraction
+one_value r e = ap (λ (x : Ratio). lowest x.num x.den) e
+
+one_nonzero : is_zero_fraction one_fraction ≡ false
+unfolding one_fraction
+one_nonzero = ap int_is_zero (whole_numerator (pos 1))
+
+pub one_terms : (r : Rat) (t : Term) → ratio_of r ≡ whole (pos 1) → summand_of t ≡ summand (value_of r) one_monomial → AreTermsOf (constant one_fraction) (t ∷ [])
+one_terms r t e f = record {
+    normal = (ap is_zero_fraction (ap (λ (s : Summand). s.coefficient) f ∙ one_value r e) ∙ one_nonzero, tt, tt);
+    same = same_is (λ i. (f ∙ ap (λ (q : Fraction). summand q one_monomial) (one_value r e)) i ∷ []);
+  }

@@ -1,0 +1,23 @@
+use Rattle.std.proofs.Common.{◌++◌, List, sym, subst, append_assoc, take_all}
+use Rattle.std.proofs.lemmas.Result.{on_ok_weaker}
+use Rattle.polynomials.specs.declared.term.Term.{Term}
+use Rattle.polynomials.specs.Polynomials.{HaveExponents}
+use Rattle.polynomials.specs.Terms.{polynomial_of}
+use Rattle.polynomials.proofs.MergeLoops.{have_at, merged_more}
+use Rattle.polynomials.proofs.merging.add_multiple.Goals as goal
+
+pub times-requires : goal.times-requires
+times-requires c =
+    let x = c.requires.exponents in
+    record { exponents = (x.0, x.1, x.2, x.3, have_at (x.1) c.args.terms.now c.loop-term.term-index c.term-item.result c.loop-term-test.true c.term-item.is (x.4)) }
+
+pub loop-term-preserved : goal.loop-term-preserved
+loop-term-preserved c =
+    merged_more c.args.sum.now c.args.terms.now c.args.factor c.loop-term.term-index c.loop-term.list.items c.loop-term.rest.now c.loop-term.invariant c.requires.terms
+    c.term-item.result c.in_ok-product.product c.loop-term-test.true c.term-item.is c.in_ok-product.ensures.product c.in_ok-product.ensures.packed
+    c.copy_below.new.list.items c.in_ok-rest.rest.now c.put.new.list.items c.in_ok-rest-2.rest.now
+    c.in_ok-rest.ensures.copied c.in_ok-rest-2.ensures.terms c.in_ok-rest-2.ensures.exponents c.in_ok-rest-2.ensures.below
+
+pub returns-clause-exponents : goal.returns-clause-exponents
+returns-clause-exponents c = λ d h k.
+    on_ok_weaker c.extend.result (λ e. subst (λ (l : List Term). HaveExponents d (polynomial_of l)) (sym e) (c.loop-term.invariant.exponents d h k)) c.extend.ensures

@@ -1,0 +1,4 @@
+pub mod Polynomials
+pub mod Packed
+pub mod Terms
+pub mod Rows

@@ -1,0 +1,16 @@
+//! Polynomials of at most eight names as values: lists of terms that are sorted by their monomials.
+#![tactic(auto)]
+
+mod arithmetic;
+mod laws;
+mod list;
+mod merging;
+mod term;
+mod unfit;
+
+pub use arithmetic::{add_scaled, power, product};
+pub use term::Term;
+pub use unfit::Unfit;
+
+#[cfg(test)]
+mod tests;

@@ -1,0 +1,53 @@
+//! Lists of terms, whose memory was taken before.
+ghost use Rattle.std.specs.Prelude.{◌≡◌, [], ◌∷◌, ◌++◌, OnOk, if◌then◌else◌};
+ghost use Rattle.calc_terms.specs.Fractions.{is_zero_fraction};
+ghost use Rattle.calc_terms.specs.Integers.{int_is_zero};
+ghost use Rattle.calc_terms.specs.Rat.{value_of};
+
+use crate::term::Term;
+use crate::unfit::Unfit;
+use calc_terms::Rat;
+
+/// One more term, where there is room for it.
+pub(crate) fn push(list: &mut Vec<Term>, term: Term) -> Result<(), Unfit>
+    ensures { OnOk result (list.new.items ≡ list.old.items ++ term ∷ []) }
+{
+    if list.len() == list.capacity() {
+        return Err(Unfit::Terms);
+    }
+    list.push(term).unwrap();
+    Ok(())
+}
+
+/// One more term, where its coefficient is not 0.
+pub(crate) fn push_nonzero(list: &mut Vec<Term>, term: Term) -> Result<(), Unfit>
+    ensures { OnOk result (list.new.items ≡ (if is_zero_fraction (value_of term.coefficient) then list.old.items else list.old.items ++ term ∷ [])) }
+{
+    if is_zero(term.coefficient) {
+        return Ok(());
+    }
+    push(list, term)
+}
+
+/// More terms, where there is room for all.
+pub(crate) fn extend(list: &mut Vec<Term>, terms: &[Term]) -> Result<(), Unfit>
+    ensures { OnOk result (list.new.items ≡ list.old.items ++ terms.now) }
+{
+    if list.capacity() - list.len() < terms.len() {
+        return Err(Unfit::Terms);
+    }
+    list.extend_from_slice(terms).unwrap();
+    Ok(())
+}
+
+fn is_zero(value: Rat) -> bool
+    ensures { result ≡ is_zero_fraction (value_of value) }
+{
+    is_zero_number(value.num())
+}
+
+fn is_zero_number(number: i128) -> bool
+    ensures { result ≡ int_is_zero number }
+{
+    number == 0
+}

@@ -1,0 +1,72 @@
+//! Terms.
+ghost use Rattle.std.specs.Prelude.{◌≡◌, ◌<◌, ◌+◌, ℕ, IfOk};
+ghost use Rattle.polynomials.specs.Polynomials.{HasExponents, monomial_times};
+ghost use Rattle.polynomials.specs.Packed.{monomial_of};
+
+use crate::unfit::Unfit;
+use calc_terms::Rat;
+use rational128::{add, mul};
+
+/// A rational times a monomial. The exponent of each of at most eight names stands in eight bits of the monomial, that of
+/// the first one in the lowest.
+#[derive(Clone, Copy, Debug)]
+pub struct Term {
+    pub monomial: u64,
+    pub coefficient: Rat,
+}
+
+impl Term {
+    ghost use Rattle.calc_terms.specs.Fractions.{plus};
+    ghost use Rattle.calc_terms.specs.Rat.{value_of};
+    ghost use Rattle.polynomials.specs.Polynomials.{constant, summand_times, one_monomial, summand};
+    ghost use Rattle.polynomials.specs.Terms.{summand_of};
+
+    /// A rational.
+    pub fn constant(value: Rat) -> Term
+        ensures { summand_of result ≡ summand (value_of value) one_monomial }
+    {
+        Term {
+            monomial: 0,
+            coefficient: value,
+        }
+    }
+
+    /// The sum of two terms with one monomial.
+    pub(crate) fn plus(self, other: Term) -> Result<Term, Unfit>
+        ensures monomial { IfOk result (λ t. t.monomial ≡ other.monomial) }
+        ensures coefficient { IfOk result (λ t. value_of t.coefficient ≡ plus (value_of self.coefficient) (value_of other.coefficient)) }
+    {
+        match add(self.coefficient, other.coefficient) {
+            Ok(coefficient) => Ok(Term {
+                monomial: other.monomial,
+                coefficient,
+            }),
+            Err(_) => Err(Unfit::Coefficient),
+        }
+    }
+
+    /// The product of two terms. No exponent runs over.
+    pub(crate) fn times(self, other: Term) -> Result<Term, Unfit>
+        requires exponents { (d : ℕ) × (e : ℕ) × (d + e < 256) × HasExponents d (monomial_of self.monomial) × HasExponents e (monomial_of other.monomial) }
+        ensures product { IfOk result (λ t. summand_of t ≡ summand_times (summand_of self) (summand_of other)) }
+        ensures packed { IfOk result (λ t. t.monomial ≡ self.monomial + other.monomial) }
+    {
+        let monomial = packed_product(self.monomial, other.monomial);
+        match mul(self.coefficient, other.coefficient) {
+            Ok(coefficient) => Ok(Term {
+                monomial,
+                coefficient,
+            }),
+            Err(_) => Err(Unfit::Coefficient),
+        }
+    }
+}
+
+/// The product of two packed monomials. No exponent runs over.
+fn packed_product(a: u64, b: u64) -> u64
+    requires exponents { (d : ℕ) × (e : ℕ) × (d + e < 256) × HasExponents d (monomial_of a) × HasExponents e (monomial_of b) }
+    ensures packed { result ≡ a + b }
+    ensures product { monomial_of result ≡ monomial_times (monomial_of a) (monomial_of b) }
+{
+    a + b
+}

@@ -1,0 +1,13 @@
+//! Why a polynomial is not made.
+use thiserror::Error;
+
+/// What does not fit, so that other means have to serve.
+#[derive(Clone, Copy, Debug, PartialEq, Eq, Error)]
+pub enum Unfit {
+    /// The list has no room for another term.
+    #[error("the list has no room for another term")]
+    Terms,
+    /// A coefficient does not fit into 128 bits.
+    #[error("a coefficient does not fit into 128 bits")]
+    Coefficient,
+}
