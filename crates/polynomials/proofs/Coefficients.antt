@@ -1,5 +1,5 @@
 -- Coefficients as what polynomials are worth, and packed monomials one by one.
-use Rattle.std.proofs.Common.{◌≡◌, ℕ, zero, suc, ◌*◌, ◌+◌, ◌/◌, ◌%◌, ◌^◌, ◌<◌, Bool, true, false, [], ◌∷◌, refl, sym, ap, ◌∙◌, arith}
+use Rattle.std.proofs.Common.{◌≡◌, ℕ, zero, suc, ◌/◌, ◌%◌, ◌^◌, ◌<◌, Bool, true, false, [], ◌∷◌, refl, sym, ap, ◌∙◌, arith}
 use Rattle.std.specs.Prelude.{if◌then◌else◌}
 use Rattle.calc_terms.specs.FractionLaws.{times_comm, zero_plus, zero_times, one_times}
 use Rattle.calc_terms.specs.Fractions.{Fraction, plus, times, zero_fraction, one_fraction}
@@ -37,5 +37,5 @@ one_unpacked zero k l h j e = omega arith
 one_unpacked (suc n) k l h j e =
     let low : k % 256 ≡ l % 256 = head_same (k % 256) (l % 256) (unpacked n (k / 256)) (unpacked n (l / 256)) e in
     let high : k / 256 ≡ l / 256 =
-        one_unpacked n (k / 256) (l / 256) (tail_below k n h) (tail_below l n j) (tail_same (k % 256) (l % 256) (unpacked n (k / 256)) (unpacked n (l / 256)) e) in
+    one_unpacked n (k / 256) (l / 256) (tail_below k n h) (tail_below l n j) (tail_same (k % 256) (l % 256) (unpacked n (k / 256)) (unpacked n (l / 256)) e) in
     omega arith

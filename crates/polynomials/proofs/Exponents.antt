@@ -1,7 +1,6 @@
 -- Exponents of products, packed and not.
-use Rattle.std.proofs.Common.{◌≡◌, ℕ, zero, suc, ◌+◌, ◌*◌, ◌/◌, ◌%◌, ◌^◌, ◌<◌, ◌≤◌, [], ◌∷◌, ◌++◌, refl, sym, ap, ◌∙◌, arith, zero-add, replicate}
-use Rattle.calc_terms.specs.Fractions.{one_fraction}
-use Rattle.polynomials.specs.Polynomials.{Monomial, Polynomial, Summand, HasExponents, HaveExponents, monomial_times, product, raised, row, one_monomial}
+use Rattle.std.proofs.Common.{◌≡◌, ℕ, zero, suc, ◌+◌, ◌/◌, ◌%◌, ◌^◌, ◌<◌, [], ◌∷◌, ◌++◌, refl, ap, ◌∙◌, arith, zero-add, replicate}
+use Rattle.polynomials.specs.Polynomials.{Monomial, Polynomial, Summand, HasExponents, HaveExponents, monomial_times, product, row, one_monomial}
 use Rattle.polynomials.specs.Packed.{monomial_of, unpacked}
 
 -- ---- of products
@@ -53,7 +52,6 @@ packed_sum d e h (suc n) k l a b p q =
     }
 
 -- ---- the monomial without names
-
 
 pub packed_zero : monomial_of 0 ≡ one_monomial
 unfolding monomial_of

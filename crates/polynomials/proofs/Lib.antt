@@ -6,3 +6,5 @@ pub mod MergeLoops
 pub mod Scaled
 pub mod Products
 pub mod Coefficients
+pub mod Insertions
+pub mod GreatestExponents

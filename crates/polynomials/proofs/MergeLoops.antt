@@ -1,5 +1,5 @@
 -- Two lists of terms on the way to one.
-use Rattle.std.proofs.Common.{◌≡◌, ℕ, zero, suc, ◌+◌, ◌<◌, ◌≤◌, List, [], ◌∷◌, ◌++◌, map, length, get_or, take, drop, refl, sym, ap, ◌∙◌, subst, arith, append_assoc, append-nil}
+use Rattle.std.proofs.Common.{◌≡◌, ℕ, zero, suc, ◌+◌, ◌<◌, ◌≤◌, List, [], ◌∷◌, ◌++◌, length, get_or, take, refl, sym, ap, ◌∙◌, subst, arith, append_assoc, append-nil}
 use Rattle.std.proofs.lemmas.List.{take_more}
 use Rattle.polynomials.specs.declared.term.Term.{Term}
 use Rattle.polynomials.specs.Polynomials.{Polynomial, Summand, AreSame, HasExponents, HaveExponents, row, summand_times}
@@ -17,10 +17,10 @@ pub record IsMerged (sum terms : List Term) (f : Term) (j : ℕ) (list rest : Li
 
 pub merged_none : (sum terms : List Term) (f : Term) → IsNormal sum → IsMerged sum terms f 0 [] sum
 merged_none sum terms f h = record {
-    terms-are = record { normal = h; same = same_is (sym (append-nil (polynomial_of sum))) };
-    exponents = λ d p q. p;
-    below = λ k d p q. tt;
-  }
+  terms-are = record { normal = h; same = same_is (sym (append-nil (polynomial_of sum))) };
+  exponents = λ d p q. p;
+  below = λ k d p q. tt;
+}
 
 pub take_one_more : (xs : List Term) (j : ℕ) (x : Term) → j < length xs → x ≡ get_or xs j x → take (j + 1) xs ≡ take j xs ++ x ∷ []
 take_one_more xs j x h e = take_more xs j x h ∙ (λ i. take j xs ++ sym e i ∷ [])
@@ -50,7 +50,6 @@ have_row_at d s (x ∷ ts) (suc j) t h e k = have_row_at d s ts j t (omega arith
 
 module _ (sum terms : List Term) (f : Term) (j : ℕ) (list rest : List Term) (m : IsMerged sum terms f j list rest) (sorted : IsNormal terms)
     (t p : Term) (h : j < length terms) (e : t ≡ get_or terms j t) (q : summand_of p ≡ summand_times (summand_of f) (summand_of t)) (k : p.monomial ≡ f.monomial + t.monomial) where
-
   -- what is done is below the product
   pub done_below : AreBelow p.monomial list
   done_below = subst (λ (n : ℕ). AreBelow n list) (ap (λ (y : Term). f.monomial + y.monomial) (sym e) ∙ sym k) (m.below j t (omega arith) h)
@@ -59,7 +58,6 @@ module _ (sum terms : List Term) (f : Term) (j : ℕ) (list rest : List Term) (m
       (put : AreTermsOf (summand_of p ∷ polynomial_of (list1 ++ rest1)) (list2 ++ rest2))
       (have : (d : ℕ) → HaveExponents d (summand_of p ∷ polynomial_of (list1 ++ rest1)) → HaveExponents d (polynomial_of (list2 ++ rest2)))
       (below : (n : ℕ) → p.monomial < n → AreBelow n list2) where
-
     same : AreSame (summand_of p ∷ polynomial_of (list1 ++ rest1)) (polynomial_of sum ++ row (summand_of f) (polynomial_of (take (j + 1) terms)))
     same =
         let v : Polynomial = polynomial_of sum in
@@ -82,8 +80,10 @@ module _ (sum terms : List Term) (f : Term) (j : ℕ) (list rest : List Term) (m
 
     pub merged_more : IsMerged sum terms f (j + 1) list2 rest2
     merged_more = record {
-        terms-are = terms_same (list2 ++ rest2) same put;
-        exponents = λ d a b. have d (subst (λ (s : Summand). HasExponents d s.monomial) (sym q) (have_row_at d (summand_of f) terms j t h e b),
-          subst (λ (l : List Term). HaveExponents d (polynomial_of l)) (sym copied) (m.exponents d a b));
-        below = λ n d a b. below (f.monomial + (get_or terms n d).monomial) (next n d a b);
-      }
+      terms-are = terms_same (list2 ++ rest2) same put;
+      exponents = λ d a b. have d (
+        subst (λ (s : Summand). HasExponents d s.monomial) (sym q) (have_row_at d (summand_of f) terms j t h e b),
+        subst (λ (l : List Term). HaveExponents d (polynomial_of l)) (sym copied) (m.exponents d a b),
+      );
+      below = λ n d a b. below (f.monomial + (get_or terms n d).monomial) (next n d a b);
+    }

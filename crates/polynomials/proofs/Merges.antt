@@ -1,11 +1,11 @@
 -- A term put between a list and the terms behind it.
-use Rattle.std.proofs.Common.{◌≡◌, ◌≢◌, ℕ, ◌+◌, ◌<◌, ◌≤◌, Bool, true, false, List, [], ◌∷◌, ◌++◌, map, length, get_or, take, refl, sym, ap, ◌∙◌, subst, arith, append_assoc}
+use Rattle.std.proofs.Common.{◌≡◌, ℕ, ◌<◌, Bool, true, false, List, [], ◌∷◌, ◌++◌, refl, sym, ap, arith, append_assoc}
 use Rattle.std.specs.Prelude.{if◌then◌else◌}
 use Rattle.calc_terms.proofs.FractionFacts.{zero_is}
-use Rattle.calc_terms.specs.Fractions.{Fraction, plus, is_zero_fraction}
+use Rattle.calc_terms.specs.Fractions.{plus, is_zero_fraction}
 use Rattle.calc_terms.specs.Rat.{value_of}
 use Rattle.polynomials.specs.declared.term.Term.{Term}
-use Rattle.polynomials.specs.Polynomials.{Polynomial, Summand, AreSame, HaveExponents, summand}
+use Rattle.polynomials.specs.Polynomials.{Polynomial, AreSame, HaveExponents, summand}
 use Rattle.polynomials.specs.Rows.{AreBelow}
 use Rattle.polynomials.specs.Packed.{monomial_of}
 use Rattle.polynomials.specs.Terms.{AreTermsOf, IsBelowAll, IsNormal, polynomial_of, summand_of}

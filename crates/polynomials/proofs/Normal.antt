@@ -1,5 +1,5 @@
 -- Sorted lists of terms with one more, and with one less.
-use Rattle.std.proofs.Common.{◌≡◌, ◌≢◌, ℕ, zero, suc, ◌+◌, ◌<◌, ◌≤◌, List, [], ◌∷◌, ◌++◌, false, length, get_or, drop, refl, sym, arith}
+use Rattle.std.proofs.Common.{◌≡◌, ◌≢◌, ℕ, zero, suc, ◌-◌, ◌<◌, ◌≤◌, List, [], ◌∷◌, ◌++◌, false, length, get_or, take, drop, sym, subst, arith}
 use Rattle.calc_terms.specs.Fractions.{is_zero_fraction}
 use Rattle.calc_terms.specs.Rat.{value_of}
 use Rattle.polynomials.specs.declared.term.Term.{Term}
@@ -79,3 +79,17 @@ starts_at k [] zero t e h = tt
 starts_at k [] (suc j) t e h = tt
 starts_at k (x ∷ ts) zero t e h = let m : t.monomial ≡ x.monomial = λ i. (e i).monomial in omega arith
 starts_at k (x ∷ ts) (suc j) t e h = starts_at k ts j t e h
+
+pub below_take : (k : ℕ) (ts : List Term) (j : ℕ) (t : Term) → IsNormal ts → j < length ts → t ≡ get_or ts j t → t.monomial < k → AreBelow k (take (suc j) ts)
+below_take k [] j t h l e b = tt
+below_take k (x ∷ ts) zero t h l e b = (let m : t.monomial ≡ x.monomial = λ i. (e i).monomial in omega arith, tt)
+below_take k (x ∷ ts) (suc j) t h l e b =
+    let m : t.monomial ≡ (get_or ts j t).monomial = λ i. (e i).monomial in
+    let first : x.monomial < (get_or ts j t).monomial = below_at x.monomial ts j t (h.1) (omega arith) in
+    (omega arith, below_take k ts j t (h.2) (omega arith) e b)
+
+-- up to the n-th
+pub below_first : (k : ℕ) (ts : List Term) (n : ℕ) (t : Term) → IsNormal ts → 0 < n → n ≤ length ts → t ≡ get_or ts (n - 1) t → t.monomial < k → AreBelow k (take n ts)
+below_first k ts n t h p l e b =
+    let s : suc (n - 1) ≡ n = omega arith in
+    subst (λ (m : ℕ). AreBelow k (take m ts)) s (below_take k ts (n - 1) t h (omega arith) e b)

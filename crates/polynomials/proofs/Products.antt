@@ -1,5 +1,5 @@
 -- Products of lists of terms, row by row, and powers, factor by factor.
-use Rattle.std.proofs.Common.{◌≡◌, ℕ, zero, suc, ◌+◌, ◌*◌, ◌<◌, List, [], ◌∷◌, ◌++◌, length, get_or, take, refl, sym, ap, ◌∙◌, subst, arith, append-nil, pos, ◌≤◌}
+use Rattle.std.proofs.Common.{◌≡◌, ℕ, suc, ◌+◌, ◌*◌, ◌<◌, List, [], ◌∷◌, ◌++◌, length, get_or, take, refl, sym, ap, ◌∙◌, subst, arith, append-nil, pos, ◌≤◌}
 use Rattle.std.proofs.Math.Nat.{mul-le-mul_right}
 use Rattle.calc_terms.specs.Rat.{ratio_of, value_of}
 use Rattle.calc_terms.specs.Ratio.{whole}
@@ -31,10 +31,10 @@ product_more a b i list next t h e so terms have =
     let w : Polynomial = polynomial_of b in
     let v : Polynomial = polynomial_of (take i a) in
     let rows : product (polynomial_of (take (i + 1) a)) w ≡ product v w ++ row (summand_of t) w =
-        ap (λ (l : List Term). product (polynomial_of l) w) (take_one_more a i t h e)
-        ∙ ap (λ (x : Polynomial). product x w) (polynomial_append (take i a) (t ∷ []))
-        ∙ product_append v (summand_of t ∷ []) w
-        ∙ ap (λ (x : Polynomial). product v w ++ x) (append-nil (row (summand_of t) w)) in
+    ap (λ (l : List Term). product (polynomial_of l) w) (take_one_more a i t h e)
+    ∙ ap (λ (x : Polynomial). product x w) (polynomial_append (take i a) (t ∷ []))
+    ∙ product_append v (summand_of t ∷ []) w
+    ∙ ap (λ (x : Polynomial). product v w ++ x) (append-nil (row (summand_of t) w)) in
     record {
       terms-are = terms_same next (same_trans (same_append (so.terms-are).same (same_is refl)) (same_is (sym rows))) terms;
       exponents = λ d f p q. have (d + f) (so.exponents d f p q) (have_row d f (summand_of t) w (have_at d a i t h e p) q);
@@ -64,9 +64,9 @@ power_more base i list next so terms have =
 -- no factor
 pub power_none : (base list : List Term) (t : Term) (r : Rat) → list ≡ t ∷ [] → ratio_of r ≡ whole (pos 1) → summand_of t ≡ summand (value_of r) one_monomial → IsPowerTo base 0 list
 power_none base list t r e f g = rw e (record {
-    terms-are = one_terms r t f g;
-    exponents = λ d h. (subst (λ (n : ℕ). HasExponents n (summand_of t).monomial) (no_factors d) (subst (λ (s : Summand). HasExponents 0 s.monomial) (sym g) one_exponents), tt);
-  })
+  terms-are = one_terms r t f g;
+  exponents = λ d h. (subst (λ (n : ℕ). HasExponents n (summand_of t).monomial) (no_factors d) (subst (λ (s : Summand). HasExponents 0 s.monomial) (sym g) one_exponents), tt);
+})
   where
     no_factors : (d : ℕ) → 0 ≡ 0 * d
     no_factors d = omega arith

@@ -36,6 +36,6 @@ one_nonzero = ap int_is_zero (whole_numerator (pos 1))
 
 pub one_terms : (r : Rat) (t : Term) → ratio_of r ≡ whole (pos 1) → summand_of t ≡ summand (value_of r) one_monomial → AreTermsOf (constant one_fraction) (t ∷ [])
 one_terms r t e f = record {
-    normal = (ap is_zero_fraction (ap (λ (s : Summand). s.coefficient) f ∙ one_value r e) ∙ one_nonzero, tt, tt);
-    same = same_is (λ i. (f ∙ ap (λ (q : Fraction). summand q one_monomial) (one_value r e)) i ∷ []);
-  }
+  normal = (ap is_zero_fraction (ap (λ (s : Summand). s.coefficient) f ∙ one_value r e) ∙ one_nonzero, tt, tt);
+  same = same_is (λ i. (f ∙ ap (λ (q : Fraction). summand q one_monomial) (one_value r e)) i ∷ []);
+}

@@ -1,7 +1,7 @@
 -- What polynomials are worth, and which are the same.
 use Rattle.std.proofs.Common.{◌≡◌, [], ◌∷◌, ◌++◌, refl, sym, ap, ◌∙◌, append_assoc}
-use Rattle.calc_terms.specs.FractionLaws.{times_comm, times_assoc, times_plus, zero_plus, zero_times, one_times}
-use Rattle.calc_terms.specs.Fractions.{Fraction, plus, times, zero_fraction, one_fraction, plus_comm, plus_assoc}
+use Rattle.calc_terms.specs.FractionLaws.{times_comm, times_assoc, times_plus, zero_plus, zero_times}
+use Rattle.calc_terms.specs.Fractions.{Fraction, plus, times, zero_fraction, plus_comm, plus_assoc}
 use Rattle.polynomials.specs.Polynomials.{Monomial, Polynomial, Summand, AreSame, monomial_times, product, row, summand, worth}
 
 plus_both : {a b c d : Fraction} → a ≡ b → c ≡ d → plus a c ≡ plus b d

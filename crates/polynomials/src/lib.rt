@@ -2,6 +2,8 @@
 #![tactic(auto)]
 
 mod arithmetic;
+mod degrees;
+mod insertion;
 mod laws;
 mod list;
 mod merging;
@@ -9,6 +11,8 @@ mod term;
 mod unfit;
 
 pub use arithmetic::{add_scaled, power, product};
+pub use degrees::degree;
+pub use insertion::insert;
 pub use term::Term;
 pub use unfit::Unfit;
 

@@ -40,7 +40,7 @@ pub(crate) fn extend(list: &mut Vec<Term>, terms: &[Term]) -> Result<(), Unfit>
     Ok(())
 }
 
-fn is_zero(value: Rat) -> bool
+pub(crate) fn is_zero(value: Rat) -> bool
     ensures { result ≡ is_zero_fraction (value_of value) }
 {
     is_zero_number(value.num())

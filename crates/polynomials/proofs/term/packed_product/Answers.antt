@@ -1,6 +1,6 @@
-use Rattle.std.proofs.Common.{◌≡◌, ℕ, ◌+◌, ◌^◌, ◌<◌, arith}
+use Rattle.std.proofs.Common.{ℕ, ◌+◌, ◌^◌, ◌<◌}
 use Rattle.polynomials.specs.Packed.{monomial_of}
-use Rattle.polynomials.specs.Polynomials.{HasExponents, monomial_times}
+use Rattle.polynomials.specs.Polynomials.{HasExponents}
 use Rattle.polynomials.proofs.Exponents.{IsPackedSum, packed_sum}
 use Rattle.polynomials.proofs.term.packed_product.Goals as goal
 

@@ -1,0 +1,78 @@
+-- A term inserted at its place.
+use Rattle.std.proofs.Common.{◌≡◌, ℕ, zero, suc, ◌<◌, ◌≤◌, Bool, true, false, List, [], ◌∷◌, ◌++◌, length, get_or, take, drop, refl, sym, ap, ◌∙◌, subst, arith, append_assoc, take-append-drop}
+use Rattle.std.specs.Prelude.{if◌then◌else◌, insert, remove}
+use Rattle.std.proofs.lemmas.List.{length-take-le}
+use Rattle.calc_terms.specs.Fractions.{is_zero_fraction, plus}
+use Rattle.calc_terms.specs.Rat.{value_of}
+use Rattle.polynomials.specs.declared.term.Term.{Term}
+use Rattle.polynomials.specs.Polynomials.{HaveExponents}
+use Rattle.polynomials.specs.Rows.{AreBelow}
+use Rattle.polynomials.specs.Terms.{AreTermsOf, IsBelowAll, IsNormal, polynomial_of, summand_of}
+use Rattle.polynomials.proofs.Merges.{exchanged_exponents, exchanged_terms, put_exponents, put_terms, pushed}
+
+-- the list with the term at a place, where its coefficient is not 0
+abbrev pub inserted : List Term → ℕ → Term → List Term
+inserted xs n t = if is_zero_fraction (value_of t.coefficient) then xs else insert xs n t
+
+inserted_as : (xs ys : List Term) (n : ℕ) (t : Term) → n ≡ length xs → inserted (xs ++ ys) n t ≡ pushed xs t ++ ys
+inserted_as xs ys n t e = by (is_zero_fraction (value_of t.coefficient))
+  where
+    parts : (zs : List Term) → insert (zs ++ ys) (length zs) t ≡ zs ++ t ∷ ys
+    parts [] = refl
+    parts (z ∷ zs) = ap (λ (l : List Term). z ∷ l) (parts zs)
+
+    by : (z : Bool) → (if z then xs ++ ys else insert (xs ++ ys) n t) ≡ (if z then xs else xs ++ t ∷ []) ++ ys
+    by true = refl
+    by false = ap (λ m. insert (xs ++ ys) m t) e ∙ parts xs ∙ sym (append_assoc xs (t ∷ []) ys)
+
+-- ---- a monomial that does not stand there
+
+module _ (xs : List Term) (n : ℕ) (t : Term) (zs : List Term) (l : n ≤ length xs) (e : zs ≡ inserted xs n t) where
+  whole : take n xs ++ drop n xs ≡ xs
+  whole = take-append-drop n xs
+
+  is : zs ≡ pushed (take n xs) t ++ drop n xs
+  is = e ∙ ap (λ (ys : List Term). inserted ys n t) (sym whole) ∙ inserted_as (take n xs) (drop n xs) n t (sym (length-take-le n xs l))
+
+  pub insert_terms : IsNormal xs → AreBelow t.monomial (take n xs) → IsBelowAll t.monomial (drop n xs) → AreTermsOf (summand_of t ∷ polynomial_of xs) zs
+  insert_terms h b a =
+      subst (λ (ys : List Term). AreTermsOf (summand_of t ∷ polynomial_of ys) zs) whole
+      (subst (λ (ys : List Term). AreTermsOf (summand_of t ∷ polynomial_of (take n xs ++ drop n xs)) ys) (sym is)
+      (put_terms (take n xs) (drop n xs) (pushed (take n xs) t) t refl (subst IsNormal (sym whole) h) b a))
+
+  pub insert_exponents : (d : ℕ) → HaveExponents d (summand_of t ∷ polynomial_of xs) → HaveExponents d (polynomial_of zs)
+  insert_exponents d h =
+      subst (λ (ys : List Term). HaveExponents d (polynomial_of ys)) (sym is)
+      (put_exponents (take n xs) (drop n xs) (pushed (take n xs) t) t refl d (subst (λ (ys : List Term). HaveExponents d (summand_of t ∷ polynomial_of ys)) (sym whole) h))
+
+-- ---- one that does
+
+module _ (xs : List Term) (n : ℕ) (s t u : Term) (zs : List Term) (l : n < length xs) (r : s ≡ get_or xs n s) (e : zs ≡ inserted (remove xs n) n u)
+    (m : s.monomial ≡ t.monomial) (k : u.monomial ≡ t.monomial) where
+  parted : (ys : List Term) (j : ℕ) (y : Term) → j < length ys → y ≡ get_or ys j y → take j ys ++ y ∷ drop (suc j) ys ≡ ys
+  parted [] j y h p = absurd (omega arith)
+  parted (z ∷ ys) zero y h p = λ i. p i ∷ ys
+  parted (z ∷ ys) (suc j) y h p = ap (λ (w : List Term). z ∷ w) (parted ys j y (omega arith) p)
+
+  whole_as : take n xs ++ s ∷ drop (suc n) xs ≡ xs
+  whole_as = parted xs n s l r
+
+  is_as : zs ≡ pushed (take n xs) u ++ drop (suc n) xs
+  is_as = e ∙ inserted_as (take n xs) (drop (suc n) xs) n u (sym (length-take-le n xs (omega arith)))
+
+  pub exchange_terms : value_of u.coefficient ≡ plus (value_of s.coefficient) (value_of t.coefficient) → IsNormal xs → AreBelow t.monomial (take n xs) → AreTermsOf (summand_of t ∷ polynomial_of xs) zs
+  exchange_terms p h b =
+      subst (λ (ys : List Term). AreTermsOf (summand_of t ∷ polynomial_of ys) zs) whole_as
+      (subst (λ (ys : List Term). AreTermsOf (summand_of t ∷ polynomial_of (take n xs ++ s ∷ drop (suc n) xs)) ys) (sym is_as)
+      (exchanged_terms (take n xs) (drop (suc n) xs) s t u (pushed (take n xs) u) refl m k p (subst IsNormal (sym whole_as) h) b))
+
+  pub exchange_exponents : (d : ℕ) → HaveExponents d (summand_of t ∷ polynomial_of xs) → HaveExponents d (polynomial_of zs)
+  exchange_exponents d h =
+      subst (λ (ys : List Term). HaveExponents d (polynomial_of ys)) (sym is_as)
+      (exchanged_exponents (take n xs) (drop (suc n) xs) s t u (pushed (take n xs) u) refl m k d (subst (λ (ys : List Term). HaveExponents d (summand_of t ∷ polynomial_of ys)) (sym whole_as) h))
+
+-- the first behind a place
+pub first_dropped : (xs : List Term) (n : ℕ) (y : Term) → n < length xs → y ≡ get_or xs n y → y ≡ get_or (drop n xs) 0 y
+first_dropped [] n y h e = absurd (omega arith)
+first_dropped (x ∷ xs) zero y h e = e
+first_dropped (x ∷ xs) (suc n) y h e = first_dropped xs n y (omega arith) e
