@@ -15,6 +15,14 @@ abbrev pub CalmChecks : ℕ → List State → List State → Type 0
 CalmChecks zero old new = new ≡ old
 CalmChecks (suc n) old new = (between : List State) × Check old between None × CalmChecks n between new
 
+-- in one of at most so many checks the breaker at this place tripped, and nothing was checked after it
+pub record TripsWithin (most : ℕ) (old new : List State) (place : ℕ) : Type 0 where
+  pub passed : ℕ
+  pub few : passed < most
+  pub between : List State
+  pub calm : CalmChecks passed old between
+  pub trips : Check between new (Some place)
+
 -- the trips of the breaker at this place rose
 abbrev pub TripsRose : List State → List State → ℕ → Type 0
 TripsRose (b ∷ bs) (c ∷ cs) zero = b.trips < c.trips

@@ -1,7 +1,7 @@
 -- The rows of equations, one after another.
-use Rattle.std.proofs.Common.{◌≡◌, ◌<◌, ◌≤◌, ℕ, ◌+◌, List, [], ◌∷◌, ◌++◌, length, take, get_or, Ok, Err, sym, ap, ◌∙◌, subst, arith, zero-add}
-use Rattle.std.specs.Prelude.{sum_by, zip}
-use Rattle.linear_solve.proofs.Shared.{enumerate_from, length-map, get_or-map, take_all, get_or-enumerate_from, length-enumerate_from, sum_by_more, sum_by_more_le, get_or-zip, length-zip, nodes, difference_of, equation_row, equation_rows, unit, Equation, equation_at, equations_in, nodes_of_sides, Misfit, each, Row, Names}
+use Rattle.std.proofs.Common.{◌≡◌, ◌<◌, ◌≤◌, ℕ, ◌+◌, List, [], ◌∷◌, ◌++◌, length, take, get_or, Ok, Err, sym, ap, ◌∙◌, arith, zero-add}
+use Rattle.std.specs.Prelude.{zip}
+use Rattle.linear_solve.proofs.Shared.{enumerate_from, length-map, get_or-map, get_or-enumerate_from, length-enumerate_from, get_or-zip, length-zip, difference_of, equation_row, equation_rows, unit, Equation, equation_at, equations_in, Misfit, each, Row, Names}
 use Rattle.linear_solve.proofs.Calculations.{each_all, each_more, each_stops, then_err, then_ok}
 use Rattle.linear_solve.proofs.Theorem.{no_equation}
 use Rattle.tree_handles.specs.Forest.{Forest}
@@ -17,7 +17,7 @@ equation_here f ls rs i l r h e p q =
     ∙ (λ j. equation_at f (sym p j) (sym q j))
 
 module _ (xs : Names) (es : List Equation) where
-  numbered : (i : ℕ) (e : Equation) → i < length es → get_or es i no_equation ≡ e → get_or (enumerate_from 0 es) i (0, no_equation) ≡ (i, e)
+  pub numbered : (i : ℕ) (e : Equation) → i < length es → get_or es i no_equation ≡ e → get_or (enumerate_from 0 es) i (0, no_equation) ≡ (i, e)
   numbered i e l p = get_or-enumerate_from 0 es i (0, no_equation) l ∙ (λ j. (zero-add i j, p j))
 
   pub next_equation : (i n : ℕ) (e : Equation) (rows : List Row) (d row : Row) → n ≡ length es → i < length es → get_or es i no_equation ≡ e → difference_of xs e ≡ Ok d → row ≡ d ++ unit n i
@@ -34,13 +34,3 @@ module _ (xs : Names) (es : List Equation) where
 
   pub all_equations : (i : ℕ) (rows : List Row) → length es ≤ i → each (λ (p : ℕ × Equation). equation_row xs (length es) p.0 p.1) (take i (enumerate_from 0 es)) ≡ Ok rows → equation_rows xs es ≡ Ok rows
   all_equations i rows l made = each_all (λ (p : ℕ × Equation). equation_row xs (length es) p.0 p.1) (enumerate_from 0 es) i (Ok rows) (omega (arith, length-enumerate_from 0 es)) made
-
--- their nodes
-pub nodes_more : (es : List Equation) (i : ℕ) (e : Equation) → i < length es → get_or es i no_equation ≡ e → sum_by (λ e. nodes e.left + nodes e.right) (take (i + 1) es) ≡ sum_by (λ e. nodes e.left + nodes e.right) (take i es) + (nodes e.left + nodes e.right)
-nodes_more es i e l p = sum_by_more (λ e. nodes e.left + nodes e.right) es i no_equation l ∙ ap (λ (u : Equation). sum_by (λ e. nodes e.left + nodes e.right) (take i es) + (nodes u.left + nodes u.right)) p
-
-pub nodes_within : (es : List Equation) (i : ℕ) (e : Equation) → i < length es → get_or es i no_equation ≡ e → sum_by (λ e. nodes e.left + nodes e.right) (take i es) + (nodes e.left + nodes e.right) ≤ nodes_of_sides es
-nodes_within es i e l p = subst (λ (u : Equation). sum_by (λ e. nodes e.left + nodes e.right) (take i es) + (nodes u.left + nodes u.right) ≤ nodes_of_sides es) p (sum_by_more_le (λ e. nodes e.left + nodes e.right) es i no_equation l)
-
-pub nodes_all : (es : List Equation) (i : ℕ) → length es ≤ i → sum_by (λ e. nodes e.left + nodes e.right) (take i es) ≡ nodes_of_sides es
-nodes_all es i l = ap (sum_by (λ e. nodes e.left + nodes e.right)) (take_all i es l)

@@ -11,5 +11,6 @@ pub mod LinearNodes
 pub mod Walks
 pub mod RowLists
 pub mod EquationRows
+pub mod CheckCounts
 pub mod Results
 pub mod Shared

@@ -1,6 +1,6 @@
 -- What a result of the whole calculation says.
 use Rattle.std.proofs.Common.{arith, ◌≡◌, ◌↔◌, ℕ, List, [], length, Result, Ok, Err, IfOk, IfErr, OnOk}
-use Rattle.linear_solve.proofs.Shared.{calm_checks_raise_no_trips, only_the_tripped_rose, CalmChecks, TripsRose, State, SolveFault, Rows, equation_rows, settled_up_to, Equation, StopsWithin, Misfit, and_then, Answer, Form, answer_of, never, solved, Row, Names, IfNever, IfSolved, answer_told, solving}
+use Rattle.linear_solve.proofs.Shared.{calm_checks_raise_no_trips, only_the_tripped_rose, CalmChecks, TripsRose, State, SolveFault, Rows, equation_rows, settled_up_to, Equation, StopsAfter, Misfit, and_then, Answer, Form, answer_of, never, solved, Row, Names, IfNever, IfSolved, answer_told, solving}
 use Rattle.linear_solve.specs.declared.solution.Solution.{Solution}
 use Rattle.linear_solve.proofs.Calculations.{then_err}
 use Rattle.linear_solve.specs.declared.fault.SolveFault.TheVariants as fault
@@ -35,5 +35,5 @@ pub if_never : {C : Result Answer Misfit} {P : Row → Type 0} (r : Result Solut
 if_never r e h = grind arith
 
 -- whether a breaker tripped shows in the trips
-pub trips_tell : (r : Result Solution SolveFault) (n : ℕ) (old new : List State) → OnOk r (CalmChecks n old new) → IfErr r (StopsWithin n old new) → (place : ℕ) → (r ≡ Err (fault.Interrupted (record { by = place }))) ↔ TripsRose old new place
-trips_tell r n old new c h place = grind (arith, calm_checks_raise_no_trips, only_the_tripped_rose)
+pub trips_tell : (r : Result Solution SolveFault) (n most : ℕ) (old new : List State) → OnOk r (CalmChecks n old new) → IfErr r (StopsAfter most old new) → (place : ℕ) → (r ≡ Err (fault.Interrupted (record { by = place }))) ↔ TripsRose old new place
+trips_tell r n most old new c h place = grind (arith, calm_checks_raise_no_trips, only_the_tripped_rose)

@@ -1,6 +1,6 @@
 -- The names that the proofs share.
 pub use Rattle.breakers.proofs.Runs.{CalmChecks-append, calm_checks_raise_no_trips, only_the_tripped_rose}
-pub use Rattle.breakers.specs.Breakers.{CalmChecks, Check, TripsRose}
+pub use Rattle.breakers.specs.Breakers.{CalmChecks, Check, TripsRose, TripsWithin}
 pub use Rattle.breakers.specs.State.{State}
 pub use Rattle.breakers.specs.Watch.{states}
 pub use Rattle.calc_algebra.proofs.InverseLaws.{Inverts-surd_of, inverse_times_itself, negative_times, same_from_difference}
@@ -20,9 +20,11 @@ pub use Rattle.calc_terms.specs.Leaf.{name_of}
 pub use Rattle.calc_terms.specs.Rat.{ratio_of, value_of}
 pub use Rattle.calc_terms.specs.Trees.{Tree, Trees, add, count, div, more, mult, names, names_of, neg, nodes, nodes_of, none, num, power, root, root_kind, sub, symbol, undef}
 pub use Rattle.calc_terms.specs.declared.kind.Kind.{Kind}
+pub use Rattle.linear_solve.specs.Checks.{checks_behind, checks_of_each, equation_checks, name_checks, row_checks, rows_checks, side_checks}
+unfoldable pub use Rattle.linear_solve.specs.Checks.{solving_checks}
 pub use Rattle.linear_solve.specs.Elimination.{Rows, cleared, cleared_pivot, difference_of, equation_row, equation_rows, first_with, others, row_at, settled, settled_at, settled_up_to, unit}
 pub use Rattle.linear_solve.specs.Equations.{AreDistinct, Assigns, Equation, IsLinearIn, Solves, SolvesAll, equation_at, equations_in, nodes_of_sides}
-pub use Rattle.linear_solve.specs.Faults.{OfOverflow, StopsWithin}
+pub use Rattle.linear_solve.specs.Faults.{OfOverflow, StopsAfter}
 pub use Rattle.linear_solve.specs.Fitting.{Misfit, and_then, each, fitted, product_of, sum_of}
 pub use Rattle.linear_solve.specs.Forms.{Answer, Form, HasItsValue, HaveTheirValues, HoldLaterFreeNames, IsFree, answer_of, answer_with, differences, form_of, forms_of, free, multiple_in, multipliers, never, solved}
 pub use Rattle.linear_solve.specs.Linear.{are_linear, count_named, has_name, have_name, is_divisor, is_linear, is_nonzero, joined_name, name_where_linear, root_name}

@@ -1,6 +1,6 @@
 -- The children of a node as a list.
-use Rattle.std.proofs.Common.{◌≡◌, ◌<◌, ◌≤◌, ℕ, zero, suc, ◌+◌, List, [], ◌∷◌, ◌++◌, length, get_or, take, refl, ap, ◌∙◌, arith}
-use Rattle.linear_solve.proofs.Shared.{take_more, take_all, Tree, undef, Trees, none, more, count, nodes, nodes_of, nth, children_of}
+use Rattle.std.proofs.Common.{◌≡◌, ◌<◌, ◌≤◌, ℕ, zero, suc, ◌+◌, List, [], ◌∷◌, length, get_or, refl, ap, arith}
+use Rattle.linear_solve.proofs.Shared.{Tree, undef, Trees, none, more, count, nodes, nodes_of, nth, children_of}
 
 abbrev pub listed : Trees → List Tree
 listed none = []
@@ -16,28 +16,16 @@ get_or-listed (more t ts) zero = refl
 get_or-listed (more t ts) (suc i) = get_or-listed ts i
 
 -- their nodes
-abbrev pub node_sum : List Tree → ℕ
+abbrev node_sum : List Tree → ℕ
 node_sum [] = 0
 node_sum (t ∷ ts) = nodes t + node_sum ts
-
-node_sum-push : (ts : List Tree) (t : Tree) → node_sum (ts ++ t ∷ []) ≡ node_sum ts + nodes t
-node_sum-push [] t = omega arith
-node_sum-push (u ∷ ts) t = let h = node_sum-push ts t in omega (arith, h)
-
--- with the next child
-pub node_sum_more : (ts : Trees) (i : ℕ) → i < count ts → node_sum (take (i + 1) (listed ts)) ≡ node_sum (take i (listed ts)) + nodes (nth i ts)
-node_sum_more ts i l =
-    ap node_sum (take_more (listed ts) i undef (omega (arith, length-listed ts))) ∙ node_sum-push (take i (listed ts)) (get_or (listed ts) i undef) ∙ ap (λ t. node_sum (take i (listed ts)) + nodes t) (get_or-listed ts i)
-
-pub node_sum_all : (ts : Trees) (i : ℕ) → count ts ≤ i → node_sum (take i (listed ts)) ≡ node_sum (listed ts)
-node_sum_all ts i l = ap node_sum (take_all i (listed ts) (omega (arith, length-listed ts)))
 
 nodes-listed : (ts : Trees) → node_sum (listed ts) ≡ nodes_of ts
 nodes-listed none = refl
 nodes-listed (more t ts) = ap (λ n. nodes t + n) (nodes-listed ts)
 
 -- a tree has one node more than its children
-pub nodes_below : (t : Tree) → nodes t ≡ suc (node_sum (listed (children_of t)))
+nodes_below : (t : Tree) → nodes t ≡ suc (node_sum (listed (children_of t)))
 nodes_below t = grind (arith, nodes-listed)
 
 at_most_all : (ts : List Tree) (i : ℕ) → i < length ts → nodes (get_or ts i undef) ≤ node_sum ts

@@ -1,16 +1,16 @@
 -- The rows of a node's children, one after another, and the checks between.
 use Rattle.std.proofs.Common.{◌≡◌, ◌<◌, ◌≤◌, ℕ, zero, suc, ◌+◌, true, false, List, [], ◌∷◌, ◌++◌, length, map, take, Result, Ok, Err, refl, sym, ap, ◌∙◌, subst, arith, Some, None, IfErr, IsErrAnd}
-use Rattle.linear_solve.proofs.Shared.{err_from_is_err_and, Overflow, and_parts, get_or-map, get_or_at, length-append, length-map, length_push, CalmChecks-append, Check, CalmChecks, State, no_zero, zero_test, Kind, Fraction, negative, is_zero_fraction, zero_fraction, Tree, undef, neg, Trees, none, more, count, nodes, root_kind, SolveFault, OfOverflow, StopsWithin, Misfit, and_then, each, are_linear, is_divisor, is_linear, is_nonzero, entry, negated, Names, Side, bare_row, constant_of, constant_row, joined_from, joined_row, joined_rows, own_row, row_of, rows_of, signed_row, children_of, nth}
-use Rattle.linear_solve.specs.Checks.{TripsWithin}
+use Rattle.linear_solve.proofs.Shared.{err_from_is_err_and, Overflow, and_parts, get_or-map, get_or_at, length-append, length-map, length_push, CalmChecks-append, Check, CalmChecks, TripsWithin, State, no_zero, zero_test, Kind, Fraction, negative, is_zero_fraction, zero_fraction, Tree, undef, neg, Trees, none, more, count, root_kind, SolveFault, OfOverflow, StopsAfter, Misfit, and_then, each, are_linear, is_divisor, is_linear, is_nonzero, entry, negated, Names, Side, bare_row, constant_of, constant_row, joined_from, joined_row, joined_rows, own_row, row_of, rows_of, signed_row, children_of, nth}
 use Rattle.linear_solve.proofs.Arithmetic.{negative_twice, negative_zero}
 use Rattle.linear_solve.proofs.Calculations.{each_all, each_more, each_stops, ok_is, then_err, then_ok}
 use Rattle.linear_solve.proofs.LinearNodes.{divisor_linear}
-use Rattle.linear_solve.proofs.TreeLists.{get_or-listed, length-listed, listed, node_sum, node_sum_all, node_sum_more, nodes_below}
+use Rattle.linear_solve.proofs.TreeLists.{get_or-listed, length-listed, listed}
+use Rattle.linear_solve.specs.declared.fault.SolveFault.TheVariants as fault
 use Rattle.calc_terms.specs.declared.kind.Kind.TheVariants as kind
 
 -- ---- a tree's row by those of its children
 
-rows_listed : (xs : Names) (ts : Trees) → rows_of xs ts ≡ each (row_of xs) (listed ts)
+pub rows_listed : (xs : Names) (ts : Trees) → rows_of xs ts ≡ each (row_of xs) (listed ts)
 rows_listed xs none = refl
 rows_listed xs (more t ts) = ap (λ z. and_then (row_of xs t) (λ r. and_then z (λ rs. Ok (r ∷ rs)))) (rows_listed xs ts)
 
@@ -117,23 +117,17 @@ divisor_at xs t i n r h k l z m e = grind (arith, divisor_row)
 pub one_calm : (old new : List State) → Check old new None → CalmChecks 1 old new
 one_calm old new c = (new, c, refl)
 
-pub stops_after : (n m most : ℕ) (old between new : List State) (f : SolveFault) → n + m ≤ most → CalmChecks n old between → StopsWithin m between new f → StopsWithin most old new f
-stops_after n m most old between new f l c h = grind (arith, CalmChecks-append)
+-- so many calm checks, and then those of another calculation
+pub stops_after : (n m most : ℕ) (old between new : List State) (f : SolveFault) → n + m ≤ most → OfOverflow (λ o. n + m ≡ most) f → CalmChecks n old between → StopsAfter m between new f → StopsAfter most old new f
+stops_after n m most old between new (fault.Overflow o) l e c h = subst (λ k. CalmChecks k old new) e (CalmChecks-append n m old between new c h)
+stops_after n m most old between new (fault.Interrupted i) l e c h = record { passed = n + h.passed; few = omega (arith, h.few); between = h.between; calm = CalmChecks-append n h.passed old between h.between c h.calm; trips = h.trips }
+
+pub stops_as : (m most : ℕ) (old new : List State) (f : SolveFault) → m ≤ most → OfOverflow (λ o. m ≡ most) f → StopsAfter m old new f → StopsAfter most old new f
+stops_as m most old new (fault.Overflow o) l e h = subst (λ k. CalmChecks k old new) e h
+stops_as m most old new (fault.Interrupted i) l e h = record { passed = h.passed; few = omega (arith, h.few); between = h.between; calm = h.calm; trips = h.trips }
 
 pub trips_after : (n most : ℕ) (old between new : List State) (place : ℕ) → n < most → CalmChecks n old between → Check between new (Some place) → TripsWithin most old new place
 trips_after n most old between new place l c t = record { passed = n; few = l; between = between; calm = c; trips = t }
-
--- one node more
-pub more_nodes : (t : Tree) (at : ℕ) → at < count (children_of t) → node_sum (take at (listed (children_of t))) + nodes (nth at (children_of t)) ≤ nodes t
-more_nodes t at l = omega (arith, node_sum_more (children_of t) at l, nodes_below t, at_most (at + 1) (listed (children_of t)))
-  where
-    at_most : (n : ℕ) (ts : List Tree) → node_sum (take n ts) ≤ node_sum ts
-    at_most zero ts = omega arith
-    at_most (suc n) [] = omega arith
-    at_most (suc n) (u ∷ ts) = let h = at_most n ts in omega (arith, h)
-
-pub all_nodes : (t : Tree) (at : ℕ) → count (children_of t) ≤ at → node_sum (take at (listed (children_of t))) + 1 ≡ nodes t
-all_nodes t at l = omega (arith, node_sum_all (children_of t) at l, nodes_below t)
 
 -- ---- faults
 

@@ -2,10 +2,11 @@
 ghost use Rattle.std.specs.Prelude.{◌≡◌, ◌≤◌, ◌<◌, map, length, [], Ok, Err, Some, None, IfOk, IfErr, OnOk, ◌+◌, not, position};
 ghost use Rattle.breakers.specs.Breakers.{CalmChecks};
 ghost use Rattle.breakers.specs.Watch.{states};
+ghost use Rattle.linear_solve.specs.Checks.{name_checks};
 ghost use Rattle.linear_solve.specs.Elimination.{cleared, cleared_pivot, first_with, others, row_at, settled, settled_by, settled_up_to};
 ghost use Rattle.linear_solve.specs.Rows.{entry, scaled};
 ghost use Rattle.calc_terms.specs.Fractions.{inverse, is_zero_fraction};
-ghost use Rattle.linear_solve.specs.Faults.{OfOverflow, StopsWithin};
+ghost use Rattle.linear_solve.specs.Faults.{OfOverflow, StopsAfter};
 ghost use Rattle.linear_solve.specs.Fitting.{each};
 ghost use Rattle.linear_solve.specs.Told.{entries_of, misfit_of, pivot_of};
 
@@ -49,7 +50,7 @@ impl Elimination {
         ensures ok { OnOk result (settled_up_to names (rows_told self.old) ≡ Ok (rows_told self.new)) }
         ensures overflow { IfErr result (OfOverflow (λ o. settled_up_to names (rows_told self.old) ≡ Err (misfit_of o))) }
         ensures checks { OnOk result (CalmChecks names (states B.state watch.old) (states B.state watch.new)) }
-        ensures stops { IfErr result (StopsWithin names (states B.state watch.old) (states B.state watch.new)) }
+        ensures stops { IfErr result (StopsAfter (name_checks names (rows_told self.old)) (states B.state watch.old) (states B.state watch.new)) }
     {
         for name in 0..names {
             watch.check()?;

@@ -3,10 +3,10 @@ ghost use Rattle.std.specs.Prelude.{◌≡◌, ◌≤◌, ◌+◌, ◌++◌, map
 ghost use Rattle.breakers.specs.Breakers.{CalmChecks};
 ghost use Rattle.breakers.specs.Watch.{states};
 ghost use Rattle.calc_terms.specs.Leaf.{name_of};
-ghost use Rattle.calc_terms.specs.Trees.{nodes};
+ghost use Rattle.linear_solve.specs.Checks.{equation_checks, side_checks};
 ghost use Rattle.linear_solve.specs.Elimination.{difference_of, equation_rows, unit};
-ghost use Rattle.linear_solve.specs.Equations.{AreDistinct, IsLinearIn, equation_at, equations_in, nodes_of_sides};
-ghost use Rattle.linear_solve.specs.Faults.{OfOverflow, StopsWithin};
+ghost use Rattle.linear_solve.specs.Equations.{AreDistinct, IsLinearIn, equation_at, equations_in};
+ghost use Rattle.linear_solve.specs.Faults.{OfOverflow, StopsAfter};
 ghost use Rattle.linear_solve.specs.Linear.{is_linear};
 ghost use Rattle.linear_solve.specs.Told.{entries_of, misfit_of};
 ghost use Rattle.tree_handles.specs.Expressions.{IsExpression, plain};
@@ -43,9 +43,9 @@ pub(crate) fn equation_rows<B: Breaker>(
         ≡ Ok (map entries_of rows.items)) }
     ensures overflow { IfErr result (OfOverflow (λ o. equation_rows
         (map name_of names.now) (equations_in (forest pool.now) left.now right.now) ≡ Err (misfit_of o))) }
-    ensures checks { OnOk result (CalmChecks (nodes_of_sides (equations_in (forest pool.now) left.now right.now))
+    ensures checks { OnOk result (CalmChecks (equation_checks (map name_of names.now) (equations_in (forest pool.now) left.now right.now))
         (states B.state watch.old) (states B.state watch.new)) }
-    ensures stops { IfErr result (StopsWithin (nodes_of_sides (equations_in (forest pool.now) left.now right.now))
+    ensures stops { IfErr result (StopsAfter (equation_checks (map name_of names.now) (equations_in (forest pool.now) left.now right.now))
         (states B.state watch.old) (states B.state watch.new)) }
 {
     let mut rows = ArrayVec::new();
@@ -76,11 +76,9 @@ fn difference_row<B: Breaker>(
         ≡ Ok (entries_of row)) }
     ensures overflow { IfErr result (OfOverflow (λ o. difference_of
         (map name_of names.now) (equation_at (forest pool.now) left right) ≡ Err (misfit_of o))) }
-    ensures checks { OnOk result (CalmChecks
-        (nodes (plain (tree_at left (forest pool.now))) + nodes (plain (tree_at right (forest pool.now))))
+    ensures checks { OnOk result (CalmChecks (side_checks (map name_of names.now) (equation_at (forest pool.now) left right))
         (states B.state watch.old) (states B.state watch.new)) }
-    ensures stops { IfErr result (StopsWithin
-        (nodes (plain (tree_at left (forest pool.now))) + nodes (plain (tree_at right (forest pool.now))))
+    ensures stops { IfErr result (StopsAfter (side_checks (map name_of names.now) (equation_at (forest pool.now) left right))
         (states B.state watch.old) (states B.state watch.new)) }
 {
     let mut left_row = SideRow::none();

@@ -1,8 +1,9 @@
 //! Laws of linear equations, each the contract of a function without a body.
-ghost use Rattle.std.specs.Prelude.{◌≡◌, ◌↔◌, List, Ok, All};
+ghost use Rattle.std.specs.Prelude.{◌≡◌, ◌↔◌, ◌≤◌, ◌+◌, List, Ok, All, length};
 ghost use Rattle.calc_algebra.specs.Meanings.{Assignment, IsAssignment};
 ghost use Rattle.calc_terms.specs.Fractions.{Fraction};
-ghost use Rattle.linear_solve.specs.Equations.{AreDistinct, Assigns, Equation, IsLinearIn, SolvesAll};
+ghost use Rattle.linear_solve.specs.Checks.{solving_checks};
+ghost use Rattle.linear_solve.specs.Equations.{AreDistinct, Assigns, Equation, IsLinearIn, SolvesAll, nodes_of_sides};
 ghost use Rattle.linear_solve.specs.Forms.{ComeToOne, Form, HaveTheirValues, HoldLaterFreeNames, never, solved};
 ghost use Rattle.linear_solve.specs.Sides.{Names};
 ghost use Rattle.linear_solve.specs.Solving.{solving};
@@ -24,4 +25,9 @@ pub fn answers_tell_what_solves()
     ensures unsolvable { (xs : Names) (es : List Equation) (cs : List Fraction) → AreDistinct xs → All (IsLinearIn xs) es
         → solving xs es ≡ Ok (never cs)
         → (f : Assignment) (vs : List Fraction) → IsAssignment f → Assigns f xs vs → ¬ SolvesAll f es }
+{}
+
+/// A calculation makes at most one check for each node of the sides and for each name.
+pub fn checks_are_few()
+    ensures { (xs : Names) (es : List Equation) → solving_checks xs es ≤ nodes_of_sides es + length xs }
 {}

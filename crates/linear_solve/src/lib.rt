@@ -3,6 +3,7 @@
 
 mod elimination;
 mod equations;
+pub mod examples;
 mod fault;
 mod laws;
 mod linear;

@@ -5,8 +5,8 @@ ghost use Rattle.breakers.specs.Watch.{states};
 ghost use Rattle.calc_terms.specs.declared.kind.Kind.TheVariants.{Div};
 ghost use Rattle.calc_terms.specs.Fractions.{is_zero_fraction};
 ghost use Rattle.calc_terms.specs.Leaf.{name_of};
-ghost use Rattle.calc_terms.specs.Trees.{nodes};
-ghost use Rattle.linear_solve.specs.Faults.{OfOverflow, StopsWithin};
+ghost use Rattle.linear_solve.specs.Checks.{row_checks};
+ghost use Rattle.linear_solve.specs.Faults.{OfOverflow, StopsAfter};
 ghost use Rattle.linear_solve.specs.Fitting.{and_then};
 ghost use Rattle.linear_solve.specs.Linear.{is_linear};
 ghost use Rattle.linear_solve.specs.Sides.{bare_row, constant_of, joined_row, row_of, signed_row};
@@ -43,9 +43,9 @@ pub(crate) fn side_row<B: Breaker>(
     ensures ok { OnOk result (row_of (map name_of names.now) (plain (tree_at t (forest pool.now))) ≡ Ok (side_of row.new)) }
     ensures overflow { IfErr result (OfOverflow (λ o. row_of (map name_of names.now) (plain (tree_at t (forest pool.now)))
         ≡ Err (misfit_of o))) }
-    ensures checks { OnOk result (CalmChecks (nodes (plain (tree_at t (forest pool.now))))
+    ensures checks { OnOk result (CalmChecks (row_checks (map name_of names.now) (plain (tree_at t (forest pool.now))))
         (states B.state watch.old) (states B.state watch.new)) }
-    ensures stops { IfErr result (StopsWithin (nodes (plain (tree_at t (forest pool.now))))
+    ensures stops { IfErr result (StopsAfter (row_checks (map name_of names.now) (plain (tree_at t (forest pool.now))))
         (states B.state watch.old) (states B.state watch.new)) }
 {
     let kind = kind(pool, t);

@@ -5,8 +5,9 @@ ghost use Rattle.breakers.specs.Watch.{states};
 ghost use Rattle.calc_algebra.specs.Meanings.{Assignment, IsAssignment};
 ghost use Rattle.calc_terms.specs.Fractions.{Fraction};
 ghost use Rattle.calc_terms.specs.Leaf.{name_of};
+ghost use Rattle.linear_solve.specs.Checks.{solving_checks};
 ghost use Rattle.linear_solve.specs.Equations.{AreDistinct, Assigns, IsLinearIn, SolvesAll, equations_in, nodes_of_sides};
-ghost use Rattle.linear_solve.specs.Faults.{OfOverflow, StopsWithin};
+ghost use Rattle.linear_solve.specs.Faults.{OfOverflow, StopsAfter};
 ghost use Rattle.linear_solve.specs.Forms.{ComeToOne, HaveTheirValues, HoldLaterFreeNames};
 ghost use Rattle.linear_solve.specs.Solutions.{IfNever, IfSolved, answer_told};
 ghost use Rattle.linear_solve.specs.Solving.{solving};
@@ -65,10 +66,10 @@ pub fn solve<B: Breaker>(
     ensures overflow { IfErr result (OfOverflow (λ o. solving
         (map name_of names.now) (equations_in (forest pool.now) left.now right.now) ≡ Err (misfit_of o))) }
 
-    // The checks.
+    // The checks: one for each node and name, or those up to the one at which an operation does not fit. One that is due there comes first.
     ensures checks { OnOk result (CalmChecks (nodes_of_sides (equations_in (forest pool.now) left.now right.now) + length names.now)
         (states B.state watch.old) (states B.state watch.new)) }
-    ensures stops { IfErr result (StopsWithin (nodes_of_sides (equations_in (forest pool.now) left.now right.now) + length names.now)
+    ensures stops { IfErr result (StopsAfter (solving_checks (map name_of names.now) (equations_in (forest pool.now) left.now right.now))
         (states B.state watch.old) (states B.state watch.new)) }
     ensures by_the_one_whose_trips_rose { (place : ℕ) → (result ≡ Err (SolveFault.Interrupted (record { by = place })))
         ↔ TripsRose (states B.state watch.old) (states B.state watch.new) place }
@@ -98,7 +99,7 @@ fn calculate<B: Breaker>(
         (map name_of names.now) (equations_in (forest pool.now) left.now right.now) ≡ Err (misfit_of o))) }
     ensures checks { OnOk result (CalmChecks (nodes_of_sides (equations_in (forest pool.now) left.now right.now) + length names.now)
         (states B.state watch.old) (states B.state watch.new)) }
-    ensures stops { IfErr result (StopsWithin (nodes_of_sides (equations_in (forest pool.now) left.now right.now) + length names.now)
+    ensures stops { IfErr result (StopsAfter (solving_checks (map name_of names.now) (equations_in (forest pool.now) left.now right.now))
         (states B.state watch.old) (states B.state watch.new)) }
 {
     let rows = equation_rows(pool, left, right, names, watch)?;

@@ -106,6 +106,31 @@ fn told(alloc: Global, answer: Result<Solution, SolveFault>) -> Result<String, A
     Ok(text)
 }
 
+/// Rows of which an entry does not fit once the second name is taken.
+const WIDE: [&[i64]; 3] = [
+    &[
+        9223372036854775783,
+        9223372036854775643,
+        9223372036854775549,
+        1,
+    ],
+    &[
+        9223372036854775507,
+        9223372036854775433,
+        9223372036854775421,
+        2,
+    ],
+    &[
+        9223372036854775417,
+        9223372036854775399,
+        9223372036854775351,
+        3,
+    ],
+];
+
+const MISFIT: &str =
+    "overflow -9223372036854775643/9223372036854775783 682529530727253375650/304371277216207581519";
+
 #[test]
 fn systems_are_answered(rt: HostRuntime) -> Result<(), Fail> {
     let rows: [(&[&[i64]], usize, &str); 8] = [
@@ -129,30 +154,7 @@ fn systems_are_answered(rt: HostRuntime) -> Result<(), Fail> {
             3,
             "never -1/9 -1/9 1/9",
         ),
-        (
-            &[
-                &[
-                    9223372036854775783,
-                    9223372036854775643,
-                    9223372036854775549,
-                    1,
-                ],
-                &[
-                    9223372036854775507,
-                    9223372036854775433,
-                    9223372036854775421,
-                    2,
-                ],
-                &[
-                    9223372036854775417,
-                    9223372036854775399,
-                    9223372036854775351,
-                    3,
-                ],
-            ],
-            3,
-            "overflow -9223372036854775643/9223372036854775783 682529530727253375650/304371277216207581519",
-        ),
+        (&WIDE, 3, MISFIT),
     ];
     for (equations, names, expected) in rows {
         let mut watch = armed(rt.alloc(), 6)?;
@@ -162,15 +164,20 @@ fn systems_are_answered(rt: HostRuntime) -> Result<(), Fail> {
     Ok(())
 }
 
+/// A breaker that trips at the check before the second name comes before the overflow there.
 #[test]
 fn each_name_is_checked_once(rt: HostRuntime) -> Result<(), Fail> {
-    for (polls, expected) in [
-        (0, "interrupted 0"),
-        (1, "interrupted 0"),
-        (2, "bound 1/1 0/1 -2/1;free;"),
-    ] {
+    let rows: [(&[&[i64]], usize, u64, &str); 6] = [
+        (&[&[1, 2, -1]], 2, 0, "interrupted 0"),
+        (&[&[1, 2, -1]], 2, 1, "interrupted 0"),
+        (&[&[1, 2, -1]], 2, 2, "bound 1/1 0/1 -2/1;free;"),
+        (&WIDE, 3, 0, "interrupted 0"),
+        (&WIDE, 3, 1, "interrupted 0"),
+        (&WIDE, 3, 2, MISFIT),
+    ];
+    for (equations, names, polls, expected) in rows {
         let mut watch = armed(rt.alloc(), polls)?;
-        let text = told(rt.alloc(), answered(&[&[1, 2, -1]], 2, &mut watch))?;
+        let text = told(rt.alloc(), answered(equations, names, &mut watch))?;
         assert_eq!(rt; text.as_str(), expected, "{polls}");
     }
     Ok(())

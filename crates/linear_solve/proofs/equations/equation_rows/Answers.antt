@@ -1,7 +1,7 @@
-use Rattle.std.proofs.Common.{◌≡◌, ◌<◌, ◌+◌, length, map, take, get_or, sym, ap, subst, ◌∙◌, arith}
-use Rattle.std.specs.Prelude.{sum_by}
-use Rattle.linear_solve.proofs.Shared.{length-map, All-get_or, CalmChecks-append, CalmChecks, states, name_of, nodes, Equation, IsLinearIn, equation_at, equations_in, nodes_of_sides, entries_of, misfit_of, plain, tree_at, forest}
-use Rattle.linear_solve.proofs.EquationRows.{all_equations, broken_equation, equation_here, equations_long, next_equation, nodes_all, nodes_more, nodes_within}
+use Rattle.std.proofs.Common.{◌≡◌, ◌<◌, ◌+◌, length, map, get_or, sym, ap, subst, ◌∙◌, arith}
+use Rattle.linear_solve.proofs.Shared.{length-map, All-get_or, CalmChecks-append, CalmChecks, states, name_of, IsLinearIn, equation_at, equation_checks, equations_in, side_checks, entries_of, misfit_of, forest}
+use Rattle.linear_solve.proofs.EquationRows.{all_equations, broken_equation, equation_here, equations_long, next_equation}
+use Rattle.linear_solve.proofs.CheckCounts.{all_side_checks, first_checks, next_side_checks, side_checks_stop, side_checks_within}
 use Rattle.linear_solve.proofs.RowLists.{mapped_push}
 use Rattle.linear_solve.proofs.Theorem.{difference_long, no_equation}
 use Rattle.linear_solve.proofs.Walks.{handed_on, overflow_as, stops_after}
@@ -35,7 +35,8 @@ returns-in_err-row-clause-stops g c =
     let within : c.loop-at.at < length (equations_in (forest c.args.pool.now) c.args.left.now c.args.right.now) = omega (arith, long, c.loop-at-test.true) in
     let here : get_or (equations_in (forest c.args.pool.now) c.args.left.now c.args.right.now) c.loop-at.at no_equation ≡ (equation_at (forest c.args.pool.now) c.index-left-at.result c.index-right-at.result) = equation_here (forest c.args.pool.now) c.args.left.now c.args.right.now c.loop-at.at c.index-left-at.result c.index-right-at.result c.loop-at-test.true c.requires.pairs c.index-left-at.is c.index-right-at.is in
     handed_on c.from_residual.result c.in_err-row.field-0.0 _ c.from_residual.ensures.1
-    (stops_after (sum_by (λ (e : Equation). nodes e.left + nodes e.right) (take c.loop-at.at (equations_in (forest c.args.pool.now) c.args.left.now c.args.right.now))) ((nodes (plain (tree_at c.index-left-at.result (forest c.args.pool.now)))) + (nodes (plain (tree_at c.index-right-at.result (forest c.args.pool.now))))) (nodes_of_sides (equations_in (forest c.args.pool.now) c.args.left.now c.args.right.now)) (states g.B.Breaker.state c.args.watch.now) (states g.B.Breaker.state c.loop-at.watch) (states g.B.Breaker.state c.difference_row.new.watch) c.in_err-row.field-0.0 (nodes_within (equations_in (forest c.args.pool.now) c.args.left.now c.args.right.now) c.loop-at.at (equation_at (forest c.args.pool.now) c.index-left-at.result c.index-right-at.result) within here) c.loop-at.invariant.checks c.in_err-row.ensures.stops)
+    (stops_after (first_checks (map name_of c.args.names.now) (equations_in (forest c.args.pool.now) c.args.left.now c.args.right.now) c.loop-at.at) (side_checks (map name_of c.args.names.now) (equation_at (forest c.args.pool.now) c.index-left-at.result c.index-right-at.result)) (equation_checks (map name_of c.args.names.now) (equations_in (forest c.args.pool.now) c.args.left.now c.args.right.now)) (states g.B.Breaker.state c.args.watch.now) (states g.B.Breaker.state c.loop-at.watch) (states g.B.Breaker.state c.difference_row.new.watch) c.in_err-row.field-0.0 (side_checks_within (map name_of c.args.names.now) (equations_in (forest c.args.pool.now) c.args.left.now c.args.right.now) c.loop-at.at (equation_at (forest c.args.pool.now) c.index-left-at.result c.index-right-at.result) (map entries_of c.loop-at.rows.items) within here c.loop-at.invariant.made)
+    (overflow_as c.in_err-row.field-0.0 (λ o e. side_checks_stop (map name_of c.args.names.now) (equations_in (forest c.args.pool.now) c.args.left.now c.args.right.now) c.loop-at.at (equation_at (forest c.args.pool.now) c.index-left-at.result c.index-right-at.result) (map entries_of c.loop-at.rows.items) within here c.loop-at.invariant.made (misfit_of o) e) c.in_err-row.ensures.overflow) c.loop-at.invariant.checks c.in_err-row.ensures.stops)
 
 pub push_unit-requires : goal.push_unit-requires
 push_unit-requires g c =
@@ -54,8 +55,8 @@ loop-at-preserved g c =
       made = rw (mapped_push entries_of c.push.new.self.items c.loop-at.rows.items c.push_unit.new.row c.push.ensures.items)
           (next_equation (map name_of c.args.names.now) (equations_in (forest c.args.pool.now) c.args.left.now c.args.right.now) c.loop-at.at (length c.args.left.now) (equation_at (forest c.args.pool.now) c.index-left-at.result c.index-right-at.result) (map entries_of c.loop-at.rows.items) (entries_of c.in_ok-row.row) (entries_of c.push_unit.new.row) (sym long) within here c.in_ok-row.ensures.ok c.push_unit.ensures c.loop-at.invariant.made);
       long = c.push.ensures.len ∙ ap (λ n. n + 1) c.loop-at.invariant.long;
-      checks = subst (λ n. CalmChecks n (states g.B.Breaker.state c.args.watch.now) (states g.B.Breaker.state c.difference_row.new.watch)) (sym (nodes_more (equations_in (forest c.args.pool.now) c.args.left.now c.args.right.now) c.loop-at.at (equation_at (forest c.args.pool.now) c.index-left-at.result c.index-right-at.result) within here))
-          (CalmChecks-append (sum_by (λ (e : Equation). nodes e.left + nodes e.right) (take c.loop-at.at (equations_in (forest c.args.pool.now) c.args.left.now c.args.right.now))) ((nodes (plain (tree_at c.index-left-at.result (forest c.args.pool.now)))) + (nodes (plain (tree_at c.index-right-at.result (forest c.args.pool.now))))) (states g.B.Breaker.state c.args.watch.now) (states g.B.Breaker.state c.loop-at.watch) (states g.B.Breaker.state c.difference_row.new.watch) c.loop-at.invariant.checks c.in_ok-row.ensures.checks);
+      checks = subst (λ n. CalmChecks n (states g.B.Breaker.state c.args.watch.now) (states g.B.Breaker.state c.difference_row.new.watch)) (sym (next_side_checks (map name_of c.args.names.now) (equations_in (forest c.args.pool.now) c.args.left.now c.args.right.now) c.loop-at.at (equation_at (forest c.args.pool.now) c.index-left-at.result c.index-right-at.result) (map entries_of c.loop-at.rows.items) within here c.loop-at.invariant.made))
+          (CalmChecks-append (first_checks (map name_of c.args.names.now) (equations_in (forest c.args.pool.now) c.args.left.now c.args.right.now) c.loop-at.at) (side_checks (map name_of c.args.names.now) (equation_at (forest c.args.pool.now) c.index-left-at.result c.index-right-at.result)) (states g.B.Breaker.state c.args.watch.now) (states g.B.Breaker.state c.loop-at.watch) (states g.B.Breaker.state c.difference_row.new.watch) c.loop-at.invariant.checks c.in_ok-row.ensures.checks);
     }
 
 pub returns-clause-ok : goal.returns-clause-ok
@@ -66,4 +67,4 @@ returns-clause-ok g c =
 pub returns-clause-checks : goal.returns-clause-checks
 returns-clause-checks g c =
     let long : length (equations_in (forest c.args.pool.now) c.args.left.now c.args.right.now) ≡ length c.args.left.now = equations_long (forest c.args.pool.now) c.args.left.now c.args.right.now c.requires.pairs in
-    subst (λ n. CalmChecks n (states g.B.Breaker.state c.args.watch.now) (states g.B.Breaker.state c.loop-at.watch)) (nodes_all (equations_in (forest c.args.pool.now) c.args.left.now c.args.right.now) c.loop-at.at (omega (arith, long, c.loop-at-test.false))) c.loop-at.invariant.checks
+    subst (λ n. CalmChecks n (states g.B.Breaker.state c.args.watch.now) (states g.B.Breaker.state c.loop-at.watch)) (all_side_checks (map name_of c.args.names.now) (equations_in (forest c.args.pool.now) c.args.left.now c.args.right.now) c.loop-at.at (omega (arith, long, c.loop-at-test.false))) c.loop-at.invariant.checks

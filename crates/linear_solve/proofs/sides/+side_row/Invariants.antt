@@ -1,6 +1,6 @@
-use Rattle.std.proofs.Common.{map, take}
-use Rattle.linear_solve.proofs.Shared.{CalmChecks, states, name_of, nodes, side_told, plain, children_of, tree_at, forest}
-use Rattle.linear_solve.proofs.TreeLists.{listed, node_sum}
+use Rattle.std.proofs.Common.{map}
+use Rattle.linear_solve.proofs.Shared.{CalmChecks, states, name_of, nodes, side_told, plain, tree_at, forest}
+use Rattle.linear_solve.proofs.CheckCounts.{child_checks}
 use Rattle.linear_solve.proofs.Walks.{AreMade}
 use Rattle.linear_solve.proofs.sides.+side_row.Given as goal
 
@@ -10,5 +10,5 @@ decreases-side_row g l = nodes (plain (tree_at l.t (forest l.pool.now)))
 abbrev pub invariant-loop-at : goal.invariant-loop-at
 invariant-loop-at g l = record {
   rows : AreMade (map name_of l.names) l.kind (plain (tree_at l.t (forest l.pool))) l.at (side_told l.fits l.row);
-  checks : CalmChecks (node_sum (take l.at (listed (children_of (plain (tree_at l.t (forest l.pool))))))) (states g.B.Breaker.state l.fn.watch) (states g.B.Breaker.state l.watch);
+  checks : CalmChecks (child_checks (map name_of l.names) (plain (tree_at l.t (forest l.pool))) l.at) (states g.B.Breaker.state l.fn.watch) (states g.B.Breaker.state l.watch);
 }
