@@ -12,7 +12,7 @@ clash : true ≡ false → ⊥
 clash e = cc
 
 -- what a tree counts as a factor
-abbrev counted_in : Tree → ℕ
+abbrev pub counted_in : Tree → ℕ
 counted_in t = if is_number t then 0 else counted t
 
 -- ---- factors that are opened, parted, and change places
@@ -20,15 +20,15 @@ counted_in t = if is_number t then 0 else counted t
 factors_counted : (t : Tree) (ts : Trees) → counted_among (append (factors_of t) ts) ≤ counted_among (more t ts)
 factors_counted t ts = grind (arith, flat_product)
 
-opened_counted : (ts : Trees) → counted_among (opened ts) ≤ counted_among ts
+pub opened_counted : (ts : Trees) → counted_among (opened ts) ≤ counted_among ts
 opened_counted none = omega arith
 opened_counted (more t ts) = omega (arith, factors_counted t (opened ts), opened_counted ts)
 
-others_counted : (ts : Trees) → counted_among (others_in ts) ≡ counted_among ts
+pub others_counted : (ts : Trees) → counted_among (others_in ts) ≡ counted_among ts
 others_counted none = refl
 others_counted (more t ts) = grind (arith, others_counted ts)
 
-permuted_counted : {ts us : Trees} → Permuted ts us → counted_among us ≡ counted_among ts
+pub permuted_counted : {ts us : Trees} → Permuted ts us → counted_among us ≡ counted_among ts
 permuted_counted permuted_none = refl
 permuted_counted (permuted_more {t} k) = ap (λ (n : ℕ). counted_in t + n) (permuted_counted k)
 permuted_counted (permuted_swap {t} {u} {ts}) = grind arith
@@ -43,7 +43,7 @@ all_counted ts us p = omega (arith, permuted_counted p, others_counted (opened t
 number_factors : (c : Tree) → IsNumber c → counted_among (factors_of c) ≡ 0
 number_factors c h = grind (arith, number_test)
 
-before_counted : (c : Tree) (us : Trees) → is_number c ≡ true → counted_among (coefficient_before c us) ≤ counted_among us
+pub before_counted : (c : Tree) (us : Trees) → is_number c ≡ true → counted_among (coefficient_before c us) ≤ counted_among us
 before_counted c us h = by (is_num_one c)
   where
     by : (b : Bool) → counted_among (if b then us else append (factors_of c) us) ≤ counted_among us

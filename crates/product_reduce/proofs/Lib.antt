@@ -37,6 +37,7 @@ mod HeldProducts
 mod HeldMultiples
 mod FreeBytes
 mod GatheredCounts
+mod JoinedCounts
 mod Parted
 mod SortedBeside
 pub mod Shared

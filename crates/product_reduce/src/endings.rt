@@ -1,5 +1,5 @@
-//! The last part of a step: a product with a pair joined, or a reduced tree.
-ghost use Rattle.std.specs.Prelude.{ℕ, List, ◌≡◌, ◌==◌, ◌<◌, ◌+◌, true, false, IfOk, IfErr, IsSortedByKey, OnOk, [], ◌∷◌};
+//! The last part of a step: a reduced tree.
+ghost use Rattle.std.specs.Prelude.{ℕ, List, ◌≡◌, ◌==◌, ◌+◌, true, false, IfOk, IfErr, IsSortedByKey, OnOk, [], ◌∷◌};
 ghost use Rattle.calc_algebra.specs.Numbers.{is_number};
 ghost use Rattle.calc_room.specs.Counts.{counted};
 ghost use Rattle.calc_room.specs.Spans.{SpansTree, SpansTrees};
@@ -8,82 +8,22 @@ ghost use Rattle.coefficients.specs.Rooms.{LacksRoom};
 ghost use Rattle.node_pool.specs.State.{free_of};
 ghost use Rattle.number_forms.specs.Readers.{is_zero};
 ghost use Rattle.product_reduce.specs.Answers.{AreOthers, IsEnding};
-ghost use Rattle.product_reduce.specs.Factors.{coefficient_before};
 ghost use Rattle.product_reduce.specs.Misfits.{SpreadingOverflows};
 ghost use Rattle.tree_handles.specs.Faults.{OfOverflow, Faults};
-ghost use Rattle.product_reduce.specs.Joining.{IsFirstPair, have_partners, joined};
+ghost use Rattle.product_reduce.specs.Joining.{have_partners};
 ghost use Rattle.product_reduce.specs.Products.{IsProduct, factors_in};
 ghost use Rattle.tree_handles.specs.Causes.{IsCaused};
-ghost use Rattle.tree_handles.specs.Standing.{LacksBytes, Stands, forest, KeepsRefusals, Refuses};
-ghost use Rattle.calc_algebra.specs.Reduced.{are_reduced, base_of};
+ghost use Rattle.tree_handles.specs.Standing.{Stands, forest, KeepsRefusals};
+ghost use Rattle.calc_algebra.specs.Reduced.{base_of};
 ghost use Rattle.calc_algebra.specs.TreeOrder.{tree_cmp};
 ghost use Rattle.node_order.specs.Sorting.{list_of};
 ghost use Rattle.tree_handles.specs.Handed.{tree_of, IsHanded, Gives, KeepsFront};
 ghost use Rattle.tree_handles.specs.Roots.{without_root};
 
 use crate::factors::factor_count;
-use crate::fronting::put_in_front;
-use crate::joining::join_pair;
-use crate::sorting::sort_factors;
 use coefficients::{put_coefficient, unwrapped};
-use node_pool::{Full, Pool};
+use node_pool::Pool;
 use tree_handles::{Handle, NumberFault, move_last, release};
-
-/// The first pair joined with the coefficient in front.
-pub fn joined(
-    pool: &mut Pool,
-    product: Handle,
-    coefficient: Handle,
-    first: u16,
-    second: u16,
-) -> Result<Handle, Full>
-    requires stands { Stands pool.old }
-    requires product { IsProduct product (forest pool.old) (factors_in product (forest pool.old)) }
-    requires reduced { are_reduced (factors_in product (forest pool.old)) ≡ true }
-    requires pair { IsFirstPair first second (factors_in product (forest pool.old)) }
-    requires coefficient { IsHanded coefficient (forest pool.old) }
-    requires apart { (coefficient == product) ≡ false }
-    ensures ok { IfOk result (λ h. Gives (without_root product (without_root coefficient (forest pool.old))) (forest pool.new) h
-        (λ t. t ≡ mult (coefficient_before (tree_of coefficient pool.old) (joined (factors_in product (forest pool.old)))))) }
-    ensures front { KeepsFront (product ∷ coefficient ∷ []) (forest pool.old) (forest pool.new) }
-    ensures kept { OnOk result (KeepsRefusals pool.old pool.new) }
-    ensures full { IfErr result (Refuses pool.old pool.new) }
-    ensures caused { IfErr result (LacksBytes pool.new) }
-    ensures room { IfErr result (λ full. free_of pool.old < 96) }
-    ensures stands { Stands pool.new }
-{
-    join_pair(pool, &product, first, second)?;
-    put_in_front(pool, &product, coefficient);
-    move_last(pool, &product);
-    Ok(product)
-}
-
-/// Factors whose bases differ, sorted behind a coefficient.
-pub fn sorted(pool: &mut Pool, product: Handle, coefficient: Handle) -> Result<Handle, NumberFault>
-    requires stands { Stands pool.old }
-    requires product { IsProduct product (forest pool.old) (factors_in product (forest pool.old)) }
-    requires others { AreOthers (factors_in product (forest pool.old)) }
-    requires differ { have_partners (factors_in product (forest pool.old)) ≡ false }
-    requires coefficient { IsHanded coefficient (forest pool.old) }
-    requires number { is_number (tree_of coefficient pool.old) ≡ true }
-    requires not_zero { is_zero (tree_of coefficient pool.old) ≡ false }
-    requires apart { (coefficient == product) ≡ false }
-    ensures ok { IfOk result (λ h. Gives (without_root product (without_root coefficient (forest pool.old))) (forest pool.new) h
-        (IsEnding (tree_of coefficient pool.old) (factors_in product (forest pool.old)))) }
-    ensures alone { factors_in product (forest pool.old) ≡ none → IfErr result (λ f. ⊥) }
-    ensures overflow { IfErr result (OfOverflow (SpreadingOverflows (tree_of coefficient pool.old) (factors_in product (forest pool.old)))) }
-    ensures front { KeepsFront (product ∷ coefficient ∷ []) (forest pool.old) (forest pool.new) }
-    ensures kept { OnOk result (KeepsRefusals pool.old pool.new) }
-    ensures faults { IfErr result (Faults pool.old pool.new) }
-    ensures caused { IfErr result (IsCaused pool.new) }
-    ensures room { let ts = factors_in product (forest pool.old) in
-        (gs : List ℕ) → SpansTree gs (tree_of coefficient pool.old) → SpansTrees gs ts
-        → IfErr result (LacksRoom (counted (mult ts)) (free_of pool.old + size (tree_of coefficient pool.old) + size (mult ts)) gs) }
-    ensures stands { Stands pool.new }
-{
-    sort_factors(pool, &product, 0);
-    finished(pool, product, coefficient)
-}
 
 /// Factors in the order of their bases, which differ, behind a coefficient.
 pub fn finished(

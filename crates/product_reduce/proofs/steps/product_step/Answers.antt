@@ -1,6 +1,7 @@
 use Rattle.std.proofs.Common.{arith, ◌≡◌, ◌∙◌, Err, sym, refl, subst, true, false}
 use Rattle.product_reduce.proofs.Shared.{PlainValue, IsPlainAnswer, AnswersRationals, tree_of, forest, gives_as, given_told, IsFinished, factors_in}
 use Rattle.product_reduce.proofs.Finished.{undef_finished, rationals_defined}
+use Rattle.product_reduce.proofs.JoinedCounts.{product_counted}
 use Rattle.product_reduce.proofs.GatheredParts.{spans_factors, spans_joined}
 use Rattle.product_reduce.proofs.Parted.{AreOpened, AreParted, opens, parted, reduced_now, rationals_opened, numbers_overflow, numbers_fit, numbers_room, stop_given, rejoin_given, spreading_given, spreading_fits, parted_room, step_answered, step_refused, within}
 use Rattle.product_reduce.proofs.Stepped.{handed_product, mult_words, done_map, again_map}
@@ -93,6 +94,9 @@ returns-clause-front c = (parts (goal.at.returns-clause-front c).In_ok-coefficie
 
 pub returns-clause-counted : goal.returns-clause-counted
 returns-clause-counted c = done_map c.join_or_end.result (returns-clause-done c) (λ h x. (within (tree_of c.args.product c.args.pool.now) c.requires.product c.requires.reduced (given_told x)).counted)
+
+pub returns-clause-again_counted : goal.returns-clause-again_counted
+returns-clause-again_counted c = again_map c.join_or_end.result (returns-clause-again c) (λ h x. product_counted (tree_of c.args.product c.args.pool.now) _ c.requires.product (given_told x))
 
 pub returns-clause-powers : goal.returns-clause-powers
 returns-clause-powers c = done_map c.join_or_end.result (returns-clause-done c) (λ h x. (within (tree_of c.args.product c.args.pool.now) c.requires.product c.requires.reduced (given_told x)).powers)

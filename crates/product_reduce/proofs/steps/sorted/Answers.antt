@@ -3,8 +3,8 @@ use Rattle.product_reduce.proofs.Shared.{Permuted-sym, is_number, if_map, is_zer
 use Rattle.product_reduce.proofs.Neighbours.{apart_before}
 use Rattle.product_reduce.proofs.Sorted.{permuted_lists}
 use Rattle.product_reduce.proofs.SortedBeside.{AreSorted, sorts, none_sorted, ending_sorted, spreading_sorted, room_sorted}
-use Rattle.product_reduce.proofs.endings.sorted.Goals.{After-sort_factors}
-use Rattle.product_reduce.proofs.endings.sorted.Goals as goal
+use Rattle.product_reduce.proofs.steps.sorted.Goals.{After-sort_factors}
+use Rattle.product_reduce.proofs.steps.sorted.Goals as goal
 
 behind : (c : After-sort_factors) → AreSorted c.args.product c.args.coefficient c.args.pool.now c.sort_factors.new.pool
 behind c = sorts c.requires.stands c.sort_factors.ensures.stands c.sort_factors.ensures.kept c.requires.product c.requires.others c.requires.coefficient c.requires.apart c.sort_factors.ensures.sorts

@@ -3,8 +3,8 @@ use Rattle.product_reduce.proofs.Shared.{mult, plain, without_root, forest, behi
 use Rattle.product_reduce.proofs.Beside.{beside_becomes, tree_becomes}
 use Rattle.product_reduce.proofs.Products.{becomes_as, factors_are, product_at}
 use Rattle.product_reduce.proofs.Pairs.{joined_at}
-use Rattle.product_reduce.proofs.endings.joined.Goals.{In_ok-join_pair}
-use Rattle.product_reduce.proofs.endings.joined.Goals as goal
+use Rattle.product_reduce.proofs.steps.joined.Goals.{In_ok-join_pair}
+use Rattle.product_reduce.proofs.steps.joined.Goals as goal
 
 pub returns-in_err-join_pair-clause-front : goal.returns-in_err-join_pair-clause-front
 returns-in_err-join_pair-clause-front c = front_after_one behind_first front_same c.join_pair.ensures.front

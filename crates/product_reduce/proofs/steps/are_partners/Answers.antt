@@ -1,7 +1,7 @@
 use Rattle.std.proofs.Common.{◌∙◌, ap}
 use Rattle.product_reduce.proofs.Shared.{is_reduced, forest, factors_in}
 use Rattle.product_reduce.proofs.Finished.{reduced_nth}
-use Rattle.product_reduce.proofs.partners.are_partners.Goals as goal
+use Rattle.product_reduce.proofs.steps.are_partners.Goals as goal
 
 pub base-left-requires-clause-reduced : goal.base-left-requires-clause-reduced
 base-left-requires-clause-reduced c = ap is_reduced c.factor.ensures.tree ∙ reduced_nth c.args.first (factors_in c.args.product.now (forest c.args.pool.now)) c.requires.first c.requires.reduced

@@ -1,7 +1,7 @@
 use Rattle.std.proofs.Common.{arith}
 use Rattle.product_reduce.proofs.Shared.{forest, factors_in}
 use Rattle.product_reduce.proofs.Pairs.{no_pair_more, no_partners}
-use Rattle.product_reduce.proofs.partners.first_pair.Goals as goal
+use Rattle.product_reduce.proofs.steps.first_pair.Goals as goal
 
 pub loop-first-preserved : goal.loop-first-preserved
 loop-first-preserved c = no_pair_more c.loop-first.first (factors_in c.args.product.now (forest c.args.pool.now)) c.loop-first.invariant c.in_default.ensures
