@@ -5,8 +5,9 @@ ghost use Rattle.calc_commands.specs.Commands.{Asked, IsCommandLine, asked_of, i
 ghost use Rattle.calc_commands.specs.Parsing.{asked_for, asked_alone, asked_in, asked_to_derive as derivative_asked_in};
 
 use crate::numbers::read_number;
-use crate::parts::{argument, is_blank, name_and_text, text_behind, word_and_rest};
+use crate::parts::{argument, name_and_text, text_behind, word_and_rest};
 use calc_terms::Name;
+use calc_tokens::is_blank;
 
 /// What a command line asks for.
 #[derive(Clone, Copy, Debug)]

@@ -1,11 +1,12 @@
 //! The word of a command line, and its argument or text.
 ghost use Rattle.std.specs.Prelude.{◌≡◌, Some, None, MatchOption};
 ghost use Rattle.std.specs.List.{prefix_len};
-ghost use Rattle.calc_language.specs.Tokens.{is_blank as is_blank_of, leading_run};
+ghost use Rattle.calc_language.specs.Tokens.{leading_run};
 ghost use Rattle.calc_terms.specs.Leaf.{name_of};
 ghost use Rattle.calc_commands.specs.Parsing.{argument_of, behind_colon as behind_colon_of, is_in, are_blanks, name_and_text as name_and_text_of, text_behind as text_behind_of, word_and_rest as word_and_rest_of};
 
 use calc_terms::Name;
+use calc_tokens::is_blank;
 
 /// What stands side by side in a command line.
 #[derive(Clone, Copy, Debug)]
@@ -95,11 +96,4 @@ fn run_len(bytes: &[u8], class: Class) -> usize
     ensures { result ≡ prefix_len (is_in class) bytes.now }
 {
     bytes.iter().take_while(|byte| class.holds(**byte)).count()
-}
-
-/// A space or a tab.
-pub(crate) fn is_blank(byte: u8) -> bool
-    ensures { result ≡ is_blank_of byte }
-{
-    byte == b' ' || byte == b'\t'
 }

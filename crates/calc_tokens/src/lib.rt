@@ -9,5 +9,5 @@ mod tokens;
 mod words;
 
 pub use laws::{one_list_of_tokens, tokens_of_the_language};
-pub use scanning::scan;
+pub use scanning::{is_blank, scan};
 pub use tokens::{Token, TokenFault, Tokens, What};

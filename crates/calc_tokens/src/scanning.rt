@@ -53,7 +53,8 @@ fn push_tokens(tokens: &mut Tokens, line: &[u8]) -> Result<(), TokenFault>
     Ok(())
 }
 
-fn is_blank(byte: u8) -> bool
+/// A space or a tab.
+pub fn is_blank(byte: u8) -> bool
     ensures { result ≡ is_blank byte }
 {
     byte == b' ' || byte == b'\t'
