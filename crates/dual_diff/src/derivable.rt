@@ -5,7 +5,7 @@ ghost use Rattle.calc_terms.specs.declared.kind.Kind.TheVariants as kinds;
 ghost use Rattle.calc_terms.specs.Integers.{int_is_one, int_is_zero};
 ghost use Rattle.calc_terms.specs.Leaf.{name_of};
 ghost use Rattle.calc_terms.specs.Rat.{value_of};
-ghost use Rattle.calc_terms.specs.Trees.{depth, root_kind, neg as neg_of};
+ghost use Rattle.calc_terms.specs.Trees.{root_kind, neg as neg_of};
 ghost use Rattle.dual_diff.specs.Derivatives.{HasDerivative, IsDerivable, IsDerivableExponent, exponent_limit};
 ghost use Rattle.tree_handles.specs.Expressions.{IsExpression, plain};
 ghost use Rattle.tree_handles.specs.Inside.{tree_at};
@@ -27,7 +27,6 @@ const EXPONENT_LIMIT: u128 = 1_000_000;
 pub fn has_derivative(pool: &Pool, tree: Id, name: Name) -> bool
     requires stands { Stands pool.now }
     requires expression { IsExpression tree (forest pool.now) }
-    requires shallow { depth (plain (tree_at tree (forest pool.now))) ≤ 64 }
     ensures { IsTrue result ↔ HasDerivative (name_of name) (plain (tree_at tree (forest pool.now))) }
 {
     all_derivable(pool, tree, name)

@@ -2,7 +2,7 @@
 ghost use Rattle.std.specs.Prelude.{◌≡◌, ◌≤◌, ◌<◌, ◌↔◌, nat_abs, true, [], IfOk, IfErr, IsOk, OnOk, OnErr};
 ghost use Rattle.calc_terms.specs.declared.kind.Kind.TheVariants as kinds;
 ghost use Rattle.calc_terms.specs.Leaf.{name_of};
-ghost use Rattle.calc_terms.specs.Trees.{count, depth, root_kind, size};
+ghost use Rattle.calc_terms.specs.Trees.{count, root_kind, size};
 ghost use Rattle.dual_diff.specs.Derivatives.{HasDerivative, derivative, exponent_limit, is_linear, lowered, numerator, with_derivative};
 ghost use Rattle.dual_diff.specs.Occurring.{occurs};
 ghost use Rattle.dual_diff.specs.Placing.{Adds, capped};
@@ -27,7 +27,6 @@ use tree_handles::{Handle, children, kind};
 pub fn derive(pool: &mut Pool, tree: Id, name: Name) -> Result<Handle, Full>
     requires stands { Stands pool.old }
     requires expression { IsExpression tree (forest pool.old) }
-    requires shallow { depth (plain (tree_at tree (forest pool.old))) ≤ 64 }
     requires derivable { HasDerivative (name_of name) (plain (tree_at tree (forest pool.old))) }
     ensures ok { let old = forest pool.old in
         IfOk result (λ h. Gives old (forest pool.new) h (λ t. t ≡ derivative (name_of name) (plain (tree_at tree old)))) }

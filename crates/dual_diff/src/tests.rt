@@ -15,7 +15,7 @@ use tree_handles::{
     Handle, child_ids, kind, name, node, node_over, node_over_two, number, open_pool, rational,
     symbol,
 };
-use tree_walks::is_deeper;
+use tree_walks::DEPTH_LIMIT;
 
 /// A node with two children.
 #[derive(Clone, Copy, Debug)]
@@ -182,19 +182,32 @@ fn root_of(_pool: &Pool, tree: &Handle) -> Id
     tree.id()
 }
 
-/// The letters of the derivative, or none where there is none.
+/// The letters of the derivative with respect to x, or none where there is none.
 fn derivative_letters(rt: &impl Abort, alloc: Global, shape: &Shape) -> Result<Vec<u8>, Fail> {
     let x = Name::read(b"x").expect(rt, "x is a name");
     let mut pool = open_pool(alloc, 4096)?;
-    let mut letters = Vec::new(alloc);
     let tree = grow(&mut pool, shape)?;
     let id = root_of(&pool, &tree);
-    if is_deeper(&pool, id) || !has_derivative(&pool, id, x) {
+    letters_of_derivative(alloc, &mut pool, id, x)
+}
+
+/// The letters of the derivative of a tree, or none where there is none.
+fn letters_of_derivative(
+    alloc: Global,
+    pool: &mut Pool,
+    id: Id,
+    name: Name,
+) -> Result<Vec<u8>, Fail>
+    requires stands { Stands pool.old }
+    requires expression { IsExpression id (forest pool.old) }
+{
+    let mut letters = Vec::new(alloc);
+    if !has_derivative(pool, id, name) {
         return Ok(letters);
     }
-    let derived = derive(&mut pool, id, x)?;
-    let root = root_of(&pool, &derived);
-    add_letters(&pool, root, &mut letters)?;
+    let derived = derive(pool, id, name)?;
+    let root = root_of(pool, &derived);
+    add_letters(pool, root, &mut letters)?;
     Ok(letters)
 }
 
@@ -253,6 +266,34 @@ fn derivatives_of_a_table(rt: HostRuntime) -> Result<(), Fail> {
     Ok(())
 }
 
+/// So many opposites around x.
+fn opposites(pool: &mut Pool, levels: usize) -> Result<Handle, Full>
+    requires { Stands pool.old }
+    ensures ok { IfOk result (λ h. Gives (forest pool.old) (forest pool.new) h (λ t. ⊤)) }
+    ensures stands { Stands pool.new }
+{
+    if levels == 0 {
+        return named(pool, b"x");
+    }
+    let child = opposites(pool, levels - 1)?;
+    let tree = node_over(pool, Kind::Neg, child)?;
+    Ok(tree)
+}
+
+/// A tree may be deeper than that of a line.
+#[test]
+fn deep_trees_have_a_derivative(rt: HostRuntime) -> Result<(), Fail> {
+    let x = Name::read(b"x").expect(&rt, "x is a name");
+    let mut pool = open_pool(rt.alloc(), 4096)?;
+    let tree = opposites(&mut pool, DEPTH_LIMIT)?;
+    let id = root_of(&pool, &tree);
+    let letters = letters_of_derivative(rt.alloc(), &mut pool, id, x)?;
+    let (last, signs) = letters.split_last().expect(&rt, "the root has a letter");
+    assert_eq!(rt; signs, [b'~'; DEPTH_LIMIT].as_slice());
+    assert_eq!(rt; *last, b'1');
+    Ok(())
+}
+
 /// How many bytes a refused derivative needs, and how many are free; none where it finds room.
 fn refusal(rt: &impl Abort, alloc: Global, shape: &Shape, size: u32) -> Result<Option<Full>, Fail>
     requires { IsPoolSize size }
@@ -261,7 +302,7 @@ fn refusal(rt: &impl Abort, alloc: Global, shape: &Shape, size: u32) -> Result<O
     let mut pool = open_pool(alloc, size)?;
     let tree = grow(&mut pool, shape)?;
     let id = root_of(&pool, &tree);
-    if is_deeper(&pool, id) || !has_derivative(&pool, id, x) {
+    if !has_derivative(&pool, id, x) {
         return Ok(None);
     }
     let used = pool.used();

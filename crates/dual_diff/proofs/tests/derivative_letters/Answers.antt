@@ -3,6 +3,3 @@ use Rattle.dual_diff.proofs.tests.derivative_letters.Goals as goal
 
 pub root_of-id-requires-clause-handed : goal.root_of-id-requires-clause-handed
 root_of-id-requires-clause-handed g c = given_handed c.in_ok-tree.ensures.ok
-
-pub root_of-root-requires-clause-handed : goal.root_of-root-requires-clause-handed
-root_of-root-requires-clause-handed g c = given_handed c.in_ok-derived.ensures.ok
