@@ -2,7 +2,8 @@
 use Rattle.std.proofs.Common.{◌≡◌, ◌∙◌, ℕ, suc, ◌+◌, ◌<◌, ◌≤◌, List, length, Option, Some, None, Err, refl, sym, ap, subst, arith}
 use Rattle.calc_session.proofs.Shared.{AllZip, IsCommandLine, diff, solve, expand, once, Tree, Equation, nodes_of_sides, Misfit, solving, values, bytes_before, IsReplyToCalculation, derives, solves, expands, Sides, Splits, all_placed, form_room, Reply, command, long, not_linear, report, too_many, AreNamesOf, solution_text, AsksToSolve, TellsSolutionsOf, IsReplyToEquations, are_not_written, are_too_many, are_not_read, are_read, IsReplyToRead, are_not_made, are_made, IsReplyToSolve, have_too_many_names, are_not_linear, are_linear, IsSolution, is_interrupted, does_not_fit, is_told, IsNoEquation, ReadsEquation, first_not_linear, State, free_bytes, trees, IsReply}
 use Rattle.breakers.specs.State.{State as Breaker}
-use Rattle.linear_solve.specs.Checks.{TripsWithin}
+use Rattle.breakers.specs.Breakers.{TripsWithin}
+use Rattle.linear_solve.proofs.CheckCounts.{trips_among_all}
 use Rattle.calc_session.specs.Solving.{lacks_bytes}
 use Rattle.calc_session.proofs.AskedLines.{calculation}
 use Rattle.calc_session.proofs.OneReading.{all_read, become_at_all, become_once, names_once, over_six, read_once, split_once, unbuilt_unreported, unread_unreported}
@@ -10,7 +11,7 @@ use Rattle.calc_session.proofs.SolutionMeanings.{told_says}
 
 solves_told : (free : ℕ) (xs : List (List ℕ)) (es : List Equation) (before after : List Breaker) (reply : Reply) → IsSolution free xs es before after reply → ((m : Misfit) → solving xs es ≡ Err m → ⊥) → form_room ≤ free
     → ((by : ℕ) → ¬ (TripsWithin (nodes_of_sides es + length xs) before after by)) → (told : List ℕ) × (reply ≡ report told)
-solves_told free xs es before after reply (is_interrupted {by} t) fits room calm = absurd (calm by t)
+solves_told free xs es before after reply (is_interrupted {by} t) fits room calm = absurd (calm by (trips_among_all xs es t))
 solves_told free xs es before after reply (does_not_fit {m} e c) fits room calm = absurd (fits m e)
 solves_told free xs es before after reply (lacks_bytes e c l short) fits room calm = absurd (omega (arith, short, room))
 solves_told free xs es before after reply (is_told {answer} e c) fits room calm = (solution_text xs answer, refl)

@@ -88,7 +88,7 @@ pub use Rattle.expand_forms.specs.PolynomialTrees.{is_polynomial, polynomial_of}
 pub use Rattle.line_text.specs.Content.{Content, extended, spare_of}
 pub use Rattle.linear_solve.proofs.Theorem.{forms_are_later, forms_are_many, multipliers_are_many, never_solved, one_from, solved_where}
 pub use Rattle.linear_solve.specs.Equations.{AreDistinct, Assigns, Equation, IsLinearIn, SolvesAll, equation_at, equations_in, nodes_of_sides}
-pub use Rattle.linear_solve.specs.Faults.{OfOverflow, StopsWithin}
+pub use Rattle.linear_solve.specs.Faults.{OfOverflow, StopsAfter}
 pub use Rattle.linear_solve.specs.Fitting.{Misfit, and_then}
 pub use Rattle.linear_solve.specs.Forms.{Answer, Form, HasItsValue, HaveTheirValues, HoldLaterFreeNames, answer_of, answer_with, bound, form_of, forms_of, free, multiple_in, multipliers, never, solved}
 pub use Rattle.linear_solve.specs.Rows.{Row, entry, worth}

@@ -1,7 +1,8 @@
 -- Lemmas on equations that are solved.
 use Rattle.std.proofs.Common.{◌≡◌, ◌∙◌, ◌↔◌, ℕ, zero, suc, ◌+◌, ◌<◌, ◌≤◌, List, [], ◌∷◌, length, get_or, map, take, Bool, true, false, not, cond, Option, Some, None, Result, Err, below_more, refl, sym, ap, subst, arith}
 use Rattle.std.specs.Prelude.{All, nat_lt, IfOk, IfErr, OnOk}
-use Rattle.calc_session.proofs.Shared.{position_or_len, le-ltb, lt-ltb, position_or_len_is, TripsRose, Name, name_of, Equation, equation_at, equations_in, nodes_of_sides, OfOverflow, StopsWithin, solving, misfit_of, IsExpression, Forest, Refusal, Listed, reply_of, names_listed, AreNamesOf, refusal_to_solve, IsReplyToSolve, are_linear, does_not_fit, first_not_linear, is_interrupted, is_linear_equation}
+use Rattle.linear_solve.specs.Checks.{solving_checks}
+use Rattle.calc_session.proofs.Shared.{position_or_len, le-ltb, lt-ltb, position_or_len_is, TripsRose, Name, name_of, Equation, equation_at, equations_in, OfOverflow, StopsAfter, solving, misfit_of, IsExpression, Forest, Refusal, Listed, reply_of, names_listed, AreNamesOf, refusal_to_solve, IsReplyToSolve, are_linear, does_not_fit, first_not_linear, is_interrupted, is_linear_equation}
 use Rattle.std.proofs.lemmas.List.Quantifiers.{position-Some}
 use Rattle.breakers.specs.State.{State as Breaker}
 use Rattle.linear_solve.specs.declared.fault.SolveFault.{SolveFault}
@@ -61,7 +62,7 @@ found_within f ls rs n e is = let (l, p, b) = position-Some (λ (x : Equation). 
 -- ---- why they are not solved
 
 pub unsolved_reply : (free : ℕ) (xs : List (List ℕ)) (es : List Equation) (before after : List Breaker) (f : SolveFault) (r : Refusal) → AreNamesOf es xs → length xs ≤ 6 → first_not_linear es ≡ None
-    → r ≡ refusal_to_solve f → OfOverflow (λ o. solving xs es ≡ Err (misfit_of o)) f → StopsWithin (nodes_of_sides es + length xs) before after f → IsReplyToSolve free es before after (reply_of r)
+    → r ≡ refusal_to_solve f → OfOverflow (λ o. solving xs es ≡ Err (misfit_of o)) f → StopsAfter (solving_checks xs es) before after f → IsReplyToSolve free es before after (reply_of r)
 unsolved_reply free xs es before after (fault.Overflow o) r names few linear e m s = subst (λ (x : Refusal). IsReplyToSolve free es before after (reply_of x)) (sym e) (are_linear names few linear (does_not_fit m s))
 unsolved_reply free xs es before after (fault.Interrupted i) r names few linear e m s = subst (λ (x : Refusal). IsReplyToSolve free es before after (reply_of x)) (sym e) (are_linear names few linear (is_interrupted s))
 

@@ -1,11 +1,11 @@
 -- The replies to equations that are to be solved.
 use Rattle.std.specs.Prelude.{ℕ, suc, ◌≡◌, ◌≤◌, ◌<◌, ◌+◌, List, [], ◌∷◌, length, position, Bool, not, ◌&&◌, Option, Some, None, Ok, Err}
 use Rattle.std.specs.List.{AllZip}
-use Rattle.breakers.specs.Breakers.{CalmChecks}
+use Rattle.breakers.specs.Breakers.{CalmChecks, TripsWithin}
 use Rattle.breakers.specs.State.{State as Breaker}
 use Rattle.calc_terms.specs.Trees.{Tree}
 use Rattle.calc_tokens.specs.Placed.{Placed}
-use Rattle.linear_solve.specs.Checks.{CalmUpTo, TripsWithin}
+use Rattle.linear_solve.specs.Checks.{solving_checks}
 use Rattle.linear_solve.specs.Equations.{Equation, nodes_of_sides}
 use Rattle.linear_solve.specs.Fitting.{Misfit}
 use Rattle.linear_solve.specs.Forms.{Answer, Form, solved}
@@ -67,8 +67,8 @@ first_not_linear es = position (λ e. not (is_linear_equation e)) es
 
 -- The replies to linear equations in these names, where so many bytes are free without their sides.
 pub data IsSolution (free : ℕ) (xs : List (List ℕ)) (es : List Equation) (before after : List Breaker) : Reply → Type 0 where
-  is_interrupted : {by : ℕ} → TripsWithin (nodes_of_sides es + length xs) before after by → IsSolution free xs es before after (interrupted by)
-  does_not_fit : {m : Misfit} → solving xs es ≡ Err m → CalmUpTo (nodes_of_sides es + length xs) before after → IsSolution free xs es before after (overflow m.op m.a m.b)
+  is_interrupted : {by : ℕ} → TripsWithin (solving_checks xs es) before after by → IsSolution free xs es before after (interrupted by)
+  does_not_fit : {m : Misfit} → solving xs es ≡ Err m → CalmChecks (solving_checks xs es) before after → IsSolution free xs es before after (overflow m.op m.a m.b)
   lacks_bytes : {forms : List Form} {refusal : Full} → solving xs es ≡ Ok (solved forms) → CalmChecks (nodes_of_sides es + length xs) before after → refusal.free < refusal.needed → free < form_room
       → IsSolution free xs es before after (full refusal)
   is_told : {answer : Answer} → solving xs es ≡ Ok answer → CalmChecks (nodes_of_sides es + length xs) before after → IsSolution free xs es before after (report (solution_text xs answer))

@@ -1,5 +1,6 @@
 //! Laws of answers, each the contract of a function without a body.
 ghost use Rattle.std.specs.Prelude.{◌≡◌, ◌≢◌, ◌≤◌, ◌+◌, ◌↔◌, ℕ, List, Err, None, Some, Option, Contains, length, true, false};
+ghost use Rattle.breakers.specs.Breakers.{TripsWithin as TripsIn};
 ghost use Rattle.breakers.specs.State.{State as Breaker};
 ghost use Rattle.calc_algebra.specs.BadAndEasy.{IsEasy};
 ghost use Rattle.calc_algebra.specs.Rewritings.{Reduces};
@@ -11,7 +12,6 @@ ghost use Rattle.calc_tokens.specs.Placed.{Placed};
 ghost use Rattle.dual_diff.specs.Derivatives.{HasDerivative, derivative};
 ghost use Rattle.expand_forms.specs.ExpansionRoom.{expansion_room};
 ghost use Rattle.expand_forms.specs.PolynomialTrees.{is_polynomial};
-ghost use Rattle.linear_solve.specs.Checks.{TripsWithin as TripsIn};
 ghost use Rattle.linear_solve.specs.Equations.{Equation, nodes_of_sides};
 ghost use Rattle.linear_solve.specs.Fitting.{Misfit};
 ghost use Rattle.linear_solve.specs.Solving.{solving};

@@ -1,6 +1,7 @@
-use Rattle.std.proofs.Common.{◌≡◌, ◌∙◌, ℕ, suc, ◌+◌, ◌≤◌, List, length, map, take, refl, sym, ap, subst, arith}
+use Rattle.std.proofs.Common.{◌≡◌, ℕ, suc, ◌+◌, ◌≤◌, List, length, map, take, refl, sym, ap, subst, arith}
 use Rattle.std.specs.Prelude.{All, Err}
-use Rattle.calc_session.proofs.Shared.{length-map, states, name_of, AreDistinct, IsLinearIn, equations_in, nodes_of_sides, OfOverflow, StopsWithin, solving, misfit_of, forest, names_listed, not_linear, IsReplyToSolve, are_not_linear, have_too_many_names}
+use Rattle.linear_solve.specs.Checks.{solving_checks}
+use Rattle.calc_session.proofs.Shared.{length-map, states, name_of, AreDistinct, IsLinearIn, equations_in, OfOverflow, StopsAfter, solving, misfit_of, forest, names_listed, not_linear, IsReplyToSolve, are_not_linear, have_too_many_names}
 use Rattle.calc_session.proofs.RisingLemmas.{rises_distinct}
 use Rattle.calc_session.proofs.SolutionMeanings.{linear_in}
 use Rattle.calc_session.proofs.SolvingLemmas.{calm_refusal, found_within, names_same, none_there, unsolved_reply}
@@ -47,4 +48,4 @@ returns-in-Err-clause-refused g c = λ room.
     let few : length (names_listed c.in-Some.names.items) ≤ 6 = omega (arith, length-map c.in-Some.names.items (λ l. name_of l.name), c.as_slice.ensures.fits, ap length c.as_slice.ensures.value) in
     unsolved_reply room (names_listed c.in-Some.names.items) (equations_in (forest c.args.pool.now) c.args.left.now c.args.right.now) (states g.B.Breaker.state c.args.watch.now) (states g.B.Breaker.state c.solve.new.watch) c.in-Err.fault c.unsolved.result c.in-Some.ensures.some few (none_there c.first_not_linear.result (equations_in (forest c.args.pool.now) c.args.left.now c.args.right.now) c.in_default-first_not_linear.not-Some c.first_not_linear.ensures) c.unsolved.ensures
     (subst (λ (ys : List (List ℕ)). OfOverflow (λ o. solving ys (equations_in (forest c.args.pool.now) c.args.left.now c.args.right.now) ≡ Err (misfit_of o)) c.in-Err.fault) same c.in-Err.ensures.overflow)
-    (subst (λ (m : ℕ). StopsWithin (nodes_of_sides (equations_in (forest c.args.pool.now) c.args.left.now c.args.right.now) + m) (states g.B.Breaker.state c.args.watch.now) (states g.B.Breaker.state c.solve.new.watch) c.in-Err.fault) (sym (length-map (take c.len.result c.in_array-array.result) name_of) ∙ ap length same) c.in-Err.ensures.stops)
+    (subst (λ (ys : List (List ℕ)). StopsAfter (solving_checks ys (equations_in (forest c.args.pool.now) c.args.left.now c.args.right.now)) (states g.B.Breaker.state c.args.watch.now) (states g.B.Breaker.state c.solve.new.watch) c.in-Err.fault) same c.in-Err.ensures.stops)
