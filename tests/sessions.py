@@ -3,12 +3,14 @@
 
     tests/sessions.py [PROGRAM]
 
-`tests/sessions.txt` has sessions, parted by a blank line: a line, and its answer behind two blanks. The answers come
-from a model apart from this code.
+`tests/sessions.txt` has sessions, parted by a blank line: a line, and its answer behind two blanks; `tests/deep-lines.txt`
+has lines that are deep and wide at once, in the same form. The answers come from a model apart from this code.
 """
 import sys
 
-from asked import answer_and_change, answers, are_answered, checks_of, every, is_interrupted_at_each_of, run
+from asked import (
+    GREATEST_POOL, answer_and_change, answers, are_answered, checks_of, every, is_interrupted_at_each_of, run, sessions,
+)
 
 STORES = ["x+1→y", "5→x", "y", "√(8)→r", "r×z", "ans/r→y", "(x+√(2))^2→x", "z→x", "x+y+r"]
 LINES = [
@@ -66,6 +68,21 @@ def check_depths():
     return first == "√(" * 40 + "x" + ")" * 40 and second == "√(" * 60 + "x" + ")" * 60 and third == "! deep"
 
 
+def check_deep_lines():
+    """A line that is deep and wide at once is answered in the greatest pool, and answered or Full in the default one."""
+
+    def is_answer(given, wanted):
+        overflow = "! overflow "  # which operation it names is open
+        return given == wanted or (given.startswith(overflow) and wanted.startswith(overflow))
+
+    def is_answered(lines, wanted):
+        given, stays = answer_and_change([], lines[0])
+        is_full = given.startswith("! full needed ") and stays
+        return is_answer(answers(lines, GREATEST_POOL)[0], wanted[0]) and (is_full or is_answer(given, wanted[0]))
+
+    return every(is_answered, sessions("deep-lines.txt"))
+
+
 def check_whole_trees():
     """The reduced tree stands in the pool: where it finds no room, a face that would fit is not shown."""
     return answers(["-a-b"], "--pool=88")[0].startswith("! full needed ") and answers(["-a-b"]) == ["-a-b"]
@@ -80,7 +97,7 @@ def check_generated():
 
 
 CHECKS = [check_answers, check_pools, check_interruptions, check_many_names, check_many_uses, check_depths,
-          check_whole_trees, check_generated]
+          check_deep_lines, check_whole_trees, check_generated]
 
 if __name__ == "__main__":
     sys.exit(run(CHECKS))
