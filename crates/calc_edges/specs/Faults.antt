@@ -1,24 +1,45 @@
 -- Counts of failures. A count never falls, and it stops at 2 ^ 64 - 1.
-use Rattle.std.specs.Prelude.{◌≡◌, ◌⊎◌, ℕ, ◌+◌, ◌-◌, ◌^◌, ◌<◌, ◌≤◌, List, Option, min, Result, OnOk, OnErr}
+use Rattle.std.specs.Prelude.{◌≡◌, ◌⊎◌, ℕ, ◌+◌, ◌-◌, ◌^◌, ◌<◌, ◌≤◌, List, Option, nat_lt, true, false, is_ok, if◌then◌else◌, Result, OnOk, OnErr}
 use Rattle.std.specs.Io.KnownBytes.{Keeps}
+use Rattle.calc_edges.specs.declared.failures.Failures.{Failures}
 
 -- one more, up to 2 ^ 64 - 1
 abbrev pub next_count : ℕ → ℕ
-next_count n = min (n + 1) (2 ^ 64 - 1)
+next_count n = if nat_lt n (2 ^ 64 - 1) then n + 1 else n
+
+-- before the first call
+abbrev pub no_failures : Failures
+no_failures = record { count = 0; at_last = false }
+
+-- a call that does not fail leaves the count
+abbrev pub passed : Failures → Failures
+passed before = record { count = before.count; at_last = false }
+
+-- one that fails is counted
+abbrev pub failed : Failures → Failures
+failed before = record { count = next_count before.count; at_last = true }
+
+-- behind a call with this result
+abbrev pub counted : {T E : Type 0} → Result T E → Failures → Failures
+counted result before = if is_ok result then passed before else failed before
+
+-- no call failed
+abbrev pub IsCalm : Failures → Failures → Type 0
+IsCalm before now = now.count ≡ before.count
 
 -- the count rose, or it stands at 2 ^ 64 - 1, above which no count goes
-abbrev pub Rose : ℕ → ℕ → Type 0
-Rose before now = (before < now) ⊎ (2 ^ 64 - 1 ≤ now)
+abbrev pub Rose : Failures → Failures → Type 0
+Rose before now = (before.count < now.count) ⊎ (2 ^ 64 - 1 ≤ now.count)
 
--- the count is as before where there is no error, and an error comes only where it rose. It never falls
-pub record HasCause {T E : Type 0} (before now : ℕ) (result : Result T E) : Type 0 where
-  pub later : before ≤ now
-  pub calm : OnOk result (now ≡ before)
+-- no call failed where there is no error, and an error comes only where the count rose. It never falls
+pub record HasCause {T E : Type 0} (before now : Failures) (result : Result T E) : Type 0 where
+  pub later : before.count ≤ now.count
+  pub calm : OnOk result (IsCalm before now)
   pub failed : OnErr result (Rose before now)
 
--- the first failure was the last thing that came of it: in some state before that nothing had failed, and the bytes were those of now
-pub record StopsAtFailure {X : Type 0} (bytes : X → Option (List ℕ)) (faults : X → ℕ) (old new : X) : Type 0 where
+-- The first failure was the last thing that came of it: one call more has failed, and it was the last call of all. In the state before that call nothing had failed, and the bytes were those of now.
+pub record StopsAtFailure {X : Type 0} (bytes : X → Option (List ℕ)) (faults : X → Failures) (old new : X) : Type 0 where
   pub last : X
-  pub calm : faults last ≡ faults old
+  pub calm : IsCalm (faults old) (faults last)
   pub kept : Keeps (bytes last) (bytes new)
-  pub failed : Rose (faults last) (faults new)
+  pub once : faults new ≡ failed (faults last)

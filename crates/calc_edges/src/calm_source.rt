@@ -1,4 +1,5 @@
 ghost use Rattle.std.specs.Prelude.{◌≡◌, ℕ, ◌≤◌, List, ◌++◌, length, take, drop, min, Some, IfOk};
+ghost use Rattle.calc_edges.specs.Faults.{no_failures};
 
 use crate::{Failed, Source};
 use std::marker::Model;
@@ -29,7 +30,7 @@ impl CalmSource {
 impl Source for CalmSource {
     ghost told = { λ s. Some s };
 
-    ghost faults = { λ _. 0 };
+    ghost faults = { λ _. no_failures };
 
     fn read(&mut self, into: &mut [u8]) -> Result<usize, Failed>
         ensures count { result ≡ Ok (min (length into.old) (length self.old)) }

@@ -2,6 +2,7 @@
 #![tactic(auto)]
 
 mod calm_source;
+mod failures;
 mod mem_sink;
 mod mem_source;
 mod sink;
@@ -9,6 +10,7 @@ mod source;
 mod std_edges;
 
 pub use calm_source::CalmSource;
+pub use failures::Failures;
 pub use mem_sink::MemSink;
 pub use mem_source::MemSource;
 pub use sink::{Sink, write_all};

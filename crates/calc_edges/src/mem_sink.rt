@@ -1,7 +1,7 @@
 ghost use Rattle.std.specs.Prelude.{◌≡◌, ◌-◌, ◌<◌, ◌≤◌, ◌⊎◌, ◌↔◌, [], ◌++◌, length, take, min, Some, IfOk, OnErr, IsErr, Contains};
-ghost use Rattle.calc_edges.specs.Faults.{HasCause, next_count};
+ghost use Rattle.calc_edges.specs.Faults.{counted, failed, next_count, no_failures, passed};
 
-use crate::{Failed, Sink};
+use crate::{Failed, Failures, Sink};
 use std::alloc::{AllocError, Global};
 use std::marker::Model;
 
@@ -13,7 +13,7 @@ pub struct MemSink {
     piece: usize,
     failing: Vec<u64>,
     calls: u64,
-    faults: u64,
+    faults: Failures,
 }
 
 impl Model for MemSink {
@@ -51,7 +51,7 @@ impl MemSink {
           piece = piece;
           failing = failing.items;
           calls = 0;
-          faults = 0;
+          faults = no_failures;
         }) }
     {
         Ok(MemSink {
@@ -60,7 +60,7 @@ impl MemSink {
             piece,
             failing,
             calls: 0,
-            faults: 0,
+            faults: Failures::new(),
         })
     }
 
@@ -88,24 +88,23 @@ impl Sink for MemSink {
           taken = self.old.taken ++ take n from.now;
           room = self.old.room - n;
           calls = next_count self.old.calls;
+          faults = passed self.old.faults;
         }) }
 
         // A write that fails is counted, and takes nothing.
-        ensures counted { OnErr result (self.new
-            ≡ record self.old { calls = next_count self.old.calls; faults = next_count self.old.faults }) }
+        ensures nothing { OnErr result (self.new
+            ≡ record self.old { calls = next_count self.old.calls; faults = failed self.old.faults }) }
 
         // What the trait asks beside that.
         ensures progress { IfOk result (λ n. 0 < length from.now → 0 < n) }
-        ensures cause { HasCause self.old.faults self.new.faults result }
+        ensures counted { self.new.faults ≡ counted result self.old.faults }
     {
         self.calls = self.calls.saturating_add(1);
-        if from.is_empty() {
-            return Ok(0);
-        }
-        if self.room == 0 || self.failing.contains(&self.calls) {
-            self.faults = self.faults.saturating_add(1);
+        if !from.is_empty() && (self.room == 0 || self.failing.contains(&self.calls)) {
+            self.faults.fail();
             return Err(Failed);
         }
+        self.faults.pass();
         let count = self.piece.min(from.len()).min(self.room);
         self.bytes.extend_from_slice(&from[..count]).unwrap();
         self.room -= count;

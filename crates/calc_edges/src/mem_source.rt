@@ -1,7 +1,7 @@
 ghost use Rattle.std.specs.Prelude.{◌≡◌, ◌<◌, ◌≤◌, ◌↔◌, [], ◌++◌, length, take, drop, min, Some, IfOk, OnErr, IsErr, Contains};
-ghost use Rattle.calc_edges.specs.Faults.{HasCause, next_count};
+ghost use Rattle.calc_edges.specs.Faults.{counted, failed, next_count, no_failures, passed};
 
-use crate::{CalmSource, Failed, Source};
+use crate::{CalmSource, Failed, Failures, Source};
 use std::marker::Model;
 
 /// A source over bytes in memory that gives them in pieces, and fails at chosen calls.
@@ -11,7 +11,7 @@ pub struct MemSource {
     piece: usize,
     failing: Vec<u64>,
     calls: u64,
-    faults: u64,
+    faults: Failures,
 }
 
 impl Model for MemSource {
@@ -37,14 +37,14 @@ impl MemSource {
     pub fn new(bytes: Vec<u8>, piece: usize, failing: Vec<u64>) -> MemSource
         requires { 1 ≤ piece }
         ensures { result
-            ≡ record { left = bytes.items; piece = piece; failing = failing.items; calls = 0; faults = 0 } }
+            ≡ record { left = bytes.items; piece = piece; failing = failing.items; calls = 0; faults = no_failures } }
     {
         MemSource {
             rest: CalmSource::new(bytes),
             piece,
             failing,
             calls: 0,
-            faults: 0,
+            faults: Failures::new(),
         }
     }
 }
@@ -62,22 +62,23 @@ impl Source for MemSource {
             ≡ min self.old.piece (min (length into.old) (length self.old.left))) }
         ensures copied { IfOk result (λ n. into.new ≡ take n self.old.left ++ drop n into.old) }
         ensures left { IfOk result (λ n. self.new
-            ≡ record self.old { left = drop n self.old.left; calls = next_count self.old.calls }) }
+            ≡ record self.old { left = drop n self.old.left; calls = next_count self.old.calls; faults = passed self.old.faults }) }
 
         // A call that fails is counted, and gives nothing.
-        ensures counted { OnErr result (self.new
-            ≡ record self.old { calls = next_count self.old.calls; faults = next_count self.old.faults }) }
+        ensures kept { OnErr result (self.new
+            ≡ record self.old { calls = next_count self.old.calls; faults = failed self.old.faults }) }
         ensures nothing { OnErr result (into.new ≡ into.old) }
 
         // What the trait asks beside that.
         ensures end { IfOk result (λ n. n ≡ 0 → 0 < length into.new → self.new.left ≡ []) }
-        ensures cause { HasCause self.old.faults self.new.faults result }
+        ensures counted { self.new.faults ≡ counted result self.old.faults }
     {
         self.calls = self.calls.saturating_add(1);
         if self.failing.contains(&self.calls) {
-            self.faults = self.faults.saturating_add(1);
+            self.faults.fail();
             return Err(Failed);
         }
+        self.faults.pass();
         let room = self.piece.min(into.len());
         self.rest.read(&mut into[..room])
     }

@@ -1,7 +1,8 @@
 ghost use Rattle.std.specs.Prelude.{◌≡◌, ℕ, ◌<◌, Option, List, length, take, IfOk, OnErr};
 ghost use Rattle.std.specs.Io.{ReadsAtMost};
 ghost use Rattle.std.specs.Io.KnownBytes.{Consumes, IsAtEnd, Keeps};
-ghost use Rattle.calc_edges.specs.Faults.{HasCause};
+ghost use Rattle.calc_edges.specs.Faults.{counted};
+ghost use Rattle.calc_edges.specs.declared.failures.Failures.{Failures};
 
 use thiserror::Error;
 
@@ -15,8 +16,8 @@ pub trait Source {
     /// The bytes that are still to be read, where the source tells them.
     ghost told: { Self → Option (List ℕ) };
 
-    /// How often the source has failed, up to 2^64 - 1.
-    ghost faults: { Self → ℕ };
+    /// How often the source has failed, and whether it failed at the last read.
+    ghost faults: { Self → Failures };
 
     /// Puts the next bytes at the front of `into`, and answers how many. No byte for an `into` that is
     /// not empty is the end of the input. What stands behind the bytes given is left open, and so is all
@@ -28,7 +29,7 @@ pub trait Source {
         ensures given { IfOk result (λ n. Consumes (told self.old) (told self.new) (take n into.new)) }
         ensures end { IfOk result (λ n. n ≡ 0 → 0 < length into.new → IsAtEnd (told self.new)) }
 
-        // A read that fails gives nothing, and the count of failures rose. Else the count is as before.
+        // A read that fails gives nothing, and is counted.
         ensures kept { OnErr result (Keeps (told self.old) (told self.new)) }
-        ensures cause { HasCause (faults self.old) (faults self.new) result };
+        ensures counted { faults self.new ≡ counted result (faults self.old) };
 }

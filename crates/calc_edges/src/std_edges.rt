@@ -1,10 +1,10 @@
 ghost use Rattle.std.specs.Prelude.{◌≡◌, ◌<◌, length, is_ok, if◌then◌else◌, IfOk};
 ghost use Rattle.std.specs.Io.{ReadsAtMost, WritesAtMost};
 ghost use Rattle.std.specs.Io.KnownBytes.{ReadConsumes, WriteAppends};
-ghost use Rattle.calc_edges.specs.Faults.{HasCause, next_count};
+ghost use Rattle.calc_edges.specs.Faults.{counted, no_failures};
 ghost use Rattle.calc_edges.specs.StdEdges.{reader_of, read_faults, writer_of, write_faults};
 
-use crate::{Failed, Sink, Source};
+use crate::{Failed, Failures, Sink, Source};
 use std::io::{Read, Write};
 
 /// A source over a reader of std. It tells the bytes that the reader has left, where the reader says.
@@ -12,15 +12,18 @@ use std::io::{Read, Write};
 #[derive(Debug, Drop)]
 pub struct StdSource<R> {
     reader: R,
-    faults: u64,
+    faults: Failures,
 }
 
 impl<R: Read> StdSource<R> {
     pub fn new(reader: R) -> StdSource<R>
         ensures reader { reader_of result ≡ reader }
-        ensures faults { read_faults result ≡ 0 }
+        ensures faults { read_faults result ≡ no_failures }
     {
-        StdSource { reader, faults: 0 }
+        StdSource {
+            reader,
+            faults: Failures::new(),
+        }
     }
 }
 
@@ -33,14 +36,15 @@ impl<R: Read> Source for StdSource<R> {
         ensures bound { ReadsAtMost result into.new }
         ensures bytes { ReadConsumes (R.remaining (reader_of self.old))
             (R.remaining (reader_of self.new)) result into.new }
-        ensures counted { read_faults self.new
-            ≡ (if is_ok result then read_faults self.old else next_count (read_faults self.old)) }
-        ensures cause { HasCause (read_faults self.old) (read_faults self.new) result }
+        ensures counted { read_faults self.new ≡ counted result (read_faults self.old) }
     {
         match self.reader.read(into) {
-            Ok(count) => Ok(count),
+            Ok(count) => {
+                self.faults.pass();
+                Ok(count)
+            }
             Err(_) => {
-                self.faults = self.faults.saturating_add(1);
+                self.faults.fail();
                 Err(Failed)
             }
         }
@@ -52,15 +56,18 @@ impl<R: Read> Source for StdSource<R> {
 #[derive(Debug, Drop)]
 pub struct StdSink<W> {
     writer: W,
-    faults: u64,
+    faults: Failures,
 }
 
 impl<W: Write> StdSink<W> {
     pub fn new(writer: W) -> StdSink<W>
         ensures writer { writer_of result ≡ writer }
-        ensures faults { write_faults result ≡ 0 }
+        ensures faults { write_faults result ≡ no_failures }
     {
-        StdSink { writer, faults: 0 }
+        StdSink {
+            writer,
+            faults: Failures::new(),
+        }
     }
 }
 
@@ -74,14 +81,15 @@ impl<W: Write> Sink for StdSink<W> {
         ensures progress { IfOk result (λ n. 0 < length from.now → 0 < n) }
         ensures bytes { WriteAppends (W.contents (writer_of self.old))
             (W.contents (writer_of self.new)) result from.now }
-        ensures counted { write_faults self.new
-            ≡ (if is_ok result then write_faults self.old else next_count (write_faults self.old)) }
-        ensures cause { HasCause (write_faults self.old) (write_faults self.new) result }
+        ensures counted { write_faults self.new ≡ counted result (write_faults self.old) }
     {
         match self.writer.write(from) {
-            Ok(count) if count > 0 || from.is_empty() => Ok(count),
+            Ok(count) if count > 0 || from.is_empty() => {
+                self.faults.pass();
+                Ok(count)
+            }
             _ => {
-                self.faults = self.faults.saturating_add(1);
+                self.faults.fail();
                 Err(Failed)
             }
         }

@@ -1,6 +1,6 @@
 ghost use Rattle.std.specs.Prelude.{◌≡◌, ◌⊎◌, ℕ, List, true, IfOk, OnErr};
 ghost use Rattle.std.specs.Io.KnownBytes.{Appends, Consumes, IsAtEnd};
-ghost use Rattle.calc_edges.specs.Faults.{Rose};
+ghost use Rattle.calc_edges.specs.Faults.{Rose, failed};
 
 use super::*;
 use std::io;
@@ -26,6 +26,13 @@ fn pour<S: Source, K: Sink>(source: &mut S, sink: &mut K) -> Result<bool, Failed
         write_all(sink, &piece[..count])?;
     }
     Ok(false)
+}
+
+/// Writes all the bytes to a sink in memory. Where that fails, one write failed in all, and it was the last one.
+fn fill(sink: &mut MemSink, bytes: &[u8]) -> Result<(), Failed>
+    ensures { OnErr result (sink.new.faults ≡ failed sink.old.faults) }
+{
+    write_all(sink, bytes)
 }
 
 /// A reader and a writer whose calls all fail.
@@ -174,6 +181,16 @@ fn bytes_go_through_in_pieces_up_to_a_failure(rt: HostRuntime) -> Result<(), Fai
         assert_eq!(rt; pour(&mut source, &mut sink), answer, "up to {taken}");
         assert_eq!(rt; sink.bytes(), taken.as_bytes(), "up to {taken}");
     }
+    Ok(())
+}
+
+#[test]
+fn bytes_fill_a_sink_up_to_its_room(rt: HostRuntime) -> Result<(), Fail> {
+    let alloc = rt.alloc();
+    let mut sink = MemSink::new(alloc, 3, 2, Vec::new(alloc))?;
+    assert_eq!(rt; fill(&mut sink, b"ab"), Ok(()));
+    assert_eq!(rt; fill(&mut sink, b"cde"), Err(Failed));
+    assert_eq!(rt; sink.bytes(), b"abc".as_slice());
     Ok(())
 }
 

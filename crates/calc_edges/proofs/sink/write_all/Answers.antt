@@ -1,7 +1,9 @@
-use Rattle.std.proofs.Common.{◌≡◌, ℕ, ◌+◌, ◌-◌, List, ◌++◌, length, take, drop, arith, sym, ap, ◌∙◌, subst, take-add, drop-drop, length-drop}
+use Rattle.std.proofs.Common.{◌≡◌, Err, ℕ, ◌+◌, ◌-◌, List, ◌++◌, length, take, drop, arith, sym, ap, ◌∙◌, subst, take-add, drop-drop, length-drop}
 use Rattle.std.proofs.lemmas.List.{take_rest}
 use Rattle.std.specs.Io.KnownBytes.{Appends}
 use Rattle.std.proofs.KnownBytes.{Appends-trans}
+use Rattle.calc_edges.proofs.Stops.{cause_of_call}
+use Rattle.calc_edges.specs.declared.failures.Failures.{Failures}
 use Rattle.calc_edges.proofs.sink.write_all.Goals as goal
 
 -- what a write leaves of the rest is a rest of the whole
@@ -22,5 +24,8 @@ loop-rest-preserved g c =
       omega (arith, ap length is_rest, length-drop n all, c.in-Ok.ensures.bound),
       left_of_rest all rest n m is_rest,
       subst (Appends _ _) (sym (front_of_rest all rest n m is_rest)) (Appends-trans _ _ _ _ _ appended c.in-Ok.ensures.appended),
-      c.in-Ok.ensures.cause.calm ∙ calm,
+      ap (λ (f : Failures). f.count) c.in-Ok.ensures.counted ∙ calm,
     )
+
+pub returns-in_default-clause-cause : goal.returns-in_default-clause-cause
+returns-in_default-clause-cause g c = let (n, within, is_rest, appended, calm) = c.loop-rest.invariant in cause_of_call (g.K.Sink.faults c.args.sink.now) (g.K.Sink.faults c.loop-rest.sink) _ (Err _) calm c.in_default.ensures.counted

@@ -9,6 +9,6 @@ loop-preserved g c =
       bytes ++ more,
       Consumes-trans _ _ _ _ _ given c.in_ok-count.ensures.given,
       Appends-trans _ _ _ _ _ taken c.in_ok-write_all.ensures.appended,
-      omega (arith, c.read.ensures.cause.later),
+      grind (arith, read_later, c.read.ensures.counted),
       omega (arith, c.write_all.ensures.cause.later),
     )

@@ -8,5 +8,5 @@ invariant-loop g l =
     (bytes : List ℕ)
     × Consumes (g.S.Source.told l.fn.source) (g.S.Source.told l.source) bytes
     × Appends (g.K.Sink.taken l.fn.sink) (g.K.Sink.taken l.sink) bytes
-    × (g.S.Source.faults l.fn.source ≤ g.S.Source.faults l.source)
-    × (g.K.Sink.faults l.fn.sink ≤ g.K.Sink.faults l.sink)
+    × ((g.S.Source.faults l.fn.source).count ≤ (g.S.Source.faults l.source).count)
+    × ((g.K.Sink.faults l.fn.sink).count ≤ (g.K.Sink.faults l.sink).count)
