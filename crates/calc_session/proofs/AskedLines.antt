@@ -16,7 +16,7 @@ colon_behind (b ∷ before) rest h = by (is_blank b) h (λ k. colon_behind befor
     by true k more = more k
     by false k more = absurd cc
 
-asks_colon : {line : List ℕ} (a : Asked) → IsCommandLine line a → is_command line ≡ true
+pub asks_colon : {line : List ℕ} (a : Asked) → IsCommandLine line a → is_command line ≡ true
 asks_colon pool (asks_pool h) = ap is_command h.whole ∙ colon_behind h.before _ h.blank_before
 asks_colon dump (asks_dump h) = ap is_command h.whole ∙ colon_behind h.before _ h.blank_before
 asks_colon draw (asks_draw h) = ap is_command h.whole ∙ colon_behind h.before _ h.blank_before

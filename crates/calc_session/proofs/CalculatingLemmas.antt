@@ -1,6 +1,6 @@
 -- Lemmas on command lines that calculate.
 use Rattle.std.proofs.Common.{◌≡◌, ℕ, ◌≤◌, List, [], ◌∷◌, ◌++◌, length, length-append, true, Option, None, refl, sym, ap, subst, arith}
-use Rattle.calc_session.proofs.Shared.{HasText, IsCommandLine, asks_diff, asks_solve, asks_expand, diff, solve, expand, is_command, Tree, Placed, values, Table, Full, free_of, forest, LineAnswer, Refusal, AnswersUntold, CountsRefusal, TellsReply, reply_of, IsNoExpression, ReadsText, bytes_before, IsReplyToCalculation, is_no_expression, is_read, derives, AsksForTooMuch, IsCountedBut, LacksDerivativeOf, IsReplyToDerivative, IsReplyToMade, made, Seen, Counts, pool_of, Reply, State, state_of, is_calculated, Leaves}
+use Rattle.calc_session.proofs.Shared.{HasText, IsCommandLine, asks_diff, asks_solve, asks_expand, diff, solve, expand, is_command, Tree, Placed, values, Table, Full, free_of, forest, LineAnswer, Refusal, AnswersUntold, CountsRefusal, TellsReply, reply_of, IsNoExpression, ReadsText, bytes_before, IsReplyToCalculation, is_no_expression, is_read, derives, AsksForTooMuch, IsCountedBut, IsReplyToDerivative, IsReplyToMade, made, Seen, Counts, pool_of, Reply, State, state_of, is_calculated, Leaves}
 use Rattle.breakers.specs.State.{State as Breaker}
 use Rattle.node_pool.specs.State.{State as PoolState}
 use Rattle.calc_session.proofs.SessionLemmas.{refused_leaves}
@@ -50,11 +50,6 @@ module _ (room bits : Option (Tree → ℕ)) (p : PoolState) (table : Table) (be
       → TellsReply (IsReplyToMade (made (free_of p) (values table (forest p)) t) before after (IsReplyToDerivative room bits (free_of p) before after x)) given written
       → AnswersUntold room bits (state_of p table) before line given written new after
   answers_derivative after tokens t new given written reads same h = answers_calculated room bits p table before after line new given written short is (λ r k. derives asked (is_read reads k)) same h
-
-  -- its refusal is counted, or known before
-  pub counts_derivative : (new : PoolState) (tokens : List Placed) (t : Tree) (r : Option Full) → ReadsText text tokens None t
-      → IsCountedBut (LacksDerivativeOf (made (free_of p) (values table (forest p)) t) x) (λ y. CountsRefusal y p new) r → IsCountedBut (AsksForTooMuch (state_of p table) line) (λ y. CountsRefusal y p new) r
-  counts_derivative new tokens t r h k = grind arith
 
 -- ---- as a session is seen
 

@@ -1,6 +1,6 @@
 -- Lemmas on what the derivative of a tree comes to.
-use Rattle.std.proofs.Common.{◌≡◌, ℕ, ◌+◌, ◌≤◌, ◌<◌, List, [], ◌∷◌, Option, None, refl, ap, subst, arith}
-use Rattle.calc_session.proofs.Shared.{IsWritable, Tree, depth, size, HasDerivative, derivative, NamedTree, Filling, lacks, too_deep, fills, filling, filling_one, free_of, Forest, tree_of, Gives, IsHanded, KeepsFront, without_root, Stands, forest, behind_first, behind_new, front_after_one, front_at, front_end, front_same, front_without, given_rest, given_told, ends_at, ends_without, Evaluation, ComesTo, IsDisplayOf, IsReplyToDerivative, IsReduction, made, reported}
+use Rattle.std.proofs.Common.{◌≡◌, ℕ, ◌+◌, ◌≤◌, ◌<◌, List, [], ◌∷◌, Option, None, subst, arith}
+use Rattle.calc_session.proofs.Shared.{IsWritable, Tree, size, HasDerivative, derivative, free_of, Forest, tree_of, Gives, IsHanded, KeepsFront, without_root, Stands, forest, behind_first, behind_new, front_after_one, front_at, front_end, front_same, front_without, given_rest, given_told, ends_at, ends_without, Evaluation, ComesTo, IsDisplayOf, IsReplyToDerivative, IsReduction, reported}
 use Rattle.breakers.specs.State.{State as Breaker}
 use Rattle.node_pool.specs.State.{State}
 use Rattle.calc_session.specs.Deriving.{is_reduced}
@@ -8,27 +8,6 @@ use Rattle.calc_session.proofs.EvaluationLemmas.{comes_as, free_same}
 
 pub over : (a b : ℕ) → (a ≤ b → ⊥) → b < a
 over a b h = grind arith
-
--- ---- the depth of a filled tree
-
-filled_is : (l m : ℕ) (t u : Tree) → fills l t ≡ fills m u → t ≡ u
-filled_is l m t u e = cc
-
-one_shallow : (free : ℕ) (v : NamedTree) (t : Tree) (left : ℕ) (u : Tree) → filling_one free v t ≡ fills left u → depth u ≤ 64
-one_shallow free v t left u e = grind arith
-
-filling_shallow : (vs : List NamedTree) (free : ℕ) (t : Tree) (left : ℕ) (u : Tree) → depth t ≤ 64 → filling free vs t ≡ fills left u → depth u ≤ 64
-filling_shallow [] free t left u d e = omega (arith, d, ap depth (filled_is free left t u e))
-filling_shallow (v ∷ vs) free t left u d e = by (filling_one free v t) refl (λ l w k. filling_shallow vs l w left u k) e
-  where
-    by : (m : Filling) → filling_one free v t ≡ m → ((l : ℕ) (w : Tree) → depth w ≤ 64 → filling l vs w ≡ fills left u → depth u ≤ 64)
-        → elim m [ lacks full ↦ lacks full | too_deep ↦ too_deep | fills l w ↦ filling l vs w ] ≡ fills left u → depth u ≤ 64
-    by (lacks full) one more k = absurd cc
-    by too_deep one more k = absurd cc
-    by (fills l w) one more k = more l w (one_shallow free v t l w one) k
-
-pub made_shallow : (free : ℕ) (vs : List NamedTree) (t : Tree) (left : ℕ) (u : Tree) → depth t ≤ 64 → made free vs t ≡ fills left u → depth u ≤ 64
-made_shallow free vs t left u d e = grind (arith, filling_shallow)
 
 -- ---- the derivative in the place of its tree
 

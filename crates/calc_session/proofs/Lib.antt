@@ -10,6 +10,7 @@ pub mod TellingLemmas
 pub mod DerivingLemmas
 pub mod ExpansionLemmas
 pub mod CalculatingLemmas
+pub mod CountingLemmas
 pub mod OpeningLemmas
 pub mod DrawingLemmas
 pub mod CommandLemmas

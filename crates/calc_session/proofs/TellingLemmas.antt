@@ -1,6 +1,6 @@
--- Lemmas on what is told of an evaluation, and on whether its refusal is counted.
-use Rattle.std.proofs.Common.{arith, ◌≡◌, ◌∙◌, ◌↔◌, ℕ, List, codes, Option, Some, None, refl, sym, ap, subst}
-use Rattle.calc_session.proofs.Shared.{IsWritable, text, Table, Full, Forest, Stands, forest, KeepsRefusals, given_told, LineAnswer, Refusal, Evaluation, ComesTo, CountsRefusal, TellsReply, Tells, refusal_of_evaluation, refusal_of_pool, reply_of, IsCountedBut, Reply, report, reported, text_of, state_of, HasFace}
+-- Lemmas on what is told of an evaluation.
+use Rattle.std.proofs.Common.{arith, ◌≡◌, ◌∙◌, ◌↔◌, ℕ, List, codes, Some, None, refl, sym, ap, subst}
+use Rattle.calc_session.proofs.Shared.{IsWritable, text, Table, Forest, Stands, forest, given_told, LineAnswer, Refusal, Evaluation, ComesTo, TellsReply, Tells, refusal_of_evaluation, refusal_of_pool, reply_of, Reply, report, reported, text_of, state_of, HasFace}
 use Rattle.node_pool.specs.State.{State as PoolState}
 use Rattle.calc_session.proofs.SessionLemmas.{refused_leaves}
 use Rattle.calc_session.specs.declared.answers.LineAnswer.TheVariants as answer
@@ -38,12 +38,6 @@ told_interruption s e given written r Rose h k = grind arith
 
 pub told_lack : (s : PoolState) (e : Evaluation) (given : LineAnswer) (written : List ℕ) → Tells s e given written → refusal_of_pool given ≡ refusal_of_evaluation e
 told_lack s e given written h = grind arith
-
-pub counted_still : (Known : Full → Type 0) (s t u : PoolState) (r : Option Full) → KeepsRefusals t u → IsCountedBut Known (λ x. CountsRefusal x s t) r → IsCountedBut Known (λ x. CountsRefusal x s u) r
-counted_still Known s t u r k h = grind arith
-
-pub counted_then : (Known Now : Full → Type 0) (s t u : PoolState) (r : Option Full) → ((lack : Full) → Known lack → Now lack) → KeepsRefusals s t → IsCountedBut Known (λ x. CountsRefusal x t u) r → IsCountedBut Now (λ x. CountsRefusal x s u) r
-counted_then Known Now s t u r h k l = grind arith
 
 -- ---- the same state
 

@@ -1,5 +1,5 @@
 -- Whether the pool counts a refusal that is answered.
-use Rattle.std.specs.Prelude.{ℕ, ◌≡◌, ◌⊎◌, List, Option, Some, None}
+use Rattle.std.specs.Prelude.{ℕ, ◌≡◌, ◌⊎◌, List, Option, Some, None, IfSome}
 use Rattle.calc_commands.specs.Commands.{IsCommandLine, diff}
 use Rattle.calc_terms.specs.Trees.{Tree}
 use Rattle.calc_tokens.specs.Placed.{Placed}
@@ -27,6 +27,6 @@ pub record AsksForTooMuch (old : State) (line : List ℕ) (refusal : Full) : Typ
   pub reads : ReadsText text tokens None tree
   pub lacks : LacksDerivativeOf (made_in old tree) name refusal
 
--- a refusal that the pool counts; or one that is known before the pool is asked, which counts none
+-- A refusal is counted, where there is one; but one that is known before the pool is asked is not.
 abbrev pub IsCountedBut : (Full → Type 0) → (Option Full → Type 0) → Option Full → Type 0
-IsCountedBut IsKnown Counts refusal = Counts refusal ⊎ ((lack : Full) × (refusal ≡ Some lack) × IsKnown lack × Counts None)
+IsCountedBut IsKnown Counts refusal = (IfSome refusal (λ lack. ¬ (IsKnown lack)) × Counts refusal) ⊎ ((lack : Full) × (refusal ≡ Some lack) × IsKnown lack × Counts None)

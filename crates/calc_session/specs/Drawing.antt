@@ -2,6 +2,7 @@
 use Rattle.std.specs.Prelude.{ℕ, zero, suc, ◌≡◌, List, [], ◌∷◌, ◌++◌, Option, Some, None, Result, Ok, Err, encode_utf8_all}
 use Rattle.std.specs.Io.KnownBytes.{Appends}
 use Rattle.calc_edges.specs.Faults.{StopsAtFailure}
+use Rattle.calc_edges.specs.declared.failures.Failures.{Failures}
 use Rattle.calc_edges.specs.Taken.{AppendsPart}
 use Rattle.calc_terms.specs.Trees.{Tree}
 use Rattle.node_pool.specs.declared.full.Full.{Full}
@@ -77,6 +78,6 @@ FailsToDraw rows taken taken' (fault.Full full) = rows ≡ Err full
 FailsToDraw rows taken taken' fault.Write = IsDrawnInPart rows taken taken'
 
 -- nothing was written, or the first write that failed was the last one
-abbrev pub StopsDrawing : {X : Type 0} → (X → Option (List ℕ)) → (X → ℕ) → X → X → DrawFault → Type 0
+abbrev pub StopsDrawing : {X : Type 0} → (X → Option (List ℕ)) → (X → Failures) → X → X → DrawFault → Type 0
 StopsDrawing taken faults old new (fault.Full full) = new ≡ old
 StopsDrawing taken faults old new fault.Write = StopsAtFailure taken faults old new

@@ -1,11 +1,11 @@
 //! Derivatives of expressions.
-ghost use Rattle.std.specs.Prelude.{◌≡◌, ◌+◌, ◌*◌, ◌≤◌, ◌↔◌, ℕ, [], ◌∷◌, None};
+ghost use Rattle.std.specs.Prelude.{◌≡◌, ◌+◌, ◌*◌, ◌↔◌, ⊤, ℕ, [], ◌∷◌, None};
 ghost use Rattle.breakers.specs.Breakers.{TripsRose};
 ghost use Rattle.breakers.specs.Watch.{states};
 ghost use Rattle.calc_language.specs.Texts.{IsWritable};
 ghost use Rattle.calc_parser.specs.Lines.{IsLine};
 ghost use Rattle.calc_terms.specs.Leaf.{name_of};
-ghost use Rattle.calc_terms.specs.Trees.{Tree, depth, size};
+ghost use Rattle.calc_terms.specs.Trees.{Tree, size};
 ghost use Rattle.calc_tokens.specs.Placed.{bare};
 ghost use Rattle.calc_tokens.specs.Tokens.{tokens_of};
 ghost use Rattle.name_table.specs.Filling.{values};
@@ -47,7 +47,7 @@ pub fn tell_derivative<R: Reducer, B: Breaker>(
 ) -> LineAnswer
     requires stands { Stands pool.old }
     requires held { IsHeld table.now (forest pool.old) }
-    requires line { (t : Tree) × IsLine (bare (tokens_of parser.old)) None t × (depth t ≤ 64) }
+    requires line { (t : Tree) × IsLine (bare (tokens_of parser.old)) None t }
     requires empty { text.old.bytes ≡ [] }
     requires room { text.old.capacity ≡ 3 * pool.old.size + 8448 }
     ensures told { (t : Tree) → IsLine (bare (tokens_of parser.old)) None t
@@ -79,7 +79,7 @@ fn derive_expression<R: Reducer, B: Breaker>(
 ) -> Evaluation
     requires stands { Stands pool.old }
     requires held { IsHeld table.now (forest pool.old) }
-    requires line { (t : Tree) × IsLine (bare (tokens_of parser.old)) None t × (depth t ≤ 64) }
+    requires line { (t : Tree) × IsLine (bare (tokens_of parser.old)) None t }
     ensures reply { (t : Tree) → IsLine (bare (tokens_of parser.old)) None t
         → ComesTo (λ reply. IsReplyToMade (made (free_of pool.old) (values table.now (forest pool.old)) t) (states B.state watch.old) (states B.state watch.new)
         (IsReplyToDerivative R.room R.bits (free_of pool.old) (states B.state watch.old) (states B.state watch.new) (name_of name)) (reported reply))
@@ -107,7 +107,7 @@ fn derive_tree<R: Reducer, B: Breaker>(
     watch: &mut Watch<B>,
 ) -> Evaluation
     requires stands { Stands pool.old }
-    requires last { Gives (without_root tree (forest pool.old)) (forest pool.old) tree (λ t. depth t ≤ 64) }
+    requires last { Gives (without_root tree (forest pool.old)) (forest pool.old) tree (λ t. ⊤) }
     ensures reply { let t = tree_of tree pool.old in
         ComesTo (λ reply. IsReplyToDerivative R.room R.bits (free_of pool.old + size t) (states B.state watch.old) (states B.state watch.new) (name_of name) (free_of pool.old) t (reported reply))
         IsWritable None (without_root tree (forest pool.old)) (forest pool.new) result }

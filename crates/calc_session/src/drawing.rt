@@ -1,7 +1,7 @@
 //! The last answer, drawn or written in one line by its layout, which stands above a mark for so long.
 ghost use Rattle.std.specs.Prelude.{◌≡◌, ◌+◌, ◌*◌, ◌≤◌, IfErr, IfOk, OnErr, OnOk, Ok, Err, []};
 ghost use Rattle.std.specs.Io.KnownBytes.{Appends};
-ghost use Rattle.calc_edges.specs.Faults.{HasCause, StopsAtFailure};
+ghost use Rattle.calc_edges.specs.Faults.{HasCause, IsCalm, StopsAtFailure};
 ghost use Rattle.calc_edges.specs.Taken.{AppendsPart};
 ghost use Rattle.pool_layouts.specs.Drawings.{IsLayout, drawing};
 ghost use Rattle.pool_layouts.specs.Serial.{serial};
@@ -34,8 +34,8 @@ pub fn draw_answer<K: Sink>(
     requires room { 2 * pool.old.size + 1 ≤ text.old.capacity }
     requires served { pool.old.size ≤ drafter.old.pool_size }
     ensures drawn { OnOk result (IsDrawn (told_at rows_text answer pool.old) (K.taken sink.old) (K.taken sink.new)) }
-    ensures calm { OnOk result (K.faults sink.new ≡ K.faults sink.old) }
-    ensures later { K.faults sink.old ≤ K.faults sink.new }
+    ensures calm { OnOk result (IsCalm (K.faults sink.old) (K.faults sink.new)) }
+    ensures later { (K.faults sink.old).count ≤ (K.faults sink.new).count }
     ensures fails { IfErr result (FailsToDraw (told_at rows_text answer pool.old) (K.taken sink.old) (K.taken sink.new)) }
     ensures stops { IfErr result (StopsDrawing K.taken K.faults sink.old sink.new) }
     ensures counted { CountsRefusal (lack_in (told_at rows_text answer pool.old)) pool.old pool.new }
@@ -63,8 +63,8 @@ fn draw_above<K: Sink>(
     requires room { 2 * pool.old.size + 1 ≤ text.old.capacity }
     requires served { pool.old.size ≤ drafter.old.pool_size }
     ensures drawn { OnOk result (IsDrawn (told_at rows_text answer pool.old) (K.taken sink.old) (K.taken sink.new)) }
-    ensures calm { OnOk result (K.faults sink.new ≡ K.faults sink.old) }
-    ensures later { K.faults sink.old ≤ K.faults sink.new }
+    ensures calm { OnOk result (IsCalm (K.faults sink.old) (K.faults sink.new)) }
+    ensures later { (K.faults sink.old).count ≤ (K.faults sink.new).count }
     ensures fails { IfErr result (FailsToDraw (told_at rows_text answer pool.old) (K.taken sink.old) (K.taken sink.new)) }
     ensures stops { IfErr result (StopsDrawing K.taken K.faults sink.old sink.new) }
     ensures counted { CountsRefusal (lack_in (told_at rows_text answer pool.old)) pool.old pool.new }

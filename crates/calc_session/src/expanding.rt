@@ -4,7 +4,7 @@ ghost use Rattle.breakers.specs.Breakers.{TripsRose};
 ghost use Rattle.breakers.specs.Watch.{states};
 ghost use Rattle.calc_language.specs.Texts.{IsWritable};
 ghost use Rattle.calc_parser.specs.Lines.{IsLine};
-ghost use Rattle.calc_terms.specs.Trees.{Tree, depth, size};
+ghost use Rattle.calc_terms.specs.Trees.{Tree, size};
 ghost use Rattle.calc_tokens.specs.Placed.{bare};
 ghost use Rattle.calc_tokens.specs.Tokens.{tokens_of};
 ghost use Rattle.name_table.specs.Filling.{values};
@@ -77,7 +77,7 @@ fn tell_expansion<B: Breaker>(
 ) -> LineAnswer
     requires stands { Stands pool.old }
     requires held { IsHeld table.now (forest pool.old) }
-    requires line { (t : Tree) × IsLine (bare (tokens_of parser.old)) None t × (depth t ≤ 64) }
+    requires line { (t : Tree) × IsLine (bare (tokens_of parser.old)) None t }
     requires empty { text.old.bytes ≡ [] }
     requires room { text.old.capacity ≡ 3 * pool.old.size + 8448 }
     ensures told { (t : Tree) → IsLine (bare (tokens_of parser.old)) None t
@@ -106,7 +106,7 @@ fn expand_expression<B: Breaker>(
 ) -> Evaluation
     requires stands { Stands pool.old }
     requires held { IsHeld table.now (forest pool.old) }
-    requires line { (t : Tree) × IsLine (bare (tokens_of parser.old)) None t × (depth t ≤ 64) }
+    requires line { (t : Tree) × IsLine (bare (tokens_of parser.old)) None t }
     ensures reply { (t : Tree) → IsLine (bare (tokens_of parser.old)) None t
         → ComesTo (λ reply. IsReplyToMade (made (free_of pool.old) (values table.now (forest pool.old)) t) (states B.state watch.old) (states B.state watch.new)
         (IsReplyToExpansion (free_of pool.old) (states B.state watch.old) (states B.state watch.new)) (reported reply))

@@ -3,7 +3,7 @@ ghost use Rattle.std.specs.Prelude.{◌≡◌, ◌<◌, ◌≤◌, ◌+◌, ◌�
 ghost use Rattle.std.specs.Io.KnownBytes.{Appends};
 ghost use Rattle.breakers.specs.Breakers.{TripsRose};
 ghost use Rattle.breakers.specs.Watch.{states};
-ghost use Rattle.calc_edges.specs.Faults.{HasCause, StopsAtFailure};
+ghost use Rattle.calc_edges.specs.Faults.{HasCause, IsCalm, StopsAtFailure};
 ghost use Rattle.calc_edges.specs.Taken.{AppendsPart};
 ghost use Rattle.calc_terms.specs.Leaf.{name_of};
 ghost use Rattle.name_table.specs.Held.{IsHeld};
@@ -97,8 +97,8 @@ impl Session {
         ensures interrupted { (place : ℕ) → (result ≡ LineAnswer.Refused (Refusal.Interrupted place))
             ↔ TripsRose (states B.state watch.old) (states B.state watch.new) place }
 
-        // What the pool refused is answered, and nothing else that it may have refused before. Only where a derivative has
-        // more bytes than are left, none is counted.
+        // What the pool refused is answered and counted, and nothing else that it may have refused before. But that a
+        // derivative has more bytes than are left is known before the pool is asked, and is not counted.
         ensures counted { IsCountedBut (AsksForTooMuch self.old.state line.now) (λ refusal. Counts refusal self.old self.new) (refusal_of_pool result) }
         ensures held { IsHeld self.new.state.table (trees self.new.state) }
     {
@@ -187,8 +187,8 @@ impl Session {
     /// stands in the pool for so long.
     pub fn draw<K: Sink>(&mut self, sink: &mut K) -> Result<(), DrawFault>
         ensures drawn { OnOk result (IsDrawn (rows_in self.old.state) (K.taken sink.old) (K.taken sink.new)) }
-        ensures calm { OnOk result (K.faults sink.new ≡ K.faults sink.old) }
-        ensures later { K.faults sink.old ≤ K.faults sink.new }
+        ensures calm { OnOk result (IsCalm (K.faults sink.old) (K.faults sink.new)) }
+        ensures later { (K.faults sink.old).count ≤ (K.faults sink.new).count }
 
         // The layout finds no room, and nothing was written; or the sink failed, nothing was written behind that, and a
         // part of the rows before.

@@ -1,8 +1,9 @@
 use Rattle.std.proofs.Common.{inl, refl, sym, subst, arith}
-use Rattle.calc_session.proofs.Shared.{states, IsCommandLine, asked_of, pool_report, dump_of, CountsRefusal, refusal_of_pool, expands, solves, tells_the_pool, tells_the_bytes, is_no_command, state_of, name_of, tokens_of, IsHeld, forest_of}
+use Rattle.calc_session.proofs.Shared.{states, IsCommandLine, asked_of, pool_report, dump_of, AsksForTooMuch, CountsRefusal, IsCountedBut, refusal_of_pool, expands, solves, tells_the_pool, tells_the_bytes, is_no_command, state_of, name_of, tokens_of, IsHeld, forest_of}
 use Rattle.calc_commands.specs.declared.command.Command.{Command}
-use Rattle.calc_session.proofs.CalculatingLemmas.{answers_calculated, answers_derivative, answers_no_expression, counts_derivative, equations_within, expression_within, text_within}
+use Rattle.calc_session.proofs.CalculatingLemmas.{answers_calculated, answers_derivative, answers_no_expression, equations_within, expression_within, text_within}
 use Rattle.calc_session.proofs.CommandLemmas.{answers_drawn, answers_no_command, answers_told, calm_told, command_uninterrupted, draw_uninterrupted, none_of, refusal_uninterrupted, report_uninterrupted, written}
+use Rattle.calc_session.proofs.CountingLemmas.{counts_derivative, none_known, other_asked}
 use Rattle.calc_session.proofs.EvaluationLemmas.{none_rose}
 use Rattle.calc_session.proofs.SessionLemmas.{answers_command}
 use Rattle.calc_session.specs.declared.answers.LineAnswer.TheVariants as answer
@@ -18,7 +19,7 @@ pub returns-in_default-clause-interrupted : goal.returns-in_default-clause-inter
 returns-in_default-clause-interrupted g c = calm_told (answer.Refused refusal.Command) (states g.B.Breaker.state c.args.watch.now) (states g.B.Breaker.state c.args.watch.now) command_uninterrupted (none_rose (states g.B.Breaker.state c.args.watch.now))
 
 pub returns-in_default-clause-counted : goal.returns-in_default-clause-counted
-returns-in_default-clause-counted g c = inl (record { size = refl; refusals = refl; last_refused = refl })
+returns-in_default-clause-counted g c = inl (tt, record { size = refl; refusals = refl; last_refused = refl })
 
 pub returns-in-Pool-clause-answers : goal.returns-in-Pool-clause-answers
 returns-in-Pool-clause-answers g c =
@@ -30,7 +31,7 @@ pub returns-in-Pool-clause-interrupted : goal.returns-in-Pool-clause-interrupted
 returns-in-Pool-clause-interrupted g c = calm_told answer.Report (states g.B.Breaker.state c.args.watch.now) (states g.B.Breaker.state c.args.watch.now) report_uninterrupted (none_rose (states g.B.Breaker.state c.args.watch.now))
 
 pub returns-in-Pool-clause-counted : goal.returns-in-Pool-clause-counted
-returns-in-Pool-clause-counted g c = inl (record { size = refl; refusals = refl; last_refused = refl })
+returns-in-Pool-clause-counted g c = inl (tt, record { size = refl; refusals = refl; last_refused = refl })
 
 pub returns-in-Dump-clause-answers : goal.returns-in-Dump-clause-answers
 returns-in-Dump-clause-answers g c =
@@ -42,7 +43,7 @@ pub returns-in-Dump-clause-interrupted : goal.returns-in-Dump-clause-interrupted
 returns-in-Dump-clause-interrupted g c = calm_told answer.Report (states g.B.Breaker.state c.args.watch.now) (states g.B.Breaker.state c.args.watch.now) report_uninterrupted (none_rose (states g.B.Breaker.state c.args.watch.now))
 
 pub returns-in-Dump-clause-counted : goal.returns-in-Dump-clause-counted
-returns-in-Dump-clause-counted g c = inl (record { size = refl; refusals = refl; last_refused = refl })
+returns-in-Dump-clause-counted g c = inl (tt, record { size = refl; refusals = refl; last_refused = refl })
 
 pub returns-in-Forget-clause-answers : goal.returns-in-Forget-clause-answers
 returns-in-Forget-clause-answers g c =
@@ -53,7 +54,9 @@ pub returns-in-Forget-clause-interrupted : goal.returns-in-Forget-clause-interru
 returns-in-Forget-clause-interrupted g c = calm_told c.forget.result (states g.B.Breaker.state c.args.watch.now) (states g.B.Breaker.state c.args.watch.now) c.forget.ensures.no_interruption (none_rose (states g.B.Breaker.state c.args.watch.now))
 
 pub returns-in-Forget-clause-counted : goal.returns-in-Forget-clause-counted
-returns-in-Forget-clause-counted g c = inl c.forget.ensures.counted
+returns-in-Forget-clause-counted g c =
+    let asked = subst (λ (k : Command). IsCommandLine c.args.line.now (asked_of k)) c.in-Forget.is c.in-Some.ensures.some in
+    inl (none_known (refusal_of_pool c.forget.result) (other_asked (state_of c.args.pool.now c.args.table.now) c.args.line.now _ asked (λ x text e. absurd cc)), c.forget.ensures.counted)
 
 pub returns-in-After-clause-answers : goal.returns-in-After-clause-answers
 returns-in-After-clause-answers g c =
@@ -64,7 +67,7 @@ pub returns-in-After-clause-interrupted : goal.returns-in-After-clause-interrupt
 returns-in-After-clause-interrupted g c = calm_told answer.Report (states g.B.Breaker.state c.args.watch.now) (states g.B.Breaker.state c.arm.new.watch) report_uninterrupted c.arm.ensures.no_check
 
 pub returns-in-After-clause-counted : goal.returns-in-After-clause-counted
-returns-in-After-clause-counted g c = inl (record { size = refl; refusals = refl; last_refused = refl })
+returns-in-After-clause-counted g c = inl (tt, record { size = refl; refusals = refl; last_refused = refl })
 
 pub returns-in-Draw-clause-answers : goal.returns-in-Draw-clause-answers
 returns-in-Draw-clause-answers g c =
@@ -75,7 +78,7 @@ pub returns-in-Draw-clause-interrupted : goal.returns-in-Draw-clause-interrupted
 returns-in-Draw-clause-interrupted g c = calm_told answer.Draw (states g.B.Breaker.state c.args.watch.now) (states g.B.Breaker.state c.args.watch.now) draw_uninterrupted (none_rose (states g.B.Breaker.state c.args.watch.now))
 
 pub returns-in-Draw-clause-counted : goal.returns-in-Draw-clause-counted
-returns-in-Draw-clause-counted g c = inl (record { size = refl; refusals = refl; last_refused = refl })
+returns-in-Draw-clause-counted g c = inl (tt, record { size = refl; refusals = refl; last_refused = refl })
 
 pub returns-in-Layout-clause-answers : goal.returns-in-Layout-clause-answers
 returns-in-Layout-clause-answers g c =
@@ -86,7 +89,9 @@ pub returns-in-Layout-clause-interrupted : goal.returns-in-Layout-clause-interru
 returns-in-Layout-clause-interrupted g c = calm_told c.tell_layout.result (states g.B.Breaker.state c.args.watch.now) (states g.B.Breaker.state c.args.watch.now) c.tell_layout.ensures.no_interruption (none_rose (states g.B.Breaker.state c.args.watch.now))
 
 pub returns-in-Layout-clause-counted : goal.returns-in-Layout-clause-counted
-returns-in-Layout-clause-counted g c = inl c.tell_layout.ensures.counted
+returns-in-Layout-clause-counted g c =
+    let asked = subst (λ (k : Command). IsCommandLine c.args.line.now (asked_of k)) c.in-Layout.is c.in-Some.ensures.some in
+    inl (none_known (refusal_of_pool c.tell_layout.result) (other_asked (state_of c.args.pool.now c.args.table.now) c.args.line.now _ asked (λ x text e. absurd cc)), c.tell_layout.ensures.counted)
 
 pub bytes_before-requires-clause-behind : goal.bytes_before-requires-clause-behind
 bytes_before-requires-clause-behind g c = text_within (subst (λ (k : Command). IsCommandLine c.args.line.now (asked_of k)) c.in-Diff.is c.in-Some.ensures.some)
@@ -95,7 +100,7 @@ pub read_expression-requires : goal.read_expression-requires
 read_expression-requires g c = let within = text_within (subst (λ (k : Command). IsCommandLine c.args.line.now (asked_of k)) c.in-Diff.is c.in-Some.ensures.some) in let short = c.requires.short in omega (arith, within, short, c.bytes_before.ensures)
 
 pub tell_derivative-requires-clause-line : goal.tell_derivative-requires-clause-line
-tell_derivative-requires-clause-line g c = let (t, r) = c.in-Ok.ensures.tree in (t, r.line-is, r.shallow)
+tell_derivative-requires-clause-line g c = let (t, r) = c.in-Ok.ensures.tree in (t, r.line-is)
 
 pub returns-in-Ok-clause-answers : goal.returns-in-Ok-clause-answers
 returns-in-Ok-clause-answers g c =
@@ -106,8 +111,8 @@ returns-in-Ok-clause-answers g c =
 pub returns-in-Ok-clause-counted : goal.returns-in-Ok-clause-counted
 returns-in-Ok-clause-counted g c =
     let (t, r) = c.in-Ok.ensures.tree in
-    counts_derivative g.R.Reducer.room g.R.Reducer.bits c.args.pool.now c.args.table.now (states g.B.Breaker.state c.args.watch.now) c.args.line.now (name_of c.in-Diff.name) c.in-Diff.expression.now c.requires.short c.requires.command (subst (λ (k : Command). IsCommandLine c.args.line.now (asked_of k)) c.in-Diff.is c.in-Some.ensures.some)
-    c.tell_derivative.new.pool (tokens_of c.read_expression.new.parser) t (refusal_of_pool c.tell_derivative.result) r (c.tell_derivative.ensures.counted t r.line-is)
+    counts_derivative c.args.pool.now c.tell_derivative.new.pool c.args.table.now c.args.line.now (name_of c.in-Diff.name) c.in-Diff.expression.now (tokens_of c.read_expression.new.parser) t (refusal_of_pool c.tell_derivative.result)
+    (subst (λ (k : Command). IsCommandLine c.args.line.now (asked_of k)) c.in-Diff.is c.in-Some.ensures.some) r (c.tell_derivative.ensures.counted t r.line-is)
 
 pub returns-in-Ok-clause-held : goal.returns-in-Ok-clause-held
 returns-in-Ok-clause-held g c = subst (λ s. IsHeld s.table (forest_of s.nodes)) (sym c.tell_derivative.ensures.same) c.requires.held
@@ -121,7 +126,8 @@ pub returns-in-Err-clause-interrupted : goal.returns-in-Err-clause-interrupted
 returns-in-Err-clause-interrupted g c = calm_told (answer.Refused c.in-Err.refusal) (states g.B.Breaker.state c.args.watch.now) (states g.B.Breaker.state c.args.watch.now) (refusal_uninterrupted c.in-Err.refusal c.in-Err.ensures.no_breaker) (none_rose (states g.B.Breaker.state c.args.watch.now))
 
 pub returns-in-Err-clause-counted : goal.returns-in-Err-clause-counted
-returns-in-Err-clause-counted g c = inl (subst (λ r. CountsRefusal r c.args.pool.now c.args.pool.now) (sym c.in-Err.ensures.no_pool) (record { size = refl; refusals = refl; last_refused = refl }))
+returns-in-Err-clause-counted g c =
+    subst (λ r. IsCountedBut (AsksForTooMuch (state_of c.args.pool.now c.args.table.now) c.args.line.now) (λ x. CountsRefusal x c.args.pool.now c.args.pool.now) r) (sym c.in-Err.ensures.no_pool) (inl (tt, record { size = refl; refusals = refl; last_refused = refl }))
 
 pub bytes_before-before-requires-clause-behind : goal.bytes_before-before-requires-clause-behind
 bytes_before-before-requires-clause-behind g c = equations_within (subst (λ (k : Command). IsCommandLine c.args.line.now (asked_of k)) c.in-Solve.is c.in-Some.ensures.some)
@@ -136,7 +142,9 @@ returns-in-Solve-clause-answers g c =
     (λ r h. solves asked h) c.solve_equations.ensures.same (c.solve_equations.ensures.told c.args.line.now (sym c.bytes_before-before.ensures))
 
 pub returns-in-Solve-clause-counted : goal.returns-in-Solve-clause-counted
-returns-in-Solve-clause-counted g c = inl c.solve_equations.ensures.counted
+returns-in-Solve-clause-counted g c =
+    let asked = subst (λ (k : Command). IsCommandLine c.args.line.now (asked_of k)) c.in-Solve.is c.in-Some.ensures.some in
+    inl (none_known (refusal_of_pool c.solve_equations.result) (other_asked (state_of c.args.pool.now c.args.table.now) c.args.line.now _ asked (λ x text e. absurd cc)), c.solve_equations.ensures.counted)
 
 pub returns-in-Solve-clause-held : goal.returns-in-Solve-clause-held
 returns-in-Solve-clause-held g c = subst (λ s. IsHeld s.table (forest_of s.nodes)) (sym c.solve_equations.ensures.same) c.requires.held
@@ -154,7 +162,9 @@ returns-in-Expand-clause-answers g c =
     (λ r h. expands asked h) c.expand_text.ensures.same (c.expand_text.ensures.told c.args.line.now (sym c.bytes_before-before-in-Expand.ensures))
 
 pub returns-in-Expand-clause-counted : goal.returns-in-Expand-clause-counted
-returns-in-Expand-clause-counted g c = inl c.expand_text.ensures.counted
+returns-in-Expand-clause-counted g c =
+    let asked = subst (λ (k : Command). IsCommandLine c.args.line.now (asked_of k)) c.in-Expand.is c.in-Some.ensures.some in
+    inl (none_known (refusal_of_pool c.expand_text.result) (other_asked (state_of c.args.pool.now c.args.table.now) c.args.line.now _ asked (λ x text e. absurd cc)), c.expand_text.ensures.counted)
 
 pub returns-in-Expand-clause-held : goal.returns-in-Expand-clause-held
 returns-in-Expand-clause-held g c = subst (λ s. IsHeld s.table (forest_of s.nodes)) (sym c.expand_text.ensures.same) c.requires.held

@@ -1,21 +1,18 @@
-use Rattle.std.proofs.Common.{◌∙◌, ◌≤◌, None, inl, refl, sym, subst}
-use Rattle.calc_session.proofs.Shared.{states, name_of, depth, values, free_of, tree_of, forest, given_rest, gives_as, refusal_of_evaluation, reply_of, LacksDerivativeOf, IsReplyToDerivative, LacksDerivative, IsReplyToMade, is_not_made, is_made, made, refusal_in, reported, held_entries}
-use Rattle.calc_session.proofs.DerivingLemmas.{made_shallow}
-use Rattle.calc_session.proofs.EvaluationLemmas.{calm_refused, comes_as, free_before, front_over, gives_told, size_kept}
-use Rattle.calc_session.proofs.TellingLemmas.{as_reported, counted_then}
+use Rattle.std.proofs.Common.{◌∙◌, None, inl, refl, sym, subst}
+use Rattle.calc_session.proofs.Shared.{states, name_of, values, free_of, tree_of, forest, given_rest, gives_as, CountsRefusal, refusal_of_evaluation, reply_of, LacksDerivativeOf, IsReplyToDerivative, LacksDerivative, IsReplyToMade, is_not_made, is_made, made, refusal_in, reported, held_entries}
+use Rattle.calc_session.proofs.CountingLemmas.{counted_as, counted_then, lacks_there, none_known, none_made}
+use Rattle.calc_session.proofs.EvaluationLemmas.{calm_refused, comes_as, free_before, front_over, size_kept}
+use Rattle.calc_session.proofs.TellingLemmas.{as_reported}
 use Rattle.calc_session.proofs.differentiating.derive_expression.Goals as goal
 
 pub build_and_fill-requires-clause-entries : goal.build_and_fill-requires-clause-entries
 build_and_fill-requires-clause-entries g c = held_entries c.args.table.now (forest c.args.pool.now) c.requires.held
 
 pub build_and_fill-requires-clause-line : goal.build_and_fill-requires-clause-line
-build_and_fill-requires-clause-line g c = let (t, is, shallow) = c.requires.line in (t, (None, is))
+build_and_fill-requires-clause-line g c = let (t, is) = c.requires.line in (t, (None, is))
 
 pub derive_tree-requires-clause-last : goal.derive_tree-requires-clause-last
-derive_tree-requires-clause-last g c =
-    let (t, is, shallow) = c.requires.line in
-    gives_told (λ u. depth u ≤ 64) (gives_as c.in-Ok.ensures.ok (sym (given_rest c.in-Ok.ensures.ok)) (λ u x. x))
-    (made_shallow (free_of c.args.pool.now) (values c.args.table.now (forest c.args.pool.now)) t (free_of c.build_and_fill.new.pool) (tree_of c.in-Ok.tree c.build_and_fill.new.pool) shallow (c.in-Ok.ensures.made t (None, is)))
+derive_tree-requires-clause-last g c = gives_as c.in-Ok.ensures.ok (sym (given_rest c.in-Ok.ensures.ok)) (λ u x. tt)
 
 pub returns-in-Ok-clause-reply : goal.returns-in-Ok-clause-reply
 returns-in-Ok-clause-reply g c = λ t is.
@@ -33,8 +30,12 @@ pub returns-in-Ok-clause-counted : goal.returns-in-Ok-clause-counted
 returns-in-Ok-clause-counted g c = λ t is.
     let old = c.args.pool.now in
     let mid = c.build_and_fill.new.pool in
-    counted_then (LacksDerivative (name_of c.args.name) (free_of mid) (tree_of c.in-Ok.tree mid)) (LacksDerivativeOf (made (free_of old) (values c.args.table.now (forest old)) t) (name_of c.args.name)) old mid c.derive_tree.new.pool (refusal_of_evaluation c.derive_tree.result)
-    (λ lack l. record { left = free_of mid; tree = tree_of c.in-Ok.tree mid; is_made = c.in-Ok.ensures.made t (None, is); lacks = l }) c.in-Ok.ensures.kept c.derive_tree.ensures.counted
+    let making = made (free_of old) (values c.args.table.now (forest old)) t in
+    let x = name_of c.args.name in
+    let refusal = refusal_of_evaluation c.derive_tree.result in
+    let made_of = c.in-Ok.ensures.made t (None, is) in
+    counted_as {Known = LacksDerivative x (free_of mid) (tree_of c.in-Ok.tree mid)} {Now = LacksDerivativeOf making x} (λ r. CountsRefusal r old c.derive_tree.new.pool) refusal (λ lack l. record { left = free_of mid; tree = tree_of c.in-Ok.tree mid; is_made = made_of; lacks = l })
+    (lacks_there making x (free_of mid) (tree_of c.in-Ok.tree mid) made_of) (counted_then old mid c.derive_tree.new.pool refusal c.in-Ok.ensures.kept c.derive_tree.ensures.counted)
 
 pub returns-in-Ok-clause-front : goal.returns-in-Ok-clause-front
 returns-in-Ok-clause-front g c = front_over c.in-Ok.ensures.ok c.derive_tree.ensures.front
@@ -52,7 +53,10 @@ pub returns-in-Err-clause-interrupted : goal.returns-in-Err-clause-interrupted
 returns-in-Err-clause-interrupted g c = calm_refused c.in-Err.refusal (states g.B.Breaker.state c.args.watch.now) c.in-Err.ensures.no_breaker
 
 pub returns-in-Err-clause-counted : goal.returns-in-Err-clause-counted
-returns-in-Err-clause-counted g c = λ t is. inl c.in-Err.ensures.counted
+returns-in-Err-clause-counted g c = λ t is. inl (
+  none_known (refusal_in (reply_of c.in-Err.refusal)) (none_made (made (free_of c.args.pool.now) (values c.args.table.now (forest c.args.pool.now)) t) (name_of c.args.name) (reply_of c.in-Err.refusal) (c.in-Err.ensures.refused t (None, is))),
+  c.in-Err.ensures.counted,
+)
 
 pub returns-in-Err-clause-size : goal.returns-in-Err-clause-size
 returns-in-Err-clause-size g c = size_kept (refusal_in (reply_of c.in-Err.refusal)) c.args.pool.now c.build_and_fill.new.pool c.in-Err.ensures.counted

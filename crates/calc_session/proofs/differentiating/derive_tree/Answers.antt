@@ -1,8 +1,9 @@
 use Rattle.std.proofs.lemmas.Bool.{both_ways}
-use Rattle.std.proofs.Common.{◌≡◌, ◌∙◌, ◌+◌, ◌≤◌, ℕ, false, inl, inr, refl, sym, ap, subst, arith}
-use Rattle.calc_session.proofs.Shared.{states, name_of, depth, size, HasDerivative, derivative, free_of, IsExpression, plain, tree_of, Gives, tree_at, without_root, forest, KeepsRefusals, keeps_after, given_handed, given_other, given_rest, given_root, given_told, gives_as, owned, expression_root, plain_root, Refusal, refusal_of_evaluation, reply_of, IsReplyToDerivative, LacksDerivative, has_none, refusal_in, reported}
+use Rattle.std.proofs.Common.{◌≡◌, ◌∙◌, ◌+◌, ◌≤◌, ℕ, false, inl, inr, refl, sym, ap, subst}
+use Rattle.calc_session.proofs.Shared.{states, name_of, size, HasDerivative, derivative, free_of, IsExpression, plain, tree_of, Gives, tree_at, without_root, forest, KeepsRefusals, keeps_after, given_handed, given_other, given_rest, given_root, gives_as, owned, expression_root, plain_root, Refusal, refusal_of_evaluation, reply_of, IsReplyToDerivative, LacksDerivative, has_none, refusal_in, reported}
 use Rattle.node_pool.specs.State.{State}
 use Rattle.calc_session.specs.Deriving.{lacks_bytes}
+use Rattle.calc_session.proofs.CountingLemmas.{none_known, none_short}
 use Rattle.calc_session.proofs.DerivingLemmas.{beside_released, comes_reduced, front_beside, over}
 use Rattle.calc_session.proofs.EvaluationLemmas.{calm_refused, full_interrupts_none, keeps_then, size_kept}
 use Rattle.calc_session.proofs.differentiating.derive_tree.Goals.{After-id-id, After-release, After-refused}
@@ -16,14 +17,8 @@ same g c = ap (λ i. plain (tree_at i (forest c.args.pool.now))) c.id-id.ensures
 expression : (g : _) (c : After-id-id g) → IsExpression c.id-id.result (forest c.args.pool.now)
 expression g c = rw c.id-id.ensures (expression_root c.requires.stands (given_handed c.requires.last))
 
-shallow : (g : _) (c : After-id-id g) → depth (plain (tree_at c.id-id.result (forest c.args.pool.now))) ≤ 64
-shallow g c = omega (arith, ap depth (same g c), given_told c.requires.last)
-
 pub has_derivative-requires-clause-expression : goal.has_derivative-requires-clause-expression
 has_derivative-requires-clause-expression g c = expression g (goal.at.has_derivative-requires-clause-expression g c).After-id-id
-
-pub has_derivative-requires-clause-shallow : goal.has_derivative-requires-clause-shallow
-has_derivative-requires-clause-shallow g c = shallow g (goal.at.has_derivative-requires-clause-shallow g c).After-id-id
 
 pub returns-then-not-has_derivative-clause-reply : goal.returns-then-not-has_derivative-clause-reply
 returns-then-not-has_derivative-clause-reply g c =
@@ -36,13 +31,10 @@ pub returns-then-not-has_derivative-clause-interrupted : goal.returns-then-not-h
 returns-then-not-has_derivative-clause-interrupted g c = calm_refused refusal.NoDerivative (states g.B.Breaker.state c.args.watch.now) uninterrupted
 
 pub returns-then-not-has_derivative-clause-counted : goal.returns-then-not-has_derivative-clause-counted
-returns-then-not-has_derivative-clause-counted g c = inl (record { size = refl; refusals = refl; last_refused = refl })
+returns-then-not-has_derivative-clause-counted g c = inl (tt, record { size = refl; refusals = refl; last_refused = refl })
 
 pub derive-requires-clause-expression : goal.derive-requires-clause-expression
 derive-requires-clause-expression g c = expression g (goal.at.derive-requires-clause-expression g c).After-id-id
-
-pub derive-requires-clause-shallow : goal.derive-requires-clause-shallow
-derive-requires-clause-shallow g c = shallow g (goal.at.derive-requires-clause-shallow g c).After-id-id
 
 pub derive-requires-clause-derivable : goal.derive-requires-clause-derivable
 derive-requires-clause-derivable g c = c.has_derivative.ensures.0 c.if-not-has_derivative.false
@@ -76,7 +68,13 @@ returns-in-Ok-clause-reply g c =
     (subst (λ t. size (derivative x t) ≤ free_of c.args.pool.now) is (c.in-Ok.ensures.exactly.0 refl)) c.reduce_tree.ensures.reply
 
 pub returns-in-Ok-clause-counted : goal.returns-in-Ok-clause-counted
-returns-in-Ok-clause-counted g c = inl (keeps_then (refusal_of_evaluation c.reduce_tree.result) c.args.pool.now c.release.new.pool c.reduce_tree.new.pool (keeps_after _ _ _ c.in-Ok.ensures.kept c.release.ensures.kept) c.reduce_tree.ensures.counted)
+returns-in-Ok-clause-counted g c =
+    let x = name_of c.args.name in
+    let fits = subst (λ t. size (derivative x t) ≤ free_of c.args.pool.now) (same g (goal.at.returns-in-Ok-clause-counted g c).After-id-id) (c.in-Ok.ensures.exactly.0 refl) in
+    inl (
+      none_known (refusal_of_evaluation c.reduce_tree.result) (none_short x (free_of c.args.pool.now) (tree_of c.args.tree c.args.pool.now) fits),
+      keeps_then (refusal_of_evaluation c.reduce_tree.result) c.args.pool.now c.release.new.pool c.reduce_tree.new.pool (keeps_after _ _ _ c.in-Ok.ensures.kept c.release.ensures.kept) c.reduce_tree.ensures.counted,
+    )
 
 pub returns-in-Ok-clause-front : goal.returns-in-Ok-clause-front
 returns-in-Ok-clause-front g c = front_beside c.in-Ok.ensures.ok (released g (goal.at.returns-in-Ok-clause-front g c).After-release) c.reduce_tree.ensures.front

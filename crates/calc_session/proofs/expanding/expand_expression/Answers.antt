@@ -8,7 +8,7 @@ pub build_and_fill-requires-clause-entries : goal.build_and_fill-requires-clause
 build_and_fill-requires-clause-entries g c = held_entries c.args.table.now (forest c.args.pool.now) c.requires.held
 
 pub build_and_fill-requires-clause-line : goal.build_and_fill-requires-clause-line
-build_and_fill-requires-clause-line g c = let (t, is, shallow) = c.requires.line in (t, (None, is))
+build_and_fill-requires-clause-line g c = let (t, is) = c.requires.line in (t, (None, is))
 
 pub expand_tree-requires-clause-last : goal.expand_tree-requires-clause-last
 expand_tree-requires-clause-last g c = gives_as c.in-Ok.ensures.ok (sym (given_rest c.in-Ok.ensures.ok)) (λ u x. tt)

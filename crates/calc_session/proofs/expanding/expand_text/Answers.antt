@@ -8,7 +8,7 @@ use Rattle.calc_session.specs.declared.answers.LineAnswer.TheVariants as answer
 use Rattle.calc_session.proofs.expanding.expand_text.Goals as goal
 
 pub tell_expansion-requires-clause-line : goal.tell_expansion-requires-clause-line
-tell_expansion-requires-clause-line g c = let (t, r) = c.in-Ok.ensures.tree in (t, r.line-is, r.shallow)
+tell_expansion-requires-clause-line g c = let (t, r) = c.in-Ok.ensures.tree in (t, r.line-is)
 
 pub returns-in-Ok-clause-told : goal.returns-in-Ok-clause-told
 returns-in-Ok-clause-told g c = λ line behind.

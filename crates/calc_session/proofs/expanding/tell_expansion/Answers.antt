@@ -8,7 +8,7 @@ use Rattle.calc_session.proofs.expanding.tell_expansion.Goals as goal
 
 pub tell-answer-requires-clause-face : goal.tell-answer-requires-clause-face
 tell-answer-requires-clause-face g c =
-    let (t, is, shallow) = c.requires.line in
+    let (t, is) = c.requires.line in
     let before = states g.B.Breaker.state c.args.watch.now in
     let after = states g.B.Breaker.state c.expand_expression-evaluation.new.watch in
     has_face (λ reply. IsReplyToMade (made (free_of c.args.pool.now) (values c.args.table.now (forest c.args.pool.now)) t) before after (IsReplyToExpansion (free_of c.args.pool.now) before after) (reported reply))

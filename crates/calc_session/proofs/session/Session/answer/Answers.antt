@@ -3,6 +3,7 @@ use Rattle.calc_session.proofs.Shared.{states, AnswersUntold, refusal_of_pool, A
 use Rattle.calc_session.specs.Kept.{seen_of}
 use Rattle.calc_session.proofs.SessionLemmas.{answers_blank, answers_unread, calm_blank, calm_long}
 use Rattle.calc_session.proofs.CalculatingLemmas.{counted_seen}
+use Rattle.calc_session.proofs.CountingLemmas.{none_asked, none_known}
 use Rattle.calc_session.specs.declared.answers.Refusal.TheVariants as refusal
 use Rattle.calc_session.proofs.session.Session.answer.Goals as goal
 
@@ -23,10 +24,10 @@ pub returns-then-is_blank_line-clause-interrupted : goal.returns-then-is_blank_l
 returns-then-is_blank_line-clause-interrupted g c = calm_blank (states g.B.Breaker.state c.args.watch.now)
 
 pub returns-then-line-gt-LINE_LIMIT-clause-counted : goal.returns-then-line-gt-LINE_LIMIT-clause-counted
-returns-then-line-gt-LINE_LIMIT-clause-counted g c = inl (refl, refl)
+returns-then-line-gt-LINE_LIMIT-clause-counted g c = inl (tt, (refl, refl))
 
 pub returns-then-is_blank_line-clause-counted : goal.returns-then-is_blank_line-clause-counted
-returns-then-is_blank_line-clause-counted g c = inl (refl, refl)
+returns-then-is_blank_line-clause-counted g c = inl (tt, (refl, refl))
 
 pub returns-then-is_command-clause-answers : goal.returns-then-is_command-clause-answers
 returns-then-is_command-clause-answers g c =
@@ -39,4 +40,4 @@ returns-then-is_command-clause-counted g c =
     (counted_seen (AsksForTooMuch (state_of c.self.inside.pool c.self.inside.table) c.args.line.now) (seen_of c.self.inside) new (refusal_of_pool c.answer_command.result) c.answer_command.ensures.counted)
 
 pub returns-clause-counted : goal.returns-clause-counted
-returns-clause-counted g c = inl c.answer_text.ensures.counted
+returns-clause-counted g c = inl (none_known (refusal_of_pool c.answer_text.result) (none_asked c.args.self.now.state c.args.line.now (sym c.is_command.ensures ∙ c.if-is_command.false)), c.answer_text.ensures.counted)

@@ -1,0 +1,9 @@
+use Rattle.std.proofs.Common.{◌++◌, ◌∷◌, [], ℕ, List, OnErr, ap, subst}
+use Rattle.calc_edges.specs.Taken.{AppendsPart}
+use Rattle.calc_session.proofs.Shared.{Seen}
+use Rattle.calc_session.proofs.session.Session.print.Goals as goal
+
+pub returns-clause-part : goal.returns-clause-part
+returns-clause-part g c =
+    subst (λ (bytes : List ℕ). OnErr c.write_line.result (AppendsPart (g.K.Sink.taken c.args.sink.now) (g.K.Sink.taken c.write_line.new.sink) bytes))
+    (ap (λ (o : Seen). o.text ++ 10 ∷ []) c.self.view_is) c.write_line.ensures.part
