@@ -1,6 +1,6 @@
 -- Lemmas on the loop over the input, and how it ends.
-use Rattle.std.proofs.Common.{◌≡◌, ◌∙◌, ℕ, ◌-◌, ◌≤◌, ◌<◌, List, [], ◌++◌, length, Option, refl, ap, subst, arith, append_assoc, append-nil, length-append}
-use Rattle.poincare_run.proofs.Shared.{Appends, Consumes, IsAtEnd, Keeps, lines_of, line_of_rest, whole_lines, rest_of, Moment, Holds, session_limit, Writes, WritesPart, ReadsAll, ReadsPart, ReadsLimit, WriteStops, Answered, Continues, Breaks, Goes, IsUnderWay, Place, Appends-nil, Appends-trans, Consumes-nil, Consumes-trans, Consumes-kept, AppendsPart-after}
+use Rattle.std.proofs.Common.{◌≡◌, inl, inr, ℕ, ◌-◌, ◌≤◌, ◌<◌, List, [], ◌++◌, length, Option, refl, subst, arith, append-nil, length-append}
+use Rattle.poincare_run.proofs.Shared.{Appends, Consumes, IsAtEnd, Keeps, lines_of, whole_lines, rest_of, Moment, Holds, session_limit, Writes, WritesPart, ReadsAll, ReadsPart, ReadsLimit, WriteStops, Answered, Continues, Breaks, Goes, IsUnderWay, Place, Appends-nil, Appends-trans, Consumes-nil, Consumes-trans, Consumes-kept, AppendsPart-after}
 
 pub begins : (dialog : Place) (t k : Option (List ℕ)) → Holds dialog.line [] → IsUnderWay dialog.now t t k k session_limit dialog
 unfolding whole_lines rest_of
@@ -21,11 +21,11 @@ continued start lines out a b c h more = record {
   appended = Appends-trans a b c out more.out h more.appended;
 }
 
-broken : (start : Moment) (lines others : List (List ℕ)) (out : List ℕ) (a b c : Option (List ℕ)) → Appends a b out → Breaks start lines out b c → WritesPart start (lines ++ others) a c
-broken start lines others out a b c h more = record {
+broken : (start : Moment) (lines : List (List ℕ)) (out : List ℕ) (a b c : Option (List ℕ)) → Appends a b out → Breaks start lines out b c → WritesPart start lines a c
+broken start lines out a b c h more = record {
   answered = more.answered;
-  others = more.others ++ others;
-  lines_are = ap (λ ls. ls ++ others) more.lines_are ∙ append_assoc more.answered more.others others;
+  others = more.others;
+  lines_are = more.lines_are;
   out = out ++ more.out;
   transcript = more.transcript;
   appended = AppendsPart-after a b c out more.out h more.appended;
@@ -51,7 +51,7 @@ module _ (start : Moment) (t t' k k' : Option (List ℕ)) (left : ℕ) (dialog :
     input = h.input ++ bytes;
     read = Consumes-trans t t' u h.input bytes h.read read;
     within = omega (arith, h.limit, length-append h.input bytes);
-    written = broken start (whole_lines (h.input ++ bytes)) (line_of_rest (rest_of (h.input ++ bytes))) h.out k k' j h.appended (next start h.input h.out h.answered);
+    written = inl (broken start (whole_lines (h.input ++ bytes)) h.out k k' j h.appended (next start h.input h.out h.answered));
   }
 
   pub ends : (u j : Option (List ℕ)) → 0 < left → Consumes t' u [] → IsAtEnd u
@@ -64,13 +64,13 @@ module _ (start : Moment) (t t' k k' : Option (List ℕ)) (left : ℕ) (dialog :
     written = continued start (lines_of h.input) h.out k k' j h.appended (next start h.input h.out h.answered);
   }
 
-  pub end_fails : (u j : Option (List ℕ)) → Consumes t' u []
+  pub end_fails : (u j : Option (List ℕ)) → Consumes t' u [] → IsAtEnd u
       → ((start : Moment) (input out : List ℕ) → Answered start input out dialog → Breaks start (lines_of input) out k' j) → WriteStops start t u k j
-  end_fails u j read next = record {
+  end_fails u j read end next = record {
     input = h.input;
     read = subst (Consumes t u) (append-nil h.input) (Consumes-trans t t' u h.input [] h.read read);
     within = omega (arith, h.limit);
-    written = subst (λ ls. WritesPart start ls k j) (append-nil (lines_of h.input)) (broken start (lines_of h.input) [] h.out k k' j h.appended (next start h.input h.out h.answered));
+    written = inr (end, broken start (lines_of h.input) h.out k k' j h.appended (next start h.input h.out h.answered));
   }
 
   pub limit_reached : left ≡ 0 → ReadsLimit start t t' k k'

@@ -1,7 +1,8 @@
 -- Lemmas on the status of the program, and what it says.
 use Rattle.std.proofs.Common.{◌≡◌, ◌≢◌, ◌∙◌, ◌⊎◌, ℕ, ◌≤◌, List, [], ◌∷◌, ◌++◌, length, Bool, Option, Some, None, Contains, inl, inr, refl, sym, ap, subst, arith, length-append}
 use Rattle.poincare_run.proofs.Shared.{append_cancel_right, Consumes, State, Beginning, reads, generates, IfReads, IfGenerates, Moment, session_limit, ReadsAll, ReadsPart, ReadsLimit, WriteStops, SumsUp, SumsUpInPart, EndsAs, EndsFrom, IfNoMemory, IsSummed, StopsReading, StopsWriting, SumsUpAs, status}
-use Rattle.calc_edges.specs.Faults.{Rose, StopsAtFailure}
+use Rattle.calc_edges.specs.Faults.{IsCalm, Rose, StopsAtFailure}
+use Rattle.calc_edges.specs.declared.failures.Failures.{Failures}
 use Rattle.poincare_run.specs.declared.dialog.Ending.{Ending}
 use Rattle.poincare_run.specs.declared.dialog.Ending.TheVariants.{ReadToEnd, ReadFailed, WriteFailed, LimitReached, NoMemory}
 use Rattle.breakers.specs.State.{State as Breaker}
@@ -99,7 +100,7 @@ module _ (start : Moment) (t t' k k' : Option (List ℕ)) where
 
 -- ---- what failed, and what did not
 
-module _ {X : Type 0} (bytes : X → Option (List ℕ)) (faults : X → ℕ) (old new : X) where
+module _ {X : Type 0} (bytes : X → Option (List ℕ)) (faults : X → Failures) (old new : X) where
   pub read_stops : (ending : Ending) → StopsReading ending bytes faults old new → status ending ≡ 3 → StopsAtFailure bytes faults old new
   read_stops ReadToEnd h e = absurd (omega arith)
   read_stops ReadFailed h e = h
@@ -107,7 +108,7 @@ module _ {X : Type 0} (bytes : X → Option (List ℕ)) (faults : X → ℕ) (ol
   read_stops LimitReached h e = absurd (omega arith)
   read_stops NoMemory h e = absurd (omega arith)
 
-  pub reads_calm : (ending : Ending) → StopsReading ending bytes faults old new → status ending ≢ 3 → faults new ≡ faults old
+  pub reads_calm : (ending : Ending) → StopsReading ending bytes faults old new → status ending ≢ 3 → IsCalm (faults old) (faults new)
   reads_calm ReadToEnd h e = h
   reads_calm ReadFailed h e = absurd (e refl)
   reads_calm WriteFailed h e = h
@@ -121,7 +122,7 @@ module _ {X : Type 0} (bytes : X → Option (List ℕ)) (faults : X → ℕ) (ol
   write_stops LimitReached h e = absurd (omega arith)
   write_stops NoMemory h e = absurd (omega arith)
 
-  pub writes_calm : (ending : Ending) → StopsWriting ending bytes faults old new → status ending ≢ 4 → faults new ≡ faults old
+  pub writes_calm : (ending : Ending) → StopsWriting ending bytes faults old new → status ending ≢ 4 → IsCalm (faults old) (faults new)
   writes_calm ReadToEnd h e = h
   writes_calm ReadFailed h e = h
   writes_calm WriteFailed h e = absurd (e refl)
@@ -129,7 +130,7 @@ module _ {X : Type 0} (bytes : X → Option (List ℕ)) (faults : X → ℕ) (ol
   writes_calm NoMemory h e = h
 
   pub stopped_rose : StopsAtFailure bytes faults old new → Rose (faults old) (faults new)
-  stopped_rose h = subst (λ n. Rose n (faults new)) h.calm h.failed
+  stopped_rose h = grind (arith, h.calm, h.once)
 
 -- ---- generated sessions
 
@@ -222,7 +223,7 @@ early_too WriteFailed P Q p h = tt
 early_too LimitReached P Q p h = tt
 early_too NoMemory P Q p h = (p, h)
 
-pub nothing_stops : {X : Type 0} (bytes : X → Option (List ℕ)) (faults : X → ℕ) (x : X) (ending : Ending) → IsSummed ending → StopsReading ending bytes faults x x
+pub nothing_stops : {X : Type 0} (bytes : X → Option (List ℕ)) (faults : X → Failures) (x : X) (ending : Ending) → IsSummed ending → StopsReading ending bytes faults x x
 nothing_stops bytes faults x ReadToEnd h = refl
 nothing_stops bytes faults x ReadFailed h = absurd h
 nothing_stops bytes faults x WriteFailed h = refl

@@ -1,6 +1,6 @@
 -- How a session ends: what was read of the source, and what was written to the sink.
 -- Of the source and the sink: the bytes that are left and the bytes that were taken, at the beginning and at the end, where they tell them.
-use Rattle.std.specs.Prelude.{◌≡◌, ℕ, ◌<◌, ◌≤◌, List, [], ◌∷◌, ◌++◌, length, Option}
+use Rattle.std.specs.Prelude.{◌≡◌, ◌⊎◌, ℕ, ◌<◌, ◌≤◌, List, [], ◌∷◌, ◌++◌, length, Option}
 use Rattle.std.specs.Io.KnownBytes.{Appends, Consumes, IsAtEnd}
 use Rattle.calc_edges.specs.Taken.{AppendsPart}
 use Rattle.poincare_run.specs.Lines.{lines_of, whole_lines}
@@ -49,12 +49,12 @@ pub record ReadsLimit (start : Moment) (told told' taken taken' : Option (List �
   pub all : length input ≡ session_limit
   pub written : Writes start (whole_lines input) taken taken'
 
--- a part of the answers to what was read was written
+-- a part of the answers to what was read was written: to the lines that were whole, and to the rest too only where the source is at its end
 pub record WriteStops (start : Moment) (told told' taken taken' : Option (List ℕ)) : Type 0 where
   pub input : List ℕ
   pub read : Consumes told told' input
   pub within : length input ≤ session_limit
-  pub written : WritesPart start (lines_of input) taken taken'
+  pub written : WritesPart start (whole_lines input) taken taken' ⊎ (IsAtEnd told' × WritesPart start (lines_of input) taken taken')
 
 -- the lines of the session of a number are answered from this moment on, and the summary is what is written
 pub record SumsUp (start : Moment) (number : ℕ) (taken taken' : Option (List ℕ)) : Type 0 where

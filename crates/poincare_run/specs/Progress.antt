@@ -4,7 +4,8 @@ use Rattle.std.specs.Str.Lines.{strip_carriage_return}
 use Rattle.std.specs.Io.KnownBytes.{Appends, Consumes}
 use Rattle.breakers.specs.State.{State as Breaker}
 use Rattle.breakers.specs.Watch.{states}
-use Rattle.calc_edges.specs.Faults.{StopsAtFailure}
+use Rattle.calc_edges.specs.Faults.{IsCalm, StopsAtFailure}
+use Rattle.calc_edges.specs.declared.failures.Failures.{Failures}
 use Rattle.calc_edges.specs.Taken.{AppendsPart}
 use Rattle.calc_session.specs.Answers.{IsAnswer, printed}
 use Rattle.calc_session.specs.Replies.{Reply, text_of}
@@ -124,14 +125,14 @@ IfNoMemory NoMemory P = P
 IfNoMemory _ P = ⊤
 
 -- the reading stopped at a read that failed, or no read failed
-abbrev pub StopsReading : {X : Type 0} → Ending → (X → Option (List ℕ)) → (X → ℕ) → X → X → Type 0
+abbrev pub StopsReading : {X : Type 0} → Ending → (X → Option (List ℕ)) → (X → Failures) → X → X → Type 0
 StopsReading ReadFailed told faults old new = StopsAtFailure told faults old new
-StopsReading _ told faults old new = faults new ≡ faults old
+StopsReading _ told faults old new = IsCalm (faults old) (faults new)
 
 -- the writing stopped at a write that failed, or no write failed
-abbrev pub StopsWriting : {X : Type 0} → Ending → (X → Option (List ℕ)) → (X → ℕ) → X → X → Type 0
+abbrev pub StopsWriting : {X : Type 0} → Ending → (X → Option (List ℕ)) → (X → Failures) → X → X → Type 0
 StopsWriting WriteFailed taken faults old new = StopsAtFailure taken faults old new
-StopsWriting _ taken faults old new = faults new ≡ faults old
+StopsWriting _ taken faults old new = IsCalm (faults old) (faults new)
 
 -- the status of the program
 abbrev pub status : Ending → ℕ

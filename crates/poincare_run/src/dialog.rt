@@ -1,7 +1,7 @@
 //! The dialog between a source and a sink: each line that comes is answered.
 ghost use Rattle.std.specs.Prelude.{◌≡◌, ℕ, ◌+◌, ◌^◌, ◌<◌, ◌≤◌, List, [], ◌∷◌, ◌++◌, length, take, OnOk, OnErr, IfOk};
 ghost use Rattle.std.specs.Io.KnownBytes.{Appends, Consumes, IsAtEnd, Keeps};
-ghost use Rattle.calc_edges.specs.Faults.{HasCause, StopsAtFailure};
+ghost use Rattle.calc_edges.specs.Faults.{HasCause, StopsAtFailure, counted};
 ghost use Rattle.calc_edges.specs.Taken.{AppendsPart};
 ghost use Rattle.poincare_run.specs.Lines.{lines_of, whole_lines};
 ghost use Rattle.poincare_run.specs.Steps.{Moment, picture_if, picture_text};
@@ -240,6 +240,7 @@ fn read_piece<S: Source>(source: &mut S, piece: &mut [u8], left: usize) -> Resul
     ensures end { IfOk result (λ n. n ≡ 0 → IsAtEnd (S.told source.new)) }
     ensures kept { OnErr result (Keeps (S.told source.old) (S.told source.new)) }
     ensures cause { HasCause (S.faults source.old) (S.faults source.new) result }
+    ensures counted { S.faults source.new ≡ counted result (S.faults source.old) }
 {
     let room = left.min(piece.len());
     source.read(&mut piece[..room])

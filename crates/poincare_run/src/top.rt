@@ -1,6 +1,6 @@
 ghost use Rattle.std.specs.Prelude.{◌≡◌, ◌≢◌, ℕ, ◌≤◌, ◌<◌, ◌^◌, ◌⊎◌, List, [], ◌∷◌, ◌++◌, length, map, vec_len, Contains, None, Some};
 ghost use Rattle.breakers.specs.Watch.{states};
-ghost use Rattle.calc_edges.specs.Faults.{Rose, StopsAtFailure};
+ghost use Rattle.calc_edges.specs.Faults.{IsCalm, Rose, StopsAtFailure};
 ghost use Rattle.poincare_run.specs.Beginnings.{armed as armed_by, beginning_of, begun, IfReads, IfGenerates};
 ghost use Rattle.poincare_run.specs.Buffer.{Holds};
 ghost use Rattle.poincare_run.specs.Endings.{session_limit, ReadsAll, ReadsPart, ReadsLimit, WriteStops, SumsUp, SumsUpInPart};
@@ -43,19 +43,20 @@ pub fn run<S: Source, K: Sink, B: Breaker>(
     ensures answered { result ≡ 0 → IfReads (beginning_of B.state words.now breakers.items) (λ start.
         ReadsAll start (S.told source.old) (S.told source.new) (K.taken sink.old) (K.taken sink.new)) }
 
-    // Status 3: the source failed, and nothing was read behind that. The answers to the lines that were whole were
+    // Status 3: the source failed, and nothing was asked of it behind that. The answers to the lines that were whole were
     // written. At another status no read failed.
     ensures read_failed { result ≡ 3 → Rose (S.faults source.old) (S.faults source.new) }
     ensures read_stops { result ≡ 3 → StopsAtFailure S.told S.faults source.old source.new }
-    ensures reads_calm { result ≢ 3 → S.faults source.new ≡ S.faults source.old }
+    ensures reads_calm { result ≢ 3 → IsCalm (S.faults source.old) (S.faults source.new) }
     ensures read_in_part { result ≡ 3 → IfReads (beginning_of B.state words.now breakers.items) (λ start.
         ReadsPart start (S.told source.old) (S.told source.new) (K.taken sink.old) (K.taken sink.new)) }
 
-    // Status 4: the sink failed, and nothing was written behind that. A part of the answers was written.
+    // Status 4: the sink failed, and nothing was asked of it behind that. A part of the answers to the lines that were whole
+    // was written, or to all where the input was read to its end.
     // At another status no write failed.
     ensures write_failed { result ≡ 4 → Rose (K.faults sink.old) (K.faults sink.new) }
     ensures write_stops { result ≡ 4 → StopsAtFailure K.taken K.faults sink.old sink.new }
-    ensures writes_calm { result ≢ 4 → K.faults sink.new ≡ K.faults sink.old }
+    ensures writes_calm { result ≢ 4 → IsCalm (K.faults sink.old) (K.faults sink.new) }
     ensures written_in_part { result ≡ 4 → IfReads (beginning_of B.state words.now breakers.items) (λ start.
         WriteStops start (S.told source.old) (S.told source.new) (K.taken sink.old) (K.taken sink.new)) }
 

@@ -6,12 +6,16 @@ use Rattle.poincare_run.proofs.dialog.Dialog.serve.Goals as goal
 pub loop-left-init : goal.loop-left-init
 loop-left-init g c = record { under_way = begins _ _ _ c.requires.fresh; reads_calm = refl; writes_calm = refl }
 
+-- the source failed
+pub returns-in_default-clause-reads : goal.returns-in_default-clause-reads
+returns-in_default-clause-reads g c = record { last = c.loop-left.source; calm = c.loop-left.invariant.reads_calm; kept = c.in_default.ensures.kept; once = c.in_default.ensures.counted }
+
 pub returns-in-Ok-finish-clause-ends : goal.returns-in-Ok-finish-clause-ends
 returns-in-Ok-finish-clause-ends g c =
     ends _ _ _ _ _ _ _ c.loop-left.invariant.under_way _ _ (omega arith) (rw c.if-count-eq0.true at c.in-Ok.ensures.given) (c.in-Ok.ensures.end c.if-count-eq0.true) c.in-Ok-finish.ensures.ok
 
 pub returns-in-Err-clause-ends : goal.returns-in-Err-clause-ends
-returns-in-Err-clause-ends g c = end_fails _ _ _ _ _ _ _ c.loop-left.invariant.under_way _ _ (rw c.if-count-eq0.true at c.in-Ok.ensures.given) c.in-Err.ensures.err
+returns-in-Err-clause-ends g c = end_fails _ _ _ _ _ _ _ c.loop-left.invariant.under_way _ _ (rw c.if-count-eq0.true at c.in-Ok.ensures.given) (c.in-Ok.ensures.end c.if-count-eq0.true) c.in-Err.ensures.err
 
 pub returns-in-Err-clause-writes : goal.returns-in-Err-clause-writes
 returns-in-Err-clause-writes g c = stops_later _ _ _ _ _ c.loop-left.invariant.writes_calm c.in-Err.ensures.stops

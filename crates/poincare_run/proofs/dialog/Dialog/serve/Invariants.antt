@@ -1,4 +1,4 @@
-use Rattle.std.proofs.Common.{◌≡◌}
+use Rattle.calc_edges.specs.Faults.{IsCalm}
 use Rattle.poincare_run.proofs.Shared.{IsUnderWay, place_of}
 use Rattle.poincare_run.proofs.dialog.Dialog.serve.Given as goal
 
@@ -6,8 +6,8 @@ use Rattle.poincare_run.proofs.dialog.Dialog.serve.Given as goal
 abbrev pub invariant-loop-left : goal.invariant-loop-left
 invariant-loop-left g l = record {
   under_way : IsUnderWay (place_of g.B.Breaker.state l.fn.self).now (g.S.Source.told l.fn.source) (g.S.Source.told l.source) (g.K.Sink.taken l.fn.sink) (g.K.Sink.taken l.sink) l.left (place_of g.B.Breaker.state l.self);
-  reads_calm : g.S.Source.faults l.source ≡ g.S.Source.faults l.fn.source;
-  writes_calm : g.K.Sink.faults l.sink ≡ g.K.Sink.faults l.fn.sink;
+  reads_calm : IsCalm (g.S.Source.faults l.fn.source) (g.S.Source.faults l.source);
+  writes_calm : IsCalm (g.K.Sink.faults l.fn.sink) (g.K.Sink.faults l.sink);
 }
 
 abbrev pub decreases-loop-left : goal.decreases-loop-left
