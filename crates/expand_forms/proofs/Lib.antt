@@ -11,7 +11,6 @@ pub mod FactorTrees
 pub mod ExpandedMeanings
 pub mod ReducedExpansions
 pub mod SameCoefficients
-pub mod Shorts
 pub mod MonomialProducts
 pub mod TermPolynomials
 pub mod SumPlaces
