@@ -13,7 +13,9 @@ use node_pool::{Id, Pool};
 use rational128::{add, invert, mul, neg};
 use tree_handles::{Handle, child_id, children, kind, rational};
 
-/// The rational that a node over one or two rationals reduces to, where its value fits.
+/// The rational that a node over one or two rationals reduces to, where its value fits. It is no part of its caller, of
+/// which each level of a tree has one on the machine's stack.
+#[inline(never)]
 pub(crate) fn folded(pool: &Pool, tree: &Handle) -> Option<Rat>
     requires stands { Stands pool.now }
     requires handed { IsHanded tree.now (forest pool.now) }
@@ -66,9 +68,14 @@ fn both(pool: &Pool, id: Id) -> Option<(Rat, Rat)>
     if children(pool, id) != 2 {
         return None;
     }
-    let left = rational_at(pool, child_id(pool, id, 0))?;
-    let right = rational_at(pool, child_id(pool, id, 1))?;
-    Some((left, right))
+    let left = child_id(pool, id, 0);
+    match kind(pool, left) {
+        Kind::Num => {
+            let right = rational_at(pool, child_id(pool, id, 1))?;
+            Some((rational(pool, left), right))
+        }
+        _ => None,
+    }
 }
 
 /// The child of a node, where it is the only one, and a rational.
