@@ -33,7 +33,7 @@ fronted : (c form id count children : ℕ) (p : List ℕ) → c < 256 → form <
 unfolding low_bytes
 fronted c form id count children p hc hf hi hn hk = record { code = omega arith; form = omega arith; id = omega arith; count = omega arith; children = omega arith; rest = refl }
 
-code_small : (k : Kind) → code_of k < 256
+pub code_small : (k : Kind) → code_of k < 256
 code_small kind.Num = lit< tt
 code_small kind.Sym = lit< tt
 code_small kind.Undef = lit< tt
@@ -58,7 +58,7 @@ bare_at kind.Num b p h = absurd cc
 bare_at kind.Sym b p h = absurd cc
 bare_at k b p h = refl
 
-form_small : (b : Bool) → form_of b < 256
+pub form_small : (b : Bool) → form_of b < 256
 form_small true = lit< tt
 form_small false = lit< tt
 

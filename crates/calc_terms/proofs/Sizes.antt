@@ -1,9 +1,11 @@
 -- The bytes of a node: 8 at least, 16 or 40 for a number, and always a multiple of 8.
-use Rattle.std.proofs.Common.{◌≡◌, ℕ, pos, ◌^◌, ◌<◌, ◌≤◌, Bool, true, false, refl, arith}
+use Rattle.std.proofs.Common.{◌≡◌, ℕ, pos, ◌^◌, ◌<◌, ◌≤◌, Bool, true, false, refl, arith, ap, cond, eqb, ltb, sym, ◌∙◌}
+use Rattle.std.proofs.lemmas.Bool.{le-ltb, lt-ltb, ne_eqb}
 use Rattle.calc_terms.specs.declared.kind.Kind.{Kind}
 use Rattle.calc_terms.specs.declared.kind.Kind.TheVariants as kind
 use Rattle.calc_terms.specs.Fractions.{Fraction, lowest}
-use Rattle.calc_terms.specs.Kind.{size_by_form}
+use Rattle.calc_terms.specs.Kind.{code_of, size_by_form}
+use Rattle.calc_terms.specs.Node.{form_of}
 use Rattle.calc_terms.specs.Payload.{Payload, kind_of_payload, has_short_form, size_of_payload, is_bare}
 use Rattle.calc_terms.specs.Short.{is_short}
 use Rattle.calc_terms.specs.Trees.{Tree, num, whole_num, size, root_size, root_kind, has_short_root}
@@ -58,3 +60,43 @@ by_form b e = rw e refl
 
 pub whole_size : (n : ℕ) → n < 2 ^ 63 → size (whole_num n) ≡ 16
 whole_size n h = by_form (is_short (lowest (pos n) 1)) (whole_short n h)
+
+-- the bytes that a code and a form tell
+abbrev size_told : ℕ → ℕ → ℕ
+size_told code form = cond (ltb 2 code) 8 (cond (eqb code 2) 16 (cond (eqb form 0) 40 16))
+
+told : (k : Kind) (b : Bool) → size_told (code_of k) (form_of b) ≡ size_by_form k b
+told kind.Num true = refl
+told kind.Num false = refl
+told kind.Sym b = refl
+told kind.Undef b = refl
+told kind.Add b = refl
+told kind.Mult b = refl
+told kind.Pow b = refl
+told kind.Root b = refl
+told kind.Neg b = refl
+told kind.Sub b = refl
+told kind.Div b = refl
+told kind.Row b = refl
+told kind.Fraction b = refl
+told kind.Raised b = refl
+told kind.Radical b = refl
+told kind.Paren b = refl
+told kind.Plus b = refl
+told kind.Minus b = refl
+told kind.Times b = refl
+
+pub told_by : (code form size : ℕ) (k : Kind) (b : Bool) → size_told code form ≡ size → code ≡ code_of k → form ≡ form_of b → size ≡ size_by_form k b
+told_by code form size k b e hc hf = sym e ∙ ap (λ (c : ℕ). size_told c form) hc ∙ ap (size_told (code_of k)) hf ∙ told k b
+
+pub told_more : (code form : ℕ) → 2 < code → size_told code form ≡ 8
+told_more code form h = rw (lt-ltb 2 code h) refl
+
+pub told_two : (code form : ℕ) → code ≡ 2 → size_told code form ≡ 16
+told_two code form h = ap (λ (c : ℕ). size_told c form) h
+
+pub told_long : (code form : ℕ) → code ≤ 2 → (code ≡ 2 → ⊥) → form ≡ 0 → size_told code form ≡ 40
+told_long code form h ne e = rw (le-ltb 2 code h, ne_eqb code 2 ne, e) refl
+
+pub told_short : (code form : ℕ) → code ≤ 2 → (code ≡ 2 → ⊥) → (form ≡ 0 → ⊥) → size_told code form ≡ 16
+told_short code form h ne e = rw (le-ltb 2 code h, ne_eqb code 2 ne, ne_eqb form 0 e) refl

@@ -1,8 +1,9 @@
 //! What nodes are made of.
-ghost use Rattle.std.specs.Prelude.{◌≡◌};
+ghost use Rattle.std.specs.Prelude.{◌≡◌, Bool};
 ghost use Rattle.calc_terms.specs.Leaf.{payload_of};
 ghost use Rattle.calc_terms.specs.Payload.{kind_of_payload, has_short_form, size_of_payload};
-ghost use Rattle.calc_terms.specs.Node.{header_of, fresh, size_of_header};
+ghost use Rattle.calc_terms.specs.Node.{form_of, header_of, fresh, size_of_header};
+ghost use Rattle.calc_terms.specs.Kind.{code_of, size_by_form};
 
 use crate::kind::Kind;
 use crate::name::Name;
@@ -80,4 +81,18 @@ impl Header {
             _ => 8,
         }
     }
+}
+
+/// The bytes of a node, told by the first two bytes of its header: the code of its kind, and the form.
+#[inline(always)]
+pub fn size_by_code(code: u8, form: u8) -> u32
+    ensures { (kind : Kind) (short : Bool) → code ≡ code_of kind → form ≡ form_of short → result ≡ size_by_form kind short }
+{
+    if code > 2 {
+        return 8;
+    }
+    if code == 2 {
+        return 16;
+    }
+    if form == 0 { 40 } else { 16 }
 }

@@ -11,7 +11,7 @@ mod rat;
 
 pub use euclid::gcd;
 pub use kind::Kind;
-pub use leaf::{Header, Leaf};
+pub use leaf::{Header, Leaf, size_by_code};
 pub use name::Name;
 pub use node::bytes_read_back;
 pub use rat::Rat;
