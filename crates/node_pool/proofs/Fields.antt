@@ -1,7 +1,7 @@
 -- A buffer whose bytes are those of a list of nodes.
 use Rattle.std.proofs.Common.{List, ap, arith, drop, get_or, length, refl, replicate, sym, take, ℕ, Bool, ◌==◌, ◌++◌, ◌+◌, ◌-◌, ◌<◌, ◌∙◌, ◌∷◌, ◌≡◌, ◌≤◌}
 use Rattle.std.specs.Prelude.{Option}
-use Rattle.node_pool.proofs.Shared.{bytes_in, drop-drop, kind_of, Node, from_bytes, header_in, short_at, header_of, kind_at, kind_or_undef, size_of, size_of_header, Kind, Header, header_in-encoding, Contents, IsContents, nodes_of, IsLaid, contents_of, AreNodes, encodings, first_of, used, IsBoundary, since}
+use Rattle.node_pool.proofs.Shared.{bytes_in, code_of, code_small, drop-drop, encoding, form_of, form_small, has_short_form, header_bytes, kind_of_payload, low_bytes, kind_of, Node, from_bytes, header_in, short_at, header_of, kind_at, kind_or_undef, size_of, size_of_header, Kind, Header, header_in-encoding, Contents, IsContents, nodes_of, IsLaid, contents_of, AreNodes, encodings, first_of, used, IsBoundary, since}
 use Rattle.node_pool.specs.declared.buffer.Buffer.TheInside.{Inside}
 use Rattle.node_pool.proofs.Numbers.{byte_read}
 use Rattle.node_pool.proofs.Sizes.{length-nodes_of, nodes_of-encodings, size_from}
@@ -69,6 +69,31 @@ has_room b c at k e place lt =
     let o = opened b c k e in
     let x = here at c.nodes b.store (replicate (length b.store - used c.nodes) 0) o.bytes o.nodes place lt in
     omega (arith, x.1.room, size_from x.0, o.fits)
+
+-- the first two bytes of the node at a place
+code_byte : (n : Node) (rest : List ℕ) → from_bytes (take 1 (encoding n ++ rest)) ≡ code_of (kind_of_payload n.payload)
+unfolding encoding header_bytes low_bytes
+code_byte n rest = omega (arith, code_small (kind_of_payload n.payload))
+
+form_byte : (n : Node) (rest : List ℕ) → from_bytes (take 1 (drop 1 (encoding n ++ rest))) ≡ form_of (has_short_form n.payload)
+unfolding encoding header_bytes low_bytes
+form_byte n rest = omega (arith, form_small (has_short_form n.payload))
+
+pub record IsCoded (c f at : ℕ) (ns : List Node) : Type 0 where
+  pub code : c ≡ code_of (kind_of_payload (first_of (since at ns)).payload)
+  pub form : f ≡ form_of (has_short_form (first_of (since at ns)).payload)
+
+pub coded : (b : Inside) (c : Contents) (at : ℕ) → IsLaid b → contents_of b ≡ c → IsBoundary at c.nodes → at < used c.nodes → IsCoded (get_or b.store at 0) (get_or b.store (at + 1) 0) at c.nodes
+coded b c at k e place lt =
+    let o = opened b c k e in
+    let ns = c.nodes in
+    let x = here at ns b.store (replicate (length b.store - used ns) 0) o.bytes o.nodes place lt in
+    let room = has_room b c at k e place lt in
+    let first : first_of (since at ns) ≡ x.0 = ap first_of x.1.rest in
+    record {
+      code = sym (byte_read b.store at (omega arith)) ∙ ap (λ (xs : List ℕ). from_bytes (take 1 xs)) x.1.bytes ∙ code_byte x.0 x.1.behind ∙ ap (λ (n : Node). code_of (kind_of_payload n.payload)) (sym first);
+      form = sym (byte_read b.store (at + 1) (omega arith)) ∙ ap (λ (xs : List ℕ). from_bytes (take 1 xs)) (sym (drop-drop 1 at b.store)) ∙ ap (λ (xs : List ℕ). from_bytes (take 1 (drop 1 xs))) x.1.bytes ∙ form_byte x.0 x.1.behind ∙ ap (λ (n : Node). form_of (has_short_form n.payload)) (sym first);
+    }
 
 -- the kind whose code is read at a place
 pub kind_is : (xs : List ℕ) (at code : ℕ) (k : Option Kind) → at < length xs → code ≡ get_or xs at 0 → k ≡ kind_of code → kind_or_undef k ≡ kind_at (drop at xs)

@@ -1,5 +1,5 @@
 -- The names that the proofs share.
-pub use Rattle.calc_terms.proofs.Codec.{back_unsigned, drop-encoding, header_in-encoding, header_is, length-encoding, length-header_bytes, node_at-encoding, number_at-number_bytes, short_at-encoding}
+pub use Rattle.calc_terms.proofs.Codec.{back_unsigned, code_small, form_small, drop-encoding, header_in-encoding, header_is, length-encoding, length-header_bytes, node_at-encoding, number_at-number_bytes, short_at-encoding}
 pub use Rattle.calc_terms.proofs.LowBytes.{length-low_bytes}
 pub use Rattle.calc_terms.proofs.ShortForm.{short_parts}
 pub use Rattle.calc_terms.specs.Kind.{code_of, kind_of, size_by_form}

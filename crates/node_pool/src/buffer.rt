@@ -4,14 +4,14 @@ ghost use Rattle.calc_terms.specs.declared.kind.Kind.TheVariants.{Num, Sym};
 ghost use Rattle.calc_terms.specs.Rat.{ratio_of};
 ghost use Rattle.calc_terms.specs.Payload.{rational, named, kind_of_payload, size_of_payload};
 ghost use Rattle.calc_terms.specs.Leaf.{payload_of, name_of, IsUsable};
-ghost use Rattle.calc_terms.specs.Node.{header_of, fresh, size_of_header};
+ghost use Rattle.calc_terms.specs.Node.{header_of, fresh, size_of, size_of_header};
 ghost use Rattle.node_pool.specs.Nodes.{used, has, place_of, first_of, payload_of_id, with_count, with_children};
 ghost use Rattle.node_pool.specs.Places.{since, between, without, swapped, exchanged, IsBoundary};
 ghost use Rattle.node_pool.specs.Contents.{bytes_in, IsContents};
 
 use crate::node;
 use crate::store::Store;
-use calc_terms::{Header, Leaf, Name, Rat};
+use calc_terms::{Header, Leaf, Name, Rat, size_by_code};
 use std::alloc::{AllocError, Global};
 use std::marker::Model;
 
@@ -107,6 +107,19 @@ impl Buffer {
         // What a buffer keeps is known once a field is read.
         let _used = self.used;
         node::header_at(bytes, at)
+    }
+
+    /// The bytes of the node that begins at a place, from the buffer's bytes.
+    #[inline(always)]
+    pub fn size_in(&self, bytes: &[u8], at: u32) -> u32
+        requires bytes { bytes.now ≡ bytes_in self.now }
+        requires boundary { IsBoundary at self.now.nodes }
+        requires inside { at < used self.now.nodes }
+        ensures { result ≡ size_of (first_of (since at self.now.nodes)) }
+    {
+        let _used = self.used;
+        let place = at as usize;
+        size_by_code(bytes[place], bytes[place + 1])
     }
 
     pub fn rational(&self, id: u16, at: u32) -> Rat

@@ -123,7 +123,7 @@ fn release_nodes(
     while at < to {
         let header = buffer.header_in(bytes, at);
         below = release(flags, below, header.id);
-        at += header.size();
+        at += buffer.size_in(bytes, at);
         gone += 1;
     }
     (below, gone)
@@ -162,7 +162,7 @@ fn release_trees(
             break;
         }
         below = release(flags, below, header.id);
-        at += header.size();
+        at += buffer.size_in(bytes, at);
         owed = owed - 1 + u64::from(header.children);
         gone += 1;
     }

@@ -73,6 +73,6 @@ fn note_nodes(list: &mut [u32], buffer: &Buffer, bytes: &[u8], from: u32, to: u3
     while at < to {
         let header = buffer.header_in(bytes, at);
         list[usize::from(header.id)] = at;
-        at += header.size();
+        at += buffer.size_in(bytes, at);
     }
 }

@@ -4,7 +4,7 @@ ghost use Rattle.calc_terms.specs.declared.kind.Kind.TheVariants.{Num, Sym};
 ghost use Rattle.calc_terms.specs.Rat.{ratio_of};
 ghost use Rattle.calc_terms.specs.Payload.{rational, named, kind_of_payload, size_of_payload};
 ghost use Rattle.calc_terms.specs.Leaf.{payload_of, name_of, IsUsable};
-ghost use Rattle.calc_terms.specs.Node.{header_of, fresh};
+ghost use Rattle.calc_terms.specs.Node.{header_of, fresh, size_of};
 ghost use Rattle.node_pool.specs.Nodes.{used, has, place_of, first_of, payload_of_id, with_count, with_children, IsLeastFree};
 ghost use Rattle.node_pool.specs.Places.{since, between, without, swapped, moved, exchanged, IsBoundary};
 ghost use Rattle.node_pool.specs.Contents.{IsContents};
@@ -139,6 +139,17 @@ impl Pool {
         ensures pool { IsPool self.now }
     {
         self.buffer.header(at)
+    }
+
+    /// The bytes of the node that begins at a place.
+    #[inline(always)]
+    pub fn size_at(&self, at: u32) -> u32
+        requires boundary { IsBoundary at self.now.nodes }
+        requires inside { at < used self.now.nodes }
+        ensures value { result ≡ size_of (first_of (since at self.now.nodes)) }
+        ensures pool { IsPool self.now }
+    {
+        self.buffer.size_in(self.buffer.bytes(), at)
     }
 
     /// The value of a number.

@@ -15,22 +15,23 @@ pub loop-owed-preserved : goal.loop-owed-preserved
 loop-owed-preserved c =
     let ns = c.args.buffer.now.nodes in
     let h = c.header_in-header.ensures in
+    let same : c.size_in-at.result ≡ size_of_header c.header_in-header.result = c.size_in-at.ensures ∙ ap size_of_header (sym h.value) in
     let i = c.loop-owed.invariant in
     let at = c.loop-owed.at in
     let owed = c.loop-owed.owed in
-    let next = at + c.size-at.result in
+    let next = at + c.size_in-at.result in
     let still = owed - 1 + c.from.result in
     let n = first_of (since at ns) in
-    let size : c.size-at.result ≡ size_of n = c.size-at.ensures ∙ ap size_of_header h.value in
+    let size : c.size_in-at.result ≡ size_of n = c.size_in-at.ensures in
     let kids : c.from.result ≡ n.children = c.from.ensures ∙ ap (λ (y : Header). y.children) h.value in
     let id : c.header_in-header.result.id ≡ n.id = ap (λ (y : Header). y.id) h.value in
     let few : n.count ≤ 1 = subst (λ (y : Header). y.count ≤ 1) h.value (omega (arith, c.if-header-gt1.false)) in
-    let rest : since at ns ≡ n ∷ since next ns = rw c.size-at.ensures h.rest in
+    let rest : since at ns ≡ n ∷ since next ns = rw same h.rest in
     let left = unheld still (since next ns) in
     let more : unheld owed (since at ns) ≡ n ∷ left = unheld_more owed (since at ns) n (since next ns) rest c.loop-owed-test.true few ∙ ap (λ (k : ℕ). n ∷ unheld (owed - 1 + k) (since next ns)) (sym kids) in
     let r = released c.loop-owed.flags c.release-below.new.flags (since at ns) (since next ns) n c.header_in-header.result.id rest id c.release-below.ensures.flags i.known in
     record {
-      boundary = rw c.size-at.ensures h.next;
+      boundary = rw same h.next;
       known = r.0;
       taken = c.release-below.ensures.taken;
       few = omega (arith, i.few, c.from.ensures, size, size_from n);
