@@ -2,10 +2,6 @@
 use Rattle.std.proofs.Common.{arith, ◌≡◌, ℕ, ◌≤◌, List, [], sym, ap, ◌∙◌}
 use Rattle.tree_handles.proofs.Shared.{Header, Node, size_of, header_of, size_of_header, used, first_of, since, State, since_end, skip}
 
--- the size that a header tells
-pub size_at : (s : State) (at size : ℕ) (h : Header) → h ≡ header_of (first_of (since at s.nodes)) → size ≡ size_of_header h → size ≡ size_of (first_of (since at s.nodes))
-size_at s at size h e q = q ∙ ap size_of_header e
-
 skip_nil : (k : ℕ) → skip k [] ≡ []
 skip_nil k = grind arith
 

@@ -32,6 +32,7 @@ pub fn take_child(pool: &mut Pool, parent: &Handle, at: u16) -> Handle
 }
 
 /// The same of a child that is known by its identifier. No step is made over its siblings.
+#[inline(always)]
 pub fn take_known_child(pool: &mut Pool, parent: &Handle, child: Id) -> Handle
     requires stands { Stands pool.old }
     requires known { (at : ℕ) × IsChildAt at parent.now child (forest pool.old) }

@@ -24,7 +24,7 @@ pub fn step(pool: &Pool, at: u32) -> (Header, u32)
     ensures pool { IsPool pool.now }
 {
     let header = pool.header(at);
-    (header, at + header.size())
+    (header, at + pool.size_at(at))
 }
 
 /// The place behind a number of trees that begin at a place.

@@ -1,12 +1,11 @@
 use Rattle.std.proofs.Common.{◌≡◌, ℕ, ◌+◌, ap}
 use Rattle.tree_handles.proofs.Shared.{size_of, first_of, since, IsStep, step}
-use Rattle.tree_handles.proofs.Walks.{size_at}
 use Rattle.tree_handles.proofs.walk.step.Goals as goal
 
-next : (c : goal.After-size) → c.args.at + c.size.result ≡ c.args.at + size_of (first_of (since c.args.at c.args.pool.now.nodes))
-next c = ap (λ (n : ℕ). c.args.at + n) (size_at c.args.pool.now c.args.at c.size.result c.header-header.result c.header-header.ensures.value c.size.ensures)
+next : (c : goal.After-size_at) → c.args.at + c.size_at.result ≡ c.args.at + size_of (first_of (since c.args.at c.args.pool.now.nodes))
+next c = ap (λ (n : ℕ). c.args.at + n) c.size_at.ensures.value
 
-all : (c : goal.After-size) → IsStep c.args.at (c.args.at + c.size.result) c.args.pool.now.nodes
+all : (c : goal.After-size_at) → IsStep c.args.at (c.args.at + c.size_at.result) c.args.pool.now.nodes
 all c = rw (next c) (step c.args.at c.args.pool.now.nodes c.requires.boundary c.requires.inside)
 
 pub returns-clause-next : goal.returns-clause-next
