@@ -1,5 +1,5 @@
 -- Writing one list after another.
-use Rattle.std.proofs.Common.{List, [], ap, arith, length, refl, sym, ℕ, ◌%◌, ◌/◌, ◌^◌, ◌++◌, ◌+◌, ◌<◌, ◌∙◌, ◌∷◌, ◌≡◌, ◌≤◌}
+use Rattle.std.proofs.Common.{List, [], ap, arith, length, ℕ, ◌%◌, ◌/◌, ◌^◌, ◌++◌, ◌+◌, ◌<◌, ◌∙◌, ◌∷◌, ◌≡◌, ◌≤◌}
 use Rattle.node_pool.proofs.Shared.{code_of, encoding, form_of, fresh, header_bytes, header_of, low_bytes, payload_bytes, Payload, Header, length-header_bytes, length-low_bytes, put, put-put}
 
 -- one write more

@@ -1,6 +1,6 @@
 -- The nodes that go of trees, one after another.
-use Rattle.std.proofs.Common.{Bool, List, [], ap, arith, cond, eqb, false, leb, length, refl, sym, true, ℕ, zero, suc, ◌++◌, ◌+◌, ◌-◌, ◌<◌, ◌∙◌, ◌∷◌, ◌≡◌, ◌≤◌}
-use Rattle.node_pool.proofs.Shared.{length-append, le-leb, lt-leb, ne_eqb, Node, owed_behind, unheld, used, between, since, until}
+use Rattle.std.proofs.Common.{Bool, List, [], ap, arith, cond, eqb, false, leb, length, refl, sym, true, ℕ, ◌++◌, ◌+◌, ◌-◌, ◌<◌, ◌∙◌, ◌∷◌, ◌≡◌, ◌≤◌}
+use Rattle.node_pool.proofs.Shared.{length-append, le-leb, lt-leb, ne_eqb, Node, unheld, used, between, since, until}
 use Rattle.node_pool.proofs.Cuts.{until-append, until-since}
 use Rattle.node_pool.proofs.Sizes.{length_le_used, used-append}
 

@@ -1,6 +1,6 @@
 -- Steps over nodes.
 use Rattle.std.proofs.Common.{arith, ◌≡◌, ℕ, ◌≤◌, List, [], sym, ap, ◌∙◌}
-use Rattle.tree_handles.proofs.Shared.{Header, Node, size_of, header_of, size_of_header, used, first_of, since, State, since_end, skip}
+use Rattle.tree_handles.proofs.Shared.{Node, used, since, since_end, skip}
 
 skip_nil : (k : ℕ) → skip k [] ≡ []
 skip_nil k = grind arith

@@ -1,8 +1,8 @@
-use Rattle.std.proofs.Common.{List, [], arith, ap, length, subst, sym, ℕ, ◌+◌, ◌-◌, ◌<◌, ◌≤◌, ◌∙◌, ◌∷◌, ◌≡◌}
+use Rattle.std.proofs.Common.{List, [], arith, ap, length, subst, sym, ℕ, ◌+◌, ◌-◌, ◌≤◌, ◌∙◌, ◌∷◌, ◌≡◌}
 use Rattle.node_pool.proofs.Shared.{Header, Node, first_of, owed_behind, since, size_of, size_of_header, unheld, used, without_ids}
 use Rattle.node_pool.proofs.Marks.{released, released_rest}
 use Rattle.node_pool.proofs.Sizes.{size_from}
-use Rattle.node_pool.proofs.Unheld.{unheld_few, unheld_held, unheld_more, unheld_none}
+use Rattle.node_pool.proofs.Unheld.{unheld_few, unheld_more, unheld_none}
 use Rattle.node_pool.proofs.Walk.{since_end}
 use Rattle.node_pool.proofs.identifiers.release_trees.Goals as goal
 

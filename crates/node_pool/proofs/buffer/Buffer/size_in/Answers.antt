@@ -1,4 +1,4 @@
-use Rattle.std.proofs.Common.{List, ℕ, ap, arith, get_or, length, ◌+◌, ◌<◌, ◌∙◌, ◌≡◌}
+use Rattle.std.proofs.Common.{List, ℕ, ap, arith, get_or, length, ◌+◌, ◌<◌, ◌≡◌}
 use Rattle.node_pool.proofs.Shared.{Contents, IsBoundary, IsLaid, bytes_in, contents_of, first_of, has_short_form, kind_of_payload, since, used}
 use Rattle.node_pool.specs.declared.buffer.Buffer.TheInside.{Inside}
 use Rattle.node_pool.proofs.Fields.{IsCoded, coded, has_room, stored}

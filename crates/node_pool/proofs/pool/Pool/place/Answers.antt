@@ -1,5 +1,5 @@
 use Rattle.std.proofs.Common.{arith, ap, set, ◌∙◌, ◌≡◌}
-use Rattle.node_pool.proofs.Shared.{Header, header_of, fresh, size_of_header, size_of_payload, payload_of, IsKept, free_of}
+use Rattle.node_pool.proofs.Shared.{Header, size_of_header, size_of_payload, payload_of, IsKept, free_of}
 use Rattle.node_pool.proofs.Sizes.{size_leaf}
 use Rattle.node_pool.proofs.Keeping.{placed, room_unused}
 use Rattle.node_pool.proofs.pool.Pool.place.Goals as goal

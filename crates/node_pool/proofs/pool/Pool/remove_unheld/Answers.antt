@@ -1,5 +1,5 @@
-use Rattle.std.proofs.Common.{List, arith, ap, sym, ℕ, length, ◌+◌, ◌∙◌, ◌≡◌}
-use Rattle.node_pool.proofs.Shared.{Node, IsKept, Inside, State, between, since, state_of, unheld, used, without_ids, without}
+use Rattle.std.proofs.Common.{List, arith, ap, sym, length, ◌∙◌}
+use Rattle.node_pool.proofs.Shared.{Node, IsKept, without_ids}
 use Rattle.node_pool.proofs.Keeping.{behind_known, removed_block, since_below, boundary_in}
 use Rattle.node_pool.proofs.Unheld.{between_unheld}
 use Rattle.node_pool.proofs.pool.Pool.remove_unheld.Goals as goal
