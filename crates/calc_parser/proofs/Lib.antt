@@ -15,7 +15,6 @@ pub mod Replay
 pub mod Leaves
 pub mod UnderWay
 pub mod Sizes
-pub mod NamesOfLines
 pub mod LineSteps
 pub mod LineFaults
 pub mod Shared

@@ -8,6 +8,5 @@ pub mod Steps
 pub mod Outcomes
 pub mod Building
 pub mod Growing
-pub mod Names
 pub mod Kept
 pub mod Refused

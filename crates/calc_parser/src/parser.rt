@@ -1,7 +1,6 @@
 //! Lines read and built, over memory that is taken once.
-ghost use Rattle.std.specs.Prelude.{◌≡◌, ◌↔◌, ◌≤◌, ℕ, List, [], Option, length, None, Ok, Err, IfOk, IfErr, IsOk, IsTrue, OnErr, OnOk, Contains};
-ghost use Rattle.calc_terms.specs.Leaf.{name_of};
-ghost use Rattle.calc_terms.specs.Trees.{Tree, depth as depth_of, names};
+ghost use Rattle.std.specs.Prelude.{◌≡◌, ◌↔◌, ◌≤◌, ℕ, List, [], Option, length, Ok, Err, IfOk, IfErr, IsOk, OnErr, OnOk};
+ghost use Rattle.calc_terms.specs.Trees.{Tree, depth as depth_of};
 ghost use Rattle.calc_tokens.specs.Placed.{Placed, bare};
 ghost use Rattle.calc_tokens.specs.Scanned.{AreTokensOf};
 ghost use Rattle.calc_tokens.specs.Tokens.{tokens_of};
@@ -15,10 +14,8 @@ ghost use Rattle.calc_parser.specs.Refused.{IsLineFaultOf};
 
 use crate::building::place_line;
 use crate::checking::{ParseFault, Shape, checked};
-use crate::names::is_among;
 use crate::reader::Reader;
 use arrayvec::ArrayVec;
-use calc_terms::Name;
 use calc_tokens::{TokenFault, Tokens, scan};
 use node_pool::{Full, Pool};
 use std::alloc::{AllocError, Global};
@@ -120,13 +117,6 @@ impl Parser {
         ensures same_line { self.new ≡ self.old }
     {
         place_line(pool, &self.tokens, self.reader.steps(), &mut self.places)
-    }
-
-    /// Whether the name is one in the tree of the line that was read last, where that stores nothing.
-    pub fn holds_name(&self, name: Name) -> bool
-        ensures { (t : Tree) → IsLine (bare (tokens_of self.now)) None t → IsTrue result ↔ Contains (names t) (name_of name) }
-    {
-        is_among(self.tokens.items(), name)
     }
 }
 

@@ -65,23 +65,3 @@ fn lines_one_after_another(rt: HostRuntime) -> Result<(), Fail> {
     }
     Ok(())
 }
-
-/// Whether the line that was read last holds the name that these bytes are.
-fn holds(parser: &Parser, bytes: &[u8]) -> bool {
-    match Name::read(bytes) {
-        Some(name) => parser.holds_name(name),
-        None => false,
-    }
-}
-
-#[test]
-fn names_of_the_line_read_last(rt: HostRuntime) -> Result<(), Fail> {
-    let mut parser = Parser::open(rt.alloc())?;
-    assert!(rt; parser.read(b"x+1").is_ok());
-    assert!(rt; holds(&parser, b"x"));
-    assert!(rt; !holds(&parser, b"y"));
-    assert!(rt; parser.read(b"2y").is_ok());
-    assert!(rt; !holds(&parser, b"x"));
-    assert!(rt; holds(&parser, b"y"));
-    Ok(())
-}
