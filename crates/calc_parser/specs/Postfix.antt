@@ -1,8 +1,9 @@
 -- Trees in postfix order: the children from left to right, then their parent.
-use Rattle.std.specs.Prelude.{ℕ, List, [], ◌∷◌, ◌++◌}
+use Rattle.std.specs.Prelude.{ℕ, ◌*◌, List, [], ◌∷◌, ◌++◌}
 use Rattle.calc_terms.specs.declared.kind.Kind.{Kind}
 use Rattle.calc_terms.specs.declared.kind.Kind.TheVariants as kind
 use Rattle.calc_language.specs.Tokens.{Token, literal, name, undef_mark}
+use Rattle.calc_tokens.specs.Limits.{line_limit}
 use Rattle.calc_terms.specs.Trees.{Tree, num, symbol, undef, add, mult, power, root, neg, sub, div, Trees, none, more, count}
 
 -- a leaf by its token, or the parent of the last trees, so many
@@ -27,3 +28,7 @@ abbrev mutual
   pub postfixes : Trees → List Node
   postfixes none = []
   postfixes (more t ts) = postfix t ++ postfixes ts
+
+-- the most nodes of a line's tree: two for each of its tokens
+abbrev pub step_limit : ℕ
+step_limit = 2 * line_limit

@@ -11,12 +11,12 @@ ghost use Rattle.tree_handles.specs.Handed.{Gives, KeepsFront};
 ghost use Rattle.calc_parser.specs.Building.{building, placing, bytes_of_node};
 ghost use Rattle.calc_parser.specs.Growing.{children_in, takes_children, Grows};
 ghost use Rattle.calc_parser.specs.Lines.{IsTreeOf};
-ghost use Rattle.calc_parser.specs.Postfix.{leaf, parent, postfix as postfix_of};
+ghost use Rattle.calc_parser.specs.Postfix.{leaf, parent, postfix as postfix_of, step_limit};
 ghost use Rattle.calc_parser.specs.Reader.{node_of, token_in, tokens_in};
 ghost use Rattle.calc_parser.specs.Steps.{AreStepsOf};
 
 use crate::checking::{read_line, without_store};
-use crate::postfix::Step;
+use crate::postfix::{STEP_LIMIT, Step};
 use crate::reader::Reader;
 use arrayvec::ArrayVec;
 use calc_terms::Kind;
@@ -54,10 +54,10 @@ pub(crate) fn place_line(
     pool: &mut Pool,
     tokens: &Tokens,
     steps: &[Step],
-    places: &mut ArrayVec<u32, 2048>,
+    places: &mut ArrayVec<u32, STEP_LIMIT>,
 ) -> Result<Handle, Full>
     requires stands { Stands pool.old }
-    requires few { length steps.now ≤ 2048 }
+    requires few { length steps.now ≤ step_limit }
     requires line { (t : Tree) × IsTreeOf (bare (tokens_of tokens.now)) t }
     requires made { AreStepsOf steps.now (bare (tokens_of tokens.now)) }
     ensures ok { IfOk result (λ h. Gives (forest pool.old) (forest pool.new) h (IsTreeOf (bare (tokens_of tokens.now)))) }
@@ -79,10 +79,10 @@ fn place_nodes(
     pool: &mut Pool,
     tokens: &[Token],
     steps: &[Step],
-    places: &mut ArrayVec<u32, 2048>,
+    places: &mut ArrayVec<u32, STEP_LIMIT>,
 ) -> Result<Handle, Full>
     requires stands { Stands pool.old }
-    requires few { length steps.now ≤ 2048 }
+    requires few { length steps.now ≤ step_limit }
     requires tree { (t : Tree) × (map (node_of (tokens_in tokens.now)) steps.now ≡ postfix_of t) }
     ensures ok { IfOk result (λ h. Gives (forest pool.old) (forest pool.new) h (λ t. map (node_of (tokens_in tokens.now)) steps.now ≡ postfix_of t)) }
     ensures front { KeepsFront [] (forest pool.old) (forest pool.new) }
@@ -106,7 +106,7 @@ fn place_nodes(
 
 /// Where the last trees begin, so many of those that begin at these places and end with the last.
 /// Their places go.
-fn begin_of_last(places: &mut ArrayVec<u32, 2048>, trees: u16, end: u32) -> u32
+fn begin_of_last(places: &mut ArrayVec<u32, STEP_LIMIT>, trees: u16, end: u32) -> u32
     ensures kept { places.new.items ≡ take (length places.old.items - trees) places.old.items }
     ensures begin { result ≡ slice_index_or places.old.items (length places.old.items - trees) end }
 {

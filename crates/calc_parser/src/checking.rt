@@ -12,6 +12,7 @@ ghost use Rattle.calc_parser.specs.Reader.{steps_in, tokens_in};
 ghost use Rattle.calc_parser.specs.Steps.{AreStepsOf, IsStoredSum};
 
 use crate::depth::depth;
+use crate::postfix::STEP_LIMIT;
 use crate::reader::{NoSum, Reader};
 use arrayvec::ArrayVec;
 use calc_terms::Name;
@@ -19,7 +20,7 @@ use calc_tokens::{Token, Tokens, What};
 use thiserror::Error;
 
 /// The largest depth of a line's tree.
-const MAX_DEPTH: u32 = 64;
+const DEPTH_LIMIT: u32 = 64;
 
 /// What a line is like.
 #[derive(Clone, Copy, Debug)]
@@ -59,7 +60,7 @@ pub fn check(tokens: &Tokens) -> Result<Shape, ParseFault>
 pub(crate) fn checked(
     tokens: &Tokens,
     reader: &mut Reader,
-    depths: &mut ArrayVec<u32, 2048>,
+    depths: &mut ArrayVec<u32, STEP_LIMIT>,
 ) -> Result<Shape, ParseFault>
     ensures found { MatchResult result (IsShallow (bare (tokens_of tokens.now))) (IsFaultOf (bare (tokens_of tokens.now))) }
     ensures made { AreStepsOf (steps_in reader.new.postfix) (bare (tokens_of tokens.now)) }
@@ -69,7 +70,7 @@ pub(crate) fn checked(
     };
     let steps = reader.steps();
     let depth = depth(steps, depths);
-    if depth > MAX_DEPTH {
+    if depth > DEPTH_LIMIT {
         return Err(ParseFault::Deep);
     }
     let nodes = steps.len() as u32;

@@ -4,8 +4,9 @@ ghost use Rattle.std.specs.Option.{option_map};
 ghost use Rattle.calc_language.specs.Tokens.{Token as Mark};
 ghost use Rattle.calc_parser.specs.Reader.{open_in, innermost, outer, node_of};
 ghost use Rattle.calc_parser.specs.Automaton.{completed, place_in};
+ghost use Rattle.calc_parser.specs.Postfix.{step_limit};
 
-use crate::postfix::Step;
+use crate::postfix::{STEP_LIMIT, Step};
 use arrayvec::ArrayVec;
 use calc_terms::Kind;
 
@@ -88,10 +89,10 @@ impl Open {
     }
 }
 
-/// What is open, at most 2,048 of them.
+/// What is open, at most `STEP_LIMIT` of them.
 #[derive(Drop)]
 pub(crate) struct Nesting {
-    items: ArrayVec<Open, 2048>,
+    items: ArrayVec<Open, STEP_LIMIT>,
 }
 
 impl Nesting {
@@ -118,7 +119,7 @@ impl Nesting {
     }
 
     pub(crate) fn enter(&mut self, part: Open)
-        requires { length (open_in self.old) < 2048 }
+        requires { length (open_in self.old) < step_limit }
         ensures { open_in self.new ≡ part ∷ open_in self.old }
     {
         self.items.push(part);

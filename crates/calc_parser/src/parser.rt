@@ -11,9 +11,11 @@ ghost use Rattle.calc_parser.specs.Building.{building};
 ghost use Rattle.calc_parser.specs.Lines.{IsLine, IsTreeOf};
 ghost use Rattle.calc_parser.specs.Outcomes.{IsShallow};
 ghost use Rattle.calc_parser.specs.Refused.{IsLineFaultOf};
+ghost use Rattle.calc_tokens.specs.Limits.{line_limit};
 
 use crate::building::place_line;
 use crate::checking::{ParseFault, Shape, checked};
+use crate::postfix::STEP_LIMIT;
 use crate::reader::Reader;
 use arrayvec::ArrayVec;
 use calc_tokens::{TokenFault, Tokens, scan};
@@ -39,8 +41,8 @@ pub enum LineFault {
 pub struct Parser {
     tokens: Tokens,
     reader: Box<Reader>,
-    depths: Box<ArrayVec<u32, 2048>>,
-    places: Box<ArrayVec<u32, 2048>>,
+    depths: Box<ArrayVec<u32, STEP_LIMIT>>,
+    places: Box<ArrayVec<u32, STEP_LIMIT>>,
 }
 
 impl Model for Parser {
@@ -77,7 +79,7 @@ impl Parser {
 
     /// Cuts a line into its tokens, the longest at each place, and says what the line is like that they are.
     pub fn read(&mut self, line: &[u8]) -> Result<Shape, LineFault>
-        requires { length line.now ≤ 1024 }
+        requires { length line.now ≤ line_limit }
         ensures tokens { OnOk result (AreTokensOf (tokens_of self.new) line.now) }
         ensures shape { IfOk result (IsShallow (bare (tokens_of self.new))) }
         ensures accepts { (ts : List Placed) (store : Option (List ℕ)) (t : Tree) → AreTokensOf ts line.now
@@ -129,7 +131,7 @@ fn boxed_reader(alloc: Global) -> Result<Box<Reader>, AllocError> {
 }
 
 #[inline(never)]
-fn boxed_numbers(alloc: Global) -> Result<Box<ArrayVec<u32, 2048>>, AllocError> {
+fn boxed_numbers(alloc: Global) -> Result<Box<ArrayVec<u32, STEP_LIMIT>>, AllocError> {
     let numbers = Box::new(alloc, ArrayVec::new())?;
     Ok(numbers)
 }

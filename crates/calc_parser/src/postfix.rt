@@ -1,9 +1,14 @@
 //! Trees in postfix order: children from left to right, then their parent.
 ghost use Rattle.std.specs.Prelude.{◌≡◌, ◌<◌, ◌≤◌, ◌+◌, [], ◌∷◌, ◌++◌, List, length};
 ghost use Rattle.calc_language.specs.Tokens.{Token as Mark};
+ghost use Rattle.calc_parser.specs.Postfix.{step_limit};
 
 use arrayvec::ArrayVec;
 use calc_terms::Kind;
+use calc_tokens::LINE_LIMIT;
+
+/// The most nodes of a line's tree: two for each of its tokens.
+pub(crate) const STEP_LIMIT: usize = 2 * LINE_LIMIT;
 
 /// One node of a tree in postfix order.
 #[derive(Clone, Copy, Debug)]
@@ -35,10 +40,10 @@ impl Default for Step {
     }
 }
 
-/// The nodes of trees in postfix order, at most 2,048.
+/// The nodes of trees in postfix order, at most `STEP_LIMIT`.
 #[derive(Drop)]
 pub(crate) struct Postfix {
-    steps: ArrayVec<Step, 2048>,
+    steps: ArrayVec<Step, STEP_LIMIT>,
 }
 
 impl Postfix {
@@ -60,13 +65,13 @@ impl Postfix {
 
     pub(crate) fn steps(&self) -> &[Step]
         ensures steps { result.now ≡ steps_in self.now }
-        ensures fits { length result.now ≤ 2048 }
+        ensures fits { length result.now ≤ step_limit }
     {
         self.steps.as_slice()
     }
 
     pub(crate) fn push(&mut self, step: Step)
-        requires { length (steps_in self.old) < 2048 }
+        requires { length (steps_in self.old) < step_limit }
         ensures { steps_in self.new ≡ steps_in self.old ++ step ∷ [] }
     {
         self.steps.push(step);

@@ -5,9 +5,10 @@ ghost use Rattle.calc_language.specs.Tokens.{Token as Mark};
 ghost use Rattle.calc_terms.specs.Trees.{Tree};
 ghost use Rattle.calc_language.specs.Grammar.{IsSum};
 ghost use Rattle.calc_tokens.specs.Tokens.{token_of};
-ghost use Rattle.calc_parser.specs.Postfix.{postfix as postfix_of};
+ghost use Rattle.calc_parser.specs.Postfix.{postfix as postfix_of, step_limit};
 ghost use Rattle.calc_parser.specs.Automaton.{state, ended, gathered, complete as completed_all, end_part, end_powers as powers_ended, end_product as product_ended, sum_nodes, minus_in as sign_in, begin_operand as operand_begun, at_operand, at_parenthesis, at_operator, leave_parentheses as parentheses_left, step, finish as finished, start};
 ghost use Rattle.calc_parser.specs.Reader.{open_in, innermost, innermost_completed, innermost_place, node_of, nodes_in, state_in, ended_in, room_in, steps_in, token_in, tokens_in, IsStep};
+ghost use Rattle.calc_tokens.specs.Limits.{line_limit};
 
 use crate::nesting::{Level, Nesting, Open, Place};
 use crate::postfix::{Postfix, Step};
@@ -52,7 +53,7 @@ impl Reader {
 
     /// Reads tokens that are a sum, in place of those that it read before. The nodes of its tree are then whole.
     pub(crate) fn read(&mut self, tokens: &[Token]) -> Result<(), NoSum>
-        requires few { length tokens.now ≤ 1024 }
+        requires few { length tokens.now ≤ line_limit }
         ensures sum { OnOk result ((t : Tree) × IsSum (tokens_in tokens.now) t × (nodes_in (tokens_in tokens.now) self.new.postfix ≡ postfix_of t)) }
         ensures no_sum { OnErr result ((t : Tree) → IsSum (tokens_in tokens.now) t → ⊥) }
     {
@@ -76,14 +77,14 @@ impl Reader {
     /// The nodes that are whole.
     pub(crate) fn steps(&self) -> &[Step]
         ensures steps { result.now ≡ steps_in self.now.postfix }
-        ensures fits { length result.now ≤ 2048 }
+        ensures fits { length result.now ≤ step_limit }
     {
         self.postfix.steps()
     }
 
     /// Reads the token at this place.
     fn take(&mut self, at: u16, what: What) -> Result<(), NoSum>
-        requires { room_in self.old + 2 ≤ 2048 }
+        requires { room_in self.old + 2 ≤ step_limit }
         ensures step { (ts : List Mark) → token_in ts at ≡ token_of what → IsStep result (state_in ts self.new) (step (state_in ts self.old) (token_of what)) }
         ensures room { OnOk result (room_in self.new ≤ room_in self.old + 2) }
     {
@@ -96,7 +97,7 @@ impl Reader {
 
     /// Ends the whole sum, where nothing is open.
     fn finish(&mut self) -> Result<(), NoSum>
-        requires { room_in self.old ≤ 2048 }
+        requires { room_in self.old ≤ step_limit }
         ensures { (ts : List Mark) → MatchResult result (λ _. finished (state_in ts self.old) ≡ Some (nodes_in ts self.new.postfix)) (λ _. finished (state_in ts self.old) ≡ None) }
     {
         match self.expects {
@@ -111,7 +112,7 @@ impl Reader {
     }
 
     fn take_operand(&mut self, at: u16, what: What) -> Result<(), NoSum>
-        requires { room_in self.old < 2048 }
+        requires { room_in self.old < step_limit }
         ensures step { (ts : List Mark) → token_in ts at ≡ token_of what →
             IsStep result (state_in ts self.new) (at_operand (token_of what) (open_in self.old.nesting) (nodes_in ts self.old.postfix)) }
         ensures room { room_in self.new ≤ room_in self.old + 1 }
@@ -127,7 +128,7 @@ impl Reader {
     }
 
     fn begin_operand(&mut self, at: u16, what: What) -> Result<(), NoSum>
-        requires { room_in self.old < 2048 }
+        requires { room_in self.old < step_limit }
         ensures step { (ts : List Mark) → token_in ts at ≡ token_of what →
             IsStep result (state_in ts self.new) (operand_begun (token_of what) (open_in self.old.nesting) (nodes_in ts self.old.postfix)) }
         ensures room { room_in self.new ≤ room_in self.old + 1 }
@@ -145,7 +146,7 @@ impl Reader {
     }
 
     fn take_parenthesis(&mut self, what: What) -> Result<(), NoSum>
-        requires { room_in self.old < 2048 }
+        requires { room_in self.old < step_limit }
         ensures step { (ts : List Mark) →
             IsStep result (state_in ts self.new) (at_parenthesis (token_of what) (open_in self.old.nesting) (nodes_in ts self.old.postfix)) }
         ensures room { room_in self.new ≤ room_in self.old + 1 }
@@ -160,7 +161,7 @@ impl Reader {
     }
 
     fn take_operator(&mut self, at: u16, what: What) -> Result<(), NoSum>
-        requires room { room_in self.old + 2 ≤ 2048 }
+        requires room { room_in self.old + 2 ≤ step_limit }
         requires expects { self.old.expects ≡ Expects.Operator }
         ensures step { (ts : List Mark) → token_in ts at ≡ token_of what →
             IsStep result (state_in ts self.new) (at_operator (token_of what) (open_in self.old.nesting) (nodes_in ts self.old.postfix)) }
@@ -201,7 +202,7 @@ impl Reader {
 
     /// Opens this; an operand comes next.
     fn enter(&mut self, part: Open)
-        requires { room_in self.old < 2048 }
+        requires { room_in self.old < step_limit }
         ensures nesting { open_in self.new.nesting ≡ part ∷ open_in self.old.nesting }
         ensures postfix { self.new.postfix ≡ self.old.postfix }
         ensures expects { self.new.expects ≡ Expects.Operand }
@@ -211,7 +212,7 @@ impl Reader {
     }
 
     fn leave_parentheses(&mut self) -> Result<(), NoSum>
-        requires room { room_in self.old ≤ 2048 }
+        requires room { room_in self.old ≤ step_limit }
         requires expects { self.old.expects ≡ Expects.Operator }
         ensures step { (ts : List Mark) → IsStep result (state_in ts self.new) (parentheses_left (open_in self.old.nesting) (nodes_in ts self.old.postfix)) }
         ensures room { room_in self.new ≤ room_in self.old }
@@ -229,7 +230,7 @@ impl Reader {
 
     /// Ends a sum.
     fn end_sum(&mut self)
-        requires { room_in self.old ≤ 2048 }
+        requires { room_in self.old ≤ step_limit }
         ensures ended { (ts : List Mark) → let e = product_ended (open_in self.old.nesting) (nodes_in ts self.old.postfix) in
             state_in ts self.new ≡ state self.old.expects e.nesting (sum_nodes e) }
         ensures expects { self.new.expects ≡ self.old.expects }
@@ -241,7 +242,7 @@ impl Reader {
 
     /// Ends a product, and says how many children its sum has with it.
     fn end_product(&mut self) -> u16
-        requires { room_in self.old ≤ 2048 }
+        requires { room_in self.old ≤ step_limit }
         ensures ended { (ts : List Mark) → ended_in ts self.new result ≡ product_ended (open_in self.old.nesting) (nodes_in ts self.old.postfix) }
         ensures expects { self.new.expects ≡ self.old.expects }
         ensures some { 1 ≤ result }
@@ -254,7 +255,7 @@ impl Reader {
 
     /// Ends powers that stand side by side, and says how many children their product has with them.
     fn end_powers(&mut self) -> u16
-        requires { room_in self.old ≤ 2048 }
+        requires { room_in self.old ≤ step_limit }
         ensures ended { (ts : List Mark) → ended_in ts self.new result ≡ powers_ended (open_in self.old.nesting) (nodes_in ts self.old.postfix) }
         ensures expects { self.new.expects ≡ self.old.expects }
         ensures some { 1 ≤ result }
@@ -267,7 +268,7 @@ impl Reader {
 
     /// Ends a part of this level, and says how many children stand side by side with it.
     fn end(&mut self, level: Level) -> u16
-        requires { room_in self.old ≤ 2048 }
+        requires { room_in self.old ≤ step_limit }
         ensures ended { (ts : List Mark) → ended_in ts self.new result ≡ end_part level (open_in self.old.nesting) (nodes_in ts self.old.postfix) }
         ensures expects { self.new.expects ≡ self.old.expects }
         ensures some { 1 ≤ result }
@@ -297,7 +298,7 @@ impl Reader {
 
     /// Ends the powers and minus signs whose last part has ended.
     fn complete(&mut self, level: Level)
-        requires { room_in self.old ≤ 2048 }
+        requires { room_in self.old ≤ step_limit }
         ensures ended { (ts : List Mark) → (open_in self.new.nesting, nodes_in ts self.new.postfix)
             ≡ completed_all level (open_in self.old.nesting) (nodes_in ts self.old.postfix) }
         ensures expects { self.new.expects ≡ self.old.expects }

@@ -1,3 +1,4 @@
+pub mod Limits
 pub mod Placed
 pub mod Tokens
 pub mod Literals

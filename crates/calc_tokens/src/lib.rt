@@ -10,4 +10,4 @@ mod words;
 
 pub use laws::{one_list_of_tokens, tokens_of_the_language};
 pub use scanning::{is_blank, scan};
-pub use tokens::{Token, TokenFault, Tokens, What};
+pub use tokens::{LINE_LIMIT, Token, TokenFault, Tokens, What};

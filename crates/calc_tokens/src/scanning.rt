@@ -1,6 +1,7 @@
 //! From bytes to tokens.
 ghost use Rattle.std.specs.Prelude.{◌≡◌, ◌↔◌, ◌≤◌, ℕ, List, [], length, IsOkAnd, MatchResult, OnErr, OnOk, Err, true, false};
 ghost use Rattle.calc_language.specs.Tokens.{is_blank};
+ghost use Rattle.calc_tokens.specs.Limits.{line_limit};
 ghost use Rattle.calc_tokens.specs.Placed.{Placed};
 ghost use Rattle.calc_tokens.specs.Tokens.{tokens_of, token_of};
 ghost use Rattle.calc_tokens.specs.Scanned.{AreTokensOf, IsFirstCharacter, IsFirstWide, begins, begins_blank, BeginsToken};
@@ -14,7 +15,7 @@ use crate::words::word;
 /// Puts the tokens of a line in place of those of the list: the longest at each place, with the blanks
 /// between them skipped. The list is empty behind a fault.
 pub fn scan(tokens: &mut Tokens, line: &[u8]) -> Result<(), TokenFault>
-    requires { length line.now ≤ 1024 }
+    requires { length line.now ≤ line_limit }
     ensures tokens { OnOk result (AreTokensOf (tokens_of tokens.new) line.now) }
     ensures accepts { (ts : List Placed) → AreTokensOf ts line.now → IsOkAnd result (λ _. tokens_of tokens.new ≡ ts) }
 
@@ -35,7 +36,7 @@ pub fn scan(tokens: &mut Tokens, line: &[u8]) -> Result<(), TokenFault>
 
 /// Puts the tokens of a line into a list without tokens, up to the first fault.
 fn push_tokens(tokens: &mut Tokens, line: &[u8]) -> Result<(), TokenFault>
-    requires short { length line.now ≤ 1024 }
+    requires short { length line.now ≤ line_limit }
     requires none { tokens_of tokens.old ≡ [] }
     ensures { MatchResult result (λ _. AreTokensOf (tokens_of tokens.new) line.now) (λ fault. IsFaultOf line.now fault) }
 {
@@ -76,12 +77,13 @@ fn token(bytes: &[u8], at: u16) -> Result<(What, &[u8]), TokenFault>
 #[cfg(test)]
 mod tests {
     use super::*;
+    use crate::tokens::LINE_LIMIT;
     use std::alloc::{AllocError, Global};
     use std::fmt::Write;
 
     /// Each token behind its place, or the fault.
     fn shown(alloc: Global, line: &[u8]) -> Result<String, AllocError>
-        requires { length line.now ≤ 1024 }
+        requires { length line.now ≤ line_limit }
     {
         let mut tokens = Tokens::open(alloc)?;
         match scan(&mut tokens, line) {
@@ -198,7 +200,7 @@ mod tests {
             (b"X x", "1:X 3:x "),
         ];
         for (line, want) in rows {
-            assert!(rt; line.len() <= 1024);
+            assert!(rt; line.len() <= LINE_LIMIT);
             assert_eq!(rt; shown(rt.alloc(), line)?.as_str(), want);
         }
         Ok(())

@@ -1,12 +1,13 @@
 //! Tokens and the list of them.
 ghost use Rattle.std.specs.Prelude.{◌≡◌, ◌<◌, ◌≤◌, [], ◌∷◌, ◌++◌, length, map, vec_capacity, IfOk};
+ghost use Rattle.calc_tokens.specs.Limits.{line_limit};
 
 use calc_terms::{Name, Rat};
 use std::alloc::{AllocError, Global};
 use thiserror::Error;
 
-/// The most tokens of a line.
-const TOKEN_LIMIT: usize = 1024;
+/// The most bytes of a line, and so the most of its tokens.
+pub const LINE_LIMIT: usize = 1024;
 
 /// What a token is.
 #[derive(Clone, Copy, Debug)]
@@ -43,12 +44,12 @@ pub enum TokenFault {
     Number { at: u16 },
 }
 
-/// The tokens of a line, at most 1,024. Their memory is taken at opening.
+/// The tokens of a line, at most `LINE_LIMIT`. Their memory is taken at opening.
 #[derive(Drop)]
 pub struct Tokens {
     items: Vec<Token>,
-    ghost roomy: { 1024 ≤ vec_capacity items },
-    ghost short: { length items.items ≤ 1024 },
+    ghost roomy: { line_limit ≤ vec_capacity items },
+    ghost short: { length items.items ≤ line_limit },
 }
 
 impl Tokens {
@@ -58,14 +59,14 @@ impl Tokens {
     pub fn open(alloc: Global) -> Result<Tokens, AllocError>
         ensures { IfOk result (λ tokens. tokens_of tokens ≡ []) }
     {
-        let items = Vec::with_capacity(alloc, TOKEN_LIMIT)?;
+        let items = Vec::with_capacity(alloc, LINE_LIMIT)?;
         Ok(Tokens { items })
     }
 
     /// The tokens from left to right.
     pub fn items(&self) -> &[Token]
         ensures tokens { map placed result.now ≡ tokens_of self.now }
-        ensures fits { length result.now ≤ 1024 }
+        ensures fits { length result.now ≤ line_limit }
     {
         self.items.as_slice()
     }
@@ -78,7 +79,7 @@ impl Tokens {
     }
 
     pub(crate) fn push(&mut self, token: Token)
-        requires { length (tokens_of self.old) < 1024 }
+        requires { length (tokens_of self.old) < line_limit }
         ensures { tokens_of self.new ≡ tokens_of self.old ++ placed token ∷ [] }
     {
         self.items.push(token).unwrap();

@@ -5,8 +5,8 @@ use Rattle.calc_parser.proofs.Checks.{line_of_sum}
 use Rattle.calc_parser.proofs.Measures.{nodes_found, length_map}
 use Rattle.calc_parser.proofs.checking.checked.Goals as goal
 
-pub returns-then-depth-gt-MAX_DEPTH-clause-found : goal.returns-then-depth-gt-MAX_DEPTH-clause-found
-returns-then-depth-gt-MAX_DEPTH-clause-found c =
+pub returns-then-depth-gt-DEPTH_LIMIT-clause-found : goal.returns-then-depth-gt-DEPTH_LIMIT-clause-found
+returns-then-depth-gt-DEPTH_LIMIT-clause-found c =
     let s = c.in-Ok.ensures.line in
     let steps : map (node_of s.sum) c.steps-steps.result.now ≡ postfix s.tree = ap (map (node_of s.sum)) c.steps-steps.ensures.steps ∙ c.read_line.ensures.made s.sum (option_map name_of c.in-Ok.store) s.tree s.split s.is_sum in
     let deep : c.depth-depth.result ≡ depth s.tree = c.depth-depth.ensures s.sum s.tree steps in
@@ -14,7 +14,7 @@ returns-then-depth-gt-MAX_DEPTH-clause-found c =
       store = option_map name_of c.in-Ok.store;
       tree = s.tree;
       line = line_of_sum (bare (tokens_of c.args.tokens.now)) s.sum (option_map name_of c.in-Ok.store) s.tree s.split s.is_sum;
-      over = omega (arith, c.if-depth-gt-MAX_DEPTH.true);
+      over = omega (arith, c.if-depth-gt-DEPTH_LIMIT.true);
     }
 
 pub returns-clause-found : goal.returns-clause-found
@@ -27,5 +27,5 @@ returns-clause-found c =
         depth_is = c.depth-depth.ensures s.sum s.tree steps;
         nodes_are = sym (length_map (node_of s.sum) c.steps-steps.result.now) ∙ ap length steps ∙ nodes_found s.tree;
       },
-      c.if-depth-gt-MAX_DEPTH.false,
+      c.if-depth-gt-DEPTH_LIMIT.false,
     )
