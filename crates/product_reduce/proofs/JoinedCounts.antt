@@ -1,6 +1,6 @@
 -- A product in which a pair was joined counts one more at most.
 use Rattle.std.proofs.Common.{◌≡◌, ℕ, ◌+◌, ◌≤◌, suc, Bool, true, false, if◌then◌else◌, refl, ap, arith}
-use Rattle.product_reduce.proofs.Shared.{Tree, num, mult, power, Trees, none, more, is_number, is_whole_num, is_opaque_exponent, base_of, NoneIs, num_one, counted, counted_among, counts_one, is_mult, children_of, opened, others_in, coefficient_before, IsJoined, exponent_of, has_partner, first_partner, without_partner, joint, joined}
+use Rattle.product_reduce.proofs.Shared.{Tree, num, power, Trees, none, more, is_number, is_whole_num, is_opaque_exponent, base_of, NoneIs, num_one, counted, counted_among, counts_one, is_mult, children_of, opened, others_in, IsJoined, exponent_of, has_partner, first_partner, without_partner, joint, joined}
 use Rattle.product_reduce.proofs.Forms.{others_no_numbers}
 use Rattle.product_reduce.proofs.GatheredCounts.{before_counted, counted_in, opened_counted, others_counted, permuted_counted}
 use Rattle.product_reduce.proofs.Joined.{one_base, partner_is, partner_first}
