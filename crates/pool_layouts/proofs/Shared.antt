@@ -39,7 +39,7 @@ pub use Rattle.pool_layouts.specs.declared.places.Place.TheVariants.{Alone, Base
 pub use Rattle.pool_layouts.specs.declared.serial.Pending.{Pending}
 pub use Rattle.pool_layouts.specs.declared.steps.Opened.{Opened}
 pub use Rattle.pool_layouts.specs.declared.steps.Step.{Step}
-pub use Rattle.std.proofs.lemmas.Bool.{and_parts, eq-eqb, eqb-true, le-leb, le-ltb, leb-false, leb-true, lt-leb, lt-ltb, ltb-true}
+pub use Rattle.std.proofs.lemmas.Bool.{and_from, and_parts, eq-eqb, eqb-true, le-leb, le-ltb, leb-false, leb-true, lt-leb, lt-ltb, ltb-true}
 pub use Rattle.std.proofs.lemmas.Bool.Decides.{nat_tests}
 pub use Rattle.std.proofs.lemmas.List.{drop-drop, drop-map, drop-set, drop_at, length-append, length-drop, length-replicate, length-set, map-append, replicate-append-replicate}
 pub use Rattle.std.proofs.lemmas.Str.{encode_ascii, encodes-append}

@@ -1,5 +1,5 @@
 //! Laws of layouts, serial texts and pictures, each the contract of a function without a body.
-ghost use Rattle.std.specs.Prelude.{◌≡◌, ◌<◌, ◌≤◌, ℕ, length, encode_utf8_all};
+ghost use Rattle.std.specs.Prelude.{◌≡◌, ◌<◌, ◌≤◌, ℕ, false, length, encode_utf8_all};
 ghost use Rattle.calc_language.specs.Reads.{Reads};
 ghost use Rattle.calc_language.specs.Texts.{IsWritable, text};
 ghost use Rattle.calc_terms.specs.Trees.{Tree, IsComplete};
@@ -8,6 +8,7 @@ ghost use Rattle.pool_layouts.specs.Faces.{IsDefined};
 ghost use Rattle.pool_layouts.specs.Layouts.{Layout, layout};
 ghost use Rattle.pool_layouts.specs.Pictures.{picture, height, cut};
 ghost use Rattle.pool_layouts.specs.Serial.{serial};
+ghost use Rattle.unicode_width.specs.Width.{str_width};
 
 /// The serial text of a face's layout reads as that face.
 pub fn serial_text_reads()
@@ -21,10 +22,11 @@ pub fn rows_are_as_wide()
     ensures cut { (l : Layout) (y : ℕ) → length (cut ((picture l).line y)) ≤ (picture l).width }
 {}
 
-/// Each character of a face's picture takes one column, so that the characters of a row are as many
-/// as its columns.
+/// Each character of a face's picture takes one column, and joins no other, so that a row takes as many columns as the
+/// picture is wide.
 pub fn characters_take_one_column()
-    ensures { (u : Tree) → IsWritable u → (y : ℕ) → TakeOneColumnEach ((picture (layout u)).line y) }
+    ensures characters { (u : Tree) → IsWritable u → (y : ℕ) → TakeOneColumnEach ((picture (layout u)).line y) }
+    ensures rows { (u : Tree) → IsWritable u → (y : ℕ) → str_width false ((picture (layout u)).line y) ≡ (picture (layout u)).width }
 {}
 
 /// The base row of a picture is one of its rows.

@@ -1,5 +1,8 @@
-use Rattle.pool_layouts.proofs.Columns.{narrow_picture}
+use Rattle.pool_layouts.proofs.Columns.{picture_columns, row_columns}
 use Rattle.pool_layouts.proofs.laws.characters_take_one_column.Goals as goal
 
-pub returns : goal.returns
-returns c = narrow_picture
+pub returns-clause-characters : goal.returns-clause-characters
+returns-clause-characters c = picture_columns
+
+pub returns-clause-rows : goal.returns-clause-rows
+returns-clause-rows c = row_columns
