@@ -8,6 +8,7 @@ mod text;
 mod writing;
 
 pub use laws::texts_are_short;
+pub use place::level;
 pub use text::Text;
 pub use writing::write_text;
 

@@ -95,7 +95,7 @@ impl Place {
 }
 
 /// How tightly a node binds.
-fn level(kind: Kind) -> u8
+pub fn level(kind: Kind) -> u8
     ensures { result ≡ level_of kind }
 {
     match kind {

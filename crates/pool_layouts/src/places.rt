@@ -1,9 +1,9 @@
 //! Where the parts of a face stand in its layout.
 ghost use Rattle.std.specs.Prelude.{◌≡◌};
 ghost use Rattle.pool_layouts.specs.Places.{next_place, first_place, mark_before, around_kind, paren_kind_unless, laid_kind as laid_kind_of};
-ghost use Rattle.line_text.specs.Places.{level_of};
 
 use calc_terms::Kind;
+use line_text::level;
 
 /// Where a tree stands: alone, or below a node of some kind.
 #[derive(Clone, Copy, Debug, PartialEq, Eq)]
@@ -96,19 +96,6 @@ fn paren_unless(bare: bool) -> Option<Kind>
     ensures { result ≡ paren_kind_unless bare }
 {
     if bare { None } else { Some(Kind::Paren) }
-}
-
-/// How tightly a node binds.
-fn level(kind: Kind) -> u8
-    ensures { result ≡ level_of kind }
-{
-    match kind {
-        Kind::Add | Kind::Sub => 0,
-        Kind::Neg => 1,
-        Kind::Mult | Kind::Div => 2,
-        Kind::Pow => 3,
-        _ => 4,
-    }
 }
 
 /// The kind of a layout's node for a node of a face.
