@@ -1,13 +1,17 @@
 -- Exponents of products, packed and not.
-use Rattle.std.proofs.Common.{◌≡◌, ℕ, zero, suc, ◌+◌, ◌/◌, ◌%◌, ◌^◌, ◌<◌, [], ◌∷◌, ◌++◌, refl, ap, ◌∙◌, arith, zero-add, replicate}
+use Rattle.std.proofs.Common.{◌≡◌, ℕ, zero, suc, ◌+◌, ◌/◌, ◌%◌, ◌^◌, ◌<◌, ◌≤◌, [], ◌∷◌, ◌++◌, refl, ap, ◌∙◌, arith, zero-add, replicate}
 use Rattle.polynomials.specs.Polynomials.{Monomial, Polynomial, Summand, HasExponents, HaveExponents, monomial_times, product, row, one_monomial}
 use Rattle.polynomials.specs.Packed.{monomial_of, unpacked}
 
 -- ---- of products
 
+pub exponents_more : (d e : ℕ) (m : Monomial) → d ≤ e → HasExponents d m → HasExponents e m
+exponents_more d e [] h p = tt
+exponents_more d e (x ∷ m) h p = (omega (arith, p.0), exponents_more d e m h (p.1))
+
 pub exponents_times : (d e : ℕ) (m n : Monomial) → HasExponents d m → HasExponents e n → HasExponents (d + e) (monomial_times m n)
-exponents_times d e [] n h k = tt
-exponents_times d e (x ∷ m) [] h k = tt
+exponents_times d e [] n h k = exponents_more e (d + e) n (omega arith) k
+exponents_times d e (x ∷ m) [] h k = exponents_more d (d + e) (x ∷ m) (omega arith) h
 exponents_times d e (x ∷ m) (y ∷ n) h k = (omega (arith, h.0, k.0), exponents_times d e m n (h.1) (k.1))
 
 pub have_append : (d : ℕ) (v w : Polynomial) → HaveExponents d v → HaveExponents d w → HaveExponents d (v ++ w)

@@ -2,15 +2,11 @@
 use Rattle.std.proofs.Common.{◌≡◌, ℕ, suc, ◌+◌, ◌-◌, ◌/◌, ◌%◌, ◌<◌, ◌≤◌, max, List, [], ◌∷◌, length, get_or, take, sym, ap, ◌∙◌, subst, arith}
 use Rattle.polynomials.specs.declared.term.Term.{Term}
 use Rattle.polynomials.specs.Packed.{unpacked}
-use Rattle.polynomials.specs.Polynomials.{Monomial, Polynomial, HasExponents, HaveExponents}
+use Rattle.polynomials.specs.Polynomials.{Polynomial, HasExponents, HaveExponents}
 use Rattle.polynomials.specs.Terms.{polynomial_of, summand_of}
-use Rattle.polynomials.proofs.Exponents.{have_append}
+use Rattle.polynomials.proofs.Exponents.{exponents_more, have_append}
 use Rattle.polynomials.proofs.MergeLoops.{take_one_more}
 use Rattle.polynomials.proofs.Merges.{polynomial_append}
-
-pub exponents_more : (d e : ℕ) (m : Monomial) → d ≤ e → HasExponents d m → HasExponents e m
-exponents_more d e [] h p = tt
-exponents_more d e (x ∷ m) h p = (omega (arith, p.0), exponents_more d e m h (p.1))
 
 pub have_more : (d e : ℕ) (v : Polynomial) → d ≤ e → HaveExponents d v → HaveExponents e v
 have_more d e [] h p = tt

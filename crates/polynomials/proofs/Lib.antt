@@ -8,3 +8,4 @@ pub mod Products
 pub mod Coefficients
 pub mod Insertions
 pub mod GreatestExponents
+pub mod Causes

@@ -2,3 +2,4 @@ pub mod Polynomials
 pub mod Packed
 pub mod Terms
 pub mod Rows
+pub mod Unfits

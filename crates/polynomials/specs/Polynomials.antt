@@ -8,10 +8,10 @@ use Rattle.calc_terms.specs.Fractions.{Fraction, plus, times, zero_fraction, one
 abbrev pub Monomial : Type 0
 Monomial = List ℕ
 
--- the exponents of each name are added
+-- the exponents of each name are added, and behind the last one they are 0
 abbrev pub monomial_times : Monomial → Monomial → Monomial
-monomial_times [] n = []
-monomial_times (x ∷ m) [] = []
+monomial_times [] n = n
+monomial_times (x ∷ m) [] = x ∷ m
 monomial_times (x ∷ m) (y ∷ n) = (x + y) ∷ monomial_times m n
 
 -- no exponent is above d

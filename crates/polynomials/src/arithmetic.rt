@@ -1,8 +1,9 @@
 //! Sums, products and powers.
-ghost use Rattle.std.specs.Prelude.{◌≡◌, ◌<◌, ◌+◌, ◌*◌, ◌++◌, ℕ, OnOk};
+ghost use Rattle.std.specs.Prelude.{◌<◌, ◌≤◌, ◌+◌, ◌*◌, ◌^◌, ◌++◌, ℕ, IfErr, OnOk, length, max, min, vec_capacity};
 ghost use Rattle.calc_terms.specs.Rat.{value_of};
 ghost use Rattle.polynomials.specs.Polynomials.{HaveExponents, product, raised, scaled};
 ghost use Rattle.polynomials.specs.Terms.{AreTermsOf, IsNormal, polynomial_of};
+ghost use Rattle.polynomials.specs.Unfits.{IsCaused};
 
 use crate::list::push;
 use crate::merging::add_multiple;
@@ -23,6 +24,9 @@ pub fn add_scaled(
     ensures terms { OnOk result (AreTermsOf (polynomial_of sum.now ++ scaled (value_of factor) (polynomial_of terms.now)) list.new.items) }
     ensures exponents { (d : ℕ) → HaveExponents d (polynomial_of sum.now) → HaveExponents d (polynomial_of terms.now)
         → OnOk result (HaveExponents d (polynomial_of list.new.items)) }
+    ensures few { OnOk result (length list.new.items ≤ length sum.now + length terms.now) }
+    ensures unfit { IfErr result (IsCaused (vec_capacity list.old < length sum.now + length terms.now)) }
+    ensures room { vec_capacity list.old ≤ vec_capacity list.new }
 {
     add_multiple(sum, Term::constant(factor), terms, list)
 }
@@ -41,6 +45,9 @@ pub fn product(
     ensures terms { OnOk result (AreTermsOf (product (polynomial_of a.now) (polynomial_of b.now)) list.new.items) }
     ensures exponents { (d e : ℕ) → HaveExponents d (polynomial_of a.now) → HaveExponents e (polynomial_of b.now)
         → OnOk result (HaveExponents (d + e) (polynomial_of list.new.items)) }
+    ensures few { OnOk result (length list.new.items ≤ length a.now * length b.now) }
+    ensures unfit { IfErr result (IsCaused (min (vec_capacity list.old) (vec_capacity spare.old) < length a.now * length b.now)) }
+    ensures room { min (vec_capacity list.old) (vec_capacity spare.old) ≤ min (vec_capacity list.new) (vec_capacity spare.new) }
 {
     list.clear();
     for term in a {
@@ -62,6 +69,8 @@ pub fn power(
     requires exponents { (d : ℕ) × (exponent * d < 256) × HaveExponents d (polynomial_of base.now) }
     ensures terms { OnOk result (AreTermsOf (raised (polynomial_of base.now) exponent) list.new.items) }
     ensures exponents { (d : ℕ) → HaveExponents d (polynomial_of base.now) → OnOk result (HaveExponents (exponent * d) (polynomial_of list.new.items)) }
+    ensures few { OnOk result (length list.new.items ≤ length base.now ^ exponent) }
+    ensures unfit { IfErr result (IsCaused (min (vec_capacity list.old) (min (vec_capacity spare.old) (vec_capacity other.old)) < max 1 (length base.now ^ exponent))) }
 {
     list.clear();
     push(list, Term::constant(Rat::whole(1)))?;

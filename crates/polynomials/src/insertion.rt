@@ -1,10 +1,11 @@
 //! One more term of a sorted list.
-ghost use Rattle.std.specs.Prelude.{◌≡◌, ◌≤◌, ◌∷◌, ℕ, OnOk, drop, insert, length, take, vec_len, if◌then◌else◌};
+ghost use Rattle.std.specs.Prelude.{◌≡◌, ◌≤◌, ◌∷◌, ℕ, IfErr, OnOk, drop, insert, length, take, vec_capacity, vec_len, if◌then◌else◌};
 ghost use Rattle.calc_terms.specs.Fractions.{is_zero_fraction};
 ghost use Rattle.calc_terms.specs.Rat.{value_of};
 ghost use Rattle.polynomials.specs.Polynomials.{HaveExponents};
 ghost use Rattle.polynomials.specs.Rows.{AreBelow, StartsFrom};
 ghost use Rattle.polynomials.specs.Terms.{AreTermsOf, IsNormal, polynomial_of, summand_of};
+ghost use Rattle.polynomials.specs.Unfits.{IsCaused};
 
 use crate::list::is_zero;
 use crate::term::Term;
@@ -12,10 +13,12 @@ use crate::unfit::Unfit;
 
 /// One more term, which is added to the one with its monomial.
 pub fn insert(list: &mut Vec<Term>, term: Term) -> Result<(), Unfit>
-    requires { IsNormal list.old.items }
+    requires normal { IsNormal list.old.items }
     ensures terms { OnOk result (AreTermsOf (summand_of term ∷ polynomial_of list.old.items) list.new.items) }
     ensures exponents { (d : ℕ) → HaveExponents d (summand_of term ∷ polynomial_of list.old.items)
         → OnOk result (HaveExponents d (polynomial_of list.new.items)) }
+    ensures unfit { IfErr result (IsCaused (vec_capacity list.old ≤ length list.old.items)) }
+    ensures room { vec_capacity list.old ≤ vec_capacity list.new }
 {
     let at = place_of(list, term.monomial);
     if at == list.len() {
@@ -50,7 +53,9 @@ fn place_of(terms: &[Term], monomial: u64) -> usize
 /// One more term at a place, where its coefficient is not 0.
 fn insert_at(list: &mut Vec<Term>, at: usize, term: Term) -> Result<(), Unfit>
     requires within { at ≤ vec_len list.old }
-    ensures { OnOk result (list.new.items ≡ (if is_zero_fraction (value_of term.coefficient) then list.old.items else insert list.old.items at term)) }
+    ensures ok { OnOk result (list.new.items ≡ (if is_zero_fraction (value_of term.coefficient) then list.old.items else insert list.old.items at term)) }
+    ensures unfit { IfErr result (IsCaused (vec_capacity list.old ≤ length list.old.items)) }
+    ensures room { vec_capacity list.old ≤ vec_capacity list.new }
 {
     if is_zero(term.coefficient) {
         return Ok(());

@@ -1,8 +1,9 @@
 //! Lists of terms, whose memory was taken before.
-ghost use Rattle.std.specs.Prelude.{◌≡◌, [], ◌∷◌, ◌++◌, OnOk, if◌then◌else◌};
+ghost use Rattle.std.specs.Prelude.{◌≡◌, ◌<◌, ◌≤◌, ◌+◌, [], ◌∷◌, ◌++◌, IfErr, OnOk, length, vec_capacity, if◌then◌else◌};
 ghost use Rattle.calc_terms.specs.Fractions.{is_zero_fraction};
 ghost use Rattle.calc_terms.specs.Integers.{int_is_zero};
 ghost use Rattle.calc_terms.specs.Rat.{value_of};
+ghost use Rattle.polynomials.specs.Unfits.{IsCaused};
 
 use crate::term::Term;
 use crate::unfit::Unfit;
@@ -10,7 +11,9 @@ use calc_terms::Rat;
 
 /// One more term, where there is room for it.
 pub(crate) fn push(list: &mut Vec<Term>, term: Term) -> Result<(), Unfit>
-    ensures { OnOk result (list.new.items ≡ list.old.items ++ term ∷ []) }
+    ensures ok { OnOk result (list.new.items ≡ list.old.items ++ term ∷ []) }
+    ensures unfit { IfErr result (IsCaused (vec_capacity list.old ≤ length list.old.items)) }
+    ensures room { vec_capacity list.old ≤ vec_capacity list.new }
 {
     if list.len() == list.capacity() {
         return Err(Unfit::Terms);
@@ -21,7 +24,9 @@ pub(crate) fn push(list: &mut Vec<Term>, term: Term) -> Result<(), Unfit>
 
 /// One more term, where its coefficient is not 0.
 pub(crate) fn push_nonzero(list: &mut Vec<Term>, term: Term) -> Result<(), Unfit>
-    ensures { OnOk result (list.new.items ≡ (if is_zero_fraction (value_of term.coefficient) then list.old.items else list.old.items ++ term ∷ [])) }
+    ensures ok { OnOk result (list.new.items ≡ (if is_zero_fraction (value_of term.coefficient) then list.old.items else list.old.items ++ term ∷ [])) }
+    ensures unfit { IfErr result (IsCaused (vec_capacity list.old ≤ length list.old.items)) }
+    ensures room { vec_capacity list.old ≤ vec_capacity list.new }
 {
     if is_zero(term.coefficient) {
         return Ok(());
@@ -31,7 +36,9 @@ pub(crate) fn push_nonzero(list: &mut Vec<Term>, term: Term) -> Result<(), Unfit
 
 /// More terms, where there is room for all.
 pub(crate) fn extend(list: &mut Vec<Term>, terms: &[Term]) -> Result<(), Unfit>
-    ensures { OnOk result (list.new.items ≡ list.old.items ++ terms.now) }
+    ensures ok { OnOk result (list.new.items ≡ list.old.items ++ terms.now) }
+    ensures unfit { IfErr result (IsCaused (vec_capacity list.old < length list.old.items + length terms.now)) }
+    ensures room { vec_capacity list.old ≤ vec_capacity list.new }
 {
     if list.capacity() - list.len() < terms.len() {
         return Err(Unfit::Terms);

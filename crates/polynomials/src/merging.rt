@@ -1,9 +1,10 @@
 //! A multiple of a polynomial added to another one, by merging two sorted lists.
-ghost use Rattle.std.specs.Prelude.{◌≡◌, ◌<◌, ◌+◌, ◌∷◌, ◌++◌, ℕ, IfOk, OnOk};
+ghost use Rattle.std.specs.Prelude.{◌≡◌, ◌<◌, ◌≤◌, ◌+◌, ◌∷◌, ◌++◌, ℕ, IfErr, IfOk, OnOk, length, vec_capacity};
 ghost use Rattle.polynomials.specs.Polynomials.{HasExponents, HaveExponents, row};
 ghost use Rattle.polynomials.specs.Rows.{AreBelow, StartsFrom};
 ghost use Rattle.polynomials.specs.Packed.{monomial_of};
 ghost use Rattle.polynomials.specs.Terms.{AreTermsOf, IsNormal, polynomial_of, summand_of};
+ghost use Rattle.polynomials.specs.Unfits.{IsCaused};
 
 use crate::list::{extend, push, push_nonzero};
 use crate::term::Term;
@@ -22,6 +23,9 @@ pub(crate) fn add_multiple(
     ensures terms { OnOk result (AreTermsOf (polynomial_of sum.now ++ row (summand_of factor) (polynomial_of terms.now)) list.new.items) }
     ensures exponents { (d : ℕ) → HaveExponents d (polynomial_of sum.now) → HaveExponents d (row (summand_of factor) (polynomial_of terms.now))
         → OnOk result (HaveExponents d (polynomial_of list.new.items)) }
+    ensures few { OnOk result (length list.new.items ≤ length sum.now + length terms.now) }
+    ensures unfit { IfErr result (IsCaused (vec_capacity list.old < length sum.now + length terms.now)) }
+    ensures room { vec_capacity list.old ≤ vec_capacity list.new }
 {
     list.clear();
     let mut rest = sum;
@@ -39,6 +43,8 @@ fn copy_below<'a>(list: &mut Vec<Term>, terms: &'a [Term], limit: u64) -> Result
     ensures copied { IfOk result (λ rest. list.new.items ++ rest.now ≡ list.old.items ++ terms.now) }
     ensures below { OnOk result (AreBelow limit list.new.items) }
     ensures from { IfOk result (λ rest. StartsFrom limit rest.now) }
+    ensures unfit { IfErr result (IsCaused (vec_capacity list.old < length list.old.items + length terms.now)) }
+    ensures room { vec_capacity list.old ≤ vec_capacity list.new }
 {
     for (at, term) in terms.iter().enumerate() {
         if limit <= term.monomial {
@@ -58,6 +64,9 @@ fn put<'a>(list: &mut Vec<Term>, rest: &'a [Term], term: Term) -> Result<&'a [Te
     ensures exponents { (d : ℕ) → HaveExponents d (summand_of term ∷ polynomial_of (list.old.items ++ rest.now))
         → IfOk result (λ left. HaveExponents d (polynomial_of (list.new.items ++ left.now))) }
     ensures below { (k : ℕ) → term.monomial < k → OnOk result (AreBelow k list.new.items) }
+    ensures few { IfOk result (λ left. length list.new.items + length left.now ≤ length list.old.items + length rest.now + 1) }
+    ensures unfit { IfErr result (IsCaused (vec_capacity list.old ≤ length list.old.items)) }
+    ensures room { vec_capacity list.old ≤ vec_capacity list.new }
 {
     if rest.is_empty() {
         push_nonzero(list, term)?;

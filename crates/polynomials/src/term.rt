@@ -1,7 +1,8 @@
 //! Terms.
-ghost use Rattle.std.specs.Prelude.{◌≡◌, ◌<◌, ◌+◌, ℕ, IfOk};
+ghost use Rattle.std.specs.Prelude.{◌≡◌, ◌<◌, ◌+◌, ℕ, IfErr, IfOk};
 ghost use Rattle.polynomials.specs.Polynomials.{HasExponents, monomial_times};
 ghost use Rattle.polynomials.specs.Packed.{monomial_of};
+ghost use Rattle.polynomials.specs.Unfits.{IsCaused};
 
 use crate::unfit::Unfit;
 use calc_terms::Rat;
@@ -35,13 +36,14 @@ impl Term {
     pub(crate) fn plus(self, other: Term) -> Result<Term, Unfit>
         ensures monomial { IfOk result (λ t. t.monomial ≡ other.monomial) }
         ensures coefficient { IfOk result (λ t. value_of t.coefficient ≡ plus (value_of self.coefficient) (value_of other.coefficient)) }
+        ensures unfit { IfErr result (IsCaused ⊥) }
     {
         match add(self.coefficient, other.coefficient) {
             Ok(coefficient) => Ok(Term {
                 monomial: other.monomial,
                 coefficient,
             }),
-            Err(_) => Err(Unfit::Coefficient),
+            Err(overflow) => Err(Unfit::Coefficient(overflow)),
         }
     }
 
@@ -50,6 +52,7 @@ impl Term {
         requires exponents { (d : ℕ) × (e : ℕ) × (d + e < 256) × HasExponents d (monomial_of self.monomial) × HasExponents e (monomial_of other.monomial) }
         ensures product { IfOk result (λ t. summand_of t ≡ summand_times (summand_of self) (summand_of other)) }
         ensures packed { IfOk result (λ t. t.monomial ≡ self.monomial + other.monomial) }
+        ensures unfit { IfErr result (IsCaused ⊥) }
     {
         let monomial = packed_product(self.monomial, other.monomial);
         match mul(self.coefficient, other.coefficient) {
@@ -57,7 +60,7 @@ impl Term {
                 monomial,
                 coefficient,
             }),
-            Err(_) => Err(Unfit::Coefficient),
+            Err(overflow) => Err(Unfit::Coefficient(overflow)),
         }
     }
 }

@@ -133,6 +133,6 @@ fn what_does_not_fit_is_told(rt: HostRuntime) -> Result<(), Fail> {
     let unfit = multiplied(rt.alloc(), &sum, &sum, 2)?.err();
     assert!(rt; matches!(unfit, Some(Unfit::Terms)));
     let unfit = multiplied(rt.alloc(), &[(MAX, 1, 1)], &[(2, 1, 0)], ROOM)?.err();
-    assert!(rt; matches!(unfit, Some(Unfit::Coefficient)));
+    assert!(rt; matches!(unfit, Some(Unfit::Coefficient(_))));
     Ok(())
 }

@@ -1,5 +1,8 @@
-use Rattle.polynomials.proofs.Products.{IsPowerTo}
+use Rattle.std.proofs.Common.{min}
+use Rattle.std.specs.Prelude.{vec_capacity}
+use Rattle.polynomials.proofs.Causes.{IsPowerIn}
 use Rattle.polynomials.proofs.arithmetic.power.Given as goal
 
 abbrev pub invariant-loop-turn : goal.invariant-loop-turn
-invariant-loop-turn l = IsPowerTo l.base l.turn l.list.items
+invariant-loop-turn l =
+    IsPowerIn l.base (min (vec_capacity l.fn.list) (min (vec_capacity l.fn.spare) (vec_capacity l.fn.other))) l.turn l.list.items (min (vec_capacity l.list) (min (vec_capacity l.spare) (vec_capacity l.other)))

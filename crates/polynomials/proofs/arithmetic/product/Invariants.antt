@@ -1,5 +1,7 @@
-use Rattle.polynomials.proofs.Products.{IsProductTo}
+use Rattle.std.proofs.Common.{min}
+use Rattle.std.specs.Prelude.{vec_capacity}
+use Rattle.polynomials.proofs.Causes.{IsProductIn}
 use Rattle.polynomials.proofs.arithmetic.product.Given as goal
 
 abbrev pub invariant-loop-term : goal.invariant-loop-term
-invariant-loop-term l = IsProductTo l.a l.b l.term-index l.list.items
+invariant-loop-term l = IsProductIn l.a l.b (min (vec_capacity l.fn.list) (vec_capacity l.fn.spare)) l.term-index l.list.items (min (vec_capacity l.list) (vec_capacity l.spare))

@@ -38,39 +38,39 @@ module _ (c : After-len) where
   other_behind : (y : Term) → at < length xs → y ≡ get_or xs at y → (y.monomial ≡ c.args.term.monomial → ⊥) → IsBelowAll c.args.term.monomial (drop at xs)
   other_behind y l e n =
       behind_other c.args.term.monomial (drop at xs) y (first_dropped xs at y l e)
-      (normal_end (take at xs) (drop at xs) (subst IsNormal (sym (take-append-drop at xs)) c.requires)) from n
+      (normal_end (take at xs) (drop at xs) (subst IsNormal (sym (take-append-drop at xs)) c.requires.normal)) from n
 
 pub returns-then-at-len-clause-terms : goal.returns-then-at-len-clause-terms
 returns-then-at-len-clause-terms c =
     let k = (goal.at.returns-then-at-len-clause-terms c).After-len in
-    on_ok_weaker c.insert_at.result (λ e. insert_terms (xs k) (at k) c.args.term c.insert_at.new.list.items (within k) e c.requires (below k) (none_behind k c.if-at-len.true)) c.insert_at.ensures
+    on_ok_weaker c.insert_at.result (λ e. insert_terms (xs k) (at k) c.args.term c.insert_at.new.list.items (within k) e c.requires.normal (below k) (none_behind k c.if-at-len.true)) c.insert_at.ensures.ok
 
 pub returns-then-at-len-clause-exponents : goal.returns-then-at-len-clause-exponents
 returns-then-at-len-clause-exponents c = λ d h.
     let k = (goal.at.returns-then-at-len-clause-exponents c).After-len in
-    on_ok_weaker c.insert_at.result (λ e. insert_exponents (xs k) (at k) c.args.term c.insert_at.new.list.items (within k) e d h) c.insert_at.ensures
+    on_ok_weaker c.insert_at.result (λ e. insert_exponents (xs k) (at k) c.args.term c.insert_at.new.list.items (within k) e d h) c.insert_at.ensures.ok
 
 pub returns-then-other-term-clause-terms : goal.returns-then-other-term-clause-terms
 returns-then-other-term-clause-terms c =
     let k = (goal.at.returns-then-other-term-clause-terms c).After-len in
-    on_ok_weaker c.insert_at-then-other-term.result (λ e. insert_terms (xs k) (at k) c.args.term c.insert_at-then-other-term.new.list.items (within k) e c.requires (below k)
-    (other_behind k c.index-other.result.now (not_last k c.if-at-len.false) c.index-other.ensures c.if-other-term.true)) c.insert_at-then-other-term.ensures
+    on_ok_weaker c.insert_at-then-other-term.result (λ e. insert_terms (xs k) (at k) c.args.term c.insert_at-then-other-term.new.list.items (within k) e c.requires.normal (below k)
+    (other_behind k c.index-other.result.now (not_last k c.if-at-len.false) c.index-other.ensures c.if-other-term.true)) c.insert_at-then-other-term.ensures.ok
 
 pub returns-then-other-term-clause-exponents : goal.returns-then-other-term-clause-exponents
 returns-then-other-term-clause-exponents c = λ d h.
     let k = (goal.at.returns-then-other-term-clause-exponents c).After-len in
-    on_ok_weaker c.insert_at-then-other-term.result (λ e. insert_exponents (xs k) (at k) c.args.term c.insert_at-then-other-term.new.list.items (within k) e d h) c.insert_at-then-other-term.ensures
+    on_ok_weaker c.insert_at-then-other-term.result (λ e. insert_exponents (xs k) (at k) c.args.term c.insert_at-then-other-term.new.list.items (within k) e d h) c.insert_at-then-other-term.ensures.ok
 
 pub returns-clause-terms : goal.returns-clause-terms
 returns-clause-terms c =
     let k = (goal.at.returns-clause-terms c).After-len in
     on_ok_weaker c.insert_at-2.result (λ e. exchange_terms (xs k) (at k) c.index-other.result.now c.args.term c.in_ok-total.total c.insert_at-2.new.list.items
     (not_last k c.if-at-len.false) c.index-other.ensures (e ∙ ap (λ (l : List Term). inserted l (at k) c.in_ok-total.total) c.remove.ensures.items)
-    c.if-other-term.false c.in_ok-total.ensures.monomial c.in_ok-total.ensures.coefficient c.requires (below k)) c.insert_at-2.ensures
+    c.if-other-term.false c.in_ok-total.ensures.monomial c.in_ok-total.ensures.coefficient c.requires.normal (below k)) c.insert_at-2.ensures.ok
 
 pub returns-clause-exponents : goal.returns-clause-exponents
 returns-clause-exponents c = λ d h.
     let k = (goal.at.returns-clause-exponents c).After-len in
     on_ok_weaker c.insert_at-2.result (λ e. exchange_exponents (xs k) (at k) c.index-other.result.now c.args.term c.in_ok-total.total c.insert_at-2.new.list.items
     (not_last k c.if-at-len.false) c.index-other.ensures (e ∙ ap (λ (l : List Term). inserted l (at k) c.in_ok-total.total) c.remove.ensures.items)
-    c.if-other-term.false c.in_ok-total.ensures.monomial d h) c.insert_at-2.ensures
+    c.if-other-term.false c.in_ok-total.ensures.monomial d h) c.insert_at-2.ensures.ok

@@ -10,14 +10,14 @@ use Rattle.polynomials.proofs.merging.put.Goals as goal
 pub returns-then-is_empty-clause-terms : goal.returns-then-is_empty-clause-terms
 returns-then-is_empty-clause-terms c =
     let none : length c.args.rest.now ≡ 0 = search rules in
-    put_terms c.args.list.now.items c.args.rest.now c.push_nonzero.new.list.items c.args.term c.in_ok-push_nonzero.ensures c.requires.normal c.requires.below
+    put_terms c.args.list.now.items c.args.rest.now c.push_nonzero.new.list.items c.args.term c.in_ok-push_nonzero.ensures.ok c.requires.normal c.requires.below
     (behind_none c.args.term.monomial c.args.rest.now none)
 
 pub returns-then-is_empty-clause-exponents : goal.returns-then-is_empty-clause-exponents
-returns-then-is_empty-clause-exponents c = put_exponents c.args.list.now.items c.args.rest.now c.push_nonzero.new.list.items c.args.term c.in_ok-push_nonzero.ensures
+returns-then-is_empty-clause-exponents c = put_exponents c.args.list.now.items c.args.rest.now c.push_nonzero.new.list.items c.args.term c.in_ok-push_nonzero.ensures.ok
 
 pub returns-then-is_empty-clause-below : goal.returns-then-is_empty-clause-below
-returns-then-is_empty-clause-below c = λ k h. put_below c.args.list.now.items c.args.rest.now c.push_nonzero.new.list.items c.args.term c.in_ok-push_nonzero.ensures k c.requires.below h
+returns-then-is_empty-clause-below c = λ k h. put_below c.args.list.now.items c.args.rest.now c.push_nonzero.new.list.items c.args.term c.in_ok-push_nonzero.ensures.ok k c.requires.below h
 
 -- what is left behind the first term
 behind : (xs : List Term) → take (length xs - 1) (drop 1 xs) ≡ drop 1 xs
@@ -30,7 +30,7 @@ returns-then-next-term-clause-terms c =
     let first : c.args.rest.now ≡ c.index-rest-0.result ∷ drop 1 c.args.rest.now = first_and_rest c.args.rest.now c.index-rest-0.result some c.index-rest-0.is in
     rw behind (subst (λ (ys : List Term). AreTermsOf (summand_of c.args.term ∷ polynomial_of (xs ++ ys)) (c.push_nonzero-then-next-term.new.list.items ++ drop 1 c.args.rest.now)) (sym first)
     (exchanged_terms xs (drop 1 c.args.rest.now) c.index-rest-0.result c.args.term c.in_ok-plus.field-0 c.push_nonzero-then-next-term.new.list.items
-    c.in_ok-push_nonzero-2.ensures c.if-next-term.true c.in_ok-plus.ensures.monomial c.in_ok-plus.ensures.coefficient
+    c.in_ok-push_nonzero-2.ensures.ok c.if-next-term.true c.in_ok-plus.ensures.monomial c.in_ok-plus.ensures.coefficient
     (subst (λ (ys : List Term). IsNormal (xs ++ ys)) first c.requires.normal) c.requires.below))
 
 pub returns-then-next-term-clause-exponents : goal.returns-then-next-term-clause-exponents
@@ -39,21 +39,21 @@ returns-then-next-term-clause-exponents c = λ d h.
     let some : 0 < length c.args.rest.now = search rules in
     let first : c.args.rest.now ≡ c.index-rest-0.result ∷ drop 1 c.args.rest.now = first_and_rest c.args.rest.now c.index-rest-0.result some c.index-rest-0.is in
     rw behind (exchanged_exponents xs (drop 1 c.args.rest.now) c.index-rest-0.result c.args.term c.in_ok-plus.field-0 c.push_nonzero-then-next-term.new.list.items
-    c.in_ok-push_nonzero-2.ensures c.if-next-term.true c.in_ok-plus.ensures.monomial d
+    c.in_ok-push_nonzero-2.ensures.ok c.if-next-term.true c.in_ok-plus.ensures.monomial d
     (subst (λ (ys : List Term). HaveExponents d (summand_of c.args.term ∷ polynomial_of (xs ++ ys))) first h))
 
 pub returns-then-next-term-clause-below : goal.returns-then-next-term-clause-below
 returns-then-next-term-clause-below c = λ k h.
     exchanged_below c.args.list.now.items (drop 1 c.args.rest.now) c.index-rest-0.result c.args.term c.in_ok-plus.field-0 c.push_nonzero-then-next-term.new.list.items
-    c.in_ok-push_nonzero-2.ensures c.if-next-term.true c.in_ok-plus.ensures.monomial k c.requires.below h
+    c.in_ok-push_nonzero-2.ensures.ok c.if-next-term.true c.in_ok-plus.ensures.monomial k c.requires.below h
 
 pub returns-clause-terms : goal.returns-clause-terms
 returns-clause-terms c =
-    put_terms c.args.list.now.items c.args.rest.now c.push_nonzero-2.new.list.items c.args.term c.in_ok-push_nonzero-3.ensures c.requires.normal c.requires.below
+    put_terms c.args.list.now.items c.args.rest.now c.push_nonzero-2.new.list.items c.args.term c.in_ok-push_nonzero-3.ensures.ok c.requires.normal c.requires.below
     (behind_other c.args.term.monomial c.args.rest.now c.index-rest-0.result c.index-rest-0.is (normal_end c.args.list.now.items c.args.rest.now c.requires.normal) c.requires.from c.if-next-term.false)
 
 pub returns-clause-exponents : goal.returns-clause-exponents
-returns-clause-exponents c = put_exponents c.args.list.now.items c.args.rest.now c.push_nonzero-2.new.list.items c.args.term c.in_ok-push_nonzero-3.ensures
+returns-clause-exponents c = put_exponents c.args.list.now.items c.args.rest.now c.push_nonzero-2.new.list.items c.args.term c.in_ok-push_nonzero-3.ensures.ok
 
 pub returns-clause-below : goal.returns-clause-below
-returns-clause-below c = λ k h. put_below c.args.list.now.items c.args.rest.now c.push_nonzero-2.new.list.items c.args.term c.in_ok-push_nonzero-3.ensures k c.requires.below h
+returns-clause-below c = λ k h. put_below c.args.list.now.items c.args.rest.now c.push_nonzero-2.new.list.items c.args.term c.in_ok-push_nonzero-3.ensures.ok k c.requires.below h

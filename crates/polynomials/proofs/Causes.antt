@@ -1,0 +1,67 @@
+-- How many terms are listed, and why none is listed any more.
+use Rattle.std.proofs.Common.{◌≡◌, ℕ, zero, suc, ◌+◌, ◌*◌, ◌^◌, ◌<◌, ◌≤◌, max, Bool, true, false, List, [], ◌∷◌, ◌++◌, length, take, ap, arith, length-append}
+use Rattle.std.specs.Prelude.{if◌then◌else◌, IfErr, IsErr, IsErrAnd, Result}
+use Rattle.std.proofs.Math.Nat.{mul-le-mul_left, mul_comm, pow-le-pow_right, pow-suc, pow-zero}
+use Rattle.calc_terms.specs.Fractions.{is_zero_fraction}
+use Rattle.calc_terms.specs.Rat.{value_of}
+use Rattle.polynomials.specs.declared.term.Term.{Term}
+use Rattle.polynomials.specs.declared.unfit.Unfit.{Unfit}
+use Rattle.polynomials.specs.declared.unfit.Unfit.TheVariants.{Terms, Coefficient}
+use Rattle.polynomials.specs.Rows.{AreBelow}
+use Rattle.polynomials.specs.Unfits.{IsCaused}
+use Rattle.polynomials.proofs.MergeLoops.{IsMerged}
+use Rattle.polynomials.proofs.Merges.{pushed}
+use Rattle.polynomials.proofs.Products.{IsPowerTo, IsProductTo}
+
+pub caused_more : {P Q : Type 0} (u : Unfit) → (P → Q) → IsCaused P u → IsCaused Q u
+caused_more Terms f h = f h
+caused_more (Coefficient o) f h = h
+
+-- an error that a `?` hands on
+pub passed_on : {A E : Type 0} (r : Result A E) (e : E) (P : E → Type 0) → IsErr r → IsErrAnd r (λ x. x ≡ e) → P e → IfErr r P
+passed_on r e P h a p = grind arith
+
+pub pushed_length : (xs : List Term) (t : Term) → length (pushed xs t) ≤ length xs + 1
+pushed_length xs t = by (is_zero_fraction (value_of t.coefficient))
+  where
+    by : (z : Bool) → length (if z then xs else xs ++ t ∷ []) ≤ length xs + 1
+    by true = omega arith
+    by false = omega (arith, length-append xs (t ∷ []))
+
+-- ---- what loops keep
+
+pub record IsCopied (old : List Term) (terms : List Term) (limit room i : ℕ) (list : List Term) (now : ℕ) : Type 0 where
+  pub items : list ≡ old ++ take i terms
+  pub below : AreBelow limit list
+  pub room-kept : room ≤ now
+
+pub record IsMergedIn (sum terms : List Term) (f : Term) (room j : ℕ) (list rest : List Term) (now : ℕ) : Type 0 where
+  pub merged : IsMerged sum terms f j list rest
+  pub few : length list + length rest ≤ length sum + j
+  pub room-kept : room ≤ now
+
+pub record IsProductIn (a b : List Term) (room i : ℕ) (list : List Term) (now : ℕ) : Type 0 where
+  pub products : IsProductTo a b i list
+  pub few : length list ≤ i * length b
+  pub room-kept : room ≤ now
+
+pub record IsPowerIn (base : List Term) (room i : ℕ) (list : List Term) (now : ℕ) : Type 0 where
+  pub powers : IsPowerTo base i list
+  pub few : length list ≤ length base ^ i
+  pub room-kept : room ≤ now
+
+-- ---- powers
+
+pub power_few : (b l i n : ℕ) → n ≤ b * l → l ≤ b ^ i → n ≤ b ^ (i + 1)
+power_few b l i n h k =
+    let e : i + 1 ≡ suc i = omega arith in
+    omega (arith, mul-le-mul_left b k, ap (λ (j : ℕ). b ^ j) e, pow-suc b i, mul_comm b (b ^ i))
+
+pub one_few : (b n : ℕ) → n ≡ 1 → n ≤ b ^ 0
+one_few b n e = omega (arith, pow-zero b)
+
+pub power_bound : (b l i n : ℕ) → i < n → l ≤ b ^ i → b * l ≤ max 1 (b ^ n)
+power_bound zero l i n h k = omega arith
+power_bound (suc b) l i n h k =
+    let more : suc b ^ (i + 1) ≤ suc b ^ n = pow-le-pow_right (omega arith) (omega arith) in
+    omega (arith, power_few (suc b) l i (suc b * l) (omega arith) k)

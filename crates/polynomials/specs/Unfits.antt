@@ -1,0 +1,10 @@
+-- Why a polynomial is not made.
+use Rattle.calc_terms.specs.Rat.{value_of}
+use Rattle.polynomials.specs.declared.unfit.Unfit.{Unfit}
+use Rattle.polynomials.specs.declared.unfit.Unfit.TheVariants.{Terms, Coefficient}
+use Rattle.rational128.specs.Refusals.{DoesNotFit}
+
+-- the list has room for too few terms, or the operation does not fit
+abbrev pub IsCaused : Type 0 → Unfit → Type 0
+IsCaused few Terms = few
+IsCaused few (Coefficient o) = DoesNotFit o.op (value_of o.a) (value_of o.b)
