@@ -32,7 +32,9 @@ use node_pool::Pool;
 use pool_layouts::Drafter;
 use reduce_port::Reducer;
 
-/// Answers a command line. The text of a refusal is still to be written.
+/// Answers a command line. The text of a refusal is still to be written. It is not inlined, nor are the commands that calculate, so
+/// that other lines take none of the machine's stack that these need.
+#[inline(never)]
 pub fn answer_command<R: Reducer, B: Breaker>(
     pool: &mut Pool,
     table: &mut NameTable,
@@ -130,6 +132,7 @@ fn forget(pool: &mut Pool, table: &mut NameTable, text: &mut Text, name: Name) -
 }
 
 /// Tells the serial text of the layout of the last answer.
+#[inline(never)]
 fn tell_layout(
     pool: &mut Pool,
     table: &NameTable,

@@ -36,6 +36,7 @@ use reduce_port::Reducer;
 use tree_handles::{Handle, release};
 
 /// Tells the derivative of the expression that was read last, with respect to a name. The nodes are as before.
+#[inline(never)]
 pub fn tell_derivative<R: Reducer, B: Breaker>(
     pool: &mut Pool,
     table: &NameTable,

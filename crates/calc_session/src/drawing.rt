@@ -22,6 +22,7 @@ use pool_checkpoints::{open_mark, roll_back};
 use pool_layouts::{Drafter, layout_of, rows, write_row, write_serial};
 
 /// Writes the rows of the picture of a tree.
+#[inline(never)]
 pub fn draw_answer<K: Sink>(
     pool: &mut Pool,
     answer: Id,

@@ -37,6 +37,7 @@ use tree_handles::Handle;
 
 /// Answers a command line with the expanded form of the expression in a text at its end, behind so many bytes. The text of
 /// a refusal is still to be written.
+#[inline(never)]
 pub fn expand_text<B: Breaker>(
     pool: &mut Pool,
     table: &NameTable,

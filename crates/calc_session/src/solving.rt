@@ -53,6 +53,7 @@ struct Roots {
 
 /// Answers a command line with the solutions of the equations in a text at its end, behind so many bytes. The text of a
 /// refusal is still to be written.
+#[inline(never)]
 pub fn solve_equations<B: Breaker>(
     pool: &mut Pool,
     table: &NameTable,

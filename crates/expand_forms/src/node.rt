@@ -32,7 +32,9 @@ use tree_handles::{
     Handle, NumberFault, child_id, children, copy_tree, kind, node, number, rational, release,
 };
 
-/// The expanded tree of a node over expanded children, which is consumed.
+/// The expanded tree of a node over expanded children, which is consumed. It is not inlined, so that the walk keeps little of the
+/// machine's stack for each level.
+#[inline(never)]
 pub(crate) fn expand_node(pool: &mut Pool, tree: Handle) -> Result<Handle, NumberFault>
     requires stands { Stands pool.old }
     requires handed { IsHanded tree (forest pool.old) }
