@@ -78,6 +78,24 @@ tried "a deep equation of products"
 echo ":solve u+v+w+x+y+z=1;u-v+w=2;v-w+x=3;w-x+y=4;x-y+z=5;u+2v+3w+4x+5y+6z=6" >"$folder/input"
 tried "six equations in six names"
 
+# signs NUMBER LINE: the line below so many minus signs
+signs() {
+    repeat "$1" "-"
+    printf '%s\n' "$2"
+}
+
+# Deep and wide at once.
+{ printf ":expand "; signs 60 "(a+b+c+d)^7"; } >"$folder/input"
+tried "60 minus signs before a power of a sum that is expanded"
+{ printf ":expand "; signs 58 "((x+1)^8×(y+1)^2×(z-1)^2)"; } >"$folder/input"
+tried "58 minus signs before a product that is expanded"
+signs 60 "(√(2)+√(3)+√(5)+√(7)+√(11)+√(13)+√(17))^4" >"$folder/input"
+tried "60 minus signs before a power of a sum of roots"
+{ printf ":diff x "; repeat 29 "(1-x×"; printf '(x+1)^9×(x+y)^3'; repeat 29 ")"; echo; } >"$folder/input"
+tried "a deep line of wide products that is differentiated"
+{ printf ":solve "; repeat 28 "(1-2×"; printf '(u+2v+3w+4x+5y+6z)'; repeat 28 ")"; echo "=1;u=v;v=w;w=x;x=y;y=2"; } >"$folder/input"
+tried "six equations, one of them deep"
+
 # sum FROM TO: the names of two letters from one number to before another, with a plus sign between
 sum() {
     awk -v from="$1" -v to="$2" 'BEGIN {

@@ -23,7 +23,7 @@ impl Term {
     ghost use Rattle.polynomials.specs.Terms.{summand_of};
 
     /// A rational.
-    pub fn constant(value: Rat) -> Term
+    pub(crate) fn constant(value: Rat) -> Term
         ensures { summand_of result ≡ summand (value_of value) one_monomial }
     {
         Term {
