@@ -181,7 +181,7 @@ def build(root, program):
     begun = time.time_ns()
     log = Path(tempfile.gettempdir()) / f"poincare-build.{os.getpid()}.log"
     lanes = [program.parent / "lanes" / str(it) for it in range(count_lanes())]
-    say(f"the program is proved and built, which takes about 20 minutes on four processors; the log is {log}")
+    say(f"the program is proved and built, which takes less than an hour on four processors; the log is {log}")
     made = Build(root, lanes, log)
     for it in (signal.SIGTERM, signal.SIGINT, signal.SIGHUP):
         signal.signal(it, made.stop)
