@@ -1,9 +1,8 @@
 -- What is a Number and what is none, by kind and by parts.
-use Rattle.std.proofs.Common.{◌≡◌, ◌≢◌, ℕ, ◌*◌, ◌<◌, ◌≤◌, ◌↔◌, Bool, true, false, not, ◌&&◌, sym, ap, ◌∙◌, arith}
-use Rattle.std.specs.Prelude.{ℤ, pos, nat_abs, IsTrue, ◌==◌}
-use Rattle.number_forms.proofs.Shared.{is_clean, IsClean, Rat, Fraction, one_fraction, is_one_fraction, whole_fraction, lowest, gcd, is_number, is_term, is_radicand, natural_of, are_terms, rises, terms_of, ratio_of, value_of, Tree, count, root_kind, is_add, one_test, whole_numerator, whole_denominator, clean_test, clean_words, children_of}
+use Rattle.std.proofs.Common.{◌≡◌, ◌≢◌, ℕ, ◌*◌, ◌<◌, ◌≤◌, Bool, true, false, not, ◌&&◌, sym, ap, ◌∙◌, arith}
+use Rattle.std.specs.Prelude.{ℤ, pos, nat_abs, ◌==◌}
+use Rattle.number_forms.proofs.Shared.{is_clean, IsClean, Fraction, whole_fraction, is_number, is_term, is_radicand, natural_of, are_terms, rises, terms_of, Tree, count, root_kind, is_add, whole_numerator, whole_denominator, clean_test, clean_words, children_of}
 use Rattle.number_forms.proofs.Shaped.{length-terms_of}
-use Rattle.number_forms.proofs.TermTrees.{not_one_num}
 use lib.Signed.{lt_z}
 use Rattle.calc_terms.specs.declared.kind.Kind.TheVariants as kind
 
@@ -44,15 +43,6 @@ one_multiple z o r e f = sym (λ i. not (e i) && not (f i) && r)
 
 pub other_multiple : (z o r x : Bool) → z ≡ false → o ≡ false → x ≡ r → x ≡ (not z && not o && r)
 other_multiple z o r x e f g = g ∙ sym (λ i. not (e i) && not (f i) && r)
-
--- ---- the rational 1
-
-pub no_one_num : (r : Rat) → (ratio_of r).num ≢ pos 1 → false ≡ is_one_fraction (value_of r)
-no_one_num r h = sym (one_test (value_of r) (not_one_num r h))
-
-pub one_whole : (r : Rat) (b : Bool) → (ratio_of r).num ≡ pos 1 → (IsTrue b ↔ ((ratio_of r).den ≡ 1)) → b ≡ is_one_fraction (value_of r)
-unfolding one_fraction lowest gcd
-one_whole r b n h = grind arith
 
 -- ---- radicands
 

@@ -10,7 +10,6 @@ ghost use Rattle.tree_handles.specs.Expressions.{IsExpression, plain};
 ghost use Rattle.tree_handles.specs.Inside.{tree_at};
 ghost use Rattle.tree_handles.specs.Standing.{Stands, forest};
 
-use crate::recognize::is_one;
 use crate::shape::has_term_shape;
 use calc_terms::{Kind, Rat};
 use node_pool::{Id, Pool};
@@ -23,7 +22,7 @@ pub fn is_zero(pool: &Pool, id: Id) -> bool
     ensures { result ≡ is_zero (plain (tree_at id (forest pool.now))) }
 {
     match kind(pool, id) {
-        Kind::Num => rational(pool, id).num() == 0,
+        Kind::Num => rational(pool, id).is_zero(),
         _ => false,
     }
 }
@@ -35,7 +34,7 @@ pub(crate) fn is_num_one(pool: &Pool, id: Id) -> bool
     ensures { result ≡ is_num_one (plain (tree_at id (forest pool.now))) }
 {
     match kind(pool, id) {
-        Kind::Num => is_one(rational(pool, id)),
+        Kind::Num => rational(pool, id).is_one(),
         _ => false,
     }
 }

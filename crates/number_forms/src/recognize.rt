@@ -72,7 +72,7 @@ fn is_term(pool: &Pool, id: Id) -> bool
     ensures { result ≡ is_term (plain (tree_at id (forest pool.now))) }
 {
     match shape_of(pool, id) {
-        Shape::Rational(q) => !is_zero_rational(q),
+        Shape::Rational(q) => !q.is_zero(),
         Shape::Root(radicand) => is_radicand(radicand),
         Shape::Multiple(q, radicand) => is_multiple(q, radicand),
         Shape::Other => false,
@@ -83,29 +83,13 @@ fn is_term(pool: &Pool, id: Id) -> bool
 fn is_multiple(q: Rat, radicand: Rat) -> bool
     ensures { result ≡ (not (is_zero_fraction (value_of q)) && not (is_one_fraction (value_of q)) && is_radicand (value_of radicand)) }
 {
-    if is_zero_rational(q) {
+    if q.is_zero() {
         return false;
     }
-    if is_one(q) {
+    if q.is_one() {
         return false;
     }
     is_radicand(radicand)
-}
-
-fn is_zero_rational(q: Rat) -> bool
-    ensures { result ≡ is_zero_fraction (value_of q) }
-{
-    q.num() == 0
-}
-
-/// Whether a rational is 1.
-pub(crate) fn is_one(q: Rat) -> bool
-    ensures { result ≡ is_one_fraction (value_of q) }
-{
-    if q.num() != 1 {
-        return false;
-    }
-    q.is_whole()
 }
 
 /// Whether a rational is a clean whole number of at least 2.

@@ -4,7 +4,7 @@ use Rattle.number_forms.proofs.ReducedNumbers.{unshaped_term}
 use Rattle.number_forms.proofs.recognize.is_term.Goals as goal
 
 pub returns-in-Rational : goal.returns-in-Rational
-returns-in-Rational c = ap not c.is_zero_rational.ensures ∙ ap is_term (sym c.in-Rational.ensures)
+returns-in-Rational c = ap not c.is_zero.ensures ∙ ap is_term (sym c.in-Rational.ensures)
 
 pub returns-in-Root : goal.returns-in-Root
 returns-in-Root c = c.is_radicand.ensures ∙ ap is_term (sym c.in-Root.ensures)
