@@ -1,6 +1,6 @@
 pub mod Lists
-pub mod Stacks
 pub mod Showing
-pub mod Room
-pub mod Marks
+pub mod Owed
+pub mod Shares
+pub mod Drafts
 pub mod OwnFaces

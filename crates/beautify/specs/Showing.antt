@@ -1,24 +1,13 @@
 -- Nodes of reduced trees, as their faces need them.
-use Rattle.std.specs.Prelude.{ℕ, suc, ◌≡◌, ⊤, Bool, true, false, nat_lt}
-use Rattle.calc_language.specs.Faces.{face, unsigned_face, exponent_below, has_minus}
-use Rattle.calc_language.specs.Grammar.{SoFar, summed}
+use Rattle.std.specs.Prelude.{ℕ, suc, ◌≡◌, ⊤, Bool, false, nat_lt}
+use Rattle.calc_language.specs.Faces.{unsigned_face, exponent_below, has_minus}
 use Rattle.calc_terms.specs.Integers.{int_is_negative}
-use Rattle.calc_terms.specs.Trees.{Tree, num, symbol, add, mult, power, root, Trees, none, more, append, count, HasTwo}
-use Rattle.beautify.specs.Lists.{behind}
-
--- the face of a tree, with its minus sign or without
-abbrev pub face_as : Bool → Tree → Tree
-face_as true t = face t
-face_as false t = unsigned_face t
+use Rattle.calc_terms.specs.Trees.{Tree, num, symbol, add, mult, power, root, Trees, none, more, HasTwo}
 
 -- the faces of trees without their minus signs
 abbrev pub unsigned_faces : Trees → Trees
 unsigned_faces none = none
 unsigned_faces (more t ts) = more (unsigned_face t) (unsigned_faces ts)
-
--- a list of trees begins with the faces of these without their minus signs
-pub record HoldsFaces (ts us : Trees) : Type 0 where
-  pub begins : us ≡ append (unsigned_faces ts) (behind (count ts) us)
 
 -- a rational below 0
 abbrev pub is_negative_num : Tree → Bool
@@ -52,13 +41,3 @@ IsShowable (mult ts) = HasTwo ts × AreFactors ts
 IsShowable (power b e) = (n : ℕ) → exponent_below e ≡ suc n → has_minus b ≡ false
 IsShowable (root a) = ⊤
 IsShowable _ = ⊥
-
--- a sum that was made by `+`
-abbrev pub is_summed : SoFar → Bool
-is_summed (summed ts) = true
-is_summed _ = false
-
--- anything else, to which `+` adds a sum of its own
-abbrev pub is_single : SoFar → Bool
-is_single (summed ts) = false
-is_single _ = true

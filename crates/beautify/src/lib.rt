@@ -1,19 +1,18 @@
 //! The faces of reduced trees: signs, fractions and differences as people write them.
 #![tactic(auto)]
 
-mod face;
-mod fractions;
+mod draft;
+mod faces;
 pub mod laws;
-mod marks;
 mod naturals;
-mod nodes;
-mod placing;
+mod parts;
+mod pending;
 mod products;
 mod reading;
-mod stack;
+mod shares;
 mod sums;
 
-pub use face::face_of;
+pub use faces::Faces;
 
 #[cfg(test)]
 mod tests;

@@ -1,98 +1,74 @@
-//! Sums on top of a stack, read from left to right.
-ghost use Rattle.std.specs.Prelude.{◌≡◌, ◌<◌, ◌≤◌, ◌+◌, true, false, IfErr, IfOk, OnOk};
-ghost use Rattle.beautify.specs.Lists.{behind, cut};
-ghost use Rattle.beautify.specs.Room.{node_room};
-ghost use Rattle.beautify.specs.Showing.{is_summed, IsShowable, HoldsFaces};
-ghost use Rattle.beautify.specs.Stacks.{stacked, IsStack, Restacks, FailsAbove};
-ghost use Rattle.calc_language.specs.Faces.{has_minus, with_minus, next_term, unsigned_face};
-ghost use Rattle.calc_language.specs.Grammar.{SoFar, as_tree};
-ghost use Rattle.calc_terms.specs.Trees.{none, more, count, is_add};
-ghost use Rattle.node_pool.specs.State.{free_of};
-ghost use Rattle.tree_handles.specs.Expressions.{IsExpression, plain, nth, inserted, children_of};
+//! Sums, read from left to right.
+ghost use Rattle.std.specs.Prelude.{◌≡◌, ◌<◌, ◌≤◌, ◌+◌, ◌-◌, ◌*◌, ℕ, length, vec_capacity};
+ghost use Rattle.beautify.specs.Lists.{first, behind};
+ghost use Rattle.beautify.specs.Owed.{IsReadyPart, Owes, form_room};
+ghost use Rattle.beautify.specs.Showing.{unsigned_faces};
+ghost use Rattle.beautify.specs.declared.pending.Form.TheVariants.{Unsigned};
+ghost use Rattle.calc_language.specs.Faces.{face, face_of_sum, unsigned_face};
+ghost use Rattle.calc_terms.specs.Trees.{Trees, add, append, count, more, root_kind};
+ghost use Rattle.calc_terms.specs.declared.kind.Kind.TheVariants.{Add};
+ghost use Rattle.tree_handles.specs.Expressions.{IsExpression, plain, nth, children_of};
+ghost use Rattle.tree_handles.specs.Forest.{Forest};
 ghost use Rattle.tree_handles.specs.Inside.{tree_at};
-ghost use Rattle.tree_handles.specs.Roots.{without_root};
 ghost use Rattle.tree_handles.specs.Standing.{Stands, forest};
 
-use crate::marks::{first_child, next_child};
+use crate::pending::{Form, Pending, push, push_over};
 use crate::reading::is_negative;
-use crate::stack::{extend, gather};
+use crate::shares::{Share, push_shares};
 use calc_terms::Kind;
-use node_pool::{Full, Id, Pool};
-use tree_handles::{Handle, children};
+use node_pool::{Id, Pool};
+use tree_handles::{child_id, child_ids};
 
-/// A minus sign comes before a tree of the stack, the face without sign of the given tree, where
-/// that has one.
-pub(crate) fn sign(pool: &mut Pool, stack: &Handle, at: u16, id: Id) -> Result<(), Full>
-    requires stands { Stands pool.old }
-    requires stack { IsStack stack.now (forest pool.old) }
-    requires expression { IsExpression id (without_root stack.now (forest pool.old)) }
-    requires within { at < count (stacked stack.now (forest pool.old)) }
-    ensures ok { let trees = stacked stack.now (forest pool.old) in
-        let minus = has_minus (plain (tree_at id (without_root stack.now (forest pool.old)))) in
-        OnOk result (Restacks stack.now pool.old pool.new (inserted at (more (with_minus minus (nth at trees)) none) (cut at 1 trees))) }
-    ensures fails { IfErr result (FailsAbove stack.now pool.old pool.new) }
-    ensures cost { OnOk result (free_of pool.old ≤ free_of pool.new + 8) }
-    ensures room { IfErr result (λ full. free_of pool.old < 8) }
-    ensures stands { Stands pool.new }
+/// The face of a sum comes first.
+pub(crate) fn push_sum(pool: &Pool, sum: Id, pending: &mut Vec<Pending>)
+    requires stands { Stands pool.now }
+    requires ready { IsReadyPart Unsigned sum (forest pool.now) }
+    requires sum { root_kind (plain (tree_at sum (forest pool.now))) ≡ Add }
+    requires room { 8 * length pending.old.items + form_room Unsigned (plain (tree_at sum (forest pool.now))) ≤ 8 * vec_capacity pending.old }
+    ensures owed { let t = plain (tree_at sum (forest pool.now)) in
+        (us : Trees) (r : ℕ) → Owes pending.old.items (forest pool.now) us r → Owes pending.new.items (forest pool.now) (more (unsigned_face t) us) (r + form_room Unsigned t - 1) }
+    ensures length { 8 * length pending.new.items ≤ 8 * length pending.old.items + form_room Unsigned (plain (tree_at sum (forest pool.now))) }
+    ensures capacity { vec_capacity pending.old ≤ vec_capacity pending.new }
 {
-    if is_negative(pool, id) {
-        gather(pool, stack, Kind::Neg, at, 1)
-    } else {
-        Ok(())
-    }
+    push_shares(pool, Share::Terms, sum, 1, pending);
+    push(pending, Pending::Part(Form::Face, child_id(pool, sum, 0)));
+    push_signs(pool, sum, pending);
 }
 
-/// The second tree of the stack becomes a term behind those in the first, by a sum's rule; `summed`
-/// tells whether the first is a sum that was made so, and the answer whether it is now.
-fn next_term_of(pool: &mut Pool, stack: &Handle, negative: bool, summed: bool) -> Result<bool, Full>
-    requires stands { Stands pool.old }
-    requires stack { IsStack stack.now (forest pool.old) }
-    requires two { 2 ≤ count (stacked stack.now (forest pool.old)) }
-    requires made { (s : SoFar) × (nth 0 (stacked stack.now (forest pool.old)) ≡ as_tree s) × (is_summed s ≡ summed) }
-    ensures ok { let trees = stacked stack.now (forest pool.old) in
-        (s : SoFar) → nth 0 trees ≡ as_tree s → is_summed s ≡ summed
-        → IfOk result (λ now. Restacks stack.now pool.old pool.new (more (as_tree (next_term s negative (nth 1 trees))) (behind 2 trees)) × (now ≡ is_summed (next_term s negative (nth 1 trees)))) }
-    ensures fails { IfErr result (FailsAbove stack.now pool.old pool.new) }
-    ensures cost { OnOk result (free_of pool.old ≤ free_of pool.new + 8) }
-    ensures room { IfErr result (λ full. free_of pool.old < 8) }
-    ensures stands { Stands pool.new }
+/// The first trees, the faces of a sum's terms without the later ones' signs, are joined by the sum's rule.
+fn push_signs(pool: &Pool, sum: Id, pending: &mut Vec<Pending>)
+    requires stands { Stands pool.now }
+    requires expression { IsExpression sum (forest pool.now) }
+    requires some { 1 ≤ count (children_of (plain (tree_at sum (forest pool.now)))) }
+    requires room { length pending.old.items + count (children_of (plain (tree_at sum (forest pool.now)))) ≤ vec_capacity pending.old + 1 }
+    ensures owed { let ts = children_of (plain (tree_at sum (forest pool.now))) in
+        (us : Trees) (r : ℕ) → Owes pending.old.items (forest pool.now) (more (face (nth 0 ts)) (append (unsigned_faces (behind 1 ts)) us)) r
+        → Owes pending.new.items (forest pool.now) (more (face_of_sum ts) us) (r + 8 * count (behind 1 ts)) }
+    ensures length { length pending.new.items + 1 ≤ length pending.old.items + count (children_of (plain (tree_at sum (forest pool.now)))) }
+    ensures capacity { vec_capacity pending.old ≤ vec_capacity pending.new }
 {
-    if negative {
-        gather(pool, stack, Kind::Sub, 0, 2)?;
-        return Ok(false);
+    let mut terms = 1;
+    for term in child_ids(pool, sum, 1) {
+        if is_negative(pool, term) {
+            push_added(pending, terms);
+            push_over(pending, Kind::Sub, 2);
+            terms = 1;
+        } else {
+            terms += 1;
+        }
     }
-    if summed {
-        extend(pool, stack);
-        return Ok(true);
-    }
-    gather(pool, stack, Kind::Add, 0, 2)?;
-    Ok(true)
+    push_added(pending, terms);
 }
 
-/// The terms of a sum, its first trees, become the sum's face.
-pub(crate) fn show_sum(pool: &mut Pool, stack: &Handle, id: Id) -> Result<(), Full>
-    requires stands { Stands pool.old }
-    requires stack { IsStack stack.now (forest pool.old) }
-    requires expression { IsExpression id (without_root stack.now (forest pool.old)) }
-    requires sum { is_add (plain (tree_at id (without_root stack.now (forest pool.old)))) ≡ true }
-    requires showable { IsShowable (plain (tree_at id (without_root stack.now (forest pool.old)))) }
-    requires shown { HoldsFaces (children_of (plain (tree_at id (without_root stack.now (forest pool.old))))) (stacked stack.now (forest pool.old)) }
-    ensures ok { let t = plain (tree_at id (without_root stack.now (forest pool.old))) in
-        OnOk result (Restacks stack.now pool.old pool.new (more (unsigned_face t) (behind (count (children_of t)) (stacked stack.now (forest pool.old))))) }
-    ensures fails { IfErr result (FailsAbove stack.now pool.old pool.new) }
-    ensures room { IfErr result (λ full. free_of pool.old < node_room (plain (tree_at id (without_root stack.now (forest pool.old))))) }
-    ensures stands { Stands pool.new }
+/// The first trees become a sum, where there are some. A single one stays.
+fn push_added(pending: &mut Vec<Pending>, terms: u16)
+    requires room { 1 < terms → length pending.old.items < vec_capacity pending.old }
+    ensures one { terms ≤ 1 → pending.new.items ≡ pending.old.items }
+    ensures some { 1 < terms → (f : Forest) (us : Trees) (r : ℕ) → Owes pending.old.items f us r → terms ≤ count us → Owes pending.new.items f (more (add (first terms us)) (behind terms us)) (r + 8) }
+    ensures length { 1 < terms → length pending.new.items ≡ length pending.old.items + 1 }
+    ensures capacity { vec_capacity pending.old ≤ vec_capacity pending.new }
 {
-    let terms = children(pool, id);
-    let mut term = first_child(pool, id);
-    sign(pool, stack, 0, term.node)?;
-    let mut summed = false;
-    let mut place = 1;
-    while place < terms {
-        term = next_child(pool, &term);
-        let negative = is_negative(pool, term.node);
-        summed = next_term_of(pool, stack, negative, summed)?;
-        place += 1;
+    if terms > 1 {
+        push_over(pending, Kind::Add, terms);
     }
-    Ok(())
 }

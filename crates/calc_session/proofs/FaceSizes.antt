@@ -4,7 +4,7 @@ use Rattle.std.specs.Prelude.{⊤}
 use Rattle.calc_session.proofs.Shared.{is_reduced, face, face_of_sum, factor_above, factors_above, fraction_of, has_minus, next_term, next_terms, unless_one, unsigned_face, with_minus, SoFar, as_tree, plus_term, Tree, add, power, Trees, none, more, append, AllParts, AllPartsOf, HasTwo, is_undef, size}
 use Rattle.beautify.proofs.Showables.{reduced_showable}
 use Rattle.beautify.proofs.Sizes.{sizes-append, some_size}
-use Rattle.beautify.proofs.Suffixes.{own_part}
+use Rattle.beautify.proofs.Resolving.{own_part}
 use Rattle.beautify.specs.Showing.{AreFactors, IsFactor, IsShowable}
 
 signed_least : (b : Bool) (t : Tree) → 16 ≤ size t → 16 ≤ size (with_minus b t)

@@ -14,9 +14,10 @@ seen_of s = record {
   text = s.text.bytes;
 }
 
--- the pool stands for exactly the trees of the table, and there is room for the text of any tree in it, and for drawing it
+-- the pool stands for exactly the trees of the table, and there is room for the text of any tree in it, for drawing it, and for writing faces
 pub record IsKept (s : Inside) : Type 0 where
   pub stands : Stands s.pool
   pub held : IsHeld s.table (forest s.pool)
   pub room : s.text.capacity ≡ 3 * s.pool.size + 8448
   pub served : s.drafter.pool_size ≡ s.pool.size
+  pub lists : s.faces ≡ s.pool.size

@@ -19,6 +19,7 @@ use crate::expanding::expand_text;
 use crate::reading::{is_ans, read_expression};
 use crate::solving::solve_equations;
 use crate::{LineAnswer, Refusal};
+use beautify::Faces;
 use breakers::{Breaker, Watch};
 use calc_commands::{
     Command, read_command, write_after, write_dump, write_forgot, write_no_breaker,
@@ -37,6 +38,7 @@ use reduce_port::Reducer;
 #[inline(never)]
 pub fn answer_command<R: Reducer, B: Breaker>(
     pool: &mut Pool,
+    faces: &mut Faces,
     table: &mut NameTable,
     parser: &mut Parser,
     drafter: &mut Drafter,
@@ -46,6 +48,7 @@ pub fn answer_command<R: Reducer, B: Breaker>(
     line: &[u8],
 ) -> LineAnswer
     requires stands { Stands pool.old }
+    requires lists { pool.old.size ≤ faces.old }
     requires held { IsHeld table.old (forest pool.old) }
     requires empty { text.old.bytes ≡ [] }
     requires room { text.old.capacity ≡ 3 * pool.old.size + 8448 }
@@ -60,6 +63,7 @@ pub fn answer_command<R: Reducer, B: Breaker>(
     ensures capacity { text.new.capacity ≡ text.old.capacity }
     ensures served { drafter.new.pool_size ≡ drafter.old.pool_size }
     ensures stands { Stands pool.new }
+    ensures lists { faces.new ≡ faces.old }
 {
     let Some(command) = read_command(line) else {
         return LineAnswer::Refused(Refusal::Command);
@@ -82,17 +86,17 @@ pub fn answer_command<R: Reducer, B: Breaker>(
         Command::Layout => tell_layout(pool, table, drafter, text),
         Command::Diff(name, expression) => {
             match read_expression(expression, bytes_before(line, expression), parser) {
-                Ok(()) => tell_derivative(pool, table, parser, text, name, reducer, watch),
+                Ok(()) => tell_derivative(pool, faces, table, parser, text, name, reducer, watch),
                 Err(refusal) => LineAnswer::Refused(refusal),
             }
         }
         Command::Solve(equations) => {
             let before = bytes_before(line, equations);
-            solve_equations(pool, table, parser, text, watch, equations, before)
+            solve_equations(pool, faces, table, parser, text, watch, equations, before)
         }
         Command::Expand(expression) => {
             let before = bytes_before(line, expression);
-            expand_text(pool, table, parser, text, watch, expression, before)
+            expand_text(pool, faces, table, parser, text, watch, expression, before)
         }
     }
 }

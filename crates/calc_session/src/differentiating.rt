@@ -1,5 +1,5 @@
 //! Derivatives of expressions.
-ghost use Rattle.std.specs.Prelude.{◌≡◌, ◌+◌, ◌*◌, ◌↔◌, ⊤, ℕ, [], ◌∷◌, None};
+ghost use Rattle.std.specs.Prelude.{◌≡◌, ◌≤◌, ◌+◌, ◌*◌, ◌↔◌, ⊤, ℕ, [], ◌∷◌, None};
 ghost use Rattle.breakers.specs.Breakers.{TripsRose};
 ghost use Rattle.breakers.specs.Watch.{states};
 ghost use Rattle.calc_language.specs.Texts.{IsWritable};
@@ -24,6 +24,7 @@ ghost use Rattle.calc_session.specs.States.{state_of};
 use crate::evaluating::{Evaluation, build_and_fill, reduce_tree, refused};
 use crate::telling::tell;
 use crate::{LineAnswer, Refusal};
+use beautify::Faces;
 use breakers::{Breaker, Watch};
 use calc_parser::Parser;
 use calc_terms::Name;
@@ -39,6 +40,7 @@ use tree_handles::{Handle, release};
 #[inline(never)]
 pub fn tell_derivative<R: Reducer, B: Breaker>(
     pool: &mut Pool,
+    faces: &mut Faces,
     table: &NameTable,
     parser: &mut Parser,
     text: &mut Text,
@@ -47,6 +49,7 @@ pub fn tell_derivative<R: Reducer, B: Breaker>(
     watch: &mut Watch<B>,
 ) -> LineAnswer
     requires stands { Stands pool.old }
+    requires lists { pool.old.size ≤ faces.old }
     requires held { IsHeld table.now (forest pool.old) }
     requires line { (t : Tree) × IsLine (bare (tokens_of parser.old)) None t }
     requires empty { text.old.bytes ≡ [] }
@@ -61,9 +64,10 @@ pub fn tell_derivative<R: Reducer, B: Breaker>(
     ensures same { state_of pool.new table.now ≡ state_of pool.old table.now }
     ensures capacity { text.new.capacity ≡ text.old.capacity }
     ensures stands { Stands pool.new }
+    ensures lists { faces.new ≡ faces.old }
 {
     let mark = open_mark(pool);
-    let evaluation = derive_expression(pool, table, parser, name, reducer, watch);
+    let evaluation = derive_expression(pool, faces, table, parser, name, reducer, watch);
     let answer = tell(pool, text, evaluation);
     roll_back(pool, mark);
     answer
@@ -72,6 +76,7 @@ pub fn tell_derivative<R: Reducer, B: Breaker>(
 /// What the derivative of the expression that was read last comes to. What it was made into stands behind all others.
 fn derive_expression<R: Reducer, B: Breaker>(
     pool: &mut Pool,
+    faces: &mut Faces,
     table: &NameTable,
     parser: &mut Parser,
     name: Name,
@@ -79,6 +84,7 @@ fn derive_expression<R: Reducer, B: Breaker>(
     watch: &mut Watch<B>,
 ) -> Evaluation
     requires stands { Stands pool.old }
+    requires lists { pool.old.size ≤ faces.old }
     requires held { IsHeld table.now (forest pool.old) }
     requires line { (t : Tree) × IsLine (bare (tokens_of parser.old)) None t }
     ensures reply { (t : Tree) → IsLine (bare (tokens_of parser.old)) None t
@@ -92,9 +98,10 @@ fn derive_expression<R: Reducer, B: Breaker>(
     ensures front { KeepsFront [] (forest pool.old) (forest pool.new) }
     ensures size { pool.new.size ≡ pool.old.size }
     ensures stands { Stands pool.new }
+    ensures lists { faces.new ≡ faces.old }
 {
     match build_and_fill(pool, table, parser) {
-        Ok(tree) => derive_tree(pool, tree, name, reducer, watch),
+        Ok(tree) => derive_tree(pool, faces, tree, name, reducer, watch),
         Err(refusal) => Evaluation::Refused(refusal),
     }
 }
@@ -102,12 +109,14 @@ fn derive_expression<R: Reducer, B: Breaker>(
 /// What the derivative of the last tree comes to; the tree is handed in, and is released once its derivative is made.
 fn derive_tree<R: Reducer, B: Breaker>(
     pool: &mut Pool,
+    faces: &mut Faces,
     tree: Handle,
     name: Name,
     reducer: &R,
     watch: &mut Watch<B>,
 ) -> Evaluation
     requires stands { Stands pool.old }
+    requires lists { pool.old.size ≤ faces.old }
     requires last { Gives (without_root tree (forest pool.old)) (forest pool.old) tree (λ t. ⊤) }
     ensures reply { let t = tree_of tree pool.old in
         ComesTo (λ reply. IsReplyToDerivative R.room R.bits (free_of pool.old + size t) (states B.state watch.old) (states B.state watch.new) (name_of name) (free_of pool.old) t (reported reply))
@@ -118,6 +127,7 @@ fn derive_tree<R: Reducer, B: Breaker>(
     ensures front { KeepsFront (tree ∷ []) (forest pool.old) (forest pool.new) }
     ensures size { pool.new.size ≡ pool.old.size }
     ensures stands { Stands pool.new }
+    ensures lists { faces.new ≡ faces.old }
 {
     let id = tree.id();
     if !has_derivative(pool, id, name) {
@@ -126,7 +136,7 @@ fn derive_tree<R: Reducer, B: Breaker>(
     match derive(pool, id, name) {
         Ok(derivative) => {
             release(pool, tree);
-            reduce_tree(pool, derivative, None, reducer, watch)
+            reduce_tree(pool, faces, derivative, None, reducer, watch)
         }
         Err(full) => Evaluation::Refused(refused(full)),
     }

@@ -1,5 +1,5 @@
 //! Trees of lines, evaluated in the pool.
-ghost use Rattle.std.specs.Prelude.{◌≡◌, ◌+◌, ⊤, ℕ, [], ◌∷◌, true, false, ◌↔◌, Some, MatchOption, IfOk, IfErr, OnOk, Contains};
+ghost use Rattle.std.specs.Prelude.{◌≡◌, ◌≤◌, ◌+◌, ⊤, ℕ, [], ◌∷◌, true, false, ◌↔◌, Some, MatchOption, IfOk, IfErr, OnOk, Contains};
 ghost use Rattle.breakers.specs.Breakers.{TripsRose};
 ghost use Rattle.breakers.specs.Watch.{states};
 ghost use Rattle.calc_algebra.specs.Reduced.{is_reduced};
@@ -25,7 +25,7 @@ ghost use Rattle.calc_session.specs.Pools.{after};
 ghost use Rattle.calc_session.specs.Replies.{refusal_in};
 
 use crate::Refusal;
-use beautify::face_of;
+use beautify::Faces;
 use breakers::{Breaker, Watch};
 use calc_parser::Parser;
 use calc_terms::{Kind, Name};
@@ -50,6 +50,7 @@ pub enum Evaluation {
 /// else the nodes are as before.
 pub fn evaluate<R: Reducer, B: Breaker>(
     pool: &mut Pool,
+    faces: &mut Faces,
     table: &NameTable,
     parser: &mut Parser,
     store: Option<Name>,
@@ -57,6 +58,7 @@ pub fn evaluate<R: Reducer, B: Breaker>(
     watch: &mut Watch<B>,
 ) -> Evaluation
     requires stands { Stands pool.old }
+    requires lists { pool.old.size ≤ faces.old }
     requires held { IsHeld table.now (forest pool.old) }
     requires line { (t : Tree) × IsTreeOf (bare (tokens_of parser.old)) t }
     ensures reply { (t : Tree) → IsTreeOf (bare (tokens_of parser.old)) t
@@ -68,9 +70,10 @@ pub fn evaluate<R: Reducer, B: Breaker>(
     ensures as_before { IfNotShown result (pool.new ≡ after (refusal_of_evaluation result) pool.old.nodes pool.old) }
     ensures front { KeepsFront [] (forest pool.old) (forest pool.new) }
     ensures stands { Stands pool.new }
+    ensures lists { faces.new ≡ faces.old }
 {
     let mark = open_mark(pool);
-    match build_and_reduce(pool, table, parser, store, reducer, watch) {
+    match build_and_reduce(pool, faces, table, parser, store, reducer, watch) {
         Evaluation::Face(face) => {
             commit(pool, mark);
             Evaluation::Face(face)
@@ -90,6 +93,7 @@ pub fn evaluate<R: Reducer, B: Breaker>(
 /// of their names, and what it was made into stands there.
 fn build_and_reduce<R: Reducer, B: Breaker>(
     pool: &mut Pool,
+    faces: &mut Faces,
     table: &NameTable,
     parser: &mut Parser,
     store: Option<Name>,
@@ -97,6 +101,7 @@ fn build_and_reduce<R: Reducer, B: Breaker>(
     watch: &mut Watch<B>,
 ) -> Evaluation
     requires stands { Stands pool.old }
+    requires lists { pool.old.size ≤ faces.old }
     requires held { IsHeld table.now (forest pool.old) }
     requires line { (t : Tree) × IsTreeOf (bare (tokens_of parser.old)) t }
     ensures reply { (t : Tree) → IsTreeOf (bare (tokens_of parser.old)) t
@@ -107,9 +112,10 @@ fn build_and_reduce<R: Reducer, B: Breaker>(
     ensures counted { CountsRefusal (refusal_of_evaluation result) pool.old pool.new }
     ensures front { KeepsFront [] (forest pool.old) (forest pool.new) }
     ensures stands { Stands pool.new }
+    ensures lists { faces.new ≡ faces.old }
 {
     match build_and_fill(pool, table, parser) {
-        Ok(filled) => reduce_tree(pool, filled, store, reducer, watch),
+        Ok(filled) => reduce_tree(pool, faces, filled, store, reducer, watch),
         Err(refusal) => Evaluation::Refused(refusal),
     }
 }
@@ -148,12 +154,14 @@ pub fn build_and_fill(
 /// What the last tree comes to; it is handed in.
 pub fn reduce_tree<R: Reducer, B: Breaker>(
     pool: &mut Pool,
+    faces: &mut Faces,
     tree: Handle,
     store: Option<Name>,
     reducer: &R,
     watch: &mut Watch<B>,
 ) -> Evaluation
     requires stands { Stands pool.old }
+    requires lists { pool.old.size ≤ faces.old }
     requires last { Gives (without_root tree (forest pool.old)) (forest pool.old) tree (λ t. ⊤) }
     ensures reply { let t = tree_of tree pool.old in
         ComesTo (IsReduction R.room R.bits (free_of pool.old + size t) t (states B.state watch.old) (states B.state watch.new) (name_in store))
@@ -163,33 +171,42 @@ pub fn reduce_tree<R: Reducer, B: Breaker>(
     ensures counted { CountsRefusal (refusal_of_evaluation result) pool.old pool.new }
     ensures front { KeepsFront (tree ∷ []) (forest pool.old) (forest pool.new) }
     ensures stands { Stands pool.new }
+    ensures lists { faces.new ≡ faces.old }
 {
     match reducer.reduce(pool, tree, watch) {
-        Ok(answer) => show(pool, answer, store),
+        Ok(answer) => show(pool, faces, answer, store),
         Err(fault) => Evaluation::Refused(refusal_of(fault)),
     }
 }
 
 /// The face of a reduced tree takes its place, unless that is Undef or holds the name under which it
 /// is to be stored.
-fn show(pool: &mut Pool, answer: Handle, store: Option<Name>) -> Evaluation
+fn show(pool: &mut Pool, faces: &mut Faces, answer: Handle, store: Option<Name>) -> Evaluation
     requires stands { Stands pool.old }
+    requires lists { pool.old.size ≤ faces.old }
     requires handed { IsHanded answer (forest pool.old) }
     requires reduced { is_reduced (tree_of answer pool.old) ≡ true }
     ensures shows { Shows (name_in store) answer pool.old pool.new result }
     ensures counted { CountsRefusal (refusal_of_evaluation result) pool.old pool.new }
     ensures front { KeepsFront (answer ∷ []) (forest pool.old) (forest pool.new) }
     ensures stands { Stands pool.new }
+    ensures lists { faces.new ≡ faces.old }
 {
     match kind(pool, answer.id()) {
         Kind::Undef => Evaluation::Undefined,
-        _ => show_defined(pool, answer, store),
+        _ => show_defined(pool, faces, answer, store),
     }
 }
 
 /// The same, where it is not Undef.
-fn show_defined(pool: &mut Pool, answer: Handle, store: Option<Name>) -> Evaluation
+fn show_defined(
+    pool: &mut Pool,
+    faces: &mut Faces,
+    answer: Handle,
+    store: Option<Name>,
+) -> Evaluation
     requires stands { Stands pool.old }
+    requires lists { pool.old.size ≤ faces.old }
     requires handed { IsHanded answer (forest pool.old) }
     requires reduced { is_reduced (tree_of answer pool.old) ≡ true }
     requires defined { is_undef (tree_of answer pool.old) ≡ false }
@@ -197,10 +214,11 @@ fn show_defined(pool: &mut Pool, answer: Handle, store: Option<Name>) -> Evaluat
     ensures counted { CountsRefusal (refusal_of_evaluation result) pool.old pool.new }
     ensures front { KeepsFront (answer ∷ []) (forest pool.old) (forest pool.new) }
     ensures stands { Stands pool.new }
+    ensures lists { faces.new ≡ faces.old }
 {
     match name_within(pool, answer.id(), store) {
         Some(name) => Evaluation::Refused(Refusal::Circular { name }),
-        None => match face_of(pool, answer) {
+        None => match faces.face_of(pool, answer) {
             Ok(face) => Evaluation::Face(face),
             Err(full) => Evaluation::Refused(refused(full)),
         },

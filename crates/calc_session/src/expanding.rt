@@ -25,7 +25,7 @@ use crate::evaluating::{Evaluation, build_and_fill, refusal_of, refused};
 use crate::reading::read_expression;
 use crate::telling::tell;
 use crate::{LineAnswer, Refusal};
-use beautify::face_of;
+use beautify::Faces;
 use breakers::{Breaker, Watch};
 use calc_parser::Parser;
 use expand_forms::{expand, is_polynomial};
@@ -40,6 +40,7 @@ use tree_handles::Handle;
 #[inline(never)]
 pub fn expand_text<B: Breaker>(
     pool: &mut Pool,
+    faces: &mut Faces,
     table: &NameTable,
     parser: &mut Parser,
     text: &mut Text,
@@ -48,6 +49,7 @@ pub fn expand_text<B: Breaker>(
     before: u16,
 ) -> LineAnswer
     requires stands { Stands pool.old }
+    requires lists { pool.old.size ≤ faces.old }
     requires held { IsHeld table.now (forest pool.old) }
     requires empty { text.old.bytes ≡ [] }
     requires room { text.old.capacity ≡ 3 * pool.old.size + 8448 }
@@ -61,9 +63,10 @@ pub fn expand_text<B: Breaker>(
     ensures same { state_of pool.new table.now ≡ state_of pool.old table.now }
     ensures capacity { text.new.capacity ≡ text.old.capacity }
     ensures stands { Stands pool.new }
+    ensures lists { faces.new ≡ faces.old }
 {
     match read_expression(expression, before, parser) {
-        Ok(()) => tell_expansion(pool, table, parser, text, watch),
+        Ok(()) => tell_expansion(pool, faces, table, parser, text, watch),
         Err(refusal) => LineAnswer::Refused(refusal),
     }
 }
@@ -71,12 +74,14 @@ pub fn expand_text<B: Breaker>(
 /// Tells the expanded form of the expression that was read last. The nodes are as before.
 fn tell_expansion<B: Breaker>(
     pool: &mut Pool,
+    faces: &mut Faces,
     table: &NameTable,
     parser: &mut Parser,
     text: &mut Text,
     watch: &mut Watch<B>,
 ) -> LineAnswer
     requires stands { Stands pool.old }
+    requires lists { pool.old.size ≤ faces.old }
     requires held { IsHeld table.now (forest pool.old) }
     requires line { (t : Tree) × IsLine (bare (tokens_of parser.old)) None t }
     requires empty { text.old.bytes ≡ [] }
@@ -90,9 +95,10 @@ fn tell_expansion<B: Breaker>(
     ensures same { state_of pool.new table.now ≡ state_of pool.old table.now }
     ensures capacity { text.new.capacity ≡ text.old.capacity }
     ensures stands { Stands pool.new }
+    ensures lists { faces.new ≡ faces.old }
 {
     let mark = open_mark(pool);
-    let evaluation = expand_expression(pool, table, parser, watch);
+    let evaluation = expand_expression(pool, faces, table, parser, watch);
     let answer = tell(pool, text, evaluation);
     roll_back(pool, mark);
     answer
@@ -101,11 +107,13 @@ fn tell_expansion<B: Breaker>(
 /// What the expansion of the expression that was read last comes to. What it was made into stands behind all others.
 fn expand_expression<B: Breaker>(
     pool: &mut Pool,
+    faces: &mut Faces,
     table: &NameTable,
     parser: &mut Parser,
     watch: &mut Watch<B>,
 ) -> Evaluation
     requires stands { Stands pool.old }
+    requires lists { pool.old.size ≤ faces.old }
     requires held { IsHeld table.now (forest pool.old) }
     requires line { (t : Tree) × IsLine (bare (tokens_of parser.old)) None t }
     ensures reply { (t : Tree) → IsLine (bare (tokens_of parser.old)) None t
@@ -117,16 +125,23 @@ fn expand_expression<B: Breaker>(
     ensures counted { CountsRefusal (refusal_of_evaluation result) pool.old pool.new }
     ensures front { KeepsFront [] (forest pool.old) (forest pool.new) }
     ensures stands { Stands pool.new }
+    ensures lists { faces.new ≡ faces.old }
 {
     match build_and_fill(pool, table, parser) {
-        Ok(tree) => expand_tree(pool, tree, watch),
+        Ok(tree) => expand_tree(pool, faces, tree, watch),
         Err(refusal) => Evaluation::Refused(refusal),
     }
 }
 
 /// What the expansion of the last tree comes to; the tree is handed in. The face of the expanded tree takes its place.
-fn expand_tree<B: Breaker>(pool: &mut Pool, tree: Handle, watch: &mut Watch<B>) -> Evaluation
+fn expand_tree<B: Breaker>(
+    pool: &mut Pool,
+    faces: &mut Faces,
+    tree: Handle,
+    watch: &mut Watch<B>,
+) -> Evaluation
     requires stands { Stands pool.old }
+    requires lists { pool.old.size ≤ faces.old }
     requires last { Gives (without_root tree (forest pool.old)) (forest pool.old) tree (λ t. ⊤) }
     ensures reply { let t = tree_of tree pool.old in
         ComesTo (λ reply. IsReplyToExpansion (free_of pool.old + size t) (states B.state watch.old) (states B.state watch.new) (free_of pool.old) t (reported reply))
@@ -136,12 +151,13 @@ fn expand_tree<B: Breaker>(pool: &mut Pool, tree: Handle, watch: &mut Watch<B>) 
     ensures counted { CountsRefusal (refusal_of_evaluation result) pool.old pool.new }
     ensures front { KeepsFront (tree ∷ []) (forest pool.old) (forest pool.new) }
     ensures stands { Stands pool.new }
+    ensures lists { faces.new ≡ faces.old }
 {
     if !is_polynomial(pool, tree.id()) {
         return Evaluation::Refused(Refusal::NotPolynomial);
     }
     match expand(pool, tree, watch) {
-        Ok(expansion) => match face_of(pool, expansion) {
+        Ok(expansion) => match faces.face_of(pool, expansion) {
             Ok(face) => Evaluation::Face(face),
             Err(full) => Evaluation::Refused(refused(full)),
         },

@@ -19,6 +19,7 @@ use crate::evaluating::{Evaluation, evaluate};
 use crate::reading::{LINE_LIMIT, is_blank_line, read_line};
 use crate::text::{write_refusal, write_undef};
 use crate::{DrawFault, LineAnswer, Refusal};
+use beautify::Faces;
 use breakers::{Breaker, Watch};
 use calc_commands::is_command;
 use calc_edges::{Failed, Sink};
@@ -34,7 +35,8 @@ use std::marker::Model;
 use tree_handles::{number, open_pool};
 
 /// A pool, the table of the trees that stand in it, which are the last answer and the stored ones, the parser that each
-/// line is read by, and the drafter that answers are drawn with.
+/// line is read by, the drafter that answers are drawn with, and the lists
+/// that faces are written with.
 #[derive(Drop)]
 pub struct Session {
     pool: Pool,
@@ -42,6 +44,7 @@ pub struct Session {
     text: Text,
     parser: Parser,
     drafter: Drafter,
+    faces: Faces,
 }
 
 impl Model for Session {
@@ -73,6 +76,7 @@ impl Session {
         let text = Text::open(alloc, 3 * size + 8_448)?;
         let parser = Parser::open(alloc)?;
         let drafter = Drafter::open(alloc, size)?;
+        let faces = Faces::open(alloc, size)?;
         let answer = number(&mut pool, Rat::whole(0)).unwrap();
         Ok(Session {
             pool,
@@ -80,6 +84,7 @@ impl Session {
             text,
             parser,
             drafter,
+            faces,
         })
     }
 
@@ -132,6 +137,7 @@ impl Session {
         if is_command(line) {
             return answer_command(
                 &mut self.pool,
+                &mut self.faces,
                 &mut self.table,
                 &mut self.parser,
                 &mut self.drafter,
@@ -164,6 +170,7 @@ impl Session {
         };
         match evaluate(
             &mut self.pool,
+            &mut self.faces,
             &self.table,
             &mut self.parser,
             store,

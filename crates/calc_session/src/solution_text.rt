@@ -19,7 +19,7 @@ ghost use Rattle.calc_session.specs.SolutionTexts.{comma_before as comma_before_
 
 use crate::forms::place_form;
 use crate::text::push_operand;
-use beautify::face_of;
+use beautify::Faces;
 use calc_terms::{Name, Rat};
 use line_text::{Text, write_text};
 use linear_solve::{Line, Row, Solution};
@@ -29,11 +29,13 @@ use pool_checkpoints::{open_mark, roll_back};
 /// Writes the solutions of equations in these names.
 pub fn write_solution(
     pool: &mut Pool,
+    faces: &mut Faces,
     names: &[Name],
     solution: &Solution,
     text: &mut Text,
 ) -> Result<(), Full>
     requires stands { Stands pool.old }
+    requires lists { pool.old.size ≤ faces.old }
     requires rises { Rises (map name_of names.now) }
     requires few { length names.now ≤ 6 }
     requires empty { text.old.bytes ≡ [] }
@@ -47,13 +49,14 @@ pub fn write_solution(
     ensures as_before { pool.new ≡ after (lack_of result) pool.old.nodes pool.old }
     ensures capacity { text.new.capacity ≡ text.old.capacity }
     ensures stands { Stands pool.new }
+    ensures lists { faces.new ≡ faces.old }
 {
     match solution {
         Solution::Never(multipliers) => {
             write_multipliers(multipliers, text);
             Ok(())
         }
-        Solution::Solved(lines) => write_lines(pool, names, lines.as_slice(), text),
+        Solution::Solved(lines) => write_lines(pool, faces, names, lines.as_slice(), text),
     }
 }
 
@@ -80,8 +83,15 @@ fn comma_before(at: usize) -> &'static [u8]
 }
 
 /// Writes the line of each name, and `true` where there is none: at most 1,408 bytes for each.
-fn write_lines(pool: &mut Pool, names: &[Name], lines: &[Line], text: &mut Text) -> Result<(), Full>
+fn write_lines(
+    pool: &mut Pool,
+    faces: &mut Faces,
+    names: &[Name],
+    lines: &[Line],
+    text: &mut Text,
+) -> Result<(), Full>
     requires stands { Stands pool.old }
+    requires lists { pool.old.size ≤ faces.old }
     requires rises { Rises (map name_of names.now) }
     requires few { length names.now ≤ 6 }
     requires lines { length lines.now ≡ length names.now }
@@ -94,6 +104,7 @@ fn write_lines(pool: &mut Pool, names: &[Name], lines: &[Line], text: &mut Text)
     ensures as_before { pool.new ≡ after (lack_of result) pool.old.nodes pool.old }
     ensures capacity { text.new.capacity ≡ text.old.capacity }
     ensures stands { Stands pool.new }
+    ensures lists { faces.new ≡ faces.old }
 {
     if names.is_empty() {
         text.push(b"true");
@@ -101,7 +112,7 @@ fn write_lines(pool: &mut Pool, names: &[Name], lines: &[Line], text: &mut Text)
     }
     for at in 0..names.len() {
         text.push(comma_before(at));
-        write_line(pool, names, names[at], &lines[at], text)?;
+        write_line(pool, faces, names, names[at], &lines[at], text)?;
     }
     Ok(())
 }
@@ -109,12 +120,14 @@ fn write_lines(pool: &mut Pool, names: &[Name], lines: &[Line], text: &mut Text)
 /// Appends what is told of a name: at most 1,407 bytes.
 fn write_line(
     pool: &mut Pool,
+    faces: &mut Faces,
     names: &[Name],
     name: Name,
     line: &Line,
     text: &mut Text,
 ) -> Result<(), Full>
     requires stands { Stands pool.old }
+    requires lists { pool.old.size ≤ faces.old }
     requires rises { Rises (map name_of names.now) }
     requires few { length names.now ≤ 6 }
     requires small { IsSmallForm (map name_of names.now) (form_told line.now) }
@@ -126,6 +139,7 @@ fn write_line(
     ensures as_before { pool.new ≡ after (lack_of result) pool.old.nodes pool.old }
     ensures capacity { text.new.capacity ≡ text.old.capacity }
     ensures stands { Stands pool.new }
+    ensures lists { faces.new ≡ faces.old }
 {
     text.push(name.bytes());
     match line {
@@ -135,7 +149,7 @@ fn write_line(
         }
         Line::Bound { constant, coefs } => {
             text.push(b"=");
-            write_form(pool, names, *constant, coefs, text)
+            write_form(pool, faces, names, *constant, coefs, text)
         }
     }
 }
@@ -143,12 +157,14 @@ fn write_line(
 /// Appends a constant and multiples of names, at most 1,392 bytes. Their tree stands in the pool for so long.
 fn write_form(
     pool: &mut Pool,
+    faces: &mut Faces,
     names: &[Name],
     constant: Rat,
     coefs: &Row,
     text: &mut Text,
 ) -> Result<(), Full>
     requires stands { Stands pool.old }
+    requires lists { pool.old.size ≤ faces.old }
     requires rises { Rises (map name_of names.now) }
     requires few { length names.now ≤ 6 }
     requires small { IsSmall (map name_of names.now) (entries_of coefs.now) }
@@ -160,9 +176,10 @@ fn write_form(
     ensures as_before { pool.new ≡ after (lack_of result) pool.old.nodes pool.old }
     ensures capacity { text.new.capacity ≡ text.old.capacity }
     ensures stands { Stands pool.new }
+    ensures lists { faces.new ≡ faces.old }
 {
     let mark = open_mark(pool);
-    let written = write_above(pool, names, constant, coefs, text);
+    let written = write_above(pool, faces, names, constant, coefs, text);
     roll_back(pool, mark);
     written
 }
@@ -170,12 +187,14 @@ fn write_form(
 /// The same, but that the tree stays.
 fn write_above(
     pool: &mut Pool,
+    faces: &mut Faces,
     names: &[Name],
     constant: Rat,
     coefs: &Row,
     text: &mut Text,
 ) -> Result<(), Full>
     requires stands { Stands pool.old }
+    requires lists { pool.old.size ≤ faces.old }
     requires rises { Rises (map name_of names.now) }
     requires few { length names.now ≤ 6 }
     requires small { IsSmall (map name_of names.now) (entries_of coefs.now) }
@@ -187,9 +206,10 @@ fn write_above(
     ensures front { KeepsFront [] (forest pool.old) (forest pool.new) }
     ensures capacity { text.new.capacity ≡ text.old.capacity }
     ensures stands { Stands pool.new }
+    ensures lists { faces.new ≡ faces.old }
 {
     let tree = place_form(pool, names, constant, coefs)?;
-    let face = face_of(pool, tree)?;
+    let face = faces.face_of(pool, tree)?;
     write_text(pool, face.id(), text);
     Ok(())
 }

@@ -29,6 +29,7 @@ use crate::side_names::{NameList, in_array, names_in};
 use crate::solution_text::write_solution;
 use crate::{LineAnswer, Refusal};
 use arrayvec::ArrayVec;
+use beautify::Faces;
 use breakers::{Breaker, Watch};
 use calc_parser::Parser;
 use line_text::Text;
@@ -56,6 +57,7 @@ struct Roots {
 #[inline(never)]
 pub fn solve_equations<B: Breaker>(
     pool: &mut Pool,
+    faces: &mut Faces,
     table: &NameTable,
     parser: &mut Parser,
     text: &mut Text,
@@ -64,6 +66,7 @@ pub fn solve_equations<B: Breaker>(
     before: u16,
 ) -> LineAnswer
     requires stands { Stands pool.old }
+    requires lists { pool.old.size ≤ faces.old }
     requires held { IsHeld table.now (forest pool.old) }
     requires empty { text.old.bytes ≡ [] }
     requires room { 8448 ≤ text.old.capacity }
@@ -76,6 +79,7 @@ pub fn solve_equations<B: Breaker>(
     ensures same { state_of pool.new table.now ≡ state_of pool.old table.now }
     ensures capacity { text.new.capacity ≡ text.old.capacity }
     ensures stands { Stands pool.new }
+    ensures lists { faces.new ≡ faces.old }
 {
     let ranges = match read_equations(equations, before, parser) {
         Ok(ranges) => ranges,
@@ -94,7 +98,13 @@ pub fn solve_equations<B: Breaker>(
         Err(refusal) => return LineAnswer::Refused(refusal),
     };
     let names = in_array(solved.names.as_slice());
-    match write_solution(pool, &names[..solved.names.len()], &solved.solution, text) {
+    match write_solution(
+        pool,
+        faces,
+        &names[..solved.names.len()],
+        &solved.solution,
+        text,
+    ) {
         Ok(()) => LineAnswer::Report,
         Err(full) => {
             text.clear();

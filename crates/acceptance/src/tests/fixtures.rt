@@ -3,7 +3,7 @@ ghost use Rattle.std.specs.Prelude.{◌≡◌, IfOk, IfSome};
 ghost use Rattle.tree_handles.specs.Handed.{IsHanded, Gives};
 ghost use Rattle.tree_handles.specs.Standing.{Stands, forest};
 
-use beautify::face_of;
+use beautify::Faces;
 use breakers::{Breaker, CountBreaker, Watch};
 use calc_parser::{build, check};
 use calc_terms::Kind;
@@ -47,8 +47,9 @@ pub fn read(alloc: Global, pool: &mut Pool, line: &[u8]) -> Option<Handle>
     Some(tree)
 }
 
-/// A tree reduced, and its face, where it has one.
+/// A tree reduced, and its face, where it has one and there is memory for its lists.
 pub fn answer<R: Reducer>(
+    alloc: Global,
     reducer: &R,
     pool: &mut Pool,
     tree: Handle,
@@ -63,7 +64,10 @@ pub fn answer<R: Reducer>(
     match kind(pool, reduced.id()) {
         Kind::Undef => Ok(reduced),
         _ => {
-            let face = face_of(pool, reduced)?;
+            let Ok(mut faces) = Faces::open(alloc, pool.size()) else {
+                return Ok(reduced);
+            };
+            let face = faces.face_of(pool, reduced)?;
             Ok(face)
         }
     }

@@ -51,7 +51,7 @@ fn bytes_of_face<R: Reducer>(
     let Some(tree) = read(alloc, pool, line) else {
         return None;
     };
-    match answer(reducer, pool, tree, watch) {
+    match answer(alloc, reducer, pool, tree, watch) {
         Ok(_face) => Some(pool.used()),
         Err(_) => None,
     }

@@ -36,7 +36,7 @@ fn tried<R: Reducer>(
     let Some(tree) = read(alloc, pool, line) else {
         return Outcome::Unread;
     };
-    match answer(reducer, pool, tree, watch) {
+    match answer(alloc, reducer, pool, tree, watch) {
         Ok(face) => {
             if is_tree_of(alloc, pool, &face, text) {
                 Outcome::Wanted

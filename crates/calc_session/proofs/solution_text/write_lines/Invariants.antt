@@ -8,4 +8,5 @@ invariant-loop-at l = record {
   told : l.text.bytes ≡ with_commas (take l.at (line_texts (map name_of l.names) (map form_told l.lines)));
   short : length l.text.bytes ≤ 1408 * l.at;
   capacity : l.text.capacity ≡ l.fn.text.capacity;
+  lists : l.faces ≡ l.fn.faces;
 }

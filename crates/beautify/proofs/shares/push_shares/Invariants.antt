@@ -1,0 +1,12 @@
+use Rattle.std.proofs.Common.{◌≡◌, ◌+◌, ◌≤◌, length, vec_capacity}
+use Rattle.beautify.proofs.Shared.{children_of, plain, rest_trees, tree_at, kids_of, forest}
+use Rattle.beautify.proofs.Sharing.{IsShared}
+use Rattle.tree_handles.specs.Children.{root_ids}
+use Rattle.beautify.proofs.shares.push_shares.Given as goal
+
+abbrev pub invariant-loop-child : goal.invariant-loop-child
+invariant-loop-child l = record {
+  ids : l.child-iterator ≡ root_ids (rest_trees (l.fn.from + length l.yielded) (kids_of l.fn.parent (forest l.fn.pool)));
+  shared : IsShared l.fn.share l.fn.from l.yielded l.fn.pending.items l.pending.items l.came (forest l.fn.pool) (children_of (plain (tree_at l.fn.parent (forest l.fn.pool))));
+  capacity : vec_capacity l.fn.pending ≤ vec_capacity l.pending;
+}
