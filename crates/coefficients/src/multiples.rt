@@ -192,7 +192,7 @@ fn rational_times_factors(pool: &mut Pool, q: Rat, product: Handle) -> Result<Ha
             let leading = mul(q, rational(pool, first))?;
             let old = take_child(pool, &product, 0);
             release(pool, old);
-            if is_one(leading) {
+            if leading.is_one() {
                 Ok(unwrapped(pool, product))
             } else {
                 Ok(put_first(pool, leading, product)?)
@@ -200,11 +200,4 @@ fn rational_times_factors(pool: &mut Pool, q: Rat, product: Handle) -> Result<Ha
         }
         _ => Ok(put_first(pool, q, product)?),
     }
-}
-
-/// Whether a rational is 1.
-pub(crate) fn is_one(q: Rat) -> bool
-    ensures { result ≡ is_one_fraction (value_of q) }
-{
-    q.num() == 1 && q.den() == 1
 }

@@ -17,7 +17,7 @@ ghost use Rattle.tree_handles.specs.Faults.{Faults, OfOverflow};
 ghost use Rattle.tree_handles.specs.Roots.{without_root};
 ghost use Rattle.tree_handles.specs.Standing.{Stands, forest, KeepsRefusals};
 
-use crate::multiples::{distribute, is_one, put_before};
+use crate::multiples::{distribute, put_before};
 use crate::splicing::splice;
 use calc_terms::{Kind, Rat};
 use node_pool::Pool;
@@ -71,11 +71,11 @@ fn put_rational(pool: &mut Pool, q: Rat, part: Handle) -> Result<Handle, NumberF
         → IfErr result (LacksRoom (counted (tree_of part pool.old)) (free_of pool.old + size (tree_of part pool.old)) gs) }
     ensures stands { Stands pool.new }
 {
-    if is_zero(q) {
+    if q.is_zero() {
         release(pool, part);
         return Ok(number(pool, Rat::whole(0))?);
     }
-    if is_one(q) {
+    if q.is_one() {
         move_last(pool, &part);
         return Ok(part);
     }
@@ -101,11 +101,4 @@ fn put_other_rational(pool: &mut Pool, q: Rat, part: Handle) -> Result<Handle, N
         Kind::Add => distribute(pool, q, part),
         _ => Ok(put_before(pool, q, part)?),
     }
-}
-
-/// Whether a rational is 0.
-fn is_zero(q: Rat) -> bool
-    ensures { result ≡ is_zero_fraction (value_of q) }
-{
-    q.num() == 0
 }

@@ -1,7 +1,7 @@
 -- Calculations of which an operation may not fit.
-use Rattle.std.proofs.Common.{◌≡◌, ◌<◌, ◌≤◌, ℕ, zero, suc, ◌+◌, List, [], ◌∷◌, ◌++◌, length, take, drop, get_or, map, Bool, false, if◌then◌else◌, Result, Ok, Err, refl, sym, ap, ◌∙◌, arith}
+use Rattle.std.proofs.Common.{◌≡◌, ◌<◌, ◌≤◌, ℕ, zero, suc, ◌+◌, List, [], ◌∷◌, ◌++◌, length, take, drop, get_or, map, Bool, if◌then◌else◌, Result, Ok, Err, refl, sym, ap, ◌∙◌, arith}
 use Rattle.std.specs.Prelude.{All}
-use Rattle.linear_solve.proofs.Shared.{take_more, take_all, drop_more, take-append-drop, All-nil, All-cons, All-head, All-tail, All-same, Operation, operation_fits, result_of, Fraction, Misfit, and_then, fitted, each}
+use Rattle.linear_solve.proofs.Shared.{take_more, take_all, drop_more, take-append-drop, All-nil, All-cons, All-head, All-tail, All-same, Operation, result_of, Fraction, Misfit, and_then, fitted, each}
 
 -- ---- one after another
 
@@ -21,12 +21,6 @@ ok_is x y e = cc
 
 abbrev told : Operation → Fraction → Fraction → Bool → Result Fraction Misfit
 told op a b fits = if fits then Ok (result_of op a b) else Err (record { op = op; a = a; b = b })
-
-pub fitted_ok : (op : Operation) (a b r : Fraction) → r ≡ result_of op a b → ¬ (operation_fits op a b ≡ false) → fitted op a b ≡ Ok r
-fitted_ok op a b r e h = grind arith
-
-pub fitted_err : (op : Operation) (a b : Fraction) → operation_fits op a b ≡ false → fitted op a b ≡ Err (record { op = op; a = a; b = b })
-fitted_err op a b h = ap (told op a b) h
 
 pub fitted_is : (op : Operation) (a b r : Fraction) → fitted op a b ≡ Ok r → r ≡ result_of op a b
 fitted_is op a b r e = grind arith

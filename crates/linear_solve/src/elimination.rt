@@ -11,7 +11,7 @@ ghost use Rattle.linear_solve.specs.Fitting.{each};
 ghost use Rattle.linear_solve.specs.Told.{entries_of, misfit_of, pivot_of};
 
 use crate::fault::SolveFault;
-use crate::row::{EQUATION_LIMIT, NAME_LIMIT, Row, is_zero};
+use crate::row::{EQUATION_LIMIT, NAME_LIMIT, Row};
 use arrayvec::ArrayVec;
 use breakers::{Breaker, Watch};
 use rational128::{Overflow, invert};
@@ -105,7 +105,7 @@ pub(crate) fn first_with(at: usize, rows: &[Row]) -> Option<usize>
 fn place_with(at: usize, rows: &[Row]) -> Option<usize>
     ensures { result ≡ position (λ row. not (is_zero_fraction (entry at (entries_of row)))) rows.now }
 {
-    rows.iter().position(|row| !is_zero(row.get(at)))
+    rows.iter().position(|row| !row.get(at).is_zero())
 }
 
 /// The row at a place, divided by its entry for a name.

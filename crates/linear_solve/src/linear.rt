@@ -5,7 +5,6 @@ ghost use Rattle.tree_handles.specs.Expressions.{IsExpression, plain};
 ghost use Rattle.tree_handles.specs.Inside.{tree_at};
 ghost use Rattle.tree_handles.specs.Standing.{Stands, forest};
 
-use crate::row::is_zero;
 use calc_terms::Kind;
 use node_pool::{Id, Pool};
 use tree_handles::{child_id, children, kind, rational};
@@ -79,7 +78,7 @@ fn is_nonzero(pool: &Pool, t: Id) -> bool
     ensures { result ≡ is_nonzero (plain (tree_at t (forest pool.now))) }
 {
     match kind(pool, t) {
-        Kind::Num => !is_zero(rational(pool, t)),
+        Kind::Num => !rational(pool, t).is_zero(),
         _ => false,
     }
 }

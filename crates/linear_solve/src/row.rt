@@ -133,7 +133,7 @@ impl Row {
         ensures overflow { IfErr result (λ o. cleared name (entries_of pivot.now) (entries_of self.now) ≡ Err (misfit_of o)) }
     {
         let multiple = self.get(name);
-        if is_zero(multiple) {
+        if multiple.is_zero() {
             return Ok(self.behind(0));
         }
         self.without(multiple, pivot)
@@ -154,12 +154,6 @@ impl Row {
         }
         Ok(rest)
     }
-}
-
-pub(crate) fn is_zero(q: Rat) -> bool
-    ensures { result ≡ is_zero_fraction (value_of q) }
-{
-    q.num() == 0
 }
 
 /// 1 where the test holds, and else 0.
