@@ -124,9 +124,6 @@ module _ (room bits : Option (Tree → ℕ)) (before after : List Breaker) (line
 
 -- ---- what the pool refused
 
-pub counts_refusal : (refusal : Option Full) (old new : Seen) → CountsRefusal refusal (pool_of old) (pool_of new) → Counts refusal old new
-counts_refusal refusal old new k = grind arith
-
 -- ---- the face before it is kept
 
 module _ (p : PoolState) (others : Forest) (h id : ℕ) (u : Tree) (st : Stands p) (g : Gives others (forest p) h (λ x. x ≡ u)) (e : id ≡ h) where

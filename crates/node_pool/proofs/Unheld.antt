@@ -1,6 +1,6 @@
 -- The nodes that go of trees, one after another.
 use Rattle.std.proofs.Common.{Bool, List, [], ap, arith, cond, eqb, false, leb, length, refl, sym, true, ℕ, ◌++◌, ◌+◌, ◌-◌, ◌<◌, ◌∙◌, ◌∷◌, ◌≡◌, ◌≤◌}
-use Rattle.node_pool.proofs.Shared.{length-append, le-leb, lt-leb, ne_eqb, Node, unheld, used, between, since, until}
+use Rattle.node_pool.proofs.Shared.{length-append, le-leb, ne_eqb, Node, unheld, used, between, since, until}
 use Rattle.node_pool.proofs.Cuts.{until-append, until-since}
 use Rattle.node_pool.proofs.Sizes.{length_le_used, used-append}
 
@@ -8,14 +8,6 @@ use Rattle.node_pool.proofs.Sizes.{length_le_used, used-append}
 pub unheld_none : (ns : List Node) → unheld 0 ns ≡ []
 unheld_none [] = refl
 unheld_none (n ∷ ns) = refl
-
--- the next node is held more than once
-pub unheld_held : (trees : ℕ) (ms : List Node) (n : Node) (ns : List Node) → ms ≡ n ∷ ns → 1 < n.count → unheld trees ms ≡ []
-unheld_held trees ms n ns e h = ap (unheld trees) e ∙ held (eqb trees 0) (lt-leb n.count 1 h)
-  where
-    held : (t : Bool) → leb n.count 1 ≡ false → cond t [] (cond (leb n.count 1) (n ∷ unheld (trees - 1 + n.children) ns) []) ≡ []
-    held true q = refl
-    held false q = rw q refl
 
 -- the next node goes
 pub unheld_more : (trees : ℕ) (ms : List Node) (n : Node) (ns : List Node) → ms ≡ n ∷ ns → 0 < trees → n.count ≤ 1 → unheld trees ms ≡ n ∷ unheld (trees - 1 + n.children) ns

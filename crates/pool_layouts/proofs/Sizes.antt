@@ -82,6 +82,3 @@ refused_first free full (m ∷ ms) ns e = refused_by (nat_le m free) free full m
 -- one placing
 pub takes_one : (free n : ℕ) → n ≤ free → taking free (n ∷ []) ≡ Ok (free - n)
 takes_one free n h = ap (λ (b : Bool). if b then taking (free - n) [] else Err (record { needed = n; free = free })) (le-leb n free h)
-
-pub lacks_one : (free n : ℕ) (ns : List ℕ) → free < n → taking free (n ∷ ns) ≡ Err (record { needed = n; free = free })
-lacks_one free n ns h = ap (λ (b : Bool). if b then taking (free - n) ns else Err (record { needed = n; free = free })) (lt-leb n free h)

@@ -1,6 +1,6 @@
 -- The tree that stands last.
 use Rattle.std.proofs.Common.{◌≡◌, ℕ, cond, eqb, refl, sym, ap, ◌∙◌, subst, arith, Bool, true, false}
-use Rattle.tree_handles.proofs.Shared.{eqb-true, eq-eqb, State, plain, AllExpressions, IsExpression, Forest, empty, tree, join, arity, kids, root_id, with_root_kids, with_nth, AllOnce, IsOwned, IsHanded, Ends, holds, tree_at, kids_of, has_root, root_tree, without_root, put, Stands, forest}
+use Rattle.tree_handles.proofs.Shared.{eqb-true, eq-eqb, State, plain, AllExpressions, IsExpression, Forest, empty, tree, join, arity, kids, root_id, with_root_kids, with_nth, IsHanded, Ends, holds, tree_at, kids_of, has_root, root_tree, without_root, put, Stands, forest}
 use Rattle.tree_handles.proofs.Distinct.{Distinct, distinct, distinct_parts, tree_at-root}
 use Rattle.tree_handles.proofs.Forests.{join-empty}
 use Rattle.tree_handles.proofs.Roots.{root_held, root-left, root-right, tree-left, tree-right, without-left, without-right, put-left, put-right, root-without, root-put}
@@ -40,9 +40,6 @@ other_apart {i = i} {g = g} j h r = by_test (λ u. eqb i j ≡ u → u ≡ false
 
 pub other_rest : {i : ℕ} {t g f : Forest} (j : ℕ) → Ends i t g f → has_root j g ≡ true → without_root j f ≡ join (without_root j g) t
 other_rest {t = t} {g = g} j h r = ap (without_root j) h.whole ∙ without-left j g t r
-
-pub other_owned : {i j : ℕ} {t g f : Forest} → Ends i t g f → IsOwned j g → IsOwned j f
-other_owned {j = j} h r = record { root = other_root j h r.root; once = subst AllOnce (sym (other_tree j h r.root)) r.once }
 
 pub other_handed : {i j : ℕ} {t g f : Forest} → Ends i t g f → IsHanded j g → IsHanded j f
 other_handed h r = grind (arith, other_root, other_tree)

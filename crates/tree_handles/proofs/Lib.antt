@@ -35,7 +35,6 @@ pub mod Visiting
 pub mod Depths
 pub mod Dropping
 pub mod Counting
-pub mod Orders
 pub mod Refused
 pub mod Beside
 pub mod FreeBytes

@@ -2,7 +2,7 @@
 use Rattle.std.proofs.Common.{arith, ℕ, ◌+◌, Result, refl, ap, ◌∙◌, ◌-◌, ◌^◌, min}
 use Rattle.std.specs.Prelude.{IfErr}
 use Rattle.tree_handles.proofs.Shared.{Full, State, KeepsRefusals, Refuses}
-use Rattle.tree_handles.specs.Faults.{OfOverflow, Faults}
+use Rattle.tree_handles.specs.Faults.{OfOverflow}
 use Rattle.rational128.specs.declared.overflow.Overflow.{Overflow}
 use Rattle.tree_handles.specs.declared.fault.NumberFault.{NumberFault}
 
@@ -22,6 +22,3 @@ kept_after h k = record { size = k.size ∙ h.size; refusals = k.refusals ∙ h.
 
 pub refuses_after : {a b x : State} {full : Full} → KeepsRefusals a b → Refuses b x full → Refuses a x full
 refuses_after k r = record { size = r.size ∙ k.size; refusals = r.refusals ∙ ap (λ (n : ℕ). min (n + 1) (2 ^ 64 - 1)) k.refusals; last_refused = r.last_refused }
-
-pub faults_after : (a b x : State) (e : NumberFault) → KeepsRefusals a b → Faults b x e → Faults a x e
-faults_after a b x e k r = grind arith

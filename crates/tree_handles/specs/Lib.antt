@@ -11,5 +11,4 @@ pub mod Visits
 pub mod Faults
 pub mod Building
 pub mod Causes
-pub mod Orders
 pub mod Lacking

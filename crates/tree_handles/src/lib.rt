@@ -1,7 +1,6 @@
 //! Trees in a pool, held by handles.
 #![tactic(auto)]
 
-mod behind;
 mod building;
 mod copy;
 mod counts;
@@ -17,7 +16,6 @@ mod undef;
 mod visits;
 mod walk;
 
-pub use behind::node_behind;
 pub use building::{node_over, node_over_last, node_over_two};
 pub use copy::copy_tree;
 pub use counts::{child, retain};

@@ -282,20 +282,6 @@ fn a_copy_that_does_not_fit_changes_nothing(rt: HostRuntime) -> Result<(), Fail>
     Ok(())
 }
 
-/// Whether each node of a tree stands as many steps behind the root as a walk over the tree comes to it.
-fn are_behind_root(pool: &Pool, tree: Id) -> bool
-    requires stands { Stands pool.now }
-    requires live { holds tree (forest pool.now) ≡ true }
-{
-    for steps in 0..tree_nodes(pool, tree) {
-        match nodes_of(pool, tree).nth(steps as usize) {
-            Some(node) if node.id == node_behind(pool, tree, steps) => {}
-            _ => return false,
-        }
-    }
-    true
-}
-
 #[test]
 fn walks_come_to_each_parent_before_its_children(rt: HostRuntime) -> Result<(), Fail> {
     let mut pool = open_pool(rt.alloc(), 72)?;
@@ -309,7 +295,6 @@ fn walks_come_to_each_parent_before_its_children(rt: HostRuntime) -> Result<(), 
         assert_eq!(rt; nodes.next(), Some(Visit { kind, id, children }));
     }
     assert_eq!(rt; nodes.next(), None);
-    assert!(rt; are_behind_root(&pool, sum));
     assert_eq!(rt; count_trees(&pool), 1);
     Ok(())
 }
