@@ -6,6 +6,7 @@ pub mod ExpansionRoom
 pub mod ExpansionBits
 pub mod Terms
 pub mod Sums
+pub mod Named
 pub mod Rows
 pub mod Merging
 pub mod Walks

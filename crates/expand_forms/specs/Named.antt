@@ -1,0 +1,70 @@
+-- The names of packed monomials, and the polynomials of sorted lists of terms.
+use Rattle.std.specs.Prelude.{ℕ, zero, suc, ◌≡◌, ◌≤◌, ⊤, List, [], ◌∷◌, map, length, reverse}
+use Rattle.std.specs.declared.cmp.Ordering.TheVariants.{Less}
+use Rattle.std.specs.Ordering.{nat_cmp}
+use Rattle.std.specs.Cmp.Lexicographic.{slice_cmp}
+use Rattle.calc_terms.specs.Leaf.{name_of}
+use Rattle.calc_terms.specs.declared.name.Name.{Name}
+use Rattle.expand_forms.specs.Polynomials.{Monomial, Polynomial, factor, summand}
+use Rattle.expand_forms.specs.Sums.{AreSame}
+use Rattle.polynomials.specs.Polynomials.{Monomial as Exponents, Polynomial as PackedPolynomial}
+use Rattle.polynomials.specs.Terms.{IsNormal, polynomial_of}
+use Rattle.polynomials.specs.declared.term.Term.{Term}
+
+-- ---- names
+
+-- the name is below all of these
+abbrev pub IsBelowNames : List ℕ → List (List ℕ) → Type 0
+IsBelowNames x [] = ⊤
+IsBelowNames x (y ∷ ns) = (slice_cmp nat_cmp x y ≡ Less) × IsBelowNames x ns
+
+-- names rise by their bytes
+abbrev pub AreNames : List (List ℕ) → Type 0
+AreNames [] = ⊤
+AreNames (x ∷ ns) = IsBelowNames x ns × AreNames ns
+
+-- names as the code has them
+abbrev pub names_of : List Name → List (List ℕ)
+names_of xs = map name_of xs
+
+-- ---- monomials
+
+-- the factors of the names whose exponent is not 0
+abbrev pub factors_of : List (List ℕ) → Exponents → Monomial
+factors_of [] es = []
+factors_of (x ∷ ns) [] = []
+factors_of (x ∷ ns) (zero ∷ es) = factors_of ns es
+factors_of (x ∷ ns) (suc e ∷ es) = factor x (suc e) ∷ factors_of ns es
+
+-- of a packed monomial, in which the first name's exponent stands in the highest bits
+abbrev pub named : List (List ℕ) → Exponents → Monomial
+named ns es = factors_of ns (reverse es)
+
+-- no exponent is above 0
+abbrev pub AreZero : Exponents → Type 0
+AreZero [] = ⊤
+AreZero (e ∷ es) = (e ≡ 0) × AreZero es
+
+-- there are no exponents but those of the names
+abbrev pub AreOf : List (List ℕ) → Exponents → Type 0
+AreOf [] es = AreZero es
+AreOf (x ∷ ns) [] = ⊤
+AreOf (x ∷ ns) (e ∷ es) = AreOf ns es
+
+-- ---- polynomials
+
+abbrev pub named_polynomial : List (List ℕ) → PackedPolynomial → Polynomial
+named_polynomial ns v = map (λ s. summand s.coefficient (named ns s.monomial)) v
+
+-- each packed monomial has no exponents but those of the names
+abbrev pub HaveNames : List (List ℕ) → PackedPolynomial → Type 0
+HaveNames ns [] = ⊤
+HaveNames ns (s ∷ v) = AreOf ns (reverse s.monomial) × HaveNames ns v
+
+-- sorted terms with the coefficients of a polynomial, whose exponents are those of at most eight names
+pub record IsListOf (ns : List (List ℕ)) (ts : List Term) (v : Polynomial) : Type 0 where
+  pub names : AreNames ns
+  pub few : length ns ≤ 8
+  pub normal : IsNormal ts
+  pub within : HaveNames ns (polynomial_of ts)
+  pub same : AreSame (named_polynomial ns (polynomial_of ts)) v
