@@ -1,6 +1,6 @@
 -- How many terms are listed, and why none is listed any more.
 use Rattle.std.proofs.Common.{◌≡◌, ℕ, zero, suc, ◌+◌, ◌*◌, ◌^◌, ◌<◌, ◌≤◌, max, Bool, true, false, List, [], ◌∷◌, ◌++◌, length, take, ap, arith, length-append}
-use Rattle.std.specs.Prelude.{if◌then◌else◌, IfErr, IsErr, IsErrAnd, Result}
+use Rattle.std.specs.Prelude.{if◌then◌else◌, IfErr, IsErr, IsErrAnd, Result, Ok, Err}
 use Rattle.std.proofs.Math.Nat.{mul-le-mul_left, mul_comm, pow-le-pow_right, pow-suc, pow-zero}
 use Rattle.calc_terms.specs.Fractions.{is_zero_fraction}
 use Rattle.calc_terms.specs.Rat.{value_of}
@@ -8,7 +8,7 @@ use Rattle.polynomials.specs.declared.term.Term.{Term}
 use Rattle.polynomials.specs.declared.unfit.Unfit.{Unfit}
 use Rattle.polynomials.specs.declared.unfit.Unfit.TheVariants.{Terms, Coefficient}
 use Rattle.polynomials.specs.Rows.{AreBelow}
-use Rattle.polynomials.specs.Unfits.{IsCaused}
+use Rattle.polynomials.specs.Unfits.{IsCaused, OfCoefficient}
 use Rattle.polynomials.proofs.MergeLoops.{IsMerged}
 use Rattle.polynomials.proofs.Merges.{pushed}
 use Rattle.polynomials.proofs.Products.{IsPowerTo, IsProductTo}
@@ -65,3 +65,9 @@ power_bound zero l i n h k = omega arith
 power_bound (suc b) l i n h k =
     let more : suc b ^ (i + 1) ≤ suc b ^ n = pow-le-pow_right (omega arith) (omega arith) in
     omega (arith, power_few (suc b) l i (suc b * l) (omega arith) k)
+
+-- what holds anyway holds where a coefficient does not fit
+pub like_anyway : {A : Type 0} (p : Type 0) (r : Result A Unfit) → p → IfErr r (OfCoefficient p)
+like_anyway p (Ok a) h = tt
+like_anyway p (Err Terms) h = tt
+like_anyway p (Err (Coefficient o)) h = h

@@ -1,10 +1,11 @@
 -- Sorted lists of terms with one more, and with one less.
-use Rattle.std.proofs.Common.{◌≡◌, ◌≢◌, ℕ, zero, suc, ◌-◌, ◌<◌, ◌≤◌, List, [], ◌∷◌, ◌++◌, false, length, get_or, take, drop, sym, subst, arith}
+use Rattle.std.proofs.Common.{◌≡◌, ◌≢◌, ℕ, zero, suc, ◌-◌, ◌<◌, ◌≤◌, List, [], ◌∷◌, ◌++◌, false, length, get_or, take, drop, inl, inr, sym, ◌∙◌, subst, arith}
 use Rattle.calc_terms.specs.Fractions.{is_zero_fraction}
 use Rattle.calc_terms.specs.Rat.{value_of}
 use Rattle.polynomials.specs.declared.term.Term.{Term}
 use Rattle.polynomials.specs.Rows.{AreBelow, StartsFrom}
 use Rattle.polynomials.specs.Terms.{IsBelowAll, IsNormal}
+use Rattle.polynomials.specs.Unfits.{HasMonomial}
 
 -- ---- in order
 
@@ -93,3 +94,9 @@ pub below_first : (k : ℕ) (ts : List Term) (n : ℕ) (t : Term) → IsNormal t
 below_first k ts n t h p l e b =
     let s : suc (n - 1) ≡ n = omega arith in
     subst (λ (m : ℕ). AreBelow k (take m ts)) s (below_take k ts (n - 1) t h (omega arith) e b)
+
+-- a term at a place is one that has its monomial
+pub stands_at : (k : ℕ) (ts : List Term) (j : ℕ) (t : Term) → j < length ts → t ≡ get_or ts j t → t.monomial ≡ k → HasMonomial k ts
+stands_at k [] j t l e m = absurd (omega arith)
+stands_at k (x ∷ ts) zero t l e m = inl (sym (λ i. (e i).monomial) ∙ m)
+stands_at k (x ∷ ts) (suc j) t l e m = inr (stands_at k ts j t (omega arith) e m)

@@ -1,11 +1,11 @@
 //! One more term of a sorted list.
-ghost use Rattle.std.specs.Prelude.{◌≡◌, ◌≤◌, ◌∷◌, ℕ, IfErr, OnOk, drop, insert, length, take, vec_capacity, vec_len, if◌then◌else◌};
+ghost use Rattle.std.specs.Prelude.{◌≡◌, ◌≤◌, ◌∷◌, ◌+◌, ℕ, IfErr, OnOk, drop, insert, length, take, vec_capacity, vec_len, if◌then◌else◌};
 ghost use Rattle.calc_terms.specs.Fractions.{is_zero_fraction};
 ghost use Rattle.calc_terms.specs.Rat.{value_of};
 ghost use Rattle.polynomials.specs.Polynomials.{HaveExponents};
 ghost use Rattle.polynomials.specs.Rows.{AreBelow, StartsFrom};
 ghost use Rattle.polynomials.specs.Terms.{AreTermsOf, IsNormal, polynomial_of, summand_of};
-ghost use Rattle.polynomials.specs.Unfits.{IsCaused};
+ghost use Rattle.polynomials.specs.Unfits.{HasMonomial, IsCaused, OfCoefficient};
 
 use crate::list::is_zero;
 use crate::term::Term;
@@ -17,7 +17,9 @@ pub fn insert(list: &mut Vec<Term>, term: Term) -> Result<(), Unfit>
     ensures terms { OnOk result (AreTermsOf (summand_of term ∷ polynomial_of list.old.items) list.new.items) }
     ensures exponents { (d : ℕ) → HaveExponents d (summand_of term ∷ polynomial_of list.old.items)
         → OnOk result (HaveExponents d (polynomial_of list.new.items)) }
+    ensures few { OnOk result (length list.new.items ≤ length list.old.items + 1) }
     ensures unfit { IfErr result (IsCaused (vec_capacity list.old ≤ length list.old.items)) }
+    ensures like { IfErr result (OfCoefficient (HasMonomial term.monomial list.old.items)) }
     ensures room { vec_capacity list.old ≤ vec_capacity list.new }
 {
     let at = place_of(list, term.monomial);
@@ -55,6 +57,7 @@ fn insert_at(list: &mut Vec<Term>, at: usize, term: Term) -> Result<(), Unfit>
     requires within { at ≤ vec_len list.old }
     ensures ok { OnOk result (list.new.items ≡ (if is_zero_fraction (value_of term.coefficient) then list.old.items else insert list.old.items at term)) }
     ensures unfit { IfErr result (IsCaused (vec_capacity list.old ≤ length list.old.items)) }
+    ensures like { IfErr result (OfCoefficient ⊥) }
     ensures room { vec_capacity list.old ≤ vec_capacity list.new }
 {
     if is_zero(term.coefficient) {
