@@ -1,5 +1,5 @@
 -- A term inserted at its place.
-use Rattle.std.proofs.Common.{◌≡◌, ℕ, zero, suc, ◌<◌, ◌≤◌, Bool, true, false, List, [], ◌∷◌, ◌++◌, length, get_or, take, drop, refl, sym, ap, ◌∙◌, subst, arith, append_assoc, take-append-drop}
+use Rattle.std.proofs.Common.{◌≡◌, ◌⊎◌, ℕ, zero, suc, ◌<◌, ◌≤◌, Bool, true, false, List, [], ◌∷◌, ◌++◌, length, get_or, take, drop, inl, inr, refl, sym, ap, ◌∙◌, subst, arith, append_assoc, take-append-drop}
 use Rattle.std.specs.Prelude.{if◌then◌else◌, insert, remove}
 use Rattle.std.proofs.lemmas.List.{length-take-le}
 use Rattle.calc_terms.specs.Fractions.{is_zero_fraction, plus}
@@ -8,6 +8,7 @@ use Rattle.polynomials.specs.declared.term.Term.{Term}
 use Rattle.polynomials.specs.Polynomials.{HaveExponents}
 use Rattle.polynomials.specs.Rows.{AreBelow}
 use Rattle.polynomials.specs.Terms.{AreTermsOf, IsBelowAll, IsNormal, polynomial_of, summand_of}
+use Rattle.polynomials.specs.Unfits.{HasMonomial}
 use Rattle.polynomials.proofs.Merges.{exchanged_exponents, exchanged_terms, put_exponents, put_terms, pushed}
 
 -- the list with the term at a place, where its coefficient is not 0
@@ -24,6 +25,26 @@ inserted_as xs ys n t e = by (is_zero_fraction (value_of t.coefficient))
     by : (z : Bool) → (if z then xs ++ ys else insert (xs ++ ys) n t) ≡ (if z then xs else xs ++ t ∷ []) ++ ys
     by true = refl
     by false = ap (λ m. insert (xs ++ ys) m t) e ∙ parts xs ∙ sym (append_assoc xs (t ∷ []) ys)
+
+-- ---- whose monomials stand there
+
+-- one more
+has_parts : (k : ℕ) (xs ys : List Term) (t : Term) → HasMonomial k (xs ++ t ∷ ys) → (t.monomial ≡ k) ⊎ HasMonomial k (xs ++ ys)
+has_parts k [] ys t h = h
+has_parts k (x ∷ xs) ys t (inl e) = inr (inl e)
+has_parts k (x ∷ xs) ys t (inr h) = elim (has_parts k xs ys t h) [ inl e ↦ inl e | inr g ↦ inr (inr g) ]
+
+has_pushed : (k : ℕ) (xs ys : List Term) (t : Term) → HasMonomial k (pushed xs t ++ ys) → (t.monomial ≡ k) ⊎ HasMonomial k (xs ++ ys)
+has_pushed k xs ys t h = by (is_zero_fraction (value_of t.coefficient)) h
+  where
+    by : (z : Bool) → HasMonomial k ((if z then xs else xs ++ t ∷ []) ++ ys) → (t.monomial ≡ k) ⊎ HasMonomial k (xs ++ ys)
+    by true h = inr h
+    by false h = has_parts k xs ys t (subst (HasMonomial k) (append_assoc xs (t ∷ []) ys) h)
+
+has_more : (k : ℕ) (xs ys : List Term) (s : Term) → HasMonomial k (xs ++ ys) → HasMonomial k (xs ++ s ∷ ys)
+has_more k [] ys s h = inr h
+has_more k (x ∷ xs) ys s (inl e) = inl e
+has_more k (x ∷ xs) ys s (inr h) = inr (has_more k xs ys s h)
 
 -- ---- a monomial that does not stand there
 
@@ -44,6 +65,10 @@ module _ (xs : List Term) (n : ℕ) (t : Term) (zs : List Term) (l : n ≤ lengt
   insert_exponents d h =
       subst (λ (ys : List Term). HaveExponents d (polynomial_of ys)) (sym is)
       (put_exponents (take n xs) (drop n xs) (pushed (take n xs) t) t refl d (subst (λ (ys : List Term). HaveExponents d (summand_of t ∷ polynomial_of ys)) (sym whole) h))
+
+  pub insert_others : (k : ℕ) → HasMonomial k zs → (t.monomial ≡ k) ⊎ HasMonomial k xs
+  insert_others k h =
+      elim (has_pushed k (take n xs) (drop n xs) t (subst (HasMonomial k) is h)) [ inl q ↦ inl q | inr g ↦ inr (subst (HasMonomial k) whole g) ]
 
 -- ---- one that does
 
@@ -70,6 +95,13 @@ module _ (xs : List Term) (n : ℕ) (s t u : Term) (zs : List Term) (l : n < len
   exchange_exponents d h =
       subst (λ (ys : List Term). HaveExponents d (polynomial_of ys)) (sym is_as)
       (exchanged_exponents (take n xs) (drop (suc n) xs) s t u (pushed (take n xs) u) refl m k d (subst (λ (ys : List Term). HaveExponents d (summand_of t ∷ polynomial_of ys)) (sym whole_as) h))
+
+  pub exchange_others : (j : ℕ) → HasMonomial j zs → (t.monomial ≡ j) ⊎ HasMonomial j xs
+  exchange_others j h =
+      elim (has_pushed j (take n xs) (drop (suc n) xs) u (subst (HasMonomial j) is_as h)) [
+        | inl q ↦ inl (sym k ∙ q)
+        | inr g ↦ inr (subst (HasMonomial j) whole_as (has_more j (take n xs) (drop (suc n) xs) s g))
+      ]
 
 -- the first behind a place
 pub first_dropped : (xs : List Term) (n : ℕ) (y : Term) → n < length xs → y ≡ get_or xs n y → y ≡ get_or (drop n xs) 0 y

@@ -1,8 +1,8 @@
 -- What polynomials are worth, and which are the same.
-use Rattle.std.proofs.Common.{◌≡◌, [], ◌∷◌, ◌++◌, refl, sym, ap, ◌∙◌, append_assoc}
+use Rattle.std.proofs.Common.{◌≡◌, ℕ, zero, suc, [], ◌∷◌, ◌++◌, refl, sym, ap, ◌∙◌, append_assoc}
 use Rattle.calc_terms.specs.FractionLaws.{times_comm, times_assoc, times_plus, zero_plus, zero_times}
 use Rattle.calc_terms.specs.Fractions.{Fraction, plus, times, zero_fraction, plus_comm, plus_assoc}
-use Rattle.polynomials.specs.Polynomials.{Monomial, Polynomial, Summand, AreSame, monomial_times, product, row, summand, worth}
+use Rattle.polynomials.specs.Polynomials.{Monomial, Polynomial, Summand, AreSame, monomial_times, product, raised, row, scaled, summand, worth}
 
 plus_both : {a b c d : Fraction} → a ≡ b → c ≡ d → plus a c ≡ plus b d
 plus_both p q = λ i. plus (p i) (q i)
@@ -67,6 +67,29 @@ row_same s {w} {w'} h = record { at = λ g. worth_row g s w ∙ ap (times s.coef
 pub product_right : (v : Polynomial) {w w' : Polynomial} → AreSame w w' → AreSame (product v w) (product v w')
 product_right [] h = same_is refl
 product_right (s ∷ v) h = same_append (row_same s h) (product_right v h)
+
+worth_product : (g : Monomial → Fraction) (v w : Polynomial) → worth g (product v w) ≡ worth (λ m. worth (λ n. g (monomial_times m n)) w) v
+worth_product g [] w = refl
+worth_product g (s ∷ v) w = worth_append g (row s w) (product v w) ∙ plus_both (worth_row g s w) (worth_product g v w)
+
+pub product_left : {v v' : Polynomial} (w : Polynomial) → AreSame v v' → AreSame (product v w) (product v' w)
+product_left {v} {v'} w h = record { at = λ g. worth_product g v w ∙ h.at (λ m. worth (λ n. g (monomial_times m n)) w) ∙ sym (worth_product g v' w) }
+
+pub product_both : {v v' w w' : Polynomial} → AreSame v v' → AreSame w w' → AreSame (product v w) (product v' w')
+product_both {v} {v'} {w} {w'} h k = same_trans (product_left w h) (product_right v' k)
+
+pub raised_same : {v w : Polynomial} (n : ℕ) → AreSame v w → AreSame (raised v n) (raised w n)
+raised_same zero h = same_is refl
+raised_same (suc n) h = product_both h (raised_same n h)
+
+worth_scaled : (g : Monomial → Fraction) (c : Fraction) (v : Polynomial) → worth g (scaled c v) ≡ times c (worth g v)
+worth_scaled g c [] = sym (times_comm c zero_fraction ∙ zero_times c)
+worth_scaled g c (s ∷ v) =
+    let x : Fraction = g s.monomial in
+    plus_both (times_assoc c s.coefficient x) (worth_scaled g c v) ∙ sym (times_plus c (times s.coefficient x) (worth g v))
+
+pub scaled_same : (c : Fraction) {v w : Polynomial} → AreSame v w → AreSame (scaled c v) (scaled c w)
+scaled_same c {v} {w} h = record { at = λ g. worth_scaled g c v ∙ ap (times c) (h.at g) ∙ sym (worth_scaled g c w) }
 
 pub product_append : (u v w : Polynomial) → product (u ++ v) w ≡ product u w ++ product v w
 product_append [] v w = refl

@@ -1,5 +1,5 @@
 //! One more term of a sorted list.
-ghost use Rattle.std.specs.Prelude.{◌≡◌, ◌≤◌, ◌∷◌, ◌+◌, ℕ, IfErr, OnOk, drop, insert, length, take, vec_capacity, vec_len, if◌then◌else◌};
+ghost use Rattle.std.specs.Prelude.{◌≡◌, ◌≤◌, ◌⊎◌, ◌∷◌, ◌+◌, ℕ, IfErr, OnOk, drop, insert, length, take, vec_capacity, vec_len, if◌then◌else◌};
 ghost use Rattle.calc_terms.specs.Fractions.{is_zero_fraction};
 ghost use Rattle.calc_terms.specs.Rat.{value_of};
 ghost use Rattle.polynomials.specs.Polynomials.{HaveExponents};
@@ -17,6 +17,7 @@ pub fn insert(list: &mut Vec<Term>, term: Term) -> Result<(), Unfit>
     ensures terms { OnOk result (AreTermsOf (summand_of term ∷ polynomial_of list.old.items) list.new.items) }
     ensures exponents { (d : ℕ) → HaveExponents d (summand_of term ∷ polynomial_of list.old.items)
         → OnOk result (HaveExponents d (polynomial_of list.new.items)) }
+    ensures others { (k : ℕ) → OnOk result (HasMonomial k list.new.items → (term.monomial ≡ k) ⊎ HasMonomial k list.old.items) }
     ensures few { OnOk result (length list.new.items ≤ length list.old.items + 1) }
     ensures unfit { IfErr result (IsCaused (vec_capacity list.old ≤ length list.old.items)) }
     ensures like { IfErr result (OfCoefficient (HasMonomial term.monomial list.old.items)) }

@@ -5,7 +5,7 @@ use Rattle.polynomials.specs.declared.term.Term.{Term}
 use Rattle.polynomials.specs.Rows.{AreBelow, StartsFrom}
 use Rattle.polynomials.specs.Terms.{IsBelowAll, IsNormal}
 use Rattle.polynomials.proofs.Causes.{like_anyway}
-use Rattle.polynomials.proofs.Insertions.{exchange_exponents, exchange_terms, first_dropped, insert_exponents, insert_terms, inserted}
+use Rattle.polynomials.proofs.Insertions.{exchange_exponents, exchange_others, exchange_terms, first_dropped, insert_exponents, insert_others, insert_terms, inserted}
 use Rattle.polynomials.proofs.Normal.{behind_none, behind_other, normal_end, stands_at}
 use Rattle.polynomials.proofs.insertion.insert.Goals as goal
 use Rattle.polynomials.proofs.insertion.insert.Goals.{After-len}
@@ -80,3 +80,20 @@ pub returns-in_err-total-clause-like : goal.returns-in_err-total-clause-like
 returns-in_err-total-clause-like c =
     let k = (goal.at.returns-in_err-total-clause-like c).After-len in
     like_anyway _ c.from_residual.result (stands_at c.args.term.monomial (xs k) (at k) c.index-other.result.now (not_last k c.if-at-len.false) c.index-other.ensures c.if-other-term.false)
+
+pub returns-then-at-len-clause-others : goal.returns-then-at-len-clause-others
+returns-then-at-len-clause-others c = λ m.
+    let k = (goal.at.returns-then-at-len-clause-others c).After-len in
+    on_ok_weaker c.insert_at.result (λ e. insert_others (xs k) (at k) c.args.term c.insert_at.new.list.items (within k) e m) c.insert_at.ensures.ok
+
+pub returns-then-other-term-clause-others : goal.returns-then-other-term-clause-others
+returns-then-other-term-clause-others c = λ m.
+    let k = (goal.at.returns-then-other-term-clause-others c).After-len in
+    on_ok_weaker c.insert_at-then-other-term.result (λ e. insert_others (xs k) (at k) c.args.term c.insert_at-then-other-term.new.list.items (within k) e m) c.insert_at-then-other-term.ensures.ok
+
+pub returns-clause-others : goal.returns-clause-others
+returns-clause-others c = λ m.
+    let k = (goal.at.returns-clause-others c).After-len in
+    on_ok_weaker c.insert_at-2.result (λ e. exchange_others (xs k) (at k) c.index-other.result.now c.args.term c.in_ok-total.total c.insert_at-2.new.list.items
+    (not_last k c.if-at-len.false) c.index-other.ensures (e ∙ ap (λ (l : List Term). inserted l (at k) c.in_ok-total.total) c.remove.ensures.items)
+    c.if-other-term.false c.in_ok-total.ensures.monomial m) c.insert_at-2.ensures.ok
