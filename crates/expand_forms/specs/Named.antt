@@ -7,7 +7,7 @@ use Rattle.calc_terms.specs.Leaf.{name_of}
 use Rattle.calc_terms.specs.declared.name.Name.{Name}
 use Rattle.expand_forms.specs.Polynomials.{Monomial, Polynomial, factor, summand}
 use Rattle.expand_forms.specs.Sums.{AreSame}
-use Rattle.polynomials.specs.Polynomials.{Monomial as Exponents, Polynomial as PackedPolynomial}
+use Rattle.polynomials.specs.Polynomials.{Monomial as Exponents, Polynomial as PackedPolynomial, AreSame as AreSameValues}
 use Rattle.polynomials.specs.Terms.{IsNormal, polynomial_of}
 use Rattle.polynomials.specs.declared.term.Term.{Term}
 
@@ -61,10 +61,16 @@ abbrev pub HaveNames : List (List ℕ) → PackedPolynomial → Type 0
 HaveNames ns [] = ⊤
 HaveNames ns (s ∷ v) = AreOf ns (reverse s.monomial) × HaveNames ns v
 
+-- the same as a polynomial whose monomials have no exponents but those of the names
+pub record IsOfNames (ns : List (List ℕ)) (v : PackedPolynomial) : Type 0 where
+  pub alike : PackedPolynomial
+  pub named : HaveNames ns alike
+  pub same : AreSameValues v alike
+
 -- sorted terms with the coefficients of a polynomial, whose exponents are those of at most eight names
 pub record IsListOf (ns : List (List ℕ)) (ts : List Term) (v : Polynomial) : Type 0 where
   pub names : AreNames ns
   pub few : length ns ≤ 8
   pub normal : IsNormal ts
-  pub within : HaveNames ns (polynomial_of ts)
+  pub within : IsOfNames ns (polynomial_of ts)
   pub same : AreSame (named_polynomial ns (polynomial_of ts)) v
