@@ -40,7 +40,7 @@ product_is_same none (more u us) p e = absurd e
 product_is_same (more t ts) none p e = absurd e
 product_is_same (more t ts) (more u us) p e = let (a, b) = and_parts (is_polynomial t) (are_polynomials ts) p in product_both (child_same t u a e.0) (product_is_same ts us b e.1)
 
-raised_same : (n : ℕ) {v w : Polynomial} → AreSame v w → AreSame (raised v n) (raised w n)
+pub raised_same : (n : ℕ) {v w : Polynomial} → AreSame v w → AreSame (raised v n) (raised w n)
 raised_same zero h = same_refl (raised [] zero)
 raised_same (suc n) h = product_both h (raised_same n h)
 

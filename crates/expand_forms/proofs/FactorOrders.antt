@@ -68,7 +68,7 @@ whole_cmp : (a b : ℕ) → fraction_cmp (lowest (pos a) 1) (lowest (pos b) 1) �
 whole_cmp a b = (λ i. int_cmp (cross_is a b i) (cross_is b a i)) ∙ natural_cmp a b
 
 -- a numerator that is compared
-exponent_read : (z : ℤ) (x : Read) (f : Factor) → IsRead x f → z ≡ (ratio_of x.exponent).num → IsRat (ratio_of x.exponent) → to_z w128 (of_z w128 z) ≡ pos f.exponent
+pub exponent_read : (z : ℤ) (x : Read) (f : Factor) → IsRead x f → z ≡ (ratio_of x.exponent).num → IsRat (ratio_of x.exponent) → to_z w128 (of_z w128 z) ≡ pos f.exponent
 exponent_read z x f r e is =
     ap (λ (y : ℤ). to_z w128 (of_z w128 y)) e ∙ told (ratio_of x.exponent).num (omega (arith, is.num_fits)) ∙ sym (ratio_parts x.exponent).num
     ∙ ap (λ (q : Fraction). q.num) r.exponent ∙ whole_numerator (pos f.exponent)
@@ -79,7 +79,7 @@ exponents_cmp y z a b f g r q e h is are = (λ i. int_cmp (exponent_read y a f r
 
 -- ---- names
 
-one_name : (x y : Name) → name_of x ≡ name_of y → x.text ≡ y.text
+pub one_name : (x y : Name) → name_of x ≡ name_of y → x.text ≡ y.text
 one_name x y e = x.holds_name.whole ∙ ap padded e ∙ sym y.holds_name.whole
 
 pub symbol_is : {x y : List ℕ} → symbol x ≡ symbol y → x ≡ y

@@ -56,3 +56,10 @@ pub mod OverAnswers
 pub mod Defined
 pub mod Shared
 pub mod Turned
+pub mod NameLists
+pub mod NamedMonomials
+pub mod NamedNodes
+pub mod NamedPolynomials
+pub mod TermLists
+pub mod PackedTerms
+pub mod ReadTerms

@@ -98,7 +98,7 @@ few_factors ns m w h = few_among ns m w (are_among ns m h)
 
 -- ---- more names
 
-among_contained : (ns : List (List ℕ)) (x : List ℕ) → is_among x ns ≡ true → Contains ns x
+pub among_contained : (ns : List (List ℕ)) (x : List ℕ) → is_among x ns ≡ true → Contains ns x
 among_contained [] x h = clash true refl (sym h)
 among_contained (y ∷ ys) x h = by (bytes_eq y x) refl h (among_contained ys x)
   where

@@ -7,6 +7,7 @@ pub mod ExpansionBits
 pub mod Terms
 pub mod Sums
 pub mod Named
+pub mod Reading
 pub mod Rows
 pub mod Merging
 pub mod Walks

@@ -1,5 +1,5 @@
 -- The names of packed monomials, and the polynomials of sorted lists of terms.
-use Rattle.std.specs.Prelude.{ℕ, zero, suc, ◌≡◌, ◌≤◌, ⊤, List, [], ◌∷◌, map, length, reverse}
+use Rattle.std.specs.Prelude.{ℕ, zero, suc, ◌≡◌, ◌≢◌, ◌≤◌, ⊤, List, [], ◌∷◌, map, length, reverse}
 use Rattle.std.specs.declared.cmp.Ordering.TheVariants.{Less}
 use Rattle.std.specs.Ordering.{nat_cmp}
 use Rattle.std.specs.Cmp.Lexicographic.{slice_cmp}
@@ -23,18 +23,32 @@ abbrev pub AreNames : List (List ℕ) → Type 0
 AreNames [] = ⊤
 AreNames (x ∷ ns) = IsBelowNames x ns × AreNames ns
 
+-- these names are below one
+abbrev pub AreNamesBelow : List ℕ → List (List ℕ) → Type 0
+AreNamesBelow x [] = ⊤
+AreNamesBelow x (y ∷ ns) = (slice_cmp nat_cmp y x ≡ Less) × AreNamesBelow x ns
+
+-- that of the first is not
+abbrev pub StartNamesFrom : List ℕ → List (List ℕ) → Type 0
+StartNamesFrom x [] = ⊤
+StartNamesFrom x (y ∷ ns) = slice_cmp nat_cmp y x ≢ Less
+
 -- names as the code has them
 abbrev pub names_of : List Name → List (List ℕ)
 names_of xs = map name_of xs
 
 -- ---- monomials
 
+-- a name with its exponent before other factors, unless it is 0
+abbrev pub led : List ℕ → ℕ → Monomial → Monomial
+led x zero m = m
+led x (suc e) m = factor x (suc e) ∷ m
+
 -- the factors of the names whose exponent is not 0
 abbrev pub factors_of : List (List ℕ) → Exponents → Monomial
 factors_of [] es = []
 factors_of (x ∷ ns) [] = []
-factors_of (x ∷ ns) (zero ∷ es) = factors_of ns es
-factors_of (x ∷ ns) (suc e ∷ es) = factor x (suc e) ∷ factors_of ns es
+factors_of (x ∷ ns) (e ∷ es) = led x e (factors_of ns es)
 
 -- of a packed monomial, in which the first name's exponent stands in the highest bits
 abbrev pub named : List (List ℕ) → Exponents → Monomial
@@ -51,18 +65,22 @@ AreOf [] es = AreZero es
 AreOf (x ∷ ns) [] = ⊤
 AreOf (x ∷ ns) (e ∷ es) = AreOf ns es
 
+-- eight exponents, of which all are those of the names
+abbrev pub IsOfNames : List (List ℕ) → Exponents → Type 0
+IsOfNames ns es = (length es ≡ 8) × AreOf ns (reverse es)
+
 -- ---- polynomials
 
 abbrev pub named_polynomial : List (List ℕ) → PackedPolynomial → Polynomial
 named_polynomial ns v = map (λ s. summand s.coefficient (named ns s.monomial)) v
 
--- each packed monomial has no exponents but those of the names
+-- each packed monomial is one of the names
 abbrev pub HaveNames : List (List ℕ) → PackedPolynomial → Type 0
 HaveNames ns [] = ⊤
-HaveNames ns (s ∷ v) = AreOf ns (reverse s.monomial) × HaveNames ns v
+HaveNames ns (s ∷ v) = IsOfNames ns s.monomial × HaveNames ns v
 
--- the same as a polynomial whose monomials have no exponents but those of the names
-pub record IsOfNames (ns : List (List ℕ)) (v : PackedPolynomial) : Type 0 where
+-- the same as a polynomial whose monomials are those of the names
+pub record IsWithin (ns : List (List ℕ)) (v : PackedPolynomial) : Type 0 where
   pub alike : PackedPolynomial
   pub named : HaveNames ns alike
   pub same : AreSameValues v alike
@@ -72,5 +90,5 @@ pub record IsListOf (ns : List (List ℕ)) (ts : List Term) (v : Polynomial) : T
   pub names : AreNames ns
   pub few : length ns ≤ 8
   pub normal : IsNormal ts
-  pub within : IsOfNames ns (polynomial_of ts)
+  pub within : IsWithin ns (polynomial_of ts)
   pub same : AreSame (named_polynomial ns (polynomial_of ts)) v

@@ -10,13 +10,17 @@ mod listed;
 mod merging;
 mod monomials;
 mod multiplying;
+mod naming;
 mod node;
 mod ordering;
+mod packing;
 mod polynomial;
 mod products;
 mod rationals;
+mod reading;
 mod replacing;
 mod terms;
+mod unlisted;
 mod walking;
 
 pub use expansion::expand;

@@ -21,15 +21,15 @@ use tree_handles::{Nodes, child_id, children, kind, name, nodes_below, nodes_of,
 
 /// A walk over the nodes of a term's factors.
 #[derive(Drop)]
-struct FactorWalk<'a> {
+pub(crate) struct FactorWalk<'a> {
     /// The kind of the tree of its monomial.
     kind: Kind,
-    nodes: Nodes<'a>,
+    pub nodes: Nodes<'a>,
 }
 
 impl<'a> FactorWalk<'a> {
     /// The walk over a term.
-    fn of(pool: &'a Pool, term: Id) -> FactorWalk<'a>
+    pub(crate) fn of(pool: &'a Pool, term: Id) -> FactorWalk<'a>
         requires stands { Stands pool.now }
         requires expression { IsExpression term (forest pool.now) }
         ensures kind { (m : Monomial) → HasMonomial m (plain (tree_at term (forest pool.now))) → result.kind ≡ root_kind (monomial_tree m) }
@@ -86,7 +86,7 @@ fn kind_behind(pool: &Pool, product: Id, first: u16) -> Kind
 
 /// The next factor of a walk.
 #[inline(always)]
-fn next_read(pool: &Pool, nodes: &mut Nodes<'_>) -> Option<Factor>
+pub(crate) fn next_read(pool: &Pool, nodes: &mut Nodes<'_>) -> Option<Factor>
     requires stands { Stands pool.now }
     requires ahead { (m : Monomial) × AreAhead m nodes.old (forest pool.now) }
     ensures factor { (m : Monomial) → AreAhead m nodes.old (forest pool.now) → BeginsWith result m }
