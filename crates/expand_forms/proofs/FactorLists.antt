@@ -1,9 +1,11 @@
 -- Monomials as lists of their factors.
 use Rattle.std.proofs.Common.{◌≡◌, ◌≤◌, ◌<◌, ℕ, zero, suc, ◌+◌, List, [], ◌∷◌, ◌++◌, length, drop, refl, sym, ap, ◌∙◌, subst, arith, append_assoc, append-nil}
 use Rattle.std.specs.Prelude.{Some, slice_index_or}
-use Rattle.expand_forms.proofs.Shared.{BeginsWith, IsNext, Next, Monomial, monomial_times, IsRead}
+use Rattle.expand_forms.proofs.Shared.{length-append, BeginsWith, IsNext, Next, Monomial, monomial_times, IsRead}
 use Rattle.expand_forms.specs.declared.factors.Factor.{Factor as Read}
-use Rattle.expand_forms.specs.Listed.{AreRead}
+use Rattle.expand_forms.specs.Listed.{AreRead, IsListing}
+use Rattle.expand_forms.specs.declared.listed.Listing.{Listing}
+use Rattle.expand_forms.specs.declared.listed.Listing.TheVariants.{Listed, TooMany}
 use Rattle.expand_forms.proofs.TermReadings.{drop_all, drop_length, drop_more}
 
 pub read_length : (xs : List Read) (m : Monomial) → AreRead xs m → length xs ≡ length m
@@ -55,9 +57,21 @@ listed_more {m} {n} {i} {j} {xs} w x h =
       right = omega (arith, drop_length j n w.right, h.right_within, w.right);
     }
 
+-- more than eight
+pub listed_over : {m n : Monomial} {i j : ℕ} {xs : List Read} (w : IsListed m n i j xs) (x : Next) → IsNext (drop i m) (drop j n) x → 8 ≤ length xs → 8 < length (monomial_times m n)
+listed_over {m} {n} {i} {j} {xs} w x h l =
+    let rest = monomial_times (drop x.left (drop i m)) (drop x.right (drop j n)) in
+    let whole : monomial_times m n ≡ w.done ++ h.factor ∷ rest = sym w.split ∙ ap (λ (k : Monomial). w.done ++ k) h.product in
+    omega (arith, l, read_length xs w.done w.read, ap length whole, length-append w.done (h.factor ∷ rest))
+
 pub listed_all : {m n : Monomial} {i j : ℕ} {xs : List Read} → IsListed m n i j xs → drop i m ≡ [] → drop j n ≡ [] → AreRead xs (monomial_times m n)
 listed_all {xs = xs} w e k = subst (AreRead xs) (sym (append-nil w.done) ∙ sym (λ s. w.done ++ monomial_times (e s) (k s)) ∙ w.split) w.read
 
 pub listed_as : {m n : Monomial} {i j k l : ℕ} {xs ys : List Read} → i ≡ k → j ≡ l → xs ≡ ys → IsListed m n i j xs → IsListed m n k l ys
 listed_as {m} {n} {i} {j} {k} {l} {xs} {ys} e f g w =
     subst (λ (p : ℕ). IsListed m n p l ys) e (subst (λ (p : ℕ). IsListed m n i p ys) f (subst (IsListed m n i j) g w))
+
+-- not more than eight
+pub listed_if : (xs : List Read) (m : Monomial) (x : Listing) → (x ≡ TooMany → ⊥) → IsListing xs m x → AreRead xs m
+listed_if xs m Listed n h = h
+listed_if xs m TooMany n h = absurd (n refl)

@@ -60,6 +60,6 @@ pub mod NameLists
 pub mod NamedMonomials
 pub mod NamedNodes
 pub mod NamedPolynomials
-pub mod TermLists
+pub mod ListLaws
 pub mod PackedTerms
 pub mod ReadTerms

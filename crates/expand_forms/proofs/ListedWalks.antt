@@ -1,9 +1,9 @@
 -- Lists of factors, and the factors that a walk comes to.
-use Rattle.std.proofs.Common.{◌≡◌, ◌<◌, ℕ, suc, ◌+◌, List, length, [], ◌∷◌, ◌++◌, drop, Some, Bool, true, false, refl, sym, ap, ◌∙◌, subst, arith, append_assoc, append-nil, add-one, drop-cons, get_or}
+use Rattle.std.proofs.Common.{◌≡◌, ◌<◌, ℕ, suc, ◌+◌, List, length, [], ◌∷◌, ◌++◌, ◌≤◌, drop, Some, Bool, true, false, refl, sym, ap, ◌∙◌, subst, arith, append_assoc, append-nil, add-one, drop-cons, get_or}
 use Rattle.std.specs.Prelude.{◌==◌, not}
-use Rattle.expand_forms.proofs.Shared.{AreAhead, AreRead, trees_cmp, ordering_index, ordering_then, Ordering, tree_cmp, BeginsWith, factor_tree, factor_trees, Factor, Monomial, IsRead, Forest}
+use Rattle.expand_forms.proofs.Shared.{length-append, AreAhead, AreRead, trees_cmp, ordering_index, ordering_then, Ordering, tree_cmp, BeginsWith, factor_tree, factor_trees, Factor, Monomial, IsRead, Forest}
 use Rattle.expand_forms.specs.declared.factors.Factor.{Factor as Read}
-use Rattle.expand_forms.proofs.FactorLists.{read_more}
+use Rattle.expand_forms.proofs.FactorLists.{read_length, read_more}
 use Rattle.expand_forms.proofs.TermReadings.{drop_more}
 use Rattle.node_order.proofs.Pairs.{equal_roots}
 use Rattle.tree_handles.specs.declared.visits.Visit.{Visit}
@@ -105,3 +105,10 @@ taken_more {xs = xs} {left = left} {base = base} t x b a =
 
 pub taken_all : {m : Monomial} {xs : List Read} {nodes : List Visit} {base : Forest} (t : AreTaken m xs nodes base) → t.others ≡ [] → AreRead xs m
 taken_all {xs = xs} t e = subst (AreRead xs) (sym (t.split ∙ ap (λ (n : Monomial). t.listed ++ n) e ∙ append-nil t.listed)) t.read
+
+-- more than eight
+pub taken_over : {m : Monomial} {xs : List Read} {nodes : List Visit} {base : Forest} (t : AreTaken m xs nodes base) (x : Read) → BeginsWith (Some x) t.others → 8 ≤ length xs → 8 < length m
+taken_over {m} {xs} t x b l =
+    let (f, r, e, is) = b in
+    let whole : m ≡ t.listed ++ f ∷ r = t.split ∙ ap (λ (n : Monomial). t.listed ++ n) e in
+    omega (arith, l, read_length xs t.listed t.read, ap length whole, length-append t.listed (f ∷ r))

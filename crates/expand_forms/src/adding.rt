@@ -24,6 +24,7 @@ ghost use Rattle.tree_handles.specs.Roots.{without_root};
 ghost use Rattle.tree_handles.specs.Standing.{KeepsRefusals, LacksBytes, Refuses, Stands, forest};
 
 use crate::factors::{self, Factor, Factors};
+use crate::listed::Listing;
 use crate::monomials::{completed, place_merged};
 use crate::multiplying::Multiplier;
 use crate::ordering::{Sought, place_of};
@@ -73,10 +74,10 @@ pub(crate) fn join_product<const N: usize>(
         → IfErr result (OfFull (λ full. free_of pool.old < term_bytes (length (monomial_times m n)))) }
     ensures stands { Stands pool.new }
 {
-    if left.multiply(pool, t)? {
-        return join_listed(pool, sum, list, coefficient, left.product(), near);
+    match left.multiply(pool, t)? {
+        Listing::Listed => join_listed(pool, sum, list, coefficient, left.product(), near),
+        Listing::TooMany => join_placed(pool, sum, list, coefficient, s, t, near),
     }
-    join_placed(pool, sum, list, coefficient, s, t, near)
 }
 
 /// Joins a coefficient times a monomial of listed factors to a sum in the same way.

@@ -1,9 +1,9 @@
 //! Monomials of few names, as lists of their factors.
 ghost use Rattle.expand_forms.specs.ExpansionBits.{HasExponents};
-ghost use Rattle.std.specs.Prelude.{◌≡◌, ◌<◌, ◌^◌, ℕ, IfOk, IfErr, drop, true};
+ghost use Rattle.std.specs.Prelude.{◌≡◌, ◌<◌, ◌^◌, ℕ, IfOk, IfErr, drop};
 ghost use Rattle.calc_algebra.specs.TreeOrder.{tree_cmp};
 ghost use Rattle.expand_forms.specs.ExpandedTrees.{factor_tree, monomial_cmp, monomial_tree};
-ghost use Rattle.expand_forms.specs.Listed.{AreRead};
+ghost use Rattle.expand_forms.specs.Listed.{AreRead, IsListing};
 ghost use Rattle.expand_forms.specs.Merging.{BeginsWith};
 ghost use Rattle.expand_forms.specs.Polynomials.{Factor as FactorOf, IsMonomial, Monomial, monomial_times};
 ghost use Rattle.expand_forms.specs.Terms.{IsRead};
@@ -24,15 +24,24 @@ pub(crate) const LISTED: usize = 8;
 /// The factors of a monomial, in the order of their names.
 pub(crate) type FactorList = ArrayVec<Factor, LISTED>;
 
-/// Lists the product of two monomials, where it has few factors, and tells whether it has.
+/// Whether the factors of a monomial are listed.
+#[derive(Clone, Copy)]
+pub(crate) enum Listing {
+    /// All of them are.
+    Listed,
+    /// There are more than are listed.
+    TooMany,
+}
+
+/// Lists the factors of the product of two monomials.
 pub(crate) fn list_product(
     left: &[Factor],
     right: &[Factor],
     product: &mut FactorList,
-) -> Result<bool, Overflow>
+) -> Result<Listing, Overflow>
     requires monomials { (m : Monomial) × (n : Monomial) × IsMonomial m × IsMonomial n × AreRead left.now m × AreRead right.now n }
     ensures product { (m n : Monomial) → IsMonomial m → IsMonomial n → AreRead left.now m → AreRead right.now n
-        → IfOk result (λ is. is ≡ true → AreRead product.new.items (monomial_times m n)) }
+        → IfOk result (IsListing product.new.items (monomial_times m n)) }
     ensures overflow { IfErr result Overflows }
     ensures fits { (m n : Monomial) (k : ℕ) → IsMonomial m → IsMonomial n → AreRead left.now m → AreRead right.now n
         → HasExponents k (monomial_times m n) → k < 2 ^ 127 → IfErr result (λ _. ⊥) }
@@ -42,13 +51,13 @@ pub(crate) fn list_product(
     let mut j = 0;
     while let Some(next) = next_factor(listed_at(left, i), listed_at(right, j))? {
         if product.is_full() {
-            return Ok(false);
+            return Ok(Listing::TooMany);
         }
         product.push(next.factor);
         i += usize::from(next.left);
         j += usize::from(next.right);
     }
-    Ok(true)
+    Ok(Listing::Listed)
 }
 
 /// The factor at a place of a list, none behind the last one.

@@ -1,7 +1,7 @@
 //! The factors of a term, read in one walk over its nodes.
 ghost use Rattle.std.specs.Prelude.{◌≡◌, ◌<◌, ◌≤◌, IfSome, drop, length, true};
 ghost use Rattle.expand_forms.specs.ExpandedTrees.{monomial_cmp};
-ghost use Rattle.expand_forms.specs.Listed.{AreAhead, AreRead};
+ghost use Rattle.expand_forms.specs.Listed.{AreAhead, AreRead, IsListing};
 ghost use Rattle.expand_forms.specs.Merging.{BeginsWith};
 ghost use Rattle.expand_forms.specs.Polynomials.{Monomial};
 ghost use Rattle.expand_forms.specs.Terms.{HasMonomial, first_place};
@@ -13,7 +13,7 @@ ghost use Rattle.tree_handles.specs.Inside.{tree_at};
 ghost use Rattle.tree_handles.specs.Standing.{Stands, forest};
 
 use crate::factors::{Factor, first_factor};
-use crate::listed::{FactorList, compare_factors, monomial_kind};
+use crate::listed::{FactorList, Listing, compare_factors, monomial_kind};
 use calc_terms::{Kind, Rat};
 use node_pool::{Id, Pool};
 use std::cmp::Ordering;
@@ -110,22 +110,22 @@ pub(crate) fn next_read(pool: &Pool, nodes: &mut Nodes<'_>) -> Option<Factor>
     }
 }
 
-/// Lists the factors of a term, where they are few, and tells whether they are.
-pub(crate) fn list_factors(pool: &Pool, term: Id, factors: &mut FactorList) -> bool
+/// Lists the factors of a term.
+pub(crate) fn list_factors(pool: &Pool, term: Id, factors: &mut FactorList) -> Listing
     requires stands { Stands pool.now }
     requires expression { IsExpression term (forest pool.now) }
     requires monomial { (m : Monomial) × HasMonomial m (plain (tree_at term (forest pool.now))) }
-    ensures { (m : Monomial) → HasMonomial m (plain (tree_at term (forest pool.now))) → result ≡ true → AreRead factors.new.items m }
+    ensures { (m : Monomial) → HasMonomial m (plain (tree_at term (forest pool.now))) → IsListing factors.new.items m result }
 {
     factors.clear();
     let mut nodes = FactorWalk::of(pool, term).nodes;
     while let Some(factor) = next_read(pool, &mut nodes) {
         if factors.is_full() {
-            return false;
+            return Listing::TooMany;
         }
         factors.push(factor);
     }
-    true
+    Listing::Listed
 }
 
 /// The order of the monomial of a term and another one.

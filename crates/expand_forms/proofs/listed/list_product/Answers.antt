@@ -1,8 +1,8 @@
-use Rattle.std.proofs.Common.{sym, subst, List, arith, drop}
+use Rattle.std.proofs.Common.{◌≤◌, ◌∙◌, length, sym, subst, List, arith, drop}
 use Rattle.expand_forms.specs.declared.factors.Factor.{Factor as Read}
 use Rattle.expand_forms.specs.Listed.{AreRead}
-use Rattle.expand_forms.proofs.Shared.{GoesOn, HasExponents, IsMonomial, IsNext, Monomial, monomial_times}
-use Rattle.expand_forms.proofs.FactorLists.{IsListed, listed_all, listed_as, listed_more, listed_none, read_length}
+use Rattle.expand_forms.proofs.Shared.{eqb-true, GoesOn, HasExponents, IsMonomial, IsNext, Monomial, monomial_times}
+use Rattle.expand_forms.proofs.FactorLists.{IsListed, listed_over, listed_all, listed_as, listed_more, listed_none, read_length}
 use Rattle.expand_forms.proofs.Masses.{later_exponents}
 use Rattle.expand_forms.proofs.Merged.{all_gone}
 use Rattle.expand_forms.proofs.TermReadings.{drop_length, drop_monomial}
@@ -55,8 +55,13 @@ returns-in_err-next-clause-fits c = λ m n p h k r s x l.
     let rest = later_exponents p w.done (monomial_times (drop c.loop-next.i m) (drop c.loop-next.j n)) (subst (HasExponents p) (sym w.split) x) in
     absurd (c.in_err-next.ensures.fits (drop c.loop-next.i m) (drop c.loop-next.j n) p (drop_monomial c.loop-next.i m h) (drop_monomial c.loop-next.j n k) (c.listed_at.ensures m r) (c.listed_at-in-loop-next.ensures n s) rest l)
 
+pub returns-then-is_full-clause-product : goal.returns-then-is_full-clause-product
+returns-then-is_full-clause-product c = λ m n h k r s.
+    let full : 8 ≤ length c.loop-next.product.items = omega (arith, eqb-true _ _ (sym c.is_full.ensures.value ∙ c.if-is_full.true)) in
+    listed_over (c.loop-next.invariant.listed m n h k r s) c.in-Some.next (next (goal.at.returns-then-is_full-clause-product c).In-Some m n h k r s) full
+
 pub returns-clause-product : goal.returns-clause-product
-returns-clause-product c = λ m n h k r s is.
+returns-clause-product c = λ m n h k r s.
     let goes = c.in_ok-next.ensures.next (drop c.loop-next.i m) (drop c.loop-next.j n) (drop_monomial c.loop-next.i m h) (drop_monomial c.loop-next.j n k) (c.listed_at.ensures m r) (c.listed_at-in-loop-next.ensures n s) in
     let (e, d) = all_gone c.in_ok-next.field-0 goes c.in_default.not-Some in
     listed_all (c.loop-next.invariant.listed m n h k r s) e d
