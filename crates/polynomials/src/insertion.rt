@@ -7,7 +7,6 @@ ghost use Rattle.polynomials.specs.Rows.{AreBelow, StartsFrom};
 ghost use Rattle.polynomials.specs.Terms.{AreTermsOf, IsNormal, polynomial_of, summand_of};
 ghost use Rattle.polynomials.specs.Unfits.{HasMonomial, IsCaused, OfCoefficient};
 
-use crate::list::is_zero;
 use crate::term::Term;
 use crate::unfit::Unfit;
 
@@ -61,7 +60,7 @@ fn insert_at(list: &mut Vec<Term>, at: usize, term: Term) -> Result<(), Unfit>
     ensures like { IfErr result (OfCoefficient ⊥) }
     ensures room { vec_capacity list.old ≤ vec_capacity list.new }
 {
-    if is_zero(term.coefficient) {
+    if term.coefficient.is_zero() {
         return Ok(());
     }
     if list.len() == list.capacity() {

@@ -1,13 +1,11 @@
 //! Lists of terms, whose memory was taken before.
 ghost use Rattle.std.specs.Prelude.{◌≡◌, ◌<◌, ◌≤◌, ◌+◌, [], ◌∷◌, ◌++◌, IfErr, OnOk, length, vec_capacity, if◌then◌else◌};
 ghost use Rattle.calc_terms.specs.Fractions.{is_zero_fraction};
-ghost use Rattle.calc_terms.specs.Integers.{int_is_zero};
 ghost use Rattle.calc_terms.specs.Rat.{value_of};
 ghost use Rattle.polynomials.specs.Unfits.{IsCaused};
 
 use crate::term::Term;
 use crate::unfit::Unfit;
-use calc_terms::Rat;
 
 /// One more term, where there is room for it.
 pub(crate) fn push(list: &mut Vec<Term>, term: Term) -> Result<(), Unfit>
@@ -28,7 +26,7 @@ pub(crate) fn push_nonzero(list: &mut Vec<Term>, term: Term) -> Result<(), Unfit
     ensures unfit { IfErr result (IsCaused (vec_capacity list.old ≤ length list.old.items)) }
     ensures room { vec_capacity list.old ≤ vec_capacity list.new }
 {
-    if is_zero(term.coefficient) {
+    if term.coefficient.is_zero() {
         return Ok(());
     }
     push(list, term)
@@ -45,16 +43,4 @@ pub(crate) fn extend(list: &mut Vec<Term>, terms: &[Term]) -> Result<(), Unfit>
     }
     list.extend_from_slice(terms).unwrap();
     Ok(())
-}
-
-pub(crate) fn is_zero(value: Rat) -> bool
-    ensures { result ≡ is_zero_fraction (value_of value) }
-{
-    is_zero_number(value.num())
-}
-
-fn is_zero_number(number: i128) -> bool
-    ensures { result ≡ int_is_zero number }
-{
-    number == 0
 }
