@@ -27,6 +27,7 @@ use calc_commands::{
 };
 use calc_parser::Parser;
 use calc_terms::Name;
+use expand_forms::TermLists;
 use line_text::Text;
 use name_table::NameTable;
 use node_pool::Pool;
@@ -39,6 +40,7 @@ use reduce_port::Reducer;
 pub fn answer_command<R: Reducer, B: Breaker>(
     pool: &mut Pool,
     faces: &mut Faces,
+    lists: &mut TermLists,
     table: &mut NameTable,
     parser: &mut Parser,
     drafter: &mut Drafter,
@@ -96,7 +98,9 @@ pub fn answer_command<R: Reducer, B: Breaker>(
         }
         Command::Expand(expression) => {
             let before = bytes_before(line, expression);
-            expand_text(pool, faces, table, parser, text, watch, expression, before)
+            expand_text(
+                pool, faces, lists, table, parser, text, watch, expression, before,
+            )
         }
     }
 }

@@ -28,7 +28,7 @@ use crate::{LineAnswer, Refusal};
 use beautify::Faces;
 use breakers::{Breaker, Watch};
 use calc_parser::Parser;
-use expand_forms::{expand, is_polynomial};
+use expand_forms::{TermLists, expand, is_polynomial};
 use line_text::Text;
 use name_table::NameTable;
 use node_pool::Pool;
@@ -41,6 +41,7 @@ use tree_handles::Handle;
 pub fn expand_text<B: Breaker>(
     pool: &mut Pool,
     faces: &mut Faces,
+    lists: &mut TermLists,
     table: &NameTable,
     parser: &mut Parser,
     text: &mut Text,
@@ -66,7 +67,7 @@ pub fn expand_text<B: Breaker>(
     ensures lists { faces.new ≡ faces.old }
 {
     match read_expression(expression, before, parser) {
-        Ok(()) => tell_expansion(pool, faces, table, parser, text, watch),
+        Ok(()) => tell_expansion(pool, faces, lists, table, parser, text, watch),
         Err(refusal) => LineAnswer::Refused(refusal),
     }
 }
@@ -75,6 +76,7 @@ pub fn expand_text<B: Breaker>(
 fn tell_expansion<B: Breaker>(
     pool: &mut Pool,
     faces: &mut Faces,
+    lists: &mut TermLists,
     table: &NameTable,
     parser: &mut Parser,
     text: &mut Text,
@@ -98,7 +100,7 @@ fn tell_expansion<B: Breaker>(
     ensures lists { faces.new ≡ faces.old }
 {
     let mark = open_mark(pool);
-    let evaluation = expand_expression(pool, faces, table, parser, watch);
+    let evaluation = expand_expression(pool, faces, lists, table, parser, watch);
     let answer = tell(pool, text, evaluation);
     roll_back(pool, mark);
     answer
@@ -108,6 +110,7 @@ fn tell_expansion<B: Breaker>(
 fn expand_expression<B: Breaker>(
     pool: &mut Pool,
     faces: &mut Faces,
+    lists: &mut TermLists,
     table: &NameTable,
     parser: &mut Parser,
     watch: &mut Watch<B>,
@@ -128,7 +131,7 @@ fn expand_expression<B: Breaker>(
     ensures lists { faces.new ≡ faces.old }
 {
     match build_and_fill(pool, table, parser) {
-        Ok(tree) => expand_tree(pool, faces, tree, watch),
+        Ok(tree) => expand_tree(pool, faces, lists, tree, watch),
         Err(refusal) => Evaluation::Refused(refusal),
     }
 }
@@ -137,6 +140,7 @@ fn expand_expression<B: Breaker>(
 fn expand_tree<B: Breaker>(
     pool: &mut Pool,
     faces: &mut Faces,
+    lists: &mut TermLists,
     tree: Handle,
     watch: &mut Watch<B>,
 ) -> Evaluation
@@ -156,7 +160,7 @@ fn expand_tree<B: Breaker>(
     if !is_polynomial(pool, tree.id()) {
         return Evaluation::Refused(Refusal::NotPolynomial);
     }
-    match expand(pool, tree, watch) {
+    match expand(pool, tree, lists, watch) {
         Ok(expansion) => match faces.face_of(pool, expansion) {
             Ok(face) => Evaluation::Face(face),
             Err(full) => Evaluation::Refused(refused(full)),

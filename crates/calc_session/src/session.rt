@@ -25,6 +25,7 @@ use calc_commands::is_command;
 use calc_edges::{Failed, Sink};
 use calc_parser::Parser;
 use calc_terms::{Name, Rat};
+use expand_forms::TermLists;
 use line_text::{Text, write_text};
 use name_table::NameTable;
 use node_pool::{Id, Pool};
@@ -34,9 +35,17 @@ use std::alloc::{AllocError, Global};
 use std::marker::Model;
 use tree_handles::{number, open_pool};
 
+/// For each term of a polynomial that is expanded in lists so many bytes of the pool are counted, and there is room for so many at
+/// least and at most.
+const BYTES_OF_TERM: u32 = 128;
+
+const LEAST_TERMS: u32 = 64;
+
+const MOST_TERMS: u32 = 4_096;
+
 /// A pool, the table of the trees that stand in it, which are the last answer and the stored ones, the parser that each
-/// line is read by, the drafter that answers are drawn with, and the lists
-/// that faces are written with.
+/// line is read by, the drafter that answers are drawn with, and the lists that faces are written with and that
+/// polynomials are expanded in.
 #[derive(Drop)]
 pub struct Session {
     pool: Pool,
@@ -45,6 +54,7 @@ pub struct Session {
     parser: Parser,
     drafter: Drafter,
     faces: Faces,
+    lists: TermLists,
 }
 
 impl Model for Session {
@@ -77,6 +87,7 @@ impl Session {
         let parser = Parser::open(alloc)?;
         let drafter = Drafter::open(alloc, size)?;
         let faces = Faces::open(alloc, size)?;
+        let lists = TermLists::open(alloc, terms_within(size))?;
         let answer = number(&mut pool, Rat::whole(0)).unwrap();
         Ok(Session {
             pool,
@@ -85,6 +96,7 @@ impl Session {
             parser,
             drafter,
             faces,
+            lists,
         })
     }
 
@@ -138,6 +150,7 @@ impl Session {
             return answer_command(
                 &mut self.pool,
                 &mut self.faces,
+                &mut self.lists,
                 &mut self.table,
                 &mut self.parser,
                 &mut self.drafter,
@@ -268,6 +281,11 @@ impl Session {
     {
         self.table.ans()
     }
+}
+
+/// How many terms the lists have room for, beside a pool of so many bytes.
+fn terms_within(size: u32) -> u16 {
+    (size / BYTES_OF_TERM).max(LEAST_TERMS).min(MOST_TERMS) as u16
 }
 
 /// The answer to a line whose tree is displayed.

@@ -30,11 +30,12 @@ impl Reducer for DeepReducer {
         tree: Handle,
         watch: &mut Watch<B>,
     ) -> Result<Handle, ReduceFault> {
-        walk(pool, tree, watch, &NodeReducer)
+        walk(pool, tree, watch, &mut NodeReducer)
     }
 }
 
 /// Reduces one node over reduced children.
+#[derive(Drop)]
 struct NodeReducer;
 
 impl NodeStep for NodeReducer {
@@ -49,7 +50,7 @@ impl NodeStep for NodeReducer {
     fn laws(&self) {}
 
     #[tactic(auto, using(crate::proofs::Ready::answers_reduced))]
-    fn step(&self, pool: &mut Pool, tree: Handle) -> Result<Handle, NumberFault> {
+    fn step(&mut self, pool: &mut Pool, tree: Handle) -> Result<Handle, NumberFault> {
         reduce_node(pool, tree)
     }
 }

@@ -100,7 +100,7 @@ names_differ x y b e h o = clash (bytes_eq x.text y.text) (sym e ∙ h) ((bytes_
 -- ---- factors
 
 -- kinds decide, and then names, and then exponents
-factors_cmp : (f g : Factor) → tree_cmp (factor_tree f) (factor_tree g) ≡ ordering_then (nat_cmp (root_code (factor_tree f)) (root_code (factor_tree g))) (ordering_then (slice_cmp nat_cmp f.name g.name) (nat_cmp f.exponent g.exponent))
+pub factors_cmp : (f g : Factor) → tree_cmp (factor_tree f) (factor_tree g) ≡ ordering_then (nat_cmp (root_code (factor_tree f)) (root_code (factor_tree g))) (ordering_then (slice_cmp nat_cmp f.name g.name) (nat_cmp f.exponent g.exponent))
 factors_cmp f g = grind (arith, whole_cmp, then-equal)
 
 -- roots whose kinds are found to be one
@@ -121,7 +121,7 @@ kinds_first : (f g : Factor) → tree_cmp (factor_tree f) (factor_tree g) ≡ or
 kinds_first f g = grind (arith, then-equal)
 
 -- kinds decide, and then the factors
-monomials_cmp : (m n : Monomial) → monomial_cmp m n ≡ ordering_then (nat_cmp (root_code (monomial_tree m)) (root_code (monomial_tree n))) (trees_cmp (factor_trees m) (factor_trees n))
+pub monomials_cmp : (m n : Monomial) → monomial_cmp m n ≡ ordering_then (nat_cmp (root_code (monomial_tree m)) (root_code (monomial_tree n))) (trees_cmp (factor_trees m) (factor_trees n))
 monomials_cmp [] [] = tree_cmp_refl (num one_fraction)
 monomials_cmp [] (g ∷ n) =
     on_monomial (λ v. tree_cmp (num one_fraction) v ≡ ordering_then (nat_cmp 1 (root_code v)) Less) g n (on_factor (λ v. tree_cmp (num one_fraction) v ≡ ordering_then (nat_cmp 1 (root_code v)) Less) g refl refl) (λ h k. refl)

@@ -46,7 +46,7 @@ few_normal {v = v} h = gathered_few (gathered_normal v) h
 
 -- ---- trees
 
-named_monomials : (ns : List (List ℕ)) (v : Polynomial) → AreMonomials v → AreNamed ns v → AllHave (IsNamedMonomial ns) v
+pub named_monomials : (ns : List (List ℕ)) (v : Polynomial) → AreMonomials v → AreNamed ns v → AllHave (IsNamedMonomial ns) v
 named_monomials ns [] h k = tt
 named_monomials ns (s ∷ v) h k = (record { monomial = h.0; named = k.0 }, named_monomials ns v h.1 k.1)
 

@@ -63,3 +63,9 @@ pub mod NamedPolynomials
 pub mod ListLaws
 pub mod PackedTerms
 pub mod ReadTerms
+pub mod PackedOrders
+pub mod Totals
+pub mod OrderedTerms
+pub mod PlacedTerms
+pub mod EachNamed
+pub mod ValueNodes

@@ -59,7 +59,7 @@ product_from (suc n) (more t ts) l =
     let e : suc (n + 1) ≡ suc n + 1 = omega arith in
     product_from n ts (omega (arith, l)) ∙ ap (λ (k : ℕ). product (polynomial_of (nth n ts)) (product_of (from k (more t ts)))) e
 
-product_from_none : (n : ℕ) (ts : Trees) → count ts ≤ n → product_of (from n ts) ≡ constant one_fraction
+pub product_from_none : (n : ℕ) (ts : Trees) → count ts ≤ n → product_of (from n ts) ≡ constant one_fraction
 product_from_none zero none l = refl
 product_from_none (suc n) none l = refl
 product_from_none zero (more t ts) l = absurd (omega (arith, l))

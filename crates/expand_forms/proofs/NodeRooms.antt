@@ -16,7 +16,7 @@ names_from zero ts = within_same (names_of ts)
 names_from (suc n) none = within_none []
 names_from (suc n) (more t ts) = within_trans (within_right (names t) (names_of ts)) (names_from n ts)
 
-nth_names : (n : ℕ) (ts : Trees) → Within (names_of ts) (names (nth n ts))
+pub nth_names : (n : ℕ) (ts : Trees) → Within (names_of ts) (names (nth n ts))
 nth_names n none = within_none []
 nth_names zero (more t ts) = within_left (names t) (names_of ts)
 nth_names (suc n) (more t ts) = within_trans (within_right (names t) (names_of ts)) (nth_names n ts)

@@ -12,3 +12,5 @@ pub mod Rows
 pub mod Merging
 pub mod Walks
 pub mod Listed
+pub mod PackedOrder
+pub mod ByValues

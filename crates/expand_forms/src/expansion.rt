@@ -18,6 +18,7 @@ ghost use Rattle.tree_handles.specs.Roots.{without_root};
 ghost use Rattle.tree_handles.specs.Standing.{LacksBytes, Stands, forest};
 
 use crate::node::expand_node;
+use crate::term_lists::TermLists;
 use breakers::{Breaker, Watch};
 use node_pool::Pool;
 use reduce_port::ReduceFault;
@@ -25,12 +26,13 @@ use reduce_walk::{NodeStep, walk};
 use tree_handles::{Handle, NumberFault};
 
 /// The expanded tree of a tree that is a polynomial. The watch is checked once for each of its nodes, children before
-/// their parent and from left to right, each time before that node's own step.
+/// their parent and from left to right, each time before that node's own step. What stands in the lists does not matter.
 ///
 /// A child is expanded by a call within its parent's, so the machine's stack that it takes grows with the tree's depth.
 pub fn expand<B: Breaker>(
     pool: &mut Pool,
     tree: Handle,
+    lists: &mut TermLists,
     watch: &mut Watch<B>,
 ) -> Result<Handle, ReduceFault>
     requires stands { Stands pool.old }
@@ -68,13 +70,11 @@ pub fn expand<B: Breaker>(
     ensures front { KeepsFront (tree ∷ []) (forest pool.old) (forest pool.new) }
     ensures stands { Stands pool.new }
 {
-    walk(pool, tree, watch, &NodeExpander)
+    walk(pool, tree, watch, lists)
 }
 
 /// Expands one node over expanded children.
-struct NodeExpander;
-
-impl NodeStep for NodeExpander {
+impl NodeStep for TermLists {
     ghost can_take = { IsPolynomial };
 
     ghost answers = { IsExpandedFrom };
@@ -85,7 +85,7 @@ impl NodeStep for NodeExpander {
 
     fn laws(&self) {}
 
-    fn step(&self, pool: &mut Pool, tree: Handle) -> Result<Handle, NumberFault> {
-        expand_node(pool, tree)
+    fn step(&mut self, pool: &mut Pool, tree: Handle) -> Result<Handle, NumberFault> {
+        expand_node(pool, tree, self)
     }
 }

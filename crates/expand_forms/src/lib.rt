@@ -2,6 +2,7 @@
 #![tactic(auto)]
 
 mod adding;
+mod by_values;
 mod expansion;
 mod factors;
 mod joining;
@@ -13,18 +14,22 @@ mod multiplying;
 mod naming;
 mod node;
 mod ordering;
+mod packed_order;
 mod packing;
+mod placing;
 mod polynomial;
 mod products;
 mod rationals;
 mod reading;
 mod replacing;
+mod term_lists;
 mod terms;
 mod unlisted;
 mod walking;
 
 pub use expansion::expand;
 pub use polynomial::is_polynomial;
+pub use term_lists::TermLists;
 
 #[cfg(test)]
 mod tests;

@@ -22,8 +22,11 @@ ghost use Rattle.tree_handles.specs.Inside.{tree_at};
 ghost use Rattle.tree_handles.specs.Roots.{without_root};
 ghost use Rattle.tree_handles.specs.Standing.{KeepsRefusals, Stands, forest};
 
+use crate::by_values::expand_values;
 use crate::joining::join_products;
+use crate::placing::place_terms;
 use crate::products::{finished, place_power, place_scaled, times};
+use crate::term_lists::TermLists;
 use calc_terms::{Kind, Rat};
 use child_lists::{ChildList, MANY};
 use node_pool::{Id, Pool};
@@ -35,7 +38,11 @@ use tree_handles::{
 /// The expanded tree of a node over expanded children, which is consumed. It is not inlined, so that the walk keeps little of the
 /// machine's stack for each level.
 #[inline(never)]
-pub(crate) fn expand_node(pool: &mut Pool, tree: Handle) -> Result<Handle, NumberFault>
+pub(crate) fn expand_node(
+    pool: &mut Pool,
+    tree: Handle,
+    lists: &mut TermLists,
+) -> Result<Handle, NumberFault>
     requires stands { Stands pool.old }
     requires handed { IsHanded tree (forest pool.old) }
     requires polynomial { has_polynomial_root (tree_of tree pool.old) ≡ true }
@@ -50,12 +57,35 @@ pub(crate) fn expand_node(pool: &mut Pool, tree: Handle) -> Result<Handle, Numbe
         → IfErr result (OfFull (λ full. free_of pool.old < node_bytes (names whole) n)) }
     ensures stands { Stands pool.new }
 {
-    let answer = place_expansion(pool, tree.id())?;
+    let answer = place_answer(pool, tree.id(), lists)?;
     release(pool, tree);
     Ok(answer)
 }
 
-/// A new last tree: the expanded tree of a node over expanded children, which stays.
+/// A new last tree: the expanded tree of a node over expanded children, which stays. It is expanded in lists where it fits into
+/// them, and among the trees otherwise.
+fn place_answer(pool: &mut Pool, id: Id, lists: &mut TermLists) -> Result<Handle, NumberFault>
+    requires stands { Stands pool.old }
+    requires expression { IsExpression id (forest pool.old) }
+    requires polynomial { has_polynomial_root (plain (tree_at id (forest pool.old))) ≡ true }
+    requires children { AreExpanded (children_of (plain (tree_at id (forest pool.old)))) }
+    ensures ok { let old = forest pool.old in IfOk result (λ h. Gives old (forest pool.new) h (λ t. t ≡ expanded (polynomial_of (plain (tree_at id old))))) }
+    ensures front { KeepsFront [] (forest pool.old) (forest pool.new) }
+    ensures kept { OnOk result (KeepsRefusals pool.old pool.new) }
+    ensures faults { IfErr result (Faults pool.old pool.new) }
+    ensures caused { IfErr result (IsCaused pool.new) }
+    ensures fits { (whole : Tree) → IsOver whole (plain (tree_at id (forest pool.old))) → is_polynomial whole ≡ true → IfErr result (OfOverflow (λ o. 124 < bits_of whole)) }
+    ensures room { let t = plain (tree_at id (forest pool.old)) in
+        (whole : Tree) (n : ℕ) → HasNoNewName whole t → length (polynomial_of t) ≤ n → IfErr result (OfFull (λ full. free_of pool.old < node_bytes (names whole) n)) }
+    ensures stands { Stands pool.new }
+{
+    if expand_values(pool, id, lists) {
+        return Ok(place_terms(pool, &lists.names, &mut lists.answer)?);
+    }
+    place_expansion(pool, id)
+}
+
+/// A new last tree: the expanded tree of a node over expanded children, which stays. It is expanded among the trees.
 fn place_expansion(pool: &mut Pool, id: Id) -> Result<Handle, NumberFault>
     requires stands { Stands pool.old }
     requires expression { IsExpression id (forest pool.old) }
@@ -89,7 +119,7 @@ fn place_expansion(pool: &mut Pool, id: Id) -> Result<Handle, NumberFault>
 }
 
 /// The exponent of a power of an expanded tree.
-fn exponent_of(pool: &Pool, exponent: Id) -> u8
+pub(crate) fn exponent_of(pool: &Pool, exponent: Id) -> u8
     requires stands { Stands pool.now }
     requires expression { IsExpression exponent (forest pool.now) }
     requires expanded { IsExpanded (plain (tree_at exponent (forest pool.now))) }
@@ -101,7 +131,7 @@ fn exponent_of(pool: &Pool, exponent: Id) -> u8
 }
 
 /// By what a quotient of an expanded tree and a divisor multiplies it.
-fn inverse_divisor(pool: &Pool, divisor: Id) -> Rat
+pub(crate) fn inverse_divisor(pool: &Pool, divisor: Id) -> Rat
     requires stands { Stands pool.now }
     requires expression { IsExpression divisor (forest pool.now) }
     requires expanded { IsExpanded (plain (tree_at divisor (forest pool.now))) }

@@ -4,7 +4,7 @@ ghost use Rattle.tree_handles.specs.Expressions.{IsExpression, takes_kind};
 ghost use Rattle.tree_handles.specs.Handed.{Gives, IsHanded};
 ghost use Rattle.tree_handles.specs.Standing.{Stands, forest};
 
-use crate::{expand, is_polynomial};
+use crate::{TermLists, expand, is_polynomial};
 use breakers::{Breaker, CountBreaker, Watch};
 use calc_terms::{Kind, Name, Rat};
 use node_order::compare;
@@ -204,6 +204,9 @@ fn other_trees(rt: HostRuntime) -> Result<(), Fail> {
     Ok(())
 }
 
+/// How many terms the lists have room for.
+const ROOM: u16 = 64;
+
 /// A watch over one breaker, which trips after so many polls.
 fn armed(alloc: Global, polls: u64) -> Result<Watch<CountBreaker>, AllocError> {
     let mut breaker = CountBreaker::new();
@@ -218,6 +221,7 @@ fn expands_to(
     pool: &mut Pool,
     shape: &Shape,
     expected: &Shape,
+    lists: &mut TermLists,
     watch: &mut Watch<CountBreaker>,
 ) -> Result<bool, ReduceFault>
     requires { Stands pool.old }
@@ -227,7 +231,7 @@ fn expands_to(
     if !is_polynomial(pool, root_of(pool, &tree)) {
         return Ok(false);
     }
-    let answer = expand(pool, tree, watch)?;
+    let answer = expand(pool, tree, lists, watch)?;
     Ok(matches!(compare(pool, expected.id(), answer.id()), Ordering::Equal))
 }
 
@@ -270,7 +274,8 @@ fn polynomials_are_expanded(rt: HostRuntime) -> Result<(), Fail> {
     for (at, (shape, expected)) in EXPANDED.iter().enumerate() {
         let mut pool = open_pool(rt.alloc(), 4096)?;
         let mut watch = armed(rt.alloc(), 1_000)?;
-        let found = expands_to(&mut pool, shape, expected, &mut watch);
+        let mut lists = TermLists::open(rt.alloc(), ROOM)?;
+        let found = expands_to(&mut pool, shape, expected, &mut lists, &mut watch);
         assert!(rt; matches!(found, Ok(true)), "polynomial {at}");
     }
     Ok(())
@@ -365,8 +370,15 @@ const ALIKE: [(Shape<'static>, Shape<'static>); 5] = [
 fn vanishes(alloc: Global, left: &Shape, right: &Shape) -> Result<bool, Fail> {
     let mut pool = open_pool(alloc, 65_536)?;
     let mut watch = armed(alloc, 1_000)?;
+    let mut lists = TermLists::open(alloc, ROOM)?;
     let difference = Shape::Two(Pair::Difference, left, right);
-    let found = expands_to(&mut pool, &difference, &Shape::Number(0), &mut watch);
+    let found = expands_to(
+        &mut pool,
+        &difference,
+        &Shape::Number(0),
+        &mut lists,
+        &mut watch,
+    );
     Ok(matches!(found, Ok(true)))
 }
 

@@ -42,7 +42,7 @@ pub trait NodeStep {
             → may_overflow c place o → may_overflow t (nodes_of before + place) o };
 
     /// The answer of the last tree, a node over the answers of its children, which is consumed.
-    fn step(&self, pool: &mut Pool, tree: Handle) -> Result<Handle, NumberFault>
+    fn step(&mut self, pool: &mut Pool, tree: Handle) -> Result<Handle, NumberFault>
         requires stands { Stands pool.old }
         requires handed { IsHanded tree (forest pool.old) }
         requires last { Ends tree (root_tree tree (forest pool.old)) (without_root tree (forest pool.old)) (forest pool.old) }

@@ -12,6 +12,7 @@ use std::test::Fail;
 use tree_handles::{Handle, NumberFault, node_over, number, open_pool};
 
 /// Leaves each node as it is.
+#[derive(Drop)]
 struct Unchanged;
 
 impl NodeStep for Unchanged {
@@ -27,7 +28,7 @@ impl NodeStep for Unchanged {
 
     fn laws(&self) {}
 
-    fn step(&self, _pool: &mut Pool, tree: Handle) -> Result<Handle, NumberFault> {
+    fn step(&mut self, _pool: &mut Pool, tree: Handle) -> Result<Handle, NumberFault> {
         Ok(tree)
     }
 }
@@ -47,7 +48,7 @@ fn walk_opposite(pool: &mut Pool, watch: &mut Watch<CountBreaker>) -> Result<Id,
 {
     let seven = number(pool, Rat::whole(7))?;
     let opposite = node_over(pool, Kind::Neg, seven)?;
-    let answer = walk(pool, opposite, watch, &Unchanged)?;
+    let answer = walk(pool, opposite, watch, &mut Unchanged)?;
     Ok(answer.id())
 }
 

@@ -31,7 +31,7 @@ pub fn walk<S: NodeStep, B: Breaker>(
     pool: &mut Pool,
     tree: Handle,
     watch: &mut Watch<B>,
-    step: &S,
+    step: &mut S,
 ) -> Result<Handle, ReduceFault>
     requires stands { Stands pool.old }
     requires handed { IsHanded tree (forest pool.old) }
@@ -74,7 +74,7 @@ fn walk_last<S: NodeStep, B: Breaker>(
     pool: &mut Pool,
     tree: Handle,
     watch: &mut Watch<B>,
-    step: &S,
+    step: &mut S,
 ) -> Result<Handle, ReduceFault>
     requires stands { Stands pool.old }
     requires handed { IsHanded tree (forest pool.old) }

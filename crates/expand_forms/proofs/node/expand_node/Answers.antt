@@ -2,8 +2,8 @@ use Rattle.std.proofs.Common.{rules, ◌∙◌, inl, ap, refl, sym, subst, ◌<�
 use Rattle.expand_forms.proofs.Shared.{Tree, names, expression, seen, expanded, has_polynomial_root, polynomial_of, AreExpanded, gives_without, children_of, behind_first, front_after, front_at, front_same, front_without, given_other, gives_as, owned, HasNoNewName, node_bytes, free_of, OfFull, passed_on, bits_of, OfOverflow, IsOver}
 use Rattle.expand_forms.proofs.node.expand_node.Goals as goal
 
-pub place_expansion-requires : goal.place_expansion-requires
-place_expansion-requires c =
+pub place_answer-requires : goal.place_answer-requires
+place_answer-requires c =
     let s = seen c.id.ensures c.requires.stands c.requires.handed in
     record {
       stands = c.requires.stands;
@@ -20,7 +20,7 @@ returns-in_err-answer c =
     let s = sym (seen c.id.ensures c.requires.stands c.requires.handed) in
     record {
       ok = search rules;
-      front = front_after front_same c.place_expansion.ensures.front;
+      front = front_after front_same c.place_answer.ensures.front;
       kept = search rules;
       faults = search rules;
       caused = search rules;
@@ -36,6 +36,6 @@ returns-clause-ok c =
     (λ t e. e ∙ ap (λ (u : Tree). expanded (polynomial_of u)) (seen c.id.ensures c.requires.stands c.requires.handed))
 
 pub returns-clause-front : goal.returns-clause-front
-returns-clause-front c = front_at (front_without behind_first (front_after front_same c.place_expansion.ensures.front)) (c.release.ensures.owned (owned (given_other c.in_ok-answer.ensures.ok c.requires.handed)))
+returns-clause-front c = front_at (front_without behind_first (front_after front_same c.place_answer.ensures.front)) (c.release.ensures.owned (owned (given_other c.in_ok-answer.ensures.ok c.requires.handed)))
 
 -- ---- what fits

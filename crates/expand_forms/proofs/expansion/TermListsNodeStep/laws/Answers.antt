@@ -1,7 +1,7 @@
 use Rattle.std.proofs.Common.{arith}
 use Rattle.expand_forms.proofs.Shared.{child_bits, children_of}
 use Rattle.expand_forms.proofs.OverAnswers.{all_polynomials, child_lacks, each_polynomial, leaf_expanded}
-use Rattle.expand_forms.proofs.expansion.NodeExpanderNodeStep.laws.Goals as goal
+use Rattle.expand_forms.proofs.expansion.TermListsNodeStep.laws.Goals as goal
 
 pub returns : goal.returns
 returns c = record {

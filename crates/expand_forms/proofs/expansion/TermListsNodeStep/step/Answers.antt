@@ -1,7 +1,7 @@
 use Rattle.std.proofs.Common.{rules, refl}
 use Rattle.expand_forms.proofs.Shared.{if_map, free_of, tree_of, gives_as}
 use Rattle.expand_forms.proofs.OverAnswers.{children_expanded, expanded_from, polynomial_root, step_lacks, step_overflows}
-use Rattle.expand_forms.proofs.expansion.NodeExpanderNodeStep.step.Goals as goal
+use Rattle.expand_forms.proofs.expansion.TermListsNodeStep.step.Goals as goal
 
 pub expand_node-requires-clause-polynomial : goal.expand_node-requires-clause-polynomial
 expand_node-requires-clause-polynomial c = let o = c.requires.over in polynomial_root o.whole (tree_of c.args.tree c.args.pool.now) o.over o.taken

@@ -1,0 +1,69 @@
+-- Nodes over expanded children that are expanded as values.
+use Rattle.std.proofs.Common.{◌≡◌, ℕ, zero, suc, ◌+◌, ◌<◌, ◌≤◌, List, [], ◌∷◌, ◌++◌, refl, sym, ap, ◌∙◌, subst, arith, append_assoc, append-nil, Bool, true, false, Result, Ok, Err}
+use Rattle.std.specs.Prelude.{OnOk, is_err, is_ok}
+use Rattle.std.specs.Prelude.{Contains}
+use Rattle.expand_forms.proofs.Shared.{AreSame, IsMonomial, Tree, Trees, none, more, count, names, within_trans, children_of, nth, Polynomial, polynomial_of, product, sum_of}
+use Rattle.expand_forms.proofs.ChildRooms.{child_names}
+use Rattle.expand_forms.proofs.NodeRooms.{nth_names}
+use Rattle.expand_forms.proofs.AllMonomials.{AllHave}
+use Rattle.expand_forms.proofs.NamedMonomials.{named_monomial}
+use Rattle.expand_forms.proofs.SameCoefficients.{product_both, same_sym, same_trans}
+use Rattle.expand_forms.proofs.Turned.{product_turned}
+use Rattle.expand_forms.specs.ByValues.{CanName}
+use Rattle.expand_forms.specs.Named.{AreNames, IsListOf, named_polynomial}
+use Rattle.polynomials.specs.Polynomials.{Polynomial as Packed}
+use Rattle.polynomials.specs.Terms.{polynomial_of as packed_of}
+use Rattle.polynomials.specs.declared.term.Term.{Term}
+
+-- ---- what a test tells
+
+pub passed : {A E : Type 0} {P : Type 0} (r : Result A E) → OnOk r P → is_err r ≡ false → P
+passed (Ok x) p e = p
+passed (Err x) p e = absurd cc
+
+pub went : {A E : Type 0} {P : Type 0} (r : Result A E) → OnOk r P → is_ok r ≡ true → P
+went (Ok x) p e = p
+went (Err x) p e = absurd cc
+
+-- ---- products in either order
+
+named_all : (ns : List (List ℕ)) (v : Packed) → AreNames ns → AllHave IsMonomial (named_polynomial ns v)
+named_all ns [] h = tt
+named_all ns (s ∷ v) h = (named_monomial ns s.monomial h, named_all ns v h)
+
+pub turned_same : {ns : List (List ℕ)} {a b : List Term} {v w : Polynomial} → IsListOf ns a v → IsListOf ns b w → AreSame (product w v) (product v w)
+turned_same {ns} {a} {b} h k =
+    let p = named_polynomial ns (packed_of a) in
+    let q = named_polynomial ns (packed_of b) in
+    same_trans (product_both (same_sym k.same) (same_sym h.same)) (same_trans (product_turned p q (named_all ns (packed_of a) h.names) (named_all ns (packed_of b) h.names)).same (product_both h.same k.same))
+
+-- ---- names
+
+-- the names of a child
+pub can_name_child : {ns : List (List ℕ)} {t u : Tree} (n : ℕ) → CanName ns t → u ≡ nth n (children_of t) → CanName ns u
+can_name_child {ns} {t} {u} n h e = record {
+  names = h.names;
+  few = h.few;
+  all = λ x k. h.all x ((within_trans (child_names t) (nth_names n (children_of t))).name x (subst (λ (v : Tree). Contains (names v) x) e k));
+}
+
+-- ---- sums
+
+-- the sum of the first n
+abbrev pub summed : ℕ → Trees → Polynomial
+summed zero ts = []
+summed (suc n) none = []
+summed (suc n) (more t ts) = polynomial_of t ++ summed n ts
+
+pub summed_more : (n : ℕ) (ts : Trees) → n < count ts → summed n ts ++ polynomial_of (nth n ts) ≡ summed (n + 1) ts
+summed_more n none l = absurd (omega (arith, l))
+summed_more zero (more t ts) l = sym (append-nil (polynomial_of t))
+summed_more (suc n) (more t ts) l =
+    let e : suc (n + 1) ≡ suc n + 1 = omega arith in
+    append_assoc (polynomial_of t) (summed n ts) (polynomial_of (nth n ts)) ∙ ap (λ (v : Polynomial). polynomial_of t ++ v) (summed_more n ts (omega (arith, l))) ∙ ap (λ (k : ℕ). summed k (more t ts)) e
+
+pub summed_all : (n : ℕ) (ts : Trees) → count ts ≤ n → summed n ts ≡ sum_of ts
+summed_all zero none l = refl
+summed_all (suc n) none l = refl
+summed_all zero (more t ts) l = absurd (omega (arith, l))
+summed_all (suc n) (more t ts) l = ap (λ (v : Polynomial). polynomial_of t ++ v) (summed_all n ts (omega (arith, l)))

@@ -1,0 +1,6 @@
+use Rattle.std.proofs.Common.{ℕ, ◌<◌, ◌^◌, get_or}
+use Rattle.polynomials.specs.declared.term.Term.{Term}
+use Rattle.expand_forms.proofs.packed_order.know_monomials.Given as goal
+
+abbrev pub invariant-loop-term : goal.invariant-loop-term
+invariant-loop-term l = (k : ℕ) (d : Term) → k < l.term-index → (get_or l.terms k d).monomial < 2 ^ 64

@@ -1,0 +1,6 @@
+use Rattle.std.proofs.Common.{◌≡◌, drop}
+use Rattle.expand_forms.specs.PackedOrder.{kind_with}
+use Rattle.expand_forms.proofs.packed_order.monomial_kind.Given as goal
+
+abbrev pub invariant-loop-exponent : goal.invariant-loop-exponent
+invariant-loop-exponent l = kind_with 0 l.exponents ≡ kind_with l.only (drop l.exponent-index l.exponents)

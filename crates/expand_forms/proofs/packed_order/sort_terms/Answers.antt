@@ -1,0 +1,8 @@
+use Rattle.std.proofs.Common.{rules}
+use Rattle.node_order.proofs.RankLaws.{sorted_by_calls}
+use Rattle.expand_forms.specs.PackedOrder.{packed_term_cmp}
+use Rattle.expand_forms.proofs.PackedOrders.{packed_term_total}
+use Rattle.expand_forms.proofs.packed_order.sort_terms.Goals as goal
+
+pub returns-clause-rising : goal.returns-clause-rising
+returns-clause-rising c = sorted_by_calls packed_term_cmp _ packed_term_total c.sort_unstable_by.ensures.sorted (λ a r f' k. search rules)

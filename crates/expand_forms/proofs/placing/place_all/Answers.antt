@@ -1,0 +1,31 @@
+use Rattle.std.proofs.Common.{◌<◌, length, take, List, subst, arith}
+use Rattle.std.proofs.lemmas.List.{take_all}
+use Rattle.expand_forms.specs.Named.{names_of}
+use Rattle.polynomials.specs.declared.term.Term.{Term}
+use Rattle.expand_forms.proofs.Shared.{AddsTrees, term_trees, terms_bytes, free_of, passed_on, kept_after, kept_same, forest, front_after, front_same}
+use Rattle.expand_forms.proofs.AddedTrees.{adds_free, adds_none}
+use Rattle.expand_forms.proofs.OrderedTerms.{named_terms}
+use Rattle.expand_forms.proofs.PlacedTerms.{next_lacks, placed_more}
+use Rattle.expand_forms.proofs.placing.place_all.Goals as goal
+
+pub loop-term-init : goal.loop-term-init
+loop-term-init c = record { placed = omega arith; adds = adds_none (forest c.args.pool.now); front = front_same; kept = kept_same c.args.pool.now; stands = c.requires.stands }
+
+pub loop-term-preserved : goal.loop-term-preserved
+loop-term-preserved c = record {
+  placed = omega (arith, c.loop-term.invariant.placed);
+  adds = placed_more (names_of c.args.names.now) c.args.terms.now _ c.term-item.is c.loop-term-test.true c.loop-term.invariant.adds c.in_ok-_term.ensures.ok;
+  front = front_after c.loop-term.invariant.front c.place_packed.ensures.front;
+  kept = kept_after c.loop-term.invariant.kept c.in_ok-_term.ensures.kept;
+  stands = c.place_packed.ensures.stands;
+}
+
+pub returns-clause-ok : goal.returns-clause-ok
+returns-clause-ok c =
+    subst (λ (ts : List Term). AddsTrees (term_trees (named_terms (names_of c.args.names.now) ts)) (forest c.args.pool.now) (forest c.loop-term.pool)) (take_all c.loop-term.term-index c.args.terms.now (omega (arith, c.loop-term-test.false))) c.loop-term.invariant.adds
+
+pub returns-in_err-_term-clause-room : goal.returns-in_err-_term-clause-room
+returns-in_err-_term-clause-room c = λ ns m h.
+    let i = c.loop-term.invariant in
+    passed_on c.from_residual.result c.in_err-_term.field-0.0 (λ full. free_of c.args.pool.now < terms_bytes ns (length c.args.terms.now)) c.from_residual.ensures.0 c.from_residual.ensures.1
+    (next_lacks (names_of c.args.names.now) ns c.args.terms.now _ (free_of c.args.pool.now) (free_of c.loop-term.pool) m h c.loop-term-test.true c.term-item.is (adds_free c.requires.stands i.stands i.kept i.adds) c.in_err-_term.ensures.room)

@@ -1,0 +1,45 @@
+use Rattle.std.proofs.Common.{◌≡◌, ◌<◌, ◌+◌, ◌∙◌, length, refl, sym, ap, arith}
+use Rattle.expand_forms.specs.Named.{names_of}
+use Rattle.expand_forms.proofs.Shared.{eq-eqb, eqb-true, num, free_of, number_bytes, sum_bytes, passed_on, refusal_as, gives_as, front_end, front_same}
+use Rattle.expand_forms.proofs.AddedTrees.{adopts, can_adopt, node_free}
+use Rattle.expand_forms.proofs.Expansions.{zero_value}
+use Rattle.expand_forms.proofs.PlacedTerms.{all_count, next_lacks, sum_more, sum_none, sum_one}
+use Rattle.expand_forms.proofs.TermReadings.{if_ok_map}
+use Rattle.expand_forms.proofs.placing.place_sum.Goals as goal
+
+pub returns-then-is_empty-clause-ok : goal.returns-then-is_empty-clause-ok
+returns-then-is_empty-clause-ok c =
+    let none = eqb-true (length c.args.terms.now) 0 (sym c.is_empty.ensures ∙ c.if-is_empty.true) in
+    if_ok_map c.number.result c.number.ensures.given (λ h g. gives_as g refl (λ t e. e ∙ ap num (zero_value c.whole.result c.whole.ensures) ∙ sum_none (names_of c.args.names.now) c.args.terms.now none))
+
+pub returns-then-terms-eq1-clause-ok : goal.returns-then-terms-eq1-clause-ok
+returns-then-terms-eq1-clause-ok c =
+    if_ok_map c.place_packed.result c.place_packed.ensures.ok (λ h g. gives_as g refl (λ t e. e ∙ sym (sum_one (names_of c.args.names.now) c.args.terms.now _ c.if-terms-eq1.true c.index-terms-0.is)))
+
+pub returns-then-terms-eq1-clause-room : goal.returns-then-terms-eq1-clause-room
+returns-then-terms-eq1-clause-room c = λ ns m h.
+    refusal_as c.place_packed.result c.place_packed.ensures.room
+    (λ full few. omega (arith, next_lacks {i = 0} (names_of c.args.names.now) ns c.args.terms.now _ (free_of c.args.pool.now) (free_of c.args.pool.now) m h (omega (arith, c.if-terms-eq1.true)) c.index-terms-0.is (omega arith) few))
+
+pub returns-in_err-placed-clause-room : goal.returns-in_err-placed-clause-room
+returns-in_err-placed-clause-room c = λ ns m h.
+    let free = node_free c.requires.stands c.in_ok-sum.ensures.stands c.in_ok-sum.ensures.kept c.in_ok-sum.ensures.ok in
+    passed_on c.from_residual-in_err-placed.result c.in_err-placed.field-0.0 (λ full. free_of c.args.pool.now < number_bytes + sum_bytes ns (length c.args.terms.now)) c.from_residual-in_err-placed.ensures.0 c.from_residual-in_err-placed.ensures.1
+    (omega (arith, free, c.in_err-placed.ensures.room ns m h))
+
+pub adopt-requires-clause-root : goal.adopt-requires-clause-root
+adopt-requires-clause-root c = (can_adopt c.in_ok-sum.ensures.ok c.in_ok-placed.ensures.ok (c.in_ok-placed.ensures.count ∙ all_count (names_of c.args.names.now) c.args.terms.now)).root
+
+pub adopt-requires-clause-within : goal.adopt-requires-clause-within
+adopt-requires-clause-within c = (can_adopt c.in_ok-sum.ensures.ok c.in_ok-placed.ensures.ok (c.in_ok-placed.ensures.count ∙ all_count (names_of c.args.names.now) c.args.terms.now)).within
+
+pub returns-clause-ok : goal.returns-clause-ok
+returns-clause-ok c =
+    let ns = names_of c.args.names.now in
+    let ts = c.args.terms.now in
+    gives_as (adopts c.in_ok-sum.ensures.ok c.in_ok-placed.ensures.ok (c.in_ok-placed.ensures.count ∙ all_count ns ts) refl c.adopt.ensures.forest) refl
+    (λ t e. e ∙ sum_more ns ts (λ z. absurd (cc (sym c.is_empty.ensures ∙ c.if-is_empty.false, eq-eqb (length ts) 0 z))) c.if-terms-eq1.false)
+
+pub returns-clause-front : goal.returns-clause-front
+returns-clause-front c =
+    front_end (adopts c.in_ok-sum.ensures.ok c.in_ok-placed.ensures.ok (c.in_ok-placed.ensures.count ∙ all_count (names_of c.args.names.now) c.args.terms.now) refl c.adopt.ensures.forest).ends front_same

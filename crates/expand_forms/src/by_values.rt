@@ -1,0 +1,237 @@
+//! A node over expanded children, expanded as a value in lists.
+ghost use Rattle.std.specs.Prelude.{◌≡◌, ◌<◌, ◌+◌, ◌^◌, ◌++◌, ℕ, List, OnOk, length, true};
+ghost use Rattle.calc_terms.specs.Rat.{value_of};
+ghost use Rattle.calc_terms.specs.Trees.{is_add, is_mult, sub};
+ghost use Rattle.expand_forms.specs.Named.{IsListOf, names_of};
+ghost use Rattle.expand_forms.specs.ByValues.{CanName};
+ghost use Rattle.expand_forms.specs.Polynomials.{Polynomial, product, raised, scaled};
+ghost use Rattle.expand_forms.specs.PolynomialTrees.{has_polynomial_root, polynomial_of};
+ghost use Rattle.expand_forms.specs.Sums.{AreExpanded, IsExpanded};
+ghost use Rattle.polynomials.specs.Polynomials.{HaveExponents};
+ghost use Rattle.polynomials.specs.Terms.{IsNormal, polynomial_of as polynomial_in};
+ghost use Rattle.tree_handles.specs.Expressions.{IsExpression, children_of, plain};
+ghost use Rattle.tree_handles.specs.Inside.{tree_at};
+ghost use Rattle.tree_handles.specs.Standing.{Stands, forest};
+
+use crate::naming::collect_names;
+use crate::node::{exponent_of, inverse_divisor};
+use crate::reading::read_terms;
+use crate::term_lists::TermLists;
+use calc_terms::{Kind, Rat};
+use node_pool::{Id, Pool};
+use polynomials::{Term, Unfit, add_scaled, degree, power, product};
+use std::mem::swap;
+use tree_handles::{child_id, children, kind};
+
+/// The greatest exponent of a packed monomial.
+const GREATEST_EXPONENT: u16 = 255;
+
+/// Whether the expanded polynomial of a node over expanded children fits into lists. Its terms are the answer then.
+pub(crate) fn expand_values(pool: &Pool, id: Id, lists: &mut TermLists) -> bool
+    requires stands { Stands pool.now }
+    requires expression { IsExpression id (forest pool.now) }
+    requires polynomial { has_polynomial_root (plain (tree_at id (forest pool.now))) ≡ true }
+    requires children { AreExpanded (children_of (plain (tree_at id (forest pool.now)))) }
+    ensures list { result ≡ true → IsListOf (names_of lists.new.names.items) lists.new.answer.items (polynomial_of (plain (tree_at id (forest pool.now)))) }
+    ensures few { result ≡ true → length lists.new.answer.items < 2 ^ 16 }
+{
+    if collect_names(pool, id, &mut lists.names).is_err() {
+        return false;
+    }
+    list_node(pool, id, lists) && lists.answer.len() <= usize::from(u16::MAX)
+}
+
+/// The same of a node whose names are listed.
+fn list_node(pool: &Pool, id: Id, lists: &mut TermLists) -> bool
+    requires stands { Stands pool.now }
+    requires expression { IsExpression id (forest pool.now) }
+    requires polynomial { has_polynomial_root (plain (tree_at id (forest pool.now))) ≡ true }
+    requires children { AreExpanded (children_of (plain (tree_at id (forest pool.now)))) }
+    requires names { CanName (names_of lists.old.names.items) (plain (tree_at id (forest pool.now))) }
+    ensures list { result ≡ true → IsListOf (names_of lists.old.names.items) lists.new.answer.items (polynomial_of (plain (tree_at id (forest pool.now)))) }
+    ensures names { lists.new.names ≡ lists.old.names }
+{
+    match kind(pool, id) {
+        Kind::Add => list_sum(pool, id, lists),
+        Kind::Mult => list_products(pool, id, lists),
+        Kind::Pow => {
+            let exponent = exponent_of(pool, child_id(pool, id, 1));
+            list_power(pool, child_id(pool, id, 0), exponent, lists)
+        }
+        Kind::Neg => list_scaled(pool, Rat::whole(-1), child_id(pool, id, 0), lists),
+        Kind::Sub => list_difference(pool, child_id(pool, id, 0), child_id(pool, id, 1), lists),
+        Kind::Div => {
+            let factor = inverse_divisor(pool, child_id(pool, id, 1));
+            list_scaled(pool, factor, child_id(pool, id, 0), lists)
+        }
+        _ => false,
+    }
+}
+
+/// The sum of a node's expanded children.
+fn list_sum(pool: &Pool, id: Id, lists: &mut TermLists) -> bool
+    requires stands { Stands pool.now }
+    requires expression { IsExpression id (forest pool.now) }
+    requires sum { is_add (plain (tree_at id (forest pool.now))) ≡ true }
+    requires children { AreExpanded (children_of (plain (tree_at id (forest pool.now)))) }
+    requires names { CanName (names_of lists.old.names.items) (plain (tree_at id (forest pool.now))) }
+    ensures list { result ≡ true → IsListOf (names_of lists.old.names.items) lists.new.answer.items (polynomial_of (plain (tree_at id (forest pool.now)))) }
+    ensures names { lists.new.names ≡ lists.old.names }
+{
+    lists.answer.clear();
+    for at in 0..children(pool, id) {
+        let child = child_id(pool, id, at);
+        if !add_child(pool, Rat::whole(1), child, lists) {
+            return false;
+        }
+    }
+    true
+}
+
+/// The difference of two expanded trees.
+fn list_difference(pool: &Pool, a: Id, b: Id, lists: &mut TermLists) -> bool
+    requires stands { Stands pool.now }
+    requires first { IsExpression a (forest pool.now) }
+    requires second { IsExpression b (forest pool.now) }
+    requires first_expanded { IsExpanded (plain (tree_at a (forest pool.now))) }
+    requires second_expanded { IsExpanded (plain (tree_at b (forest pool.now))) }
+    requires first_names { CanName (names_of lists.old.names.items) (plain (tree_at a (forest pool.now))) }
+    requires second_names { CanName (names_of lists.old.names.items) (plain (tree_at b (forest pool.now))) }
+    ensures list { result ≡ true → IsListOf (names_of lists.old.names.items) lists.new.answer.items (polynomial_of (sub (plain (tree_at a (forest pool.now))) (plain (tree_at b (forest pool.now))))) }
+    ensures names { lists.new.names ≡ lists.old.names }
+{
+    lists.answer.clear();
+    add_child(pool, Rat::whole(1), a, lists) && add_child(pool, Rat::whole(-1), b, lists)
+}
+
+/// A rational times an expanded tree.
+fn list_scaled(pool: &Pool, factor: Rat, a: Id, lists: &mut TermLists) -> bool
+    requires stands { Stands pool.now }
+    requires expression { IsExpression a (forest pool.now) }
+    requires expanded { IsExpanded (plain (tree_at a (forest pool.now))) }
+    requires names { CanName (names_of lists.old.names.items) (plain (tree_at a (forest pool.now))) }
+    ensures list { result ≡ true → IsListOf (names_of lists.old.names.items) lists.new.answer.items (scaled (value_of factor) (polynomial_of (plain (tree_at a (forest pool.now))))) }
+    ensures names { lists.new.names ≡ lists.old.names }
+{
+    lists.answer.clear();
+    add_child(pool, factor, a, lists)
+}
+
+/// Adds a rational times an expanded tree to the answer.
+fn add_child(pool: &Pool, factor: Rat, child: Id, lists: &mut TermLists) -> bool
+    requires stands { Stands pool.now }
+    requires expression { IsExpression child (forest pool.now) }
+    requires expanded { IsExpanded (plain (tree_at child (forest pool.now))) }
+    requires names { CanName (names_of lists.old.names.items) (plain (tree_at child (forest pool.now))) }
+    requires answer { (v : Polynomial) × IsListOf (names_of lists.old.names.items) lists.old.answer.items v }
+    ensures list { (v : Polynomial) → IsListOf (names_of lists.old.names.items) lists.old.answer.items v
+        → result ≡ true → IsListOf (names_of lists.old.names.items) lists.new.answer.items (v ++ scaled (value_of factor) (polynomial_of (plain (tree_at child (forest pool.now))))) }
+    ensures names { lists.new.names ≡ lists.old.names }
+{
+    if read_terms(pool, child, &lists.names, &mut lists.child).is_err() {
+        return false;
+    }
+    if add_scaled(&lists.answer, factor, &lists.child, &mut lists.next).is_err() {
+        return false;
+    }
+    swap(&mut lists.answer, &mut lists.next);
+    true
+}
+
+/// The product of a node's expanded children, multiplied from the last one on.
+fn list_products(pool: &Pool, id: Id, lists: &mut TermLists) -> bool
+    requires stands { Stands pool.now }
+    requires expression { IsExpression id (forest pool.now) }
+    requires product { is_mult (plain (tree_at id (forest pool.now))) ≡ true }
+    requires children { AreExpanded (children_of (plain (tree_at id (forest pool.now)))) }
+    requires names { CanName (names_of lists.old.names.items) (plain (tree_at id (forest pool.now))) }
+    ensures list { result ≡ true → IsListOf (names_of lists.old.names.items) lists.new.answer.items (polynomial_of (plain (tree_at id (forest pool.now)))) }
+    ensures names { lists.new.names ≡ lists.old.names }
+{
+    if power(&[], 0, &mut lists.answer, &mut lists.next, &mut lists.spare).is_err() {
+        return false;
+    }
+    let mut left = children(pool, id);
+    while left > 0 {
+        left -= 1;
+        if !multiply_child(pool, child_id(pool, id, left), lists) {
+            return false;
+        }
+    }
+    true
+}
+
+/// Multiplies the answer by an expanded tree.
+fn multiply_child(pool: &Pool, child: Id, lists: &mut TermLists) -> bool
+    requires stands { Stands pool.now }
+    requires expression { IsExpression child (forest pool.now) }
+    requires expanded { IsExpanded (plain (tree_at child (forest pool.now))) }
+    requires names { CanName (names_of lists.old.names.items) (plain (tree_at child (forest pool.now))) }
+    requires answer { (v : Polynomial) × IsListOf (names_of lists.old.names.items) lists.old.answer.items v }
+    ensures list { (v : Polynomial) → IsListOf (names_of lists.old.names.items) lists.old.answer.items v
+        → result ≡ true → IsListOf (names_of lists.old.names.items) lists.new.answer.items (product (polynomial_of (plain (tree_at child (forest pool.now)))) v) }
+    ensures names { lists.new.names ≡ lists.old.names }
+{
+    if read_terms(pool, child, &lists.names, &mut lists.child).is_err() {
+        return false;
+    }
+    if u16::from(degree(&lists.child)) + u16::from(degree(&lists.answer)) > GREATEST_EXPONENT {
+        return false;
+    }
+    if multiply(
+        &lists.child,
+        &lists.answer,
+        &mut lists.next,
+        &mut lists.spare,
+    )
+    .is_err()
+    {
+        return false;
+    }
+    swap(&mut lists.answer, &mut lists.next);
+    true
+}
+
+/// The product of two lists, of which rows run over the one with fewer terms.
+fn multiply(
+    a: &[Term],
+    b: &[Term],
+    list: &mut Vec<Term>,
+    spare: &mut Vec<Term>,
+) -> Result<(), Unfit>
+    requires first { IsNormal a.now }
+    requires second { IsNormal b.now }
+    requires exponents { (d : ℕ) × (e : ℕ) × (d + e < 256) × HaveExponents d (polynomial_in a.now) × HaveExponents e (polynomial_in b.now) }
+    ensures { (ns : List (List ℕ)) (v w : Polynomial) → IsListOf ns a.now v → IsListOf ns b.now w → OnOk result (IsListOf ns list.new.items (product v w)) }
+{
+    if a.len() <= b.len() {
+        product(a, b, list, spare)
+    } else {
+        product(b, a, list, spare)
+    }
+}
+
+/// An expanded tree to a power.
+fn list_power(pool: &Pool, base: Id, exponent: u8, lists: &mut TermLists) -> bool
+    requires stands { Stands pool.now }
+    requires expression { IsExpression base (forest pool.now) }
+    requires expanded { IsExpanded (plain (tree_at base (forest pool.now))) }
+    requires names { CanName (names_of lists.old.names.items) (plain (tree_at base (forest pool.now))) }
+    ensures list { result ≡ true → IsListOf (names_of lists.old.names.items) lists.new.answer.items (raised (polynomial_of (plain (tree_at base (forest pool.now)))) exponent) }
+    ensures names { lists.new.names ≡ lists.old.names }
+{
+    if read_terms(pool, base, &lists.names, &mut lists.child).is_err() {
+        return false;
+    }
+    if u16::from(exponent) * u16::from(degree(&lists.child)) > GREATEST_EXPONENT {
+        return false;
+    }
+    power(
+        &lists.child,
+        exponent,
+        &mut lists.answer,
+        &mut lists.next,
+        &mut lists.spare,
+    )
+    .is_ok()
+}
