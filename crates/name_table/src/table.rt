@@ -1,7 +1,8 @@
 //! The table of a session.
-ghost use Rattle.std.specs.Prelude.{◌≡◌, ◌<◌, ◌∷◌, ◌++◌, [], length, position, true, IfSome, slice_get, Some, IsSome, is_some, IfOk, IfErr, OnOk, ⊤};
+ghost use Rattle.std.specs.Prelude.{◌≡◌, ◌<◌, ◌≤◌, ◌∷◌, ◌++◌, [], length, position, true, IfSome, slice_get, Some, IsSome, is_some, IfOk, IfErr, OnOk, ⊤};
 ghost use Rattle.std.specs.Str.{bytes_eq};
 ghost use Rattle.calc_terms.specs.Leaf.{name_of};
+ghost use Rattle.calc_terms.specs.Trees.{depth};
 ghost use Rattle.node_pool.specs.State.{free_of};
 ghost use Rattle.tree_handles.specs.Expressions.{AllExpressions, plain};
 ghost use Rattle.tree_handles.specs.Handed.{Gives, KeepsFront, tree_of};
@@ -9,7 +10,7 @@ ghost use Rattle.tree_handles.specs.Inside.{released_in};
 ghost use Rattle.tree_handles.specs.Roots.{has_root, root_tree, without_root};
 ghost use Rattle.tree_handles.specs.Standing.{Stands, forest, KeepsRefusals};
 ghost use Rattle.tree_walks.specs.Replacing.{replaced};
-ghost use Rattle.name_table.specs.Filling.{FaultsFilling, filling_one, fills, refused_filling, value_in};
+ghost use Rattle.name_table.specs.Filling.{FaultsFilling, depth_limit, filling_one, fills, refused_filling, value_in};
 
 use crate::fault::FillFault;
 use arrayvec::ArrayVec;
@@ -18,7 +19,7 @@ use node_pool::{Id, Pool};
 use std::marker::Model;
 use std::mem;
 use tree_handles::{Handle, release, retain};
-use tree_walks::{is_deeper, replace_name};
+use tree_walks::{holds_name, is_deeper, replace_name};
 
 /// How many names may be stored.
 const NAME_LIMIT: usize = 64;
@@ -130,7 +131,7 @@ impl NameTable {
     {
         let mut filled = fill_name(pool, tree, Name::ans(), self.ans.id())?;
         for slot in self.stored.as_slice() {
-            filled = fill_name(pool, filled, slot.name, slot.root())?;
+            filled = fill_next(pool, filled, slot.name, slot.root())?;
         }
         Ok(filled)
     }
@@ -240,6 +241,7 @@ fn fill_name(pool: &mut Pool, tree: Handle, name: Name, source: Id) -> Result<Ha
         IfOk result (λ h. filling_one (free_of pool.old) (value_in others (record { name = name_of name; tree = source })) (tree_of tree pool.old) ≡ fills (free_of pool.new) (tree_of h pool.new)) }
     ensures refused { let others = without_root tree (forest pool.old) in
         IfErr result (λ fault. filling_one (free_of pool.old) (value_in others (record { name = name_of name; tree = source })) (tree_of tree pool.old) ≡ refused_filling fault) }
+    ensures shallow { IfOk result (λ h. depth (tree_of h pool.new) ≤ depth_limit) }
     ensures faults { IfErr result (FaultsFilling pool.old pool.new) }
     ensures front { KeepsFront (tree ∷ []) (forest pool.old) (forest pool.new) }
     ensures kept { OnOk result (KeepsRefusals pool.old pool.new) }
@@ -250,6 +252,31 @@ fn fill_name(pool: &mut Pool, tree: Handle, name: Name, source: Id) -> Result<Ha
         return Err(FillFault::Deep);
     }
     Ok(filled)
+}
+
+/// The same in a tree that is not too deep, which stays as it is where the name does not occur.
+fn fill_next(pool: &mut Pool, tree: Handle, name: Name, source: Id) -> Result<Handle, FillFault>
+    requires stands { Stands pool.old }
+    requires last { Gives (without_root tree (forest pool.old)) (forest pool.old) tree (λ t. ⊤) }
+    requires shallow { depth (tree_of tree pool.old) ≤ depth_limit }
+    requires root { has_root source (without_root tree (forest pool.old)) ≡ true }
+    requires whole { AllExpressions (without_root tree (forest pool.old)) }
+    ensures ok { let old = forest pool.old in
+        IfOk result (λ h. Gives (without_root tree old) (forest pool.new) h (λ t. t ≡ replaced (name_of name) (plain (root_tree source (without_root tree old))) (tree_of tree pool.old))) }
+    ensures ok_room { let others = without_root tree (forest pool.old) in
+        IfOk result (λ h. filling_one (free_of pool.old) (value_in others (record { name = name_of name; tree = source })) (tree_of tree pool.old) ≡ fills (free_of pool.new) (tree_of h pool.new)) }
+    ensures refused { let others = without_root tree (forest pool.old) in
+        IfErr result (λ fault. filling_one (free_of pool.old) (value_in others (record { name = name_of name; tree = source })) (tree_of tree pool.old) ≡ refused_filling fault) }
+    ensures shallow { IfOk result (λ h. depth (tree_of h pool.new) ≤ depth_limit) }
+    ensures faults { IfErr result (FaultsFilling pool.old pool.new) }
+    ensures front { KeepsFront (tree ∷ []) (forest pool.old) (forest pool.new) }
+    ensures kept { OnOk result (KeepsRefusals pool.old pool.new) }
+    ensures stands { Stands pool.new }
+{
+    if !holds_name(pool, tree.id(), name) {
+        return Ok(tree);
+    }
+    fill_name(pool, tree, name, source)
 }
 
 /// The place of the slot of a name.

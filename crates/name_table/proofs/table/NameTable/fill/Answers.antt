@@ -12,51 +12,57 @@ returns-in_err-filled-clause-refused c =
     c.in_err-filled.ensures.refused)
 
 pub loop-slot-init : goal.loop-slot-init
-loop-slot-init c =
-    filled_more (record { name = name_of c.ans.result; tree = c.id.result })
-    (filled_first (name_of c.ans.result) c.id.result c.self.inside.ans c.self.inside.stored.items c.as_slice-slot-items.result.now c.ans.ensures c.id.ensures c.self.view_is c.as_slice-slot-items.ensures.value c.requires.stands c.requires.entries c.requires.last)
-    c.fill_name.ensures.stands c.in_ok-filled.ensures.ok c.in_ok-filled.ensures.ok_room c.in_ok-filled.ensures.kept c.fill_name.ensures.front
+loop-slot-init c = record {
+  filled =
+      filled_more (record { name = name_of c.ans.result; tree = c.id.result })
+      (filled_first (name_of c.ans.result) c.id.result c.self.inside.ans c.self.inside.stored.items c.as_slice-slot-items.result.now c.ans.ensures c.id.ensures c.self.view_is c.as_slice-slot-items.ensures.value c.requires.stands c.requires.entries c.requires.last)
+      c.fill_name.ensures.stands c.in_ok-filled.ensures.ok c.in_ok-filled.ensures.ok_room c.in_ok-filled.ensures.kept c.fill_name.ensures.front;
+  shallow = c.in_ok-filled.ensures.shallow;
+}
 
 pub root-requires : goal.root-requires
 root-requires c = used_item c.self.inside.stored.items c.as_slice-slot-items.result.now c.loop-slot.slot-index c.slot-item.result c.as_slice-slot-items.ensures.value c.self.invariant c.loop-slot-test.true c.slot-item.is
 
-pub fill_name-requires-in-loop-slot-clause-last : goal.fill_name-requires-in-loop-slot-clause-last
-fill_name-requires-in-loop-slot-clause-last c = next_last c.loop-slot.invariant
+pub fill_next-requires-clause-last : goal.fill_next-requires-clause-last
+fill_next-requires-clause-last c = next_last c.loop-slot.invariant.filled
 
-pub fill_name-requires-in-loop-slot-clause-root : goal.fill_name-requires-in-loop-slot-clause-root
-fill_name-requires-in-loop-slot-clause-root c =
+pub fill_next-requires-clause-root : goal.fill_next-requires-clause-root
+fill_next-requires-clause-root c =
     next_root (record { name = name_of c.slot-item.result.name; tree = c.root.result })
-    (filled_next c.as_slice-slot-items.result.now c.loop-slot.slot-index c.slot-item.result c.root.result c.loop-slot-test.true c.slot-item.is c.root.ensures c.loop-slot.invariant)
+    (filled_next c.as_slice-slot-items.result.now c.loop-slot.slot-index c.slot-item.result c.root.result c.loop-slot-test.true c.slot-item.is c.root.ensures c.loop-slot.invariant.filled)
 
-pub fill_name-requires-in-loop-slot-clause-whole : goal.fill_name-requires-in-loop-slot-clause-whole
-fill_name-requires-in-loop-slot-clause-whole c = subst AllExpressions (sym (next_rest c.loop-slot.invariant)) c.requires.entries.whole
+pub fill_next-requires-clause-whole : goal.fill_next-requires-clause-whole
+fill_next-requires-clause-whole c = subst AllExpressions (sym (next_rest c.loop-slot.invariant.filled)) c.requires.entries.whole
 
 pub returns-in_err-filled-2-clause-refused : goal.returns-in_err-filled-2-clause-refused
 returns-in_err-filled-2-clause-refused c =
     let p = err_from_is_err_and c.from_residual-in_err-filled-2.result c.from_residual-in_err-filled-2.ensures.1 in
     rw (p.1, p.2) (filled_refused (record { name = name_of c.slot-item.result.name; tree = c.root.result }) c.in_err-filled-2.field-0.0
-    (filled_next c.as_slice-slot-items.result.now c.loop-slot.slot-index c.slot-item.result c.root.result c.loop-slot-test.true c.slot-item.is c.root.ensures c.loop-slot.invariant)
+    (filled_next c.as_slice-slot-items.result.now c.loop-slot.slot-index c.slot-item.result c.root.result c.loop-slot-test.true c.slot-item.is c.root.ensures c.loop-slot.invariant.filled)
     c.in_err-filled-2.ensures.refused)
 
 pub returns-in_err-filled-2-clause-faults : goal.returns-in_err-filled-2-clause-faults
 returns-in_err-filled-2-clause-faults c =
     let p = err_from_is_err_and c.from_residual-in_err-filled-2.result c.from_residual-in_err-filled-2.ensures.1 in
-    rw (p.1, p.2) (filled_faults c.fill_name-in-loop-slot.new.pool c.in_err-filled-2.field-0.0 c.loop-slot.invariant c.in_err-filled-2.ensures.faults)
+    rw (p.1, p.2) (filled_faults c.fill_next.new.pool c.in_err-filled-2.field-0.0 c.loop-slot.invariant.filled c.in_err-filled-2.ensures.faults)
 
 pub returns-in_err-filled-2-clause-front : goal.returns-in_err-filled-2-clause-front
-returns-in_err-filled-2-clause-front c = filled_front c.loop-slot.invariant c.fill_name-in-loop-slot.ensures.front
+returns-in_err-filled-2-clause-front c = filled_front c.loop-slot.invariant.filled c.fill_next.ensures.front
 
 pub loop-slot-preserved : goal.loop-slot-preserved
-loop-slot-preserved c =
-    filled_more (record { name = name_of c.slot-item.result.name; tree = c.root.result })
-    (filled_next c.as_slice-slot-items.result.now c.loop-slot.slot-index c.slot-item.result c.root.result c.loop-slot-test.true c.slot-item.is c.root.ensures c.loop-slot.invariant)
-    c.fill_name-in-loop-slot.ensures.stands c.in_ok-filled-2.ensures.ok c.in_ok-filled-2.ensures.ok_room c.in_ok-filled-2.ensures.kept c.fill_name-in-loop-slot.ensures.front
+loop-slot-preserved c = record {
+  filled =
+      filled_more (record { name = name_of c.slot-item.result.name; tree = c.root.result })
+      (filled_next c.as_slice-slot-items.result.now c.loop-slot.slot-index c.slot-item.result c.root.result c.loop-slot-test.true c.slot-item.is c.root.ensures c.loop-slot.invariant.filled)
+      c.fill_next.ensures.stands c.in_ok-filled-2.ensures.ok c.in_ok-filled-2.ensures.ok_room c.in_ok-filled-2.ensures.kept c.fill_next.ensures.front;
+  shallow = c.in_ok-filled-2.ensures.shallow;
+}
 
 pub returns-clause-ok : goal.returns-clause-ok
-returns-clause-ok c = filled_given (filled_end c.as_slice-slot-items.result.now c.loop-slot.slot-index c.loop-slot-test.false c.loop-slot.invariant)
+returns-clause-ok c = filled_given (filled_end c.as_slice-slot-items.result.now c.loop-slot.slot-index c.loop-slot-test.false c.loop-slot.invariant.filled)
 
 pub returns-clause-clear : goal.returns-clause-clear
-returns-clause-clear c = filled_clear c.requires.entries (filled_end c.as_slice-slot-items.result.now c.loop-slot.slot-index c.loop-slot-test.false c.loop-slot.invariant)
+returns-clause-clear c = filled_clear c.requires.entries (filled_end c.as_slice-slot-items.result.now c.loop-slot.slot-index c.loop-slot-test.false c.loop-slot.invariant.filled)
 
 pub returns-clause-ok_room : goal.returns-clause-ok_room
-returns-clause-ok_room c = filled_room (filled_end c.as_slice-slot-items.result.now c.loop-slot.slot-index c.loop-slot-test.false c.loop-slot.invariant)
+returns-clause-ok_room c = filled_room (filled_end c.as_slice-slot-items.result.now c.loop-slot.slot-index c.loop-slot-test.false c.loop-slot.invariant.filled)

@@ -1,7 +1,11 @@
-use Rattle.std.proofs.Common.{map, drop}
-use Rattle.name_table.proofs.Shared.{entry_of}
+use Rattle.std.proofs.Common.{◌≤◌, map, drop}
+use Rattle.name_table.proofs.Shared.{entry_of, depth, tree_of}
 use Rattle.name_table.proofs.Filled.{IsFilled}
+use Rattle.name_table.specs.Filling.{depth_limit}
 use Rattle.name_table.proofs.table.NameTable.fill.Given as goal
 
 abbrev pub invariant-loop-slot : goal.invariant-loop-slot
-invariant-loop-slot l = IsFilled l.fn.self l.fn.tree l.fn.pool (map entry_of (drop l.slot-index l.slot-items)) l.filled l.pool
+invariant-loop-slot l = record {
+  filled : IsFilled l.fn.self l.fn.tree l.fn.pool (map entry_of (drop l.slot-index l.slot-items)) l.filled l.pool;
+  shallow : depth (tree_of l.filled l.pool) ≤ depth_limit;
+}
