@@ -9,6 +9,7 @@ pub mod Inverses
 pub mod Listing
 pub mod Picks
 pub mod SortLaws
+pub mod Lone
 pub mod Arranged
 pub mod Tested
 pub mod Shared

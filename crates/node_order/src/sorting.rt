@@ -18,8 +18,11 @@ use crate::ranking::rank;
 use node_pool::{Id, Pool};
 use tree_handles::{Handle, child_ids, children};
 
-/// So many children are listed in small lists. A function pays at its entry for the size of its lists.
-const FEW: usize = 64;
+/// So many children are listed in the smallest lists. A function pays at its entry for the size of its lists.
+const FEW: usize = 8;
+
+/// So many are listed in small lists.
+const DOZENS: usize = 64;
 
 /// So many are listed in lists of middle size.
 const SEVERAL: usize = 1_024;
@@ -51,7 +54,8 @@ pub trait Keys {
         ensures value { key_tree result (forest pool.now) ≡ key_of (plain (tree_at id (forest pool.now))) };
 }
 
-/// Puts a root's children from a place on in order, by their keys; of two children with one key the first stays first.
+/// Puts a root's children from a place on in order, by their keys; of two children with one key the first stays first. Nothing
+/// is done for one child.
 pub fn sort_children<K: Keys>(pool: &mut Pool, parent: &Handle, from: u16, keys: &K)
     requires stands { Stands pool.old }
     requires handed { IsHanded parent.now (forest pool.old) }
@@ -62,8 +66,13 @@ pub fn sort_children<K: Keys>(pool: &mut Pool, parent: &Handle, from: u16, keys:
     ensures stands { Stands pool.new }
 {
     let len = children_from(pool, parent, from);
+    if len <= 1 {
+        return;
+    }
     if len <= FEW {
         sort_up_to::<K, FEW>(pool, parent, from, keys);
+    } else if len <= DOZENS {
+        sort_up_to::<K, DOZENS>(pool, parent, from, keys);
     } else if len <= SEVERAL {
         sort_up_to::<K, SEVERAL>(pool, parent, from, keys);
     } else {
