@@ -47,6 +47,32 @@ pub fn replace_name(pool: &mut Pool, tree: Handle, name: Name, source: Id) -> Re
     if !holds_name(pool, root, name) {
         return Ok(tree);
     }
+    put_copies(pool, tree, name, source)
+}
+
+/// The same, in a tree in which the name may occur. It is no part of its caller, since it has a list at its entry.
+#[inline(never)]
+fn put_copies(pool: &mut Pool, tree: Handle, name: Name, source: Id) -> Result<Handle, Full>
+    requires stands { Stands pool.old }
+    requires last { Gives (without_root tree (forest pool.old)) (forest pool.old) tree (λ t. ⊤) }
+    requires expression { IsExpression source (forest pool.old) }
+    requires elsewhere { holds source (without_root tree (forest pool.old)) ≡ true }
+    ensures ok { let old = forest pool.old in
+        IfOk result (λ h. Gives (without_root tree old) (forest pool.new) h (λ t. t ≡ replaced (name_of name) (plain (tree_at source old)) (tree_of tree pool.old))) }
+
+    // Refused exactly at the first copy that is larger than what is free then.
+    ensures ok_room { let u = plain (tree_at source (forest pool.old)) in let x = name_of name in
+        IfOk result (λ h. replacing (free_of pool.old) (occurrences x (tree_of tree pool.old)) (size u) (root_size (symbol x)) ≡ Ok (free_of pool.new)) }
+    ensures full { let u = plain (tree_at source (forest pool.old)) in let x = name_of name in
+        IfErr result (λ full. replacing (free_of pool.old) (occurrences x (tree_of tree pool.old)) (size u) (root_size (symbol x)) ≡ Err full) }
+    ensures refuses { IfErr result (Refuses pool.old pool.new) }
+    ensures lacks { IfErr result (LacksBytes pool.new) }
+
+    ensures front { KeepsFront (tree ∷ []) (forest pool.old) (forest pool.new) }
+    ensures kept { OnOk result (KeepsRefusals pool.old pool.new) }
+    ensures stands { Stands pool.new }
+{
+    let root = tree.id();
     if is_leaf_of(pool, root, kind(pool, root), name) {
         let copy = copy_tree(pool, source)?;
         release(pool, tree);

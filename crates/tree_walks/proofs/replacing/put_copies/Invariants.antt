@@ -1,7 +1,7 @@
 use Rattle.std.proofs.Common.{◌+◌, ◌-◌, ◌*◌, length}
 use Rattle.tree_walks.proofs.Shared.{name_of, plain, tree_at, forest, occurrences, leaves_of}
 use Rattle.tree_walks.proofs.Chunks.{IsReplacing}
-use Rattle.tree_walks.proofs.replacing.replace_name.Given as goal
+use Rattle.tree_walks.proofs.replacing.put_copies.Given as goal
 
 abbrev pub invariant-loop-at : goal.invariant-loop-at
 invariant-loop-at l = IsReplacing l.tree (name_of l.name) (plain (tree_at l.source (forest l.fn.pool))) l.fn.pool l.pool l.passed l.at l.found l.leaves
