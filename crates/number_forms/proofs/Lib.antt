@@ -15,6 +15,7 @@ pub mod RationalCalls
 pub mod PowerSteps
 pub mod InverseSteps
 pub mod Pairs
+pub mod Planted
 pub mod Rising
 pub mod Recognized
 pub mod SquareFreeSums

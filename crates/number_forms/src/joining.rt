@@ -19,7 +19,7 @@ ghost use Rattle.tree_handles.specs.Forest.{Forest, kids, with_nth};
 ghost use Rattle.tree_handles.specs.Inside.{tree_at};
 ghost use Rattle.tree_handles.specs.Roots.{root_tree, without_root, put};
 
-use crate::placing::place_term;
+use crate::placing::{TERM_BYTES, place_term};
 use crate::term::term_at;
 use child_lists::{ChildList, next_child, put_before};
 use node_pool::{Full, Id, Pool};
@@ -32,9 +32,6 @@ use tree_handles::{
 
 /// A clean number below this one is square-free, so that each class has one.
 const SQUARE_FREE_BELOW: u128 = 1_000_000_000_000;
-
-/// A term takes so many bytes at most.
-const TERM_BYTES: u32 = 96;
 
 /// No sum has a term at this place.
 pub(crate) const NOWHERE: u16 = u16::MAX;

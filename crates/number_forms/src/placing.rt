@@ -14,10 +14,15 @@ ghost use Rattle.tree_handles.specs.Handed.{tree_of, Gives, KeepsFront};
 use calc_terms::{Kind, Rat};
 use node_pool::{Full, Pool};
 use surd_terms::Term;
-use tree_handles::{Handle, node_over, node_over_two, number};
+use tree_handles::{Handle, adopt, node, node_over, node_over_two, number};
+
+/// A root of a whole number takes so many bytes at most, and a rational times it.
+const ROOT_BYTES: u32 = 48;
+
+pub(crate) const TERM_BYTES: u32 = 96;
 
 /// A new last tree that is the term: a rational, a root, or a rational other than 1 times a root. It takes 96
-/// bytes at most. Numbers are placed first; a refusal names the first node that lacks bytes.
+/// bytes at most. Where fewer are free numbers are placed first, and a refusal names the first node that lacks bytes.
 pub fn place_term(pool: &mut Pool, term: Term) -> Result<Handle, Full>
     requires stands { Stands pool.old }
     ensures ok { IfOk result (λ h. Gives (forest pool.old) (forest pool.new) h (λ t. (is_term t ≡ true) × (term_of_tree t ≡ term_of term))) }
@@ -54,8 +59,29 @@ fn place_root(pool: &mut Pool, radicand: u128) -> Result<Handle, Full>
     ensures first_lack { IfErr result (λ full. building (free_of pool.old) (root (num (whole_fraction (pos radicand)))) ≡ Err full) }
     ensures stands { Stands pool.new }
 {
+    if pool.free() >= ROOT_BYTES {
+        return plant_root(pool, radicand);
+    }
     let rational = number(pool, whole(radicand))?;
     node_over(pool, Kind::Root, rational)
+}
+
+/// The same, each node before those below it, so that nothing is moved.
+fn plant_root(pool: &mut Pool, radicand: u128) -> Result<Handle, Full>
+    requires stands { Stands pool.old }
+    requires fits { radicand < 2 ^ 127 }
+    ensures ok { IfOk result (λ h. Gives (forest pool.old) (forest pool.new) h (λ t. t ≡ root (num (whole_fraction (pos radicand))))) }
+    ensures front { KeepsFront [] (forest pool.old) (forest pool.new) }
+    ensures kept { OnOk result (KeepsRefusals pool.old pool.new) }
+    ensures full { IfErr result (Refuses pool.old pool.new) }
+    ensures caused { IfErr result (LacksBytes pool.new) }
+    ensures room { IfErr result (λ full. free_of pool.old < 48) }
+    ensures stands { Stands pool.new }
+{
+    let root = node(pool, Kind::Root)?;
+    let _radicand = number(pool, whole(radicand))?;
+    adopt(pool, &root, 1);
+    Ok(root)
 }
 
 /// A new last tree `Mult(Num coefficient, Root(Num radicand))`.
@@ -72,9 +98,31 @@ fn place_multiple(pool: &mut Pool, coefficient: Rat, radicand: u128) -> Result<H
     ensures first_lack { IfErr result (λ full. building (free_of pool.old) (mult (more (num (value_of coefficient)) (more (root (num (whole_fraction (pos radicand)))) none))) ≡ Err full) }
     ensures stands { Stands pool.new }
 {
+    if pool.free() >= TERM_BYTES {
+        return plant_multiple(pool, coefficient, radicand);
+    }
     let rational = number(pool, coefficient)?;
     let root = place_root(pool, radicand)?;
     node_over_two(pool, Kind::Mult, rational, root)
+}
+
+/// The same, each node before those below it, so that nothing is moved.
+fn plant_multiple(pool: &mut Pool, coefficient: Rat, radicand: u128) -> Result<Handle, Full>
+    requires stands { Stands pool.old }
+    requires fits { radicand < 2 ^ 127 }
+    ensures ok { IfOk result (λ h. Gives (forest pool.old) (forest pool.new) h (λ t. t ≡ mult (more (num (value_of coefficient)) (more (root (num (whole_fraction (pos radicand)))) none)))) }
+    ensures front { KeepsFront [] (forest pool.old) (forest pool.new) }
+    ensures kept { OnOk result (KeepsRefusals pool.old pool.new) }
+    ensures full { IfErr result (Refuses pool.old pool.new) }
+    ensures caused { IfErr result (LacksBytes pool.new) }
+    ensures room { IfErr result (λ full. free_of pool.old < 96) }
+    ensures stands { Stands pool.new }
+{
+    let product = node(pool, Kind::Mult)?;
+    let _coefficient = number(pool, coefficient)?;
+    let _root = plant_root(pool, radicand)?;
+    adopt(pool, &product, 2);
+    Ok(product)
 }
 
 /// The whole number n.
