@@ -1,8 +1,7 @@
 -- The parts of a literal: whether they fit, and its value.
-use Rattle.std.specs.Prelude.{ℕ, suc, ◌+◌, ◌-◌, ◌*◌, ◌^◌, ◌≡◌, ◌<◌, List, [], ◌∷◌, ◌++◌, Bool, true, false, ◌==◌, ◌&&◌, length, nat_lt, if◌then◌else◌, pos, ◌<ℤ◌, nat_abs}
-use Rattle.std.specs.Int.{w128}
+use Rattle.std.specs.Prelude.{ℕ, suc, ◌+◌, ◌-◌, ◌*◌, ◌^◌, ◌≡◌, ◌<◌, List, [], ◌∷◌, ◌++◌, Bool, true, false, ◌==◌, ◌&&◌, length, nat_lt, if◌then◌else◌, pos}
 use Rattle.std.specs.List.{AllPass}
-use Rattle.std.proofs.Common.{refl, sym, ap, ◌∙◌, arith, to_z}
+use Rattle.std.proofs.Common.{refl, sym, ap, ◌∙◌, arith}
 use Rattle.std.proofs.Math.Nat.{one-le-pow, pow-suc}
 use Rattle.std.proofs.lemmas.Nat.{pow-add}
 use Rattle.std.proofs.lemmas.Bool.{lt-ltb, eqb-true}
@@ -30,12 +29,8 @@ both_fit n m whole kept e h g = let h' : unscaled whole kept < 2 ^ 127 = rw (dig
 pub scale_pos : (kept : List ℕ) → 0 < scale kept
 scale_pos kept = one-le-pow (length kept) 10 (omega arith)
 
-pub positive_scale : (d : ℕ) (kept : List ℕ) → d ≡ scale kept → scale kept < 2 ^ 127 → pos 0 <ℤ to_z w128 d
-positive_scale d kept e h = grind (arith, scale_pos)
-
-pub value_is : (v m d : ℕ) (whole kept : List ℕ) → v ≡ digits_value 0 whole → m ≡ digits_value v kept → digits_value v kept < 2 ^ 127 → d ≡ scale kept → scale kept < 2 ^ 127
-    → lowest (to_z w128 m) (nat_abs (to_z w128 d)) ≡ lowest (pos (unscaled whole kept)) (scale kept)
-value_is v m d whole kept e f g h k = grind (arith, digits_value-append)
+pub scaled_is : (v m d : ℕ) (whole kept : List ℕ) → v ≡ digits_value 0 whole → m ≡ digits_value v kept → d ≡ scale kept → lowest (pos m) d ≡ lowest (pos (unscaled whole kept)) (scale kept)
+scaled_is v m d whole kept e f g = grind (arith, digits_value-append)
 
 -- ---- digits all along
 pub decimals_pass : (bytes : List ℕ) → AllPass is_digit ((decimals bytes).0)

@@ -15,6 +15,9 @@ use calc_terms::Rat;
 /// The largest part of a rational.
 const LARGEST: u128 = i128::MAX as u128;
 
+/// Below this a digit more fits without a division that shows it.
+const NEAR: u128 = 1 << 120;
+
 /// The number at the front, and what stands behind it; None where its parts do not fit.
 pub(crate) fn literal(bytes: &[u8]) -> Option<(What, &[u8])>
     ensures fits { is_some result ≡ literal_fits bytes.now }
@@ -77,7 +80,20 @@ fn value(whole: &[u8], kept: &[u8]) -> Option<Rat>
 {
     let unscaled = spelled(spelled(0, whole)?, kept)?;
     let scale = power_of_ten(kept.len())?;
-    Some(Rat::ratio(unscaled as i128, scale as i128))
+    Some(scaled(unscaled, scale))
+}
+
+/// A number over its scale in lowest terms. A whole number is.
+fn scaled(unscaled: u128, scale: u128) -> Rat
+    requires fits { unscaled < 2 ^ 127 }
+    requires positive { 1 ≤ scale }
+    requires scale_fits { scale < 2 ^ 127 }
+    ensures { value_of result ≡ lowest (pos unscaled) scale }
+{
+    if scale == 1 {
+        return Rat::whole(unscaled as i128);
+    }
+    Rat::ratio(unscaled as i128, scale as i128)
 }
 
 /// What is spelled by the digits of a number and these behind them; None above 2^127 - 1.
@@ -89,7 +105,7 @@ fn spelled(front: u128, digits: &[u8]) -> Option<u128>
     let mut value = front;
     for digit in digits {
         let digit = u128::from(digit - b'0');
-        if value > (LARGEST - digit) / 10 {
+        if value >= NEAR && value > (LARGEST - digit) / 10 {
             return None;
         }
         value = 10 * value + digit;
