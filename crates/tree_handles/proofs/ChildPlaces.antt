@@ -53,6 +53,18 @@ next_is left place to ns some b h e =
           ∙ ap (λ (g : Forest). (first_of (since place ns)).id ∷ root_ids (first_trees (left - 1) g)) (sym behind);
     }
 
+-- the place of the next is known where one is left
+pub next_or_none : (left place to : ℕ) (ns : List Node) → 0 < left → IsBoundary place ns → left ≤ arity (forest_of (since place ns)) → (0 < left - 1 → since to ns ≡ skip 1 (since place ns)) → IsNext left place to ns
+next_or_none zero place to ns some b h e = absurd (omega arith)
+next_or_none (suc zero) place to ns some b h e =
+    let f = forest_of (since place ns) in
+    record {
+      inside = next 1 place ns some b h;
+      left-are = omega arith;
+      ids = ids_step 1 f some h ∙ ap (λ (i : ℕ). i ∷ []) (first_id (since place ns) (omega arith)).1;
+    }
+next_or_none (suc (suc n)) place to ns some b h e = next_is (suc (suc n)) place to ns some b h (e (omega arith))
+
 -- ---- the children of a node
 
 -- children that begin at a place

@@ -1,10 +1,12 @@
 //! Children one after another.
-ghost use Rattle.std.specs.Prelude.{◌≡◌, ◌≤◌, length, true};
+ghost use Rattle.std.specs.Prelude.{◌≡◌, ◌<◌, ◌≤◌, length, true};
 ghost use Rattle.std.specs.Iterator.{YieldsFirst, at_most};
+ghost use Rattle.node_pool.specs.Places.{since, IsBoundary};
 ghost use Rattle.tree_handles.specs.Children.{root_ids};
 ghost use Rattle.tree_handles.specs.Forest.{arity, rest_trees};
 ghost use Rattle.tree_handles.specs.Inside.{holds, kids_of};
 ghost use Rattle.tree_handles.specs.Standing.{Stands, forest};
+ghost use Rattle.tree_handles.specs.Walks.{skip};
 
 use crate::read::children;
 use crate::walk::{behind, child_place};
@@ -33,7 +35,7 @@ impl<'a> Model for ChildIds<'a> {
 }
 
 /// The identifiers of a node's children from a place on, the first child having place 0. The first of them is found
-/// by steps over the children before it, and each other by one step.
+/// by steps over the children before it, and each other by one step. No step is made over the last one.
 pub fn child_ids(pool: &Pool, parent: Id, from: u16) -> ChildIds<'_>
     requires stands { Stands pool.now }
     requires live { holds parent (forest pool.now) ≡ true }
@@ -59,8 +61,21 @@ impl<'a> Iterator for ChildIds<'a> {
             return None;
         }
         let header = self.pool.header(self.place);
-        self.place = behind(self.pool, self.place, 1);
         self.left -= 1;
+        self.place = next_place(self.pool, self.place, self.left);
         Some(Id::of(header.id))
     }
+}
+
+/// Where the next of so many trees begins. No step is made where none is left.
+#[inline(always)]
+fn next_place(pool: &Pool, at: u32, left: u16) -> u32
+    requires { IsBoundary at pool.now.nodes }
+    ensures boundary { IsBoundary result pool.now.nodes }
+    ensures rest { 0 < left → since result pool.now.nodes ≡ skip 1 (since at pool.now.nodes) }
+{
+    if left == 0 {
+        return at;
+    }
+    behind(pool, at, 1)
 }

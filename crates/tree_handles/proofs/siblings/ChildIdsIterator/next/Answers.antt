@@ -1,6 +1,6 @@
 use Rattle.std.proofs.Common.{◌≡◌, ◌∷◌, ◌-◌, ℕ, sym, ap, ◌∙◌, arith, length}
 use Rattle.tree_handles.proofs.Shared.{Header, since, root_ids, forest_of, first_trees}
-use Rattle.tree_handles.proofs.ChildPlaces.{next, next_is}
+use Rattle.tree_handles.proofs.ChildPlaces.{next, next_or_none}
 use Rattle.tree_handles.proofs.siblings.ChildIdsIterator.next.Goals.{After-of}
 use Rattle.tree_handles.proofs.siblings.ChildIdsIterator.next.Goals as goal
 
@@ -9,13 +9,13 @@ header-header-requires-clause-inside c = next c.self.inside.left c.self.inside.p
 
 pub invariant_of-self : goal.invariant_of-self
 invariant_of-self c =
-    let n = next_is c.self.inside.left c.self.inside.place c.behind-self-inside.result c.self.inside.pool.now.nodes (omega (arith, c.if-self-eq0.false)) c.self.invariant.0 c.self.invariant.1 c.behind-self-inside.ensures.rest in
-    (c.behind-self-inside.ensures.boundary, n.left-are)
+    let n = next_or_none c.self.inside.left c.self.inside.place c.next_place-self-inside.result c.self.inside.pool.now.nodes (omega (arith, c.if-self-eq0.false)) c.self.invariant.0 c.self.invariant.1 c.next_place-self-inside.ensures.rest in
+    (c.next_place-self-inside.ensures.boundary, n.left-are)
 
-gives : (c : After-of) → c.args.self.now ≡ c.of.result ∷ root_ids (first_trees (c.self.inside.left - 1) (forest_of (since c.behind-self-inside.result c.self.inside.pool.now.nodes)))
+gives : (c : After-of) → c.args.self.now ≡ c.of.result ∷ root_ids (first_trees (c.self.inside.left - 1) (forest_of (since c.next_place-self-inside.result c.self.inside.pool.now.nodes)))
 gives c =
-    let rest = root_ids (first_trees (c.self.inside.left - 1) (forest_of (since c.behind-self-inside.result c.self.inside.pool.now.nodes))) in
-    let n = next_is c.self.inside.left c.self.inside.place c.behind-self-inside.result c.self.inside.pool.now.nodes (omega (arith, c.if-self-eq0.false)) c.self.invariant.0 c.self.invariant.1 c.behind-self-inside.ensures.rest in
+    let rest = root_ids (first_trees (c.self.inside.left - 1) (forest_of (since c.next_place-self-inside.result c.self.inside.pool.now.nodes))) in
+    let n = next_or_none c.self.inside.left c.self.inside.place c.next_place-self-inside.result c.self.inside.pool.now.nodes (omega (arith, c.if-self-eq0.false)) c.self.invariant.0 c.self.invariant.1 c.next_place-self-inside.ensures.rest in
     sym c.self.view_is ∙ n.ids ∙ ap (λ (i : ℕ). i ∷ rest) (sym (c.of.ensures ∙ ap (λ (h : Header). h.id) c.header-header.ensures.value))
 
 pub returns-clause-steps : goal.returns-clause-steps
