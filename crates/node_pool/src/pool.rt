@@ -172,7 +172,8 @@ impl Pool {
         self.buffer.name(id.value(), at)
     }
 
-    /// A new node at the end, held once and without children.
+    /// A new node at the end, held once and without children. It is inlined, since most callers know what the node holds.
+    #[inline(always)]
     pub fn place(&mut self, leaf: Leaf) -> Result<Id, Full>
         requires { IsUsable leaf }
         ensures ok { IfOk result (λ id. self.new ≡ record self.old { nodes = self.old.nodes ++ fresh id (payload_of leaf) ∷ [] }) }
@@ -360,6 +361,7 @@ impl Pool {
 }
 
 /// The nodes from `at` to before `end`, so many as `gone` tells, are removed, and where those behind them stand then is noted.
+#[inline(always)]
 fn close_up(buffer: &mut Buffer, places: &mut Places, at: u32, end: u32, gone: u32)
     requires from { IsBoundary at buffer.old.nodes }
     requires to { IsBoundary end buffer.old.nodes }

@@ -106,6 +106,7 @@ pub(crate) fn term_count(pool: &Pool, id: Id) -> u16
 }
 
 /// Whether a reduced tree is a Number, by its shape: its last term tells it of a sum.
+#[inline(always)]
 pub fn is_reduced_number(pool: &Pool, id: Id) -> bool
     requires stands { Stands pool.now }
     requires expression { IsExpression id (forest pool.now) }

@@ -21,6 +21,7 @@ pub(crate) enum Shape {
 }
 
 /// Whether a tree has a term's shape, which the kinds of its first nodes tell.
+#[inline(always)]
 pub(crate) fn has_term_shape(pool: &Pool, id: Id) -> bool
     requires stands { Stands pool.now }
     requires expression { IsExpression id (forest pool.now) }
@@ -36,6 +37,7 @@ pub(crate) fn has_term_shape(pool: &Pool, id: Id) -> bool
 }
 
 /// Whether a number comes next.
+#[inline(always)]
 fn is_number_next(nodes: &mut Nodes<'_>) -> bool
     ensures { result ≡ is_number_next nodes.old }
 {
@@ -46,6 +48,7 @@ fn is_number_next(nodes: &mut Nodes<'_>) -> bool
 }
 
 /// Whether a number comes next, and then a root over a number.
+#[inline(always)]
 fn is_multiple_next(nodes: &mut Nodes<'_>) -> bool
     ensures { result ≡ is_multiple_next nodes.old }
 {
@@ -56,6 +59,7 @@ fn is_multiple_next(nodes: &mut Nodes<'_>) -> bool
 }
 
 /// The kind of the next node, and Undef behind the last one.
+#[inline(always)]
 fn next_kind(nodes: &mut Nodes<'_>) -> Kind
     ensures kind { result ≡ first_kind nodes.old }
     ensures rest { nodes.new ≡ drop 1 nodes.old }

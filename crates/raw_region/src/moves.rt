@@ -10,7 +10,8 @@ const FEW: usize = 64;
 /// How many bytes move at once as long as there are so many.
 const WIDE: usize = 32;
 
-/// What stood in the `len` bytes at `from` stands at `to` too.
+/// What stood in the `len` bytes at `from` stands at `to` too. It is inlined, since its callers know which way.
+#[inline(always)]
 pub fn slide(bytes: &mut [u8], from: usize, to: usize, len: usize)
     requires source { from + len ≤ length bytes.old }
     requires target { to + len ≤ length bytes.old }

@@ -95,6 +95,7 @@ pub fn node(pool: &mut Pool, kind: Kind) -> Result<Handle, Full>
 }
 
 /// A new root.
+#[inline(always)]
 fn place(pool: &mut Pool, leaf: Leaf) -> Result<Handle, Full>
     requires usable { IsUsable leaf }
     requires stands { Stands pool.old }
