@@ -2,3 +2,4 @@ pub mod Blocks
 pub mod Puts
 pub mod Slides
 pub mod Turns
+pub mod Runs

@@ -7,8 +7,10 @@ const ROOM: usize = 256;
 
 const FEW: usize = 64;
 
-/// How many bytes move at once as long as there are so many.
+/// How many bytes move at once as long as there are so many, and then half of them.
 const WIDE: usize = 32;
+
+const HALF: usize = 16;
 
 /// What stood in the `len` bytes at `from` stands at `to` too. It is inlined, since its callers know which way.
 #[inline(always)]
@@ -22,11 +24,14 @@ pub fn slide(bytes: &mut [u8], from: usize, to: usize, len: usize)
     }
     if to <= from {
         let done = slide_down::<WIDE>(bytes, from, to, len);
+        let half = slide_down::<HALF>(bytes, from + done, to + done, len - done);
+        let done = done + half;
         let more = slide_down::<8>(bytes, from + done, to + done, len - done);
         let done = done + more;
         slide_down::<1>(bytes, from + done, to + done, len - done);
     } else {
         let left = slide_up::<WIDE>(bytes, from, to, len);
+        let left = slide_up::<HALF>(bytes, from, to, left);
         let left = slide_up::<8>(bytes, from, to, left);
         slide_up::<1>(bytes, from, to, left);
     }
@@ -43,8 +48,8 @@ fn slide_down<const N: usize>(bytes: &mut [u8], from: usize, to: usize, len: usi
 {
     let mut done = 0;
     while N <= len - done {
-        let run: [u8; N] = read(bytes, from + done);
-        write(bytes, to + done, &run);
+        let run: [u8; N] = load(bytes, from + done);
+        store(bytes, to + done, run);
         done += N;
     }
     done
@@ -62,8 +67,8 @@ fn slide_up<const N: usize>(bytes: &mut [u8], from: usize, to: usize, len: usize
     let mut left = len;
     while N <= left {
         left -= N;
-        let run: [u8; N] = read(bytes, from + left);
-        write(bytes, to + left, &run);
+        let run: [u8; N] = load(bytes, from + left);
+        store(bytes, to + left, run);
     }
     left
 }
@@ -77,6 +82,30 @@ pub fn read<const N: usize>(bytes: &[u8], at: usize) -> [u8; N]
     let mut run = [0; N];
     run.copy_from_slice(&bytes[at..at + N]);
     run
+}
+
+/// The same, one by one: where `N` is known they are moved at once, and nothing asks whether the list is part of the bytes.
+#[inline(always)]
+fn load<const N: usize>(bytes: &[u8], at: usize) -> [u8; N]
+    requires { at + N ≤ length bytes.now }
+    ensures { result ≡ take N (drop at bytes.now) }
+{
+    let mut run = [0; N];
+    for i in 0..N {
+        run[i] = bytes[at + i];
+    }
+    run
+}
+
+/// These `N` bytes in place of those from `at` on.
+#[inline(always)]
+fn store<const N: usize>(bytes: &mut [u8], at: usize, run: [u8; N])
+    requires { at + N ≤ length bytes.old }
+    ensures { bytes.new ≡ put bytes.old at run.entry }
+{
+    for i in 0..N {
+        bytes[at + i] = run[i];
+    }
 }
 
 pub fn write(bytes: &mut [u8], at: usize, run: &[u8])

@@ -8,5 +8,5 @@ loop-done-preserved g c =
     let within : done + n ≤ c.args.len = omega (arith, c.loop-done-test.true, inv.within, c.requires.some) in
     let fits : c.args.from + (done + n) ≤ length xs = omega (arith, within, c.requires.inside) in
     let below : c.args.to + (done + n) ≤ length xs = omega (arith, fits, c.requires.down) in
-    let moved = slid_more xs c.loop-done.bytes c.write.new.bytes c.read-run.result c.args.from c.args.to done n c.requires.down fits inv.moved c.read-run.ensures c.write.ensures in
+    let moved = slid_more xs c.loop-done.bytes c.store.new.bytes c.load-run.result c.args.from c.args.to done n c.requires.down fits inv.moved c.load-run.ensures c.store.ensures in
     record { moved = moved; within = within; same = ap length moved ∙ length-slid xs c.args.from c.args.to (done + n) fits below }

@@ -1,4 +1,4 @@
-use Rattle.std.proofs.Common.{ℕ, ◌+◌, ◌-◌, ◌≤◌, ◌≡◌, ◌∙◌, List, drop, take, arith, ap}
+use Rattle.std.proofs.Common.{ℕ, ◌-◌, ◌≡◌, ◌∙◌, List, drop, take, arith, ap}
 use Rattle.raw_region.specs.Bytes.{put, slid}
 use Rattle.raw_region.proofs.Turns.{rotated_down}
 use Rattle.raw_region.proofs.moves.turn_down.Goals as goal

@@ -1,0 +1,58 @@
+-- Runs of bytes, byte by byte.
+use Rattle.std.proofs.Common.{◌≡◌, ℕ, suc, ◌+◌, ◌<◌, ◌≤◌, List, [], ◌∷◌, ◌++◌, length, take, drop, get_or, refl, sym, ap, ◌∙◌, arith, drop-cons}
+use Rattle.std.proofs.Math.ListN.{set}
+use Rattle.std.proofs.lemmas.List.{drop-drop, drop-set-add, drop-set-lt, length-drop, length-set, take-append-drop, take-set-le, take_more_set}
+use Rattle.std.proofs.Math.Seq.{take-add}
+use Rattle.raw_region.specs.Bytes.{put}
+
+-- one byte more of a list
+more_of : (xs : List ℕ) (i : ℕ) → i < length xs → take (i + 1) xs ≡ take i xs ++ get_or xs i 0 ∷ []
+more_of xs i h = take-add i 1 xs ∙ ap (λ (l : List ℕ). take i xs ++ take 1 l) (drop-cons xs i 0 h)
+
+byte_behind : (xs : List ℕ) (at i : ℕ) → at + i < length xs → get_or (drop at xs) i 0 ≡ get_or xs (at + i) 0
+byte_behind xs at i h =
+    let one : drop i (drop at xs) ≡ drop (at + i) xs = drop-drop i at xs in
+    let left = drop-cons (drop at xs) i 0 (omega (arith, length-drop at xs)) in
+    let right = drop-cons xs (at + i) 0 h in
+    let heads : get_or (drop at xs) i 0 ∷ drop (suc i) (drop at xs) ≡ get_or xs (at + i) 0 ∷ drop (suc (at + i)) xs = sym left ∙ one ∙ right in
+    cc heads
+
+pub loaded_more : (run xs : List ℕ) (at i x : ℕ) → i < length run → at + i < length xs → x ≡ get_or xs (at + i) 0 → take i run ≡ take i (drop at xs) → take (i + 1) (set run i x) ≡ take (i + 1) (drop at xs)
+loaded_more run xs at i x h k e r =
+    take_more_set run i x h ∙ ap (λ (l : List ℕ). l ++ x ∷ []) r ∙ ap (λ (y : ℕ). take i (drop at xs) ++ y ∷ []) (e ∙ sym (byte_behind xs at i k))
+    ∙ sym (more_of (drop at xs) i (omega (arith, length-drop at xs)))
+
+-- i bytes of a run are written from a place on
+pub record IsStored (i at : ℕ) (run old new : List ℕ) : Type 0 where
+  pub before : take at new ≡ take at old
+  pub put_there : take i (drop at new) ≡ take i run
+  pub behind : drop (at + i) new ≡ drop (at + i) old
+  pub same : length new ≡ length old
+
+pub stored_none : (at : ℕ) (run old : List ℕ) → IsStored 0 at run old old
+stored_none at run old = record { before = refl; put_there = refl; behind = refl; same = refl }
+
+pub stored_more : (i at x : ℕ) (run old new : List ℕ) → i < length run → at + length run ≤ length old → x ≡ get_or run i 0 → IsStored i at run old new → IsStored (i + 1) at run old (set new (at + i) x)
+stored_more i at x run old new h k e s =
+    let one : drop at (set new (at + i) x) ≡ set (drop at new) i x = drop-set-add at new i x in
+    let next = λ (l : List ℕ). let step : drop 1 (drop (at + i) l) ≡ drop (at + (i + 1)) l = drop-drop 1 (at + i) l ∙ ap (λ (n : ℕ). drop n l) (omega arith) in step in
+    record {
+      before = take-set-le at new (at + i) x (omega arith) ∙ s.before;
+      put_there =
+          ap (take (i + 1)) one ∙ take_more_set (drop at new) i x (omega (arith, length-drop at new, s.same)) ∙ ap (λ (l : List ℕ). l ++ x ∷ []) s.put_there ∙ ap (λ (y : ℕ). take i run ++ y ∷ []) e
+          ∙ sym (more_of run i h);
+      behind = drop-set-lt (at + (i + 1)) new (at + i) x (omega arith) ∙ sym (next new) ∙ ap (drop 1) s.behind ∙ next old;
+      same = length-set new (at + i) x ∙ s.same;
+    }
+
+pub stored_all : (i at : ℕ) (run old new : List ℕ) → length run ≡ i → at + i ≤ length old → IsStored i at run old new → new ≡ put old at run
+stored_all i at run old new n h s =
+    let whole : take i run ≡ run = ap (λ (m : ℕ). take m run) (sym n) ∙ ap (λ (l : List ℕ). take (length run) l) refl ∙ all_of run in
+    let rest : drop at new ≡ run ++ drop (at + length run) old =
+    sym (take-append-drop i (drop at new)) ∙ ap (λ (l : List ℕ). l ++ drop i (drop at new)) (s.put_there ∙ whole)
+    ∙ ap (λ (l : List ℕ). run ++ l) (drop-drop i at new ∙ s.behind ∙ ap (λ (m : ℕ). drop (at + m) old) (sym n)) in
+    sym (take-append-drop at new) ∙ ap (λ (l : List ℕ). l ++ drop at new) s.before ∙ ap (λ (l : List ℕ). take at old ++ l) rest
+  where
+    all_of : (xs : List ℕ) → take (length xs) xs ≡ xs
+    all_of [] = refl
+    all_of (x ∷ xs) = ap (λ (l : List ℕ). x ∷ l) (all_of xs)

@@ -1,0 +1,5 @@
+use Rattle.std.proofs.Common.{◌≡◌, length, take, drop}
+use Rattle.raw_region.proofs.moves.load.Given as goal
+
+abbrev pub invariant-loop-i : goal.invariant-loop-i
+invariant-loop-i g l = record { loaded : take l.i l.run ≡ take l.i (drop l.at l.bytes); long : length l.run ≡ g.row.N }
