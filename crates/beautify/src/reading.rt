@@ -13,6 +13,7 @@ use node_pool::{Id, Pool};
 use tree_handles::{child_id, children, kind, rational};
 
 /// Whether a minus sign stands before the face: the leading rational is negative.
+#[inline(always)]
 pub(crate) fn is_negative(pool: &Pool, id: Id) -> bool
     requires stands { Stands pool.now }
     requires expression { IsExpression id (forest pool.now) }
@@ -25,6 +26,7 @@ pub(crate) fn is_negative(pool: &Pool, id: Id) -> bool
 }
 
 /// Whether the tree is a rational below 0.
+#[inline(always)]
 fn is_negative_number(pool: &Pool, id: Id) -> bool
     requires stands { Stands pool.now }
     requires expression { IsExpression id (forest pool.now) }
@@ -38,6 +40,7 @@ fn is_negative_number(pool: &Pool, id: Id) -> bool
 
 /// n where a power with this exponent stands below the line as the power n, and 0 where it stands
 /// above.
+#[inline(always)]
 pub(crate) fn below_the_line(pool: &Pool, exponent: Id) -> u128
     requires stands { Stands pool.now }
     requires expression { IsExpression exponent (forest pool.now) }
@@ -49,6 +52,7 @@ pub(crate) fn below_the_line(pool: &Pool, exponent: Id) -> u128
     }
 }
 
+#[inline(always)]
 pub(crate) fn is_below_zero(value: Rat) -> bool
     ensures { result ≡ int_is_negative (value_of value).num }
 {
@@ -56,6 +60,7 @@ pub(crate) fn is_below_zero(value: Rat) -> bool
 }
 
 /// n for the whole number -n, and 0 for any other rational.
+#[inline(always)]
 fn whole_below_zero(value: Rat) -> u128
     ensures { result ≡ below_zero (value_of value).num (value_of value).den }
 {
@@ -69,6 +74,7 @@ fn whole_below_zero(value: Rat) -> u128
 }
 
 /// Whether the tree is a power that stands below the line of a fraction.
+#[inline(always)]
 pub(crate) fn is_below(pool: &Pool, id: Id) -> bool
     requires stands { Stands pool.now }
     requires expression { IsExpression id (forest pool.now) }
@@ -81,6 +87,7 @@ pub(crate) fn is_below(pool: &Pool, id: Id) -> bool
 }
 
 /// The magnitude of the numerator.
+#[inline(always)]
 pub(crate) fn numerator(value: Rat) -> u128
     ensures value { result ≡ nat_abs (value_of value).num }
     ensures fits { result < 2 ^ 127 }
@@ -88,6 +95,7 @@ pub(crate) fn numerator(value: Rat) -> u128
     value.num().unsigned_abs()
 }
 
+#[inline(always)]
 pub(crate) fn denominator(value: Rat) -> u128
     ensures value { result ≡ (value_of value).den }
     ensures fits { result < 2 ^ 127 }

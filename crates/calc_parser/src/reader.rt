@@ -241,6 +241,7 @@ impl Reader {
     }
 
     /// Ends a product, and says how many children its sum has with it.
+    #[inline(always)]
     fn end_product(&mut self) -> u16
         requires { room_in self.old ≤ step_limit }
         ensures ended { (ts : List Mark) → ended_in ts self.new result ≡ product_ended (open_in self.old.nesting) (nodes_in ts self.old.postfix) }
@@ -254,6 +255,7 @@ impl Reader {
     }
 
     /// Ends powers that stand side by side, and says how many children their product has with them.
+    #[inline(always)]
     fn end_powers(&mut self) -> u16
         requires { room_in self.old ≤ step_limit }
         ensures ended { (ts : List Mark) → ended_in ts self.new result ≡ powers_ended (open_in self.old.nesting) (nodes_in ts self.old.postfix) }
@@ -267,6 +269,7 @@ impl Reader {
     }
 
     /// Ends a part of this level, and says how many children stand side by side with it.
+    #[inline(always)]
     fn end(&mut self, level: Level) -> u16
         requires { room_in self.old ≤ step_limit }
         ensures ended { (ts : List Mark) → ended_in ts self.new result ≡ end_part level (open_in self.old.nesting) (nodes_in ts self.old.postfix) }
