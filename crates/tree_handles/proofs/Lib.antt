@@ -42,3 +42,4 @@ pub mod Cuts
 pub mod Over
 pub mod Seen
 pub mod Shared
+pub mod LastTwo

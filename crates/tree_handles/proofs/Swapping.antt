@@ -155,7 +155,7 @@ pub record IsBlock (i from end : ℕ) (s : State) : Type 0 where
   pub done : moved from (end - from) (used s.nodes) s.nodes ≡ flatten (join (without_root i (forest s)) (root_tree i (forest s)))
   pub stays : end ≡ used s.nodes → forest s ≡ join (without_root i (forest s)) (root_tree i (forest s))
 
-no_bytes : (f : Forest) → used (flatten f) ≡ 0 → f ≡ empty
+pub no_bytes : (f : Forest) → used (flatten f) ≡ 0 → f ≡ empty
 no_bytes empty e = refl
 no_bytes (tree l k r) e = absurd (omega (arith, e, size_from (node_of l k)))
 
@@ -193,3 +193,40 @@ block i from end s st root h b r =
 
 pub counted_last : (i : ℕ) (s : State) → Stands s → AllNodes IsCounted (join (without_root i (forest s)) (root_tree i (forest s)))
 counted_last i s st = all-join IsCounted (without_root i (forest s)) (root_tree i (forest s)) (all-without_root IsCounted i (forest s) st.counted) (all-root_tree IsCounted i (forest s) st.counted)
+
+-- ---- a root between those before it and those behind it
+
+pub record IsSplit (i from end : ℕ) (s : State) : Type 0 where
+  pub left : Forest
+  pub right : Forest
+  pub whole : forest s ≡ join left (join (root_tree i (forest s)) right)
+  pub clear : has_root i left ≡ false
+  pub begins : from ≡ used (flatten left)
+  pub here : since from s.nodes ≡ flatten (root_tree i (forest s)) ++ flatten right
+  pub ends : since end s.nodes ≡ flatten right
+
+pub split : (i from end : ℕ) (s : State) → Stands s → has_root i (forest s) ≡ true → from ≡ place_of i s.nodes → IsBoundary end s.nodes → since end s.nodes ≡ skip 1 (since from s.nodes) → IsSplit i from end s
+split i from end s st root h b r =
+    let f = forest s in
+    let ns = s.nodes in
+    let x = top i f root in
+    let t = tree x.label x.kids-are empty in
+    let m = node_of x.label x.kids-are in
+    let l = flatten x.left in
+    let c = flatten t in
+    let d = flatten x.right in
+    let noded : ns ≡ l ++ (m ∷ (flatten x.kids-are ++ d)) = st.flat ∙ ap flatten x.whole ∙ flatten-join x.left (tree x.label x.kids-are x.right) in
+    let whole : ns ≡ l ++ (c ++ d) = st.flat ∙ ap flatten x.whole ∙ flatten-join x.left (tree x.label x.kids-are x.right) ∙ ap (λ (y : List Node). l ++ y) (flatten-join t x.right) in
+    let clear : has i l ≡ false = ap (λ (j : ℕ). has j l) (sym x.id-is) ∙ not_before l m (flatten x.kids-are ++ d) (subst AreDistinct noded st.pool.distinct) in
+    let from-is : from ≡ used l = h ∙ ap (place_of i) noded ∙ place_of-append i l m (flatten x.kids-are ++ d) clear x.id-is in
+    let there : since from ns ≡ c ++ d = ap (λ (j : ℕ). since j ns) from-is ∙ ap (since (used l)) whole ∙ since-append l (c ++ d) in
+    let end-is : end ≡ used l + used c = behind_one end from ns l t d refl b r there whole in
+    record {
+      left = x.left;
+      right = x.right;
+      whole = x.whole ∙ ap (λ (y : Forest). join x.left (join y x.right)) (sym x.tree-is);
+      clear = x.clear;
+      begins = from-is;
+      here = there ∙ ap (λ (y : Forest). flatten y ++ d) (sym x.tree-is);
+      ends = ap (λ (j : ℕ). since j ns) (end-is ∙ sym (used-append l c)) ∙ ap (since (used (l ++ c))) (whole ∙ sym (append_assoc l c d)) ∙ since-append (l ++ c) d;
+    }

@@ -1,11 +1,12 @@
-use Rattle.std.proofs.Common.{refl}
-use Rattle.tree_handles.proofs.Shared.{bare, forest}
+use Rattle.std.proofs.Common.{ap, refl}
+use Rattle.tree_handles.proofs.Shared.{Ends, bare, forest, join, one_tree, root_tree, without_root}
 use Rattle.tree_handles.proofs.Fronts.{behind_first, behind_later, front_same, front_end, front_without}
-use Rattle.tree_handles.proofs.Given.{represents_none, represents_handed, represents_with, represents_node, gives, gives_as, handed_beside}
-use Rattle.tree_handles.proofs.Lasts.{last_held, last_apart, other_root}
+use Rattle.tree_handles.proofs.Given.{represents_none, represents_handed, represents_join, represents_with, represents_node, gives, gives_as, handed_beside}
+use Rattle.tree_handles.proofs.Lasts.{ends_as, last_held, last_apart, other_root}
 use Rattle.tree_handles.proofs.Outcomes.{eqb-sym}
 use Rattle.tree_handles.proofs.Roots.{tree-without, without-swap}
 use Rattle.tree_handles.proofs.building.node_over_two.Goals as goal
+use Rattle.tree_handles.proofs.building.node_over_two.Goals.{In_ok-over}
 
 pub add_child-requires-clause-live : goal.add_child-requires-clause-live
 add_child-requires-clause-live c = last_held c.in_ok-pair.ensures.ok
@@ -40,3 +41,16 @@ returns-clause-front c =
     let one = c.add_child.ensures.last _ _ c.in_ok-pair.ensures.ok c.requires.second.root in
     let two = c.add_child-2.ensures.last _ _ one (handed_beside c.args.right (eqb-sym c.args.left c.args.right c.requires.apart) c.requires.first).root in
     front_end two (front_without behind_first (front_without (behind_later behind_first) front_same))
+
+-- ---- where both stand last
+
+ends : (c : In_ok-over) → Ends c.in_ok-over.over (one_tree c.in_ok-over.over (bare c.args.kind) (join (root_tree c.args.left (forest c.args.pool.now)) (root_tree c.args.right (forest c.args.pool.now)))) (without_root c.args.left (without_root c.args.right (forest c.args.pool.now))) (forest c.node_over_last.new.pool)
+ends c = ends_as c.in_ok-over.ensures.ok (ap (one_tree c.in_ok-over.over (bare c.args.kind)) c.in-Some.ensures.trees) c.in-Some.ensures.others
+
+pub returns-in-Some-clause-ok : goal.returns-in-Some-clause-ok
+returns-in-Some-clause-ok c =
+    gives_as (gives (ends c) (represents_node c.in_ok-over.over (bare c.args.kind) (represents_join (represents_handed c.requires.first) (represents_handed c.requires.second)) c.requires.takes) refl)
+    (without-swap c.args.left c.args.right (forest c.args.pool.now) c.requires.apart) (λ t e. e)
+
+pub returns-in-Some-clause-front : goal.returns-in-Some-clause-front
+returns-in-Some-clause-front c = front_end (ends c) (front_without behind_first (front_without (behind_later behind_first) front_same))
