@@ -8,3 +8,4 @@ pub mod Searches
 pub mod Composing
 pub mod Absent
 pub mod Shared
+pub mod Shallow

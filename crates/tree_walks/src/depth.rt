@@ -6,13 +6,27 @@ ghost use Rattle.tree_handles.specs.Inside.{tree_at};
 ghost use Rattle.tree_handles.specs.Standing.{Stands, forest};
 
 use node_pool::{Id, Pool};
-use tree_handles::nodes_of;
+use tree_handles::{nodes_of, tree_nodes};
 
 /// How deep the tree of a line may be: a leaf is 1 deep.
 pub const DEPTH_LIMIT: usize = 64;
 
 /// Whether a tree is deeper than `DEPTH_LIMIT`.
 pub fn is_deeper(pool: &Pool, id: Id) -> bool
+    requires stands { Stands pool.now }
+    requires expression { IsExpression id (forest pool.now) }
+    ensures { IsTrue result ↔ (64 < depth (plain (tree_at id (forest pool.now)))) }
+{
+    if tree_nodes(pool, id) <= DEPTH_LIMIT as u32 {
+        // Each level has a node.
+        return false;
+    }
+    has_deeper_level(pool, id)
+}
+
+/// The same, level by level. It is no part of its caller, since it has a list at its entry.
+#[inline(never)]
+fn has_deeper_level(pool: &Pool, id: Id) -> bool
     requires stands { Stands pool.now }
     requires expression { IsExpression id (forest pool.now) }
     ensures { IsTrue result ↔ (64 < depth (plain (tree_at id (forest pool.now)))) }
