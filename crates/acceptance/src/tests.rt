@@ -1,3 +1,4 @@
+mod boxed_breakers;
 mod fixtures;
 mod program_rows;
 mod reduced_lines;

@@ -6,11 +6,14 @@ use std::test::Fail;
 use tables::{CANCELLED, FACES, HALVES, POWERS, PRODUCTS, ROOTED, SUMS, SURDS, UNDEFINED, WIDE};
 use trials::{Outcome, first_other, first_other_node, first_uninterrupted};
 
+/// The tables of lines with their answers.
+const ANSWERED: [&str; 9] = [
+    SURDS, CANCELLED, UNDEFINED, POWERS, HALVES, ROOTED, PRODUCTS, SUMS, FACES,
+];
+
 #[test]
 fn each_line_has_its_answer(rt: HostRuntime) -> Result<(), Fail> {
-    for table in [
-        SURDS, CANCELLED, UNDEFINED, POWERS, HALVES, ROOTED, PRODUCTS, SUMS, FACES,
-    ] {
+    for table in ANSWERED {
         let other = first_other(rt.alloc(), table, Outcome::Wanted)?;
         assert_eq!(rt; other, None, "{table}");
     }
@@ -26,7 +29,7 @@ fn wide_operations_are_refused_at_their_nodes(rt: HostRuntime) -> Result<(), Fai
 
 #[test]
 fn each_check_can_interrupt(rt: HostRuntime) -> Result<(), Fail> {
-    for table in [SURDS, CANCELLED, UNDEFINED, POWERS, PRODUCTS, SUMS, FACES] {
+    for table in ANSWERED {
         let uninterrupted = first_uninterrupted(rt.alloc(), table)?;
         assert_eq!(rt; uninterrupted, None, "{table}");
     }

@@ -1,7 +1,7 @@
 //! Whole sessions of the program, written as rows of a text, over a source and a sink in memory.
-ghost use Rattle.std.specs.Prelude.{◌≡◌, vec_len, IfOk};
+ghost use Rattle.std.specs.Prelude.{◌≡◌, ◌<◌, ◌^◌, vec_len, IfOk};
 
-use breakers::CountBreaker;
+use breakers::{Breaker, CountBreaker};
 use calc_edges::{CalmSource, MemSink};
 use poincare_run::run;
 use std::alloc::{AllocError, Global};
@@ -62,12 +62,29 @@ fn two_breakers(alloc: Global) -> Result<Vec<CountBreaker>, AllocError>
 }
 
 /// Whether the input is read to its end and all that is to be written is, and nothing else.
-fn is_written(alloc: Global, script: Script) -> Result<bool, AllocError> {
+fn is_written<B: Breaker>(
+    alloc: Global,
+    script: Script,
+    breakers: Vec<B>,
+) -> Result<bool, AllocError>
+    requires few { vec_len breakers < 2 ^ 32 }
+{
     let mut source = CalmSource::new(script.lines);
     let mut sink = MemSink::new(alloc, ROOM, ROOM, Vec::new(alloc))?;
     let words = script.words.as_slice();
-    let status = run(alloc, words, &mut source, &mut sink, two_breakers(alloc)?);
+    let status = run(alloc, words, &mut source, &mut sink, breakers);
     Ok(status == 0 && sink.bytes() == script.output.as_slice())
+}
+
+/// Whether a session of these rows is written as they say, under these breakers.
+pub fn is_run<B: Breaker>(alloc: Global, rows: &str, breakers: Vec<B>) -> Result<bool, AllocError>
+    requires few { vec_len breakers < 2 ^ 32 }
+{
+    let mut script = empty(alloc);
+    for row in rows.lines() {
+        push_row(alloc, &mut script, row)?;
+    }
+    is_written(alloc, script, breakers)
 }
 
 /// The place of the first empty row whose session writes something else. An empty row ends a session. A row that begins with
@@ -79,7 +96,7 @@ pub fn first_other(alloc: Global, table: &str) -> Result<Option<usize>, AllocErr
         if !row.is_empty() {
             push_row(alloc, &mut script, row)?;
         } else {
-            if !is_written(alloc, script)? {
+            if !is_written(alloc, script, two_breakers(alloc)?)? {
                 return Ok(Some(place));
             }
             script = empty(alloc);

@@ -9,7 +9,7 @@ use calc_session::{LineAnswer, Refusal, Session};
 use deep_reduce::DeepReducer;
 use std::alloc::{AllocError, Global};
 use std::test::Fail;
-use tables::{JOINED, REDUCED, SHOWN};
+use tables::{JOINED, REDUCED, ROOMS, SHOWN};
 
 /// What became of a line in a pool.
 #[derive(Clone, Copy, Debug, PartialEq, Eq)]
@@ -81,5 +81,54 @@ fn small_pools_are_full(rt: HostRuntime) -> Result<(), Fail> {
         let other = first_other(rt.alloc(), table)?;
         assert_eq!(rt; other, None, "{table}");
     }
+    Ok(())
+}
+
+#[test]
+fn a_sum_that_grows_where_it_is_reduced_is_full(rt: HostRuntime) -> Result<(), Fail> {
+    assert_eq!(rt; outcome_of(rt.alloc(), "-a-b", "-a-b", 88)?, Outcome::Full);
+    Ok(())
+}
+
+/// Whether a line is answered or Full in each pool up to one, and answered in that one.
+fn is_answered_in_its_room(
+    alloc: Global,
+    line: &str,
+    text: &str,
+    room: u32,
+) -> Result<bool, AllocError>
+    requires { IsPoolSize room }
+{
+    for size in 64..room {
+        if size % 8 == 0 && outcome_of(alloc, line, text, size)? == Outcome::Other {
+            return Ok(false);
+        }
+    }
+    Ok(outcome_of(alloc, line, text, room)? == Outcome::Answered)
+}
+
+/// The place of the first row whose line is not answered in its room.
+fn first_refused(alloc: Global, table: &str) -> Result<Option<usize>, AllocError> {
+    for (place, row) in table.lines().enumerate() {
+        let Some((line, rest)) = row.split_once(" = ") else {
+            return Ok(Some(place));
+        };
+        let Some((room, text)) = rest.split_once(" = ") else {
+            return Ok(Some(place));
+        };
+        let room = room.parse::<u32>().unwrap_or(0);
+        if room < 64 || room > 524_280 || room % 8 != 0 {
+            return Ok(Some(place));
+        }
+        if !is_answered_in_its_room(alloc, line, text, room)? {
+            return Ok(Some(place));
+        }
+    }
+    Ok(None)
+}
+
+#[test]
+fn lines_are_answered_in_their_rooms(rt: HostRuntime) -> Result<(), Fail> {
+    assert_eq!(rt; first_refused(rt.alloc(), ROOMS)?, None);
     Ok(())
 }

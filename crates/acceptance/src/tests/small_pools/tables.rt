@@ -111,3 +111,10 @@ x×y/x/y×x = x\n\
 0×x×y×x = 0\n\
 x^(2^63)×y×x^(2^63) = x^18446744073709551616×y\n\
 x^(y+√(2))×z×x^(-√(2)) = x^(√(2)+y)×z×x^-√(2)";
+
+/// Lines with their rooms, which is how many bytes of pool suffice for them beside the first answer.
+pub const ROOMS: &str = "\
+7 = 1064 = 7\n\
+1/3+1/6 = 7208 = 1/2\n\
+1/(√(2)+√(3)) = 28712 = -√(2)+√(3)\n\
+(√(2)+√(3))^4 = 28712 = 49+20×√(6)";
