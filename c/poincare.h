@@ -1,0 +1,189 @@
+/*
+ * poincare: exact answers to lines such as `1/(√(2)+√(3))`, for programs in C.
+ *
+ * A session has a pool in which its trees stand, its stored names and its last answer. It lives in a slot, which is
+ * memory of the caller. A stopper lives in a slot of its own: by it another thread interrupts the line that runs.
+ *
+ *     poincare_session session;
+ *     char text[256];
+ *     size_t count;
+ *
+ *     poincare_session_init(&session);
+ *     if (poincare_open(&session, 32768) == POINCARE_DONE) {
+ *         poincare_line(&session, "1/3+1/6", 7);
+ *         poincare_text(&session, text, sizeof text, &count);    text begins with 1/2, and count is 3
+ *         poincare_close(&session);
+ *     }
+ *
+ * The whole is linked with heap.c, or with other definitions of its three functions. Memory is taken by poincare_open,
+ * poincare_stopper_open and poincare_answers alone; a line takes none, whatever it is.
+ *
+ * What the caller owes, and nothing checks:
+ *
+ * - Pointers are not null, neither where a length or a room is 0, and point to as much memory as is said. A null pointer
+ *   is not told from another: what comes of it is not defined.
+ * - Memory that a call is handed is lent until the call returns, and nothing of it is kept; of the slots alone the
+ *   library keeps what it put there. What a call reads and what it writes does not overlap.
+ * - A slot is initialised once before anything else is asked of it, and is neither copied, moved nor written to
+ *   afterwards. It is given back, or initialised again, only while it is not open.
+ * - A session stays on the thread that opened it, and so does poincare_answers while it runs. Sessions share nothing:
+ *   each thread may have some of its own.
+ * - A stopper is opened on its session's thread. Then it may go to another thread, by a thread's start, a lock, or an
+ *   atomic that is sequentially consistent. One call at a time has it.
+ * - No call is made from a signal handler, nor from the forked child of a process that has threads.
+ */
+#ifndef POINCARE_H
+#define POINCARE_H
+
+#include <stddef.h>
+#include <stdint.h>
+
+#ifdef __cplusplus
+#define POINCARE_ALIGNED alignas(16)
+extern "C" {
+#else
+#define POINCARE_ALIGNED _Alignas(16)
+#endif
+
+/* The slot of a session. The library uses as many bytes of it as poincare_session_size tells. */
+typedef struct poincare_session {
+    POINCARE_ALIGNED unsigned char place[2048];
+} poincare_session;
+
+/* The slot of a stopper. */
+typedef struct poincare_stopper {
+    POINCARE_ALIGNED unsigned char place[64];
+} poincare_stopper;
+
+/* What a call answers. */
+enum {
+    /* Of each call but poincare_line and poincare_line_within: it did what it says. */
+    POINCARE_DONE = 0,
+
+    /* Of a line: what became of it. A line that is refused, undefined or blank changes nothing in the session. */
+    POINCARE_SHOWN = 0,     /* its text is the new last answer */
+    POINCARE_STORED = 1,    /* the same, and it is stored under a name */
+    POINCARE_UNDEFINED = 2, /* no values of its names give it a meaning; its text is `undef` */
+    POINCARE_BLANK = 3,     /* it has nothing but blanks, and there is no text */
+    POINCARE_REPORT = 4,    /* its text is what a command tells */
+    POINCARE_DRAW = 5,      /* it asks for the picture of the last answer: poincare_draw; there is no text */
+
+    /* Of a line that is refused: this, and the number of the refusal. Its text says why. */
+    POINCARE_REFUSED = 100,
+    POINCARE_LONG = 101,           /* it has more than 1,024 bytes */
+    POINCARE_CHARACTER = 102,      /* a byte begins no token */
+    POINCARE_NUMBER = 103,         /* a number in it is too wide */
+    POINCARE_SYNTAX = 104,         /* it is none of the grammar */
+    POINCARE_DEEP = 105,           /* its tree is over 64 deep */
+    POINCARE_RESERVED = 106,       /* `ans` is neither stored nor forgotten */
+    POINCARE_NAMES_FULL = 107,     /* 64 names are stored */
+    POINCARE_FULL = 108,           /* the pool has no room; poincare_draw answers this too */
+    POINCARE_OVERFLOW = 109,       /* a number does not fit into 128 bits */
+    POINCARE_INTERRUPTED = 110,    /* a stopper or a count interrupted it */
+    POINCARE_CIRCULAR = 111,       /* what is to be stored holds its own name */
+    POINCARE_COMMAND = 112,        /* it begins like a command and is none */
+    POINCARE_NOT_POLYNOMIAL = 114, /* `:expand` is asked of what is no polynomial */
+    POINCARE_NO_DERIVATIVE = 115,  /* `:diff` is asked of a power that it does not derive */
+    POINCARE_NOT_LINEAR = 116,     /* `:solve` is asked of an equation that is not linear */
+    POINCARE_TOO_MANY = 117,       /* `:solve` is asked of over six equations, or of over six names */
+
+    /* Of any call: it did nothing. */
+    POINCARE_BAD_POOL = 201,   /* the pool's size is no multiple of 8 from 64 to 524,280 */
+    POINCARE_NO_MEMORY = 202,  /* there is no memory; what had been taken is given back */
+    POINCARE_NOT_OPENED = 203, /* the slot was initialised, and never opened since */
+    POINCARE_CLOSED = 204,     /* the slot was opened and closed */
+    POINCARE_OPEN = 205,       /* the slot is open, and stays as it is */
+
+    /* Of poincare_answers: the lines have 16,777,215 bytes or more. Those that end within the first 16,777,215 are
+     * answered. */
+    POINCARE_INPUT_LIMIT = 206
+};
+
+/*
+ * Slots
+ */
+
+/* How many bytes a slot takes, at a multiple of how many. The types above have room for them; a program whose library
+ * may be another one than its header asks. Callable from anywhere. */
+size_t poincare_session_size(void);
+size_t poincare_session_align(void);
+size_t poincare_stopper_size(void);
+size_t poincare_stopper_align(void);
+
+/* Makes memory a slot in which nothing was opened. What stands there is not read. */
+void poincare_session_init(poincare_session *session);
+void poincare_stopper_init(poincare_stopper *stopper);
+
+/*
+ * Sessions. Each call answers POINCARE_NOT_OPENED or POINCARE_CLOSED where the slot is not open.
+ */
+
+/* Opens a session whose pool has so many bytes, a multiple of 8 from 64 to 524,280. The last answer is 0, and no name is
+ * stored. With 32,768 bytes, which is what the program takes, about 0.7 MB of heap are taken. A slot that was closed may
+ * be opened again.
+ * POINCARE_DONE, POINCARE_BAD_POOL, POINCARE_NO_MEMORY or POINCARE_OPEN. */
+uint32_t poincare_open(poincare_session *session, uint32_t pool);
+
+/* Gives the memory of the session back. */
+uint32_t poincare_close(poincare_session *session);
+
+/* Answers a line: so many bytes, without a newline and a carriage return at their end. They may be any bytes; UTF-8 is
+ * what the grammar knows. The answer is what became of the line; poincare_text has its text.
+ * `:after K` is counted by poincare_line alone, and may be asked again any number of times. */
+uint32_t poincare_line(poincare_session *session, const char *line, size_t length);
+
+/* The same, but that the line is interrupted where it needs more than so many checks. There is one check for each node
+ * of a line. A line that was interrupted may be asked again with more: it changed nothing. */
+uint32_t poincare_line_within(poincare_session *session, const char *line, size_t length, uint64_t checks);
+
+/* Writes the text of the last line, without a newline, and sets count to how many bytes it has. Where there is not room
+ * for so many, the front that fits is written, and it may be asked for again. There is no text after opening, after a
+ * blank line, and after POINCARE_DRAW or a call of poincare_draw; then count is 0. No 0 is written at the end. */
+uint32_t poincare_text(poincare_session *session, char *out, size_t room, size_t *count);
+
+/* Writes the picture of the last answer, each row with a newline, and sets count to how many bytes it has, as
+ * poincare_text does. Where its layout finds no room in the pool the answer is POINCARE_FULL, and the line
+ * `! full needed N free M` stands in place of the picture, with a newline. Nothing in the session changes, but that there
+ * is no text any more. */
+uint32_t poincare_draw(poincare_session *session, char *out, size_t room, size_t *count);
+
+/* Tells how many bytes of the pool are in use, and how many are free. */
+uint32_t poincare_pool(poincare_session *session, uint32_t *used, uint32_t *left);
+
+/*
+ * Stoppers. Each call answers POINCARE_NOT_OPENED or POINCARE_CLOSED where the stopper's slot is not open.
+ */
+
+/* Opens a stopper of a session that is open. A session may have several. A stopper may outlive its session; then it stops
+ * nothing.
+ * POINCARE_DONE, POINCARE_NO_MEMORY, POINCARE_OPEN where the stopper's slot is open, or POINCARE_NOT_OPENED or
+ * POINCARE_CLOSED where the session's is not. */
+uint32_t poincare_stopper_open(poincare_stopper *stopper, poincare_session *session);
+
+/* Interrupts the line that the session is answering, at its next check, or else the next line that makes a check. The
+ * node that is being reduced is ended first; the longest that is known takes 30 ms in a pool of 32,768 bytes. The line
+ * is answered by POINCARE_INTERRUPTED, and so the request is met: the line after it is answered. */
+uint32_t poincare_stop(poincare_stopper *stopper);
+
+/* Takes back what poincare_stop asked for, where no line has met it. */
+uint32_t poincare_clear(poincare_stopper *stopper);
+
+/* Gives the memory of the stopper back. What it asked for stays asked. */
+uint32_t poincare_stopper_close(poincare_stopper *stopper);
+
+/*
+ * A whole text
+ */
+
+/* Answers the lines of a text in a session of its own, as the program with `--pool` answers its input: each line ends at
+ * a newline or at the end of the text, a carriage return before that is cut, and behind each text stands a newline; for a
+ * picture, see poincare_draw. Sets count to how many bytes the answers have; where there is not room for so many, the
+ * front that fits is written. Where nothing is answered count is 0.
+ * POINCARE_DONE, POINCARE_BAD_POOL, POINCARE_NO_MEMORY or POINCARE_INPUT_LIMIT. */
+uint32_t poincare_answers(uint32_t pool, const char *lines, size_t length, char *out, size_t room, size_t *count);
+
+#ifdef __cplusplus
+}
+#endif
+
+#endif
