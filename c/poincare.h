@@ -87,15 +87,19 @@ enum {
     POINCARE_NOT_LINEAR = 116,     /* `:solve` is asked of an equation that is not linear */
     POINCARE_TOO_MANY = 117,       /* `:solve` is asked of over six equations, or of over six names */
 
-    /* Of any call: it did nothing. */
+    /* Of poincare_text, poincare_draw and poincare_answers: there are more bytes than there is room for. The front that
+     * fits is written, and count says how many there are. */
+    POINCARE_NO_ROOM = 200,
+
+    /* Of any call: it did nothing, and what it was to write is as before. */
     POINCARE_BAD_POOL = 201,   /* the pool's size is no multiple of 8 from 64 to 524,280 */
     POINCARE_NO_MEMORY = 202,  /* there is no memory; what had been taken is given back */
     POINCARE_NOT_OPENED = 203, /* the slot was initialised, and never opened since */
     POINCARE_CLOSED = 204,     /* the slot was opened and closed */
     POINCARE_OPEN = 205,       /* the slot is open, and stays as it is */
 
-    /* Of poincare_answers: the lines have 16,777,215 bytes or more. Those that end within the first 16,777,215 are
-     * answered. */
+    /* Of poincare_answers: the text has 16,777,215 bytes or more. The lines that end within the first 16,777,215 are
+     * answered, as far as there is room. */
     POINCARE_INPUT_LIMIT = 206
 };
 
@@ -129,22 +133,24 @@ uint32_t poincare_close(poincare_session *session);
 
 /* Answers a line: so many bytes, without a newline and a carriage return at their end. They may be any bytes; UTF-8 is
  * what the grammar knows. The answer is what became of the line; poincare_text has its text.
- * `:after K` is counted by poincare_line alone, and may be asked again any number of times. */
+ * `:after K` may be asked any number of times; in the program it is two. */
 uint32_t poincare_line(poincare_session *session, const char *line, size_t length);
 
-/* The same, but that the line is interrupted where it needs more than so many checks. There is one check for each node
- * of a line. A line that was interrupted may be asked again with more: it changed nothing. */
+/* The same, but that the line is interrupted where it needs more than so many checks, too. There is one check for each
+ * node of a line. A line that was interrupted may be asked again with more: it changed nothing. The count takes the place
+ * of one that `:after` asked for, and is over when the call returns. */
 uint32_t poincare_line_within(poincare_session *session, const char *line, size_t length, uint64_t checks);
 
-/* Writes the text of the last line, without a newline, and sets count to how many bytes it has. Where there is not room
- * for so many, the front that fits is written, and it may be asked for again. There is no text after opening, after a
- * blank line, and after POINCARE_DRAW or a call of poincare_draw; then count is 0. No 0 is written at the end. */
+/* Writes the text of the last line, without a newline and without a 0 at the end, and sets count to how many bytes it
+ * has. It may be asked for again, as with more room. There is none after opening, after a blank line, and after
+ * POINCARE_DRAW or a call of poincare_draw; then count is 0.
+ * POINCARE_DONE, or POINCARE_NO_ROOM. */
 uint32_t poincare_text(poincare_session *session, char *out, size_t room, size_t *count);
 
-/* Writes the picture of the last answer, each row with a newline, and sets count to how many bytes it has, as
- * poincare_text does. Where its layout finds no room in the pool the answer is POINCARE_FULL, and the line
- * `! full needed N free M` stands in place of the picture, with a newline. Nothing in the session changes, but that there
- * is no text any more. */
+/* Writes the picture of the last answer, each row with a newline, and sets count to how many bytes it has. Nothing in the
+ * session changes, but that there is no text any more. Where its layout finds no room in the pool, the line
+ * `! full needed N free M` with a newline is written in its place, as far as it fits, and count is its length.
+ * POINCARE_DONE, POINCARE_NO_ROOM, or POINCARE_FULL for that line. */
 uint32_t poincare_draw(poincare_session *session, char *out, size_t room, size_t *count);
 
 /* Tells how many bytes of the pool are in use, and how many are free. */
@@ -177,9 +183,8 @@ uint32_t poincare_stopper_close(poincare_stopper *stopper);
 
 /* Answers the lines of a text in a session of its own, as the program with `--pool` answers its input: each line ends at
  * a newline or at the end of the text, a carriage return before that is cut, and behind each text stands a newline; for a
- * picture, see poincare_draw. Sets count to how many bytes the answers have; where there is not room for so many, the
- * front that fits is written. Where nothing is answered count is 0.
- * POINCARE_DONE, POINCARE_BAD_POOL, POINCARE_NO_MEMORY or POINCARE_INPUT_LIMIT. */
+ * picture, see poincare_draw. Sets count to how many bytes the answers have.
+ * POINCARE_DONE, POINCARE_NO_ROOM, POINCARE_BAD_POOL, POINCARE_NO_MEMORY or POINCARE_INPUT_LIMIT. */
 uint32_t poincare_answers(uint32_t pool, const char *lines, size_t length, char *out, size_t room, size_t *count);
 
 #ifdef __cplusplus
