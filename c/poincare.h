@@ -96,11 +96,7 @@ enum {
     POINCARE_NO_MEMORY = 202,  /* there is no memory; what had been taken is given back */
     POINCARE_NOT_OPENED = 203, /* the slot was initialised, and never opened since */
     POINCARE_CLOSED = 204,     /* the slot was opened and closed */
-    POINCARE_OPEN = 205,       /* the slot is open, and stays as it is */
-
-    /* Of poincare_answers: the text has 16,777,215 bytes or more. The lines that end within the first 16,777,215 are
-     * answered, as far as there is room. */
-    POINCARE_INPUT_LIMIT = 206
+    POINCARE_OPEN = 205        /* the slot is open, and stays as it is */
 };
 
 /*
@@ -138,7 +134,7 @@ uint32_t poincare_line(poincare_session *session, const char *line, size_t lengt
 
 /* The same, but that the line is interrupted where it needs more than so many checks, too. There is one check for each
  * node of a line. A line that was interrupted may be asked again with more: it changed nothing. The count takes the place
- * of one that `:after` asked for, and is over when the call returns. */
+ * of one that `:after` asked for, and no count is left when the call returns. */
 uint32_t poincare_line_within(poincare_session *session, const char *line, size_t length, uint64_t checks);
 
 /* Writes the text of the last line, without a newline and without a 0 at the end, and sets count to how many bytes it
@@ -171,7 +167,7 @@ uint32_t poincare_stopper_open(poincare_stopper *stopper, poincare_session *sess
  * is answered by POINCARE_INTERRUPTED, and so the request is met: the line after it is answered. */
 uint32_t poincare_stop(poincare_stopper *stopper);
 
-/* Takes back what poincare_stop asked for, where no line has met it. */
+/* Takes back what any stopper of the session asked for, where no line has met it. */
 uint32_t poincare_clear(poincare_stopper *stopper);
 
 /* Gives the memory of the stopper back. What it asked for stays asked. */
@@ -183,8 +179,8 @@ uint32_t poincare_stopper_close(poincare_stopper *stopper);
 
 /* Answers the lines of a text in a session of its own, as the program with `--pool` answers its input: each line ends at
  * a newline or at the end of the text, a carriage return before that is cut, and behind each text stands a newline; for a
- * picture, see poincare_draw. Sets count to how many bytes the answers have.
- * POINCARE_DONE, POINCARE_NO_ROOM, POINCARE_BAD_POOL, POINCARE_NO_MEMORY or POINCARE_INPUT_LIMIT. */
+ * picture, see poincare_draw. Sets count to how many bytes the answers have. The text may be of any length.
+ * POINCARE_DONE, POINCARE_NO_ROOM, POINCARE_BAD_POOL or POINCARE_NO_MEMORY. */
 uint32_t poincare_answers(uint32_t pool, const char *lines, size_t length, char *out, size_t room, size_t *count);
 
 #ifdef __cplusplus
