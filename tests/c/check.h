@@ -36,7 +36,7 @@ static uint32_t ask(poincare_session *session, const char *line, char *text, siz
 
 /* Whether a line is answered by this code and this text. */
 static inline int answers(poincare_session *session, const char *line, uint32_t code, const char *wanted) {
-    static _Thread_local char text[1 << 20];
+    static _Thread_local char text[1 << 17];
 
     return ask(session, line, text, sizeof text) == code && strcmp(text, wanted) == 0;
 }

@@ -158,7 +158,7 @@ static void check_codes(void) {
     CHECK(poincare_close(&session) == POINCARE_DONE);
 }
 
-/* Lines that the text is not ended by a 0, of no bytes, too long, and of bytes that are no UTF-8. */
+/* Lines that are longer than is said, of no bytes, too long, and of bytes that are no UTF-8. */
 static void check_lines(void) {
     static char line[1200];
     static const char *no_text[] = {"\xff", "1\x80", "\xe2\x88", "\xe2\x88\x9a", "\xc3\x97", "\xf0\x9f\x98\x80", "1+\xc3"};
