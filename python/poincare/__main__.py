@@ -1,0 +1,111 @@
+"""A prompt: it answers line by line.
+
+    python -m poincare [--pool N] [--draw]
+
+Lines are edited and kept in a history, in ~/.poincare_history, where Python has `readline`. Ctrl-C interrupts the line
+that runs, and Ctrl-D ends. Where the input is no terminal there is no prompt, and the answers are those of the program.
+"""
+
+import argparse
+import pathlib
+import sys
+from concurrent.futures import ThreadPoolExecutor
+
+from . import DEFAULT_POOL, Kind, LibraryMissing, PoolFull, Session
+
+PROMPT = "> "
+HISTORY = pathlib.Path.home() / ".poincare_history"
+MOST_LINES = 1000
+
+
+def read_history() -> None:
+    """Begins with the lines of earlier sessions, and has those of this one kept at the end."""
+    try:
+        import atexit
+        import readline
+    except ImportError:
+        return
+    try:
+        readline.read_history_file(HISTORY)
+    except OSError:
+        pass
+    readline.set_history_length(MOST_LINES)
+    atexit.register(write_history)
+
+
+def write_history() -> None:
+    import readline
+
+    try:
+        readline.write_history_file(HISTORY)
+    except OSError as error:
+        print(f"the history is not kept: {error}", file=sys.stderr)
+
+
+def picture(session: Session) -> str:
+    try:
+        return session.picture()
+    except PoolFull as full:
+        return f"{full}\n"
+
+
+def told(session: Session, line: str, draws: bool) -> str:
+    """What is printed for a line."""
+    answer = session.line(line)
+    if answer.kind is Kind.BLANK:
+        return ""
+    if answer.kind is Kind.DRAW:
+        return picture(session)
+    drawn = draws and answer.kind in (Kind.SHOWN, Kind.STORED)
+    return f"{answer.text}\n{picture(session) if drawn else ''}"
+
+
+def converse(worker: ThreadPoolExecutor, session: Session, prompt: str, draws: bool) -> None:
+    """Answers lines until they end. The session runs on a thread of its own, so that this one hears Ctrl-C."""
+    while True:
+        try:
+            line = input(prompt)
+        except EOFError:
+            if prompt:
+                print()
+            return
+        except KeyboardInterrupt:
+            print()
+            continue
+        running = worker.submit(told, session, line, draws)
+        while True:
+            try:
+                sys.stdout.write(running.result())
+                sys.stdout.flush()
+                break
+            except KeyboardInterrupt:
+                session.stop()
+        session.clear()
+
+
+def main() -> int:
+    words = argparse.ArgumentParser(prog="python -m poincare", description="Exact answers, line by line.")
+    words.add_argument("--pool", type=int, default=DEFAULT_POOL, metavar="N", help="bytes of the pool")
+    words.add_argument("--draw", action="store_true", help="draws each answer below its text")
+    given = words.parse_args()
+    prompt = ""
+    if sys.stdin.isatty():
+        prompt = PROMPT
+        read_history()
+    for stream in (sys.stdin, sys.stdout):
+        stream.reconfigure(encoding="utf-8", errors="surrogateescape")
+    with ThreadPoolExecutor(1) as worker:
+        try:
+            session = worker.submit(Session, given.pool).result()
+        except (LibraryMissing, ValueError, MemoryError) as error:
+            print(error, file=sys.stderr)
+            return 2 if isinstance(error, ValueError) else 1
+        try:
+            converse(worker, session, prompt, given.draw)
+        finally:
+            worker.submit(session.close).result()
+    return 0
+
+
+if __name__ == "__main__":
+    sys.exit(main())
