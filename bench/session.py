@@ -31,9 +31,9 @@ for line in sys.stdin:
 """
 
 
-def lines(count):
-    """The generated lines: two small numbers, drawn by a linear congruence, in each of the eight forms in turn."""
-    state = 1
+def lines(count, number=1):
+    """The lines of a generated session: two small numbers, drawn by a linear congruence, in each of the eight forms in turn."""
+    state = number % 65537
     for place in range(1, count + 1):
         state = (75 * state + 74) % 65537
         yield KINDS[place % 8].format(a=state % 97 + 1, b=state // 97 % 89 + 1)

@@ -1,0 +1,186 @@
+#!/bin/sh
+# Tries the library for C, the module for Python over it, and the samples of docs/EMBEDDING.md.
+#
+#     tests/c.sh [PROGRAM]
+#
+# Its argument is the program, with which the library is compared. The archive is that of the crate poincare_c, or what
+# ARCHIVE names; where there is none, the kit's command rt builds it. What the script needs and this machine lacks is said,
+# and counts as neither passed nor failed. The last line says how many checks passed and failed; the status is 1 where one
+# failed.
+root=$(cd "$(dirname "$0")/.." && pwd)
+program=${1:-$root/crates/poincare/out/poincare}
+ARCHIVE=${ARCHIVE:-$root/crates/poincare_c/out/libpoincare_c.a}
+export ARCHIVE
+folder=$(mktemp -d) || exit 1
+trap 'rm -rf "$folder"' EXIT
+passed=0
+failed=0
+strict="-std=c11 -Wall -Wextra -pedantic -Werror"
+
+has() {
+    command -v "$1" >/dev/null
+}
+
+# lacks WHAT NEED: says that a part is not run
+lacks() {
+    echo "not run: $1: $2"
+}
+
+# ends: the counts so far, and the status
+ends() {
+    echo "$passed passed, $failed failed"
+    [ "$failed" = 0 ]
+    exit
+}
+
+# tried NAME COMMAND..: whether the command passes. Where its last line says how many passed and failed, these are added.
+tried() {
+    name=$1
+    shift
+    "$@" >"$folder/said" 2>&1
+    status=$?
+    counts=$(tail -n 1 "$folder/said" | sed -n 's/^\([0-9]*\) passed, \([0-9]*\) failed$/\1 \2/p')
+    right=1
+    wrong=0
+    if [ -n "$counts" ]; then
+        right=${counts% *}
+        wrong=${counts#* }
+        grep '^not run' "$folder/said"
+    fi
+    if [ "$status" != 0 ]; then
+        [ -n "$counts" ] || right=0
+        [ "$wrong" != 0 ] || wrong=1
+        echo "failed: $name, status $status"
+        tail -n 20 "$folder/said"
+    fi
+    passed=$((passed + right))
+    failed=$((failed + wrong))
+}
+
+# compiled COMPILER WORD..: compiles the C side without a warning
+compiled() {
+    for file in "$root"/c/*.c "$root"/tests/c/*.c; do
+        "$@" $strict -I"$root/c" -c -o "$folder/object.o" "$file" || return 1
+    done
+}
+
+# built SUFFIX WORD..: builds the tests with these words for the compiler
+built() {
+    suffix=$1
+    shift
+    for name in slots memory threads program; do
+        ${CC:-gcc} $strict "$@" -I"$root/c" -o "$folder/$name$suffix" "$root/tests/c/$name.c" "$out/libpoincare.a" -pthread ||
+            return 1
+    done
+    ${CC:-gcc} $strict "$@" -I"$root/c" -o "$folder/example$suffix" "$root/c/example.c" "$root/c/heap.c" "$ARCHIVE" -pthread
+}
+
+# The archive has the calls of the header and no other global symbol, and needs what it is said to need.
+has_symbols() {
+    sed -n 's/.*\b\(poincare_[a-z_]*\)(.*;$/\1/p' "$root/c/poincare.h" | sort -u >"$folder/wanted"
+    nm -g --defined-only "$ARCHIVE" | awk 'NF == 3 { print $3 }' | sort -u >"$folder/exported"
+    nm -D --defined-only "$out/libpoincare.so" | awk 'NF == 3 { print $3 }' | sort -u >"$folder/shared"
+    diff "$folder/wanted" "$folder/exported" && diff "$folder/wanted" "$folder/shared" || return 1
+    nm -u "$ARCHIVE" | awk 'NF == 2 { print $2 }' | sort -u >"$folder/needed"
+    ! grep -v -x -E 'rattle_(alloc|realloc|dealloc)|mem(cpy|move|set|cmp)|bcmp|__u?(div|mod)ti3|_GLOBAL_OFFSET_TABLE_' "$folder/needed"
+}
+
+tells_example() {
+    "$@" >"$folder/told" && diff "$folder/told" "$root/tests/c/example.txt"
+}
+
+tells_hundred() {
+    "$@" <"$root/tests/hundred-lines.txt" >"$folder/told" && diff "$folder/told" "$root/tests/hundred-answers.txt"
+}
+
+# What is installed is found by pkg-config, or by its path, and works.
+is_installed() {
+    make -s -C "$root/c" OUT="$out" PREFIX="$folder/installed" install || return 1
+    words="-I$folder/installed/include -L$folder/installed/lib -lpoincare"
+    if has pkg-config; then
+        words=$(PKG_CONFIG_PATH=$folder/installed/lib/pkgconfig pkg-config --cflags --libs poincare) || return 1
+    fi
+    ${CC:-gcc} -std=c11 -o "$folder/installed/example" "$root/c/example.c" $words -pthread || return 1
+    tells_example env LD_LIBRARY_PATH="$folder/installed/lib" "$folder/installed/example"
+}
+
+if ! has "${CC:-gcc}" || ! has make; then
+    lacks "all of it" "gcc and make are needed"
+    ends
+fi
+if [ ! -f "$ARCHIVE" ]; then
+    if ! has rt; then
+        lacks "all of it" "$ARCHIVE is not built, and the command rt, which builds it, is missing"
+        ends
+    fi
+    tried "the archive" make -s -C "$root/c" "$ARCHIVE"
+    [ -f "$ARCHIVE" ] || ends
+fi
+out=$folder/out
+mkdir "$out"
+
+for compiler in gcc clang; do
+    if has $compiler; then
+        tried "no warning of $compiler" compiled $compiler -O2
+    else
+        lacks "warnings" "$compiler"
+    fi
+done
+tried "make" make -s -C "$root/c" OUT="$out"
+tried "symbols" has_symbols
+tried "install" is_installed
+tried "the tests are built" built "" -O2
+for compiler in g++ clang++; do
+    if has $compiler; then
+        tried "C++ by $compiler" "$compiler" -std=c++11 -Wall -Wextra -pedantic -Werror -I"$root/c" -o "$folder/header" \
+            "$root/tests/c/header.cpp" "$out/libpoincare.a"
+        tried "C++" "$folder/header"
+    else
+        lacks "C++" "$compiler"
+    fi
+done
+
+tried "the example" tells_example "$folder/example"
+tried "slots" "$folder/slots"
+tried "memory" "$folder/memory"
+tried "threads" "$folder/threads"
+
+if built .sanitized -O1 -g -fsanitize=address,undefined -fno-sanitize-recover=all >/dev/null 2>&1; then
+    tried "the example, sanitized" tells_example "$folder/example.sanitized"
+    tried "slots, sanitized" "$folder/slots.sanitized"
+    tried "memory, sanitized" "$folder/memory.sanitized" 1000
+    tried "threads, sanitized" "$folder/threads.sanitized"
+    tried "a hundred lines, sanitized" tells_hundred "$folder/program.sanitized"
+    tried "a hundred lines in one call, sanitized" tells_hundred "$folder/program.sanitized" --whole
+else
+    lacks "sanitizers" "the compiler has no -fsanitize=address,undefined"
+fi
+
+if has valgrind; then
+    valgrind="valgrind -q --leak-check=full --show-leak-kinds=all --errors-for-leak-kinds=all --error-exitcode=9"
+    tried "the example under valgrind" tells_example $valgrind "$folder/example"
+    tried "slots under valgrind" $valgrind "$folder/slots"
+    tried "memory under valgrind" $valgrind "$folder/memory" 100
+    tried "threads under valgrind" $valgrind "$folder/threads" 10
+    tried "a hundred lines under valgrind" tells_hundred $valgrind "$folder/program"
+    tried "a hundred lines in one call under valgrind" tells_hundred $valgrind "$folder/program" --whole
+else
+    lacks "leaks and uninitialised memory" "valgrind"
+fi
+
+if has python3; then
+    POINCARE_LIBRARY=$out/libpoincare.so
+    export POINCARE_LIBRARY
+    tried "the samples of docs/EMBEDDING.md" "$root/tests/embedding.py"
+    if [ -x "$program" ]; then
+        tried "rows, sessions and the module" "$root/tests/through_c.py" "$program" "$folder/program"
+    else
+        lacks "the comparison with the program" "$program is not built: ./poincare builds it"
+    fi
+    tried "sessions through the library" "$root/tests/sessions.py" "$folder/program"
+    tried "samples through the library" "$root/tests/samples.py" "$folder/program"
+else
+    lacks "rows, the module and the samples" "python3"
+fi
+tried "little stack" "$root/tests/stack.sh" "$folder/program"
+ends

@@ -1,0 +1,127 @@
+#!/usr/bin/env python3
+"""Runs the samples of docs/EMBEDDING.md, and the lines of C of README.md.
+
+    tests/embedding.py
+
+A block of code is a file, whose name stands before it, or else stands in the example for C. Commands are run at the top of
+a folder that has the files, and the block of text behind a program is what it prints. The library has to be built.
+"""
+import os
+import pathlib
+import re
+import shutil
+import subprocess
+import sys
+import tempfile
+
+TOP = pathlib.Path(__file__).resolve().parent.parent
+PAGE = TOP / "docs" / "EMBEDDING.md"
+BLOCK = re.compile(r"^```(\w+)\n(.*?)^```$", re.M | re.S)
+NAMED = re.compile(r"`([\w/.]+\.(?:c|rt))`[^`]*\Z")
+
+
+def blocks():
+    """Each block: its language, what stands in it, and the file that is named last before it in its paragraph."""
+    text = PAGE.read_text()
+    end = 0
+    for found in BLOCK.finditer(text):
+        named = NAMED.search(text[end : found.start()])
+        yield found[1], found[2], named and named[1]
+        end = found.end()
+
+
+def printed(command, folder, **how):
+    done = subprocess.run(command, cwd=folder, stdout=subprocess.PIPE, stderr=subprocess.STDOUT, text=True, **how)
+    return done.stdout if done.returncode == 0 else f"status {done.returncode}\n{done.stdout}"
+
+
+class Samples:
+    """The blocks, run one after another; a fault for each that does not give what the page says."""
+
+    def __init__(self, folder):
+        self.folder = folder
+        self.results = []
+        self.wanted = ""
+
+    def note(self, what, holds, shown=""):
+        self.results.append(bool(holds))
+        if not holds:
+            print(f"failed: {what}\n{shown}")
+
+    def run_c(self, commands, wanted):
+        shown = printed(["sh", "-e", "-c", commands], self.folder)
+        self.note(commands, shown.endswith(wanted), shown)
+
+    def run_rattle(self, program, line, wanted):
+        """In a copy of the sources with one more crate, without its proof."""
+        if not shutil.which("rt"):
+            print("not run: the sample in Rattle: rt is not there")
+            return
+        copy = self.folder / "copy"
+        shutil.copytree(TOP / "crates", copy / "crates", ignore=shutil.ignore_patterns("out", "proofs", "must-fail"))
+        shutil.copy(TOP / "HANDLES", copy)
+        (copy / "crates.txt").write_text((TOP / "crates.txt").read_text() + "\n" + line)
+        crate = copy / "crates" / line.split(":")[0]
+        (crate / "src").mkdir(parents=True)
+        (crate / "src" / "main.rt").write_text(program)
+        shown = printed(["rt", "try"], crate, stdin=subprocess.DEVNULL)
+        self.note("the sample in Rattle", wanted in shown, shown[-2000:])
+
+    def run(self):
+        found = list(blocks())
+        texts = {at: body for at, (language, body, _) in enumerate(found) if language == "text"}
+
+        def wanted_behind(at):
+            return texts[min(it for it in texts if it > at)]
+
+        example = (TOP / "c" / "example.c").read_text()
+        printed_by_c = ""
+        for at, (language, body, name) in enumerate(found):
+            if language == "rust":
+                line = next(body for language, body, _ in found[at:] if language == "crates")
+                self.run_rattle(body, line, wanted_behind(at))
+            elif language == "c" and name:
+                (self.folder / name).write_text(body)
+            elif language == "c":
+                self.note("a piece of c/example.c", body in example, body)
+            elif language == "python":
+                command = [sys.executable, "-c", body]
+                shown = printed(command, TOP / "python")
+                self.note("the sample in Python", shown == wanted_behind(at), shown)
+            elif language == "sh":
+                if found[at + 1 : at + 2] and found[at + 1][0] == "text":
+                    printed_by_c = found[at + 1][1]
+                self.run_c(body, printed_by_c)
+
+
+def is_right_in_readme(folder):
+    """The lines of C in README.md, in a program that prints the text."""
+    lines = re.search(r"^(    poincare_session session;\n(?:    .*\n)+)", (TOP / "README.md").read_text(), re.M)[1]
+    program = f"""#include "poincare.h"
+#include <stdio.h>
+int main(void) {{
+    char text[16];
+    size_t count = 0;
+{lines}    return printf("%.*s", (int)count, text) < 0;
+}}
+"""
+    (folder / "readme.c").write_text(program)
+    command = "cc -std=c11 -Wall -Wextra -Werror -I c readme.c c/out/libpoincare.a -o readme && ./readme"
+    return printed(["sh", "-c", command], folder) == "1/2"
+
+
+def main():
+    with tempfile.TemporaryDirectory() as name:
+        folder = pathlib.Path(name)
+        for part in ("c", "python"):
+            os.symlink(TOP / part, folder / part)
+        samples = Samples(folder)
+        samples.run()
+        samples.note("the lines of C in README.md", is_right_in_readme(folder))
+    failed = samples.results.count(False)
+    print(f"{len(samples.results) - failed} passed, {failed} failed")
+    return 1 if failed else 0
+
+
+if __name__ == "__main__":
+    sys.exit(main())
