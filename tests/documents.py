@@ -30,7 +30,7 @@ FACT = re.compile(r"    ghost (\w+)(?::| =)")
 ITEM = re.compile(r"pub (?:unsafe |extern \S+ )*(?:fn|struct|enum|trait|const|type) (\w+)")
 CITATION = re.compile(r"([A-Za-z_]\w*(?:::\w+)?): ([a-z]\w*(?:, [a-z]\w*)*)")
 NAME = re.compile(r"[A-Za-z_]\w*(?:::\w+)*")
-PATH = re.compile(r"(?<![\w/.])(?:bench|crates|docs|launcher|tests)/[\w./-]*\w")
+PATH = re.compile(r"(?<![\w/.])(?:bench|c|crates|docs|launcher|python|tests)/[\w./-]*\w")
 LINK = re.compile(r"\[[^\]]*\]\(([^)\s]+)\)")
 
 
@@ -111,6 +111,9 @@ class Repository:
         self.root = root
         self.listed = re.findall(r"^(\w+)(?: staticlib)?:", (root / "crates.txt").read_text(), re.M)
         self.crates = {name: Crate(root / "crates" / name) for name in self.listed}
+        # The library for C and the module for Python have their names from these.
+        beside = [*root.glob("c/*.[ch]"), *root.glob("python/*/*.py")]
+        self.beside = {name for file in beside for name in re.findall(r"\w+", file.read_text())}
         pages = [*root.glob("*.md"), *root.glob("docs/*.md"), *root.glob("crates/*/README.md"), *root.glob("bench/*.md")]
         self.pages = sorted(pages)
 
@@ -143,7 +146,8 @@ class Repository:
         for page in self.pages:
             for line, span in self.spans(page):
                 told = NAME.fullmatch(span) and ("_" in span or span[0].isupper())
-                if told and span not in self.crates and not (self.root / span).exists():
+                known = span in self.crates or span in self.beside or (self.root / span).exists()
+                if told and not known:
                     where = self.crates.values() if page.parent.name == "docs" else self.about(page, line)
                     if not any(it.declares(span) for it in where):
                         yield f"{page.relative_to(self.root)}: no declaration of `{span}`"
