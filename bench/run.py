@@ -3,7 +3,8 @@
 
     bench/run.py [--write] [--runs N] [--program PROGRAM] [MEASURE..]
 
-The measures are `instructions`, `session`, `expansions`, `worst`, `rationals` and `trees`; without a name the first four are run.
+The measures are `instructions`, `session`, `expansions`, `worst`, `rationals`, `trees` and `library`; without a name the first four
+are run.
 Nothing else should run on the machine meanwhile.
 """
 import argparse
@@ -21,7 +22,7 @@ sys.path.insert(0, str(HERE))
 
 from timed import Row, built  # noqa: E402
 
-MEASURES = ["instructions", "session", "expansions", "worst", "rationals", "trees"]
+MEASURES = ["instructions", "session", "expansions", "worst", "rationals", "trees", "library"]
 USUAL = MEASURES[:4]
 RESULTS = HERE / "results.json"
 TABLE = re.compile(r"(<!-- table -->\n).*(<!-- end -->)", re.DOTALL)

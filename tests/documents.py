@@ -234,7 +234,8 @@ pub fn fill(cup: &mut Cup)
     "crates/high/README.md": "What is full: law `cups_are_full`.\n",
     "docs/ARCHITECTURE.md": "# Crates\n\n| [low](../crates/low/README.md) | `fill: full` |\n| [high](../crates/high/README.md) | |\n",
     "docs/crates.svg": "<title>high&#45;&gt;low</title>",
-    "README.md": "See [the crates](docs/ARCHITECTURE.md#crates), and crates/low.\n",
+    "c/low.h": "int low_pour(void);\n",
+    "README.md": "See [the crates](docs/ARCHITECTURE.md#crates), crates/low and `low_pour` in c/low.h.\n",
 }
 WRONG = [
     ("crates/low/README.md", "full, kept", "full, empty", "no clause `fill: full, empty`"),
@@ -246,7 +247,9 @@ WRONG = [
     ("docs/ARCHITECTURE.md", "| `fill: full` |", "| `fill: value` |", "no clause `fill: value`"),
     ("README.md", "ARCHITECTURE.md#crates", "NOTHING.md", "no file docs/NOTHING.md"),
     ("README.md", "#crates", "#cups", "no heading docs/ARCHITECTURE.md#cups"),
-    ("README.md", "and crates/low", "and crates/middle", "no file crates/middle"),
+    ("README.md", "crates/low", "crates/middle", "no file crates/middle"),
+    ("README.md", "c/low.h", "c/high.h", "no file c/high.h"),
+    ("README.md", "`low_pour`", "`high_pour`", "no declaration of `high_pour`"),
     ("crates.txt", "low:\nhigh: low", "high: low\nlow:", "low stands where crates.txt has high"),
     ("docs/ARCHITECTURE.md", "| [high](../crates/high/README.md) | |\n", "", "high is told 0 times"),
     ("crates.txt", "high: low", "high:", "docs/crates.svg: docs/crates.py draws it anew"),
