@@ -206,9 +206,11 @@ static void check_room(uint32_t call(poincare_session *, char *, size_t, size_t 
     }
 }
 
-static uint32_t answers_of_two(poincare_session *unused, char *out, size_t room, size_t *count) {
+static uint32_t answers_of_lines(poincare_session *unused, char *out, size_t room, size_t *count) {
+    static const char lines[] = "1+1\r\n\n2+\n1/2\n:draw";
+
     (void)unused;
-    return poincare_answers(128, "1+1\r\n\n2+\n1/2\n:draw", 19, out, room, count);
+    return poincare_answers(128, lines, sizeof lines - 1, out, room, count);
 }
 
 static void check_rooms(void) {
@@ -226,7 +228,7 @@ static void check_rooms(void) {
     CHECK(poincare_text(&session, text, sizeof text, &count) == POINCARE_DONE && count == 0);
     check_room(poincare_draw, "a+b+c+d+e", POINCARE_FULL, "! full needed 8 free 0\n");
     CHECK(answers(&session, "ans", POINCARE_SHOWN, "a+b+c+d+e"));
-    check_room(answers_of_two, "", POINCARE_DONE, "2\n! syntax\n1/2\n1\n-\n2\n");
+    check_room(answers_of_lines, "", POINCARE_DONE, "2\n! syntax\n1/2\n1\n-\n2\n");
     CHECK(poincare_answers(64, "1", 0, text, 0, &count) == POINCARE_DONE && count == 0);
     CHECK(poincare_answers(64, "\n \n\r\n", 5, text, 0, &count) == POINCARE_DONE && count == 0);
     CHECK(poincare_close(&session) == POINCARE_DONE);
