@@ -243,9 +243,9 @@ class Terminal:
             with contextlib.suppress(BlockingIOError, OSError):
                 self.shown += os.read(self.end, 4096).decode(errors="replace")
             time.sleep(0.01)
-        found = text in self.shown
-        self.shown = self.shown.partition(text)[2]
-        return found
+        before, found, behind = self.shown.partition(text)
+        self.shown = behind if found else before
+        return found != ""
 
     def type(self, text):
         os.write(self.end, text.encode())
