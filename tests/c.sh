@@ -145,7 +145,9 @@ tried "slots" "$folder/slots"
 tried "memory" "$folder/memory"
 tried "threads" "$folder/threads"
 
-if built .sanitized -O1 -g -fsanitize=address,undefined -fno-sanitize-recover=all >/dev/null 2>&1; then
+sanitizers="-fsanitize=address,undefined -fno-sanitize-recover=all"
+if echo 'int main(void) { return 0; }' | ${CC:-gcc} -x c $sanitizers -o "$folder/nothing" - 2>"$folder/said"; then
+    tried "the sanitized tests are built" built .sanitized -O1 -g $sanitizers
     tried "the example, sanitized" tells_example "$folder/example.sanitized"
     tried "slots, sanitized" "$folder/slots.sanitized"
     tried "memory, sanitized" "$folder/memory.sanitized" 1000
@@ -153,7 +155,7 @@ if built .sanitized -O1 -g -fsanitize=address,undefined -fno-sanitize-recover=al
     tried "a hundred lines, sanitized" tells_hundred "$folder/program.sanitized"
     tried "a hundred lines in one call, sanitized" tells_hundred "$folder/program.sanitized" --whole
 else
-    lacks "sanitizers" "the compiler has no -fsanitize=address,undefined"
+    lacks "sanitizers" "the compiler has none"
 fi
 
 if has valgrind; then

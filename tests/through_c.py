@@ -169,17 +169,23 @@ def check_errors():
     return all(held)
 
 
+def until_stopped(session, line):
+    """Asks a line again and again until it is not shown: its answer, and the bytes of the pool before that."""
+    while True:
+        before = session.line(":dump").text
+        answer = session.line(line)
+        if answer.kind is not poincare.Kind.SHOWN:
+            return answer, before
+
+
 def check_stops():
     """Another thread stops a line; the session is as it was, and the next line is answered."""
-    line = "+".join(["1/(√(2)+√(3))"] * 60)
+    line = "+".join(["1/(√(2)+√(3))"] * 50)
     with poincare.Session() as session:
-        session.line(line)
-        before = session.line(":dump").text
-        for time_ in range(20):
-            thread = threading.Thread(target=lambda: (time.sleep(0.0002 * time_), session.stop()))
+        for number in range(20):
+            thread = threading.Thread(target=lambda: (time.sleep(0.0002 * number), session.stop()))
             thread.start()
-            while (answer := session.line(line)).kind is poincare.Kind.SHOWN:
-                pass
+            answer, before = until_stopped(session, line)
             thread.join()
             if (answer.refusal is not poincare.Refusal.INTERRUPTED or session.line(":dump").text != before
                     or session.line("ans").kind is not poincare.Kind.SHOWN):

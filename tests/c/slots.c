@@ -135,7 +135,7 @@ static void check_codes(void) {
         {"1+2", POINCARE_INTERRUPTED, "! interrupted"},
         {"1+2", POINCARE_SHOWN, "3"},
     };
-    char deep[80], name[16];
+    char deep[80], name[32];
 
     poincare_session_init(&session);
     CHECK(poincare_open(&session, 32768) == POINCARE_DONE);

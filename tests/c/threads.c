@@ -123,7 +123,6 @@ static void check_stops(int rounds) {
     CHECK(poincare_stopper_open(&shared.stopper, &session) == POINCARE_DONE);
     CHECK(ask(&session, "x+1→y", before, sizeof before) == POINCARE_STORED);
     CHECK(ask(&session, line, before, sizeof before) == POINCARE_SHOWN);
-    CHECK(ask(&session, ":dump", before, sizeof before) == POINCARE_REPORT);
     shared.rounds = rounds;
     CHECK(pthread_create(&thread, NULL, stop_each, NULL) == 0);
     for (int round = 1; round <= rounds; round++) {
@@ -131,6 +130,7 @@ static void check_stops(int rounds) {
         bool stopped_before;
         atomic_store(&shared.round, round);
         do {
+            other += ask(&session, ":dump", before, sizeof before) != POINCARE_REPORT;
             stopped_before = atomic_load(&shared.stopped) == round;
             code = poincare_line(&session, line, strlen(line));
             other += code != POINCARE_SHOWN && code != POINCARE_INTERRUPTED;
