@@ -31,6 +31,7 @@
  * - A stopper is opened on its session's thread. Then it may go to another thread, by a thread's start, a lock, or an
  *   atomic that is sequentially consistent. One call at a time has it.
  * - No call is made from a signal handler, nor from the forked child of a process that has threads.
+ * - The thread that calls has 128 KiB of stack left for a pool of 32,768 bytes, and 384 KiB for the greatest.
  */
 #ifndef POINCARE_H
 #define POINCARE_H
@@ -115,13 +116,13 @@ void poincare_session_init(poincare_session *session);
 void poincare_stopper_init(poincare_stopper *stopper);
 
 /*
- * Sessions. Each call answers POINCARE_NOT_OPENED or POINCARE_CLOSED where the slot is not open.
+ * Sessions. Each call but poincare_open answers POINCARE_NOT_OPENED or POINCARE_CLOSED where the slot is not open.
  */
 
 /* Opens a session whose pool has so many bytes, a multiple of 8 from 64 to 524,280. The last answer is 0, and no name is
  * stored. With 32,768 bytes, which is what the program takes, about 0.7 MB of heap are taken. A slot that was closed may
  * be opened again.
- * POINCARE_DONE, POINCARE_BAD_POOL, POINCARE_NO_MEMORY or POINCARE_OPEN. */
+ * POINCARE_DONE, POINCARE_OPEN, POINCARE_BAD_POOL or POINCARE_NO_MEMORY. */
 uint32_t poincare_open(poincare_session *session, uint32_t pool);
 
 /* Gives the memory of the session back. */
@@ -129,7 +130,7 @@ uint32_t poincare_close(poincare_session *session);
 
 /* Answers a line: so many bytes, without a newline and a carriage return at their end. They may be any bytes; UTF-8 is
  * what the grammar knows. The answer is what became of the line; poincare_text has its text.
- * `:after K` may be asked any number of times; in the program it is two. */
+ * `:after K` may be asked any number of times; the program heeds two. */
 uint32_t poincare_line(poincare_session *session, const char *line, size_t length);
 
 /* The same, but that the line is interrupted where it needs more than so many checks, too. There is one check for each
@@ -153,7 +154,7 @@ uint32_t poincare_draw(poincare_session *session, char *out, size_t room, size_t
 uint32_t poincare_pool(poincare_session *session, uint32_t *used, uint32_t *left);
 
 /*
- * Stoppers. Each call answers POINCARE_NOT_OPENED or POINCARE_CLOSED where the stopper's slot is not open.
+ * Stoppers. Each call but poincare_stopper_open answers POINCARE_NOT_OPENED or POINCARE_CLOSED where the slot is not open.
  */
 
 /* Opens a stopper of a session that is open. A session may have several. A stopper may outlive its session; then it stops
