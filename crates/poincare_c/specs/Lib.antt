@@ -1,0 +1,5 @@
+pub mod Codes
+pub mod Owned
+pub mod Slots
+pub mod Standings
+pub mod Texts
