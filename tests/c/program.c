@@ -129,41 +129,36 @@ static struct bytes generated(uint64_t number) {
     return bytes;
 }
 
-/* Writes what poincare_text or poincare_draw tells: first it is asked how many bytes there are. */
-static size_t write_told(poincare_session *session, bool picture, struct bytes *out) {
-    size_t count = 0;
-    uint32_t code;
+/* Adds what poincare_text or poincare_draw tells to the output; with too little room it is asked again with enough. */
+static void add_told(poincare_session *session, bool picture, struct bytes *out) {
+    uint32_t (*tells)(poincare_session *, char *, size_t, size_t *) = picture ? poincare_draw : poincare_text;
+    size_t count = 0, left = out->room - out->length;
 
-    if (picture) {
-        code = poincare_draw(session, out->at, out->room, &count);
-        if (code == POINCARE_NO_ROOM || (code == POINCARE_FULL && count > out->room)) {
-            make_room(out, count);
-            code = poincare_draw(session, out->at, out->room, &count);
-        }
-        if (code != POINCARE_DONE && code != POINCARE_FULL)
-            fail("the code of a picture");
-    } else {
-        code = poincare_text(session, out->at, out->room, &count);
-        if (code == POINCARE_NO_ROOM) {
-            make_room(out, count);
-            code = poincare_text(session, out->at, out->room, &count);
-        }
-        if (code != POINCARE_DONE)
-            fail("the code of a text");
+    uint32_t code = tells(session, out->at + out->length, left, &count);
+    if (code == POINCARE_NO_ROOM || (code == POINCARE_FULL && count > left)) {
+        make_room(out, 2 * out->length + count);
+        code = tells(session, out->at + out->length, out->room - out->length, &count);
     }
-    fwrite(out->at, 1, count, stdout);
-    return count;
+    if (code != POINCARE_DONE && !(picture && code == POINCARE_FULL))
+        fail("the code of a text or a picture");
+    out->length += count;
 }
 
-static void write_answer(poincare_session *session, uint32_t code, bool draws, struct bytes *out) {
+static void add_newline(struct bytes *out) {
+    if (out->length == out->room)
+        make_room(out, 2 * out->room);
+    out->at[out->length++] = '\n';
+}
+
+static void add_answer(poincare_session *session, uint32_t code, bool draws, struct bytes *out) {
     if (code == POINCARE_BLANK)
         return;
     if (code != POINCARE_DRAW) {
-        write_told(session, false, out);
-        putchar('\n');
+        add_told(session, false, out);
+        add_newline(out);
     }
     if (code == POINCARE_DRAW || (draws && (code == POINCARE_SHOWN || code == POINCARE_STORED)))
-        write_told(session, true, out);
+        add_told(session, true, out);
 }
 
 static void count_answer(poincare_session *session, uint32_t code, struct summary *summary) {
@@ -197,12 +192,13 @@ static void answer_lines(poincare_session *session, struct bytes lines, const st
         if (words->has_session)
             count_answer(session, code, &summary);
         else
-            write_answer(session, code, words->draws, &out);
+            add_answer(session, code, words->draws, &out);
         at = end + 1;
     }
     if (words->has_session)
         printf("lines %u shown %u stored %u undef %u refused %u bytes %lu\n", summary.lines, summary.shown,
                summary.stored, summary.undefined, summary.refused, summary.bytes);
+    fwrite(out.at, 1, out.length, stdout);
     free(out.at);
 }
 
