@@ -169,12 +169,14 @@ def check_errors():
     return all(held)
 
 
-def until_stopped(session, line):
-    """Asks a line again and again until it is not shown: its answer, and the bytes of the pool before that."""
+def until_stopped(session, line, thread):
+    """Asks a line again and again until it is not shown, or began after the thread's end: its answer, and the bytes of
+    the pool before that."""
     while True:
         before = session.line(":dump").text
+        last = not thread.is_alive()
         answer = session.line(line)
-        if answer.kind is not poincare.Kind.SHOWN:
+        if last or answer.kind is not poincare.Kind.SHOWN:
             return answer, before
 
 
@@ -185,7 +187,7 @@ def check_stops():
         for number in range(20):
             thread = threading.Thread(target=lambda: (time.sleep(0.0002 * number), session.stop()))
             thread.start()
-            answer, before = until_stopped(session, line)
+            answer, before = until_stopped(session, line, thread)
             thread.join()
             if (answer.refusal is not poincare.Refusal.INTERRUPTED or session.line(":dump").text != before
                     or session.line("ans").kind is not poincare.Kind.SHOWN):

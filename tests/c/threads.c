@@ -135,7 +135,7 @@ static void check_stops(int rounds) {
             code = poincare_line(&session, line, strlen(line));
             other += code != POINCARE_SHOWN && code != POINCARE_INTERRUPTED;
             late += stopped_before && code != POINCARE_INTERRUPTED;
-        } while (code == POINCARE_SHOWN);
+        } while (code == POINCARE_SHOWN && !stopped_before);
         within += !stopped_before;
         while (atomic_load(&shared.stopped) != round)
             continue;
