@@ -10,14 +10,12 @@ import contextlib
 import doctest
 import gc
 import importlib
-import io
+import importlib.util
 import os
 import pathlib
 import pty
-import re
 import resource
 import shutil
-import signal
 import subprocess
 import sys
 import tempfile
@@ -33,6 +31,8 @@ poincare = importlib.import_module("poincare")
 generated = importlib.import_module("session").lines
 
 PROGRAM, OTHER = [pathlib.Path(word).resolve() for word in sys.argv[1:3]]
+# Lines of which the second takes half a second in the greatest pool: fifty powers of a sum of eight roots.
+SLOW = ["+".join(f"√({prime})" for prime in (2, 3, 5, 7, 11, 13, 17, 19)) + "→t", "+".join(["t^12"] * 50)]
 GENERATED = [0, 1, 2, 7, 100, 65536, 65537, 123456, 4294967294, 4294967295]
 
 
@@ -197,6 +197,25 @@ def check_stops():
         return session.line("1+1").text == "2"
 
 
+def check_slow_stops():
+    """A line that takes long is stopped while it runs, when the node that is being reduced is ended."""
+    with poincare.Session(524280) as session:
+        session.line(SLOW[0])
+        begun = time.monotonic()
+        session.line(SLOW[1])
+        whole = time.monotonic() - begun
+        stopped = []
+        for part in (0.1, 0.3, 0.5):
+            thread = threading.Thread(target=lambda: (time.sleep(part * whole), stopped.append(time.monotonic()), session.stop()))
+            thread.start()
+            answer, _ = until_stopped(session, SLOW[1], thread)
+            late = time.monotonic() - stopped[-1]
+            thread.join()
+            if answer.refusal is not poincare.Refusal.INTERRUPTED or late > whole / 2:
+                return False
+        return session.line("1+1").text == "2"
+
+
 def check_memory():
     """Sessions that are opened and closed, or dropped, leave no memory behind."""
 
@@ -235,13 +254,14 @@ def check_missing():
 class Terminal:
     """The prompt at a terminal: what is typed, and what is shown."""
 
-    def __init__(self, home):
+    def __init__(self, home, *words):
         self.child, self.end = pty.fork()
         if self.child == 0:
             os.chdir(PYTHON)
-            os.environ.update(HOME=home, TERM="dumb", PYTHON_BASIC_REPL="1")
-            os.execv(sys.executable, [sys.executable, "-m", "poincare"])
+            os.environ.update(HOME=home, TERM="dumb")
+            os.execv(sys.executable, [sys.executable, "-m", "poincare", *words])
         self.shown = ""
+        self.before = ""
 
     def wait_for(self, text, seconds=20):
         """Reads until this is shown behind what was waited for before; whether it is."""
@@ -251,8 +271,8 @@ class Terminal:
             with contextlib.suppress(BlockingIOError, OSError):
                 self.shown += os.read(self.end, 4096).decode(errors="replace")
             time.sleep(0.01)
-        before, found, behind = self.shown.partition(text)
-        self.shown = behind if found else before
+        self.before, found, behind = self.shown.partition(text)
+        self.shown = behind if found else self.before
         return found != ""
 
     def type(self, text):
@@ -289,8 +309,32 @@ def check_prompt():
     return all(held)
 
 
+def check_interrupt():
+    """Ctrl-C at the prompt interrupts the line that runs, and the next one is answered."""
+    with tempfile.TemporaryDirectory() as home:
+        terminal = Terminal(home, "--pool=524280")
+        held = [terminal.wait_for("> ")]
+        terminal.type(SLOW[0] + "\n")
+        held += [terminal.wait_for("√(2)+√(3)"), terminal.wait_for("> ")]
+        interrupted = False
+        # What is typed too early falls on no line that runs, so it is tried again.
+        for delay in (0.1, 0.2, 0.3, 0.2, 0.1, 0.4, 0.5, 1.0):
+            terminal.type(SLOW[1] + "\n")
+            time.sleep(delay)
+            terminal.type("\x03")
+            time.sleep(0.1)
+            terminal.type("17+25\n")
+            held.append(terminal.wait_for("42", 30))
+            interrupted = "! interrupted" in terminal.before
+            held.append(terminal.wait_for("> "))
+            if interrupted:
+                break
+        terminal.type("\x04")
+        return all(held) and interrupted and terminal.status() == 0
+
+
 CHECKS = [check_rows, check_words, check_whole, check_generated, check_prompt_rows, check_answers, check_values, check_errors,
-          check_stops, check_memory, check_examples, check_missing, check_prompt]
+          check_stops, check_slow_stops, check_memory, check_examples, check_missing, check_prompt, check_interrupt]
 
 if __name__ == "__main__":
     sys.exit(run(CHECKS))
