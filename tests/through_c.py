@@ -14,6 +14,7 @@ import importlib.util
 import os
 import pathlib
 import pty
+import re
 import resource
 import shutil
 import subprocess
@@ -236,6 +237,19 @@ def check_examples():
     return doctest.testmod(poincare)[0] == 0 and doctest.testmod(poincare)[1] > 0
 
 
+def check_calls():
+    """The module knows the calls of the header and its codes, and no others."""
+    header = (TOP / "c" / "poincare.h").read_text()
+    calls = set(re.findall(r"^\w+ (poincare_\w+)\(", header, re.M))
+    codes = {name: int(value) for name, value in re.findall(r"POINCARE_(\w+) = (\d+)", header)}
+    refusals = {it.name: 100 + it.value for it in poincare.Refusal}
+    kinds = {it.name: it.value for it in poincare.Kind}
+    own = {name: getattr(poincare._library, name) for name in ("DONE", "FULL", "NO_ROOM", "BAD_POOL", "NO_MEMORY")}
+    told = {**own, **kinds, **refusals}
+    return (calls == set(poincare._library.CALLS) and told.items() <= codes.items()
+            and codes.keys() - told.keys() == {"NOT_OPENED", "CLOSED", "OPEN"})
+
+
 def check_missing():
     """Where the library is not built, the module loads, and opening a session or the prompt says what to do."""
     with tempfile.TemporaryDirectory() as folder:
@@ -334,7 +348,8 @@ def check_interrupt():
 
 
 CHECKS = [check_rows, check_words, check_whole, check_generated, check_prompt_rows, check_answers, check_values, check_errors,
-          check_stops, check_slow_stops, check_memory, check_examples, check_missing, check_prompt, check_interrupt]
+          check_stops, check_slow_stops, check_memory, check_examples, check_calls,
+          check_missing, check_prompt, check_interrupt]
 
 if __name__ == "__main__":
     sys.exit(run(CHECKS))
