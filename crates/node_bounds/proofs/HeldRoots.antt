@@ -68,6 +68,10 @@ number_defined undef (num q) n = absurd (number_words undef (and_parts (is_numbe
 number_defined undef e n = cc
 number_defined b e n = refl
 
+-- Undef has no powers that overflow
+pub last_fits : (b e : Tree) (f : NumberFault) → (is_undef b ≡ false → OfOverflow (λ o. ⊥) f) → OfOverflow (IsPowerMisfit b e) f → OfOverflow (λ o. ⊥) f
+last_fits b e f fits m = elim (cases_Bool (is_undef b)) [ inl d ↦ no_fault f (IsPowerMisfit b e) (λ o p. clash (sym d ∙ number_defined b e p.number)) m | inr d ↦ fits d ]
+
 -- only the root of a rational overflows
 pub root_fits : (a : Tree) (f : NumberFault) {h l : ℕ} → (few.HasFewBits (value a) → OfOverflow (λ o. ⊥) f) → (IsOverflow {A = ℕ} (Err f) → HasWideRoot a) → IsFactorHeld a h l → HasFewBits h l → OfOverflow (λ o. ⊥) f
 root_fits (num q) f {h} {l} fits wide a few = fits (record { high = h; low = l; held = value_held (num q) h l (rational_number q) a; few = few })

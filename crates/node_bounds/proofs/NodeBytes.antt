@@ -26,6 +26,9 @@ some_factors ts m h = grind arith
 pub no_factors : (ts : Trees) (m : ℕ) → count ts ≡ 0 → factors_room ts m ≡ 40
 no_factors ts m h = grind arith
 
+pub number_fits_sum : (ts : Trees) (m : ℕ) → 1 ≤ m → 40 ≤ sum_room (sum_count ts) m
+number_fits_sum ts m h = omega (arith, h)
+
 -- ---- powers and roots
 
 pub power_fits : (t : Tree) (n m : ℕ) → t ≡ power (base_in t) (exponent_in t) → HasNodesFor n t → whole_power_room (base_in t) m ≤ simple_room n m
