@@ -1,7 +1,7 @@
 -- The exponents of each term of a list are those of its names.
 use Rattle.std.proofs.Common.{◌≡◌, ℕ, zero, suc, ◌<◌, ◌^◌, List, [], ◌∷◌, length, get_or, Bool, true, false, refl, sym, ap, ◌∙◌, subst, arith}
 use Rattle.std.specs.Prelude.{◌==◌, if◌then◌else◌}
-use Rattle.expand_forms.proofs.Shared.{and_from, and_parts, by_test, eq-eqb, eqb-true, false_from_ne_true, is_zero_fraction, no_zero, not_from_false, plus, value_of, zero_fraction}
+use Rattle.expand_forms.proofs.Shared.{and_from, and_parts, by_test, eq-eqb, eqb-true, false_from_ne_true, no_zero, not_from_false, plus, value_of, zero_fraction}
 use Rattle.expand_forms.proofs.Arithmetic.{plus_zero}
 use Rattle.expand_forms.specs.Polynomials.{Polynomial as Named}
 use Rattle.expand_forms.specs.Named.{HaveNames, IsListOf, IsOfNames}

@@ -1,14 +1,14 @@
 -- Terms of lists, placed one by one.
-use Rattle.std.proofs.Common.{◌≡◌, ℕ, ℤ, pos, zero, suc, ◌+◌, ◌*◌, ◌<◌, ◌≤◌, List, [], ◌∷◌, ◌++◌, length, get_or, drop, map, take, refl, sym, ap, ◌∙◌, subst, arith, append-nil, append_assoc, to_z, of_z}
+use Rattle.std.proofs.Common.{◌≡◌, ℕ, ℤ, pos, zero, suc, ◌+◌, ◌<◌, ◌≤◌, List, [], ◌∷◌, ◌++◌, length, get_or, drop, take, refl, sym, ap, ◌∙◌, subst, arith, append-nil, append_assoc, to_z, of_z}
 use Rattle.rational128.proofs.Signed.{told}
 use Rattle.std.proofs.lemmas.List.{length-take-le, take_more}
 use Rattle.calc_terms.specs.Leaf.{name_of}
 use Rattle.calc_terms.specs.Ratio.{Ratio, whole}
 use Rattle.calc_terms.specs.declared.name.Name.{Name}
-use Rattle.expand_forms.proofs.Shared.{w128, Rat, lowest, ratio_of, value_of, length-append, num, zero_fraction, AddsTrees, AreMonomials, AreNamed, AreRead, Factor, Forest, Gives, IsRead, Monomial, Polynomial, Summand, Tree, Trees, add, append, count, factor, more, none, sizes, sum_tree, term_bytes, term_tree, term_trees, terms_bytes}
+use Rattle.expand_forms.proofs.Shared.{w128, Rat, lowest, ratio_of, value_of, length-append, num, zero_fraction, AddsTrees, AreMonomials, AreNamed, AreRead, Forest, Gives, IsRead, Monomial, Polynomial, Trees, add, append, count, factor, more, sizes, sum_tree, term_bytes, term_tree, term_trees, terms_bytes}
 use Rattle.expand_forms.proofs.AddedTrees.{adds_more}
 use Rattle.expand_forms.proofs.AllMonomials.{AllHave}
-use Rattle.expand_forms.proofs.FactorLists.{read_length, read_more}
+use Rattle.expand_forms.proofs.FactorLists.{read_more}
 use Rattle.expand_forms.proofs.FewTerms.{named_monomials}
 use Rattle.expand_forms.proofs.OrderedTerms.{named_term, named_terms}
 use Rattle.expand_forms.proofs.TermBytes.{IsNamedMonomial, terms_most, terms_rise}

@@ -1,5 +1,5 @@
 -- Nodes over expanded children that are expanded as values.
-use Rattle.std.proofs.Common.{◌≡◌, ℕ, zero, suc, ◌+◌, ◌<◌, ◌≤◌, List, [], ◌∷◌, ◌++◌, refl, sym, ap, ◌∙◌, subst, arith, append_assoc, append-nil, Bool, true, false, Result, Ok, Err}
+use Rattle.std.proofs.Common.{◌≡◌, ℕ, zero, suc, ◌+◌, ◌<◌, ◌≤◌, List, [], ◌∷◌, ◌++◌, refl, sym, ap, ◌∙◌, subst, arith, append_assoc, append-nil, true, false, Result, Ok, Err}
 use Rattle.std.specs.Prelude.{OnOk, is_err, is_ok}
 use Rattle.std.specs.Prelude.{Contains}
 use Rattle.expand_forms.proofs.Shared.{AreSame, IsMonomial, Tree, Trees, none, more, count, names, within_trans, children_of, nth, Polynomial, polynomial_of, product, sum_of}

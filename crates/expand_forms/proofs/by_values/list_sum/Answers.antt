@@ -1,5 +1,5 @@
-use Rattle.std.proofs.Common.{◌≡◌, ◌<◌, ◌+◌, ◌∙◌, ◌++◌, ap, sym, subst, arith}
-use Rattle.expand_forms.proofs.Shared.{IsExpanded, Polynomial, children_of, count, forest, nth, one_fraction, one_value, plain, polynomial_of, scaled, tree_at, value_of}
+use Rattle.std.proofs.Common.{◌≡◌, ◌<◌, ◌∙◌, ◌++◌, ap, sym, subst, arith}
+use Rattle.expand_forms.proofs.Shared.{IsExpanded, Polynomial, children_of, count, forest, nth, one_value, plain, polynomial_of, scaled, tree_at, value_of}
 use Rattle.expand_forms.proofs.ListLaws.{list_as}
 use Rattle.expand_forms.proofs.NodeChildren.{expanded_nth, sum_polynomial_of}
 use Rattle.expand_forms.proofs.SameCoefficients.{same_is, scaled_one}

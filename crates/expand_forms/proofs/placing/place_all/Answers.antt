@@ -1,4 +1,4 @@
-use Rattle.std.proofs.Common.{◌<◌, length, take, List, subst, arith}
+use Rattle.std.proofs.Common.{◌<◌, length, List, subst, arith}
 use Rattle.std.proofs.lemmas.List.{take_all}
 use Rattle.expand_forms.specs.Named.{names_of}
 use Rattle.polynomials.specs.declared.term.Term.{Term}

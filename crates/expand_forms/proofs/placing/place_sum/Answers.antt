@@ -1,4 +1,4 @@
-use Rattle.std.proofs.Common.{◌≡◌, ◌<◌, ◌+◌, ◌∙◌, length, refl, sym, ap, arith}
+use Rattle.std.proofs.Common.{◌<◌, ◌+◌, ◌∙◌, length, refl, sym, ap, arith}
 use Rattle.expand_forms.specs.Named.{names_of}
 use Rattle.expand_forms.proofs.Shared.{eq-eqb, eqb-true, num, free_of, number_bytes, sum_bytes, passed_on, refusal_as, gives_as, front_end, front_same}
 use Rattle.expand_forms.proofs.AddedTrees.{adopts, can_adopt, node_free}
