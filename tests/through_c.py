@@ -348,8 +348,7 @@ def check_interrupt():
 
 
 CHECKS = [check_rows, check_words, check_whole, check_generated, check_prompt_rows, check_answers, check_values, check_errors,
-          check_stops, check_slow_stops, check_memory, check_examples, check_calls,
-          check_missing, check_prompt, check_interrupt]
+          check_stops, check_slow_stops, check_memory, check_examples, check_calls, check_missing, check_prompt, check_interrupt]
 
 if __name__ == "__main__":
     sys.exit(run(CHECKS))
