@@ -1,5 +1,5 @@
 -- Lemmas on what calls do to slots.
-use Rattle.std.proofs.Common.{◌≡◌, ◌∙◌, ◌↔◌, ℕ, ◌%◌, ◌<◌, ◌≤◌, List, [], length, nat_le, Bool, true, false, arith, refl, sym, ap, subst}
+use Rattle.std.proofs.Common.{◌≡◌, ◌↔◌, ℕ, ◌%◌, ◌≤◌, List, [], length, nat_le, Bool, true, false, arith, refl, sym, ap, subst}
 use Rattle.std.specs.Bool.{⊤}
 use Rattle.std.proofs.lemmas.Bool.{leb-false, leb-true}
 use Rattle.breakers.specs.Breakers.{TripsRose}

@@ -1,5 +1,5 @@
 -- Whole texts of lines.
-use Rattle.std.specs.Prelude.{◌≡◌, ℕ, List, length}
+use Rattle.std.specs.Prelude.{ℕ, List, length}
 use Rattle.node_pool.specs.State.{IsPoolSize}
 use Rattle.poincare_held.specs.Answering.{AreAnswered}
 use Rattle.poincare_c.specs.Codes.{bad_pool, code_of_count, no_memory}

@@ -1,38 +1,35 @@
 -- Both slots are lent for the call of `StopperSlot::open`, and come back.
-use Rattle.std.proofs.Common.{◌≡◌, ℕ, ◌<◌, ◌^◌, List, [], ◌∷◌, ◌++◌, length, refl, ap, w8, w32, w64, Bor, MutBor}
+use Rattle.std.proofs.Common.{ℕ, [], ◌∷◌, ◌++◌, refl, w32}
 use Rattle.std.proofs.raw_atomic.Walks.{proved}
 use base.Fraction.{full_share}
-use base.Logic.{ent, via, id⊢}
-use base.Fml.{Lft, ftrue, fsep, flft, flent, fres, fex}
+use base.Logic.{id⊢}
+use base.Fml.{ftrue, fsep, flft, flent, fex}
 use mir.Syntax.{named}
-use mir.Val.{Val, vptr, vint}
+use mir.Val.{vptr}
 use prog.Wp.{WpFn}
-use types.Logic.{sem}
 use types.SemTy.{Body}
-use types.Kit.{‵, raw, ◌⊛◌, some, later, prop, ◌$◌, ◌∵◌, !, qed, by, done, move, keep, drop, use1, use2, use3, split, split3, join, fsplit, fjoin, fpick, fpack, feq_l, pick, await, regoal, suffices, group, frame}
-use types.Run.{of_opd, addr, stop, from, fld, hop, no_more, and_then, returns, enter}
-use types.ByLocal.{alloc_all, pass_all, free_all, look_at, look_in_at, get, get_in, through, sets, lands_as}
-use types.Part.{agg, sub, whole}
+use types.Kit.{‵, raw, ◌⊛◌, some, later, prop, ◌$◌, ◌∵◌, !, qed, done, move, keep, use1, use2, use3, split, join, fsplit, fjoin, fpack, pick, await, regoal, suffices, group}
+use types.Run.{of_opd, addr, stop, no_more, and_then, returns, enter}
+use types.ByLocal.{alloc_all, pass_all, free_all, look_at, get, through, sets, lands_as}
 use types.Tokens.{lft_new, lft_end}
 use contract.Monad.{fact}
 use contract.Running.{tables}
-use denote.Builtin.{u8, u32, u64, usize, RawPtr}
+use denote.Builtin.{u32, RawPtr}
 use denote.Exit.{yes}
 use denote.Laws.{Is, shows}
 use denote.Lend.{lends_ref, ref_back}
 use denote.Memory.{mem, part_at}
-use denote.Plain.{uint_Lawful, uint_vals, uint_Tells}
+use denote.Plain.{uint_Lawful}
 use denote.RattleType.{owns}
 use denote.RawPtr.{Ptr, block_ptr, rawptr_vals, rawptr_Tells, in_a_block}
-use denote.Ref.{MutRef, mut_vals, mut_Tells}
-use denote.Signature.{plain, shr_slice_of}
-use denote.Slice.{MutSlice, ShrSlice, mut_slice_vals, mut_slice_Tells, shr_slice_vals, shr_slice_Tells}
+use denote.Ref.{MutRef}
+use denote.Signature.{plain}
 use denote.Steps.{nothing, heard, peeks}
 use denote.Triple.Call.{calls_at}
 use denote.Triple.Clauses.{lasts}
 use denote.Triple.Spec.{triple_of}
 use denote.Triple.Table.{framed}
-use denote.Triple.Walked.{Stays, walk_of, stay_dropped, gave_slice, Goes-gave_slice, gave_ref, Goes-dropped, Goes-gave_ref, ends_at}
+use denote.Triple.Walked.{Stays, walk_of, stay_dropped, Goes-dropped, ends_at}
 use Rattle.poincare_c.specs.Owned.{holds_both, holds_session, holds_stopper}
 use Rattle.poincare_c.specs.Slots.{OpensStopper}
 use Rattle.poincare_c.specs.declared.slot.Slot.{Slot}
