@@ -1,5 +1,5 @@
 -- Whole texts of lines.
-use Rattle.std.specs.Prelude.{◌≡◌, ℕ, List, [], ◌∷◌, true, false}
+use Rattle.std.specs.Prelude.{ℕ, List, [], ◌∷◌, true, false}
 use Rattle.std.specs.Str.Lines.{strip_carriage_return}
 use Rattle.breakers.specs.State.{fresh}
 use Rattle.calc_session.specs.Replies.{Reply}

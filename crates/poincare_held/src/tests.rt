@@ -65,8 +65,10 @@ fn pictures_are_drawn(rt: HostRuntime) -> Result<(), Fail> {
     let mut out = [b'.'; 8];
     held.line(b"1/2");
     assert_eq!(rt; held.draw(&mut out), Drawn::Picture { count: 6 });
-    assert_eq!(rt; out.as_slice(), b"1\n-\n2\n..".as_slice());
-    assert_eq!(rt; held.draw(&mut out[..2]), Drawn::Picture { count: 6 });
+    assert_eq!(rt; out, *b"1\n-\n2\n..");
+    let mut small = [b'.'; 2];
+    assert_eq!(rt; held.draw(&mut small), Drawn::Picture { count: 6 });
+    assert_eq!(rt; small, *b"1\n");
     assert_eq!(rt; held.text(&mut out), 0);
     Ok(())
 }
@@ -74,13 +76,21 @@ fn pictures_are_drawn(rt: HostRuntime) -> Result<(), Fail> {
 #[test]
 fn texts_of_lines_are_answered(rt: HostRuntime) -> Result<(), Fail> {
     let alloc = rt.alloc();
-    let mut out = [b'.'; 64];
-    let lines = ":after 3\n1+2+3\r\n\n:after 4\n1+2+3\n7\n:after 0";
-    let answered = "after 3\n! interrupted\nafter 4\n6\n! interrupted\nno breaker\n";
-    let count = answers(alloc, 32_768, lines.as_bytes(), &mut out)?;
-    assert_eq!(rt; &out[..count], answered.as_bytes());
-    assert!(rt; matches!(answers(alloc, 63, b"1", &mut out), Err(OpenFault::PoolSize)));
-    assert_eq!(rt; answers(alloc, 64, b"1\n:draw\n", &mut out[..3])?, 4);
-    assert_eq!(rt; &out[..4], &b"1\n1e"[..]);
+    let mut out = [b'.'; 58];
+    let lines = b":after 3\n1+2+3\r\n\n:after 4\n1+2+3\n7\n:after 0";
+    assert_eq!(rt; answers(alloc, 32_768, lines, &mut out)?, 57);
+    assert_eq!(rt;
+        out,
+        *b"after 3\n! interrupted\nafter 4\n6\n! interrupted\nno breaker\n."
+    );
+    let mut small = [b'.'; 3];
+    assert!(rt;
+        matches!(
+            answers(alloc, 63, b"1", &mut small),
+            Err(OpenFault::PoolSize)
+        )
+    );
+    assert_eq!(rt; answers(alloc, 64, b"1\n:draw\n", &mut small)?, 4);
+    assert_eq!(rt; small, *b"1\n1");
     Ok(())
 }
