@@ -1,5 +1,5 @@
 -- Lemmas on equations that are solved.
-use Rattle.std.proofs.Common.{◌≡◌, ◌∙◌, ◌↔◌, ℕ, zero, suc, ◌+◌, ◌<◌, ◌≤◌, List, [], ◌∷◌, length, get_or, map, take, Bool, true, false, not, cond, Option, Some, None, Result, Err, below_more, refl, sym, ap, subst, arith}
+use Rattle.std.proofs.Common.{◌≡◌, ◌∙◌, ◌↔◌, ℕ, zero, suc, ◌+◌, ◌<◌, ◌≤◌, List, [], ◌∷◌, length, get_or, map, take, Bool, true, false, not, cond, Option, Some, None, Result, Ok, Err, below_more, refl, sym, ap, subst, arith}
 use Rattle.std.specs.Prelude.{All, nat_lt, IfOk, IfErr, OnOk}
 use Rattle.linear_solve.specs.Checks.{solving_checks}
 use Rattle.calc_session.proofs.Shared.{position_or_len, le-ltb, lt-ltb, position_or_len_is, TripsRose, Name, name_of, Equation, equation_at, equations_in, OfOverflow, StopsAfter, solving, misfit_of, IsExpression, Forest, Refusal, Listed, reply_of, names_listed, AreNamesOf, refusal_to_solve, IsReplyToSolve, are_linear, does_not_fit, first_not_linear, is_interrupted, is_linear_equation}
@@ -98,3 +98,13 @@ names_same items slice array len e l h = ap (λ (m : ℕ). map name_of (take m a
 
 pub none_there : (r : Option ℕ) (es : List Equation) → ((at : ℕ) → r ≡ Some at → ⊥) → r ≡ first_not_linear es → first_not_linear es ≡ None
 none_there r es h e = grind arith
+
+-- what holds of an answer that is known
+pub ok_at : {A E : Type 0} (P : A → Type 0) (r : Result A E) (x : A) → r ≡ Ok x → IfOk r P → P x
+ok_at P r x e p = subst (λ s. IfOk s P) e p
+
+pub on_ok_at : {A E : Type 0} (P : Type 0) (r : Result A E) (x : A) → r ≡ Ok x → OnOk r P → P
+on_ok_at P r x e p = subst (λ s. OnOk s P) e p
+
+pub err_at : {A E : Type 0} (P : E → Type 0) (r : Result A E) (x : E) → r ≡ Err x → IfErr r P → P x
+err_at P r x e p = subst (λ s. IfErr s P) e p

@@ -13,7 +13,7 @@ ghost use Rattle.calc_session.specs.Forms.{IsPlaced};
 ghost use Rattle.calc_session.specs.SolutionTexts.{form_tree, multiple_of, multiples, summands};
 
 use calc_terms::{Kind, Name, Rat};
-use linear_solve::Row;
+use linear_solve::NameRow;
 use node_pool::{Full, Pool};
 use tree_handles::{Handle, node_over_last, number, symbol};
 
@@ -29,7 +29,7 @@ pub fn place_form(
     pool: &mut Pool,
     names: &[Name],
     constant: Rat,
-    coefs: &Row,
+    coefs: &NameRow,
 ) -> Result<Handle, Full>
     requires stands { Stands pool.old }
     requires few { length names.now ≤ 6 }
@@ -80,7 +80,7 @@ fn place_constant(pool: &mut Pool, constant: Rat) -> Result<Placed, Full>
 fn place_multiples(
     pool: &mut Pool,
     names: &[Name],
-    coefs: &Row,
+    coefs: &NameRow,
     mut placed: Placed,
 ) -> Result<Placed, Full>
     requires stands { Stands pool.old }

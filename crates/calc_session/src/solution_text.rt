@@ -22,11 +22,13 @@ use crate::text::push_operand;
 use beautify::Faces;
 use calc_terms::{Name, Rat};
 use line_text::{Text, write_text};
-use linear_solve::{Line, Row, Solution};
+use linear_solve::{EquationRow, Line, NameRow, Solution};
 use node_pool::{Full, Pool};
 use pool_checkpoints::{open_mark, roll_back};
 
-/// Writes the solutions of equations in these names.
+/// Writes the solutions of equations in these names. It is not inlined: what it keeps is on the machine's stack only once
+/// they are solved.
+#[inline(never)]
 pub fn write_solution(
     pool: &mut Pool,
     faces: &mut Faces,
@@ -61,7 +63,7 @@ pub fn write_solution(
 }
 
 /// Writes that no assignment solves the equations, and why: at most 497 bytes.
-fn write_multipliers(multipliers: &Row, text: &mut Text)
+fn write_multipliers(multipliers: &EquationRow, text: &mut Text)
     requires few { length (entries_of multipliers.now) ≤ 6 }
     requires empty { text.old.bytes ≡ [] }
     requires room { 497 ≤ text.old.capacity }
@@ -160,7 +162,7 @@ fn write_form(
     faces: &mut Faces,
     names: &[Name],
     constant: Rat,
-    coefs: &Row,
+    coefs: &NameRow,
     text: &mut Text,
 ) -> Result<(), Full>
     requires stands { Stands pool.old }
@@ -190,7 +192,7 @@ fn write_above(
     faces: &mut Faces,
     names: &[Name],
     constant: Rat,
-    coefs: &Row,
+    coefs: &NameRow,
     text: &mut Text,
 ) -> Result<(), Full>
     requires stands { Stands pool.old }

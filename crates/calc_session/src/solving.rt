@@ -85,7 +85,7 @@ pub fn solve_equations<B: Breaker>(
         Ok(ranges) => ranges,
         Err(refusal) => return LineAnswer::Refused(refusal),
     };
-    let solved = match solve_read(
+    let solved = solve_read(
         pool,
         table,
         parser,
@@ -93,9 +93,10 @@ pub fn solve_equations<B: Breaker>(
         equations,
         ranges.as_slice(),
         before,
-    ) {
+    );
+    let solved = match &solved {
         Ok(solved) => solved,
-        Err(refusal) => return LineAnswer::Refused(refusal),
+        Err(refusal) => return LineAnswer::Refused(*refusal),
     };
     let names = in_array(solved.names.as_slice());
     match write_solution(
@@ -158,7 +159,9 @@ fn read_side(
     read_expression(&equations[from..to], before + from as u16, parser)
 }
 
-/// Solves equations that were read. Their sides stand in the pool for so long.
+/// Solves equations that were read. Their sides stand in the pool for so long. It is not inlined, nor are its parts: what they
+/// keep is on the machine's stack only for as long as it is needed.
+#[inline(never)]
 fn solve_read<B: Breaker>(
     pool: &mut Pool,
     table: &NameTable,
@@ -229,6 +232,7 @@ fn solve_above<B: Breaker>(
 }
 
 /// The trees of the sides behind all others, one side after another, with the stored trees in place of their names.
+#[inline(never)]
 fn build_equations(
     pool: &mut Pool,
     table: &NameTable,
@@ -313,6 +317,7 @@ fn build_side(
 }
 
 /// Solves the equations whose sides have these roots.
+#[inline(never)]
 fn solve_trees<B: Breaker>(
     pool: &Pool,
     left: &[Id],

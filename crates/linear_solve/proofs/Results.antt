@@ -1,30 +1,28 @@
 -- What a result of the whole calculation says.
-use Rattle.std.proofs.Common.{arith, ◌≡◌, ◌↔◌, ℕ, List, [], length, Result, Ok, Err, IfOk, IfErr, OnOk}
-use Rattle.linear_solve.proofs.Shared.{calm_checks_raise_no_trips, only_the_tripped_rose, CalmChecks, TripsRose, State, SolveFault, Rows, equation_rows, settled_up_to, Equation, StopsAfter, Misfit, and_then, Answer, Form, answer_of, never, solved, Row, Names, IfNever, IfSolved, answer_told, solving}
+use Rattle.std.proofs.Common.{arith, ◌≡◌, ◌↔◌, ◌∙◌, ap, sym, ℕ, List, length, Result, Ok, Err, IfOk, IfErr, OnOk}
+use Rattle.linear_solve.proofs.Shared.{calm_checks_raise_no_trips, only_the_tripped_rose, CalmChecks, TripsRose, State, SolveFault, Rows, equation_rows, settled_up_to, Equation, StopsAfter, Misfit, Answer, Form, answer_of, never, solved, Row, Names, IfNever, IfSolved, answer_told, solving, rows_at_first, rows_solved}
 use Rattle.linear_solve.specs.declared.solution.Solution.{Solution}
-use Rattle.linear_solve.proofs.Calculations.{then_err}
+use Rattle.linear_solve.proofs.Calculations.{then_err, then_ok}
 use Rattle.linear_solve.specs.declared.fault.SolveFault.TheVariants as fault
 
 -- ---- the calculation, step by step
 
-abbrev start : List Row → Rows
-start rows = record { pivots = []; left = rows }
+pub rows_ok : (n : ℕ) (rows : List Row) (s t : Rows) (a : Answer) → s ≡ rows_at_first rows → settled_up_to n s ≡ Ok t → answer_of n t ≡ Ok a → rows_solved n rows ≡ Ok a
+rows_ok n rows s t a k f g = grind arith
 
-pub whole_ok : (xs : Names) (es : List Equation) (n : ℕ) (rows : List Row) (s t : Rows) (a : Answer) → n ≡ length xs → equation_rows xs es ≡ Ok rows → s ≡ start rows → settled_up_to n s ≡ Ok t → answer_of n t ≡ Ok a → solving xs es ≡ Ok a
-unfolding solving
-whole_ok xs es n rows s t a h e k f g = grind arith
+pub settled_err : (n : ℕ) (rows : List Row) (s : Rows) (m : Misfit) → s ≡ rows_at_first rows → settled_up_to n s ≡ Err m → rows_solved n rows ≡ Err m
+settled_err n rows s m k f = grind arith
+
+pub answer_err : (n : ℕ) (rows : List Row) (s t : Rows) (m : Misfit) → s ≡ rows_at_first rows → settled_up_to n s ≡ Ok t → answer_of n t ≡ Err m → rows_solved n rows ≡ Err m
+answer_err n rows s t m k f g = grind arith
 
 pub rows_err : (xs : Names) (es : List Equation) (m : Misfit) → equation_rows xs es ≡ Err m → solving xs es ≡ Err m
 unfolding solving
-rows_err xs es m e = then_err (equation_rows xs es) (λ rows. and_then (settled_up_to (length xs) (record { pivots = []; left = rows })) (λ s. answer_of (length xs) s)) m e
+rows_err xs es m e = then_err (equation_rows xs es) (λ rows. rows_solved (length xs) rows) m e
 
-pub settled_err : (xs : Names) (es : List Equation) (n : ℕ) (rows : List Row) (s : Rows) (m : Misfit) → n ≡ length xs → equation_rows xs es ≡ Ok rows → s ≡ start rows → settled_up_to n s ≡ Err m → solving xs es ≡ Err m
+pub rows_solve : (xs : Names) (es : List Equation) (n : ℕ) (rows : List Row) → n ≡ length xs → equation_rows xs es ≡ Ok rows → solving xs es ≡ rows_solved n rows
 unfolding solving
-settled_err xs es n rows s m h e k f = grind arith
-
-pub answer_err : (xs : Names) (es : List Equation) (n : ℕ) (rows : List Row) (s t : Rows) (m : Misfit) → n ≡ length xs → equation_rows xs es ≡ Ok rows → s ≡ start rows → settled_up_to n s ≡ Ok t → answer_of n t ≡ Err m → solving xs es ≡ Err m
-unfolding solving
-answer_err xs es n rows s t m h e k f g = grind arith
+rows_solve xs es n rows h e = then_ok (equation_rows xs es) (λ rows. rows_solved (length xs) rows) rows e ∙ ap (λ n. rows_solved n rows) (sym h)
 
 -- ---- what is answered
 
@@ -37,3 +35,9 @@ if_never r e h = grind arith
 -- whether a breaker tripped shows in the trips
 pub trips_tell : (r : Result Solution SolveFault) (n most : ℕ) (old new : List State) → OnOk r (CalmChecks n old new) → IfErr r (StopsAfter most old new) → (place : ℕ) → (r ≡ Err (fault.Interrupted (record { by = place }))) ↔ TripsRose old new place
 trips_tell r n most old new c h place = grind (arith, calm_checks_raise_no_trips, only_the_tripped_rose)
+
+pub on_ok_as : {A : Type 0} {E : Type 0} {P Q : Type 0} (r : Result A E) → (P → Q) → OnOk r P → OnOk r Q
+on_ok_as r f p = grind arith
+
+pub if_err_as : {A : Type 0} {E : Type 0} {P Q : E → Type 0} (r : Result A E) → ((e : E) → P e → Q e) → IfErr r P → IfErr r Q
+if_err_as r f p = grind arith

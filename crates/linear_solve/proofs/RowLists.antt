@@ -42,7 +42,7 @@ others_same at i rs d l ne =
     get_or-drop 1 (swap rs 0 at) i d ∙ s.2 (1 + i) (λ e. absurd (omega arith)) (λ e. ne (sym there ∙ e)) ∙ ap (λ j. get_or rs j d) there
 
 -- the row that is read for a place among the others
-pub other_row : (at place other : ℕ) (rows : List RowOfCode) (r : RowOfCode) (d : Row) → 1 ≤ place → place < length rows → at < length rows → other ≡ (if place == at then 0 else place) → r ≡ get_or rows other r → get_or (others at (map entries_of rows)) (place - 1) d ≡ entries_of r
+pub other_row : {limit : ℕ} (at place other : ℕ) (rows : List (RowOfCode limit)) (r : RowOfCode limit) (d : Row) → 1 ≤ place → place < length rows → at < length rows → other ≡ (if place == at then 0 else place) → r ≡ get_or rows other r → get_or (others at (map entries_of rows)) (place - 1) d ≡ entries_of r
 other_row at place other rows r d one l k o e =
     let i : ℕ = place - 1 in
     let back : (place - 1) + 1 ≡ place = omega arith in

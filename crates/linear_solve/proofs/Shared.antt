@@ -32,6 +32,7 @@ pub use Rattle.linear_solve.specs.Rows.{Row, added, entry, negated, scaled, with
 pub use Rattle.linear_solve.specs.Sides.{Names, Side, bare_row, constant_of, constant_row, difference_row, joined_from, joined_row, joined_rows, name_row, over_both, own_row, product_row, quotient_row, row_of, rows_of, signed_row, sum_row}
 pub use Rattle.linear_solve.specs.Solutions.{IfNever, IfSolved, answer_told, form_told}
 unfoldable pub use Rattle.linear_solve.specs.Solving.{solving}
+pub use Rattle.linear_solve.specs.Solving.{rows_at_first, rows_solved}
 pub use Rattle.linear_solve.specs.States.{rows_told}
 pub use Rattle.linear_solve.specs.Told.{entries_of, misfit_of, pivot_of, side_of, side_told}
 pub use Rattle.linear_solve.specs.declared.fault.SolveFault.{SolveFault}

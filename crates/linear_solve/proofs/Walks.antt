@@ -134,6 +134,9 @@ trips_after n most old between new place l c t = record { passed = n; few = l; b
 pub overflow_as : (f : SolveFault) {P Q : Overflow → Type 0} → ((o : Overflow) → P o → Q o) → OfOverflow P f → OfOverflow Q f
 overflow_as f h p = grind arith
 
+pub of_overflow : (f : SolveFault) {P : Type 0} → P → OfOverflow (λ o. P) f
+of_overflow f p = grind arith
+
 -- what a `?` hands on
 pub handed_on : {A : Type 0} {E : Type 0} (r : Result A E) (e : E) (P : E → Type 0) → IsErrAnd r (λ y. y ≡ e) → P e → IfErr r P
 handed_on r e P h p = let (y, q, k) = err_from_is_err_and r h in subst (λ s. IfErr s P) (sym q) (subst P (sym k) p)

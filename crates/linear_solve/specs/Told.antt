@@ -1,5 +1,5 @@
 -- The values of the code as those of the definitions.
-use Rattle.std.specs.Prelude.{map, Option, Some, None, Result, Ok, Err}
+use Rattle.std.specs.Prelude.{ℕ, map, Option, Some, None, Result, Ok, Err}
 use Rattle.calc_terms.specs.Rat.{value_of}
 use Rattle.rational128.specs.Refusals.{operation_of}
 use Rattle.rational128.specs.declared.overflow.Overflow.{Overflow}
@@ -10,13 +10,13 @@ use Rattle.linear_solve.specs.Rows.{Row}
 use Rattle.linear_solve.specs.Sides.{Side}
 
 -- its entries
-abbrev pub entries_of : RowOfCode → Row
+abbrev pub entries_of : {limit : ℕ} → RowOfCode limit → Row
 entries_of r = map (λ e. value_of e.value) r.entries.items
 
 abbrev pub side_of : SideRow → Side
 side_of r = record { named = r.named; entries = entries_of r.row }
 
-abbrev pub pivot_of : Option RowOfCode → Option Row
+abbrev pub pivot_of : {limit : ℕ} → Option (RowOfCode limit) → Option Row
 pivot_of None = None
 pivot_of (Some r) = Some (entries_of r)
 

@@ -11,7 +11,7 @@ ghost use Rattle.linear_solve.specs.Fitting.{each};
 ghost use Rattle.linear_solve.specs.Told.{entries_of, misfit_of, pivot_of};
 
 use crate::fault::SolveFault;
-use crate::row::{EQUATION_LIMIT, NAME_LIMIT, Row};
+use crate::row::{EQUATION_LIMIT, EquationRow, NAME_LIMIT};
 use arrayvec::ArrayVec;
 use breakers::{Breaker, Watch};
 use rational128::{Overflow, invert};
@@ -20,16 +20,16 @@ use rational128::{Overflow, invert};
 #[derive(Drop)]
 pub(crate) struct Elimination {
     /// For each name that was taken the row of its pivot, where it has one.
-    pub(crate) pivots: ArrayVec<Option<Row>, NAME_LIMIT>,
+    pub(crate) pivots: ArrayVec<Option<EquationRow>, NAME_LIMIT>,
     /// The rows that are no pivots.
-    pub(crate) left: ArrayVec<Row, EQUATION_LIMIT>,
+    pub(crate) left: ArrayVec<EquationRow, EQUATION_LIMIT>,
 }
 
 impl Elimination {
     ghost use Rattle.linear_solve.specs.States.{rows_told};
 
     /// No name was taken yet.
-    pub(crate) fn of(rows: ArrayVec<Row, EQUATION_LIMIT>) -> Elimination
+    pub(crate) fn of(rows: ArrayVec<EquationRow, EQUATION_LIMIT>) -> Elimination
         ensures { rows_told result ≡ record { pivots = []; left = map entries_of rows.items } }
     {
         Elimination {
@@ -95,21 +95,21 @@ impl Elimination {
 }
 
 /// The place of the first row whose entry at a place is not 0.
-pub(crate) fn first_with(at: usize, rows: &[Row]) -> Option<usize>
+pub(crate) fn first_with(at: usize, rows: &[EquationRow]) -> Option<usize>
     ensures { result ≡ first_with at (map entries_of rows.now) }
 {
     place_with(at, rows)
 }
 
 /// The same, asked of the rows as they are kept.
-fn place_with(at: usize, rows: &[Row]) -> Option<usize>
+fn place_with(at: usize, rows: &[EquationRow]) -> Option<usize>
     ensures { result ≡ position (λ row. not (is_zero_fraction (entry at (entries_of row)))) rows.now }
 {
     rows.iter().position(|row| !row.get(at).is_zero())
 }
 
 /// The row at a place, divided by its entry for a name.
-fn pivot_row(rows: &[Row], name: usize, at: usize) -> Result<Row, Overflow>
+fn pivot_row(rows: &[EquationRow], name: usize, at: usize) -> Result<EquationRow, Overflow>
     requires first { first_with name (map entries_of rows.now) ≡ Some at }
     ensures ok { IfOk result (λ row. scaled (inverse (entry name (row_at at (map entries_of rows.now))))
         (row_at at (map entries_of rows.now)) ≡ Ok (entries_of row)) }
@@ -123,10 +123,10 @@ fn pivot_row(rows: &[Row], name: usize, at: usize) -> Result<Row, Overflow>
 /// Each pivot without a name.
 #[inline(never)]
 fn cleared_pivots(
-    pivots: &[Option<Row>],
+    pivots: &[Option<EquationRow>],
     name: usize,
-    pivot: &Row,
-) -> Result<ArrayVec<Option<Row>, NAME_LIMIT>, Overflow>
+    pivot: &EquationRow,
+) -> Result<ArrayVec<Option<EquationRow>, NAME_LIMIT>, Overflow>
     requires { length pivots.now ≤ 6 }
     ensures ok { IfOk result (λ cleared. each (cleared_pivot name (entries_of pivot.now)) (map pivot_of pivots.now)
         ≡ Ok (map pivot_of cleared.items)) }
@@ -142,7 +142,11 @@ fn cleared_pivots(
 }
 
 /// A pivot, if there is one, without a name.
-fn cleared_pivot(other: &Option<Row>, name: usize, pivot: &Row) -> Result<Option<Row>, Overflow>
+fn cleared_pivot(
+    other: &Option<EquationRow>,
+    name: usize,
+    pivot: &EquationRow,
+) -> Result<Option<EquationRow>, Overflow>
     ensures ok { IfOk result (λ row. cleared_pivot name (entries_of pivot.now) (pivot_of other.now) ≡ Ok (pivot_of row)) }
     ensures overflow { IfErr result (λ o. cleared_pivot name (entries_of pivot.now) (pivot_of other.now) ≡ Err (misfit_of o)) }
 {
@@ -158,11 +162,11 @@ fn cleared_pivot(other: &Option<Row>, name: usize, pivot: &Row) -> Result<Option
 /// Each row without a name, but for the one at a place: the first takes its place.
 #[inline(never)]
 fn cleared_others(
-    rows: &[Row],
+    rows: &[EquationRow],
     name: usize,
     at: usize,
-    pivot: &Row,
-) -> Result<ArrayVec<Row, EQUATION_LIMIT>, Overflow>
+    pivot: &EquationRow,
+) -> Result<ArrayVec<EquationRow, EQUATION_LIMIT>, Overflow>
     requires inside { at < length rows.now }
     requires few { length rows.now ≤ 6 }
     ensures ok { IfOk result (λ left. each (cleared name (entries_of pivot.now)) (others at (map entries_of rows.now))

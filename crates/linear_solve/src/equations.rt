@@ -14,7 +14,7 @@ ghost use Rattle.tree_handles.specs.Inside.{tree_at};
 ghost use Rattle.tree_handles.specs.Standing.{Stands, forest};
 
 use crate::fault::SolveFault;
-use crate::row::{EQUATION_LIMIT, Row, one_where};
+use crate::row::{EQUATION_LIMIT, EquationRow, Row, SIDE_LIMIT, one_where};
 use crate::side::SideRow;
 use crate::sides::side_row;
 use arrayvec::ArrayVec;
@@ -30,7 +30,7 @@ pub(crate) fn equation_rows<B: Breaker>(
     right: &[Id],
     names: &[Name],
     watch: &mut Watch<B>,
-) -> Result<ArrayVec<Row, EQUATION_LIMIT>, SolveFault>
+) -> Result<ArrayVec<EquationRow, EQUATION_LIMIT>, SolveFault>
     requires stands { Stands pool.now }
     requires left { All (λ i. IsExpression i (forest pool.now)) left.now }
     requires right { All (λ i. IsExpression i (forest pool.now)) right.now }
@@ -65,7 +65,7 @@ fn difference_row<B: Breaker>(
     right: Id,
     names: &[Name],
     watch: &mut Watch<B>,
-) -> Result<Row, SolveFault>
+) -> Result<EquationRow, SolveFault>
     requires stands { Stands pool.now }
     requires left { IsExpression left (forest pool.now) }
     requires right { IsExpression right (forest pool.now) }
@@ -86,11 +86,22 @@ fn difference_row<B: Breaker>(
     let mut right_row = SideRow::none();
     side_row(pool, right, names, watch, &mut right_row)?;
     let row = left_row.row().plus(&right_row.row().negated())?;
-    Ok(row)
+    Ok(widened(&row))
+}
+
+/// The same row, with room for an entry for each equation.
+fn widened(row: &Row<SIDE_LIMIT>) -> EquationRow
+    ensures { entries_of result ≡ entries_of row.now }
+{
+    let mut wide = EquationRow::new();
+    for at in 0..row.len() {
+        wide.push(row.get(at));
+    }
+    wide
 }
 
 /// An entry for each of so many equations: 1 for the one at a place, and 0 for the others.
-fn push_unit(row: &mut Row, equations: usize, own: usize)
+fn push_unit(row: &mut EquationRow, equations: usize, own: usize)
     requires { length (entries_of row.old) + equations ≤ 13 }
     ensures { entries_of row.new ≡ entries_of row.old ++ unit equations own }
 {

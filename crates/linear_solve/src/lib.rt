@@ -15,7 +15,7 @@ mod solving;
 
 pub use fault::SolveFault;
 pub use linear::is_linear;
-pub use row::Row;
+pub use row::{EquationRow, NameRow, Row};
 pub use solution::{Line, Solution};
 pub use solving::solve;
 

@@ -15,8 +15,17 @@ pub(crate) const EQUATION_LIMIT: usize = 6;
 /// So many names they have at most.
 pub(crate) const NAME_LIMIT: usize = 6;
 
-/// The row of an equation has an entry for each name, a constant, and an entry for each equation.
-const ENTRY_LIMIT: usize = NAME_LIMIT + 1 + EQUATION_LIMIT;
+/// The row of a side has an entry for each name, and a constant.
+pub(crate) const SIDE_LIMIT: usize = NAME_LIMIT + 1;
+
+/// The row of an equation has an entry for each equation besides.
+pub(crate) const ENTRY_LIMIT: usize = SIDE_LIMIT + EQUATION_LIMIT;
+
+/// A row with at most an entry for each name.
+pub type NameRow = Row<NAME_LIMIT>;
+
+/// The row of an equation, or what is left of one.
+pub type EquationRow = Row<ENTRY_LIMIT>;
 
 /// One entry of a row. An unused place holds 0.
 #[derive(Clone, Copy, Debug)]
@@ -32,23 +41,23 @@ impl Default for Entry {
     }
 }
 
-/// Rationals in a row, at most 13.
+/// Rationals in a row, at most so many.
 #[derive(Drop)]
-pub struct Row {
-    entries: ArrayVec<Entry, ENTRY_LIMIT>,
+pub struct Row<const LIMIT: usize> {
+    entries: ArrayVec<Entry, LIMIT>,
 }
 
-impl Default for Row {
-    fn default() -> Row {
+impl<const LIMIT: usize> Default for Row<LIMIT> {
+    fn default() -> Row<LIMIT> {
         Row::new()
     }
 }
 
-impl Row {
+impl<const LIMIT: usize> Row<LIMIT> {
     ghost use Rattle.linear_solve.specs.Told.{entries_of, misfit_of};
 
     /// A row without entries.
-    pub fn new() -> Row
+    pub fn new() -> Row<LIMIT>
         ensures { entries_of result ≡ [] }
     {
         Row {
@@ -58,7 +67,7 @@ impl Row {
 
     pub fn len(&self) -> usize
         ensures value { result ≡ length (entries_of self.now) }
-        ensures fits { result ≤ 13 }
+        ensures fits { result ≤ LIMIT }
     {
         self.entries.len()
     }
@@ -76,14 +85,14 @@ impl Row {
     }
 
     pub(crate) fn push(&mut self, value: Rat)
-        requires { length (entries_of self.old) < 13 }
+        requires { length (entries_of self.old) < LIMIT }
         ensures { entries_of self.new ≡ entries_of self.old ++ value_of value ∷ [] }
     {
         self.entries.push(Entry { value });
     }
 
     /// The entries from a place on.
-    pub(crate) fn behind(&self, from: usize) -> Row
+    pub(crate) fn behind(&self, from: usize) -> Row<LIMIT>
         ensures { entries_of result ≡ drop from (entries_of self.now) }
     {
         let mut rest = Row::new();
@@ -93,7 +102,7 @@ impl Row {
         rest
     }
 
-    pub(crate) fn plus(&self, other: &Row) -> Result<Row, Overflow>
+    pub(crate) fn plus(&self, other: &Row<LIMIT>) -> Result<Row<LIMIT>, Overflow>
         ensures ok { IfOk result (λ row. added (entries_of self.now) (entries_of other.now) ≡ Ok (entries_of row)) }
         ensures overflow { IfErr result (λ o. added (entries_of self.now) (entries_of other.now) ≡ Err (misfit_of o)) }
     {
@@ -105,7 +114,7 @@ impl Row {
         Ok(sums)
     }
 
-    pub(crate) fn negated(&self) -> Row
+    pub(crate) fn negated(&self) -> Row<LIMIT>
         ensures { entries_of result ≡ negated (entries_of self.now) }
     {
         let mut opposites = Row::new();
@@ -115,7 +124,7 @@ impl Row {
         opposites
     }
 
-    pub(crate) fn scaled(&self, factor: Rat) -> Result<Row, Overflow>
+    pub(crate) fn scaled(&self, factor: Rat) -> Result<Row<LIMIT>, Overflow>
         ensures ok { IfOk result (λ row. scaled (value_of factor) (entries_of self.now) ≡ Ok (entries_of row)) }
         ensures overflow { IfErr result (λ o. scaled (value_of factor) (entries_of self.now) ≡ Err (misfit_of o)) }
     {
@@ -128,7 +137,7 @@ impl Row {
     }
 
     /// The row without a name, by the row of its pivot.
-    pub(crate) fn cleared(&self, name: usize, pivot: &Row) -> Result<Row, Overflow>
+    pub(crate) fn cleared(&self, name: usize, pivot: &Row<LIMIT>) -> Result<Row<LIMIT>, Overflow>
         ensures ok { IfOk result (λ row. cleared name (entries_of pivot.now) (entries_of self.now) ≡ Ok (entries_of row)) }
         ensures overflow { IfErr result (λ o. cleared name (entries_of pivot.now) (entries_of self.now) ≡ Err (misfit_of o)) }
     {
@@ -140,7 +149,7 @@ impl Row {
     }
 
     /// The row without a multiple of another one.
-    fn without(&self, multiple: Rat, other: &Row) -> Result<Row, Overflow>
+    fn without(&self, multiple: Rat, other: &Row<LIMIT>) -> Result<Row<LIMIT>, Overflow>
         ensures ok { IfOk result (λ row. without (value_of multiple) (entries_of other.now) (entries_of self.now)
             ≡ Ok (entries_of row)) }
         ensures overflow { IfErr result (λ o. without (value_of multiple) (entries_of other.now) (entries_of self.now)

@@ -7,7 +7,7 @@ ghost use Rattle.linear_solve.specs.Sides.{constant_of, constant_row, difference
 ghost use Rattle.linear_solve.specs.Sides.{over_both, product_row, quotient_row, sum_row};
 ghost use Rattle.linear_solve.specs.Rows.{negated};
 
-use crate::row::{Row, one_where};
+use crate::row::{Row, SIDE_LIMIT, one_where};
 use calc_terms::{Name, Rat};
 use rational128::{Overflow, invert};
 
@@ -15,7 +15,7 @@ use rational128::{Overflow, invert};
 #[derive(Drop)]
 pub(crate) struct SideRow {
     named: bool,
-    row: Row,
+    row: Row<SIDE_LIMIT>,
 }
 
 impl SideRow {
@@ -56,7 +56,7 @@ impl SideRow {
     }
 
     /// The entries.
-    pub(crate) fn row(&self) -> &Row
+    pub(crate) fn row(&self) -> &Row<SIDE_LIMIT>
         ensures { entries_of result.now ≡ (side_of self.now).entries }
     {
         &self.row
@@ -118,7 +118,7 @@ impl SideRow {
     }
 
     /// The row of a node over the trees of two rows.
-    fn over_both(&self, other: &SideRow, row: Row) -> SideRow
+    fn over_both(&self, other: &SideRow, row: Row<SIDE_LIMIT>) -> SideRow
         ensures { side_of result ≡ over_both (side_of self.now) (side_of other.now) (entries_of row) }
     {
         SideRow {

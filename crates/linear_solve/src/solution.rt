@@ -10,7 +10,7 @@ ghost use Rattle.linear_solve.specs.States.{rows_told};
 ghost use Rattle.linear_solve.specs.Told.{entries_of, misfit_of, pivot_of};
 
 use crate::elimination::{Elimination, first_with};
-use crate::row::{NAME_LIMIT, Row};
+use crate::row::{EquationRow, NAME_LIMIT, NameRow};
 use arrayvec::ArrayVec;
 use calc_terms::Rat;
 use rational128::{Overflow, invert, neg};
@@ -21,7 +21,7 @@ pub enum Line {
     /// It may have any value.
     Free,
     /// It is the constant and the multiples, one for each name.
-    Bound { constant: Rat, coefs: Row },
+    Bound { constant: Rat, coefs: NameRow },
 }
 
 impl Default for Line {
@@ -34,7 +34,7 @@ impl Default for Line {
 #[derive(Drop)]
 pub enum Solution {
     /// There is none: these multiples of left minus right, one for each equation, come to 1.
-    Never(Row),
+    Never(EquationRow),
     /// A line for each name.
     Solved(ArrayVec<Line, NAME_LIMIT>),
 }
@@ -57,7 +57,7 @@ pub(crate) fn solution_by(state: &Elimination, names: usize) -> Result<Solution,
 }
 
 /// The entries of a row for the equations, divided by its constant.
-fn multipliers(row: &Row, names: usize) -> Result<Row, Overflow>
+fn multipliers(row: &EquationRow, names: usize) -> Result<EquationRow, Overflow>
     requires names { names ≤ 6 }
     requires constant { is_zero_fraction (entry names (entries_of row.now)) ≡ false }
     ensures ok { IfOk result (λ r. multipliers names (entries_of row.now) ≡ Ok (entries_of r)) }
@@ -67,7 +67,7 @@ fn multipliers(row: &Row, names: usize) -> Result<Row, Overflow>
 }
 
 /// The lines of the names, by their pivots.
-fn lines(pivots: &[Option<Row>], names: usize) -> ArrayVec<Line, NAME_LIMIT>
+fn lines(pivots: &[Option<EquationRow>], names: usize) -> ArrayVec<Line, NAME_LIMIT>
     requires pivots { length pivots.now ≤ 6 }
     requires names { names ≤ 6 }
     ensures { map form_told result.items ≡ forms_of names (map pivot_of pivots.now) }
@@ -80,7 +80,7 @@ fn lines(pivots: &[Option<Row>], names: usize) -> ArrayVec<Line, NAME_LIMIT>
 }
 
 /// The line of one name.
-fn line_of(pivot: &Option<Row>, at: usize, names: usize) -> Line
+fn line_of(pivot: &Option<EquationRow>, at: usize, names: usize) -> Line
     requires { names ≤ 6 }
     ensures { form_told result ≡ form_of names at (pivot_of pivot.now) }
 {
@@ -94,12 +94,12 @@ fn line_of(pivot: &Option<Row>, at: usize, names: usize) -> Line
 }
 
 /// The multiples of the names in the form of one of them.
-fn multiples(row: &Row, own: usize, names: usize) -> Row
+fn multiples(row: &EquationRow, own: usize, names: usize) -> NameRow
     requires { names ≤ 6 }
     ensures { entries_of result ≡ map (λ j. if j == own then zero_fraction else negative (entry j (entries_of row.now)))
         (range_with_len 0 names) }
 {
-    let mut coefs = Row::new();
+    let mut coefs = NameRow::new();
     for at in 0..names {
         coefs.push(multiple(row, own, at));
     }
@@ -107,7 +107,7 @@ fn multiples(row: &Row, own: usize, names: usize) -> Row
 }
 
 /// The multiple of one name in the form of another.
-fn multiple(row: &Row, own: usize, at: usize) -> Rat
+fn multiple(row: &EquationRow, own: usize, at: usize) -> Rat
     ensures { value_of result ≡ (if at == own then zero_fraction else negative (entry at (entries_of row.now))) }
 {
     if at == own {

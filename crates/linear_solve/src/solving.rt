@@ -5,20 +5,22 @@ ghost use Rattle.breakers.specs.Watch.{states};
 ghost use Rattle.calc_algebra.specs.Meanings.{Assignment, IsAssignment};
 ghost use Rattle.calc_terms.specs.Fractions.{Fraction};
 ghost use Rattle.calc_terms.specs.Leaf.{name_of};
-ghost use Rattle.linear_solve.specs.Checks.{solving_checks};
+ghost use Rattle.linear_solve.specs.Checks.{name_checks, solving_checks};
 ghost use Rattle.linear_solve.specs.Equations.{AreDistinct, Assigns, IsLinearIn, SolvesAll, equations_in, nodes_of_sides};
 ghost use Rattle.linear_solve.specs.Faults.{OfOverflow, StopsAfter};
 ghost use Rattle.linear_solve.specs.Forms.{ComeToOne, HaveTheirValues, HoldLaterFreeNames};
 ghost use Rattle.linear_solve.specs.Solutions.{IfNever, IfSolved, answer_told};
-ghost use Rattle.linear_solve.specs.Solving.{solving};
-ghost use Rattle.linear_solve.specs.Told.{misfit_of};
+ghost use Rattle.linear_solve.specs.Solving.{rows_at_first, rows_solved, solving};
+ghost use Rattle.linear_solve.specs.Told.{entries_of, misfit_of};
 ghost use Rattle.tree_handles.specs.Expressions.{IsExpression};
 ghost use Rattle.tree_handles.specs.Standing.{Stands, forest};
 
 use crate::elimination::Elimination;
 use crate::equations::equation_rows;
 use crate::fault::SolveFault;
+use crate::row::{EQUATION_LIMIT, EquationRow};
 use crate::solution::{Solution, solution_by};
+use arrayvec::ArrayVec;
 use breakers::{Breaker, Watch};
 use calc_terms::Name;
 use node_pool::{Id, Pool};
@@ -103,8 +105,26 @@ fn calculate<B: Breaker>(
         (states B.state watch.old) (states B.state watch.new)) }
 {
     let rows = equation_rows(pool, left, right, names, watch)?;
+    solve_rows(rows, names.len(), watch)
+}
+
+/// What the rows of equations in so many names say. What it keeps for that is not on the machine's stack while the rows
+/// are made.
+#[inline(never)]
+fn solve_rows<B: Breaker>(
+    rows: ArrayVec<EquationRow, EQUATION_LIMIT>,
+    names: usize,
+    watch: &mut Watch<B>,
+) -> Result<Solution, SolveFault>
+    requires few { names ≤ 6 }
+    ensures calculated { IfOk result (λ s. rows_solved names (map entries_of rows.items) ≡ Ok (answer_told s)) }
+    ensures overflow { IfErr result (OfOverflow (λ o. rows_solved names (map entries_of rows.items) ≡ Err (misfit_of o))) }
+    ensures checks { OnOk result (CalmChecks names (states B.state watch.old) (states B.state watch.new)) }
+    ensures stops { IfErr result (StopsAfter (name_checks names (rows_at_first (map entries_of rows.items)))
+        (states B.state watch.old) (states B.state watch.new)) }
+{
     let mut state = Elimination::of(rows);
-    state.eliminate(names.len(), watch)?;
-    let solution = solution_by(&state, names.len())?;
+    state.eliminate(names, watch)?;
+    let solution = solution_by(&state, names)?;
     Ok(solution)
 }

@@ -3,7 +3,7 @@ ghost use Rattle.std.specs.Prelude.{◌≤◌};
 
 use crate::elimination::Elimination;
 use crate::fault::SolveFault;
-use crate::row::{EQUATION_LIMIT, Row, one_where};
+use crate::row::{EQUATION_LIMIT, EquationRow, Row, one_where};
 use crate::solution::{Line, Solution, solution_by};
 use arrayvec::ArrayVec;
 use breakers::{Breaker, CountBreaker, Interrupted, Watch};
@@ -12,8 +12,8 @@ use std::alloc::{AllocError, Global};
 use std::test::Fail;
 
 /// The row of one equation of so many: its entries for the names and its constant, and 1 for the equation itself.
-fn row_of(entries: &[i64], equations: usize, own: usize) -> Row {
-    let mut row = Row::new();
+fn row_of(entries: &[i64], equations: usize, own: usize) -> EquationRow {
+    let mut row = EquationRow::new();
     for entry in entries {
         push(&mut row, Rat::whole(i128::from(*entry)));
     }
@@ -23,13 +23,13 @@ fn row_of(entries: &[i64], equations: usize, own: usize) -> Row {
     row
 }
 
-fn push(row: &mut Row, value: Rat) {
+fn push(row: &mut EquationRow, value: Rat) {
     if row.len() < 13 {
         row.push(value);
     }
 }
 
-fn rows_of(equations: &[&[i64]]) -> ArrayVec<Row, EQUATION_LIMIT> {
+fn rows_of(equations: &[&[i64]]) -> ArrayVec<EquationRow, EQUATION_LIMIT> {
     let mut rows = ArrayVec::new();
     for (at, entries) in equations.iter().enumerate() {
         let row = row_of(entries, equations.len(), at);
@@ -66,7 +66,7 @@ fn write_rational(text: &mut String, q: Rat) -> Result<(), AllocError> {
     Ok(())
 }
 
-fn write_row(text: &mut String, row: &Row) -> Result<(), AllocError> {
+fn write_row<const N: usize>(text: &mut String, row: &Row<N>) -> Result<(), AllocError> {
     for at in 0..row.len() {
         write_rational(text, row.get(at))?;
     }

@@ -1,7 +1,7 @@
 use Rattle.std.proofs.Common.{◌∙◌, ◌<◌, ℕ, List, length, map, take, refl, sym, ap, subst, arith}
 use Rattle.std.specs.Prelude.{All}
 use Rattle.calc_session.proofs.Shared.{length-map, name_of, answer_told, names_listed, Rises, solution_text, AllZip, states, Equation, Content, used, free_of, form_room, EquationRange, CountsRefusal, IsWithin, pieces_at, IsReplyToEquations, ReadsEquation, state_of}
-use Rattle.calc_session.proofs.SolvingLemmas.{names_same}
+use Rattle.calc_session.proofs.SolvingLemmas.{err_at, names_same, ok_at, on_ok_at}
 use Rattle.calc_session.proofs.RangeLemmas.{reads_many}
 use Rattle.calc_session.proofs.CommandLemmas.{calm_told, refusal_uninterrupted}
 use Rattle.calc_session.proofs.EquationAnswers.{become_many, forms_told, lacking_reply, multipliers_told, read_reply, solved_reply, tells_refusal, tells_report}
@@ -20,60 +20,60 @@ returns-in-Err-clause-interrupted g c = calm_told (answer.Refused c.in-Err.refus
 pub returns-in-Err-clause-counted : goal.returns-in-Err-clause-counted
 returns-in-Err-clause-counted g c = subst (λ r. CountsRefusal r c.args.pool.now c.args.pool.now) (sym c.in-Err.ensures.no_pool) (record { size = refl; refusals = refl; last_refused = refl })
 
-pub solve_read-requires-clause-within : goal.solve_read-requires-clause-within
-solve_read-requires-clause-within g c = subst (All (IsWithin c.args.equations.now)) (sym c.as_slice.ensures.value) c.in-Ok.ensures.split.within
+pub solve_read-solved-requires-clause-within : goal.solve_read-solved-requires-clause-within
+solve_read-solved-requires-clause-within g c = subst (All (IsWithin c.args.equations.now)) (sym c.as_slice.ensures.value) c.in-Ok.ensures.split.within
 
-pub solve_read-requires-clause-reads : goal.solve_read-requires-clause-reads
-solve_read-requires-clause-reads g c = subst (λ (rs : List EquationRange). (es : List Equation) × AllZip ReadsEquation (map (pieces_at c.args.before c.args.equations.now) rs) es) (sym c.as_slice.ensures.value) c.in-Ok.ensures.read
+pub solve_read-solved-requires-clause-reads : goal.solve_read-solved-requires-clause-reads
+solve_read-solved-requires-clause-reads g c = subst (λ (rs : List EquationRange). (es : List Equation) × AllZip ReadsEquation (map (pieces_at c.args.before c.args.equations.now) rs) es) (sym c.as_slice.ensures.value) c.in-Ok.ensures.read
 
-pub returns-in-Err-solve_read-clause-told : goal.returns-in-Err-solve_read-clause-told
-returns-in-Err-solve_read-clause-told g c = λ line behind.
+pub returns-in-Err-solved-clause-told : goal.returns-in-Err-solved-clause-told
+returns-in-Err-solved-clause-told g c = λ line behind.
     let (es, reads) = c.in-Ok.ensures.read in
     let there = subst (λ (rs : List EquationRange). AllZip ReadsEquation (map (pieces_at c.args.before c.args.equations.now) rs) es) (sym c.as_slice.ensures.value) reads in
-    tells_refusal (IsReplyToEquations (state_of c.args.pool.now c.args.table.now) (states g.B.Breaker.state c.args.watch.now) (states g.B.Breaker.state c.solve_read.new.watch) line c.args.equations.now) c.in-Err-solve_read.refusal c.args.text.now.bytes
-    (read_reply c.args.pool.now c.args.table.now (states g.B.Breaker.state c.args.watch.now) (states g.B.Breaker.state c.solve_read.new.watch) line c.args.equations.now c.args.before behind c.in-Ok.ranges.items c.in-Ok.ensures.split es _ reads (c.in-Err-solve_read.ensures.refused es there)) c.requires.empty
+    tells_refusal (IsReplyToEquations (state_of c.args.pool.now c.args.table.now) (states g.B.Breaker.state c.args.watch.now) (states g.B.Breaker.state c.solve_read-solved.new.watch) line c.args.equations.now) c.in-Err-solved.refusal c.args.text.now.bytes
+    (read_reply c.args.pool.now c.args.table.now (states g.B.Breaker.state c.args.watch.now) (states g.B.Breaker.state c.solve_read-solved.new.watch) line c.args.equations.now c.args.before behind c.in-Ok.ranges.items c.in-Ok.ensures.split es _ reads (err_at _ c.solve_read-solved.result c.in-Err-solved.refusal c.in-Err-solved.is (c.solve_read-solved.ensures.refused es there))) c.requires.empty
 
-pub returns-in-Err-solve_read-clause-counted : goal.returns-in-Err-solve_read-clause-counted
-returns-in-Err-solve_read-clause-counted g c = c.in-Err-solve_read.ensures.counted
+pub returns-in-Err-solved-clause-counted : goal.returns-in-Err-solved-clause-counted
+returns-in-Err-solved-clause-counted g c = err_at _ c.solve_read-solved.result c.in-Err-solved.refusal c.in-Err-solved.is c.solve_read-solved.ensures.counted
 
 pub write_solution-requires-clause-rises : goal.write_solution-requires-clause-rises
 write_solution-requires-clause-rises g c =
     let (es, reads) = c.in-Ok.ensures.read in
     let there = subst (λ (rs : List EquationRange). AllZip ReadsEquation (map (pieces_at c.args.before c.args.equations.now) rs) es) (sym c.as_slice.ensures.value) reads in
-    let (left, built, become, h) = c.in-Ok-solve_read.ensures.solved es there in
-    subst Rises (sym (names_same c.in-Ok-solve_read.solved.names.items c.as_slice-2.result.now c.in_array-names.result c.len.result c.as_slice-2.ensures.value c.len.ensures.value c.in_array-names.ensures)) h.names.rising
+    let (left, built, become, h) = ok_at _ c.solve_read-solved.result c.in-Ok-solved.solved c.in-Ok-solved.is (c.solve_read-solved.ensures.solved es there) in
+    subst Rises (sym (names_same c.in-Ok-solved.solved.names.items c.as_slice-2.result.now c.in_array-names.result c.len.result c.as_slice-2.ensures.value c.len.ensures.value c.in_array-names.ensures)) h.names.rising
 
 pub write_solution-requires-clause-forms : goal.write_solution-requires-clause-forms
 write_solution-requires-clause-forms g c =
     let (es, reads) = c.in-Ok.ensures.read in
     let there = subst (λ (rs : List EquationRange). AllZip ReadsEquation (map (pieces_at c.args.before c.args.equations.now) rs) es) (sym c.as_slice.ensures.value) reads in
-    let (left, built, become, h) = c.in-Ok-solve_read.ensures.solved es there in
-    forms_told (names_listed c.in-Ok-solve_read.solved.names.items) built h.names h.linear (length (take c.len.result c.in_array-names.result)) c.in-Ok-solve_read.solved.solution (sym (length-map (take c.len.result c.in_array-names.result) name_of) ∙ ap length (names_same c.in-Ok-solve_read.solved.names.items c.as_slice-2.result.now c.in_array-names.result c.len.result c.as_slice-2.ensures.value c.len.ensures.value c.in_array-names.ensures)) h.calculated
+    let (left, built, become, h) = ok_at _ c.solve_read-solved.result c.in-Ok-solved.solved c.in-Ok-solved.is (c.solve_read-solved.ensures.solved es there) in
+    forms_told (names_listed c.in-Ok-solved.solved.names.items) built h.names h.linear (length (take c.len.result c.in_array-names.result)) c.in-Ok-solved.solved.solution (sym (length-map (take c.len.result c.in_array-names.result) name_of) ∙ ap length (names_same c.in-Ok-solved.solved.names.items c.as_slice-2.result.now c.in_array-names.result c.len.result c.as_slice-2.ensures.value c.len.ensures.value c.in_array-names.ensures)) h.calculated
 
 pub write_solution-requires-clause-multipliers : goal.write_solution-requires-clause-multipliers
 write_solution-requires-clause-multipliers g c =
     let (es, reads) = c.in-Ok.ensures.read in
     let there = subst (λ (rs : List EquationRange). AllZip ReadsEquation (map (pieces_at c.args.before c.args.equations.now) rs) es) (sym c.as_slice.ensures.value) reads in
-    let (left, built, become, h) = c.in-Ok-solve_read.ensures.solved es there in
-    multipliers_told (names_listed c.in-Ok-solve_read.solved.names.items) built h.names h.linear c.in-Ok-solve_read.solved.solution (omega (arith, become_many become, reads_many c.args.before c.args.equations.now c.as_slice.result.now es there, c.as_slice.ensures.fits)) h.calculated
+    let (left, built, become, h) = ok_at _ c.solve_read-solved.result c.in-Ok-solved.solved c.in-Ok-solved.is (c.solve_read-solved.ensures.solved es there) in
+    multipliers_told (names_listed c.in-Ok-solved.solved.names.items) built h.names h.linear c.in-Ok-solved.solved.solution (omega (arith, become_many become, reads_many c.args.before c.args.equations.now c.as_slice.result.now es there, c.as_slice.ensures.fits)) h.calculated
 
 pub returns-in-Ok-write_solution-clause-told : goal.returns-in-Ok-write_solution-clause-told
 returns-in-Ok-write_solution-clause-told g c = λ line behind.
     let (es, reads) = c.in-Ok.ensures.read in
     let there = subst (λ (rs : List EquationRange). AllZip ReadsEquation (map (pieces_at c.args.before c.args.equations.now) rs) es) (sym c.as_slice.ensures.value) reads in
-    let (left, built, become, h) = c.in-Ok-solve_read.ensures.solved es there in
-    tells_report (IsReplyToEquations (state_of c.args.pool.now c.args.table.now) (states g.B.Breaker.state c.args.watch.now) (states g.B.Breaker.state c.solve_read.new.watch) line c.args.equations.now) (solution_text (names_listed c.in-Ok-solve_read.solved.names.items) (answer_told c.in-Ok-solve_read.solved.solution)) c.write_solution.new.text.bytes
-    (solved_reply c.args.pool.now c.args.table.now (states g.B.Breaker.state c.args.watch.now) (states g.B.Breaker.state c.solve_read.new.watch) line c.args.equations.now c.args.before behind c.in-Ok.ranges.items c.in-Ok.ensures.split es built left c.in-Ok-solve_read.solved reads become h)
-    (c.in-Ok-write_solution.ensures.told ∙ ap (λ (ys : List (List ℕ)). solution_text ys (answer_told c.in-Ok-solve_read.solved.solution)) (names_same c.in-Ok-solve_read.solved.names.items c.as_slice-2.result.now c.in_array-names.result c.len.result c.as_slice-2.ensures.value c.len.ensures.value c.in_array-names.ensures))
+    let (left, built, become, h) = ok_at _ c.solve_read-solved.result c.in-Ok-solved.solved c.in-Ok-solved.is (c.solve_read-solved.ensures.solved es there) in
+    tells_report (IsReplyToEquations (state_of c.args.pool.now c.args.table.now) (states g.B.Breaker.state c.args.watch.now) (states g.B.Breaker.state c.solve_read-solved.new.watch) line c.args.equations.now) (solution_text (names_listed c.in-Ok-solved.solved.names.items) (answer_told c.in-Ok-solved.solved.solution)) c.write_solution.new.text.bytes
+    (solved_reply c.args.pool.now c.args.table.now (states g.B.Breaker.state c.args.watch.now) (states g.B.Breaker.state c.solve_read-solved.new.watch) line c.args.equations.now c.args.before behind c.in-Ok.ranges.items c.in-Ok.ensures.split es built left c.in-Ok-solved.solved reads become h)
+    (c.in-Ok-write_solution.ensures.told ∙ ap (λ (ys : List (List ℕ)). solution_text ys (answer_told c.in-Ok-solved.solved.solution)) (names_same c.in-Ok-solved.solved.names.items c.as_slice-2.result.now c.in_array-names.result c.len.result c.as_slice-2.ensures.value c.len.ensures.value c.in_array-names.ensures))
 
 pub returns-in-Err-write_solution-clause-told : goal.returns-in-Err-write_solution-clause-told
 returns-in-Err-write_solution-clause-told g c = λ line behind.
     let (es, reads) = c.in-Ok.ensures.read in
     let there = subst (λ (rs : List EquationRange). AllZip ReadsEquation (map (pieces_at c.args.before c.args.equations.now) rs) es) (sym c.as_slice.ensures.value) reads in
-    let (left, built, become, h) = c.in-Ok-solve_read.ensures.solved es there in
+    let (left, built, become, h) = ok_at _ c.solve_read-solved.result c.in-Ok-solved.solved c.in-Ok-solved.is (c.solve_read-solved.ensures.solved es there) in
     let (forms, told) = c.in-Err-write_solution.ensures.solved in
     let (short, room) = c.in-Err-write_solution.ensures.lacks in
-    let few : free_of c.args.pool.now < form_room = omega (arith, room, ap used c.solve_read.ensures.as_before, c.in-Ok-solve_read.ensures.counted_ok.size) in
-    tells_refusal (IsReplyToEquations (state_of c.args.pool.now c.args.table.now) (states g.B.Breaker.state c.args.watch.now) (states g.B.Breaker.state c.solve_read.new.watch) line c.args.equations.now) c.refused.result c.clear.new.self.bytes
-    (lacking_reply c.args.pool.now c.args.table.now (states g.B.Breaker.state c.args.watch.now) (states g.B.Breaker.state c.solve_read.new.watch) line c.args.equations.now c.args.before behind c.in-Ok.ranges.items c.in-Ok.ensures.split es built left c.in-Ok-solve_read.solved reads become h forms c.in-Err-write_solution.full c.refused.result c.refused.ensures told short few)
+    let few : free_of c.args.pool.now < form_room = omega (arith, room, ap used c.solve_read-solved.ensures.as_before, (on_ok_at _ c.solve_read-solved.result c.in-Ok-solved.solved c.in-Ok-solved.is c.solve_read-solved.ensures.counted_ok).size) in
+    tells_refusal (IsReplyToEquations (state_of c.args.pool.now c.args.table.now) (states g.B.Breaker.state c.args.watch.now) (states g.B.Breaker.state c.solve_read-solved.new.watch) line c.args.equations.now) c.refused.result c.clear.new.self.bytes
+    (lacking_reply c.args.pool.now c.args.table.now (states g.B.Breaker.state c.args.watch.now) (states g.B.Breaker.state c.solve_read-solved.new.watch) line c.args.equations.now c.args.before behind c.in-Ok.ranges.items c.in-Ok.ensures.split es built left c.in-Ok-solved.solved reads become h forms c.in-Err-write_solution.full c.refused.result c.refused.ensures told short few)
     (ap (λ (x : Content). x.bytes) c.clear.ensures)

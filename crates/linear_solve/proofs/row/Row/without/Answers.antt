@@ -5,7 +5,7 @@ use Rattle.linear_solve.proofs.Entries.{add_told, longer, mul_told, pair_all, pa
 use Rattle.linear_solve.proofs.row.Row.without.Goals as goal
 
 pub returns-in_err-removed-clause-overflow : goal.returns-in_err-removed-clause-overflow
-returns-in_err-removed-clause-overflow c =
+returns-in_err-removed-clause-overflow g c =
     let p = err_from_is_err_and c.from_residual.result c.from_residual.ensures.1 in
     let e = c.in_err-removed.field-0.0 in
     let l : c.loop-at.at < length (entries_of c.args.self.now) = omega (arith, c.min-at-end.ensures, c.len.ensures.value, c.len-2.ensures.value, c.loop-at-test.true) in
@@ -16,7 +16,7 @@ returns-in_err-removed-clause-overflow c =
     l k refl c.get.ensures c.loop-at.invariant.made (then_err _ _ _ made))
 
 pub returns-in_err-difference-clause-overflow : goal.returns-in_err-difference-clause-overflow
-returns-in_err-difference-clause-overflow c =
+returns-in_err-difference-clause-overflow g c =
     let p = err_from_is_err_and c.from_residual-in_err-difference.result c.from_residual-in_err-difference.ensures.1 in
     let e = c.in_err-difference.field-0.0 in
     let r = c.in_ok-removed.removed in
@@ -29,7 +29,7 @@ returns-in_err-difference-clause-overflow c =
     (then_ok _ _ _ made ∙ sym (add_told c.get-in-loop-at.result r (Err e) c.in_err-difference.ensures.sum c.in_err-difference.ensures.refused c.in_err-difference.ensures.named)))
 
 pub loop-at-preserved : goal.loop-at-preserved
-loop-at-preserved c =
+loop-at-preserved g c =
     let r = c.in_ok-removed.removed in
     let l : c.loop-at.at < length (entries_of c.args.self.now) = omega (arith, c.min-at-end.ensures, c.len.ensures.value, c.len-2.ensures.value, c.loop-at-test.true) in
     let k : c.loop-at.at < length (entries_of c.args.other.now) = omega (arith, c.min-at-end.ensures, c.len.ensures.value, c.len-2.ensures.value, c.loop-at-test.true) in
@@ -43,6 +43,6 @@ loop-at-preserved c =
     }
 
 pub returns-clause-ok : goal.returns-clause-ok
-returns-clause-ok c =
+returns-clause-ok g c =
     pair_all (λ (p : Fraction × Fraction). and_then (product_of (negative (value_of c.args.multiple)) p.1) (λ m. sum_of p.0 m)) (entries_of c.args.self.now) (entries_of c.args.other.now) c.loop-at.at (entries_of c.loop-at.rest)
     (omega (arith, c.min-at-end.ensures, c.len.ensures.value, c.len-2.ensures.value, c.loop-at-test.false)) c.loop-at.invariant.made
