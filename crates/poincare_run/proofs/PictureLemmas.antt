@@ -1,5 +1,5 @@
 -- Lemmas on what is written of pictures.
-use Rattle.std.proofs.Common.{◌≡◌, ◌∙◌, ◌++◌, ◌∷◌, ℕ, List, [], Bool, true, Option, Some, Result, Ok, Err, sym, ap, subst}
+use Rattle.std.proofs.Common.{◌≡◌, ℕ, List, Bool, true, Option, Result, Ok, Err, sym, ap, subst}
 use Rattle.poincare_run.proofs.Shared.{Appends, AppendsPart, IsDrawnInPart, rows_in, full, text_of, State, Full, AnswersLine, FailsAtLine, Place, TakesLine, picture_if, picture_text, with_newline, written, LineAnswer}
 use Rattle.calc_session.specs.Drawing.{IsDrawn}
 

@@ -1,6 +1,6 @@
 -- Lemmas on the steps of a session, and on how far it has come.
-use Rattle.std.proofs.Common.{◌≡◌, ◌∙◌, ◌⊎◌, inl, inr, Some, None, ℕ, List, [], ◌∷◌, ◌++◌, length, map, ◌<◌, Bool, true, false, nat_le, Option, refl, sym, ap, subst, arith, append_assoc, append-nil}
-use Rattle.poincare_run.proofs.Shared.{leb-true, leb-false, strip_carriage_return, LineAnswer, Blank, Shown, Stored, Undef, Report, Draw, Refused, Refusal, Answers, IsAnswer, IsReport, printed, reply_of, Reply, report, forgot, text_of, State, IsReply, is_unread, is_commanded, is_calculated, is_evaluated, LineBuffer, is_newline, lines_of, line_of_rest, whole_lines, rest_of, all_written, bits, Chain, LineStep, Moment, Turn, is_drawn, picture_if, picture_text, replies_of, room, Steps, with_newline, written, Holds, StandsFor, Answered, AnswersLine, FailsAtLine, Continues, Breaks, Goes, TakesLine, Place, Appends-nil, Appends-trans, AppendsPart-after}
+use Rattle.std.proofs.Common.{◌≡◌, ◌∙◌, ◌⊎◌, inl, inr, ℕ, List, [], ◌∷◌, ◌++◌, length, ◌<◌, Bool, true, false, nat_le, Option, refl, sym, ap, subst, arith, append_assoc, append-nil}
+use Rattle.poincare_run.proofs.Shared.{leb-true, leb-false, strip_carriage_return, LineAnswer, Blank, Shown, Stored, Undef, Report, Draw, Refused, Refusal, Answers, IsAnswer, IsReport, printed, reply_of, Reply, report, forgot, State, IsReply, is_unread, is_commanded, is_calculated, is_evaluated, LineBuffer, is_newline, lines_of, line_of_rest, whole_lines, rest_of, all_written, bits, Chain, LineStep, Moment, Turn, is_drawn, picture_if, picture_text, replies_of, room, Steps, with_newline, written, Holds, StandsFor, Answered, AnswersLine, FailsAtLine, Continues, Breaks, Goes, TakesLine, Place, Appends-nil, Appends-trans, AppendsPart-after}
 use Rattle.breakers.specs.Breakers.{kept}
 use Rattle.breakers.specs.State.{State as Breaker}
 use Rattle.calc_session.specs.Reading.{IsReplyUnread, is_long, is_nothing, has_no_token, has_a_wide_number, is_no_line, is_too_deep, stores_to_ans, finds_names_full}

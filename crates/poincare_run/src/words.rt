@@ -39,7 +39,9 @@ pub struct Options {
     pub draw: bool,
 }
 
-/// What the words ask for, where they are a form of the command line.
+/// What the words ask for, where they are a form of the command line. It is not inlined: what it keeps is off the machine's
+/// stack when lines are answered.
+#[inline(never)]
 pub fn options_in(alloc: Global, words: &[String]) -> Result<Option<Options>, AllocError>
     ensures value { IfOk result (λ options. options ≡ options_of (map string_bytes words.now)) }
     ensures size { IfOk result (λ options. IfSome options (λ o. IsPoolSize o.size)) }
