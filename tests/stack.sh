@@ -1,11 +1,12 @@
 #!/bin/sh
-# Runs the program on the lines that take most of the machine's stack, with little of it: 128 KiB for the default pool,
-# 384 KiB for the greatest. Its argument is the program. Each row has to be answered as it is with all the stack there is.
+# Runs the program on the lines that take most of the machine's stack, with little of it: 96 KiB. Its argument is the
+# program. Each row has to be answered as it is with all the stack there is.
 # The last line says how many rows passed and failed; the status is 1 where one failed.
 program=${1:-$(dirname "$0")/../crates/poincare/out/poincare}
 [ -x "$program" ] || { echo "the program is not built: ./poincare builds it"; exit 1; }
 folder=$(mktemp -d) || exit 1
 trap 'rm -rf "$folder"' EXIT
+size=96
 passed=0
 failed=0
 
@@ -14,11 +15,10 @@ repeat() {
     awk -v number="$1" -v text="$2" 'BEGIN { for (i = 0; i < number; i++) printf "%s", text }'
 }
 
-# row KIBIBYTES NAME WORD..: the lines of $folder/input, answered with so much stack
+# row NAME WORD..: the lines of $folder/input, answered with so many KiB of stack
 row() {
-    size=$1
-    name=$2
-    shift 2
+    name=$1
+    shift
     "$program" "$@" <"$folder/input" >"$folder/wanted"
     status=$?
     (
@@ -36,8 +36,8 @@ row() {
 tried() {
     name=$1
     shift
-    row 128 "$name" "$@"
-    row 384 "$name" --pool 524280 "$@"
+    row "$name" "$@"
+    row "$name" --pool 524280 "$@"
 }
 
 echo "1+1" >"$folder/input"
@@ -108,7 +108,7 @@ sum() {
 { sum 0 250; echo "→s"; sum 250 500; echo "→t"; echo "s+t"; } >"$folder/input"
 tried "a sum of 500 names and its picture" --draw
 { sum 0 250; echo "→s"; for letter in a b c d e f g h i j k l m n o p q r; do printf "s^%s+" $letter; done; echo 1; } >"$folder/input"
-row 384 "a picture of more than 8,192 parts" --pool 524280 --draw
+row "a picture of more than 8,192 parts" --pool 524280 --draw
 
 echo "$passed passed, $failed failed"
 [ "$failed" = 0 ]
