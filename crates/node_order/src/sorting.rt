@@ -27,8 +27,14 @@ const DOZENS: usize = 64;
 /// So many are listed in lists of middle size.
 const SEVERAL: usize = 1_024;
 
+/// So many are listed in long lists. A pool of 32,768 bytes holds no more.
+const THOUSANDS: usize = 2_048;
+
+/// So many are listed in longer ones. No pool holds more.
+const MANY: usize = 32_768;
+
 /// No node has more children.
-const MANY: usize = 65_535;
+const ALL: usize = 65_535;
 
 /// What trees are put in order by.
 pub trait Keys {
@@ -75,8 +81,12 @@ pub fn sort_children<K: Keys>(pool: &mut Pool, parent: &Handle, from: u16, keys:
         sort_up_to::<K, DOZENS>(pool, parent, from, keys);
     } else if len <= SEVERAL {
         sort_up_to::<K, SEVERAL>(pool, parent, from, keys);
-    } else {
+    } else if len <= THOUSANDS {
+        sort_up_to::<K, THOUSANDS>(pool, parent, from, keys);
+    } else if len <= MANY {
         sort_up_to::<K, MANY>(pool, parent, from, keys);
+    } else {
+        sort_up_to::<K, ALL>(pool, parent, from, keys);
     }
 }
 

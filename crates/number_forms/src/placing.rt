@@ -16,9 +16,10 @@ use node_pool::{Full, Pool};
 use surd_terms::Term;
 use tree_handles::{Handle, adopt, node, node_over, node_over_two, number};
 
-/// A root of a whole number takes so many bytes at most, and a rational times it.
+/// A root of a whole number takes so many bytes at most.
 const ROOT_BYTES: u32 = 48;
 
+/// A term takes so many bytes at most.
 pub(crate) const TERM_BYTES: u32 = 96;
 
 /// A new last tree that is the term: a rational, a root, or a rational other than 1 times a root. It takes 96
