@@ -42,7 +42,8 @@ def circumstances():
     processor = re.search(r"model name\s*: (.*)", pathlib.Path("/proc/cpuinfo").read_text())
     versions = {
         "kit": version_of(["rt", "version"], r"(\S+)"),
-        "ginsh": version_of(["ginsh", "--version"], r"(\d+\.\d+\.\d+)"),
+        # It tells its version to a terminal alone, so the package is asked.
+        "ginsh": version_of(["dpkg-query", "-W", "-f", "${Version}", "ginac-tools"], r"(\d+\.\d+\.\d+)"),
         "maxima": version_of(["maxima", "--version"], r"(\d+\.\d+\.\d+)"),
         "sympy": version_of([sys.executable, "-c", "import sympy; print(sympy.__version__)"], r"(\S+)"),
         "valgrind": version_of(["valgrind", "--version"], r"valgrind-(\S+)"),
@@ -62,7 +63,7 @@ def number(value):
 
 def line_of(row):
     ratios = ", ".join(f"{name} {ratio:.2f}" for name, ratio in row.get("ratios", {}).items())
-    return f"| {row['name']} | {number(row['value'])} {row['unit']} | {ratios or row.get('note', '')} |"
+    return f"| {row['name']} | {number(row['value'])} {row.get('unit', '')} | {ratios or row.get('note', '')} |"
 
 
 def table_of(results):

@@ -31,7 +31,8 @@
  * - A stopper is opened on its session's thread. Then it may go to another thread, by a thread's start, a lock, or an
  *   atomic that is sequentially consistent. One call at a time has it.
  * - No call is made from a signal handler, nor from the forked child of a process that has threads.
- * - The thread that calls has 128 KiB of stack left for a pool of 32,768 bytes, and 384 KiB for the greatest.
+ * - The thread that calls has 128 KiB of stack left for a pool of 32,768 bytes, and 512 KiB for the greatest. The worst
+ *   lines that are known take 92, and 448.
  */
 #ifndef POINCARE_H
 #define POINCARE_H

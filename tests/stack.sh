@@ -87,6 +87,8 @@ signs() {
 # Deep and wide at once.
 { printf ":expand "; signs 60 "(a+b+c+d)^7"; } >"$folder/input"
 tried "60 minus signs before a power of a sum that is expanded"
+{ printf ":expand "; signs 60 "(a+b+c+d+e+f+g+h+i)^3"; } >"$folder/input"
+tried "60 minus signs before a power of nine names, which is expanded among the trees"
 { printf ":expand "; signs 58 "((x+1)^8×(y+1)^2×(z-1)^2)"; } >"$folder/input"
 tried "58 minus signs before a product that is expanded"
 signs 60 "(√(2)+√(3)+√(5)+√(7)+√(11)+√(13)+√(17))^4" >"$folder/input"
@@ -109,6 +111,13 @@ sum() {
 tried "a sum of 500 names and its picture" --draw
 { sum 0 250; echo "→s"; for letter in a b c d e f g h i j k l m n o p q r; do printf "s^%s+" $letter; done; echo 1; } >"$folder/input"
 row "a picture of more than 8,192 parts" --pool 524280 --draw
+
+# Lists of the terms that are put in order stand on the machine's stack, as long as the pool may need.
+{ sum 0 300; echo "→s"; signs 58 "(s+s+s+s)"; } >"$folder/input"
+tried "58 minus signs before a sum of 1,200 names"
+{ sum 0 300; echo "→s"; signs 58 "(s+s+s+s+s+s+s+s)"; } >"$folder/input"
+size=512
+row "58 minus signs before a sum of 2,400 names" --pool 524280
 
 echo "$passed passed, $failed failed"
 [ "$failed" = 0 ]
