@@ -11,5 +11,6 @@ pub mod Payload
 pub mod Leaf
 pub mod Node
 pub mod Trees
+pub mod Limits
 pub mod Fits
 pub mod Examples
