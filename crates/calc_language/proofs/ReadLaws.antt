@@ -1,15 +1,15 @@
 -- A text reads as at most one tree, and what is written is read again.
-use Rattle.std.specs.Prelude.{ℕ, ◌≡◌, List, [], ◌∷◌, Bool, true, false, ◌==◌, ◌||◌, Some, None}
+use Rattle.std.specs.Prelude.{ℕ, ◌≡◌, List, [], ◌∷◌, Bool, true, false, ◌==◌, ◌||◌, nat_le, Some, None}
 use Rattle.std.proofs.Common.{arith, refl, sym, ap, ◌∙◌, subst}
 use Rattle.std.proofs.lemmas.Bool.{eqb-true}
-use Rattle.calc_language.specs.Grammar.{as_tree, IsSum}
+use Rattle.calc_language.specs.Grammar.{as_tree, single, IsSum}
 use Rattle.calc_language.specs.Reads.{Reads}
-use Rattle.calc_language.specs.Texts.{text, IsWritable}
+use Rattle.calc_language.specs.Texts.{text, IsWritable, admits, admits_signed, first_of_sum, later_of_sum, first_of_product, left_of_quotient, base}
 use Rattle.calc_language.specs.Tokens.{Token, token_at, is_blank, Scans, at_end, at_blank, at_token}
 use Rattle.calc_terms.specs.Trees.{Tree, IsComplete}
 use Rattle.calc_language.proofs.ReaderComplete.{one_sum}
-use Rattle.calc_language.proofs.Spelled.{text_scanned}
-use Rattle.calc_language.proofs.Written.{tokens, reads_again}
+use Rattle.calc_language.proofs.Spelled.{spelled, in_text, text_spelled, tree_scanned}
+use Rattle.calc_language.proofs.Written.{Brackets, IsReadable, binding, is_signed, sum_so_far, product_so_far, tokens, reads_again}
 
 -- no token begins with a blank
 blank_no_token : (b : ℕ) (bs : List ℕ) → is_blank b ≡ true → token_at (b ∷ bs) ≡ None
@@ -54,6 +54,40 @@ one_tree bs t u (ts, a, d) (us, b, c) =
     let same : us ≡ ts = one_scan b a in
     one_sum_tree ts t u d (subst (λ x. IsSum x u) same c)
 
+-- what a format writes of a tree reads as that tree
+pub format_reads : (s : Brackets) → IsReadable s → (u : Tree) (bytes : List ℕ) → IsComplete u → IsWritable u → bytes ≡ spelled (tokens s u) → Reads bytes u
+format_reads s r u bytes f w e = (tokens s u, tree_scanned s u bytes w e, reads_again s r u f)
+
+readable_text : IsReadable in_text
+readable_text = record {
+  first_of_sum = by_sum;
+  later_of_sum = by_term;
+  first_of_product = by_product;
+  later_of_product = by_factor;
+  left_of_quotient = by_dividend;
+  right_of_quotient = by_factor;
+  base = by_base;
+  exponent = by_factor;
+}
+  where
+    by_sum : (t : Tree) → admits first_of_sum t ≡ true → sum_so_far t ≡ single t
+    by_sum t h = grind arith
+
+    by_term : (t : Tree) → admits later_of_sum t ≡ true → nat_le 1 (binding in_text t) ≡ true
+    by_term t h = grind arith
+
+    by_product : (t : Tree) → admits first_of_product t ≡ true → (nat_le 2 (binding in_text t) ≡ true) × (product_so_far t ≡ single t)
+    by_product t h = grind arith
+
+    by_factor : (t : Tree) → admits_signed t ≡ true → is_signed in_text t ≡ true
+    by_factor t h = grind arith
+
+    by_dividend : (t : Tree) → admits left_of_quotient t ≡ true → nat_le 2 (binding in_text t) ≡ true
+    by_dividend t h = grind arith
+
+    by_base : (t : Tree) → admits base t ≡ true → nat_le 4 (binding in_text t) ≡ true
+    by_base t h = grind arith
+
 -- the text of a tree reads as that tree
 pub text_reads : (u : Tree) → IsComplete u → IsWritable u → Reads (text u) u
-text_reads u f w = let (s, d, e) = reads_again u f in (tokens u, text_scanned u w, (s, d, e))
+text_reads u f w = format_reads in_text readable_text u (text u) f w (text_spelled u)

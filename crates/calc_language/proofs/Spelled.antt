@@ -7,11 +7,11 @@ use Rattle.std.specs.Cmp.Lexicographic.{pointwise}
 use Rattle.calc_terms.specs.Name.{is_name, is_reserved, begins_with_letter, is_digit, is_letter, is_name_byte}
 use Rattle.std.proofs.lemmas.Bool.Decides.{nat_tests}
 use Rattle.calc_terms.specs.Fractions.{lowest}
-use Rattle.calc_language.specs.Texts.{decimal, digits_before, Place, first_of_sum, later_of_sum, first_of_product, left_of_quotient, later_of_product, base, exponent, admits, at_place, in_parentheses, text, text_of_sum, text_of_terms, text_of_product, text_of_factors, IsNatural, IsWritable, AreWritable}
+use Rattle.calc_language.specs.Texts.{decimal, digits_before, Place, whole_text, first_of_sum, left_of_difference, later_of_sum, first_of_product, left_of_quotient, later_of_product, base, exponent, admits, at_place, in_parentheses, text, text_of_sum, text_of_terms, text_of_product, text_of_factors, IsNatural, IsWritable, AreWritable}
 use Rattle.calc_language.specs.Tokens.{literal_at, word_at, Scans, at_end, at_token, name, times_sign, root_sign, Token, literal, undef_mark, root_mark, plus_mark, minus_mark, times_mark, slash_mark, caret_mark, left_mark, right_mark, arrow_mark, leading_run, keep, digits_value, decimals, same_bytes, token_of_word, token_at, or_else, if_so}
 use Rattle.calc_terms.specs.Trees.{Tree, num, symbol, undef, add, mult, power, root, neg, sub, div, Trees, none, more}
 use Rattle.calc_terms.proofs.FractionFacts.{whole_numerator}
-use Rattle.calc_language.proofs.Written.{inside, placed, tokens, tokens_of_sum, tokens_of_terms, tokens_of_product, tokens_of_factors}
+use Rattle.calc_language.proofs.Written.{Brackets, inside, placed, tokens, tokens_of_sum, tokens_of_terms, tokens_of_product, tokens_of_factors}
 
 abbrev pub spell : Token → List ℕ
 spell (literal q) = decimal (nat_abs q.num)
@@ -35,47 +35,70 @@ pub spelled-append : (a b : List Token) → spelled (a ++ b) ≡ spelled a ++ sp
 spelled-append [] b = refl
 spelled-append (t ∷ a) b = ap (λ x. spell t ++ x) (spelled-append a b) ∙ sym (append_assoc (spell t) (spelled a) (spelled b))
 
-inside_spelled : (ts : List Token) (bs : List ℕ) → bs ≡ spelled ts → in_parentheses bs ≡ spelled (inside ts)
+pub inside_spelled : (ts : List Token) (bs : List ℕ) → bs ≡ spelled ts → codes "(" ++ (bs ++ codes ")") ≡ spelled (inside ts)
 inside_spelled ts bs e = ap (λ x. codes "(" ++ (x ++ codes ")")) e ∙ ap (λ x. codes "(" ++ x) (sym (spelled-append ts (right_mark ∷ [])))
 
-place_spelled : (p : Place) (t : Tree) (ts : List Token) (bs : List ℕ) → bs ≡ spelled ts → at_place p t bs ≡ spelled (placed (admits p t) ts)
-place_spelled p t ts bs e = by (admits p t)
-  where
-    by : (b : Bool) → (if b then bs else in_parentheses bs) ≡ spelled (placed b ts)
-    by true = e
-    by false = inside_spelled ts bs e
+pub joined_spelled : (a b : List Token) (m : Token) (x y : List ℕ) → x ≡ spelled a → y ≡ spelled b → x ++ (spell m ++ y) ≡ spelled (a ++ m ∷ b)
+joined_spelled a b m x y p q = (λ i. p i ++ (spell m ++ q i)) ∙ sym (spelled-append a (m ∷ b))
 
-joined_spelled : (a b : List Token) (m : Token) (x y : List ℕ) → x ≡ spelled a → y ≡ spelled b → x ++ spell m ++ y ≡ spelled (a ++ m ∷ b)
-joined_spelled a b m x y p q = append_assoc x (spell m) y ∙ (λ i. p i ++ (spell m ++ q i)) ∙ sym (spelled-append a (m ∷ b))
+-- ---- the text of a tree
+
+-- parentheses stand where a text has them
+abbrev pub in_text : Brackets
+in_text = record {
+  first_of_sum = admits first_of_sum;
+  later_of_sum = admits later_of_sum;
+  left_of_difference = admits left_of_difference;
+  first_of_product = admits first_of_product;
+  later_of_product = admits later_of_product;
+  left_of_quotient = admits left_of_quotient;
+  right_of_quotient = admits later_of_product;
+  base = admits base;
+  exponent = admits exponent;
+  bare_quotients = true;
+}
+
+place_spelled : (p : Place) (t : Tree) → text t ≡ spelled (tokens in_text t) → at_place p t (text t) ≡ spelled (placed (admits p t) (tokens in_text t))
+place_spelled p t e = by (admits p t)
+  where
+    by : (b : Bool) → (if b then text t else in_parentheses (text t)) ≡ spelled (placed b (tokens in_text t))
+    by true = e
+    by false = inside_spelled (tokens in_text t) (text t) e
+
+operands_spelled : (p q : Place) (a b : Tree) (m : Token) → text a ≡ spelled (tokens in_text a) → text b ≡ spelled (tokens in_text b)
+    → at_place p a (text a) ++ spell m ++ at_place q b (text b) ≡ spelled (placed (admits p a) (tokens in_text a) ++ m ∷ placed (admits q b) (tokens in_text b))
+operands_spelled p q a b m d e =
+    append_assoc (at_place p a (text a)) (spell m) (at_place q b (text b))
+    ∙ joined_spelled (placed (admits p a) (tokens in_text a)) (placed (admits q b) (tokens in_text b)) m _ _ (place_spelled p a d) (place_spelled q b e)
 
 mutual
-  pub text_spelled : (t : Tree) → text t ≡ spelled (tokens t)
+  pub text_spelled : (t : Tree) → text t ≡ spelled (tokens in_text t)
   text_spelled (num q) = sym (append-nil (decimal (nat_abs q.num)))
   text_spelled (symbol x) = sym (append-nil x)
   text_spelled undef = refl
   text_spelled (add ts) = sum_spelled ts
   text_spelled (mult ts) = product_spelled ts
-  text_spelled (power b e) = joined_spelled (placed (admits base b) (tokens b)) (placed (admits exponent e) (tokens e)) caret_mark _ _ (place_spelled base b (tokens b) (text b) (text_spelled b)) (place_spelled exponent e (tokens e) (text e) (text_spelled e))
-  text_spelled (root a) = ap (λ x. root_sign ++ x) (inside_spelled (tokens a) (text a) (text_spelled a))
-  text_spelled (neg a) = ap (λ x. codes "-" ++ x) (place_spelled later_of_sum a (tokens a) (text a) (text_spelled a))
-  text_spelled (sub a b) = joined_spelled (tokens a) (placed (admits later_of_sum b) (tokens b)) minus_mark _ _ (text_spelled a) (place_spelled later_of_sum b (tokens b) (text b) (text_spelled b))
-  text_spelled (div a b) = joined_spelled (placed (admits left_of_quotient a) (tokens a)) (placed (admits later_of_product b) (tokens b)) slash_mark _ _ (place_spelled left_of_quotient a (tokens a) (text a) (text_spelled a)) (place_spelled later_of_product b (tokens b) (text b) (text_spelled b))
+  text_spelled (power b e) = operands_spelled base exponent b e caret_mark (text_spelled b) (text_spelled e)
+  text_spelled (root a) = ap (λ x. root_sign ++ x) (inside_spelled (tokens in_text a) (text a) (text_spelled a))
+  text_spelled (neg a) = ap (λ x. codes "-" ++ x) (place_spelled later_of_sum a (text_spelled a))
+  text_spelled (sub a b) = operands_spelled whole_text later_of_sum a b minus_mark (text_spelled a) (text_spelled b)
+  text_spelled (div a b) = operands_spelled left_of_quotient later_of_product a b slash_mark (text_spelled a) (text_spelled b)
 
-  sum_spelled : (ts : Trees) → text_of_sum ts ≡ spelled (tokens_of_sum ts)
+  sum_spelled : (ts : Trees) → text_of_sum ts ≡ spelled (tokens_of_sum in_text ts)
   sum_spelled none = refl
-  sum_spelled (more t ts) = (λ i. place_spelled first_of_sum t (tokens t) (text t) (text_spelled t) i ++ terms_spelled ts i) ∙ sym (spelled-append (placed (admits first_of_sum t) (tokens t)) (tokens_of_terms ts))
+  sum_spelled (more t ts) = (λ i. place_spelled first_of_sum t (text_spelled t) i ++ terms_spelled ts i) ∙ sym (spelled-append (placed (admits first_of_sum t) (tokens in_text t)) (tokens_of_terms in_text ts))
 
-  terms_spelled : (ts : Trees) → text_of_terms ts ≡ spelled (tokens_of_terms ts)
+  terms_spelled : (ts : Trees) → text_of_terms ts ≡ spelled (tokens_of_terms in_text ts)
   terms_spelled none = refl
-  terms_spelled (more t ts) = (λ i. (codes "+" ++ place_spelled later_of_sum t (tokens t) (text t) (text_spelled t) i) ++ terms_spelled ts i) ∙ sym (spelled-append (plus_mark ∷ placed (admits later_of_sum t) (tokens t)) (tokens_of_terms ts))
+  terms_spelled (more t ts) = (λ i. (codes "+" ++ place_spelled later_of_sum t (text_spelled t) i) ++ terms_spelled ts i) ∙ sym (spelled-append (plus_mark ∷ placed (admits later_of_sum t) (tokens in_text t)) (tokens_of_terms in_text ts))
 
-  product_spelled : (ts : Trees) → text_of_product ts ≡ spelled (tokens_of_product ts)
+  product_spelled : (ts : Trees) → text_of_product ts ≡ spelled (tokens_of_product in_text ts)
   product_spelled none = refl
-  product_spelled (more t ts) = (λ i. place_spelled first_of_product t (tokens t) (text t) (text_spelled t) i ++ factors_spelled ts i) ∙ sym (spelled-append (placed (admits first_of_product t) (tokens t)) (tokens_of_factors ts))
+  product_spelled (more t ts) = (λ i. place_spelled first_of_product t (text_spelled t) i ++ factors_spelled ts i) ∙ sym (spelled-append (placed (admits first_of_product t) (tokens in_text t)) (tokens_of_factors in_text ts))
 
-  factors_spelled : (ts : Trees) → text_of_factors ts ≡ spelled (tokens_of_factors ts)
+  factors_spelled : (ts : Trees) → text_of_factors ts ≡ spelled (tokens_of_factors in_text ts)
   factors_spelled none = refl
-  factors_spelled (more t ts) = (λ i. (times_sign ++ place_spelled later_of_product t (tokens t) (text t) (text_spelled t) i) ++ factors_spelled ts i) ∙ sym (spelled-append (times_mark ∷ placed (admits later_of_product t) (tokens t)) (tokens_of_factors ts))
+  factors_spelled (more t ts) = (λ i. (times_sign ++ place_spelled later_of_product t (text_spelled t) i) ++ factors_spelled ts i) ∙ sym (spelled-append (times_mark ∷ placed (admits later_of_product t) (tokens in_text t)) (tokens_of_factors in_text ts))
 
 -- ---- runs
 abbrev pub stops : (ℕ → Bool) → List ℕ → Bool
@@ -420,43 +443,44 @@ good_append : (a b : List Token) → MarkFirst b → Good a → Good b → Good 
 good_append a [] m g h = rw append-nil g
 good_append a (t ∷ b) m g h = record { written = written-append a (t ∷ b) g.written h.written; apart = apart_join a t b m g.apart h.apart }
 
-terms_first : (ts : Trees) → MarkFirst (tokens_of_terms ts)
-terms_first none = tt
-terms_first (more t ts) = refl
+good_marked : (m : Token) (b : Bool) (a : List Token) → is_operand m ≡ false → IsWritten m → Good a → Good (m ∷ placed b a)
+good_marked m b a o w g = good_before m (placed b a) o w (good_placed b a g)
 
-factors_first : (ts : Trees) → MarkFirst (tokens_of_factors ts)
-factors_first none = tt
-factors_first (more t ts) = refl
+good_operands : (a b : List Token) (m : Token) (x y : Bool) → is_operand m ≡ false → IsWritten m → Good a → Good b → Good (placed x a ++ m ∷ placed y b)
+good_operands a b m x y o w g h = good_join (placed x a) m (placed y b) o w (good_placed x a g) (good_placed y b h)
 
-mutual
-  pub good : (t : Tree) → IsWritable t → Good (tokens t)
-  good (num q) w = record { written = (w, tt); apart = tt }
-  good (symbol x) w = record { written = (w, tt); apart = tt }
-  good undef w = record { written = (tt, tt); apart = tt }
-  good (add none) w = good_nothing
-  good (add (more t ts)) w = good_append (placed (admits first_of_sum t) (tokens t)) (tokens_of_terms ts) (terms_first ts) (good_placed (admits first_of_sum t) (tokens t) (good t w.0)) (good_terms ts w.1)
-  good (mult none) w = good_nothing
-  good (mult (more t ts)) w = good_append (placed (admits first_of_product t) (tokens t)) (tokens_of_factors ts) (factors_first ts) (good_placed (admits first_of_product t) (tokens t) (good t w.0)) (good_factors ts w.1)
-  good (power b e) w = good_join (placed (admits base b) (tokens b)) caret_mark (placed (admits exponent e) (tokens e)) refl tt (good_placed (admits base b) (tokens b) (good b w.0)) (good_placed (admits exponent e) (tokens e) (good e w.1))
-  good (root a) w = good_before root_mark (inside (tokens a)) refl tt (good_inside (tokens a) (good a w))
-  good (neg a) w = good_before minus_mark (placed (admits later_of_sum a) (tokens a)) refl tt (good_placed (admits later_of_sum a) (tokens a) (good a w))
-  good (sub a b) w = good_join (tokens a) minus_mark (placed (admits later_of_sum b) (tokens b)) refl tt (good a w.0) (good_placed (admits later_of_sum b) (tokens b) (good b w.1))
-  good (div a b) w = good_join (placed (admits left_of_quotient a) (tokens a)) slash_mark (placed (admits later_of_product b) (tokens b)) refl tt (good_placed (admits left_of_quotient a) (tokens a) (good a w.0)) (good_placed (admits later_of_product b) (tokens b) (good b w.1))
+module _ (s : Brackets) where
+  terms_first : (ts : Trees) → MarkFirst (tokens_of_terms s ts)
+  terms_first none = tt
+  terms_first (more t ts) = refl
 
-  good_terms : (ts : Trees) → AreWritable ts → Good (tokens_of_terms ts)
-  good_terms none w = good_nothing
-  good_terms (more t ts) w =
-      good_append (plus_mark ∷ placed (admits later_of_sum t) (tokens t)) (tokens_of_terms ts) (terms_first ts)
-      (good_before plus_mark (placed (admits later_of_sum t) (tokens t)) refl tt (good_placed (admits later_of_sum t) (tokens t) (good t w.0))) (good_terms ts w.1)
+  factors_first : (ts : Trees) → MarkFirst (tokens_of_factors s ts)
+  factors_first none = tt
+  factors_first (more t ts) = refl
 
-  good_factors : (ts : Trees) → AreWritable ts → Good (tokens_of_factors ts)
-  good_factors none w = good_nothing
-  good_factors (more t ts) w =
-      good_append (times_mark ∷ placed (admits later_of_product t) (tokens t)) (tokens_of_factors ts) (factors_first ts)
-      (good_before times_mark (placed (admits later_of_product t) (tokens t)) refl tt (good_placed (admits later_of_product t) (tokens t) (good t w.0))) (good_factors ts w.1)
+  mutual
+    good : (t : Tree) → IsWritable t → Good (tokens s t)
+    good (num q) w = record { written = (w, tt); apart = tt }
+    good (symbol x) w = record { written = (w, tt); apart = tt }
+    good undef w = record { written = (tt, tt); apart = tt }
+    good (add none) w = good_nothing
+    good (add (more t ts)) w = good_append (placed (s.first_of_sum t) (tokens s t)) (tokens_of_terms s ts) (terms_first ts) (good_placed (s.first_of_sum t) (tokens s t) (good t w.0)) (good_terms ts w.1)
+    good (mult none) w = good_nothing
+    good (mult (more t ts)) w = good_append (placed (s.first_of_product t) (tokens s t)) (tokens_of_factors s ts) (factors_first ts) (good_placed (s.first_of_product t) (tokens s t) (good t w.0)) (good_factors ts w.1)
+    good (power b e) w = good_operands (tokens s b) (tokens s e) caret_mark (s.base b) (s.exponent e) refl tt (good b w.0) (good e w.1)
+    good (root a) w = good_before root_mark (inside (tokens s a)) refl tt (good_inside (tokens s a) (good a w))
+    good (neg a) w = good_marked minus_mark (s.later_of_sum a) (tokens s a) refl tt (good a w)
+    good (sub a b) w = good_operands (tokens s a) (tokens s b) minus_mark (s.left_of_difference a) (s.later_of_sum b) refl tt (good a w.0) (good b w.1)
+    good (div a b) w = good_placed s.bare_quotients _ (good_operands (tokens s a) (tokens s b) slash_mark (s.left_of_quotient a) (s.right_of_quotient b) refl tt (good a w.0) (good b w.1))
 
--- the text of a tree that can be written is scanned as its tokens
-pub text_scanned : (t : Tree) → IsWritable t → Scans (text t) (tokens t)
-text_scanned t w =
-    let g = good t w in
-    subst (λ bs. Scans bs (tokens t)) (sym (text_spelled t)) (scanned (tokens t) g.written g.apart)
+    good_terms : (ts : Trees) → AreWritable ts → Good (tokens_of_terms s ts)
+    good_terms none w = good_nothing
+    good_terms (more t ts) w = good_append (plus_mark ∷ placed (s.later_of_sum t) (tokens s t)) (tokens_of_terms s ts) (terms_first ts) (good_marked plus_mark (s.later_of_sum t) (tokens s t) refl tt (good t w.0)) (good_terms ts w.1)
+
+    good_factors : (ts : Trees) → AreWritable ts → Good (tokens_of_factors s ts)
+    good_factors none w = good_nothing
+    good_factors (more t ts) w = good_append (times_mark ∷ placed (s.later_of_product t) (tokens s t)) (tokens_of_factors s ts) (factors_first ts) (good_marked times_mark (s.later_of_product t) (tokens s t) refl tt (good t w.0)) (good_factors ts w.1)
+
+  -- what is spelled as the tokens of a tree that can be written is scanned as these
+  pub tree_scanned : (t : Tree) (bytes : List ℕ) → IsWritable t → bytes ≡ spelled (tokens s t) → Scans bytes (tokens s t)
+  tree_scanned t bytes w e = let g = good t w in subst (λ bs. Scans bs (tokens s t)) (sym e) (scanned (tokens s t) g.written g.apart)
