@@ -1,5 +1,5 @@
 -- The digits of the text rules are those that std writes.
-use Rattle.std.proofs.Common.{◌≡◌, ◌∙◌, ℕ, suc, ◌^◌, ◌<◌, ◌≤◌, [], length, ap, inl, inr, arith}
+use Rattle.std.proofs.Common.{◌≡◌, ◌∙◌, ℕ, zero, suc, ◌+◌, ◌/◌, ◌%◌, ◌^◌, ◌<◌, ◌≤◌, List, [], ◌∷◌, length, refl, ap, inl, inr, arith}
 use Rattle.line_text.proofs.Shared.{append-nil, cases_lt, digits_before}
 use Rattle.std.proofs.lemmas.Fmt.{PrependsLastDigit, decimal_from_prepends_wide, length-decimal-le_wide, length-decimal-le_succ}
 use Rattle.std.specs.Fmt.{decimal}
@@ -22,3 +22,12 @@ decimal_shorter n h = omega (arith, ap length (decimal_is n (omega arith)), leng
 
 pub decimal_short : (n : ℕ) → n < 2 ^ 127 → length (texts.decimal n) ≤ 39
 decimal_short n h = omega (arith, ap length (decimal_is n (omega arith)), length-decimal-le_wide 39 n (omega arith) (omega arith) (omega arith))
+
+-- that of one digit
+pub one_digit : (n : ℕ) → n < 10 → texts.decimal n ≡ (48 + n) ∷ []
+unfolding texts.decimal
+one_digit n h = by (n / 10) (omega arith)
+  where
+    by : (m : ℕ) → m ≡ 0 → ◌≡◌ {A = List ℕ} (elim m [ zero ↦ (48 + n) ∷ [] | suc k ↦ digits_before n (n / 10) ((48 + n % 10) ∷ []) ]) ((48 + n) ∷ [])
+    by zero e = refl
+    by (suc k) e = absurd (omega (arith, e))

@@ -1,6 +1,6 @@
 -- What is written of a node without children.
-use Rattle.std.proofs.Common.{◌≡◌, ◌∙◌, ℕ, ◌^◌, ◌<◌, ℤ, List, nat_abs, sym, ap, subst, arith, FitsSigned}
-use Rattle.line_text.proofs.Shared.{Fraction, lowest, Holds, lowest_parts, Ratio, IsRat, decimal, Tree, num, leaf_text}
+use Rattle.std.proofs.Common.{◌≡◌, ℕ, ◌^◌, ◌<◌, ℤ, List, nat_abs, sym, ap, subst, arith, FitsSigned}
+use Rattle.line_text.proofs.Shared.{Fraction, lowest, Holds, lowest_parts, Ratio, IsRat, decimal}
 use Rattle.std.proofs.lemmas.Int.{ints}
 use Rattle.std.specs.Int.{w128, cast_signed, cast_unsigned}
 use Rattle.line_text.proofs.Decimals.{decimal_is}
@@ -8,6 +8,9 @@ use Rattle.std.specs.Fmt as fmt
 
 signed_fits : (z : ℤ) → nat_abs z < 2 ^ 127 → FitsSigned w128 z
 signed_fits z h = omega (arith, ints)
+
+pub magnitude_is : (z v : ℤ) (n : ℕ) → nat_abs v < 2 ^ 127 → z ≡ v → n ≡ nat_abs (cast_signed w128 (cast_unsigned w128 z)) → n ≡ nat_abs v
+magnitude_is z v n h e m = grind (arith, signed_fits)
 
 -- the digits that std writes of a magnitude
 pub digits_are : (bytes : List ℕ) (z v : ℤ) (n : ℕ) → nat_abs v < 2 ^ 127 → z ≡ v → n ≡ nat_abs (cast_signed w128 (cast_unsigned w128 z)) → bytes ≡ fmt.decimal n → bytes ≡ decimal (nat_abs v)
@@ -18,6 +21,3 @@ pub numerator_is : (r : Ratio) → IsRat r → (lowest r.num r.den).num ≡ r.nu
 numerator_is r h =
     let f : Fraction = record { num = r.num; den = r.den; lowest = subst Holds (sym h.lowest) tt } in
     ap (λ (x : Fraction). x.num) (sym (lowest_parts f))
-
-pub number_text : (t : Tree) (r : Ratio) → t ≡ num (lowest r.num r.den) → IsRat r → leaf_text t ≡ decimal (nat_abs r.num)
-number_text t r e h = ap leaf_text e ∙ ap (λ (z : ℤ). decimal (nat_abs z)) (numerator_is r h)

@@ -1,6 +1,7 @@
 -- A text has at most twice the bytes of the nodes of its tree, with room for a sign and parentheses.
 use Rattle.std.proofs.Common.{ℕ, ◌+◌, ◌*◌, ◌^◌, ◌<◌, ◌≤◌, ◌≡◌, refl, List, ◌++◌, length, Bool, true, false, nat_abs, codes, cond, arith}
-use Rattle.line_text.proofs.Shared.{length-append, ltb-true, Place, decimal, first_of_sum, later_of_sum, first_of_product, left_of_quotient, later_of_product, base, exponent, admits, at_place, in_parentheses, text, text_of_sum, text_of_terms, text_of_product, text_of_factors, IsWritable, AreWritable, times_sign, Tree, num, symbol, undef, add, mult, power, root, neg, sub, div, Trees, none, more, size, sizes, AllPartsOf, Fraction, IsFitting, HasFittingNumbers}
+use Rattle.line_text.proofs.Shared.{length-append, ltb-true, decimal, first_of_sum, later_of_sum, first_of_product, left_of_quotient, later_of_product, base, exponent, admits, at_place, in_parentheses, text, text_of_sum, text_of_terms, text_of_product, text_of_factors, IsWritable, AreWritable, times_sign, Tree, num, symbol, undef, add, mult, power, root, neg, sub, div, Trees, none, more, size, sizes, AllPartsOf, Fraction, IsFitting, HasFittingNumbers}
+use Rattle.calc_language.specs.Texts.{Place}
 use Rattle.calc_terms.specs.Kind.{size_by_form}
 use Rattle.calc_terms.specs.Short.{is_short}
 use Rattle.calc_terms.proofs.ShortForm.{short_magnitude}
@@ -17,7 +18,7 @@ placed : (p : Place) (t : Tree) (bytes : List ℕ) → length (at_place p t byte
 placed p t bytes = enclosed (admits p t) bytes
 
 -- a number by its form
-pub number_text : (b : Bool) (q : Fraction) → is_short q ≡ b → nat_abs q.num < 2 ^ 127 → length (decimal (nat_abs q.num)) + 4 ≤ 2 * size_by_form kind.Num b
+pub number_text : (b : Bool) (q : Fraction) → is_short q ≡ b → nat_abs q.num < 2 ^ 127 → length (decimal (nat_abs q.num)) + 8 ≤ 2 * size_by_form kind.Num b
 number_text b q e f = grind (arith, decimal_shorter, short_magnitude, decimal_short)
 
 mutual

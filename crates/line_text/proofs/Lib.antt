@@ -1,8 +1,9 @@
 pub mod Decimals
 pub mod Leaves
 pub mod Lengths
-pub mod Parts
-pub mod Trees
-pub mod Walks
+pub mod Valid
 pub mod Fitting
+pub mod Room
+pub mod Parts
+pub mod Walks
 pub mod Shared

@@ -1,10 +1,25 @@
--- The text of a tree is what is written of its root, the texts of its children, and what closes it.
-use Rattle.std.proofs.Common.{◌≡◌, ◌∙◌, ℕ, ◌+◌, ◌≤◌, List, [], ◌++◌, Bool, true, false, nat_le, codes, cond, length, refl, sym, ap, arith, append_assoc, append-nil}
-use Rattle.line_text.proofs.Shared.{Kind, root_sign, later_of_sum, left_of_quotient, later_of_product, base, exponent, level, admits, admits_signed, at_place, text, text_of_sum, text_of_terms, text_of_product, text_of_factors, Tree, num, symbol, undef, add, mult, power, root, neg, sub, div, Trees, none, more, root_kind, is_root, is_sub, is_div, children_of, FirstOfSum, LaterOfSum, FirstOfProduct, LaterOfProduct, Pending, rule_of, sign_before, first_place, level_of, is_sub_kind, is_div_kind, is_root_kind, kind_behind_opposites, deciding_kind, admits_kind, text_there, texts_from, owed_text, leaf_text, opening, pending_below}
-use Rattle.line_text.specs.declared.place.Place.{Place}
+-- What is written of a face is its text.
+use Rattle.std.proofs.Common.{◌≡◌, ◌∙◌, ℕ, ◌+◌, List, [], ◌∷◌, ◌++◌, map, Bool, true, false, nat_abs, nat_le, codes, if◌then◌else◌, refl, sym, ap, arith, append_assoc, append-nil}
+use Rattle.line_text.proofs.Shared.{eqb-true, Kind, Payload, rational, named, bare, kind_of_payload, IsPayload, root_sign, later_of_sum, left_of_quotient, later_of_product, base, exponent, level, admits, admits_signed, at_place, in_parentheses, text, text_of_sum, text_of_terms, text_of_product, text_of_factors, Tree, num, symbol, undef, add, mult, power, root, neg, sub, div, Trees, none, more, root_kind, is_sub, is_div, children_of, State, holds, tree_at, kids_of, forest, root_payload, Visit, visit_of, visit_at, Label, Forest, empty, tree, arity, flatten, node_of, AllNodes, AllExpressions, takes, grown, plain, plains, alone, grown_whole, Place, WholeText, FirstOfSum, LaterOfSum, FirstOfProduct, LaterOfProduct, rule_of, sign_before, first_place, next_place, level_of, is_sub_kind, is_div_kind, is_neg_kind, kind_behind_opposites, deciding_kind, admits_kind, skips_opposites, opening, leaf_bytes, parentheses, kind_closing, closing_of, first_kind, deciding, is_admitted, written}
+use Rattle.calc_terms.specs.Node.{Node}
+use Rattle.calc_terms.specs.Trees.{count}
+use Rattle.calc_language.specs.Texts.{decimal}
+use Rattle.tree_handles.proofs.Parts.{at}
+use Rattle.tree_handles.proofs.Plains.{count-plains}
+use Rattle.line_text.proofs.Leaves.{numerator_is}
+use Rattle.line_text.proofs.Valid.{HoldsPayload}
 use Rattle.calc_terms.specs.declared.kind.Kind.TheVariants as kind
 
--- ---- the texts of children side by side
+-- ---- the text of a tree, by its root
+
+-- a tree at a place, behind the sign that stands there
+abbrev pub text_there : Place → Tree → List ℕ
+text_there p t = sign_before p ++ at_place (rule_of p) t (text t)
+
+-- trees side by side, the first of them at a place
+abbrev pub texts_from : Place → Trees → List ℕ
+texts_from p none = []
+texts_from p (more t ts) = text_there p t ++ texts_from (next_place p) ts
 
 terms_are : (ts : Trees) → text_of_terms ts ≡ texts_from LaterOfSum ts
 terms_are none = refl
@@ -31,12 +46,15 @@ two_are a sign b = simp (append-nil, append_assoc)
 enclosed_is : (sign left a right : List ℕ) → sign ++ (left ++ a ++ right) ≡ (((sign ++ left) ++ a) ++ []) ++ right
 enclosed_is sign left a right = simp (append-nil, append_assoc)
 
--- what closes the text of a root
-abbrev pub closing : Bool → List ℕ
-closing b = cond b (codes ")") []
+-- what is written of a root alone
+leaf_of : Tree → List ℕ
+leaf_of (num q) = text (num q)
+leaf_of (symbol x) = text (symbol x)
+leaf_of undef = text undef
+leaf_of t = []
 
--- the text of a tree, by its root
-pub text_is : (t : Tree) → text t ≡ leaf_text t ++ (texts_from (first_place (root_kind t)) (children_of t) ++ closing (is_root t))
+text_is : (t : Tree) → text t ≡ leaf_of t ++ (texts_from (first_place (root_kind t)) (children_of t) ++ parentheses (kind_closing (root_kind t)))
+unfolding leaf_of
 text_is (num q) = sym (append-nil (text (num q)))
 text_is (symbol x) = sym (append-nil x)
 text_is undef = refl
@@ -47,6 +65,16 @@ text_is (root a) = enclosed_is root_sign (codes "(") (text a) (codes ")")
 text_is (neg a) = one_is (codes "-") (at_place later_of_sum a (text a))
 text_is (sub a b) = two_are (text a) (codes "-") (at_place later_of_sum b (text b))
 text_is (div a b) = two_are (at_place left_of_quotient a (text a)) (codes "/") (at_place later_of_product b (text b))
+
+leaf_of_kind : (k : Kind) (ts : Trees) → takes (bare k) (count ts) ≡ true → leaf_of (grown (bare k) ts) ≡ leaf_bytes (bare k)
+unfolding leaf_of
+leaf_of_kind k ts h = grind arith
+
+leaf_is : (x : Payload) (ts : Trees) → takes x (count ts) ≡ true → IsPayload x → leaf_of (grown x ts) ≡ leaf_bytes x
+unfolding leaf_of
+leaf_is (rational r) ts h p = ap (λ z. decimal (nat_abs z)) (numerator_is r p)
+leaf_is (named x) ts h p = refl
+leaf_is (bare k) ts h p = leaf_of_kind k ts h
 
 -- ---- parentheses
 
@@ -74,45 +102,76 @@ signed_is (div a b) = refl
 pub admits_is : (p : Place) (t : Tree) → admits (rule_of p) t ≡ admits_kind p (deciding_kind p t)
 admits_is p t = grind (arith, level_is, is_sub_is, is_div_is, signed_is)
 
-not_root : (p : Place) (t : Tree) → admits (rule_of p) t ≡ false → is_root t ≡ false
-not_root p t h = grind arith
+-- the kind behind opposites, by the nodes
+no_opposite : (k : Kind) (v : Visit) (vs : List Visit) → v.kind ≡ k → is_neg_kind k ≡ false → first_kind (v ∷ vs) ≡ k
+no_opposite k v vs e n = grind arith
+
+opposite : (v : Visit) (vs : List Visit) → v.kind ≡ kind.Neg → first_kind (v ∷ vs) ≡ first_kind vs
+opposite v vs e = grind arith
+
+behind_kind : (k : Kind) (ts : Trees) → is_neg_kind k ≡ false → takes (bare k) (count ts) ≡ true → kind_behind_opposites (grown (bare k) ts) ≡ k
+behind_kind k ts n h = grind arith
+
+first_is : (x : Payload) (v : Visit) (k : Forest) (ns : List Node) → v.kind ≡ kind_of_payload x → takes x (arity k) ≡ true → AllExpressions k → first_kind (v ∷ map visit_of (flatten k ++ ns)) ≡ kind_behind_opposites (grown x (plains k))
+first_is (rational r) v k ns e h w = no_opposite kind.Num v (map visit_of (flatten k ++ ns)) e refl
+first_is (named x) v k ns e h w = no_opposite kind.Sym v (map visit_of (flatten k ++ ns)) e refl
+first_is (bare kind.Neg) v empty ns e h w = absurd cc
+first_is (bare kind.Neg) v (tree l k empty) ns e h w =
+    opposite v (map visit_of (flatten (tree l k empty) ++ ns)) e ∙ ap (λ (xs : List Node). first_kind (visit_of (node_of l k) ∷ map visit_of xs)) (append_assoc (flatten k) [] ns) ∙ first_is l.payload (visit_of (node_of l k)) k ns refl w.0 w.1
+first_is (bare kind.Neg) v (tree l k (tree m j r)) ns e h w = absurd (omega (arith, eqb-true (arity (tree l k (tree m j r))) 1 h))
+first_is (bare k) v f ns e h w = no_opposite k v (map visit_of (flatten f ++ ns)) e refl ∙ sym (behind_kind k (plains f) refl (ap (takes (bare k)) (count-plains f) ∙ h))
+
+pub deciding_is : (p : Place) (l : Label) (k r : Forest) → AllExpressions (tree l k r) → deciding p (tree l k empty) ≡ deciding_kind p (grown l.payload (plains k))
+deciding_is p l k r h =
+    let behind = first_is l.payload (visit_of (node_of l k)) k [] refl h.0 h.1 in
+    let root_is = sym (grown_whole l k r h).kind-is in
+    λ i. if skips_opposites p then behind i else root_is i
+
+-- a root that is no opposite decides
+pub deciding_root : (p : Place) (v : Visit) (s : State) → holds v.id (forest s) ≡ true → v ≡ visit_at v.id (forest s) → (v.kind ≡ kind.Neg → ⊥) → v.kind ≡ deciding p (tree_at v.id (forest s))
+deciding_root p v s h e n =
+    let q = at v.id (forest s) h in
+    let k = kids_of v.id (forest s) in
+    let root_is : v.kind ≡ kind_of_payload q.label.payload = ap (λ (x : Visit). x.kind) e ∙ ap (λ (f : Forest). kind_of_payload (root_payload f)) q.tree-is in
+    let first = no_opposite (kind_of_payload q.label.payload) (visit_of (node_of q.label k)) (map visit_of (flatten k ++ [])) refl (sym (no_neg v.kind n ∙ ap is_neg_kind root_is)) in
+    root_is ∙ sym (ap (deciding p) q.tree-is ∙ (λ i. if skips_opposites p then first i else kind_of_payload q.label.payload) ∙ either (skips_opposites p) (kind_of_payload q.label.payload))
+  where
+    either : (b : Bool) (k : Kind) → (if b then k else k) ≡ k
+    either b k = grind arith
+
+    no_neg : (k : Kind) → (k ≡ kind.Neg → ⊥) → false ≡ is_neg_kind k
+    no_neg k n = grind arith
 
 -- ---- a tree in its place
 
-spread : (a b c d e : List ℕ) → ((a ++ (b ++ c)) ++ d) ++ e ≡ a ++ (b ++ (c ++ (d ++ e)))
-spread a b c d e = simp append_assoc
+closes_one : (k : Kind) → parentheses (kind_closing k + 1) ≡ parentheses (kind_closing k) ++ codes ")"
+closes_one k = grind arith
 
--- where it stands bare
-bare_text : (p : Place) (t : Tree) (r : Pending) (old : List ℕ) → admits (rule_of p) t ≡ true → r.place ≡ first_place (root_kind t) → r.closes ≡ is_root t
-    → ((old ++ (sign_before p ++ [])) ++ leaf_text t) ++ owed_text r (children_of t) ≡ old ++ text_there p t
-bare_text p t r old b e c = grind (arith, text_is, spread)
+bare_text : (sign leaf below close : List ℕ) → ((sign ++ []) ++ leaf) ++ (below ++ close) ≡ sign ++ (leaf ++ (below ++ close))
+bare_text sign leaf below close = simp (append-nil, append_assoc)
 
--- where it stands in parentheses
-enclosed_text : (p : Place) (t : Tree) (r : Pending) (old : List ℕ) → admits (rule_of p) t ≡ false → r.place ≡ first_place (root_kind t) → r.closes ≡ true
-    → ((old ++ (sign_before p ++ codes "(")) ++ leaf_text t) ++ owed_text r (children_of t) ≡ old ++ text_there p t
-enclosed_text p t r old b e c = grind (arith, not_root, text_is, append_assoc, spread)
+enclosed_text : (sign leaf below close : List ℕ) → ((sign ++ codes "(") ++ leaf) ++ (below ++ (close ++ codes ")")) ≡ sign ++ in_parentheses (leaf ++ (below ++ close))
+enclosed_text sign leaf below close = simp append_assoc
 
-is_root_is : (t : Tree) → is_root t ≡ is_root_kind (root_kind t)
-is_root_is t = grind arith
+node_text : (p : Place) (b : Bool) (k : Kind) (leaf below : List ℕ) → let body = leaf ++ (below ++ parentheses (kind_closing k)) in
+    (opening p b ++ leaf) ++ (below ++ parentheses (closing_of k b)) ≡ sign_before p ++ (if b then body else in_parentheses body)
+node_text p true k leaf below = bare_text (sign_before p) leaf below (parentheses (kind_closing k))
+node_text p false k leaf below = ap (λ (x : List ℕ). ((sign_before p ++ codes "(") ++ leaf) ++ (below ++ x)) (closes_one k) ∙ enclosed_text (sign_before p) leaf below (parentheses (kind_closing k))
 
-node_text : (p : Place) (t : Tree) (n : ℕ) (old : List ℕ) → let b = admits (rule_of p) t in ((old ++ opening p b) ++ leaf_text t) ++ owed_text (pending_below (root_kind t) n b) (children_of t) ≡ old ++ text_there p t
-node_text p t n old = by (admits (rule_of p) t) refl
-  where
-    by : (b : Bool) → admits (rule_of p) t ≡ b → ((old ++ opening p b) ++ leaf_text t) ++ owed_text (pending_below (root_kind t) n b) (children_of t) ≡ old ++ text_there p t
-    by true h = bare_text p t (pending_below (root_kind t) n true) old h refl (sym (is_root_is t))
-    by false h = enclosed_text p t (pending_below (root_kind t) n false) old h refl refl
+written_texts : (p : Place) (f : Forest) → AllExpressions f → AllNodes HoldsPayload f → written p f ≡ texts_from p (plains f)
+written_texts p empty h v = refl
+written_texts p (tree l k r) h v =
+    let t = grown l.payload (plains k) in
+    let g = grown_whole l k r h in
+    let x = kind_of_payload l.payload in
+    let below = written (first_place x) k in
+    let body : leaf_bytes l.payload ++ (below ++ parentheses (kind_closing x)) ≡ text t = sym (
+    text_is t ∙ rw (leaf_is l.payload (plains k) (ap (takes l.payload) (count-plains k) ∙ h.0) v.0, g.kind-is, g.children-are) (ap (λ (y : List ℕ). leaf_bytes l.payload ++ (y ++ parentheses (kind_closing x))) (sym (written_texts (first_place x) k h.1 v.1)))
+    ) in
+    let admitted : is_admitted p (tree l k empty) ≡ admits (rule_of p) t = ap (admits_kind p) (deciding_is p l k r h) ∙ sym (admits_is p t) in
+    let here = node_text p (is_admitted p (tree l k empty)) x (leaf_bytes l.payload) below ∙ (λ i. sign_before p ++ (if admitted i then body i else in_parentheses (body i))) in
+    λ i. here i ++ written_texts (next_place p) r h.2 v.2 i
 
--- what is written of its root, and what is owed then
-pub node_written : (p : Place) (t : Tree) (k : Kind) (n : ℕ) (b : Bool) (old : List ℕ) → b ≡ admits_kind p (deciding_kind p t) → k ≡ root_kind t
-    → ((old ++ opening p b) ++ leaf_text t) ++ owed_text (pending_below k n b) (children_of t) ≡ old ++ text_there p t
-node_written p t k n b old e h = rw (e ∙ sym (admits_is p t), h) (node_text p t n old)
-
--- which has room where the whole has
-pub node_room : (p : Place) (t : Tree) (b : Bool) → b ≡ admits_kind p (deciding_kind p t) → length (opening p b) + length (leaf_text t) ≤ length (text_there p t)
-node_room p t b e = grind arith
-
--- ---- opposites
-
--- where it is not of an opposite, it is the root's
-pub not_opposite : (t : Tree) → (root_kind t ≡ kind.Neg → ⊥) → kind_behind_opposites t ≡ root_kind t
-not_opposite t h = grind arith
+-- what is written of a face is its text
+pub written_text : (t : Forest) → arity t ≡ 1 → AllExpressions t → AllNodes HoldsPayload t → written WholeText t ≡ text (plain t)
+written_text t one h v = written_texts WholeText t h v ∙ ap (texts_from WholeText) (alone t one) ∙ append-nil (text (plain t))

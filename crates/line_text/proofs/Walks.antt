@@ -1,8 +1,9 @@
 -- A walk over the nodes of a tree that knows what is still to be written.
-use Rattle.std.proofs.Common.{◌≡◌, ◌∙◌, ℕ, suc, ◌+◌, ◌-◌, ◌<◌, ◌≤◌, List, [], ◌∷◌, ◌++◌, length, Bool, true, false, codes, refl, sym, ap, subst, arith, append_assoc, append-nil}
-use Rattle.line_text.proofs.Shared.{length-append, IsWritable, AreWritable, text, Tree, Trees, none, more, Visit, plain, plains, grown, children_of, AllExpressions, IsExpression, Label, Forest, empty, tree, join, arity, node_of, nodes_in, tree_at, visit_of, visits_of, AreFound, join-empty, alone, grown_whole, children_of-plain, IsSeen, found-join, visit_here, visits_left, visits_length, Pending, WholeText, text_there, texts_from, owed_text, next_place}
+use Rattle.std.proofs.Common.{◌≡◌, ◌∙◌, ℕ, suc, ◌+◌, ◌-◌, ◌<◌, ◌≤◌, List, [], ◌∷◌, ◌++◌, length, false, refl, sym, ap, subst, arith, append_assoc, append-nil}
+use Rattle.line_text.proofs.Shared.{length-append, kind_of_payload, Visit, Label, Forest, empty, tree, join, arity, kids, root_payload, nodes_in, tree_at, visits_of, AreFound, join-empty, IsSeen, found-join, visit_here, visits_left, visits_length, Pending, WholeText, front_of, is_admitted, written, owed_bytes, parentheses, closing_of, owes, pending_below, first_place, next_place}
+use Rattle.std.proofs.lemmas.Bool.Decides.{nat_tests}
 use Rattle.tree_handles.proofs.Visiting.{seen}
-use Rattle.line_text.proofs.Parts.{closing}
+use Rattle.line_text.proofs.Room.{closing_few, parentheses_length}
 
 -- what is pending of a node, and the children that it still waits for
 pub record Owed : Type 0 where
@@ -14,33 +15,205 @@ abbrev pub trees_owed : List Owed → Forest
 trees_owed [] = empty
 trees_owed (o ∷ os) = join o.trees (trees_owed os)
 
--- their texts
-abbrev pub owed_texts : List Owed → List ℕ
-owed_texts [] = []
-owed_texts (o ∷ os) = owed_text o.rest (plains o.trees) ++ owed_texts os
+-- what is written of them
+abbrev pub bytes_owed : List Owed → List ℕ
+bytes_owed [] = []
+bytes_owed (o ∷ os) = owed_bytes o.rest o.trees ++ bytes_owed os
 
--- they are trees of the language that can be written, as many as are left
+-- as many as are left, and few parentheses
+pub record IsOwed (rest : Pending) (trees : Forest) : Type 0 where
+  pub many : rest.left ≡ arity trees
+  pub closing : rest.closing ≤ 3
+
 abbrev pub AreOwed : List Owed → Type 0
 AreOwed [] = Unit {0}
-AreOwed (o ∷ os) = (o.rest.left ≡ arity o.trees) × AllExpressions o.trees × AreWritable (plains o.trees) × AreOwed os
+AreOwed (o ∷ os) = IsOwed o.rest o.trees × AreOwed os
 
 -- what is pending, the innermost last
 abbrev pub pending_of : List Owed → List Pending
 pending_of [] = []
 pending_of (o ∷ os) = pending_of os ++ o.rest ∷ []
 
--- a walk over so many nodes: behind the bytes so far come the texts that are owed
-pub record IsWalk (base : Forest) (total : ℕ) (left : List Visit) (pending : List Pending) (bytes whole : List ℕ) : Type 0 where
+-- a walk over so many nodes: behind the bytes so far comes what is owed to the innermost node and to those around it
+pub record IsWalk (base : Forest) (total : ℕ) (left : List Visit) (rest : Pending) (outer : List Pending) (bytes whole : List ℕ) : Type 0 where
+  pub trees : Forest
   pub owed : List Owed
-  pub pending-is : pending ≡ pending_of owed
-  pub left-are : left ≡ visits_of (trees_owed owed)
+  pub outer_is : outer ≡ pending_of owed
+  pub left_are : left ≡ visits_of (join trees (trees_owed owed))
+  pub found : AreFound base (join trees (trees_owed owed))
+  pub text : bytes ++ (owed_bytes rest trees ++ bytes_owed owed) ≡ whole
+  pub innermost : IsOwed rest trees
+  pub others : AreOwed owed
+  pub few : length outer + length left ≤ total
+
+-- at the start the whole text is owed
+pub start : {rest : Pending} (i : ℕ) (base : Forest) (bytes : List ℕ) → arity (tree_at i base) ≡ 1 → AreFound base (tree_at i base) → rest ≡ record { place = WholeText; left = 1; closing = 0 } → {outer : List Pending} → outer ≡ []
+    → IsWalk base (nodes_in (tree_at i base)) (visits_of (tree_at i base)) rest outer bytes (bytes ++ written WholeText (tree_at i base))
+start i base bytes one f e o =
+    let t = tree_at i base in
+    record {
+      trees = t;
+      owed = [];
+      outer_is = o;
+      left_are = ap visits_of (sym (join-empty t));
+      found = subst (AreFound base) (sym (join-empty t)) f;
+      text = rw e (simp append-nil);
+      innermost = record { many = ap (λ (p : Pending). p.left) e ∙ sym one; closing = omega (arith, ap (λ (p : Pending). p.closing) e) };
+      others = tt;
+      few = omega (arith, visits_length t, ap length o);
+    }
+
+-- where a child is left, a node is left
+pub some_left : {base : Forest} {total : ℕ} {left : List Visit} {rest : Pending} {outer : List Pending} {bytes whole : List ℕ} → IsWalk base total left rest outer bytes whole → 0 < rest.left → 0 < length left
+some_left {left = left} {rest = rest} w some = by w.trees w.innermost.many w.left_are
+  where
+    by : (f : Forest) → rest.left ≡ arity f → left ≡ visits_of (join f (trees_owed w.owed)) → 0 < length left
+    by empty a n = absurd (omega (arith, a))
+    by (tree l b f) a n = omega (arith, ap length n)
+
+-- ---- the next child is entered
+
+pub record IsEntered (base : Forest) (total : ℕ) (v : Visit) (left : List Visit) (rest : Pending) (outer : List Pending) (bytes whole : List ℕ) : Type 0 where
+  pub label : Label
+  pub below : Forest
+  pub others : Forest
+  pub owed : List Owed
+  pub seen_here : IsSeen v label below base
+  pub outer_is : outer ≡ pending_of owed
+  pub left_are : left ≡ visits_of (join below (join others (trees_owed owed)))
+  pub found : AreFound base (join below (join others (trees_owed owed)))
+  pub text : bytes ++ (owed_bytes rest (tree label below others) ++ bytes_owed owed) ≡ whole
+  pub innermost : IsOwed rest (tree label below others)
+  pub others_are : AreOwed owed
+  pub few : suc (length outer + length left) ≤ total
+
+pub entered : {base : Forest} {total : ℕ} {v : Visit} {xs left : List Visit} {rest : Pending} {outer : List Pending} {bytes whole : List ℕ} → IsWalk base total xs rest outer bytes whole → 0 < rest.left → xs ≡ v ∷ left → IsEntered base total v left rest outer bytes whole
+entered {base = base} {total = total} {v = v} {xs = xs} {left = left} {rest = rest} {outer = outer} {bytes = bytes} {whole = whole} w some e = by w.trees w.left_are w.found w.text w.innermost
+  where
+    by : (f : Forest) → xs ≡ visits_of (join f (trees_owed w.owed)) → AreFound base (join f (trees_owed w.owed)) → bytes ++ (owed_bytes rest f ++ bytes_owed w.owed) ≡ whole → IsOwed rest f → IsEntered base total v left rest outer bytes whole
+    by empty n f t a = absurd (omega (arith, a.many))
+    by (tree l b f) n g t a =
+        let others = join f (trees_owed w.owed) in
+        record {
+          label = l;
+          below = b;
+          others = f;
+          owed = w.owed;
+          seen_here = seen l b others g (visit_here l b others (sym n ∙ e));
+          outer_is = w.outer_is;
+          left_are = visits_left l b others (sym n ∙ e);
+          found = found-join base b others g.1 g.2;
+          text = t;
+          innermost = a;
+          others_are = w.others;
+          few = omega (arith, w.few, ap length e);
+        }
+
+spread : (bytes front below close ts end rest : List ℕ) → bytes ++ ((((front ++ (below ++ close)) ++ ts) ++ end) ++ rest) ≡ (bytes ++ front) ++ ((below ++ close) ++ ((ts ++ end) ++ rest))
+spread bytes front below close ts end rest = simp append_assoc
+
+module _ {base : Forest} {total : ℕ} {v : Visit} {left : List Visit} {rest : Pending} {outer : List Pending} {bytes whole : List ℕ} (e : IsEntered base total v left rest outer bytes whole) where
+  abbrev entered_tree : Forest
+  entered_tree = tree_at v.id base
+
+  -- what is pending of the node, and of the one around it
+  abbrev below_it : Pending
+  below_it = pending_below v.kind v.children (is_admitted rest.place entered_tree)
+
+  abbrev around_it : Pending
+  around_it = record { place = next_place rest.place; left = rest.left - 1; closing = rest.closing }
+
+  kind_is : v.kind ≡ kind_of_payload e.label.payload
+  kind_is = ap (λ (x : Visit). x.kind) e.seen_here.visit-is ∙ ap (λ (f : Forest). kind_of_payload (root_payload f)) e.seen_here.tree-is
+
+  children_are : v.children ≡ arity e.below
+  children_are = ap (λ (x : Visit). x.children) e.seen_here.visit-is ∙ ap (λ (f : Forest). arity (kids f)) e.seen_here.tree-is
+
+  text_is : (bytes ++ front_of rest.place entered_tree) ++ (owed_bytes below_it e.below ++ (owed_bytes around_it e.others ++ bytes_owed e.owed)) ≡ whole
+  text_is =
+      let t = tree e.label e.below empty in
+      let k = kind_of_payload e.label.payload in
+      rw (e.seen_here.tree-is, kind_is)
+      (sym (spread bytes (front_of rest.place t) (written (first_place k) e.below) (parentheses (closing_of k (is_admitted rest.place t))) (written (next_place rest.place) e.others) (parentheses rest.closing) (bytes_owed e.owed)) ∙ e.text)
+
+  pub room : length bytes + length (front_of rest.place entered_tree) ≤ length whole
+  room = omega (arith, ap length text_is, length-append (bytes ++ front_of rest.place entered_tree) (owed_bytes below_it e.below ++ (owed_bytes around_it e.others ++ bytes_owed e.owed)), length-append bytes (front_of rest.place entered_tree))
+
+  -- when its root is written, its children are owed
+  pub goes_down : (b : Pending) (new : List ℕ) (all : List Pending) → b ≡ below_it → new ≡ bytes ++ front_of rest.place entered_tree → all ≡ outer ++ around_it ∷ [] → IsWalk base total left b all new whole
+  goes_down b new all p q o = record {
+    trees = e.below;
+    owed = record { rest = around_it; trees = e.others } ∷ e.owed;
+    outer_is = o ∙ ap (λ (ps : List Pending). ps ++ around_it ∷ []) e.outer_is;
+    left_are = e.left_are;
+    found = e.found;
+    text = rw (p, q) text_is;
+    innermost = record {
+      many = ap (λ (x : Pending). x.left) p ∙ children_are;
+      closing = omega (arith, ap (λ (x : Pending). x.closing) p, closing_few v.kind (is_admitted rest.place entered_tree));
+    };
+    others = (record { many = omega (arith, e.innermost.many); closing = e.innermost.closing }, e.others_are);
+    few = omega (arith, e.few, ap length o, length-append outer (around_it ∷ []));
+  }
+
+  -- and where nothing is owed to it, the next child is
+  pub goes_on : (b : Pending) (new : List ℕ) (r : Pending) → b ≡ below_it → b.left ≡ 0 → b.closing ≡ 0 → new ≡ bytes ++ front_of rest.place entered_tree → r ≡ around_it → IsWalk base total left r outer new whole
+  goes_on b new r p x y q o = by e.below (sym (sym x ∙ ap (λ (z : Pending). z.left) p ∙ children_are)) e.left_are e.found text_is
+    where
+      by : (f : Forest) → arity f ≡ 0 → left ≡ visits_of (join f (join e.others (trees_owed e.owed))) → AreFound base (join f (join e.others (trees_owed e.owed)))
+          → (bytes ++ front_of rest.place entered_tree) ++ (owed_bytes below_it f ++ (owed_bytes around_it e.others ++ bytes_owed e.owed)) ≡ whole → IsWalk base total left r outer new whole
+      by (tree l k g) z n f t = absurd (omega (arith, z))
+      by empty z n f t =
+          let none : closing_of v.kind (is_admitted rest.place entered_tree) ≡ 0 = ap (λ (u : Pending). u.closing) (sym p) ∙ y in
+          record {
+            trees = e.others;
+            owed = e.owed;
+            outer_is = e.outer_is;
+            left_are = n;
+            found = f;
+            text = rw (q, o) (ap (λ (m : ℕ). (bytes ++ front_of rest.place entered_tree) ++ (parentheses m ++ (owed_bytes around_it e.others ++ bytes_owed e.owed))) (sym none) ∙ t);
+            innermost = record { many = ap (λ (u : Pending). u.left) o ∙ omega (arith, e.innermost.many); closing = omega (arith, ap (λ (u : Pending). u.closing) o, e.innermost.closing) };
+            others = e.others_are;
+            few = omega (arith, e.few);
+          }
+
+pub nothing_owed : (b : Pending) → owes b ≡ false → (b.left ≡ 0) × (b.closing ≡ 0)
+nothing_owed b h = grind (arith, nat_tests)
+
+-- ---- the innermost node is closed
+
+pub record IsClosed (base : Forest) (total : ℕ) (left : List Visit) (rest : Pending) (outer : List Pending) (bytes whole : List ℕ) : Type 0 where
+  pub owed : List Owed
+  pub outer_is : outer ≡ pending_of owed
+  pub left_are : left ≡ visits_of (trees_owed owed)
   pub found : AreFound base (trees_owed owed)
-  pub text : bytes ++ owed_texts owed ≡ whole
-  pub trees : AreOwed owed
-  pub few : length pending + length left ≤ total + 1
+  pub text : (bytes ++ parentheses rest.closing) ++ bytes_owed owed ≡ whole
+  pub closing : rest.closing ≤ 3
+  pub others : AreOwed owed
+  pub few : length outer + length left ≤ total
+  pub room : length bytes + rest.closing ≤ length whole
+
+pub closed : {base : Forest} {total : ℕ} {left : List Visit} {rest : Pending} {outer : List Pending} {bytes whole : List ℕ} → IsWalk base total left rest outer bytes whole → rest.left ≡ 0 → IsClosed base total left rest outer bytes whole
+closed {base = base} {total = total} {left = left} {rest = rest} {outer = outer} {bytes = bytes} {whole = whole} w z = by w.trees w.left_are w.found w.text w.innermost
+  where
+    by : (f : Forest) → left ≡ visits_of (join f (trees_owed w.owed)) → AreFound base (join f (trees_owed w.owed)) → bytes ++ (owed_bytes rest f ++ bytes_owed w.owed) ≡ whole → IsOwed rest f → IsClosed base total left rest outer bytes whole
+    by (tree l b f) n g t a = absurd (omega (arith, a.many, z))
+    by empty n g t a =
+        let text : (bytes ++ parentheses rest.closing) ++ bytes_owed w.owed ≡ whole = append_assoc bytes (parentheses rest.closing) (bytes_owed w.owed) ∙ t in
+        record {
+          owed = w.owed;
+          outer_is = w.outer_is;
+          left_are = n;
+          found = g;
+          text = text;
+          closing = a.closing;
+          others = w.others;
+          few = w.few;
+          room = omega (arith, ap length text, length-append (bytes ++ parentheses rest.closing) (bytes_owed w.owed), length-append bytes (parentheses rest.closing), parentheses_length rest.closing a.closing);
+        }
 
 -- the last of two equal lists
-snoc_same : (xs ys : List Pending) (x y : Pending) → xs ++ x ∷ [] ≡ ys ++ y ∷ [] → (xs ≡ ys) × (x ≡ y)
+pub snoc_same : {A : Type 0} (xs ys : List A) (x y : A) → xs ++ x ∷ [] ≡ ys ++ y ∷ [] → (xs ≡ ys) × (x ≡ y)
 snoc_same [] [] x y e = (refl, cc)
 snoc_same [] (b ∷ ys) x y e = absurd (omega (arith, ap length e, length-append ys (y ∷ [])))
 snoc_same (a ∷ xs) [] x y e = absurd (omega (arith, ap length e, length-append xs (x ∷ [])))
@@ -48,187 +221,33 @@ snoc_same (a ∷ xs) (b ∷ ys) x y e =
     let tails : xs ++ x ∷ [] ≡ ys ++ y ∷ [] = cc in
     let heads : a ≡ b = cc in
     let same = snoc_same xs ys x y tails in
-    (ap (λ (z : Pending). z ∷ xs) heads ∙ ap (λ (zs : List Pending). b ∷ zs) same.0, same.1)
+    (ap (λ z. z ∷ xs) heads ∙ ap (λ zs. b ∷ zs) same.0, same.1)
 
--- ---- the innermost that is pending
-
-pub record IsTaken (base : Forest) (total : ℕ) (left : List Visit) (r : Pending) (pending : List Pending) (bytes whole : List ℕ) : Type 0 where
-  pub trees : Forest
-  pub owed : List Owed
-  pub pending-is : pending ≡ pending_of owed
-  pub left-are : left ≡ visits_of (join trees (trees_owed owed))
-  pub found : AreFound base (join trees (trees_owed owed))
-  pub text : bytes ++ (owed_text r (plains trees) ++ owed_texts owed) ≡ whole
-  pub many : r.left ≡ arity trees
-  pub expressions : AllExpressions trees
-  pub writable : AreWritable (plains trees)
-  pub others : AreOwed owed
-  pub few : length pending + length left ≤ total
-
-pub taken : {base : Forest} {total : ℕ} {left : List Visit} {all : List Pending} {bytes whole : List ℕ} (r : Pending) (pending : List Pending) → IsWalk base total left all bytes whole → all ≡ pending ++ r ∷ [] → IsTaken base total left r pending bytes whole
-taken {base = base} {total = total} {left = left} {all = all} {bytes = bytes} {whole = whole} r pending w e = by w.owed w.pending-is w.left-are w.found w.text w.trees
+-- the node around it goes on
+pub goes_up : {base : Forest} {total : ℕ} {left : List Visit} {rest : Pending} {outer : List Pending} {bytes whole : List ℕ} (around : Pending) (popped : List Pending) (new : List ℕ)
+    → IsClosed base total left rest outer bytes whole → outer ≡ popped ++ around ∷ [] → new ≡ bytes ++ parentheses rest.closing → IsWalk base total left around popped new whole
+goes_up {base = base} {total = total} {left = left} {rest = rest} {outer = outer} {bytes = bytes} {whole = whole} around popped new k e q = by k.owed k.outer_is k.left_are k.found k.text k.others
   where
-    few : length pending + length left ≤ total
-    few = omega (arith, w.few, ap length e, length-append pending (r ∷ []))
-
-    by : (os : List Owed) → all ≡ pending_of os → left ≡ visits_of (trees_owed os) → AreFound base (trees_owed os) → bytes ++ owed_texts os ≡ whole → AreOwed os → IsTaken base total left r pending bytes whole
-    by [] p n f t a = absurd (omega (arith, ap length (sym e ∙ p), length-append pending (r ∷ [])))
+    by : (os : List Owed) → outer ≡ pending_of os → left ≡ visits_of (trees_owed os) → AreFound base (trees_owed os) → (bytes ++ parentheses rest.closing) ++ bytes_owed os ≡ whole → AreOwed os → IsWalk base total left around popped new whole
+    by [] p n f t a = absurd (omega (arith, ap length (sym e ∙ p), length-append popped (around ∷ [])))
     by (o ∷ os) p n f t a =
-        let same = snoc_same pending (pending_of os) r o.rest (sym e ∙ p) in
+        let same = snoc_same popped (pending_of os) around o.rest (sym e ∙ p) in
         record {
           trees = o.trees;
           owed = os;
-          pending-is = same.0;
-          left-are = n;
+          outer_is = same.0;
+          left_are = n;
           found = f;
-          text = ap (λ (x : Pending). bytes ++ (owed_text x (plains o.trees) ++ owed_texts os)) same.1 ∙ t;
-          many = ap (λ (x : Pending). x.left) same.1 ∙ a.0;
-          expressions = a.1;
-          writable = a.2;
-          others = a.3;
-          few = few;
+          text = rw (q, same.1) t;
+          innermost = subst (λ (x : Pending). IsOwed x o.trees) (sym same.1) a.0;
+          others = a.1;
+          few = omega (arith, k.few, ap length e, length-append popped (around ∷ []));
         }
-
--- ---- the steps
-
--- at the start the whole text is owed
-pub start : {r : Pending} (i : ℕ) (base : Forest) (bytes : List ℕ) → IsExpression i base → arity (tree_at i base) ≡ 1 → IsWritable (plain (tree_at i base)) → AreFound base (tree_at i base) → r ≡ record { place = WholeText; left = 1; closes = false }
-    → IsWalk base (nodes_in (tree_at i base)) (visits_of (tree_at i base)) (r ∷ []) bytes (bytes ++ text (plain (tree_at i base)))
-start {r = r} i base bytes x one w f e =
-    let t = tree_at i base in
-    let plain-is : plains t ≡ more (plain t) none = alone t one in
-    let owed : owed_text r (plains t) ++ [] ≡ text (plain t) = rw (e, plain-is) (simp append-nil) in
-    record {
-      owed = record { rest = r; trees = t } ∷ [];
-      pending-is = refl;
-      left-are = ap visits_of (sym (join-empty t));
-      found = subst (AreFound base) (sym (join-empty t)) f;
-      text = ap (λ (y : List ℕ). bytes ++ y) owed;
-      trees = (ap (λ (y : Pending). y.left) e ∙ sym one, x.whole, subst AreWritable (sym plain-is) (w, tt), tt);
-      few = omega (arith, visits_length t);
-    }
-
--- where no child is left, it is closed
-pub closed : {base : Forest} {total : ℕ} {left : List Visit} {r : Pending} {pending : List Pending} {bytes more_bytes whole : List ℕ} → IsTaken base total left r pending bytes whole → r.left ≡ 0
-    → more_bytes ≡ bytes ++ closing r.closes → IsWalk base total left pending more_bytes whole
-closed {base = base} {total = total} {left = left} {r = r} {pending = pending} {bytes = bytes} {more_bytes = more_bytes} {whole = whole} k z e = by k.trees k.many k.left-are k.found k.text
-  where
-    by : (f : Forest) → r.left ≡ arity f → left ≡ visits_of (join f (trees_owed k.owed)) → AreFound base (join f (trees_owed k.owed)) → bytes ++ (owed_text r (plains f) ++ owed_texts k.owed) ≡ whole → IsWalk base total left pending more_bytes whole
-    by empty a n f t = record {
-      owed = k.owed;
-      pending-is = k.pending-is;
-      left-are = n;
-      found = f;
-      text = ap (λ (x : List ℕ). x ++ owed_texts k.owed) e ∙ append_assoc bytes (closing r.closes) (owed_texts k.owed) ∙ t;
-      trees = k.others;
-      few = omega (arith, k.few);
-    }
-    by (tree l b f) a n g t = absurd (omega (arith, a, z))
-
--- the children of a tree that can be written can
-writable_children : (t : Tree) → IsWritable t → AreWritable (children_of t)
-writable_children t w = grind arith
-
--- where one is left, a node is left
-pub some_left : {base : Forest} {total : ℕ} {left : List Visit} {r : Pending} {pending : List Pending} {bytes whole : List ℕ} → IsTaken base total left r pending bytes whole → 0 < r.left → 0 < length left
-some_left {left = left} {r = r} k some = by k.trees k.many k.left-are
-  where
-    by : (f : Forest) → r.left ≡ arity f → left ≡ visits_of (join f (trees_owed k.owed)) → 0 < length left
-    by empty a n = absurd (omega (arith, a))
-    by (tree l b f) a n = omega (arith, ap length n)
-
--- and it is the next child's
-pub record IsEntered (base : Forest) (total : ℕ) (v : Visit) (left : List Visit) (r : Pending) (pending : List Pending) (bytes whole : List ℕ) : Type 0 where
-  pub label : Label
-  pub below : Forest
-  pub others : Forest
-  pub owed : List Owed
-  pub visit-is : v ≡ visit_of (node_of label below)
-  pub seen_here : IsSeen v label below base
-  pub expression : IsExpression v.id base
-  pub pending-is : pending ≡ pending_of owed
-  pub left-are : left ≡ visits_of (join below (join others (trees_owed owed)))
-  pub found : AreFound base (join below (join others (trees_owed owed)))
-  pub text : bytes ++ (owed_text r (more (plain (tree_at v.id base)) (plains others)) ++ owed_texts owed) ≡ whole
-  pub many : r.left ≡ suc (arity others)
-  pub expressions : AllExpressions (tree label below others)
-  pub writable : AreWritable (plains (tree label below others))
-  pub others-are : AreOwed owed
-  pub few : suc (length pending + length left) ≤ total
-
-pub entered : {base : Forest} {total : ℕ} {v : Visit} {xs left : List Visit} {r : Pending} {pending : List Pending} {bytes whole : List ℕ} → IsTaken base total xs r pending bytes whole → 0 < r.left → xs ≡ v ∷ left → IsEntered base total v left r pending bytes whole
-entered {base = base} {total = total} {v = v} {xs = xs} {left = left} {r = r} {pending = pending} {bytes = bytes} {whole = whole} k some e = by k.trees k.many k.left-are k.found k.text k.expressions k.writable
-  where
-    by : (f : Forest) → r.left ≡ arity f → xs ≡ visits_of (join f (trees_owed k.owed)) → AreFound base (join f (trees_owed k.owed)) → bytes ++ (owed_text r (plains f) ++ owed_texts k.owed) ≡ whole → AllExpressions f → AreWritable (plains f)
-        → IsEntered base total v left r pending bytes whole
-    by empty a n f t x w = absurd (omega (arith, a))
-    by (tree l b f) a n g t x w =
-        let others = join f (trees_owed k.owed) in
-        let is : v ≡ visit_of (node_of l b) = visit_here l b others (sym n ∙ e) in
-        let s = seen l b others g is in
-        record {
-          label = l;
-          below = b;
-          others = f;
-          owed = k.owed;
-          visit-is = is;
-          seen_here = s;
-          expression = record { live = s.live; whole = subst AllExpressions (sym s.tree-is) (x.0, x.1, tt) };
-          pending-is = k.pending-is;
-          left-are = visits_left l b others (sym n ∙ e);
-          found = found-join base b others g.1 g.2;
-          text = ap (λ (u : Forest). bytes ++ (owed_text r (more (plain u) (plains f)) ++ owed_texts k.owed)) s.tree-is ∙ t;
-          many = a;
-          expressions = x;
-          writable = w;
-          others-are = k.others;
-          few = omega (arith, k.few, ap length e);
-        }
-
-spread : (bytes t ts close rest : List ℕ) → bytes ++ (((t ++ ts) ++ close) ++ rest) ≡ (bytes ++ t) ++ ((ts ++ close) ++ rest)
-spread bytes t ts close rest = simp append_assoc
-
-pub room : {base : Forest} {total : ℕ} {v : Visit} {left : List Visit} {r : Pending} {pending : List Pending} {bytes whole : List ℕ} → IsEntered base total v left r pending bytes whole
-    → length bytes + length (text_there r.place (plain (tree_at v.id base))) ≤ length whole
-room {base = base} {v = v} {r = r} {bytes = bytes} e =
-    let t = text_there r.place (plain (tree_at v.id base)) in
-    let ts = texts_from (next_place r.place) (plains e.others) in
-    omega (arith, ap length (sym (spread bytes t ts (closing r.closes) (owed_texts e.owed)) ∙ e.text), length-append (bytes ++ t) ((ts ++ closing r.closes) ++ owed_texts e.owed), length-append bytes t)
-
--- a closing parenthesis has room
-pub closing_room : {base : Forest} {total : ℕ} {left : List Visit} {r : Pending} {pending : List Pending} {bytes whole : List ℕ} → IsTaken base total left r pending bytes whole → r.closes ≡ true → length bytes + 1 ≤ length whole
-closing_room {r = r} {bytes = bytes} {whole = whole} k c =
-    let ts = texts_from r.place (plains k.trees) in
-    let text : bytes ++ ((ts ++ codes ")") ++ owed_texts k.owed) ≡ whole = ap (λ (b : Bool). bytes ++ ((ts ++ closing b) ++ owed_texts k.owed)) (sym c) ∙ k.text in
-    omega (arith, ap length text, length-append bytes ((ts ++ codes ")") ++ owed_texts k.owed), length-append (ts ++ codes ")") (owed_texts k.owed), length-append ts (codes ")"))
-
--- and when its root is written, its children are owed
-pub below : {base : Forest} {total : ℕ} {v : Visit} {left : List Visit} {r : Pending} {pending : List Pending} {bytes whole : List ℕ} (b : Pending) (new : List ℕ) → IsEntered base total v left r pending bytes whole
-    → b.left ≡ v.children → new ++ owed_text b (children_of (plain (tree_at v.id base))) ≡ bytes ++ text_there r.place (plain (tree_at v.id base))
-    → IsWalk base total left ((pending ++ (record { place = next_place r.place; left = r.left - 1; closes = r.closes }) ∷ []) ++ b ∷ []) new whole
-below {base = base} {v = v} {left = left} {r = r} {pending = pending} {bytes = bytes} b new e many text =
-    let wf : Pending = record { place = next_place r.place; left = r.left - 1; closes = r.closes } in
-    let whole-tree : AllExpressions (tree e.label e.below e.others) = e.expressions in
-    let t = text_there r.place (plain (tree_at v.id base)) in
-    let ts = texts_from (next_place r.place) (plains e.others) in
-    let kids-are : children_of (plain (tree_at v.id base)) ≡ plains e.below = ap (λ (u : Forest). children_of (plain u)) e.seen_here.tree-is ∙ children_of-plain (tree e.label e.below empty) (whole-tree.0, whole-tree.1, tt) in
-    let under : AreWritable (plains e.below) = subst AreWritable (grown_whole e.label e.below e.others whole-tree).children-are (writable_children (grown e.label.payload (plains e.below)) e.writable.0) in
-    record {
-      owed = record { rest = b; trees = e.below } ∷ record { rest = wf; trees = e.others } ∷ e.owed;
-      pending-is = ap (λ (ps : List Pending). (ps ++ wf ∷ []) ++ b ∷ []) e.pending-is;
-      left-are = e.left-are;
-      found = e.found;
-      text = sym (append_assoc new (owed_text b (plains e.below)) (owed_text wf (plains e.others) ++ owed_texts e.owed))
-          ∙ ap (λ (y : List ℕ). y ++ (owed_text wf (plains e.others) ++ owed_texts e.owed)) (ap (λ (us : Trees). new ++ owed_text b us) (sym kids-are) ∙ text)
-          ∙ sym (spread bytes t ts (closing r.closes) (owed_texts e.owed)) ∙ e.text;
-      trees = (many ∙ ap (λ (y : Visit). y.children) e.visit-is, whole-tree.1, under, (omega (arith, e.many), whole-tree.2, e.writable.1, e.others-are));
-      few = omega (arith, e.few, length-append (pending ++ wf ∷ []) (b ∷ []), length-append pending (wf ∷ []));
-    }
 
 -- at the end nothing is owed
-pub done : {base : Forest} {total : ℕ} {left : List Visit} {pending : List Pending} {bytes whole : List ℕ} → IsWalk base total left pending bytes whole → length pending ≡ 0 → bytes ≡ whole
-done {pending = pending} {bytes = bytes} {whole = whole} w z = by w.owed w.pending-is w.text
+pub done : {base : Forest} {total : ℕ} {left : List Visit} {rest : Pending} {outer : List Pending} {bytes whole : List ℕ} (new : List ℕ) → IsClosed base total left rest outer bytes whole → length outer ≡ 0 → new ≡ bytes ++ parentheses rest.closing → new ≡ whole
+done {rest = rest} {outer = outer} {bytes = bytes} {whole = whole} new k z q = by k.owed k.outer_is k.text
   where
-    by : (os : List Owed) → pending ≡ pending_of os → bytes ++ owed_texts os ≡ whole → bytes ≡ whole
-    by [] p t = sym (append-nil bytes) ∙ t
+    by : (os : List Owed) → outer ≡ pending_of os → (bytes ++ parentheses rest.closing) ++ bytes_owed os ≡ whole → new ≡ whole
+    by [] p t = q ∙ sym (append-nil (bytes ++ parentheses rest.closing)) ∙ t
     by (o ∷ os) p t = absurd (omega (arith, ap length p, length-append (pending_of os) (o.rest ∷ [])))

@@ -1,4 +1,4 @@
 pub mod Content
 pub mod Places
-pub mod Pending
+pub mod Writing
 pub mod Lengths

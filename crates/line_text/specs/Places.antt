@@ -7,11 +7,10 @@ use Rattle.calc_language.specs.Texts as texts
 use Rattle.calc_language.specs.Tokens.{times_sign, root_sign}
 use Rattle.calc_terms.specs.Trees.{Tree, neg, root_kind}
 use Rattle.line_text.specs.declared.place.Place.{Place}
-use Rattle.line_text.specs.declared.place.Place.TheVariants.{WholeText, FirstOfSum, LaterOfSum, LeftOfDifference, RightOfDifference, UnderSign, FirstOfProduct, LaterOfProduct, LeftOfQuotient, RightOfQuotient, Base, Exponent, UnderRoot}
+use Rattle.line_text.specs.declared.place.Place.TheVariants.{WholeText, FirstOfSum, LaterOfSum, LeftOfDifference, RightOfDifference, UnderSign, FirstOfProduct, LaterOfProduct, LeftOfQuotient, RightOfQuotient, Base, Exponent, UnderRoot, AboveBar, BelowBar, Raised, InParentheses}
 
 -- the place of the text rules
 abbrev pub rule_of : Place → texts.Place
-rule_of WholeText = whole_text
 rule_of FirstOfSum = first_of_sum
 rule_of LaterOfSum = later_of_sum
 rule_of LeftOfDifference = left_of_difference
@@ -23,7 +22,7 @@ rule_of LeftOfQuotient = left_of_quotient
 rule_of RightOfQuotient = later_of_product
 rule_of Base = base
 rule_of Exponent = exponent
-rule_of UnderRoot = whole_text
+rule_of p = whole_text
 
 -- what is written before a tree there
 abbrev pub sign_before : Place → List ℕ
@@ -34,6 +33,10 @@ sign_before LaterOfProduct = times_sign
 sign_before RightOfQuotient = codes "/"
 sign_before Exponent = codes "^"
 sign_before UnderRoot = root_sign ++ codes "("
+sign_before AboveBar = codes "(("
+sign_before BelowBar = codes ")/("
+sign_before Raised = codes "^("
+sign_before InParentheses = codes "("
 sign_before p = []
 
 -- where the next child of the same node stands
@@ -43,6 +46,7 @@ next_place LeftOfDifference = RightOfDifference
 next_place FirstOfProduct = LaterOfProduct
 next_place LeftOfQuotient = RightOfQuotient
 next_place Base = Exponent
+next_place AboveBar = BelowBar
 next_place p = p
 
 -- where the first child of a node stands
@@ -54,6 +58,10 @@ first_place kind.Root = UnderRoot
 first_place kind.Neg = UnderSign
 first_place kind.Sub = LeftOfDifference
 first_place kind.Div = LeftOfQuotient
+first_place kind.Fraction = AboveBar
+first_place kind.Raised = Raised
+first_place kind.Radical = UnderRoot
+first_place kind.Paren = InParentheses
 first_place k = WholeText
 
 -- how tightly a root of a kind binds
@@ -74,9 +82,9 @@ abbrev pub is_div_kind : Kind → Bool
 is_div_kind kind.Div = true
 is_div_kind k = false
 
-abbrev pub is_root_kind : Kind → Bool
-is_root_kind kind.Root = true
-is_root_kind k = false
+abbrev pub is_neg_kind : Kind → Bool
+is_neg_kind kind.Neg = true
+is_neg_kind k = false
 
 -- the place looks through opposites at what they are of
 abbrev pub skips_opposites : Place → Bool
@@ -96,10 +104,8 @@ deciding_kind p t = if skips_opposites p then kind_behind_opposites t else root_
 
 -- trees for which that kind decides need no parentheses there
 abbrev pub admits_kind : Place → Kind → Bool
-admits_kind WholeText k = true
 admits_kind FirstOfSum k = nat_le 1 (level_of k) || is_sub_kind k
 admits_kind LaterOfSum k = nat_le 1 (level_of k)
-admits_kind LeftOfDifference k = true
 admits_kind RightOfDifference k = nat_le 1 (level_of k)
 admits_kind UnderSign k = nat_le 1 (level_of k)
 admits_kind FirstOfProduct k = nat_le 3 (level_of k) || is_div_kind k
@@ -108,4 +114,4 @@ admits_kind LeftOfQuotient k = nat_le 2 (level_of k)
 admits_kind RightOfQuotient k = nat_le 3 (level_of k)
 admits_kind Base k = nat_le 4 (level_of k)
 admits_kind Exponent k = nat_le 3 (level_of k)
-admits_kind UnderRoot k = true
+admits_kind p k = true

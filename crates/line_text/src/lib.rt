@@ -8,9 +8,9 @@ mod text;
 mod writing;
 
 pub use laws::texts_are_short;
-pub use place::level;
+pub use place::{Place, level};
 pub use text::Text;
-pub use writing::write_text;
+pub use writing::{deciding_kind, write_leaf, write_text, write_tree};
 
 #[cfg(test)]
 mod tests;

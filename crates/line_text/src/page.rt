@@ -63,6 +63,14 @@ impl Page {
         self.bytes.extend_from_slice(piece).unwrap();
     }
 
+    /// Appends one byte.
+    pub(crate) fn push_byte(&mut self, byte: u8)
+        requires { 1 ≤ spare_of self.old }
+        ensures { self.new ≡ extended self.old (byte ∷ []) }
+    {
+        self.bytes.push(byte).unwrap();
+    }
+
     /// Writes the bytes and a newline to a sink, as one piece.
     pub(crate) fn write_line<K: Sink>(&mut self, sink: &mut K) -> Result<(), Failed>
         ensures appended { OnOk result (Appends (K.taken sink.old) (K.taken sink.new) (self.old.bytes ++ 10 ∷ [])) }

@@ -1,12 +1,13 @@
 //! Where trees stand in a text.
-ghost use Rattle.std.specs.Prelude.{◌≡◌, ◌<◌, ◌-◌, false};
-ghost use Rattle.line_text.specs.Places.{sign_before, next_place, first_place, level_of, admits_kind, skips_opposites as skips_opposites_there};
+ghost use Rattle.std.specs.Prelude.{◌≡◌, ◌<◌, ◌-◌};
+ghost use Rattle.line_text.specs.Places.{next_place, first_place, level_of, admits_kind, skips_opposites as skips_opposites_there};
+ghost use Rattle.line_text.specs.Writing.{kind_closing};
 
 use calc_terms::Kind;
 
-/// Where a tree stands: in the whole text, or below a node of some kind.
+/// Where a tree stands: in the whole text, or below a node of some kind. The trees of a row stand as the whole text does.
 #[derive(Clone, Copy, Debug, PartialEq, Eq)]
-pub(crate) enum Place {
+pub enum Place {
     WholeText,
     FirstOfSum,
     LaterOfSum,
@@ -20,27 +21,34 @@ pub(crate) enum Place {
     Base,
     Exponent,
     UnderRoot,
+    AboveBar,
+    BelowBar,
+    Raised,
+    InParentheses,
 }
 
 impl Place {
     /// Where the first child of a node stands.
-    pub(crate) fn first_below(kind: Kind) -> Place
+    pub fn first_below(kind: Kind) -> Place
         ensures { result ≡ first_place kind }
     {
         match kind {
             Kind::Add => Place::FirstOfSum,
             Kind::Mult => Place::FirstOfProduct,
             Kind::Pow => Place::Base,
-            Kind::Root => Place::UnderRoot,
+            Kind::Root | Kind::Radical => Place::UnderRoot,
             Kind::Neg => Place::UnderSign,
             Kind::Sub => Place::LeftOfDifference,
             Kind::Div => Place::LeftOfQuotient,
+            Kind::Fraction => Place::AboveBar,
+            Kind::Raised => Place::Raised,
+            Kind::Paren => Place::InParentheses,
             _ => Place::WholeText,
         }
     }
 
     /// Where the next child of the same node stands.
-    pub(crate) fn next(self) -> Place
+    pub fn next(self) -> Place
         ensures { result ≡ next_place self }
     {
         match self {
@@ -49,22 +57,8 @@ impl Place {
             Place::FirstOfProduct => Place::LaterOfProduct,
             Place::LeftOfQuotient => Place::RightOfQuotient,
             Place::Base => Place::Exponent,
+            Place::AboveBar => Place::BelowBar,
             _ => self,
-        }
-    }
-
-    /// What is written before a tree there.
-    pub(crate) fn sign(self) -> &'static [u8]
-        ensures { result.now ≡ sign_before self }
-    {
-        match self {
-            Place::LaterOfSum => b"+",
-            Place::RightOfDifference | Place::UnderSign => b"-",
-            Place::LaterOfProduct => b"\xC3\x97",
-            Place::RightOfQuotient => b"/",
-            Place::Exponent => b"^",
-            Place::UnderRoot => b"\xE2\x88\x9A(",
-            _ => b"",
         }
     }
 
@@ -79,17 +73,17 @@ impl Place {
     }
 
     /// Whether a tree needs no parentheses there, by the kind that decides.
-    pub(crate) fn admits(self, kind: Kind) -> bool
+    pub fn admits(self, kind: Kind) -> bool
         ensures { result ≡ admits_kind self kind }
     {
         match self {
-            Place::WholeText | Place::LeftOfDifference | Place::UnderRoot => true,
             Place::FirstOfSum => level(kind) >= 1 || kind == Kind::Sub,
             Place::LaterOfSum | Place::RightOfDifference | Place::UnderSign => level(kind) >= 1,
             Place::FirstOfProduct => level(kind) >= 3 || kind == Kind::Div,
             Place::LeftOfQuotient => level(kind) >= 2,
             Place::LaterOfProduct | Place::RightOfQuotient | Place::Exponent => level(kind) >= 3,
             Place::Base => level(kind) >= 4,
+            _ => true,
         }
     }
 }
@@ -114,21 +108,21 @@ pub(crate) struct Pending {
     pub(crate) place: Place,
     /// How many there are.
     pub(crate) left: u16,
-    /// Whether a closing parenthesis follows them.
-    pub(crate) closes: bool,
+    /// How many closing parentheses follow them.
+    pub(crate) closing: u8,
 }
 
 impl Pending {
-    ghost use Rattle.line_text.specs.Pending.{pending_below};
+    ghost use Rattle.line_text.specs.Writing.{pending_below, owes as owes_bytes};
 
     /// One tree, which is the whole text.
     pub(crate) fn whole_text() -> Pending
-        ensures { result ≡ record { place = Place.WholeText; left = 1; closes = false } }
+        ensures { result ≡ record { place = Place.WholeText; left = 1; closing = 0 } }
     {
         Pending {
             place: Place::WholeText,
             left: 1,
-            closes: false,
+            closing: 0,
         }
     }
 
@@ -137,22 +131,41 @@ impl Pending {
     pub(crate) fn below(kind: Kind, children: u16, admitted: bool) -> Pending
         ensures { result ≡ pending_below kind children admitted }
     {
+        let closing = own_closing(kind);
         Pending {
             place: Place::first_below(kind),
             left: children,
-            closes: !admitted || kind == Kind::Root,
+            closing: if admitted { closing } else { closing + 1 },
         }
     }
 
     /// The same without the next of them.
     pub(crate) fn without_first(self) -> Pending
         requires { 0 < self.left }
-        ensures { result ≡ record { place = next_place self.place; left = self.left - 1; closes = self.closes } }
+        ensures { result ≡ record { place = next_place self.place; left = self.left - 1; closing = self.closing } }
     {
         Pending {
             place: self.place.next(),
             left: self.left - 1,
-            closes: self.closes,
+            closing: self.closing,
         }
+    }
+
+    /// Whether anything is still to be written.
+    pub(crate) fn owes(self) -> bool
+        ensures { result ≡ owes_bytes self }
+    {
+        self.left > 0 || self.closing > 0
+    }
+}
+
+/// How many parentheses close the text of a node of this kind wherever it stands.
+fn own_closing(kind: Kind) -> u8
+    ensures { result ≡ kind_closing kind }
+{
+    match kind {
+        Kind::Fraction => 2,
+        Kind::Root | Kind::Radical | Kind::Raised | Kind::Paren => 1,
+        _ => 0,
     }
 }

@@ -1,15 +1,17 @@
 //! Trees written as texts, in one walk over their nodes.
-ghost use Rattle.std.specs.Prelude.{◌≡◌, ◌*◌, ◌<◌, ◌≤◌, ◌++◌, length, nat_abs, vec_capacity};
+ghost use Rattle.std.specs.Prelude.{◌≡◌, ◌*◌, ◌<◌, ◌≤◌, length, nat_abs, true, vec_capacity};
+ghost use Rattle.calc_terms.specs.Payload.{kind_of_payload};
 ghost use Rattle.calc_terms.specs.Rat.{ratio_of};
-ghost use Rattle.calc_language.specs.Texts.{decimal, text as text_of, IsWritable};
 ghost use Rattle.calc_terms.specs.Trees.{size};
-ghost use Rattle.tree_handles.specs.Expressions.{IsExpression, plain, children_of};
-ghost use Rattle.tree_handles.specs.Inside.{tree_at};
+ghost use Rattle.calc_language.specs.Texts.{decimal, text as text_of, IsWritable};
+ghost use Rattle.tree_handles.specs.Expressions.{IsExpression, plain};
+ghost use Rattle.tree_handles.specs.Forest.{bytes_in};
+ghost use Rattle.tree_handles.specs.Inside.{holds, tree_at, payload_in};
 ghost use Rattle.tree_handles.specs.Standing.{Stands, forest};
-ghost use Rattle.tree_handles.specs.Visits.{visit_at};
+ghost use Rattle.tree_handles.specs.Visits.{visit_at, visits_of};
 ghost use Rattle.line_text.specs.Content.{spare_of, extended};
-ghost use Rattle.line_text.specs.Pending.{text_there, owed_text, leaf_text, opening};
-ghost use Rattle.line_text.specs.Places.{deciding_kind as deciding, kind_behind_opposites as behind_opposites};
+ghost use Rattle.line_text.specs.Places.{sign_before};
+ghost use Rattle.line_text.specs.Writing.{written, front_of, leaf_bytes, is_admitted, pending_below, parentheses, deciding, first_kind};
 
 use crate::page::Page;
 use crate::place::{Pending, Place};
@@ -17,9 +19,9 @@ use crate::text::Text;
 use calc_terms::{Kind, Rat};
 use itoa::Buffer;
 use node_pool::{Id, Pool};
-use tree_handles::{Visit, name, nodes_of, rational};
+use tree_handles::{Visit, kind, name, nodes_of, rational};
 
-/// Appends the text of a tree.
+/// Appends the text of a face.
 pub fn write_text(pool: &Pool, face: Id, text: &mut Text)
     requires stands { Stands pool.now }
     requires expression { IsExpression face (forest pool.now) }
@@ -27,31 +29,47 @@ pub fn write_text(pool: &Pool, face: Id, text: &mut Text)
     requires room { 2 * size (plain (tree_at face (forest pool.now))) ≤ spare_of text.old }
     ensures { text.new ≡ extended text.old (text_of (plain (tree_at face (forest pool.now)))) }
 {
-    write_tree(pool, face, &mut text.page, &mut text.pending);
+    write_tree(pool, face, text);
 }
 
-/// The same to a page. What is still to be written of the nodes around the next one stands in `pending`,
-/// the innermost last.
-fn write_tree(pool: &Pool, face: Id, page: &mut Page, pending: &mut Vec<Pending>)
+/// Appends what is written of a tree, be it a face or a layout.
+pub fn write_tree(pool: &Pool, root: Id, text: &mut Text)
     requires stands { Stands pool.now }
-    requires expression { IsExpression face (forest pool.now) }
-    requires writable { IsWritable (plain (tree_at face (forest pool.now))) }
-    requires room { 2 * size (plain (tree_at face (forest pool.now))) ≤ spare_of page.old }
-    requires deep { page.old.capacity < 16 * vec_capacity pending.old }
-    ensures appended { page.new ≡ extended page.old (text_of (plain (tree_at face (forest pool.now)))) }
-    ensures deep { vec_capacity pending.old ≤ vec_capacity pending.new }
+    requires live { holds root (forest pool.now) ≡ true }
+    requires room { 2 * bytes_in (tree_at root (forest pool.now)) ≤ spare_of text.old }
+    ensures { text.new ≡ extended text.old (written Place.WholeText (tree_at root (forest pool.now))) }
 {
-    let mut nodes = nodes_of(pool, face);
-    pending.clear();
-    pending.push(Pending::whole_text()).unwrap();
-    while let Some(rest) = pending.pop() {
+    write_nodes(pool, root, &mut text.page, &mut text.pending);
+}
+
+/// The same to a page. What is still to be written of the nodes around those of `rest` stands in `outer`,
+/// the innermost last.
+fn write_nodes(pool: &Pool, root: Id, page: &mut Page, outer: &mut Vec<Pending>)
+    requires stands { Stands pool.now }
+    requires live { holds root (forest pool.now) ≡ true }
+    requires room { 2 * bytes_in (tree_at root (forest pool.now)) ≤ spare_of page.old }
+    requires deep { page.old.capacity < 16 * vec_capacity outer.old }
+    ensures appended { page.new ≡ extended page.old (written Place.WholeText (tree_at root (forest pool.now))) }
+    ensures deep { vec_capacity outer.old ≤ vec_capacity outer.new }
+{
+    let mut nodes = nodes_of(pool, root);
+    outer.clear();
+    let mut rest = Pending::whole_text();
+    loop {
         if rest.left > 0 {
-            pending.push(rest.without_first()).unwrap();
             let node = nodes.next().unwrap();
             let below = write_node(pool, &node, rest.place, page);
-            pending.push(below).unwrap();
-        } else if rest.closes {
-            page.push(b")");
+            rest = rest.without_first();
+            if below.owes() {
+                outer.push(rest).unwrap();
+                rest = below;
+            }
+        } else {
+            write_closing(rest.closing, page);
+            match outer.pop() {
+                Some(around) => rest = around,
+                None => return,
+            }
         }
     }
 }
@@ -59,50 +77,88 @@ fn write_tree(pool: &Pool, face: Id, page: &mut Page, pending: &mut Vec<Pending>
 /// Appends what stands before the children of a node, and answers what is still to be written of it.
 fn write_node(pool: &Pool, node: &Visit, place: Place, page: &mut Page) -> Pending
     requires stands { Stands pool.now }
-    requires expression { IsExpression node.now.id (forest pool.now) }
+    requires live { holds node.now.id (forest pool.now) ≡ true }
     requires node { node.now ≡ visit_at node.now.id (forest pool.now) }
-    requires room { length (text_there place (plain (tree_at node.now.id (forest pool.now)))) ≤ spare_of page.old }
-    ensures text { let t = plain (tree_at node.now.id (forest pool.now)) in
-        page.new.bytes ++ owed_text result (children_of t) ≡ page.old.bytes ++ text_there place t }
-    ensures capacity { page.new.capacity ≡ page.old.capacity }
-    ensures left { result.left ≡ node.now.children }
+    requires room { length (front_of place (tree_at node.now.id (forest pool.now))) ≤ spare_of page.old }
+    ensures front { page.new ≡ extended page.old (front_of place (tree_at node.now.id (forest pool.now))) }
+    ensures below { result ≡ pending_below node.now.kind node.now.children (is_admitted place (tree_at node.now.id (forest pool.now))) }
 {
     let admitted = place.admits(deciding_kind(pool, node, place));
-    write_opening(place, admitted, page);
-    write_leaf(pool, node, page);
+    write_sign(place, page);
+    if !admitted {
+        page.push_byte(b'(');
+    }
+    write_payload(pool, node.kind, node.id, page);
     Pending::below(node.kind, node.children, admitted)
 }
 
-/// Appends the sign before a tree, and an opening parenthesis unless it is admitted without.
-fn write_opening(place: Place, admitted: bool, page: &mut Page)
-    requires { length (opening place admitted) ≤ spare_of page.old }
-    ensures { page.new ≡ extended page.old (opening place admitted) }
+/// Appends the sign before a tree.
+fn write_sign(place: Place, page: &mut Page)
+    requires { length (sign_before place) ≤ spare_of page.old }
+    ensures { page.new ≡ extended page.old (sign_before place) }
 {
-    page.push(place.sign());
-    if !admitted {
-        page.push(b"(");
+    match place {
+        Place::LaterOfSum => page.push_byte(b'+'),
+        Place::RightOfDifference | Place::UnderSign => page.push_byte(b'-'),
+        Place::LaterOfProduct => page.push(b"\xC3\x97"),
+        Place::RightOfQuotient => page.push_byte(b'/'),
+        Place::Exponent => page.push_byte(b'^'),
+        Place::UnderRoot => page.push(b"\xE2\x88\x9A("),
+        Place::AboveBar => page.push(b"(("),
+        Place::BelowBar => page.push(b")/("),
+        Place::Raised => page.push(b"^("),
+        Place::InParentheses => page.push_byte(b'('),
+        _ => {}
+    }
+}
+
+/// Appends so many closing parentheses.
+fn write_closing(count: u8, page: &mut Page)
+    requires few { count ≤ 3 }
+    requires room { count ≤ spare_of page.old }
+    ensures { page.new ≡ extended page.old (parentheses count) }
+{
+    match count {
+        0 => {}
+        1 => page.push_byte(b')'),
+        2 => page.push(b"))"),
+        _ => page.push(b")))"),
     }
 }
 
 /// The kind on which it depends whether the tree of a node needs parentheses.
-fn deciding_kind(pool: &Pool, node: &Visit, place: Place) -> Kind
+pub fn deciding_kind(pool: &Pool, node: &Visit, place: Place) -> Kind
     requires stands { Stands pool.now }
-    requires expression { IsExpression node.now.id (forest pool.now) }
+    requires live { holds node.now.id (forest pool.now) ≡ true }
     requires node { node.now ≡ visit_at node.now.id (forest pool.now) }
-    ensures { result ≡ deciding place (plain (tree_at node.now.id (forest pool.now))) }
+    ensures { result ≡ deciding place (tree_at node.now.id (forest pool.now)) }
+{
+    match node.kind {
+        Kind::Neg => kind_of_opposite(pool, node.id, place),
+        kind => kind,
+    }
+}
+
+/// That of an opposite.
+fn kind_of_opposite(pool: &Pool, id: Id, place: Place) -> Kind
+    requires stands { Stands pool.now }
+    requires live { holds id (forest pool.now) ≡ true }
+    requires opposite { kind_of_payload (payload_in id (forest pool.now)) ≡ Kind.Neg }
+    ensures { result ≡ deciding place (tree_at id (forest pool.now)) }
 {
     if place.skips_opposites() {
-        kind_behind_opposites(pool, node.id)
+        kind_behind_opposites(pool, id)
     } else {
-        node.kind
+        Kind::Neg
     }
 }
 
 /// The kind of the first node of a tree that is no opposite.
+#[inline(never)]
 fn kind_behind_opposites(pool: &Pool, id: Id) -> Kind
     requires stands { Stands pool.now }
-    requires expression { IsExpression id (forest pool.now) }
-    ensures { result ≡ behind_opposites (plain (tree_at id (forest pool.now))) }
+    requires live { holds id (forest pool.now) ≡ true }
+    ensures { result ≡ first_kind (visits_of (tree_at id (forest pool.now))) }
 {
     for node in nodes_of(pool, id) {
         match node.kind {
@@ -110,21 +166,34 @@ fn kind_behind_opposites(pool: &Pool, id: Id) -> Kind
             kind => return kind,
         }
     }
-    unreachable!()
+    Kind::Neg
 }
 
-/// Appends the text of a node that has no children, and nothing for another node.
-fn write_leaf(pool: &Pool, node: &Visit, page: &mut Page)
+/// Appends what is written of a node that has no children, and nothing for another node.
+pub fn write_leaf(pool: &Pool, node: Id, text: &mut Text)
     requires stands { Stands pool.now }
-    requires expression { IsExpression node.now.id (forest pool.now) }
-    requires node { node.now ≡ visit_at node.now.id (forest pool.now) }
-    requires room { length (leaf_text (plain (tree_at node.now.id (forest pool.now)))) ≤ spare_of page.old }
-    ensures { page.new ≡ extended page.old (leaf_text (plain (tree_at node.now.id (forest pool.now)))) }
+    requires live { holds node (forest pool.now) ≡ true }
+    requires room { length (leaf_bytes (payload_in node (forest pool.now))) ≤ spare_of text.old }
+    ensures { text.new ≡ extended text.old (leaf_bytes (payload_in node (forest pool.now))) }
 {
-    match node.kind {
-        Kind::Num => write_digits(rational(pool, node.id), page),
-        Kind::Sym => page.push(name(pool, node.id).bytes()),
+    write_payload(pool, kind(pool, node), node, &mut text.page);
+}
+
+/// The same to a page, for a node of a kind.
+fn write_payload(pool: &Pool, kind: Kind, node: Id, page: &mut Page)
+    requires stands { Stands pool.now }
+    requires live { holds node (forest pool.now) ≡ true }
+    requires kind { kind ≡ kind_of_payload (payload_in node (forest pool.now)) }
+    requires room { length (leaf_bytes (payload_in node (forest pool.now))) ≤ spare_of page.old }
+    ensures { page.new ≡ extended page.old (leaf_bytes (payload_in node (forest pool.now))) }
+{
+    match kind {
+        Kind::Num => write_digits(rational(pool, node), page),
+        Kind::Sym => page.push(name(pool, node).bytes()),
         Kind::Undef => page.push(b"undef"),
+        Kind::Plus => page.push_byte(b'+'),
+        Kind::Minus => page.push_byte(b'-'),
+        Kind::Times => page.push(b"\xC3\x97"),
         _ => {}
     }
 }
@@ -134,6 +203,11 @@ fn write_digits(number: Rat, page: &mut Page)
     requires { length (decimal (nat_abs (ratio_of number).num)) ≤ spare_of page.old }
     ensures { page.new ≡ extended page.old (decimal (nat_abs (ratio_of number).num)) }
 {
+    let magnitude = number.num().unsigned_abs();
+    if magnitude < 10 {
+        page.push_byte(b'0' + magnitude as u8);
+        return;
+    }
     let mut digits = Buffer::new();
-    page.push(digits.format(number.num().unsigned_abs()).as_bytes());
+    page.push(digits.format(magnitude).as_bytes());
 }

@@ -1,9 +1,13 @@
 use Rattle.std.proofs.Common.{◌∙◌, ap, arith}
-use Rattle.line_text.proofs.Shared.{text, plain, tree_at, forest, Content, spare_of, extended}
+use Rattle.line_text.proofs.Shared.{tree_at, forest, one_at, size-plain, extended}
+use Rattle.line_text.proofs.Parts.{written_text}
+use Rattle.line_text.proofs.Valid.{valid}
 use Rattle.line_text.proofs.writing.write_text.Goals as goal
 
 pub write_tree-requires-clause-room : goal.write_tree-requires-clause-room
-write_tree-requires-clause-room c = omega (arith, ap spare_of c.text.view_is, c.requires.room)
+write_tree-requires-clause-room c = omega (arith, size-plain (tree_at c.args.face (forest c.args.pool.now)) (one_at c.args.face (forest c.args.pool.now) c.requires.expression.live) c.requires.expression.whole, c.requires.room)
 
 pub returns : goal.returns
-returns c = c.write_tree.ensures.appended ∙ ap (λ (x : Content). extended x (text (plain (tree_at c.args.face (forest c.args.pool.now))))) c.text.view_is
+returns c =
+    let t = tree_at c.args.face (forest c.args.pool.now) in
+    c.write_tree.ensures ∙ ap (extended c.args.text.now) (written_text t (one_at c.args.face (forest c.args.pool.now) c.requires.expression.live) c.requires.expression.whole (valid c.args.pool.now c.args.face c.requires.stands c.requires.expression.live))
