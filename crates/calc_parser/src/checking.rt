@@ -2,6 +2,7 @@
 ghost use Rattle.std.specs.Prelude.{◌≡◌, ◌↔◌, ◌≤◌, ℕ, List, Option, length, Err, IfOk, IsOk, OnErr, MatchResult};
 ghost use Rattle.std.specs.Option.{option_map};
 ghost use Rattle.calc_terms.specs.Leaf.{name_of};
+ghost use Rattle.calc_terms.specs.Limits.{depth_limit};
 ghost use Rattle.calc_terms.specs.Trees.{Tree, depth as depth_of};
 ghost use Rattle.calc_tokens.specs.Placed.{bare};
 ghost use Rattle.calc_tokens.specs.Tokens.{token_of, tokens_of};
@@ -47,9 +48,9 @@ pub enum ParseFault {
 /// What the line is like that these tokens are.
 pub fn check(tokens: &Tokens) -> Result<Shape, ParseFault>
     ensures shape { IfOk result (HasShape (bare (tokens_of tokens.now))) }
-    ensures accepts { (store : Option (List ℕ)) (t : Tree) → IsLine (bare (tokens_of tokens.now)) store t → depth_of t ≤ 64 → IsOk result }
+    ensures accepts { (store : Option (List ℕ)) (t : Tree) → IsLine (bare (tokens_of tokens.now)) store t → depth_of t ≤ depth_limit → IsOk result }
     ensures syntax { (result ≡ Err ParseFault.Syntax) ↔ IsNoLine (bare (tokens_of tokens.now)) }
-    ensures deep { (result ≡ Err ParseFault.Deep) ↔ IsLineOver 64 (bare (tokens_of tokens.now)) }
+    ensures deep { (result ≡ Err ParseFault.Deep) ↔ IsLineOver depth_limit (bare (tokens_of tokens.now)) }
 {
     let mut reader = Reader::new();
     let mut depths = ArrayVec::new();

@@ -1,5 +1,6 @@
 //! Lines read and built, over memory that is taken once.
 ghost use Rattle.std.specs.Prelude.{◌≡◌, ◌↔◌, ◌≤◌, ℕ, List, [], Option, length, Ok, Err, IfOk, IfErr, IsOk, OnErr, OnOk};
+ghost use Rattle.calc_terms.specs.Limits.{depth_limit};
 ghost use Rattle.calc_terms.specs.Trees.{Tree, depth as depth_of};
 ghost use Rattle.calc_tokens.specs.Placed.{Placed, bare};
 ghost use Rattle.calc_tokens.specs.Scanned.{AreTokensOf};
@@ -83,7 +84,7 @@ impl Parser {
         ensures tokens { OnOk result (AreTokensOf (tokens_of self.new) line.now) }
         ensures shape { IfOk result (IsShallow (bare (tokens_of self.new))) }
         ensures accepts { (ts : List Placed) (store : Option (List ℕ)) (t : Tree) → AreTokensOf ts line.now
-            → IsLine (bare ts) store t → depth_of t ≤ 64 → IsOk result }
+            → IsLine (bare ts) store t → depth_of t ≤ depth_limit → IsOk result }
         ensures refused { (fault : LineFault) → (result ≡ Err fault) ↔ IsLineFaultOf line.now fault }
         ensures emptied { OnErr result (tokens_of self.new ≡ []) }
     {

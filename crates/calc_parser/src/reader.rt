@@ -323,7 +323,7 @@ impl Reader {
     /// Makes trees the children of a node, where there is not just one.
     fn gather(&mut self, kind: Kind, count: u16)
         requires some { 1 ≤ count }
-        requires room { room_in self.old + count ≤ 2049 }
+        requires room { room_in self.old + count ≤ step_limit + 1 }
         ensures nodes { (ts : List Mark) → nodes_in ts self.new.postfix ≡ nodes_in ts self.old.postfix ++ gathered kind count }
         ensures nesting { self.new.nesting ≡ self.old.nesting }
         ensures expects { self.new.expects ≡ self.old.expects }

@@ -8,7 +8,7 @@ use Rattle.std.proofs.lemmas.Bool.{lt-ltb, eqb-true}
 use Rattle.calc_terms.specs.Fractions.{lowest, same_lowest}
 use Rattle.calc_terms.specs.Name.{is_digit}
 use Rattle.calc_language.specs.Tokens.{digits_value, decimals}
-use Rattle.calc_tokens.specs.Literals.{trimmed, kept_before, unscaled, scale, parts_fit}
+use Rattle.calc_tokens.specs.Literals.{trimmed, kept_before, unscaled, scale, parts_fit, has_point}
 use Rattle.std.proofs.lemmas.List.Elements.{All-nil, All-cons, All-head, All-tail}
 use Rattle.calc_tokens.proofs.Runs.{run_passes}
 use Rattle.calc_tokens.proofs.Digits.{digits_value-append, digits_value_grows}
@@ -31,6 +31,20 @@ scale_pos kept = one-le-pow (length kept) 10 (omega arith)
 
 pub scaled_is : (v m d : ℕ) (whole kept : List ℕ) → v ≡ digits_value 0 whole → m ≡ digits_value v kept → d ≡ scale kept → lowest (pos m) d ≡ lowest (pos (unscaled whole kept)) (scale kept)
 scaled_is v m d whole kept e f g = grind (arith, digits_value-append)
+
+-- ---- a short whole number
+
+-- without a point there are no decimals
+pub no_decimals : (rest : List ℕ) → has_point rest ≡ false → decimals rest ≡ ([], rest)
+no_decimals [] h = refl
+no_decimals (b ∷ []) h = refl
+no_decimals (b ∷ c ∷ bs) h = rw h refl
+
+pub short_fits : (whole rest : List ℕ) (n : ℕ) → n ≡ digits_value 0 whole → n < 2 ^ 63 → has_point rest ≡ false → parts_fit whole (trimmed ((decimals rest).0)) ≡ true
+short_fits whole rest n e h p = rw (no_decimals rest p) (both_fit (digits_value 0 whole) n whole [] refl (omega (arith, e)) (omega arith))
+
+pub short_is : (whole rest : List ℕ) (n : ℕ) → n ≡ digits_value 0 whole → has_point rest ≡ false → lowest (pos n) 1 ≡ lowest (pos (unscaled whole (trimmed ((decimals rest).0)))) (scale (trimmed ((decimals rest).0)))
+short_is whole rest n e p = rw (no_decimals rest p) (scaled_is n n 1 whole [] e refl refl)
 
 -- ---- digits all along
 pub decimals_pass : (bytes : List ℕ) → AllPass is_digit ((decimals bytes).0)

@@ -1,5 +1,6 @@
 -- The literal at the front of bytes: its parts, and whether they fit.
-use Rattle.std.specs.Prelude.{ℕ, ◌^◌, List, [], ◌∷◌, ◌++◌, length, Bool, ◌&&◌, ◌==◌, nat_lt, if◌then◌else◌}
+use Rattle.std.specs.Prelude.{ℕ, ◌^◌, List, [], ◌∷◌, ◌++◌, length, Bool, false, ◌&&◌, ◌==◌, nat_lt, if◌then◌else◌}
+use Rattle.calc_terms.specs.Limits.{number_limit}
 use Rattle.calc_terms.specs.Name.{is_digit}
 use Rattle.calc_language.specs.Tokens.{leading_run, decimals, digits_value}
 
@@ -29,9 +30,14 @@ unscaled whole kept = digits_value 0 (whole ++ kept)
 abbrev pub scale : List ℕ → ℕ
 scale kept = 10 ^ length kept
 
--- both are at most 2^127 - 1
+-- both are below the limit of numbers
 abbrev pub parts_fit : List ℕ → List ℕ → Bool
-parts_fit whole kept = nat_lt (unscaled whole kept) (2 ^ 127) && nat_lt (scale kept) (2 ^ 127)
+parts_fit whole kept = nat_lt (unscaled whole kept) number_limit && nat_lt (scale kept) number_limit
 
 abbrev pub literal_fits : List ℕ → Bool
 literal_fits bytes = parts_fit (whole_digits bytes) (kept_decimals bytes)
+
+-- the bytes begin with a point
+abbrev pub has_point : List ℕ → Bool
+has_point [] = false
+has_point (b ∷ bs) = b == 46

@@ -6,7 +6,8 @@ ghost use Rattle.calc_terms.specs.Fractions.{lowest};
 ghost use Rattle.calc_terms.specs.Rat.{value_of};
 ghost use Rattle.calc_terms.specs.Name.{is_digit};
 ghost use Rattle.calc_language.specs.Tokens.{leading_run, decimals, digits_value, literal_at};
-ghost use Rattle.calc_tokens.specs.Literals.{trimmed, literal_fits, parts_fit, unscaled, scale};
+ghost use Rattle.calc_tokens.specs.Literals.{trimmed, literal_fits, parts_fit, unscaled, scale, has_point};
+ghost use Rattle.calc_terms.specs.Limits.{number_limit};
 ghost use Rattle.calc_tokens.specs.Tokens.{front_of};
 
 use crate::tokens::What;
@@ -18,15 +19,48 @@ const LARGEST: u128 = i128::MAX as u128;
 /// Below this a digit more fits without a division that shows it.
 const NEAR: u128 = 1 << 120;
 
+/// Below this a digit more fits into 64 bits.
+const SHORT: u64 = 1 << 59;
+
 /// The number at the front, and what stands behind it; None where its parts do not fit.
 pub(crate) fn literal(bytes: &[u8]) -> Option<(What, &[u8])>
     ensures fits { is_some result ≡ literal_fits bytes.now }
     ensures value { IfSome result (λ found. front_of found ≡ literal_at bytes.now) }
 {
     let (whole, rest) = digits(bytes);
+    if !has_point(rest) {
+        if let Some(number) = short_value(whole) {
+            return Some((What::Number(scaled(u128::from(number), 1)), rest));
+        }
+    }
     let (decimals, behind) = decimals(rest);
     let value = value(whole, trimmed(decimals))?;
     Some((What::Number(value), behind))
+}
+
+fn has_point(rest: &[u8]) -> bool
+    ensures { result ≡ has_point rest.now }
+{
+    match rest.first() {
+        Some(byte) => *byte == b'.',
+        None => false,
+    }
+}
+
+/// What digits spell; None for some numbers of 60 bits and more.
+fn short_value(digits: &[u8]) -> Option<u64>
+    requires { AllPass is_digit digits.now }
+    ensures value { IfSome result (λ n. n ≡ digits_value 0 digits.now) }
+    ensures short { IfSome result (λ n. n < 2 ^ 63) }
+{
+    let mut value = 0;
+    for digit in digits {
+        if value >= SHORT {
+            return None;
+        }
+        value = 10 * value + u64::from(digit - b'0');
+    }
+    Some(value)
 }
 
 /// The digits at the front, and what stands behind them.
@@ -85,9 +119,9 @@ fn value(whole: &[u8], kept: &[u8]) -> Option<Rat>
 
 /// A number over its scale in lowest terms. A whole number is.
 fn scaled(unscaled: u128, scale: u128) -> Rat
-    requires fits { unscaled < 2 ^ 127 }
+    requires fits { unscaled < number_limit }
     requires positive { 1 ≤ scale }
-    requires scale_fits { scale < 2 ^ 127 }
+    requires scale_fits { scale < number_limit }
     ensures { value_of result ≡ lowest (pos unscaled) scale }
 {
     if scale == 1 {
@@ -98,9 +132,9 @@ fn scaled(unscaled: u128, scale: u128) -> Rat
 
 /// What is spelled by the digits of a number and these behind them; None above 2^127 - 1.
 fn spelled(front: u128, digits: &[u8]) -> Option<u128>
-    requires fits { front < 2 ^ 127 }
+    requires fits { front < number_limit }
     requires digits { AllPass is_digit digits.now }
-    ensures { SomeIff result (digits_value front digits.now < 2 ^ 127) (digits_value front digits.now) }
+    ensures { SomeIff result (digits_value front digits.now < number_limit) (digits_value front digits.now) }
 {
     let mut value = front;
     for digit in digits {
@@ -115,7 +149,7 @@ fn spelled(front: u128, digits: &[u8]) -> Option<u128>
 
 /// Ten to this power; None above 2^127 - 1.
 fn power_of_ten(exponent: usize) -> Option<u128>
-    ensures { SomeIff result (10 ^ exponent < 2 ^ 127) (10 ^ exponent) }
+    ensures { SomeIff result (10 ^ exponent < number_limit) (10 ^ exponent) }
 {
     let mut power = 1;
     for _ in 0..exponent {

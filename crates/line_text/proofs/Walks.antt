@@ -1,6 +1,6 @@
 -- A walk over the nodes of a tree that knows what is still to be written.
 use Rattle.std.proofs.Common.{◌≡◌, ◌∙◌, ℕ, suc, ◌+◌, ◌-◌, ◌<◌, ◌≤◌, List, [], ◌∷◌, ◌++◌, length, false, refl, sym, ap, subst, arith, append_assoc, append-nil}
-use Rattle.line_text.proofs.Shared.{length-append, kind_of_payload, Visit, Label, Forest, empty, tree, join, arity, kids, root_payload, nodes_in, tree_at, visits_of, AreFound, join-empty, IsSeen, found-join, visit_here, visits_left, visits_length, Pending, WholeText, front_of, is_admitted, written, owed_bytes, parentheses, closing_of, owes, pending_below, first_place, next_place}
+use Rattle.line_text.proofs.Shared.{length-append, Content, kind_of_payload, Visit, Label, Forest, empty, tree, join, arity, kids, root_payload, nodes_in, tree_at, visits_of, AreFound, join-empty, IsSeen, found-join, visit_here, visits_left, visits_length, Pending, WholeText, front_of, is_admitted, written, owed_bytes, parentheses, closing_of, owes, pending_below, first_place, next_place}
 use Rattle.std.proofs.lemmas.Bool.Decides.{nat_tests}
 use Rattle.tree_handles.proofs.Visiting.{seen}
 use Rattle.line_text.proofs.Room.{closing_few, parentheses_length}
@@ -251,3 +251,6 @@ done {rest = rest} {outer = outer} {bytes = bytes} {whole = whole} new k z q = b
     by : (os : List Owed) → outer ≡ pending_of os → (bytes ++ parentheses rest.closing) ++ bytes_owed os ≡ whole → new ≡ whole
     by [] p t = q ∙ sym (append-nil (bytes ++ parentheses rest.closing)) ∙ t
     by (o ∷ os) p t = absurd (omega (arith, ap length p, length-append (pending_of os) (o.rest ∷ [])))
+
+pub content_is : (p q : Content) → p.bytes ≡ q.bytes → p.capacity ≡ q.capacity → p ≡ q
+content_is p q e f = ap (λ (b : List ℕ). let r : Content = record { bytes = b; capacity = p.capacity } in r) e ∙ ap (λ (n : ℕ). let r : Content = record { bytes = q.bytes; capacity = n } in r) f

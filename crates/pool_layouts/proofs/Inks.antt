@@ -1,6 +1,6 @@
 -- The characters of ink, and their bytes.
 use Rattle.std.proofs.Common.{◌≡◌, ◌≢◌, ◌∙◌, ℕ, zero, suc, ◌+◌, ◌<◌, List, [], ◌∷◌, ◌++◌, replicate, Bool, true, encode_utf8_all, sym, ap, arith, append_assoc, append-nil}
-use Rattle.pool_layouts.proofs.Shared.{list_all, and_parts, nat_tests, replicate-append-replicate, encodes-append, is_digit, is_name_byte, Payload, named, IsPayload, spelled, decimal, decimal_is, Content, extended, Forest, payload_in, Ink, Leaf, IsBlack, IsInk, leaf_characters, ink_characters, inked, blanks_left, leaf_serial, blanks}
+use Rattle.pool_layouts.proofs.Shared.{list_all, and_parts, nat_tests, replicate-append-replicate, encodes-append, is_digit, is_name_byte, Payload, named, IsPayload, spelled, decimal, decimal_is, Content, extended, Forest, payload_in, Ink, Leaf, IsBlack, IsInk, leaf_characters, ink_characters, inked, blanks_left, leaf_bytes, blanks}
 use Rattle.pool_layouts.proofs.Lines.{AreSmall, small_bytes, replicate_small, times_encoded}
 
 -- ---- characters of leaves
@@ -37,8 +37,8 @@ decimal_black n = all_black is_digit digit_black (decimal n) (decimal_is n).all
 pub names_black : (x : List ℕ) → IsPayload (named x) → IsBlack x
 names_black x h = all_black is_name_byte name_black x (spelled x h).spelled
 
-leaf_encoded : (x : Payload) → IsPayload x → encode_utf8_all (leaf_characters x) ≡ leaf_serial x
-leaf_encoded x h = grind (arith, small_bytes, decimal_small, names_small, times_encoded)
+leaf_encoded : (x : Payload) → IsPayload x → leaf_characters x ≢ [] → encode_utf8_all (leaf_characters x) ≡ leaf_bytes x
+leaf_encoded x h some = grind (arith, small_bytes, decimal_small, names_small, times_encoded)
 
 leaf_black : (x : Payload) → IsPayload x → IsBlack (leaf_characters x)
 leaf_black x h = grind (arith, decimal_black, names_black)
@@ -62,10 +62,10 @@ pub none_owed : (n : ℕ) (cs : List ℕ) → cs ≢ [] → blanks_left n cs ≡
 none_owed n cs h = grind arith
 
 -- a leaf behind blanks
-pub leaf_inked : (f : Forest) (i n : ℕ) → IsInk f (Leaf i) → encode_utf8_all (inked n (leaf_characters (payload_in i f))) ≡ replicate n 32 ++ leaf_serial (payload_in i f)
+pub leaf_inked : (f : Forest) (i n : ℕ) → IsInk f (Leaf i) → encode_utf8_all (inked n (leaf_characters (payload_in i f))) ≡ replicate n 32 ++ leaf_bytes (payload_in i f)
 leaf_inked f i n h =
     ap encode_utf8_all (inked_some n (leaf_characters (payload_in i f)) h.2) ∙ encodes-append (blanks n) (leaf_characters (payload_in i f)) ∙ ap (λ (x : List ℕ). x ++ encode_utf8_all (leaf_characters (payload_in i f))) (blanks_encoded n)
-    ∙ ap (λ (x : List ℕ). replicate n 32 ++ x) (leaf_encoded (payload_in i f) h.1)
+    ∙ ap (λ (x : List ℕ). replicate n 32 ++ x) (leaf_encoded (payload_in i f) h.1 h.2)
 
 -- one character behind blanks
 pub character_inked : (c n : ℕ) (bytes : List ℕ) → encode_utf8_all (c ∷ []) ≡ bytes → encode_utf8_all (inked n (c ∷ [])) ≡ replicate n 32 ++ bytes

@@ -3,9 +3,7 @@ pub mod Sizes
 pub mod Placing
 pub mod Shown
 pub mod UnderWay
-pub mod Valid
 pub mod Serials
-pub mod Writing
 pub mod Given
 pub mod Measures
 pub mod Suffixes

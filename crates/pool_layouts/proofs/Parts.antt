@@ -1,9 +1,8 @@
 -- The layout of a face, by its root and its children.
 use Rattle.std.proofs.Common.{◌≡◌, ◌∙◌, if◌then◌else◌, Bool, true, ◌||◌, nat_le, nat_eq, None, refl, sym, ap, arith}
-use Rattle.pool_layouts.proofs.Shared.{eqb-true, Kind, Payload, bare, kind_of_payload, Tree, Trees, none, more, count, root_kind, is_div, first_of_sum, left_of_difference, later_of_sum, first_of_product, later_of_product, admits, level_of, is_div_kind, admits_is, grown, compound, takes, takes_kind, FirstOfSum, LaterOfSum, LeftOfDifference, RightOfDifference, UnderSign, FirstOfProduct, LaterOfProduct, Base, Layout, plus, minus, times, row, raised, Layouts, beside, one_part, unless, boxed, layout, layout_of_sum, layout_of_terms, layout_of_product, layout_of_factors, drawn, first_place, paren_kind_unless, around_of, within, parts_from, laid}
+use Rattle.pool_layouts.proofs.Shared.{eqb-true, Kind, Payload, bare, kind_of_payload, Tree, Trees, none, more, count, root_kind, is_div, later_of_sum, admits, admits_kind, deciding_kind, rule_of, Place, level_of, is_div_kind, admits_is, grown, compound, takes, takes_kind, FirstOfSum, LaterOfSum, LeftOfDifference, RightOfDifference, UnderSign, FirstOfProduct, LaterOfProduct, Base, Layout, plus, minus, times, row, raised, Layouts, beside, one_part, unless, boxed, layout, layout_of_sum, layout_of_terms, layout_of_product, layout_of_factors, drawn, first_place, paren_kind_unless, around_of, within, parts_from, laid}
 use Rattle.calc_language.specs.Texts.{level}
 use Rattle.calc_terms.specs.declared.kind.Kind.TheVariants as kind
-use Rattle.line_text.specs.declared.place.Place.TheVariants as lines
 
 -- ---- what a tree stands in
 
@@ -19,30 +18,9 @@ paren_is a l = grind arith
 box_is : (d e a b : Bool) (l : Layout) → e ≡ d → b ≡ a → within (if d then None else paren_kind_unless a) l ≡ unless (e || b) l
 box_is d e a b l h i = grind arith
 
--- the first factor is not judged as a fraction again
-box_first : (d e a b : Bool) (l : Layout) → e ≡ d → b ≡ (a || d) → within (if d then None else paren_kind_unless a) l ≡ unless (e || b) l
-box_first d e a b l h i = grind arith
-
-box_first_of_sum : (t : Tree) (l : Layout) → within (around_of FirstOfSum t) l ≡ boxed first_of_sum t l
-box_first_of_sum t l = box_is (is_div_kind (root_kind t)) (is_div t) _ (admits first_of_sum t) l (is_div_is t) (admits_is lines.FirstOfSum t)
-
-box_later_of_sum : (t : Tree) (l : Layout) → within (around_of LaterOfSum t) l ≡ boxed later_of_sum t l
-box_later_of_sum t l = box_is (is_div_kind (root_kind t)) (is_div t) _ (admits later_of_sum t) l (is_div_is t) (admits_is lines.LaterOfSum t)
-
-box_left : (t : Tree) (l : Layout) → within (around_of LeftOfDifference t) l ≡ boxed left_of_difference t l
-box_left t l = box_is (is_div_kind (root_kind t)) (is_div t) _ (admits left_of_difference t) l (is_div_is t) (admits_is lines.LeftOfDifference t)
-
-box_right : (t : Tree) (l : Layout) → within (around_of RightOfDifference t) l ≡ boxed later_of_sum t l
-box_right t l = box_is (is_div_kind (root_kind t)) (is_div t) _ (admits later_of_sum t) l (is_div_is t) (admits_is lines.LaterOfSum t)
-
-box_sign : (t : Tree) (l : Layout) → within (around_of UnderSign t) l ≡ boxed later_of_sum t l
-box_sign t l = box_is (is_div_kind (root_kind t)) (is_div t) _ (admits later_of_sum t) l (is_div_is t) (admits_is lines.LaterOfSum t)
-
-box_first_of_product : (t : Tree) (l : Layout) → within (around_of FirstOfProduct t) l ≡ boxed first_of_product t l
-box_first_of_product t l = box_first (is_div_kind (root_kind t)) (is_div t) _ (admits first_of_product t) l (is_div_is t) (admits_is lines.FirstOfProduct t)
-
-box_later_of_product : (t : Tree) (l : Layout) → within (around_of LaterOfProduct t) l ≡ boxed later_of_product t l
-box_later_of_product t l = box_is (is_div_kind (root_kind t)) (is_div t) _ (admits later_of_product t) l (is_div_is t) (admits_is lines.LaterOfProduct t)
+-- in a row
+box : (p : Place) (t : Tree) (l : Layout) → within (if is_div_kind (root_kind t) then None else paren_kind_unless (admits_kind p (deciding_kind p t))) l ≡ boxed (rule_of p) t l
+box p t l = box_is (is_div_kind (root_kind t)) (is_div t) (admits_kind p (deciding_kind p t)) (admits (rule_of p) t) l (is_div_is t) (admits_is p t)
 
 box_base : (t : Tree) (l : Layout) → within (around_of Base t) l ≡ unless (nat_le 4 (level t)) l
 box_base t l = paren_is (nat_le 4 (level_of (root_kind t))) l ∙ ap (λ n. unless (nat_le 4 n) l) (sym (level_is t))
@@ -54,19 +32,19 @@ both {a = a} {b = b} {ls = ls} {ms = ms} e h = ap (λ x. beside x ls) e ∙ ap (
 
 terms_are : (ts : Trees) → parts_from LaterOfSum ts ≡ layout_of_terms ts
 terms_are none = refl
-terms_are (more t ts) = ap (beside plus) (both (box_later_of_sum t (layout t)) (terms_are ts))
+terms_are (more t ts) = ap (beside plus) (both (box LaterOfSum t (layout t)) (terms_are ts))
 
 sum_is : (ts : Trees) → parts_from FirstOfSum ts ≡ layout_of_sum ts
 sum_is none = refl
-sum_is (more t ts) = both (box_first_of_sum t (layout t)) (terms_are ts)
+sum_is (more t ts) = both (box FirstOfSum t (layout t)) (terms_are ts)
 
 factors_are : (ts : Trees) → parts_from LaterOfProduct ts ≡ layout_of_factors ts
 factors_are none = refl
-factors_are (more t ts) = ap (beside times) (both (box_later_of_product t (layout t)) (factors_are ts))
+factors_are (more t ts) = ap (beside times) (both (box LaterOfProduct t (layout t)) (factors_are ts))
 
 product_is : (ts : Trees) → parts_from FirstOfProduct ts ≡ layout_of_product ts
 product_is none = refl
-product_is (more t ts) = both (box_first_of_product t (layout t)) (factors_are ts)
+product_is (more t ts) = both (box FirstOfProduct t (layout t)) (factors_are ts)
 
 -- ---- a node
 
@@ -89,12 +67,12 @@ compound_is kind.Pow (more b (more e (more f ts))) h = too_many b e f ts h
 compound_is kind.Root (more a none) h = refl
 compound_is kind.Root none h = absurd cc
 compound_is kind.Root (more a (more b ts)) h = too_many_for_one a b ts h
-compound_is kind.Neg (more a none) h = ap (λ x. row (beside minus (one_part x))) (sym (box_sign a (layout a)))
+compound_is kind.Neg (more a none) h = ap (λ x. row (beside minus (one_part x))) (sym (box UnderSign a (layout a)))
 compound_is kind.Neg none h = absurd cc
 compound_is kind.Neg (more a (more b ts)) h = too_many_for_one a b ts h
 compound_is kind.Sub (more a (more b none)) h =
-    ap (λ x. row (beside x (beside minus (one_part (boxed later_of_sum b (layout b)))))) (sym (box_left a (layout a)))
-    ∙ ap (λ x. row (beside (within (around_of LeftOfDifference a) (layout a)) (beside minus (one_part x)))) (sym (box_right b (layout b)))
+    ap (λ x. row (beside x (beside minus (one_part (boxed later_of_sum b (layout b)))))) (sym (box LeftOfDifference a (layout a)))
+    ∙ ap (λ x. row (beside (within (around_of LeftOfDifference a) (layout a)) (beside minus (one_part x)))) (sym (box RightOfDifference b (layout b)))
 compound_is kind.Sub none h = absurd cc
 compound_is kind.Sub (more b none) h = absurd cc
 compound_is kind.Sub (more b (more e (more f ts))) h = too_many b e f ts h

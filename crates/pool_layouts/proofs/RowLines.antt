@@ -5,8 +5,8 @@ use Rattle.pool_layouts.proofs.Measures.{blocks_of, block_of, digits_fit, drawn_
 use Rattle.pool_layouts.proofs.Measuring.{IsMeasured, alone}
 use Rattle.pool_layouts.proofs.Inks.{decimal_small, names_small}
 use Rattle.pool_layouts.proofs.Lines.{lines_long, lines_bytes, signs, all_signs, HasSmallLeaves, HaveSmallLeaves}
-use Rattle.pool_layouts.proofs.UnderWay.{known}
-use Rattle.pool_layouts.proofs.Valid.{valid}
+use Rattle.pool_layouts.proofs.Shown.{known}
+use Rattle.line_text.proofs.Valid.{valid}
 use Rattle.calc_terms.specs.declared.kind.Kind.TheVariants as kind
 use Rattle.pool_layouts.specs.declared.steps.Step.TheVariants as step
 

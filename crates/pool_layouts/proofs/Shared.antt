@@ -9,15 +9,17 @@ pub use Rattle.calc_terms.specs.Payload.{IsPayload, Payload, bare, is_bare, kind
 pub use Rattle.calc_terms.specs.Trees.{AreComplete, IsComplete, Tree, Trees, add, append, count, div, is_div, more, mult, neg, none, num, power, root, root_kind, sub, symbol, undef}
 pub use Rattle.calc_terms.specs.declared.kind.Kind.{Kind}
 pub use Rattle.line_text.proofs.Leaves.{digits_are, numerator_is}
-pub use Rattle.line_text.proofs.Parts.{admits_is, not_opposite}
+pub use Rattle.line_text.proofs.Parts.{admits_is, deciding_is}
 pub use Rattle.line_text.specs.Content.{Content, extended, spare_of}
-pub use Rattle.line_text.specs.Places.{is_div_kind, kind_behind_opposites, level_of}
+pub use Rattle.line_text.specs.Places.{admits_kind, deciding_kind, first_place, is_div_kind, level_of, next_place, rule_of}
+pub use Rattle.line_text.specs.Writing.{deciding, kind_closing, leaf_bytes, parentheses, written}
+pub use Rattle.line_text.specs.declared.place.Place.{Place}
+pub use Rattle.line_text.specs.declared.place.Place.TheVariants.{AboveBar, Base, FirstOfProduct, FirstOfSum, InParentheses, LaterOfProduct, LaterOfSum, LeftOfDifference, Raised, RightOfDifference, UnderRoot, UnderSign, WholeText}
 pub use Rattle.node_pool.proofs.Sizes.{AreNodes-left, AreNodes-right, length_le_used, size_from}
 pub use Rattle.node_pool.specs.Nodes.{AreNodes, used}
 pub use Rattle.node_pool.specs.State.{State, free_of}
 pub use Rattle.node_pool.specs.declared.full.Full.{Full}
 pub use Rattle.pool_layouts.specs.Building.{part_sizes, parts_sizes}
-pub use Rattle.pool_layouts.specs.Cells.{ShowsTree}
 pub use Rattle.pool_layouts.specs.Drafts.{Draft, Measures}
 pub use Rattle.pool_layouts.specs.Drawings.{AllComposed, GivesLayout, IsComposed, IsLayout, composed, composes, composes_kind, drawing, drawings, drawn, part}
 pub use Rattle.pool_layouts.specs.Extents.{AllValid, HasExtents, HasPair, HasSmall, HasSomeFirst, IsOver, IsSmall, IsValid, extent_from, extent_of, extents_of, leaf_width}
@@ -26,17 +28,13 @@ pub use Rattle.pool_layouts.specs.Frames.{frame_behind, frame_of}
 pub use Rattle.pool_layouts.specs.Laying.{Closes, HasLast, IsAround, IsStopped, PlacesMark, StandsIn, around_sizes, held_in, is_leaf, root_sizes}
 pub use Rattle.pool_layouts.specs.Layouts.{Layout, Layouts, beside, boxed, fraction, join_parts, layout, layout_of_factors, layout_of_product, layout_of_sum, layout_of_terms, minus, name, nothing, number, one_part, paren, plus, radical, raised, row, times, unless}
 pub use Rattle.pool_layouts.specs.Painting.{IsBlack, IsFound, IsInk, IsLine, IsSpanOf, Opens, Shows, ShowsIf, ShowsLevel, ShowsPart, blanks_left, centred_opened, count_if, fraction_opened, ink_characters, inked, leaf_characters, level_if, level_opened, opened, paren_opened, part_of, radical_opened, raised_opened, row_opened, span_of, weight, weight_if}
-pub use Rattle.pool_layouts.specs.Pending.{before_part, behind_parts, leaf_serial, number_of, owed_text, parts_text}
 pub use Rattle.pool_layouts.specs.Pictures.{Block, bar, before_cut, blanks, centred, cut, height, level, level_line, level_lines, line_or_blanks, most_above, most_below, picture, pictures, roof, root_character, side_by_side, times_character, widths}
-pub use Rattle.pool_layouts.specs.Places.{admitted, around_kind, around_of, deciding_kind, first_place, laid, laid_kind, mark_before, marks, next_place, paren_kind_unless, parts_from, within}
+pub use Rattle.pool_layouts.specs.Places.{around_kind, around_of, laid, laid_kind, mark_before, marks, paren_kind_unless, parts_from, within}
 pub use Rattle.pool_layouts.specs.Serial.{serial, serials}
 pub use Rattle.pool_layouts.specs.declared.extents.Extent.{Extent}
 pub use Rattle.pool_layouts.specs.declared.frames.Frame.{Frame}
 pub use Rattle.pool_layouts.specs.declared.ink.Ink.{Ink}
 pub use Rattle.pool_layouts.specs.declared.ink.Ink.TheVariants.{Bar, Close, Leaf, Nothing, Open, Roof, Root}
-pub use Rattle.pool_layouts.specs.declared.places.Place.{Place}
-pub use Rattle.pool_layouts.specs.declared.places.Place.TheVariants.{Alone, Base, Exponent, FirstOfProduct, FirstOfSum, LaterOfProduct, LaterOfSum, LeftOfDifference, RightOfDifference, UnderSign}
-pub use Rattle.pool_layouts.specs.declared.serial.Pending.{Pending}
 pub use Rattle.pool_layouts.specs.declared.steps.Opened.{Opened}
 pub use Rattle.pool_layouts.specs.declared.steps.Step.{Step}
 pub use Rattle.std.proofs.lemmas.Bool.{and_from, and_parts, eq-eqb, eqb-true, le-leb, le-ltb, leb-false, leb-true, lt-leb, lt-ltb, ltb-true}
@@ -55,9 +53,9 @@ pub use Rattle.tree_handles.proofs.Plains.{count-plains, root_kind-plain}
 pub use Rattle.tree_handles.proofs.Visiting.{found, visits_length}
 pub use Rattle.tree_handles.specs.Building.{taking}
 pub use Rattle.tree_handles.specs.Expressions.{AllExpressions, IsExpression, compound, grown, plain, plains, takes, takes_kind}
-pub use Rattle.tree_handles.specs.Forest.{AllNodes, Forest, Label, arity, before_last, bytes_in, empty, flatten, join, last_trees, node_of, nodes_in, one_tree, root_payload, tree}
+pub use Rattle.tree_handles.specs.Forest.{AllNodes, Forest, Label, arity, before_last, bytes_in, empty, flatten, join, kids, last_trees, node_of, nodes_in, one_tree, root_payload, tree}
 pub use Rattle.tree_handles.specs.Handed.{AllOnce, Ends, IsOnce, KeepsFront, Starts}
 pub use Rattle.tree_handles.specs.Inside.{holds, kids_of, payload_in, tree_at}
 pub use Rattle.tree_handles.specs.Standing.{IsRefused, KeepsRefusals, LacksBytes, Refuses, Stands, forest}
-pub use Rattle.tree_handles.specs.Visits.{AreFound, visit_of, visits_of}
+pub use Rattle.tree_handles.specs.Visits.{AreFound, visit_at, visit_of, visits_of}
 pub use Rattle.tree_handles.specs.declared.visits.Visit.{Visit}

@@ -1,7 +1,6 @@
--- What a place of the list shows of the tree that begins there.
-use Rattle.std.proofs.Common.{◌≡◌, ◌∙◌, ℕ, suc, ◌+◌, ◌<◌, List, ◌∷◌, ◌++◌, length, map, drop, get_or, refl, sym, ap, arith, append-nil, drop-cons, add-one}
-use Rattle.pool_layouts.proofs.Shared.{length-drop, Node, Payload, bare, kind_of_payload, Tree, neg, root_kind, kind_behind_opposites, not_opposite, plain, AllExpressions, Label, Forest, empty, tree, arity, flatten, node_of, root_kind-plain, Visit, Place, LaterOfProduct, visit_of, visits_of, ShowsTree, deciding_kind}
-use Rattle.calc_terms.specs.declared.kind.Kind.TheVariants as kind
+-- What a place of the list shows.
+use Rattle.std.proofs.Common.{◌≡◌, ◌∙◌, ℕ, suc, ◌+◌, ◌<◌, List, ◌∷◌, length, drop, get_or, true, ap, arith, drop-cons, add-one}
+use Rattle.pool_layouts.proofs.Shared.{length-drop, State, Label, Forest, empty, tree, root_payload, AllNodes, holds, tree_at, payload_in, Stands, forest, found, Visit, AreFound}
 
 -- ---- the first of what is left
 
@@ -20,59 +19,14 @@ others_are xs ys n x e = ap (λ (k : ℕ). drop k xs) (add-one n) ∙ by (drop-c
     by : drop n xs ≡ get_or xs n x ∷ drop (suc n) xs → drop (suc n) xs ≡ ys
     by h = cc
 
--- ---- a tree, by its root
+-- ---- the nodes of a tree in a pool are found there
 
-pub record IsShown (at : ℕ) (t : Forest) (cells : List Visit) : Type 0 where
-  pub label : Label
-  pub below : Forest
-  pub rest : List Visit
-  pub tree_is : t ≡ tree label below empty
-  pub cells_are : drop at cells ≡ visit_of (node_of label below) ∷ (visits_of below ++ rest)
-  pub whole : AllExpressions (tree label below empty)
+abbrev pub IsKnown : Forest → Label → ℕ → Type 0
+IsKnown base l n = (holds l.id base ≡ true) × (payload_in l.id base ≡ l.payload)
 
-shown_as : (at : ℕ) (t : Forest) (cells rest : List Visit) → arity t ≡ 1 → AllExpressions t → drop at cells ≡ visits_of t ++ rest → IsShown at t cells
-shown_as at empty cells rest one w e = absurd (omega (arith, one))
-shown_as at (tree l k (tree m j r)) cells rest one w e = absurd (omega (arith, one))
-shown_as at (tree l k empty) cells rest one w e = record {
-  label = l;
-  below = k;
-  rest = rest;
-  tree_is = refl;
-  cells_are = e ∙ ap (λ (ns : List Node). visit_of (node_of l k) ∷ (map visit_of ns ++ rest)) (append-nil (flatten k));
-  whole = w;
-}
+known_all : (base f : Forest) → AreFound base f → AllNodes (IsKnown base) f
+known_all base empty h = tt
+known_all base (tree l k r) h = ((h.0.0, ap root_payload h.0.1), known_all base k h.1, known_all base r h.2)
 
-pub shown : {at : ℕ} {t : Forest} {cells : List Visit} → ShowsTree at t cells → IsShown at t cells
-shown {at = at} {t = t} {cells = cells} s = shown_as at t cells s.behind s.alone s.whole s.cells_are
-
-pub shown_inside : {at : ℕ} {t : Forest} {cells : List Visit} → ShowsTree at t cells → at < length cells
-shown_inside {at = at} {cells = cells} s = let x = shown s in inside_list cells (visits_of x.below ++ x.rest) at (visit_of (node_of x.label x.below)) x.cells_are
-
-pub shown_kind : {at : ℕ} {t : Forest} {cells : List Visit} (d : Visit) → ShowsTree at t cells → (get_or cells at d).kind ≡ root_kind (plain t)
-shown_kind d s = grind (arith, shown, first_is, root_kind-plain)
-
--- ---- opposites
-
-neg_payload : (x : Payload) → kind_of_payload x ≡ kind.Neg → x ≡ bare kind.Neg
-neg_payload x h = grind arith
-
--- what an opposite is of stands behind its node
-pub record IsOpposite (at : ℕ) (t : Forest) (cells : List Visit) : Type 0 where
-  pub inner : Forest
-  pub shows : ShowsTree (at + 1) inner cells
-  pub plain_is : plain t ≡ neg (plain inner)
-
-opposite_of : (at : ℕ) (t : Forest) (cells rest : List Visit) (l : Label) (k : Forest) → t ≡ tree l k empty → drop at cells ≡ visit_of (node_of l k) ∷ (visits_of k ++ rest) → l.payload ≡ bare kind.Neg → AllExpressions (tree l k empty) → IsOpposite at t cells
-opposite_of at t cells rest l k q e n w = grind (arith, others_are)
-
-pub opposite : {at : ℕ} {t : Forest} {cells : List Visit} (d : Visit) → ShowsTree at t cells → (get_or cells at d).kind ≡ kind.Neg → IsOpposite at t cells
-opposite {at = at} {t = t} {cells = cells} d s e =
-    let x = shown s in
-    let is : (get_or cells at d).kind ≡ kind_of_payload x.label.payload = ap (λ (y : Visit). y.kind) (first_is cells (visits_of x.below ++ x.rest) at (visit_of (node_of x.label x.below)) d x.cells_are) in
-    opposite_of at t cells x.rest x.label x.below x.tree_is x.cells_are (neg_payload x.label.payload (sym is ∙ e)) x.whole
-
-pub behind_none : {at : ℕ} {t : Forest} {cells : List Visit} (d e : Visit) → ShowsTree at t cells → ((get_or cells at e).kind ≡ kind.Neg → ⊥) → (get_or cells at d).kind ≡ kind_behind_opposites (plain t)
-behind_none {t = t} d e s h = shown_kind d s ∙ sym (not_opposite (plain t) (λ q. h (shown_kind e s ∙ q)))
-
-pub decided_by_root : (p : Place) (t : Tree) → (p ≡ LaterOfProduct → ⊥) → root_kind t ≡ deciding_kind p t
-decided_by_root p t h = grind arith
+pub known : (s : State) (i : ℕ) → Stands s → AllNodes (IsKnown (forest s)) (tree_at i (forest s))
+known s i st = known_all (forest s) (tree_at i (forest s)) (found i s st)

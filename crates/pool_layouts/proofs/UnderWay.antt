@@ -1,10 +1,12 @@
 -- The layout of a face under way: what was placed of it, and what is left.
 use Rattle.std.proofs.Common.{◌≡◌, ◌∙◌, nat_eq, get_or, ℕ, ◌+◌, ◌<◌, ◌≤◌, List, [], ◌∷◌, ◌++◌, length, map, drop, Option, None, Ok, Err, true, false, refl, sym, ap, subst, arith, append_assoc, append-nil}
-use Rattle.pool_layouts.proofs.Shared.{eqb-true, map-append, length-append, Kind, Node, Payload, rational, named, bare, kind_of_payload, Tree, Trees, none, more, count, root_kind, used, Full, State, free_of, taking, plain, plains, takes, AllExpressions, IsExpression, Label, Forest, empty, tree, join, arity, bytes_in, flatten, node_of, one_tree, last_trees, before_last, root_payload, AllNodes, Ends, Starts, KeepsFront, AllOnce, IsOnce, holds, tree_at, payload_in, Stands, forest, KeepsRefusals, Refuses, LacksBytes, found, join-empty, join_assoc, arity-join, all-join, keeps_after, keeps_none, refuses_after, before_last-join, last_trees-join, ends_as, one_at, used_forest, count-plains, Visit, Frame, Place, part_sizes, parts_sizes, visit_of, visits_of, AreFound, ShowsTree, drawn, drawings, composes, AllComposed, IsComposed, GivesLayout, frame_of, frame_behind, Layout, Layouts, beside, one_part, join_parts, layout, Closes, IsAround, IsStopped, PlacesMark, is_leaf, root_sizes, around_sizes, held_in, first_place, next_place, mark_before, marks, around_kind, deciding_kind, within, around_of, parts_from, laid}
+use Rattle.pool_layouts.proofs.Shared.{eqb-true, length-append, Kind, Node, Payload, rational, named, bare, kind_of_payload, Tree, Trees, none, more, count, root_kind, used, Full, State, free_of, taking, plain, plains, takes, AllExpressions, IsExpression, Label, Forest, empty, tree, join, arity, bytes_in, flatten, node_of, one_tree, last_trees, before_last, root_payload, Ends, Starts, KeepsFront, AllOnce, IsOnce, holds, tree_at, payload_in, Stands, forest, kids_of, kids, root_kind-plain, deciding, deciding_is, KeepsRefusals, Refuses, LacksBytes, found, join-empty, join_assoc, arity-join, all-join, keeps_after, keeps_none, refuses_after, before_last-join, last_trees-join, ends_as, used_forest, count-plains, Visit, Frame, Place, part_sizes, parts_sizes, visit_of, visits_of, AreFound, visit_at, drawn, drawings, composes, AllComposed, IsComposed, GivesLayout, frame_of, frame_behind, Layout, Layouts, beside, one_part, join_parts, layout, Closes, IsAround, IsStopped, PlacesMark, is_leaf, root_sizes, around_sizes, held_in, first_place, next_place, mark_before, marks, around_kind, deciding_kind, within, around_of, parts_from, laid}
 use Rattle.tree_handles.proofs.Joins.{holds-left, tree_at-join_left}
+use Rattle.tree_handles.proofs.Parts.{at}
 use Rattle.pool_layouts.proofs.Parts.{layout_is}
 use Rattle.pool_layouts.proofs.Placing.{few_trees}
-use Rattle.pool_layouts.proofs.Shown.{first_is, others_are, shown, shown_inside}
+use Rattle.line_text.proofs.Walks.{snoc_same}
+use Rattle.pool_layouts.proofs.Shown.{first_is, others_are, inside_list}
 use Rattle.pool_layouts.proofs.Sizes.{join_parts-nothing, join_parts-assoc, drawings-join, count_parts, count-drawings, count-join, sizes-join, sizes-marks, drawn_sizes, within_sizes, taken_first, refused_first}
 use Rattle.calc_terms.specs.declared.kind.Kind.TheVariants as kind
 
@@ -47,10 +49,6 @@ abbrev pub sizes_left : List Owed → List ℕ
 sizes_left [] = []
 sizes_left (o ∷ os) = parts_sizes (parts_left o) ++ (root_sizes o.source o.frame.around ++ sizes_left os)
 
--- each node of the face is found in the pool, with what it holds
-abbrev pub IsKnown : Forest → Label → ℕ → Type 0
-IsKnown base l n = (holds l.id base ≡ true) × (payload_in l.id base ≡ l.payload)
-
 -- what holds of a node whose layout is under way, with so many parts in the making
 pub record IsOwed (base outer : Forest) (making : ℕ) (o : Owed) : Type 0 where
   pub left : o.frame.left ≡ arity o.rest
@@ -59,7 +57,7 @@ pub record IsOwed (base outer : Forest) (making : ℕ) (o : Owed) : Type 0 where
   pub once : AllOnce o.parts
   pub composed_parts : AllComposed o.parts
   pub expressions : AllExpressions o.rest
-  pub known : AllNodes (IsKnown base) o.rest
+  pub known : AreFound base o.rest
   pub live : holds o.frame.id base ≡ true
   pub source_is : payload_in o.frame.id base ≡ o.source
   pub composed_whole : composes (laid o.source) (arity o.parts + making + count_parts (parts_left o)) ≡ true
@@ -83,15 +81,6 @@ pub record IsUnderWay (l : Layout) (old now : State) (at : ℕ) (cells : List Vi
   pub keeps : KeepsRefusals old now
   pub stands : Stands now
   pub short : length frames ≤ at
-
--- ---- the nodes of the face are known
-
-known_all : (base f : Forest) → AreFound base f → AllNodes (IsKnown base) f
-known_all base empty h = tt
-known_all base (tree l k r) h = ((h.0.0, ap root_payload h.0.1), known_all base k h.1, known_all base r h.2)
-
-pub known : (s : State) (i : ℕ) → Stands s → AllNodes (IsKnown (forest s)) (tree_at i (forest s))
-known s i st = known_all (forest s) (tree_at i (forest s)) (found i s st)
 
 -- ---- a node before its children
 
@@ -126,7 +115,7 @@ record IsFresh (base outer : Forest) (l : Label) (k : Forest) (around : Option K
   drawing : finished (fresh_owed l k around begin) (parts_left (fresh_owed l k around begin)) ≡ within around (layout (plain (tree l k empty)))
   sizes : part_sizes (within around (layout (plain (tree l k empty)))) ≡ parts_sizes (parts_left (fresh_owed l k around begin)) ++ root_sizes l.payload around
 
-fresh : (base outer : Forest) (l : Label) (k : Forest) (around : Option Kind) (begin : ℕ) → begin ≡ bytes_in (join base outer) → AllExpressions (tree l k empty) → AllNodes (IsKnown base) (tree l k empty) → IsAround around → IsFresh base outer l k around begin
+fresh : (base outer : Forest) (l : Label) (k : Forest) (around : Option Kind) (begin : ℕ) → begin ≡ bytes_in (join base outer) → AllExpressions (tree l k empty) → AreFound base (tree l k empty) → IsAround around → IsFresh base outer l k around begin
 fresh base outer l k around begin b w n a =
     let takes_them : takes l.payload (count (plains k)) ≡ true = ap (takes l.payload) (count-plains k) ∙ w.0 in
     let ls = parts_from (first_place (kind_of_payload l.payload)) (plains k) in
@@ -142,7 +131,7 @@ fresh base outer l k around begin b w n a =
         expressions = w.1;
         known = n.1;
         live = n.0.0;
-        source_is = n.0.1;
+        source_is = ap root_payload n.0.1;
         composed_whole = ap (composes (laid l.payload)) (let same : 0 + 0 + count_parts ls ≡ count_parts ls = omega arith in same) ∙ composed;
         around = a;
       };
@@ -152,33 +141,38 @@ fresh base outer l k around begin b w n a =
 
 -- ---- the start
 
-shows_face : (face : ℕ) (s : State) (cells : List Visit) → IsExpression face (forest s) → cells ≡ visits_of (tree_at face (forest s)) → ShowsTree 0 (tree_at face (forest s)) cells
-shows_face face s cells x e = record { alone = one_at face (forest s) x.live; whole = x.whole; behind = []; cells_are = e ∙ sym (append-nil (visits_of (tree_at face (forest s)))) }
+-- the list begins with the face's root
+module _ (face : ℕ) (s : State) (cells : List Visit) (x : IsExpression face (forest s)) (e : cells ≡ visits_of (tree_at face (forest s))) where
+  abbrev face_below : Forest
+  face_below = kids_of face (forest s)
 
-pub first_inside : (face : ℕ) (s : State) (cells : List Visit) → IsExpression face (forest s) → cells ≡ visits_of (tree_at face (forest s)) → 0 < length cells
-first_inside face s cells x e = shown_inside (shows_face face s cells x e)
+  cells_begin : drop 0 cells ≡ visit_of (node_of (at face (forest s) x.live).label face_below) ∷ map visit_of (flatten face_below ++ [])
+  cells_begin = e ∙ ap visits_of (at face (forest s) x.live).tree-is
+
+  pub first_inside : 0 < length cells
+  first_inside = inside_list cells (map visit_of (flatten face_below ++ [])) 0 (visit_of (node_of (at face (forest s) x.live).label face_below)) cells_begin
 
 pub started : (s : State) (face : ℕ) (cells : List Visit) (frames : List Frame) (d : Visit) (begin : ℕ) → Stands s → IsExpression face (forest s) → cells ≡ visits_of (tree_at face (forest s)) → begin ≡ used s.nodes → frames ≡ frame_of (get_or cells 0 d) None begin ∷ []
     → IsUnderWay (layout (plain (tree_at face (forest s)))) s s 1 cells frames
 started s face cells frames d begin st x e b f =
-    let x = shown (shows_face face s cells x e) in
     let base = forest s in
-    let c = visit_of (node_of x.label x.below) in
-    let known_ones = subst (AllNodes (IsKnown base)) x.tree_is (known s face st) in
-    let n = fresh base empty x.label x.below None begin (b ∙ used_forest s st ∙ ap bytes_in (sym (join-empty base))) x.whole known_ones tt in
-    let plain_is : plain (tree_at face base) ≡ plain (tree x.label x.below empty) = ap plain x.tree_is in
-    let first : get_or cells 0 d ≡ c = first_is cells (visits_of x.below ++ x.rest) 0 c d x.cells_are in
-    let all : cells ≡ visits_of (tree x.label x.below empty) = e ∙ ap visits_of x.tree_is in
+    let p = at face base x.live in
+    let k = kids_of face base in
+    let c = visit_of (node_of p.label k) in
+    let n = fresh base empty p.label k None begin (b ∙ used_forest s st ∙ ap bytes_in (sym (join-empty base))) (subst AllExpressions p.tree-is x.whole) (subst (AreFound base) p.tree-is (found face s st)) tt in
+    let plain_is : plain (tree_at face base) ≡ plain (tree p.label k empty) = ap plain p.tree-is in
+    let begins = cells_begin face s cells x e in
+    let first : get_or cells 0 d ≡ c = first_is cells (map visit_of (flatten k ++ [])) 0 c d begins in
     record {
-      inner = fresh_owed x.label x.below None begin;
+      inner = fresh_owed p.label k None begin;
       outer = [];
       frames_are = f ∙ ap (λ (y : Visit). frame_of y None begin ∷ []) first;
       whole = sym (join-empty base);
-      cells_are = ap (drop 1) all;
+      cells_are = others_are cells (map visit_of (flatten k ++ [])) 0 c begins;
       innermost = n.owed;
       others = tt;
       layout_is = n.drawing ∙ ap layout (sym plain_is);
-      budget = ap (λ (t : Tree). taking (free_of s) (part_sizes (layout t))) plain_is ∙ ap (taking (free_of s)) (n.sizes ∙ ap (λ (y : List ℕ). parts_sizes (parts_left (fresh_owed x.label x.below None begin)) ++ y) (sym (append-nil (root_sizes x.label.payload None))));
+      budget = ap (λ (t : Tree). taking (free_of s) (part_sizes (layout t))) plain_is ∙ ap (taking (free_of s)) (n.sizes ∙ ap (λ (y : List ℕ). parts_sizes (parts_left (fresh_owed p.label k None begin)) ++ y) (sym (append-nil (root_sizes p.label.payload None))));
       keeps = keeps_none s;
       stands = st;
       short = omega (arith, ap length f);
@@ -201,17 +195,6 @@ pub record IsTop (l : Layout) (old now : State) (at : ℕ) (cells : List Visit) 
   pub keeps : KeepsRefusals old now
   pub stands : Stands now
   pub short : length popped + 1 ≤ at
-
--- the last of two equal lists
-snoc_same : (xs ys : List Frame) (x y : Frame) → xs ++ x ∷ [] ≡ ys ++ y ∷ [] → (xs ≡ ys) × (x ≡ y)
-snoc_same [] [] x y e = (refl, cc)
-snoc_same [] (b ∷ ys) x y e = absurd (omega (arith, ap length e, length-append ys (y ∷ [])))
-snoc_same (a ∷ xs) [] x y e = absurd (omega (arith, ap length e, length-append xs (x ∷ [])))
-snoc_same (a ∷ xs) (b ∷ ys) x y e =
-    let tails : xs ++ x ∷ [] ≡ ys ++ y ∷ [] = cc in
-    let heads : a ≡ b = cc in
-    let same = snoc_same xs ys x y tails in
-    (ap (λ (z : Frame). z ∷ xs) heads ∙ ap (λ (zs : List Frame). b ∷ zs) same.0, same.1)
 
 top_itself : (l : Layout) (old now : State) (at : ℕ) (cells : List Visit) (frames : List Frame) (u : IsUnderWay l old now at cells frames) → IsTop l old now at cells (frames_of u.outer) u.inner.frame
 top_itself l old now at cells frames u = record {
@@ -282,13 +265,35 @@ next {l = l} {old = old} {now = now} {at = at} {cells = cells} {popped = popped}
       short = t.short;
     }
 
-pub next_shows : {l : Layout} {old now : State} {at : ℕ} {cells : List Visit} {popped : List Frame} {frame : Frame} (n : IsNext l old now at cells popped frame) → ShowsTree at (tree n.label n.below empty) cells
-next_shows {at = at} {cells = cells} n = record {
-  alone = refl;
-  whole = (n.innermost.expressions.0, n.innermost.expressions.1, tt);
-  behind = map visit_of (flatten n.rest ++ nodes_left n.outer);
-  cells_are = n.cells_are ∙ ap (λ (y : List Visit). visit_of (node_of n.label n.below) ∷ y) (map-append visit_of (flatten n.below) (flatten n.rest ++ nodes_left n.outer) ∙ ap (λ (ns : List Node). map visit_of ns ++ map visit_of (flatten n.rest ++ nodes_left n.outer)) (sym (append-nil (flatten n.below))));
-}
+pub next_inside : {l : Layout} {old now : State} {at : ℕ} {cells : List Visit} {popped : List Frame} {frame : Frame} → IsNext l old now at cells popped frame → at < length cells
+next_inside {at = at} {cells = cells} n = inside_list cells (map visit_of (flatten n.below ++ (flatten n.rest ++ nodes_left n.outer))) at (visit_of (node_of n.label n.below)) n.cells_are
+
+-- the child's node, seen in the pool
+module _ {l : Layout} {old now : State} {at : ℕ} {cells : List Visit} {popped : List Frame} {frame : Frame} (n : IsNext l old now at cells popped frame) (v : Visit) (here : v ≡ get_or cells at v) where
+  abbrev next_tree : Forest
+  next_tree = tree n.label n.below empty
+
+  next_is : v ≡ visit_of (node_of n.label n.below)
+  next_is = here ∙ first_is cells (map visit_of (flatten n.below ++ (flatten n.rest ++ nodes_left n.outer))) at (visit_of (node_of n.label n.below)) v n.cells_are
+
+  tree_here : tree_at n.label.id (forest now) ≡ next_tree
+  tree_here = ap (tree_at n.label.id) n.whole ∙ tree_at-join_left n.label.id (forest old) (join (made_of n.outer) n.parts) n.innermost.known.0.0 ∙ n.innermost.known.0.1
+
+  pub next_live : holds v.id (forest now) ≡ true
+  next_live = ap (λ (w : Visit). holds w.id (forest now)) next_is ∙ ap (holds n.label.id) n.whole ∙ holds-left n.label.id (forest old) (join (made_of n.outer) n.parts) n.innermost.known.0.0
+
+  pub next_seen : v ≡ visit_at v.id (forest now)
+  next_seen =
+      let at_label : visit_of (node_of n.label n.below) ≡ visit_at n.label.id (forest now) = ap (λ (t : Forest). let w : Visit = record { kind = kind_of_payload (root_payload t); id = n.label.id; children = arity (kids t) } in w) (sym tree_here) in
+      next_is ∙ at_label ∙ ap (λ (w : Visit). visit_at w.id (forest now)) (sym next_is)
+
+  -- what its layout stands in
+  pub next_around : (k : Kind) (around : Option Kind) → k ≡ deciding frame.place (tree_at v.id (forest now)) → around ≡ around_kind frame.place v.kind k → around ≡ around_of frame.place (plain next_tree)
+  next_around k around e f =
+      let kind_is : v.kind ≡ root_kind (plain next_tree) = ap (λ (w : Visit). w.kind) next_is ∙ sym (root_kind-plain next_tree refl (n.innermost.expressions.0, n.innermost.expressions.1, tt)) in
+      let decides : k ≡ deciding_kind frame.place (plain next_tree)
+      = e ∙ ap (λ (w : Visit). deciding frame.place (tree_at w.id (forest now))) next_is ∙ ap (deciding frame.place) tree_here ∙ deciding_is frame.place n.label n.below n.rest n.innermost.expressions in
+      f ∙ (λ i. around_kind frame.place (kind_is i) (decides i))
 
 -- the parts of a node are few
 pub parts_are_few : {l : Layout} {old now : State} {at : ℕ} {cells : List Visit} {popped : List Frame} {frame : Frame} → IsTop l old now at cells popped frame → frame.parts ≤ 65535
@@ -304,15 +309,14 @@ regroup : (a b c d : List ℕ) → ((a ++ b) ++ c) ++ d ≡ a ++ (b ++ (c ++ d))
 regroup a b c d = append_assoc (a ++ b) c d ∙ append_assoc a b (c ++ d)
 
 pub entered : {l : Layout} {old now : State} {at : ℕ} {cells : List Visit} {popped : List Frame} {frame : Frame} (after : State) (marks_placed : ℕ) (around : Option Kind) (begin : ℕ) (d : Visit) (frames : List Frame)
-    → IsNext l old now at cells popped frame → PlacesMark (mark_before frame.place) (forest now) (forest after) marks_placed → KeepsRefusals now after → taking (free_of now) (around_sizes (mark_before frame.place)) ≡ Ok (free_of after) → Stands after
-    → ((t : Forest) → ShowsTree at t cells → around ≡ around_of frame.place (plain t)) → begin ≡ used after.nodes
+    → (n : IsNext l old now at cells popped frame) → PlacesMark (mark_before frame.place) (forest now) (forest after) marks_placed → KeepsRefusals now after → taking (free_of now) (around_sizes (mark_before frame.place)) ≡ Ok (free_of after) → Stands after
+    → around ≡ around_of frame.place (plain (tree n.label n.below empty)) → begin ≡ used after.nodes
     → frames ≡ (popped ++ frame_behind frame marks_placed ∷ []) ++ frame_of (get_or cells at d) around begin ∷ []
     → IsUnderWay l old after (at + 1) cells frames
-entered {l = l} {old = old} {now = now} {at = at} {cells = cells} {popped = popped} {frame = frame} after marks_placed around begin d frames n m kept room st around_is b f =
+entered {l = l} {old = old} {now = now} {at = at} {cells = cells} {popped = popped} {frame = frame} after marks_placed around begin d frames n m kept room st a b f =
     let base = forest old in
     let made = join (made_of n.outer) (join n.parts m.parts) in
     let t = tree n.label n.below empty in
-    let a : around ≡ around_of frame.place (plain t) = around_is t (next_shows n) in
     let whole : forest after ≡ join base made = m.whole ∙ ap (λ (g : Forest). join g m.parts) n.whole ∙ marked base (made_of n.outer) n.parts m.parts in
     let c = visit_of (node_of n.label n.below) in
     let first : get_or cells at d ≡ c = first_is cells (map visit_of (flatten n.below ++ (flatten n.rest ++ nodes_left n.outer))) at c d n.cells_are in

@@ -11,5 +11,4 @@ pub record HasRoom (d : Inside) : Type 0 where
   pub cells : d.pool_size < 8 * vec_capacity d.cells
   pub extents : d.pool_size < 8 * vec_capacity d.extents
   pub under_way : d.pool_size < 8 * vec_capacity d.under_way
-  pub pending : d.pool_size < 8 * vec_capacity d.pending
   pub steps : d.pool_size < 8 * vec_capacity d.steps

@@ -3,7 +3,7 @@ use Rattle.std.specs.Prelude.{ℕ, ◌+◌, ◌-◌, Option}
 use Rattle.calc_terms.specs.declared.kind.Kind.{Kind}
 use Rattle.tree_handles.specs.declared.visits.Visit.{Visit}
 use Rattle.pool_layouts.specs.declared.frames.Frame.{Frame}
-use Rattle.pool_layouts.specs.Places.{first_place, next_place}
+use Rattle.line_text.specs.Places.{first_place, next_place}
 
 -- a node before its children
 abbrev pub frame_of : Visit → Option Kind → ℕ → Frame

@@ -2,11 +2,9 @@ pub mod Layouts
 pub mod Drawings
 pub mod Building
 pub mod Places
-pub mod Cells
 pub mod Frames
 pub mod Laying
 pub mod Serial
-pub mod Pending
 pub mod Pictures
 pub mod Extents
 pub mod Painting

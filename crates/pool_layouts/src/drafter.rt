@@ -1,9 +1,8 @@
-//! The lists that layouts, serial texts and pictures are made with.
+//! The lists that layouts and pictures are made with.
 ghost use Rattle.std.specs.Prelude.{◌≡◌, IfOk};
 
 use crate::extents::Extent;
 use crate::frames::Frame;
-use crate::serial::Pending;
 use crate::steps::Step;
 use std::alloc::{AllocError, Global};
 use std::marker::Model;
@@ -17,7 +16,6 @@ pub struct Drafter {
     pub(crate) cells: Vec<Visit>,
     pub(crate) extents: Vec<Extent>,
     pub(crate) under_way: Vec<Frame>,
-    pub(crate) pending: Vec<Pending>,
     pub(crate) steps: Vec<Step>,
 }
 
@@ -43,14 +41,12 @@ impl Drafter {
         let cells = Vec::with_capacity(alloc, nodes)?;
         let extents = Vec::with_capacity(alloc, nodes)?;
         let under_way = Vec::with_capacity(alloc, nodes)?;
-        let pending = Vec::with_capacity(alloc, nodes)?;
         let steps = Vec::with_capacity(alloc, nodes)?;
         Ok(Drafter {
             pool_size,
             cells,
             extents,
             under_way,
-            pending,
             steps,
         })
     }

@@ -2,8 +2,8 @@
 ghost use Rattle.std.specs.Prelude.{◌≡◌, ◌<◌, ◌+◌, ◌^◌};
 ghost use Rattle.pool_layouts.specs.Frames.{frame_of, frame_behind};
 
-use crate::places::Place;
 use calc_terms::Kind;
+use line_text::Place;
 use node_pool::Id;
 use tree_handles::Visit;
 
@@ -28,7 +28,7 @@ impl Default for Frame {
     fn default() -> Frame {
         Frame {
             id: Id::default(),
-            place: Place::Alone,
+            place: Place::WholeText,
             left: 0,
             parts: 0,
             begin: 0,

@@ -4,8 +4,7 @@ ghost use Rattle.line_text.specs.Content.{spare_of, extended};
 ghost use Rattle.pool_layouts.specs.Painting.{IsInk, blanks_left, ink_characters, inked};
 ghost use Rattle.tree_handles.specs.Standing.{Stands, forest};
 
-use crate::serial::write_leaf;
-use line_text::Text;
+use line_text::{Text, write_leaf};
 use node_pool::{Id, Pool};
 
 /// What is painted at once.

@@ -8,20 +8,19 @@ ghost use Rattle.tree_handles.specs.Forest.{Forest, arity, bytes_in, nodes_in, o
 ghost use Rattle.tree_handles.specs.Handed.{Ends, KeepsFront};
 ghost use Rattle.tree_handles.specs.Inside.{holds, tree_at, payload_in};
 ghost use Rattle.tree_handles.specs.Standing.{Stands, forest, KeepsRefusals, Refuses, LacksBytes, IsRefused};
-ghost use Rattle.line_text.specs.Places.{kind_behind_opposites as behind_opposites};
 ghost use Rattle.pool_layouts.specs.Building.{laying};
 ghost use Rattle.tree_handles.specs.Visits.{visits_of};
-ghost use Rattle.pool_layouts.specs.Cells.{ShowsTree, ShowsSome};
 ghost use Rattle.pool_layouts.specs.Drawings.{GivesLayout};
 ghost use Rattle.pool_layouts.specs.Layouts.{layout};
 ghost use Rattle.pool_layouts.specs.Laying.{Closes, HasLast, IsAround, is_leaf, IsStopped, PlacesMark, StandsIn, root_sizes, around_sizes};
-ghost use Rattle.pool_layouts.specs.Places.{laid, mark_before, around_of, deciding_kind as deciding};
+ghost use Rattle.pool_layouts.specs.Places.{laid, mark_before as mark_there};
 
 use crate::drafter::Drafter;
 use crate::frames::Frame;
 use crate::lists::{append, list_nodes};
-use crate::places::{Place, laid_kind};
+use crate::places::{around, laid_kind, mark_before};
 use calc_terms::Kind;
+use line_text::{Place, deciding_kind};
 use node_pool::{Full, Id, Pool};
 use tree_handles::{Handle, Visit, kind, name, node, node_over_last, number, rational, symbol};
 
@@ -75,10 +74,12 @@ fn lay(
     let mut at = 1;
     while let Some(frame) = under_way.pop() {
         if frame.left > 0 {
+            let cell = cells[at];
+            let deciding = deciding_kind(pool, &cell, frame.place);
+            let around = around(frame.place, cell.kind, deciding);
             let marks = place_mark(pool, frame.place)?;
-            let around = around(cells, at, frame.place);
             append(under_way, frame.behind(marks));
-            append(under_way, Frame::of(cells[at], around, pool.used()));
+            append(under_way, Frame::of(cell, around, pool.used()));
             at += 1;
         } else {
             let last = close(pool, frame)?;
@@ -93,54 +94,18 @@ fn lay(
 /// Places the mark before a tree at a place, where there is one; how many marks.
 fn place_mark(pool: &mut Pool, place: Place) -> Result<u32, Full>
     requires stands { Stands pool.old }
-    ensures ok { IfOk result (λ n. PlacesMark (mark_before place) (forest pool.old) (forest pool.new) n) }
+    ensures ok { IfOk result (λ n. PlacesMark (mark_there place) (forest pool.old) (forest pool.new) n) }
     ensures kept { OnOk result (KeepsRefusals pool.old pool.new) }
-    ensures room { OnOk result (taking (free_of pool.old) (around_sizes (mark_before place)) ≡ Ok (free_of pool.new)) }
-    ensures full { IfErr result (IsStopped (forest pool.old) (around_sizes (mark_before place)) pool.old pool.new) }
+    ensures room { OnOk result (taking (free_of pool.old) (around_sizes (mark_there place)) ≡ Ok (free_of pool.new)) }
+    ensures full { IfErr result (IsStopped (forest pool.old) (around_sizes (mark_there place)) pool.old pool.new) }
     ensures stands { Stands pool.new }
 {
-    match place.mark() {
+    match mark_before(place) {
         Some(mark) => match node(pool, mark) {
             Ok(_) => Ok(1),
             Err(full) => Err(full),
         },
         None => Ok(0),
-    }
-}
-
-/// What the tree at a place of the list stands in.
-fn around(cells: &[Visit], at: usize, place: Place) -> Option<Kind>
-    requires shown { ShowsSome at cells.now }
-    requires few { length cells.now < 2 ^ 16 }
-    ensures { (t : Forest) → ShowsTree at t cells.now → result ≡ around_of place (plain t) }
-{
-    place.around(cells[at].kind, deciding_kind(cells, at, place))
-}
-
-/// The kind on which it depends whether the tree at a place of the list needs parentheses.
-fn deciding_kind(cells: &[Visit], at: usize, place: Place) -> Kind
-    requires shown { ShowsSome at cells.now }
-    requires few { length cells.now < 2 ^ 16 }
-    ensures { (t : Forest) → ShowsTree at t cells.now → result ≡ deciding place (plain t) }
-{
-    match place {
-        Place::LaterOfProduct => kind_behind_opposites(cells, at),
-        _ => cells[at].kind,
-    }
-}
-
-/// The kind of the first node from a place on that is no opposite.
-fn kind_behind_opposites(cells: &[Visit], from: usize) -> Kind
-    requires shown { ShowsSome from cells.now }
-    requires few { length cells.now < 2 ^ 16 }
-    ensures { (t : Forest) → ShowsTree from t cells.now → result ≡ behind_opposites (plain t) }
-{
-    let mut at = from;
-    loop {
-        match cells[at].kind {
-            Kind::Neg => at += 1,
-            kind => return kind,
-        }
     }
 }
 

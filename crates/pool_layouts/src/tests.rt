@@ -118,7 +118,7 @@ fn draw(alloc: Global, pool: &mut Pool, line: &[u8], text: &mut Text) -> bool
     if text.spare() / 2 < pool.size() {
         return false;
     }
-    write_serial(pool, layout, &mut drafter, text);
+    write_serial(pool, layout, text);
     for row in 0..rows(pool, layout, &mut drafter) {
         if text.spare() / 2 <= pool.size() {
             return false;

@@ -1,7 +1,7 @@
-use Rattle.std.proofs.Common.{◌≡◌, ◌∙◌, ◌++◌, ℕ, List, [], ◌∷◌, length, refl, sym, ap, subst, arith}
+use Rattle.std.proofs.Common.{◌≡◌, ◌∙◌, ◌++◌, List, [], ◌∷◌, length, refl, sym, ap, subst, arith}
 use Rattle.line_text.proofs.Shared.{Visit, nodes_in, tree_at, forest, one_at, found, some_next, next_is, Pending, WholeText, Content, extended, written}
 use Rattle.line_text.proofs.Room.{has_room, bytes_nodes}
-use Rattle.line_text.proofs.Walks.{IsWalk, start, some_left, entered, room, goes_down, goes_on, closed, goes_up, done, nothing_owed}
+use Rattle.line_text.proofs.Walks.{IsWalk, start, some_left, entered, room, goes_down, goes_on, closed, goes_up, done, nothing_owed, content_is}
 use Rattle.line_text.proofs.writing.write_nodes.Goals as goal
 
 pub loop-rest-init : goal.loop-rest-init
@@ -67,9 +67,6 @@ loop-rest-preserved c =
       capacity = ap (λ (x : Content). x.capacity) c.write_closing.ensures ∙ c.loop-rest.invariant.capacity;
       deep = omega (arith, c.loop-rest.invariant.deep, c.pop.ensures.capacity);
     }
-
-content_is : (p q : Content) → p.bytes ≡ q.bytes → p.capacity ≡ q.capacity → p ≡ q
-content_is p q e f = ap (λ (b : List ℕ). let r : Content = record { bytes = b; capacity = p.capacity } in r) e ∙ ap (λ (n : ℕ). let r : Content = record { bytes = q.bytes; capacity = n } in r) f
 
 pub returns-in-None-clause-appended : goal.returns-in-None-clause-appended
 returns-in-None-clause-appended c =

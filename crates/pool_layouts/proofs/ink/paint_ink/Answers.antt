@@ -1,5 +1,5 @@
 use Rattle.std.proofs.Common.{◌≤◌, ◌∙◌, ℕ, length, replicate, encode_utf8_all, codes, ap, sym, subst, arith}
-use Rattle.pool_layouts.proofs.Shared.{length-append, length-replicate, root_sign, Content, extended, spare_of, payload_in, forest, Ink, IsInk, ink_characters, leaf_characters, inked, blanks_left, leaf_serial, root_character}
+use Rattle.pool_layouts.proofs.Shared.{length-append, length-replicate, root_sign, Content, extended, spare_of, payload_in, forest, Ink, IsInk, ink_characters, leaf_characters, inked, blanks_left, leaf_bytes, root_character}
 use Rattle.pool_layouts.proofs.Inks.{leaf_inked, none_owed, bar_inked, character_inked, extended_twice}
 use Rattle.pool_layouts.proofs.Lines.{root_encoded, small_bytes}
 use Rattle.pool_layouts.specs.declared.ink.Ink.TheVariants as inks
@@ -8,7 +8,7 @@ use Rattle.pool_layouts.proofs.ink.paint_ink.Goals as goal
 pub repeat-requires : goal.repeat-requires
 repeat-requires c =
     let h : IsInk (forest c.args.pool.now) (inks.Leaf c.in-Leaf.node) = subst (IsInk (forest c.args.pool.now)) c.in-Leaf.is c.requires.ink in
-    let leaf = leaf_serial (payload_in c.in-Leaf.node (forest c.args.pool.now)) in
+    let leaf = leaf_bytes (payload_in c.in-Leaf.node (forest c.args.pool.now)) in
     let room = subst (λ (x : Ink). length (encode_utf8_all (inked c.args.blanks (ink_characters (forest c.args.pool.now) x))) ≤ spare_of c.args.text.now) c.in-Leaf.is c.requires.room in
     omega (arith, room, ap length (leaf_inked (forest c.args.pool.now) c.in-Leaf.node c.args.blanks h), length-append (replicate c.args.blanks 32) leaf, length-replicate {A = ℕ} c.args.blanks 32)
 
@@ -18,7 +18,7 @@ write_leaf-requires-clause-live c = let h : IsInk (forest c.args.pool.now) (inks
 pub write_leaf-requires-clause-room : goal.write_leaf-requires-clause-room
 write_leaf-requires-clause-room c =
     let h : IsInk (forest c.args.pool.now) (inks.Leaf c.in-Leaf.node) = subst (IsInk (forest c.args.pool.now)) c.in-Leaf.is c.requires.ink in
-    let leaf = leaf_serial (payload_in c.in-Leaf.node (forest c.args.pool.now)) in
+    let leaf = leaf_bytes (payload_in c.in-Leaf.node (forest c.args.pool.now)) in
     let room = subst (λ (x : Ink). length (encode_utf8_all (inked c.args.blanks (ink_characters (forest c.args.pool.now) x))) ≤ spare_of c.args.text.now) c.in-Leaf.is c.requires.room in
     omega (
       arith,
@@ -34,7 +34,7 @@ write_leaf-requires-clause-room c =
 pub returns-in-Leaf-clause-text : goal.returns-in-Leaf-clause-text
 returns-in-Leaf-clause-text c =
     let h : IsInk (forest c.args.pool.now) (inks.Leaf c.in-Leaf.node) = subst (IsInk (forest c.args.pool.now)) c.in-Leaf.is c.requires.ink in
-    let leaf = leaf_serial (payload_in c.in-Leaf.node (forest c.args.pool.now)) in
+    let leaf = leaf_bytes (payload_in c.in-Leaf.node (forest c.args.pool.now)) in
     c.write_leaf.ensures ∙ ap (λ (x : Content). extended x leaf) c.repeat.ensures ∙ extended_twice c.args.text.now (replicate c.args.blanks 32) leaf
     ∙ ap (extended c.args.text.now) (sym (leaf_inked (forest c.args.pool.now) c.in-Leaf.node c.args.blanks h) ∙ ap (λ (x : Ink). encode_utf8_all (inked c.args.blanks (ink_characters (forest c.args.pool.now) x))) (sym c.in-Leaf.is))
 

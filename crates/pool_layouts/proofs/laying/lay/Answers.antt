@@ -1,7 +1,6 @@
 use Rattle.std.proofs.Common.{◌≡◌, ◌==◌, ℕ, vec_len, None, ◌∙◌, ◌++◌, ◌∷◌, [], List, length, ap, sym, arith, rules}
-use Rattle.pool_layouts.proofs.Shared.{length-append, empty, tree, tree_at, forest, keeps_after, Visit, Frame, frame_of, frame_behind, visits_length}
-use Rattle.pool_layouts.proofs.Shown.{shown_inside}
-use Rattle.pool_layouts.proofs.UnderWay.{first_inside, started, top, next, next_shows, parts_are_few, entered, closing, close_live, close_few, close_begin, close_leaf, closed_all, closed_room, closed_one, close_stopped, mark_stopped, front_kept, none_left, some_left}
+use Rattle.pool_layouts.proofs.Shared.{length-append, tree_at, forest, keeps_after, Visit, Frame, frame_of, frame_behind, visits_length}
+use Rattle.pool_layouts.proofs.UnderWay.{first_inside, started, top, next, next_inside, next_live, next_seen, next_around, parts_are_few, entered, closing, close_live, close_few, close_begin, close_leaf, closed_all, closed_room, closed_one, close_stopped, mark_stopped, front_kept, none_left, some_left}
 use Rattle.pool_layouts.proofs.laying.lay.Goals as goal
 
 empty_as : (fs : List Frame) (n : ℕ) → length fs ≡ n → (length fs == 0) ≡ (n == 0)
@@ -33,13 +32,14 @@ returns-in_err-marks-clause-full c =
     let h = (mark_stopped c.place_mark.new.pool c.in_err-marks.field-0.0 n c.in_err-marks.ensures.full).full_is in
     search (rules, h)
 
-pub around-around-requires-clause-shown : goal.around-around-requires-clause-shown
-around-around-requires-clause-shown c =
+pub deciding_kind-deciding-requires : goal.deciding_kind-deciding-requires
+deciding_kind-deciding-requires c =
     let n = next (top c.pop.new.self.items c.in-Some.frame c.loop-frame.invariant.under_way c.in-Some.ensures.items) c.if-frame-gt0.true in
-    (tree n.label n.below empty, next_shows n)
-
-pub around-around-requires-clause-few : goal.around-around-requires-clause-few
-around-around-requires-clause-few c = omega (arith, ap length c.requires.cells, visits_length (tree_at c.args.face (forest c.args.pool.now)), c.requires.few)
+    record {
+      stands = c.loop-frame.invariant.under_way.stands;
+      live = next_live n c.index-cells-at.result c.index-cells-at.is;
+      node = next_seen n c.index-cells-at.result c.index-cells-at.is;
+    }
 
 pub behind-requires-clause-few : goal.behind-requires-clause-few
 behind-requires-clause-few c = omega (arith, parts_are_few (top c.pop.new.self.items c.in-Some.frame c.loop-frame.invariant.under_way c.in-Some.ensures.items), c.in_ok-marks.ensures.ok.few)
@@ -47,32 +47,30 @@ behind-requires-clause-few c = omega (arith, parts_are_few (top c.pop.new.self.i
 pub append-requires-then-frame-gt0 : goal.append-requires-then-frame-gt0
 append-requires-then-frame-gt0 c =
     let n = next (top c.pop.new.self.items c.in-Some.frame c.loop-frame.invariant.under_way c.in-Some.ensures.items) c.if-frame-gt0.true in
-    omega (arith, shown_inside (next_shows n), n.short, ap length c.requires.cells, visits_length (tree_at c.args.face (forest c.args.pool.now)), c.requires.room, c.loop-frame.invariant.capacity, c.pop.ensures.capacity)
+    omega (arith, next_inside n, n.short, ap length c.requires.cells, visits_length (tree_at c.args.face (forest c.args.pool.now)), c.requires.room, c.loop-frame.invariant.capacity, c.pop.ensures.capacity)
 
 pub offset_bounds-cells-at : goal.offset_bounds-cells-at
 offset_bounds-cells-at c =
     let n = next (top c.pop.new.self.items c.in-Some.frame c.loop-frame.invariant.under_way c.in-Some.ensures.items) c.if-frame-gt0.true in
-    record { fits = omega (arith, shown_inside (next_shows n), ap length c.requires.cells, visits_length (tree_at c.args.face (forest c.args.pool.now)), c.requires.few) }
+    record { fits = omega (arith, next_inside n, ap length c.requires.cells, visits_length (tree_at c.args.face (forest c.args.pool.now)), c.requires.few) }
 
 pub bounds-cells-at : goal.bounds-cells-at
-bounds-cells-at c =
-    let n = next (top c.pop.new.self.items c.in-Some.frame c.loop-frame.invariant.under_way c.in-Some.ensures.items) c.if-frame-gt0.true in
-    shown_inside (next_shows n)
+bounds-cells-at c = next_inside (next (top c.pop.new.self.items c.in-Some.frame c.loop-frame.invariant.under_way c.in-Some.ensures.items) c.if-frame-gt0.true)
 
 pub append-requires-then-frame-gt0-2 : goal.append-requires-then-frame-gt0-2
 append-requires-then-frame-gt0-2 c =
     let n = next (top c.pop.new.self.items c.in-Some.frame c.loop-frame.invariant.under_way c.in-Some.ensures.items) c.if-frame-gt0.true in
-    omega (arith, shown_inside (next_shows n), n.short, c.append-then-frame-gt0.ensures.len, c.append-then-frame-gt0.ensures.capacity, ap length c.requires.cells, visits_length (tree_at c.args.face (forest c.args.pool.now)), c.requires.room, c.loop-frame.invariant.capacity, c.pop.ensures.capacity)
+    omega (arith, next_inside n, n.short, c.append-then-frame-gt0.ensures.len, c.append-then-frame-gt0.ensures.capacity, ap length c.requires.cells, visits_length (tree_at c.args.face (forest c.args.pool.now)), c.requires.room, c.loop-frame.invariant.capacity, c.pop.ensures.capacity)
 
 pub overflow_add-at : goal.overflow_add-at
 overflow_add-at c =
     let n = next (top c.pop.new.self.items c.in-Some.frame c.loop-frame.invariant.under_way c.in-Some.ensures.items) c.if-frame-gt0.true in
-    record { fits = omega (arith, shown_inside (next_shows n), ap length c.requires.cells, visits_length (tree_at c.args.face (forest c.args.pool.now)), c.requires.few) }
+    record { fits = omega (arith, next_inside n, ap length c.requires.cells, visits_length (tree_at c.args.face (forest c.args.pool.now)), c.requires.few) }
 
 pub loop-frame-smaller-then-frame-gt0 : goal.loop-frame-smaller-then-frame-gt0
 loop-frame-smaller-then-frame-gt0 c =
     let n = next (top c.pop.new.self.items c.in-Some.frame c.loop-frame.invariant.under_way c.in-Some.ensures.items) c.if-frame-gt0.true in
-    omega (arith, shown_inside (next_shows n), c.append-then-frame-gt0.ensures.len, c.append-then-frame-gt0-2.ensures.len, ap length c.in-Some.ensures.items, length-append c.pop.new.self.items (c.in-Some.frame ∷ []))
+    omega (arith, next_inside n, c.append-then-frame-gt0.ensures.len, c.append-then-frame-gt0-2.ensures.len, ap length c.in-Some.ensures.items, length-append c.pop.new.self.items (c.in-Some.frame ∷ []))
 
 pub loop-frame-preserved-then-frame-gt0 : goal.loop-frame-preserved-then-frame-gt0
 loop-frame-preserved-then-frame-gt0 c =
@@ -80,7 +78,7 @@ loop-frame-preserved-then-frame-gt0 c =
     let popped = c.pop.new.self.items in
     record {
       under_way = entered c.place_mark.new.pool c.in_ok-marks.marks c.around-around.result c.used-then-frame-gt0.result c.index-cells-at.result c.append-then-frame-gt0-2.new.list.items n c.in_ok-marks.ensures.ok c.in_ok-marks.ensures.kept c.in_ok-marks.ensures.room c.place_mark.ensures.stands
-          c.around-around.ensures c.used-then-frame-gt0.ensures.value
+          (next_around n c.index-cells-at.result c.index-cells-at.is c.deciding_kind-deciding.result c.around-around.result c.deciding_kind-deciding.ensures c.around-around.ensures) c.used-then-frame-gt0.ensures.value
           (c.append-then-frame-gt0-2.ensures.items ∙ ap (λ (xs : List Frame). xs ++ c.of-then-frame-gt0.result ∷ []) c.append-then-frame-gt0.ensures.items
           ∙ ap (λ (f : Frame). (popped ++ f ∷ []) ++ c.of-then-frame-gt0.result ∷ []) c.behind.ensures ∙ ap (λ (f : Frame). (popped ++ frame_behind c.in-Some.frame c.in_ok-marks.marks ∷ []) ++ f ∷ []) c.of-then-frame-gt0.ensures
           ∙ ap (λ (x : Visit). (popped ++ frame_behind c.in-Some.frame c.in_ok-marks.marks ∷ []) ++ frame_of x c.around-around.result c.used-then-frame-gt0.result ∷ []) c.index-cells-at.is);

@@ -2,7 +2,7 @@ use Rattle.std.proofs.Common.{◌∙◌, ◌++◌, ℕ, List, length, encode_utf
 use Rattle.std.specs.Prelude.{option_to_list}
 use Rattle.pool_layouts.proofs.Shared.{length-append, Content, extended, forest, Step, cut}
 use Rattle.pool_layouts.proofs.Painted.{IsPainting, painting_start, due, due_room, stepped, lighter_steps, painted, option_short}
-use Rattle.pool_layouts.proofs.Writing.{content_is}
+use Rattle.line_text.proofs.Walks.{content_is}
 use Rattle.pool_layouts.proofs.picture.paint.Goals as goal
 
 pub loop-step-init : goal.loop-step-init

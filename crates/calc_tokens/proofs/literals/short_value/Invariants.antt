@@ -1,0 +1,6 @@
+use Rattle.std.proofs.Common.{◌≡◌, ◌^◌, ◌<◌, drop}
+use Rattle.calc_language.specs.Tokens.{digits_value}
+use Rattle.calc_tokens.proofs.literals.short_value.Given as goal
+
+abbrev pub invariant-loop-digit : goal.invariant-loop-digit
+invariant-loop-digit l = (l.value < 2 ^ 63) × (digits_value l.value (drop l.digit-index l.digits) ≡ digits_value 0 l.digits)
