@@ -10,7 +10,7 @@ use Rattle.calc_terms.specs.Name.{is_digit}
 use Rattle.calc_language.specs.Tokens.{digits_value, decimals}
 use Rattle.calc_tokens.specs.Literals.{trimmed, kept_before, unscaled, scale, parts_fit, has_point}
 use Rattle.std.proofs.lemmas.List.Elements.{All-nil, All-cons, All-head, All-tail}
-use Rattle.calc_tokens.proofs.Runs.{run_passes}
+use Rattle.calc_tokens.proofs.Runs.{run_passes, chosen}
 use Rattle.calc_tokens.proofs.Digits.{digits_value-append, digits_value_grows}
 
 test_fails : (n : ℕ) (b : Bool) → (n < 2 ^ 127 → ⊥) → (nat_lt n (2 ^ 127) && b) ≡ false
@@ -38,7 +38,7 @@ scaled_is v m d whole kept e f g = grind (arith, digits_value-append)
 pub no_decimals : (rest : List ℕ) → has_point rest ≡ false → decimals rest ≡ ([], rest)
 no_decimals [] h = refl
 no_decimals (b ∷ []) h = refl
-no_decimals (b ∷ c ∷ bs) h = rw h refl
+no_decimals (b ∷ c ∷ bs) h = ap (λ x. chosen (x && is_digit c) b c bs) h
 
 pub short_fits : (whole rest : List ℕ) (n : ℕ) → n ≡ digits_value 0 whole → n < 2 ^ 63 → has_point rest ≡ false → parts_fit whole (trimmed ((decimals rest).0)) ≡ true
 short_fits whole rest n e h p = rw (no_decimals rest p) (both_fit (digits_value 0 whole) n whole [] refl (omega (arith, e)) (omega arith))

@@ -20,7 +20,7 @@ short_value-requires c = rw c.digits.ensures.front (run_passes is_digit c.args.b
 pub returns-in-Some-clause-fits : goal.returns-in-Some-clause-fits
 returns-in-Some-clause-fits c =
     sym (short_fits (leading_run is_digit c.args.bytes.now).0 (leading_run is_digit c.args.bytes.now).1 c.in-Some.number (c.in-Some.ensures.value ∙ ap (digits_value 0) c.digits.ensures.front) c.in-Some.ensures.short
-    (ap has_point (sym c.digits.ensures.behind) ∙ sym c.has_point.ensures ∙ c.if-has_point.false))
+    (ap has_point (sym c.digits.ensures.behind) ∙ sym c.has_point.ensures ∙ c.if-not-has_point.true))
 
 -- the literal at the front is this value, and this stands behind it
 number_is : (bytes whole rest ds kept behind : List ℕ) (value : Fraction) → whole ≡ (leading_run is_digit bytes).0 → rest ≡ (leading_run is_digit bytes).1 → ds ≡ (decimals rest).0 → behind ≡ (decimals rest).1
@@ -30,7 +30,7 @@ number_is bytes whole rest ds kept behind value a b c d e f = rw (f, e, same_val
 
 pub returns-in-Some-clause-value : goal.returns-in-Some-clause-value
 returns-in-Some-clause-value c =
-    let p : has_point c.digits.result.1.now ≡ false = sym c.has_point.ensures ∙ c.if-has_point.false in
+    let p : has_point c.digits.result.1.now ≡ false = sym c.has_point.ensures ∙ c.if-not-has_point.true in
     number_is c.args.bytes.now c.digits.result.0.now c.digits.result.1.now _ _ c.digits.result.1.now _ c.digits.ensures.front c.digits.ensures.behind refl (sym (ap (λ r. r.1) (no_decimals c.digits.result.1.now p))) refl
     (c.scaled.ensures ∙ ap (λ (n : ℕ). lowest (pos n) 1) c.from.ensures ∙ short_is c.digits.result.0.now c.digits.result.1.now c.in-Some.number c.in-Some.ensures.value p)
 
