@@ -23,10 +23,10 @@ bytes_used s st = ap used st.flat ∙ bytes-flatten (forest s)
 pub room_of : (i : ℕ) (s t : State) → Stands s → Stands t → KeepsRefusals s t → IsHanded i (forest s) → forest t ≡ without_root i (forest s) → size (plain (root_tree i (forest s))) ≤ free_of t
 room_of i s t h k l m e = grind (arith, size-plain, root_arity, bytes_without, bytes_used)
 
-all_bytes : (s : State) → Stands s → free_of s + bytes_in (forest s) ≡ s.size
+pub all_bytes : (s : State) → Stands s → free_of s + bytes_in (forest s) ≡ s.size
 all_bytes s st = let fits : used s.nodes ≤ s.size = st.pool.fits in omega (arith, fits, used_forest s st)
 
-beside_bytes : (i : ℕ) (f : Forest) → IsHanded i f → bytes_in f ≡ bytes_in (without_root i f) + size (plain (root_tree i f))
+pub beside_bytes : (i : ℕ) (f : Forest) → IsHanded i f → bytes_in f ≡ bytes_in (without_root i f) + size (plain (root_tree i f))
 beside_bytes i f h = omega (arith, bytes_without i f h.root, size-plain (root_tree i f) (root_arity i f h.root) h.whole)
 
 beside_both_bytes : (i j : ℕ) (f : Forest) → eqb i j ≡ false → IsHanded i f → IsHanded j f → bytes_in f ≡ bytes_in (without_root j (without_root i f)) + size (plain (root_tree i f)) + size (plain (root_tree j f))

@@ -41,5 +41,6 @@ pub mod FreeBytes
 pub mod Cuts
 pub mod Over
 pub mod Seen
+pub mod Filling
 pub mod Shared
 pub mod LastTwo

@@ -65,7 +65,7 @@ over_plain h w = ap (nth 0) (over_tree h w).plain_trees
 
 -- ---- from call to call
 
-tree_put : (i : ℕ) (n f : Forest) → root_tree i (put i n f) ≡ with_root_kids n (root_tree i f)
+pub tree_put : (i : ℕ) (n f : Forest) → root_tree i (put i n f) ≡ with_root_kids n (root_tree i f)
 tree_put i n empty = refl
 tree_put i n (tree l k r) =
     by_test (λ t. eqb l.id i ≡ t → root_tree i (cond t (tree l n r) (tree l k (put i n r))) ≡ with_root_kids n (cond t (tree l k empty) (root_tree i r))) (eqb l.id i)

@@ -12,3 +12,4 @@ pub mod Faults
 pub mod Building
 pub mod Causes
 pub mod Lacking
+pub mod Holes

@@ -6,6 +6,7 @@ mod copy;
 mod counts;
 mod fault;
 mod handle;
+mod holes;
 mod measure;
 mod moving;
 mod opening;
@@ -21,6 +22,7 @@ pub use copy::copy_tree;
 pub use counts::{child, retain};
 pub use fault::NumberFault;
 pub use handle::{Handle, node, number, symbol};
+pub use holes::{Hole, fill, open_child};
 pub use measure::{count_trees, tree_bytes, tree_depth, tree_nodes};
 pub use moving::{
     add_before, add_child, adopt, merge_children, move_last, replace_child, replace_known_child,

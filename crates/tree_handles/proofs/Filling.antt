@@ -1,0 +1,203 @@
+-- A child is taken out of a root, and a tree fills its place.
+use Rattle.std.proofs.Common.{◌≡◌, ℕ, zero, suc, ◌+◌, ◌≤◌, ◌<◌, ◌==◌, ◌∷◌, List, [], eqb, cond, refl, sym, ap, ◌∙◌, subst, arith, Bool, true, false}
+use Rattle.tree_handles.proofs.Shared.{eqb-true, Kind, Payload, bare, kind_of_payload, Tree, Trees, none, more, count, root_kind, size, nth, grown, compound, plain, plains, takes, takes_kind, children_of, Forest, empty, tree, join, arity, first_trees, rest_trees, bytes_in, kids, root_id, with_root_kids, tree_nth, without_nth, with_nth, set_nth, AllOnce, AllExpressions, IsOnce, IsWhole, IsHanded, Ends, Gives, KeepsFront, tree_of, kids_of, holds, has_root, root_tree, without_root, put, State, free_of, Stands, forest, KeepsRefusals}
+use Rattle.tree_handles.specs.Holes.{ChangesTree, IsHole, Place, set_child, set_tree}
+use Rattle.tree_handles.proofs.Counted.{all-kids, all-set_nth, all-tree_nth}
+use Rattle.tree_handles.proofs.Distinct.{Distinct, distinct, distinct_parts}
+use Rattle.tree_handles.proofs.Forests.{arity-set_nth, arity-without_nth, bytes_in-join, first-rest}
+use Rattle.tree_handles.proofs.FreeBytes.{all_bytes, beside_bytes}
+use Rattle.tree_handles.proofs.Fronts.{behind_first, behind_new, front_after_one, front_at, front_end, front_put, front_same, front_without}
+use Rattle.tree_handles.proofs.Given.{given_handed, given_rest, given_told, gives_as}
+use Rattle.tree_handles.proofs.Lasts.{apart, ends_as, kids_of_root, last_rest, last_tree}
+use Rattle.tree_handles.proofs.Nths.{with_nth-without_nth}
+use Rattle.tree_handles.proofs.Outcomes.{by_test, eqb-sym}
+use Rattle.tree_handles.proofs.Over.{tree_put, without_put}
+use Rattle.tree_handles.proofs.Places.{used_forest}
+use Rattle.tree_handles.proofs.Plains.{children_of-plain, count-plains, grown_whole, plain-tree_nth, whole_kids}
+use Rattle.tree_handles.proofs.Roots.{kids-put, no_root, put-put, put-same, root_arity, root_held, root-put, root-without, tree-without}
+
+-- ---- the child goes
+
+-- how many children a handed root has
+pub handed_arity : {i : ℕ} {s : State} → Stands s → IsHanded i (forest s) → arity (kids_of i (forest s)) ≡ count (children_of (tree_of i s))
+handed_arity {i = i} {s = s} st h =
+    let t = root_tree i (forest s) in
+    ap arity (kids_of_root i st h.root) ∙ sym (count-plains (kids t)) ∙ ap count (sym (children_of-plain t h.whole))
+
+handed_kids : {i n : ℕ} {f : Forest} → IsHanded i f → n < count (children_of (plain (root_tree i f))) → n < arity (kids (root_tree i f))
+handed_kids {i = i} {f = f} h l = omega (arith, l, ap count (children_of-plain (root_tree i f) h.whole), count-plains (kids (root_tree i f)))
+
+pub opened_hole : {p : Place} {i n h : ℕ} {f new : Forest} → p ≡ record { parent = i; at = n } → IsHanded i f → n < count (children_of (plain (root_tree i f)))
+    → Ends h (tree_nth n (kids (root_tree i f))) (put i (without_nth n (kids (root_tree i f))) f) new → IsHole p i n f (without_root h new)
+opened_hole p k l e = record { is = p; handed = k; within = l; whole = last_rest e }
+
+pub opened_child : {i n h : ℕ} {f new : Forest} → IsHanded i f → n < count (children_of (plain (root_tree i f)))
+    → Ends h (tree_nth n (kids (root_tree i f))) (put i (without_nth n (kids (root_tree i f))) f) new → Gives (without_root h new) new h (λ t. t ≡ nth n (children_of (plain (root_tree i f))))
+opened_child {i = i} {n = n} {f = f} k l e =
+    let t = root_tree i f in
+    record {
+      tree = tree_nth n (kids t);
+      ends = ends_as e refl (sym (last_rest e));
+      once = all-tree_nth IsOnce n (kids t) (all-kids IsOnce t k.once);
+      whole = all-tree_nth IsWhole n (kids t) (whole_kids t k.whole);
+      told = plain-tree_nth n (kids t) ∙ ap (nth n) (sym (children_of-plain t k.whole));
+    }
+
+pub opened_front : {i h : ℕ} {t f new g : Forest} (n : Forest) → Ends h t (put i n f) new → KeepsFront (h ∷ []) new g → KeepsFront (i ∷ []) f g
+opened_front n e k = let x = front_put n behind_first front_same in front_after_one (behind_new e x) (front_end e x) k
+
+-- ---- bytes
+
+pub bytes_put : (i : ℕ) (n f : Forest) → has_root i f ≡ true → bytes_in (put i n f) + bytes_in (kids (root_tree i f)) ≡ bytes_in f + bytes_in n
+bytes_put i n empty h = cc
+bytes_put i n (tree l k r) h =
+    by_test
+    (λ t. cond t true (has_root i r) ≡ true → bytes_in (cond t (tree l n r) (tree l k (put i n r))) + bytes_in (kids (cond t (tree l k empty) (root_tree i r))) ≡ bytes_in (tree l k r) + bytes_in n)
+    (eqb l.id i) (λ e g. omega arith) (λ e g. omega (arith, bytes_put i n r g)) h
+
+bytes_nth : (n : ℕ) (f : Forest) → bytes_in f ≡ bytes_in (without_nth n f) + bytes_in (tree_nth n f)
+bytes_nth n f =
+    let rest : Forest = rest_trees n f in
+    omega (
+      arith,
+      ap bytes_in (first-rest n f),
+      ap bytes_in (first-rest 1 rest),
+      bytes_in-join (first_trees n f) rest,
+      bytes_in-join (first_trees 1 rest) (rest_trees 1 rest),
+      bytes_in-join (first_trees n f) (rest_trees 1 rest),
+    )
+
+-- none are used or set free where a child is taken out
+pub opened_free : {i h : ℕ} {s t : State} (n : ℕ) → Stands s → Stands t → KeepsRefusals s t → IsHanded i (forest s)
+    → Ends h (tree_nth n (kids (root_tree i (forest s)))) (put i (without_nth n (kids (root_tree i (forest s)))) (forest s)) (forest t) → free_of t ≡ free_of s
+opened_free {i = i} {s = s} {t = t} n st su k h e =
+    let ks : Forest = kids (root_tree i (forest s)) in
+    let left : Forest = put i (without_nth n ks) (forest s) in
+    omega (arith, all_bytes s st, all_bytes t su, k.size, ap bytes_in e.whole, bytes_in-join left (tree_nth n ks), bytes_put i (without_nth n ks) (forest s) h.root, bytes_nth n ks)
+
+-- ---- a tree comes
+
+gone : (i : ℕ) (f : Forest) → Distinct f → has_root i (without_root i f) ≡ false
+gone i empty d = refl
+gone i (tree l k r) d =
+    let p = distinct_parts l k r d in
+    by_test (λ t. eqb l.id i ≡ t → has_root i (cond t r (tree l k (without_root i r))) ≡ false) (eqb l.id i)
+    (λ e q. no_root i r (subst (λ (x : ℕ). holds x r ≡ false) (eqb-true l.id i q) p.not_behind))
+    (λ e q. ap (λ (t : Bool). cond t true (has_root i (without_root i r))) q ∙ gone i r p.behind) refl
+
+-- one of the roots beside a root is another
+other_beside : (i j : ℕ) (f : Forest) → Distinct f → has_root i (without_root j f) ≡ true → eqb j i ≡ false
+other_beside i j f d h = by_test (λ t. eqb j i ≡ t → t ≡ false) (eqb j i) (λ e q. absurd (cc (gone j f d, ap (λ (x : ℕ). has_root x (without_root j f)) (eqb-true j i q), h))) (λ e q. refl) refl
+
+-- the hole beside a root
+pub record IsOpen (i n j : ℕ) (old : Forest) (s : State) : Type 0 where
+  pub root : has_root i (forest s) ≡ true
+  pub within : n ≤ arity (kids_of i (forest s))
+  pub apart : holds i (root_tree j (forest s)) ≡ false
+  pub kids-are : kids (root_tree i (forest s)) ≡ without_nth n (kids (root_tree i old))
+
+pub is_open : {p : Place} {i n j : ℕ} {old : Forest} {s : State} → Stands s → IsHanded j (forest s) → IsHole p i n old (without_root j (forest s)) → IsOpen i n j old s
+is_open {i = i} {n = n} {j = j} {old = old} {s = s} st k h =
+    let f : Forest = forest s in
+    let ks : Forest = kids (root_tree i old) in
+    let there : has_root i (without_root j f) ≡ true = ap (has_root i) h.whole ∙ root-put i i (without_nth n ks) old ∙ h.handed.root in
+    let other : eqb j i ≡ false = other_beside i j f (distinct s st) there in
+    let root : has_root i f ≡ true = sym (root-without j i f other) ∙ there in
+    let are : kids (root_tree i f) ≡ without_nth n ks = ap kids (sym (tree-without j i f other)) ∙ ap (λ (x : Forest). kids (root_tree i x)) h.whole ∙ kids-put i (without_nth n ks) old h.handed.root in
+    let l = handed_kids h.handed h.within in
+    record {
+      root = root;
+      within = omega (arith, ap arity (kids_of_root i st root), ap arity are, arity-without_nth n ks l, l);
+      apart = apart i j st (eqb-sym j i other) root k.root;
+      kids-are = are;
+    }
+
+-- ---- the tree with another child
+
+plains-set_nth : (n : ℕ) (c f : Forest) → arity c ≡ 1 → n < arity f → plains (set_nth n c f) ≡ set_tree n (plain c) (plains f)
+plains-set_nth n empty f e l = absurd (omega arith)
+plains-set_nth n (tree m d (tree o b s)) f e l = absurd (omega arith)
+plains-set_nth zero (tree m d empty) empty e l = absurd (omega arith)
+plains-set_nth zero (tree m d empty) (tree l k r) e h = refl
+plains-set_nth (suc n) (tree m d empty) empty e l = absurd (omega arith)
+plains-set_nth (suc n) (tree m d empty) (tree l k r) e h = ap (more (grown l.payload (plains k))) (plains-set_nth n (tree m d empty) r e (omega arith))
+
+grown_bare : (x : Payload) (ts us : Trees) → takes x (count ts) ≡ true → 1 ≤ count ts → grown x us ≡ compound (kind_of_payload x) us
+grown_bare x ts us h l = grind arith
+
+set_kids : (n : ℕ) (c t : Forest) → arity t ≡ 1 → AllExpressions t → arity c ≡ 1 → n < arity (kids t) → plain (with_root_kids (set_nth n c (kids t)) t) ≡ set_child n (plain c) (plain t)
+set_kids n c empty e w one l = absurd (omega arith)
+set_kids n c (tree l k r) e w one m =
+    let g = grown_whole l k r w in
+    let takes-is : takes l.payload (count (plains k)) ≡ true = ap (takes l.payload) (count-plains k) ∙ w.0 in
+    grown_bare l.payload (plains k) (plains (set_nth n c k)) takes-is (omega (arith, count-plains k, m))
+    ∙ rw (plains-set_nth n c k one m, g.kind-is, g.children-are) refl
+
+-- a root with another child is whole again
+whole_again : (n : ℕ) (c t : Forest) → arity t ≡ 1 → AllOnce t → AllExpressions t → arity c ≡ 1 → AllOnce c → AllExpressions c → n < arity (kids t)
+    → AllOnce (with_root_kids (set_nth n c (kids t)) t) × AllExpressions (with_root_kids (set_nth n c (kids t)) t)
+whole_again n c empty a o w one p q l = (tt, tt)
+whole_again n c (tree l k r) a o w one p q m = (
+  (o.0, all-set_nth IsOnce n c k p o.1, o.2),
+  (ap (takes l.payload) (omega (arith, arity-set_nth n c k m, one)) ∙ w.0, all-set_nth IsWhole n c k q w.1, w.2),
+)
+
+pub filled : {p : Place} {i n j : ℕ} {old : Forest} {s : State} {new : Forest} → Stands s → IsHanded j (forest s) → IsHole p i n old (without_root j (forest s))
+    → new ≡ put i (with_nth n (root_tree j (forest s)) (kids (root_tree i (forest s)))) (without_root j (forest s)) → ChangesTree i (set_child n (tree_of j s) (plain (root_tree i old))) old new
+filled {i = i} {n = n} {j = j} {old = old} {s = s} {new = new} st k h e =
+    let t : Forest = root_tree i old in
+    let c : Forest = root_tree j (forest s) in
+    let l = handed_kids h.handed h.within in
+    let one = root_arity j (forest s) k.root in
+    let alone = root_arity i old h.handed.root in
+    let there : new ≡ put i (set_nth n c (kids t)) old =
+    e ∙ (λ x. put i (with_nth n c ((is_open st k h).kids-are x)) (h.whole x)) ∙ ap (λ (x : Forest). put i x (put i (without_nth n (kids t)) old)) (with_nth-without_nth n c (kids t) l)
+    ∙ put-put i (set_nth n c (kids t)) (without_nth n (kids t)) old in
+    let now : root_tree i new ≡ with_root_kids (set_nth n c (kids t)) t = ap (root_tree i) there ∙ tree_put i (set_nth n c (kids t)) old in
+    let w = whole_again n c t alone h.handed.once h.handed.whole one k.once k.whole l in
+    record {
+      kids = set_nth n c (kids t);
+      whole = there;
+      handed = record { root = ap (has_root i) there ∙ root-put i i (set_nth n c (kids t)) old ∙ h.handed.root; once = subst AllOnce (sym now) w.0; whole = subst AllExpressions (sym now) w.1 };
+      tree = ap plain now ∙ set_kids n c t alone h.handed.whole one l;
+    }
+
+-- ---- from call to call
+
+-- a call that was handed the child leaves the hole where it was
+pub hole_stays : {p : Place} {i n j : ℕ} {old others f : Forest} {Told : Tree → Type 0} → Gives others f j Told → IsHole p i n old others → IsHole p i n old (without_root j f)
+hole_stays {p = p} {i = i} {n = n} {old = old} g h = subst (IsHole p i n old) (sym (given_rest g)) h
+
+pub changes_none : {i : ℕ} {f : Forest} → IsHanded i f → ChangesTree i (plain (root_tree i f)) f f
+changes_none {i = i} {f = f} h = record { kids = kids (root_tree i f); whole = sym (put-same i f); handed = h; tree = refl }
+
+pub changes_after : {i : ℕ} {t u : Tree} {f g h : Forest} → ChangesTree i t f g → ChangesTree i u g h → ChangesTree i u f h
+changes_after {i = i} {f = f} a b = record { kids = b.kids; whole = b.whole ∙ ap (put i b.kids) a.whole ∙ put-put i b.kids a.kids f; handed = b.handed; tree = b.tree }
+
+pub changes_as : {i : ℕ} {t u : Tree} {f g : Forest} → ChangesTree i t f g → t ≡ u → ChangesTree i u f g
+changes_as {i = i} {f = f} {g = g} a e = subst (λ (x : Tree). ChangesTree i x f g) e a
+
+pub changes_front : {i : ℕ} {t : Tree} {handed : List ℕ} {f g : Forest} → ChangesTree i t f g → KeepsFront (i ∷ handed) f g
+changes_front a = front_at (front_put a.kids behind_first front_same) a.whole
+
+pub changes_rest : {i : ℕ} {t : Tree} {f g : Forest} → ChangesTree i t f g → without_root i g ≡ without_root i f
+changes_rest {i = i} {f = f} a = ap (without_root i) a.whole ∙ without_put i a.kids f
+
+-- the root goes last
+pub changes_last : {i : ℕ} {t : Tree} {f g new : Forest} {Told : Tree → Type 0} → ChangesTree i t f g → Ends i (root_tree i g) (without_root i g) new → Told t → Gives (without_root i f) new i Told
+changes_last {i = i} {Told = Told} a e h = record { tree = root_tree i _; ends = ends_as e refl (changes_rest a); once = a.handed.once; whole = a.handed.whole; told = subst Told (sym a.tree) h }
+
+pub changes_last_front : {i : ℕ} {t : Tree} {u f g new : Forest} → ChangesTree i t f g → Ends i u (without_root i g) new → KeepsFront (i ∷ []) f new
+changes_last_front a e = front_end e (front_without behind_first (changes_front a))
+
+-- where the root changed before, and a call that was handed it keeps the front
+pub front_again : {i : ℕ} {handed : List ℕ} {f g h : Forest} → KeepsFront (i ∷ handed) f g → KeepsFront (i ∷ []) g h → KeepsFront (i ∷ handed) f h
+front_again a b = front_after_one behind_first a b
+
+pub changes_free : {i : ℕ} {t : Tree} {s u : State} → Stands s → Stands u → KeepsRefusals s u → IsHanded i (forest s) → ChangesTree i t (forest s) (forest u) → free_of u + size t ≡ free_of s + size (tree_of i s)
+changes_free {s = s} {u = u} st su k h a =
+    omega (arith, all_bytes s st, all_bytes u su, k.size, beside_bytes _ (forest s) h, beside_bytes _ (forest u) a.handed, ap bytes_in (changes_rest a), ap size a.tree)
+
+-- how many children a reader tells of a root
+pub children_told : {s : State} {i j n : ℕ} → j ≡ i → n ≡ arity (kids_of j (forest s)) → Stands s → IsHanded i (forest s) → n ≡ count (children_of (tree_of i s))
+children_told {s = s} e told st h = told ∙ ap (λ (x : ℕ). arity (kids_of x (forest s))) e ∙ handed_arity st h
