@@ -25,7 +25,7 @@ nth_behind zero (more t ts) = refl
 nth_behind (suc n) (more t ts) = nth_behind n ts
 
 -- its place among the others
-place_removed : (t : Tree) (n : ℕ) → IsSum t → n < count (children_of t) → IsPlace n (term_of (nth n (children_of t))).radicand (removed n (children_of t))
+pub place_removed : (t : Tree) (n : ℕ) → IsSum t → n < count (children_of t) → IsPlace n (term_of (nth n (children_of t))).radicand (removed n (children_of t))
 place_removed t n h l =
     let ts = children_of t in
     let r = (term_of (nth n ts)).radicand in

@@ -1,6 +1,9 @@
 -- Numbers that are answered as they stand.
 use Rattle.std.proofs.Common.{arith, ◌≡◌, ℕ, [], ◌∷◌, ◌++◌, true, false, eqb, ◌∙◌, subst}
 use Rattle.number_forms.proofs.Shared.{is_number, value, is_num_one, Surd, surd_one, surd_times, Agree-sym, Agree-Same, surd_times-one, surd_times-surd_one, Same-eq, Parts, AreWholeOver, one_not_zero, one_is, zero_test, one_times, times_comm, Fraction, one_fraction, times, Tree, is_num, IsNumberOver, is_zero, plain, Forest, IsHanded, Ends, Gives, root_tree, without_root, gives_as, handed_at, handed_beside, represents_handed, tree-without}
+use Rattle.number_forms.specs.Joints.{both, is_neutral}
+use Rattle.number_forms.specs.declared.calculating.Joint.{Joint}
+use Rattle.number_forms.specs.declared.calculating.Joint.TheVariants as joint
 use Rattle.std.specs.Int.{◌∣◌}
 use Rattle.number_forms.proofs.Denominators.{shares_eq}
 use Rattle.number_forms.proofs.Rows.{nothing_more}
@@ -43,3 +46,17 @@ with_one a b t h k e = grind (arith, one_value, Agree-Same, Agree-sym, surd_time
 
 pub no_one : (t : Tree) → is_num t ≡ false → is_num_one t ≡ false
 no_one t h = grind arith
+
+-- ---- with a rational that leaves each Number as it is
+
+pub neutral_with : (j : Joint) (a b t : Tree) → is_neutral j a ≡ true → is_number b ≡ true → t ≡ b → IsNumberOver (both j (value a) (value b)) t
+neutral_with joint.Sum a b t h k e = with_zero a b t h k e
+neutral_with joint.Product a b t h k e = one_with a b t h k e
+
+pub with_neutral : (j : Joint) (a b t : Tree) → is_neutral j b ≡ true → is_number a ≡ true → t ≡ a → IsNumberOver (both j (value a) (value b)) t
+with_neutral joint.Sum a b t h k e = zero_with a b t h k e
+with_neutral joint.Product a b t h k e = with_one a b t h k e
+
+pub no_neutral : (j : Joint) (t : Tree) → is_num t ≡ false → is_neutral j t ≡ false
+no_neutral joint.Sum t h = no_zero t h
+no_neutral joint.Product t h = no_one t h

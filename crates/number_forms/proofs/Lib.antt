@@ -33,4 +33,6 @@ pub mod WithinBits
 pub mod PowersWithin
 pub mod RationalBits
 pub mod InverseBits
+pub mod ListedTerms
+pub mod ValueLoops
 pub mod Shared

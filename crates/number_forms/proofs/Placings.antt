@@ -1,7 +1,7 @@
 -- Whether the bytes of a term's tree suffice.
 use Rattle.std.proofs.Common.{◌≡◌, ◌≢◌, ◌↔◌, ℕ, ◌+◌, ◌-◌, ◌==◌, ◌<◌, ◌≤◌, true, false, Bool, pos, List, [], ◌∷◌, ◌++◌, Result, Ok, Err, refl, sym, ap, ◌∙◌, subst, arith}
 use Rattle.std.specs.Prelude.{IsOk, IsErr, IfOk, IfErr, nat_le, if◌then◌else◌}
-use Rattle.number_forms.proofs.Shared.{eq-eqb, lt-leb, leb-false, Fraction, lowest, one_fraction, is_one_fraction, whole_fraction, gcd, Tree, num, add, mult, power, root, neg, sub, div, Trees, more, none, size, sizes, root_size, one_is, value, classes, Term, State, free_of, Full, term_tree, building, node_sizes, nodes_sizes, taking, LacksLongForm, Forest, tree_of, Gives, root_tree, plain, last_tree, Stands, forest, KeepsRefusals, IsRefused, given_told, given_free}
+use Rattle.number_forms.proofs.Shared.{gives_as, eq-eqb, lt-leb, leb-false, Fraction, lowest, one_fraction, is_one_fraction, whole_fraction, gcd, Tree, num, add, mult, power, root, neg, sub, div, Trees, more, none, size, sizes, root_size, one_is, value, classes, Term, State, free_of, Full, term_tree, building, node_sizes, nodes_sizes, taking, LacksLongForm, Forest, tree_of, Gives, root_tree, plain, last_tree, Stands, forest, KeepsRefusals, IsRefused, given_told, given_free}
 use Rattle.calc_terms.specs.Kind.{size_by_form}
 use Rattle.calc_terms.specs.Short.{is_short}
 use Rattle.calc_terms.specs.declared.kind.Kind.TheVariants as kind
@@ -134,3 +134,7 @@ told_tree r f s u v g e = grind (arith, given_told)
 -- what is told of it, and that it is this one
 pub given_tree : {f g : Forest} {i : ℕ} {P : Tree → Type 0} {u : Tree} → Gives f g i P → plain (root_tree i g) ≡ u → Gives f g i (λ t. P t × (t ≡ u))
 given_tree g e = record { tree = g.tree; ends = g.ends; once = g.once; whole = g.whole; told = (g.told, sym (ap plain (last_tree g.ends)) ∙ e) }
+
+pub if_tree : {E : Type 0} (r : Result ℕ E) (f : Forest) (s : State) (P : Tree → Type 0) (u v : Tree) → IfOk r (λ h. Gives f (forest s) h P) → IfOk r (λ h. tree_of h s ≡ u) → u ≡ v → IfOk r (λ h. Gives f (forest s) h (λ t. t ≡ v))
+if_tree (Ok h) f s P u v g e q = gives_as (given_tree g e) refl (λ t k. k.1 ∙ q)
+if_tree (Err x) f s P u v g e q = tt

@@ -3,26 +3,20 @@ use Rattle.std.proofs.Common.{◌≡◌, ◌<◌, ◌≤◌, ℕ, ◌+◌, true,
 use Rattle.calc_terms.proofs.Sizes.{payload_most}
 use Rattle.calc_terms.specs.Payload.{bare, rational, size_of_payload}
 use Rattle.calc_terms.specs.Rat.{ratio_of}
-use Rattle.calc_terms.specs.Trees.{append, count}
+use Rattle.calc_terms.specs.Trees.{append, count, sizes}
 use Rattle.calc_terms.specs.declared.kind.Kind.{Kind}
+use Rattle.number_forms.specs.Placed.{Adds}
 use Rattle.number_forms.proofs.Shared.{Tree, Trees, none, more, Rat, State, free_of, Full, refused_below, Gives, Ends, KeepsRefusals, IsRefused, Stands, forest, gives, last_root}
 use Rattle.tree_handles.proofs.Adopting.{adopted_all, behind_there}
 use Rattle.tree_handles.proofs.Cuts.{represents_count}
 use Rattle.tree_handles.proofs.Forests.{bytes_in-join, join-empty, join_assoc}
 use Rattle.tree_handles.proofs.Given.{represents_join, represents_node, represents_none}
 use Rattle.tree_handles.proofs.Places.{used_forest}
-use Rattle.tree_handles.proofs.Plains.{alone}
+use Rattle.tree_handles.proofs.Plains.{alone, sizes-plains}
 use Rattle.tree_handles.proofs.Roots.{root-left}
 use Rattle.tree_handles.specs.Expressions.{compound, takes_kind}
 use Rattle.tree_handles.specs.Forest.{Forest, Label, arity, bytes_in, empty, join, one_tree, tree}
-use Rattle.tree_handles.specs.Handed.{Represents}
 use Rattle.tree_handles.specs.Roots.{adopted, behind_root, has_root}
-
--- trees that came behind others
-pub record Adds (ts : Trees) (old new : Forest) : Type 0 where
-  pub trees : Forest
-  pub whole : new ≡ join old trees
-  pub represents : Represents trees ts
 
 pub adds_none : (f : Forest) → Adds none f f
 adds_none f = record { trees = empty; whole = sym (join-empty f); represents = represents_none }
@@ -59,6 +53,9 @@ adopts {i} {n} {k} {ts} {g} {f} {h} {new} e a m w q =
     gives ends (represents_node i (bare k) a.represents w) refl
 
 -- ---- bytes
+
+pub adds_free : {ts : Trees} {s t : State} → Stands s → Stands t → KeepsRefusals s t → Adds ts (forest s) (forest t) → free_of s ≡ free_of t + sizes ts
+adds_free h k r a = grind (arith, used_forest, bytes_in-join, sizes-plains)
 
 pub node_free : {i : ℕ} {k : Kind} {s t : State} → Stands s → Stands t → KeepsRefusals s t → Ends i (one_tree i (bare k) empty) (forest s) (forest t) → free_of s ≡ free_of t + size_of_payload (bare k)
 node_free {i} {k} {s} {t} h st r e = omega (arith, used_forest s h, used_forest t st, r.size, h.pool.fits, st.pool.fits, ap bytes_in e.whole, bytes_in-join (forest s) (one_tree i (bare k) empty))

@@ -1,9 +1,12 @@
 -- Rationals among Numbers: their common denominators, and the operations that fit.
 use Rattle.std.proofs.Common.{◌≡◌, ◌≢◌, ℕ, ◌+◌, ◌*◌, ◌/◌, ◌^◌, ◌≤◌, ◌<◌, [], ◌++◌, true, false, not, Result, ℤ, pos, ◌≤ℤ◌, if◌then◌else◌, refl, sym, ap, ◌∙◌, subst, arith}
 use Rattle.std.specs.Prelude.{IfOk, IfErr, nat_abs}
-use Rattle.number_forms.proofs.Shared.{mul-le, dvd-mul_left, value, Surd, surd_of, term, surd_times, HasFewBits, IsNoLargerThanPower, SharesPowers, Parts, SharesDenominators, magnitude_over, root_above, mass, IsHeld, multiple_fits, sum_fits_over, power_den, magnitude_power, magnitudes_cross, power_bound, low_power, parts_power, mass-append, no_larger_power, parts_left, parts_right, cancel_le, plus_den, root_enough, calculated, Operation, add_op, mul_op, pow_op, operation_fits, fraction_fits, sum_fits, fraction_power, zero_times, times_comm, Fraction, plus, times, zero_fraction, is_zero_fraction, whole_fraction, int_is_zero, Tree, num, is_num, zero_is, no_zero, whole_numerator, whole_denominator, IsPowerOver, AnswersRationals, State, held_bound, power_fits, denominator_bound, coefficients_fit, OfOverflow, Forest, tree_of, Gives, forest, NumberFault, given_told, by_test}
+use Rattle.number_forms.proofs.Shared.{mul-le, dvd-mul_left, value, Surd, surd_of, term, surd_times, HasFewBits, IsNoLargerThanPower, SharesPowers, Parts, SharesDenominators, magnitude_over, root_above, mass, IsHeld, multiple_fits, sum_fits_over, power_den, magnitude_power, magnitudes_cross, power_bound, low_power, parts_power, mass-append, no_larger_power, parts_left, parts_right, cancel_le, plus_den, root_enough, calculated, Operation, result_of, add_op, mul_op, pow_op, operation_fits, fraction_fits, sum_fits, fraction_power, zero_times, times_comm, Fraction, plus, times, zero_fraction, is_zero_fraction, whole_fraction, int_is_zero, Tree, num, is_num, zero_is, no_zero, whole_numerator, whole_denominator, IsPowerOver, AnswersRationals, State, held_bound, power_fits, denominator_bound, coefficients_fit, OfOverflow, Forest, tree_of, Gives, forest, NumberFault, given_told, by_test}
 use Rattle.std.specs.Int.{◌∣◌}
 use Rattle.calc_algebra.proofs.SquareRootLaws.{square_le}
+use Rattle.number_forms.specs.Joints.{both, operation}
+use Rattle.number_forms.specs.declared.calculating.Joint.{Joint}
+use Rattle.number_forms.specs.declared.calculating.Joint.TheVariants as joint
 
 -- ---- common denominators
 
@@ -145,6 +148,10 @@ as_num _ h = cc
 -- an operation that fits is not refused for it
 not_refused : (op : Operation) (p q : Fraction) (s : State) (r : Result ℕ NumberFault) → operation_fits op p q ≡ true → AnswersRationals (calculated op p q) s r → IfErr r (OfOverflow (λ o. ⊥))
 not_refused op p q s r f a = grind arith
+
+pub joint_parts : (j : Joint) (p q : Fraction) (a b : Tree) → a ≡ num p → b ≡ num q → SharesDenominators (both j (value a) (value b)) (value (num (result_of (operation j) p q)))
+joint_parts joint.Sum p q a b e f = sum_parts p q a b e f
+joint_parts joint.Product p q a b e f = product_parts p q a b e f
 
 pub sum_not_refused : (a b : Tree) (s : State) (r : Result ℕ NumberFault) → is_num a ≡ true → is_num b ≡ true → ((p q : Fraction) → a ≡ num p → b ≡ num q → AnswersRationals (calculated add_op p q) s r)
     → HasFewBits (value a ++ value b) → IfErr r (OfOverflow (λ o. ⊥))

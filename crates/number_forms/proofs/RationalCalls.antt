@@ -2,6 +2,9 @@
 use Rattle.std.proofs.Common.{arith, ◌≡◌, ℕ, ◌++◌, Result, false, if◌then◌else◌, refl, sym, ap, ◌∙◌, subst, []}
 use Rattle.number_forms.proofs.Shared.{Operation, operation_fits, result_of, fraction_power, value, Same, Surd, surd_of, surd_times, surd_power, zero_is, number_test, zero_surd_of, surd_power-surd_of, Same-trans, Same-refl, Same-eq, Same-append, Same-surd_times, Same-surd_power, joined_radicand, surd_times-terms, SharesPowers, SharesDenominators, IsNumberOver, IsPowerOver, AnswersRationals, NumberFault, Fraction, plus, times, is_zero_fraction, calculated, exactly, overflow, value_of, Tree, num, State, operation_of, Overflow, IsPlainAnswer, IsPlainOverflow, by_test}
 use Rattle.number_forms.proofs.Worth.{Same-sym}
+use Rattle.number_forms.specs.Joints.{both, operation}
+use Rattle.number_forms.specs.declared.calculating.Joint.{Joint}
+use Rattle.number_forms.specs.declared.calculating.Joint.TheVariants as joint
 
 -- ---- what an operation answers
 
@@ -41,3 +44,9 @@ rational_power p n a e = Same-sym (Same-trans (Same-surd_power n (Same-trans (Sa
 
 pub at_rationals : (op : Operation) (p q x y : Fraction) (a b : Tree) (s : State) (r : Result ℕ NumberFault) → a ≡ num x → b ≡ num y → AnswersRationals (calculated op x y) s r → a ≡ num p → b ≡ num q → AnswersRationals (calculated op p q) s r
 at_rationals op p q x y a b s r e f h k l = grind arith
+
+-- ---- of a sum or a product
+
+pub joint_rational : (j : Joint) (p q : Fraction) (a b : Tree) → a ≡ num p → b ≡ num q → Same (surd_of (result_of (operation j) p q)) (both j (value a) (value b))
+joint_rational joint.Sum p q a b e f = rational_sum p q a b e f
+joint_rational joint.Product p q a b e f = rational_product p q a b e f

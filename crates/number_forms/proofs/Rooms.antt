@@ -7,6 +7,9 @@ use Rattle.number_forms.proofs.LastSums.{sum_is}
 use Rattle.number_forms.proofs.Loops.{IsSumWith, IsJoined}
 use Rattle.number_forms.proofs.Placings.{lacking_below}
 use Rattle.number_forms.proofs.SumChanges.{sum_value}
+use Rattle.number_forms.specs.Joints.{joint_need}
+use Rattle.number_forms.specs.declared.calculating.Joint.{Joint}
+use Rattle.number_forms.specs.declared.calculating.Joint.TheVariants as joint
 
 -- ---- facts of a refusal
 
@@ -133,6 +136,10 @@ few_for_sum gs bytes l = omega (arith, pow_pos (length gs))
 
 pub few_for_product : (gs : List ℕ) (bytes : ℕ) → bytes < 40 → bytes < product_need * 2 ^ length gs
 few_for_product gs bytes l = omega (arith, pow_pos (length gs))
+
+pub few_for_joint : (j : Joint) (gs : List ℕ) (bytes : ℕ) → bytes < 40 → bytes < joint_need j * 2 ^ length gs
+few_for_joint joint.Sum gs bytes l = few_for_sum gs bytes l
+few_for_joint joint.Product gs bytes l = few_for_product gs bytes l
 
 pub few_for_power : (gs : List ℕ) (bytes : ℕ) → bytes < 40 → bytes < power_need * 2 ^ length gs
 few_for_power gs bytes l = omega (arith, pow_pos (length gs))

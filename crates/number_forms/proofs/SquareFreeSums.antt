@@ -75,7 +75,7 @@ all_below t m r h e b = λ k l. below_up_to t m k r h (omega (arith, e)) b (omeg
 
 -- ---- small clean radicands are alike where they are equal
 
-apart_small : (r s : ℕ) → IsSquareFree r → IsSquareFree s → (r ≡ s → ⊥) → are_alike r s ≡ false
+pub apart_small : (r s : ℕ) → IsSquareFree r → IsSquareFree s → (r ≡ s → ⊥) → are_alike r s ≡ false
 apart_small r s f g h = false_from_ne_true (are_alike r s) (λ a. absurd (h (alike_square_free r s a f g)))
 
 pub apart_at_place : (t : Tree) (r n : ℕ) → IsSum t → IsClean r → r < 10 ^ 12 → AreBelow (10 ^ 12) (children_of t) → IsPlace n r (children_of t)

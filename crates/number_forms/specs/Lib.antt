@@ -8,3 +8,6 @@ pub mod Joins
 pub mod Inverses
 pub mod Overflows
 pub mod Rooms
+pub mod Placed
+pub mod Values
+pub mod Joints

@@ -22,15 +22,14 @@ ghost use Rattle.tree_handles.specs.Handed.{tree_of, IsHanded, Gives, KeepsFront
 ghost use Rattle.tree_handles.specs.Faults.{Faults, OfOverflow};
 ghost use Rattle.tree_handles.specs.Roots.{without_root};
 
+use crate::calculating::{Joint, calculate};
 use crate::joining::{NOWHERE, join_term};
-use crate::rationals::{keep_other, take_rationals};
 use crate::read::term_count;
 use crate::roots;
 use crate::term::listed_term;
 use calc_terms::{Kind, Rat};
 use child_lists::{ChildList, FEW, MANY, NONE};
 use node_pool::{Full, Id, Pool};
-use rational128::add;
 use tree_handles::{
     Handle, NumberFault, children, kind, move_last, node, node_over, number, release, take_child,
 };
@@ -58,67 +57,11 @@ pub fn add_numbers(pool: &mut Pool, a: Handle, b: Handle) -> Result<Handle, Numb
     ensures spanned { (gs : List ℕ) → SpansTree gs (tree_of a pool.old) → SpansTree gs (tree_of b pool.old) → IfOk result (λ h. SpansTree gs (tree_of h pool.new)) }
     ensures stands { Stands pool.new }
 {
-    if roots::is_rational(pool, &a) && roots::is_rational(pool, &b) {
-        add_rationals(pool, a, b)
-    } else {
-        add_terms(pool, a, b)
-    }
+    calculate(pool, Joint::Sum, a, b)
 }
 
-/// The sum of two rationals, which are consumed.
-fn add_rationals(pool: &mut Pool, a: Handle, b: Handle) -> Result<Handle, NumberFault>
-    requires stands { Stands pool.old }
-    requires first { IsHanded a (forest pool.old) }
-    requires second { IsHanded b (forest pool.old) }
-    requires apart { (a == b) ≡ false }
-    requires first_rational { is_num (tree_of a pool.old) ≡ true }
-    requires second_rational { is_num (tree_of b pool.old) ≡ true }
-    ensures ok { IfOk result (λ h. Gives (without_root b (without_root a (forest pool.old))) (forest pool.new) h (IsNumberOver (value (tree_of a pool.old) ++ value (tree_of b pool.old)))) }
-    ensures rationals { (p q : Fraction) → tree_of a pool.old ≡ num p → tree_of b pool.old ≡ num q → AnswersRationals (calculated add_op p q) pool.new result }
-    ensures front { KeepsFront (a ∷ b ∷ []) (forest pool.old) (forest pool.new) }
-    ensures kept { OnOk result (KeepsRefusals pool.old pool.new) }
-    ensures faults { IfErr result (Faults pool.old pool.new) }
-    ensures caused { IfErr result (IsCaused pool.new) }
-    ensures room { (gs : List ℕ) → IfErr result (LacksRoom sum_need (free_of pool.old + size (tree_of a pool.old) + size (tree_of b pool.old)) gs) }
-    ensures stands { Stands pool.new }
-{
-    let (p, q) = take_rationals(pool, a, b);
-    let sum = add(p, q)?;
-    Ok(number(pool, sum)?)
-}
-
-/// The same where one is no rational: 0 and a Number are that tree.
-fn add_terms(pool: &mut Pool, a: Handle, b: Handle) -> Result<Handle, NumberFault>
-    requires stands { Stands pool.old }
-    requires first { IsHanded a (forest pool.old) }
-    requires second { IsHanded b (forest pool.old) }
-    requires apart { (a == b) ≡ false }
-    requires first_number { is_number (tree_of a pool.old) ≡ true }
-    requires second_number { is_number (tree_of b pool.old) ≡ true }
-    ensures ok { IfOk result (λ h. Gives (without_root b (without_root a (forest pool.old))) (forest pool.new) h (IsNumberOver (value (tree_of a pool.old) ++ value (tree_of b pool.old)))) }
-    ensures front { KeepsFront (a ∷ b ∷ []) (forest pool.old) (forest pool.new) }
-    ensures kept { OnOk result (KeepsRefusals pool.old pool.new) }
-    ensures faults { IfErr result (Faults pool.old pool.new) }
-    ensures overflow { IfErr result (OfOverflow (SumOverflows (value (tree_of a pool.old)) (value (tree_of b pool.old)))) }
-    ensures caused { IfErr result (IsCaused pool.new) }
-    ensures room { (gs : List ℕ) → SpansTree gs (tree_of a pool.old) → SpansTree gs (tree_of b pool.old) → IfErr result (LacksRoom sum_need (free_of pool.old + size (tree_of a pool.old) + size (tree_of b pool.old)) gs) }
-    ensures first_zero { is_zero (tree_of a pool.old) ≡ true → AnswersItself b pool.old pool.new result }
-    ensures second_zero { is_zero (tree_of a pool.old) ≡ false → is_zero (tree_of b pool.old) ≡ true → AnswersItself a pool.old pool.new result }
-    ensures stands { Stands pool.new }
-{
-    if roots::is_zero(pool, &a) {
-        keep_other(pool, a, &b);
-        Ok(b)
-    } else if roots::is_zero(pool, &b) {
-        keep_other(pool, b, &a);
-        Ok(a)
-    } else {
-        add_others(pool, a, b)
-    }
-}
-
-/// The same by their terms.
-fn add_others(pool: &mut Pool, a: Handle, b: Handle) -> Result<Handle, NumberFault>
+/// The sum of two Numbers, which are consumed, by their terms.
+pub(crate) fn add_others(pool: &mut Pool, a: Handle, b: Handle) -> Result<Handle, NumberFault>
     requires stands { Stands pool.old }
     requires first { IsHanded a (forest pool.old) }
     requires second { IsHanded b (forest pool.old) }

@@ -31,7 +31,7 @@ use tree_handles::{
 };
 
 /// A clean number below this one is square-free, so that each class has one.
-const SQUARE_FREE_BELOW: u128 = 1_000_000_000_000;
+pub(crate) const SQUARE_FREE_BELOW: u128 = 1_000_000_000_000;
 
 /// No sum has a term at this place.
 pub(crate) const NOWHERE: u16 = u16::MAX;

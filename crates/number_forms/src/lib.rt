@@ -3,6 +3,7 @@
 #![tactic(auto)]
 
 mod adding;
+mod calculating;
 mod inverting;
 mod joining;
 mod multiplying;
@@ -16,6 +17,7 @@ mod roots;
 mod shape;
 mod squaring;
 mod term;
+mod values;
 
 pub use adding::add_numbers;
 pub use inverting::{Inverse, invert_number};

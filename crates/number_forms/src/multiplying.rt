@@ -25,17 +25,16 @@ ghost use Rattle.tree_handles.specs.Roots.{without_root};
 ghost use Rattle.tree_handles.specs.Standing.{Stands, forest, KeepsRefusals};
 
 use crate::adding::number_of;
+use crate::calculating::{Joint, calculate};
 use crate::joining::{clean_radicand, join_term};
-use crate::rationals::{keep_other, take_rationals};
 use crate::read::term_count;
 use crate::roots;
 use crate::term::{listed_term, nth_term};
 use calc_terms::Kind;
 use child_lists::{ChildList, FEW, MANY, NONE};
 use node_pool::{Id, Pool};
-use rational128::mul;
 use surd_terms::{Term, product_with};
-use tree_handles::{Handle, NumberFault, node, number, release};
+use tree_handles::{Handle, NumberFault, node, release};
 
 /// The product of two Numbers, which are consumed. 1 times a Number that is no rational is that tree as it stands.
 pub fn multiply_numbers(pool: &mut Pool, a: Handle, b: Handle) -> Result<Handle, NumberFault>
@@ -60,67 +59,11 @@ pub fn multiply_numbers(pool: &mut Pool, a: Handle, b: Handle) -> Result<Handle,
     ensures spanned { (gs : List ℕ) → SpansTree gs (tree_of a pool.old) → SpansTree gs (tree_of b pool.old) → IfOk result (λ h. SpansTree gs (tree_of h pool.new)) }
     ensures stands { Stands pool.new }
 {
-    if roots::is_rational(pool, &a) && roots::is_rational(pool, &b) {
-        multiply_rationals(pool, a, b)
-    } else {
-        multiply_terms(pool, a, b)
-    }
+    calculate(pool, Joint::Product, a, b)
 }
 
-/// The product of two rationals, which are consumed.
-fn multiply_rationals(pool: &mut Pool, a: Handle, b: Handle) -> Result<Handle, NumberFault>
-    requires stands { Stands pool.old }
-    requires first { IsHanded a (forest pool.old) }
-    requires second { IsHanded b (forest pool.old) }
-    requires apart { (a == b) ≡ false }
-    requires first_rational { is_num (tree_of a pool.old) ≡ true }
-    requires second_rational { is_num (tree_of b pool.old) ≡ true }
-    ensures ok { IfOk result (λ h. Gives (without_root b (without_root a (forest pool.old))) (forest pool.new) h (IsNumberOver (surd_times (value (tree_of a pool.old)) (value (tree_of b pool.old))))) }
-    ensures rationals { (p q : Fraction) → tree_of a pool.old ≡ num p → tree_of b pool.old ≡ num q → AnswersRationals (calculated mul_op p q) pool.new result }
-    ensures front { KeepsFront (a ∷ b ∷ []) (forest pool.old) (forest pool.new) }
-    ensures kept { OnOk result (KeepsRefusals pool.old pool.new) }
-    ensures faults { IfErr result (Faults pool.old pool.new) }
-    ensures caused { IfErr result (IsCaused pool.new) }
-    ensures room { (gs : List ℕ) → IfErr result (LacksRoom product_need (free_of pool.old + size (tree_of a pool.old) + size (tree_of b pool.old)) gs) }
-    ensures stands { Stands pool.new }
-{
-    let (p, q) = take_rationals(pool, a, b);
-    let product = mul(p, q)?;
-    Ok(number(pool, product)?)
-}
-
-/// The same where one is no rational: 1 times a Number is that tree.
-fn multiply_terms(pool: &mut Pool, a: Handle, b: Handle) -> Result<Handle, NumberFault>
-    requires stands { Stands pool.old }
-    requires first { IsHanded a (forest pool.old) }
-    requires second { IsHanded b (forest pool.old) }
-    requires apart { (a == b) ≡ false }
-    requires first_number { is_number (tree_of a pool.old) ≡ true }
-    requires second_number { is_number (tree_of b pool.old) ≡ true }
-    ensures ok { IfOk result (λ h. Gives (without_root b (without_root a (forest pool.old))) (forest pool.new) h (IsNumberOver (surd_times (value (tree_of a pool.old)) (value (tree_of b pool.old))))) }
-    ensures front { KeepsFront (a ∷ b ∷ []) (forest pool.old) (forest pool.new) }
-    ensures kept { OnOk result (KeepsRefusals pool.old pool.new) }
-    ensures faults { IfErr result (Faults pool.old pool.new) }
-    ensures overflow { IfErr result (OfOverflow (ProductOverflows (value (tree_of a pool.old)) (value (tree_of b pool.old)))) }
-    ensures caused { IfErr result (IsCaused pool.new) }
-    ensures room { (gs : List ℕ) → SpansTree gs (tree_of a pool.old) → SpansTree gs (tree_of b pool.old) → IfErr result (LacksRoom product_need (free_of pool.old + size (tree_of a pool.old) + size (tree_of b pool.old)) gs) }
-    ensures first_one { is_num_one (tree_of a pool.old) ≡ true → AnswersItself b pool.old pool.new result }
-    ensures second_one { is_num_one (tree_of a pool.old) ≡ false → is_num_one (tree_of b pool.old) ≡ true → AnswersItself a pool.old pool.new result }
-    ensures stands { Stands pool.new }
-{
-    if roots::is_num_one(pool, &a) {
-        keep_other(pool, a, &b);
-        Ok(b)
-    } else if roots::is_num_one(pool, &b) {
-        keep_other(pool, b, &a);
-        Ok(a)
-    } else {
-        multiply_others(pool, a, b)
-    }
-}
-
-/// The same by their terms.
-fn multiply_others(pool: &mut Pool, a: Handle, b: Handle) -> Result<Handle, NumberFault>
+/// The product of two Numbers, which are consumed, by their terms.
+pub(crate) fn multiply_others(pool: &mut Pool, a: Handle, b: Handle) -> Result<Handle, NumberFault>
     requires stands { Stands pool.old }
     requires first { IsHanded a (forest pool.old) }
     requires second { IsHanded b (forest pool.old) }

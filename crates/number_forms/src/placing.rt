@@ -1,11 +1,13 @@
 //! Terms as trees.
-ghost use Rattle.std.specs.Prelude.{◌≡◌, ◌↔◌, ◌≤◌, ◌<◌, ◌^◌, pos, true, IfOk, IfErr, IsOk, OnOk, Err, []};
+ghost use Rattle.std.specs.Prelude.{◌≡◌, ◌↔◌, ◌≤◌, ◌<◌, ◌+◌, ◌*◌, ◌^◌, pos, true, IsTrue, IfOk, IfErr, IsOk, OnOk, Err, [], length};
 ghost use Rattle.calc_terms.specs.Fractions.{whole_fraction};
 ghost use Rattle.calc_algebra.specs.Numbers.{is_term, term_of as term_of_tree};
 ghost use Rattle.calc_terms.specs.Rat.{value_of};
 ghost use Rattle.calc_terms.specs.Trees.{num, root, mult, none, more, size};
 ghost use Rattle.node_pool.specs.State.{free_of};
+ghost use Rattle.number_forms.specs.Placed.{Adds};
 ghost use Rattle.number_forms.specs.Shapes.{term_tree};
+ghost use Rattle.number_forms.specs.Values.{number_tree, trees_of};
 ghost use Rattle.tree_handles.specs.Building.{building};
 ghost use Rattle.tree_handles.specs.Standing.{LacksBytes, Stands, forest, KeepsRefusals, Refuses};
 ghost use Rattle.surd_terms.specs.Terms.{term_of};
@@ -18,6 +20,9 @@ use tree_handles::{Handle, adopt, node, node_over, node_over_two, number};
 
 /// A root of a whole number takes so many bytes at most.
 const ROOT_BYTES: u32 = 48;
+
+/// A rational takes so many bytes at most, and a sum without its terms fewer.
+const NUMBER_BYTES: u32 = 40;
 
 /// A term takes so many bytes at most.
 pub(crate) const TERM_BYTES: u32 = 96;
@@ -45,6 +50,60 @@ pub fn place_term(pool: &mut Pool, term: Term) -> Result<Handle, Full>
     } else {
         place_multiple(pool, coefficient, term.radicand())
     }
+}
+
+/// Whether there is room for the Number whose terms these are.
+pub(crate) fn has_room(pool: &Pool, terms: &[Term]) -> bool
+    requires stands { Stands pool.now }
+    requires few { length terms.now ≤ 8 }
+    ensures { IsTrue result → 40 + 96 * length terms.now ≤ free_of pool.now }
+{
+    NUMBER_BYTES + TERM_BYTES * terms.len() as u32 <= pool.free()
+}
+
+/// A new last tree: the Number whose terms these are.
+pub(crate) fn place_terms(pool: &mut Pool, terms: &[Term]) -> Result<Handle, Full>
+    requires stands { Stands pool.old }
+    requires few { length terms.now ≤ 8 }
+    ensures ok { IfOk result (λ h. Gives (forest pool.old) (forest pool.new) h (λ t. t ≡ number_tree terms.now)) }
+    ensures front { KeepsFront [] (forest pool.old) (forest pool.new) }
+    ensures kept { OnOk result (KeepsRefusals pool.old pool.new) }
+    ensures full { IfErr result (Refuses pool.old pool.new) }
+    ensures caused { IfErr result (LacksBytes pool.new) }
+    ensures room { IfErr result (λ full. free_of pool.old < 40 + 96 * length terms.now) }
+    ensures stands { Stands pool.new }
+{
+    if terms.is_empty() {
+        return number(pool, Rat::whole(0));
+    }
+    if terms.len() == 1 {
+        return place_term(pool, terms[0]);
+    }
+    let sum = node(pool, Kind::Add)?;
+    let placed = place_all(pool, terms)?;
+    adopt(pool, &sum, placed);
+    Ok(sum)
+}
+
+/// New last trees: terms. Tells how many.
+fn place_all(pool: &mut Pool, terms: &[Term]) -> Result<u16, Full>
+    requires stands { Stands pool.old }
+    requires few { length terms.now ≤ 8 }
+    ensures count { IfOk result (λ many. many ≡ length terms.now) }
+    ensures ok { OnOk result (Adds (trees_of terms.now) (forest pool.old) (forest pool.new)) }
+    ensures front { KeepsFront [] (forest pool.old) (forest pool.new) }
+    ensures kept { OnOk result (KeepsRefusals pool.old pool.new) }
+    ensures full { IfErr result (Refuses pool.old pool.new) }
+    ensures caused { IfErr result (LacksBytes pool.new) }
+    ensures room { IfErr result (λ full. free_of pool.old < 96 * length terms.now) }
+    ensures stands { Stands pool.new }
+{
+    let mut placed = 0u16;
+    for term in terms {
+        let _term = place_term(pool, *term)?;
+        placed += 1;
+    }
+    Ok(placed)
 }
 
 /// A new last tree `Root(Num radicand)`.

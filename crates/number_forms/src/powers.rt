@@ -1,5 +1,5 @@
 //! Powers of Numbers.
-ghost use Rattle.std.specs.Prelude.{ℕ, List, ◌+◌, ◌≡◌, ◌∷◌, ◌≤◌, ◌<◌, ◌≤ℤ◌, pos, nat_abs, [], true, false, IfOk, IfErr, OnOk, ◌*◌};
+ghost use Rattle.std.specs.Prelude.{ℕ, List, ◌+◌, ◌≡◌, ◌∷◌, ◌≤◌, ◌<◌, ◌≤ℤ◌, pos, nat_abs, [], true, false, IsTrue, IfOk, IfErr, OnOk, ◌*◌};
 ghost use Rattle.calc_terms.specs.Fits.{pow_op};
 ghost use Rattle.calc_terms.specs.Fractions.{Fraction, whole_fraction};
 ghost use Rattle.calc_algebra.specs.Numbers.{is_number, value};
@@ -14,6 +14,7 @@ ghost use Rattle.node_pool.specs.State.{free_of};
 ghost use Rattle.number_forms.specs.Answers.{IsNumberOf, AnswersRationals, IsNumberOver, IsPowerOver};
 ghost use Rattle.number_forms.specs.Overflows.{ProductOverflows, SquareOverflows, PowerOverflows};
 ghost use Rattle.number_forms.specs.Rooms.{LacksRoom, joining_need, raising_need};
+ghost use Rattle.number_forms.specs.Values.{number_tree};
 ghost use Rattle.tree_handles.specs.Causes.{IsCaused};
 ghost use Rattle.tree_handles.specs.Handed.{tree_of, IsHanded, Gives, KeepsFront};
 ghost use Rattle.tree_handles.specs.Faults.{Faults, OfOverflow};
@@ -21,9 +22,11 @@ ghost use Rattle.tree_handles.specs.Roots.{without_root};
 ghost use Rattle.tree_handles.specs.Standing.{Stands, forest, KeepsRefusals};
 
 use crate::multiplying::product_of;
+use crate::placing::{has_room, place_terms};
 use crate::rationals::take_rational;
 use crate::roots;
 use crate::squaring::square_of;
+use crate::values::{TermList, cube_values, square_values};
 use node_pool::Pool;
 use rational128::pow;
 use tree_handles::{Handle, NumberFault, move_last, number, release};
@@ -107,7 +110,8 @@ fn power_of(pool: &mut Pool, a: &Handle, n: u128) -> Result<Handle, NumberFault>
     }
 }
 
-/// The same for the exponents 2 and 3.
+/// The same for the exponents 2 and 3, as values where the terms are few.
+#[inline(never)]
 fn square_or_cube(pool: &mut Pool, a: &Handle, n: u128) -> Result<Handle, NumberFault>
     requires stands { Stands pool.old }
     requires handed { IsHanded a.now (forest pool.old) }
@@ -123,11 +127,32 @@ fn square_or_cube(pool: &mut Pool, a: &Handle, n: u128) -> Result<Handle, Number
     ensures room { (gs : List ℕ) → SpansTree gs (tree_of a.now pool.old) → IfErr result (LacksRoom raising_need (free_of pool.old) gs) }
     ensures stands { Stands pool.new }
 {
+    let mut terms = TermList::new();
+    if raise_values(pool, a, n, &mut terms) && has_room(pool, terms.as_slice()) {
+        return Ok(place_terms(pool, terms.as_slice())?);
+    }
     let square = square_of(pool, a)?;
     if n == 2 {
         Ok(square)
     } else {
         multiplied(pool, square, a)
+    }
+}
+
+/// Lists the terms of the square or the cube of a Number behind none, if these and those are few.
+fn raise_values(pool: &Pool, a: &Handle, n: u128, list: &mut TermList) -> bool
+    requires stands { Stands pool.now }
+    requires handed { IsHanded a.now (forest pool.now) }
+    requires number { is_number (tree_of a.now pool.now) ≡ true }
+    requires twice { 2 ≤ n }
+    requires few { n < 4 }
+    requires none { list.old.items ≡ [] }
+    ensures { IsTrue result → IsPowerOver (value (tree_of a.now pool.now)) n (number_tree list.new.items) }
+{
+    if n == 2 {
+        square_values(pool, a, list)
+    } else {
+        cube_values(pool, a, list)
     }
 }
 

@@ -17,6 +17,12 @@ pub struct Term {
     ghost fits: { radicand < 2 ^ 127 },
 }
 
+impl Default for Term {
+    fn default() -> Term {
+        Term::rational(Rat::whole(1))
+    }
+}
+
 impl Term {
     ghost use Rattle.calc_algebra.specs.Surds.{term};
     ghost use Rattle.surd_terms.specs.Terms.{coefficient_of, term_of};

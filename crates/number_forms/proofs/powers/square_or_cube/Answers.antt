@@ -1,16 +1,19 @@
-use Rattle.std.proofs.Common.{rules, ◌/◌, ap, ◌∙◌, subst, sym, ℕ, arith, refl}
+use Rattle.std.proofs.Common.{◌≡◌, ◌≤◌, ◌+◌, ◌*◌, List, length, rules, ◌/◌, ap, ◌∙◌, subst, sym, ℕ, arith, refl}
 use Rattle.number_forms.proofs.Shared.{is_number, value, surd_times, Tree, Same-refl, IsNumberOver, IsPowerOver, PowerOverflows, ProductOverflows, other_plain, passed_on, overflow_as, refused_as, OfOverflow, tree_of, behind_new, front_same, front_after_one, given_handed, given_told, given_rest, given_other, gives_as, SpansTree, free_of, LacksRoom, raising_need, given_free}
 use Rattle.number_forms.proofs.Over.{even_power, odd_power, power_itself, of_over}
 use Rattle.number_forms.proofs.Overflows.{square_overflows, last_overflows}
 use Rattle.number_forms.proofs.PowerSteps.{half_one, three_odd, half_twice, half_odd_within}
 use Rattle.number_forms.proofs.TermTrees.{if_given}
 use Rattle.number_forms.proofs.Rooms.{full_as, refusal_as, product_spans, step_lacks, few_for_raising}
+use Rattle.number_forms.specs.Values.{number_tree}
+use Rattle.surd_terms.specs.declared.term.Term.{Term}
+use Rattle.tree_handles.specs.declared.fault.NumberFault.TheVariants as fault
 use Rattle.number_forms.proofs.powers.square_or_cube.Goals.{After-square_of}
 use Rattle.number_forms.proofs.powers.square_or_cube.Goals as goal
 
 pub returns-in_err-square-clause-room : goal.returns-in_err-square-clause-room
 returns-in_err-square-clause-room c = λ gs s.
-    passed_on c.from_residual.result c.in_err-square.field-0.0 (LacksRoom raising_need (free_of c.args.pool.now) gs) c.from_residual.ensures.0 c.from_residual.ensures.1
+    passed_on c.from_residual-in_err-square.result c.in_err-square.field-0.0 (LacksRoom raising_need (free_of c.args.pool.now) gs) c.from_residual-in_err-square.ensures.0 c.from_residual-in_err-square.ensures.1
     (full_as c.in_err-square.field-0.0 (c.in_err-square.ensures.room gs s) (λ full few. few_for_raising gs _ few))
 
 pub returns-else-n-eq2-clause-room : goal.returns-else-n-eq2-clause-room
@@ -31,7 +34,7 @@ half c =
 
 pub returns-in_err-square-clause-overflow : goal.returns-in_err-square-clause-overflow
 returns-in_err-square-clause-overflow c =
-    passed_on c.from_residual.result c.in_err-square.field-0.0 (OfOverflow (PowerOverflows (value (tree_of c.args.a.now c.args.pool.now)) c.args.n)) c.from_residual.ensures.0 c.from_residual.ensures.1
+    passed_on c.from_residual-in_err-square.result c.in_err-square.field-0.0 (OfOverflow (PowerOverflows (value (tree_of c.args.a.now c.args.pool.now)) c.args.n)) c.from_residual-in_err-square.ensures.0 c.from_residual-in_err-square.ensures.1
     (overflow_as c.in_err-square.field-0.0 c.in_err-square.ensures.overflow
     (λ o p. square_overflows _ (tree_of c.args.a.now c.args.pool.now) c.args.n o (half_twice c.args.n c.requires.twice) (half (goal.at.returns-in_err-square-clause-overflow c).After-square_of) p))
 
@@ -70,3 +73,17 @@ returns-else-n-eq2-clause-overflow c =
     refused_as c.multiplied.result c.multiplied.ensures.overflow
     (λ o p. last_overflows a q a c.args.n o (half_twice c.args.n c.requires.twice) (half_odd_within c.args.n (three_odd c.args.n c.requires.twice c.requires.few c.if-n-eq2.false)) (half (goal.at.returns-else-n-eq2-clause-overflow c).After-square_of) (given_told square)
     (power_itself a (record { number = c.requires.number; worth = Same-refl (value a) })) (subst (λ (t : Tree). ProductOverflows (value q) (value t) o) same p))
+
+-- ---- as values
+
+pub returns-in_err-place_terms-clause-room : goal.returns-in_err-place_terms-clause-room
+returns-in_err-place_terms-clause-room c = λ gs s.
+    let enough : 40 + 96 * length c.as_slice.result.now ≤ free_of c.args.pool.now = c.has_room.ensures (search rules) in
+    let same : c.as_slice.result.now ≡ c.as_slice-then-has_room.result.now = c.as_slice.ensures.value ∙ sym c.as_slice-then-has_room.ensures.value in
+    passed_on c.from_residual.result (fault.Full c.in_err-place_terms.field-0.0) (LacksRoom raising_need (free_of c.args.pool.now) gs) c.from_residual.ensures.0 c.from_residual.ensures.1
+    (absurd (omega (arith, enough, ap (λ (ts : List Term). length ts) same, c.in_err-place_terms.ensures.room)))
+
+pub returns-then-has_room-clause-ok : goal.returns-then-has_room-clause-ok
+returns-then-has_room-clause-ok c =
+    let power = c.raise_values.ensures (search rules) in
+    gives_as c.in_ok-place_terms.ensures.ok refl (λ t e. subst (IsPowerOver (value (tree_of c.args.a.now c.args.pool.now)) c.args.n) (sym (e ∙ ap number_tree c.as_slice-then-has_room.ensures.value)) power)

@@ -1,0 +1,25 @@
+use Rattle.std.proofs.Common.{ap, ◌∙◌}
+use Rattle.number_forms.proofs.Shared.{is_num, tree_of}
+use Rattle.number_forms.proofs.Kept.{no_neutral}
+use Rattle.number_forms.proofs.calculating.calculate.Goals.{else-is_rational-via-then-is_rational+else-is_rational-2, else-is_rational-via-else-is_rational}
+use Rattle.number_forms.proofs.calculating.calculate.Goals as goal
+
+pub returns-then-is_rational-2-clause-room : goal.returns-then-is_rational-2-clause-room
+returns-then-is_rational-2-clause-room c = λ gs s t. c.calculate_rationals.ensures.room gs
+
+pub returns-else-is_rational-clause-rationals : goal.returns-else-is_rational-clause-rationals
+returns-else-is_rational-clause-rationals c = λ p q k l.
+    absurd (elim c.else-is_rational.branch [
+      | else-is_rational-via-then-is_rational+else-is_rational-2 w ↦
+          cc (w.is_rational-then-is_rational.ensures ∙ ap is_num l, w.if-is_rational-2.false)
+      | else-is_rational-via-else-is_rational w ↦
+          cc (c.is_rational.ensures ∙ ap is_num k, w.if-is_rational.false)
+    ])
+
+-- ---- a tree that stays as it is
+
+pub returns-else-is_rational-clause-first_neutral : goal.returns-else-is_rational-clause-first_neutral
+returns-else-is_rational-clause-first_neutral c = λ neutral other. c.calculate_terms.ensures.first_neutral neutral
+
+pub returns-else-is_rational-clause-second_neutral : goal.returns-else-is_rational-clause-second_neutral
+returns-else-is_rational-clause-second_neutral c = λ neutral other. c.calculate_terms.ensures.second_neutral (no_neutral c.args.joint (tree_of c.args.a c.args.pool.now) other) neutral

@@ -1,0 +1,13 @@
+use Rattle.std.proofs.Common.{refl, sym, ◌∙◌}
+use Rattle.number_forms.proofs.Shared.{tree_of, gives_as, without-swap}
+use Rattle.number_forms.proofs.Kept.{with_neutral, neutral_with}
+use Rattle.number_forms.proofs.calculating.calculate_terms.Goals as goal
+
+pub returns-then-is_neutral-clause-ok : goal.returns-then-is_neutral-clause-ok
+returns-then-is_neutral-clause-ok c =
+    gives_as c.keep_other.ensures.gives refl (λ t e. neutral_with c.args.joint (tree_of c.args.a c.args.pool.now) (tree_of c.args.b c.args.pool.now) t (sym c.is_neutral.ensures ∙ c.if-is_neutral.true) c.requires.second_number e)
+
+pub returns-then-is_neutral-2-clause-ok : goal.returns-then-is_neutral-2-clause-ok
+returns-then-is_neutral-2-clause-ok c =
+    gives_as c.keep_other-then-is_neutral-2.ensures.gives (without-swap c.args.a c.args.b _ c.requires.apart)
+    (λ t e. with_neutral c.args.joint (tree_of c.args.a c.args.pool.now) (tree_of c.args.b c.args.pool.now) t (sym c.is_neutral-else-is_neutral.ensures ∙ c.if-is_neutral-2.true) c.requires.first_number e)

@@ -1,0 +1,41 @@
+use Rattle.std.proofs.Common.{◌<◌, ◌*◌, List, length, take, refl, subst, arith}
+use Rattle.std.proofs.lemmas.List.{length-take-le, take_all}
+use Rattle.number_forms.proofs.Shared.{Trees, forest, free_of, front_after, front_same, gives_as, kept_after, kept_same, passed_on}
+use Rattle.number_forms.proofs.ListedTerms.{terms_size, trees_more}
+use Rattle.number_forms.proofs.Placings.{given_tree}
+use Rattle.number_forms.proofs.Planted.{adds_free, adds_more, adds_none}
+use Rattle.number_forms.specs.Placed.{Adds}
+use Rattle.number_forms.specs.Values.{trees_of}
+use Rattle.surd_terms.specs.declared.term.Term.{Term}
+use Rattle.number_forms.proofs.placing.place_all.Goals as goal
+
+pub loop-term-init : goal.loop-term-init
+loop-term-init c = record { placed = omega arith; adds = adds_none (forest c.args.pool.now); front = front_same; kept = kept_same c.args.pool.now; stands = c.requires.stands }
+
+pub loop-term-preserved : goal.loop-term-preserved
+loop-term-preserved c =
+    let i = c.loop-term.invariant in
+    let placed = gives_as (given_tree c.in_ok-_term.ensures.ok c.in_ok-_term.ensures.tree) refl (λ t h. h.1) in
+    record {
+      placed = omega (arith, i.placed);
+      adds = subst (λ (ts : Trees). Adds ts (forest c.args.pool.now) (forest c.place_term.new.pool)) (trees_more c.args.terms.now c.loop-term.term-index c.term-item.result c.loop-term-test.true c.term-item.is) (adds_more i.adds placed);
+      front = front_after i.front c.place_term.ensures.front;
+      kept = kept_after i.kept c.in_ok-_term.ensures.kept;
+      stands = c.place_term.ensures.stands;
+    }
+
+pub place_term-requires : goal.place_term-requires
+place_term-requires c = record { stands = c.loop-term.invariant.stands }
+
+pub returns-clause-ok : goal.returns-clause-ok
+returns-clause-ok c =
+    subst (λ (ts : List Term). Adds (trees_of ts) (forest c.args.pool.now) (forest c.loop-term.pool)) (take_all c.loop-term.term-index c.args.terms.now (omega (arith, c.loop-term-test.false))) c.loop-term.invariant.adds
+
+pub returns-in_err-_term-clause-room : goal.returns-in_err-_term-clause-room
+returns-in_err-_term-clause-room c =
+    let i = c.loop-term.invariant in
+    let n = c.loop-term.term-index in
+    let free = adds_free c.requires.stands i.stands i.kept i.adds in
+    let few : free_of c.loop-term.pool < 96 = grind (arith, c.in_err-_term.ensures.room) in
+    passed_on c.from_residual.result c.in_err-_term.field-0.0 (λ full. free_of c.args.pool.now < 96 * length c.args.terms.now) c.from_residual.ensures.0 c.from_residual.ensures.1
+    (omega (arith, free, few, terms_size (take n c.args.terms.now), length-take-le n c.args.terms.now (omega (arith, c.loop-term-test.true)), c.loop-term-test.true))

@@ -1,0 +1,14 @@
+use Rattle.std.proofs.Common.{◌≡◌, [], take}
+use Rattle.number_forms.proofs.Shared.{KeepsFront, KeepsRefusals, Stands, forest}
+use Rattle.number_forms.specs.Placed.{Adds}
+use Rattle.number_forms.specs.Values.{trees_of}
+use Rattle.number_forms.proofs.placing.place_all.Given as goal
+
+abbrev pub invariant-loop-term : goal.invariant-loop-term
+invariant-loop-term l = record {
+  placed : l.placed ≡ l.term-index;
+  adds : Adds (trees_of (take l.term-index l.terms)) (forest l.fn.pool) (forest l.pool);
+  front : KeepsFront [] (forest l.fn.pool) (forest l.pool);
+  kept : KeepsRefusals l.fn.pool l.pool;
+  stands : Stands l.pool;
+}

@@ -1,0 +1,10 @@
+use Rattle.std.proofs.Common.{refl}
+use Rattle.number_forms.proofs.Shared.{Same-refl, tree_of, value}
+use Rattle.number_forms.proofs.ListedTerms.{number_over}
+use Rattle.number_forms.proofs.Over.{even_power, power_itself}
+use Rattle.number_forms.proofs.values.square_values.Goals as goal
+
+pub returns : goal.returns
+returns c = λ h.
+    let a = tree_of c.args.a.now c.args.pool.now in
+    even_power (value a) a _ 2 refl (power_itself a (record { number = c.requires.number; worth = Same-refl (value a) })) (number_over _ (c.multiply_values.ensures h))

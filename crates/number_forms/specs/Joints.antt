@@ -1,0 +1,42 @@
+-- The sum or the product of two Numbers.
+use Rattle.std.specs.Prelude.{ℕ, Bool, ◌++◌}
+use Rattle.calc_algebra.specs.Reduced.{is_num_one}
+use Rattle.calc_algebra.specs.Surds.{Surd, surd_times}
+use Rattle.calc_room.specs.Needs.{sum_need, product_need}
+use Rattle.calc_terms.specs.Fits.{Operation}
+use Rattle.calc_terms.specs.Trees.{Tree}
+use Rattle.number_forms.specs.Overflows.{SumOverflows, ProductOverflows}
+use Rattle.number_forms.specs.Readers.{is_zero}
+use Rattle.number_forms.specs.declared.calculating.Joint.{Joint}
+use Rattle.number_forms.specs.declared.calculating.Joint.TheVariants as joint
+use Rattle.rational128.specs.Refusals.{operation_of}
+use Rattle.rational128.specs.declared.overflow.Op.{Op}
+use Rattle.rational128.specs.declared.overflow.Overflow.{Overflow}
+
+-- what two surds are worth together
+abbrev pub both : Joint → Surd → Surd → Surd
+both joint.Sum v w = v ++ w
+both joint.Product v w = surd_times v w
+
+-- what is calculated with rationals
+abbrev pub op_of : Joint → Op
+op_of joint.Sum = Op.Add
+op_of joint.Product = Op.Mul
+
+abbrev pub operation : Joint → Operation
+operation j = operation_of (op_of j)
+
+-- the rational that leaves each Number as it is
+abbrev pub is_neutral : Joint → Tree → Bool
+is_neutral joint.Sum t = is_zero t
+is_neutral joint.Product t = is_num_one t
+
+-- which operation on terms does not fit
+abbrev pub JointOverflows : Joint → Surd → Surd → Overflow → Type 0
+JointOverflows joint.Sum v w o = SumOverflows v w o
+JointOverflows joint.Product v w o = ProductOverflows v w o
+
+-- the bytes that are needed for each choice of radicands
+abbrev pub joint_need : Joint → ℕ
+joint_need joint.Sum = sum_need
+joint_need joint.Product = product_need
