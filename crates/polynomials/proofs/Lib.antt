@@ -9,3 +9,5 @@ pub mod Coefficients
 pub mod Insertions
 pub mod GreatestExponents
 pub mod Causes
+pub mod BinomialTheorem
+pub mod PowerLists

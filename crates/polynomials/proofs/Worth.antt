@@ -7,7 +7,7 @@ use Rattle.polynomials.specs.Polynomials.{Monomial, Polynomial, Summand, AreSame
 plus_both : {a b c d : Fraction} → a ≡ b → c ≡ d → plus a c ≡ plus b d
 plus_both p q = λ i. plus (p i) (q i)
 
-plus_times : (a b c : Fraction) → times (plus a b) c ≡ plus (times a c) (times b c)
+pub plus_times : (a b c : Fraction) → times (plus a b) c ≡ plus (times a c) (times b c)
 plus_times a b c = times_comm (plus a b) c ∙ times_plus c a b ∙ plus_both (times_comm c a) (times_comm c b)
 
 plus_left_comm : (a b c : Fraction) → plus a (plus b c) ≡ plus b (plus a c)

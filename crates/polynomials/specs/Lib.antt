@@ -3,3 +3,4 @@ pub mod Packed
 pub mod Terms
 pub mod Rows
 pub mod Unfits
+pub mod Binomials

@@ -5,6 +5,7 @@ ghost use Rattle.polynomials.specs.Polynomials.{HaveExponents, product, raised, 
 ghost use Rattle.polynomials.specs.Terms.{AreTermsOf, IsNormal, polynomial_of};
 ghost use Rattle.polynomials.specs.Unfits.{IsCaused};
 
+use crate::binomials::{GREATEST_EXPONENT, binomial_power};
 use crate::list::push;
 use crate::merging::add_multiple;
 use crate::term::Term;
@@ -59,6 +60,27 @@ pub fn product(
 
 /// A polynomial to a power. No exponent runs over.
 pub fn power(
+    base: &[Term],
+    exponent: u8,
+    list: &mut Vec<Term>,
+    spare: &mut Vec<Term>,
+    other: &mut Vec<Term>,
+) -> Result<(), Unfit>
+    requires base { IsNormal base.now }
+    requires exponents { (d : ℕ) × (exponent * d < 256) × HaveExponents d (polynomial_of base.now) }
+    ensures terms { OnOk result (AreTermsOf (raised (polynomial_of base.now) exponent) list.new.items) }
+    ensures exponents { (d : ℕ) → HaveExponents d (polynomial_of base.now) → OnOk result (HaveExponents (exponent * d) (polynomial_of list.new.items)) }
+    ensures few { OnOk result (length list.new.items ≤ length base.now ^ exponent) }
+    ensures unfit { IfErr result (IsCaused (min (vec_capacity list.old) (min (vec_capacity spare.old) (vec_capacity other.old)) < max 1 (length base.now ^ exponent))) }
+{
+    if base.len() == 2 && exponent <= GREATEST_EXPONENT {
+        return binomial_power(base[0], base[1], exponent, list, spare, other);
+    }
+    power_by_factors(base, exponent, list, spare, other)
+}
+
+/// The same, factor by factor.
+fn power_by_factors(
     base: &[Term],
     exponent: u8,
     list: &mut Vec<Term>,

@@ -2,6 +2,7 @@
 #![tactic(auto)]
 
 mod arithmetic;
+mod binomials;
 mod degrees;
 mod insertion;
 mod laws;

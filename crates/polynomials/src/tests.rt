@@ -122,6 +122,20 @@ fn powers_are_expanded(rt: HostRuntime) -> Result<(), Fail> {
     );
     let list = raised(rt.alloc(), &[(1, 2, 1), (1, 3, 256)], 2)?;
     assert!(rt; are(&list, &[(1, 4, 2), (1, 3, 257), (1, 9, 512)]));
+    let list = raised(rt.alloc(), &[(1, 1, 1), (1, 1, 0), (-1, 1, 256)], 2)?;
+    assert!(rt;
+        are(
+            &list,
+            &[
+                (1, 1, 0),
+                (2, 1, 1),
+                (1, 1, 2),
+                (-2, 1, 256),
+                (-2, 1, 257),
+                (1, 1, 512)
+            ]
+        )
+    );
     let list = raised(rt.alloc(), &[(7, 1, 1)], 0)?;
     assert!(rt; are(&list, &[(1, 1, 0)]));
     Ok(())
