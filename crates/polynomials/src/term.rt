@@ -55,6 +55,13 @@ impl Term {
         ensures unfit { IfErr result (IsCaused ⊥) }
     {
         let monomial = packed_product(self.monomial, other.monomial);
+        if self.coefficient.is_one() {
+            let coefficient = other.coefficient;
+            return Ok(Term {
+                monomial,
+                coefficient,
+            });
+        }
         match mul(self.coefficient, other.coefficient) {
             Ok(coefficient) => Ok(Term {
                 monomial,

@@ -1,5 +1,13 @@
+use Rattle.std.proofs.Common.{◌∙◌, sym, ap}
+use Rattle.calc_terms.proofs.FractionFacts.{one_is}
+use Rattle.calc_terms.specs.FractionLaws.{one_times}
+use Rattle.calc_terms.specs.Fractions.{times}
+use Rattle.calc_terms.specs.Rat.{value_of}
 use Rattle.polynomials.specs.Polynomials.{summand}
 use Rattle.polynomials.proofs.term.Term.times.Goals as goal
 
-pub returns-in-Ok-clause-product : goal.returns-in-Ok-clause-product
-returns-in-Ok-clause-product c = λ i. summand (c.in-Ok.ensures.product i) (c.packed_product-monomial.ensures.product i)
+pub returns-then-is_one-clause-product : goal.returns-then-is_one-clause-product
+returns-then-is_one-clause-product c =
+    let q = value_of c.args.other.coefficient in
+    let one = one_is (value_of c.args.self.coefficient) (sym c.is_one.ensures ∙ c.if-is_one.true) in
+    λ i. summand (sym (ap (λ p. times p q) one ∙ one_times q) i) (c.packed_product-monomial.ensures.product i)
