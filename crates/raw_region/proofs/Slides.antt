@@ -11,6 +11,10 @@ length-run xs a n h = length-take-le n (drop a xs) (omega (arith, length-drop a 
 slid_put : (xs : List ℕ) (a b n : ℕ) → a + n ≤ length xs → slid xs a b n ≡ put xs b (take n (drop a xs))
 slid_put xs a b n h = ap (λ (m : ℕ). take b xs ++ (take n (drop a xs) ++ drop (b + m) xs)) (sym (length-run xs a n h))
 
+-- one run is moved
+pub slid_run : (xs zs run : List ℕ) (a b n : ℕ) → a + n ≤ length xs → run ≡ take n (drop a xs) → zs ≡ put xs b run → zs ≡ slid xs a b n
+slid_run xs zs run a b n h r z = z ∙ ap (put xs b) r ∙ sym (slid_put xs a b n h)
+
 pub length-slid : (xs : List ℕ) (a b n : ℕ) → a + n ≤ length xs → b + n ≤ length xs → length (slid xs a b n) ≡ length xs
 length-slid xs a b n h k =
     let long = length-run xs a n h in

@@ -24,15 +24,15 @@ pub fn slide(bytes: &mut [u8], from: usize, to: usize, len: usize)
     }
     if to <= from {
         let done = slide_down::<WIDE>(bytes, from, to, len);
-        let half = slide_down::<HALF>(bytes, from + done, to + done, len - done);
+        let half = step_down::<HALF>(bytes, from + done, to + done, len - done);
         let done = done + half;
-        let more = slide_down::<8>(bytes, from + done, to + done, len - done);
+        let more = step_down::<8>(bytes, from + done, to + done, len - done);
         let done = done + more;
         slide_down::<1>(bytes, from + done, to + done, len - done);
     } else {
         let left = slide_up::<WIDE>(bytes, from, to, len);
-        let left = slide_up::<HALF>(bytes, from, to, left);
-        let left = slide_up::<8>(bytes, from, to, left);
+        let left = step_up::<HALF>(bytes, from, to, left);
+        let left = step_up::<8>(bytes, from, to, left);
         slide_up::<1>(bytes, from, to, left);
     }
 }
@@ -55,6 +55,25 @@ fn slide_down<const N: usize>(bytes: &mut [u8], from: usize, to: usize, len: usi
     done
 }
 
+/// Moves the first `N` bytes where there are so many, and says how many have moved. Fewer than `N` are left.
+#[inline(always)]
+#[tactic(auto, using(crate::proofs::Slides::slid_run, crate::proofs::Slides::slid_none))]
+fn step_down<const N: usize>(bytes: &mut [u8], from: usize, to: usize, len: usize) -> usize
+    requires few { len < N + N }
+    requires down { to ≤ from }
+    requires inside { from + len ≤ length bytes.old }
+    ensures moved { bytes.new ≡ slid bytes.old from to result }
+    ensures within { result ≤ len }
+    ensures most { len < result + N }
+{
+    if len < N {
+        return 0;
+    }
+    let run: [u8; N] = load(bytes, from);
+    store(bytes, to, run);
+    N
+}
+
 /// Moves `N` bytes at once from the last on, and says how many have not moved.
 fn slide_up<const N: usize>(bytes: &mut [u8], from: usize, to: usize, len: usize) -> usize
     requires some { 0 < N }
@@ -70,6 +89,26 @@ fn slide_up<const N: usize>(bytes: &mut [u8], from: usize, to: usize, len: usize
         let run: [u8; N] = load(bytes, from + left);
         store(bytes, to + left, run);
     }
+    left
+}
+
+/// Moves the last `N` bytes where there are so many, and says how many have not moved, which are fewer than `N`.
+#[inline(always)]
+#[tactic(auto, using(crate::proofs::Slides::slid_run, crate::proofs::Slides::slid_none))]
+fn step_up<const N: usize>(bytes: &mut [u8], from: usize, to: usize, len: usize) -> usize
+    requires few { len < N + N }
+    requires up { from ≤ to }
+    requires inside { to + len ≤ length bytes.old }
+    ensures moved { bytes.new ≡ slid bytes.old (from + result) (to + result) (len - result) }
+    ensures within { result ≤ len }
+    ensures most { result < N }
+{
+    if len < N {
+        return len;
+    }
+    let left = len - N;
+    let run: [u8; N] = load(bytes, from + left);
+    store(bytes, to + left, run);
     left
 }
 
