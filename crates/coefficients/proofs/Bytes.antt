@@ -1,9 +1,10 @@
 -- The bytes of new nodes, and those that are free once children were taken out of a root.
 use Rattle.std.specs.Prelude.{◌↔◌, Result, IsOk, IsErr, IsErrAnd, IfErr}
-use Rattle.std.proofs.Common.{◌≡◌, ℕ, ◌+◌, ◌≤◌, ◌==◌, eqb, cond, true, false, if◌then◌else◌, refl, sym, ap, subst, arith}
-use Rattle.coefficients.proofs.Shared.{bare, size_of_payload, Tree, Trees, more, size, is_mult, num_one, coefficient_length, IsOver, Full, State, free_of, children_of, Forest, empty, tree, bytes_in, kids, has_root, root_tree, put, Stands, forest, KeepsRefusals, IsRefused, bytes_in-join, by_test, used_forest, sizes-plains, size-plain}
+use Rattle.std.proofs.Common.{◌≡◌, ℕ, ◌≤◌, ◌==◌, true, false, if◌then◌else◌, refl, sym, ap, subst, arith}
+use Rattle.coefficients.proofs.Shared.{bare, size_of_payload, Tree, Trees, more, size, is_mult, num_one, coefficient_length, IsOver, Full, State, free_of, children_of, Stands, forest, KeepsRefusals, IsRefused, bytes_in-join, used_forest, sizes-plains, size-plain}
 use Rattle.coefficients.specs.Bytes.{bytes_as_product, bytes_of_coefficient, bytes_of_taking, IsShort}
 use Rattle.coefficients.proofs.Steps.{IsPairTaken}
+use Rattle.tree_handles.proofs.Filling.{bytes_put}
 use Rattle.calc_terms.specs.declared.kind.Kind.TheVariants as kind
 
 -- ---- new nodes
@@ -35,13 +36,6 @@ pub two_bytes : (ts : Trees) → (coefficient_length ts ≡ 0 → ⊥) → (coef
 two_bytes ts h k = grind arith
 
 -- ---- free bytes
-
-pub bytes_put : (i : ℕ) (n f : Forest) → has_root i f ≡ true → bytes_in (put i n f) + bytes_in (kids (root_tree i f)) ≡ bytes_in f + bytes_in n
-bytes_put i n empty h = cc
-bytes_put i n (tree l k r) h =
-    by_test
-    (λ t. cond t true (has_root i r) ≡ true → bytes_in (cond t (tree l n r) (tree l k (put i n r))) + bytes_in (kids (cond t (tree l k empty) (root_tree i r))) ≡ bytes_in (tree l k r) + bytes_in n)
-    (eqb l.id i) (λ e g. omega arith) (λ e g. omega (arith, bytes_put i n r g)) h
 
 -- two first children of a root stand by themselves, with the bytes that they had
 pub pair_free : {s t : State} {i h k : ℕ} {a b : Tree} {ts : Trees} → Stands s → Stands t → KeepsRefusals s t → IsOver kind.Mult i (more a (more b ts)) (forest s) → IsPairTaken i a b ts (forest s) (forest t) h k → free_of t ≡ free_of s

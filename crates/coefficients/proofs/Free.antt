@@ -1,30 +1,8 @@
--- Free bytes while the terms of a sum are taken out, rewritten and put back.
-use Rattle.std.proofs.Common.{◌≡◌, ℕ, ◌+◌, ◌≤◌, ◌<◌, ap, arith}
-use Rattle.coefficients.proofs.Shared.{Payload, size_of_payload, factors_of, Full, replaced_free, refused_below, tree_of, IsHanded, Gives, Kind, Tree, mult, Trees, more, append, size, sizes, mapped, IsOver, IsTaken, State, free_of, empty, bytes_in, kids, root_tree, without_root, Stands, forest, KeepsRefusals, IsRefused, bytes_in-join, used_forest, size-plain, sizes-plains}
+-- Free bytes while a child is taken out of a root.
+use Rattle.std.proofs.Common.{◌≡◌, ℕ, ◌+◌, ◌≤◌, ◌<◌, arith}
+use Rattle.coefficients.proofs.Shared.{Payload, size_of_payload, factors_of, Full, replaced_free, refused_below, tree_of, IsHanded, Gives, Kind, Tree, mult, Trees, size, sizes, IsOver, IsTaken, State, free_of, without_root, Stands, forest, KeepsRefusals, IsRefused, bytes_in-join, used_forest, size-plain, sizes-plains}
 use Rattle.calc_terms.proofs.Sizes.{payload_most}
-use Rattle.coefficients.proofs.Bytes.{bytes_put}
-use Rattle.coefficients.proofs.Loops.{IsNext}
-use Rattle.calc_terms.specs.declared.kind.Kind.TheVariants as kind
-
--- the first terms are rewritten, and there is a next one
-pub next_free : {f : Tree → Tree} {i at : ℕ} {ts : Trees} {s u : State} → Stands s → Stands u → KeepsRefusals s u → IsOver kind.Add i ts (forest s)
-    → (n : IsNext f i at ts (forest s) (forest u)) → free_of u + sizes (append (mapped f n.done) (more n.t n.rest)) ≡ free_of s + sizes ts
-next_free {i = i} {s = s} {u = u} st su r o n =
-    omega (
-      arith,
-      used_forest s st,
-      used_forest u su,
-      r.size,
-      st.pool.fits,
-      su.pool.fits,
-      ap bytes_in (n.whole empty),
-      bytes_put i empty (forest s) o.root,
-      bytes_put i empty (forest u) n.over.root,
-      sizes-plains (kids (root_tree i (forest s))) o.kids.whole,
-      ap sizes o.kids.plain_trees,
-      sizes-plains (kids (root_tree i (forest u))) n.over.kids.whole,
-      ap sizes n.over.kids.plain_trees,
-    )
+use Rattle.tree_handles.proofs.Filling.{bytes_put}
 
 -- a child is taken out
 pub taken_free : {k : Kind} {i n h : ℕ} {t : Tree} {ts others : Trees} {s u : State} → Stands s → Stands u → KeepsRefusals s u → IsOver k i ts (forest s)

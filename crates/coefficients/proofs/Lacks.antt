@@ -3,7 +3,6 @@ use Rattle.std.proofs.Common.{◌≡◌, ◌+◌, true, false, not, Result, ap, 
 use Rattle.std.specs.Prelude.{IfErr, IsErrAnd}
 use Rattle.coefficients.proofs.Shared.{Fraction, is_zero_fraction, is_one_fraction, no_zero, Tree, add, Trees, more, append, is_add, size, sizes, Full, OfFull, children_of, NumberFault}
 use Rattle.coefficients.proofs.NumberMultiples.{IsFactor, not_one_is}
-use Rattle.coefficients.proofs.Rooms.{sizes_append}
 use Rattle.tree_handles.specs.declared.fault.NumberFault.TheVariants as fault
 
 pub result_lacks : {A : Type 0} (r : Result A NumberFault) (P Q : Full → Type 0) → IfErr r (OfFull P) → ((g : Full) → P g → Q g) → IfErr r (OfFull Q)
@@ -23,6 +22,3 @@ factor_of q z o = record { not_zero = no_zero q (ap not z); not_one = not_one_is
 
 pub sum_whole : (t : Tree) → is_add t ≡ true → t ≡ add (children_of t)
 sum_whole t h = grind arith
-
-pub taken_sizes : (done : Trees) (t : Tree) (rest : Trees) → sizes (append done (more t rest)) ≡ size t + sizes (append done rest)
-taken_sizes done t rest = omega (arith, sizes_append done (more t rest), sizes_append done rest)

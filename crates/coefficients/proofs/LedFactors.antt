@@ -1,6 +1,6 @@
 -- The rational or the sum that leads a product.
 use Rattle.std.proofs.Common.{◌≡◌, ℕ, ◌≤◌, [], ◌∷◌, Bool, true, false, if◌then◌else◌, refl, sym, ap, ◌∙◌, subst, arith}
-use Rattle.coefficients.proofs.Shared.{Fraction, times, is_one_fraction, is_number, product_tree, is_reduced, Tree, num, add, mult, Trees, none, more, count, root_kind, is_mult, State, tree_of, IsHanded, Ends, KeepsFront, nth, plain, children_of, IsExpression, Forest, kids, tree_nth, without_nth, tree_at, root_tree, without_root, put, Stands, forest, behind_first, front_same, front_at, front_put, given_rest, factors_of, rational_times, rational_times_factors, rational_times_number, rational_times_term, leads_sum, IsOver, over_product, over_put, over_same, IsAdded, expression, seen, IsTaken, taken}
+use Rattle.coefficients.proofs.Shared.{Fraction, times, is_one_fraction, is_number, product_tree, is_reduced, Tree, num, add, mult, Trees, none, more, count, root_kind, is_mult, State, tree_of, IsHanded, Ends, KeepsFront, nth, plain, children_of, IsExpression, Forest, kids, tree_nth, without_nth, tree_at, root_tree, without_root, put, Stands, forest, behind_first, front_same, front_at, front_put, given_rest, factors_of, rational_times, rational_times_factors, rational_times_number, rational_times_term, leads_sum, IsOver, over_put, over_same, IsAdded, expression, seen, IsTaken, taken}
 use Rattle.coefficients.proofs.Lengths.{long}
 use Rattle.calc_terms.specs.declared.kind.Kind.TheVariants as kind
 
@@ -88,9 +88,6 @@ led_children l = ap children_of l.whole
 
 pub led_product : {t : Tree} (l : IsSumLed t) → is_mult t ≡ true
 led_product l = ap is_mult l.whole
-
-pub led_over : {i : ℕ} {f : Forest} (l : IsSumLed (plain (root_tree i f))) → IsHanded i f → IsOver kind.Mult i (more (add l.terms) l.rest) f
-led_over {i = i} {f = f} l h = subst (λ (us : Trees). IsOver kind.Mult i us f) (led_children l) (over_product h (led_product l))
 
 pub led_reduced : {t : Tree} (l : IsSumLed t) → is_reduced t ≡ true → is_reduced (add l.terms) ≡ true
 led_reduced {t = t} l r =

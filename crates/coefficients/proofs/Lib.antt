@@ -13,7 +13,6 @@ pub mod Steps
 pub mod FirstFactors
 pub mod Loops
 pub mod LedFactors
-pub mod Rewritten
 pub mod Puttings
 pub mod Openings
 pub mod Bytes

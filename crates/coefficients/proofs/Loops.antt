@@ -1,7 +1,7 @@
--- Loops over the terms of a sum, in which each term is taken out, rewritten and put back.
-use Rattle.std.proofs.Common.{◌≡◌, ℕ, suc, ◌+◌, ◌≤◌, ◌<◌, [], ◌∷◌, refl, sym, ap, ◌∙◌, arith}
-use Rattle.coefficients.proofs.Shared.{Tree, Trees, none, more, append, count, mapped, inserted, Forest, kids, with_nth, tree_nth, without_nth, Represents, Ends, Gives, KeepsFront, root_tree, without_root, put, behind_first, front_same, front_at, front_put, gives_as, given_rest, append-none, put-put, put-same, IsOver, IsTaken, taken, over_put, IsAdded, added_as, inserted_behind, State, Stands, forest, kids_of, arity, children_at}
-use Rattle.calc_terms.specs.declared.kind.Kind.TheVariants as kind
+-- Loops over the terms of a sum, each of which is rewritten in its place.
+use Rattle.std.proofs.Common.{◌≡◌, ℕ, zero, suc, ◌+◌, ◌≤◌, ◌<◌, refl, sym, ap, ◌∙◌, arith, true}
+use Rattle.coefficients.proofs.Shared.{AllPartsOf, ChangesTree, Forest, Gives, HasForm, IsHanded, KeepsRefusals, Stands, State, Tree, Trees, add, append, changes_after, changes_as, changes_free, changes_none, children_of, count, forest, free_of, given_told, is_add, is_reduced, mapped, more, mult, none, nth, plain, root_tree, set_child, set_tree, size, sizes, tree_of}
+use Rattle.coefficients.proofs.Forms.{reduced_parts, parts_reduced}
 
 -- ---- lists
 
@@ -9,110 +9,111 @@ pub append_assoc : (ts us vs : Trees) → append (append ts us) vs ≡ append ts
 append_assoc none us vs = refl
 append_assoc (more t ts) us vs = ap (more t) (append_assoc ts us vs)
 
-mapped_append : (f : Tree → Tree) (ts us : Trees) → mapped f (append ts us) ≡ append (mapped f ts) (mapped f us)
-mapped_append f none us = refl
-mapped_append f (more t ts) us = ap (more (f t)) (mapped_append f ts us)
-
-count_mapped : (f : Tree → Tree) (ts : Trees) → count (mapped f ts) ≡ count ts
-count_mapped f none = refl
-count_mapped f (more t ts) = ap suc (count_mapped f ts)
-
 pub count_append : (ts us : Trees) → count (append ts us) ≡ count ts + count us
 count_append none us = omega arith
 count_append (more t ts) us = omega (arith, count_append ts us)
 
--- ---- the loop
+-- the first trees in another form
+abbrev pub mapped_first : (Tree → Tree) → ℕ → Trees → Trees
+mapped_first f zero ts = ts
+mapped_first f (suc n) none = none
+mapped_first f (suc n) (more t ts) = more (f t) (mapped_first f n ts)
 
--- the first terms are rewritten, and nothing else
-pub record IsPartDone (f : Tree → Tree) (i at : ℕ) (ts : Trees) (old new : Forest) : Type 0 where
-  pub done : Trees
-  pub rest : Trees
-  pub split : ts ≡ append done rest
-  pub count-is : at ≡ count done
-  pub now : Forest
-  pub kids : Represents now (append (mapped f done) rest)
-  pub whole : new ≡ put i now old
-  pub over : IsOver kind.Add i (append (mapped f done) rest) new
+pub count_first : (f : Tree → Tree) (n : ℕ) (ts : Trees) → count (mapped_first f n ts) ≡ count ts
+count_first f zero ts = refl
+count_first f (suc n) none = refl
+count_first f (suc n) (more t ts) = ap suc (count_first f n ts)
 
-pub none_done : {i : ℕ} {ts : Trees} {old : Forest} (f : Tree → Tree) → IsOver kind.Add i ts old → IsPartDone f i 0 ts old old
-none_done {i = i} {ts = ts} {old = old} f o = record { done = none; rest = ts; split = refl; count-is = refl; now = kids (root_tree i old); kids = o.kids; whole = sym (put-same i old); over = o }
+nth_first : (f : Tree → Tree) (n : ℕ) (ts : Trees) → nth n (mapped_first f n ts) ≡ nth n ts
+nth_first f zero ts = refl
+nth_first f (suc n) none = refl
+nth_first f (suc n) (more t ts) = nth_first f n ts
 
-pub part_front : {f : Tree → Tree} {i at : ℕ} {ts : Trees} {old new : Forest} → IsPartDone f i at ts old new → KeepsFront (i ∷ []) old new
-part_front p = front_at (front_put p.now behind_first front_same) p.whole
+set_first : (f : Tree → Tree) (n : ℕ) (ts : Trees) → n < count ts → set_tree n (f (nth n ts)) (mapped_first f n ts) ≡ mapped_first f (suc n) ts
+set_first f n none l = absurd (omega arith)
+set_first f zero (more t ts) l = refl
+set_first f (suc n) (more t ts) l = ap (more (f t)) (set_first f n ts (omega arith))
 
--- the next term
-pub record IsNext (f : Tree → Tree) (i at : ℕ) (ts : Trees) (old new : Forest) : Type 0 where
+all_first : (f : Tree → Tree) (n : ℕ) (ts : Trees) → count ts ≤ n → mapped_first f n ts ≡ mapped f ts
+all_first f zero none l = refl
+all_first f (suc n) none l = refl
+all_first f zero (more t ts) l = absurd (omega arith)
+all_first f (suc n) (more t ts) l = ap (more (f t)) (all_first f n ts (omega arith))
+
+-- ---- the next term
+
+pub record IsNext (f : Tree → Tree) (n : ℕ) (ts : Trees) : Type 0 where
   pub done : Trees
   pub t : Tree
   pub rest : Trees
   pub split : ts ≡ append done (more t rest)
-  pub count-is : at ≡ count (mapped f done)
-  pub whole : (n : Forest) → put i n new ≡ put i n old
-  pub over : IsOver kind.Add i (append (mapped f done) (more t rest)) new
+  pub place : n ≡ count done
+  pub there : nth n ts ≡ t
+  pub first : mapped_first f n ts ≡ append (mapped f done) (more t rest)
 
-pub next_term : {f : Tree → Tree} {i at : ℕ} {ts : Trees} {old new : Forest} → IsPartDone f i at ts old new → at < count ts → IsNext f i at ts old new
-next_term {f = f} {i = i} {at = at} {ts = ts} {old = old} {new = new} p l = by p.rest p.split p.over
-  where
-    by : (rest : Trees) → ts ≡ append p.done rest → IsOver kind.Add i (append (mapped f p.done) rest) new → IsNext f i at ts old new
-    by none s o = absurd (let e : count ts ≡ count (append p.done none) = ap count s in let d : at ≡ count p.done = p.count-is in omega (arith, count_append p.done none))
-    by (more t rest) s o = record {
-      done = p.done;
-      t = t;
-      rest = rest;
-      split = s;
-      count-is = p.count-is ∙ sym (count_mapped f p.done);
-      whole = λ n. ap (put i n) p.whole ∙ put-put i n p.now old;
-      over = o;
-    }
+pub next_at : (f : Tree → Tree) (n : ℕ) (ts : Trees) → n < count ts → IsNext f n ts
+next_at f n none l = absurd (omega arith)
+next_at f zero (more t ts) l = record { done = none; t = t; rest = ts; split = refl; place = refl; there = refl; first = refl }
+next_at f (suc n) (more t ts) l =
+    let x = next_at f n ts (omega arith) in
+    record { done = more t x.done; t = x.t; rest = x.rest; split = ap (more t) x.split; place = ap suc x.place; there = x.there; first = ap (more (f t)) x.first }
 
--- a place below the number of children that a reader tells
-pub next_of : {f : Tree → Tree} {s : State} {i j at n : ℕ} {ts : Trees} {new : Forest} → IsOver kind.Add i ts (forest s) → Stands s → j ≡ i → n ≡ arity (kids_of j (forest s)) → IsPartDone f i at ts (forest s) new → at < n
-    → IsNext f i at ts (forest s) new
-next_of o st e told p l = next_term p (omega (arith, l, told ∙ children_at o st e))
+-- a term of a reduced sum is reduced
+nth_reduced : (n : ℕ) (ts : Trees) → n < count ts → AllPartsOf HasForm ts → is_reduced (nth n ts) ≡ true
+nth_reduced n none l h = absurd (omega arith)
+nth_reduced zero (more t ts) l h = parts_reduced t h.0
+nth_reduced (suc n) (more t ts) l h = nth_reduced n ts (omega arith) h.1
 
--- it is one of the children, and may be put back among the others
-pub next_within : {f : Tree → Tree} {i at : ℕ} {ts : Trees} {old new : Forest} (n : IsNext f i at ts old new) → at < count (append (mapped f n.done) (more n.t n.rest))
-next_within {f = f} n = omega (arith, n.count-is, count_append (mapped f n.done) (more n.t n.rest))
+pub term_reduced : (n : ℕ) (s : Tree) → is_add s ≡ true → is_reduced s ≡ true → n < count (children_of s) → is_reduced (nth n (children_of s)) ≡ true
+term_reduced n (add ts) m h l = nth_reduced n ts l (reduced_parts (add ts) h refl).1
+term_reduced n s m h l = cc
 
-pub back_within : {f : Tree → Tree} {i at : ℕ} {ts : Trees} {old new : Forest} (n : IsNext f i at ts old new) → at ≤ count (append (mapped f n.done) n.rest)
-back_within {f = f} n = omega (arith, n.count-is, count_append (mapped f n.done) n.rest)
+-- ---- from child to child
 
--- it was taken out
-pub next_taken : {f : Tree → Tree} {i at h : ℕ} {ts : Trees} {old new g : Forest} (n : IsNext f i at ts old new) → Ends h (tree_nth at (kids (root_tree i new))) (put i (without_nth at (kids (root_tree i new))) new) g
-    → IsTaken kind.Add i at n.t (append (mapped f n.done) n.rest) new g h
-next_taken {f = f} {at = at} n d = taken at (mapped f n.done) n.t n.rest n.over n.count-is d
+-- a node that takes any children
+pub record IsRow (c : Trees → Tree) : Type 0 where
+  pub below : (ts : Trees) → children_of (c ts) ≡ ts
+  pub sets : (n : ℕ) (u : Tree) (ts : Trees) → set_child n u (c ts) ≡ c (set_tree n u ts)
+  pub bytes : (ts : Trees) → size (c ts) ≡ 8 + sizes ts
 
--- and put back rewritten
-pub next_done : {f : Tree → Tree} {i at h j : ℕ} {ts : Trees} {old new g k end : Forest} (n : IsNext f i at ts old new) (a : IsTaken kind.Add i at n.t (append (mapped f n.done) n.rest) new g h)
-    → Gives (without_root h g) k j (λ u. u ≡ f n.t) → end ≡ put i (with_nth at (root_tree j k) (kids (root_tree i k))) (without_root j k) → IsPartDone f i (at + 1) ts old end
-next_done {f = f} {i = i} {at = at} {old = old} {new = new} {k = k} {end = end} n a g e =
-    let ts : Trees = mapped f n.done in
-    let last = append n.done (more n.t none) in
-    let given = gives_as g (given_rest a.gives) (λ t x. x) in
-    let there : IsOver kind.Add i (append ts n.rest) (put i a.now new) = over_put a.now n.over a.kids in
-    let words : inserted at (more (f n.t) none) (append ts n.rest) ≡ append (mapped f last) n.rest =
-    ap (λ (m : ℕ). inserted m (more (f n.t) none) (append ts n.rest)) n.count-is ∙ inserted_behind ts (more (f n.t) none) n.rest
-    ∙ sym (append_assoc ts (more (f n.t) none) n.rest) ∙ ap (λ (x : Trees). append x n.rest) (sym (mapped_append f n.done (more n.t none))) in
-    let x = added_as at there given e words in
-    record {
-      done = last;
-      rest = n.rest;
-      split = n.split ∙ sym (append_assoc n.done (more n.t none) n.rest);
-      count-is = omega (arith, n.count-is, count_mapped f n.done, count_append n.done (more n.t none));
-      now = x.now;
-      kids = x.kids;
-      whole = x.whole ∙ put-put i x.now a.now new ∙ n.whole x.now;
-      over = x.over;
-    }
+pub sum_row : IsRow add
+sum_row = record { below = λ ts. refl; sets = λ n u ts. refl; bytes = λ ts. refl }
 
-none_left : (first rest : Trees) → count (append first rest) ≤ count first → rest ≡ none
-none_left first none l = refl
-none_left first (more t rest) l = absurd (omega (arith, count_append first (more t rest)))
+pub product_row : IsRow mult
+product_row = record { below = λ ts. refl; sets = λ n u ts. refl; bytes = λ ts. refl }
 
--- all terms are rewritten
-pub all_done : {f : Tree → Tree} {i at : ℕ} {ts : Trees} {old new : Forest} → IsPartDone f i at ts old new → count ts ≤ at → IsAdded kind.Add i (mapped f ts) old new
-all_done p l = grind (arith, none_left, append-none)
+-- the first children are rewritten, and nothing else
+pub record IsPart (c : Trees → Tree) (f : Tree → Tree) (i n : ℕ) (ts : Trees) (old new : Forest) : Type 0 where
+  pub row : IsRow c
+  pub now : ChangesTree i (c (mapped_first f n ts)) old new
 
-pub all_of : {f : Tree → Tree} {s : State} {i j at n : ℕ} {ts : Trees} {new : Forest} → IsOver kind.Add i ts (forest s) → Stands s → j ≡ i → n ≡ arity (kids_of j (forest s)) → IsPartDone f i at ts (forest s) new → n ≤ at
-    → IsAdded kind.Add i (mapped f ts) (forest s) new
-all_of o st e told p l = all_done p (omega (arith, l, told ∙ children_at o st e))
+pub none_done : {c : Trees → Tree} {i : ℕ} {ts : Trees} {f : Forest} (g : Tree → Tree) → IsRow c → IsHanded i f → plain (root_tree i f) ≡ c ts → IsPart c g i 0 ts f f
+none_done g r h e = record { row = r; now = changes_as (changes_none h) e }
+
+-- the next one is among the children, and what is taken out
+pub part_within : {c : Trees → Tree} {f : Tree → Tree} {i n : ℕ} {ts : Trees} {old new : Forest} → IsPart c f i n ts old new → n < count ts → n < count (children_of (plain (root_tree i new)))
+part_within {f = f} {n = n} {ts = ts} p l = omega (arith, l, ap (λ (t : Tree). count (children_of t)) p.now.tree, ap count (p.row.below (mapped_first f n ts)), count_first f n ts)
+
+pub part_nth : {c : Trees → Tree} {f : Tree → Tree} {i n : ℕ} {ts : Trees} {old mid : Forest} → IsPart c f i n ts old mid → nth n (children_of (plain (root_tree i mid))) ≡ nth n ts
+part_nth {f = f} {n = n} {ts = ts} p = ap (λ (t : Tree). nth n (children_of t)) p.now.tree ∙ ap (nth n) (p.row.below (mapped_first f n ts)) ∙ nth_first f n ts
+
+pub part_told : {c : Trees → Tree} {f : Tree → Tree} {i j n : ℕ} {ts : Trees} {old mid others new : Forest} → IsPart c f i n ts old mid
+    → Gives others new j (λ t. t ≡ nth n (children_of (plain (root_tree i mid)))) → plain (root_tree j new) ≡ nth n ts
+part_told p g = given_told g ∙ part_nth p
+
+-- one more is rewritten, and all are
+pub part_next : {c : Trees → Tree} {f : Tree → Tree} {i n : ℕ} {ts : Trees} {v : Tree} {old mid new : Forest} → IsPart c f i n ts old mid
+    → ChangesTree i (set_child n v (plain (root_tree i mid))) mid new → v ≡ f (nth n ts) → n < count ts → IsPart c f i (n + 1) ts old new
+part_next {c = c} {f = f} {n = n} {ts = ts} {v = v} p a e l =
+    let at : n + 1 ≡ suc n = omega arith in
+    let words : set_tree n v (mapped_first f n ts) ≡ mapped_first f (n + 1) ts = ap (λ (u : Tree). set_tree n u (mapped_first f n ts)) e ∙ set_first f n ts l ∙ ap (λ (m : ℕ). mapped_first f m ts) (sym at) in
+    record { row = p.row; now = changes_after p.now (changes_as a (ap (set_child n v) p.now.tree ∙ p.row.sets n v (mapped_first f n ts) ∙ ap c words)) }
+
+pub part_all : {c : Trees → Tree} {f : Tree → Tree} {i n : ℕ} {ts : Trees} {old new : Forest} → IsPart c f i n ts old new → count ts ≤ n → ChangesTree i (c (mapped f ts)) old new
+part_all {c = c} {f = f} {n = n} {ts = ts} p l = changes_as p.now (ap c (all_first f n ts l))
+
+-- the bytes of the children are as many as before, but for those that are used or set free
+pub part_free : {c : Trees → Tree} {f : Tree → Tree} {i n : ℕ} {ts : Trees} {s u : State} → Stands s → Stands u → KeepsRefusals s u → IsHanded i (forest s) → tree_of i s ≡ c ts
+    → IsPart c f i n ts (forest s) (forest u) → (x : IsNext f n ts) → free_of u + sizes (append (mapped f x.done) (more x.t x.rest)) ≡ free_of s + sizes (append x.done (more x.t x.rest))
+part_free {f = f} {n = n} {ts = ts} st su k h e p x =
+    omega (arith, changes_free st su k h p.now, ap size e, p.row.bytes ts, p.row.bytes (mapped_first f n ts), ap sizes x.first, ap sizes x.split)

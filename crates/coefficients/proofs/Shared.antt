@@ -36,6 +36,7 @@ pub use Rattle.std.proofs.lemmas.Int.{to_z-of_z}
 pub use Rattle.std.specs.Int.{w128}
 pub use Rattle.tree_handles.proofs.Beside.{gives_put, gives_without}
 pub use Rattle.tree_handles.proofs.Cuts.{cut, cut_rest, inserted_behind, represents_count}
+pub use Rattle.tree_handles.proofs.Filling.{changes_after, changes_as, changes_free, changes_front, changes_last, changes_last_front, changes_none, children_told, front_again, hole_stays}
 pub use Rattle.tree_handles.proofs.Forests.{bytes_in-join, keeps_after, keeps_none, refuses_after}
 pub use Rattle.tree_handles.proofs.FreeBytes.{bytes_without, refused_below, replaced_free}
 pub use Rattle.tree_handles.proofs.Fronts.{behind_first, behind_later, behind_new, front_after, front_after_one, front_after_two, front_at, front_end, front_put, front_same, front_without}
@@ -52,6 +53,7 @@ pub use Rattle.tree_handles.specs.Expressions.{IsExpression, children_of, insert
 pub use Rattle.tree_handles.specs.Faults.{Faults, OfOverflow}
 pub use Rattle.tree_handles.specs.Forest.{Forest, arity, bytes_in, empty, kids, merged_nth, one_tree, root_count, tree, tree_nth, with_nth, with_root_kids, without_nth}
 pub use Rattle.tree_handles.specs.Handed.{Ends, Gives, IsHanded, IsOnce, KeepsFront, Represents, tree_of}
+pub use Rattle.tree_handles.specs.Holes.{ChangesTree, IsHole, set_child, set_tree}
 pub use Rattle.tree_handles.specs.Inside.{holds, kids_of, tree_at}
 pub use Rattle.tree_handles.specs.Lacking.{OfFull}
 pub use Rattle.tree_handles.specs.Roots.{has_root, put, root_tree, without_root}

@@ -28,8 +28,8 @@ use node_pool::{Full, Id, Pool};
 use number_forms::is_reduced_number;
 use rational128::mul;
 use tree_handles::{
-    Handle, NumberFault, add_child, child_id, children, kind, move_last, number, rational, release,
-    take_child,
+    Handle, NumberFault, child_id, children, fill, kind, move_last, number, open_child, rational,
+    release, take_child,
 };
 
 /// A rational into the coefficient of each term of a reduced sum.
@@ -50,9 +50,9 @@ pub(crate) fn distribute(pool: &mut Pool, q: Rat, sum: Handle) -> Result<Handle,
 {
     let terms = children(pool, sum.id());
     for at in 0..terms {
-        let term = take_child(pool, &sum, at);
+        let (hole, term) = open_child(pool, &sum, at);
         let multiple = rational_times_term(pool, q, term)?;
-        add_child(pool, &sum, at, multiple);
+        fill(pool, hole, multiple);
     }
     move_last(pool, &sum);
     Ok(sum)
@@ -78,9 +78,9 @@ fn rational_times_term(pool: &mut Pool, q: Rat, term: Handle) -> Result<Handle, 
     if !is_led_by_sum(pool, term.id()) {
         return rational_times(pool, q, term);
     }
-    let coefficient = take_child(pool, &term, 0);
+    let (hole, coefficient) = open_child(pool, &term, 0);
     let multiple = rational_times_number(pool, q, coefficient)?;
-    add_child(pool, &term, 0, multiple);
+    fill(pool, hole, multiple);
     move_last(pool, &term);
     Ok(term)
 }
@@ -122,9 +122,9 @@ fn rational_times_number(pool: &mut Pool, q: Rat, sum: Handle) -> Result<Handle,
 {
     let terms = children(pool, sum.id());
     for at in 0..terms {
-        let term = take_child(pool, &sum, at);
+        let (hole, term) = open_child(pool, &sum, at);
         let multiple = rational_times(pool, q, term)?;
-        add_child(pool, &sum, at, multiple);
+        fill(pool, hole, multiple);
     }
     move_last(pool, &sum);
     Ok(sum)

@@ -42,6 +42,7 @@ pub use Rattle.coefficients.proofs.Forms.{number_parts, one_is_one, parts_reduce
 pub use Rattle.coefficients.proofs.Splits.{IsCoefficient, Leads, in_front}
 pub use Rattle.coefficients.proofs.Steps.{one_value}
 pub use Rattle.coefficients.specs.Coefficients.{coefficient_length, factors_of}
+pub use Rattle.coefficients.specs.Multiples.{mapped}
 pub use Rattle.coefficients.specs.Pairs.{GivesTwo}
 pub use Rattle.node_pool.specs.State.{State, free_of}
 pub use Rattle.node_pool.specs.declared.full.Full.{Full}
@@ -77,6 +78,7 @@ pub use Rattle.tree_bits.proofs.Numbers.{alone, held_number, held_wider, nothing
 pub use Rattle.tree_handles.proofs.Beside.{gives_put, gives_without}
 pub use Rattle.tree_handles.proofs.Counted.{all-kids}
 pub use Rattle.tree_handles.proofs.Cuts.{cut, cut_rest, inserted_behind, represents_count}
+pub use Rattle.tree_handles.proofs.Filling.{changes_after, changes_as, changes_beside, changes_front, changes_last, changes_last_front, changes_other, changes_same, hole_beside, hole_other, hole_stays, hole_tree}
 pub use Rattle.tree_handles.proofs.Forests.{bytes_in-join, keeps_after, keeps_none}
 pub use Rattle.tree_handles.proofs.FreeBytes.{bytes_without, refused_below, replaced_free}
 pub use Rattle.tree_handles.proofs.Fronts.{behind_first, behind_later, behind_new, front_after, front_after_one, front_after_two, front_at, front_end, front_put, front_same, front_without}
@@ -90,10 +92,11 @@ pub use Rattle.tree_handles.proofs.Refused.{overflow_as, refused_as}
 pub use Rattle.tree_handles.proofs.Room.{given_free, least_size, released_free}
 pub use Rattle.tree_handles.proofs.Roots.{put-put, put-same, root_arity, root_held, tree-put, tree-without, without-put}
 pub use Rattle.tree_handles.proofs.Seen.{expression, live, product_kind, seen}
-pub use Rattle.tree_handles.specs.Expressions.{IsExpression, children_of, grown, inserted, nth, plain, plains}
+pub use Rattle.tree_handles.specs.Expressions.{IsExpression, children_of, compound, grown, inserted, nth, plain, plains}
 pub use Rattle.tree_handles.specs.Faults.{OfOverflow}
 pub use Rattle.tree_handles.specs.Forest.{Forest, arity, bytes_in, empty, kids, merged_nth, one_tree, root_count, root_payload, tree, tree_nth, with_nth, with_root_kids, without_nth}
 pub use Rattle.tree_handles.specs.Handed.{AllOnce, Ends, Gives, IsHanded, IsOnce, IsOwned, KeepsFront, Represents, tree_of}
+pub use Rattle.tree_handles.specs.Holes.{ChangesTree, IsHole, set_child}
 pub use Rattle.tree_handles.specs.Inside.{holds, kids_of, tree_at}
 pub use Rattle.tree_handles.specs.Roots.{put, root_tree, without_root}
 pub use Rattle.tree_handles.specs.Standing.{KeepsRefusals, Stands, forest}

@@ -1,7 +1,6 @@
 pub mod PowerSteps
 pub mod PowerAnswers
 pub mod PowerRules
-pub mod Raising
 pub mod Misfits
 pub mod Rooms
 pub mod Bits

@@ -3,17 +3,17 @@ ghost use Rattle.std.specs.Prelude.{ℕ, List, ◌+◌, ◌≡◌, ◌==◌, ◌
 ghost use Rattle.calc_terms.specs.Fractions.{whole_fraction};
 ghost use Rattle.calc_algebra.specs.Numbers.{is_number};
 ghost use Rattle.calc_algebra.specs.Reduced.{is_reduced, is_half_num, is_opaque_exponent};
-ghost use Rattle.calc_terms.specs.Trees.{num, mult, count, is_mult, is_root, size};
+ghost use Rattle.calc_terms.specs.Trees.{num, mult, count, is_mult, is_root, size, power as power_tree};
 ghost use Rattle.power_reduce.specs.PowerAnswers.{is_power, base_in, exponent_in, HasReducedSides};
 ghost use Rattle.power_reduce.specs.PowerSteps.{goes_inside, is_even_whole, parts_of, raised, rewritten};
 ghost use Rattle.number_forms.specs.Readers.{numerator};
 ghost use Rattle.calc_room.specs.Spans.{SpansTree};
 ghost use Rattle.node_pool.specs.State.{free_of};
 ghost use Rattle.power_reduce.specs.Rooms.{IsShortOfRoot, IsShortOfStep};
-ghost use Rattle.power_reduce.specs.Raising.{HasKids, raised_at};
 ghost use Rattle.tree_handles.specs.Standing.{LacksBytes, Stands, forest, KeepsRefusals, Refuses};
 ghost use Rattle.tree_handles.specs.Handed.{tree_of, IsHanded, Gives, KeepsFront};
-ghost use Rattle.tree_handles.specs.Expressions.{children_of};
+ghost use Rattle.tree_handles.specs.Expressions.{children_of, nth};
+ghost use Rattle.tree_handles.specs.Holes.{ChangesTree, set_child};
 ghost use Rattle.tree_handles.specs.Roots.{without_root};
 
 use crate::sides::{is_one, take_sides};
@@ -21,8 +21,8 @@ use calc_terms::{Kind, Rat};
 use coefficients::split_product;
 use node_pool::{Full, Pool};
 use tree_handles::{
-    Handle, add_child, children, copy_tree, merge_children, move_last, node, node_over,
-    node_over_two, number, release, take_child,
+    Handle, add_child, children, copy_tree, fill, merge_children, move_last, node, node_over,
+    node_over_two, number, open_child, release, take_child,
 };
 
 /// A power by half of n as the power n of the root of its base.
@@ -184,8 +184,8 @@ fn raise_factor(pool: &mut Pool, product: &Handle, at: u16, exponent: Handle) ->
     requires apart { (product.now == exponent) ≡ false }
     requires product { is_mult (tree_of product.now pool.old) ≡ true }
     requires within { at < count (children_of (tree_of product.now pool.old)) }
-    ensures ok { IfOk result (λ u. HasKids product.now (without_root exponent (forest pool.old)) (forest pool.new)
-        (raised_at at (tree_of exponent pool.old) (children_of (tree_of product.now pool.old)))) }
+    ensures ok { let t = tree_of product.now pool.old in
+        IfOk result (λ u. ChangesTree product.now (set_child at (power_tree (nth at (children_of t)) (tree_of exponent pool.old)) t) (without_root exponent (forest pool.old)) (forest pool.new)) }
     ensures front { KeepsFront (product.now ∷ exponent ∷ []) (forest pool.old) (forest pool.new) }
     ensures kept { OnOk result (KeepsRefusals pool.old pool.new) }
     ensures full { IfErr result (Refuses pool.old pool.new) }
@@ -193,10 +193,8 @@ fn raise_factor(pool: &mut Pool, product: &Handle, at: u16, exponent: Handle) ->
     ensures room { IfErr result (λ full. free_of pool.old < 8) }
     ensures stands { Stands pool.new }
 {
-    let factor = take_child(pool, product, at);
-    let power = node(pool, Kind::Pow)?;
-    add_child(pool, &power, 0, factor);
-    add_child(pool, &power, 1, exponent);
-    add_child(pool, product, at, power);
+    let (hole, factor) = open_child(pool, product, at);
+    let power = node_over_two(pool, Kind::Pow, factor, exponent)?;
+    fill(pool, hole, power);
     Ok(())
 }

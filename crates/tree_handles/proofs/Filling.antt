@@ -6,15 +6,15 @@ use Rattle.tree_handles.proofs.Counted.{all-kids, all-set_nth, all-tree_nth}
 use Rattle.tree_handles.proofs.Distinct.{Distinct, distinct, distinct_parts}
 use Rattle.tree_handles.proofs.Forests.{arity-set_nth, arity-without_nth, bytes_in-join, first-rest}
 use Rattle.tree_handles.proofs.FreeBytes.{all_bytes, beside_bytes}
-use Rattle.tree_handles.proofs.Fronts.{behind_first, behind_new, front_after_one, front_at, front_end, front_put, front_same, front_without}
-use Rattle.tree_handles.proofs.Given.{given_handed, given_rest, given_told, gives_as}
+use Rattle.tree_handles.proofs.Fronts.{behind_first, front_after_one, front_at, front_end, front_put, front_same, front_without, not_first, starts_end, starts_put}
+use Rattle.tree_handles.proofs.Given.{given_rest, handed_at, handed_beside, handed_by_put}
 use Rattle.tree_handles.proofs.Lasts.{apart, ends_as, kids_of_root, last_rest, last_tree}
 use Rattle.tree_handles.proofs.Nths.{with_nth-without_nth}
 use Rattle.tree_handles.proofs.Outcomes.{by_test, eqb-sym}
 use Rattle.tree_handles.proofs.Over.{tree_put, without_put}
 use Rattle.tree_handles.proofs.Places.{used_forest}
 use Rattle.tree_handles.proofs.Plains.{children_of-plain, count-plains, grown_whole, plain-tree_nth, whole_kids}
-use Rattle.tree_handles.proofs.Roots.{kids-put, no_root, put-put, put-same, root_arity, root_held, root-put, root-without, tree-without}
+use Rattle.tree_handles.proofs.Roots.{kids-put, no_root, put-put, put-same, root_arity, root_held, root-put, root-without, tree-put, tree-without, without-put}
 
 -- ---- the child goes
 
@@ -43,8 +43,10 @@ opened_child {i = i} {n = n} {f = f} k l e =
       told = plain-tree_nth n (kids t) ∙ ap (nth n) (sym (children_of-plain t k.whole));
     }
 
-pub opened_front : {i h : ℕ} {t f new g : Forest} (n : Forest) → Ends h t (put i n f) new → KeepsFront (h ∷ []) new g → KeepsFront (i ∷ []) f g
-opened_front n e k = let x = front_put n behind_first front_same in front_after_one (behind_new e x) (front_end e x) k
+pub opened_front : {handed : List ℕ} {i h : ℕ} {t f new g : Forest} (n : Forest) → Ends h t (put i n f) new → KeepsFront (h ∷ handed) new g → KeepsFront (i ∷ handed) f g
+opened_front {i = i} {h = h} {t = t} {f = f} {new = new} n e k = record {
+  keeps = λ p s others. let x = starts_put i n p f others.0 s in k.keeps p (starts_end h t (put i n f) p new e x) (not_first h p (put i n f) x e.clear, others.1);
+}
 
 -- ---- bytes
 
@@ -168,6 +170,24 @@ filled {i = i} {n = n} {j = j} {old = old} {s = s} {new = new} st k h e =
 pub hole_stays : {p : Place} {i n j : ℕ} {old others f : Forest} {Told : Tree → Type 0} → Gives others f j Told → IsHole p i n old others → IsHole p i n old (without_root j f)
 hole_stays {p = p} {i = i} {n = n} {old = old} g h = subst (IsHole p i n old) (sym (given_rest g)) h
 
+-- the other roots are as before
+pub hole_other : {p : Place} {i j n : ℕ} {old f : Forest} → IsHole p i n old f → eqb i j ≡ false → IsHanded j old → IsHanded j f
+hole_other {i = i} {n = n} {old = old} h d k = handed_at (handed_by_put i (without_nth n (kids (root_tree i old))) d k) h.whole
+
+pub hole_tree : {p : Place} {i n : ℕ} {old f : Forest} (j : ℕ) → IsHole p i n old f → eqb i j ≡ false → root_tree j f ≡ root_tree j old
+hole_tree {i = i} {n = n} {old = old} j h d = ap (root_tree j) h.whole ∙ tree-put i j (without_nth n (kids (root_tree i old))) old d
+
+-- one of them goes
+pub hole_beside : {p : Place} {i n : ℕ} {old f : Forest} (j : ℕ) → eqb i j ≡ false → IsHole p i n old f → IsHole p i n (without_root j old) (without_root j f)
+hole_beside {i = i} {n = n} {old = old} {f = f} j d h =
+    let same = tree-without j i old (eqb-sym i j d) in
+    record {
+      is = h.is;
+      handed = handed_beside j (eqb-sym i j d) h.handed;
+      within = subst (λ (x : Forest). n < count (children_of (plain x))) (sym same) h.within;
+      whole = ap (without_root j) h.whole ∙ without-put i j (without_nth n (kids (root_tree i old))) old d ∙ ap (λ (x : Forest). put i (without_nth n (kids x)) (without_root j old)) (sym same);
+    }
+
 pub changes_none : {i : ℕ} {f : Forest} → IsHanded i f → ChangesTree i (plain (root_tree i f)) f f
 changes_none {i = i} {f = f} h = record { kids = kids (root_tree i f); whole = sym (put-same i f); handed = h; tree = refl }
 
@@ -182,6 +202,17 @@ changes_front a = front_at (front_put a.kids behind_first front_same) a.whole
 
 pub changes_rest : {i : ℕ} {t : Tree} {f g : Forest} → ChangesTree i t f g → without_root i g ≡ without_root i f
 changes_rest {i = i} {f = f} a = ap (without_root i) a.whole ∙ without_put i a.kids f
+
+pub changes_other : {i j : ℕ} {t : Tree} {f g : Forest} → ChangesTree i t f g → eqb i j ≡ false → IsHanded j f → IsHanded j g
+changes_other {i = i} a d h = handed_at (handed_by_put i a.kids d h) a.whole
+
+pub changes_same : {i : ℕ} {t : Tree} {f g : Forest} (j : ℕ) → ChangesTree i t f g → eqb i j ≡ false → root_tree j g ≡ root_tree j f
+changes_same {i = i} {f = f} j a d = ap (root_tree j) a.whole ∙ tree-put i j a.kids f d
+
+pub changes_beside : {i : ℕ} {t : Tree} {f g : Forest} (j : ℕ) → eqb i j ≡ false → ChangesTree i t f g → ChangesTree i t (without_root j f) (without_root j g)
+changes_beside {i = i} {f = f} {g = g} j d a =
+    let other = eqb-sym i j d in
+    record { kids = a.kids; whole = ap (without_root j) a.whole ∙ without-put i j a.kids f d; handed = handed_beside j other a.handed; tree = ap plain (tree-without j i g other) ∙ a.tree }
 
 -- the root goes last
 pub changes_last : {i : ℕ} {t : Tree} {f g new : Forest} {Told : Tree → Type 0} → ChangesTree i t f g → Ends i (root_tree i g) (without_root i g) new → Told t → Gives (without_root i f) new i Told

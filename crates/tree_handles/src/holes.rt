@@ -1,5 +1,5 @@
 //! A child of a root is taken out, and a tree fills its place.
-ghost use Rattle.std.specs.Prelude.{◌≡◌, ◌<◌, ◌∷◌, [], ℕ};
+ghost use Rattle.std.specs.Prelude.{◌≡◌, ◌<◌, List, ◌∷◌, ℕ};
 ghost use Rattle.calc_terms.specs.Trees.{count};
 ghost use Rattle.node_pool.specs.State.{free_of};
 ghost use Rattle.tree_handles.specs.Expressions.{children_of, nth, plain};
@@ -41,7 +41,7 @@ pub fn open_child(pool: &mut Pool, parent: &Handle, at: u16) -> (Hole, Handle)
     ensures stands { Stands pool.new }
 
     // What keeps the front where the child was handed to it has kept it from here on.
-    ensures front { (g : Forest) → KeepsFront (result.1 ∷ []) (forest pool.new) g → KeepsFront (parent.now ∷ []) (forest pool.old) g }
+    ensures front { (handed : List ℕ) (g : Forest) → KeepsFront (result.1 ∷ handed) (forest pool.new) g → KeepsFront (parent.now ∷ handed) (forest pool.old) g }
 {
     let child = take_child(pool, parent, at);
     let hole = Hole {

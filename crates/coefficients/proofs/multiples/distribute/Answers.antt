@@ -1,97 +1,79 @@
-use Rattle.std.proofs.Common.{rules, ◌+◌, ◌^◌, ◌<◌, length, ap, ◌∙◌, refl, sym, subst, arith}
-use Rattle.coefficients.proofs.Shared.{value_of, is_reduced, keeps_none, keeps_after, given_handed, given_root, given_told, root_held, rational_times_term, leads_sum, mapped, LeadsTerm, LeadsIn, over_sum, children_in, moved, moved_front, counted, SpansTree, Tree, add, append, more, size, sizes, put_room, OfFull, free_of, tree_of}
-use Rattle.coefficients.proofs.Loops.{none_done, next_of, next_within, back_within, next_taken, next_done, all_of, part_front}
+use Rattle.std.proofs.Common.{rules, ◌≡◌, ◌+◌, ◌^◌, ◌<◌, length, ap, ◌∙◌, refl, sym, subst, arith}
+use Rattle.coefficients.proofs.Shared.{value_of, is_reduced, keeps_none, keeps_after, given_handed, given_told, rational_times_term, leads_sum, count, changes_front, changes_last, changes_last_front, children_told, children_of, front_again, hole_stays, LeadsTerm, LeadsIn, counted, SpansTree, Tree, add, append, more, size, put_room, OfFull, free_of, tree_of}
+use Rattle.coefficients.proofs.Loops.{IsNext, next_at, sum_row, none_done, part_within, part_told, part_next, part_all, part_free, term_reduced}
 use Rattle.coefficients.proofs.Named.{passed_named, multiple_of, leads_behind}
-use Rattle.coefficients.proofs.Rewritten.{given_as, over_back, apart_back, front_lost, term_reduced}
-use Rattle.coefficients.proofs.Free.{next_free, taken_free}
-use Rattle.coefficients.proofs.Lacks.{passed_lacks, factor_of, sum_whole, taken_sizes}
+use Rattle.coefficients.proofs.Lacks.{passed_lacks, factor_of, sum_whole}
 use Rattle.coefficients.proofs.Rooms.{term_lacks, spanned_sum, spans_at}
 use Rattle.tree_room.specs.Needs as need
+use Rattle.coefficients.proofs.multiples.distribute.Goals.{After-children-terms, After-open_child-hole}
 use Rattle.coefficients.proofs.multiples.distribute.Goals as goal
 
-pub loop-at-init : goal.loop-at-init
-loop-at-init c = record {
-  stands = c.requires.stands;
-  kept = keeps_none c.args.pool.now;
-  part = none_done (rational_times_term (value_of c.args.q)) (over_sum c.requires.handed c.requires.sum);
-}
+many : (c : After-children-terms) → c.children-terms.result ≡ count (children_of (tree_of c.args.sum c.args.pool.now))
+many c = children_told c.id.ensures c.children-terms.ensures.value c.requires.stands c.requires.handed
 
-pub take_child-term-requires-clause-within : goal.take_child-term-requires-clause-within
-take_child-term-requires-clause-within c =
-    let n = next_of (over_sum c.requires.handed c.requires.sum) c.requires.stands c.id.ensures c.children-terms.ensures.value c.loop-at.invariant.part c.loop-at-test.true in
-    omega (arith, children_in c.loop-at.invariant.stands n.over, next_within n)
+-- the term that is taken out
+next : (c : After-open_child-hole) → (n : IsNext (rational_times_term (value_of c.args.q)) c.loop-at.at (children_of (tree_of c.args.sum c.args.pool.now))) × (tree_of c.open_child-hole.result.1 c.open_child-hole.new.pool ≡ n.t)
+next c =
+    let n = next_at (rational_times_term (value_of c.args.q)) c.loop-at.at _ (omega (arith, children_told c.id.ensures c.children-terms.ensures.value c.requires.stands c.requires.handed, c.loop-at-test.true)) in
+    (n, part_told c.loop-at.invariant.part c.open_child-hole.ensures.child ∙ n.there)
+
+pub loop-at-init : goal.loop-at-init
+loop-at-init c = record { stands = c.requires.stands; kept = keeps_none c.args.pool.now; part = none_done (rational_times_term (value_of c.args.q)) sum_row c.requires.handed (sum_whole _ c.requires.sum) }
+
+pub open_child-hole-requires : goal.open_child-hole-requires
+open_child-hole-requires c = record { stands = search rules; handed = c.loop-at.invariant.part.now.handed; within = part_within c.loop-at.invariant.part (omega (arith, many (goal.at.open_child-hole-requires c).After-children-terms, c.loop-at-test.true)) }
 
 pub rational_times_term-requires : goal.rational_times_term-requires
 rational_times_term-requires c =
-    let n = next_of (over_sum c.requires.handed c.requires.sum) c.requires.stands c.id.ensures c.children-terms.ensures.value c.loop-at.invariant.part c.loop-at-test.true in
-    let a = next_taken n (c.take_child-term.ensures.last n.over.root) in
+    let child = c.open_child-hole.ensures.child in
     record {
       stands = search rules;
-      handed = given_handed a.gives;
-      reduced = ap is_reduced (given_told a.gives) ∙ term_reduced n.done n.t n.rest _ c.requires.sum c.requires.reduced n.split;
+      handed = given_handed child;
+      reduced = ap is_reduced (part_told c.loop-at.invariant.part child) ∙ term_reduced c.loop-at.at _ c.requires.sum c.requires.reduced (omega (arith, many (goal.at.rational_times_term-requires c).After-children-terms, c.loop-at-test.true));
     }
 
 pub returns-in_err-multiple-clause-front : goal.returns-in_err-multiple-clause-front
-returns-in_err-multiple-clause-front c =
-    let n = next_of (over_sum c.requires.handed c.requires.sum) c.requires.stands c.id.ensures c.children-terms.ensures.value c.loop-at.invariant.part c.loop-at-test.true in
-    front_lost _ (part_front c.loop-at.invariant.part) (c.take_child-term.ensures.last n.over.root) c.rational_times_term.ensures.front
+returns-in_err-multiple-clause-front c = front_again (changes_front c.loop-at.invariant.part.now) (c.open_child-hole.ensures.front _ _ c.rational_times_term.ensures.front)
 
-pub add_child-requires : goal.add_child-requires
-add_child-requires c =
-    let n = next_of (over_sum c.requires.handed c.requires.sum) c.requires.stands c.id.ensures c.children-terms.ensures.value c.loop-at.invariant.part c.loop-at-test.true in
-    let a = next_taken n (c.take_child-term.ensures.last n.over.root) in
-    let g = given_as c.in_ok-multiple.ensures.ok (ap (rational_times_term (value_of c.args.q)) (given_told a.gives)) in
-    record {
-      stands = search rules;
-      live = root_held c.args.sum _ (over_back n.over a g).root;
-      within = omega (arith, children_in c.in_ok-multiple.ensures.stands (over_back n.over a g), back_within n);
-      root = given_root c.in_ok-multiple.ensures.ok;
-      apart = apart_back c.in_ok-multiple.ensures.stands n.over a g;
-    }
+pub fill-requires : goal.fill-requires
+fill-requires c =
+    let g = c.in_ok-multiple.ensures.ok in
+    record { stands = search rules; hole = (_, _, _, hole_stays g c.open_child-hole.ensures.hole); handed = given_handed g }
 
 pub loop-at-preserved : goal.loop-at-preserved
 loop-at-preserved c =
-    let n = next_of (over_sum c.requires.handed c.requires.sum) c.requires.stands c.id.ensures c.children-terms.ensures.value c.loop-at.invariant.part c.loop-at-test.true in
-    let a = next_taken n (c.take_child-term.ensures.last n.over.root) in
-    let g = given_as c.in_ok-multiple.ensures.ok (ap (rational_times_term (value_of c.args.q)) (given_told a.gives)) in
+    let g = c.in_ok-multiple.ensures.ok in
+    let p = c.loop-at.invariant.part in
     record {
-      stands = c.add_child.ensures.stands;
-      kept = keeps_after _ _ _ c.loop-at.invariant.kept (keeps_after _ _ _ c.take_child-term.ensures.kept (keeps_after _ _ _ c.in_ok-multiple.ensures.kept c.add_child.ensures.kept));
-      part = next_done n a g (c.add_child.ensures.root (over_back n.over a g).root);
+      stands = c.fill.ensures.stands;
+      kept = keeps_after _ _ _ c.loop-at.invariant.kept (keeps_after _ _ _ c.open_child-hole.ensures.kept (keeps_after _ _ _ c.in_ok-multiple.ensures.kept c.fill.ensures.kept));
+      part = part_next p (c.fill.ensures.changed _ _ _ (hole_stays g c.open_child-hole.ensures.hole)) (given_told g ∙ ap (rational_times_term (value_of c.args.q)) (part_told p c.open_child-hole.ensures.child)) (omega (arith, many (goal.at.loop-at-preserved c).After-children-terms, c.loop-at-test.true));
     }
 
 pub returns-clause-ok : goal.returns-clause-ok
-returns-clause-ok c =
-    let p = all_of (over_sum c.requires.handed c.requires.sum) c.requires.stands c.id.ensures c.children-terms.ensures.value c.loop-at.invariant.part c.loop-at-test.false in
-    moved p refl c.move_last.ensures.last refl
+returns-clause-ok c = changes_last (part_all c.loop-at.invariant.part (omega (arith, many (goal.at.returns-clause-ok c).After-children-terms, c.loop-at-test.false))) c.move_last.ensures.last refl
 
 pub returns-clause-front : goal.returns-clause-front
-returns-clause-front c =
-    let p = all_of (over_sum c.requires.handed c.requires.sum) c.requires.stands c.id.ensures c.children-terms.ensures.value c.loop-at.invariant.part c.loop-at-test.false in
-    moved_front p c.move_last.ensures.last
+returns-clause-front c = changes_last_front c.loop-at.invariant.part.now c.move_last.ensures.last
 
 pub returns-in_err-multiple-clause-named : goal.returns-in_err-multiple-clause-named
 returns-in_err-multiple-clause-named c =
-    let n = next_of (over_sum c.requires.handed c.requires.sum) c.requires.stands c.id.ensures c.children-terms.ensures.value c.loop-at.invariant.part c.loop-at-test.true in
-    let a = next_taken n (c.take_child-term.ensures.last n.over.root) in
+    let x = next (goal.at.returns-in_err-multiple-clause-named c).After-open_child-hole in
     passed_named c.from_residual.result c.in_err-multiple.field-0.0 _ _ c.from_residual.ensures.1 c.in_err-multiple.ensures.named
-    (multiple_of (λ x h. subst (LeadsIn LeadsTerm x) (sym n.split) (leads_behind LeadsTerm x n.done n.t n.rest (subst (LeadsTerm x) (given_told a.gives) h))))
+    (multiple_of (λ q h. subst (LeadsIn LeadsTerm q) (sym x.0.split) (leads_behind LeadsTerm q x.0.done x.0.t x.0.rest (subst (LeadsTerm q) x.1 h))))
 
 pub returns-in_err-multiple-clause-room : goal.returns-in_err-multiple-clause-room
 returns-in_err-multiple-clause-room c gs z o s =
-    let n = next_of (over_sum c.requires.handed c.requires.sum) c.requires.stands c.id.ensures c.children-terms.ensures.value c.loop-at.invariant.part c.loop-at-test.true in
-    let a = next_taken n (c.take_child-term.ensures.last n.over.root) in
-    let told = given_told a.gives in
-    let whole = sum_whole (tree_of c.args.sum c.args.pool.now) c.requires.sum ∙ ap add n.split in
-    let f = factor_of (value_of c.args.q) z o in
-    let x = spanned_sum gs (append n.done (more n.t n.rest)) (sym (ap is_reduced whole) ∙ c.requires.reduced) (subst (SpansTree gs) whole s) in
-    let free = next_free c.requires.stands c.loop-at.invariant.stands c.loop-at.invariant.kept (over_sum c.requires.handed c.requires.sum) n in
-    let same = taken_free c.loop-at.invariant.stands c.take_child-term.ensures.stands c.take_child-term.ensures.kept n.over a (taken_sizes (mapped (rational_times_term (value_of c.args.q)) n.done) n.t n.rest) in
-    let t = subst (SpansTree gs) (sym told) (spans_at gs n.done n.t n.rest x.spans) in
+    let y = next (goal.at.returns-in_err-multiple-clause-room c).After-open_child-hole in
+    let n = y.0 in
+    let whole = sum_whole (tree_of c.args.sum c.args.pool.now) c.requires.sum in
+    let parts = whole ∙ ap add n.split in
+    let x = spanned_sum gs (append n.done (more n.t n.rest)) (sym (ap is_reduced parts) ∙ c.requires.reduced) (subst (SpansTree gs) parts s) in
+    let free = part_free c.requires.stands c.loop-at.invariant.stands c.loop-at.invariant.kept c.requires.handed whole c.loop-at.invariant.part n in
     passed_lacks c.from_residual.result c.in_err-multiple.field-0.0 _ _ c.from_residual.ensures.1
-    (term_lacks gs (value_of c.args.q) n.done n.t n.rest (free_of c.args.pool.now) (free_of c.take_child-term.new.pool) c.in_err-multiple.field-0.0 f x
-    (omega (arith, free, same, ap sizes n.split))
-    (λ k. c.in_err-multiple.ensures.few (ap leads_sum told ∙ k))
-    (λ k. subst (λ (v : Tree). OfFull (λ g. free_of c.take_child-term.new.pool + size v < need.tree_bytes (counted v) (2 ^ length gs) + 104) c.in_err-multiple.field-0.0) told
-    (c.in_err-multiple.ensures.room gs z o t (ap leads_sum told ∙ k))))
-    (λ g l. subst (λ (v : Tree). free_of c.args.pool.now + size v < put_room (counted v) (2 ^ length gs)) (sym whole) l)
+    (term_lacks gs (value_of c.args.q) n.done n.t n.rest (free_of c.args.pool.now) (free_of c.open_child-hole.new.pool) c.in_err-multiple.field-0.0 (factor_of (value_of c.args.q) z o) x
+    (omega (arith, free, c.open_child-hole.ensures.free))
+    (λ k. c.in_err-multiple.ensures.few (ap leads_sum y.1 ∙ k))
+    (λ k. subst (λ (v : Tree). OfFull (λ g. free_of c.open_child-hole.new.pool + size v < need.tree_bytes (counted v) (2 ^ length gs) + 104) c.in_err-multiple.field-0.0) y.1
+    (c.in_err-multiple.ensures.room gs z o (subst (SpansTree gs) (sym y.1) (spans_at gs n.done n.t n.rest x.spans)) (ap leads_sum y.1 ∙ k))))
+    (λ g l. subst (λ (v : Tree). free_of c.args.pool.now + size v < put_room (counted v) (2 ^ length gs)) (sym parts) l)

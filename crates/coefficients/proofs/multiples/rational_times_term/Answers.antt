@@ -1,15 +1,12 @@
 use Rattle.std.proofs.lemmas.Bool.{true≢false}
-use Rattle.std.proofs.Common.{rules, ap, ◌∙◌, sym, refl, subst, arith, ◌+◌, ◌^◌, ◌<◌, length}
-use Rattle.coefficients.proofs.Shared.{tree_of, forest, more, IsTaken, IsAdded, value_of, is_reduced, Tree, add, none, is_add, size, children_of, front_same, gives_as, given_handed, given_root, given_told, root_held, leads_sum, rational_times_number, Leads, LeadsIn, taken, children_in, moved, moved_front, expression, seen, if_map, is_number, counted, SpansTree, free_of}
+use Rattle.std.proofs.Common.{rules, ◌≡◌, ap, ◌∙◌, sym, refl, subst, arith, ◌+◌, ◌^◌, ◌<◌, length}
+use Rattle.coefficients.proofs.Shared.{tree_of, forest, value_of, is_reduced, Tree, add, count, is_add, size, children_of, nth, gives_as, given_handed, given_told, leads_sum, rational_times_number, rational_times_term, ChangesTree, changes_as, changes_last, changes_last_front, hole_stays, set_child, Leads, LeadsIn, expression, seen, if_map, is_number, counted, SpansTree, free_of}
 use Rattle.coefficients.proofs.Named.{passed_named, multiple_of, leads_coefficient}
-use Rattle.coefficients.proofs.LedFactors.{IsSumLed, sum_led, led_over, led_reduced, times_led, times_sum_unled}
-use Rattle.coefficients.proofs.Rewritten.{given_as, over_back, apart_back, put_back, front_lost}
-use Rattle.coefficients.proofs.Free.{taken_free}
+use Rattle.coefficients.proofs.LedFactors.{IsSumLed, sum_led, led_children, led_reduced, times_led, times_sum_unled}
 use Rattle.coefficients.proofs.Lacks.{passed_lacks}
 use Rattle.coefficients.proofs.Rooms.{coefficient_lacks}
 use Rattle.tree_room.specs.Needs as need
-use Rattle.coefficients.proofs.multiples.rational_times_term.Goals.{After-take_child-coefficient, After-add_child}
-use Rattle.calc_terms.specs.declared.kind.Kind.TheVariants as kind
+use Rattle.coefficients.proofs.multiples.rational_times_term.Goals.{After-open_child-hole, After-fill}
 use Rattle.coefficients.proofs.multiples.rational_times_term.Goals as goal
 
 pub is_led_by_sum-requires-clause-expression : goal.is_led_by_sum-requires-clause-expression
@@ -23,71 +20,53 @@ returns-then-not-is_led_by_sum-clause-ok c =
     let unled = ap leads_sum (sym (seen c.id.ensures c.requires.stands c.requires.handed)) ∙ sym c.if-not-is_led_by_sum.ensures in
     if_map c.rational_times.result _ _ c.rational_times.ensures.ok (λ h x. gives_as x refl (λ t e. e ∙ times_sum_unled (value_of c.args.q) _ unled))
 
-pub take_child-coefficient-requires-clause-within : goal.take_child-coefficient-requires-clause-within
-take_child-coefficient-requires-clause-within c =
+pub open_child-hole-requires : goal.open_child-hole-requires
+open_child-hole-requires c =
     let l = sum_led _ (ap leads_sum (sym (seen c.id.ensures c.requires.stands c.requires.handed)) ∙ sym c.if-not-is_led_by_sum.ensures) in
-    let o = led_over l c.requires.handed in
-    omega (arith, children_in c.requires.stands o)
+    record { stands = search rules; handed = c.requires.handed; within = omega (arith, ap count (led_children l)) }
 
 -- the sum that leads is taken out of the factors
-led : (c : After-take_child-coefficient) → (l : IsSumLed (tree_of c.args.term c.args.pool.now)) × IsTaken kind.Mult c.args.term 0 (add l.terms) l.rest (forest c.args.pool.now) (forest c.take_child-coefficient.new.pool) c.take_child-coefficient.result
+led : (c : After-open_child-hole) → (l : IsSumLed (tree_of c.args.term c.args.pool.now)) × (tree_of c.open_child-hole.result.1 c.open_child-hole.new.pool ≡ add l.terms)
 led c =
     let l = sum_led _ (ap leads_sum (sym (seen c.id.ensures c.requires.stands c.requires.handed)) ∙ sym c.if-not-is_led_by_sum.ensures) in
-    (l, taken 0 none (add l.terms) l.rest (led_over l c.requires.handed) refl (c.take_child-coefficient.ensures.last c.requires.handed.root))
+    (l, given_told c.open_child-hole.ensures.child ∙ ap (nth 0) (led_children l))
 
 -- and what it is multiplied to is put back
-back : (c : After-add_child) → (l : IsSumLed (tree_of c.args.term c.args.pool.now)) × IsAdded kind.Mult c.args.term (more (rational_times_number (value_of c.args.q) l.terms) l.rest) (forest c.args.pool.now) (forest c.add_child.new.pool)
+back : (c : After-fill) → ChangesTree c.args.term (rational_times_term (value_of c.args.q) (tree_of c.args.term c.args.pool.now)) (forest c.args.pool.now) (forest c.fill.new.pool)
 back c =
     let l = sum_led _ (ap leads_sum (sym (seen c.id.ensures c.requires.stands c.requires.handed)) ∙ sym c.if-not-is_led_by_sum.ensures) in
-    let o = led_over l c.requires.handed in
-    let a = taken 0 none (add l.terms) l.rest o refl (c.take_child-coefficient.ensures.last c.requires.handed.root) in
-    let g = given_as c.in_ok-multiple.ensures.ok (ap (λ (u : Tree). rational_times_number (value_of c.args.q) (children_of u)) (given_told a.gives)) in
-    (l, put_back o a g (c.add_child.ensures.root (over_back o a g).root) refl)
+    let g = c.in_ok-multiple.ensures.ok in
+    let sum = given_told c.open_child-hole.ensures.child ∙ ap (nth 0) (led_children l) in
+    let multiple = given_told g ∙ ap (λ (u : Tree). rational_times_number (value_of c.args.q) (children_of u)) sum in
+    changes_as (c.fill.ensures.changed _ _ _ (hole_stays g c.open_child-hole.ensures.hole)) ((λ x. set_child 0 (multiple x) (l.whole x)) ∙ times_led (value_of c.args.q) l)
 
 pub rational_times_number-requires : goal.rational_times_number-requires
 rational_times_number-requires c =
-    let d = led (goal.at.rational_times_number-requires c).After-take_child-coefficient in
-    record {
-      stands = search rules;
-      handed = given_handed d.1.gives;
-      sum = ap is_add (given_told d.1.gives);
-      reduced = ap is_reduced (given_told d.1.gives) ∙ led_reduced d.0 c.requires.reduced;
-    }
+    let d = led (goal.at.rational_times_number-requires c).After-open_child-hole in
+    record { stands = search rules; handed = given_handed c.open_child-hole.ensures.child; sum = ap is_add d.1; reduced = ap is_reduced d.1 ∙ led_reduced d.0 c.requires.reduced }
 
 pub returns-in_err-multiple-clause-front : goal.returns-in_err-multiple-clause-front
-returns-in_err-multiple-clause-front c =
-    front_lost _ front_same (c.take_child-coefficient.ensures.last c.requires.handed.root) c.rational_times_number.ensures.front
+returns-in_err-multiple-clause-front c = c.open_child-hole.ensures.front _ _ c.rational_times_number.ensures.front
 
-pub add_child-requires : goal.add_child-requires
-add_child-requires c =
-    let l = sum_led _ (ap leads_sum (sym (seen c.id.ensures c.requires.stands c.requires.handed)) ∙ sym c.if-not-is_led_by_sum.ensures) in
-    let o = led_over l c.requires.handed in
-    let a = taken 0 none (add l.terms) l.rest o refl (c.take_child-coefficient.ensures.last c.requires.handed.root) in
-    let g = given_as c.in_ok-multiple.ensures.ok (ap (λ (u : Tree). rational_times_number (value_of c.args.q) (children_of u)) (given_told a.gives)) in
-    record {
-      stands = search rules;
-      live = root_held c.args.term _ (over_back o a g).root;
-      within = search rules;
-      root = given_root c.in_ok-multiple.ensures.ok;
-      apart = apart_back c.in_ok-multiple.ensures.stands o a g;
-    }
+pub fill-requires : goal.fill-requires
+fill-requires c =
+    let g = c.in_ok-multiple.ensures.ok in
+    record { stands = search rules; hole = (_, _, _, hole_stays g c.open_child-hole.ensures.hole); handed = given_handed g }
 
 pub move_last-requires-clause-root : goal.move_last-requires-clause-root
-move_last-requires-clause-root c = (back (goal.at.move_last-requires-clause-root c).After-add_child).1.over.root
+move_last-requires-clause-root c = (back (goal.at.move_last-requires-clause-root c).After-fill).handed.root
 
 pub returns-clause-ok : goal.returns-clause-ok
-returns-clause-ok c =
-    let d = back (goal.at.returns-clause-ok c).After-add_child in
-    moved d.1 refl c.move_last.ensures.last (times_led (value_of c.args.q) d.0)
+returns-clause-ok c = changes_last (back (goal.at.returns-clause-ok c).After-fill) c.move_last.ensures.last refl
 
 pub returns-clause-front : goal.returns-clause-front
-returns-clause-front c = moved_front (back (goal.at.returns-clause-front c).After-add_child).1 c.move_last.ensures.last
+returns-clause-front c = changes_last_front (back (goal.at.returns-clause-front c).After-fill) c.move_last.ensures.last
 
 pub returns-in_err-multiple-clause-named : goal.returns-in_err-multiple-clause-named
 returns-in_err-multiple-clause-named c =
-    let d = led (goal.at.returns-in_err-multiple-clause-named c).After-take_child-coefficient in
+    let d = led (goal.at.returns-in_err-multiple-clause-named c).After-open_child-hole in
     passed_named c.from_residual.result c.in_err-multiple.field-0.0 _ _ c.from_residual.ensures.1 c.in_err-multiple.ensures.named
-    (multiple_of (λ x h. leads_coefficient x _ d.0.terms d.0.rest d.0.whole d.0.number (subst (λ (u : Tree). LeadsIn Leads x (children_of u)) (given_told d.1.gives) h)))
+    (multiple_of (λ x h. leads_coefficient x _ d.0.terms d.0.rest d.0.whole d.0.number (subst (λ (u : Tree). LeadsIn Leads x (children_of u)) d.1 h)))
 
 pub returns-in_err-multiple-clause-few : goal.returns-in_err-multiple-clause-few
 returns-in_err-multiple-clause-few c unled = absurd (true≢false (sym (ap leads_sum (sym (seen c.id.ensures c.requires.stands c.requires.handed)) ∙ sym c.if-not-is_led_by_sum.ensures) ∙ unled))
@@ -96,15 +75,12 @@ pub returns-then-not-is_led_by_sum-clause-room : goal.returns-then-not-is_led_by
 returns-then-not-is_led_by_sum-clause-room c gs z o s led = absurd (true≢false (sym led ∙ ap leads_sum (sym (seen c.id.ensures c.requires.stands c.requires.handed)) ∙ sym c.if-not-is_led_by_sum.ensures))
 
 pub returns-in_err-multiple-clause-room : goal.returns-in_err-multiple-clause-room
-returns-in_err-multiple-clause-room c gs z o s led =
-    let l = sum_led _ (ap leads_sum (sym (seen c.id.ensures c.requires.stands c.requires.handed)) ∙ sym c.if-not-is_led_by_sum.ensures) in
-    let over = led_over l c.requires.handed in
-    let a = taken 0 none (add l.terms) l.rest over refl (c.take_child-coefficient.ensures.last c.requires.handed.root) in
-    let told = given_told a.gives in
-    let same = taken_free c.requires.stands c.take_child-coefficient.ensures.stands c.take_child-coefficient.ensures.kept over a refl in
+returns-in_err-multiple-clause-room c gs z o s leads =
+    let d = led (goal.at.returns-in_err-multiple-clause-room c).After-open_child-hole in
+    let l = d.0 in
     let spans = subst (SpansTree gs) l.whole s in
     passed_lacks c.from_residual.result c.in_err-multiple.field-0.0 _ _ c.from_residual.ensures.1
-    (c.in_err-multiple.ensures.room gs z o (ap is_number told ∙ l.number) (subst (SpansTree gs) (sym told) spans.1.0))
+    (c.in_err-multiple.ensures.room gs z o (ap is_number d.1 ∙ l.number) (subst (SpansTree gs) (sym d.1) spans.1.0))
     (λ g k. subst (λ (v : Tree). free_of c.args.pool.now + size v < need.tree_bytes (counted v) (2 ^ length gs) + 104) (sym l.whole)
     (coefficient_lacks gs l.terms l.rest (free_of c.args.pool.now) (sym (ap is_reduced l.whole) ∙ c.requires.reduced) l.number spans.1.1
-    (omega (arith, same, ap size told, k))))
+    (omega (arith, c.open_child-hole.ensures.free, ap size d.1, k))))

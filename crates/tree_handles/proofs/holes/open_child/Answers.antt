@@ -18,4 +18,4 @@ pub returns-clause-free : goal.returns-clause-free
 returns-clause-free c = opened_free c.args.at c.requires.stands c.take_child-child.ensures.stands c.take_child-child.ensures.kept c.requires.handed (c.take_child-child.ensures.last c.requires.handed.root)
 
 pub returns-clause-front : goal.returns-clause-front
-returns-clause-front c g k = opened_front _ (c.take_child-child.ensures.last c.requires.handed.root) k
+returns-clause-front c handed g k = opened_front _ (c.take_child-child.ensures.last c.requires.handed.root) k
