@@ -1,7 +1,7 @@
 //! Derivatives of trees of a table with respect to x, worked by hand.
-ghost use Rattle.std.specs.Prelude.{◌≡◌, IfOk, true, ⊤};
+ghost use Rattle.std.specs.Prelude.{◌≡◌, IfOk, ⊤};
 ghost use Rattle.node_pool.specs.State.{IsPoolSize};
-ghost use Rattle.tree_handles.specs.Expressions.{IsExpression, takes_kind};
+ghost use Rattle.tree_handles.specs.Expressions.{IsExpression};
 ghost use Rattle.tree_handles.specs.Handed.{Gives, IsHanded};
 ghost use Rattle.tree_handles.specs.Standing.{Stands, forest};
 
@@ -11,121 +11,9 @@ use node_pool::{Full, Id, Pool};
 use std::alloc::{AllocError, Global};
 use std::process::Abort;
 use std::test::Fail;
-use tree_handles::{
-    Handle, child_ids, kind, name, node, node_over, node_over_two, number, open_pool, rational,
-    symbol,
-};
+use tree_handles::{Handle, child_ids, kind, name, node_over, open_pool, rational};
+use tree_shapes::{Pair, Shape, Single, grow};
 use tree_walks::DEPTH_LIMIT;
-
-/// A node with two children.
-#[derive(Clone, Copy, Debug)]
-enum Pair {
-    Sum,
-    Difference,
-    Product,
-    Quotient,
-    Power,
-}
-
-impl Pair {
-    fn kind(self) -> Kind
-        ensures { takes_kind result 2 ≡ true }
-    {
-        match self {
-            Pair::Sum => Kind::Add,
-            Pair::Difference => Kind::Sub,
-            Pair::Product => Kind::Mult,
-            Pair::Quotient => Kind::Div,
-            Pair::Power => Kind::Pow,
-        }
-    }
-}
-
-/// A node with one child.
-#[derive(Clone, Copy, Debug)]
-enum Single {
-    Opposite,
-    Root,
-}
-
-impl Single {
-    fn kind(self) -> Kind
-        ensures { takes_kind result 1 ≡ true }
-    {
-        match self {
-            Single::Opposite => Kind::Neg,
-            Single::Root => Kind::Root,
-        }
-    }
-}
-
-/// A tree, by its root and its children.
-#[derive(Clone, Copy)]
-enum Shape<'a> {
-    X,
-    Y,
-    Undef,
-    Number(i8),
-    Two(Pair, &'a Shape<'a>, &'a Shape<'a>),
-    One(Single, &'a Shape<'a>),
-}
-
-/// A new last tree of that shape.
-fn grow(pool: &mut Pool, shape: &Shape) -> Result<Handle, Full>
-    requires { Stands pool.old }
-    ensures ok { IfOk result (λ h. Gives (forest pool.old) (forest pool.new) h (λ t. ⊤)) }
-    ensures stands { Stands pool.new }
-{
-    match shape {
-        Shape::X => named(pool, b"x"),
-        Shape::Y => named(pool, b"y"),
-        Shape::Undef => undefined(pool),
-        Shape::Number(value) => whole(pool, *value),
-        Shape::Two(pair, left, right) => {
-            let left = grow(pool, left)?;
-            let right = grow(pool, right)?;
-            let tree = node_over_two(pool, pair.kind(), left, right)?;
-            Ok(tree)
-        }
-        Shape::One(single, child) => {
-            let child = grow(pool, child)?;
-            let tree = node_over(pool, single.kind(), child)?;
-            Ok(tree)
-        }
-    }
-}
-
-/// A symbol, `ans` where the bytes are no name.
-fn named(pool: &mut Pool, bytes: &[u8]) -> Result<Handle, Full>
-    requires { Stands pool.old }
-    ensures ok { IfOk result (λ h. Gives (forest pool.old) (forest pool.new) h (λ t. ⊤)) }
-    ensures stands { Stands pool.new }
-{
-    let name = match Name::read(bytes) {
-        Some(name) => name,
-        None => Name::ans(),
-    };
-    let tree = symbol(pool, name)?;
-    Ok(tree)
-}
-
-fn whole(pool: &mut Pool, value: i8) -> Result<Handle, Full>
-    requires { Stands pool.old }
-    ensures ok { IfOk result (λ h. Gives (forest pool.old) (forest pool.new) h (λ t. ⊤)) }
-    ensures stands { Stands pool.new }
-{
-    let tree = number(pool, Rat::whole(i128::from(value)))?;
-    Ok(tree)
-}
-
-fn undefined(pool: &mut Pool) -> Result<Handle, Full>
-    requires { Stands pool.old }
-    ensures ok { IfOk result (λ h. Gives (forest pool.old) (forest pool.new) h (λ t. ⊤)) }
-    ensures stands { Stands pool.new }
-{
-    let tree = node(pool, Kind::Undef)?;
-    Ok(tree)
-}
 
 /// The letters of a tree's nodes in prefix order: `r` for a root, `~` for an opposite, and `a`, `b`, .. for -1, -2, ..
 fn add_letters(pool: &Pool, id: Id, letters: &mut Vec<u8>) -> Result<(), AllocError>
@@ -211,9 +99,9 @@ fn letters_of_derivative(
     Ok(letters)
 }
 
-const X: Shape<'static> = Shape::X;
+const X: Shape<'static> = Shape::Name(b"x");
 
-const Y: Shape<'static> = Shape::Y;
+const Y: Shape<'static> = Shape::Name(b"y");
 
 const ONE: Shape<'static> = Shape::Number(1);
 
@@ -247,7 +135,7 @@ const ROWS: [(Shape<'static>, &str); 22] = [
     (Shape::Two(Pair::Power, &X, &THREE), "*3^x21"),
     (Shape::Two(Pair::Power, &X, &ONE), "1"),
     (Shape::Two(Pair::Power, &X, &Shape::Number(0)), "0"),
-    (Shape::Two(Pair::Power, &X, &Shape::Number(-2)), "*b^xc1"),
+    (Shape::Two(Pair::Power, &X, &Shape::Negative(2)), "*b^xc1"),
     (
         Shape::Two(Pair::Power, &SUM, &Shape::One(Single::Opposite, &ONE)),
         "*a^+x1b+10",
@@ -273,7 +161,8 @@ fn opposites(pool: &mut Pool, levels: usize) -> Result<Handle, Full>
     ensures stands { Stands pool.new }
 {
     if levels == 0 {
-        return named(pool, b"x");
+        let tree = grow(pool, &X)?;
+        return Ok(tree);
     }
     let child = opposites(pool, levels - 1)?;
     let tree = node_over(pool, Kind::Neg, child)?;

@@ -1,129 +1,19 @@
 //! Trees of a table that are polynomials, and trees that are none.
-ghost use Rattle.std.specs.Prelude.{◌≡◌, IfOk, true, ⊤};
-ghost use Rattle.tree_handles.specs.Expressions.{IsExpression, takes_kind};
-ghost use Rattle.tree_handles.specs.Handed.{Gives, IsHanded};
+ghost use Rattle.std.specs.Prelude.{◌≡◌};
+ghost use Rattle.tree_handles.specs.Expressions.{IsExpression};
+ghost use Rattle.tree_handles.specs.Handed.{IsHanded};
 ghost use Rattle.tree_handles.specs.Standing.{Stands, forest};
 
 use crate::{TermLists, expand, is_polynomial};
 use breakers::{Breaker, CountBreaker, Watch};
-use calc_terms::{Kind, Name, Rat};
 use node_order::compare;
-use node_pool::{Full, Id, Pool};
+use node_pool::{Id, Pool};
 use reduce_port::ReduceFault;
 use std::alloc::{AllocError, Global};
 use std::cmp::Ordering;
 use std::test::Fail;
-use tree_handles::{Handle, node, node_over, node_over_two, number, open_pool, symbol};
-
-/// A node with two children.
-#[derive(Clone, Copy, Debug)]
-enum Pair {
-    Sum,
-    Difference,
-    Product,
-    Quotient,
-    Power,
-}
-
-impl Pair {
-    fn kind(self) -> Kind
-        ensures { takes_kind result 2 ≡ true }
-    {
-        match self {
-            Pair::Sum => Kind::Add,
-            Pair::Difference => Kind::Sub,
-            Pair::Product => Kind::Mult,
-            Pair::Quotient => Kind::Div,
-            Pair::Power => Kind::Pow,
-        }
-    }
-}
-
-/// A node with one child.
-#[derive(Clone, Copy, Debug)]
-enum Single {
-    Opposite,
-    Root,
-}
-
-impl Single {
-    fn kind(self) -> Kind
-        ensures { takes_kind result 1 ≡ true }
-    {
-        match self {
-            Single::Opposite => Kind::Neg,
-            Single::Root => Kind::Root,
-        }
-    }
-}
-
-/// A tree, by its root and its children.
-#[derive(Clone, Copy)]
-enum Shape<'a> {
-    X,
-    Y,
-    Undef,
-    Number(i8),
-    Two(Pair, &'a Shape<'a>, &'a Shape<'a>),
-    One(Single, &'a Shape<'a>),
-}
-
-/// A new last tree of that shape.
-fn grow(pool: &mut Pool, shape: &Shape) -> Result<Handle, Full>
-    requires { Stands pool.old }
-    ensures ok { IfOk result (λ h. Gives (forest pool.old) (forest pool.new) h (λ t. ⊤)) }
-    ensures stands { Stands pool.new }
-{
-    match shape {
-        Shape::X => named(pool, b"x"),
-        Shape::Y => named(pool, b"y"),
-        Shape::Undef => undefined(pool),
-        Shape::Number(value) => whole(pool, *value),
-        Shape::Two(pair, left, right) => {
-            let left = grow(pool, left)?;
-            let right = grow(pool, right)?;
-            let tree = node_over_two(pool, pair.kind(), left, right)?;
-            Ok(tree)
-        }
-        Shape::One(single, child) => {
-            let child = grow(pool, child)?;
-            let tree = node_over(pool, single.kind(), child)?;
-            Ok(tree)
-        }
-    }
-}
-
-/// A symbol, `ans` where the bytes are no name.
-fn named(pool: &mut Pool, bytes: &[u8]) -> Result<Handle, Full>
-    requires { Stands pool.old }
-    ensures ok { IfOk result (λ h. Gives (forest pool.old) (forest pool.new) h (λ t. ⊤)) }
-    ensures stands { Stands pool.new }
-{
-    let name = match Name::read(bytes) {
-        Some(name) => name,
-        None => Name::ans(),
-    };
-    let tree = symbol(pool, name)?;
-    Ok(tree)
-}
-
-fn whole(pool: &mut Pool, value: i8) -> Result<Handle, Full>
-    requires { Stands pool.old }
-    ensures ok { IfOk result (λ h. Gives (forest pool.old) (forest pool.new) h (λ t. ⊤)) }
-    ensures stands { Stands pool.new }
-{
-    let tree = number(pool, Rat::whole(i128::from(value)))?;
-    Ok(tree)
-}
-
-fn undefined(pool: &mut Pool) -> Result<Handle, Full>
-    requires { Stands pool.old }
-    ensures ok { IfOk result (λ h. Gives (forest pool.old) (forest pool.new) h (λ t. ⊤)) }
-    ensures stands { Stands pool.new }
-{
-    let tree = node(pool, Kind::Undef)?;
-    Ok(tree)
-}
+use tree_handles::{Handle, open_pool};
+use tree_shapes::{Pair, Shape, Single, grow};
 
 /// The identifier of a tree that a handle owns.
 fn root_of(_pool: &Pool, tree: &Handle) -> Id
@@ -142,9 +32,9 @@ fn answer(alloc: Global, shape: &Shape) -> Result<bool, Fail> {
     Ok(is_polynomial(&pool, root_of(&pool, &tree)))
 }
 
-const X: Shape<'static> = Shape::X;
+const X: Shape<'static> = Shape::Name(b"x");
 
-const Y: Shape<'static> = Shape::Y;
+const Y: Shape<'static> = Shape::Name(b"y");
 
 const TWO: Shape<'static> = Shape::Number(2);
 
@@ -166,7 +56,7 @@ const POLYNOMIALS: [Shape<'static>; 12] = [
     Shape::Two(
         Pair::Power,
         &SUM,
-        &Shape::One(Single::Opposite, &Shape::Number(-3)),
+        &Shape::One(Single::Opposite, &Shape::Negative(3)),
     ),
     Shape::Two(Pair::Quotient, &SUM, &TWO),
     Shape::Two(Pair::Quotient, &SUM, &MINUS_TWO),
@@ -248,7 +138,7 @@ const NEXT: Shape<'static> = Shape::Two(Pair::Sum, &X, &ONE);
 const EXPANDED: [(Shape<'static>, Shape<'static>); 8] = [
     (X, X),
     (TWO, TWO),
-    (MINUS_TWO, Shape::Number(-2)),
+    (MINUS_TWO, Shape::Negative(2)),
     (NEXT, Shape::Two(Pair::Sum, &ONE, &X)),
     (Shape::Two(Pair::Difference, &NEXT, &NEXT), Shape::Number(0)),
     (
@@ -256,7 +146,7 @@ const EXPANDED: [(Shape<'static>, Shape<'static>); 8] = [
         Shape::Two(
             Pair::Sum,
             &X_SQUARED,
-            &Shape::Two(Pair::Product, &Shape::Number(-1), &Y_SQUARED),
+            &Shape::Two(Pair::Product, &Shape::Negative(1), &Y_SQUARED),
         ),
     ),
     (

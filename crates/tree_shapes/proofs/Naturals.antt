@@ -1,0 +1,10 @@
+-- The opposite of a number is no number that a text can hold, unless it is 0.
+use Rattle.std.proofs.Common.{◌≡◌, ◌∙◌, ◌==◌, ℕ, zero, suc, pos, negsuc, neg_ℤ, IsTrue, sym, ap, refl}
+use Rattle.std.proofs.lemmas.Bool.{eqb-true}
+use Rattle.calc_language.specs.Texts.{IsNatural}
+use Rattle.calc_terms.specs.Fractions.{Fraction, whole_fraction}
+use Rattle.calc_terms.proofs.FractionFacts.{whole_numerator}
+
+pub natural : (n : ℕ) → (IsTrue (n == 0) → IsNatural (whole_fraction (neg_ℤ (pos n)))) × (IsNatural (whole_fraction (neg_ℤ (pos n))) → IsTrue (n == 0))
+natural zero = (λ h. (0, refl), λ h. refl)
+natural (suc n) = (λ h. let no : suc n ≡ 0 = eqb-true (suc n) 0 h in absurd cc, λ h. let same : negsuc n ≡ pos h.0 = sym (whole_numerator (negsuc n)) ∙ ap (λ (q : Fraction). q.num) h.1 ∙ whole_numerator (pos h.0) in absurd cc)

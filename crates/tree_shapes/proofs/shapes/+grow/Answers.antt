@@ -1,0 +1,32 @@
+use Rattle.std.proofs.Common.{◌≡◌, ◌∙◌, ap, sym, subst, refl}
+use Rattle.tree_handles.proofs.Given.{given_handed, given_other, given_apart, given_told, given_same, given_rest, given_without, gives_as}
+use Rattle.tree_handles.proofs.Outcomes.{eqb-sym}
+use Rattle.tree_handles.specs.Expressions.{plain}
+use Rattle.tree_handles.specs.Forest.{Forest}
+use Rattle.tree_shapes.specs.Shapes.{tree_of}
+use Rattle.tree_shapes.proofs.shapes.+grow.Goals as goal
+
+pub node_over_two-requires-clause-first : goal.node_over_two-requires-clause-first
+node_over_two-requires-clause-first t c = given_other c.in_ok-right-in-Two.ensures.ok (given_handed c.in_ok-left-in-Two.ensures.ok)
+
+pub node_over_two-requires-clause-second : goal.node_over_two-requires-clause-second
+node_over_two-requires-clause-second t c = given_handed c.in_ok-right-in-Two.ensures.ok
+
+pub node_over_two-requires-clause-apart : goal.node_over_two-requires-clause-apart
+node_over_two-requires-clause-apart t c = eqb-sym c.in_ok-right-in-Two.right c.in_ok-left-in-Two.left (given_apart c.in_ok-right-in-Two.ensures.ok (given_handed c.in_ok-left-in-Two.ensures.ok))
+
+pub node_over-requires-clause-handed : goal.node_over-requires-clause-handed
+node_over-requires-clause-handed t c = given_handed c.in_ok-child-in-One.ensures.ok
+
+pub returns-in_ok-tree-in-Two-clause-ok : goal.returns-in_ok-tree-in-Two-clause-ok
+returns-in_ok-tree-in-Two-clause-ok t c =
+    let left = given_handed c.in_ok-left-in-Two.ensures.ok in
+    let same = given_same c.in_ok-left-in-Two.left c.in_ok-right-in-Two.ensures.ok left.root in
+    let first = subst (λ (f : Forest). plain f ≡ tree_of c.in-Two.left.now) (sym same) (given_told c.in_ok-left-in-Two.ensures.ok) in
+    gives_as c.in_ok-tree-in-Two.ensures.ok (given_without c.in_ok-right-in-Two.ensures.ok left ∙ given_rest c.in_ok-left-in-Two.ensures.ok)
+    (λ u e. e ∙ rw (c.kind.ensures.kind, first, given_told c.in_ok-right-in-Two.ensures.ok) refl ∙ ap tree_of (sym c.in-Two.is))
+
+pub returns-in_ok-tree-in-One-clause-ok : goal.returns-in_ok-tree-in-One-clause-ok
+returns-in_ok-tree-in-One-clause-ok t c =
+    gives_as c.in_ok-tree-in-One.ensures.ok (given_rest c.in_ok-child-in-One.ensures.ok)
+    (λ u e. e ∙ rw (c.kind-in-One.ensures.kind, given_told c.in_ok-child-in-One.ensures.ok) refl ∙ ap tree_of (sym c.in-One.is))
