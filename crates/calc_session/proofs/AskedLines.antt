@@ -1,10 +1,11 @@
--- Lines that ask for a calculation.
+-- A line asks for one thing, and is answered by the replies to that.
 use Rattle.std.proofs.lemmas.Bool.{both_ways}
-use Rattle.std.proofs.Common.{◌≡◌, ◌∙◌, ℕ, ◌<◌, List, [], ◌∷◌, ◌++◌, length, Bool, true, false, cond, nat_eq, Option, refl, sym, ap}
+use Rattle.std.proofs.Common.{◌≡◌, ◌∙◌, ℕ, ◌≤◌, List, [], ◌∷◌, ◌++◌, length, Bool, true, false, cond, nat_eq, Option, refl, sym, ap, subst, arith}
 use Rattle.std.specs.Prelude.{◌&&◌}
-use Rattle.calc_session.proofs.Shared.{list_all, Asked, pool, dump, draw, layout, forget, diff, solve, expand, IsCommandLine, asks_pool, asks_dump, asks_draw, asks_layout, asks_forget, asks_after, asks_diff, asks_solve, asks_expand, is_command, once, is_blank, Tree, IsReplyToCalculation, IsReplyToCommand, tells_the_pool, tells_the_bytes, keeps_ans, forgets, knows_no_name, arms_a_breaker, finds_no_breaker, is_to_be_drawn, tells_the_layout, has_no_room, is_no_command, IsReplyUnread, is_long, is_nothing, has_no_token, has_a_wide_number, is_no_line, is_too_deep, stores_to_ans, finds_names_full, Reply, long, State, IsReply, is_unread, is_commanded, is_calculated, is_evaluated}
+use Rattle.calc_session.proofs.Shared.{list_all, Asked, draw, forget, IsCommandLine, asks_pool, asks_dump, asks_draw, asks_layout, asks_forget, asks_after, asks_diff, asks_solve, asks_expand, is_command, once, is_blank, Tree, Placed, IsStorable, IsReplyToCommand, IsTold, tells, refuses, forgets, is_to_be_drawn, ReadsTree, IsUnstorable, is_ans, finds_names_full, Reason, Reply, refused, report, shown, stored, undefined, State, IsReply, IsReplyTo, IsReplyToTree, IsReplyToValue, Asks, AsksInVain, Request, is_nothing, is_text, is_asked, commanded, is_long, is_no_line, is_no_command, asks_in_vain, is_replied, is_evaluated, cannot_be_stored}
 use Rattle.breakers.specs.State.{State as Breaker}
-use Rattle.calc_commands.specs.Commands.{after}
+use Rattle.calc_session.specs.Asking.{value}
+use Rattle.calc_session.proofs.TextLemmas.{never_misread, one_text}
 
 -- ---- a line that begins with a colon
 
@@ -16,16 +17,16 @@ colon_behind (b ∷ before) rest h = by (is_blank b) h (λ k. colon_behind befor
     by true k more = more k
     by false k more = absurd cc
 
-pub asks_colon : {line : List ℕ} (a : Asked) → IsCommandLine line a → is_command line ≡ true
-asks_colon pool (asks_pool h) = ap is_command h.whole ∙ colon_behind h.before _ h.blank_before
-asks_colon dump (asks_dump h) = ap is_command h.whole ∙ colon_behind h.before _ h.blank_before
-asks_colon draw (asks_draw h) = ap is_command h.whole ∙ colon_behind h.before _ h.blank_before
-asks_colon layout (asks_layout h) = ap is_command h.whole ∙ colon_behind h.before _ h.blank_before
-asks_colon (forget x) (asks_forget h n) = ap is_command h.whole ∙ colon_behind h.before _ h.blank_before
-asks_colon (after k) (asks_after h n) = ap is_command h.whole ∙ colon_behind h.before _ h.blank_before
-asks_colon (diff x text) (asks_diff h n b) = ap is_command h.whole ∙ colon_behind h.before _ h.blank_before
-asks_colon (solve text) (asks_solve h) = ap is_command h.whole ∙ colon_behind h.before _ h.blank_before
-asks_colon (expand text) (asks_expand h) = ap is_command h.whole ∙ colon_behind h.before _ h.blank_before
+pub asks_colon : {line : List ℕ} {a : Asked} → IsCommandLine line a → is_command line ≡ true
+asks_colon (asks_pool h) = ap is_command h.whole ∙ colon_behind h.before _ h.blank_before
+asks_colon (asks_dump h) = ap is_command h.whole ∙ colon_behind h.before _ h.blank_before
+asks_colon (asks_draw h) = ap is_command h.whole ∙ colon_behind h.before _ h.blank_before
+asks_colon (asks_layout h) = ap is_command h.whole ∙ colon_behind h.before _ h.blank_before
+asks_colon (asks_forget h n) = ap is_command h.whole ∙ colon_behind h.before _ h.blank_before
+asks_colon (asks_after h n) = ap is_command h.whole ∙ colon_behind h.before _ h.blank_before
+asks_colon (asks_diff h n b) = ap is_command h.whole ∙ colon_behind h.before _ h.blank_before
+asks_colon (asks_solve h) = ap is_command h.whole ∙ colon_behind h.before _ h.blank_before
+asks_colon (asks_expand h) = ap is_command h.whole ∙ colon_behind h.before _ h.blank_before
 
 blank_line : (line : List ℕ) → list_all is_blank line ≡ true → is_command line ≡ false
 blank_line [] h = refl
@@ -35,43 +36,96 @@ blank_line (b ∷ line) h = by (is_blank b) h (λ k. blank_line line k)
     by true k more = more k
     by false k more = absurd cc
 
--- ---- the replies to a line that asks for a calculation
+-- ---- what a line asks for
 
-abbrev pub calculates : Asked → Bool
-calculates (diff x text) = true
-calculates (solve text) = true
-calculates (expand text) = true
-calculates a = false
+pub asks_once : {line : List ℕ} {a b : Request} → Asks line a → Asks line b → a ≡ b
+asks_once (is_nothing h) (is_nothing k) = refl
+asks_once (is_nothing h) (is_text r) = absurd (both_ways _ r.text.some h)
+asks_once {line} (is_nothing h) (is_asked k) = absurd (both_ways _ (blank_line line h) (asks_colon k))
+asks_once (is_text r) (is_nothing k) = absurd (both_ways _ r.text.some k)
+asks_once {line} (is_text r) (is_text s) = let same = one_text line r.reads s.reads in (λ i. value (same.stores i) (same.trees i))
+asks_once (is_text r) (is_asked k) = absurd (both_ways _ r.text.no_command (asks_colon k))
+asks_once {line} (is_asked h) (is_nothing k) = absurd (both_ways _ (blank_line line k) (asks_colon h))
+asks_once (is_asked h) (is_text s) = absurd (both_ways _ s.text.no_command (asks_colon h))
+asks_once {line} (is_asked {a = a} h) (is_asked {a = b} k) = ap commanded (once line a b h k)
 
-module _ (room bits : Option (Tree → ℕ)) (old : State) (before checked : List Breaker) (line : List ℕ) (a : Asked) (asked : IsCommandLine line a) (is : calculates a ≡ true) where
-  asks_that : (b : Asked) → IsCommandLine line b → calculates b ≡ true
-  asks_that b h = sym (ap calculates (once line a b asked h)) ∙ is
+pub never_in_vain : {line : List ℕ} {a : Request} {reason : Reason} → length line ≤ 1024 → Asks line a → AsksInVain line reason → ⊥
+never_in_vain short a (is_long l) = omega (arith, short, l)
+never_in_vain short (is_nothing h) (is_no_line t k) = both_ways _ t.some h
+never_in_vain {line} short (is_text r) (is_no_line t k) = never_misread line r.reads k
+never_in_vain short (is_asked h) (is_no_line t k) = both_ways _ t.no_command (asks_colon h)
+never_in_vain {line} short (is_nothing h) (is_no_command s c none) = both_ways _ (blank_line line h) c
+never_in_vain short (is_text r) (is_no_command s c none) = both_ways _ r.text.no_command c
+never_in_vain short (is_asked {a = a} h) (is_no_command s c none) = none a h
 
-  not_unread : {reply : Reply} → (1024 < length line → reply ≡ long → ⊥) → IsReplyUnread old.table line reply → ⊥
-  not_unread h (is_long e) = h e refl
-  not_unread h (is_nothing e b) = both_ways _ (blank_line line b) (asks_colon a asked)
-  not_unread h (has_no_token t f) = both_ways _ t.no_command (asks_colon a asked)
-  not_unread h (has_a_wide_number t f) = both_ways _ t.no_command (asks_colon a asked)
-  not_unread h (is_no_line t c d) = both_ways _ t.no_command (asks_colon a asked)
-  not_unread h (is_too_deep t c d) = both_ways _ t.no_command (asks_colon a asked)
-  not_unread h (stores_to_ans r e) = both_ways _ r.text.no_command (asks_colon a asked)
-  not_unread h (finds_names_full r e f) = both_ways _ r.text.no_command (asks_colon a asked)
+-- ---- the replies
 
-  not_commanded : {reply : Reply} → IsReplyToCommand old before checked line reply → ⊥
-  not_commanded (tells_the_pool h same) = both_ways _ refl (asks_that pool h)
-  not_commanded (tells_the_bytes h b) = both_ways _ refl (asks_that dump h)
-  not_commanded (keeps_ans {x = y} h b d) = both_ways _ refl (asks_that (forget y) h)
-  not_commanded (forgets {x = y} h b d f) = both_ways _ refl (asks_that (forget y) h)
-  not_commanded (knows_no_name {x = y} h b d f) = both_ways _ refl (asks_that (forget y) h)
-  not_commanded (arms_a_breaker {checks = k} h b d) = both_ways _ refl (asks_that (after k) h)
-  not_commanded (finds_no_breaker {checks = k} h b d) = both_ways _ refl (asks_that (after k) h)
-  not_commanded (is_to_be_drawn h b) = both_ways _ refl (asks_that draw h)
-  not_commanded (tells_the_layout h b d) = both_ways _ refl (asks_that layout h)
-  not_commanded (has_no_room h b d) = both_ways _ refl (asks_that layout h)
-  not_commanded (is_no_command n b) = n a asked
+-- a command that may change more than the text
+abbrev pub changes : Asked → Bool
+changes (forget x) = true
+changes draw = true
+changes a = false
 
-  pub calculation : (reply : Reply) → (1024 < length line → reply ≡ long → ⊥) → IsReply room bits old before checked line reply → IsReplyToCalculation room bits old before checked line reply
-  calculation reply short (is_unread h same) = absurd (not_unread short h)
-  calculation reply short (is_commanded s c h) = absurd (not_commanded h)
-  calculation reply short (is_calculated s c h) = h
-  calculation reply short (is_evaluated reads h) = absurd (both_ways _ reads.reads.text.no_command (asks_colon a asked))
+module _ (room bits : Option (Tree → ℕ)) (old : State) (before after : List Breaker) (line : List ℕ) where
+  pub answered : {request : Request} {reply : Reply} → Asks line request → length line ≤ 1024 → IsReply room bits old before after line reply → IsReplyTo room bits old before after line request reply
+  answered a short (asks_in_vain v same) = absurd (never_in_vain short a v)
+  answered {reply = reply} a short (is_replied s b h) = subst (λ r. IsReplyTo room bits old before after line r reply) (asks_once b a) h
+
+  pub reported : {request : Request} {told : List ℕ} → Asks line request → IsReply room bits old before after line (report told) → IsReplyTo room bits old before after line request (report told)
+  reported {told = told} a (is_replied s b h) = subst (λ r. IsReplyTo room bits old before after line r (report told)) (asks_once b a) h
+
+  told_by : (a : Asked) → changes a ≡ false → {reply : Reply} → IsReplyToCommand room bits old before after line a reply → IsTold room bits old before after line a reply
+  told_by a plain (tells h) = h
+  told_by a plain (refuses h) = h
+  told_by (forget x) plain (forgets b d e) = absurd cc
+  told_by draw plain (is_to_be_drawn e) = absurd cc
+
+  -- a command that changes nothing
+  pub commanded_reply : (a : Asked) → changes a ≡ false → IsCommandLine line a → length line ≤ 1024 → (reply : Reply) → IsReply room bits old before after line reply → IsTold room bits old before after line a reply
+  commanded_reply a plain asked short reply h = told_by a plain (answered (is_asked asked) short h)
+
+  pub commanded_report : (a : Asked) → changes a ≡ false → IsCommandLine line a → (told : List ℕ) → IsReply room bits old before after line (report told) → IsTold room bits old before after line a (report told)
+  commanded_report a plain asked told h = told_by a plain (reported (is_asked asked) h)
+
+  -- an expression, or a store
+  pub evaluated : {tokens : List Placed} {store : Option (List ℕ)} {t : Tree} {reply : Reply} → ReadsTree old.table line tokens store t → IsReply room bits old before after line reply → IsReplyToTree room bits old before after store t reply
+  evaluated {store = store} {t = t} r h = by (answered (is_text r.reads) r.reads.text.short h)
+    where
+      unstorable : {s : Option (List ℕ)} {reason : Reason} → IsUnstorable old.table s reason → IsStorable s old.table → ⊥
+      unstorable (is_ans is) (other, room) = both_ways _ other is
+      unstorable (finds_names_full other full) (named, room) = both_ways _ full room
+
+      by : {reply : Reply} → IsReplyToValue room bits old before after store t reply → IsReplyToTree room bits old before after store t reply
+      by (cannot_be_stored u same) = absurd (unstorable u r.storable)
+      by (is_evaluated s k) = k
+
+-- ---- values
+
+-- a tree is displayed, or the line is undefined
+abbrev pub is_value_reply : Reply → Bool
+is_value_reply (shown t) = true
+is_value_reply (stored t x) = true
+is_value_reply undefined = true
+is_value_reply reply = false
+
+-- the line was read, and this is a reply to what it reads as
+pub record IsReplyToLine (room bits : Option (Tree → ℕ)) (old : State) (before after : List Breaker) (line : List ℕ) (reply : Reply) : Type 0 where
+  pub tokens : List Placed
+  pub store : Option (List ℕ)
+  pub tree : Tree
+  pub reads : ReadsTree old.table line tokens store tree
+  pub reply_is : IsReplyToTree room bits old before after store tree reply
+
+module _ (room bits : Option (Tree → ℕ)) (old : State) (before after : List Breaker) (line : List ℕ) where
+  valued_by : {request : Request} {reply : Reply} → is_value_reply reply ≡ true → Asks line request → IsReplyTo room bits old before after line request reply → IsReplyToLine room bits old before after line reply
+  valued_by v (is_nothing b) (e, same) = absurd (both_ways _ (ap is_value_reply e) v)
+  valued_by v (is_text {tokens = tokens} {store = store} {t = t} r) (is_evaluated s k) = record { tokens = tokens; store = store; tree = t; reads = record { reads = r; storable = s }; reply_is = k }
+  valued_by v (is_text r) (cannot_be_stored u same) = absurd cc
+  valued_by v (is_asked a) (tells h) = absurd cc
+  valued_by v (is_asked a) (refuses h) = absurd cc
+  valued_by v (is_asked a) (forgets b d e) = absurd cc
+  valued_by v (is_asked a) (is_to_be_drawn e) = absurd cc
+
+  pub valued : (reply : Reply) → is_value_reply reply ≡ true → IsReply room bits old before after line reply → IsReplyToLine room bits old before after line reply
+  valued reply v (asks_in_vain k same) = absurd cc
+  valued reply v (is_replied short a h) = valued_by v a h

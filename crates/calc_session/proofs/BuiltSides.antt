@@ -1,7 +1,7 @@
 -- Lemmas on equations whose sides are built one after another.
 use Rattle.std.proofs.Common.{◌≡◌, ◌∙◌, ℕ, zero, suc, ◌+◌, List, [], ◌∷◌, ◌++◌, length, length-append, map, take, drop, refl, sym, ap, subst, arith}
 use Rattle.std.specs.Prelude.{All}
-use Rattle.calc_session.proofs.Shared.{AllZip, All-cons, All-head, All-tail, Tree, Trees, none, more, append, fills, values, HasEntries, Table, entries-left, Equation, equation_at, equations_in, free_of, Adds, AddsAll, adds_more, adds_none, adds_one, still_expression, still_plain, IsExpression, plain, Forest, tree_at, Stands, forest, given_handed, given_root, given_told, expression_root, plain_root, EquationRange, Unmade, made, pieces_at, Reply, AreUnmade, Become, ReadsEquation, nothing}
+use Rattle.calc_session.proofs.Shared.{AllZip, All-cons, All-head, All-tail, Tree, Trees, none, more, append, fills, values, HasEntries, Table, entries-left, Equation, equation_at, equations_in, free_of, Adds, AddsAll, adds_more, adds_none, adds_one, still_expression, still_plain, IsExpression, plain, Forest, tree_at, Stands, forest, given_handed, given_root, given_told, expression_root, plain_root, EquationRange, Unmade, made, pieces_at, Reason, AreUnmade, Become, ReadsEquation, nothing}
 use Rattle.node_pool.specs.State.{State}
 use Rattle.calc_session.specs.Solving.{at_left as unmade_left, at_right as unmade_right}
 use Rattle.calc_session.proofs.SideLemmas.{become_more, unmade_behind}
@@ -149,21 +149,21 @@ module _ (table : Table) (before : ℕ) (text : List ℕ) (rs : List EquationRan
         by (suc m) [] = refl
         by (suc m) (q ∷ qs) = ap (λ ps. pieces_at before text q ∷ ps) (by m qs)
 
-    pub unmade_at_left : (reply : Reply) (es : List Equation) → drop n (map (pieces_at before text) rs) ≡ pieces_at before text r ∷ drop (suc n) (map (pieces_at before text) rs) → AllZip ReadsEquation (map (pieces_at before text) rs) es
-        → ((e : Equation) → ReadsEquation (pieces_at before text r) e → Unmade (made (free_of now) (values table (forest now)) e.left) reply) → AreUnmade (values table (forest old)) (free_of old) es reply
-    unmade_at_left reply es next h u =
+    pub unmade_at_left : (reason : Reason) (es : List Equation) → drop n (map (pieces_at before text) rs) ≡ pieces_at before text r ∷ drop (suc n) (map (pieces_at before text) rs) → AllZip ReadsEquation (map (pieces_at before text) rs) es
+        → ((e : Equation) → ReadsEquation (pieces_at before text r) e → Unmade (made (free_of now) (values table (forest now)) e.left) reason) → AreUnmade (values table (forest old)) (free_of old) es reason
+    unmade_at_left reason es next h u =
         let (es0, e, rest, whole, x, y) = parts es h next in
-        subst (λ fs. AreUnmade (values table (forest old)) (free_of old) fs reply) (sym whole)
-        (unmade_behind (a.become es0 (subst (λ ps. AllZip ReadsEquation ps es0) take_map x)) (unmade_left (subst (λ vs. Unmade (made (free_of now) vs e.left) reply) (values_there a.adds) (u e y))))
+        subst (λ fs. AreUnmade (values table (forest old)) (free_of old) fs reason) (sym whole)
+        (unmade_behind (a.become es0 (subst (λ ps. AllZip ReadsEquation ps es0) take_map x)) (unmade_left (subst (λ vs. Unmade (made (free_of now) vs e.left) reason) (values_there a.adds) (u e y))))
 
-    pub unmade_at_right : {mid : State} (i : ℕ) (tl : Tree) (reply : Reply) (es : List Equation) → drop n (map (pieces_at before text) rs) ≡ pieces_at before text r ∷ drop (suc n) (map (pieces_at before text) rs) → AllZip ReadsEquation (map (pieces_at before text) rs) es
-        → Adds now mid tl i → ((e : Equation) → ReadsEquation (pieces_at before text r) e → (made (free_of now) (values table (forest now)) e.left ≡ fills (free_of mid) tl) × Unmade (made (free_of mid) (values table (forest mid)) e.right) reply)
-        → AreUnmade (values table (forest old)) (free_of old) es reply
-    unmade_at_right {mid} i tl reply es next h p u =
+    pub unmade_at_right : {mid : State} (i : ℕ) (tl : Tree) (reason : Reason) (es : List Equation) → drop n (map (pieces_at before text) rs) ≡ pieces_at before text r ∷ drop (suc n) (map (pieces_at before text) rs) → AllZip ReadsEquation (map (pieces_at before text) rs) es
+        → Adds now mid tl i → ((e : Equation) → ReadsEquation (pieces_at before text r) e → (made (free_of now) (values table (forest now)) e.left ≡ fills (free_of mid) tl) × Unmade (made (free_of mid) (values table (forest mid)) e.right) reason)
+        → AreUnmade (values table (forest old)) (free_of old) es reason
+    unmade_at_right {mid} i tl reason es next h p u =
         let (es0, e, rest, whole, x, y) = parts es h next in
         let (l, m) = u e y in
-        subst (λ fs. AreUnmade (values table (forest old)) (free_of old) fs reply) (sym whole)
-        (unmade_behind (a.become es0 (subst (λ ps. AllZip ReadsEquation ps es0) take_map x)) (unmade_right (subst (λ vs. made (free_of now) vs e.left ≡ fills (free_of mid) tl) (values_there a.adds) l) (subst (λ vs. Unmade (made (free_of mid) vs e.right) reply) (values_there (adds_more a.adds p)) m)))
+        subst (λ fs. AreUnmade (values table (forest old)) (free_of old) fs reason) (sym whole)
+        (unmade_behind (a.become es0 (subst (λ ps. AllZip ReadsEquation ps es0) take_map x)) (unmade_right (subst (λ vs. made (free_of now) vs e.left ≡ fills (free_of mid) tl) (values_there a.adds) l) (subst (λ vs. Unmade (made (free_of mid) vs e.right) reason) (values_there (adds_more a.adds p)) m)))
 
 -- one tree stands there
 pub same_built : {s t : State} {a b : Tree} {i : ℕ} → Adds s t a i → Adds s t b i → a ≡ b

@@ -22,6 +22,9 @@ answer_expression {t = t} {s = s} st h =
 pub told_where : (told : Layout → List ℕ) (i : ℕ) (p : PoolState) (left : ℕ) → laying (free_of p) (layout (plain (tree_at i (forest p)))) ≡ Ok left → told_at told i p ≡ Ok (told (layout (plain (tree_at i (forest p)))))
 told_where told i p left e = ap (λ (r : Result ℕ Full). elim r [ Ok left ↦ Ok (told (layout (plain (tree_at i (forest p))))) | Err full ↦ Err full ]) e
 
+pub lacks_where : (told : Layout → List ℕ) (i : ℕ) (p : PoolState) (full : Full) → laying (free_of p) (layout (plain (tree_at i (forest p)))) ≡ Err full → told_at told i p ≡ Err full
+lacks_where told i p full e = ap (λ (r : Result ℕ Full). elim r [ Ok left ↦ Ok (told (layout (plain (tree_at i (forest p))))) | Err full ↦ Err full ]) e
+
 pub drawn_all : (r : Result (List ℕ) Full) (rows : List ℕ) (a b : Option (List ℕ)) → r ≡ Ok rows → Appends a b rows → IsDrawn r a b
 drawn_all r rows a b e h = subst (λ x. IsDrawn x a b) (sym e) h
 
@@ -69,14 +72,6 @@ row_fits s i y st x =
 -- the text of a row: it was empty, the row was appended, and then a newline
 pub row_written : (old clear row new : Content) (line : List ℕ) (more : List ℕ) → clear ≡ record old { bytes = [] } → row ≡ extended clear line → new ≡ extended row more → new.bytes ≡ line ++ more
 row_written old clear row new line more e f h = grind arith
-
--- ---- the pool behind a rolling back
-
-pub nodes_kept : (lack : Option Full) (p q : PoolState) → q ≡ after lack p.nodes p → q.nodes ≡ p.nodes
-nodes_kept lack p q e = grind arith
-
-pub still_held : (lack : Option Full) (t : Table) (p q : PoolState) → q ≡ after lack p.nodes p → IsHeld t (forest p) → IsHeld t (forest q)
-still_held lack t p q e h = subst (λ ns. IsHeld t (forest_of ns)) (sym (nodes_kept lack p q e)) h
 
 -- ---- a layout that was given, or refused
 

@@ -1,38 +1,28 @@
 -- Lemmas on the answers to equations.
 use Rattle.std.proofs.Common.{◌≡◌, ◌∙◌, ℕ, suc, ◌<◌, ◌≤◌, List, [], length, map, Some, None, Ok, refl, sym, ap, subst, arith}
-use Rattle.calc_session.proofs.Shared.{AllZip, Equation, Form, HoldLaterFreeNames, solved, Solution, IfNever, IfSolved, answer_told, form_told, entries_of, forms_are_later, forms_are_many, multipliers_are_many, solving, NamedTree, values, Table, Full, free_of, forest, Refusal, EquationRange, TellsReply, reply_of, bytes_before, all_placed, form_room, names_listed, AreSplit, pieces_at, Reply, report, text_of, AreNamesOf, solution_text, AreSolved, Become, equation, nothing, IsReplyToEquations, IsReplyToRead, ReadsEquation, are_linear, are_made, are_read, first_not_linear, is_told, state_of}
+use Rattle.calc_session.proofs.Shared.{AllZip, Equation, Form, HoldLaterFreeNames, solved, Solution, IfNever, IfSolved, answer_told, form_told, entries_of, forms_are_later, forms_are_many, multipliers_are_many, solving, NamedTree, values, Table, Full, free_of, forest, Refusal, EquationRange, reply_of, form_room, names_listed, AreSplit, pieces_at, Reply, report, AreNamesOf, solution_text, AreSolved, Become, equation, nothing, IsReplyToEquations, IsReplyToRead, ReadsEquation, are_linear, are_made, are_read, first_not_linear, is_told, state_of}
 use Rattle.breakers.specs.State.{State as Breaker}
 use Rattle.node_pool.specs.State.{State as PoolState}
 use Rattle.calc_session.specs.declared.solving.Solved.{Solved}
 use Rattle.calc_session.specs.Solving.{lacks_bytes}
 use Rattle.calc_session.proofs.RisingLemmas.{rises_distinct}
 use Rattle.calc_session.proofs.SolutionMeanings.{linear_in}
-use Rattle.calc_session.proofs.SessionLemmas.{refused_leaves}
 use Rattle.linear_solve.specs.declared.solution.Solution.TheVariants as solution
-use Rattle.calc_session.specs.declared.answers.LineAnswer.TheVariants as answer
 use Rattle.calc_session.specs.declared.answers.Refusal.TheVariants as refusal
 
--- a refusal that is among the replies, of which no text is written yet
-pub tells_refusal : (IsReply : Reply → Type 0) (r : Refusal) (written : List ℕ) → IsReply (reply_of r) → written ≡ [] → TellsReply IsReply (answer.Refused r) written
-tells_refusal IsReply r written is empty = record { reply = reply_of r; reply_is = is; leaves = λ s. refused_leaves r s s refl; answer_is = refl; text_is = empty }
-
-pub tells_report : (IsReply : Reply → Type 0) (told written : List ℕ) → IsReply (report told) → written ≡ told → TellsReply IsReply answer.Report written
-unfolding text_of
-tells_report IsReply told written is e = record { reply = report told; reply_is = is; leaves = λ s. refl; answer_is = (told, refl); text_is = ap Some e }
-
-module _ (p : PoolState) (table : Table) (before after : List Breaker) (line text : List ℕ) (n : ℕ) (behind : bytes_before line text ≡ n) (rs : List EquationRange) (split : AreSplit text rs) where
+module _ (p : PoolState) (table : Table) (before after : List Breaker) (text : List ℕ) (n : ℕ) (rs : List EquationRange) (split : AreSplit text rs) where
   -- where the sides are read
-  pub read_reply : (es : List Equation) (reply : Reply) → AllZip ReadsEquation (map (pieces_at n text) rs) es → IsReplyToRead (values table (forest p)) (free_of p) es before after reply → IsReplyToEquations (state_of p table) before after line text reply
-  read_reply es reply reads h = are_read split.splits split.few (subst (λ k. AllZip ReadsEquation (all_placed k split.equations) es) (sym behind) (subst (λ ps. AllZip ReadsEquation ps es) (split.placed_are n) reads)) h
+  pub read_reply : (es : List Equation) (reply : Reply) → AllZip ReadsEquation (map (pieces_at n text) rs) es → IsReplyToRead (values table (forest p)) (free_of p) es before after reply → IsReplyToEquations (state_of p table) before after n text reply
+  read_reply es reply reads h = are_read split.splits split.few (subst (λ ps. AllZip ReadsEquation ps es) (split.placed_are n) reads) h
 
   -- and the equations solved
   module _ (es built : List Equation) (left : ℕ) (s : Solved) (reads : AllZip ReadsEquation (map (pieces_at n text) rs) es) (become : Become (values table (forest p)) (free_of p) es left built) (h : AreSolved built before after s) where
-    pub solved_reply : IsReplyToEquations (state_of p table) before after line text (report (solution_text (names_listed s.names.items) (answer_told s.solution)))
+    pub solved_reply : IsReplyToEquations (state_of p table) before after n text (report (solution_text (names_listed s.names.items) (answer_told s.solution)))
     solved_reply = read_reply es _ reads (are_made become (are_linear h.names h.few h.linear (is_told h.calculated h.checks)))
 
-    pub lacking_reply : (forms : List Form) (lack : Full) (r : Refusal) → r ≡ refusal.Full lack.needed lack.free → answer_told s.solution ≡ solved forms → lack.free < lack.needed → free_of p < form_room → IsReplyToEquations (state_of p table) before after line text (reply_of r)
+    pub lacking_reply : (forms : List Form) (lack : Full) (r : Refusal) → r ≡ refusal.Full lack.needed lack.free → answer_told s.solution ≡ solved forms → lack.free < lack.needed → free_of p < form_room → IsReplyToEquations (state_of p table) before after n text (reply_of r)
     lacking_reply forms lack r e told short room =
-        subst (λ (x : Refusal). IsReplyToEquations (state_of p table) before after line text (reply_of x)) (sym e)
+        subst (λ (x : Refusal). IsReplyToEquations (state_of p table) before after n text (reply_of x)) (sym e)
         (read_reply es _ reads (are_made become (are_linear h.names h.few h.linear (lacks_bytes {refusal = lack} (h.calculated ∙ ap Ok told) h.checks short room))))
 
 pub become_many : {vs : List NamedTree} {free left : ℕ} {es fs : List Equation} → Become vs free es left fs → length fs ≡ length es

@@ -1,12 +1,12 @@
 -- What the answers to lines that ask for solutions mean, and when there is one.
 use Rattle.std.proofs.Common.{◌≡◌, ◌∙◌, ℕ, suc, ◌+◌, ◌<◌, ◌≤◌, List, length, Option, Some, None, Err, refl, sym, ap, subst, arith}
-use Rattle.calc_session.proofs.Shared.{AllZip, IsCommandLine, diff, solve, expand, once, Tree, Equation, nodes_of_sides, Misfit, solving, values, bytes_before, IsReplyToCalculation, derives, solves, expands, Sides, Splits, all_placed, form_room, Reply, command, long, not_linear, report, too_many, AreNamesOf, solution_text, AsksToSolve, TellsSolutionsOf, IsReplyToEquations, are_not_written, are_too_many, are_not_read, are_read, IsReplyToRead, are_not_made, are_made, IsReplyToSolve, have_too_many_names, are_not_linear, are_linear, IsSolution, is_interrupted, does_not_fit, is_told, IsNoEquation, ReadsEquation, first_not_linear, State, free_bytes, trees, IsReply}
+use Rattle.calc_session.proofs.Shared.{AllZip, IsCommandLine, solve, Tree, Equation, nodes_of_sides, Misfit, solving, values, bytes_before, Sides, Splits, all_placed, form_room, Reply, report, AreNamesOf, solution_text, AsksToSolve, TellsSolutionsOf, IsReplyToEquations, are_not_written, are_too_many, are_not_read, are_read, IsReplyToRead, are_not_made, are_made, IsReplyToSolve, have_too_many_names, are_not_linear, are_linear, IsSolution, is_interrupted, does_not_fit, is_told, IsNoEquation, ReadsEquation, first_not_linear, State, free_bytes, trees, IsReply}
 use Rattle.breakers.specs.State.{State as Breaker}
 use Rattle.breakers.specs.Breakers.{TripsWithin}
 use Rattle.linear_solve.proofs.CheckCounts.{trips_among_all}
 use Rattle.calc_session.specs.Solving.{lacks_bytes}
-use Rattle.calc_session.proofs.AskedLines.{calculation}
-use Rattle.calc_session.proofs.OneReading.{all_read, become_at_all, become_once, names_once, over_six, read_once, split_once, unbuilt_unreported, unread_unreported}
+use Rattle.calc_session.proofs.AskedLines.{commanded_report}
+use Rattle.calc_session.proofs.OneReading.{all_read, become_at_all, become_once, names_once, over_six, read_once, split_once}
 use Rattle.calc_session.proofs.SolutionMeanings.{told_says}
 
 solves_told : (free : ℕ) (xs : List (List ℕ)) (es : List Equation) (before after : List Breaker) (reply : Reply) → IsSolution free xs es before after reply → ((m : Misfit) → solving xs es ≡ Err m → ⊥) → form_room ≤ free
@@ -16,60 +16,21 @@ solves_told free xs es before after reply (does_not_fit {m} e c) fits room calm 
 solves_told free xs es before after reply (lacks_bytes e c l short) fits room calm = absurd (omega (arith, short, room))
 solves_told free xs es before after reply (is_told {answer} e c) fits room calm = (solution_text xs answer, refl)
 
-no_command : (told : List ℕ) → command ≡ report told → ⊥
-no_command told e = cc
-
-no_many : (told : List ℕ) → too_many ≡ report told → ⊥
-no_many told e = cc
-
-no_linear : (n : ℕ) (told : List ℕ) → not_linear n ≡ report told → ⊥
-no_linear n told e = cc
-
-no_long : (told : List ℕ) → report told ≡ long → ⊥
-no_long told e = cc
-
 no_place : (n : ℕ) → None ≡ Some n → ⊥
 no_place n e = cc
 
-same_text : (a b : List ℕ) → solve a ≡ solve b → a ≡ b
-same_text a b e = cc
-
-no_derivative : (x a b : List ℕ) → diff x a ≡ solve b → ⊥
-no_derivative x a b e = cc
-
-no_expansion : (a b : List ℕ) → expand a ≡ solve b → ⊥
-no_expansion a b e = cc
+-- ---- what a report tells
 
 module _ (room bits : Option (Tree → ℕ)) (old : State) (before checked : List Breaker) (line text : List ℕ) (asked : IsCommandLine line (solve text)) where
-  from_calculation : (reply : Reply) → IsReplyToCalculation room bits old before checked line reply → IsReplyToEquations old before checked line text reply
-  from_calculation reply (derives {x = x} {text = other} also h) = absurd (no_derivative x other text (once line (diff x other) (solve text) also asked))
-  from_calculation reply (solves {text = other} also h) = subst (λ o. IsReplyToEquations old before checked line o reply) (same_text other text (once line (solve other) (solve text) also asked)) h
-  from_calculation reply (expands {text = other} also h) = absurd (no_expansion other text (once line (expand other) (solve text) also asked))
-
-  pub answered : (reply : Reply) → (1024 < length line → reply ≡ long → ⊥) → IsReply room bits old before checked line reply → IsReplyToEquations old before checked line text reply
-  answered reply short h = from_calculation reply (calculation room bits old before checked line (solve text) asked refl reply short h)
-
-  -- ---- what a report tells
-
-  told_read : {written : List Sides} {read : List Equation} (reply : Reply) (told : List ℕ) → Splits text written → length written ≤ 6 → AllZip ReadsEquation (all_placed (bytes_before line text) written) read
-      → IsReplyToRead (values old.table (trees old)) (free_bytes old) read before checked reply → reply ≡ report told → TellsSolutionsOf old line told
-  told_read reply told s l r (are_not_made u same) e = absurd (unbuilt_unreported told u e)
-  told_read reply told s l r (are_made become (have_too_many_names h same)) e = absurd (no_many told e)
-  told_read reply told s l r (are_made become (are_not_linear {at = at} n m f same)) e = absurd (no_linear (suc at) told e)
-  told_read {written} {read} reply told s l r (are_made {built = es} {left = left} become (are_linear {xs = xs} n m f h)) e = record {
+  told_equations : {told : List ℕ} → IsReplyToEquations old before checked (bytes_before line text) text (report told) → TellsSolutionsOf old line told
+  told_equations {told} (are_read {es = written} {read = read} s l r (are_made {built = es} {left = left} become (are_linear {xs = xs} n m f h))) = record {
     equations = es;
     asked = record { text = text; asks = asked; written = written; splits = s; few = l; read = read; reads = r; left = left; become = become };
-    tells = told_says xs es n f (free_bytes old) before checked told reply e h;
+    tells = told_says xs es n f (free_bytes old) before checked told (report told) refl h;
   }
 
-  told_equations : (reply : Reply) (told : List ℕ) → IsReplyToEquations old before checked line text reply → reply ≡ report told → TellsSolutionsOf old line told
-  told_equations reply told (are_not_written n same) e = absurd (no_command told e)
-  told_equations reply told (are_too_many s l same) e = absurd (no_many told e)
-  told_equations reply told (are_not_read s l h same) e = absurd (unread_unreported told h e)
-  told_equations reply told (are_read s l r h) e = told_read reply told s l r h e
-
   pub tells_solutions : (told : List ℕ) → IsReply room bits old before checked line (report told) → TellsSolutionsOf old line told
-  tells_solutions told h = told_equations (report told) told (answered (report told) (λ e k. no_long told k) h) refl
+  tells_solutions told h = told_equations (commanded_report room bits old before checked line (solve text) refl asked told h)
 
 -- ---- where nothing is lacking
 
@@ -81,14 +42,14 @@ module _ (old : State) (before checked : List Breaker) (line : List ℕ) {es : L
   from_solved reply (are_linear {xs = ys} n l f h) = solves_told (free_bytes old) xs es before checked reply (subst (λ zs. IsSolution (free_bytes old) zs es before checked reply) (names_once n names) h) fits roomy calm
 
   from_read : (reply : Reply) → IsReplyToRead (values old.table (trees old)) (free_bytes old) a.read before checked reply → (told : List ℕ) × (reply ≡ report told)
-  from_read reply (are_not_made u same) = absurd (become_at_all (values old.table (trees old)) (free_bytes old) a.left a.read es reply a.become u)
+  from_read reply (are_not_made u same) = absurd (become_at_all (values old.table (trees old)) (free_bytes old) a.left a.read es a.become u)
   from_read reply (are_made {built = built} {left = left} become h) =
       from_solved reply (subst (λ fs. IsReplyToSolve (free_bytes old) fs before checked reply) (become_once (values old.table (trees old)) (free_bytes old) left a.left a.read built es become a.become) h)
 
-  pub is_solved : (reply : Reply) → IsReplyToEquations old before checked line a.text reply → (told : List ℕ) × (reply ≡ report told)
+  pub is_solved : (reply : Reply) → IsReplyToEquations old before checked (bytes_before line a.text) a.text reply → (told : List ℕ) × (reply ≡ report told)
   is_solved reply (are_not_written n same) = absurd (n a.written a.splits)
   is_solved reply (are_too_many {es = others} s l same) = absurd (let same-many = ap length (split_once s a.splits) in let few-written = a.few in omega (arith, l, same-many, few-written))
-  is_solved reply (are_not_read {es = others} s l h same) = absurd (all_read a.read a.reads (subst (λ ws. IsNoEquation (all_placed (bytes_before line a.text) ws) reply) (split_once s a.splits) h))
+  is_solved reply (are_not_read {es = others} {reason = reason} s l h same) = absurd (all_read a.read a.reads (subst (λ ws. IsNoEquation (all_placed (bytes_before line a.text) ws) reason) (split_once s a.splits) h))
   is_solved reply (are_read {es = others} {read = read} s l r h) =
       let there = subst (λ ws. AllZip ReadsEquation (all_placed (bytes_before line a.text) ws) read) (split_once s a.splits) r in
       from_read reply (subst (λ fs. IsReplyToRead (values old.table (trees old)) (free_bytes old) fs before checked reply) (read_once (all_placed (bytes_before line a.text) a.written) read a.read there a.reads) h)

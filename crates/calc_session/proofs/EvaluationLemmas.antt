@@ -1,7 +1,7 @@
 -- Lemmas on what the tree of a line comes to.
 use Rattle.std.proofs.Common.{◌≡◌, ◌∙◌, ◌↔◌, ℕ, zero, suc, ◌+◌, ◌*◌, ◌≤◌, ◌<◌, List, [], ◌∷◌, true, false, Option, Some, None, Result, Ok, Err, ◌⊎◌, inl, inr, refl, sym, ap, subst, arith}
 use Rattle.std.specs.Prelude.{Contains}
-use Rattle.calc_session.proofs.Shared.{Contains-append_cases, CalmChecks, TripsRose, IsEasy, Reduces, face, HasNames, Token, building, IsTreeOf, one_line, name_of, Tree, num, symbol, undef, add, mult, power, root, neg, sub, div, is_undef, names, nodes, root_kind, size, NamedTree, values, LacksNames, Filling, lacks, too_deep, fills, filling, refused_filling, FaultsFilling, IsKeepable, names_with, Table, table_names, Full, AreNodes, used, free_of, AreNodes-right, MayExceed, Covers, CalmUpTo, TripsWithin, Evaluates, HasEasyBadPart, CountsRefusals, IfFull, IfInterrupted, IfOverflow, ReduceFault, Overflows, plain, Forest, flatten, bytes_in, tree_of, Gives, KeepsFront, Starts, root_tree, without_root, LacksBytes, Stands, forest, KeepsRefusals, bytes_in-join, flatten-join, behind_first, behind_new, front_after_one, front_at, front_end, front_same, front_without, given_rest, given_told, gives_as, last_tree, size-plain, Refusal, Evaluation, Face, Undefined, Refused, ComesTo, CountsRefusal, IsDisplayOf, LacksName, refusal_of, refusal_to_fill, reply_of, HasFittingRationals, IsAnswerTo, IsReplyWith, has_no_value, holds_its_name, is_shown, is_stored, OverflowsAt, IsReduction, lacks_bytes, is_answered, made, Unmade, IsReplyTo, finds_no_room, becomes_too_deep, Reply, displayed, circular, refusal_in}
+use Rattle.calc_session.proofs.Shared.{Contains-append_cases, CalmChecks, TripsRose, IsEasy, Reduces, face, HasNames, Token, building, IsTreeOf, one_line, name_of, Tree, num, symbol, undef, add, mult, power, root, neg, sub, div, is_undef, names, nodes, root_kind, size, NamedTree, values, LacksNames, Filling, lacks, too_deep, fills, filling, refused_filling, FaultsFilling, IsKeepable, names_with, Table, table_names, Full, AreNodes, used, free_of, AreNodes-right, MayExceed, Covers, CalmUpTo, TripsWithin, Evaluates, HasEasyBadPart, CountsRefusals, IfFull, IfInterrupted, IfOverflow, ReduceFault, Overflows, plain, Forest, flatten, bytes_in, tree_of, Gives, KeepsFront, Starts, root_tree, without_root, LacksBytes, Stands, forest, KeepsRefusals, bytes_in-join, flatten-join, behind_first, behind_new, front_after_one, front_at, front_end, front_same, front_without, given_rest, given_told, gives_as, last_tree, size-plain, Refusal, Evaluation, Face, Undefined, Refused, ComesTo, CountsRefusal, IsDisplayOf, LacksName, refusal_of, refusal_to_fill, reason_of, reply_of, HasFittingRationals, IsAnswerTo, IsReplyWith, has_no_value, holds_its_name, is_shown, is_stored, OverflowsAt, IsReduction, lacks_bytes, is_answered, made, Unmade, IsReplyToTree, IsReady, is_made, Reply, displayed, circular, refused, refusal_in, state_of}
 use Rattle.breakers.specs.State.{State as Breaker}
 use Rattle.calc_measures.specs.PlainOverflows.{is_overflow, nodes_to_overflow}
 use Rattle.calc_measures.specs.PlainTrees.{IsPlainAnswer, IsPlainOverflow}
@@ -9,8 +9,9 @@ use Rattle.calc_measures.specs.PlainValues.{plain_value}
 use Rattle.name_table.specs.declared.fault.FillFault.{FillFault}
 use Rattle.node_pool.specs.State.{State}
 use Rattle.tree_handles.proofs.Places.{used_forest}
-use Rattle.calc_session.specs.Evaluations.{is_interrupted, does_not_fit, is_reduced}
+use Rattle.calc_session.specs.Evaluations.{is_interrupted, does_not_fit}
 use Rattle.calc_session.specs.Faces.{Shows}
+use Rattle.calc_session.specs.declared.parts.Workspace.{Workspace}
 use Rattle.calc_session.proofs.FaceNames.{face_names}
 use Rattle.calc_session.proofs.StoredTrees.{fitting_tree, named_tree}
 use Rattle.calc_session.proofs.WritableFaces.{face_written}
@@ -120,7 +121,7 @@ module _ (room bits : Option (Tree → ℕ)) (before after : List Breaker) (stor
   )
   shown_answer Undefined st st' st'' e e' g a k f = is_answered a.checks (answer_to st st' e g a) (has_no_value f)
   shown_answer {mid = mid} {j = j} (Refused (refusal.Circular name)) st st' st'' e e' g a k (defined, is, holds) =
-      is_answered a.checks (answer_to st st' e g a) (subst (λ s. IsReplyWith (tree_of j mid) s (circular (name_of name))) (sym is) (holds_its_name defined holds))
+      is_answered a.checks (answer_to st st' e g a) (subst (λ s. IsReplyWith (tree_of j mid) s (refused (circular (name_of name)))) (sym is) (holds_its_name defined holds))
   shown_answer {s} {mid} {i = i} {j} (Refused (refusal.Full needed free)) st st' st'' e e' g a k (want, short) =
       lacks_bytes (record {
         lacking = want.lacking;
@@ -230,11 +231,11 @@ module _ (table : Table) (old mid : State) {i : ℕ} (ts : List Token) (t : Tree
       ∙ ap (λ (f : Forest). filling (free_of mid) (values table f) t) (sym (given_rest g))
       ∙ ap (filling (free_of mid) (values table (without_root i (forest mid)))) (that_tree ts t (tree_of i mid) is (given_told g))
 
-  pub unfilled : (f : FillFault) (r : Refusal) → filling (free_of mid) (values table (without_root i (forest mid))) (tree_of i mid) ≡ refused_filling f → r ≡ refusal_to_fill f → Unmade (made (free_of old) (values table (forest old)) t) (reply_of r)
+  pub unfilled : (f : FillFault) (r : Refusal) → filling (free_of mid) (values table (without_root i (forest mid))) (tree_of i mid) ≡ refused_filling f → r ≡ refusal_to_fill f → Unmade (made (free_of old) (values table (forest old)) t) (reason_of r)
   unfilled f r h k = grind (arith, made_filled)
 
-pub unbuilt : (table : Table) (old : State) (t : Tree) (full : Full) (r : Refusal) → building (free_of old) t ≡ Err full → r ≡ refusal.Full full.needed full.free → Unmade (made (free_of old) (values table (forest old)) t) (reply_of r)
-unbuilt table old t full r e is = subst (λ x. Unmade x (reply_of r)) (sym (made_none (free_of old) (values table (forest old)) t full e)) (ap reply_of is)
+pub unbuilt : (table : Table) (old : State) (t : Tree) (full : Full) (r : Refusal) → building (free_of old) t ≡ Err full → r ≡ refusal.Full full.needed full.free → Unmade (made (free_of old) (values table (forest old)) t) (reason_of r)
+unbuilt table old t full r e is = subst (λ x. Unmade x (reason_of r)) (sym (made_none (free_of old) (values table (forest old)) t full e)) (ap reason_of is)
 
 -- what is told of the last tree may be said otherwise
 pub gives_told : {f s : Forest} {i : ℕ} {P : Tree → Type 0} (Q : Tree → Type 0) → Gives f s i P → Q (plain (root_tree i s)) → Gives f s i Q
@@ -244,21 +245,13 @@ module _ (room bits : Option (Tree → ℕ)) (before after : List Breaker) (stor
   pub comes_made : (old mid : State) {i : ℕ} (new : Forest) (t : Tree) (result : Evaluation) → Stands old → Stands mid → mid.size ≡ old.size → Gives (forest old) (forest mid) i (LacksNames (table_names table))
       → made (free_of old) (values table (forest old)) t ≡ fills (free_of mid) (tree_of i mid)
       → ComesTo (IsReduction room bits (free_of mid + size (tree_of i mid)) (tree_of i mid) before after store) (IsDisplayOf store (tree_of i mid)) store (without_root i (forest mid)) new result
-      → ComesTo (IsReplyTo room bits (free_of old) (values table (forest old)) t before after store) (IsKeepable store table) store (forest old) new result
+      → ComesTo (IsReplyToTree room bits (state_of old table) before after store t) (IsKeepable store table) store (forest old) new result
   comes_made old mid {i} new t result st st' e g is h =
-      comes_as {Now = IsReplyTo room bits (free_of old) (values table (forest old)) t before after store} store new result
-      (λ r m. is_reduced is (subst (λ n. IsReduction room bits n (tree_of i mid) before after store r) (free_before st st' e g) m))
+      comes_as {Now = IsReplyToTree room bits (state_of old table) before after store t} store new result
+      (λ r m. is_made is (subst (λ n. IsReduction room bits n (tree_of i mid) before after store r) (free_before st st' e g) m))
       (λ u d. keepable store table (tree_of i mid) u (given_told g) d) (given_rest g) h
 
-  pub unmade_reply : (free : ℕ) (values : List NamedTree) (t : Tree) (reply : Reply) → Unmade (made free values t) reply → after ≡ before → IsReplyTo room bits free values t before after store reply
-  unmade_reply free values t reply h same = by (made free values t) refl h
-    where
-      by : (m : Filling) → made free values t ≡ m → Unmade m reply → IsReplyTo room bits free values t before after store reply
-      by (lacks refusal) e k = subst (IsReplyTo room bits free values t before after store) (sym k) (finds_no_room e same)
-      by too_deep e k = subst (IsReplyTo room bits free values t before after store) (sym k) (becomes_too_deep e same)
-      by (fills left u) e k = absurd k
-
-pub unfilled_count : (s t : State) (f : FillFault) (r : Refusal) → r ≡ refusal_to_fill f → FaultsFilling s t f → CountsRefusal (refusal_in (reply_of r)) s t
+pub unfilled_count : (s t : State) (f : FillFault) (r : Refusal) → r ≡ refusal_to_fill f → FaultsFilling s t f → CountsRefusal (refusal_in (reason_of r)) s t
 unfilled_count s t f r h k = grind arith
 
 -- a refusal before the first check
@@ -273,3 +266,9 @@ full_interrupts_none r needed free place h e = grind arith
 
 pub fault_interrupts_none : (r : Refusal) (f : FillFault) (place : ℕ) → r ≡ refusal_to_fill f → r ≡ refusal.Interrupted place → ⊥
 fault_interrupts_none r f place h e = grind arith
+
+-- ---- workspaces
+
+-- the lists still suffice where the pool keeps its size
+pub ready_still : (w : Workspace) (p : State) → IsReady w → Stands p → p.size ≡ w.pool.size → IsReady (record w { pool = p })
+ready_still w p h stands same = record { stands = stands; lists = let fits = h.lists in omega (arith, fits, same) }

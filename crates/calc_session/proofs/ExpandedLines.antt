@@ -1,27 +1,15 @@
 -- What the answers to lines that ask for an expansion mean, and when there is one.
 use Rattle.std.proofs.lemmas.Bool.{both_ways}
 use Rattle.std.proofs.Common.{◌≡◌, ◌↔◌, ℕ, ◌≤◌, ◌<◌, List, length, true, false, Option, refl, ap, subst, arith}
-use Rattle.calc_session.proofs.Shared.{reduced_face_means, IsCommandLine, diff, solve, expand, once, face, text, Tree, nodes, expanded, sum_tree, term_trees, expansion_room, is_polynomial, polynomial_of, tree_expanded_reduced, TripsWithin, IsReplyToCalculation, IsReplyToExpression, derives, solves, expands, IsReplyToExpansion, expansion_text, is_no_polynomial, is_expanded, Reply, long, not_polynomial, report, State, free_bytes, IsReply}
+use Rattle.calc_session.proofs.Shared.{reduced_face_means, IsCommandLine, expand, face, text, Tree, nodes, expanded, sum_tree, term_trees, expansion_room, is_polynomial, polynomial_of, tree_expanded_reduced, TripsWithin, IsReplyToExpansion, expansion_text, is_no_polynomial, is_expanded, Reply, refused, not_polynomial, report, State, free_bytes, IsReply}
 use Rattle.breakers.specs.State.{State as Breaker}
 use Rattle.calc_measures.specs.Measures.{bits as bits_of}
 use Rattle.expand_forms.proofs.ExpandedMeanings.{expanded_means}
 use Rattle.expand_forms.proofs.NormalForms.{one_normal_form}
 use Rattle.calc_session.specs.Expanding.{is_interrupted, does_not_fit, lacks_bytes}
 use Rattle.calc_session.specs.ExpansionsMeant.{AsksExpansionOf, HaveSameCoefficients, TellsExpansion}
-use Rattle.calc_session.proofs.AskedLines.{calculation}
+use Rattle.calc_session.proofs.AskedLines.{commanded_report, commanded_reply}
 use Rattle.calc_session.proofs.ExpressionReplies.{reply_to_text, reply_to_tree}
-
-no_derivative : (x a b : List ℕ) → diff x a ≡ expand b → ⊥
-no_derivative x a b e = cc
-
-no_equations : (a b : List ℕ) → solve a ≡ expand b → ⊥
-no_equations a b e = cc
-
-same_text : (a b : List ℕ) → expand a ≡ expand b → a ≡ b
-same_text a b e = cc
-
-no_long : (told : List ℕ) → report told ≡ long → ⊥
-no_long told e = cc
 
 told_is : (a b : List ℕ) → report a ≡ report b → b ≡ a
 told_is a b e = cc
@@ -38,7 +26,7 @@ module _ {free left : ℕ} {before after : List Breaker} {t : Tree} where
   told_tree reply told (is_expanded p c) e = (p, told_is (expansion_text t) told e)
 
   -- no polynomial
-  denied_tree : (reply : Reply) → IsReplyToExpansion free before after left t reply → (reply ≡ not_polynomial) ↔ (is_polynomial t ≡ false)
+  denied_tree : (reply : Reply) → IsReplyToExpansion free before after left t reply → (reply ≡ refused not_polynomial) ↔ (is_polynomial t ≡ false)
   denied_tree reply (is_no_polynomial n same) = (λ e. n, λ e. refl)
   denied_tree reply (is_interrupted p h) = (λ e. absurd cc, λ e. absurd (both_ways (is_polynomial t) e p))
   denied_tree reply (does_not_fit o p h) = (λ e. absurd cc, λ e. absurd (both_ways (is_polynomial t) e p))
@@ -57,24 +45,14 @@ module _ {free left : ℕ} {before after : List Breaker} {t : Tree} where
 
 module _ (room bits : Option (Tree → ℕ)) (old : State) (before checked : List Breaker) (line : List ℕ) where
   module _ (behind : List ℕ) (asked : IsCommandLine line (expand behind)) where
-    from_calculation : (reply : Reply) → IsReplyToCalculation room bits old before checked line reply → IsReplyToExpression old before checked line behind (IsReplyToExpansion (free_bytes old) before checked) reply
-    from_calculation reply (derives {x = x} {text = other} also h) = absurd (no_derivative x other behind (once line (diff x other) (expand behind) also asked))
-    from_calculation reply (solves {text = other} also h) = absurd (no_equations other behind (once line (solve other) (expand behind) also asked))
-    from_calculation reply (expands {text = other} also h) =
-        subst (λ o. IsReplyToExpression old before checked line o (IsReplyToExpansion (free_bytes old) before checked) reply) (same_text other behind (once line (expand other) (expand behind) also asked)) h
-
-    pub calculated : (reply : Reply) → (1024 < length line → reply ≡ long → ⊥) → IsReply room bits old before checked line reply
-        → IsReplyToExpression old before checked line behind (IsReplyToExpansion (free_bytes old) before checked) reply
-    calculated reply short h = from_calculation reply (calculation room bits old before checked line (expand behind) asked refl reply short h)
-
     pub tells_expansion : (told : List ℕ) → IsReply room bits old before checked line (report told) → TellsExpansion old line told
     tells_expansion told h =
-        let read = reply_to_text (report told) told (calculated (report told) (λ e k. no_long told k) h) refl in
-        let t = read.becomes in
+        let read = reply_to_text (commanded_report room bits old before checked line (expand behind) refl asked told h) in
+        let t = read.tree in
         let (is, same) = told_tree (report told) told read.reply_is refl in
         record {
           tree = t;
-          becomes = record { text = behind; asks = asked; becomes = record { tokens = read.tokens; tree = read.tree; reads = read.reads; left = read.left; is_made = read.is_made } };
+          becomes = record { text = behind; asks = asked; becomes = read.becomes };
           polynomial = is;
           told_is = same;
           meanings = record { means = λ f a v m. expanded_means f a t v is m };
@@ -82,18 +60,14 @@ module _ (room bits : Option (Tree → ℕ)) (old : State) (before checked : Lis
         }
 
   module _ {t : Tree} (a : AsksExpansionOf old line t) where
-    -- the reply to what the line becomes
-    reply_to : (reply : Reply) → (1024 < length line → reply ≡ long → ⊥) → IsReply room bits old before checked line reply → IsReplyToExpansion (free_bytes old) before checked a.becomes.left t reply
-    reply_to reply short h = reply_to_tree a.becomes.reads a.becomes.is_made reply (calculated a.text a.asks reply short h)
-
     pub told_of : (told : List ℕ) → IsReply room bits old before checked line (report told) → told ≡ expansion_text t
-    told_of told h = (told_tree (report told) told (reply_to (report told) (λ e k. no_long told k) h) refl).1
+    told_of told h = (told_tree (report told) told (reply_to_tree a.becomes (report told) (commanded_report room bits old before checked line (expand a.text) refl a.asks told h)) refl).1
 
     module _ (short : length line ≤ 1024) (reply : Reply) (h : IsReply room bits old before checked line reply) where
       within : IsReplyToExpansion (free_bytes old) before checked a.becomes.left t reply
-      within = reply_to reply (λ over. omega (arith, short, over)) h
+      within = reply_to_tree a.becomes reply (commanded_reply room bits old before checked line (expand a.text) refl a.asks short reply h)
 
-      pub is_denied : (reply ≡ not_polynomial) ↔ (is_polynomial t ≡ false)
+      pub is_denied : (reply ≡ refused not_polynomial) ↔ (is_polynomial t ≡ false)
       is_denied = denied_tree reply within
 
       pub is_told : is_polynomial t ≡ true → bits_of t ≤ 124 → expansion_room t ≤ free_bytes old → ((place : ℕ) → ¬ (TripsWithin (nodes t) before checked place)) → reply ≡ report (expansion_text t)

@@ -14,9 +14,7 @@ pub mod CountingLemmas
 pub mod OpeningLemmas
 pub mod DrawingLemmas
 pub mod CommandLemmas
-pub mod CalculatedReplies
 pub mod MeaningLemmas
-pub mod CompletenessLemmas
 pub mod TextLemmas
 pub mod AskedLines
 pub mod ExpressionReplies

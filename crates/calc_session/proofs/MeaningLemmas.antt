@@ -1,26 +1,20 @@
 -- What the answers to lines mean.
-use Rattle.std.proofs.Common.{arith, ◌≡◌, ◌∙◌, ℕ, List, [], Option, Some, None, Bool, true, false, sym, ap, subst}
-use Rattle.calc_session.proofs.Shared.{HasValue, IsEasy, value, KeepsMeanings, Reduces, Surd, one_meaning, Same-trans, Evaluates, face, Tree, undef, is_undef, Placed, reduced_face_means, values, IsReplyToCommand, IsReplyWith, IsReduction, lacks_bytes, is_answered, IsReplyTo, finds_no_room, becomes_too_deep, Table, Full, IsReplyUnread, ReadsTree, Reply, shown, stored, undefined, deep, full, State, free_bytes, trees, IsReply}
+use Rattle.std.proofs.Common.{arith, ◌≡◌, ◌∙◌, ℕ, List, [], Option, Some, None, Bool, true, false, refl, sym, ap, subst}
+use Rattle.calc_session.proofs.Shared.{HasValue, IsEasy, value, KeepsMeanings, Reduces, Surd, one_meaning, Same-trans, Evaluates, face, Tree, undef, is_undef, reduced_face_means, IsReplyWith, IsReduction, lacks_bytes, is_answered, IsReplyToTree, is_not_made, is_made, Reply, shown, stored, undefined, State, free_bytes, IsReply}
 use Rattle.breakers.specs.State.{State as Breaker}
 use Rattle.calc_algebra.specs.SquareClasses.{Same}
 use Rattle.calc_algebra.proofs.NumberLaws.{number_words}
 use Rattle.calc_algebra.proofs.NumberUniqueness.{one_number}
 use Rattle.calc_algebra.proofs.SurdLaws.{Agree-Same}
-use Rattle.calc_session.specs.Evaluations.{is_interrupted, does_not_fit, is_reduced}
+use Rattle.calc_session.specs.Evaluations.{is_interrupted, does_not_fit}
 use Rattle.calc_session.specs.Meant.{Becomes, HasNoMeaning, HasSmallRadicands, MeanTheSame, MeansNothing, ShowsMeaning}
-use Rattle.calc_session.proofs.CalculatedReplies.{calculated_value, is_value}
+use Rattle.calc_session.proofs.AskedLines.{IsReplyToLine, is_value_reply, valued}
 
 pub nothing_meant : (t : Tree) → Reduces t undef → MeansNothing t
 nothing_meant t r f a v m = r.meanings.means f a v m
 
 pub undef_is : (t : Tree) → is_undef t ≡ true → t ≡ undef
 undef_is t e = grind arith
-
-full_undefined : (refusal : Full) → full refusal ≡ undefined → ⊥
-full_undefined refusal e = cc
-
-deep_undefined : deep ≡ undefined → ⊥
-deep_undefined e = cc
 
 -- ---- what is displayed
 
@@ -33,11 +27,8 @@ displayed_in reply = None
 none_some : (u : Tree) → None ≡ Some u → ⊥
 none_some u e = cc
 
-displayed_value : (r : Reply) (u : Tree) → displayed_in r ≡ Some u → is_value r ≡ true
+displayed_value : (r : Reply) (u : Tree) → displayed_in r ≡ Some u → is_value_reply r ≡ true
 displayed_value r u e = grind arith
-
-both_values : (b : Bool) → b ≡ true → b ≡ false → ⊥
-both_values b e f = cc
 
 -- a tree is the face of what another reduces to
 record Displays (t u : Tree) : Type 0 where
@@ -50,18 +41,6 @@ record Displays (t u : Tree) : Type 0 where
 displayed_face : (answer : Tree) (store : Option (List ℕ)) (reply : Reply) (u : Tree) → IsReplyWith answer store reply → displayed_in reply ≡ Some u → (is_undef answer ≡ false) × (u ≡ face answer)
 displayed_face answer store reply u h e = grind arith
 
-unread_not_displayed : {table : Table} {line : List ℕ} {reply : Reply} (u : Tree) → IsReplyUnread table line reply → displayed_in reply ≡ Some u → ⊥
-unread_not_displayed u h e = grind arith
-
-unread_not_undefined : {table : Table} {line : List ℕ} {reply : Reply} → IsReplyUnread table line reply → reply ≡ undefined → ⊥
-unread_not_undefined h e = grind arith
-
-command_not_displayed : {s : State} {before after : List Breaker} {line : List ℕ} {reply : Reply} (u : Tree) → IsReplyToCommand s before after line reply → displayed_in reply ≡ Some u → ⊥
-command_not_displayed u h e = grind arith
-
-command_not_undefined : {s : State} {before after : List Breaker} {line : List ℕ} {reply : Reply} → IsReplyToCommand s before after line reply → reply ≡ undefined → ⊥
-command_not_undefined h e = grind arith
-
 module _ (room bits : Option (Tree → ℕ)) (before after : List Breaker) where
   displayed_reduced : (free : ℕ) (t : Tree) (store : Option (List ℕ)) (reply : Reply) (u : Tree) → IsReduction room bits free t before after store reply → displayed_in reply ≡ Some u → Displays t u
   displayed_reduced free t store reply u (is_interrupted h) e = cc
@@ -69,19 +48,15 @@ module _ (room bits : Option (Tree → ℕ)) (before after : List Breaker) where
   displayed_reduced free t store reply u (lacks_bytes h) e = cc
   displayed_reduced free t store reply u (is_answered {answer = r} c a w) e = record { answer = r; reduces = a.reduces; easy = a.easy; defined = (displayed_face r store reply u w e).0; face_is = (displayed_face r store reply u w e).1 }
 
-  displayed_tree : (old : State) (line : List ℕ) (tokens : List Placed) (store : Option (List ℕ)) (t : Tree) (reply : Reply) (u : Tree) → ReadsTree old.table line tokens store t
-      → IsReplyTo room bits (free_bytes old) (values old.table (trees old)) t before after store reply → displayed_in reply ≡ Some u → (v : Tree) × Becomes old line v × Displays v u
-  displayed_tree old line tokens store t reply u reads (finds_no_room m same) e = absurd (none_some u e)
-  displayed_tree old line tokens store t reply u reads (becomes_too_deep m same) e = absurd (none_some u e)
-  displayed_tree old line tokens store t reply u reads (is_reduced {left = left} {made_of = v} m r) e =
-      (v, record { tokens = tokens; store = store; tree = t; reads = reads; left = left; is_made = m }, displayed_reduced (free_bytes old) v store reply u r e)
-
-  -- what a line became, and what is displayed for that
-  displayed_line : (old : State) (line : List ℕ) (reply : Reply) (u : Tree) → IsReply room bits old before after line reply → displayed_in reply ≡ Some u → (t : Tree) × Becomes old line t × Displays t u
-  displayed_line old line reply u h e = grind (arith, unread_not_displayed, command_not_displayed, both_values, is_value, displayed_value, calculated_value, displayed_tree)
+  displayed_line : (old : State) (line : List ℕ) (reply : Reply) (u : Tree) → IsReplyToLine room bits old before after line reply → displayed_in reply ≡ Some u → (v : Tree) × Becomes old line v × Displays v u
+  displayed_line old line reply u h e = by reply h.reply_is e
+    where
+      by : (r : Reply) → IsReplyToTree room bits old before after h.store h.tree r → displayed_in r ≡ Some u → (v : Tree) × Becomes old line v × Displays v u
+      by r (is_not_made m same) e = absurd cc
+      by r (is_made {left = left} {t = v} m k) e = (v, record { tokens = h.tokens; store = h.store; tree = h.tree; reads = h.reads; left = left; is_made = m }, displayed_reduced (free_bytes old) v h.store r u k e)
 
   pub shows_meaning : (old : State) (line : List ℕ) (reply : Reply) (u : Tree) → IsReply room bits old before after line reply → displayed_in reply ≡ Some u → ShowsMeaning old line u
-  shows_meaning old line reply u h e = meant (displayed_line old line reply u h e)
+  shows_meaning old line reply u h e = meant (displayed_line old line reply u (valued room bits old before after line reply (displayed_value reply u e) h) e)
     where
       meant : (t : Tree) × Becomes old line t × Displays t u → ShowsMeaning old line u
       meant (t, b, d) = record {
@@ -104,15 +79,15 @@ module _ (room bits : Option (Tree → ℕ)) (before after : List Breaker) where
   undefined_reduced : (free : ℕ) (t : Tree) (store : Option (List ℕ)) (reply : Reply) → IsReduction room bits free t before after store reply → reply ≡ undefined → MeansNothing t
   undefined_reduced free t store reply h e = grind (arith, nothing_meant, undefined_with)
 
-  undefined_tree : (old : State) (line : List ℕ) (tokens : List Placed) (store : Option (List ℕ)) (t : Tree) (reply : Reply) → ReadsTree old.table line tokens store t
-      → IsReplyTo room bits (free_bytes old) (values old.table (trees old)) t before after store reply → reply ≡ undefined → HasNoMeaning old line
-  undefined_tree old line tokens store t reply reads (finds_no_room m same) e = absurd (full_undefined _ e)
-  undefined_tree old line tokens store t reply reads (becomes_too_deep m same) e = absurd (deep_undefined e)
-  undefined_tree old line tokens store t reply reads (is_reduced {left = left} {made_of = v} m r) e =
-      record { tree = v; becomes = record { tokens = tokens; store = store; tree = t; reads = reads; left = left; is_made = m }; none = undefined_reduced (free_bytes old) v store reply r e }
+  undefined_line : (old : State) (line : List ℕ) (reply : Reply) → IsReplyToLine room bits old before after line reply → reply ≡ undefined → HasNoMeaning old line
+  undefined_line old line reply h e = by reply h.reply_is e
+    where
+      by : (r : Reply) → IsReplyToTree room bits old before after h.store h.tree r → r ≡ undefined → HasNoMeaning old line
+      by r (is_not_made m same) e = absurd cc
+      by r (is_made {left = left} {t = v} m k) e = record { tree = v; becomes = record { tokens = h.tokens; store = h.store; tree = h.tree; reads = h.reads; left = left; is_made = m }; none = undefined_reduced (free_bytes old) v h.store r k e }
 
-  pub has_no_meaning : (old : State) (line : List ℕ) (reply : Reply) → IsReply room bits old before after line reply → reply ≡ undefined → HasNoMeaning old line
-  has_no_meaning old line reply h e = grind (arith, unread_not_undefined, command_not_undefined, both_values, is_value, calculated_value, undefined_tree)
+  pub has_no_meaning : (old : State) (line : List ℕ) → IsReply room bits old before after line undefined → HasNoMeaning old line
+  has_no_meaning old line h = undefined_line old line undefined (valued room bits old before after line undefined refl h) refl
 
 -- ---- two lines with one value
 

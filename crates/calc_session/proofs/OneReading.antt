@@ -1,10 +1,10 @@
 -- Equations are split, read, built and named in one way.
 use Rattle.std.proofs.Common.{◌≡◌, ◌∙◌, ℕ, suc, ◌<◌, ◌≤◌, List, [], ◌∷◌, ◌++◌, length, true, refl, sym, ap, subst, arith}
 use Rattle.std.specs.Prelude.{All, Contains}
-use Rattle.calc_session.proofs.Shared.{AllZip, Tree, AreDistinct, Equation, NamedTree, Filling, fills, IsNoExpression, AreSides, Piece, Pieces, Sides, Splits, written, written_all, Unmade, made, EndsPiece, Reply, report, AreNamesOf, HoldOverSixNames, Rises, is_before, AreUnmade, Become, IsNoEquation, ReadsEquation, ReadsSide, equation, nothing}
+use Rattle.calc_session.proofs.Shared.{AllZip, Tree, AreDistinct, Equation, NamedTree, Filling, fills, IsNoExpression, AreSides, Piece, Pieces, Sides, Splits, written, written_all, Unmade, made, EndsPiece, Reason, AreNamesOf, HoldOverSixNames, Rises, is_before, AreUnmade, Become, IsNoEquation, ReadsEquation, ReadsSide, equation, nothing}
 use Rattle.calc_session.proofs.RisingLemmas.{before_chain, never_before_itself, rises_distinct}
 use Rattle.calc_session.proofs.Splitting.{same_equation}
-use Rattle.calc_session.proofs.TextLemmas.{misread_unreported, one_text, read_at_all, unmade_unreported}
+use Rattle.calc_session.proofs.TextLemmas.{one_text, read_at_all}
 
 -- ---- the text is split
 
@@ -62,24 +62,19 @@ read_once (p ∷ ps) (e ∷ es) (f ∷ fs) h k =
     let rest = read_once ps es fs h.1 k.1 in
     (λ i. record { left = l i; right = r i } ∷ rest i)
 
-side_read : (p : Piece) (t : Tree) (n : ℕ) (reply : Reply) → ReadsSide p t → IsNoExpression n p.text reply → ⊥
-side_read p t n reply (ts, r) h = read_at_all p.text r h
+side_read : (p : Piece) (t : Tree) (n : ℕ) (reason : Reason) → ReadsSide p t → IsNoExpression n p.text reason → ⊥
+side_read p t n reason (ts, r) h = read_at_all p.text r h
 
-pub all_read : {ps : List Pieces} {reply : Reply} (es : List Equation) → AllZip ReadsEquation ps es → IsNoEquation ps reply → ⊥
+pub all_read : {ps : List Pieces} {reason : Reason} (es : List Equation) → AllZip ReadsEquation ps es → IsNoEquation ps reason → ⊥
 all_read [] h n = absurd (none_read h n)
   where
-    none_read : {ps : List Pieces} {reply : Reply} → AllZip ReadsEquation ps [] → IsNoEquation ps reply → ⊥
+    none_read : {ps : List Pieces} {reason : Reason} → AllZip ReadsEquation ps [] → IsNoEquation ps reason → ⊥
     none_read h (IsNoEquation.at_left n) = absurd h
     none_read h (IsNoEquation.at_right r n) = absurd h
     none_read h (IsNoEquation.later r n) = absurd h
-all_read (e ∷ es) h (IsNoEquation.at_left {p = p} {reply = reply} n) = side_read p.left e.left p.left.before reply h.0.left n
-all_read (e ∷ es) h (IsNoEquation.at_right {p = p} {reply = reply} r n) = side_read p.right e.right p.right.before reply h.0.right n
+all_read (e ∷ es) h (IsNoEquation.at_left {p = p} {reason = reason} n) = side_read p.left e.left p.left.before reason h.0.left n
+all_read (e ∷ es) h (IsNoEquation.at_right {p = p} {reason = reason} r n) = side_read p.right e.right p.right.before reason h.0.right n
 all_read (e ∷ es) h (IsNoEquation.later r n) = all_read es h.1 n
-
-pub unread_unreported : {ps : List Pieces} {reply : Reply} (told : List ℕ) → IsNoEquation ps reply → reply ≡ report told → ⊥
-unread_unreported {reply = reply} told (IsNoEquation.at_left n) e = misread_unreported reply told n e
-unread_unreported {reply = reply} told (IsNoEquation.at_right r n) e = misread_unreported reply told n e
-unread_unreported told (IsNoEquation.later r n) e = unread_unreported told n e
 
 -- ---- they are built
 
@@ -89,17 +84,12 @@ filled_left l m t u e = cc
 filled_tree : (l m : ℕ) (t u : Tree) → fills l t ≡ fills m u → t ≡ u
 filled_tree l m t u e = cc
 
-pub unbuilt_unreported : {vs : List NamedTree} {free : ℕ} {es : List Equation} {reply : Reply} (told : List ℕ) → AreUnmade vs free es reply → reply ≡ report told → ⊥
-unbuilt_unreported {reply = reply} told (AreUnmade.at_left u) e = unmade_unreported _ reply told u e
-unbuilt_unreported {reply = reply} told (AreUnmade.at_right m u) e = unmade_unreported _ reply told u e
-unbuilt_unreported told (AreUnmade.later m n h) e = unbuilt_unreported told h e
-
 module _ (vs : List NamedTree) where
   made_once : (free l m : ℕ) (t a b : Tree) → made free vs t ≡ fills l a → made free vs t ≡ fills m b → (l ≡ m) × (a ≡ b)
   made_once free l m t a b h k = (filled_left l m a b (sym h ∙ k), filled_tree l m a b (sym h ∙ k))
 
-  made_at_all : (free l : ℕ) (t a : Tree) (reply : Reply) → made free vs t ≡ fills l a → Unmade (made free vs t) reply → ⊥
-  made_at_all free l t a reply h u = subst (λ (f : Filling). Unmade f reply) h u
+  made_at_all : (free l : ℕ) (t a : Tree) (reason : Reason) → made free vs t ≡ fills l a → Unmade (made free vs t) reason → ⊥
+  made_at_all free l t a reason h u = subst (λ (f : Filling). Unmade f reason) h u
 
   pub become_once : (free l m : ℕ) (es fs gs : List Equation) → Become vs free es l fs → Become vs free es m gs → fs ≡ gs
   become_once free l m [] [] [] nothing nothing = refl
@@ -113,16 +103,16 @@ module _ (vs : List NamedTree) where
       let r = become_once o l m es fs gs rest (subst (λ f. Become vs f es m gs) (sym q.0) rest') in
       (λ i. record { left = p.1 i; right = q.1 i } ∷ r i)
 
-  pub become_at_all : (free l : ℕ) (es fs : List Equation) (reply : Reply) → Become vs free es l fs → AreUnmade vs free es reply → ⊥
-  become_at_all free l [] fs reply h u = elim u [ ]
-  become_at_all free l (e ∷ es) fs reply (equation {between = n} {behind = o} {l = a} {r = b} h k rest) (AreUnmade.at_left u) = made_at_all free n e.left a reply h u
-  become_at_all free l (e ∷ es) fs reply (equation {between = n} {behind = o} {l = a} {r = b} h k rest) (AreUnmade.at_right {between = n'} {l = a'} h' u) =
+  pub become_at_all : (free l : ℕ) (es fs : List Equation) {reason : Reason} → Become vs free es l fs → AreUnmade vs free es reason → ⊥
+  become_at_all free l [] fs h u = elim u [ ]
+  become_at_all free l (e ∷ es) fs {reason} (equation {between = n} {behind = o} {l = a} {r = b} h k rest) (AreUnmade.at_left u) = made_at_all free n e.left a reason h u
+  become_at_all free l (e ∷ es) fs {reason} (equation {between = n} {behind = o} {l = a} {r = b} h k rest) (AreUnmade.at_right {between = n'} {l = a'} h' u) =
       let p = made_once free n n' e.left a a' h h' in
-      made_at_all n o e.right b reply k (subst (λ f. Unmade (made f vs e.right) reply) (sym p.0) u)
-  become_at_all free l (e ∷ es) (f ∷ fs) reply (equation {between = n} {behind = o} {l = a} {r = b} h k rest) (AreUnmade.later {between = n'} {behind = o'} {l = a'} {r = b'} h' k' u) =
+      made_at_all n o e.right b reason k (subst (λ f. Unmade (made f vs e.right) reason) (sym p.0) u)
+  become_at_all free l (e ∷ es) (f ∷ fs) {reason} (equation {between = n} {behind = o} {l = a} {r = b} h k rest) (AreUnmade.later {between = n'} {behind = o'} {l = a'} {r = b'} h' k' u) =
       let p = made_once free n n' e.left a a' h h' in
       let q = made_once n o o' e.right b b' k (subst (λ f. made f vs e.right ≡ fills o' b') (sym p.0) k') in
-      become_at_all o l es fs reply rest (subst (λ f. AreUnmade vs f es reply) (sym q.0) u)
+      become_at_all o l es fs rest (subst (λ f. AreUnmade vs f es reason) (sym q.0) u)
 
 -- ---- the names
 

@@ -1,6 +1,7 @@
 -- Lemmas on pools that are rolled back.
-use Rattle.std.proofs.Common.{arith, ◌≡◌, ℕ, [], Option}
-use Rattle.calc_session.proofs.Shared.{Full, Forest, bytes_in, KeepsFront, Stands, forest, KeepsRefusals, CountsRefusal, after}
+use Rattle.std.proofs.Common.{arith, ◌≡◌, ◌∙◌, ◌*◌, ◌+◌, ◌≤◌, ℕ, [], Option, sym, ap, subst}
+use Rattle.calc_session.proofs.Shared.{IsHeld, Table, Full, Forest, bytes_in, forest_of, KeepsFront, Stands, forest, KeepsRefusals, CountsRefusal, IsKept, IsReady, after}
+use Rattle.calc_session.specs.declared.parts.Parts.{Parts}
 use Rattle.node_pool.specs.State.{State}
 use Rattle.pool_checkpoints.specs.Marks.{IsBelow}
 use Rattle.pool_checkpoints.proofs.RollingBack.{all_below, still_below}
@@ -17,8 +18,39 @@ old_below e k = still_below (all_below e) k tt
 pub record IsRolledBack (refusal : Option Full) (old new : State) : Type 0 where
   pub counted : CountsRefusal refusal old new
   pub as_before : new ≡ after refusal old.nodes old
-  pub front : KeepsFront [] (forest old) (forest new)
+  pub size : new.size ≡ old.size
 
 -- the old trees alone are left
 pub rolled_back : (refusal : Option Full) (old mid new : State) → Stands old → Stands new → CountsRefusal refusal old mid → KeepsRefusals mid new → forest new ≡ forest old → IsRolledBack refusal old new
 rolled_back refusal old mid new h k r l e = grind arith
+
+-- ---- parts whose pool was rolled back
+
+pub nodes_kept : (lack : Option Full) (p q : State) → q ≡ after lack p.nodes p → q.nodes ≡ p.nodes
+nodes_kept lack p q e = grind arith
+
+pub size_same : (lack : Option Full) (p q : State) → q ≡ after lack p.nodes p → q.size ≡ p.size
+size_same lack p q e = grind arith
+
+pub still_held : (lack : Option Full) (t : Table) (p q : State) → q ≡ after lack p.nodes p → IsHeld t (forest p) → IsHeld t (forest q)
+still_held lack t p q e h = subst (λ ns. IsHeld t (forest_of ns)) (sym (nodes_kept lack p q e)) h
+
+-- all is as before but for a refusal
+pub kept_but : (lack : Option Full) (p q : Parts) → IsKept p → IsReady q.work → q.work.pool ≡ after lack p.work.pool.nodes p.work.pool → q.table ≡ p.table → q.text.capacity ≡ p.text.capacity → q.drafter.pool_size ≡ p.drafter.pool_size → IsKept q
+kept_but lack p q h ready same table room served =
+    let size = size_same lack p.work.pool q.work.pool same in
+    record {
+      ready = ready;
+      held = rw table (still_held lack p.table p.work.pool q.work.pool same h.held);
+      room = room ∙ h.room ∙ ap (λ n. 3 * n + 8448) (sym size);
+      served = served ∙ h.served ∙ sym size;
+    }
+
+-- the trees stand as before, and the rest has kept its room
+pub kept_still : (p q : Parts) → IsKept p → Stands q.work.pool → q.work.pool.size ≡ p.work.pool.size → forest q.work.pool ≡ forest p.work.pool → q.work.pool.size ≤ q.work.faces → q.table ≡ p.table → q.text.capacity ≡ p.text.capacity → q.drafter.pool_size ≡ p.drafter.pool_size → IsKept q
+kept_still p q h stands size trees fits table room served = record {
+  ready = record { stands = stands; lists = fits };
+  held = rw (table, trees) h.held;
+  room = room ∙ h.room ∙ ap (λ n. 3 * n + 8448) (sym size);
+  served = served ∙ h.served ∙ sym size;
+}

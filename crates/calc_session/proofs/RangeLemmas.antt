@@ -1,7 +1,7 @@
 -- Lemmas on equations by where they stand in a text, from left to right.
 use Rattle.std.proofs.Common.{◌≡◌, ◌∙◌, ℕ, zero, suc, ◌+◌, ◌<◌, List, [], ◌∷◌, ◌++◌, length, get_or, map, take, drop, refl, sym, ap, subst, arith}
 use Rattle.std.specs.Prelude.{None}
-use Rattle.calc_session.proofs.Shared.{AllZip, Tree, Placed, Equation, EquationRange, IsNoExpression, ReadsText, bytes_before, Pieces, all_placed, AreSplit, between, pieces_at, Reply, IsNoEquation, IsReplyToEquations, ReadsEquation, are_not_read, State}
+use Rattle.calc_session.proofs.Shared.{AllZip, Tree, Placed, Equation, EquationRange, IsNoExpression, ReadsText, Pieces, all_placed, AreSplit, between, pieces_at, Reason, refused, IsNoEquation, IsReplyToEquations, ReadsEquation, are_not_read, State}
 use Rattle.breakers.specs.State.{State as Breaker}
 use Rattle.calc_session.specs.Solving.{at_left as unread_at_left, at_right as unread_at_right, later as later_unread}
 
@@ -59,18 +59,18 @@ module _ (n : ℕ) (text : List ℕ) where
         (read_last (map (pieces_at n text) (take k rs)) es (pieces_at n text r) (record { left = t; right = u }) h (record { left = (ts, a); right = (us, b) })),
   )
 
-  unread_behind : (ps qs : List Pieces) (es : List Equation) (reply : Reply) → AllZip ReadsEquation ps es → IsNoEquation qs reply → IsNoEquation (ps ++ qs) reply
-  unread_behind [] qs [] reply h k = k
-  unread_behind [] qs (e ∷ es) reply h k = absurd h
-  unread_behind (p ∷ ps) qs [] reply h k = absurd h
-  unread_behind (p ∷ ps) qs (e ∷ es) reply h k = later_unread h.0 (unread_behind ps qs es reply h.1 k)
+  unread_behind : (ps qs : List Pieces) (es : List Equation) (reason : Reason) → AllZip ReadsEquation ps es → IsNoEquation qs reason → IsNoEquation (ps ++ qs) reason
+  unread_behind [] qs [] reason h k = k
+  unread_behind [] qs (e ∷ es) reason h k = absurd h
+  unread_behind (p ∷ ps) qs [] reason h k = absurd h
+  unread_behind (p ∷ ps) qs (e ∷ es) reason h k = later_unread h.0 (unread_behind ps qs es reason h.1 k)
 
   -- the reply where one is not
-  pub unread_reply : (old : State) (bs : List Breaker) (line : List ℕ) (rs : List EquationRange) (k : ℕ) (r : EquationRange) (reply : Reply) → bytes_before line text ≡ n → AreSplit text rs → AreReadUpTo rs k → k < length rs → r ≡ get_or rs k r
-      → ((qs : List Pieces) → IsNoEquation (pieces_at n text r ∷ qs) reply) → IsReplyToEquations old bs bs line text reply
-  unread_reply old bs line rs k r reply behind split (es, h) l e unread =
-      are_not_read split.splits split.few (subst (λ m. IsNoEquation (all_placed m split.equations) reply) (sym behind) (subst (λ ps. IsNoEquation ps reply) (split.placed_are n) (subst (λ ps. IsNoEquation ps reply) (sym (pieces_parts k rs r l e))
-      (unread_behind (map (pieces_at n text) (take k rs)) (pieces_at n text r ∷ map (pieces_at n text) (drop (suc k) rs)) es reply h (unread (map (pieces_at n text) (drop (suc k) rs))))))) refl
+  pub unread_reply : (old : State) (bs : List Breaker) (rs : List EquationRange) (k : ℕ) (r : EquationRange) (reason : Reason) → AreSplit text rs → AreReadUpTo rs k → k < length rs → r ≡ get_or rs k r
+      → ((qs : List Pieces) → IsNoEquation (pieces_at n text r ∷ qs) reason) → IsReplyToEquations old bs bs n text (refused reason)
+  unread_reply old bs rs k r reason split (es, h) l e unread =
+      are_not_read split.splits split.few (subst (λ ps. IsNoEquation ps reason) (split.placed_are n) (subst (λ ps. IsNoEquation ps reason) (sym (pieces_parts k rs r l e))
+      (unread_behind (map (pieces_at n text) (take k rs)) (pieces_at n text r ∷ map (pieces_at n text) (drop (suc k) rs)) es reason h (unread (map (pieces_at n text) (drop (suc k) rs)))))) refl
 
   -- what is read at a place
   pub reads_at : (k : ℕ) (rs : List EquationRange) (r : EquationRange) (es : List Equation) → AllZip ReadsEquation (map (pieces_at n text) rs) es → k < length rs → r ≡ get_or rs k r → (e : Equation) × ReadsEquation (pieces_at n text r) e
@@ -79,11 +79,11 @@ module _ (n : ℕ) (text : List ℕ) where
   reads_at zero (q ∷ qs) r (f ∷ es) h l e = (f, subst (λ (x : EquationRange). ReadsEquation (pieces_at n text x) f) (sym e) h.0)
   reads_at (suc k) (q ∷ qs) r (f ∷ es) h l e = reads_at k qs r es h.1 (omega (arith, l)) e
 
-pub unread_left : (n : ℕ) (text : List ℕ) (r : EquationRange) (qs : List Pieces) (reply : Reply) → IsNoExpression (n + r.begin) (between r.begin r.sign text) reply → IsNoEquation (pieces_at n text r ∷ qs) reply
-unread_left n text r qs reply h = unread_at_left h
+pub unread_left : (n : ℕ) (text : List ℕ) (r : EquationRange) (qs : List Pieces) (reason : Reason) → IsNoExpression (n + r.begin) (between r.begin r.sign text) reason → IsNoEquation (pieces_at n text r ∷ qs) reason
+unread_left n text r qs reason h = unread_at_left h
 
-pub unread_right : (n : ℕ) (text : List ℕ) (r : EquationRange) (qs : List Pieces) (t : Tree) (ts : List Placed) (reply : Reply) → ReadsText (between r.begin r.sign text) ts None t → IsNoExpression (n + (r.sign + 1)) (between (r.sign + 1) r.end text) reply → IsNoEquation (pieces_at n text r ∷ qs) reply
-unread_right n text r qs t ts reply a h = unread_at_right (ts, a) h
+pub unread_right : (n : ℕ) (text : List ℕ) (r : EquationRange) (qs : List Pieces) (t : Tree) (ts : List Placed) (reason : Reason) → ReadsText (between r.begin r.sign text) ts None t → IsNoExpression (n + (r.sign + 1)) (between (r.sign + 1) r.end text) reason → IsNoEquation (pieces_at n text r ∷ qs) reason
+unread_right n text r qs t ts reason a h = unread_at_right (ts, a) h
 
 pub reads_many : (n : ℕ) (text : List ℕ) (rs : List EquationRange) (es : List Equation) → AllZip ReadsEquation (map (pieces_at n text) rs) es → length es ≡ length rs
 reads_many n text [] [] h = refl

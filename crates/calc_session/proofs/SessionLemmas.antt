@@ -1,7 +1,7 @@
 -- Lemmas on the state of a session, and on what a line leaves of it.
 use Rattle.std.proofs.lemmas.Bool.{both_ways}
-use Rattle.std.proofs.Common.{◌≡◌, ◌∙◌, ◌↔◌, ℕ, ◌+◌, ◌*◌, ◌≤◌, ◌==◌, List, [], ◌∷◌, ◌++◌, length, codes, Bool, true, false, if◌then◌else◌, Option, None, refl, sym, ap, subst, arith}
-use Rattle.calc_session.proofs.Shared.{eqb-true, TripsRose, is_command, text, Node, Tree, none, more, size, Placed, values, held_by, Table, with_answer, Full, has, free_of, IsExpression, plain, Forest, flatten, Gives, tree_at, Stands, forest, flatten-join, has-flatten, given_handed, given_root, given_told, expression_root, plain_root, alone, LineAnswer, Refusal, answer_to, Answers, AnswersCommand, AnswersUntold, CountsRefusal, IsAnswer, IsTextOf, reply_of, IsReplyTo, IsReplyUnread, ReadsTree, Reply, blank, displayed, refusal_in, text_of, undefined, Seen, Counts, pool_of, State, state_of, IsReply, is_unread, is_commanded, is_evaluated, Leaves, LeavesAnswer}
+use Rattle.std.proofs.Common.{◌≡◌, ◌∙◌, ◌↔◌, ℕ, ◌+◌, ◌*◌, ◌≤◌, ◌==◌, List, [], ◌∷◌, ◌++◌, length, codes, Bool, true, false, if◌then◌else◌, Option, Some, None, refl, sym, ap, subst, arith}
+use Rattle.calc_session.proofs.Shared.{eqb-true, TripsRose, Asked, IsCommandLine, text, Node, Tree, none, more, size, Placed, held_by, Table, with_answer, Full, has, IsExpression, plain, Forest, flatten, Gives, tree_at, Stands, forest, flatten-join, has-flatten, given_handed, given_root, given_told, expression_root, plain_root, alone, LineAnswer, Refusal, answer_to, Answers, AnswersBy, AnswersUntold, IsAnswer, IsTextOf, printed, reason_of, reply_of, IsReplyToCommand, IsUnstorable, ReadsAs, ReadsTree, Reply, blank, displayed, refusal_in, text_of, undefined, is_blank_line, Seen, Counts, State, state_of, Asks, AsksInVain, is_nothing, is_text, is_asked, IsReply, IsReplyToTree, asks_in_vain, is_replied, is_evaluated, cannot_be_stored, Leaves, LeavesAnswer}
 use Rattle.breakers.specs.State.{State as Breaker}
 use Rattle.node_pool.specs.Nodes.{AreDistinct}
 use Rattle.node_pool.specs.State.{State as PoolState}
@@ -15,10 +15,6 @@ use Rattle.calc_session.specs.declared.answers.Refusal.TheVariants as refusal
 
 pub same_after : (refusal : Option Full) (p q : PoolState) (t : Table) → q ≡ undone refusal p.nodes p → state_of q t ≡ state_of p t
 same_after refusal p q t e = grind arith
-
--- what is refused leaves all as it was
-pub refused_leaves : (refusal : Refusal) (s t : State) → t ≡ s → Leaves (reply_of refusal) s t
-refused_leaves refusal s t e = grind arith
 
 -- ---- a new answer
 
@@ -62,67 +58,61 @@ text_displayed store u written e = grind arith
 
 -- ---- answers
 
+printed_is : (given : LineAnswer) (reply : Reply) (written : List ℕ) → ((r : Refusal) → given ≡ answer.Refused r → ⊥) → IsTextOf given written reply → IsAnswer given reply → printed given written ≡ text_of reply
+unfolding text_of
+printed_is given reply written h t a = grind arith
+
 module _ (room bits : Option (Tree → ℕ)) (before after : List Breaker) (line : List ℕ) where
-  -- a reply to a line that is evaluated, by the pool
-  evaluated : (p : PoolState) (table : Table) (tokens : List Placed) (store : Option (List ℕ)) (t : Tree) (reply : Reply) → Stands p → ReadsTree table line tokens store t
-      → IsReplyTo room bits (free_of p) (values table (forest p)) t before after store reply → IsReply room bits (state_of p table) before after line reply
-  evaluated p table tokens store t reply st reads h = is_evaluated reads h
+  -- a reply to a line that is evaluated
+  evaluated : (s : State) (tokens : List Placed) (store : Option (List ℕ)) (t : Tree) (reply : Reply) → ReadsTree s.table line tokens store t → IsReplyToTree room bits s before after store t reply → IsReply room bits s before after line reply
+  evaluated s tokens store t reply reads h = is_replied reads.reads.text.short (is_text reads.reads) (is_evaluated reads.storable h)
 
-  pub answers_refusal : (p q : PoolState) (table : Table) (tokens : List Placed) (store : Option (List ℕ)) (t : Tree) (refusal : Refusal) (written : List ℕ) → Stands p → ReadsTree table line tokens store t
-      → IsReplyTo room bits (free_of p) (values table (forest p)) t before after store (reply_of refusal) → q ≡ undone (refusal_in (reply_of refusal)) p.nodes p → written ≡ []
+  pub answers_refusal : (p q : PoolState) (table : Table) (tokens : List Placed) (store : Option (List ℕ)) (t : Tree) (refusal : Refusal) (written : List ℕ) → ReadsTree table line tokens store t
+      → IsReplyToTree room bits (state_of p table) before after store t (reply_of refusal) → q ≡ undone (refusal_in (reason_of refusal)) p.nodes p → written ≡ []
       → AnswersUntold room bits (state_of p table) before line (answer.Refused refusal) written (state_of q table) after
-  answers_refusal p q table tokens store t refusal written h k l m n = grind (arith, evaluated, refused_leaves, same_after)
+  answers_refusal p q table tokens store t refusal written k l m n =
+      record { reply = reply_of refusal; reply_is = evaluated (state_of p table) tokens store t (reply_of refusal) k l; state_is = same_after (refusal_in (reason_of refusal)) p q table m; answer_is = refl; text_is = n }
 
-  pub answers_undefined : (p q : PoolState) (table : Table) (tokens : List Placed) (store : Option (List ℕ)) (t : Tree) (written : List ℕ) → Stands p → ReadsTree table line tokens store t
-      → IsReplyTo room bits (free_of p) (values table (forest p)) t before after store undefined → q ≡ undone None p.nodes p → written ≡ codes "undef"
+  pub answers_undefined : (p q : PoolState) (table : Table) (tokens : List Placed) (store : Option (List ℕ)) (t : Tree) (written : List ℕ) → ReadsTree table line tokens store t
+      → IsReplyToTree room bits (state_of p table) before after store t undefined → q ≡ undone None p.nodes p → written ≡ codes "undef"
       → AnswersUntold room bits (state_of p table) before line answer.Undef written (state_of q table) after
   unfolding text_of
-  answers_undefined p q table tokens store t written h k l m n = grind (arith, evaluated, same_after)
+  answers_undefined p q table tokens store t written k l m n =
+      record { reply = undefined; reply_is = evaluated (state_of p table) tokens store t undefined k l; state_is = same_after None p q table m; answer_is = refl; text_is = ap Some n }
 
-  pub answers_face : (p q : PoolState) (table table' : Table) (tokens : List Placed) (store : Option (List ℕ)) (t u : Tree) (written : List ℕ) → Stands p → ReadsTree table line tokens store t
-      → IsReplyTo room bits (free_of p) (values table (forest p)) t before after store (displayed store u) → LeavesAnswer store u (state_of p table) (state_of q table') → written ≡ text u
-      → AnswersUntold room bits (state_of p table) before line (answer_to store) written (state_of q table') after
-  answers_face p q table table' tokens store t u written st reads h leaves is = record {
-    reply = displayed store u;
-    step = record { reply_is = evaluated p table tokens store t (displayed store u) st reads h; state_is = displayed_leaves store u (state_of p table) (state_of q table') leaves };
-    answer_is = answers_displayed store u;
-    text_is = text_displayed store u written is;
-  }
+  pub answers_face : (s t : State) (tokens : List Placed) (store : Option (List ℕ)) (tree u : Tree) (written : List ℕ) → ReadsTree s.table line tokens store tree
+      → IsReplyToTree room bits s before after store tree (displayed store u) → LeavesAnswer store u s t → written ≡ text u
+      → AnswersUntold room bits s before line (answer_to store) written t after
+  answers_face s t tokens store tree u written reads h leaves is =
+      record { reply = displayed store u; reply_is = evaluated s tokens store tree (displayed store u) reads h; state_is = displayed_leaves store u s t leaves; answer_is = answers_displayed store u; text_is = text_displayed store u written is }
 
-  -- a line that is refused before it is evaluated
-  pub answers_unread : (s t : State) (refusal : Refusal) (written : List ℕ) → IsReplyUnread s.table line (reply_of refusal) → after ≡ before → t ≡ s → written ≡ []
-      → AnswersUntold room bits s before line (answer.Refused refusal) written t after
-  answers_unread s t refusal written h calm same empty = record {
-    reply = reply_of refusal;
-    step = record { reply_is = is_unread h calm; state_is = refused_leaves refusal s t same };
-    answer_is = refl;
-    text_is = empty;
-  }
+  -- a line that cannot be stored
+  pub answers_unstorable : (s : State) (tokens : List Placed) (store : Option (List ℕ)) (t : Tree) (refusal : Refusal) (written : List ℕ) → ReadsAs line tokens store t → IsUnstorable s.table store (reason_of refusal) → after ≡ before → written ≡ []
+      → AnswersUntold room bits s before line (answer.Refused refusal) written s after
+  answers_unstorable s tokens store t refusal written reads h calm empty =
+      record { reply = reply_of refusal; reply_is = is_replied reads.text.short (is_text reads) (cannot_be_stored h calm); state_is = refl; answer_is = refl; text_is = empty }
 
-  pub answers_blank : (s t : State) (written : List ℕ) → IsReplyUnread s.table line blank → after ≡ before → t ≡ s → written ≡ [] → AnswersUntold room bits s before line answer.Blank written t after
-  answers_blank s t written h calm same empty = record {
-    reply = blank;
-    step = record { reply_is = is_unread h calm; state_is = same };
-    answer_is = refl;
-    text_is = empty;
-  }
+  -- a line that asks for nothing that is known
+  pub answers_vain : (s : State) (refusal : Refusal) (written : List ℕ) → AsksInVain line (reason_of refusal) → after ≡ before → written ≡ [] → AnswersUntold room bits s before line (answer.Refused refusal) written s after
+  answers_vain s refusal written h calm empty = record { reply = reply_of refusal; reply_is = asks_in_vain h calm; state_is = refl; answer_is = refl; text_is = empty }
+
+  pub answers_blank : (s : State) (written : List ℕ) → length line ≤ 1024 → is_blank_line line ≡ true → after ≡ before → written ≡ [] → AnswersUntold room bits s before line answer.Blank written s after
+  answers_blank s written short h calm empty = record { reply = blank; reply_is = is_replied short (is_nothing h) (refl, calm); state_is = refl; answer_is = refl; text_is = empty }
 
   -- a command
-  pub answers_command : (s t : State) (given : LineAnswer) (written : List ℕ) → length line ≤ 1024 → is_command line ≡ true → AnswersCommand s before line given written t after → AnswersUntold room bits s before line given written t after
-  answers_command s t given written short is a = record {
-    reply = a.reply;
-    step = record { reply_is = is_commanded short is a.reply_is; state_is = a.state_is };
-    answer_is = a.answer_is;
-    text_is = a.text_is;
-  }
+  pub answers_command : (s t : State) (a : Asked) (given : LineAnswer) (written : List ℕ) → length line ≤ 1024 → IsCommandLine line a → AnswersBy (IsReplyToCommand room bits s before after line a) s given written t
+      → AnswersUntold room bits s before line given written t after
+  answers_command s t a given written short asked h = record { reply = h.reply; reply_is = is_replied short (is_asked asked) h.reply_is; state_is = h.state_is; answer_is = h.answer_is; text_is = h.text_is }
 
   -- a text that is no refusal's is written already
   pub told_other : (s t : State) (given : LineAnswer) (written : List ℕ) → ((r : Refusal) → given ≡ answer.Refused r → ⊥) → AnswersUntold room bits s before line given written t after
       → Answers room bits s before line given written t after
   unfolding text_of
-  told_other s t given written h a = grind arith
+  told_other s t given written h a = record { reply = a.reply; step = record { reply_is = a.reply_is; state_is = a.state_is }; answer_is = a.answer_is; text_is = printed_is given a.reply written h a.text_is a.answer_is }
 
--- ---- what the pool refused
+  pub told_refusal : (s t : State) (refusal : Refusal) (written told : List ℕ) → AnswersUntold room bits s before line (answer.Refused refusal) written t after → Some told ≡ text_of (reply_of refusal)
+      → Answers room bits s before line (answer.Refused refusal) told t after
+  told_refusal s t refusal written told a e = record { reply = a.reply; step = record { reply_is = a.reply_is; state_is = a.state_is }; answer_is = a.answer_is; text_is = e ∙ ap text_of (sym a.answer_is) }
 
 -- ---- the face before it is kept
 

@@ -26,23 +26,25 @@ pub use Rattle.calc_parser.proofs.Sizes.{building_takes_the_size, takes_room}
 pub use Rattle.calc_parser.specs.Building.{building}
 pub use Rattle.calc_parser.specs.Lines.{IsLine, IsLineOver, IsTreeOf}
 pub use Rattle.calc_parser.specs.Outcomes.{IsFaultOf, IsShallow}
-pub use Rattle.calc_session.specs.Answers.{Answers, AnswersCommand, AnswersUntold, ComesTo, CountsRefusal, IsAnswer, IsDisplayOf, IsTextOf, LacksName, Tells, TellsReply, answer_to, refusal_of, refusal_of_evaluation, refusal_of_pool, refusal_to_fill, reply_of}
+pub use Rattle.calc_session.specs.Answers.{Answers, AnswersBy, AnswersUntold, ComesTo, CountsRefusal, IsAnswer, IsDisplayOf, IsTextOf, LacksName, Tells, TellsAs, answer_to, printed, reason_of, refusal_of, refusal_of_evaluation, refusal_of_pool, refusal_to_fill, reply_of}
 pub use Rattle.calc_session.specs.Arguments.{IsMisread, IsNoExpression, ReadsText, bytes_before, forms_a_deep_line, forms_a_store, forms_no_line, is_misread, meets_a_wide_number, meets_no_token}
-pub use Rattle.calc_session.specs.Calculating.{IsReplyToCalculation, IsReplyToExpression, derives, expands, is_no_expression, is_read, made_in, solves}
-pub use Rattle.calc_session.specs.Commanding.{IsReplyToCommand, arms_a_breaker, can_arm, cannot_arm, finds_no_breaker, forgets, has_no_room, is_no_command, is_to_be_drawn, keeps_ans, knows_no_name, tells_the_bytes, tells_the_layout, tells_the_pool}
-pub use Rattle.calc_session.specs.Counting.{AsksForTooMuch, IsCountedBut, LacksDerivativeOf}
+pub use Rattle.calc_session.specs.Asking.{Asks, AsksInVain, Request, commanded, is_asked, is_long, is_no_command, is_no_line, is_nothing, is_text}
+pub use Rattle.calc_session.specs.Calculating.{ExpressionBecomes, IsReplyToExpression, is_no_expression, is_read, made_in}
+pub use Rattle.calc_session.specs.Commanding.{IsReplyToArming, IsReplyToCommand, IsReplyToForgetting, IsTold, arms_a_breaker, finds_no_breaker, forgets, is_to_be_drawn, keeps_ans, knows_no_name, layout_reply, refuses, tells}
+pub use Rattle.calc_session.specs.Counting.{AsksForTooMuch, IsCountedBut, IsKnownOf, LacksBytesFor}
 pub use Rattle.calc_session.specs.Deriving.{IsReplyToDerivative, LacksDerivative, has_none}
 pub use Rattle.calc_session.specs.Drawing.{IsDrawn, IsDrawnInPart, first_rows, lack_in, row_text, rows_text, serial_in, told_at}
 pub use Rattle.calc_session.specs.Enough.{HasBytesFor, HoldsNoSmallTree, IsAnswered, ReadsFilled, of_its_nodes, of_the_tree}
 pub use Rattle.calc_session.specs.Equations.{AreSides, IsSideText, Piece, Pieces, Sides, Splits, all_placed, placed, written, written_all}
-pub use Rattle.calc_session.specs.Evaluations.{HasFittingRationals, IsAnswerTo, IsFitting, IsReduction, IsReplyTo, IsReplyToMade, IsReplyWith, OverflowsAt, Unmade, becomes_too_deep, finds_no_room, has_no_value, holds_its_name, is_answered, is_made, is_not_made, is_shown, is_stored, lacks_bytes, made}
+pub use Rattle.calc_session.specs.Evaluations.{HasFittingRationals, IsAnswerTo, IsFitting, IsReduction, IsReplyToMade, IsReplyWith, OverflowsAt, Unmade, has_no_value, holds_its_name, is_answered, is_made, is_not_made, is_shown, is_stored, lacks_bytes, made}
 pub use Rattle.calc_session.specs.Expanding.{IsReplyToExpansion, LacksExpansionRoom, expansion_text, is_expanded, is_no_polynomial}
 pub use Rattle.calc_session.specs.Forms.{IsLast, IsPlaced, IsSmall, IsSmallForm, form_room, lack_of}
+pub use Rattle.calc_session.specs.Kept.{IsKept, IsReady, seen_of, state_in}
 pub use Rattle.calc_session.specs.Listed.{names_listed}
 pub use Rattle.calc_session.specs.Pools.{after}
 pub use Rattle.calc_session.specs.Ranges.{AreSplit, EndsPiece, IsSplitFault, IsWithin, between, pieces_at, sides_at}
-pub use Rattle.calc_session.specs.Reading.{IsReplyUnread, IsText, ReadsAs, ReadsTree, finds_names_full, has_a_wide_number, has_no_token, is_blank_line, is_long, is_no_line, is_nothing, is_too_deep, stores_to_ans}
-pub use Rattle.calc_session.specs.Replies.{Reply, blank, character_at, circular, command, deep, denominator_text, displayed, drawn, forgot, full, long, not_linear, not_polynomial, number_at, operand_text, refusal_in, report, reported, reserved, shown, stored, too_many, undefined}
+pub use Rattle.calc_session.specs.Reading.{IsText, IsUnstorable, ReadsAs, ReadsTree, finds_names_full, is_ans, is_blank_line}
+pub use Rattle.calc_session.specs.Replies.{Reason, Reply, blank, character_at, circular, command, deep, denominator_text, displayed, drawn, forgot, full, long, not_linear, not_polynomial, number_at, operand_text, refusal_in, refused, report, reported, reserved, shown, stored, too_many, undefined}
 unfoldable pub use Rattle.calc_session.specs.Replies.{text_of}
 pub use Rattle.calc_session.specs.RisingNames.{AreNamesOf, HoldOverSixNames, Includes, IsNameIn, Rises, is_before, names_at}
 pub use Rattle.calc_session.specs.Seen.{Counts, Seen, pool_of}
@@ -51,7 +53,7 @@ pub use Rattle.calc_session.specs.SolutionsMeant.{AsksToSolve, HasPrintedValue, 
 pub use Rattle.calc_session.specs.Solved.{AreSolved, BuildsSide, refusal_to_solve}
 pub use Rattle.calc_session.specs.Solving.{AreUnmade, Become, IsNoEquation, IsReplyToEquations, IsReplyToRead, IsReplyToSolve, IsSolution, ReadsEquation, ReadsSide, are_linear, are_made, are_not_linear, are_not_made, are_not_read, are_not_written, are_read, are_too_many, does_not_fit, equation, first_not_linear, have_too_many_names, is_interrupted, is_linear_equation, is_told, nothing}
 pub use Rattle.calc_session.specs.States.{State, first_state, free_bytes, state_of, trees}
-pub use Rattle.calc_session.specs.Steps.{IsReply, Leaves, LeavesAnswer, LeavesOthers, Step, is_calculated, is_commanded, is_evaluated, is_unread}
+pub use Rattle.calc_session.specs.Steps.{IsReply, IsReplyTo, IsReplyToTree, IsReplyToValue, Leaves, LeavesAnswer, LeavesOthers, Step, asks_in_vain, cannot_be_stored, is_evaluated, is_replied}
 pub use Rattle.calc_session.specs.Telling.{HasFace}
 pub use Rattle.calc_session.specs.declared.answers.LineAnswer.{LineAnswer}
 pub use Rattle.calc_session.specs.declared.answers.Refusal.{Refusal}

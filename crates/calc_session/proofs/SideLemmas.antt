@@ -1,6 +1,6 @@
 -- Lemmas on the sides of equations, as they are read and built.
-use Rattle.std.proofs.Common.{◌≡◌, ℕ, List, [], ◌∷◌, ◌++◌, Some, None, ap, subst, arith}
-use Rattle.calc_session.proofs.Shared.{IsLine, IsLineOver, IsTreeOf, SameLine, one_line, Tree, depth, Placed, bare, AreTokensOf, character_or_all, wide_or_all, one_list, NamedTree, fills, values, Table, Equation, free_of, Gives, tree_of, KeepsRefusals, Stands, forest, IsNoExpression, ReadsText, forms_a_deep_line, forms_a_store, forms_no_line, is_misread, meets_a_wide_number, meets_no_token, made, Reply, BuildsSide, AreUnmade, Become, ReadsSide, equation, nothing}
+use Rattle.std.proofs.Common.{◌≡◌, ℕ, List, [], ◌∷◌, ◌++◌, None, subst, arith}
+use Rattle.calc_session.proofs.Shared.{IsLine, IsTreeOf, Tree, Placed, bare, one_list, NamedTree, fills, values, Table, Equation, free_of, Gives, tree_of, KeepsRefusals, Stands, forest, ReadsText, made, Reason, BuildsSide, AreUnmade, Become, ReadsSide, equation, nothing}
 use Rattle.node_pool.specs.State.{State}
 use Rattle.calc_session.specs.Solving.{later as unmade_later}
 use Rattle.calc_session.proofs.EvaluationLemmas.{gives_told}
@@ -10,29 +10,6 @@ use Rattle.calc_session.proofs.EvaluationLemmas.{gives_told}
 -- the tokens that were cut are the side's
 pub side_line : (before : ℕ) {text : List ℕ} {t u : Tree} {tokens : List Placed} → ReadsSide (record { before = before; text = text }) t → ReadsText text tokens None u → IsTreeOf (bare tokens) t
 side_line before {text = text} {t = t} {tokens = tokens} (ts, r) s = (None, subst (λ (us : List Placed). IsLine (bare us) None t) (one_list text ts tokens r.cut s.cut) r.line-is)
-
--- what reads as an expression is none that does not
-pub no_expression_reads : (before : ℕ) {text : List ℕ} {t : Tree} {reply : Reply} (n : ℕ) → ReadsSide (record { before = before; text = text }) t → IsNoExpression n text reply → ⊥
-no_expression_reads before {text = text} {t = t} n (ts, r) h = by h
-  where
-    its_line : (us : List Placed) → AreTokensOf us text → IsLine (bare us) None t
-    its_line us cut = subst (λ (vs : List Placed). IsLine (bare vs) None t) (one_list text ts us r.cut cut) r.line-is
-
-    deep : (us : List Placed) → AreTokensOf us text → IsLineOver 64 (bare us) → ⊥
-    deep us cut over =
-        let same : SameLine over.store None over.tree t = one_line (bare us) over.store None over.tree t over.line (its_line us cut) in
-        let shallow = r.shallow in
-        omega (arith, over.over, shallow, ap depth same.trees)
-
-    clash : (x : List ℕ) → Some x ≡ None → ⊥
-    clash x e = cc
-
-    by : {reply : Reply} → IsNoExpression n text reply → ⊥
-    by (is_misread (meets_no_token {at} f)) = character_or_all text at ts f r.cut
-    by (is_misread (meets_a_wide_number {at} f)) = wide_or_all text at ts f r.cut
-    by (is_misread (forms_no_line {tokens} cut denied)) = denied None t (its_line tokens cut)
-    by (is_misread (forms_a_deep_line {tokens} cut over)) = deep tokens cut over
-    by (forms_a_store {tokens} {x} {t = u} s) = clash x (one_line (bare tokens) (Some x) None u t s.line-is (its_line tokens s.cut)).stores
 
 -- ---- they are built
 
@@ -46,6 +23,6 @@ become_more nothing e between behind l r p q = equation p q nothing
 become_more (equation a b rest) e between behind l r p q = equation a b (become_more rest e between behind l r p q)
 
 -- what is not made behind those that are
-pub unmade_behind : {vs : List NamedTree} {free left : ℕ} {es fs gs : List Equation} {reply : Reply} → Become vs free es left fs → AreUnmade vs left gs reply → AreUnmade vs free (es ++ gs) reply
+pub unmade_behind : {vs : List NamedTree} {free left : ℕ} {es fs gs : List Equation} {reason : Reason} → Become vs free es left fs → AreUnmade vs left gs reason → AreUnmade vs free (es ++ gs) reason
 unmade_behind nothing h = h
 unmade_behind (equation a b rest) h = unmade_later a b (unmade_behind rest h)

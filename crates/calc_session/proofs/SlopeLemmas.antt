@@ -1,114 +1,15 @@
 -- What the answers to lines that ask for a derivative mean, and when there is one.
 use Rattle.std.proofs.Common.{◌≡◌, ◌∙◌, ℕ, zero, suc, ◌+◌, ◌*◌, ◌-◌, ◌≤◌, ◌<◌, List, [], ◌∷◌, length, codes, Bool, true, false, cond, nat_le, nat_lt, Option, None, Result, Ok, Err, ◌⊎◌, inl, inr, refl, sym, ap, subst, arith}
-use Rattle.calc_session.proofs.Shared.{leb-true, reduced_face_means, Reduces, once, face, text, building, building_takes_the_size, takes_room, Tree, undef, depth, is_undef, nodes, root_size, size, symbol, Placed, HasDerivative, derivative, NamedTree, Filling, lacks, too_deep, fills, filling, filling_one, Full, MayExceed, TripsWithin, IsReplyToCalculation, IsReplyToExpression, derives, solves, expands, made_in, IsReplyToDerivative, has_none, IsReduction, lacks_bytes, is_answered, IsReplyWith, has_no_value, holds_its_name, is_shown, is_stored, made, Reply, long, report, reported, State, free_bytes, bytes_of_replaced, occurrences, replaced, replacing, diff, solve, expand, IsCommandLine, ReadsText, IsReply}
+use Rattle.calc_session.proofs.Shared.{leb-true, reduced_face_means, Reduces, face, text, building, building_takes_the_size, takes_room, Tree, undef, depth, is_undef, nodes, root_size, size, symbol, HasDerivative, derivative, NamedTree, Filling, lacks, too_deep, fills, filling, filling_one, Full, MayExceed, TripsWithin, IsReplyToDerivative, has_none, IsReduction, lacks_bytes, is_answered, IsReplyWith, has_no_value, holds_its_name, is_shown, is_stored, made, Reply, report, reported, State, free_bytes, bytes_of_replaced, occurrences, replaced, replacing, diff, IsCommandLine, ExpressionBecomes, IsReply, trees, values}
 use Rattle.breakers.specs.State.{State as Breaker}
 use Rattle.dual_diff.proofs.Derived.{slope_means}
 use Rattle.calc_session.specs.Evaluations.{is_interrupted, does_not_fit}
 use Rattle.calc_session.specs.Slopes.{TellsSlope, TellsNoSlope, TellsDerivative}
 use Rattle.calc_session.proofs.MeaningLemmas.{nothing_meant, undef_is}
-use Rattle.calc_session.proofs.AskedLines.{calculation}
+use Rattle.calc_session.proofs.AskedLines.{commanded_report, commanded_reply}
 use Rattle.calc_session.proofs.ExpressionReplies.{reply_to_text, reply_to_tree}
 use Rattle.calc_session.proofs.TextLemmas.{no_store}
 use Rattle.calc_session.specs.Deriving as derived
-
--- ---- the replies to a line that asks for a derivative
-
-same_name : (x y a b : List ℕ) → diff x a ≡ diff y b → x ≡ y
-same_name x y a b e = cc
-
-same_text : (x y a b : List ℕ) → diff x a ≡ diff y b → a ≡ b
-same_text x y a b e = cc
-
-module _ (room bits : Option (Tree → ℕ)) (old : State) (before checked : List Breaker) (line x behind : List ℕ) (asked : IsCommandLine line (diff x behind)) where
-  no_equations : (y a : List ℕ) → solve y ≡ diff x a → ⊥
-  no_equations y a e = cc
-
-  no_expansion : (y a : List ℕ) → expand y ≡ diff x a → ⊥
-  no_expansion y a e = cc
-
-  from_calculation : (reply : Reply) → IsReplyToCalculation room bits old before checked line reply → IsReplyToExpression old before checked line behind (IsReplyToDerivative room bits (free_bytes old) before checked x) reply
-  from_calculation reply (derives {x = y} {text = other} also h) =
-      let same = once line (diff y other) (diff x behind) also asked in
-      subst (λ z. IsReplyToExpression old before checked line behind (IsReplyToDerivative room bits (free_bytes old) before checked z) reply) (same_name y x other behind same)
-      (subst (λ o. IsReplyToExpression old before checked line o (IsReplyToDerivative room bits (free_bytes old) before checked y) reply) (same_text y x other behind same) h)
-  from_calculation reply (solves {text = other} also h) = absurd (no_equations other behind (once line (solve other) (diff x behind) also asked))
-  from_calculation reply (expands {text = other} also h) = absurd (no_expansion other behind (once line (expand other) (diff x behind) also asked))
-
-  pub calculated : (reply : Reply) → (1024 < length line → reply ≡ long → ⊥) → IsReply room bits old before checked line reply
-      → IsReplyToExpression old before checked line behind (IsReplyToDerivative room bits (free_bytes old) before checked x) reply
-  calculated reply short h = from_calculation reply (calculation room bits old before checked line (diff x behind) asked refl reply short h)
-
-  -- ---- what a report tells
-
-  report_is : (a b : List ℕ) → report a ≡ report b → b ≡ a
-  report_is a b e = cc
-
-  told_answer : (answer : Tree) (store : Option (List ℕ)) (reply : Reply) (told : List ℕ) → IsReplyWith answer store reply → reported reply ≡ report told
-      → ((is_undef answer ≡ false) × (told ≡ text (face answer))) ⊎ ((answer ≡ undef) × (told ≡ codes "undef"))
-  told_answer answer store reply told (has_no_value d) e = inr (undef_is answer d, report_is (codes "undef") told e)
-  told_answer answer store reply told (holds_its_name d m) e = absurd cc
-  told_answer answer store reply told (is_shown d) e = inl (d, report_is (text (face answer)) told e)
-  told_answer answer store reply told (is_stored d m) e = inl (d, report_is (text (face answer)) told e)
-
-  told_slope : (t answer : Tree) (told : List ℕ) → Reduces (derivative x t) answer → ((is_undef answer ≡ false) × (told ≡ text (face answer))) ⊎ ((answer ≡ undef) × (told ≡ codes "undef")) → TellsSlope x t told ⊎ TellsNoSlope x t told
-  told_slope t answer told r (inl (defined, is)) = inl (record {
-    answer = answer;
-    reduced = r.reduced;
-    defined = defined;
-    told_is = is;
-    slopes = λ f a p h. let m = r.meanings.means f a p.slope (slope_means x f t p h) in (m, reduced_face_means answer r.reduced f p.slope m);
-  })
-  told_slope t answer told r (inr (same, is)) = inr (record {
-    told_is = is;
-    none = λ f a p h. nothing_meant (derivative x t) (subst (Reduces (derivative x t)) same r) f a p.slope (slope_means x f t p h);
-  })
-
-  told_reduced : (t : Tree) (store : Option (List ℕ)) (reply : Reply) (told : List ℕ) → IsReduction room bits (free_bytes old) (derivative x t) before checked store reply → reported reply ≡ report told → TellsSlope x t told ⊎ TellsNoSlope x t told
-  told_reduced t store reply told (is_interrupted h) e = absurd cc
-  told_reduced t store reply told (does_not_fit o h) e = absurd cc
-  told_reduced t store reply told (lacks_bytes h) e = absurd cc
-  told_reduced t store reply told (is_answered {answer = r} c a w) e = told_slope t r told a.reduces (told_answer r store reply told w e)
-
-  told_tree : (left : ℕ) (t : Tree) (reply : Reply) (told : List ℕ) → IsReplyToDerivative room bits (free_bytes old) before checked x left t reply → reply ≡ report told → TellsSlope x t told ⊎ TellsNoSlope x t told
-  told_tree left t reply told (has_none h same) e = absurd cc
-  told_tree left t reply told (derived.lacks_bytes l same) e = absurd cc
-  told_tree left t reply told (derived.is_reduced {reply = r} d l h) e = told_reduced t None r told h e
-
-  report_long : (told : List ℕ) → report told ≡ long → ⊥
-  report_long told e = cc
-
-  pub tells_derivative : (told : List ℕ) → IsReply room bits old before checked line (report told) → TellsDerivative old line x told
-  tells_derivative told h =
-      let read = reply_to_text (report told) told (calculated (report told) (λ e k. report_long told k) h) refl in
-      record {
-        tree = read.becomes;
-        becomes = record { text = behind; asks = asked; becomes = record { tokens = read.tokens; tree = read.tree; reads = read.reads; left = read.left; is_made = read.is_made } };
-        tells = told_tree read.left read.becomes (report told) told read.reply_is refl;
-      }
-
-  -- ---- where nothing is lacking
-
-  module _ {tokens : List Placed} {tree t : Tree} {left : ℕ} (reads : ReadsText behind tokens None tree) (is : made_in old tree ≡ fills left t) where
-    told_with : (answer : Tree) (store : Option (List ℕ)) (reply : Reply) → store ≡ None → IsReplyWith answer store reply → (told : List ℕ) × (reported reply ≡ report told)
-    told_with answer store reply e (has_no_value d) = (codes "undef", refl)
-    told_with answer store reply e (holds_its_name {x = y} d m) = absurd (no_store y (sym e))
-    told_with answer store reply e (is_shown d) = (text (face answer), refl)
-    told_with answer store reply e (is_stored d m) = (text (face answer), refl)
-
-    module _ (derivable : HasDerivative x t) (small : size t + size (derivative x t) ≤ free_bytes old) (roomy : ¬ (MayExceed room (derivative x t) (free_bytes old))) (narrow : ¬ (MayExceed bits (derivative x t) 124)) (calm : (place : ℕ) → ¬ (TripsWithin (nodes (derivative x t)) before checked place)) (all : left + size t ≡ free_bytes old) where
-      answered : (store : Option (List ℕ)) (reply : Reply) → store ≡ None → IsReduction room bits (free_bytes old) (derivative x t) before checked store reply → (told : List ℕ) × (reported reply ≡ report told)
-      answered store reply e (is_interrupted {by = by} h) = absurd (calm by h)
-      answered store reply e (does_not_fit o h) = absurd (narrow h.beyond_bits)
-      answered store reply e (lacks_bytes h) = absurd (roomy h.beyond_room)
-      answered store reply e (is_answered {answer = r} c a w) = told_with r store reply e w
-
-      from_tree : (reply : Reply) → IsReplyToDerivative room bits (free_bytes old) before checked x left t reply → (told : List ℕ) × (reply ≡ report told)
-      from_tree reply (has_none n same) = absurd (n derivable)
-      from_tree reply (derived.lacks_bytes l same) = absurd (let short = l.short in omega (arith, short, small, all))
-      from_tree reply (derived.is_reduced {reply = r} d l h) = answered None r refl h
-
-      pub is_told : (reply : Reply) → IsReplyToExpression old before checked line behind (IsReplyToDerivative room bits (free_bytes old) before checked x) reply → (told : List ℕ) × (reply ≡ report told)
-      is_told reply h = from_tree reply (reply_to_tree reads is reply h)
 
 -- ---- the bytes that are left of those that were free
 
@@ -169,3 +70,78 @@ made_left free vs t left u e = by (building free t) refl e
     by : (r : Result ℕ Full) → building free t ≡ r → elim r [ Err f ↦ lacks f | Ok n ↦ filling n vs t ] ≡ fills left u → left + size u ≡ free
     by (Err f) b k = absurd cc
     by (Ok n) b k = let rest = filled_all vs n t left u k in omega (arith, built_left free t n b, rest)
+
+-- ---- the replies to a line that asks for a derivative
+
+module _ (room bits : Option (Tree → ℕ)) (old : State) (before checked : List Breaker) (line x behind : List ℕ) (asked : IsCommandLine line (diff x behind)) where
+  -- ---- what a report tells
+
+  report_is : (a b : List ℕ) → report a ≡ report b → b ≡ a
+  report_is a b e = cc
+
+  told_answer : (answer : Tree) (store : Option (List ℕ)) (reply : Reply) (told : List ℕ) → IsReplyWith answer store reply → reported reply ≡ report told
+      → ((is_undef answer ≡ false) × (told ≡ text (face answer))) ⊎ ((answer ≡ undef) × (told ≡ codes "undef"))
+  told_answer answer store reply told (has_no_value d) e = inr (undef_is answer d, report_is (codes "undef") told e)
+  told_answer answer store reply told (holds_its_name d m) e = absurd cc
+  told_answer answer store reply told (is_shown d) e = inl (d, report_is (text (face answer)) told e)
+  told_answer answer store reply told (is_stored d m) e = inl (d, report_is (text (face answer)) told e)
+
+  told_slope : (t answer : Tree) (told : List ℕ) → Reduces (derivative x t) answer → ((is_undef answer ≡ false) × (told ≡ text (face answer))) ⊎ ((answer ≡ undef) × (told ≡ codes "undef")) → TellsSlope x t told ⊎ TellsNoSlope x t told
+  told_slope t answer told r (inl (defined, is)) = inl (record {
+    answer = answer;
+    reduced = r.reduced;
+    defined = defined;
+    told_is = is;
+    slopes = λ f a p h. let m = r.meanings.means f a p.slope (slope_means x f t p h) in (m, reduced_face_means answer r.reduced f p.slope m);
+  })
+  told_slope t answer told r (inr (same, is)) = inr (record {
+    told_is = is;
+    none = λ f a p h. nothing_meant (derivative x t) (subst (Reduces (derivative x t)) same r) f a p.slope (slope_means x f t p h);
+  })
+
+  told_reduced : (t : Tree) (store : Option (List ℕ)) (reply : Reply) (told : List ℕ) → IsReduction room bits (free_bytes old) (derivative x t) before checked store reply → reported reply ≡ report told → TellsSlope x t told ⊎ TellsNoSlope x t told
+  told_reduced t store reply told (is_interrupted h) e = absurd cc
+  told_reduced t store reply told (does_not_fit o h) e = absurd cc
+  told_reduced t store reply told (lacks_bytes h) e = absurd cc
+  told_reduced t store reply told (is_answered {answer = r} c a w) e = told_slope t r told a.reduces (told_answer r store reply told w e)
+
+  told_tree : (left : ℕ) (t : Tree) (reply : Reply) (told : List ℕ) → IsReplyToDerivative room bits (free_bytes old) before checked x left t reply → reply ≡ report told → TellsSlope x t told ⊎ TellsNoSlope x t told
+  told_tree left t reply told (has_none h same) e = absurd cc
+  told_tree left t reply told (derived.lacks_bytes l same) e = absurd cc
+  told_tree left t reply told (derived.is_reduced {reply = r} d l h) e = told_reduced t None r told h e
+
+  pub tells_derivative : (told : List ℕ) → IsReply room bits old before checked line (report told) → TellsDerivative old line x told
+  tells_derivative told h =
+      let read = reply_to_text (commanded_report room bits old before checked line (diff x behind) refl asked told h) in
+      record {
+        tree = read.tree;
+        becomes = record { text = behind; asks = asked; becomes = read.becomes };
+        tells = told_tree read.becomes.left read.tree (report told) told read.reply_is refl;
+      }
+
+  -- ---- where nothing is lacking
+
+  module _ {t : Tree} (b : ExpressionBecomes old behind t) where
+    told_with : (answer : Tree) (store : Option (List ℕ)) (reply : Reply) → store ≡ None → IsReplyWith answer store reply → (told : List ℕ) × (reported reply ≡ report told)
+    told_with answer store reply e (has_no_value d) = (codes "undef", refl)
+    told_with answer store reply e (holds_its_name {x = y} d m) = absurd (no_store y (sym e))
+    told_with answer store reply e (is_shown d) = (text (face answer), refl)
+    told_with answer store reply e (is_stored d m) = (text (face answer), refl)
+
+    module _ (derivable : HasDerivative x t) (small : size t + size (derivative x t) ≤ free_bytes old) (roomy : ¬ (MayExceed room (derivative x t) (free_bytes old))) (narrow : ¬ (MayExceed bits (derivative x t) 124)) (calm : (place : ℕ) → ¬ (TripsWithin (nodes (derivative x t)) before checked place)) where
+      all : b.left + size t ≡ free_bytes old
+      all = made_left (free_bytes old) (values old.table (trees old)) b.tree b.left t b.is_made
+
+      answered : (store : Option (List ℕ)) (reply : Reply) → store ≡ None → IsReduction room bits (free_bytes old) (derivative x t) before checked store reply → (told : List ℕ) × (reported reply ≡ report told)
+      answered store reply e (is_interrupted {by = by} h) = absurd (calm by h)
+      answered store reply e (does_not_fit o h) = absurd (narrow h.beyond_bits)
+      answered store reply e (lacks_bytes h) = absurd (roomy h.beyond_room)
+      answered store reply e (is_answered {answer = r} c a w) = told_with r store reply e w
+
+      from_tree : (reply : Reply) → IsReplyToDerivative room bits (free_bytes old) before checked x b.left t reply → (told : List ℕ) × (reply ≡ report told)
+      from_tree reply (has_none n same) = absurd (n derivable)
+      from_tree reply (derived.lacks_bytes l same) = absurd (let short = l.short in omega (arith, short, small, all))
+      from_tree reply (derived.is_reduced {reply = r} d l h) = answered None r refl h
+
+      pub is_told : length line ≤ 1024 → (reply : Reply) → IsReply room bits old before checked line reply → (told : List ℕ) × (reply ≡ report told)
+      is_told short reply h = from_tree reply (reply_to_tree b reply (commanded_reply room bits old before checked line (diff x behind) refl asked short reply h))

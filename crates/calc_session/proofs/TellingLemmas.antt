@@ -1,8 +1,9 @@
 -- Lemmas on what is told of an evaluation.
-use Rattle.std.proofs.Common.{arith, ◌≡◌, ◌∙◌, ◌↔◌, ℕ, List, codes, Some, None, refl, sym, ap, subst}
-use Rattle.calc_session.proofs.Shared.{IsWritable, text, Table, Forest, Stands, forest, given_told, LineAnswer, Refusal, Evaluation, ComesTo, TellsReply, Tells, refusal_of_evaluation, refusal_of_pool, reply_of, Reply, report, reported, text_of, state_of, HasFace}
+use Rattle.std.proofs.Common.{arith, ◌≡◌, ◌+◌, ◌↔◌, ℕ, List, Option, None, refl, sym, subst}
+use Rattle.calc_session.proofs.Shared.{Asked, IsWritable, Tree, size, Placed, fills, values, free_of, Table, Forest, Gives, tree_of, without_root, Stands, forest, given_rest, given_told, LineAnswer, Refusal, Evaluation, AnswersBy, ComesTo, TellsAs, Tells, refusal_of_evaluation, refusal_of_pool, reply_of, ReadsText, IsReplyToCommand, IsReplyToExpression, IsTold, tells, refuses, is_read, is_made, made, Reply, report, reported, text_of, State, state_of, HasFace}
 use Rattle.node_pool.specs.State.{State as PoolState}
-use Rattle.calc_session.proofs.SessionLemmas.{refused_leaves}
+use Rattle.breakers.specs.State.{State as Breaker}
+use Rattle.calc_session.proofs.EvaluationLemmas.{comes_as, free_before}
 use Rattle.calc_session.specs.declared.answers.LineAnswer.TheVariants as answer
 use Rattle.calc_session.specs.declared.evaluating.Evaluation.TheVariants as evaluation
 
@@ -17,17 +18,32 @@ as_reported Is r is = subst Is (sym (reported_refusal r)) is
 pub has_face : (Is : Reply → Type 0) (others f : Forest) (e : Evaluation) → ComesTo Is IsWritable None others f e → HasFace f e
 has_face Is others f e h = grind arith
 
-pub told_reply : (Is : Reply → Type 0) (s : PoolState) (others : Forest) (e : Evaluation) (given : LineAnswer) (written : List ℕ) → ComesTo (λ r. Is (reported r)) IsWritable None others (forest s) e → Tells s e given written → TellsReply Is given written
-unfolding text_of
-told_reply Is s others (evaluation.Face h) given written (t, is, w, g) (a, b) =
-    subst (λ x. TellsReply Is x written) (sym a) (record { reply = report (text t); reply_is = is; leaves = λ u. refl; answer_is = (text t, refl); text_is = ap Some (b ∙ ap text (given_told g)) })
-told_reply Is s others evaluation.Undefined given written is (a, b) =
-    subst (λ x. TellsReply Is x written) (sym a) (record { reply = report (codes "undef"); reply_is = is; leaves = λ u. refl; answer_is = (codes "undef", refl); text_is = ap Some b })
-told_reply Is s others (evaluation.Refused r) given written is (a, b) =
-    subst (λ x. TellsReply Is x written) (sym a) (record { reply = reply_of r; reply_is = subst Is (reported_refusal r) is; leaves = λ u. refused_leaves r u u refl; answer_is = refl; text_is = b })
+-- what is told of an evaluation is told of its tree
+pub told_as : (Is : Reply → Type 0) (s : PoolState) (others : Forest) (e : Evaluation) (given : LineAnswer) (written : List ℕ) → ComesTo (λ r. Is (reported r)) IsWritable None others (forest s) e → Tells s e given written → TellsAs Is given written
+told_as Is s others (evaluation.Face h) given written (t, is, w, g) (a, b) = rw (a, b, given_told g) is
+told_as Is s others evaluation.Undefined given written is (a, b) = rw (a, b) is
+told_as Is s others (evaluation.Refused r) given written is (a, b) = rw (a, b) (subst Is (reported_refusal r) is, refl)
 
-pub tells_as : (Is Now : Reply → Type 0) {given : LineAnswer} {written : List ℕ} → ((r : Reply) → Is r → Now r) → TellsReply Is given written → TellsReply Now given written
-tells_as Is Now to h = record { reply = h.reply; reply_is = to h.reply h.reply_is; leaves = h.leaves; answer_is = h.answer_is; text_is = h.text_is }
+pub tells_as : (Is Now : Reply → Type 0) (given : LineAnswer) (written : List ℕ) → ((r : Reply) → Is r → Now r) → TellsAs Is given written → TellsAs Now given written
+tells_as Is Now answer.Report written to h = to (report written) h
+tells_as Is Now (answer.Refused r) written to h = (to (reply_of r) h.0, h.1)
+tells_as Is Now answer.Blank written to h = absurd h
+tells_as Is Now answer.Shown written to h = absurd h
+tells_as Is Now answer.Stored written to h = absurd h
+tells_as Is Now answer.Undef written to h = absurd h
+tells_as Is Now answer.Draw written to h = absurd h
+
+-- a command is answered by what is told
+pub told_command : (room bits : Option (Tree → ℕ)) (s t : State) (before after : List Breaker) (line : List ℕ) (a : Asked) (given : LineAnswer) (written : List ℕ) → t ≡ s → TellsAs (IsTold room bits s before after line a) given written
+    → AnswersBy (IsReplyToCommand room bits s before after line a) s given written t
+unfolding text_of
+told_command room bits s t before after line a answer.Report written same h = record { reply = report written; reply_is = tells h; state_is = same; answer_is = (written, refl); text_is = refl }
+told_command room bits s t before after line a (answer.Refused r) written same h = record { reply = reply_of r; reply_is = refuses h.0; state_is = same; answer_is = refl; text_is = h.1 }
+told_command room bits s t before after line a answer.Blank written same h = absurd h
+told_command room bits s t before after line a answer.Shown written same h = absurd h
+told_command room bits s t before after line a answer.Stored written same h = absurd h
+told_command room bits s t before after line a answer.Undef written same h = absurd h
+told_command room bits s t before after line a answer.Draw written same h = absurd h
 
 -- ---- interruptions
 
@@ -43,3 +59,15 @@ told_lack s e given written h = grind arith
 
 pub same_again : (s t : PoolState) (table : Table) → Stands s → Stands t → t.size ≡ s.size → forest t ≡ forest s → state_of t table ≡ state_of s table
 same_again s t table h k e f = grind arith
+
+-- ---- what is calculated of an expression
+
+module _ (rule : ℕ → List Breaker → List Breaker → ℕ → Tree → Reply → Type 0) (before after : List Breaker) (table : Table) (place : ℕ) (text : List ℕ) where
+  -- once it is read, built and filled
+  pub comes_calculated : (old mid : PoolState) {i : ℕ} {P : Tree → Type 0} (new : Forest) {tokens : List Placed} {t : Tree} (e : Evaluation) → Stands old → Stands mid → mid.size ≡ old.size → Gives (forest old) (forest mid) i P
+      → ReadsText text tokens None t → made (free_of old) (values table (forest old)) t ≡ fills (free_of mid) (tree_of i mid)
+      → ComesTo (λ r. rule (free_of mid + size (tree_of i mid)) before after (free_of mid) (tree_of i mid) (reported r)) IsWritable None (without_root i (forest mid)) new e
+      → ComesTo (λ r. IsReplyToExpression (state_of old table) before after place text (rule (free_of old) before after) (reported r)) IsWritable None (forest old) new e
+  comes_calculated old mid {i} new e st st' same g reads is h =
+      comes_as {Now = λ r. IsReplyToExpression (state_of old table) before after place text (rule (free_of old) before after) (reported r)} None new e
+      (λ r m. is_read reads (is_made is (subst (λ n. rule n before after (free_of mid) (tree_of i mid) (reported r)) (free_before st st' same g) m))) (λ v w. w) (given_rest g) h

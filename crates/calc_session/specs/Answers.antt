@@ -23,28 +23,30 @@ use Rattle.calc_session.specs.declared.answers.LineAnswer.{LineAnswer}
 use Rattle.calc_session.specs.declared.answers.LineAnswer.TheVariants.{Blank, Shown, Stored, Undef, Report, Draw, Refused}
 use Rattle.calc_session.specs.declared.evaluating.Evaluation.{Evaluation}
 use Rattle.calc_session.specs.declared.evaluating.Evaluation.TheVariants as evaluation
-use Rattle.calc_session.specs.Commanding.{IsReplyToCommand}
-use Rattle.calc_session.specs.Replies.{Reply, blank, shown, stored, undefined, report, forgot, drawn, long, character_at, number_at, syntax, deep, reserved, names_full, full, overflow, interrupted, circular, command, not_polynomial, no_derivative, not_linear, too_many, displayed, text_of, refusal_in}
+use Rattle.calc_session.specs.Replies.{Reason, Reply, blank, shown, stored, undefined, report, forgot, drawn, refused, long, character_at, number_at, syntax, deep, reserved, names_full, full, overflow, interrupted, circular, command, not_polynomial, no_derivative, not_linear, too_many, displayed, text_of, refusal_in}
 use Rattle.calc_session.specs.States.{State}
-use Rattle.calc_session.specs.Steps.{Leaves, Step}
+use Rattle.calc_session.specs.Steps.{IsReply, Leaves, Step}
+
+abbrev pub reason_of : Refusal → Reason
+reason_of Long = long
+reason_of (Character at) = character_at at
+reason_of (Number at) = number_at at
+reason_of Syntax = syntax
+reason_of Deep = deep
+reason_of Reserved = reserved
+reason_of NamesFull = names_full
+reason_of (Full needed free) = full (record { needed = needed; free = free })
+reason_of (Overflow op a b) = overflow (operation_of op) (value_of a) (value_of b)
+reason_of (Interrupted by) = interrupted by
+reason_of (Circular name) = circular (name_of name)
+reason_of Command = command
+reason_of NotPolynomial = not_polynomial
+reason_of NoDerivative = no_derivative
+reason_of (NotLinear equation) = not_linear equation
+reason_of TooMany = too_many
 
 abbrev pub reply_of : Refusal → Reply
-reply_of Long = long
-reply_of (Character at) = character_at at
-reply_of (Number at) = number_at at
-reply_of Syntax = syntax
-reply_of Deep = deep
-reply_of Reserved = reserved
-reply_of NamesFull = names_full
-reply_of (Full needed free) = full (record { needed = needed; free = free })
-reply_of (Overflow op a b) = overflow (operation_of op) (value_of a) (value_of b)
-reply_of (Interrupted by) = interrupted by
-reply_of (Circular name) = circular (name_of name)
-reply_of Command = command
-reply_of NotPolynomial = not_polynomial
-reply_of NoDerivative = no_derivative
-reply_of (NotLinear equation) = not_linear equation
-reply_of TooMany = too_many
+reply_of refusal = refused (reason_of refusal)
 
 abbrev pub number_of : Refusal → ℕ
 number_of Long = 1
@@ -87,7 +89,7 @@ answer_to (Some x) = Stored
 
 -- the refusal of the pool that an answer passes on
 abbrev pub refusal_of_pool : LineAnswer → Option PoolFull
-refusal_of_pool (Refused refusal) = refusal_in (reply_of refusal)
+refusal_of_pool (Refused refusal) = refusal_in (reason_of refusal)
 refusal_of_pool answer = None
 
 -- what is printed of an answer and its text
@@ -110,12 +112,17 @@ IsTextOf Draw written reply = written ≡ []
 IsTextOf (Refused refusal) written reply = written ≡ []
 IsTextOf answer written reply = Some written ≡ text_of reply
 
--- the same, but that the text of a refusal is still to be written
-pub record AnswersUntold (room bits : Option (Tree → ℕ)) (old : State) (before : List Breaker) (line : List ℕ) (answer : LineAnswer) (text : List ℕ) (new : State) (after : List Breaker) : Type 0 where
+-- The answer and its text stand for a reply among these, which leaves a state; the text of a refusal is still to be written.
+pub record AnswersBy (Is : Reply → Type 0) (old : State) (answer : LineAnswer) (text : List ℕ) (new : State) : Type 0 where
   pub reply : Reply
-  pub step : Step room bits old before line reply new after
+  pub reply_is : Is reply
+  pub state_is : Leaves reply old new
   pub answer_is : IsAnswer answer reply
   pub text_is : IsTextOf answer text reply
+
+-- a line is answered so
+abbrev pub AnswersUntold : (room bits : Option (Tree → ℕ)) → State → List Breaker → List ℕ → LineAnswer → List ℕ → State → List Breaker → Type 0
+AnswersUntold room bits old before line answer text new after = AnswersBy (IsReply room bits old before after line) old answer text new
 
 -- what is told of an evaluation whose tree is shown and not kept: its text, or `undef`, or nothing yet where it is refused
 abbrev pub Tells : PoolState → Evaluation → LineAnswer → List ℕ → Type 0
@@ -123,21 +130,11 @@ Tells s (evaluation.Face h) answer written = (answer ≡ Report) × (written ≡
 Tells s evaluation.Undefined answer written = (answer ≡ Report) × (written ≡ codes "undef")
 Tells s (evaluation.Refused refusal) answer written = (answer ≡ Refused refusal) × (written ≡ [])
 
--- the answer and its text are those of a reply among these, which leaves all as it was
-pub record TellsReply (IsReply : Reply → Type 0) (answer : LineAnswer) (written : List ℕ) : Type 0 where
-  pub reply : Reply
-  pub reply_is : IsReply reply
-  pub leaves : (s : State) → Leaves reply s s
-  pub answer_is : IsAnswer answer reply
-  pub text_is : IsTextOf answer written reply
-
--- the same of a command line
-pub record AnswersCommand (old : State) (before : List Breaker) (line : List ℕ) (answer : LineAnswer) (text : List ℕ) (new : State) (after : List Breaker) : Type 0 where
-  pub reply : Reply
-  pub reply_is : IsReplyToCommand old before after line reply
-  pub state_is : Leaves reply old new
-  pub answer_is : IsAnswer answer reply
-  pub text_is : IsTextOf answer text reply
+-- among these replies there is the report of what is written, or the refusal, of which no text is written yet
+abbrev pub TellsAs : (Reply → Type 0) → LineAnswer → List ℕ → Type 0
+TellsAs Is Report written = Is (report written)
+TellsAs Is (Refused refusal) written = Is (reply_of refusal) × (written ≡ [])
+TellsAs Is answer written = ⊥
 
 -- ---- evaluations
 
@@ -160,7 +157,7 @@ ComesTo Is Fits store others new (evaluation.Refused refusal) = Is (reply_of ref
 
 -- the refusal of the pool that it passes on
 abbrev pub refusal_of_evaluation : Evaluation → Option PoolFull
-refusal_of_evaluation (evaluation.Refused refusal) = refusal_in (reply_of refusal)
+refusal_of_evaluation (evaluation.Refused refusal) = refusal_in (reason_of refusal)
 refusal_of_evaluation e = None
 
 -- a fact of an evaluation that shows nothing

@@ -4,7 +4,7 @@ use Rattle.calc_terms.specs.Trees.{Tree, depth}
 use Rattle.calc_tokens.specs.Placed.{Placed, bare}
 use Rattle.calc_tokens.specs.Scanned.{AreTokensOf, IsFirstCharacter, IsFirstWide}
 use Rattle.calc_parser.specs.Lines.{IsLine, IsNoLine, IsLineOver}
-use Rattle.calc_session.specs.Replies.{Reply, character_at, number_at, syntax, deep, command}
+use Rattle.calc_session.specs.Replies.{Reason, character_at, number_at, syntax, deep, command}
 
 -- how many bytes of a line stand before the text at its end
 abbrev pub bytes_before : List ℕ → List ℕ → ℕ
@@ -16,14 +16,14 @@ pub record ReadsText (text : List ℕ) (tokens : List Placed) (store : Option (L
   pub line-is : IsLine (bare tokens) store t
   pub shallow : depth t ≤ 64
 
--- the replies to a text that is not read, where so many bytes of the line stand before it: places are those in the line
-pub data IsMisread (before : ℕ) (text : List ℕ) : Reply → Type 0 where
+-- why a text is not read, where so many bytes of the line stand before it: places are those in the line
+pub data IsMisread (before : ℕ) (text : List ℕ) : Reason → Type 0 where
   meets_no_token : {at : ℕ} → IsFirstCharacter text at → IsMisread before text (character_at (before + at))
   meets_a_wide_number : {at : ℕ} → IsFirstWide text at → IsMisread before text (number_at (before + at))
   forms_no_line : {tokens : List Placed} → AreTokensOf tokens text → IsNoLine (bare tokens) → IsMisread before text syntax
   forms_a_deep_line : {tokens : List Placed} → AreTokensOf tokens text → IsLineOver 64 (bare tokens) → IsMisread before text deep
 
--- the replies to a text that is no expression: it is not read, or it is a store
-pub data IsNoExpression (before : ℕ) (text : List ℕ) : Reply → Type 0 where
-  is_misread : {reply : Reply} → IsMisread before text reply → IsNoExpression before text reply
+-- why a text is no expression: it is not read, or it is a store
+pub data IsNoExpression (before : ℕ) (text : List ℕ) : Reason → Type 0 where
+  is_misread : {reason : Reason} → IsMisread before text reason → IsNoExpression before text reason
   forms_a_store : {tokens : List Placed} {x : List ℕ} {t : Tree} → ReadsText text tokens (Some x) t → IsNoExpression before text command

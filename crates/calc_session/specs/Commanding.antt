@@ -1,38 +1,58 @@
--- The replies to command lines.
-use Rattle.std.specs.Prelude.{ℕ, ◌≡◌, List, true, false, Ok, Err, codes}
+-- The replies to commands, by cases on what is asked for.
+use Rattle.std.specs.Prelude.{ℕ, ◌≡◌, List, Option, true, false, Result, Ok, Err, codes}
 use Rattle.std.specs.List.{list_any}
 use Rattle.std.specs.Str.{bytes_eq}
 use Rattle.breakers.specs.Breakers.{armed_first}
 use Rattle.breakers.specs.State.{State as Breaker}
-use Rattle.calc_commands.specs.Commands.{Asked, IsCommandLine, pool, dump, draw, layout, forget, after}
+use Rattle.calc_commands.specs.Commands.{Asked, pool, dump, draw, layout, forget, after as arm, diff, solve, expand}
 use Rattle.calc_commands.specs.Reports.{pool_report, dump_of, unknown_report, after_report}
+use Rattle.calc_terms.specs.Trees.{Tree}
 use Rattle.name_table.specs.Tables.{is_stored}
 use Rattle.node_pool.specs.declared.full.Full.{Full}
 use Rattle.node_pool.specs.State.{State as PoolState}
+use Rattle.calc_session.specs.Arguments.{bytes_before}
+use Rattle.calc_session.specs.Calculating.{IsReplyToExpression}
+use Rattle.calc_session.specs.Deriving.{IsReplyToDerivative}
 use Rattle.calc_session.specs.Drawing.{serial_in}
-use Rattle.calc_session.specs.Replies.{Reply, report, forgot, drawn, reserved, full, command}
-use Rattle.calc_session.specs.States.{State}
+use Rattle.calc_session.specs.Expanding.{IsReplyToExpansion}
+use Rattle.calc_session.specs.Replies.{Reason, Reply, report, forgot, drawn, refused, reserved, full}
+use Rattle.calc_session.specs.Solving.{IsReplyToEquations}
+use Rattle.calc_session.specs.States.{State, free_bytes}
 
 -- a pool with the session's nodes, before it refused anything
 abbrev pub pool_in : State → PoolState
 pool_in s = record { nodes = s.nodes; size = s.size; refusals = 0; last_refused = record { needed = 0; free = 0 } }
 
-abbrev pub can_arm : List Breaker → Type 0
-can_arm breakers = list_any (λ b. b.can_be_armed) breakers ≡ true
+-- what is told of a layout, or that it finds no room
+abbrev pub layout_reply : Result (List ℕ) Full → Reply
+layout_reply (Ok told) = report told
+layout_reply (Err refusal) = refused (full refusal)
 
-abbrev pub cannot_arm : List Breaker → Type 0
-cannot_arm breakers = list_any (λ b. b.can_be_armed) breakers ≡ false
+-- the replies to a request to arm a breaker: the first that can be armed is
+pub data IsReplyToArming (checks : ℕ) (before after : List Breaker) : Reply → Type 0 where
+  arms_a_breaker : list_any (λ b. b.can_be_armed) before ≡ true → after ≡ armed_first checks before → IsReplyToArming checks before after (report (after_report checks))
+  finds_no_breaker : list_any (λ b. b.can_be_armed) before ≡ false → after ≡ before → IsReplyToArming checks before after (report (codes "no breaker"))
 
--- the replies to a command line in a state, by the breakers before and after: none is checked
-pub data IsReplyToCommand (old : State) (before checked : List Breaker) (line : List ℕ) : Reply → Type 0 where
-  tells_the_pool : IsCommandLine line pool → checked ≡ before → IsReplyToCommand old before checked line (report (pool_report (pool_in old)))
-  tells_the_bytes : IsCommandLine line dump → checked ≡ before → IsReplyToCommand old before checked line (report (dump_of (pool_in old)))
-  keeps_ans : {x : List ℕ} → IsCommandLine line (forget x) → bytes_eq x (codes "ans") ≡ true → checked ≡ before → IsReplyToCommand old before checked line reserved
-  forgets : {x : List ℕ} → IsCommandLine line (forget x) → bytes_eq x (codes "ans") ≡ false → is_stored x old.table ≡ true → checked ≡ before → IsReplyToCommand old before checked line (forgot x)
-  knows_no_name : {x : List ℕ} → IsCommandLine line (forget x) → bytes_eq x (codes "ans") ≡ false → is_stored x old.table ≡ false → checked ≡ before → IsReplyToCommand old before checked line (report (unknown_report x))
-  arms_a_breaker : {checks : ℕ} → IsCommandLine line (after checks) → can_arm before → checked ≡ armed_first checks before → IsReplyToCommand old before checked line (report (after_report checks))
-  finds_no_breaker : {checks : ℕ} → IsCommandLine line (after checks) → cannot_arm before → checked ≡ before → IsReplyToCommand old before checked line (report (codes "no breaker"))
-  is_to_be_drawn : IsCommandLine line draw → checked ≡ before → IsReplyToCommand old before checked line drawn
-  tells_the_layout : {told : List ℕ} → IsCommandLine line layout → serial_in old ≡ Ok told → checked ≡ before → IsReplyToCommand old before checked line (report told)
-  has_no_room : {refusal : Full} → IsCommandLine line layout → serial_in old ≡ Err refusal → checked ≡ before → IsReplyToCommand old before checked line (full refusal)
-  is_no_command : ((asked : Asked) → IsCommandLine line asked → ⊥) → checked ≡ before → IsReplyToCommand old before checked line command
+-- the replies to a request to forget a name that is not stored
+pub data IsReplyToForgetting (old : State) (x : List ℕ) : Reply → Type 0 where
+  keeps_ans : bytes_eq x (codes "ans") ≡ true → IsReplyToForgetting old x (refused reserved)
+  knows_no_name : bytes_eq x (codes "ans") ≡ false → is_stored x old.table ≡ false → IsReplyToForgetting old x (report (unknown_report x))
+
+-- What is told, or why nothing is, in a state, by the room and bits that the reducer tells, and the breakers before and after.
+abbrev pub IsTold : (room bits : Option (Tree → ℕ)) → State → (before after : List Breaker) → (line : List ℕ) → Asked → Reply → Type 0
+IsTold room bits old before after line pool reply = (reply ≡ report (pool_report (pool_in old))) × (after ≡ before)
+IsTold room bits old before after line dump reply = (reply ≡ report (dump_of (pool_in old))) × (after ≡ before)
+IsTold room bits old before after line draw reply = ⊥
+IsTold room bits old before after line layout reply = (reply ≡ layout_reply (serial_in old)) × (after ≡ before)
+IsTold room bits old before after line (forget x) reply = IsReplyToForgetting old x reply × (after ≡ before)
+IsTold room bits old before after line (arm checks) reply = IsReplyToArming checks before after reply
+IsTold room bits old before after line (diff x text) reply = IsReplyToExpression old before after (bytes_before line text) text (IsReplyToDerivative room bits (free_bytes old) before after x) reply
+IsTold room bits old before after line (solve text) reply = IsReplyToEquations old before after (bytes_before line text) text reply
+IsTold room bits old before after line (expand text) reply = IsReplyToExpression old before after (bytes_before line text) text (IsReplyToExpansion (free_bytes old) before after) reply
+
+-- The replies to a command: a report, or a refusal; or the name is forgotten; or the last answer is to be drawn.
+pub data IsReplyToCommand (room bits : Option (Tree → ℕ)) (old : State) (before after : List Breaker) (line : List ℕ) : Asked → Reply → Type 0 where
+  tells : {a : Asked} {text : List ℕ} → IsTold room bits old before after line a (report text) → IsReplyToCommand room bits old before after line a (report text)
+  refuses : {a : Asked} {reason : Reason} → IsTold room bits old before after line a (refused reason) → IsReplyToCommand room bits old before after line a (refused reason)
+  forgets : {x : List ℕ} → bytes_eq x (codes "ans") ≡ false → is_stored x old.table ≡ true → after ≡ before → IsReplyToCommand room bits old before after line (forget x) (forgot x)
+  is_to_be_drawn : after ≡ before → IsReplyToCommand room bits old before after line draw drawn

@@ -1,31 +1,28 @@
 -- Whether the pool counts a refusal that is answered.
 use Rattle.std.specs.Prelude.{ℕ, ◌≡◌, ◌⊎◌, List, Option, Some, None, IfSome}
-use Rattle.calc_commands.specs.Commands.{IsCommandLine, diff}
+use Rattle.calc_commands.specs.Commands.{Asked, IsCommandLine, diff}
 use Rattle.calc_terms.specs.Trees.{Tree}
-use Rattle.calc_tokens.specs.Placed.{Placed}
-use Rattle.name_table.specs.Filling.{Filling, fills}
 use Rattle.node_pool.specs.declared.full.Full.{Full}
-use Rattle.calc_session.specs.Arguments.{ReadsText}
-use Rattle.calc_session.specs.Calculating.{made_in}
+use Rattle.calc_session.specs.Calculating.{ExpressionBecomes}
 use Rattle.calc_session.specs.Deriving.{LacksDerivative}
 use Rattle.calc_session.specs.States.{State}
 
--- a tree is made so, and then its derivative has more bytes than are left
-pub record LacksDerivativeOf (making : Filling) (x : List ℕ) (refusal : Full) : Type 0 where
-  pub left : ℕ
+-- of what an expression becomes, with so many bytes left, a refusal is known before the pool is asked
+pub record IsKnownOf (Known : ℕ → Tree → Full → Type 0) (old : State) (text : List ℕ) (refusal : Full) : Type 0 where
   pub tree : Tree
-  pub is_made : making ≡ fills left tree
-  pub lacks : LacksDerivative x left tree refusal
+  pub becomes : ExpressionBecomes old text tree
+  pub is_known : Known becomes.left tree refusal
+
+-- what is asked for is a derivative that has more bytes than are left
+abbrev pub LacksBytesFor : State → Asked → Full → Type 0
+LacksBytesFor old (diff x text) refusal = IsKnownOf (LacksDerivative x) old text refusal
+LacksBytesFor old a refusal = ⊥
 
 -- the line asks for a derivative that has more bytes than are left
 pub record AsksForTooMuch (old : State) (line : List ℕ) (refusal : Full) : Type 0 where
-  pub name : List ℕ
-  pub text : List ℕ
-  pub asks : IsCommandLine line (diff name text)
-  pub tokens : List Placed
-  pub tree : Tree
-  pub reads : ReadsText text tokens None tree
-  pub lacks : LacksDerivativeOf (made_in old tree) name refusal
+  pub asked : Asked
+  pub asks : IsCommandLine line asked
+  pub lacks : LacksBytesFor old asked refusal
 
 -- A refusal is counted, where there is one; but one that is known before the pool is asked is not.
 abbrev pub IsCountedBut : (Full → Type 0) → (Option Full → Type 0) → Option Full → Type 0

@@ -6,7 +6,7 @@ use Rattle.dual_diff.specs.Derivatives.{HasDerivative, derivative}
 use Rattle.dual_diff.specs.Placing.{capped}
 use Rattle.node_pool.specs.declared.full.Full.{Full}
 use Rattle.calc_session.specs.Evaluations.{IsReduction}
-use Rattle.calc_session.specs.Replies.{Reply, full, no_derivative, reported}
+use Rattle.calc_session.specs.Replies.{Reply, refused, full, no_derivative, reported}
 
 -- the derivative of a tree has more bytes than are left, which is refused so
 pub record LacksDerivative (x : List ℕ) (left : ℕ) (t : Tree) (refusal : Full) : Type 0 where
@@ -16,6 +16,6 @@ pub record LacksDerivative (x : List ℕ) (left : ℕ) (t : Tree) (refusal : Ful
 
 -- The replies to a tree whose derivative is asked for, where so many bytes are free without it, and these are left with it. The derivative is made beside the tree, and is reduced once the tree is released.
 pub data IsReplyToDerivative (room bits : Option (Tree → ℕ)) (free : ℕ) (before after : List Breaker) (x : List ℕ) (left : ℕ) (t : Tree) : Reply → Type 0 where
-  has_none : ¬ (HasDerivative x t) → after ≡ before → IsReplyToDerivative room bits free before after x left t no_derivative
-  lacks_bytes : {refusal : Full} → LacksDerivative x left t refusal → after ≡ before → IsReplyToDerivative room bits free before after x left t (full refusal)
+  has_none : ¬ (HasDerivative x t) → after ≡ before → IsReplyToDerivative room bits free before after x left t (refused no_derivative)
+  lacks_bytes : {refusal : Full} → LacksDerivative x left t refusal → after ≡ before → IsReplyToDerivative room bits free before after x left t (refused (full refusal))
   is_reduced : {reply : Reply} → HasDerivative x t → size (derivative x t) ≤ left → IsReduction room bits free (derivative x t) before after None reply → IsReplyToDerivative room bits free before after x left t (reported reply)

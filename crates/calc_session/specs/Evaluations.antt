@@ -20,7 +20,7 @@ use Rattle.reduce_port.specs.Bounds.{MayExceed}
 use Rattle.reduce_port.specs.Checks.{CalmUpTo, TripsWithin}
 use Rattle.reduce_port.specs.EasyTrees.{Evaluates, HasEasyBadPart}
 use Rattle.tree_handles.specs.Causes.{Overflows}
-use Rattle.calc_session.specs.Replies.{Reply, shown, stored, undefined, deep, full, overflow, interrupted, circular}
+use Rattle.calc_session.specs.Replies.{Reason, Reply, shown, stored, undefined, refused, deep, full, overflow, interrupted, circular}
 
 abbrev pub IsFitting : Tree → Type 0
 IsFitting (num q) = fraction_fits q ≡ true
@@ -42,7 +42,7 @@ pub record IsAnswerTo (free : ℕ) (t answer : Tree) : Type 0 where
 -- the replies to a tree that was answered by this one, to be stored under the name where there is one
 pub data IsReplyWith (answer : Tree) : Option (List ℕ) → Reply → Type 0 where
   has_no_value : {store : Option (List ℕ)} → is_undef answer ≡ true → IsReplyWith answer store undefined
-  holds_its_name : {x : List ℕ} → is_undef answer ≡ false → Contains (names answer) x → IsReplyWith answer (Some x) (circular x)
+  holds_its_name : {x : List ℕ} → is_undef answer ≡ false → Contains (names answer) x → IsReplyWith answer (Some x) (refused (circular x))
   is_shown : is_undef answer ≡ false → IsReplyWith answer None (shown (face answer))
   is_stored : {x : List ℕ} → is_undef answer ≡ false → ¬ (Contains (names answer) x) → IsReplyWith answer (Some x) (stored (face answer) x)
 
@@ -63,28 +63,22 @@ pub record LacksRoom (room : Option (Tree → ℕ)) (free : ℕ) (t : Tree) (bef
 
 -- The replies to a tree that is reduced, where so many bytes are free without it: by the room and bits that its reducer tells, the breakers before and after, and the name under which it is to be stored.
 pub data IsReduction (room bits : Option (Tree → ℕ)) (free : ℕ) (t : Tree) (before after : List Breaker) (store : Option (List ℕ)) : Reply → Type 0 where
-  is_interrupted : {by : ℕ} → TripsWithin (nodes t) before after by → IsReduction room bits free t before after store (interrupted by)
-  does_not_fit : (o : Overflow) → OverflowsAt bits t before after o → IsReduction room bits free t before after store (overflow (operation_of o.op) (value_of o.a) (value_of o.b))
-  lacks_bytes : {refusal : Full} → LacksRoom room free t before after refusal → IsReduction room bits free t before after store (full refusal)
+  is_interrupted : {by : ℕ} → TripsWithin (nodes t) before after by → IsReduction room bits free t before after store (refused (interrupted by))
+  does_not_fit : (o : Overflow) → OverflowsAt bits t before after o → IsReduction room bits free t before after store (refused (overflow (operation_of o.op) (value_of o.a) (value_of o.b)))
+  lacks_bytes : {refusal : Full} → LacksRoom room free t before after refusal → IsReduction room bits free t before after store (refused (full refusal))
   is_answered : {answer : Tree} {reply : Reply} → CalmChecks (nodes t) before after → IsAnswerTo free t answer → IsReplyWith answer store reply → IsReduction room bits free t before after store reply
 
 -- A tree is built in the free bytes, and then the stored trees take the places of their names.
 abbrev pub made : ℕ → List NamedTree → Tree → Filling
 made free values t = elim (building free t) [ Err refusal ↦ lacks refusal | Ok left ↦ filling left values t ]
 
--- the replies where it is refused
-abbrev pub Unmade : Filling → Reply → Type 0
-Unmade (lacks refusal) reply = reply ≡ full refusal
-Unmade too_deep reply = reply ≡ deep
-Unmade (fills left t) reply = ⊥
+-- why it is refused
+abbrev pub Unmade : Filling → Reason → Type 0
+Unmade (lacks refusal) reason = reason ≡ full refusal
+Unmade too_deep reason = reason ≡ deep
+Unmade (fills left t) reason = ⊥
 
 -- The replies to a tree that is to be made so: it is refused, or the replies are those to the tree that it became, with so many bytes left.
 pub data IsReplyToMade (making : Filling) (before after : List Breaker) (IsReplyToTree : ℕ → Tree → Reply → Type 0) : Reply → Type 0 where
-  is_not_made : {reply : Reply} → Unmade making reply → after ≡ before → IsReplyToMade making before after IsReplyToTree reply
+  is_not_made : {reason : Reason} → Unmade making reason → after ≡ before → IsReplyToMade making before after IsReplyToTree (refused reason)
   is_made : {left : ℕ} {t : Tree} {reply : Reply} → making ≡ fills left t → IsReplyToTree left t reply → IsReplyToMade making before after IsReplyToTree reply
-
--- the replies to a tree that was read, where so many bytes are free and the names stand for these values
-pub data IsReplyTo (room bits : Option (Tree → ℕ)) (free : ℕ) (values : List NamedTree) (t : Tree) (before after : List Breaker) (store : Option (List ℕ)) : Reply → Type 0 where
-  finds_no_room : {refusal : Full} → made free values t ≡ lacks refusal → after ≡ before → IsReplyTo room bits free values t before after store (full refusal)
-  becomes_too_deep : made free values t ≡ too_deep → after ≡ before → IsReplyTo room bits free values t before after store deep
-  is_reduced : {left : ℕ} {made_of : Tree} {reply : Reply} → made free values t ≡ fills left made_of → IsReduction room bits free made_of before after store reply → IsReplyTo room bits free values t before after store reply

@@ -15,7 +15,7 @@ use Rattle.rational128.specs.Refusals.{operation_of}
 use Rattle.rational128.specs.declared.overflow.Overflow.{Overflow}
 use Rattle.reduce_port.specs.Checks.{CalmUpTo, TripsWithin}
 use Rattle.tree_handles.specs.Causes.{Overflows}
-use Rattle.calc_session.specs.Replies.{Reply, report, full, overflow, interrupted, not_polynomial}
+use Rattle.calc_session.specs.Replies.{Reply, report, refused, full, overflow, interrupted, not_polynomial}
 
 -- the text of the face of the expanded tree
 abbrev pub expansion_text : Tree → List ℕ
@@ -36,8 +36,8 @@ pub record OverflowsBeyondBits (t : Tree) (before after : List Breaker) (o : Ove
 
 -- The replies to a tree that is to be expanded, where so many bytes are free without it, and these are left with it: it is no polynomial, which is known before any check; or it is expanded in its place.
 pub data IsReplyToExpansion (free : ℕ) (before after : List Breaker) (left : ℕ) (t : Tree) : Reply → Type 0 where
-  is_no_polynomial : is_polynomial t ≡ false → after ≡ before → IsReplyToExpansion free before after left t not_polynomial
-  is_interrupted : {by : ℕ} → is_polynomial t ≡ true → TripsWithin (nodes t) before after by → IsReplyToExpansion free before after left t (interrupted by)
-  does_not_fit : (o : Overflow) → is_polynomial t ≡ true → OverflowsBeyondBits t before after o → IsReplyToExpansion free before after left t (overflow (operation_of o.op) (value_of o.a) (value_of o.b))
-  lacks_bytes : {refusal : Full} → is_polynomial t ≡ true → LacksExpansionRoom free t before after refusal → IsReplyToExpansion free before after left t (full refusal)
+  is_no_polynomial : is_polynomial t ≡ false → after ≡ before → IsReplyToExpansion free before after left t (refused not_polynomial)
+  is_interrupted : {by : ℕ} → is_polynomial t ≡ true → TripsWithin (nodes t) before after by → IsReplyToExpansion free before after left t (refused (interrupted by))
+  does_not_fit : (o : Overflow) → is_polynomial t ≡ true → OverflowsBeyondBits t before after o → IsReplyToExpansion free before after left t (refused (overflow (operation_of o.op) (value_of o.a) (value_of o.b)))
+  lacks_bytes : {refusal : Full} → is_polynomial t ≡ true → LacksExpansionRoom free t before after refusal → IsReplyToExpansion free before after left t (refused (full refusal))
   is_expanded : is_polynomial t ≡ true → CalmChecks (nodes t) before after → IsReplyToExpansion free before after left t (report (expansion_text t))

@@ -1,10 +1,11 @@
 pub mod Replies
 pub mod States
 pub mod Drawing
-pub mod Reading
-pub mod Evaluations
-pub mod Commanding
 pub mod Arguments
+pub mod Reading
+pub mod Asking
+pub mod Evaluations
+pub mod Calculating
 pub mod Deriving
 pub mod Expanding
 pub mod Equations
@@ -16,10 +17,10 @@ pub mod Forms
 pub mod Solving
 pub mod Solved
 pub mod SolutionsMeant
-pub mod Calculating
+pub mod Commanding
+pub mod Steps
 pub mod Counting
 pub mod Telling
-pub mod Steps
 pub mod Seen
 pub mod Kept
 pub mod Answers

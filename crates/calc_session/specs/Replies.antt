@@ -9,6 +9,25 @@ use Rattle.calc_language.specs.Tokens.{times_sign}
 use Rattle.calc_terms.specs.Trees.{Tree}
 use Rattle.node_pool.specs.declared.full.Full.{Full}
 
+-- why a line is refused
+pub data Reason : Type 0 where
+  long : Reason
+  character_at : ℕ → Reason
+  number_at : ℕ → Reason
+  syntax : Reason
+  deep : Reason
+  reserved : Reason
+  names_full : Reason
+  full : Full → Reason
+  overflow : Operation → Fraction → Fraction → Reason
+  interrupted : ℕ → Reason
+  circular : List ℕ → Reason
+  command : Reason
+  not_polynomial : Reason
+  no_derivative : Reason
+  not_linear : ℕ → Reason
+  too_many : Reason
+
 -- nothing; a tree as it is displayed, and the name under which it is stored; `undef`; what a command tells, and the name that it forgot; that the last answer is to be drawn; or a refusal
 pub data Reply : Type 0 where
   blank : Reply
@@ -18,22 +37,7 @@ pub data Reply : Type 0 where
   report : List ℕ → Reply
   forgot : List ℕ → Reply
   drawn : Reply
-  long : Reply
-  character_at : ℕ → Reply
-  number_at : ℕ → Reply
-  syntax : Reply
-  deep : Reply
-  reserved : Reply
-  names_full : Reply
-  full : Full → Reply
-  overflow : Operation → Fraction → Fraction → Reply
-  interrupted : ℕ → Reply
-  circular : List ℕ → Reply
-  command : Reply
-  not_polynomial : Reply
-  no_derivative : Reply
-  not_linear : ℕ → Reply
-  too_many : Reply
+  refused : Reason → Reply
 
 -- a tree is displayed, and stored where there is a name
 abbrev pub displayed : Option (List ℕ) → Tree → Reply
@@ -48,9 +52,9 @@ reported undefined = report (codes "undef")
 reported reply = reply
 
 -- what the pool refused
-abbrev pub refusal_in : Reply → Option Full
+abbrev pub refusal_in : Reason → Option Full
 refusal_in (full refusal) = Some refusal
-refusal_in reply = None
+refusal_in reason = None
 
 -- ---- what is printed, without the newline
 
@@ -69,6 +73,24 @@ denominator_text d = if d == 1 then [] else codes "/" ++ count_text d
 abbrev pub operand_text : Fraction → List ℕ
 operand_text q = signed_decimal q.num ++ denominator_text q.den
 
+abbrev pub reason_text : Reason → List ℕ
+reason_text long = codes "! long"
+reason_text (character_at at) = codes "! character " ++ count_text at
+reason_text (number_at at) = codes "! number " ++ count_text at
+reason_text syntax = codes "! syntax"
+reason_text deep = codes "! deep"
+reason_text reserved = codes "! reserved"
+reason_text names_full = codes "! names full"
+reason_text (full refusal) = codes "! full needed " ++ (count_text refusal.needed ++ (codes " free " ++ count_text refusal.free))
+reason_text (overflow op a b) = codes "! overflow " ++ (operand_text a ++ (sign_of op ++ operand_text b))
+reason_text (interrupted by) = codes "! interrupted"
+reason_text (circular x) = codes "! circular " ++ x
+reason_text command = codes "! command"
+reason_text not_polynomial = codes "! not polynomial"
+reason_text no_derivative = codes "! no derivative"
+reason_text (not_linear equation) = codes "! not linear " ++ count_text equation
+reason_text too_many = codes "! too many"
+
 -- there is none for a blank line, nor where the last answer is to be drawn
 unfoldable pub text_of : Reply → Option (List ℕ)
 text_of blank = None
@@ -78,19 +100,4 @@ text_of undefined = Some (codes "undef")
 text_of (report told) = Some told
 text_of (forgot x) = Some (forgot_report x)
 text_of drawn = None
-text_of long = Some (codes "! long")
-text_of (character_at at) = Some (codes "! character " ++ count_text at)
-text_of (number_at at) = Some (codes "! number " ++ count_text at)
-text_of syntax = Some (codes "! syntax")
-text_of deep = Some (codes "! deep")
-text_of reserved = Some (codes "! reserved")
-text_of names_full = Some (codes "! names full")
-text_of (full refusal) = Some (codes "! full needed " ++ (count_text refusal.needed ++ (codes " free " ++ count_text refusal.free)))
-text_of (overflow op a b) = Some (codes "! overflow " ++ (operand_text a ++ (sign_of op ++ operand_text b)))
-text_of (interrupted by) = Some (codes "! interrupted")
-text_of (circular x) = Some (codes "! circular " ++ x)
-text_of command = Some (codes "! command")
-text_of not_polynomial = Some (codes "! not polynomial")
-text_of no_derivative = Some (codes "! no derivative")
-text_of (not_linear equation) = Some (codes "! not linear " ++ count_text equation)
-text_of too_many = Some (codes "! too many")
+text_of (refused reason) = Some (reason_text reason)

@@ -1,30 +1,41 @@
 -- One line as one step of a session.
 use Rattle.std.specs.Prelude.{◌≡◌, ◌≤◌, ℕ, List, length, true, false, Option, Some, None}
 use Rattle.breakers.specs.State.{State as Breaker}
-use Rattle.calc_commands.specs.Commands.{is_command}
 use Rattle.calc_terms.specs.Trees.{Tree, none, more}
-use Rattle.calc_tokens.specs.Placed.{Placed}
-use Rattle.name_table.specs.Filling.{values}
 use Rattle.name_table.specs.Held.{held_by}
+use Rattle.name_table.specs.Storing.{IsStorable}
 use Rattle.name_table.specs.Tables.{with_answer, without_name}
 use Rattle.node_pool.specs.Nodes.{AreDistinct, has}
 use Rattle.tree_handles.specs.Forest.{Forest, flatten, join, root_id}
 use Rattle.tree_handles.specs.Handed.{Represents}
 use Rattle.tree_handles.specs.Inside.{holds}
-use Rattle.calc_session.specs.Calculating.{IsReplyToCalculation}
+use Rattle.calc_session.specs.Asking.{Asks, AsksInVain, Request, nothing, value, commanded}
+use Rattle.calc_session.specs.Calculating.{made_in}
 use Rattle.calc_session.specs.Commanding.{IsReplyToCommand}
-use Rattle.calc_session.specs.Evaluations.{IsReplyTo}
-use Rattle.calc_session.specs.Reading.{IsReplyUnread, ReadsTree}
-use Rattle.calc_session.specs.Replies.{Reply, shown, stored, forgot}
+use Rattle.calc_session.specs.Evaluations.{IsReduction, IsReplyToMade}
+use Rattle.calc_session.specs.Reading.{IsUnstorable}
+use Rattle.calc_session.specs.Replies.{Reason, Reply, blank, shown, stored, forgot, refused}
 use Rattle.calc_session.specs.States.{State, free_bytes, trees}
+
+-- the replies to a tree that was read and can be stored under the name, where there is one: it is built, filled and reduced
+abbrev pub IsReplyToTree : (room bits : Option (Tree → ℕ)) → State → (before after : List Breaker) → Option (List ℕ) → Tree → Reply → Type 0
+IsReplyToTree room bits old before after store t reply = IsReplyToMade (made_in old t) before after (λ left u. IsReduction room bits (free_bytes old) u before after store) reply
+
+-- the replies to a tree that was read
+pub data IsReplyToValue (room bits : Option (Tree → ℕ)) (old : State) (before after : List Breaker) (store : Option (List ℕ)) (t : Tree) : Reply → Type 0 where
+  cannot_be_stored : {reason : Reason} → IsUnstorable old.table store reason → after ≡ before → IsReplyToValue room bits old before after store t (refused reason)
+  is_evaluated : {reply : Reply} → IsStorable store old.table → IsReplyToTree room bits old before after store t reply → IsReplyToValue room bits old before after store t reply
+
+-- the replies to what a line asks for
+abbrev pub IsReplyTo : (room bits : Option (Tree → ℕ)) → State → (before after : List Breaker) → (line : List ℕ) → Request → Reply → Type 0
+IsReplyTo room bits old before after line nothing reply = (reply ≡ blank) × (after ≡ before)
+IsReplyTo room bits old before after line (value store t) reply = IsReplyToValue room bits old before after store t reply
+IsReplyTo room bits old before after line (commanded a) reply = IsReplyToCommand room bits old before after line a reply
 
 -- the replies to a line in a state, by the room and bits that the reducer tells, and the breakers before and after
 pub data IsReply (room bits : Option (Tree → ℕ)) (old : State) (before after : List Breaker) (line : List ℕ) : Reply → Type 0 where
-  is_unread : {reply : Reply} → IsReplyUnread old.table line reply → after ≡ before → IsReply room bits old before after line reply
-  is_commanded : {reply : Reply} → length line ≤ 1024 → is_command line ≡ true → IsReplyToCommand old before after line reply → IsReply room bits old before after line reply
-  is_calculated : {reply : Reply} → length line ≤ 1024 → is_command line ≡ true → IsReplyToCalculation room bits old before after line reply → IsReply room bits old before after line reply
-  is_evaluated : {tokens : List Placed} {store : Option (List ℕ)} {t : Tree} {reply : Reply} → ReadsTree old.table line tokens store t
-      → IsReplyTo room bits (free_bytes old) (values old.table (trees old)) t before after store reply → IsReply room bits old before after line reply
+  asks_in_vain : {reason : Reason} → AsksInVain line reason → after ≡ before → IsReply room bits old before after line (refused reason)
+  is_replied : {request : Request} {reply : Reply} → length line ≤ 1024 → Asks line request → IsReplyTo room bits old before after line request reply → IsReply room bits old before after line reply
 
 -- a tree of new nodes is the last answer now, and stands behind those of the old trees that the new table holds
 pub record LeavesAnswer (store : Option (List ℕ)) (answer : Tree) (old new : State) : Type 0 where

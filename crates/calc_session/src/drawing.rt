@@ -7,7 +7,6 @@ ghost use Rattle.pool_layouts.specs.Drawings.{IsLayout, drawing};
 ghost use Rattle.pool_layouts.specs.Serial.{serial};
 ghost use Rattle.tree_handles.specs.Expressions.{IsExpression};
 ghost use Rattle.tree_handles.specs.Forest.{bytes_in};
-ghost use Rattle.tree_handles.specs.Handed.{KeepsFront};
 ghost use Rattle.tree_handles.specs.Inside.{tree_at};
 ghost use Rattle.tree_handles.specs.Standing.{Stands, forest};
 ghost use Rattle.calc_session.specs.Answers.{CountsRefusal};
@@ -46,40 +45,21 @@ pub fn draw_answer<K: Sink>(
     ensures stands { Stands pool.new }
 {
     let mark = open_mark(pool);
-    let drawn = draw_above(pool, answer, drafter, text, sink);
-    roll_back(pool, mark);
-    drawn
-}
-
-/// The same, but that the layout stays.
-fn draw_above<K: Sink>(
-    pool: &mut Pool,
-    answer: Id,
-    drafter: &mut Drafter,
-    text: &mut Text,
-    sink: &mut K,
-) -> Result<(), DrawFault>
-    requires stands { Stands pool.old }
-    requires expression { IsExpression answer (forest pool.old) }
-    requires room { 2 * pool.old.size + 1 ≤ text.old.capacity }
-    requires served { pool.old.size ≤ drafter.old.pool_size }
-    ensures drawn { OnOk result (IsDrawn (told_at rows_text answer pool.old) (K.taken sink.old) (K.taken sink.new)) }
-    ensures calm { OnOk result (IsCalm (K.faults sink.old) (K.faults sink.new)) }
-    ensures later { (K.faults sink.old).count ≤ (K.faults sink.new).count }
-    ensures fails { IfErr result (FailsToDraw (told_at rows_text answer pool.old) (K.taken sink.old) (K.taken sink.new)) }
-    ensures stops { IfErr result (StopsDrawing K.taken K.faults sink.old sink.new) }
-    ensures counted { CountsRefusal (lack_in (told_at rows_text answer pool.old)) pool.old pool.new }
-    ensures front { KeepsFront [] (forest pool.old) (forest pool.new) }
-    ensures capacity { text.new.capacity ≡ text.old.capacity }
-    ensures served { drafter.new.pool_size ≡ drafter.old.pool_size }
-    ensures stands { Stands pool.new }
-{
     match layout_of(pool, answer, drafter) {
         Ok(layout) => match write_rows(pool, layout.id(), drafter, text, sink) {
-            Ok(()) => Ok(()),
-            Err(Failed) => Err(DrawFault::Write),
+            Ok(()) => {
+                roll_back(pool, mark);
+                Ok(())
+            }
+            Err(Failed) => {
+                roll_back(pool, mark);
+                Err(DrawFault::Write)
+            }
         },
-        Err(full) => Err(DrawFault::Full(full)),
+        Err(full) => {
+            roll_back(pool, mark);
+            Err(DrawFault::Full(full))
+        }
     }
 }
 
@@ -133,33 +113,15 @@ pub fn write_layout(
     ensures stands { Stands pool.new }
 {
     let mark = open_mark(pool);
-    let told = write_above(pool, answer, drafter, text);
-    roll_back(pool, mark);
-    told
-}
-
-/// The same, but that the layout stays.
-fn write_above(
-    pool: &mut Pool,
-    answer: Id,
-    drafter: &mut Drafter,
-    text: &mut Text,
-) -> Result<(), Full>
-    requires stands { Stands pool.old }
-    requires expression { IsExpression answer (forest pool.old) }
-    requires empty { text.old.bytes ≡ [] }
-    requires room { 2 * pool.old.size ≤ text.old.capacity }
-    requires served { pool.old.size ≤ drafter.old.pool_size }
-    ensures told { OnOk result (told_at serial answer pool.old ≡ Ok text.new.bytes) }
-    ensures full { IfErr result (λ full. told_at serial answer pool.old ≡ Err full) }
-    ensures untold { OnErr result (text.new.bytes ≡ []) }
-    ensures counted { CountsRefusal (lack_in (told_at serial answer pool.old)) pool.old pool.new }
-    ensures front { KeepsFront [] (forest pool.old) (forest pool.new) }
-    ensures capacity { text.new.capacity ≡ text.old.capacity }
-    ensures served { drafter.new.pool_size ≡ drafter.old.pool_size }
-    ensures stands { Stands pool.new }
-{
-    let layout = layout_of(pool, answer, drafter)?;
-    write_serial(pool, layout.id(), drafter, text);
-    Ok(())
+    match layout_of(pool, answer, drafter) {
+        Ok(layout) => {
+            write_serial(pool, layout.id(), drafter, text);
+            roll_back(pool, mark);
+            Ok(())
+        }
+        Err(full) => {
+            roll_back(pool, mark);
+            Err(full)
+        }
+    }
 }

@@ -9,7 +9,7 @@ ghost use Rattle.calc_terms.specs.Trees.{Tree, is_undef, names, size};
 ghost use Rattle.calc_tokens.specs.Placed.{bare};
 ghost use Rattle.calc_tokens.specs.Tokens.{tokens_of};
 ghost use Rattle.name_table.specs.Filling.{fills, values, LacksNames};
-ghost use Rattle.name_table.specs.Held.{HasEntries, IsHeld};
+ghost use Rattle.name_table.specs.Held.{HasEntries};
 ghost use Rattle.name_table.specs.Storing.{IsKeepable, name_in};
 ghost use Rattle.node_pool.specs.State.{free_of};
 ghost use Rattle.tree_handles.specs.Expressions.{IsExpression, plain};
@@ -18,14 +18,16 @@ ghost use Rattle.tree_handles.specs.Inside.{tree_at};
 ghost use Rattle.tree_handles.specs.Roots.{without_root};
 ghost use Rattle.name_table.specs.Tables.{table_names};
 ghost use Rattle.tree_handles.specs.Standing.{Stands, forest, KeepsRefusals};
-ghost use Rattle.calc_session.specs.Answers.{ComesTo, CountsRefusal, IfNotShown, IsDisplayOf, refusal_of as refusal_for, refusal_of_evaluation, refusal_to_fill, reply_of, LacksName};
-ghost use Rattle.calc_session.specs.Evaluations.{IsReduction, IsReplyTo, Unmade, made};
+ghost use Rattle.calc_session.specs.Answers.{ComesTo, CountsRefusal, IfNotShown, IsDisplayOf, refusal_of as refusal_for, refusal_of_evaluation, refusal_to_fill, reason_of, LacksName};
+ghost use Rattle.calc_session.specs.Evaluations.{IsReduction, Unmade, made};
 ghost use Rattle.calc_session.specs.Faces.{Shows};
+ghost use Rattle.calc_session.specs.Kept.{IsKept, IsReady, state_in};
 ghost use Rattle.calc_session.specs.Pools.{after};
 ghost use Rattle.calc_session.specs.Replies.{refusal_in};
+ghost use Rattle.calc_session.specs.Steps.{IsReplyToTree};
 
 use crate::Refusal;
-use beautify::Faces;
+use crate::parts::{Parts, Workspace};
 use breakers::{Breaker, Watch};
 use calc_parser::Parser;
 use calc_terms::{Kind, Name};
@@ -46,77 +48,51 @@ pub enum Evaluation {
     Refused(Refusal),
 }
 
-/// What the line that was read last comes to. Where a tree is displayed, it stands behind all others, and
-/// else the nodes are as before.
-pub fn evaluate<R: Reducer, B: Breaker>(
-    pool: &mut Pool,
-    faces: &mut Faces,
-    table: &NameTable,
-    parser: &mut Parser,
-    store: Option<Name>,
-    reducer: &R,
-    watch: &mut Watch<B>,
-) -> Evaluation
-    requires stands { Stands pool.old }
-    requires lists { pool.old.size ≤ faces.old }
-    requires held { IsHeld table.now (forest pool.old) }
-    requires line { (t : Tree) × IsTreeOf (bare (tokens_of parser.old)) t }
-    ensures reply { (t : Tree) → IsTreeOf (bare (tokens_of parser.old)) t
-        → ComesTo (IsReplyTo R.room R.bits (free_of pool.old) (values table.now (forest pool.old)) t (states B.state watch.old) (states B.state watch.new) (name_in store))
-        (IsKeepable (name_in store) table.now) (name_in store) (forest pool.old) (forest pool.new) result }
-    ensures interrupted { (place : ℕ) → (result ≡ Evaluation.Refused (Refusal.Interrupted place))
-        ↔ TripsRose (states B.state watch.old) (states B.state watch.new) place }
-    ensures counted { CountsRefusal (refusal_of_evaluation result) pool.old pool.new }
-    ensures as_before { IfNotShown result (pool.new ≡ after (refusal_of_evaluation result) pool.old.nodes pool.old) }
-    ensures front { KeepsFront [] (forest pool.old) (forest pool.new) }
-    ensures stands { Stands pool.new }
-    ensures lists { faces.new ≡ faces.old }
-{
-    let mark = open_mark(pool);
-    match build_and_reduce(pool, faces, table, parser, store, reducer, watch) {
-        Evaluation::Face(face) => {
-            commit(pool, mark);
-            Evaluation::Face(face)
+impl Parts {
+    /// What the line that was read last comes to: its tree is built behind all others, the stored trees take the places of their
+    /// names, and it is reduced. Where a tree is displayed, it stands behind all others, and else the nodes are as before.
+    pub fn evaluate<R: Reducer, B: Breaker>(
+        &mut self,
+        store: Option<Name>,
+        reducer: &R,
+        watch: &mut Watch<B>,
+    ) -> Evaluation
+        requires kept { IsKept self.old }
+        requires line { (t : Tree) × IsTreeOf (bare (tokens_of self.old.parser)) t }
+        ensures reply { (t : Tree) → IsTreeOf (bare (tokens_of self.old.parser)) t
+            → ComesTo (IsReplyToTree R.room R.bits (state_in self.old) (states B.state watch.old) (states B.state watch.new) (name_in store) t)
+            (IsKeepable (name_in store) self.old.table) (name_in store) (forest self.old.work.pool) (forest self.new.work.pool) result }
+        ensures interrupted { (place : ℕ) → (result ≡ Evaluation.Refused (Refusal.Interrupted place))
+            ↔ TripsRose (states B.state watch.old) (states B.state watch.new) place }
+        ensures counted { CountsRefusal (refusal_of_evaluation result) self.old.work.pool self.new.work.pool }
+        ensures as_before { IfNotShown result (self.new.work.pool ≡ after (refusal_of_evaluation result) self.old.work.pool.nodes self.old.work.pool) }
+        ensures ready { IsReady self.new.work }
+        ensures table { self.new.table ≡ self.old.table }
+        ensures text { self.new.text ≡ self.old.text }
+        ensures drafter { self.new.drafter ≡ self.old.drafter }
+    {
+        let mark = open_mark(&self.work.pool);
+        let filled = match build_and_fill(&mut self.work.pool, &self.table, &mut self.parser) {
+            Ok(filled) => filled,
+            Err(refusal) => {
+                roll_back(&mut self.work.pool, mark);
+                return Evaluation::Refused(refusal);
+            }
+        };
+        match reduce_tree(&mut self.work, filled, store, reducer, watch) {
+            Evaluation::Face(face) => {
+                commit(&self.work.pool, mark);
+                Evaluation::Face(face)
+            }
+            Evaluation::Undefined => {
+                roll_back(&mut self.work.pool, mark);
+                Evaluation::Undefined
+            }
+            Evaluation::Refused(refusal) => {
+                roll_back(&mut self.work.pool, mark);
+                Evaluation::Refused(refusal)
+            }
         }
-        Evaluation::Undefined => {
-            roll_back(pool, mark);
-            Evaluation::Undefined
-        }
-        Evaluation::Refused(refusal) => {
-            roll_back(pool, mark);
-            Evaluation::Refused(refusal)
-        }
-    }
-}
-
-/// What the line that was read last comes to. Its tree is built behind all others, the stored trees take the places
-/// of their names, and what it was made into stands there.
-fn build_and_reduce<R: Reducer, B: Breaker>(
-    pool: &mut Pool,
-    faces: &mut Faces,
-    table: &NameTable,
-    parser: &mut Parser,
-    store: Option<Name>,
-    reducer: &R,
-    watch: &mut Watch<B>,
-) -> Evaluation
-    requires stands { Stands pool.old }
-    requires lists { pool.old.size ≤ faces.old }
-    requires held { IsHeld table.now (forest pool.old) }
-    requires line { (t : Tree) × IsTreeOf (bare (tokens_of parser.old)) t }
-    ensures reply { (t : Tree) → IsTreeOf (bare (tokens_of parser.old)) t
-        → ComesTo (IsReplyTo R.room R.bits (free_of pool.old) (values table.now (forest pool.old)) t (states B.state watch.old) (states B.state watch.new) (name_in store))
-        (IsKeepable (name_in store) table.now) (name_in store) (forest pool.old) (forest pool.new) result }
-    ensures interrupted { (place : ℕ) → (result ≡ Evaluation.Refused (Refusal.Interrupted place))
-        ↔ TripsRose (states B.state watch.old) (states B.state watch.new) place }
-    ensures counted { CountsRefusal (refusal_of_evaluation result) pool.old pool.new }
-    ensures front { KeepsFront [] (forest pool.old) (forest pool.new) }
-    ensures stands { Stands pool.new }
-    ensures lists { faces.new ≡ faces.old }
-{
-    match build_and_fill(pool, table, parser) {
-        Ok(filled) => reduce_tree(pool, faces, filled, store, reducer, watch),
-        Err(refusal) => Evaluation::Refused(refusal),
     }
 }
 
@@ -134,9 +110,9 @@ pub fn build_and_fill(
     ensures made { (t : Tree) → IsTreeOf (bare (tokens_of parser.old)) t
         → IfOk result (λ h. made (free_of pool.old) (values table.now (forest pool.old)) t ≡ fills (free_of pool.new) (tree_of h pool.new)) }
     ensures refused { (t : Tree) → IsTreeOf (bare (tokens_of parser.old)) t
-        → IfErr result (λ refusal. Unmade (made (free_of pool.old) (values table.now (forest pool.old)) t) (reply_of refusal)) }
+        → IfErr result (λ refusal. Unmade (made (free_of pool.old) (values table.now (forest pool.old)) t) (reason_of refusal)) }
     ensures kept { OnOk result (KeepsRefusals pool.old pool.new) }
-    ensures counted { IfErr result (λ refusal. CountsRefusal (refusal_in (reply_of refusal)) pool.old pool.new) }
+    ensures counted { IfErr result (λ refusal. CountsRefusal (refusal_in (reason_of refusal)) pool.old pool.new) }
     ensures no_breaker { IfErr result (λ refusal. (place : ℕ) → refusal ≡ Refusal.Interrupted place → ⊥) }
     ensures front { KeepsFront [] (forest pool.old) (forest pool.new) }
     ensures stands { Stands pool.new }
@@ -153,72 +129,60 @@ pub fn build_and_fill(
 
 /// What the last tree comes to; it is handed in.
 pub fn reduce_tree<R: Reducer, B: Breaker>(
-    pool: &mut Pool,
-    faces: &mut Faces,
+    work: &mut Workspace,
     tree: Handle,
     store: Option<Name>,
     reducer: &R,
     watch: &mut Watch<B>,
 ) -> Evaluation
-    requires stands { Stands pool.old }
-    requires lists { pool.old.size ≤ faces.old }
-    requires last { Gives (without_root tree (forest pool.old)) (forest pool.old) tree (λ t. ⊤) }
-    ensures reply { let t = tree_of tree pool.old in
-        ComesTo (IsReduction R.room R.bits (free_of pool.old + size t) t (states B.state watch.old) (states B.state watch.new) (name_in store))
-        (IsDisplayOf (name_in store) t) (name_in store) (without_root tree (forest pool.old)) (forest pool.new) result }
+    requires ready { IsReady work.old }
+    requires last { Gives (without_root tree (forest work.old.pool)) (forest work.old.pool) tree (λ t. ⊤) }
+    ensures reply { let t = tree_of tree work.old.pool in
+        ComesTo (IsReduction R.room R.bits (free_of work.old.pool + size t) t (states B.state watch.old) (states B.state watch.new) (name_in store))
+        (IsDisplayOf (name_in store) t) (name_in store) (without_root tree (forest work.old.pool)) (forest work.new.pool) result }
     ensures interrupted { (place : ℕ) → (result ≡ Evaluation.Refused (Refusal.Interrupted place))
         ↔ TripsRose (states B.state watch.old) (states B.state watch.new) place }
-    ensures counted { CountsRefusal (refusal_of_evaluation result) pool.old pool.new }
-    ensures front { KeepsFront (tree ∷ []) (forest pool.old) (forest pool.new) }
-    ensures stands { Stands pool.new }
-    ensures lists { faces.new ≡ faces.old }
+    ensures counted { CountsRefusal (refusal_of_evaluation result) work.old.pool work.new.pool }
+    ensures front { KeepsFront (tree ∷ []) (forest work.old.pool) (forest work.new.pool) }
+    ensures ready { IsReady work.new }
 {
-    match reducer.reduce(pool, tree, watch) {
-        Ok(answer) => show(pool, faces, answer, store),
+    match reducer.reduce(&mut work.pool, tree, watch) {
+        Ok(answer) => show(work, answer, store),
         Err(fault) => Evaluation::Refused(refusal_of(fault)),
     }
 }
 
 /// The face of a reduced tree takes its place, unless that is Undef or holds the name under which it
 /// is to be stored.
-fn show(pool: &mut Pool, faces: &mut Faces, answer: Handle, store: Option<Name>) -> Evaluation
-    requires stands { Stands pool.old }
-    requires lists { pool.old.size ≤ faces.old }
-    requires handed { IsHanded answer (forest pool.old) }
-    requires reduced { is_reduced (tree_of answer pool.old) ≡ true }
-    ensures shows { Shows (name_in store) answer pool.old pool.new result }
-    ensures counted { CountsRefusal (refusal_of_evaluation result) pool.old pool.new }
-    ensures front { KeepsFront (answer ∷ []) (forest pool.old) (forest pool.new) }
-    ensures stands { Stands pool.new }
-    ensures lists { faces.new ≡ faces.old }
+fn show(work: &mut Workspace, answer: Handle, store: Option<Name>) -> Evaluation
+    requires ready { IsReady work.old }
+    requires handed { IsHanded answer (forest work.old.pool) }
+    requires reduced { is_reduced (tree_of answer work.old.pool) ≡ true }
+    ensures shows { Shows (name_in store) answer work.old.pool work.new.pool result }
+    ensures counted { CountsRefusal (refusal_of_evaluation result) work.old.pool work.new.pool }
+    ensures front { KeepsFront (answer ∷ []) (forest work.old.pool) (forest work.new.pool) }
+    ensures ready { IsReady work.new }
 {
-    match kind(pool, answer.id()) {
+    match kind(&work.pool, answer.id()) {
         Kind::Undef => Evaluation::Undefined,
-        _ => show_defined(pool, faces, answer, store),
+        _ => show_defined(work, answer, store),
     }
 }
 
 /// The same, where it is not Undef.
-fn show_defined(
-    pool: &mut Pool,
-    faces: &mut Faces,
-    answer: Handle,
-    store: Option<Name>,
-) -> Evaluation
-    requires stands { Stands pool.old }
-    requires lists { pool.old.size ≤ faces.old }
-    requires handed { IsHanded answer (forest pool.old) }
-    requires reduced { is_reduced (tree_of answer pool.old) ≡ true }
-    requires defined { is_undef (tree_of answer pool.old) ≡ false }
-    ensures shows { Shows (name_in store) answer pool.old pool.new result }
-    ensures counted { CountsRefusal (refusal_of_evaluation result) pool.old pool.new }
-    ensures front { KeepsFront (answer ∷ []) (forest pool.old) (forest pool.new) }
-    ensures stands { Stands pool.new }
-    ensures lists { faces.new ≡ faces.old }
+fn show_defined(work: &mut Workspace, answer: Handle, store: Option<Name>) -> Evaluation
+    requires ready { IsReady work.old }
+    requires handed { IsHanded answer (forest work.old.pool) }
+    requires reduced { is_reduced (tree_of answer work.old.pool) ≡ true }
+    requires defined { is_undef (tree_of answer work.old.pool) ≡ false }
+    ensures shows { Shows (name_in store) answer work.old.pool work.new.pool result }
+    ensures counted { CountsRefusal (refusal_of_evaluation result) work.old.pool work.new.pool }
+    ensures front { KeepsFront (answer ∷ []) (forest work.old.pool) (forest work.new.pool) }
+    ensures ready { IsReady work.new }
 {
-    match name_within(pool, answer.id(), store) {
+    match name_within(&work.pool, answer.id(), store) {
         Some(name) => Evaluation::Refused(Refusal::Circular { name }),
-        None => match faces.face_of(pool, answer) {
+        None => match work.faces.face_of(&mut work.pool, answer) {
             Ok(face) => Evaluation::Face(face),
             Err(full) => Evaluation::Refused(refused(full)),
         },

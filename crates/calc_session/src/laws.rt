@@ -15,28 +15,27 @@ ghost use Rattle.expand_forms.specs.PolynomialTrees.{is_polynomial};
 ghost use Rattle.linear_solve.specs.Equations.{Equation, nodes_of_sides};
 ghost use Rattle.linear_solve.specs.Fitting.{Misfit};
 ghost use Rattle.linear_solve.specs.Solving.{solving};
-ghost use Rattle.name_table.specs.Filling.{depth_limit, fills, values};
+ghost use Rattle.name_table.specs.Filling.{depth_limit, fills};
 ghost use Rattle.name_table.specs.Held.{IsHeld};
 ghost use Rattle.node_pool.specs.declared.full.Full.{Full};
 ghost use Rattle.reduce_port.specs.Bounds.{MayExceed};
 ghost use Rattle.reduce_port.specs.Checks.{TripsWithin};
-ghost use Rattle.calc_session.specs.Arguments.{ReadsText};
+ghost use Rattle.calc_session.specs.Arguments.{ReadsText, bytes_before};
 ghost use Rattle.calc_session.specs.Calculating.{IsReplyToExpression, made_in};
 ghost use Rattle.calc_session.specs.Deriving.{IsReplyToDerivative};
 ghost use Rattle.calc_session.specs.Enough.{HasBytesFor, HoldsNoSmallTree, IsAnswered, ReadsFilled};
-ghost use Rattle.calc_session.specs.Evaluations.{IsReplyTo};
 ghost use Rattle.calc_session.specs.Expanding.{IsReplyToExpansion, expansion_text};
 ghost use Rattle.calc_session.specs.ExpansionsMeant.{AsksExpansionOf, HaveSameCoefficients, TellsExpansion};
 ghost use Rattle.calc_session.specs.Forms.{form_room};
 ghost use Rattle.calc_session.specs.Meant.{HasNoMeaning, HasSmallRadicands, MeanTheSame, MeansNothing, ShowsMeaning};
 ghost use Rattle.calc_session.specs.Reading.{ReadsTree};
-ghost use Rattle.calc_session.specs.Replies.{Reply, circular, full, not_polynomial, report, shown, stored, undefined};
+ghost use Rattle.calc_session.specs.Replies.{Reply, circular, full, not_polynomial, refused, report, shown, stored, undefined};
 ghost use Rattle.calc_session.specs.RisingNames.{AreNamesOf};
 ghost use Rattle.calc_session.specs.Slopes.{TellsDerivative};
 ghost use Rattle.calc_session.specs.SolutionsMeant.{AsksToSolve, TellsSolutionsOf};
 ghost use Rattle.calc_session.specs.Solving.{IsReplyToEquations, first_not_linear};
 ghost use Rattle.calc_session.specs.States.{State, first_state, free_bytes, trees};
-ghost use Rattle.calc_session.specs.Steps.{IsReply, Step};
+ghost use Rattle.calc_session.specs.Steps.{IsReply, IsReplyToTree, Step};
 
 /// What is reduced to Undef means nothing.
 pub fn undef_has_no_meaning()
@@ -67,7 +66,7 @@ pub fn one_value_has_one_text()
 pub fn lines_that_read_are_evaluated()
     ensures { (room bits : Option (Tree → ℕ)) (old : State) (before after : List Breaker) (line : List ℕ) (reply : Reply) (tokens : List Placed) (store : Option (List ℕ)) (t : Tree)
         → ReadsTree old.table line tokens store t → IsReply room bits old before after line reply
-        → IsReplyTo room bits (free_bytes old) (values old.table (trees old)) t before after store reply }
+        → IsReplyToTree room bits old before after store t reply }
 {}
 
 /// A line is not refused for the pool where the bytes are free in which its tree is built and its names are replaced, and the
@@ -75,7 +74,7 @@ pub fn lines_that_read_are_evaluated()
 pub fn lines_with_room_are_never_full()
     ensures { (room bits : Option (Tree → ℕ)) (old : State) (before after : List Breaker) (line : List ℕ) (reply : Reply) (store : Option (List ℕ)) (t : Tree)
         → ReadsFilled old line store t → HasBytesFor old t → ¬ (MayExceed room t (free_bytes old))
-        → IsReply room bits old before after line reply → (refusal : Full) → reply ≢ full refusal }
+        → IsReply room bits old before after line reply → (refusal : Full) → reply ≢ refused (full refusal) }
 {}
 
 /// No session stores a tree that is smaller than the leaf of a name.
@@ -91,13 +90,13 @@ pub fn lines_are_answered()
     ensures { (room bits : Option (Tree → ℕ)) (old : State) (before after : List Breaker) (line : List ℕ) (reply : Reply) (store : Option (List ℕ)) (t : Tree)
         → ReadsFilled old line store t → depth t ≤ depth_limit → HasBytesFor old t
         → ¬ (MayExceed room t (free_bytes old)) → ¬ (MayExceed bits t 124) → ((place : ℕ) → ¬ (TripsWithin (nodes t) before after place))
-        → ((x : List ℕ) → reply ≢ circular x) → IsReply room bits old before after line reply → IsAnswered reply }
+        → ((x : List ℕ) → reply ≢ refused (circular x)) → IsReply room bits old before after line reply → IsAnswered reply }
 {}
 
 /// Only a store is circular, and only where what the line becomes holds the name.
 pub fn circular_lines_hold_their_name()
     ensures { (room bits : Option (Tree → ℕ)) (old : State) (before after : List Breaker) (line x : List ℕ) (store : Option (List ℕ)) (t : Tree)
-        → ReadsFilled old line store t → IsReply room bits old before after line (circular x) → (store ≡ Some x) × Contains (names t) x }
+        → ReadsFilled old line store t → IsReply room bits old before after line (refused (circular x)) → (store ≡ Some x) × Contains (names t) x }
 {}
 
 /// What is told of a line that asks for a derivative is the slope of what the line becomes: for all pairs of a value and a
@@ -112,7 +111,7 @@ pub fn derivatives_mean_the_slope()
 pub fn derivatives_are_calculated()
     ensures { (room bits : Option (Tree → ℕ)) (old : State) (before after : List Breaker) (line x text : List ℕ) (reply : Reply)
         → length line ≤ 1024 → IsCommandLine line (diff x text) → IsReply room bits old before after line reply
-        → IsReplyToExpression old before after line text (IsReplyToDerivative room bits (free_bytes old) before after x) reply }
+        → IsReplyToExpression old before after (bytes_before line text) text (IsReplyToDerivative room bits (free_bytes old) before after x) reply }
 {}
 
 /// A derivative is told where the text is read and filled, what it becomes has one, both fit into the bytes that were free,
@@ -136,7 +135,7 @@ pub fn solutions_mean_what_they_say()
 pub fn solutions_are_calculated()
     ensures { (room bits : Option (Tree → ℕ)) (old : State) (before after : List Breaker) (line text : List ℕ) (reply : Reply)
         → length line ≤ 1024 → IsCommandLine line (solve text) → IsReply room bits old before after line reply
-        → IsReplyToEquations old before after line text reply }
+        → IsReplyToEquations old before after (bytes_before line text) text reply }
 {}
 
 /// Solutions are told where the equations are read and their sides find room, they are linear and have at most six
@@ -160,7 +159,7 @@ pub fn expansions_mean_what_they_say()
 pub fn expansions_are_calculated()
     ensures { (room bits : Option (Tree → ℕ)) (old : State) (before after : List Breaker) (line text : List ℕ) (reply : Reply)
         → length line ≤ 1024 → IsCommandLine line (expand text) → IsReply room bits old before after line reply
-        → IsReplyToExpression old before after line text (IsReplyToExpansion (free_bytes old) before after) reply }
+        → IsReplyToExpression old before after (bytes_before line text) text (IsReplyToExpansion (free_bytes old) before after) reply }
 {}
 
 /// Of two lines, perhaps in two states, the same text is told where what they become has the same coefficients and an expansion
@@ -175,7 +174,7 @@ pub fn same_coefficients_same_text()
 pub fn other_trees_are_not_expanded()
     ensures { (room bits : Option (Tree → ℕ)) (old : State) (before after : List Breaker) (line : List ℕ) (reply : Reply) (t : Tree)
         → length line ≤ 1024 → AsksExpansionOf old line t → IsReply room bits old before after line reply
-        → (reply ≡ not_polynomial) ↔ (is_polynomial t ≡ false) }
+        → (reply ≡ refused not_polynomial) ↔ (is_polynomial t ≡ false) }
 {}
 
 /// An expansion is told where what the line becomes is a polynomial of at most 124 bits, the room of its expansion does not

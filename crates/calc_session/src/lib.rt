@@ -1,7 +1,9 @@
 //! A session with stored names: one line is one step of its model.
 #![tactic(auto)]
 
+mod answering;
 mod answers;
+mod calculating;
 mod commanding;
 mod differentiating;
 mod drawing;
@@ -10,6 +12,7 @@ mod evaluating;
 mod expanding;
 mod forms;
 mod laws;
+mod parts;
 mod reading;
 mod session;
 mod side_names;

@@ -1,5 +1,5 @@
 //! Lines, read by the grammar.
-ghost use Rattle.std.specs.Prelude.{◌≡◌, ◌≤◌, ◌+◌, ℕ, List, length, None, IfOk, IfErr, codes};
+ghost use Rattle.std.specs.Prelude.{◌≡◌, ◌≤◌, ◌+◌, ℕ, List, length, None, IfOk, IfErr, OnOk, codes};
 ghost use Rattle.std.specs.Str.{bytes_eq};
 ghost use Rattle.calc_language.specs.Tokens.{is_blank as is_blank_of};
 ghost use Rattle.calc_terms.specs.Leaf.{name_of};
@@ -11,10 +11,9 @@ ghost use Rattle.calc_tokens.specs.Placed.{Placed, bare};
 ghost use Rattle.calc_tokens.specs.Scanned.{AreTokensOf};
 ghost use Rattle.calc_tokens.specs.Tokens.{tokens_of};
 ghost use Rattle.name_table.specs.Storing.{IsStorable, name_in};
-ghost use Rattle.name_table.specs.Tables.{Table};
-ghost use Rattle.calc_session.specs.Answers.{reply_of};
+ghost use Rattle.calc_session.specs.Answers.{reason_of};
 ghost use Rattle.calc_session.specs.Arguments.{IsMisread, IsNoExpression, ReadsText};
-ghost use Rattle.calc_session.specs.Reading.{is_blank_line as is_blank_line_of, IsReplyUnread, IsText, ReadsAs, ReadsTree};
+ghost use Rattle.calc_session.specs.Reading.{is_blank_line as is_blank_line_of, IsUnstorable};
 ghost use Rattle.calc_session.specs.Replies.{refusal_in};
 
 use crate::Refusal;
@@ -26,35 +25,47 @@ use name_table::NameTable;
 /// The most bytes of a line.
 pub const LINE_LIMIT: usize = 1024;
 
-/// Reads a line by the grammar. The name is that under which its answer is to be stored.
-pub fn read_line(
-    line: &[u8],
-    table: &NameTable,
-    parser: &mut Parser,
-) -> Result<Option<Name>, Refusal>
-    requires { IsText line.now }
-    ensures tree { IfOk result (λ store. (t : Tree) × ReadsTree table.now line.now (tokens_of parser.new) (name_in store) t) }
-    ensures refused { IfErr result (λ refusal. IsReplyUnread table.now line.now (reply_of refusal)) }
-    ensures no_pool { IfErr result (λ refusal. refusal_in (reply_of refusal) ≡ None) }
+/// Reads a text by the grammar. The name is that under which its answer is to be stored. So many bytes of the line stand before
+/// it.
+pub fn read_text(text: &[u8], before: u16, parser: &mut Parser) -> Result<Option<Name>, Refusal>
+    requires { before + length text.now ≤ 1024 }
+    ensures tree { IfOk result (λ store. (t : Tree) × ReadsText text.now (tokens_of parser.new) (name_in store) t) }
+    ensures refused { IfErr result (λ refusal. IsMisread before text.now (reason_of refusal)) }
+    ensures no_pool { IfErr result (λ refusal. refusal_in (reason_of refusal) ≡ None) }
     ensures no_breaker { IfErr result (λ refusal. (place : ℕ) → refusal ≡ Refusal.Interrupted place → ⊥) }
 {
-    let shape = match parser.read(line) {
-        Ok(shape) => shape,
-        Err(fault) => return Err(refusal_to_read(fault, 0)),
-    };
-    check_store(shape.store, table)
+    match parser.read(text) {
+        Ok(shape) => Ok(shape.store),
+        Err(fault) => Err(refusal_to_read(fault, before)),
+    }
+}
+
+/// Reads a text as an expression to calculate with. So many bytes of the line stand before it.
+pub fn read_expression(text: &[u8], before: u16, parser: &mut Parser) -> Result<(), Refusal>
+    requires { before + length text.now ≤ 1024 }
+    ensures tree { IfOk result (λ _. (t : Tree) × ReadsText text.now (tokens_of parser.new) None t) }
+    ensures refused { IfErr result (λ refusal. IsNoExpression before text.now (reason_of refusal)) }
+    ensures no_pool { IfErr result (λ refusal. refusal_in (reason_of refusal) ≡ None) }
+    ensures no_breaker { IfErr result (λ refusal. (place : ℕ) → refusal ≡ Refusal.Interrupted place → ⊥) }
+{
+    match read_text(text, before, parser) {
+        Ok(store) => match store {
+            None => Ok(()),
+            Some(_) => Err(Refusal::Command),
+        },
+        Err(refusal) => Err(refusal),
+    }
 }
 
 /// Whether an answer can be stored under the name, where there is one.
-fn check_store(store: Option<Name>, table: &NameTable) -> Result<Option<Name>, Refusal>
-    ensures ok { IfOk result (λ name. (name ≡ store) × IsStorable (name_in store) table.now) }
-    ensures refused { (line : List ℕ) (tokens : List Placed) (t : Tree) → ReadsAs line tokens (name_in store) t
-        → IfErr result (λ refusal. IsReplyUnread table.now line (reply_of refusal)) }
-    ensures no_pool { IfErr result (λ refusal. refusal_in (reply_of refusal) ≡ None) }
+pub fn check_store(store: Option<Name>, table: &NameTable) -> Result<(), Refusal>
+    ensures ok { OnOk result (IsStorable (name_in store) table.now) }
+    ensures refused { IfErr result (λ refusal. IsUnstorable table.now (name_in store) (reason_of refusal)) }
+    ensures no_pool { IfErr result (λ refusal. refusal_in (reason_of refusal) ≡ None) }
     ensures no_breaker { IfErr result (λ refusal. (place : ℕ) → refusal ≡ Refusal.Interrupted place → ⊥) }
 {
     let Some(name) = store else {
-        return Ok(None);
+        return Ok(());
     };
     if is_ans(name) {
         return Err(Refusal::Reserved);
@@ -62,31 +73,14 @@ fn check_store(store: Option<Name>, table: &NameTable) -> Result<Option<Name>, R
     if !table.has_room_for(name) {
         return Err(Refusal::NamesFull);
     }
-    Ok(store)
-}
-
-/// Reads a text as an expression to calculate with. So many bytes of the line stand before it.
-pub fn read_expression(text: &[u8], before: u16, parser: &mut Parser) -> Result<(), Refusal>
-    requires { before + length text.now ≤ 1024 }
-    ensures tree { IfOk result (λ _. (t : Tree) × ReadsText text.now (tokens_of parser.new) None t) }
-    ensures refused { IfErr result (λ refusal. IsNoExpression before text.now (reply_of refusal)) }
-    ensures no_pool { IfErr result (λ refusal. refusal_in (reply_of refusal) ≡ None) }
-    ensures no_breaker { IfErr result (λ refusal. (place : ℕ) → refusal ≡ Refusal.Interrupted place → ⊥) }
-{
-    match parser.read(text) {
-        Ok(shape) => match shape.store {
-            None => Ok(()),
-            Some(_) => Err(Refusal::Command),
-        },
-        Err(fault) => Err(refusal_to_read(fault, before)),
-    }
+    Ok(())
 }
 
 /// The refusal of a text that is not read, where so many bytes of the line stand before it.
 fn refusal_to_read(fault: LineFault, before: u16) -> Refusal
     requires place { (text : List ℕ) × IsLineFaultOf text fault × (before + length text ≤ 1024) }
-    ensures refused { (text : List ℕ) → IsLineFaultOf text fault → IsMisread before text (reply_of result) }
-    ensures no_pool { refusal_in (reply_of result) ≡ None }
+    ensures refused { (text : List ℕ) → IsLineFaultOf text fault → IsMisread before text (reason_of result) }
+    ensures no_pool { refusal_in (reason_of result) ≡ None }
     ensures no_breaker { (place : ℕ) → result ≡ Refusal.Interrupted place → ⊥ }
 {
     match fault {
@@ -97,8 +91,8 @@ fn refusal_to_read(fault: LineFault, before: u16) -> Refusal
 
 fn token_refusal(fault: TokenFault, before: u16) -> Refusal
     requires place { (text : List ℕ) × IsFaultOf text fault × (before + length text ≤ 1024) }
-    ensures refused { (text : List ℕ) → IsFaultOf text fault → IsMisread before text (reply_of result) }
-    ensures no_pool { refusal_in (reply_of result) ≡ None }
+    ensures refused { (text : List ℕ) → IsFaultOf text fault → IsMisread before text (reason_of result) }
+    ensures no_pool { refusal_in (reason_of result) ≡ None }
     ensures no_breaker { (place : ℕ) → result ≡ Refusal.Interrupted place → ⊥ }
 {
     match fault {
@@ -108,8 +102,8 @@ fn token_refusal(fault: TokenFault, before: u16) -> Refusal
 }
 
 fn line_refusal(fault: ParseFault) -> Refusal
-    ensures refused { (before : ℕ) (text : List ℕ) (tokens : List Placed) → AreTokensOf tokens text → IsLineFault (bare tokens) fault → IsMisread before text (reply_of result) }
-    ensures no_pool { refusal_in (reply_of result) ≡ None }
+    ensures refused { (before : ℕ) (text : List ℕ) (tokens : List Placed) → AreTokensOf tokens text → IsLineFault (bare tokens) fault → IsMisread before text (reason_of result) }
+    ensures no_pool { refusal_in (reason_of result) ≡ None }
     ensures no_breaker { (place : ℕ) → result ≡ Refusal.Interrupted place → ⊥ }
 {
     match fault {

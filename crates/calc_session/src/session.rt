@@ -7,26 +7,20 @@ ghost use Rattle.calc_edges.specs.Faults.{HasCause, IsCalm, StopsAtFailure};
 ghost use Rattle.calc_edges.specs.Taken.{AppendsPart};
 ghost use Rattle.calc_terms.specs.Leaf.{name_of};
 ghost use Rattle.name_table.specs.Held.{IsHeld};
-ghost use Rattle.name_table.specs.Storing.{name_in};
 ghost use Rattle.node_pool.specs.State.{IsPoolSize};
 ghost use Rattle.tree_handles.specs.Standing.{Stands};
-ghost use Rattle.calc_session.specs.Answers.{answer_to};
-ghost use Rattle.calc_session.specs.Reading.{IsText};
 
-use crate::commanding::answer_command;
 use crate::drawing::draw_answer;
-use crate::evaluating::{Evaluation, evaluate};
-use crate::reading::{LINE_LIMIT, is_blank_line, read_line};
-use crate::text::{write_refusal, write_undef};
+use crate::parts::{Parts, Workspace};
+use crate::text::write_refusal;
 use crate::{DrawFault, LineAnswer, Refusal};
 use beautify::Faces;
 use breakers::{Breaker, Watch};
-use calc_commands::is_command;
 use calc_edges::{Failed, Sink};
 use calc_parser::Parser;
 use calc_terms::{Name, Rat};
 use expand_forms::TermLists;
-use line_text::{Text, write_text};
+use line_text::Text;
 use name_table::NameTable;
 use node_pool::{Id, Pool};
 use pool_layouts::Drafter;
@@ -43,18 +37,10 @@ const LEAST_TERMS: u32 = 64;
 
 const MOST_TERMS: u32 = 4_096;
 
-/// A pool, the table of the trees that stand in it, which are the last answer and the stored ones, the parser that each
-/// line is read by, the drafter that answers are drawn with, and the lists that faces are written with and that
-/// polynomials are expanded in.
+/// What answers line by line, with all that it keeps from line to line.
 #[derive(Drop)]
 pub struct Session {
-    pool: Pool,
-    table: NameTable,
-    text: Text,
-    parser: Parser,
-    drafter: Drafter,
-    faces: Faces,
-    lists: TermLists,
+    parts: Parts,
 }
 
 impl Model for Session {
@@ -64,15 +50,15 @@ impl Model for Session {
 
     ghost use Rattle.calc_session.specs.Kept.{seen_of, IsKept};
 
-    ghost view = { seen_of };
+    ghost view = { λ s. seen_of s.parts };
 
-    ghost invariant = { IsKept };
+    ghost invariant = { λ s. IsKept s.parts };
 }
 
 impl Session {
     ghost use Rattle.calc_session.specs.States.{first_state, trees};
     ghost use Rattle.calc_session.specs.Seen.{pool_of, Counts};
-    ghost use Rattle.calc_session.specs.Answers.{Answers, AnswersUntold, refusal_of_pool};
+    ghost use Rattle.calc_session.specs.Answers.{Answers, refusal_of_pool};
     ghost use Rattle.calc_session.specs.Counting.{AsksForTooMuch, IsCountedBut};
     ghost use Rattle.calc_session.specs.Drawing.{FailsToDraw, IsDrawn, StopsDrawing, lack_in, rows_in};
 
@@ -89,15 +75,14 @@ impl Session {
         let faces = Faces::open(alloc, size)?;
         let lists = TermLists::open(alloc, terms_within(size))?;
         let answer = number(&mut pool, Rat::whole(0)).unwrap();
-        Ok(Session {
-            pool,
+        let parts = Parts {
+            work: Workspace { pool, faces, lists },
             table: NameTable::new(answer),
             text,
             parser,
             drafter,
-            faces,
-            lists,
-        })
+        };
+        Ok(Session { parts })
     }
 
     /// Answers a line, which comes without its newline and the carriage return before that. Its tree is
@@ -119,88 +104,12 @@ impl Session {
         ensures counted { IsCountedBut (AsksForTooMuch self.old.state line.now) (λ refusal. Counts refusal self.old self.new) (refusal_of_pool result) }
         ensures held { IsHeld self.new.state.table (trees self.new.state) }
     {
-        self.text.clear();
-        let answer = self.answer(reducer, watch, line);
+        self.parts.text.clear();
+        let answer = self.parts.answer(reducer, watch, line);
         if let LineAnswer::Refused(refusal) = answer {
-            write_refusal(&mut self.text, refusal);
+            write_refusal(&mut self.parts.text, refusal);
         }
         answer
-    }
-
-    /// Answers a line. The text of a refusal is still to be written.
-    fn answer<R: Reducer, B: Breaker>(
-        &mut self,
-        reducer: &R,
-        watch: &mut Watch<B>,
-        line: &[u8],
-    ) -> LineAnswer
-        requires clear { self.old.text ≡ [] }
-        ensures answers { AnswersUntold R.room R.bits self.old.state (states B.state watch.old) line.now result self.new.text self.new.state (states B.state watch.new) }
-        ensures interrupted { (place : ℕ) → (result ≡ LineAnswer.Refused (Refusal.Interrupted place))
-            ↔ TripsRose (states B.state watch.old) (states B.state watch.new) place }
-        ensures counted { IsCountedBut (AsksForTooMuch self.old.state line.now) (λ refusal. Counts refusal self.old self.new) (refusal_of_pool result) }
-    {
-        if line.len() > LINE_LIMIT {
-            return LineAnswer::Refused(Refusal::Long);
-        }
-        if is_blank_line(line) {
-            return LineAnswer::Blank;
-        }
-        if is_command(line) {
-            return answer_command(
-                &mut self.pool,
-                &mut self.faces,
-                &mut self.lists,
-                &mut self.table,
-                &mut self.parser,
-                &mut self.drafter,
-                &mut self.text,
-                reducer,
-                watch,
-                line,
-            );
-        }
-        self.answer_text(reducer, watch, line)
-    }
-
-    /// Answers a line that is read by the grammar. The text of a refusal is still to be written.
-    fn answer_text<R: Reducer, B: Breaker>(
-        &mut self,
-        reducer: &R,
-        watch: &mut Watch<B>,
-        line: &[u8],
-    ) -> LineAnswer
-        requires clear { self.old.text ≡ [] }
-        requires text { IsText line.now }
-        ensures answers { AnswersUntold R.room R.bits self.old.state (states B.state watch.old) line.now result self.new.text self.new.state (states B.state watch.new) }
-        ensures interrupted { (place : ℕ) → (result ≡ LineAnswer.Refused (Refusal.Interrupted place))
-            ↔ TripsRose (states B.state watch.old) (states B.state watch.new) place }
-        ensures counted { Counts (refusal_of_pool result) self.old self.new }
-    {
-        let store = match read_line(line, &self.table, &mut self.parser) {
-            Ok(store) => store,
-            Err(refusal) => return LineAnswer::Refused(refusal),
-        };
-        match evaluate(
-            &mut self.pool,
-            &mut self.faces,
-            &self.table,
-            &mut self.parser,
-            store,
-            reducer,
-            watch,
-        ) {
-            Evaluation::Face(face) => {
-                write_text(&self.pool, face.id(), &mut self.text);
-                self.table.keep(&mut self.pool, store, face);
-                answer_with(store)
-            }
-            Evaluation::Undefined => {
-                write_undef(&mut self.text);
-                LineAnswer::Undef
-            }
-            Evaluation::Refused(refusal) => LineAnswer::Refused(refusal),
-        }
     }
 
     /// Draws the last answer: writes the rows of its picture, each with its newline as one piece. Its layout
@@ -220,15 +129,15 @@ impl Session {
         ensures counted { Counts (lack_in (rows_in self.old.state)) self.old self.new }
         ensures text { self.new.text ≡ [] }
     {
-        self.text.clear();
+        self.parts.text.clear();
         let drawn = draw_answer(
-            &mut self.pool,
-            self.table.ans(),
-            &mut self.drafter,
-            &mut self.text,
+            &mut self.parts.work.pool,
+            self.parts.table.ans(),
+            &mut self.parts.drafter,
+            &mut self.parts.text,
             sink,
         );
-        self.text.clear();
+        self.parts.text.clear();
         drawn
     }
 
@@ -237,7 +146,7 @@ impl Session {
     pub fn text(&self) -> &[u8]
         ensures { result.now ≡ self.now.text }
     {
-        self.text.bytes()
+        self.parts.text.bytes()
     }
 
     /// Writes the text and a newline to a sink, as one piece.
@@ -248,7 +157,7 @@ impl Session {
         ensures cause { HasCause (K.faults sink.old) (K.faults sink.new) result }
         ensures kept { self.new ≡ self.old }
     {
-        self.text.write_line(sink)
+        self.parts.text.write_line(sink)
     }
 
     /// The pool, which stands for exactly the trees of the table.
@@ -257,14 +166,14 @@ impl Session {
         ensures stands { Stands result.now }
         ensures held { IsHeld self.now.state.table (trees self.now.state) }
     {
-        &self.pool
+        &self.parts.work.pool
     }
 
     /// How many names are stored besides that of the last answer.
     pub fn names(&self) -> u16
         ensures { result ≡ length self.now.state.table.stored }
     {
-        self.table.names()
+        self.parts.table.names()
     }
 
     /// A stored name and the root of its tree, the oldest store having place 0.
@@ -272,28 +181,18 @@ impl Session {
         requires { at < length self.now.state.table.stored }
         ensures { slice_get self.now.state.table.stored at ≡ Some (record { name = name_of result.0; tree = result.1 }) }
     {
-        self.table.entry(at)
+        self.parts.table.entry(at)
     }
 
     /// The root of the last answer.
     pub fn ans(&self) -> Id
         ensures { result ≡ self.now.state.table.ans }
     {
-        self.table.ans()
+        self.parts.table.ans()
     }
 }
 
 /// How many terms the lists have room for, beside a pool of so many bytes.
 fn terms_within(size: u32) -> u16 {
     (size / BYTES_OF_TERM).max(LEAST_TERMS).min(MOST_TERMS) as u16
-}
-
-/// The answer to a line whose tree is displayed.
-fn answer_with(store: Option<Name>) -> LineAnswer
-    ensures { result ≡ answer_to (name_in store) }
-{
-    match store {
-        Some(_) => LineAnswer::Stored,
-        None => LineAnswer::Shown,
-    }
 }

@@ -9,35 +9,32 @@ ghost use Rattle.linear_solve.specs.Solutions.{IfNever, IfSolved, answer_told, f
 ghost use Rattle.linear_solve.specs.Told.{entries_of};
 ghost use Rattle.line_text.specs.Content.{extended, spare_of};
 ghost use Rattle.node_pool.specs.State.{free_of};
-ghost use Rattle.tree_handles.specs.Handed.{KeepsFront};
-ghost use Rattle.tree_handles.specs.Standing.{Stands, forest};
 ghost use Rattle.calc_session.specs.Answers.{CountsRefusal};
 ghost use Rattle.calc_session.specs.Forms.{IsSmall, IsSmallForm, form_room, lack_of};
+ghost use Rattle.calc_session.specs.Kept.{IsReady};
 ghost use Rattle.calc_session.specs.Pools.{after};
 ghost use Rattle.calc_session.specs.RisingNames.{Rises};
 ghost use Rattle.calc_session.specs.SolutionTexts.{comma_before as comma_before_text, form_tree, line_text, lines_text, multipliers_text, solution_text};
 
 use crate::forms::place_form;
+use crate::parts::Workspace;
 use crate::text::push_operand;
-use beautify::Faces;
 use calc_terms::{Name, Rat};
 use line_text::{Text, write_text};
 use linear_solve::{EquationRow, Line, NameRow, Solution};
-use node_pool::{Full, Pool};
+use node_pool::Full;
 use pool_checkpoints::{open_mark, roll_back};
 
 /// Writes the solutions of equations in these names. It is not inlined: what it keeps is on the machine's stack only once
 /// they are solved.
 #[inline(never)]
 pub fn write_solution(
-    pool: &mut Pool,
-    faces: &mut Faces,
+    work: &mut Workspace,
     names: &[Name],
     solution: &Solution,
     text: &mut Text,
 ) -> Result<(), Full>
-    requires stands { Stands pool.old }
-    requires lists { pool.old.size ≤ faces.old }
+    requires ready { IsReady work.old }
     requires rises { Rises (map name_of names.now) }
     requires few { length names.now ≤ 6 }
     requires empty { text.old.bytes ≡ [] }
@@ -45,20 +42,19 @@ pub fn write_solution(
     requires forms { IfSolved (Ok solution.now) (λ forms. (length forms ≡ length names.now) × HoldLaterFreeNames forms) }
     requires multipliers { IfNever (Ok solution.now) (λ cs. length cs ≤ 6) }
     ensures told { OnOk result (text.new.bytes ≡ solution_text (map name_of names.now) (answer_told solution.now)) }
-    ensures lacks { IfErr result (λ full. (full.free < full.needed) × (free_of pool.old < form_room)) }
+    ensures lacks { IfErr result (λ full. (full.free < full.needed) × (free_of work.old.pool < form_room)) }
     ensures solved { OnErr result ((forms : List Form) × (answer_told solution.now ≡ solved forms)) }
-    ensures counted { CountsRefusal (lack_of result) pool.old pool.new }
-    ensures as_before { pool.new ≡ after (lack_of result) pool.old.nodes pool.old }
+    ensures counted { CountsRefusal (lack_of result) work.old.pool work.new.pool }
+    ensures as_before { work.new.pool ≡ after (lack_of result) work.old.pool.nodes work.old.pool }
     ensures capacity { text.new.capacity ≡ text.old.capacity }
-    ensures stands { Stands pool.new }
-    ensures lists { faces.new ≡ faces.old }
+    ensures ready { IsReady work.new }
 {
     match solution {
         Solution::Never(multipliers) => {
             write_multipliers(multipliers, text);
             Ok(())
         }
-        Solution::Solved(lines) => write_lines(pool, faces, names, lines.as_slice(), text),
+        Solution::Solved(lines) => write_lines(work, names, lines.as_slice(), text),
     }
 }
 
@@ -86,14 +82,12 @@ fn comma_before(at: usize) -> &'static [u8]
 
 /// Writes the line of each name, and `true` where there is none: at most 1,408 bytes for each.
 fn write_lines(
-    pool: &mut Pool,
-    faces: &mut Faces,
+    work: &mut Workspace,
     names: &[Name],
     lines: &[Line],
     text: &mut Text,
 ) -> Result<(), Full>
-    requires stands { Stands pool.old }
-    requires lists { pool.old.size ≤ faces.old }
+    requires ready { IsReady work.old }
     requires rises { Rises (map name_of names.now) }
     requires few { length names.now ≤ 6 }
     requires lines { length lines.now ≡ length names.now }
@@ -101,12 +95,11 @@ fn write_lines(
     requires empty { text.old.bytes ≡ [] }
     requires room { 8448 ≤ text.old.capacity }
     ensures told { OnOk result (text.new.bytes ≡ lines_text (map name_of names.now) (map form_told lines.now)) }
-    ensures lacks { IfErr result (λ full. (full.free < full.needed) × (free_of pool.old < form_room)) }
-    ensures counted { CountsRefusal (lack_of result) pool.old pool.new }
-    ensures as_before { pool.new ≡ after (lack_of result) pool.old.nodes pool.old }
+    ensures lacks { IfErr result (λ full. (full.free < full.needed) × (free_of work.old.pool < form_room)) }
+    ensures counted { CountsRefusal (lack_of result) work.old.pool work.new.pool }
+    ensures as_before { work.new.pool ≡ after (lack_of result) work.old.pool.nodes work.old.pool }
     ensures capacity { text.new.capacity ≡ text.old.capacity }
-    ensures stands { Stands pool.new }
-    ensures lists { faces.new ≡ faces.old }
+    ensures ready { IsReady work.new }
 {
     if names.is_empty() {
         text.push(b"true");
@@ -114,34 +107,31 @@ fn write_lines(
     }
     for at in 0..names.len() {
         text.push(comma_before(at));
-        write_line(pool, faces, names, names[at], &lines[at], text)?;
+        write_line(work, names, names[at], &lines[at], text)?;
     }
     Ok(())
 }
 
 /// Appends what is told of a name: at most 1,407 bytes.
 fn write_line(
-    pool: &mut Pool,
-    faces: &mut Faces,
+    work: &mut Workspace,
     names: &[Name],
     name: Name,
     line: &Line,
     text: &mut Text,
 ) -> Result<(), Full>
-    requires stands { Stands pool.old }
-    requires lists { pool.old.size ≤ faces.old }
+    requires ready { IsReady work.old }
     requires rises { Rises (map name_of names.now) }
     requires few { length names.now ≤ 6 }
     requires small { IsSmallForm (map name_of names.now) (form_told line.now) }
     requires room { 1407 ≤ spare_of text.old }
     ensures told { OnOk result (text.new ≡ extended text.old (line_text (map name_of names.now) (name_of name) (form_told line.now))) }
     ensures short { OnOk result (length text.new.bytes ≤ length text.old.bytes + 1407) }
-    ensures lacks { IfErr result (λ full. (full.free < full.needed) × (free_of pool.old < form_room)) }
-    ensures counted { CountsRefusal (lack_of result) pool.old pool.new }
-    ensures as_before { pool.new ≡ after (lack_of result) pool.old.nodes pool.old }
+    ensures lacks { IfErr result (λ full. (full.free < full.needed) × (free_of work.old.pool < form_room)) }
+    ensures counted { CountsRefusal (lack_of result) work.old.pool work.new.pool }
+    ensures as_before { work.new.pool ≡ after (lack_of result) work.old.pool.nodes work.old.pool }
     ensures capacity { text.new.capacity ≡ text.old.capacity }
-    ensures stands { Stands pool.new }
-    ensures lists { faces.new ≡ faces.old }
+    ensures ready { IsReady work.new }
 {
     text.push(name.bytes());
     match line {
@@ -151,67 +141,49 @@ fn write_line(
         }
         Line::Bound { constant, coefs } => {
             text.push(b"=");
-            write_form(pool, faces, names, *constant, coefs, text)
+            write_form(work, names, *constant, coefs, text)
         }
     }
 }
 
 /// Appends a constant and multiples of names, at most 1,392 bytes. Their tree stands in the pool for so long.
 fn write_form(
-    pool: &mut Pool,
-    faces: &mut Faces,
+    work: &mut Workspace,
     names: &[Name],
     constant: Rat,
     coefs: &NameRow,
     text: &mut Text,
 ) -> Result<(), Full>
-    requires stands { Stands pool.old }
-    requires lists { pool.old.size ≤ faces.old }
+    requires ready { IsReady work.old }
     requires rises { Rises (map name_of names.now) }
     requires few { length names.now ≤ 6 }
     requires small { IsSmall (map name_of names.now) (entries_of coefs.now) }
     requires room { 1392 ≤ spare_of text.old }
     ensures told { OnOk result (text.new ≡ extended text.old (text_of (face (form_tree (map name_of names.now) (value_of constant) (entries_of coefs.now))))) }
     ensures short { OnOk result (length text.new.bytes ≤ length text.old.bytes + 1392) }
-    ensures lacks { IfErr result (λ full. (full.free < full.needed) × (free_of pool.old < form_room)) }
-    ensures counted { CountsRefusal (lack_of result) pool.old pool.new }
-    ensures as_before { pool.new ≡ after (lack_of result) pool.old.nodes pool.old }
+    ensures lacks { IfErr result (λ full. (full.free < full.needed) × (free_of work.old.pool < form_room)) }
+    ensures counted { CountsRefusal (lack_of result) work.old.pool work.new.pool }
+    ensures as_before { work.new.pool ≡ after (lack_of result) work.old.pool.nodes work.old.pool }
     ensures capacity { text.new.capacity ≡ text.old.capacity }
-    ensures stands { Stands pool.new }
-    ensures lists { faces.new ≡ faces.old }
+    ensures ready { IsReady work.new }
 {
-    let mark = open_mark(pool);
-    let written = write_above(pool, faces, names, constant, coefs, text);
-    roll_back(pool, mark);
-    written
-}
-
-/// The same, but that the tree stays.
-fn write_above(
-    pool: &mut Pool,
-    faces: &mut Faces,
-    names: &[Name],
-    constant: Rat,
-    coefs: &NameRow,
-    text: &mut Text,
-) -> Result<(), Full>
-    requires stands { Stands pool.old }
-    requires lists { pool.old.size ≤ faces.old }
-    requires rises { Rises (map name_of names.now) }
-    requires few { length names.now ≤ 6 }
-    requires small { IsSmall (map name_of names.now) (entries_of coefs.now) }
-    requires room { 1392 ≤ spare_of text.old }
-    ensures told { OnOk result (text.new ≡ extended text.old (text_of (face (form_tree (map name_of names.now) (value_of constant) (entries_of coefs.now))))) }
-    ensures short { OnOk result (length text.new.bytes ≤ length text.old.bytes + 1392) }
-    ensures lacks { IfErr result (λ full. (full.free < full.needed) × (free_of pool.old < form_room)) }
-    ensures counted { CountsRefusal (lack_of result) pool.old pool.new }
-    ensures front { KeepsFront [] (forest pool.old) (forest pool.new) }
-    ensures capacity { text.new.capacity ≡ text.old.capacity }
-    ensures stands { Stands pool.new }
-    ensures lists { faces.new ≡ faces.old }
-{
-    let tree = place_form(pool, names, constant, coefs)?;
-    let face = faces.face_of(pool, tree)?;
-    write_text(pool, face.id(), text);
-    Ok(())
+    let mark = open_mark(&work.pool);
+    let tree = match place_form(&mut work.pool, names, constant, coefs) {
+        Ok(tree) => tree,
+        Err(full) => {
+            roll_back(&mut work.pool, mark);
+            return Err(full);
+        }
+    };
+    match work.faces.face_of(&mut work.pool, tree) {
+        Ok(face) => {
+            write_text(&work.pool, face.id(), text);
+            roll_back(&mut work.pool, mark);
+            Ok(())
+        }
+        Err(full) => {
+            roll_back(&mut work.pool, mark);
+            Err(full)
+        }
+    }
 }

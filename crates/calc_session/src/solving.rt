@@ -8,31 +8,31 @@ ghost use Rattle.calc_terms.specs.Trees.{Tree};
 ghost use Rattle.calc_tokens.specs.Tokens.{tokens_of};
 ghost use Rattle.linear_solve.specs.Equations.{Equation, equation_at, equations_in};
 ghost use Rattle.name_table.specs.Filling.{values};
-ghost use Rattle.name_table.specs.Held.{HasEntries, IsHeld};
+ghost use Rattle.name_table.specs.Held.{HasEntries};
 ghost use Rattle.node_pool.specs.State.{free_of};
 ghost use Rattle.tree_handles.specs.Expressions.{IsExpression};
 ghost use Rattle.tree_handles.specs.Handed.{KeepsFront};
 ghost use Rattle.tree_handles.specs.Standing.{KeepsRefusals, Stands, forest};
-ghost use Rattle.calc_session.specs.Answers.{CountsRefusal, TellsReply, refusal_of_pool, reply_of};
-ghost use Rattle.calc_session.specs.Arguments.{IsNoExpression, ReadsText, bytes_before};
+ghost use Rattle.calc_session.specs.Answers.{CountsRefusal, TellsAs, reason_of, refusal_of_pool, reply_of};
+ghost use Rattle.calc_session.specs.Arguments.{IsNoExpression, ReadsText};
 ghost use Rattle.calc_session.specs.Evaluations.{Unmade, made};
+ghost use Rattle.calc_session.specs.Kept.{IsKept, state_in};
 ghost use Rattle.calc_session.specs.Ranges.{AreSplit, IsWithin, between, pieces_at};
 ghost use Rattle.calc_session.specs.Replies.{refusal_in};
 ghost use Rattle.calc_session.specs.Solved.{AreRootsOf, AreSolved, BuildsSide, refusal_to_solve};
 ghost use Rattle.calc_session.specs.Solving.{AreUnmade, Become, IsReplyToEquations, IsReplyToRead, IsReplyToSolve, ReadsEquation, ReadsSide, first_not_linear as first_not_linear_of, is_linear_equation as is_linear_equation_of};
-ghost use Rattle.calc_session.specs.States.{State, state_of};
+ghost use Rattle.calc_session.specs.States.{State};
 
 use crate::equations::{EQUATION_LIMIT, EquationRange, SplitFault, split};
 use crate::evaluating::{build_and_fill, refused};
+use crate::parts::Parts;
 use crate::reading::read_expression;
 use crate::side_names::{NameList, in_array, names_in};
 use crate::solution_text::write_solution;
 use crate::{LineAnswer, Refusal};
 use arrayvec::ArrayVec;
-use beautify::Faces;
 use breakers::{Breaker, Watch};
 use calc_parser::Parser;
-use line_text::Text;
 use linear_solve::{Solution, SolveFault, is_linear, solve};
 use name_table::NameTable;
 use node_pool::{Id, Pool};
@@ -52,111 +52,120 @@ struct Roots {
     right: ArrayVec<Id, EQUATION_LIMIT>,
 }
 
-/// Answers a command line with the solutions of the equations in a text at its end, behind so many bytes. The text of a
-/// refusal is still to be written.
-#[inline(never)]
-pub fn solve_equations<B: Breaker>(
-    pool: &mut Pool,
-    faces: &mut Faces,
-    table: &NameTable,
-    parser: &mut Parser,
-    text: &mut Text,
-    watch: &mut Watch<B>,
-    equations: &[u8],
+/// Equations of a text, where they stand in it, and how many bytes of the line stand before it.
+#[derive(Clone, Copy)]
+struct Equations<'a> {
+    text: &'a [u8],
     before: u16,
-) -> LineAnswer
-    requires stands { Stands pool.old }
-    requires lists { pool.old.size ≤ faces.old }
-    requires held { IsHeld table.now (forest pool.old) }
-    requires empty { text.old.bytes ≡ [] }
-    requires room { 8448 ≤ text.old.capacity }
-    requires short { before + length equations.now ≤ 1024 }
-    ensures told { (line : List ℕ) → bytes_before line equations.now ≡ before
-        → TellsReply (IsReplyToEquations (state_of pool.old table.now) (states B.state watch.old) (states B.state watch.new) line equations.now) result text.new.bytes }
-    ensures interrupted { (place : ℕ) → (result ≡ LineAnswer.Refused (Refusal.Interrupted place))
-        ↔ TripsRose (states B.state watch.old) (states B.state watch.new) place }
-    ensures counted { CountsRefusal (refusal_of_pool result) pool.old pool.new }
-    ensures same { state_of pool.new table.now ≡ state_of pool.old table.now }
-    ensures capacity { text.new.capacity ≡ text.old.capacity }
-    ensures stands { Stands pool.new }
-    ensures lists { faces.new ≡ faces.old }
-{
-    let ranges = match read_equations(equations, before, parser) {
-        Ok(ranges) => ranges,
-        Err(refusal) => return LineAnswer::Refused(refusal),
-    };
-    let solved = solve_read(
-        pool,
-        table,
-        parser,
-        watch,
-        equations,
-        ranges.as_slice(),
-        before,
-    );
-    let solved = match &solved {
-        Ok(solved) => solved,
-        Err(refusal) => return LineAnswer::Refused(*refusal),
-    };
-    let names = in_array(solved.names.as_slice());
-    match write_solution(
-        pool,
-        faces,
-        &names[..solved.names.len()],
-        &solved.solution,
-        text,
-    ) {
-        Ok(()) => LineAnswer::Report,
-        Err(full) => {
-            text.clear();
-            LineAnswer::Refused(refused(full))
+    ranges: &'a [EquationRange],
+}
+
+/// Where one side of an equation stands in the text.
+#[derive(Clone, Copy)]
+struct Side {
+    from: usize,
+    to: usize,
+}
+
+impl Parts {
+    /// Solves the equations in a text, behind so many bytes of the line, and tells the solutions. The text of a refusal is still
+    /// to be written. It is not inlined, as no command that calculates is.
+    #[inline(never)]
+    pub fn solve<B: Breaker>(
+        &mut self,
+        text: &[u8],
+        before: u16,
+        watch: &mut Watch<B>,
+    ) -> LineAnswer
+        requires kept { IsKept self.old }
+        requires empty { self.old.text.bytes ≡ [] }
+        requires short { before + length text.now ≤ 1024 }
+        ensures told { TellsAs (IsReplyToEquations (state_in self.old) (states B.state watch.old) (states B.state watch.new) before text.now) result self.new.text.bytes }
+        ensures interrupted { (place : ℕ) → (result ≡ LineAnswer.Refused (Refusal.Interrupted place))
+            ↔ TripsRose (states B.state watch.old) (states B.state watch.new) place }
+        ensures counted { CountsRefusal (refusal_of_pool result) self.old.work.pool self.new.work.pool }
+        ensures same { state_in self.new ≡ state_in self.old }
+        ensures kept { IsKept self.new }
+    {
+        let ranges = match read_equations(text, before, &mut self.parser) {
+            Ok(ranges) => ranges,
+            Err(refusal) => return LineAnswer::Refused(refusal),
+        };
+        let equations = Equations {
+            text,
+            before,
+            ranges: ranges.as_slice(),
+        };
+        let solved = solve_read(
+            &mut self.work.pool,
+            &self.table,
+            &mut self.parser,
+            &equations,
+            watch,
+        );
+        let solved = match &solved {
+            Ok(solved) => solved,
+            Err(refusal) => return LineAnswer::Refused(*refusal),
+        };
+        let names = in_array(solved.names.as_slice());
+        match write_solution(
+            &mut self.work,
+            &names[..solved.names.len()],
+            &solved.solution,
+            &mut self.text,
+        ) {
+            Ok(()) => LineAnswer::Report,
+            Err(full) => {
+                self.text.clear();
+                LineAnswer::Refused(refused(full))
+            }
         }
     }
 }
 
-/// Where the equations of a text stand, once each side was read as an expression.
+/// Where the equations of a text stand, once each side was read as an expression. The sides are read again when they are built,
+/// since a side that is none is refused before any that finds no room.
 fn read_equations(
-    equations: &[u8],
+    text: &[u8],
     before: u16,
     parser: &mut Parser,
 ) -> Result<ArrayVec<EquationRange, EQUATION_LIMIT>, Refusal>
-    requires short { before + length equations.now ≤ 1024 }
-    ensures split { IfOk result (λ ranges. AreSplit equations.now ranges.items) }
-    ensures read { IfOk result (λ ranges. (es : List Equation) × AllZip ReadsEquation (map (pieces_at before equations.now) ranges.items) es) }
-    ensures refused { (line : List ℕ) (old : State) (breakers : List Breaker) → bytes_before line equations.now ≡ before
-        → IfErr result (λ refusal. IsReplyToEquations old breakers breakers line equations.now (reply_of refusal)) }
-    ensures no_pool { IfErr result (λ refusal. refusal_in (reply_of refusal) ≡ None) }
+    requires short { before + length text.now ≤ 1024 }
+    ensures split { IfOk result (λ ranges. AreSplit text.now ranges.items) }
+    ensures read { IfOk result (λ ranges. (es : List Equation) × AllZip ReadsEquation (map (pieces_at before text.now) ranges.items) es) }
+    ensures refused { (old : State) (breakers : List Breaker) → IfErr result (λ refusal. IsReplyToEquations old breakers breakers before text.now (reply_of refusal)) }
+    ensures no_pool { IfErr result (λ refusal. refusal_in (reason_of refusal) ≡ None) }
     ensures no_breaker { IfErr result (λ refusal. (place : ℕ) → refusal ≡ Refusal.Interrupted place → ⊥) }
 {
-    let ranges = match split(equations) {
+    let ranges = match split(text) {
         Ok(ranges) => ranges,
         Err(SplitFault::Unwritten) => return Err(Refusal::Command),
         Err(SplitFault::TooMany) => return Err(Refusal::TooMany),
     };
     for range in ranges.as_slice() {
-        read_side(equations, range.begin, range.sign, before, parser)?;
-        read_side(equations, range.sign + 1, range.end, before, parser)?;
+        read_side(text, range.begin, range.sign, before, parser)?;
+        read_side(text, range.sign + 1, range.end, before, parser)?;
     }
     Ok(ranges)
 }
 
 /// Reads the side of an equation that stands there in a text, which begins behind so many bytes of the line.
 fn read_side(
-    equations: &[u8],
+    text: &[u8],
     from: usize,
     to: usize,
     before: u16,
     parser: &mut Parser,
 ) -> Result<(), Refusal>
     requires order { from ≤ to }
-    requires within { to ≤ length equations.now }
-    requires short { before + length equations.now ≤ 1024 }
-    ensures read { IfOk result (λ _. (t : Tree) × ReadsText (between from to equations.now) (tokens_of parser.new) None t) }
-    ensures refused { IfErr result (λ refusal. IsNoExpression (before + from) (between from to equations.now) (reply_of refusal)) }
-    ensures no_pool { IfErr result (λ refusal. refusal_in (reply_of refusal) ≡ None) }
+    requires within { to ≤ length text.now }
+    requires short { before + length text.now ≤ 1024 }
+    ensures read { IfOk result (λ _. (t : Tree) × ReadsText (between from to text.now) (tokens_of parser.new) None t) }
+    ensures refused { IfErr result (λ refusal. IsNoExpression (before + from) (between from to text.now) (reason_of refusal)) }
+    ensures no_pool { IfErr result (λ refusal. refusal_in (reason_of refusal) ≡ None) }
     ensures no_breaker { IfErr result (λ refusal. (place : ℕ) → refusal ≡ Refusal.Interrupted place → ⊥) }
 {
-    read_expression(&equations[from..to], before + from as u16, parser)
+    read_expression(&text[from..to], before + from as u16, parser)
 }
 
 /// Solves equations that were read. Their sides stand in the pool for so long. It is not inlined, nor are its parts: what they
@@ -166,69 +175,41 @@ fn solve_read<B: Breaker>(
     pool: &mut Pool,
     table: &NameTable,
     parser: &mut Parser,
+    equations: &Equations<'_>,
     watch: &mut Watch<B>,
-    equations: &[u8],
-    ranges: &[EquationRange],
-    before: u16,
 ) -> Result<Solved, Refusal>
     requires stands { Stands pool.old }
-    requires held { IsHeld table.now (forest pool.old) }
-    requires short { before + length equations.now ≤ 1024 }
-    requires few { length ranges.now ≤ 6 }
-    requires within { All (IsWithin equations.now) ranges.now }
-    requires reads { (es : List Equation) × AllZip ReadsEquation (map (pieces_at before equations.now) ranges.now) es }
-    ensures solved { (es : List Equation) → AllZip ReadsEquation (map (pieces_at before equations.now) ranges.now) es
+    requires entries { HasEntries table.now (forest pool.old) }
+    requires short { equations.now.before + length equations.now.text.now ≤ 1024 }
+    requires few { length equations.now.ranges.now ≤ 6 }
+    requires within { All (IsWithin equations.now.text.now) equations.now.ranges.now }
+    requires reads { (es : List Equation) × AllZip ReadsEquation (map (pieces_at equations.now.before equations.now.text.now) equations.now.ranges.now) es }
+    ensures solved { (es : List Equation) → AllZip ReadsEquation (map (pieces_at equations.now.before equations.now.text.now) equations.now.ranges.now) es
         → IfOk result (λ s. (left : ℕ) × (built : List Equation) × Become (values table.now (forest pool.old)) (free_of pool.old) es left built
         × AreSolved built (states B.state watch.old) (states B.state watch.new) s) }
-    ensures refused { (es : List Equation) → AllZip ReadsEquation (map (pieces_at before equations.now) ranges.now) es
+    ensures refused { (es : List Equation) → AllZip ReadsEquation (map (pieces_at equations.now.before equations.now.text.now) equations.now.ranges.now) es
         → IfErr result (λ refusal. IsReplyToRead (values table.now (forest pool.old)) (free_of pool.old) es
         (states B.state watch.old) (states B.state watch.new) (reply_of refusal)) }
     ensures calm { OnOk result ((place : ℕ) → TripsRose (states B.state watch.old) (states B.state watch.new) place → ⊥) }
     ensures interrupted { IfErr result (λ refusal. (place : ℕ) → (refusal ≡ Refusal.Interrupted place)
         ↔ TripsRose (states B.state watch.old) (states B.state watch.new) place) }
     ensures counted_ok { OnOk result (KeepsRefusals pool.old pool.new) }
-    ensures counted { IfErr result (λ refusal. CountsRefusal (refusal_in (reply_of refusal)) pool.old pool.new) }
+    ensures counted { IfErr result (λ refusal. CountsRefusal (refusal_in (reason_of refusal)) pool.old pool.new) }
     ensures as_before { pool.new.nodes ≡ pool.old.nodes }
     ensures stands { Stands pool.new }
 {
     let mark = open_mark(pool);
-    let solved = solve_above(pool, table, parser, watch, equations, ranges, before);
-    roll_back(pool, mark);
-    solved
-}
-
-/// The same, but that the sides stay.
-fn solve_above<B: Breaker>(
-    pool: &mut Pool,
-    table: &NameTable,
-    parser: &mut Parser,
-    watch: &mut Watch<B>,
-    equations: &[u8],
-    ranges: &[EquationRange],
-    before: u16,
-) -> Result<Solved, Refusal>
-    requires stands { Stands pool.old }
-    requires held { IsHeld table.now (forest pool.old) }
-    requires short { before + length equations.now ≤ 1024 }
-    requires few { length ranges.now ≤ 6 }
-    requires within { All (IsWithin equations.now) ranges.now }
-    requires reads { (es : List Equation) × AllZip ReadsEquation (map (pieces_at before equations.now) ranges.now) es }
-    ensures solved { (es : List Equation) → AllZip ReadsEquation (map (pieces_at before equations.now) ranges.now) es
-        → IfOk result (λ s. (left : ℕ) × (built : List Equation) × Become (values table.now (forest pool.old)) (free_of pool.old) es left built
-        × AreSolved built (states B.state watch.old) (states B.state watch.new) s) }
-    ensures refused { (es : List Equation) → AllZip ReadsEquation (map (pieces_at before equations.now) ranges.now) es
-        → IfErr result (λ refusal. IsReplyToRead (values table.now (forest pool.old)) (free_of pool.old) es
-        (states B.state watch.old) (states B.state watch.new) (reply_of refusal)) }
-    ensures calm { OnOk result ((place : ℕ) → TripsRose (states B.state watch.old) (states B.state watch.new) place → ⊥) }
-    ensures interrupted { IfErr result (λ refusal. (place : ℕ) → (refusal ≡ Refusal.Interrupted place)
-        ↔ TripsRose (states B.state watch.old) (states B.state watch.new) place) }
-    ensures counted_ok { OnOk result (KeepsRefusals pool.old pool.new) }
-    ensures counted { IfErr result (λ refusal. CountsRefusal (refusal_in (reply_of refusal)) pool.old pool.new) }
-    ensures front { KeepsFront [] (forest pool.old) (forest pool.new) }
-    ensures stands { Stands pool.new }
-{
-    let roots = build_equations(pool, table, parser, equations, ranges, before)?;
-    solve_trees(pool, roots.left.as_slice(), roots.right.as_slice(), watch)
+    match build_equations(pool, table, parser, equations) {
+        Ok(roots) => {
+            let solved = solve_trees(pool, roots.left.as_slice(), roots.right.as_slice(), watch);
+            roll_back(pool, mark);
+            solved
+        }
+        Err(refusal) => {
+            roll_back(pool, mark);
+            Err(refusal)
+        }
+    }
 }
 
 /// The trees of the sides behind all others, one side after another, with the stored trees in place of their names.
@@ -237,50 +218,41 @@ fn build_equations(
     pool: &mut Pool,
     table: &NameTable,
     parser: &mut Parser,
-    equations: &[u8],
-    ranges: &[EquationRange],
-    before: u16,
+    equations: &Equations<'_>,
 ) -> Result<Roots, Refusal>
     requires stands { Stands pool.old }
-    requires held { IsHeld table.now (forest pool.old) }
-    requires short { before + length equations.now ≤ 1024 }
-    requires few { length ranges.now ≤ 6 }
-    requires within { All (IsWithin equations.now) ranges.now }
-    requires reads { (es : List Equation) × AllZip ReadsEquation (map (pieces_at before equations.now) ranges.now) es }
-    ensures built { (es : List Equation) → AllZip ReadsEquation (map (pieces_at before equations.now) ranges.now) es
+    requires entries { HasEntries table.now (forest pool.old) }
+    requires short { equations.now.before + length equations.now.text.now ≤ 1024 }
+    requires few { length equations.now.ranges.now ≤ 6 }
+    requires within { All (IsWithin equations.now.text.now) equations.now.ranges.now }
+    requires reads { (es : List Equation) × AllZip ReadsEquation (map (pieces_at equations.now.before equations.now.text.now) equations.now.ranges.now) es }
+    ensures built { (es : List Equation) → AllZip ReadsEquation (map (pieces_at equations.now.before equations.now.text.now) equations.now.ranges.now) es
         → IfOk result (λ roots. Become (values table.now (forest pool.old)) (free_of pool.old) es (free_of pool.new)
         (equations_in (forest pool.new) roots.left.items roots.right.items)) }
-    ensures roots { IfOk result (λ roots. AreRootsOf (forest pool.new) (length ranges.now) roots.left.items roots.right.items) }
-    ensures refused { (es : List Equation) → AllZip ReadsEquation (map (pieces_at before equations.now) ranges.now) es
-        → IfErr result (λ refusal. AreUnmade (values table.now (forest pool.old)) (free_of pool.old) es (reply_of refusal)) }
+    ensures roots { IfOk result (λ roots. AreRootsOf (forest pool.new) (length equations.now.ranges.now) roots.left.items roots.right.items) }
+    ensures refused { (es : List Equation) → AllZip ReadsEquation (map (pieces_at equations.now.before equations.now.text.now) equations.now.ranges.now) es
+        → IfErr result (λ refusal. AreUnmade (values table.now (forest pool.old)) (free_of pool.old) es (reason_of refusal)) }
     ensures kept { OnOk result (KeepsRefusals pool.old pool.new) }
-    ensures counted { IfErr result (λ refusal. CountsRefusal (refusal_in (reply_of refusal)) pool.old pool.new) }
+    ensures counted { IfErr result (λ refusal. CountsRefusal (refusal_in (reason_of refusal)) pool.old pool.new) }
     ensures no_breaker { IfErr result (λ refusal. (place : ℕ) → refusal ≡ Refusal.Interrupted place → ⊥) }
     ensures front { KeepsFront [] (forest pool.old) (forest pool.new) }
     ensures stands { Stands pool.new }
 {
+    let ranges = equations.ranges;
     let mut left = ArrayVec::new();
     let mut right = ArrayVec::new();
     for range in ranges {
-        let root = build_side(
-            pool,
-            table,
-            parser,
-            equations,
-            range.begin,
-            range.sign,
-            before,
-        )?;
+        let side = Side {
+            from: range.begin,
+            to: range.sign,
+        };
+        let root = build_side(pool, table, parser, equations, side)?;
         left.push(root);
-        let root = build_side(
-            pool,
-            table,
-            parser,
-            equations,
-            range.sign + 1,
-            range.end,
-            before,
-        )?;
+        let side = Side {
+            from: range.sign + 1,
+            to: range.end,
+        };
+        let root = build_side(pool, table, parser, equations, side)?;
         right.push(root);
     }
     Ok(Roots { left, right })
@@ -291,29 +263,27 @@ fn build_side(
     pool: &mut Pool,
     table: &NameTable,
     parser: &mut Parser,
-    equations: &[u8],
-    from: usize,
-    to: usize,
-    before: u16,
+    equations: &Equations<'_>,
+    side: Side,
 ) -> Result<Id, Refusal>
     requires stands { Stands pool.old }
     requires entries { HasEntries table.now (forest pool.old) }
-    requires order { from ≤ to }
-    requires within { to ≤ length equations.now }
-    requires short { before + length equations.now ≤ 1024 }
-    requires reads { (t : Tree) × ReadsSide (record { before = before + from; text = between from to equations.now }) t }
-    ensures built { (t : Tree) → ReadsSide (record { before = before + from; text = between from to equations.now }) t
+    requires order { side.from ≤ side.to }
+    requires within { side.to ≤ length equations.now.text.now }
+    requires short { equations.now.before + length equations.now.text.now ≤ 1024 }
+    requires reads { (t : Tree) × ReadsSide (record { before = equations.now.before + side.from; text = between side.from side.to equations.now.text.now }) t }
+    ensures built { (t : Tree) → ReadsSide (record { before = equations.now.before + side.from; text = between side.from side.to equations.now.text.now }) t
         → IfOk result (BuildsSide table.now pool.old pool.new t) }
-    ensures refused { (t : Tree) → ReadsSide (record { before = before + from; text = between from to equations.now }) t
-        → IfErr result (λ refusal. Unmade (made (free_of pool.old) (values table.now (forest pool.old)) t) (reply_of refusal)) }
-    ensures counted { IfErr result (λ refusal. CountsRefusal (refusal_in (reply_of refusal)) pool.old pool.new) }
+    ensures refused { (t : Tree) → ReadsSide (record { before = equations.now.before + side.from; text = between side.from side.to equations.now.text.now }) t
+        → IfErr result (λ refusal. Unmade (made (free_of pool.old) (values table.now (forest pool.old)) t) (reason_of refusal)) }
+    ensures counted { IfErr result (λ refusal. CountsRefusal (refusal_in (reason_of refusal)) pool.old pool.new) }
     ensures no_breaker { IfErr result (λ refusal. (place : ℕ) → refusal ≡ Refusal.Interrupted place → ⊥) }
     ensures front { KeepsFront [] (forest pool.old) (forest pool.new) }
     ensures stands { Stands pool.new }
 {
-    read_side(equations, from, to, before, parser)?;
-    let side = build_and_fill(pool, table, parser)?;
-    Ok(side.id())
+    read_side(equations.text, side.from, side.to, equations.before, parser)?;
+    let tree = build_and_fill(pool, table, parser)?;
+    Ok(tree.id())
 }
 
 /// Solves the equations whose sides have these roots.
@@ -332,7 +302,7 @@ fn solve_trees<B: Breaker>(
     ensures solved { IfOk result (AreSolved (equations_in (forest pool.now) left.now right.now) (states B.state watch.old) (states B.state watch.new)) }
     ensures refused { (free : ℕ) → IfErr result (λ refusal. IsReplyToSolve free (equations_in (forest pool.now) left.now right.now)
         (states B.state watch.old) (states B.state watch.new) (reply_of refusal)) }
-    ensures no_pool { IfErr result (λ refusal. refusal_in (reply_of refusal) ≡ None) }
+    ensures no_pool { IfErr result (λ refusal. refusal_in (reason_of refusal) ≡ None) }
     ensures calm { OnOk result ((place : ℕ) → TripsRose (states B.state watch.old) (states B.state watch.new) place → ⊥) }
     ensures interrupted { IfErr result (λ refusal. (place : ℕ) → (refusal ≡ Refusal.Interrupted place)
         ↔ TripsRose (states B.state watch.old) (states B.state watch.new) place) }

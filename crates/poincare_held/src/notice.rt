@@ -1,6 +1,6 @@
 //! The line that stands in place of a picture.
 ghost use Rattle.std.specs.Prelude.{◌≡◌, [], ◌∷◌, ◌++◌, Some};
-ghost use Rattle.calc_session.specs.Replies.{full as full_reply, text_of};
+ghost use Rattle.calc_session.specs.Replies.{full as full_reason, refused, text_of};
 
 use calc_session::{Refusal, write_refusal};
 use line_text::Text;
@@ -35,7 +35,7 @@ impl Notice {
 
     /// Says with which numbers the layout was refused.
     pub fn put(&mut self, full: Full)
-        ensures { Some self.new ≡ text_of (full_reply full) }
+        ensures { Some self.new ≡ text_of (refused (full_reason full)) }
     {
         self.text.clear();
         let refusal = Refusal::Full {

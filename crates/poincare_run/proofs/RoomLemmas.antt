@@ -1,6 +1,6 @@
 -- In a session of the program, a line whose room is free is not refused for the pool.
 use Rattle.std.proofs.Common.{◌≡◌, ◌∙◌, ℕ, ◌+◌, ◌*◌, ◌^◌, ◌≤◌, List, [], ◌∷◌, Bool, true, false, cond, Option, Some, ap, arith}
-use Rattle.poincare_run.proofs.Shared.{Reply, circular, shown, stored, forgot, full, State, free_bytes, Leaves, Full, first_moment, options_of, bits, Chain, LineStep, Moment, room, Turn, Options}
+use Rattle.poincare_run.proofs.Shared.{Reply, circular, shown, stored, forgot, full, refused, State, free_bytes, Leaves, Full, first_moment, options_of, bits, Chain, LineStep, Moment, room, Turn, Options}
 use Rattle.std.proofs.lemmas.Nat.{mul-le, pow_pos}
 use Rattle.breakers.specs.State.{State as Breaker}
 use Rattle.calc_measures.specs.Measures.{all_simple, bits as bits_of, roots, room as room_of}
@@ -48,12 +48,12 @@ nodes_free words options breakers lines turns now t asked chain roomy =
     room_suffices t (free_bytes now.state) small roomy
 
 pub never_full : (words : List (List ℕ)) (options : Options) (breakers : List Breaker) (lines : List (List ℕ)) (turns : List Turn) (now next : Moment) (line : List ℕ) (reply : Reply) (store : Option (List ℕ)) (t : Tree)
-    → options_of words ≡ Some options → Chain (first_moment options breakers) lines turns now → LineStep now line reply next → ReadsFilled now.state line store t → room_of t ≤ free_bytes now.state → (refusal : Full) → reply ≡ full refusal → ⊥
+    → options_of words ≡ Some options → Chain (first_moment options breakers) lines turns now → LineStep now line reply next → ReadsFilled now.state line store t → room_of t ≤ free_bytes now.state → (refusal : Full) → reply ≡ refused (full refusal) → ⊥
 never_full words options breakers lines turns now next line reply store t asked chain step reads roomy =
     not_full room bits now.state now.breakers step.checked line store t reads (of_its_nodes (nodes_free words options breakers lines turns now t asked chain roomy)) (λ beyond. omega (arith, roomy, beyond)) reply step.step.reply_is
 
 pub answered_line : (words : List (List ℕ)) (options : Options) (breakers : List Breaker) (lines : List (List ℕ)) (turns : List Turn) (now next : Moment) (line : List ℕ) (reply : Reply) (store : Option (List ℕ)) (t : Tree) (step : LineStep now line reply next)
     → options_of words ≡ Some options → Chain (first_moment options breakers) lines turns now → ReadsFilled now.state line store t → depth t ≤ depth_limit → room_of t ≤ free_bytes now.state → bits_of t ≤ 124
-    → ((place : ℕ) → TripsWithin (nodes t) now.breakers step.checked place → ⊥) → ((x : List ℕ) → reply ≡ circular x → ⊥) → IsAnswered reply
+    → ((place : ℕ) → TripsWithin (nodes t) now.breakers step.checked place → ⊥) → ((x : List ℕ) → reply ≡ refused (circular x) → ⊥) → IsAnswered reply
 answered_line words options breakers lines turns now next line reply store t step asked chain reads shallow roomy few calm clear =
     answered room bits now.state now.breakers step.checked line store t reads (of_its_nodes (nodes_free words options breakers lines turns now t asked chain roomy)) (λ beyond. omega (arith, roomy, beyond)) shallow (λ beyond. omega (arith, few, beyond)) calm reply clear step.step.reply_is

@@ -4,12 +4,12 @@ unfoldable pub use Rattle.calc_commands.specs.Numbers.{value_of}
 pub use Rattle.calc_edges.proofs.Parts.{AppendsPart-after}
 pub use Rattle.calc_edges.proofs.Stops.{stops_later}
 pub use Rattle.calc_edges.specs.Taken.{AppendsPart}
-pub use Rattle.calc_session.specs.Answers.{Answers, IsAnswer, IsReport, printed, reply_of}
+pub use Rattle.calc_session.specs.Answers.{Answers, IsAnswer, IsReport, printed}
 pub use Rattle.calc_session.specs.Drawing.{FailsToDraw, IsDrawnInPart, StopsDrawing, rows_in}
-pub use Rattle.calc_session.specs.Replies.{Reply, circular, forgot, full, report, shown, stored, text_of}
+pub use Rattle.calc_session.specs.Replies.{Reason, Reply, circular, forgot, full, refused, report, shown, stored, text_of}
 pub use Rattle.calc_session.specs.Seen.{Seen}
 pub use Rattle.calc_session.specs.States.{State, free_bytes}
-pub use Rattle.calc_session.specs.Steps.{IsReply, Leaves, is_calculated, is_commanded, is_evaluated, is_unread}
+pub use Rattle.calc_session.specs.Steps.{IsReply, Leaves, asks_in_vain, is_replied}
 pub use Rattle.calc_session.specs.declared.answers.LineAnswer.{LineAnswer}
 pub use Rattle.calc_session.specs.declared.answers.LineAnswer.TheVariants.{Blank, Draw, Refused, Report, Shown, Stored, Undef}
 pub use Rattle.calc_session.specs.declared.answers.Refusal.{Refusal}

@@ -1,29 +1,20 @@
 -- Lemmas on the steps of a session, and on how far it has come.
 use Rattle.std.proofs.Common.{◌≡◌, ◌∙◌, ◌⊎◌, inl, inr, ℕ, List, [], ◌∷◌, ◌++◌, length, ◌<◌, Bool, true, false, nat_le, Option, refl, sym, ap, subst, arith, append_assoc, append-nil}
-use Rattle.poincare_run.proofs.Shared.{leb-true, leb-false, strip_carriage_return, LineAnswer, Blank, Shown, Stored, Undef, Report, Draw, Refused, Refusal, Answers, IsAnswer, IsReport, printed, reply_of, Reply, report, forgot, State, IsReply, is_unread, is_commanded, is_calculated, is_evaluated, LineBuffer, is_newline, lines_of, line_of_rest, whole_lines, rest_of, all_written, bits, Chain, LineStep, Moment, Turn, is_drawn, picture_if, picture_text, replies_of, room, Steps, with_newline, written, Holds, StandsFor, Answered, AnswersLine, FailsAtLine, Continues, Breaks, Goes, TakesLine, Place, Appends-nil, Appends-trans, AppendsPart-after}
+use Rattle.poincare_run.proofs.Shared.{leb-true, leb-false, strip_carriage_return, LineAnswer, Blank, Shown, Stored, Undef, Report, Draw, Refused, Answers, IsAnswer, IsReport, printed, Reason, Reply, report, forgot, State, IsReply, asks_in_vain, is_replied, LineBuffer, is_newline, lines_of, line_of_rest, whole_lines, rest_of, all_written, bits, Chain, LineStep, Moment, Turn, is_drawn, picture_if, picture_text, replies_of, room, Steps, with_newline, written, Holds, StandsFor, Answered, AnswersLine, FailsAtLine, Continues, Breaks, Goes, TakesLine, Place, Appends-nil, Appends-trans, AppendsPart-after}
 use Rattle.breakers.specs.Breakers.{kept}
 use Rattle.breakers.specs.State.{State as Breaker}
-use Rattle.calc_session.specs.Reading.{IsReplyUnread, is_long, is_nothing, has_no_token, has_a_wide_number, is_no_line, is_too_deep, stores_to_ans, finds_names_full}
-use Rattle.name_table.specs.Tables.{Table}
+use Rattle.calc_session.specs.Asking.{AsksInVain, is_long, is_no_line, is_no_command}
 use Rattle.poincare_run.proofs.LineLemmas.{whole_lines-newline, rest_of-newline, whole_lines-other, rest_of-other, whole_lines-front}
-use Rattle.calc_session.specs.declared.answers.Refusal.TheVariants as refusal
 
 -- what is kept of a line is answered as the line is
-long_unread : {table : Table} {kept : List ℕ} {reply : Reply} (line : List ℕ) → 1024 < length kept → 1024 < length line → IsReplyUnread table kept reply → IsReplyUnread table line reply
-long_unread line k h (is_long e) = is_long h
-long_unread line k h (is_nothing e f) = absurd (omega arith)
-long_unread line k h (has_no_token t f) = absurd (let short = t.short in omega arith)
-long_unread line k h (has_a_wide_number t f) = absurd (let short = t.short in omega arith)
-long_unread line k h (is_no_line t f g) = absurd (let short = t.short in omega arith)
-long_unread line k h (is_too_deep t f g) = absurd (let short = t.short in omega arith)
-long_unread line k h (stores_to_ans r f) = absurd (let short = r.text.short in omega arith)
-long_unread line k h (finds_names_full r f g) = absurd (let short = r.text.short in omega arith)
+long_vain : {kept : List ℕ} {reason : Reason} (line : List ℕ) → 1024 < length kept → 1024 < length line → AsksInVain kept reason → AsksInVain line reason
+long_vain line k h (is_long e) = is_long h
+long_vain line k h (is_no_line t m) = absurd (let short = t.short in omega arith)
+long_vain line k h (is_no_command short c none) = absurd (omega arith)
 
 long_reply : {s : State} {before after : List Breaker} {kept : List ℕ} {reply : Reply} (line : List ℕ) → 1024 < length kept → 1024 < length line → IsReply room bits s before after kept reply → IsReply room bits s before after line reply
-long_reply line k h (is_unread r same) = is_unread (long_unread line k h r) same
-long_reply line k h (is_commanded short e f) = absurd (omega arith)
-long_reply line k h (is_calculated short e f) = absurd (omega arith)
-long_reply line k h (is_evaluated r f) = absurd (let short = r.reads.text.short in omega arith)
+long_reply line k h (asks_in_vain v same) = asks_in_vain (long_vain line k h v) same
+long_reply line k h (is_replied short a r) = absurd (omega arith)
 
 same_reply : (s : State) (before after : List Breaker) (kept line : List ℕ) (reply : Reply) → StandsFor kept line → IsReply room bits s before after kept reply → IsReply room bits s before after line reply
 same_reply s before after kept line reply h r = by (nat_le (length line) 1024) refl
@@ -65,24 +56,6 @@ draws_for draws Stored = draws
 draws_for draws Draw = true
 draws_for draws answer = false
 
-refusal_undrawn : (draws : Bool) (r : Refusal) → is_drawn draws (reply_of r) ≡ false
-refusal_undrawn draws refusal.Long = refl
-refusal_undrawn draws (refusal.Character at) = refl
-refusal_undrawn draws (refusal.Number at) = refl
-refusal_undrawn draws refusal.Syntax = refl
-refusal_undrawn draws refusal.Deep = refl
-refusal_undrawn draws refusal.Reserved = refl
-refusal_undrawn draws refusal.NamesFull = refl
-refusal_undrawn draws (refusal.Full needed free) = refl
-refusal_undrawn draws (refusal.Overflow op a b) = refl
-refusal_undrawn draws (refusal.Interrupted by) = refl
-refusal_undrawn draws (refusal.Circular name) = refl
-refusal_undrawn draws refusal.Command = refl
-refusal_undrawn draws refusal.NotPolynomial = refl
-refusal_undrawn draws refusal.NoDerivative = refl
-refusal_undrawn draws (refusal.NotLinear equation) = refl
-refusal_undrawn draws refusal.TooMany = refl
-
 report_undrawn : (draws : Bool) (told : List ℕ) (reply : Reply) → IsReport told reply → is_drawn draws reply ≡ false
 report_undrawn draws told (report text) h = refl
 report_undrawn draws told (forgot x) h = refl
@@ -95,7 +68,7 @@ drawn_is draws Stored reply h = ap (is_drawn draws) h.2
 drawn_is draws Undef reply h = ap (is_drawn draws) h
 drawn_is draws Report reply h = report_undrawn draws h.0 reply h.1
 drawn_is draws Draw reply h = ap (is_drawn draws) h
-drawn_is draws (Refused r) reply h = ap (is_drawn draws) h ∙ refusal_undrawn draws r
+drawn_is draws (Refused r) reply h = ap (is_drawn draws) h
 
 module _ (old new : Place) (bytes : List ℕ) (answer : LineAnswer) (text : List ℕ) (t : TakesLine old new bytes answer text) where
   written_for : written t.reply new.now ≡ with_newline (printed answer text) ++ picture_if (draws_for new.now.draws answer) new.now.state

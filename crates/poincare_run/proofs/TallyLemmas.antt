@@ -1,11 +1,10 @@
 -- Lemmas on counts of answers.
 use Rattle.std.proofs.Common.{◌≡◌, ◌∙◌, ◌⊎◌, inl, inr, ℕ, ◌+◌, ◌≤◌, List, [], ◌∷◌, ◌++◌, length, false, refl, sym, ap, subst, arith, length-append}
-use Rattle.poincare_run.proofs.Shared.{LineAnswer, Blank, Shown, Stored, Undef, Report, Draw, Refused, Refusal, IsAnswer, IsReport, reply_of, Reply, report, forgot, Holds, is_newline, rest_of, whole_lines, Place, TakesLine, Tallied, Chain, Moment, replies_of, Sort, as_shown, as_stored, as_undefined, as_refusal, as_other, sort_of, one_shown, one_stored, one_undefined, one_refusal, how_many, text_length, tally_of}
+use Rattle.poincare_run.proofs.Shared.{LineAnswer, Blank, Shown, Stored, Undef, Report, Draw, Refused, IsAnswer, IsReport, Reply, report, forgot, Holds, is_newline, rest_of, whole_lines, Place, TakesLine, Tallied, Chain, Moment, replies_of, Sort, as_shown, as_stored, as_undefined, as_refusal, as_other, sort_of, one_shown, one_stored, one_undefined, one_refusal, how_many, text_length, tally_of}
 use Rattle.std.proofs.lemmas.List.Sums.{sum_by_push}
 use Rattle.poincare_run.specs.declared.tally.Tally.{Tally}
 use Rattle.poincare_run.proofs.LineLemmas.{whole_lines-newline, rest_of-newline, whole_lines-other, rest_of-other}
 use Rattle.poincare_run.proofs.StepLemmas.{chain_more, replies-more}
-use Rattle.calc_session.specs.declared.answers.Refusal.TheVariants as refusal
 
 -- the sort that an answer tells
 abbrev pub sort_told : LineAnswer → Sort
@@ -16,24 +15,6 @@ sort_told Undef = as_undefined
 sort_told Report = as_other
 sort_told Draw = as_other
 sort_told (Refused refusal) = as_refusal
-
-refusal_sort : (r : Refusal) → sort_of (reply_of r) ≡ as_refusal
-refusal_sort refusal.Long = refl
-refusal_sort (refusal.Character at) = refl
-refusal_sort (refusal.Number at) = refl
-refusal_sort refusal.Syntax = refl
-refusal_sort refusal.Deep = refl
-refusal_sort refusal.Reserved = refl
-refusal_sort refusal.NamesFull = refl
-refusal_sort (refusal.Full needed free) = refl
-refusal_sort (refusal.Overflow op a b) = refl
-refusal_sort (refusal.Interrupted by) = refl
-refusal_sort (refusal.Circular name) = refl
-refusal_sort refusal.Command = refl
-refusal_sort refusal.NotPolynomial = refl
-refusal_sort refusal.NoDerivative = refl
-refusal_sort (refusal.NotLinear equation) = refl
-refusal_sort refusal.TooMany = refl
 
 report_sort : (told : List ℕ) (reply : Reply) → IsReport told reply → sort_of reply ≡ as_other
 report_sort told (report text) h = refl
@@ -47,7 +28,7 @@ sort_is Stored reply h = ap sort_of h.2
 sort_is Undef reply h = ap sort_of h
 sort_is Report reply h = report_sort h.0 reply h.1
 sort_is Draw reply h = ap sort_of h
-sort_is (Refused r) reply h = ap sort_of h ∙ refusal_sort r
+sort_is (Refused r) reply h = ap sort_of h
 
 pub other_told : (answer : LineAnswer) → (answer ≡ Blank) ⊎ ((answer ≡ Report) ⊎ (answer ≡ Draw)) → sort_told answer ≡ as_other
 other_told answer (inl e) = ap sort_told e

@@ -3,7 +3,7 @@ use Rattle.std.specs.Prelude.{◌≡◌, ℕ, List, [], ◌∷◌, ◌++◌, map
 use Rattle.breakers.specs.Breakers.{kept}
 use Rattle.breakers.specs.State.{State as Breaker}
 use Rattle.calc_session.specs.Drawing.{rows_in}
-use Rattle.calc_session.specs.Replies.{Reply, shown, stored, drawn, full, text_of}
+use Rattle.calc_session.specs.Replies.{Reply, shown, stored, drawn, refused, full, text_of}
 use Rattle.calc_session.specs.States.{State}
 use Rattle.calc_session.specs.Steps.{Step}
 use Rattle.calc_measures.specs.Measures.{room as room_of, bits as bits_of}
@@ -52,7 +52,7 @@ with_newline (Some text) = text ++ 10 ∷ []
 
 -- the picture of the last answer: its rows, or that its layout finds no room
 abbrev pub picture_text : State → List ℕ
-picture_text s = elim (rows_in s) [ Ok rows ↦ rows | Err refusal ↦ with_newline (text_of (full refusal)) ]
+picture_text s = elim (rows_in s) [ Ok rows ↦ rows | Err refusal ↦ with_newline (text_of (refused (full refusal))) ]
 
 abbrev pub picture_if : Bool → State → List ℕ
 picture_if draws s = if draws then picture_text s else []

@@ -2,7 +2,7 @@
 use Rattle.std.specs.Prelude.{ℕ, ◌≤◌, ◌*◌, ◌^◌, List, ◌++◌, length, Some, None, codes}
 use Rattle.std.specs.List.{sum_by}
 use Rattle.std.specs.Fmt.{decimal}
-use Rattle.calc_session.specs.Replies.{Reply, shown, stored, undefined, long, character_at, number_at, syntax, deep, reserved, names_full, full, overflow, interrupted, circular, command, not_polynomial, no_derivative, not_linear, too_many, text_of}
+use Rattle.calc_session.specs.Replies.{Reply, shown, stored, undefined, refused, text_of}
 use Rattle.poincare_run.specs.declared.tally.Tally.{Tally}
 
 -- the sorts of replies that are counted
@@ -17,22 +17,7 @@ abbrev pub sort_of : Reply → Sort
 sort_of (shown t) = as_shown
 sort_of (stored t x) = as_stored
 sort_of undefined = as_undefined
-sort_of long = as_refusal
-sort_of (character_at at) = as_refusal
-sort_of (number_at at) = as_refusal
-sort_of syntax = as_refusal
-sort_of deep = as_refusal
-sort_of reserved = as_refusal
-sort_of names_full = as_refusal
-sort_of (full refusal) = as_refusal
-sort_of (overflow op a b) = as_refusal
-sort_of (interrupted by) = as_refusal
-sort_of (circular x) = as_refusal
-sort_of command = as_refusal
-sort_of not_polynomial = as_refusal
-sort_of no_derivative = as_refusal
-sort_of (not_linear equation) = as_refusal
-sort_of too_many = as_refusal
+sort_of (refused reason) = as_refusal
 sort_of reply = as_other
 
 -- 1 for a reply of the sort, and else 0

@@ -3,7 +3,7 @@ ghost use Rattle.std.specs.Prelude.{◌≡◌, ◌≢◌, ◌≤◌, ℕ, List, 
 ghost use Rattle.breakers.specs.State.{State as Breaker};
 ghost use Rattle.calc_measures.specs.Measures.{bits as bits_of, room as room_of};
 ghost use Rattle.calc_session.specs.Enough.{IsAnswered, ReadsFilled};
-ghost use Rattle.calc_session.specs.Replies.{Reply, circular, full};
+ghost use Rattle.calc_session.specs.Replies.{Reply, circular, full, refused};
 ghost use Rattle.calc_session.specs.States.{free_bytes};
 ghost use Rattle.calc_terms.specs.Trees.{Tree, depth, nodes};
 ghost use Rattle.name_table.specs.Filling.{depth_limit};
@@ -28,7 +28,7 @@ pub fn words_ask_for_options()
 pub fn lines_with_room_are_never_full()
     ensures { (words : List (List ℕ)) (options : Options) (breakers : List Breaker) (lines : List (List ℕ)) (turns : List Turn) (now next : Moment) (line : List ℕ) (reply : Reply) (store : Option (List ℕ)) (t : Tree)
         → options_of words ≡ Some options → Chain (first_moment options breakers) lines turns now → LineStep now line reply next
-        → ReadsFilled now.state line store t → room_of t ≤ free_bytes now.state → (refusal : Full) → reply ≢ full refusal }
+        → ReadsFilled now.state line store t → room_of t ≤ free_bytes now.state → (refusal : Full) → reply ≢ refused (full refusal) }
 {}
 
 /// Where what the line becomes is at most 64 deep and has at most 124 bits, too, and no breaker trips in as many checks as it has
@@ -37,5 +37,5 @@ pub fn lines_are_answered()
     ensures { (words : List (List ℕ)) (options : Options) (breakers : List Breaker) (lines : List (List ℕ)) (turns : List Turn) (now next : Moment) (line : List ℕ) (reply : Reply) (store : Option (List ℕ)) (t : Tree) (step : LineStep now line reply next)
         → options_of words ≡ Some options → Chain (first_moment options breakers) lines turns now
         → ReadsFilled now.state line store t → depth t ≤ depth_limit → room_of t ≤ free_bytes now.state → bits_of t ≤ 124
-        → ((place : ℕ) → ¬ (TripsWithin (nodes t) now.breakers step.checked place)) → ((x : List ℕ) → reply ≢ circular x) → IsAnswered reply }
+        → ((place : ℕ) → ¬ (TripsWithin (nodes t) now.breakers step.checked place)) → ((x : List ℕ) → reply ≢ refused (circular x)) → IsAnswered reply }
 {}

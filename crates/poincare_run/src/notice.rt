@@ -3,7 +3,7 @@ ghost use Rattle.std.specs.Prelude.{◌≡◌, [], ◌∷◌, ◌++◌, OnErr, O
 ghost use Rattle.std.specs.Io.KnownBytes.{Appends};
 ghost use Rattle.calc_edges.specs.Faults.{HasCause, StopsAtFailure};
 ghost use Rattle.calc_edges.specs.Taken.{AppendsPart};
-ghost use Rattle.calc_session.specs.Replies.{full as full_reply, text_of};
+ghost use Rattle.calc_session.specs.Replies.{full as full_reason, refused, text_of};
 
 use calc_edges::{Failed, Sink};
 use calc_session::{Refusal, write_refusal};
@@ -39,7 +39,7 @@ impl Notice {
 
     /// Says with which numbers the layout was refused.
     pub fn put(&mut self, full: Full)
-        ensures { Some self.new ≡ text_of (full_reply full) }
+        ensures { Some self.new ≡ text_of (refused (full_reason full)) }
     {
         self.text.clear();
         let refusal = Refusal::Full {

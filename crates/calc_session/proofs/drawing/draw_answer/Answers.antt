@@ -1,18 +1,55 @@
-use Rattle.calc_session.proofs.Shared.{forest, lack_in, rows_text, told_at}
-use Rattle.calc_session.proofs.PoolLemmas.{IsRolledBack, old_below, rolled_back}
-use Rattle.calc_session.proofs.drawing.draw_answer.Goals.{After-roll_back}
+use Rattle.std.proofs.Common.{ap, sym, subst, arith}
+use Rattle.calc_session.proofs.Shared.{IsLayout, drawing, given_layout, given_room, bytes_in, tree_at, forest, CountsRefusal, lack_in, rows_text, told_at}
+use Rattle.calc_session.proofs.DrawingLemmas.{drawn_all, drawn_in_part, given_told, lacks_where, told_where}
+use Rattle.calc_session.proofs.PoolLemmas.{old_below, rolled_back}
 use Rattle.calc_session.proofs.drawing.draw_answer.Goals as goal
 
+pub write_rows-requires-clause-layout : goal.write_rows-requires-clause-layout
+write_rows-requires-clause-layout g c = subst (λ i. IsLayout i (forest c.layout_of.new.pool)) (sym c.id.ensures) (given_layout c.layout_of.ensures.stands c.in-Ok.ensures.ok)
+
+pub write_rows-requires-clause-room : goal.write_rows-requires-clause-room
+write_rows-requires-clause-room g c =
+    omega (arith, given_room c.layout_of.ensures.stands c.in-Ok.ensures.ok, ap (λ i. bytes_in (tree_at i (forest c.layout_of.new.pool))) c.id.ensures, c.requires.room, c.in-Ok.ensures.kept.size)
+
 pub roll_back-requires-clause-below : goal.roll_back-requires-clause-below
-roll_back-requires-clause-below g c = (forest c.args.pool.now, old_below (c.open_mark-mark.ensures.trees c.requires.stands) c.draw_above-drawn.ensures.front)
+roll_back-requires-clause-below g c = (forest c.args.pool.now, old_below (c.open_mark-mark.ensures.trees c.requires.stands) c.layout_of.ensures.front)
 
-back : (g : _) (c : After-roll_back g) → IsRolledBack (lack_in (told_at rows_text c.args.answer c.args.pool.now)) c.args.pool.now c.roll_back.new.pool
-back g c =
-    rolled_back (lack_in (told_at rows_text c.args.answer c.args.pool.now)) c.args.pool.now c.draw_above-drawn.new.pool c.roll_back.new.pool c.requires.stands c.roll_back.ensures.stands c.draw_above-drawn.ensures.counted c.roll_back.ensures.kept
-    (c.roll_back.ensures.forest (forest c.args.pool.now) (old_below (c.open_mark-mark.ensures.trees c.requires.stands) c.draw_above-drawn.ensures.front))
+pub roll_back-requires-in-Err-write_rows-clause-below : goal.roll_back-requires-in-Err-write_rows-clause-below
+roll_back-requires-in-Err-write_rows-clause-below g c = (forest c.args.pool.now, old_below (c.open_mark-mark.ensures.trees c.requires.stands) c.layout_of.ensures.front)
 
-pub returns-clause-counted : goal.returns-clause-counted
-returns-clause-counted g c = (back g c).counted
+pub roll_back-requires-in-Err-clause-below : goal.roll_back-requires-in-Err-clause-below
+roll_back-requires-in-Err-clause-below g c = (forest c.args.pool.now, old_below (c.open_mark-mark.ensures.trees c.requires.stands) c.layout_of.ensures.front)
 
-pub returns-clause-as_before : goal.returns-clause-as_before
-returns-clause-as_before g c = (back g c).as_before
+pub returns-in-Ok-write_rows-clause-drawn : goal.returns-in-Ok-write_rows-clause-drawn
+returns-in-Ok-write_rows-clause-drawn g c =
+    drawn_all (told_at rows_text c.args.answer c.args.pool.now) (rows_text (drawing (tree_at c.id.result (forest c.layout_of.new.pool)))) _ _
+    (given_told rows_text c.args.answer c.args.pool.now c.layout_of.new.pool c.in-Ok.layout c.id.result _ c.layout_of.ensures.stands c.in-Ok.ensures.ok c.id.ensures c.in-Ok.ensures.room) c.in-Ok-write_rows.ensures.appended
+
+pub returns-in-Err-write_rows-clause-fails : goal.returns-in-Err-write_rows-clause-fails
+returns-in-Err-write_rows-clause-fails g c =
+    drawn_in_part (told_at rows_text c.args.answer c.args.pool.now) (rows_text (drawing (tree_at c.id.result (forest c.layout_of.new.pool)))) _ _
+    (given_told rows_text c.args.answer c.args.pool.now c.layout_of.new.pool c.in-Ok.layout c.id.result _ c.layout_of.ensures.stands c.in-Ok.ensures.ok c.id.ensures c.in-Ok.ensures.room) c.in-Err-write_rows.ensures.part
+
+pub returns-in-Ok-write_rows-clause-counted : goal.returns-in-Ok-write_rows-clause-counted
+returns-in-Ok-write_rows-clause-counted g c = (rolled_back (lack_in (told_at rows_text c.args.answer c.args.pool.now)) c.args.pool.now c.layout_of.new.pool c.roll_back.new.pool c.requires.stands c.roll_back.ensures.stands (subst (λ r. CountsRefusal (lack_in r) c.args.pool.now c.layout_of.new.pool) (sym (told_where rows_text c.args.answer c.args.pool.now _ c.in-Ok.ensures.room)) c.in-Ok.ensures.kept) c.roll_back.ensures.kept
+    (c.roll_back.ensures.forest (forest c.args.pool.now) (old_below (c.open_mark-mark.ensures.trees c.requires.stands) c.layout_of.ensures.front))).counted
+
+pub returns-in-Ok-write_rows-clause-as_before : goal.returns-in-Ok-write_rows-clause-as_before
+returns-in-Ok-write_rows-clause-as_before g c = (rolled_back (lack_in (told_at rows_text c.args.answer c.args.pool.now)) c.args.pool.now c.layout_of.new.pool c.roll_back.new.pool c.requires.stands c.roll_back.ensures.stands (subst (λ r. CountsRefusal (lack_in r) c.args.pool.now c.layout_of.new.pool) (sym (told_where rows_text c.args.answer c.args.pool.now _ c.in-Ok.ensures.room)) c.in-Ok.ensures.kept) c.roll_back.ensures.kept
+    (c.roll_back.ensures.forest (forest c.args.pool.now) (old_below (c.open_mark-mark.ensures.trees c.requires.stands) c.layout_of.ensures.front))).as_before
+
+pub returns-in-Err-write_rows-clause-counted : goal.returns-in-Err-write_rows-clause-counted
+returns-in-Err-write_rows-clause-counted g c = (rolled_back (lack_in (told_at rows_text c.args.answer c.args.pool.now)) c.args.pool.now c.layout_of.new.pool c.roll_back-in-Err-write_rows.new.pool c.requires.stands c.roll_back-in-Err-write_rows.ensures.stands (subst (λ r. CountsRefusal (lack_in r) c.args.pool.now c.layout_of.new.pool) (sym (told_where rows_text c.args.answer c.args.pool.now _ c.in-Ok.ensures.room)) c.in-Ok.ensures.kept) c.roll_back-in-Err-write_rows.ensures.kept
+    (c.roll_back-in-Err-write_rows.ensures.forest (forest c.args.pool.now) (old_below (c.open_mark-mark.ensures.trees c.requires.stands) c.layout_of.ensures.front))).counted
+
+pub returns-in-Err-write_rows-clause-as_before : goal.returns-in-Err-write_rows-clause-as_before
+returns-in-Err-write_rows-clause-as_before g c = (rolled_back (lack_in (told_at rows_text c.args.answer c.args.pool.now)) c.args.pool.now c.layout_of.new.pool c.roll_back-in-Err-write_rows.new.pool c.requires.stands c.roll_back-in-Err-write_rows.ensures.stands (subst (λ r. CountsRefusal (lack_in r) c.args.pool.now c.layout_of.new.pool) (sym (told_where rows_text c.args.answer c.args.pool.now _ c.in-Ok.ensures.room)) c.in-Ok.ensures.kept) c.roll_back-in-Err-write_rows.ensures.kept
+    (c.roll_back-in-Err-write_rows.ensures.forest (forest c.args.pool.now) (old_below (c.open_mark-mark.ensures.trees c.requires.stands) c.layout_of.ensures.front))).as_before
+
+pub returns-in-Err-clause-counted : goal.returns-in-Err-clause-counted
+returns-in-Err-clause-counted g c = (rolled_back (lack_in (told_at rows_text c.args.answer c.args.pool.now)) c.args.pool.now c.layout_of.new.pool c.roll_back-in-Err.new.pool c.requires.stands c.roll_back-in-Err.ensures.stands (subst (λ r. CountsRefusal (lack_in r) c.args.pool.now c.layout_of.new.pool) (sym (lacks_where rows_text c.args.answer c.args.pool.now c.in-Err.full c.in-Err.ensures.full)) c.in-Err.ensures.refuses) c.roll_back-in-Err.ensures.kept
+    (c.roll_back-in-Err.ensures.forest (forest c.args.pool.now) (old_below (c.open_mark-mark.ensures.trees c.requires.stands) c.layout_of.ensures.front))).counted
+
+pub returns-in-Err-clause-as_before : goal.returns-in-Err-clause-as_before
+returns-in-Err-clause-as_before g c = (rolled_back (lack_in (told_at rows_text c.args.answer c.args.pool.now)) c.args.pool.now c.layout_of.new.pool c.roll_back-in-Err.new.pool c.requires.stands c.roll_back-in-Err.ensures.stands (subst (λ r. CountsRefusal (lack_in r) c.args.pool.now c.layout_of.new.pool) (sym (lacks_where rows_text c.args.answer c.args.pool.now c.in-Err.full c.in-Err.ensures.full)) c.in-Err.ensures.refuses) c.roll_back-in-Err.ensures.kept
+    (c.roll_back-in-Err.ensures.forest (forest c.args.pool.now) (old_below (c.open_mark-mark.ensures.trees c.requires.stands) c.layout_of.ensures.front))).as_before

@@ -1,5 +1,5 @@
 use Rattle.std.proofs.Common.{◌∙◌, sym, subst}
-use Rattle.calc_session.proofs.Shared.{bare, tokens_of, LacksNames, HasEntries, table_names, keeps_after, given_rest, gives_as, reply_of, refusal_in}
+use Rattle.calc_session.proofs.Shared.{bare, tokens_of, LacksNames, HasEntries, table_names, keeps_after, given_rest, gives_as, reason_of, refusal_in}
 use Rattle.calc_session.proofs.EvaluationLemmas.{fault_interrupts_none, front_over, full_interrupts_none, gives_told, keeps_then, made_filled, unbuilt, unfilled, unfilled_count}
 use Rattle.calc_session.proofs.evaluating.build_and_fill.Goals as goal
 
@@ -32,7 +32,7 @@ returns-in-Err-fill-clause-refused c = λ t is.
     unfilled c.args.table.now c.args.pool.now c.build.new.pool (bare (tokens_of c.args.parser.now)) t c.in-Ok.ensures.ok is (c.in-Ok.ensures.room t is) c.in-Err-fill.fault c.unfilled.result c.in-Err-fill.ensures.refused c.unfilled.ensures
 
 pub returns-in-Err-fill-clause-counted : goal.returns-in-Err-fill-clause-counted
-returns-in-Err-fill-clause-counted c = keeps_then (refusal_in (reply_of c.unfilled.result)) c.args.pool.now c.build.new.pool c.fill.new.pool c.in-Ok.ensures.kept (unfilled_count c.build.new.pool c.fill.new.pool c.in-Err-fill.fault c.unfilled.result c.unfilled.ensures c.in-Err-fill.ensures.faults)
+returns-in-Err-fill-clause-counted c = keeps_then (refusal_in (reason_of c.unfilled.result)) c.args.pool.now c.build.new.pool c.fill.new.pool c.in-Ok.ensures.kept (unfilled_count c.build.new.pool c.fill.new.pool c.in-Err-fill.fault c.unfilled.result c.unfilled.ensures c.in-Err-fill.ensures.faults)
 
 pub returns-in-Err-fill-clause-no_breaker : goal.returns-in-Err-fill-clause-no_breaker
 returns-in-Err-fill-clause-no_breaker c = λ place e. fault_interrupts_none c.unfilled.result c.in-Err-fill.fault place c.unfilled.ensures e

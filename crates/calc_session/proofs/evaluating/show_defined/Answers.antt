@@ -5,10 +5,10 @@ use Rattle.calc_session.proofs.evaluating.show_defined.Goals.{After-id}
 use Rattle.calc_session.proofs.evaluating.show_defined.Goals as goal
 
 pub name_within-requires-clause-expression : goal.name_within-requires-clause-expression
-name_within-requires-clause-expression c = rw c.id.ensures (expression_root c.requires.stands c.requires.handed)
+name_within-requires-clause-expression c = rw c.id.ensures (expression_root c.requires.ready.stands c.requires.handed)
 
-same : (c : After-id) → plain (tree_at c.id.result (forest c.args.pool.now)) ≡ tree_of c.args.answer c.args.pool.now
-same c = ap (λ i. plain (tree_at i (forest c.args.pool.now))) c.id.ensures ∙ plain_root c.args.answer c.requires.stands c.requires.handed.root
+same : (c : After-id) → plain (tree_at c.id.result (forest c.args.work.now.pool)) ≡ tree_of c.args.answer c.args.work.now.pool
+same c = ap (λ i. plain (tree_at i (forest c.args.work.now.pool))) c.id.ensures ∙ plain_root c.args.answer c.requires.ready.stands c.requires.handed.root
 
 pub returns-in-Some-clause-shows : goal.returns-in-Some-clause-shows
 returns-in-Some-clause-shows c = (

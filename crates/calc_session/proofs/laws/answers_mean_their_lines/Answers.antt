@@ -1,5 +1,5 @@
 use Rattle.std.proofs.Common.{refl}
-use Rattle.calc_session.proofs.Shared.{shown, stored, undefined}
+use Rattle.calc_session.proofs.Shared.{shown, stored}
 use Rattle.calc_session.proofs.MeaningLemmas.{shows_meaning, has_no_meaning}
 use Rattle.calc_session.proofs.laws.answers_mean_their_lines.Goals as goal
 
@@ -10,4 +10,4 @@ pub returns-clause-stored : goal.returns-clause-stored
 returns-clause-stored c = λ room bits old before after line t x h. shows_meaning room bits before after old line (stored t x) t h refl
 
 pub returns-clause-undefined : goal.returns-clause-undefined
-returns-clause-undefined c = λ room bits old before after line h. has_no_meaning room bits before after old line undefined h refl
+returns-clause-undefined c = λ room bits old before after line h. has_no_meaning room bits before after old line h

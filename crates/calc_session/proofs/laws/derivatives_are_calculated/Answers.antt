@@ -1,6 +1,7 @@
-use Rattle.std.proofs.Common.{arith}
-use Rattle.calc_session.proofs.SlopeLemmas.{calculated}
+use Rattle.std.proofs.Common.{refl}
+use Rattle.calc_session.proofs.Shared.{diff}
+use Rattle.calc_session.proofs.AskedLines.{commanded_reply}
 use Rattle.calc_session.proofs.laws.derivatives_are_calculated.Goals as goal
 
 pub returns : goal.returns
-returns c = λ room bits old before after line x text reply short asked h. calculated room bits old before after line x text asked reply (λ long e. omega (arith, short, long)) h
+returns c = λ room bits old before after line x text reply short asked h. commanded_reply room bits old before after line (diff x text) refl asked short reply h

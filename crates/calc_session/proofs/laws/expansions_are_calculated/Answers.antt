@@ -1,6 +1,7 @@
-use Rattle.std.proofs.Common.{arith}
-use Rattle.calc_session.proofs.ExpandedLines.{calculated}
+use Rattle.std.proofs.Common.{refl}
+use Rattle.calc_session.proofs.Shared.{expand}
+use Rattle.calc_session.proofs.AskedLines.{commanded_reply}
 use Rattle.calc_session.proofs.laws.expansions_are_calculated.Goals as goal
 
 pub returns : goal.returns
-returns c = λ room bits old before after line text reply short asked h. calculated room bits old before after line text asked reply (λ long e. omega (arith, short, long)) h
+returns c = λ room bits old before after line text reply short asked h. commanded_reply room bits old before after line (expand text) refl asked short reply h

@@ -1,9 +1,9 @@
-use Rattle.std.proofs.Common.{◌∙◌, sym, subst}
-use Rattle.calc_session.proofs.Shared.{name_in, ReadsAs, stores_to_ans, finds_names_full}
+use Rattle.std.proofs.Common.{◌∙◌, sym}
+use Rattle.calc_session.proofs.Shared.{finds_names_full, is_ans}
 use Rattle.calc_session.proofs.reading.check_store.Goals as goal
 
 pub returns-then-is_ans-clause-refused : goal.returns-then-is_ans-clause-refused
-returns-then-is_ans-clause-refused c = λ line tokens t reads. stores_to_ans (subst (λ s. ReadsAs line tokens (name_in s) t) c.in-Some.is reads) (sym c.is_ans.ensures ∙ c.if-is_ans.true)
+returns-then-is_ans-clause-refused c = rw (c.in-Some.is) (is_ans (sym c.is_ans.ensures ∙ c.if-is_ans.true))
 
 pub returns-then-not-has_room_for-clause-refused : goal.returns-then-not-has_room_for-clause-refused
-returns-then-not-has_room_for-clause-refused c = λ line tokens t reads. finds_names_full (subst (λ s. ReadsAs line tokens (name_in s) t) c.in-Some.is reads) (sym c.is_ans.ensures ∙ c.if-is_ans.false) (sym c.has_room_for.ensures ∙ c.if-not-has_room_for.true)
+returns-then-not-has_room_for-clause-refused c = rw (c.in-Some.is) (finds_names_full (sym c.is_ans.ensures ∙ c.if-is_ans.false) (sym c.has_room_for.ensures ∙ c.if-not-has_room_for.true))

@@ -1,16 +1,12 @@
-use Rattle.std.proofs.Common.{None, Some}
-use Rattle.calc_session.proofs.Shared.{tokens_of, is_misread, forms_a_store}
-use Rattle.calc_session.proofs.ReadLemmas.{read_text}
+use Rattle.std.proofs.Common.{subst}
+use Rattle.calc_session.proofs.Shared.{tokens_of, name_in, ReadsText, forms_a_store, is_misread}
 use Rattle.calc_session.proofs.reading.read_expression.Goals as goal
 
-pub refusal_to_read-requires : goal.refusal_to_read-requires
-refusal_to_read-requires c = record { place = (c.args.text.now, (c.read.ensures.refused c.in-Err.fault).0 c.in-Err.is, c.requires) }
-
 pub returns-in-None-clause-tree : goal.returns-in-None-clause-tree
-returns-in-None-clause-tree c = (c.in-Ok.ensures.shape.0.tree, read_text c.args.text.now (tokens_of c.read.new.self) c.in-Ok.shape None c.in-None.is c.in-Ok.ensures.tokens c.in-Ok.ensures.shape)
+returns-in-None-clause-tree c = let (t, r) = c.in-Ok.ensures.tree in (t, subst (λ s. ReadsText c.args.text.now (tokens_of c.read_text.new.parser) (name_in s) t) c.in-None.is r)
 
 pub returns-in-Some-clause-refused : goal.returns-in-Some-clause-refused
-returns-in-Some-clause-refused c = forms_a_store (read_text c.args.text.now (tokens_of c.read.new.self) c.in-Ok.shape (Some _) c.in-Some.is c.in-Ok.ensures.tokens c.in-Ok.ensures.shape)
+returns-in-Some-clause-refused c = let (t, r) = c.in-Ok.ensures.tree in forms_a_store (subst (λ s. ReadsText c.args.text.now (tokens_of c.read_text.new.parser) (name_in s) t) c.in-Some.is r)
 
 pub returns-in-Err-clause-refused : goal.returns-in-Err-clause-refused
-returns-in-Err-clause-refused c = is_misread (c.refusal_to_read.ensures.refused c.args.text.now ((c.read.ensures.refused c.in-Err.fault).0 c.in-Err.is))
+returns-in-Err-clause-refused c = is_misread c.in-Err.ensures.refused

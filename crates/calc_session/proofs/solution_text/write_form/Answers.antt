@@ -1,18 +1,75 @@
-use Rattle.calc_session.proofs.Shared.{forest, lack_of}
-use Rattle.calc_session.proofs.PoolLemmas.{IsRolledBack, old_below, rolled_back}
-use Rattle.calc_session.proofs.solution_text.write_form.Goals.{After-roll_back}
+use Rattle.std.proofs.Common.{None, Some, map, arith}
+use Rattle.calc_session.proofs.Shared.{forest, lack_of, name_of, value_of, entries_of, free_of, keeps_after, given_handed, refuses_after}
+use Rattle.calc_session.proofs.PoolLemmas.{old_below, rolled_back}
+use Rattle.calc_session.proofs.EvaluationLemmas.{front_over}
+use Rattle.calc_session.proofs.FormFaces.{sizes_of_summands}
+use Rattle.calc_session.proofs.SolutionLemmas.{face_room, lacks_room, placed_defined, placed_reduced, shown_expression, shown_room, shown_short, shown_text, shown_writable}
 use Rattle.calc_session.proofs.solution_text.write_form.Goals as goal
 
+pub returns-in-Err-clause-lacks : goal.returns-in-Err-clause-lacks
+returns-in-Err-clause-lacks c =
+    let xs = map name_of c.args.names.now in
+    (c.in-Err.ensures.caused.lacking, lacks_room (free_of c.args.work.now.pool) (λ room. cc (c.in-Err.ensures.enough (omega (arith, room, sizes_of_summands xs (value_of c.args.constant) (entries_of c.args.coefs.now) c.requires.small)))))
+
+pub face_of-requires-clause-handed : goal.face_of-requires-clause-handed
+face_of-requires-clause-handed c = given_handed c.in-Ok.ensures.ok.gives
+
+pub face_of-requires-clause-reduced : goal.face_of-requires-clause-reduced
+face_of-requires-clause-reduced c = placed_reduced (map name_of c.args.names.now) (value_of c.args.constant) (entries_of c.args.coefs.now) c.in-Ok.ensures.ok c.requires.rises
+
+pub face_of-requires-clause-defined : goal.face_of-requires-clause-defined
+face_of-requires-clause-defined c = placed_defined (map name_of c.args.names.now) (value_of c.args.constant) (entries_of c.args.coefs.now) c.in-Ok.ensures.ok
+
+pub returns-in-Err-face_of-clause-lacks : goal.returns-in-Err-face_of-clause-lacks
+returns-in-Err-face_of-clause-lacks c =
+    (c.in-Err-face_of.ensures.caused.lacking, lacks_room (free_of c.args.work.now.pool) (λ room. cc (c.in-Err-face_of.ensures.enough (face_room (map name_of c.args.names.now) (value_of c.args.constant) (entries_of c.args.coefs.now) c.in-Ok.ensures.ok c.requires.ready.stands c.requires.small room))))
+
+pub write_text-requires-clause-expression : goal.write_text-requires-clause-expression
+write_text-requires-clause-expression c = shown_expression (map name_of c.args.names.now) (value_of c.args.constant) (entries_of c.args.coefs.now) c.id.result c.in-Ok.ensures.ok c.in-Ok-face_of.ensures.ok c.in-Ok-face_of.ensures.stands c.id.ensures
+
+pub write_text-requires-clause-writable : goal.write_text-requires-clause-writable
+write_text-requires-clause-writable c = shown_writable (map name_of c.args.names.now) (value_of c.args.constant) (entries_of c.args.coefs.now) c.id.result c.in-Ok.ensures.ok c.in-Ok-face_of.ensures.ok c.in-Ok-face_of.ensures.stands c.id.ensures c.requires.rises
+
+pub write_text-requires-clause-room : goal.write_text-requires-clause-room
+write_text-requires-clause-room c =
+    let small = shown_room (map name_of c.args.names.now) (value_of c.args.constant) (entries_of c.args.coefs.now) c.id.result c.in-Ok.ensures.ok c.in-Ok-face_of.ensures.ok c.in-Ok-face_of.ensures.stands c.id.ensures c.requires.small in
+    omega (arith, small, c.requires.room)
+
+pub returns-in-Ok-face_of-clause-told : goal.returns-in-Ok-face_of-clause-told
+returns-in-Ok-face_of-clause-told c = shown_text (map name_of c.args.names.now) (value_of c.args.constant) (entries_of c.args.coefs.now) c.id.result c.in-Ok.ensures.ok c.in-Ok-face_of.ensures.ok c.in-Ok-face_of.ensures.stands c.id.ensures c.args.text.now c.write_text.new.text c.write_text.ensures
+
+pub returns-in-Ok-face_of-clause-short : goal.returns-in-Ok-face_of-clause-short
+returns-in-Ok-face_of-clause-short c = shown_short (map name_of c.args.names.now) (value_of c.args.constant) (entries_of c.args.coefs.now) c.id.result c.in-Ok.ensures.ok c.in-Ok-face_of.ensures.ok c.in-Ok-face_of.ensures.stands c.id.ensures c.args.text.now c.write_text.new.text c.requires.rises c.requires.small c.write_text.ensures
+
 pub roll_back-requires-clause-below : goal.roll_back-requires-clause-below
-roll_back-requires-clause-below c = (forest c.args.pool.now, old_below (c.open_mark-mark.ensures.trees c.requires.stands) c.write_above-written.ensures.front)
+roll_back-requires-clause-below c = (forest c.args.work.now.pool, old_below (c.open_mark-mark.ensures.trees c.requires.ready.stands) c.place_form.ensures.front)
 
-back : (c : After-roll_back) → IsRolledBack (lack_of c.write_above-written.result) c.args.pool.now c.roll_back.new.pool
-back c =
-    rolled_back (lack_of c.write_above-written.result) c.args.pool.now c.write_above-written.new.pool c.roll_back.new.pool c.requires.stands c.roll_back.ensures.stands c.write_above-written.ensures.counted c.roll_back.ensures.kept
-    (c.roll_back.ensures.forest (forest c.args.pool.now) (old_below (c.open_mark-mark.ensures.trees c.requires.stands) c.write_above-written.ensures.front))
+pub roll_back-requires-in-Ok-face_of-clause-below : goal.roll_back-requires-in-Ok-face_of-clause-below
+roll_back-requires-in-Ok-face_of-clause-below c = (forest c.args.work.now.pool, old_below (c.open_mark-mark.ensures.trees c.requires.ready.stands) (front_over c.in-Ok.ensures.ok.gives c.face_of.ensures.front))
 
-pub returns-clause-counted : goal.returns-clause-counted
-returns-clause-counted c = (back (goal.at.returns-clause-counted c).After-roll_back).counted
+pub roll_back-requires-in-Err-face_of-clause-below : goal.roll_back-requires-in-Err-face_of-clause-below
+roll_back-requires-in-Err-face_of-clause-below c = (forest c.args.work.now.pool, old_below (c.open_mark-mark.ensures.trees c.requires.ready.stands) (front_over c.in-Ok.ensures.ok.gives c.face_of.ensures.front))
 
-pub returns-clause-as_before : goal.returns-clause-as_before
-returns-clause-as_before c = (back (goal.at.returns-clause-as_before c).After-roll_back).as_before
+pub returns-in-Err-clause-counted : goal.returns-in-Err-clause-counted
+returns-in-Err-clause-counted c = (rolled_back (Some c.in-Err.full) c.args.work.now.pool c.place_form.new.pool c.roll_back.new.pool c.requires.ready.stands c.roll_back.ensures.stands c.in-Err.ensures.refused c.roll_back.ensures.kept
+    (c.roll_back.ensures.forest (forest c.args.work.now.pool) (old_below (c.open_mark-mark.ensures.trees c.requires.ready.stands) c.place_form.ensures.front))).counted
+
+pub returns-in-Err-clause-as_before : goal.returns-in-Err-clause-as_before
+returns-in-Err-clause-as_before c = (rolled_back (Some c.in-Err.full) c.args.work.now.pool c.place_form.new.pool c.roll_back.new.pool c.requires.ready.stands c.roll_back.ensures.stands c.in-Err.ensures.refused c.roll_back.ensures.kept
+    (c.roll_back.ensures.forest (forest c.args.work.now.pool) (old_below (c.open_mark-mark.ensures.trees c.requires.ready.stands) c.place_form.ensures.front))).as_before
+
+pub returns-in-Ok-face_of-clause-counted : goal.returns-in-Ok-face_of-clause-counted
+returns-in-Ok-face_of-clause-counted c = (rolled_back None c.args.work.now.pool c.face_of.new.pool c.roll_back-in-Ok-face_of.new.pool c.requires.ready.stands c.roll_back-in-Ok-face_of.ensures.stands (keeps_after _ _ _ c.in-Ok.ensures.ok.kept c.in-Ok-face_of.ensures.kept) c.roll_back-in-Ok-face_of.ensures.kept
+    (c.roll_back-in-Ok-face_of.ensures.forest (forest c.args.work.now.pool) (old_below (c.open_mark-mark.ensures.trees c.requires.ready.stands) (front_over c.in-Ok.ensures.ok.gives c.face_of.ensures.front)))).counted
+
+pub returns-in-Ok-face_of-clause-as_before : goal.returns-in-Ok-face_of-clause-as_before
+returns-in-Ok-face_of-clause-as_before c = (rolled_back None c.args.work.now.pool c.face_of.new.pool c.roll_back-in-Ok-face_of.new.pool c.requires.ready.stands c.roll_back-in-Ok-face_of.ensures.stands (keeps_after _ _ _ c.in-Ok.ensures.ok.kept c.in-Ok-face_of.ensures.kept) c.roll_back-in-Ok-face_of.ensures.kept
+    (c.roll_back-in-Ok-face_of.ensures.forest (forest c.args.work.now.pool) (old_below (c.open_mark-mark.ensures.trees c.requires.ready.stands) (front_over c.in-Ok.ensures.ok.gives c.face_of.ensures.front)))).as_before
+
+pub returns-in-Err-face_of-clause-counted : goal.returns-in-Err-face_of-clause-counted
+returns-in-Err-face_of-clause-counted c = (rolled_back (Some c.in-Err-face_of.full) c.args.work.now.pool c.face_of.new.pool c.roll_back-in-Err-face_of.new.pool c.requires.ready.stands c.roll_back-in-Err-face_of.ensures.stands (refuses_after _ _ _ _ c.in-Ok.ensures.ok.kept c.in-Err-face_of.ensures.refused) c.roll_back-in-Err-face_of.ensures.kept
+    (c.roll_back-in-Err-face_of.ensures.forest (forest c.args.work.now.pool) (old_below (c.open_mark-mark.ensures.trees c.requires.ready.stands) (front_over c.in-Ok.ensures.ok.gives c.face_of.ensures.front)))).counted
+
+pub returns-in-Err-face_of-clause-as_before : goal.returns-in-Err-face_of-clause-as_before
+returns-in-Err-face_of-clause-as_before c = (rolled_back (Some c.in-Err-face_of.full) c.args.work.now.pool c.face_of.new.pool c.roll_back-in-Err-face_of.new.pool c.requires.ready.stands c.roll_back-in-Err-face_of.ensures.stands (refuses_after _ _ _ _ c.in-Ok.ensures.ok.kept c.in-Err-face_of.ensures.refused) c.roll_back-in-Err-face_of.ensures.kept
+    (c.roll_back-in-Err-face_of.ensures.forest (forest c.args.work.now.pool) (old_below (c.open_mark-mark.ensures.trees c.requires.ready.stands) (front_over c.in-Ok.ensures.ok.gives c.face_of.ensures.front)))).as_before

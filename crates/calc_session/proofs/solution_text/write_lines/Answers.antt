@@ -1,6 +1,5 @@
 use Rattle.std.proofs.Common.{◌<◌, ◌∙◌, [], length, map, sym, ap, arith}
 use Rattle.calc_session.proofs.Shared.{length-map, name_of, Content, form_told, line_text, line_texts}
-use Rattle.node_pool.specs.State.{State}
 use Rattle.calc_session.proofs.SolutionLemmas.{all_taken, line_there, lines_are, long_next, many_lines, told_next}
 use Rattle.calc_session.proofs.solution_text.write_lines.Goals as goal
 
@@ -15,11 +14,8 @@ loop-at-preserved c =
           (line_there c.args.names.now c.args.lines.now c.loop-at.at c.index-names-at.result c.index-lines-at.result c.loop-at-test.true c.requires.lines c.index-names-at.is c.index-lines-at.is) c.loop-at.invariant.told c.push-in-loop-at.ensures c.comma_before.ensures c.in_ok-write_line.ensures.told;
       short = omega (arith, long, c.in_ok-write_line.ensures.short, c.loop-at.invariant.short);
       capacity = c.in_ok-write_line.ensures.capacity ∙ ap (λ (x : Content). x.capacity) c.push-in-loop-at.ensures ∙ c.loop-at.invariant.capacity;
-      lists = c.in_ok-write_line.ensures.lists ∙ c.loop-at.invariant.lists;
+      ready = c.write_line.ensures.ready;
     }
-
-pub write_line-requires-clause-lists : goal.write_line-requires-clause-lists
-write_line-requires-clause-lists c = omega (arith, c.requires.lists, ap (λ (s : State). s.size) c.loop-at.invariant.same, c.loop-at.invariant.lists)
 
 pub returns-clause-told : goal.returns-clause-told
 returns-clause-told c =

@@ -1,18 +1,59 @@
-use Rattle.std.proofs.Common.{◌∙◌, sym, ap}
-use Rattle.calc_session.proofs.Shared.{flatten, forest, keeps_after, reply_of, refusal_in}
+use Rattle.std.proofs.Common.{◌≡◌, ◌∙◌, length, refl, sym, ap, subst, arith}
+use Rattle.std.specs.Prelude.{All}
+use Rattle.calc_session.proofs.Shared.{states, equations_in, values, flatten, free_of, IsExpression, forest, CountsRefusal, keeps_after, reason_of, refusal_in, Become, are_made, are_not_made}
 use Rattle.calc_session.proofs.PoolLemmas.{old_below, still_counted}
-use Rattle.calc_session.proofs.SolvingLemmas.{err_as, ok_as}
+use Rattle.calc_session.proofs.SolvingLemmas.{calm_refusal, err_as, ok_as, on_ok}
 use Rattle.calc_session.proofs.solving.solve_read.Goals as goal
 
 pub roll_back-requires-clause-below : goal.roll_back-requires-clause-below
-roll_back-requires-clause-below g c = (forest c.args.pool.now, old_below (c.open_mark-mark.ensures.trees c.requires.stands) c.solve_above-solved.ensures.front)
+roll_back-requires-clause-below g c = (forest c.args.pool.now, old_below (c.open_mark-mark.ensures.trees c.requires.stands) c.build_equations.ensures.front)
 
-pub returns-clause-counted_ok : goal.returns-clause-counted_ok
-returns-clause-counted_ok g c = ok_as c.solve_above-solved.result c.solve_above-solved.ensures.counted_ok (λ s k. keeps_after c.args.pool.now c.solve_above-solved.new.pool c.roll_back.new.pool k c.roll_back.ensures.kept)
+pub roll_back-requires-in-Err-clause-below : goal.roll_back-requires-in-Err-clause-below
+roll_back-requires-in-Err-clause-below g c = (forest c.args.pool.now, old_below (c.open_mark-mark.ensures.trees c.requires.stands) c.build_equations.ensures.front)
 
-pub returns-clause-counted : goal.returns-clause-counted
-returns-clause-counted g c = err_as c.solve_above-solved.result c.solve_above-solved.ensures.counted (λ r k. still_counted (refusal_in (reply_of r)) c.args.pool.now c.solve_above-solved.new.pool c.roll_back.new.pool k c.roll_back.ensures.kept)
+pub returns-in-Err-clause-refused : goal.returns-in-Err-clause-refused
+returns-in-Err-clause-refused g c = λ es reads. are_not_made (c.in-Err.ensures.refused es reads) refl
 
-pub returns-clause-as_before : goal.returns-clause-as_before
-returns-clause-as_before g c =
-    c.roll_back.ensures.stands.flat ∙ ap flatten (c.roll_back.ensures.forest (forest c.args.pool.now) (old_below (c.open_mark-mark.ensures.trees c.requires.stands) c.solve_above-solved.ensures.front)) ∙ sym c.requires.stands.flat
+pub returns-in-Err-clause-interrupted : goal.returns-in-Err-clause-interrupted
+returns-in-Err-clause-interrupted g c = calm_refusal c.in-Err.refusal (states g.B.Breaker.state c.args.watch.now) c.in-Err.ensures.no_breaker
+
+pub returns-in-Err-clause-counted : goal.returns-in-Err-clause-counted
+returns-in-Err-clause-counted g c = still_counted (refusal_in (reason_of c.in-Err.refusal)) c.args.pool.now c.build_equations.new.pool c.roll_back-in-Err.new.pool c.in-Err.ensures.counted c.roll_back-in-Err.ensures.kept
+
+pub returns-in-Err-clause-as_before : goal.returns-in-Err-clause-as_before
+returns-in-Err-clause-as_before g c =
+    c.roll_back-in-Err.ensures.stands.flat ∙ ap flatten (c.roll_back-in-Err.ensures.forest (forest c.args.pool.now) (old_below (c.open_mark-mark.ensures.trees c.requires.stands) c.build_equations.ensures.front)) ∙ sym c.requires.stands.flat
+
+pub returns-in-Ok-clause-as_before : goal.returns-in-Ok-clause-as_before
+returns-in-Ok-clause-as_before g c =
+    c.roll_back.ensures.stands.flat ∙ ap flatten (c.roll_back.ensures.forest (forest c.args.pool.now) (old_below (c.open_mark-mark.ensures.trees c.requires.stands) c.build_equations.ensures.front)) ∙ sym c.requires.stands.flat
+
+pub solve_trees-solved-requires-clause-left : goal.solve_trees-solved-requires-clause-left
+solve_trees-solved-requires-clause-left g c = subst (All (λ i. IsExpression i (forest c.build_equations.new.pool))) (sym c.as_slice.ensures.value) c.in-Ok.ensures.roots.left_expressions
+
+pub solve_trees-solved-requires-clause-right : goal.solve_trees-solved-requires-clause-right
+solve_trees-solved-requires-clause-right g c = subst (All (λ i. IsExpression i (forest c.build_equations.new.pool))) (sym c.as_slice-in-Ok.ensures.value) c.in-Ok.ensures.roots.right_expressions
+
+pub solve_trees-solved-requires-clause-pairs : goal.solve_trees-solved-requires-clause-pairs
+solve_trees-solved-requires-clause-pairs g c = ap length c.as_slice-in-Ok.ensures.value ∙ c.in-Ok.ensures.roots.right_many ∙ sym c.in-Ok.ensures.roots.left_many ∙ sym (ap length c.as_slice.ensures.value)
+
+pub solve_trees-solved-requires-clause-few : goal.solve_trees-solved-requires-clause-few
+solve_trees-solved-requires-clause-few g c = omega (arith, ap length c.as_slice.ensures.value, c.in-Ok.ensures.roots.left_many, c.requires.few)
+
+pub returns-in-Ok-clause-solved : goal.returns-in-Ok-clause-solved
+returns-in-Ok-clause-solved g c = λ es reads.
+    let same : equations_in (forest c.build_equations.new.pool) c.in-Ok.roots.left.items c.in-Ok.roots.right.items ≡ equations_in (forest c.build_equations.new.pool) c.as_slice.result.now c.as_slice-in-Ok.result.now
+    = λ i. equations_in (forest c.build_equations.new.pool) ((sym c.as_slice.ensures.value) i) ((sym c.as_slice-in-Ok.ensures.value) i) in
+    ok_as c.solve_trees-solved.result c.solve_trees-solved.ensures.solved (λ s h. (free_of c.build_equations.new.pool, equations_in (forest c.build_equations.new.pool) c.as_slice.result.now c.as_slice-in-Ok.result.now, subst (λ bs. Become (values c.args.table.now (forest c.args.pool.now)) (free_of c.args.pool.now) es (free_of c.build_equations.new.pool) bs) same (c.in-Ok.ensures.built es reads), h))
+
+pub returns-in-Ok-clause-refused : goal.returns-in-Ok-clause-refused
+returns-in-Ok-clause-refused g c = λ es reads.
+    let same : equations_in (forest c.build_equations.new.pool) c.in-Ok.roots.left.items c.in-Ok.roots.right.items ≡ equations_in (forest c.build_equations.new.pool) c.as_slice.result.now c.as_slice-in-Ok.result.now
+    = λ i. equations_in (forest c.build_equations.new.pool) ((sym c.as_slice.ensures.value) i) ((sym c.as_slice-in-Ok.ensures.value) i) in
+    err_as c.solve_trees-solved.result (c.solve_trees-solved.ensures.refused (free_of c.args.pool.now)) (λ r h. are_made (subst (λ bs. Become (values c.args.table.now (forest c.args.pool.now)) (free_of c.args.pool.now) es (free_of c.build_equations.new.pool) bs) same (c.in-Ok.ensures.built es reads)) h)
+
+pub returns-in-Ok-clause-counted_ok : goal.returns-in-Ok-clause-counted_ok
+returns-in-Ok-clause-counted_ok g c = on_ok c.solve_trees-solved.result _ (keeps_after c.args.pool.now c.build_equations.new.pool c.roll_back.new.pool c.in-Ok.ensures.kept c.roll_back.ensures.kept)
+
+pub returns-in-Ok-clause-counted : goal.returns-in-Ok-clause-counted
+returns-in-Ok-clause-counted g c = err_as c.solve_trees-solved.result c.solve_trees-solved.ensures.no_pool (λ r none. subst (λ x. CountsRefusal x c.args.pool.now c.roll_back.new.pool) (sym none) (keeps_after c.args.pool.now c.build_equations.new.pool c.roll_back.new.pool c.in-Ok.ensures.kept c.roll_back.ensures.kept))

@@ -1,7 +1,7 @@
 use Rattle.std.proofs.Common.{◌≡◌, ℕ, suc, ◌+◌, ◌≤◌, List, length, map, take, refl, sym, ap, subst, arith}
 use Rattle.std.specs.Prelude.{All, Err}
 use Rattle.linear_solve.specs.Checks.{solving_checks}
-use Rattle.calc_session.proofs.Shared.{length-map, states, name_of, AreDistinct, IsLinearIn, equations_in, OfOverflow, StopsAfter, solving, misfit_of, forest, names_listed, not_linear, IsReplyToSolve, are_not_linear, have_too_many_names}
+use Rattle.calc_session.proofs.Shared.{length-map, states, name_of, AreDistinct, IsLinearIn, equations_in, OfOverflow, StopsAfter, solving, misfit_of, forest, names_listed, not_linear, refused, IsReplyToSolve, are_not_linear, have_too_many_names}
 use Rattle.calc_session.proofs.RisingLemmas.{rises_distinct}
 use Rattle.calc_session.proofs.SolutionMeanings.{linear_in}
 use Rattle.calc_session.proofs.SolvingLemmas.{calm_refusal, found_within, names_same, none_there, unsolved_reply}
@@ -28,7 +28,7 @@ pub returns-in-Some-first_not_linear-clause-refused : goal.returns-in-Some-first
 returns-in-Some-first_not_linear-clause-refused g c = λ room.
     let one : suc c.in-Some-first_not_linear.at ≡ c.in-Some-first_not_linear.at + 1 = omega arith in
     let few : length (names_listed c.in-Some.names.items) ≤ 6 = omega (arith, length-map c.in-Some.names.items (λ l. name_of l.name), c.as_slice.ensures.fits, ap length c.as_slice.ensures.value) in
-    subst (λ (k : ℕ). IsReplyToSolve room (equations_in (forest c.args.pool.now) c.args.left.now c.args.right.now) (states g.B.Breaker.state c.args.watch.now) (states g.B.Breaker.state c.args.watch.now) (not_linear k)) one (are_not_linear c.in-Some.ensures.some few (sym c.in-Some-first_not_linear.ensures) refl)
+    subst (λ (k : ℕ). IsReplyToSolve room (equations_in (forest c.args.pool.now) c.args.left.now c.args.right.now) (states g.B.Breaker.state c.args.watch.now) (states g.B.Breaker.state c.args.watch.now) (refused (not_linear k))) one (are_not_linear c.in-Some.ensures.some few (sym c.in-Some-first_not_linear.ensures) refl)
 
 pub returns-in-Some-first_not_linear-clause-interrupted : goal.returns-in-Some-first_not_linear-clause-interrupted
 returns-in-Some-first_not_linear-clause-interrupted g c = calm_refusal (refusal.NotLinear (c.in-Some-first_not_linear.at + 1)) (states g.B.Breaker.state c.args.watch.now) (λ place e. cc)

@@ -14,10 +14,9 @@ pub invariant_of-result : goal.invariant_of-result
 invariant_of-result c =
     let o = here (goal.at.invariant_of-result c).After-unwrap-answer in
     record {
-      stands = c.number.ensures.stands;
+      ready = record { stands = c.number.ensures.stands; lists = omega (arith, c.in_ok-faces.ensures, o.kept.size, ap (λ (s : State). s.size) c.in_ok-pool.ensures.pool) };
       held = subst (λ t. IsHeld t (forest c.number.new.pool)) (sym c.new.ensures) o.held;
       room = ap (λ (t : Content). t.capacity) c.in_ok-text.ensures ∙ ap (λ n. 3 * n + 8448) (sym (o.kept.size ∙ ap (λ (s : State). s.size) c.in_ok-pool.ensures.pool));
-      lists = c.in_ok-faces.ensures ∙ sym (o.kept.size ∙ ap (λ (s : State). s.size) c.in_ok-pool.ensures.pool);
       served = c.in_ok-drafter.ensures ∙ sym (o.kept.size ∙ ap (λ (s : State). s.size) c.in_ok-pool.ensures.pool);
     }
 
