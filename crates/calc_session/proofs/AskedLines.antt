@@ -1,8 +1,8 @@
 -- A line asks for one thing, and is answered by the replies to that.
 use Rattle.std.proofs.lemmas.Bool.{both_ways}
-use Rattle.std.proofs.Common.{◌≡◌, ◌∙◌, ℕ, ◌≤◌, List, [], ◌∷◌, ◌++◌, length, Bool, true, false, cond, nat_eq, Option, refl, sym, ap, subst, arith}
+use Rattle.std.proofs.Common.{◌≡◌, ◌∙◌, ℕ, ◌≤◌, List, [], ◌∷◌, ◌++◌, length, Bool, true, false, cond, nat_eq, Option, refl, ap, subst, arith}
 use Rattle.std.specs.Prelude.{◌&&◌}
-use Rattle.calc_session.proofs.Shared.{list_all, Asked, draw, forget, IsCommandLine, asks_pool, asks_dump, asks_draw, asks_layout, asks_forget, asks_after, asks_diff, asks_solve, asks_expand, is_command, once, is_blank, Tree, Placed, IsStorable, IsReplyToCommand, IsTold, tells, refuses, forgets, is_to_be_drawn, ReadsTree, IsUnstorable, is_ans, finds_names_full, Reason, Reply, refused, report, shown, stored, undefined, State, IsReply, IsReplyTo, IsReplyToTree, IsReplyToValue, Asks, AsksInVain, Request, is_nothing, is_text, is_asked, commanded, is_long, is_no_line, is_no_command, asks_in_vain, is_replied, is_evaluated, cannot_be_stored}
+use Rattle.calc_session.proofs.Shared.{list_all, Asked, draw, forget, IsCommandLine, asks_pool, asks_dump, asks_draw, asks_layout, asks_forget, asks_after, asks_diff, asks_solve, asks_expand, is_command, once, is_blank, Tree, Placed, IsStorable, IsReplyToCommand, IsTold, tells, refuses, forgets, is_to_be_drawn, ReadsTree, IsUnstorable, is_ans, finds_names_full, Reason, Reply, report, shown, stored, undefined, State, IsReply, IsReplyTo, IsReplyToTree, IsReplyToValue, Asks, AsksInVain, Request, is_nothing, is_text, is_asked, commanded, is_long, is_no_line, is_no_command, asks_in_vain, is_replied, is_evaluated, cannot_be_stored}
 use Rattle.breakers.specs.State.{State as Breaker}
 use Rattle.calc_session.specs.Asking.{value}
 use Rattle.calc_session.proofs.TextLemmas.{never_misread, one_text}

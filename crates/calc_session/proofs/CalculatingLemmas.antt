@@ -1,5 +1,5 @@
 -- Lemmas on command lines that calculate.
-use Rattle.std.proofs.Common.{◌≡◌, ◌≤◌, List, ℕ, ◌∷◌, ◌++◌, length, length-append, Option, ap, arith}
+use Rattle.std.proofs.Common.{◌≤◌, List, ℕ, ◌∷◌, ◌++◌, length, length-append, Option, ap, arith}
 use Rattle.calc_session.proofs.Shared.{HasText, IsCommandLine, asks_diff, asks_solve, asks_expand, diff, solve, expand, Full, CountsRefusal, IsCountedBut, Seen, Counts, pool_of}
 
 -- a text that is calculated with stands in its line

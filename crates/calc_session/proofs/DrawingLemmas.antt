@@ -1,6 +1,6 @@
 -- Lemmas on the layout of the last answer, and on the rows of its picture.
 use Rattle.std.proofs.Common.{◌*◌, ◌≡◌, ◌∙◌, ℕ, zero, suc, ◌+◌, ◌≤◌, List, [], ◌∷◌, ◌++◌, length, encode_utf8_all, Bool, true, false, nat_le, Option, Result, Ok, Err, refl, sym, ap, subst, arith, append_assoc, append-nil, length-append}
-use Rattle.calc_session.proofs.Shared.{Appends-trans, leb-true, leb-false, Appends, IsHeld, Table, Full, free_of, GivesLayout, IsLayout, drawing, given_drawing, Block, before_cut, cut, picture, AllExpressions, IsExpression, IsWhole, plain, bytes_in, forest_of, tree_at, has_root, Stands, forest, tree_of_root, root_held, Content, extended, after, IsDrawn, IsDrawnInPart, first_rows, row_text, told_at}
+use Rattle.calc_session.proofs.Shared.{Appends-trans, leb-true, leb-false, Appends, IsHeld, Table, Full, free_of, GivesLayout, IsLayout, drawing, given_drawing, Block, before_cut, cut, picture, AllExpressions, IsExpression, IsWhole, plain, bytes_in, tree_at, has_root, Stands, forest, tree_of_root, root_held, Content, extended, IsDrawn, IsDrawnInPart, first_rows, row_text, told_at}
 use Rattle.std.proofs.lemmas.Str.{encodes-append}
 use Rattle.calc_edges.specs.Taken.{AppendsPart}
 use Rattle.calc_edges.proofs.Parts.{AppendsPart-after, AppendsPart-more}

@@ -1,6 +1,6 @@
 -- What the answers to lines that ask for solutions mean, and when there is one.
-use Rattle.std.proofs.Common.{◌≡◌, ◌∙◌, ℕ, suc, ◌+◌, ◌<◌, ◌≤◌, List, length, Option, Some, None, Err, refl, sym, ap, subst, arith}
-use Rattle.calc_session.proofs.Shared.{AllZip, IsCommandLine, solve, Tree, Equation, nodes_of_sides, Misfit, solving, values, bytes_before, Sides, Splits, all_placed, form_room, Reply, report, AreNamesOf, solution_text, AsksToSolve, TellsSolutionsOf, IsReplyToEquations, are_not_written, are_too_many, are_not_read, are_read, IsReplyToRead, are_not_made, are_made, IsReplyToSolve, have_too_many_names, are_not_linear, are_linear, IsSolution, is_interrupted, does_not_fit, is_told, IsNoEquation, ReadsEquation, first_not_linear, State, free_bytes, trees, IsReply}
+use Rattle.std.proofs.Common.{◌≡◌, ◌∙◌, ℕ, ◌+◌, ◌≤◌, List, length, Option, Some, None, Err, refl, sym, ap, subst, arith}
+use Rattle.calc_session.proofs.Shared.{AllZip, IsCommandLine, solve, Tree, Equation, nodes_of_sides, Misfit, solving, values, bytes_before, all_placed, form_room, Reply, report, AreNamesOf, solution_text, AsksToSolve, TellsSolutionsOf, IsReplyToEquations, are_not_written, are_too_many, are_not_read, are_read, IsReplyToRead, are_not_made, are_made, IsReplyToSolve, have_too_many_names, are_not_linear, are_linear, IsSolution, is_interrupted, does_not_fit, is_told, IsNoEquation, ReadsEquation, first_not_linear, State, free_bytes, trees, IsReply}
 use Rattle.breakers.specs.State.{State as Breaker}
 use Rattle.breakers.specs.Breakers.{TripsWithin}
 use Rattle.linear_solve.proofs.CheckCounts.{trips_among_all}

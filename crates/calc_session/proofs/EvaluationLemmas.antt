@@ -1,7 +1,7 @@
 -- Lemmas on what the tree of a line comes to.
 use Rattle.std.proofs.Common.{◌≡◌, ◌∙◌, ◌↔◌, ℕ, zero, suc, ◌+◌, ◌*◌, ◌≤◌, ◌<◌, List, [], ◌∷◌, true, false, Option, Some, None, Result, Ok, Err, ◌⊎◌, inl, inr, refl, sym, ap, subst, arith}
 use Rattle.std.specs.Prelude.{Contains}
-use Rattle.calc_session.proofs.Shared.{Contains-append_cases, CalmChecks, TripsRose, IsEasy, Reduces, face, HasNames, Token, building, IsTreeOf, one_line, name_of, Tree, num, symbol, undef, add, mult, power, root, neg, sub, div, is_undef, names, nodes, root_kind, size, NamedTree, values, LacksNames, Filling, lacks, too_deep, fills, filling, refused_filling, FaultsFilling, IsKeepable, names_with, Table, table_names, Full, AreNodes, used, free_of, AreNodes-right, MayExceed, Covers, CalmUpTo, TripsWithin, Evaluates, HasEasyBadPart, CountsRefusals, IfFull, IfInterrupted, IfOverflow, ReduceFault, Overflows, plain, Forest, flatten, bytes_in, tree_of, Gives, KeepsFront, Starts, root_tree, without_root, LacksBytes, Stands, forest, KeepsRefusals, bytes_in-join, flatten-join, behind_first, behind_new, front_after_one, front_at, front_end, front_same, front_without, given_rest, given_told, gives_as, last_tree, size-plain, Refusal, Evaluation, Face, Undefined, Refused, ComesTo, CountsRefusal, IsDisplayOf, LacksName, refusal_of, refusal_to_fill, reason_of, reply_of, HasFittingRationals, IsAnswerTo, IsReplyWith, has_no_value, holds_its_name, is_shown, is_stored, OverflowsAt, IsReduction, lacks_bytes, is_answered, made, Unmade, IsReplyToTree, IsReady, is_made, Reply, displayed, circular, refused, refusal_in, state_of}
+use Rattle.calc_session.proofs.Shared.{Contains-append_cases, CalmChecks, TripsRose, IsEasy, Reduces, face, HasNames, Token, building, IsTreeOf, one_line, name_of, Tree, num, symbol, undef, add, mult, power, root, neg, sub, div, is_undef, names, nodes, root_kind, size, NamedTree, values, LacksNames, lacks, fills, filling, refused_filling, FaultsFilling, IsKeepable, names_with, Table, table_names, Full, AreNodes, used, free_of, AreNodes-right, MayExceed, Covers, CalmUpTo, TripsWithin, Evaluates, HasEasyBadPart, CountsRefusals, IfFull, IfInterrupted, IfOverflow, ReduceFault, Overflows, plain, Forest, flatten, bytes_in, tree_of, Gives, KeepsFront, Starts, root_tree, without_root, LacksBytes, Stands, forest, KeepsRefusals, bytes_in-join, flatten-join, behind_first, behind_new, front_after_one, front_at, front_end, front_same, front_without, given_rest, given_told, gives_as, last_tree, size-plain, Refusal, Evaluation, Face, Undefined, Refused, ComesTo, CountsRefusal, IsDisplayOf, LacksName, refusal_of, refusal_to_fill, reason_of, reply_of, HasFittingRationals, IsAnswerTo, IsReplyWith, has_no_value, holds_its_name, is_shown, is_stored, OverflowsAt, IsReduction, lacks_bytes, is_answered, made, Unmade, IsReplyToTree, IsReady, is_made, Reply, displayed, circular, refused, refusal_in, state_of}
 use Rattle.breakers.specs.State.{State as Breaker}
 use Rattle.calc_measures.specs.PlainOverflows.{is_overflow, nodes_to_overflow}
 use Rattle.calc_measures.specs.PlainTrees.{IsPlainAnswer, IsPlainOverflow}

@@ -1,6 +1,6 @@
 -- What the answers to lines that ask for an expansion mean, and when there is one.
 use Rattle.std.proofs.lemmas.Bool.{both_ways}
-use Rattle.std.proofs.Common.{◌≡◌, ◌↔◌, ℕ, ◌≤◌, ◌<◌, List, length, true, false, Option, refl, ap, subst, arith}
+use Rattle.std.proofs.Common.{◌≡◌, ◌↔◌, ℕ, ◌≤◌, List, length, true, false, Option, refl, ap, arith}
 use Rattle.calc_session.proofs.Shared.{reduced_face_means, IsCommandLine, expand, face, text, Tree, nodes, expanded, sum_tree, term_trees, expansion_room, is_polynomial, polynomial_of, tree_expanded_reduced, TripsWithin, IsReplyToExpansion, expansion_text, is_no_polynomial, is_expanded, Reply, refused, not_polynomial, report, State, free_bytes, IsReply}
 use Rattle.breakers.specs.State.{State as Breaker}
 use Rattle.calc_measures.specs.Measures.{bits as bits_of}

@@ -1,6 +1,6 @@
 -- The replies to a text that is calculated with, by what it becomes.
-use Rattle.std.proofs.Common.{arith, ◌≡◌, ℕ, List, None, sym, subst}
-use Rattle.calc_session.proofs.Shared.{Tree, Placed, Filling, fills, ReadsText, ExpressionBecomes, IsReplyToExpression, is_no_expression, is_read, made_in, IsReplyToMade, is_made, Reply, report, State}
+use Rattle.std.proofs.Common.{arith, ◌≡◌, ℕ, List, sym, subst}
+use Rattle.calc_session.proofs.Shared.{Tree, Filling, fills, ExpressionBecomes, IsReplyToExpression, is_no_expression, is_read, made_in, IsReplyToMade, is_made, Reply, report, State}
 use Rattle.breakers.specs.State.{State as Breaker}
 use Rattle.calc_session.proofs.TextLemmas.{one_text, read_at_all}
 

@@ -1,5 +1,5 @@
 -- What the answers to lines mean.
-use Rattle.std.proofs.Common.{arith, ◌≡◌, ◌∙◌, ℕ, List, [], Option, Some, None, Bool, true, false, refl, sym, ap, subst}
+use Rattle.std.proofs.Common.{arith, ◌≡◌, ◌∙◌, ℕ, List, [], Option, Some, None, true, false, refl, sym, ap, subst}
 use Rattle.calc_session.proofs.Shared.{HasValue, IsEasy, value, KeepsMeanings, Reduces, Surd, one_meaning, Same-trans, Evaluates, face, Tree, undef, is_undef, reduced_face_means, IsReplyWith, IsReduction, lacks_bytes, is_answered, IsReplyToTree, is_not_made, is_made, Reply, shown, stored, undefined, State, free_bytes, IsReply}
 use Rattle.breakers.specs.State.{State as Breaker}
 use Rattle.calc_algebra.specs.SquareClasses.{Same}

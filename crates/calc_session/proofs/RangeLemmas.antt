@@ -1,7 +1,7 @@
 -- Lemmas on equations by where they stand in a text, from left to right.
 use Rattle.std.proofs.Common.{◌≡◌, ◌∙◌, ℕ, zero, suc, ◌+◌, ◌<◌, List, [], ◌∷◌, ◌++◌, length, get_or, map, take, drop, refl, sym, ap, subst, arith}
 use Rattle.std.specs.Prelude.{None}
-use Rattle.calc_session.proofs.Shared.{AllZip, Tree, Placed, Equation, EquationRange, IsNoExpression, ReadsText, Pieces, all_placed, AreSplit, between, pieces_at, Reason, refused, IsNoEquation, IsReplyToEquations, ReadsEquation, are_not_read, State}
+use Rattle.calc_session.proofs.Shared.{AllZip, Tree, Placed, Equation, EquationRange, IsNoExpression, ReadsText, Pieces, AreSplit, between, pieces_at, Reason, refused, IsNoEquation, IsReplyToEquations, ReadsEquation, are_not_read, State}
 use Rattle.breakers.specs.State.{State as Breaker}
 use Rattle.calc_session.specs.Solving.{at_left as unread_at_left, at_right as unread_at_right, later as later_unread}
 

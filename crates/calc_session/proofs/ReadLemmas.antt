@@ -1,5 +1,5 @@
 -- Texts, from what the parser answered.
-use Rattle.std.specs.Prelude.{◌≡◌, ◌≤◌, ◌+◌, ◌<◌, ◌^◌, ℕ, List, length}
+use Rattle.std.specs.Prelude.{◌≤◌, ◌+◌, ◌<◌, ◌^◌, ℕ, List, length}
 use Rattle.std.proofs.Common.{arith}
 use Rattle.calc_session.proofs.Shared.{bare, Placed, AreTokensOf, IsShallow, name_in, IsFirstCharacter, IsFirstWide, ReadsText}
 use Rattle.calc_parser.specs.declared.checking.Shape.{Shape}

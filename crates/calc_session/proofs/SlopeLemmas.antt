@@ -1,5 +1,5 @@
 -- What the answers to lines that ask for a derivative mean, and when there is one.
-use Rattle.std.proofs.Common.{◌≡◌, ◌∙◌, ℕ, zero, suc, ◌+◌, ◌*◌, ◌-◌, ◌≤◌, ◌<◌, List, [], ◌∷◌, length, codes, Bool, true, false, cond, nat_le, nat_lt, Option, None, Result, Ok, Err, ◌⊎◌, inl, inr, refl, sym, ap, subst, arith}
+use Rattle.std.proofs.Common.{◌≡◌, ◌∙◌, ℕ, zero, suc, ◌+◌, ◌*◌, ◌-◌, ◌≤◌, List, [], ◌∷◌, length, codes, Bool, true, false, cond, nat_le, nat_lt, Option, None, Result, Ok, Err, ◌⊎◌, inl, inr, refl, sym, ap, subst, arith}
 use Rattle.calc_session.proofs.Shared.{leb-true, reduced_face_means, Reduces, face, text, building, building_takes_the_size, takes_room, Tree, undef, depth, is_undef, nodes, root_size, size, symbol, HasDerivative, derivative, NamedTree, Filling, lacks, too_deep, fills, filling, filling_one, Full, MayExceed, TripsWithin, IsReplyToDerivative, has_none, IsReduction, lacks_bytes, is_answered, IsReplyWith, has_no_value, holds_its_name, is_shown, is_stored, made, Reply, report, reported, State, free_bytes, bytes_of_replaced, occurrences, replaced, replacing, diff, IsCommandLine, ExpressionBecomes, IsReply, trees, values}
 use Rattle.breakers.specs.State.{State as Breaker}
 use Rattle.dual_diff.proofs.Derived.{slope_means}

@@ -1,5 +1,5 @@
 use Rattle.std.proofs.Common.{None, Some, map, arith}
-use Rattle.calc_session.proofs.Shared.{forest, lack_of, name_of, value_of, entries_of, free_of, keeps_after, given_handed, refuses_after}
+use Rattle.calc_session.proofs.Shared.{forest, name_of, value_of, entries_of, free_of, keeps_after, given_handed, refuses_after}
 use Rattle.calc_session.proofs.PoolLemmas.{old_below, rolled_back}
 use Rattle.calc_session.proofs.EvaluationLemmas.{front_over}
 use Rattle.calc_session.proofs.FormFaces.{sizes_of_summands}

@@ -2,7 +2,6 @@ use Rattle.std.proofs.Common.{None, ◌≡◌, ◌∙◌, ◌++◌, ℕ, List, l
 use Rattle.calc_session.proofs.Shared.{states, text, IsWritable, tokens_of, Content, IsHeld, IsKeepable, name_in, plain, tree_at, forest, given_rest, gives_as, with_answer, is_no_line, state_in, refusal_in, reason_of}
 use Rattle.calc_session.proofs.PoolLemmas.{kept_but}
 use Rattle.calc_session.proofs.SessionLemmas.{answers_face, answers_refusal, answers_undefined, answers_unstorable, answers_vain, calm_refusal, face_expression, face_room, face_tree, leaves_answer}
-use Rattle.calc_session.specs.declared.answers.LineAnswer.TheVariants as answer
 use Rattle.calc_session.proofs.parts.Parts.answer_text.Goals as goal
 
 pub read_text-requires : goal.read_text-requires

@@ -1,5 +1,5 @@
 use Rattle.std.proofs.Common.{◌∙◌, ◌*◌, ◌+◌, None, inl, refl, sym, ap, subst, arith}
-use Rattle.calc_session.proofs.Shared.{TripsRose, IsWritable, states, tokens_of, values, free_of, tree_of, forest, given_rest, gives_as, held_entries, ComesTo, CountsRefusal, reason_of, refusal_of_evaluation, ExpressionBecomes, IsReplyToExpression, is_no_expression, is_read, IsCountedBut, IsKnownOf, is_not_made, refusal_in, reported, state_in}
+use Rattle.calc_session.proofs.Shared.{TripsRose, IsWritable, states, tokens_of, free_of, tree_of, forest, given_rest, gives_as, held_entries, ComesTo, CountsRefusal, reason_of, refusal_of_evaluation, ExpressionBecomes, IsReplyToExpression, is_no_expression, is_read, IsCountedBut, IsKnownOf, is_not_made, refusal_in, reported, state_in}
 use Rattle.calc_session.proofs.CommandLemmas.{calm_told, refusal_uninterrupted}
 use Rattle.calc_session.proofs.CountingLemmas.{counted_still, counted_then, counted_there, none_known, none_made, none_read}
 use Rattle.calc_session.proofs.EvaluationLemmas.{front_over, none_rose, size_kept}
@@ -31,7 +31,7 @@ comes g c =
     c.requires.kept.ready.stands c.build_and_fill.ensures.stands c.in-Ok-build_and_fill.ensures.kept.size c.in-Ok-build_and_fill.ensures.ok reads (c.in-Ok-build_and_fill.ensures.made t (None, reads.line-is)) c.run-evaluation.ensures.reply
 
 pub tell-answer-requires-clause-face : goal.tell-answer-requires-clause-face
-tell-answer-requires-clause-face g c = 
+tell-answer-requires-clause-face g c =
     has_face (λ r. IsReplyToExpression (state_in c.args.self.now) (states g.B.Breaker.state c.args.watch.now) (states g.B.Breaker.state c.run-evaluation.new.watch) c.args.before c.args.expression.now
     (g.C.Calculation.rule c.args.calculation.now (free_of c.args.self.now.work.pool) (states g.B.Breaker.state c.args.watch.now) (states g.B.Breaker.state c.run-evaluation.new.watch)) (reported r)) (forest c.args.self.now.work.pool) (forest c.run-evaluation.new.work.pool) c.run-evaluation.result (comes g (goal.at.tell-answer-requires-clause-face g c).After-run-evaluation)
 
