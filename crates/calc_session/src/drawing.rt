@@ -115,7 +115,7 @@ pub fn write_layout(
     let mark = open_mark(pool);
     match layout_of(pool, answer, drafter) {
         Ok(layout) => {
-            write_serial(pool, layout.id(), drafter, text);
+            write_serial(pool, layout.id(), text);
             roll_back(pool, mark);
             Ok(())
         }

@@ -20,7 +20,7 @@ roll_back-requires-in-Err-clause-below c = (forest c.args.pool.now, old_below (c
 pub returns-in-Ok-clause-told : goal.returns-in-Ok-clause-told
 returns-in-Ok-clause-told c =
     given_told serial c.args.answer c.args.pool.now c.layout_of.new.pool c.in-Ok.layout c.id.result _ c.layout_of.ensures.stands c.in-Ok.ensures.ok c.id.ensures c.in-Ok.ensures.room
-    ∙ ap (λ (b : List ℕ). Ok b) (sym (ap (λ (x : Content). x.bytes) c.write_serial.ensures.written ∙ ap (λ (b : List ℕ). b ++ serial (drawing (tree_at c.id.result (forest c.layout_of.new.pool)))) c.requires.empty))
+    ∙ ap (λ (b : List ℕ). Ok b) (sym (ap (λ (x : Content). x.bytes) c.write_serial.ensures ∙ ap (λ (b : List ℕ). b ++ serial (drawing (tree_at c.id.result (forest c.layout_of.new.pool)))) c.requires.empty))
 
 pub returns-in-Ok-clause-counted : goal.returns-in-Ok-clause-counted
 returns-in-Ok-clause-counted c = (rolled_back (lack_in (told_at serial c.args.answer c.args.pool.now)) c.args.pool.now c.layout_of.new.pool c.roll_back.new.pool c.requires.stands c.roll_back.ensures.stands (subst (λ r. CountsRefusal (lack_in r) c.args.pool.now c.layout_of.new.pool) (sym (told_where serial c.args.answer c.args.pool.now _ c.in-Ok.ensures.room)) c.in-Ok.ensures.kept) c.roll_back.ensures.kept
