@@ -1,15 +1,14 @@
 -- Expanded trees as answers.
-use Rattle.std.proofs.Common.{◌≡◌, ◌≤◌, ℕ, suc, ◌+◌, List, [], ◌∷◌, ◌++◌, Bool, true, false, refl, sym, ap, ◌∙◌, arith, pos, append-nil}
+use Rattle.std.proofs.Common.{◌≡◌, ◌≤◌, ℕ, List, [], ◌∷◌, ◌++◌, Bool, true, false, refl, sym, ap, ◌∙◌, arith, pos, append-nil}
 use Rattle.std.specs.Prelude.{not, if◌then◌else◌}
-use Rattle.expand_forms.proofs.Shared.{no_one, one_is, zero_is, zero_test, product_tree, Rat, ratio_of, value_of, Ratio, whole, Fraction, is_one_fraction, is_zero_fraction, lowest, one_fraction, zero_fraction, Tree, num, symbol, add, none, more, count, IsNormal, expanded, normal, sum_tree, term_trees, AreMonomials, IsMonomial, Polynomial, coefficient_at, constant, factor, product, raised, summand, variable, polynomial_of, AreSame, IsExpanded, IsSum, IsSumOf, children_of, nth}
+use Rattle.expand_forms.proofs.Shared.{no_one, one_is, zero_is, zero_test, product_tree, Rat, ratio_of, value_of, Ratio, whole, Fraction, is_one_fraction, is_zero_fraction, lowest, one_fraction, zero_fraction, Tree, num, symbol, add, none, more, count, IsNormal, expanded, normal, sum_tree, term_trees, AreMonomials, IsMonomial, Polynomial, coefficient_at, constant, factor, summand, variable, polynomial_of, AreSame, IsExpanded, IsSum, IsSumOf, children_of, nth}
 use Rattle.calc_algebra.proofs.NumberClasses.{one_not_zero}
-use Rattle.expand_forms.proofs.AllMonomials.{AllHave, normal_all, raised_all}
+use Rattle.expand_forms.proofs.AllMonomials.{AllHave, normal_all}
 use Rattle.expand_forms.proofs.Joins.{sum_polynomial_is}
-use Rattle.expand_forms.proofs.MonomialProducts.{raised_add}
 use Rattle.expand_forms.proofs.NormalForms.{normal_coefficient, normal_is, one_normal}
-use Rattle.expand_forms.proofs.SameCoefficients.{normal_same, product_both, product_right, same_sym, same_trans}
+use Rattle.expand_forms.proofs.SameCoefficients.{normal_same, same_sym, same_trans}
 use Rattle.expand_forms.proofs.TermPolynomials.{expanded_polynomial}
-use Rattle.expand_forms.proofs.TreeMonomials.{all_monomials, monomial_closed, tree_monomials}
+use Rattle.expand_forms.proofs.TreeMonomials.{all_monomials}
 use Rattle.expand_forms.proofs.Sums.{sum_is}
 use Rattle.expand_forms.proofs.TermReadings.{sum_children}
 
@@ -34,9 +33,6 @@ same_polynomial {v = v} h e = same_trans (record { at = λ m. ap (λ (u : Tree).
 
 pub is_expanded : {t : Tree} (v : Polynomial) → AllHave IsMonomial v → t ≡ expanded v → IsExpanded t
 is_expanded v h e = e ∙ expanded_same (same_sym (same_polynomial h e))
-
-pub raised_monomials : (t : Tree) (n : ℕ) → AllHave IsMonomial (raised (polynomial_of t) n)
-raised_monomials t n = raised_all IsMonomial monomial_closed (polynomial_of t) n (tree_monomials t)
 
 -- ---- rationals
 
@@ -63,12 +59,6 @@ sum_same h = ap expanded (sum_polynomial_is h.sum) ∙ expanded_same h.same
 
 -- ---- powers
 
-pub square_same : {t : Tree} (v : Polynomial) (n : ℕ) → AllHave IsMonomial (raised v n) → t ≡ expanded (raised v n) → expanded (product (polynomial_of t) (polynomial_of t)) ≡ expanded (raised v (n + n))
-square_same v n h e = grind (arith, same_polynomial, expanded_same, same_trans, product_both, raised_add)
-
-pub more_same : {t : Tree} (v : Polynomial) (n : ℕ) → AllHave IsMonomial (raised v n) → t ≡ expanded (raised v n) → expanded (product v (polynomial_of t)) ≡ expanded (raised v (suc n))
-more_same v n h e = expanded_same (product_right v (same_polynomial h e))
-
 pub zero_value : (r : Rat) → ratio_of r ≡ whole (pos 0) → value_of r ≡ zero_fraction
 unfolding zero_fraction
 zero_value r e = ap (λ (x : Ratio). lowest x.num x.den) e
@@ -80,7 +70,7 @@ empty_sum e = record { summands = []; normal = tt; monomials = tt; tree = e }
 pub nothing_added : (v : Polynomial) {t : Tree} → t ≡ add none → v ++ polynomial_of t ≡ v
 nothing_added v e = ap (λ (u : Tree). v ++ polynomial_of u) e ∙ append-nil v
 
-one_nonzero : is_zero_fraction one_fraction ≡ false
+pub one_nonzero : is_zero_fraction one_fraction ≡ false
 one_nonzero = zero_test one_fraction (λ e. one_not_zero e)
 
 pub name_expanded : (x : List ℕ) → expanded (variable x) ≡ symbol x

@@ -1,41 +1,22 @@
 -- The order of factors and of monomials, by the kinds of their trees first.
-use Rattle.std.proofs.Common.{◌≡◌, ◌≢◌, ◌+◌, ℕ, ℤ, pos, ◌*ℤ◌, List, length, [], ◌∷◌, Bool, true, false, refl, sym, ap, ◌∙◌, arith, to_z, of_z}
-use Rattle.std.specs.Prelude.{◌==◌, not}
+use Rattle.std.proofs.Common.{◌≡◌, ◌+◌, ℕ, ℤ, pos, ◌*ℤ◌, List, [], ◌∷◌, Bool, true, false, refl, sym, ap, ◌∙◌, arith, to_z, of_z}
+use Rattle.std.specs.Prelude.{not}
 use Rattle.std.specs.Ordering.{int_cmp}
 use Rattle.calc_terms.specs.Fractions.{fraction_cmp}
-use Rattle.calc_terms.specs.Kind.{code_of}
 use Rattle.calc_terms.specs.Leaf.{name_of}
 use Rattle.calc_terms.specs.Name.{before_zero, padded}
 use Rattle.calc_terms.specs.Ratio.{IsRat}
 use Rattle.calc_terms.specs.declared.name.Name.{Name}
 use Rattle.node_order.proofs.Orderings.{then-equal}
 use Rattle.rational128.proofs.Signed.{told}
-use Rattle.expand_forms.proofs.Shared.{AreRead, trees_cmp, root_code, ordering_index, ordering_then, is_mult, product_tree, monomial_in, HasMonomial, count, children_of, nth, first_place, ints, w128, bytes_eq, bytes_eq-Decides, tree_cmp_equal, tree_cmp_same, ratio_of, ratio_parts, Kind, Fraction, Ordering, Less, Equal, Greater, nat_cmp, slice_cmp, tree_cmp, tree_cmp_refl, whole_numerator, whole_denominator, lowest, one_fraction, Tree, num, symbol, mult, root_kind, is_one_fraction, value_of, factor_tree, factor_trees, monomial_cmp, monomial_tree, Factor, Monomial, IsRead}
+use Rattle.expand_forms.proofs.Shared.{trees_cmp, root_code, ordering_then, is_mult, monomial_in, count, children_of, nth, first_place, ints, w128, bytes_eq, bytes_eq-Decides, tree_cmp_same, ratio_of, ratio_parts, Fraction, Less, Equal, Greater, nat_cmp, slice_cmp, tree_cmp, tree_cmp_refl, whole_numerator, whole_denominator, lowest, one_fraction, Tree, num, symbol, mult, root_kind, factor_tree, factor_trees, monomial_cmp, monomial_tree, Factor, Monomial, IsRead}
 use Rattle.expand_forms.specs.declared.factors.Factor.{Factor as Read}
 use Rattle.expand_forms.proofs.FactorTrees.{on_factor, on_monomial}
-use Rattle.expand_forms.proofs.TermReadings.{factor_one, factor_other}
 use Rattle.calc_terms.specs.declared.kind.Kind.TheVariants as kind
 
 -- ---- kinds
 
-pub kind_one : (x : Read) (f : Factor) → IsRead x f → is_one_fraction (value_of x.exponent) ≡ true → kind.Sym ≡ root_kind (factor_tree f)
-kind_one x f r e = ap root_kind (factor_one x f r e)
-
-pub kind_other : (x : Read) (f : Factor) → IsRead x f → is_one_fraction (value_of x.exponent) ≡ false → kind.Pow ≡ root_kind (factor_tree f)
-kind_other x f r e = ap root_kind (factor_other x f r e)
-
--- of several factors
-pub kind_many : (xs : List Read) (m : Monomial) → AreRead xs m → (length xs == 0) ≡ false → (length xs ≡ 1 → ⊥) → kind.Mult ≡ root_kind (monomial_tree m)
-kind_many [] m h l o = absurd cc
-kind_many (x ∷ []) m h l o = absurd (o refl)
-kind_many (x ∷ y ∷ xs) [] h l o = absurd h
-kind_many (x ∷ y ∷ xs) (f ∷ []) h l o = absurd h.1
-kind_many (x ∷ y ∷ xs) (f ∷ g ∷ m) h l o = refl
-
 -- ---- kinds of terms
-
-kind_in : {m : Monomial} {t : Tree} → HasMonomial m t → root_kind (monomial_in t) ≡ root_kind (monomial_tree m)
-kind_in h = ap (λ ts. root_kind (product_tree ts)) h.factors
 
 itself : (t : Tree) → (kind.Mult ≡ root_kind t → ⊥) → root_kind t ≡ root_kind (monomial_in t)
 itself t h = grind arith
@@ -43,15 +24,8 @@ itself t h = grind arith
 pub no_product : kind.Num ≡ kind.Mult → ⊥
 no_product e = cc
 
-pub kind_itself : {m : Monomial} {t : Tree} → HasMonomial m t → (kind.Mult ≡ root_kind t → ⊥) → root_kind t ≡ root_kind (monomial_tree m)
-kind_itself {t = t} h k = itself t k ∙ kind_in h
-
 only : (t : Tree) (n : ℕ) → is_mult t ≡ true → n ≡ first_place (children_of t) → count (children_of t) ≡ n + 1 → root_kind (nth n (children_of t)) ≡ root_kind (monomial_in t)
 only t n h e k = grind arith
-
--- of a product with one factor
-pub kind_only : {m : Monomial} {t : Tree} (n : ℕ) → HasMonomial m t → is_mult t ≡ true → n ≡ first_place (children_of t) → count (children_of t) ≡ n + 1 → root_kind (nth n (children_of t)) ≡ root_kind (monomial_tree m)
-kind_only {t = t} n h p e k = only t n p e k ∙ kind_in h
 
 -- ---- whole exponents
 
@@ -91,28 +65,11 @@ names_equal x y b e h = tree_cmp_same (symbol (name_of x)) (symbol (name_of y)) 
     no_not : (a : Bool) → not a ≡ false → a ≡ true
     no_not a k = grind arith
 
-pub names_differ : (x y : Name) (b : Bool) → b ≡ not (bytes_eq x.text y.text) → b ≡ true → slice_cmp nat_cmp (name_of x) (name_of y) ≢ Equal
-names_differ x y b e h o = clash (bytes_eq x.text y.text) (sym e ∙ h) ((bytes_eq-Decides x.text y.text).1 (one_name x y (symbol_is (tree_cmp_equal (symbol (name_of x)) (symbol (name_of y)) o))))
-  where
-    clash : (a : Bool) → not a ≡ true → a ≡ true → ⊥
-    clash a k l = grind arith
-
 -- ---- factors
 
 -- kinds decide, and then names, and then exponents
 pub factors_cmp : (f g : Factor) → tree_cmp (factor_tree f) (factor_tree g) ≡ ordering_then (nat_cmp (root_code (factor_tree f)) (root_code (factor_tree g))) (ordering_then (slice_cmp nat_cmp f.name g.name) (nat_cmp f.exponent g.exponent))
 factors_cmp f g = grind (arith, whole_cmp, then-equal)
-
--- roots whose kinds are found to be one
-pub one_kind : (t u : Tree) (i j : Kind) (m n : ℕ) (o : Ordering) (b : Bool) → i ≡ root_kind t → j ≡ root_kind u → m ≡ code_of i → n ≡ code_of j → o ≡ nat_cmp m n → b ≡ not (ordering_index o == 1) → b ≡ false
-    → nat_cmp (root_code t) (root_code u) ≡ Equal
-one_kind t u i j m n o b p q e h c d k = grind arith
-
-pub by_name : (f g : Factor) → nat_cmp (root_code (factor_tree f)) (root_code (factor_tree g)) ≡ Equal → slice_cmp nat_cmp f.name g.name ≢ Equal → tree_cmp (factor_tree f) (factor_tree g) ≡ slice_cmp nat_cmp f.name g.name
-by_name f g e h = grind (arith, factors_cmp)
-
-pub by_exponent : (f g : Factor) → nat_cmp (root_code (factor_tree f)) (root_code (factor_tree g)) ≡ Equal → slice_cmp nat_cmp f.name g.name ≡ Equal → tree_cmp (factor_tree f) (factor_tree g) ≡ nat_cmp f.exponent g.exponent
-by_exponent f g e h = grind (arith, factors_cmp)
 
 -- ---- monomials
 
@@ -131,6 +88,3 @@ monomials_cmp (f ∷ []) (g ∷ []) = kinds_first f g
 monomials_cmp (f ∷ []) (g ∷ h ∷ n) = on_factor (λ v. tree_cmp v (mult (factor_trees (g ∷ h ∷ n))) ≡ ordering_then (nat_cmp (root_code v) 5) (trees_cmp (factor_trees (f ∷ [])) (factor_trees (g ∷ h ∷ n)))) f refl refl
 monomials_cmp (f ∷ k ∷ m) (g ∷ []) = on_factor (λ v. tree_cmp (mult (factor_trees (f ∷ k ∷ m))) v ≡ ordering_then (nat_cmp 5 (root_code v)) (trees_cmp (factor_trees (f ∷ k ∷ m)) (factor_trees (g ∷ [])))) g refl refl
 monomials_cmp (f ∷ k ∷ m) (g ∷ h ∷ n) = refl
-
-pub by_factors : (m n : Monomial) → nat_cmp (root_code (monomial_tree m)) (root_code (monomial_tree n)) ≡ Equal → trees_cmp (factor_trees m) (factor_trees n) ≡ monomial_cmp m n
-by_factors m n e = sym (monomials_cmp m n ∙ ap (λ (o : Ordering). ordering_then o (trees_cmp (factor_trees m) (factor_trees n))) e)

@@ -1,12 +1,12 @@
 -- Polynomials with few terms: their sums and products, and the trees of them.
-use Rattle.std.proofs.Common.{◌≡◌, ℕ, ◌+◌, ◌*◌, ◌^◌, ◌≤◌, List, [], ◌∷◌, ◌++◌, length, sym, ap, subst, arith}
-use Rattle.expand_forms.proofs.Shared.{pow-le-pow_left, length-append, mul-le, within_of, HasNoNewName, Fraction, Tree, add, names, none, size, expanded, normal, sum_tree, term_trees, AreNamed, HasFewTerms, IsNamed, sum_bytes, AreMonomials, IsMonomial, Polynomial, constant, product, raised, scaled, polynomial_of, IsExpanded, IsSum}
-use Rattle.expand_forms.proofs.AllMonomials.{AllHave, append_all, normal_all, product_all, raised_all, scaled_all}
+use Rattle.std.proofs.Common.{◌≡◌, ℕ, ◌+◌, ◌*◌, ◌≤◌, List, [], ◌∷◌, ◌++◌, length, sym, ap, subst, arith}
+use Rattle.expand_forms.proofs.Shared.{length-append, mul-le, within_of, HasNoNewName, Tree, add, names, none, size, expanded, normal, sum_tree, term_trees, AreNamed, HasFewTerms, IsNamed, sum_bytes, AreMonomials, IsMonomial, Polynomial, product, polynomial_of, IsExpanded, IsSum}
+use Rattle.expand_forms.proofs.AllMonomials.{AllHave, append_all, normal_all, product_all}
 use Rattle.expand_forms.proofs.Gathered.{gathered_few, gathered_normal}
 use Rattle.expand_forms.proofs.Joins.{sum_polynomial_is}
 use Rattle.expand_forms.proofs.Names.{all_named, are_named, named_closed, tree_named}
 use Rattle.expand_forms.proofs.TermBytes.{IsNamedMonomial, expanded_most, terms_most, terms_rise}
-use Rattle.expand_forms.proofs.TermCounts.{product_length, raised_length, scaled_length}
+use Rattle.expand_forms.proofs.TermCounts.{product_length}
 use Rattle.expand_forms.proofs.TermPolynomials.{terms_polynomial, term_polynomial, tree_normal}
 use Rattle.expand_forms.proofs.TreeMonomials.{all_monomials}
 
@@ -26,18 +26,6 @@ few_product {ns} {m} {n} {v} {w} h k = record {
   named = are_named ns (product v w) (product_all (IsNamed ns) (named_closed ns) v w (all_named ns v h.named) (all_named ns w k.named));
   few = omega (arith, product_length v w, mul-le (length v) (length w) m n h.few k.few);
 }
-
-pub few_raised : {ns : List (List ℕ)} {n : ℕ} {v : Polynomial} (k : ℕ) → HasFewTerms ns n v → HasFewTerms ns (n ^ k) (raised v k)
-few_raised {ns} {n} {v} k h = record {
-  named = are_named ns (raised v k) (raised_all (IsNamed ns) (named_closed ns) v k (all_named ns v h.named));
-  few = omega (arith, raised_length v k, pow-le-pow_left h.few k);
-}
-
-pub few_scaled : {ns : List (List ℕ)} {n : ℕ} {v : Polynomial} (c : Fraction) → HasFewTerms ns n v → HasFewTerms ns n (scaled c v)
-few_scaled c h = grind (arith, are_named, scaled_all, all_named, scaled_length)
-
-pub few_constant : (ns : List (List ℕ)) (c : Fraction) → HasFewTerms ns 1 (constant c)
-few_constant ns c = record { named = (tt, tt); few = omega arith }
 
 -- ---- normal polynomials
 

@@ -90,7 +90,3 @@ gathered_few {ns = ns} g x = record { named = g.named ns x.named; few = omega (a
 
 pub few_behind : (v w : Polynomial) {ns : List (List ℕ)} {n : ℕ} → HasFewTerms ns n (v ++ w) → HasFewTerms ns n w
 few_behind v w {ns} x = record { named = named_right ns v w x.named; few = omega (arith, x.few, length-append v w) }
-
--- a sum that takes the place of the part behind
-pub held_before : (v w : Polynomial) {t : Tree} {h l : ℕ} → IsHeld (v ++ w) h l → IsSumOf w t → IsHeld (v ++ polynomial_of t) h l
-held_before v w x s = gathered_held (gathered_append (gathered_refl v) (gathered_sum s)) x

@@ -1,7 +1,7 @@
 -- A product of terms that is joined to a sum.
 use Rattle.std.proofs.Common.{◌≡◌, ◌≢◌, ◌≤◌, ◌<◌, ℕ, zero, suc, ◌+◌, [], ◌∷◌, drop, Bool, true, false, refl, sym, ap, ◌∙◌, subst, arith}
 use Rattle.std.specs.Prelude.{if◌then◌else◌}
-use Rattle.expand_forms.proofs.Shared.{Equal, no_zero, zero_is, not_from_false, Fraction, is_zero_fraction, plus, zero_fraction, Tree, Trees, add, mult, none, more, count, factor_trees, term_tree, term_trees, IsMonomial, Monomial, Polynomial, Summand, monomial_times, summand, polynomial_of, IsPlace, IsSum, IsSumOf, with_term, HasMonomial, IsTerm, coefficient_in, factors_in, term_cmp, removed, Forest, tree_at, State, IsExpression, children_of, inserted, nth, plain, Gives, root_tree, without_root, Stands, forest, given_handed, given_other, given_rest, given_root, given_same, given_told, gives_as, seen}
+use Rattle.expand_forms.proofs.Shared.{Equal, no_zero, zero_is, not_from_false, Fraction, is_zero_fraction, plus, zero_fraction, Tree, Trees, add, mult, none, more, count, factor_trees, term_tree, term_trees, IsMonomial, Monomial, Polynomial, Summand, monomial_times, summand, polynomial_of, IsPlace, IsSum, IsSumOf, with_term, HasMonomial, IsTerm, coefficient_in, term_cmp, removed, Forest, tree_at, State, IsExpression, children_of, inserted, nth, plain, Gives, root_tree, without_root, Stands, forest, given_handed, given_other, given_rest, given_root, given_same, given_told, gives_as, seen}
 use Rattle.expand_forms.proofs.MonomialTrees.{equal_is}
 use Rattle.expand_forms.proofs.SameCoefficients.{same_is, same_trans}
 use Rattle.expand_forms.proofs.SumPlaces.{IsAt, IsFound, drop_at, drop_monomials, drop_normal, drop_trees, found, put_at, put_monomials, put_normal, put_same, put_trees, set_at, set_monomials, set_normal, term_order}
@@ -131,17 +131,3 @@ pub set_in : {i h : ℕ} {g f f1 f2 : Forest} {P : Tree → Type 0} (z : Summand
     → term_cmp (nth at (children_of (plain (root_tree i f)))) (term_tree z) ≡ Equal → q ≡ plus (coefficient_in (nth at (children_of (plain (root_tree i f))))) z.coefficient
     → Gives (without_root i (without_root h f1)) f2 i (λ u. u ≡ add (with_term at (summand q z.monomial) (children_of (plain (root_tree i f1))))) → Gives g f2 i (IsSumOf (z ∷ polynomial_of (plain (root_tree i f))))
 set_in z at q e p l h k m = grind (arith, gives_as, given_rest, joined_same, given_told, given_same, given_root)
-
--- the same where nothing is placed behind the sum
-pub set_alone : {i : ℕ} {g f : Forest} {t : Tree} (z : Summand) (at : ℕ) (q : Fraction) (s : IsSum t) → at < count (children_of t) → term_cmp (nth at (children_of t)) (term_tree z) ≡ Equal → q ≡ plus (coefficient_in (nth at (children_of t))) z.coefficient
-    → Gives g f i (λ u. u ≡ add (with_term at (summand q z.monomial) (children_of t))) → Gives g f i (IsSumOf (z ∷ polynomial_of t))
-set_alone z at q s l h k m = gives_as m refl (λ u e. joined_same s z at q l h k e)
-
--- the factors of the term that is found
-pub factors_found : {t : Tree} {n : ℕ} (m : Monomial) (q : Fraction) (s : IsSum t) → IsMonomial m → IsFoundAt n (term_tree (summand q m)) (children_of t) → factors_in (nth n (children_of t)) ≡ factor_trees m
-factors_found {t} {n} m q s h (l, e) =
-    let c = sum_children s in
-    let (x, a, f) = found n s.summands (subst (λ (ts : Trees). n < count ts) c l) in
-    let term : nth n (children_of t) ≡ term_tree x = ap (nth n) c ∙ a.term in
-    let one : x.monomial ≡ m = equal_is x.monomial m (sym (term_order x (summand q m)) ∙ ap (λ (y : Tree). term_cmp y (term_tree (summand q m))) (sym term) ∙ e) in
-    ap factors_in term ∙ term_factors x ∙ ap factor_trees one

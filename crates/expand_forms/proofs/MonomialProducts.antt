@@ -1,7 +1,6 @@
 -- Products of monomials and of polynomials: their order and their brackets.
-use Rattle.std.proofs.Common.{◌≡◌, ℕ, zero, suc, ◌+◌, List, [], ◌∷◌, ◌++◌, map, refl, sym, ap, ◌∙◌, arith, subst}
-use Rattle.expand_forms.proofs.Shared.{Ordering, Less, Equal, Greater, nat_cmp, ordering_reverse, nat_list_cmp_total, slice_cmp, tree_cmp_same, times_assoc, symbol, Factor, IsBelowAll, IsMonomial, Monomial, Polynomial, Summand, factor, monomial_times, product, raised, summand, summand_times, with_factor}
-use Rattle.expand_forms.proofs.SameCoefficients.{product_append, times_one_polynomial}
+use Rattle.std.proofs.Common.{◌≡◌, ℕ, suc, ◌+◌, List, [], ◌∷◌, refl, sym, ap, ◌∙◌, arith, subst}
+use Rattle.expand_forms.proofs.Shared.{Ordering, Less, Equal, Greater, nat_cmp, ordering_reverse, nat_list_cmp_total, slice_cmp, tree_cmp_same, symbol, Factor, IsBelowAll, IsMonomial, Monomial, factor, monomial_times, with_factor}
 use Rattle.expand_forms.proofs.TreeMonomials.{below_more, below_with, names_turned}
 use Rattle.expand_forms.proofs.ValueLaws.{names_equal}
 
@@ -92,48 +91,7 @@ with_turned f g m = by (slice_cmp nat_cmp f.name g.name) refl
 
 -- ---- brackets
 
-times_with : (f : Factor) (n p : Monomial) → monomial_times (with_factor f n) p ≡ with_factor f (monomial_times n p)
-times_with f [] p = refl
-times_with f (g ∷ n) p = by (slice_cmp nat_cmp f.name g.name) refl (times_with f n p)
-  where
-    by : (o : Ordering) → slice_cmp nat_cmp f.name g.name ≡ o → monomial_times (with_factor f n) p ≡ with_factor f (monomial_times n p) → monomial_times (with_factor f (g ∷ n)) p ≡ with_factor f (monomial_times (g ∷ n) p)
-    by Less e go = ap (λ (k : Monomial). monomial_times k p) (with_less f g n e)
-    by Equal e go =
-        ap (λ (k : Monomial). monomial_times k p) (with_equal f g n e)
-        ∙ sym (ap (λ (y : List ℕ). with_factor f (with_factor (factor y g.exponent) (monomial_times n p))) (sym (names_equal f.name g.name e)) ∙ with_same f.name f.exponent g.exponent (monomial_times n p))
-    by Greater e go = ap (λ (k : Monomial). monomial_times k p) (with_greater f g n e) ∙ ap (with_factor g) go ∙ with_turned g f (monomial_times n p)
-
-pub monomial_assoc : (m n p : Monomial) → monomial_times (monomial_times m n) p ≡ monomial_times m (monomial_times n p)
-monomial_assoc [] n p = refl
-monomial_assoc (f ∷ m) n p = times_with f (monomial_times m n) p ∙ ap (with_factor f) (monomial_assoc m n p)
-
-summand_assoc : (s t u : Summand) → summand_times (summand_times s t) u ≡ summand_times s (summand_times t u)
-summand_assoc s t u = λ i. summand (times_assoc s.coefficient t.coefficient u.coefficient i) (monomial_assoc s.monomial t.monomial u.monomial i)
-
-map_assoc : (s t : Summand) (w : Polynomial) → map (summand_times (summand_times s t)) w ≡ map (summand_times s) (map (summand_times t) w)
-map_assoc s t [] = refl
-map_assoc s t (u ∷ w) = λ i. summand_assoc s t u i ∷ map_assoc s t w i
-
-map_append : (f : Summand → Summand) (a b : Polynomial) → map f (a ++ b) ≡ map f a ++ map f b
-map_append f [] b = refl
-map_append f (s ∷ a) b = ap (λ (x : Polynomial). f s ∷ x) (map_append f a b)
-
-row_product : (s : Summand) (v w : Polynomial) → product (map (summand_times s) v) w ≡ map (summand_times s) (product v w)
-row_product s [] w = refl
-row_product s (t ∷ v) w =
-    (λ i. map_assoc s t w i ++ row_product s v w i) ∙ sym (map_append (summand_times s) (map (summand_times t) w) (product v w))
-
-pub product_assoc : (u v w : Polynomial) → product (product u v) w ≡ product u (product v w)
-product_assoc [] v w = refl
-product_assoc (s ∷ u) v w =
-    product_append (map (summand_times s) v) (product u v) w ∙ (λ i. row_product s v w i ++ product_assoc u v w i)
-
 -- ---- powers
-
-pub raised_add : (v : Polynomial) (m n : ℕ) → raised v (m + n) ≡ product (raised v m) (raised v n)
-raised_add v zero n = ap (raised v) (let e : 0 + n ≡ n = omega arith in e) ∙ sym (times_one_polynomial (raised v n))
-raised_add v (suc m) n =
-    ap (raised v) (let e : suc m + n ≡ suc (m + n) = omega arith in e) ∙ ap (product v) (raised_add v m n) ∙ sym (product_assoc v (raised v m) (raised v n))
 
 -- ---- the first factor of a product
 

@@ -1,7 +1,7 @@
 -- Monomials are one where their trees are.
 use Rattle.std.proofs.Common.{arith, ◌≡◌, ℕ, List, pos, [], ◌∷◌, Bool, true, false, refl, sym, ap, ◌∙◌}
 use Rattle.std.specs.Prelude.{◌==◌, ◌&&◌}
-use Rattle.expand_forms.proofs.Shared.{bytes_eq, and_from, and_parts, eq-eqb, eqb-true, false_from_ne_true, bytes_eq-Decides, Less, Equal, Greater, ordering_reverse, whole_one, tree_chain, tree_cmp_equal, tree_cmp_same, tree_cmp_turned, Fraction, zero_fraction, Tree, num, symbol, undef, mult, power, Trees, none, more, is_mult, is_num, whole_num, Factor, Monomial, factor, is_same_monomial, factor_tree, factor_trees, monomial_cmp, monomial_tree}
+use Rattle.expand_forms.proofs.Shared.{bytes_eq, and_from, and_parts, eq-eqb, eqb-true, false_from_ne_true, bytes_eq-Decides, Less, Equal, Greater, ordering_reverse, whole_one, tree_chain, tree_cmp_equal, tree_cmp_same, tree_cmp_turned, Fraction, zero_fraction, Tree, num, symbol, undef, mult, Trees, none, more, is_mult, is_num, whole_num, Factor, Monomial, factor, is_same_monomial, factor_tree, factor_trees, monomial_cmp, monomial_tree}
 
 -- ---- parts of trees
 
@@ -12,14 +12,6 @@ fraction_in _ = zero_fraction
 abbrev name_in : Tree → List ℕ
 name_in (symbol x) = x
 name_in _ = []
-
-abbrev base_in : Tree → Tree
-base_in (power b e) = b
-base_in t = t
-
-abbrev exponent_in : Tree → Tree
-exponent_in (power b e) = e
-exponent_in t = t
 
 abbrev factors_in : Tree → Trees
 factors_in (mult ts) = ts

@@ -20,20 +20,6 @@ use Rattle.tree_handles.specs.declared.visits.Visit.{Visit}
 
 -- ---- names in two lists
 
-has_left : (x : List ℕ) (xs ys : List (List ℕ)) → HasName x xs → HasName x (xs ++ ys)
-has_left x [] ys h = absurd h
-has_left x (z ∷ xs) ys (inl e) = inl e
-has_left x (z ∷ xs) ys (inr h) = inr (has_left x xs ys h)
-
-has_right : (x : List ℕ) (xs ys : List (List ℕ)) → HasName x ys → HasName x (xs ++ ys)
-has_right x [] ys h = h
-has_right x (z ∷ xs) ys h = inr (has_right x xs ys h)
-
-has_either : (x : List ℕ) (xs ys : List (List ℕ)) → HasName x (xs ++ ys) → HasName x xs ⊎ HasName x ys
-has_either x [] ys h = inr h
-has_either x (z ∷ xs) ys (inl e) = inl (inl e)
-has_either x (z ∷ xs) ys (inr h) = elim (has_either x xs ys h) [ inl g ↦ inl (inr g) | inr g ↦ inr g ]
-
 -- ---- a node over its children
 
 abbrev own_names : Payload → List (List ℕ)

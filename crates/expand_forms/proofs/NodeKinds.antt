@@ -1,9 +1,10 @@
 -- What the kind of a node over expanded children tells of it.
-use Rattle.std.proofs.Common.{◌≡◌, ◌≢◌, ◌≤◌, ℕ, ℤ, suc, pos, Bool, true, of_z, to_z, ap, ◌∙◌, arith}
+use Rattle.std.proofs.Common.{◌≡◌, ◌≢◌, ◌≤◌, ℕ, ℤ, suc, pos, Bool, true, false, of_z, to_z, ap, ◌∙◌, arith}
 use Rattle.std.specs.Prelude.{FitsSigned, Some, None, if◌then◌else◌}
-use Rattle.expand_forms.proofs.Shared.{w128, to_z-of_z, Rat, Fraction, ratio_of, value_of, Tree, num, power, neg, sub, div, count, is_num, root_kind, expanded, exponent_of, has_polynomial_root, is_divisor, is_exponent, is_small, natural_of, polynomial_of, AreExpanded, IsExpanded, ratio_parts, children_of, nth}
+use Rattle.expand_forms.proofs.Shared.{w128, to_z-of_z, Rat, Fraction, ratio_of, value_of, Tree, num, power, div, count, is_num, root_kind, expanded, exponent_of, has_polynomial_root, is_divisor, is_exponent, is_small, natural_of, polynomial_of, AreExpanded, IsExpanded, ratio_parts, children_of, nth}
 use Rattle.expand_forms.proofs.Expansions.{constant_expanded, name_expanded}
 use Rattle.expand_forms.proofs.NodeChildren.{expanded_nth}
+use Rattle.expand_forms.specs.Parts.{has_factors, has_parts}
 use Rattle.calc_terms.specs.declared.kind.Kind.TheVariants as kind
 
 -- ---- literals among expanded trees
@@ -36,12 +37,6 @@ divisor_nonzero d r s h e = grind (arith, ratio_parts)
 pub power_node : (t : Tree) → kind.Pow ≡ root_kind t → t ≡ power (nth 0 (children_of t)) (nth 1 (children_of t))
 power_node t k = grind arith
 
-pub opposite_node : (t : Tree) → kind.Neg ≡ root_kind t → t ≡ neg (nth 0 (children_of t))
-opposite_node t k = grind arith
-
-pub difference_node : (t : Tree) → kind.Sub ≡ root_kind t → t ≡ sub (nth 0 (children_of t)) (nth 1 (children_of t))
-difference_node t k = grind arith
-
 pub quotient_node : (t : Tree) → kind.Div ≡ root_kind t → t ≡ div (nth 0 (children_of t)) (nth 1 (children_of t))
 quotient_node t k = grind arith
 
@@ -55,5 +50,5 @@ pub second_expanded : (t : Tree) → AreExpanded (children_of t) → count (chil
 second_expanded t h e = expanded_nth 1 (children_of t) h (omega (arith, e))
 
 -- a rational or a name is its own expanded tree
-pub leaf_itself : (t : Tree) → has_polynomial_root t ≡ true → root_kind t ≢ kind.Add → root_kind t ≢ kind.Mult → root_kind t ≢ kind.Pow → root_kind t ≢ kind.Neg → root_kind t ≢ kind.Sub → root_kind t ≢ kind.Div → t ≡ expanded (polynomial_of t)
-leaf_itself t h a m p n s d = grind (arith, constant_expanded, name_expanded)
+pub leaf_itself : (t : Tree) → has_polynomial_root t ≡ true → has_factors t ≡ false → has_parts t ≡ false → t ≡ expanded (polynomial_of t)
+leaf_itself t h f p = grind (arith, constant_expanded, name_expanded)

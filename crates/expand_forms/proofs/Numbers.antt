@@ -1,7 +1,7 @@
 -- Rationals as literals.
-use Rattle.std.proofs.Common.{arith, ◌≡◌, ◌<◌, ◌^◌, ℤ, Bool, true, false, nat_eq, of_z, ap}
-use Rattle.std.specs.Prelude.{◌==◌, ◌↔◌, IsTrue, Some, None, if◌then◌else◌, nat_abs, neg_ℤ}
-use Rattle.expand_forms.proofs.Shared.{false_from_ne_true, w128, opposite, whole_value, Rat, Fraction, negative, int_is_zero, ratio_of, value_of, ratio_parts, negative_parts, is_small}
+use Rattle.std.proofs.Common.{arith, ◌≡◌, ℤ, Bool, true, false, ap}
+use Rattle.std.specs.Prelude.{◌==◌, ◌↔◌, IsTrue, Some, None, if◌then◌else◌, neg_ℤ}
+use Rattle.expand_forms.proofs.Shared.{false_from_ne_true, opposite, whole_value, Rat, Fraction, negative, ratio_of, value_of, ratio_parts, negative_parts, is_small}
 
 clash : {A : Type 0} (b : Bool) → b ≡ true → b ≡ false → A
 clash b p q = absurd cc
@@ -23,7 +23,3 @@ pub opposite_whole : (q : Fraction) → whole_value (negative q) ≡ opposite (w
 opposite_whole q = grind (arith, negative_parts, opposite_by)
 
 -- ---- bits of an integer
-
--- the bits of an integer are 0 only where it is
-pub zero_bits : (z : ℤ) → nat_abs z < 2 ^ 127 → nat_eq (of_z w128 z) 0 ≡ int_is_zero z
-zero_bits z h = grind arith

@@ -1,11 +1,10 @@
 -- Listed factors, placed one by one.
 use Rattle.std.proofs.Common.{◌≡◌, ℕ, zero, suc, ◌+◌, ◌<◌, ◌≤◌, List, [], ◌∷◌, ◌++◌, length, get_or, take, refl, sym, ap, ◌∙◌, subst, arith, Bool, true, false}
 use Rattle.std.specs.Prelude.{if◌then◌else◌}
-use Rattle.expand_forms.proofs.Shared.{by_test, num_most, product_tree, value_of, Fraction, is_one_fraction, is_mult, is_num, mult, monomial_tree, Tree, Trees, num, none, more, append, count, sizes, State, factor_tree, factor_trees, term_tree, AddsTrees, Factor, Monomial, summand, IsRead, IsTerm, factors_in, led_by, children_of, nth, Forest, join, Gives, KeepsFront, KeepsRefusals, Stands, forest, join_assoc, front_same, kept_same, represents_join}
+use Rattle.expand_forms.proofs.Shared.{num_most, Fraction, is_one_fraction, Tree, Trees, num, none, more, append, count, sizes, State, factor_tree, factor_trees, term_tree, AddsTrees, Factor, Monomial, summand, IsRead, led_by, Forest, join, Gives, KeepsFront, KeepsRefusals, Stands, forest, join_assoc, front_same, kept_same, represents_join}
 use Rattle.expand_forms.proofs.AddedTrees.{adds_more, adds_none}
-use Rattle.expand_forms.proofs.FactorTrees.{on_factor}
 use Rattle.expand_forms.proofs.FactorLists.{read_length}
-use Rattle.expand_forms.proofs.TermReadings.{count_factors, factor_one, factor_other, factors_append, led_term}
+use Rattle.expand_forms.proofs.TermReadings.{count_factors, factors_append, led_term}
 use Rattle.expand_forms.specs.Listed.{AreRead}
 use Rattle.expand_forms.specs.declared.factors.Factor.{Factor as Read}
 
@@ -108,34 +107,3 @@ led_alone q [] (f ∷ m) h e = absurd h
 led_alone q (x ∷ xs) m h e = absurd (omega (arith, e))
 
 -- ---- what they are
-
-same_tree : (x : Read) (f g : Factor) → IsRead x f → IsRead x g → factor_tree f ≡ factor_tree g
-same_tree x f g h k =
-    by_test (λ b. is_one_fraction (value_of x.exponent) ≡ b → factor_tree f ≡ factor_tree g) (is_one_fraction (value_of x.exponent)) (λ e o. sym (factor_one x f h o) ∙ factor_one x g k o) (λ e o. sym (factor_other x f h o) ∙ factor_other x g k o) refl
-
-pub same_trees : (xs : List Read) (m n : Monomial) → AreRead xs m → AreRead xs n → factor_trees m ≡ factor_trees n
-same_trees [] [] [] h k = refl
-same_trees [] (f ∷ m) n h k = absurd h
-same_trees [] [] (g ∷ n) h k = absurd k
-same_trees (x ∷ xs) [] n h k = absurd h
-same_trees (x ∷ xs) (f ∷ m) [] h k = absurd k
-same_trees (x ∷ xs) (f ∷ m) (g ∷ n) h k = ap (λ (t : Tree). more t (factor_trees m)) (same_tree x f g h.0 k.0) ∙ ap (more (factor_tree g)) (same_trees xs m n h.1 k.1)
-
--- a term with a number in front has factors
-pub some_factors : {t : Tree} → IsTerm t → is_mult t ≡ true → is_num (nth 0 (children_of t)) ≡ true → 1 ≤ count (factors_in t)
-some_factors {t} h p l = subst (λ (u : Tree). 1 ≤ count (factors_in u)) (sym h.tree) (by (is_one_fraction h.summand.coefficient) h.summand.monomial (sym (ap is_mult h.tree) ∙ p) (sym (ap (λ (u : Tree). is_num (nth 0 (children_of u))) h.tree) ∙ l))
-  where
-    made : Bool → Monomial → Tree
-    made b m = if b then monomial_tree m else product_tree (more (num h.summand.coefficient) (factor_trees m))
-
-    by : (b : Bool) (m : Monomial) → is_mult (made b m) ≡ true → is_num (nth 0 (children_of (made b m))) ≡ true → 1 ≤ count (factors_in (made b m))
-    by true [] p l = absurd cc
-    by true (f ∷ []) p l = on_factor (λ (t : Tree). is_mult t ≡ true → 1 ≤ count (factors_in t)) f (λ q. absurd cc) (λ q. absurd cc) p
-    by true (f ∷ g ∷ m) p l = on_factor (λ (t : Tree). is_num t ≡ true → 1 ≤ count (factors_in (mult (more t (factor_trees (g ∷ m)))))) f (λ q. absurd cc) (λ q. absurd cc) l
-    by false [] p l = absurd cc
-    by false (f ∷ m) p l = omega arith
-
--- another number stands in front of them
-pub led_again : {q : Fraction} {ts : Trees} (m : Monomial) → is_one_fraction q ≡ false → 1 ≤ count ts → ts ≡ factor_trees m → mult (more (num q) ts) ≡ term_tree (summand q m)
-led_again [] e l h = absurd (omega (arith, l, ap count h))
-led_again {q} (f ∷ m) e l h = ap (λ (us : Trees). mult (more (num q) us)) h ∙ sym (ap (λ (b : Bool). if b then monomial_tree (f ∷ m) else product_tree (more (num q) (factor_trees (f ∷ m)))) e)

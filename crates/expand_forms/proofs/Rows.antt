@@ -1,12 +1,9 @@
 -- Rows of products, one after another.
-use Rattle.std.proofs.Common.{arith, ◌≡◌, ◌≢◌, ◌≤◌, ◌<◌, ◌^◌, ℕ, ◌+◌, [], ◌∷◌, ◌++◌, drop, map, true, false, sym, ap, ◌∙◌, subst, append-nil}
-use Rattle.std.specs.Prelude.{nat_abs}
-use Rattle.expand_forms.proofs.Shared.{not_from_false, product_not_zero, no_zero, zero_is, sum_fits, Fraction, is_zero_fraction, one_fraction, plus, times, zero_fraction, value_of, Tree, count, Rat, normal, term_trees, Polynomial, Summand, monomial_times, product, summand, summand_times, polynomial_of, row, with_coefficient, IsTerm, coefficient_in, twice_fits, ratio_parts, plain, Forest, tree_at}
-use Rattle.expand_forms.proofs.Arithmetic.{times_one}
+use Rattle.std.proofs.Common.{arith, ◌≡◌, ◌≢◌, ◌≤◌, ℕ, ◌+◌, [], ◌∷◌, ◌++◌, drop, map, false, sym, ap, ◌∙◌, append-nil}
+use Rattle.expand_forms.proofs.Shared.{product_not_zero, zero_is, Fraction, is_zero_fraction, times, zero_fraction, Tree, count, normal, term_trees, Polynomial, Summand, monomial_times, product, summand, summand_times, polynomial_of, row, with_coefficient, IsTerm, coefficient_in, plain, Forest, tree_at}
 use Rattle.expand_forms.proofs.JoinLoops.{IsNextPart, IsNextTerm, next_part}
 use Rattle.expand_forms.proofs.Joins.{IsNextSummand, no_summands, term_polynomial_is}
 use Rattle.expand_forms.proofs.SameCoefficients.{product_nil}
-use Rattle.expand_forms.proofs.Squares.{square, twice}
 use Rattle.expand_forms.proofs.TermPolynomials.{term_coefficient}
 
 -- ---- coefficients
@@ -19,14 +16,6 @@ is_nonzero q h = grind (arith, zero_is)
 
 pub product_nonzero : {a b c q : Fraction} → q ≡ times a b → a ≢ zero_fraction → b ≡ c → c ≢ zero_fraction → is_zero_fraction q ≡ false
 product_nonzero {a} {b} {c} {q} e h k l = is_nonzero q (λ z. product_not_zero a c h l (sym (e ∙ ap (times a) k) ∙ z))
-
--- twice a coefficient fits where its square does
-pub twice_coefficient_fits : (c q : Rat) → value_of q ≡ times (value_of c) (value_of c) → is_zero_fraction (value_of q) ≡ false → sum_fits (value_of c) (value_of c) ≡ true
-unfolding one_fraction
-twice_coefficient_fits c q e h =
-    let num : nat_abs (value_of q).num < 2 ^ 127 = subst (λ z. nat_abs z < 2 ^ 127) (sym (ratio_parts q).num) q.fits in
-    let den : (value_of c).den < 2 ^ 127 = subst (λ n. n < 2 ^ 127) (sym (ratio_parts c).den) c.den_fits in
-    twice_fits (value_of c) (value_of q) 1 (e ∙ sym (times_one (times (value_of c) (value_of c)))) (no_zero (value_of q) (not_from_false _ h)) num den
 
 -- ---- the next product
 
@@ -49,13 +38,3 @@ module _ {n : ℕ} {t : Tree} (u : Tree) (x : IsTerm t) (next : IsNextSummand n 
       let terms = normal (polynomial_of w) in
       let is : row c t 0 w ≡ map (summand_times x.summand) terms = (λ i. product (with_coefficient (e i) (term_polynomial_is x i)) terms) ∙ append-nil (map (summand_times x.summand) terms) in
       ap (λ (v : Polynomial). product v terms) next.rest ∙ ap (λ (v : Polynomial). v ++ product (drop (n + 1) (normal (polynomial_of u))) terms) (sym is)
-
-  -- the square of the term, and twice its products
-  pub squares_next : {q d : Fraction} → q ≡ times c c → d ≡ plus c c
-      → square (drop n (normal (polynomial_of u))) ≡ (summand q (monomial_times x.summand.monomial x.summand.monomial) ∷ []) ++ (row d t (n + 1) u ++ square (drop (n + 1) (normal (polynomial_of u))))
-  squares_next {q} {d} p r =
-      let rest = drop (n + 1) (normal (polynomial_of u)) in
-      let m = x.summand.monomial in
-      let one : times x.summand.coefficient x.summand.coefficient ≡ q = sym (p ∙ (λ i. times (e i) (e i))) in
-      let double : product (twice x.summand ∷ []) rest ≡ row d t (n + 1) u = sym (λ i. product (with_coefficient ((r ∙ (λ k. plus (e k) (e k))) i) (term_polynomial_is x i)) rest) in
-      ap square next.rest ∙ (λ i. summand (one i) (monomial_times m m) ∷ (double i ++ square rest))

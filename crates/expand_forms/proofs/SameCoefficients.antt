@@ -130,10 +130,6 @@ product_right (s ∷ v) {w} {w'} h =
 pub product_both : {v v' w w' : Polynomial} → AreSame v v' → AreSame w w' → AreSame (product v w) (product v' w')
 product_both {v} {v'} {w} {w'} h k = same_trans (product_left w h) (product_right v' k)
 
-pub product_append : (u v w : Polynomial) → product (u ++ v) w ≡ product u w ++ product v w
-product_append [] v w = refl
-product_append (s ∷ u) v w = ap (λ (x : Polynomial). map (summand_times s) w ++ x) (product_append u v w) ∙ sym (append_assoc (map (summand_times s) w) (product u w) (product v w))
-
 pub product_nil : (v : Polynomial) → product v [] ≡ []
 product_nil [] = refl
 product_nil (s ∷ v) = product_nil v
@@ -149,6 +145,3 @@ scaled_one (s ∷ v) = λ i. summand (one_times s.coefficient i) s.monomial ∷ 
 
 pub scaled_same : (c : Fraction) {v w : Polynomial} → AreSame v w → AreSame (scaled c v) (scaled c w)
 scaled_same c {v} {w} h = same_trans (same_is (sym (constant_product c v))) (same_trans (product_right (constant c) h) (same_is (constant_product c w)))
-
-pub times_one_polynomial : (v : Polynomial) → product (constant one_fraction) v ≡ v
-times_one_polynomial v = constant_product one_fraction v ∙ scaled_one v

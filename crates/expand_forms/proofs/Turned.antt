@@ -1,6 +1,6 @@
 -- Products in either order.
-use Rattle.std.proofs.Common.{◌≡◌, ◌≤◌, suc, ◌+◌, length, arith, [], ◌∷◌, ◌++◌, map, refl, sym, ap, ◌∙◌}
-use Rattle.expand_forms.proofs.Shared.{times_comm, Ordering, Less, Equal, Greater, nat_cmp, slice_cmp, factor, IsBelowAll, IsMonomial, Monomial, Factor, Polynomial, Summand, monomial_times, product, summand, summand_times, with_factor}
+use Rattle.std.proofs.Common.{◌≡◌, [], ◌∷◌, ◌++◌, map, refl, sym, ap, ◌∙◌}
+use Rattle.expand_forms.proofs.Shared.{times_comm, IsBelowAll, IsMonomial, Monomial, Factor, Polynomial, Summand, monomial_times, product, summand, summand_times, with_factor}
 use Rattle.expand_forms.proofs.AllMonomials.{AllHave}
 use Rattle.expand_forms.proofs.Gathered.{IsGathered, gathered_append, gathered_is, gathered_refl, gathered_second, gathered_trans}
 use Rattle.expand_forms.proofs.MonomialProducts.{put_first, with_turned}
@@ -21,23 +21,6 @@ monomial_comm [] n h k = sym (times_nothing n k)
 monomial_comm (f ∷ m) n h k = ap (with_factor f) (monomial_comm m n h.2 k) ∙ sym (times_behind n f m h.1)
 
 -- ---- how many factors
-
-with_longer : (f : Factor) (m : Monomial) → length m ≤ length (with_factor f m)
-with_longer f [] = omega arith
-with_longer f (g ∷ m) = by (slice_cmp nat_cmp f.name g.name) (with_longer f m)
-  where
-    by : (o : Ordering) → length m ≤ length (with_factor f m)
-        → suc (length m) ≤ length {A = Factor} (elim o [ Less ↦ f ∷ g ∷ m | Equal ↦ factor f.name (f.exponent + g.exponent) ∷ m | Greater ↦ g ∷ with_factor f m ])
-    by Less go = omega arith
-    by Equal go = omega arith
-    by Greater go = omega (arith, go)
-
-pub right_longer : (m n : Monomial) → length n ≤ length (monomial_times m n)
-right_longer [] n = omega arith
-right_longer (f ∷ m) n = omega (arith, right_longer m n, with_longer f (monomial_times m n))
-
-pub left_longer : (m n : Monomial) → IsMonomial m → IsMonomial n → length m ≤ length (monomial_times m n)
-left_longer m n h k = omega (arith, right_longer n m, ap length (monomial_comm m n h k))
 
 -- ---- two summands
 

@@ -1,8 +1,8 @@
 -- Nodes over expanded children that are expanded as values.
-use Rattle.std.proofs.Common.{◌≡◌, ℕ, zero, suc, ◌+◌, ◌<◌, ◌≤◌, List, [], ◌∷◌, ◌++◌, refl, sym, ap, ◌∙◌, subst, arith, append_assoc, append-nil, true, false, Result, Ok, Err}
+use Rattle.std.proofs.Common.{◌≡◌, ℕ, List, [], ◌∷◌, subst, true, false, Result, Ok, Err}
 use Rattle.std.specs.Prelude.{OnOk, is_err, is_ok}
 use Rattle.std.specs.Prelude.{Contains}
-use Rattle.expand_forms.proofs.Shared.{AreSame, IsMonomial, Tree, Trees, none, more, count, names, within_trans, children_of, nth, Polynomial, polynomial_of, product, sum_of}
+use Rattle.expand_forms.proofs.Shared.{AreSame, IsMonomial, Tree, names, within_trans, children_of, nth, Polynomial, product}
 use Rattle.expand_forms.proofs.ChildRooms.{child_names}
 use Rattle.expand_forms.proofs.NodeRooms.{nth_names}
 use Rattle.expand_forms.proofs.AllMonomials.{AllHave}
@@ -46,24 +46,3 @@ can_name_child {ns} {t} {u} n h e = record {
   few = h.few;
   all = λ x k. h.all x ((within_trans (child_names t) (nth_names n (children_of t))).name x (subst (λ (v : Tree). Contains (names v) x) e k));
 }
-
--- ---- sums
-
--- the sum of the first n
-abbrev pub summed : ℕ → Trees → Polynomial
-summed zero ts = []
-summed (suc n) none = []
-summed (suc n) (more t ts) = polynomial_of t ++ summed n ts
-
-pub summed_more : (n : ℕ) (ts : Trees) → n < count ts → summed n ts ++ polynomial_of (nth n ts) ≡ summed (n + 1) ts
-summed_more n none l = absurd (omega (arith, l))
-summed_more zero (more t ts) l = sym (append-nil (polynomial_of t))
-summed_more (suc n) (more t ts) l =
-    let e : suc (n + 1) ≡ suc n + 1 = omega arith in
-    append_assoc (polynomial_of t) (summed n ts) (polynomial_of (nth n ts)) ∙ ap (λ (v : Polynomial). polynomial_of t ++ v) (summed_more n ts (omega (arith, l))) ∙ ap (λ (k : ℕ). summed k (more t ts)) e
-
-pub summed_all : (n : ℕ) (ts : Trees) → count ts ≤ n → summed n ts ≡ sum_of ts
-summed_all zero none l = refl
-summed_all (suc n) none l = refl
-summed_all zero (more t ts) l = absurd (omega (arith, l))
-summed_all (suc n) (more t ts) l = ap (λ (v : Polynomial). polynomial_of t ++ v) (summed_all n ts (omega (arith, l)))

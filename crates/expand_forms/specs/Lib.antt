@@ -14,3 +14,4 @@ pub mod Walks
 pub mod Listed
 pub mod PackedOrder
 pub mod ByValues
+pub mod Parts

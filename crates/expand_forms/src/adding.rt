@@ -7,8 +7,7 @@ ghost use Rattle.calc_terms.specs.Trees.{add, count, more, mult, none};
 ghost use Rattle.child_lists.specs.Lists.{Lists};
 ghost use Rattle.expand_forms.specs.ExpandedTrees.{factor_trees};
 ghost use Rattle.expand_forms.specs.ExpansionRoom.{number_bytes, term_bytes};
-ghost use Rattle.expand_forms.specs.Listed.{AreRead, HasLeft};
-ghost use Rattle.expand_forms.specs.Polynomials.{IsMonomial, Monomial, monomial_times, summand};
+ghost use Rattle.expand_forms.specs.Polynomials.{Monomial, monomial_times, summand};
 ghost use Rattle.expand_forms.specs.PolynomialTrees.{polynomial_of};
 ghost use Rattle.expand_forms.specs.Sums.{IsSum, IsSumOf, with_term};
 ghost use Rattle.expand_forms.specs.Terms.{HasMonomial};
@@ -23,117 +22,26 @@ ghost use Rattle.tree_handles.specs.Inside.{tree_at};
 ghost use Rattle.tree_handles.specs.Roots.{without_root};
 ghost use Rattle.tree_handles.specs.Standing.{KeepsRefusals, LacksBytes, Refuses, Stands, forest};
 
-use crate::factors::{self, Factor, Factors};
-use crate::listed::Listing;
+use crate::factors::{self, Factors};
 use crate::monomials::{completed, place_merged};
-use crate::multiplying::Multiplier;
-use crate::ordering::{Sought, place_of};
+use crate::ordering::place_of;
 use crate::rationals::{add, is_zero};
-use crate::replacing::{place_term, replace_coefficient};
 use calc_terms::Rat;
 use child_lists::{ChildList, next_child, put_before};
 use node_pool::{Full, Id, Pool};
 use tree_handles::{Handle, NumberFault, release, replace_known_child, take_known_child};
 
 /// Joins a coefficient times the monomials of two terms to a sum: with the term that has its monomial, which may leave
-/// none, or at its place, which is sought from `near` on. Tells the place. Of the left term it has the factors.
+/// none, or at its place. Their product is placed before its place is sought.
+#[inline(never)]
 pub(crate) fn join_product<const N: usize>(
     pool: &mut Pool,
     sum: &Handle,
     list: &mut ChildList<N>,
     coefficient: Rat,
-    left: &mut Multiplier,
     s: Id,
     t: Id,
-    near: u16,
-) -> Result<u16, NumberFault>
-    requires stands { Stands pool.old }
-    requires sum { Gives (without_root sum.now (forest pool.old)) (forest pool.old) sum.now IsSum }
-    requires lists { Lists list.old sum.now (forest pool.old) }
-    requires nonzero { is_zero_fraction (value_of coefficient) ≡ false }
-    requires left { (m : Monomial) → HasMonomial m (plain (tree_at s (without_root sum.now (forest pool.old)))) → HasLeft m left.old }
-    requires first { IsExpression s (without_root sum.now (forest pool.old)) }
-    requires second { IsExpression t (without_root sum.now (forest pool.old)) }
-    requires monomials { let others = without_root sum.now (forest pool.old) in
-        (m : Monomial) × (n : Monomial) × HasMonomial m (plain (tree_at s others)) × HasMonomial n (plain (tree_at t others)) }
-    ensures ok { let others = without_root sum.now (forest pool.old) in
-        (m n : Monomial) → HasMonomial m (plain (tree_at s others)) → HasMonomial n (plain (tree_at t others))
-        → OnOk result (Gives others (forest pool.new) sum.now
-        (IsSumOf (summand (value_of coefficient) (monomial_times m n) ∷ polynomial_of (tree_of sum.now pool.old)))) }
-    ensures left { (m : Monomial) → HasLeft m left.old → HasLeft m left.new }
-    ensures lists { OnOk result (Lists list.new sum.now (forest pool.new)) }
-    ensures front { KeepsFront (sum.now ∷ []) (forest pool.old) (forest pool.new) }
-    ensures kept { OnOk result (KeepsRefusals pool.old pool.new) }
-    ensures faults { IfErr result (Faults pool.old pool.new) }
-    ensures caused { IfErr result (IsCaused pool.new) }
-    ensures fits { let others = without_root sum.now (forest pool.old) in
-        (m n : Monomial) (h l : ℕ) → HasMonomial m (plain (tree_at s others)) → HasMonomial n (plain (tree_at t others))
-        → IsHeld (summand (value_of coefficient) (monomial_times m n) ∷ polynomial_of (tree_of sum.now pool.old)) h l → h + l < 127 → IfErr result IsNoOverflow }
-    ensures room { let others = without_root sum.now (forest pool.old) in
-        (m n : Monomial) → HasMonomial m (plain (tree_at s others)) → HasMonomial n (plain (tree_at t others))
-        → IfErr result (OfFull (λ full. free_of pool.old < term_bytes (length (monomial_times m n)))) }
-    ensures stands { Stands pool.new }
-{
-    match left.multiply(pool, t)? {
-        Listing::Listed => join_listed(pool, sum, list, coefficient, left.product(), near),
-        Listing::TooMany => join_placed(pool, sum, list, coefficient, s, t, near),
-    }
-}
-
-/// Joins a coefficient times a monomial of listed factors to a sum in the same way.
-fn join_listed<const N: usize>(
-    pool: &mut Pool,
-    sum: &Handle,
-    list: &mut ChildList<N>,
-    coefficient: Rat,
-    factors: &[Factor],
-    near: u16,
-) -> Result<u16, NumberFault>
-    requires stands { Stands pool.old }
-    requires sum { Gives (without_root sum.now (forest pool.old)) (forest pool.old) sum.now IsSum }
-    requires lists { Lists list.old sum.now (forest pool.old) }
-    requires nonzero { is_zero_fraction (value_of coefficient) ≡ false }
-    requires monomial { (m : Monomial) × IsMonomial m × AreRead factors.now m }
-    requires few { length factors.now < 2 ^ 15 }
-    ensures ok { (m : Monomial) → IsMonomial m → AreRead factors.now m
-        → OnOk result (Gives (without_root sum.now (forest pool.old)) (forest pool.new) sum.now
-        (IsSumOf (summand (value_of coefficient) m ∷ polynomial_of (tree_of sum.now pool.old)))) }
-    ensures lists { OnOk result (Lists list.new sum.now (forest pool.new)) }
-    ensures front { KeepsFront (sum.now ∷ []) (forest pool.old) (forest pool.new) }
-    ensures kept { OnOk result (KeepsRefusals pool.old pool.new) }
-    ensures faults { IfErr result (Faults pool.old pool.new) }
-    ensures caused { IfErr result (IsCaused pool.new) }
-    ensures fits { (m : Monomial) (h l : ℕ) → IsMonomial m → AreRead factors.now m
-        → IsHeld (summand (value_of coefficient) m ∷ polynomial_of (tree_of sum.now pool.old)) h l → h + l < 127 → IfErr result IsNoOverflow }
-    ensures room { IfErr result (OfFull (λ full. free_of pool.old < term_bytes (length factors.now))) }
-    ensures stands { Stands pool.new }
-{
-    match place_of(pool, sum.id(), list, &Sought::Listed(factors), near) {
-        Err(at) => {
-            let term = place_term(pool, coefficient, factors)?;
-            insert(pool, sum, list, at, term);
-            Ok(at)
-        }
-        Ok(at) => {
-            let other = list.child(pool, sum.id(), at);
-            let total = add(factors::coefficient(pool, other), coefficient)?;
-            replace_coefficient(pool, sum, list, at, total, factors)?;
-            Ok(at)
-        }
-    }
-}
-
-/// The same of terms of any number of factors: their product is placed before its place is sought.
-#[inline(never)]
-fn join_placed<const N: usize>(
-    pool: &mut Pool,
-    sum: &Handle,
-    list: &mut ChildList<N>,
-    coefficient: Rat,
-    s: Id,
-    t: Id,
-    near: u16,
-) -> Result<u16, NumberFault>
+) -> Result<(), NumberFault>
     requires stands { Stands pool.old }
     requires sum { Gives (without_root sum.now (forest pool.old)) (forest pool.old) sum.now IsSum }
     requires lists { Lists list.old sum.now (forest pool.old) }
@@ -161,18 +69,17 @@ fn join_placed<const N: usize>(
 {
     let left = Factors::of(pool, s);
     let product = place_merged(pool, &left, s, t)?;
-    let sought = Sought::placed(pool, product.id());
-    match place_of(pool, sum.id(), list, &sought, near) {
+    match place_of(pool, sum.id(), list, product.id()) {
         Err(at) => {
             let term = completed(pool, product, coefficient)?;
             insert(pool, sum, list, at, term);
-            Ok(at)
+            Ok(())
         }
         Ok(at) => {
             let other = list.child(pool, sum.id(), at);
             let total = add(factors::coefficient(pool, other), coefficient)?;
             replace(pool, sum, list, at, total, product)?;
-            Ok(at)
+            Ok(())
         }
     }
 }
@@ -241,7 +148,7 @@ fn replace<const N: usize>(
 
 /// Puts the tree that stands last, just behind a sum, in the place of a term. Nothing else is moved where both take as
 /// many bytes.
-pub(crate) fn exchange<const N: usize>(
+fn exchange<const N: usize>(
     pool: &mut Pool,
     sum: &Handle,
     list: &mut ChildList<N>,
@@ -268,12 +175,7 @@ pub(crate) fn exchange<const N: usize>(
 }
 
 /// Takes a term out of a sum.
-pub(crate) fn remove<const N: usize>(
-    pool: &mut Pool,
-    sum: &Handle,
-    list: &mut ChildList<N>,
-    at: u16,
-)
+fn remove<const N: usize>(pool: &mut Pool, sum: &Handle, list: &mut ChildList<N>, at: u16)
     requires stands { Stands pool.old }
     requires sum { Gives (without_root sum.now (forest pool.old)) (forest pool.old) sum.now IsSum }
     requires lists { Lists list.old sum.now (forest pool.old) }

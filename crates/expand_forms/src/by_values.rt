@@ -1,10 +1,11 @@
 //! A node over expanded children, expanded as a value in lists.
 ghost use Rattle.std.specs.Prelude.{◌≡◌, ◌<◌, ◌+◌, ◌^◌, ◌++◌, ℕ, List, OnOk, length, true};
 ghost use Rattle.calc_terms.specs.Rat.{value_of};
-ghost use Rattle.calc_terms.specs.Trees.{is_add, is_mult, sub};
+ghost use Rattle.calc_terms.specs.Trees.{is_mult};
 ghost use Rattle.expand_forms.specs.Named.{IsListOf, names_of};
 ghost use Rattle.expand_forms.specs.ByValues.{CanName};
 ghost use Rattle.expand_forms.specs.Polynomials.{Polynomial, product, raised, scaled};
+ghost use Rattle.expand_forms.specs.Parts.{has_parts};
 ghost use Rattle.expand_forms.specs.PolynomialTrees.{has_polynomial_root, polynomial_of};
 ghost use Rattle.expand_forms.specs.Sums.{AreExpanded, IsExpanded};
 ghost use Rattle.polynomials.specs.Polynomials.{HaveExponents};
@@ -14,7 +15,7 @@ ghost use Rattle.tree_handles.specs.Inside.{tree_at};
 ghost use Rattle.tree_handles.specs.Standing.{Stands, forest};
 
 use crate::naming::collect_names;
-use crate::node::{exponent_of, inverse_divisor};
+use crate::parts::{exponent_of, has_parts, part_at, part_count};
 use crate::reading::read_terms;
 use crate::term_lists::TermLists;
 use calc_terms::{Kind, Rat};
@@ -51,70 +52,38 @@ fn list_node(pool: &Pool, id: Id, lists: &mut TermLists) -> bool
     ensures list { result ≡ true → IsListOf (names_of lists.old.names.items) lists.new.answer.items (polynomial_of (plain (tree_at id (forest pool.now)))) }
     ensures names { lists.new.names ≡ lists.old.names }
 {
+    if has_parts(pool, id) {
+        return list_sum(pool, id, lists);
+    }
     match kind(pool, id) {
-        Kind::Add => list_sum(pool, id, lists),
         Kind::Mult => list_products(pool, id, lists),
         Kind::Pow => {
             let exponent = exponent_of(pool, child_id(pool, id, 1));
             list_power(pool, child_id(pool, id, 0), exponent, lists)
         }
-        Kind::Neg => list_scaled(pool, Rat::whole(-1), child_id(pool, id, 0), lists),
-        Kind::Sub => list_difference(pool, child_id(pool, id, 0), child_id(pool, id, 1), lists),
-        Kind::Div => {
-            let factor = inverse_divisor(pool, child_id(pool, id, 1));
-            list_scaled(pool, factor, child_id(pool, id, 0), lists)
-        }
         _ => false,
     }
 }
 
-/// The sum of a node's expanded children.
+/// The sum of a node's parts.
 fn list_sum(pool: &Pool, id: Id, lists: &mut TermLists) -> bool
     requires stands { Stands pool.now }
     requires expression { IsExpression id (forest pool.now) }
-    requires sum { is_add (plain (tree_at id (forest pool.now))) ≡ true }
+    requires polynomial { has_polynomial_root (plain (tree_at id (forest pool.now))) ≡ true }
+    requires parts { has_parts (plain (tree_at id (forest pool.now))) ≡ true }
     requires children { AreExpanded (children_of (plain (tree_at id (forest pool.now)))) }
     requires names { CanName (names_of lists.old.names.items) (plain (tree_at id (forest pool.now))) }
     ensures list { result ≡ true → IsListOf (names_of lists.old.names.items) lists.new.answer.items (polynomial_of (plain (tree_at id (forest pool.now)))) }
     ensures names { lists.new.names ≡ lists.old.names }
 {
     lists.answer.clear();
-    for at in 0..children(pool, id) {
-        let child = child_id(pool, id, at);
-        if !add_child(pool, Rat::whole(1), child, lists) {
+    for at in 0..part_count(pool, id) {
+        let part = part_at(pool, id, at);
+        if !add_child(pool, part.factor, part.tree, lists) {
             return false;
         }
     }
     true
-}
-
-/// The difference of two expanded trees.
-fn list_difference(pool: &Pool, a: Id, b: Id, lists: &mut TermLists) -> bool
-    requires stands { Stands pool.now }
-    requires first { IsExpression a (forest pool.now) }
-    requires second { IsExpression b (forest pool.now) }
-    requires first_expanded { IsExpanded (plain (tree_at a (forest pool.now))) }
-    requires second_expanded { IsExpanded (plain (tree_at b (forest pool.now))) }
-    requires first_names { CanName (names_of lists.old.names.items) (plain (tree_at a (forest pool.now))) }
-    requires second_names { CanName (names_of lists.old.names.items) (plain (tree_at b (forest pool.now))) }
-    ensures list { result ≡ true → IsListOf (names_of lists.old.names.items) lists.new.answer.items (polynomial_of (sub (plain (tree_at a (forest pool.now))) (plain (tree_at b (forest pool.now))))) }
-    ensures names { lists.new.names ≡ lists.old.names }
-{
-    lists.answer.clear();
-    add_child(pool, Rat::whole(1), a, lists) && add_child(pool, Rat::whole(-1), b, lists)
-}
-
-/// A rational times an expanded tree.
-fn list_scaled(pool: &Pool, factor: Rat, a: Id, lists: &mut TermLists) -> bool
-    requires stands { Stands pool.now }
-    requires expression { IsExpression a (forest pool.now) }
-    requires expanded { IsExpanded (plain (tree_at a (forest pool.now))) }
-    requires names { CanName (names_of lists.old.names.items) (plain (tree_at a (forest pool.now))) }
-    ensures list { result ≡ true → IsListOf (names_of lists.old.names.items) lists.new.answer.items (scaled (value_of factor) (polynomial_of (plain (tree_at a (forest pool.now))))) }
-    ensures names { lists.new.names ≡ lists.old.names }
-{
-    lists.answer.clear();
-    add_child(pool, factor, a, lists)
 }
 
 /// Adds a rational times an expanded tree to the answer.

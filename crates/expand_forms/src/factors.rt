@@ -10,6 +10,7 @@ ghost use Rattle.tree_handles.specs.Expressions.{IsExpression, children_of, nth,
 ghost use Rattle.tree_handles.specs.Inside.{tree_at};
 ghost use Rattle.tree_handles.specs.Standing.{Stands, forest};
 
+use arrayvec::ArrayVec;
 use calc_terms::{Kind, Name, Rat};
 use child_lists::{ChildList, FEW};
 use node_pool::{Id, Pool};
@@ -30,6 +31,12 @@ impl Default for Factor {
         }
     }
 }
+
+/// So many factors are listed at most.
+const LISTED: usize = 8;
+
+/// The factors of a monomial, in the order of their names.
+pub(crate) type FactorList = ArrayVec<Factor, LISTED>;
 
 /// The place of a product's first factor among its children: behind the coefficient, where there is one.
 pub(crate) fn first_factor(pool: &Pool, product: Id) -> u16

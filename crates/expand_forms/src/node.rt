@@ -4,14 +4,14 @@ ghost use Rattle.expand_forms.specs.ExpansionBits.{AreHeldTogether, IsHeld, IsNo
 ghost use Rattle.expand_forms.specs.Walks.{IsOver};
 ghost use Rattle.std.specs.Prelude.{ℕ, List, ◌≡◌, ◌≤◌, ◌<◌, ◌+◌, [], ◌∷◌, ◌++◌, IfOk, IfErr, OnOk, length, true};
 ghost use Rattle.calc_algebra.specs.Rewritings.{HasNoNewName};
-ghost use Rattle.calc_terms.specs.Fractions.{inverse, one_fraction};
-ghost use Rattle.calc_terms.specs.Rat.{value_of};
-ghost use Rattle.calc_terms.specs.Trees.{Tree, is_add, is_mult, names, num, size, sub};
+ghost use Rattle.calc_terms.specs.Fractions.{one_fraction};
+ghost use Rattle.calc_terms.specs.Trees.{Tree, names, num, size};
 ghost use Rattle.child_lists.specs.Lists.{Lists};
 ghost use Rattle.expand_forms.specs.ExpandedTrees.{expanded};
 ghost use Rattle.expand_forms.specs.ExpansionRoom.{HasFewTerms, node_bytes, sum_bytes};
-ghost use Rattle.expand_forms.specs.PolynomialTrees.{divisor_of, exponent_of as natural_exponent, has_polynomial_root, is_divisor, is_exponent, polynomial_of, sum_of, is_polynomial};
-ghost use Rattle.expand_forms.specs.Sums.{AreExpanded, IsExpanded, IsSum, IsSumOf};
+ghost use Rattle.expand_forms.specs.Parts.{has_factors, has_parts, multiplied, parts_of, total};
+ghost use Rattle.expand_forms.specs.PolynomialTrees.{has_polynomial_root, is_polynomial, polynomial_of};
+ghost use Rattle.expand_forms.specs.Sums.{AreExpanded, IsSum, IsSumOf};
 ghost use Rattle.node_pool.specs.State.{free_of};
 ghost use Rattle.tree_handles.specs.Lacking.{OfFull};
 ghost use Rattle.tree_handles.specs.Causes.{IsCaused};
@@ -23,17 +23,15 @@ ghost use Rattle.tree_handles.specs.Roots.{without_root};
 ghost use Rattle.tree_handles.specs.Standing.{KeepsRefusals, Stands, forest};
 
 use crate::by_values::expand_values;
-use crate::joining::join_products;
+use crate::joining::join_row;
+use crate::parts::{factor_id, factor_number, has_factors, has_parts, part_at, part_count};
 use crate::placing::place_terms;
-use crate::products::{finished, place_power, place_scaled, times};
+use crate::products::{finished, times};
 use crate::term_lists::TermLists;
 use calc_terms::{Kind, Rat};
 use child_lists::{ChildList, MANY};
 use node_pool::{Id, Pool};
-use rational128::invert;
-use tree_handles::{
-    Handle, NumberFault, child_id, children, copy_tree, kind, node, number, rational, release,
-};
+use tree_handles::{Handle, NumberFault, copy_tree, node, number, release};
 
 /// The expanded tree of a node over expanded children, which is consumed. It is not inlined, so that the walk keeps little of the
 /// machine's stack for each level.
@@ -101,52 +99,22 @@ fn place_expansion(pool: &mut Pool, id: Id) -> Result<Handle, NumberFault>
         (whole : Tree) (n : ℕ) → HasNoNewName whole t → length (polynomial_of t) ≤ n → IfErr result (OfFull (λ full. free_of pool.old < node_bytes (names whole) n)) }
     ensures stands { Stands pool.new }
 {
-    match kind(pool, id) {
-        Kind::Add => place_sum(pool, id),
-        Kind::Mult => place_products(pool, id),
-        Kind::Pow => {
-            let exponent = exponent_of(pool, child_id(pool, id, 1));
-            place_power(pool, child_id(pool, id, 0), exponent)
-        }
-        Kind::Neg => place_scaled(pool, Rat::whole(-1), child_id(pool, id, 0)),
-        Kind::Sub => place_difference(pool, child_id(pool, id, 0), child_id(pool, id, 1)),
-        Kind::Div => {
-            let factor = inverse_divisor(pool, child_id(pool, id, 1));
-            place_scaled(pool, factor, child_id(pool, id, 0))
-        }
-        _ => Ok(copy_tree(pool, id)?),
+    if has_factors(pool, id) {
+        return place_products(pool, id);
     }
+    if has_parts(pool, id) {
+        return place_sum(pool, id);
+    }
+    Ok(copy_tree(pool, id)?)
 }
 
-/// The exponent of a power of an expanded tree.
-pub(crate) fn exponent_of(pool: &Pool, exponent: Id) -> u8
-    requires stands { Stands pool.now }
-    requires expression { IsExpression exponent (forest pool.now) }
-    requires expanded { IsExpanded (plain (tree_at exponent (forest pool.now))) }
-    requires small { is_exponent (plain (tree_at exponent (forest pool.now))) ≡ true }
-    ensures { result ≡ natural_exponent (plain (tree_at exponent (forest pool.now))) }
-{
-    let number = rational(pool, exponent).num();
-    number as u8
-}
-
-/// By what a quotient of an expanded tree and a divisor multiplies it.
-pub(crate) fn inverse_divisor(pool: &Pool, divisor: Id) -> Rat
-    requires stands { Stands pool.now }
-    requires expression { IsExpression divisor (forest pool.now) }
-    requires expanded { IsExpanded (plain (tree_at divisor (forest pool.now))) }
-    requires divisor { is_divisor (plain (tree_at divisor (forest pool.now))) ≡ true }
-    ensures { value_of result ≡ inverse (divisor_of (plain (tree_at divisor (forest pool.now)))) }
-{
-    invert(rational(pool, divisor))
-}
-
-/// The sum of a node's expanded children. Its terms are listed.
+/// A new last tree: the sum of a node's parts. Its terms are listed.
 #[inline(never)]
 fn place_sum(pool: &mut Pool, id: Id) -> Result<Handle, NumberFault>
     requires stands { Stands pool.old }
     requires expression { IsExpression id (forest pool.old) }
-    requires sum { is_add (plain (tree_at id (forest pool.old))) ≡ true }
+    requires polynomial { has_polynomial_root (plain (tree_at id (forest pool.old))) ≡ true }
+    requires parts { has_parts (plain (tree_at id (forest pool.old))) ≡ true }
     requires children { AreExpanded (children_of (plain (tree_at id (forest pool.old)))) }
     ensures ok { let old = forest pool.old in IfOk result (λ h. Gives old (forest pool.new) h (λ t. t ≡ expanded (polynomial_of (plain (tree_at id old))))) }
     ensures front { KeepsFront [] (forest pool.old) (forest pool.new) }
@@ -161,17 +129,17 @@ fn place_sum(pool: &mut Pool, id: Id) -> Result<Handle, NumberFault>
     let one = number(pool, Rat::whole(1))?;
     let sum = node(pool, Kind::Add)?;
     let mut list: ChildList<MANY> = ChildList::new();
-    join_children(pool, &sum, &mut list, one.id(), id)?;
+    join_parts(pool, &sum, &mut list, one.id(), id)?;
     let answer = finished(pool, sum)?;
     release(pool, one);
     Ok(answer)
 }
 
-/// Joins the terms of a node's expanded children to a sum, each of them times 1.
-fn join_children<const N: usize>(
+/// Joins the parts of a node to a sum, by rows of products with 1.
+fn join_parts(
     pool: &mut Pool,
     sum: &Handle,
-    list: &mut ChildList<N>,
+    list: &mut ChildList<MANY>,
     one: Id,
     id: Id,
 ) -> Result<(), NumberFault>
@@ -181,82 +149,52 @@ fn join_children<const N: usize>(
     requires one { IsExpression one (without_root sum.now (forest pool.old)) }
     requires is_one { plain (tree_at one (without_root sum.now (forest pool.old))) ≡ num one_fraction }
     requires expression { IsExpression id (without_root sum.now (forest pool.old)) }
+    requires polynomial { has_polynomial_root (plain (tree_at id (without_root sum.now (forest pool.old)))) ≡ true }
+    requires parts { has_parts (plain (tree_at id (without_root sum.now (forest pool.old)))) ≡ true }
     requires children { AreExpanded (children_of (plain (tree_at id (without_root sum.now (forest pool.old))))) }
     ensures ok { let others = without_root sum.now (forest pool.old) in
-        OnOk result (Gives others (forest pool.new) sum.now (IsSumOf (sum_of (children_of (plain (tree_at id others))) ++ polynomial_of (tree_of sum.now pool.old)))) }
+        OnOk result (Gives others (forest pool.new) sum.now (IsSumOf (total (parts_of (plain (tree_at id others))) ++ polynomial_of (tree_of sum.now pool.old)))) }
     ensures lists { OnOk result (Lists list.new sum.now (forest pool.new)) }
     ensures front { KeepsFront (sum.now ∷ []) (forest pool.old) (forest pool.new) }
     ensures kept { OnOk result (KeepsRefusals pool.old pool.new) }
     ensures faults { IfErr result (Faults pool.old pool.new) }
     ensures caused { IfErr result (IsCaused pool.new) }
     ensures fits { let others = without_root sum.now (forest pool.old) in
-        (h l : ℕ) → IsHeld (sum_of (children_of (plain (tree_at id others))) ++ polynomial_of (tree_of sum.now pool.old)) h l → h + l < 127 → IfErr result IsNoOverflow }
+        (h l : ℕ) → IsHeld (total (parts_of (plain (tree_at id others))) ++ polynomial_of (tree_of sum.now pool.old)) h l → h + l < 127 → IfErr result IsNoOverflow }
     ensures room { let others = without_root sum.now (forest pool.old) in
-        (ns : List (List ℕ)) (k n : ℕ) → HasFewTerms ns k (polynomial_of (tree_of sum.now pool.old)) → HasFewTerms ns n (sum_of (children_of (plain (tree_at id others))))
+        (ns : List (List ℕ)) (k n : ℕ) → HasFewTerms ns k (polynomial_of (tree_of sum.now pool.old)) → HasFewTerms ns n (total (parts_of (plain (tree_at id others))))
         → IfErr result (OfFull (λ full. free_of pool.old + size (tree_of sum.now pool.old) < sum_bytes ns (k + n))) }
     ensures stands { Stands pool.new }
 {
-    for at in 0..children(pool, id) {
-        let child = child_id(pool, id, at);
-        join_products(pool, sum, list, one, child)?;
+    for at in 0..part_count(pool, id) {
+        let part = part_at(pool, id, at);
+        join_row(pool, sum, list, part.factor, one, part.tree)?;
     }
     Ok(())
 }
 
-/// A new last tree: the difference of two expanded trees, which stay. Its terms are listed.
-#[inline(never)]
-fn place_difference(pool: &mut Pool, a: Id, b: Id) -> Result<Handle, NumberFault>
-    requires stands { Stands pool.old }
-    requires first { IsExpression a (forest pool.old) }
-    requires second { IsExpression b (forest pool.old) }
-    requires first_expanded { IsExpanded (plain (tree_at a (forest pool.old))) }
-    requires second_expanded { IsExpanded (plain (tree_at b (forest pool.old))) }
-    ensures ok { let old = forest pool.old in
-        IfOk result (λ h. Gives old (forest pool.new) h (λ t. t ≡ expanded (polynomial_of (sub (plain (tree_at a old)) (plain (tree_at b old)))))) }
-    ensures front { KeepsFront [] (forest pool.old) (forest pool.new) }
-    ensures kept { OnOk result (KeepsRefusals pool.old pool.new) }
-    ensures faults { IfErr result (Faults pool.old pool.new) }
-    ensures caused { IfErr result (IsCaused pool.new) }
-    ensures fits { let old = forest pool.old in
-        (h l : ℕ) → IsHeld (polynomial_of (sub (plain (tree_at a old)) (plain (tree_at b old)))) h l → h + l < 127 → IfErr result IsNoOverflow }
-    ensures room { let old = forest pool.old in
-        (ns : List (List ℕ)) (m n : ℕ) → HasFewTerms ns m (polynomial_of (plain (tree_at a old))) → HasFewTerms ns n (polynomial_of (plain (tree_at b old)))
-        → IfErr result (OfFull (λ full. free_of pool.old < node_bytes ns (m + n))) }
-    ensures stands { Stands pool.new }
-{
-    let one = number(pool, Rat::whole(1))?;
-    let opposite = place_scaled(pool, Rat::whole(-1), b)?;
-    let sum = node(pool, Kind::Add)?;
-    let mut list: ChildList<MANY> = ChildList::new();
-    join_products(pool, &sum, &mut list, one.id(), opposite.id())?;
-    join_products(pool, &sum, &mut list, one.id(), a)?;
-    let answer = finished(pool, sum)?;
-    release(pool, opposite);
-    release(pool, one);
-    Ok(answer)
-}
-
-/// A new last tree: the product of a node's expanded children, multiplied from the last one on.
+/// A new last tree: the product of a node's factors, multiplied from the last one on.
 fn place_products(pool: &mut Pool, id: Id) -> Result<Handle, NumberFault>
     requires stands { Stands pool.old }
     requires expression { IsExpression id (forest pool.old) }
-    requires product { is_mult (plain (tree_at id (forest pool.old))) ≡ true }
+    requires polynomial { has_polynomial_root (plain (tree_at id (forest pool.old))) ≡ true }
+    requires factors { has_factors (plain (tree_at id (forest pool.old))) ≡ true }
     requires children { AreExpanded (children_of (plain (tree_at id (forest pool.old)))) }
     ensures ok { let old = forest pool.old in IfOk result (λ h. Gives old (forest pool.new) h (λ t. t ≡ expanded (polynomial_of (plain (tree_at id old))))) }
     ensures front { KeepsFront [] (forest pool.old) (forest pool.new) }
     ensures kept { OnOk result (KeepsRefusals pool.old pool.new) }
     ensures faults { IfErr result (Faults pool.old pool.new) }
     ensures caused { IfErr result (IsCaused pool.new) }
-    ensures fits { (h l : ℕ) → AreHeldTogether (children_of (plain (tree_at id (forest pool.old)))) h l → h + l < 127 → IfErr result IsNoOverflow }
+    ensures fits { (h l : ℕ) → AreHeldTogether (multiplied (plain (tree_at id (forest pool.old)))) h l → h + l < 127 → IfErr result IsNoOverflow }
     ensures room { let t = plain (tree_at id (forest pool.old)) in
         (whole : Tree) (n : ℕ) → HasNoNewName whole t → length (polynomial_of t) ≤ n → IfErr result (OfFull (λ full. free_of pool.old < node_bytes (names whole) n)) }
     ensures stands { Stands pool.new }
 {
     let mut product = number(pool, Rat::whole(1))?;
-    let mut left = children(pool, id);
+    let mut left = factor_number(pool, id);
     while left > 0 {
         left -= 1;
-        match times(pool, child_id(pool, id, left), product) {
+        match times(pool, factor_id(pool, id, left), product) {
             Ok(next) => product = next,
             Err(fault) => return Err(fault),
         }

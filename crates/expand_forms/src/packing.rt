@@ -14,7 +14,7 @@ ghost use Rattle.tree_handles.specs.Standing.{Stands, forest};
 
 use crate::factors::Factor;
 use crate::unlisted::Unlisted;
-use crate::walking::{FactorWalk, next_read};
+use crate::walking::{factor_nodes, next_read};
 use calc_terms::Name;
 use node_pool::{Id, Pool};
 use tree_handles::Nodes;
@@ -32,7 +32,7 @@ pub(crate) fn packed_monomial(pool: &Pool, term: Id, names: &[Name]) -> Result<u
     ensures unlisted { (m : Monomial) → HasMonomial m (plain (tree_at term (forest pool.now))) → IsNamed (names_of names.now) m
         → IfErr result (IsUnlistedBy ⊥ (HasExponents 255 m → ⊥) ⊥) }
 {
-    let mut nodes = FactorWalk::of(pool, term).nodes;
+    let mut nodes = factor_nodes(pool, term);
     let mut next = next_read(pool, &mut nodes);
     let mut packed: u64 = 0;
     for name in names {

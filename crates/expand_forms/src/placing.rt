@@ -13,8 +13,7 @@ ghost use Rattle.polynomials.specs.Terms.{polynomial_of};
 ghost use Rattle.tree_handles.specs.Handed.{Gives, KeepsFront};
 ghost use Rattle.tree_handles.specs.Standing.{KeepsRefusals, LacksBytes, Refuses, Stands, forest};
 
-use crate::factors::Factor;
-use crate::listed::FactorList;
+use crate::factors::{Factor, FactorList};
 use crate::packed_order::{exponents_of, know_monomials, sort_terms};
 use crate::replacing::place_term;
 use calc_terms::{Kind, Name, Rat};

@@ -1,11 +1,10 @@
-//! Expanded trees multiplied, and raised to powers.
+//! Expanded trees multiplied.
 ghost use Rattle.expand_forms.specs.ExpansionBits.{IsHeld, IsNoOverflow};
-ghost use Rattle.std.specs.Prelude.{ℕ, List, ◌≡◌, ◌≤◌, ◌<◌, ◌*◌, ◌+◌, ◌^◌, [], ◌∷◌, IfOk, IfErr, OnOk};
-ghost use Rattle.calc_terms.specs.Rat.{value_of};
-ghost use Rattle.calc_terms.specs.Trees.{num, size};
+ghost use Rattle.std.specs.Prelude.{ℕ, List, ◌≡◌, ◌<◌, ◌*◌, ◌+◌, ◌^◌, [], ◌∷◌, IfOk, IfErr, OnOk};
+ghost use Rattle.calc_terms.specs.Trees.{size};
 ghost use Rattle.expand_forms.specs.ExpandedTrees.{expanded};
 ghost use Rattle.expand_forms.specs.ExpansionRoom.{HasFewTerms, number_bytes, sum_bytes};
-ghost use Rattle.expand_forms.specs.Polynomials.{product, raised, scaled, constant};
+ghost use Rattle.expand_forms.specs.Polynomials.{product};
 ghost use Rattle.expand_forms.specs.PolynomialTrees.{polynomial_of};
 ghost use Rattle.expand_forms.specs.Sums.{IsExpanded, IsSum};
 ghost use Rattle.node_pool.specs.State.{free_of};
@@ -51,7 +50,7 @@ pub(crate) fn finished(pool: &mut Pool, sum: Handle) -> Result<Handle, Full>
 }
 
 /// A new last tree: the product of two expanded trees, which stay. Its terms are listed.
-pub(crate) fn place_product(pool: &mut Pool, a: Id, b: Id) -> Result<Handle, NumberFault>
+fn place_product(pool: &mut Pool, a: Id, b: Id) -> Result<Handle, NumberFault>
     requires stands { Stands pool.old }
     requires first { IsExpression a (forest pool.old) }
     requires second { IsExpression b (forest pool.old) }
@@ -129,75 +128,4 @@ pub(crate) fn times(pool: &mut Pool, a: Id, b: Handle) -> Result<Handle, NumberF
     let product = place_product(pool, a, b.id())?;
     release(pool, b);
     Ok(product)
-}
-
-/// The square of an expanded tree, which is consumed.
-fn squared(pool: &mut Pool, a: Handle) -> Result<Handle, NumberFault>
-    requires stands { Stands pool.old }
-    requires last { Gives (without_root a (forest pool.old)) (forest pool.old) a IsExpanded }
-    ensures ok { let v = polynomial_of (tree_of a pool.old) in
-        IfOk result (λ h. Gives (without_root a (forest pool.old)) (forest pool.new) h (λ t. t ≡ expanded (product v v))) }
-    ensures front { KeepsFront (a ∷ []) (forest pool.old) (forest pool.new) }
-    ensures kept { OnOk result (KeepsRefusals pool.old pool.new) }
-    ensures faults { IfErr result (Faults pool.old pool.new) }
-    ensures caused { IfErr result (IsCaused pool.new) }
-    ensures fits { let v = polynomial_of (tree_of a pool.old) in (h l : ℕ) → IsHeld (product v v) h l → h + l < 127 → IfErr result IsNoOverflow }
-    ensures room { (ns : List (List ℕ)) (n : ℕ) → HasFewTerms ns n (polynomial_of (tree_of a pool.old))
-        → IfErr result (OfFull (λ full. free_of pool.old < sum_bytes ns (n * n))) }
-    ensures stands { Stands pool.new }
-{
-    let square = place_product(pool, a.id(), a.id())?;
-    release(pool, a);
-    Ok(square)
-}
-
-/// A new last tree: a rational times an expanded tree, which stays.
-pub(crate) fn place_scaled(pool: &mut Pool, factor: Rat, a: Id) -> Result<Handle, NumberFault>
-    requires stands { Stands pool.old }
-    requires expression { IsExpression a (forest pool.old) }
-    requires expanded { IsExpanded (plain (tree_at a (forest pool.old))) }
-    ensures ok { let old = forest pool.old in
-        IfOk result (λ h. Gives old (forest pool.new) h (λ t. t ≡ expanded (scaled (value_of factor) (polynomial_of (plain (tree_at a old)))))) }
-    ensures front { KeepsFront [] (forest pool.old) (forest pool.new) }
-    ensures kept { OnOk result (KeepsRefusals pool.old pool.new) }
-    ensures faults { IfErr result (Faults pool.old pool.new) }
-    ensures caused { IfErr result (IsCaused pool.new) }
-    ensures fits { (h l : ℕ) → IsHeld (scaled (value_of factor) (polynomial_of (plain (tree_at a (forest pool.old))))) h l → h + l < 127 → IfErr result IsNoOverflow }
-    ensures room { (ns : List (List ℕ)) (n : ℕ) → HasFewTerms ns n (polynomial_of (plain (tree_at a (forest pool.old))))
-        → IfErr result (OfFull (λ full. free_of pool.old < number_bytes + sum_bytes ns n)) }
-    ensures stands { Stands pool.new }
-{
-    let constant = number(pool, factor)?;
-    let product = place_product(pool, constant.id(), a)?;
-    release(pool, constant);
-    Ok(product)
-}
-
-/// A new last tree: an expanded tree, which stays, to a power with an exponent of at least 1, by squaring.
-///
-/// The power with half the exponent is raised by a call within this one, so at most as often as the exponent has bits.
-pub(crate) fn place_power(pool: &mut Pool, base: Id, exponent: u8) -> Result<Handle, NumberFault>
-    requires stands { Stands pool.old }
-    requires expression { IsExpression base (forest pool.old) }
-    requires expanded { IsExpanded (plain (tree_at base (forest pool.old))) }
-    ensures ok { let old = forest pool.old in
-        IfOk result (λ h. Gives old (forest pool.new) h (λ t. t ≡ expanded (raised (polynomial_of (plain (tree_at base old))) exponent))) }
-    ensures front { KeepsFront [] (forest pool.old) (forest pool.new) }
-    ensures kept { OnOk result (KeepsRefusals pool.old pool.new) }
-    ensures faults { IfErr result (Faults pool.old pool.new) }
-    ensures caused { IfErr result (IsCaused pool.new) }
-    ensures fits { (h l : ℕ) → IsHeld (polynomial_of (plain (tree_at base (forest pool.old)))) h l → exponent * (h + l) < 127 → IfErr result IsNoOverflow }
-    ensures room { (ns : List (List ℕ)) (n : ℕ) → HasFewTerms ns n (polynomial_of (plain (tree_at base (forest pool.old))))
-        → IfErr result (OfFull (λ full. free_of pool.old < 2 * sum_bytes ns (n ^ exponent))) }
-    ensures stands { Stands pool.new }
-{
-    if exponent == 0 {
-        return Ok(number(pool, Rat::whole(1))?);
-    }
-    let half = place_power(pool, base, exponent / 2)?;
-    let square = squared(pool, half)?;
-    if exponent % 2 == 0 {
-        return Ok(square);
-    }
-    times(pool, base, square)
 }

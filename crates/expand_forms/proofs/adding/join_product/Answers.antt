@@ -1,67 +1,235 @@
-use Rattle.std.proofs.Common.{rules, ℕ, List, ◌<◌, sym, subst, arith}
-use Rattle.std.specs.Prelude.{IfErr}
-use Rattle.expand_forms.specs.declared.factors.Factor.{Factor as Read}
-use Rattle.expand_forms.specs.Listed.{AreRead, IsListing}
-use Rattle.expand_forms.proofs.Shared.{HasMonomial, Monomial, OfFull, free_of, monomial_times, term_bytes, plain, tree_at, without_root, forest}
-use Rattle.expand_forms.proofs.FactorLists.{read_length}
-use Rattle.expand_forms.proofs.TermReadings.{beside}
+use Rattle.std.proofs.Common.{rules, ◌≡◌, ◌<◌, ◌∙◌, [], ◌∷◌, ap, sym, subst, arith, length}
+use Rattle.expand_forms.proofs.Shared.{not_from_false, no_zero, plus, value_of, Tree, count, is_mult, size, Fraction, one_fraction, lists_at, term_tree, IsNoOverflow, term_bytes, Monomial, monomial_times, summand, IsPlace, IsSum, HasMonomial, coefficient_in, free_of, OfFull, gives_rest, passed_on, children_of, nth, plain, Forest, Gives, KeepsFront, tree_of, tree_at, without_root, forest, behind_first, behind_new, front_after, front_after_one, front_after_two, front_same, given_handed, given_other, given_rest, given_root, given_same, given_told, gives_as, given_free, expression}
+use Rattle.expand_forms.proofs.ListedTerms.{lists_behind}
+use Rattle.expand_forms.proofs.Splits.{contradiction, total_fits}
+use Rattle.expand_forms.proofs.Joins.{IsFoundAt, has_monomial, placed_behind, put_in, set_in, sum_read, term_read}
+use Rattle.expand_forms.proofs.TermBytes.{factors_most}
+use Rattle.expand_forms.proofs.TermReadings.{beside, product_monomial}
 use Rattle.expand_forms.proofs.TreeMonomials.{monomial_times_monomial}
 use Rattle.expand_forms.proofs.adding.join_product.Given.{Over}
-use Rattle.expand_forms.proofs.adding.join_product.Goals.{After-product}
+use Rattle.expand_forms.proofs.adding.join_product.Goals.{After-child-other, After-id-2, In-Err, In-Ok, In_ok-product, In_ok-term-in-Err}
+use Rattle.tree_handles.specs.declared.fault.NumberFault.TheVariants as fault
 use Rattle.expand_forms.proofs.adding.join_product.Goals as goal
 
-pub multiply-requires-clause-expression : goal.multiply-requires-clause-expression
-multiply-requires-clause-expression g c = (beside c.requires.sum c.requires.second).expression
+pub of-left-requires-clause-expression : goal.of-left-requires-clause-expression
+of-left-requires-clause-expression g c = (beside c.requires.sum c.requires.first).expression
 
-pub multiply-requires-clause-left : goal.multiply-requires-clause-left
-multiply-requires-clause-left g c =
+pub place_merged-requires : goal.place_merged-requires
+place_merged-requires g c =
     let (m, n, hm, hn) = c.requires.monomials in
-    (m, hm.monomial, c.requires.left m hm)
+    let x = beside c.requires.sum c.requires.first in
+    let y = beside c.requires.sum c.requires.second in
+    record { stands = c.requires.stands; factors = c.of-left.ensures; first = x.expression; second = y.expression; monomials = (m, n, subst (HasMonomial m) (sym x.same) hm, subst (HasMonomial n) (sym y.same) hn) }
 
-pub multiply-requires-clause-right : goal.multiply-requires-clause-right
-multiply-requires-clause-right g c =
+-- ---- the product, behind the sum
+
+-- its monomial
+sought : (g : Over) (c : After-id-2 g) (m n : Monomial) → HasMonomial m (plain (tree_at c.args.s (without_root c.args.sum.now (forest c.args.pool.now)))) → HasMonomial n (plain (tree_at c.args.t (without_root c.args.sum.now (forest c.args.pool.now))))
+    → HasMonomial (monomial_times m n) (plain (tree_at c.id-2.result (forest c.place_merged.new.pool)))
+sought g c m n hm hn =
+    let p = placed_behind c.requires.sum c.requires.first c.requires.second c.in_ok-product.ensures.ok m n hm hn in
+    product_monomial (monomial_times_monomial m n hm.monomial hn.monomial) (term_read c.place_merged.new.pool p c.in_ok-product.ensures.stands c.id-2.ensures ∙ given_told p)
+
+pub place_of-requires : goal.place_of-requires
+place_of-requires g c =
     let (m, n, hm, hn) = c.requires.monomials in
-    (n, subst (HasMonomial n) (sym (beside c.requires.sum c.requires.second).same) hn)
-
-pub returns-in_err-multiply-clause-fits : goal.returns-in_err-multiply-clause-fits
-returns-in_err-multiply-clause-fits g c = λ m n h l hm hn held k.
-    absurd (c.in_err-multiply.ensures.fits m n h hm.monomial (c.requires.left m hm) (subst (HasMonomial n) (sym (beside c.requires.sum c.requires.second).same) hn) held.exponents.0 (omega (arith, k)))
-
--- the factors that are listed
-read : (g : Over) (c : After-product g) (m n : Monomial) → HasMonomial m (plain (tree_at c.args.s (without_root c.args.sum.now (forest c.args.pool.now)))) → HasMonomial n (plain (tree_at c.args.t (without_root c.args.sum.now (forest c.args.pool.now))))
-    → AreRead c.product.result.now (monomial_times m n)
-read g c m n hm hn =
-    subst (λ (xs : List Read). AreRead xs (monomial_times m n)) (sym c.product.ensures.value)
-    (subst (IsListing c.multiply.new.self.product.items (monomial_times m n)) c.in-Listed.is
-    (c.in_ok-multiply.ensures.product m n hm.monomial (c.requires.left m hm) (subst (HasMonomial n) (sym (beside c.requires.sum c.requires.second).same) hn)))
-
-pub join_listed-requires : goal.join_listed-requires
-join_listed-requires g c =
-    let (m, n, hm, hn) = c.requires.monomials in (
+    let p = placed_behind c.requires.sum c.requires.first c.requires.second c.in_ok-product.ensures.ok m n hm hn in
+    let st = c.in_ok-product.ensures.stands in (
       search rules,
       (
-        c.requires.stands,
+        st,
         (
-          c.requires.sum,
+          expression c.id.ensures st (given_other p (given_handed c.requires.sum)),
           (
-            c.requires.lists,
+            subst IsSum (sym (sum_read c.args.pool.now c.place_merged.new.pool c.requires.sum p st c.id.ensures)) (given_told c.requires.sum),
             (
-              c.requires.nonzero,
-              ((monomial_times m n, monomial_times_monomial m n hm.monomial hn.monomial, read g (goal.at.join_listed-requires g c).After-product m n hm hn), omega (arith, c.product.ensures.few)),
+              lists_at c.id.ensures (lists_behind c.requires.sum p c.requires.lists),
+              (
+                expression c.id-2.ensures st (given_handed p),
+                (monomial_times m n, sought g (goal.at.place_of-requires g c).After-id-2 m n hm hn),
+              ),
             ),
           ),
         ),
       ),
     )
 
-pub returns-in-Listed-clause-ok : goal.returns-in-Listed-clause-ok
-returns-in-Listed-clause-ok g c = λ m n hm hn.
-    c.join_listed.ensures.ok (monomial_times m n) (monomial_times_monomial m n hm.monomial hn.monomial) (read g (goal.at.returns-in-Listed-clause-ok g c).After-product m n hm hn)
+-- ---- a new term
 
-pub returns-in-Listed-clause-fits : goal.returns-in-Listed-clause-fits
-returns-in-Listed-clause-fits g c = λ m n h l hm hn held k.
-    c.join_listed.ensures.fits (monomial_times m n) h l (monomial_times_monomial m n hm.monomial hn.monomial) (read g (goal.at.returns-in-Listed-clause-fits g c).After-product m n hm hn) held k
+place_in : (g : Over) (c : In-Err g) (q : Fraction) (m n : Monomial) → HasMonomial m (plain (tree_at c.args.s (without_root c.args.sum.now (forest c.args.pool.now)))) → HasMonomial n (plain (tree_at c.args.t (without_root c.args.sum.now (forest c.args.pool.now))))
+    → IsPlace c.in-Err.at (term_tree (summand q (monomial_times m n))) (children_of (tree_of c.args.sum.now c.args.pool.now))
+place_in g c q m n hm hn =
+    let h = monomial_times_monomial m n hm.monomial hn.monomial in
+    subst (λ (t : Tree). IsPlace c.in-Err.at (term_tree (summand q (monomial_times m n))) (children_of t))
+    (sum_read c.args.pool.now c.place_merged.new.pool c.requires.sum (placed_behind c.requires.sum c.requires.first c.requires.second c.in_ok-product.ensures.ok m n hm hn) c.in_ok-product.ensures.stands c.id.ensures)
+    (c.in-Err.ensures.place (monomial_times m n) (term_tree (summand q (monomial_times m n))) (sought g c.before.before m n hm hn) (has_monomial q h))
 
-pub returns-in-Listed-clause-room : goal.returns-in-Listed-clause-room
-returns-in-Listed-clause-room g c = λ m n hm hn.
-    subst (λ (n : ℕ). IfErr c.join_listed.result (OfFull (λ full. free_of c.args.pool.now < term_bytes n))) (read_length c.product.result.now (monomial_times m n) (read g (goal.at.returns-in-Listed-clause-room g c).After-product m n hm hn)) c.join_listed.ensures.room
+pub completed-requires-clause-product : goal.completed-requires-clause-product
+completed-requires-clause-product g c =
+    let (m, n, hm, hn) = c.requires.monomials in
+    gives_rest (placed_behind c.requires.sum c.requires.first c.requires.second c.in_ok-product.ensures.ok m n hm hn) (λ t e. ap is_mult e)
+
+completed : (g : Over) (c : In_ok-term-in-Err g) (m n : Monomial) → HasMonomial m (plain (tree_at c.args.s (without_root c.args.sum.now (forest c.args.pool.now)))) → HasMonomial n (plain (tree_at c.args.t (without_root c.args.sum.now (forest c.args.pool.now))))
+    → Gives (forest c.args.pool.now) (forest c.completed.new.pool) c.in_ok-term-in-Err.term (λ u. u ≡ term_tree (summand (value_of c.args.coefficient) (monomial_times m n)))
+completed g c m n hm hn =
+    let p = placed_behind c.requires.sum c.requires.first c.requires.second c.in_ok-product.ensures.ok m n hm hn in
+    gives_as (c.in_ok-term-in-Err.ensures.ok (monomial_times m n) (given_told p)) (given_rest p) (λ u h. h)
+
+pub insert-requires : goal.insert-requires
+insert-requires g c =
+    let (m, n, hm, hn) = c.requires.monomials in
+    let r = completed g (goal.at.insert-requires g c).In_ok-term-in-Err m n hm hn in (
+      search rules,
+      (
+        c.in_ok-term-in-Err.ensures.stands,
+        (
+          gives_rest r (λ t h. tt),
+          (
+            subst (λ (f : Forest). Gives (without_root c.args.sum.now f) f c.args.sum.now IsSum) (sym (given_rest r)) c.requires.sum,
+            (
+              lists_behind c.requires.sum r c.requires.lists,
+              omega (arith, (place_in g (goal.at.insert-requires g c).In-Err one_fraction m n hm hn).within, ap (λ (f : Forest). count (children_of (plain f))) (given_same c.args.sum.now r (given_root c.requires.sum))),
+            ),
+          ),
+        ),
+      ),
+    )
+
+pub returns-in_ok-term-in-Err-clause-ok : goal.returns-in_ok-term-in-Err-clause-ok
+returns-in_ok-term-in-Err-clause-ok g c = λ m n hm hn.
+    let p = placed_behind c.requires.sum c.requires.first c.requires.second c.in_ok-product.ensures.ok m n hm hn in
+    let r = completed g (goal.at.returns-in_ok-term-in-Err-clause-ok g c).In_ok-term-in-Err m n hm hn in
+    let q = value_of c.args.coefficient in
+    put_in (summand q (monomial_times m n)) c.in-Err.at c.requires.sum r (no_zero q (not_from_false _ c.requires.nonzero)) (monomial_times_monomial m n hm.monomial hn.monomial)
+    (place_in g (goal.at.returns-in_ok-term-in-Err-clause-ok g c).In-Err q m n hm hn) c.insert.ensures.sum
+
+pub returns-in_ok-term-in-Err-clause-front : goal.returns-in_ok-term-in-Err-clause-front
+returns-in_ok-term-in-Err-clause-front g c =
+    let (m, n, hm, hn) = c.requires.monomials in
+    let p = placed_behind c.requires.sum c.requires.first c.requires.second c.in_ok-product.ensures.ok m n hm hn in
+    let r = completed g (goal.at.returns-in_ok-term-in-Err-clause-front g c).In_ok-term-in-Err m n hm hn in
+    front_after_two behind_first (behind_new r.ends front_same) (front_after_one (behind_new p.ends front_same) (front_after front_same c.place_merged.ensures.front) c.completed.ensures.front) c.insert.ensures.front
+
+pub returns-in_err-term-in-Err-clause-front : goal.returns-in_err-term-in-Err-clause-front
+returns-in_err-term-in-Err-clause-front g c =
+    let (m, n, hm, hn) = c.requires.monomials in
+    front_after_one (behind_new (placed_behind c.requires.sum c.requires.first c.requires.second c.in_ok-product.ensures.ok m n hm hn).ends front_same) (front_after front_same c.place_merged.ensures.front) c.completed.ensures.front
+
+-- ---- a term that is there
+
+found : (g : Over) (c : In-Ok g) (q : Fraction) (m n : Monomial) → HasMonomial m (plain (tree_at c.args.s (without_root c.args.sum.now (forest c.args.pool.now)))) → HasMonomial n (plain (tree_at c.args.t (without_root c.args.sum.now (forest c.args.pool.now))))
+    → IsFoundAt c.in-Ok.at (term_tree (summand q (monomial_times m n))) (children_of (tree_of c.args.sum.now c.args.pool.now))
+found g c q m n hm hn =
+    let h = monomial_times_monomial m n hm.monomial hn.monomial in
+    subst (λ (t : Tree). IsFoundAt c.in-Ok.at (term_tree (summand q (monomial_times m n))) (children_of t))
+    (sum_read c.args.pool.now c.place_merged.new.pool c.requires.sum (placed_behind c.requires.sum c.requires.first c.requires.second c.in_ok-product.ensures.ok m n hm hn) c.in_ok-product.ensures.stands c.id.ensures)
+    (c.in-Ok.ensures.found (monomial_times m n) (term_tree (summand q (monomial_times m n))) (sought g c.before.before m n hm hn) (has_monomial q h))
+
+within : (g : Over) (c : In-Ok g) → c.in-Ok.at < count (children_of (tree_of c.args.sum.now c.args.pool.now))
+within g c =
+    let (m, n, hm, hn) = c.requires.monomials in
+    (found g c one_fraction m n hm hn).0
+
+pub child-other-requires : goal.child-other-requires
+child-other-requires g c =
+    let (m, n, hm, hn) = c.requires.monomials in
+    let p = placed_behind c.requires.sum c.requires.first c.requires.second c.in_ok-product.ensures.ok m n hm hn in
+    let st = c.in_ok-product.ensures.stands in
+    let now = c.place_merged.new.pool in (
+      search rules,
+      (
+        st,
+        (
+          expression c.id-in-Ok.ensures st (given_other p (given_handed c.requires.sum)),
+          (
+            lists_at c.id-in-Ok.ensures (lists_behind c.requires.sum p c.requires.lists),
+            subst (λ (t : Tree). c.in-Ok.at < count (children_of t)) (sym (sum_read c.args.pool.now now c.requires.sum p st c.id-in-Ok.ensures)) (within g (goal.at.child-other-requires g c).In-Ok),
+          ),
+        ),
+      ),
+    )
+
+-- what it is read as
+other : (g : Over) (c : After-child-other g) → plain (tree_at c.child-other.result (forest c.place_merged.new.pool)) ≡ nth c.in-Ok.at (children_of (tree_of c.args.sum.now c.args.pool.now))
+other g c =
+    let (m, n, hm, hn) = c.requires.monomials in
+    c.child-other.ensures.plain
+    ∙ ap (λ (t : Tree). nth c.in-Ok.at (children_of t)) (sum_read c.args.pool.now c.place_merged.new.pool c.requires.sum (placed_behind c.requires.sum c.requires.first c.requires.second c.in_ok-product.ensures.ok m n hm hn) c.in_ok-product.ensures.stands c.id-in-Ok.ensures)
+
+pub replace-requires : goal.replace-requires
+replace-requires g c =
+    let (m, n, hm, hn) = c.requires.monomials in
+    let p = placed_behind c.requires.sum c.requires.first c.requires.second c.in_ok-product.ensures.ok m n hm hn in (
+      search rules,
+      (
+        c.in_ok-product.ensures.stands,
+        (
+          (monomial_times m n, gives_rest p (λ t e. e)),
+          (
+            subst (λ (f : Forest). Gives (without_root c.args.sum.now f) f c.args.sum.now IsSum) (sym (given_rest p)) c.requires.sum,
+            (
+              lists_behind c.requires.sum p c.requires.lists,
+              omega (arith, within g (goal.at.replace-requires g c).In-Ok, ap (λ (f : Forest). count (children_of (plain f))) (given_same c.args.sum.now p (given_root c.requires.sum))),
+            ),
+          ),
+        ),
+      ),
+    )
+
+pub returns-in_ok-replace-in-Ok-clause-ok : goal.returns-in_ok-replace-in-Ok-clause-ok
+returns-in_ok-replace-in-Ok-clause-ok g c = λ m n hm hn.
+    let p = placed_behind c.requires.sum c.requires.first c.requires.second c.in_ok-product.ensures.ok m n hm hn in
+    let st = c.in_ok-product.ensures.stands in
+    let now = c.place_merged.new.pool in
+    let q = value_of c.args.coefficient in
+    let ts = children_of (tree_of c.args.sum.now c.args.pool.now) in
+    let same = (found g (goal.at.returns-in_ok-replace-in-Ok-clause-ok g c).In-Ok q m n hm hn).1 in
+    let total : value_of c.in_ok-total-in-Ok.total ≡ plus (coefficient_in (nth c.in-Ok.at ts)) q =
+    c.in_ok-total-in-Ok.ensures.sum ∙ ap (λ r. plus r q) (c.coefficient.ensures ∙ ap coefficient_in (other g (goal.at.returns-in_ok-replace-in-Ok-clause-ok g c).After-child-other)) in
+    set_in (summand q (monomial_times m n)) c.in-Ok.at (value_of c.in_ok-total-in-Ok.total) c.requires.sum p (within g (goal.at.returns-in_ok-replace-in-Ok-clause-ok g c).In-Ok) same total (c.in_ok-replace-in-Ok.ensures.ok (monomial_times m n) (given_told p))
+
+replaced : (g : Over) (c : In_ok-product g) {f : Forest} → KeepsFront (c.args.sum.now ∷ c.in_ok-product.product ∷ []) (forest c.place_merged.new.pool) f → KeepsFront (c.args.sum.now ∷ []) (forest c.args.pool.now) f
+replaced g c k =
+    let (m, n, hm, hn) = c.requires.monomials in
+    front_after_two behind_first (behind_new (placed_behind c.requires.sum c.requires.first c.requires.second c.in_ok-product.ensures.ok m n hm hn).ends front_same) (front_after front_same c.place_merged.ensures.front) k
+
+pub returns-in_ok-replace-in-Ok-clause-front : goal.returns-in_ok-replace-in-Ok-clause-front
+returns-in_ok-replace-in-Ok-clause-front g c = replaced g (goal.at.returns-in_ok-replace-in-Ok-clause-front g c).In_ok-product c.replace.ensures.front
+
+pub returns-in_err-replace-in-Ok-clause-front : goal.returns-in_err-replace-in-Ok-clause-front
+returns-in_err-replace-in-Ok-clause-front g c = replaced g (goal.at.returns-in_err-replace-in-Ok-clause-front g c).In_ok-product c.replace.ensures.front
+
+-- ---- few bytes
+
+pub returns-in_err-product-clause-room : goal.returns-in_err-product-clause-room
+returns-in_err-product-clause-room g c = λ m n hm hn.
+    passed_on c.from_residual.result c.in_err-product.field-0.0 (OfFull (λ full. free_of c.args.pool.now < term_bytes (length (monomial_times m n)))) c.from_residual.ensures.0 c.from_residual.ensures.1
+    (c.in_err-product.ensures.room m n (subst (HasMonomial m) (sym (beside c.requires.sum c.requires.first).same) hm) (subst (HasMonomial n) (sym (beside c.requires.sum c.requires.second).same) hn))
+
+few : (g : Over) (c : In_ok-product g) (m n : Monomial) → HasMonomial m (plain (tree_at c.args.s (without_root c.args.sum.now (forest c.args.pool.now)))) → HasMonomial n (plain (tree_at c.args.t (without_root c.args.sum.now (forest c.args.pool.now))))
+    → free_of c.place_merged.new.pool < 40 → free_of c.args.pool.now < term_bytes (length (monomial_times m n))
+few g c m n hm hn l =
+    let p = placed_behind c.requires.sum c.requires.first c.requires.second c.in_ok-product.ensures.ok m n hm hn in
+    omega (arith, given_free c.requires.stands c.in_ok-product.ensures.stands c.in_ok-product.ensures.kept p, ap size (given_told p), factors_most (monomial_times m n), l)
+
+pub returns-in_err-term-in-Err-clause-room : goal.returns-in_err-term-in-Err-clause-room
+returns-in_err-term-in-Err-clause-room g c = λ m n hm hn.
+    passed_on c.from_residual-in_err-term-in-Err.result (fault.Full c.in_err-term-in-Err.field-0.0) (OfFull (λ full. free_of c.args.pool.now < term_bytes (length (monomial_times m n)))) c.from_residual-in_err-term-in-Err.ensures.0 c.from_residual-in_err-term-in-Err.ensures.1
+    (few g (goal.at.returns-in_err-term-in-Err-clause-room g c).In_ok-product m n hm hn c.in_err-term-in-Err.ensures.room)
+
+pub returns-in_err-replace-in-Ok-clause-room : goal.returns-in_err-replace-in-Ok-clause-room
+returns-in_err-replace-in-Ok-clause-room g c = λ m n hm hn.
+    passed_on c.from_residual-in_err-replace-in-Ok.result (fault.Full c.in_err-replace-in-Ok.field-0.0) (OfFull (λ full. free_of c.args.pool.now < term_bytes (length (monomial_times m n)))) c.from_residual-in_err-replace-in-Ok.ensures.0 c.from_residual-in_err-replace-in-Ok.ensures.1
+    (few g (goal.at.returns-in_err-replace-in-Ok-clause-room g c).In_ok-product m n hm hn c.in_err-replace-in-Ok.ensures.room)
+
+-- ---- what fits
+
+pub returns-in_err-product-clause-fits : goal.returns-in_err-product-clause-fits
+returns-in_err-product-clause-fits g c = λ m n h l hm hn held k.
+    passed_on c.from_residual.result c.in_err-product.field-0.0 IsNoOverflow c.from_residual.ensures.0 c.from_residual.ensures.1
+    (c.in_err-product.ensures.fits m n h (subst (HasMonomial m) (sym (beside c.requires.sum c.requires.first).same) hm) (subst (HasMonomial n) (sym (beside c.requires.sum c.requires.second).same) hn) held.exponents.0 (omega (arith, k)))
+
+pub returns-in_err-total-in-Ok-clause-fits : goal.returns-in_err-total-in-Ok-clause-fits
+returns-in_err-total-in-Ok-clause-fits g c = λ m n h l hm hn held k.
+    contradiction (total_fits (given_told c.requires.sum) (summand (value_of c.args.coefficient) (monomial_times m n)) c.in-Ok.at (within g (goal.at.returns-in_err-total-in-Ok-clause-fits g c).In-Ok) held k (value_of c.coefficient.result)
+    (c.coefficient.ensures ∙ ap coefficient_in (other g (goal.at.returns-in_err-total-in-Ok-clause-fits g c).After-child-other))) (c.in_err-total-in-Ok.ensures.refused)

@@ -1,11 +1,11 @@
-use Rattle.std.proofs.Common.{◌≡◌}
-use Rattle.expand_forms.proofs.Shared.{children_of, plain, tree_at, forest}
-use Rattle.expand_forms.proofs.ValueNodes.{summed}
+use Rattle.std.proofs.Common.{◌≡◌, take}
+use Rattle.expand_forms.proofs.Shared.{plain, tree_at, forest}
 use Rattle.expand_forms.specs.Named.{IsListOf, names_of}
+use Rattle.expand_forms.specs.Parts.{parts_of, total}
 use Rattle.expand_forms.proofs.by_values.list_sum.Given as goal
 
 abbrev pub invariant-loop-at : goal.invariant-loop-at
 invariant-loop-at l = record {
   names : l.lists.names ≡ l.fn.lists.names;
-  list : IsListOf (names_of l.fn.lists.names.items) l.lists.answer.items (summed l.at (children_of (plain (tree_at l.id (forest l.pool)))));
+  list : IsListOf (names_of l.fn.lists.names.items) l.lists.answer.items (total (take l.at (parts_of (plain (tree_at l.id (forest l.pool))))));
 }

@@ -1,64 +1,82 @@
-use Rattle.std.proofs.Common.{refl, ◌≡◌, ◌++◌, ℕ, true, eqb, sym, subst}
-use Rattle.std.proofs.lemmas.Result.{on_ok_weaker}
-use Rattle.expand_forms.proofs.Shared.{Tree, IsSumOf, gives_as, eqb-true, IsHeld, HasFewTerms, Polynomial, product, polynomial_of, plain, Forest, tree_of, tree_at, without_root, forest}
-use Rattle.expand_forms.proofs.Gathered.{IsGathered, gathered_append, gathered_few, gathered_held, gathered_refl}
-use Rattle.expand_forms.proofs.SameCoefficients.{same_trans}
+use Rattle.std.proofs.Common.{rules, ◌+◌, ◌<◌, ◌∙◌, ◌++◌, drop, ap, sym, subst, arith}
+use Rattle.expand_forms.proofs.Shared.{value_of, size, normal, IsNoOverflow, sum_bytes, Polynomial, product, polynomial_of, row, IsExpanded, free_of, OfFull, gives_rest, passed_on, full_as, IsExpression, plain, Forest, tree_of, tree_at, without_root, forest, behind_first, front_after_one, given_handed, given_rest, lists_listed}
+use Rattle.expand_forms.proofs.Gathered.{gathered_append, gathered_products, gathered_refl}
+use Rattle.expand_forms.proofs.JoinLoops.{IsNextPart, IsNextTerm, joined_all, joined_lacks, joined_more, joined_none, next_part, next_term, part_few, part_held, place_read, terms_read}
+use Rattle.expand_forms.proofs.Joins.{no_summands}
+use Rattle.expand_forms.proofs.ListedTerms.{lists_beside}
+use Rattle.expand_forms.proofs.Rows.{is_nonzero, next_coefficient, rows_next}
 use Rattle.expand_forms.proofs.TermReadings.{beside}
-use Rattle.expand_forms.proofs.TreeMonomials.{tree_monomials}
-use Rattle.expand_forms.proofs.Turned.{product_turned}
+use Rattle.expand_forms.proofs.joining.join_products.Given.{Over}
+use Rattle.expand_forms.proofs.joining.join_products.Goals.{After-coefficient-factor}
 use Rattle.expand_forms.proofs.joining.join_products.Goals as goal
 
--- both factors are one tree
-itself : (a b : ℕ) (P : Polynomial → Type 0) (o : Forest) (now : Polynomial) → true ≡ eqb a b
-    → P (product (polynomial_of (plain (tree_at a o))) (polynomial_of (plain (tree_at b o))) ++ now) → P (product (polynomial_of (plain (tree_at a o))) (polynomial_of (plain (tree_at a o))) ++ now)
-itself a b P o now e h = subst (λ (i : ℕ). P (product (polynomial_of (plain (tree_at a o))) (polynomial_of (plain (tree_at i o))) ++ now)) (sym (eqb-true a b (sym e))) h
+here : (g : Over) (c : After-coefficient-factor g) → IsNextTerm c.loop-at.at c.term_id-term.result (plain (tree_at c.args.a (without_root c.args.sum.now (forest c.args.pool.now)))) (without_root c.args.sum.now (forest c.loop-at.pool)) (forest c.loop-at.pool)
+here g c =
+    let j = c.loop-at.invariant.joined in
+    next_term c.loop-at.at j.gives c.requires.first c.requires.first_expanded (place_read j.gives c.requires.sum c.requires.first c.term_count-at-end.ensures c.loop-at-test.true) c.term_id-term.ensures.inside c.term_id-term.ensures.expression c.term_id-term.ensures.tree
 
-pub children-requires-clause-live : goal.children-requires-clause-live
-children-requires-clause-live g c = (beside c.requires.sum c.requires.first).expression.live
+next : (g : Over) (c : After-coefficient-factor g) → IsNextPart (product (drop c.loop-at.at (normal (polynomial_of (plain (tree_at c.args.a (without_root c.args.sum.now (forest c.args.pool.now))))))) (normal (polynomial_of (plain (tree_at c.args.b (without_root c.args.sum.now (forest c.args.pool.now)))))))
+    (row (value_of c.coefficient-factor.result) (plain (tree_at c.term_id-term.result (without_root c.args.sum.now (forest c.loop-at.pool)))) 0 (plain (tree_at c.args.b (without_root c.args.sum.now (forest c.loop-at.pool)))))
+    (product (drop (c.loop-at.at + 1) (normal (polynomial_of (plain (tree_at c.args.a (without_root c.args.sum.now (forest c.args.pool.now))))))) (normal (polynomial_of (plain (tree_at c.args.b (without_root c.args.sum.now (forest c.args.pool.now)))))))
+next g c =
+    let x = here g c in
+    let a = normal (polynomial_of (plain (tree_at c.args.a (without_root c.args.sum.now (forest c.args.pool.now))))) in
+    let b = plain (tree_at c.args.b (without_root c.args.sum.now (forest c.args.pool.now))) in
+    let r = given_rest c.loop-at.invariant.joined.gives in
+    next_part (rows_next (plain (tree_at c.args.a (without_root c.args.sum.now (forest c.args.pool.now)))) x.term x.next (next_coefficient x c.coefficient-factor.ensures) b
+    ∙ (λ i. row (value_of c.coefficient-factor.result) (plain (tree_at c.term_id-term.result (without_root c.args.sum.now (forest c.loop-at.pool)))) 0 (plain (tree_at c.args.b (sym r i))) ++ product (drop (c.loop-at.at + 1) a) (normal (polynomial_of b))))
 
-pub children-requires-2-clause-live : goal.children-requires-2-clause-live
-children-requires-2-clause-live g c = (beside c.requires.sum c.requires.second).expression.live
+pub term_count-at-end-requires-clause-expression : goal.term_count-at-end-requires-clause-expression
+term_count-at-end-requires-clause-expression g c = (beside c.requires.sum c.requires.first).expression
 
-pub term_count-requires-clause-expression : goal.term_count-requires-clause-expression
-term_count-requires-clause-expression g c = (beside c.requires.sum c.requires.second).expression
+pub loop-at-init : goal.loop-at-init
+loop-at-init g c =
+    let o = without_root c.args.sum.now (forest c.args.pool.now) in
+    record {
+      lists = c.requires.lists;
+      joined = joined_none c.args.sum.now _ _ c.args.pool.now c.requires.stands c.requires.sum (gathered_append (gathered_products (plain (tree_at c.args.a o)) (plain (tree_at c.args.b o)) c.requires.first_expanded c.requires.second_expanded) (gathered_refl (polynomial_of (tree_of c.args.sum.now c.args.pool.now))));
+    }
 
-pub term_count-requires-else-eq-clause-expression : goal.term_count-requires-else-eq-clause-expression
-term_count-requires-else-eq-clause-expression g c = (beside c.requires.sum c.requires.first).expression
+pub of-firsts-requires : goal.of-firsts-requires
+of-firsts-requires g c = (search rules, (c.requires.stands, (beside c.requires.sum c.requires.first).expression))
 
-pub returns-then-few-clause-room : goal.returns-then-few-clause-room
-returns-then-few-clause-room g c = λ ns n few. c.join_squares.ensures.room ns n (itself c.args.a c.args.b (HasFewTerms ns n) (without_root c.args.sum.now (forest c.args.pool.now)) (polynomial_of (tree_of c.args.sum.now c.args.pool.now)) c.if-eq.ensures few)
+pub term_id-term-requires : goal.term_id-term-requires
+term_id-term-requires g c =
+    let j = c.loop-at.invariant.joined in
+    (search rules, (j.stands, ((beside j.gives c.requires.first).expression, (lists_beside c.requires.sum j.gives c.requires.first (lists_listed _ c.of-firsts.ensures), place_read j.gives c.requires.sum c.requires.first c.term_count-at-end.ensures c.loop-at-test.true))))
 
-pub returns-then-few-clause-fits : goal.returns-then-few-clause-fits
-returns-then-few-clause-fits g c = λ h l held. c.join_squares.ensures.fits h l (itself c.args.a c.args.b (λ v. IsHeld v h l) (without_root c.args.sum.now (forest c.args.pool.now)) (polynomial_of (tree_of c.args.sum.now c.args.pool.now)) c.if-eq.ensures held)
+pub join_row-requires : goal.join_row-requires
+join_row-requires g c =
+    let at = (goal.at.join_row-requires g c).After-coefficient-factor in
+    let j = c.loop-at.invariant.joined in
+    let r = sym (given_rest j.gives) in
+    let x = here g at in
+    (search rules, (j.stands, (gives_rest j.gives (λ t h. h.sum), (c.loop-at.invariant.lists, (is_nonzero _ (λ z. x.term.nonzero (sym (next_coefficient x c.coefficient-factor.ensures) ∙ z)), (x.expression, (subst (IsExpression c.args.b) r c.requires.second, (x.term, subst (λ (f : Forest). IsExpanded (plain (tree_at c.args.b f))) r c.requires.second_expanded))))))))
 
-pub returns-else-few-clause-room : goal.returns-else-few-clause-room
-returns-else-few-clause-room g c = λ ns n few. c.join_squares-else-few.ensures.room ns n (itself c.args.a c.args.b (HasFewTerms ns n) (without_root c.args.sum.now (forest c.args.pool.now)) (polynomial_of (tree_of c.args.sum.now c.args.pool.now)) c.if-eq.ensures few)
+pub returns-in_err-join_row-clause-front : goal.returns-in_err-join_row-clause-front
+returns-in_err-join_row-clause-front g c = front_after_one behind_first c.loop-at.invariant.joined.front c.join_row.ensures.front
 
-pub returns-else-few-clause-fits : goal.returns-else-few-clause-fits
-returns-else-few-clause-fits g c = λ h l held. c.join_squares-else-few.ensures.fits h l (itself c.args.a c.args.b (λ v. IsHeld v h l) (without_root c.args.sum.now (forest c.args.pool.now)) (polynomial_of (tree_of c.args.sum.now c.args.pool.now)) c.if-eq.ensures held)
+pub loop-at-preserved : goal.loop-at-preserved
+loop-at-preserved g c = record {
+  lists = c.in_ok-join_row.ensures.lists;
+  joined = joined_more c.loop-at.invariant.joined (next g (goal.at.loop-at-preserved g c).After-coefficient-factor) c.in_ok-join_row.ensures.ok c.join_row.ensures.front c.in_ok-join_row.ensures.kept c.join_row.ensures.stands;
+}
 
--- rows run over the second factor
-module _ (a b : ℕ) (o : Forest) (now : Polynomial) where
-  pub turned : IsGathered (product (polynomial_of (plain (tree_at a o))) (polynomial_of (plain (tree_at b o))) ++ now) (product (polynomial_of (plain (tree_at b o))) (polynomial_of (plain (tree_at a o))) ++ now)
-  turned = gathered_append (product_turned (polynomial_of (plain (tree_at a o))) (polynomial_of (plain (tree_at b o))) (tree_monomials (plain (tree_at a o))) (tree_monomials (plain (tree_at b o)))) (gathered_refl now)
+pub returns-clause-ok : goal.returns-clause-ok
+returns-clause-ok g c =
+    let o = without_root c.args.sum.now (forest c.args.pool.now) in
+    let many = terms_read c.requires.sum c.requires.first c.requires.first_expanded c.term_count-at-end.ensures in
+    joined_all c.loop-at.invariant.joined (ap (λ (v : Polynomial). product v (normal (polynomial_of (plain (tree_at c.args.b o))))) (no_summands c.loop-at.at (normal (polynomial_of (plain (tree_at c.args.a o)))) (omega (arith, many, c.loop-at-test.false))))
 
-  pub sum_turned : (t : Tree) → IsSumOf (product (polynomial_of (plain (tree_at b o))) (polynomial_of (plain (tree_at a o))) ++ now) t → IsSumOf (product (polynomial_of (plain (tree_at a o))) (polynomial_of (plain (tree_at b o))) ++ now) t
-  sum_turned t s = record { sum = s.sum; same = same_trans s.same turned.same }
+pub returns-in_err-join_row-clause-room : goal.returns-in_err-join_row-clause-room
+returns-in_err-join_row-clause-room g c = λ ns n few.
+    let at = (goal.at.returns-in_err-join_row-clause-room g c).After-coefficient-factor in
+    let j = c.loop-at.invariant.joined in
+    passed_on c.from_residual.result c.in_err-join_row.field-0.0 (OfFull (λ full. free_of c.args.pool.now + size (tree_of c.args.sum.now c.args.pool.now) < sum_bytes ns n)) c.from_residual.ensures.0 c.from_residual.ensures.1
+    (full_as c.in_err-join_row.field-0.0 (c.in_err-join_row.ensures.room ns n (part_few j (next g at) few)) (λ full short. joined_lacks (sum_bytes ns n) j c.requires.stands (given_handed c.requires.sum) short))
 
-pub returns-then-few-2-clause-ok : goal.returns-then-few-2-clause-ok
-returns-then-few-2-clause-ok g c = on_ok_weaker c.join_rows.result (λ h. gives_as h refl (sum_turned c.args.a c.args.b (without_root c.args.sum.now (forest c.args.pool.now)) (polynomial_of (tree_of c.args.sum.now c.args.pool.now)))) c.join_rows.ensures.ok
-
-pub returns-then-few-2-clause-fits : goal.returns-then-few-2-clause-fits
-returns-then-few-2-clause-fits g c = λ h l held. c.join_rows.ensures.fits h l (gathered_held (turned c.args.a c.args.b (without_root c.args.sum.now (forest c.args.pool.now)) (polynomial_of (tree_of c.args.sum.now c.args.pool.now))) held)
-
-pub returns-then-few-2-clause-room : goal.returns-then-few-2-clause-room
-returns-then-few-2-clause-room g c = λ ns n few. c.join_rows.ensures.room ns n (gathered_few (turned c.args.a c.args.b (without_root c.args.sum.now (forest c.args.pool.now)) (polynomial_of (tree_of c.args.sum.now c.args.pool.now))) few)
-
-pub returns-else-few-2-clause-ok : goal.returns-else-few-2-clause-ok
-returns-else-few-2-clause-ok g c = on_ok_weaker c.join_rows-else-few-2.result (λ h. gives_as h refl (sum_turned c.args.a c.args.b (without_root c.args.sum.now (forest c.args.pool.now)) (polynomial_of (tree_of c.args.sum.now c.args.pool.now)))) c.join_rows-else-few-2.ensures.ok
-
-pub returns-else-few-2-clause-fits : goal.returns-else-few-2-clause-fits
-returns-else-few-2-clause-fits g c = λ h l held. c.join_rows-else-few-2.ensures.fits h l (gathered_held (turned c.args.a c.args.b (without_root c.args.sum.now (forest c.args.pool.now)) (polynomial_of (tree_of c.args.sum.now c.args.pool.now))) held)
-
-pub returns-else-few-2-clause-room : goal.returns-else-few-2-clause-room
-returns-else-few-2-clause-room g c = λ ns n few. c.join_rows-else-few-2.ensures.room ns n (gathered_few (turned c.args.a c.args.b (without_root c.args.sum.now (forest c.args.pool.now)) (polynomial_of (tree_of c.args.sum.now c.args.pool.now))) few)
+pub returns-in_err-join_row-clause-fits : goal.returns-in_err-join_row-clause-fits
+returns-in_err-join_row-clause-fits g c = λ h l held k.
+    let at = (goal.at.returns-in_err-join_row-clause-fits g c).After-coefficient-factor in
+    passed_on c.from_residual.result c.in_err-join_row.field-0.0 IsNoOverflow c.from_residual.ensures.0 c.from_residual.ensures.1
+    (c.in_err-join_row.ensures.fits h l (part_held c.loop-at.invariant.joined (next g at) held) k)

@@ -1,79 +1,86 @@
 use Rattle.std.proofs.Common.{rules, ◌≡◌, ◌<◌, ◌+◌, ◌-◌, ◌∙◌, ℕ, ap, refl, sym, subst, arith, ◌≤◌, ◌*◌, length}
-use Rattle.expand_forms.proofs.Shared.{Tree, count, mult, names, one_value, expanded, product_of, polynomial_of, IsExpanded, children_number, gives_rest, kept_after, IsExpression, children_of, nth, plain, Forest, arity, kids_of, tree_at, without_root, forest, behind_new, front_after_one, front_same, given_handed, given_rest, given_told, gives_as, node_bytes, sum_bytes, free_of, OfFull, passed_on, full_as, Polynomial, given_free, IsHeld}
-use Rattle.expand_forms.proofs.NodeAnswers.{empty_product, next_product, product_expanded, product_polynomial_of, product_from}
+use Rattle.expand_forms.proofs.Shared.{AreExpanded, Tree, count, has_polynomial_root, mult, names, one_value, expanded, product_of, polynomial_of, IsExpanded, gives_rest, kept_after, IsExpression, children_of, nth, plain, Forest, tree_at, without_root, forest, behind_new, front_after_one, front_same, given_handed, given_rest, given_told, gives_as, node_bytes, sum_bytes, free_of, OfFull, passed_on, full_as, Polynomial, given_free, IsHeld}
+use Rattle.expand_forms.proofs.NodeAnswers.{empty_product, next_product, product_expanded, product_from}
+use Rattle.expand_forms.proofs.NodeParts.{few_factor, few_rest, multiplied_expanded, multiplied_product}
+use Rattle.expand_forms.specs.Parts.{has_factors, multiplied}
 use Rattle.expand_forms.proofs.NodeChildren.{expanded_nth}
 use Rattle.expand_forms.proofs.Nodes.{from}
 use Rattle.expand_forms.proofs.TermReadings.{beside}
-use Rattle.expand_forms.proofs.Within.{IsWithin, inside_child, within}
+use Rattle.expand_forms.proofs.Within.{IsWithin, within}
 use Rattle.expand_forms.proofs.FewTerms.{answer_few, answer_size}
 use Rattle.expand_forms.proofs.Lacks.{number_refused}
-use Rattle.expand_forms.proofs.NodeRooms.{expanded_from, few_child, few_rest, rest_product, some_product}
+use Rattle.expand_forms.proofs.NodeRooms.{expanded_from, rest_product, some_product}
 use Rattle.expand_forms.proofs.TermBytes.{terms_rise}
 use Rattle.expand_forms.proofs.TermCounts.{product_length}
 use Rattle.expand_forms.proofs.TreeMonomials.{tree_monomials}
 use Rattle.expand_forms.proofs.Held.{answer_held, held_product}
 use Rattle.expand_forms.proofs.NodeBits.{together_next}
-use Rattle.expand_forms.proofs.node.place_products.Goals.{After-child_id}
+use Rattle.expand_forms.proofs.node.place_products.Goals.{After-factor_id}
 use Rattle.tree_handles.specs.declared.fault.NumberFault.TheVariants as fault
 use Rattle.expand_forms.proofs.node.place_products.Goals as goal
 
-pub children-left-requires-clause-live : goal.children-left-requires-clause-live
-children-left-requires-clause-live c = (beside c.in_ok-product.ensures.given c.requires.expression).expression.live
+pub factor_number-left-requires : goal.factor_number-left-requires
+factor_number-left-requires c =
+    let x = beside c.in_ok-product.ensures.given c.requires.expression in
+    record {
+      stands = c.in_ok-product.ensures.stands;
+      expression = x.expression;
+      polynomial = ap has_polynomial_root x.same ∙ c.requires.polynomial;
+      children = subst (λ (t : Tree). AreExpanded (children_of t)) (sym x.same) c.requires.children;
+      factors = ap has_factors x.same ∙ c.requires.factors;
+    }
 
 pub loop-left-init : goal.loop-left-init
 loop-left-init c =
     let k = c.in_ok-product.ensures.given in
     let x = beside k c.requires.expression in
-    let ts = children_of (plain (tree_at c.args.id (forest c.args.pool.now))) in
-    let many : c.children-left.result ≡ count ts = c.children-left.ensures.plain x.expression ∙ ap (λ (t : Tree). count (children_of t)) x.same in
+    let ts = multiplied (plain (tree_at c.args.id (forest c.args.pool.now))) in
+    let many : c.factor_number-left.result ≡ count ts = c.factor_number-left.ensures ∙ ap (λ (t : Tree). count (multiplied t)) x.same in
     record {
-      given = gives_as k refl (λ t e. empty_product c.whole.result c.children-left.result ts (one_value c.whole.result c.whole.ensures) many e);
+      given = gives_as k refl (λ t e. empty_product c.whole.result c.factor_number-left.result ts (one_value c.whole.result c.whole.ensures) many e);
       within = omega (arith, many);
       front = c.in_ok-product.ensures.front;
       kept = c.in_ok-product.ensures.kept;
       stands = c.in_ok-product.ensures.stands;
     }
 
-pub child_id-requires-clause-within : goal.child_id-requires-clause-within
-child_id-requires-clause-within c =
-    let j = c.loop-left.invariant in
-    let now = beside j.given c.requires.expression in
-    omega (arith, ap (λ (t : Tree). count (children_of t)) now.same, children_number c.args.id (forest c.loop-left.pool) now.expression, j.within, c.loop-left-test.true)
+pub factor_id-requires-clause-expression : goal.factor_id-requires-clause-expression
+factor_id-requires-clause-expression c = (beside c.loop-left.invariant.given c.requires.expression).expression
 
--- the child stands below the node, beside the product
-child_within : (c : After-child_id) → IsWithin c.child_id.result (forest c.args.pool.now) (forest c.loop-left.pool)
-child_within c =
+pub factor_id-requires-clause-within : goal.factor_id-requires-clause-within
+factor_id-requires-clause-within c =
     let j = c.loop-left.invariant in
-    let now = beside j.given c.requires.expression in
-    let few : c.loop-left.left - 1 < arity (kids_of c.args.id (forest c.loop-left.pool)) = omega (arith, ap (λ (t : Tree). count (children_of t)) now.same, children_number c.args.id (forest c.loop-left.pool) now.expression, j.within, c.loop-left-test.true) in
-    within j.given c.requires.expression (inside_child (c.loop-left.left - 1) c.args.id c.child_id.result (forest c.loop-left.pool) now.expression.live few c.child_id.ensures.value) (c.child_id.ensures.expression now.expression)
+    omega (arith, ap (λ (t : Tree). count (multiplied t)) (beside j.given c.requires.expression).same, j.within, c.loop-left-test.true)
 
-child_is : (c : After-child_id) → plain (tree_at c.child_id.result (forest c.args.pool.now)) ≡ nth (c.loop-left.left - 1) (children_of (plain (tree_at c.args.id (forest c.args.pool.now))))
-child_is c =
-    let now = beside c.loop-left.invariant.given c.requires.expression in
-    sym (child_within c).same ∙ c.child_id.ensures.plain now.expression ∙ ap (λ (t : Tree). nth (c.loop-left.left - 1) (children_of t)) now.same
+-- the factor stands below the node, beside the product
+factor_within : (c : After-factor_id) → IsWithin c.factor_id.result (forest c.args.pool.now) (forest c.loop-left.pool)
+factor_within c = within c.loop-left.invariant.given c.requires.expression c.factor_id.ensures.inside c.factor_id.ensures.expression
+
+factor_is : (c : After-factor_id) → plain (tree_at c.factor_id.result (forest c.args.pool.now)) ≡ nth (c.loop-left.left - 1) (multiplied (plain (tree_at c.args.id (forest c.args.pool.now))))
+factor_is c =
+    sym (factor_within c).same ∙ c.factor_id.ensures.factor ∙ ap (λ (t : Tree). nth (c.loop-left.left - 1) (multiplied t)) (beside c.loop-left.invariant.given c.requires.expression).same
 
 pub times-requires : goal.times-requires
 times-requires c =
-    let ts = children_of (plain (tree_at c.args.id (forest c.args.pool.now))) in
+    let ts = multiplied (plain (tree_at c.args.id (forest c.args.pool.now))) in
     record {
       stands = search rules;
       second = given_handed c.loop-left.invariant.given;
-      first = subst (IsExpression c.child_id.result) (sym (given_rest c.loop-left.invariant.given)) (child_within (goal.at.times-requires c).After-child_id).expression;
-      first_expanded = let j = c.loop-left.invariant in subst (λ (f : Forest). IsExpanded (plain (tree_at c.child_id.result f))) (sym (given_rest j.given)) (subst IsExpanded (sym (child_is (goal.at.times-requires c).After-child_id)) (expanded_nth (c.loop-left.left - 1) ts c.requires.children (omega (arith, j.within, c.loop-left-test.true))));
+      first = subst (IsExpression c.factor_id.result) (sym (given_rest c.loop-left.invariant.given)) (factor_within (goal.at.times-requires c).After-factor_id).expression;
+      first_expanded = let j = c.loop-left.invariant in subst (λ (f : Forest). IsExpanded (plain (tree_at c.factor_id.result f))) (sym (given_rest j.given)) (subst IsExpanded (sym (factor_is (goal.at.times-requires c).After-factor_id)) (expanded_nth (c.loop-left.left - 1) ts (multiplied_expanded (plain (tree_at c.args.id (forest c.args.pool.now))) c.requires.children) (omega (arith, j.within, c.loop-left-test.true))));
       last = gives_rest c.loop-left.invariant.given (λ t e. product_expanded (from c.loop-left.left ts) e);
     }
 
 pub loop-left-preserved : goal.loop-left-preserved
 loop-left-preserved c =
     let j = c.loop-left.invariant in
-    let ts = children_of (plain (tree_at c.args.id (forest c.args.pool.now))) in
+    let ts = multiplied (plain (tree_at c.args.id (forest c.args.pool.now))) in
     let n = c.loop-left.left - 1 in
     let r = given_rest j.given in
     let next : c.loop-left.left ≡ n + 1 = omega (arith, c.loop-left-test.true) in
     let told = given_told j.given ∙ ap (λ (k : ℕ). expanded (product_of (from k ts))) next in
     record {
-      given = gives_as c.in-Ok.ensures.ok r (λ t e. next_product n ts (omega (arith, j.within, c.loop-left-test.true)) ((λ i. plain (tree_at c.child_id.result (r i))) ∙ child_is (goal.at.loop-left-preserved c).After-child_id) told e);
+      given = gives_as c.in-Ok.ensures.ok r (λ t e. next_product n ts (omega (arith, j.within, c.loop-left-test.true)) ((λ i. plain (tree_at c.factor_id.result (r i))) ∙ factor_is (goal.at.loop-left-preserved c).After-factor_id) told e);
       within = omega (arith, j.within);
       front = front_after_one (behind_new j.given.ends front_same) j.front c.times.ensures.front;
       kept = kept_after j.kept c.in-Ok.ensures.kept;
@@ -91,8 +98,8 @@ returns-in-Err c =
       kept = search rules;
       faults = search rules;
       caused = search rules;
-      fits = λ h l x k. let inv = c.loop-left.invariant in let ts = children_of (plain (tree_at c.args.id (forest c.args.pool.now))) in let (i, j, p, q, y, z, m, n) = together_next at ts (omega (arith, inv.within, c.loop-left-test.true)) x in let child = (λ i. plain (tree_at c.child_id.result (given_rest inv.given i))) ∙ child_is (goal.at.returns-in-Err c).After-child_id in let one = subst (λ (t : Tree). IsHeld (polynomial_of t) i j) (sym child) y in let rest = answer_held (tree_monomials (mult (from c.loop-left.left ts))) (given_told inv.given) (subst (λ (k : ℕ). IsHeld (product_of (from k ts)) p q) (sym next) z) in c.in-Err.ensures.fits (i + p) (j + q) (held_product (tree_monomials (plain (tree_at c.child_id.result (without_root c.loop-left.product (forest c.loop-left.pool))))) one rest) (omega (arith, m, n, k));
-      room = λ whole n h l. let ns = names whole in let t = plain (tree_at c.args.id (forest c.args.pool.now)) in let ts = children_of t in let v = product_of (from c.loop-left.left ts) in let child = (λ i. plain (tree_at c.child_id.result (given_rest j.given i))) ∙ child_is (goal.at.returns-in-Err c).After-child_id in let some = some_product (from c.loop-left.left ts) (expanded_from c.loop-left.left ts c.requires.children) in let one = few_child at h child in let rest = few_rest c.loop-left.left h in let monomials = tree_monomials (mult (from c.loop-left.left ts)) in let lacks = c.in-Err.ensures.room ns (length (polynomial_of (plain (tree_at c.child_id.result (without_root c.loop-left.product (forest c.loop-left.pool)))))) (length v) one (answer_few monomials (given_told j.given) rest some) in let most = answer_size monomials (given_told j.given) rest some in let all : length (product_of ts) ≤ n = omega (arith, l, ap (λ (x : Polynomial). length x) (product_polynomial_of t c.requires.product)) in let whole_product : length (polynomial_of (plain (tree_at c.child_id.result (without_root c.loop-left.product (forest c.loop-left.pool))))) * length v ≡ length (product_of (from at ts)) = ap (λ (u : Tree). length (polynomial_of u) * length v) child ∙ ap (λ (k : ℕ). length (polynomial_of (nth at ts)) * length (product_of (from k ts))) next ∙ sym (product_length (polynomial_of (nth at ts)) (product_of (from (at + 1) ts))) ∙ sym (ap (λ (x : Polynomial). length x) (product_from at ts (omega (arith, j.within, c.loop-left-test.true)))) in let free = given_free c.requires.stands j.stands j.kept j.given in full_as c.in-Err.fault lacks (λ full few. omega (arith, free, most, terms_rise ns (length v) n (omega (arith, rest_product c.loop-left.left ts c.requires.children, all)), terms_rise ns (length (product_of (from at ts))) n (omega (arith, rest_product at ts c.requires.children, all)), ap (λ (k : ℕ). sum_bytes ns k) whole_product, few));
+      fits = λ h l x k. let inv = c.loop-left.invariant in let ts = multiplied (plain (tree_at c.args.id (forest c.args.pool.now))) in let (i, j, p, q, y, z, m, n) = together_next at ts (omega (arith, inv.within, c.loop-left-test.true)) x in let child = (λ i. plain (tree_at c.factor_id.result (given_rest inv.given i))) ∙ factor_is (goal.at.returns-in-Err c).After-factor_id in let one = subst (λ (t : Tree). IsHeld (polynomial_of t) i j) (sym child) y in let rest = answer_held (tree_monomials (mult (from c.loop-left.left ts))) (given_told inv.given) (subst (λ (k : ℕ). IsHeld (product_of (from k ts)) p q) (sym next) z) in c.in-Err.ensures.fits (i + p) (j + q) (held_product (tree_monomials (plain (tree_at c.factor_id.result (without_root c.loop-left.product (forest c.loop-left.pool))))) one rest) (omega (arith, m, n, k));
+      room = λ whole n h l. let ns = names whole in let t = plain (tree_at c.args.id (forest c.args.pool.now)) in let ts = multiplied t in let v = product_of (from c.loop-left.left ts) in let child = (λ i. plain (tree_at c.factor_id.result (given_rest j.given i))) ∙ factor_is (goal.at.returns-in-Err c).After-factor_id in let some = some_product (from c.loop-left.left ts) (expanded_from c.loop-left.left ts (multiplied_expanded t c.requires.children)) in let one = few_factor at h child in let rest = few_rest c.loop-left.left h in let monomials = tree_monomials (mult (from c.loop-left.left ts)) in let lacks = c.in-Err.ensures.room ns (length (polynomial_of (plain (tree_at c.factor_id.result (without_root c.loop-left.product (forest c.loop-left.pool)))))) (length v) one (answer_few monomials (given_told j.given) rest some) in let most = answer_size monomials (given_told j.given) rest some in let all : length (product_of ts) ≤ n = omega (arith, l, ap (λ (x : Polynomial). length x) (multiplied_product t c.requires.factors)) in let whole_product : length (polynomial_of (plain (tree_at c.factor_id.result (without_root c.loop-left.product (forest c.loop-left.pool))))) * length v ≡ length (product_of (from at ts)) = ap (λ (u : Tree). length (polynomial_of u) * length v) child ∙ ap (λ (k : ℕ). length (polynomial_of (nth at ts)) * length (product_of (from k ts))) next ∙ sym (product_length (polynomial_of (nth at ts)) (product_of (from (at + 1) ts))) ∙ sym (ap (λ (x : Polynomial). length x) (product_from at ts (omega (arith, j.within, c.loop-left-test.true)))) in let free = given_free c.requires.stands j.stands j.kept j.given in full_as c.in-Err.fault lacks (λ full few. omega (arith, free, most, terms_rise ns (length v) n (omega (arith, rest_product c.loop-left.left ts (multiplied_expanded t c.requires.children), all)), terms_rise ns (length (product_of (from at ts))) n (omega (arith, rest_product at ts (multiplied_expanded t c.requires.children), all)), ap (λ (k : ℕ). sum_bytes ns k) whole_product, few));
       stands = search rules;
     }
 
@@ -100,7 +107,7 @@ pub returns-clause-ok : goal.returns-clause-ok
 returns-clause-ok c =
     let t = plain (tree_at c.args.id (forest c.args.pool.now)) in
     let none : c.loop-left.left ≡ 0 = omega (arith, c.loop-left-test.false) in
-    gives_as c.loop-left.invariant.given refl (λ u e. e ∙ ap (λ (k : ℕ). expanded (product_of (from k (children_of t)))) none ∙ ap expanded (product_polynomial_of t c.requires.product))
+    gives_as c.loop-left.invariant.given refl (λ u e. e ∙ ap (λ (k : ℕ). expanded (product_of (from k (multiplied t)))) none ∙ ap expanded (multiplied_product t c.requires.factors))
 
 -- ---- few bytes
 

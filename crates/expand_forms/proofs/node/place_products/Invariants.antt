@@ -1,11 +1,12 @@
 use Rattle.std.proofs.Common.{◌≡◌, ◌≤◌, []}
-use Rattle.expand_forms.proofs.Shared.{count, expanded, product_of, children_of, plain, Gives, KeepsFront, tree_at, KeepsRefusals, Stands, forest}
+use Rattle.expand_forms.proofs.Shared.{count, expanded, product_of, plain, Gives, KeepsFront, tree_at, KeepsRefusals, Stands, forest}
 use Rattle.expand_forms.proofs.Nodes.{from}
+use Rattle.expand_forms.specs.Parts.{multiplied}
 use Rattle.expand_forms.proofs.node.place_products.Given as goal
 
 abbrev pub invariant-loop-left : goal.invariant-loop-left
 invariant-loop-left l =
-    let ts = children_of (plain (tree_at l.fn.id (forest l.fn.pool))) in
+    let ts = multiplied (plain (tree_at l.fn.id (forest l.fn.pool))) in
     record {
       given : Gives (forest l.fn.pool) (forest l.pool) l.product (λ t. t ≡ expanded (product_of (from l.left ts)));
       within : l.left ≤ count ts;

@@ -9,7 +9,7 @@ use Rattle.expand_forms.proofs.packing.packed_monomial.Goals as goal
 
 pub loop-name-init : goal.loop-name-init
 loop-name-init c = λ m h n.
-    let a = c.of.ensures.ahead m h in
+    let a = c.factor_nodes-nodes.ensures m h in
     packed_none n (record { monomial = h.monomial; begins = c.next_read-next.ensures.factor m a; ahead = c.next_read-next.ensures.ahead m a })
 
 pub returns-in_err-exponent-clause-unlisted : goal.returns-in_err-exponent-clause-unlisted

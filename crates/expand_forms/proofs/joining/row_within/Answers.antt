@@ -1,0 +1,97 @@
+use Rattle.std.proofs.Common.{rules, ◌≡◌, ◌+◌, ◌∙◌, ◌∷◌, [], ap, refl, sym, subst, arith, ◌<◌}
+use Rattle.expand_forms.proofs.Shared.{not_from_false, no_zero, Fraction, times, value_of, size, IsNoOverflow, sum_bytes, Monomial, monomial_times, summand, row, HasMonomial, coefficient_in, free_of, OfFull, gives_rest, passed_on, full_as, IsExpression, plain, Forest, tree_of, tree_at, without_root, forest, behind_first, front_after_one, given_handed, given_rest, lists_listed}
+use Rattle.expand_forms.proofs.Gathered.{gathered_refl}
+use Rattle.expand_forms.proofs.JoinLoops.{IsNextPart, IsNextTerm, joined_all, joined_more, joined_none, next_term, part_few, part_held, place_read, terms_read}
+use Rattle.expand_forms.proofs.JoinRooms.{term_lacks}
+use Rattle.expand_forms.proofs.ListedTerms.{lists_beside}
+use Rattle.expand_forms.proofs.Rows.{next_coefficient, product_nonzero, row_end, row_next}
+use Rattle.expand_forms.proofs.Splits.{contradiction, first_fits}
+use Rattle.expand_forms.proofs.TermReadings.{beside, term_monomial}
+use Rattle.expand_forms.proofs.TreeMonomials.{monomial_times_monomial}
+use Rattle.expand_forms.proofs.joining.row_within.Given.{Over}
+use Rattle.expand_forms.proofs.joining.row_within.Goals.{After-term_id-other}
+use Rattle.expand_forms.proofs.joining.row_within.Goals as goal
+
+here : (g : Over) (c : After-term_id-other g) → IsNextTerm c.loop-at.at c.term_id-other.result (plain (tree_at c.args.b (without_root c.args.sum.now (forest c.args.pool.now)))) (without_root c.args.sum.now (forest c.loop-at.pool)) (forest c.loop-at.pool)
+here g c =
+    let j = c.loop-at.invariant.joined in
+    next_term c.loop-at.at j.gives c.requires.second c.requires.second_expanded (place_read j.gives c.requires.sum c.requires.second c.term_count-at-end.ensures c.loop-at-test.true) c.term_id-other.ensures.inside c.term_id-other.ensures.expression c.term_id-other.ensures.tree
+
+-- the monomial of the term
+first : (g : Over) (c : After-term_id-other g) → HasMonomial c.requires.first_term.summand.monomial (plain (tree_at c.args.term (without_root c.args.sum.now (forest c.loop-at.pool))))
+first g c = subst (λ (f : Forest). HasMonomial c.requires.first_term.summand.monomial (plain (tree_at c.args.term f))) (sym (given_rest c.loop-at.invariant.joined.gives)) (term_monomial c.requires.first_term)
+
+next : (g : Over) (c : After-term_id-other g) (q r : Fraction) → r ≡ coefficient_in (plain (tree_at c.term_id-other.result (forest c.loop-at.pool))) → q ≡ times (value_of c.args.factor) r
+    → IsNextPart (row (value_of c.args.factor) (plain (tree_at c.args.term (without_root c.args.sum.now (forest c.args.pool.now)))) c.loop-at.at (plain (tree_at c.args.b (without_root c.args.sum.now (forest c.args.pool.now)))))
+    (summand q (monomial_times c.requires.first_term.summand.monomial (here g c).term.summand.monomial) ∷ []) (row (value_of c.args.factor) (plain (tree_at c.args.term (without_root c.args.sum.now (forest c.args.pool.now)))) (c.loop-at.at + 1) (plain (tree_at c.args.b (without_root c.args.sum.now (forest c.args.pool.now)))))
+next g c q r e p =
+    let x = here g c in
+    row_next c.requires.first_term (value_of c.args.factor) q c.loop-at.at x.term.summand (plain (tree_at c.args.b (without_root c.args.sum.now (forest c.args.pool.now)))) x.next (p ∙ ap (times (value_of c.args.factor)) (next_coefficient x e))
+
+pub term_count-at-end-requires-clause-expression : goal.term_count-at-end-requires-clause-expression
+term_count-at-end-requires-clause-expression g c = (beside c.requires.sum c.requires.second).expression
+
+pub of-seconds-requires : goal.of-seconds-requires
+of-seconds-requires g c = (omega (arith, c.requires.few), (c.requires.stands, (beside c.requires.sum c.requires.second).expression))
+
+pub loop-at-init : goal.loop-at-init
+loop-at-init g c = record { lists = c.requires.lists; joined = joined_none c.args.sum.now _ _ c.args.pool.now c.requires.stands c.requires.sum (gathered_refl _) }
+
+pub term_id-other-requires : goal.term_id-other-requires
+term_id-other-requires g c =
+    let j = c.loop-at.invariant.joined in
+    (search rules, (j.stands, ((beside j.gives c.requires.second).expression, (lists_beside c.requires.sum j.gives c.requires.second (lists_listed _ c.of-seconds.ensures), place_read j.gives c.requires.sum c.requires.second c.term_count-at-end.ensures c.loop-at-test.true))))
+
+pub join_product-requires : goal.join_product-requires
+join_product-requires g c =
+    let at = (goal.at.join_product-requires g c).After-term_id-other in
+    let j = c.loop-at.invariant.joined in
+    let x = here g at in
+    let nonzero = product_nonzero c.in_ok-product.ensures.product (no_zero _ (not_from_false _ c.requires.nonzero)) (next_coefficient x c.coefficient.ensures) x.term.nonzero in
+    let term = subst (IsExpression c.args.term) (sym (given_rest j.gives)) c.requires.first in
+    (search rules, (j.stands, (gives_rest j.gives (λ t h. h.sum), (c.loop-at.invariant.lists, (nonzero, (term, (x.expression, (c.requires.first_term.summand.monomial, x.term.summand.monomial, first g at, term_monomial x.term))))))))
+
+pub returns-in_err-join_product-clause-front : goal.returns-in_err-join_product-clause-front
+returns-in_err-join_product-clause-front g c = front_after_one behind_first c.loop-at.invariant.joined.front c.join_product.ensures.front
+
+pub loop-at-preserved : goal.loop-at-preserved
+loop-at-preserved g c =
+    let at = (goal.at.loop-at-preserved g c).After-term_id-other in
+    let x = here g at in
+    record {
+      lists = c.in_ok-join_product.ensures.lists;
+      joined = joined_more c.loop-at.invariant.joined (next g at (value_of c.in_ok-product.product) _ c.coefficient.ensures c.in_ok-product.ensures.product)
+          (c.in_ok-join_product.ensures.ok c.requires.first_term.summand.monomial x.term.summand.monomial (first g at) (term_monomial x.term)) c.join_product.ensures.front c.in_ok-join_product.ensures.kept c.join_product.ensures.stands;
+    }
+
+pub returns-clause-ok : goal.returns-clause-ok
+returns-clause-ok g c =
+    let o = without_root c.args.sum.now (forest c.args.pool.now) in
+    let many = terms_read c.requires.sum c.requires.second c.requires.second_expanded c.term_count-at-end.ensures in
+    joined_all c.loop-at.invariant.joined (row_end (value_of c.args.factor) (plain (tree_at c.args.term o)) c.loop-at.at (plain (tree_at c.args.b o)) (omega (arith, many, c.loop-at-test.false)))
+
+pub returns-in_err-join_product-clause-room : goal.returns-in_err-join_product-clause-room
+returns-in_err-join_product-clause-room g c = λ ns n few.
+    let at = (goal.at.returns-in_err-join_product-clause-room g c).After-term_id-other in
+    let j = c.loop-at.invariant.joined in
+    let x = here g at in
+    let m : Monomial = c.requires.first_term.summand.monomial in
+    let all = part_few j (next g at (value_of c.in_ok-product.product) _ c.coefficient.ensures c.in_ok-product.ensures.product) few in
+    passed_on c.from_residual-in_err-join_product.result c.in_err-join_product.field-0.0 (OfFull (λ full. free_of c.args.pool.now + size (tree_of c.args.sum.now c.args.pool.now) < sum_bytes ns n)) c.from_residual-in_err-join_product.ensures.0 c.from_residual-in_err-join_product.ensures.1
+    (full_as c.in_err-join_product.field-0.0 (c.in_err-join_product.ensures.room m x.term.summand.monomial (first g at) (term_monomial x.term))
+    (λ full short. term_lacks (summand (value_of c.in_ok-product.product) (monomial_times m x.term.summand.monomial)) (monomial_times_monomial m x.term.summand.monomial c.requires.first_term.monomial x.term.monomial) j c.requires.stands (given_handed c.requires.sum) all short))
+
+-- ---- what fits
+
+pub returns-in_err-product-clause-fits : goal.returns-in_err-product-clause-fits
+returns-in_err-product-clause-fits g c = λ h l held k.
+    let at = (goal.at.returns-in_err-product-clause-fits g c).After-term_id-other in
+    let q = times (value_of c.args.factor) (value_of c.coefficient.result) in
+    contradiction (first_fits (summand q (monomial_times c.requires.first_term.summand.monomial (here g at).term.summand.monomial)) (part_held c.loop-at.invariant.joined (next g at q _ c.coefficient.ensures refl) held) k) (c.in_err-product.ensures.refused)
+
+pub returns-in_err-join_product-clause-fits : goal.returns-in_err-join_product-clause-fits
+returns-in_err-join_product-clause-fits g c = λ h l held k.
+    let at = (goal.at.returns-in_err-join_product-clause-fits g c).After-term_id-other in
+    let x = here g at in
+    passed_on c.from_residual-in_err-join_product.result c.in_err-join_product.field-0.0 IsNoOverflow c.from_residual-in_err-join_product.ensures.0 c.from_residual-in_err-join_product.ensures.1
+    (c.in_err-join_product.ensures.fits c.requires.first_term.summand.monomial x.term.summand.monomial h l (first g at) (term_monomial x.term) (part_held c.loop-at.invariant.joined (next g at (value_of c.in_ok-product.product) _ c.coefficient.ensures c.in_ok-product.ensures.product) held) k)
