@@ -11,10 +11,6 @@ length-run xs a n h = length-take-le n (drop a xs) (omega (arith, length-drop a 
 slid_put : (xs : List ℕ) (a b n : ℕ) → a + n ≤ length xs → slid xs a b n ≡ put xs b (take n (drop a xs))
 slid_put xs a b n h = ap (λ (m : ℕ). take b xs ++ (take n (drop a xs) ++ drop (b + m) xs)) (sym (length-run xs a n h))
 
--- one run is moved
-pub slid_run : (xs zs run : List ℕ) (a b n : ℕ) → a + n ≤ length xs → run ≡ take n (drop a xs) → zs ≡ put xs b run → zs ≡ slid xs a b n
-slid_run xs zs run a b n h r z = z ∙ ap (put xs b) r ∙ sym (slid_put xs a b n h)
-
 pub length-slid : (xs : List ℕ) (a b n : ℕ) → a + n ≤ length xs → b + n ≤ length xs → length (slid xs a b n) ≡ length xs
 length-slid xs a b n h k =
     let long = length-run xs a n h in
@@ -79,3 +75,39 @@ pub slid_none : (xs : List ℕ) (a b len : ℕ) → len ≡ 0 → xs ≡ slid xs
 slid_none xs a b len e =
     let none : b + 0 ≡ b = omega arith in
     rw (e, none) (sym (take-append-drop b xs))
+
+-- ---- both ends at once
+
+-- a run over the end of another
+put_over : (xs ys zs first last : List ℕ) (at k : ℕ) → k ≤ length first → length first ≤ k + length last → at + (k + length last) ≤ length xs → ys ≡ put xs at first → zs ≡ put ys (at + k) last → zs ≡ put xs at (take k first ++ last)
+put_over xs ys zs first last at k h1 h2 fits e q =
+    let front = take at xs in
+    let kept = take k first in
+    let d = drop (at + length first) xs in
+    let long : length front ≡ at = length-take-le at xs (omega arith) in
+    let some : length kept ≡ k = length-take-le k first h1 in
+    let split : ys ≡ (front ++ kept) ++ (drop k first ++ d) = e ∙ ap (λ (l : List ℕ). front ++ (l ++ d)) (sym (take-append-drop k first)) ∙ simp append_assoc in
+    let below : take (at + k) ys ≡ front ++ kept = ap (take (at + k)) split ∙ take_at (front ++ kept) (drop k first ++ d) (at + k) (omega (arith, length-append front kept)) in
+    let whole : ys ≡ (front ++ first) ++ d = e ∙ sym (append_assoc front first d) in
+    let reach : at + length first + (k + length last - length first) ≡ at + k + length last = omega arith in
+    let far = λ (l : List ℕ). let step : drop (k + length last - length first) (drop (at + length first) l) ≡ drop (at + k + length last) l = drop-drop (k + length last - length first) (at + length first) l ∙ ap (λ (n : ℕ). drop n l) reach in step in
+    let over : drop (at + length first) ys ≡ d = ap (drop (at + length first)) whole ∙ drop_at (front ++ first) d (at + length first) (omega (arith, length-append front first)) in
+    let above : drop (at + k + length last) ys ≡ drop (at + k + length last) xs = sym (far ys) ∙ ap (λ (l : List ℕ). drop (k + length last - length first) l) over ∙ far xs in
+    let end : at + length (kept ++ last) ≡ at + k + length last = omega (arith, length-append kept last) in
+    let rest = drop (at + k + length last) xs in
+    let same : (front ++ kept) ++ (last ++ rest) ≡ front ++ ((kept ++ last) ++ rest) = simp append_assoc in
+    q ∙ ap (λ (l : List ℕ). l ++ (last ++ drop (at + k + length last) ys)) below ∙ ap (λ (l : List ℕ). (front ++ kept) ++ (last ++ l)) above
+    ∙ same ∙ ap (λ (n : ℕ). front ++ ((kept ++ last) ++ drop n xs)) (sym end)
+
+pub slid_ends : (xs ys zs first last : List ℕ) (a b len n : ℕ) → n ≤ len → len ≤ n + n → a + len ≤ length xs → b + len ≤ length xs
+    → first ≡ take n (drop a xs) → last ≡ take n (drop (a + (len - n)) xs) → ys ≡ put xs b first → zs ≡ put ys (b + (len - n)) last → zs ≡ slid xs a b len
+slid_ends xs ys zs first last a b len n h k source target e1 e2 e q =
+    let m : ℕ = len - n in
+    let l = drop a xs in
+    let one : length first ≡ n = ap length e1 ∙ length-run xs a n (omega arith) in
+    let two : length last ≡ n = ap length e2 ∙ length-run xs (a + m) n (omega arith) in
+    let kept : take m first ≡ take m l = ap (take m) e1 ∙ take-take m n l (omega arith) in
+    let rest : last ≡ take n (drop m l) = e2 ∙ ap (take n) (sym (drop-drop m a xs ∙ ap (λ (i : ℕ). drop i xs) (omega arith))) in
+    let all : m + n ≡ len = omega arith in
+    let run : take m first ++ last ≡ take len l = rw (kept, rest) (sym (take-add m n l) ∙ ap (λ (i : ℕ). take i l) all) in
+    put_over xs ys zs first last b m (omega (arith, one)) (omega (arith, one, two)) (omega (arith, two, target)) e q ∙ ap (put xs b) run ∙ sym (slid_put xs a b len source)

@@ -12,9 +12,45 @@ const WIDE: usize = 32;
 
 const HALF: usize = 16;
 
-/// What stood in the `len` bytes at `from` stands at `to` too. It is inlined, since its callers know which way.
+/// What stood in the `len` bytes at `from` stands at `to` too. The sizes of a few nodes are moved at once, whichever way.
 #[inline(always)]
 pub fn slide(bytes: &mut [u8], from: usize, to: usize, len: usize)
+    requires source { from + len ≤ length bytes.old }
+    requires target { to + len ≤ length bytes.old }
+    ensures { bytes.new ≡ slid bytes.old from to len }
+{
+    if len < 8 || len > 128 {
+        slide_long(bytes, from, to, len);
+    } else if len <= 16 {
+        slide_ends::<8>(bytes, from, to, len);
+    } else if len <= 32 {
+        slide_ends::<16>(bytes, from, to, len);
+    } else if len <= 64 {
+        slide_ends::<32>(bytes, from, to, len);
+    } else {
+        slide_ends::<64>(bytes, from, to, len);
+    }
+}
+
+/// Moves the first and the last `N` of the bytes, which are all. Both are taken before one is written.
+#[inline(always)]
+fn slide_ends<const N: usize>(bytes: &mut [u8], from: usize, to: usize, len: usize)
+    requires first { N ≤ len }
+    requires last { len ≤ N + N }
+    requires source { from + len ≤ length bytes.old }
+    requires target { to + len ≤ length bytes.old }
+    ensures { bytes.new ≡ slid bytes.old from to len }
+{
+    let back = len - N;
+    let first: [u8; N] = load(bytes, from);
+    let last: [u8; N] = load(bytes, from + back);
+    store(bytes, to, first);
+    store(bytes, to + back, last);
+}
+
+/// The same for any number of bytes, run by run in the order in which none is lost.
+#[inline(never)]
+fn slide_long(bytes: &mut [u8], from: usize, to: usize, len: usize)
     requires source { from + len ≤ length bytes.old }
     requires target { to + len ≤ length bytes.old }
     ensures { bytes.new ≡ slid bytes.old from to len }
@@ -24,15 +60,15 @@ pub fn slide(bytes: &mut [u8], from: usize, to: usize, len: usize)
     }
     if to <= from {
         let done = slide_down::<WIDE>(bytes, from, to, len);
-        let half = step_down::<HALF>(bytes, from + done, to + done, len - done);
+        let half = slide_down::<HALF>(bytes, from + done, to + done, len - done);
         let done = done + half;
-        let more = step_down::<8>(bytes, from + done, to + done, len - done);
+        let more = slide_down::<8>(bytes, from + done, to + done, len - done);
         let done = done + more;
         slide_down::<1>(bytes, from + done, to + done, len - done);
     } else {
         let left = slide_up::<WIDE>(bytes, from, to, len);
-        let left = step_up::<HALF>(bytes, from, to, left);
-        let left = step_up::<8>(bytes, from, to, left);
+        let left = slide_up::<HALF>(bytes, from, to, left);
+        let left = slide_up::<8>(bytes, from, to, left);
         slide_up::<1>(bytes, from, to, left);
     }
 }
@@ -55,25 +91,6 @@ fn slide_down<const N: usize>(bytes: &mut [u8], from: usize, to: usize, len: usi
     done
 }
 
-/// Moves the first `N` bytes where there are so many, and says how many have moved. Fewer than `N` are left.
-#[inline(always)]
-#[tactic(auto, using(crate::proofs::Slides::slid_run, crate::proofs::Slides::slid_none))]
-fn step_down<const N: usize>(bytes: &mut [u8], from: usize, to: usize, len: usize) -> usize
-    requires few { len < N + N }
-    requires down { to ≤ from }
-    requires inside { from + len ≤ length bytes.old }
-    ensures moved { bytes.new ≡ slid bytes.old from to result }
-    ensures within { result ≤ len }
-    ensures most { len < result + N }
-{
-    if len < N {
-        return 0;
-    }
-    let run: [u8; N] = load(bytes, from);
-    store(bytes, to, run);
-    N
-}
-
 /// Moves `N` bytes at once from the last on, and says how many have not moved.
 fn slide_up<const N: usize>(bytes: &mut [u8], from: usize, to: usize, len: usize) -> usize
     requires some { 0 < N }
@@ -89,26 +106,6 @@ fn slide_up<const N: usize>(bytes: &mut [u8], from: usize, to: usize, len: usize
         let run: [u8; N] = load(bytes, from + left);
         store(bytes, to + left, run);
     }
-    left
-}
-
-/// Moves the last `N` bytes where there are so many, and says how many have not moved, which are fewer than `N`.
-#[inline(always)]
-#[tactic(auto, using(crate::proofs::Slides::slid_run, crate::proofs::Slides::slid_none))]
-fn step_up<const N: usize>(bytes: &mut [u8], from: usize, to: usize, len: usize) -> usize
-    requires few { len < N + N }
-    requires up { from ≤ to }
-    requires inside { to + len ≤ length bytes.old }
-    ensures moved { bytes.new ≡ slid bytes.old (from + result) (to + result) (len - result) }
-    ensures within { result ≤ len }
-    ensures most { result < N }
-{
-    if len < N {
-        return len;
-    }
-    let left = len - N;
-    let run: [u8; N] = load(bytes, from + left);
-    store(bytes, to + left, run);
     left
 }
 
@@ -154,28 +151,66 @@ pub fn write(bytes: &mut [u8], at: usize, run: &[u8])
     bytes[at..at + run.len()].copy_from_slice(run);
 }
 
-/// The bytes from `mid` to `end`, and then those from `start` to `mid`. The sizes of single nodes are moved in registers.
+/// The bytes from `mid` to `end`, and then those from `start` to `mid`.
 pub fn rotate(bytes: &mut [u8], start: usize, mid: usize, end: usize)
     requires low { start ≤ mid }
     requires high { mid ≤ end }
     requires inside { end ≤ length bytes.old }
     ensures { bytes.new ≡ rotated bytes.old start mid end }
 {
-    let (front, back) = (mid - start, end - mid);
-    if front == 8 {
+    if mid - start <= end - mid {
+        rotate_front(bytes, start, mid, end);
+    } else {
+        rotate_back(bytes, start, mid, end);
+    }
+}
+
+/// The same, best where the first part is the shorter one. It is moved in registers where it has the size of a few nodes.
+#[inline(always)]
+fn rotate_front(bytes: &mut [u8], start: usize, mid: usize, end: usize)
+    requires low { start ≤ mid }
+    requires high { mid ≤ end }
+    requires inside { end ≤ length bytes.old }
+    ensures { bytes.new ≡ rotated bytes.old start mid end }
+{
+    let front = mid - start;
+    if front == 16 {
+        turn_down::<16>(bytes, start, mid, end);
+    } else if front == 24 {
+        turn_down::<24>(bytes, start, mid, end);
+    } else if front == 40 {
+        turn_down::<40>(bytes, start, mid, end);
+    } else if front == 8 {
         turn_down::<8>(bytes, start, mid, end);
+    } else {
+        rotate_long(bytes, start, mid, end);
+    }
+}
+
+/// The same, best where the second part is the shorter one.
+#[inline(always)]
+fn rotate_back(bytes: &mut [u8], start: usize, mid: usize, end: usize)
+    requires low { start ≤ mid }
+    requires high { mid ≤ end }
+    requires inside { end ≤ length bytes.old }
+    ensures { bytes.new ≡ rotated bytes.old start mid end }
+{
+    let back = end - mid;
+    if back == 16 {
+        turn_up::<16>(bytes, start, mid, end);
+    } else if back == 24 {
+        turn_up::<24>(bytes, start, mid, end);
+    } else if back == 40 {
+        turn_up::<40>(bytes, start, mid, end);
     } else if back == 8 {
         turn_up::<8>(bytes, start, mid, end);
-    } else if front == 16 {
-        turn_down::<16>(bytes, start, mid, end);
-    } else if back == 16 {
-        turn_up::<16>(bytes, start, mid, end);
     } else {
         rotate_long(bytes, start, mid, end);
     }
 }
 
 /// The same for parts of any length: the shorter one waits in a room where it is short.
+#[inline(never)]
 fn rotate_long(bytes: &mut [u8], start: usize, mid: usize, end: usize)
     requires low { start ≤ mid }
     requires high { mid ≤ end }
