@@ -1,13 +1,14 @@
 -- What a change of the bytes leaves.
-use Rattle.std.proofs.Common.{List, [], ap, append-nil, append_assoc, arith, drop, length, refl, replicate, subst, sym, take, true, ℕ, ◌++◌, ◌+◌, ◌-◌, ◌<◌, ◌^◌, ◌∙◌, ◌∷◌, ◌≡◌, ◌≤◌}
-use Rattle.node_pool.proofs.Shared.{drop-drop, drop-replicate, drop_at, length-append, length-replicate, replicate-append-replicate, take_at, code_of, form_of, IsNode, Node, encoding, fresh, header_bytes, low_bytes, payload_bytes, size_of, has_short_form, IsPayload, Payload, kind_of_payload, size_of_payload, length-encoding, length-low_bytes, cleared, put, rotated, slid, switched, Contents, contents_of, AreNodes, encodings, has, place_of, used, with_children, with_count, IsBoundary, between, exchanged, since, swapped, until, without, length-put}
+use Rattle.std.proofs.Common.{List, [], ap, append-nil, append_assoc, arith, drop, false, length, refl, replicate, subst, sym, take, true, ℕ, ◌++◌, ◌+◌, ◌-◌, ◌<◌, ◌^◌, ◌∙◌, ◌∷◌, ◌≡◌, ◌≤◌}
+use Rattle.node_pool.proofs.Shared.{Header, Kind, header_of, is_bare, parent, put_before, drop-drop, drop-replicate, drop_at, length-append, length-replicate, replicate-append-replicate, take_at, code_of, form_of, IsNode, Node, encoding, fresh, header_bytes, low_bytes, payload_bytes, size_of, has_short_form, IsPayload, Payload, kind_of_payload, size_of_payload, length-encoding, length-low_bytes, cleared, put, rotated, slid, switched, Contents, contents_of, AreNodes, encodings, has, place_of, used, with_children, with_count, IsBoundary, between, exchanged, since, swapped, until, without, length-put}
 use Rattle.node_pool.specs.declared.buffer.Buffer.TheInside.{Inside}
-use Rattle.node_pool.proofs.Cuts.{AreNodes-swap, AreNodes-without, boundary_le, cut, cut3}
+use Rattle.node_pool.proofs.Cuts.{AreNodes-swap, AreNodes-without, boundary_le, cut, cut3, until-since}
 use Rattle.node_pool.proofs.Exchanges.{AreBlocks, half}
 use Rattle.node_pool.proofs.Fields.{IsDone, IsOf, contents_are}
 use Rattle.node_pool.proofs.Found.{found}
 use Rattle.node_pool.proofs.Sizes.{AreNodes-append, AreNodes-left, AreNodes-right, encodings-append, length-encodings, used-append}
-use Rattle.node_pool.proofs.Slides.{closed_up, switched_twice, turned}
+use Rattle.node_pool.proofs.Slides.{closed_up, opened_up, switched_twice, turned}
+use Rattle.calc_terms.proofs.Sizes.{bare_size}
 
 -- the fields afterwards
 pub record IsNext (p q : Inside) (ns : List Node) : Type 0 where
@@ -244,4 +245,63 @@ pushed p q ns id x o payload small room bytes used-is count-is =
         used = omega (arith, used-append ns (n ∷ []), o.used);
       };
       size = len;
+    }
+
+-- ---- one node more, before others
+
+pub parent_bytes : (id children : ℕ) (k : Kind) (h : Header) → h ≡ header_of (parent id k children) → header_bytes h ≡ encoding (parent id k children)
+unfolding encoding
+parent_bytes id children k h e = ap header_bytes e ∙ sym (append-nil (header_bytes (header_of (parent id k children))))
+
+pub parent_node : (id children : ℕ) (k : Kind) → id < 2 ^ 16 → children < 2 ^ 16 → is_bare k ≡ true → IsNode (parent id k children) × (size_of (parent id k children) ≡ 8)
+parent_node id children k h i b = (record { id = h; count = omega arith; children = i; payload = b }, bare_size k false b)
+
+pub inserted : (p q : Inside) (s1 : List ℕ) (ns : List Node) (n : Node) (i : ℕ) → IsOf p ns → IsBoundary i ns → IsNode n × (size_of n ≡ 8) → 8 ≤ length p.store - used ns
+    → s1 ≡ slid p.store i (i + 8) (p.used - i) → q.store ≡ put s1 i (encoding n) → q.used ≡ p.used + 8 → q.count ≡ p.count + 1 → IsNext p q (put_before i n ns)
+inserted p q s1 ns n i o at v room e1 e2 e3 e4 =
+    let a = until i ns in
+    let b = since i ns in
+    let ms = a ++ n ∷ b in
+    let k = length p.store - used ns in
+    let g : List ℕ = replicate 8 0 in
+    let z : List ℕ = replicate (k - 8) 0 in
+    let parts : ns ≡ a ++ b = sym (until-since i ns) in
+    let nodes : AreNodes (a ++ b) = subst AreNodes parts o.nodes in
+    let na = AreNodes-left a b nodes in
+    let nb = AreNodes-right a b nodes in
+    let whole : used ns ≡ i + used b = ap used parts ∙ used-append a b ∙ ap (λ (x : ℕ). x + used b) at in
+    let size = length-encoding n v.0 ∙ v.1 in
+    let zeros : replicate k 0 ≡ g ++ z = sym (replicate-append-replicate 8 (k - 8) 0 ∙ ap (λ (x : ℕ). replicate x 0) (omega arith)) in
+    let bytes : p.store ≡ encodings a ++ (encodings b ++ (g ++ z)) =
+    o.bytes ∙ ap (λ (x : List ℕ). x ++ replicate k 0) (ap encodings parts ∙ encodings-append a b) ∙ ap (λ (x : List ℕ). (encodings a ++ encodings b) ++ x) zeros ∙ append_assoc (encodings a) (encodings b) (g ++ z) in
+    let slide : s1 ≡ slid p.store i (i + 8) (used b) = e1 ∙ ap (slid p.store i (i + 8)) (omega (arith, o.used, whole)) in
+    let store-is : q.store ≡ encodings a ++ (encoding n ++ (encodings b ++ z)) =
+    e2 ∙ opened_up (encodings a) (encodings b) g (encoding n) z p.store s1 i (used b) bytes (length-encodings a na ∙ at) (length-encodings b nb) (length-replicate {A = ℕ} 8 0) size slide in
+    let regroup : encodings a ++ (encoding n ++ (encodings b ++ z)) ≡ encodings ms ++ z =
+    sym (ap (λ (t : List ℕ). t ++ z) (encodings-append a (n ∷ b)) ∙ append_assoc (encodings a) (encodings (n ∷ b)) z ∙ ap (λ (t : List ℕ). encodings a ++ t) (append_assoc (encoding n) (encodings b) z)) in
+    let long : used ms ≡ used ns + 8 = omega (arith, used-append a (n ∷ b), whole, at, v.1) in
+    let size-now : length q.store ≡ length p.store =
+    omega (
+      arith,
+      ap length store-is,
+      ap length bytes,
+      length-append (encodings a) (encoding n ++ (encodings b ++ z)),
+      length-append (encoding n) (encodings b ++ z),
+      length-append (encodings b) z,
+      length-append (encodings a) (encodings b ++ (g ++ z)),
+      length-append (encodings b) (g ++ z),
+      length-append g z,
+      length-replicate {A = ℕ} 8 0,
+      size,
+    ) in
+    record {
+      size = size-now;
+      of = record {
+        bytes = store-is ∙ regroup ∙ ap (λ (x : ℕ). encodings ms ++ replicate x 0) (omega (arith, long, size-now));
+        nodes = AreNodes-append a (n ∷ b) na (v.0, nb);
+        fits = omega (arith, long, size-now, room);
+        small = omega (arith, o.small, size-now);
+        count = omega (arith, e4, o.count, ap length parts, length-append a b, length-append a (n ∷ b));
+        used = omega (arith, e3, o.used, long);
+      };
     }

@@ -1,12 +1,12 @@
 -- What a change of the nodes leaves of the pool's fields.
 use Rattle.std.proofs.Common.{Bool, List, [], ap, arith, cond, eqb, false, length, refl, set, subst, sym, true, ℕ, ◌++◌, ◌+◌, ◌-◌, ◌<◌, ◌^◌, ◌∙◌, ◌∷◌, ◌≡◌, ◌≤◌}
-use Rattle.node_pool.proofs.Shared.{eq-eqb, eqb-false, eqb-true, ne_eqb, length-set, Node, fresh, Payload, Contents, IsContents, AreBelow, AreFlagsOf, HasUnused, IsLeastUnused, flag, without_ids, IsKept, state_of, ArePlacesOf, noted, AreDistinct, has, place_of, used, with_children, with_count, IsBoundary, between, exchanged, since, swapped, until, without, State, Inside}
+use Rattle.node_pool.proofs.Shared.{eq-eqb, eqb-false, eqb-true, ne_eqb, length-set, Node, fresh, Payload, Contents, IsContents, AreBelow, AreFlagsOf, HasUnused, IsLeastUnused, flag, without_ids, IsKept, state_of, ArePlacesOf, noted, AreDistinct, has, place_of, used, with_children, with_count, IsBoundary, between, exchanged, put_before, since, swapped, until, without, State, Inside}
 use Rattle.node_pool.proofs.Cuts.{AreDistinct-swap, AreDistinct-without, boundary_le, cut, cut3, until-since}
 use Rattle.node_pool.proofs.Exchanges.{AreBlocks, are_exchanged, blocks_of, exchanged_places, half}
 use Rattle.node_pool.proofs.Found.{AreDistinct-same, found, has-same}
 use Rattle.node_pool.proofs.Ids.{AreApart, AreApart-parts, AreApart-sym, AreDistinct-append, AreDistinct-parts, has-append, not_both, or_is_false}
 use Rattle.node_pool.proofs.Marks.{below, flag-set, flag-without_ids, flag_inside, length-without_ids, unused}
-use Rattle.node_pool.proofs.Noting.{closed_part, closed_places, length-noted, place-same, pushed_places, turned, turned_end, turned_places, turned_start}
+use Rattle.node_pool.proofs.Noting.{before_places, closed_part, closed_places, last_places, length-noted, place-same, pushed_places, turned, turned_end, turned_places, turned_start}
 use Rattle.node_pool.proofs.Sizes.{length_le_used}
 
 -- what is known of a pool's nodes is known of its buffer's
@@ -187,6 +187,46 @@ placed p q id x k u t s e h =
         same true = refl
         same false = refl
 
+-- before others
+neither : (x y : Bool) → cond x true y ≡ false → (x ≡ false) × (y ≡ false)
+neither true y h = absurd cc
+neither false y h = (refl, h)
+
+both_ways : (a b : ℕ) (t : Bool) → eqb a b ≡ t → eqb b a ≡ t
+both_ways a b true e = eq-eqb b a (sym (eqb-true a b e))
+both_ways a b false e = ne_eqb b a (λ q. eqb-false a b e (sym q))
+
+among : (i id : ℕ) (x y : Bool) → cond (eqb i id) true (cond x true y) ≡ cond x true (cond (eqb id i) true y)
+among i id x y = rw (both_ways id i (eqb id i) refl) (either x (eqb id i))
+  where
+    either : (x t : Bool) → cond t true (cond x true y) ≡ cond x true (cond t true y)
+    either true true = refl
+    either true false = refl
+    either false t = refl
+
+-- the nodes behind a place
+pub behind_known : (p : Inside) (to : ℕ) → IsKept p → AreBelow (length p.places) (since to p.buffer.nodes)
+behind_known p to k = below (length p.places) _ (λ i h. inside p k i (since_has i to p.buffer.nodes h))
+
+pub new_known : (p : Inside) (n : Node) (at : ℕ) → IsKept p → IsLeastUnused n.id p.taken → AreBelow (length p.places) (n ∷ since at p.buffer.nodes)
+new_known p n at k u = (omega (arith, u.inside, k.flags_length, k.places_length), behind_known p at k)
+
+pub placed_before : (p q : Inside) (n : Node) (at : ℕ) → IsKept p → IsBoundary at p.buffer.nodes → IsLeastUnused n.id p.taken → q.taken ≡ set p.taken n.id true → q.places ≡ noted at (n ∷ since at p.buffer.nodes) p.places
+    → q.buffer ≡ record p.buffer { nodes = put_before at n p.buffer.nodes } → IsContents q.buffer → IsKept q
+placed_before p q n at k b u t s e h =
+    let ns = p.buffer.nodes in
+    let a = until at ns in
+    let c = since at ns in
+    let whole : ns ≡ a ++ c = sym (until-since at ns) in
+    let free : has n.id (a ++ c) ≡ false = ap (has n.id) (sym whole) ∙ sym (k.flags n.id) ∙ u.unused in
+    let no = neither _ _ (sym (has-append n.id a c) ∙ free) in
+    let d = AreDistinct-parts a c (subst AreDistinct whole k.pool.distinct) in
+    let distinct : AreDistinct (a ++ n ∷ c) = AreDistinct-append a (n ∷ c) d.0 (no.1, d.1) (AreApart-sym (n ∷ c) a (no.0, AreApart-sym a c d.2)) in
+    kept p q (a ++ n ∷ c) k e h (ap length t ∙ length-set p.taken n.id true) (ap length s ∙ length-noted at (n ∷ c) p.places) distinct
+    (λ i. ap (flag i) t ∙ flag-set i n.id p.taken true u.inside ∙ ap (λ (x : Bool). cond (eqb i n.id) true x) (k.flags i ∙ ap (has i) whole ∙ has-append i a c) ∙ among i n.id (has i a) (has i c) ∙ sym (has-append i a (n ∷ c)))
+    (subst (ArePlacesOf (a ++ n ∷ c)) (sym s)
+    (last_places a (n ∷ c) at p.places b distinct (new_known p n at k u) (before_places a c p.places (subst (λ (x : List Node). ArePlacesOf x p.places) whole k.places))))
+
 -- a pool with room for a node has an identifier for it
 pub room_unused : (p : Inside) (needed : ℕ) → IsKept p → 8 ≤ needed → needed ≤ p.buffer.size - used p.buffer.nodes → HasUnused p.taken
 room_unused p needed k h room = unused p.buffer.nodes p.taken k.flags (omega (arith, k.flags_length, length_le_used p.buffer.nodes, k.pool.fits))
@@ -206,10 +246,6 @@ without_has i a b c d = by_test (has i b) refl (AreDistinct-parts a (b ++ c) d)
 
 pub between_below : (p : Inside) (at to : ℕ) → IsKept p → IsBoundary at p.buffer.nodes → IsBoundary to p.buffer.nodes → at ≤ to → AreBelow (length p.taken) (between at to p.buffer.nodes)
 between_below p at to k a b le = below (length p.taken) _ (λ i h. flag_inside i p.taken (k.flags i ∙ between_has i at to p.buffer.nodes a b le h))
-
--- the nodes behind a place
-pub behind_known : (p : Inside) (to : ℕ) → IsKept p → AreBelow (length p.places) (since to p.buffer.nodes)
-behind_known p to k = below (length p.places) _ (λ i h. inside p k i (since_has i to p.buffer.nodes h))
 
 pub removed_block : (p q : Inside) (at to : ℕ) → IsKept p → IsBoundary at p.buffer.nodes → IsBoundary to p.buffer.nodes → at ≤ to → q.taken ≡ without_ids (between at to p.buffer.nodes) p.taken
     → q.places ≡ noted at (since to p.buffer.nodes) p.places → q.buffer ≡ record p.buffer { nodes = without at to p.buffer.nodes } → IsContents q.buffer → IsKept q

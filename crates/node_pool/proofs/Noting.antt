@@ -154,27 +154,31 @@ turned_end {k = k} t =
 pub turned_places : {i k : ℕ} {ns ms : List Node} (ps : List ℕ) → IsTurned i k ns ms → AreDistinct ns → AreDistinct ms → AreBelow (length ps) (between i k ms) → ArePlacesOf ns ps → ArePlacesOf ms (noted i (between i k ms) ps)
 turned_places ps t h k l m = grind (arith, between_middle, outside, renoted)
 
+-- ---- the last nodes
+
+pub last_part : (a m : List Node) (at : ℕ) → used a ≡ at → between at (used (a ++ m)) (a ++ m) ≡ m
+last_part a m at e =
+    let alone : a ++ (m ++ []) ≡ a ++ m = ap (λ (x : List Node). a ++ x) (append-nil m) in
+    ap (between at (used (a ++ m))) (sym alone) ∙ between_middle a m [] at (used (a ++ m)) e (omega (arith, used-append a m, e))
+
+pub last_places : (a m : List Node) (at : ℕ) (ps : List ℕ) → used a ≡ at → AreDistinct (a ++ m) → AreBelow (length ps) m → ((i : ℕ) → has i a ≡ true → place_in i ps ≡ place_of i a) → ArePlacesOf (a ++ m) (noted at m ps)
+last_places a m at ps e d below h =
+    let alone : a ++ (m ++ []) ≡ a ++ m = ap (λ (x : List Node). a ++ x) (append-nil m) in
+    let r = renoted a m [] ps (subst AreDistinct (sym alone) d) below (record { before = h; behind = λ i e. absurd cc }) in
+    subst (λ (x : List Node). ArePlacesOf x (noted at m ps)) alone (subst (λ (j : ℕ). ArePlacesOf (a ++ (m ++ [])) (noted j m ps)) e r)
+
 -- ---- a block goes
 
 pub closed_part : (at to : ℕ) (ns : List Node) → IsBoundary at ns → between at (used (without at to ns)) (without at to ns) ≡ since to ns
-closed_part at to ns b =
-    let a = until at ns in
-    let c = since to ns in
-    let alone : a ++ (c ++ []) ≡ a ++ c = ap (λ (x : List Node). a ++ x) (append-nil c) in
-    ap (between at (used (a ++ c))) (sym alone) ∙ between_middle a c [] at (used (a ++ c)) b (sym (used-append a c))
+closed_part at to ns b = last_part (until at ns) (since to ns) at b
 
 pub closed_places : (at to : ℕ) (ns : List Node) (ps : List ℕ) → IsBoundary at ns → AreDistinct (without at to ns) → AreBelow (length ps) (between at (used (without at to ns)) (without at to ns)) → ArePlacesOf ns ps
     → ArePlacesOf (without at to ns) (noted at (between at (used (without at to ns)) (without at to ns)) ps)
 closed_places at to ns ps b d below h =
     let a = until at ns in
-    let c = since to ns in
-    let ms = without at to ns in
-    let alone : a ++ (c ++ []) ≡ ms = ap (λ (x : List Node). a ++ x) (append-nil c) in
     let part = closed_part at to ns b in
-    let o : AreOutside a c [] ps = record { before = before_places a (since at ns) ps (subst (λ (x : List Node). ArePlacesOf x ps) (sym (until-since at ns)) h); behind = λ i e. absurd cc } in
-    let r = renoted a c [] ps (subst AreDistinct (sym alone) d) (subst (AreBelow (length ps)) part below) o in
-    subst (λ (x : List Node). ArePlacesOf x (noted at (between at (used ms) ms) ps)) alone
-    (subst (λ (m : List Node). ArePlacesOf (a ++ (c ++ [])) (noted at m ps)) (sym part) (subst (λ (j : ℕ). ArePlacesOf (a ++ (c ++ [])) (noted j c ps)) b r))
+    let first = before_places a (since at ns) ps (subst (λ (x : List Node). ArePlacesOf x ps) (sym (until-since at ns)) h) in
+    subst (λ (m : List Node). ArePlacesOf (without at to ns) (noted at m ps)) (sym part) (last_places a (since to ns) at ps b d (subst (AreBelow (length ps)) part below) first)
 
 -- ---- one node more
 

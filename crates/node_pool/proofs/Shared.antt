@@ -16,9 +16,9 @@ unfoldable pub use Rattle.node_pool.specs.Contents.{nodes_of}
 pub use Rattle.node_pool.specs.Flags.{AreBelow, AreFlagsOf, AreTakenBelow, HasUnused, IsLeastUnused, flag, without_ids}
 pub use Rattle.node_pool.specs.Kept.{IsKept, state_of}
 pub use Rattle.node_pool.specs.Laid.{IsLaid, contents_of}
-pub use Rattle.node_pool.specs.Nodes.{AreDistinct, AreNodes, encodings, first_of, has, payload_of_id, place_of, used, with_children, with_count}
+pub use Rattle.node_pool.specs.Nodes.{AreDistinct, AreNodes, encodings, first_of, has, parent, payload_of_id, place_of, used, with_children, with_count}
 pub use Rattle.node_pool.specs.Noted.{ArePlacesOf, noted, place_in}
-pub use Rattle.node_pool.specs.Places.{IsBoundary, between, exchanged, moved, since, swapped, until, without}
+pub use Rattle.node_pool.specs.Places.{IsBoundary, between, exchanged, moved, put_before, since, swapped, until, without}
 pub use Rattle.node_pool.specs.State.{IsPoolSize, State, free_of}
 pub use Rattle.node_pool.specs.Unheld.{owed_behind, unheld}
 pub use Rattle.node_pool.specs.declared.pool.Pool.TheInside.{Inside}

@@ -1,6 +1,6 @@
 -- Bytes that move or go.
 use Rattle.std.proofs.Common.{List, ap, append_assoc, arith, drop, length, refl, replicate, sym, take, ℕ, ◌++◌, ◌+◌, ◌-◌, ◌∙◌, ◌≡◌, ◌≤◌}
-use Rattle.node_pool.proofs.Shared.{drop-drop, drop_at, length-append, length-drop, length-take-le, take-append-drop, take_at, cleared, rotated, slid, switched}
+use Rattle.node_pool.proofs.Shared.{drop-drop, drop_at, length-append, length-drop, length-take-le, take-append-drop, take-take, take_at, cleared, put, rotated, slid, switched}
 
 -- a part goes, what is behind it closes up, and zeros come to the end
 pub closed_up : (a b c z store s1 : List ℕ) (i len j : ℕ) → store ≡ a ++ (b ++ (c ++ z)) → length a ≡ i → length b ≡ len → length c ≡ j → s1 ≡ slid store (i + len) i j
@@ -18,6 +18,22 @@ closed_up a b c z store s1 i len j e ha hb hc q =
     ∙ drop-drop len (i + j) store ∙ ap (λ (n : ℕ). drop n store) (omega arith) ∙ sym (drop-drop j (i + len) store) ∙ ap (λ (x : List ℕ). drop j x) at-c ∙ drop_at c z j hc in
     let gap : i + len + j - (i + j) ≡ len = omega arith in
     rw (kept, gap, over) refl
+
+-- a part moves up by eight bytes, and others fill the gap
+pub opened_up : (a b g w z store s1 : List ℕ) (i j : ℕ) → store ≡ a ++ (b ++ (g ++ z)) → length a ≡ i → length b ≡ j → length g ≡ 8 → length w ≡ 8 → s1 ≡ slid store i (i + 8) j → put s1 i w ≡ a ++ (w ++ (b ++ z))
+opened_up a b g w z store s1 i j e ha hb hg hw q =
+    let at-b : drop i store ≡ b ++ (g ++ z) = ap (drop i) e ∙ drop_at a (b ++ (g ++ z)) i ha in
+    let piece : take j (drop i store) ≡ b = ap (take j) at-b ∙ take_at b (g ++ z) j hb in
+    let at-z : drop (i + 8 + j) store ≡ z =
+    ap (λ (n : ℕ). drop n store) (omega arith) ∙ sym (drop-drop (j + 8) i store) ∙ ap (λ (x : List ℕ). drop (j + 8) x) (at-b ∙ sym (append_assoc b g z)) ∙ drop_at (b ++ g) z (j + 8) (omega (arith, length-append b g)) in
+    let t = take (i + 8) store in
+    let now : s1 ≡ t ++ (b ++ z) = q ∙ rw (piece, at-z) refl in
+    let long : length t ≡ i + 8 = length-take-le (i + 8) store (omega (arith, ap length e, length-append a (b ++ (g ++ z)), length-append b (g ++ z), length-append g z)) in
+    let kept : length (take i t) ≡ i = length-take-le i t (omega (arith, long)) in
+    let split : s1 ≡ take i t ++ (drop i t ++ (b ++ z)) = now ∙ ap (λ (x : List ℕ). x ++ (b ++ z)) (sym (take-append-drop i t)) ∙ append_assoc (take i t) (drop i t) (b ++ z) in
+    let front : take i s1 ≡ a = ap (take i) split ∙ take_at (take i t) (drop i t ++ (b ++ z)) i kept ∙ take-take i (i + 8) store (omega arith) ∙ ap (take i) e ∙ take_at a (b ++ (g ++ z)) i ha in
+    let behind : drop (i + length w) s1 ≡ b ++ z = ap (λ (n : ℕ). drop (i + n) s1) hw ∙ ap (drop (i + 8)) now ∙ drop_at t (b ++ z) (i + 8) long in
+    rw (front, behind) refl
 
 pub turned : (a x y d store : List ℕ) (i j k : ℕ) → store ≡ a ++ (x ++ (y ++ d)) → length a ≡ i → length x ≡ j - i → length y ≡ k - j → i ≤ j → j ≤ k → rotated store i j k ≡ a ++ ((y ++ x) ++ d)
 turned a x y d store i j k e ha hx hy h1 h2 =

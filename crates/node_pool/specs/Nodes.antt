@@ -1,6 +1,7 @@
 -- Lists of nodes: their bytes, and the nodes by their identifiers.
 use Rattle.std.specs.Prelude.{ℕ, ◌≡◌, ◌<◌, ◌+◌, ◌==◌, if◌then◌else◌, List, [], ◌∷◌, ◌++◌, Bool, true, false}
 use Rattle.calc_terms.specs.declared.kind.Kind.TheVariants as kind
+use Rattle.calc_terms.specs.declared.kind.Kind.{Kind}
 use Rattle.calc_terms.specs.Payload.{Payload, bare}
 use Rattle.calc_terms.specs.Node.{Node, size_of, encoding, IsNode}
 
@@ -60,3 +61,7 @@ blank = record { id = 0; count = 0; children = 0; payload = bare kind.Undef }
 abbrev pub first_of : List Node → Node
 first_of [] = blank
 first_of (n ∷ ns) = n
+
+-- a new node that holds a kind alone, over so many trees
+abbrev pub parent : ℕ → Kind → ℕ → Node
+parent id k children = record { id = id; count = 1; children = children; payload = bare k }

@@ -36,3 +36,7 @@ moved from len to ns = if nat_le to from then swapped to from (from + len) ns el
 -- the nodes from a to before b and those from c to before d change places
 abbrev pub exchanged : ℕ → ℕ → ℕ → ℕ → List Node → List Node
 exchanged a b c d ns = until a ns ++ (between c d ns ++ (between b c ns ++ (between a b ns ++ since d ns)))
+
+-- one node more, before the nodes that begin at a place
+abbrev pub put_before : ℕ → Node → List Node → List Node
+put_before at n ns = until at ns ++ n ∷ since at ns

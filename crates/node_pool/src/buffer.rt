@@ -2,16 +2,16 @@
 ghost use Rattle.std.specs.Prelude.{◌≡◌, ◌+◌, ◌-◌, ◌<◌, ◌≤◌, ◌⊎◌, [], ◌∷◌, ◌++◌, ◌^◌, length, IfOk, true};
 ghost use Rattle.calc_terms.specs.declared.kind.Kind.TheVariants.{Num, Sym};
 ghost use Rattle.calc_terms.specs.Rat.{ratio_of};
-ghost use Rattle.calc_terms.specs.Payload.{rational, named, kind_of_payload, size_of_payload};
+ghost use Rattle.calc_terms.specs.Payload.{rational, named, is_bare, kind_of_payload, size_of_payload};
 ghost use Rattle.calc_terms.specs.Leaf.{payload_of, name_of, IsUsable};
 ghost use Rattle.calc_terms.specs.Node.{header_of, fresh, size_of, size_of_header};
-ghost use Rattle.node_pool.specs.Nodes.{used, has, place_of, first_of, payload_of_id, with_count, with_children};
-ghost use Rattle.node_pool.specs.Places.{since, between, without, swapped, exchanged, IsBoundary};
+ghost use Rattle.node_pool.specs.Nodes.{used, has, place_of, first_of, payload_of_id, with_count, with_children, parent};
+ghost use Rattle.node_pool.specs.Places.{since, between, without, swapped, exchanged, put_before, IsBoundary};
 ghost use Rattle.node_pool.specs.Contents.{bytes_in, IsContents};
 
 use crate::node;
 use crate::store::Store;
-use calc_terms::{Header, Leaf, Name, Rat, size_by_code};
+use calc_terms::{Header, Kind, Leaf, Name, Rat, size_by_code};
 use std::alloc::{AllocError, Global};
 use std::marker::Model;
 
@@ -151,6 +151,28 @@ impl Buffer {
     {
         node::write_node(&mut self.store, self.used, header, leaf);
         self.used += size;
+        self.count += 1;
+    }
+
+    /// A new node that holds a kind alone, over so many trees, before the node that begins at a place or at the end.
+    pub fn insert(&mut self, at: u32, id: u16, kind: Kind, children: u16)
+        requires boundary { IsBoundary at self.old.nodes }
+        requires bare { is_bare kind ≡ true }
+        requires room { 8 ≤ self.old.size - used self.old.nodes }
+        ensures nodes { self.new ≡ record self.old { nodes = put_before at (parent id kind children) self.old.nodes } }
+        ensures kept { IsContents self.new }
+    {
+        let used = self.used;
+        self.store.slide(at, at + 8, used - at);
+        let header = Header {
+            kind,
+            short: false,
+            id,
+            count: 1,
+            children,
+        };
+        node::write_header(&mut self.store, at, header);
+        self.used = used + 8;
         self.count += 1;
     }
 

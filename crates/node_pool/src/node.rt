@@ -152,8 +152,8 @@ fn is_short_at(store: &Store, at: u32) -> bool
     store.get(at + 1) == 1
 }
 
-/// The eight bytes are written at once.
-fn write_header(store: &mut Store, at: u32, header: Header)
+/// Writes the header of the node at a place, its eight bytes at once.
+pub fn write_header(store: &mut Store, at: u32, header: Header)
     requires inside { at + 8 ≤ length store.old }
     requires small { length store.old < 2 ^ 32 }
     ensures put { store.new ≡ put store.old at (header_bytes header) }

@@ -2,11 +2,11 @@
 ghost use Rattle.std.specs.Prelude.{◌≡◌, ◌+◌, ◌-◌, ◌≤◌, ◌<◌, ◌↔◌, ◌⊎◌, [], ◌∷◌, ◌++◌, ◌^◌, length, IfOk, IfErr, IsOk, OnOk, true};
 ghost use Rattle.calc_terms.specs.declared.kind.Kind.TheVariants.{Num, Sym};
 ghost use Rattle.calc_terms.specs.Rat.{ratio_of};
-ghost use Rattle.calc_terms.specs.Payload.{rational, named, kind_of_payload, size_of_payload};
+ghost use Rattle.calc_terms.specs.Payload.{rational, named, bare, is_bare, kind_of_payload, size_of_payload};
 ghost use Rattle.calc_terms.specs.Leaf.{payload_of, name_of, IsUsable};
 ghost use Rattle.calc_terms.specs.Node.{header_of, fresh, size_of};
-ghost use Rattle.node_pool.specs.Nodes.{used, has, place_of, first_of, payload_of_id, with_count, with_children, IsLeastFree};
-ghost use Rattle.node_pool.specs.Places.{since, between, without, swapped, moved, exchanged, IsBoundary};
+ghost use Rattle.node_pool.specs.Nodes.{used, has, place_of, first_of, payload_of_id, with_count, with_children, parent, IsLeastFree};
+ghost use Rattle.node_pool.specs.Places.{since, between, without, swapped, moved, exchanged, put_before, IsBoundary};
 ghost use Rattle.node_pool.specs.Contents.{IsContents};
 ghost use Rattle.node_pool.specs.Flags.{AreBelow};
 ghost use Rattle.node_pool.specs.Noted.{noted};
@@ -18,9 +18,12 @@ use crate::full::Full;
 use crate::id::Id;
 use crate::identifiers::{Identifiers, release_block, release_unheld};
 use crate::places::{Places, note_block};
-use calc_terms::{Header, Leaf, Name, Rat};
+use calc_terms::{Header, Kind, Leaf, Name, Rat};
 use std::alloc::{AllocError, Global};
 use std::marker::Model;
+
+/// The bytes of a node that holds a kind alone.
+const HEADER: u32 = 8;
 
 /// Nodes side by side in a buffer of one capacity, and zeros behind them.
 #[derive(Drop)]
@@ -196,6 +199,32 @@ impl Pool {
         self.places.note(id, at);
         header.id = id;
         self.buffer.push(header, needed, leaf);
+        Ok(Id::of(id))
+    }
+
+    /// A new node that holds a kind alone, over so many trees, before the node that begins at `at` or at the end.
+    #[tactic(auto, using(calc_terms::proofs::Sizes::bare_size))]
+    pub fn insert(&mut self, at: u32, kind: Kind, children: u16) -> Result<Id, Full>
+        requires boundary { IsBoundary at self.old.nodes }
+        requires bare { is_bare kind ≡ true }
+        ensures ok { IfOk result (λ id. self.new ≡ record self.old { nodes = put_before at (parent id kind children) self.old.nodes }) }
+        ensures least { IfOk result (λ id. IsLeastFree id self.old.nodes) }
+
+        // Refused exactly where the node is larger than what is free. Only the refusal is kept.
+        ensures exactly { IsOk result ↔ (size_of_payload (bare kind) ≤ free_of self.old) }
+        ensures full { IfErr result (λ full. full ≡ record { needed = size_of_payload (bare kind); free = free_of self.old }) }
+        ensures counted { IfErr result (λ full. self.new ≡ refused self.old full) }
+
+        ensures pool { IsPool self.new }
+    {
+        if self.free() < HEADER {
+            return Err(self.refuse(HEADER));
+        }
+        let id = self.taken.take_least();
+        let buffer = &mut self.buffer;
+        buffer.insert(at, id, kind, children);
+        let used = buffer.used();
+        note_block(&mut self.places, buffer, at, used);
         Ok(Id::of(id))
     }
 

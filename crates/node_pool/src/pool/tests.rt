@@ -220,3 +220,19 @@ fn blocks_of_two_lengths_change_places(rt: HostRuntime) -> Result<(), Fail> {
     assert_eq!(rt; pool.bytes(), bytes.as_slice());
     Ok(())
 }
+
+#[test]
+fn a_node_comes_before_its_children(rt: HostRuntime) -> Result<(), Fail> {
+    let mut pool = Pool::open(rt.alloc(), 64)?;
+    pool.place(Leaf::Plain(Kind::Undef))?;
+    pool.place(Leaf::Sym(Name::ans()))?;
+    let sum = pool.insert(8, Kind::Add, 1)?;
+    let bytes = [
+        3, 0, 0, 0, 1, 0, 0, 0, 4, 0, 2, 0, 1, 0, 1, 0, 2, 0, 1, 0, 1, 0, 0, 0, 97, 110, 115, 0, 0,
+        0, 0, 0, 0, 0, 0, 0, 0, 0, 0, 0, 0, 0, 0, 0, 0, 0, 0, 0, 0, 0, 0, 0, 0, 0, 0, 0, 0, 0, 0,
+        0, 0, 0, 0, 0,
+    ];
+    assert_eq!(rt; pool.bytes(), bytes.as_slice());
+    assert_eq!(rt; pool.locate(sum), 8);
+    Ok(())
+}

@@ -1,0 +1,79 @@
+use Rattle.std.proofs.Common.{arith, refl, ap, length, ◌+◌, ◌-◌, ◌≤◌, ◌∙◌, ◌≡◌, ℕ}
+use Rattle.node_pool.proofs.Shared.{Node, IsNode, Contents, contents_of, IsBoundary, size_of, used, parent, put, put_before}
+use Rattle.node_pool.specs.declared.buffer.Buffer.TheInside.{Inside}
+use Rattle.raw_region.proofs.Slides.{length-slid}
+use Rattle.node_pool.proofs.Cuts.{boundary_le}
+use Rattle.node_pool.proofs.Sizes.{length_le_used}
+use Rattle.node_pool.proofs.Fields.{IsDone, IsOf, opened, size_is}
+use Rattle.node_pool.proofs.Changes.{done, inserted, parent_bytes, parent_node}
+use Rattle.node_pool.proofs.buffer.Buffer.insert.Goals as goal
+
+-- the new node's bytes are within the store
+fits : (p : Inside) (s : Contents) (at : ℕ) → IsOf p s.nodes → contents_of p ≡ s → IsBoundary at s.nodes → 8 ≤ s.size - used s.nodes → (at ≤ p.used) × (p.used + 8 ≤ length p.store) × (length p.store ≤ 524280) × (p.count + 1 ≤ 524281)
+fits p s at o e b room = (
+  omega (arith, boundary_le at s.nodes b, o.used),
+  omega (arith, o.used, o.fits, room, size_is p s e),
+  o.small,
+  omega (arith, o.count, length_le_used s.nodes, o.fits, o.small),
+)
+
+pub overflow_add-at : goal.overflow_add-at
+overflow_add-at c =
+    let f = fits c.self.inside c.args.self.now c.args.at (opened c.self.inside c.args.self.now c.self.invariant c.self.view_is) c.self.view_is c.requires.boundary c.requires.room in
+    record { fits = omega (arith, f.0, f.1, f.2) }
+
+pub slide-requires-clause-source : goal.slide-requires-clause-source
+slide-requires-clause-source c =
+    let f = fits c.self.inside c.args.self.now c.args.at (opened c.self.inside c.args.self.now c.self.invariant c.self.view_is) c.self.view_is c.requires.boundary c.requires.room in
+    omega (arith, f.0, f.1)
+
+pub slide-requires-clause-target : goal.slide-requires-clause-target
+slide-requires-clause-target c =
+    let f = fits c.self.inside c.args.self.now c.args.at (opened c.self.inside c.args.self.now c.self.invariant c.self.view_is) c.self.view_is c.requires.boundary c.requires.room in
+    omega (arith, f.0, f.1)
+
+pub write_header-requires-clause-inside : goal.write_header-requires-clause-inside
+write_header-requires-clause-inside c =
+    let p = c.self.inside in
+    let f = fits p c.args.self.now c.args.at (opened p c.args.self.now c.self.invariant c.self.view_is) c.self.view_is c.requires.boundary c.requires.room in
+    omega (arith, f.0, f.1, ap length c.slide.ensures, length-slid p.store c.args.at (c.args.at + 8) (p.used - c.args.at) (omega (arith, f.0, f.1)) (omega (arith, f.0, f.1)))
+
+pub write_header-requires-clause-small : goal.write_header-requires-clause-small
+write_header-requires-clause-small c =
+    let p = c.self.inside in
+    let f = fits p c.args.self.now c.args.at (opened p c.args.self.now c.self.invariant c.self.view_is) c.self.view_is c.requires.boundary c.requires.room in
+    omega (arith, f.2, ap length c.slide.ensures, length-slid p.store c.args.at (c.args.at + 8) (p.used - c.args.at) (omega (arith, f.0, f.1)) (omega (arith, f.0, f.1)))
+
+pub overflow_add-self : goal.overflow_add-self
+overflow_add-self c =
+    let f = fits c.self.inside c.args.self.now c.args.at (opened c.self.inside c.args.self.now c.self.invariant c.self.view_is) c.self.view_is c.requires.boundary c.requires.room in
+    record { fits = omega (arith, f.1, f.2) }
+
+pub overflow_add-self-2 : goal.overflow_add-self-2
+overflow_add-self-2 c =
+    let f = fits c.self.inside c.args.self.now c.args.at (opened c.self.inside c.args.self.now c.self.invariant c.self.view_is) c.self.view_is c.requires.boundary c.requires.room in
+    record { fits = omega (arith, f.3) }
+
+pub overflow_sub-used : goal.overflow_sub-used
+overflow_sub-used c =
+    let o = opened c.self.inside c.args.self.now c.self.invariant c.self.view_is in
+    omega (arith, boundary_le c.args.at c.args.self.now.nodes c.requires.boundary, o.used)
+
+all : (c : goal.After-self-2-1) → IsDone c.args.self.now (record { store = c.write_header.new.store; used = c.self.inside.used + 8; count = c.self.inside.count + 1 }) (put_before c.args.at (parent c.args.id c.args.kind c.args.children) c.args.self.now.nodes)
+all c =
+    let s = c.args.self.now in
+    let p = c.self.inside in
+    let o = opened p s c.self.invariant c.self.view_is in
+    let n : Node = parent c.args.id c.args.kind c.args.children in
+    let bytes = c.write_header.ensures.put ∙ ap (put c.slide.new.self c.args.at) (parent_bytes c.args.id c.args.children c.args.kind _ refl) in
+    done p _ s _ c.self.view_is (inserted p _ c.slide.new.self s.nodes n c.args.at o c.requires.boundary (parent_node c.args.id c.args.children c.args.kind (omega arith) (omega arith) c.requires.bare)
+    (omega (arith, c.requires.room, size_is p s c.self.view_is)) c.slide.ensures bytes refl refl)
+
+pub invariant_of-self : goal.invariant_of-self
+invariant_of-self c = (all c).laid
+
+pub returns-clause-nodes : goal.returns-clause-nodes
+returns-clause-nodes c = (all c).nodes
+
+pub returns-clause-kept : goal.returns-clause-kept
+returns-clause-kept c = (all c).kept
