@@ -15,8 +15,8 @@ pub use Rattle.node_pool.proofs.Sizes.{AreNodes-right, length_le_used, size_from
 pub use Rattle.node_pool.proofs.Splits.{between-append, boundary-append, moved_left, moved_right, place_of-append, with_children-append, with_count-append, without-append}
 pub use Rattle.node_pool.proofs.Unheld.{unheld_more}
 pub use Rattle.node_pool.proofs.Walk.{since-zero, since_end, starts}
-pub use Rattle.node_pool.specs.Nodes.{AreDistinct, AreNodes, first_of, has, payload_of_id, place_of, used, with_children, with_count}
-pub use Rattle.node_pool.specs.Places.{IsBoundary, between, exchanged, moved, since, until, without}
+pub use Rattle.node_pool.specs.Nodes.{AreDistinct, AreNodes, first_of, has, parent, payload_of_id, place_of, used, with_children, with_count}
+pub use Rattle.node_pool.specs.Places.{IsBoundary, between, exchanged, moved, put_before, since, until, without}
 pub use Rattle.node_pool.specs.State.{IsPool, IsPoolSize, State, free_of, refused}
 pub use Rattle.node_pool.specs.Unheld.{owed_behind, unheld}
 pub use Rattle.node_pool.specs.declared.full.Full.{Full}

@@ -96,10 +96,8 @@ pub fn node_over_last(pool: &mut Pool, kind: Kind, trees: u16, begin: u32) -> Re
     ensures exactly { IsOk result ↔ (size_of_payload (bare kind) ≤ free_of pool.old) }
     ensures stands { Stands pool.new }
 {
-    let end = pool.used();
-    let parent = node(pool, kind)?;
-    let len = pool.used() - end;
-    pool.move_block(end, len, begin);
-    pool.set_children(parent.id(), trees);
-    Ok(parent)
+    match pool.insert(begin, kind, trees) {
+        Ok(id) => Ok(Handle::of(id)),
+        Err(full) => Err(full),
+    }
 }
