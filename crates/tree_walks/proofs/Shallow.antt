@@ -1,5 +1,12 @@
--- A tree is as deep as it has nodes at most.
-use Rattle.std.proofs.Common.{◌≤◌, arith}
+-- A tree is as deep as it has nodes at most, and each node takes eight bytes at least.
+use Rattle.std.proofs.Common.{ℕ, ◌+◌, ◌*◌, ◌≤◌, ◌≡◌, ◌++◌, true, ap, length, arith}
+use Rattle.tree_walks.proofs.Shared.{State, Stands, forest, holds, nodes_in, tree_at, flatten, length-append}
+use Rattle.node_pool.specs.Nodes.{used, place_of}
+use Rattle.node_pool.specs.Places.{since, until, IsBoundary}
+use Rattle.node_pool.proofs.Cuts.{until-since}
+use Rattle.node_pool.proofs.Sizes.{length_le_used, used-append}
+use Rattle.tree_handles.proofs.Forests.{nodes-flatten}
+use Rattle.tree_handles.proofs.Measures.{before}
 use Rattle.calc_terms.specs.Trees.{Tree, Trees, add, depth, depths, div, more, mult, neg, nodes, nodes_of, none, num, power, root, sub, symbol, undef}
 
 mutual
@@ -18,3 +25,10 @@ mutual
   depths_within : (ts : Trees) → depths ts ≤ nodes_of ts
   depths_within none = omega arith
   depths_within (more t ts) = omega (arith, depth_within t, depths_within ts)
+
+pub nodes_behind : (i at end : ℕ) (s : State) → Stands s → holds i (forest s) ≡ true → at ≡ place_of i s.nodes → IsBoundary at s.nodes → end ≡ used s.nodes → at + 8 * nodes_in (tree_at i (forest s)) ≤ end
+nodes_behind i at end s st live e b u =
+    let p = before i at s st live e in
+    let all = since at s.nodes in
+    let behind = flatten p.below ++ p.behind in
+    omega (arith, ap nodes_in p.tree-is, nodes-flatten p.below, ap length p.nodes, length-append (flatten p.below) p.behind, length_le_used all, used-append (until at s.nodes) all, ap used (until-since at s.nodes), b)

@@ -17,8 +17,11 @@ pub fn is_deeper(pool: &Pool, id: Id) -> bool
     requires expression { IsExpression id (forest pool.now) }
     ensures { IsTrue result ↔ (64 < depth (plain (tree_at id (forest pool.now)))) }
 {
+    // Each level has a node, and no node takes fewer than eight bytes.
+    if pool.used() - pool.locate(id) <= 8 * DEPTH_LIMIT as u32 {
+        return false;
+    }
     if tree_nodes(pool, id) <= DEPTH_LIMIT as u32 {
-        // Each level has a node.
         return false;
     }
     has_deeper_level(pool, id)
