@@ -57,7 +57,7 @@ no_inverse y w z i =
 no_power : (k : ℤ) (w v : Surd) → Agree w [] → k ≤ℤ pos 0 → IsWholePower k w v → ⊥
 no_power k w v z l h = grind (arith, Agree-Same, no_inverse)
 
-no_root : (z : ℤ) (d : ℕ) (v : Surd) → int_is_negative z ≡ true → IsRootOf z d v → ⊥
+pub no_root : (z : ℤ) (d : ℕ) (v : Surd) → int_is_negative z ≡ true → IsRootOf z d v → ⊥
 no_root z d v h i = grind arith
 
 no_negative_power : (k : ℤ) (w v : Surd) → Agree w [] → int_is_negative k ≡ true → IsWholePower k w v → ⊥

@@ -13,7 +13,7 @@ even_abs z h = grind arith
 odd_abs : (z : ℤ) → int_is_even z ≡ false → nat_abs z % 2 ≡ 1
 odd_abs z h = grind arith
 
-one_is_not_two : (a b : ℕ) → a ≡ 1 → b ≡ 2 → a ≡ b → ⊥
+pub one_is_not_two : (a b : ℕ) → a ≡ 1 → b ≡ 2 → a ≡ b → ⊥
 one_is_not_two a b h k e = absurd (omega arith)
 
 -- a numerator over 2 is odd

@@ -5,6 +5,7 @@ use Rattle.calc_algebra.proofs.Shared.{times_comm, one_times, zero_plus, Fractio
 use Rattle.std.proofs.lemmas.List.{get_or-map, length-map}
 use Rattle.calc_algebra.proofs.SquareClassLaws.{Same-trans, Same-Agree}
 use Rattle.calc_algebra.proofs.SurdLaws.{Agree, Agree-refl, Agree-sym, Agree-trans, Agree-eq, Agree-append, Agree-surd_scale, Agree-surd_times, Agree-surd_times_right, Agree-surd_power, one_inverse}
+use Rattle.calc_algebra.proofs.HalfLaws.{one_is_not_two}
 
 pub Same-sym : {v w : Surd} → Same v w → Same w v
 Same-sym h = record { of_first = λ s c. sym (h.of_second s c); of_second = λ s c. sym (h.of_first s c) }
@@ -62,9 +63,6 @@ one_rational p q x y a h k = surd_of_one p q (Agree-trans (Agree-sym (Same-Agree
 -- a surd has at most one root
 pub one_root_of : (x y v u : Surd) → Agree x y → IsRoot x v → IsRoot y u → Agree v u
 one_root_of x y v u a (q, i, h) (q', i', h') = let z : q' ≡ q = sym (one_rational q q' x y a i i') in one_root q.num q.den v u h (rw z at h')
-
-one_is_not_two : (a b : ℕ) → a ≡ 1 → b ≡ 2 → a ≡ b → ⊥
-one_is_not_two a b h k e = absurd (omega arith)
 
 -- no whole number is half of an odd one
 pub whole_is_no_half : (n : ℤ) (h : Fraction) → h.den ≡ 2 → whole_fraction n ≡ h → ⊥

@@ -65,10 +65,10 @@ names_permuted (permuted_trans h k) = within_trans (names_permuted h) (names_per
 
 -- ---- Numbers have no names
 
-names_of_term : (t : Tree) → IsTerm t → names t ≡ []
+pub names_of_term : (t : Tree) → IsTerm t → names t ≡ []
 names_of_term t h = grind arith
 
-names_of_terms : (ts : Trees) → AreTerms ts → names_of ts ≡ []
+pub names_of_terms : (ts : Trees) → AreTerms ts → names_of ts ≡ []
 names_of_terms none h = refl
 names_of_terms (more t ts) h = rw (names_of_term t h.0, names_of_terms ts h.1) refl
 

@@ -59,7 +59,7 @@ pub first_coefficient : (t : Term) (v : Surd) → IsProper t → IsBelowAll t v 
 first_coefficient t v s h = (λ i. plus (own_share t s i) (none_behind t v h i)) ∙ plus_zero t.coefficient
 
 -- a term in front gives nothing to the classes behind
-behind_coefficient : (t u : Term) (v : Surd) → are_alike t.radicand u.radicand ≡ false → class_coefficient (t ∷ v) u.radicand ≡ class_coefficient v u.radicand
+pub behind_coefficient : (t u : Term) (v : Surd) → are_alike t.radicand u.radicand ≡ false → class_coefficient (t ∷ v) u.radicand ≡ class_coefficient v u.radicand
 behind_coefficient t u v h = ap (λ x. plus x (class_coefficient v u.radicand)) (share_apart t.coefficient t.radicand u.radicand h) ∙ zero_plus (class_coefficient v u.radicand)
 
 -- a list with a term is not zero

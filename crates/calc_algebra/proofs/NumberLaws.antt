@@ -97,7 +97,7 @@ number_words _ h = cc
 radicand_test : (q : Fraction) → IsRadicand q → is_radicand q ≡ true
 radicand_test q h = grind (arith, and_from, clean_test)
 
-term_test : (t : Tree) → IsTerm t → is_term t ≡ true
+pub term_test : (t : Tree) → IsTerm t → is_term t ≡ true
 term_test t h = grind (arith, not_from_false, zero_test, radicand_test, and_from, one_test)
 
 terms_test : (ts : Trees) → AreTerms ts → are_terms ts ≡ true

@@ -3,7 +3,7 @@ use Rattle.std.proofs.Common.{◌≡◌, ℕ, ◌*◌, ◌≤◌, ℤ, pos, [], 
 use Rattle.calc_algebra.proofs.Shared.{times_comm, one_times, zero_times, zero_plus, Fraction, times, zero_fraction, one_fraction, plus, quotient, int_is_zero, Assignment, Means, MeansSum, IsRootOf, IsNumber, IsTerm, IsRadicand, value, term_of, terms_of, natural_of, AreTerms, Same, term_share, are_alike, square_root, Surd, term, surd_one, surd_times, surd_of, Tree, num, add, mult, root, Trees, none, more, zero_is}
 use Rattle.calc_algebra.proofs.SurdLaws.{Agree, Agree-refl, Agree-trans, Agree-eq, Agree-Same}
 
-Same-refl : (v : Surd) → Same v v
+pub Same-refl : (v : Surd) → Same v v
 Same-refl v = Agree-Same (Agree-refl v)
 
 root_of_whole : (p : ℤ) (n r : ℕ) → n ≡ 1 → p ≡ pos r → 2 ≤ r → IsRootOf p n (term one_fraction (natural_of p) ∷ [])

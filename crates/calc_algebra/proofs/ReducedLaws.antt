@@ -5,7 +5,7 @@ use Rattle.calc_algebra.proofs.NumberLaws.{number_words, number_test, rises_word
 
 -- ---- Booleans
 
-from_not : (b : Bool) → not b ≡ true → b ≡ false
+pub from_not : (b : Bool) → not b ≡ true → b ≡ false
 from_not b h = not-true b h
 
 -- a implies b
@@ -67,7 +67,7 @@ whole_power_words b n h =
 pub whole_power_test : (b : Tree) (n : Fraction) → IsWholePowerForm b n → whole_power_form b n ≡ true
 whole_power_test b n h = grind (arith, and_from, not_from_false, zero_test, one_test, implied)
 
-one_and_two : (n : ℕ) → n ≡ 1 → n ≡ 2 → ⊥
+pub one_and_two : (n : ℕ) → n ≡ 1 → n ≡ 2 → ⊥
 one_and_two n e f = absurd (omega arith)
 
 pub power_words : (b e : Tree) → power_form b e ≡ true → IsPowerForm b e
@@ -219,7 +219,7 @@ module _ (P Q R : Tree → Type 0) (f : (t : Tree) → P t → Q t → R t) wher
     AllPartsOf-zip none h k = tt
     AllPartsOf-zip (more t ts) h k = (AllParts-zip t h.0 k.0, AllPartsOf-zip ts h.1 k.1)
 
-undef_words : (t : Tree) → is_undef t ≡ true → t ≡ undef
+pub undef_words : (t : Tree) → is_undef t ≡ true → t ≡ undef
 undef_words t h = grind arith
 
 pub reduced_words : (t : Tree) → is_reduced t ≡ true → IsReduced t

@@ -25,7 +25,7 @@ same_squares a b e = grind arith
 pub alike_sym : (r s t : ℕ) → Alike r s t → Alike s r t
 alike_sym r s t a = record { square = omega (arith, a.square); positive = a.positive }
 
-positive_right : (r s t : ℕ) → Alike r s t → 0 < s
+pub positive_right : (r s t : ℕ) → Alike r s t → 0 < s
 positive_right r s t a = grind arith
 
 -- being alike passes on, and how the roots go together

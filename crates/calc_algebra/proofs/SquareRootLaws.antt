@@ -33,10 +33,10 @@ square_root-square t = one_square_root (t * t) _ t (square_root_is (t * t)) (rec
 mul_pos : (q s : ℕ) → 0 < q → 0 < s → 0 < q * s
 mul_pos q s h k = grind arith
 
-mul_cancel : (x y s : ℕ) → 0 < s → x * s ≡ y * s → x ≡ y
+pub mul_cancel : (x y s : ℕ) → 0 < s → x * s ≡ y * s → x ≡ y
 mul_cancel x y s p h = grind arith
 
-le_by_scaled : (x y s : ℕ) → 0 < s → x * s ≤ y * s → x ≤ y
+pub le_by_scaled : (x y s : ℕ) → 0 < s → x * s ≤ y * s → x ≤ y
 le_by_scaled x y s p h = grind arith
 
 no_more : (n s m k r : ℕ) → 0 < s → n * (s * s) ≡ m * m → m ≡ s * k + r → k * m ≤ n * s

@@ -5,11 +5,10 @@ use Rattle.calc_algebra.proofs.SquareRootLaws.{square_root-square, square_from_s
 use Rattle.calc_algebra.proofs.SurdLaws.{Agree, Agree-refl, Agree-sym, Agree-trans, Agree-eq, Agree-Same, Agree-append, append_comm, Agree-surd_scale, Agree-surd_times, Agree-surd_power, times_zero}
 use Rattle.calc_algebra.proofs.SquareClassLaws.{Alike, alike_from, alike_true, Same-Agree}
 use native.Mathlib.Nat.{one-mul}
+pub use Rattle.calc_algebra.proofs.NumberValues.{Same-refl}
+pub use Rattle.calc_algebra.proofs.SquareClassLaws.{positive_right as alike_right}
 
 -- ---- sameness is respected
-
-pub Same-refl : (v : Surd) → Same v v
-Same-refl v = Agree-Same (Agree-refl v)
 
 pub Same-eq : {v w : Surd} → v ≡ w → Same v w
 Same-eq e = Agree-Same (Agree-eq e)
@@ -45,9 +44,6 @@ pub Same-to_front : (v : Surd) (t : Term) (w : Surd) → Same (v ++ (t ∷ w)) (
 Same-to_front v t w = Agree-Same (Agree-to_front v t w)
 
 -- ---- the share of one term
-
-pub alike_right : (r s t : ℕ) → Alike r s t → 0 < s
-alike_right r s t a = grind arith
 
 share_at : (b : Bool) (q : Fraction) (n t s : ℕ) → b ≡ true → n ≡ t → (if b then times q (quotient n s) else zero_fraction) ≡ times q (quotient t s)
 share_at b q n t s h e = grind arith

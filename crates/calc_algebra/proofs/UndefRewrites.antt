@@ -7,6 +7,7 @@ use Rattle.calc_algebra.proofs.PowerLaws.{no_power_of_zero}
 use Rattle.calc_algebra.proofs.PowerRewrites.{power_parts}
 use Rattle.calc_algebra.proofs.SquareClassLaws.{Same-trans}
 use Rattle.calc_algebra.proofs.TermLaws.{zero_term}
+use Rattle.calc_algebra.proofs.BadLaws.{no_root}
 
 -- p has a meaning under f
 HasMeaning : Assignment → Tree → Type 0
@@ -62,9 +63,6 @@ zero_to_nothing b n h = record {
       let p = power_parts f b (neg_ℤ (pos n)) v m in
       no_power_of_zero n p.base v (zero_base b h f once p.base p.base_means) p.is;
 }
-
-no_root : (z : ℤ) (d : ℕ) (v : Surd) → int_is_negative z ≡ true → IsRootOf z d v → ⊥
-no_root z d v h i = grind arith
 
 -- the root of a negative rational
 pub root_of_negative : (q : Fraction) → int_is_negative q.num ≡ true → KeepsMeanings (root (num q)) undef

@@ -14,7 +14,7 @@ use Rattle.calc_algebra.specs.Surds.{Term, Surd}
 use Rattle.calc_algebra.proofs.SquareClassLaws.{Alike, alike_from, Same-Agree}
 use Rattle.calc_algebra.proofs.SurdLaws.{Agree}
 use Rattle.calc_algebra.proofs.TermLaws.{share_alike, share_apart}
-use Rattle.calc_algebra.proofs.NumberClasses.{IsProper, AreProper, first_coefficient, alike_common}
+use Rattle.calc_algebra.proofs.NumberClasses.{IsProper, AreProper, first_coefficient, alike_common, behind_coefficient}
 use Rattle.calc_bits.specs.Denominators.{AreWholeOver, Parts, magnitude_over}
 use Rattle.calc_bits.specs.Masses.{root_above, term_mass, mass_from}
 use Rattle.calc_bits.proofs.Quotients.{cancel_le, cancel_right, abs_cross, magnitude_cross, whole_over, whole_over-abs, over_multiple, plus_over}
@@ -89,7 +89,7 @@ coefficient_sum e s [] he hs h = same_lowest (pos 0) (pos 0) 1 (e * s) (omega ar
 coefficient_sum e s (t ∷ v) he hs (h, k) =
     (λ i. plus (share_sum e s t he hs h i) (coefficient_sum e s v he hs k i)) ∙ plus_over _ (class_sum e s v) (e * s) (mul_pos e s he hs)
 
-abs_plus : (x y : ℤ) → nat_abs (x +ℤ y) ≤ nat_abs x + nat_abs y
+pub abs_plus : (x y : ℤ) → nat_abs (x +ℤ y) ≤ nat_abs x + nat_abs y
 abs_plus x y = omega (arith, ints)
 
 -- the square of one term's share
@@ -186,12 +186,9 @@ mass_of_classes m k e (t ∷ w) v p (a, as') (r, rs) (h, hs) (c, cs) =
     joined : (p q k a b c : ℕ) → p ≤ k * a → q ≤ k * b → c ≡ a + b → p + q ≤ k * c
     joined p q k a b c h l e = let f : k * c ≡ k * (a + b) = ap (λ z. k * z) e in omega arith
 
-behind : (t u : Term) (v : Surd) → are_alike t.radicand u.radicand ≡ false → class_coefficient (t ∷ v) u.radicand ≡ class_coefficient v u.radicand
-behind t u v h = ap (λ x. plus x (class_coefficient v u.radicand)) (share_apart t.coefficient t.radicand u.radicand h) ∙ zero_plus (class_coefficient v u.radicand)
-
 have_behind : (t : Term) (v w : Surd) → IsBelowAll t w → HasCoefficients v w → HasCoefficients (t ∷ v) w
 have_behind t v [] b h = tt
-have_behind t v (u ∷ w) (l, a, b) (h, hs) = (behind t u v a ∙ h, have_behind t v w b hs)
+have_behind t v (u ∷ w) (l, a, b) (h, hs) = (behind_coefficient t u v a ∙ h, have_behind t v w b hs)
 
 have_own : (w : Surd) → AreProper w → Rises w → HasCoefficients w w
 have_own [] a r = tt

@@ -12,6 +12,7 @@ use Rattle.calc_terms.specs.Fractions.{Fraction, lowest, plus, times, den_pos, o
 use Rattle.calc_terms.specs.Gcd.{gcd, gcd_is, gauss, divided}
 use Rattle.calc_bits.specs.Denominators.{magnitude_over}
 use Rattle.calc_bits.proofs.Quotients.{den_divides, den_at_most, num_at_most, plus_den, magnitude_cross, times_den, magnitude_times, magnitude_is, cancel_le, abs_cross}
+use Rattle.calc_bits.proofs.ClassMasses.{abs_plus}
 
 bounded : (z : ℤ) (n : ℕ) → nat_abs z ≤ n → n < 2 ^ 127 → fits z ≡ true
 bounded z n h k = grind arith
@@ -69,9 +70,6 @@ rest_at_most q s d hq hd a b = le_of_dvd (positive (d / q) split) divides
 
 scaled_at_most : (a : ℤ) (k m : ℕ) → k ≤ m → nat_abs (a *ℤ pos k) ≤ nat_abs a * m
 scaled_at_most a k m h = subst (λ x. x ≤ nat_abs a * m) (sym (unsigned_abs-mul a (pos k))) (mul-le-mul_left (nat_abs a) h)
-
-abs_plus : (x y : ℤ) → nat_abs (x +ℤ y) ≤ nat_abs x + nat_abs y
-abs_plus x y = omega (arith, ints)
 
 -- over any common denominator that fits, the magnitudes add up to less than 2^127
 pub sum_fits_over : (a b : Fraction) (d : ℕ) → 0 < d → a.den ∣ d → b.den ∣ d → d < 2 ^ 127 → magnitude_over d a + magnitude_over d b < 2 ^ 127 → sum_fits a b ≡ true

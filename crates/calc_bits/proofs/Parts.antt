@@ -44,7 +44,7 @@ held_pair u a v w b x h l k = grind (arith, mass-append, whole_right, whole_left
 
 -- ---- what is the same
 
-one_mul : (n : ℕ) → 1 * n ≡ n
+pub one_mul : (n : ℕ) → 1 * n ≡ n
 one_mul n = omega arith
 
 pub mass_of_same : (m e : ℕ) (p v : Surd) → AreProper p → Rises p → Same p v → Parts e v → Parts e p → mass_from m e p ≤ mass_from m e v

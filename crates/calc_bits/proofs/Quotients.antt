@@ -11,12 +11,7 @@ use Rattle.calc_terms.specs.Fractions.{Fraction, lowest, plus, times, plus_lowes
 use Rattle.calc_terms.specs.Integers.{parts, diffs, eq_diff}
 use Rattle.calc_terms.specs.Gcd.{gcd_is, gauss}
 use Rattle.calc_bits.specs.Denominators.{magnitude_over}
-
-pub cancel_le : (x y s : ℕ) → 0 < s → x * s ≤ y * s → x ≤ y
-cancel_le x y s p h = grind arith
-
-pub cancel_right : (x y s : ℕ) → 0 < s → x * s ≡ y * s → x ≡ y
-cancel_right x y s p h = grind arith
+pub use Rattle.calc_algebra.proofs.SquareRootLaws.{mul_cancel as cancel_right, le_by_scaled as cancel_le}
 
 pub coprime : (a : Fraction) → IsGcd (nat_abs a.num) a.den 1
 coprime a = subst (λ g. IsGcd (nat_abs a.num) a.den g) (eqb-true _ 1 (second_held _ _ a.lowest)) (gcd_is (nat_abs a.num) a.den)

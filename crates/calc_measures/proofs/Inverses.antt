@@ -59,7 +59,7 @@ inverse_fits q z h =
 first_power : (x : Fraction) → fraction_power x (nat_abs (whole_fraction (pos 1)).num) ≡ x
 first_power x = ap (λ (z : ℤ). fraction_power x (nat_abs z)) (whole_numerator (pos 1)) ∙ times_comm x one_fraction ∙ one_times x
 
-zero_num : (q : Fraction) → is_zero_fraction q ≡ false → q.num ≢ pos 0
+pub zero_num : (q : Fraction) → is_zero_fraction q ≡ false → q.num ≢ pos 0
 zero_num q h e = let z : is_zero_fraction q ≡ true = ap int_is_zero e in cc
 
 -- what q to the power -1 is

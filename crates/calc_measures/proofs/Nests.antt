@@ -10,13 +10,13 @@ pub nest-append : (ts us : Trees) → nest_of (append ts us) ≡ max (nest_of ts
 nest-append none us = omega arith
 nest-append (more t ts) us = omega (arith, nest-append ts us)
 
-nest_term : (t : Tree) → IsTerm t → nest t ≡ 0
+pub nest_term : (t : Tree) → IsTerm t → nest t ≡ 0
 nest_term (num q) h = refl
 nest_term (root (num r)) h = refl
 nest_term (mult (more (num q) (more (root (num r)) none))) h = refl
 nest_term t h = absurd h
 
-nest_terms : (ts : Trees) → AreTerms ts → nest_of ts ≡ 0
+pub nest_terms : (ts : Trees) → AreTerms ts → nest_of ts ≡ 0
 nest_terms none h = refl
 nest_terms (more t ts) h = omega (arith, nest_term t h.0, nest_terms ts h.1)
 

@@ -1,6 +1,7 @@
 -- Loops over the terms of a sum, each of which is rewritten in its place.
 use Rattle.std.proofs.Common.{◌≡◌, ℕ, zero, suc, ◌+◌, ◌≤◌, ◌<◌, refl, sym, ap, ◌∙◌, arith, true}
-use Rattle.coefficients.proofs.Shared.{AllPartsOf, ChangesTree, Forest, Gives, HasForm, IsHanded, KeepsRefusals, Stands, State, Tree, Trees, add, append, changes_after, changes_as, changes_free, changes_none, children_of, count, forest, free_of, given_told, is_add, is_reduced, mapped, more, mult, none, nth, plain, root_tree, set_child, set_tree, size, sizes, tree_of}
+use Rattle.coefficients.proofs.Shared.{AllPartsOf, ChangesTree, Forest, Gives, HasForm, IsHanded, KeepsRefusals, Stands, State, Tree, Trees, add, append, changes_after, changes_as, changes_free, changes_none, children_of, count, forest, free_of, given_told, is_add, inserted, is_reduced, mapped, more, mult, none, nth, plain, root_tree, set_child, set_tree, size, sizes, tree_of}
+use Rattle.number_forms.specs.Sums.{removed}
 use Rattle.coefficients.proofs.Forms.{reduced_parts, parts_reduced}
 
 -- ---- lists
@@ -39,6 +40,12 @@ all_first f zero none l = refl
 all_first f (suc n) none l = refl
 all_first f zero (more t ts) l = absurd (omega arith)
 all_first f (suc n) (more t ts) l = ap (more (f t)) (all_first f n ts (omega arith))
+
+-- another tree at a place is put in where one was removed
+pub set_removed : (n : ℕ) (u : Tree) (ts : Trees) → n < count ts → set_tree n u ts ≡ inserted n (more u none) (removed n ts)
+set_removed n u none l = absurd (omega arith)
+set_removed zero u (more t ts) l = refl
+set_removed (suc n) u (more t ts) l = ap (more t) (set_removed n u ts (omega arith))
 
 -- ---- the next term
 

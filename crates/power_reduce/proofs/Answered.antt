@@ -3,8 +3,11 @@ use Rattle.std.proofs.Common.{◌≡◌, ◌<◌, Bool, true, false, ◌&&◌, �
 use Rattle.power_reduce.proofs.Shared.{and_parts, Contains-append_left, Fraction, zero_fraction, one_fraction, nest, nest_of, load, is_number, IsNumber, IsTerm, AreTerms, is_reduced, HasForm, IsPowerForm, num_one, Tree, num, undef, power, Trees, none, more, names, names_of, AllParts, AllPartsOf, is_undef, itself, in_base, in_exponent, number_words, number_test, power_one_is_base, power_zero_is_one, reduced_test, undef_part, reduced_parts, HasNoNewName, KeepsMeanings, keeps, is_zero, has_no_power, has_number_power, IsWrittenPower, IsPowerAnswer, is_zero_or_one}
 use Rattle.power_reduce.proofs.Written.{zero_written, one_written, kept_written}
 use Rattle.power_reduce.proofs.Bounds.{load_at_most_weight}
+use Rattle.calc_algebra.proofs.Names.{names_of_term, names_of_terms}
+use Rattle.calc_measures.proofs.Nests.{nest_term, nest_terms}
+use Rattle.coefficients.proofs.Forms.{term_parts, terms_parts}
 
-no_names : (t u : Tree) → names u ≡ [] → HasNoNewName t u
+pub no_names : (t u : Tree) → names u ≡ [] → HasNoNewName t u
 no_names t u e = record { name = λ x c. absurd (let f : length (names u) ≡ 0 = ap length e in let k : c.0 < length (names u) = c.1 in omega arith) }
 
 -- ---- Numbers
@@ -15,29 +18,8 @@ pub record IsPlain (t : Tree) : Type 0 where
   pub reduced : is_reduced t ≡ true
   pub defined : is_undef t ≡ false
 
-term_names : (t : Tree) → IsTerm t → names t ≡ []
-term_names t h = grind arith
-
-term_nest : (t : Tree) → IsTerm t → nest t ≡ 0
-term_nest t h = grind arith
-
-terms_names : (ts : Trees) → AreTerms ts → names_of ts ≡ []
-terms_names none h = refl
-terms_names (more t ts) (h, hs) = λ i. term_names t h i ++ terms_names ts hs i
-
-terms_nest : (ts : Trees) → AreTerms ts → nest_of ts ≡ 0
-terms_nest none h = refl
-terms_nest (more t ts) (h, hs) = omega (arith, term_nest t h, terms_nest ts hs)
-
-term_parts : (t : Tree) → IsTerm t → AllParts HasForm t
-term_parts t h = grind arith
-
-terms_parts : (ts : Trees) → AreTerms ts → AllPartsOf HasForm ts
-terms_parts none h = tt
-terms_parts (more t ts) (h, hs) = (term_parts t h, terms_parts ts hs)
-
 pub number_plain : (t : Tree) → IsNumber t → IsPlain t
-number_plain t h = grind (arith, reduced_test, terms_names, terms_nest, terms_parts)
+number_plain t h = grind (arith, reduced_test, names_of_terms, nest_terms, terms_parts)
 
 no_load : (t : Tree) → is_number t ≡ true → load t ≡ 0
 no_load t h = rw h refl
@@ -61,7 +43,7 @@ number_answer b e t h d k w =
 pub zero_exponent_answer : (b : Tree) → has_no_power b (num zero_fraction) ≡ false → IsPowerAnswer b (num zero_fraction) num_one
 zero_exponent_answer b d = number_answer b (num zero_fraction) num_one (number_test num_one tt) d (keeps (power_zero_is_one b)) (zero_written b)
 
-number_nest : (b : Tree) (q : Fraction) → nest (power b (num q)) ≡ nest b
+pub number_nest : (b : Tree) (q : Fraction) → nest (power b (num q)) ≡ nest b
 number_nest b q = rw (number_test (num q) tt) refl
 
 -- a power that is a Number's has a Number as its base

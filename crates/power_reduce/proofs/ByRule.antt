@@ -3,14 +3,15 @@ use Rattle.std.proofs.Common.{◌≡◌, ◌+◌, ◌≤◌, ◌<◌, suc, Bool,
 use Rattle.std.specs.Prelude.{max}
 use Rattle.power_reduce.proofs.Shared.{and_parts, Fraction, whole_fraction, nest, load, weight, load_of_factor, is_number, is_reduced, is_half_num, is_whole_num, is_opaque_exponent, Tree, num, mult, power, root, Trees, none, more, is_undef, whole_denominator, number_test, number_words, reduced_parts, parts_reduced, is_zero, has_no_power, has_number_power, EachTree, HalvesRoot, JoinsExponents, IsLighterPart, RaisesParts, IsByRule, IsRewritable, half, parts_of, raised, rewritten, rewritten_whole}
 use Rattle.power_reduce.proofs.Exponents.{as_whole}
-use Rattle.power_reduce.proofs.Answered.{number_plain}
+use Rattle.power_reduce.proofs.Answered.{number_plain, number_nest}
 use Rattle.power_reduce.proofs.Bounds.{number_load}
 use Rattle.power_reduce.proofs.Weights.{product_parts, each_lighter, powers_nest, powers_load}
+use Rattle.calc_algebra.proofs.ReducedLaws.{from_not}
+use Rattle.calc_measures.proofs.Nests.{nest_number}
+use Rattle.calc_measures.proofs.Weights.{to_number, to_other, base_nest}
+use Rattle.tree_room.proofs.PowerCounts.{power_no_number}
 
 -- ---- roots
-
-nest_to_number : (b : Tree) (q : Fraction) → nest (power b (num q)) ≡ nest b
-nest_to_number b q = rw (number_test (num q) tt) refl
 
 root_weight : (a : Tree) → is_number (root a) ≡ false → weight (root a) ≡ suc (weight a)
 root_weight a h = rw h refl
@@ -24,13 +25,10 @@ halves a q r n = record {
   whole = whole_denominator (half q.num);
   reduced = parts_reduced a (reduced_parts (root a) r refl).1;
   lighter = omega (arith, root_weight a n);
-  nest_kept = omega (arith, nest_to_number a (whole_fraction (half q.num)), nest_to_number (root a) q);
+  nest_kept = omega (arith, number_nest a (whole_fraction (half q.num)), number_nest (root a) q);
 }
 
 -- ---- powers of powers
-
-number_nest : (t : Tree) → is_number t ≡ true → nest t ≡ 0
-number_nest t h = (number_plain t (number_words t h)).flat
 
 both : (a b : Bool) → a ≡ true → b ≡ true → (a && b) ≡ true
 both a b h k = rw (h, k) refl
@@ -38,24 +36,17 @@ both a b h k = rw (h, k) refl
 not_both : (a b : Bool) → (a && b) ≡ false → a ≡ true → b ≡ true → ⊥
 not_both a b h p q = cc (both a b p q)
 
--- the nest of a power, as its exponent is a Number or not
-to_number : (b e : Tree) → is_number e ≡ true → nest (power b e) ≡ nest b
-to_number b e h = rw h refl
-
-to_other : (b e : Tree) → is_number e ≡ false → nest (power b e) ≡ max (nest b) (suc (nest e))
-to_other b e h = rw h refl
-
 exponents : (c f e : Tree) → (is_number f && is_number e) ≡ false → max (nest f) (max (nest e) 0) < nest (power (power c f) e)
 exponents c f e h = by (is_number f) (is_number e) refl refl
   where
     by : (a b : Bool) → is_number f ≡ a → is_number e ≡ b → max (nest f) (max (nest e) 0) < nest (power (power c f) e)
     by true true p q = absurd (not_both _ _ h p q)
-    by true false p q = omega (arith, number_nest f p, to_other (power c f) e q)
-    by false true p q = omega (arith, number_nest e q, to_number (power c f) e q, to_other c f p)
+    by true false p q = omega (arith, nest_number f p, to_other (power c f) e q)
+    by false true p q = omega (arith, nest_number e q, to_number (power c f) e q, to_other c f p)
     by false false p q = omega (arith, to_other (power c f) e q, to_other c f p)
 
 flat_exponents : (f e : Tree) → (is_number f && is_number e) ≡ true → max (nest f) (max (nest e) 0) ≡ 0
-flat_exponents f e h = omega (arith, number_nest f (and_parts _ _ h).0, number_nest e (and_parts _ _ h).1)
+flat_exponents f e h = omega (arith, nest_number f (and_parts _ _ h).0, nest_number e (and_parts _ _ h).1)
 
 no_load : (f e : Tree) → (is_number f && is_number e) ≡ true → load (mult (more f (more e none))) ≡ 0
 no_load f e h = by (is_number (mult (more f (more e none)))) (and_parts _ _ h)
@@ -63,9 +54,6 @@ no_load f e h = by (is_number (mult (more f (more e none)))) (and_parts _ _ h)
     by : (b : Bool) → (is_number f ≡ true) × (is_number e ≡ true) → (if b || false then 0 else load_of_factor f + (load_of_factor e + 0)) ≡ 0
     by true k = refl
     by false k = omega (arith, number_load f k.0, number_load e k.1)
-
-base_nest : (c f : Tree) → nest c ≤ nest (power c f)
-base_nest c f = grind arith
 
 joined_nest : (c f e p : Tree) → nest p ≤ max (nest f) (max (nest e) 0) → ((is_number f && is_number e) ≡ true → is_number p ≡ true) → nest (power c p) ≤ nest (power (power c f) e)
 joined_nest c f e p l n = by (is_number p) (is_number f && is_number e) refl refl
@@ -106,11 +94,8 @@ raises ts e r n =
 
 -- ---- all rewritings
 
-is_false : (b : Bool) → not b ≡ true → b ≡ false
-is_false b h = grind arith
-
 whole_by_rule : (b e t : Tree) → is_reduced b ≡ true → rewritten_whole b e ≡ Some t → IsByRule b e t
-whole_by_rule b e t r h = grind (arith, halves, is_false, joins, raises)
+whole_by_rule b e t r h = grind (arith, halves, from_not, joins, raises)
 
 pub by_rule : (b e t : Tree) → is_half_num e ≡ false → is_reduced b ≡ true → rewritten b e ≡ Some t → IsByRule b e t
 by_rule b e t n r h = whole_by_rule b e t r (sym (as_whole b e n) ∙ h)
@@ -123,10 +108,6 @@ transparent_whole e h = grind arith
 
 pub no_number_power : (b e : Tree) → is_number b ≡ false → has_number_power b e ≡ false
 no_number_power b e h = grind arith
-
-power_no_number : (c f : Tree) → is_number (power c f) ≡ false
-unfolding is_number
-power_no_number c f = refl
 
 pub has_power : (b e : Tree) → is_undef b ≡ false → is_zero b ≡ false → is_undef e ≡ false → has_no_power b e ≡ false
 has_power b e u z v = rw (u, z, v) refl

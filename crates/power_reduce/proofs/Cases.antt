@@ -11,14 +11,14 @@ use Rattle.power_reduce.proofs.Powers.{power_is}
 use Rattle.power_reduce.proofs.Rules.{rewriting}
 use Rattle.power_reduce.proofs.Whole.{whole_is}
 use Rattle.calc_terms.specs.declared.kind.Kind.TheVariants as kind
+use Rattle.calc_algebra.proofs.ReducedLaws.{from_not}
+pub use Rattle.number_forms.proofs.Pairs.{rational_test as rational_number}
+use Rattle.number_forms.proofs.RationalCalls.{num_same}
 
 -- ---- tests
 
 and_false : (b : Bool) → (b && false) ≡ false
 and_false b = grind arith
-
-is_false : (b : Bool) → not b ≡ true → b ≡ false
-is_false b h = grind arith
 
 -- ---- kinds
 
@@ -28,16 +28,13 @@ power_kind t h = grind arith
 pub no_rational : {A : Type 0} (t : Tree) → is_num t ≡ true → is_num t ≡ false → A
 no_rational t h k = absurd cc
 
-pub rational_number : (t : Tree) (q : Fraction) → t ≡ num q → is_number t ≡ true
-rational_number t q h = ap is_number h ∙ number_test (num q) tt
-
 pub no_num_kind : (t : Tree) → (kind.Num ≡ root_kind t → ⊥) → is_num t ≡ false
 no_num_kind t h = grind arith
 
 -- ---- what goes inside
 
 pub inside_other : (e : Tree) → goes_inside e ≡ true → is_zero_or_one e ≡ false
-inside_other e h = is_false _ (and_parts _ _ h).1
+inside_other e h = from_not _ (and_parts _ _ h).1
 
 zero_is_whole : (q : Fraction) → is_zero_fraction q ≡ true → (q.den == 1) ≡ true
 unfolding zero_fraction
@@ -101,9 +98,6 @@ undef_exponent_kept b e h = grind (arith, outside_kept)
 
 pub undef_base_kept : (b e : Tree) → is_undef b ≡ true → rewritten b e ≡ None
 undef_base_kept b e h = grind arith
-
-num_same : {p q : Fraction} → num p ≡ num q → p ≡ q
-num_same e = cc
 
 -- the exponents 0 and 1
 whole_exponent_no_half : (e : Tree) (z : ℤ) → e ≡ num (whole_fraction z) → is_half_num e ≡ false

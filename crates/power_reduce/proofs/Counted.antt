@@ -11,7 +11,7 @@ use Rattle.reduce_port.specs.declared.step.Step.TheVariants as step
 undef_counts : (t : Tree) → is_undef t ≡ true → counted t ≡ 1
 undef_counts t h = grind arith
 
-one_is_whole : is_whole_num num_one ≡ true
+pub one_is_whole : is_whole_num num_one ≡ true
 unfolding one_fraction
 one_is_whole = whole_is (pos 1)
 

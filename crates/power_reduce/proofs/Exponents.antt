@@ -1,14 +1,12 @@
 -- Whole exponents, and those that are half of an odd whole number.
 use Rattle.std.proofs.Common.{◌≡◌, ℕ, ℤ, true, false, ◌==◌, Some, None, refl, arith}
 use Rattle.power_reduce.proofs.Shared.{and_parts, eqb-true, false_from_ne_true, whole_fraction, Tree, num, is_undef, fraction_whole, is_half_num, is_whole_num, goes_inside, power_of_root, rewritten, rewritten_whole}
+pub use Rattle.calc_algebra.proofs.ReducedLaws.{one_and_two as one_is_not_two}
 
 -- ---- whole exponents
 
 pub inside_whole : (e : Tree) → goes_inside e ≡ true → is_whole_num e ≡ true
 inside_whole e h = (and_parts _ _ h).0
-
-pub one_is_not_two : (d : ℕ) → d ≡ 1 → d ≡ 2 → ⊥
-one_is_not_two d h k = absurd (omega arith)
 
 one_or_half : (d : ℕ) → d ≡ 1 → (d == 2) ≡ false
 one_or_half d h = false_from_ne_true (d == 2) (λ k. one_is_not_two d h (eqb-true d 2 k))

@@ -20,16 +20,15 @@ use Rattle.tree_bits.proofs.Children.{tree_as_sum}
 use Rattle.tree_bits.proofs.Powers.{addend_raised, held_as_power, held_as_inverse, inverse_raised}
 use Rattle.tree_bits.proofs.Sums.{one_counts, one_weighted}
 use Rattle.reduce_port.specs.declared.step.Step.TheVariants as step
+use Rattle.tree_bits.proofs.Factors.{as_number}
+use Rattle.tree_room.proofs.PowerCounts.{power_no_number}
 
 -- ---- Numbers as factors
-
-as_number : (t : Tree) → is_number t ≡ true → as_factor t ≡ addend (value t) none
-as_number t n = ap (λ (b : Bool). if b then addend (value t) none else addend_of t) n
 
 as_other : (t : Tree) → is_number t ≡ false → as_factor t ≡ addend_of t
 as_other t n = ap (λ (b : Bool). if b then addend (value t) none else addend_of t) n
 
-number_defined : (t : Tree) → is_number t ≡ true → is_undef t ≡ false
+pub number_defined : (t : Tree) → is_number t ≡ true → is_undef t ≡ false
 number_defined undef n = absurd (number_words undef n)
 number_defined t n = refl
 
@@ -95,10 +94,6 @@ rational_power_held z q r b t i j e =
     by (negsuc n) e = below n (is_zero_fraction q) refl e
 
 -- ---- powers that are kept
-
-power_no_number : (b e : Tree) → is_number (power b e) ≡ false
-unfolding is_number
-power_no_number b e = refl
 
 pub no_number_power : {A : Type 0} (b e t : Tree) → t ≡ power b e → is_number t ≡ true → A
 no_number_power b e t i n = absurd (cc (ap is_number i ∙ power_no_number b e, n))

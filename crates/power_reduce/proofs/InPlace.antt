@@ -1,6 +1,7 @@
 -- A power is rewritten where it stands: the node of its base goes, and the exponent is replaced.
 use Rattle.std.proofs.Common.{◌≡◌, ℕ, ◌≤◌, [], ◌∷◌, refl, sym, ap, ◌∙◌, subst, arith, true, false}
 use Rattle.power_reduce.proofs.Shared.{Tree, root, Trees, none, more, append, is_root, size, IsOver, IsTaken, taken, over_put, over_same, over_end, without_put, IsAdded, cut, cut_rest, gives_put, State, free_of, released_free, is_power, base_in, exponent_in, tree_of, IsOnce, IsHanded, Represents, Ends, Gives, KeepsFront, nth, children_of, Forest, kids, root_count, tree_nth, without_nth, merged_nth, holds, kids_of, root_tree, without_root, put, Stands, forest, KeepsRefusals, all-kids, behind_first, front_same, front_at, front_put, gives_as, given_root, represents_join, apart, kids_of_root, other_apart, eqb-sym, children_of-plain, whole_kids, put-put}
+use Rattle.tree_handles.specs.Holes.{IsHole, Place}
 use Rattle.calc_terms.specs.declared.kind.Kind.{Kind}
 use Rattle.power_reduce.proofs.Powers.{over_power}
 use Rattle.calc_terms.specs.declared.kind.Kind.TheVariants as kind
@@ -60,3 +61,7 @@ second_taken {a = a} {e = e} o d = taken 1 (more a none) e none o refl d
 -- the bytes of a rational that goes
 pub number_bytes : {s t : State} {i : ℕ} → Stands s → Stands t → KeepsRefusals s t → IsHanded i (forest s) → forest t ≡ without_root i (forest s) → size (tree_of i s) ≤ free_of t
 number_bytes {s = s} {i = i} h k r o e = omega (arith, released_free h k r o e)
+
+-- a hole beside which another tree is gone
+pub hole_at : {p : Place} {i n : ℕ} {old f g : Forest} → IsHole p i n old f → g ≡ f → IsHole p i n old g
+hole_at h e = record { is = h.is; handed = h.handed; within = h.within; whole = e ∙ h.whole }

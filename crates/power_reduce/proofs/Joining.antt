@@ -5,6 +5,7 @@ use Rattle.power_reduce.proofs.Exponents.{as_whole, inside_whole, whole_no_half}
 use Rattle.power_reduce.proofs.InPlace.{merged, taken_on}
 use Rattle.power_reduce.proofs.Powers.{over_power, power_children}
 use Rattle.calc_terms.specs.declared.kind.Kind.TheVariants as kind
+pub use Rattle.power_reduce.proofs.InPlace.{second_taken as then_taken}
 
 -- the sides of the base, and the exponent
 pub sides_merged : {i : ℕ} {new : Forest} (s : State) → IsHanded i (forest s) → is_power (tree_of i s) ≡ true → is_power (base_in (tree_of i s)) ≡ true
@@ -19,10 +20,6 @@ sides_merged {i = i} {new = new} s h p r e =
 pub first_taken : {i h : ℕ} {c x e : Tree} {f new : Forest} → IsOver kind.Pow i (more c (more x (more e none))) f
     → Ends h (tree_nth 1 (kids (root_tree i f))) (put i (without_nth 1 (kids (root_tree i f))) f) new → IsTaken kind.Pow i 1 x (more c (more e none)) f new h
 first_taken {c = c} {x = x} {e = e} o d = taken 1 (more c none) x (more e none) o refl d
-
-pub then_taken : {i h : ℕ} {c e : Tree} {f new : Forest} → IsOver kind.Pow i (more c (more e none)) f
-    → Ends h (tree_nth 1 (kids (root_tree i f))) (put i (without_nth 1 (kids (root_tree i f))) f) new → IsTaken kind.Pow i 1 e (more c none) f new h
-then_taken {c = c} {e = e} o d = taken 1 (more c none) e none o refl d
 
 -- the first one, once the second stands no more behind it
 pub first_on : {i h k : ℕ} {c x e : Tree} {f g new : Forest} → IsOver kind.Pow i (more c (more x (more e none))) f → (a : IsTaken kind.Pow i 1 x (more c (more e none)) f g h) → (b : IsTaken kind.Pow i 1 e (more c none) g new k)

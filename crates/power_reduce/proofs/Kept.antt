@@ -1,13 +1,12 @@
 -- Powers that no rule changes are reduced.
 use Rattle.std.proofs.Common.{◌≡◌, ◌≤◌, Bool, true, false, ◌&&◌, ◌||◌, not, if◌then◌else◌, inr, Some, None, pos, refl, ap, arith}
 use Rattle.power_reduce.proofs.Shared.{and_from, eq-eqb, not_from_false, Fraction, zero_fraction, one_fraction, is_zero_fraction, is_one_fraction, int_is_zero, int_is_one, int_is_even, int_is_negative, is_number, classes, is_reduced, is_whole_num, is_transparent_power, HasForm, IsPowerForm, IsWholePowerForm, Tree, num, symbol, undef, add, mult, power, root, neg, sub, div, AllParts, is_undef, is_mult, is_root, whole_numerator, whole_denominator, reduced_words, reduced_test, is_zero_or_one, goes_inside, is_even_whole, rewritten, rewritten_whole}
-
--- the parts of a reduced tree that is not Undef have their forms
-parts_of : (t : Tree) → is_reduced t ≡ true → is_undef t ≡ false → AllParts HasForm t
-parts_of t h u = grind (arith, reduced_words)
+use Rattle.tree_bits.proofs.ExponentBits.{nothing_is}
+use Rattle.number_forms.proofs.Placings.{one_test}
+use Rattle.coefficients.proofs.Forms.{reduced_parts}
 
 pub reduced_power : (b e : Tree) → is_reduced b ≡ true → is_reduced e ≡ true → is_undef b ≡ false → is_undef e ≡ false → IsPowerForm b e → is_reduced (power b e) ≡ true
-reduced_power b e hb he ub ue form = reduced_test (power b e) (inr (inr form, parts_of b hb ub, parts_of e he ue))
+reduced_power b e hb he ub ue form = reduced_test (power b e) (inr (inr form, reduced_parts b hb ub, reduced_parts e he ue))
 
 -- ---- tests that fail
 
@@ -34,16 +33,8 @@ whole_inside q d z = rw (z, eq-eqb q.den 1 d) refl
 no_number : (b : Tree) (q : Fraction) → q.den ≡ 1 → (is_number b && is_whole_num (num q)) ≡ false → is_number b ≡ false
 no_number b q d h = grind arith
 
-zero_test_true : is_zero_fraction zero_fraction ≡ true
-unfolding zero_fraction
-zero_test_true = ap int_is_zero (whole_numerator (pos 0))
-
-one_test_true : is_one_fraction one_fraction ≡ true
-unfolding one_fraction
-one_test_true = and_from _ _ (ap int_is_one (whole_numerator (pos 1))) (eq-eqb _ 1 (whole_denominator (pos 1)))
-
 whole_form : (b : Tree) (q : Fraction) → is_zero_or_one (num q) ≡ false → is_mult b ≡ false → is_transparent_power b ≡ false → (int_is_even q.num ≡ true → is_root b ≡ false) → is_number b ≡ false → IsWholePowerForm b q
-whole_form b q z m p r n = grind (arith, zero_test_true, one_test_true)
+whole_form b q z m p r n = grind (arith, nothing_is, one_test)
 
 even_whole : (q : Fraction) → q.den ≡ 1 → is_zero_or_one (num q) ≡ false → int_is_even q.num ≡ true → is_even_whole q ≡ true
 even_whole q d z e = and_from _ _ (and_from _ _ (eq-eqb q.den 1 d) e) (not_from_false _ (either_fails (is_zero_fraction q) (is_one_fraction q) z).0)

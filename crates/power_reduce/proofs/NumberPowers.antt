@@ -9,9 +9,7 @@ use Rattle.power_reduce.proofs.Kept.{wide_power}
 use Rattle.power_reduce.proofs.Written.{number_power, few_classes, number_written}
 use Rattle.power_reduce.proofs.Powers.{power_is}
 use Rattle.number_forms.specs.declared.inverting.Inverse.TheVariants as inverse
-
-no_zero : (b : Tree) → is_num b ≡ false → is_zero b ≡ false
-no_zero b h = grind arith
+use Rattle.number_forms.proofs.Kept.{no_zero}
 
 number_defined : (b : Tree) → IsNumber b → is_undef b ≡ false
 number_defined b h = grind arith

@@ -3,11 +3,9 @@ use Rattle.std.proofs.Common.{◌≡◌, ℕ, ◌+◌, ◌*◌, ◌<◌, ◌≤�
 use Rattle.power_reduce.proofs.Shared.{mapped, Tree, mult, Trees, none, more, append, count, size, sizes, IsOver, over_handed, over_plain, without_put, State, free_of, bytes_without, raised, plain, Forest, bytes_in, tree_of, IsHanded, tree_at, root_tree, without_root, Stands, forest, KeepsRefusals, tree_of_root, used_forest, size-plain, root_arity}
 use Rattle.power_reduce.proofs.Raising.{to_power}
 use Rattle.coefficients.proofs.Loops.{IsPart, count_append, next_at, part_free}
+pub use Rattle.tree_handles.proofs.FreeBytes.{beside_bytes as handed_bytes}
 
 -- ---- another tree in the place of a root's
-
-pub handed_bytes : (i : ℕ) (f : Forest) → IsHanded i f → bytes_in f ≡ bytes_in (without_root i f) + size (plain (root_tree i f))
-handed_bytes i f h = omega (arith, bytes_without i f h.root, size-plain (root_tree i f) (root_arity i f h.root) h.whole)
 
 pub kept_free : {s t : State} {i : ℕ} → Stands s → Stands t → KeepsRefusals s t → IsHanded i (forest s) → IsHanded i (forest t) → without_root i (forest t) ≡ without_root i (forest s)
     → free_of t + size (tree_of i t) ≡ free_of s + size (tree_of i s)

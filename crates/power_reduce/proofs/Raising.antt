@@ -1,6 +1,7 @@
 -- The factors of a product are raised to an exponent, one by one.
 use Rattle.std.proofs.Common.{◌≡◌, ℕ, ◌+◌, ◌≤◌, ◌<◌, [], ◌∷◌, eqb, refl, sym, ap, ◌∙◌, subst, arith, true, false}
-use Rattle.power_reduce.proofs.Shared.{Tree, is_mult, mult, power, Trees, none, more, count, raised, plain, children_of, compound, nth, Forest, IsHanded, Gives, KeepsFront, root_tree, without_root, given_apart, given_handed, given_other, given_rest, given_same, given_told, behind_first, behind_later, front_after_one, front_same, front_without, tree-without, ChangesTree, IsHole, changes_after, changes_as, changes_beside, changes_front, changes_same, eqb-sym, hole_beside, hole_other, hole_stays, hole_tree, mapped, set_child}
+use Rattle.power_reduce.proofs.Shared.{Tree, is_mult, mult, power, Trees, none, more, count, raised, plain, children_of, compound, nth, Forest, IsHanded, Gives, KeepsFront, root_tree, without_root, given_rest, given_same, given_told, behind_first, behind_later, front_after_one, front_same, front_without, tree-without, ChangesTree, IsHole, changes_after, changes_as, changes_beside, changes_front, changes_same, eqb-sym, hole_beside, hole_stays, mapped, set_child}
+use Rattle.tree_handles.proofs.Filling.{IsAsBefore}
 use Rattle.tree_handles.specs.Holes.{Place}
 use Rattle.coefficients.proofs.Loops.{IsPart, part_all, part_next, part_nth}
 use Rattle.calc_terms.specs.declared.kind.Kind.TheVariants as kind
@@ -17,14 +18,9 @@ product_words t m = grind arith
 
 -- ---- one factor
 
--- the exponent beside the product without the factor
-pub beside_hole : {p : Place} {i j n h : ℕ} {old mid : Forest} {Told : Tree → Type 0} → IsHole p i n old (without_root h mid) → Gives (without_root h mid) mid h Told → eqb i j ≡ false → IsHanded j old → IsHanded j mid
-beside_hole h g d k = given_other g (hole_other h d k)
-
 -- the power is over both
-pub power_told : {p : Place} {i j n h k : ℕ} {t : Tree} {old mid new : Forest} → IsHole p i n old (without_root h mid) → Gives (without_root h mid) mid h (λ u. u ≡ t) → eqb i j ≡ false → IsHanded j old
-    → Gives (without_root j (without_root h mid)) new k (λ u. u ≡ compound kind.Pow (more (plain (root_tree h mid)) (more (plain (root_tree j mid)) none))) → plain (root_tree k new) ≡ power t (plain (root_tree j old))
-power_told {j = j} h g d k two = given_told two ∙ (λ x. power (given_told g x) (plain ((given_same j g (hole_other h d k).root ∙ hole_tree j h d) x)))
+pub power_told : {j h k : ℕ} {t : Tree} {old mid others new : Forest} → IsAsBefore j h old mid → plain (root_tree h mid) ≡ t → Gives others new k (λ u. u ≡ compound kind.Pow (more (plain (root_tree h mid)) (more (plain (root_tree j mid)) none))) → plain (root_tree k new) ≡ power t (plain (root_tree j old))
+power_told b e two = given_told two ∙ (λ x. power (e x) (b.same x))
 
 -- and fills the hole beside which the exponent stood
 pub hole_of_power : {p : Place} {i n k : ℕ} {old others new : Forest} {Told : Tree → Type 0} (j : ℕ) → IsHole p i n old others → eqb i j ≡ false → Gives (without_root j others) new k Told → IsHole p i n (without_root j old) (without_root k new)

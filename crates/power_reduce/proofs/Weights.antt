@@ -93,7 +93,7 @@ each_lighter b e none p w n = tt
 each_lighter b e (more g gs) p w n = grind (arith, each_lighter b e gs p.1 (omega (arith, weights_more g gs)) (omega arith), parts_reduced, weights_more, power_nest)
 
 -- the load of a tree as a factor of a product
-factor_load : (u : Tree) (n : ℕ) → 2 ≤ n → load u ≤ n → load_of_factor u ≤ n
+pub factor_load : (u : Tree) (n : ℕ) → 2 ≤ n → load u ≤ n → load_of_factor u ≤ n
 factor_load u n h k = grind (arith, number_load)
 
 bounded_load : (e : Tree) (gs us : Trees) → EachTree (λ g. 2 ≤ weight g) gs → AreBoundedPowers gs e us → load_of_factors us ≤ weights gs

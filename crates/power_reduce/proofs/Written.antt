@@ -2,14 +2,12 @@
 use Rattle.std.proofs.Common.{◌≡◌, ◌≢◌, ◌≤◌, ◌≤ℤ◌, ℤ, pos, Bool, true, false, ◌||◌, not, refl, sym, ap, ◌∙◌, arith}
 use Rattle.std.specs.Prelude.{nat_le}
 use Rattle.power_reduce.proofs.Shared.{le-leb, whole_numerator, whole_denominator, one_times, times_comm, Fraction, whole_fraction, zero_fraction, one_fraction, fraction_power, int_is_negative, Tree, num, power, number_test, is_number, classes, num_one, has_number_power, IsWrittenPower, is_zero_or_one}
+use Rattle.number_forms.proofs.RationalCalls.{num_same}
 
 -- ---- exponents
 
-same_rational : {p q : Fraction} → num p ≡ num q → p ≡ q
-same_rational e = cc
-
 pub whole_numbers : {y z : ℤ} → num (whole_fraction y) ≡ num (whole_fraction z) → y ≡ z
-whole_numbers {y} {z} e = sym (whole_numerator y) ∙ ap (λ (q : Fraction). q.num) (same_rational e) ∙ whole_numerator z
+whole_numbers {y} {z} e = sym (whole_numerator y) ∙ ap (λ (q : Fraction). q.num) (num_same e) ∙ whole_numerator z
 
 pub zero_exponent : {z : ℤ} → num (whole_fraction z) ≡ num zero_fraction → z ≡ pos 0
 unfolding zero_fraction
@@ -50,7 +48,7 @@ first_power q = times_comm q one_fraction ∙ one_times q
 
 -- ---- which tree it is
 
-clash : {A : Type 0} {b : Bool} → b ≡ true → b ≡ false → A
+pub clash : {A : Type 0} {b : Bool} → b ≡ true → b ≡ false → A
 clash e f = absurd cc
 
 pub zero_written : (b : Tree) → IsWrittenPower b (num zero_fraction) num_one

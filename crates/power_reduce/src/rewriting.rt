@@ -65,11 +65,11 @@ pub(crate) fn halve_root(pool: &mut Pool, power: Handle, n: i128) -> Handle
     ensures stands { Stands pool.new }
 {
     merge_children(pool, &power, 0);
-    let exponent = take_child(pool, &power, 1);
+    let (hole, exponent) = open_child(pool, &power, 1);
     release(pool, exponent);
     match number(pool, Rat::whole(n / 2)) {
         Ok(half) => {
-            add_child(pool, &power, 1, half);
+            fill(pool, hole, half);
             move_last(pool, &power);
             power
         }

@@ -4,9 +4,7 @@ use Rattle.sum_reduce.proofs.Shared.{last_parts, Fraction, times, zero_fraction,
 use Rattle.calc_algebra.proofs.InverseLaws.{product_not_zero}
 use Rattle.coefficients.proofs.Splits.{IsCoefficient, Leads, in_front}
 use Rattle.sum_reduce.proofs.WrittenSums.{number_terms-terms, other_terms-terms}
-
-clash : true ≡ false → ⊥
-clash e = cc
+use Rattle.std.proofs.lemmas.Bool.{true≢false}
 
 -- ---- terms
 
@@ -23,8 +21,8 @@ factors_behind ts h n = grind (arith, product_form_of, in_front, no_split, facto
 addend_is : (t : Tree) → AllParts HasForm t → is_number t ≡ false → addend_of t ≡ addend (value (coefficient_of t)) (factors_of (part_of t))
 addend_is t h n = grind (arith, factors_behind, one_value)
 
-one_addend : (t : Tree) → is_number t ≡ false → is_add t ≡ false → addends t ≡ addend_of t ∷ []
-one_addend t n s = grind (arith, clash)
+pub one_addend : (t : Tree) → is_number t ≡ false → is_add t ≡ false → addends t ≡ addend_of t ∷ []
+one_addend t n s = grind (arith, true≢false)
 
 pub term_addends : (t : Tree) → AllParts HasForm t → is_number t ≡ false → is_add t ≡ false → addends t ≡ addend (value (coefficient_of t)) (factors_of (part_of t)) ∷ []
 term_addends t h n s = one_addend t n s ∙ ap (λ (a : Addend). a ∷ []) (addend_is t h n)
@@ -55,7 +53,7 @@ first_terms : (ts : Trees) → AreTerms (number_terms ts)
 first_terms none = tt
 first_terms (more t ts) = grind (arith, first_terms ts, term_words)
 
-last_none : (p : Tree → Bool) (ts us : Trees) → NoneIs p (append ts us) → NoneIs p us
+pub last_none : (p : Tree → Bool) (ts us : Trees) → NoneIs p (append ts us) → NoneIs p us
 last_none p none us h = h
 last_none p (more t ts) us h = last_none p ts us h.1
 
@@ -149,8 +147,8 @@ module _ (q : Fraction) (f : IsFactor q) where
   -- the coefficient is multiplied
   times_coefficient : (t : Tree) → AllParts HasForm t → is_number t ≡ false → is_add t ≡ false → IsTimes (rational_times_term q t) (value (coefficient_of t))
   unfolding is_number
-  times_coefficient (num c) h n s = absurd (clash n)
-  times_coefficient (add ts) h n s = absurd (clash s)
+  times_coefficient (num c) h n s = absurd (true≢false n)
+  times_coefficient (add ts) h n s = absurd (true≢false s)
   times_coefficient (mult ts) h n s = let g = product_form_of ts h n in product_times ts h n g (in_front ts g.no_product g.front)
   times_coefficient t h n s = no_coefficient (more t none) n
 

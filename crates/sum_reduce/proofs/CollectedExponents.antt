@@ -8,6 +8,8 @@ use Rattle.sum_reduce.proofs.CollectedCounts.{collected_formed, like_monic}
 use Rattle.sum_reduce.proofs.CountedMultiples.{within_same, within_after, within_both, nothing_within, sum_within, product_within, multiple_added}
 use Rattle.sum_reduce.proofs.Rearranged.{of_lists}
 use Rattle.tree_bits.specs.Exponents.{multiple}
+pub use Rattle.calc_measures.proofs.LiteralValues.{whole_of}
+use Rattle.std.proofs.lemmas.Bool.{false≢true, true≢false}
 
 -- ---- lists of exponents
 
@@ -73,9 +75,6 @@ zero_whole = refl
 one_den : (n : ℕ) → (n == 1) ≡ true → n ≡ 1
 one_den n h = eqb-true n 1 h
 
-pub whole_of : (q : Fraction) → (q.den == 1) ≡ true → q ≡ whole_fraction q.num
-whole_of q h = lowest_parts q ∙ ap (lowest q.num) (one_den q.den h)
-
 whole_test : (z : ℤ) → ((whole_fraction z).den == 1) ≡ true
 whole_test z = ap (λ (n : ℕ). n == 1) (whole_denominator z)
 
@@ -89,12 +88,6 @@ num_value q = by (is_zero_fraction q) refl
     by : (b : Bool) → is_zero_fraction q ≡ b → Same (if b then [] else surd_of q) (surd_of q)
     by true e = subst (λ (x : Fraction). Same [] (surd_of x)) (sym (zero_is q e)) (Same-sym (zero_term 1))
     by false e = Same-refl (surd_of q)
-
-clash : true ≡ false → ⊥
-clash e = cc
-
-unclear : false ≡ true → ⊥
-unclear e = cc
 
 -- ---- two Numbers
 
@@ -219,9 +212,9 @@ module _ (z : ℤ) where
   times_counted : (t : Tree) → is_add t ≡ false → is_counted t ≡ true → IsCountedIn (rational_times_term (whole_fraction z) t) (multiple z (counts_of t))
   times_counted (num c) s h = times_rational c h
   times_counted (symbol x) s h = before_counted z (symbol x) h
-  times_counted (add ts) s h = absurd (clash s)
+  times_counted (add ts) s h = absurd (true≢false s)
   times_counted (mult (more (num c) (more w none))) s h = times_product c w h
-  times_counted t s h = absurd (unclear h)
+  times_counted t s h = absurd (false≢true h)
 
   all_times_counted : (ts : Trees) → NoneIs is_add ts → are_counted ts ≡ true → AreCounted (mapped (rational_times_term (whole_fraction z)) ts) (multiple z (counts_of_all ts))
   all_times_counted none s h = none_counted (multiple z (counts 0 0))
@@ -231,11 +224,11 @@ module _ (z : ℤ) where
 
   part_counted : (p : Tree) → IsMonic p → is_counted p ≡ true → IsCountedIn (rational_before (whole_fraction z) p) (multiple z (counts_of p))
   unfolding is_number
-  part_counted (num c) m h = absurd (clash (monic_no_number (num c) m))
+  part_counted (num c) m h = absurd (true≢false (monic_no_number (num c) m))
   part_counted (symbol x) m h = before_counted z (symbol x) h
   part_counted (add ts) m h = let a = all_times_counted ts (monic_sum ts m).no_sum h in record { counted = a.all; within = a.within }
-  part_counted (mult (more (num c) ts)) m h = absurd (clash m.no_coefficient)
-  part_counted p m h = absurd (unclear h)
+  part_counted (mult (more (num c) ts)) m h = absurd (true≢false m.no_coefficient)
+  part_counted p m h = absurd (false≢true h)
 
   pub put_counted : (p : Tree) → IsMonic p → is_counted p ≡ true → IsCountedIn (with_coefficient (num (whole_fraction z)) p) (multiple z (counts_of p))
   put_counted p m h = by (is_zero_fraction (whole_fraction z)) (is_one_fraction (whole_fraction z)) refl
@@ -303,5 +296,5 @@ counted_defined none h = refl
 counted_defined (more t ts) h = let (a, b) = and_parts (is_counted t) (are_counted ts) h in first t a (counted_defined ts b)
   where
     first : (t : Tree) → is_counted t ≡ true → has_undef ts ≡ false → has_undef (more t ts) ≡ false
-    first undef k e = absurd (unclear k)
+    first undef k e = absurd (false≢true k)
     first t k e = e

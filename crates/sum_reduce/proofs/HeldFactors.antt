@@ -3,16 +3,13 @@ use Rattle.std.proofs.Common.{◌≡◌, ℕ, ◌+◌, ◌*◌, ◌^◌, ◌≤�
 use Rattle.sum_reduce.proofs.Shared.{mul-le, pow-add, pow-le-pow_right, Surd, surd_times, Parts, mass, parts_scale, parts_times, mass_scale, mass_times, mul_pos, add, Trees, none, more, KeepsHeld, IsSumHeld, distributed, Addend, addend, addends, IsTreeHeld, sum_held, AreWeighted, none_weighted, more_weighted, IsPartHeld, Weighted, weighted, PartsAll, lows, weighted_mass, AreHeld, weighted_both}
 use Rattle.tree_bits.proofs.Sums.{one_counts}
 use native.Mathlib.Nat.{mul_comm}
+use Rattle.tree_bits.proofs.Factors.{times_weighted}
 
 -- ---- weighted terms
 
 -- each coefficient times c
 abbrev times_each : Surd → List Weighted → List Weighted
 times_each c ws = map (λ (w : Weighted). weighted (surd_times c w.coefficient) w.high w.low) ws
-
-times_weighted : {xs : List Addend} {ws : List Weighted} (c : Surd) → AreWeighted xs ws → AreWeighted (distributed c xs) (times_each c ws)
-times_weighted c none_weighted = none_weighted
-times_weighted c (more_weighted h l p a) = more_weighted h l p (times_weighted c a)
 
 -- over a product of denominators
 times_parts : (d e : ℕ) (c : Surd) (vs ws : List Weighted) → Parts d c → PartsAll e vs → 0 < e → PartsAll d ws → PartsAll (d * e) (times_each c vs ++ ws)

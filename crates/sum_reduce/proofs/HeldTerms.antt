@@ -2,14 +2,13 @@
 use Rattle.std.proofs.Common.{◌≡◌, ◌≤◌, ℕ, List, [], ◌∷◌, ◌++◌, Bool, true, false, if◌then◌else◌, inl, inr, refl, sym, ap, ◌∙◌, subst, arith, append_assoc, append-nil}
 use Rattle.sum_reduce.proofs.Shared.{not_from_false, Fraction, zero_fraction, is_zero_fraction, is_one_fraction, no_zero, one_is, Tree, num, add, Trees, none, more, append, count, is_add, AllParts, IsNumber, IsTerm, AreTerms, is_number, term_of, terms_of, value, HasForm, NoneIs, part_of, Same, Surd, surd_of, surd_one, number_test, number_words, surd_times-surd_one, SharesDenominators, coefficient_of, factors_of, rational_before, with_coefficient, IsMonic, monic_sum, put, monic_parts, number_of_term, IsFactor, not_one_is, IsArranged, IsLead, KeepsHeld, AreFormed, terms_of_loose, opened, terms_of_number, sum_tree, written_tree, IsSumHeld, addends_of_each, distributed, Addend, addend, addend_of, addends, addends_of, IsTreeHeld, sum_as_tree, alone}
 use Rattle.calc_bits.proofs.NoLarger.{no_larger}
-use Rattle.sum_reduce.proofs.Addends.{term_addends, IsSplit, split_sum, sum_addends, one_value, rational_value, monic_addends, spliced_addends, multiple_addends}
+use Rattle.sum_reduce.proofs.Addends.{term_addends, IsSplit, split_sum, sum_addends, one_value, rational_value, monic_addends, spliced_addends, multiple_addends, one_addend}
 use Rattle.sum_reduce.proofs.Held.{held_same, held_after, held_equal, held_behind, held_beside, held_joined, held_left_out, held_nothing, held_split, holds}
 use Rattle.sum_reduce.proofs.HeldFactors.{held_distributed}
 use Rattle.sum_reduce.proofs.Settled.{no_sums}
 use Rattle.sum_reduce.proofs.WrittenSums.{number_terms_in}
-
-clash : true ≡ false → ⊥
-clash e = cc
+use Rattle.number_forms.proofs.Shaped.{term_value}
+use Rattle.std.proofs.lemmas.Bool.{true≢false}
 
 -- ---- lists of trees
 
@@ -17,12 +16,9 @@ pub each_append : (ts us : Trees) → addends_of_each (append ts us) ≡ addends
 each_append none us = refl
 each_append (more t ts) us = ap (λ (x : List Addend). addends t ++ x) (each_append ts us) ∙ sym (append_assoc (addends t) (addends_of_each ts) (addends_of_each us))
 
-other_addends : (t : Tree) → is_number t ≡ false → is_add t ≡ false → addends t ≡ addend_of t ∷ []
-other_addends t n s = grind (arith, clash)
-
 others_each : (ts : Trees) → NoneIs is_number ts → NoneIs is_add ts → addends_of_each ts ≡ addends_of ts
 others_each none n s = refl
-others_each (more t ts) n s = λ i. other_addends t n.0 s.0 i ++ others_each ts n.1 s.1 i
+others_each (more t ts) n s = λ i. one_addend t n.0 s.0 i ++ others_each ts n.1 s.1 i
 
 -- ---- Numbers that are added
 
@@ -34,9 +30,6 @@ added_held d n e ts hd hn he w s =
     (held_equal (ap (λ (x : List Addend). x ++ addends_of_each ts) (sym (alone e he)))))
 
 -- ---- sums that are opened
-
-term_value : (t : Tree) → IsTerm t → value t ≡ term_of t ∷ []
-term_value t h = grind (arith, rational_value)
 
 -- a Number stands as its terms
 spread : (ts : Trees) → AreTerms ts → KeepsHeld (addend (terms_of ts) none ∷ []) (addends_of_each ts)
@@ -57,7 +50,7 @@ loose_held (add ts) h = by (is_number (add ts)) refl h.0
   where
     by : (b : Bool) → is_number (add ts) ≡ b → HasForm (add ts) → KeepsHeld (addends (add ts)) (addends_of_each (if b then more (add ts) none else ts))
     by true e f = held_equal (sym (append-nil (addends (add ts))))
-    by false e (inl k) = absurd (clash (sym (number_test (add ts) k) ∙ e))
+    by false e (inl k) = absurd (true≢false (sym (number_test (add ts) k) ∙ e))
     by false e (inr k) = whole_sum ts (split_sum ts k h.1)
 loose_held t h = held_equal (sym (append-nil (addends t)))
 

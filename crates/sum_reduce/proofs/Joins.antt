@@ -14,6 +14,7 @@ use Rattle.sum_reduce.proofs.Rearranged.{of_lists, to_lists, tight_opened, other
 use Rattle.sum_reduce.proofs.Rearranged.{none_permuted}
 use Rattle.sum_reduce.proofs.Stages.{formed_permuted, stage_after, stage_permuted}
 use Rattle.sum_reduce.proofs.Widths.{widths_permuted, width_other, coefficient_width}
+use Rattle.calc_algebra.proofs.TermLaws.{Same-eq}
 
 -- ---- what partners are
 
@@ -38,9 +39,6 @@ none_numbers t ts h = ap (λ (b : Bool). b && are_numbers ts) h
 
 -- ---- a coefficient is taken off
 
-same_eq : {v w : Surd} → v ≡ w → Same v w
-same_eq e = Agree-Same (Agree-eq e)
-
 pub joining_first : (t : Tree) (ts rest : Trees) → Permuted ts (more t rest) → AreFormed ts → NoneIs is_loose ts → is_number t ≡ false → are_numbers ts ≡ false → IsJoining ts (coefficient_of t) (part_of t) rest 0
 joining_first t ts rest p f s n o =
     let g = formed_permuted p f in
@@ -63,7 +61,7 @@ joining_first t ts rest p f s n o =
         are = (n, refl, tt);
         some = omega arith;
         two = λ h. absurd (omega (arith, h));
-        worth = same_eq (sym (append-nil (value (coefficient_of t))));
+        worth = Same-eq (sym (append-nil (value (coefficient_of t))));
       };
       held = held_after (held_permuted p) (held_beside (held_equal (term_addends t g.0 n (tight_other t l.0 n))) (held_same (addends_of_each rest)));
     }
@@ -208,7 +206,7 @@ numbers_false n none l h = absurd (omega arith)
 numbers_false zero (more t ts) l h = none_numbers t ts h
 numbers_false (suc n) (more t ts) l h = grind (arith, numbers_false n ts (omega arith) h)
 
-formed_reduced : (n : ℕ) (ts : Trees) → n < count ts → AreFormed ts → is_reduced (nth n ts) ≡ true
+pub formed_reduced : (n : ℕ) (ts : Trees) → n < count ts → AreFormed ts → is_reduced (nth n ts) ≡ true
 formed_reduced n ts l f = parts_reduced (nth n ts) (formed_permuted (taken_permuted n ts l) f).0
 
 formed_defined : (n : ℕ) (ts : Trees) → n < count ts → AreFormed ts → is_undef (nth n ts) ≡ false

@@ -10,9 +10,7 @@ use Rattle.sum_reduce.proofs.Held.{first_held, few_after, held_left_out, held_sa
 use Rattle.sum_reduce.proofs.HeldFactors.{held_distributed}
 use Rattle.tree_handles.specs.Causes.{IsCaused, Overflows}
 use Rattle.tree_handles.specs.declared.fault.NumberFault.TheVariants as fault
-
-clash : true ≡ false → ⊥
-clash e = cc
+use Rattle.std.proofs.lemmas.Bool.{true≢false}
 
 -- ---- a rational among the coefficients of terms
 
@@ -107,7 +105,7 @@ product_fits q c ts xs m e b = by (is_zero_fraction q) refl
   where
     nothing : (b : Bool) → b ≡ true → HasFewBits (surd_times (if b then [] else surd_of q) (value (num c)))
     nothing true e = record { high = 0; low = 0; held = nothing_held 0 0; few = omega arith }
-    nothing false e = absurd (clash (sym e))
+    nothing false e = absurd (true≢false (sym e))
 
     by : (b : Bool) → is_zero_fraction q ≡ b → fraction_fits (times q c) ≡ true
     by true z = rational_product_fits q c (nothing (is_zero_fraction q) z)
@@ -120,7 +118,7 @@ product_fits q c ts xs m e b = by (is_zero_fraction q) refl
 pub put_within : (c p : Tree) (xs : List Addend) (o : Overflow) → IsMonic p → NamesPut c p o → Overflows o → HaveFewBits (addend (value c) (factors_of p) ∷ xs) → ⊥
 put_within (num q) (add ts) xs o m n f b =
     let same : operation_fits (operation_of o.op) (value_of o.a) (value_of o.b) ≡ fraction_fits (times q (value_of o.b)) = λ i. operation_fits (operation_of (n.product i)) (n.first i) (value_of o.b) in
-    clash (sym (product_fits q (value_of o.b) ts xs m n.second b) ∙ sym same ∙ f)
+    true≢false (sym (product_fits q (value_of o.b) ts xs m n.second b) ∙ sym same ∙ f)
 put_within c p xs o m n f b = n
 
 pub put_fits : (f : NumberFault) (now : State) (c p : Tree) (xs : List Addend) → OfOverflow (NamesPut c p) f → IsCaused now f → IsMonic p → HaveFewBits (addend (value c) (factors_of p) ∷ xs) → OfOverflow (λ o. ⊥) f

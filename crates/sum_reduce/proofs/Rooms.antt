@@ -15,6 +15,7 @@ use Rattle.tree_room.proofs.Coefficients.{part_counts}
 use Rattle.tree_room.proofs.Counts.{all_appended, counts_one, number_counts_one, numbers_and_others}
 use Rattle.tree_room.proofs.Handed.{sum_bytes}
 use Rattle.tree_room.proofs.Multiples.{scaled}
+pub use Rattle.number_forms.proofs.Rooms.{few_for_sum as few_lack}
 
 all_reduced : (ts : Trees) → AreFormed ts → are_reduced ts ≡ true
 all_reduced none h = refl
@@ -131,9 +132,6 @@ terms_lack gs ts free h f s l k = omega (arith, terms_bytes gs ts h f s l, k)
 
 pub taking_lacks : {s now : State} {full : Full} (t : Tree) → IsShort (bytes_of_taking t) s now full → free_of s < 40
 taking_lacks t r = grind arith
-
-pub few_lack : (gs : List ℕ) (free : ℕ) → free < 40 → free < sum_need * 2 ^ length gs
-few_lack gs free l = let p : 0 < 2 ^ length gs = pow_pos (length gs) in omega (arith, l, p)
 
 -- and beside a Number
 pub number_lacks : (gs : List ℕ) (c : Tree) (free : ℕ) → is_number c ≡ true → SpansTree gs c → free < 40 → free + size c < sum_need * 2 ^ length gs

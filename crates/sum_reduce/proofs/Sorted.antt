@@ -4,13 +4,10 @@ use Rattle.std.proofs.Common.{ℕ, zero, suc, ◌<◌, ◌≤◌, arith, ◌≡�
 use Rattle.sum_reduce.proofs.Shared.{is_number, part_of, NoneIs, is_reduced, tree_cmp, Tree, Trees, none, more, append, count, Permuted, Permuted-append_right, permuted_trees, trees_of, parts_reduced, list_of, IsSorting, SortsChildren, nth, plains, Forest, kids, root_tree, IsLead, IsLed, IsArranged, terms_in, IsSum, AreFormed, is_loose}
 use Rattle.sum_reduce.proofs.Rearranged.{none_permuted, same_trees}
 use Rattle.sum_reduce.proofs.Sums.{sum_over, changed, IsChanged}
+use Rattle.sum_reduce.proofs.Addends.{last_none}
+pub use Rattle.sum_reduce.proofs.Joins.{formed_reduced as formed_nth}
 
 -- ---- terms by their places
-
-pub formed_nth : (n : ℕ) (ts : Trees) → n < count ts → AreFormed ts → is_reduced (nth n ts) ≡ true
-formed_nth n none l h = absurd (omega arith)
-formed_nth zero (more t ts) l h = parts_reduced t h.0
-formed_nth (suc n) (more t ts) l h = formed_nth n ts (omega arith) h.1
 
 pub none_nth : (p : Tree → Bool) (n : ℕ) (ts : Trees) → n < count ts → NoneIs p ts → p (nth n ts) ≡ false
 none_nth p n none l h = absurd (omega arith)
@@ -55,10 +52,6 @@ trees_split zero l = refl
 trees_split (suc n) [] = refl
 trees_split (suc n) (t ∷ l) = ap (more t) (trees_split n l)
 
-none_behind : (p : Tree → Bool) (ts us : Trees) → NoneIs p (append ts us) → NoneIs p us
-none_behind p none us h = h
-none_behind p (more t ts) us h = none_behind p ts us h.1
-
 -- ---- sorted behind a leading Number
 
 pub record IsOrdered (ts us : Trees) : Type 0 where
@@ -87,7 +80,7 @@ ordered lead os us l n s h =
 pub led_ordered : (ts us : Trees) (h : IsLed ts) → NoneIs is_loose ts → IsSorting (count h.lead) part_of ts us → IsOrdered ts us
 led_ordered ts us h s x =
     subst (λ (y : Trees). IsOrdered y us) (sym h.split)
-    (ordered h.lead h.others us h.one h.no_number (none_behind is_loose h.lead h.others (subst (NoneIs is_loose) h.split s)) (subst (λ (y : Trees). IsSorting (count h.lead) part_of y us) h.split x))
+    (ordered h.lead h.others us h.one h.no_number (last_none is_loose h.lead h.others (subst (NoneIs is_loose) h.split s)) (subst (λ (y : Trees). IsSorting (count h.lead) part_of y us) h.split x))
 
 -- ---- the children of a root
 

@@ -1,9 +1,15 @@
 -- Roots that are sums, from call to call.
 use Rattle.std.proofs.Common.{ℕ, ◌<◌, ◌≡◌, List, [], ◌∷◌, eqb, true, false, refl, sym, ap, ◌∙◌, subst, arith}
-use Rattle.sum_reduce.proofs.Shared.{Tree, Trees, none, more, count, is_add, State, IsOver, over_sum, over_handed, over_plain, over_put, over_same, over_end, over_beside, without_put, once_count, children_in, live, expression, seen, nth, plain, inserted, children_of, IsExpression, Forest, arity, kids, root_count, tree_nth, without_nth, with_nth, merged_nth, IsOnce, IsHanded, Represents, Ends, Gives, KeepsFront, holds, tree_at, kids_of, root_tree, without_root, Stands, forest, arity-tree_nth, IsBehind, behind_first, behind_later, behind_new, front_same, front_at, front_end, front_put, front_without, gives, gives_as, given_handed, given_root, given_rest, given_same, given_told, given_other, given_without, handed_by_put, represents_handed, represents_with, apart, other_apart, kids_of_root, last_tree, eqb-sym, root-put, put-put, put-same, tree-put, without-put, represents_nth, represents_without, represents_merged, terms_in, IsSum, Changes, Takes, removed}
+use Rattle.sum_reduce.proofs.Shared.{Tree, Trees, add, none, more, count, is_add, State, IsOver, over_sum, over_handed, over_plain, over_put, over_same, over_end, over_beside, without_put, once_count, children_in, live, expression, seen, nth, plain, inserted, children_of, IsExpression, Forest, arity, kids, root_count, tree_nth, without_nth, with_nth, merged_nth, IsOnce, IsHanded, Represents, Ends, Gives, KeepsFront, holds, tree_at, kids_of, root_tree, without_root, Stands, forest, arity-tree_nth, IsBehind, behind_first, behind_later, behind_new, front_same, front_at, front_end, front_put, front_without, gives, gives_as, given_handed, given_root, given_rest, given_same, given_told, given_other, given_without, handed_by_put, represents_handed, represents_with, apart, other_apart, kids_of_root, last_tree, eqb-sym, root-put, put-put, put-same, tree-put, without-put, represents_nth, represents_without, represents_merged, terms_in, IsSum, Changes, Takes, removed}
+use Rattle.coefficients.proofs.Loops.{set_removed}
 use Rattle.coefficients.specs.Pairs.{GivesTwo}
 use Rattle.tree_handles.proofs.Cuts.{represents_count}
 use Rattle.tree_handles.proofs.Beside.{gives_put, gives_without}
+use Rattle.tree_handles.proofs.Filling.{hole_behind}
+use Rattle.tree_handles.proofs.Roots.{put-left, tree-left}
+use Rattle.tree_handles.specs.Holes.{ChangesTree, IsHole, Place, set_child, set_tree}
+use Rattle.tree_handles.specs.Forest.{join}
+use Rattle.tree_handles.specs.Roots.{has_root}
 use Rattle.tree_handles.specs.Roots.{put}
 use Rattle.tree_handles.proofs.Counted.{all-tree_nth}
 use Rattle.like_children.specs.Children.{LeavesChildren}
@@ -29,7 +35,7 @@ sum_expression e st h = expression e st h.handed
 pub sum_seen : {s : State} {i j : ℕ} → j ≡ i → Stands s → IsSum i (forest s) → children_of (plain (tree_at j (forest s))) ≡ terms_in i (forest s)
 sum_seen e st h = ap children_of (seen e st h.handed)
 
-pub sum_arity : {s : State} {i : ℕ} → Stands s → IsSum i (forest s) → arity (kids_of i (forest s)) ≡ count (terms_in i (forest s))
+sum_arity : {s : State} {i : ℕ} → Stands s → IsSum i (forest s) → arity (kids_of i (forest s)) ≡ count (terms_in i (forest s))
 sum_arity st h = children_in st (sum_over h)
 
 pub sum_within : {s : State} {i : ℕ} (n : ℕ) → Stands s → IsSum i (forest s) → n < count (terms_in i (forest s)) → n < arity (kids_of i (forest s))
@@ -57,6 +63,15 @@ changed {i = i} {f = f} {n = n} h r e =
 pub merged : {i : ℕ} {f g : Forest} (n : ℕ) → IsSum i f → n < count (terms_in i f) → g ≡ put i (merged_nth n (kids (root_tree i f))) f
     → IsChanged i (inserted n (children_of (nth n (terms_in i f))) (removed n (terms_in i f))) f g
 merged n h l e = changed h (represents_merged n (root_within n h l) (sum_over h).kids) e
+
+-- a term is another
+add_set : (n : ℕ) (u s : Tree) → is_add s ≡ true → set_child n u s ≡ add (set_tree n u (children_of s))
+add_set n u s h = grind arith
+
+pub filled : {i : ℕ} {f g : Forest} (n : ℕ) (u : Tree) → IsSum i f → n < count (terms_in i f) → ChangesTree i (set_child n u (plain (root_tree i f))) f g → IsChanged i (inserted n (more u none) (removed n (terms_in i f))) f g
+filled {i = i} {f = f} n u h l a =
+    let is = a.tree ∙ add_set n u (plain (root_tree i f)) h.sum in
+    record { changes = record { kids = a.kids; whole = a.whole; sum = record { handed = a.handed; sum = ap is_add is } }; terms = ap children_of is ∙ set_removed n u (terms_in i f) l }
 
 pub changes_same : {i : ℕ} {f : Forest} → IsSum i f → Changes i f f
 changes_same {i = i} {f = f} h = record { kids = kids (root_tree i f); whole = sym (put-same i f); sum = h }
@@ -195,36 +210,22 @@ pub part_gone : {c p : ℕ} {others new end : Forest} {C P : Tree → Type 0} �
 part_gone {c = c} {others = others} {C = C} k e = subst (λ (x : Forest). Gives others x c C) (sym (e ∙ given_rest k.second-given)) k.first-given
 
 -- or comes back
-pub record IsSplit (i at : ℕ) (t : Tree) (old mid new : Forest) (c : ℕ) (C : Tree → Type 0) : Type 0 where
+pub record IsSplit (i : ℕ) (ts : Trees) (old new : Forest) (c : ℕ) (C : Tree → Type 0) : Type 0 where
   pub takes : Takes i old new c
-  pub terms : terms_in i new ≡ inserted at (more t none) (terms_in i mid)
+  pub terms : terms_in i new ≡ ts
   pub told : C (plain (root_tree c new))
 
-pub part_back : {i h c p : ℕ} {u : Tree} {f g new end : Forest} {C : Tree → Type 0} (at : ℕ) → Takes i f g h → GivesTwo (without_root h g) new c p C (λ t. t ≡ u)
-    → end ≡ put i (with_nth at (root_tree p new) (kids (root_tree i new))) (without_root p new) → IsSplit i at u f g end c C
-part_back {i = i} {c = c} {p = p} {u = u} {f = f} {g = g} {new = new} {end = end} {C = C} at t k e =
-    let o = over_end (beside_over t) k.first-given.ends in
-    let o2 = over_end o k.second-given.ends in
-    let r = represents_with at (represents_handed (given_handed k.second-given)) o2.kids in
-    let now = with_nth at (root_tree p new) (kids (root_tree i new)) in
-    let whole : end ≡ put i now k.between = e ∙ ap (put i now) (given_rest k.second-given) in
-    let given = gives_put i now k.first-given (beside_over t).root in
-    let over = over_same (over_put now o r) whole in
-    let moved = gives_as given (ap (put i now) (takes_rest t) ∙ put-put i now t.kids f) (λ x y. y) in
-    let here : Gives (put i now f) end c C = subst (λ (x : Forest). Gives (put i now f) x c C) (sym whole) moved in
-    record {
-      takes = record { was = t.was; kids = now; given = gives_as here refl (λ x y. tt); sum = over_is_sum over };
-      terms = over_terms over ∙ ap (λ (x : Tree). inserted at (more x none) (terms_in i g)) (given_told k.second-given);
-      told = given_told here;
-    }
-
--- the sum beside both
-pub both_over : {i h c p : ℕ} {f g new : Forest} {C P : Tree → Type 0} → Takes i f g h → GivesTwo (without_root h g) new c p C P → IsOver kind.Add i (terms_in i g) new
-both_over t k = over_end (over_end (beside_over t) k.first-given.ends) k.second-given.ends
-
-pub both_apart : {i h c p : ℕ} {f g : Forest} {s : State} {C P : Tree → Type 0} → Stands s → Takes i f g h → GivesTwo (without_root h g) (forest s) c p C P → holds i (root_tree p (forest s)) ≡ false
-both_apart {i = i} {p = p} st t k =
-    apart i p st (eqb-sym p i (other_apart i k.second-given.ends (over_end (beside_over t) k.first-given.ends).root)) (both_over t k).root (given_root k.second-given)
+pub part_back : {place : Place} {i c p : ℕ} {f others new end : Forest} {C P : Tree → Type 0} (n : ℕ) (u : Tree) → IsSum i f → n < count (terms_in i f) → IsHole place i n f others → (k : GivesTwo others new c p C P)
+    → ChangesTree i (set_child n u (plain (root_tree i (join f k.first-given.tree)))) (join f k.first-given.tree) end → IsSplit i (inserted n (more u none) (removed n (terms_in i f))) f end c C
+part_back {i = i} {c = c} {f = f} {end = end} {C = C} n u s l o k a =
+    let one = k.first-given in
+    let both = hole_behind o one.ends in
+    let root = s.handed.root in
+    let terms : terms_in i (join f one.tree) ≡ terms_in i f = ap (λ (t : Forest). children_of (plain t)) (tree-left i f one.tree root) in
+    let x = filled {f = join f one.tree} n u (record { handed = both.handed; sum = ap (λ (t : Forest). is_add (plain t)) (tree-left i f one.tree root) ∙ s.sum }) (omega (arith, ap count terms, l)) a in
+    let clear : has_root c (put i a.kids f) ≡ false = root-put i c a.kids f ∙ sym (root-put i c (without_nth n (kids (root_tree i f))) f) ∙ ap (has_root c) (sym o.whole) ∙ one.ends.clear in
+    let there : Gives (put i a.kids f) end c C = record { tree = one.tree; ends = record { whole = a.whole ∙ put-left i a.kids f one.tree root; alone = one.ends.alone; root = one.ends.root; clear = clear }; once = one.once; whole = one.whole; told = one.told } in
+    record { takes = record { was = s; kids = a.kids; given = gives_as there refl (λ x y. tt); sum = x.changes.sum }; terms = x.terms ∙ ap (λ (ts : Trees). inserted n (more u none) (removed n ts)) terms; told = given_told there }
 
 -- what stood beside the sum went into it
 pub takes_changes : {i h : ℕ} {f g new : Forest} → Takes i f g h → Changes i (without_root h g) new → Changes i f new

@@ -2,6 +2,7 @@
 use Rattle.std.proofs.Common.{suc, ◌+◌, ◌≤◌, ◌≡◌, ◌≢◌, ◌⊎◌, inl, inr, Bool, true, false, not, if◌then◌else◌, refl, sym, ap, ◌∙◌, subst, arith}
 use Rattle.sum_reduce.proofs.Shared.{Fraction, zero_fraction, is_zero_fraction, is_one_fraction, is_number, IsNumber, IsTerm, split_product, product_tree, part_of, NoneIs, HasForm, Tree, num, add, mult, root, Trees, none, more, append, nodes, nodes_of, is_add, AllParts, AllPartsOf, no_zero, Permuted, permuted_none, permuted_more, permuted_swap, permuted_trans, number_test, IsMonic, with_coefficient, rational_before, mapped, rational_times_term, rational_times_sum, put, zero_or_not, monic_sum, monic_no_number, monic_parts, number_of_term, IsFactor, scaled, not_one_is, EachTerm, each_term, multiple, width, widths}
 use Rattle.sum_reduce.proofs.Splits.{split_cases}
+pub use Rattle.tree_room.proofs.NodeCounts.{some_node}
 
 -- ---- one term
 
@@ -27,10 +28,6 @@ widths_permuted permuted_swap = omega arith
 widths_permuted (permuted_trans h k) = widths_permuted h ∙ widths_permuted k
 
 -- ---- the nodes of a part
-
-pub some_node : (t : Tree) → 1 ≤ nodes t
-some_node (add ts) = omega arith
-some_node t = omega arith
 
 nodes_of_factors : (ts : Trees) → nodes_of (split_product ts).factors ≤ nodes_of ts
 nodes_of_factors ts = split_cases (λ ts c us. nodes_of us ≤ nodes_of ts) (λ ts. omega arith) (λ t ts n. omega arith) (λ q r ts e. omega arith) ts

@@ -1,6 +1,8 @@
 -- A Number's terms and other terms whose parts rise are a reduced sum, with the meanings, the names and the nest of its parts.
 use Rattle.std.proofs.Common.{◌≡◌, inl, inr, ◌≤◌, Bool, true, false, not, if◌then◌else◌, refl, sym, ap, ◌∙◌, arith}
 use Rattle.sum_reduce.proofs.Shared.{zero_fraction, is_zero_fraction, nest, nest_of, is_number, terms_of, IsNumber, IsTerm, AreTerms, Rises, part_of, number_terms, other_terms, HasForm, NoneIs, RisesBy, Tree, num, add, Trees, none, more, append, names, names_of, AllParts, AllPartsOf, HasTwo, is_add, KeepsMeanings, KeepsMeanings-eq, KeepsMeanings-trans, flat_sum, zero_goes, empty_sum, single_sum, zero_test, no_zero, number_words, AsNumber, as_number, term_test, no_term, AllPartsOf-append, terms_parts, terms_of_number, sum_tree, Within, within_same, within_both, within_beside, within_trans, within_left, within_eq, names_of-append, nest-append}
+use Rattle.tree_bits.proofs.ExponentBits.{nothing_is}
+use Rattle.sum_reduce.proofs.Opened.{NoneIs-append}
 
 -- a Number's terms, and then the other terms
 abbrev pub written_sum : Tree → Trees → Tree
@@ -15,15 +17,8 @@ pub record AreOthers (us : Trees) : Type 0 where
 
 -- ---- the terms of a Number
 
-zero_is_zero : is_zero_fraction zero_fraction ≡ true
-zero_is_zero = by (is_zero_fraction zero_fraction) refl
-  where
-    by : (b : Bool) → is_zero_fraction zero_fraction ≡ b → b ≡ true
-    by true e = refl
-    by false e = absurd (no_zero zero_fraction (ap not e) refl)
-
 pub zero_terms : (a : Tree) → a ≡ num zero_fraction → terms_of_number a ≡ none
-zero_terms a e = ap terms_of_number e ∙ ap (λ b. if b then none else more (num zero_fraction) none) zero_is_zero
+zero_terms a e = ap terms_of_number e ∙ ap (λ b. if b then none else more (num zero_fraction) none) nothing_is
 
 pub term_in : (a : Tree) → IsTerm a → terms_of_number a ≡ more a none
 term_in a h = grind (arith, zero_test)
@@ -46,10 +41,6 @@ other_terms-terms (more t ts) us h k = ap (λ b. if b then other_terms (append t
 no_sum_terms : (ts : Trees) → AreTerms ts → NoneIs is_add ts
 no_sum_terms none h = tt
 no_sum_terms (more t ts) h = grind (arith, no_sum_terms ts h.1)
-
-NoneIs-append : (p : Tree → Bool) (ts us : Trees) → NoneIs p ts → NoneIs p us → NoneIs p (append ts us)
-NoneIs-append p none us h k = k
-NoneIs-append p (more t ts) us h k = (h.0, NoneIs-append p ts us h.1 k)
 
 -- the terms of a Number: rising, in their form, and none of them a sum
 pub record AreNumberTerms (ts : Trees) : Type 0 where

@@ -38,7 +38,7 @@ use coefficients::{put_coefficient, take_coefficient};
 use like_children::is_pair;
 use node_pool::{Full, Pool};
 use number_forms::add_numbers;
-use tree_handles::{Handle, NumberFault, add_child, release, take_child};
+use tree_handles::{Handle, NumberFault, fill, open_child, release, take_child};
 
 /// The coefficient of the term at a place; the part of the term stays there.
 fn take_coefficient_at(pool: &mut Pool, sum: &Handle, at: u16) -> Result<Handle, Full>
@@ -59,9 +59,9 @@ fn take_coefficient_at(pool: &mut Pool, sum: &Handle, at: u16) -> Result<Handle,
     ensures room { IfErr result (λ full. free_of pool.old < 40) }
     ensures stands { Stands pool.new }
 {
-    let term = take_child(pool, sum, at);
+    let (hole, term) = open_child(pool, sum, at);
     let (coefficient, part) = take_coefficient(pool, term)?;
-    add_child(pool, sum, at, part);
+    fill(pool, hole, part);
     Ok(coefficient)
 }
 
@@ -181,9 +181,9 @@ fn put_back(pool: &mut Pool, sum: &Handle, at: u16, coefficient: Handle) -> Resu
         → IfErr result (LacksRoom (counted p) (free_of pool.old + size (tree_of coefficient pool.old) + size p) gs) }
     ensures stands { Stands pool.new }
 {
-    let part = take_child(pool, sum, at);
+    let (hole, part) = open_child(pool, sum, at);
     let term = put_coefficient(pool, coefficient, part)?;
-    add_child(pool, sum, at, term);
+    fill(pool, hole, term);
     Ok(())
 }
 

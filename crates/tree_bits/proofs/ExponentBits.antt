@@ -3,7 +3,7 @@ use Rattle.std.proofs.Common.{◌≡◌, ◌≢◌, ℕ, ◌+◌, ◌*◌, ◌^�
 use Rattle.std.proofs.Math.Nat.{dvd_refl}
 use Rattle.std.proofs.lemmas.Bool.{and_parts, eqb-true, not_from_false}
 use Rattle.std.specs.Int.{◌∣◌}
-use Rattle.calc_algebra.proofs.NumberLaws.{number_test}
+use Rattle.calc_algebra.proofs.NumberLaws.{number_test, term_test}
 use Rattle.calc_algebra.specs.Numbers.{IsTerm, AreTerms, is_number, is_term, value, terms_of}
 use Rattle.calc_algebra.specs.Reduced.{HasForm, NoneIs, num_one, number_terms, other_terms}
 use Rattle.calc_algebra.specs.Surds.{surd_of, surd_one}
@@ -20,18 +20,11 @@ use Rattle.tree_bits.specs.Exponents.{Counts, counts, multiple, is_counted, are_
 use Rattle.tree_bits.specs.HeldTrees.{Addend, addend, addend_of, addends, addends_of, power_high, power_low, IsTreeHeld, sum_held, AreWeighted, none_weighted, more_weighted, IsPartHeld, no_factor_held, factor_held, symbol_held}
 use Rattle.tree_bits.specs.Weighted.{Weighted, weighted, PartsAll, lows, weighted_mass, AreHeld}
 
-clash : {A : Type 0} → true ≡ false → A
+pub clash : {A : Type 0} → true ≡ false → A
 clash e = absurd cc
 
-unclear : {A : Type 0} → false ≡ true → A
+pub unclear : {A : Type 0} → false ≡ true → A
 unclear e = absurd cc
-
-term_test : (t : Tree) → IsTerm t → is_term t ≡ true
-unfolding is_number
-term_test (num q) h = not_from_false _ (zero_test q h)
-term_test (root (num r)) h = number_test (root (num r)) h
-term_test (mult (more (num q) (more (root (num r)) none))) h = number_test (mult (more (num q) (more (root (num r)) none))) h
-term_test t h = absurd h
 
 -- an exponent that counts is not Undef
 pub counted_defined : (e : Tree) → is_counted e ≡ true → is_undef e ≡ false
@@ -68,7 +61,7 @@ some_times m n h k = grind arith
 multiple_some : (q : Fraction) (c : Counts) → (q.den == 1) ≡ true → q ≢ zero_fraction → 1 ≤ c.up + c.down → 1 ≤ (multiple q.num c).up + (multiple q.num c).down
 multiple_some q c w z k = omega (arith, multiple_counts q.num c, some_times (nat_abs q.num) (c.up + c.down) (some_magnitude q.num (not_nothing q w z)) k)
 
-nothing_is : is_zero_fraction zero_fraction ≡ true
+pub nothing_is : is_zero_fraction zero_fraction ≡ true
 unfolding zero_fraction
 nothing_is = ap int_is_zero (whole_numerator (pos 0))
 

@@ -12,7 +12,7 @@ use Rattle.tree_bits.proofs.Sums.{tree_wider, one_weighted, one_counted, one_cou
 no_sum : (t : Tree) → is_add t ≡ false → addends t ≡ as_factor t ∷ []
 no_sum t h = grind arith
 
-as_number : (t : Tree) → is_number t ≡ true → as_factor t ≡ addend (value t) none
+pub as_number : (t : Tree) → is_number t ≡ true → as_factor t ≡ addend (value t) none
 as_number t h = ap (λ (b : Bool). if b then addend (value t) none else addend_of t) h
 
 as_base : (ts : Trees) → is_number (add ts) ≡ false → as_factor (add ts) ≡ addend surd_one (more (add ts) none)
@@ -156,7 +156,7 @@ times_mass d e c (w ∷ ws) p (q, qs) =
     both : (m c d p x y : ℕ) → m ≤ c * d → x ≤ c * y → m * p + x ≤ c * (d * p + y)
     both m c d p x y h k = let a : m * p ≤ (c * d) * p = mul-le m p (c * d) p h (omega arith) in omega arith
 
-times_weighted : {xs : List Addend} {ws : List Weighted} (c : Surd) → AreWeighted xs ws → AreWeighted (distributed c xs) (times_each c ws)
+pub times_weighted : {xs : List Addend} {ws : List Weighted} (c : Surd) → AreWeighted xs ws → AreWeighted (distributed c xs) (times_each c ws)
 times_weighted c none_weighted = none_weighted
 times_weighted c (more_weighted h l p a) = more_weighted h l p (times_weighted c a)
 

@@ -9,7 +9,7 @@ use Rattle.tree_bits.proofs.HeldTrees.{wider, part_by_both, base_by_both, high_a
 pub factor_left_out : (t : Tree) (ts : Trees) (h l : ℕ) → IsPartHeld (more t ts) h l → IsPartHeld ts h l
 factor_left_out t ts h l (factor_held p q k n c b r x y) = wider (omega arith) (omega arith) r
 
-swapped : {t u : Tree} {ts : Trees} {h l : ℕ} → IsPartHeld (more t (more u ts)) h l → IsPartHeld (more u (more t ts)) h l
+pub swapped : {t u : Tree} {ts : Trees} {h l : ℕ} → IsPartHeld (more t (more u ts)) h l → IsPartHeld (more u (more t ts)) h l
 swapped {t = t} {u = u} (factor_held p q k n c b (factor_held i j m o d e r x y) z w) =
     factor_held i j (power_high (counts_of (exponent_in t)) p q + m) (power_low (counts_of (exponent_in t)) p q + o) d e (factor_held p q m o c b r (omega arith) (omega arith)) (omega arith) (omega arith)
 

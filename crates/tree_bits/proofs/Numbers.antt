@@ -69,7 +69,7 @@ one_held (t ∷ v) h l p q k = held_wider (t ∷ v) (h - p) h (l - q) l (omega a
 of_one : {c : Surd} {h l : ℕ} {ws : List Weighted} → AreWeighted (addend c none ∷ []) ws → AreHeld ws h l → IsHeld c h l
 of_one {c = c} {h = h} {l = l} (more_weighted p q f none_weighted) k = one_held c h l p q k
 
-no_undef : is_number undef ≡ true → ⊥
+pub no_undef : is_number undef ≡ true → ⊥
 unfolding is_number
 no_undef h = cc
 
@@ -78,7 +78,7 @@ held_number n h = grind (arith, no_undef, of_one, alone)
 
 -- ---- exponents
 
-base_positive : {b : Tree} {h l : ℕ} → IsBaseHeld b h l → 1 ≤ h
+pub base_positive : {b : Tree} {h l : ℕ} → IsBaseHeld b h l → 1 ≤ h
 base_positive h = grind arith
 
 counted_within : (u v p q k h : ℕ) → 1 ≤ p → (u * p + v * (p + 2 * q)) + k ≤ h → u + v ≤ h

@@ -40,7 +40,7 @@ rational_held q = record {
       rational_mass q.den (root_above (magnitude_over q.den q * magnitude_over q.den q * 1)) (max 1 (ceil_log2 m)) (den_pos q) (omega (arith, a, b, c));
 }
 
-rational_is_number : (q : Fraction) → is_number (num q) ≡ true
+pub rational_is_number : (q : Fraction) → is_number (num q) ≡ true
 unfolding is_number
 rational_is_number q = refl
 

@@ -7,14 +7,14 @@ use Rattle.tree_handles.proofs.Distinct.{Distinct, distinct, distinct_parts}
 use Rattle.tree_handles.proofs.Forests.{arity-set_nth, arity-without_nth, bytes_in-join, first-rest}
 use Rattle.tree_handles.proofs.FreeBytes.{all_bytes, beside_bytes}
 use Rattle.tree_handles.proofs.Fronts.{behind_first, front_after_one, front_at, front_end, front_put, front_same, front_without, not_first, starts_end, starts_put}
-use Rattle.tree_handles.proofs.Given.{given_rest, handed_at, handed_beside, handed_by_put}
+use Rattle.tree_handles.proofs.Given.{given_apart, given_other, given_rest, given_same, handed_at, handed_beside, handed_by_put}
 use Rattle.tree_handles.proofs.Lasts.{apart, ends_as, kids_of_root, last_rest, last_tree}
 use Rattle.tree_handles.proofs.Nths.{with_nth-without_nth}
 use Rattle.tree_handles.proofs.Outcomes.{by_test, eqb-sym}
 use Rattle.tree_handles.proofs.Over.{tree_put, without_put}
 use Rattle.tree_handles.proofs.Places.{used_forest}
 use Rattle.tree_handles.proofs.Plains.{children_of-plain, count-plains, grown_whole, plain-tree_nth, whole_kids}
-use Rattle.tree_handles.proofs.Roots.{kids-put, no_root, put-put, put-same, root_arity, root_held, root-put, root-without, tree-put, tree-without, without-put}
+use Rattle.tree_handles.proofs.Roots.{kids-put, no_root, put-left, put-put, put-same, root_arity, root_held, root-left, root-put, root-without, tree-left, tree-put, tree-without, without-put}
 
 -- ---- the child goes
 
@@ -79,7 +79,8 @@ opened_free {i = i} {s = s} {t = t} n st su k h e =
 
 -- ---- a tree comes
 
-gone : (i : ℕ) (f : Forest) → Distinct f → has_root i (without_root i f) ≡ false
+-- a root that is gone is no root any more
+pub gone : (i : ℕ) (f : Forest) → Distinct f → has_root i (without_root i f) ≡ false
 gone i empty d = refl
 gone i (tree l k r) d =
     let p = distinct_parts l k r d in
@@ -177,6 +178,16 @@ hole_other {i = i} {n = n} {old = old} h d k = handed_at (handed_by_put i (witho
 pub hole_tree : {p : Place} {i n : ℕ} {old f : Forest} (j : ℕ) → IsHole p i n old f → eqb i j ≡ false → root_tree j f ≡ root_tree j old
 hole_tree {i = i} {n = n} {old = old} j h d = ap (root_tree j) h.whole ∙ tree-put i j (without_nth n (kids (root_tree i old))) old d
 
+pub record IsAsBefore (j h : ℕ) (old new : Forest) : Type 0 where
+  pub handed : IsHanded j new
+  pub apart : eqb h j ≡ false
+  pub same : plain (root_tree j new) ≡ plain (root_tree j old)
+
+pub as_before : {p : Place} {i j n h : ℕ} {old new : Forest} {Told : Tree → Type 0} → IsHole p i n old (without_root h new) → Gives (without_root h new) new h Told → eqb i j ≡ false → IsHanded j old → IsAsBefore j h old new
+as_before {j = j} o g d k =
+    let there = hole_other o d k in
+    record { handed = given_other g there; apart = given_apart g there; same = ap plain (given_same j g there.root ∙ hole_tree j o d) }
+
 -- one of them goes
 pub hole_beside : {p : Place} {i n : ℕ} {old f : Forest} (j : ℕ) → eqb i j ≡ false → IsHole p i n old f → IsHole p i n (without_root j old) (without_root j f)
 hole_beside {i = i} {n = n} {old = old} {f = f} j d h =
@@ -186,6 +197,17 @@ hole_beside {i = i} {n = n} {old = old} {f = f} j d h =
       handed = handed_beside j (eqb-sym i j d) h.handed;
       within = subst (λ (x : Forest). n < count (children_of (plain x))) (sym same) h.within;
       whole = ap (without_root j) h.whole ∙ without-put i j (without_nth n (kids (root_tree i old))) old d ∙ ap (λ (x : Forest). put i (without_nth n (kids x)) (without_root j old)) (sym same);
+    }
+
+-- another tree comes behind all
+pub hole_behind : {p : Place} {i n j : ℕ} {t old f g : Forest} → IsHole p i n old f → Ends j t f g → IsHole p i n (join old t) g
+hole_behind {i = i} {n = n} {t = t} {old = old} h e =
+    let same = tree-left i old t h.handed.root in
+    record {
+      is = h.is;
+      handed = record { root = root-left i old t h.handed.root; once = subst AllOnce (sym same) h.handed.once; whole = subst AllExpressions (sym same) h.handed.whole };
+      within = subst (λ (x : Forest). n < count (children_of (plain x))) (sym same) h.within;
+      whole = e.whole ∙ ap (λ (x : Forest). join x t) h.whole ∙ sym (put-left i (without_nth n (kids (root_tree i old))) old t h.handed.root) ∙ ap (λ (x : Forest). put i (without_nth n (kids x)) (join old t)) (sym same);
     }
 
 pub changes_none : {i : ℕ} {f : Forest} → IsHanded i f → ChangesTree i (plain (root_tree i f)) f f
@@ -220,6 +242,10 @@ changes_last {i = i} {Told = Told} a e h = record { tree = root_tree i _; ends =
 
 pub changes_last_front : {i : ℕ} {t : Tree} {u f g new : Forest} → ChangesTree i t f g → Ends i u (without_root i g) new → KeepsFront (i ∷ []) f new
 changes_last_front a e = front_end e (front_without behind_first (changes_front a))
+
+-- two trees that were handed, named the other way round
+pub front_swapped : {i j : ℕ} {f g : Forest} → KeepsFront (i ∷ j ∷ []) f g → KeepsFront (j ∷ i ∷ []) f g
+front_swapped k = record { keeps = λ p s n. k.keeps p s (n.1.0, (n.0, tt)) }
 
 -- where the root changed before, and a call that was handed it keeps the front
 pub front_again : {i : ℕ} {handed : List ℕ} {f g h : Forest} → KeepsFront (i ∷ handed) f g → KeepsFront (i ∷ []) g h → KeepsFront (i ∷ handed) f h

@@ -11,7 +11,7 @@ all_within none none h = omega arith
 all_within (more r rs) (more t ts) (h, hs) = let x : counted_in_all rs ≤ nodes_of ts = all_within rs ts hs in omega arith
 all_within _ _ h = absurd h
 
-some_node : (t : Tree) → 1 ≤ nodes t
+pub some_node : (t : Tree) → 1 ≤ nodes t
 some_node (num q) = omega arith
 some_node (symbol x) = omega arith
 some_node undef = omega arith

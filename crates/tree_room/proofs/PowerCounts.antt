@@ -73,7 +73,7 @@ of_a_power c e f g h w k = by (is_whole_num g) refl (is_whole_num f) refl
 pub of_a_root : (a : Tree) → is_num a ≡ false → counted (root a) ≡ suc (counted a)
 of_a_root a h = ap (λ z. if z then 1 else suc (counted a)) h
 
-power_no_number : (f e : Tree) → is_number (power f e) ≡ false
+pub power_no_number : (f e : Tree) → is_number (power f e) ≡ false
 unfolding is_number
 power_no_number f e = refl
 

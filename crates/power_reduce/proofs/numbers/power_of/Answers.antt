@@ -3,6 +3,7 @@ use Rattle.power_reduce.proofs.Shared.{PlainValue, value_of, one_value, ratio_pa
 use Rattle.power_reduce.proofs.RationalPowers.{not_above, below, zero_bits, no_zero_bits, opposite, powered_above, powered_below, powered_zero, not_zero, fitting_power, unfit_power, fitting_power_of, unfit_power_of, if_err}
 use Rattle.power_reduce.proofs.numbers.power_of.Goals.{Else-n-gt0}
 use Rattle.power_reduce.proofs.numbers.power_of.Goals as goal
+use Rattle.std.proofs.lemmas.Bool.{false≢true}
 
 pub invert-requires : goal.invert-requires
 invert-requires c = grind (arith, ratio_parts, not_above)
@@ -13,11 +14,8 @@ returns-then-n-eq0-clause-value c = grind (arith, zero_bits, powered_zero, one_v
 pub returns-in_err-power-clause-named : goal.returns-in_err-power-clause-named
 returns-in_err-power-clause-named c = grind (arith, if_err, powered_above, unfit_power)
 
-clash : false ≡ true → ⊥
-clash e = cc
-
 pub returns-then-n-gt0-clause-value : goal.returns-then-n-gt0-clause-value
-returns-then-n-gt0-clause-value c = grind (arith, powered_above, fitting_power, clash)
+returns-then-n-gt0-clause-value c = grind (arith, powered_above, fitting_power, false≢true)
 
 down : (c : Else-n-gt0) → c.args.n <ℤ pos 0
 down c = below c.args.n (not_above c.args.n c.requires.fits c.if-n-gt0.false) (no_zero_bits c.args.n c.if-n-eq0.false)
@@ -35,4 +33,4 @@ returns-clause-value c =
     let d = down (goal.at.returns-clause-value c).Else-n-gt0 in
     let n = not_zero (value_of c.args.q) c.args.n c.requires.some (not_above c.args.n c.requires.fits c.if-n-gt0.false) in
     powered_below (value_of c.args.q) c.args.n d n
-    ∙ fitting_power_of _ _ _ _ _ c.invert.ensures.inverse (opposite c.args.n c.requires.fits d) (λ f. clash (c.in_ok-power-2.ensures.refused.1 f)) c.in_ok-power-2.ensures.power
+    ∙ fitting_power_of _ _ _ _ _ c.invert.ensures.inverse (opposite c.args.n c.requires.fits d) (λ f. false≢true (c.in_ok-power-2.ensures.refused.1 f)) c.in_ok-power-2.ensures.power

@@ -1,6 +1,7 @@
 use Rattle.std.proofs.Common.{rules, refl, arith}
-use Rattle.power_reduce.proofs.Shared.{forest, refused_below, passed_on, given_apart, given_handed, hole_other}
-use Rattle.power_reduce.proofs.Raising.{beside_hole, power_told, hole_of_power, raised_one, raised_front}
+use Rattle.power_reduce.proofs.Shared.{forest, refused_below, passed_on, given_handed, given_told}
+use Rattle.power_reduce.proofs.Raising.{power_told, hole_of_power, raised_one, raised_front}
+use Rattle.tree_handles.proofs.Filling.{as_before}
 use Rattle.power_reduce.proofs.rewriting.raise_factor.Goals as goal
 
 pub open_child-hole-requires : goal.open_child-hole-requires
@@ -8,14 +9,8 @@ open_child-hole-requires c = record { stands = search rules; handed = c.requires
 
 pub node_over_two-requires : goal.node_over_two-requires
 node_over_two-requires c =
-    let child = c.open_child-hole.ensures.child in
-    record {
-      stands = search rules;
-      takes = refl;
-      first = given_handed child;
-      second = beside_hole c.open_child-hole.ensures.hole child c.requires.apart c.requires.second;
-      apart = given_apart child (hole_other c.open_child-hole.ensures.hole c.requires.apart c.requires.second);
-    }
+    let b = as_before c.open_child-hole.ensures.hole c.open_child-hole.ensures.child c.requires.apart c.requires.second in
+    record { stands = search rules; takes = refl; first = given_handed c.open_child-hole.ensures.child; second = b.handed; apart = b.apart }
 
 pub returns-in_err-power-clause-front : goal.returns-in_err-power-clause-front
 returns-in_err-power-clause-front c = c.open_child-hole.ensures.front _ _ c.node_over_two.ensures.front
@@ -31,9 +26,11 @@ fill-requires c =
 
 pub returns-clause-ok : goal.returns-clause-ok
 returns-clause-ok c =
-    let h = c.open_child-hole.ensures.hole in
+    let o = c.open_child-hole.ensures.hole in
+    let child = c.open_child-hole.ensures.child in
     let g = c.in_ok-power.ensures.ok in
-    raised_one c.args.exponent c.args.at (forest c.args.pool.now) c.requires.apart (c.fill.ensures.changed _ _ _ (hole_of_power c.args.exponent h c.requires.apart g)) (power_told h c.open_child-hole.ensures.child c.requires.apart c.requires.second g)
+    raised_one c.args.exponent c.args.at (forest c.args.pool.now) c.requires.apart (c.fill.ensures.changed _ _ _ (hole_of_power c.args.exponent o c.requires.apart g))
+    (power_told (as_before o child c.requires.apart c.requires.second) (given_told child) g)
 
 pub returns-clause-front : goal.returns-clause-front
 returns-clause-front c = raised_front (c.fill.ensures.changed _ _ _ (hole_of_power c.args.exponent c.open_child-hole.ensures.hole c.requires.apart c.in_ok-power.ensures.ok))

@@ -1,68 +1,57 @@
-use Rattle.std.proofs.Common.{◌∙◌, ap, arith, ℕ, ◌<◌, subst, rules}
+use Rattle.std.proofs.Common.{◌≡◌, ◌∙◌, ap, ◌<◌, subst, rules, ℕ}
 use Rattle.std.specs.Prelude.{IfErr}
-use Rattle.sum_reduce.proofs.Shared.{passed_result, count_removed, is_number, is_reduced, part_of, more, none, count, is_undef, coefficient_of, children_in, inserted, forest, front_after_one, given_root, root_held, terms_in, free_of, tree_of}
-use Rattle.sum_reduce.proofs.Sums.{sum_within, term_out, takes_handed, takes_behind, takes_front, part_back, both_over, both_apart}
+use Rattle.sum_reduce.proofs.Shared.{Tree, passed_result, is_number, is_reduced, part_of, more, none, nth, is_undef, coefficient_of, given_handed, given_told, inserted, removed, forest, terms_in, free_of, tree_of}
+use Rattle.sum_reduce.proofs.Sums.{IsSplit, part_back, takes_front}
 use Rattle.sum_reduce.proofs.Rooms.{taking_lacks}
-use Rattle.sum_reduce.proofs.SumBytes.{out_free}
+use Rattle.tree_handles.proofs.Filling.{hole_behind, hole_stays}
+use Rattle.sum_reduce.proofs.joining.take_coefficient_at.Goals.{After-fill}
 use Rattle.sum_reduce.proofs.joining.take_coefficient_at.Goals as goal
 
-pub take_child-term-requires-clause-within : goal.take_child-term-requires-clause-within
-take_child-term-requires-clause-within c = sum_within c.args.at c.requires.stands c.requires.sum c.requires.within
+pub open_child-hole-requires : goal.open_child-hole-requires
+open_child-hole-requires c = record { stands = search rules; handed = c.requires.sum.handed; within = c.requires.within }
 
 pub take_coefficient-requires : goal.take_coefficient-requires
 take_coefficient-requires c =
-    let o = term_out c.args.at c.requires.sum c.requires.within (c.take_child-term.ensures.last c.requires.sum.handed.root) in
+    let told = given_told c.open_child-hole.ensures.child in
     record {
       stands = search rules;
-      handed = takes_handed o.takes;
-      reduced = ap is_reduced o.tree ∙ c.requires.reduced;
-      defined = ap is_undef o.tree ∙ c.requires.defined;
-      no_number = ap is_number o.tree ∙ c.requires.no_number;
+      handed = given_handed c.open_child-hole.ensures.child;
+      reduced = ap is_reduced told ∙ c.requires.reduced;
+      defined = ap is_undef told ∙ c.requires.defined;
+      no_number = ap is_number told ∙ c.requires.no_number;
     }
 
-pub add_child-requires : goal.add_child-requires
-add_child-requires c =
-    let o = term_out c.args.at c.requires.sum c.requires.within (c.take_child-term.ensures.last c.requires.sum.handed.root) in
-    record {
-      stands = search rules;
-      live = root_held c.args.sum.now _ (both_over o.takes c.in_ok-coefficient.ensures.ok).root;
-      within = omega (arith, children_in c.in_ok-coefficient.ensures.stands (both_over o.takes c.in_ok-coefficient.ensures.ok), ap count o.terms, count_removed c.args.at (terms_in c.args.sum.now (forest c.args.pool.now)) c.requires.within, c.requires.within);
-      root = given_root c.in_ok-coefficient.ensures.ok.second-given;
-      apart = both_apart c.in_ok-coefficient.ensures.stands o.takes c.in_ok-coefficient.ensures.ok;
-    }
+pub fill-requires : goal.fill-requires
+fill-requires c =
+    let k = c.in_ok-coefficient.ensures.ok in
+    record { stands = search rules; hole = (_, _, _, hole_stays k.second-given (hole_behind c.open_child-hole.ensures.hole k.first-given.ends)); handed = given_handed k.second-given }
+
+-- the part stands where the term did
+split : (c : After-fill) → IsSplit c.args.sum.now (inserted c.args.at (more (tree_of c.in_ok-coefficient.part c.take_coefficient.new.pool) none) (removed c.args.at (terms_in c.args.sum.now (forest c.args.pool.now))))
+    (forest c.args.pool.now) (forest c.fill.new.pool) c.in_ok-coefficient.coefficient (λ t. t ≡ coefficient_of (tree_of c.open_child-hole.result.1 c.open_child-hole.new.pool))
+split c =
+    let k = c.in_ok-coefficient.ensures.ok in
+    let o = c.open_child-hole.ensures.hole in
+    part_back c.args.at (tree_of c.in_ok-coefficient.part c.take_coefficient.new.pool) c.requires.sum c.requires.within o k (c.fill.ensures.changed _ _ _ (hole_stays k.second-given (hole_behind o k.first-given.ends)))
 
 pub returns-clause-ok : goal.returns-clause-ok
-returns-clause-ok c =
-    let o = term_out c.args.at c.requires.sum c.requires.within (c.take_child-term.ensures.last c.requires.sum.handed.root) in
-    let k = c.in_ok-coefficient.ensures.ok in
-    (part_back c.args.at o.takes k (c.add_child.ensures.root (both_over o.takes k).root)).takes
+returns-clause-ok c = (split (goal.at.returns-clause-ok c).After-fill).takes
 
 pub returns-clause-terms : goal.returns-clause-terms
 returns-clause-terms c =
-    let o = term_out c.args.at c.requires.sum c.requires.within (c.take_child-term.ensures.last c.requires.sum.handed.root) in
-    let k = c.in_ok-coefficient.ensures.ok in
-    (part_back c.args.at o.takes k (c.add_child.ensures.root (both_over o.takes k).root)).terms ∙ (λ i. inserted c.args.at (more (part_of (o.tree i)) none) (o.terms i))
+    let part = given_told c.in_ok-coefficient.ensures.ok.second-given ∙ ap part_of (given_told c.open_child-hole.ensures.child) in
+    (split (goal.at.returns-clause-terms c).After-fill).terms ∙ ap (λ (t : Tree). inserted c.args.at (more t none) (removed c.args.at (terms_in c.args.sum.now (forest c.args.pool.now)))) part
 
 pub returns-clause-coefficient : goal.returns-clause-coefficient
-returns-clause-coefficient c =
-    let o = term_out c.args.at c.requires.sum c.requires.within (c.take_child-term.ensures.last c.requires.sum.handed.root) in
-    let k = c.in_ok-coefficient.ensures.ok in
-    (part_back c.args.at o.takes k (c.add_child.ensures.root (both_over o.takes k).root)).told ∙ ap coefficient_of o.tree
+returns-clause-coefficient c = (split (goal.at.returns-clause-coefficient c).After-fill).told ∙ ap coefficient_of (given_told c.open_child-hole.ensures.child)
 
 pub returns-clause-front : goal.returns-clause-front
-returns-clause-front c =
-    let o = term_out c.args.at c.requires.sum c.requires.within (c.take_child-term.ensures.last c.requires.sum.handed.root) in
-    let k = c.in_ok-coefficient.ensures.ok in
-    takes_front (part_back c.args.at o.takes k (c.add_child.ensures.root (both_over o.takes k).root)).takes
+returns-clause-front c = takes_front (split (goal.at.returns-clause-front c).After-fill).takes
 
 pub returns-in_err-coefficient-clause-front : goal.returns-in_err-coefficient-clause-front
-returns-in_err-coefficient-clause-front c =
-    let o = term_out c.args.at c.requires.sum c.requires.within (c.take_child-term.ensures.last c.requires.sum.handed.root) in
-    front_after_one (takes_behind o.takes) (takes_front o.takes) c.take_coefficient.ensures.front
+returns-in_err-coefficient-clause-front c = c.open_child-hole.ensures.front _ _ c.take_coefficient.ensures.front
 
 pub returns-in_err-coefficient-clause-room : goal.returns-in_err-coefficient-clause-room
 returns-in_err-coefficient-clause-room c =
-    let o = term_out c.args.at c.requires.sum c.requires.within (c.take_child-term.ensures.last c.requires.sum.handed.root) in
-    let free = out_free c.requires.stands c.take_child-term.ensures.stands c.take_child-term.ensures.kept c.requires.within o in
     passed_result c.from_residual.result c.in_err-coefficient.field-0.0 (λ r. IfErr r (λ full. free_of c.args.pool.now < 40)) c.from_residual.ensures.0 c.from_residual.ensures.1
-    (subst (λ (n : ℕ). n < 40) free (taking_lacks (tree_of c.take_child-term.result c.take_child-term.new.pool) c.in_err-coefficient.ensures.full))
+    (subst (λ (n : ℕ). n < 40) c.open_child-hole.ensures.free (taking_lacks (tree_of c.open_child-hole.result.1 c.open_child-hole.new.pool) c.in_err-coefficient.ensures.full))

@@ -12,6 +12,7 @@ use Rattle.sum_reduce.proofs.Held.{holds}
 use Rattle.sum_reduce.proofs.HeldTerms.{tree_held}
 use Rattle.sum_reduce.proofs.CollectedExponents.{counted_defined, exponents_collected, written_counts}
 use Rattle.sum_reduce.proofs.reducing.reduce_sum.Goals as goal
+use Rattle.std.proofs.lemmas.Bool.{false≢true}
 
 pub returns-then-has_undef_term-clause-counted : goal.returns-then-has_undef_term-clause-counted
 returns-then-has_undef_term-clause-counted c = omega (arith, ap counted (given_told c.undefined.ensures.gives))
@@ -67,9 +68,6 @@ returns-in_err-settle-clause-rationals c = grind (arith, passed_result, rational
 pub returns-clause-front : goal.returns-clause-front
 returns-clause-front c = front_end c.written.ensures.tree.ends (front_without behind_first c.settle.ensures.front)
 
-not_both : false ≡ true → ⊥
-not_both e = cc
-
 pub returns-clause-collected : goal.returns-clause-collected
 returns-clause-collected c = λ d.
     let s = c.in_ok-settle.ensures in
@@ -81,10 +79,10 @@ returns-clause-written c = λ d u.
     subst (IsWrittenSum (terms_in c.args.sum (forest c.args.pool.now))) (sym (given_told c.written.ensures.tree)) (settled_written _ (terms_in c.args.sum (forest c.settle.new.pool)) s.stage s.settled u)
 
 pub returns-then-has_undef_term-clause-collected : goal.returns-then-has_undef_term-clause-collected
-returns-then-has_undef_term-clause-collected c = λ d. absurd (not_both (sym d ∙ sym c.has_undef_term.ensures ∙ c.if-has_undef_term.true))
+returns-then-has_undef_term-clause-collected c = λ d. absurd (false≢true (sym d ∙ sym c.has_undef_term.ensures ∙ c.if-has_undef_term.true))
 
 pub returns-then-has_undef_term-clause-written : goal.returns-then-has_undef_term-clause-written
-returns-then-has_undef_term-clause-written c = λ d u. absurd (not_both (sym d ∙ sym c.has_undef_term.ensures ∙ c.if-has_undef_term.true))
+returns-then-has_undef_term-clause-written c = λ d u. absurd (false≢true (sym d ∙ sym c.has_undef_term.ensures ∙ c.if-has_undef_term.true))
 
 pub returns-in_err-settle-clause-defined : goal.returns-in_err-settle-clause-defined
 returns-in_err-settle-clause-defined c = grind (arith, passed_named)
@@ -102,7 +100,7 @@ returns-clause-held c = λ h l d k.
     subst (λ (t : Tree). IsTreeHeld t h l) (sym (given_told c.written.ensures.tree)) (tree_held s.settled.arranged s.stage.some (holds s.stage.held k))
 
 pub returns-then-has_undef_term-clause-held : goal.returns-then-has_undef_term-clause-held
-returns-then-has_undef_term-clause-held c = λ h l d k. absurd (not_both (sym d ∙ sym c.has_undef_term.ensures ∙ c.if-has_undef_term.true))
+returns-then-has_undef_term-clause-held c = λ h l d k. absurd (false≢true (sym d ∙ sym c.has_undef_term.ensures ∙ c.if-has_undef_term.true))
 
 pub returns-in_err-settle-clause-bits : goal.returns-in_err-settle-clause-bits
 returns-in_err-settle-clause-bits c = grind (arith, passed_named)
@@ -116,4 +114,4 @@ returns-clause-exponents c = λ h.
     subst (λ (t : Tree). (is_counted t ≡ true) × IsWithin (counts_of t) (counts_of_all ts)) (sym (given_told c.written.ensures.tree)) (w.counted, w.within)
 
 pub returns-then-has_undef_term-clause-exponents : goal.returns-then-has_undef_term-clause-exponents
-returns-then-has_undef_term-clause-exponents c = λ h. absurd (not_both (sym (counted_defined (terms_in c.args.sum (forest c.args.pool.now)) h) ∙ sym c.has_undef_term.ensures ∙ c.if-has_undef_term.true))
+returns-then-has_undef_term-clause-exponents c = λ h. absurd (false≢true (sym (counted_defined (terms_in c.args.sum (forest c.args.pool.now)) h) ∙ sym c.has_undef_term.ensures ∙ c.if-has_undef_term.true))
