@@ -8,3 +8,4 @@ pub mod Port
 pub mod HeldRationals
 pub mod TakenOut
 pub mod Shared
+pub mod LeafVisits

@@ -6,7 +6,7 @@ ghost use Rattle.calc_terms.specs.Trees.{nodes, size};
 ghost use Rattle.node_pool.specs.State.{free_of};
 ghost use Rattle.reduce_port.specs.Checks.{CalmUpTo, TripsWithin};
 ghost use Rattle.reduce_port.specs.Faults.{CountsRefusals, IfFull, IfInterrupted, IfOverflow};
-ghost use Rattle.reduce_walk.specs.Leaves.{is_leaf as is_leaf_tree, BeginWithLeaves};
+ghost use Rattle.reduce_walk.specs.Leaves.{is_leaf as is_leaf_tree, is_leaf_kind as is_leaf_kind_of, BeginWithLeaves};
 ghost use Rattle.reduce_walk.specs.Stops.{IsUnfitAt, Stops};
 ghost use Rattle.tree_handles.specs.Causes.{Overflows};
 ghost use Rattle.tree_handles.specs.Expressions.{IsExpression, children_of, plain};
@@ -20,7 +20,7 @@ use breakers::{Breaker, Interrupted, Watch};
 use calc_terms::Kind;
 use node_pool::{Id, Pool};
 use reduce_port::ReduceFault;
-use tree_handles::{Handle, adopt, child_ids, children, kind, move_last, take_child};
+use tree_handles::{Handle, adopt, children, kind, move_last, nodes_below, take_child};
 
 /// The answer of a tree, by a step on each of its nodes but the leaves, which are their own answers. The watch is checked
 /// once for each node, children before their parent and from left to right, each time before that node's own step.
@@ -115,8 +115,8 @@ fn check_leaves<B: Breaker>(pool: &Pool, id: Id, watch: &mut Watch<B>) -> Result
     ensures trips { IfErr result (λ i. TripsWithin (nodes (plain (tree_at id (forest pool.now)))) (states B.state watch.old) (states B.state watch.new) i.by) }
 {
     let mut leaves = 0u16;
-    for child in child_ids(pool, id, 0) {
-        if !is_leaf(pool, child) {
+    for node in nodes_below(pool, id, 0) {
+        if !is_leaf_kind(node.kind) {
             return Ok(leaves);
         }
         watch.check()?;
@@ -126,10 +126,19 @@ fn check_leaves<B: Breaker>(pool: &Pool, id: Id, watch: &mut Watch<B>) -> Result
 }
 
 /// Whether a node is a number, a symbol or Undef.
+#[tactic(auto, using(crate::proofs::LeafVisits::leaf_by_kind))]
 fn is_leaf(pool: &Pool, id: Id) -> bool
     requires stands { Stands pool.now }
     requires expression { IsExpression id (forest pool.now) }
     ensures { result ≡ is_leaf_tree (plain (tree_at id (forest pool.now))) }
 {
-    matches!(kind(pool, id), Kind::Num | Kind::Sym | Kind::Undef)
+    is_leaf_kind(kind(pool, id))
+}
+
+/// Whether nodes of a kind are leaves.
+#[inline(always)]
+fn is_leaf_kind(kind: Kind) -> bool
+    ensures { result ≡ is_leaf_kind_of kind }
+{
+    matches!(kind, Kind::Num | Kind::Sym | Kind::Undef)
 }
