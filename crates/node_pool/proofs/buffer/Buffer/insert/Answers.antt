@@ -1,5 +1,5 @@
 use Rattle.std.proofs.Common.{arith, refl, ap, length, ◌+◌, ◌-◌, ◌≤◌, ◌∙◌, ◌≡◌, ℕ}
-use Rattle.node_pool.proofs.Shared.{Node, IsNode, Contents, contents_of, IsBoundary, size_of, used, parent, put, put_before}
+use Rattle.node_pool.proofs.Shared.{Node, Contents, contents_of, IsBoundary, used, parent, put, put_before}
 use Rattle.node_pool.specs.declared.buffer.Buffer.TheInside.{Inside}
 use Rattle.raw_region.proofs.Slides.{length-slid}
 use Rattle.node_pool.proofs.Cuts.{boundary_le}

@@ -1,4 +1,4 @@
-use Rattle.std.proofs.Common.{List, arith, ap, sym, subst, length, set, ◌∙◌, ◌≡◌, ◌∷◌, ℕ}
+use Rattle.std.proofs.Common.{List, arith, ap, sym, subst, length, ◌∙◌, ◌≡◌, ◌∷◌, ℕ}
 use Rattle.node_pool.proofs.Shared.{Node, AreBelow, Contents, IsKept, noted, used, parent, put_before, IsBoundary, between, since, until, free_of}
 use Rattle.node_pool.proofs.Cuts.{boundary_le}
 use Rattle.node_pool.proofs.Found.{end_boundary}
