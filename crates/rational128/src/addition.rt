@@ -18,7 +18,10 @@ pub fn add(a: Rat, b: Rat) -> Result<Rat, Overflow>
     ensures refused { IsErr result ↔ DoesNotFit Op.Add (value_of a) (value_of b) }
     ensures named { IfErr result (λ e. e ≡ record { op = Op.Add; a = a; b = b }) }
 {
-    fitted_sum(a, b).ok_or(Overflow { op: Op::Add, a, b })
+    match fitted_sum(a, b) {
+        Some(sum) => Ok(sum),
+        None => Err(Overflow { op: Op::Add, a, b }),
+    }
 }
 
 fn fitted_sum(a: Rat, b: Rat) -> Option<Rat>

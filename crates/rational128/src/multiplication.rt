@@ -18,7 +18,10 @@ pub fn mul(a: Rat, b: Rat) -> Result<Rat, Overflow>
     ensures refused { IsErr result ↔ DoesNotFit Op.Mul (value_of a) (value_of b) }
     ensures named { IfErr result (λ e. e ≡ record { op = Op.Mul; a = a; b = b }) }
 {
-    fitted_product(a, b).ok_or(Overflow { op: Op::Mul, a, b })
+    match fitted_product(a, b) {
+        Some(product) => Ok(product),
+        None => Err(Overflow { op: Op::Mul, a, b }),
+    }
 }
 
 fn fitted_product(a: Rat, b: Rat) -> Option<Rat>
