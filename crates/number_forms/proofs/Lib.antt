@@ -35,4 +35,5 @@ pub mod RationalBits
 pub mod InverseBits
 pub mod ListedTerms
 pub mod ValueLoops
+pub mod RisingPairs
 pub mod Shared

@@ -1,8 +1,10 @@
 -- Sums of terms, of any number of them.
 use Rattle.std.specs.Prelude.{ℕ, zero, suc, ◌≡◌, ◌<◌, ◌≤◌, [], ◌∷◌, false, ⊤}
-use Rattle.calc_algebra.specs.Numbers.{AreTerms, Rises, term_of, terms_of, value}
+use Rattle.std.specs.declared.cmp.Ordering.{Ordering}
+use Rattle.std.specs.declared.cmp.Ordering.TheVariants.{Less, Equal, Greater}
+use Rattle.calc_algebra.specs.Numbers.{AreTerms, IsTerm, Rises, term_of, terms_of, value}
 use Rattle.calc_algebra.specs.SquareClasses.{are_alike, Same}
-use Rattle.calc_algebra.specs.Surds.{Surd}
+use Rattle.calc_algebra.specs.Surds.{Surd, Term}
 use Rattle.calc_bits.specs.Denominators.{SharesDenominators}
 use Rattle.calc_terms.specs.Trees.{Tree, add, Trees, none, more, count}
 use Rattle.tree_handles.specs.Expressions.{nth}
@@ -44,3 +46,20 @@ abbrev pub trees_from : ℕ → Trees → Trees
 trees_from zero ts = ts
 trees_from (suc n) none = none
 trees_from (suc n) (more t ts) = trees_from n ts
+
+-- two terms whose radicands rise, not alike
+pub record AreRising (a b : Tree) : Type 0 where
+  pub first : IsTerm a
+  pub second : IsTerm b
+  pub rises : Rises (term_of a ∷ term_of b ∷ [])
+
+-- the order of two terms that stay apart, and Equal of others
+abbrev pub Ranks : Ordering → Tree → Tree → Type 0
+Ranks Less a b = AreRising a b
+Ranks Equal a b = ⊤
+Ranks Greater a b = AreRising b a
+
+abbrev pub RanksTerms : Ordering → Term → Term → Type 0
+RanksTerms Less x y = Rises (x ∷ y ∷ [])
+RanksTerms Equal x y = ⊤
+RanksTerms Greater x y = Rises (y ∷ x ∷ [])

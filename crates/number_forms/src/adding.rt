@@ -15,23 +15,27 @@ ghost use Rattle.number_forms.specs.Kept.{AnswersItself};
 ghost use Rattle.number_forms.specs.Overflows.{SumOverflows};
 ghost use Rattle.number_forms.specs.Readers.{is_zero};
 ghost use Rattle.number_forms.specs.Rooms.{LacksRoom, joining_need};
-ghost use Rattle.number_forms.specs.Sums.{IsSum, IsSumOf};
+ghost use Rattle.number_forms.specs.Sums.{IsSum, IsSumOf, Ranks, RanksTerms};
+ghost use Rattle.surd_terms.specs.Terms.{term_of};
 ghost use Rattle.tree_handles.specs.Standing.{LacksBytes, Stands, forest, KeepsRefusals, Refuses};
 ghost use Rattle.tree_handles.specs.Causes.{IsCaused};
 ghost use Rattle.tree_handles.specs.Handed.{tree_of, IsHanded, Gives, KeepsFront};
 ghost use Rattle.tree_handles.specs.Faults.{Faults, OfOverflow};
 ghost use Rattle.tree_handles.specs.Roots.{without_root};
 
-use crate::calculating::{Joint, calculate};
-use crate::joining::{NOWHERE, join_term};
+use crate::calculating::{Joint, calculate, calculate_others};
+use crate::joining::{NOWHERE, SQUARE_FREE_BELOW, join_term};
 use crate::read::term_count;
 use crate::roots;
 use crate::term::listed_term;
 use calc_terms::{Kind, Rat};
 use child_lists::{ChildList, FEW, MANY, NONE};
 use node_pool::{Full, Id, Pool};
+use std::cmp::Ordering;
+use surd_terms::Term;
 use tree_handles::{
-    Handle, NumberFault, children, kind, move_last, node, node_over, number, release, take_child,
+    Handle, NumberFault, children, kind, move_last, node, node_over, node_over_two, number,
+    release, take_child,
 };
 
 /// The sum of two Numbers, which are consumed. 0 and a Number that is no rational are that tree as it stands.
@@ -58,6 +62,61 @@ pub fn add_numbers(pool: &mut Pool, a: Handle, b: Handle) -> Result<Handle, Numb
     ensures stands { Stands pool.new }
 {
     calculate(pool, Joint::Sum, a, b)
+}
+
+/// The sum of two Numbers, which are consumed. Two terms that stay apart are its terms as they stand.
+pub(crate) fn add_terms(pool: &mut Pool, a: Handle, b: Handle) -> Result<Handle, NumberFault>
+    requires stands { Stands pool.old }
+    requires first { IsHanded a (forest pool.old) }
+    requires second { IsHanded b (forest pool.old) }
+    requires apart { (a == b) ≡ false }
+    requires first_number { is_number (tree_of a pool.old) ≡ true }
+    requires second_number { is_number (tree_of b pool.old) ≡ true }
+    ensures ok { IfOk result (λ h. Gives (without_root b (without_root a (forest pool.old))) (forest pool.new) h (IsNumberOver (value (tree_of a pool.old) ++ value (tree_of b pool.old)))) }
+    ensures front { KeepsFront (a ∷ b ∷ []) (forest pool.old) (forest pool.new) }
+    ensures kept { OnOk result (KeepsRefusals pool.old pool.new) }
+    ensures faults { IfErr result (Faults pool.old pool.new) }
+    ensures overflow { IfErr result (OfOverflow (SumOverflows (value (tree_of a pool.old)) (value (tree_of b pool.old)))) }
+    ensures caused { IfErr result (IsCaused pool.new) }
+    ensures room { (gs : List ℕ) → SpansTree gs (tree_of a pool.old) → SpansTree gs (tree_of b pool.old) → IfErr result (LacksRoom sum_need (free_of pool.old + size (tree_of a pool.old) + size (tree_of b pool.old)) gs) }
+    ensures stands { Stands pool.new }
+{
+    match order_of_terms(pool, &a, &b) {
+        Ordering::Less => Ok(node_over_two(pool, Kind::Add, a, b)?),
+        Ordering::Greater => Ok(node_over_two(pool, Kind::Add, b, a)?),
+        Ordering::Equal => calculate_others(pool, Joint::Sum, a, b),
+    }
+}
+
+/// The order of two Numbers that are terms which stay apart, and Equal of others.
+fn order_of_terms(pool: &Pool, a: &Handle, b: &Handle) -> Ordering
+    requires stands { Stands pool.now }
+    requires first { IsHanded a.now (forest pool.now) }
+    requires second { IsHanded b.now (forest pool.now) }
+    requires first_number { is_number (tree_of a.now pool.now) ≡ true }
+    requires second_number { is_number (tree_of b.now pool.now) ≡ true }
+    ensures { Ranks result (tree_of a.now pool.now) (tree_of b.now pool.now) }
+{
+    if roots::term_count(pool, a) != 1 || roots::term_count(pool, b) != 1 {
+        return Ordering::Equal;
+    }
+    order_of(roots::nth_term(pool, a, 0), roots::nth_term(pool, b, 0))
+}
+
+/// The order of two terms by radicands that are so small that they are square-free.
+fn order_of(a: Term, b: Term) -> Ordering
+    ensures { RanksTerms result (term_of a) (term_of b) }
+{
+    if SQUARE_FREE_BELOW <= a.radicand() || SQUARE_FREE_BELOW <= b.radicand() {
+        return Ordering::Equal;
+    }
+    if a.radicand() < b.radicand() {
+        Ordering::Less
+    } else if b.radicand() < a.radicand() {
+        Ordering::Greater
+    } else {
+        Ordering::Equal
+    }
 }
 
 /// The sum of two Numbers, which are consumed, by their terms.

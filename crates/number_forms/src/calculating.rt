@@ -21,7 +21,7 @@ ghost use Rattle.tree_handles.specs.Handed.{tree_of, IsHanded, Gives, KeepsFront
 ghost use Rattle.tree_handles.specs.Roots.{without_root};
 ghost use Rattle.tree_handles.specs.Standing.{Stands, forest, KeepsRefusals};
 
-use crate::adding::add_others;
+use crate::adding::{add_others, add_terms};
 use crate::multiplying::multiply_others;
 use crate::placing::{has_room, place_terms};
 use crate::rationals::{keep_other, take_rationals};
@@ -141,7 +141,10 @@ fn calculate_terms(
         keep_other(pool, b, &a);
         Ok(a)
     } else {
-        calculate_others(pool, joint, a, b)
+        match joint {
+            Joint::Sum => add_terms(pool, a, b),
+            Joint::Product => calculate_others(pool, joint, a, b),
+        }
     }
 }
 
@@ -158,7 +161,7 @@ fn is_neutral(pool: &Pool, joint: Joint, a: &Handle) -> bool
 }
 
 /// The same by their terms, as values where they are few.
-fn calculate_others(
+pub(crate) fn calculate_others(
     pool: &mut Pool,
     joint: Joint,
     a: Handle,

@@ -1,0 +1,48 @@
+-- Two terms that stay apart, and their sum.
+use Rattle.std.proofs.Common.{◌≡◌, ◌<◌, ◌^◌, ◌++◌, [], ◌∷◌, Some, true, inl, inr, length, ap, ◌∙◌, sym, subst, arith}
+use Rattle.std.specs.Prelude.{slice_get}
+use Rattle.std.specs.declared.cmp.Ordering.{Ordering}
+use Rattle.std.specs.declared.cmp.Ordering.TheVariants.{Less, Equal, Greater}
+use Rattle.calc_algebra.proofs.CleanLaws.{clean_square_free}
+use Rattle.calc_algebra.proofs.NumberShapes.{AsNumber, as_number}
+use Rattle.calc_algebra.specs.Numbers.{term_of as term_of_tree}
+use Rattle.number_forms.proofs.Shared.{IsNumberOver, IsTerm, Rises, Surd, Term, Tree, add, classes, is_number, more, none, number_words, parts_append, parts_left, parts_right, term_of, value, Same-append_comm}
+use Rattle.number_forms.proofs.Over.{over_as}
+use Rattle.number_forms.proofs.Shaped.{sum_number, term_value}
+use Rattle.number_forms.proofs.SquareFreeSums.{apart_small}
+use Rattle.number_forms.specs.Sums.{AreRising, Ranks, RanksTerms}
+use Rattle.surd_terms.specs.declared.term.Term.{Term as CodeTerm}
+
+pub rising_terms : (a b : CodeTerm) → a.radicand < 10 ^ 12 → b.radicand < 10 ^ 12 → a.radicand < b.radicand → Rises (term_of a ∷ term_of b ∷ [])
+rising_terms a b l m h =
+    let apart = apart_small a.radicand b.radicand (clean_square_free a.radicand a.clean l) (clean_square_free b.radicand b.clean m) (λ e. absurd (omega (arith, h, e))) in
+    ((h, apart, tt), (tt, tt))
+
+pub record IsOneTerm (t : Tree) (x : Term) : Type 0 where
+  pub is : IsTerm t
+  pub term : x ≡ term_of_tree t
+
+some_term : {x y : Term} → Some x ≡ Some y → x ≡ y
+some_term e = cc
+
+pub one_term : (t : Tree) (x : Term) → is_number t ≡ true → classes t ≡ 1 → slice_get (value t) 0 ≡ Some x → IsOneTerm t x
+one_term t x h k e = by (as_number t (number_words t h))
+  where
+    by : AsNumber t → IsOneTerm t x
+    by (inl z) = absurd (omega (arith, k, ap (λ (v : Surd). length v) z.value_is))
+    by (inr (inl s)) = record { is = s.one; term = some_term (sym e ∙ ap (λ (v : Surd). slice_get v 0) s.value_is) }
+    by (inr (inr s)) = absurd (omega (arith, k, ap (λ (v : Surd). length v) s.value_is, s.two))
+
+pub ranked : (o : Ordering) (a b : Tree) (x y : Term) → IsOneTerm a x → IsOneTerm b y → RanksTerms o x y → Ranks o a b
+ranked Less a b x y f g r = record { first = f.is; second = g.is; rises = subst (λ (t : Term). Rises (t ∷ term_of_tree b ∷ [])) f.term (subst (λ (t : Term). Rises (x ∷ t ∷ [])) g.term r) }
+ranked Equal a b x y f g r = tt
+ranked Greater a b x y f g r = record { first = g.is; second = f.is; rises = subst (λ (t : Term). Rises (t ∷ term_of_tree a ∷ [])) g.term (subst (λ (t : Term). Rises (y ∷ t ∷ [])) f.term r) }
+
+pub rising_pair : (a b t : Tree) → AreRising a b → t ≡ add (more a (more b none)) → IsNumberOver (value a ++ value b) t
+rising_pair a b t h e =
+    subst (λ (u : Tree). IsNumberOver (value a ++ value b) u) (sym e)
+    (subst (λ (v : Surd). IsNumberOver v (add (more a (more b none)))) (λ i. sym (term_value a h.first) i ++ sym (term_value b h.second) i) (sum_number (more a (more b none)) (omega arith) (h.first, (h.second, tt)) h.rises))
+
+pub falling_pair : (a b t : Tree) → AreRising b a → t ≡ add (more b (more a none)) → IsNumberOver (value a ++ value b) t
+falling_pair a b t h e =
+    over_as (rising_pair b a t h e) (Same-append_comm (value b) (value a)) (λ d p. parts_append d (value b) (value a) (parts_right d (value a) (value b) p) (parts_left d (value a) (value b) p))
