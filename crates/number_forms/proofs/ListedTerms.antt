@@ -4,7 +4,7 @@ use Rattle.std.specs.List.{refill}
 use Rattle.std.specs.Prelude.{insert, remove}
 use Rattle.calc_algebra.proofs.CleanLaws.{clean_square_free}
 use Rattle.calc_algebra.specs.Numbers.{term_of as term_of_tree}
-use Rattle.number_forms.proofs.Shared.{Fraction, mult, num_most, root, size, sizes, whole_fraction, IsExtracted, IsNumberOver, Parts, Same-append, Same-refl, is_number, joined_den, num, number_test, value, zero_fraction, lowest, gcd, AreTerms, IsTerm, IsSumOf, IsPlace, AreBelow, Same, Same-trans, Same-eq, SharesDenominators, Surd, Term, Trees, add, none, more, count, nth, removed, inserted, is_term, is_one_fraction, one_fraction, one_is, term_of, term_tree, term_words, terms_of, value_of, are_alike}
+use Rattle.number_forms.proofs.Shared.{IsProper, Fraction, mult, num_most, root, size, sizes, whole_fraction, IsExtracted, IsNumberOver, Parts, Same-append, Same-refl, is_number, joined_den, num, number_test, value, zero_fraction, lowest, gcd, AreTerms, IsTerm, IsSumOf, IsPlace, AreBelow, Same, Same-trans, Same-eq, SharesDenominators, Surd, Term, Trees, add, none, more, count, nth, removed, inserted, is_term, is_one_fraction, one_fraction, one_is, term_of, term_tree, term_words, terms_of, value_of, are_alike}
 use Rattle.calc_terms.specs.Trees.{append}
 use Rattle.number_forms.proofs.Denominators.{parts_extracted, shares_eq}
 use Rattle.number_forms.proofs.Exchanged.{place_removed}
@@ -165,9 +165,12 @@ module _ (ts : List CodeTerm) (n : ℕ) (t : CodeTerm) (h : AreListed ts) (m : t
         let radicand : one.radicand ≡ x.radicand = same_from_IsGcd _ _ _ _ s.shared (IsGcd-same _ _ e) in
         let alike = subst (λ (y : Term). are_alike y.radicand t.radicand ≡ true) (sym own) j.0 in
         let same = subst (λ (y : Term). Same (term_of one ∷ []) (y ∷ term_of t ∷ [])) (sym own) j.1 in
-        let apart = apart_rest n (add (trees_of ts)) (add us) (term_of t) (term_of one) h.sum there (record { not_zero = one.not_zero; positive = one.positive }) alike same refl in
+        let proper : IsProper (term_of one) = record { not_zero = one.not_zero; positive = one.positive } in
+        let apart = apart_rest n (add (trees_of ts)) (add us) (term_of t) (term_of one) h.sum there proper alike same refl in
         let place = subst (λ (r : ℕ). IsPlace n r us) (ap (λ (y : Term). y.radicand) own ∙ sym radicand) (place_removed (add (trees_of ts)) n h.sum there) in
-        let sum = inserted_of n (term_of one) (term_tree (term_of one)) us (terms_of us) (term_words_of one) (term_is one).1 refl one.positive apart place (are_removed n (trees_of ts) h.sum.0) (rises_removed n (trees_of ts) h.sum.1) in
+        let are = are_removed n (trees_of ts) h.sum.0 in
+        let rises = rises_removed n (trees_of ts) h.sum.1 in
+        let sum = inserted_of n (term_of one) (term_tree (term_of one)) us (terms_of us) (term_words_of one) (term_is one).1 refl one.positive apart place are rises in
         let parts : SharesDenominators (term_of_tree (nth n (trees_of ts)) ∷ term_of t ∷ []) (term_of one ∷ []) =
         (λ d p. let r : Parts d (term_of x ∷ term_of t ∷ []) = subst (λ (y : Term). Parts d (y ∷ term_of t ∷ [])) own p in record { positive = r.positive; whole = (joined_den (term_of one) (term_of x) (term_of t) d s r, tt) }) in
         listed_as (set ts n one) _ (trees_set ts n one l)

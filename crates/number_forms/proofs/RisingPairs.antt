@@ -34,9 +34,17 @@ one_term t x h k e = by (as_number t (number_words t h))
     by (inr (inr s)) = absurd (omega (arith, k, ap (λ (v : Surd). length v) s.value_is, s.two))
 
 pub ranked : (o : Ordering) (a b : Tree) (x y : Term) → IsOneTerm a x → IsOneTerm b y → RanksTerms o x y → Ranks o a b
-ranked Less a b x y f g r = record { first = f.is; second = g.is; rises = subst (λ (t : Term). Rises (t ∷ term_of_tree b ∷ [])) f.term (subst (λ (t : Term). Rises (x ∷ t ∷ [])) g.term r) }
+ranked Less a b x y f g r = record {
+  first = f.is;
+  second = g.is;
+  rises = subst (λ (t : Term). Rises (t ∷ term_of_tree b ∷ [])) f.term (subst (λ (t : Term). Rises (x ∷ t ∷ [])) g.term r);
+}
 ranked Equal a b x y f g r = tt
-ranked Greater a b x y f g r = record { first = g.is; second = f.is; rises = subst (λ (t : Term). Rises (t ∷ term_of_tree a ∷ [])) g.term (subst (λ (t : Term). Rises (y ∷ t ∷ [])) f.term r) }
+ranked Greater a b x y f g r = record {
+  first = g.is;
+  second = f.is;
+  rises = subst (λ (t : Term). Rises (t ∷ term_of_tree a ∷ [])) g.term (subst (λ (t : Term). Rises (y ∷ t ∷ [])) f.term r);
+}
 
 pub rising_pair : (a b t : Tree) → AreRising a b → t ≡ add (more a (more b none)) → IsNumberOver (value a ++ value b) t
 rising_pair a b t h e =

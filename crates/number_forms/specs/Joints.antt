@@ -1,17 +1,21 @@
 -- The sum or the product of two Numbers.
-use Rattle.std.specs.Prelude.{ℕ, Bool, ◌++◌}
+use Rattle.std.specs.Prelude.{ℕ, ◌+◌, Bool, List, ◌++◌}
 use Rattle.calc_algebra.specs.Reduced.{is_num_one}
 use Rattle.calc_algebra.specs.Surds.{Surd, surd_times}
 use Rattle.calc_room.specs.Needs.{sum_need, product_need}
 use Rattle.calc_terms.specs.Fits.{Operation}
-use Rattle.calc_terms.specs.Trees.{Tree}
+use Rattle.calc_terms.specs.Trees.{Tree, size}
+use Rattle.node_pool.specs.State.{State, free_of}
 use Rattle.number_forms.specs.Overflows.{SumOverflows, ProductOverflows}
 use Rattle.number_forms.specs.Readers.{is_zero}
+use Rattle.number_forms.specs.Rooms.{LacksRoom}
 use Rattle.number_forms.specs.declared.calculating.Joint.{Joint}
 use Rattle.number_forms.specs.declared.calculating.Joint.TheVariants as joint
 use Rattle.rational128.specs.Refusals.{operation_of}
 use Rattle.rational128.specs.declared.overflow.Op.{Op}
 use Rattle.rational128.specs.declared.overflow.Overflow.{Overflow}
+use Rattle.tree_handles.specs.Handed.{tree_of}
+use Rattle.tree_handles.specs.declared.fault.NumberFault.{NumberFault}
 
 -- what two surds are worth together
 abbrev pub both : Joint → Surd → Surd → Surd
@@ -40,3 +44,7 @@ JointOverflows joint.Product v w o = ProductOverflows v w o
 abbrev pub joint_need : Joint → ℕ
 joint_need joint.Sum = sum_need
 joint_need joint.Product = product_need
+
+-- bytes are lacking only where fewer than that are at hand, free or in the two trees
+abbrev pub LacksJointRoom : Joint → ℕ → ℕ → State → List ℕ → NumberFault → Type 0
+LacksJointRoom j a b s gs f = LacksRoom (joint_need j) (free_of s + size (tree_of a s) + size (tree_of b s)) gs f

@@ -1,18 +1,16 @@
 //! Sums and products of Numbers: of rationals, of a Number and a rational that leaves it as it is, of a few terms as values,
 //! and of more in the pool.
-ghost use Rattle.std.specs.Prelude.{ℕ, List, ◌+◌, ◌≡◌, ◌↔◌, ◌==◌, ◌&&◌, ◌∷◌, [], true, false, IsTrue, IsErr, IfOk, IfErr, OnOk};
+ghost use Rattle.std.specs.Prelude.{ℕ, List, ◌≡◌, ◌↔◌, ◌==◌, ◌&&◌, ◌∷◌, [], true, false, IsTrue, IsErr, IfOk, IfErr, OnOk};
 ghost use Rattle.calc_algebra.specs.Numbers.{is_number, value};
 ghost use Rattle.calc_measures.specs.PlainValues.{calculated};
 ghost use Rattle.calc_room.specs.Spans.{SpansTree};
 ghost use Rattle.calc_terms.specs.Fits.{result_of};
 ghost use Rattle.calc_terms.specs.Fractions.{Fraction};
 ghost use Rattle.calc_terms.specs.Rat.{value_of};
-ghost use Rattle.calc_terms.specs.Trees.{num, is_num, size};
-ghost use Rattle.node_pool.specs.State.{free_of};
+ghost use Rattle.calc_terms.specs.Trees.{num, is_num};
 ghost use Rattle.number_forms.specs.Answers.{AnswersRationals, IsNumberOver};
-ghost use Rattle.number_forms.specs.Joints.{JointOverflows, both, is_neutral, joint_need, op_of, operation};
+ghost use Rattle.number_forms.specs.Joints.{JointOverflows, LacksJointRoom, both, is_neutral, op_of, operation};
 ghost use Rattle.number_forms.specs.Kept.{AnswersItself};
-ghost use Rattle.number_forms.specs.Rooms.{LacksRoom};
 ghost use Rattle.number_forms.specs.Values.{AreTermsOf};
 ghost use Rattle.rational128.specs.Refusals.{DoesNotFit};
 ghost use Rattle.tree_handles.specs.Causes.{IsCaused};
@@ -61,7 +59,7 @@ pub(crate) fn calculate(
     ensures first_neutral { is_neutral joint (tree_of a pool.old) ≡ true → is_num (tree_of b pool.old) ≡ false → AnswersItself b pool.old pool.new result }
     ensures second_neutral { is_neutral joint (tree_of b pool.old) ≡ true → is_num (tree_of a pool.old) ≡ false → AnswersItself a pool.old pool.new result }
     ensures caused { IfErr result (IsCaused pool.new) }
-    ensures room { (gs : List ℕ) → SpansTree gs (tree_of a pool.old) → SpansTree gs (tree_of b pool.old) → IfErr result (LacksRoom (joint_need joint) (free_of pool.old + size (tree_of a pool.old) + size (tree_of b pool.old)) gs) }
+    ensures room { (gs : List ℕ) → SpansTree gs (tree_of a pool.old) → SpansTree gs (tree_of b pool.old) → IfErr result (LacksJointRoom joint a b pool.old gs) }
     ensures stands { Stands pool.new }
 {
     if roots::is_rational(pool, &a) && roots::is_rational(pool, &b) {
@@ -90,7 +88,7 @@ fn calculate_rationals(
     ensures kept { OnOk result (KeepsRefusals pool.old pool.new) }
     ensures faults { IfErr result (Faults pool.old pool.new) }
     ensures caused { IfErr result (IsCaused pool.new) }
-    ensures room { (gs : List ℕ) → IfErr result (LacksRoom (joint_need joint) (free_of pool.old + size (tree_of a pool.old) + size (tree_of b pool.old)) gs) }
+    ensures room { (gs : List ℕ) → IfErr result (LacksJointRoom joint a b pool.old gs) }
     ensures stands { Stands pool.new }
 {
     let (p, q) = take_rationals(pool, a, b);
@@ -129,7 +127,7 @@ fn calculate_terms(
     ensures faults { IfErr result (Faults pool.old pool.new) }
     ensures overflow { IfErr result (OfOverflow (JointOverflows joint (value (tree_of a pool.old)) (value (tree_of b pool.old)))) }
     ensures caused { IfErr result (IsCaused pool.new) }
-    ensures room { (gs : List ℕ) → SpansTree gs (tree_of a pool.old) → SpansTree gs (tree_of b pool.old) → IfErr result (LacksRoom (joint_need joint) (free_of pool.old + size (tree_of a pool.old) + size (tree_of b pool.old)) gs) }
+    ensures room { (gs : List ℕ) → SpansTree gs (tree_of a pool.old) → SpansTree gs (tree_of b pool.old) → IfErr result (LacksJointRoom joint a b pool.old gs) }
     ensures first_neutral { is_neutral joint (tree_of a pool.old) ≡ true → AnswersItself b pool.old pool.new result }
     ensures second_neutral { is_neutral joint (tree_of a pool.old) ≡ false → is_neutral joint (tree_of b pool.old) ≡ true → AnswersItself a pool.old pool.new result }
     ensures stands { Stands pool.new }
@@ -179,7 +177,7 @@ pub(crate) fn calculate_others(
     ensures faults { IfErr result (Faults pool.old pool.new) }
     ensures overflow { IfErr result (OfOverflow (JointOverflows joint (value (tree_of a pool.old)) (value (tree_of b pool.old)))) }
     ensures caused { IfErr result (IsCaused pool.new) }
-    ensures room { (gs : List ℕ) → SpansTree gs (tree_of a pool.old) → SpansTree gs (tree_of b pool.old) → IfErr result (LacksRoom (joint_need joint) (free_of pool.old + size (tree_of a pool.old) + size (tree_of b pool.old)) gs) }
+    ensures room { (gs : List ℕ) → SpansTree gs (tree_of a pool.old) → SpansTree gs (tree_of b pool.old) → IfErr result (LacksJointRoom joint a b pool.old gs) }
     ensures stands { Stands pool.new }
 {
     let mut terms = TermList::new();

@@ -1,8 +1,9 @@
-use Rattle.std.proofs.Common.{◌≡◌, ◌≤◌, ◌+◌, ◌*◌, ◌∙◌, List, length, inl, sym, ap, subst, arith, rules}
+use Rattle.std.proofs.Common.{◌≡◌, ◌≤◌, ◌+◌, ◌*◌, ◌∙◌, List, [], ◌∷◌, length, inl, sym, ap, subst, arith, rules}
 use Rattle.std.specs.Prelude.{IfErr}
-use Rattle.number_forms.proofs.Shared.{IsHanded, IsNumberOver, LacksRoom, behind_first, behind_later, both_released_free, eqb-sym, forest, free_of, front_after, front_at, front_same, front_without, gives_as, handed_at, handed_beside, kept_after, owned, passed_on, size, tree_of, value, without-swap, without_root}
+use Rattle.number_forms.proofs.Shared.{IsHanded, IsNumberOver, KeepsFront, behind_first, behind_later, both_released_free, eqb-sym, forest, free_of, front_after, front_at}
+use Rattle.number_forms.proofs.Shared.{front_same, front_without, gives_as, handed_at, handed_beside, kept_after, owned, passed_on, tree_of, value, without-swap, without_root}
 use Rattle.number_forms.proofs.ListedTerms.{number_over}
-use Rattle.number_forms.specs.Joints.{both, joint_need}
+use Rattle.number_forms.specs.Joints.{LacksJointRoom, both}
 use Rattle.number_forms.specs.Values.{number_tree}
 use Rattle.number_forms.specs.declared.calculating.Joint.{Joint}
 use Rattle.surd_terms.specs.declared.term.Term.{Term}
@@ -20,24 +21,28 @@ gone c =
     let a = first (goal.at.After-release-then-has_room c).After-release in
     c.release-then-has_room.ensures.owned (owned a) ∙ ap (without_root c.args.a) (c.release.ensures.owned (owned c.requires.second)) ∙ without-swap c.args.a c.args.b _ c.requires.apart
 
+front : (c : After-release-then-has_room) → KeepsFront (c.args.a ∷ c.args.b ∷ []) (forest c.args.pool.now) (forest c.release-then-has_room.new.pool)
+front c = front_at (front_without (behind_later behind_first) (front_without behind_first front_same)) (gone c)
+
 pub release-requires-then-has_room-clause-releasable : goal.release-requires-then-has_room-clause-releasable
 release-requires-then-has_room-clause-releasable c = inl (first (goal.at.release-requires-then-has_room-clause-releasable c).After-release).root
 
 pub returns-in_err-place_terms-clause-front : goal.returns-in_err-place_terms-clause-front
 returns-in_err-place_terms-clause-front c =
-    front_after (front_at (front_without (behind_later behind_first) (front_without behind_first front_same)) (gone (goal.at.returns-in_err-place_terms-clause-front c).After-release-then-has_room)) c.place_terms.ensures.front
+    front_after (front (goal.at.returns-in_err-place_terms-clause-front c).After-release-then-has_room) c.place_terms.ensures.front
 
 pub returns-then-has_room-clause-front : goal.returns-then-has_room-clause-front
 returns-then-has_room-clause-front c =
-    front_after (front_at (front_without (behind_later behind_first) (front_without behind_first front_same)) (gone (goal.at.returns-then-has_room-clause-front c).After-release-then-has_room)) c.place_terms.ensures.front
+    front_after (front (goal.at.returns-then-has_room-clause-front c).After-release-then-has_room) c.place_terms.ensures.front
 
 pub returns-in_err-place_terms-clause-room : goal.returns-in_err-place_terms-clause-room
 returns-in_err-place_terms-clause-room c = λ gs s t.
     let kept = kept_after c.release.ensures.kept c.release-then-has_room.ensures.kept in
-    let free = both_released_free c.requires.stands c.release-then-has_room.ensures.stands kept c.requires.apart c.requires.first c.requires.second (gone (goal.at.returns-in_err-place_terms-clause-room c).After-release-then-has_room) in
+    let both_gone = gone (goal.at.returns-in_err-place_terms-clause-room c).After-release-then-has_room in
+    let free = both_released_free c.requires.stands c.release-then-has_room.ensures.stands kept c.requires.apart c.requires.first c.requires.second both_gone in
     let enough : 40 + 96 * length c.as_slice.result.now ≤ free_of c.args.pool.now = c.has_room.ensures (search rules) in
     let same : c.as_slice.result.now ≡ c.as_slice-then-has_room.result.now = c.as_slice.ensures.value ∙ sym c.as_slice-then-has_room.ensures.value in
-    passed_on c.from_residual.result (fault.Full c.in_err-place_terms.field-0.0) (LacksRoom (joint_need c.args.joint) (free_of c.args.pool.now + size (tree_of c.args.a c.args.pool.now) + size (tree_of c.args.b c.args.pool.now)) gs) c.from_residual.ensures.0 c.from_residual.ensures.1
+    passed_on c.from_residual.result (fault.Full c.in_err-place_terms.field-0.0) (LacksJointRoom c.args.joint c.args.a c.args.b c.args.pool.now gs) c.from_residual.ensures.0 c.from_residual.ensures.1
     (absurd (omega (arith, free, enough, ap (λ (ts : List Term). length ts) same, c.in_err-place_terms.ensures.room)))
 
 pub returns-then-has_room-clause-ok : goal.returns-then-has_room-clause-ok
@@ -49,8 +54,8 @@ returns-then-has_room-clause-ok c =
 
 pub returns-in-Sum-clause-room : goal.returns-in-Sum-clause-room
 returns-in-Sum-clause-room c = λ gs s t.
-    subst (λ (j : Joint). IfErr c.add_others.result (LacksRoom (joint_need j) (free_of c.args.pool.now + size (tree_of c.args.a c.args.pool.now) + size (tree_of c.args.b c.args.pool.now)) gs)) (sym c.in-Sum.is) (c.add_others.ensures.room gs s t)
+    subst (λ (j : Joint). IfErr c.add_others.result (LacksJointRoom j c.args.a c.args.b c.args.pool.now gs)) (sym c.in-Sum.is) (c.add_others.ensures.room gs s t)
 
 pub returns-in-Product-clause-room : goal.returns-in-Product-clause-room
 returns-in-Product-clause-room c = λ gs s t.
-    subst (λ (j : Joint). IfErr c.multiply_others.result (LacksRoom (joint_need j) (free_of c.args.pool.now + size (tree_of c.args.a c.args.pool.now) + size (tree_of c.args.b c.args.pool.now)) gs)) (sym c.in-Product.is) (c.multiply_others.ensures.room gs s t)
+    subst (λ (j : Joint). IfErr c.multiply_others.result (LacksJointRoom j c.args.a c.args.b c.args.pool.now gs)) (sym c.in-Product.is) (c.multiply_others.ensures.room gs s t)

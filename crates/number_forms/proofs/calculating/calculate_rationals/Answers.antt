@@ -1,32 +1,37 @@
-use Rattle.std.proofs.Common.{Ok, ap, ◌∙◌, ◌+◌, ◌<◌, arith}
-use Rattle.number_forms.proofs.Shared.{num, root_size, size, tree_of, given_told, gives_as, num_most, value_of, free_of, LacksRoom, both_released_free, refused_below, passed_on}
+use Rattle.std.proofs.Common.{Ok, ap, ◌∙◌, ◌<◌, arith}
+use Rattle.number_forms.proofs.Shared.{num, root_size, tree_of, given_told, gives_as, num_most, value_of, free_of, both_released_free, refused_below, passed_on}
 use Rattle.number_forms.proofs.RationalCalls.{plain_answer, joint_rational, at_rationals, rational_over}
 use Rattle.number_forms.proofs.RationalBits.{joint_parts}
 use Rattle.number_forms.proofs.Rooms.{few_for_joint}
-use Rattle.number_forms.specs.Joints.{joint_need, operation}
+use Rattle.number_forms.specs.Joints.{LacksJointRoom, operation}
 use Rattle.tree_handles.specs.declared.fault.NumberFault.TheVariants as fault
 use Rattle.number_forms.proofs.calculating.calculate_rationals.Goals as goal
 
 pub returns-in_err-answer-clause-room : goal.returns-in_err-answer-clause-room
 returns-in_err-answer-clause-room c = λ gs.
-    passed_on c.from_residual.result (fault.Overflow c.in_err-answer.field-0.0) (LacksRoom (joint_need c.args.joint) (free_of c.args.pool.now + size (tree_of c.args.a c.args.pool.now) + size (tree_of c.args.b c.args.pool.now)) gs) c.from_residual.ensures.0 c.from_residual.ensures.1 tt
+    passed_on c.from_residual.result (fault.Overflow c.in_err-answer.field-0.0) (LacksJointRoom c.args.joint c.args.a c.args.b c.args.pool.now gs) c.from_residual.ensures.0 c.from_residual.ensures.1 tt
 
 pub returns-in_err-number-clause-room : goal.returns-in_err-number-clause-room
 returns-in_err-number-clause-room c = λ gs.
     let few : free_of c.take_rationals.new.pool < root_size (num (value_of c.in_ok-answer.answer)) = refused_below c.in_err-number.ensures.full in
-    let free = both_released_free c.requires.stands c.take_rationals.ensures.stands c.take_rationals.ensures.kept c.requires.apart c.requires.first c.requires.second c.take_rationals.ensures.gone in
-    passed_on c.from_residual-in_err-number.result (fault.Full c.in_err-number.field-0.0) (LacksRoom (joint_need c.args.joint) (free_of c.args.pool.now + size (tree_of c.args.a c.args.pool.now) + size (tree_of c.args.b c.args.pool.now)) gs) c.from_residual-in_err-number.ensures.0 c.from_residual-in_err-number.ensures.1
+    let taken = c.take_rationals.ensures in
+    let free = both_released_free c.requires.stands taken.stands taken.kept c.requires.apart c.requires.first c.requires.second taken.gone in
+    passed_on c.from_residual-in_err-number.result (fault.Full c.in_err-number.field-0.0) (LacksJointRoom c.args.joint c.args.a c.args.b c.args.pool.now gs)
+    c.from_residual-in_err-number.ensures.0 c.from_residual-in_err-number.ensures.1
     (few_for_joint c.args.joint gs _ (omega (arith, few, free, num_most (value_of c.in_ok-answer.answer))))
 
 pub returns-clause-ok : goal.returns-clause-ok
 returns-clause-ok c =
     let a = tree_of c.args.a c.args.pool.now in
     let b = tree_of c.args.b c.args.pool.now in
-    gives_as c.in_ok-number.ensures.given c.take_rationals.ensures.gone
-    (λ t e. rational_over _ _ t _ c.in_ok-answer.ensures.ok e (joint_rational c.args.joint _ _ a b c.take_rationals.ensures.first c.take_rationals.ensures.second) (joint_parts c.args.joint _ _ a b c.take_rationals.ensures.first c.take_rationals.ensures.second))
+    let taken = c.take_rationals.ensures in
+    gives_as c.in_ok-number.ensures.given taken.gone
+    (λ t e. rational_over _ _ t _ c.in_ok-answer.ensures.ok e (joint_rational c.args.joint _ _ a b taken.first taken.second) (joint_parts c.args.joint _ _ a b taken.first taken.second))
 
 pub returns-clause-rationals : goal.returns-clause-rationals
 returns-clause-rationals c = λ p q k l.
     let op = operation c.args.joint in
-    at_rationals op p q _ _ (tree_of c.args.a c.args.pool.now) (tree_of c.args.b c.args.pool.now) c.number.new.pool (Ok c.in_ok-number.field-0) c.take_rationals.ensures.first c.take_rationals.ensures.second
-    (plain_answer op _ _ (tree_of c.in_ok-number.field-0 c.number.new.pool) (λ f. cc (c.in_ok-answer.ensures.refused.1 f)) (given_told c.in_ok-number.ensures.given ∙ ap num c.in_ok-answer.ensures.ok)) k l
+    let taken = c.take_rationals.ensures in
+    let told = given_told c.in_ok-number.ensures.given ∙ ap num c.in_ok-answer.ensures.ok in
+    at_rationals op p q _ _ (tree_of c.args.a c.args.pool.now) (tree_of c.args.b c.args.pool.now) c.number.new.pool (Ok c.in_ok-number.field-0) taken.first taken.second
+    (plain_answer op _ _ (tree_of c.in_ok-number.field-0 c.number.new.pool) (λ f. cc (c.in_ok-answer.ensures.refused.1 f)) told) k l

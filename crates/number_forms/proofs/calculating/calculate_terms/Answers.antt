@@ -1,20 +1,23 @@
-use Rattle.std.proofs.Common.{◌+◌, refl, subst, sym, ◌∙◌}
+use Rattle.std.proofs.Common.{refl, subst, sym, ◌∙◌}
 use Rattle.std.specs.Prelude.{IfErr}
-use Rattle.number_forms.proofs.Shared.{LacksRoom, free_of, size, tree_of, gives_as, without-swap}
+use Rattle.number_forms.proofs.Shared.{tree_of, gives_as, without-swap}
 use Rattle.number_forms.proofs.Kept.{with_neutral, neutral_with}
-use Rattle.number_forms.specs.Joints.{joint_need}
+use Rattle.number_forms.specs.Joints.{LacksJointRoom}
 use Rattle.number_forms.specs.declared.calculating.Joint.{Joint}
 use Rattle.number_forms.proofs.calculating.calculate_terms.Goals as goal
 
 pub returns-then-is_neutral-clause-ok : goal.returns-then-is_neutral-clause-ok
 returns-then-is_neutral-clause-ok c =
-    gives_as c.keep_other.ensures.gives refl (λ t e. neutral_with c.args.joint (tree_of c.args.a c.args.pool.now) (tree_of c.args.b c.args.pool.now) t (sym c.is_neutral.ensures ∙ c.if-is_neutral.true) c.requires.second_number e)
+    gives_as c.keep_other.ensures.gives refl
+    (λ t e. neutral_with c.args.joint (tree_of c.args.a c.args.pool.now) (tree_of c.args.b c.args.pool.now) t (sym c.is_neutral.ensures ∙ c.if-is_neutral.true) c.requires.second_number e)
 
 pub returns-then-is_neutral-2-clause-ok : goal.returns-then-is_neutral-2-clause-ok
 returns-then-is_neutral-2-clause-ok c =
     gives_as c.keep_other-then-is_neutral-2.ensures.gives (without-swap c.args.a c.args.b _ c.requires.apart)
-    (λ t e. with_neutral c.args.joint (tree_of c.args.a c.args.pool.now) (tree_of c.args.b c.args.pool.now) t (sym c.is_neutral-else-is_neutral.ensures ∙ c.if-is_neutral-2.true) c.requires.first_number e)
+    (λ t e.
+    let neutral = sym c.is_neutral-else-is_neutral.ensures ∙ c.if-is_neutral-2.true in
+    with_neutral c.args.joint (tree_of c.args.a c.args.pool.now) (tree_of c.args.b c.args.pool.now) t neutral c.requires.first_number e)
 
 pub returns-in-Sum-clause-room : goal.returns-in-Sum-clause-room
 returns-in-Sum-clause-room c = λ gs s t.
-    subst (λ (j : Joint). IfErr c.add_terms.result (LacksRoom (joint_need j) (free_of c.args.pool.now + size (tree_of c.args.a c.args.pool.now) + size (tree_of c.args.b c.args.pool.now)) gs)) (sym c.in-Sum.is) (c.add_terms.ensures.room gs s t)
+    subst (λ (j : Joint). IfErr c.add_terms.result (LacksJointRoom j c.args.a c.args.b c.args.pool.now gs)) (sym c.in-Sum.is) (c.add_terms.ensures.room gs s t)

@@ -15,10 +15,11 @@ loop-term-init c = record { placed = omega arith; adds = adds_none (forest c.arg
 pub loop-term-preserved : goal.loop-term-preserved
 loop-term-preserved c =
     let i = c.loop-term.invariant in
+    let more = trees_more c.args.terms.now c.loop-term.term-index c.term-item.result c.loop-term-test.true c.term-item.is in
     let placed = gives_as (given_tree c.in_ok-_term.ensures.ok c.in_ok-_term.ensures.tree) refl (λ t h. h.1) in
     record {
       placed = omega (arith, i.placed);
-      adds = subst (λ (ts : Trees). Adds ts (forest c.args.pool.now) (forest c.place_term.new.pool)) (trees_more c.args.terms.now c.loop-term.term-index c.term-item.result c.loop-term-test.true c.term-item.is) (adds_more i.adds placed);
+      adds = subst (λ (ts : Trees). Adds ts (forest c.args.pool.now) (forest c.place_term.new.pool)) more (adds_more i.adds placed);
       front = front_after i.front c.place_term.ensures.front;
       kept = kept_after i.kept c.in_ok-_term.ensures.kept;
       stands = c.place_term.ensures.stands;
