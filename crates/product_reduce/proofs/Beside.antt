@@ -1,17 +1,9 @@
 -- Roots beside others.
 use Rattle.std.proofs.Common.{arith, ℕ, ◌<◌, ◌≡◌, List, eqb, Bool, true, false, cond, refl, sym, ap, ◌∙◌}
 use Rattle.product_reduce.proofs.Shared.{represents_nth, represents_without, removed, eqb-true, ne_eqb, Tree, Trees, count, State, nth, plain, Forest, empty, tree, arity, kids, tree_nth, without_nth, IsHanded, Represents, Ends, Gives, KeepsFront, has_root, root_tree, without_root, put, Stands, forest, IsBehind, not_first, gives, given_handed, given_rest, given_told, handed_beside, handed_at, by_test, eqb-sym, no_root, root-without, tree-without, without-swap, root-put, tree-put, without-put, IsProduct, Becomes, IsBeside}
-use Rattle.tree_handles.proofs.Distinct.{Distinct, distinct, distinct_parts}
+use Rattle.tree_handles.proofs.Distinct.{distinct}
+use Rattle.tree_handles.proofs.Filling.{gone}
 use Rattle.product_reduce.proofs.Products.{product_arity, product_kids, becomes_put}
-
--- a root that is gone is no root any more
-pub gone : (i : ℕ) (f : Forest) → Distinct f → has_root i (without_root i f) ≡ false
-gone i empty d = refl
-gone i (tree l k r) d =
-    let p = distinct_parts l k r d in
-    by_test (λ b. has_root i (cond b r (tree l k (without_root i r))) ≡ false) (eqb l.id i)
-    (λ e. ap (λ (n : ℕ). has_root n r) (sym (eqb-true l.id i e)) ∙ no_root l.id r p.not_behind)
-    (λ e. ap (λ (b : Bool). cond b true (has_root i (without_root i r))) e ∙ gone i r p.behind)
 
 pub beside_handed : {s : State} (i : ℕ) → Stands s → IsHanded i (forest s) → IsBeside i (plain (root_tree i (forest s))) (without_root i (forest s)) (forest s)
 beside_handed {s = s} i st h = record { handed = h; tree = refl; rest = refl; clear = gone i (forest s) (distinct s st) }
@@ -42,10 +34,6 @@ beside_product {i = i} b k = record { handed = beside_other b k.handed; tree = a
 -- another root goes
 pub beside_without : {h : ℕ} {u : Tree} {r f : Forest} (j : ℕ) → IsBeside h u r f → has_root j r ≡ true → IsBeside h u (without_root j r) (without_root j f)
 beside_without j b e = grind (arith, tree-without, without-swap, root-without)
-
--- another root has other children
-pub beside_put : {h : ℕ} {u : Tree} {r f : Forest} (j : ℕ) (n : Forest) → IsBeside h u r f → has_root j r ≡ true → IsBeside h u (put j n r) (put j n f)
-beside_put j n b e = grind (arith, tree-put, without-put, root-put)
 
 -- ---- fronts
 

@@ -11,6 +11,8 @@ use Rattle.product_reduce.proofs.Forms.{IsFormed, AllFormed, formed, number_form
 use Rattle.product_reduce.proofs.Bounds.{nest_opened, nest_others, load_opened, load_others, load_product}
 use Rattle.tree_handles.proofs.UndefChildren.{undef_inside}
 use Rattle.calc_terms.specs.declared.kind.Kind.TheVariants as kind
+use Rattle.number_forms.proofs.Kept.{zero_value}
+pub use Rattle.like_children.proofs.Folds.{rational_others as rationals_alone}
 
 -- ---- reduced factors
 
@@ -82,11 +84,8 @@ undef_finished ts h = record {
 
 -- ---- Done: zero
 
-zero_words : (c : Tree) → is_zero c ≡ true → c ≡ num zero_fraction
+pub zero_words : (c : Tree) → is_zero c ≡ true → c ≡ num zero_fraction
 zero_words c h = grind (arith, zero_is)
-
-zero_value : (c : Tree) → is_zero c ≡ true → value c ≡ []
-zero_value c h = grind arith
 
 -- the coefficient is 0, whichever Number is taken for it
 zero_again : (b c : Tree) (ts : Trees) → IsCoefficient b ts → IsCoefficient c ts → is_zero c ≡ true → is_zero b ≡ true
@@ -196,12 +195,6 @@ pub opened_rationals : (ts : Trees) → are_rationals ts ≡ true → opened ts 
 opened_rationals none h = refl
 opened_rationals (more (num q) ts) h = ap (more (num q)) (opened_rationals ts h)
 opened_rationals (more _ ts) h = cc
-
-pub rationals_alone : (ts : Trees) → are_rationals ts ≡ true → others_in ts ≡ none
-unfolding is_number
-rationals_alone none h = refl
-rationals_alone (more (num q) ts) h = rationals_alone ts h
-rationals_alone (more _ ts) h = cc
 
 pub rationals_defined : (ts : Trees) → are_rationals ts ≡ true → has_undef ts ≡ false
 rationals_defined none h = refl

@@ -3,6 +3,7 @@ use Rattle.std.specs.Prelude.{⊤}
 use Rattle.std.proofs.Common.{arith, ◌≡◌, Bool, true, false, refl}
 use Rattle.product_reduce.proofs.Shared.{factors_of, is_zero, and_parts, and_from, or_left, is_number, IsNumber, IsTerm, AreTerms, num_one, split, split_product, NoneIs, RisesBy, base_of, has_form, HasForm, all_parts, all_parts_of, Tree, num, add, mult, root, Trees, none, more, append, is_mult, number_words, number_test, opened, others_in}
 use Rattle.calc_algebra.proofs.ReducedLaws.{form_words}
+pub use Rattle.like_children.proofs.NumbersIn.{none_number as others_no_numbers}
 
 -- ---- the split
 
@@ -94,10 +95,6 @@ opened_flat (more t ts) h = none-append is_mult (factors_of t) (opened ts) (fact
 pub others_none : (p : Tree → Bool) (ts : Trees) → NoneIs p ts → NoneIs p (others_in ts)
 others_none p none h = tt
 others_none p (more t ts) h = grind (arith, others_none p ts h.1)
-
-pub others_no_numbers : (ts : Trees) → NoneIs is_number (others_in ts)
-others_no_numbers none = tt
-others_no_numbers (more t ts) = grind (arith, others_no_numbers ts)
 
 -- ---- the product
 

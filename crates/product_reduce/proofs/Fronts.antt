@@ -3,6 +3,8 @@ use Rattle.std.proofs.Common.{ℕ, ◌≡◌, Bool, true, false, if◌then◌els
 use Rattle.product_reduce.proofs.Shared.{factors_of, is_num_one, Tree, Trees, none, more, append, is_mult, children_of, Forest, kids, merged_nth, with_nth, root_tree, without_root, put, represents_handed, represents_with, represents_as, coefficient_before, IsProduct, Becomes, IsBeside}
 use Rattle.product_reduce.proofs.Beside.{beside_product}
 use Rattle.product_reduce.proofs.Products.{becomes_put, becomes_as, becomes_after, becomes_merged, product_kids}
+pub use Rattle.coefficients.proofs.Factors.{single_factors as single_factor}
+pub use Rattle.coefficients.proofs.FirstFactors.{product_children as product_factors}
 
 -- 1 is left out
 pub one_in_front : (c : Tree) (ts : Trees) → is_num_one c ≡ true → coefficient_before c ts ≡ ts
@@ -10,12 +12,6 @@ one_in_front c ts h = ap (λ (k : Bool). if k then ts else append (factors_of c)
 
 pub other_in_front : (c : Tree) (ts : Trees) → is_num_one c ≡ false → coefficient_before c ts ≡ append (factors_of c) ts
 other_in_front c ts h = ap (λ (k : Bool). if k then ts else append (factors_of c) ts) h
-
-pub product_factors : (t : Tree) → is_mult t ≡ true → children_of t ≡ factors_of t
-product_factors t h = grind arith
-
-pub single_factor : (t : Tree) → is_mult t ≡ false → factors_of t ≡ more t none
-single_factor t h = grind arith
 
 -- a root comes first
 pub first_put : (i c : ℕ) (u : Tree) (ts : Trees) (l f g : Forest) → IsBeside c u l f → IsProduct i l ts → g ≡ put i (with_nth 0 (root_tree c f) (kids (root_tree i f))) (without_root c f) → Becomes i l g (more u ts)

@@ -7,9 +7,7 @@ use Rattle.product_reduce.proofs.Gathered.{others_permuted}
 use Rattle.product_reduce.proofs.LastSteps.{sorted_factors}
 use Rattle.product_reduce.proofs.Sorted.{permuted_lists, none_permuted}
 use Rattle.product_reduce.proofs.Stepped.{others_are}
-
-clash : true ≡ false → ⊥
-clash e = cc
+use Rattle.std.proofs.lemmas.Bool.{true≢false}
 
 -- what a tree counts as a factor
 abbrev pub counted_in : Tree → ℕ
@@ -53,7 +51,7 @@ before_counted c us h = by (is_num_one c)
 -- ---- it is written before a part, or goes into the terms of a sum
 
 same_part : (q : Fraction) (t : Tree) → IsFactor q → AllPartsOf HasForm (more t none) → is_add t ≡ false → EachTerm (more t none) → HasSamePart (rational_times_term q t) t
-same_part q t f h a (inl k, e) = grind (arith, term_counts, number_term, clash)
+same_part q t f h a (inl k, e) = grind (arith, term_counts, number_term, true≢false)
 same_part q t f h a (inr n, e) = let m = multiple q f t h.0 n a in record { number = m.no_number ∙ sym n; part = λ e. m.part }
 
 mapped_same : (q : Fraction) (ts : Trees) → IsFactor q → AllPartsOf HasForm ts → NoneIs is_add ts → EachTerm ts → HaveSameParts (mapped (rational_times_term q) ts) ts
@@ -118,7 +116,7 @@ gathered_counted ts t g =
 
 -- ---- few of the factors are Numbers
 
-no_numbers : (us : Trees) → NoneIs is_number us → numbers_among us ≡ 0
+pub no_numbers : (us : Trees) → NoneIs is_number us → numbers_among us ≡ 0
 no_numbers none n = refl
 no_numbers (more t us) n = let z : (if is_number t then 1 else 0) ≡ 0 = ap {B = ℕ} (λ (b : Bool). if b then 1 else 0) n.0 in omega (arith, z, no_numbers us n.1)
 

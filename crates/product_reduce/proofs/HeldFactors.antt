@@ -4,6 +4,7 @@ use Rattle.product_reduce.proofs.Shared.{Fraction, zero_fraction, one_fraction, 
 use Rattle.product_reduce.proofs.Forms.{IsFormed, AllFormed}
 use Rattle.product_reduce.proofs.HeldNumbers.{value_held, number_as_factor}
 use Rattle.tree_bits.specs.HeldTrees as held
+use Rattle.tree_bits.proofs.Joined.{swapped}
 
 -- ---- more bits, and lists behind one another
 
@@ -41,7 +42,7 @@ part_factors (more t ts) n m (held.factor_held p q k i c b r x y) =
 
 -- ---- the factors of a product
 
-no_terms : (t : Term) (v : Surd) → (t ∷ v) ≢ []
+pub no_terms : (t : Term) (v : Surd) → (t ∷ v) ≢ []
 no_terms t v e = cc
 
 -- a coefficient other than 0, and the factors behind it
@@ -64,10 +65,10 @@ split_held s h l z a = by (value s.coefficient) refl a.weighted a.held
         let r = split_off t v h l i j (subst (λ (x : Surd). AreHeld (weighted x i j ∷ []) h l) e k) in
         record { p = h - i; q = l - j; k = i; n = j; coefficient = subst (λ (x : Surd). IsHeld x (h - i) (l - j)) (sym e) r.2; factors = f; high = omega (arith, r.0); low = omega (arith, r.1) }
 
-rational_some : (c : Fraction) → c ≢ zero_fraction → value (num c) ≢ []
+pub rational_some : (c : Fraction) → c ≢ zero_fraction → value (num c) ≢ []
 rational_some c n e = no_terms (term c 1) [] (sym (ap (λ (b : Bool). if b then [] else surd_of c) (zero_test c n)) ∙ e)
 
-number_some : (c : Tree) → IsNumber c → c ≢ num zero_fraction → value c ≢ []
+pub number_some : (c : Tree) → IsNumber c → c ≢ num zero_fraction → value c ≢ []
 number_some c n z = grind (arith, rational_some)
 
 -- where a coefficient is spliced, it is one factor or two
@@ -185,14 +186,10 @@ held_apart (more (num c) (more (root (num r)) ts)) f m (term_held p q k n a s x 
 part_tail : {t : Tree} {ts us : Trees} {h l : ℕ} → ((k n : ℕ) → IsPartHeld ts k n → IsPartHeld us k n) → IsPartHeld (more t ts) h l → IsPartHeld (more t us) h l
 part_tail f (held.factor_held p q k n c b r x y) = held.factor_held p q k n c b (f k n r) x y
 
-part_swapped : {t u : Tree} {ts : Trees} {h l : ℕ} → IsPartHeld (more t (more u ts)) h l → IsPartHeld (more u (more t ts)) h l
-part_swapped {t = t} {u = u} (held.factor_held p q k n c b (held.factor_held i j a m d e r z w) x y) =
-    held.factor_held i j (power_high (counts_of (exponent_in t)) p q + a) (power_low (counts_of (exponent_in t)) p q + m) d e (held.factor_held p q a m c b r (omega arith) (omega arith)) (omega (arith, x, z)) (omega (arith, y, w))
-
 pub part_permuted : {ts us : Trees} {h l : ℕ} → Permuted ts us → IsPartHeld ts h l → IsPartHeld us h l
 part_permuted permuted_none a = a
 part_permuted (permuted_more {t} k) a = part_tail (λ i j b. part_permuted k b) a
-part_permuted (permuted_swap {t} {u} {ts}) a = part_swapped a
+part_permuted (permuted_swap {t} {u} {ts}) a = swapped a
 part_permuted (permuted_trans k m) a = part_permuted m (part_permuted k a)
 
 -- ---- behind a coefficient

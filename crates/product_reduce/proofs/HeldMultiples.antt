@@ -4,18 +4,14 @@ use Rattle.product_reduce.proofs.Shared.{Fraction, times, zero_fraction, one_fra
 use Rattle.calc_algebra.proofs.InverseLaws.{product_not_zero}
 use Rattle.product_reduce.proofs.Leads.{factors_again}
 use Rattle.product_reduce.proofs.Progress.{one_value}
-
-clash : true ≡ false → ⊥
-clash e = cc
+use Rattle.calc_bits.proofs.Parts.{one_mul}
+use Rattle.std.proofs.lemmas.Bool.{true≢false}
 
 -- ---- surds
 
-once : (r : ℕ) → 1 * r ≡ r
-once r = omega arith
-
 scaled_times : (q : Fraction) (v : Surd) → surd_times (surd_of q) v ≡ surd_scale q v
 scaled_times q [] = refl
-scaled_times q (t ∷ v) = (λ i. term (times q t.coefficient) (once t.radicand i) ∷ scaled_times q v i)
+scaled_times q (t ∷ v) = (λ i. term (times q t.coefficient) (one_mul t.radicand i) ∷ scaled_times q v i)
 
 pub rational_value : (c : Fraction) → c ≢ zero_fraction → value (num c) ≡ surd_of c
 rational_value c n = ap (λ (b : Bool). if b then [] else surd_of c) (zero_test c n)
@@ -45,7 +41,7 @@ module _ (q : Fraction) (f : IsFactor q) where
   -- the coefficient goes
   gone : (fs : Trees) → NoneIs is_mult fs → has_coefficient fs ≡ false → value (coefficient_of (product_tree fs)) ≡ surd_one
   gone none m k = one_value
-  gone (more t none) m k = grind (arith, clash, one_value)
+  gone (more t none) m k = grind (arith, true≢false, one_value)
   gone (more t (more u fs)) m k = ap (λ (s : Split). value s.coefficient) (no_split (more t (more u fs)) k) ∙ one_value
 
   product_some : (c : Fraction) → c ≢ zero_fraction → times q c ≢ zero_fraction
@@ -70,11 +66,11 @@ module _ (q : Fraction) (f : IsFactor q) where
       root_led : (r : Fraction) (fs : Trees) → IsNumber (root (num r)) → value (split_product (more (num q) (more (root (num r)) fs))).coefficient ≡ surd_times (surd_of q) (value (root (num r)))
       root_led r fs n =
           ap (λ (b : Bool). value (if b then split (mult (more (num q) (more (root (num r)) none))) fs else split (num q) (more (root (num r)) fs)).coefficient) (number_test (root (num r)) n)
-          ∙ (λ i. term (sym (times_one q) i) (sym (once (natural_of r.num)) i) ∷ [])
+          ∙ (λ i. term (sym (times_one q) i) (sym (one_mul (natural_of r.num)) i) ∷ [])
   led (mult (more (num a) (more (root (num r)) none))) fs n z m k l = by (is_one_fraction (times q a)) refl
     where
       right : surd_times (surd_of q) (term a (natural_of r.num) ∷ []) ≡ term (times q a) (natural_of r.num) ∷ []
-      right = λ i. term (times q a) (once (natural_of r.num) i) ∷ []
+      right = λ i. term (times q a) (one_mul (natural_of r.num) i) ∷ []
 
       root_alone : (r : Fraction) (fs : Trees) → IsNumber (root (num r)) → 1 ≤ count fs → value (coefficient_of (product_tree (more (root (num r)) fs))) ≡ term one_fraction (natural_of r.num) ∷ []
       root_alone r none n l = absurd (omega arith)
@@ -109,8 +105,8 @@ module _ (q : Fraction) (f : IsFactor q) where
 
   multiple_coefficient : (t : Tree) → AllParts HasForm t → is_number t ≡ false → is_add t ≡ false → value (coefficient_of (rational_times_term q t)) ≡ surd_times (surd_of q) (value (coefficient_of t))
   unfolding is_number
-  multiple_coefficient (num c) h n s = absurd (clash n)
-  multiple_coefficient (add ts) h n s = absurd (clash s)
+  multiple_coefficient (num c) h n s = absurd (true≢false n)
+  multiple_coefficient (add ts) h n s = absurd (true≢false s)
   multiple_coefficient (mult us) h n s = let g = product_form_of us h n in product_coefficient us h n g (in_front us g.no_product g.front)
   multiple_coefficient t h n s = before (more t none) n
 

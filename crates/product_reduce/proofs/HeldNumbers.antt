@@ -9,6 +9,7 @@ use Rattle.calc_bits.proofs.MassLaws.{parts_scale, parts_times}
 use Rattle.calc_bits.proofs.Quotients.{den_divides}
 use Rattle.calc_bits.proofs.RootsAbove.{root_enough, root_least}
 use Rattle.calc_algebra.proofs.PowerLaws.{zero_surd_of}
+use Rattle.coefficients.proofs.NumberMultiples.{times_one}
 
 -- ---- one Number
 
@@ -17,11 +18,8 @@ value_held t h l n k = held_number n (factor_as_tree t h l k)
 
 -- ---- a rational before a root, as one term or as two
 
-with_one : (c : Fraction) → times c one_fraction ≡ c
-with_one c = times_comm c one_fraction ∙ one_times c
-
 one_of_both : (c : Fraction) (r : ℕ) → surd_times (term c 1 ∷ []) (term one_fraction r ∷ []) ≡ term c r ∷ []
-one_of_both c r = grind (arith, with_one)
+one_of_both c r = grind (arith, times_one)
 
 lesser_root : (a b : ℕ) → a ≤ b → root_above a ≤ root_above b
 lesser_root a b l = root_least a (root_above b) (let e : b ≤ root_above b * root_above b = root_enough b in omega arith)
@@ -141,7 +139,7 @@ values_append (more t ts) us = grind (arith, values_append ts us, Same-trans, Sa
 
 root_proper : (v : Surd) (r : ℕ) → 1 ≤ r → AreProper v → AreProper (surd_times v (term one_fraction r ∷ []))
 root_proper [] r p h = tt
-root_proper (t ∷ v) r p (h, hs) = (record { not_zero = λ e. h.not_zero (sym (with_one t.coefficient) ∙ e); positive = product_some t.radicand r h.positive p }, root_proper v r p hs)
+root_proper (t ∷ v) r p (h, hs) = (record { not_zero = λ e. h.not_zero (sym (times_one t.coefficient) ∙ e); positive = product_some t.radicand r h.positive p }, root_proper v r p hs)
   where
     product_some : (a b : ℕ) → 0 < a → 1 ≤ b → 0 < a * b
     product_some a b h k = let l : 1 * 1 ≤ a * b = mul-le 1 1 a b h k in omega arith

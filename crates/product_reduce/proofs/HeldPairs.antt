@@ -4,9 +4,7 @@ use Rattle.product_reduce.proofs.Shared.{and_parts, is_number, natural_of, is_re
 use Rattle.calc_measures.specs.Measures.{HighLow}
 use Rattle.product_reduce.proofs.Finished.{formed_unless_undef}
 use Rattle.product_reduce.proofs.HeldFactors.{single_part, factors_held, root_number}
-
-clash : true ≡ false → ⊥
-clash e = cc
+use Rattle.std.proofs.lemmas.Bool.{true≢false}
 
 -- ---- trees
 
@@ -48,7 +46,7 @@ behind_two : (at : ℕ) (c r : Fraction) (ts : Trees) {p q k n h l : ℕ} → Is
 behind_two at c r ts {p = p} {q = q} {k = k} {n = n} a (i, j, u, w, b, f) x y = (i, j, omega arith, omega arith, b, λ v g. term_held p q k n a (f v g) x y)
 
 root_no_single : (r : Fraction) → is_reduced (root (num r)) ≡ true → is_single (root (num r)) ≡ true → ⊥
-root_no_single r e s = clash (sym (root_number r (formed_unless_undef (root (num r)) e refl)) ∙ (single_is (root (num r)) s).0)
+root_no_single r e s = true≢false (sym (root_number r (formed_unless_undef (root (num r)) e refl)) ∙ (single_is (root (num r)) s).0)
 
 reduced_tail : (t : Tree) (ts : Trees) → are_reduced (more t ts) ≡ true → are_reduced ts ≡ true
 reduced_tail t ts h = (and_parts (is_reduced t) (are_reduced ts) h).1

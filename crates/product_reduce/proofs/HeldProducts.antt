@@ -13,9 +13,7 @@ use Rattle.product_reduce.proofs.Leads.{factors_again}
 use Rattle.product_reduce.proofs.Progress.{one_value}
 use Rattle.product_reduce.proofs.Sorted.{permuted_lists}
 use Rattle.product_reduce.proofs.Stepped.{others_are}
-
-clash : true ≡ false → ⊥
-clash e = cc
+use Rattle.std.proofs.lemmas.Bool.{true≢false}
 
 -- ---- a product as one factor
 
@@ -62,7 +60,7 @@ unfolding is_number
 rational_before_held q none f o l a b = absurd (omega arith)
 rational_before_held q (more (add ts) none) {p = p} {i = i} f o l a b =
     spread_held q ts f (single_monic (add ts) o) o.no_number.0 (subst (λ (v : Surd). IsHeld v p i) (rational_value q f.not_zero) a) b
-rational_before_held q (more (mult ts) none) f o l a b = absurd (clash o.no_product.0)
+rational_before_held q (more (mult ts) none) f o l a b = absurd (true≢false o.no_product.0)
 rational_before_held q (more t none) f o l a b = spliced_held (num q) (more t none) refl o.no_number (omega arith) a b
 rational_before_held q (more t (more u fs)) f o l a b = spliced_held (num q) (more t (more u fs)) refl o.no_number (omega arith) a b
 
@@ -70,7 +68,7 @@ with_held : (c : Tree) (fs : Trees) {p q k n : ℕ} → is_number c ≡ true →
 with_held (num c) fs {p = p} {q = q} {k = k} {n = n} e z o l a b = by (is_zero_fraction c) (is_one_fraction c) refl refl
   where
     by : (x y : Bool) → is_zero_fraction c ≡ x → is_one_fraction c ≡ y → IsFactorHeld (if x then num zero_fraction else (if y then product_tree fs else rational_before c (product_tree fs))) (p + k) (q + n)
-    by true y g h = absurd (clash (sym g ∙ z))
+    by true y g h = absurd (true≢false (sym g ∙ z))
     by false true g h = tree_held fs o.no_number o.no_product l (wider (omega arith) (omega arith) b)
     by false false g h = rational_before_held c fs (record { not_zero = no_zero c (ap not g); not_one = not_one_is c h }) o l a b
 with_held c fs {p = p} {q = q} {k = k} {n = n} e z o l a b =
@@ -78,7 +76,7 @@ with_held c fs {p = p} {q = q} {k = k} {n = n} e z o l a b =
 
 -- ---- gathered
 
-factor_wider : (t : Tree) {h l k n : ℕ} → h ≤ k → l ≤ n → IsFactorHeld t h l → IsFactorHeld t k n
+pub factor_wider : (t : Tree) {h l k n : ℕ} → h ≤ k → l ≤ n → IsFactorHeld t h l → IsFactorHeld t k n
 factor_wider t x y a = record { terms = a.terms; weighted = a.weighted; held = wider_held x y a.held }
 
 times_held : (c : Tree) (us : Trees) {p q k n h l : ℕ} → is_number c ≡ true → is_zero c ≡ false → AreOthers us → IsHeld (value c) p q → IsPartHeld us k n → p + k ≤ h → q + n ≤ l → IsFactorHeld (coefficient_times c us) h l

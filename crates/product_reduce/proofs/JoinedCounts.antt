@@ -11,7 +11,7 @@ one_is_free : counted_in num_one ≡ 0
 unfolding is_number
 one_is_free = refl
 
-whole_number : (e : Tree) → is_whole_num e ≡ true → is_number e ≡ true
+pub whole_number : (e : Tree) → is_whole_num e ≡ true → is_number e ≡ true
 unfolding is_number
 whole_number (num q) h = refl
 whole_number e h = cc

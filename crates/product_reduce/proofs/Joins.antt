@@ -1,7 +1,10 @@
--- A pair of factors is taken out of a product, and comes back as one power.
-use Rattle.std.proofs.Common.{ℕ, zero, suc, ◌<◌, ◌≤◌, ◌≡◌, true, refl, ap, ◌∙◌, arith}
-use Rattle.product_reduce.proofs.Shared.{count_removed, represents_without, removed, Tree, Trees, none, more, count, nth, inserted, Forest, kids, tree_nth, without_nth, with_nth, Ends, Gives, has_root, root_tree, without_root, put, given_handed, given_rest, given_same, given_told, represents_handed, represents_with, represents_as, Becomes, IsBeside, IsTakenOut}
-use Rattle.product_reduce.proofs.Beside.{beside_product, beside_put, beside_given, taken_factor}
+-- The first factor of a pair becomes a power in its place, once the exponent of the second is out.
+use Rattle.std.proofs.Common.{ℕ, zero, suc, ◌<◌, ◌≤◌, ◌≡◌, eqb, false, refl, ap, ◌∙◌, arith}
+use Rattle.product_reduce.proofs.Shared.{removed, Tree, Trees, mult, none, more, count, nth, plain, children_of, inserted, Forest, kids, with_nth, Gives, root_tree, without_root, put, eqb-sym, given_handed, given_rest, given_same, given_told, represents_handed, represents_with, represents_as, Becomes, IsTakenOut}
+use Rattle.product_reduce.proofs.Beside.{beside_apart, beside_product, beside_given}
+use Rattle.coefficients.proofs.Loops.{set_removed}
+use Rattle.tree_handles.proofs.Filling.{IsAsBefore, as_before, changes_front, changes_rest}
+use Rattle.tree_handles.specs.Holes.{ChangesTree, IsHole, Place, set_child}
 use Rattle.product_reduce.proofs.Products.{becomes_put, becomes_after, product_kids}
 
 pub nth_removed : (i j : ℕ) (ts : Trees) → i < j → nth i (removed j ts) ≡ nth i ts
@@ -10,34 +13,28 @@ nth_removed i zero (more t ts) h = absurd (omega arith)
 nth_removed zero (suc j) (more t ts) h = refl
 nth_removed (suc i) (suc j) (more t ts) h = nth_removed i j ts (omega arith)
 
--- ---- both factors are out
+-- ---- the first of a pair is rewritten, once the exponent of the second is out
 
-pub record AreOut (i : ℕ) (us : Trees) (old new : Forest) (p e : ℕ) (t x : Tree) : Type 0 where
-  pub between : Forest
-  pub left : Forest
-  pub first : IsBeside p t between new
-  pub second : IsBeside e x left between
-  pub becomes : Becomes i old left us
+pub becomes_filled : {i : ℕ} {us : Trees} {f l new : Forest} (n : ℕ) (u : Tree) → Becomes i f l us → n < count us → ChangesTree i (set_child n u (plain (root_tree i l))) l new → Becomes i f new (inserted n (more u none) (removed n us))
+becomes_filled {us = us} n u b l a = becomes_after b (record {
+  product = record { handed = a.handed; tree = a.tree ∙ ap (set_child n u) b.product.tree ∙ ap mult (set_removed n u us l) };
+  others = changes_rest a;
+  front = changes_front a;
+})
 
-pub both_out : (i at : ℕ) (ts : Trees) (f g h : Forest) (e p : ℕ) (x : Tree) → IsTakenOut i ts f g e x → at < count ts → Ends p (tree_nth at (kids (root_tree i g))) (put i (without_nth at (kids (root_tree i g))) g) h
-    → AreOut i (removed at ts) f h p e (nth at ts) x
-both_out i at ts f g h e p x y l d =
+-- the exponent stands beside the product as it did before the first factor was taken out
+pub record IsPairOut (i n e p : ℕ) (us : Trees) (x : Tree) (g h : Forest) : Type 0 where
+  pub clear : eqb i e ≡ false
+  pub beside : IsAsBefore e p g h
+  pub factor : plain (root_tree p h) ≡ nth n us
+  pub exponent : plain (root_tree e h) ≡ x
+
+pub pair_out : {i n e p : ℕ} {ts : Trees} {x : Tree} {place : Place} {f g h : Forest} → IsTakenOut i ts f g e x → IsHole place i n g (without_root p h) → Gives (without_root p h) h p (λ t. t ≡ nth n (children_of (plain (root_tree i g)))) → IsPairOut i n e p ts x g h
+pair_out {i = i} {n = n} {e = e} y o k =
     let product = beside_product y.beside y.becomes.product in
-    let n = without_nth at (kids (root_tree i g)) in
-    let r = represents_without at (product_kids product) in
-    record {
-      between = put i n g;
-      left = put i n y.left;
-      first = taken_factor at product l d;
-      second = beside_put i n y.beside y.becomes.product.handed.root;
-      becomes = becomes_after y.becomes (becomes_put y.becomes.product r refl);
-    }
-
--- the exponent of the second of a pair is out, and now the first one
-pub pair_out : (ts : Trees) {i first second : ℕ} {f g h : Forest} {e p : ℕ} {x : Tree} → first < second → second < count ts → IsTakenOut i (removed second ts) f g e x
-    → (has_root i g ≡ true → Ends p (tree_nth first (kids (root_tree i g))) (put i (without_nth first (kids (root_tree i g))) g) h) → AreOut i (removed first (removed second ts)) f h p e (nth first (removed second ts)) x
-pair_out ts {i = i} {first = first} {second = second} {f = f} {g = g} {h = h} {e = e} {p = p} {x = x} o l y d =
-    both_out i first (removed second ts) f g h e p x y (omega (arith, count_removed second ts l, o, l)) (d (beside_product y.beside y.becomes.product).handed.root)
+    let clear = eqb-sym e i (beside_apart i y.beside y.becomes.product.handed.root) in
+    let b = as_before o k clear y.beside.handed in
+    record { clear = clear; beside = b; factor = given_told k ∙ ap (λ (t : Tree). nth n (children_of t)) product.tree; exponent = b.same ∙ y.beside.tree }
 
 -- ---- the power comes back
 

@@ -3,6 +3,9 @@ use Rattle.std.proofs.Common.{ℕ, zero, suc, ◌+◌, ◌≤◌, ◌<◌, max, 
 use Rattle.std.specs.Prelude.{⊤}
 use Rattle.product_reduce.proofs.Shared.{and_parts, Fraction, one_fraction, nest, nest_of, weight, weight_of_factors, load_of_factor, load_of_factors, is_number, IsNumber, is_opaque_exponent, is_whole_num, is_reduced, has_form, all_parts, HasForm, IsSumForm, base_of, Tree, num, add, mult, power, root, Trees, none, more, count, is_mult, number_words, number_test, reduced_parts, removed, nth, exponent_of, joint}
 use Rattle.product_reduce.proofs.Forms.{IsFormed, formed}
+use Rattle.calc_measures.proofs.Weights.{some_weight}
+use Rattle.tree_room.proofs.PowerCounts.{power_no_number}
+use Rattle.std.proofs.lemmas.Bool.{true≢false}
 
 -- ---- the exponents of a joint
 
@@ -24,14 +27,11 @@ exponent_words (power b e) = by (is_number e) (is_whole_num e) refl refl
     by false w n h = is_other n
 exponent_words t = is_rational one_fraction refl
 
-clash : true ≡ false → ⊥
-clash e = cc
-
 -- one that is no Number is nested less than its power
 pub exponent_nest : (t : Tree) → is_number (exponent_of t) ≡ false → suc (nest (exponent_of t)) ≤ nest t
 unfolding is_number
-exponent_nest (power b e) h = grind (arith, clash)
-exponent_nest t h = absurd (clash h)
+exponent_nest (power b e) h = grind (arith, true≢false)
+exponent_nest t h = absurd (true≢false h)
 
 under_power : (k : Bool) (b e : ℕ) → b ≤ (if k then b else max b (suc e))
 under_power k b e = grind arith
@@ -111,15 +111,11 @@ small_removed n (suc at) (more t ts) h = (h.0, small_removed n at ts h.1)
 pub flat_load : (t : Tree) → is_mult t ≡ false → is_number t ≡ false → load_of_factor t ≡ weight (base_of t)
 flat_load t m h = grind arith
 
-power_is_no_number : (b x : Tree) → is_number (power b x) ≡ false
-unfolding is_number
-power_is_no_number b x = refl
-
 pub joint_load : (t u : Tree) → load_of_factor (joint t u) ≡ weight (base_of t)
 joint_load t u =
     let x = add (more (exponent_of t) (more (exponent_of u) none)) in
     let n : is_number x ≡ false = sum_is_no_number (exponent_of t) (exponent_of u) (exponent_words t) (exponent_words u) in
-    flat_load (joint t u) refl (power_is_no_number (base_of t) x) ∙ ap (λ (k : Bool). weight (if k && true then power (base_of t) x else base_of t)) n
+    flat_load (joint t u) refl (power_no_number (base_of t) x) ∙ ap (λ (k : Bool). weight (if k && true then power (base_of t) x else base_of t)) n
 
 pub load_split : (at : ℕ) (ts : Trees) → at < count ts → load_of_factors ts ≡ load_of_factor (nth at ts) + load_of_factors (removed at ts)
 load_split at none l = absurd (omega arith)
@@ -127,9 +123,6 @@ load_split zero (more t ts) l = refl
 load_split (suc at) (more t ts) l = omega (arith, load_split at ts (omega arith))
 
 -- ---- weights
-
-some_weight : (t : Tree) → 1 ≤ weight t
-some_weight t = grind arith
 
 formed_weight : (t : Tree) → HasForm t → 2 ≤ weight t
 formed_weight (root a) h = grind (arith, some_weight)

@@ -11,9 +11,9 @@ use Rattle.product_reduce.proofs.Misfits.{permuted_one_is}
 use Rattle.product_reduce.proofs.Neighbours.{pair_partners, sorted_apart, apart_before}
 use Rattle.product_reduce.proofs.Progress.{one_value}
 use Rattle.product_reduce.proofs.Sorted.{none_permuted, permuted_lists, sorted_rising}
-
-clash : true ≡ false → ⊥
-clash e = cc
+pub use Rattle.calc_algebra.proofs.ReducedLaws.{from_not as off}
+use Rattle.calc_algebra.proofs.MeaningRewrites.{Permuted-append_right}
+use Rattle.std.proofs.lemmas.Bool.{true≢false}
 
 -- ---- opened factors are some
 
@@ -120,10 +120,6 @@ no_pair_inside : (ps vs : Trees) → NoPairBetween (count ps) (count (append ps 
 no_pair_inside none vs h = h
 no_pair_inside (more t ps) vs h = no_pair_inside ps vs (λ k f l. h (suc k) (omega arith) (omega arith))
 
-permuted_behind : (ps : Trees) {os vs : Trees} → Permuted os vs → Permuted (append ps os) (append ps vs)
-permuted_behind none p = p
-permuted_behind (more t ps) p = permuted_more (permuted_behind ps p)
-
 -- they are as many at least, and as reduced
 pub lead_within : (n : ℕ) (c : Tree) (ts : Trees) → IsLead n c ts → n ≤ count ts
 lead_within n c ts h = omega (arith, ap count h.split, count_append h.lead (others_in ts), h.long)
@@ -136,7 +132,7 @@ put_within n c ts us h s =
 pub put_reduced : (n : ℕ) (c : Tree) (ts us : Trees) → IsLead n c ts → IsSorting n base_of ts us → are_reduced ts ≡ true → are_reduced us ≡ true
 put_reduced n c ts us h s r =
     let b = behind n c ts us h s in
-    ap are_reduced b.is ∙ reduced_permuted (permuted_behind h.lead (permuted_lists (others_in ts) b.vs b.sorted.moved)) (sym (ap are_reduced h.split) ∙ r)
+    ap are_reduced b.is ∙ reduced_permuted (Permuted-append_right h.lead (permuted_lists (others_in ts) b.vs b.sorted.moved)) (sym (ap are_reduced h.split) ∙ r)
 
 -- where no two behind have one base they are reduced as they stand
 pub put_done : (n : ℕ) (c : Tree) (ts us : Trees) (t : Tree) → AreOthers (others_in ts) → IsLead n c ts → IsSorting n base_of ts us → NoPairBetween n (count us) us → t ≡ product_tree us → IsStop c (others_in ts) t
@@ -182,8 +178,5 @@ more_behind (more t (more u (more v ts))) e = grind arith
 
 -- ---- tests
 
-pub off : (b : Bool) → not b ≡ true → b ≡ false
-off b e = grind (arith, clash)
-
 pub none_found : {Q : Type 0} (P : ℕ → Type 0) (r : Option ℕ) → is_some r ≡ false → MatchOption r Q P → Q
-none_found P r e h = grind (arith, clash)
+none_found P r e h = grind (arith, true≢false)

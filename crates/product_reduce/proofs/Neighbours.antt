@@ -5,6 +5,7 @@ use Rattle.product_reduce.proofs.Shared.{is_eq, is_lt, count_removed, and_parts,
 use Rattle.product_reduce.proofs.Finished.{reduced_nth}
 use Rattle.product_reduce.proofs.JointPlaces.{before_is, nth_behind, nth_inserted, removed_inserted, count_inserted, reduced_removed}
 use Rattle.product_reduce.proofs.Sorted.{AreApart, apart_words, apart_permuted, less_of, permuted_lists}
+use Rattle.std.proofs.lemmas.Bool.{true≢false}
 
 -- ---- a pair tells that some factors have partners
 
@@ -17,15 +18,12 @@ apart_at zero (more t none) l h = absurd (omega arith)
 apart_at zero (more t (more u ts)) l h = h.0.0
 apart_at (suc n) (more t ts) l h = apart_at n ts (omega arith) h.1
 
-clash : true ≡ false → ⊥
-clash e = cc
-
 pub pair_partners : (n : ℕ) (ts us : Trees) → IsPermutation (list_of ts) (list_of us) → IsPairAt n us → have_partners ts ≡ true
 pair_partners n ts us m p = by (have_partners ts) refl
   where
     by : (k : Bool) → have_partners ts ≡ k → k ≡ true
     by true e = refl
-    by false e = absurd (clash (sym (partners_of_pair _ _ p.pair) ∙ apart_at n us p.within (apart_permuted (permuted_lists ts us m) (apart_words ts e))))
+    by false e = absurd (true≢false (sym (partners_of_pair _ _ p.pair) ∙ apart_at n us p.within (apart_permuted (permuted_lists ts us m) (apart_words ts e))))
 
 -- ---- no pair tells that none has
 

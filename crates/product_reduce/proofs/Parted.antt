@@ -20,6 +20,7 @@ use Rattle.product_reduce.proofs.Products.{product_at, factors_are}
 use Rattle.product_reduce.proofs.Sorted.{permuted_lists}
 use Rattle.product_reduce.proofs.SpreadFits.{no_spreading}
 use Rattle.product_reduce.proofs.Stepped.{mult_words, others_are, opened_value, none_beside}
+use Rattle.calc_algebra.proofs.ReducedLaws.{undef_words}
 
 -- ---- the factors are opened
 
@@ -179,9 +180,6 @@ pub record IsWithin (p t : Tree) : Type 0 where
   pub powers : HasPowersOf (children_of p) t
   pub spanned : (gs : List ℕ) → SpansTree gs p → SpansTree gs t
   pub held : (h l : ℕ) → has_undef (children_of p) ≡ false → AreFactorsHeld (children_of p) h l → IsFactorHeld t h l
-
-undef_words : (t : Tree) → is_undef t ≡ true → t ≡ undef
-undef_words t h = grind arith
 
 pub within : {t : Tree} (p : Tree) → is_mult p ≡ true → are_reduced (children_of p) ≡ true → IsFinished (children_of p) t → IsWithin p t
 within {t = t} p m r f =

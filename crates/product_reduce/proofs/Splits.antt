@@ -3,6 +3,7 @@ use Rattle.std.proofs.Common.{ℕ, ◌≡◌, [], ◌∷◌, true, false, refl, 
 use Rattle.product_reduce.proofs.Shared.{represents_kids, represents_without, removed, is_transparent_power, base_of, num_one, Tree, Trees, none, more, count, nth, plain, children_of, Forest, empty, tree, arity, kids, with_root_kids, tree_nth, without_nth, IsOnce, AllOnce, IsHanded, IsOwned, Represents, Ends, KeepsFront, has_root, root_tree, without_root, put, all-without_nth, arity-without_nth, behind_first, front_same, front_put, front_end, front_without, represents_handed, root-put, kids-put, exponent_of, IsBeside, IsSplit, without_put, by_test}
 use Rattle.tree_handles.proofs.Plains.{count-plains, children_of-plain}
 use Rattle.product_reduce.proofs.Beside.{beside_as, beside_root, beside_tree, beside_without, taken_beside}
+use Rattle.tree_handles.proofs.Over.{tree_put}
 
 -- ---- powers that are not opaque, and other factors
 
@@ -22,10 +23,6 @@ opaque : (t : Tree) → is_transparent_power t ≡ false → IsOpaque t
 opaque t h = grind arith
 
 -- ---- a root that keeps fewer children
-
-tree_put : (i : ℕ) (n f : Forest) → root_tree i (put i n f) ≡ with_root_kids n (root_tree i f)
-tree_put i n empty = refl
-tree_put i n (tree l k r) = grind (arith, tree_put i n r, by_test)
 
 with_fewer : (n t : Forest) → AllOnce n → AllOnce t → AllOnce (with_root_kids n t)
 with_fewer n t h k = grind arith

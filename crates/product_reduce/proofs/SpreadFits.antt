@@ -16,9 +16,7 @@ use Rattle.product_reduce.proofs.HeldProducts.{apart, sum_addends}
 use Rattle.product_reduce.proofs.HeldMultiples.{rational_value}
 use Rattle.product_reduce.proofs.Stepped.{others_are}
 use Rattle.calc_algebra.proofs.NumberClasses as numbers
-
-clash : true ≡ false → ⊥
-clash e = cc
+use Rattle.std.proofs.lemmas.Bool.{true≢false}
 
 -- ---- terms with a coefficient c
 
@@ -76,7 +74,7 @@ led_front c d ts z k = subst (λ (v : Surd). HasIn c v) (sym (rational_value d z
 
 led_other : (c : Fraction) (t : Tree) → AllParts HasForm t → is_number t ≡ false → LeadsTerm c t → HasIn c (addend_of t).coefficient
 unfolding is_number
-led_other c (num d) h n k = absurd (clash n)
+led_other c (num d) h n k = absurd (true≢false n)
 led_other c (mult (more (num d) ts)) h n k = led_front c d ts (product_form_of (more (num d) ts) h n).front.0 k
 led_other c (mult (more (add us) ts)) h n (e, k) =
     subst (λ (b : Bool). HasIn c (value (if b then split (add us) ts else split num_one (more (add us) ts)).coefficient)) (sym e) (led_in c us (number_words (add us) e).1 k)
@@ -160,7 +158,7 @@ product_fits q us c h l p i k n o a b x y few led = by (is_zero_fraction q) refl
         coefficients_fit (term q 1) (term c t.radicand) (p + k) (i + n) nz t.proper.coefficient (omega arith) t.proper.radicand t.held (omega (arith, x, y, few))
 
 misfit : (o : Overflow) (q c : Fraction) → o.op ≡ Mul → value_of o.a ≡ q → value_of o.b ≡ c → fraction_fits (times q c) ≡ true → Overflows o → ⊥
-misfit o q c m a b f n = clash (sym f ∙ sym (λ i. operation_fits (operation_of (m i)) (a i) (b i)) ∙ n)
+misfit o q c m a b f n = true≢false (sym f ∙ sym (λ i. operation_fits (operation_of (m i)) (a i) (b i)) ∙ n)
 
 none_spreads : (ts : Trees) (e : Tree) (o : Overflow) (h l : ℕ) → are_reduced ts ≡ true → has_undef ts ≡ false → AreFactorsHeld ts h l → 2 * h + 4 * l ≤ 124 → IsCoefficient e (opened ts) → SpreadingOverflows e (others_in (opened ts)) o → Overflows o → ⊥
 none_spreads ts e o h l r d a few k x n = by e x.sum x.named (subst AreOthers x.alone (others_are ts r d)) (k.held s.p s.q s.numbers) (subst (λ (us : Trees). IsPartHeld us s.k s.n) x.alone s.others)

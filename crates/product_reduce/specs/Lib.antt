@@ -1,5 +1,6 @@
 pub mod Factors
 pub mod Joining
+pub mod FirstPairs
 pub mod Products
 pub mod Multiplying
 pub mod Sorting

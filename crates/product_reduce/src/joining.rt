@@ -16,7 +16,7 @@ use crate::nodes::one;
 use crate::partners::is_transparent_power;
 use calc_terms::Kind;
 use node_pool::{Full, Pool};
-use tree_handles::{Handle, add_child, node_over_two, release, take_child};
+use tree_handles::{Handle, fill, node_over_two, open_child, release, take_child};
 
 /// A factor as its base and its exponent, which is 1 where none is written.
 fn split_factor(pool: &mut Pool, factor: Handle) -> Result<(Handle, Handle), Full>
@@ -103,8 +103,8 @@ pub fn join_pair(pool: &mut Pool, product: &Handle, first: u16, second: u16) -> 
     ensures stands { Stands pool.new }
 {
     let exponent = take_exponent(pool, product, second)?;
-    let factor = take_child(pool, product, first);
+    let (hole, factor) = open_child(pool, product, first);
     let power = raise(pool, factor, exponent)?;
-    add_child(pool, product, first, power);
+    fill(pool, hole, power);
     Ok(())
 }

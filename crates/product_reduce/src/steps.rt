@@ -23,7 +23,8 @@ ghost use Rattle.tree_room.specs.Handed.{product_count};
 ghost use Rattle.tree_room.specs.Needs.{product_step_room};
 ghost use Rattle.tree_handles.specs.Roots.{without_root};
 ghost use Rattle.tree_handles.specs.Standing.{Stands, forest, KeepsRefusals, LacksBytes, Refuses};
-ghost use Rattle.product_reduce.specs.Joining.{HasNoPartner, IsFirstPair, IsNearest, have_partners, is_partner, joined};
+ghost use Rattle.product_reduce.specs.Joining.{have_partners, is_partner, joined};
+ghost use Rattle.product_reduce.specs.FirstPairs.{HasNoPartner, IsFirstPair, IsNearest};
 ghost use Rattle.product_reduce.specs.Factors.{coefficient_before};
 ghost use Rattle.number_forms.specs.Readers.{is_zero};
 
