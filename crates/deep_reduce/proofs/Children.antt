@@ -1,58 +1,32 @@
 -- A child of a power or of a product that is taken out, reduced and put back.
 use Rattle.std.proofs.Common.{◌≡◌, ℕ, zero, suc, ◌≤◌, ◌<◌, refl, sym, ap, ◌∙◌, subst, arith, true, false, [], ◌∷◌, ◌+◌, ◌*◌}
-use Rattle.deep_reduce.proofs.Shared.{Tree, add, power, Trees, none, more, append, count, IsOver, IsTaken, taken, inserted_behind, replaced, gives_itself, base_in, exponent_in, nth, plain, inserted, children_of, Forest, kids, tree_nth, without_nth, IsHanded, Ends, Gives, root_tree, put, gives_as, KeepsFront, without_root, behind_first, behind_new, front_same, front_without, front_after_one, given_rest, Kind, nest_of, weight, load_of_factors, mult, root_kind, is_mult, expression, seen, nest_of_rewritten, weight_below, IsNested, IsUnfinished, IsMultiplied, IsLifted, State, tree_of, IsExpression, tree_at, Stands, forest}
-use Rattle.power_reduce.proofs.Powers.{over_power as handed_power}
-use Rattle.power_reduce.specs.PowerAnswers.{is_power}
+use Rattle.deep_reduce.proofs.Shared.{Tree, add, power, count, taken, set_tree, base_in, exponent_in, nth, plain, children_of, Forest, IsHanded, Gives, root_tree, put, gives_as, KeepsFront, without_root, behind_first, behind_new, front_same, front_without, front_after_one, given_rest, Kind, nest_of, weight, load_of_factors, mult, root_kind, is_mult, expression, seen, nest_of_rewritten, weight_below, IsNested, IsUnfinished, IsMultiplied, IsLifted, State, tree_of, IsExpression, tree_at, Stands, forest, given_told, set_child, arity, kids_of, handed_arity}
 use Rattle.deep_reduce.proofs.Measures.{of_product, of_exponent, exponents_fall, rank}
-use Rattle.calc_terms.specs.declared.kind.Kind.TheVariants as kind
 
 -- ---- powers
 
--- a handed power
-pub over_power : {i : ℕ} {f : Forest} (t : Tree) → IsHanded i f → plain (root_tree i f) ≡ t → t ≡ power (base_in t) (exponent_in t) → IsOver kind.Pow i (more (base_in t) (more (exponent_in t) none)) f
-over_power {i} {f} t h p e = subst (λ (x : Tree). IsOver kind.Pow i (more (base_in x) (more (exponent_in x) none)) f) p (handed_power h (ap is_power (p ∙ e)))
+-- its exponent is taken out, and another is put in; and so its base
+pub exponent_told : {t b e : Tree} {h : ℕ} {others new : Forest} → t ≡ power b e → Gives others new h (λ u. u ≡ nth 1 (children_of t)) → plain (root_tree h new) ≡ exponent_in t
+exponent_told e g = given_told g ∙ ap (λ (x : Tree). nth 1 (children_of x)) e ∙ sym (ap exponent_in e)
 
-pub power_of_sum : (t : Tree) → t ≡ power (base_in t) (add (children_of (exponent_in t))) → t ≡ power (base_in t) (exponent_in t)
-power_of_sum t e = e ∙ ap (power (base_in t)) (sym (ap exponent_in e))
+pub exponent_set : {t b e : Tree} (u : Tree) → t ≡ power b e → set_child 1 u t ≡ power (base_in t) u
+exponent_set u e = ap (set_child 1 u) e ∙ ap (λ (x : Tree). power (base_in x) u) (sym e)
 
--- its exponent is taken out
-pub exponent_taken : {i h : ℕ} {f new : Forest} {b e : Tree} → IsOver kind.Pow i (more b (more e none)) f → Ends h (tree_nth 1 (kids (root_tree i f))) (put i (without_nth 1 (kids (root_tree i f))) f) new
-    → IsTaken kind.Pow i 1 e (more b none) f new h
-exponent_taken {b = b} {e = e} o d = taken 1 (more b none) e none o refl d
+pub base_told : {t b e : Tree} {h : ℕ} {others new : Forest} → t ≡ power b e → Gives others new h (λ u. u ≡ nth 0 (children_of t)) → plain (root_tree h new) ≡ base_in t
+base_told e g = given_told g ∙ ap (λ (x : Tree). nth 0 (children_of x)) e ∙ sym (ap base_in e)
 
--- and its base
-pub base_taken : {i h : ℕ} {f new : Forest} {b e : Tree} → IsOver kind.Pow i (more b (more e none)) f → Ends h (tree_nth 0 (kids (root_tree i f))) (put i (without_nth 0 (kids (root_tree i f))) f) new
-    → IsTaken kind.Pow i 0 b (more e none) f new h
-base_taken {b = b} {e = e} o d = taken 0 none b (more e none) o refl d
+pub base_set : {t b e : Tree} (u : Tree) → t ≡ power b e → set_child 0 u t ≡ power u (exponent_in t)
+base_set u e = ap (set_child 0 u) e ∙ ap (λ (x : Tree). power u (exponent_in x)) (sym e)
 
--- ---- a place among trees
+pub two_sides : {t b e : Tree} → t ≡ power b e → count (children_of t) ≡ 2
+two_sides e = ap (λ (x : Tree). count (children_of x)) e
 
-pub record IsPlaced (n : ℕ) (ts : Trees) : Type 0 where
-  pub before : Trees
-  pub after : Trees
-  pub split : ts ≡ append before (more (nth n ts) after)
-  pub count-is : n ≡ count before
-  pub within : n ≤ count (append before after)
-  pub others : (u : Tree) → append before (more u after) ≡ replaced n u ts
+-- how many a reader of the root meets
+pub handed_within : {s : State} {i j : ℕ} → j ≡ i → Stands s → IsHanded i (forest s) → arity (kids_of j (forest s)) ≡ count (children_of (tree_of i s))
+handed_within {s = s} e st h = ap (λ (x : ℕ). arity (kids_of x (forest s))) e ∙ handed_arity st h
 
-pub placed : (n : ℕ) (ts : Trees) → n < count ts → IsPlaced n ts
-placed n none h = absurd (omega arith)
-placed zero (more t ts) h = record { before = none; after = ts; split = refl; count-is = refl; within = omega arith; others = λ u. refl }
-placed (suc n) (more t ts) h =
-    let p = placed n ts (omega arith) in
-    record { before = more t p.before; after = p.after; split = ap (more t) p.split; count-is = ap suc p.count-is; within = omega (arith, p.within); others = λ u. ap (more t) (p.others u) }
-
-pub factor_taken : {i h : ℕ} {f new : Forest} {ts : Trees} (n : ℕ) (p : IsPlaced n ts) → IsOver kind.Mult i ts f → Ends h (tree_nth n (kids (root_tree i f))) (put i (without_nth n (kids (root_tree i f))) f) new
-    → IsTaken kind.Mult i n (nth n ts) (append p.before p.after) f new h
-factor_taken {i} {h} {f} {new} {ts} n p o d = taken n p.before (nth n ts) p.after (subst (λ (x : Trees). IsOver kind.Mult i x f) p.split o) p.count-is d
-
-pub factor_inserted : {ts : Trees} (n : ℕ) (p : IsPlaced n ts) (u : Tree) → inserted n (more u none) (append p.before p.after) ≡ replaced n u ts
-factor_inserted {ts} n p u = ap (λ (m : ℕ). inserted m (more u none) (append p.before p.after)) p.count-is ∙ inserted_behind p.before (more u none) p.after ∙ p.others u
-
--- ---- what a call gives, as the tree that it is
-
-pub itself : {g f : Forest} {i : ℕ} {P : Tree → Type 0} → Gives g f i P → Gives g f i (λ u. u ≡ plain (root_tree i f))
-itself g = gives_as (gives_itself g) refl (λ t h. h.1)
+pub factor_set : (t : Tree) (n : ℕ) (u : Tree) → is_mult t ≡ true → set_child n u t ≡ mult (set_tree n u (children_of t))
+factor_set t n u m = grind arith
 
 -- ---- from call to call
 

@@ -7,16 +7,10 @@ use Rattle.calc_algebra.proofs.EasyLaws.{HasBad, easy_part, bad_part, bad_sum, b
 use Rattle.deep_reduce.proofs.Opened.{lacks_whole, number_whole}
 use Rattle.deep_reduce.proofs.NodeRewrites.{AreReducedFrom, IsOver, over_number, over_symbol, over_undef, over_sum, over_product, over_power, over_root, over_neg, over_sub, over_div}
 use Rattle.reduce_port.specs.EasyTrees.{Evaluates}
+use Rattle.tree_bits.proofs.Numbers.{no_undef}
+pub use Rattle.power_reduce.proofs.HeldPowers.{number_defined}
 
 -- ---- tests
-
-undef_is_no_number : is_number undef ≡ true → ⊥
-unfolding is_number
-undef_is_no_number e = cc
-
--- a Number is not Undef
-pub number_defined : (t : Tree) → is_number t ≡ true → is_undef t ≡ false
-number_defined t h = grind (arith, undef_is_no_number)
 
 zero_test : is_zero (num zero_fraction) ≡ true
 unfolding zero_fraction
@@ -243,7 +237,7 @@ evaluated t u r d e a k = record {
 
     answered : IsBad t ⊎ ((v : Surd) × HasValue t v) → r ≡ undef → IsBad t
     answered (inl b) x = b
-    answered (inr (v, m)) x = absurd (undef_is_no_number (ap is_number (sym x) ∙ number (valued t v m)))
+    answered (inr (v, m)) x = absurd (no_undef (ap is_number (sym x) ∙ number (valued t v m)))
 
     worth : is_undef r ≡ false → IsBad t ⊎ ((v : Surd) × HasValue t v) → (v : Surd) × HasValue t v
     worth n (inl b) = absurd (not_bad n b)

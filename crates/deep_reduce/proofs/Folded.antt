@@ -23,16 +23,14 @@ use Rattle.node_bounds.proofs.HeldFactors.{factor_wider}
 use Rattle.node_bounds.proofs.NodeRooms.{number_room}
 use Rattle.number_forms.proofs.Shared.{IsHeld, held_times, no_larger}
 use Rattle.number_forms.proofs.RationalBits.{product_parts, sum_parts}
-use Rattle.number_forms.proofs.RationalCalls.{plain_answer, rational_over, rational_product, rational_sum}
+use Rattle.number_forms.proofs.RationalCalls.{plain_answer, rational_over, rational_product, rational_sum, num_same}
 use Rattle.number_forms.specs.Answers.{IsNumberOver}
 use Rattle.power_reduce.proofs.HeldPowers.{number_power_held, rational_power_held}
 use Rattle.product_reduce.proofs.HeldNumbers.{alone_held, number_as_factor, value_held}
 use Rattle.product_reduce.specs.Bits.{factor_held}
 use Rattle.sum_reduce.proofs.Held.{both_held}
 use Rattle.tree_bits.proofs.Numbers.{held_wider}
-
-num_same : {p q : Fraction} → num p ≡ num q → p ≡ q
-num_same e = cc
+pub use Rattle.calc_measures.proofs.Inverses.{zero_num as other_than_zero}
 
 this_fits : (q : Fraction) → fraction_fits q ≡ true → (x : Fraction) → num q ≡ num x → fraction_fits x ≡ true
 this_fits q f x k = subst (λ (y : Fraction). fraction_fits y ≡ true) (num_same k) f
@@ -198,10 +196,6 @@ some_told (Some x) h k = k x h
 
 pub some_answered : {t u : Tree} (o : Option Rat) → t ≡ u → IfSome o (λ r. IsNodeAnswer t (num (value_of r))) → IfSome o (λ r. IsNodeAnswer u (num (value_of r)))
 some_answered o e h = subst (λ (x : Tree). IfSome o (λ r. IsNodeAnswer x (num (value_of r)))) e h
-
--- what a test tells
-pub other_than_zero : (q : Fraction) → is_zero_fraction q ≡ false → q.num ≢ pos 0
-other_than_zero q z e = let o : is_zero_fraction q ≡ true = ap int_is_zero e in cc
 
 -- ---- bytes
 

@@ -12,6 +12,7 @@ use Rattle.radical_forms.proofs.RootValues.{of_root}
 use Rattle.calc_measures.proofs.Weights.{some_weight, to_number}
 use Rattle.deep_reduce.proofs.Lacking.{lacks_as}
 use Rattle.calc_algebra.proofs.MeaningRewrites as rewrites
+use Rattle.power_reduce.proofs.Answered.{number_nest}
 
 -- ---- the exponents
 
@@ -72,9 +73,6 @@ half_undefined b r u q h k a c d = grind (arith, or_other, no_at_most, undefined
 half_number : (b r u : Tree) (q : Fraction) → (q.den == 2) ≡ true → IsRootAnswer b r → IsPowerAnswer r (num (whole_fraction q.num)) u → is_number_power b (num q) ≡ true → lacks_power b (num q) ≡ false → is_number u ≡ true
 half_number b r u q h k a c d = grind (arith, and_parts, or_other, no_number, or_parts, number_sides, and_other)
 
-nest_to_number : (b : Tree) (q : Fraction) → nest (power b (num q)) ≡ nest b
-nest_to_number b q = to_number b (num q) (number_test (num q) tt)
-
 root_kinds : (b r : Tree) → IsRootAnswer b r → (is_undef r || is_number r || is_root r) ≡ true
 root_kinds b r h = grind (arith, or_left, or_right)
 
@@ -86,7 +84,7 @@ half_finished b (num q) r u h d w k s a x = record {
   undefined = λ l. half_undefined b r u q h d k a l;
   number = λ n l. half_number b r u q h k a n l;
   written = λ l. rewritten_written b (num q) (power_of_root b (num q)) u (by_half b (num q) h d);
-  nest = omega (arith, a.nest_bound, nest_to_number r (whole_fraction q.num), k.nest, nest_to_number b q);
+  nest = omega (arith, a.nest_bound, number_nest r (whole_fraction q.num), k.nest, number_nest b q);
   opaque_load = omega (arith, a.load_bound (transparent_whole (num (whole_fraction q.num)) (whole_is q.num)), root_weight b r k);
   load = λ o. contrary (and_from (is_number (num q)) (not (q.den == 1)) (number_test (num q) tt) (not_from_false (q.den == 1) (not_whole q h))) o;
   room = record { counts = λ ns c. contrary h (calm_no_half c); calm = λ ns c. contrary h (calm_no_half c); spanned = λ gs ns c s. contrary h (calm_no_half c) };
@@ -112,8 +110,8 @@ pub record IsHalfReady (u : Tree) : Type 0 where
   pub root : is_root (base_in u) ≡ true
   pub reduced : is_reduced (argument_of (base_in u)) ≡ true
 
-pub half_ready : (b e u : Tree) → is_reduced b ≡ true → IsHalfStep b e u → IsHalfReady u
-half_ready b e u h s = subst IsHalfReady (sym s.is) (record { words = refl; root = refl; reduced = h })
+pub half_ready : {b e u : Tree} → is_reduced b ≡ true → IsHalfStep b e u → IsHalfReady u
+half_ready h s = subst IsHalfReady (sym s.is) (record { words = refl; root = refl; reduced = h })
 
 pub record IsHalfLast (v : Tree) : Type 0 where
   pub words : v ≡ power (base_in v) (exponent_in v)
@@ -125,20 +123,20 @@ pub record IsHalfLast (v : Tree) : Type 0 where
 rooted_is : (b e u v : Tree) → IsHalfStep b e u → IsRooted u v → IsRooted (power_of_root b e) v
 rooted_is b e u v s k = subst (λ (t : Tree). IsRooted t v) s.is k
 
-pub half_last : (b e u v : Tree) → is_half_num e ≡ true → IsHalfStep b e u → IsRooted u v → IsHalfLast v
-half_last b e u v h k a = grind (arith, rooted_is, parts_reduced, root_once, root_kinds)
+pub half_last : {b e u v : Tree} → is_half_num e ≡ true → IsHalfStep b e u → IsRooted u v → IsHalfLast v
+half_last h k a = grind (arith, rooted_is, parts_reduced, root_once, root_kinds)
 
 -- the exponent of the last step
-pub last_exponent : (b e u v : Tree) → IsHalfStep b e u → IsRooted u v → exponent_in v ≡ num (whole_fraction (numerator e))
-last_exponent b e u v s k = ap exponent_in (rooted_is b e u v s k).is
+pub last_exponent : {b e u v : Tree} → IsHalfStep b e u → IsRooted u v → exponent_in v ≡ num (whole_fraction (numerator e))
+last_exponent s k = ap exponent_in (rooted_is _ _ _ _ s k).is
 
 -- what holds the base holds the root, unless that is Undef
-pub rooted_held : (b e u v : Tree) {h l : ℕ} → is_reduced b ≡ true → IsHalfStep b e u → IsRooted u v → (h ≡ 0 → l ≡ 0) → is_undef (base_in v) ≡ false → IsFactorHeld b h l → IsFactorHeld (base_in v) h l
-rooted_held b e u v m s k z d a = grind (arith, root_answer_held, rooted_is)
+pub rooted_held : {b e u v : Tree} {h l : ℕ} → is_reduced b ≡ true → IsHalfStep b e u → IsRooted u v → (h ≡ 0 → l ≡ 0) → is_undef (base_in v) ≡ false → IsFactorHeld b h l → IsFactorHeld (base_in v) h l
+rooted_held m s k z d a = grind (arith, root_answer_held, rooted_is)
 
-pub half_after : (b e u v r : Tree) → is_half_num e ≡ true → IsHalfStep b e u → Rewrites (power b e) u → IsRooted u v → IsPowerAnswer (base_in v) (exponent_in v) r
+pub half_after : {b e u v : Tree} (r : Tree) → is_half_num e ≡ true → IsHalfStep b e u → Rewrites (power b e) u → IsRooted u v → IsPowerAnswer (base_in v) (exponent_in v) r
     → is_reduced b ≡ true → IsHeldAsPowerOf (numerator e) (base_in v) r → IsReducedPower b e r
-half_after b e u v r h s w k a m p =
+half_after {b = b} {e = e} {u = u} {v = v} r h s w k a m p =
     let t = rooted_is b e u v s k in
     let last = subst (λ (x : Tree). IsPowerAnswer (base_in x) (exponent_in x) r) t.is a in
     half_finished b e t.root r h s.defined (subst (Rewrites (power b e)) s.is w) t.answer t.spanned last
@@ -160,8 +158,8 @@ rooted_bytes gs b e r s = omega (arith, base_bytes gs b r s, num_bytes (whole_fr
 pub step_finds_none : (gs : List ℕ) (t : Tree) (free : ℕ) (f : NumberFault) → is_reduced (base_in t) ≡ true → SpansRootOf gs (base_in t) → LacksRoot t free f → LacksBelow (power_room (1 + counted (base_in t)) (2 ^ length gs)) (free + size t) f
 step_finds_none gs t free f r s k = full_as f k (λ full l. omega (arith, l, rooted_bytes gs (base_in t) (exponent_in t) r s))
 
-pub base_finds_none : (gs : List ℕ) (b e u : Tree) (free bytes : ℕ) (f : NumberFault) → is_reduced b ≡ true → SpansRootOf gs b → IsHalfStep b e u → free + size u ≡ bytes → LacksBelow (96 + size u) (free + size u) f → LacksBelow (power_room (1 + counted b) (2 ^ length gs)) bytes f
-base_finds_none gs b e u free bytes f r s h m k = lacks_as f k (λ l. omega (arith, l, m, ap size h.is, rooted_bytes gs b e r s))
+pub base_finds_none : {b e u : Tree} (gs : List ℕ) (free bytes : ℕ) (f : NumberFault) → is_reduced b ≡ true → SpansRootOf gs b → IsHalfStep b e u → free + size u ≡ bytes → LacksBelow (96 + size u) (free + size u) f → LacksBelow (power_room (1 + counted b) (2 ^ length gs)) bytes f
+base_finds_none {b = b} {e = e} gs free bytes f r s h m k = lacks_as f k (λ l. omega (arith, l, m, ap size h.is, rooted_bytes gs b e r s))
 
 -- the last step
 pub record IsLastStep (gs : List ℕ) (b v : Tree) : Type 0 where
@@ -169,11 +167,11 @@ pub record IsLastStep (gs : List ℕ) (b v : Tree) : Type 0 where
   pub whole : is_whole_num (exponent_in v) ≡ true
   pub counts : counted (base_in v) ≤ 1 + counted b
 
-pub last_step : (gs : List ℕ) (b e u v : Tree) → SpansRootOf gs b → IsHalfStep b e u → IsRooted u v → IsLastStep gs b v
-last_step gs b e u v s h k =
+pub last_step : {b e u v : Tree} (gs : List ℕ) → SpansRootOf gs b → IsHalfStep b e u → IsRooted u v → IsLastStep gs b v
+last_step {b = b} {e = e} {v = v} gs s h k =
     let t : IsRooted (power_of_root b e) v = subst (λ (x : Tree). IsRooted x v) h.is k in
     let r = root_room b t.root t.answer t.spanned in
     subst (IsLastStep gs b) (sym t.is) (record { spanned = (tt, r.spanned gs s, tt); whole = whole_is (numerator e); counts = r.counts })
 
-pub last_finds_none : (gs : List ℕ) (b v : Tree) (free : ℕ) (f : NumberFault) → IsLastStep gs b v → LacksStep gs v free f → LacksBelow (power_room (1 + counted b) (2 ^ length gs)) (free + size v) f
-last_finds_none gs b v free f h k = full_as f k (λ full l. omega (arith, l, scaled (counted (base_in v)) (1 + counted b) (2 ^ length gs) h.counts))
+pub last_finds_none : {b v : Tree} (gs : List ℕ) (free : ℕ) (f : NumberFault) → IsLastStep gs b v → LacksStep gs v free f → LacksBelow (power_room (1 + counted b) (2 ^ length gs)) (free + size v) f
+last_finds_none {b = b} {v = v} gs free f h k = full_as f k (λ full l. omega (arith, l, scaled (counted (base_in v)) (1 + counted b) (2 ^ length gs) h.counts))

@@ -4,13 +4,10 @@ use Rattle.deep_reduce.proofs.Shared.{load, weight, load_of_factor, is_number, i
 use Rattle.calc_measures.proofs.Nests.{nest_number}
 use Rattle.calc_measures.proofs.Weights.{heavy, numbers_nest, to_number, to_other, exponent_nest}
 use Rattle.node_bounds.proofs.Clashes.{base_reduced}
+pub use Rattle.power_reduce.proofs.Weights.{factor_load}
 
 pub heavy_base : (t : Tree) → is_reduced t ≡ true → 2 ≤ weight (base_of t)
 heavy_base t h = grind (arith, heavy, base_reduced)
-
--- the load of a tree as a factor, from its own
-pub factor_load : (u : Tree) (n : ℕ) → 2 ≤ n → load u ≤ n → load_of_factor u ≤ n
-factor_load u n h k = grind (arith, load_number)
 
 -- ---- Numbers
 

@@ -2,8 +2,6 @@
 use Rattle.std.proofs.Common.{rules, ◌≡◌, ℕ, suc, ◌+◌, ◌^◌, ◌≤◌, ◌<◌, List, length, true, false, Result, refl, sym, ap, ◌∙◌, subst, arith, inl, inr, IfErr, IsOk}
 use Rattle.deep_reduce.proofs.Shared.{is_whole_num, is_half_num, base_of, SpansRoot, SpansTree, SpansTrees, whole_fraction, Tree, num, add, mult, power, root, Trees, none, more, append, is_mult, size, sizes, IsOver, IsCalmAtZero, IsJoinedFrom, IsRewritten, whole_power_room, HandsOn, IsSummed, AreReducedPowers, IsLifted, IsProductOfPowers, State, free_of, LacksBelow, full_as, refusal_as, base_in, exponent_in, parts_of, LacksStep, parts_span, whole_is, exponent_of, joint, nth, children_of, Forest, empty, bytes_in, kids, root_tree, put, Stands, forest, KeepsRefusals, NumberFault, used_forest, sizes-plains, HasCalmExponent, IsCalm, AreCalm, zeros, product_count, sum_count, sum_room, product_room, whole_number, scaled, sizes_append, cases_Bool}
 use Rattle.node_bounds.proofs.Clashes.{clash}
-use Rattle.coefficients.proofs.Bytes.{bytes_put}
-use Rattle.deep_reduce.proofs.Children.{IsPlaced}
 use Rattle.deep_reduce.proofs.Rows.{IsNext}
 use Rattle.node_bounds.proofs.JointRooms.{joined_calm, joined_spans, summed_calm, summed_spans}
 use Rattle.node_bounds.proofs.Calm.{all_nth, calm_exponent, calm_no_half, calm_product, calm_power}
@@ -96,31 +94,8 @@ joint_ready gs ns at ts us v k c s m =
 
 -- ---- bytes of children
 
-pub placed_bytes : {n : ℕ} {ts : Trees} (p : IsPlaced n ts) → sizes ts ≡ size (nth n ts) + sizes (append p.before p.after)
-placed_bytes {n} {ts} p = omega (arith, ap sizes p.split, sizes_append p.before (more (nth n ts) p.after), sizes_append p.before p.after)
-
 pub next_bytes : {i at : ℕ} {ts : Trees} {old new : Forest} (n : IsNext i at ts old new) → sizes (append n.reduced (more n.t n.rest)) ≡ size n.t + sizes (append n.reduced n.rest)
 next_bytes n = omega (arith, sizes_append n.reduced (more n.t n.rest), sizes_append n.reduced n.rest)
-
--- other children stand in a product
-pub part_free : {i : ℕ} {ts us : Trees} {s t : State} → Stands s → Stands t → KeepsRefusals s t → IsOver kind.Mult i ts (forest s) → put i empty (forest t) ≡ put i empty (forest s) → IsOver kind.Mult i us (forest t)
-    → free_of t + sizes us ≡ free_of s + sizes ts
-part_free {i} {s = s} {t = t} st su r o w p =
-    omega (
-      arith,
-      used_forest s st,
-      used_forest t su,
-      r.size,
-      st.pool.fits,
-      su.pool.fits,
-      ap bytes_in w,
-      bytes_put i empty (forest s) o.root,
-      bytes_put i empty (forest t) p.root,
-      sizes-plains (kids (root_tree i (forest s))) o.kids.whole,
-      ap sizes o.kids.plain_trees,
-      sizes-plains (kids (root_tree i (forest t))) p.kids.whole,
-      ap sizes p.kids.plain_trees,
-    )
 
 -- ---- whole powers
 

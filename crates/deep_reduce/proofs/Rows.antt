@@ -1,7 +1,6 @@
--- The loop over the powers of a product, each of which is taken out, reduced and put back.
-use Rattle.std.proofs.Common.{◌≡◌, ℕ, suc, ◌+◌, ◌≤◌, ◌<◌, [], ◌∷◌, refl, sym, ap, ◌∙◌, subst, arith}
-use Rattle.deep_reduce.proofs.Shared.{nest, nest_of, weight, Tree, Trees, none, more, append, count, IsOver, IsTaken, taken, over_put, IsAdded, added_as, inserted_behind, IsReducedPower, weight_of_bases, IsTransparent, AreTransparent, AreReducedPowers, base_in, exponent_in, inserted, Forest, kids, with_nth, tree_nth, without_nth, Represents, Ends, Gives, KeepsFront, root_tree, without_root, put, behind_first, front_same, front_at, front_put, append-none, put-put, put-same, count_append}
-use Rattle.calc_terms.specs.declared.kind.Kind.TheVariants as kind
+-- The loop over the powers of a product, each of which is reduced in its place.
+use Rattle.std.proofs.Common.{◌≡◌, ℕ, suc, ◌+◌, ◌≤◌, ◌<◌, refl, sym, ap, ◌∙◌, subst, arith}
+use Rattle.deep_reduce.proofs.Shared.{nest, nest_of, weight, Tree, Trees, none, more, append, count, taken, IsReducedPower, weight_of_bases, IsTransparent, AreTransparent, AreReducedPowers, base_in, exponent_in, Forest, Gives, root_tree, put, append-none, count_append, mult, nth, plain, children_of, set_child, set_tree, ChangesTree, changes_after, changes_as, changes_none, IsHanded, given_told, State, tree_of, forest}
 use Rattle.reduce_walk.proofs.Walks.{append_assoc, none_left}
 
 -- ---- lists
@@ -26,6 +25,21 @@ pub power_among : (before : Trees) (t : Tree) (rest : Trees) → AreTransparent 
 power_among none t rest h = record { transparent = h.0; nests = omega arith; weighs = omega arith }
 power_among (more u us) t rest h = let p = power_among us t rest h.1 in record { transparent = p.transparent; nests = omega (arith, p.nests); weighs = omega (arith, p.weighs) }
 
+-- the tree behind some, and another in its place
+nth_behind : {n : ℕ} (ts : Trees) (t : Tree) (us : Trees) → n ≡ count ts → nth n (append ts (more t us)) ≡ t
+nth_behind ts t us e = ap (λ (n : ℕ). nth n (append ts (more t us))) e ∙ by ts
+  where
+    by : (ts : Trees) → nth (count ts) (append ts (more t us)) ≡ t
+    by none = refl
+    by (more x ts) = by ts
+
+set_behind : {n : ℕ} (ts : Trees) (t u : Tree) (us : Trees) → n ≡ count ts → set_tree n u (append ts (more t us)) ≡ append (append ts (more u none)) us
+set_behind ts t u us e = ap (λ (n : ℕ). set_tree n u (append ts (more t us))) e ∙ by ts
+  where
+    by : (ts : Trees) → set_tree (count ts) u (append ts (more t us)) ≡ append (append ts (more u none)) us
+    by none = refl
+    by (more x ts) = ap (more x) (by ts)
+
 -- ---- the loop
 
 -- the first powers are reduced, and nothing else
@@ -36,27 +50,10 @@ pub record IsPartReduced (i at : ℕ) (ts : Trees) (old new : Forest) : Type 0 w
   pub split : ts ≡ append done rest
   pub count-is : at ≡ count reduced
   pub are : AreReducedPowers done reduced
-  pub now : Forest
-  pub kids : Represents now (append reduced rest)
-  pub whole : new ≡ put i now old
-  pub over : IsOver kind.Mult i (append reduced rest) new
+  pub now : ChangesTree i (mult (append reduced rest)) old new
 
-pub none_reduced : {i : ℕ} {ts : Trees} {old : Forest} → IsOver kind.Mult i ts old → IsPartReduced i 0 ts old old
-none_reduced {i} {ts} {old} o = record {
-  done = none;
-  reduced = none;
-  rest = ts;
-  split = refl;
-  count-is = refl;
-  are = tt;
-  now = kids (root_tree i old);
-  kids = o.kids;
-  whole = sym (put-same i old);
-  over = o;
-}
-
-pub part_front : {i at : ℕ} {ts : Trees} {old new : Forest} → IsPartReduced i at ts old new → KeepsFront (i ∷ []) old new
-part_front p = front_at (front_put p.now behind_first front_same) p.whole
+pub none_reduced : {i : ℕ} {ts : Trees} {old : Forest} → IsHanded i old → plain (root_tree i old) ≡ mult ts → IsPartReduced i 0 ts old old
+none_reduced {ts = ts} h e = record { done = none; reduced = none; rest = ts; split = refl; count-is = refl; are = tt; now = changes_as (changes_none h) e }
 
 -- the next power
 pub record IsNext (i at : ℕ) (ts : Trees) (old new : Forest) : Type 0 where
@@ -67,66 +64,48 @@ pub record IsNext (i at : ℕ) (ts : Trees) (old new : Forest) : Type 0 where
   pub split : ts ≡ append done (more t rest)
   pub count-is : at ≡ count reduced
   pub are : AreReducedPowers done reduced
-  pub whole : (n : Forest) → put i n new ≡ put i n old
-  pub over : IsOver kind.Mult i (append reduced (more t rest)) new
+  pub now : ChangesTree i (mult (append reduced (more t rest))) old new
 
 pub next_power : {i at : ℕ} {ts : Trees} {old new : Forest} → IsPartReduced i at ts old new → at < count ts → IsNext i at ts old new
-next_power {i} {at} {ts} {old} {new} p l = by p.rest p.split p.over
+next_power {i} {at} {ts} {old} {new} p l = by p.rest p.split p.now
   where
-    by : (rest : Trees) → ts ≡ append p.done rest → IsOver kind.Mult i (append p.reduced rest) new → IsNext i at ts old new
+    by : (rest : Trees) → ts ≡ append p.done rest → ChangesTree i (mult (append p.reduced rest)) old new → IsNext i at ts old new
     by none s o = absurd (omega (arith, ap count s, p.count-is, count_append p.done none, powers_count p.done p.reduced p.are))
-    by (more t rest) s o = record {
-      done = p.done;
-      reduced = p.reduced;
-      t = t;
-      rest = rest;
-      split = s;
-      count-is = p.count-is;
-      are = p.are;
-      whole = λ n. ap (put i n) p.whole ∙ put-put i n p.now old;
-      over = o;
-    }
+    by (more t rest) s o = record { done = p.done; reduced = p.reduced; t = t; rest = rest; split = s; count-is = p.count-is; are = p.are; now = o }
 
-pub next_within : {i at : ℕ} {ts : Trees} {old new : Forest} (n : IsNext i at ts old new) → at < count (append n.reduced (more n.t n.rest))
-next_within n = omega (arith, n.count-is, count_append n.reduced (more n.t n.rest))
-
-pub back_within : {i at : ℕ} {ts : Trees} {old new : Forest} (n : IsNext i at ts old new) → at ≤ count (append n.reduced n.rest)
-back_within n = omega (arith, n.count-is, count_append n.reduced n.rest)
+pub next_within : {i at : ℕ} {ts : Trees} {old : Forest} {new : Forest} (n : IsNext i at ts old new) → at < count (children_of (plain (root_tree i new)))
+next_within n = omega (arith, n.count-is, ap (λ (x : Tree). count (children_of x)) n.now.tree, count_append n.reduced (more n.t n.rest))
 
 pub next_of : {i at : ℕ} {ts : Trees} {old new : Forest} (n : IsNext i at ts old new) → AreTransparent ts → IsPowerOf ts n.t
 next_of {ts = ts} n h = subst (λ (x : Trees). IsPowerOf x n.t) (sym n.split) (power_among n.done n.t n.rest (subst AreTransparent n.split h))
 
-pub next_taken : {i at h : ℕ} {ts : Trees} {old new g : Forest} (n : IsNext i at ts old new) → Ends h (tree_nth at (kids (root_tree i new))) (put i (without_nth at (kids (root_tree i new))) new) g
-    → IsTaken kind.Mult i at n.t (append n.reduced n.rest) new g h
-next_taken {at = at} n d = taken at n.reduced n.t n.rest n.over n.count-is d
+-- it is taken out
+pub next_told : {i at h : ℕ} {ts : Trees} {old mid others new : Forest} (n : IsNext i at ts old mid) → Gives others new h (λ u. u ≡ nth at (children_of (plain (root_tree i mid)))) → plain (root_tree h new) ≡ n.t
+next_told {at = at} n g = given_told g ∙ ap (λ (x : Tree). nth at (children_of x)) n.now.tree ∙ nth_behind n.reduced n.t n.rest n.count-is
 
--- it is put back reduced
-pub next_reduced : {i at h j : ℕ} {ts : Trees} {old new g k end : Forest} (n : IsNext i at ts old new) (a : IsTaken kind.Mult i at n.t (append n.reduced n.rest) new g h) (u : Tree)
-    → IsReducedPower (base_in n.t) (exponent_in n.t) u → Gives (put i a.now new) k j (λ x. x ≡ u) → end ≡ put i (with_nth at (root_tree j k) (kids (root_tree i k))) (without_root j k) → IsPartReduced i (at + 1) ts old end
-next_reduced {i} {at} {ts = ts} {old} {new} {end = end} n a u power g e =
-    let last = append n.reduced (more u none) in
-    let there : IsOver kind.Mult i (append n.reduced n.rest) (put i a.now new) = over_put a.now n.over a.kids in
-    let words : inserted at (more u none) (append n.reduced n.rest) ≡ append last n.rest =
-    ap (λ (m : ℕ). inserted m (more u none) (append n.reduced n.rest)) n.count-is ∙ inserted_behind n.reduced (more u none) n.rest ∙ sym (append_assoc n.reduced (more u none) n.rest) in
-    let x = added_as at there g e words in
-    record {
-      done = append n.done (more n.t none);
-      reduced = last;
-      rest = n.rest;
-      split = n.split ∙ sym (append_assoc n.done (more n.t none) n.rest);
-      count-is = omega (arith, n.count-is, count_append n.reduced (more u none));
-      are = powers_behind n.done n.reduced n.t u n.are power;
-      now = x.now;
-      kids = x.kids;
-      whole = x.whole ∙ put-put i x.now a.now new ∙ n.whole x.now;
-      over = x.over;
-    }
+-- and put back reduced
+pub next_reduced : {i at : ℕ} {ts : Trees} {old mid new : Forest} (n : IsNext i at ts old mid) (u : Tree) → IsReducedPower (base_in n.t) (exponent_in n.t) u → ChangesTree i (set_child at u (plain (root_tree i mid))) mid new → IsPartReduced i (at + 1) ts old new
+next_reduced {at = at} n u power a = record {
+  done = append n.done (more n.t none);
+  reduced = append n.reduced (more u none);
+  rest = n.rest;
+  split = n.split ∙ sym (append_assoc n.done (more n.t none) n.rest);
+  count-is = omega (arith, n.count-is, count_append n.reduced (more u none));
+  are = powers_behind n.done n.reduced n.t u n.are power;
+  now = changes_after n.now (changes_as a (ap (set_child at u) n.now.tree ∙ ap mult (set_behind n.reduced n.t u n.rest n.count-is)));
+}
 
 -- all powers are reduced
 pub record AreAllReduced (i : ℕ) (ts : Trees) (old new : Forest) : Type 0 where
   pub factors : Trees
   pub are : AreReducedPowers ts factors
-  pub added : IsAdded kind.Mult i factors old new
+  pub now : ChangesTree i (mult factors) old new
 
 pub all_reduced : {i at : ℕ} {ts : Trees} {old new : Forest} → IsPartReduced i at ts old new → count ts ≤ at → AreAllReduced i ts old new
-all_reduced h k = grind (arith, powers_count, none_left, append-none)
+all_reduced p l =
+    let rest : p.rest ≡ none = none_left p.done p.rest (omega (arith, l, p.count-is, ap count p.split, powers_count p.done p.reduced p.are)) in
+    record {
+      factors = p.reduced;
+      are = subst (λ (x : Trees). AreReducedPowers x p.reduced) (sym (p.split ∙ ap (append p.done) rest ∙ append-none p.done)) p.are;
+      now = changes_as p.now (ap mult (ap (append p.reduced) rest ∙ append-none p.reduced));
+    }

@@ -1,6 +1,6 @@
 -- A product whose joint is reduced in its place.
 use Rattle.std.proofs.Common.{◌≡◌, ℕ, zero, suc, ◌+◌, ◌≤◌, ◌<◌, inl, inr, true, false, refl, sym, ap, ◌∙◌, subst, arith, add-one, Option, MatchOption, IfSome}
-use Rattle.deep_reduce.proofs.Shared.{and_parts, Contains-append_left, Contains-append_right, Contains-append_cases, nest, nest_of, weight, load_of_factor, load_of_factors, is_reduced, is_opaque_exponent, base_of, are_reduced, Tree, add, mult, power, Trees, none, more, count, is_mult, names, KeepsMeanings-refl, KeepsMeanings-power, IsReducedProduct, IsReducedPower, counted, KeepsRoom, KeepsSumRoom, nest_of_joint, replaced, Joins, joins_gathered, joins_pair, joins_then, HandsOn, IsLess, IsSummed, IsSettled, AddsCounts, IsHeldAsProduct, removed, base_in, exponent_in, AreJoinable, IsFinished, IsGathered, exponent_of, have_partners, IsJointAt, IsNextPair, IsPairAt, NoPairBetween, joined_pair, joint_there, neighbours_joint, Rewrites, keeps, kept, Rewrites-refl, Rewrites-trans, rewrites_of, reduces_after, IsSumAnswer, nth, children_of, load_product, base_is_reduced, exponent_is_reduced}
+use Rattle.deep_reduce.proofs.Shared.{and_parts, Contains-append_left, Contains-append_right, Contains-append_cases, nest, nest_of, weight, load_of_factor, load_of_factors, is_reduced, is_opaque_exponent, base_of, are_reduced, Tree, add, mult, power, Trees, none, more, count, is_mult, names, KeepsMeanings-refl, KeepsMeanings-power, IsReducedProduct, IsReducedPower, counted, KeepsRoom, KeepsSumRoom, nest_of_joint, set_tree, Joins, joins_gathered, joins_pair, joins_then, HandsOn, IsLess, IsSummed, IsSettled, AddsCounts, IsHeldAsProduct, removed, base_in, exponent_in, AreJoinable, IsFinished, IsGathered, exponent_of, have_partners, IsJointAt, IsNextPair, IsPairAt, NoPairBetween, joined_pair, joint_there, neighbours_joint, Rewrites, keeps, kept, Rewrites-refl, Rewrites-trans, rewrites_of, reduces_after, IsSumAnswer, nth, children_of, load_product, base_is_reduced, exponent_is_reduced}
 use Rattle.node_bounds.proofs.Clashes.{contrary, undef_words}
 use Rattle.deep_reduce.proofs.Heavy.{factor_load, over_power}
 use Rattle.calc_measures.proofs.Weights.{some_weight}
@@ -19,26 +19,26 @@ exponent_rewritten b {e} {g} h = record {
   meanings = keeps (KeepsMeanings-power (KeepsMeanings-refl b) (kept h.meanings));
 }
 
-replaced_rewritten : (n : ℕ) (u : Tree) (ts : Trees) → Rewrites (nth n ts) u → Rewrites (mult ts) (mult (replaced n u ts))
+replaced_rewritten : (n : ℕ) (u : Tree) (ts : Trees) → Rewrites (nth n ts) u → Rewrites (mult ts) (mult (set_tree n u ts))
 replaced_rewritten n u none h = Rewrites-refl (mult none)
 replaced_rewritten zero u (more t ts) h = factors_rewritten h (Rewrites-refl (mult ts))
 replaced_rewritten (suc n) u (more t ts) h = factors_rewritten (Rewrites-refl t) (replaced_rewritten n u ts h)
 
 -- ---- another tree at a place
 
-replaced_count : (n : ℕ) (u : Tree) (ts : Trees) → count (replaced n u ts) ≡ count ts
+replaced_count : (n : ℕ) (u : Tree) (ts : Trees) → count (set_tree n u ts) ≡ count ts
 replaced_count n u none = refl
 replaced_count zero u (more t ts) = refl
 replaced_count (suc n) u (more t ts) = ap suc (replaced_count n u ts)
 
-replaced_reduced : (n : ℕ) (u : Tree) (ts : Trees) → is_reduced u ≡ true → are_reduced (removed n ts) ≡ true → are_reduced (replaced n u ts) ≡ true
+replaced_reduced : (n : ℕ) (u : Tree) (ts : Trees) → is_reduced u ≡ true → are_reduced (removed n ts) ≡ true → are_reduced (set_tree n u ts) ≡ true
 replaced_reduced n u none h k = refl
 replaced_reduced zero u (more t ts) h k = rw (h, k) refl
 replaced_reduced (suc n) u (more t ts) h k =
     let b = and_parts (is_reduced t) (are_reduced (removed n ts)) k in
     rw (b.0, replaced_reduced n u ts h b.1) refl
 
-replaced_load : (n : ℕ) (u : Tree) (ts : Trees) → n < count ts → load_of_factors (replaced n u ts) + load_of_factor (nth n ts) ≡ load_of_factors ts + load_of_factor u
+replaced_load : (n : ℕ) (u : Tree) (ts : Trees) → n < count ts → load_of_factors (set_tree n u ts) + load_of_factor (nth n ts) ≡ load_of_factors ts + load_of_factor u
 replaced_load n u none h = absurd (omega arith)
 replaced_load zero u (more t ts) h = omega arith
 replaced_load (suc n) u (more t ts) h = omega (arith, replaced_load n u ts (omega arith))
@@ -47,7 +47,7 @@ below_reduced : (n : ℕ) (ts : Trees) → JointsBelow n ts → are_reduced ts �
 below_reduced n none h k = omega arith
 below_reduced n (more t ts) h k = let b = and_parts _ _ k in omega (arith, reduced_joint t b.0, h.0, below_reduced n ts h.1 b.1)
 
-replaced_nest : (n m : ℕ) (u : Tree) (ts : Trees) → n < count ts → JointsBelow m ts → are_reduced (removed n ts) ≡ true → nest u ≤ nest_of_joint (nth n ts) → nest_of (replaced n u ts) ≤ m
+replaced_nest : (n m : ℕ) (u : Tree) (ts : Trees) → n < count ts → JointsBelow m ts → are_reduced (removed n ts) ≡ true → nest u ≤ nest_of_joint (nth n ts) → nest_of (set_tree n u ts) ≤ m
 replaced_nest n m u none l h k w = absurd (omega arith)
 replaced_nest zero m u (more t ts) l h k w = omega (arith, h.0, below_reduced m ts h.1 k)
 replaced_nest (suc n) m u (more t ts) l h k w = let b = and_parts _ _ k in omega (arith, reduced_joint t b.0, h.0, replaced_nest n m u ts (omega arith) h.1 b.1 w)
@@ -143,7 +143,7 @@ settled_less at ts u v j s =
     let us = children_of u in
     let p = j.joint in
     let a = answered (nth at us) s.exponent s.factor (joint_at p) s.sum s.answer in
-    let here : Rewrites (mult us) (mult (replaced at s.factor us)) = replaced_rewritten at s.factor us a.rewrites in
+    let here : Rewrites (mult us) (mult (set_tree at s.factor us)) = replaced_rewritten at s.factor us a.rewrites in
     subst (IsLess ts) (sym s.is) (record {
       is = refl;
       some = omega (arith, replaced_count at s.factor us, p.within);
@@ -152,7 +152,7 @@ settled_less at ts u v j s =
       nests = replaced_nest at (nest_of ts) s.factor us p.within j.less.nests p.others a.nests;
       loads = omega (arith, replaced_load at s.factor us p.within, a.loads, j.less.load);
       joins =
-          subst (λ (xs : Trees). Joins ts (replaced at s.factor xs)) (sym j.whole)
+          subst (λ (xs : Trees). Joins ts (set_tree at s.factor xs)) (sym j.whole)
           (joins_pair at s.exponent s.factor j.pair (subst (λ (x : Tree). IsSumAnswer (children_of (exponent_in x)) s.exponent) j.joint-is s.sum) (subst (λ (x : Tree). IsReducedPower (base_in x) s.exponent s.factor) j.joint-is s.answer));
       hands_on =
           settled_hands_on at ts us (base_of (nth at ts)) (exponent_of (nth at ts)) (exponent_of (nth (suc at) ts)) s.exponent s.factor j.pair j.whole p.within j.joint-is

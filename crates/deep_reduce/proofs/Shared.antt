@@ -34,9 +34,8 @@ pub use Rattle.calc_terms.specs.declared.kind.Kind.{Kind}
 pub use Rattle.coefficients.proofs.Coefficients.{product_form_of}
 pub use Rattle.coefficients.proofs.Factors.{no_split, two_count}
 pub use Rattle.coefficients.proofs.Forms.{number_of_term, one_is_one, parts_reduced, reduced_parts}
-pub use Rattle.coefficients.proofs.Free.{number_refused, taken_free}
+pub use Rattle.coefficients.proofs.Free.{number_refused}
 pub use Rattle.coefficients.proofs.Lacks.{sum_whole as sum_words}
-pub use Rattle.coefficients.proofs.Rewritten.{apart_back, front_lost, given_back, over_back, put_back}
 pub use Rattle.coefficients.proofs.Rooms.{sizes_append}
 pub use Rattle.coefficients.proofs.Splits.{Leads, in_front}
 pub use Rattle.coefficients.specs.Coefficients.{factors_of}
@@ -47,7 +46,7 @@ pub use Rattle.deep_reduce.specs.Reductions.{IsReducedFrom, IsWithinTree, MayLac
 pub use Rattle.deep_reduce.specs.Unfinished.{AreTransparent, Finishes, IsLess, IsNested, IsSettled, IsTransparent, IsUnfinished, Joins, joins_gathered, joins_none, joins_pair, joins_then, nest_of_joint, nest_of_rewritten, nest_over, weight_below, weight_of_bases}
 pub use Rattle.node_bounds.specs.Answers.{IsReducedPower, IsReducedProduct, has_no_half_power, is_number_power, lacks_power}
 pub use Rattle.node_bounds.specs.Bits.{AddsCounts, HasFewBits, IsHeldAsProduct, IsHeldAsRootPower}
-pub use Rattle.node_bounds.specs.HandedOn.{AreReducedPowers, HandsOn, IsLifted, IsMultiplied, IsProductOfPowers, IsSummed, replaced}
+pub use Rattle.node_bounds.specs.HandedOn.{AreReducedPowers, HandsOn, IsLifted, IsMultiplied, IsProductOfPowers, IsSummed}
 pub use Rattle.node_bounds.specs.NodeBits.{HoldsDifference, HoldsNode, HoldsPower, HoldsQuotient, holds_half, holds_kept, holds_whole}
 pub use Rattle.node_bounds.specs.NodeRooms.{HasNodesFor, KeepsNodeRoom, SpansNode, factors_room, node_count}
 pub use Rattle.node_bounds.specs.Rooms.{IsCalmAtZero, IsJoinedFrom, IsRewritten, KeepsRoom, KeepsRootRoom, KeepsSumRoom, SpansRootOf, power_count, whole_power_room}
@@ -106,6 +105,7 @@ pub use Rattle.tree_bits.specs.HeldTrees.{IsTreeHeld}
 pub use Rattle.tree_bits.specs.Powers.{IsWithin, raised_high, raised_low}
 pub use Rattle.tree_handles.proofs.Beside.{gives_itself, gives_without}
 pub use Rattle.tree_handles.proofs.Cuts.{inserted_behind, represents_count}
+pub use Rattle.tree_handles.proofs.Filling.{changes_after, changes_as, changes_free, changes_front, changes_last, changes_last_front, changes_none, children_told, front_again, handed_arity, hole_stays}
 pub use Rattle.tree_handles.proofs.Forests.{bytes_in-join, keeps_after, keeps_none}
 pub use Rattle.tree_handles.proofs.FreeBytes.{both_replaced_free, refused_below, replaced_free}
 pub use Rattle.tree_handles.proofs.Fronts.{behind_first, behind_later, behind_new, front_after, front_after_one, front_after_two, front_at, front_end, front_put, front_same, front_without}
@@ -123,6 +123,7 @@ pub use Rattle.tree_handles.specs.Expressions.{IsExpression, children_of, compou
 pub use Rattle.tree_handles.specs.Faults.{IfOverflow, OfOverflow}
 pub use Rattle.tree_handles.specs.Forest.{Forest, arity, bytes_in, empty, kids, tree_nth, with_nth, without_nth}
 pub use Rattle.tree_handles.specs.Handed.{Ends, Gives, IsHanded, IsOwned, KeepsFront, Represents, tree_of}
+pub use Rattle.tree_handles.specs.Holes.{ChangesTree, set_child, set_tree}
 pub use Rattle.tree_handles.specs.Inside.{kids_of, tree_at}
 pub use Rattle.tree_handles.specs.Lacking.{LacksBelow, OfFull}
 pub use Rattle.tree_handles.specs.Roots.{put, root_tree, without_root}

@@ -13,12 +13,10 @@ use Rattle.node_bounds.proofs.PowerRooms.{undef_root_room}
 use Rattle.deep_reduce.proofs.PlainNodes.{undef_has_no_value}
 use Rattle.calc_measures.proofs.Inverses.{opposite_value}
 use Rattle.calc_algebra.proofs.MeaningRewrites as rewrites
+pub use Rattle.power_reduce.proofs.Answered.{no_names}
 
 abbrev pub two : Tree → Tree → Trees
 two a b = more a (more b none)
-
-pub no_names : (t u : Tree) → names u ≡ [] → HasNoNewName t u
-no_names t u e = record { name = λ x c. absurd (let f : length (names u) ≡ 0 = ap length e in let k : c.0 < length (names u) = c.1 in omega arith) }
 
 -- ---- Undef
 

@@ -4,7 +4,7 @@ use Rattle.calc_measures.specs.Loads.{nest, nest_of, load, load_of_factors, weig
 use Rattle.calc_algebra.specs.Reduced.{is_reduced, is_opaque_exponent, are_reduced, base_of}
 use Rattle.calc_terms.specs.Fractions.{whole_fraction}
 use Rattle.calc_terms.specs.Trees.{Tree, num, add, mult, power, Trees, none, more, count}
-use Rattle.node_bounds.specs.HandedOn.{HandsOn, replaced}
+use Rattle.node_bounds.specs.HandedOn.{HandsOn}
 use Rattle.node_bounds.specs.Answers.{IsReducedPower}
 use Rattle.node_bounds.specs.Bits.{AddsCounts}
 use Rattle.power_reduce.specs.Bits.{IsHeldAsPowerOf}
@@ -17,6 +17,7 @@ use Rattle.product_reduce.specs.Neighbours.{IsPairAt, joined_pair}
 use Rattle.calc_algebra.specs.Rewritings.{Rewrites, Reduces}
 use Rattle.sum_reduce.specs.SumAnswers.{IsSumAnswer}
 use Rattle.tree_handles.specs.Expressions.{nth, children_of}
+use Rattle.tree_handles.specs.Holes.{set_tree}
 
 -- ---- bounds
 
@@ -88,7 +89,7 @@ pub record IsSettled (at : ℕ) (ts : Trees) (t : Tree) : Type 0 where
   pub counts : AddsCounts (children_of (exponent_in (nth at ts))) exponent
   pub factor : Tree
   pub answer : IsReducedPower (base_in (nth at ts)) exponent factor
-  pub is : t ≡ mult (replaced at factor ts)
+  pub is : t ≡ mult (set_tree at factor ts)
 
 -- factors of a product, and what they become: their Numbers one coefficient, with the others behind it in the order of
 -- their bases; and two neighbours of one base that base to the sum of their exponents, reduced where the first one stood
@@ -96,7 +97,7 @@ pub data Joins : Trees → Trees → Type 0 where
   joins_none : {ts : Trees} → Joins ts ts
   joins_gathered : {ts : Trees} (u : Tree) → IsGathered ts u → Joins ts (children_of u)
   joins_pair : {ts : Trees} (at : ℕ) (e r : Tree) → IsPairAt at ts → IsSumAnswer (more (exponent_of (nth at ts)) (more (exponent_of (nth (suc at) ts)) none)) e → IsReducedPower (base_of (nth at ts)) e r
-      → Joins ts (replaced at r (joined_pair at (suc at) ts))
+      → Joins ts (set_tree at r (joined_pair at (suc at) ts))
   joins_then : {ts us vs : Trees} → Joins ts us → Joins us vs → Joins ts vs
 
 -- the finished product of these factors, joined until no two have one base

@@ -20,7 +20,7 @@ ghost use Rattle.tree_handles.specs.Standing.{Stands, forest, KeepsRefusals};
 
 use node_pool::Pool;
 use sum_reduce::reduce_sum;
-use tree_handles::{Handle, NumberFault, add_child, move_last, take_child};
+use tree_handles::{Handle, NumberFault, fill, move_last, open_child};
 
 /// The exponent of a power, a sum of reduced trees, is reduced.
 pub(crate) fn sum_exponent(pool: &mut Pool, power: Handle) -> Result<Handle, NumberFault>
@@ -41,9 +41,9 @@ pub(crate) fn sum_exponent(pool: &mut Pool, power: Handle) -> Result<Handle, Num
     ensures bits { (h l : ℕ) → IsSumHeld (addends_of_each (children_of (exponent_in (tree_of power pool.old)))) h l → HasFewBits h l → IfErr result (OfOverflow (λ o. ⊥)) }
     ensures stands { Stands pool.new }
 {
-    let exponent = take_child(pool, &power, 1);
+    let (hole, exponent) = open_child(pool, &power, 1);
     let sum = reduce_sum(pool, exponent)?;
-    add_child(pool, &power, 1, sum);
+    fill(pool, hole, sum);
     move_last(pool, &power);
     Ok(power)
 }

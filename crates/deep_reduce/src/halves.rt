@@ -31,7 +31,7 @@ use number_forms::half;
 use power_reduce::power_step;
 use radical_forms::reduce_root;
 use reduce_port::Step;
-use tree_handles::{Handle, NumberFault, add_child, child_id, move_last, take_child};
+use tree_handles::{Handle, NumberFault, child_id, fill, move_last, open_child};
 
 /// Whether the exponent of a power is half of an odd whole number.
 #[tactic(auto, using(tree_handles::proofs::Seen::expression, crate::proofs::Children::exponent_at))]
@@ -96,9 +96,9 @@ fn reduce_base(pool: &mut Pool, power: Handle) -> Result<Handle, NumberFault>
     ensures bits { (h l : ℕ) → IsFactorHeld (argument_of (base_in (tree_of power pool.old))) h l → HasFewBits h l → IfErr result (OfOverflow (λ o. ⊥)) }
     ensures stands { Stands pool.new }
 {
-    let root = take_child(pool, &power, 0);
+    let (hole, root) = open_child(pool, &power, 0);
     let reduced = reduce_root(pool, root)?;
-    add_child(pool, &power, 0, reduced);
+    fill(pool, hole, reduced);
     move_last(pool, &power);
     Ok(power)
 }

@@ -38,7 +38,7 @@ use power_reduce::power_step;
 use product_reduce::{Joining, gather_factors, join_neighbours, next_pair};
 use reduce_port::Step;
 use tree_handles::{
-    Handle, NumberFault, add_child, child_id, children, kind, move_last, take_child,
+    Handle, NumberFault, child_id, children, fill, kind, move_last, open_child,
 };
 
 /// The product of reduced factors, as a reduced tree. Its Numbers become one coefficient, and the others are put in the
@@ -145,7 +145,6 @@ fn join_two(pool: &mut Pool, product: Handle, at: u16) -> Result<Handle, NumberF
 
 /// The joint of two factors, reduced in its place: first the sum of the exponents, then the power.
 #[cycle(reduction)]
-#[tactic(auto, using(tree_handles::proofs::Over::over_product, tree_handles::proofs::Over::children_in))]
 fn reduce_joint(pool: &mut Pool, product: Handle, at: u16) -> Result<Handle, NumberFault>
     requires stands { Stands pool.old }
     requires handed { IsHanded product (forest pool.old) }
@@ -162,10 +161,10 @@ fn reduce_joint(pool: &mut Pool, product: Handle, at: u16) -> Result<Handle, Num
     ensures bits { (h l : ℕ) (ts : Trees) → IsJoinedFrom at ts (children_of (tree_of product pool.old)) → AreFactorsHeld ts h l → HasFewBits h l → IfErr result (OfOverflow (λ o. ⊥)) }
     ensures stands { Stands pool.new }
 {
-    let joint = take_child(pool, &product, at);
+    let (hole, joint) = open_child(pool, &product, at);
     let power = sum_exponent(pool, joint)?;
     let factor = reduce_power(pool, power)?;
-    add_child(pool, &product, at, factor);
+    fill(pool, hole, factor);
     move_last(pool, &product);
     Ok(product)
 }
@@ -270,9 +269,9 @@ fn reduce_powers(pool: &mut Pool, product: Handle) -> Result<Handle, NumberFault
 {
     let powers = children(pool, product.id());
     for at in 0..powers {
-        let power = take_child(pool, &product, at);
+        let (hole, power) = open_child(pool, &product, at);
         let reduced = reduce_power(pool, power)?;
-        add_child(pool, &product, at, reduced);
+        fill(pool, hole, reduced);
     }
     move_last(pool, &product);
     Ok(product)
@@ -300,9 +299,9 @@ fn reduce_exponent(pool: &mut Pool, power: Handle) -> Result<Handle, NumberFault
     let exponent = child_id(pool, power.id(), 1);
     match kind(pool, exponent) {
         Kind::Mult => {
-            let exponent = take_child(pool, &power, 1);
+            let (hole, exponent) = open_child(pool, &power, 1);
             let product = reduce_product(pool, exponent)?;
-            add_child(pool, &power, 1, product);
+            fill(pool, hole, product);
             move_last(pool, &power);
             Ok(power)
         }

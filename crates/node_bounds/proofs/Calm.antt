@@ -1,9 +1,10 @@
 -- Calm trees, part by part, and what all parts of a tree have.
 use Rattle.std.proofs.Common.{◌≡◌, ℕ, zero, suc, ◌<◌, List, Bool, true, false, if◌then◌else◌, ap, ◌∙◌, arith}
-use Rattle.node_bounds.proofs.Shared.{Assignment, IsAssignment, is_number, IsNumber, value, is_opaque_exponent, is_whole_num, is_half_num, num_one, base_of, KeepsMeanings, surd_of, one_meaning, number_rational, number_words, whole_fraction, one_fraction, Tree, mult, power, Trees, none, more, count, AllParts, AllPartsOf, IsCalmAtZero, replaced, removed, whole_is, exponent_of, joint, IsPairAt, joined_pair, nth, IsCalm, AreCalm, MeansWhole, zeros, sum_whole, whole_number}
+use Rattle.node_bounds.proofs.Shared.{Assignment, IsAssignment, is_number, IsNumber, value, is_opaque_exponent, is_whole_num, is_half_num, num_one, base_of, KeepsMeanings, surd_of, one_meaning, number_rational, number_words, whole_fraction, one_fraction, Tree, mult, power, Trees, none, more, count, AllParts, AllPartsOf, IsCalmAtZero, set_tree, removed, whole_is, exponent_of, joint, IsPairAt, joined_pair, nth, IsCalm, AreCalm, MeansWhole, zeros, sum_whole, whole_number}
 use Rattle.calc_algebra.proofs.NumberValues.{number_means}
 use Rattle.calc_algebra.proofs.SurdLaws.{Agree-Same}
 use Rattle.tree_room.proofs.Calm.{no_half}
+pub use Rattle.power_reduce.proofs.Counted.{one_is_whole as one_whole}
 
 -- ---- parts of lists
 
@@ -18,7 +19,7 @@ module _ (P : Tree → Type 0) where
   all_removed zero (more t ts) h = h.1
   all_removed (suc n) (more t ts) h = (h.0, all_removed n ts h.1)
 
-  pub all_replaced : (n : ℕ) (u : Tree) (ts : Trees) → AllParts P u → AllPartsOf P ts → AllPartsOf P (replaced n u ts)
+  pub all_replaced : (n : ℕ) (u : Tree) (ts : Trees) → AllParts P u → AllPartsOf P ts → AllPartsOf P (set_tree n u ts)
   all_replaced n u none k h = tt
   all_replaced zero u (more t ts) k h = (k, h.1)
   all_replaced (suc n) u (more t ts) k h = (h.0, all_replaced n u ts k h.1)
@@ -61,10 +62,6 @@ pub calm_no_half : {ns : List (List ℕ)} {b e : Tree} → IsCalmAtZero ns (powe
 calm_no_half {ns} {b} {e} c = no_half (zeros ns) e (calm_whole c)
 
 -- ---- exponents
-
-pub one_whole : is_whole_num num_one ≡ true
-unfolding one_fraction
-one_whole = whole_is _
 
 pub whole_kept : (f : Assignment) (d e : Tree) → IsAssignment f → KeepsMeanings d e → MeansWhole f d → MeansWhole f e
 whole_kept f d e o k (n, h) = (n, k.means f o (surd_of (whole_fraction n)) h)

@@ -1,16 +1,12 @@
 -- What tests and forms tell.
 use Rattle.std.proofs.Common.{arith, ◌≡◌, refl, Bool, true, false, ◌&&◌, ◌||◌, ap, length, ◌≤◌}
 use Rattle.node_bounds.proofs.Shared.{Fraction, zero_fraction, zero_is, is_number, number_test, Tree, num, undef, is_undef, is_zero, power, Trees, HasTwo, terms_of, has_no_power, is_reduced, parts_reduced, reduced_parts}
-
--- no test both holds and fails
-pub clash : {A : Type 0} → true ≡ false → A
-clash e = absurd cc
-
-pub unclear : {A : Type 0} → false ≡ true → A
-unclear e = absurd cc
-
-pub contrary : {A : Type 0} {b : Bool} → b ≡ true → b ≡ false → A
-contrary e f = absurd cc
+pub use Rattle.calc_algebra.proofs.ReducedLaws.{undef_words}
+pub use Rattle.tree_bits.proofs.ExponentBits.{clash, unclear}
+pub use Rattle.tree_bits.proofs.Rows.{rational_is_number as rational_number}
+pub use Rattle.tree_room.proofs.PowerCounts.{power_no_number}
+pub use Rattle.power_reduce.proofs.Written.{clash as contrary}
+pub use Rattle.product_reduce.proofs.Finished.{zero_words}
 
 -- where one of two holds, and the first does not
 pub or_other : (a b : Bool) → a || b ≡ true → a ≡ false → b ≡ true
@@ -20,24 +16,11 @@ or_other a b h k = grind arith
 pub and_other : (a b : Bool) → a && b ≡ false → a ≡ true → b ≡ false
 and_other a b h k = grind arith
 
-pub rational_number : (q : Fraction) → is_number (num q) ≡ true
-rational_number q = number_test (num q) tt
-
-pub zero_words : (t : Tree) → is_zero t ≡ true → t ≡ num zero_fraction
-zero_words t h = grind (arith, zero_is)
-
-pub undef_words : (t : Tree) → is_undef t ≡ true → t ≡ undef
-undef_words t h = grind arith
-
 pub undef_test : (t : Tree) → t ≡ undef → is_undef t ≡ true
 undef_test t e = ap is_undef e
 
 pub undef_has_none : (b e : Tree) → is_undef b ≡ true → has_no_power b e ≡ true
 undef_has_none b e h = grind arith
-
-pub power_no_number : (b e : Tree) → is_number (power b e) ≡ false
-unfolding is_number
-power_no_number b e = refl
 
 pub two_terms : (ts : Trees) → HasTwo ts → 2 ≤ length (terms_of ts)
 two_terms ts h = grind arith

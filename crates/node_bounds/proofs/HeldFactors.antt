@@ -7,9 +7,10 @@ use Rattle.tree_bits.proofs.ExponentBits.{some_counts}
 use Rattle.tree_bits.specs.Factors.{as_factor}
 use Rattle.tree_bits.specs.HeldTrees.{exponent_in, root_held}
 use Rattle.tree_bits.proofs.Weighted.{split_off}
-
-pub factor_wider : (t : Tree) {h l k n : ℕ} → h ≤ k → l ≤ n → IsFactorHeld t h l → IsFactorHeld t k n
-factor_wider t x y a = record { terms = a.terms; weighted = a.weighted; held = wider_held x y a.held }
+use Rattle.tree_bits.proofs.Numbers.{base_positive}
+use Rattle.product_reduce.proofs.HeldFactors.{no_terms, rational_some, number_some}
+use Rattle.product_reduce.proofs.HeldMultiples.{others_formed}
+pub use Rattle.product_reduce.proofs.HeldProducts.{factor_wider}
 
 -- ---- Undef, bases and powers
 
@@ -29,16 +30,13 @@ power_factor b e a = part_single (power b e) (power_no_number b e) refl a
 pub factor_power : (b e : Tree) {h l : ℕ} → IsFactorHeld (power b e) h l → IsPartHeld (more (power b e) none) h l
 factor_power b e a = single_part (power b e) (power_no_number b e) refl a
 
-base_high : {b : Tree} {h l : ℕ} → IsBaseHeld b h l → 1 ≤ h
-base_high h = grind arith
-
 base_tree : {b : Tree} {h l : ℕ} → IsBaseHeld b h l → IsTreeHeld b h l
 base_tree (symbol_held {x} o) = tree_wider o (omega arith) (symbol_is_held x)
 base_tree (root_held {a} {h} {l} o n t) = root_is_held a h l n o t
 base_tree (tree_held o s t) = t
 
 pub base_factor : (b : Tree) {h l : ℕ} → IsBaseHeld b h l → IsFactorHeld b h l
-base_factor b h = grind (arith, cases_Bool, undef_words, undef_factor, base_high, factor_is_held, base_tree)
+base_factor b h = grind (arith, cases_Bool, undef_words, undef_factor, base_positive, factor_is_held, base_tree)
 
 -- ---- how high at least
 
@@ -78,15 +76,6 @@ led_high c t ts {h} {l} z f a = by a.weighted a.held
 
 -- ---- products
 
-no_terms : (t : Term) (v : Surd) → (t ∷ v) ≢ []
-no_terms t v e = cc
-
-rational_some : (q : Fraction) → q ≢ zero_fraction → value (num q) ≢ []
-rational_some q n e = no_terms (term q 1) [] (sym (ap (λ (b : Bool). if b then [] else surd_of q) (zero_test q n)) ∙ e)
-
-number_some : (c : Tree) → IsNumber c → c ≢ num zero_fraction → value c ≢ []
-number_some c h k = grind (arith, rational_some, no_terms)
-
 -- the coefficient of a product is not 0
 pub coefficient_some : (ts : Trees) → is_reduced (mult ts) ≡ true → is_number (mult ts) ≡ false → value (split_product ts).coefficient ≢ []
 coefficient_some ts r n = by (in_front ts f.no_product f.front)
@@ -116,10 +105,6 @@ term_high (mult ts) {h} {l} f n a = by (split_product ts).factors p.formed (some
     by none k o b = absurd (omega arith)
     by (more u us) k o b = led_high (value (split_product ts).coefficient) u us (coefficient_some ts r n) k.0 b
 term_high t f n a = led_high surd_one t none (no_terms (term one_fraction 1) []) f a
-
-others_formed : (ts : Trees) → AllPartsOf HasForm ts → AllPartsOf HasForm (other_terms ts)
-others_formed none h = tt
-others_formed (more t ts) h = grind (arith, others_formed ts h.1)
 
 -- an addend alone
 first_alone : (x : Addend) (xs : List Addend) {h l : ℕ} → IsSumHeld (x ∷ xs) h l → IsSumHeld (x ∷ []) h l

@@ -1,6 +1,6 @@
 -- What holds factors holds them with two of one base joined, and the exponents of these are added within few bits.
 use Rattle.std.proofs.Common.{◌≡◌, ℕ, zero, suc, ◌+◌, ◌≤◌, ◌<◌, [], ◌∷◌, Bool, true, false, ◌&&◌, not, refl, sym, ap, ◌∙◌, subst, arith, inl, inr}
-use Rattle.node_bounds.proofs.Shared.{and_from, is_number, is_reduced, are_reduced, is_whole_num, is_opaque_exponent, base_of, number_words, HighLow, Tree, power, Trees, none, more, count, is_undef, reduced_parts, IsReducedPower, HasFewBits, AddsCounts, IsCountedWithin, replaced, removed, whole_is, IsFactorHeld, AreFactorsHeld, exponent_of, is_partner, IsPairAt, joined_pair, partners_of_pair, IsSumHeld, addends_of_each, counts_of, counts_of_all, is_counted, IsPartHeld, trees_together, factors_joined, factor_left_out, exponents_within, one_counts, nth, inserted, reduced_nth, one_base, cases_Bool}
+use Rattle.node_bounds.proofs.Shared.{and_from, is_number, is_reduced, are_reduced, is_whole_num, is_opaque_exponent, base_of, number_words, HighLow, Tree, power, Trees, none, more, count, is_undef, reduced_parts, IsReducedPower, HasFewBits, AddsCounts, IsCountedWithin, set_tree, removed, whole_is, IsFactorHeld, AreFactorsHeld, exponent_of, is_partner, IsPairAt, joined_pair, partners_of_pair, IsSumHeld, addends_of_each, counts_of, counts_of_all, is_counted, IsPartHeld, trees_together, factors_joined, factor_left_out, exponents_within, one_counts, nth, inserted, reduced_nth, one_base, cases_Bool}
 use Rattle.node_bounds.proofs.Clashes.{undef_words}
 use Rattle.tree_bits.proofs.ExponentBits.{counted_defined, exponent_is_held}
 use Rattle.node_bounds.proofs.HeldFactors.{undef_factor, first_counted, part_high}
@@ -95,7 +95,7 @@ exponents_held t u {h} {l} x y m a =
 
 -- ---- in their place
 
-replaced_inserted : (n : ℕ) (x r : Tree) (ts : Trees) → n ≤ count ts → replaced n r (inserted n (more x none) ts) ≡ inserted n (more r none) ts
+replaced_inserted : (n : ℕ) (x r : Tree) (ts : Trees) → n ≤ count ts → set_tree n r (inserted n (more x none) ts) ≡ inserted n (more r none) ts
 replaced_inserted zero x r ts l = refl
 replaced_inserted (suc n) x r none l = absurd (omega arith)
 replaced_inserted (suc n) x r (more t ts) l = ap (more t) (replaced_inserted n x r ts (omega arith))
@@ -112,11 +112,11 @@ module _ (at : ℕ) (ts us : Trees) (pair : IsPairAt at ts) (reduced : are_reduc
   pub first_reduced : is_reduced (nth at ts) ≡ true
   first_reduced = let w = pair.within in reduced_nth at ts (omega arith) reduced
 
-  in_place : (r : Tree) → inserted at (more r none) (removed at (removed (suc at) ts)) ≡ replaced at r us
+  in_place : (r : Tree) → inserted at (more r none) (removed at (removed (suc at) ts)) ≡ set_tree at r us
   in_place r = grind (arith, removed_count, replaced_inserted)
 
   pub settled_held : (g r : Tree) → is_reduced (base_of (nth at ts)) ≡ true → is_reduced g ≡ true → AddsCounts (more (exponent_of (nth at ts)) (more (exponent_of (nth (suc at) ts)) none)) g → IsReducedPower (base_of (nth at ts)) g r
-      → (h l : ℕ) → AreFactorsHeld ts h l → AreFactorsHeld (replaced at r us) h l
+      → (h l : ℕ) → AreFactorsHeld ts h l → AreFactorsHeld (set_tree at r us) h l
   settled_held g r x y k a h l b =
       let (p, q, i, j, c, f) = neighbours_held at ts h l pair reduced b in
       subst (λ (vs : Trees). AreFactorsHeld vs h l) (in_place r) (f r (joint_answer (nth at ts) (nth (suc at) ts) g r first_reduced x y partners k a c))

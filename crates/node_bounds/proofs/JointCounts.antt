@@ -1,6 +1,6 @@
 -- What counts in a product while two of its factors are joined and their joint is reduced, and how many bytes stand beside it.
 use Rattle.std.proofs.Common.{◌≡◌, ℕ, zero, suc, ◌+◌, ◌*◌, ◌≤◌, ◌<◌, Bool, true, if◌then◌else◌, refl, ap, arith}
-use Rattle.node_bounds.proofs.Shared.{and_parts, is_number, base_of, counted, counted_among, counted_number, counted_other, Tree, add, power, Trees, none, more, count, size, sizes, replaced, removed, exponent_of, is_partner, joint, IsPairAt, joined_pair, nth, exponent_count, numbers_among, product_count, counts_one, power_counts, not-true, one_base}
+use Rattle.node_bounds.proofs.Shared.{and_parts, is_number, base_of, counted, counted_among, counted_number, counted_other, Tree, add, power, Trees, none, more, count, size, sizes, set_tree, removed, exponent_of, is_partner, joint, IsPairAt, joined_pair, nth, exponent_count, numbers_among, product_count, counts_one, power_counts, not-true, one_base}
 use Rattle.node_bounds.proofs.Calm.{one_whole}
 use Rattle.tree_room.proofs.Counts.{no_number as numbers_other}
 
@@ -40,13 +40,13 @@ pair_joined_count n ts p = let c = pair_counts n ts p in omega (arith, c.numbers
 -- ---- another tree in its place
 
 pub record CountsReplaced (n : ℕ) (r : Tree) (us : Trees) : Type 0 where
-  pub product : product_count (replaced n r us) ≤ counted r + product_count (removed n us)
-  pub others : counted_among (replaced n r us) ≤ counted r + counted_among (removed n us)
+  pub product : product_count (set_tree n r us) ≤ counted r + product_count (removed n us)
+  pub others : counted_among (set_tree n r us) ≤ counted r + counted_among (removed n us)
 
 replaced_counts : (n : ℕ) (r : Tree) (us : Trees) → n < count us
-    → (numbers_among (replaced n r us) + counted_among (replaced n r us) ≤ counted r + (numbers_among (removed n us) + counted_among (removed n us)))
-    × (counted_among (replaced n r us) ≤ counted r + counted_among (removed n us))
-    × (numbers_among (removed n us) ≤ numbers_among (replaced n r us))
+    → (numbers_among (set_tree n r us) + counted_among (set_tree n r us) ≤ counted r + (numbers_among (removed n us) + counted_among (removed n us)))
+    × (counted_among (set_tree n r us) ≤ counted r + counted_among (removed n us))
+    × (numbers_among (removed n us) ≤ numbers_among (set_tree n r us))
 replaced_counts n r none l = absurd (omega arith)
 replaced_counts zero r (more t ts) l = grind (arith, numbers_one, counted_number, counts_one, numbers_other, counted_other)
 replaced_counts (suc n) r (more t ts) l = let (a, b, c) = replaced_counts n r ts (omega arith) in (omega (arith, a), omega (arith, b), omega (arith, c))

@@ -1,9 +1,10 @@
 -- Two factors joined, and their joint reduced: what counts, what is calm and spanned, and how many bytes suffice.
 use Rattle.std.proofs.Common.{◌≡◌, ℕ, suc, ◌+◌, ◌*◌, ◌≤◌, ◌<◌, List, Bool, true, false, if◌then◌else◌, refl, sym, ap, subst, arith}
-use Rattle.node_bounds.proofs.Shared.{is_number, is_whole_num, number_test, counted, counted_among, HasPowersOf, SpansRoot, SpansTree, SpansTrees, Tree, add, mult, power, Trees, none, more, count, IsCalmAtZero, KeepsRoom, KeepsSumRoom, whole_power_count, power_count, replaced, HandsOn, removed, AreFactorsHeld, joint, IsPairAt, joined_pair, IsSumAnswer, nth, children_of, HasCalmExponent, IsCalm, zeros, exponent_count, numbers_among, product_count, parts_calm, counts_one}
+use Rattle.node_bounds.proofs.Shared.{is_number, is_whole_num, number_test, counted, counted_among, HasPowersOf, SpansRoot, SpansTree, SpansTrees, Tree, add, mult, power, Trees, none, more, count, IsCalmAtZero, KeepsRoom, KeepsSumRoom, whole_power_count, power_count, set_tree, HandsOn, removed, AreFactorsHeld, joint, IsPairAt, joined_pair, IsSumAnswer, nth, children_of, HasCalmExponent, IsCalm, zeros, exponent_count, numbers_among, product_count, parts_calm, counts_one}
 use Rattle.node_bounds.proofs.Calm.{all_nth, all_replaced, all_base, all_exponent, all_joined, calm_children, calm_product, joint_calm, whole_kept, whole_of_number}
 use Rattle.node_bounds.proofs.JointCounts.{joint_count, pair_counts, pair_joined_count, replaced_count_is}
 use Rattle.tree_room.proofs.PowerCounts.{joined}
+pub use Rattle.product_reduce.proofs.JoinedCounts.{whole_number as whole_numbers}
 
 -- ---- from tree to tree
 
@@ -66,9 +67,6 @@ summed_calm {ns} b e f g c a k =
 pub summed_spans : (gs : List ℕ) (b e f g : Tree) → SpansTree gs (power b (add (more e (more f none)))) → KeepsSumRoom (more e (more f none)) g → SpansTree gs (power b g)
 summed_spans gs b e f g (q, h, s) k = (tt, h, k.spanned gs s.1)
 
-pub whole_numbers : (e : Tree) → is_whole_num e ≡ true → is_number e ≡ true
-whole_numbers e h = grind (arith, number_test)
-
 -- whole exponents have a whole sum
 pub summed_whole : {ns : List (List ℕ)} (b e f g : Tree) → IsCalmAtZero ns (power b g) → IsSumAnswer (more e (more f none)) g → is_whole_num e ≡ true → is_whole_num f ≡ true → is_whole_num g ≡ true
 summed_whole {ns} b e f g c a h k = whole_of_number (zeros ns) g c.once (a.number (rw (whole_numbers e h, whole_numbers f k) refl)) c.calm.0
@@ -88,7 +86,7 @@ summed_counts b e f g c a k = by (is_whole_num g)
 
 pub settled_hands_on : (at : ℕ) (ts us : Trees) (b e f g r : Tree) → IsPairAt at ts → us ≡ joined_pair at (suc at) ts → at < count us → nth at us ≡ power b (add (more e (more f none)))
     → IsSumAnswer (more e (more f none)) g → KeepsSumRoom (more e (more f none)) g → KeepsRoom (power_count b g) (power b g) r
-    → ((h l : ℕ) → AreFactorsHeld ts h l → AreFactorsHeld (replaced at r us) h l) → HandsOn ts (replaced at r us)
+    → ((h l : ℕ) → AreFactorsHeld ts h l → AreFactorsHeld (set_tree at r us) h l) → HandsOn ts (set_tree at r us)
 settled_hands_on at ts us b e f g r p w l is a k keeps holds = record {
   counts = λ ns c. omega (arith, (replaced_count_is at r us l).product, ap (λ (xs : Trees). joint_count (nth at xs) + product_count (removed at xs)) w, pair_joined_count at ts p, fewer ns c);
   room = record {

@@ -8,6 +8,7 @@ use Rattle.node_bounds.proofs.JointCounts.{numbers_one}
 use Rattle.node_bounds.proofs.Rewritten.{AreSingle, parts_calm, parts_single, powers_raised, root_counts}
 use Rattle.tree_room.proofs.Coefficients.{split_counts}
 use Rattle.tree_room.proofs.Counts.{numbers_appended as numbers_append, no_number as numbers_other}
+use Rattle.product_reduce.proofs.GatheredCounts.{no_numbers}
 
 -- ---- what a whole power of each base needs
 
@@ -51,10 +52,6 @@ exponents_lack gs c f e bytes r w s l =
 all_counted : (ts : Trees) → counted_in_all ts ≡ numbers_among ts + counted_among ts
 all_counted none = refl
 all_counted (more t ts) = grind (arith, all_counted ts, counted_number, counted_other, number_counts_one, numbers_one, numbers_other)
-
-no_numbers : (ts : Trees) → NoneIs is_number ts → numbers_among ts ≡ 0
-no_numbers none h = refl
-no_numbers (more t ts) h = numbers_other t ts h.0 ∙ no_numbers ts h.1
 
 -- one of the parts at most is a Number, and the others count what the product does
 record CountsParts (fs : Trees) : Type 0 where

@@ -35,7 +35,7 @@ pub use Rattle.coefficients.proofs.Splits.{Leads, in_front}
 pub use Rattle.coefficients.specs.Coefficients.{IsMonic, with_coefficient}
 pub use Rattle.node_bounds.specs.Answers.{IsReducedPower, IsReducedProduct, lacks_power}
 pub use Rattle.node_bounds.specs.Bits.{AddsCounts, HasFewBits, IsCountedWithin, IsHeldAsRootPower, MultipliesCounts}
-pub use Rattle.node_bounds.specs.HandedOn.{AreReducedPowers, HandsOn, IsLifted, IsMultiplied, IsProductOfPowers, IsSummed, replaced}
+pub use Rattle.node_bounds.specs.HandedOn.{AreReducedPowers, HandsOn, IsLifted, IsMultiplied, IsProductOfPowers, IsSummed}
 pub use Rattle.node_bounds.specs.NodeBits.{HoldsDifference, HoldsNode, HoldsPower}
 pub use Rattle.node_bounds.specs.NodeRooms.{HasNodesFor, KeepsNodeRoom, SpansNode, factors_room, node_count}
 pub use Rattle.node_bounds.specs.Rooms.{IsCalmAtZero, IsJoinedFrom, IsRewritten, KeepsRoom, KeepsRootRoom, KeepsSumRoom, SpansRootOf, power_count, whole_power_count, whole_power_room}
@@ -87,6 +87,7 @@ pub use Rattle.tree_bits.specs.Powers.{IsFactorPower, IsWithin, raised_high, rai
 pub use Rattle.tree_bits.specs.Weighted.{AreHeld, Weighted}
 pub use Rattle.tree_handles.specs.Expressions.{children_of, inserted, nth}
 pub use Rattle.tree_handles.specs.Faults.{IfOverflow, OfOverflow}
+pub use Rattle.tree_handles.specs.Holes.{set_tree}
 pub use Rattle.tree_handles.specs.Lacking.{LacksBelow}
 pub use Rattle.tree_handles.specs.declared.fault.NumberFault.{NumberFault}
 pub use Rattle.tree_room.proofs.Calm.{number_calm, parts_calm, product_whole, sum_whole, whole_number}

@@ -1,5 +1,5 @@
 -- What stands in the place of a product or a power once some of its parts are reduced, and what it keeps of the bounds.
-use Rattle.std.specs.Prelude.{ℕ, List, zero, suc, ◌≡◌, ◌≤◌}
+use Rattle.std.specs.Prelude.{ℕ, List, ◌≡◌, ◌≤◌}
 use Rattle.calc_room.specs.Counts.{counted}
 use Rattle.calc_terms.specs.Trees.{Tree, mult, power, Trees, none, more}
 use Rattle.node_bounds.specs.Answers.{IsReducedProduct, IsReducedPower}
@@ -40,12 +40,6 @@ pub record IsProductOfPowers (ts : Trees) (t : Tree) : Type 0 where
   pub factors : Trees
   pub are : AreReducedPowers ts factors
   pub is : t ≡ mult factors
-
--- another tree at a place, counted from 0
-abbrev pub replaced : ℕ → Tree → Trees → Trees
-replaced n u none = none
-replaced zero u (more t ts) = more u ts
-replaced (suc n) u (more t ts) = more t (replaced n u ts)
 
 -- Where the first product is calm, no more is handed on of it, and nothing that is not calm or not spanned; and what is handed on is
 -- held by the same bits.

@@ -33,11 +33,11 @@ pub mod HeldFactors
 pub mod HeldPairs
 mod GatheredParts
 mod SpreadFits
-mod HeldProducts
-mod HeldMultiples
+pub mod HeldProducts
+pub mod HeldMultiples
 mod FreeBytes
-mod GatheredCounts
-mod JoinedCounts
+pub mod GatheredCounts
+pub mod JoinedCounts
 mod Parted
 mod SortedBeside
 pub mod Shared

@@ -1,19 +1,19 @@
 use Rattle.std.proofs.Common.{rules, ◌≡◌, ◌<◌, ◌+◌, ◌^◌, ℕ, length, ap, ◌∙◌, refl, sym, subst, arith, Option, IfSome, Err}
-use Rattle.deep_reduce.proofs.Shared.{Tree, Trees, add, mult, count, is_mult, is_undef, size, over_product, children_at, children_in, moved, moved_front, given_back, over_back, apart_back, put_back, front_lost, kind_of_root, product_kind, no_product_kind, if_map, passed_on, IsReducedProduct, IsReducedPower, IsSummed, joins_none, joins_then, IsHeldAsProduct, IsHeldAsPowerOf, IsFactorHeld, raised_high, raised_low, IsCalmAtZero, IsJoinedFrom, KeepsRoom, whole_power_room, counted, SpansTree, taken_free, free_of, replaced_free, gives_itself, IsPairAt, base_in, exponent_in, are_reduced, is_whole_num, Rewrites, tree_of, children_of, keeps_none, keeps_after, behind_first, behind_new, front_same, front_put, front_end, front_without, front_after_one, gives, gives_as, given_handed, given_root, given_told, given_rest, represents_handed, root_held}
+use Rattle.deep_reduce.proofs.Shared.{Tree, Trees, add, mult, count, is_mult, is_undef, size, moved, kind_of_root, product_kind, no_product_kind, if_map, passed_on, IsReducedProduct, IsReducedPower, IsSummed, joins_none, joins_then, IsHeldAsProduct, IsHeldAsPowerOf, IsFactorHeld, raised_high, raised_low, IsCalmAtZero, IsJoinedFrom, KeepsRoom, whole_power_room, counted, SpansTree, free_of, replaced_free, gives_itself, IsPairAt, base_in, exponent_in, are_reduced, is_whole_num, Rewrites, tree_of, children_of, keeps_none, keeps_after, behind_first, front_same, front_end, front_without, gives, gives_as, given_handed, given_told, represents_handed, changes_as, changes_free, changes_front, changes_last, changes_last_front, children_told, front_again, hole_stays}
 use Rattle.node_bounds.proofs.Clashes.{contrary}
 use Rattle.calc_terms.specs.Trees.{power as power_tree}
 use Rattle.coefficients.proofs.Puttings.{on_ok_after, fault_after}
 use Rattle.deep_reduce.proofs.Arms.{is_finished, is_gathered, is_at, is_few, is_done, is_again, is_held, gathered_hands, finished_hands, finished_holds, any_fault, any_refusal, misfit_fault, rewritten_defined}
-use Rattle.deep_reduce.proofs.Children.{over_power, exponent_taken, placed, factor_taken, factor_inserted, itself, gives_next, front_next, exponent_seen, with_product, without_product, taken_falls}
+use Rattle.deep_reduce.proofs.Children.{exponent_told, exponent_set, two_sides, handed_within, factor_set, gives_next, front_next, exponent_seen, with_product, without_product, taken_falls}
 use Rattle.deep_reduce.proofs.Falls.{joint_falls, two_falls, next_two_falls, pairs_fall, product_falls, power_falls, rewritten_falls, powers_fall, ready_product_falls, exponent_falls, ready_power_falls, one_power_falls}
 use Rattle.deep_reduce.proofs.Finished.{product_of_powers, ready_product, transparent_children, ready_power, power_lifted, power_of_kind}
 use Rattle.node_bounds.proofs.HeldFits.{product_fits, powers_ready, part_ready, power_fits, exponent_ready, joint_exponents, joint_fits}
 use Rattle.node_bounds.proofs.HeldRoots.{half_no_whole}
 use Rattle.node_bounds.proofs.JointBytes.{joint_lacks}
-use Rattle.deep_reduce.proofs.Lacking.{lacks_as, result_lacks, handed_on, joint_sum_lacks, joint_power_short, joint_at_spans, joint_ready, placed_bytes, next_bytes, part_free, step_lacks, power_refused, power_result, ready_product as ready_for_product, ready_power as ready_for_power, ready_exponent, ready_part}
+use Rattle.deep_reduce.proofs.Lacking.{lacks_as, result_lacks, handed_on, joint_sum_lacks, joint_power_short, joint_at_spans, joint_ready, next_bytes, step_lacks, power_refused, power_result, ready_product as ready_for_product, ready_power as ready_for_power, ready_exponent, ready_part}
 use Rattle.deep_reduce.proofs.Measures.{few_factors, below_measure}
 use Rattle.deep_reduce.proofs.Opened.{opened, power_after, power_finished}
-use Rattle.deep_reduce.proofs.Rows.{IsPowerOf, none_reduced, part_front, next_power, next_within, back_within, next_of, next_taken, next_reduced, all_reduced}
+use Rattle.deep_reduce.proofs.Rows.{IsPowerOf, none_reduced, next_power, next_within, next_of, next_told, next_reduced, all_reduced}
 use Rattle.deep_reduce.proofs.Settled.{joint_at, ready_joint, ready_summed, pair_joined, settled_less, settled_within, less_gathered, less_next, gathered_product, some_pair, product_after, product_finished}
 use Rattle.tree_handles.specs.declared.fault.NumberFault.TheVariants as fault
 use Rattle.deep_reduce.proofs.whole.+reduction.Goals as goal
@@ -176,105 +176,101 @@ join_two-returns-in_err-joined-clause-room t c = λ gs ns k s.
 
 -- ---- reduce_joint
 
+pub reduce_joint-open_child-hole-requires : goal.reduce_joint-open_child-hole-requires
+reduce_joint-open_child-hole-requires t c = record { stands = search rules; handed = c.requires.handed; within = c.requires.joint.within }
+
 pub reduce_joint-sum_exponent-requires : goal.reduce_joint-sum_exponent-requires
 reduce_joint-sum_exponent-requires t c =
-    let o = over_product c.requires.handed c.requires.product in
-    let n = placed c.args.at _ c.requires.joint.within in
-    let a = factor_taken c.args.at n o (c.take_child-joint.ensures.last c.requires.handed.root) in
+    let child = c.open_child-hole.ensures.child in
+    let e = given_told child in
     let r = ready_joint _ (joint_at c.requires.joint) in
     record {
       stands = search rules;
-      handed = given_handed a.gives;
-      power = subst (λ (x : Tree). x ≡ power_tree (base_in x) (add (children_of (exponent_in x)))) (sym (given_told a.gives)) r.is;
-      some = omega (arith, ap (λ (x : Tree). count (children_of (exponent_in x))) (given_told a.gives), r.some);
-      reduced = ap (λ (x : Tree). are_reduced (children_of (exponent_in x))) (given_told a.gives) ∙ r.reduced;
+      handed = given_handed child;
+      power = subst (λ (x : Tree). x ≡ power_tree (base_in x) (add (children_of (exponent_in x)))) (sym e) r.is;
+      some = omega (arith, ap (λ (x : Tree). count (children_of (exponent_in x))) e, r.some);
+      reduced = ap (λ (x : Tree). are_reduced (children_of (exponent_in x))) e ∙ r.reduced;
     }
 
 pub reduce_joint-returns-in_err-power : goal.reduce_joint-returns-in_err-power
 reduce_joint-returns-in_err-power t c =
-    let o = over_product c.requires.handed c.requires.product in
-    let n = placed c.args.at _ c.requires.joint.within in
-    let a = factor_taken c.args.at n o (c.take_child-joint.ensures.last c.requires.handed.root) in
     let us : Trees = children_of (tree_of c.args.product c.args.pool.now) in
+    let x : Tree = tree_of c.open_child-hole.result.1 c.open_child-hole.new.pool in
+    let e = given_told c.open_child-hole.ensures.child in
+    let w = product_words (tree_of c.args.product c.args.pool.now) c.requires.product in
     record {
       ok = search rules;
-      front = front_lost _ front_same (c.take_child-joint.ensures.last c.requires.handed.root) c.sum_exponent.ensures.front;
+      front = c.open_child-hole.ensures.front _ _ c.sum_exponent.ensures.front;
       kept = search rules;
       faults = search rules;
       caused = search rules;
-      room = λ gs ns ts k q s. let w = product_words (tree_of c.args.product c.args.pool.now) c.requires.product in let e = given_told a.gives in let same = taken_free c.requires.stands c.take_child-joint.ensures.stands c.take_child-joint.ensures.kept o a (placed_bytes n) in let x : Tree = tree_of c.take_child-joint.result c.take_child-joint.new.pool in passed_on c.from_residual.result c.in_err-power.field-0.0 _ c.from_residual.ensures.0 c.from_residual.ensures.1 (lacks_as c.in_err-power.field-0.0 (c.in_err-power.ensures.room gs (subst (SpansTree gs) (sym e) (joint_at_spans gs c.args.at ts us k s.1))) (λ l. omega (arith, joint_sum_lacks gs c.args.at ts us k s.1 x (free_of c.take_child-joint.new.pool) (free_of c.args.pool.now) e same l, ap size w)));
-      bits = λ h l ts k b few. passed_on c.from_residual.result c.in_err-power.field-0.0 _ c.from_residual.ensures.0 c.from_residual.ensures.1 (c.in_err-power.ensures.bits 8 0 (joint_exponents c.args.at ts us k (tree_of c.take_child-joint.result c.take_child-joint.new.pool) (given_told a.gives) h l b few) (omega arith));
+      room = λ gs ns ts k q s. passed_on c.from_residual.result c.in_err-power.field-0.0 _ c.from_residual.ensures.0 c.from_residual.ensures.1
+          (lacks_as c.in_err-power.field-0.0 (c.in_err-power.ensures.room gs (subst (SpansTree gs) (sym e) (joint_at_spans gs c.args.at ts us k s.1)))
+          (λ l. omega (arith, joint_sum_lacks gs c.args.at ts us k s.1 x (free_of c.open_child-hole.new.pool) (free_of c.args.pool.now) e c.open_child-hole.ensures.free l, ap size w)));
+      bits = λ h l ts k b few. passed_on c.from_residual.result c.in_err-power.field-0.0 _ c.from_residual.ensures.0 c.from_residual.ensures.1 (c.in_err-power.ensures.bits 8 0 (joint_exponents c.args.at ts us k x e h l b few) (omega arith));
       stands = search rules;
     }
 
 pub reduce_joint-reduce_power-requires : goal.reduce_joint-reduce_power-requires
 reduce_joint-reduce_power-requires t c =
-    let o = over_product c.requires.handed c.requires.product in
-    let a = factor_taken c.args.at (placed c.args.at _ c.requires.joint.within) o (c.take_child-joint.ensures.last c.requires.handed.root) in
     let r = ready_joint _ (joint_at c.requires.joint) in
     let g = c.in_ok-power.ensures.ok in
-    let s = subst (λ (x : Tree). IsSummed (base_in x) (children_of (exponent_in x)) (tree_of c.in_ok-power.power c.sum_exponent.new.pool)) (given_told a.gives) (given_told g) in
+    let s = subst (λ (x : Tree). IsSummed (base_in x) (children_of (exponent_in x)) (tree_of c.in_ok-power.power c.sum_exponent.new.pool)) (given_told c.open_child-hole.ensures.child) (given_told g) in
     let y = ready_summed _ _ _ r.base_reduced s in
     (below_measure c.decreases (power_falls (tree_of c.args.product c.args.pool.now) _ c.args.at r.is s), (c.in_ok-power.ensures.stands, (given_handed g, (y.is, (y.base_reduced, y.exponent_reduced)))))
 
 pub reduce_joint-returns-in_err-factor : goal.reduce_joint-returns-in_err-factor
 reduce_joint-returns-in_err-factor t c =
-    let o = over_product c.requires.handed c.requires.product in
-    let n = placed c.args.at _ c.requires.joint.within in
-    let a = factor_taken c.args.at n o (c.take_child-joint.ensures.last c.requires.handed.root) in
     let us : Trees = children_of (tree_of c.args.product c.args.pool.now) in
-    let e = given_told a.gives in
+    let x : Tree = tree_of c.open_child-hole.result.1 c.open_child-hole.new.pool in
     let v : Tree = tree_of c.in_ok-power.power c.sum_exponent.new.pool in
+    let child = c.open_child-hole.ensures.child in
+    let e = given_told child in
+    let g = c.in_ok-power.ensures.ok in
+    let w = product_words (tree_of c.args.product c.args.pool.now) c.requires.product in
     record {
       ok = search rules;
-      front = let lost = front_lost _ front_same (c.take_child-joint.ensures.last c.requires.handed.root) c.sum_exponent.ensures.front in let g = gives_as c.in_ok-power.ensures.ok (given_rest a.gives) (λ u x. x) in front_after_one (behind_new g.ends (front_put a.now behind_first front_same)) lost c.reduce_power.ensures.front;
+      front = c.open_child-hole.ensures.front _ _ (front_next g c.sum_exponent.ensures.front c.reduce_power.ensures.front);
       kept = search rules;
       faults = search rules;
       caused = search rules;
-      room = λ gs ns ts k q s. let w = product_words (tree_of c.args.product c.args.pool.now) c.requires.product in let g = c.in_ok-power.ensures.ok in let x : Tree = tree_of c.take_child-joint.result c.take_child-joint.new.pool in let m = subst (λ (y : Tree). IsSummed (base_in y) (children_of (exponent_in y)) v) e (given_told g) in let same = taken_free c.requires.stands c.take_child-joint.ensures.stands c.take_child-joint.ensures.kept o a (placed_bytes n) in let moved = replaced_free c.take_child-joint.ensures.stands c.in_ok-power.ensures.stands c.in_ok-power.ensures.kept (given_handed a.gives) g in let y = joint_ready gs ns c.args.at ts us v k q s m in passed_on c.from_residual-in_err-factor.result c.in_err-factor.field-0.0 _ c.from_residual-in_err-factor.ensures.0 c.from_residual-in_err-factor.ensures.1 (power_refused _ _ v c.in_err-factor.field-0.0 y.is y.calm (λ h. lacks_as c.in_err-factor.field-0.0 (c.in_err-factor.ensures.room gs ns y.calm y.spanned h) (λ l. omega (arith, joint_power_short gs c.args.at ts us k s.1 x v (free_of c.sum_exponent.new.pool + size v) (free_of c.args.pool.now) e (ap base_in m.is ∙ sym (ap base_in e)) (omega (arith, moved, same)) l, ap size w))) (λ h z. c.in_err-factor.ensures.others h z));
-      bits = λ h l ts k b few. let m = given_told c.in_ok-power.ensures.ok in passed_on c.from_residual-in_err-factor.result c.in_err-factor.field-0.0 _ c.from_residual-in_err-factor.ensures.0 c.from_residual-in_err-factor.ensures.1 (joint_fits c.args.at ts us k (tree_of c.take_child-joint.result c.take_child-joint.new.pool) e {A = ℕ} v h l (Err c.in_err-factor.field-0.0) m b few c.in_err-factor.ensures.bits c.in_err-factor.ensures.others);
+      room = λ gs ns ts k q s.
+          let m = subst (λ (y : Tree). IsSummed (base_in y) (children_of (exponent_in y)) v) e (given_told g) in
+          let moved = replaced_free c.open_child-hole.ensures.stands c.in_ok-power.ensures.stands c.in_ok-power.ensures.kept (given_handed child) g in
+          let y = joint_ready gs ns c.args.at ts us v k q s m in
+          passed_on c.from_residual-in_err-factor.result c.in_err-factor.field-0.0 _ c.from_residual-in_err-factor.ensures.0 c.from_residual-in_err-factor.ensures.1
+          (power_refused _ _ v c.in_err-factor.field-0.0 y.is y.calm
+          (λ h. lacks_as c.in_err-factor.field-0.0 (c.in_err-factor.ensures.room gs ns y.calm y.spanned h)
+          (λ l. omega (arith, joint_power_short gs c.args.at ts us k s.1 x v (free_of c.sum_exponent.new.pool + size v) (free_of c.args.pool.now) e (ap base_in m.is ∙ sym (ap base_in e)) (omega (arith, moved, c.open_child-hole.ensures.free)) l, ap size w)))
+          (λ h z. c.in_err-factor.ensures.others h z));
+      bits = λ h l ts k b few. passed_on c.from_residual-in_err-factor.result c.in_err-factor.field-0.0 _ c.from_residual-in_err-factor.ensures.0 c.from_residual-in_err-factor.ensures.1
+          (joint_fits c.args.at ts us k x e {A = ℕ} v h l (Err c.in_err-factor.field-0.0) (given_told g) b few c.in_err-factor.ensures.bits c.in_err-factor.ensures.others);
       stands = search rules;
     }
 
-pub reduce_joint-add_child-requires : goal.reduce_joint-add_child-requires
-reduce_joint-add_child-requires t c =
-    let o = over_product c.requires.handed c.requires.product in
-    let n = placed c.args.at _ c.requires.joint.within in
-    let a = factor_taken c.args.at n o (c.take_child-joint.ensures.last c.requires.handed.root) in
-    let g = itself (gives_next c.in_ok-power.ensures.ok c.in_ok-factor.ensures.ok (λ u x. x)) in
-    record {
-      stands = search rules;
-      live = root_held c.args.product _ (over_back o a g).root;
-      within = omega (arith, children_in c.in_ok-factor.ensures.stands (over_back o a g), n.within);
-      root = given_root c.in_ok-factor.ensures.ok;
-      apart = apart_back c.in_ok-factor.ensures.stands o a g;
-    }
+pub reduce_joint-fill-requires : goal.reduce_joint-fill-requires
+reduce_joint-fill-requires t c =
+    let g = gives_next c.in_ok-power.ensures.ok c.in_ok-factor.ensures.ok (λ u x. x) in
+    record { stands = search rules; hole = (_, _, _, hole_stays g c.open_child-hole.ensures.hole); handed = given_handed g }
 
 pub reduce_joint-move_last-requires-clause-root : goal.reduce_joint-move_last-requires-clause-root
 reduce_joint-move_last-requires-clause-root t c =
-    let o = over_product c.requires.handed c.requires.product in
-    let n = placed c.args.at _ c.requires.joint.within in
-    let a = factor_taken c.args.at n o (c.take_child-joint.ensures.last c.requires.handed.root) in
-    let g = itself (gives_next c.in_ok-power.ensures.ok c.in_ok-factor.ensures.ok (λ u x. x)) in
-    (put_back o a g (c.add_child.ensures.root (over_back o a g).root) (factor_inserted c.args.at n _)).over.root
+    let g = gives_next c.in_ok-power.ensures.ok c.in_ok-factor.ensures.ok (λ u x. x) in
+    (c.fill.ensures.changed _ _ _ (hole_stays g c.open_child-hole.ensures.hole)).handed.root
 
-pub reduce_joint-returns : goal.reduce_joint-returns
-reduce_joint-returns t c =
-    let o = over_product c.requires.handed c.requires.product in
-    let n = placed c.args.at _ c.requires.joint.within in
-    let a = factor_taken c.args.at n o (c.take_child-joint.ensures.last c.requires.handed.root) in
-    let g = itself (gives_next c.in_ok-power.ensures.ok c.in_ok-factor.ensures.ok (λ u x. x)) in
-    let p = put_back o a g (c.add_child.ensures.root (over_back o a g).root) (factor_inserted c.args.at n _) in
-    record {
-      ok = let s = subst (λ (x : Tree). IsSummed (base_in x) (children_of (exponent_in x)) (tree_of c.in_ok-power.power c.sum_exponent.new.pool)) (given_told a.gives) (given_told c.in_ok-power.ensures.ok) in moved p refl c.move_last.ensures.last (record { exponent = s.exponent; sum = s.sum; room = s.room; counts = s.counts; factor = tree_of c.in_ok-factor.factor c.reduce_power.new.pool; answer = subst (λ (x : Tree). IsReducedPower (base_in x) (exponent_in x) (tree_of c.in_ok-factor.factor c.reduce_power.new.pool)) s.is (given_told c.in_ok-factor.ensures.ok); is = refl });
-      front = moved_front p c.move_last.ensures.last;
-      kept = search rules;
-      faults = search rules;
-      caused = search rules;
-      room = search rules;
-      bits = search rules;
-      stands = search rules;
-    }
+pub reduce_joint-returns-clause-ok : goal.reduce_joint-returns-clause-ok
+reduce_joint-returns-clause-ok t c =
+    let g = gives_next c.in_ok-power.ensures.ok c.in_ok-factor.ensures.ok (λ u x. x) in
+    let v : Tree = tree_of c.in_ok-factor.factor c.reduce_power.new.pool in
+    let p = changes_as (c.fill.ensures.changed _ _ _ (hole_stays g c.open_child-hole.ensures.hole)) (factor_set (tree_of c.args.product c.args.pool.now) c.args.at v c.requires.product) in
+    let s = subst (λ (x : Tree). IsSummed (base_in x) (children_of (exponent_in x)) (tree_of c.in_ok-power.power c.sum_exponent.new.pool)) (given_told c.open_child-hole.ensures.child) (given_told c.in_ok-power.ensures.ok) in
+    let answer = subst (λ (x : Tree). IsReducedPower (base_in x) (exponent_in x) v) s.is (given_told c.in_ok-factor.ensures.ok) in
+    changes_last p c.move_last.ensures.last (record { exponent = s.exponent; sum = s.sum; room = s.room; counts = s.counts; factor = v; answer = answer; is = refl })
+
+pub reduce_joint-returns-clause-front : goal.reduce_joint-returns-clause-front
+reduce_joint-returns-clause-front t c =
+    let g = gives_next c.in_ok-power.ensures.ok c.in_ok-factor.ensures.ok (λ u x. x) in
+    changes_last_front (c.fill.ensures.changed _ _ _ (hole_stays g c.open_child-hole.ensures.hole)) c.move_last.ensures.last
 
 -- ---- reduce_power
 
@@ -409,94 +405,91 @@ reduce_rewritten-returns-in_err-power-in_default-clause-bits t c = λ b e n h l 
 -- ---- reduce_powers
 
 pub reduce_powers-loop-at-init : goal.reduce_powers-loop-at-init
-reduce_powers-loop-at-init t c = record {
-  stands = c.requires.stands;
-  kept = keeps_none c.args.pool.now;
-  part = none_reduced (over_product c.requires.handed c.requires.product);
-}
+reduce_powers-loop-at-init t c = record { stands = c.requires.stands; kept = keeps_none c.args.pool.now; part = none_reduced c.requires.handed (product_words _ c.requires.product) }
 
-pub reduce_powers-take_child-power-requires-clause-within : goal.reduce_powers-take_child-power-requires-clause-within
-reduce_powers-take_child-power-requires-clause-within t c =
-    let many = c.children-powers.ensures.value ∙ children_at (over_product c.requires.handed c.requires.product) c.requires.stands c.id.ensures in
+pub reduce_powers-open_child-hole-requires : goal.reduce_powers-open_child-hole-requires
+reduce_powers-open_child-hole-requires t c =
+    let many = children_told c.id.ensures c.children-powers.ensures.value c.requires.stands c.requires.handed in
     let n = next_power c.loop-at.invariant.part (omega (arith, many, c.loop-at-test.true)) in
-    omega (arith, children_in c.loop-at.invariant.stands n.over, next_within n)
+    record { stands = search rules; handed = n.now.handed; within = next_within n }
 
 pub reduce_powers-reduce_power-requires : goal.reduce_powers-reduce_power-requires
 reduce_powers-reduce_power-requires t c =
-    let many = c.children-powers.ensures.value ∙ children_at (over_product c.requires.handed c.requires.product) c.requires.stands c.id.ensures in
+    let many = children_told c.id.ensures c.children-powers.ensures.value c.requires.stands c.requires.handed in
     let n = next_power c.loop-at.invariant.part (omega (arith, many, c.loop-at-test.true)) in
-    let a = next_taken n (c.take_child-power.ensures.last n.over.root) in
-    let q = subst (IsPowerOf (children_of (tree_of c.args.product c.args.pool.now))) (sym (given_told a.gives)) (next_of n c.requires.powers) in
-    (below_measure c.decreases (one_power_falls (tree_of c.args.product c.args.pool.now) _ q), (c.take_child-power.ensures.stands, (given_handed a.gives, (q.transparent.is, (q.transparent.base_reduced, q.transparent.exponent_reduced)))))
+    let child = c.open_child-hole.ensures.child in
+    let q = subst (IsPowerOf (children_of (tree_of c.args.product c.args.pool.now))) (sym (next_told n child)) (next_of n c.requires.powers) in
+    (below_measure c.decreases (one_power_falls (tree_of c.args.product c.args.pool.now) _ q), (c.open_child-hole.ensures.stands, (given_handed child, (q.transparent.is, (q.transparent.base_reduced, q.transparent.exponent_reduced)))))
 
 pub reduce_powers-returns-in_err-reduced : goal.reduce_powers-returns-in_err-reduced
 reduce_powers-returns-in_err-reduced t c =
-    let o = over_product c.requires.handed c.requires.product in
-    let many = c.children-powers.ensures.value ∙ children_at o c.requires.stands c.id.ensures in
+    let many = children_told c.id.ensures c.children-powers.ensures.value c.requires.stands c.requires.handed in
+    let m = next_power c.loop-at.invariant.part (omega (arith, many, c.loop-at-test.true)) in
+    let told = next_told m c.open_child-hole.ensures.child in
+    let whole : Tree = tree_of c.args.product c.args.pool.now in
     record {
       ok = search rules;
-      front = let many = c.children-powers.ensures.value ∙ children_at (over_product c.requires.handed c.requires.product) c.requires.stands c.id.ensures in let n = next_power c.loop-at.invariant.part (omega (arith, many, c.loop-at-test.true)) in front_lost _ (part_front c.loop-at.invariant.part) (c.take_child-power.ensures.last n.over.root) c.reduce_power.ensures.front;
+      front = front_again (changes_front m.now) (c.open_child-hole.ensures.front _ _ c.reduce_power.ensures.front);
       kept = search rules;
       faults = search rules;
       caused = search rules;
-      room = λ gs ns b e r k s. let n = next_power c.loop-at.invariant.part (omega (arith, many, c.loop-at-test.true)) in let a = next_taken n (c.take_child-power.ensures.last n.over.root) in let same = taken_free c.loop-at.invariant.stands c.take_child-power.ensures.stands c.take_child-power.ensures.kept n.over a (next_bytes n) in let free = part_free c.requires.stands c.loop-at.invariant.stands c.loop-at.invariant.kept o (n.whole _) n.over in let q = subst (IsPowerOf (children_of (tree_of c.args.product c.args.pool.now))) (sym (given_told a.gives)) (next_of n c.requires.powers) in let w = product_words (tree_of c.args.product c.args.pool.now) c.requires.product in let x = ready_part gs ns b e (tree_of c.args.product c.args.pool.now) n.t n.done n.rest n.reduced c.requires.product r k s n.split n.are in let u : Tree = tree_of c.take_child-power.result c.take_child-power.new.pool in let told = given_told a.gives in let whole = ap (λ (y : Tree). is_whole_num (exponent_in y)) told ∙ x.whole in passed_on c.from_residual.result c.in_err-reduced.field-0.0 _ c.from_residual.ensures.0 c.from_residual.ensures.1 (lacks_as c.in_err-reduced.field-0.0 (c.in_err-reduced.ensures.room gs ns (subst (IsCalmAtZero ns) (sym told) x.calm) (subst (SpansTree gs) (sym told) x.spanned) whole) (λ l. omega (arith, x.lacks _ (subst (λ (y : Tree). free_of c.take_child-power.new.pool + size y < whole_power_room (base_in y) (2 ^ length gs)) told l), same, free, next_bytes n, ap size w)));
-      bits = λ b e n h l r q f few. let next = next_power c.loop-at.invariant.part (omega (arith, many, c.loop-at-test.true)) in let a = next_taken next (c.take_child-power.ensures.last next.over.root) in let told = given_told a.gives in let x = part_ready b e (tree_of c.args.product c.args.pool.now) next.t next.done next.rest n h l c.requires.product r next.split q f few in passed_on c.from_residual.result c.in_err-reduced.field-0.0 _ c.from_residual.ensures.0 c.from_residual.ensures.1 (c.in_err-reduced.ensures.bits n x.p x.q (ap exponent_in told ∙ x.exponent) (subst (λ (y : Tree). IsFactorHeld (base_in y) x.p x.q) (sym told) x.held) x.few);
+      room = λ gs ns b e r k s.
+          let x = ready_part gs ns b e whole m.t m.done m.rest m.reduced c.requires.product r k s m.split m.are in
+          let free = changes_free c.requires.stands c.loop-at.invariant.stands c.loop-at.invariant.kept c.requires.handed m.now in
+          passed_on c.from_residual.result c.in_err-reduced.field-0.0 _ c.from_residual.ensures.0 c.from_residual.ensures.1
+          (lacks_as c.in_err-reduced.field-0.0 (c.in_err-reduced.ensures.room gs ns (subst (IsCalmAtZero ns) (sym told) x.calm) (subst (SpansTree gs) (sym told) x.spanned) (ap (λ (y : Tree). is_whole_num (exponent_in y)) told ∙ x.whole))
+          (λ l. omega (arith, x.lacks _ (subst (λ (y : Tree). free_of c.open_child-hole.new.pool + size y < whole_power_room (base_in y) (2 ^ length gs)) told l), c.open_child-hole.ensures.free, free, next_bytes m)));
+      bits = λ b e n h l r q f few.
+          let x = part_ready b e whole m.t m.done m.rest n h l c.requires.product r m.split q f few in
+          passed_on c.from_residual.result c.in_err-reduced.field-0.0 _ c.from_residual.ensures.0 c.from_residual.ensures.1
+          (c.in_err-reduced.ensures.bits n x.p x.q (ap exponent_in told ∙ x.exponent) (subst (λ (y : Tree). IsFactorHeld (base_in y) x.p x.q) (sym told) x.held) x.few);
       stands = search rules;
     }
 
-pub reduce_powers-add_child-requires : goal.reduce_powers-add_child-requires
-reduce_powers-add_child-requires t c =
-    let many = c.children-powers.ensures.value ∙ children_at (over_product c.requires.handed c.requires.product) c.requires.stands c.id.ensures in
-    let n = next_power c.loop-at.invariant.part (omega (arith, many, c.loop-at-test.true)) in
-    let a = next_taken n (c.take_child-power.ensures.last n.over.root) in
-    record {
-      stands = search rules;
-      live = root_held c.args.product _ (over_back n.over a (itself c.in_ok-reduced.ensures.ok)).root;
-      within = omega (arith, children_in c.in_ok-reduced.ensures.stands (over_back n.over a (itself c.in_ok-reduced.ensures.ok)), back_within n);
-      root = given_root c.in_ok-reduced.ensures.ok;
-      apart = apart_back c.in_ok-reduced.ensures.stands n.over a (itself c.in_ok-reduced.ensures.ok);
-    }
+pub reduce_powers-fill-requires : goal.reduce_powers-fill-requires
+reduce_powers-fill-requires t c =
+    let g = c.in_ok-reduced.ensures.ok in
+    record { stands = search rules; hole = (_, _, _, hole_stays g c.open_child-hole.ensures.hole); handed = given_handed g }
 
 pub reduce_powers-loop-at-preserved : goal.reduce_powers-loop-at-preserved
 reduce_powers-loop-at-preserved t c =
-    let many = c.children-powers.ensures.value ∙ children_at (over_product c.requires.handed c.requires.product) c.requires.stands c.id.ensures in
+    let many = children_told c.id.ensures c.children-powers.ensures.value c.requires.stands c.requires.handed in
     let n = next_power c.loop-at.invariant.part (omega (arith, many, c.loop-at-test.true)) in
-    let a = next_taken n (c.take_child-power.ensures.last n.over.root) in
-    let g = itself c.in_ok-reduced.ensures.ok in
-    let p = subst (λ (x : Tree). IsReducedPower (base_in x) (exponent_in x) (tree_of c.in_ok-reduced.reduced c.reduce_power.new.pool)) (given_told a.gives) (given_told c.in_ok-reduced.ensures.ok) in
+    let g = c.in_ok-reduced.ensures.ok in
+    let v : Tree = tree_of c.in_ok-reduced.reduced c.reduce_power.new.pool in
+    let p = subst (λ (x : Tree). IsReducedPower (base_in x) (exponent_in x) v) (next_told n c.open_child-hole.ensures.child) (given_told g) in
     record {
-      stands = c.add_child.ensures.stands;
-      kept = keeps_after _ _ _ c.loop-at.invariant.kept (keeps_after _ _ _ c.take_child-power.ensures.kept (keeps_after _ _ _ c.in_ok-reduced.ensures.kept c.add_child.ensures.kept));
-      part = next_reduced n a _ p (given_back a g) (c.add_child.ensures.root (over_back n.over a g).root);
+      stands = c.fill.ensures.stands;
+      kept = keeps_after _ _ _ c.loop-at.invariant.kept (keeps_after _ _ _ c.open_child-hole.ensures.kept (keeps_after _ _ _ c.in_ok-reduced.ensures.kept c.fill.ensures.kept));
+      part = next_reduced n v p (c.fill.ensures.changed _ _ _ (hole_stays g c.open_child-hole.ensures.hole));
     }
 
 pub reduce_powers-returns-clause-ok : goal.reduce_powers-returns-clause-ok
 reduce_powers-returns-clause-ok t c =
-    let many = c.children-powers.ensures.value ∙ children_at (over_product c.requires.handed c.requires.product) c.requires.stands c.id.ensures in
+    let many = children_told c.id.ensures c.children-powers.ensures.value c.requires.stands c.requires.handed in
     let x = all_reduced c.loop-at.invariant.part (omega (arith, many, c.loop-at-test.false)) in
-    moved x.added refl c.move_last.ensures.last (record { factors = x.factors; are = x.are; is = refl })
+    changes_last x.now c.move_last.ensures.last (record { factors = x.factors; are = x.are; is = refl })
 
 pub reduce_powers-returns-clause-front : goal.reduce_powers-returns-clause-front
-reduce_powers-returns-clause-front t c =
-    let many = c.children-powers.ensures.value ∙ children_at (over_product c.requires.handed c.requires.product) c.requires.stands c.id.ensures in
-    moved_front (all_reduced c.loop-at.invariant.part (omega (arith, many, c.loop-at-test.false))).added c.move_last.ensures.last
+reduce_powers-returns-clause-front t c = changes_last_front c.loop-at.invariant.part.now c.move_last.ensures.last
 
 -- ---- reduce_exponent
 
 pub reduce_exponent-child_id-exponent-requires-clause-within : goal.reduce_exponent-child_id-exponent-requires-clause-within
-reduce_exponent-child_id-exponent-requires-clause-within t c = omega (arith, children_at (over_power _ c.requires.handed refl c.requires.power) c.requires.stands c.id.ensures)
+reduce_exponent-child_id-exponent-requires-clause-within t c = omega (arith, handed_within c.id.ensures c.requires.stands c.requires.handed, two_sides c.requires.power)
+
+pub reduce_exponent-open_child-hole-requires : goal.reduce_exponent-open_child-hole-requires
+reduce_exponent-open_child-hole-requires t c = record { stands = search rules; handed = c.requires.handed; within = omega (arith, two_sides c.requires.power) }
 
 pub reduce_exponent-reduce_product-requires : goal.reduce_exponent-reduce_product-requires
 reduce_exponent-reduce_product-requires t c =
-    let o = over_power _ c.requires.handed refl c.requires.power in
     let child = c.child_id-exponent.ensures in
     let k = exponent_seen {x = c.kind.result} c.id.ensures c.requires.stands c.requires.handed c.requires.power child.expression child.plain c.kind.ensures.plain in
     let m = product_kind _ (sym c.in-Mult.is ∙ k) in
     let p = with_product _ c.requires.power m c.requires.unfinished in
-    let a = exponent_taken o (c.take_child-exponent.ensures.last c.requires.handed.root) in
-    let told = given_told a.gives in
-    let handed = given_handed a.gives in
-    let stands = c.take_child-exponent.ensures.stands in
+    let told = exponent_told c.requires.power c.open_child-hole.ensures.child in
+    let handed = given_handed c.open_child-hole.ensures.child in
+    let stands = c.open_child-hole.ensures.stands in
     let is = ap is_mult told ∙ m in (
       below_measure c.decreases (taken_falls _ _ p told (few_factors _ _ stands handed is)),
       (stands, (handed, (is, (omega (arith, ap (λ (x : Tree). count (children_of x)) told, p.nested.some), ap (λ (x : Tree). are_reduced (children_of x)) told ∙ p.nested.reduced)))),
@@ -504,58 +497,48 @@ reduce_exponent-reduce_product-requires t c =
 
 pub reduce_exponent-returns-in_err-product-in-Mult : goal.reduce_exponent-returns-in_err-product-in-Mult
 reduce_exponent-returns-in_err-product-in-Mult t c =
-    let o = over_power _ c.requires.handed refl c.requires.power in
     let child = c.child_id-exponent.ensures in
     let z = exponent_seen {x = c.kind.result} c.id.ensures c.requires.stands c.requires.handed c.requires.power child.expression child.plain c.kind.ensures.plain in
     let m = product_kind _ (sym c.in-Mult.is ∙ z) in
-    let a = exponent_taken o (c.take_child-exponent.ensures.last c.requires.handed.root) in
-    let told = given_told a.gives in
+    let told = exponent_told c.requires.power c.open_child-hole.ensures.child in
+    let whole : Tree = tree_of c.args.power c.args.pool.now in
+    let taken : Tree = tree_of c.open_child-hole.result.1 c.open_child-hole.new.pool in
     record {
       ok = search rules;
-      front = front_lost _ front_same (c.take_child-exponent.ensures.last c.requires.handed.root) c.reduce_product.ensures.front;
+      front = c.open_child-hole.ensures.front _ _ c.reduce_product.ensures.front;
       kept = search rules;
       faults = search rules;
       caused = search rules;
-      room = λ gs ns b e r k s. let same = taken_free c.requires.stands c.take_child-exponent.ensures.stands c.take_child-exponent.ensures.kept o a (omega arith) in let x = ready_exponent gs ns b e (tree_of c.args.power c.args.pool.now) (tree_of c.take_child-exponent.result c.take_child-exponent.new.pool) (ap is_mult c.requires.power) (ap is_mult told ∙ m) told r k s in passed_on c.from_residual.result c.in_err-product-in-Mult.field-0.0 _ c.from_residual.ensures.0 c.from_residual.ensures.1 (lacks_as c.in_err-product-in-Mult.field-0.0 (c.in_err-product-in-Mult.ensures.room gs ns x.0 x.1) (λ l. omega (arith, x.2 _ l, same, ap size c.requires.power, ap size told)));
-      bits = λ b e n h l r q f few. passed_on c.from_residual.result c.in_err-product-in-Mult.field-0.0 _ c.from_residual.ensures.0 c.from_residual.ensures.1 (c.in_err-product-in-Mult.ensures.bits 14 0 (exponent_ready b e (tree_of c.args.power c.args.pool.now) (tree_of c.take_child-exponent.result c.take_child-exponent.new.pool) n h l (ap is_mult c.requires.power) (ap is_mult told ∙ m) told r q f few) (omega arith));
+      room = λ gs ns b e r k s.
+          let x = ready_exponent gs ns b e whole taken (ap is_mult c.requires.power) (ap is_mult told ∙ m) told r k s in
+          passed_on c.from_residual.result c.in_err-product-in-Mult.field-0.0 _ c.from_residual.ensures.0 c.from_residual.ensures.1
+          (lacks_as c.in_err-product-in-Mult.field-0.0 (c.in_err-product-in-Mult.ensures.room gs ns x.0 x.1) (λ l. omega (arith, x.2 _ l, c.open_child-hole.ensures.free, ap size c.requires.power, ap size told)));
+      bits = λ b e n h l r q f few. passed_on c.from_residual.result c.in_err-product-in-Mult.field-0.0 _ c.from_residual.ensures.0 c.from_residual.ensures.1
+          (c.in_err-product-in-Mult.ensures.bits 14 0 (exponent_ready b e whole taken n h l (ap is_mult c.requires.power) (ap is_mult told ∙ m) told r q f few) (omega arith));
       stands = search rules;
     }
 
-pub reduce_exponent-add_child-requires : goal.reduce_exponent-add_child-requires
-reduce_exponent-add_child-requires t c =
-    let o = over_power _ c.requires.handed refl c.requires.power in
-    let a = exponent_taken o (c.take_child-exponent.ensures.last c.requires.handed.root) in
-    record {
-      stands = search rules;
-      live = root_held c.args.power _ (over_back o a (itself c.in_ok-product-in-Mult.ensures.ok)).root;
-      within = omega (arith, children_in c.in_ok-product-in-Mult.ensures.stands (over_back o a (itself c.in_ok-product-in-Mult.ensures.ok)));
-      root = given_root c.in_ok-product-in-Mult.ensures.ok;
-      apart = apart_back c.in_ok-product-in-Mult.ensures.stands o a (itself c.in_ok-product-in-Mult.ensures.ok);
-    }
+pub reduce_exponent-fill-requires : goal.reduce_exponent-fill-requires
+reduce_exponent-fill-requires t c =
+    let g = c.in_ok-product-in-Mult.ensures.ok in
+    record { stands = search rules; hole = (_, _, _, hole_stays g c.open_child-hole.ensures.hole); handed = given_handed g }
 
 pub reduce_exponent-move_last-requires-clause-root : goal.reduce_exponent-move_last-requires-clause-root
-reduce_exponent-move_last-requires-clause-root t c =
-    let o = over_power _ c.requires.handed refl c.requires.power in
-    let a = exponent_taken o (c.take_child-exponent.ensures.last c.requires.handed.root) in
-    let g = itself c.in_ok-product-in-Mult.ensures.ok in
-    (put_back o a g (c.add_child.ensures.root (over_back o a g).root) refl).over.root
+reduce_exponent-move_last-requires-clause-root t c = (c.fill.ensures.changed _ _ _ (hole_stays c.in_ok-product-in-Mult.ensures.ok c.open_child-hole.ensures.hole)).handed.root
 
-pub reduce_exponent-returns-in_ok-product-in-Mult : goal.reduce_exponent-returns-in_ok-product-in-Mult
-reduce_exponent-returns-in_ok-product-in-Mult t c =
-    let o = over_power _ c.requires.handed refl c.requires.power in
-    let a = exponent_taken o (c.take_child-exponent.ensures.last c.requires.handed.root) in
-    let g = itself c.in_ok-product-in-Mult.ensures.ok in
-    let q = put_back o a g (c.add_child.ensures.root (over_back o a g).root) refl in
-    record {
-      ok = let child = c.child_id-exponent.ensures in let k = exponent_seen {x = c.kind.result} c.id.ensures c.requires.stands c.requires.handed c.requires.power child.expression child.plain c.kind.ensures.plain in let p = with_product _ c.requires.power (product_kind _ (sym c.in-Mult.is ∙ k)) c.requires.unfinished in let v = tree_of c.in_ok-product-in-Mult.product c.reduce_product.new.pool in moved q refl c.move_last.ensures.last (p.lifted _ (record { exponent = v; product = subst (λ (x : Tree). IsReducedProduct (children_of x) v) (given_told a.gives) (given_told c.in_ok-product-in-Mult.ensures.ok); is = refl }));
-      front = moved_front q c.move_last.ensures.last;
-      kept = search rules;
-      faults = search rules;
-      caused = search rules;
-      room = search rules;
-      bits = search rules;
-      stands = search rules;
-    }
+pub reduce_exponent-returns-in_ok-product-in-Mult-clause-ok : goal.reduce_exponent-returns-in_ok-product-in-Mult-clause-ok
+reduce_exponent-returns-in_ok-product-in-Mult-clause-ok t c =
+    let child = c.child_id-exponent.ensures in
+    let k = exponent_seen {x = c.kind.result} c.id.ensures c.requires.stands c.requires.handed c.requires.power child.expression child.plain c.kind.ensures.plain in
+    let p = with_product _ c.requires.power (product_kind _ (sym c.in-Mult.is ∙ k)) c.requires.unfinished in
+    let g = c.in_ok-product-in-Mult.ensures.ok in
+    let v : Tree = tree_of c.in_ok-product-in-Mult.product c.reduce_product.new.pool in
+    let product = subst (λ (x : Tree). IsReducedProduct (children_of x) v) (exponent_told c.requires.power c.open_child-hole.ensures.child) (given_told g) in
+    changes_last (changes_as (c.fill.ensures.changed _ _ _ (hole_stays g c.open_child-hole.ensures.hole)) (exponent_set v c.requires.power)) c.move_last.ensures.last
+    (p.lifted _ (record { exponent = v; product = product; is = refl }))
+
+pub reduce_exponent-returns-in_ok-product-in-Mult-clause-front : goal.reduce_exponent-returns-in_ok-product-in-Mult-clause-front
+reduce_exponent-returns-in_ok-product-in-Mult-clause-front t c = changes_last_front (c.fill.ensures.changed _ _ _ (hole_stays c.in_ok-product-in-Mult.ensures.ok c.open_child-hole.ensures.hole)) c.move_last.ensures.last
 
 pub reduce_exponent-returns-in_default : goal.reduce_exponent-returns-in_default
 reduce_exponent-returns-in_default t c =
