@@ -72,7 +72,8 @@ divided false c f t t' u u' p q r y z n mt mt' mu mu' i s =
 
 -- ---- powers
 
-lowered_means : (f : Assignment) (n m : ℤ) (b b' : Tree) (d w w' v : Surd) → n -ℤ pos 1 ≡ m → Means b f w → Means b' f w' → IsWholePower m w v → Same d (surd_scale (whole_fraction n) (surd_times v w')) → Means (lowered n b b') f d
+lowered_means : (f : Assignment) (n m : ℤ) (b b' : Tree) (d w w' v : Surd) → n -ℤ pos 1 ≡ m → Means b f w → Means b' f w' → IsWholePower m w v
+    → Same d (surd_scale (whole_fraction n) (surd_times v w')) → Means (lowered n b b') f d
 lowered_means f n m b b' d w w' v e mb mb' p s =
     let rest = surd_times v w' in
     let less : Means (power b (num (whole_fraction (n -ℤ pos 1)))) f v = subst (λ (k : ℤ). Means (power b (num (whole_fraction k))) f v) (sym e) (power_whole f b m w v mb p) in
@@ -142,7 +143,12 @@ module _ (x : List ℕ) (f : Assignment) where
 
   by_factor : (b : Bool) (t : Tree) (us : Trees) (p a a' c c' v d : Surd) → (b ≡ false → Agree a' []) → Means t f v → Agree v (surd_times p (surd_times a' c)) → MeansProducts us (surd_times p a) c'
       → d ≡ surd_times a c' ++ surd_times a' c → MeansProducts (if b then more t us else us) p d
-  by_factor true t us p a a' c c' v d z m s h e = record { sum = v ++ h.sum; means = (v, h.sum, m, h.means, refl); same = Agree-trans (Agree-append s (Agree-refl h.sum)) (Agree-trans (product_slope p a a' c c' h.sum h.same) (Agree-eq (ap (surd_times p) (sym e)))) }
+  by_factor true t us p a a' c c' v d z m s h e = record {
+    sum = v ++ h.sum;
+    means = (v, h.sum, m, h.means, refl);
+    same = Agree-trans (Agree-append s (Agree-refl h.sum))
+        (Agree-trans (product_slope p a a' c c' h.sum h.same) (Agree-eq (ap (surd_times p) (sym e))));
+  }
   by_factor false t us p a a' c c' v d z m s h e = record { sum = h.sum; means = h.means; same = Agree-trans (product_still p a a' c c' h.sum (z refl) h.same) (Agree-eq (ap (surd_times p) (sym e))) }
 
   mutual
@@ -180,7 +186,8 @@ module _ (x : List ℕ) (f : Assignment) where
         sum_means (products x none ts) f p.slope r.sum r.means (Agree-trans (Same-Agree s.slopes) (Agree-sym (Agree-trans r.same (Agree-eq (surd_times-surd_one q.slope)))))
     slope_means (neg a) p (q, h, s) = guarded (occurs x a) (neg (derivative x a)) f p.slope (λ o. still x f (neg a) p o (q, h, s)) (q.slope, slope_means a q h, s.slopes)
     slope_means (sub a b) p (q, r, h, k, s) =
-        guarded (occurs x a || occurs x b) (sub (derivative x a) (derivative x b)) f p.slope (λ o. still x f (sub a b) p o (q, r, h, k, s)) (q.slope, r.slope, slope_means a q h, slope_means b r k, s.slopes)
+        guarded (occurs x a || occurs x b) (sub (derivative x a) (derivative x b)) f p.slope (λ o. still x f (sub a b) p o (q, r, h, k, s))
+        (q.slope, r.slope, slope_means a q h, slope_means b r k, s.slopes)
     slope_means (div a b) p (q, r, y, h, k, i, s) =
         divided (occurs x b) (occurs x a) f a (derivative x a) b (derivative x b) p q r y (λ o. still x f b r o k)
         (λ o z. still x f (div a b) p (neither (occurs x a) (occurs x b) z o) (q, r, y, h, k, i, s))
@@ -190,7 +197,8 @@ module _ (x : List ℕ) (f : Assignment) where
         guarded_held (occurs x b || occurs x e) (literal_power_rule (whole_literal e) b (derivative x b)) f p.slope held
         (literal_means f (whole_literal e) n b (derivative x b) p.slope l (power_means f n b (derivative x b) p.slope q (value_means b q h) (slope_means b q h) s.slope))
     slope_means (root a) p (inl s) = guarded_absent (occurs x a) (root_rule a (derivative x a)) f p.slope s.absent (Same-Agree s.slope)
-    slope_means (root a) p (inr (q, h, held, s)) = guarded_held (occurs x a) (root_rule a (derivative x a)) f p.slope held (root_means f a (derivative x a) q p (value_means a q h) (slope_means a q h) s)
+    slope_means (root a) p (inr (q, h, held, s)) = guarded_held (occurs x a) (root_rule a (derivative x a)) f p.slope held
+        (root_means f a (derivative x a) q p (value_means a q h) (slope_means a q h) s)
 
     slopes_sum : (ts : Trees) (p : Pair) → HasPairSum x ts f p → MeansSum (derivatives x ts) f p.slope
     slopes_sum none p e = ap (λ (z : Pair). z.slope) e
@@ -205,7 +213,8 @@ module _ (x : List ℕ) (f : Assignment) where
         let next = surd_times v q.value in
         by_factor (occurs x t) (mult (append earlier (more (derivative x t) ts))) (products x (append earlier (more t none)) ts) v q.value q.slope r.value r.slope whole p.slope
         (λ o. still x f t q o h)
-        (product_append f earlier (more (derivative x t) ts) whole v behind m (product_more f (derivative x t) ts behind q.slope r.value (slope_means t q h) others (Same-refl behind)) (Same-refl whole))
+        (product_append f earlier (more (derivative x t) ts) whole v behind m
+        (product_more f (derivative x t) ts behind q.slope r.value (slope_means t q h) others (Same-refl behind)) (Same-refl whole))
         (Agree-refl whole)
         (slopes_product ts (append earlier (more t none)) next r (product_append f earlier (more t none) next v q.value m (product_one f t q.value (value_means t q h)) (Same-refl next)) k)
         (ap (λ (z : Pair). z.slope) e)

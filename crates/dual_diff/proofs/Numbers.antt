@@ -57,7 +57,8 @@ less_fits_signed z h = fits_signed_from_abs w128 (to_z w128 (of_z w128 z) -ℤ p
 
 -- ---- a power's derivative, by its exponent
 
-module _ (x : List ℕ) (t : Tree) (n : ℤ) {b e : Tree} (h : root_kind t ≡ kind.Pow) (o : occurs x t ≡ true) (base : b ≡ nth 0 (children_of t)) (exponent : e ≡ nth 1 (children_of t)) (l : Some n ≡ whole_literal e) (small : nat_abs n ≤ exponent_limit) where
+module _ (x : List ℕ) (t : Tree) (n : ℤ) {b e : Tree} (h : root_kind t ≡ kind.Pow) (o : occurs x t ≡ true) (base : b ≡ nth 0 (children_of t)) (exponent : e ≡ nth 1 (children_of t))
+    (l : Some n ≡ whole_literal e) (small : nat_abs n ≤ exponent_limit) where
   by_exponent : derivative x t ≡ power_rule n b (derivative x b)
   by_exponent = power_by_rule x t n h o (ap whole_literal (sym exponent) ∙ sym l) base
 

@@ -30,7 +30,8 @@ count_derivatives x (more t ts) = ap suc (count_derivatives x ts)
 
 pub derivatives_room : (x : List ℕ) (n : ℕ) (ts : Trees) → n < count ts → sizes (derivatives x (first n ts)) + size (derivative x (nth n ts)) ≤ sizes (derivatives x ts)
 derivatives_room x n ts h =
-    let whole : derivatives x ts ≡ append (derivatives x (first (suc n) ts)) (derivatives x (behind (suc n) ts)) = ap (derivatives x) (sym (first_behind (suc n) ts)) ∙ derivatives_append x (first (suc n) ts) (behind (suc n) ts) in
+    let whole : derivatives x ts ≡ append (derivatives x (first (suc n) ts)) (derivatives x (behind (suc n) ts)) = ap (derivatives x) (sym (first_behind (suc n) ts))
+    ∙ derivatives_append x (first (suc n) ts) (behind (suc n) ts) in
     omega (arith, ap sizes whole, sizes_append (derivatives x (first (suc n) ts)) (derivatives x (behind (suc n) ts)), ap sizes (derivatives_next x n ts h), sizes_append (derivatives x (first n ts)) (more (derivative x (nth n ts)) none))
 
 -- ---- products
@@ -43,7 +44,8 @@ pub made_none : (x : List ℕ) (ts : Trees) → AreMade x 0 none ts
 made_none x ts = record { all = refl }
 
 step_by : (x : List ℕ) (n : ℕ) (ts : Trees) → n < count ts
-    → products x (first n ts) (behind n ts) ≡ (if occurs x (nth n ts) then more (with_derivative x n ts) (products x (first (suc n) ts) (behind (suc n) ts)) else products x (first (suc n) ts) (behind (suc n) ts))
+    → products x (first n ts) (behind n ts) ≡
+    (if occurs x (nth n ts) then more (with_derivative x n ts) (products x (first (suc n) ts) (behind (suc n) ts)) else products x (first (suc n) ts) (behind (suc n) ts))
 step_by x n ts h = grind (arith, behind_at, first_next)
 
 pub made_more : (x : List ℕ) (n : ℕ) (made ts : Trees) → n < count ts → occurs x (nth n ts) ≡ true → AreMade x n made ts → AreMade x (suc n) (append made (more (with_derivative x n ts) none)) ts
@@ -87,7 +89,8 @@ pub counted_none : (x : List ℕ) (ts : Trees) → IsCounted x 0 0 0 ts
 counted_none x ts = record { made = none; is = made_none x ts; many-is = refl; few = omega arith; bytes-are = refl }
 
 pub counted_more : {x : List ℕ} {n m many bytes : ℕ} {ts : Trees} (others slope product total : ℕ) → n < count ts → suc n ≡ m → occurs x (nth n ts) ≡ true → IsCounted x n many bytes ts
-    → others + size (nth n ts) ≡ size (mult ts) → slope ≡ capped (size (derivative x (nth n ts))) → product ≡ capped (others + slope) → total ≡ capped (bytes + product) → IsCounted x m (many + 1) total ts
+    → others + size (nth n ts) ≡ size (mult ts) → slope ≡ capped (size (derivative x (nth n ts))) → product ≡ capped (others + slope) → total ≡ capped
+    (bytes + product) → IsCounted x m (many + 1) total ts
 counted_more {x} {n} {m} {many} {bytes} {ts} others slope product total h next o k e d p t =
     record {
       made = append k.made (more (with_derivative x n ts) none);
@@ -98,7 +101,14 @@ counted_more {x} {n} {m} {many} {bytes} {ts} others slope product total h next o
     }
 
 pub counted_same : {x : List ℕ} {n m many bytes : ℕ} {ts : Trees} → n < count ts → suc n ≡ m → occurs x (nth n ts) ≡ false → IsCounted x n many bytes ts → IsCounted x m many bytes ts
-counted_same {x} {n} {m} {ts = ts} h next o k = record { made = k.made; is = subst (λ (i : ℕ). AreMade x i k.made ts) next (made_same x n k.made ts h o k.is); many-is = k.many-is; few = omega (arith, next, k.few); bytes-are = k.bytes-are }
+counted_same {x} {n} {m} {ts = ts} h next o k = record {
+  made = k.made;
+  is = subst (λ (i : ℕ). AreMade x i k.made ts) next
+      (made_same x n k.made ts h o k.is);
+  many-is = k.many-is;
+  few = omega (arith, next, k.few);
+  bytes-are = k.bytes-are;
+}
 
 pub sum_bytes_one : (us : Trees) (bytes : ℕ) → count us ≡ 1 → bytes ≡ capped (sizes us) → bytes ≡ capped (size (sum_of_products us))
 sum_bytes_one us bytes c b = grind arith

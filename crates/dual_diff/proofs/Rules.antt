@@ -55,7 +55,8 @@ pub same_node : (x : List ℕ) (k : Kind) (t : Tree) → k ≡ root_kind t → i
 same_node x k t e l o = subst (λ (j : Kind). is_linear j ≡ true → IsSame x j t) (sym e) (same_root x t o) l
 
 -- the kind of a tree that holds the name and is none of those with a rule of their own
-pub other_linear : (x : List ℕ) (k : Kind) (t : Tree) → k ≡ root_kind t → occurs x t ≡ true → (k ≡ kind.Sym → ⊥) → (k ≡ kind.Mult → ⊥) → (k ≡ kind.Div → ⊥) → (k ≡ kind.Pow → ⊥) → (k ≡ kind.Root → ⊥) → is_linear k ≡ true
+pub other_linear : (x : List ℕ) (k : Kind) (t : Tree) → k ≡ root_kind t → occurs x t ≡ true → (k ≡ kind.Sym → ⊥) → (k ≡ kind.Mult → ⊥) → (k ≡ kind.Div → ⊥) → (k ≡ kind.Pow → ⊥)
+    → (k ≡ kind.Root → ⊥) → is_linear k ≡ true
 other_linear x k t e o s m d p r = grind arith
 
 pub product_sum : (x : List ℕ) (t : Tree) → root_kind t ≡ kind.Mult → derivative x t ≡ sum_of_products (products x none (children_of t))
@@ -65,14 +66,17 @@ pub product_held : (x : List ℕ) (t : Tree) → root_kind t ≡ kind.Mult → o
 product_held x t h o = grind arith
 
 -- a quotient a/b whose divisor holds the name, and one whose dividend alone does
-pub quotient_whole : (x : List ℕ) (t : Tree) {a b : Tree} → root_kind t ≡ kind.Div → a ≡ nth 0 (children_of t) → b ≡ nth 1 (children_of t) → occurs x b ≡ true → derivative x t ≡ quotient_rule a (derivative x a) b (derivative x b)
+pub quotient_whole : (x : List ℕ) (t : Tree) {a b : Tree} → root_kind t ≡ kind.Div → a ≡ nth 0 (children_of t) → b ≡ nth 1 (children_of t) → occurs x b ≡ true
+    → derivative x t ≡ quotient_rule a (derivative x a) b (derivative x b)
 quotient_whole x t h e f o = grind arith
 
-pub quotient_divided : (x : List ℕ) (t : Tree) {a b : Tree} → root_kind t ≡ kind.Div → occurs x t ≡ true → a ≡ nth 0 (children_of t) → b ≡ nth 1 (children_of t) → occurs x b ≡ false → derivative x t ≡ div (derivative x a) b
+pub quotient_divided : (x : List ℕ) (t : Tree) {a b : Tree} → root_kind t ≡ kind.Div → occurs x t ≡ true → a ≡ nth 0 (children_of t) → b ≡ nth 1 (children_of t)
+    → occurs x b ≡ false → derivative x t ≡ div (derivative x a) b
 quotient_divided x t h o e f n = grind arith
 
 -- the power of a base b
-pub power_by_rule : (x : List ℕ) (t : Tree) (n : ℤ) {b : Tree} → root_kind t ≡ kind.Pow → occurs x t ≡ true → whole_literal (nth 1 (children_of t)) ≡ Some n → b ≡ nth 0 (children_of t) → derivative x t ≡ power_rule n b (derivative x b)
+pub power_by_rule : (x : List ℕ) (t : Tree) (n : ℤ) {b : Tree} → root_kind t ≡ kind.Pow → occurs x t ≡ true → whole_literal (nth 1 (children_of t)) ≡ Some n
+    → b ≡ nth 0 (children_of t) → derivative x t ≡ power_rule n b (derivative x b)
 power_by_rule x t n h o l f = grind arith
 
 -- the root of an argument a

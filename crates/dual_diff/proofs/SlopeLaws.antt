@@ -56,7 +56,8 @@ product_still p a a' b b' e z h = grind (arith, Agree-trans, Agree-eq, surd_time
 
 -- (w'u - wu')yy is w'y - w(u'yy), where y inverts u
 pub quotient_slope : (w w' u u' y : Surd) → Inverts y u
-    → Agree (surd_times w' y ++ surd_scale minus_one_fraction (surd_times w (surd_times u' (surd_times y y)))) (surd_times (surd_times w' u ++ surd_scale minus_one_fraction (surd_times w u')) (surd_times y y))
+    → Agree (surd_times w' y ++ surd_scale minus_one_fraction (surd_times w (surd_times u' (surd_times y y))))
+    (surd_times (surd_times w' u ++ surd_scale minus_one_fraction (surd_times w u')) (surd_times y y))
 quotient_slope w w' u u' y i =
     let yy = surd_times y y in
     let one : Agree (surd_times u y) surd_one = Same-Agree (Inverts-sym y u i) in

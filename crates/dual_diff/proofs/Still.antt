@@ -31,7 +31,8 @@ module _ (x : List ℕ) (f : Assignment) where
     pub still_sum : (ts : Trees) (p : Pair) → occurs_in x ts ≡ false → HasPairSum x ts f p → Agree p.slope []
     still_sum none p o e = Agree-eq (ap (λ (q : Pair). q.slope) e)
     still_sum (more t ts) p o (q, r, h, k, e) =
-        Agree-trans (Agree-eq (ap (λ (z : Pair). z.slope) e)) (zero_append (still t q (either_left (occurs x t) (occurs_in x ts) o) h) (still_sum ts r (either_right (occurs x t) (occurs_in x ts) o) k))
+        Agree-trans (Agree-eq (ap (λ (z : Pair). z.slope) e))
+        (zero_append (still t q (either_left (occurs x t) (occurs_in x ts) o) h) (still_sum ts r (either_right (occurs x t) (occurs_in x ts) o) k))
 
     pub still_product : (ts : Trees) (p : Pair) → occurs_in x ts ≡ false → HasPairProduct x ts f p → Agree p.slope []
     still_product none p o e = Agree-eq (ap (λ (q : Pair). q.slope) e)

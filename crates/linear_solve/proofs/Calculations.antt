@@ -77,13 +77,15 @@ each_pure g [] = refl
 each_pure g (x ∷ xs) = then_ok (each (λ x. Ok (g x)) xs) (λ ys. Ok (g x ∷ ys)) (map g xs) (each_pure g xs)
 
 -- what holds of each before, and of each after
-pub each_forward : {A B : Type 0} (f : A → Result B Misfit) (Q : A → Type 0) (R : B → Type 0) → ((x : A) (y : B) → Q x → f x ≡ Ok y → R y) → (xs : List A) (ys : List B) → each f xs ≡ Ok ys → All Q xs → All R ys
+pub each_forward : {A B : Type 0} (f : A → Result B Misfit) (Q : A → Type 0) (R : B → Type 0) → ((x : A) (y : B) → Q x → f x ≡ Ok y → R y) → (xs : List A) (ys : List B)
+    → each f xs ≡ Ok ys → All Q xs → All R ys
 each_forward f Q R h [] ys e q = All-same R ys [] (sym (ok_is _ _ e)) (All-nil R)
 each_forward f Q R h (x ∷ xs) ys e q =
     let (w, ws, p, p', n) = each_cons f x xs ys e in
     All-same R ys (w ∷ ws) n (All-cons R w ws (h x w (All-head Q x xs q) p) (each_forward f Q R h xs ws p' (All-tail Q x xs q)))
 
-pub each_back : {A B : Type 0} (f : A → Result B Misfit) (Q : A → Type 0) (R : B → Type 0) (S : A → Type 0) → ((x : A) (y : B) → S x → f x ≡ Ok y → R y → Q x) → (xs : List A) (ys : List B) → each f xs ≡ Ok ys → All S xs → All R ys → All Q xs
+pub each_back : {A B : Type 0} (f : A → Result B Misfit) (Q : A → Type 0) (R : B → Type 0) (S : A → Type 0) → ((x : A) (y : B) → S x → f x ≡ Ok y → R y → Q x)
+    → (xs : List A) (ys : List B) → each f xs ≡ Ok ys → All S xs → All R ys → All Q xs
 each_back f Q R S h [] ys e s r = All-nil Q
 each_back f Q R S h (x ∷ xs) ys e s r =
     let (w, ws, p, p', n) = each_cons f x xs ys e in

@@ -36,20 +36,24 @@ module _ {A B : Type 0} (f : A → Result B Misfit) (checks : A → ℕ) where
       omega (arith, h, all, some)
 
   -- the first of a list, so many, and the next one
-  pub each_checks_more : (xs : List A) (i : ℕ) (d : A) (ys : List B) → i < length xs → each f (take i xs) ≡ Ok ys → checks_of_each f checks (take (i + 1) xs) ≡ checks_of_each f checks (take i xs) + checks (get_or xs i d)
+  pub each_checks_more : (xs : List A) (i : ℕ) (d : A) (ys : List B) → i < length xs → each f (take i xs) ≡ Ok ys
+      → checks_of_each f checks (take (i + 1) xs) ≡ checks_of_each f checks (take i xs) + checks (get_or xs i d)
   each_checks_more xs i d ys l e =
       let h = behind_first (take i xs) ys (get_or xs i d ∷ []) e in
       let n = behind_none (f (get_or xs i d)) in
       ap (checks_of_each f checks) (take_more xs i d l) ∙ omega (arith, h, n)
 
-  split_at : (xs : List A) (i : ℕ) (d : A) (ys : List B) → i < length xs → each f (take i xs) ≡ Ok ys → checks_of_each f checks xs ≡ checks_of_each f checks (take i xs) + checks_of_each f checks (get_or xs i d ∷ drop (i + 1) xs)
+  split_at : (xs : List A) (i : ℕ) (d : A) (ys : List B) → i < length xs → each f (take i xs) ≡ Ok ys
+      → checks_of_each f checks xs ≡ checks_of_each f checks (take i xs) + checks_of_each f checks (get_or xs i d ∷ drop (i + 1) xs)
   split_at xs i d ys l e =
       ap (checks_of_each f checks) (sym (take-append-drop i xs) ∙ ap (λ zs. take i xs ++ zs) (drop_more xs i d l)) ∙ behind_first (take i xs) ys (get_or xs i d ∷ drop (i + 1) xs) e
 
-  pub each_checks_within : (xs : List A) (i : ℕ) (d : A) (ys : List B) → i < length xs → each f (take i xs) ≡ Ok ys → checks_of_each f checks (take i xs) + checks (get_or xs i d) ≤ checks_of_each f checks xs
+  pub each_checks_within : (xs : List A) (i : ℕ) (d : A) (ys : List B) → i < length xs → each f (take i xs) ≡ Ok ys
+      → checks_of_each f checks (take i xs) + checks (get_or xs i d) ≤ checks_of_each f checks xs
   each_checks_within xs i d ys l e = let h = split_at xs i d ys l e in omega (arith, h)
 
-  pub each_checks_stop : (xs : List A) (i : ℕ) (d : A) (ys : List B) (m : Misfit) → i < length xs → each f (take i xs) ≡ Ok ys → f (get_or xs i d) ≡ Err m → checks_of_each f checks xs ≡ checks_of_each f checks (take i xs) + checks (get_or xs i d)
+  pub each_checks_stop : (xs : List A) (i : ℕ) (d : A) (ys : List B) (m : Misfit) → i < length xs → each f (take i xs) ≡ Ok ys → f (get_or xs i d) ≡ Err m
+      → checks_of_each f checks xs ≡ checks_of_each f checks (take i xs) + checks (get_or xs i d)
   each_checks_stop xs i d ys m l e h =
       let s = split_at xs i d ys l e in
       let n = behind_err (f (get_or xs i d)) (λ y. checks_of_each f checks (drop (i + 1) xs)) m h in
@@ -89,7 +93,8 @@ two_children (Ok x) (Ok y) n k = omega arith
 two_children (Ok x) (Err m) n k = omega arith
 two_children (Err m) s n k = omega arith
 
-several : (xs : Names) (ts : Trees) → rows_checks xs ts + checks_behind (rows_of xs ts) (λ rs. 1) ≡ checks_of_each (row_of xs) (row_checks xs) (listed ts) + checks_behind (each (row_of xs) (listed ts)) (λ rs. 1)
+several : (xs : Names) (ts : Trees)
+    → rows_checks xs ts + checks_behind (rows_of xs ts) (λ rs. 1) ≡ checks_of_each (row_of xs) (row_checks xs) (listed ts) + checks_behind (each (row_of xs) (listed ts)) (λ rs. 1)
 several xs ts = λ i. checks_listed xs ts i + checks_behind (rows_listed xs ts i) (λ rs. 1)
 
 by_children : (xs : Names) (t : Tree) → row_checks xs t ≡ checks_of_each (row_of xs) (row_checks xs) (listed (children_of t)) + checks_behind (each (row_of xs) (listed (children_of t))) (λ rs. 1)
@@ -136,18 +141,22 @@ module _ {xs : Names} {k : Kind} {t : Tree} {at : ℕ} {row : Result Side Misfit
       omega (arith, c, one, by_children xs t)
 
 -- where its row is made, it has one for each node
-all_of_one : (xs : Names) (a : Tree) (f : Side → Result Side Misfit) (r : Side) → ((s : Side) → row_of xs a ≡ Ok s → row_checks xs a ≡ nodes a) → and_then (row_of xs a) f ≡ Ok r → row_checks xs a + checks_behind (row_of xs a) (λ r. 1) ≡ suc (nodes a)
+all_of_one : (xs : Names) (a : Tree) (f : Side → Result Side Misfit) (r : Side) → ((s : Side) → row_of xs a ≡ Ok s → row_checks xs a ≡ nodes a) → and_then (row_of xs a) f ≡ Ok r
+    → row_checks xs a + checks_behind (row_of xs a) (λ r. 1) ≡ suc (nodes a)
 all_of_one xs a f r h e =
     let (s, p, q) = both (row_of xs a) f r e in
     omega (arith, h s p, behind_ok (row_of xs a) (λ r. 1) s p)
 
-all_of_two : (xs : Names) (a b : Tree) (f : Side → Side → Result Side Misfit) (r : Side) → ((s : Side) → row_of xs a ≡ Ok s → row_checks xs a ≡ nodes a) → ((s : Side) → row_of xs b ≡ Ok s → row_checks xs b ≡ nodes b)
-    → and_then (row_of xs a) (λ s. and_then (row_of xs b) (f s)) ≡ Ok r → row_checks xs a + checks_behind (row_of xs a) (λ r. row_checks xs b + checks_behind (row_of xs b) (λ s. 1)) ≡ suc (nodes a + nodes b)
+all_of_two : (xs : Names) (a b : Tree) (f : Side → Side → Result Side Misfit) (r : Side) → ((s : Side) → row_of xs a ≡ Ok s → row_checks xs a ≡ nodes a)
+    → ((s : Side) → row_of xs b ≡ Ok s → row_checks xs b ≡ nodes b)
+    → and_then (row_of xs a) (λ s. and_then (row_of xs b) (f s)) ≡ Ok r → row_checks xs a + checks_behind (row_of xs a)
+    (λ r. row_checks xs b + checks_behind (row_of xs b) (λ s. 1)) ≡ suc (nodes a + nodes b)
 all_of_two xs a b f r h k e =
     let (s, p, q) = both (row_of xs a) (λ s. and_then (row_of xs b) (f s)) r e in
     omega (arith, h s p, all_of_one xs b (f s) r k q, behind_ok (row_of xs a) (λ r. row_checks xs b + checks_behind (row_of xs b) (λ s. 1)) s p)
 
-all_of_several : (xs : Names) (ts : Trees) (f : List Side → Result Side Misfit) (r : Side) → ((rs : List Side) → rows_of xs ts ≡ Ok rs → rows_checks xs ts ≡ nodes_of ts) → and_then (rows_of xs ts) f ≡ Ok r → rows_checks xs ts + checks_behind (rows_of xs ts) (λ rs. 1) ≡ suc (nodes_of ts)
+all_of_several : (xs : Names) (ts : Trees) (f : List Side → Result Side Misfit) (r : Side) → ((rs : List Side) → rows_of xs ts ≡ Ok rs → rows_checks xs ts ≡ nodes_of ts)
+    → and_then (rows_of xs ts) f ≡ Ok r → rows_checks xs ts + checks_behind (rows_of xs ts) (λ rs. 1) ≡ suc (nodes_of ts)
 all_of_several xs ts f r h e =
     let (s, p, q) = both (rows_of xs ts) f r e in
     omega (arith, h s p, behind_ok (rows_of xs ts) (λ rs. 1) s p)
@@ -186,11 +195,14 @@ mutual
   row_checks_most xs undef = omega arith
   row_checks_most xs (add ts) = one_most (rows_of xs ts) (rows_checks xs ts) (nodes_of ts) (rows_checks_most xs ts)
   row_checks_most xs (mult ts) = one_most (rows_of xs ts) (rows_checks xs ts) (nodes_of ts) (rows_checks_most xs ts)
-  row_checks_most xs (power a b) = omega (arith, two_most (row_of xs a) (row_checks xs a) _ (nodes a) _ (row_checks_most xs a) (one_most (row_of xs b) (row_checks xs b) (nodes b) (row_checks_most xs b)))
+  row_checks_most xs (power a b) = omega
+      (arith, two_most (row_of xs a) (row_checks xs a) _ (nodes a) _ (row_checks_most xs a) (one_most (row_of xs b) (row_checks xs b) (nodes b) (row_checks_most xs b)))
   row_checks_most xs (root a) = one_most (row_of xs a) (row_checks xs a) (nodes a) (row_checks_most xs a)
   row_checks_most xs (neg a) = one_most (row_of xs a) (row_checks xs a) (nodes a) (row_checks_most xs a)
-  row_checks_most xs (sub a b) = omega (arith, two_most (row_of xs a) (row_checks xs a) _ (nodes a) _ (row_checks_most xs a) (one_most (row_of xs b) (row_checks xs b) (nodes b) (row_checks_most xs b)))
-  row_checks_most xs (div a b) = omega (arith, two_most (row_of xs a) (row_checks xs a) _ (nodes a) _ (row_checks_most xs a) (one_most (row_of xs b) (row_checks xs b) (nodes b) (row_checks_most xs b)))
+  row_checks_most xs (sub a b) = omega
+      (arith, two_most (row_of xs a) (row_checks xs a) _ (nodes a) _ (row_checks_most xs a) (one_most (row_of xs b) (row_checks xs b) (nodes b) (row_checks_most xs b)))
+  row_checks_most xs (div a b) = omega
+      (arith, two_most (row_of xs a) (row_checks xs a) _ (nodes a) _ (row_checks_most xs a) (one_most (row_of xs b) (row_checks xs b) (nodes b) (row_checks_most xs b)))
 
   rows_checks_most : (xs : Names) (ts : Trees) → rows_checks xs ts ≤ nodes_of ts
   rows_checks_most xs none = omega arith
@@ -231,12 +243,14 @@ module _ (xs : Names) (es : List Equation) where
   abbrev pub first_checks : ℕ → ℕ
   first_checks i = checks_of_each (λ (p : ℕ × Equation). equation_row xs (length es) p.0 p.1) (λ (p : ℕ × Equation). side_checks xs p.1) (take i (enumerate_from 0 es))
 
-  module _ (i : ℕ) (e : Equation) (rows : List Row) (l : i < length es) (here : get_or es i no_equation ≡ e) (made : each (λ (p : ℕ × Equation). equation_row xs (length es) p.0 p.1) (take i (enumerate_from 0 es)) ≡ Ok rows) where
+  module _ (i : ℕ) (e : Equation) (rows : List Row) (l : i < length es) (here : get_or es i no_equation ≡ e)
+      (made : each (λ (p : ℕ × Equation). equation_row xs (length es) p.0 p.1) (take i (enumerate_from 0 es)) ≡ Ok rows) where
     inside : i < length (enumerate_from 0 es)
     inside = omega (arith, length-enumerate_from 0 es)
 
     pub next_side_checks : first_checks (i + 1) ≡ first_checks i + side_checks xs e
-    next_side_checks = each_checks_more row_at_place checks_at_place (enumerate_from 0 es) i (0, no_equation) rows inside made ∙ ap (λ p. first_checks i + checks_at_place p) (numbered xs es i e l here)
+    next_side_checks = each_checks_more row_at_place checks_at_place (enumerate_from 0 es) i (0, no_equation) rows inside made ∙ ap (λ p. first_checks i + checks_at_place p)
+        (numbered xs es i e l here)
 
     pub side_checks_within : first_checks i + side_checks xs e ≤ equation_checks xs es
     side_checks_within =
@@ -245,7 +259,8 @@ module _ (xs : Names) (es : List Equation) where
 
     pub side_checks_stop : (m : Misfit) → difference_of xs e ≡ Err m → first_checks i + side_checks xs e ≡ equation_checks xs es
     side_checks_stop m h =
-        let there : row_at_place (get_or (enumerate_from 0 es) i (0, no_equation)) ≡ Err m = ap row_at_place (numbered xs es i e l here) ∙ then_err (difference_of xs e) (λ d. Ok (d ++ unit (length es) i)) m h in
+        let there : row_at_place (get_or (enumerate_from 0 es) i (0, no_equation)) ≡ Err m = ap row_at_place (numbered xs es i e l here) ∙ then_err (difference_of xs e)
+        (λ d. Ok (d ++ unit (length es) i)) m h in
         let s = each_checks_stop row_at_place checks_at_place (enumerate_from 0 es) i (0, no_equation) rows m inside made there in
         omega (arith, s, ap checks_at_place (numbered xs es i e l here))
 
@@ -254,7 +269,8 @@ module _ (xs : Names) (es : List Equation) where
 
   pub equation_checks_all : (rows : List Row) → equation_rows xs es ≡ Ok rows → equation_checks xs es ≡ nodes_of_sides es
   equation_checks_all rows e =
-      each_checks_sum row_at_place checks_at_place (λ (p : ℕ × Equation). sides_of p.1) (λ p r h. let (d, q, _) = both (difference_of xs p.1) _ r h in side_checks_all xs p.1 d q) (enumerate_from 0 es) rows e ∙ sum_numbered sides_of 0 es
+      each_checks_sum row_at_place checks_at_place (λ (p : ℕ × Equation). sides_of p.1) (λ p r h. let (d, q, _) = both (difference_of xs p.1) _ r h in side_checks_all xs p.1 d q)
+      (enumerate_from 0 es) rows e ∙ sum_numbered sides_of 0 es
 
   equation_checks_most : equation_checks xs es ≤ nodes_of_sides es
   equation_checks_most =
@@ -307,7 +323,8 @@ pub rows_within : (xs : Names) (es : List Equation) → equation_checks xs es �
 unfolding solving_checks
 rows_within xs es = omega arith
 
-pub names_behind : (xs : Names) (es : List Equation) (n : ℕ) (rows : List Row) (s : Rows) → n ≡ length xs → equation_rows xs es ≡ Ok rows → s ≡ start rows → equation_checks xs es + name_checks n s ≡ solving_checks xs es
+pub names_behind : (xs : Names) (es : List Equation) (n : ℕ) (rows : List Row) (s : Rows) → n ≡ length xs → equation_rows xs es ≡ Ok rows → s ≡ start rows
+    → equation_checks xs es + name_checks n s ≡ solving_checks xs es
 unfolding solving_checks
 names_behind xs es n rows s h e k =
     (λ i. equation_checks xs es + name_checks (h i) (k i)) ∙ ap (λ n. equation_checks xs es + n) (sym (behind_ok (equation_rows xs es) (λ rows. name_checks (length xs) (start rows)) rows e))
@@ -318,5 +335,6 @@ unfolding solving_checks
 solving_checks_most xs es =
     omega (arith, equation_checks_most xs es, behind_most (equation_rows xs es) (λ rows. name_checks (length xs) (start rows)) (length xs) (λ rows. name_checks_most (length xs) (start rows)))
 
-pub trips_among_all : (xs : Names) (es : List Equation) {before after : List State} {by : ℕ} → TripsWithin (solving_checks xs es) before after by → TripsWithin (nodes_of_sides es + length xs) before after by
+pub trips_among_all : (xs : Names) (es : List Equation) {before after : List State} {by : ℕ} → TripsWithin (solving_checks xs es) before after by
+    → TripsWithin (nodes_of_sides es + length xs) before after by
 trips_among_all xs es h = record { passed = h.passed; few = omega (arith, h.few, solving_checks_most xs es); between = h.between; calm = h.calm; trips = h.trips }

@@ -23,10 +23,12 @@ abbrev pub rat_told : Result Rat Overflow → Result Fraction Misfit
 rat_told (Ok r) = Ok (value_of r)
 rat_told (Err o) = Err (misfit_of o)
 
-pub add_told : (a b : Rat) (r : Result Rat Overflow) → IfOk r (λ x. value_of x ≡ plus (value_of a) (value_of b)) → (IsErr r ↔ DoesNotFit op.Add (value_of a) (value_of b)) → IfErr r (λ e. e ≡ record { op = op.Add; a = a; b = b }) → rat_told r ≡ sum_of (value_of a) (value_of b)
+pub add_told : (a b : Rat) (r : Result Rat Overflow) → IfOk r (λ x. value_of x ≡ plus (value_of a) (value_of b)) → (IsErr r ↔ DoesNotFit op.Add (value_of a) (value_of b))
+    → IfErr r (λ e. e ≡ record { op = op.Add; a = a; b = b }) → rat_told r ≡ sum_of (value_of a) (value_of b)
 add_told a b r s h n = grind arith
 
-pub mul_told : (a b : Rat) (r : Result Rat Overflow) → IfOk r (λ x. value_of x ≡ times (value_of a) (value_of b)) → (IsErr r ↔ DoesNotFit op.Mul (value_of a) (value_of b)) → IfErr r (λ e. e ≡ record { op = op.Mul; a = a; b = b }) → rat_told r ≡ product_of (value_of a) (value_of b)
+pub mul_told : (a b : Rat) (r : Result Rat Overflow) → IfOk r (λ x. value_of x ≡ times (value_of a) (value_of b)) → (IsErr r ↔ DoesNotFit op.Mul (value_of a) (value_of b))
+    → IfErr r (λ e. e ≡ record { op = op.Mul; a = a; b = b }) → rat_told r ≡ product_of (value_of a) (value_of b)
 mul_told a b r s h n = grind arith
 
 -- ---- loops over one row
@@ -47,10 +49,12 @@ module _ {B : Type 0} (f : Fraction × Fraction → Result B Misfit) (a b : Row)
   inside : (i : ℕ) → i < length a → i < length b → i < length (zip a b)
   inside i l k = omega (arith, length-zip a b)
 
-  pub pair_more : (i : ℕ) (ys : List B) (x y : Fraction) (z : B) → i < length a → i < length b → x ≡ entry i a → y ≡ entry i b → each f (take i (zip a b)) ≡ Ok ys → f (x, y) ≡ Ok z → each f (take (i + 1) (zip a b)) ≡ Ok (ys ++ z ∷ [])
+  pub pair_more : (i : ℕ) (ys : List B) (x y : Fraction) (z : B) → i < length a → i < length b → x ≡ entry i a → y ≡ entry i b → each f (take i (zip a b)) ≡ Ok ys → f (x, y) ≡ Ok z
+      → each f (take (i + 1) (zip a b)) ≡ Ok (ys ++ z ∷ [])
   pair_more i ys x y z l k p q e h = each_more f (zip a b) i (zero_fraction, zero_fraction) ys z (inside i l k) e (at_pair i x y l k p q ∙ h)
 
-  pub pair_stops : (i : ℕ) (ys : List B) (x y : Fraction) (m : Misfit) → i < length a → i < length b → x ≡ entry i a → y ≡ entry i b → each f (take i (zip a b)) ≡ Ok ys → f (x, y) ≡ Err m → each f (zip a b) ≡ Err m
+  pub pair_stops : (i : ℕ) (ys : List B) (x y : Fraction) (m : Misfit) → i < length a → i < length b → x ≡ entry i a → y ≡ entry i b → each f (take i (zip a b)) ≡ Ok ys
+      → f (x, y) ≡ Err m → each f (zip a b) ≡ Err m
   pair_stops i ys x y m l k p q e h = each_stops f (zip a b) i (zero_fraction, zero_fraction) ys m (inside i l k) e (at_pair i x y l k p q ∙ h)
 
   pub pair_all : (i : ℕ) (ys : List B) → min (length a) (length b) ≤ i → each f (take i (zip a b)) ≡ Ok ys → each f (zip a b) ≡ Ok ys
@@ -63,7 +67,8 @@ pub nonzero_numerator : (r : Rat) → is_zero_fraction (value_of r) ≡ false �
 nonzero_numerator r h z = grind (arith, ratio_parts)
 
 -- a loop that makes an entry for each
-pub mapped_more : {X : Type 0} (f : X → Fraction) (xs : List X) (i : ℕ) (d : X) (new old : Row) (x : Fraction) → i < length xs → new ≡ old ++ x ∷ [] → old ≡ map f (take i xs) → x ≡ f (get_or xs i d) → new ≡ map f (take (i + 1) xs)
+pub mapped_more : {X : Type 0} (f : X → Fraction) (xs : List X) (i : ℕ) (d : X) (new old : Row) (x : Fraction) → i < length xs → new ≡ old ++ x ∷ [] → old ≡ map f (take i xs)
+    → x ≡ f (get_or xs i d) → new ≡ map f (take (i + 1) xs)
 mapped_more f xs i d new old x l e p q = e ∙ (λ j. p j ++ q j ∷ []) ∙ sym (map_more f xs i d l)
 
 pub mapped_all : {X : Type 0} (f : X → Fraction) (xs : List X) (i : ℕ) (r : Row) → length xs ≤ i → r ≡ map f (take i xs) → r ≡ map f xs

@@ -27,7 +27,8 @@ plain_asked k h none b = ap Some (sym (nothing b))
 plain_asked k h (more t ts) b = by (is_linear t) (plain_asked k h ts (b || has_name t))
   where
     by : (l : Bool) → asked k (b || has_name t) (listed ts) ≡ answer (are_linear ts) ((b || has_name t) || have_name ts)
-        → option_and_then (λ c. option_and_then (λ d. asked k d (listed ts)) (joined_name k b c)) (if l then Some (has_name t) else None) ≡ answer (l && are_linear ts) (b || (has_name t || have_name ts))
+        → option_and_then (λ c. option_and_then (λ d. asked k d (listed ts)) (joined_name k b c)) (if l then Some (has_name t) else None) ≡ answer (l && are_linear ts)
+        (b || (has_name t || have_name ts))
     by false e = refl
     by true e = ap (option_and_then (λ d. asked k d (listed ts))) (h b (has_name t)) ∙ e ∙ ap (answer (are_linear ts)) (or_assoc b (has_name t) (have_name ts))
 
@@ -40,8 +41,10 @@ product_asked (more t ts) b = by (is_linear t) b (has_name t) (product_asked ts 
     many : (ts : Trees) → nat_le (1 + (1 + count_named ts)) 1 ≡ false
     many ts = lt-leb _ 1 (omega arith)
 
-    by : (l b c : Bool) → asked kind.Mult (b || c) (listed ts) ≡ answer (are_linear ts && nat_le ((if (b || c) then 1 else 0) + count_named ts) 1) ((b || c) || have_name ts) → nat_le (1 + (1 + count_named ts)) 1 ≡ false
-        → option_and_then (λ c. option_and_then (λ d. asked kind.Mult d (listed ts)) (joined_name kind.Mult b c)) (if l then Some c else None) ≡ answer ((l && are_linear ts) && nat_le ((if b then 1 else 0) + ((if c then 1 else 0) + count_named ts)) 1) (b || (c || have_name ts))
+    by : (l b c : Bool) → asked kind.Mult (b || c) (listed ts) ≡ answer (are_linear ts && nat_le ((if (b || c) then 1 else 0) + count_named ts) 1) ((b || c) || have_name ts)
+        → nat_le (1 + (1 + count_named ts)) 1 ≡ false
+        → option_and_then (λ c. option_and_then (λ d. asked kind.Mult d (listed ts)) (joined_name kind.Mult b c)) (if l then Some c else None) ≡ answer
+        ((l && are_linear ts) && nat_le ((if b then 1 else 0) + ((if c then 1 else 0) + count_named ts)) 1) (b || (c || have_name ts))
     by false b c e m = refl
     by true true true e m = sym (ap (λ x. answer (are_linear ts && x) true) m ∙ ap (λ x. answer x true) (and_false (are_linear ts)))
       where
@@ -85,7 +88,8 @@ asked_all t b e = grind (arith, some_false, plain_asked, product_asked, and_true
 
 -- ---- a loop over the children
 
-pub asked_next : (k : Kind) (b c d : Bool) (ts : Trees) (i : ℕ) → i < count ts → name_where_linear (nth i ts) ≡ Some c → joined_name k b c ≡ Some d → asked k b (drop i (listed ts)) ≡ asked k d (drop (i + 1) (listed ts))
+pub asked_next : (k : Kind) (b c d : Bool) (ts : Trees) (i : ℕ) → i < count ts → name_where_linear (nth i ts) ≡ Some c → joined_name k b c ≡ Some d
+    → asked k b (drop i (listed ts)) ≡ asked k d (drop (i + 1) (listed ts))
 asked_next k b c d ts i l e h =
     ap (asked k b) (drop_more (listed ts) i undef (omega (arith, length-listed ts)))
     ∙ ap (option_and_then (λ c. option_and_then (λ d. asked k d (drop (i + 1) (listed ts))) (joined_name k b c))) (ap name_where_linear (get_or-listed ts i) ∙ e)

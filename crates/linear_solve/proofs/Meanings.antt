@@ -44,7 +44,8 @@ add_means f (more t ts) [] h = absurd h
 
 mult_means : (f : Assignment) (ts : Trees) (ws : List Fraction) → AreWorth f ts ws → Means (mult ts) f (surd_of (product ws))
 mult_means f none [] h = product_none f (surd_of one_fraction) (Same-refl surd_one)
-mult_means f (more t ts) (w ∷ ws) h = product_more f t ts (surd_of (times w (product ws))) (surd_of w) (surd_of (product ws)) h.0 (mult_means f ts ws h.1) (Same-eq (sym (surd_times-terms w (product ws) 1 1)))
+mult_means f (more t ts) (w ∷ ws) h = product_more f t ts (surd_of (times w (product ws))) (surd_of w) (surd_of (product ws)) h.0 (mult_means f ts ws h.1)
+    (Same-eq (sym (surd_times-terms w (product ws) 1 1)))
 mult_means f none (w ∷ ws) h = absurd h
 mult_means f (more t ts) [] h = absurd h
 
@@ -191,7 +192,8 @@ module _ (f : Assignment) (once : IsAssignment f) (xs : List (List ℕ)) (vs : L
     means = add_means f ts h.values h.mean;
   }
     where
-      by : (ws : List Fraction) (bs : List Bool) (rs : List Side) → AreRows (length xs) (vs ++ one_fraction ∷ []) ws bs rs → joined_from sum_row (constant_row xs zero_fraction) rs ≡ Ok t → IsRow (length xs) (vs ++ one_fraction ∷ []) (total ws) (any bs) t
+      by : (ws : List Fraction) (bs : List Bool) (rs : List Side) → AreRows (length xs) (vs ++ one_fraction ∷ []) ws bs rs
+          → joined_from sum_row (constant_row xs zero_fraction) rs ≡ Ok t → IsRow (length xs) (vs ++ one_fraction ∷ []) (total ws) (any bs) t
       by [] [] [] k e = subst (IsRow (length xs) (vs ++ one_fraction ∷ []) zero_fraction false) (ok_is _ _ e) (constant_is zero_fraction)
       by (w ∷ ws) (b ∷ bs) (r ∷ rs) k e = sums_are w b r ws bs rs t k.0 k.1 e
       by [] [] (r ∷ rs) k e = absurd k
@@ -199,14 +201,16 @@ module _ (f : Assignment) (once : IsAssignment f) (xs : List (List ℕ)) (vs : L
       by (w ∷ ws) [] rs k e = absurd k
       by (w ∷ ws) (b ∷ bs) [] k e = absurd k
 
-  product_of_rows : (ts : Trees) (rs : List Side) (t : Side) → count_named ts ≤ 1 → AreRowsOf ts rs → joined_from (product_row (length xs)) (constant_row xs one_fraction) rs ≡ Ok t → IsRowOf (mult ts) t
+  product_of_rows : (ts : Trees) (rs : List Side) (t : Side) → count_named ts ≤ 1 → AreRowsOf ts rs → joined_from (product_row (length xs)) (constant_row xs one_fraction) rs ≡ Ok t
+      → IsRowOf (mult ts) t
   product_of_rows ts rs t l h e = record {
     value = product h.values;
     row = subst (λ b. IsRow (length xs) (vs ++ one_fraction ∷ []) (product h.values) b t) h.flagged (by h.values h.flags rs (h.named false (omega arith)) h.rows e);
     means = mult_means f ts h.values h.mean;
   }
     where
-      by : (ws : List Fraction) (bs : List Bool) (rs : List Side) → AtMostOne false bs → AreRows (length xs) (vs ++ one_fraction ∷ []) ws bs rs → joined_from (product_row (length xs)) (constant_row xs one_fraction) rs ≡ Ok t → IsRow (length xs) (vs ++ one_fraction ∷ []) (product ws) (any bs) t
+      by : (ws : List Fraction) (bs : List Bool) (rs : List Side) → AtMostOne false bs → AreRows (length xs) (vs ++ one_fraction ∷ []) ws bs rs
+          → joined_from (product_row (length xs)) (constant_row xs one_fraction) rs ≡ Ok t → IsRow (length xs) (vs ++ one_fraction ∷ []) (product ws) (any bs) t
       by [] [] [] a k e = subst (IsRow (length xs) (vs ++ one_fraction ∷ []) one_fraction false) (ok_is _ _ e) (constant_is one_fraction)
       by (w ∷ ws) (b ∷ bs) (r ∷ rs) a k e = products_are w b r ws bs rs t a.1 k.0 k.1 e
       by [] [] (r ∷ rs) a k e = absurd k
@@ -220,7 +224,8 @@ module _ (f : Assignment) (once : IsAssignment f) (xs : List (List ℕ)) (vs : L
   nonzero_worth a v h m = cc
 
   opposite_worth : (a : Tree) (v : Fraction) → is_nonzero a ≡ true → Means (neg a) f (surd_of v) → v ≢ zero_fraction
-  opposite_worth (num q) v h m = λ e. no_zero q h (sym (negative_twice q) ∙ ap negative (sym (one_rational_meaning f once (neg (num q)) v (negative q) m (neg_means f (num q) q (Same-refl (surd_of q)))) ∙ e) ∙ negative_zero)
+  opposite_worth (num q) v h m = λ e. no_zero q h
+      (sym (negative_twice q) ∙ ap negative (sym (one_rational_meaning f once (neg (num q)) v (negative q) m (neg_means f (num q) q (Same-refl (surd_of q)))) ∙ e) ∙ negative_zero)
   opposite_worth a v h m = cc
 
   divisor_worth : (c : Tree) (v : Fraction) → is_divisor c ≡ true → Means c f (surd_of v) → v ≢ zero_fraction
@@ -263,7 +268,8 @@ module _ (f : Assignment) (once : IsAssignment f) (xs : List (List ℕ)) (vs : L
         let (w, k, e4) = both (difference_row s t) (λ t. Ok t) u o in
         let h = row_means a la (among_left (names a) (names b) n) s p in
         let g = row_means b lb (among_right (names a) (names b) n) t q in
-        subst (IsRowOf (sub a b)) (ok_is _ _ e4 ∙ ok_is _ _ e3) (record { value = plus h.value (negative g.value); row = difference_is w h.row g.row k; means = sub_means f a b h.value g.value h.means g.means })
+        subst (IsRowOf (sub a b)) (ok_is _ _ e4 ∙ ok_is _ _ e3)
+        (record { value = plus h.value (negative g.value); row = difference_is w h.row g.row k; means = sub_means f a b h.value g.value h.means g.means })
     row_means (div a c) l n r e =
         let (la, lc) = and_parts (is_linear a) (is_divisor c) l in
         let u = divisor_unnamed c lc in

@@ -26,14 +26,16 @@ rows_solve xs es n rows h e = then_ok (equation_rows xs es) (λ rows. rows_solve
 
 -- ---- what is answered
 
-pub if_solved : {C : Result Answer Misfit} {P : List Form → Type 0} (r : Result Solution SolveFault) → IfOk r (λ s. C ≡ Ok (answer_told s)) → ((forms : List Form) → C ≡ Ok (solved forms) → P forms) → IfSolved r P
+pub if_solved : {C : Result Answer Misfit} {P : List Form → Type 0} (r : Result Solution SolveFault) → IfOk r (λ s. C ≡ Ok (answer_told s))
+    → ((forms : List Form) → C ≡ Ok (solved forms) → P forms) → IfSolved r P
 if_solved r e h = grind arith
 
 pub if_never : {C : Result Answer Misfit} {P : Row → Type 0} (r : Result Solution SolveFault) → IfOk r (λ s. C ≡ Ok (answer_told s)) → ((cs : Row) → C ≡ Ok (never cs) → P cs) → IfNever r P
 if_never r e h = grind arith
 
 -- whether a breaker tripped shows in the trips
-pub trips_tell : (r : Result Solution SolveFault) (n most : ℕ) (old new : List State) → OnOk r (CalmChecks n old new) → IfErr r (StopsAfter most old new) → (place : ℕ) → (r ≡ Err (fault.Interrupted (record { by = place }))) ↔ TripsRose old new place
+pub trips_tell : (r : Result Solution SolveFault) (n most : ℕ) (old new : List State) → OnOk r (CalmChecks n old new) → IfErr r (StopsAfter most old new) → (place : ℕ)
+    → (r ≡ Err (fault.Interrupted (record { by = place }))) ↔ TripsRose old new place
 trips_tell r n most old new c h place = grind (arith, calm_checks_raise_no_trips, only_the_tripped_rose)
 
 pub on_ok_as : {A : Type 0} {E : Type 0} {P Q : Type 0} (r : Result A E) → (P → Q) → OnOk r P → OnOk r Q

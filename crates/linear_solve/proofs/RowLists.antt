@@ -18,7 +18,8 @@ position-map p f xs =
 pub unit_entry : (n k i : ℕ) → i < n → entry i (unit n k) ≡ (if i == k then one_fraction else zero_fraction)
 unit_entry zero k i l = absurd (omega arith)
 unit_entry (suc n) zero zero l = refl
-unit_entry (suc n) zero (suc i) l = get_or-replicate n i zero_fraction zero_fraction (omega arith) ∙ sym (ap (λ b. if b then one_fraction else zero_fraction) (ne_eqb (suc i) 0 (λ e. absurd (omega arith))))
+unit_entry (suc n) zero (suc i) l = get_or-replicate n i zero_fraction zero_fraction (omega arith) ∙ sym
+    (ap (λ b. if b then one_fraction else zero_fraction) (ne_eqb (suc i) 0 (λ e. absurd (omega arith))))
 unit_entry (suc n) (suc k) zero l = sym (ap (λ b. if b then one_fraction else zero_fraction) (ne_eqb 0 (suc k) (λ e. absurd (omega arith))))
 unit_entry (suc n) (suc k) (suc i) l = unit_entry n k i (omega arith) ∙ ap (λ b. if b then one_fraction else zero_fraction) (shifted i k)
   where
@@ -42,7 +43,8 @@ others_same at i rs d l ne =
     get_or-drop 1 (swap rs 0 at) i d ∙ s.2 (1 + i) (λ e. absurd (omega arith)) (λ e. ne (sym there ∙ e)) ∙ ap (λ j. get_or rs j d) there
 
 -- the row that is read for a place among the others
-pub other_row : {limit : ℕ} (at place other : ℕ) (rows : List (RowOfCode limit)) (r : RowOfCode limit) (d : Row) → 1 ≤ place → place < length rows → at < length rows → other ≡ (if place == at then 0 else place) → r ≡ get_or rows other r → get_or (others at (map entries_of rows)) (place - 1) d ≡ entries_of r
+pub other_row : {limit : ℕ} (at place other : ℕ) (rows : List (RowOfCode limit)) (r : RowOfCode limit) (d : Row) → 1 ≤ place → place < length rows → at < length rows
+    → other ≡ (if place == at then 0 else place) → r ≡ get_or rows other r → get_or (others at (map entries_of rows)) (place - 1) d ≡ entries_of r
 other_row at place other rows r d one l k o e =
     let i : ℕ = place - 1 in
     let back : (place - 1) + 1 ≡ place = omega arith in
@@ -50,10 +52,12 @@ other_row at place other rows r d one l k o e =
     elim (cases_eq place at) [
       | inl same ↦
           let z : other ≡ 0 = o ∙ ap (λ b. if b then 0 else place) (eq-eqb place at same) in
-          others_first at (place - 1) (map entries_of rows) d inside (back ∙ same) ∙ get_or-map entries_of rows 0 r d (omega arith) ∙ ap (λ j. entries_of (get_or rows j r)) (sym z) ∙ ap entries_of (sym e)
+          others_first at (place - 1) (map entries_of rows) d inside (back ∙ same) ∙ get_or-map entries_of rows 0 r d (omega arith) ∙ ap (λ j. entries_of (get_or rows j r)) (sym z)
+          ∙ ap entries_of (sym e)
       | inr apart ↦
           let z : other ≡ place = o ∙ ap (λ b. if b then 0 else place) (ne_eqb place at apart) in
-          others_same at (place - 1) (map entries_of rows) d inside (λ q. apart (sym back ∙ q)) ∙ ap (λ j. get_or (map entries_of rows) j d) back ∙ get_or-map entries_of rows place r d l ∙ ap (λ j. entries_of (get_or rows j r)) (sym z) ∙ ap entries_of (sym e)
+          others_same at (place - 1) (map entries_of rows) d inside (λ q. apart (sym back ∙ q)) ∙ ap (λ j. get_or (map entries_of rows) j d) back
+          ∙ get_or-map entries_of rows place r d l ∙ ap (λ j. entries_of (get_or rows j r)) (sym z) ∙ ap entries_of (sym e)
     ]
 
 -- what is read at a place

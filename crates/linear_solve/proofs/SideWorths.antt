@@ -131,7 +131,8 @@ row_as : {n : ℕ} {vs : List Fraction} {v w : Fraction} {b c : Bool} {r : Side}
 row_as {n} {vs} {v} {w} {b} {c} {r} p q h = subst (λ x. IsRow n vs x c r) p (subst (λ x. IsRow n vs v x r) q h)
 
 module _ {n : ℕ} {vs : List Fraction} where
-  pub sums_are : (v : Fraction) (b : Bool) (r : Side) (ws : List Fraction) (bs : List Bool) (rs : List Side) (t : Side) → IsRow n vs v b r → AreRows n vs ws bs rs → joined_rows sum_row r rs ≡ Ok t → IsRow n vs (plus v (total ws)) (b || any bs) t
+  pub sums_are : (v : Fraction) (b : Bool) (r : Side) (ws : List Fraction) (bs : List Bool) (rs : List Side) (t : Side) → IsRow n vs v b r → AreRows n vs ws bs rs
+      → joined_rows sum_row r rs ≡ Ok t → IsRow n vs (plus v (total ws)) (b || any bs) t
   sums_are v b r [] [] [] t h k e = row_as (sym (plus_zero v)) (sym (or_false b)) (subst (IsRow n vs v b) (ok_is _ _ e) h)
   sums_are v b r (w ∷ ws) (c ∷ cs) (s ∷ rs) t h k e =
       let (u, p, q) = both (sum_row r s) (λ t. joined_rows sum_row t rs) t e in
@@ -141,7 +142,8 @@ module _ {n : ℕ} {vs : List Fraction} where
   sums_are v b r (w ∷ ws) [] rs t h k e = absurd k
   sums_are v b r (w ∷ ws) (c ∷ cs) [] t h k e = absurd k
 
-  pub products_are : (v : Fraction) (b : Bool) (r : Side) (ws : List Fraction) (bs : List Bool) (rs : List Side) (t : Side) → AtMostOne b bs → IsRow n vs v b r → AreRows n vs ws bs rs → joined_rows (product_row n) r rs ≡ Ok t → IsRow n vs (times v (product ws)) (b || any bs) t
+  pub products_are : (v : Fraction) (b : Bool) (r : Side) (ws : List Fraction) (bs : List Bool) (rs : List Side) (t : Side) → AtMostOne b bs → IsRow n vs v b r
+      → AreRows n vs ws bs rs → joined_rows (product_row n) r rs ≡ Ok t → IsRow n vs (times v (product ws)) (b || any bs) t
   products_are v b r [] [] [] t a h k e = row_as (sym (times_one v)) (sym (or_false b)) (subst (IsRow n vs v b) (ok_is _ _ e) h)
   products_are v b r (w ∷ ws) (c ∷ cs) (s ∷ rs) t a h k e =
       let (u, p, q) = both (product_row n r s) (λ t. joined_rows (product_row n) t rs) t e in

@@ -112,7 +112,8 @@ cleared_from n width q r t p l e =
     }
 
 -- the pivots after it
-cleared_back : (n : ℕ) (q : Row) (ps ts : List (Option Row)) (c : ℕ) (t : Row) → each (cleared_pivot n q) ps ≡ Ok ts → pivot_at c ts ≡ Some t → (r : Row) × (pivot_at c ps ≡ Some r) × (cleared n q r ≡ Ok t)
+cleared_back : (n : ℕ) (q : Row) (ps ts : List (Option Row)) (c : ℕ) (t : Row) → each (cleared_pivot n q) ps ≡ Ok ts → pivot_at c ts ≡ Some t
+    → (r : Row) × (pivot_at c ps ≡ Some r) × (cleared n q r ≡ Ok t)
 cleared_back n q ps ts c t e h =
     let l : c < length ps = omega (arith, some_within c ts t h, each_long (cleared_pivot n q) ps ts e) in
     by (pivot_at c ps) (each_at (cleared_pivot n q) ps ts c None None e l ∙ ap Ok h)
@@ -124,7 +125,8 @@ cleared_back n q ps ts c t e h =
         same : (s : Row) → ◌≡◌ {A = Result (Option Row) Misfit} (Ok (Some s)) (Ok (Some t)) → s ≡ t
         same s g = cc
 
-cleared_on : (n : ℕ) (q : Row) (ps ts : List (Option Row)) (c : ℕ) (r : Row) → each (cleared_pivot n q) ps ≡ Ok ts → pivot_at c ps ≡ Some r → (t : Row) × (pivot_at c ts ≡ Some t) × (cleared n q r ≡ Ok t)
+cleared_on : (n : ℕ) (q : Row) (ps ts : List (Option Row)) (c : ℕ) (r : Row) → each (cleared_pivot n q) ps ≡ Ok ts → pivot_at c ps ≡ Some r
+    → (t : Row) × (pivot_at c ts ≡ Some t) × (cleared n q r ≡ Ok t)
 cleared_on n q ps ts c r e h =
     by (pivot_at c ts) (sym (ap (cleared_pivot n q) h) ∙ each_at (cleared_pivot n q) ps ts c None None e (some_within c ps r h))
   where
@@ -185,7 +187,8 @@ module _ (n width at : ℕ) (s : Rows) (q : Row) (ps : List (Option Row)) (rs : 
   new_pivot = record {
     wide = pivot_multiple.long ∙ All-get_or (λ r. length r ≡ width) s.left at [] o.within h.left_wide;
     one = multiple_entry _ (row_at at s.left) q n pivot_multiple ∙ inverse_times_itself _ o.has;
-    before = λ j l. multiple_entry _ (row_at at s.left) q j pivot_multiple ∙ ap (times (inverse (entry n (row_at at s.left)))) (All-get_or (λ r. entry j r ≡ zero_fraction) s.left at [] o.within (h.left_clear j l)) ∙ times_zero _;
+    before = λ j l. multiple_entry _ (row_at at s.left) q j pivot_multiple ∙ ap (times (inverse (entry n (row_at at s.left))))
+        (All-get_or (λ r. entry j r ≡ zero_fraction) s.left at [] o.within (h.left_clear j l)) ∙ times_zero _;
   }
 
   others_wide : All (λ r. length r ≡ width) (others at s.left)
@@ -255,7 +258,8 @@ module _ (n width at : ℕ) (s : Rows) (q : Row) (ps : List (Option Row)) (rs : 
 
       on : (vs : List Fraction) → AreZero vs s → AreZero vs (record { pivots = ps ++ Some q ∷ []; left = rs })
       on vs z =
-          let p0 : worth q vs ≡ zero_fraction = pivot_multiple.value vs ∙ ap (times (inverse (entry n (row_at at s.left)))) (All-get_or (λ r. worth r vs ≡ zero_fraction) s.left at [] o.within z.left) ∙ times_zero _ in
+          let p0 : worth q vs ≡ zero_fraction = pivot_multiple.value vs ∙ ap (times (inverse (entry n (row_at at s.left))))
+          (All-get_or (λ r. worth r vs ≡ zero_fraction) s.left at [] o.within z.left) ∙ times_zero _ in
           record {
             left = each_forward (cleared n q) (λ r. (length r ≡ width) × (worth r vs ≡ zero_fraction)) (λ r. worth r vs ≡ zero_fraction)
                 (λ r t w e. (cleared_from n width q r t new_pivot w.0 e).value vs p0 ∙ w.1) (others at s.left) rs down

@@ -14,7 +14,8 @@ use Rattle.linear_solve.proofs.Worths.{added_is, drop-nil, length-unit, negated_
 put_back : (w k v : Fraction) → plus w k ≡ zero_fraction → plus (negative k) (plus v (negative w)) ≡ v
 put_back w k v z =
     let m : negative k ≡ w = sym (opposite_is k w (plus_comm k w ∙ z)) in
-    ap (λ x. plus x (plus v (negative w))) m ∙ sym (plus_assoc w v (negative w)) ∙ ap (λ x. plus x (negative w)) (plus_comm w v) ∙ plus_assoc v w (negative w) ∙ ap (plus v) (plus_negative w) ∙ plus_zero v
+    ap (λ x. plus x (plus v (negative w))) m ∙ sym (plus_assoc w v (negative w)) ∙ ap (λ x. plus x (negative w)) (plus_comm w v) ∙ plus_assoc v w (negative w) ∙ ap (plus v)
+    (plus_negative w) ∙ plus_zero v
 
 unchanged : (v x : Fraction) → plus v x ≡ v → x ≡ zero_fraction
 unchanged v x e = sym (zero_plus x) ∙ ap (λ y. plus y x) (sym (negative_plus_self v)) ∙ plus_assoc (negative v) v x ∙ ap (plus (negative v)) e ∙ negative_plus_self v
@@ -23,7 +24,8 @@ unchanged v x e = sym (zero_plus x) ∙ ap (λ y. plus y x) (sym (negative_plus_
 taken_out : (w k v : Fraction) → v ≡ plus (negative k) (plus v (negative w)) → plus w k ≡ zero_fraction
 taken_out w k v e =
     let x : Fraction = plus (negative k) (negative w) in
-    let y : plus v (plus (negative k) (negative w)) ≡ v = sym (plus_assoc v (negative k) (negative w)) ∙ ap (λ z. plus z (negative w)) (plus_comm v (negative k)) ∙ plus_assoc (negative k) v (negative w) ∙ sym e in
+    let y : plus v (plus (negative k) (negative w)) ≡ v = sym (plus_assoc v (negative k) (negative w)) ∙ ap (λ z. plus z (negative w)) (plus_comm v (negative k)) ∙ plus_assoc
+    (negative k) v (negative w) ∙ sym e in
     let z : plus (negative k) (negative w) ≡ zero_fraction = unchanged v (plus (negative k) (negative w)) y in
     let m : w ≡ negative k = sym (negative_twice w) ∙ ap negative (opposite_is (negative k) (negative w) z ∙ negative_twice k) in
     ap (λ y. plus y k) m ∙ negative_plus_self k
@@ -57,10 +59,12 @@ rest_worth (suc a) (e ∷ r) v vs =
 behind_worth : (r : Row) (c a n : ℕ) (vs : List Fraction) → c < a → worth (map (multiple_of r c) (range_with_len a (length vs))) vs ≡ negative (worth (drop a r) vs)
 behind_worth r c a n [] l = sym (ap negative (worth-nil (drop a r)) ∙ negative_zero)
 behind_worth r c a n (v ∷ vs) l =
-    plus_both (ap (λ b. times (if b then zero_fraction else negative (entry a r)) v) (ne_eqb a c (λ q. absurd (omega arith))) ∙ negative_times (entry a r) v) (behind_worth r c (a + 1) n vs (omega arith))
+    plus_both (ap (λ b. times (if b then zero_fraction else negative (entry a r)) v) (ne_eqb a c (λ q. absurd (omega arith))) ∙ negative_times (entry a r) v)
+    (behind_worth r c (a + 1) n vs (omega arith))
     ∙ sym (negative_plus (times (entry a r) v) (worth (drop (a + 1) r) vs)) ∙ ap negative (sym (rest_worth a r v vs))
 
-from_worth : (r : Row) (c a i : ℕ) (vs : List Fraction) → entry c r ≡ one_fraction → a + i ≡ c → i < length vs → worth (map (multiple_of r c) (range_with_len a (length vs))) vs ≡ plus (get_or vs i zero_fraction) (negative (worth (drop a r) vs))
+from_worth : (r : Row) (c a i : ℕ) (vs : List Fraction) → entry c r ≡ one_fraction → a + i ≡ c → i < length vs
+    → worth (map (multiple_of r c) (range_with_len a (length vs))) vs ≡ plus (get_or vs i zero_fraction) (negative (worth (drop a r) vs))
 from_worth r c a i [] one e l = absurd (omega arith)
 from_worth r c a zero (v ∷ vs) one e l =
     let here : a ≡ c = omega arith in
@@ -73,11 +77,13 @@ from_worth r c a (suc i) (v ∷ vs) one e l =
     let w : Fraction = worth (drop (a + 1) r) vs in
     let g : Fraction = get_or vs i zero_fraction in
     let x : Fraction = negative (times (entry a r) v) in
-    plus_both (ap (λ b. times (if b then zero_fraction else negative (entry a r)) v) (ne_eqb a c (λ q. absurd (omega arith))) ∙ negative_times (entry a r) v) (from_worth r c (a + 1) i vs one (omega arith) (omega arith))
+    plus_both (ap (λ b. times (if b then zero_fraction else negative (entry a r)) v) (ne_eqb a c (λ q. absurd (omega arith))) ∙ negative_times (entry a r) v)
+    (from_worth r c (a + 1) i vs one (omega arith) (omega arith))
     ∙ sym (plus_assoc x g (negative w)) ∙ ap (λ y. plus y (negative w)) (plus_comm x g) ∙ plus_assoc g x (negative w)
     ∙ ap (plus g) (sym (negative_plus (times (entry a r) v) w) ∙ ap negative (sym (rest_worth a r v vs)))
 
-multiples_worth : (r : Row) (c : ℕ) (vs : List Fraction) (n : ℕ) → entry c r ≡ one_fraction → c < n → length vs ≡ n → worth (map (multiple_of r c) (range_with_len 0 n)) vs ≡ plus (get_or vs c zero_fraction) (negative (worth r vs))
+multiples_worth : (r : Row) (c : ℕ) (vs : List Fraction) (n : ℕ) → entry c r ≡ one_fraction → c < n → length vs ≡ n
+    → worth (map (multiple_of r c) (range_with_len 0 n)) vs ≡ plus (get_or vs c zero_fraction) (negative (worth r vs))
 multiples_worth r c vs n one l e = ap (λ m. worth (map (multiple_of r c) (range_with_len 0 m)) vs) (sym e) ∙ from_worth r c 0 c vs one (zero-add c) (omega arith)
 
 -- ---- an assignment for the names
@@ -132,7 +138,8 @@ module _ (f : Assignment) (once : IsAssignment f) (xs : List (List ℕ)) (vs : L
   values_long : length vs ≡ length xs
   values_long = long_values f xs vs gives
 
-  difference_is : (e : Equation) (l r : Side) (d : Row) → IsLinearIn xs e → row_of xs e.left ≡ Ok l → row_of xs e.right ≡ Ok r → added l.entries (negated r.entries) ≡ Ok d → IsDifference f (length xs) vs e d
+  difference_is : (e : Equation) (l r : Side) (d : Row) → IsLinearIn xs e → row_of xs e.left ≡ Ok l → row_of xs e.right ≡ Ok r → added l.entries (negated r.entries) ≡ Ok d
+      → IsDifference f (length xs) vs e d
   difference_is e l r d h p q m =
       let a = row_means f once xs vs distinct gives e.left h.left h.left_names l p in
       let b = row_means f once xs vs distinct gives e.right h.right h.right_names r q in
@@ -214,7 +221,8 @@ module _ (f : Assignment) (once : IsAssignment f) (xs : List (List ℕ)) (vs : L
             ap length h.is ∙ length-append h.difference (unit (length es) k) ∙ (λ i. h.says.long i + length-unit (length es) k i)
 
     -- rows at a point
-    start_zero : (us : List Fraction) → ((k : ℕ) (d : Row) → k < length es → worth (get_or rows k d) (vs ++ one_fraction ∷ us) ≡ zero_fraction) → AreZero (vs ++ one_fraction ∷ us) (record { pivots = []; left = rows })
+    start_zero : (us : List Fraction) → ((k : ℕ) (d : Row) → k < length es → worth (get_or rows k d) (vs ++ one_fraction ∷ us) ≡ zero_fraction)
+        → AreZero (vs ++ one_fraction ∷ us) (record { pivots = []; left = rows })
     start_zero us h = record { left = λ k d l. h k d (omega (arith, rows_long)); pivots = λ c r e. absurd (none_yet c r e) }
 
     -- the equations are solved exactly where the rows are worth 0
@@ -239,7 +247,8 @@ module _ (f : Assignment) (once : IsAssignment f) (xs : List (List ℕ)) (vs : L
         -- the row has no name
         last_worth : (us : List Fraction) → worth (row_at at s.left) (vs ++ one_fraction ∷ us) ≡ plus (entry (length xs) (row_at at s.left)) (worth (drop (length xs + 1) (row_at at s.left)) us)
         last_worth us =
-            let clear : (j : ℕ) → j < length vs → entry j (row_at at s.left) ≡ zero_fraction = λ j l. All-get_or (λ r. entry j r ≡ zero_fraction) s.left at [] o.within (step.settled.left_clear j (omega (arith, values_long))) in
+            let clear : (j : ℕ) → j < length vs → entry j (row_at at s.left) ≡ zero_fraction = λ j l. All-get_or (λ r. entry j r ≡ zero_fraction) s.left at [] o.within
+            (step.settled.left_clear j (omega (arith, values_long))) in
             worth_behind (row_at at s.left) vs us clear ∙ ap (λ n. plus (entry n (row_at at s.left)) (worth (drop (n + 1) (row_at at s.left)) us)) values_long
 
         unsolvable : ¬ (SolvesAll f es)
@@ -257,10 +266,12 @@ module _ (f : Assignment) (once : IsAssignment f) (xs : List (List ℕ)) (vs : L
             let ds : List Fraction = differences ls rs in
             let us : List Fraction = map negative (differences ls rs) in
             let z = step.keeps.on (vs ++ one_fraction ∷ map negative (differences ls rs)) (start_zero (map negative (differences ls rs)) each_zero) in
-            let w0 : worth row (vs ++ one_fraction ∷ map negative (differences ls rs)) ≡ zero_fraction = All-get_or (λ r. worth r (vs ++ one_fraction ∷ map negative (differences ls rs)) ≡ zero_fraction) s.left at [] o.within z.left in
+            let w0 : worth row (vs ++ one_fraction ∷ map negative (differences ls rs)) ≡ zero_fraction = All-get_or
+            (λ r. worth r (vs ++ one_fraction ∷ map negative (differences ls rs)) ≡ zero_fraction) s.left at [] o.within z.left in
             let w1 : worth (drop (length xs + 1) row) us ≡ negative k = opposite_is k _ (sym (last_worth (map negative (differences ls rs))) ∙ w0) in
             let t = scaled_is (inverse k) (drop (length xs + 1) row) cs m in
-            let w2 : negative (worth cs ds) ≡ negative one_fraction = sym (worth_negated cs ds) ∙ t.value us ∙ ap (times (inverse k)) w1 ∙ times_negative (inverse k) k ∙ ap negative (inverse_times_itself k o.has) in
+            let w2 : negative (worth cs ds) ≡ negative one_fraction = sym (worth_negated cs ds) ∙ t.value us ∙ ap (times (inverse k)) w1 ∙ times_negative (inverse k) k
+            ∙ ap negative (inverse_times_itself k o.has) in
             sym (negative_twice (worth cs ds)) ∙ ap negative w2 ∙ negative_twice one_fraction
           where
             ls_long : length ls ≡ length es
@@ -282,15 +293,18 @@ module _ (f : Assignment) (once : IsAssignment f) (xs : List (List ℕ)) (vs : L
                 let here : k < length ls = omega (arith, ls_long) in
                 let there : k < length rs = omega (arith, rs_long) in
                 let inside : k < length (zip ls rs) = omega (arith, many) in
-                let a : h.says.left ≡ get_or ls k zero_fraction = one_rational_meaning f once e.left h.says.left (get_or ls k zero_fraction) h.says.left_means (zipped_at (λ (e : Equation) l. Means e.left f (surd_of l)) es ls k no_equation zero_fraction hl l) in
-                let b : h.says.right ≡ get_or rs k zero_fraction = one_rational_meaning f once e.right h.says.right (get_or rs k zero_fraction) h.says.right_means (zipped_at (λ (e : Equation) r. Means e.right f (surd_of r)) es rs k no_equation zero_fraction hr l) in
+                let a : h.says.left ≡ get_or ls k zero_fraction = one_rational_meaning f once e.left h.says.left (get_or ls k zero_fraction) h.says.left_means
+                (zipped_at (λ (e : Equation) l. Means e.left f (surd_of l)) es ls k no_equation zero_fraction hl l) in
+                let b : h.says.right ≡ get_or rs k zero_fraction = one_rational_meaning f once e.right h.says.right (get_or rs k zero_fraction) h.says.right_means
+                (zipped_at (λ (e : Equation) r. Means e.right f (surd_of r)) es rs k no_equation zero_fraction hr l) in
                 let v : Fraction = plus h.says.left (negative h.says.right) in
                 let dk : get_or (differences ls rs) k zero_fraction ≡ v =
                 get_or-map (λ (p : Fraction × Fraction). plus p.0 (negative p.1)) (zip ls rs) k (zero_fraction, zero_fraction) zero_fraction inside
                 ∙ ap (λ (p : Fraction × Fraction). plus p.0 (negative p.1)) (get_or-zip ls rs k (zero_fraction, zero_fraction) here there)
                 ∙ plus_both (sym a) (ap negative (sym b)) in
                 let uk : entry k (map negative (differences ls rs)) ≡ negative v =
-                get_or-map negative (differences ls rs) k zero_fraction zero_fraction (omega (arith, length-map (zip ls rs) (λ (p : Fraction × Fraction). plus p.0 (negative p.1)), many)) ∙ ap negative dk in
+                get_or-map negative (differences ls rs) k zero_fraction zero_fraction
+                (omega (arith, length-map (zip ls rs) (λ (p : Fraction × Fraction). plus p.0 (negative p.1)), many)) ∙ ap negative dk in
                 equation_worth (length es) k e (get_or rows k d) (map negative (differences ls rs)) h
                 ∙ ap (plus v) (worth_unit (length es) k (map negative (differences ls rs)) (length-map (differences ls rs) negative ∙ length-map (zip ls rs) _ ∙ many) ∙ uk)
                 ∙ plus_negative v
@@ -320,7 +334,8 @@ module _ (f : Assignment) (once : IsAssignment f) (xs : List (List ℕ)) (vs : L
           coefs : worth (map (λ j. if j == c then zero_fraction else negative (entry j r)) (range_with_len 0 (length xs))) vs ≡ plus (get_or vs c zero_fraction) (negative (worth r vs))
           coefs = multiples_worth r c vs (length xs) (step.settled.pivots c r e).one l values_long
 
-          on : worth r (vs ++ one_fraction ∷ []) ≡ zero_fraction → get_or vs c zero_fraction ≡ plus (negative (entry (length xs) r)) (worth (map (λ j. if j == c then zero_fraction else negative (entry j r)) (range_with_len 0 (length xs))) vs)
+          on : worth r (vs ++ one_fraction ∷ []) ≡ zero_fraction
+              → get_or vs c zero_fraction ≡ plus (negative (entry (length xs) r)) (worth (map (λ j. if j == c then zero_fraction else negative (entry j r)) (range_with_len 0 (length xs))) vs)
           on z = sym (ap (plus (negative (entry (length xs) r))) coefs ∙ put_back (worth r vs) (entry (length xs) r) (get_or vs c zero_fraction) (sym whole ∙ z))
 
           back : get_or vs c zero_fraction ≡ plus (negative (entry (length xs) r)) (worth (map (λ j. if j == c then zero_fraction else negative (entry j r)) (range_with_len 0 (length xs))) vs) → worth r (vs ++ one_fraction ∷ []) ≡ zero_fraction
@@ -338,9 +353,11 @@ module _ (f : Assignment) (once : IsAssignment f) (xs : List (List ℕ)) (vs : L
       values_zero none h = record {
         left = λ k d l.
             let r : Row = get_or s.left k d in
-            let clear : (j : ℕ) → j < length vs → entry j (get_or s.left k d) ≡ zero_fraction = λ j b. All-get_or (λ r. entry j r ≡ zero_fraction) s.left k d l (step.settled.left_clear j (omega (arith, values_long))) in
+            let clear : (j : ℕ) → j < length vs → entry j (get_or s.left k d) ≡ zero_fraction = λ j b. All-get_or (λ r. entry j r ≡ zero_fraction) s.left k d l
+            (step.settled.left_clear j (omega (arith, values_long))) in
             worth_behind (get_or s.left k d) vs [] clear
-            ∙ plus_both (ap (λ n. entry n (get_or s.left k d)) values_long ∙ All-get_or (λ r. entry (length xs) r ≡ zero_fraction) s.left k d l (none_has (length xs) s.left none)) (worth-nil (drop (length vs + 1) (get_or s.left k d))) ∙ zero_plus zero_fraction;
+            ∙ plus_both (ap (λ n. entry n (get_or s.left k d)) values_long ∙ All-get_or (λ r. entry (length xs) r ≡ zero_fraction) s.left k d l (none_has (length xs) s.left none))
+            (worth-nil (drop (length vs + 1) (get_or s.left k d))) ∙ zero_plus zero_fraction;
         pivots = λ c r e.
             let i : c < length xs = omega (arith, some_within c s.pivots r e, pivots_long) in
             (pivot_worth c r i e).1 (subst (λ x. HasItsValue vs x (get_or vs c zero_fraction)) (form_at c i ∙ ap (form_of (length xs) c) e)
@@ -364,7 +381,8 @@ later_free n width s h i j l ne =
         ∙ ap (λ (p : ℕ × Option Row). form_of n p.0 p.1) (get_or-enumerate_from 0 s.pivots c (0, None) (omega (arith, h.many)) ∙ (λ i. (zero-add c i, pivot_at c s.pivots)))
 
     -- a multiple that is not 0 is that of a later name without a pivot
-    by : (o : Option Row) → pivot_at i s.pivots ≡ o → (pivot_at i s.pivots ≡ o → multiple_in (form_of n i o) j ≡ zero_fraction → ⊥) → (i < j) × (j < length (forms_of n s.pivots)) × IsFree (get_or (forms_of n s.pivots) j free)
+    by : (o : Option Row) → pivot_at i s.pivots ≡ o → (pivot_at i s.pivots ≡ o → multiple_in (form_of n i o) j ≡ zero_fraction → ⊥)
+        → (i < j) × (j < length (forms_of n s.pivots)) × IsFree (get_or (forms_of n s.pivots) j free)
     by None e wrong = absurd (wrong e refl)
     by (Some r) e wrong = elim (cases_lt j n) [
       | inr past ↦ absurd (wrong e (get_or_past (map (multiple_of r i) (range_with_len 0 n)) j zero_fraction (omega (arith, length-map-range_with_len (multiple_of r i) 0 n))))
@@ -423,8 +441,10 @@ module _ (xs : List (List ℕ)) (es : List Equation) (distinct : AreDistinct xs)
         let p = parts_of xs es (solved forms) e in
         let t = step_of (solved forms) p in
         let b = solved_by (length xs) p.s forms p.answer in (
-          λ h. subst (λ x. HaveTheirValues x vs) (sym b.are) (have_values f once xs vs distinct gives es linear p.rows p.made p.s t (t.keeps.on _ (solved_rows f once xs vs distinct gives es linear p.rows p.made h))),
-          λ h. rows_solved f once xs vs distinct gives es linear p.rows p.made (t.keeps.back _ (values_zero f once xs vs distinct gives es linear p.rows p.made p.s t b.none (subst (λ x. HaveTheirValues x vs) b.are h))),
+          λ h. subst (λ x. HaveTheirValues x vs) (sym b.are)
+              (have_values f once xs vs distinct gives es linear p.rows p.made p.s t (t.keeps.on _ (solved_rows f once xs vs distinct gives es linear p.rows p.made h))),
+          λ h. rows_solved f once xs vs distinct gives es linear p.rows p.made
+              (t.keeps.back _ (values_zero f once xs vs distinct gives es linear p.rows p.made p.s t b.none (subst (λ x. HaveTheirValues x vs) b.are h))),
         )
 
     pub never_solved : (cs : List Fraction) → solving xs es ≡ Ok (never cs) → ¬ (SolvesAll f es)

@@ -17,7 +17,8 @@ rows_listed xs (more t ts) = ap (λ z. and_then (row_of xs t) (λ r. and_then z 
 one_row : {B : Type 0} (r : Result Side Misfit) (g : List Side → Result B Misfit) → and_then r (λ x. g (x ∷ [])) ≡ and_then (and_then r (λ y. Ok (y ∷ []))) g
 one_row r g = grind arith
 
-two_rows : {B : Type 0} (r s : Result Side Misfit) (g : List Side → Result B Misfit) → and_then r (λ x. and_then s (λ y. g (x ∷ y ∷ []))) ≡ and_then (and_then r (λ y. and_then (and_then s (λ z. Ok (z ∷ []))) (λ ys. Ok (y ∷ ys)))) g
+two_rows : {B : Type 0} (r s : Result Side Misfit) (g : List Side → Result B Misfit)
+    → and_then r (λ x. and_then s (λ y. g (x ∷ y ∷ []))) ≡ and_then (and_then r (λ y. and_then (and_then s (λ z. Ok (z ∷ []))) (λ ys. Ok (y ∷ ys)))) g
 two_rows r s g = grind arith
 
 pub by_children : (xs : Names) (t : Tree) → row_of xs t ≡ and_then (each (row_of xs) (listed (children_of t))) (λ rs. own_row xs t rs)
@@ -48,7 +49,8 @@ pub record AreMade (xs : Names) (k : Kind) (t : Tree) (at : ℕ) (row : Result S
 pub none_made : (xs : Names) (k : Kind) (t : Tree) (bare : Side) → bare ≡ bare_row xs t → AreMade xs k t 0 (Ok bare)
 none_made xs k t bare e = record { rows = []; made = refl; long = refl; joined = ap Ok e }
 
-pub next_made : (xs : Names) (k : Kind) (t : Tree) (at n : ℕ) (row new : Result Side Misfit) (s : Side) → n ≡ length xs → at < count (children_of t) → AreMade xs k t at row → row_of xs (nth at (children_of t)) ≡ Ok s
+pub next_made : (xs : Names) (k : Kind) (t : Tree) (at n : ℕ) (row new : Result Side Misfit) (s : Side) → n ≡ length xs → at < count (children_of t) → AreMade xs k t at row
+    → row_of xs (nth at (children_of t)) ≡ Ok s
     → (at ≡ 0 → new ≡ and_then row (λ so_far. Ok s)) → (0 < at → new ≡ and_then row (λ so_far. joined_row n k so_far s)) → AreMade xs k t (at + 1) new
 next_made xs k t at n row new s en l h e first later = record {
   rows = h.rows ++ s ∷ [];
@@ -59,23 +61,29 @@ next_made xs k t at n row new s en l h e first later = record {
   where
     by : (rs : List Side) → length rs ≡ at → row ≡ joined_from (joined_row (length xs) k) (bare_row xs t) rs → new ≡ joined_from (joined_row (length xs) k) (bare_row xs t) (rs ++ s ∷ [])
     by [] m j = first (sym m) ∙ ap (λ z. and_then z (λ so_far. Ok s)) j
-    by (r ∷ rs) m j = later (omega (arith, m)) ∙ ap (λ z. and_then z (λ so_far. joined_row n k so_far s)) j ∙ ap (λ m. and_then (joined_rows (joined_row (length xs) k) r rs) (λ so_far. joined_row m k so_far s)) en ∙ sym (joined_push (joined_row (length xs) k) r rs s)
+    by (r ∷ rs) m j = later (omega (arith, m)) ∙ ap (λ z. and_then z (λ so_far. joined_row n k so_far s)) j ∙ ap
+        (λ m. and_then (joined_rows (joined_row (length xs) k) r rs) (λ so_far. joined_row m k so_far s)) en ∙ sym (joined_push (joined_row (length xs) k) r rs s)
 
 -- the row of a child does not fit
-pub child_misfit : (xs : Names) (k : Kind) (t : Tree) (at : ℕ) (row : Result Side Misfit) (m : Misfit) → at < count (children_of t) → AreMade xs k t at row → row_of xs (nth at (children_of t)) ≡ Err m → row_of xs t ≡ Err m
+pub child_misfit : (xs : Names) (k : Kind) (t : Tree) (at : ℕ) (row : Result Side Misfit) (m : Misfit) → at < count (children_of t) → AreMade xs k t at row
+    → row_of xs (nth at (children_of t)) ≡ Err m → row_of xs t ≡ Err m
 child_misfit xs k t at row m l h e =
-    by_children xs t ∙ then_err _ _ m (each_stops (row_of xs) (listed (children_of t)) at undef h.rows m (omega (arith, length-listed (children_of t))) h.made (ap (row_of xs) (get_or-listed (children_of t) at) ∙ e))
+    by_children xs t ∙ then_err _ _ m
+    (each_stops (row_of xs) (listed (children_of t)) at undef h.rows m (omega (arith, length-listed (children_of t))) h.made (ap (row_of xs) (get_or-listed (children_of t) at) ∙ e))
 
 -- all rows are made
-all_made : (xs : Names) (k : Kind) (t : Tree) (at : ℕ) (row : Result Side Misfit) → k ≡ root_kind t → count (children_of t) ≤ at → AreMade xs k t at row → row_of xs t ≡ and_then row (λ r. Ok (signed_row (root_kind t) r))
+all_made : (xs : Names) (k : Kind) (t : Tree) (at : ℕ) (row : Result Side Misfit) → k ≡ root_kind t → count (children_of t) ≤ at → AreMade xs k t at row
+    → row_of xs t ≡ and_then row (λ r. Ok (signed_row (root_kind t) r))
 all_made xs k t at row ek l h =
     by_children xs t ∙ then_ok _ _ h.rows (each_all (row_of xs) (listed (children_of t)) at (Ok h.rows) (omega (arith, length-listed (children_of t))) h.made)
     ∙ ap (λ z. and_then z (λ r. Ok (signed_row (root_kind t) r))) (ap (λ j. joined_from (joined_row (length xs) j) (bare_row xs t) h.rows) (sym ek) ∙ sym h.joined)
 
-pub own_misfit : (xs : Names) (k : Kind) (t : Tree) (at : ℕ) (row : Result Side Misfit) (m : Misfit) → k ≡ root_kind t → count (children_of t) ≤ at → AreMade xs k t at row → row ≡ Err m → row_of xs t ≡ Err m
+pub own_misfit : (xs : Names) (k : Kind) (t : Tree) (at : ℕ) (row : Result Side Misfit) (m : Misfit) → k ≡ root_kind t → count (children_of t) ≤ at → AreMade xs k t at row
+    → row ≡ Err m → row_of xs t ≡ Err m
 own_misfit xs k t at row m ek l h e = all_made xs k t at row ek l h ∙ then_err _ _ m e
 
-pub own_made : (xs : Names) (k : Kind) (t : Tree) (at : ℕ) (row : Result Side Misfit) (r s : Side) → k ≡ root_kind t → count (children_of t) ≤ at → AreMade xs k t at row → row ≡ Ok r → s ≡ signed_row k r → row_of xs t ≡ Ok s
+pub own_made : (xs : Names) (k : Kind) (t : Tree) (at : ℕ) (row : Result Side Misfit) (r s : Side) → k ≡ root_kind t → count (children_of t) ≤ at → AreMade xs k t at row
+    → row ≡ Ok r → s ≡ signed_row k r → row_of xs t ≡ Ok s
 own_made xs k t at row r s ek l h e f = all_made xs k t at row ek l h ∙ then_ok _ _ r e ∙ ap Ok (ap (λ j. signed_row j r) (sym ek) ∙ sym f)
 
 -- ---- children of linear trees
@@ -94,9 +102,11 @@ constant_entry xs q = get_or_at (map (λ (x : List ℕ). zero_fraction) xs) q []
 
 opposite_entry : (xs : Names) (q : Fraction) → entry (length xs) (negated (constant_row xs q).entries) ≡ negative q
 opposite_entry xs q =
-    get_or-map negative (constant_row xs q).entries (length xs) zero_fraction zero_fraction (inside (length-append (map (λ (x : List ℕ). zero_fraction) xs) (q ∷ [])) (length-map xs _)) ∙ ap negative (constant_entry xs q)
+    get_or-map negative (constant_row xs q).entries (length xs) zero_fraction zero_fraction
+    (inside (length-append (map (λ (x : List ℕ). zero_fraction) xs) (q ∷ [])) (length-map xs _)) ∙ ap negative (constant_entry xs q)
   where
-    inside : length (map (λ (x : List ℕ). zero_fraction) xs ++ q ∷ []) ≡ length (map (λ (x : List ℕ). zero_fraction) xs) + 1 → length (map (λ (x : List ℕ). zero_fraction) xs) ≡ length xs → length xs < length (map (λ (x : List ℕ). zero_fraction) xs ++ q ∷ [])
+    inside : length (map (λ (x : List ℕ). zero_fraction) xs ++ q ∷ []) ≡ length (map (λ (x : List ℕ). zero_fraction) xs) + 1
+        → length (map (λ (x : List ℕ). zero_fraction) xs) ≡ length xs → length xs < length (map (λ (x : List ℕ). zero_fraction) xs ++ q ∷ [])
     inside a b = omega arith
 
 nonzero_row : (xs : Names) (a : Tree) (r : Side) → is_nonzero a ≡ true → row_of xs a ≡ Ok r → is_zero_fraction (constant_of (length xs) r) ≡ false
@@ -109,7 +119,8 @@ divisor_row : (xs : Names) (c : Tree) (r : Side) → is_divisor c ≡ true → r
 divisor_row xs (neg a) r h e = opposite_nonzero xs a r h e
 divisor_row xs c r h e = nonzero_row xs c r h e
 
-pub divisor_at : (xs : Names) (t : Tree) (i n : ℕ) (r : Side) → n ≡ length xs → root_kind t ≡ kind.Div → is_linear t ≡ true → 0 < i → i < count (children_of t) → row_of xs (nth i (children_of t)) ≡ Ok r → is_zero_fraction (constant_of n r) ≡ false
+pub divisor_at : (xs : Names) (t : Tree) (i n : ℕ) (r : Side) → n ≡ length xs → root_kind t ≡ kind.Div → is_linear t ≡ true → 0 < i → i < count (children_of t)
+    → row_of xs (nth i (children_of t)) ≡ Ok r → is_zero_fraction (constant_of n r) ≡ false
 divisor_at xs t i n r h k l z m e = grind (arith, divisor_row)
 
 -- ---- checks
@@ -118,7 +129,8 @@ pub one_calm : (old new : List State) → Check old new None → CalmChecks 1 ol
 one_calm old new c = (new, c, refl)
 
 -- so many calm checks, and then those of another calculation
-pub stops_after : (n m most : ℕ) (old between new : List State) (f : SolveFault) → n + m ≤ most → OfOverflow (λ o. n + m ≡ most) f → CalmChecks n old between → StopsAfter m between new f → StopsAfter most old new f
+pub stops_after : (n m most : ℕ) (old between new : List State) (f : SolveFault) → n + m ≤ most → OfOverflow (λ o. n + m ≡ most) f → CalmChecks n old between
+    → StopsAfter m between new f → StopsAfter most old new f
 stops_after n m most old between new (fault.Overflow o) l e c h = subst (λ k. CalmChecks k old new) e (CalmChecks-append n m old between new c h)
 stops_after n m most old between new (fault.Interrupted i) l e c h = record { passed = n + h.passed; few = omega (arith, h.few); between = h.between; calm = CalmChecks-append n h.passed old between h.between c h.calm; trips = h.trips }
 

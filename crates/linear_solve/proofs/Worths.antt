@@ -44,7 +44,8 @@ nothing_added k = sym (zero_plus (times k zero_fraction) ∙ times_zero k)
 combined_cons : (k a b : Fraction) (r s t : Row) → IsCombined k r s t → IsCombined k (a ∷ r) (b ∷ s) (plus a (times k b) ∷ t)
 combined_cons k a b r s t m = grind (arith, nothing_added, combined_entry)
 
-each_combined : (k : Fraction) (f : Fraction × Fraction → Result Fraction Misfit) → ((a b c : Fraction) → f (a, b) ≡ Ok c → c ≡ plus a (times k b)) → (r s t : Row) → length r ≡ length s → each f (zip r s) ≡ Ok t → IsCombined k r s t
+each_combined : (k : Fraction) (f : Fraction × Fraction → Result Fraction Misfit) → ((a b c : Fraction) → f (a, b) ≡ Ok c → c ≡ plus a (times k b)) → (r s t : Row)
+    → length r ≡ length s → each f (zip r s) ≡ Ok t → IsCombined k r s t
 each_combined k f h [] [] t l e = subst (IsCombined k [] []) (ok_is _ _ e) (record { long = refl; value = λ vs. nothing_added k })
 each_combined k f h [] (b ∷ s) t l e = absurd (omega arith)
 each_combined k f h (a ∷ r) [] t l e = absurd (omega arith)
@@ -99,7 +100,8 @@ pub drop-nil : (n : ℕ) → drop {A = Fraction} n [] ≡ []
 drop-nil n = grind arith
 
 -- a row without names
-pub worth_behind : (r : Row) (vs us : List Fraction) → ((j : ℕ) → j < length vs → entry j r ≡ zero_fraction) → worth r (vs ++ one_fraction ∷ us) ≡ plus (entry (length vs) r) (worth (drop (length vs + 1) r) us)
+pub worth_behind : (r : Row) (vs us : List Fraction) → ((j : ℕ) → j < length vs → entry j r ≡ zero_fraction)
+    → worth r (vs ++ one_fraction ∷ us) ≡ plus (entry (length vs) r) (worth (drop (length vs + 1) r) us)
 worth_behind r [] us h = first r
   where
     first : (r : Row) → worth r (one_fraction ∷ us) ≡ plus (entry 0 r) (worth (drop 1 r) us)

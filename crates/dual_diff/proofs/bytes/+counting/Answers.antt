@@ -13,22 +13,35 @@ use Rattle.dual_diff.proofs.bytes.+counting.Goals as goal
 -- ---- derivative_bytes
 
 pub derivative_bytes-returns-then-not-holds : goal.derivative_bytes-returns-then-not-holds
-derivative_bytes-returns-then-not-holds t c = omega (arith, c.number_bytes.ensures, ap size (absent_zero (name_of c.args.name) (tree_of c.args.tree c.args.pool.now) (sym c.holds.ensures ∙ c.if-not-holds.true)), num_most (whole_fraction (pos 0)))
+derivative_bytes-returns-then-not-holds t c = omega
+    (arith, c.number_bytes.ensures, ap size (absent_zero (name_of c.args.name) (tree_of c.args.tree c.args.pool.now) (sym c.holds.ensures ∙ c.if-not-holds.true)), num_most (whole_fraction (pos 0)))
 
 pub derivative_bytes-returns-in-Sym : goal.derivative_bytes-returns-in-Sym
 derivative_bytes-returns-in-Sym t c = omega (arith, c.number_bytes-in-Sym.ensures, ap size (symbol_one (name_of c.args.name) (tree_of c.args.tree c.args.pool.now) (sym (c.kind.ensures.plain c.requires.expression) ∙ c.in-Sym.is) (sym c.holds.ensures ∙ c.if-not-holds.false)), num_most (whole_fraction (pos 1)))
 
 pub derivative_bytes-product_bytes-requires : goal.derivative_bytes-product_bytes-requires
-derivative_bytes-product_bytes-requires t c = (omega (arith, c.decreases), (c.requires.stands, (c.requires.expression, (c.requires.derivable, (sym (c.kind.ensures.plain c.requires.expression) ∙ c.in-Mult.is, sym c.holds.ensures ∙ c.if-not-holds.false)))))
+derivative_bytes-product_bytes-requires t c = (
+  omega (arith, c.decreases),
+  (c.requires.stands, (c.requires.expression, (c.requires.derivable, (sym (c.kind.ensures.plain c.requires.expression) ∙ c.in-Mult.is, sym c.holds.ensures ∙ c.if-not-holds.false)))),
+)
 
 pub derivative_bytes-quotient_bytes-requires : goal.derivative_bytes-quotient_bytes-requires
-derivative_bytes-quotient_bytes-requires t c = (omega (arith, c.decreases), (c.requires.stands, (c.requires.expression, (c.requires.derivable, (sym (c.kind.ensures.plain c.requires.expression) ∙ c.in-Div.is, sym c.holds.ensures ∙ c.if-not-holds.false)))))
+derivative_bytes-quotient_bytes-requires t c = (
+  omega (arith, c.decreases),
+  (c.requires.stands, (c.requires.expression, (c.requires.derivable, (sym (c.kind.ensures.plain c.requires.expression) ∙ c.in-Div.is, sym c.holds.ensures ∙ c.if-not-holds.false)))),
+)
 
 pub derivative_bytes-power_bytes-requires : goal.derivative_bytes-power_bytes-requires
-derivative_bytes-power_bytes-requires t c = (omega (arith, c.decreases), (c.requires.stands, (c.requires.expression, (c.requires.derivable, (sym (c.kind.ensures.plain c.requires.expression) ∙ c.in-Pow.is, sym c.holds.ensures ∙ c.if-not-holds.false)))))
+derivative_bytes-power_bytes-requires t c = (
+  omega (arith, c.decreases),
+  (c.requires.stands, (c.requires.expression, (c.requires.derivable, (sym (c.kind.ensures.plain c.requires.expression) ∙ c.in-Pow.is, sym c.holds.ensures ∙ c.if-not-holds.false)))),
+)
 
 pub derivative_bytes-root_bytes-requires : goal.derivative_bytes-root_bytes-requires
-derivative_bytes-root_bytes-requires t c = (omega (arith, c.decreases), (c.requires.stands, (c.requires.expression, (c.requires.derivable, (sym (c.kind.ensures.plain c.requires.expression) ∙ c.in-Root.is, sym c.holds.ensures ∙ c.if-not-holds.false)))))
+derivative_bytes-root_bytes-requires t c = (
+  omega (arith, c.decreases),
+  (c.requires.stands, (c.requires.expression, (c.requires.derivable, (sym (c.kind.ensures.plain c.requires.expression) ∙ c.in-Root.is, sym c.holds.ensures ∙ c.if-not-holds.false)))),
+)
 
 pub derivative_bytes-children_bytes-requires : goal.derivative_bytes-children_bytes-requires
 derivative_bytes-children_bytes-requires t c = (omega (arith, c.decreases), (c.requires.stands, (c.requires.expression, c.requires.derivable)))
@@ -67,7 +80,11 @@ children_bytes-returns t c =
 -- ---- product_bytes
 
 pub product_bytes-loop-factor-init : goal.product_bytes-loop-factor-init
-product_bytes-loop-factor-init t c = record { ids = c.into_iter-factor-iterator.ensures.into_iter_gives ∙ c.child_ids-factor-items.ensures; counted = counted_none (name_of c.args.name) (children_of (tree_of c.args.tree c.args.pool.now)) }
+product_bytes-loop-factor-init t c = record {
+  ids = c.into_iter-factor-iterator.ensures.into_iter_gives ∙ c.child_ids-factor-items.ensures;
+  counted = counted_none
+      (name_of c.args.name) (children_of (tree_of c.args.tree c.args.pool.now));
+}
 
 pub product_bytes-holds-requires-clause-expression : goal.product_bytes-holds-requires-clause-expression
 product_bytes-holds-requires-clause-expression t c = (next_child c.requires.stands c.requires.expression c.loop-factor.invariant.ids c.in-Some.ensures.steps).expression
@@ -98,7 +115,8 @@ product_bytes-loop-factor-preserved t c =
     let others : (c.tree_bytes-whole.result - c.tree_bytes.result) + size (nth (length l.yielded) (children_of u)) ≡ size (mult (children_of u)) = omega (arith, ap size (product_form u c.requires.product), c.tree_bytes-whole.ensures.plain c.requires.expression, c.tree_bytes.ensures.plain n.expression, ap size n.tree, child_size (length l.yielded) u n.within) in
     record {
       ids = left_after l.yielded c.in-Some.factor (kids_of c.args.tree (forest c.args.pool.now)) n.left-are;
-      counted = counted_more (c.tree_bytes-whole.result - c.tree_bytes.result) _ _ _ n.within (turn l.yielded c.in-Some.factor) (ap (occurs x) (sym n.tree) ∙ sym c.holds.ensures ∙ c.if-not-holds.false) l.invariant.counted others
+      counted = counted_more (c.tree_bytes-whole.result - c.tree_bytes.result) _ _ _ n.within (turn l.yielded c.in-Some.factor)
+          (ap (occurs x) (sym n.tree) ∙ sym c.holds.ensures ∙ c.if-not-holds.false) l.invariant.counted others
           (c.derivative_bytes-slope.ensures ∙ ap (λ (w : Tree). capped (size (derivative x w))) n.tree) c.saturating_add-product.ensures c.saturating_add-bytes.ensures;
     }
 
@@ -118,7 +136,8 @@ product_bytes-returns-then-products-gt1 t c =
     let k = c.loop-factor.invariant.counted in
     let end = last_child c.requires.stands c.requires.expression c.loop-factor.invariant.ids c.in-None.ensures.steps.0 in
     let rule = made_rule x (length c.loop-factor.yielded) k.made u c.requires.product end k.is in
-    sum_bytes_more k.made c.loop-factor.bytes c.node_bytes.result c.saturating_add.result (omega (arith, k.many-is, c.if-products-gt1.true)) k.bytes-are c.node_bytes.ensures c.saturating_add.ensures ∙ ap (λ (w : Tree). capped (size w)) (sym rule)
+    sum_bytes_more k.made c.loop-factor.bytes c.node_bytes.result c.saturating_add.result
+    (omega (arith, k.many-is, c.if-products-gt1.true)) k.bytes-are c.node_bytes.ensures c.saturating_add.ensures ∙ ap (λ (w : Tree). capped (size w)) (sym rule)
 
 pub product_bytes-returns : goal.product_bytes-returns
 product_bytes-returns t c =
@@ -140,22 +159,27 @@ quotient_bytes-child_of-divisor-requires-clause-within t c = omega (arith, two_c
 
 pub quotient_bytes-derivative_bytes-slope-requires : goal.quotient_bytes-derivative_bytes-slope-requires
 quotient_bytes-derivative_bytes-slope-requires t c =
-    let k = child_in {x = name_of c.args.name} 0 (tree_of c.args.tree c.args.pool.now) (omega (arith, two_children (tree_of c.args.tree c.args.pool.now) c.requires.quotient)) c.requires.derivable c.child_of-dividend.ensures.plain in
+    let k = child_in {x = name_of c.args.name} 0 (tree_of c.args.tree c.args.pool.now)
+    (omega (arith, two_children (tree_of c.args.tree c.args.pool.now) c.requires.quotient)) c.requires.derivable c.child_of-dividend.ensures.plain in
     (omega (arith, k.smaller, c.decreases), (c.requires.stands, (c.child_of-dividend.ensures.expression, k.derivable)))
 
 pub quotient_bytes-returns-then-not-holds : goal.quotient_bytes-returns-then-not-holds
 quotient_bytes-returns-then-not-holds t c =
-    let rule = quotient_divided (name_of c.args.name) (tree_of c.args.tree c.args.pool.now) c.requires.quotient c.requires.held c.child_of-dividend.ensures.plain c.child_of-divisor.ensures.plain (sym c.holds.ensures ∙ c.if-not-holds.true) in
+    let rule = quotient_divided (name_of c.args.name)
+    (tree_of c.args.tree c.args.pool.now) c.requires.quotient c.requires.held c.child_of-dividend.ensures.plain c.child_of-divisor.ensures.plain
+    (sym c.holds.ensures ∙ c.if-not-holds.true) in
     omega (arith, ap size rule, c.tree_bytes.ensures.plain c.child_of-divisor.ensures.expression)
 
 pub quotient_bytes-derivative_bytes-slope_below-requires : goal.quotient_bytes-derivative_bytes-slope_below-requires
 quotient_bytes-derivative_bytes-slope_below-requires t c =
-    let k = child_in {x = name_of c.args.name} 1 (tree_of c.args.tree c.args.pool.now) (omega (arith, two_children (tree_of c.args.tree c.args.pool.now) c.requires.quotient)) c.requires.derivable c.child_of-divisor.ensures.plain in
+    let k = child_in {x = name_of c.args.name} 1 (tree_of c.args.tree c.args.pool.now)
+    (omega (arith, two_children (tree_of c.args.tree c.args.pool.now) c.requires.quotient)) c.requires.derivable c.child_of-divisor.ensures.plain in
     (omega (arith, k.smaller, c.decreases), (c.requires.stands, (c.child_of-divisor.ensures.expression, k.derivable)))
 
 pub quotient_bytes-returns : goal.quotient_bytes-returns
 quotient_bytes-returns t c =
-    let rule = quotient_whole (name_of c.args.name) (tree_of c.args.tree c.args.pool.now) c.requires.quotient c.child_of-dividend.ensures.plain c.child_of-divisor.ensures.plain (sym c.holds.ensures ∙ c.if-not-holds.false) in
+    let rule = quotient_whole (name_of c.args.name) (tree_of c.args.tree c.args.pool.now) c.requires.quotient c.child_of-dividend.ensures.plain c.child_of-divisor.ensures.plain
+    (sym c.holds.ensures ∙ c.if-not-holds.false) in
     omega (arith, ap size rule, c.tree_bytes.ensures.plain c.child_of-divisor.ensures.expression, c.tree_bytes-2.ensures.plain c.child_of-dividend.ensures.expression, c.tree_bytes-3.ensures.plain c.child_of-divisor.ensures.expression)
 
 -- ---- power_bytes
@@ -167,7 +191,8 @@ pub power_bytes-child_of-exponent-requires-clause-within : goal.power_bytes-chil
 power_bytes-child_of-exponent-requires-clause-within t c = omega (arith, base_and_exponent (tree_of c.args.tree c.args.pool.now) c.requires.power)
 
 pub power_bytes-literal_exponent-number-requires-clause-derivable : goal.power_bytes-literal_exponent-number-requires-clause-derivable
-power_bytes-literal_exponent-number-requires-clause-derivable t c = exponent_in (name_of c.args.name) (tree_of c.args.tree c.args.pool.now) c.requires.power c.requires.held c.requires.derivable c.child_of-exponent.ensures.plain
+power_bytes-literal_exponent-number-requires-clause-derivable t c = exponent_in (name_of c.args.name)
+    (tree_of c.args.tree c.args.pool.now) c.requires.power c.requires.held c.requires.derivable c.child_of-exponent.ensures.plain
 
 pub power_bytes-is_zero-requires : goal.power_bytes-is_zero-requires
 power_bytes-is_zero-requires t c = told_fits c.literal_exponent-number.result c.literal_exponent-number.ensures.small
@@ -182,7 +207,8 @@ power_bytes-returns-then-is_zero t c =
 
 pub power_bytes-derivative_bytes-slope-requires : goal.power_bytes-derivative_bytes-slope-requires
 power_bytes-derivative_bytes-slope-requires t c =
-    let k = child_in {x = name_of c.args.name} 0 (tree_of c.args.tree c.args.pool.now) (omega (arith, base_and_exponent (tree_of c.args.tree c.args.pool.now) c.requires.power)) c.requires.derivable c.child_of-base.ensures.plain in
+    let k = child_in {x = name_of c.args.name} 0 (tree_of c.args.tree c.args.pool.now)
+    (omega (arith, base_and_exponent (tree_of c.args.tree c.args.pool.now) c.requires.power)) c.requires.derivable c.child_of-base.ensures.plain in
     (omega (arith, k.smaller, c.decreases), (c.requires.stands, (c.child_of-base.ensures.expression, k.derivable)))
 
 pub power_bytes-returns-then-is_one : goal.power_bytes-returns-then-is_one
@@ -211,7 +237,8 @@ root_bytes-child_of-argument-requires-clause-within t c = omega (arith, one_argu
 
 pub root_bytes-derivative_bytes-slope-requires : goal.root_bytes-derivative_bytes-slope-requires
 root_bytes-derivative_bytes-slope-requires t c =
-    let k = child_in {x = name_of c.args.name} 0 (tree_of c.args.tree c.args.pool.now) (omega (arith, one_argument (tree_of c.args.tree c.args.pool.now) c.requires.root)) c.requires.derivable c.child_of-argument.ensures.plain in
+    let k = child_in {x = name_of c.args.name} 0 (tree_of c.args.tree c.args.pool.now)
+    (omega (arith, one_argument (tree_of c.args.tree c.args.pool.now) c.requires.root)) c.requires.derivable c.child_of-argument.ensures.plain in
     (omega (arith, k.smaller, c.decreases), (c.requires.stands, (c.child_of-argument.ensures.expression, k.derivable)))
 
 pub root_bytes-returns : goal.root_bytes-returns

@@ -7,8 +7,11 @@ use Rattle.dual_diff.proofs.Turns.{left_after, turn}
 use Rattle.dual_diff.proofs.derivable.+all_derivable.Goals as goal
 
 pub returns-then-not-is_derivable : goal.returns-then-not-is_derivable
-returns-then-not-is_derivable t c =
-    (λ h. absurd cc, λ h. let yes : c.is_derivable.result ≡ true = c.is_derivable.ensures.1 (of_root (name_of c.args.name) (tree_of c.args.node c.args.pool.now) h) in absurd (cc (yes, c.if-not-is_derivable.true)))
+returns-then-not-is_derivable t c = (
+  λ h. absurd cc,
+  λ h. let yes : c.is_derivable.result ≡ true = c.is_derivable.ensures.1 (of_root (name_of c.args.name) (tree_of c.args.node c.args.pool.now) h) in absurd
+      (cc (yes, c.if-not-is_derivable.true)),
+)
 
 pub all_derivable-requires : goal.all_derivable-requires
 all_derivable-requires t c =
@@ -19,8 +22,11 @@ pub returns-then-not-all_derivable : goal.returns-then-not-all_derivable
 returns-then-not-all_derivable t c =
     let n = next_child c.requires.stands c.requires.expression c.loop-child.invariant.ids c.in-Some.ensures.steps in
     let x = name_of c.args.name in
-    let u = tree_of c.args.node c.args.pool.now in
-    (λ h. absurd cc, λ h. let yes : c.all_derivable.result ≡ true = c.all_derivable.ensures.1 (subst (HasDerivative x) (sym n.tree) (of_child x (length c.loop-child.yielded) u n.within h)) in absurd (cc (yes, c.if-not-all_derivable.true)))
+    let u = tree_of c.args.node c.args.pool.now in (
+      λ h. absurd cc,
+      λ h. let yes : c.all_derivable.result ≡ true = c.all_derivable.ensures.1
+          (subst (HasDerivative x) (sym n.tree) (of_child x (length c.loop-child.yielded) u n.within h)) in absurd (cc (yes, c.if-not-all_derivable.true)),
+    )
 
 pub loop-child-preserved : goal.loop-child-preserved
 loop-child-preserved t c =
@@ -38,5 +44,6 @@ pub returns : goal.returns
 returns t c =
     let x = name_of c.args.name in
     let node = tree_of c.args.node c.args.pool.now in
-    let all = all_of (IsDerivable x) (length c.loop-child.yielded) (children_of node) (last_child c.requires.stands c.requires.expression c.loop-child.invariant.ids c.in-None.ensures.steps.0) c.loop-child.invariant.passed in
+    let all = all_of (IsDerivable x) (length c.loop-child.yielded) (children_of node)
+    (last_child c.requires.stands c.requires.expression c.loop-child.invariant.ids c.in-None.ensures.steps.0) c.loop-child.invariant.passed in
     (λ h. of_node x node (c.is_derivable.ensures.0 c.if-not-is_derivable.false) all, λ h. refl)

@@ -12,16 +12,19 @@ use Rattle.dual_diff.proofs.derivation.+derivation.Goals as goal
 -- ---- place_derivative
 
 pub place_derivative-place_number-requires-clause-room : goal.place_derivative-place_number-requires-clause-room
-place_derivative-place_number-requires-clause-room t c = omega (arith, c.requires.room, ap size (absent_zero (name_of c.args.name) (tree_of c.args.tree c.args.pool.now) (sym c.holds.ensures ∙ c.if-not-holds.true)))
+place_derivative-place_number-requires-clause-room t c = omega
+    (arith, c.requires.room, ap size (absent_zero (name_of c.args.name) (tree_of c.args.tree c.args.pool.now) (sym c.holds.ensures ∙ c.if-not-holds.true)))
 
 pub place_derivative-returns-then-not-holds : goal.place_derivative-returns-then-not-holds
-place_derivative-returns-then-not-holds t c = adds_tree c.place_number.ensures (sym (absent_zero (name_of c.args.name) (tree_of c.args.tree c.args.pool.now) (sym c.holds.ensures ∙ c.if-not-holds.true)))
+place_derivative-returns-then-not-holds t c = adds_tree c.place_number.ensures
+    (sym (absent_zero (name_of c.args.name) (tree_of c.args.tree c.args.pool.now) (sym c.holds.ensures ∙ c.if-not-holds.true)))
 
 pub place_derivative-place_number-requires-in-Sym-clause-room : goal.place_derivative-place_number-requires-in-Sym-clause-room
 place_derivative-place_number-requires-in-Sym-clause-room t c = omega (arith, c.requires.room, ap size (symbol_one (name_of c.args.name) (tree_of c.args.tree c.args.pool.now) (sym (c.kind.ensures.plain c.requires.expression) ∙ c.in-Sym.is) (sym c.holds.ensures ∙ c.if-not-holds.false)))
 
 pub place_derivative-returns-in-Sym : goal.place_derivative-returns-in-Sym
-place_derivative-returns-in-Sym t c = adds_tree c.place_number-in-Sym.ensures (sym (symbol_one (name_of c.args.name) (tree_of c.args.tree c.args.pool.now) (sym (c.kind.ensures.plain c.requires.expression) ∙ c.in-Sym.is) (sym c.holds.ensures ∙ c.if-not-holds.false)))
+place_derivative-returns-in-Sym t c = adds_tree c.place_number-in-Sym.ensures
+    (sym (symbol_one (name_of c.args.name) (tree_of c.args.tree c.args.pool.now) (sym (c.kind.ensures.plain c.requires.expression) ∙ c.in-Sym.is) (sym c.holds.ensures ∙ c.if-not-holds.false)))
 
 pub place_derivative-place_products-requires : goal.place_derivative-place_products-requires
 place_derivative-place_products-requires t c = (omega (arith, c.decreases), (c.requires.stands, (c.requires.expression, (sym (c.kind.ensures.plain c.requires.expression) ∙ c.in-Mult.is, (sym c.holds.ensures ∙ c.if-not-holds.false, (c.requires.derivable, c.requires.room))))))
@@ -48,7 +51,12 @@ pub place_same-loop-at-init : goal.place_same-loop-at-init
 place_same-loop-at-init t c = adds_none c.args.pool.now c.requires.stands
 
 pub place_same-child_of-child-requires : goal.place_same-child_of-child-requires
-place_same-child_of-child-requires t c = record { stands = c.loop-at.invariant.stands; expression = still_expression c.loop-at.invariant c.requires.expression; within = omega (arith, still_count c.loop-at.invariant c.requires.expression, c.children-children.ensures.plain c.requires.expression, c.loop-at-test.true) }
+place_same-child_of-child-requires t c = record {
+  stands = c.loop-at.invariant.stands;
+  expression = still_expression c.loop-at.invariant c.requires.expression;
+  within = omega
+      (arith, still_count c.loop-at.invariant c.requires.expression, c.children-children.ensures.plain c.requires.expression, c.loop-at-test.true);
+}
 
 pub place_same-place_derivative-requires : goal.place_same-place_derivative-requires
 place_same-place_derivative-requires t c =
@@ -110,7 +118,10 @@ place_products-place_product-requires t c =
     (omega (arith, ap nodes whole, c.decreases), (c.loop-at.invariant.adds.stands, (still_expression c.loop-at.invariant.adds c.requires.expression, (omega (arith, within, ap (λ (v : Tree). count (children_of v)) whole), (subst (HasDerivative x) (sym whole) c.requires.derivable, room)))))
 
 pub place_products-overflow_add-products : goal.place_products-overflow_add-products
-place_products-overflow_add-products t c = record { fits = omega (arith, c.loop-at.invariant.few, c.children-factors.ensures.plain c.requires.expression, c.loop-at-test.true, c.children-factors.type_inv) }
+place_products-overflow_add-products t c = record {
+  fits = omega
+      (arith, c.loop-at.invariant.few, c.children-factors.ensures.plain c.requires.expression, c.loop-at-test.true, c.children-factors.type_inv);
+}
 
 pub place_products-loop-at-preserved : goal.place_products-loop-at-preserved
 place_products-loop-at-preserved t c =
@@ -118,7 +129,8 @@ place_products-loop-at-preserved t c =
     let u = tree_of c.args.tree c.args.pool.now in
     let within : c.loop-at.at < count (children_of u) = omega (arith, c.children-factors.ensures.plain c.requires.expression, c.loop-at-test.true) in
     let told_of = ap (occurs x) (sym (still_nth c.loop-at.at c.loop-at.invariant.adds c.requires.expression c.child_of-factor.ensures.plain)) ∙ sym c.holds.ensures in
-    placed_more within (told_of ∙ c.if-not-holds.false) c.loop-at.invariant (adds_tree c.place_product.ensures (ap (λ (v : Tree). with_derivative x c.loop-at.at (children_of v)) (still_plain c.loop-at.invariant.adds c.requires.expression)))
+    placed_more within (told_of ∙ c.if-not-holds.false) c.loop-at.invariant
+    (adds_tree c.place_product.ensures (ap (λ (v : Tree). with_derivative x c.loop-at.at (children_of v)) (still_plain c.loop-at.invariant.adds c.requires.expression)))
 
 pub place_products-loop-at-preserved-then-not-holds : goal.place_products-loop-at-preserved-then-not-holds
 place_products-loop-at-preserved-then-not-holds t c =
@@ -180,7 +192,8 @@ place_product-place_derivative-requires t c =
     let ts = children_of (tree_of c.args.tree c.args.pool.now) in
     let before = adds_as c.place_copies.ensures (slice_first c.args.at ts) in
     let k = child_in {x = x} c.args.at (tree_of c.args.tree c.args.pool.now) c.requires.within c.requires.derivable c.child_of-factor.ensures.plain in
-    let r = ready {x = x} c.requires.stands before c.child_of-factor.ensures.expression k.derivable (omega (arith, c.requires.room, with_room x c.args.at ts, ap (λ (v : Tree). size (derivative x v)) c.child_of-factor.ensures.plain)) in
+    let r = ready {x = x} c.requires.stands before c.child_of-factor.ensures.expression k.derivable
+    (omega (arith, c.requires.room, with_room x c.args.at ts, ap (λ (v : Tree). size (derivative x v)) c.child_of-factor.ensures.plain)) in
     (omega (arith, ap nodes r.same, k.smaller, c.decreases), (r.stands, (r.expression, (r.derivable, r.room))))
 
 pub place_product-place_copies-requires-2 : goal.place_product-place_copies-requires-2
@@ -205,7 +218,9 @@ place_product-place_over-requires t c =
     let n = c.children-factors.ensures.plain c.requires.expression in
     let before = adds_as c.place_copies.ensures (slice_first c.args.at ts) in
     let next = adds_more before (adds_tree c.place_derivative.ensures (ap (derivative x) (still_plain before c.child_of-factor.ensures.expression ∙ c.child_of-factor.ensures.plain))) in
-    let all = adds_as (adds_join next (adds_as c.place_copies-2.ensures (rest_after c.args.tree c.args.at c.children-factors.result next c.requires.expression n c.requires.within))) (append_one (first c.args.at ts) (derivative x (nth c.args.at ts)) (behind (c.args.at + 1) ts)) in
+    let all = adds_as
+    (adds_join next (adds_as c.place_copies-2.ensures (rest_after c.args.tree c.args.at c.children-factors.result next c.requires.expression n c.requires.within)))
+    (append_one (first c.args.at ts) (derivative x (nth c.args.at ts)) (behind (c.args.at + 1) ts)) in
     can_join c.requires.stands all (count_with x c.args.at ts c.requires.within ∙ sym n) c.used-begin.ensures.value refl (omega (arith, c.requires.room))
 
 pub place_product-returns : goal.place_product-returns
@@ -215,7 +230,9 @@ place_product-returns t c =
     let n = c.children-factors.ensures.plain c.requires.expression in
     let before = adds_as c.place_copies.ensures (slice_first c.args.at ts) in
     let next = adds_more before (adds_tree c.place_derivative.ensures (ap (derivative x) (still_plain before c.child_of-factor.ensures.expression ∙ c.child_of-factor.ensures.plain))) in
-    let all = adds_as (adds_join next (adds_as c.place_copies-2.ensures (rest_after c.args.tree c.args.at c.children-factors.result next c.requires.expression n c.requires.within))) (append_one (first c.args.at ts) (derivative x (nth c.args.at ts)) (behind (c.args.at + 1) ts)) in
+    let all = adds_as
+    (adds_join next (adds_as c.place_copies-2.ensures (rest_after c.args.tree c.args.at c.children-factors.result next c.requires.expression n c.requires.within)))
+    (append_one (first c.args.at ts) (derivative x (nth c.args.at ts)) (behind (c.args.at + 1) ts)) in
     c.place_over.ensures _ _ c.requires.stands all (count_with x c.args.at ts c.requires.within ∙ sym n)
 
 -- ---- place_quotient
@@ -228,53 +245,76 @@ place_quotient-child_of-divisor-requires-clause-within t c = omega (arith, two_c
 
 pub place_quotient-place_derivative-requires : goal.place_quotient-place_derivative-requires
 place_quotient-place_derivative-requires t c =
-    let rule = quotient_divided (name_of c.args.name) (tree_of c.args.tree c.args.pool.now) c.requires.quotient c.requires.held c.child_of-dividend.ensures.plain c.child_of-divisor.ensures.plain (sym c.holds.ensures ∙ c.if-not-holds.true) in
-    let k = child_in {x = name_of c.args.name} 0 (tree_of c.args.tree c.args.pool.now) (omega (arith, two_children (tree_of c.args.tree c.args.pool.now) c.requires.quotient)) c.requires.derivable c.child_of-dividend.ensures.plain in
+    let rule = quotient_divided (name_of c.args.name)
+    (tree_of c.args.tree c.args.pool.now) c.requires.quotient c.requires.held c.child_of-dividend.ensures.plain c.child_of-divisor.ensures.plain
+    (sym c.holds.ensures ∙ c.if-not-holds.true) in
+    let k = child_in {x = name_of c.args.name} 0 (tree_of c.args.tree c.args.pool.now)
+    (omega (arith, two_children (tree_of c.args.tree c.args.pool.now) c.requires.quotient)) c.requires.derivable c.child_of-dividend.ensures.plain in
     (omega (arith, k.smaller, c.decreases), (c.requires.stands, (c.child_of-dividend.ensures.expression, (k.derivable, omega (arith, c.requires.room, ap size rule)))))
 
 pub place_quotient-place_copy-requires : goal.place_quotient-place_copy-requires
 place_quotient-place_copy-requires t c =
-    let rule = quotient_divided (name_of c.args.name) (tree_of c.args.tree c.args.pool.now) c.requires.quotient c.requires.held c.child_of-dividend.ensures.plain c.child_of-divisor.ensures.plain (sym c.holds.ensures ∙ c.if-not-holds.true) in
+    let rule = quotient_divided (name_of c.args.name)
+    (tree_of c.args.tree c.args.pool.now) c.requires.quotient c.requires.held c.child_of-dividend.ensures.plain c.child_of-divisor.ensures.plain
+    (sym c.holds.ensures ∙ c.if-not-holds.true) in
     let slope = adds_one c.requires.stands c.place_derivative.ensures in
     can_copy c.requires.stands slope c.child_of-divisor.ensures.expression (omega (arith, c.requires.room, ap size rule))
 
 pub place_quotient-place_over-requires : goal.place_quotient-place_over-requires
 place_quotient-place_over-requires t c =
-    let rule = quotient_divided (name_of c.args.name) (tree_of c.args.tree c.args.pool.now) c.requires.quotient c.requires.held c.child_of-dividend.ensures.plain c.child_of-divisor.ensures.plain (sym c.holds.ensures ∙ c.if-not-holds.true) in
+    let rule = quotient_divided (name_of c.args.name)
+    (tree_of c.args.tree c.args.pool.now) c.requires.quotient c.requires.held c.child_of-dividend.ensures.plain c.child_of-divisor.ensures.plain
+    (sym c.holds.ensures ∙ c.if-not-holds.true) in
     let slope = adds_one c.requires.stands c.place_derivative.ensures in
     let both = adds_copy slope c.child_of-divisor.ensures.expression c.place_copy.ensures in
     can_join c.requires.stands both refl c.used-begin.ensures.value refl (omega (arith, c.requires.room, ap size rule))
 
 pub place_quotient-returns-then-not-holds : goal.place_quotient-returns-then-not-holds
 place_quotient-returns-then-not-holds t c =
-    let rule = quotient_divided (name_of c.args.name) (tree_of c.args.tree c.args.pool.now) c.requires.quotient c.requires.held c.child_of-dividend.ensures.plain c.child_of-divisor.ensures.plain (sym c.holds.ensures ∙ c.if-not-holds.true) in
+    let rule = quotient_divided (name_of c.args.name)
+    (tree_of c.args.tree c.args.pool.now) c.requires.quotient c.requires.held c.child_of-dividend.ensures.plain c.child_of-divisor.ensures.plain
+    (sym c.holds.ensures ∙ c.if-not-holds.true) in
     let slope = adds_one c.requires.stands c.place_derivative.ensures in
     let both = adds_copy slope c.child_of-divisor.ensures.expression c.place_copy.ensures in
     adds_tree (c.place_over.ensures _ _ c.requires.stands both refl) (sym rule)
 
 pub place_quotient-place_difference-requires : goal.place_quotient-place_difference-requires
 place_quotient-place_difference-requires t c =
-    let rule = quotient_whole (name_of c.args.name) (tree_of c.args.tree c.args.pool.now) c.requires.quotient c.child_of-dividend.ensures.plain c.child_of-divisor.ensures.plain (sym c.holds.ensures ∙ c.if-not-holds.false) in
-    let k = child_in {x = name_of c.args.name} 0 (tree_of c.args.tree c.args.pool.now) (omega (arith, two_children (tree_of c.args.tree c.args.pool.now) c.requires.quotient)) c.requires.derivable c.child_of-dividend.ensures.plain in
-    let l = child_in {x = name_of c.args.name} 1 (tree_of c.args.tree c.args.pool.now) (omega (arith, two_children (tree_of c.args.tree c.args.pool.now) c.requires.quotient)) c.requires.derivable c.child_of-divisor.ensures.plain in
-    (omega (arith, quotient_nodes (tree_of c.args.tree c.args.pool.now) c.requires.quotient c.child_of-dividend.ensures.plain c.child_of-divisor.ensures.plain, c.decreases), (c.requires.stands, (c.child_of-dividend.ensures.expression, (c.child_of-divisor.ensures.expression, (k.derivable, (l.derivable, omega (arith, c.requires.room, ap size rule)))))))
+    let rule = quotient_whole (name_of c.args.name) (tree_of c.args.tree c.args.pool.now) c.requires.quotient c.child_of-dividend.ensures.plain c.child_of-divisor.ensures.plain
+    (sym c.holds.ensures ∙ c.if-not-holds.false) in
+    let k = child_in {x = name_of c.args.name} 0 (tree_of c.args.tree c.args.pool.now)
+    (omega (arith, two_children (tree_of c.args.tree c.args.pool.now) c.requires.quotient)) c.requires.derivable c.child_of-dividend.ensures.plain in
+    let l = child_in {x = name_of c.args.name} 1 (tree_of c.args.tree c.args.pool.now)
+    (omega (arith, two_children (tree_of c.args.tree c.args.pool.now) c.requires.quotient)) c.requires.derivable c.child_of-divisor.ensures.plain in (
+      omega (arith, quotient_nodes (tree_of c.args.tree c.args.pool.now) c.requires.quotient c.child_of-dividend.ensures.plain c.child_of-divisor.ensures.plain, c.decreases),
+      (c.requires.stands, (c.child_of-dividend.ensures.expression, (c.child_of-divisor.ensures.expression, (k.derivable, (l.derivable, omega (arith, c.requires.room, ap size rule)))))),
+    )
 
 pub place_quotient-place_power_of-requires : goal.place_quotient-place_power_of-requires
 place_quotient-place_power_of-requires t c =
-    let rule = quotient_whole (name_of c.args.name) (tree_of c.args.tree c.args.pool.now) c.requires.quotient c.child_of-dividend.ensures.plain c.child_of-divisor.ensures.plain (sym c.holds.ensures ∙ c.if-not-holds.false) in
+    let rule = quotient_whole (name_of c.args.name) (tree_of c.args.tree c.args.pool.now) c.requires.quotient c.child_of-dividend.ensures.plain c.child_of-divisor.ensures.plain
+    (sym c.holds.ensures ∙ c.if-not-holds.false) in
     let above = adds_one c.requires.stands c.place_difference.ensures in
-    record { stands = above.stands; expression = still_expression above c.child_of-divisor.ensures.expression; fits = search rules; room = omega (arith, c.requires.room, ap size rule, ap size (still_plain above c.child_of-divisor.ensures.expression), adds_free c.requires.stands above) }
+    record {
+      stands = above.stands;
+      expression = still_expression above c.child_of-divisor.ensures.expression;
+      fits = search rules;
+      room = omega
+          (arith, c.requires.room, ap size rule, ap size (still_plain above c.child_of-divisor.ensures.expression), adds_free c.requires.stands above);
+    }
 
 pub place_quotient-place_over-requires-2 : goal.place_quotient-place_over-requires-2
 place_quotient-place_over-requires-2 t c =
-    let rule = quotient_whole (name_of c.args.name) (tree_of c.args.tree c.args.pool.now) c.requires.quotient c.child_of-dividend.ensures.plain c.child_of-divisor.ensures.plain (sym c.holds.ensures ∙ c.if-not-holds.false) in
+    let rule = quotient_whole (name_of c.args.name) (tree_of c.args.tree c.args.pool.now) c.requires.quotient c.child_of-dividend.ensures.plain c.child_of-divisor.ensures.plain
+    (sym c.holds.ensures ∙ c.if-not-holds.false) in
     let above = adds_one c.requires.stands c.place_difference.ensures in
     let both = adds_more above (adds_tree c.place_power_of.ensures (ap (λ (w : Tree). power w (whole_num 2)) (still_plain above c.child_of-divisor.ensures.expression))) in
     can_join c.requires.stands both refl c.used-begin.ensures.value refl (omega (arith, c.requires.room, ap size rule))
 
 pub place_quotient-returns : goal.place_quotient-returns
 place_quotient-returns t c =
-    let rule = quotient_whole (name_of c.args.name) (tree_of c.args.tree c.args.pool.now) c.requires.quotient c.child_of-dividend.ensures.plain c.child_of-divisor.ensures.plain (sym c.holds.ensures ∙ c.if-not-holds.false) in
+    let rule = quotient_whole (name_of c.args.name) (tree_of c.args.tree c.args.pool.now) c.requires.quotient c.child_of-dividend.ensures.plain c.child_of-divisor.ensures.plain
+    (sym c.holds.ensures ∙ c.if-not-holds.false) in
     let above = adds_one c.requires.stands c.place_difference.ensures in
     let both = adds_more above (adds_tree c.place_power_of.ensures (ap (λ (w : Tree). power w (whole_num 2)) (still_plain above c.child_of-divisor.ensures.expression))) in
     adds_tree (c.place_over-2.ensures _ _ c.requires.stands both refl) (sym rule)
@@ -349,7 +389,8 @@ pub place_power-child_of-exponent-requires-clause-within : goal.place_power-chil
 place_power-child_of-exponent-requires-clause-within t c = omega (arith, base_and_exponent (tree_of c.args.tree c.args.pool.now) c.requires.power)
 
 pub place_power-literal_exponent-number-requires-clause-derivable : goal.place_power-literal_exponent-number-requires-clause-derivable
-place_power-literal_exponent-number-requires-clause-derivable t c = exponent_in (name_of c.args.name) (tree_of c.args.tree c.args.pool.now) c.requires.power c.requires.held c.requires.derivable c.child_of-exponent.ensures.plain
+place_power-literal_exponent-number-requires-clause-derivable t c = exponent_in (name_of c.args.name)
+    (tree_of c.args.tree c.args.pool.now) c.requires.power c.requires.held c.requires.derivable c.child_of-exponent.ensures.plain
 
 pub place_power-is_zero-requires : goal.place_power-is_zero-requires
 place_power-is_zero-requires t c = told_fits c.literal_exponent-number.result c.literal_exponent-number.ensures.small
@@ -370,7 +411,8 @@ place_power-returns-then-is_zero t c =
 pub place_power-place_derivative-requires : goal.place_power-place_derivative-requires
 place_power-place_derivative-requires t c =
     let rule = first_power (name_of c.args.name) (tree_of c.args.tree c.args.pool.now) c.literal_exponent-number.result c.requires.power c.requires.held c.child_of-base.ensures.plain c.child_of-exponent.ensures.plain c.literal_exponent-number.ensures.value c.literal_exponent-number.ensures.small (sym c.is_one.ensures ∙ c.if-is_one.true) in
-    let k = child_in {x = name_of c.args.name} 0 (tree_of c.args.tree c.args.pool.now) (omega (arith, base_and_exponent (tree_of c.args.tree c.args.pool.now) c.requires.power)) c.requires.derivable c.child_of-base.ensures.plain in
+    let k = child_in {x = name_of c.args.name} 0 (tree_of c.args.tree c.args.pool.now)
+    (omega (arith, base_and_exponent (tree_of c.args.tree c.args.pool.now) c.requires.power)) c.requires.derivable c.child_of-base.ensures.plain in
     (omega (arith, k.smaller, c.decreases), (c.requires.stands, (c.child_of-base.ensures.expression, (k.derivable, omega (arith, c.requires.room, ap size rule)))))
 
 pub place_power-returns-then-is_one : goal.place_power-returns-then-is_one
@@ -381,21 +423,29 @@ place_power-returns-then-is_one t c =
 pub place_power-place_lowered-requires : goal.place_power-place_lowered-requires
 place_power-place_lowered-requires t c =
     let rule = lowered_power (name_of c.args.name) (tree_of c.args.tree c.args.pool.now) c.literal_exponent-number.result c.requires.power c.requires.held c.child_of-base.ensures.plain c.child_of-exponent.ensures.plain c.literal_exponent-number.ensures.value c.literal_exponent-number.ensures.small (sym c.is_zero.ensures ∙ c.if-is_zero.false) (sym c.is_one.ensures ∙ c.if-is_one.false) in
-    let k = child_in {x = name_of c.args.name} 0 (tree_of c.args.tree c.args.pool.now) (omega (arith, base_and_exponent (tree_of c.args.tree c.args.pool.now) c.requires.power)) c.requires.derivable c.child_of-base.ensures.plain in
-    let same = ap (λ z. lowered z (tree_of c.child_of-base.result c.args.pool.now) (derivative (name_of c.args.name) (tree_of c.child_of-base.result c.args.pool.now))) (told c.literal_exponent-number.result (small_fits c.literal_exponent-number.result c.literal_exponent-number.ensures.small)) in
+    let k = child_in {x = name_of c.args.name} 0 (tree_of c.args.tree c.args.pool.now)
+    (omega (arith, base_and_exponent (tree_of c.args.tree c.args.pool.now) c.requires.power)) c.requires.derivable c.child_of-base.ensures.plain in
+    let same = ap (λ z. lowered z (tree_of c.child_of-base.result c.args.pool.now) (derivative (name_of c.args.name) (tree_of c.child_of-base.result c.args.pool.now)))
+    (told c.literal_exponent-number.result (small_fits c.literal_exponent-number.result c.literal_exponent-number.ensures.small)) in
     (omega (arith, k.smaller, c.decreases), (c.requires.stands, (c.child_of-base.ensures.expression, (told_small c.literal_exponent-number.result c.literal_exponent-number.ensures.small, (k.derivable, omega (arith, c.requires.room, ap size rule, ap size same))))))
 
 pub place_power-returns : goal.place_power-returns
 place_power-returns t c =
     let rule = lowered_power (name_of c.args.name) (tree_of c.args.tree c.args.pool.now) c.literal_exponent-number.result c.requires.power c.requires.held c.child_of-base.ensures.plain c.child_of-exponent.ensures.plain c.literal_exponent-number.ensures.value c.literal_exponent-number.ensures.small (sym c.is_zero.ensures ∙ c.if-is_zero.false) (sym c.is_one.ensures ∙ c.if-is_one.false) in
-    let same = ap (λ z. lowered z (tree_of c.child_of-base.result c.args.pool.now) (derivative (name_of c.args.name) (tree_of c.child_of-base.result c.args.pool.now))) (told c.literal_exponent-number.result (small_fits c.literal_exponent-number.result c.literal_exponent-number.ensures.small)) in
+    let same = ap (λ z. lowered z (tree_of c.child_of-base.result c.args.pool.now) (derivative (name_of c.args.name) (tree_of c.child_of-base.result c.args.pool.now)))
+    (told c.literal_exponent-number.result (small_fits c.literal_exponent-number.result c.literal_exponent-number.ensures.small)) in
     adds_tree c.place_lowered.ensures (same ∙ sym rule)
 
 -- ---- place_lowered
 
 pub place_lowered-place_number-requires : goal.place_lowered-place_number-requires
 place_lowered-place_number-requires t c =
-    record { stands = c.requires.stands; fits = told_fits c.args.number c.requires.small; room = omega (arith, c.requires.room, ap size (ap (λ z. num (whole_fraction z)) (told c.args.number (small_fits c.args.number c.requires.small)))) }
+    record {
+      stands = c.requires.stands;
+      fits = told_fits c.args.number c.requires.small;
+      room = omega
+          (arith, c.requires.room, ap size (ap (λ z. num (whole_fraction z)) (told c.args.number (small_fits c.args.number c.requires.small))));
+    }
 
 pub place_lowered-overflow_sub-number : goal.place_lowered-overflow_sub-number
 place_lowered-overflow_sub-number t c = less_fits_signed c.args.number c.requires.small
@@ -434,7 +484,8 @@ place_root-child_of-argument-requires-clause-within t c = omega (arith, one_argu
 pub place_root-place_derivative-requires : goal.place_root-place_derivative-requires
 place_root-place_derivative-requires t c =
     let rule = root_by_rule (name_of c.args.name) (tree_of c.args.tree c.args.pool.now) c.requires.root c.requires.held c.child_of-argument.ensures.plain in
-    let k = child_in {x = name_of c.args.name} 0 (tree_of c.args.tree c.args.pool.now) (omega (arith, one_argument (tree_of c.args.tree c.args.pool.now) c.requires.root)) c.requires.derivable c.child_of-argument.ensures.plain in
+    let k = child_in {x = name_of c.args.name} 0 (tree_of c.args.tree c.args.pool.now)
+    (omega (arith, one_argument (tree_of c.args.tree c.args.pool.now) c.requires.root)) c.requires.derivable c.child_of-argument.ensures.plain in
     (omega (arith, k.smaller, c.decreases), (c.requires.stands, (c.child_of-argument.ensures.expression, (k.derivable, omega (arith, c.requires.room, ap size rule)))))
 
 pub place_root-place_number-requires : goal.place_root-place_number-requires

@@ -10,7 +10,12 @@ loop-at-init c = adds_as (adds_none c.args.pool.now c.requires.stands) (slice_no
 
 pub child_of-child-requires : goal.child_of-child-requires
 child_of-child-requires c =
-    record { stands = c.loop-at.invariant.stands; expression = still_expression c.loop-at.invariant c.requires.expression; within = omega (arith, ap (λ t. count (children_of t)) (still_plain c.loop-at.invariant c.requires.expression), c.loop-at-test.true, c.requires.within) }
+    record {
+      stands = c.loop-at.invariant.stands;
+      expression = still_expression c.loop-at.invariant c.requires.expression;
+      within = omega
+          (arith, ap (λ t. count (children_of t)) (still_plain c.loop-at.invariant c.requires.expression), c.loop-at-test.true, c.requires.within);
+    }
 
 -- the child that is copied
 tree_is : (c : After-child_of-child) → tree_of c.child_of-child.result c.loop-at.pool ≡ nth c.loop-at.at (children_of (tree_of c.args.parent c.args.pool.now))
@@ -26,4 +31,5 @@ pub loop-at-preserved : goal.loop-at-preserved
 loop-at-preserved c =
     let ts = children_of (tree_of c.args.parent c.args.pool.now) in
     let from : c.args.from ≤ c.loop-at.at = omega arith in
-    adds_as (adds_more c.loop-at.invariant (adds_tree c.place_copy.ensures (tree_is (goal.at.loop-at-preserved c).After-child_of-child))) (slice_more c.args.from c.loop-at.at ts from (omega (arith, c.loop-at-test.true, c.requires.within)))
+    adds_as (adds_more c.loop-at.invariant (adds_tree c.place_copy.ensures (tree_is (goal.at.loop-at-preserved c).After-child_of-child)))
+    (slice_more c.args.from c.loop-at.at ts from (omega (arith, c.loop-at-test.true, c.requires.within)))

@@ -14,7 +14,8 @@ returns-in_err-row-clause-overflow c =
       | else-place-at w ↦ w.other-is ∙ sym (ap (λ b. if b then 0 else c.loop-place.place) (ne_eqb c.loop-place.place c.args.at w.if-place-at.false))
     ] in
     let read = other_row c.args.at c.loop-place.place c.if-place-at.other c.args.rows.now c.index-rows-other.result [] (omega arith) (omega arith) c.requires.inside other c.index-rows-other.is in
-    let l : c.loop-place.place - 1 < length (others c.args.at (map entries_of c.args.rows.now)) = omega (arith, others_long c.args.at (map entries_of c.args.rows.now), length-map c.args.rows.now entries_of) in
+    let l : c.loop-place.place - 1 < length (others c.args.at (map entries_of c.args.rows.now)) = omega
+    (arith, others_long c.args.at (map entries_of c.args.rows.now), length-map c.args.rows.now entries_of) in
     rw (p.1, p.2) (each_stops (cleared c.args.name (entries_of c.args.pivot.now)) (others c.args.at (map entries_of c.args.rows.now)) (c.loop-place.place - 1) [] (map entries_of c.loop-place.left.items) (misfit_of c.in_err-row.field-0.0)
     l c.loop-place.invariant.made (ap (cleared c.args.name (entries_of c.args.pivot.now)) read ∙ c.in_err-row.ensures.overflow))
 
@@ -25,11 +26,13 @@ loop-place-preserved c =
       | else-place-at w ↦ w.other-is ∙ sym (ap (λ b. if b then 0 else c.loop-place.place) (ne_eqb c.loop-place.place c.args.at w.if-place-at.false))
     ] in
     let read = other_row c.args.at c.loop-place.place c.if-place-at.other c.args.rows.now c.index-rows-other.result [] (omega arith) (omega arith) c.requires.inside other c.index-rows-other.is in
-    let l : c.loop-place.place - 1 < length (others c.args.at (map entries_of c.args.rows.now)) = omega (arith, others_long c.args.at (map entries_of c.args.rows.now), length-map c.args.rows.now entries_of) in
+    let l : c.loop-place.place - 1 < length (others c.args.at (map entries_of c.args.rows.now)) = omega
+    (arith, others_long c.args.at (map entries_of c.args.rows.now), length-map c.args.rows.now entries_of) in
     let back : c.loop-place.place - 1 + 1 ≡ c.loop-place.place + 1 - 1 = omega arith in
     record {
       made = rw (mapped_push entries_of c.push.new.self.items c.loop-place.left.items c.in_ok-row.row c.push.ensures.items) (subst (λ n. each (cleared c.args.name (entries_of c.args.pivot.now)) (take n (others c.args.at (map entries_of c.args.rows.now))) ≡ Ok (map entries_of c.loop-place.left.items ++ entries_of c.in_ok-row.row ∷ [])) back
-          (each_more (cleared c.args.name (entries_of c.args.pivot.now)) (others c.args.at (map entries_of c.args.rows.now)) (c.loop-place.place - 1) [] (map entries_of c.loop-place.left.items) (entries_of c.in_ok-row.row)
+          (each_more (cleared c.args.name (entries_of c.args.pivot.now)) (others c.args.at (map entries_of c.args.rows.now)) (c.loop-place.place - 1) []
+          (map entries_of c.loop-place.left.items) (entries_of c.in_ok-row.row)
           l c.loop-place.invariant.made (ap (cleared c.args.name (entries_of c.args.pivot.now)) read ∙ c.in_ok-row.ensures.ok)));
       long = omega (arith, c.push.ensures.len, c.loop-place.invariant.long);
     }

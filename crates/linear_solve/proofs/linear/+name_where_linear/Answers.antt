@@ -19,19 +19,23 @@ name_where_linear-requires t c =
 pub returns-in_err-child : goal.returns-in_err-child
 returns-in_err-child t c =
     let within : c.loop-at.at < count (children_of (plain (tree_at c.args.t (forest c.args.pool.now)))) = omega (arith, c.children-at-end.ensures.plain c.requires.expression, c.loop-at-test.true) in
-    let none : name_where_linear (nth c.loop-at.at (children_of (plain (tree_at c.args.t (forest c.args.pool.now))))) ≡ None = ap name_where_linear (sym (c.child_id.ensures.plain c.requires.expression)) ∙ sym c.in_err-child.ensures in
-    rw c.from_residual-in_err-child.ensures (sym (asked_none c.kind-kind.result c.loop-at.named (children_of (plain (tree_at c.args.t (forest c.args.pool.now)))) c.loop-at.at within none) ∙ c.loop-at.invariant)
+    let none : name_where_linear (nth c.loop-at.at (children_of (plain (tree_at c.args.t (forest c.args.pool.now))))) ≡ None = ap name_where_linear
+    (sym (c.child_id.ensures.plain c.requires.expression)) ∙ sym c.in_err-child.ensures in
+    rw c.from_residual-in_err-child.ensures
+    (sym (asked_none c.kind-kind.result c.loop-at.named (children_of (plain (tree_at c.args.t (forest c.args.pool.now)))) c.loop-at.at within none) ∙ c.loop-at.invariant)
 
 pub returns-in_err-named-2 : goal.returns-in_err-named-2
 returns-in_err-named-2 t c =
     let within : c.loop-at.at < count (children_of (plain (tree_at c.args.t (forest c.args.pool.now)))) = omega (arith, c.children-at-end.ensures.plain c.requires.expression, c.loop-at-test.true) in
-    let some : name_where_linear (nth c.loop-at.at (children_of (plain (tree_at c.args.t (forest c.args.pool.now))))) ≡ Some c.in_ok-child.child = ap name_where_linear (sym (c.child_id.ensures.plain c.requires.expression)) ∙ sym c.in_ok-child.ensures in
+    let some : name_where_linear (nth c.loop-at.at (children_of (plain (tree_at c.args.t (forest c.args.pool.now))))) ≡ Some c.in_ok-child.child = ap name_where_linear
+    (sym (c.child_id.ensures.plain c.requires.expression)) ∙ sym c.in_ok-child.ensures in
     rw c.from_residual-in_err-named-2.ensures (sym (asked_clash c.kind-kind.result c.loop-at.named c.in_ok-child.child (children_of (plain (tree_at c.args.t (forest c.args.pool.now)))) c.loop-at.at within some (sym c.in_err-named-2.ensures)) ∙ c.loop-at.invariant)
 
 pub loop-at-preserved : goal.loop-at-preserved
 loop-at-preserved t c =
     let within : c.loop-at.at < count (children_of (plain (tree_at c.args.t (forest c.args.pool.now)))) = omega (arith, c.children-at-end.ensures.plain c.requires.expression, c.loop-at-test.true) in
-    let some : name_where_linear (nth c.loop-at.at (children_of (plain (tree_at c.args.t (forest c.args.pool.now))))) ≡ Some c.in_ok-child.child = ap name_where_linear (sym (c.child_id.ensures.plain c.requires.expression)) ∙ sym c.in_ok-child.ensures in
+    let some : name_where_linear (nth c.loop-at.at (children_of (plain (tree_at c.args.t (forest c.args.pool.now))))) ≡ Some c.in_ok-child.child = ap name_where_linear
+    (sym (c.child_id.ensures.plain c.requires.expression)) ∙ sym c.in_ok-child.ensures in
     sym (asked_next c.kind-kind.result c.loop-at.named c.in_ok-child.child c.in_ok-named-2.named (children_of (plain (tree_at c.args.t (forest c.args.pool.now)))) c.loop-at.at within some (sym c.in_ok-named-2.ensures)) ∙ c.loop-at.invariant
 
 pub returns : goal.returns

@@ -23,4 +23,5 @@ loop-at-preserved c =
     }
 
 pub returns : goal.returns
-returns c = c.loop-at.invariant.made ∙ take_all c.loop-at.at (forms_of c.args.names (map pivot_of c.args.pivots.now)) (omega (arith, forms_long c.args.names (map pivot_of c.args.pivots.now), length-map c.args.pivots.now pivot_of, c.loop-at-test.false))
+returns c = c.loop-at.invariant.made ∙ take_all c.loop-at.at (forms_of c.args.names (map pivot_of c.args.pivots.now))
+    (omega (arith, forms_long c.args.names (map pivot_of c.args.pivots.now), length-map c.args.pivots.now pivot_of, c.loop-at-test.false))

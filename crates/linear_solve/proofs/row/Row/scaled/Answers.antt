@@ -15,7 +15,9 @@ pub loop-at-preserved : goal.loop-at-preserved
 loop-at-preserved g c =
     let l : c.loop-at.at < length (entries_of c.args.self.now) = omega (arith, c.len-at-end.ensures.value, c.loop-at-test.true) in
     record {
-      made = rw c.push.ensures (row_more (λ e. product_of e (value_of c.args.factor)) (entries_of c.args.self.now) c.loop-at.at (entries_of c.loop-at.products) (value_of c.get.result) (value_of c.in_ok-product.product)
-          l c.get.ensures c.loop-at.invariant.made (sym (mul_told c.get.result c.args.factor (Ok c.in_ok-product.product) c.in_ok-product.ensures.product c.in_ok-product.ensures.refused c.in_ok-product.ensures.named)));
+      made = rw c.push.ensures
+          (row_more (λ e. product_of e (value_of c.args.factor)) (entries_of c.args.self.now) c.loop-at.at (entries_of c.loop-at.products) (value_of c.get.result) (value_of c.in_ok-product.product)
+          l c.get.ensures c.loop-at.invariant.made
+          (sym (mul_told c.get.result c.args.factor (Ok c.in_ok-product.product) c.in_ok-product.ensures.product c.in_ok-product.ensures.refused c.in_ok-product.ensures.named)));
       long = longer _ _ _ c.loop-at.at c.push.ensures c.loop-at.invariant.long;
     }

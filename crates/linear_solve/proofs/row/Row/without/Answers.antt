@@ -38,11 +38,13 @@ loop-at-preserved g c =
     record {
       made = rw c.push.ensures (pair_more (λ (p : Fraction × Fraction). and_then (product_of (negative (value_of c.args.multiple)) p.1) (λ m. sum_of p.0 m)) (entries_of c.args.self.now) (entries_of c.args.other.now) c.loop-at.at (entries_of c.loop-at.rest) (value_of c.get-in-loop-at.result) (value_of c.get.result) (value_of c.in_ok-difference.difference)
           l k c.get-in-loop-at.ensures c.get.ensures c.loop-at.invariant.made
-          (then_ok _ _ _ made ∙ sym (add_told c.get-in-loop-at.result r (Ok c.in_ok-difference.difference) c.in_ok-difference.ensures.sum c.in_ok-difference.ensures.refused c.in_ok-difference.ensures.named)));
+          (then_ok _ _ _ made ∙ sym
+          (add_told c.get-in-loop-at.result r (Ok c.in_ok-difference.difference) c.in_ok-difference.ensures.sum c.in_ok-difference.ensures.refused c.in_ok-difference.ensures.named)));
       long = longer _ _ _ c.loop-at.at c.push.ensures c.loop-at.invariant.long;
     }
 
 pub returns-clause-ok : goal.returns-clause-ok
 returns-clause-ok g c =
-    pair_all (λ (p : Fraction × Fraction). and_then (product_of (negative (value_of c.args.multiple)) p.1) (λ m. sum_of p.0 m)) (entries_of c.args.self.now) (entries_of c.args.other.now) c.loop-at.at (entries_of c.loop-at.rest)
+    pair_all (λ (p : Fraction × Fraction). and_then (product_of (negative (value_of c.args.multiple)) p.1) (λ m. sum_of p.0 m)) (entries_of c.args.self.now)
+    (entries_of c.args.other.now) c.loop-at.at (entries_of c.loop-at.rest)
     (omega (arith, c.min-at-end.ensures, c.len.ensures.value, c.len-2.ensures.value, c.loop-at-test.false)) c.loop-at.invariant.made
