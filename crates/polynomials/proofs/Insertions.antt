@@ -1,5 +1,5 @@
 -- A term inserted at its place.
-use Rattle.std.proofs.Common.{◌≡◌, ◌⊎◌, ℕ, zero, suc, ◌<◌, ◌≤◌, Bool, true, false, List, [], ◌∷◌, ◌++◌, length, get_or, take, drop, inl, inr, refl, sym, ap, ◌∙◌, subst, arith, append_assoc, take-append-drop}
+use Rattle.std.proofs.Common.{◌≡◌, ◌⊎◌, ℕ, zero, suc, ◌<◌, ◌≤◌, Bool, true, false, List, [], ◌∷◌, ◌++◌, length, get_or, take, drop, inl, inr, refl, sym, ap, ◌∙◌, subst, arith, append_assoc, append-nil, take-append-drop}
 use Rattle.std.specs.Prelude.{if◌then◌else◌, insert, remove}
 use Rattle.std.proofs.lemmas.List.{length-take-le}
 use Rattle.calc_terms.specs.Fractions.{is_zero_fraction, plus}
@@ -45,6 +45,23 @@ has_more : (k : ℕ) (xs ys : List Term) (s : Term) → HasMonomial k (xs ++ ys)
 has_more k [] ys s h = inr h
 has_more k (x ∷ xs) ys s (inl e) = inl e
 has_more k (x ∷ xs) ys s (inr h) = inr (has_more k xs ys s h)
+
+-- ---- behind all
+
+module _ (xs zs : List Term) (t : Term) (e : zs ≡ pushed xs t) where
+  pub push_terms : IsNormal xs → AreBelow t.monomial xs → AreTermsOf (summand_of t ∷ polynomial_of xs) zs
+  push_terms h b =
+      subst (λ (ys : List Term). AreTermsOf (summand_of t ∷ polynomial_of xs) ys) (append-nil zs)
+      (subst (λ (ys : List Term). AreTermsOf (summand_of t ∷ polynomial_of ys) (zs ++ [])) (append-nil xs) (put_terms xs [] zs t e (subst IsNormal (sym (append-nil xs)) h) b tt))
+
+  pub push_exponents : (d : ℕ) → HaveExponents d (summand_of t ∷ polynomial_of xs) → HaveExponents d (polynomial_of zs)
+  push_exponents d h =
+      subst (λ (ys : List Term). HaveExponents d (polynomial_of ys)) (append-nil zs)
+      (put_exponents xs [] zs t e d (subst (λ (ys : List Term). HaveExponents d (summand_of t ∷ polynomial_of ys)) (sym (append-nil xs)) h))
+
+  pub push_others : (k : ℕ) → HasMonomial k zs → (t.monomial ≡ k) ⊎ HasMonomial k xs
+  push_others k h =
+      elim (has_pushed k xs [] t (subst (HasMonomial k) (e ∙ sym (append-nil (pushed xs t))) h)) [ inl q ↦ inl q | inr g ↦ inr (subst (HasMonomial k) (append-nil xs) g) ]
 
 -- ---- a monomial that does not stand there
 

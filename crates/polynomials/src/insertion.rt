@@ -7,6 +7,7 @@ ghost use Rattle.polynomials.specs.Rows.{AreBelow, StartsFrom};
 ghost use Rattle.polynomials.specs.Terms.{AreTermsOf, IsNormal, polynomial_of, summand_of};
 ghost use Rattle.polynomials.specs.Unfits.{HasMonomial, IsCaused, OfCoefficient};
 
+use crate::list::push_nonzero;
 use crate::term::Term;
 use crate::unfit::Unfit;
 
@@ -24,7 +25,7 @@ pub fn insert(list: &mut Vec<Term>, term: Term) -> Result<(), Unfit>
 {
     let at = place_of(list, term.monomial);
     if at == list.len() {
-        return insert_at(list, at, term);
+        return push_nonzero(list, term);
     }
     let other = list[at];
     if other.monomial != term.monomial {

@@ -2,7 +2,7 @@
 ghost use Rattle.std.specs.Prelude.{◌≡◌, ◌<◌, ◌≤◌, ◌+◌, [], ◌∷◌, ◌++◌, IfErr, OnOk, length, vec_capacity, if◌then◌else◌};
 ghost use Rattle.calc_terms.specs.Fractions.{is_zero_fraction};
 ghost use Rattle.calc_terms.specs.Rat.{value_of};
-ghost use Rattle.polynomials.specs.Unfits.{IsCaused};
+ghost use Rattle.polynomials.specs.Unfits.{IsCaused, OfCoefficient};
 
 use crate::term::Term;
 use crate::unfit::Unfit;
@@ -11,6 +11,7 @@ use crate::unfit::Unfit;
 pub(crate) fn push(list: &mut Vec<Term>, term: Term) -> Result<(), Unfit>
     ensures ok { OnOk result (list.new.items ≡ list.old.items ++ term ∷ []) }
     ensures unfit { IfErr result (IsCaused (vec_capacity list.old ≤ length list.old.items)) }
+    ensures like { IfErr result (OfCoefficient ⊥) }
     ensures room { vec_capacity list.old ≤ vec_capacity list.new }
 {
     if list.len() == list.capacity() {
@@ -24,6 +25,7 @@ pub(crate) fn push(list: &mut Vec<Term>, term: Term) -> Result<(), Unfit>
 pub(crate) fn push_nonzero(list: &mut Vec<Term>, term: Term) -> Result<(), Unfit>
     ensures ok { OnOk result (list.new.items ≡ (if is_zero_fraction (value_of term.coefficient) then list.old.items else list.old.items ++ term ∷ [])) }
     ensures unfit { IfErr result (IsCaused (vec_capacity list.old ≤ length list.old.items)) }
+    ensures like { IfErr result (OfCoefficient ⊥) }
     ensures room { vec_capacity list.old ≤ vec_capacity list.new }
 {
     if term.coefficient.is_zero() {

@@ -1,12 +1,12 @@
 use Rattle.std.proofs.Common.{◌≡◌, ◌<◌, ◌≤◌, ℕ, List, length, take, drop, get_or, sym, ap, ◌∙◌, subst, arith, take-append-drop}
-use Rattle.std.proofs.lemmas.List.{length-drop}
+use Rattle.std.proofs.lemmas.List.{take_all}
 use Rattle.std.proofs.lemmas.Result.{on_ok_weaker}
 use Rattle.polynomials.specs.declared.term.Term.{Term}
 use Rattle.polynomials.specs.Rows.{AreBelow, StartsFrom}
 use Rattle.polynomials.specs.Terms.{IsBelowAll, IsNormal}
-use Rattle.polynomials.proofs.Causes.{like_anyway}
-use Rattle.polynomials.proofs.Insertions.{exchange_exponents, exchange_others, exchange_terms, first_dropped, insert_exponents, insert_others, insert_terms, inserted}
-use Rattle.polynomials.proofs.Normal.{behind_none, behind_other, normal_end, stands_at}
+use Rattle.polynomials.proofs.Causes.{like_anyway, pushed_length}
+use Rattle.polynomials.proofs.Insertions.{exchange_exponents, exchange_others, exchange_terms, first_dropped, insert_exponents, insert_others, insert_terms, inserted, push_exponents, push_others, push_terms}
+use Rattle.polynomials.proofs.Normal.{behind_other, normal_end, stands_at}
 use Rattle.polynomials.proofs.insertion.insert.Goals as goal
 use Rattle.polynomials.proofs.insertion.insert.Goals.{After-len}
 
@@ -30,8 +30,8 @@ module _ (c : After-len) where
   from : StartsFrom c.args.term.monomial (drop at xs)
   from = subst (λ (ys : List Term). StartsFrom c.args.term.monomial (drop at ys)) c.deref.ensures.value c.place_of-at.ensures.from
 
-  none_behind : at ≡ c.len.result → IsBelowAll c.args.term.monomial (drop at xs)
-  none_behind e = behind_none c.args.term.monomial (drop at xs) (omega (arith, length-drop at xs, many))
+  below_all : at ≡ c.len.result → AreBelow c.args.term.monomial xs
+  below_all e = subst (AreBelow c.args.term.monomial) (take_all at xs (omega (arith, e, many))) below
 
   not_last : (at ≡ c.len.result → ⊥) → at < length xs
   not_last n = omega (arith, within, many)
@@ -44,23 +44,28 @@ module _ (c : After-len) where
 pub returns-then-at-len-clause-terms : goal.returns-then-at-len-clause-terms
 returns-then-at-len-clause-terms c =
     let k = (goal.at.returns-then-at-len-clause-terms c).After-len in
-    on_ok_weaker c.insert_at.result (λ e. insert_terms (xs k) (at k) c.args.term c.insert_at.new.list.items (within k) e c.requires.normal (below k) (none_behind k c.if-at-len.true)) c.insert_at.ensures.ok
+    on_ok_weaker c.push_nonzero.result (λ e. push_terms (xs k) c.push_nonzero.new.list.items c.args.term e c.requires.normal (below_all k c.if-at-len.true)) c.push_nonzero.ensures.ok
 
 pub returns-then-at-len-clause-exponents : goal.returns-then-at-len-clause-exponents
 returns-then-at-len-clause-exponents c = λ d h.
     let k = (goal.at.returns-then-at-len-clause-exponents c).After-len in
-    on_ok_weaker c.insert_at.result (λ e. insert_exponents (xs k) (at k) c.args.term c.insert_at.new.list.items (within k) e d h) c.insert_at.ensures.ok
+    on_ok_weaker c.push_nonzero.result (λ e. push_exponents (xs k) c.push_nonzero.new.list.items c.args.term e d h) c.push_nonzero.ensures.ok
+
+pub returns-then-at-len-clause-few : goal.returns-then-at-len-clause-few
+returns-then-at-len-clause-few c =
+    let k = (goal.at.returns-then-at-len-clause-few c).After-len in
+    on_ok_weaker c.push_nonzero.result (λ e. omega (arith, ap length e, pushed_length (xs k) c.args.term)) c.push_nonzero.ensures.ok
 
 pub returns-then-other-term-clause-terms : goal.returns-then-other-term-clause-terms
 returns-then-other-term-clause-terms c =
     let k = (goal.at.returns-then-other-term-clause-terms c).After-len in
-    on_ok_weaker c.insert_at-then-other-term.result (λ e. insert_terms (xs k) (at k) c.args.term c.insert_at-then-other-term.new.list.items (within k) e c.requires.normal (below k)
-    (other_behind k c.index-other.result.now (not_last k c.if-at-len.false) c.index-other.ensures c.if-other-term.true)) c.insert_at-then-other-term.ensures.ok
+    on_ok_weaker c.insert_at.result (λ e. insert_terms (xs k) (at k) c.args.term c.insert_at.new.list.items (within k) e c.requires.normal (below k)
+    (other_behind k c.index-other.result.now (not_last k c.if-at-len.false) c.index-other.ensures c.if-other-term.true)) c.insert_at.ensures.ok
 
 pub returns-then-other-term-clause-exponents : goal.returns-then-other-term-clause-exponents
 returns-then-other-term-clause-exponents c = λ d h.
     let k = (goal.at.returns-then-other-term-clause-exponents c).After-len in
-    on_ok_weaker c.insert_at-then-other-term.result (λ e. insert_exponents (xs k) (at k) c.args.term c.insert_at-then-other-term.new.list.items (within k) e d h) c.insert_at-then-other-term.ensures.ok
+    on_ok_weaker c.insert_at.result (λ e. insert_exponents (xs k) (at k) c.args.term c.insert_at.new.list.items (within k) e d h) c.insert_at.ensures.ok
 
 pub returns-clause-terms : goal.returns-clause-terms
 returns-clause-terms c =
@@ -84,12 +89,12 @@ returns-in_err-total-clause-like c =
 pub returns-then-at-len-clause-others : goal.returns-then-at-len-clause-others
 returns-then-at-len-clause-others c = λ m.
     let k = (goal.at.returns-then-at-len-clause-others c).After-len in
-    on_ok_weaker c.insert_at.result (λ e. insert_others (xs k) (at k) c.args.term c.insert_at.new.list.items (within k) e m) c.insert_at.ensures.ok
+    on_ok_weaker c.push_nonzero.result (λ e. push_others (xs k) c.push_nonzero.new.list.items c.args.term e m) c.push_nonzero.ensures.ok
 
 pub returns-then-other-term-clause-others : goal.returns-then-other-term-clause-others
 returns-then-other-term-clause-others c = λ m.
     let k = (goal.at.returns-then-other-term-clause-others c).After-len in
-    on_ok_weaker c.insert_at-then-other-term.result (λ e. insert_others (xs k) (at k) c.args.term c.insert_at-then-other-term.new.list.items (within k) e m) c.insert_at-then-other-term.ensures.ok
+    on_ok_weaker c.insert_at.result (λ e. insert_others (xs k) (at k) c.args.term c.insert_at.new.list.items (within k) e m) c.insert_at.ensures.ok
 
 pub returns-clause-others : goal.returns-clause-others
 returns-clause-others c = λ m.
