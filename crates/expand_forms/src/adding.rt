@@ -25,10 +25,10 @@ ghost use Rattle.tree_handles.specs.Standing.{KeepsRefusals, LacksBytes, Refuses
 use crate::factors::{self, Factors};
 use crate::monomials::{completed, place_merged};
 use crate::ordering::place_of;
-use crate::rationals::{add, is_zero};
 use calc_terms::Rat;
 use child_lists::{ChildList, next_child, put_before};
 use node_pool::{Full, Id, Pool};
+use rational128::add;
 use tree_handles::{Handle, NumberFault, release, replace_known_child, take_known_child};
 
 /// Joins a coefficient times the monomials of two terms to a sum: with the term that has its monomial, which may leave
@@ -136,7 +136,7 @@ fn replace<const N: usize>(
     ensures room { IfErr result (λ full. free_of pool.old < number_bytes) }
     ensures stands { Stands pool.new }
 {
-    if is_zero(total) {
+    if total.is_zero() {
         release(pool, product);
         remove(pool, sum, list, at);
         return Ok(());

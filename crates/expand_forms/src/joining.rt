@@ -23,11 +23,11 @@ ghost use Rattle.tree_handles.specs.Standing.{KeepsRefusals, Stands, forest};
 
 use crate::adding::join_product;
 use crate::factors::coefficient;
-use crate::rationals::mul;
 use crate::terms::{term_count, term_id};
 use calc_terms::Rat;
 use child_lists::{ChildList, FEW, MANY, NONE};
 use node_pool::{Id, Pool};
+use rational128::mul;
 use tree_handles::{Handle, NumberFault, children};
 
 /// Joins the product of each term of an expanded tree and each of another to a sum.

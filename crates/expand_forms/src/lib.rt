@@ -18,7 +18,6 @@ mod parts;
 mod placing;
 mod polynomial;
 mod products;
-mod rationals;
 mod reading;
 mod replacing;
 mod term_lists;

@@ -22,10 +22,9 @@ ghost use Rattle.tree_handles.specs.Inside.{tree_at};
 ghost use Rattle.tree_handles.specs.Standing.{KeepsRefusals, LacksBytes, Refuses, Stands, forest};
 
 use crate::factors::{Factor, Factors};
-use crate::rationals::{add, is_one};
 use calc_terms::Kind;
 use node_pool::{Full, Id, Pool};
-use rational128::Overflow;
+use rational128::{Overflow, add};
 use std::cmp::Ordering;
 use tree_handles::{Handle, NumberFault, adopt, node, number, symbol};
 
@@ -115,7 +114,7 @@ pub(crate) fn place_factor(pool: &mut Pool, factor: Factor) -> Result<Handle, Fu
     ensures room { IfErr result (λ full. free_of pool.old < factor_bytes) }
     ensures stands { Stands pool.new }
 {
-    if is_one(factor.exponent) {
+    if factor.exponent.is_one() {
         return symbol(pool, factor.name);
     }
     place_power(pool, factor)

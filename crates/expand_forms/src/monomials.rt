@@ -20,7 +20,6 @@ ghost use Rattle.tree_handles.specs.Standing.{KeepsRefusals, LacksBytes, Refuses
 
 use crate::factors::Factors;
 use crate::merging::place_factors;
-use crate::rationals::is_one;
 use calc_terms::{Kind, Rat};
 use coefficients::unwrapped;
 use node_pool::{Full, Id, Pool};
@@ -104,7 +103,7 @@ fn is_written(pool: &Pool, product: Id, coefficient: Rat) -> bool
     ensures { let ts = children_of (plain (tree_at product (forest pool.now))) in
         led_by (value_of coefficient) ts ≡ (if result then more (num (value_of coefficient)) ts else ts) }
 {
-    if is_one(coefficient) {
+    if coefficient.is_one() {
         return children(pool, product) == 0;
     }
     true

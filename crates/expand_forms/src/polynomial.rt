@@ -8,7 +8,6 @@ ghost use Rattle.tree_handles.specs.Expressions.{IsExpression, plain};
 ghost use Rattle.tree_handles.specs.Inside.{tree_at};
 ghost use Rattle.tree_handles.specs.Standing.{Stands, forest};
 
-use crate::rationals::is_zero;
 use calc_terms::{Kind, Rat};
 use node_pool::{Id, Pool};
 use rational128::neg;
@@ -111,7 +110,7 @@ fn is_nonzero(pool: &Pool, tree: Id) -> bool
     ensures { result ≡ is_nonzero (plain (tree_at tree (forest pool.now))) }
 {
     match kind(pool, tree) {
-        Kind::Num => !is_zero(rational(pool, tree)),
+        Kind::Num => !rational(pool, tree).is_zero(),
         _ => false,
     }
 }

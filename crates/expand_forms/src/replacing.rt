@@ -14,7 +14,6 @@ ghost use Rattle.tree_handles.specs.Standing.{KeepsRefusals, LacksBytes, Refuses
 
 use crate::factors::Factor;
 use crate::merging::place_factor;
-use crate::rationals::is_one;
 use calc_terms::{Kind, Rat};
 use node_pool::{Full, Pool};
 use tree_handles::{Handle, adopt, node, number};
@@ -40,7 +39,7 @@ pub(crate) fn place_term(
     if factors.is_empty() {
         return number(pool, coefficient);
     }
-    if factors.len() == 1 && is_one(coefficient) {
+    if factors.len() == 1 && coefficient.is_one() {
         return place_factor(pool, factors[0]);
     }
     place_product(pool, coefficient, factors)
@@ -63,7 +62,7 @@ fn place_product(pool: &mut Pool, coefficient: Rat, factors: &[Factor]) -> Resul
 {
     let product = node(pool, Kind::Mult)?;
     let mut placed = 0;
-    if !is_one(coefficient) {
+    if !coefficient.is_one() {
         let _number = number(pool, coefficient)?;
         placed = 1;
     }

@@ -7,7 +7,6 @@ ghost use Rattle.tree_handles.specs.Expressions.{IsExpression, nth, plain};
 ghost use Rattle.tree_handles.specs.Inside.{holds, tree_at};
 ghost use Rattle.tree_handles.specs.Standing.{Stands, forest};
 
-use crate::rationals::is_zero;
 use calc_terms::Kind;
 use child_lists::ChildList;
 use node_pool::{Id, Pool};
@@ -21,7 +20,7 @@ pub(crate) fn term_count(pool: &Pool, tree: Id) -> u16
 {
     match kind(pool, tree) {
         Kind::Add => children(pool, tree),
-        Kind::Num => { if is_zero(rational(pool, tree)) { 0 } else { 1 } }
+        Kind::Num => { if rational(pool, tree).is_zero() { 0 } else { 1 } }
         _ => 1,
     }
 }

@@ -14,22 +14,33 @@ child-old-requires g c =
 
 -- the old term, before the new one was placed
 known : (g : Over) (c : After-id-id g) → IsChildAt c.args.at c.args.sum.now c.child-old.result (without_root c.args.term (forest c.args.pool.now))
-known g c = next_before c.args.at (Some c.child-old.result) c.requires.sum.ends c.requires.term.ends (subst (λ (i : ℕ). IsChildAt c.args.at i c.child-old.result (forest c.args.pool.now)) c.id.ensures c.child-old.ensures.child)
+known g c = next_before c.args.at (Some c.child-old.result) c.requires.sum.ends c.requires.term.ends
+    (subst (λ (i : ℕ). IsChildAt c.args.at i c.child-old.result (forest c.args.pool.now)) c.id.ensures c.child-old.ensures.child)
 
 pub replace_known_child-gone-requires-clause-known : goal.replace_known_child-gone-requires-clause-known
-replace_known_child-gone-requires-clause-known g c =
-    (c.args.sum.now, c.args.at, c.requires.term.tree, without_root c.args.term (forest c.args.pool.now), c.requires.term.ends, known g (goal.at.replace_known_child-gone-requires-clause-known g c).After-id-id)
+replace_known_child-gone-requires-clause-known g c = (
+  c.args.sum.now,
+  c.args.at,
+  c.requires.term.tree,
+  without_root c.args.term (forest c.args.pool.now),
+  c.requires.term.ends,
+  known g
+      (goal.at.replace_known_child-gone-requires-clause-known g c).After-id-id,
+)
 
-gone : (g : Over) (c : After-replace_known_child-gone g) → Ends c.replace_known_child-gone.result (tree_nth c.args.at (kids (root_tree c.args.sum.now (without_root c.args.term (forest c.args.pool.now)))))
+gone : (g : Over) (c : After-replace_known_child-gone g)
+    → Ends c.replace_known_child-gone.result (tree_nth c.args.at (kids (root_tree c.args.sum.now (without_root c.args.term (forest c.args.pool.now)))))
     (put c.args.sum.now (set_nth c.args.at c.requires.term.tree (kids (root_tree c.args.sum.now (without_root c.args.term (forest c.args.pool.now))))) (without_root c.args.term (forest c.args.pool.now))) (forest c.replace_known_child-gone.new.pool)
 gone g c =
-    c.replace_known_child-gone.ensures.last c.args.sum.now c.args.at c.requires.term.tree (without_root c.args.term (forest c.args.pool.now)) c.requires.term.ends (known g c.before.before) (given_root c.requires.sum)
+    c.replace_known_child-gone.ensures.last c.args.sum.now c.args.at c.requires.term.tree (without_root c.args.term (forest c.args.pool.now)) c.requires.term.ends
+    (known g c.before.before) (given_root c.requires.sum)
 
 pub release-requires-clause-releasable : goal.release-requires-clause-releasable
 release-requires-clause-releasable g c = inl (last_root (gone g (goal.at.release-requires-clause-releasable g c).After-replace_known_child-gone))
 
 done : (g : Over) (c : After-release g)
-    → forest c.release.new.pool ≡ put c.args.sum.now (set_nth c.args.at c.requires.term.tree (kids (root_tree c.args.sum.now (without_root c.args.term (forest c.args.pool.now))))) (without_root c.args.term (forest c.args.pool.now))
+    → forest c.release.new.pool ≡ put c.args.sum.now (set_nth c.args.at c.requires.term.tree (kids (root_tree c.args.sum.now (without_root c.args.term (forest c.args.pool.now)))))
+    (without_root c.args.term (forest c.args.pool.now))
 done g c =
     let x = gone g c.before.before in
     c.release.ensures.owned (taken_owned c.args.at (given_handed c.requires.sum) x) ∙ last_rest x
@@ -52,5 +63,6 @@ returns-clause-lists g c =
     let many = many_kids i c.args.pool.now c.requires.stands handed in
     let same = t.root ∙ sym c.id-id.ensures in
     lists_other _ _ c.set.ensures c.requires.lists
-    (ids_exchanged i c.args.at c.args.pool.now c.release.new.pool c.requires.term.tree (without_root c.args.term (forest c.args.pool.now)) c.requires.stands c.release.ensures.stands handed.root (given_root c.requires.sum) t.alone
+    (ids_exchanged i c.args.at c.args.pool.now c.release.new.pool c.requires.term.tree
+    (without_root c.args.term (forest c.args.pool.now)) c.requires.stands c.release.ensures.stands handed.root (given_root c.requires.sum) t.alone
     (omega (arith, many, c.requires.within)) (done g (goal.at.returns-clause-lists g c).After-release ∙ ap (λ (f : Forest). put i (set_nth c.args.at c.requires.term.tree (kids f)) (without_root c.args.term (forest c.args.pool.now))) (sym (given_same i c.requires.term (given_root c.requires.sum)))) ∙ ap (slice_set (root_ids (kids_of i (forest c.args.pool.now))) c.args.at) same)

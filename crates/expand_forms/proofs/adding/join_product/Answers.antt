@@ -1,4 +1,4 @@
-use Rattle.std.proofs.Common.{rules, ◌≡◌, ◌<◌, ◌∙◌, [], ◌∷◌, ap, sym, subst, arith, length}
+use Rattle.std.proofs.Common.{refl, rules, ◌≡◌, ◌<◌, ◌∙◌, [], ◌∷◌, ap, sym, subst, arith, length}
 use Rattle.expand_forms.proofs.Shared.{not_from_false, no_zero, plus, value_of, Tree, count, is_mult, size, Fraction, one_fraction, lists_at, term_tree, IsNoOverflow, term_bytes, Monomial, monomial_times, summand, IsPlace, IsSum, HasMonomial, coefficient_in, free_of, OfFull, gives_rest, passed_on, children_of, nth, plain, Forest, Gives, KeepsFront, tree_of, tree_at, without_root, forest, behind_first, behind_new, front_after, front_after_one, front_after_two, front_same, given_handed, given_other, given_rest, given_root, given_same, given_told, gives_as, given_free, expression}
 use Rattle.expand_forms.proofs.ListedTerms.{lists_behind}
 use Rattle.expand_forms.proofs.Splits.{contradiction, total_fits}
@@ -19,12 +19,25 @@ place_merged-requires g c =
     let (m, n, hm, hn) = c.requires.monomials in
     let x = beside c.requires.sum c.requires.first in
     let y = beside c.requires.sum c.requires.second in
-    record { stands = c.requires.stands; factors = c.of-left.ensures; first = x.expression; second = y.expression; monomials = (m, n, subst (HasMonomial m) (sym x.same) hm, subst (HasMonomial n) (sym y.same) hn) }
+    record {
+      stands = c.requires.stands;
+      factors = c.of-left.ensures;
+      first = x.expression;
+      second = y.expression;
+      monomials = (
+        m,
+        n,
+        subst (HasMonomial m) (sym x.same) hm,
+        subst
+            (HasMonomial n) (sym y.same) hn,
+      );
+    }
 
 -- ---- the product, behind the sum
 
 -- its monomial
-sought : (g : Over) (c : After-id-2 g) (m n : Monomial) → HasMonomial m (plain (tree_at c.args.s (without_root c.args.sum.now (forest c.args.pool.now)))) → HasMonomial n (plain (tree_at c.args.t (without_root c.args.sum.now (forest c.args.pool.now))))
+sought : (g : Over) (c : After-id-2 g) (m n : Monomial) → HasMonomial m (plain (tree_at c.args.s (without_root c.args.sum.now (forest c.args.pool.now))))
+    → HasMonomial n (plain (tree_at c.args.t (without_root c.args.sum.now (forest c.args.pool.now))))
     → HasMonomial (monomial_times m n) (plain (tree_at c.id-2.result (forest c.place_merged.new.pool)))
 sought g c m n hm hn =
     let p = placed_behind c.requires.sum c.requires.first c.requires.second c.in_ok-product.ensures.ok m n hm hn in
@@ -56,12 +69,14 @@ place_of-requires g c =
 
 -- ---- a new term
 
-place_in : (g : Over) (c : In-Err g) (q : Fraction) (m n : Monomial) → HasMonomial m (plain (tree_at c.args.s (without_root c.args.sum.now (forest c.args.pool.now)))) → HasMonomial n (plain (tree_at c.args.t (without_root c.args.sum.now (forest c.args.pool.now))))
+place_in : (g : Over) (c : In-Err g) (q : Fraction) (m n : Monomial) → HasMonomial m (plain (tree_at c.args.s (without_root c.args.sum.now (forest c.args.pool.now))))
+    → HasMonomial n (plain (tree_at c.args.t (without_root c.args.sum.now (forest c.args.pool.now))))
     → IsPlace c.in-Err.at (term_tree (summand q (monomial_times m n))) (children_of (tree_of c.args.sum.now c.args.pool.now))
 place_in g c q m n hm hn =
     let h = monomial_times_monomial m n hm.monomial hn.monomial in
     subst (λ (t : Tree). IsPlace c.in-Err.at (term_tree (summand q (monomial_times m n))) (children_of t))
-    (sum_read c.args.pool.now c.place_merged.new.pool c.requires.sum (placed_behind c.requires.sum c.requires.first c.requires.second c.in_ok-product.ensures.ok m n hm hn) c.in_ok-product.ensures.stands c.id.ensures)
+    (sum_read c.args.pool.now c.place_merged.new.pool c.requires.sum
+    (placed_behind c.requires.sum c.requires.first c.requires.second c.in_ok-product.ensures.ok m n hm hn) c.in_ok-product.ensures.stands c.id.ensures)
     (c.in-Err.ensures.place (monomial_times m n) (term_tree (summand q (monomial_times m n))) (sought g c.before.before m n hm hn) (has_monomial q h))
 
 pub completed-requires-clause-product : goal.completed-requires-clause-product
@@ -69,7 +84,8 @@ completed-requires-clause-product g c =
     let (m, n, hm, hn) = c.requires.monomials in
     gives_rest (placed_behind c.requires.sum c.requires.first c.requires.second c.in_ok-product.ensures.ok m n hm hn) (λ t e. ap is_mult e)
 
-completed : (g : Over) (c : In_ok-term-in-Err g) (m n : Monomial) → HasMonomial m (plain (tree_at c.args.s (without_root c.args.sum.now (forest c.args.pool.now)))) → HasMonomial n (plain (tree_at c.args.t (without_root c.args.sum.now (forest c.args.pool.now))))
+completed : (g : Over) (c : In_ok-term-in-Err g) (m n : Monomial) → HasMonomial m (plain (tree_at c.args.s (without_root c.args.sum.now (forest c.args.pool.now))))
+    → HasMonomial n (plain (tree_at c.args.t (without_root c.args.sum.now (forest c.args.pool.now))))
     → Gives (forest c.args.pool.now) (forest c.completed.new.pool) c.in_ok-term-in-Err.term (λ u. u ≡ term_tree (summand (value_of c.args.coefficient) (monomial_times m n)))
 completed g c m n hm hn =
     let p = placed_behind c.requires.sum c.requires.first c.requires.second c.in_ok-product.ensures.ok m n hm hn in
@@ -108,21 +124,25 @@ returns-in_ok-term-in-Err-clause-front g c =
     let (m, n, hm, hn) = c.requires.monomials in
     let p = placed_behind c.requires.sum c.requires.first c.requires.second c.in_ok-product.ensures.ok m n hm hn in
     let r = completed g (goal.at.returns-in_ok-term-in-Err-clause-front g c).In_ok-term-in-Err m n hm hn in
-    front_after_two behind_first (behind_new r.ends front_same) (front_after_one (behind_new p.ends front_same) (front_after front_same c.place_merged.ensures.front) c.completed.ensures.front) c.insert.ensures.front
+    front_after_two behind_first (behind_new r.ends front_same)
+    (front_after_one (behind_new p.ends front_same) (front_after front_same c.place_merged.ensures.front) c.completed.ensures.front) c.insert.ensures.front
 
 pub returns-in_err-term-in-Err-clause-front : goal.returns-in_err-term-in-Err-clause-front
 returns-in_err-term-in-Err-clause-front g c =
     let (m, n, hm, hn) = c.requires.monomials in
-    front_after_one (behind_new (placed_behind c.requires.sum c.requires.first c.requires.second c.in_ok-product.ensures.ok m n hm hn).ends front_same) (front_after front_same c.place_merged.ensures.front) c.completed.ensures.front
+    front_after_one (behind_new (placed_behind c.requires.sum c.requires.first c.requires.second c.in_ok-product.ensures.ok m n hm hn).ends front_same)
+    (front_after front_same c.place_merged.ensures.front) c.completed.ensures.front
 
 -- ---- a term that is there
 
-found : (g : Over) (c : In-Ok g) (q : Fraction) (m n : Monomial) → HasMonomial m (plain (tree_at c.args.s (without_root c.args.sum.now (forest c.args.pool.now)))) → HasMonomial n (plain (tree_at c.args.t (without_root c.args.sum.now (forest c.args.pool.now))))
+found : (g : Over) (c : In-Ok g) (q : Fraction) (m n : Monomial) → HasMonomial m (plain (tree_at c.args.s (without_root c.args.sum.now (forest c.args.pool.now))))
+    → HasMonomial n (plain (tree_at c.args.t (without_root c.args.sum.now (forest c.args.pool.now))))
     → IsFoundAt c.in-Ok.at (term_tree (summand q (monomial_times m n))) (children_of (tree_of c.args.sum.now c.args.pool.now))
 found g c q m n hm hn =
     let h = monomial_times_monomial m n hm.monomial hn.monomial in
     subst (λ (t : Tree). IsFoundAt c.in-Ok.at (term_tree (summand q (monomial_times m n))) (children_of t))
-    (sum_read c.args.pool.now c.place_merged.new.pool c.requires.sum (placed_behind c.requires.sum c.requires.first c.requires.second c.in_ok-product.ensures.ok m n hm hn) c.in_ok-product.ensures.stands c.id.ensures)
+    (sum_read c.args.pool.now c.place_merged.new.pool c.requires.sum
+    (placed_behind c.requires.sum c.requires.first c.requires.second c.in_ok-product.ensures.ok m n hm hn) c.in_ok-product.ensures.stands c.id.ensures)
     (c.in-Ok.ensures.found (monomial_times m n) (term_tree (summand q (monomial_times m n))) (sought g c.before.before m n hm hn) (has_monomial q h))
 
 within : (g : Over) (c : In-Ok g) → c.in-Ok.at < count (children_of (tree_of c.args.sum.now c.args.pool.now))
@@ -186,12 +206,15 @@ returns-in_ok-replace-in-Ok-clause-ok g c = λ m n hm hn.
     let same = (found g (goal.at.returns-in_ok-replace-in-Ok-clause-ok g c).In-Ok q m n hm hn).1 in
     let total : value_of c.in_ok-total-in-Ok.total ≡ plus (coefficient_in (nth c.in-Ok.at ts)) q =
     c.in_ok-total-in-Ok.ensures.sum ∙ ap (λ r. plus r q) (c.coefficient.ensures ∙ ap coefficient_in (other g (goal.at.returns-in_ok-replace-in-Ok-clause-ok g c).After-child-other)) in
-    set_in (summand q (monomial_times m n)) c.in-Ok.at (value_of c.in_ok-total-in-Ok.total) c.requires.sum p (within g (goal.at.returns-in_ok-replace-in-Ok-clause-ok g c).In-Ok) same total (c.in_ok-replace-in-Ok.ensures.ok (monomial_times m n) (given_told p))
+    set_in (summand q (monomial_times m n)) c.in-Ok.at (value_of c.in_ok-total-in-Ok.total) c.requires.sum p
+    (within g (goal.at.returns-in_ok-replace-in-Ok-clause-ok g c).In-Ok) same total (c.in_ok-replace-in-Ok.ensures.ok (monomial_times m n) (given_told p))
 
-replaced : (g : Over) (c : In_ok-product g) {f : Forest} → KeepsFront (c.args.sum.now ∷ c.in_ok-product.product ∷ []) (forest c.place_merged.new.pool) f → KeepsFront (c.args.sum.now ∷ []) (forest c.args.pool.now) f
+replaced : (g : Over) (c : In_ok-product g) {f : Forest} → KeepsFront (c.args.sum.now ∷ c.in_ok-product.product ∷ []) (forest c.place_merged.new.pool) f
+    → KeepsFront (c.args.sum.now ∷ []) (forest c.args.pool.now) f
 replaced g c k =
     let (m, n, hm, hn) = c.requires.monomials in
-    front_after_two behind_first (behind_new (placed_behind c.requires.sum c.requires.first c.requires.second c.in_ok-product.ensures.ok m n hm hn).ends front_same) (front_after front_same c.place_merged.ensures.front) k
+    front_after_two behind_first (behind_new (placed_behind c.requires.sum c.requires.first c.requires.second c.in_ok-product.ensures.ok m n hm hn).ends front_same)
+    (front_after front_same c.place_merged.ensures.front) k
 
 pub returns-in_ok-replace-in-Ok-clause-front : goal.returns-in_ok-replace-in-Ok-clause-front
 returns-in_ok-replace-in-Ok-clause-front g c = replaced g (goal.at.returns-in_ok-replace-in-Ok-clause-front g c).In_ok-product c.replace.ensures.front
@@ -203,10 +226,12 @@ returns-in_err-replace-in-Ok-clause-front g c = replaced g (goal.at.returns-in_e
 
 pub returns-in_err-product-clause-room : goal.returns-in_err-product-clause-room
 returns-in_err-product-clause-room g c = λ m n hm hn.
-    passed_on c.from_residual.result c.in_err-product.field-0.0 (OfFull (λ full. free_of c.args.pool.now < term_bytes (length (monomial_times m n)))) c.from_residual.ensures.0 c.from_residual.ensures.1
+    passed_on c.from_residual.result c.in_err-product.field-0.0
+    (OfFull (λ full. free_of c.args.pool.now < term_bytes (length (monomial_times m n)))) c.from_residual.ensures.0 c.from_residual.ensures.1
     (c.in_err-product.ensures.room m n (subst (HasMonomial m) (sym (beside c.requires.sum c.requires.first).same) hm) (subst (HasMonomial n) (sym (beside c.requires.sum c.requires.second).same) hn))
 
-few : (g : Over) (c : In_ok-product g) (m n : Monomial) → HasMonomial m (plain (tree_at c.args.s (without_root c.args.sum.now (forest c.args.pool.now)))) → HasMonomial n (plain (tree_at c.args.t (without_root c.args.sum.now (forest c.args.pool.now))))
+few : (g : Over) (c : In_ok-product g) (m n : Monomial) → HasMonomial m (plain (tree_at c.args.s (without_root c.args.sum.now (forest c.args.pool.now))))
+    → HasMonomial n (plain (tree_at c.args.t (without_root c.args.sum.now (forest c.args.pool.now))))
     → free_of c.place_merged.new.pool < 40 → free_of c.args.pool.now < term_bytes (length (monomial_times m n))
 few g c m n hm hn l =
     let p = placed_behind c.requires.sum c.requires.first c.requires.second c.in_ok-product.ensures.ok m n hm hn in
@@ -214,12 +239,14 @@ few g c m n hm hn l =
 
 pub returns-in_err-term-in-Err-clause-room : goal.returns-in_err-term-in-Err-clause-room
 returns-in_err-term-in-Err-clause-room g c = λ m n hm hn.
-    passed_on c.from_residual-in_err-term-in-Err.result (fault.Full c.in_err-term-in-Err.field-0.0) (OfFull (λ full. free_of c.args.pool.now < term_bytes (length (monomial_times m n)))) c.from_residual-in_err-term-in-Err.ensures.0 c.from_residual-in_err-term-in-Err.ensures.1
+    passed_on c.from_residual-in_err-term-in-Err.result (fault.Full c.in_err-term-in-Err.field-0.0)
+    (OfFull (λ full. free_of c.args.pool.now < term_bytes (length (monomial_times m n)))) c.from_residual-in_err-term-in-Err.ensures.0 c.from_residual-in_err-term-in-Err.ensures.1
     (few g (goal.at.returns-in_err-term-in-Err-clause-room g c).In_ok-product m n hm hn c.in_err-term-in-Err.ensures.room)
 
 pub returns-in_err-replace-in-Ok-clause-room : goal.returns-in_err-replace-in-Ok-clause-room
 returns-in_err-replace-in-Ok-clause-room g c = λ m n hm hn.
-    passed_on c.from_residual-in_err-replace-in-Ok.result (fault.Full c.in_err-replace-in-Ok.field-0.0) (OfFull (λ full. free_of c.args.pool.now < term_bytes (length (monomial_times m n)))) c.from_residual-in_err-replace-in-Ok.ensures.0 c.from_residual-in_err-replace-in-Ok.ensures.1
+    passed_on c.from_residual-in_err-replace-in-Ok.result (fault.Full c.in_err-replace-in-Ok.field-0.0)
+    (OfFull (λ full. free_of c.args.pool.now < term_bytes (length (monomial_times m n)))) c.from_residual-in_err-replace-in-Ok.ensures.0 c.from_residual-in_err-replace-in-Ok.ensures.1
     (few g (goal.at.returns-in_err-replace-in-Ok-clause-room g c).In_ok-product m n hm hn c.in_err-replace-in-Ok.ensures.room)
 
 -- ---- what fits
@@ -227,9 +254,10 @@ returns-in_err-replace-in-Ok-clause-room g c = λ m n hm hn.
 pub returns-in_err-product-clause-fits : goal.returns-in_err-product-clause-fits
 returns-in_err-product-clause-fits g c = λ m n h l hm hn held k.
     passed_on c.from_residual.result c.in_err-product.field-0.0 IsNoOverflow c.from_residual.ensures.0 c.from_residual.ensures.1
-    (c.in_err-product.ensures.fits m n h (subst (HasMonomial m) (sym (beside c.requires.sum c.requires.first).same) hm) (subst (HasMonomial n) (sym (beside c.requires.sum c.requires.second).same) hn) held.exponents.0 (omega (arith, k)))
+    (c.in_err-product.ensures.fits m n h (subst (HasMonomial m) (sym (beside c.requires.sum c.requires.first).same) hm)
+    (subst (HasMonomial n) (sym (beside c.requires.sum c.requires.second).same) hn) held.exponents.0 (omega (arith, k)))
 
 pub returns-in_err-total-in-Ok-clause-fits : goal.returns-in_err-total-in-Ok-clause-fits
 returns-in_err-total-in-Ok-clause-fits g c = λ m n h l hm hn held k.
     contradiction (total_fits (given_told c.requires.sum) (summand (value_of c.args.coefficient) (monomial_times m n)) c.in-Ok.at (within g (goal.at.returns-in_err-total-in-Ok-clause-fits g c).In-Ok) held k (value_of c.coefficient.result)
-    (c.coefficient.ensures ∙ ap coefficient_in (other g (goal.at.returns-in_err-total-in-Ok-clause-fits g c).After-child-other))) (c.in_err-total-in-Ok.ensures.refused)
+    (c.coefficient.ensures ∙ ap coefficient_in (other g (goal.at.returns-in_err-total-in-Ok-clause-fits g c).After-child-other))) (c.in_err-total-in-Ok.ensures.refused.0 refl)

@@ -18,7 +18,8 @@ release-requires-clause-releasable g c = inl (last_root (c.take_known_child-chil
 -- the old term stands last
 taken : (g : Over) (c : After-release g) → Ends c.take_known_child-child.result (tree_nth c.args.at (kids (root_tree c.args.sum.now (forest c.args.pool.now))))
     (put c.args.sum.now (without_nth c.args.at (kids (root_tree c.args.sum.now (forest c.args.pool.now)))) (forest c.args.pool.now)) (forest c.take_known_child-child.new.pool)
-taken g c = c.take_known_child-child.ensures.last c.args.at (subst (λ (i : ℕ). IsChildAt c.args.at i c.child-id.result (forest c.args.pool.now)) c.id.ensures c.child-id.ensures.child) (given_root c.requires.sum)
+taken g c = c.take_known_child-child.ensures.last c.args.at
+    (subst (λ (i : ℕ). IsChildAt c.args.at i c.child-id.result (forest c.args.pool.now)) c.id.ensures c.child-id.ensures.child) (given_root c.requires.sum)
 
 pub returns-clause-sum : goal.returns-clause-sum
 returns-clause-sum g c =

@@ -55,7 +55,8 @@ exchange-requires g c =
             subst (λ (f : Forest). Gives (without_root c.args.sum.now f) f c.args.sum.now IsSum) (sym (given_rest r)) c.requires.sum,
             (
               lists_behind c.requires.sum r (lists_before c.requires.sum p c.requires.lists),
-              subst (λ (f : Forest). c.args.at < count (children_of (plain f))) (given_same c.args.sum.now p (given_root c.requires.sum) ∙ sym (given_same c.args.sum.now r (given_root c.requires.sum))) c.requires.within,
+              subst (λ (f : Forest). c.args.at < count (children_of (plain f)))
+                  (given_same c.args.sum.now p (given_root c.requires.sum) ∙ sym (given_same c.args.sum.now r (given_root c.requires.sum))) c.requires.within,
             ),
           ),
         ),
@@ -70,13 +71,15 @@ returns-clause-ok g c = λ m e.
     let s = term_tree (summand (value_of c.args.total) m) in
     let same = given_same c.args.sum.now r (given_root c.requires.sum) ∙ sym (given_same c.args.sum.now p (given_root c.requires.sum)) in
     let test : is_zero_fraction (value_of c.args.total) ≡ _ = sym c.is_zero.ensures ∙ c.if-is_zero.false in
-    gives_as c.exchange.ensures.sum (ap (without_root c.args.sum.now) (given_rest r)) (λ t h. h ∙ (λ i. add (inserted c.args.at (more (given_told r i) none) (removed c.args.at (children_of (plain (same i))))))
+    gives_as c.exchange.ensures.sum (ap (without_root c.args.sum.now) (given_rest r))
+    (λ t h. h ∙ (λ i. add (inserted c.args.at (more (given_told r i) none) (removed c.args.at (children_of (plain (same i))))))
     ∙ sym (ap (λ (b : Bool). add (if b then removed c.args.at ts else inserted c.args.at (more s none) (removed c.args.at ts))) test))
 
 pub returns-clause-front : goal.returns-clause-front
 returns-clause-front g c =
     let r = c.in_ok-term.ensures.ok c.requires.product.0 (given_told c.requires.product.1) in
-    front_after_two behind_first (behind_new r.ends (front_without (behind_later behind_first) front_same)) (front_after_one (behind_later behind_first) front_same c.completed.ensures.front) c.exchange.ensures.front
+    front_after_two behind_first (behind_new r.ends (front_without (behind_later behind_first) front_same))
+    (front_after_one (behind_later behind_first) front_same c.completed.ensures.front) c.exchange.ensures.front
 
 pub returns-in_err-term-clause-front : goal.returns-in_err-term-clause-front
 returns-in_err-term-clause-front g c = front_after_one (behind_later behind_first) front_same c.completed.ensures.front

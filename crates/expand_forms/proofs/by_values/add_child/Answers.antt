@@ -20,4 +20,5 @@ returns-clause-list c = λ v l e.
     let child = subst (λ (xs : List Name). IsListOf (names_of xs) c.read_terms.new.list.items w) c.deref.ensures.value read in
     let sum = passed c.add_scaled.result c.add_scaled.ensures.terms (sym c.is_err-2.ensures.value ∙ c.if-is_err-2.false) in
     rw c.swap.ensures.x_after
-    (list_sum (value_of c.args.factor) (subst (λ (ts : List Term). IsListOf ns ts v) (sym c.deref-2.ensures.value) l) (subst (λ (ts : List Term). IsListOf ns ts w) (sym c.deref-3.ensures.value) child) sum)
+    (list_sum (value_of c.args.factor) (subst (λ (ts : List Term). IsListOf ns ts v) (sym c.deref-2.ensures.value) l)
+    (subst (λ (ts : List Term). IsListOf ns ts w) (sym c.deref-3.ensures.value) child) sum)

@@ -24,7 +24,8 @@ loop-left-init c =
 pub multiply_child-requires-clause-expanded : goal.multiply_child-requires-clause-expanded
 multiply_child-requires-clause-expanded c =
     let ts = children_of (plain (tree_at c.args.id (forest c.args.pool.now))) in
-    subst IsExpanded (sym (c.child_id.ensures.plain c.requires.expression)) (expanded_nth (c.loop-left.left - 1) ts c.requires.children (omega (arith, c.loop-left.invariant.within, c.loop-left-test.true)))
+    subst IsExpanded (sym (c.child_id.ensures.plain c.requires.expression))
+    (expanded_nth (c.loop-left.left - 1) ts c.requires.children (omega (arith, c.loop-left.invariant.within, c.loop-left-test.true)))
 
 pub multiply_child-requires-clause-names : goal.multiply_child-requires-clause-names
 multiply_child-requires-clause-names c = rw c.loop-left.invariant.names (can_name_child (c.loop-left.left - 1) c.requires.names (c.child_id.ensures.plain c.requires.expression))

@@ -13,18 +13,22 @@ use Rattle.expand_forms.proofs.joining.join_products.Goals as goal
 here : (g : Over) (c : After-coefficient-factor g) → IsNextTerm c.loop-at.at c.term_id-term.result (plain (tree_at c.args.a (without_root c.args.sum.now (forest c.args.pool.now)))) (without_root c.args.sum.now (forest c.loop-at.pool)) (forest c.loop-at.pool)
 here g c =
     let j = c.loop-at.invariant.joined in
-    next_term c.loop-at.at j.gives c.requires.first c.requires.first_expanded (place_read j.gives c.requires.sum c.requires.first c.term_count-at-end.ensures c.loop-at-test.true) c.term_id-term.ensures.inside c.term_id-term.ensures.expression c.term_id-term.ensures.tree
+    next_term c.loop-at.at j.gives c.requires.first c.requires.first_expanded
+    (place_read j.gives c.requires.sum c.requires.first c.term_count-at-end.ensures c.loop-at-test.true) c.term_id-term.ensures.inside c.term_id-term.ensures.expression c.term_id-term.ensures.tree
 
 next : (g : Over) (c : After-coefficient-factor g) → IsNextPart (product (drop c.loop-at.at (normal (polynomial_of (plain (tree_at c.args.a (without_root c.args.sum.now (forest c.args.pool.now))))))) (normal (polynomial_of (plain (tree_at c.args.b (without_root c.args.sum.now (forest c.args.pool.now)))))))
-    (row (value_of c.coefficient-factor.result) (plain (tree_at c.term_id-term.result (without_root c.args.sum.now (forest c.loop-at.pool)))) 0 (plain (tree_at c.args.b (without_root c.args.sum.now (forest c.loop-at.pool)))))
-    (product (drop (c.loop-at.at + 1) (normal (polynomial_of (plain (tree_at c.args.a (without_root c.args.sum.now (forest c.args.pool.now))))))) (normal (polynomial_of (plain (tree_at c.args.b (without_root c.args.sum.now (forest c.args.pool.now)))))))
+    (row (value_of c.coefficient-factor.result) (plain (tree_at c.term_id-term.result (without_root c.args.sum.now (forest c.loop-at.pool)))) 0
+    (plain (tree_at c.args.b (without_root c.args.sum.now (forest c.loop-at.pool)))))
+    (product (drop (c.loop-at.at + 1) (normal (polynomial_of (plain (tree_at c.args.a (without_root c.args.sum.now (forest c.args.pool.now)))))))
+    (normal (polynomial_of (plain (tree_at c.args.b (without_root c.args.sum.now (forest c.args.pool.now)))))))
 next g c =
     let x = here g c in
     let a = normal (polynomial_of (plain (tree_at c.args.a (without_root c.args.sum.now (forest c.args.pool.now))))) in
     let b = plain (tree_at c.args.b (without_root c.args.sum.now (forest c.args.pool.now))) in
     let r = given_rest c.loop-at.invariant.joined.gives in
     next_part (rows_next (plain (tree_at c.args.a (without_root c.args.sum.now (forest c.args.pool.now)))) x.term x.next (next_coefficient x c.coefficient-factor.ensures) b
-    ∙ (λ i. row (value_of c.coefficient-factor.result) (plain (tree_at c.term_id-term.result (without_root c.args.sum.now (forest c.loop-at.pool)))) 0 (plain (tree_at c.args.b (sym r i))) ++ product (drop (c.loop-at.at + 1) a) (normal (polynomial_of b))))
+    ∙ (λ i. row (value_of c.coefficient-factor.result) (plain (tree_at c.term_id-term.result (without_root c.args.sum.now (forest c.loop-at.pool)))) 0
+    (plain (tree_at c.args.b (sym r i))) ++ product (drop (c.loop-at.at + 1) a) (normal (polynomial_of b))))
 
 pub term_count-at-end-requires-clause-expression : goal.term_count-at-end-requires-clause-expression
 term_count-at-end-requires-clause-expression g c = (beside c.requires.sum c.requires.first).expression
@@ -59,7 +63,8 @@ returns-in_err-join_row-clause-front g c = front_after_one behind_first c.loop-a
 pub loop-at-preserved : goal.loop-at-preserved
 loop-at-preserved g c = record {
   lists = c.in_ok-join_row.ensures.lists;
-  joined = joined_more c.loop-at.invariant.joined (next g (goal.at.loop-at-preserved g c).After-coefficient-factor) c.in_ok-join_row.ensures.ok c.join_row.ensures.front c.in_ok-join_row.ensures.kept c.join_row.ensures.stands;
+  joined = joined_more c.loop-at.invariant.joined
+      (next g (goal.at.loop-at-preserved g c).After-coefficient-factor) c.in_ok-join_row.ensures.ok c.join_row.ensures.front c.in_ok-join_row.ensures.kept c.join_row.ensures.stands;
 }
 
 pub returns-clause-ok : goal.returns-clause-ok
@@ -72,8 +77,10 @@ pub returns-in_err-join_row-clause-room : goal.returns-in_err-join_row-clause-ro
 returns-in_err-join_row-clause-room g c = λ ns n few.
     let at = (goal.at.returns-in_err-join_row-clause-room g c).After-coefficient-factor in
     let j = c.loop-at.invariant.joined in
-    passed_on c.from_residual.result c.in_err-join_row.field-0.0 (OfFull (λ full. free_of c.args.pool.now + size (tree_of c.args.sum.now c.args.pool.now) < sum_bytes ns n)) c.from_residual.ensures.0 c.from_residual.ensures.1
-    (full_as c.in_err-join_row.field-0.0 (c.in_err-join_row.ensures.room ns n (part_few j (next g at) few)) (λ full short. joined_lacks (sum_bytes ns n) j c.requires.stands (given_handed c.requires.sum) short))
+    passed_on c.from_residual.result c.in_err-join_row.field-0.0
+    (OfFull (λ full. free_of c.args.pool.now + size (tree_of c.args.sum.now c.args.pool.now) < sum_bytes ns n)) c.from_residual.ensures.0 c.from_residual.ensures.1
+    (full_as c.in_err-join_row.field-0.0 (c.in_err-join_row.ensures.room ns n (part_few j (next g at) few))
+    (λ full short. joined_lacks (sum_bytes ns n) j c.requires.stands (given_handed c.requires.sum) short))
 
 pub returns-in_err-join_row-clause-fits : goal.returns-in_err-join_row-clause-fits
 returns-in_err-join_row-clause-fits g c = λ h l held k.

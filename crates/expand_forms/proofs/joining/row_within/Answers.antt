@@ -15,18 +15,21 @@ use Rattle.expand_forms.proofs.joining.row_within.Goals as goal
 here : (g : Over) (c : After-term_id-other g) → IsNextTerm c.loop-at.at c.term_id-other.result (plain (tree_at c.args.b (without_root c.args.sum.now (forest c.args.pool.now)))) (without_root c.args.sum.now (forest c.loop-at.pool)) (forest c.loop-at.pool)
 here g c =
     let j = c.loop-at.invariant.joined in
-    next_term c.loop-at.at j.gives c.requires.second c.requires.second_expanded (place_read j.gives c.requires.sum c.requires.second c.term_count-at-end.ensures c.loop-at-test.true) c.term_id-other.ensures.inside c.term_id-other.ensures.expression c.term_id-other.ensures.tree
+    next_term c.loop-at.at j.gives c.requires.second c.requires.second_expanded
+    (place_read j.gives c.requires.sum c.requires.second c.term_count-at-end.ensures c.loop-at-test.true) c.term_id-other.ensures.inside c.term_id-other.ensures.expression c.term_id-other.ensures.tree
 
 -- the monomial of the term
 first : (g : Over) (c : After-term_id-other g) → HasMonomial c.requires.first_term.summand.monomial (plain (tree_at c.args.term (without_root c.args.sum.now (forest c.loop-at.pool))))
-first g c = subst (λ (f : Forest). HasMonomial c.requires.first_term.summand.monomial (plain (tree_at c.args.term f))) (sym (given_rest c.loop-at.invariant.joined.gives)) (term_monomial c.requires.first_term)
+first g c = subst (λ (f : Forest). HasMonomial c.requires.first_term.summand.monomial (plain (tree_at c.args.term f))) (sym (given_rest c.loop-at.invariant.joined.gives))
+    (term_monomial c.requires.first_term)
 
 next : (g : Over) (c : After-term_id-other g) (q r : Fraction) → r ≡ coefficient_in (plain (tree_at c.term_id-other.result (forest c.loop-at.pool))) → q ≡ times (value_of c.args.factor) r
     → IsNextPart (row (value_of c.args.factor) (plain (tree_at c.args.term (without_root c.args.sum.now (forest c.args.pool.now)))) c.loop-at.at (plain (tree_at c.args.b (without_root c.args.sum.now (forest c.args.pool.now)))))
     (summand q (monomial_times c.requires.first_term.summand.monomial (here g c).term.summand.monomial) ∷ []) (row (value_of c.args.factor) (plain (tree_at c.args.term (without_root c.args.sum.now (forest c.args.pool.now)))) (c.loop-at.at + 1) (plain (tree_at c.args.b (without_root c.args.sum.now (forest c.args.pool.now)))))
 next g c q r e p =
     let x = here g c in
-    row_next c.requires.first_term (value_of c.args.factor) q c.loop-at.at x.term.summand (plain (tree_at c.args.b (without_root c.args.sum.now (forest c.args.pool.now)))) x.next (p ∙ ap (times (value_of c.args.factor)) (next_coefficient x e))
+    row_next c.requires.first_term (value_of c.args.factor) q c.loop-at.at x.term.summand (plain (tree_at c.args.b (without_root c.args.sum.now (forest c.args.pool.now)))) x.next
+    (p ∙ ap (times (value_of c.args.factor)) (next_coefficient x e))
 
 pub term_count-at-end-requires-clause-expression : goal.term_count-at-end-requires-clause-expression
 term_count-at-end-requires-clause-expression g c = (beside c.requires.sum c.requires.second).expression
@@ -61,7 +64,8 @@ loop-at-preserved g c =
     record {
       lists = c.in_ok-join_product.ensures.lists;
       joined = joined_more c.loop-at.invariant.joined (next g at (value_of c.in_ok-product.product) _ c.coefficient.ensures c.in_ok-product.ensures.product)
-          (c.in_ok-join_product.ensures.ok c.requires.first_term.summand.monomial x.term.summand.monomial (first g at) (term_monomial x.term)) c.join_product.ensures.front c.in_ok-join_product.ensures.kept c.join_product.ensures.stands;
+          (c.in_ok-join_product.ensures.ok c.requires.first_term.summand.monomial x.term.summand.monomial (first g at)
+          (term_monomial x.term)) c.join_product.ensures.front c.in_ok-join_product.ensures.kept c.join_product.ensures.stands;
     }
 
 pub returns-clause-ok : goal.returns-clause-ok
@@ -79,7 +83,8 @@ returns-in_err-join_product-clause-room g c = λ ns n few.
     let all = part_few j (next g at (value_of c.in_ok-product.product) _ c.coefficient.ensures c.in_ok-product.ensures.product) few in
     passed_on c.from_residual-in_err-join_product.result c.in_err-join_product.field-0.0 (OfFull (λ full. free_of c.args.pool.now + size (tree_of c.args.sum.now c.args.pool.now) < sum_bytes ns n)) c.from_residual-in_err-join_product.ensures.0 c.from_residual-in_err-join_product.ensures.1
     (full_as c.in_err-join_product.field-0.0 (c.in_err-join_product.ensures.room m x.term.summand.monomial (first g at) (term_monomial x.term))
-    (λ full short. term_lacks (summand (value_of c.in_ok-product.product) (monomial_times m x.term.summand.monomial)) (monomial_times_monomial m x.term.summand.monomial c.requires.first_term.monomial x.term.monomial) j c.requires.stands (given_handed c.requires.sum) all short))
+    (λ full short. term_lacks (summand (value_of c.in_ok-product.product) (monomial_times m x.term.summand.monomial))
+    (monomial_times_monomial m x.term.summand.monomial c.requires.first_term.monomial x.term.monomial) j c.requires.stands (given_handed c.requires.sum) all short))
 
 -- ---- what fits
 
@@ -87,11 +92,12 @@ pub returns-in_err-product-clause-fits : goal.returns-in_err-product-clause-fits
 returns-in_err-product-clause-fits g c = λ h l held k.
     let at = (goal.at.returns-in_err-product-clause-fits g c).After-term_id-other in
     let q = times (value_of c.args.factor) (value_of c.coefficient.result) in
-    contradiction (first_fits (summand q (monomial_times c.requires.first_term.summand.monomial (here g at).term.summand.monomial)) (part_held c.loop-at.invariant.joined (next g at q _ c.coefficient.ensures refl) held) k) (c.in_err-product.ensures.refused)
+    contradiction (first_fits (summand q (monomial_times c.requires.first_term.summand.monomial (here g at).term.summand.monomial)) (part_held c.loop-at.invariant.joined (next g at q _ c.coefficient.ensures refl) held) k) (c.in_err-product.ensures.refused.0 refl)
 
 pub returns-in_err-join_product-clause-fits : goal.returns-in_err-join_product-clause-fits
 returns-in_err-join_product-clause-fits g c = λ h l held k.
     let at = (goal.at.returns-in_err-join_product-clause-fits g c).After-term_id-other in
     let x = here g at in
     passed_on c.from_residual-in_err-join_product.result c.in_err-join_product.field-0.0 IsNoOverflow c.from_residual-in_err-join_product.ensures.0 c.from_residual-in_err-join_product.ensures.1
-    (c.in_err-join_product.ensures.fits c.requires.first_term.summand.monomial x.term.summand.monomial h l (first g at) (term_monomial x.term) (part_held c.loop-at.invariant.joined (next g at (value_of c.in_ok-product.product) _ c.coefficient.ensures c.in_ok-product.ensures.product) held) k)
+    (c.in_err-join_product.ensures.fits c.requires.first_term.summand.monomial x.term.summand.monomial h l (first g at) (term_monomial x.term)
+    (part_held c.loop-at.invariant.joined (next g at (value_of c.in_ok-product.product) _ c.coefficient.ensures c.in_ok-product.ensures.product) held) k)

@@ -19,4 +19,4 @@ pub returns-in_err-add-in-Equal-clause-fits : goal.returns-in_err-add-in-Equal-c
 returns-in_err-add-in-Equal-clause-fits c = λ f g r q l.
     let e : slice_cmp nat_cmp f.name g.name ≡ Equal =
     (λ i. slice_cmp nat_cmp ((sym r.name ∙ sym c.bytes.ensures.value) i) ((sym q.name ∙ sym c.bytes-2.ensures.value) i)) ∙ sym c.cmp.ensures ∙ c.in-Equal.is in
-    contradiction ((λ i. sum_fits (r.exponent i) (q.exponent i)) ∙ exponents_fit f.exponent g.exponent (l e)) (c.in_err-add-in-Equal.ensures.refused)
+    contradiction ((λ i. sum_fits (r.exponent i) (q.exponent i)) ∙ exponents_fit f.exponent g.exponent (l e)) (c.in_err-add-in-Equal.ensures.refused.0 refl)

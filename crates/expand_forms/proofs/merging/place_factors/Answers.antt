@@ -12,7 +12,15 @@ use Rattle.tree_handles.specs.declared.fault.NumberFault.TheVariants as fault
 use Rattle.expand_forms.proofs.merging.place_factors.Goals as goal
 
 pub loop-next-init : goal.loop-next-init
-loop-next-init c = record { first = c.get-first.ensures; second = c.get-second.ensures; merged = λ m n hm hn. merged_none m n (forest c.args.pool.now); front = front_same; kept = kept_same c.args.pool.now; stands = c.requires.stands }
+loop-next-init c = record {
+  first = c.get-first.ensures;
+  second = c.get-second.ensures;
+  merged = λ m n hm hn. merged_none m n
+      (forest c.args.pool.now);
+  front = front_same;
+  kept = kept_same c.args.pool.now;
+  stands = c.requires.stands;
+}
 
 pub get-first-requires : goal.get-first-requires
 get-first-requires c =
@@ -34,11 +42,14 @@ still : {k : ℕ} (m : Monomial) (o : Option Read) (i : ℕ) → k ≡ 0 → Beg
 still m o i e h = subst (λ (n : ℕ). BeginsWith o (drop n m)) (omega (arith, e)) h
 
 -- how the product goes on
-next : (c : In-Some) (m n : Monomial) → HasMonomial m (plain (tree_at c.args.s (forest c.args.pool.now))) → HasMonomial n (plain (tree_at c.args.t (forest c.args.pool.now))) → IsNext (drop c.loop-next.i m) (drop c.loop-next.j n) c.in-Some.next
+next : (c : In-Some) (m n : Monomial) → HasMonomial m (plain (tree_at c.args.s (forest c.args.pool.now))) → HasMonomial n (plain (tree_at c.args.t (forest c.args.pool.now)))
+    → IsNext (drop c.loop-next.i m) (drop c.loop-next.j n) c.in-Some.next
 next c m n hm hn =
     let a = (c.loop-next.invariant.merged m n hm hn).adds in
     subst (GoesOn (drop c.loop-next.i m) (drop c.loop-next.j n)) c.in-Some.is
-    (c.in_ok-next.ensures.next (drop c.loop-next.i m) (drop c.loop-next.j n) (drop_monomial c.loop-next.i m hm.monomial) (drop_monomial c.loop-next.j n hn.monomial) (head_beside c.loop-next.i c.loop-next.first a c.requires.first c.loop-next.invariant.first hm) (head_beside c.loop-next.j c.loop-next.second a c.requires.second c.loop-next.invariant.second hn))
+    (c.in_ok-next.ensures.next (drop c.loop-next.i m) (drop c.loop-next.j n) (drop_monomial c.loop-next.i m hm.monomial) (drop_monomial c.loop-next.j n hn.monomial)
+    (head_beside c.loop-next.i c.loop-next.first a c.requires.first c.loop-next.invariant.first hm)
+    (head_beside c.loop-next.j c.loop-next.second a c.requires.second c.loop-next.invariant.second hn))
 
 pub place_factor-requires-clause-read : goal.place_factor-requires-clause-read
 place_factor-requires-clause-read c =
@@ -89,7 +100,8 @@ following-first-requires c =
       expression = x.expression;
       factors = factors_beside new c.requires.first c.requires.factors;
       monomial = (m, subst (HasMonomial m) (sym x.same) hm);
-      known = λ none k hk. still k c.loop-next.first c.loop-next.i none (head_beside c.loop-next.i c.loop-next.first old c.requires.first c.loop-next.invariant.first (subst (HasMonomial k) x.same hk));
+      known = λ none k hk. still k c.loop-next.first c.loop-next.i none
+          (head_beside c.loop-next.i c.loop-next.first old c.requires.first c.loop-next.invariant.first (subst (HasMonomial k) x.same hk));
     }
 
 pub following-second-requires : goal.following-second-requires
@@ -103,7 +115,8 @@ following-second-requires c =
       expression = x.expression;
       factors = factors_beside new c.requires.second c.of-right.ensures;
       monomial = (n, subst (HasMonomial n) (sym x.same) hn);
-      known = λ none k hk. still k c.loop-next.second c.loop-next.j none (head_beside c.loop-next.j c.loop-next.second old c.requires.second c.loop-next.invariant.second (subst (HasMonomial k) x.same hk));
+      known = λ none k hk. still k c.loop-next.second c.loop-next.j none
+          (head_beside c.loop-next.j c.loop-next.second old c.requires.second c.loop-next.invariant.second (subst (HasMonomial k) x.same hk));
     }
 
 pub loop-next-preserved : goal.loop-next-preserved
@@ -122,7 +135,9 @@ returns-in_err-_factor-clause-front c = front_after c.loop-next.invariant.front 
 pub returns-clause-ok : goal.returns-clause-ok
 returns-clause-ok c = λ m n hm hn.
     let w = c.loop-next.invariant.merged m n hm hn in
-    let goes = c.in_ok-next.ensures.next (drop c.loop-next.i m) (drop c.loop-next.j n) (drop_monomial c.loop-next.i m hm.monomial) (drop_monomial c.loop-next.j n hn.monomial) (head_beside c.loop-next.i c.loop-next.first w.adds c.requires.first c.loop-next.invariant.first hm) (head_beside c.loop-next.j c.loop-next.second w.adds c.requires.second c.loop-next.invariant.second hn) in
+    let goes = c.in_ok-next.ensures.next (drop c.loop-next.i m) (drop c.loop-next.j n) (drop_monomial c.loop-next.i m hm.monomial) (drop_monomial c.loop-next.j n hn.monomial)
+    (head_beside c.loop-next.i c.loop-next.first w.adds c.requires.first c.loop-next.invariant.first hm)
+    (head_beside c.loop-next.j c.loop-next.second w.adds c.requires.second c.loop-next.invariant.second hn) in
     let (e, k) = all_gone c.in_ok-next.field-0 goes c.in_default.not-Some in
     let all = merged_all w e k in
     (w.many ∙ ap (λ (x : Monomial). length x) all, subst (λ (x : Monomial). AddsTrees (factor_trees x) (forest c.args.pool.now) (forest c.loop-next.pool)) all w.adds)
@@ -133,7 +148,8 @@ pub returns-in_err-_factor-clause-room : goal.returns-in_err-_factor-clause-room
 returns-in_err-_factor-clause-room c = λ m n hm hn.
     let i = c.loop-next.invariant in
     let w = i.merged m n hm hn in
-    passed_on c.from_residual-in_err-_factor.result (fault.Full c.in_err-_factor.field-0.0) (OfFull (λ full. free_of c.args.pool.now < factor_bytes * length (monomial_times m n))) c.from_residual-in_err-_factor.ensures.0 c.from_residual-in_err-_factor.ensures.1
+    passed_on c.from_residual-in_err-_factor.result (fault.Full c.in_err-_factor.field-0.0)
+    (OfFull (λ full. free_of c.args.pool.now < factor_bytes * length (monomial_times m n))) c.from_residual-in_err-_factor.ensures.0 c.from_residual-in_err-_factor.ensures.1
     (omega (arith, adds_free c.requires.stands i.stands i.kept w.adds, factors_most w.done, c.in_err-_factor.ensures.room, merged_length w (next (goal.at.returns-in_err-_factor-clause-room c).In-Some m n hm hn)))
 
 pub returns-in_err-next-clause-fits : goal.returns-in_err-next-clause-fits

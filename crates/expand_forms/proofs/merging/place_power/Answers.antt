@@ -10,7 +10,8 @@ adopt-requires c =
     record { stands = search rules; root = a.root; within = a.within }
 
 pub returns-clause-ok : goal.returns-clause-ok
-returns-clause-ok c = adopts c.in_ok-power.ensures.ok (adds_more (adds_more (adds_none (forest c.node.new.pool)) c.in_ok-_base.ensures.given) c.in_ok-_exponent.ensures.given) refl refl c.adopt.ensures.forest
+returns-clause-ok c = adopts c.in_ok-power.ensures.ok
+    (adds_more (adds_more (adds_none (forest c.node.new.pool)) c.in_ok-_base.ensures.given) c.in_ok-_exponent.ensures.given) refl refl c.adopt.ensures.forest
 
 pub returns-clause-front : goal.returns-clause-front
 returns-clause-front c =
@@ -21,12 +22,14 @@ returns-clause-front c =
 pub returns-in_err-_base-clause-room : goal.returns-in_err-_base-clause-room
 returns-in_err-_base-clause-room c =
     let free = node_free c.requires.stands c.in_ok-power.ensures.stands c.in_ok-power.ensures.kept c.in_ok-power.ensures.ok in
-    passed_on c.from_residual-in_err-_base.result c.in_err-_base.field-0.0 (λ full. free_of c.args.pool.now < factor_bytes) c.from_residual-in_err-_base.ensures.0 c.from_residual-in_err-_base.ensures.1
+    passed_on c.from_residual-in_err-_base.result c.in_err-_base.field-0.0
+    (λ full. free_of c.args.pool.now < factor_bytes) c.from_residual-in_err-_base.ensures.0 c.from_residual-in_err-_base.ensures.1
     (omega (arith, free, refused_below c.in_err-_base.ensures.full))
 
 pub returns-in_err-_exponent-clause-room : goal.returns-in_err-_exponent-clause-room
 returns-in_err-_exponent-clause-room c =
     let free = node_free c.requires.stands c.in_ok-power.ensures.stands c.in_ok-power.ensures.kept c.in_ok-power.ensures.ok in
     let left = given_free c.in_ok-power.ensures.stands c.in_ok-_base.ensures.stands c.in_ok-_base.ensures.kept c.in_ok-_base.ensures.given in
-    passed_on c.from_residual-in_err-_exponent.result c.in_err-_exponent.field-0.0 (λ full. free_of c.args.pool.now < factor_bytes) c.from_residual-in_err-_exponent.ensures.0 c.from_residual-in_err-_exponent.ensures.1
+    passed_on c.from_residual-in_err-_exponent.result c.in_err-_exponent.field-0.0
+    (λ full. free_of c.args.pool.now < factor_bytes) c.from_residual-in_err-_exponent.ensures.0 c.from_residual-in_err-_exponent.ensures.1
     (omega (arith, free, left, ap size (given_told c.in_ok-_base.ensures.given), number_refused c.args.factor.exponent c.in_err-_exponent.ensures.full))

@@ -30,6 +30,7 @@ returns-clause-ok c = λ m e.
     let led = c.in_ok-led.ensures.ok in
     let ts = led_by q (children_of (tree_of c.args.product c.args.pool.now)) in
     let many : c.children.result ≡ count ts =
-    c.children.ensures.plain (expression c.id.ensures c.in_ok-led.ensures.stands (given_handed led)) ∙ ap (λ (t : Tree). count (children_of t)) (seen c.id.ensures c.in_ok-led.ensures.stands (given_handed led) ∙ given_told led) in
+    c.children.ensures.plain (expression c.id.ensures c.in_ok-led.ensures.stands (given_handed led)) ∙ ap (λ (t : Tree). count (children_of t))
+    (seen c.id.ensures c.in_ok-led.ensures.stands (given_handed led) ∙ given_told led) in
     gives_as led refl (λ t h. h ∙ many_factors (mult ts) refl (led_some q (children_of (tree_of c.args.product c.args.pool.now))) (λ o. c.if-children-eq1.false (many ∙ o))
     ∙ ap (λ (u : Tree). product_tree (led_by q (children_of u))) e ∙ led_term q m)

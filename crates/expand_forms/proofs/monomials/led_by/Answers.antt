@@ -45,4 +45,5 @@ returns-clause-front c =
 
 pub returns-in_err-first-clause-room : goal.returns-in_err-first-clause-room
 returns-in_err-first-clause-room c =
-    passed_on c.from_residual.result c.in_err-first.field-0.0 (λ full. free_of c.args.pool.now < number_bytes) c.from_residual.ensures.0 c.from_residual.ensures.1 (number_refused c.args.coefficient c.in_err-first.ensures.full)
+    passed_on c.from_residual.result c.in_err-first.field-0.0 (λ full. free_of c.args.pool.now < number_bytes) c.from_residual.ensures.0 c.from_residual.ensures.1
+    (number_refused c.args.coefficient c.in_err-first.ensures.full)

@@ -55,7 +55,8 @@ returns-in_err-factors c =
       room = λ m n hm hn.
           let free = given_free c.requires.stands c.in_ok-product.ensures.stands c.in_ok-product.ensures.kept new in
           let lacks = c.in_err-factors.ensures.room m n (subst (HasMonomial m) x hm) (subst (HasMonomial n) y hn) in
-          passed_on c.from_residual-in_err-factors.result c.in_err-factors.field-0.0 (OfFull (λ full. free_of c.args.pool.now < term_bytes (length (monomial_times m n)))) c.from_residual-in_err-factors.ensures.0 c.from_residual-in_err-factors.ensures.1
+          passed_on c.from_residual-in_err-factors.result c.in_err-factors.field-0.0
+          (OfFull (λ full. free_of c.args.pool.now < term_bytes (length (monomial_times m n)))) c.from_residual-in_err-factors.ensures.0 c.from_residual-in_err-factors.ensures.1
           (full_as c.in_err-factors.field-0.0 lacks (λ full few. omega (arith, free, ap size (given_told new), few)));
       stands = search rules;
     }
@@ -65,4 +66,5 @@ returns-in_err-factors c =
 pub returns-in_err-product-clause-room : goal.returns-in_err-product-clause-room
 returns-in_err-product-clause-room c = λ m n hm hn.
     let few : free_of c.args.pool.now < 8 = refused_below c.in_err-product.ensures.full in
-    passed_on c.from_residual.result (fault.Full c.in_err-product.field-0.0) (OfFull (λ full. free_of c.args.pool.now < term_bytes (length (monomial_times m n)))) c.from_residual.ensures.0 c.from_residual.ensures.1 (omega (arith, few))
+    passed_on c.from_residual.result (fault.Full c.in_err-product.field-0.0)
+    (OfFull (λ full. free_of c.args.pool.now < term_bytes (length (monomial_times m n)))) c.from_residual.ensures.0 c.from_residual.ensures.1 (omega (arith, few))

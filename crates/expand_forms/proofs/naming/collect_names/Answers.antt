@@ -17,7 +17,8 @@ loop-node-init c =
     let f = forest c.args.pool.now in
     record {
       collected = subst (λ (xs : List Name). AreCollected (names_of xs) c.into_iter-node-iterator.result (names (plain (tree_at c.args.tree f))) f) e
-          (collected_none c.args.tree f c.requires.expression (c.into_iter-node-iterator.ensures.into_iter_gives ∙ c.nodes_of-node-items.ensures) (found c.args.tree c.args.pool.now c.requires.stands));
+          (collected_none c.args.tree f c.requires.expression (c.into_iter-node-iterator.ensures.into_iter_gives ∙ c.nodes_of-node-items.ensures)
+          (found c.args.tree c.args.pool.now c.requires.stands));
       rising = subst (λ (xs : List Name). AreNames (names_of xs)) e tt;
       few = omega (arith, ap length c.clear.ensures.items);
       room = omega (arith, c.clear.ensures.capacity);
@@ -38,7 +39,8 @@ loop-node-preserved-in-Continue-1 c =
     let n = next_node c.loop-node.invariant.collected c.in-Some.ensures.steps in
     let is : c.in-Some.node.kind ≡ kind.Sym = elim c.match-matches.branch [ in-Sym w ↦ w.in-Sym.is | in_default w ↦ absurd (let e = sym w.matches-is ∙ c.if-matches.true in cc) ] in
     record {
-      collected = n.with_name is (name_of c.name.result) (names_of c.add_name.new.names.items) c.name.ensures.plain c.in_ok-add_name.ensures.there c.in_ok-add_name.ensures.kept c.in_ok-add_name.ensures.only;
+      collected = n.with_name is (name_of c.name.result)
+          (names_of c.add_name.new.names.items) c.name.ensures.plain c.in_ok-add_name.ensures.there c.in_ok-add_name.ensures.kept c.in_ok-add_name.ensures.only;
       rising = c.in_ok-add_name.ensures.names;
       few = c.in_ok-add_name.ensures.few;
       room = omega (arith, c.loop-node.invariant.room, c.in_ok-add_name.ensures.room);

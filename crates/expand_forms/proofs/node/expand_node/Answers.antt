@@ -24,8 +24,11 @@ returns-in_err-answer c =
       kept = search rules;
       faults = search rules;
       caused = search rules;
-      fits = λ whole o p. passed_on c.from_residual.result c.in_err-answer.field-0.0 (OfOverflow (λ x. 124 < bits_of whole)) c.from_residual.ensures.0 c.from_residual.ensures.1 (c.in_err-answer.ensures.fits whole (subst (λ (t : Tree). IsOver whole t) s o) p);
-      room = λ whole n h l. passed_on c.from_residual.result c.in_err-answer.field-0.0 (OfFull (λ full. free_of c.args.pool.now < node_bytes (names whole) n)) c.from_residual.ensures.0 c.from_residual.ensures.1 (c.in_err-answer.ensures.room whole n (subst (HasNoNewName whole) s h) (subst (λ (t : Tree). length (polynomial_of t) ≤ n) s l));
+      fits = λ whole o p. passed_on c.from_residual.result c.in_err-answer.field-0.0 (OfOverflow (λ x. 124 < bits_of whole)) c.from_residual.ensures.0 c.from_residual.ensures.1
+          (c.in_err-answer.ensures.fits whole (subst (λ (t : Tree). IsOver whole t) s o) p);
+      room = λ whole n h l. passed_on c.from_residual.result c.in_err-answer.field-0.0
+          (OfFull (λ full. free_of c.args.pool.now < node_bytes (names whole) n)) c.from_residual.ensures.0 c.from_residual.ensures.1
+          (c.in_err-answer.ensures.room whole n (subst (HasNoNewName whole) s h) (subst (λ (t : Tree). length (polynomial_of t) ≤ n) s l));
       stands = search rules;
     }
 
@@ -36,6 +39,7 @@ returns-clause-ok c =
     (λ t e. e ∙ ap (λ (u : Tree). expanded (polynomial_of u)) (seen c.id.ensures c.requires.stands c.requires.handed))
 
 pub returns-clause-front : goal.returns-clause-front
-returns-clause-front c = front_at (front_without behind_first (front_after front_same c.place_answer.ensures.front)) (c.release.ensures.owned (owned (given_other c.in_ok-answer.ensures.ok c.requires.handed)))
+returns-clause-front c = front_at (front_without behind_first (front_after front_same c.place_answer.ensures.front))
+    (c.release.ensures.owned (owned (given_other c.in_ok-answer.ensures.ok c.requires.handed)))
 
 -- ---- what fits

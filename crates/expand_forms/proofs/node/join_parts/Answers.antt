@@ -41,7 +41,8 @@ expanded_part c = subst IsExpanded (part_within c).same c.part_at-part.ensures.e
 
 -- a row, and the parts that are left
 next : (c : After-part_at-part) → IsNextPart (total (drop c.loop-at.at (parts_of (plain (tree_at c.args.id (without_root c.args.sum.now (forest c.args.pool.now)))))))
-    (row (value_of c.part_at-part.result.factor) (plain (tree_at c.args.one (without_root c.args.sum.now (forest c.loop-at.pool)))) 0 (plain (tree_at c.part_at-part.result.tree (without_root c.args.sum.now (forest c.loop-at.pool)))))
+    (row (value_of c.part_at-part.result.factor) (plain (tree_at c.args.one (without_root c.args.sum.now (forest c.loop-at.pool)))) 0
+    (plain (tree_at c.part_at-part.result.tree (without_root c.args.sum.now (forest c.loop-at.pool)))))
     (total (drop (c.loop-at.at + 1) (parts_of (plain (tree_at c.args.id (without_root c.args.sum.now (forest c.args.pool.now)))))))
 next c =
     let o = without_root c.args.sum.now (forest c.args.pool.now) in
@@ -53,7 +54,8 @@ next c =
     let left : total (drop c.loop-at.at (parts_of (plain (tree_at c.args.id o)))) ≡ scaled q (polynomial_of (plain (tree_at i o))) ++ rest =
     ap (λ (t : Tree). total (drop c.loop-at.at (parts_of t))) (sym now.same) ∙ ap total c.part_at-part.ensures.part
     ∙ (λ k. scaled q (polynomial_of ((part_within c).same k)) ++ total (drop (c.loop-at.at + 1) (parts_of (now.same k)))) in
-    let same : row q (plain (tree_at c.args.one o)) 0 (plain (tree_at i o)) ++ rest ≡ row q (plain (tree_at c.args.one (without_root c.args.sum.now (forest c.loop-at.pool)))) 0 (plain (tree_at i (without_root c.args.sum.now (forest c.loop-at.pool)))) ++ rest =
+    let same : row q (plain (tree_at c.args.one o)) 0 (plain (tree_at i o)) ++ rest ≡ row q (plain (tree_at c.args.one (without_root c.args.sum.now (forest c.loop-at.pool)))) 0
+    (plain (tree_at i (without_root c.args.sum.now (forest c.loop-at.pool)))) ++ rest =
     λ k. row q (plain (tree_at c.args.one (sym r k))) 0 (plain (tree_at i (sym r k))) ++ rest in
     record {
       gathered = gathered_trans (gathered_is left) (gathered_trans
@@ -79,20 +81,23 @@ returns-in_err-join_row-clause-front c = front_after_one behind_first c.loop-at.
 pub loop-at-preserved : goal.loop-at-preserved
 loop-at-preserved c = record {
   lists = c.in_ok-join_row.ensures.lists;
-  joined = joined_more c.loop-at.invariant.joined (next (goal.at.loop-at-preserved c).After-part_at-part) c.in_ok-join_row.ensures.ok c.join_row.ensures.front c.in_ok-join_row.ensures.kept c.join_row.ensures.stands;
+  joined = joined_more c.loop-at.invariant.joined
+      (next (goal.at.loop-at-preserved c).After-part_at-part) c.in_ok-join_row.ensures.ok c.join_row.ensures.front c.in_ok-join_row.ensures.kept c.join_row.ensures.stands;
 }
 
 pub returns-clause-ok : goal.returns-clause-ok
 returns-clause-ok c =
     let t = plain (tree_at c.args.id (without_root c.args.sum.now (forest c.args.pool.now))) in
     let then = beside c.requires.sum c.requires.expression in
-    joined_all c.loop-at.invariant.joined (ap total (drop_all c.loop-at.at (parts_of t) (omega (arith, c.part_count-at-end.ensures, ap (λ (u : Tree). length (parts_of u)) then.same, c.loop-at-test.false))))
+    joined_all c.loop-at.invariant.joined
+    (ap total (drop_all c.loop-at.at (parts_of t) (omega (arith, c.part_count-at-end.ensures, ap (λ (u : Tree). length (parts_of u)) then.same, c.loop-at-test.false))))
 
 pub returns-in_err-join_row-clause-room : goal.returns-in_err-join_row-clause-room
 returns-in_err-join_row-clause-room c = λ ns k n hs ht.
     let j = c.loop-at.invariant.joined in
     let all = part_few j (next (goal.at.returns-in_err-join_row-clause-room c).After-part_at-part) (few_as (few_append ht hs) (let e : n + k ≤ k + n = omega arith in e)) in
-    passed_on c.from_residual.result c.in_err-join_row.field-0.0 (OfFull (λ full. free_of c.args.pool.now + size (tree_of c.args.sum.now c.args.pool.now) < sum_bytes ns (k + n))) c.from_residual.ensures.0 c.from_residual.ensures.1
+    passed_on c.from_residual.result c.in_err-join_row.field-0.0
+    (OfFull (λ full. free_of c.args.pool.now + size (tree_of c.args.sum.now c.args.pool.now) < sum_bytes ns (k + n))) c.from_residual.ensures.0 c.from_residual.ensures.1
     (full_as c.in_err-join_row.field-0.0 (c.in_err-join_row.ensures.room ns (k + n) all) (λ full short. joined_lacks (sum_bytes ns (k + n)) j c.requires.stands (given_handed c.requires.sum) short))
 
 pub returns-in_err-join_row-clause-fits : goal.returns-in_err-join_row-clause-fits

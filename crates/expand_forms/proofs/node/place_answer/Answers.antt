@@ -27,5 +27,6 @@ pub returns-in_err-place_terms-clause-room : goal.returns-in_err-place_terms-cla
 returns-in_err-place_terms-clause-room c = λ whole n h l.
     let t = plain (tree_at c.args.id (forest c.args.pool.now)) in
     let list = listed (goal.at.returns-in_err-place_terms-clause-room c).After-deref_mut in
-    passed_on c.from_residual.result (fault.Full c.in_err-place_terms.field-0.0) (OfFull (λ full. free_of c.args.pool.now < node_bytes (names whole) n)) c.from_residual.ensures.0 c.from_residual.ensures.1
+    passed_on c.from_residual.result (fault.Full c.in_err-place_terms.field-0.0)
+    (OfFull (λ full. free_of c.args.pool.now < node_bytes (names whole) n)) c.from_residual.ensures.0 c.from_residual.ensures.1
     (omega (arith, c.in_err-place_terms.ensures.room (polynomial_of t) (names whole) n list (few_names whole t n h l)))

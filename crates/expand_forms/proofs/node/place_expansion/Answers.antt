@@ -56,6 +56,7 @@ returns-in_err-copy_tree c =
       faults = search rules;
       caused = search rules;
       fits = λ whole o p. passed_on c.from_residual.result (fault.Full c.in_err-copy_tree.field-0.0) (OfOverflow (λ x. 124 < bits_of whole)) c.from_residual.ensures.0 c.from_residual.ensures.1 tt;
-      room = λ whole n h l. passed_on c.from_residual.result (fault.Full c.in_err-copy_tree.field-0.0) (OfFull (λ full. free_of c.args.pool.now < node_bytes (names whole) n)) c.from_residual.ensures.0 c.from_residual.ensures.1 (omega (arith, bytes, small, few));
+      room = λ whole n h l. passed_on c.from_residual.result (fault.Full c.in_err-copy_tree.field-0.0)
+          (OfFull (λ full. free_of c.args.pool.now < node_bytes (names whole) n)) c.from_residual.ensures.0 c.from_residual.ensures.1 (omega (arith, bytes, small, few));
       stands = search rules;
     }

@@ -98,7 +98,13 @@ returns-in-Err c =
       kept = search rules;
       faults = search rules;
       caused = search rules;
-      fits = λ h l x k. let inv = c.loop-left.invariant in let ts = multiplied (plain (tree_at c.args.id (forest c.args.pool.now))) in let (i, j, p, q, y, z, m, n) = together_next at ts (omega (arith, inv.within, c.loop-left-test.true)) x in let child = (λ i. plain (tree_at c.factor_id.result (given_rest inv.given i))) ∙ factor_is (goal.at.returns-in-Err c).After-factor_id in let one = subst (λ (t : Tree). IsHeld (polynomial_of t) i j) (sym child) y in let rest = answer_held (tree_monomials (mult (from c.loop-left.left ts))) (given_told inv.given) (subst (λ (k : ℕ). IsHeld (product_of (from k ts)) p q) (sym next) z) in c.in-Err.ensures.fits (i + p) (j + q) (held_product (tree_monomials (plain (tree_at c.factor_id.result (without_root c.loop-left.product (forest c.loop-left.pool))))) one rest) (omega (arith, m, n, k));
+      fits = λ h l x k. let inv = c.loop-left.invariant in let ts = multiplied (plain (tree_at c.args.id (forest c.args.pool.now))) in let
+          (i, j, p, q, y, z, m, n) = together_next at ts
+          (omega (arith, inv.within, c.loop-left-test.true)) x in let child = (λ i. plain (tree_at c.factor_id.result (given_rest inv.given i))) ∙ factor_is
+          (goal.at.returns-in-Err c).After-factor_id in let one = subst (λ (t : Tree). IsHeld (polynomial_of t) i j) (sym child) y in let rest = answer_held
+          (tree_monomials (mult (from c.loop-left.left ts))) (given_told inv.given) (subst (λ (k : ℕ). IsHeld (product_of (from k ts)) p q) (sym next) z) in c.in-Err.ensures.fits
+          (i + p) (j + q) (held_product (tree_monomials (plain (tree_at c.factor_id.result (without_root c.loop-left.product (forest c.loop-left.pool))))) one rest)
+          (omega (arith, m, n, k));
       room = λ whole n h l. let ns = names whole in let t = plain (tree_at c.args.id (forest c.args.pool.now)) in let ts = multiplied t in let v = product_of (from c.loop-left.left ts) in let child = (λ i. plain (tree_at c.factor_id.result (given_rest j.given i))) ∙ factor_is (goal.at.returns-in-Err c).After-factor_id in let some = some_product (from c.loop-left.left ts) (expanded_from c.loop-left.left ts (multiplied_expanded t c.requires.children)) in let one = few_factor at h child in let rest = few_rest c.loop-left.left h in let monomials = tree_monomials (mult (from c.loop-left.left ts)) in let lacks = c.in-Err.ensures.room ns (length (polynomial_of (plain (tree_at c.factor_id.result (without_root c.loop-left.product (forest c.loop-left.pool)))))) (length v) one (answer_few monomials (given_told j.given) rest some) in let most = answer_size monomials (given_told j.given) rest some in let all : length (product_of ts) ≤ n = omega (arith, l, ap (λ (x : Polynomial). length x) (multiplied_product t c.requires.factors)) in let whole_product : length (polynomial_of (plain (tree_at c.factor_id.result (without_root c.loop-left.product (forest c.loop-left.pool))))) * length v ≡ length (product_of (from at ts)) = ap (λ (u : Tree). length (polynomial_of u) * length v) child ∙ ap (λ (k : ℕ). length (polynomial_of (nth at ts)) * length (product_of (from k ts))) next ∙ sym (product_length (polynomial_of (nth at ts)) (product_of (from (at + 1) ts))) ∙ sym (ap (λ (x : Polynomial). length x) (product_from at ts (omega (arith, j.within, c.loop-left-test.true)))) in let free = given_free c.requires.stands j.stands j.kept j.given in full_as c.in-Err.fault lacks (λ full few. omega (arith, free, most, terms_rise ns (length v) n (omega (arith, rest_product c.loop-left.left ts (multiplied_expanded t c.requires.children), all)), terms_rise ns (length (product_of (from at ts))) n (omega (arith, rest_product at ts (multiplied_expanded t c.requires.children), all)), ap (λ (k : ℕ). sum_bytes ns k) whole_product, few));
       stands = search rules;
     }
@@ -113,6 +119,8 @@ returns-clause-ok c =
 
 pub returns-in_err-product-clause-room : goal.returns-in_err-product-clause-room
 returns-in_err-product-clause-room c = λ whole n h l.
-    passed_on c.from_residual.result (fault.Full c.in_err-product.field-0.0) (OfFull (λ full. free_of c.args.pool.now < node_bytes (names whole) n)) c.from_residual.ensures.0 c.from_residual.ensures.1 (omega (arith, number_refused c.whole.result c.in_err-product.ensures.full))
+    passed_on c.from_residual.result (fault.Full c.in_err-product.field-0.0)
+    (OfFull (λ full. free_of c.args.pool.now < node_bytes (names whole) n)) c.from_residual.ensures.0 c.from_residual.ensures.1
+    (omega (arith, number_refused c.whole.result c.in_err-product.ensures.full))
 
 -- ---- what fits

@@ -34,7 +34,8 @@ returns-in_err-join_parts c =
     let r = given_rest new in
     record {
       ok = search rules;
-      front = let sum = behind_new (c.in_ok-sum.ensures.given refl).ends c.number.ensures.front in front_after_one sum (front_after c.number.ensures.front c.node.ensures.front) c.join_parts.ensures.front;
+      front = let sum = behind_new (c.in_ok-sum.ensures.given refl).ends c.number.ensures.front in front_after_one sum
+          (front_after c.number.ensures.front c.node.ensures.front) c.join_parts.ensures.front;
       kept = search rules;
       faults = search rules;
       caused = search rules;
@@ -50,12 +51,18 @@ pub returns-in_err-answer : goal.returns-in_err-answer
 returns-in_err-answer c =
     record {
       ok = search rules;
-      front = let sum = behind_new (c.in_ok-sum.ensures.given refl).ends c.number.ensures.front in front_after_one sum (front_after_one sum (front_after c.number.ensures.front c.node.ensures.front) c.join_parts.ensures.front) c.finished.ensures.front;
+      front = let sum = behind_new (c.in_ok-sum.ensures.given refl).ends c.number.ensures.front in front_after_one sum
+          (front_after_one sum (front_after c.number.ensures.front c.node.ensures.front) c.join_parts.ensures.front) c.finished.ensures.front;
       kept = search rules;
       faults = search rules;
       caused = search rules;
       fits = search rules;
-      room = λ ns n h. let k = c.in_ok-one.ensures.given in let st = c.in_ok-one.ensures.stands in let sum = gives_as c.in_ok-join_parts.ensures.ok (given_rest (c.in_ok-sum.ensures.given refl)) (λ t e. e) in let free = given_free c.requires.stands st c.in_ok-one.ensures.kept k in let left = given_free st c.in_ok-join_parts.ensures.stands (kept_after c.in_ok-sum.ensures.kept c.in_ok-join_parts.ensures.kept) sum in passed_on c.from_residual-in_err-answer.result (fault.Full c.in_err-answer.field-0.0) (OfFull (λ full. free_of c.args.pool.now < node_bytes ns n)) c.from_residual-in_err-answer.ensures.0 c.from_residual-in_err-answer.ensures.1 (omega (arith, free, left, ap size (given_told k), num_most (value_of c.whole.result), c.in_err-answer.ensures.room));
+      room = λ ns n h. let k = c.in_ok-one.ensures.given in let st = c.in_ok-one.ensures.stands in let sum = gives_as c.in_ok-join_parts.ensures.ok
+          (given_rest (c.in_ok-sum.ensures.given refl))
+          (λ t e. e) in let free = given_free c.requires.stands st c.in_ok-one.ensures.kept k in let left = given_free st c.in_ok-join_parts.ensures.stands
+          (kept_after c.in_ok-sum.ensures.kept c.in_ok-join_parts.ensures.kept) sum in passed_on c.from_residual-in_err-answer.result (fault.Full c.in_err-answer.field-0.0)
+          (OfFull (λ full. free_of c.args.pool.now < node_bytes ns n)) c.from_residual-in_err-answer.ensures.0 c.from_residual-in_err-answer.ensures.1
+          (omega (arith, free, left, ap size (given_told k), num_most (value_of c.whole.result), c.in_err-answer.ensures.room));
       stands = search rules;
     }
 
@@ -83,13 +90,17 @@ returns c =
 
 pub returns-in_err-one-clause-room : goal.returns-in_err-one-clause-room
 returns-in_err-one-clause-room c = λ ns n h.
-    passed_on c.from_residual.result (fault.Full c.in_err-one.field-0.0) (OfFull (λ full. free_of c.args.pool.now < node_bytes ns n)) c.from_residual.ensures.0 c.from_residual.ensures.1 (omega (arith, number_refused c.whole.result c.in_err-one.ensures.full))
+    passed_on c.from_residual.result (fault.Full c.in_err-one.field-0.0)
+    (OfFull (λ full. free_of c.args.pool.now < node_bytes ns n)) c.from_residual.ensures.0 c.from_residual.ensures.1
+    (omega (arith, number_refused c.whole.result c.in_err-one.ensures.full))
 
 pub returns-in_err-sum-clause-room : goal.returns-in_err-sum-clause-room
 returns-in_err-sum-clause-room c = λ ns n h.
     let k = c.in_ok-one.ensures.given in
     let free = given_free c.requires.stands c.in_ok-one.ensures.stands c.in_ok-one.ensures.kept k in
     let few : free_of c.number.new.pool < 8 = refused_below c.in_err-sum.ensures.full in
-    passed_on c.from_residual-in_err-sum.result (fault.Full c.in_err-sum.field-0.0) (OfFull (λ full. free_of c.args.pool.now < node_bytes ns n)) c.from_residual-in_err-sum.ensures.0 c.from_residual-in_err-sum.ensures.1 (omega (arith, free, ap size (given_told k), num_most (value_of c.whole.result), few))
+    passed_on c.from_residual-in_err-sum.result (fault.Full c.in_err-sum.field-0.0)
+    (OfFull (λ full. free_of c.args.pool.now < node_bytes ns n)) c.from_residual-in_err-sum.ensures.0 c.from_residual-in_err-sum.ensures.1
+    (omega (arith, free, ap size (given_told k), num_most (value_of c.whole.result), few))
 
 -- ---- what fits

@@ -26,11 +26,13 @@ compare_monomials-requires-clause-second g c =
     (m, c.monomial_key-key.ensures m h)
 
 -- how the term there stands to one with the monomial
-order : (g : Over) (c : After-compare_monomials g) (m : Monomial) (t : Tree) → HasMonomial m (plain (tree_at c.args.product (forest c.args.pool.now))) → HasMonomial m t → term_cmp (nth c.middle-at.result (children_of (plain (tree_at c.args.sum (forest c.args.pool.now))))) t ≡ c.compare_monomials.result
+order : (g : Over) (c : After-compare_monomials g) (m : Monomial) (t : Tree) → HasMonomial m (plain (tree_at c.args.product (forest c.args.pool.now))) → HasMonomial m t
+    → term_cmp (nth c.middle-at.result (children_of (plain (tree_at c.args.sum (forest c.args.pool.now))))) t ≡ c.compare_monomials.result
 order g c m t s h =
     let x = sum_term c.requires.sum c.middle-at.result _ (omega (arith, c.middle-at.ensures.below, c.loop-low.invariant.within)) c.child.ensures.plain in
     let k = term_monomial x in
-    ap (λ (u : Tree). term_cmp u t) (sym c.child.ensures.plain) ∙ monomial_order k h ∙ sym (c.compare_monomials.ensures x.summand.monomial m (c.monomial_key-other.ensures x.summand.monomial k) (c.monomial_key-key.ensures m s))
+    ap (λ (u : Tree). term_cmp u t) (sym c.child.ensures.plain) ∙ monomial_order k h ∙ sym
+    (c.compare_monomials.ensures x.summand.monomial m (c.monomial_key-other.ensures x.summand.monomial k) (c.monomial_key-key.ensures m s))
 
 pub returns-in-Equal-clause-found : goal.returns-in-Equal-clause-found
 returns-in-Equal-clause-found g c = λ m t s h.
@@ -42,7 +44,8 @@ loop-low-preserved-in-Less g c =
     record {
       order = omega (arith, c.middle-at.ensures.below);
       within = c.loop-low.invariant.within;
-      below = λ m t s h k l. sum_below c.requires.sum k at t (omega (arith, l)) (omega (arith, c.middle-at.ensures.below, c.loop-low.invariant.within)) (order g (goal.at.loop-low-preserved-in-Less g c).After-compare_monomials m t s h ∙ c.in-Less.is);
+      below = λ m t s h k l. sum_below c.requires.sum k at t (omega (arith, l)) (omega (arith, c.middle-at.ensures.below, c.loop-low.invariant.within))
+          (order g (goal.at.loop-low-preserved-in-Less g c).After-compare_monomials m t s h ∙ c.in-Less.is);
       above = c.loop-low.invariant.above;
     }
 

@@ -6,8 +6,10 @@ abbrev pub invariant-loop-low : goal.invariant-loop-low
 invariant-loop-low g l = record {
   order : l.low ≤ l.high;
   within : l.high ≤ count (children_of (plain (tree_at l.sum (forest l.pool))));
-  below : (m : Monomial) (t : Tree) → HasMonomial m (plain (tree_at l.fn.product (forest l.pool))) → HasMonomial m t → (k : ℕ) → k < l.low → term_cmp (nth k (children_of (plain (tree_at l.sum (forest l.pool))))) t ≡ Less;
-  above : (m : Monomial) (t : Tree) → HasMonomial m (plain (tree_at l.fn.product (forest l.pool))) → HasMonomial m t → l.high < count (children_of (plain (tree_at l.sum (forest l.pool)))) → term_cmp (nth l.high (children_of (plain (tree_at l.sum (forest l.pool))))) t ≡ Greater;
+  below : (m : Monomial) (t : Tree) → HasMonomial m (plain (tree_at l.fn.product (forest l.pool))) → HasMonomial m t → (k : ℕ) → k < l.low
+      → term_cmp (nth k (children_of (plain (tree_at l.sum (forest l.pool))))) t ≡ Less;
+  above : (m : Monomial) (t : Tree) → HasMonomial m (plain (tree_at l.fn.product (forest l.pool))) → HasMonomial m t
+      → l.high < count (children_of (plain (tree_at l.sum (forest l.pool)))) → term_cmp (nth l.high (children_of (plain (tree_at l.sum (forest l.pool))))) t ≡ Greater;
 }
 
 abbrev pub decreases-loop-low : goal.decreases-loop-low

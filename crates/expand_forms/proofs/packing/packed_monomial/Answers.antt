@@ -40,7 +40,8 @@ loop-name-preserved c = λ m h n.
     let base = forest c.args.pool.now in
     packed_more (name_of c.name-item.result) c.from.result (c.loop-name.name-index + 1) p c.requires.names within
     (name_at c.args.names.now c.loop-name.name-index c.name-item.result c.loop-name-test.true c.name-item.is) small
-    (subst (λ (e : ℕ). IsTaken p.rest (name_of c.name-item.result) e c.take_exponent.new.next c.take_exponent.new.nodes base) (sym c.from.ensures) (c.in_ok-exponent.ensures.taken p.rest p.coming)) more
+    (subst (λ (e : ℕ). IsTaken p.rest (name_of c.name-item.result) e c.take_exponent.new.next c.take_exponent.new.nodes base) (sym c.from.ensures)
+    (c.in_ok-exponent.ensures.taken p.rest p.coming)) more
 
 pub returns-clause-monomial : goal.returns-clause-monomial
 returns-clause-monomial c = λ m h n.

@@ -10,7 +10,8 @@ use Rattle.expand_forms.proofs.placing.list_packed.Goals.{then-exponent-ne0, els
 use Rattle.expand_forms.proofs.placing.list_packed.Goals as goal
 
 pub loop-place-init : goal.loop-place-init
-loop-place-init c = subst (λ (xs : List Read). IsListedTo (names_of c.args.names.now) c.exponents_of-exponents.result 0 xs) (sym c.clear.ensures) (listed_none (names_of c.args.names.now) c.exponents_of-exponents.result)
+loop-place-init c = subst (λ (xs : List Read). IsListedTo (names_of c.args.names.now) c.exponents_of-exponents.result 0 xs) (sym c.clear.ensures)
+    (listed_none (names_of c.args.names.now) c.exponents_of-exponents.result)
 
 one_of : (n : ℕ) → (n ≡ 0 → ⊥) → 1 ≤ n
 one_of zero h = absurd (h refl)
@@ -28,7 +29,12 @@ loop-place-preserved c =
           let e = get_or es i 0 in
           rw (w.factors-is, w.push.ensures.items)
           (listed_push ns es c.index-names-place.result _ c.loop-place.invariant some within w.if-exponent-ne0.true
-          (record { name = ap name_of c.index-names-place.is; exponent = whole_read w.whole.result e _ w.whole.ensures (small_told w.from.result e w.from.ensures c.index-names-place.element_fits.fits); positive = one_of e w.if-exponent-ne0.true }))
+          (record {
+            name = ap name_of c.index-names-place.is;
+            exponent = whole_read w.whole.result e _ w.whole.ensures
+                (small_told w.from.result e w.from.ensures c.index-names-place.element_fits.fits);
+            positive = one_of e w.if-exponent-ne0.true;
+          }))
       | else-exponent-ne0 w ↦ rw w.factors-is (listed_skip ns es c.index-names-place.result c.loop-place.invariant some within w.if-exponent-ne0.false)
     ]
 

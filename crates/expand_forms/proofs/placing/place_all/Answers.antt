@@ -22,10 +22,12 @@ loop-term-preserved c = record {
 
 pub returns-clause-ok : goal.returns-clause-ok
 returns-clause-ok c =
-    subst (λ (ts : List Term). AddsTrees (term_trees (named_terms (names_of c.args.names.now) ts)) (forest c.args.pool.now) (forest c.loop-term.pool)) (take_all c.loop-term.term-index c.args.terms.now (omega (arith, c.loop-term-test.false))) c.loop-term.invariant.adds
+    subst (λ (ts : List Term). AddsTrees (term_trees (named_terms (names_of c.args.names.now) ts)) (forest c.args.pool.now) (forest c.loop-term.pool))
+    (take_all c.loop-term.term-index c.args.terms.now (omega (arith, c.loop-term-test.false))) c.loop-term.invariant.adds
 
 pub returns-in_err-_term-clause-room : goal.returns-in_err-_term-clause-room
 returns-in_err-_term-clause-room c = λ ns m h.
     let i = c.loop-term.invariant in
     passed_on c.from_residual.result c.in_err-_term.field-0.0 (λ full. free_of c.args.pool.now < terms_bytes ns (length c.args.terms.now)) c.from_residual.ensures.0 c.from_residual.ensures.1
-    (next_lacks (names_of c.args.names.now) ns c.args.terms.now _ (free_of c.args.pool.now) (free_of c.loop-term.pool) m h c.loop-term-test.true c.term-item.is (adds_free c.requires.stands i.stands i.kept i.adds) c.in_err-_term.ensures.room)
+    (next_lacks (names_of c.args.names.now) ns c.args.terms.now _ (free_of c.args.pool.now) (free_of c.loop-term.pool) m h c.loop-term-test.true c.term-item.is
+    (adds_free c.requires.stands i.stands i.kept i.adds) c.in_err-_term.ensures.room)

@@ -10,7 +10,8 @@ use Rattle.expand_forms.proofs.placing.place_sum.Goals as goal
 pub returns-then-is_empty-clause-ok : goal.returns-then-is_empty-clause-ok
 returns-then-is_empty-clause-ok c =
     let none = eqb-true (length c.args.terms.now) 0 (sym c.is_empty.ensures ∙ c.if-is_empty.true) in
-    if_ok_map c.number.result c.number.ensures.given (λ h g. gives_as g refl (λ t e. e ∙ ap num (zero_value c.whole.result c.whole.ensures) ∙ sum_none (names_of c.args.names.now) c.args.terms.now none))
+    if_ok_map c.number.result c.number.ensures.given
+    (λ h g. gives_as g refl (λ t e. e ∙ ap num (zero_value c.whole.result c.whole.ensures) ∙ sum_none (names_of c.args.names.now) c.args.terms.now none))
 
 pub returns-then-terms-eq1-clause-ok : goal.returns-then-terms-eq1-clause-ok
 returns-then-terms-eq1-clause-ok c =
@@ -24,7 +25,8 @@ returns-then-terms-eq1-clause-room c = λ ns m h.
 pub returns-in_err-placed-clause-room : goal.returns-in_err-placed-clause-room
 returns-in_err-placed-clause-room c = λ ns m h.
     let free = node_free c.requires.stands c.in_ok-sum.ensures.stands c.in_ok-sum.ensures.kept c.in_ok-sum.ensures.ok in
-    passed_on c.from_residual-in_err-placed.result c.in_err-placed.field-0.0 (λ full. free_of c.args.pool.now < number_bytes + sum_bytes ns (length c.args.terms.now)) c.from_residual-in_err-placed.ensures.0 c.from_residual-in_err-placed.ensures.1
+    passed_on c.from_residual-in_err-placed.result c.in_err-placed.field-0.0
+    (λ full. free_of c.args.pool.now < number_bytes + sum_bytes ns (length c.args.terms.now)) c.from_residual-in_err-placed.ensures.0 c.from_residual-in_err-placed.ensures.1
     (omega (arith, free, c.in_err-placed.ensures.room ns m h))
 
 pub adopt-requires-clause-root : goal.adopt-requires-clause-root

@@ -21,12 +21,17 @@ release-requires-then-terms-eq1-clause-releasable c =
 pub returns-then-terms-eq0 : goal.returns-then-terms-eq0
 returns-then-terms-eq0 c =
     record {
-      ok = let sum = tree_of c.args.sum c.args.pool.now in let read = expression c.id.ensures c.requires.stands (given_handed c.requires.sum) in let many = ap (λ (t : Tree). count (children_of t)) (seen c.id.ensures c.requires.stands (given_handed c.requires.sum)) in let none : count (children_of sum) ≡ 0 = sym (c.children-terms.ensures.plain read ∙ many) ∙ c.if-terms-eq0.true in if_given _ _ _ _ _ c.number.result c.number.ensures.given (c.release.ensures.owned (owned (given_handed c.requires.sum))) (λ t e. e ∙ ap num (zero_value c.whole.result c.whole.ensures) ∙ sym (none_sum (given_told c.requires.sum) none));
+      ok = let sum = tree_of c.args.sum c.args.pool.now in let read = expression c.id.ensures c.requires.stands (given_handed c.requires.sum) in let many = ap
+          (λ (t : Tree). count (children_of t)) (seen c.id.ensures c.requires.stands (given_handed c.requires.sum)) in let none : count (children_of sum) ≡ 0 = sym
+          (c.children-terms.ensures.plain read ∙ many) ∙ c.if-terms-eq0.true in if_given _ _ _ _ _ c.number.result c.number.ensures.given
+          (c.release.ensures.owned (owned (given_handed c.requires.sum)))
+          (λ t e. e ∙ ap num (zero_value c.whole.result c.whole.ensures) ∙ sym (none_sum (given_told c.requires.sum) none));
       front = front_after (front_at (front_without behind_first front_same) (c.release.ensures.owned (owned (given_handed c.requires.sum)))) c.number.ensures.front;
       kept = search rules;
       full = search rules;
       caused = search rules;
-      room = let h = given_handed c.requires.sum in let free = released_free c.requires.stands c.release.ensures.stands c.release.ensures.kept h (c.release.ensures.owned (owned h)) in refusal_as c.number.result c.number.ensures.full (λ full r. omega (arith, free, number_refused c.whole.result r));
+      room = let h = given_handed c.requires.sum in let free = released_free c.requires.stands c.release.ensures.stands c.release.ensures.kept h
+          (c.release.ensures.owned (owned h)) in refusal_as c.number.result c.number.ensures.full (λ full r. omega (arith, free, number_refused c.whole.result r));
       stands = search rules;
     }
 
@@ -35,8 +40,13 @@ returns-then-terms-eq1 c =
     let sum = tree_of c.args.sum c.args.pool.now in
     let taken = c.take_child-term.ensures.last (given_root c.requires.sum) in
     record {
-      ok = let told = given_told c.requires.sum in let read = expression c.id.ensures c.requires.stands (given_handed c.requires.sum) in let many = ap (λ (t : Tree). count (children_of t)) (seen c.id.ensures c.requires.stands (given_handed c.requires.sum)) in let one : count (children_of sum) ≡ 1 = sym (c.children-terms.ensures.plain read ∙ many) ∙ c.if-terms-eq1.true in let gone = c.release-then-terms-eq1.ensures.owned (owned (only_owned c.requires.sum (children_of sum) (sum_is told) taken)) in only_child c.requires.sum (children_of sum) (sum_is told) (omega (arith, one)) taken gone (one_sum told one);
-      front = let gone = c.release-then-terms-eq1.ensures.owned (owned (only_owned c.requires.sum (children_of sum) (sum_is (given_told c.requires.sum)) taken)) in front_at (front_without behind_first (front_end taken (front_put _ behind_first front_same))) gone;
+      ok = let told = given_told c.requires.sum in let read = expression c.id.ensures c.requires.stands (given_handed c.requires.sum) in let many = ap
+          (λ (t : Tree). count (children_of t)) (seen c.id.ensures c.requires.stands (given_handed c.requires.sum)) in let one : count (children_of sum) ≡ 1 = sym
+          (c.children-terms.ensures.plain read ∙ many) ∙ c.if-terms-eq1.true in let gone = c.release-then-terms-eq1.ensures.owned
+          (owned (only_owned c.requires.sum (children_of sum) (sum_is told) taken)) in only_child c.requires.sum (children_of sum) (sum_is told) (omega (arith, one)) taken gone
+          (one_sum told one);
+      front = let gone = c.release-then-terms-eq1.ensures.owned (owned (only_owned c.requires.sum (children_of sum) (sum_is (given_told c.requires.sum)) taken)) in front_at
+          (front_without behind_first (front_end taken (front_put _ behind_first front_same))) gone;
       kept = search rules;
       full = search rules;
       caused = search rules;

@@ -45,7 +45,8 @@ returns-clause-ok g c =
 pub returns-in_err-sum-clause-room : goal.returns-in_err-sum-clause-room
 returns-in_err-sum-clause-room g c = λ ns m n ha hb.
     let few : free_of c.args.pool.now < 8 = refused_below c.in_err-sum.ensures.full in
-    passed_on c.from_residual.result (fault.Full c.in_err-sum.field-0.0) (OfFull (λ full. free_of c.args.pool.now < sum_bytes ns (m * n))) c.from_residual.ensures.0 c.from_residual.ensures.1 (omega (arith, few))
+    passed_on c.from_residual.result (fault.Full c.in_err-sum.field-0.0)
+    (OfFull (λ full. free_of c.args.pool.now < sum_bytes ns (m * n))) c.from_residual.ensures.0 c.from_residual.ensures.1 (omega (arith, few))
 
 pub returns-in_err-join_products-clause-room : goal.returns-in_err-join_products-clause-room
 returns-in_err-join_products-clause-room g c = λ ns m n ha hb.
@@ -53,7 +54,8 @@ returns-in_err-join_products-clause-room g c = λ ns m n ha hb.
     let r = sym (given_rest new) in
     let free = given_free c.requires.stands c.in_ok-sum.ensures.stands c.in_ok-sum.ensures.kept new in
     let lacks = c.in_err-join_products.ensures.room ns (m * n + 0) (few_append (few_product (subst (λ (f : Forest). HasFewTerms ns m (polynomial_of (plain (tree_at c.args.a f)))) r ha) (subst (λ (f : Forest). HasFewTerms ns n (polynomial_of (plain (tree_at c.args.b f)))) r hb)) (few_none ns (given_told new))) in
-    passed_on c.from_residual-in_err-join_products.result c.in_err-join_products.field-0.0 (OfFull (λ full. free_of c.args.pool.now < sum_bytes ns (m * n))) c.from_residual-in_err-join_products.ensures.0 c.from_residual-in_err-join_products.ensures.1
+    passed_on c.from_residual-in_err-join_products.result c.in_err-join_products.field-0.0
+    (OfFull (λ full. free_of c.args.pool.now < sum_bytes ns (m * n))) c.from_residual-in_err-join_products.ensures.0 c.from_residual-in_err-join_products.ensures.1
     (full_as c.in_err-join_products.field-0.0 lacks (λ full few. omega (arith, free, few)))
 
 pub returns-in_err-finished-clause-room : goal.returns-in_err-finished-clause-room
@@ -61,7 +63,8 @@ returns-in_err-finished-clause-room g c = λ ns m n ha hb.
     let sum = gives_as c.in_ok-join_products.ensures.ok (given_rest (c.in_ok-sum.ensures.given refl)) (λ t h. h) in
     let free = given_free c.requires.stands c.in_ok-join_products.ensures.stands (kept_after c.in_ok-sum.ensures.kept c.in_ok-join_products.ensures.kept) sum in
     let some : 1 ≤ m * n = mul-le 1 1 m n (some_few c.requires.first_expanded ha) (some_few c.requires.second_expanded hb) in
-    passed_on c.from_residual-in_err-finished.result (fault.Full c.in_err-finished.field-0.0) (OfFull (λ full. free_of c.args.pool.now < sum_bytes ns (m * n))) c.from_residual-in_err-finished.ensures.0 c.from_residual-in_err-finished.ensures.1
+    passed_on c.from_residual-in_err-finished.result (fault.Full c.in_err-finished.field-0.0)
+    (OfFull (λ full. free_of c.args.pool.now < sum_bytes ns (m * n))) c.from_residual-in_err-finished.ensures.0 c.from_residual-in_err-finished.ensures.1
     (omega (arith, free, c.in_err-finished.ensures.room, some_bytes ns (m * n) some))
 
 -- ---- what fits
@@ -70,7 +73,8 @@ pub returns-in_err-join_products-clause-fits : goal.returns-in_err-join_products
 returns-in_err-join_products-clause-fits g c = λ h l x k.
     let new = c.in_ok-sum.ensures.given refl in
     let r = given_rest new in
-    let v = product (polynomial_of (plain (tree_at c.args.a (without_root c.in_ok-sum.sum (forest c.node.new.pool))))) (polynomial_of (plain (tree_at c.args.b (without_root c.in_ok-sum.sum (forest c.node.new.pool))))) in
+    let v = product (polynomial_of (plain (tree_at c.args.a (without_root c.in_ok-sum.sum (forest c.node.new.pool)))))
+    (polynomial_of (plain (tree_at c.args.b (without_root c.in_ok-sum.sum (forest c.node.new.pool))))) in
     let is = nothing_added v (given_told new) ∙ (λ i. product (polynomial_of (plain (tree_at c.args.a (r i)))) (polynomial_of (plain (tree_at c.args.b (r i))))) in
     passed_on c.from_residual-in_err-join_products.result c.in_err-join_products.field-0.0 IsNoOverflow c.from_residual-in_err-join_products.ensures.0 c.from_residual-in_err-join_products.ensures.1
     (c.in_err-join_products.ensures.fits h l (subst (λ (u : Polynomial). IsHeld u h l) (sym is) x) k)

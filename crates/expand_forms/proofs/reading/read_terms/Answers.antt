@@ -63,7 +63,8 @@ returns-in_err-add_term-clause-unlisted c =
     let k = (goal.at.returns-in_err-add_term-clause-unlisted c).In-Some in
     let x = next k in
     let v = normal (polynomial_of (t k)) in
-    passed_on c.from_residual.result c.in_err-add_term.field-0.0 (IsUnlistedBy ⊥ (HaveExponents 255 v → ⊥) (vec_capacity c.args.list.now < length v)) c.from_residual.ensures.0 c.from_residual.ensures.1
+    passed_on c.from_residual.result c.in_err-add_term.field-0.0
+    (IsUnlistedBy ⊥ (HaveExponents 255 v → ⊥) (vec_capacity c.args.list.now < length v)) c.from_residual.ensures.0 c.from_residual.ensures.1
     (unlisted_as c.in_err-add_term.field-0.0 (λ h e. h (x.exponents e))
     (λ r. omega (arith, r, c.loop-term.invariant.room, few_taken v (i k), within k, count_is (names_of c.args.names.now) (t k) c.requires.expanded c.requires.named))
     (c.in_err-add_term.ensures.unlisted x.summand-is (take (i k) v) (drop (suc (i k)) v) x.is (listed_first x c.loop-term.invariant.listed)))
@@ -85,7 +86,8 @@ pub returns-then-term_count-eq0-clause-terms : goal.returns-then-term_count-eq0-
 returns-then-term_count-eq0-clause-terms c =
     let t = plain (tree_at c.args.tree (forest c.args.pool.now)) in
     listed_all {i = 0} t c.requires.names (omega (arith, names_length c.args.names.now, c.requires.few))
-    (omega (arith, c.term_count.ensures, c.if-term_count-eq0.true, count_is (names_of c.args.names.now) t c.requires.expanded c.requires.named)) (listed_none (normal (polynomial_of t)) c.clear.ensures.items)
+    (omega (arith, c.term_count.ensures, c.if-term_count-eq0.true, count_is (names_of c.args.names.now) t c.requires.expanded c.requires.named))
+    (listed_none (normal (polynomial_of t)) c.clear.ensures.items)
 
 module _ (c : Else-term_count-eq0) where
   abbrev u : Tree

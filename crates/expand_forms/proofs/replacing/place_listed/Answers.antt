@@ -18,7 +18,8 @@ place_factor-requires-clause-read c =
 pub loop-factor-preserved : goal.loop-factor-preserved
 loop-factor-preserved c = record {
   placed = omega (arith, c.loop-factor.invariant.placed);
-  adds = λ m h. let r = read_at c.args.factors.now h (omega (arith, c.loop-factor-test.true)) c.factor-item.is in placed_more r (c.loop-factor.invariant.adds m h) (c.in_ok-_factor.ensures.ok r.factor r.read);
+  adds = λ m h. let r = read_at c.args.factors.now h (omega (arith, c.loop-factor-test.true)) c.factor-item.is in placed_more r (c.loop-factor.invariant.adds m h)
+      (c.in_ok-_factor.ensures.ok r.factor r.read);
   front = front_after c.loop-factor.invariant.front c.place_factor.ensures.front;
   kept = kept_after c.loop-factor.invariant.kept c.in_ok-_factor.ensures.kept;
   stands = c.place_factor.ensures.stands;
@@ -26,7 +27,8 @@ loop-factor-preserved c = record {
 
 pub returns-clause-ok : goal.returns-clause-ok
 returns-clause-ok c = λ m h.
-    subst (λ (k : Monomial). AddsTrees (factor_trees k) (forest c.args.pool.now) (forest c.loop-factor.pool)) (take_all c.loop-factor.factor-index m (omega (arith, read_length c.args.factors.now m h, c.loop-factor-test.false))) (c.loop-factor.invariant.adds m h)
+    subst (λ (k : Monomial). AddsTrees (factor_trees k) (forest c.args.pool.now) (forest c.loop-factor.pool))
+    (take_all c.loop-factor.factor-index m (omega (arith, read_length c.args.factors.now m h, c.loop-factor-test.false))) (c.loop-factor.invariant.adds m h)
 
 -- ---- few bytes
 

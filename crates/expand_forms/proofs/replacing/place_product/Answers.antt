@@ -12,12 +12,14 @@ led : (c : Joined-not-is_one) → IsLed (value_of c.args.coefficient) c.if-not-i
 led c =
     elim c.if-not-is_one.branch [
       | then-not-is_one+in_ok-_number w ↦
-          rw (w.pool-is, w.placed-is) (led_number w.number.ensures.stands (sym c.is_one.ensures ∙ w.if-not-is_one.true) w.in_ok-_number.ensures.kept w.number.ensures.front w.in_ok-_number.ensures.given)
+          rw (w.pool-is, w.placed-is)
+          (led_number w.number.ensures.stands (sym c.is_one.ensures ∙ w.if-not-is_one.true) w.in_ok-_number.ensures.kept w.number.ensures.front w.in_ok-_number.ensures.given)
       | else-not-is_one w ↦ rw (w.pool-is, w.placed-is) (led_none c.in_ok-product.ensures.stands (sym c.is_one.ensures ∙ w.if-not-is_one.false))
     ]
 
 -- and the factors
-placed : (c : In_ok-placed) (m : Monomial) → AreRead c.args.factors.now m → IsPlaced (value_of c.args.coefficient) m (c.if-not-is_one.placed + c.in_ok-placed.field-0) (forest c.node.new.pool) (forest c.place_listed.new.pool)
+placed : (c : In_ok-placed) (m : Monomial) → AreRead c.args.factors.now m
+    → IsPlaced (value_of c.args.coefficient) m (c.if-not-is_one.placed + c.in_ok-placed.field-0) (forest c.node.new.pool) (forest c.place_listed.new.pool)
 placed c m h = led_all c.place_listed.new.pool c.args.factors.now m (led c.before.before.before.before) h c.requires.some c.in_ok-placed.ensures.count (c.in_ok-placed.ensures.ok m h)
 
 pub adopt-requires : goal.adopt-requires
@@ -43,7 +45,8 @@ returns-clause-front c =
 pub returns-in_err-_number-clause-room : goal.returns-in_err-_number-clause-room
 returns-in_err-_number-clause-room c =
     let free = node_free c.requires.stands c.in_ok-product.ensures.stands c.in_ok-product.ensures.kept c.in_ok-product.ensures.ok in
-    passed_on c.from_residual-in_err-_number.result c.in_err-_number.field-0.0 (λ full. free_of c.args.pool.now < term_bytes (length c.args.factors.now)) c.from_residual-in_err-_number.ensures.0 c.from_residual-in_err-_number.ensures.1
+    passed_on c.from_residual-in_err-_number.result c.in_err-_number.field-0.0
+    (λ full. free_of c.args.pool.now < term_bytes (length c.args.factors.now)) c.from_residual-in_err-_number.ensures.0 c.from_residual-in_err-_number.ensures.1
     (omega (arith, free, number_refused c.args.coefficient c.in_err-_number.ensures.full))
 
 pub returns-in_err-placed-clause-room : goal.returns-in_err-placed-clause-room
@@ -51,5 +54,6 @@ returns-in_err-placed-clause-room c =
     let l = led (goal.at.returns-in_err-placed-clause-room c).Joined-not-is_one in
     let free = node_free c.requires.stands c.in_ok-product.ensures.stands c.in_ok-product.ensures.kept c.in_ok-product.ensures.ok in
     let left = adds_free c.in_ok-product.ensures.stands l.stands l.kept l.adds in
-    passed_on c.from_residual-in_err-placed.result c.in_err-placed.field-0.0 (λ full. free_of c.args.pool.now < term_bytes (length c.args.factors.now)) c.from_residual-in_err-placed.ensures.0 c.from_residual-in_err-placed.ensures.1
+    passed_on c.from_residual-in_err-placed.result c.in_err-placed.field-0.0
+    (λ full. free_of c.args.pool.now < term_bytes (length c.args.factors.now)) c.from_residual-in_err-placed.ensures.0 c.from_residual-in_err-placed.ensures.1
     (omega (arith, free, left, l.most, c.in_err-placed.ensures.room))

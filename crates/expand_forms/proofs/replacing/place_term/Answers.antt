@@ -19,4 +19,5 @@ returns-clause-ok c = λ m h.
       | else-factors-eq1-via-else-factors-eq1 w ↦ absurd (w.if-factors-eq1.false e)
     ] in
     let many = many_led q xs m h (λ e. absurd (cc (sym c.is_empty.ensures ∙ c.if-is_empty.false, eq-eqb (length xs) 0 e))) one in
-    if_ok_map c.place_product.result (c.place_product.ensures.ok m h) (λ t g. gives_as g refl (λ u e. e ∙ many_factors (mult (led_by q (factor_trees m))) refl (led_some q (factor_trees m)) many ∙ led_term q m))
+    if_ok_map c.place_product.result (c.place_product.ensures.ok m h)
+    (λ t g. gives_as g refl (λ u e. e ∙ many_factors (mult (led_by q (factor_trees m))) refl (led_some q (factor_trees m)) many ∙ led_term q m))

@@ -42,7 +42,8 @@ unwrap-exponent-requires c =
     some_next c.next-in_default-2.result _ _ c.next-in_default-2.ensures.steps
     (some_behind (power (goal.at.unwrap-exponent-requires c).In_default m a) (next_is c.next-in_default.result c.unwrap-base.result _ _ c.next-in_default.ensures.steps c.unwrap-base.ensures))
 
-passed : (c : After-unwrap-exponent) (m : Monomial) → AreAhead m c.args.nodes.now (forest c.args.pool.now) → IsPowerPassed m c.unwrap-base.result c.unwrap-exponent.result c.next-in_default-2.new.self (forest c.args.pool.now)
+passed : (c : After-unwrap-exponent) (m : Monomial) → AreAhead m c.args.nodes.now (forest c.args.pool.now)
+    → IsPowerPassed m c.unwrap-base.result c.unwrap-exponent.result c.next-in_default-2.new.self (forest c.args.pool.now)
 passed c m a =
     power_passed (power_ahead a c.in_ok-top.ensures.steps c.in_default.not-Sym) (next_is c.next-in_default.result c.unwrap-base.result _ _ c.next-in_default.ensures.steps c.unwrap-base.ensures)
     (next_is c.next-in_default-2.result c.unwrap-exponent.result _ _ c.next-in_default-2.ensures.steps c.unwrap-exponent.ensures)
