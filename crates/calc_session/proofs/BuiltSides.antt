@@ -1,7 +1,8 @@
 -- Lemmas on equations whose sides are built one after another.
 use Rattle.std.proofs.Common.{◌≡◌, ◌∙◌, ℕ, zero, suc, ◌+◌, List, [], ◌∷◌, ◌++◌, length, length-append, map, take, drop, refl, sym, ap, subst, arith}
 use Rattle.std.specs.Prelude.{All}
-use Rattle.calc_session.proofs.Shared.{AllZip, All-cons, All-head, All-tail, Tree, Trees, none, more, append, fills, values, HasEntries, Table, entries-left, Equation, equation_at, equations_in, free_of, Adds, AddsAll, adds_more, adds_none, adds_one, still_expression, still_plain, IsExpression, plain, Forest, tree_at, Stands, forest, given_handed, given_root, given_told, expression_root, plain_root, EquationRange, Unmade, made, pieces_at, Reason, AreUnmade, Become, ReadsEquation, nothing}
+use Rattle.std.proofs.lemmas.List.{map-append, take-map}
+use Rattle.calc_session.proofs.Shared.{take-append-drop, AllZip, All-cons, All-head, All-tail, Tree, Trees, none, more, append, fills, values, HasEntries, Table, entries-left, Equation, equation_at, equations_in, free_of, Adds, AddsAll, adds_more, adds_none, adds_one, still_expression, still_plain, IsExpression, plain, Forest, tree_at, Stands, forest, given_handed, given_root, given_told, expression_root, plain_root, EquationRange, Unmade, made, pieces_at, Reason, AreUnmade, Become, ReadsEquation, nothing}
 use Rattle.node_pool.specs.State.{State}
 use Rattle.calc_session.specs.Solving.{at_left as unmade_left, at_right as unmade_right}
 use Rattle.calc_session.proofs.SideLemmas.{become_more, unmade_behind}
@@ -112,17 +113,13 @@ module _ (table : Table) (before : ℕ) (text : List ℕ) (rs : List EquationRan
           trees = append (append a.trees (more tl none)) (more tr none);
           adds = adds_more (adds_more a.adds p) q;
           become = λ es h.
-              let e = ends_with ReadsEquation (map (pieces_at before text) (take n rs)) (pieces_at before text r) es (subst (λ ps. AllZip ReadsEquation ps es) (ap (map (pieces_at before text)) next ∙ map_push (pieces_at before text) (take n rs) r) h) in
+              let e = ends_with ReadsEquation (map (pieces_at before text) (take n rs)) (pieces_at before text r) es (subst (λ ps. AllZip ReadsEquation ps es) (ap (map (pieces_at before text)) next ∙ map-append (pieces_at before text) (take n rs) (r ∷ [])) h) in
               let (l, m) = both e.last e.here in
               subst (λ bs. Become (values table (forest old)) (free_of old) es (free_of new) bs) (sym same)
               (subst (λ xs. Become (values table (forest old)) (free_of old) xs (free_of new) (equations_in (forest now) left right ++ record { left = tl; right = tr } ∷ [])) (sym e.whole)
               (become_more (a.become e.before e.all) e.last (free_of mid) (free_of new) tl tr (subst (λ vs. made (free_of now) vs e.last.left ≡ fills (free_of mid) tl) (values_there a.adds) l)
               (subst (λ vs. made (free_of mid) vs e.last.right ≡ fills (free_of new) tr) (values_there (adds_more a.adds p)) m)));
         }
-      where
-        map_push : {A B : Type 0} (f : A → B) (xs : List A) (x : A) → map f (xs ++ x ∷ []) ≡ map f xs ++ f x ∷ []
-        map_push f [] x = refl
-        map_push f (y ∷ ys) x = ap (λ zs. f y ∷ zs) (map_push f ys x)
 
     -- a side that is not made
     parts : (es : List Equation) → AllZip ReadsEquation (map (pieces_at before text) rs) es → drop n (map (pieces_at before text) rs) ≡ pieces_at before text r ∷ drop (suc n) (map (pieces_at before text) rs)
@@ -134,20 +131,10 @@ module _ (table : Table) (before : ℕ) (text : List ℕ) (rs : List EquationRan
         by : (fs : List Equation) → drop n es ≡ fs → AllZip ReadsEquation (pieces_at before text r ∷ drop (suc n) (map (pieces_at before text) rs)) fs → AllZip ReadsEquation (take n (map (pieces_at before text) rs)) (take n es)
             → (es0 : List Equation) × (e : Equation) × (rest : List Equation) × (es ≡ es0 ++ e ∷ rest) × AllZip ReadsEquation (take n (map (pieces_at before text) rs)) es0 × ReadsEquation (pieces_at before text r) e
         by [] d z x = absurd z
-        by (e ∷ fs) d z x = (take n es, e, fs, sym (take_drop n es) ∙ ap (λ gs. take n es ++ gs) d, x, z.0)
-          where
-            take_drop : (m : ℕ) (gs : List Equation) → take m gs ++ drop m gs ≡ gs
-            take_drop zero gs = refl
-            take_drop (suc m) [] = refl
-            take_drop (suc m) (g ∷ gs) = ap (λ hs. g ∷ hs) (take_drop m gs)
+        by (e ∷ fs) d z x = (take n es, e, fs, sym (take-append-drop n es) ∙ ap (λ gs. take n es ++ gs) d, x, z.0)
 
     take_map : take n (map (pieces_at before text) rs) ≡ map (pieces_at before text) (take n rs)
-    take_map = by n rs
-      where
-        by : (m : ℕ) (qs : List EquationRange) → take m (map (pieces_at before text) qs) ≡ map (pieces_at before text) (take m qs)
-        by zero qs = refl
-        by (suc m) [] = refl
-        by (suc m) (q ∷ qs) = ap (λ ps. pieces_at before text q ∷ ps) (by m qs)
+    take_map = take-map (pieces_at before text) n rs
 
     pub unmade_at_left : (reason : Reason) (es : List Equation) → drop n (map (pieces_at before text) rs) ≡ pieces_at before text r ∷ drop (suc n) (map (pieces_at before text) rs) → AllZip ReadsEquation (map (pieces_at before text) rs) es
         → ((e : Equation) → ReadsEquation (pieces_at before text r) e → Unmade (made (free_of now) (values table (forest now)) e.left) reason) → AreUnmade (values table (forest old)) (free_of old) es reason

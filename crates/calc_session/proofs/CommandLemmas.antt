@@ -66,10 +66,6 @@ module _ (p q : PoolState) (t u : Table) (x : List ℕ) (st : Stands p) (st' : S
 pub written : (old new : Content) (told : List ℕ) → new ≡ extended old told → old.bytes ≡ [] → new.bytes ≡ told
 written old new told e empty = ap (λ (t : Content). t.bytes) e ∙ ap (λ (b : List ℕ). b ++ told) empty
 
-pub none_of : {X : Type 0} (r : Option X) → ((x : X) → r ≡ Some x → ⊥) → IsNone r
-none_of None h = refl
-none_of (Some x) h = absurd (h x refl)
-
 -- ---- interruptions
 
 pub calm_told : (given : LineAnswer) (before checked : List Breaker) → ((place : ℕ) → given ≡ answer.Refused (refusal.Interrupted place) → ⊥) → ((place : ℕ) → TripsRose before checked place → ⊥) → (place : ℕ)

@@ -266,9 +266,3 @@ full_interrupts_none r needed free place h e = grind arith
 
 pub fault_interrupts_none : (r : Refusal) (f : FillFault) (place : ℕ) → r ≡ refusal_to_fill f → r ≡ refusal.Interrupted place → ⊥
 fault_interrupts_none r f place h e = grind arith
-
--- ---- workspaces
-
--- the lists still suffice where the pool keeps its size
-pub ready_still : (w : Workspace) (p : State) → IsReady w → Stands p → p.size ≡ w.pool.size → IsReady (record w { pool = p })
-ready_still w p h stands same = record { stands = stands; lists = let fits = h.lists in omega (arith, fits, same) }

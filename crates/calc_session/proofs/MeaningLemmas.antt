@@ -24,9 +24,6 @@ displayed_in (shown t) = Some t
 displayed_in (stored t x) = Some t
 displayed_in reply = None
 
-none_some : (u : Tree) → None ≡ Some u → ⊥
-none_some u e = cc
-
 displayed_value : (r : Reply) (u : Tree) → displayed_in r ≡ Some u → is_value_reply r ≡ true
 displayed_value r u e = grind arith
 

@@ -1,5 +1,5 @@
 -- Equations are split, read, built and named in one way.
-use Rattle.std.proofs.Common.{◌≡◌, ◌∙◌, ℕ, suc, ◌<◌, ◌≤◌, List, [], ◌∷◌, ◌++◌, length, true, refl, sym, ap, subst, arith}
+use Rattle.std.proofs.Common.{append-nil, ◌≡◌, ◌∙◌, ℕ, suc, ◌<◌, ◌≤◌, List, [], ◌∷◌, ◌++◌, length, true, refl, sym, ap, subst, arith}
 use Rattle.std.specs.Prelude.{All, Contains}
 use Rattle.calc_session.proofs.Shared.{AllZip, Tree, AreDistinct, Equation, NamedTree, Filling, fills, IsNoExpression, AreSides, Piece, Pieces, Sides, Splits, written, written_all, Unmade, made, EndsPiece, Reason, AreNamesOf, HoldOverSixNames, Rises, is_before, AreUnmade, Become, IsNoEquation, ReadsEquation, ReadsSide, equation, nothing}
 use Rattle.calc_session.proofs.RisingLemmas.{before_chain, never_before_itself, rises_distinct}
@@ -23,11 +23,7 @@ ends_there : (es : List Sides) → EndsPiece (behind es)
 ends_there es = grind arith
 
 with_behind : (e : Sides) (es : List Sides) → written_all (e ∷ es) ≡ written e ++ behind es
-with_behind e [] = nothing_behind (written e)
-  where
-    nothing_behind : (xs : List ℕ) → xs ≡ xs ++ []
-    nothing_behind [] = refl
-    nothing_behind (x ∷ xs) = ap (λ ys. x ∷ ys) (nothing_behind xs)
+with_behind e [] = sym (append-nil (written e))
 with_behind e (f ∷ es) = refl
 
 -- where they are alike behind the first

@@ -154,6 +154,3 @@ blank_text room bits s t before after line written given a e = subst (λ (x : Li
 
 pub draw_text : (room bits : Option (Tree → ℕ)) (s t : State) (before after : List Breaker) (line written : List ℕ) (given : LineAnswer) → AnswersUntold room bits s before line given written t after → given ≡ answer.Draw → written ≡ []
 draw_text room bits s t before after line written given a e = subst (λ (x : LineAnswer). IsTextOf x written a.reply) e a.text_is
-
-pub same_counts : (refusal : Option Full) (a b new : Seen) → a.refusals ≡ b.refusals → a.last_refused ≡ b.last_refused → Counts refusal a new → Counts refusal b new
-same_counts refusal a b new r l h = grind arith

@@ -1,6 +1,7 @@
 -- How a text is split.
-use Rattle.std.proofs.Common.{◌≡◌, ◌∙◌, ◌⊎◌, inl, inr, ℕ, zero, suc, ◌+◌, ◌-◌, ◌<◌, ◌≤◌, List, [], ◌∷◌, ◌++◌, length, map, take, drop, Bool, true, false, refl, sym, ap, subst, arith, append_assoc, drop-cons, length-append, length-take, length-drop}
+use Rattle.std.proofs.Common.{append-nil, ◌≡◌, ◌∙◌, ◌⊎◌, inl, inr, ℕ, zero, suc, ◌+◌, ◌-◌, ◌<◌, ◌≤◌, List, [], ◌∷◌, ◌++◌, length, map, take, drop, Bool, true, false, refl, sym, ap, subst, arith, append_assoc, drop-cons, length-append, length-take, length-drop}
 use Rattle.std.specs.Prelude.{All, Contains}
+use Rattle.std.proofs.lemmas.List.{map-append}
 use Rattle.calc_session.proofs.Shared.{drop_all, drop-drop, length-map, take-append-drop, EquationRange, AreSides, IsSideText, Sides, Splits, all_placed, placed, written, written_all, is_blank_line, AreSplit, EndsPiece, IsWithin, between, pieces_at, sides_at}
 use Rattle.std.proofs.Math.Seq.{drop-append_seam, take-append_seam}
 
@@ -72,13 +73,9 @@ pub rest_split : (before es : List Sides) (rest : List ℕ) → All AreSides bef
 rest_split [] es rest h k l e = (es, k, l, e)
 rest_split (b ∷ bs) [] rest h k l e = absurd (omega arith)
 rest_split (b ∷ bs) (f ∷ []) rest h k l e =
-    let p = same_equation b f (59 ∷ (ended bs ++ rest)) [] (first_of b bs h) (first_of f [] k) refl tt (sym (append_assoc (written b) (59 ∷ ended bs) rest) ∙ e ∙ sym (nothing_behind (written f))) in
+    let p = same_equation b f (59 ∷ (ended bs ++ rest)) [] (first_of b bs h) (first_of f [] k) refl tt (sym (append_assoc (written b) (59 ∷ ended bs) rest) ∙ e ∙ sym (append-nil (written f))) in
     absurd (some_none 59 (ended bs ++ rest) p.1)
   where
-    nothing_behind : (xs : List ℕ) → xs ++ [] ≡ xs
-    nothing_behind [] = refl
-    nothing_behind (x ∷ xs) = ap (λ ys. x ∷ ys) (nothing_behind xs)
-
     some_none : (x : ℕ) (xs : List ℕ) → x ∷ xs ≡ [] → ⊥
     some_none x xs e = cc
 rest_split (b ∷ bs) (f ∷ g ∷ fs) rest h k l e =
@@ -90,13 +87,9 @@ pub not_split : (before : List Sides) (text rest : List ℕ) → All AreSides be
     → ((e : Sides) (behind : List ℕ) → AreSides e → EndsPiece behind → rest ≡ written e ++ behind → ⊥) → (es : List Sides) → Splits text es → ⊥
 not_split before text rest h e none es s = by (rest_split before es rest h s.sides s.some (sym e ∙ s.whole))
   where
-    nothing_behind : (xs : List ℕ) → xs ++ [] ≡ xs
-    nothing_behind [] = refl
-    nothing_behind (x ∷ xs) = ap (λ ys. x ∷ ys) (nothing_behind xs)
-
     by : ((fs : List Sides) × All AreSides fs × (0 < length fs) × (rest ≡ written_all fs)) → ⊥
     by ([], k, l, q) = omega (arith, l)
-    by (f ∷ [], k, l, q) = none f [] (first_of f [] k) tt (q ∙ sym (nothing_behind (written f)))
+    by (f ∷ [], k, l, q) = none f [] (first_of f [] k) tt (q ∙ sym (append-nil (written f)))
     by (f ∷ g ∷ fs, k, l, q) = none f (59 ∷ written_all (g ∷ fs)) (first_of f (g ∷ fs) k) refl q
 
 -- ---- where they stand
@@ -284,10 +277,6 @@ found text begin sign end l f g before left right one =
 
 -- ---- while the equations are found
 
-map_push : {A B : Type 0} (f : A → B) (xs : List A) (x : A) → map f (xs ++ x ∷ []) ≡ map f xs ++ f x ∷ []
-map_push f [] x = refl
-map_push f (y ∷ ys) x = ap (λ zs. f y ∷ zs) (map_push f ys x)
-
 all_push : {A : Type 0} (P : A → Type 0) (xs : List A) (x : A) → All P xs → P x → All P (xs ++ x ∷ [])
 all_push P [] x h p = by
   where
@@ -354,7 +343,7 @@ module _ (text : List ℕ) (begin : ℕ) (many : Bool) (rs : List EquationRange)
       by false e =
           let (a, b, c) = s.few e in (
             omega (arith, longer, as_many 0 (b 0), m),
-            (λ before. map_push (pieces_at before text) rs r ∙ (λ i. b before i ++ pieces_there before begin text r w at_is i ∷ [])
+            (λ before. map-append (pieces_at before text) rs (r ∷ []) ∙ (λ i. b before i ++ pieces_there before begin text r w at_is i ∷ [])
                 ∙ ap (λ n. all_placed before s.equations ++ placed (before + n) (sides_at text r) ∷ []) (s.begun l).1 ∙ sym (placed-push before s.equations (sides_at text r))),
             all_push (IsWithin text) rs r c w,
           )

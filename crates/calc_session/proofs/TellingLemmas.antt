@@ -12,9 +12,6 @@ use Rattle.calc_session.specs.declared.evaluating.Evaluation.TheVariants as eval
 reported_refusal : (r : Refusal) → reported (reply_of r) ≡ reply_of r
 reported_refusal r = grind arith
 
-pub as_reported : (Is : Reply → Type 0) (r : Refusal) → Is (reply_of r) → Is (reported (reply_of r))
-as_reported Is r is = subst Is (sym (reported_refusal r)) is
-
 pub has_face : (Is : Reply → Type 0) (others f : Forest) (e : Evaluation) → ComesTo Is IsWritable None others f e → HasFace f e
 has_face Is others f e h = grind arith
 
