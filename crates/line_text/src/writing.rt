@@ -180,6 +180,7 @@ pub fn write_leaf(pool: &Pool, node: Id, text: &mut Text)
 }
 
 /// The same to a page, for a node of a kind.
+#[inline(always)]
 fn write_payload(pool: &Pool, kind: Kind, node: Id, page: &mut Page)
     requires stands { Stands pool.now }
     requires live { holds node (forest pool.now) ≡ true }
