@@ -31,3 +31,17 @@ one_digit n h = by (n / 10) (omega arith)
     by : (m : ℕ) → m ≡ 0 → ◌≡◌ {A = List ℕ} (elim m [ zero ↦ (48 + n) ∷ [] | suc k ↦ digits_before n (n / 10) ((48 + n % 10) ∷ []) ]) ((48 + n) ∷ [])
     by zero e = refl
     by (suc k) e = absurd (omega (arith, e))
+
+-- those of two
+pub two_digits : (n : ℕ) → 10 ≤ n → n < 100 → texts.decimal n ≡ (48 + n / 10) ∷ (48 + n % 10) ∷ []
+unfolding texts.decimal
+two_digits zero h l = absurd (omega arith)
+two_digits (suc k) h l = outer (suc k / 10) (omega arith)
+  where
+    inner : (m : ℕ) → m ≡ 0 → ◌≡◌ {A = List ℕ} (elim m [ zero ↦ (48 + suc k / 10) ∷ (48 + suc k % 10) ∷ [] | suc j ↦ digits_before k (suc k / 10 / 10) ((48 + suc k / 10 % 10) ∷ (48 + suc k % 10) ∷ []) ]) ((48 + suc k / 10) ∷ (48 + suc k % 10) ∷ [])
+    inner zero e = refl
+    inner (suc j) e = absurd (omega (arith, e))
+
+    outer : (m : ℕ) → 0 < m → ◌≡◌ {A = List ℕ} (elim m [ zero ↦ (48 + suc k) ∷ [] | suc j ↦ digits_before (suc k) (suc k / 10) ((48 + suc k % 10) ∷ []) ]) ((48 + suc k / 10) ∷ (48 + suc k % 10) ∷ [])
+    outer zero e = absurd (omega (arith, e))
+    outer (suc j) e = inner (suc k / 10 / 10) (omega arith)

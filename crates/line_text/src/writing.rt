@@ -205,10 +205,24 @@ fn write_digits(number: Rat, page: &mut Page)
     ensures { page.new ≡ extended page.old (decimal (nat_abs (ratio_of number).num)) }
 {
     let magnitude = number.num().unsigned_abs();
-    if magnitude < 10 {
-        page.push_byte(b'0' + magnitude as u8);
+    if magnitude < 100 {
+        write_short(magnitude as u8, page);
         return;
     }
     let mut digits = Buffer::new();
     page.push(digits.format(magnitude).as_bytes());
+}
+
+/// Appends one or two digits.
+fn write_short(n: u8, page: &mut Page)
+    requires few { n < 100 }
+    requires room { length (decimal n) ≤ spare_of page.old }
+    ensures { page.new ≡ extended page.old (decimal n) }
+{
+    if n < 10 {
+        page.push_byte(b'0' + n);
+        return;
+    }
+    page.push_byte(b'0' + n / 10);
+    page.push_byte(b'0' + n % 10);
 }
