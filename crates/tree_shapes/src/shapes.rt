@@ -1,10 +1,11 @@
 //! Shapes of trees, and the trees that they are.
-ghost use Rattle.std.specs.Prelude.{◌≡◌, ◌↔◌, ◌<◌, ◌^◌, IfOk, IsTrue, nat_abs, true};
+ghost use Rattle.std.specs.Prelude.{◌≡◌, ◌↔◌, ◌<◌, IfOk, IsTrue, nat_abs, true};
 ghost use Rattle.calc_language.specs.Texts.{IsWritable};
 ghost use Rattle.tree_handles.specs.Expressions.{takes_kind};
 ghost use Rattle.tree_handles.specs.Handed.{Gives};
 ghost use Rattle.tree_handles.specs.Standing.{Stands, forest};
 ghost use Rattle.calc_terms.specs.Fractions.{whole_fraction};
+ghost use Rattle.calc_terms.specs.Limits.{number_limit};
 ghost use Rattle.calc_terms.specs.Trees.{num, symbol, undef};
 ghost use Rattle.tree_shapes.specs.Shapes.{tree_of, kind_of_pair, kind_of_single, name_or_ans};
 
@@ -120,7 +121,7 @@ fn named(pool: &mut Pool, bytes: &[u8]) -> Result<Handle, Full>
 
 fn whole(pool: &mut Pool, value: i128) -> Result<Handle, Full>
     requires stands { Stands pool.old }
-    requires fits { nat_abs value < 2 ^ 127 }
+    requires fits { nat_abs value < number_limit }
     ensures ok { IfOk result (λ h. Gives (forest pool.old) (forest pool.new) h (λ t. t ≡ num (whole_fraction value))) }
     ensures stands { Stands pool.new }
 {
