@@ -37,9 +37,7 @@ use node_pool::Pool;
 use power_reduce::power_step;
 use product_reduce::{Joining, gather_factors, join_neighbours, next_pair};
 use reduce_port::Step;
-use tree_handles::{
-    Handle, NumberFault, child_id, children, fill, kind, move_last, open_child,
-};
+use tree_handles::{Handle, NumberFault, child_id, children, fill, kind, move_last, open_child};
 
 /// The product of reduced factors, as a reduced tree. Its Numbers become one coefficient, and the others are put in the
 /// order of their bases; neighbours of one base are joined from left to right, each joint reduced before the next pair
