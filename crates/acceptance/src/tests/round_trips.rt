@@ -1,4 +1,6 @@
 //! Trees of a table are written, and their texts are read and built again.
+mod shapes;
+
 ghost use Rattle.calc_language.specs.Texts.{IsWritable};
 ghost use Rattle.tree_handles.specs.Expressions.{plain};
 ghost use Rattle.tree_handles.specs.Handed.{IsHanded};
@@ -8,11 +10,11 @@ ghost use Rattle.tree_handles.specs.Standing.{Stands, forest};
 use super::fixtures::is_tree_of;
 use line_text::{Text, write_text};
 use node_pool::Pool;
+use shapes::{Pair, Shape, Single, grow};
 use std::alloc::{AllocError, Global};
 use std::process::Abort;
 use std::test::Fail;
 use tree_handles::{Handle, open_pool, tree_bytes};
-use tree_shapes::{Pair, Shape, Single, grow};
 
 /// The text of a tree, in twice its bytes.
 fn written(rt: &impl Abort, alloc: Global, pool: &Pool, tree: &Handle) -> Result<Text, AllocError>
@@ -30,7 +32,6 @@ fn written(rt: &impl Abort, alloc: Global, pool: &Pool, tree: &Handle) -> Result
 
 /// Writes the tree of a shape, compares its text, and reads it again.
 fn round_trip(rt: &impl Abort, alloc: Global, shape: &Shape, expected: &str) -> Result<(), Fail> {
-    assert!(rt; shape.is_writable(), "{expected}");
     let mut pool = open_pool(alloc, 1024)?;
     let tree = grow(&mut pool, shape)?;
     let text = written(rt, alloc, &pool, &tree)?;
