@@ -5,59 +5,22 @@
 --     next_room, grown      the first byte of the room is taken out, and joins the bytes once it is written
 --     Rest, back      what stays while the bytes are lent, and the block once they are back
 --     shows_laws, Lends-block      a `&` to a block shows its bytes
-use Rattle.std.proofs.Common.{◌≡◌, ℕ, suc, ◌+◌, ◌-◌, ◌*◌, ◌^◌, ◌<◌, List, [], ◌∷◌, ◌++◌, length, length-append, refl, sym, ap, ◌∙◌, arith}
+use Rattle.raw_region.proofs.Shared.{◌≡◌, ℕ, suc, ◌+◌, ◌-◌, ◌*◌, ◌^◌, ◌<◌, List, [], ◌∷◌, ◌++◌, length, refl, sym, ap, ◌∙◌, arith, full_share, ftrue}
+use Rattle.raw_region.proofs.Shared.{froom, ty_array, u8, cell_at, mem, cells, rewritten, Ptr, block_ptr, bytes, elements_shared, byte, block_owns, block_shows, Val, vstruct, vcons, vnil, emp}
+use Rattle.raw_region.proofs.Shared.{sem, ◌⊛◌, ◌$◌, ◌∵◌, qed, move, by, use1, split, drop, rewrite, fsplit, fjoin, feq_l, flt_i, RattleType, param, RawPtr, nothing, usize}
+use Rattle.raw_region.proofs.Shared.{hidden_shr, hide, unhide, flt_l, use0, keep, copy_shared, field_copy, Struct, Ghosts}
+use Rattle.std.proofs.Common.{length-append}
 use seplogic.Ra.Ura.{Ura}
-use base.Fraction.{full_share}
-use base.Fml.{Lft, Fml, ftrue, ffalse, fsep, froom}
-use mir.Syntax.{Ty, ty_array}
-use mir.Raw.{raw as bare}
-use types.Logic.{Logic}
-use denote.Builtin.{u8}
-use denote.Memory.{part_at, shared_of, cell_at, part_of, mem}
-use denote.Index.{whole_out}
-use types.SemTy.{cells}
-use lib.ListN.{drop as drop_l}
-use lib.Seq.{take_at}
-use Rattle.raw_region.specs.BlockLends.{rewritten}
-use denote.RawPtr.{Ptr, block_ptr, null_ptr}
-use denote.RawPtr.Bytes.{bytes}
-use denote.Sharing.{ShrLaws, said}
-use denote.SharingLaws.{beside_shr_laws, said_shr_laws}
-use denote.Slice.{elements_shared, elements_shr_laws}
-use denote.Shares.{Shares}
-use denote.Plain.{uint_row_laws}
-use denote.Struct.Lending.{Lends, Lends-both, Lends-first, Lends-nothing, Lends-said, Lends-false}
-use Rattle.raw_region.specs.Blocks.{byte, fits, block_owns, block_shows}
-use mir.Syntax.{Args, Dict, a_type, dcons, dnil, w8}
-use mir.Val.{Val, vint, vstruct, vcons, vnil, of_list}
-use prog.Capped.{capped_is}
-use prog.Memory.{size, capped}
-use prog.RawLaws.{size-raw}
-use base.Logic.{ent, sep, emp}
-use base.Fml.{fat}
-use types.Logic.{sem}
-use types.Kit.{Item, Goal, Seq, ‵, ◌⊛◌, ◌$◌, ◌∵◌, !, qed, move, by, use1, split, drop, rewrite, fsplit, fjoin, fpick, fpack, feq_l, flt_i, done}
-use denote.RattleType.{RattleType}
-use denote.Param.{param, bounded}
-use denote.Plain.{uint_in}
-use denote.RawPtr.{RawPtr, ptr_val}
-use denote.RawPtr.Bytes.{bytes_glue}
-use denote.Shadow.{makes_shadow}
-use denote.Steps.{nothing}
-use denote.Builtin.{usize}
-use denote.Memory.{hidden_shr}
-use denote.Opens.{hide, unhide, shr_dup}
-use denote.RattleType.{RowLaws}
-use denote.RawPtr.{ptr_row_laws}
-use denote.Struct.Struct.{Struct-row_laws}
-use mir.Syntax.{w64}
-use types.Kit.{flt_l, use0, keep}
-use denote.Param.Shared.{copy_shared}
-use denote.Struct.Laws.{field_copy}
+use base.{Fml.{Lft, Fml, ffalse, fsep, fat}, Logic.{ent, sep}}
+use mir.{Syntax.{Ty, Args, Dict, a_type, dcons, dnil, w8, w64}, Raw.raw as bare, Val.{vint, of_list}}
+use types.{Logic.Logic, Kit.{Item, Goal, Seq, ‵, !, fpick, fpack, done}}
+use denote.{Memory.{part_at, shared_of, part_of}, Index.whole_out, RawPtr.{null_ptr, ptr_val, ptr_row_laws}, Sharing.{ShrLaws, said}, SharingLaws.{beside_shr_laws, said_shr_laws}}
+use denote.{Slice.elements_shr_laws, Shares.Shares, Plain.{uint_row_laws, uint_in}, Struct.Lending.{Lends, Lends-both, Lends-first, Lends-nothing, Lends-said, Lends-false}, Param.bounded}
+use denote.{RawPtr.Bytes.bytes_glue, Shadow.makes_shadow, Opens.shr_dup, RattleType.RowLaws, Struct.Struct.Struct-row_laws, Struct.Owning.shape}
+use lib.{ListN.drop as drop_l, Seq.take_at}
+use Rattle.raw_region.specs.Blocks.{fits}
+use prog.{Capped.capped_is, Memory.{size, capped}, RawLaws.size-raw}
 use Rattle.core.specs.contracts.marker.PhantomData as marker
-use denote.Struct.Struct.{Struct}
-use denote.Struct.Owning.{shape}
-use Rattle.core.specs.declared.alloc.Allocator.{Ghosts}
 use Rattle.raw_region.specs.contracts.block.Block as block
 
 abbrev pub only : RattleType → Dict → Dict → Args

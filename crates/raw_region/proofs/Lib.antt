@@ -1,3 +1,4 @@
+mod Shared
 pub mod Blocks
 pub mod Puts
 pub mod Slides

@@ -1,7 +1,7 @@
 -- Writing one list after another.
-use Rattle.std.proofs.Common.{List, [], ap, append_assoc, arith, drop, length, sym, take, ℕ, ◌++◌, ◌+◌, ◌∙◌, ◌≡◌, ◌≤◌}
-use Rattle.std.proofs.lemmas.List.{drop-drop, drop_at, length-append, length-drop, length-take, take-append-drop, take_at}
-use Rattle.raw_region.specs.Bytes.{put}
+use Rattle.raw_region.proofs.Shared.{List, [], ap, append_assoc, arith, length, sym, take, ℕ, ◌++◌, ◌+◌, ◌∙◌, ◌≡◌, ◌≤◌, drop-drop, drop_at, length-append}
+use Rattle.raw_region.proofs.Shared.{length-drop, take-append-drop, take_at, put}
+use Rattle.std.proofs.{Common.drop, lemmas.List.length-take}
 
 pub length-put : (xs : List ℕ) (at : ℕ) (ys : List ℕ) → at + length ys ≤ length xs → length (put xs at ys) ≡ length xs
 length-put xs at ys h = omega (arith, length-append (take at xs) (ys ++ drop (at + length ys) xs), length-append ys (drop (at + length ys) xs), length-take at xs, length-drop (at + length ys) xs)

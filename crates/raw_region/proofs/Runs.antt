@@ -1,26 +1,17 @@
 -- Runs of bytes, byte by byte.
-use Rattle.std.proofs.Common.{◌≡◌, ℕ, suc, ◌+◌, ◌<◌, ◌≤◌, List, [], ◌∷◌, ◌++◌, length, take, drop, get_or, refl, sym, ap, ◌∙◌, arith, drop-cons}
-use Rattle.std.proofs.Math.ListN.{set}
-use Rattle.std.proofs.lemmas.List.{drop-drop, drop-set-add, drop-set-lt, length-drop, length-set, take-append-drop, take-set-le, take_more_set}
-use Rattle.std.proofs.Math.Seq.{take-add}
-use Rattle.raw_region.specs.Bytes.{put}
+use Rattle.raw_region.proofs.Shared.{◌≡◌, ℕ, ◌+◌, ◌<◌, ◌≤◌, List, [], ◌∷◌, ◌++◌, length, take, refl, sym, ap, ◌∙◌, arith, drop-drop, length-drop}
+use Rattle.raw_region.proofs.Shared.{take-append-drop, take-add, put}
+use Rattle.std.proofs.{Common.{drop, get_or, drop-cons}, Math.ListN.set, lemmas.List.{drop-set-add, drop-set-lt, length-set, take-set-le, take_more_set}}
 
 -- one byte more of a list
 more_of : (xs : List ℕ) (i : ℕ) → i < length xs → take (i + 1) xs ≡ take i xs ++ get_or xs i 0 ∷ []
 more_of xs i h = take-add i 1 xs ∙ ap (λ (l : List ℕ). take i xs ++ take 1 l) (drop-cons xs i 0 h)
 
 byte_behind : (xs : List ℕ) (at i : ℕ) → at + i < length xs → get_or (drop at xs) i 0 ≡ get_or xs (at + i) 0
-byte_behind xs at i h =
-    let one : drop i (drop at xs) ≡ drop (at + i) xs = drop-drop i at xs in
-    let left = drop-cons (drop at xs) i 0 (omega (arith, length-drop at xs)) in
-    let right = drop-cons xs (at + i) 0 h in
-    let heads : get_or (drop at xs) i 0 ∷ drop (suc i) (drop at xs) ≡ get_or xs (at + i) 0 ∷ drop (suc (at + i)) xs = sym left ∙ one ∙ right in
-    cc heads
+byte_behind xs at i h = grind (arith, drop-drop, drop-cons, length-drop)
 
 pub loaded_more : (run xs : List ℕ) (at i x : ℕ) → i < length run → at + i < length xs → x ≡ get_or xs (at + i) 0 → take i run ≡ take i (drop at xs) → take (i + 1) (set run i x) ≡ take (i + 1) (drop at xs)
-loaded_more run xs at i x h k e r =
-    take_more_set run i x h ∙ ap (λ (l : List ℕ). l ++ x ∷ []) r ∙ ap (λ (y : ℕ). take i (drop at xs) ++ y ∷ []) (e ∙ sym (byte_behind xs at i k))
-    ∙ sym (more_of (drop at xs) i (omega (arith, length-drop at xs)))
+loaded_more run xs at i x h k e r = grind (arith, take_more_set, byte_behind, more_of, length-drop)
 
 -- i bytes of a run are written from a place on
 pub record IsStored (i at : ℕ) (run old new : List ℕ) : Type 0 where

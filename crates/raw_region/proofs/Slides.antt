@@ -1,9 +1,7 @@
 -- Bytes that move in parts.
-use Rattle.std.proofs.Common.{List, ap, append_assoc, arith, drop, length, refl, sym, take, ℕ, ◌++◌, ◌+◌, ◌-◌, ◌∙◌, ◌≡◌, ◌≤◌}
-use Rattle.std.proofs.Math.Seq.{take-add}
-use Rattle.std.proofs.lemmas.List.{drop-drop, drop-take, drop_at, length-append, length-drop, length-take-le, take-append-drop, take-take, take_at}
-use Rattle.raw_region.specs.Bytes.{put, slid}
-use Rattle.raw_region.proofs.Puts.{length-put, put-put}
+use Rattle.raw_region.proofs.Shared.{List, ap, append_assoc, arith, length, refl, sym, take, ℕ, ◌++◌, ◌+◌, ◌-◌, ◌∙◌, ◌≡◌, ◌≤◌, take-add, drop-drop, drop-take}
+use Rattle.raw_region.proofs.{Shared.{drop_at, length-append, length-drop, length-take-le, take-append-drop, take-take, take_at, put, slid}, Puts.{length-put, put-put}}
+use Rattle.std.proofs.Common.{drop}
 
 length-run : (xs : List ℕ) (a n : ℕ) → a + n ≤ length xs → length (take n (drop a xs)) ≡ n
 length-run xs a n h = length-take-le n (drop a xs) (omega (arith, length-drop a xs))
@@ -12,9 +10,7 @@ slid_put : (xs : List ℕ) (a b n : ℕ) → a + n ≤ length xs → slid xs a b
 slid_put xs a b n h = ap (λ (m : ℕ). take b xs ++ (take n (drop a xs) ++ drop (b + m) xs)) (sym (length-run xs a n h))
 
 pub length-slid : (xs : List ℕ) (a b n : ℕ) → a + n ≤ length xs → b + n ≤ length xs → length (slid xs a b n) ≡ length xs
-length-slid xs a b n h k =
-    let long = length-run xs a n h in
-    ap length (slid_put xs a b n h) ∙ length-put xs b (take n (drop a xs)) (omega (arith, long))
+length-slid xs a b n h k = grind (arith, length-run, slid_put, length-put)
 
 -- what stands behind a part that moved down is as it was
 behind : (xs ys : List ℕ) (a b k : ℕ) → b ≤ a → a + k ≤ length xs → ys ≡ slid xs a b k → drop (a + k) ys ≡ drop (a + k) xs
@@ -30,18 +26,10 @@ behind xs ys a b k le h e =
 
 -- n bytes more have moved down
 pub slid_more : (xs ys zs run : List ℕ) (a b k n : ℕ) → b ≤ a → a + (k + n) ≤ length xs → ys ≡ slid xs a b k → run ≡ take n (drop (a + k) ys) → zs ≡ put ys (b + k) run → zs ≡ slid xs a b (k + n)
-slid_more xs ys zs run a b k n le h e r q =
-    let p = take k (drop a xs) in
-    let next : run ≡ take n (drop (a + k) xs) = r ∙ ap (λ (l : List ℕ). take n l) (behind xs ys a b k le (omega arith) e) in
-    let whole : p ++ take n (drop (a + k) xs) ≡ take (k + n) (drop a xs) = ap (λ (l : List ℕ). p ++ take n l) (sym (drop-drop k a xs ∙ ap (λ (m : ℕ). drop m xs) (omega arith))) ∙ sym (take-add k n (drop a xs)) in
-    q ∙ ap (λ (l : List ℕ). put l (b + k) run) (e ∙ slid_put xs a b k (omega arith))
-    ∙ put-put xs b p (b + k) run (omega (arith, length-run xs a k (omega arith))) (omega arith)
-    ∙ ap (λ (l : List ℕ). put xs b (p ++ l)) next ∙ ap (put xs b) whole ∙ sym (slid_put xs a b (k + n) h)
+slid_more xs ys zs run a b k n le h e r q = grind (arith, behind, drop-drop, take-add, slid_put, put-put, length-run)
 
 pub slid_after : (xs ys : List ℕ) (a b k n : ℕ) → b ≤ a → a + (k + n) ≤ length xs → ys ≡ slid xs a b k → slid ys (a + k) (b + k) n ≡ slid xs a b (k + n)
-slid_after xs ys a b k n le h e =
-    let long : length ys ≡ length xs = ap length e ∙ length-slid xs a b k (omega arith) (omega arith) in
-    slid_more xs ys (slid ys (a + k) (b + k) n) (take n (drop (a + k) ys)) a b k n le h e refl (slid_put ys (a + k) (b + k) n (omega arith))
+slid_after xs ys a b k n le h e = grind (arith, length-slid, slid_more, slid_put)
 
 -- n bytes more have moved up, and m of them all have not
 pub slid_less : (xs ys zs run : List ℕ) (a b len left m n : ℕ) → a ≤ b → b + len ≤ length xs → left ≤ len → left ≡ m + n → ys ≡ slid xs (a + left) (b + left) (len - left) → run ≡ take n (drop (a + m) ys) → zs ≡ put ys (b + m) run
@@ -72,9 +60,7 @@ slid_before xs ys a b len left m le h k s e =
 
 -- nothing moves
 pub slid_none : (xs : List ℕ) (a b len : ℕ) → len ≡ 0 → xs ≡ slid xs a b len
-slid_none xs a b len e =
-    let none : b + 0 ≡ b = omega arith in
-    rw (e, none) (sym (take-append-drop b xs))
+slid_none xs a b len e = grind (arith, take-append-drop)
 
 -- ---- both ends at once
 

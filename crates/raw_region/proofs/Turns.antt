@@ -1,7 +1,8 @@
 -- Parts of a list that change places.
-use Rattle.std.proofs.Common.{List, ap, append_assoc, arith, drop, length, refl, replicate, sym, take, ℕ, ◌++◌, ◌+◌, ◌-◌, ◌∙◌, ◌≡◌, ◌≤◌}
-use Rattle.std.proofs.lemmas.List.{drop-drop, drop-take, drop_at, length-append, length-drop, length-take-le, take-take, take_at, length-replicate, replicate-append-replicate}
-use Rattle.raw_region.specs.Bytes.{put, slid, cleared, rotated, switched}
+use Rattle.raw_region.proofs.Shared.{List, ap, append_assoc, arith, length, refl, replicate, sym, take, ℕ, ◌++◌, ◌+◌, ◌-◌, ◌∙◌, ◌≡◌, ◌≤◌, drop-drop, drop-take}
+use Rattle.raw_region.proofs.Shared.{drop_at, length-append, length-drop, length-take-le, take-take, take_at, put, slid}
+use Rattle.std.proofs.{Common.drop, lemmas.List.{length-replicate, replicate-append-replicate}}
+use Rattle.raw_region.specs.Bytes.{cleared, rotated, switched}
 
 pub rotated_is : (xs ys : List ℕ) (a b c : ℕ) → a ≤ b → b ≤ c → ys ≡ drop (b - a) (take (c - a) (drop a xs)) ++ take (b - a) (take (c - a) (drop a xs)) → take a xs ++ (ys ++ drop (c - a) (drop a xs)) ≡ rotated xs a b c
 rotated_is xs ys a b c h k e =
@@ -43,9 +44,7 @@ rotated_down xs x a b c h k fits e =
 
 -- the same, by what the room held
 pub rotated_by : (xs s z room rest : List ℕ) (a b c : ℕ) → a ≤ b → b ≤ c → c ≤ length xs → s ≡ slid xs b a (c - b) → room ≡ take (b - a) (drop a xs) → z ≡ put s (c - (b - a)) (take (b - a) (room ++ rest)) → z ≡ rotated xs a b c
-rotated_by xs s z room rest a b c h k fits e r q =
-    let long : length room ≡ b - a = ap length r ∙ length-take-le (b - a) (drop a xs) (omega (arith, length-drop a xs)) in
-    q ∙ ap (λ (l : List ℕ). put l (c - (b - a)) (take (b - a) (room ++ rest))) e ∙ rotated_down xs (take (b - a) (room ++ rest)) a b c h k fits (take_at room rest (b - a) long ∙ r)
+rotated_by xs s z room rest a b c h k fits e r q = grind (arith, length-take-le, length-drop, rotated_down, take_at)
 
 -- zeros at both ends of a part that they cover
 pub cleared_ends : (xs ys zs : List ℕ) (a b n : ℕ) → a + n ≤ b → b ≤ a + n + n → b ≤ length xs → ys ≡ put xs a (replicate n 0) → zs ≡ put ys (b - n) (replicate n 0) → zs ≡ cleared xs a b

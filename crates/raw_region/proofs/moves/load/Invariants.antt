@@ -1,4 +1,5 @@
-use Rattle.std.proofs.Common.{◌≡◌, length, take, drop}
+use Rattle.raw_region.proofs.Shared.{◌≡◌, length, take}
+use Rattle.std.proofs.Common.{drop}
 use Rattle.raw_region.proofs.moves.load.Given as goal
 
 abbrev pub invariant-loop-i : goal.invariant-loop-i

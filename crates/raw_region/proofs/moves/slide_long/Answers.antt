@@ -1,10 +1,8 @@
-use Rattle.std.proofs.Common.{ℕ, ◌+◌, ◌-◌, ◌≤◌, ◌≡◌, ◌∙◌, arith, ap}
-use Rattle.raw_region.specs.Bytes.{slid}
-use Rattle.raw_region.proofs.Slides.{slid_after, slid_before, slid_none}
+use Rattle.raw_region.proofs.{Shared.{ℕ, ◌+◌, ◌-◌, ◌≤◌, ◌≡◌, ◌∙◌, arith, ap, slid}, Slides.{slid_after, slid_before, slid_none}}
 use Rattle.raw_region.proofs.moves.slide_long.Goals as goal
 
 pub returns-then-len-eq0 : goal.returns-then-len-eq0
-returns-then-len-eq0 c = slid_none c.args.bytes.now c.args.from c.args.to c.args.len c.if-len-eq0.true
+returns-then-len-eq0 c = grind (arith, slid_none)
 
 pub returns-then-to-from : goal.returns-then-to-from
 returns-then-to-from c =

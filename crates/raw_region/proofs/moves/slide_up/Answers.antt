@@ -1,5 +1,4 @@
-use Rattle.std.proofs.Common.{ℕ, ◌+◌, ◌-◌, ◌≤◌, ◌≡◌, ◌∙◌, length, arith, ap}
-use Rattle.raw_region.proofs.Slides.{slid_less, length-slid}
+use Rattle.raw_region.proofs.{Shared.{ℕ, ◌+◌, ◌-◌, ◌≤◌, ◌≡◌, ◌∙◌, length, arith, ap}, Slides.{slid_less, length-slid}}
 use Rattle.raw_region.proofs.moves.slide_up.Goals as goal
 
 pub loop-left-preserved : goal.loop-left-preserved

@@ -1,5 +1,4 @@
-use Rattle.std.proofs.Common.{◌≡◌, ◌+◌, ◌-◌, ◌≤◌, length}
-use Rattle.raw_region.specs.Bytes.{slid}
+use Rattle.raw_region.proofs.Shared.{◌≡◌, ◌+◌, ◌-◌, ◌≤◌, length, slid}
 use Rattle.raw_region.proofs.moves.slide_up.Given as goal
 
 abbrev pub invariant-loop-left : goal.invariant-loop-left

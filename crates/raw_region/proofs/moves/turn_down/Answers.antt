@@ -1,6 +1,5 @@
-use Rattle.std.proofs.Common.{ℕ, ◌-◌, ◌≡◌, ◌∙◌, List, drop, take, arith, ap}
-use Rattle.raw_region.specs.Bytes.{put, slid}
-use Rattle.raw_region.proofs.Turns.{rotated_down}
+use Rattle.raw_region.proofs.{Shared.{ℕ, ◌-◌, ◌≡◌, ◌∙◌, List, take, arith, ap, put, slid}, Turns.rotated_down}
+use Rattle.std.proofs.Common.{drop}
 use Rattle.raw_region.proofs.moves.turn_down.Goals as goal
 
 pub returns : goal.returns

@@ -1,4 +1,4 @@
-use Rattle.std.proofs.Common.{◌≡◌, ◌≤◌, ◌-◌, replicate}
+use Rattle.raw_region.proofs.Shared.{◌≡◌, ◌≤◌, ◌-◌, replicate}
 use Rattle.raw_region.proofs.region.fill.Given as goal
 
 abbrev pub invariant-loop-i : goal.invariant-loop-i

@@ -1,19 +1,10 @@
 -- A `&` to a block shows its bytes. Assumes `Logic`.
-use denote.RattleType.{RattleType}
-use denote.Builtin.{u8}
-use denote.RawPtr.{RawPtr}
-use Rattle.core.specs.contracts.marker.PhantomData as marker
-use denote.Param.Laws.{Laws}
-use denote.Param.Shared.{Sharable, copy_shared}
-use denote.Shares.{Shares-less}
-use denote.Struct.Field.{RawPtr-field, u8-field, usize-field}
-use denote.Struct.Laws.{field_copy, RawPtr-copy, u8-copy, usize-copy}
+use Rattle.raw_region.proofs.{Shared.{RattleType, u8, RawPtr, copy_shared, field_copy, Ghosts}, block.Block.TheLaw.Statement.statement, Blocks.{shows_laws, Lends-block}}
+use denote.{Param.Laws.Laws, Param.Shared.Sharable, Shares.Shares-less, Struct.Field.{RawPtr-field, u8-field, usize-field}, Struct.Laws.{RawPtr-copy, u8-copy, usize-copy}}
 use denote.Struct.Lending.{of_Lends}
 use contract.BorrowLft.{⊑_static}
-use Rattle.core.specs.declared.alloc.Allocator.{Ghosts}
+use Rattle.core.specs.contracts.marker.PhantomData as marker
 use Rattle.raw_region.specs.contracts.block.Block as C
-use Rattle.raw_region.proofs.block.Block.TheLaw.Statement.{statement}
-use Rattle.raw_region.proofs.Blocks.{shows_laws, Lends-block}
 
 pub shares : (A : RattleType) (g : Ghosts A.Denot) (L : Laws A) → statement A g L
 shares A g L =

@@ -1,37 +1,15 @@
 -- `append` writes the first byte of the room. Assumes `Logic`.
-use Rattle.std.proofs.Common.{◌≡◌, ◌+◌, ◌-◌, ◌^◌, ◌<◌, List, [], ◌∷◌, ◌++◌, length, length-append, refl, sym, ap, ◌∙◌, arith}
-use mir.Syntax.{Fn}
-use mir.MapTy.{inst_fn}
-use mir.Val.{Val, vptr, vunit}
-use base.Fraction.{full_share}
-use base.Fml.{ftrue, froom, flft}
-use base.Logic.{SProp, emp, never, id⊢}
-use prog.Wp.{Env, WpFn}
-use contract.BorrowLft.{◌⊑◌}
-use contract.Monad.{fact, fact_i}
-use contract.Running.{tables}
-use types.Kit.{‵, raw, ◌⊛◌, prop, at_ret, ◌$◌, ◌∵◌, !, qed, by, move, drop, keep, use0, use1, use2, split, split3, join, rewrite, regoal, fsplit, fsplit3, fjoin, fjoin3, feq_i, feq_l, flt_i, flt_l}
-use types.Part.{look_in, whole, sub}
-use types.Run.{init, stop, fld, bin, load, unit_lit, of_opd, assigns_last, first, blocks, exec, returns, enter}
-use types.ByLocal.{alloc_all, pass_all, free_all, look_at, get, through, sets, env}
-use denote.Builtin.{usize, u8}
-use denote.Exit.{yes}
-use denote.Memory.{cell_at}
-use denote.RattleType.{owns}
-use denote.RawPtr.{Ptr, in_a_block}
-use denote.RawPtr.Bytes.{bytes}
-use denote.Signature.{plain, types_at}
-use denote.Steps.{nothing, heard, opens, closes}
-use denote.Triple.Entry.{alive}
-use Rattle.core.proofs.alloc.Shapes.{after}
-use Rattle.std.proofs.raw_atomic.Walks.{proved_at, leaves}
-use Rattle.raw_region.specs.Blocks.{byte, block_owns}
-use denote.Triple.Walked.{Stays, stay_dropped, stay_ref, walk_of, Goes-dropped, Goes-ref}
-use Rattle.raw_region.proofs.Blocks.{only, Bk, Words, block_val, block_had, block_made, next_room, grown}
-use mir.Syntax.{ty_array}
-use Rattle.raw_region.specs.contracts.block.Block.append.{ended, clauses}
-use Rattle.raw_region.specs.contracts.block.Block.append.Key.{name as #self}
-use Rattle.raw_region.proofs.block.Block.append.Statement.{statement}
+use Rattle.raw_region.proofs.Shared.{◌≡◌, ◌+◌, ◌-◌, ◌^◌, ◌<◌, List, [], ◌∷◌, ◌++◌, length, refl, sym, ap, ◌∙◌, arith, Fn, inst_fn, Val, vunit, full_share}
+use Rattle.raw_region.proofs.Shared.{ftrue, froom, flft, SProp, emp, never, id⊢, Env, WpFn, ◌⊑◌, fact, fact_i, tables, raw, ◌⊛◌, prop, at_ret, ◌$◌, ◌∵◌, qed, by, move}
+use Rattle.raw_region.proofs.Shared.{drop, keep, use0, use1, use2, split, split3, join, rewrite, regoal, fsplit, fsplit3, fjoin, feq_i, feq_l, flt_i, flt_l, look_in, whole, sub, stop, fld, load}
+use Rattle.raw_region.proofs.Shared.{unit_lit, of_opd, first, blocks, exec, returns, enter, alloc_all, pass_all, free_all, look_at, get, through, sets, env, usize, u8, yes, cell_at, owns, Ptr}
+use Rattle.raw_region.proofs.Shared.{in_a_block, bytes, plain, types_at, nothing, heard, opens, alive, after, proved_at, leaves, byte, block_owns, Stays, stay_dropped, walk_of, Goes-dropped}
+use Rattle.raw_region.proofs.{Shared.ty_array, Blocks.{only, Bk, Words, block_val, block_had, block_made, next_room, grown}, block.Block.append.Statement.statement}
+use Rattle.std.proofs.Common.{length-append}
+use mir.Val.{vptr}
+use types.{Kit.{‵, !, fjoin3}, Run.{init, bin, assigns_last}}
+use denote.{Steps.closes, Triple.Walked.{stay_ref, Goes-ref}}
+use Rattle.raw_region.specs.{contracts.block.Block.append.{ended, clauses}, contracts.block.Block.append.Key.name as #self}
 use Rattle.raw_region.proofs.block.Block.append.Code as code
 
 pub append_spec : {M : Type 1} → statement M

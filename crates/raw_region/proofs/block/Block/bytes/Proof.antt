@@ -1,43 +1,17 @@
 -- `bytes` shows what is written. Assumes `Logic`.
-use Rattle.std.proofs.Common.{◌≡◌, ◌+◌, ◌*◌, ◌^◌, ◌<◌, List, [], ◌∷◌, ◌++◌, length, refl, sym, ap, subst, arith}
-use mir.Syntax.{Fn}
-use mir.MapTy.{inst_fn}
-use mir.Val.{Val}
-use base.Fml.{ftrue, fhide, flft}
-use base.Logic.{SProp, emp, never, id⊢}
-use prog.Wp.{Env, WpFn}
-use contract.BorrowLft.{◌⊑◌}
-use contract.Monad.{fact, fact_i}
-use contract.Running.{tables}
-use types.Kit.{‵, raw, ◌⊛◌, prop, at_ret, ◌$◌, ◌∵◌, !, qed, by, move, drop, keep, use0, use1, split, split3, join, rewrite, regoal, fsplit, fjoin, feq_i, feq_l, flt_i, flt_l}
-use types.Part.{agg}
-use types.Run.{stop, fld, load, look, of_opd, and_then, no_more, first, blocks, exec, returns, enter}
-use types.ByLocal.{alloc_all, pass_all, free_all, look_at, get, through, sets, sets_last, env}
-use denote.Builtin.{u8, RefOf}
-use denote.Exit.{yes}
-use denote.Memory.{hidden_shr}
-use denote.Param.{param}
-use denote.RattleType.{owns}
-use denote.RawPtr.{Ptr, in_a_block}
-use denote.Signature.{plain, types_at}
-use denote.Steps.{nothing, heard}
-use denote.Triple.Entry.{alive}
-use Rattle.core.proofs.alloc.Shapes.{after}
-use Rattle.std.proofs.raw_atomic.Walks.{proved_at, leaves}
-use Rattle.raw_region.specs.Blocks.{block_shows}
-use denote.Opens.{hide, unhide}
-use denote.RawPtr.{InBlock, block_of, count_of}
-use denote.Slice.{slice_val, elements_shared}
-use denote.Struct.Lending.{lent_out}
-use denote.Triple.Walked.{Stays, stay_dropped, walk_of, Goes-dropped}
+use Rattle.raw_region.proofs.Shared.{◌≡◌, ◌+◌, ◌*◌, ◌^◌, ◌<◌, List, [], ◌∷◌, ◌++◌, length, refl, sym, ap, subst, arith, Fn, inst_fn, Val, ftrue, flft, SProp, emp}
+use Rattle.raw_region.proofs.Shared.{never, id⊢, Env, WpFn, ◌⊑◌, fact, fact_i, tables, raw, ◌⊛◌, prop, at_ret, ◌$◌, ◌∵◌, qed, by, move, drop, keep, use0, use1, split}
+use Rattle.raw_region.proofs.Shared.{split3, join, rewrite, regoal, fsplit, fjoin, feq_i, feq_l, flt_i, flt_l, agg, stop, fld, load, of_opd, and_then, no_more, first, blocks, exec, returns}
+use Rattle.raw_region.proofs.Shared.{enter, alloc_all, pass_all, free_all, look_at, get, through, sets, sets_last, env, u8, RefOf, yes, hidden_shr, param, owns, Ptr, in_a_block, plain, types_at}
+use Rattle.raw_region.proofs.Shared.{nothing, heard, alive, after, proved_at, leaves, block_shows, hide, unhide, slice_val, elements_shared, Stays, stay_dropped, walk_of, Goes-dropped, RawPtr}
+use Rattle.raw_region.proofs.{Blocks.{only, Bk, Words, shows_start, shows_len}, block.Block.bytes.Statement.statement}
+use base.Fml.{fhide}
+use types.{Kit.{‵, ! }, Run.look}
+use denote.{RawPtr.{InBlock, block_of, count_of}, Struct.Lending.lent_out}
 use Rattle.std_alloc.proofs.Words.{word_in, word_out, pointer_in, pointer_out}
+use Rattle.raw_region.specs.{contracts.block.Block.bytes.{ended, clauses}, contracts.block.Block.bytes.Key.name as #self}
 use Rattle.core.specs.contracts.marker.PhantomData as marker
-use denote.RawPtr.{RawPtr}
 use Rattle.raw_region.specs.contracts.block.Block as block-type
-use Rattle.raw_region.proofs.Blocks.{only, Bk, Words, shows_start, shows_len}
-use Rattle.raw_region.specs.contracts.block.Block.bytes.{ended, clauses}
-use Rattle.raw_region.specs.contracts.block.Block.bytes.Key.{name as #self}
-use Rattle.raw_region.proofs.block.Block.bytes.Statement.{statement}
 use Rattle.raw_region.proofs.block.Block.bytes.Code as code
 
 pub bytes_spec : {M : Type 1} → statement M

@@ -1,45 +1,15 @@
 -- `bytes_mut` lends what is written, and the block follows it. Assumes `Logic`.
-use Rattle.std.proofs.Common.{◌≡◌, ◌*◌, ◌^◌, ◌<◌, ℕ, List, [], ◌∷◌, ◌++◌, length, refl, sym, ap, ◌∙◌, arith}
-use mir.Syntax.{Fn}
-use mir.MapTy.{inst_fn}
-use mir.Val.{Val}
-use base.Fraction.{full_share}
-use base.Fml.{GName, ftrue, flft}
-use base.Logic.{SProp, emp, never, id⊢}
-use prog.Wp.{Env, WpFn}
-use types.Logic.{sem}
-use contract.BorrowLft.{◌⊑◌}
-use contract.Monad.{fact, fact_i}
-use contract.Running.{tables}
-use types.Kit.{‵, raw, ◌⊛◌, some, later, prop, at_ret, ◌$◌, ◌∵◌, !, qed, by, move, drop, keep, use0, use1, pick, split, split3, join, group, rewrite, regoal, fsplit, fsplit3, fjoin, feq_l, flt_l, await}
-use types.Part.{look_in, whole, sub, agg}
-use types.Run.{stop, fld, load, of_opd, and_then, no_more, first, blocks, exec, returns, enter}
-use types.ByLocal.{alloc_all, pass_all, free_all, look_at, get, through, sets, sets_last, env}
-use types.SemTy.{cells}
-use denote.Builtin.{u8}
-use denote.Exit.{no}
-use denote.Memory.{mem, cell_at}
-use denote.RattleType.{owns}
-use denote.RawPtr.{Ptr, in_a_block}
-use denote.Signature.{plain, types_at, mut_ref_to}
-use denote.Steps.{nothing, heard, opens}
-use denote.Triple.Entry.{alive}
-use Rattle.core.proofs.alloc.Shapes.{after}
-use Rattle.std.proofs.raw_atomic.Walks.{proved_at, leaves}
-use Rattle.raw_region.specs.Blocks.{block_owns}
-use denote.Triple.Walked.{Stays, stay_dropped, walk_of, Goes-spent_ref}
+use Rattle.raw_region.proofs.Shared.{◌≡◌, ◌*◌, ◌^◌, ◌<◌, ℕ, List, [], ◌∷◌, ◌++◌, length, refl, sym, ap, ◌∙◌, arith, Fn, inst_fn, Val, full_share, ftrue, flft}
+use Rattle.raw_region.proofs.Shared.{SProp, emp, never, id⊢, Env, WpFn, sem, ◌⊑◌, fact, fact_i, tables, raw, ◌⊛◌, later, prop, at_ret, ◌$◌, ◌∵◌, qed, by, move, drop}
+use Rattle.raw_region.proofs.Shared.{keep, use0, use1, split, split3, join, group, rewrite, regoal, fsplit, fsplit3, fjoin, feq_l, flt_l, await, look_in, whole, sub, agg, stop, fld, load}
+use Rattle.raw_region.proofs.Shared.{of_opd, and_then, no_more, first, blocks, exec, returns, enter, alloc_all, pass_all, free_all, look_at, get, through, sets, sets_last, env, cells, u8, no}
+use Rattle.raw_region.proofs.Shared.{mem, cell_at, owns, Ptr, in_a_block, plain, types_at, nothing, heard, opens, alive, after, proved_at, leaves, block_owns, Stays, stay_dropped, walk_of}
+use Rattle.raw_region.proofs.{Shared.{slice_val, rewritten}, Blocks.{only, Bk, block_val, block_had, Rest, back}, block.Block.bytes_mut.Statement.statement}
+use base.Fml.{GName}
+use types.Kit.{‵, some, !, pick}
+use denote.{Signature.mut_ref_to, Triple.Walked.Goes-spent_ref, Array.Array, Follow.follows, FollowSlice.{Elements, lends_Elements}, Index.whole_in, Ref.MutBor, Slice.MutSlice}
 use mir.Syntax.{named}
-use denote.Array.{Array}
-use denote.Follow.{follows}
-use denote.FollowSlice.{Elements, lends_Elements}
-use denote.Index.{whole_in}
-use denote.Ref.{MutBor}
-use denote.Slice.{MutSlice, slice_val}
-use Rattle.raw_region.specs.BlockLends.{rewritten}
-use Rattle.raw_region.proofs.Blocks.{only, Bk, block_val, block_had, Rest, back}
-use Rattle.raw_region.specs.contracts.block.Block.bytes_mut.{ended, clauses}
-use Rattle.raw_region.specs.contracts.block.Block.bytes_mut.Key.{name as #self}
-use Rattle.raw_region.proofs.block.Block.bytes_mut.Statement.{statement}
+use Rattle.raw_region.specs.{contracts.block.Block.bytes_mut.{ended, clauses}, contracts.block.Block.bytes_mut.Key.name as #self}
 use Rattle.raw_region.proofs.block.Block.bytes_mut.Code as code
 
 pub bytes_mut_spec : {M : Type 1} → statement M

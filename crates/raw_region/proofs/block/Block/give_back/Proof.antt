@@ -1,42 +1,17 @@
 -- `give_back` makes room of the bytes, and hands it back with the allocator's token. Assumes `Logic`.
-use Rattle.std.proofs.Common.{◌≡◌, List, [], ◌∷◌, ◌++◌, length, refl, sym, ap, subst, ◌∙◌, lit<}
-use mir.Syntax.{Fn}
-use mir.MapTy.{inst_fn}
-use mir.Val.{Val, vunit, has_ty, WT}
-use base.Fml.{ftrue, froom, flft}
-use base.Logic.{SProp, never, id⊢}
-use prog.Wp.{Env, WpFn}
-use contract.BorrowLft.{◌⊑◌, ⊑_trans}
-use contract.Monad.{fact}
-use contract.Running.{tables}
-use types.Kit.{‵, raw, ◌⊛◌, later, given, prop, at_ret, ◌$◌, ◌∵◌, !, qed, by, move, drop, keep, use1, learn, split, split3, join, group, rewrite, regoal, fsplit, fjoin, feq_i, feq_l, await}
-use types.Part.{whole, sub}
-use types.Run.{stop, fld, lit, unit_lit, of_opd, and_then, no_more, first, blocks, exec, returns, enter}
-use types.ByLocal.{alloc_all, pass_all, free_all, look_at, get, get_in, sets, lands_last, env}
-use denote.Builtin.{RefOf}
-use denote.Exit.{yes, no}
-use denote.Param.{param}
-use denote.RattleType.{owns}
-use denote.RawPtr.{Ptr, block_ptr, in_a_block}
-use denote.RawPtr.Bytes.{bytes-room}
-use denote.Signature.{plain, types_at}
-use denote.Steps.{nothing, heard}
-use denote.Triple.Entry.{alive}
-use Rattle.core.proofs.alloc.Shapes.{after}
-use Rattle.std.proofs.raw_atomic.Walks.{proved_at, leaves}
-use Rattle.raw_region.specs.Blocks.{byte, block_owns}
+use Rattle.raw_region.proofs.Shared.{◌≡◌, List, [], ◌∷◌, ◌++◌, length, refl, sym, ap, subst, ◌∙◌, lit<, Fn, inst_fn, Val, vunit, ftrue, froom, flft, SProp, never, id⊢}
+use Rattle.raw_region.proofs.Shared.{Env, WpFn, ◌⊑◌, ⊑_trans, fact, tables, raw, ◌⊛◌, later, prop, at_ret, ◌$◌, ◌∵◌, qed, by, move, drop, keep, use1, split, split3, join}
+use Rattle.raw_region.proofs.Shared.{group, rewrite, regoal, fsplit, fjoin, feq_i, feq_l, await, whole, sub, stop, fld, lit, unit_lit, of_opd, and_then, no_more, first, blocks, exec, returns}
+use Rattle.raw_region.proofs.Shared.{enter, alloc_all, pass_all, free_all, look_at, get, get_in, sets, env, RefOf, yes, no, param, owns, Ptr, block_ptr, in_a_block, plain, types_at, nothing}
+use Rattle.raw_region.proofs.Shared.{heard, alive, after, proved_at, leaves, byte, block_owns, Stays, stay_dropped, walk_of, Goes-dropped, ty_array, Al, fm}
+use Rattle.raw_region.proofs.{Blocks.{only, Bk, block_val, block_had, block_size}, block.Block.give_back.Statement.statement}
+use mir.{Val.{has_ty, WT}, Syntax.ty_unit, Raw.raw as bare}
+use types.{Kit.{‵, given, !, learn}, ByLocal.lands_last}
+use denote.{RawPtr.Bytes.bytes-room, Triple.Call.calls_at_last}
 use lib.Dec.{T as Holds}
-use denote.Triple.Call.{calls_at_last}
-use denote.Triple.Walked.{Stays, stay_dropped, walk_of, Goes-dropped}
-use mir.Syntax.{ty_array, ty_unit}
-use mir.Raw.{raw as bare}
-use Rattle.core.proofs.alloc.Calls.{Al, Gives, at_gives, Gives-goes, Gives-Gives, Goes-blank}
-use Rattle.core.proofs.atomic.Steps.{fm}
+use Rattle.core.proofs.alloc.Calls.{Gives, at_gives, Gives-goes, Gives-Gives, Goes-blank}
 use Rattle.std_alloc.proofs.RawLayout.{as_raw}
-use Rattle.raw_region.proofs.Blocks.{only, Bk, block_val, block_had, block_size}
-use Rattle.raw_region.specs.contracts.block.Block.give_back.{ended, clauses}
-use Rattle.raw_region.specs.contracts.block.Block.give_back.Key.{name as #self}
-use Rattle.raw_region.proofs.block.Block.give_back.Statement.{statement}
+use Rattle.raw_region.specs.{contracts.block.Block.give_back.{ended, clauses}, contracts.block.Block.give_back.Key.name as #self}
 use Rattle.raw_region.proofs.block.Block.give_back.Code as code
 
 pub give_back_spec : {M : Type 1} → statement M

@@ -1,52 +1,22 @@
 -- `take` keeps the new room, and the right to give it back. Assumes `Logic`.
-use Rattle.std.proofs.Common.{◌≡◌, ℕ, ◌+◌, ◌-◌, ◌^◌, ◌<◌, List, [], ◌∷◌, ◌++◌, refl, arith, lit<}
-use mir.Syntax.{Fn}
-use mir.MapTy.{inst_fn}
-use mir.Val.{Val, vcons, vnil, vstruct}
-use base.Fml.{ftrue, froom, flft}
-use base.Logic.{SProp, emp, id⊢}
-use prog.Wp.{Env, WpFn}
-use contract.BorrowLft.{◌⊑◌, ⊑_trans}
-use contract.Monad.{fact, fact_i}
-use contract.Running.{tables}
-use types.Kit.{‵, raw, ◌⊛◌, later, prop, at_ret, ◌$◌, ◌∵◌, !, qed, by, move, drop, use0, use1, use2, split, split3, join, rewrite, regoal, fsplit, fjoin, feq_l, flt_i, flt_l, await}
-use types.Part.{whole, agg}
-use types.Run.{stop, fld, lit, of_opd, and_then, no_more, first, switches_on, exec, returns, enter}
-use types.ByLocal.{alloc_all, pass_all, free_all, look_at, get, get_in, get_tag, sets, sets_last, lands_as, env}
-use denote.Builtin.{usize, RefOf}
-use denote.Exit.{yes}
-use denote.Param.{param}
-use denote.RattleType.{RattleType, owns}
-use denote.RawPtr.{Ptr, block_ptr}
-use denote.Signature.{plain, types_at}
-use denote.Steps.{nothing, heard}
-use denote.Triple.Entry.{alive}
-use Rattle.core.proofs.alloc.Shapes.{after, head, arm_body}
-use Rattle.std.proofs.raw_atomic.Walks.{proved_at, leaves}
-use Rattle.raw_region.specs.Blocks.{byte}
-use denote.Triple.Call.{calls_at}
-use denote.Triple.Walked.{Stays, stay_dropped, walk_of, Goes-dropped}
-use mir.Syntax.{Body, ty_array}
-use mir.Raw.{raw as bare}
+use Rattle.raw_region.proofs.Shared.{◌≡◌, ℕ, ◌+◌, ◌-◌, ◌^◌, ◌<◌, List, [], ◌∷◌, ◌++◌, refl, arith, lit<, Fn, inst_fn, Val, vcons, vnil, vstruct, ftrue, froom}
+use Rattle.raw_region.proofs.Shared.{flft, SProp, emp, id⊢, Env, WpFn, ◌⊑◌, ⊑_trans, fact, fact_i, tables, raw, ◌⊛◌, later, prop, at_ret, ◌$◌, ◌∵◌, qed, by, move, drop}
+use Rattle.raw_region.proofs.Shared.{use0, use1, use2, split, split3, join, rewrite, regoal, fsplit, fjoin, feq_l, flt_i, flt_l, await, whole, agg, stop, fld, lit, of_opd, and_then, no_more}
+use Rattle.raw_region.proofs.Shared.{first, exec, returns, enter, alloc_all, pass_all, free_all, look_at, get, get_in, sets, sets_last, env, usize, RefOf, yes, param, RattleType, owns, Ptr}
+use Rattle.raw_region.proofs.Shared.{block_ptr, plain, types_at, nothing, heard, alive, after, proved_at, leaves, byte, Stays, stay_dropped, walk_of, Goes-dropped, ty_array, Struct, Al, fm}
+use Rattle.raw_region.proofs.{Blocks.{only, Bk, Words, block_val, block_made, block_size}, block.Block.take.Statement.statement}
+use types.{Kit.{‵, !, Post as After, any_q}, Run.switches_on, ByLocal.{get_tag, lands_as}, Match.{live, vrt, in_variant}}
+use Rattle.core.proofs.{alloc.Shapes.{head, arm_body}, alloc.Calls.{Takes, at_takes, Answered, Answer-typed, Takes-goes, Takes-gives, answers}}
+use denote.{Triple.Call.calls_at, Laws.Is, Steps.owned, Struct.Struct.Struct-Makes}
+use mir.{Syntax.Body, Raw.raw as bare}
 use mathlib.Core.Bool.{true, false}
 use prog.Wp.{Wp, after_seq, at_return}
-use types.Kit.{Post as After, any_q}
-use types.Match.{live, vrt, in_variant}
-use denote.Laws.{Is}
-use denote.Steps.{owned}
-use denote.Struct.Struct.{Struct, Struct-Makes}
-use denote.Struct.Declared as Declared
 use Rattle.std.specs.Prelude.{Ok, Err}
+use Rattle.std_alloc.proofs.{RawLayout.as_written, ResultValues.{ok_of, err_of}}
+use Rattle.raw_region.specs.{contracts.block.Block.take.{ended, clauses}, contracts.block.Block.take.Key.name as #self}
+use denote.Struct.Declared as Declared
 use Rattle.core.specs.contracts.result.Result as RS
 use Rattle.core.specs.contracts.alloc.AllocError as AE
-use Rattle.core.proofs.alloc.Calls.{Al, Takes, at_takes, Answered, Answer-typed, Takes-goes, Takes-gives, answers}
-use Rattle.core.proofs.atomic.Steps.{fm}
-use Rattle.std_alloc.proofs.RawLayout.{as_written}
-use Rattle.std_alloc.proofs.ResultValues.{ok_of, err_of}
-use Rattle.raw_region.proofs.Blocks.{only, Bk, Words, block_val, block_made, block_size}
-use Rattle.raw_region.specs.contracts.block.Block.take.{ended, clauses}
-use Rattle.raw_region.specs.contracts.block.Block.take.Key.{name as #self}
-use Rattle.raw_region.proofs.block.Block.take.Statement.{statement}
 use Rattle.raw_region.proofs.block.Block.take.Code as code
 
 all : (len o : ℕ) → ◌≡◌ {A = ℕ × ℕ} (len, o) (len - 0, o + 0)
