@@ -1,13 +1,10 @@
 -- Trees behind a root that become its children.
 use Rattle.std.specs.Prelude.{◌≡◌, ℕ, ◌+◌, ◌<◌, ◌≤◌, List, ◌∷◌, ◌++◌, length, true, false}
-use Rattle.std.proofs.Common.{refl, sym, ap, ◌∙◌, subst, arith, append_assoc, cond, eqb, Bool}
-use Rattle.tree_handles.proofs.Shared.{eq-eqb, length-append, Node, has, with_children, AreDistinct, State, with_children-append, Label, Forest, empty, tree, join, arity, kids, node_of, flatten, first_trees, rest_trees, root_id, with_root_kids, with_nth, AllNodes, Ends, kids_of, has_root, behind_root, adopted, put, Stands, forest, IsCounted}
-use Rattle.tree_handles.proofs.Distinct.{distinct, not_before}
-use Rattle.tree_handles.proofs.Forests.{flatten-join, join_assoc, arity-join, arity-first_trees, first-rest, first_trees-join, rest_trees-join, join-empty, all-join, all-left, all-right, all-first_trees, all-rest_trees}
-use Rattle.tree_handles.proofs.Lasts.{kids_of_root, last_put}
-use Rattle.tree_handles.proofs.Outcomes.{by_test}
-use Rattle.tree_handles.proofs.Releases.{arity_le, few_nodes}
-use Rattle.tree_handles.proofs.Roots.{top}
+use Rattle.tree_handles.proofs.Shared.{refl, sym, ap, ◌∙◌, subst, arith, append_assoc, cond, eqb, Bool, eq-eqb, length-append, Node, has, with_children, AreDistinct, State}
+use Rattle.tree_handles.proofs.Shared.{with_children-append, Label, Forest, empty, tree, join, arity, kids, node_of, flatten, first_trees, rest_trees, root_id, with_root_kids, with_nth}
+use Rattle.tree_handles.proofs.{Shared.{AllNodes, Ends, kids_of, has_root, behind_root, adopted, put, Stands, forest, IsCounted}, Distinct.{distinct, not_before}, Forests.flatten-join}
+use Rattle.tree_handles.proofs.Forests.{join_assoc, arity-join, arity-first_trees, first-rest, first_trees-join, rest_trees-join, join-empty, all-join, all-left, all-right, all-first_trees}
+use Rattle.tree_handles.proofs.{Forests.all-rest_trees, Lasts.{kids_of_root, last_put}, Outcomes.by_test, Releases.{arity_le, few_nodes}, Roots.top}
 
 behind-right : (i : ℕ) (f g : Forest) → has_root i f ≡ false → behind_root i (join f g) ≡ behind_root i g
 behind-right i empty g h = refl

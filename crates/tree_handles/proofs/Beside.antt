@@ -1,8 +1,6 @@
 -- What is given, and the roots beside it.
-use Rattle.std.proofs.Common.{◌≡◌, ℕ, true, sym, ap, ◌∙◌}
-use Rattle.tree_handles.proofs.Shared.{Tree, State, plain, IsExpression, Forest, IsHanded, Gives, tree_at, has_root, root_tree, without_root, put, Stands, forest}
-use Rattle.tree_handles.proofs.Given.{given_rest, given_other, given_same, gives_as}
-use Rattle.tree_handles.proofs.Lasts.{last_tree, ends_at, ends_without, expression_root, plain_root, ends_put}
+use Rattle.tree_handles.proofs.Shared.{◌≡◌, ℕ, true, sym, ap, ◌∙◌, Tree, State, plain, IsExpression, Forest, IsHanded, Gives, tree_at, has_root, root_tree, without_root, put}
+use Rattle.tree_handles.proofs.{Shared.{Stands, forest}, Given.{given_rest, given_other, given_same, gives_as}, Lasts.{last_tree, ends_at, ends_without, expression_root, plain_root, ends_put}}
 
 -- the answer of a call is the tree that stands last
 pub gives_itself : {g f : Forest} {i : ℕ} {P : Tree → Type 0} → Gives g f i P → Gives g f i (λ t. P t × (t ≡ plain (root_tree i f)))

@@ -1,11 +1,10 @@
 -- Children one after another.
-use Rattle.std.proofs.Common.{◌≡◌, ℕ, zero, suc, ◌+◌, ◌-◌, ◌<◌, ◌≤◌, List, [], ◌∷◌, ◌++◌, length, drop, refl, sym, ap, ◌∙◌, subst, arith, append_assoc, true, false}
-use Rattle.tree_handles.proofs.Shared.{Node, size_of, used, has, first_of, place_of, AreDistinct, since, IsBoundary, State, since-append, used-append, size_from, boundary-append, place_of-append, root_ids, IsChildAt, AreSiblings, nth, plain, IsExpression, AllExpressions, children_of, Forest, empty, tree, join, arity, root_id, node_of, first_trees, rest_trees, forest_of, flatten, tree_nth, holds, kids_of, tree_at, Stands, forest, skip, IsChildPlace}
-use Rattle.tree_handles.proofs.Distinct.{distinct, child_tree, held_parent, not_before}
-use Rattle.tree_handles.proofs.Forests.{forest_of-flatten, flatten-first_rest, skip-first, nth_tree, arity-join, arity-rest_trees}
-use Rattle.tree_handles.proofs.Nths.{first_trees-behind}
-use Rattle.tree_handles.proofs.Parts.{IsAt, IsTaken, is_before, kid_place, live_at, live_node, root_nth, child_taken}
-use Rattle.tree_handles.proofs.Readings.{expression_child, whole_child}
+use Rattle.tree_handles.proofs.Shared.{◌≡◌, ℕ, zero, suc, ◌+◌, ◌-◌, ◌<◌, ◌≤◌, List, [], ◌∷◌, ◌++◌, length, drop, refl, sym, ap, ◌∙◌, subst, arith}
+use Rattle.tree_handles.proofs.Shared.{append_assoc, true, false, Node, size_of, used, has, first_of, place_of, AreDistinct, since, IsBoundary, State, since-append, used-append, size_from}
+use Rattle.tree_handles.proofs.Shared.{boundary-append, place_of-append, root_ids, IsChildAt, AreSiblings, nth, plain, IsExpression, AllExpressions, children_of, Forest, empty, tree, join}
+use Rattle.tree_handles.proofs.Shared.{arity, root_id, node_of, first_trees, rest_trees, forest_of, flatten, tree_nth, holds, kids_of, tree_at, Stands, forest, skip, IsChildPlace}
+use Rattle.tree_handles.proofs.{Distinct.{distinct, child_tree, held_parent, not_before}, Forests.{forest_of-flatten, flatten-first_rest, skip-first, nth_tree, arity-join, arity-rest_trees}}
+use Rattle.tree_handles.proofs.{Nths.first_trees-behind, Parts.{IsAt, IsTaken, is_before, kid_place, live_at, live_node, root_nth, child_taken}, Readings.{expression_child, whole_child}}
 use Rattle.tree_handles.proofs.Swapping.{IsSwap, swaps}
 
 -- ---- a walk over trees
@@ -56,13 +55,7 @@ next_is left place to ns some b h e =
 -- the place of the next is known where one is left
 pub next_or_none : (left place to : ℕ) (ns : List Node) → 0 < left → IsBoundary place ns → left ≤ arity (forest_of (since place ns)) → (0 < left - 1 → since to ns ≡ skip 1 (since place ns)) → IsNext left place to ns
 next_or_none zero place to ns some b h e = absurd (omega arith)
-next_or_none (suc zero) place to ns some b h e =
-    let f = forest_of (since place ns) in
-    record {
-      inside = next 1 place ns some b h;
-      left-are = omega arith;
-      ids = ids_step 1 f some h ∙ ap (λ (i : ℕ). i ∷ []) (first_id (since place ns) (omega arith)).1;
-    }
+next_or_none (suc zero) place to ns some b h e = grind (arith, next, ids_step, first_id)
 next_or_none (suc (suc n)) place to ns some b h e = next_is (suc (suc n)) place to ns some b h (e (omega arith))
 
 -- ---- the children of a node
@@ -99,9 +92,7 @@ item xs x ys empty e = absurd (none xs e)
     none [] e = absurd cc
     none (z ∷ zs) e = absurd cc
 item [] x ys (tree l k r) e = record { within = omega arith; id-is = cc }
-item (z ∷ xs) x ys (tree l k r) e =
-    let p = item xs x ys r (ap (drop 1) e) in
-    record { within = omega (arith, p.within); id-is = p.id-is }
+item (z ∷ xs) x ys (tree l k r) e = grind (arith, item xs x ys r (ap (drop 1) e))
 
 -- the next identifier from the list of those from a place on
 pub record IsStep (n x : ℕ) (left : List ℕ) (f : Forest) : Type 0 where
@@ -112,9 +103,7 @@ pub step_on : (n x : ℕ) (left : List ℕ) (f : Forest) → root_ids (rest_tree
 step_on zero x left empty e = absurd cc
 step_on (suc n) x left empty e = absurd cc
 step_on zero x left (tree l k r) e = record { item-is = record { within = omega arith; id-is = cc }; left-are = cc }
-step_on (suc n) x left (tree l k r) e =
-    let p = step_on n x left r e in
-    record { item-is = record { within = omega (arith, p.item-is.within); id-is = p.item-is.id-is }; left-are = p.left-are }
+step_on (suc n) x left (tree l k r) e = grind (arith, step_on n x left r e)
 
 -- none is left behind the last
 pub no_more : (n : ℕ) (f : Forest) → root_ids (rest_trees n f) ≡ [] → arity f ≤ n
@@ -191,8 +180,7 @@ rises n m empty hn hm h = absurd (omega arith)
 rises n zero (tree l k r) hn hm h = absurd (omega arith)
 rises zero (suc m) (tree l k r) hn hm h = omega arith
 rises (suc n) (suc m) (tree l k r) hn hm h =
-    let less = rises n m r (omega arith) (omega arith) (omega (arith, h, used-append (flatten k) (flatten (first_trees n r)), used-append (flatten k) (flatten (first_trees m r)))) in
-    omega (arith, less)
+    grind (arith, used-append, rises n m r (omega arith) (omega arith) (omega (arith, h, used-append (flatten k) (flatten (first_trees n r)), used-append (flatten k) (flatten (first_trees m r)))))
 
 level : (n m : ℕ) (f : Forest) → n < arity f → m < arity f → used (flatten (first_trees n f)) ≡ used (flatten (first_trees m f)) → n ≡ m
 level n m empty hn hm h = absurd (omega arith)
@@ -200,7 +188,7 @@ level zero zero (tree l k r) hn hm h = refl
 level zero (suc m) (tree l k r) hn hm h = absurd (omega (arith, h, size_from (node_of l k)))
 level (suc n) zero (tree l k r) hn hm h = absurd (omega (arith, h, size_from (node_of l k)))
 level (suc n) (suc m) (tree l k r) hn hm h =
-    ap suc (level n m r (omega arith) (omega arith) (omega (arith, h, used-append (flatten k) (flatten (first_trees n r)), used-append (flatten k) (flatten (first_trees m r)))))
+    grind (arith, used-append, level n m r (omega arith) (omega arith) (omega (arith, h, used-append (flatten k) (flatten (first_trees n r)), used-append (flatten k) (flatten (first_trees m r)))))
 
 -- two children are in the order of the places where they begin
 pub record AreOrdered (n m x y : ℕ) (s : State) : Type 0 where

@@ -1,9 +1,8 @@
 -- Copies of nodes, and of trees.
-use Rattle.std.proofs.Common.{arith, ◌≡◌, ℕ, suc, ◌+◌, ◌<◌, List, [], ◌∷◌, ◌++◌, refl, sym, ap, ◌∙◌, subst, true, false}
-use Rattle.tree_handles.proofs.Shared.{Header, Node, IsNode, size_of, header_of, fresh, Payload, kind_of_payload, has, used, first_of, payload_of_id, AreNodes, AreDistinct, with_children, since, until, IsBoundary, State, IsPool, until-since, step, AreNodes-since, with_children-append, IsCopy, AreCopies, copy_of, Label, Forest, empty, tree, arity, node_of, flatten}
-use Rattle.tree_handles.proofs.Parts.{has_mid}
-use Rattle.tree_handles.proofs.Readings.{payload_of_id-append}
-use Rattle.tree_handles.proofs.Distinct.{not_before}
+use Rattle.tree_handles.proofs.Shared.{arith, ◌≡◌, ℕ, suc, ◌+◌, ◌<◌, List, [], ◌∷◌, ◌++◌, refl, sym, ap, ◌∙◌, subst, true, false, Header, Node, IsNode, size_of}
+use Rattle.tree_handles.proofs.Shared.{header_of, fresh, Payload, kind_of_payload, has, used, first_of, payload_of_id, AreNodes, AreDistinct, with_children, since, until, IsBoundary, State}
+use Rattle.tree_handles.proofs.Shared.{IsPool, until-since, step, AreNodes-since, with_children-append, IsCopy, AreCopies, copy_of, Label, Forest, empty, tree, arity, node_of, flatten}
+use Rattle.tree_handles.proofs.{Parts.has_mid, Readings.payload_of_id-append, Distinct.not_before}
 
 -- one copy more
 pub AreCopies-push : (ns ms : List Node) (n m : Node) → AreCopies ns ms → m.count ≡ 1 → m.payload ≡ n.payload → m.children ≡ n.children → AreCopies (ns ++ n ∷ []) (ms ++ m ∷ [])

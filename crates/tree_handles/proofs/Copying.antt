@@ -1,10 +1,10 @@
 -- Copying nodes, one after the other.
-use Rattle.std.proofs.Common.{◌≡◌, ℕ, suc, ◌+◌, ◌-◌, ◌<◌, ◌≤◌, List, [], ◌∷◌, ◌++◌, refl, sym, ap, ◌∙◌, subst, arith, append_assoc, true}
-use Rattle.tree_handles.proofs.Shared.{append-nil, Node, size_of, used, first_of, place_of, since, until, between, IsBoundary, IsPool, State, free_of, used-append, size_from, until-since, since-append, step, cut, boundary_le, between_next, between_none, boundary-append, between-append, place_of-append, AreCopies, copy_of, IsCopy, plains, plain, AllExpressions, IsExpression, Forest, empty, tree, join, arity, node_of, flatten, forest_of, root_id, bytes_in, AllNodes, AllOnce, Gives, holds, tree_at, kids_of, Stands, forest, IsCounted, KeepsRefusals, skip}
-use Rattle.tree_handles.proofs.Copies.{AreCopies-push, copied}
-use Rattle.tree_handles.proofs.Distinct.{clear_front}
-use Rattle.tree_handles.proofs.Forests.{flatten-join, skip-flatten, stands, forest_of_whole, bytes-flatten, all-join, keeps}
-use Rattle.tree_handles.proofs.Parts.{live_at, place_is}
+use Rattle.tree_handles.proofs.Shared.{◌≡◌, ℕ, suc, ◌+◌, ◌-◌, ◌<◌, ◌≤◌, List, [], ◌∷◌, ◌++◌, refl, sym, ap, ◌∙◌, subst, arith, append_assoc, true}
+use Rattle.tree_handles.proofs.Shared.{append-nil, Node, size_of, used, first_of, place_of, since, until, between, IsBoundary, IsPool, State, free_of, used-append, size_from, until-since}
+use Rattle.tree_handles.proofs.Shared.{since-append, step, cut, boundary_le, between_next, between_none, boundary-append, between-append, place_of-append, AreCopies, copy_of, IsCopy, plains}
+use Rattle.tree_handles.proofs.Shared.{plain, AllExpressions, IsExpression, Forest, empty, tree, join, arity, node_of, flatten, forest_of, root_id, bytes_in, AllNodes, AllOnce, Gives, holds}
+use Rattle.tree_handles.proofs.{Shared.{tree_at, kids_of, Stands, forest, IsCounted, KeepsRefusals, skip}, Copies.{AreCopies-push, copied}, Distinct.clear_front}
+use Rattle.tree_handles.proofs.{Forests.{flatten-join, skip-flatten, stands, forest_of_whole, bytes-flatten, all-join, keeps}, Parts.{live_at, place_is}}
 
 pub record IsCopying (s t : State) (from at : ℕ) : Type 0 where
   pub made : List Node

@@ -1,14 +1,11 @@
 -- Facts of each node, through the changes of a forest.
-use Rattle.std.proofs.Common.{◌≡◌, ℕ, ◌-◌, ◌<◌, ◌≤◌, cond, eqb, ltb, refl, arith}
-use Rattle.tree_handles.proofs.Shared.{ltb-true, Label, Forest, empty, tree, join, first_trees, rest_trees, kids, tree_nth, without_nth, with_nth, set_nth, AllNodes, holds, tree_at, with_kids, with_count_in, released, released_in, root_tree, without_root, IsCounted}
-use Rattle.tree_handles.proofs.Forests.{all-join, all-first_trees, all-rest_trees}
-use Rattle.tree_handles.proofs.Outcomes.{by_test}
+use Rattle.tree_handles.proofs.Shared.{◌≡◌, ℕ, ◌-◌, ◌<◌, ◌≤◌, cond, eqb, arith, Label, Forest, empty, tree, join, first_trees, rest_trees, kids, tree_nth, without_nth}
+use Rattle.tree_handles.proofs.Shared.{with_nth, set_nth, AllNodes, tree_at, with_kids, with_count_in, released, released_in, root_tree, without_root, IsCounted}
+use Rattle.tree_handles.proofs.{Forests.{all-join, all-first_trees, all-rest_trees}, Outcomes.by_test}
 
 pub all-tree_at : (P : Label → ℕ → Type 0) (i : ℕ) (f : Forest) → AllNodes P f → AllNodes P (tree_at i f)
 all-tree_at P i empty h = tt
-all-tree_at P i (tree l k r) h =
-    by_test (λ t. AllNodes P (cond t (tree l k empty) (cond (holds i k) (tree_at i k) (tree_at i r)))) (eqb l.id i) (λ e. (h.0, h.1, tt))
-    (λ e. by_test (λ t. AllNodes P (cond t (tree_at i k) (tree_at i r))) (holds i k) (λ q. all-tree_at P i k h.1) (λ q. all-tree_at P i r h.2))
+all-tree_at P i (tree l k r) h = grind (arith, all-tree_at P i k h.1, all-tree_at P i r h.2)
 
 pub all-kids : (P : Label → ℕ → Type 0) (f : Forest) → AllNodes P f → AllNodes P (kids f)
 all-kids P f h = grind arith
@@ -37,30 +34,18 @@ all-set_nth P n c f k h = all-join P (first_trees n f) (join c (rest_trees 1 (re
 
 pub all-with_kids : (Q : Label → Type 0) (i : ℕ) (n f : Forest) → AllNodes (λ l m. Q l) n → AllNodes (λ l m. Q l) f → AllNodes (λ l m. Q l) (with_kids i n f)
 all-with_kids Q i n empty k h = tt
-all-with_kids Q i n (tree l c r) k h =
-    by_test (λ t. AllNodes (λ l m. Q l) (cond t (tree l n r) (cond (holds i c) (tree l (with_kids i n c) r) (tree l c (with_kids i n r))))) (eqb l.id i) (λ e. (h.0, k, h.2))
-    (λ e. by_test (λ t. AllNodes (λ l m. Q l) (cond t (tree l (with_kids i n c) r) (tree l c (with_kids i n r)))) (holds i c) (λ q. (h.0, all-with_kids Q i n c k h.1, h.2)) (λ q. (h.0, h.1, all-with_kids Q i n r k h.2)))
+all-with_kids Q i n (tree l c r) k h = grind (arith, all-with_kids Q i n c k h.1, all-with_kids Q i n r k h.2)
 
 -- ---- each count is at least 1
 
 pub counted-with_count_in : (i c : ℕ) (f : Forest) → 1 ≤ c → AllNodes IsCounted f → AllNodes IsCounted (with_count_in i c f)
 counted-with_count_in i c empty some h = tt
-counted-with_count_in i c (tree l k r) some h =
-    by_test (λ t. AllNodes IsCounted (cond t (tree (record l { count = c }) k r) (cond (holds i k) (tree l (with_count_in i c k) r) (tree l k (with_count_in i c r))))) (eqb l.id i) (λ e. (some, h.1, h.2))
-    (λ e. by_test (λ t. AllNodes IsCounted (cond t (tree l (with_count_in i c k) r) (tree l k (with_count_in i c r)))) (holds i k) (λ q. (h.0, counted-with_count_in i c k some h.1, h.2)) (λ q. (h.0, h.1, counted-with_count_in i c r some h.2)))
+counted-with_count_in i c (tree l k r) some h = grind (arith, counted-with_count_in i c k some h.1, counted-with_count_in i c r some h.2)
 
 pub counted-released : (f : Forest) → AllNodes IsCounted f → AllNodes IsCounted (released f)
 counted-released empty h = tt
-counted-released (tree l k r) h =
-    by_test (λ t. ltb 1 l.count ≡ t → AllNodes IsCounted (cond t (tree (record l { count = l.count - 1 }) k (released r)) (join (released k) (released r)))) (ltb 1 l.count)
-    (λ e q. (some (ltb-true 1 l.count q), h.1, counted-released r h.2)) (λ e q. all-join IsCounted (released k) (released r) (counted-released k h.1) (counted-released r h.2)) refl
-  where
-    some : 1 < l.count → 1 ≤ l.count - 1
-    some less = omega arith
+counted-released (tree l k r) h = grind (arith, all-join, counted-released r h.2, counted-released k h.1)
 
 pub counted-released_in : (i : ℕ) (f : Forest) → AllNodes IsCounted f → AllNodes IsCounted (released_in i f)
 counted-released_in i empty h = tt
-counted-released_in i (tree l k r) h =
-    by_test (λ t. AllNodes IsCounted (cond t (join (released (tree l k empty)) r) (cond (holds i k) (tree l (released_in i k) r) (tree l k (released_in i r))))) (eqb l.id i)
-    (λ e. all-join IsCounted (released (tree l k empty)) r (counted-released (tree l k empty) (h.0, h.1, tt)) h.2)
-    (λ e. by_test (λ t. AllNodes IsCounted (cond t (tree l (released_in i k) r) (tree l k (released_in i r)))) (holds i k) (λ q. (h.0, counted-released_in i k h.1, h.2)) (λ q. (h.0, h.1, counted-released_in i r h.2)))
+counted-released_in i (tree l k r) h = grind (arith, all-join, counted-released, counted-released_in i k h.1, counted-released_in i r h.2)

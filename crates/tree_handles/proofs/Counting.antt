@@ -1,9 +1,6 @@
 -- Trees, counted one after another.
-use Rattle.std.proofs.Common.{◌≡◌, ℕ, ◌+◌, ◌<◌, ◌≤◌, List, [], ◌∷◌, ap, arith, length}
-use Rattle.tree_handles.proofs.Shared.{Node, used, first_of, since, IsBoundary, State, step, length_le_used, since_end, arity, forest_of, Stands, forest, skip}
-use Rattle.tree_handles.proofs.ChildPlaces.{forest_of-skip}
-use Rattle.tree_handles.proofs.Forests.{arity-rest_trees}
-use Rattle.tree_handles.proofs.Releases.{arity_le}
+use Rattle.tree_handles.proofs.Shared.{◌≡◌, ℕ, ◌+◌, ◌<◌, ◌≤◌, List, [], ◌∷◌, ap, arith, length, Node, used, first_of, since, IsBoundary, State, step, length_le_used}
+use Rattle.tree_handles.proofs.{Shared.{since_end, arity, forest_of, Stands, forest, skip}, ChildPlaces.forest_of-skip, Forests.arity-rest_trees, Releases.arity_le}
 
 -- a tree begins at a node
 some_tree : (ns ms : List Node) (n : Node) → ns ≡ n ∷ ms → 0 < arity (forest_of ns)

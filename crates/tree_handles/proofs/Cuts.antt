@@ -1,8 +1,6 @@
 -- Lists of trees that are cut, and one tree of them taken out.
-use Rattle.std.proofs.Common.{◌≡◌, ℕ, refl, sym, ap, ◌∙◌, subst}
-use Rattle.tree_handles.proofs.Shared.{Tree, Trees, none, more, append, count, inserted, Forest, empty, tree, arity, first_trees, rest_trees, tree_nth, without_nth, Represents}
-use Rattle.tree_handles.proofs.Given.{represents_none, represents_join}
-use Rattle.tree_handles.proofs.Plains.{count-plains}
+use Rattle.tree_handles.proofs.Shared.{◌≡◌, ℕ, refl, sym, ap, ◌∙◌, subst, Tree, Trees, none, more, append, count, inserted, Forest, empty, tree, arity, first_trees, rest_trees}
+use Rattle.tree_handles.proofs.{Shared.{tree_nth, without_nth, Represents}, Given.{represents_none, represents_join}, Plains.count-plains}
 
 -- ---- lists of children
 

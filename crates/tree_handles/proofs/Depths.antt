@@ -1,8 +1,8 @@
 -- A walk that measures how deep a tree is.
-use Rattle.std.proofs.Common.{◌≡◌, ◌≢◌, ℕ, ◌+◌, ◌-◌, ◌<◌, ◌≤◌, max, List, [], ◌∷◌, length, get_or, refl, sym, ap, ◌∙◌, subst, arith}
-use Rattle.tree_handles.proofs.Shared.{get_or-set_other, get_or-set_same, length-set, set, Visit, Forest, empty, tree, join, arity, nodes_in, depth_in, visits_of}
-use Rattle.tree_handles.proofs.Forests.{join-empty}
+use Rattle.tree_handles.proofs.Shared.{◌≡◌, ℕ, ◌+◌, ◌-◌, ◌<◌, ◌≤◌, max, List, [], ◌∷◌, length, get_or, refl, sym, ap, ◌∙◌, subst, arith, get_or-set_other}
+use Rattle.tree_handles.proofs.{Shared.{get_or-set_same, length-set, set, Visit, Forest, empty, tree, join, arity, nodes_in, depth_in, visits_of}, Forests.join-empty}
 use Rattle.tree_handles.proofs.Visiting.{visit_here, visits_left, visits_length}
+use Rattle.std.proofs.Common.{◌≢◌}
 
 -- the trees that are still owed on the open levels, the deepest level first
 abbrev pub AreOpen : List Forest → ℕ → List ℕ → Type 0

@@ -1,9 +1,8 @@
 -- Forests whose nodes have distinct identifiers.
-use Rattle.std.proofs.Common.{◌≡◌, ℕ, zero, suc, ◌<◌, ◌≤◌, List, [], ◌∷◌, ◌++◌, cond, eqb, refl, sym, ap, ◌∙◌, subst, arith, Bool, true, false}
-use Rattle.tree_handles.proofs.Shared.{eqb-true, eq-eqb, append-nil, Node, has, AreDistinct, State, has-append, AreDistinct-parts, AreApart, AreApart-sym, Label, Forest, empty, tree, join, arity, node_of, flatten, tree_nth, kids, root_id, holds, tree_at, kids_of, with_kids, has_root, root_tree, put, Stands, forest}
-use Rattle.tree_handles.proofs.Forests.{flatten-join, has-flatten}
-use Rattle.tree_handles.proofs.Roots.{root_held, no_root}
-use Rattle.tree_handles.proofs.Outcomes.{by_test, or_true, not_left, not_right}
+use Rattle.tree_handles.proofs.Shared.{◌≡◌, ℕ, zero, suc, ◌<◌, ◌≤◌, List, [], ◌∷◌, ◌++◌, cond, eqb, refl, sym, ap, ◌∙◌, subst, arith, Bool, true, false}
+use Rattle.tree_handles.proofs.Shared.{eqb-true, eq-eqb, append-nil, Node, has, AreDistinct, State, has-append, AreDistinct-parts, AreApart, AreApart-sym, Label, Forest, empty, tree, join}
+use Rattle.tree_handles.proofs.{Shared.{arity, flatten, tree_nth, kids, root_id, holds, tree_at, kids_of, with_kids, has_root, root_tree, put, Stands, forest}, Forests.{flatten-join, has-flatten}}
+use Rattle.tree_handles.proofs.{Roots.{root_held, no_root}, Outcomes.{by_test, or_true, not_left, not_right}}
 
 abbrev pub Distinct : Forest → Type 0
 Distinct f = AreDistinct (flatten f)
@@ -13,9 +12,7 @@ distinct s h = subst AreDistinct h.flat h.pool.distinct
 
 apart_has : (i : ℕ) (a b : List Node) → AreApart a b → has i b ≡ true → has i a ≡ false
 apart_has i [] b p h = refl
-apart_has i (n ∷ a) b p h =
-    by_test (λ t. eqb n.id i ≡ t → cond t true (has i a) ≡ false) (eqb n.id i)
-    (λ e q. absurd (cc (p.0, ap (λ (x : ℕ). has x b) (eqb-true n.id i q), h))) (λ e q. apart_has i a b p.1 h) refl
+apart_has i (n ∷ a) b p h = grind (arith, apart_has i a b p.1 h)
 
 -- the parts of such a forest
 pub record AreParts (l : Label) (k r : Forest) : Type 0 where
@@ -112,15 +109,7 @@ nth_tree_is (suc n) (tree l k r) d h =
 
 -- the tree of a child, in the tree of its parent
 child_below : (n : ℕ) (t : Forest) → Distinct t → arity t ≡ 1 → n < arity (kids t) → (holds (root_id (tree_nth n (kids t))) t ≡ true) × (tree_at (root_id (tree_nth n (kids t))) t ≡ tree_nth n (kids t))
-child_below n empty d e h = absurd (omega arith)
-child_below n (tree l k r) d e h =
-    let p = distinct_parts l k r d in
-    let c = root_id (tree_nth n k) in
-    let root = nth_root n k h in
-    let inside = root_held c k root in (
-      ap (λ (t : Bool). cond (eqb l.id c) true (cond t true (holds c r))) inside ∙ or_true (eqb l.id c),
-      rw (other_id l.id c k p.not_below inside, inside) (tree_at-root c k p.below root ∙ nth_tree_is n k p.below h),
-    )
+child_below n t d e h = grind (arith, distinct_parts, nth_root, root_held, or_true, other_id, tree_at-root, nth_tree_is)
 
 some_kids : (t : Forest) (n : ℕ) → n < arity (kids t) → 1 ≤ arity t
 some_kids t n h = grind arith
@@ -165,8 +154,4 @@ not_before a n b d = (AreApart-sym a (n ∷ b) (AreDistinct-parts a (n ∷ b) d)
 
 -- no other tree has the identifier of the last one's root
 pub clear_front : (i : ℕ) (others t f : Forest) → f ≡ join others t → i ≡ root_id t → arity t ≡ 1 → Distinct f → has_root i others ≡ false
-clear_front i others empty f e h one d = absurd (omega arith)
-clear_front i others (tree l k r) f e h one d =
-    let flat = ap flatten e ∙ flatten-join others (tree l k r) in
-    let clear : has l.id (flatten others) ≡ false = not_before (flatten others) (node_of l k) (flatten k ++ flatten r) (subst AreDistinct flat d) in
-    no_root i others (ap (λ (j : ℕ). holds j others) h ∙ sym (has-flatten l.id others) ∙ clear)
+clear_front i others t f e h one d = grind (arith, flatten-join, not_before, no_root, has-flatten)

@@ -1,28 +1,22 @@
 -- A child is taken out of a root, and a tree fills its place.
-use Rattle.std.proofs.Common.{◌≡◌, ℕ, zero, suc, ◌+◌, ◌≤◌, ◌<◌, ◌==◌, ◌∷◌, List, [], eqb, cond, refl, sym, ap, ◌∙◌, subst, arith, Bool, true, false}
-use Rattle.tree_handles.proofs.Shared.{eqb-true, Kind, Payload, bare, kind_of_payload, Tree, Trees, none, more, count, root_kind, size, nth, grown, compound, plain, plains, takes, takes_kind, children_of, Forest, empty, tree, join, arity, first_trees, rest_trees, bytes_in, kids, root_id, with_root_kids, tree_nth, without_nth, with_nth, set_nth, AllOnce, AllExpressions, IsOnce, IsWhole, IsHanded, Ends, Gives, KeepsFront, tree_of, kids_of, holds, has_root, root_tree, without_root, put, State, free_of, Stands, forest, KeepsRefusals}
-use Rattle.tree_handles.specs.Holes.{ChangesTree, IsHole, Place, set_child, set_tree}
-use Rattle.tree_handles.proofs.Counted.{all-kids, all-set_nth, all-tree_nth}
-use Rattle.tree_handles.proofs.Distinct.{Distinct, distinct, distinct_parts}
-use Rattle.tree_handles.proofs.Forests.{arity-set_nth, arity-without_nth, bytes_in-join, first-rest}
-use Rattle.tree_handles.proofs.FreeBytes.{all_bytes, beside_bytes}
-use Rattle.tree_handles.proofs.Fronts.{behind_first, front_after_one, front_at, front_end, front_put, front_same, front_without, not_first, starts_end, starts_put}
-use Rattle.tree_handles.proofs.Given.{given_apart, given_other, given_rest, given_same, handed_at, handed_beside, handed_by_put}
-use Rattle.tree_handles.proofs.Lasts.{apart, ends_as, kids_of_root, last_rest, last_tree}
-use Rattle.tree_handles.proofs.Nths.{with_nth-without_nth}
-use Rattle.tree_handles.proofs.Outcomes.{by_test, eqb-sym}
-use Rattle.tree_handles.proofs.Over.{tree_put, without_put}
-use Rattle.tree_handles.proofs.Places.{used_forest}
+use Rattle.tree_handles.proofs.Shared.{◌≡◌, ℕ, zero, suc, ◌+◌, ◌≤◌, ◌<◌, ◌∷◌, List, [], eqb, cond, refl, sym, ap, ◌∙◌, subst, arith, Bool, true, false}
+use Rattle.tree_handles.proofs.Shared.{eqb-true, Payload, kind_of_payload, Tree, Trees, more, count, size, nth, grown, compound, plain, plains, takes, children_of, Forest, empty, tree, join}
+use Rattle.tree_handles.proofs.Shared.{arity, first_trees, rest_trees, bytes_in, kids, with_root_kids, tree_nth, without_nth, with_nth, set_nth, AllOnce, AllExpressions, IsHanded, Ends, Gives}
+use Rattle.tree_handles.proofs.Shared.{KeepsFront, tree_of, kids_of, holds, has_root, root_tree, without_root, put, State, free_of, Stands, forest, KeepsRefusals, Place}
+use Rattle.tree_handles.proofs.{Counted.{all-kids, all-set_nth, all-tree_nth}, Distinct.{Distinct, distinct, distinct_parts}, Forests.{arity-set_nth, arity-without_nth, bytes_in-join, first-rest}}
+use Rattle.tree_handles.proofs.{FreeBytes.{all_bytes, beside_bytes}, Fronts.{behind_first, front_after_one, front_at, front_end, front_put, front_same, front_without, not_first, starts_end}}
+use Rattle.tree_handles.proofs.{Fronts.starts_put, Given.{given_apart, given_other, given_rest, given_same, handed_at, handed_beside, handed_by_put}}
+use Rattle.tree_handles.proofs.{Lasts.{apart, ends_as, kids_of_root, last_rest}, Nths.with_nth-without_nth, Outcomes.{by_test, eqb-sym}, Over.{tree_put, without_put}}
 use Rattle.tree_handles.proofs.Plains.{children_of-plain, count-plains, grown_whole, plain-tree_nth, whole_kids}
-use Rattle.tree_handles.proofs.Roots.{kids-put, no_root, put-left, put-put, put-same, root_arity, root_held, root-left, root-put, root-without, tree-left, tree-put, tree-without, without-put}
+use Rattle.tree_handles.proofs.Roots.{kids-put, no_root, put-left, put-put, put-same, root_arity, root-left, root-put, root-without, tree-left, tree-put, tree-without, without-put}
+use Rattle.std.proofs.Common.{◌==◌}
+use Rattle.tree_handles.specs.Holes.{ChangesTree, IsHole, set_child, set_tree}
 
 -- ---- the child goes
 
 -- how many children a handed root has
 pub handed_arity : {i : ℕ} {s : State} → Stands s → IsHanded i (forest s) → arity (kids_of i (forest s)) ≡ count (children_of (tree_of i s))
-handed_arity {i = i} {s = s} st h =
-    let t = root_tree i (forest s) in
-    ap arity (kids_of_root i st h.root) ∙ sym (count-plains (kids t)) ∙ ap count (sym (children_of-plain t h.whole))
+handed_arity {i = i} {s = s} st h = grind (arith, kids_of_root, count-plains, children_of-plain)
 
 handed_kids : {i n : ℕ} {f : Forest} → IsHanded i f → n < count (children_of (plain (root_tree i f))) → n < arity (kids (root_tree i f))
 handed_kids {i = i} {f = f} h l = omega (arith, l, ap count (children_of-plain (root_tree i f) h.whole), count-plains (kids (root_tree i f)))
@@ -33,15 +27,7 @@ opened_hole p k l e = record { is = p; handed = k; within = l; whole = last_rest
 
 pub opened_child : {i n h : ℕ} {f new : Forest} → IsHanded i f → n < count (children_of (plain (root_tree i f)))
     → Ends h (tree_nth n (kids (root_tree i f))) (put i (without_nth n (kids (root_tree i f))) f) new → Gives (without_root h new) new h (λ t. t ≡ nth n (children_of (plain (root_tree i f))))
-opened_child {i = i} {n = n} {f = f} k l e =
-    let t = root_tree i f in
-    record {
-      tree = tree_nth n (kids t);
-      ends = ends_as e refl (sym (last_rest e));
-      once = all-tree_nth IsOnce n (kids t) (all-kids IsOnce t k.once);
-      whole = all-tree_nth IsWhole n (kids t) (whole_kids t k.whole);
-      told = plain-tree_nth n (kids t) ∙ ap (nth n) (sym (children_of-plain t k.whole));
-    }
+opened_child {i = i} {n = n} {f = f} k l e = grind (arith, ends_as, last_rest, all-tree_nth, all-kids, whole_kids, plain-tree_nth, children_of-plain)
 
 pub opened_front : {handed : List ℕ} {i h : ℕ} {t f new g : Forest} (n : Forest) → Ends h t (put i n f) new → KeepsFront (h ∷ handed) new g → KeepsFront (i ∷ handed) f g
 opened_front {i = i} {h = h} {t = t} {f = f} {new = new} n e k = record {
@@ -72,10 +58,7 @@ bytes_nth n f =
 -- none are used or set free where a child is taken out
 pub opened_free : {i h : ℕ} {s t : State} (n : ℕ) → Stands s → Stands t → KeepsRefusals s t → IsHanded i (forest s)
     → Ends h (tree_nth n (kids (root_tree i (forest s)))) (put i (without_nth n (kids (root_tree i (forest s)))) (forest s)) (forest t) → free_of t ≡ free_of s
-opened_free {i = i} {s = s} {t = t} n st su k h e =
-    let ks : Forest = kids (root_tree i (forest s)) in
-    let left : Forest = put i (without_nth n ks) (forest s) in
-    omega (arith, all_bytes s st, all_bytes t su, k.size, ap bytes_in e.whole, bytes_in-join left (tree_nth n ks), bytes_put i (without_nth n ks) (forest s) h.root, bytes_nth n ks)
+opened_free {i = i} {s = s} {t = t} n st su k h e = grind (arith, all_bytes, bytes_in-join, bytes_put, bytes_nth)
 
 -- ---- a tree comes
 
@@ -129,21 +112,12 @@ grown_bare : (x : Payload) (ts us : Trees) → takes x (count ts) ≡ true → 1
 grown_bare x ts us h l = grind arith
 
 set_kids : (n : ℕ) (c t : Forest) → arity t ≡ 1 → AllExpressions t → arity c ≡ 1 → n < arity (kids t) → plain (with_root_kids (set_nth n c (kids t)) t) ≡ set_child n (plain c) (plain t)
-set_kids n c empty e w one l = absurd (omega arith)
-set_kids n c (tree l k r) e w one m =
-    let g = grown_whole l k r w in
-    let takes-is : takes l.payload (count (plains k)) ≡ true = ap (takes l.payload) (count-plains k) ∙ w.0 in
-    grown_bare l.payload (plains k) (plains (set_nth n c k)) takes-is (omega (arith, count-plains k, m))
-    ∙ rw (plains-set_nth n c k one m, g.kind-is, g.children-are) refl
+set_kids n c t e w one l = grind (arith, grown_whole, count-plains, grown_bare, plains-set_nth)
 
 -- a root with another child is whole again
 whole_again : (n : ℕ) (c t : Forest) → arity t ≡ 1 → AllOnce t → AllExpressions t → arity c ≡ 1 → AllOnce c → AllExpressions c → n < arity (kids t)
     → AllOnce (with_root_kids (set_nth n c (kids t)) t) × AllExpressions (with_root_kids (set_nth n c (kids t)) t)
-whole_again n c empty a o w one p q l = (tt, tt)
-whole_again n c (tree l k r) a o w one p q m = (
-  (o.0, all-set_nth IsOnce n c k p o.1, o.2),
-  (ap (takes l.payload) (omega (arith, arity-set_nth n c k m, one)) ∙ w.0, all-set_nth IsWhole n c k q w.1, w.2),
-)
+whole_again n c t a o w one p q l = grind (arith, all-set_nth, arity-set_nth)
 
 pub filled : {p : Place} {i n j : ℕ} {old : Forest} {s : State} {new : Forest} → Stands s → IsHanded j (forest s) → IsHole p i n old (without_root j (forest s))
     → new ≡ put i (with_nth n (root_tree j (forest s)) (kids (root_tree i (forest s)))) (without_root j (forest s)) → ChangesTree i (set_child n (tree_of j s) (plain (root_tree i old))) old new
@@ -190,25 +164,11 @@ as_before {j = j} o g d k =
 
 -- one of them goes
 pub hole_beside : {p : Place} {i n : ℕ} {old f : Forest} (j : ℕ) → eqb i j ≡ false → IsHole p i n old f → IsHole p i n (without_root j old) (without_root j f)
-hole_beside {i = i} {n = n} {old = old} {f = f} j d h =
-    let same = tree-without j i old (eqb-sym i j d) in
-    record {
-      is = h.is;
-      handed = handed_beside j (eqb-sym i j d) h.handed;
-      within = subst (λ (x : Forest). n < count (children_of (plain x))) (sym same) h.within;
-      whole = ap (without_root j) h.whole ∙ without-put i j (without_nth n (kids (root_tree i old))) old d ∙ ap (λ (x : Forest). put i (without_nth n (kids x)) (without_root j old)) (sym same);
-    }
+hole_beside {i = i} {n = n} {old = old} {f = f} j d h = grind (arith, tree-without, eqb-sym, handed_beside, without-put)
 
 -- another tree comes behind all
 pub hole_behind : {p : Place} {i n j : ℕ} {t old f g : Forest} → IsHole p i n old f → Ends j t f g → IsHole p i n (join old t) g
-hole_behind {i = i} {n = n} {t = t} {old = old} h e =
-    let same = tree-left i old t h.handed.root in
-    record {
-      is = h.is;
-      handed = record { root = root-left i old t h.handed.root; once = subst AllOnce (sym same) h.handed.once; whole = subst AllExpressions (sym same) h.handed.whole };
-      within = subst (λ (x : Forest). n < count (children_of (plain x))) (sym same) h.within;
-      whole = e.whole ∙ ap (λ (x : Forest). join x t) h.whole ∙ sym (put-left i (without_nth n (kids (root_tree i old))) old t h.handed.root) ∙ ap (λ (x : Forest). put i (without_nth n (kids x)) (join old t)) (sym same);
-    }
+hole_behind {i = i} {n = n} {t = t} {old = old} h e = grind (arith, tree-left, root-left, put-left)
 
 pub changes_none : {i : ℕ} {f : Forest} → IsHanded i f → ChangesTree i (plain (root_tree i f)) f f
 changes_none {i = i} {f = f} h = record { kids = kids (root_tree i f); whole = sym (put-same i f); handed = h; tree = refl }
@@ -232,9 +192,7 @@ pub changes_same : {i : ℕ} {t : Tree} {f g : Forest} (j : ℕ) → ChangesTree
 changes_same {i = i} {f = f} j a d = ap (root_tree j) a.whole ∙ tree-put i j a.kids f d
 
 pub changes_beside : {i : ℕ} {t : Tree} {f g : Forest} (j : ℕ) → eqb i j ≡ false → ChangesTree i t f g → ChangesTree i t (without_root j f) (without_root j g)
-changes_beside {i = i} {f = f} {g = g} j d a =
-    let other = eqb-sym i j d in
-    record { kids = a.kids; whole = ap (without_root j) a.whole ∙ without-put i j a.kids f d; handed = handed_beside j other a.handed; tree = ap plain (tree-without j i g other) ∙ a.tree }
+changes_beside {i = i} {f = f} {g = g} j d a = grind (arith, eqb-sym, without-put, handed_beside, tree-without)
 
 -- the root goes last
 pub changes_last : {i : ℕ} {t : Tree} {f g new : Forest} {Told : Tree → Type 0} → ChangesTree i t f g → Ends i (root_tree i g) (without_root i g) new → Told t → Gives (without_root i f) new i Told

@@ -1,6 +1,8 @@
 -- Laws of forests: joining, prefix order, and the parser.
-use Rattle.std.proofs.Common.{◌≡◌, ℕ, zero, suc, ◌+◌, ◌-◌, ◌^◌, min, ◌<◌, ◌≤◌, List, [], ◌∷◌, ◌++◌, length, cond, eqb, refl, sym, ap, ◌∙◌, subst, arith, append_assoc, Bool, true, false}
-use Rattle.tree_handles.proofs.Shared.{append-nil, length-append, Payload, Node, fresh, has, used, State, IsPool, free_of, refused, Full, used-append, has-append, holds, Stands, forest, IsCounted, KeepsRefusals, Refuses, IsRefused, Label, Forest, empty, tree, join, arity, node_of, flatten, first_trees, rest_trees, forest_of, one_tree, tree_nth, without_nth, with_nth, set_nth, bytes_in, nodes_in, AllNodes, skip}
+use Rattle.tree_handles.proofs.Shared.{◌≡◌, ℕ, zero, suc, ◌+◌, ◌-◌, ◌^◌, min, ◌<◌, ◌≤◌, List, [], ◌∷◌, ◌++◌, length, refl, sym, ap, ◌∙◌, subst}
+use Rattle.tree_handles.proofs.Shared.{arith, append_assoc, true, false, append-nil, length-append, Payload, Node, fresh, has, used, State, IsPool, free_of, refused, Full, used-append}
+use Rattle.tree_handles.proofs.Shared.{has-append, holds, Stands, forest, IsCounted, KeepsRefusals, Refuses, IsRefused, Label, Forest, empty, tree, join, arity, node_of, flatten, first_trees}
+use Rattle.tree_handles.proofs.Shared.{rest_trees, forest_of, one_tree, tree_nth, without_nth, with_nth, set_nth, bytes_in, nodes_in, AllNodes, skip}
 
 pub join-empty : (f : Forest) → join f empty ≡ f
 join-empty empty = refl
@@ -88,9 +90,7 @@ nth_tree (suc n) (tree l k r) h = let p = nth_tree n r (omega arith) in record {
 pub forest_of-flatten : (f : Forest) (ns : List Node) → forest_of (flatten f ++ ns) ≡ join f (forest_of ns)
 unfolding forest_of
 forest_of-flatten empty ns = refl
-forest_of-flatten (tree l k r) ns =
-    let inner : forest_of ((flatten k ++ flatten r) ++ ns) ≡ join k (join r (forest_of ns)) = ap forest_of (append_assoc (flatten k) (flatten r) ns) ∙ forest_of-flatten k (flatten r ++ ns) ∙ ap (join k) (forest_of-flatten r ns) in
-    rw (inner, first_trees-join k (join r (forest_of ns)), rest_trees-join k (join r (forest_of ns))) refl
+forest_of-flatten (tree l k r) ns = grind (arith, append_assoc, first_trees-join, rest_trees-join, forest_of-flatten k (flatten r ++ ns), forest_of-flatten r ns)
 
 forest_of-nil : forest_of [] ≡ empty
 unfolding forest_of
@@ -102,12 +102,7 @@ forest_of_whole f = ap forest_of (sym (append-nil (flatten f))) ∙ forest_of-fl
 -- the trees of a forest are skipped
 pub skip-flatten : (f : Forest) (k : ℕ) (ns : List Node) → skip (arity f + k) (flatten f ++ ns) ≡ skip k ns
 skip-flatten empty k ns = ap (λ (n : ℕ). skip n ns) (omega arith)
-skip-flatten (tree l c r) k ns =
-    let xs = (flatten c ++ flatten r) ++ ns in
-    let first : arity (tree l c r) + k ≡ suc (arity r + k) = omega arith in
-    let owed : arity r + k + arity c ≡ arity c + (arity r + k) = omega arith in
-    let step : skip (arity (tree l c r) + k) (node_of l c ∷ xs) ≡ skip (arity r + k + arity c) xs = ap (λ (n : ℕ). skip n (node_of l c ∷ xs)) first in
-    step ∙ ap (λ (n : ℕ). skip n xs) owed ∙ ap (skip (arity c + (arity r + k))) (append_assoc (flatten c) (flatten r) ns) ∙ skip-flatten c (arity r + k) (flatten r ++ ns) ∙ skip-flatten r k ns
+skip-flatten (tree l c r) k ns = grind (arith, append_assoc, skip-flatten c (arity r + k) (flatten r ++ ns), skip-flatten r k ns)
 
 -- some of the trees are skipped
 pub skip-first : (n : ℕ) (f : Forest) (ns : List Node) → n ≤ arity f → skip n (flatten f ++ ns) ≡ flatten (rest_trees n f) ++ ns
@@ -120,8 +115,7 @@ skip-first n f ns h =
 
 pub has-flatten : (i : ℕ) (f : Forest) → has i (flatten f) ≡ holds i f
 has-flatten i empty = refl
-has-flatten i (tree l k r) =
-    ap (cond (eqb l.id i) true) (has-append i (flatten k) (flatten r) ∙ ap (λ (t : Bool). cond t true (has i (flatten r))) (has-flatten i k) ∙ ap (cond (holds i k) true) (has-flatten i r))
+has-flatten i (tree l k r) = grind (arith, has-append, has-flatten i k, has-flatten i r)
 
 pub bytes-flatten : (f : Forest) → used (flatten f) ≡ bytes_in f
 bytes-flatten empty = refl

@@ -1,12 +1,7 @@
 -- Free bytes and those of handed trees, from one pool to the next.
-use Rattle.std.proofs.Common.{◌≡◌, ℕ, ◌+◌, ◌≤◌, Bool, true, false, cond, eqb, refl, sym, ap, ◌∙◌, subst, arith, ◌<◌}
-use Rattle.tree_handles.proofs.Shared.{Tree, size, used, State, free_of, plain, Forest, empty, tree, bytes_in, IsHanded, tree_of, Gives, has_root, root_tree, without_root, Stands, forest, KeepsRefusals, IsRefused, Full}
-use Rattle.tree_handles.proofs.Forests.{bytes-flatten, bytes_in-join}
-use Rattle.tree_handles.proofs.Outcomes.{by_test}
-use Rattle.tree_handles.proofs.Plains.{size-plain}
-use Rattle.tree_handles.proofs.Roots.{root_arity, tree-without}
-use Rattle.tree_handles.proofs.Given.{handed_beside}
-use Rattle.tree_handles.proofs.Lasts.{last_tree}
+use Rattle.tree_handles.proofs.Shared.{◌≡◌, ℕ, ◌+◌, ◌≤◌, Bool, true, false, cond, eqb, refl, sym, ap, ◌∙◌, subst, arith, ◌<◌, Tree, size, used, State, free_of, plain}
+use Rattle.tree_handles.proofs.Shared.{Forest, empty, tree, bytes_in, IsHanded, tree_of, Gives, has_root, root_tree, without_root, Stands, forest, KeepsRefusals, IsRefused, Full}
+use Rattle.tree_handles.proofs.{Forests.{bytes-flatten, bytes_in-join}, Outcomes.by_test, Plains.size-plain, Roots.{root_arity, tree-without}, Given.handed_beside, Lasts.last_tree}
 use Rattle.tree_handles.proofs.Places.{used_forest}
 
 -- ---- bytes

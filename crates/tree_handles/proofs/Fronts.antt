@@ -1,9 +1,6 @@
 -- What stands first stays first.
-use Rattle.std.proofs.Common.{◌≡◌, ℕ, List, [], ◌∷◌, refl, ap, ◌∙◌, false}
-use Rattle.tree_handles.proofs.Shared.{Forest, join, Ends, Starts, AreNoRoots, KeepsFront, has_root, without_root, put}
-use Rattle.tree_handles.proofs.Forests.{join_assoc}
-use Rattle.tree_handles.proofs.Roots.{root-left, without-right, put-right}
-use Rattle.tree_handles.proofs.Outcomes.{by_test}
+use Rattle.tree_handles.proofs.Shared.{◌≡◌, ℕ, List, [], ◌∷◌, refl, ap, ◌∙◌, false, Forest, join, Ends, Starts, AreNoRoots, KeepsFront, has_root, without_root, put}
+use Rattle.tree_handles.proofs.{Forests.join_assoc, Roots.{root-left, without-right, put-right}, Outcomes.by_test}
 
 pub starts_same : (p f g : Forest) → g ≡ f → Starts p f → Starts p g
 starts_same p f g e s = record { behind = s.behind; whole = e ∙ s.whole }

@@ -1,14 +1,9 @@
 -- The last trees become the children of a new node.
-use Rattle.std.specs.Prelude.{◌≡◌, ℕ, ◌+◌, ◌-◌, ◌≤◌, List, [], ◌∷◌, ◌++◌, true, false}
-use Rattle.std.proofs.Common.{refl, sym, ap, ◌∙◌, subst, arith, append_assoc}
-use Rattle.tree_handles.proofs.Shared.{append-nil, Node, Kind, Payload, bare, has, used, IsBoundary, parent, put_before, since, State, IsPool, until-append, since-append, boundary-append, Forest, empty, join, arity, flatten, first_trees, rest_trees, one_tree, bytes_in, AllNodes, before_last, last_trees, Ends, holds, has_root, Stands, forest, IsCounted}
-use Rattle.node_pool.proofs.Found.{end_boundary}
-use Rattle.tree_handles.proofs.Forests.{join-empty, flatten-join, first-rest, first_trees-join, rest_trees-join, arity-rest_trees, arity-join, has-flatten, bytes-flatten, bytes_in-join, all-join, all-first_trees, all-rest_trees, stands}
-use Rattle.tree_handles.proofs.Joins.{holds-join}
-use Rattle.tree_handles.proofs.Outcomes.{by_test, not_left}
-use Rattle.tree_handles.proofs.Parts.{has_mid}
-use Rattle.tree_handles.proofs.Places.{used_forest}
-use Rattle.tree_handles.proofs.Roots.{root_held}
+use Rattle.std.specs.Prelude.{◌≡◌, ℕ, ◌+◌, ◌-◌, ◌≤◌, List, [], ◌∷◌, ◌++◌, false}
+use Rattle.tree_handles.proofs.Shared.{refl, sym, ap, ◌∙◌, subst, arith, append-nil, Node, Kind, Payload, bare, used, IsBoundary, parent, put_before, since, State, IsPool, until-append}
+use Rattle.tree_handles.proofs.Shared.{since-append, boundary-append, Forest, empty, join, arity, flatten, first_trees, rest_trees, one_tree, bytes_in, AllNodes, before_last, last_trees, Ends}
+use Rattle.tree_handles.proofs.{Shared.{holds, has_root, Stands, forest, IsCounted}, Forests.{join-empty, flatten-join, first-rest, first_trees-join, rest_trees-join, arity-rest_trees}}
+use Rattle.tree_handles.proofs.{Forests.{arity-join, bytes-flatten, all-join, all-first_trees, all-rest_trees, stands}, Joins.holds-join, Outcomes.{by_test, not_left}, Roots.root_held}
 
 pub arity-last_trees : (n : ℕ) (f : Forest) → n ≤ arity f → arity (last_trees n f) ≡ n
 arity-last_trees n f h = omega (arith, arity-rest_trees (arity f - n) f)
@@ -70,9 +65,4 @@ pub record IsOver (id n : ℕ) (x : Payload) (f : Forest) (s : State) : Type 0 w
   pub stands : Stands s
 
 pub over : (id n : ℕ) (x : Payload) (f : Forest) (s : State) → holds id f ≡ false → AllNodes IsCounted f → IsPool s → s.nodes ≡ flatten (join (before_last n f) (one_tree id x (last_trees n f))) → IsOver id n x f s
-over id n x f s new h p e =
-    let (whole, st) = stands s (join (before_last n f) (one_tree id x (last_trees n f))) e p (counted_over id n x f h) in
-    record {
-      ends = record { whole = whole; alone = refl; root = refl; clear = no_root id (before_last n f) (not_below id n f new) };
-      stands = st;
-    }
+over id n x f s new h p e = grind (arith, stands, counted_over, no_root, not_below)

@@ -1,11 +1,8 @@
 -- Trees that are built from roots and from new nodes.
-use Rattle.std.proofs.Common.{arith, ◌≡◌, ℕ, zero, suc, eqb, refl, sym, ap, subst, true, false}
-use Rattle.tree_handles.proofs.Shared.{Payload, Tree, Trees, none, more, append, count, nth, grown, plains, plain, inserted, takes, Forest, empty, tree, join, with_nth, one_tree, IsOwned, IsHanded, Represents, Ends, Gives, has_root, root_tree, without_root, put}
-use Rattle.tree_handles.proofs.Counted.{all-with_nth}
-use Rattle.tree_handles.proofs.Forests.{join-empty, all-join}
-use Rattle.tree_handles.proofs.Lasts.{last_root, last_tree, last_rest, other_tree, other_apart, other_handed, ends_without, ends_as}
-use Rattle.tree_handles.proofs.Plains.{plains-join, count-plains, alone}
-use Rattle.tree_handles.proofs.Roots.{root_arity, root-without, tree-without, root-put, tree-put}
+use Rattle.tree_handles.proofs.Shared.{arith, ◌≡◌, ℕ, zero, suc, eqb, refl, sym, ap, subst, true, false, Payload, Tree, Trees, none, more, append, count, nth, grown, plains, plain}
+use Rattle.tree_handles.proofs.Shared.{inserted, takes, Forest, empty, tree, join, with_nth, one_tree, IsOwned, IsHanded, Represents, Ends, Gives, has_root, root_tree, without_root, put}
+use Rattle.tree_handles.proofs.{Counted.all-with_nth, Forests.{join-empty, all-join}, Lasts.{last_root, last_tree, last_rest, other_tree, other_apart, other_handed, ends_without, ends_as}}
+use Rattle.tree_handles.proofs.{Plains.{plains-join, count-plains, alone}, Roots.{root_arity, root-without, tree-without, root-put, tree-put}}
 
 pub append-none : (ts : Trees) → append ts none ≡ ts
 append-none none = refl

@@ -1,11 +1,9 @@
 -- A released node, wherever it stands.
-use Rattle.std.proofs.Common.{◌≡◌, ℕ, suc, ◌<◌, inl, inr, List, [], ◌∷◌, ◌++◌, cond, eqb, refl, sym, ap, ◌∙◌, subst, append_assoc, arith, Bool, true, false}
-use Rattle.tree_handles.proofs.Shared.{eqb-true, eq-eqb, Node, State, has, used, place_of, AreDistinct, since, until, has-append, or_is_false, since-append, until-append, place_of-append, Label, Forest, empty, tree, join, arity, root_count, node_of, flatten, forest_of, AllOnce, IsOwned, holds, tree_at, count_of, released, released_in, has_root, root_tree, without_root, IsReleasable, forest, Stands, release_first, released_at}
-use Rattle.tree_handles.proofs.Distinct.{Distinct, distinct_parts, not_before}
-use Rattle.tree_handles.proofs.Forests.{flatten-join, join_assoc, forest_of_whole, has-flatten}
-use Rattle.tree_handles.proofs.Joins.{released_in-join_right}
-use Rattle.tree_handles.proofs.Releases.{released_held}
-use Rattle.tree_handles.proofs.Roots.{top, root_held}
+use Rattle.tree_handles.proofs.Shared.{◌≡◌, ℕ, suc, ◌<◌, inl, inr, List, [], ◌∷◌, ◌++◌, cond, eqb, refl, sym, ap, ◌∙◌, subst, append_assoc, arith, Bool, true, false}
+use Rattle.tree_handles.proofs.Shared.{eqb-true, eq-eqb, Node, State, has, used, place_of, AreDistinct, since, until, has-append, or_is_false, since-append, until-append, place_of-append, Label}
+use Rattle.tree_handles.proofs.Shared.{Forest, empty, tree, join, arity, root_count, node_of, flatten, forest_of, AllOnce, IsOwned, holds, tree_at, count_of, released, released_in, has_root}
+use Rattle.tree_handles.proofs.{Shared.{root_tree, without_root, IsReleasable, forest, Stands, release_first, released_at}, Distinct.{Distinct, distinct_parts, not_before}}
+use Rattle.tree_handles.proofs.{Forests.{flatten-join, join_assoc, forest_of_whole, has-flatten}, Joins.released_in-join_right, Releases.released_held, Roots.{top, root_held}}
 use Rattle.tree_handles.proofs.Outcomes.{by_test}
 
 -- the nodes before, and the trees from the node on

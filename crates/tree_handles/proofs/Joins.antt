@@ -1,7 +1,6 @@
 -- A node in the first or in the last of two forests.
-use Rattle.std.proofs.Common.{arith, ◌≡◌, ℕ, cond, eqb, refl, ap, ◌∙◌, Bool, true, false}
-use Rattle.tree_handles.proofs.Shared.{Forest, empty, tree, join, kids, holds, tree_at, kids_of, with_kids, released, released_in}
-use Rattle.tree_handles.proofs.Outcomes.{by_test, or_true}
+use Rattle.tree_handles.proofs.Shared.{arith, ◌≡◌, ℕ, cond, eqb, refl, ap, ◌∙◌, Bool, true, false, Forest, empty, tree, join, kids, holds, tree_at, kids_of, with_kids, released}
+use Rattle.tree_handles.proofs.{Shared.released_in, Outcomes.{by_test, or_true}}
 
 or_or : (t u v w : Bool) → cond t true (cond u true (cond v true w)) ≡ cond (cond t true (cond u true v)) true w
 or_or t u v w = grind arith
@@ -85,8 +84,4 @@ with_kids-with_kids i a b (tree l k r) h =
 
 pub with_kids-same : (i : ℕ) (f : Forest) → with_kids i (kids_of i f) f ≡ f
 with_kids-same i empty = refl
-with_kids-same i (tree l k r) =
-    by_test (λ t. cond t (tree l (kids (cond t (tree l k empty) (cond (holds i k) (tree_at i k) (tree_at i r)))) r)
-    (cond (holds i k) (tree l (with_kids i (kids (cond t (tree l k empty) (cond (holds i k) (tree_at i k) (tree_at i r)))) k) r) (tree l k (with_kids i (kids (cond t (tree l k empty) (cond (holds i k) (tree_at i k) (tree_at i r)))) r))) ≡ tree l k r) (eqb l.id i) (λ e. refl)
-    (λ e. by_test (λ t. cond t (tree l (with_kids i (kids (cond t (tree_at i k) (tree_at i r))) k) r) (tree l k (with_kids i (kids (cond t (tree_at i k) (tree_at i r))) r)) ≡ tree l k r) (holds i k)
-    (λ q. ap (λ (x : Forest). tree l x r) (with_kids-same i k)) (λ q. ap (λ (x : Forest). tree l k x) (with_kids-same i r)))
+with_kids-same i (tree l k r) = grind (arith, with_kids-same i k, with_kids-same i r)

@@ -1,8 +1,7 @@
 -- The tree that stands last.
-use Rattle.std.proofs.Common.{◌≡◌, ℕ, cond, eqb, refl, sym, ap, ◌∙◌, subst, arith, Bool, true, false}
-use Rattle.tree_handles.proofs.Shared.{eqb-true, eq-eqb, State, plain, AllExpressions, IsExpression, Forest, empty, tree, join, arity, kids, root_id, with_root_kids, with_nth, IsHanded, Ends, holds, tree_at, kids_of, has_root, root_tree, without_root, put, Stands, forest}
-use Rattle.tree_handles.proofs.Distinct.{Distinct, distinct, distinct_parts, tree_at-root}
-use Rattle.tree_handles.proofs.Forests.{join-empty}
+use Rattle.tree_handles.proofs.Shared.{◌≡◌, ℕ, cond, eqb, refl, sym, ap, ◌∙◌, subst, arith, Bool, true, false, eqb-true, eq-eqb, State, plain, AllExpressions, IsExpression, Forest}
+use Rattle.tree_handles.proofs.Shared.{empty, tree, join, arity, kids, root_id, with_root_kids, with_nth, IsHanded, Ends, holds, tree_at, kids_of, has_root, root_tree, without_root, put, Stands}
+use Rattle.tree_handles.proofs.{Shared.forest, Distinct.{Distinct, distinct, distinct_parts, tree_at-root}, Forests.join-empty}
 use Rattle.tree_handles.proofs.Roots.{root_held, root-left, root-right, tree-left, tree-right, without-left, without-right, put-left, put-right, root-without, root-put}
 use Rattle.tree_handles.proofs.Outcomes.{by_test, not_left, not_right, eqb-sym}
 

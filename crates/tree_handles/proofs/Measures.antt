@@ -1,9 +1,7 @@
 -- Walks that measure a tree.
-use Rattle.std.proofs.Common.{◌≡◌, ℕ, suc, ◌+◌, ◌≤◌, List, ◌∷◌, ◌++◌, length, cond, eqb, ap, ◌∙◌, arith, true}
-use Rattle.tree_handles.proofs.Shared.{Node, used, place_of, since, State, length_le_used, since-append, place_of-append, Label, Forest, empty, tree, arity, node_of, flatten, nodes_in, holds, tree_at, kids_of, Stands, forest}
-use Rattle.tree_handles.proofs.Forests.{nodes-flatten}
-use Rattle.tree_handles.proofs.Parts.{at, live_at}
-use Rattle.tree_handles.proofs.Outcomes.{by_test}
+use Rattle.tree_handles.proofs.Shared.{◌≡◌, ℕ, ◌+◌, ◌≤◌, List, ◌∷◌, ◌++◌, length, ap, ◌∙◌, arith, true, Node, used, place_of, since, State, length_le_used}
+use Rattle.tree_handles.proofs.Shared.{since-append, place_of-append, Label, Forest, empty, tree, arity, node_of, flatten, nodes_in, holds, tree_at, kids_of, Stands, forest}
+use Rattle.tree_handles.proofs.{Forests.nodes-flatten, Parts.{at, live_at}}
 
 -- the nodes from a tree's place on
 pub record IsBefore (i at : ℕ) (s : State) : Type 0 where
@@ -30,9 +28,7 @@ before i at s st h e =
 
 nodes_tree_at : (i : ℕ) (f : Forest) → nodes_in (tree_at i f) ≤ nodes_in f
 nodes_tree_at i empty = omega arith
-nodes_tree_at i (tree l k r) =
-    by_test (λ t. nodes_in (cond t (tree l k empty) (cond (holds i k) (tree_at i k) (tree_at i r))) ≤ suc (nodes_in k + nodes_in r)) (eqb l.id i) (λ e. omega arith)
-    (λ e. by_test (λ t. nodes_in (cond t (tree_at i k) (tree_at i r)) ≤ suc (nodes_in k + nodes_in r)) (holds i k) (λ q. omega (arith, nodes_tree_at i k)) (λ q. omega (arith, nodes_tree_at i r)))
+nodes_tree_at i (tree l k r) = grind (arith, nodes_tree_at i k, nodes_tree_at i r)
 
 -- a tree has no more nodes than the pool
 pub few_in : (i : ℕ) (s : State) → Stands s → nodes_in (tree_at i (forest s)) ≤ 65535

@@ -1,8 +1,6 @@
 -- Children of a tree of the language, read one after another.
-use Rattle.std.proofs.Common.{ℕ, suc, ◌<◌, ◌≤◌, ◌≡◌, List, [], ◌∷◌, sym, ◌∙◌, arith}
-use Rattle.tree_handles.proofs.Shared.{count, State, root_ids, nth, plain, children_of, IsExpression, rest_trees, tree_at, kids_of, Stands, forest}
-use Rattle.tree_handles.proofs.ChildPlaces.{seen_child, step_on, no_more}
-use Rattle.tree_handles.proofs.Readings.{expression_children}
+use Rattle.tree_handles.proofs.Shared.{ℕ, suc, ◌<◌, ◌≤◌, ◌≡◌, List, [], ◌∷◌, sym, ◌∙◌, arith, count, State, root_ids, nth, plain, children_of, IsExpression}
+use Rattle.tree_handles.proofs.{Shared.{rest_trees, tree_at, kids_of, Stands, forest}, ChildPlaces.{seen_child, step_on, no_more}, Readings.expression_children}
 
 -- a node is the child at a place, and those behind it are left
 pub record IsNextChild (i n x : ℕ) (left : List ℕ) (s : State) : Type 0 where

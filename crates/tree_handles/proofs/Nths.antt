@@ -1,7 +1,6 @@
 -- The trees of a forest by their places.
-use Rattle.std.proofs.Common.{◌≡◌, ℕ, ◌-◌, ◌<◌, refl, sym, ap, ◌∙◌, arith}
-use Rattle.tree_handles.proofs.Shared.{Forest, join, arity, first_trees, rest_trees, tree_nth, without_nth, with_nth, set_nth, swapped_nth}
-use Rattle.tree_handles.proofs.Forests.{join_assoc, arity-join, first_trees-join, rest_trees-join, first-rest, arity-first_trees, arity-rest_trees, arity-tree_nth}
+use Rattle.tree_handles.proofs.Shared.{◌≡◌, ℕ, ◌-◌, ◌<◌, refl, sym, ap, ◌∙◌, arith, Forest, join, arity, first_trees, rest_trees, tree_nth, without_nth, with_nth, set_nth}
+use Rattle.tree_handles.proofs.{Shared.swapped_nth, Forests.{join_assoc, arity-join, first_trees-join, rest_trees-join, first-rest, arity-first_trees, arity-rest_trees, arity-tree_nth}}
 
 -- behind some trees
 pub first_trees-behind : (n : ℕ) (a b : Forest) → n ≡ arity a → first_trees n (join a b) ≡ a

@@ -1,7 +1,5 @@
 -- A pool that was opened.
-use Rattle.std.proofs.Common.{◌≡◌, [], arith, ap, sym, subst}
-use Rattle.tree_handles.proofs.Shared.{used, AreNodes, AreDistinct, State, IsPool, IsPoolSize, empty, Stands}
-use Rattle.tree_handles.proofs.Forests.{stands}
+use Rattle.tree_handles.proofs.{Shared.{◌≡◌, [], arith, ap, sym, subst, used, AreNodes, AreDistinct, State, IsPool, IsPoolSize, empty, Stands}, Forests.stands}
 
 pub stands_open : (s : State) → s.nodes ≡ [] → IsPoolSize s.size → Stands s
 stands_open s e size =

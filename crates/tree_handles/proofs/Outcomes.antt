@@ -1,7 +1,7 @@
 -- Proofs by a test, and of a result.
-use Rattle.std.proofs.Common.{arith, ◌≡◌, ℕ, cond, eqb, sym, Bool, true, false, Result, Err}
-use Rattle.std.specs.Prelude.{IfErr, IsErr, IsErrAnd, IfOk}
-use Rattle.tree_handles.proofs.Shared.{eqb-false, ne_eqb}
+use Rattle.tree_handles.proofs.Shared.{arith, ◌≡◌, ℕ, cond, eqb, sym, Bool, true, false, Result, IfErr, eqb-false, ne_eqb}
+use Rattle.std.proofs.Common.{Err}
+use Rattle.std.specs.Prelude.{IsErr, IsErrAnd, IfOk}
 
 -- both outcomes of a test
 pub by_test : (P : Bool → Type 0) (t : Bool) → (t ≡ true → P true) → (t ≡ false → P false) → P t

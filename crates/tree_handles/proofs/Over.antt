@@ -1,13 +1,10 @@
 -- A root over these trees, and what it becomes: a child is taken out or put in, and the root goes last.
-use Rattle.std.proofs.Common.{◌≡◌, ℕ, eqb, cond, refl, sym, ap, ◌∙◌, subst, arith, Bool, true, false, ◌∷◌, []}
-use Rattle.tree_handles.proofs.Shared.{Kind, Payload, bare, Tree, Trees, none, more, append, count, is_mult, is_add, nth, grown, compound, plain, takes, takes_kind, children_of, inserted, Forest, empty, tree, arity, kids, root_payload, root_count, with_root_kids, tree_nth, without_nth, with_nth, AllOnce, IsHanded, Represents, Ends, Gives, KeepsFront, kids_of, has_root, root_tree, without_root, put, State, Stands, forest}
-use Rattle.tree_handles.proofs.Given.{gives, gives_as, given_handed, given_told, given_rest, represents_handed, represents_with}
-use Rattle.tree_handles.proofs.Lasts.{other_tree, other_root, kids_of_root}
-use Rattle.tree_handles.proofs.Plains.{children_of-plain, whole_kids}
-use Rattle.tree_handles.proofs.Counted.{all-kids}
-use Rattle.tree_handles.proofs.Roots.{root_arity, root-put, root-without, tree-without, kids-put}
-use Rattle.tree_handles.proofs.Outcomes.{by_test}
-use Rattle.tree_handles.proofs.Cuts.{cut_at, represents_count}
+use Rattle.tree_handles.proofs.Shared.{◌≡◌, ℕ, eqb, refl, sym, ap, ◌∙◌, subst, arith, true, false, ◌∷◌, [], Kind, Payload, bare, Tree, Trees, none, more, append, count}
+use Rattle.tree_handles.proofs.Shared.{is_mult, is_add, nth, grown, compound, plain, takes, takes_kind, children_of, inserted, Forest, empty, tree, arity, kids, root_payload, root_count}
+use Rattle.tree_handles.proofs.Shared.{with_root_kids, tree_nth, without_nth, with_nth, AllOnce, IsHanded, Represents, Ends, Gives, KeepsFront, kids_of, has_root, root_tree, without_root, put}
+use Rattle.tree_handles.proofs.{Shared.{State, Stands, forest}, Given.{gives, gives_as, given_handed, given_told, given_rest, represents_handed, represents_with}}
+use Rattle.tree_handles.proofs.{Lasts.{other_tree, other_root, kids_of_root}, Plains.{children_of-plain, whole_kids}, Counted.all-kids}
+use Rattle.tree_handles.proofs.{Roots.{root_arity, root-put, root-without, tree-without, kids-put}, Cuts.{cut_at, represents_count}}
 use Rattle.tree_handles.proofs.Fronts.{behind_first, front_same, front_at, front_end, front_put, front_without}
 use Rattle.calc_terms.specs.declared.kind.Kind.TheVariants as kind
 
@@ -67,16 +64,12 @@ over_plain h w = ap (nth 0) (over_tree h w).plain_trees
 
 pub tree_put : (i : ℕ) (n f : Forest) → root_tree i (put i n f) ≡ with_root_kids n (root_tree i f)
 tree_put i n empty = refl
-tree_put i n (tree l k r) =
-    by_test (λ t. eqb l.id i ≡ t → root_tree i (cond t (tree l n r) (tree l k (put i n r))) ≡ with_root_kids n (cond t (tree l k empty) (root_tree i r))) (eqb l.id i)
-    (λ e q. ap (λ (t : Bool). cond t (tree l n empty) (root_tree i r)) q) (λ e q. ap (λ (t : Bool). cond t (tree l k empty) (root_tree i (put i n r))) q ∙ tree_put i n r) refl
+tree_put i n (tree l k r) = grind (arith, tree_put i n r)
 
 -- a root goes, whichever children it has
 pub without_put : (i : ℕ) (n f : Forest) → without_root i (put i n f) ≡ without_root i f
 without_put i n empty = refl
-without_put i n (tree l k r) =
-    by_test (λ t. eqb l.id i ≡ t → without_root i (cond t (tree l n r) (tree l k (put i n r))) ≡ cond t r (tree l k (without_root i r))) (eqb l.id i)
-    (λ e q. ap (λ (t : Bool). cond t r (tree l n (without_root i r))) q) (λ e q. ap (λ (t : Bool). cond t (put i n r) (tree l k (without_root i (put i n r)))) q ∙ ap (λ (x : Forest). tree l k x) (without_put i n r)) refl
+without_put i n (tree l k r) = grind (arith, without_put i n r)
 
 payload_with : (n t : Forest) → root_payload (with_root_kids n t) ≡ root_payload t
 payload_with n t = grind arith

@@ -1,8 +1,6 @@
 -- Bytes and places of the trees that stand first.
-use Rattle.std.proofs.Common.{arith, ◌≡◌, ℕ, ◌+◌, ◌-◌, List, [], ◌∷◌, ◌++◌, cond, eqb, refl, ap, ◌∙◌, true}
-use Rattle.tree_handles.proofs.Shared.{Node, size_of, has, place_of, used, State, free_of, Forest, join, flatten, bytes_in, holds, Stands, forest}
-use Rattle.tree_handles.proofs.Forests.{flatten-join, has-flatten, bytes-flatten}
-use Rattle.tree_handles.proofs.Outcomes.{by_test}
+use Rattle.tree_handles.proofs.Shared.{arith, ◌≡◌, ℕ, ◌+◌, ◌-◌, List, [], ◌∷◌, ◌++◌, cond, eqb, refl, ap, ◌∙◌, true, Node, size_of, has, place_of, used, State}
+use Rattle.tree_handles.proofs.{Shared.{free_of, Forest, join, flatten, bytes_in, holds, Stands, forest}, Forests.{flatten-join, has-flatten, bytes-flatten}, Outcomes.by_test}
 
 -- the bytes in use, and those that are free
 pub used_forest : (s : State) → Stands s → used s.nodes ≡ bytes_in (forest s)

@@ -1,6 +1,8 @@
 -- Laws of the plain trees of a forest.
-use Rattle.std.proofs.Common.{◌≡◌, ℕ, zero, suc, ◌+◌, max, eqb, refl, sym, ap, ◌∙◌, arith, true}
-use Rattle.tree_handles.proofs.Shared.{eqb-true, eq-eqb, Kind, Payload, rational, named, bare, kind_of_payload, has_short_form, size_of_payload, IsPayload, Tree, Trees, none, more, append, count, root_kind, root_size, has_short_root, is_num, is_symbol, size, sizes, depth, depths, nodes, nodes_of, Label, Forest, empty, tree, join, arity, tree_nth, kids, root_payload, bytes_in, nodes_in, depth_in, nth, grown, plains, plain, takes, takes_kind, AllExpressions, children_of}
+use Rattle.tree_handles.proofs.Shared.{◌≡◌, ℕ, zero, suc, ◌+◌, max, eqb, refl, sym, ap, ◌∙◌, arith, true, eqb-true, eq-eqb, Kind, Payload, rational, named, bare}
+use Rattle.tree_handles.proofs.Shared.{kind_of_payload, has_short_form, IsPayload, Tree, Trees, none, more, append, count, root_kind, root_size, has_short_root, is_num, is_symbol, size, sizes}
+use Rattle.tree_handles.proofs.Shared.{depth, depths, nodes, nodes_of, Label, Forest, empty, tree, join, arity, tree_nth, kids, root_payload, bytes_in, nodes_in, depth_in, nth, grown, plains}
+use Rattle.tree_handles.proofs.Shared.{plain, takes, takes_kind, AllExpressions, children_of}
 use Rattle.calc_terms.specs.declared.kind.Kind.TheVariants as kind
 
 pub plains-join : (f g : Forest) → plains (join f g) ≡ append (plains f) (plains g)
@@ -107,11 +109,7 @@ nodes_of-plains (tree l k r) h =
 
 pub sizes-plains : (f : Forest) → AllExpressions f → sizes (plains f) ≡ bytes_in f
 sizes-plains empty h = refl
-sizes-plains (tree l k r) h =
-    let t = grown l.payload (plains k) in
-    let g = grown_whole l k r h in
-    let d : size t ≡ size_of_payload l.payload + bytes_in k = size_grown t ∙ rw (g.kind-is, g.short-is, g.children-are, sizes-plains k h.1) refl in
-    rw (d, sizes-plains r h.2) (omega arith)
+sizes-plains (tree l k r) h = grind (arith, grown_whole, size_grown, sizes-plains k h.1, sizes-plains r h.2)
 
 -- ---- one tree
 

@@ -1,9 +1,11 @@
 -- Releasing trees, node after node.
-use Rattle.std.proofs.Common.{◌≡◌, ℕ, zero, suc, ◌+◌, ◌-◌, ◌<◌, ◌≤◌, List, [], ◌∷◌, ◌++◌, length, cond, eqb, leb, ltb, refl, sym, ap, ◌∙◌, subst, arith, append_assoc, Bool, true, false}
-use Rattle.tree_handles.proofs.Shared.{eqb-false, leb-true, lt-ltb, le-ltb, IsStep, step, unheld, unheld_more, owed_behind, length-append, Node, size_of, has, used, first_of, with_count, AreDistinct, until, since, between, without, IsBoundary, State, IsPool, used-append, size_from, length_le_used, since-append, until-append, until-since, cut, boundary-append, with_count-append, without-append, Label, Forest, empty, tree, join, arity, node_of, flatten, first_trees, rest_trees, forest_of, released, release_first, released_at, skip, IsOwed, IsNearer, owed_nodes}
-use Rattle.tree_handles.proofs.Distinct.{not_before}
-use Rattle.tree_handles.proofs.Forests.{flatten-join, arity-join, join_assoc, forest_of_whole, skip-flatten}
-use Rattle.tree_handles.proofs.Parts.{place_is, has_mid}
+use Rattle.tree_handles.proofs.Shared.{◌≡◌, ℕ, zero, suc, ◌+◌, ◌-◌, ◌<◌, ◌≤◌, List, [], ◌∷◌, ◌++◌, length, cond, eqb, refl, sym, ap, ◌∙◌, subst, arith}
+use Rattle.tree_handles.proofs.Shared.{append_assoc, Bool, true, false, eqb-false, leb-true, lt-ltb, le-ltb, IsStep, step, unheld, unheld_more, owed_behind, length-append, Node, size_of, has}
+use Rattle.tree_handles.proofs.Shared.{used, first_of, with_count, AreDistinct, until, since, between, without, IsBoundary, State, IsPool, used-append, size_from, length_le_used, since-append}
+use Rattle.tree_handles.proofs.Shared.{until-append, until-since, cut, boundary-append, with_count-append, without-append, Label, Forest, empty, tree, join, arity, node_of, flatten, first_trees}
+use Rattle.tree_handles.proofs.{Shared.{rest_trees, forest_of, released, release_first, released_at, skip, IsOwed, IsNearer, owed_nodes}, Distinct.not_before}
+use Rattle.tree_handles.proofs.{Forests.{flatten-join, arity-join, join_assoc, forest_of_whole, skip-flatten}, Parts.{place_is, has_mid}}
+use Rattle.std.proofs.Common.{leb, ltb}
 
 pub since_is : (ns : List Node) (at owed : ℕ) (end : List Node) (o : IsOwed ns at owed end) → since at ns ≡ flatten o.trees
 since_is ns at owed end o = ap (λ (k : ℕ). since k ns) o.place ∙ ap (since (used o.before)) o.whole ∙ since-append o.before (flatten o.trees)
@@ -148,18 +150,11 @@ gone ns ms at (suc j) next still end o some few e q s = gone_forest ns ms at j n
 
 live_forest : (ns : List Node) (at owed : ℕ) (a : List Node) (f : Forest) → ns ≡ a ++ flatten f → at ≡ used a → 0 < arity f → has (first_of (since at ns)).id ns ≡ true
 live_forest ns at owed a empty e h some = absurd (omega arith)
-live_forest ns at owed a (tree l k r) e h some =
-    let n : first_of (since at ns) ≡ node_of l k = ap first_of (first_is ns at a l k r e h) in
-    ap (λ (x : Node). has x.id ns) n ∙ ap (has l.id) e ∙ has_mid l.id a (node_of l k) (flatten k ++ flatten r) refl
+live_forest ns at owed a (tree l k r) e h some = grind (arith, first_is, has_mid)
 
 boundary_forest : (ns ms : List Node) (at : ℕ) (a : List Node) (f : Forest) → ns ≡ a ++ flatten f → at ≡ used a → 0 < arity f → AreDistinct ns → ms ≡ with_count (first_of (since at ns)).id ((first_of (since at ns)).count - 1) ns → IsBoundary at ms
 boundary_forest ns ms at a empty e h some d q = absurd (omega arith)
-boundary_forest ns ms at a (tree l k r) e h some d q =
-    let n : first_of (since at ns) ≡ node_of l k = ap first_of (first_is ns at a l k r e h) in
-    let clear : has l.id a ≡ false = not_before a (node_of l k) (flatten k ++ flatten r) (subst AreDistinct e d) in
-    let now : ms ≡ a ++ (record (node_of l k) { count = l.count - 1 } ∷ (flatten k ++ flatten r)) =
-    q ∙ ap (λ (x : Node). with_count x.id (x.count - 1) ns) n ∙ ap (with_count l.id (l.count - 1)) e ∙ with_count-append l.id (l.count - 1) a (node_of l k) (flatten k ++ flatten r) clear refl in
-    subst (IsBoundary at) (sym now) (boundary-append a (record (node_of l k) { count = l.count - 1 } ∷ (flatten k ++ flatten r)) at h)
+boundary_forest ns ms at a (tree l k r) e h some d q = grind (arith, first_is, not_before, with_count-append, boundary-append)
 
 pub arity_le : (f : Forest) → arity f ≤ length (flatten f)
 arity_le empty = omega arith
@@ -246,12 +241,8 @@ kept_others a s t ns e q = q ∙ ap (λ (x : State). record x { nodes = ns }) e 
 run_step : (t u : Bool) (n : Node) (m ns : List Node) (place owed at still : ℕ) → eqb still 0 ≡ t → leb n.count 1 ≡ u → IsBoundary place ns → IsRun ns place owed at still → since at ns ≡ n ∷ m
     → ((next more : ℕ) → IsRun ns place owed next more → since next ns ≡ m → IsRun ns place owed (next + used (unheld more m)) (owed_behind more (unheld more m)))
     → IsRun ns place owed (at + used (cond t [] (cond u (n ∷ unheld (still - 1 + n.children) m) []))) (owed_behind still (cond t [] (cond u (n ∷ unheld (still - 1 + n.children) m) [])))
-run_step true u n m ns place owed at still et eu b r e rec =
-    let same : at ≡ at + 0 = omega arith in
-    subst (λ (k : ℕ). IsRun ns place owed k still) same r
-run_step false false n m ns place owed at still et eu b r e rec =
-    let same : at ≡ at + 0 = omega arith in
-    subst (λ (k : ℕ). IsRun ns place owed k still) same r
+run_step true u n m ns place owed at still et eu b r e rec = grind (arith)
+run_step false false n m ns place owed at still et eu b r e rec = grind (arith)
 run_step false true n m ns place owed at still et eu b r e rec =
     let ne : still ≡ 0 → ⊥ = eqb-false still 0 et in
     let some : 0 < still = omega arith in
@@ -267,9 +258,7 @@ run_step false true n m ns place owed at still et eu b r e rec =
     subst (λ (k : ℕ). IsRun ns place owed k (owed_behind more (unheld more m))) behind (rec next more run rest)
 
 run_all : (m ns : List Node) (place owed at still : ℕ) → IsBoundary place ns → IsRun ns place owed at still → since at ns ≡ m → IsRun ns place owed (at + used (unheld still m)) (owed_behind still (unheld still m))
-run_all [] ns place owed at still b r e =
-    let same : at ≡ at + 0 = omega arith in
-    subst (λ (k : ℕ). IsRun ns place owed k still) same r
+run_all [] ns place owed at still b r e = grind (arith)
 run_all (n ∷ m) ns place owed at still b r e = run_step (eqb still 0) (leb n.count 1) n m ns place owed at still refl refl b r e (λ next more q h. run_all m ns place owed next more b q h)
 
 -- a node that nothing else holds goes, and those behind it up to one that is held

@@ -1,18 +1,12 @@
 -- A root beside a node whose children change.
-use Rattle.std.proofs.Common.{◌≡◌, ℕ, ◌<◌, ◌≤◌, cond, eqb, refl, ap, ◌∙◌, subst, arith, Bool, true, false}
-use Rattle.tree_handles.proofs.Shared.{Forest, empty, tree, join, arity, tree_nth, without_nth, with_nth, set_nth, holds, kids_of, with_kids, has_root, root_tree, without_root}
-use Rattle.tree_handles.proofs.Distinct.{held_parent}
-use Rattle.tree_handles.proofs.Forests.{arity-without_nth}
-use Rattle.tree_handles.proofs.Joins.{holds-left, kids_of-join_left, with_kids-join_left, holds-with_kids, kids_of-with_kids, with_kids-with_kids}
-use Rattle.tree_handles.proofs.Nths.{with_nth-without_nth}
-use Rattle.tree_handles.proofs.Roots.{root-left, tree-left, without-left}
-use Rattle.tree_handles.proofs.Outcomes.{by_test}
+use Rattle.tree_handles.proofs.Shared.{◌≡◌, ℕ, ◌<◌, ◌≤◌, cond, eqb, refl, ap, ◌∙◌, subst, arith, Bool, true, false, Forest, empty, tree, join, arity, tree_nth}
+use Rattle.tree_handles.proofs.{Shared.{without_nth, with_nth, set_nth, holds, kids_of, with_kids, has_root, root_tree, without_root}, Distinct.held_parent, Forests.arity-without_nth}
+use Rattle.tree_handles.proofs.{Joins.{holds-left, kids_of-join_left, with_kids-join_left, holds-with_kids, kids_of-with_kids, with_kids-with_kids}, Nths.with_nth-without_nth}
+use Rattle.tree_handles.proofs.{Roots.{root-left, tree-left, without-left}, Outcomes.by_test}
 
 pub has_root-with_kids : (c p : ℕ) (n f : Forest) → has_root c (with_kids p n f) ≡ has_root c f
 has_root-with_kids c p n empty = refl
-has_root-with_kids c p n (tree l k r) =
-    by_test (λ t. has_root c (cond t (tree l n r) (cond (holds p k) (tree l (with_kids p n k) r) (tree l k (with_kids p n r)))) ≡ cond (eqb l.id c) true (has_root c r)) (eqb l.id p) (λ e. refl)
-    (λ e. by_test (λ t. has_root c (cond t (tree l (with_kids p n k) r) (tree l k (with_kids p n r))) ≡ cond (eqb l.id c) true (has_root c r)) (holds p k) (λ q. refl) (λ q. ap (cond (eqb l.id c) true) (has_root-with_kids c p n r)))
+has_root-with_kids c p n (tree l k r) = grind (arith, has_root-with_kids c p n r)
 
 -- the node is not in the tree of the root
 neither : (t u : Bool) → cond t true (cond u true false) ≡ false → (t ≡ false) × (u ≡ false)

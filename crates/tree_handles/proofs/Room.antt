@@ -1,12 +1,8 @@
 -- Free bytes from call to call.
-use Rattle.std.proofs.Common.{◌≡◌, ℕ, ◌+◌, ◌≤◌, true, ap, arith}
-use Rattle.tree_handles.proofs.Shared.{Tree, num, symbol, undef, add, mult, power, root, neg, sub, div, size, State, free_of, plain, Forest, tree, bytes_in, Gives, IsHanded, root_tree, without_root, has_root, Stands, forest, KeepsRefusals}
+use Rattle.tree_handles.proofs.Shared.{◌≡◌, ℕ, ◌+◌, ◌≤◌, true, ap, arith, Tree, num, symbol, undef, add, mult, power, root, neg, sub, div, size, State, free_of, plain, Forest}
+use Rattle.tree_handles.proofs.{Shared.{tree, bytes_in, Gives, IsHanded, root_tree, without_root, has_root, Stands, forest, KeepsRefusals}, Forests.bytes_in-join, Lasts.last_tree}
+use Rattle.tree_handles.proofs.{Places.used_forest, Plains.size-plain, Roots.{top, root_arity}}
 use Rattle.calc_terms.proofs.Sizes.{num_least}
-use Rattle.tree_handles.proofs.Forests.{bytes_in-join}
-use Rattle.tree_handles.proofs.Lasts.{last_tree}
-use Rattle.tree_handles.proofs.Places.{used_forest}
-use Rattle.tree_handles.proofs.Plains.{size-plain}
-use Rattle.tree_handles.proofs.Roots.{top, root_arity}
 
 -- a new tree takes its bytes
 pub given_free : {s t : State} {i : ℕ} {Told : Tree → Type 0} → Stands s → Stands t → KeepsRefusals s t → Gives (forest s) (forest t) i Told → free_of s ≡ free_of t + size (plain (root_tree i (forest t)))

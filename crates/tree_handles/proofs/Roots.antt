@@ -1,7 +1,6 @@
 -- Laws of roots that need no more than the tests.
-use Rattle.std.proofs.Common.{◌≡◌, ℕ, cond, eqb, refl, sym, ap, ◌∙◌, Bool, true, false}
-use Rattle.tree_handles.proofs.Shared.{eqb-true, Label, Forest, empty, tree, join, arity, kids, root_id, holds, has_root, root_tree, without_root, put}
-use Rattle.tree_handles.proofs.Outcomes.{by_test, or_true, eqb-sym}
+use Rattle.tree_handles.proofs.Shared.{arith, ◌≡◌, ℕ, cond, eqb, refl, sym, ap, ◌∙◌, Bool, true, false, eqb-true, Label, Forest, empty, tree, join, arity, kids, root_id, holds}
+use Rattle.tree_handles.proofs.{Shared.{has_root, root_tree, without_root, put}, Outcomes.{by_test, or_true, eqb-sym}}
 
 -- ---- a root is a node
 
@@ -104,28 +103,16 @@ put-right i n (tree l k r) g h =
 
 pub root-without : (i j : ℕ) (f : Forest) → eqb i j ≡ false → has_root j (without_root i f) ≡ has_root j f
 root-without i j empty d = refl
-root-without i j (tree l k r) d =
-    by_test (λ t. eqb l.id i ≡ t → has_root j (cond t r (tree l k (without_root i r))) ≡ cond (eqb l.id j) true (has_root j r)) (eqb l.id i)
-    (λ e q. sym (ap (λ (t : Bool). cond t true (has_root j r)) (ap (λ (x : ℕ). eqb x j) (eqb-true l.id i q) ∙ d)))
-    (λ e q. ap (cond (eqb l.id j) true) (root-without i j r d)) refl
+root-without i j (tree l k r) d = grind (arith, root-without i j r d)
 
 pub tree-without : (i j : ℕ) (f : Forest) → eqb i j ≡ false → root_tree j (without_root i f) ≡ root_tree j f
 tree-without i j empty d = refl
-tree-without i j (tree l k r) d =
-    by_test (λ t. eqb l.id i ≡ t → root_tree j (cond t r (tree l k (without_root i r))) ≡ cond (eqb l.id j) (tree l k empty) (root_tree j r)) (eqb l.id i)
-    (λ e q. sym (ap (λ (t : Bool). cond t (tree l k empty) (root_tree j r)) (ap (λ (x : ℕ). eqb x j) (eqb-true l.id i q) ∙ d)))
-    (λ e q. ap (cond (eqb l.id j) (tree l k empty)) (tree-without i j r d)) refl
+tree-without i j (tree l k r) d = grind (arith, tree-without i j r d)
 
 -- two roots go in either order
 pub without-swap : (i j : ℕ) (f : Forest) → eqb i j ≡ false → without_root i (without_root j f) ≡ without_root j (without_root i f)
 without-swap i j empty d = refl
-without-swap i j (tree l k r) d =
-    by_test (λ u. eqb l.id j ≡ u → without_root i (cond u r (tree l k (without_root j r))) ≡ without_root j (cond (eqb l.id i) r (tree l k (without_root i r)))) (eqb l.id j)
-    (λ e q.
-    let other : eqb l.id i ≡ false = ap (λ (x : ℕ). eqb x i) (eqb-true l.id j q) ∙ eqb-sym i j d in
-    sym (ap (λ (t : Bool). without_root j (cond t r (tree l k (without_root i r)))) other ∙ ap (λ (t : Bool). cond t (without_root i r) (tree l k (without_root j (without_root i r)))) q))
-    (λ e q. by_test (λ t. cond t (without_root j r) (tree l k (without_root i (without_root j r))) ≡ without_root j (cond t r (tree l k (without_root i r)))) (eqb l.id i)
-    (λ u. refl) (λ u. ap (λ (x : Forest). tree l k x) (without-swap i j r d) ∙ sym (ap (λ (t : Bool). cond t (without_root i r) (tree l k (without_root j (without_root i r)))) q))) refl
+without-swap i j (tree l k r) d = grind (arith, eqb-sym, without-swap i j r d)
 
 -- ---- other children
 
@@ -142,16 +129,11 @@ kids-put i n (tree l k r) h =
 -- the tree of another root
 pub tree-put : (i j : ℕ) (n f : Forest) → eqb i j ≡ false → root_tree j (put i n f) ≡ root_tree j f
 tree-put i j n empty d = refl
-tree-put i j n (tree l k r) d =
-    by_test (λ t. eqb l.id i ≡ t → root_tree j (cond t (tree l n r) (tree l k (put i n r))) ≡ cond (eqb l.id j) (tree l k empty) (root_tree j r)) (eqb l.id i)
-    (λ e q. let other : eqb l.id j ≡ false = ap (λ (x : ℕ). eqb x j) (eqb-true l.id i q) ∙ d in rw other refl)
-    (λ e q. ap (cond (eqb l.id j) (tree l k empty)) (tree-put i j n r d)) refl
+tree-put i j n (tree l k r) d = grind (arith, tree-put i j n r d)
 
 pub put-put : (i : ℕ) (a b f : Forest) → put i a (put i b f) ≡ put i a f
 put-put i a b empty = refl
-put-put i a b (tree l k r) =
-    by_test (λ t. eqb l.id i ≡ t → put i a (cond t (tree l b r) (tree l k (put i b r))) ≡ cond t (tree l a r) (tree l k (put i a r))) (eqb l.id i)
-    (λ e q. ap (λ (t : Bool). cond t (tree l a r) (tree l b (put i a r))) q) (λ e q. ap (λ (t : Bool). cond t (tree l a (put i b r)) (tree l k (put i a (put i b r)))) q ∙ ap (λ (x : Forest). tree l k x) (put-put i a b r)) refl
+put-put i a b (tree l k r) = grind (arith, put-put i a b r)
 
 pub put-same : (i : ℕ) (f : Forest) → put i (kids (root_tree i f)) f ≡ f
 put-same i empty = refl
@@ -160,10 +142,4 @@ put-same i (tree l k r) = by_test (λ t. cond t (tree l (kids (cond t (tree l k 
 -- a root goes beside one with other children
 pub without-put : (i j : ℕ) (n f : Forest) → eqb i j ≡ false → without_root j (put i n f) ≡ put i n (without_root j f)
 without-put i j n empty d = refl
-without-put i j n (tree l k r) d =
-    by_test (λ u. eqb l.id j ≡ u → without_root j (cond (eqb l.id i) (tree l n r) (tree l k (put i n r))) ≡ put i n (cond u r (tree l k (without_root j r)))) (eqb l.id j)
-    (λ e q.
-    let other : eqb l.id i ≡ false = ap (λ (x : ℕ). eqb x i) (eqb-true l.id j q) ∙ eqb-sym i j d in
-    ap (λ (t : Bool). without_root j (cond t (tree l n r) (tree l k (put i n r)))) other ∙ ap (λ (t : Bool). cond t (put i n r) (tree l k (without_root j (put i n r)))) q)
-    (λ e q. by_test (λ t. without_root j (cond t (tree l n r) (tree l k (put i n r))) ≡ cond t (tree l n (without_root j r)) (tree l k (put i n (without_root j r)))) (eqb l.id i)
-    (λ u. ap (λ (t : Bool). cond t r (tree l n (without_root j r))) q) (λ u. ap (λ (t : Bool). cond t (put i n r) (tree l k (without_root j (put i n r)))) q ∙ ap (λ (x : Forest). tree l k x) (without-put i j n r d))) refl
+without-put i j n (tree l k r) d = grind (arith, eqb-sym, without-put i j n r d)

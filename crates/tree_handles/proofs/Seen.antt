@@ -1,8 +1,6 @@
 -- What a reader sees of a root.
-use Rattle.std.proofs.Common.{arith, ◌≡◌, ℕ, sym, ap, ◌∙◌, subst, true, false}
-use Rattle.tree_handles.proofs.Shared.{Kind, Tree, root_kind, is_mult, is_add, State, tree_of, IsHanded, plain, IsExpression, holds, tree_at, has_root, Stands, forest}
-use Rattle.tree_handles.proofs.Lasts.{expression_root, plain_root}
-use Rattle.tree_handles.proofs.Roots.{root_held}
+use Rattle.tree_handles.proofs.Shared.{arith, ◌≡◌, ℕ, sym, ap, ◌∙◌, subst, true, false, Kind, Tree, root_kind, is_mult, is_add, State, tree_of, IsHanded, plain, IsExpression}
+use Rattle.tree_handles.proofs.{Shared.{holds, tree_at, has_root, Stands, forest}, Lasts.{expression_root, plain_root}, Roots.root_held}
 use Rattle.calc_terms.specs.declared.kind.Kind.TheVariants as kind
 
 -- ---- reading a root

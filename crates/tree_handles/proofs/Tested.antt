@@ -1,7 +1,7 @@
 -- Conditions that the tests try.
-use Rattle.std.proofs.Common.{◌≡◌, ℕ, ◌+◌, ◌-◌, ◌<◌, ◌≤◌, List, [], ◌∷◌, ◌++◌, cond, refl, sym, ap, ◌∙◌, arith, Bool, true, false}
-use Rattle.tree_handles.proofs.Shared.{eq-eqb, ne_eqb, Node, size_of, header_of, Header, has, used, first_of, since, until, between, IsBoundary, State, until-since, until-append, between_next, used-append, size_from, since-zero, append-nil, Forest, empty, tree, arity, node_of, flatten, has_root, Stands, forest, skip}
-use Rattle.tree_handles.proofs.Forests.{skip-flatten}
+use Rattle.tree_handles.proofs.Shared.{◌≡◌, ℕ, ◌+◌, ◌-◌, ◌<◌, ◌≤◌, List, [], ◌∷◌, ◌++◌, cond, refl, sym, ap, ◌∙◌, arith, Bool, true, false, eq-eqb}
+use Rattle.tree_handles.proofs.Shared.{ne_eqb, Node, size_of, header_of, Header, has, used, first_of, since, until, between, IsBoundary, State, until-since, until-append, between_next}
+use Rattle.tree_handles.proofs.{Shared.{used-append, size_from, since-zero, append-nil, Forest, empty, tree, arity, node_of, flatten, has_root, Stands, forest, skip}, Forests.skip-flatten}
 
 -- the roots that are still to be looked at
 pub record IsRootsLeft (i at : ℕ) (ns : List Node) (answer : Bool) : Type 0 where

@@ -1,6 +1,5 @@
 -- Steps over nodes.
-use Rattle.std.proofs.Common.{arith, ◌≡◌, ℕ, ◌≤◌, List, [], sym, ap, ◌∙◌}
-use Rattle.tree_handles.proofs.Shared.{Node, used, since, since_end, skip}
+use Rattle.tree_handles.proofs.Shared.{arith, ◌≡◌, ℕ, ◌≤◌, List, [], sym, ap, ◌∙◌, Node, used, since, since_end, skip}
 
 skip_nil : (k : ℕ) → skip k [] ≡ []
 skip_nil k = grind arith

@@ -1,8 +1,5 @@
-use Rattle.std.proofs.Common.{refl}
-use Rattle.tree_handles.proofs.Shared.{bare}
-use Rattle.tree_handles.proofs.Fronts.{behind_first, front_same, front_end, front_without}
-use Rattle.tree_handles.proofs.Given.{represents_none, represents_handed, represents_with, represents_node, gives}
-use Rattle.tree_handles.proofs.Lasts.{last_held, last_apart, other_root}
+use Rattle.tree_handles.proofs.{Shared.{refl, bare}, Fronts.{behind_first, front_same, front_end, front_without}}
+use Rattle.tree_handles.proofs.{Given.{represents_none, represents_handed, represents_with, represents_node, gives}, Lasts.{last_held, last_apart, other_root}}
 use Rattle.tree_handles.proofs.building.node_over.Goals as goal
 
 pub add_child-requires-clause-live : goal.add_child-requires-clause-live

@@ -1,8 +1,5 @@
-use Rattle.std.proofs.Common.{◌≡◌, ℕ, false, sym, ap, subst, ◌∙◌}
-use Rattle.tree_handles.proofs.Shared.{bare, State, has, holds, forest}
-use Rattle.tree_handles.proofs.Forests.{has-flatten, keeps, is_refused, not_within, stands_refused}
-use Rattle.tree_handles.proofs.Gathering.{gathered, IsOver, over}
-use Rattle.tree_handles.proofs.building.node_over_last.Goals.{After-of}
+use Rattle.tree_handles.proofs.Shared.{rules, ◌≡◌, ℕ, false, sym, ap, subst, ◌∙◌, bare, State, has, holds, forest}
+use Rattle.tree_handles.proofs.{Forests.{has-flatten, keeps, is_refused, not_within, stands_refused}, Gathering.{gathered, IsOver, over}, building.node_over_last.Goals.After-of}
 use Rattle.tree_handles.proofs.building.node_over_last.Goals as goal
 
 pub insert-requires-clause-boundary : goal.insert-requires-clause-boundary
@@ -17,14 +14,9 @@ all c =
     subst (λ (i : ℕ). IsOver i c.args.trees (bare c.args.kind) (forest c.args.pool.now) c.insert.new.self) (sym c.of.ensures)
     (over c.in-Ok.id c.args.trees (bare c.args.kind) (forest c.args.pool.now) c.insert.new.self (fresh c) c.requires.stands.counted c.insert.ensures.pool (ap (λ (s : State). s.nodes) c.in-Ok.ensures.ok ∙ g.done))
 
-pub returns-in-Ok-clause-ok : goal.returns-in-Ok-clause-ok
-returns-in-Ok-clause-ok c = (all c).ends
-
-pub returns-in-Ok-clause-stands : goal.returns-in-Ok-clause-stands
-returns-in-Ok-clause-stands c = (all c).stands
-
-pub returns-in-Ok-clause-kept : goal.returns-in-Ok-clause-kept
-returns-in-Ok-clause-kept c = keeps c.args.pool.now c.insert.new.self _ c.in-Ok.ensures.ok
+pub returns-in-Ok : goal.returns-in-Ok
+returns-in-Ok c =
+    record { ok = (all c).ends; kept = keeps c.args.pool.now c.insert.new.self _ c.in-Ok.ensures.ok; stands = (all c).stands; full = search rules; exactly = search rules }
 
 pub returns-in-Err-clause-full : goal.returns-in-Err-clause-full
 returns-in-Err-clause-full c = is_refused _ c.args.pool.now c.insert.new.self c.in-Err.full c.in-Err.ensures.full c.in-Err.ensures.counted (not_within c.in-Err.ensures.exactly)

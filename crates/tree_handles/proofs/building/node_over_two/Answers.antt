@@ -1,12 +1,7 @@
-use Rattle.std.proofs.Common.{ap, refl}
-use Rattle.tree_handles.proofs.Shared.{Ends, bare, forest, join, one_tree, root_tree, without_root}
-use Rattle.tree_handles.proofs.Fronts.{behind_first, behind_later, front_same, front_end, front_without}
+use Rattle.tree_handles.proofs.{Shared.{ap, refl, Ends, bare, forest, join, one_tree, root_tree, without_root}, Fronts.{behind_first, behind_later, front_same, front_end, front_without}}
 use Rattle.tree_handles.proofs.Given.{represents_none, represents_handed, represents_join, represents_with, represents_node, gives, gives_as, handed_beside}
-use Rattle.tree_handles.proofs.Lasts.{ends_as, last_held, last_apart, other_root}
-use Rattle.tree_handles.proofs.Outcomes.{eqb-sym}
-use Rattle.tree_handles.proofs.Roots.{tree-without, without-swap}
+use Rattle.tree_handles.proofs.{Lasts.{ends_as, last_held, last_apart, other_root}, Outcomes.eqb-sym, Roots.{tree-without, without-swap}, building.node_over_two.Goals.In_ok-over}
 use Rattle.tree_handles.proofs.building.node_over_two.Goals as goal
-use Rattle.tree_handles.proofs.building.node_over_two.Goals.{In_ok-over}
 
 pub add_child-requires-clause-live : goal.add_child-requires-clause-live
 add_child-requires-clause-live c = last_held c.in_ok-pair.ensures.ok

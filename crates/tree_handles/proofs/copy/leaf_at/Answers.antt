@@ -1,5 +1,4 @@
-use Rattle.std.proofs.Common.{◌∙◌, sym}
-use Rattle.tree_handles.proofs.Copies.{told_there}
+use Rattle.tree_handles.proofs.{Shared.{◌∙◌, sym}, Copies.told_there}
 use Rattle.tree_handles.proofs.copy.leaf_at.Goals as goal
 
 pub rational-requires-clause-live : goal.rational-requires-clause-live

@@ -1,8 +1,5 @@
-use Rattle.std.proofs.Common.{◌≡◌, ◌+◌, refl, ap, ◌∙◌, arith}
-use Rattle.tree_handles.proofs.Shared.{State, with_count, with_count_in, count_of, Stands, forest}
-use Rattle.tree_handles.proofs.Forests.{stands, keeps}
-use Rattle.tree_handles.proofs.Counted.{counted-with_count_in}
-use Rattle.tree_handles.proofs.Parts.{live_node, recounted}
+use Rattle.tree_handles.proofs.{Shared.{◌≡◌, ◌+◌, refl, ap, ◌∙◌, arith, State, with_count, with_count_in, count_of, Stands, forest}, Forests.{stands, keeps}}
+use Rattle.tree_handles.proofs.{Counted.counted-with_count_in, Parts.{live_node, recounted}}
 use Rattle.tree_handles.proofs.counts.raise.Goals as goal
 
 pub set_count-requires : goal.set_count-requires
@@ -16,11 +13,5 @@ all c =
     stands c.set_count.new.self (with_count_in c.args.id n (forest s)) (nodes ∙ recounted c.args.id n s c.requires.stands c.requires.live) c.set_count.ensures.pool
     (counted-with_count_in c.args.id n (forest s) (omega arith) c.requires.stands.counted)
 
-pub returns-clause-forest : goal.returns-clause-forest
-returns-clause-forest c = (all c).0
-
-pub returns-clause-kept : goal.returns-clause-kept
-returns-clause-kept c = keeps c.args.pool.now c.set_count.new.self _ c.set_count.ensures.nodes
-
-pub returns-clause-stands : goal.returns-clause-stands
-returns-clause-stands c = (all c).1
+pub returns : goal.returns
+returns c = record { forest = (all c).0; kept = keeps c.args.pool.now c.set_count.new.self _ c.set_count.ensures.nodes; stands = (all c).1 }

@@ -1,8 +1,5 @@
-use Rattle.std.proofs.Common.{◌≡◌, false, refl, sym, ap, ◌∙◌, arith}
-use Rattle.tree_handles.proofs.Shared.{payload_of, State, has, empty, join, one_tree, Ends, holds, Stands, forest, IsCounted}
-use Rattle.tree_handles.proofs.Forests.{placed, stands, has-flatten, all-join, keeps, is_refused, not_within, stands_refused}
-use Rattle.tree_handles.proofs.Fronts.{front_same, front_end, front_at}
-use Rattle.tree_handles.proofs.Roots.{no_root}
+use Rattle.tree_handles.proofs.Shared.{rules, ◌≡◌, false, refl, sym, ap, ◌∙◌, arith, payload_of, State, has, empty, join, one_tree, Ends, holds, Stands, forest, IsCounted}
+use Rattle.tree_handles.proofs.{Forests.{placed, stands, has-flatten, all-join, keeps, is_refused, not_within, stands_refused}, Fronts.{front_same, front_end, front_at}, Roots.no_root}
 use Rattle.tree_handles.proofs.handle.place.Goals as goal
 
 all : (c : goal.In-Ok) → (forest c.place.new.self ≡ join (forest c.args.pool.now) (one_tree c.in-Ok.id (payload_of c.args.leaf) empty)) × Stands c.place.new.self
@@ -19,23 +16,21 @@ fresh c = sym (ap (has c.in-Ok.id) c.requires.stands.flat ∙ has-flatten c.in-O
 ends : (c : goal.In-Ok) → Ends c.in-Ok.id (one_tree c.in-Ok.id (payload_of c.args.leaf) empty) (forest c.args.pool.now) (forest c.place.new.self)
 ends c = record { whole = (all c).0; alone = refl; root = refl; clear = no_root c.in-Ok.id (forest c.args.pool.now) (fresh c) }
 
-pub returns-in-Ok-clause-ok : goal.returns-in-Ok-clause-ok
-returns-in-Ok-clause-ok c = ends c
-
-pub returns-in-Ok-clause-front : goal.returns-in-Ok-clause-front
-returns-in-Ok-clause-front c = front_end (ends c) front_same
+pub returns-in-Ok : goal.returns-in-Ok
+returns-in-Ok c =
+    record {
+      ok = ends c;
+      fresh = fresh c;
+      front = front_end (ends c) front_same;
+      kept = keeps c.args.pool.now c.place.new.self _ c.in-Ok.ensures.ok;
+      stands = (all c).1;
+      least = search rules;
+      full = search rules;
+      exactly = search rules;
+    }
 
 pub returns-in-Err-clause-front : goal.returns-in-Err-clause-front
 returns-in-Err-clause-front c = front_at front_same (ap forest c.in-Err.ensures.counted)
-
-pub returns-in-Ok-clause-fresh : goal.returns-in-Ok-clause-fresh
-returns-in-Ok-clause-fresh c = fresh c
-
-pub returns-in-Ok-clause-kept : goal.returns-in-Ok-clause-kept
-returns-in-Ok-clause-kept c = keeps c.args.pool.now c.place.new.self _ c.in-Ok.ensures.ok
-
-pub returns-in-Ok-clause-stands : goal.returns-in-Ok-clause-stands
-returns-in-Ok-clause-stands c = (all c).1
 
 pub returns-in-Err-clause-full : goal.returns-in-Err-clause-full
 returns-in-Err-clause-full c = is_refused _ c.args.pool.now c.place.new.self c.in-Err.full c.in-Err.ensures.full c.in-Err.ensures.counted (not_within c.in-Err.ensures.exactly)

@@ -1,9 +1,5 @@
-use Rattle.std.proofs.Common.{rules, ◌≡◌, ◌∙◌, sym, ap, subst, arith, ◌≤◌, ℕ, true, false}
-use Rattle.tree_handles.specs.Holes.{IsHole, Place}
-use Rattle.tree_handles.proofs.Shared.{Forest, arity, forest, has_root, holds, kids, kids_of, put, root_tree, with_nth, without_root}
-use Rattle.tree_handles.proofs.Filling.{is_open, filled}
-use Rattle.tree_handles.proofs.Roots.{root_held}
-use Rattle.tree_handles.proofs.holes.fill.Goals.{After-of-parent}
+use Rattle.tree_handles.proofs.Shared.{rules, ◌≡◌, ◌∙◌, sym, ap, subst, ◌≤◌, ℕ, true, false, Place, arity, forest, has_root, holds, kids, kids_of, put, root_tree, with_nth}
+use Rattle.tree_handles.proofs.{Shared.without_root, Filling.{is_open, filled}, Roots.root_held, holes.fill.Goals.After-of-parent}
 use Rattle.tree_handles.proofs.holes.fill.Goals as goal
 
 -- the place that is held is the hole's

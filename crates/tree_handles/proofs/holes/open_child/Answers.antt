@@ -1,6 +1,4 @@
-use Rattle.std.proofs.Common.{ℕ, ap, arith}
-use Rattle.tree_handles.specs.Holes.{Place}
-use Rattle.tree_handles.proofs.Filling.{handed_arity, opened_hole, opened_child, opened_free, opened_front}
+use Rattle.tree_handles.proofs.{Shared.{ℕ, ap, arith, Place}, Filling.{handed_arity, opened_hole, opened_child, opened_free, opened_front}}
 use Rattle.tree_handles.proofs.holes.open_child.Goals as goal
 
 pub take_child-child-requires-clause-within : goal.take_child-child-requires-clause-within

@@ -1,6 +1,4 @@
-use Rattle.std.proofs.Common.{List, ap, arith}
-use Rattle.tree_handles.proofs.Shared.{Node, starts, since-zero, arity, forest_of}
-use Rattle.tree_handles.proofs.Counting.{one_fewer, none_left, few_trees}
+use Rattle.tree_handles.proofs.{Shared.{List, ap, arith, Node, starts, since-zero, arity, forest_of}, Counting.{one_fewer, none_left, few_trees}}
 use Rattle.tree_handles.proofs.measure.count_trees.Goals as goal
 
 pub loop-at-init : goal.loop-at-init

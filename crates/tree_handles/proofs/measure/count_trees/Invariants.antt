@@ -1,5 +1,4 @@
-use Rattle.std.proofs.Common.{◌≡◌, ◌+◌}
-use Rattle.tree_handles.proofs.Shared.{since, IsBoundary, arity, forest_of, forest}
+use Rattle.tree_handles.proofs.Shared.{◌≡◌, ◌+◌, since, IsBoundary, arity, forest_of, forest}
 use Rattle.tree_handles.proofs.measure.count_trees.Given as goal
 
 abbrev pub invariant-loop-at : goal.invariant-loop-at

@@ -1,8 +1,4 @@
-use Rattle.std.proofs.Common.{sym, ◌∙◌}
-use Rattle.tree_handles.proofs.Shared.{tree_at, forest}
-use Rattle.tree_handles.proofs.Copying.{tree_here}
-use Rattle.tree_handles.proofs.Parts.{live_node}
-use Rattle.tree_handles.proofs.Plains.{size-plain}
+use Rattle.tree_handles.proofs.{Shared.{sym, ◌∙◌, tree_at, forest}, Copying.tree_here, Parts.live_node, Plains.size-plain}
 use Rattle.tree_handles.proofs.measure.tree_bytes.Goals as goal
 
 pub locate-from-requires : goal.locate-from-requires

@@ -1,9 +1,5 @@
-use Rattle.std.proofs.Common.{◌≡◌, ◌-◌, ◌<◌, length, get_or, max, sym, ◌∙◌, arith, refl}
-use Rattle.tree_handles.proofs.Shared.{length-set, set, depth_in, tree_at, forest}
-use Rattle.tree_handles.proofs.Depths.{walked_start, walked_close, walked_some, walked_deeper, walked_done}
-use Rattle.tree_handles.proofs.Measures.{few_in, one_at}
-use Rattle.tree_handles.proofs.Plains.{depth-plain}
-use Rattle.tree_handles.proofs.Visiting.{some_next, next_is}
+use Rattle.tree_handles.proofs.Shared.{◌≡◌, ◌-◌, ◌<◌, length, get_or, max, sym, ◌∙◌, arith, refl, length-set, set, depth_in, tree_at, forest}
+use Rattle.tree_handles.proofs.{Depths.{walked_start, walked_close, walked_some, walked_deeper, walked_done}, Measures.{few_in, one_at}, Plains.depth-plain, Visiting.{some_next, next_is}}
 use Rattle.tree_handles.proofs.measure.tree_depth.Goals as goal
 
 pub loop-height-init : goal.loop-height-init

@@ -1,6 +1,4 @@
-use Rattle.std.proofs.Common.{◌≡◌, ◌+◌, ◌*◌, length}
-use Rattle.tree_handles.proofs.Shared.{nodes_in, depth_in, tree_at, forest}
-use Rattle.tree_handles.proofs.Depths.{IsWalked}
+use Rattle.tree_handles.proofs.{Shared.{◌≡◌, ◌+◌, ◌*◌, length, nodes_in, depth_in, tree_at, forest}, Depths.IsWalked}
 use Rattle.tree_handles.proofs.measure.tree_depth.Given as goal
 
 abbrev pub invariant-loop-height : goal.invariant-loop-height

@@ -1,7 +1,5 @@
-use Rattle.std.proofs.Common.{◌≡◌, refl, ℕ, ◌-◌, ◌+◌, ◌≤◌, ◌⊎◌, ap, ◌∙◌, arith, inl, inr}
-use Rattle.tree_handles.proofs.Shared.{State, place_of, with_children, moved, arity, with_nth, kids_of, with_kids, root_tree, without_root, forest, Stands, IsChildPlace}
-use Rattle.tree_handles.proofs.Adding.{added_place, counted_added, root_live}
-use Rattle.tree_handles.proofs.Releases.{few_nodes}
+use Rattle.tree_handles.proofs.Shared.{◌≡◌, refl, ℕ, ◌-◌, ◌+◌, ◌≤◌, ◌⊎◌, ap, ◌∙◌, arith, inl, inr, State, place_of, with_children, moved, arity, with_nth}
+use Rattle.tree_handles.proofs.{Shared.{kids_of, with_kids, root_tree, without_root, forest, Stands, IsChildPlace}, Adding.{added_place, counted_added, root_live}, Releases.few_nodes}
 use Rattle.tree_handles.proofs.Forests.{stands, keeps, keeps_after}
 use Rattle.tree_handles.proofs.moving.add_at.Goals as goal
 
@@ -40,11 +38,10 @@ all c n h =
     ap (λ (s : State). s.nodes) c.set_children.ensures.nodes ∙ rw (c.id-owner.ensures, told-is, moved-is) refl in
     stands c.set_children.new.self _ (nodes ∙ a.forest) c.set_children.ensures.pool (counted_added c.args.parent.now n c.args.child c.args.pool.now c.requires.stands)
 
-pub returns-clause-forest : goal.returns-clause-forest
-returns-clause-forest c = λ n h. (all c n h).0
-
-pub returns-clause-kept : goal.returns-clause-kept
-returns-clause-kept c = keeps_after c.args.pool.now c.move_block.new.self c.set_children.new.self (keeps c.args.pool.now c.move_block.new.self _ c.move_block.ensures.nodes) (keeps c.move_block.new.self c.set_children.new.self _ c.set_children.ensures.nodes)
-
-pub returns-clause-stands : goal.returns-clause-stands
-returns-clause-stands c = (all c c.requires.place.0 c.requires.place.1).1
+pub returns : goal.returns
+returns c =
+    record {
+      forest = λ n h. (all c n h).0;
+      kept = keeps_after c.args.pool.now c.move_block.new.self c.set_children.new.self (keeps c.args.pool.now c.move_block.new.self _ c.move_block.ensures.nodes) (keeps c.move_block.new.self c.set_children.new.self _ c.set_children.ensures.nodes);
+      stands = (all c c.requires.place.0 c.requires.place.1).1;
+    }

@@ -1,7 +1,4 @@
-use Rattle.tree_handles.proofs.Shared.{forest}
-use Rattle.tree_handles.proofs.AtRoots.{added_root}
-use Rattle.tree_handles.proofs.ChildPlaces.{placed, known_place}
-use Rattle.tree_handles.proofs.Distinct.{held_parent}
+use Rattle.tree_handles.proofs.{Shared.forest, AtRoots.added_root, ChildPlaces.{placed, known_place}, Distinct.held_parent}
 use Rattle.tree_handles.proofs.moving.add_before.Goals as goal
 
 pub locate-to-requires : goal.locate-to-requires

@@ -1,8 +1,5 @@
-use Rattle.std.proofs.Common.{◌≡◌}
-use Rattle.tree_handles.proofs.Shared.{with_nth, kids_of, with_kids, root_tree, without_root, forest, IsChildPlace}
-use Rattle.tree_handles.proofs.Parts.{live_node}
-use Rattle.tree_handles.proofs.AtRoots.{added_root, added_last, added_next, added_more}
-use Rattle.tree_handles.proofs.moving.add_child.Goals.{After-add_at-arg-1, After-add_at}
+use Rattle.tree_handles.proofs.{Shared.{rules, ◌≡◌, with_nth, kids_of, with_kids, root_tree, without_root, forest, IsChildPlace}, Parts.live_node}
+use Rattle.tree_handles.proofs.{AtRoots.{added_root, added_last, added_next, added_more}, moving.add_child.Goals.{After-add_at-arg-1, After-add_at}}
 use Rattle.tree_handles.proofs.moving.add_child.Goals as goal
 
 pub child_place-to-requires : goal.child_place-to-requires
@@ -17,20 +14,16 @@ add_at-requires-clause-place c = (c.args.at, here c)
 done : (c : After-add_at) → forest c.add_at.new.pool ≡ with_kids c.args.parent.now (with_nth c.args.at (root_tree c.args.child (forest c.args.pool.now)) (kids_of c.args.parent.now (forest c.args.pool.now))) (without_root c.args.child (forest c.args.pool.now))
 done c = c.add_at.ensures.forest c.args.at (record { within = c.requires.within; boundary = c.child_place-to.ensures.boundary; rest = rw (← c.id.ensures) c.child_place-to.ensures.rest })
 
-pub returns-clause-forest : goal.returns-clause-forest
-returns-clause-forest c = done c
-
-pub returns-clause-live : goal.returns-clause-live
-returns-clause-live c = (added_more c.args.parent.now c.args.at c.args.child (forest c.args.pool.now) (forest c.add_at.new.pool) c.requires.live c.requires.within c.requires.root c.requires.apart (done c)).live
-
-pub returns-clause-many : goal.returns-clause-many
-returns-clause-many c = (added_more c.args.parent.now c.args.at c.args.child (forest c.args.pool.now) (forest c.add_at.new.pool) c.requires.live c.requires.within c.requires.root c.requires.apart (done c)).many
-
-pub returns-clause-root : goal.returns-clause-root
-returns-clause-root c = added_root c.args.parent.now c.args.at c.args.child c.args.pool.now c.add_at.new.pool c.requires.stands c.requires.root c.requires.apart (done c)
-
-pub returns-clause-last : goal.returns-clause-last
-returns-clause-last c = added_last c.args.parent.now c.args.at c.args.child c.args.pool.now c.add_at.new.pool c.requires.stands c.requires.root c.requires.apart (done c)
-
-pub returns-clause-next : goal.returns-clause-next
-returns-clause-next c = added_next c.args.parent.now c.args.at c.args.child c.args.pool.now c.add_at.new.pool c.requires.stands c.requires.root c.requires.apart (done c)
+pub returns : goal.returns
+returns c =
+    let facts = added_more c.args.parent.now c.args.at c.args.child (forest c.args.pool.now) (forest c.add_at.new.pool) c.requires.live c.requires.within c.requires.root c.requires.apart (done c) in
+    record {
+      forest = done c;
+      live = facts.live;
+      many = facts.many;
+      root = added_root c.args.parent.now c.args.at c.args.child c.args.pool.now c.add_at.new.pool c.requires.stands c.requires.root c.requires.apart (done c);
+      last = added_last c.args.parent.now c.args.at c.args.child c.args.pool.now c.add_at.new.pool c.requires.stands c.requires.root c.requires.apart (done c);
+      next = added_next c.args.parent.now c.args.at c.args.child c.args.pool.now c.add_at.new.pool c.requires.stands c.requires.root c.requires.apart (done c);
+      kept = search rules;
+      stands = search rules;
+    }

@@ -1,9 +1,5 @@
-use Rattle.std.proofs.Common.{◌≡◌, ℕ, ◌+◌, ap, ◌∙◌}
-use Rattle.tree_handles.proofs.Shared.{with_children, State, arity, kids_of, adopted, forest, Stands}
-use Rattle.tree_handles.proofs.Adding.{root_live}
-use Rattle.tree_handles.proofs.Adopting.{are_adopted, counted_adopted}
-use Rattle.tree_handles.proofs.Forests.{stands}
-use Rattle.tree_handles.proofs.Roots.{root_held}
+use Rattle.tree_handles.proofs.{Shared.{rules, ◌≡◌, ℕ, ◌+◌, ap, ◌∙◌, with_children, State, arity, kids_of, adopted, forest, Stands}, Adding.root_live}
+use Rattle.tree_handles.proofs.{Adopting.{are_adopted, counted_adopted}, Forests.stands, Roots.root_held}
 use Rattle.tree_handles.proofs.moving.adopt.Goals as goal
 
 pub children-own-requires-clause-live : goal.children-own-requires-clause-live
@@ -26,8 +22,5 @@ all c =
     stands c.set_children.new.self (adopted c.args.parent.now c.args.trees (forest c.args.pool.now)) (nodes ∙ told.nodes) c.set_children.ensures.pool
     (counted_adopted c.args.parent.now c.args.trees c.args.pool.now c.requires.stands c.requires.root)
 
-pub returns-clause-forest : goal.returns-clause-forest
-returns-clause-forest c = (all c).0
-
-pub returns-clause-stands : goal.returns-clause-stands
-returns-clause-stands c = (all c).1
+pub returns : goal.returns
+returns c = record { forest = (all c).0; stands = (all c).1; kept = search rules }

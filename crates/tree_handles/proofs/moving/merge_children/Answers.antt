@@ -1,10 +1,5 @@
-use Rattle.std.proofs.Common.{◌≡◌, refl, ℕ, ◌+◌, ◌-◌, ap, ◌∙◌, arith}
-use Rattle.tree_handles.proofs.Shared.{Header, State, with_children, without, arity, kids, tree_nth, merged_nth, kids_of, with_kids, forest, Stands}
-use Rattle.tree_handles.proofs.Distinct.{held_parent}
-use Rattle.tree_handles.proofs.Forests.{stands}
-use Rattle.tree_handles.proofs.Parts.{live_node}
-use Rattle.tree_handles.proofs.Releases.{few_nodes}
-use Rattle.tree_handles.proofs.Swapping.{merges, counted_merged}
+use Rattle.tree_handles.proofs.Shared.{◌≡◌, refl, ℕ, ◌+◌, ◌-◌, ap, ◌∙◌, arith, Header, State, with_children, without, arity, kids, tree_nth, merged_nth, kids_of, with_kids}
+use Rattle.tree_handles.proofs.{Shared.{forest, Stands}, Distinct.held_parent, Forests.stands, Parts.live_node, Releases.few_nodes, Swapping.{merges, counted_merged}}
 use Rattle.tree_handles.proofs.AtRoots.{changed_root}
 use Rattle.tree_handles.proofs.moving.merge_children.Goals as goal
 

@@ -1,9 +1,5 @@
-use Rattle.std.proofs.Common.{◌≡◌, ℕ, ◌-◌, ap, ◌∙◌, arith, inr}
-use Rattle.tree_handles.proofs.Shared.{State, place_of, moved, join, root_tree, without_root, forest, Stands}
-use Rattle.tree_handles.proofs.Adding.{root_live}
-use Rattle.tree_handles.proofs.Forests.{stands}
-use Rattle.tree_handles.proofs.Swapping.{block, counted_last}
-use Rattle.tree_handles.proofs.AtRoots.{moved_last}
+use Rattle.tree_handles.proofs.{Shared.{rules, ◌≡◌, ℕ, ◌-◌, ap, ◌∙◌, arith, inr, State, place_of, moved, join, root_tree, without_root, forest, Stands}, Adding.root_live}
+use Rattle.tree_handles.proofs.{Forests.stands, Swapping.{block, counted_last}, AtRoots.moved_last}
 use Rattle.tree_handles.proofs.moving.move_last.Goals as goal
 
 pub locate-from-requires : goal.locate-from-requires
@@ -27,13 +23,12 @@ returns-clause-stands c = (all c).1
 pub returns-clause-last : goal.returns-clause-last
 returns-clause-last c = moved_last c.args.handle.now c.args.pool.now c.move_block.new.self c.requires.stands (all c).1 c.requires.root (all c).0
 
-pub returns-then-end-last-clause-forest : goal.returns-then-end-last-clause-forest
-returns-then-end-last-clause-forest c =
-    (block c.args.handle.now c.locate-from.result c.behind-end.result c.args.pool.now c.requires.stands c.requires.root (c.locate-from.ensures.value ∙ ap (λ (i : ℕ). place_of i c.args.pool.now.nodes) c.id.ensures) c.behind-end.ensures.boundary c.behind-end.ensures.rest).stays
-    (omega (arith, c.if-end-last.true, c.used-last.ensures.value))
-
-pub returns-then-end-last-clause-last : goal.returns-then-end-last-clause-last
-returns-then-end-last-clause-last c =
-    moved_last c.args.handle.now c.args.pool.now c.args.pool.now c.requires.stands c.requires.stands c.requires.root
-    ((block c.args.handle.now c.locate-from.result c.behind-end.result c.args.pool.now c.requires.stands c.requires.root (c.locate-from.ensures.value ∙ ap (λ (i : ℕ). place_of i c.args.pool.now.nodes) c.id.ensures) c.behind-end.ensures.boundary c.behind-end.ensures.rest).stays
-    (omega (arith, c.if-end-last.true, c.used-last.ensures.value)))
+pub returns-then-end-last : goal.returns-then-end-last
+returns-then-end-last c =
+    let facts = block c.args.handle.now c.locate-from.result c.behind-end.result c.args.pool.now c.requires.stands c.requires.root (c.locate-from.ensures.value ∙ ap (λ (i : ℕ). place_of i c.args.pool.now.nodes) c.id.ensures) c.behind-end.ensures.boundary c.behind-end.ensures.rest in
+    record {
+      forest = facts.stays (omega (arith, c.if-end-last.true, c.used-last.ensures.value));
+      last = moved_last c.args.handle.now c.args.pool.now c.args.pool.now c.requires.stands c.requires.stands c.requires.root (facts.stays (omega (arith, c.if-end-last.true, c.used-last.ensures.value)));
+      kept = search rules;
+      stands = search rules;
+    }

@@ -1,9 +1,5 @@
-use Rattle.std.proofs.Common.{◌≡◌, ℕ, ap, ◌∙◌}
-use Rattle.tree_handles.proofs.Shared.{place_of, exchanged, State, IsChildAt, Forest, join, set_nth, tree_nth, Ends, kids_of, with_kids, forest, Stands}
-use Rattle.tree_handles.proofs.Adding.{root_live}
-use Rattle.tree_handles.proofs.Exchanging.{known_live, exchange, counted_exchanged, exchanged_last}
-use Rattle.tree_handles.proofs.Forests.{stands}
-use Rattle.tree_handles.proofs.Lasts.{last_root}
+use Rattle.tree_handles.proofs.Shared.{◌≡◌, ℕ, ap, ◌∙◌, place_of, exchanged, State, IsChildAt, Forest, join, set_nth, tree_nth, Ends, kids_of, with_kids, forest, Stands}
+use Rattle.tree_handles.proofs.{Adding.root_live, Exchanging.{known_live, exchange, counted_exchanged, exchanged_last}, Forests.stands, Lasts.last_root}
 use Rattle.tree_handles.proofs.moving.replace_known_child.Goals as goal
 
 pub locate-first-requires : goal.locate-first-requires

@@ -1,9 +1,5 @@
-use Rattle.std.proofs.Common.{◌≡◌, ◌<◌, ℕ, ap, ◌∙◌}
-use Rattle.tree_handles.proofs.Shared.{exchanged, State, AreSiblings, swapped_nth, kids_of, with_kids, forest, Stands}
-use Rattle.tree_handles.proofs.ChildPlaces.{placed, swap}
-use Rattle.tree_handles.proofs.Forests.{stands}
-use Rattle.tree_handles.proofs.Swapping.{counted_swapped}
-use Rattle.tree_handles.proofs.moving.swap_apart.Goals.{After-swap_blocks}
+use Rattle.tree_handles.proofs.{Shared.{rules, ◌≡◌, ◌<◌, ℕ, ap, ◌∙◌, exchanged, State, AreSiblings, swapped_nth, kids_of, with_kids, forest, Stands}, ChildPlaces.{placed, swap}}
+use Rattle.tree_handles.proofs.{Forests.stands, Swapping.counted_swapped, moving.swap_apart.Goals.After-swap_blocks}
 use Rattle.tree_handles.proofs.moving.swap_apart.Goals as goal
 
 pub locate-start-requires : goal.locate-start-requires
@@ -25,8 +21,7 @@ done c parent i j lt h =
     let w = swap parent i c.args.first j c.args.second c.locate-start.result c.behind-mid.result c.locate-next.result c.behind-end.result s c.requires.stands lt h c.locate-start.ensures.value c.locate-next.ensures.value c.behind-mid.ensures.boundary c.behind-mid.ensures.rest c.behind-end.ensures.boundary c.behind-end.ensures.rest in
     stands c.swap_blocks.new.self (with_kids parent (swapped_nth i j (kids_of parent (forest s))) (forest s)) (nodes ∙ w.done) c.swap_blocks.ensures.pool (counted_swapped parent i j s c.requires.stands)
 
-pub returns-clause-forest : goal.returns-clause-forest
-returns-clause-forest c = λ parent i j lt h. (done c parent i j lt h).0
-
-pub returns-clause-stands : goal.returns-clause-stands
-returns-clause-stands c = let s = c.requires.siblings in (done c s.0 s.1 s.2 s.3 s.4).1
+pub returns : goal.returns
+returns c =
+    let s = c.requires.siblings in
+    record { forest = λ parent i j lt h. (done c parent i j lt h).0; stands = (done c s.0 s.1 s.2 s.3 s.4).1; kept = search rules }

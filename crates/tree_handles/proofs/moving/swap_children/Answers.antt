@@ -1,5 +1,4 @@
-use Rattle.std.proofs.Common.{◌≡◌, ◌<◌, ap, ◌∙◌, ℕ}
-use Rattle.tree_handles.proofs.Shared.{AreSiblings, Forest, arity, root_id, tree_nth, kids_of, forest}
+use Rattle.tree_handles.proofs.Shared.{◌≡◌, ◌<◌, ap, ◌∙◌, ℕ, AreSiblings, Forest, arity, root_id, tree_nth, kids_of, forest}
 use Rattle.tree_handles.proofs.moving.swap_children.Goals as goal
 
 pub child_id-first-requires-clause-within : goal.child_id-first-requires-clause-within

@@ -1,6 +1,4 @@
-use Rattle.std.proofs.Common.{ℕ, ap, ◌∙◌}
-use Rattle.tree_handles.proofs.Shared.{IsChildAt, root_id, tree_nth, kids_of, forest}
-use Rattle.tree_handles.proofs.moving.take_child.Goals.{After-take_known_child-arg-1}
+use Rattle.tree_handles.proofs.{Shared.{ℕ, ap, ◌∙◌, IsChildAt, root_id, tree_nth, kids_of, forest}, moving.take_child.Goals.After-take_known_child-arg-1}
 use Rattle.tree_handles.proofs.moving.take_child.Goals as goal
 
 pub child_id-child-requires-clause-within : goal.child_id-child-requires-clause-within

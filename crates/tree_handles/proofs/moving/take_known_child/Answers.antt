@@ -1,10 +1,6 @@
-use Rattle.std.proofs.Common.{◌≡◌, refl, ℕ, ◌-◌, ap, ◌∙◌, arith, inr}
-use Rattle.tree_handles.proofs.Shared.{State, used, with_children, moved, boundary_le, IsChildAt, arity, tree_nth, join, without_nth, kids_of, with_kids, forest, Stands}
-use Rattle.tree_handles.proofs.ChildPlaces.{placed, known_taken}
-use Rattle.tree_handles.proofs.Distinct.{held_parent}
-use Rattle.tree_handles.proofs.Forests.{stands, keeps, keeps_after}
-use Rattle.tree_handles.proofs.Parts.{counted_taken}
-use Rattle.tree_handles.proofs.AtRoots.{taken_root}
+use Rattle.tree_handles.proofs.Shared.{rules, ◌≡◌, refl, ℕ, ◌-◌, ap, ◌∙◌, arith, inr, State, used, with_children, moved, boundary_le, IsChildAt, arity, tree_nth, join}
+use Rattle.tree_handles.proofs.{Shared.{without_nth, kids_of, with_kids, forest, Stands}, ChildPlaces.{placed, known_taken}, Distinct.held_parent, Forests.{stands, keeps, keeps_after}}
+use Rattle.tree_handles.proofs.{Parts.counted_taken, AtRoots.taken_root}
 use Rattle.tree_handles.proofs.moving.take_known_child.Goals as goal
 
 pub children-children-requires-clause-live : goal.children-children-requires-clause-live
@@ -38,14 +34,12 @@ all c n h =
     ap (λ (s : State). s.nodes) c.set_children.ensures.nodes ∙ rw (c.id-owner.ensures, told-is, moved-is) refl in
     stands c.set_children.new.self _ (nodes ∙ t.forest) c.set_children.ensures.pool (counted_taken c.args.parent.now n c.args.pool.now c.requires.stands)
 
-pub returns-clause-forest : goal.returns-clause-forest
-returns-clause-forest c = λ n h. (all c n h).0
-
-pub returns-clause-kept : goal.returns-clause-kept
-returns-clause-kept c = keeps_after c.args.pool.now c.move_block.new.self c.set_children.new.self (keeps c.args.pool.now c.move_block.new.self _ c.move_block.ensures.nodes) (keeps c.move_block.new.self c.set_children.new.self _ c.set_children.ensures.nodes)
-
-pub returns-clause-stands : goal.returns-clause-stands
-returns-clause-stands c = (all c c.requires.known.0 c.requires.known.1).1
-
-pub returns-clause-last : goal.returns-clause-last
-returns-clause-last c = λ n h root. taken_root c.args.parent.now n c.of.result c.args.pool.now c.set_children.new.self c.requires.stands (all c c.requires.known.0 c.requires.known.1).1 h.within (all c n h).0 (c.of.ensures ∙ h.id-is) root
+pub returns : goal.returns
+returns c =
+    record {
+      forest = λ n h. (all c n h).0;
+      last = λ n h root. taken_root c.args.parent.now n c.of.result c.args.pool.now c.set_children.new.self c.requires.stands (all c c.requires.known.0 c.requires.known.1).1 h.within (all c n h).0 (c.of.ensures ∙ h.id-is) root;
+      kept = keeps_after c.args.pool.now c.move_block.new.self c.set_children.new.self (keeps c.args.pool.now c.move_block.new.self _ c.move_block.ensures.nodes) (keeps c.move_block.new.self c.set_children.new.self _ c.set_children.ensures.nodes);
+      stands = (all c c.requires.known.0 c.requires.known.1).1;
+      handle = search rules;
+    }

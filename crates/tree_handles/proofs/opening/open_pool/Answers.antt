@@ -1,6 +1,4 @@
-use Rattle.std.proofs.Common.{ap}
-use Rattle.node_pool.specs.State.{State}
-use Rattle.tree_handles.proofs.Opened.{stands_open}
+use Rattle.tree_handles.proofs.{Shared.{ap, State}, Opened.stands_open}
 use Rattle.tree_handles.proofs.opening.open_pool.Goals as goal
 
 pub returns-clause-stands : goal.returns-clause-stands

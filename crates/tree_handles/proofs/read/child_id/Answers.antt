@@ -1,8 +1,5 @@
-use Rattle.std.proofs.Common.{◌≡◌, ℕ, true, ap, sym, ◌∙◌, subst}
-use Rattle.tree_handles.proofs.Shared.{Header, plain, AllExpressions, root_id, tree_nth, holds, kids_of, tree_at, forest}
-use Rattle.tree_handles.proofs.Distinct.{held_parent, distinct, child_tree}
-use Rattle.tree_handles.proofs.Parts.{live_node, child_seen, root_nth}
-use Rattle.tree_handles.proofs.Readings.{expression_child, whole_child}
+use Rattle.tree_handles.proofs.Shared.{◌≡◌, ℕ, true, ap, sym, ◌∙◌, subst, Header, plain, AllExpressions, root_id, tree_nth, holds, kids_of, tree_at, forest}
+use Rattle.tree_handles.proofs.{Distinct.{held_parent, distinct, child_tree}, Parts.{live_node, child_seen, root_nth}, Readings.{expression_child, whole_child}}
 use Rattle.tree_handles.proofs.read.child_id.Goals as goal
 
 pub child_place-place-requires : goal.child_place-place-requires
@@ -23,17 +20,12 @@ child c =
     let x = child_tree c.args.at c.args.parent f (distinct c.args.pool.now c.requires.stands) c.requires.within in
     (ap (λ (i : ℕ). holds i f) (value c) ∙ x.live, ap (λ (i : ℕ). tree_at i f) (value c) ∙ x.tree-is)
 
-pub returns-clause-value : goal.returns-clause-value
-returns-clause-value c = value c
-
-pub returns-clause-live : goal.returns-clause-live
-returns-clause-live c = (child c).0
-
-pub returns-clause-tree : goal.returns-clause-tree
-returns-clause-tree c = (child c).1
-
-pub returns-clause-expression : goal.returns-clause-expression
-returns-clause-expression c = λ h. record { live = (child c).0; whole = subst AllExpressions (sym (child c).1) (whole_child c.args.at c.args.parent (forest c.args.pool.now) h.whole) }
-
-pub returns-clause-plain : goal.returns-clause-plain
-returns-clause-plain c = λ h. ap plain (child c).1 ∙ expression_child c.args.at c.args.parent (forest c.args.pool.now) h
+pub returns : goal.returns
+returns c =
+    record {
+      value = value c;
+      live = (child c).0;
+      tree = (child c).1;
+      expression = λ h. record { live = (child c).0; whole = subst AllExpressions (sym (child c).1) (whole_child c.args.at c.args.parent (forest c.args.pool.now) h.whole) };
+      plain = λ h. ap plain (child c).1 ∙ expression_child c.args.at c.args.parent (forest c.args.pool.now) h;
+    }

@@ -1,6 +1,4 @@
-use Rattle.std.proofs.Common.{sym, ◌∙◌}
-use Rattle.tree_handles.proofs.Shared.{forest}
-use Rattle.tree_handles.proofs.Readings.{expression_children}
+use Rattle.tree_handles.proofs.{Shared.{sym, ◌∙◌, forest}, Readings.expression_children}
 use Rattle.tree_handles.proofs.read.children.Goals as goal
 
 pub returns-clause-plain : goal.returns-clause-plain

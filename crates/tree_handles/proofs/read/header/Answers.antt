@@ -1,5 +1,4 @@
-use Rattle.tree_handles.proofs.Parts.{live_node}
-use Rattle.tree_handles.proofs.Readings.{told}
+use Rattle.tree_handles.proofs.{Parts.live_node, Readings.told}
 use Rattle.tree_handles.proofs.read.header.Goals as goal
 
 pub locate-requires : goal.locate-requires

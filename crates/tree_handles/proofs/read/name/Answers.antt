@@ -1,7 +1,4 @@
-use Rattle.std.proofs.Common.{◌≡◌, sym, ap, ◌∙◌}
-use Rattle.tree_handles.proofs.Shared.{name_of, kind_of_payload, named, tree_at, payload_in, forest}
-use Rattle.tree_handles.proofs.Parts.{live_node}
-use Rattle.tree_handles.proofs.Plains.{holds_symbol}
+use Rattle.tree_handles.proofs.{Shared.{◌≡◌, sym, ap, ◌∙◌, name_of, kind_of_payload, named, tree_at, payload_in, forest}, Parts.live_node, Plains.holds_symbol}
 use Rattle.tree_handles.proofs.Readings.{payload_seen, plain_symbol}
 use Rattle.tree_handles.proofs.read.name.Goals as goal
 

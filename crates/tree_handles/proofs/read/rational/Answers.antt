@@ -1,7 +1,4 @@
-use Rattle.std.proofs.Common.{◌≡◌, sym, ap, ◌∙◌}
-use Rattle.tree_handles.proofs.Shared.{kind_of_payload, rational, ratio_of, tree_at, payload_in, forest}
-use Rattle.tree_handles.proofs.Parts.{live_node}
-use Rattle.tree_handles.proofs.Plains.{holds_number}
+use Rattle.tree_handles.proofs.{Shared.{◌≡◌, sym, ap, ◌∙◌, kind_of_payload, rational, ratio_of, tree_at, payload_in, forest}, Parts.live_node, Plains.holds_number}
 use Rattle.tree_handles.proofs.Readings.{payload_seen, plain_number}
 use Rattle.tree_handles.proofs.read.rational.Goals as goal
 

@@ -1,10 +1,5 @@
-use Rattle.std.proofs.Common.{◌≡◌, ℕ, ap, ◌∙◌}
-use Rattle.tree_handles.proofs.Shared.{State, place_of, released_in, forest, Stands}
-use Rattle.tree_handles.proofs.Counted.{counted-released_in}
-use Rattle.tree_handles.proofs.Distinct.{distinct}
-use Rattle.tree_handles.proofs.Forests.{stands, keeps}
-use Rattle.tree_handles.proofs.Held.{ready, releasable_held, released-owned}
-use Rattle.tree_handles.proofs.Parts.{live_node}
+use Rattle.tree_handles.proofs.{Shared.{◌≡◌, ℕ, ap, ◌∙◌, State, place_of, released_in, forest, Stands}, Counted.counted-released_in, Distinct.distinct, Forests.{stands, keeps}}
+use Rattle.tree_handles.proofs.{Held.{ready, releasable_held, released-owned}, Parts.live_node}
 use Rattle.tree_handles.proofs.releasing.release.Goals as goal
 
 pub locate-at-requires : goal.locate-at-requires
@@ -18,14 +13,11 @@ all c =
     let is_ready = ready c.args.handle c.locate-at.result c.args.pool.now c.requires.stands c.requires.releasable (c.locate-at.ensures.value ∙ ap (λ (i : ℕ). place_of i c.args.pool.now.nodes) c.id.ensures) in
     stands c.release_at.new.pool (released_in c.args.handle (forest c.args.pool.now)) (ap (λ (s : State). s.nodes) c.release_at.ensures.nodes ∙ is_ready.done) c.release_at.ensures.pool (counted-released_in c.args.handle (forest c.args.pool.now) c.requires.stands.counted)
 
-pub returns-clause-forest : goal.returns-clause-forest
-returns-clause-forest c = (all c).0
-
-pub returns-clause-owned : goal.returns-clause-owned
-returns-clause-owned c = λ h. (all c).0 ∙ released-owned c.args.handle (forest c.args.pool.now) (distinct c.args.pool.now c.requires.stands) h
-
-pub returns-clause-kept : goal.returns-clause-kept
-returns-clause-kept c = keeps c.args.pool.now c.release_at.new.pool _ c.release_at.ensures.nodes
-
-pub returns-clause-stands : goal.returns-clause-stands
-returns-clause-stands c = (all c).1
+pub returns : goal.returns
+returns c =
+    record {
+      forest = (all c).0;
+      owned = λ h. (all c).0 ∙ released-owned c.args.handle (forest c.args.pool.now) (distinct c.args.pool.now c.requires.stands) h;
+      kept = keeps c.args.pool.now c.release_at.new.pool _ c.release_at.ensures.nodes;
+      stands = (all c).1;
+    }

@@ -1,5 +1,4 @@
-use Rattle.std.proofs.Common.{◌≡◌, ◌-◌, ◌<◌, ◌≤◌, ap, subst, ◌∙◌, arith, refl}
-use Rattle.tree_handles.proofs.Shared.{Header, State, first_of, with_count, since, IsNearer, released_at}
+use Rattle.tree_handles.proofs.Shared.{◌≡◌, ◌-◌, ◌<◌, ◌≤◌, ap, subst, ◌∙◌, arith, refl, Header, State, first_of, with_count, since, IsNearer, released_at}
 use Rattle.tree_handles.proofs.Releases.{few_nodes, gone_unheld, owed_few, owed_start, owed_boundary, owed_inside, owed_live, owed_now, nearer_end, held, held_boundary, kept_others}
 use Rattle.tree_handles.proofs.releasing.release_at.Goals as goal
 

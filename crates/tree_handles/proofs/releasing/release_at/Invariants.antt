@@ -1,5 +1,4 @@
-use Rattle.std.proofs.Common.{◌≡◌}
-use Rattle.tree_handles.proofs.Shared.{IsPool, IsOwed, owed_nodes, released_at}
+use Rattle.tree_handles.proofs.Shared.{◌≡◌, IsPool, IsOwed, owed_nodes, released_at}
 use Rattle.tree_handles.proofs.releasing.release_at.Given as goal
 
 abbrev pub invariant-loop-owed : goal.invariant-loop-owed

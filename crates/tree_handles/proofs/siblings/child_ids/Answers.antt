@@ -1,6 +1,4 @@
-use Rattle.tree_handles.proofs.Parts.{live_node}
-use Rattle.tree_handles.proofs.ChildPlaces.{AreListed, listed}
-use Rattle.tree_handles.proofs.siblings.child_ids.Goals.{After-children}
+use Rattle.tree_handles.proofs.{Parts.live_node, ChildPlaces.{AreListed, listed}, siblings.child_ids.Goals.After-children}
 use Rattle.tree_handles.proofs.siblings.child_ids.Goals as goal
 
 pub child_place-requires : goal.child_place-requires

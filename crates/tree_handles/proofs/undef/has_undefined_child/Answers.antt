@@ -1,7 +1,5 @@
-use Rattle.std.proofs.Common.{ℕ, suc, ◌≡◌, [], ◌∷◌, ◌++◌, length, ap, ◌∙◌, sym, arith}
-use Rattle.tree_handles.proofs.Shared.{length-append, is_undef, has_undef, root_ids, children_of, plain, rest_trees, tree_at, kids_of, forest}
-use Rattle.tree_handles.proofs.UndefChildren.{behind, undef_here, undef_later, undef_end}
-use Rattle.tree_handles.proofs.NextChildren.{next_child, last_child}
+use Rattle.tree_handles.proofs.Shared.{ℕ, suc, ◌≡◌, [], ◌∷◌, ◌++◌, length, ap, ◌∙◌, sym, arith, length-append, is_undef, has_undef, root_ids, children_of, plain}
+use Rattle.tree_handles.proofs.{Shared.{rest_trees, tree_at, kids_of, forest}, UndefChildren.{behind, undef_here, undef_later, undef_end}, NextChildren.{next_child, last_child}}
 use Rattle.tree_handles.proofs.undef.has_undefined_child.Goals as goal
 
 pub is_undefined-requires-clause-expression : goal.is_undefined-requires-clause-expression

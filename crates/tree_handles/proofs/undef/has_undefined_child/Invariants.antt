@@ -1,6 +1,4 @@
-use Rattle.std.proofs.Common.{◌≡◌, length}
-use Rattle.tree_handles.proofs.Shared.{has_undef, root_ids, children_of, plain, rest_trees, tree_at, kids_of, forest}
-use Rattle.tree_handles.proofs.UndefChildren.{behind}
+use Rattle.tree_handles.proofs.{Shared.{◌≡◌, length, has_undef, root_ids, children_of, plain, rest_trees, tree_at, kids_of, forest}, UndefChildren.behind}
 use Rattle.tree_handles.proofs.undef.has_undefined_child.Given as goal
 
 abbrev pub invariant-loop-child : goal.invariant-loop-child

@@ -1,7 +1,4 @@
-use Rattle.std.proofs.Common.{arith, ◌≤◌}
-use Rattle.tree_handles.proofs.Shared.{free_of, tree_of}
-use Rattle.tree_handles.proofs.Fronts.{behind_first, front_same, front_at, front_without, front_after}
-use Rattle.tree_handles.proofs.Given.{owned}
+use Rattle.tree_handles.proofs.{Shared.{arith, ◌≤◌, free_of, tree_of}, Fronts.{behind_first, front_same, front_at, front_without, front_after}, Given.owned}
 use Rattle.tree_handles.proofs.Room.{released_free, least_size}
 use Rattle.tree_handles.proofs.undef.undefined.Goals as goal
 

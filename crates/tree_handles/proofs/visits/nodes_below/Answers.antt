@@ -1,7 +1,4 @@
-use Rattle.std.proofs.Common.{◌-◌, ◌∙◌, ℕ, ap, subst, sym}
-use Rattle.tree_handles.proofs.Shared.{rest_trees, kids_of, forest}
-use Rattle.tree_handles.proofs.Parts.{live_node}
-use Rattle.tree_handles.proofs.Visiting.{IsWalk, walk_below}
+use Rattle.tree_handles.proofs.{Shared.{◌-◌, ◌∙◌, ℕ, ap, subst, sym, rest_trees, kids_of, forest}, Parts.live_node, Visiting.{IsWalk, walk_below}}
 use Rattle.tree_handles.proofs.visits.nodes_below.Goals.{After-from}
 use Rattle.tree_handles.proofs.visits.nodes_below.Goals as goal
 

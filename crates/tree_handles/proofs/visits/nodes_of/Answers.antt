@@ -1,5 +1,4 @@
-use Rattle.tree_handles.proofs.Parts.{live_node}
-use Rattle.tree_handles.proofs.Visiting.{walk_of}
+use Rattle.tree_handles.proofs.{Parts.live_node, Visiting.walk_of}
 use Rattle.tree_handles.proofs.visits.nodes_of.Goals as goal
 
 pub locate-requires : goal.locate-requires

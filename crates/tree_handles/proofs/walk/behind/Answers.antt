@@ -1,6 +1,4 @@
-use Rattle.std.proofs.Common.{◌∙◌, ap, sym, arith}
-use Rattle.tree_handles.proofs.Shared.{boundary_le, since, skip}
-use Rattle.tree_handles.proofs.Walks.{owed_end}
+use Rattle.tree_handles.proofs.{Shared.{◌∙◌, ap, sym, arith, boundary_le, since, skip}, Walks.owed_end}
 use Rattle.tree_handles.proofs.walk.behind.Goals as goal
 
 pub loop-owed-init : goal.loop-owed-init

@@ -1,5 +1,4 @@
-use Rattle.std.proofs.Common.{◌≡◌, ◌-◌, ◌+◌, ◌*◌, ◌≤◌}
-use Rattle.tree_handles.proofs.Shared.{used, since, IsBoundary, skip}
+use Rattle.tree_handles.proofs.Shared.{◌≡◌, ◌-◌, ◌+◌, ◌*◌, ◌≤◌, used, since, IsBoundary, skip}
 use Rattle.tree_handles.proofs.walk.behind.Given as goal
 
 abbrev pub invariant-loop-owed : goal.invariant-loop-owed

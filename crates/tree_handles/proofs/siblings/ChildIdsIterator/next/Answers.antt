@@ -1,6 +1,4 @@
-use Rattle.std.proofs.Common.{◌≡◌, ◌∷◌, ◌-◌, ℕ, sym, ap, ◌∙◌, arith, length}
-use Rattle.tree_handles.proofs.Shared.{Header, since, root_ids, forest_of, first_trees}
-use Rattle.tree_handles.proofs.ChildPlaces.{next, next_or_none}
+use Rattle.tree_handles.proofs.{Shared.{◌≡◌, ◌∷◌, ◌-◌, ℕ, sym, ap, ◌∙◌, arith, length, Header, since, root_ids, forest_of, first_trees}, ChildPlaces.{next, next_or_none}}
 use Rattle.tree_handles.proofs.siblings.ChildIdsIterator.next.Goals.{After-of}
 use Rattle.tree_handles.proofs.siblings.ChildIdsIterator.next.Goals as goal
 

@@ -1,6 +1,4 @@
-use Rattle.std.proofs.Common.{◌∙◌, sym, arith}
-use Rattle.tree_handles.proofs.Shared.{starts, has_root, forest}
-use Rattle.tree_handles.proofs.Tested.{roots_start, roots_more, roots_found, roots_end}
+use Rattle.tree_handles.proofs.{Shared.{◌∙◌, sym, arith, starts, has_root, forest}, Tested.{roots_start, roots_more, roots_found, roots_end}}
 use Rattle.tree_handles.proofs.tests.conditions.has_root.Goals as goal
 
 pub loop-at-init : goal.loop-at-init

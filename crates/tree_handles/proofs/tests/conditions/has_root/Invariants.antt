@@ -1,6 +1,4 @@
-use Rattle.std.proofs.Common.{◌-◌}
-use Rattle.tree_handles.proofs.Shared.{used, IsBoundary, has_root, forest}
-use Rattle.tree_handles.proofs.Tested.{IsRootsLeft}
+use Rattle.tree_handles.proofs.{Shared.{◌-◌, used, IsBoundary, has_root, forest}, Tested.IsRootsLeft}
 use Rattle.tree_handles.proofs.tests.conditions.has_root.Given as goal
 
 abbrev pub invariant-loop-at : goal.invariant-loop-at

@@ -1,6 +1,4 @@
-use Rattle.std.proofs.Common.{◌∙◌, ap, sym, arith}
-use Rattle.tree_handles.proofs.Shared.{has, between_none, boundary_le}
-use Rattle.tree_handles.proofs.Tested.{among_here, among_behind, one_more}
+use Rattle.tree_handles.proofs.{Shared.{◌∙◌, ap, sym, arith, has, between_none, boundary_le}, Tested.{among_here, among_behind, one_more}}
 use Rattle.tree_handles.proofs.tests.conditions.is_among.Goals as goal
 
 pub step-next-requires-clause-inside : goal.step-next-requires-clause-inside

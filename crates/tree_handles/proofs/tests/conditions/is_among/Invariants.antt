@@ -1,5 +1,4 @@
-use Rattle.std.proofs.Common.{◌≡◌, ◌-◌, ◌≤◌}
-use Rattle.tree_handles.proofs.Shared.{has, between, IsBoundary}
+use Rattle.tree_handles.proofs.Shared.{◌≡◌, ◌-◌, ◌≤◌, has, between, IsBoundary}
 use Rattle.tree_handles.proofs.tests.conditions.is_among.Given as goal
 
 abbrev pub invariant-loop-at : goal.invariant-loop-at

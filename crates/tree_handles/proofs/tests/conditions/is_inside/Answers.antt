@@ -1,10 +1,4 @@
-use Rattle.std.proofs.Common.{◌∙◌, ap}
-use Rattle.tree_handles.proofs.Shared.{has, holds, forest}
-use Rattle.tree_handles.proofs.Adding.{root_live}
-use Rattle.tree_handles.proofs.Copying.{tree_here}
-use Rattle.tree_handles.proofs.Forests.{has-flatten}
-use Rattle.tree_handles.proofs.Lasts.{tree_of_root}
-use Rattle.tree_handles.proofs.Roots.{root_held}
+use Rattle.tree_handles.proofs.{Shared.{◌∙◌, ap, has, holds, forest}, Adding.root_live, Copying.tree_here, Forests.has-flatten, Lasts.tree_of_root, Roots.root_held}
 use Rattle.tree_handles.proofs.tests.conditions.is_inside.Goals as goal
 
 pub locate-from-requires : goal.locate-from-requires

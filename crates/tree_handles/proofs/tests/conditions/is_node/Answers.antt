@@ -1,7 +1,4 @@
-use Rattle.std.proofs.Common.{◌∙◌, ap}
-use Rattle.tree_handles.proofs.Shared.{has, starts, forest}
-use Rattle.tree_handles.proofs.Forests.{has-flatten}
-use Rattle.tree_handles.proofs.Tested.{between_all}
+use Rattle.tree_handles.proofs.{Shared.{◌∙◌, ap, has, starts, forest}, Forests.has-flatten, Tested.between_all}
 use Rattle.tree_handles.proofs.tests.conditions.is_node.Goals as goal
 
 pub is_among-requires-clause-from : goal.is_among-requires-clause-from

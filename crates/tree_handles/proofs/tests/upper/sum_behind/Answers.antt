@@ -1,5 +1,4 @@
-use Rattle.tree_handles.proofs.Adopting.{two_behind}
-use Rattle.tree_handles.proofs.Lasts.{last_root, other_root}
+use Rattle.tree_handles.proofs.{Adopting.two_behind, Lasts.{last_root, other_root}}
 use Rattle.tree_handles.proofs.tests.upper.sum_behind.Goals as goal
 
 pub adopt-requires-clause-root : goal.adopt-requires-clause-root

@@ -1,7 +1,5 @@
-use Rattle.std.proofs.Common.{◌≡◌, ◌∷◌, ◌+◌, ◌-◌, length, sym, ap, ◌∙◌, arith}
-use Rattle.tree_handles.proofs.Shared.{Header, since, Visit, forest_of, first_trees, visits_of}
-use Rattle.tree_handles.proofs.Visiting.{IsStep, walk_inside, walk_few, walk_step, visit_by, visit_told}
-use Rattle.tree_handles.proofs.visits.NodesIterator.next.Goals.{After-from, After-of}
+use Rattle.tree_handles.proofs.Shared.{◌≡◌, ◌∷◌, ◌+◌, ◌-◌, length, sym, ap, ◌∙◌, arith, Header, since, Visit, forest_of, first_trees, visits_of}
+use Rattle.tree_handles.proofs.{Visiting.{IsStep, walk_inside, walk_few, walk_step, visit_by, visit_told}, visits.NodesIterator.next.Goals.{After-from, After-of}}
 use Rattle.tree_handles.proofs.visits.NodesIterator.next.Goals as goal
 
 pub step-next-requires-clause-inside : goal.step-next-requires-clause-inside
