@@ -1,11 +1,10 @@
 -- Nodes that are written one behind another, and become one tree.
-use Rattle.std.proofs.Common.{inl, inr, ◌≡◌, ◌∙◌, ℕ, zero, suc, ◌≤◌, List, [], ◌∷◌, ◌++◌, length, Option, None, Some, refl, sym, ap, subst, arith, true, false, Bool, cond, eqb}
+use Rattle.beautify.proofs.Shared.{inl, inr, ◌≡◌, ◌∙◌, ℕ, zero, suc, ◌≤◌, List, [], ◌∷◌, ◌++◌, length, Option, None, Some, refl, sym, ap, subst, arith, true, false}
+use Rattle.beautify.proofs.Shared.{Bool, cond, eqb, length-append, eq-eqb, Payload, Tree, Trees, none, more, count, grown, takes, plains, State, Forest, Label, empty, tree, join, arity}
+use Rattle.beautify.proofs.Shared.{first_trees, rest_trees, one_tree, root_id, Ends, Gives, Represents, has_root, join_assoc, all-first_trees, all-rest_trees, gives, forest, IsDraft, Written}
+use Rattle.beautify.proofs.Shared.{Noted, AreNew, AreFound, alone_in, notes_of, spelled, with_written, first, behind, by_test, IsWhole, IsOnce, join-empty, count-plains}
 use Rattle.std.specs.Prelude.{IfSome, ◌⊎◌}
-use Rattle.beautify.proofs.Shared.{length-append, eq-eqb, Payload, Tree, Trees, none, more, count, grown, takes, plains, State, Forest, Label, empty, tree, join, arity, first_trees, rest_trees, one_tree, root_id, Ends, Gives, Represents, has_root, join_assoc, all-first_trees, all-rest_trees, gives, forest, IsDraft, Written, Noted, AreNew, AreFound, alone_in, notes_of, spelled, with_written, first, behind, by_test, IsWhole, IsOnce}
-use Rattle.tree_handles.proofs.Adopting.{behind_there}
-use Rattle.tree_handles.proofs.Forests.{arity-first_trees, join-empty}
-use Rattle.tree_handles.proofs.Plains.{count-plains}
-use Rattle.tree_handles.proofs.Roots.{root-left, root-right}
+use Rattle.tree_handles.proofs.{Adopting.behind_there, Forests.arity-first_trees, Roots.{root-left, root-right}}
 use Rattle.tree_handles.specs.Roots.{adopted, behind_root}
 
 -- one more node

@@ -1,6 +1,5 @@
 -- Rewritings that keep meanings, and what a Number means.
-use Rattle.std.proofs.Common.{◌++◌, ap, ◌∙◌, append_assoc}
-use Rattle.beautify.proofs.Shared.{Assignment, MeansSum, Surd, Tree, Trees, none, more, append}
+use Rattle.beautify.proofs.Shared.{◌++◌, ap, ◌∙◌, append_assoc, Assignment, MeansSum, Surd, Tree, Trees, none, more, append}
 
 abbrev two : Tree → Tree → Trees
 two a b = more a (more b none)

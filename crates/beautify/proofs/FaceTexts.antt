@@ -1,12 +1,12 @@
 -- The text of a reduced tree's face reads as that face.
-use Rattle.std.proofs.Common.{◌≡◌, ℕ, zero, suc, nat_abs, inl, inr, Bool, true, false, refl, sym, ap, ◌∙◌, arith}
-use Rattle.std.specs.Prelude.{⊤}
-use Rattle.beautify.proofs.Shared.{Tree, num, symbol, undef, add, mult, power, root, neg, sub, div, Trees, none, more, append, AllParts, AllPartsOf, is_mult, is_undef, whole_num, HasTwo, IsComplete, AreComplete, SoFar, single, summed, multiplied, as_tree, face, has_minus, with_minus, unsigned_face, unless_one, product_of, fraction_of, power_below, exponent_below, factor_above, factor_below, factors_above, factors_below, face_of_sum, next_term, next_terms, IsTerm, is_reduced, NoneIs, HasForm, IsReduced, reduced_words, AllParts-zip}
-use Rattle.calc_terms.specs.Name.{is_name}
-use Rattle.calc_language.specs.Texts.{text, IsWritable, AreWritable, IsNamed, HasNames}
-use Rattle.calc_language.specs.Reads.{Reads}
-use Rattle.calc_language.proofs.ReadLaws.{text_reads}
+use Rattle.beautify.proofs.Shared.{◌≡◌, ℕ, zero, suc, nat_abs, inl, inr, Bool, true, false, refl, sym, ap, ◌∙◌, arith, ⊤, Tree, num, symbol, undef, add, mult, power, root, neg}
+use Rattle.beautify.proofs.Shared.{sub, div, Trees, none, more, append, AllParts, AllPartsOf, is_mult, is_undef, whole_num, HasTwo, IsComplete, AreComplete, SoFar, single, summed, multiplied}
+use Rattle.beautify.proofs.Shared.{as_tree, face, has_minus, with_minus, unsigned_face, unless_one, product_of, fraction_of, power_below, exponent_below, factor_above, factor_below}
+use Rattle.beautify.proofs.Shared.{factors_above, factors_below, face_of_sum, next_term, next_terms, IsTerm, is_reduced, NoneIs, HasForm, IsReduced, reduced_words, AllParts-zip}
 use Rattle.beautify.proofs.Trees.{unless_one_by, power_below_by}
+use Rattle.calc_terms.specs.Name.{is_name}
+use Rattle.calc_language.specs.{Texts.{text, IsWritable, AreWritable, IsNamed, HasNames}, Reads.Reads}
+use Rattle.calc_language.proofs.ReadLaws.{text_reads}
 
 -- what the face of a tree asks of each of its nodes
 abbrev IsFaceable : Tree → Type 0

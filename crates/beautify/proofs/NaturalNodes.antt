@@ -1,6 +1,9 @@
 -- The rationals of a tree, node by node.
-use Rattle.std.proofs.Common.{◌≡◌, ℕ, List, [], ◌∷◌, ◌++◌, ℤ, Bool, true, false, not, ◌&&◌, ◌==◌, refl, sym, ap, ◌∙◌, arith}
-use Rattle.beautify.proofs.Shared.{is_natural, has_natural_numbers, holds_natural, all_parts, all_parts_of, Node, int_is_negative, Payload, kind_of_payload, Trees, count, Kind, Visit, flatten-join, seen, found-join, visit_here, visits_left, no_visit, one_at, by_test, alone, count-plains, nth, grown, compound, plains, plain, takes, takes_kind, AllExpressions, IsExpression, Forest, empty, tree, join, flatten, root_payload, holds, payload_in, tree_at, eqb-true, eq-eqb}
+use Rattle.beautify.proofs.Shared.{◌≡◌, ℕ, List, [], ◌∷◌, ◌++◌, ℤ, Bool, true, false, not, ◌==◌, refl, sym, ap, ◌∙◌, arith, is_natural, has_natural_numbers}
+use Rattle.beautify.proofs.Shared.{holds_natural, all_parts, all_parts_of, Node, int_is_negative, Payload, kind_of_payload, Trees, count, Kind, Visit, flatten-join, seen, found-join, visit_here}
+use Rattle.beautify.proofs.Shared.{visits_left, no_visit, one_at, by_test, alone, count-plains, nth, grown, compound, plains, plain, takes, takes_kind, AllExpressions, IsExpression, Forest}
+use Rattle.beautify.proofs.Shared.{empty, tree, join, flatten, root_payload, holds, payload_in, tree_at, eqb-true, eq-eqb}
+use Rattle.std.proofs.Common.{◌&&◌}
 use Rattle.tree_handles.specs.Visits.{visits_of, visit_at, AreFound}
 use Rattle.calc_terms.specs.declared.kind.Kind.TheVariants as kind
 

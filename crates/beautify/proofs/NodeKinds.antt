@@ -1,6 +1,5 @@
 -- What a node is, by the kind of its root.
-use Rattle.std.proofs.Common.{◌≡◌, arith}
-use Rattle.beautify.proofs.Shared.{Tree, power, root, add, mult, more, none, root_kind, nth, children_of, IsShowable}
+use Rattle.beautify.proofs.Shared.{◌≡◌, arith, Tree, power, root, add, mult, more, none, root_kind, nth, children_of, IsShowable}
 use Rattle.calc_terms.specs.declared.kind.Kind.TheVariants as kind
 
 -- the parts of a power and of a root

@@ -1,6 +1,7 @@
 -- Lists of what is still to be written.
-use Rattle.std.proofs.Common.{◌≡◌, ◌∙◌, ℕ, ◌+◌, ◌*◌, ◌≤◌, List, [], ◌∷◌, ◌++◌, length, refl, sym, ap, subst, arith}
-use Rattle.beautify.proofs.Shared.{Tree, Trees, none, AllParts, plain, IsExpression, Forest, join, tree_at, IsShowable, Form, Pending, Face, Unsigned, Divisor, Part, Over, One, Name, Numerator, Denominator, Owes, AreReady, IsReady, IsReadyPart, TakesForm, with_next, owed_before, next_room, form_room, rooms, least_size}
+use Rattle.beautify.proofs.Shared.{◌≡◌, ◌∙◌, ℕ, ◌+◌, ◌*◌, ◌≤◌, List, [], ◌∷◌, ◌++◌, length, refl, sym, ap, subst, arith, Tree, Trees, none, AllParts, plain}
+use Rattle.beautify.proofs.Shared.{IsExpression, Forest, join, tree_at, IsShowable, Form, Pending, Face, Unsigned, Divisor, Part, Over, One, Name, Numerator, Denominator, Owes, AreReady}
+use Rattle.beautify.proofs.Shared.{IsReady, IsReadyPart, TakesForm, with_next, owed_before, next_room, form_room, rooms, least_size}
 use Rattle.tree_handles.proofs.Joins.{holds-left, tree_at-join_left}
 
 owed-append : (ps qs : List Pending) (f : Forest) (us : Trees) → owed_before (ps ++ qs) f us ≡ owed_before qs f (owed_before ps f us)

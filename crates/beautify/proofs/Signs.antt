@@ -1,8 +1,6 @@
 -- Signs and exponents of trees.
-use Rattle.std.proofs.Common.{◌≡◌, ℕ, arith, true, false}
+use Rattle.beautify.proofs.Shared.{◌≡◌, ℕ, arith, true, false, below_zero, int_is_negative, lt_z}
 use Rattle.std.specs.Prelude.{ℤ, pos, nat_abs}
-use Rattle.beautify.proofs.Shared.{below_zero, int_is_negative}
-use lib.Signed.{lt_z}
 
 pub lt_z-zero : (p : ℤ) → lt_z p (pos 0) ≡ int_is_negative p
 lt_z-zero p = grind arith

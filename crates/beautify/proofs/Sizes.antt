@@ -1,6 +1,5 @@
 -- Bytes of trees.
-use Rattle.std.proofs.Common.{◌≡◌, ◌+◌, ◌*◌, ◌≤◌, arith}
-use Rattle.beautify.proofs.Shared.{Tree, Trees, none, more, append, count, size, sizes, least_size}
+use Rattle.beautify.proofs.Shared.{◌≡◌, ◌+◌, ◌*◌, ◌≤◌, arith, Tree, Trees, none, more, append, count, size, sizes, least_size}
 
 pub sizes-append : (xs ys : Trees) → sizes (append xs ys) ≡ sizes xs + sizes ys
 sizes-append none ys = omega arith

@@ -1,6 +1,6 @@
 -- Lists of trees and their places.
-use Rattle.std.proofs.Common.{◌≡◌, ℕ, zero, suc, ◌+◌, ◌-◌, ◌<◌, ◌≤◌, refl, ap, ◌∙◌, arith, ◌==◌, if◌then◌else◌}
-use Rattle.beautify.proofs.Shared.{Tree, Trees, none, more, append, count, nth, first, behind, whole_num, power, unless_one, power_below, by_test, eqb-true}
+use Rattle.beautify.proofs.Shared.{◌≡◌, ℕ, zero, suc, ◌+◌, ◌-◌, ◌<◌, ◌≤◌, refl, ap, ◌∙◌, arith, ◌==◌, if◌then◌else◌, Tree, Trees, none, more, append}
+use Rattle.beautify.proofs.Shared.{count, nth, first, behind, whole_num, power, unless_one, power_below, by_test, eqb-true}
 
 pub count-behind : (n : ℕ) (ts : Trees) → count (behind n ts) ≡ count ts - n
 count-behind zero ts = omega arith

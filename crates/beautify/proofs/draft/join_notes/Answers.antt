@@ -1,21 +1,19 @@
-use Rattle.std.proofs.Common.{◌≡◌, ℕ, length, sym, subst, refl, arith, Some, Option}
-use Rattle.std.specs.Option.{IsSome}
-use Rattle.beautify.proofs.Shared.{Forest, Gives, more, none, forest, keeps_after}
+use Rattle.beautify.proofs.Shared.{rules, ◌≡◌, ℕ, length, sym, subst, refl, arith, Some, Option, Forest, Gives, more, none, forest, keeps_after}
 use Rattle.beautify.proofs.Drafting.{IsJoining, started, joined, all_joined}
+use Rattle.std.specs.Option.{IsSome}
 use Rattle.beautify.proofs.draft.join_notes.Goals as goal
 
 pub loop-noted-init : goal.loop-noted-init
 loop-noted-init c = record { joining = λ base t d. started d; kept = record { size = refl; refusals = refl; last_refused = refl }; capacity = omega arith; stands = c.requires.stands }
 
-pub adopt-requires-clause-root : goal.adopt-requires-clause-root
-adopt-requires-clause-root c =
+pub adopt-requires : goal.adopt-requires
+adopt-requires c =
     let d = c.requires.draft in
-    (joined c.in-Some.noted (c.loop-noted.invariant.joining d.0 d.1 d.2) c.in-Some.ensures.items).root
-
-pub adopt-requires-clause-within : goal.adopt-requires-clause-within
-adopt-requires-clause-within c =
-    let d = c.requires.draft in
-    (joined c.in-Some.noted (c.loop-noted.invariant.joining d.0 d.1 d.2) c.in-Some.ensures.items).within
+    record {
+      root = (joined c.in-Some.noted (c.loop-noted.invariant.joining d.0 d.1 d.2) c.in-Some.ensures.items).root;
+      within = (joined c.in-Some.noted (c.loop-noted.invariant.joining d.0 d.1 d.2) c.in-Some.ensures.items).within;
+      stands = search rules;
+    }
 
 pub loop-noted-preserved : goal.loop-noted-preserved
 loop-noted-preserved c =

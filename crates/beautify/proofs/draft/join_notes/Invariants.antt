@@ -1,6 +1,4 @@
-use Rattle.std.proofs.Common.{◌≤◌, length, vec_capacity}
-use Rattle.beautify.proofs.Shared.{Tree, none, more, Forest, Stands, forest, KeepsRefusals, IsDraft}
-use Rattle.beautify.proofs.Drafting.{IsJoining}
+use Rattle.beautify.proofs.{Shared.{◌≤◌, length, vec_capacity, Tree, none, more, Forest, Stands, forest, KeepsRefusals, IsDraft}, Drafting.IsJoining}
 use Rattle.beautify.proofs.draft.join_notes.Given as goal
 
 abbrev pub invariant-loop-noted : goal.invariant-loop-noted

@@ -1,6 +1,5 @@
-use Rattle.beautify.proofs.Shared.{forest}
+use Rattle.beautify.proofs.{Shared.forest, Steps.{one_placed, one_refused}}
 use Rattle.calc_terms.specs.Rat.{ratio_of}
-use Rattle.beautify.proofs.Steps.{one_placed, one_refused}
 use Rattle.beautify.proofs.draft.place_node.Goals as goal
 
 pub returns-in-One-clause-ok : goal.returns-in-One-clause-ok

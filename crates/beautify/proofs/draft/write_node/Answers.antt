@@ -1,5 +1,4 @@
-use Rattle.std.proofs.Common.{arith}
-use Rattle.beautify.proofs.Steps.{behind_none, node_bytes, with_node}
+use Rattle.beautify.proofs.{Shared.arith, Steps.{behind_none, node_bytes, with_node}}
 use Rattle.beautify.proofs.draft.write_node.Goals as goal
 
 pub returns-in_err-node-clause-first : goal.returns-in_err-node-clause-first

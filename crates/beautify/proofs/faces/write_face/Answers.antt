@@ -1,6 +1,5 @@
-use Rattle.std.proofs.Common.{◌≡◌, ◌∙◌, ◌∷◌, ◌++◌, [], List, length, ap, sym, subst, arith, rules}
-use Rattle.beautify.proofs.Shared.{Noted, Pending, Part, Owes, plain, tree_at, forest, passed_on, refuses_after}
-use Rattle.beautify.proofs.Steps.{IsWriting, started, resolved, placing, is_node, few_bytes, stands_first, stands_after, all_written}
+use Rattle.beautify.proofs.Shared.{◌≡◌, ◌∙◌, ◌∷◌, ◌++◌, [], List, length, ap, sym, subst, arith, rules, Noted, Pending, Part, Owes, plain, tree_at, forest, passed_on}
+use Rattle.beautify.proofs.{Shared.refuses_after, Steps.{IsWriting, started, resolved, placing, is_node, few_bytes, stands_first, stands_after, all_written}}
 use Rattle.beautify.proofs.faces.write_face.Goals as goal
 
 pub loop-next-init : goal.loop-next-init
@@ -16,16 +15,15 @@ loop-next-init c =
       stands = c.requires.stands;
     }
 
-pub push_part-requires-clause-ready : goal.push_part-requires-clause-ready
-push_part-requires-clause-ready c =
-    let items : c.loop-next.pending.items ≡ c.pop.new.self.items ++ Part c.in-Part.form c.in-Part.tree ∷ [] = c.in-Some.ensures.items ∙ ap (λ (p : Pending). c.pop.new.self.items ++ p ∷ []) c.in-Part.is in
-    (resolved c.requires.stands c.loop-next.invariant.stands c.loop-next.invariant.writing items).ready
-
-pub push_part-requires-clause-room : goal.push_part-requires-clause-room
-push_part-requires-clause-room c =
+pub push_part-requires : goal.push_part-requires
+push_part-requires c =
     let items : c.loop-next.pending.items ≡ c.pop.new.self.items ++ Part c.in-Part.form c.in-Part.tree ∷ [] = c.in-Some.ensures.items ∙ ap (λ (p : Pending). c.pop.new.self.items ++ p ∷ []) c.in-Part.is in
     let r = resolved c.requires.stands c.loop-next.invariant.stands c.loop-next.invariant.writing items in
-    omega (arith, r.room, r.most, few_bytes c.args.tree c.args.pool.now c.requires.stands c.requires.expression, c.requires.pending, c.loop-next.invariant.pending, c.pop.ensures.capacity)
+    record {
+      ready = (resolved c.requires.stands c.loop-next.invariant.stands c.loop-next.invariant.writing items).ready;
+      room = omega (arith, r.room, r.most, few_bytes c.args.tree c.args.pool.now c.requires.stands c.requires.expression, c.requires.pending, c.loop-next.invariant.pending, c.pop.ensures.capacity);
+      stands = search rules;
+    }
 
 pub loop-next-smaller-in-Part : goal.loop-next-smaller-in-Part
 loop-next-smaller-in-Part c =

@@ -1,6 +1,4 @@
-use Rattle.std.proofs.Common.{◌+◌, ◌*◌, ◌<◌, ◌≤◌, length, vec_capacity}
-use Rattle.beautify.proofs.Shared.{plain, tree_at, Stands, forest, free_of, rooms}
-use Rattle.beautify.proofs.Steps.{IsWriting}
+use Rattle.beautify.proofs.{Shared.{◌+◌, ◌*◌, ◌<◌, ◌≤◌, length, vec_capacity, plain, tree_at, Stands, forest, free_of, rooms}, Steps.IsWriting}
 use Rattle.beautify.proofs.faces.write_face.Given as goal
 
 abbrev pub invariant-loop-next : goal.invariant-loop-next

@@ -1,6 +1,4 @@
-use Rattle.std.proofs.Common.{◌∙◌, sym, rules}
-use Rattle.beautify.proofs.Shared.{tree_at, forest, found}
-use Rattle.beautify.proofs.NaturalNodes.{tree_natural, read, read_all}
+use Rattle.beautify.proofs.{Shared.{◌∙◌, sym, rules, tree_at, forest, found}, NaturalNodes.{tree_natural, read, read_all}}
 use Rattle.beautify.proofs.naturals.has_natural_numbers.Goals as goal
 
 pub loop-node-init : goal.loop-node-init

@@ -1,5 +1,4 @@
-use Rattle.beautify.proofs.Shared.{has_natural_numbers, plain, tree_at, forest}
-use Rattle.beautify.proofs.NaturalNodes.{IsReading}
+use Rattle.beautify.proofs.{Shared.{has_natural_numbers, plain, tree_at, forest}, NaturalNodes.IsReading}
 use Rattle.beautify.proofs.naturals.has_natural_numbers.Given as goal
 
 abbrev pub invariant-loop-node : goal.invariant-loop-node

@@ -1,6 +1,4 @@
-use Rattle.std.proofs.Common.{◌∙◌, sym, ap}
-use Rattle.beautify.proofs.Shared.{holds_natural, Visit, number_seen}
-use Rattle.beautify.proofs.NaturalNodes.{no_rational}
+use Rattle.beautify.proofs.{Shared.{◌∙◌, sym, ap, holds_natural, Visit, number_seen}, NaturalNodes.no_rational}
 use Rattle.beautify.proofs.naturals.holds_natural.Goals as goal
 
 pub rational-requires-clause-number : goal.rational-requires-clause-number

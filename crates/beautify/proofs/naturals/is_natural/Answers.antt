@@ -1,6 +1,4 @@
-use Rattle.std.proofs.Common.{◌≡◌, not, ap, sym, ◌∙◌, true}
-use Rattle.beautify.proofs.Shared.{ratio_parts}
-use Rattle.beautify.proofs.NaturalNodes.{natural_fraction, natural_whole}
+use Rattle.beautify.proofs.{Shared.{◌≡◌, not, ap, sym, ◌∙◌, true, ratio_parts}, NaturalNodes.{natural_fraction, natural_whole}}
 use Rattle.beautify.proofs.naturals.is_natural.Goals as goal
 
 pub returns-then-not-is_whole : goal.returns-then-not-is_whole

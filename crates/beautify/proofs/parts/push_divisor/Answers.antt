@@ -1,6 +1,4 @@
-use Rattle.std.proofs.Common.{sym, ap, ◌∙◌, arith}
-use Rattle.beautify.proofs.Shared.{Tree, more, plain, tree_at, forest}
-use Rattle.beautify.proofs.Pushing.{owes_as}
+use Rattle.beautify.proofs.{Shared.{sym, ap, ◌∙◌, arith, Tree, more, plain, tree_at, forest}, Pushing.owes_as}
 use Rattle.beautify.proofs.Resolving.{ready_child, two_children, is_power, divisor_one, divisor_more, exponent_num, power_size, below_size}
 use Rattle.beautify.proofs.parts.push_divisor.Goals as goal
 

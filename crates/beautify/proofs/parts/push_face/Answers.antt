@@ -1,7 +1,4 @@
-use Rattle.std.proofs.Common.{◌∙◌, sym, ap, arith}
-use Rattle.beautify.proofs.Shared.{Tree, more, plain, tree_at, forest, least_size}
-use Rattle.beautify.proofs.Pushing.{owes_as}
-use Rattle.beautify.proofs.Resolving.{signed_face}
+use Rattle.beautify.proofs.{Shared.{◌∙◌, sym, ap, arith, Tree, more, plain, tree_at, forest, least_size}, Pushing.owes_as, Resolving.signed_face}
 use Rattle.beautify.proofs.parts.push_face.Goals as goal
 
 pub returns-then-is_negative-clause-owed : goal.returns-then-is_negative-clause-owed

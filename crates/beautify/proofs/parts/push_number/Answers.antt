@@ -1,6 +1,4 @@
-use Rattle.std.proofs.Common.{◌≡◌, sym, ap, ◌∙◌, arith, true}
-use Rattle.beautify.proofs.Shared.{Tree, IsExpression, is_num, more, plain, tree_at, forest, value_of}
-use Rattle.beautify.proofs.Pushing.{owes_as}
+use Rattle.beautify.proofs.{Shared.{◌≡◌, sym, ap, ◌∙◌, arith, true, Tree, IsExpression, is_num, more, plain, tree_at, forest, value_of}, Pushing.owes_as}
 use Rattle.beautify.proofs.Resolving.{whole_face, parted_face, number_size, parted_size}
 use Rattle.beautify.proofs.parts.push_number.Goals as goal
 

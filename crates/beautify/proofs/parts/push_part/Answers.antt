@@ -1,5 +1,4 @@
-use Rattle.std.proofs.Common.{◌+◌, ◌-◌, sym, subst}
-use Rattle.beautify.proofs.Shared.{Form, Owes, in_form, form_room, more, plain, tree_at, forest}
+use Rattle.beautify.proofs.Shared.{◌+◌, ◌-◌, sym, subst, Form, Owes, in_form, form_room, more, plain, tree_at, forest}
 use Rattle.beautify.proofs.parts.push_part.Goals as goal
 
 pub returns-in-Face-clause-owed : goal.returns-in-Face-clause-owed

@@ -1,6 +1,4 @@
-use Rattle.std.proofs.Common.{refl, sym, ap, ◌∙◌, arith}
-use Rattle.beautify.proofs.Shared.{Tree, IsReadyPart, Divisor, more, plain, nth, children_of, tree_at, forest}
-use Rattle.beautify.proofs.Pushing.{owes_as}
+use Rattle.beautify.proofs.{Shared.{refl, sym, ap, ◌∙◌, arith, Tree, IsReadyPart, Divisor, more, plain, nth, children_of, tree_at, forest}, Pushing.owes_as}
 use Rattle.beautify.proofs.Resolving.{ready_child, two_children, raised_face, inverse_face, power_size, below_size}
 use Rattle.beautify.proofs.parts.push_power.Goals as goal
 

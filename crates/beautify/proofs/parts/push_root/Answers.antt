@@ -1,7 +1,4 @@
-use Rattle.std.proofs.Common.{ap, arith}
-use Rattle.beautify.proofs.Shared.{Tree, more, plain, tree_at, forest}
-use Rattle.beautify.proofs.Pushing.{owes_as}
-use Rattle.beautify.proofs.Resolving.{ready_child, root_face, root_size, one_child}
+use Rattle.beautify.proofs.{Shared.{ap, arith, Tree, more, plain, tree_at, forest}, Pushing.owes_as, Resolving.{ready_child, root_face, root_size, one_child}}
 use Rattle.beautify.proofs.parts.push_root.Goals as goal
 
 pub returns-clause-owed : goal.returns-clause-owed

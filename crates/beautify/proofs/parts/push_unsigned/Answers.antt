@@ -1,7 +1,4 @@
-use Rattle.std.proofs.Common.{ap, arith}
-use Rattle.beautify.proofs.Shared.{Tree, more, plain, tree_at, forest}
-use Rattle.beautify.proofs.Pushing.{owes_as}
-use Rattle.beautify.proofs.Resolving.{symbol_face, symbol_size}
+use Rattle.beautify.proofs.{Shared.{ap, arith, Tree, more, plain, tree_at, forest}, Pushing.owes_as, Resolving.{symbol_face, symbol_size}}
 use Rattle.beautify.proofs.parts.push_unsigned.Goals as goal
 
 pub returns-in-Sym-clause-owed : goal.returns-in-Sym-clause-owed

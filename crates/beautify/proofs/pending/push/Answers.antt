@@ -1,6 +1,4 @@
-use Rattle.std.proofs.Common.{List, ◌+◌, sym, subst}
-use Rattle.beautify.proofs.Shared.{Owes, Pending, with_next, next_room}
-use Rattle.beautify.proofs.Pushing.{pushed}
+use Rattle.beautify.proofs.{Shared.{List, ◌+◌, sym, subst, Owes, Pending, with_next, next_room}, Pushing.pushed}
 use Rattle.beautify.proofs.pending.push.Goals as goal
 
 pub returns-clause-owed : goal.returns-clause-owed

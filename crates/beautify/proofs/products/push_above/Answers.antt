@@ -1,7 +1,4 @@
-use Rattle.std.proofs.Common.{◌≡◌, ◌≤◌, arith}
-use Rattle.beautify.proofs.Shared.{append, factors_above, children_of, plain, tree_at, forest, count}
-use Rattle.beautify.proofs.Pushing.{owes_as}
-use Rattle.beautify.proofs.Resolving.{product, product_first}
+use Rattle.beautify.proofs.{Shared.{◌≡◌, ◌≤◌, arith, append, factors_above, children_of, plain, tree_at, forest, count}, Pushing.owes_as, Resolving.{product, product_first}}
 use Rattle.beautify.proofs.Trees.{count-append}
 use Rattle.beautify.proofs.products.push_above.Goals as goal
 

@@ -1,7 +1,4 @@
-use Rattle.std.proofs.Common.{ℕ, ◌+◌, sym, ap, subst, arith}
-use Rattle.beautify.proofs.Shared.{Tree, more, behind, first, product_of, Owes}
-use Rattle.beautify.proofs.Pushing.{owes_as}
-use Rattle.beautify.proofs.Resolving.{multiplied_is}
+use Rattle.beautify.proofs.{Shared.{ℕ, ◌+◌, sym, ap, subst, arith, Tree, more, behind, first, product_of, Owes}, Pushing.owes_as, Resolving.multiplied_is}
 use Rattle.beautify.proofs.products.push_multiplied.Goals as goal
 
 pub returns-then-factors-eq0-clause-owed : goal.returns-then-factors-eq0-clause-owed

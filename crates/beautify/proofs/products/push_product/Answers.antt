@@ -1,8 +1,5 @@
-use Rattle.std.proofs.Common.{◌≡◌, ◌+◌, ◌<◌, ◌∙◌, sym, ap, arith}
-use Rattle.beautify.proofs.Shared.{Tree, Trees, share_room, Below, append, more, factors_below, children_of, plain, tree_at, forest, count}
-use Rattle.beautify.proofs.Pushing.{owes_as}
-use Rattle.beautify.proofs.Resolving.{product, product_first, no_trees}
-use Rattle.beautify.proofs.Trees.{count-append}
+use Rattle.beautify.proofs.Shared.{◌≡◌, ◌+◌, ◌<◌, ◌∙◌, sym, ap, arith, Tree, Trees, share_room, Below, append, more, factors_below, children_of, plain, tree_at, forest}
+use Rattle.beautify.proofs.{Shared.count, Pushing.owes_as, Resolving.{product, product_first, no_trees}, Trees.count-append}
 use Rattle.beautify.proofs.products.push_product.Goals as goal
 
 pub push_shares-below-requires-clause-room : goal.push_shares-below-requires-clause-room

@@ -1,6 +1,5 @@
-use Rattle.std.proofs.Common.{ap, sym, ◌∙◌, rules}
-use Rattle.std.specs.Prelude.{nat_abs, FitsSigned}
-use Rattle.beautify.proofs.Shared.{ratio_parts, w128, to_z-of_z}
+use Rattle.beautify.proofs.Shared.{ap, sym, ◌∙◌, rules, FitsSigned, ratio_parts, w128, to_z-of_z}
+use Rattle.std.specs.Prelude.{nat_abs}
 use Rattle.beautify.proofs.reading.denominator.Goals as goal
 
 pub returns-clause-value : goal.returns-clause-value

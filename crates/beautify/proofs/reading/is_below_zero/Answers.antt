@@ -1,8 +1,5 @@
-use Rattle.std.proofs.Common.{ap, sym, ◌∙◌, rules}
-use Rattle.std.specs.Prelude.{ℤ, pos, FitsSigned}
-use Rattle.beautify.proofs.Shared.{ratio_parts, w128, to_z-of_z}
-use Rattle.beautify.proofs.Signs.{lt_z-zero}
-use lib.Signed.{lt_z}
+use Rattle.beautify.proofs.{Shared.{ap, sym, ◌∙◌, rules, FitsSigned, ratio_parts, w128, to_z-of_z, lt_z}, Signs.lt_z-zero}
+use Rattle.std.specs.Prelude.{ℤ, pos}
 use Rattle.beautify.proofs.reading.is_below_zero.Goals as goal
 
 pub returns : goal.returns

@@ -1,7 +1,5 @@
-use Rattle.std.proofs.Common.{◌≡◌, ap, sym, ◌∙◌, rules, true}
-use Rattle.std.specs.Prelude.{nat_abs, FitsSigned}
-use Rattle.beautify.proofs.Shared.{ratio_parts, w128, to_z-of_z}
-use Rattle.beautify.proofs.Signs.{below_zero-fraction, below_zero-positive, below_zero-whole}
+use Rattle.beautify.proofs.{Shared.{◌≡◌, ap, sym, ◌∙◌, rules, true, FitsSigned, ratio_parts, w128, to_z-of_z}, Signs.{below_zero-fraction, below_zero-positive, below_zero-whole}}
+use Rattle.std.specs.Prelude.{nat_abs}
 use Rattle.beautify.proofs.reading.whole_below_zero.Goals as goal
 
 pub returns-then-not-is_whole : goal.returns-then-not-is_whole

@@ -1,10 +1,5 @@
-use Rattle.std.proofs.Common.{◌≡◌, ◌∙◌, ◌∷◌, ◌++◌, [], ℕ, suc, ◌+◌, length, refl, sym, ap, arith}
-use Rattle.beautify.proofs.Shared.{length-append, plain, rest_trees, tree_at, kids_of, forest}
-use Rattle.beautify.proofs.Sharing.{few_shared, shared_more, shared_none, turned, turned_items}
-use Rattle.beautify.proofs.Steps.{few_children}
-use Rattle.tree_handles.proofs.NextChildren.{next_child, last_child}
-use Rattle.tree_handles.proofs.Readings.{expression_children}
-use Rattle.tree_handles.specs.Children.{root_ids}
+use Rattle.beautify.proofs.Shared.{◌≡◌, ◌∙◌, ◌∷◌, ◌++◌, [], ℕ, suc, ◌+◌, length, refl, sym, ap, arith, length-append, plain, rest_trees, tree_at, kids_of, forest}
+use Rattle.beautify.proofs.{Shared.{next_child, last_child, expression_children, root_ids}, Sharing.{few_shared, shared_more, shared_none, turned, turned_items}, Steps.few_children}
 use Rattle.beautify.proofs.shares.push_shares.Goals as goal
 
 pub child_ids-child-items-requires-clause-within : goal.child_ids-child-items-requires-clause-within

@@ -1,7 +1,4 @@
-use Rattle.std.proofs.Common.{◌≡◌, ◌+◌, ◌≤◌, length, vec_capacity}
-use Rattle.beautify.proofs.Shared.{children_of, plain, rest_trees, tree_at, kids_of, forest}
-use Rattle.beautify.proofs.Sharing.{IsShared}
-use Rattle.tree_handles.specs.Children.{root_ids}
+use Rattle.beautify.proofs.{Shared.{◌≡◌, ◌+◌, ◌≤◌, length, vec_capacity, children_of, plain, rest_trees, tree_at, kids_of, forest, root_ids}, Sharing.IsShared}
 use Rattle.beautify.proofs.shares.push_shares.Given as goal
 
 abbrev pub invariant-loop-child : goal.invariant-loop-child

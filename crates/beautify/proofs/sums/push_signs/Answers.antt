@@ -1,12 +1,6 @@
-use Rattle.std.proofs.Common.{◌≡◌, ◌∙◌, ◌∷◌, ◌++◌, [], ℕ, suc, length, refl, sym, ap, arith}
-use Rattle.beautify.proofs.Shared.{length-append, has_minus, children_of, plain, rest_trees, tree_at, kids_of, forest}
-use Rattle.beautify.proofs.SumSigns.{signed_first, plus_next, minus_next, signed_all, added_length}
-use Rattle.beautify.proofs.Steps.{few_children}
-use Rattle.beautify.proofs.Pushing.{owes_as}
-use Rattle.beautify.proofs.Trees.{count-behind}
-use Rattle.tree_handles.proofs.NextChildren.{next_child, last_child}
-use Rattle.tree_handles.proofs.Readings.{expression_children}
-use Rattle.tree_handles.specs.Children.{root_ids}
+use Rattle.beautify.proofs.Shared.{◌≡◌, ◌∙◌, ◌∷◌, ◌++◌, [], ℕ, suc, length, refl, sym, ap, arith, length-append, has_minus, children_of, plain, rest_trees, tree_at}
+use Rattle.beautify.proofs.{Shared.{kids_of, forest, next_child, last_child, expression_children, root_ids}, SumSigns.{signed_first, plus_next, minus_next, signed_all, added_length}}
+use Rattle.beautify.proofs.{Steps.few_children, Pushing.owes_as, Trees.count-behind}
 use Rattle.beautify.proofs.sums.push_signs.Goals as goal
 
 pub child_ids-term-items-requires-clause-within : goal.child_ids-term-items-requires-clause-within

@@ -1,7 +1,4 @@
-use Rattle.std.proofs.Common.{◌≡◌, suc, ◌≤◌, length, vec_capacity}
-use Rattle.beautify.proofs.Shared.{children_of, plain, rest_trees, tree_at, kids_of, forest}
-use Rattle.beautify.proofs.SumSigns.{IsSigned}
-use Rattle.tree_handles.specs.Children.{root_ids}
+use Rattle.beautify.proofs.{Shared.{◌≡◌, suc, ◌≤◌, length, vec_capacity, children_of, plain, rest_trees, tree_at, kids_of, forest, root_ids}, SumSigns.IsSigned}
 use Rattle.beautify.proofs.sums.push_signs.Given as goal
 
 abbrev pub invariant-loop-term : goal.invariant-loop-term

@@ -1,10 +1,5 @@
-use Rattle.std.proofs.Common.{◌+◌, ap, arith}
-use Rattle.beautify.proofs.Shared.{Tree, Terms, Face, share_room, form_room, nth, append, face, more, unsigned_faces, behind, children_of, plain, tree_at, forest}
-use Rattle.beautify.proofs.Pushing.{owes_as}
-use Rattle.beautify.proofs.Resolving.{sum, ready_child}
-use Rattle.beautify.proofs.Sharing.{count-faces}
-use Rattle.beautify.proofs.Trees.{count-behind}
-use Rattle.tree_handles.proofs.Readings.{expression_children}
+use Rattle.beautify.proofs.Shared.{◌+◌, ap, arith, Tree, Terms, Face, share_room, form_room, nth, append, face, more, unsigned_faces, behind, children_of, plain, tree_at, forest}
+use Rattle.beautify.proofs.{Shared.expression_children, Pushing.owes_as, Resolving.{sum, ready_child}, Sharing.count-faces, Trees.count-behind}
 use Rattle.beautify.proofs.sums.push_sum.Goals as goal
 
 pub push_shares-requires-clause-room : goal.push_shares-requires-clause-room

@@ -1,6 +1,4 @@
-use Rattle.std.proofs.Common.{ap, ◌∙◌}
-use Rattle.beautify.proofs.Shared.{value_of, is_reduced, is_undef, given_handed, given_told}
-use Rattle.beautify.proofs.Examples.{number_reduced}
+use Rattle.beautify.proofs.{Shared.{ap, ◌∙◌, value_of, is_reduced, is_undef, given_handed, given_told}, Examples.number_reduced}
 use Rattle.beautify.proofs.tests.bytes_of_face.Goals as goal
 
 pub face_of-requires-clause-handed : goal.face_of-requires-clause-handed

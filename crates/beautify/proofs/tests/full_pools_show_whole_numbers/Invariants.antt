@@ -1,5 +1,4 @@
-use Rattle.std.proofs.Common.{◌≤◌}
-use Rattle.beautify.proofs.Shared.{Stands}
+use Rattle.beautify.proofs.Shared.{◌≤◌, Stands}
 use Rattle.beautify.proofs.tests.full_pools_show_whole_numbers.Given as goal
 
 abbrev pub invariant-loop-bytes : goal.invariant-loop-bytes
