@@ -1,7 +1,6 @@
 -- Entries among trees.
-use Rattle.std.proofs.Common.{◌≡◌, List, [], ◌∷◌, sym, subst}
-use Rattle.name_table.proofs.Shared.{AllExpressions, IsWhole, Forest, join, all-join, root-left, NamedTree, values, AreRoots, HasEntries, HoldLaterNames, IsHeld, Entry, Table, entries}
-use Rattle.name_table.proofs.Later.{values-left}
+use Rattle.name_table.proofs.Shared.{◌≡◌, List, [], ◌∷◌, sym, subst, AllExpressions, IsWhole, Forest, join, all-join, root-left, NamedTree, values, AreRoots, HasEntries}
+use Rattle.name_table.proofs.{Shared.{HoldLaterNames, IsHeld, Entry, Table, entries}, Later.values-left}
 
 pub held_entries : (t : Table) (f : Forest) → IsHeld t f → HasEntries t f
 held_entries t f h = record { roots = h.roots; whole = h.whole; later = h.later }

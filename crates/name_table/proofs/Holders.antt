@@ -1,7 +1,6 @@
 -- How many entries hold a tree.
-use Rattle.std.proofs.Common.{◌≡◌, ◌≢◌, ℕ, suc, ◌-◌, ◌≤◌, List, [], ◌∷◌, ◌++◌, Bool, true, false, cond, eqb, Some, refl, sym, ap, ◌∙◌, arith}
-use Rattle.name_table.proofs.Shared.{bytes_eq, eq-eqb, eqb-true, Forest, has_root, by_test, AreRoots, Entry, holders, tree_under, without_entry}
-use Rattle.name_table.proofs.Counting.{one_less, one_more}
+use Rattle.name_table.proofs.Shared.{◌≡◌, ◌≢◌, ℕ, suc, ◌-◌, ◌≤◌, List, [], ◌∷◌, ◌++◌, Bool, true, false, cond, eqb, Some, refl, sym, ap, ◌∙◌, arith}
+use Rattle.name_table.proofs.{Shared.{bytes_eq, eq-eqb, eqb-true, Forest, has_root, by_test, AreRoots, Entry, holders, tree_under, without_entry}, Counting.{one_less, one_more}}
 
 swapped : (a b : Bool) (n : ℕ) → cond a (suc (cond b (suc n) n)) (cond b (suc n) n) ≡ cond b (suc (cond a (suc n) n)) (cond a (suc n) n)
 swapped a b n = grind arith

@@ -1,10 +1,9 @@
 -- Names of trees, and where they stand in a table.
-use Rattle.std.proofs.Common.{◌≡◌, ℕ, suc, ◌<◌, ◌≤◌, ◌⊎◌, inl, inr, List, [], ◌∷◌, ◌++◌, length, map, Bool, true, false, cond, Some, refl, sym, ap, ◌∙◌, subst, arith}
-use Rattle.std.specs.Prelude.{Contains}
-use Rattle.name_table.proofs.Shared.{bytes_eq, map-append, bytes_eq-Decides, Tree, Forest, join, has_root, root_tree, plain, by_test, root-left, tree-left, LacksNames, NamedTree, value_in, AreDistinctNames, AreRoots, HoldLaterNames, counted_by, Entry, Table, has_entry, has_room_for, name_limit, tree_under, without_entry}
+use Rattle.name_table.proofs.Shared.{◌≡◌, ℕ, suc, ◌<◌, ◌≤◌, ◌⊎◌, inl, inr, List, [], ◌∷◌, ◌++◌, length, map, Bool, true, false, cond, Some, refl, sym, ap}
+use Rattle.name_table.proofs.Shared.{◌∙◌, subst, arith, Contains, bytes_eq, map-append, bytes_eq-Decides, Tree, Forest, join, has_root, root_tree, plain, by_test, root-left, tree-left}
+use Rattle.name_table.proofs.Shared.{LacksNames, NamedTree, value_in, AreDistinctNames, AreRoots, HoldLaterNames, counted_by, Entry, Table, has_entry, has_room_for, name_limit, tree_under}
+use Rattle.name_table.proofs.{Shared.without_entry, Counting.{plain-counted, root-counted}, Holders.AreTold}
 use Rattle.std.proofs.lemmas.List.Elements.{Contains-append_cases}
-use Rattle.name_table.proofs.Counting.{plain-counted, root-counted}
-use Rattle.name_table.proofs.Holders.{AreTold}
 
 -- ---- lists of names
 

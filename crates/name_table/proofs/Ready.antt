@@ -1,11 +1,13 @@
 -- A forest that holds the trees of a table, among others and with other counts.
-use Rattle.std.proofs.Common.{◌≡◌, ℕ, suc, ◌<◌, ◌≤◌, inl, inr, List, [], ◌∷◌, ◌++◌, length, map, Bool, true, false, cond, Option, Some, None, refl, sym, ap, ◌∙◌, subst, arith, codes}
-use Rattle.std.specs.Prelude.{Contains}
-use Rattle.name_table.proofs.Shared.{bytes_eq, eq-eqb, length-append, bytes_eq-Decides, AreWritable, Tree, Trees, none, more, append, AllExpressions, IsWhole, plain, plains, Forest, empty, tree, arity, join, root_id, AllOnce, Gives, has_root, root_tree, all-join, last_root, last_tree, LacksNames, value_in, values, AreCountedBy, AreDistinctNames, AreRoots, HoldLaterNames, IsHeld, held_by, holders_in, IsKeepable, names_with, Entry, Table, entries, first_table, has_room_for, name_limit, table_names, with_answer, without_entry, without_name}
+use Rattle.name_table.proofs.Shared.{◌≡◌, ℕ, suc, ◌<◌, ◌≤◌, inl, inr, List, [], ◌∷◌, ◌++◌, length, map, Bool, true, false, cond, Option, Some, None, refl, sym, ap}
+use Rattle.name_table.proofs.Shared.{◌∙◌, subst, arith, codes, Contains, bytes_eq, eq-eqb, length-append, bytes_eq-Decides, AreWritable, Tree, Trees, none, more, append, AllExpressions}
+use Rattle.name_table.proofs.Shared.{IsWhole, plain, plains, Forest, empty, tree, arity, join, root_id, AllOnce, Gives, has_root, root_tree, all-join, last_root, last_tree, LacksNames, value_in}
+use Rattle.name_table.proofs.Shared.{values, AreCountedBy, AreDistinctNames, AreRoots, HoldLaterNames, IsHeld, held_by, holders_in, IsKeepable, names_with, Entry, Table, entries, first_table}
+use Rattle.name_table.proofs.Shared.{has_room_for, name_limit, table_names, with_answer, without_entry, without_name}
+use Rattle.name_table.proofs.{Counting.{counted-are, counts_beside, one_more, plain-counted, whole-counted, writable-counted}, Holders.{holders-no_root, holders-told}, Later.AreAmong}
+use Rattle.name_table.proofs.Later.{among_with, behind, distinct-last, distinct-without, gone, in_front, lacks-among, later-last, later-without, length-without, names-last, names-without}
+use Rattle.name_table.proofs.Later.{names_of_entries, none_in, room-without, roots-counted, roots-last, roots-left, roots-without, values-counted, values-left, where_in}
 use Rattle.tree_handles.proofs.Plains.{alone, plains-join}
-use Rattle.name_table.proofs.Counting.{counted-are, counts_beside, one_more, plain-counted, whole-counted, writable-counted}
-use Rattle.name_table.proofs.Holders.{holders-no_root, holders-told}
-use Rattle.name_table.proofs.Later.{AreAmong, among_with, behind, distinct-last, distinct-without, gone, in_front, lacks-among, later-last, later-without, length-without, names-last, names-without, names_of_entries, none_in, room-without, roots-counted, roots-last, roots-left, roots-without, values-counted, values-left, where_in}
 
 -- all but the counts
 pub record IsReady (t : Table) (f : Forest) : Type 0 where

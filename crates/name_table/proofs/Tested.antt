@@ -1,11 +1,8 @@
 -- What tests know of numbers that they keep and of names that they use.
-use Rattle.std.proofs.Common.{arith, ◌≡◌, ℕ, List, [], refl, sym, ap, ◌∙◌, subst, None}
-use Rattle.std.specs.Prelude.{ℤ, pos, Option, ⊤}
-use Rattle.name_table.proofs.Shared.{Tree, num, State, Forest, forest_of, Gives, IsOwned, without_root, forest, given_handed, given_rest, gives_as, owned, IsHeld, IsKeepable, Table, first_table}
-use Rattle.calc_terms.specs.declared.rat.Rat.{Rat}
-use Rattle.calc_terms.specs.Rat.{ratio_of, value_of}
-use Rattle.calc_terms.specs.Ratio.{whole}
-use Rattle.name_table.proofs.Ready.{first_held}
+use Rattle.name_table.proofs.Shared.{arith, ◌≡◌, ℕ, List, [], refl, sym, ap, ◌∙◌, subst, None, pos, ⊤, Tree, num, State, Forest, forest_of, Gives, IsOwned, without_root, forest}
+use Rattle.name_table.proofs.{Shared.{given_handed, given_rest, gives_as, owned, IsHeld, IsKeepable, Table, first_table}, Ready.first_held}
+use Rattle.std.specs.Prelude.{ℤ, Option}
+use Rattle.calc_terms.specs.{declared.rat.Rat.Rat, Rat.{ratio_of, value_of}, Ratio.whole}
 
 -- a whole number of at least 0 can be written and has no names
 keepable : (store : Option (List ℕ)) (t : Table) (r : Rat) (z : ℤ) (n : ℕ) → ratio_of r ≡ whole z → z ≡ pos n → IsKeepable store t (num (value_of r))

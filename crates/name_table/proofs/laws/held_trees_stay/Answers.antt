@@ -1,5 +1,4 @@
-use Rattle.name_table.proofs.Shared.{holders_in}
-use Rattle.name_table.proofs.Counting.{counted-same}
+use Rattle.name_table.proofs.{Shared.holders_in, Counting.counted-same}
 use Rattle.name_table.proofs.laws.held_trees_stay.Goals as goal
 
 pub returns : goal.returns

@@ -1,6 +1,4 @@
-use Rattle.name_table.proofs.Shared.{holders_in, entries}
-use Rattle.name_table.proofs.Holders.{holders-told}
-use Rattle.name_table.proofs.Later.{values-counted}
+use Rattle.name_table.proofs.{Shared.{holders_in, entries}, Holders.holders-told, Later.values-counted}
 use Rattle.name_table.proofs.laws.values_stay.Goals as goal
 
 pub returns : goal.returns

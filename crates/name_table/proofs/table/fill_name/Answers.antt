@@ -1,9 +1,8 @@
 -- The tree of the table is put in, and then its depth is asked.
-use Rattle.std.proofs.Common.{arith, ◌≡◌, sym, subst, ◌<◌, Bool, true, false}
-use Rattle.name_table.proofs.Shared.{State, Tree, err_from_is_err_and, depth, tree_at, name_of, free_of, IsExpression, plain, tree_of, without_root, forest, root_held}
-use Rattle.name_table.proofs.Fillings.{beside_expression, filled_one, new_expression, put_in, new_tree, refused_deep, refused_lacks}
-use Rattle.name_table.proofs.table.fill_name.Goals as goal
+use Rattle.name_table.proofs.Shared.{arith, ◌≡◌, sym, subst, ◌<◌, Bool, true, false, State, Tree, err_from_is_err_and, depth, tree_at, name_of, free_of, IsExpression, plain, tree_of}
+use Rattle.name_table.proofs.{Shared.{without_root, forest, root_held}, Fillings.{beside_expression, filled_one, new_expression, put_in, new_tree, refused_deep, refused_lacks}}
 use Rattle.name_table.proofs.table.fill_name.Goals.{Else-is_deeper}
+use Rattle.name_table.proofs.table.fill_name.Goals as goal
 
 pub replace_name-requires-clause-expression : goal.replace_name-requires-clause-expression
 replace_name-requires-clause-expression c = beside_expression c.args.source c.requires.stands c.requires.last c.requires.root c.requires.whole

@@ -1,12 +1,9 @@
 -- Where the name does not occur the tree stays.
-use Rattle.std.proofs.Common.{◌≡◌, ◌<◌, Bool, true, false, subst, arith}
-use Rattle.name_table.proofs.Shared.{depth, Tree, tree_at, name_of, free_of, plain, tree_of, forest, given_handed}
-use Rattle.name_table.proofs.Fillings.{filled_one, new_tree, put_in}
+use Rattle.name_table.proofs.Shared.{◌≡◌, ◌<◌, Bool, true, false, subst, arith, depth, Tree, tree_at, name_of, free_of, plain, tree_of, forest, given_handed}
+use Rattle.name_table.proofs.{Fillings.{filled_one, new_tree, put_in}, table.fill_next.Goals.Then-not-holds_name}
 use Rattle.tree_handles.proofs.Seen.{expression}
-use Rattle.tree_walks.proofs.Absent.{absent}
-use Rattle.tree_walks.proofs.Filling.{IsDone}
+use Rattle.tree_walks.proofs.{Absent.absent, Filling.IsDone}
 use Rattle.name_table.proofs.table.fill_next.Goals as goal
-use Rattle.name_table.proofs.table.fill_next.Goals.{Then-not-holds_name}
 
 pub holds_name-requires-clause-expression : goal.holds_name-requires-clause-expression
 holds_name-requires-clause-expression c = expression c.id.ensures c.requires.stands (given_handed c.requires.last)

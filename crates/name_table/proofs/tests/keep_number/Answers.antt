@@ -1,8 +1,6 @@
-use Rattle.std.proofs.Common.{◌∙◌, ap, arith, of_z, to_z}
-use Rattle.name_table.proofs.Shared.{name_in}
+use Rattle.name_table.proofs.{Shared.{◌∙◌, ap, arith, name_in}, Tested.{held_beside, number_kept}}
+use Rattle.std.proofs.{Common.{of_z, to_z}, lemmas.Int.to_z_pos}
 use Rattle.std.specs.Int.{w128}
-use Rattle.std.proofs.lemmas.Int.{to_z_pos}
-use Rattle.name_table.proofs.Tested.{held_beside, number_kept}
 use Rattle.name_table.proofs.tests.keep_number.Goals as goal
 
 pub keep-requires-clause-held : goal.keep-requires-clause-held

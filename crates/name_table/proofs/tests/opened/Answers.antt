@@ -1,7 +1,4 @@
-use Rattle.std.proofs.Common.{ap, refl}
-use Rattle.std.specs.Prelude.{pos}
-use Rattle.name_table.proofs.Shared.{State}
-use Rattle.name_table.proofs.Tested.{begun}
+use Rattle.name_table.proofs.{Shared.{ap, refl, pos, State}, Tested.begun}
 use Rattle.name_table.proofs.tests.opened.Goals as goal
 
 pub returns : goal.returns

@@ -1,7 +1,5 @@
 -- The slot at a place is used, and is the entry there.
-use Rattle.std.proofs.Common.{ap, ◌∙◌, sym, Some}
-use Rattle.name_table.proofs.Shared.{name_of}
-use Rattle.name_table.proofs.Slots.{slot_read}
+use Rattle.name_table.proofs.{Shared.{ap, ◌∙◌, sym, Some, name_of}, Slots.slot_read}
 use Rattle.name_table.proofs.table.NameTable.entry.Goals as goal
 
 pub root-requires : goal.root-requires

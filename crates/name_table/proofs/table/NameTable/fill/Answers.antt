@@ -1,7 +1,6 @@
 -- The last answer first, and then a slot after another.
-use Rattle.std.proofs.Common.{sym, subst, refl}
-use Rattle.name_table.proofs.Shared.{err_from_is_err_and, name_of, AllExpressions}
-use Rattle.name_table.proofs.Filled.{filled_clear, filled_end, filled_faults, filled_first, filled_front, filled_given, filled_more, filled_next, filled_refused, filled_room, next_last, next_rest, next_root, used_item}
+use Rattle.name_table.proofs.{Shared.{rules, sym, subst, refl, err_from_is_err_and, name_of, AllExpressions}, Filled.{filled_clear, filled_end, filled_faults, filled_first, filled_front}}
+use Rattle.name_table.proofs.Filled.{filled_given, filled_more, filled_next, filled_refused, filled_room, next_last, next_rest, next_root, used_item}
 use Rattle.name_table.proofs.table.NameTable.fill.Goals as goal
 
 pub returns-in_err-filled-clause-refused : goal.returns-in_err-filled-clause-refused
@@ -23,31 +22,29 @@ loop-slot-init c = record {
 pub root-requires : goal.root-requires
 root-requires c = used_item c.self.inside.stored.items c.as_slice-slot-items.result.now c.loop-slot.slot-index c.slot-item.result c.as_slice-slot-items.ensures.value c.self.invariant c.loop-slot-test.true c.slot-item.is
 
-pub fill_next-requires-clause-last : goal.fill_next-requires-clause-last
-fill_next-requires-clause-last c = next_last c.loop-slot.invariant.filled
+pub fill_next-requires : goal.fill_next-requires
+fill_next-requires c =
+    record {
+      last = next_last c.loop-slot.invariant.filled;
+      root = next_root (record { name = name_of c.slot-item.result.name; tree = c.root.result }) (filled_next c.as_slice-slot-items.result.now c.loop-slot.slot-index c.slot-item.result c.root.result c.loop-slot-test.true c.slot-item.is c.root.ensures c.loop-slot.invariant.filled);
+      whole = subst AllExpressions (sym (next_rest c.loop-slot.invariant.filled)) c.requires.entries.whole;
+      stands = search rules;
+      shallow = search rules;
+    }
 
-pub fill_next-requires-clause-root : goal.fill_next-requires-clause-root
-fill_next-requires-clause-root c =
-    next_root (record { name = name_of c.slot-item.result.name; tree = c.root.result })
-    (filled_next c.as_slice-slot-items.result.now c.loop-slot.slot-index c.slot-item.result c.root.result c.loop-slot-test.true c.slot-item.is c.root.ensures c.loop-slot.invariant.filled)
-
-pub fill_next-requires-clause-whole : goal.fill_next-requires-clause-whole
-fill_next-requires-clause-whole c = subst AllExpressions (sym (next_rest c.loop-slot.invariant.filled)) c.requires.entries.whole
-
-pub returns-in_err-filled-2-clause-refused : goal.returns-in_err-filled-2-clause-refused
-returns-in_err-filled-2-clause-refused c =
+pub returns-in_err-filled-2 : goal.returns-in_err-filled-2
+returns-in_err-filled-2 c =
     let p = err_from_is_err_and c.from_residual-in_err-filled-2.result c.from_residual-in_err-filled-2.ensures.1 in
-    rw (p.1, p.2) (filled_refused (record { name = name_of c.slot-item.result.name; tree = c.root.result }) c.in_err-filled-2.field-0.0
-    (filled_next c.as_slice-slot-items.result.now c.loop-slot.slot-index c.slot-item.result c.root.result c.loop-slot-test.true c.slot-item.is c.root.ensures c.loop-slot.invariant.filled)
-    c.in_err-filled-2.ensures.refused)
-
-pub returns-in_err-filled-2-clause-faults : goal.returns-in_err-filled-2-clause-faults
-returns-in_err-filled-2-clause-faults c =
-    let p = err_from_is_err_and c.from_residual-in_err-filled-2.result c.from_residual-in_err-filled-2.ensures.1 in
-    rw (p.1, p.2) (filled_faults c.fill_next.new.pool c.in_err-filled-2.field-0.0 c.loop-slot.invariant.filled c.in_err-filled-2.ensures.faults)
-
-pub returns-in_err-filled-2-clause-front : goal.returns-in_err-filled-2-clause-front
-returns-in_err-filled-2-clause-front c = filled_front c.loop-slot.invariant.filled c.fill_next.ensures.front
+    record {
+      refused = rw (p.1, p.2) (filled_refused (record { name = name_of c.slot-item.result.name; tree = c.root.result }) c.in_err-filled-2.field-0.0 (filled_next c.as_slice-slot-items.result.now c.loop-slot.slot-index c.slot-item.result c.root.result c.loop-slot-test.true c.slot-item.is c.root.ensures c.loop-slot.invariant.filled) c.in_err-filled-2.ensures.refused);
+      faults = rw (p.1, p.2) (filled_faults c.fill_next.new.pool c.in_err-filled-2.field-0.0 c.loop-slot.invariant.filled c.in_err-filled-2.ensures.faults);
+      front = filled_front c.loop-slot.invariant.filled c.fill_next.ensures.front;
+      ok = search rules;
+      clear = search rules;
+      ok_room = search rules;
+      kept = search rules;
+      stands = search rules;
+    }
 
 pub loop-slot-preserved : goal.loop-slot-preserved
 loop-slot-preserved c = record {

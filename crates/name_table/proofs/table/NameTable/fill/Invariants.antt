@@ -1,6 +1,4 @@
-use Rattle.std.proofs.Common.{◌≤◌, map, drop}
-use Rattle.name_table.proofs.Shared.{entry_of, depth, tree_of}
-use Rattle.name_table.proofs.Filled.{IsFilled}
+use Rattle.name_table.proofs.{Shared.{◌≤◌, map, drop, entry_of, depth, tree_of}, Filled.IsFilled}
 use Rattle.name_table.specs.Filling.{depth_limit}
 use Rattle.name_table.proofs.table.NameTable.fill.Given as goal
 

@@ -1,6 +1,5 @@
 -- The entry is gone, and its tree where nothing else holds it.
-use Rattle.name_table.proofs.Shared.{name_of, forest}
-use Rattle.name_table.proofs.Steps.{IsKept, entry_root, forgets}
+use Rattle.name_table.proofs.{Shared.{rules, name_of, forest}, Steps.{IsKept, entry_root, forgets}}
 use Rattle.name_table.proofs.table.NameTable.forget.Goals as goal
 
 kept : (c : goal.After-remove) → IsKept c.remove.new.self (forest c.args.pool.now) c.remove.new.pool
@@ -9,8 +8,6 @@ kept c = forgets (name_of c.args.name) c.requires.held c.requires.stands c.remov
 pub remove-requires-clause-root : goal.remove-requires-clause-root
 remove-requires-clause-root c = entry_root (name_of c.args.name) c.args.self.now.stored (forest c.args.pool.now) c.requires.held.roots.1
 
-pub returns-clause-forest : goal.returns-clause-forest
-returns-clause-forest c = (kept c).forest_is
-
-pub returns-clause-held : goal.returns-clause-held
-returns-clause-held c = (kept c).held
+pub returns : goal.returns
+returns c =
+    record { forest = (kept c).forest_is; held = (kept c).held; told = search rules; table = search rules; kept = search rules; stands = search rules }

@@ -1,7 +1,5 @@
 -- A slot of the name was found, or the table is not full.
-use Rattle.std.proofs.Common.{ap, ◌∙◌, sym}
-use Rattle.name_table.proofs.Shared.{name_of}
-use Rattle.name_table.proofs.Slots.{room_found, room_beside}
+use Rattle.name_table.proofs.{Shared.{ap, ◌∙◌, sym, name_of}, Slots.{room_found, room_beside}}
 use Rattle.name_table.proofs.table.NameTable.has_room_for.Goals as goal
 
 pub returns-then-is_some : goal.returns-then-is_some

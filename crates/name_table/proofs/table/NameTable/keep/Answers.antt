@@ -1,15 +1,11 @@
 -- The calls one after another, from the trees of the table and the new one.
-use Rattle.std.proofs.Common.{◌≡◌, ◌∙◌, ◌<◌, ap, sym, subst, length, Some}
-use Rattle.name_table.proofs.Shared.{name_of, released_in, has_root, without_root, forest, last_held, IsStorable, name_in}
-use Rattle.name_table.proofs.Later.{room-without}
-use Rattle.name_table.proofs.Steps.{IsKept, IsNew, answer_after, former_after, is_room, keeps_answer, keeps_named, named_table, old_answer}
+use Rattle.name_table.proofs.Shared.{rules, ◌≡◌, ◌∙◌, ◌<◌, ap, sym, subst, length, Some, name_of, released_in, has_root, without_root, forest, last_held, IsStorable, name_in}
+use Rattle.name_table.proofs.{Later.room-without, Steps.{IsKept, IsNew, answer_after, former_after, is_room, keeps_answer, keeps_named, named_table, old_answer}}
 use Rattle.name_table.proofs.table.NameTable.keep.Goals as goal
 
-pub retain-shared-requires-clause-live : goal.retain-shared-requires-clause-live
-retain-shared-requires-clause-live c = last_held c.requires.last.ends
-
-pub retain-shared-requires-clause-room : goal.retain-shared-requires-clause-room
-retain-shared-requires-clause-room c = is_room (record { stands = c.requires.stands; held = c.requires.held; gives = c.requires.last })
+pub retain-shared-requires : goal.retain-shared-requires
+retain-shared-requires c =
+    record { live = last_held c.requires.last.ends; room = is_room (record { stands = c.requires.stands; held = c.requires.held; gives = c.requires.last }); stands = search rules }
 
 pub remove-requires-clause-root : goal.remove-requires-clause-root
 remove-requires-clause-root c =
@@ -43,11 +39,9 @@ named c =
     (named_table c.args.self.now c.remove.new.self c.push.new.self c.answer.new.self x c.args.face c.retain-shared.result c.remove.ensures.table c.push.ensures c.retain-shared.ensures.handle c.answer.ensures.table)
     (c.answer.ensures.forest ∙ ap (λ i. released_in i (forest c.remove.new.pool)) same)
 
-pub returns-in-Some-clause-forest : goal.returns-in-Some-clause-forest
-returns-in-Some-clause-forest c = (named c).forest_is
-
-pub returns-in-Some-clause-held : goal.returns-in-Some-clause-held
-returns-in-Some-clause-held c = (named c).held
+pub returns-in-Some : goal.returns-in-Some
+returns-in-Some c =
+    record { forest = (named c).forest_is; held = (named c).held; table = search rules; kept = search rules; stands = search rules }
 
 pub answer-requires-in-None-clause-former : goal.answer-requires-in-None-clause-former
 answer-requires-in-None-clause-former c = old_answer (record { stands = c.requires.stands; held = c.requires.held; gives = c.requires.last })
@@ -59,8 +53,6 @@ alone c =
     (subst (λ o. IsNew (name_in o) c.args.self.now c.args.face (without_root c.args.face (forest c.args.pool.now)) c.args.pool.now) c.in-None.is new)
     c.answer-in-None.ensures.stands c.answer-in-None.ensures.table c.answer-in-None.ensures.forest
 
-pub returns-in-None-clause-forest : goal.returns-in-None-clause-forest
-returns-in-None-clause-forest c = (alone c).forest_is
-
-pub returns-in-None-clause-held : goal.returns-in-None-clause-held
-returns-in-None-clause-held c = (alone c).held
+pub returns-in-None : goal.returns-in-None
+returns-in-None c =
+    record { forest = (alone c).forest_is; held = (alone c).held; table = search rules; kept = search rules; stands = search rules }

@@ -1,7 +1,5 @@
 -- The new slot is used, as the others are.
-use Rattle.std.proofs.Common.{Some, refl, sym, subst}
-use Rattle.name_table.proofs.Shared.{AreUsed}
-use Rattle.name_table.proofs.Slots.{used_push}
+use Rattle.name_table.proofs.{Shared.{Some, refl, sym, subst, AreUsed}, Slots.used_push}
 use Rattle.name_table.proofs.table.NameTable.push.Goals as goal
 
 pub invariant_of-self : goal.invariant_of-self

@@ -1,8 +1,5 @@
 -- The slot at the place that was found is taken out.
-use Rattle.std.proofs.Common.{ap, ◌∙◌, sym, rules, map}
-use Rattle.std.specs.Prelude.{is_some}
-use Rattle.name_table.proofs.Shared.{name_of, entry_of}
-use Rattle.name_table.proofs.Slots.{IsTaken, IsMissing, taken, missing, place_inside}
+use Rattle.name_table.proofs.{Shared.{ap, ◌∙◌, sym, rules, map, is_some, name_of, entry_of}, Slots.{IsTaken, IsMissing, taken, missing, place_inside}}
 use Rattle.name_table.proofs.table.NameTable.take.Goals as goal
 
 out : (c : goal.After-remove) → IsTaken (name_of c.args.name) c.args.self.now.stored c.remove.result c.remove.new.self.items
@@ -17,20 +14,18 @@ remove-requires c = (search rules, place_inside (name_of c.args.name) c.self.ins
 pub invariant_of-self : goal.invariant_of-self
 invariant_of-self c = (out c).used
 
-pub returns-clause-stored : goal.returns-clause-stored
-returns-clause-stored c = (out c).found
+pub returns : goal.returns
+returns c =
+    record {
+      stored = (out c).found;
+      table = ap (λ a. record { ans = a; stored = map entry_of c.remove.new.self.items }) (ap (λ t. t.ans) c.self.view_is) ∙ ap (λ es. record { ans = c.args.self.now.ans; stored = es }) (out c).without;
+      tree = (out c).tree;
+    }
 
-pub returns-clause-table : goal.returns-clause-table
-returns-clause-table c = ap (λ a. record { ans = a; stored = map entry_of c.remove.new.self.items }) (ap (λ t. t.ans) c.self.view_is) ∙ ap (λ es. record { ans = c.args.self.now.ans; stored = es }) (out c).without
-
-pub returns-clause-tree : goal.returns-clause-tree
-returns-clause-tree c = (out c).tree
-
-pub returns-in_err-at-clause-stored : goal.returns-in_err-at-clause-stored
-returns-in_err-at-clause-stored c = ap is_some c.from_residual.ensures ∙ sym (none c).stored_not
-
-pub returns-in_err-at-clause-table : goal.returns-in_err-at-clause-table
-returns-in_err-at-clause-table c = sym (ap (λ es. record c.args.self.now { stored = es }) (none c).without)
-
-pub returns-in_err-at-clause-tree : goal.returns-in_err-at-clause-tree
-returns-in_err-at-clause-tree c = c.from_residual.ensures ∙ sym (none c).tree
+pub returns-in_err-at : goal.returns-in_err-at
+returns-in_err-at c =
+    record {
+      stored = ap is_some c.from_residual.ensures ∙ sym (none c).stored_not;
+      table = sym (ap (λ es. record c.args.self.now { stored = es }) (none c).without);
+      tree = c.from_residual.ensures ∙ sym (none c).tree;
+    }
