@@ -1,8 +1,6 @@
 -- What `check` answers, from what it found.
-use Rattle.std.specs.Prelude.{ℕ, ◌≡◌, ◌≤◌, ◌↔◌, List, Option, Result, Ok, Err, MatchResult, IfOk, IsOk}
-use Rattle.std.proofs.Common.{refl, ap, subst, arith}
-use Rattle.calc_parser.proofs.Shared.{Token, Tree, depth, Shape, ParseFault, Syntax, Deep, IsLine, IsNoLine, IsLineOver, HasShape, IsShallow, IsFaultOf}
-use Rattle.calc_parser.proofs.Checks.{one_line}
+use Rattle.calc_parser.proofs.Shared.{ℕ, ◌≡◌, ◌≤◌, ◌↔◌, List, Option, Result, Ok, Err, MatchResult, IfOk, IsOk, refl, ap, subst, arith, Token, Tree, depth, Shape, ParseFault}
+use Rattle.calc_parser.proofs.{Shared.{Syntax, Deep, IsLine, IsNoLine, IsLineOver, HasShape, IsShallow, IsFaultOf}, Checks.one_line}
 
 abbrev pub Found : List Token → Result Shape ParseFault → Type 0
 Found ts r = MatchResult r (IsShallow ts) (IsFaultOf ts)

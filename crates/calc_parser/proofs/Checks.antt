@@ -1,9 +1,8 @@
 -- Lines, and what stands before an arrow and a name at their end.
-use Rattle.std.specs.Prelude.{ℕ, ◌+◌, ◌≡◌, ◌≤◌, List, [], ◌∷◌, ◌++◌, length, map, Option, Some, None}
-use Rattle.std.proofs.Common.{refl, sym, ap, ◌∙◌, subst, arith, length-append, append_assoc}
-use Rattle.calc_parser.proofs.Shared.{map-append, Token, name, arrow_mark, Tree, IsSum, one_sum_tree, token_of, placed, bare, postfix, State, step, then_run, run, start, IsLine, stored, IsSplit, tokens_in}
+use Rattle.calc_parser.proofs.Shared.{ℕ, ◌+◌, ◌≡◌, ◌≤◌, List, [], ◌∷◌, ◌++◌, length, map, Option, Some, None, refl, sym, ap, ◌∙◌, subst, arith, length-append}
+use Rattle.calc_parser.proofs.Shared.{append_assoc, map-append, Token, name, arrow_mark, Tree, IsSum, one_sum_tree, token_of, placed, bare, postfix, State, step, then_run, run, start, IsLine}
+use Rattle.calc_parser.proofs.{Shared.{stored, IsSplit, tokens_in}, ReadsSums.sum_is_read}
 use Rattle.calc_tokens.specs.declared.tokens.Token.{Token as Placed}
-use Rattle.calc_parser.proofs.ReadsSums.{sum_is_read}
 
 -- two lists that end in two elements
 pub record SameEnds (us vs : List Token) (a b c d : Token) : Type 0 where
@@ -24,10 +23,7 @@ pub same_ends : (us vs : List Token) (a b c d : Token) → us ++ a ∷ b ∷ [] 
 same_ends [] [] a b c d e = record { fronts = refl; firsts = head_is a c (b ∷ []) (d ∷ []) e; seconds = head_is b d [] [] (tail_is a c (b ∷ []) (d ∷ []) e) }
 same_ends [] (v ∷ vs) a b c d e = absurd (too_long b vs c d (tail_is a v (b ∷ []) (vs ++ c ∷ d ∷ []) e))
 same_ends (u ∷ us) [] a b c d e = absurd (too_long d us a b (sym (tail_is u c (us ++ a ∷ b ∷ []) (d ∷ []) e)))
-same_ends (u ∷ us) (v ∷ vs) a b c d e =
-    let more : SameEnds us vs a b c d = same_ends us vs a b c d (tail_is u v (us ++ a ∷ b ∷ []) (vs ++ c ∷ d ∷ []) e) in
-    let first : u ≡ v = head_is u v (us ++ a ∷ b ∷ []) (vs ++ c ∷ d ∷ []) e in
-    record { fronts = ap (λ x. x ∷ us) first ∙ ap (λ xs. v ∷ xs) more.fronts; firsts = more.firsts; seconds = more.seconds }
+same_ends (u ∷ us) (v ∷ vs) a b c d e = grind (arith, head_is, tail_is, same_ends us vs a b c d (tail_is u v (us ++ a ∷ b ∷ []) (vs ++ c ∷ d ∷ []) e))
 
 -- no arrow stands in a sum
 arrow_step : (st : State) → step st arrow_mark ≡ None
@@ -56,9 +52,7 @@ line_of_sum ts us store t e d = grind arith
 
 pub sum_of_line : (ts us : List Token) (store y : Option (List ℕ)) (t : Tree) → IsSplit ts us store → IsLine ts y t → IsSum us t
 sum_of_line ts us (Some x) None t e d = absurd (no_arrow us (name x ∷ []) t (subst (λ x. IsSum x t) e d))
-sum_of_line ts us (Some x) (Some y) t e (vs, f, d) =
-    let same : SameEnds us vs arrow_mark (name x) arrow_mark (name y) = same_ends us vs arrow_mark (name x) arrow_mark (name y) (sym e ∙ f) in
-    subst (λ x. IsSum x t) (sym same.fronts) d
+sum_of_line ts us (Some x) (Some y) t e (vs, f, d) = grind (arith, same_ends)
 sum_of_line ts us None None t (e, n) d = subst (λ x. IsSum x t) e d
 sum_of_line ts us None (Some y) t (e, n) (vs, f, d) = absurd (n vs y f)
 
@@ -83,10 +77,7 @@ abbrev pub StoresNothing : List Token → Type 0
 StoresNothing ts = (vs : List Token) (x : List ℕ) → ts ≡ vs ++ arrow_mark ∷ name x ∷ [] → ⊥
 
 pub short_stores_nothing : (ts : List Token) → length ts ≤ 1 → StoresNothing ts
-short_stores_nothing ts h = λ vs x e.
-    let long : length (vs ++ arrow_mark ∷ name x ∷ []) ≡ length vs + 2 = length-append vs (arrow_mark ∷ name x ∷ []) in
-    let same : length ts ≡ length (vs ++ arrow_mark ∷ name x ∷ []) = ap length e in
-    omega arith
+short_stores_nothing ts h = grind (arith, length-append)
 
 pub unstored : (ts us : List Token) (a b : Token) → ts ≡ us ++ a ∷ b ∷ [] → None ≡ stored a b → StoresNothing ts
 unstored ts us a b e n = grind (arith, same_ends)

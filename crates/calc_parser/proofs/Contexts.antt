@@ -1,7 +1,5 @@
 -- Where a part of each level may begin, by what was opened last.
-use Rattle.std.specs.Prelude.{◌≡◌, List, [], ◌∷◌, Bool, true, false}
-use Rattle.std.proofs.Common.{arith}
-use Rattle.calc_parser.proofs.Shared.{Open, Node, ended, end_power, end_factor, end_term}
+use Rattle.calc_parser.proofs.Shared.{◌≡◌, List, [], ◌∷◌, Bool, true, false, arith, Open, Node, ended, end_power, end_factor, end_term}
 use Rattle.calc_parser.specs.declared.nesting.Open.TheVariants as opened
 
 abbrev pub begins_sum : List Open → Bool

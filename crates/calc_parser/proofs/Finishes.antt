@@ -1,7 +1,6 @@
 -- How a run ends, by what is open.
-use Rattle.std.specs.Prelude.{◌≡◌, ◌⊎◌, List, Some, None}
-use Rattle.std.proofs.Common.{arith, sym, ap}
-use Rattle.calc_parser.proofs.Shared.{Token, Open, Expects, Operand, Parenthesis, Operator, Node, state, end_product, sum_nodes, when_closed, at_operand, at_parenthesis, at_operator, step, finish, innermost}
+use Rattle.calc_parser.proofs.Shared.{◌≡◌, ◌⊎◌, List, Some, None, arith, sym, ap, Token, Open, Expects, Operand, Parenthesis, Operator, Node, state, end_product, sum_nodes}
+use Rattle.calc_parser.proofs.Shared.{when_closed, at_operand, at_parenthesis, at_operator, step, finish, innermost}
 
 pub not_finished : (x : Expects) (s : List Open) (o : List Node) → (x ≡ Operand) ⊎ (x ≡ Parenthesis) → finish (state x s o) ≡ None
 unfolding finish

@@ -1,10 +1,7 @@
 -- Leaves by their tokens.
-use Rattle.std.specs.Prelude.{◌≡◌, ℕ, Result, IfOk}
-use Rattle.std.proofs.Common.{arith, refl, sym, ap}
-use Rattle.calc_parser.proofs.Shared.{Name, name_of, Payload, rational, named, Trees, undef, root_size, What, token_of, Full, Forest, empty, one_tree, before_last, last_trees, Ends, ends_as, leaf, bytes_of_node, tree_over, Grows, before_none, last_none}
-use Rattle.calc_terms.specs.declared.rat.Rat.{Rat}
-use Rattle.calc_terms.specs.Payload.{bare}
-use Rattle.calc_terms.specs.Rat.{ratio_of}
+use Rattle.calc_parser.proofs.Shared.{◌≡◌, ℕ, Result, IfOk, arith, refl, sym, ap, Name, name_of, Payload, rational, named, Trees, undef, root_size, What, token_of, Full, Forest, empty}
+use Rattle.calc_parser.proofs.Shared.{one_tree, before_last, last_trees, Ends, ends_as, leaf, bytes_of_node, tree_over, Grows, before_none, last_none}
+use Rattle.calc_terms.specs.{declared.rat.Rat.Rat, Payload.bare, Rat.ratio_of}
 use Rattle.calc_terms.specs.declared.kind.Kind.TheVariants as kind
 use Rattle.calc_tokens.specs.declared.tokens.What.TheVariants as what
 

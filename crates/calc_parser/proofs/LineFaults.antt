@@ -1,14 +1,9 @@
 -- What `Parser::read` answers, from what it found.
-use Rattle.std.specs.Prelude.{ℕ, ◌≡◌, ◌≤◌, ◌↔◌, List, Option, Result, Ok, Err, MatchResult, IsOk}
-use Rattle.std.proofs.Common.{arith, refl, ap, subst}
-use Rattle.calc_parser.proofs.Shared.{option_map, Token, name_of, Tree, depth, Placed, bare, IsLine, IsShallow, IsFaultOf, ParseFault, Syntax, Deep, Shape}
-use Rattle.calc_tokens.specs.Faults.{IsFaultOf as IsTokenFaultOf}
-use Rattle.calc_tokens.specs.Scanned.{AreTokensOf}
-use Rattle.calc_tokens.specs.declared.tokens.TokenFault.{TokenFault}
+use Rattle.calc_parser.proofs.Shared.{ℕ, ◌≡◌, ◌≤◌, ◌↔◌, List, Option, Result, Ok, Err, MatchResult, IsOk, arith, refl, ap, subst, option_map, Token, name_of, Tree, depth}
+use Rattle.calc_parser.proofs.{Shared.{Placed, bare, IsLine, IsShallow, IsFaultOf, ParseFault, Syntax, Deep, Shape}, Answered.{accepted, not_deep}}
+use Rattle.calc_tokens.specs.{Faults.IsFaultOf as IsTokenFaultOf, Scanned.AreTokensOf, declared.tokens.TokenFault.TokenFault}
 use Rattle.calc_tokens.proofs.OneScan.{character_or_all, wide_or_all, character_or_wide, one_character, one_wide, one_list}
-use Rattle.calc_parser.specs.Refused.{IsLineFaultOf}
-use Rattle.calc_parser.specs.declared.parser.LineFault.{LineFault}
-use Rattle.calc_parser.proofs.Answered.{accepted, not_deep}
+use Rattle.calc_parser.specs.{Refused.IsLineFaultOf, declared.parser.LineFault.LineFault}
 use Rattle.calc_parser.specs.declared.parser.LineFault.TheVariants as line_fault
 
 -- the tokens of a line and what the line is like, or its fault

@@ -1,11 +1,8 @@
 -- The steps of a line's tree, from the sum before its store.
-use Rattle.std.specs.Prelude.{ℕ, ◌≡◌, List, [], map, Option, Some, None}
-use Rattle.std.proofs.Common.{refl, sym, ap, ◌∙◌, subst, arith}
-use Rattle.calc_parser.proofs.Shared.{Token, IsSum, one_sum_tree, Tree, Placed, bare, placed, finish, run, start, postfix, node_of, tokens_in, IsSplit, Step}
+use Rattle.calc_parser.proofs.Shared.{ℕ, ◌≡◌, List, [], map, Option, Some, None, refl, sym, ap, ◌∙◌, subst, arith, Token, IsSum, one_sum_tree, Tree, Placed, bare, placed, finish}
+use Rattle.calc_parser.proofs.{Shared.{run, start, postfix, node_of, tokens_in, IsSplit, Step}, Checks.{bare-placed, same_ends, short_stores_nothing}, ReadsSums.sum_is_read}
 use Rattle.calc_tokens.specs.declared.tokens.Token.{Token as Listed}
 use Rattle.calc_parser.specs.Steps.{AreStepsOf}
-use Rattle.calc_parser.proofs.Checks.{bare-placed, same_ends, short_stores_nothing}
-use Rattle.calc_parser.proofs.ReadsSums.{sum_is_read}
 
 -- the store of a line is one
 one_split : (ts us vs : List Token) (x y : Option (List ℕ)) → IsSplit ts us x → IsSplit ts vs y → us ≡ vs

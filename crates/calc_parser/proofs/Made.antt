@@ -1,7 +1,7 @@
 -- The nodes of what a sum or a product has made so far.
-use Rattle.std.specs.Prelude.{ℕ, ◌+◌, ◌≡◌, ◌≤◌, List, [], ◌∷◌, ◌++◌}
-use Rattle.std.proofs.Common.{refl, sym, ap, ◌∙◌, arith, append_assoc, append-nil}
-use Rattle.calc_parser.proofs.Shared.{Kind, Token, Tree, add, mult, Trees, none, more, append, count, SoFar, single, summed, multiplied, as_tree, plus_term, times_factor, joined_tree, Sum, first_term, plus_more, minus_more, Product, first_factor, times_more, over_more, Node, parent, postfix, postfixes, gathered}
+use Rattle.calc_parser.proofs.Shared.{ℕ, ◌+◌, ◌≡◌, ◌≤◌, List, [], ◌∷◌, ◌++◌, refl, sym, ap, ◌∙◌, arith, append_assoc, append-nil, Kind, Token, Tree, add, mult}
+use Rattle.calc_parser.proofs.Shared.{Trees, none, more, append, count, SoFar, single, summed, multiplied, as_tree, plus_term, times_factor, joined_tree, Sum, first_term, plus_more, minus_more}
+use Rattle.calc_parser.proofs.Shared.{Product, first_factor, times_more, over_more, Node, parent, postfix, postfixes, gathered}
 use Rattle.calc_terms.specs.declared.kind.Kind.TheVariants as kind
 
 pub postfixes-append : (ts us : Trees) → postfixes (append ts us) ≡ postfixes ts ++ postfixes us
@@ -20,6 +20,10 @@ gathered_many k n h = grind arith
 
 pub alone_nodes : (o : List Node) → o ≡ o ++ []
 alone_nodes o = sym (append-nil o)
+
+-- nodes regrouped, by what the last two lists make
+pub grouped : (o m g : List Node) {w : List Node} → w ≡ m ++ g → (o ++ m) ++ g ≡ o ++ w
+grouped o m g e = append_assoc o m g ∙ ap (λ n. o ++ n) (sym e)
 
 pub joined_nodes : (ts : Trees) → postfix (joined_tree ts) ≡ postfixes ts ++ gathered kind.Mult (count ts)
 joined_nodes ts = grind (arith, alone_nodes, gathered_many)

@@ -1,7 +1,8 @@
 -- Depth and number of nodes of a tree, from its nodes in postfix order.
-use Rattle.std.specs.Prelude.{ℕ, zero, suc, ◌+◌, ◌-◌, ◌≡◌, ◌≤◌, ◌<◌, max, List, [], ◌∷◌, ◌++◌, length, map, take, drop}
-use Rattle.std.proofs.Common.{refl, sym, ap, ◌∙◌, arith, length-append, append_assoc, append-nil, get_or, drop-cons, add-one}
-use Rattle.calc_parser.proofs.Shared.{drop_all, Kind, Tree, num, symbol, undef, add, mult, power, root, neg, sub, div, Trees, none, more, count, depth, depths, nodes, nodes_of, Step, Node, parent, postfix, postfixes, deepest, with_node, with_nodes}
+use Rattle.calc_parser.proofs.Shared.{ℕ, suc, ◌+◌, ◌-◌, ◌≡◌, ◌≤◌, ◌<◌, List, [], ◌∷◌, ◌++◌, length, map, take, drop, refl, sym, ap, ◌∙◌, arith}
+use Rattle.calc_parser.proofs.Shared.{length-append, append_assoc, append-nil, get_or, drop-cons, add-one, drop_all, Kind, Tree, num, symbol, undef, add, mult, power, root, neg, sub, div, Trees}
+use Rattle.calc_parser.proofs.Shared.{none, more, count, depth, depths, nodes, nodes_of, Step, Node, parent, postfix, postfixes, deepest, with_node, with_nodes}
+use Rattle.std.specs.Prelude.{zero, max}
 use Rattle.calc_terms.specs.declared.kind.Kind.TheVariants as kind
 
 -- ---- depths

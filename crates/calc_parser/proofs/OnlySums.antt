@@ -1,9 +1,11 @@
 -- What is read is a sum.
-use Rattle.std.specs.Prelude.{◌≡◌, List, [], ◌∷◌, ◌++◌, true, false, Option, Some, None}
-use Rattle.std.proofs.Common.{arith, refl, sym, ap, ◌∙◌, subst, append_assoc, append-nil}
-use Rattle.calc_parser.proofs.Shared.{Token, literal, name, undef_mark, root_mark, plus_mark, minus_mark, times_mark, slash_mark, caret_mark, left_mark, right_mark, arrow_mark, Tree, num, symbol, undef, root, count, IsSum, SoFar, as_tree, joins, Sum, plain_power, Primary, a_literal, a_name, an_undef, parenthesized, a_root, Open, Operand, Parenthesis, Operator, Expects, Node, parent, postfix, postfixes, State, state, Ended, gathered, end_power, end_powers, end_product, sum_nodes, begin_operand, at_operand, at_parenthesis, at_operator, join_power, minus_in, leave_parentheses, step, when_closed, finish, then_run, run, start}
-use Rattle.calc_parser.proofs.Made.{product_nodes, sum_nodes_of}
-use Rattle.calc_parser.proofs.Spots.{is_joined, JoinsWhere, Spot, JoinedAt, ProductAt, SumAt, joined_as, power_ends, powers_end, product_whole, product_end, sum_whole, at_start, in_parentheses, in_root, behind_plus, behind_minus, behind_term_sign, behind_times, behind_slash, behind_factor_sign, behind_powers, behind_base, behind_exponent_sign}
+use Rattle.calc_parser.proofs.Shared.{◌≡◌, List, [], ◌∷◌, ◌++◌, true, false, Option, Some, None, arith, refl, sym, ap, ◌∙◌, subst, append_assoc, append-nil, Token, literal}
+use Rattle.calc_parser.proofs.Shared.{name, undef_mark, root_mark, plus_mark, minus_mark, times_mark, slash_mark, caret_mark, left_mark, right_mark, arrow_mark, Tree, num, symbol, undef, root}
+use Rattle.calc_parser.proofs.Shared.{count, IsSum, SoFar, as_tree, joins, Sum, plain_power, Primary, a_literal, a_name, an_undef, parenthesized, a_root, Open, Operand, Parenthesis, Operator}
+use Rattle.calc_parser.proofs.Shared.{Expects, Node, parent, postfix, postfixes, State, state, Ended, gathered, end_power, end_powers, end_product, sum_nodes, begin_operand, at_operand}
+use Rattle.calc_parser.proofs.{Shared.{at_parenthesis, at_operator, join_power, minus_in, leave_parentheses, step, when_closed, finish, then_run, run, start}, Spots.{is_joined, JoinsWhere, Spot}}
+use Rattle.calc_parser.proofs.Spots.{JoinedAt, ProductAt, SumAt, part_as, power_ends, powers_end, product_whole, product_end, sum_whole, at_start, in_parentheses, in_root, behind_plus}
+use Rattle.calc_parser.proofs.Spots.{behind_minus, behind_term_sign, behind_times, behind_slash, behind_factor_sign, behind_powers, behind_base, behind_exponent_sign}
 use Rattle.calc_terms.specs.declared.kind.Kind.TheVariants as kind
 use Rattle.calc_parser.specs.declared.nesting.Open.TheVariants as opened
 
@@ -94,7 +96,7 @@ parenthesis_valid _ st r e = cc
 
 -- what an operand ends
 power_at : {a : List Token} {s : List Open} {o : List Node} → BehindOperand a s o → JoinedAt a (end_power s o)
-power_at {a} {s} {o} b = joined_as (end_power s) (sym b.split) (sym b.nodes_are) ((power_ends b.spot).powers b.last b.tree (plain_power b.derives) b.joined)
+power_at {a} {s} {o} b = part_as JoinedAt (end_power s) (sym b.split) (sym b.nodes_are) ((power_ends b.spot).powers b.last b.tree (plain_power b.derives) b.joined)
 
 factor_at : {a : List Token} {s : List Open} {o : List Node} → BehindOperand a s o → ProductAt a (end_powers s o)
 factor_at {a} {s} {o} b = powers_end a (end_power s o) (power_at b)
@@ -106,28 +108,22 @@ term_at {a} {s} {o} b = product_end a (end_powers s o) (factor_at b)
 join_valid : {a : List Token} {s : List Open} {o : List Node} (m : Token) (st : State) → BehindOperand a s o → joins (m ∷ []) ≡ true → join_power m (end_power s o) ≡ Some st → Valid (a ++ m ∷ []) st
 join_valid {a} {s} {o} m st b h e =
     let j : JoinedAt a (end_power s o) = power_at b in
-    let spot : Spot (j.before ++ j.last) (opened.Joined (count j.trees) ∷ (end_power s o).nesting) (j.nodes ++ postfixes j.trees) = behind_powers j.spot j.place j.derives in
-    let counted : Spot (j.before ++ j.last) (opened.Joined ((end_power s o).count) ∷ (end_power s o).nesting) (j.nodes ++ postfixes j.trees)
-    = subst (λ k. Spot (j.before ++ j.last) (opened.Joined k ∷ (end_power s o).nesting) (j.nodes ++ postfixes j.trees)) (sym j.count_is) spot in
+    let counted = subst (λ k. Spot (j.before ++ j.last) (opened.Joined k ∷ (end_power s o).nesting) (j.nodes ++ postfixes j.made)) (sym j.count_is) (behind_powers j.spot j.place j.derives) in
     begin_valid m st (spot_as (sym j.split) (sym j.nodes_are) counted) (λ k. h) e
 
 caret_valid : {a : List Token} {s : List Open} {o : List Node} → BehindOperand a s o → Valid (a ++ caret_mark ∷ []) (state Operand (opened.Power ∷ s) o)
 caret_valid b = (spot_as (ap (λ x. x ++ caret_mark ∷ []) (sym b.split)) (sym b.nodes_are) (behind_base b.spot b.derives b.joined), refl)
 
 times_valid : {a : List Token} (e : Ended) → ProductAt a e → Valid (a ++ times_mark ∷ []) (state Operand (opened.Product e.count ∷ e.nesting) e.nodes)
-times_valid {a} e p = (spot_as (ap (λ x. x ++ times_mark ∷ []) (sym p.split)) (sym p.nodes_are) counted, refl)
-  where
-    counted : Spot ((p.before ++ p.last) ++ times_mark ∷ []) (opened.Product e.count ∷ e.nesting) (p.nodes ++ product_nodes p.made)
-    counted = subst (λ k. Spot ((p.before ++ p.last) ++ times_mark ∷ []) (opened.Product k ∷ e.nesting) (p.nodes ++ product_nodes p.made)) (sym p.count_is) (behind_times p.spot p.place p.derives)
+times_valid {a} e p =
+    (subst (λ k. Spot (a ++ times_mark ∷ []) (opened.Product k ∷ e.nesting) e.nodes) (sym p.count_is) (spot_as (ap (λ x. x ++ times_mark ∷ []) (sym p.split)) (sym p.nodes_are) (behind_times p.spot p.place p.derives)), refl)
 
 slash_valid : {a : List Token} (e : Ended) → ProductAt a e → Valid (a ++ slash_mark ∷ []) (state Operand (opened.Quotient ∷ e.nesting) (e.nodes ++ gathered kind.Mult e.count))
 slash_valid {a} e p = (spot_as (ap (λ x. x ++ slash_mark ∷ []) (sym p.split)) (sym (product_whole a e p)) (behind_slash p.spot p.place p.derives), refl)
 
 plus_valid : {a : List Token} (e : Ended) → SumAt a e → Valid (a ++ plus_mark ∷ []) (state Operand (opened.Sum e.count ∷ e.nesting) e.nodes)
-plus_valid {a} e p = (spot_as (ap (λ x. x ++ plus_mark ∷ []) (sym p.split)) (sym p.nodes_are) counted, refl)
-  where
-    counted : Spot ((p.before ++ p.last) ++ plus_mark ∷ []) (opened.Sum e.count ∷ e.nesting) (p.nodes ++ sum_nodes_of p.made)
-    counted = subst (λ k. Spot ((p.before ++ p.last) ++ plus_mark ∷ []) (opened.Sum k ∷ e.nesting) (p.nodes ++ sum_nodes_of p.made)) (sym p.count_is) (behind_plus p.spot p.place p.derives)
+plus_valid {a} e p =
+    (subst (λ k. Spot (a ++ plus_mark ∷ []) (opened.Sum k ∷ e.nesting) e.nodes) (sym p.count_is) (spot_as (ap (λ x. x ++ plus_mark ∷ []) (sym p.split)) (sym p.nodes_are) (behind_plus p.spot p.place p.derives)), refl)
 
 difference_valid : {a : List Token} (e : Ended) → SumAt a e → Valid (a ++ minus_mark ∷ []) (state Operand (opened.Difference ∷ e.nesting) (sum_nodes e))
 difference_valid {a} e p = (spot_as (ap (λ x. x ++ minus_mark ∷ []) (sym p.split)) (sym (sum_whole a e p)) (behind_minus p.spot p.place p.derives), refl)

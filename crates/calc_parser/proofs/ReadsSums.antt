@@ -1,9 +1,13 @@
 -- What is a sum is read, and its nodes in postfix order are found.
-use Rattle.std.specs.Prelude.{◌+◌, ◌≡◌, List, [], ◌∷◌, ◌++◌, Bool, true, false, Option, Some, None}
-use Rattle.std.proofs.Common.{refl, sym, ap, ◌∙◌, append_assoc, append-nil}
-use Rattle.calc_parser.proofs.Shared.{Token, literal, name, undef_mark, root_mark, plus_mark, minus_mark, times_mark, slash_mark, caret_mark, left_mark, right_mark, arrow_mark, Tree, Trees, none, more, append, count, IsSum, SoFar, as_tree, plus_term, times_factor, joined_tree, joins, Sum, first_term, plus_more, minus_more, Signed, minus_signed, plain_signed, Product, first_factor, times_more, over_more, Right, minus_right, plain_right, Joined, one_power, another_power, Power, plain_power, raised_power, Exponent, minus_exponent, plain_exponent, Primary, a_literal, a_name, an_undef, parenthesized, a_root, Open, Operand, Operator, Node, parent, postfix, postfixes, state, Ended, ended, gathered, end_power, end_factor, end_term, sum_nodes, minus_in, leave_parentheses, step, when_closed, finish, then_run, run, start}
+use Rattle.calc_parser.proofs.Shared.{arith, ℕ, ◌+◌, ◌≡◌, List, [], ◌∷◌, ◌++◌, Bool, true, false, Option, Some, None, refl, sym, ap, ◌∙◌, append_assoc, append-nil}
+use Rattle.calc_parser.proofs.Shared.{Token, name, undef_mark, root_mark, plus_mark, minus_mark, times_mark, slash_mark, caret_mark, left_mark, right_mark, Tree, Trees, count, IsSum, SoFar}
+use Rattle.calc_parser.proofs.Shared.{as_tree, joined_tree, joins, Sum, first_term, plus_more, minus_more, Signed, minus_signed, plain_signed, Product, first_factor, times_more, over_more}
+use Rattle.calc_parser.proofs.Shared.{Right, minus_right, plain_right, Joined, one_power, another_power, Power, plain_power, raised_power, Exponent, minus_exponent, plain_exponent, Primary}
+use Rattle.calc_parser.proofs.Shared.{a_literal, a_name, an_undef, parenthesized, a_root, Open, Operand, Operator, Node, parent, postfix, postfixes, state, Ended, ended, gathered, end_power}
+use Rattle.calc_parser.proofs.Shared.{end_factor, end_term, sum_nodes, minus_in, leave_parentheses, step, when_closed, finish, then_run, run, start}
 use Rattle.calc_parser.proofs.Contexts.{begins_sum, begins_term, begins_right, begins_exponent, begins_factor, sum_alone, term_alone, factor_alone, term_factor, sum_term, right_factor}
-use Rattle.calc_parser.proofs.Made.{postfixes-one_more, count-one_more, alone_nodes, joined_nodes, product_nodes, product_count, sum_nodes_of, sum_count, whole_product, whole_sum, times_nodes, times_count, plus_nodes, plus_count, has_factors, has_terms}
+use Rattle.calc_parser.proofs.Made.{postfixes-one_more, count-one_more, alone_nodes, joined_nodes, product_nodes, product_count, sum_nodes_of, sum_count, whole_product, whole_sum, times_nodes}
+use Rattle.calc_parser.proofs.Made.{times_count, plus_nodes, plus_count, has_factors, has_terms, grouped}
 use Rattle.calc_terms.specs.declared.kind.Kind.TheVariants as kind
 use Rattle.calc_parser.specs.declared.nesting.Open.TheVariants as opened
 
@@ -51,84 +55,48 @@ joined_power (caret_mark ∷ c) e = e
 joined_power _ e = refl
 
 product_joined : (c : List Token) → ends_product c ≡ true → ends_joined c ≡ true
-product_joined (times_mark ∷ c) e = refl
-product_joined (slash_mark ∷ c) e = refl
-product_joined _ e = e
+product_joined c e = grind (arith)
 
 joins_power : (b c : List Token) → joins b ≡ true → ends_power (b ++ c) ≡ true
-joins_power (caret_mark ∷ b) c e = cc
-joins_power [] c e = cc
-joins_power _ c e = refl
+joins_power b c e = grind (arith)
 
 -- behind an operand, but for `^`
 after_operand : (s : List Open) (o : List Node) (c : List Token) → ends_power c ≡ true → run (state Operator s o) c ≡ joined_on (end_power s o) c
 unfolding run step finish
-after_operand s o [] e = refl
-after_operand s o (literal q ∷ c) e = refl
-after_operand s o (name x ∷ c) e = refl
-after_operand s o (undef_mark ∷ c) e = refl
-after_operand s o (root_mark ∷ c) e = refl
-after_operand s o (plus_mark ∷ c) e = refl
-after_operand s o (minus_mark ∷ c) e = refl
-after_operand s o (times_mark ∷ c) e = refl
-after_operand s o (slash_mark ∷ c) e = refl
-after_operand s o (caret_mark ∷ c) e = cc
-after_operand s o (left_mark ∷ c) e = refl
-after_operand s o (right_mark ∷ c) e = refl
-after_operand s o (arrow_mark ∷ c) e = refl
+after_operand s o c e = grind (arith)
 
 -- ---- the grammar, rule by rule
 
 -- behind powers side by side, at the end of a joined product
 joined_end : (e : Ended) (c : List Token) → ends_joined c ≡ true → joined_on e c ≡ product_on (end_factor e.nesting (e.nodes ++ gathered kind.Mult e.count)) c
-joined_end e (caret_mark ∷ c) h = cc
-joined_end e (name x ∷ c) h = cc
-joined_end e (undef_mark ∷ c) h = cc
-joined_end e (left_mark ∷ c) h = cc
-joined_end e (root_mark ∷ c) h = cc
-joined_end e _ h = refl
+joined_end e c h = grind (arith)
 
 joined_next : (e : Ended) (c : List Token) → joins c ≡ true → joined_on e c ≡ run (state Operand (opened.Joined e.count ∷ e.nesting) e.nodes) c
-joined_next e (name x ∷ c) h = refl
-joined_next e (undef_mark ∷ c) h = refl
-joined_next e (left_mark ∷ c) h = refl
-joined_next e (root_mark ∷ c) h = refl
-joined_next e _ h = cc
+joined_next e c h = grind (arith)
 
 product_end : (e : Ended) (c : List Token) → ends_product c ≡ true → product_on e c ≡ sum_on (end_term e.nesting (e.nodes ++ gathered kind.Mult e.count)) c
-product_end e (times_mark ∷ c) h = cc
-product_end e (slash_mark ∷ c) h = cc
-product_end e _ h = refl
+product_end e c h = grind (arith)
 
 pub joins_before : (b c : List Token) → joins b ≡ true → joins (b ++ c) ≡ true
-joins_before [] c e = cc
-joins_before (name x ∷ b) c e = refl
-joins_before _ c e = e
+joins_before b c e = grind (arith)
 
 -- a minus sign before an exponent, a factor, a term
 minus_exponent_in : (s : List Open) → begins_exponent s ≡ true → minus_in s ≡ opened.NegatedExponent
-minus_exponent_in (opened.Power ∷ s) h = refl
-minus_exponent_in (opened.NegatedExponent ∷ s) h = refl
-minus_exponent_in _ h = cc
+minus_exponent_in s h = grind (arith)
 
 minus_factor_in : (s : List Open) → begins_right s ≡ true → minus_in s ≡ opened.NegatedFactor
-minus_factor_in (opened.Product k ∷ s) h = refl
-minus_factor_in (opened.Quotient ∷ s) h = refl
-minus_factor_in (opened.NegatedFactor ∷ s) h = refl
-minus_factor_in _ h = cc
+minus_factor_in s h = grind (arith)
 
 minus_term_in : (s : List Open) → begins_term s ≡ true → minus_in s ≡ opened.NegatedTerm
-minus_term_in [] h = refl
-minus_term_in (opened.Parentheses ∷ s) h = refl
-minus_term_in (opened.Root ∷ s) h = refl
-minus_term_in (opened.Sum k ∷ s) h = refl
-minus_term_in (opened.Difference ∷ s) h = refl
-minus_term_in (opened.NegatedTerm ∷ s) h = refl
-minus_term_in _ h = cc
+minus_term_in s h = grind (arith)
 
 run_minus : (s : List Open) (o : List Node) (x : Open) (c : List Token) → minus_in s ≡ x → run (state Operand s o) (minus_mark ∷ c) ≡ run (state Operand (x ∷ s) o) c
 unfolding run step
 run_minus s o x c e = ap (λ x. run (state Operand (x ∷ s) o) c) e
+
+-- one child more, with its nodes
+more_ended : (s : List Open) (o m u : List Node) (k : ℕ) {w : List Node} {n : ℕ} → w ≡ m ++ u → n ≡ k + 1 → ended s ((o ++ m) ++ u) (k + 1) ≡ ended s (o ++ w) n
+more_ended s o m u k {w} e f = ap (λ x. ended s x (k + 1)) (grouped o m u e) ∙ ap (ended s (o ++ w)) (sym f)
 
 binary_nodes : (o m g w u l : List Node) → w ≡ m ++ g → (((o ++ m) ++ g) ++ u) ++ l ≡ o ++ ((w ++ u) ++ l)
 binary_nodes o m g w u l e = rw e (simp append_assoc)
@@ -147,7 +115,7 @@ mutual
       ap (run (state Operand s o)) (append_assoc a (plus_mark ∷ b) c)
       ∙ sum_runs d s o (plus_mark ∷ b ++ c) h refl
       ∙ signed_runs d' (opened.Sum (sum_count p) ∷ s) (o ++ sum_nodes_of p) c refl e
-      ∙ ap (λ x. sum_on x c) (ap (λ n. ended s n (sum_count p + 1)) (append_assoc o (sum_nodes_of p) (postfix u) ∙ ap (λ n. o ++ n) (sym (plus_nodes p u))) ∙ ap (λ k. ended s (o ++ sum_nodes_of (plus_term p u)) k) (sym (plus_count p u)))
+      ∙ ap (λ x. sum_on x c) (more_ended s o (sum_nodes_of p) (postfix u) (sum_count p) (plus_nodes p u) (plus_count p u))
   sum_runs (minus_more {a} {b} {s = p} {u} d d') s o c h e =
       ap (run (state Operand s o)) (append_assoc a (minus_mark ∷ b) c)
       ∙ sum_runs d s o (minus_mark ∷ b ++ c) h refl
@@ -162,18 +130,18 @@ mutual
       ∙ ap (λ n. sum_on (end_term s n) c) (append_assoc o (postfix t) (parent kind.Neg 1 ∷ []))
   signed_runs (plain_signed {a} {s = p} d) s o c h e =
       product_runs d s o c h (product_joined c e) ∙ product_end (ended s (o ++ product_nodes p) (product_count p)) c e
-      ∙ ap (λ n. sum_on (end_term s n) c) (append_assoc o (product_nodes p) (gathered kind.Mult (product_count p)) ∙ ap (λ n. o ++ n) (sym (whole_product p (has_factors d))))
+      ∙ ap (λ n. sum_on (end_term s n) c) (grouped o (product_nodes p) (gathered kind.Mult (product_count p)) (whole_product p (has_factors d)))
 
   product_runs : {a : List Token} {p : SoFar} → Product a p → (s : List Open) (o : List Node) (c : List Token) → begins_term s ≡ true → ends_joined c ≡ true
       → run (state Operand s o) (a ++ c) ≡ product_on (ended s (o ++ product_nodes p) (product_count p)) c
   product_runs (first_factor {a} {ts} d) s o c h e =
       joined_runs d s o c (term_factor s h) (joined_power c e) ∙ joined_end (ended s (o ++ postfixes ts) (count ts)) c e
-      ∙ ap (λ x. product_on x c) (ap (end_factor s) (append_assoc o (postfixes ts) (gathered kind.Mult (count ts)) ∙ ap (λ n. o ++ n) (sym (joined_nodes ts))) ∙ term_alone s (o ++ postfix (joined_tree ts)) h)
+      ∙ ap (λ x. product_on x c) (ap (end_factor s) (grouped o (postfixes ts) (gathered kind.Mult (count ts)) (joined_nodes ts)) ∙ term_alone s (o ++ postfix (joined_tree ts)) h)
   product_runs (times_more {a} {b} {s = p} {u} d d') s o c h e =
       ap (run (state Operand s o)) (append_assoc a (times_mark ∷ b) c)
       ∙ product_runs d s o (times_mark ∷ b ++ c) h refl
       ∙ right_runs d' (opened.Product (product_count p) ∷ s) (o ++ product_nodes p) c refl e
-      ∙ ap (λ x. product_on x c) (ap (λ n. ended s n (product_count p + 1)) (append_assoc o (product_nodes p) (postfix u) ∙ ap (λ n. o ++ n) (sym (times_nodes p u))) ∙ ap (λ k. ended s (o ++ product_nodes (times_factor p u)) k) (sym (times_count p u)))
+      ∙ ap (λ x. product_on x c) (more_ended s o (product_nodes p) (postfix u) (product_count p) (times_nodes p u) (times_count p u))
   product_runs (over_more {a} {b} {s = p} {u} d d') s o c h e =
       ap (run (state Operand s o)) (append_assoc a (slash_mark ∷ b) c)
       ∙ product_runs d s o (slash_mark ∷ b ++ c) h refl
@@ -188,7 +156,7 @@ mutual
       ∙ ap (λ n. product_on (end_factor s n) c) (append_assoc o (postfix t) (parent kind.Neg 1 ∷ []))
   right_runs (plain_right {a} {ts} d) s o c h e =
       joined_runs d s o c (right_factor s h) (joined_power c e) ∙ joined_end (ended s (o ++ postfixes ts) (count ts)) c e
-      ∙ ap (λ n. product_on (end_factor s n) c) (append_assoc o (postfixes ts) (gathered kind.Mult (count ts)) ∙ ap (λ n. o ++ n) (sym (joined_nodes ts)))
+      ∙ ap (λ n. product_on (end_factor s n) c) (grouped o (postfixes ts) (gathered kind.Mult (count ts)) (joined_nodes ts))
 
   joined_runs : {a : List Token} {ts : Trees} → Joined a ts → (s : List Open) (o : List Node) (c : List Token) → begins_factor s ≡ true → ends_power c ≡ true
       → run (state Operand s o) (a ++ c) ≡ joined_on (ended s (o ++ postfixes ts) (count ts)) c
@@ -199,7 +167,7 @@ mutual
       ∙ joined_runs d s o (b ++ c) h (joins_power b c j)
       ∙ joined_next (ended s (o ++ postfixes ts) (count ts)) (b ++ c) (joins_before b c j)
       ∙ power_runs d' (opened.Joined (count ts) ∷ s) (o ++ postfixes ts) c e
-      ∙ ap (λ x. joined_on x c) (ap (λ n. ended s n (count ts + 1)) (append_assoc o (postfixes ts) (postfix u) ∙ ap (λ n. o ++ n) (sym (postfixes-one_more ts u))) ∙ ap (λ k. ended s (o ++ postfixes (append ts (more u none))) k) (sym (count-one_more ts u)))
+      ∙ ap (λ x. joined_on x c) (more_ended s o (postfixes ts) (postfix u) (count ts) (postfixes-one_more ts u) (count-one_more ts u))
 
   power_runs : {a : List Token} {t : Tree} → Power a t → (s : List Open) (o : List Node) (c : List Token) → ends_power c ≡ true
       → run (state Operand s o) (a ++ c) ≡ joined_on (end_power s (o ++ postfix t)) c
@@ -225,7 +193,7 @@ mutual
   primary_runs (parenthesized {a} {s = p} d) s o c =
       ap (run (state Operand (opened.Parentheses ∷ s) o)) (append_assoc a (right_mark ∷ []) c)
       ∙ sum_runs d (opened.Parentheses ∷ s) o (right_mark ∷ c) refl refl
-      ∙ ap (λ n. run (state Operator s n) c) (append_assoc o (sum_nodes_of p) (gathered kind.Add (sum_count p)) ∙ ap (λ n. o ++ n) (sym (whole_sum p (has_terms d))))
+      ∙ ap (λ n. run (state Operator s n) c) (grouped o (sum_nodes_of p) (gathered kind.Add (sum_count p)) (whole_sum p (has_terms d)))
   primary_runs (a_root {a} {s = p} d) s o c =
       ap (run (state Operand (opened.Root ∷ s) o)) (append_assoc a (right_mark ∷ []) c)
       ∙ sum_runs d (opened.Root ∷ s) o (right_mark ∷ c) refl refl

@@ -1,7 +1,6 @@
 -- A tree from its nodes in postfix order.
-use Rattle.std.specs.Prelude.{◌≡◌, ◌+◌, List, [], ◌∷◌, ◌++◌, true}
-use Rattle.std.proofs.Common.{refl, sym, ap, ◌∙◌, subst, arith, append_assoc, append-nil}
-use Rattle.calc_parser.proofs.Shared.{Tree, num, symbol, undef, add, mult, power, root, neg, sub, div, Trees, none, more, append, count, append-none, Node, postfix, postfixes, children_in, tree_over, takes_children}
+use Rattle.calc_parser.proofs.Shared.{◌≡◌, ◌+◌, List, [], ◌∷◌, ◌++◌, true, refl, sym, ap, ◌∙◌, subst, arith, append_assoc, append-nil, Tree, num, symbol, undef, add}
+use Rattle.calc_parser.proofs.Shared.{mult, power, root, neg, sub, div, Trees, none, more, append, count, append-none, Node, postfix, postfixes, children_in, tree_over, takes_children}
 
 -- the last of the trees become the children of the node
 pub record Takes (n : Node) (ts below us : Trees) : Type 0 where
@@ -78,10 +77,7 @@ pub same_parts : (a b c d : Trees) → append a b ≡ append c d → count b ≡
 same_parts none b none d e h = record { fronts = refl; ends = e }
 same_parts none b (more u c) d e h = absurd (no_front u c d b (sym e) (sym h))
 same_parts (more t a) b none d e h = absurd (no_front t a b d e h)
-same_parts (more t a) b (more u c) d e h =
-    let p = same_parts a b c d (tail_is t u (append a b) (append c d) e) h in
-    let first : t ≡ u = head_is t u (append a b) (append c d) e in
-    record { fronts = ap (λ x. more x a) first ∙ ap (more u) p.fronts; ends = p.ends }
+same_parts (more t a) b (more u c) d e h = grind (arith, tail_is, head_is, same_parts a b c d (tail_is t u (append a b) (append c d) e) h)
 
 -- ---- nodes make one tree
 

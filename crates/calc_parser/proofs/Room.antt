@@ -1,7 +1,5 @@
 -- How much room the nodes and what is open take.
-use Rattle.std.specs.Prelude.{◌≤◌, List, [], ◌∷◌, length}
-use Rattle.std.proofs.Common.{arith}
-use Rattle.calc_parser.proofs.Shared.{Open, weight_of, weight}
+use Rattle.calc_parser.proofs.Shared.{◌≤◌, List, [], ◌∷◌, length, arith, Open, weight_of, weight}
 
 pub weight_of_pos : (x : Open) → 1 ≤ weight_of x
 weight_of_pos x = grind arith

@@ -1,11 +1,10 @@
 -- A run over a list of tokens, by place.
-use Rattle.std.specs.Prelude.{ℕ, suc, ◌+◌, ◌≡◌, ◌≤◌, ◌<◌, List, [], ◌∷◌, length, drop, Option, Some, None, Result, Ok, Err, MatchResult, OnErr, OnOk}
-use Rattle.std.proofs.Common.{arith, refl, sym, ap, ◌∙◌, get_or, drop-cons, add-one}
-use Rattle.calc_parser.proofs.Shared.{get_or-map, drop_all, Token, undef_mark, Tree, IsSum, token_of, Node, postfix, State, step, then_run, finish, run, start, token_in, tokens_in}
+use Rattle.calc_parser.proofs.Shared.{ℕ, suc, ◌+◌, ◌≡◌, ◌≤◌, ◌<◌, List, [], ◌∷◌, length, drop, Option, Some, None, Result, Ok, Err, MatchResult, OnOk, arith, refl}
+use Rattle.calc_parser.proofs.Shared.{sym, ap, ◌∙◌, get_or, drop-cons, add-one, get_or-map, drop_all, Token, undef_mark, Tree, IsSum, token_of, Node, postfix, State, step, then_run}
+use Rattle.calc_parser.proofs.{Shared.{finish, run, start, token_in, tokens_in}, ReadsSums.sum_is_read, OnlySums.only_sums}
+use Rattle.std.specs.Prelude.{OnErr}
 use Rattle.calc_tokens.specs.declared.tokens.Token.{Token as Placed}
 use Rattle.calc_parser.specs.declared.reader.NoSum.{NoSum}
-use Rattle.calc_parser.proofs.ReadsSums.{sum_is_read}
-use Rattle.calc_parser.proofs.OnlySums.{only_sums}
 
 -- the token at a place of the list
 pub token_at_place : (tokens : List Placed) (at : ℕ) (t : Placed) → at < length tokens → t ≡ get_or tokens at t → token_in (tokens_in tokens) at ≡ token_of t.what

@@ -1,8 +1,7 @@
 -- The room that the nodes of a tree take.
-use Rattle.std.specs.Prelude.{◌≡◌, ℕ, ◌+◌, ◌-◌, ◌≤◌, ◌↔◌, List, [], ◌∷◌, ◌++◌, if◌then◌else◌, Ok, Err}
-use Rattle.std.proofs.Common.{refl, ap, ◌∙◌, arith, leb}
-use Rattle.calc_parser.proofs.Shared.{leb-true, Tree, num, symbol, undef, add, mult, power, root, neg, sub, div, Trees, none, more, count, size, sizes, by_test, Node, parent, postfix, postfixes, bytes_of_node, placing, building}
-use Rattle.calc_parser.proofs.UnderWay.{by_room}
+use Rattle.calc_parser.proofs.Shared.{◌≡◌, ℕ, ◌+◌, ◌-◌, ◌≤◌, ◌↔◌, List, [], ◌∷◌, ◌++◌, if◌then◌else◌, Ok, Err, refl, ap, ◌∙◌, arith, leb}
+use Rattle.calc_parser.proofs.Shared.{leb-true, Tree, num, symbol, undef, add, mult, power, root, neg, sub, div, Trees, none, more, count, size, sizes, by_test, Node, parent, postfix, postfixes}
+use Rattle.calc_parser.proofs.{Shared.{bytes_of_node, placing, building}, UnderWay.by_room}
 use Rattle.calc_terms.specs.declared.kind.Kind.TheVariants as kind
 
 -- the bytes that nodes take
@@ -36,8 +35,7 @@ mutual
 
 fits : (ns : List Node) (free : ℕ) → bytes_of ns ≤ free → placing free ns ≡ Ok (free - bytes_of ns)
 fits [] free h = ap Ok (omega arith)
-fits (n ∷ ns) free h =
-    by_room n ns free (omega arith) ∙ fits ns (free - bytes_of_node n) (omega arith) ∙ ap Ok (omega arith)
+fits (n ∷ ns) free h = grind (arith, by_room, fits ns (free - bytes_of_node n) (omega arith))
 
 -- whatever is answered with bytes left had room
 room : (ns : List Node) (free left : ℕ) → placing free ns ≡ Ok left → bytes_of ns ≤ free

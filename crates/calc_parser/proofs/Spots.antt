@@ -1,10 +1,12 @@
 -- Tokens that leave something open, and the parts that end with them.
-use Rattle.std.specs.Prelude.{◌≡◌, List, [], ◌∷◌, ◌++◌, Bool, true, false}
-use Rattle.std.proofs.Common.{arith, refl, sym, ap, ◌∙◌, subst, append_assoc}
-use Rattle.calc_parser.proofs.Shared.{Token, root_mark, plus_mark, minus_mark, times_mark, slash_mark, caret_mark, left_mark, Tree, power, neg, Trees, none, more, append, count, SoFar, single, as_tree, plus_term, minus_term, times_factor, over_factor, joined_tree, joins, Sum, first_term, plus_more, minus_more, Signed, minus_signed, plain_signed, Product, first_factor, times_more, over_more, Right, minus_right, plain_right, Joined, one_power, another_power, Power, raised_power, Exponent, minus_exponent, plain_exponent, Primary, Open, Node, parent, postfix, postfixes, Ended, ended, gathered, end_power, end_factor, end_term, sum_nodes}
-use Rattle.calc_parser.proofs.Contexts.{begins_sum, begins_term, begins_right, begins_exponent, begins_factor, sum_alone, term_alone}
-use Rattle.calc_parser.proofs.Made.{postfixes-one_more, count-one_more, alone_nodes, joined_nodes, product_nodes, product_count, sum_nodes_of, sum_count, whole_product, whole_sum, times_nodes, times_count, plus_nodes, plus_count, has_factors, has_terms}
-use Rattle.calc_parser.proofs.ReadsSums.{joins_before}
+use Rattle.calc_parser.proofs.Shared.{ℕ, ◌≡◌, List, [], ◌∷◌, ◌++◌, Bool, true, false, arith, refl, sym, ap, ◌∙◌, subst, append_assoc, Token, root_mark, plus_mark}
+use Rattle.calc_parser.proofs.Shared.{minus_mark, times_mark, slash_mark, caret_mark, left_mark, Tree, power, neg, Trees, none, more, append, count, SoFar, single, as_tree, plus_term}
+use Rattle.calc_parser.proofs.Shared.{minus_term, times_factor, over_factor, joined_tree, joins, Sum, first_term, plus_more, minus_more, Signed, minus_signed, plain_signed, Product}
+use Rattle.calc_parser.proofs.Shared.{first_factor, times_more, over_more, Right, minus_right, plain_right, Joined, one_power, another_power, Power, raised_power, Exponent, minus_exponent}
+use Rattle.calc_parser.proofs.Shared.{plain_exponent, Primary, Open, Node, parent, postfix, postfixes, Ended, ended, gathered, end_power, end_factor, end_term, sum_nodes}
+use Rattle.calc_parser.proofs.{Contexts.{begins_sum, begins_term, begins_right, begins_exponent, begins_factor, sum_alone, term_alone}, Made.{postfixes-one_more, count-one_more, alone_nodes}}
+use Rattle.calc_parser.proofs.Made.{joined_nodes, product_nodes, product_count, sum_nodes_of, sum_count, whole_product, whole_sum, times_nodes, times_count, plus_nodes, plus_count, has_factors}
+use Rattle.calc_parser.proofs.{Made.{has_terms, grouped}, ReadsSums.joins_before}
 use Rattle.calc_terms.specs.declared.kind.Kind.TheVariants as kind
 use Rattle.calc_parser.specs.declared.nesting.Open.TheVariants as opened
 
@@ -34,57 +36,37 @@ pub data Spot : List Token → List Open → List Node → Type 0 where
 
 -- ---- parts that have ended
 
--- powers side by side end the tokens
-pub record JoinedAt (a : List Token) (e : Ended) : Type 0 where
+-- a part of a level ends the tokens: where it begins, what it derives, its nodes so far, and how many children they are
+pub record PartAt (M : Type 0) (begins : List Open → Bool) (Derives : List Token → M → Type 0) (nodes_of : M → List Node) (count_of : M → ℕ) (a : List Token) (e : Ended) : Type 0 where
   pub before : List Token
   pub last : List Token
   pub nodes : List Node
-  pub trees : Trees
+  pub made : M
   pub split : a ≡ before ++ last
   pub spot : Spot before e.nesting nodes
-  pub place : begins_factor e.nesting ≡ true
-  pub derives : Joined last trees
-  pub nodes_are : e.nodes ≡ nodes ++ postfixes trees
-  pub count_is : e.count ≡ count trees
+  pub place : begins e.nesting ≡ true
+  pub derives : Derives last made
+  pub nodes_are : e.nodes ≡ nodes ++ nodes_of made
+  pub count_is : e.count ≡ count_of made
 
-pub record ProductAt (a : List Token) (e : Ended) : Type 0 where
-  pub before : List Token
-  pub last : List Token
-  pub nodes : List Node
-  pub made : SoFar
-  pub split : a ≡ before ++ last
-  pub spot : Spot before e.nesting nodes
-  pub place : begins_term e.nesting ≡ true
-  pub derives : Product last made
-  pub nodes_are : e.nodes ≡ nodes ++ product_nodes made
-  pub count_is : e.count ≡ product_count made
+-- powers side by side, a product, a sum
+abbrev pub JoinedAt : List Token → Ended → Type 0
+JoinedAt = PartAt Trees begins_factor Joined postfixes count
 
-pub record SumAt (a : List Token) (e : Ended) : Type 0 where
-  pub before : List Token
-  pub last : List Token
-  pub nodes : List Node
-  pub made : SoFar
-  pub split : a ≡ before ++ last
-  pub spot : Spot before e.nesting nodes
-  pub place : begins_sum e.nesting ≡ true
-  pub derives : Sum last made
-  pub nodes_are : e.nodes ≡ nodes ++ sum_nodes_of made
-  pub count_is : e.count ≡ sum_count made
+abbrev pub ProductAt : List Token → Ended → Type 0
+ProductAt = PartAt SoFar begins_term Product product_nodes product_count
+
+abbrev pub SumAt : List Token → Ended → Type 0
+SumAt = PartAt SoFar begins_sum Sum sum_nodes_of sum_count
 
 -- the same, of equal tokens and nodes
-pub joined_as : (f : List Node → Ended) {a b : List Token} {m n : List Node} → a ≡ b → m ≡ n → JoinedAt a (f m) → JoinedAt b (f n)
-joined_as f {a} {b} {m} {n} e g j = subst (λ x. JoinedAt x (f n)) e (subst (λ x. JoinedAt a (f x)) g j)
-
-pub product_as : (f : List Node → Ended) {a b : List Token} {m n : List Node} → a ≡ b → m ≡ n → ProductAt a (f m) → ProductAt b (f n)
-product_as f {a} {b} {m} {n} e g j = subst (λ x. ProductAt x (f n)) e (subst (λ x. ProductAt a (f x)) g j)
-
-pub sum_as : (f : List Node → Ended) {a b : List Token} {m n : List Node} → a ≡ b → m ≡ n → SumAt a (f m) → SumAt b (f n)
-sum_as f {a} {b} {m} {n} e g j = subst (λ x. SumAt x (f n)) e (subst (λ x. SumAt a (f x)) g j)
+pub part_as : (At : List Token → Ended → Type 0) (f : List Node → Ended) {a b : List Token} {m n : List Node} → a ≡ b → m ≡ n → At a (f m) → At b (f n)
+part_as At f {a} {b} {m} {n} e g j = subst (λ x. At x (f n)) e (subst (λ x. At a (f x)) g j)
 
 -- a power with nothing beside it
 pub power_alone : {b c : List Token} {s : List Open} {o : List Node} {t : Tree} → Spot b s o → begins_factor s ≡ true → Power c t → JoinedAt (b ++ c) (ended s (o ++ postfix t) 1)
 power_alone {b} {c} {s} {o} {t} spot place d =
-    record { before = b; last = c; nodes = o; trees = more t none; split = refl; spot = spot; place = place; derives = one_power d; nodes_are = ap (λ n. o ++ n) (alone_nodes (postfix t)); count_is = refl }
+    record { before = b; last = c; nodes = o; made = more t none; split = refl; spot = spot; place = place; derives = one_power d; nodes_are = ap (λ n. o ++ n) (alone_nodes (postfix t)); count_is = refl }
 
 -- tokens with a mark between them, and nodes, regrouped
 pub mark_between : (a b : List Token) (m : Token) (c : List Token) → a ++ (b ++ m ∷ c) ≡ ((a ++ b) ++ m ∷ []) ++ c
@@ -114,12 +96,12 @@ only_exponents f = record { powers = λ c t d j. f c t (plain_exponent d); expon
 
 pub base_ends : {a b : List Token} {s : List Open} {o : List Node} {base : Tree} → Primary b base → JoinsWhere s b → PowerEnds a s o → PowerEnds ((a ++ b) ++ caret_mark ∷ []) (opened.Power ∷ s) (o ++ postfix base)
 base_ends {a} {b} {s} {o} {base} x i r = only_exponents (λ c t d.
-    joined_as (end_power s) (mark_between a b caret_mark c) (binary_group o (postfix base) (postfix t) (parent kind.Pow 2 ∷ []))
+    part_as JoinedAt (end_power s) (mark_between a b caret_mark c) (binary_group o (postfix base) (postfix t) (parent kind.Pow 2 ∷ []))
     (r.powers (b ++ caret_mark ∷ c) (power base t) (raised_power x d) (λ k. joins_before b (caret_mark ∷ c) (i k))))
 
 pub exponent_sign_ends : {a : List Token} {s : List Open} {o : List Node} → begins_exponent s ≡ true → PowerEnds a s o → PowerEnds (a ++ minus_mark ∷ []) (opened.NegatedExponent ∷ s) o
 exponent_sign_ends {a} {s} {o} k r = only_exponents (λ c t d.
-    joined_as (end_power s) (mark_before a minus_mark c) (unary_group o (postfix t) (parent kind.Neg 1 ∷ []))
+    part_as JoinedAt (end_power s) (mark_before a minus_mark c) (unary_group o (postfix t) (parent kind.Neg 1 ∷ []))
     (r.exponents (minus_mark ∷ c) (neg t) (minus_exponent d) k))
 
 pub power_ends : {b : List Token} {s : List Open} {o : List Node} → Spot b s o → PowerEnds b s o
@@ -137,12 +119,12 @@ power_ends (behind_powers {a} {b} {s} {o} {ts} q h x) = record {
     before = a;
     last = b ++ c;
     nodes = o;
-    trees = append ts (more t none);
+    made = append ts (more t none);
     split = append_assoc a b c;
     spot = q;
     place = h;
     derives = another_power x d (j refl);
-    nodes_are = append_assoc o (postfixes ts) (postfix t) ∙ ap (λ n. o ++ n) (sym (postfixes-one_more ts t));
+    nodes_are = grouped o (postfixes ts) (postfix t) (postfixes-one_more ts t);
     count_is = sym (count-one_more ts t);
   };
   exponents = λ c t d e. cc;
@@ -150,62 +132,51 @@ power_ends (behind_powers {a} {b} {s} {o} {ts} q h x) = record {
 power_ends (behind_base q x i) = base_ends x i (power_ends q)
 power_ends (behind_exponent_sign q k) = exponent_sign_ends k (power_ends q)
 
--- ---- factors
+-- ---- factors and terms
 
-pub record FactorEnds (b : List Token) (s : List Open) (o : List Node) : Type 0 where
-  pub rights : (c : List Token) (t : Tree) → Right c t → begins_right s ≡ true → ProductAt (b ++ c) (end_factor s (o ++ postfix t))
+-- what a part that comes last makes of what is open
+pub record PartEnds (At : List Token → Ended → Type 0) (Derives : List Token → Tree → Type 0) (begins : List Open → Bool) (end : List Open → List Node → Ended) (b : List Token) (s : List Open) (o : List Node) : Type 0 where
+  pub each : (c : List Token) (t : Tree) → Derives c t → begins s ≡ true → At (b ++ c) (end s (o ++ postfix t))
+
+abbrev pub FactorEnds : List Token → List Open → List Node → Type 0
+FactorEnds = PartEnds ProductAt Right begins_right end_factor
+
+abbrev pub TermEnds : List Token → List Open → List Node → Type 0
+TermEnds = PartEnds SumAt Signed begins_term end_term
 
 pub no_right : {b : List Token} {s : List Open} {o : List Node} → begins_right s ≡ false → FactorEnds b s o
-no_right k = grind arith
+no_right k = record { each = λ c t d e. cc }
+
+pub no_term : {b : List Token} {s : List Open} {o : List Node} → begins_term s ≡ false → TermEnds b s o
+no_term k = record { each = λ c t d e. cc }
+
+-- a part behind a mark
+behind_mark : {M : Type 0} {begins : List Open → Bool} {Derives : List Token → M → Type 0} {nodes_of : M → List Node} {count_of : M → ℕ} {a : List Token} {s : List Open} {o n : List Node} {k : ℕ} (b : List Token) (m : Token) (c : List Token) (made : M)
+    → Spot a s o → begins s ≡ true → Derives (b ++ m ∷ c) made → n ≡ o ++ nodes_of made → k ≡ count_of made → PartAt M begins Derives nodes_of count_of (((a ++ b) ++ m ∷ []) ++ c) (ended s n k)
+behind_mark {a = a} {o = o} b m c made q h d n k =
+    record { before = a; last = b ++ m ∷ c; nodes = o; made = made; split = sym (mark_between a b m c); spot = q; place = h; derives = d; nodes_are = n; count_is = k }
 
 pub times_ends : {a b : List Token} {s : List Open} {o : List Node} {p : SoFar} → Spot a s o → begins_term s ≡ true → Product b p → FactorEnds ((a ++ b) ++ times_mark ∷ []) (opened.Product (product_count p) ∷ s) (o ++ product_nodes p)
-times_ends {a} {b} {s} {o} {p} q h x = record {
-  rights = λ c t d e. record {
-    before = a;
-    last = b ++ times_mark ∷ c;
-    nodes = o;
-    made = times_factor p t;
-    split = sym (mark_between a b times_mark c);
-    spot = q;
-    place = h;
-    derives = times_more x d;
-    nodes_are = append_assoc o (product_nodes p) (postfix t) ∙ ap (λ n. o ++ n) (sym (times_nodes p t));
-    count_is = sym (times_count p t);
-  };
-}
+times_ends {b = b} {o = o} {p = p} q h x = record { each = λ c t d e. behind_mark b times_mark c (times_factor p t) q h (times_more x d) (grouped o (product_nodes p) (postfix t) (times_nodes p t)) (sym (times_count p t)) }
 
 pub slash_ends : {a b : List Token} {s : List Open} {o : List Node} {p : SoFar} → Spot a s o → begins_term s ≡ true → Product b p → FactorEnds ((a ++ b) ++ slash_mark ∷ []) (opened.Quotient ∷ s) (o ++ postfix (as_tree p))
-slash_ends {a} {b} {s} {o} {p} q h x = record {
-  rights = λ c t d e. record {
-    before = a;
-    last = b ++ slash_mark ∷ c;
-    nodes = o;
-    made = over_factor p t;
-    split = sym (mark_between a b slash_mark c);
-    spot = q;
-    place = h;
-    derives = over_more x d;
-    nodes_are = sym (binary_group o (postfix (as_tree p)) (postfix t) (parent kind.Div 2 ∷ []));
-    count_is = refl;
-  };
-}
+slash_ends {b = b} {o = o} {p = p} q h x = record { each = λ c t d e. behind_mark b slash_mark c (over_factor p t) q h (over_more x d) (sym (binary_group o (postfix (as_tree p)) (postfix t) (parent kind.Div 2 ∷ []))) refl }
 
 pub factor_sign_ends : {a : List Token} {s : List Open} {o : List Node} → begins_right s ≡ true → FactorEnds a s o → FactorEnds (a ++ minus_mark ∷ []) (opened.NegatedFactor ∷ s) o
 factor_sign_ends {a} {s} {o} k r = record {
-  rights = λ c t d e. product_as (end_factor s) (mark_before a minus_mark c) (unary_group o (postfix t) (parent kind.Neg 1 ∷ []))
-      (r.rights (minus_mark ∷ c) (neg t) (minus_right d) k);
+  each = λ c t d e. part_as ProductAt (end_factor s) (mark_before a minus_mark c) (unary_group o (postfix t) (parent kind.Neg 1 ∷ [])) (r.each (minus_mark ∷ c) (neg t) (minus_right d) k);
 }
 
 pub factor_ends : {b : List Token} {s : List Open} {o : List Node} → Spot b s o → FactorEnds b s o
+factor_ends (behind_times q h x) = times_ends q h x
+factor_ends (behind_slash q h x) = slash_ends q h x
+factor_ends (behind_factor_sign q k) = factor_sign_ends k (factor_ends q)
 factor_ends at_start = no_right refl
 factor_ends (in_parentheses q) = no_right refl
 factor_ends (in_root q) = no_right refl
 factor_ends (behind_plus q h x) = no_right refl
 factor_ends (behind_minus q h x) = no_right refl
 factor_ends (behind_term_sign q h) = no_right refl
-factor_ends (behind_times q h x) = times_ends q h x
-factor_ends (behind_slash q h x) = slash_ends q h x
-factor_ends (behind_factor_sign q k) = factor_sign_ends k (factor_ends q)
 factor_ends (behind_powers q h x) = no_right refl
 factor_ends (behind_base q x i) = no_right refl
 factor_ends (behind_exponent_sign q k) = no_right refl
@@ -217,79 +188,31 @@ term_place s h k = grind arith
 pub powers_end : (a : List Token) (e : Ended) → JoinedAt a e → ProductAt a (end_factor e.nesting (e.nodes ++ gathered kind.Mult e.count))
 powers_end a e j = by (begins_right e.nesting) refl
   where
-    nodes : e.nodes ++ gathered kind.Mult e.count ≡ j.nodes ++ postfix (joined_tree j.trees)
-    nodes =
-        ap (λ n. n ++ gathered kind.Mult e.count) j.nodes_are ∙ ap (λ k. (j.nodes ++ postfixes j.trees) ++ gathered kind.Mult k) j.count_is
-        ∙ append_assoc j.nodes (postfixes j.trees) (gathered kind.Mult (count j.trees)) ∙ ap (λ n. j.nodes ++ n) (sym (joined_nodes j.trees))
+    nodes : e.nodes ++ gathered kind.Mult e.count ≡ j.nodes ++ postfix (joined_tree j.made)
+    nodes = (λ i. j.nodes_are i ++ gathered kind.Mult (j.count_is i)) ∙ grouped j.nodes (postfixes j.made) (gathered kind.Mult (count j.made)) (joined_nodes j.made)
 
     by : (x : Bool) → begins_right e.nesting ≡ x → ProductAt a (end_factor e.nesting (e.nodes ++ gathered kind.Mult e.count))
-    by true h = product_as (end_factor e.nesting) (sym j.split) (sym nodes) ((factor_ends j.spot).rights j.last (joined_tree j.trees) (plain_right j.derives) h)
+    by true h = part_as ProductAt (end_factor e.nesting) (sym j.split) (sym nodes) ((factor_ends j.spot).each j.last (joined_tree j.made) (plain_right j.derives) h)
     by false h =
         let place : begins_term e.nesting ≡ true = term_place e.nesting j.place h in
         subst (ProductAt a) (sym (term_alone e.nesting (e.nodes ++ gathered kind.Mult e.count) place))
-        (record {
-          before = j.before;
-          last = j.last;
-          nodes = j.nodes;
-          made = single (joined_tree j.trees);
-          split = j.split;
-          spot = j.spot;
-          place = place;
-          derives = first_factor j.derives;
-          nodes_are = nodes;
-          count_is = refl;
-        })
-
--- ---- terms
-
-pub record TermEnds (b : List Token) (s : List Open) (o : List Node) : Type 0 where
-  pub terms : (c : List Token) (t : Tree) → Signed c t → begins_term s ≡ true → SumAt (b ++ c) (end_term s (o ++ postfix t))
-
-pub no_term : {b : List Token} {s : List Open} {o : List Node} → begins_term s ≡ false → TermEnds b s o
-no_term k = grind arith
+        (record { before = j.before; last = j.last; nodes = j.nodes; made = single (joined_tree j.made); split = j.split; spot = j.spot; place = place; derives = first_factor j.derives; nodes_are = nodes; count_is = refl })
 
 pub first_ends : {b : List Token} {s : List Open} {o : List Node} → Spot b s o → begins_sum s ≡ true → TermEnds b s o
 first_ends {b} {s} {o} q h = record {
-  terms = λ c t d e. subst (SumAt (b ++ c)) (sym (sum_alone s (o ++ postfix t) h))
+  each = λ c t d e. subst (SumAt (b ++ c)) (sym (sum_alone s (o ++ postfix t) h))
       (record { before = b; last = c; nodes = o; made = single t; split = refl; spot = q; place = h; derives = first_term d; nodes_are = refl; count_is = refl });
 }
 
 pub plus_ends : {a b : List Token} {s : List Open} {o : List Node} {p : SoFar} → Spot a s o → begins_sum s ≡ true → Sum b p → TermEnds ((a ++ b) ++ plus_mark ∷ []) (opened.Sum (sum_count p) ∷ s) (o ++ sum_nodes_of p)
-plus_ends {a} {b} {s} {o} {p} q h x = record {
-  terms = λ c t d e. record {
-    before = a;
-    last = b ++ plus_mark ∷ c;
-    nodes = o;
-    made = plus_term p t;
-    split = sym (mark_between a b plus_mark c);
-    spot = q;
-    place = h;
-    derives = plus_more x d;
-    nodes_are = append_assoc o (sum_nodes_of p) (postfix t) ∙ ap (λ n. o ++ n) (sym (plus_nodes p t));
-    count_is = sym (plus_count p t);
-  };
-}
+plus_ends {b = b} {o = o} {p = p} q h x = record { each = λ c t d e. behind_mark b plus_mark c (plus_term p t) q h (plus_more x d) (grouped o (sum_nodes_of p) (postfix t) (plus_nodes p t)) (sym (plus_count p t)) }
 
 pub minus_ends : {a b : List Token} {s : List Open} {o : List Node} {p : SoFar} → Spot a s o → begins_sum s ≡ true → Sum b p → TermEnds ((a ++ b) ++ minus_mark ∷ []) (opened.Difference ∷ s) (o ++ postfix (as_tree p))
-minus_ends {a} {b} {s} {o} {p} q h x = record {
-  terms = λ c t d e. record {
-    before = a;
-    last = b ++ minus_mark ∷ c;
-    nodes = o;
-    made = minus_term p t;
-    split = sym (mark_between a b minus_mark c);
-    spot = q;
-    place = h;
-    derives = minus_more x d;
-    nodes_are = sym (binary_group o (postfix (as_tree p)) (postfix t) (parent kind.Sub 2 ∷ []));
-    count_is = refl;
-  };
-}
+minus_ends {b = b} {o = o} {p = p} q h x = record { each = λ c t d e. behind_mark b minus_mark c (minus_term p t) q h (minus_more x d) (sym (binary_group o (postfix (as_tree p)) (postfix t) (parent kind.Sub 2 ∷ []))) refl }
 
 pub term_sign_ends : {a : List Token} {s : List Open} {o : List Node} → begins_term s ≡ true → TermEnds a s o → TermEnds (a ++ minus_mark ∷ []) (opened.NegatedTerm ∷ s) o
 term_sign_ends {a} {s} {o} k r = record {
-  terms = λ c t d e. sum_as (end_term s) (mark_before a minus_mark c) (unary_group o (postfix t) (parent kind.Neg 1 ∷ []))
-      (r.terms (minus_mark ∷ c) (neg t) (minus_signed d) k);
+  each = λ c t d e. part_as SumAt (end_term s) (mark_before a minus_mark c) (unary_group o (postfix t) (parent kind.Neg 1 ∷ [])) (r.each (minus_mark ∷ c) (neg t) (minus_signed d) k);
 }
 
 pub term_ends : {b : List Token} {s : List Open} {o : List Node} → Spot b s o → TermEnds b s o
@@ -312,7 +235,7 @@ product_whole a e p = grind (arith, append_assoc, whole_product, has_factors)
 
 pub product_end : (a : List Token) (e : Ended) → ProductAt a e → SumAt a (end_term e.nesting (e.nodes ++ gathered kind.Mult e.count))
 product_end a e p =
-    sum_as (end_term e.nesting) (sym p.split) (sym (product_whole a e p)) ((term_ends p.spot).terms p.last (as_tree p.made) (plain_signed p.derives) p.place)
+    part_as SumAt (end_term e.nesting) (sym p.split) (sym (product_whole a e p)) ((term_ends p.spot).each p.last (as_tree p.made) (plain_signed p.derives) p.place)
 
 pub sum_whole : (a : List Token) (e : Ended) (p : SumAt a e) → sum_nodes e ≡ p.nodes ++ postfix (as_tree p.made)
 sum_whole a e p = grind (arith, append_assoc, whole_sum, has_terms)

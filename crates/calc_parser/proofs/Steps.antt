@@ -1,9 +1,7 @@
 -- The automaton by what was opened last.
-use Rattle.std.specs.Prelude.{ℕ, ◌+◌, ◌≡◌, ◌≤◌, ◌<◌, List, [], ◌∷◌, ◌++◌, map, length, Some, None}
-use Rattle.std.proofs.Common.{ap, ◌∙◌, arith, length-append}
-use Rattle.calc_parser.proofs.Shared.{map-append, Token, Step, Open, Kind, Node, parent, completed, complete, ended, place_in, take_place, weight, innermost, outer, innermost_completed, innermost_place, node_of}
-use Rattle.calc_parser.specs.declared.nesting.Level.{Level}
-use Rattle.calc_parser.specs.declared.nesting.Place.TheVariants.{Child, Right}
+use Rattle.calc_parser.proofs.Shared.{ℕ, ◌+◌, ◌≡◌, ◌≤◌, ◌<◌, List, [], ◌∷◌, ◌++◌, map, length, Some, None, ap, ◌∙◌, arith, length-append, map-append, Token}
+use Rattle.calc_parser.proofs.Shared.{Step, Open, Kind, Node, parent, completed, complete, ended, place_in, take_place, weight, innermost, outer, innermost_completed, innermost_place, node_of}
+use Rattle.calc_parser.specs.{declared.nesting.Level.Level, declared.nesting.Place.TheVariants.{Child, Right}}
 
 pub some_completed : (l : Level) (s : List Open) (x : Open) → Some x ≡ innermost s → completed l x ≡ innermost_completed l s
 some_completed l s x e = grind arith

@@ -1,14 +1,16 @@
 -- The building of a tree, node by node.
-use Rattle.std.specs.Prelude.{◌≡◌, ℕ, ◌+◌, ◌-◌, ◌<◌, ◌≤◌, List, [], ◌∷◌, ◌++◌, length, take, get_or, drop, map, true, Bool, Err, IsOk, Option, Some, None, IsSome, MatchOption, if◌then◌else◌}
-use Rattle.std.proofs.Common.{refl, sym, ap, ◌∙◌, subst, arith, leb, drop-cons, add-one}
-use Rattle.calc_parser.proofs.Shared.{le-leb, lt-leb, leb-true, leb-false, get_or-append_right, drop_all, Payload, size_of_payload, Tree, Trees, none, more, append, count, free_of, Full, LacksBytes, Stands, forest, KeepsRefusals, IsRefused, Refuses, Forest, empty, tree, join, arity, one_tree, bytes_in, before_last, last_trees, Ends, Gives, Represents, KeepsFront, IsOnce, ends_as, represents_none, represents_node, represents_join, represents_as, gives, free_forest, by_test, Step, Node, postfix, bytes_of_node, placing, children_in, tree_over, takes_children, Grows, before-last, arity-last_trees, before_last-join, last_trees-join}
+use Rattle.calc_parser.proofs.Shared.{◌≡◌, ℕ, ◌+◌, ◌-◌, ◌<◌, ◌≤◌, List, [], ◌∷◌, ◌++◌, length, take, drop, map, true, Bool, Err, IsOk, Option, Some, None}
+use Rattle.calc_parser.proofs.Shared.{MatchOption, if◌then◌else◌, refl, sym, ap, ◌∙◌, subst, arith, leb, drop-cons, add-one, le-leb, lt-leb, leb-true, leb-false, get_or-append_right}
+use Rattle.calc_parser.proofs.Shared.{drop_all, Payload, size_of_payload, Tree, Trees, none, more, append, count, free_of, Full, LacksBytes, Stands, forest, KeepsRefusals, IsRefused, Refuses}
+use Rattle.calc_parser.proofs.Shared.{Forest, empty, tree, join, arity, one_tree, bytes_in, before_last, last_trees, Ends, Gives, Represents, KeepsFront, IsOnce, ends_as, represents_none}
+use Rattle.calc_parser.proofs.Shared.{represents_node, represents_join, represents_as, gives, free_forest, by_test, Step, Node, postfix, bytes_of_node, placing, children_in, tree_over}
+use Rattle.calc_parser.proofs.{Shared.{takes_children, Grows, before-last, arity-last_trees, before_last-join, last_trees-join}, Replay.{Takes, Makes, count-append, same_parts, replayed}}
+use Rattle.std.specs.Prelude.{get_or, IsSome}
 use Rattle.std.proofs.Math.Seq.{take-append_seam}
 use Rattle.node_pool.specs.State.{State}
 use Rattle.tree_handles.specs.Expressions.{takes, plains, IsWhole}
 use Rattle.tree_handles.proofs.Forests.{arity-join, bytes_in-join, join_assoc, all-first_trees, all-rest_trees, keeps_after, keeps_none, refuses_after, join-empty}
-use Rattle.tree_handles.proofs.Fronts.{starts_join, starts_same, front_at}
-use Rattle.tree_handles.proofs.Plains.{plains-join, count-plains}
-use Rattle.calc_parser.proofs.Replay.{Takes, Makes, count-append, same_parts, replayed}
+use Rattle.tree_handles.proofs.{Fronts.{starts_join, starts_same, front_at}, Plains.{plains-join, count-plains}}
 
 -- ---- where trees begin
 
@@ -22,9 +24,7 @@ places_as at to f e = ap (λ k. places_from k f) e
 
 pub places_from-join : (at : ℕ) (f g : Forest) → places_from at (join f g) ≡ places_from at f ++ places_from (at + bytes_in f) g
 places_from-join at empty g = places_as at (at + 0) g (omega arith)
-places_from-join at (tree l k r) g =
-    let rest = places_from-join (at + bytes_in (tree l k empty)) r g in
-    ap (λ ps. at ∷ ps) (rest ∙ ap (λ ps. places_from (at + bytes_in (tree l k empty)) r ++ ps) (places_as _ (at + bytes_in (tree l k r)) g (omega arith)))
+places_from-join at (tree l k r) g = grind (arith, places_as, places_from-join (at + bytes_in (tree l k empty)) r g)
 
 pub length-places_from : (at : ℕ) (f : Forest) → length (places_from at f) ≡ arity f
 length-places_from at empty = refl

@@ -1,6 +1,5 @@
+use Rattle.calc_parser.proofs.Shared.{arith, common_steps}
 use Rattle.calc_parser.proofs.building.build.Goals as goal
 
 pub unreachable-requires : goal.unreachable-requires
-unreachable-requires c =
-    let (t, (store, line)) = c.requires.line in
-    c.in_default.ensures.no_line store t line
+unreachable-requires c = grind (arith, common_steps)

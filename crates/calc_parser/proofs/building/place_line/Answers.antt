@@ -1,11 +1,7 @@
-use Rattle.std.specs.Prelude.{◌≡◌, List, map, OnOk, IfErr, Ok, Err}
-use Rattle.std.proofs.Common.{refl, sym, ◌∙◌, subst}
-use Rattle.calc_parser.proofs.Shared.{option_map, name_of, Tree, bare, tokens_of, free_of, gives_as, placing, IsTreeOf, Node, postfix, node_of, tokens_in, IsSplit}
-use Rattle.calc_parser.proofs.Checks.{sum_of_line}
-use Rattle.calc_parser.proofs.Leaves.{ok_as}
-use Rattle.calc_parser.proofs.LineSteps.{same_split}
-use Rattle.calc_parser.proofs.Replay.{same_nodes}
+use Rattle.calc_parser.proofs.Shared.{◌≡◌, List, map, OnOk, Ok, Err, refl, sym, ◌∙◌, subst, option_map, name_of, Tree, bare, tokens_of, free_of, gives_as, placing, IsTreeOf, Node}
+use Rattle.calc_parser.proofs.{Shared.{postfix, node_of, tokens_in, IsSplit}, Checks.sum_of_line, Leaves.ok_as, LineSteps.same_split, Replay.same_nodes}
 use Rattle.calc_parser.proofs.building.place_line.Goals.{After-without_store}
+use Rattle.std.specs.Prelude.{IfErr}
 use Rattle.calc_parser.proofs.building.place_line.Goals as goal
 
 -- the steps are the nodes of the line's tree

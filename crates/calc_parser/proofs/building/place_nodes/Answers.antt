@@ -1,7 +1,7 @@
-use Rattle.std.specs.Prelude.{◌≡◌, ◌+◌, ◌-◌, ◌++◌, ◌∷◌, [], ◌≤◌, ℕ, List, length, take, get_or, drop, map}
-use Rattle.std.proofs.Common.{refl, sym, ap, ◌∙◌, subst, arith}
-use Rattle.calc_parser.proofs.Shared.{length-take, free_of, forest, used_forest, Leaf, bytes_of_node, children_in, node_of, tokens_in}
-use Rattle.calc_parser.proofs.UnderWay.{IsUnderWay, IsReady, begins, at_step, ready, placed, front, IsStopped, stopped, IsLast, last_of_grown, whole_tree, no_step, some_root, that_root, was_short}
+use Rattle.calc_parser.proofs.Shared.{rules, common_steps, ◌≡◌, ◌+◌, ◌-◌, ◌++◌, ◌∷◌, [], ◌≤◌, ℕ, List, length, take, drop, map, refl, sym, ap, ◌∙◌, subst}
+use Rattle.calc_parser.proofs.{Shared.{arith, length-take, free_of, forest, used_forest, Leaf, bytes_of_node, children_in, node_of, tokens_in}, UnderWay.{IsUnderWay, IsReady, begins, at_step}}
+use Rattle.calc_parser.proofs.UnderWay.{ready, placed, front, IsStopped, stopped, IsLast, last_of_grown, whole_tree, no_step, some_root, that_root, was_short}
+use Rattle.std.specs.Prelude.{get_or}
 use Rattle.calc_parser.proofs.building.place_nodes.Goals as goal
 
 pub loop-step-init : goal.loop-step-init
@@ -21,14 +21,8 @@ at_place c =
     (c.used.ensures.value ∙ used_forest c.loop-step.pool c.loop-step.invariant.0.stands)
     (c.begin_of_last-from.ensures.begin ∙ ap (λ (k : ℕ). get_or places (length places - k) c.used.result) (c.children.ensures (tokens_in c.args.tokens.now)))
 
-pub place-requires-clause-takes : goal.place-requires-clause-takes
-place-requires-clause-takes c = (at_place c).takes
-
-pub place-requires-clause-few : goal.place-requires-clause-few
-place-requires-clause-few c = (at_place c).few
-
-pub place-requires-clause-begin : goal.place-requires-clause-begin
-place-requires-clause-begin c = (at_place c).begin
+pub place-requires : goal.place-requires
+place-requires c = record { takes = (at_place c).takes; few = (at_place c).few; begin = (at_place c).begin; stands = search rules }
 
 refused : (c : goal.After-from_residual) → IsStopped c.args.pool.now c.place.new.pool (map (node_of (tokens_in c.args.tokens.now)) c.args.steps.now) c.in_err-handle.field-0.0
 refused c =
@@ -65,10 +59,7 @@ loop-step-preserved c =
     )
 
 pub unwrap-requires : goal.unwrap-requires
-unwrap-requires c =
-    let f = node_of (tokens_in c.args.tokens.now) in
-    let (t, is) = c.requires.tree in
-    some_root (λ root. IsLast root (forest c.loop-step.pool)) f c.args.steps.now t c.loop-step.root c.loop-step.step-index c.loop-step.invariant.2 c.loop-step-test.false is
+unwrap-requires c = grind (arith, common_steps, some_root)
 
 pub returns-clause-ok : goal.returns-clause-ok
 returns-clause-ok c =

@@ -1,6 +1,4 @@
-use Rattle.std.specs.Prelude.{◌≡◌, ◌≤◌, drop, map, MatchOption}
-use Rattle.calc_parser.proofs.Shared.{array_vec_len, forest, node_of, tokens_in}
-use Rattle.calc_parser.proofs.UnderWay.{IsUnderWay, IsLast}
+use Rattle.calc_parser.proofs.{Shared.{◌≡◌, ◌≤◌, drop, map, MatchOption, array_vec_len, forest, node_of, tokens_in}, UnderWay.{IsUnderWay, IsLast}}
 use Rattle.calc_parser.proofs.building.place_nodes.Given as goal
 
 abbrev pub invariant-loop-step : goal.invariant-loop-step

@@ -1,7 +1,4 @@
-use Rattle.std.specs.Prelude.{◌≡◌, length, map}
-use Rattle.std.proofs.Common.{sym, ap, ◌∙◌, arith}
-use Rattle.calc_parser.proofs.Shared.{option_map, name_of, depth, bare, tokens_of, node_of, postfix}
-use Rattle.calc_parser.proofs.Checks.{line_of_sum}
+use Rattle.calc_parser.proofs.{Shared.{◌≡◌, length, map, sym, ap, ◌∙◌, arith, option_map, name_of, depth, bare, tokens_of, node_of, postfix}, Checks.line_of_sum}
 use Rattle.calc_parser.proofs.Measures.{nodes_found, length_map}
 use Rattle.calc_parser.proofs.checking.checked.Goals as goal
 

@@ -1,7 +1,4 @@
-use Rattle.std.proofs.Common.{refl, arith}
-use Rattle.calc_parser.proofs.Shared.{token_of, tokens_in}
-use Rattle.calc_parser.proofs.Checks.{short_stores_nothing, unstored, tokens_before_two}
-use Rattle.calc_parser.proofs.Runs.{count_tokens}
+use Rattle.calc_parser.proofs.{Shared.{refl, arith, token_of, tokens_in}, Checks.{short_stores_nothing, unstored, tokens_before_two}, Runs.count_tokens}
 use Rattle.calc_parser.proofs.checking.without_store.Goals.{in-Some+in-Some-split_last+in_default-stored, in-Some+in_default-split_last, in_default}
 use Rattle.calc_parser.proofs.checking.without_store.Goals as goal
 

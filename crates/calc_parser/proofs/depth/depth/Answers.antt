@@ -1,7 +1,5 @@
-use Rattle.std.specs.Prelude.{◌≤◌, ◌+◌, ◌-◌, length, [], unwrap_or}
-use Rattle.std.proofs.Common.{arith, ap, ◌∙◌, get_or}
-use Rattle.calc_parser.proofs.Shared.{slice_get, Leaf, deepest, node_of}
-use Rattle.calc_parser.proofs.Measures.{add_on, with_node_small, one_left}
+use Rattle.calc_parser.proofs.{Shared.{◌≤◌, ◌+◌, ◌-◌, length, [], arith, ap, ◌∙◌, get_or, slice_get, Leaf, deepest, node_of}, Measures.{add_on, with_node_small, one_left}}
+use Rattle.std.specs.Prelude.{unwrap_or}
 use Rattle.calc_parser.proofs.depth.depth.Goals as goal
 
 pub loop-step-preserved : goal.loop-step-preserved

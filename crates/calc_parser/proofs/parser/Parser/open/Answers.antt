@@ -1,6 +1,4 @@
-use Rattle.std.proofs.Common.{ap}
-use Rattle.calc_parser.proofs.Shared.{bare, tokens_of, steps_in}
-use Rattle.calc_parser.proofs.LineSteps.{steps_of_nothing}
+use Rattle.calc_parser.proofs.{Shared.{ap, bare, tokens_of, steps_in}, LineSteps.steps_of_nothing}
 use Rattle.calc_parser.proofs.parser.Parser.open.Goals as goal
 
 pub invariant_of-result : goal.invariant_of-result

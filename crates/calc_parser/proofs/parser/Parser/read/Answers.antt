@@ -1,9 +1,5 @@
-use Rattle.std.specs.Prelude.{Ok, Err}
-use Rattle.std.proofs.Common.{ap}
-use Rattle.calc_parser.proofs.Shared.{bare, tokens_of, steps_in}
+use Rattle.calc_parser.proofs.{Shared.{arith, common_steps, Ok, Err, ap, bare, tokens_of, steps_in}, LineFaults.{faults_exact, line_accepted}, LineSteps.steps_of_nothing}
 use Rattle.calc_tokens.proofs.Outcomes.{fault_found}
-use Rattle.calc_parser.proofs.LineFaults.{faults_exact, line_accepted}
-use Rattle.calc_parser.proofs.LineSteps.{steps_of_nothing}
 use Rattle.calc_parser.specs.declared.parser.LineFault.TheVariants as line_fault
 use Rattle.calc_parser.proofs.parser.Parser.read.Goals as goal
 
@@ -35,6 +31,4 @@ returns-in-Err-checked-clause-accepts c =
     (tokens_of c.scan.new.tokens, c.in-Ok.ensures.tokens, c.in-Err-checked.ensures.found)
 
 pub returns-in-Err-checked-clause-refused : goal.returns-in-Err-checked-clause-refused
-returns-in-Err-checked-clause-refused c =
-    faults_exact c.args.line.now (Err (line_fault.Parse c.in-Err-checked.fault))
-    (tokens_of c.scan.new.tokens, c.in-Ok.ensures.tokens, c.in-Err-checked.ensures.found)
+returns-in-Err-checked-clause-refused c = grind (arith, common_steps, faults_exact)

@@ -1,6 +1,4 @@
-use Rattle.std.specs.Prelude.{◌≡◌, []}
-use Rattle.std.proofs.Common.{arith, ap, ◌∙◌}
-use Rattle.calc_parser.proofs.Shared.{weight, open_in, outer, steps_in, nodes_in, node_of}
+use Rattle.calc_parser.proofs.Shared.{◌≡◌, [], arith, ap, ◌∙◌, weight, open_in, outer, steps_in, nodes_in, node_of}
 use Rattle.calc_parser.proofs.Steps.{complete_one, complete_none, completed_weight, completed_length, nodes_pushed, length_pushed}
 use Rattle.calc_parser.proofs.reader.Reader.complete.Goals as goal
 

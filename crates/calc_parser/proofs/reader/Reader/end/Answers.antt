@@ -1,7 +1,4 @@
-use Rattle.std.specs.Prelude.{◌+◌, Some}
-use Rattle.std.proofs.Common.{sym, ap, ◌∙◌}
-use Rattle.calc_parser.proofs.Shared.{ended, take_place, open_in, steps_in, nodes_in}
-use Rattle.calc_parser.proofs.Steps.{place_child, place_right, place_none, nodes_pushed}
+use Rattle.calc_parser.proofs.{Shared.{◌+◌, Some, sym, ap, ◌∙◌, ended, take_place, open_in, steps_in, nodes_in}, Steps.{place_child, place_right, place_none, nodes_pushed}}
 use Rattle.calc_parser.proofs.reader.Reader.end.Goals as goal
 
 pub returns-in-Some-Child-clause-ended : goal.returns-in-Some-Child-clause-ended

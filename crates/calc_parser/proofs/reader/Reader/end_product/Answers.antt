@@ -1,6 +1,4 @@
-use Rattle.std.specs.Prelude.{◌++◌}
-use Rattle.std.proofs.Common.{ap, ◌∙◌}
-use Rattle.calc_parser.proofs.Shared.{gathered, end_part, open_in, nodes_in}
+use Rattle.calc_parser.proofs.Shared.{◌++◌, ap, ◌∙◌, gathered, end_part, open_in, nodes_in}
 use Rattle.calc_terms.specs.declared.kind.Kind.TheVariants as kind
 use Rattle.calc_parser.specs.declared.nesting.Level.TheVariants as level
 use Rattle.calc_parser.proofs.reader.Reader.end_product.Goals as goal

@@ -1,5 +1,4 @@
-use Rattle.std.proofs.Common.{ap, ◌∙◌}
-use Rattle.calc_parser.proofs.Shared.{state, sum_nodes, open_in, nodes_in}
+use Rattle.calc_parser.proofs.Shared.{ap, ◌∙◌, state, sum_nodes, open_in, nodes_in}
 use Rattle.calc_parser.proofs.reader.Reader.end_sum.Goals as goal
 
 pub returns-clause-ended : goal.returns-clause-ended

@@ -1,6 +1,4 @@
-use Rattle.std.proofs.Common.{arith}
-use Rattle.calc_parser.proofs.Shared.{open_in}
-use Rattle.calc_parser.proofs.Room.{length_weight}
+use Rattle.calc_parser.proofs.{Shared.{arith, open_in}, Room.length_weight}
 use Rattle.calc_parser.proofs.reader.Reader.enter.Goals as goal
 
 pub enter-requires : goal.enter-requires

@@ -1,5 +1,4 @@
-use Rattle.calc_parser.proofs.Shared.{open_in, nodes_in}
-use Rattle.calc_parser.proofs.Finishes.{not_finished, nothing_open, something_open}
+use Rattle.calc_parser.proofs.{Shared.{open_in, nodes_in}, Finishes.{not_finished, nothing_open, something_open}}
 use Rattle.calc_parser.proofs.reader.Reader.finish.Goals as goal
 
 pub returns-in-Operand : goal.returns-in-Operand

@@ -1,6 +1,4 @@
-use Rattle.std.proofs.Common.{◌∙◌}
-use Rattle.calc_parser.proofs.Shared.{open_in}
-use Rattle.calc_parser.proofs.Steps.{some_place}
+use Rattle.calc_parser.proofs.{Shared.{◌∙◌, open_in}, Steps.some_place}
 use Rattle.calc_parser.proofs.reader.Reader.place.Goals as goal
 
 pub returns : goal.returns

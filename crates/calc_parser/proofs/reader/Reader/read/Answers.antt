@@ -1,6 +1,4 @@
-use Rattle.std.specs.Prelude.{◌≡◌, ◌<◌, ◌≤◌, length}
-use Rattle.std.proofs.Common.{ap, arith}
-use Rattle.calc_parser.proofs.Shared.{Tree, IsSum, token_of, State, run, start, tokens_in, token_in, nodes_in, state_in}
+use Rattle.calc_parser.proofs.Shared.{◌≡◌, ◌<◌, ◌≤◌, length, ap, arith, Tree, IsSum, token_of, State, run, start, tokens_in, token_in, nodes_in, state_in}
 use Rattle.calc_parser.proofs.Runs.{count_tokens, token_at_place, run_on, run_stops, run_all, no_sum, on_err, finished_sum, finished_none}
 use Rattle.calc_parser.proofs.reader.Reader.read.Goals as goal
 
@@ -26,16 +24,13 @@ loop-at-preserved c =
       omega (arith, c.loop-at.invariant.1, c.in_ok-take.ensures.room),
     )
 
-pub returns-clause-sum : goal.returns-clause-sum
-returns-clause-sum c =
+pub returns : goal.returns
+returns c =
     let tokens = c.args.tokens.now in
     let ts = tokens_in tokens in
     let past : length ts ≤ c.loop-at.at = omega (arith, count_tokens tokens) in
-    finished_sum ts (state_in ts c.loop-at.self) (nodes_in ts c.finish.new.self.postfix) c.finish.result (run_all ts (state_in ts c.loop-at.self) c.loop-at.at (run start ts) past (c.loop-at.invariant.0)) (c.finish.ensures ts)
-
-pub returns-clause-no_sum : goal.returns-clause-no_sum
-returns-clause-no_sum c =
-    let tokens = c.args.tokens.now in
-    let ts = tokens_in tokens in
-    let past : length ts ≤ c.loop-at.at = omega (arith, count_tokens tokens) in
-    finished_none ts (state_in ts c.loop-at.self) (nodes_in ts c.finish.new.self.postfix) c.finish.result (run_all ts (state_in ts c.loop-at.self) c.loop-at.at (run start ts) past (c.loop-at.invariant.0)) (c.finish.ensures ts)
+    let facts = run_all ts (state_in ts c.loop-at.self) c.loop-at.at (run start ts) past (c.loop-at.invariant.0) in
+    record {
+      sum = finished_sum ts (state_in ts c.loop-at.self) (nodes_in ts c.finish.new.self.postfix) c.finish.result facts (c.finish.ensures ts);
+      no_sum = finished_none ts (state_in ts c.loop-at.self) (nodes_in ts c.finish.new.self.postfix) c.finish.result facts (c.finish.ensures ts);
+    }

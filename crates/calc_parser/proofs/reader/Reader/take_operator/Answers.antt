@@ -1,7 +1,4 @@
-use Rattle.std.proofs.Common.{ap, ◌∙◌}
-use Rattle.std.specs.Prelude.{◌∷◌}
-use Rattle.calc_parser.proofs.Shared.{open_in, nodes_in, state_in}
-use Rattle.calc_parser.proofs.Operators.{entered, times_step, slash_step, plus_step, minus_step, right_step, join_step}
+use Rattle.calc_parser.proofs.{Shared.{ap, ◌∙◌, ◌∷◌, open_in, nodes_in, state_in}, Operators.{entered, times_step, slash_step, plus_step, minus_step, right_step, join_step}}
 use Rattle.calc_parser.specs.declared.nesting.Open.TheVariants as opened
 use Rattle.calc_parser.proofs.reader.Reader.take_operator.Goals as goal
 
