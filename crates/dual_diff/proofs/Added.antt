@@ -1,16 +1,14 @@
 -- Trees that are added behind all others, one after another.
-use Rattle.std.proofs.Common.{◌≡◌, ℕ, suc, ◌+◌, ◌-◌, ◌<◌, ◌≤◌, List, refl, sym, ap, ◌∙◌, subst, arith, true, false}
-use Rattle.std.specs.Prelude.{Option, Some, None, IsSome}
-use Rattle.dual_diff.proofs.Shared.{Kind, bare, is_bare, size_of_payload, Tree, Trees, add, none, more, append, count, size, sizes, State, free_of, IsExpression, AllExpressions, children_of, compound, nth, plain, plains, takes_kind, Forest, empty, tree, arity, before_last, bytes_in, join, last_trees, one_tree, holds, tree_at, Stands, forest, KeepsRefusals, gives, represents_join, represents_node, represents_none, alone, count-plains, sizes-plains, HasDerivative, derivative, sum_of_products, with_derivative, occurs, Adds, AddsAll, CanCopy, CanJoin, behind, first, ends_as}
+use Rattle.dual_diff.proofs.Shared.{◌≡◌, ℕ, suc, ◌+◌, ◌-◌, ◌<◌, ◌≤◌, List, refl, sym, ap, ◌∙◌, subst, arith, true, false, Option, Some, None, Kind, bare, is_bare}
+use Rattle.dual_diff.proofs.Shared.{size_of_payload, Tree, Trees, add, none, more, append, count, size, sizes, State, free_of, IsExpression, AllExpressions, children_of, compound, nth, plain}
+use Rattle.dual_diff.proofs.Shared.{plains, takes_kind, Forest, empty, tree, arity, before_last, bytes_in, join, last_trees, one_tree, holds, tree_at, Stands, forest, KeepsRefusals, gives}
+use Rattle.dual_diff.proofs.Shared.{represents_join, represents_node, represents_none, alone, count-plains, sizes-plains, HasDerivative, derivative, sum_of_products, with_derivative, occurs}
+use Rattle.dual_diff.proofs.{Shared.{Adds, AddsAll, CanCopy, CanJoin, behind, first, ends_as}, Forms.count_append, Products.{AreMade, made_more, made_none, made_same}, Slices.slice_last}
+use Rattle.std.specs.Prelude.{IsSome}
 use Rattle.node_pool.specs.Nodes.{used}
 use Rattle.tree_handles.specs.Handed.{Ends, Represents}
-use Rattle.tree_handles.proofs.Forests.{arity-join, bytes_in-join, join_assoc, join-empty, keeps_after, keeps_none}
-use Rattle.tree_handles.proofs.Gathering.{before_last-join, last_trees-join}
-use Rattle.tree_handles.proofs.Joins.{holds-left, tree_at-join_left}
-use Rattle.tree_handles.proofs.Places.{used_forest}
-use Rattle.dual_diff.proofs.Forms.{count_append}
-use Rattle.dual_diff.proofs.Products.{AreMade, made_more, made_none, made_same}
-use Rattle.dual_diff.proofs.Slices.{slice_last}
+use Rattle.tree_handles.proofs.{Forests.{arity-join, bytes_in-join, join_assoc, join-empty, keeps_after, keeps_none}, Gathering.{before_last-join, last_trees-join}}
+use Rattle.tree_handles.proofs.{Joins.{holds-left, tree_at-join_left}, Places.used_forest}
 
 -- the tree of a node
 abbrev pub tree_of : ℕ → State → Tree

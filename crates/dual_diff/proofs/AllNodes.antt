@@ -1,8 +1,6 @@
 -- Trees whose nodes are all derivable.
-use Rattle.std.proofs.Common.{◌≡◌, ℕ, zero, suc, ◌<◌, ◌≤◌, List, true, sym, subst, arith}
-use Rattle.dual_diff.proofs.Shared.{Tree, Trees, none, more, count, nodes, root_kind, AllParts, AllPartsOf, nth, children_of, HasDerivative, IsDerivable, IsDerivableExponent, first, occurs}
-use Rattle.dual_diff.proofs.Exponents.{derivable_exponent}
-use Rattle.dual_diff.proofs.Forms.{first_all, smaller_child}
+use Rattle.dual_diff.proofs.Shared.{◌≡◌, ℕ, zero, suc, ◌<◌, ◌≤◌, List, true, sym, subst, arith, Tree, Trees, none, more, count, nodes, root_kind, AllParts, AllPartsOf, nth}
+use Rattle.dual_diff.proofs.{Shared.{children_of, HasDerivative, IsDerivable, IsDerivableExponent, first, occurs}, Exponents.derivable_exponent, Forms.{first_all, smaller_child}}
 use Rattle.calc_terms.specs.declared.kind.Kind.TheVariants as kind
 
 pub of_root : (x : List ℕ) (t : Tree) → HasDerivative x t → IsDerivable x t

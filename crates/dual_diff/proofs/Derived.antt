@@ -1,14 +1,14 @@
 -- The derivative of a tree means the slope of each pair of it.
-use Rattle.std.proofs.Common.{◌≡◌, ℕ, zero, suc, List, [], ◌++◌, Bool, true, false, refl, sym, ap, ◌∙◌, subst, inl, inr, append-nil, arith}
-use Rattle.std.specs.Prelude.{ℤ, pos, negsuc, ◌*ℤ◌, ◌-ℤ◌, neg_ℤ, ◌==◌, ◌||◌, if◌then◌else◌, Option, Some, None}
-use Rattle.dual_diff.proofs.Shared.{Fraction, times, minus_one_fraction, whole_fraction, quotient, Tree, num, symbol, undef, add, mult, power, root, neg, sub, div, Trees, none, more, append, whole_num, Assignment, IsWholePower, Means, MeansSum, MeansProduct, Same, Inverts, Surd, surd_of, surd_one, surd_scale, surd_times, surd_power, Inverts-surd_times, Means-Same, Same-sym, Same-trans, Same-Agree, Agree, Agree-refl, Agree-sym, Agree-trans, Agree-eq, Agree-append, Agree-Same, surd_times-nil, surd_times-surd_one, surd_times-surd_of, Same-refl, Same-eq, whole_value, opposite, whole_literal, occurs, occurs_in, Pair, SamePair, pair_over, HasPair, HasPairSum, HasPairProduct, IsPowerSlope, IsRootPair, two, where_occurs, quotient_rule, lowered, power_rule, literal_power_rule, root_rule, sum_of_products, derivative, derivatives, products, ints, bytes_eq, one_fraction}
-use Rattle.calc_algebra.proofs.MeaningRewrites.{product_more, product_one, product_two, product_append}
-use Rattle.calc_algebra.proofs.ExponentLaws.{whole_times}
-use Rattle.calc_algebra.proofs.NumberRewrites.{fraction_whole}
-use Rattle.calc_algebra.proofs.PowerRewrites.{power_whole}
-use Rattle.dual_diff.proofs.Occurring.{neither}
-use Rattle.dual_diff.proofs.SlopeLaws.{zero_number, product_slope, product_still, quotient_slope, quotient_still, scale_right, half_inverts}
-use Rattle.dual_diff.proofs.Still.{still}
+use Rattle.dual_diff.proofs.Shared.{◌≡◌, ℕ, zero, suc, List, [], ◌++◌, Bool, true, false, refl, sym, ap, ◌∙◌, subst, inl, inr, append-nil, arith, pos, neg_ℤ, ◌==◌}
+use Rattle.dual_diff.proofs.Shared.{◌||◌, if◌then◌else◌, Option, Some, None, Fraction, times, minus_one_fraction, whole_fraction, quotient, Tree, num, symbol, undef, add, mult, power}
+use Rattle.dual_diff.proofs.Shared.{root, neg, sub, div, Trees, none, more, append, whole_num, Assignment, IsWholePower, Means, MeansSum, MeansProduct, Same, Inverts, Surd, surd_of, surd_one}
+use Rattle.dual_diff.proofs.Shared.{surd_scale, surd_times, surd_power, Inverts-surd_times, Means-Same, Same-sym, Same-trans, Same-Agree, Agree, Agree-refl, Agree-sym, Agree-trans, Agree-eq}
+use Rattle.dual_diff.proofs.Shared.{Agree-append, Agree-Same, surd_times-nil, surd_times-surd_one, surd_times-surd_of, Same-refl, Same-eq, whole_value, opposite, whole_literal, occurs}
+use Rattle.dual_diff.proofs.Shared.{occurs_in, Pair, SamePair, pair_over, HasPair, HasPairSum, HasPairProduct, IsPowerSlope, IsRootPair, two, where_occurs, quotient_rule, lowered, power_rule}
+use Rattle.dual_diff.proofs.{Shared.{literal_power_rule, root_rule, sum_of_products, derivative, derivatives, products, ints, bytes_eq, one_fraction}, Occurring.neither}
+use Rattle.dual_diff.proofs.{SlopeLaws.{zero_number, product_slope, product_still, quotient_slope, quotient_still, scale_right, half_inverts}, Still.still}
+use Rattle.std.specs.Prelude.{ℤ, negsuc, ◌*ℤ◌, ◌-ℤ◌}
+use Rattle.calc_algebra.proofs.{MeaningRewrites.{product_more, product_one, product_two, product_append}, ExponentLaws.whole_times, NumberRewrites.fraction_whole, PowerRewrites.power_whole}
 
 -- ---- small cases
 

@@ -1,9 +1,8 @@
 -- Exponents that are whole literals, and the powers that are derivable.
-use Rattle.std.proofs.Common.{arith, ◌≡◌, ℕ, List, ℤ, ◌≤◌, Bool, true, false, sym, ap, ◌∙◌}
-use Rattle.std.specs.Prelude.{◌==◌, ◌↔◌, Contains, IsTrue, Some, None, neg_ℤ, nat_abs, if◌then◌else◌}
-use Rattle.dual_diff.proofs.Shared.{whole_value, opposite, whole_literal, Rat, Fraction, negative, ratio_of, value_of, Tree, names, root_kind, ratio_parts, nth, children_of, IsDerivable, IsDerivableExponent, exponent_limit, occurs, eq-eqb}
+use Rattle.dual_diff.proofs.Shared.{arith, ◌≡◌, ℕ, List, ℤ, ◌≤◌, Bool, true, false, sym, ap, ◌∙◌, ◌==◌, ◌↔◌, Contains, IsTrue, Some, None, neg_ℤ, nat_abs}
+use Rattle.dual_diff.proofs.Shared.{if◌then◌else◌, whole_value, opposite, whole_literal, Rat, Fraction, negative, ratio_of, value_of, Tree, names, root_kind, ratio_parts, nth, children_of}
+use Rattle.dual_diff.proofs.{Shared.{IsDerivable, IsDerivableExponent, exponent_limit, occurs, eq-eqb}, Occurring.{told, names_occur}}
 use Rattle.rational128.proofs.Reciprocals.{negative_parts}
-use Rattle.dual_diff.proofs.Occurring.{told, names_occur}
 use Rattle.calc_terms.specs.declared.kind.Kind.TheVariants as kind
 
 -- ---- whole numbers

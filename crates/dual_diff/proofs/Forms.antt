@@ -1,6 +1,6 @@
 -- The form of a tree by the kind of its root, and its children.
-use Rattle.std.proofs.Common.{◌≡◌, ℕ, zero, suc, ◌+◌, ◌<◌, ◌≤◌, refl, sym, ap, ◌∙◌, arith}
-use Rattle.dual_diff.proofs.Shared.{Tree, undef, mult, root, div, Trees, none, more, append, count, root_kind, root_size, nodes, nodes_of, size, sizes, nth, children_of, behind, first}
+use Rattle.dual_diff.proofs.Shared.{◌≡◌, ℕ, zero, suc, ◌+◌, ◌<◌, ◌≤◌, refl, sym, ap, ◌∙◌, arith, Tree, undef, mult, root, div, Trees, none, more, append, count}
+use Rattle.dual_diff.proofs.Shared.{root_kind, root_size, nodes, nodes_of, size, sizes, nth, children_of, behind, first}
 use Rattle.tree_handles.proofs.Room.{least_size}
 use Rattle.calc_terms.specs.declared.kind.Kind.TheVariants as kind
 

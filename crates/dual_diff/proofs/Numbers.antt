@@ -1,10 +1,9 @@
 -- Whole numbers that are placed.
-use Rattle.std.proofs.Common.{◌≡◌, ◌<◌, ◌≤◌, ◌^◌, ℕ, List, ℤ, pos, ◌-ℤ◌, true, false, nat_eq, of_z, to_z, sym, ap, ◌∙◌, subst, arith}
-use Rattle.std.specs.Prelude.{FitsSigned, Some, nat_abs}
-use Rattle.dual_diff.proofs.Shared.{whole_literal, Rat, lowest, whole_fraction, rational, size_of_payload, ratio_of, value_of, Tree, num, root_kind, size, whole_num, told, children_of, nth, derivative, exponent_limit, lowered, power_rule, occurs, fits_signed_from_abs, w128}
-use Rattle.calc_terms.specs.Integers.{int_is_one, int_is_zero}
-use Rattle.calc_terms.specs.Ratio.{Ratio, whole}
-use Rattle.dual_diff.proofs.Rules.{power_by_rule}
+use Rattle.dual_diff.proofs.Shared.{◌≡◌, ◌<◌, ◌≤◌, ℕ, List, ℤ, true, false, sym, ap, ◌∙◌, subst, arith, FitsSigned, Some, nat_abs, whole_literal, Rat, lowest}
+use Rattle.dual_diff.proofs.Shared.{whole_fraction, rational, size_of_payload, ratio_of, value_of, Tree, num, root_kind, size, whole_num, told, children_of, nth, derivative, exponent_limit}
+use Rattle.dual_diff.proofs.{Shared.{lowered, power_rule, occurs, fits_signed_from_abs, w128}, Rules.power_by_rule}
+use Rattle.std.proofs.Common.{◌^◌, pos, ◌-ℤ◌, nat_eq, of_z, to_z}
+use Rattle.calc_terms.specs.{Integers.{int_is_one, int_is_zero}, Ratio.{Ratio, whole}}
 use Rattle.calc_terms.specs.declared.kind.Kind.TheVariants as kind
 
 pub placed_value : (r : Rat) (z : ℤ) → nat_abs z < 2 ^ 127 → ratio_of r ≡ whole (to_z w128 (of_z w128 z)) → value_of r ≡ whole_fraction z

@@ -1,9 +1,8 @@
 -- Where a name occurs.
-use Rattle.std.proofs.Common.{◌≡◌, ℕ, List, [], ◌∷◌, ◌++◌, Bool, true, false, subst, inl, inr, arith}
-use Rattle.std.specs.Prelude.{◌||◌, ◌⊎◌, ◌↔◌, Contains, IsTrue}
-use Rattle.dual_diff.proofs.Shared.{Tree, num, symbol, undef, add, mult, power, root, neg, sub, div, Trees, none, more, names, names_of, occurs, occurs_in}
-use Rattle.std.proofs.lemmas.List.Elements.{Contains-append_left, Contains-append_right, Contains-append_cases, Contains-push, Contains-push_cases}
-use Rattle.std.proofs.lemmas.Slice.Eq.{bytes_eq-Decides}
+use Rattle.dual_diff.proofs.Shared.{◌≡◌, ℕ, List, [], ◌∷◌, ◌++◌, Bool, true, false, subst, inl, inr, arith, ◌||◌, ◌↔◌, Contains, IsTrue, Tree, num, symbol, undef}
+use Rattle.dual_diff.proofs.Shared.{add, mult, power, root, neg, sub, div, Trees, none, more, names, names_of, occurs, occurs_in}
+use Rattle.std.specs.Prelude.{◌⊎◌}
+use Rattle.std.proofs.{lemmas.List.Elements.{Contains-append_left, Contains-append_right, Contains-append_cases, Contains-push, Contains-push_cases}, lemmas.Slice.Eq.bytes_eq-Decides}
 
 pub either_left : (a b : Bool) → (a || b) ≡ false → a ≡ false
 either_left a b h = grind arith

@@ -1,7 +1,7 @@
 -- What is the same as a pair of a tree is one too.
-use Rattle.std.proofs.Common.{arith, ℕ, List, inl, inr}
+use Rattle.dual_diff.proofs.Shared.{arith, ℕ, List, inl, inr, Tree, num, symbol, undef, add, mult, power, root, neg, sub, div, Assignment, IsRoot, IsRootOf, Same, Surd, Inverts-Same}
+use Rattle.dual_diff.proofs.Shared.{Means-Same, Same-sym, Same-trans, Same-refl, Pair, SamePair, HasPair, IsPowerSlope, IsStill}
 use Rattle.std.specs.Prelude.{ℤ}
-use Rattle.dual_diff.proofs.Shared.{Tree, num, symbol, undef, add, mult, power, root, neg, sub, div, Assignment, IsRoot, IsRootOf, Same, Surd, Inverts-Same, Means-Same, Same-sym, Same-trans, Same-refl, Pair, SamePair, HasPair, IsPowerSlope, IsStill}
 use Rattle.calc_algebra.proofs.PowerLaws.{IsWholePower-Same}
 
 same_pair_from : {p q r : Pair} → SamePair p q → SamePair p r → SamePair q r

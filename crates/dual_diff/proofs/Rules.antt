@@ -1,8 +1,8 @@
 -- The derivative of a tree by the kind of its root, where the tree holds the name.
-use Rattle.std.proofs.Common.{◌≡◌, ℕ, ◌+◌, ℤ, List, Bool, true, false, refl, ap, sym, subst, ◌∙◌, arith}
-use Rattle.std.specs.Prelude.{◌||◌, if◌then◌else◌, Some}
-use Rattle.dual_diff.proofs.Shared.{whole_literal, Kind, bare, size_of_payload, Tree, num, symbol, undef, add, mult, power, root, neg, sub, div, Trees, none, more, append, count, root_kind, size, sizes, whole_num, nth, children_of, compound, takes_kind, derivative, derivatives, is_linear, power_rule, products, quotient_rule, root_rule, sum_of_products, where_occurs, occurs, occurs_in, bytes_eq}
-use Rattle.dual_diff.proofs.Occurring.{either_left, either_right}
+use Rattle.dual_diff.proofs.Shared.{◌≡◌, ℕ, ◌+◌, ℤ, List, Bool, true, false, refl, ap, sym, subst, ◌∙◌, arith, ◌||◌, if◌then◌else◌, Some, whole_literal, Kind, bare}
+use Rattle.dual_diff.proofs.Shared.{size_of_payload, Tree, num, symbol, undef, add, mult, power, root, neg, sub, div, Trees, none, more, append, count, root_kind, size, sizes, whole_num, nth}
+use Rattle.dual_diff.proofs.Shared.{children_of, compound, takes_kind, derivative, derivatives, is_linear, power_rule, products, quotient_rule, root_rule, sum_of_products, where_occurs, occurs}
+use Rattle.dual_diff.proofs.{Shared.{occurs_in, bytes_eq}, Occurring.{either_left, either_right}}
 use Rattle.calc_terms.specs.declared.kind.Kind.TheVariants as kind
 
 -- ---- a tree without the name

@@ -1,7 +1,6 @@
 -- Slices of lists of trees.
-use Rattle.std.proofs.Common.{◌≡◌, ℕ, zero, suc, ◌+◌, ◌-◌, ◌<◌, ◌≤◌, List, sym, ap, ◌∙◌, arith}
-use Rattle.dual_diff.proofs.Shared.{Trees, none, more, append, count, size, sizes, nth, derivative, with_derivative, behind, first}
-use Rattle.dual_diff.proofs.Forms.{count_behind, first_all, first_next, nth_behind, sizes_append}
+use Rattle.dual_diff.proofs.Shared.{◌≡◌, ℕ, zero, suc, ◌+◌, ◌-◌, ◌<◌, ◌≤◌, List, sym, ap, ◌∙◌, arith, Trees, none, more, append, count, size, sizes, nth}
+use Rattle.dual_diff.proofs.{Shared.{derivative, with_derivative, behind, first}, Forms.{count_behind, first_all, first_next, nth_behind, sizes_append}}
 
 pub slice_none : (from : ℕ) (ts : Trees) → none ≡ first (from - from) (behind from ts)
 slice_none from ts = ap (λ (n : ℕ). first n (behind from ts)) (let e : 0 ≡ from - from = omega arith in e)

@@ -1,6 +1,5 @@
 -- The turns of a loop over the children of a node.
-use Rattle.std.proofs.Common.{◌≡◌, ℕ, suc, ◌∷◌, ◌++◌, [], ◌∙◌, List, length, ap, arith}
-use Rattle.dual_diff.proofs.Shared.{length-append, root_ids, Forest, rest_trees}
+use Rattle.dual_diff.proofs.Shared.{◌≡◌, ℕ, suc, ◌∷◌, ◌++◌, [], ◌∙◌, List, length, ap, arith, length-append, root_ids, Forest, rest_trees}
 
 pub turn : (xs : List ℕ) (x : ℕ) → suc (length xs) ≡ length (xs ++ x ∷ [])
 turn xs x = omega (arith, length-append xs (x ∷ []))

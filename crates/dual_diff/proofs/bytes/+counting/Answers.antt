@@ -1,13 +1,11 @@
-use Rattle.std.proofs.Common.{◌≡◌, ◌+◌, ◌-◌, ◌∙◌, pos, length, sym, ap, arith}
-use Rattle.dual_diff.proofs.Shared.{whole_fraction, name_of, Tree, mult, num, size, sizes, derivative, occurs, capped, told, next_child, last_child, children_of, nth, kids_of, forest}
-use Rattle.calc_terms.proofs.Sizes.{num_most}
-use Rattle.dual_diff.proofs.Added.{tree_of}
-use Rattle.dual_diff.proofs.AllNodes.{child_in, exponent_in}
+use Rattle.dual_diff.proofs.Shared.{◌≡◌, ◌+◌, ◌-◌, ◌∙◌, length, sym, ap, arith, whole_fraction, name_of, Tree, mult, num, size, sizes, derivative, occurs, capped, told}
+use Rattle.dual_diff.proofs.{Shared.{next_child, last_child, children_of, nth, kids_of, forest}, Added.tree_of, AllNodes.{child_in, exponent_in}}
 use Rattle.dual_diff.proofs.Forms.{base_and_exponent, child_size, count_size, one_argument, product_form, root_of, two_children}
 use Rattle.dual_diff.proofs.Numbers.{first_power, less_fits_signed, lowered_power, small_fits, told_fits, told_less, told_less_fits, zero_power}
 use Rattle.dual_diff.proofs.Products.{counted_none, counted_more, counted_same, derivatives_all, derivatives_sizes, made_rule, made_some, sum_bytes_more, sum_bytes_one}
-use Rattle.dual_diff.proofs.Rules.{absent_zero, other_linear, quotient_divided, quotient_whole, root_by_rule, same_node, symbol_one}
-use Rattle.dual_diff.proofs.Turns.{left_after, turn}
+use Rattle.dual_diff.proofs.{Rules.{absent_zero, other_linear, quotient_divided, quotient_whole, root_by_rule, same_node, symbol_one}, Turns.{left_after, turn}}
+use Rattle.std.proofs.Common.{pos}
+use Rattle.calc_terms.proofs.Sizes.{num_most}
 use Rattle.dual_diff.proofs.bytes.+counting.Goals as goal
 
 -- ---- derivative_bytes

@@ -1,5 +1,4 @@
-use Rattle.std.proofs.Common.{◌≡◌, ◌+◌, ◌*◌, length}
-use Rattle.dual_diff.proofs.Shared.{name_of, nodes, sizes, derivatives, first, capped, root_ids, children_of, plain, rest_trees, tree_at, kids_of, forest}
+use Rattle.dual_diff.proofs.Shared.{◌≡◌, ◌+◌, ◌*◌, length, name_of, nodes, sizes, derivatives, first, capped, root_ids, children_of, plain, rest_trees, tree_at, kids_of, forest}
 use Rattle.dual_diff.proofs.Products.{IsCounted}
 use Rattle.dual_diff.proofs.bytes.+counting.Given as goal
 

@@ -1,5 +1,4 @@
-use Rattle.std.proofs.Common.{◌≡◌, length}
-use Rattle.dual_diff.proofs.Shared.{name_of, nodes, AllPartsOf, IsDerivable, first, root_ids, children_of, plain, rest_trees, tree_at, kids_of, forest}
+use Rattle.dual_diff.proofs.Shared.{◌≡◌, length, name_of, nodes, AllPartsOf, IsDerivable, first, root_ids, children_of, plain, rest_trees, tree_at, kids_of, forest}
 use Rattle.dual_diff.proofs.derivable.+all_derivable.Given as goal
 
 abbrev pub decreases-all_derivable : goal.decreases-all_derivable

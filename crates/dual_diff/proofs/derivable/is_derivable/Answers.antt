@@ -1,6 +1,4 @@
-use Rattle.std.proofs.Common.{◌≡◌, refl, ◌∙◌}
-use Rattle.dual_diff.proofs.Shared.{name_of, root_kind, plain, tree_at, forest}
-use Rattle.dual_diff.proofs.Exponents.{other_derivable}
+use Rattle.dual_diff.proofs.{Shared.{◌≡◌, refl, ◌∙◌, name_of, root_kind, plain, tree_at, forest}, Exponents.other_derivable}
 use Rattle.dual_diff.proofs.derivable.is_derivable.Goals as goal
 
 pub returns-in_default : goal.returns-in_default

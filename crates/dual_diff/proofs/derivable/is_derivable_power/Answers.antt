@@ -1,7 +1,4 @@
-use Rattle.std.proofs.Common.{refl, sym, ◌∙◌, subst, arith}
-use Rattle.dual_diff.proofs.Shared.{name_of, IsDerivableExponent}
-use Rattle.dual_diff.proofs.Added.{tree_of}
-use Rattle.dual_diff.proofs.Exponents.{power_derivable, derivable_exponent, absent_derivable}
+use Rattle.dual_diff.proofs.{Shared.{refl, sym, ◌∙◌, subst, arith, name_of, IsDerivableExponent}, Added.tree_of, Exponents.{power_derivable, derivable_exponent, absent_derivable}}
 use Rattle.dual_diff.proofs.Forms.{base_and_exponent}
 use Rattle.dual_diff.proofs.derivable.is_derivable_power.Goals as goal
 

@@ -1,6 +1,4 @@
-use Rattle.std.proofs.Common.{◌∙◌, ap, sym}
-use Rattle.dual_diff.proofs.Shared.{whole_literal, whole_value, value_of, Tree, neg}
-use Rattle.dual_diff.proofs.Exponents.{opposite_whole}
+use Rattle.dual_diff.proofs.{Shared.{◌∙◌, ap, sym, whole_literal, whole_value, value_of, Tree, neg}, Exponents.opposite_whole}
 use Rattle.dual_diff.proofs.derivable.opposite_number.Goals as goal
 
 pub returns-in-Num-clause-value : goal.returns-in-Num-clause-value

@@ -1,7 +1,4 @@
-use Rattle.std.proofs.Common.{◌∙◌, sym, rules}
-use Rattle.std.specs.Prelude.{FitsSigned}
-use Rattle.dual_diff.proofs.Shared.{value_of, ratio_parts, w128, to_z-of_z}
-use Rattle.dual_diff.proofs.Exponents.{whole_some, whole_none, rat_whole}
+use Rattle.dual_diff.proofs.{Shared.{◌∙◌, sym, rules, FitsSigned, value_of, ratio_parts, w128, to_z-of_z}, Exponents.{whole_some, whole_none, rat_whole}}
 use Rattle.dual_diff.proofs.derivable.whole_number.Goals as goal
 
 pub returns-then-is_whole-clause-value : goal.returns-then-is_whole-clause-value

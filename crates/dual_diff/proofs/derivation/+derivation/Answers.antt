@@ -1,12 +1,11 @@
-use Rattle.std.proofs.Common.{◌≡◌, ◌<◌, ◌≤◌, ◌+◌, ◌∙◌, refl, sym, ap, subst, arith, rules}
-use Rattle.dual_diff.proofs.Shared.{whole_fraction, name_of, Tree, count, more, nodes, none, num, power, size, sizes, whole_num, free_of, HasDerivative, derivative, lowered, products, with_derivative, behind, first, occurs, told, children_of, nth, takes_kind}
-use Rattle.dual_diff.proofs.Added.{adds_as, adds_copy, adds_free, adds_join, adds_more, adds_none, adds_one, adds_tree, can_copy, can_join, last_is, last_some, more_than_one, placed_more, placed_none, placed_same, ready, rest_after, still_count, still_expression, still_nth, still_plain, tree_of}
-use Rattle.dual_diff.proofs.AllNodes.{child_in, exponent_in}
+use Rattle.dual_diff.proofs.Shared.{◌≡◌, ◌<◌, ◌≤◌, ◌+◌, ◌∙◌, refl, sym, ap, subst, arith, rules, whole_fraction, name_of, Tree, count, more, nodes, none, num, power}
+use Rattle.dual_diff.proofs.Shared.{size, sizes, whole_num, free_of, HasDerivative, derivative, lowered, products, with_derivative, behind, first, occurs, told, children_of, nth, takes_kind}
+use Rattle.dual_diff.proofs.Added.{adds_as, adds_copy, adds_free, adds_join, adds_more, adds_none, adds_one, adds_tree, can_copy, can_join, last_is, last_some, more_than_one, placed_more}
+use Rattle.dual_diff.proofs.{Added.{placed_none, placed_same, ready, rest_after, still_count, still_expression, still_nth, still_plain, tree_of}, AllNodes.{child_in, exponent_in}}
 use Rattle.dual_diff.proofs.Forms.{append_one, base_and_exponent, one_argument, quotient_nodes, root_of, sizes_append, two_children}
 use Rattle.dual_diff.proofs.Numbers.{first_power, less_fits_signed, lowered_power, small_fits, told_fits, told_less, told_less_fits, told_small, zero_power}
 use Rattle.dual_diff.proofs.Products.{count_derivatives, count_with, derivatives_all, derivatives_more, derivatives_room, made_rule, made_some, products_room, sum_room}
-use Rattle.dual_diff.proofs.Rules.{absent_zero, other_linear, product_sum, quotient_divided, quotient_whole, root_by_rule, same_node, symbol_one}
-use Rattle.dual_diff.proofs.Slices.{slice_first, with_room}
+use Rattle.dual_diff.proofs.{Rules.{absent_zero, other_linear, product_sum, quotient_divided, quotient_whole, root_by_rule, same_node, symbol_one}, Slices.{slice_first, with_room}}
 use Rattle.dual_diff.proofs.derivation.+derivation.Goals as goal
 
 -- ---- place_derivative

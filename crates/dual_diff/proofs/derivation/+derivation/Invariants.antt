@@ -1,6 +1,4 @@
-use Rattle.std.proofs.Common.{◌+◌, ◌*◌}
-use Rattle.dual_diff.proofs.Shared.{name_of, nodes, derivatives, first, AddsAll, children_of, plain, tree_at, forest}
-use Rattle.dual_diff.proofs.Added.{ArePlaced}
+use Rattle.dual_diff.proofs.{Shared.{◌+◌, ◌*◌, name_of, nodes, derivatives, first, AddsAll, children_of, plain, tree_at, forest}, Added.ArePlaced}
 use Rattle.dual_diff.proofs.derivation.+derivation.Given as goal
 
 abbrev pub decreases-place_derivative : goal.decreases-place_derivative

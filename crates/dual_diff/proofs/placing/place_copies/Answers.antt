@@ -1,7 +1,5 @@
-use Rattle.std.proofs.Common.{◌≡◌, ◌≤◌, ◌∙◌, ap, arith}
-use Rattle.dual_diff.proofs.Shared.{count, size, children_of, nth}
-use Rattle.dual_diff.proofs.Added.{adds_as, adds_free, adds_more, adds_none, adds_tree, still_expression, still_plain, tree_of}
-use Rattle.dual_diff.proofs.Slices.{slice_more, slice_none, slice_room}
+use Rattle.dual_diff.proofs.Shared.{◌≡◌, ◌≤◌, ◌∙◌, ap, arith, count, size, children_of, nth}
+use Rattle.dual_diff.proofs.{Added.{adds_as, adds_free, adds_more, adds_none, adds_tree, still_expression, still_plain, tree_of}, Slices.{slice_more, slice_none, slice_room}}
 use Rattle.dual_diff.proofs.placing.place_copies.Goals.{After-child_of-child}
 use Rattle.dual_diff.proofs.placing.place_copies.Goals as goal
 

@@ -1,5 +1,4 @@
-use Rattle.std.proofs.Common.{◌-◌}
-use Rattle.dual_diff.proofs.Shared.{behind, first, AddsAll, children_of, plain, tree_at, forest}
+use Rattle.dual_diff.proofs.Shared.{◌-◌, behind, first, AddsAll, children_of, plain, tree_at, forest}
 use Rattle.dual_diff.proofs.placing.place_copies.Given as goal
 
 abbrev pub invariant-loop-at : goal.invariant-loop-at

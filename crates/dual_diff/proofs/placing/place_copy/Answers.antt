@@ -1,5 +1,4 @@
-use Rattle.std.proofs.Common.{◌≤◌, arith}
-use Rattle.dual_diff.proofs.Shared.{free_of, bytes_in, tree_at, forest, size-plain}
+use Rattle.dual_diff.proofs.Shared.{◌≤◌, arith, free_of, bytes_in, tree_at, forest, size-plain}
 use Rattle.tree_handles.proofs.Measures.{one_at}
 use Rattle.dual_diff.proofs.placing.place_copy.Goals as goal
 

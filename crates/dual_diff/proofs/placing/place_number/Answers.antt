@@ -1,6 +1,4 @@
-use Rattle.std.proofs.Common.{◌≤◌, ◌∙◌, ap, refl, arith}
-use Rattle.dual_diff.proofs.Shared.{rational, size_of_payload, ratio_of, num, free_of, gives_as}
-use Rattle.dual_diff.proofs.Numbers.{placed_value, placed_size}
+use Rattle.dual_diff.proofs.{Shared.{◌≤◌, ◌∙◌, ap, refl, arith, rational, size_of_payload, ratio_of, num, free_of, gives_as}, Numbers.{placed_value, placed_size}}
 use Rattle.dual_diff.proofs.placing.place_number.Goals as goal
 
 pub returns : goal.returns

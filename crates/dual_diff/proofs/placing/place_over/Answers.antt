@@ -1,5 +1,4 @@
-use Rattle.std.proofs.Common.{◌∙◌, arith}
-use Rattle.dual_diff.proofs.Added.{adds_over, added_begin, added_few, takes_bare}
+use Rattle.dual_diff.proofs.{Shared.{◌∙◌, arith}, Added.{adds_over, added_begin, added_few, takes_bare}}
 use Rattle.dual_diff.proofs.placing.place_over.Goals as goal
 
 pub node_over_last-requires : goal.node_over_last-requires

@@ -1,7 +1,5 @@
-use Rattle.std.proofs.Common.{ap, refl, arith, rules}
-use Rattle.dual_diff.proofs.Shared.{whole_fraction, num, size, told, AddsAll, two}
-use Rattle.dual_diff.proofs.Added.{adds_free, adds_more, adds_none, adds_one, adds_tree, can_copy, can_join, tree_of}
-use Rattle.dual_diff.proofs.placing.place_power_of.Goals.{After-place_number}
+use Rattle.dual_diff.proofs.Shared.{ap, refl, arith, rules, whole_fraction, num, size, told, AddsAll, two}
+use Rattle.dual_diff.proofs.{Added.{adds_free, adds_more, adds_none, adds_one, adds_tree, can_copy, can_join, tree_of}, placing.place_power_of.Goals.After-place_number}
 use Rattle.dual_diff.proofs.placing.place_power_of.Goals as goal
 
 pub place_copy-requires : goal.place_copy-requires

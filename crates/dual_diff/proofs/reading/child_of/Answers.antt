@@ -1,5 +1,4 @@
-use Rattle.std.proofs.Common.{arith}
-use Rattle.dual_diff.proofs.Shared.{forest}
+use Rattle.dual_diff.proofs.Shared.{arith, forest}
 use Rattle.tree_handles.proofs.Readings.{expression_children}
 use Rattle.dual_diff.proofs.reading.child_of.Goals as goal
 

@@ -1,7 +1,4 @@
-use Rattle.std.proofs.Common.{sym}
-use Rattle.dual_diff.proofs.Shared.{name_of}
-use Rattle.dual_diff.proofs.Added.{tree_of}
-use Rattle.dual_diff.proofs.Exponents.{held}
+use Rattle.dual_diff.proofs.{Shared.{sym, name_of}, Added.tree_of, Exponents.held}
 use Rattle.dual_diff.proofs.reading.holds.Goals as goal
 
 pub returns : goal.returns

@@ -1,6 +1,5 @@
-use Rattle.std.proofs.Common.{◌≡◌, ◌∙◌, ◌∷◌, ◌++◌, [], ℕ, suc, ap, length, arith}
-use Rattle.dual_diff.proofs.Shared.{length-append, nodes, next_child, root_ids, plain, rest_trees, tree_at, kids_of, forest}
-use Rattle.dual_diff.proofs.Forms.{fewer}
+use Rattle.dual_diff.proofs.Shared.{◌≡◌, ◌∙◌, ◌∷◌, ◌++◌, [], ℕ, suc, ap, length, arith, length-append, nodes, next_child, root_ids, plain, rest_trees, tree_at, kids_of}
+use Rattle.dual_diff.proofs.{Shared.forest, Forms.fewer}
 use Rattle.dual_diff.proofs.tests.+add_letters.Goals as goal
 
 pub add_letters-requires : goal.add_letters-requires

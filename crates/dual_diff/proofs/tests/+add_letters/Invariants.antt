@@ -1,5 +1,4 @@
-use Rattle.std.proofs.Common.{◌≡◌, length}
-use Rattle.dual_diff.proofs.Shared.{nodes, root_ids, plain, rest_trees, tree_at, kids_of, forest}
+use Rattle.dual_diff.proofs.Shared.{◌≡◌, length, nodes, root_ids, plain, rest_trees, tree_at, kids_of, forest}
 use Rattle.dual_diff.proofs.tests.+add_letters.Given as goal
 
 abbrev pub decreases-add_letters : goal.decreases-add_letters

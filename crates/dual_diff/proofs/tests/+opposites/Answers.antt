@@ -1,5 +1,4 @@
-use Rattle.std.proofs.Common.{refl}
-use Rattle.dual_diff.proofs.Shared.{given_handed, given_rest, gives_as}
+use Rattle.dual_diff.proofs.Shared.{refl, given_handed, given_rest, gives_as}
 use Rattle.dual_diff.proofs.tests.+opposites.Goals as goal
 
 pub node_over-requires-clause-handed : goal.node_over-requires-clause-handed

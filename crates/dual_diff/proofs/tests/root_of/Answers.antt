@@ -1,5 +1,4 @@
-use Rattle.std.proofs.Common.{ℕ, sym, subst}
-use Rattle.dual_diff.proofs.Shared.{expression_root, IsExpression, forest}
+use Rattle.dual_diff.proofs.Shared.{ℕ, sym, subst, expression_root, IsExpression, forest}
 use Rattle.dual_diff.proofs.tests.root_of.Goals as goal
 
 pub returns : goal.returns
