@@ -1,3 +1,5 @@
+mod Shared
+pub mod LeadingRuns
 pub mod Reader
 pub mod ReaderSteps
 pub mod ReaderComplete

@@ -1,18 +1,13 @@
 -- A text reads as at most one tree, and what is written is read again.
-use Rattle.std.specs.Prelude.{ℕ, ◌≡◌, List, [], ◌∷◌, Bool, true, false, ◌==◌, ◌||◌, nat_le, Some, None}
-use Rattle.std.proofs.Common.{arith, refl, sym, ap, ◌∙◌, subst}
-use Rattle.std.proofs.lemmas.Bool.{eqb-true}
-use Rattle.calc_language.specs.Grammar.{as_tree, single, IsSum}
-use Rattle.calc_language.specs.Reads.{Reads}
-use Rattle.calc_language.specs.Texts.{text, IsWritable, admits, admits_signed, first_of_sum, later_of_sum, first_of_product, left_of_quotient, base}
-use Rattle.calc_language.specs.Tokens.{Token, token_at, is_blank, Scans, at_end, at_blank, at_token}
-use Rattle.calc_terms.specs.Trees.{Tree, IsComplete}
-use Rattle.calc_language.proofs.ReaderComplete.{one_sum}
-use Rattle.calc_language.proofs.Spelled.{spelled, in_text, text_spelled, tree_scanned}
+use Rattle.calc_language.proofs.Shared.{ℕ, ◌≡◌, List, [], ◌∷◌, Bool, true, false, ◌==◌, ◌||◌, nat_le, Some, None, arith, refl, sym, ap, ◌∙◌, subst, as_tree, single}
+use Rattle.calc_language.proofs.Shared.{IsSum, Reads, text, IsWritable, admits, first_of_sum, later_of_sum, first_of_product, left_of_quotient, base, Token, token_at, is_blank, Scans, at_end}
+use Rattle.calc_language.proofs.{Shared.{at_blank, at_token, Tree, IsComplete}, ReaderComplete.one_sum, Spelled.{spelled, in_text, text_spelled, tree_scanned}}
 use Rattle.calc_language.proofs.Written.{Brackets, IsReadable, binding, is_signed, sum_so_far, product_so_far, tokens, reads_again}
+use Rattle.std.proofs.lemmas.Bool.{eqb-true}
+use Rattle.calc_language.specs.Texts.{admits_signed}
 
 -- no token begins with a blank
-blank_no_token : (b : ℕ) (bs : List ℕ) → is_blank b ≡ true → token_at (b ∷ bs) ≡ None
+pub blank_no_token : (b : ℕ) (bs : List ℕ) → is_blank b ≡ true → token_at (b ∷ bs) ≡ None
 blank_no_token b bs h = by (b == 32) refl h
   where
     by : (x : Bool) → (b == 32) ≡ x → (x || (b == 9)) ≡ true → token_at (b ∷ bs) ≡ None

@@ -1,8 +1,8 @@
 -- The reader: a function on tokens, with a bound on its steps.
-use Rattle.std.specs.Prelude.{ℕ, zero, suc, List, ◌∷◌, true, false, Option, Some, None}
-use Rattle.calc_language.specs.Grammar.{SoFar, single, as_tree, plus_term, minus_term, times_factor, over_factor, joined_tree, joins}
-use Rattle.calc_language.specs.Tokens.{name, Token, literal, undef_mark, root_mark, plus_mark, minus_mark, times_mark, slash_mark, caret_mark, left_mark, right_mark}
-use Rattle.calc_terms.specs.Trees.{Tree, num, symbol, undef, power, root, neg, Trees, none, more, append}
+use Rattle.calc_language.proofs.Shared.{ℕ, zero, suc, List, ◌∷◌, true, false, Some, None, SoFar, single, as_tree, plus_term, minus_term, times_factor, over_factor, joined_tree, joins}
+use Rattle.calc_language.proofs.Shared.{name, Token, literal, undef_mark, root_mark, plus_mark, minus_mark, times_mark, slash_mark, caret_mark, left_mark, right_mark, Tree, num, symbol, undef}
+use Rattle.calc_language.proofs.Shared.{power, root, neg, Trees, none, more, append}
+use Rattle.std.specs.Prelude.{Option}
 
 abbrev pub Read : Type 0 → Type 0
 Read A = Option (A × List Token)

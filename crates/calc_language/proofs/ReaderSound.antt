@@ -1,11 +1,11 @@
 -- What is read is in the grammar.
-use Rattle.std.specs.Prelude.{ℕ, zero, suc, ◌≡◌, List, [], ◌∷◌, ◌++◌, Bool, true, false, Some, None}
-use Rattle.std.proofs.Common.{arith, refl, sym, ap, ◌∙◌, subst, append_assoc, append-nil}
-use Rattle.calc_language.specs.Grammar.{SoFar, single, as_tree, plus_term, minus_term, times_factor, over_factor, joined_tree, joins, Sum, first_term, plus_more, minus_more, Signed, minus_signed, plain_signed, Product, first_factor, times_more, over_more, Right, minus_right, plain_right, Joined, one_power, another_power, Power, plain_power, raised_power, Exponent, minus_exponent, plain_exponent, Primary, a_literal, a_name, an_undef, parenthesized, a_root}
-use Rattle.calc_language.specs.Tokens.{name, Token, literal, undef_mark, root_mark, plus_mark, minus_mark, times_mark, slash_mark, caret_mark, left_mark, right_mark}
-use Rattle.calc_terms.specs.Trees.{Tree, num, symbol, undef, power, root, neg, Trees, none, more, append}
-use Rattle.calc_language.proofs.Reader.{Read, andthen, closed, sum_at, terms_at, signed_at, product_at, factors_at, right_at, joined_at, powers_at, power_at, raise_at, exponent_at, primary_at}
-use Rattle.calc_language.proofs.ReaderComplete.{begins, power_begins, powers_on}
+use Rattle.calc_language.proofs.Shared.{ℕ, zero, suc, ◌≡◌, List, [], ◌∷◌, ◌++◌, Bool, true, false, Some, None, arith, refl, sym, ap, ◌∙◌, subst, append_assoc, append-nil}
+use Rattle.calc_language.proofs.Shared.{SoFar, single, as_tree, plus_term, minus_term, times_factor, over_factor, joined_tree, joins, Sum, first_term, plus_more, minus_more, Signed}
+use Rattle.calc_language.proofs.Shared.{minus_signed, plain_signed, Product, first_factor, times_more, over_more, Right, minus_right, plain_right, Joined, one_power, another_power, Power}
+use Rattle.calc_language.proofs.Shared.{plain_power, raised_power, Exponent, minus_exponent, plain_exponent, Primary, a_literal, a_name, an_undef, parenthesized, a_root, name, Token, literal}
+use Rattle.calc_language.proofs.Shared.{undef_mark, root_mark, plus_mark, minus_mark, times_mark, slash_mark, caret_mark, left_mark, right_mark, Tree, num, symbol, undef, power, root, neg}
+use Rattle.calc_language.proofs.{Shared.{Trees, none, more, append}, Reader.{Read, andthen, closed, sum_at, terms_at, signed_at, product_at, factors_at, right_at, joined_at, powers_at, power_at}}
+use Rattle.calc_language.proofs.{Reader.{raise_at, exponent_at, primary_at}, ReaderComplete.{begins, power_begins, powers_on}}
 
 -- a front of the tokens is of this kind
 pub record Took {A : Type 0} (P : List Token → A → Type 0) (ts : List Token) (y : A × List Token) : Type 0 where

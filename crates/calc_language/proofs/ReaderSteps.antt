@@ -1,11 +1,8 @@
 -- More steps read the same.
-use Rattle.std.specs.Prelude.{ℕ, zero, suc, ◌+◌, ◌≡◌, List, Some}
-use Rattle.std.proofs.Common.{sym, ap, ◌∙◌, arith, zero-add}
-use native.Mathlib.Nat.{suc-add}
-use Rattle.calc_language.specs.Grammar.{SoFar, single}
-use Rattle.calc_language.specs.Tokens.{Token}
-use Rattle.calc_terms.specs.Trees.{Tree, Trees, none, more}
+use Rattle.calc_language.proofs.Shared.{ℕ, zero, suc, ◌+◌, ◌≡◌, List, Some, sym, ap, ◌∙◌, arith, SoFar, single, Token, Tree, Trees, none, more}
 use Rattle.calc_language.proofs.Reader.{Read, andthen, sum_at, terms_at, signed_at, product_at, factors_at, right_at, joined_at, powers_at, power_at, raise_at, exponent_at, primary_at}
+use Rattle.std.proofs.Common.{zero-add}
+use native.Mathlib.Nat.{suc-add}
 
 abbrev pub More : {A : Type 0} → Read A → Read A → Type 0
 More {A} p q = (y : A × List Token) → p ≡ Some y → q ≡ Some y

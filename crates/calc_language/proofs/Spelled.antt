@@ -1,17 +1,17 @@
 -- The text of a tree is cut into its tokens.
-use Rattle.std.specs.Prelude.{ℕ, zero, suc, ◌+◌, ◌/◌, ◌%◌, ◌≡◌, ◌<◌, ⊤, List, [], ◌∷◌, ◌++◌, length, Bool, true, false, not, ◌&&◌, ◌||◌, ◌==◌, nat_le, if◌then◌else◌, Some, None, pos, nat_abs, codes, nat_eq}
-use Rattle.std.proofs.Common.{refl, sym, ap, ◌∙◌, arith, append_assoc, append-nil, subst}
-use Rattle.std.proofs.lemmas.Bool.{leb-true, le-leb, and_parts, and_from, or_left, or_right, or_parts, not-true}
-use Rattle.std.specs.List.{list_all}
-use Rattle.std.specs.Cmp.Lexicographic.{pointwise}
-use Rattle.calc_terms.specs.Name.{is_name, is_reserved, begins_with_letter, is_digit, is_letter, is_name_byte}
-use Rattle.std.proofs.lemmas.Bool.Decides.{nat_tests}
-use Rattle.calc_terms.specs.Fractions.{lowest}
-use Rattle.calc_language.specs.Texts.{decimal, digits_before, Place, whole_text, first_of_sum, left_of_difference, later_of_sum, first_of_product, left_of_quotient, later_of_product, base, exponent, admits, at_place, in_parentheses, text, text_of_sum, text_of_terms, text_of_product, text_of_factors, IsNatural, IsWritable, AreWritable}
-use Rattle.calc_language.specs.Tokens.{literal_at, word_at, Scans, at_end, at_token, name, times_sign, root_sign, Token, literal, undef_mark, root_mark, plus_mark, minus_mark, times_mark, slash_mark, caret_mark, left_mark, right_mark, arrow_mark, leading_run, keep, digits_value, decimals, same_bytes, token_of_word, token_at, or_else, if_so}
-use Rattle.calc_terms.specs.Trees.{Tree, num, symbol, undef, add, mult, power, root, neg, sub, div, Trees, none, more}
-use Rattle.calc_terms.proofs.FractionFacts.{whole_numerator}
+use Rattle.calc_language.proofs.Shared.{ℕ, zero, suc, ◌+◌, ◌≡◌, ⊤, List, [], ◌∷◌, ◌++◌, length, Bool, true, false, not, ◌&&◌, ◌||◌, ◌==◌, nat_le}
+use Rattle.calc_language.proofs.Shared.{if◌then◌else◌, Some, None, nat_eq, refl, sym, ap, ◌∙◌, arith, append_assoc, append-nil, subst, list_all, first_of_sum, later_of_sum}
+use Rattle.calc_language.proofs.Shared.{first_of_product, left_of_quotient, base, admits, text, IsWritable, Scans, at_end, at_token, name, Token, literal, undef_mark, root_mark, plus_mark}
+use Rattle.calc_language.proofs.Shared.{minus_mark, times_mark, slash_mark, caret_mark, left_mark, right_mark, arrow_mark, leading_run, same_bytes, token_at, Tree, num, symbol, undef, add, mult}
+use Rattle.calc_language.proofs.{Shared.{power, root, neg, sub, div, Trees, none, more}, LeadingRuns.{stops, run_of, same_bytes-pointwise}}
 use Rattle.calc_language.proofs.Written.{Brackets, inside, placed, tokens, tokens_of_sum, tokens_of_terms, tokens_of_product, tokens_of_factors}
+use Rattle.std.specs.{Prelude.{◌/◌, ◌%◌, ◌<◌, pos, nat_abs, codes}, Cmp.Lexicographic.pointwise}
+use Rattle.std.proofs.{lemmas.Bool.{leb-true, le-leb, and_parts, and_from, or_left, or_right, or_parts, not-true}, lemmas.Bool.Decides.nat_tests}
+use Rattle.calc_terms.specs.{Name.{is_name, is_reserved, begins_with_letter, is_digit, is_letter, is_name_byte}, Fractions.lowest}
+use Rattle.calc_language.specs.Texts.{decimal, digits_before, Place, whole_text, left_of_difference, later_of_product, exponent, at_place, in_parentheses, text_of_sum, text_of_terms}
+use Rattle.calc_language.specs.{Texts.{text_of_product, text_of_factors, IsNatural, AreWritable}, Tokens.{literal_at, word_at, times_sign, root_sign, digits_value, decimals, token_of_word}}
+use Rattle.calc_language.specs.Tokens.{or_else, if_so}
+use Rattle.calc_terms.proofs.FractionFacts.{whole_numerator}
 
 abbrev pub spell : Token → List ℕ
 spell (literal q) = decimal (nat_abs q.num)
@@ -100,29 +100,6 @@ mutual
   factors_spelled none = refl
   factors_spelled (more t ts) = (λ i. (times_sign ++ place_spelled later_of_product t (text_spelled t) i) ++ factors_spelled ts i) ∙ sym (spelled-append (times_mark ∷ placed (admits later_of_product t) (tokens in_text t)) (tokens_of_factors in_text ts))
 
--- ---- runs
-abbrev pub stops : (ℕ → Bool) → List ℕ → Bool
-stops p [] = true
-stops p (b ∷ bs) = not (p b)
-
-run_stop : (p : ℕ → Bool) (rest : List ℕ) → stops p rest ≡ true → leading_run p rest ≡ ([], rest)
-run_stop p [] h = refl
-run_stop p (b ∷ bs) h = by (p b) h
-  where
-    by : (x : Bool) → not x ≡ true → keep x b bs (leading_run p bs) ≡ ([], b ∷ bs)
-    by true e = cc
-    by false e = refl
-
-run_all : (p : ℕ → Bool) (a rest : List ℕ) → list_all p a ≡ true → stops p rest ≡ true → leading_run p (a ++ rest) ≡ (a, rest)
-run_all p [] rest h s = run_stop p rest s
-run_all p (b ∷ bs) rest h s =
-    let (x, y) = and_parts (p b) (list_all p bs) h in
-    by (p b) x (run_all p bs rest y s)
-  where
-    by : (x : Bool) → x ≡ true → leading_run p (bs ++ rest) ≡ (bs, rest) → keep x b (bs ++ rest) (leading_run p (bs ++ rest)) ≡ (b ∷ bs, rest)
-    by true e f = ap (λ r. (b ∷ r.0, r.1)) f
-    by false e f = cc
-
 -- ---- decimals
 digit_is : (n : ℕ) → n < 10 → is_digit (48 + n) ≡ true
 digit_is n h = and_from _ _ (le-leb 48 (48 + n) (omega arith)) (le-leb (48 + n) 57 (omega arith))
@@ -210,7 +187,7 @@ clear_decimals (b ∷ c ∷ bs) h =
 literal_read : (n : ℕ) (ds rest : List ℕ) → DecimalText n ds → is_clear rest ≡ true → literal_at (ds ++ rest) ≡ (literal (lowest (pos n) 1), rest)
 unfolding literal_at
 literal_read n ds rest h c =
-    let e = run_all is_digit ds rest h.all (clear_digit rest c) in
+    let e = run_of is_digit ds rest h.all (clear_digit rest c) in
     let f = clear_decimals rest c in
     rw (e, f, append-nil, h.value) refl
 
@@ -237,12 +214,6 @@ literal_taken n ds rest h c = at_first ds (no_decimal ds h.all h.some) (literal_
         let g : x ≡ b = cc in
         let d' : is_digit x ≡ true = ap is_digit g ∙ d in
         first_branch (is_digit x) (Some (literal_at (x ∷ (xs ++ rest)))) _ d' ∙ ap Some f
-
-same_bytes-pointwise : (x y : List ℕ) → same_bytes x y ≡ pointwise nat_eq x y
-same_bytes-pointwise [] [] = refl
-same_bytes-pointwise [] (b ∷ y) = refl
-same_bytes-pointwise (a ∷ x) [] = refl
-same_bytes-pointwise (a ∷ x) (b ∷ y) = ap (λ r. (a == b) && r) (same_bytes-pointwise x y)
 
 -- what scanning needs of a name
 record NameText (x : List ℕ) : Type 0 where
@@ -283,7 +254,7 @@ letter_no_digit b h = by (nat_le 65 b) (nat_le b 90) (nat_le 97 b) (nat_le b 122
 
 name_read : (x rest : List ℕ) → is_clear rest ≡ true → list_all is_name_byte x ≡ true → nat_le (length x) 7 ≡ true → same_bytes x (codes "sqrt") ≡ false → same_bytes x (codes "undef") ≡ false → word_at (x ++ rest) ≡ Some (name x, rest)
 unfolding word_at
-name_read x rest c a s r u = rw (run_all is_name_byte x rest a (clear_name rest c), s, r, u) refl
+name_read x rest c a s r u = rw (run_of is_name_byte x rest a (clear_name rest c), s, r, u) refl
 
 name_taken : (x rest : List ℕ) → NameText x → is_clear rest ≡ true → token_at (x ++ rest) ≡ Some (name x, rest)
 name_taken x rest h c = at_first x h.is (name_read x rest c h.all h.short h.no_root h.no_undef)
@@ -297,7 +268,7 @@ name_taken x rest h c = at_first x h.is (name_read x rest c h.all h.short h.no_r
 
 undef_taken : (rest : List ℕ) → is_clear rest ≡ true → token_at (codes "undef" ++ rest) ≡ Some (undef_mark, rest)
 unfolding word_at
-undef_taken rest c = read rest (run_all is_name_byte (codes "undef") rest refl (clear_name rest c))
+undef_taken rest c = read rest (run_of is_name_byte (codes "undef") rest refl (clear_name rest c))
   where
     read : (rest : List ℕ) → leading_run is_name_byte (codes "undef" ++ rest) ≡ (codes "undef", rest) → token_at (codes "undef" ++ rest) ≡ Some (undef_mark, rest)
     read rest e = ap (λ r. if nat_le (length (r.0)) 7 then Some (token_of_word (r.0), r.1) else None) e

@@ -1,10 +1,11 @@
 -- What a format writes is read again, over tokens.
-use Rattle.std.specs.Prelude.{ℕ, ◌≡◌, ⊤, List, [], ◌∷◌, ◌++◌, Bool, true, false, nat_le, if◌then◌else◌}
-use Rattle.std.proofs.Common.{refl, sym, ap, subst, append_assoc, append-nil}
-use Rattle.calc_language.specs.Grammar.{SoFar, single, summed, multiplied, as_tree, IsSum, Sum, first_term, plus_more, minus_more, Signed, minus_signed, plain_signed, Product, first_factor, times_more, over_more, Right, minus_right, plain_right, one_power, Power, plain_power, raised_power, Exponent, minus_exponent, plain_exponent, Primary, a_literal, a_name, an_undef, parenthesized, a_root}
-use Rattle.calc_language.specs.Texts.{level}
-use Rattle.calc_language.specs.Tokens.{name, Token, literal, undef_mark, root_mark, plus_mark, minus_mark, times_mark, slash_mark, caret_mark, left_mark, right_mark}
-use Rattle.calc_terms.specs.Trees.{Tree, num, symbol, undef, add, mult, power, root, neg, sub, div, Trees, none, more, append, IsComplete, AreComplete}
+use Rattle.calc_language.proofs.Shared.{ℕ, ◌≡◌, ⊤, List, [], ◌∷◌, ◌++◌, Bool, true, false, nat_le, if◌then◌else◌, refl, sym, ap, subst, append_assoc, append-nil, SoFar}
+use Rattle.calc_language.proofs.Shared.{single, as_tree, IsSum, Sum, first_term, plus_more, minus_more, Signed, minus_signed, plain_signed, Product, first_factor, times_more, over_more, Right}
+use Rattle.calc_language.proofs.Shared.{minus_right, plain_right, one_power, Power, plain_power, raised_power, Exponent, minus_exponent, plain_exponent, Primary, a_literal, a_name, an_undef}
+use Rattle.calc_language.proofs.Shared.{parenthesized, a_root, name, Token, literal, undef_mark, root_mark, plus_mark, minus_mark, times_mark, slash_mark, caret_mark, left_mark, right_mark}
+use Rattle.calc_language.proofs.Shared.{Tree, num, symbol, undef, add, mult, power, root, neg, sub, div, Trees, none, more, append, IsComplete}
+use Rattle.calc_language.specs.{Grammar.{summed, multiplied}, Texts.level}
+use Rattle.calc_terms.specs.Trees.{AreComplete}
 
 -- ---- formats
 

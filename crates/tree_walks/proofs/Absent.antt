@@ -1,10 +1,7 @@
 -- A tree without the name, as it is left.
-use Rattle.std.proofs.Common.{◌≡◌, ℕ, zero, suc, List, refl, sym, ap, ◌∙◌, subst, arith}
-use Rattle.std.specs.Prelude.{Contains}
-use Rattle.tree_walks.proofs.Shared.{Tree, names, size, root_size, symbol, State, free_of, Gives, tree_of, plain, tree_at, without_root, Stands, forest, replacing, occurrences, last_root, last_tree, tree_of_root}
-use Rattle.tree_walks.proofs.Composing.{stays_where_absent}
-use Rattle.tree_walks.proofs.Filling.{IsDone, front_kept}
-use Rattle.tree_walks.proofs.Searches.{counted}
+use Rattle.tree_walks.proofs.Shared.{◌≡◌, ℕ, zero, suc, List, refl, sym, ap, ◌∙◌, subst, arith, Contains, Tree, names, size, root_size, symbol, State, free_of, Gives, tree_of}
+use Rattle.tree_walks.proofs.{Shared.{plain, tree_at, without_root, Stands, forest, replacing, occurrences, last_root, last_tree, tree_of_root}, Composing.stays_where_absent}
+use Rattle.tree_walks.proofs.{Filling.{IsDone, front_kept}, Searches.counted}
 
 none_occur : (x : List ℕ) (t : Tree) → ¬ (Contains (names t) x) → occurrences x t ≡ 0
 none_occur x t h = by (occurrences x t) refl

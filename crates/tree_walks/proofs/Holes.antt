@@ -1,9 +1,9 @@
 -- A leaf of a name among the nodes of some trees, and what comes of these where another tree stands in its place.
-use Rattle.std.proofs.Common.{◌≡◌, ℕ, suc, ◌+◌, ◌-◌, ◌<◌, List, [], ◌∷◌, ◌++◌, length, cond, eqb, refl, sym, ap, ◌∙◌, arith, append_assoc, inl, inr, true, false}
-use Rattle.std.specs.Prelude.{◌⊎◌}
-use Rattle.tree_walks.proofs.Shared.{eq-eqb, length-append, Payload, rational, named, bare, size_of_payload, Tree, Trees, symbol, none, more, append, root_size, grown, plains, takes, IsWhole, AllExpressions, Label, Forest, empty, tree, join, arity, root_id, root_payload, set_nth, tree_nth, bytes_in, IsOnce, AllOnce, holds, kids_of, with_kids, Distinct, distinct_parts, other_id, all-join, arity-join, bytes_in-join, by_test, has_name, leaves_of}
-use Rattle.tree_walks.proofs.LeafLists.{leaves_at, one_or_none, later, later_root, later-all, later-root, later-join, leaves-join}
-use Rattle.tree_walks.proofs.Names.{leaf_alone}
+use Rattle.tree_walks.proofs.Shared.{◌≡◌, ℕ, suc, ◌+◌, ◌-◌, ◌<◌, List, [], ◌∷◌, ◌++◌, length, cond, eqb, refl, sym, ap, ◌∙◌, arith, append_assoc, inl, inr}
+use Rattle.tree_walks.proofs.Shared.{true, false, ◌⊎◌, eq-eqb, length-append, Payload, rational, named, bare, size_of_payload, Tree, Trees, symbol, none, more, append, root_size, grown}
+use Rattle.tree_walks.proofs.Shared.{plains, takes, IsWhole, AllExpressions, Label, Forest, empty, tree, join, arity, root_id, root_payload, set_nth, tree_nth, bytes_in, IsOnce, AllOnce, holds}
+use Rattle.tree_walks.proofs.Shared.{kids_of, with_kids, Distinct, distinct_parts, other_id, all-join, arity-join, bytes_in-join, by_test, has_name, leaves_of}
+use Rattle.tree_walks.proofs.{LeafLists.{leaves_at, one_or_none, later, later_root, later-all, later-root, later-join, leaves-join}, Names.leaf_alone}
 
 -- ---- where it stands
 

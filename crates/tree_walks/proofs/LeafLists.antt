@@ -1,6 +1,7 @@
 -- The leaves of a name, in prefix order, and what comes of them one after another.
-use Rattle.std.proofs.Common.{◌≡◌, ℕ, ◌+◌, ◌-◌, ◌≤◌, List, [], ◌∷◌, ◌++◌, length, cond, eqb, refl, sym, ap, ◌∙◌, arith, append_assoc, Bool, true, false}
-use Rattle.tree_walks.proofs.Shared.{ne_eqb, length-append, Payload, Tree, Trees, none, more, append, grown, plains, plain, AllExpressions, Label, Forest, empty, tree, join, arity, nodes_in, by_test, alone, replaced, replaced_in, occurrences, has_name, leaves_of}
+use Rattle.tree_walks.proofs.Shared.{◌≡◌, ℕ, ◌+◌, ◌-◌, ◌≤◌, List, [], ◌∷◌, ◌++◌, length, cond, eqb, refl, sym, ap, ◌∙◌, arith, append_assoc, Bool, true}
+use Rattle.tree_walks.proofs.Shared.{false, ne_eqb, length-append, Payload, Tree, Trees, none, more, append, grown, plains, plain, AllExpressions, Label, Forest, empty, tree, join, arity}
+use Rattle.tree_walks.proofs.Shared.{nodes_in, by_test, alone, replaced, replaced_in, occurrences, has_name, leaves_of}
 use Rattle.tree_walks.proofs.Names.{named_in, named-tree, occurrences_in, occurrences-alone, replaced-other, replaced-named}
 
 -- how many there are at a node and below it

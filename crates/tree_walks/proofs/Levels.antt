@@ -1,6 +1,6 @@
 -- A walk that has met no node below the limit.
-use Rattle.std.proofs.Common.{◌≡◌, ℕ, ◌-◌, max, ◌<◌, ◌≤◌, List, [], ◌∷◌, get_or, arith}
-use Rattle.tree_walks.proofs.Shared.{Visit, Forest, empty, tree, AreOpen, reach, IsWalked, open_count}
+use Rattle.tree_walks.proofs.Shared.{◌≡◌, ℕ, ◌-◌, ◌<◌, ◌≤◌, List, [], ◌∷◌, get_or, arith, Visit, Forest, empty, tree, AreOpen, reach, IsWalked, open_count}
+use Rattle.std.proofs.Common.{max}
 
 pub record IsShallow (left : List Visit) (height total many : ℕ) (owed : List ℕ) : Type 0 where
   pub deepest : ℕ

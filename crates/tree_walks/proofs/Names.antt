@@ -1,9 +1,8 @@
 -- Names and replaced names, node by node.
-use Rattle.std.proofs.Common.{◌≡◌, ℕ, zero, suc, ◌+◌, List, cond, refl, sym, ap, ◌∙◌, arith, Bool, true, false}
-use Rattle.tree_walks.proofs.Shared.{count_by, bytes_eq, bytes_eq-Decides, eqb-true, name_of, append-nil, sum_by-append, Payload, rational, named, bare, Tree, num, symbol, undef, power, root, neg, sub, div, Trees, none, more, names, names_of, nth, compound, grown, plains, takes, AllExpressions, children_of, Label, Forest, empty, tree, arity, grown_whole, replaced, replaced_in, occurrences, has_name}
-use Rattle.calc_terms.specs.Name.{before_zero, padded}
-use Rattle.calc_terms.specs.declared.name.Name.{Name}
-use Rattle.calc_terms.specs.declared.kind.Kind.{Kind}
+use Rattle.tree_walks.proofs.Shared.{◌≡◌, ℕ, zero, suc, ◌+◌, List, cond, refl, sym, ap, ◌∙◌, arith, Bool, true, false, count_by, bytes_eq, bytes_eq-Decides, eqb-true, name_of}
+use Rattle.tree_walks.proofs.Shared.{append-nil, sum_by-append, Payload, rational, named, bare, Tree, num, symbol, undef, power, root, neg, sub, div, Trees, none, more, names, names_of, nth}
+use Rattle.tree_walks.proofs.Shared.{compound, grown, plains, takes, AllExpressions, children_of, Label, Forest, empty, tree, arity, grown_whole, replaced, replaced_in, occurrences, has_name}
+use Rattle.calc_terms.specs.{Name.{before_zero, padded}, declared.name.Name.Name, declared.kind.Kind.Kind}
 use Rattle.calc_terms.specs.declared.kind.Kind.TheVariants as kind
 
 -- ---- how often a name occurs

@@ -1,13 +1,10 @@
 -- A tree is as deep as it has nodes at most, and each node takes eight bytes at least.
-use Rattle.std.proofs.Common.{ℕ, ◌+◌, ◌*◌, ◌≤◌, ◌≡◌, ◌++◌, true, ap, length, arith}
-use Rattle.tree_walks.proofs.Shared.{State, Stands, forest, holds, nodes_in, tree_at, flatten, length-append}
-use Rattle.node_pool.specs.Nodes.{used, place_of}
-use Rattle.node_pool.specs.Places.{since, until, IsBoundary}
-use Rattle.node_pool.proofs.Cuts.{until-since}
-use Rattle.node_pool.proofs.Sizes.{length_le_used, used-append}
-use Rattle.tree_handles.proofs.Forests.{nodes-flatten}
-use Rattle.tree_handles.proofs.Measures.{before}
-use Rattle.calc_terms.specs.Trees.{Tree, Trees, add, depth, depths, div, more, mult, neg, nodes, nodes_of, none, num, power, root, sub, symbol, undef}
+use Rattle.tree_walks.proofs.Shared.{ℕ, ◌+◌, ◌*◌, ◌≤◌, ◌≡◌, ◌++◌, true, ap, length, arith, State, Stands, forest, holds, nodes_in, tree_at, flatten, length-append}
+use Rattle.tree_walks.proofs.Shared.{Tree, Trees, add, depth, div, more, mult, neg, none, num, power, root, sub, symbol, undef}
+use Rattle.node_pool.specs.{Nodes.{used, place_of}, Places.{since, until, IsBoundary}}
+use Rattle.node_pool.proofs.{Cuts.until-since, Sizes.{length_le_used, used-append}}
+use Rattle.tree_handles.proofs.{Forests.nodes-flatten, Measures.before}
+use Rattle.calc_terms.specs.Trees.{depths, nodes, nodes_of}
 
 mutual
   pub depth_within : (t : Tree) → depth t ≤ nodes t

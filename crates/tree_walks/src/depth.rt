@@ -1,5 +1,6 @@
 //! Whether a tree is deep, in a walk that stops at the first node that is.
 ghost use Rattle.std.specs.Prelude.{◌<◌, ◌↔◌, IsTrue};
+ghost use Rattle.calc_terms.specs.Limits.{depth_limit};
 ghost use Rattle.calc_terms.specs.Trees.{depth};
 ghost use Rattle.tree_handles.specs.Expressions.{IsExpression, plain};
 ghost use Rattle.tree_handles.specs.Inside.{tree_at};
@@ -15,7 +16,7 @@ pub const DEPTH_LIMIT: usize = 64;
 pub fn is_deeper(pool: &Pool, id: Id) -> bool
     requires stands { Stands pool.now }
     requires expression { IsExpression id (forest pool.now) }
-    ensures { IsTrue result ↔ (64 < depth (plain (tree_at id (forest pool.now)))) }
+    ensures { IsTrue result ↔ (depth_limit < depth (plain (tree_at id (forest pool.now)))) }
 {
     // Each level has a node, and no node takes fewer than eight bytes.
     if pool.used() - pool.locate(id) <= 8 * DEPTH_LIMIT as u32 {
@@ -32,7 +33,7 @@ pub fn is_deeper(pool: &Pool, id: Id) -> bool
 fn has_deeper_level(pool: &Pool, id: Id) -> bool
     requires stands { Stands pool.now }
     requires expression { IsExpression id (forest pool.now) }
-    ensures { IsTrue result ↔ (64 < depth (plain (tree_at id (forest pool.now)))) }
+    ensures { IsTrue result ↔ (depth_limit < depth (plain (tree_at id (forest pool.now)))) }
 {
     let mut nodes = nodes_of(pool, id);
     // How many nodes are still owed on each open level.

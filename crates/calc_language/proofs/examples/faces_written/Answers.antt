@@ -1,6 +1,5 @@
-use Rattle.std.proofs.Common.{refl}
-use Rattle.calc_terms.specs.Fractions.{lowest}
-use Rattle.calc_terms.specs.Gcd.{gcd}
+use Rattle.calc_language.proofs.Shared.{refl}
+use Rattle.calc_terms.specs.{Fractions.lowest, Gcd.gcd}
 use Rattle.calc_language.specs.Texts.{decimal}
 use Rattle.calc_language.proofs.examples.faces_written.Goals as goal
 

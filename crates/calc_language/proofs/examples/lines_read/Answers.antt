@@ -1,9 +1,7 @@
-use Rattle.std.proofs.Common.{refl, [], ◌∷◌}
-use Rattle.calc_terms.specs.Gcd.{gcd}
-use Rattle.calc_terms.specs.Fractions.{lowest}
+use Rattle.calc_language.proofs.{Shared.refl, Reader.sum_at, Scanner.{scan_in, reads, stores}}
+use Rattle.std.proofs.Common.{[], ◌∷◌}
+use Rattle.calc_terms.specs.{Gcd.gcd, Fractions.lowest}
 use Rattle.calc_language.specs.Tokens.{literal_at, word_at}
-use Rattle.calc_language.proofs.Reader.{sum_at}
-use Rattle.calc_language.proofs.Scanner.{scan_in, reads, stores}
 use Rattle.calc_language.proofs.examples.lines_read.Goals as goal
 
 pub returns-clause-implicit_product : goal.returns-clause-implicit_product

@@ -1,6 +1,5 @@
-use Rattle.std.proofs.Common.{◌≡◌, ◌<◌, ◌-◌, ◌∙◌, length, get_or, ap, arith, refl}
-use Rattle.tree_walks.proofs.Shared.{set, length-set, depth, plain, depth_in, tree_at, forest, walked_start, walked_close, walked_some, walked_deeper, walked_done, one_at, depth-plain, some_next, next_is}
-use Rattle.tree_walks.proofs.Levels.{shallow, too_deep}
+use Rattle.tree_walks.proofs.Shared.{◌≡◌, ◌<◌, ◌-◌, ◌∙◌, length, get_or, ap, arith, refl, set, length-set, depth, plain, depth_in, tree_at, forest, walked_start}
+use Rattle.tree_walks.proofs.{Shared.{walked_close, walked_some, walked_deeper, walked_done, one_at, depth-plain, some_next, next_is}, Levels.{shallow, too_deep}}
 use Rattle.tree_walks.proofs.depth.has_deeper_level.Goals as goal
 
 pub loop-height-init : goal.loop-height-init

@@ -1,6 +1,4 @@
-use Rattle.std.proofs.Common.{◌≡◌, ◌+◌, ◌*◌, length}
-use Rattle.tree_walks.proofs.Shared.{depth_in, nodes_in, tree_at, forest}
-use Rattle.tree_walks.proofs.Levels.{IsShallow}
+use Rattle.tree_walks.proofs.{Shared.{◌≡◌, ◌+◌, ◌*◌, length, depth_in, nodes_in, tree_at, forest}, Levels.IsShallow}
 use Rattle.tree_walks.proofs.depth.has_deeper_level.Given as goal
 
 abbrev pub invariant-loop-height : goal.invariant-loop-height

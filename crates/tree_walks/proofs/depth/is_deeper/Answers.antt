@@ -1,8 +1,5 @@
-use Rattle.std.proofs.Common.{arith}
-use Rattle.tree_walks.proofs.Shared.{plain, tree_at, forest, one_at}
-use Rattle.tree_handles.proofs.Parts.{live_node}
-use Rattle.tree_handles.proofs.Plains.{nodes-plain}
-use Rattle.tree_walks.proofs.Shallow.{depth_within, nodes_behind}
+use Rattle.tree_walks.proofs.{Shared.{arith, plain, tree_at, forest, one_at}, Shallow.{depth_within, nodes_behind}}
+use Rattle.tree_handles.proofs.{Parts.live_node, Plains.nodes-plain}
 use Rattle.tree_walks.proofs.depth.is_deeper.Goals as goal
 
 pub locate-requires : goal.locate-requires

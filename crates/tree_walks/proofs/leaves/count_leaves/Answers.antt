@@ -1,17 +1,13 @@
-use Rattle.std.proofs.Common.{◌∙◌, sym, ap, arith, length}
-use Rattle.tree_walks.proofs.Shared.{name_of, tree_at, forest, few_in}
-use Rattle.tree_walks.proofs.LeafLists.{few_leaves}
-use Rattle.tree_walks.proofs.Searches.{looking, looked, looked_all}
+use Rattle.tree_walks.proofs.{Shared.{rules, ◌∙◌, sym, ap, arith, length, name_of, tree_at, forest, few_in}, LeafLists.few_leaves, Searches.{looking, looked, looked_all}}
 use Rattle.tree_walks.proofs.leaves.count_leaves.Goals as goal
 
 pub loop-node-init : goal.loop-node-init
 loop-node-init c = (_, looking c.args.id (name_of c.args.name) c.requires.stands (cc), omega arith)
 
-pub is_leaf_of-requires-clause-live : goal.is_leaf_of-requires-clause-live
-is_leaf_of-requires-clause-live c = (looked c.loop-node.invariant.1 c.in-Some.ensures.steps).live
-
-pub is_leaf_of-requires-clause-kind : goal.is_leaf_of-requires-clause-kind
-is_leaf_of-requires-clause-kind c = (looked c.loop-node.invariant.1 c.in-Some.ensures.steps).kind
+pub is_leaf_of-requires : goal.is_leaf_of-requires
+is_leaf_of-requires c =
+    let facts = looked c.loop-node.invariant.1 c.in-Some.ensures.steps in
+    record { live = facts.live; kind = facts.kind; stands = search rules }
 
 pub overflow_add-count : goal.overflow_add-count
 overflow_add-count c = omega (arith, few_leaves (name_of c.args.name) (tree_at c.args.id (forest c.args.pool.now)), few_in c.args.id c.args.pool.now c.requires.stands, c.loop-node.invariant.2)

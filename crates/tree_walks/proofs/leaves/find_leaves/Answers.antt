@@ -1,7 +1,6 @@
-use Rattle.std.proofs.Common.{◌≡◌, ◌∙◌, ◌+◌, ◌-◌, ◌<◌, ◌≤◌, ℕ, zero, suc, List, [], ◌∷◌, ◌++◌, length, take, drop, sym, ap, arith, refl, append_assoc, true}
-use Rattle.tree_walks.proofs.Shared.{set, length-set, name_of, Visit, Forest, payload_in, has_name}
+use Rattle.tree_walks.proofs.Shared.{rules, ◌≡◌, ◌∙◌, ◌+◌, ◌-◌, ◌<◌, ◌≤◌, ℕ, zero, suc, List, [], ◌∷◌, ◌++◌, length, take, drop, sym, ap, arith, refl}
+use Rattle.tree_walks.proofs.{Shared.{append_assoc, true, set, length-set, name_of, Visit, Forest, payload_in, has_name}, Searches.{IsLooking, looking, looked, looked_all}}
 use Rattle.std.proofs.lemmas.Grind.{take-set_at}
-use Rattle.tree_walks.proofs.Searches.{IsLooking, looking, looked, looked_all}
 use Rattle.tree_walks.proofs.leaves.find_leaves.Goals as goal
 
 drop_none : (n : ℕ) → drop {A = ℕ} n [] ≡ []
@@ -23,11 +22,10 @@ one_more {v = v} all leaves n m w e b q z h len =
 pub loop-node-init : goal.loop-node-init
 loop-node-init c = (_, looking c.args.id (name_of c.args.name) c.requires.stands (cc), refl, c.told-leaves, omega arith)
 
-pub is_leaf_of-requires-clause-live : goal.is_leaf_of-requires-clause-live
-is_leaf_of-requires-clause-live c = (looked c.loop-node.invariant.1 c.in-Some.ensures.steps).live
-
-pub is_leaf_of-requires-clause-kind : goal.is_leaf_of-requires-clause-kind
-is_leaf_of-requires-clause-kind c = (looked c.loop-node.invariant.1 c.in-Some.ensures.steps).kind
+pub is_leaf_of-requires : goal.is_leaf_of-requires
+is_leaf_of-requires c =
+    let facts = looked c.loop-node.invariant.1 c.in-Some.ensures.steps in
+    record { live = facts.live; kind = facts.kind; stands = search rules }
 
 pub loop-node-preserved-then-passing-gt0 : goal.loop-node-preserved-then-passing-gt0
 loop-node-preserved-then-passing-gt0 c =

@@ -1,6 +1,4 @@
-use Rattle.std.proofs.Common.{◌≡◌, ◌<◌, ℕ, List, ◌++◌, length, take, drop}
-use Rattle.tree_walks.proofs.Shared.{name_of, tree_at, forest, leaves_of}
-use Rattle.tree_walks.proofs.Searches.{IsLooking}
+use Rattle.tree_walks.proofs.{Shared.{◌≡◌, ◌<◌, ℕ, List, ◌++◌, length, take, drop, name_of, tree_at, forest, leaves_of}, Searches.IsLooking}
 use Rattle.tree_walks.proofs.leaves.find_leaves.Given as goal
 
 abbrev pub invariant-loop-node : goal.invariant-loop-node

@@ -1,6 +1,4 @@
-use Rattle.std.proofs.Common.{◌∙◌, ap, sym}
-use Rattle.tree_walks.proofs.Shared.{name_of, has_name}
-use Rattle.tree_walks.proofs.Names.{same_name}
+use Rattle.tree_walks.proofs.{Shared.{◌∙◌, ap, sym, name_of, has_name}, Names.same_name}
 use Rattle.tree_handles.proofs.Readings.{symbol_seen}
 use Rattle.tree_walks.proofs.leaves.is_leaf_of.Goals as goal
 

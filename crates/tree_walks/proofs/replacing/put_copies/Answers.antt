@@ -1,5 +1,4 @@
-use Rattle.std.proofs.Common.{◌≡◌, ◌∙◌, ℕ, inl, sym, ap, refl, arith}
-use Rattle.tree_walks.proofs.Shared.{passed_on, name_of, plain, payload_in, tree_at, forest, owned, last_held, has_name}
+use Rattle.tree_walks.proofs.Shared.{◌≡◌, ◌∙◌, ℕ, inl, sym, ap, refl, arith, passed_on, name_of, plain, payload_in, tree_at, forest, owned, last_held, has_name}
 use Rattle.tree_walks.proofs.Chunks.{found_all, headed, put, goes_on, all_passed, more_passed, all_gone, few_passed, fewer}
 use Rattle.tree_walks.proofs.Filling.{IsDone, source, source_in, begins, next, stopped, ended, leaf, leaf_stopped, leaf_goes, leaf_done}
 use Rattle.tree_walks.proofs.replacing.put_copies.Goals as goal

@@ -1,6 +1,4 @@
-use Rattle.std.proofs.Common.{◌+◌, ◌-◌, ◌*◌, length}
-use Rattle.tree_walks.proofs.Shared.{name_of, plain, tree_at, forest, occurrences, leaves_of}
-use Rattle.tree_walks.proofs.Chunks.{IsReplacing}
+use Rattle.tree_walks.proofs.{Shared.{◌+◌, ◌-◌, ◌*◌, length, name_of, plain, tree_at, forest, occurrences, leaves_of}, Chunks.IsReplacing}
 use Rattle.tree_walks.proofs.replacing.put_copies.Given as goal
 
 abbrev pub invariant-loop-at : goal.invariant-loop-at

@@ -1,6 +1,4 @@
-use Rattle.std.proofs.Common.{inl, ap, ◌∙◌}
-use Rattle.tree_walks.proofs.Shared.{Tree, none, more, forest, last_rest, alone}
-use Rattle.tree_walks.proofs.Filling.{last_leaf}
+use Rattle.tree_walks.proofs.{Shared.{inl, ap, ◌∙◌, Tree, none, more, forest, last_rest, alone}, Filling.last_leaf}
 use Rattle.tree_walks.proofs.replacing.put_copy.Goals as goal
 
 pub release-requires-clause-releasable : goal.release-requires-clause-releasable

@@ -1,10 +1,7 @@
-use Rattle.std.proofs.Common.{◌≡◌, Bool, true, false}
-use Rattle.tree_walks.proofs.Shared.{name_of, plain, given_handed, tree_at, forest}
-use Rattle.tree_handles.proofs.Seen.{expression}
-use Rattle.tree_walks.proofs.Absent.{absent}
-use Rattle.tree_walks.proofs.Filling.{IsDone}
-use Rattle.tree_walks.proofs.replacing.replace_name.Goals as goal
+use Rattle.tree_walks.proofs.{Shared.{rules, ◌≡◌, Bool, true, false, name_of, plain, given_handed, tree_at, forest}, Absent.absent, Filling.IsDone}
 use Rattle.tree_walks.proofs.replacing.replace_name.Goals.{Then-not-holds_name}
+use Rattle.tree_handles.proofs.Seen.{expression}
+use Rattle.tree_walks.proofs.replacing.replace_name.Goals as goal
 
 pub holds_name-requires-clause-expression : goal.holds_name-requires-clause-expression
 holds_name-requires-clause-expression c = expression c.id-root.ensures c.requires.stands (given_handed c.requires.last)
@@ -15,11 +12,6 @@ stays c = absent c.id-root.ensures c.requires.stands c.requires.last (λ h. both
     both : {t : Bool} → t ≡ true → t ≡ false → ⊥
     both {t} p q = cc
 
-pub returns-then-not-holds_name-clause-ok : goal.returns-then-not-holds_name-clause-ok
-returns-then-not-holds_name-clause-ok c = (stays c).gives
-
-pub returns-then-not-holds_name-clause-ok_room : goal.returns-then-not-holds_name-clause-ok_room
-returns-then-not-holds_name-clause-ok_room c = (stays c).room
-
-pub returns-then-not-holds_name-clause-front : goal.returns-then-not-holds_name-clause-front
-returns-then-not-holds_name-clause-front c = (stays c).front
+pub returns-then-not-holds_name : goal.returns-then-not-holds_name
+returns-then-not-holds_name c =
+    record { ok = (stays c).gives; ok_room = (stays c).room; front = (stays c).front; full = search rules; refuses = search rules; lacks = search rules; kept = search rules; stands = search rules }

@@ -1,17 +1,14 @@
-use Rattle.std.proofs.Common.{◌∙◌, sym, ap, arith, refl, length}
-use Rattle.tree_walks.proofs.Shared.{name_of, names, plain, tree_at, forest, one_at}
-use Rattle.tree_walks.proofs.LeafLists.{leaves_plain}
+use Rattle.tree_walks.proofs.{Shared.{rules, ◌∙◌, sym, ap, arith, refl, length, name_of, names, plain, tree_at, forest, one_at}, LeafLists.leaves_plain}
 use Rattle.tree_walks.proofs.Searches.{looking, looked, looked_all, counted, uncounted}
 use Rattle.tree_walks.proofs.searching.holds_name.Goals as goal
 
 pub loop-node-init : goal.loop-node-init
 loop-node-init c = looking c.args.id (name_of c.args.name) c.requires.stands (cc)
 
-pub is_leaf_of-requires-clause-live : goal.is_leaf_of-requires-clause-live
-is_leaf_of-requires-clause-live c = (looked c.loop-node.invariant c.in-Some.ensures.steps).live
-
-pub is_leaf_of-requires-clause-kind : goal.is_leaf_of-requires-clause-kind
-is_leaf_of-requires-clause-kind c = (looked c.loop-node.invariant c.in-Some.ensures.steps).kind
+pub is_leaf_of-requires : goal.is_leaf_of-requires
+is_leaf_of-requires c =
+    let facts = looked c.loop-node.invariant c.in-Some.ensures.steps in
+    record { live = facts.live; kind = facts.kind; stands = search rules }
 
 pub returns-then-is_leaf_of : goal.returns-then-is_leaf_of
 returns-then-is_leaf_of c =

@@ -1,5 +1,4 @@
-use Rattle.tree_walks.proofs.Shared.{name_of, tree_at, forest, leaves_of}
-use Rattle.tree_walks.proofs.Searches.{IsLooking}
+use Rattle.tree_walks.proofs.{Shared.{name_of, tree_at, forest, leaves_of}, Searches.IsLooking}
 use Rattle.tree_walks.proofs.searching.holds_name.Given as goal
 
 abbrev pub invariant-loop-node : goal.invariant-loop-node

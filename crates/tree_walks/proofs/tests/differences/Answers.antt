@@ -1,5 +1,4 @@
-use Rattle.std.proofs.Common.{◌∙◌}
-use Rattle.tree_walks.proofs.Shared.{given_apart, given_handed, given_other, given_rest, given_without, gives_as, eqb-sym}
+use Rattle.tree_walks.proofs.Shared.{◌∙◌, given_apart, given_handed, given_other, given_rest, given_without, gives_as, eqb-sym}
 use Rattle.tree_walks.proofs.tests.differences.Goals as goal
 
 pub node_over_two-requires-clause-first : goal.node_over_two-requires-clause-first

@@ -1,6 +1,4 @@
-use Rattle.std.proofs.Common.{ℕ, List, []}
-use Rattle.tree_walks.proofs.Shared.{forest}
-use Rattle.tree_walks.proofs.Searches.{IsLooking}
+use Rattle.tree_walks.proofs.{Shared.{ℕ, List, [], forest}, Searches.IsLooking}
 use Rattle.tree_walks.proofs.tests.letters_of.Given as goal
 
 abbrev pub invariant-loop-node : goal.invariant-loop-node
