@@ -11,6 +11,7 @@ use Rattle.name_table.specs.declared.fault.FillFault.{FillFault}
 use Rattle.name_table.specs.declared.fault.FillFault.TheVariants as fault
 use Rattle.tree_walks.specs.Replacing.{occurrences, replaced, replacing}
 use Rattle.name_table.specs.Tables.{Entry, Table, entries}
+pub use Rattle.calc_terms.specs.Limits.{depth_limit}
 
 -- a name and the plain tree that is stored under it
 pub record NamedTree : Type 0 where
@@ -32,10 +33,6 @@ LacksNames xs t = (x : List ℕ) → Contains xs x → ¬ (Contains (names t) x)
 abbrev pub filled : List NamedTree → Tree → Tree
 filled [] t = t
 filled (v ∷ vs) t = filled vs (replaced v.name v.tree t)
-
--- the deepest tree that a line may come to
-abbrev pub depth_limit : ℕ
-depth_limit = 64
 
 -- a copy finds no room, or a tree is too deep, or so many bytes are left and this is the tree
 pub data Filling : Type 0 where
