@@ -1,8 +1,6 @@
 -- The numbers in a pool fit.
-use Rattle.std.proofs.Common.{◌≡◌, ℕ, zero, suc, true, arith}
-use Rattle.line_text.proofs.Shared.{Kind, Payload, IsPayload, Trees, none, more, AllParts, AllPartsOf, State, nth, grown, compound, plain, plains, Forest, empty, tree, AllNodes, holds, tree_at, Stands, forest, IsFitting, HasFittingNumbers}
-use Rattle.line_text.proofs.Leaves.{numerator_is}
-use Rattle.line_text.proofs.Valid.{HoldsPayload, valid}
+use Rattle.line_text.proofs.Shared.{◌≡◌, ℕ, zero, suc, true, arith, Kind, Payload, IsPayload, Trees, none, more, AllParts, AllPartsOf, State, nth, grown, compound, plain, plains, Forest}
+use Rattle.line_text.proofs.{Shared.{empty, tree, AllNodes, holds, tree_at, Stands, forest, IsFitting, HasFittingNumbers}, Leaves.numerator_is, Valid.{HoldsPayload, valid}}
 
 nth_fitting : (n : ℕ) (ts : Trees) → AllPartsOf IsFitting ts → AllParts IsFitting (nth n ts)
 nth_fitting n none h = tt

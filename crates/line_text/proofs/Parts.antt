@@ -1,13 +1,15 @@
 -- What is written of a face is its text.
-use Rattle.std.proofs.Common.{◌≡◌, ◌∙◌, ℕ, ◌+◌, List, [], ◌∷◌, ◌++◌, map, Bool, true, false, nat_abs, nat_le, codes, if◌then◌else◌, refl, sym, ap, arith, append_assoc, append-nil}
-use Rattle.line_text.proofs.Shared.{eqb-true, Kind, Payload, rational, named, bare, kind_of_payload, IsPayload, root_sign, later_of_sum, left_of_quotient, later_of_product, base, exponent, level, admits, admits_signed, at_place, in_parentheses, text, text_of_sum, text_of_terms, text_of_product, text_of_factors, Tree, num, symbol, undef, add, mult, power, root, neg, sub, div, Trees, none, more, root_kind, is_sub, is_div, children_of, State, holds, tree_at, kids_of, forest, root_payload, Visit, visit_of, visit_at, Label, Forest, empty, tree, arity, flatten, node_of, AllNodes, AllExpressions, takes, grown, plain, plains, alone, grown_whole, Place, WholeText, FirstOfSum, LaterOfSum, FirstOfProduct, LaterOfProduct, rule_of, sign_before, first_place, next_place, level_of, is_sub_kind, is_div_kind, is_neg_kind, kind_behind_opposites, deciding_kind, admits_kind, skips_opposites, opening, leaf_bytes, parentheses, kind_closing, closing_of, first_kind, deciding, is_admitted, written}
-use Rattle.calc_terms.specs.Node.{Node}
-use Rattle.calc_terms.specs.Trees.{count}
-use Rattle.calc_language.specs.Texts.{decimal}
-use Rattle.tree_handles.proofs.Parts.{at}
-use Rattle.tree_handles.proofs.Plains.{count-plains}
-use Rattle.line_text.proofs.Leaves.{numerator_is}
-use Rattle.line_text.proofs.Valid.{HoldsPayload}
+use Rattle.line_text.proofs.Shared.{◌≡◌, ◌∙◌, ℕ, ◌+◌, List, [], ◌∷◌, ◌++◌, Bool, true, false, nat_abs, codes, if◌then◌else◌, refl, sym, ap, arith, append_assoc}
+use Rattle.line_text.proofs.Shared.{eqb-true, Kind, Payload, rational, named, bare, kind_of_payload, IsPayload, root_sign, later_of_sum, left_of_quotient, later_of_product, base, exponent}
+use Rattle.line_text.proofs.Shared.{level, admits, admits_signed, at_place, in_parentheses, text, text_of_sum, text_of_terms, text_of_product, text_of_factors, Tree, num, symbol, undef, add}
+use Rattle.line_text.proofs.Shared.{mult, power, root, neg, sub, div, Trees, none, more, root_kind, is_sub, is_div, children_of, State, holds, tree_at, kids_of, forest, root_payload, Visit}
+use Rattle.line_text.proofs.Shared.{visit_of, visit_at, Label, Forest, empty, tree, arity, flatten, node_of, AllNodes, AllExpressions, takes, grown, plain, plains, alone, grown_whole, Place}
+use Rattle.line_text.proofs.Shared.{WholeText, FirstOfSum, LaterOfSum, FirstOfProduct, LaterOfProduct, rule_of, sign_before, first_place, next_place, level_of, is_sub_kind, is_div_kind}
+use Rattle.line_text.proofs.Shared.{is_neg_kind, kind_behind_opposites, deciding_kind, admits_kind, skips_opposites, opening, leaf_bytes, parentheses, kind_closing, closing_of, first_kind}
+use Rattle.line_text.proofs.{Shared.{deciding, is_admitted, written, decimal}, Leaves.numerator_is, Valid.HoldsPayload}
+use Rattle.std.proofs.Common.{map, nat_le, append-nil}
+use Rattle.calc_terms.specs.{Node.Node, Trees.count}
+use Rattle.tree_handles.proofs.{Parts.at, Plains.count-plains}
 use Rattle.calc_terms.specs.declared.kind.Kind.TheVariants as kind
 
 -- ---- the text of a tree, by its root

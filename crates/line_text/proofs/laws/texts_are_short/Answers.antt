@@ -1,5 +1,4 @@
-use Rattle.std.proofs.Common.{arith}
-use Rattle.line_text.proofs.Lengths.{short}
+use Rattle.line_text.proofs.{Shared.arith, Lengths.short}
 use Rattle.line_text.proofs.laws.texts_are_short.Goals as goal
 
 pub returns : goal.returns

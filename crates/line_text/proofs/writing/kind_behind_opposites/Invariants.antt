@@ -1,5 +1,4 @@
-use Rattle.std.proofs.Common.{◌≡◌}
-use Rattle.line_text.proofs.Shared.{tree_at, forest, visits_of, first_kind}
+use Rattle.line_text.proofs.Shared.{◌≡◌, tree_at, forest, visits_of, first_kind}
 use Rattle.line_text.proofs.writing.kind_behind_opposites.Given as goal
 
 abbrev pub invariant-loop-node : goal.invariant-loop-node

@@ -1,6 +1,4 @@
-use Rattle.std.proofs.Common.{◌∙◌, ◌≤◌, ℕ, List, length, sym, ap, subst, arith}
-use Rattle.line_text.proofs.Shared.{decimal, extended, spare_of}
-use Rattle.line_text.proofs.Leaves.{digits_are, magnitude_is}
+use Rattle.line_text.proofs.{Shared.{◌∙◌, ◌≤◌, ℕ, List, length, sym, ap, subst, arith, decimal, extended, spare_of}, Leaves.{digits_are, magnitude_is}}
 use Rattle.line_text.proofs.writing.write_digits.Goals as goal
 
 pub write_short-requires-clause-room : goal.write_short-requires-clause-room

@@ -1,7 +1,6 @@
-use Rattle.std.proofs.Common.{◌≡◌, ◌∙◌, ◌++◌, List, [], ◌∷◌, length, refl, sym, ap, subst, arith}
-use Rattle.line_text.proofs.Shared.{Visit, nodes_in, tree_at, forest, one_at, found, some_next, next_is, Pending, WholeText, Content, extended, written}
-use Rattle.line_text.proofs.Room.{has_room, bytes_nodes}
-use Rattle.line_text.proofs.Walks.{IsWalk, start, some_left, entered, room, goes_down, goes_on, closed, goes_up, done, nothing_owed, content_is}
+use Rattle.line_text.proofs.Shared.{◌≡◌, ◌∙◌, ◌++◌, List, [], ◌∷◌, length, refl, sym, ap, subst, arith, Visit, nodes_in, tree_at, forest, one_at, found, some_next, next_is}
+use Rattle.line_text.proofs.{Shared.{Pending, WholeText, Content, extended, written}, Room.{has_room, bytes_nodes}}
+use Rattle.line_text.proofs.Walks.{IsWalk, start, some_left, entered, room, goes_down, goes_on, closed, closed_room, goes_up, done, nothing_owed, content_is}
 use Rattle.line_text.proofs.writing.write_nodes.Goals as goal
 
 pub loop-rest-init : goal.loop-rest-init
@@ -31,7 +30,7 @@ write_node-below-requires c =
 pub unwrap-requires : goal.unwrap-requires
 unwrap-requires c =
     let e = entered c.loop-rest.invariant.walk c.if-rest-gt0.true (next_is c.next.result c.unwrap-node.result _ _ c.next.ensures.steps c.unwrap-node.ensures) in
-    c.push.ensures.succeeds (omega (arith, e.few, bytes_nodes (tree_at c.args.root (forest c.args.pool.now)), c.loop-rest.invariant.deep, c.requires.deep, c.requires.room))
+    c.push.ensures.succeeds (omega (arith, e.state.few, bytes_nodes (tree_at c.args.root (forest c.args.pool.now)), c.loop-rest.invariant.deep, c.requires.deep, c.requires.room))
 
 pub loop-rest-preserved-then-owes : goal.loop-rest-preserved-then-owes
 loop-rest-preserved-then-owes c =
@@ -57,7 +56,7 @@ loop-rest-preserved-else-owes c =
 pub write_closing-requires-clause-room : goal.write_closing-requires-clause-room
 write_closing-requires-clause-room c =
     let k = closed c.loop-rest.invariant.walk (omega (arith, c.if-rest-gt0.false)) in
-    omega (arith, k.room, has_room c.args.root c.args.pool.now c.args.page.now.capacity c.args.page.now.bytes c.requires.stands c.requires.live c.requires.room, c.loop-rest.invariant.capacity)
+    omega (arith, closed_room k, has_room c.args.root c.args.pool.now c.args.page.now.capacity c.args.page.now.bytes c.requires.stands c.requires.live c.requires.room, c.loop-rest.invariant.capacity)
 
 pub loop-rest-preserved : goal.loop-rest-preserved
 loop-rest-preserved c =

@@ -1,6 +1,5 @@
-use Rattle.std.proofs.Common.{◌≡◌, ◌+◌, ◌*◌, ◌≤◌, ◌++◌, length, vec_capacity}
-use Rattle.line_text.proofs.Shared.{nodes_in, tree_at, forest, WholeText, written}
-use Rattle.line_text.proofs.Walks.{IsWalk}
+use Rattle.line_text.proofs.{Shared.{◌≡◌, ◌+◌, ◌*◌, ◌≤◌, ◌++◌, length, nodes_in, tree_at, forest, WholeText, written}, Walks.IsWalk}
+use Rattle.std.proofs.Common.{vec_capacity}
 use Rattle.line_text.proofs.writing.write_nodes.Given as goal
 
 abbrev pub invariant-loop-rest : goal.invariant-loop-rest

@@ -1,5 +1,4 @@
-use Rattle.std.proofs.Common.{◌∙◌, sym}
-use Rattle.line_text.proofs.Shared.{number_seen, symbol_seen}
+use Rattle.line_text.proofs.Shared.{◌∙◌, sym, number_seen, symbol_seen}
 use Rattle.line_text.proofs.writing.write_payload.Goals as goal
 
 pub rational-requires-clause-number : goal.rational-requires-clause-number

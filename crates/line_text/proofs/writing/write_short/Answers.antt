@@ -1,5 +1,4 @@
-use Rattle.std.proofs.Common.{◌≡◌, ◌∙◌, ◌+◌, ◌/◌, ◌%◌, ◌∷◌, [], ℕ, List, length, sym, ap, arith, append_assoc}
-use Rattle.line_text.proofs.Shared.{length-append, Content, extended}
+use Rattle.line_text.proofs.Shared.{◌≡◌, ◌∙◌, ◌+◌, ◌/◌, ◌%◌, ◌∷◌, [], ℕ, List, length, sym, ap, arith, append_assoc, length-append, Content, extended}
 use Rattle.line_text.proofs.Decimals.{one_digit, two_digits}
 use Rattle.line_text.proofs.writing.write_short.Goals as goal
 

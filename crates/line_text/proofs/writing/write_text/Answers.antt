@@ -1,7 +1,4 @@
-use Rattle.std.proofs.Common.{◌∙◌, ap, arith}
-use Rattle.line_text.proofs.Shared.{tree_at, forest, one_at, size-plain, extended}
-use Rattle.line_text.proofs.Parts.{written_text}
-use Rattle.line_text.proofs.Valid.{valid}
+use Rattle.line_text.proofs.{Shared.{◌∙◌, ap, arith, tree_at, forest, one_at, size-plain, extended}, Parts.written_text, Valid.valid}
 use Rattle.line_text.proofs.writing.write_text.Goals as goal
 
 pub write_tree-requires-clause-room : goal.write_tree-requires-clause-room

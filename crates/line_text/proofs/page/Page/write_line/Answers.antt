@@ -1,4 +1,5 @@
-use Rattle.std.proofs.Common.{◌≡◌, ◌++◌, ◌∷◌, [], ℕ, List, OnErr, arith, subst}
+use Rattle.line_text.proofs.Shared.{◌≡◌, ◌++◌, ◌∷◌, [], ℕ, List, arith, subst}
+use Rattle.std.proofs.Common.{OnErr}
 use Rattle.calc_edges.specs.Taken.{AppendsPart}
 use Rattle.line_text.proofs.page.Page.write_line.Goals as goal
 
