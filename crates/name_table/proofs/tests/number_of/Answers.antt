@@ -1,9 +1,14 @@
-use Rattle.name_table.proofs.{Shared.{rules, ap, ◌∙◌, inl, holds, forest, given_root, last_held}, Entries.held_entries, Tested.{given_alone, held_again, held_beside}}
+use Rattle.std.proofs.Common.{ap, ◌∙◌, inl}
+use Rattle.name_table.proofs.Shared.{holds, forest, given_root, last_held}
+use Rattle.name_table.proofs.Entries.{held_entries}
+use Rattle.name_table.proofs.Tested.{given_alone, held_again, held_beside}
 use Rattle.name_table.proofs.tests.number_of.Goals as goal
 
-pub fill-requires : goal.fill-requires
-fill-requires c =
-    record { last = given_alone c.in_ok-leaf.ensures.given; entries = held_entries _ _ (held_beside c.in_ok-leaf.ensures.given c.requires.held); stands = search rules }
+pub fill-requires-clause-last : goal.fill-requires-clause-last
+fill-requires-clause-last c = given_alone c.in_ok-leaf.ensures.given
+
+pub fill-requires-clause-entries : goal.fill-requires-clause-entries
+fill-requires-clause-entries c = held_entries _ _ (held_beside c.in_ok-leaf.ensures.given c.requires.held)
 
 pub kind-requires-clause-live : goal.kind-requires-clause-live
 kind-requires-clause-live c = ap (λ i. holds i (forest c.fill.new.pool)) c.id.ensures ∙ last_held c.in_ok-tree.ensures.ok.ends

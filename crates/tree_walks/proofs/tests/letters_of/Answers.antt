@@ -1,4 +1,6 @@
-use Rattle.tree_walks.proofs.{Shared.{rules, ◌≡◌, ℕ, List, [], refl, Forest, payload_in, Visit, by_test, has_name}, Searches.{IsLooking, IsLooked, looking, looked}}
+use Rattle.std.proofs.Common.{◌≡◌, ℕ, List, [], refl, true, false}
+use Rattle.tree_walks.proofs.Shared.{Forest, payload_in, Visit, by_test, has_name}
+use Rattle.tree_walks.proofs.Searches.{IsLooking, IsLooked, looking, looked}
 use Rattle.tree_walks.proofs.tests.letters_of.Goals as goal
 
 -- whatever the node is, the others are left
@@ -10,10 +12,11 @@ onward {x = x} {leaves = leaves} {v = v} {left = left} {base = base} h =
 pub loop-node-init : goal.loop-node-init
 loop-node-init c = (_, looking c.args.tree [] c.requires.stands (cc))
 
-pub letter_of-requires : goal.letter_of-requires
-letter_of-requires c =
-    let facts = looked c.loop-node.invariant.1 c.in-Some.ensures.steps in
-    record { live = facts.live; kind = facts.kind; stands = search rules }
+pub letter_of-requires-clause-live : goal.letter_of-requires-clause-live
+letter_of-requires-clause-live c = (looked c.loop-node.invariant.1 c.in-Some.ensures.steps).live
+
+pub letter_of-requires-clause-kind : goal.letter_of-requires-clause-kind
+letter_of-requires-clause-kind c = (looked c.loop-node.invariant.1 c.in-Some.ensures.steps).kind
 
 pub loop-node-preserved : goal.loop-node-preserved
 loop-node-preserved c = onward (looked c.loop-node.invariant.1 c.in-Some.ensures.steps)

@@ -1,27 +1,33 @@
-use Rattle.tree_handles.proofs.{Shared.{rules, ◌∙◌, ap, refl, lowest, Ratio, Forest, without_root}, Fronts.{behind_first, behind_later, behind_new, front_same, front_without, front_after}}
-use Rattle.tree_handles.proofs.{Fronts.front_after_two, Given.{given_handed, given_other, given_apart, given_told, given_same, given_rest, given_without, gives_as, handed_beside}}
-use Rattle.tree_handles.proofs.{Roots.tree-without, Outcomes.eqb-sym}
+use Rattle.std.proofs.Common.{◌∙◌, ap, refl}
+use Rattle.tree_handles.proofs.Shared.{lowest, Ratio, Forest, without_root}
+use Rattle.tree_handles.proofs.Fronts.{behind_first, behind_later, behind_new, front_same, front_without, front_after, front_after_two}
+use Rattle.tree_handles.proofs.Given.{given_handed, given_other, given_apart, given_told, given_same, given_rest, given_without, gives_as, handed_beside}
+use Rattle.tree_handles.proofs.Roots.{tree-without}
+use Rattle.tree_handles.proofs.Outcomes.{eqb-sym}
 use Rattle.tree_handles.proofs.tests.upper.difference.Goals as goal
 
-pub node_over_two-requires : goal.node_over_two-requires
-node_over_two-requires c =
-    record { first = given_handed c.in_ok-one.ensures.given; second = given_other c.in_ok-one.ensures.given c.requires.second; stands = search rules; takes = search rules; apart = search rules }
+pub node_over_two-requires-clause-first : goal.node_over_two-requires-clause-first
+node_over_two-requires-clause-first c = given_handed c.in_ok-one.ensures.given
+
+pub node_over_two-requires-clause-second : goal.node_over_two-requires-clause-second
+node_over_two-requires-clause-second c = given_other c.in_ok-one.ensures.given c.requires.second
 
 pub returns-in_err-product-clause-front : goal.returns-in_err-product-clause-front
 returns-in_err-product-clause-front c =
     front_after_two (behind_new c.in_ok-one.ensures.ok front_same) behind_first (front_after front_same c.number.ensures.front) c.node_over_two.ensures.front
 
-pub node_over_two-requires-2 : goal.node_over_two-requires-2
-node_over_two-requires-2 c =
+pub node_over_two-requires-2-clause-first : goal.node_over_two-requires-2-clause-first
+node_over_two-requires-2-clause-first c =
     let one = c.in_ok-one.ensures.given in
-    let handed = handed_beside c.args.b c.requires.apart (handed_beside c.in_ok-one.one (given_apart one c.requires.first) (given_other one c.requires.first)) in
-    record {
-      first = given_other c.in_ok-product.ensures.ok handed;
-      second = given_handed c.in_ok-product.ensures.ok;
-      apart = eqb-sym c.in_ok-product.product c.args.a (given_apart c.in_ok-product.ensures.ok handed);
-      stands = search rules;
-      takes = search rules;
-    }
+    given_other c.in_ok-product.ensures.ok (handed_beside c.args.b c.requires.apart (handed_beside c.in_ok-one.one (given_apart one c.requires.first) (given_other one c.requires.first)))
+
+pub node_over_two-requires-2-clause-second : goal.node_over_two-requires-2-clause-second
+node_over_two-requires-2-clause-second c = given_handed c.in_ok-product.ensures.ok
+
+pub node_over_two-requires-2-clause-apart : goal.node_over_two-requires-2-clause-apart
+node_over_two-requires-2-clause-apart c =
+    let one = c.in_ok-one.ensures.given in
+    eqb-sym c.in_ok-product.product c.args.a (given_apart c.in_ok-product.ensures.ok (handed_beside c.args.b c.requires.apart (handed_beside c.in_ok-one.one (given_apart one c.requires.first) (given_other one c.requires.first))))
 
 pub returns-clause-ok : goal.returns-clause-ok
 returns-clause-ok c =

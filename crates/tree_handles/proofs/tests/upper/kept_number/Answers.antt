@@ -1,5 +1,8 @@
-use Rattle.tree_handles.proofs.Shared.{rules, ◌≡◌, ◌⊎◌, inl, inr, ◌∙◌, ap, sym, Fraction, value_of, Tree, num, is_num, without_root, forest}
-use Rattle.tree_handles.proofs.{Fronts.{behind_first, behind_later, front_same, front_at, front_without, front_after}, Given.{gives_as, handed_beside, handed_at, owned}, Lasts.plain_root}
+use Rattle.std.proofs.Common.{◌≡◌, ◌⊎◌, inl, inr, ◌∙◌, ap, sym}
+use Rattle.tree_handles.proofs.Shared.{Fraction, value_of, Tree, num, is_num, without_root, forest}
+use Rattle.tree_handles.proofs.Fronts.{behind_first, behind_later, front_same, front_at, front_without, front_after}
+use Rattle.tree_handles.proofs.Given.{gives_as, handed_beside, handed_at, owned}
+use Rattle.tree_handles.proofs.Lasts.{plain_root}
 use Rattle.tree_handles.proofs.Roots.{root_held}
 use Rattle.tree_handles.proofs.tests.upper.kept_number.Goals as goal
 
@@ -22,17 +25,20 @@ one_of : (x y z : Fraction) (t a b : Tree) → t ≡ num x → (x ≡ y) ⊎ (x 
 one_of x y z t a b e (inl h) p q = inl (e ∙ ap num h ∙ sym p)
 one_of x y z t a b e (inr h) p q = inr (e ∙ ap num h ∙ sym q)
 
-pub returns : goal.returns
-returns c =
+pub returns-clause-ok : goal.returns-clause-ok
+returns-clause-ok c =
     let gone = c.release.ensures.owned (owned c.requires.first) in
     let both = c.release-2.ensures.owned (owned (handed_at (handed_beside c.args.a c.requires.apart c.requires.second) gone)) in
-    record {
-      ok = gives_as c.in_ok-number.ensures.given (both ∙ ap (without_root c.args.b) gone) (λ t e. one_of (value_of c.chosen-value.result) (value_of c.rational-x.result) (value_of c.rational-y.result) t _ _ e c.chosen-value.ensures (sym (plain_root c.args.a c.requires.stands c.requires.first.root) ∙ rw (← c.id.ensures) c.rational-x.ensures.plain) (sym (plain_root c.args.b c.requires.stands c.requires.second.root) ∙ rw (← c.id-2.ensures) c.rational-y.ensures.plain));
-      front = front_after (front_at (front_without (behind_later behind_first) (front_without behind_first front_same)) (both ∙ ap (without_root c.args.b) gone)) c.number.ensures.front;
-      kept = search rules;
-      full = search rules;
-      stands = search rules;
-    }
+    gives_as c.in_ok-number.ensures.given (both ∙ ap (without_root c.args.b) gone)
+    (λ t e. one_of (value_of c.chosen-value.result) (value_of c.rational-x.result) (value_of c.rational-y.result) t _ _ e c.chosen-value.ensures
+    (sym (plain_root c.args.a c.requires.stands c.requires.first.root) ∙ rw (← c.id.ensures) c.rational-x.ensures.plain)
+    (sym (plain_root c.args.b c.requires.stands c.requires.second.root) ∙ rw (← c.id-2.ensures) c.rational-y.ensures.plain))
+
+pub returns-clause-front : goal.returns-clause-front
+returns-clause-front c =
+    let gone = c.release.ensures.owned (owned c.requires.first) in
+    let both = c.release-2.ensures.owned (owned (handed_at (handed_beside c.args.a c.requires.apart c.requires.second) gone)) in
+    front_after (front_at (front_without (behind_later behind_first) (front_without behind_first front_same)) (both ∙ ap (without_root c.args.b) gone)) c.number.ensures.front
 
 pub returns-in_err-number-clause-front : goal.returns-in_err-number-clause-front
 returns-in_err-number-clause-front c =
