@@ -1,7 +1,7 @@
 -- Cutting a list of nodes at places.
-use Rattle.std.proofs.Common.{Bool, List, [], ap, append_assoc, arith, cond, eqb, false, length, refl, subst, sym, ℕ, ◌++◌, ◌+◌, ◌-◌, ◌<◌, ◌∙◌, ◌∷◌, ◌≡◌, ◌≤◌}
-use Rattle.node_pool.proofs.Shared.{ne_eqb, append_cancel_left, length-append, Node, size_of, AreDistinct, AreNodes, first_of, used, IsBoundary, between, since, swapped, until}
-use Rattle.node_pool.proofs.Ids.{AreApart-append, AreApart-parts, AreApart-sym, AreDistinct-append, AreDistinct-parts}
+use Rattle.node_pool.proofs.Shared.{Bool, List, [], ap, append_assoc, arith, cond, eqb, false, length, refl, subst, sym, ℕ, ◌++◌, ◌+◌, ◌-◌, ◌<◌, ◌∙◌, ◌∷◌}
+use Rattle.node_pool.proofs.Shared.{◌≡◌, ◌≤◌, ne_eqb, append_cancel_left, length-append, Node, size_of, AreDistinct, AreNodes, first_of, used, IsBoundary, between, since, swapped}
+use Rattle.node_pool.proofs.{Shared.until, Ids.{AreApart-append, AreApart-parts, AreApart-sym, AreDistinct-append, AreDistinct-parts}}
 use Rattle.node_pool.proofs.Sizes.{AreNodes-append, AreNodes-left, AreNodes-right, size_from, used-append}
 
 -- a split at a place

@@ -1,11 +1,8 @@
 -- Two blocks of nodes that change places.
-use Rattle.std.proofs.Common.{List, ap, append_assoc, arith, length, refl, subst, sym, ℕ, ◌++◌, ◌+◌, ◌-◌, ◌∙◌, ◌≡◌, ◌≤◌}
-use Rattle.node_pool.proofs.Shared.{append_cancel_left, Node, AreBelow, ArePlacesOf, noted, AreDistinct, used, IsBoundary, between, exchanged, since, swapped, until}
-use Rattle.node_pool.proofs.Cuts.{cut, cut3, until-append, until-since}
-use Rattle.node_pool.proofs.Ids.{AreApart, AreApart-sym, AreDistinct-parts, not_both}
-use Rattle.node_pool.proofs.Noting.{AreOutside, before_places, behind_places, length-noted, noted_other, outside, renoted}
-use Rattle.node_pool.proofs.Sizes.{used-append}
-use Rattle.node_pool.proofs.Splits.{between-append, boundary-append, since-append_two, swapped-append}
+use Rattle.node_pool.proofs.Shared.{List, ap, append_assoc, arith, length, refl, subst, sym, ℕ, ◌++◌, ◌+◌, ◌-◌, ◌∙◌, ◌≡◌, ◌≤◌, append_cancel_left, Node, AreBelow}
+use Rattle.node_pool.proofs.{Shared.{ArePlacesOf, noted, AreDistinct, used, IsBoundary, between, exchanged, since, swapped, until}, Cuts.{cut, cut3, until-append, until-since}}
+use Rattle.node_pool.proofs.{Ids.{AreApart, AreApart-sym, AreDistinct-parts, not_both}, Noting.{AreOutside, before_places, behind_places, length-noted, noted_other, outside, renoted}}
+use Rattle.node_pool.proofs.{Sizes.used-append, Splits.{between-append, boundary-append, since-append_two, swapped-append}}
 
 -- the nodes of two blocks, the first before the second
 pub record AreBlocks (i j k l : ℕ) (ns : List Node) : Type 0 where

@@ -1,7 +1,6 @@
 -- The node with an identifier.
-use Rattle.std.proofs.Common.{arith, Bool, List, [], ap, append-nil, cond, eqb, false, refl, subst, sym, true, ℕ, ◌++◌, ◌+◌, ◌∙◌, ◌∷◌, ◌≡◌}
-use Rattle.node_pool.proofs.Shared.{eqb-true, Node, size_of, AreDistinct, has, payload_of_id, place_of, used, with_children, with_count, IsBoundary}
-use Rattle.node_pool.proofs.Splits.{boundary-append}
+use Rattle.node_pool.proofs.Shared.{arith, Bool, List, [], ap, append-nil, cond, eqb, false, refl, subst, sym, true, ℕ, ◌++◌, ◌+◌, ◌∙◌, ◌∷◌, ◌≡◌, eqb-true, Node}
+use Rattle.node_pool.proofs.{Shared.{size_of, AreDistinct, has, payload_of_id, place_of, used, with_children, with_count, IsBoundary}, Splits.boundary-append}
 
 pub record IsFound (id : ℕ) (ns : List Node) : Type 0 where
   pub before : List Node

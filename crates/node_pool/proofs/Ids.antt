@@ -1,6 +1,5 @@
 -- Identifiers of lists of nodes.
-use Rattle.std.proofs.Common.{arith, Bool, List, [], cond, eqb, false, refl, sym, true, ℕ, ◌++◌, ◌∙◌, ◌∷◌, ◌≡◌}
-use Rattle.node_pool.proofs.Shared.{eqb-false, ne_eqb, Node, AreDistinct, has}
+use Rattle.node_pool.proofs.Shared.{arith, Bool, List, [], cond, eqb, false, refl, sym, true, ℕ, ◌++◌, ◌∙◌, ◌∷◌, ◌≡◌, eqb-false, ne_eqb, Node, AreDistinct, has}
 
 has_step : (t x y z : Bool) → z ≡ cond x true y → cond t true z ≡ cond (cond t true x) true y
 has_step t x y z h = grind arith

@@ -1,6 +1,5 @@
 -- Fewer identifiers than nodes.
-use Rattle.std.proofs.Common.{Bool, List, [], arith, cond, eqb, length, refl, suc, sym, true, zero, ℕ, ◌<◌, ◌∙◌, ◌∷◌, ◌≡◌, ◌≤◌}
-use Rattle.node_pool.proofs.Shared.{eqb-true, Node, has}
+use Rattle.node_pool.proofs.Shared.{Bool, List, [], arith, cond, eqb, length, refl, suc, sym, true, zero, ℕ, ◌<◌, ◌∙◌, ◌∷◌, ◌≡◌, ◌≤◌, eqb-true, Node, has}
 
 -- without the first node of that identifier
 abbrev without : ℕ → List Node → List Node

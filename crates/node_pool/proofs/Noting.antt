@@ -1,10 +1,8 @@
 -- Places that are noted, and the places of nodes.
-use Rattle.std.proofs.Common.{get_or-set_other, get_or-set_same, Bool, List, [], ap, append-nil, append_assoc, arith, cond, eqb, false, length, refl, set, subst, sym, true, ℕ, ◌++◌, ◌+◌, ◌-◌, ◌<◌, ◌∙◌, ◌∷◌, ◌≡◌, ◌≢◌, ◌≤◌}
-use Rattle.node_pool.proofs.Shared.{eqb-true, length-set, Node, size_of, AreBelow, place_in, noted, ArePlacesOf, AreDistinct, has, place_of, used, IsBoundary, between, since, swapped, until, without}
-use Rattle.node_pool.proofs.Cuts.{cut3, since-append, until-append, until-since}
-use Rattle.node_pool.proofs.Ids.{AreApart, AreApart-parts, AreApart-sym, AreDistinct-parts, has-append, not_both}
-use Rattle.node_pool.proofs.Sizes.{used-append}
-use Rattle.node_pool.proofs.Splits.{boundary-append}
+use Rattle.node_pool.proofs.Shared.{get_or-set_other, get_or-set_same, Bool, List, [], ap, append-nil, append_assoc, arith, cond, eqb, false, length, refl, set, subst, sym, true, ℕ, ◌++◌}
+use Rattle.node_pool.proofs.Shared.{◌+◌, ◌-◌, ◌<◌, ◌∙◌, ◌∷◌, ◌≡◌, ◌≢◌, ◌≤◌, eqb-true, length-set, Node, size_of, AreBelow, place_in, noted, ArePlacesOf}
+use Rattle.node_pool.proofs.{Shared.{AreDistinct, has, place_of, used, IsBoundary, between, since, swapped, until, without}, Cuts.{cut3, since-append, until-append, until-since}}
+use Rattle.node_pool.proofs.{Ids.{AreApart, AreApart-parts, AreApart-sym, AreDistinct-parts, has-append, not_both}, Sizes.used-append, Splits.boundary-append}
 
 pub length-noted : (at : ℕ) (ns : List Node) (ps : List ℕ) → length (noted at ns ps) ≡ length ps
 length-noted at [] ps = refl

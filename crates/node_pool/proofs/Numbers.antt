@@ -1,6 +1,6 @@
 -- Numbers, byte by byte.
-use Rattle.std.proofs.Common.{List, ap, arith, drop, get_or, length, refl, suc, sym, take, zero, ℕ, ◌%◌, ◌*◌, ◌++◌, ◌+◌, ◌/◌, ◌<◌, ◌^◌, ◌∙◌, ◌∷◌, ◌≡◌}
-use Rattle.node_pool.proofs.Shared.{drop_more, byte_at, bytes_low_first, to_le_bytes, w64, from_bytes, low_bytes}
+use Rattle.node_pool.proofs.Shared.{List, ap, arith, drop, get_or, length, refl, suc, sym, take, zero, ℕ, ◌%◌, ◌*◌, ◌++◌, ◌+◌, ◌/◌, ◌<◌, ◌^◌, ◌∙◌, ◌∷◌}
+use Rattle.node_pool.proofs.Shared.{◌≡◌, drop_more, byte_at, bytes_low_first, to_le_bytes, w64, from_bytes, low_bytes}
 use Rattle.std.proofs.Math.Nat.{div-div-eq-div-mul, mul_assoc, mul_comm, pow-suc}
 
 byte_is : (i n : ℕ) → byte_at i n ≡ n / 256 ^ i % 256

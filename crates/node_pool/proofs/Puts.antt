@@ -1,6 +1,6 @@
 -- Writing one list after another.
-use Rattle.std.proofs.Common.{List, [], ap, arith, length, ℕ, ◌%◌, ◌/◌, ◌^◌, ◌++◌, ◌+◌, ◌<◌, ◌∙◌, ◌∷◌, ◌≡◌, ◌≤◌}
-use Rattle.node_pool.proofs.Shared.{code_of, encoding, form_of, fresh, header_bytes, header_of, low_bytes, payload_bytes, Payload, Header, length-header_bytes, length-low_bytes, put, put-put}
+use Rattle.node_pool.proofs.Shared.{List, [], ap, arith, length, ℕ, ◌%◌, ◌/◌, ◌^◌, ◌++◌, ◌+◌, ◌<◌, ◌∙◌, ◌∷◌, ◌≡◌, ◌≤◌, code_of, encoding}
+use Rattle.node_pool.proofs.Shared.{form_of, fresh, header_bytes, header_of, low_bytes, payload_bytes, Payload, Header, length-header_bytes, length-low_bytes, put, put-put}
 
 -- one write more
 pub then_put : (s0 s1 s2 : List ℕ) (at : ℕ) (ys : List ℕ) (next : ℕ) (zs : List ℕ) → at ≤ length s0 → next ≡ at + length ys → s1 ≡ put s0 at ys → s2 ≡ put s1 next zs → s2 ≡ put s0 at (ys ++ zs)

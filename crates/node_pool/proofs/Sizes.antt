@@ -1,6 +1,6 @@
 -- Sizes and bytes of lists of nodes.
-use Rattle.std.proofs.Common.{List, [], ap, append_assoc, arith, drop, length, refl, suc, sym, zero, ℕ, ◌*◌, ◌++◌, ◌+◌, ◌∙◌, ◌∷◌, ◌≡◌, ◌≤◌}
-use Rattle.node_pool.proofs.Shared.{drop_at, length-append, Node, encoding, node_at, size_of, Payload, size_of_payload, length-encoding, node_at-encoding, nodes_of, AreNodes, encodings, used}
+use Rattle.node_pool.proofs.Shared.{List, [], ap, append_assoc, arith, drop, length, refl, suc, sym, zero, ℕ, ◌*◌, ◌++◌, ◌+◌, ◌∙◌, ◌∷◌, ◌≡◌, ◌≤◌, drop_at}
+use Rattle.node_pool.proofs.Shared.{length-append, Node, encoding, node_at, size_of, Payload, size_of_payload, length-encoding, node_at-encoding, nodes_of, AreNodes, encodings, used}
 use Rattle.calc_terms.proofs.Sizes.{payload_least}
 
 pub size_leaf : (x : Payload) → 8 ≤ size_of_payload x

@@ -1,6 +1,6 @@
 -- Bytes that move or go.
-use Rattle.std.proofs.Common.{List, ap, append_assoc, arith, drop, length, refl, replicate, sym, take, ℕ, ◌++◌, ◌+◌, ◌-◌, ◌∙◌, ◌≡◌, ◌≤◌}
-use Rattle.node_pool.proofs.Shared.{drop-drop, drop_at, length-append, length-drop, length-take-le, take-append-drop, take-take, take_at, cleared, put, rotated, slid, switched}
+use Rattle.node_pool.proofs.Shared.{List, ap, append_assoc, arith, drop, length, refl, replicate, sym, take, ℕ, ◌++◌, ◌+◌, ◌-◌, ◌∙◌, ◌≡◌, ◌≤◌, drop-drop, drop_at}
+use Rattle.node_pool.proofs.Shared.{length-append, length-drop, length-take-le, take-append-drop, take-take, take_at, cleared, put, rotated, slid, switched}
 
 -- a part goes, what is behind it closes up, and zeros come to the end
 pub closed_up : (a b c z store s1 : List ℕ) (i len j : ℕ) → store ≡ a ++ (b ++ (c ++ z)) → length a ≡ i → length b ≡ len → length c ≡ j → s1 ≡ slid store (i + len) i j

@@ -1,8 +1,7 @@
 -- The nodes that go of trees, one after another.
-use Rattle.std.proofs.Common.{Bool, List, [], ap, arith, cond, eqb, false, leb, length, refl, sym, true, ℕ, ◌++◌, ◌+◌, ◌-◌, ◌<◌, ◌∙◌, ◌∷◌, ◌≡◌, ◌≤◌}
-use Rattle.node_pool.proofs.Shared.{length-append, le-leb, ne_eqb, Node, unheld, used, between, since, until}
-use Rattle.node_pool.proofs.Cuts.{until-append, until-since}
-use Rattle.node_pool.proofs.Sizes.{length_le_used, used-append}
+use Rattle.node_pool.proofs.Shared.{Bool, List, [], ap, arith, cond, eqb, false, length, refl, sym, true, ℕ, ◌++◌, ◌+◌, ◌-◌, ◌<◌, ◌∙◌, ◌∷◌, ◌≡◌, ◌≤◌}
+use Rattle.node_pool.proofs.{Shared.{length-append, le-leb, ne_eqb, Node, unheld, used, between, since, until}, Cuts.{until-append, until-since}, Sizes.{length_le_used, used-append}}
+use Rattle.std.proofs.Common.{leb}
 
 -- no tree is left
 pub unheld_none : (ns : List Node) → unheld 0 ns ≡ []

@@ -1,8 +1,5 @@
-use Rattle.std.proofs.Common.{◌≡◌, arith, ap, length, sym, ◌∙◌, ◌≤◌}
-use Rattle.node_pool.proofs.Sizes.{length_le_used}
-use Rattle.node_pool.proofs.Shared.{Header, size_of_header, between, without_ids}
-use Rattle.node_pool.proofs.Cuts.{boundary_le, cut, between_next, between_none}
-use Rattle.node_pool.proofs.Marks.{released}
+use Rattle.node_pool.proofs.{Shared.{rules, ◌≡◌, arith, ap, length, sym, ◌∙◌, ◌≤◌, Header, size_of_header, between, without_ids}, Sizes.length_le_used}
+use Rattle.node_pool.proofs.{Cuts.{boundary_le, cut, between_next, between_none}, Marks.released}
 use Rattle.node_pool.proofs.identifiers.release_nodes.Goals as goal
 
 pub header_in-header-requires-clause-inside : goal.header_in-header-requires-clause-inside
@@ -28,8 +25,7 @@ loop-at-preserved c =
     let r = released c.loop-at.flags c.release-below.new.flags _ _ _ c.header_in-header.result.id more.0 (ap (λ (y : Header). y.id) h.value) c.release-below.ensures.flags i.known in
     record { boundary = rw same h.next; within = more.1; known = r.0; taken = c.release-below.ensures.taken; rest = r.1 ∙ i.rest; gone = omega (arith, i.gone, ap length more.0) }
 
-pub returns-clause-flags : goal.returns-clause-flags
-returns-clause-flags c = ap (λ ms. without_ids ms c.loop-at.flags) (sym (between_none c.loop-at.at c.args.to c.args.buffer.now.nodes c.loop-at-test.false)) ∙ c.loop-at.invariant.rest
-
-pub returns-clause-gone : goal.returns-clause-gone
-returns-clause-gone c = omega (arith, c.loop-at.invariant.gone, ap length (between_none c.loop-at.at c.args.to c.args.buffer.now.nodes c.loop-at-test.false))
+pub returns : goal.returns
+returns c =
+    let none = between_none c.loop-at.at c.args.to c.args.buffer.now.nodes c.loop-at-test.false in
+    record { flags = ap (λ ms. without_ids ms c.loop-at.flags) (sym none) ∙ c.loop-at.invariant.rest; gone = omega (arith, c.loop-at.invariant.gone, ap length none); taken = search rules }

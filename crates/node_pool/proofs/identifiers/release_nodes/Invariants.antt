@@ -1,5 +1,4 @@
-use Rattle.std.proofs.Common.{◌≡◌, ◌-◌, ◌+◌, ◌≤◌, length}
-use Rattle.node_pool.proofs.Shared.{between, IsBoundary, AreBelow, AreTakenBelow, without_ids}
+use Rattle.node_pool.proofs.Shared.{◌≡◌, ◌-◌, ◌+◌, ◌≤◌, length, between, IsBoundary, AreBelow, AreTakenBelow, without_ids}
 use Rattle.node_pool.proofs.identifiers.release_nodes.Given as goal
 
 abbrev pub invariant-loop-at : goal.invariant-loop-at

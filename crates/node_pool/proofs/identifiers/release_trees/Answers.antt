@@ -1,8 +1,5 @@
-use Rattle.std.proofs.Common.{List, [], arith, ap, length, subst, sym, ℕ, ◌+◌, ◌-◌, ◌≤◌, ◌∙◌, ◌∷◌, ◌≡◌}
-use Rattle.node_pool.proofs.Shared.{Header, Node, first_of, owed_behind, since, size_of, size_of_header, unheld, used, without_ids}
-use Rattle.node_pool.proofs.Marks.{released, released_rest}
-use Rattle.node_pool.proofs.Sizes.{size_from}
-use Rattle.node_pool.proofs.Unheld.{unheld_few, unheld_more, unheld_none}
+use Rattle.node_pool.proofs.Shared.{rules, List, [], arith, ap, length, subst, sym, ℕ, ◌+◌, ◌-◌, ◌≤◌, ◌∙◌, ◌∷◌, ◌≡◌, Header, Node, first_of, owed_behind, since}
+use Rattle.node_pool.proofs.{Shared.{size_of, size_of_header, unheld, used, without_ids}, Marks.{released, released_rest}, Sizes.size_from, Unheld.{unheld_few, unheld_more, unheld_none}}
 use Rattle.node_pool.proofs.Walk.{since_end}
 use Rattle.node_pool.proofs.identifiers.release_trees.Goals as goal
 
@@ -45,17 +42,16 @@ loop-owed-preserved c =
 ended : (c : goal.Else-at-end) → unheld c.loop-owed.owed (since c.loop-owed.at c.args.buffer.now.nodes) ≡ []
 ended c = ap (unheld c.loop-owed.owed) (since_end c.loop-owed.at c.args.buffer.now.nodes (omega (arith, c.if-at-end.false, c.used-end.ensures)))
 
-pub returns-else-at-end-clause-flags : goal.returns-else-at-end-clause-flags
-returns-else-at-end-clause-flags c = ap (λ (l : List Node). without_ids l c.loop-owed.flags) (sym (ended c)) ∙ c.loop-owed.invariant.rest
-
-pub returns-else-at-end-clause-end : goal.returns-else-at-end-clause-end
-returns-else-at-end-clause-end c = omega (arith, c.loop-owed.invariant.place, ap used (ended c))
-
-pub returns-else-at-end-clause-owed : goal.returns-else-at-end-clause-owed
-returns-else-at-end-clause-owed c = ap (owed_behind c.loop-owed.owed) (sym (ended c)) ∙ c.loop-owed.invariant.still
-
-pub returns-else-at-end-clause-gone : goal.returns-else-at-end-clause-gone
-returns-else-at-end-clause-gone c = omega (arith, c.loop-owed.invariant.gone, ap length (ended c))
+pub returns-else-at-end : goal.returns-else-at-end
+returns-else-at-end c =
+    record {
+      flags = ap (λ (l : List Node). without_ids l c.loop-owed.flags) (sym (ended c)) ∙ c.loop-owed.invariant.rest;
+      end = omega (arith, c.loop-owed.invariant.place, ap used (ended c));
+      owed = ap (owed_behind c.loop-owed.owed) (sym (ended c)) ∙ c.loop-owed.invariant.still;
+      gone = omega (arith, c.loop-owed.invariant.gone, ap length (ended c));
+      taken = search rules;
+      to = search rules;
+    }
 
 -- behind the last tree
 done : (c : goal.After-loop-owed) → unheld c.loop-owed.owed (since c.loop-owed.at c.args.buffer.now.nodes) ≡ []
@@ -63,14 +59,13 @@ done c =
     let zero : c.loop-owed.owed ≡ 0 = omega (arith, c.loop-owed-test.false) in
     ap (λ (k : ℕ). unheld k (since c.loop-owed.at c.args.buffer.now.nodes)) zero ∙ unheld_none (since c.loop-owed.at c.args.buffer.now.nodes)
 
-pub returns-after-loop-owed-clause-flags : goal.returns-after-loop-owed-clause-flags
-returns-after-loop-owed-clause-flags c = ap (λ (l : List Node). without_ids l c.loop-owed.flags) (sym (done c)) ∙ c.loop-owed.invariant.rest
-
-pub returns-after-loop-owed-clause-end : goal.returns-after-loop-owed-clause-end
-returns-after-loop-owed-clause-end c = omega (arith, c.loop-owed.invariant.place, ap used (done c))
-
-pub returns-after-loop-owed-clause-owed : goal.returns-after-loop-owed-clause-owed
-returns-after-loop-owed-clause-owed c = ap (owed_behind c.loop-owed.owed) (sym (done c)) ∙ c.loop-owed.invariant.still
-
-pub returns-after-loop-owed-clause-gone : goal.returns-after-loop-owed-clause-gone
-returns-after-loop-owed-clause-gone c = omega (arith, c.loop-owed.invariant.gone, ap length (done c))
+pub returns-after-loop-owed : goal.returns-after-loop-owed
+returns-after-loop-owed c =
+    record {
+      flags = ap (λ (l : List Node). without_ids l c.loop-owed.flags) (sym (done c)) ∙ c.loop-owed.invariant.rest;
+      end = omega (arith, c.loop-owed.invariant.place, ap used (done c));
+      owed = ap (owed_behind c.loop-owed.owed) (sym (done c)) ∙ c.loop-owed.invariant.still;
+      gone = omega (arith, c.loop-owed.invariant.gone, ap length (done c));
+      taken = search rules;
+      to = search rules;
+    }

@@ -1,5 +1,4 @@
-use Rattle.std.proofs.Common.{◌≡◌, ◌-◌, ◌+◌, ◌*◌, ◌≤◌, length}
-use Rattle.node_pool.proofs.Shared.{since, used, IsBoundary, AreBelow, AreTakenBelow, without_ids, unheld, owed_behind}
+use Rattle.node_pool.proofs.Shared.{◌≡◌, ◌-◌, ◌+◌, ◌*◌, ◌≤◌, length, since, used, IsBoundary, AreBelow, AreTakenBelow, without_ids, unheld, owed_behind}
 use Rattle.node_pool.proofs.identifiers.release_trees.Given as goal
 
 abbrev pub invariant-loop-owed : goal.invariant-loop-owed

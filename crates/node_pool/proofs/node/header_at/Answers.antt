@@ -1,6 +1,4 @@
-use Rattle.std.proofs.Common.{◌∙◌, ap, drop}
-use Rattle.node_pool.proofs.Shared.{header_in, header_is}
-use Rattle.node_pool.proofs.Fields.{front_is}
+use Rattle.node_pool.proofs.{Shared.{◌∙◌, ap, drop, header_in, header_is}, Fields.front_is}
 use Rattle.node_pool.proofs.node.header_at.Goals as goal
 
 pub returns : goal.returns

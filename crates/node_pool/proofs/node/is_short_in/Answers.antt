@@ -1,5 +1,4 @@
-use Rattle.std.proofs.Common.{arith, refl}
-use Rattle.node_pool.proofs.Fields.{short_is}
+use Rattle.node_pool.proofs.{Shared.{arith, refl}, Fields.short_is}
 use Rattle.node_pool.proofs.node.is_short_in.Goals as goal
 
 pub returns : goal.returns

@@ -1,8 +1,5 @@
-use Rattle.std.proofs.Common.{◌+◌, ◌∙◌, ap, sym, arith}
-use Rattle.node_pool.proofs.Shared.{payload_of, payload_bytes, put, put-nil}
+use Rattle.node_pool.proofs.{Shared.{◌+◌, ◌∙◌, ap, sym, arith, payload_of, payload_bytes, put, put-nil}, Sizes.size_leaf, Puts.node_put}
 use Rattle.calc_terms.specs.declared.leaf.Leaf.{Leaf}
-use Rattle.node_pool.proofs.Sizes.{size_leaf}
-use Rattle.node_pool.proofs.Puts.{node_put}
 use Rattle.node_pool.proofs.node.write_node.Goals as goal
 
 pub returns-in-Num-clause-put : goal.returns-in-Num-clause-put

@@ -1,5 +1,4 @@
-use Rattle.std.proofs.Common.{ap, arith, length, pos, ◌∙◌}
-use Rattle.node_pool.proofs.Shared.{w128, cast_unsigned, low_bytes, ratio_bytes, ratio_of, length-low_bytes, length-append, length-put, back_unsigned}
+use Rattle.node_pool.proofs.Shared.{ap, arith, length, pos, ◌∙◌, w128, cast_unsigned, low_bytes, ratio_bytes, ratio_of, length-low_bytes, length-append, length-put, back_unsigned}
 use Rattle.node_pool.proofs.Puts.{rational_put}
 use Rattle.node_pool.proofs.node.write_rational.Goals as goal
 

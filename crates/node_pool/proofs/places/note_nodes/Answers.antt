@@ -1,7 +1,4 @@
-use Rattle.std.proofs.Common.{◌≡◌, arith, ap, refl, set, sym, ◌∙◌, ◌+◌}
-use Rattle.node_pool.proofs.Shared.{Header, size_of_header, noted}
-use Rattle.node_pool.proofs.Cuts.{boundary_le, between_next, between_none}
-use Rattle.node_pool.proofs.Noting.{noted_more}
+use Rattle.node_pool.proofs.{Shared.{◌≡◌, arith, ap, refl, set, sym, ◌∙◌, ◌+◌, Header, size_of_header, noted}, Cuts.{boundary_le, between_next, between_none}, Noting.noted_more}
 use Rattle.node_pool.proofs.places.note_nodes.Goals as goal
 
 pub header_in-header-requires-clause-inside : goal.header_in-header-requires-clause-inside

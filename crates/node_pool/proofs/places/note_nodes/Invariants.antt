@@ -1,5 +1,4 @@
-use Rattle.std.proofs.Common.{◌≡◌, ◌-◌, ◌≤◌, length}
-use Rattle.node_pool.proofs.Shared.{AreBelow, noted, between, IsBoundary}
+use Rattle.node_pool.proofs.Shared.{◌≡◌, ◌-◌, ◌≤◌, length, AreBelow, noted, between, IsBoundary}
 use Rattle.node_pool.proofs.places.note_nodes.Given as goal
 
 abbrev pub invariant-loop-at : goal.invariant-loop-at

@@ -1,9 +1,5 @@
-use Rattle.std.proofs.Common.{List, arith, ap, sym, subst, length, ◌∙◌, ◌≡◌, ℕ}
-use Rattle.node_pool.proofs.Shared.{Node, AreBelow, Contents, noted, used, IsBoundary, between, since, until, without}
-use Rattle.node_pool.proofs.Cuts.{boundary_le}
-use Rattle.node_pool.proofs.Found.{end_boundary}
-use Rattle.node_pool.proofs.Noting.{closed_part}
-use Rattle.node_pool.proofs.Splits.{boundary-append}
+use Rattle.node_pool.proofs.Shared.{List, arith, ap, sym, subst, length, ◌∙◌, ◌≡◌, ℕ, Node, AreBelow, Contents, noted, used, IsBoundary, between, since, until, without}
+use Rattle.node_pool.proofs.{Cuts.boundary_le, Found.end_boundary, Noting.closed_part, Splits.boundary-append}
 use Rattle.node_pool.proofs.pool.close_up.Goals as goal
 
 -- what is left has a boundary where the block was
@@ -14,20 +10,15 @@ seam at to ns b = boundary-append (until at ns) (since to ns) at (sym b)
 part : (at to end : ℕ) (ns ms : List Node) → IsBoundary at ns → ms ≡ without at to ns → end ≡ used ms → between at end ms ≡ since to ns
 part at to end ns ms b e u = ap (λ (k : ℕ). between at k ms) u ∙ ap (λ (l : List Node). between at (used l) l) e ∙ closed_part at to ns b
 
-pub note_block-requires-clause-from : goal.note_block-requires-clause-from
-note_block-requires-clause-from c = rw (ap (λ (x : Contents). x.nodes) c.remove.ensures.nodes) (seam c.args.at c.args.end c.args.buffer.now.nodes c.requires.from)
-
-pub note_block-requires-clause-to : goal.note_block-requires-clause-to
-note_block-requires-clause-to c = end_boundary c.remove.new.self.nodes c.used-used.result c.used-used.ensures
-
-pub note_block-requires-clause-order : goal.note_block-requires-clause-order
-note_block-requires-clause-order c =
+pub note_block-requires : goal.note_block-requires
+note_block-requires c =
     let left = c.used-used.ensures ∙ ap (λ (x : Contents). used x.nodes) c.remove.ensures.nodes in
-    omega (arith, left, boundary_le c.args.at (without c.args.at c.args.end c.args.buffer.now.nodes) (seam c.args.at c.args.end c.args.buffer.now.nodes c.requires.from))
-
-pub note_block-requires-clause-known : goal.note_block-requires-clause-known
-note_block-requires-clause-known c =
-    subst (AreBelow (length c.args.places.now)) (sym (part c.args.at c.args.end c.used-used.result c.args.buffer.now.nodes c.remove.new.self.nodes c.requires.from (ap (λ (x : Contents). x.nodes) c.remove.ensures.nodes) c.used-used.ensures)) c.requires.known
+    record {
+      from = rw (ap (λ (x : Contents). x.nodes) c.remove.ensures.nodes) (seam c.args.at c.args.end c.args.buffer.now.nodes c.requires.from);
+      to = end_boundary c.remove.new.self.nodes c.used-used.result c.used-used.ensures;
+      order = omega (arith, left, boundary_le c.args.at (without c.args.at c.args.end c.args.buffer.now.nodes) (seam c.args.at c.args.end c.args.buffer.now.nodes c.requires.from));
+      known = subst (AreBelow (length c.args.places.now)) (sym (part c.args.at c.args.end c.used-used.result c.args.buffer.now.nodes c.remove.new.self.nodes c.requires.from (ap (λ (x : Contents). x.nodes) c.remove.ensures.nodes) c.used-used.ensures)) c.requires.known;
+    }
 
 pub returns-clause-places : goal.returns-clause-places
 returns-clause-places c =

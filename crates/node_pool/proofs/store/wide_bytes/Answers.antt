@@ -1,6 +1,4 @@
-use Rattle.std.proofs.Common.{◌∙◌, ◌≡◌, ◌%◌, ◌/◌, ◌^◌}
-use Rattle.node_pool.proofs.Shared.{to_le_bytes, w64}
-use Rattle.node_pool.proofs.Numbers.{halves_are}
+use Rattle.node_pool.proofs.{Shared.{◌∙◌, ◌≡◌, ◌%◌, ◌/◌, ◌^◌, to_le_bytes, w64}, Numbers.halves_are}
 use Rattle.node_pool.proofs.store.wide_bytes.Goals as goal
 
 pub returns : goal.returns

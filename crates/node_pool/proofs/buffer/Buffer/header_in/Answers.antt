@@ -1,6 +1,4 @@
-use Rattle.std.proofs.Common.{List, ℕ, drop, ap, ◌∙◌}
-use Rattle.node_pool.proofs.Shared.{header_in}
-use Rattle.node_pool.proofs.Fields.{IsSeen, seen, stored, has_room}
+use Rattle.node_pool.proofs.{Shared.{rules, List, ℕ, drop, ap, ◌∙◌, header_in}, Fields.{IsSeen, seen, stored, has_room}}
 use Rattle.node_pool.proofs.buffer.Buffer.header_in.Goals as goal
 
 pub header_at-requires : goal.header_at-requires
@@ -13,14 +11,5 @@ all c =
     let store = stored c.self.inside c.args.self.now c.args.bytes.now c.self.invariant c.self.view_is c.requires.bytes in
     seen c.self.inside c.args.self.now c.header_at.result c.args.at c.self.invariant c.self.view_is c.requires.boundary c.requires.inside (c.header_at.ensures ∙ ap (λ (xs : List ℕ). header_in (drop c.args.at xs)) store)
 
-pub returns-clause-value : goal.returns-clause-value
-returns-clause-value c = (all c).value
-
-pub returns-clause-next : goal.returns-clause-next
-returns-clause-next c = (all c).next
-
-pub returns-clause-rest : goal.returns-clause-rest
-returns-clause-rest c = (all c).rest
-
-pub returns-clause-within : goal.returns-clause-within
-returns-clause-within c = (all c).within
+pub returns : goal.returns
+returns c = record { value = (all c).value; next = (all c).next; rest = (all c).rest; within = (all c).within; kept = search rules }

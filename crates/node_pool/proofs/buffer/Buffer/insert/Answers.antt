@@ -1,11 +1,7 @@
-use Rattle.std.proofs.Common.{arith, refl, ap, length, ◌+◌, ◌-◌, ◌≤◌, ◌∙◌, ◌≡◌, ℕ}
-use Rattle.node_pool.proofs.Shared.{Node, Contents, contents_of, IsBoundary, used, parent, put, put_before}
+use Rattle.node_pool.proofs.Shared.{arith, refl, ap, length, ◌+◌, ◌-◌, ◌≤◌, ◌∙◌, ◌≡◌, ℕ, Node, Contents, contents_of, IsBoundary, used, parent, put, put_before}
+use Rattle.node_pool.proofs.{Cuts.boundary_le, Sizes.length_le_used, Fields.{IsDone, IsOf, opened, size_is}, Changes.{done, inserted, parent_bytes, parent_node}}
 use Rattle.node_pool.specs.declared.buffer.Buffer.TheInside.{Inside}
 use Rattle.raw_region.proofs.Slides.{length-slid}
-use Rattle.node_pool.proofs.Cuts.{boundary_le}
-use Rattle.node_pool.proofs.Sizes.{length_le_used}
-use Rattle.node_pool.proofs.Fields.{IsDone, IsOf, opened, size_is}
-use Rattle.node_pool.proofs.Changes.{done, inserted, parent_bytes, parent_node}
 use Rattle.node_pool.proofs.buffer.Buffer.insert.Goals as goal
 
 -- the new node's bytes are within the store
@@ -22,27 +18,19 @@ overflow_add-at c =
     let f = fits c.self.inside c.args.self.now c.args.at (opened c.self.inside c.args.self.now c.self.invariant c.self.view_is) c.self.view_is c.requires.boundary c.requires.room in
     record { fits = omega (arith, f.0, f.1, f.2) }
 
-pub slide-requires-clause-source : goal.slide-requires-clause-source
-slide-requires-clause-source c =
+pub slide-requires : goal.slide-requires
+slide-requires c =
     let f = fits c.self.inside c.args.self.now c.args.at (opened c.self.inside c.args.self.now c.self.invariant c.self.view_is) c.self.view_is c.requires.boundary c.requires.room in
-    omega (arith, f.0, f.1)
+    record { source = omega (arith, f.0, f.1); target = omega (arith, f.0, f.1) }
 
-pub slide-requires-clause-target : goal.slide-requires-clause-target
-slide-requires-clause-target c =
-    let f = fits c.self.inside c.args.self.now c.args.at (opened c.self.inside c.args.self.now c.self.invariant c.self.view_is) c.self.view_is c.requires.boundary c.requires.room in
-    omega (arith, f.0, f.1)
-
-pub write_header-requires-clause-inside : goal.write_header-requires-clause-inside
-write_header-requires-clause-inside c =
+pub write_header-requires : goal.write_header-requires
+write_header-requires c =
     let p = c.self.inside in
     let f = fits p c.args.self.now c.args.at (opened p c.args.self.now c.self.invariant c.self.view_is) c.self.view_is c.requires.boundary c.requires.room in
-    omega (arith, f.0, f.1, ap length c.slide.ensures, length-slid p.store c.args.at (c.args.at + 8) (p.used - c.args.at) (omega (arith, f.0, f.1)) (omega (arith, f.0, f.1)))
-
-pub write_header-requires-clause-small : goal.write_header-requires-clause-small
-write_header-requires-clause-small c =
-    let p = c.self.inside in
-    let f = fits p c.args.self.now c.args.at (opened p c.args.self.now c.self.invariant c.self.view_is) c.self.view_is c.requires.boundary c.requires.room in
-    omega (arith, f.2, ap length c.slide.ensures, length-slid p.store c.args.at (c.args.at + 8) (p.used - c.args.at) (omega (arith, f.0, f.1)) (omega (arith, f.0, f.1)))
+    record {
+      inside = omega (arith, f.0, f.1, ap length c.slide.ensures, length-slid p.store c.args.at (c.args.at + 8) (p.used - c.args.at) (omega (arith, f.0, f.1)) (omega (arith, f.0, f.1)));
+      small = omega (arith, f.2, ap length c.slide.ensures, length-slid p.store c.args.at (c.args.at + 8) (p.used - c.args.at) (omega (arith, f.0, f.1)) (omega (arith, f.0, f.1)));
+    }
 
 pub overflow_add-self : goal.overflow_add-self
 overflow_add-self c =
@@ -72,8 +60,5 @@ all c =
 pub invariant_of-self : goal.invariant_of-self
 invariant_of-self c = (all c).laid
 
-pub returns-clause-nodes : goal.returns-clause-nodes
-returns-clause-nodes c = (all c).nodes
-
-pub returns-clause-kept : goal.returns-clause-kept
-returns-clause-kept c = (all c).kept
+pub returns : goal.returns
+returns c = record { nodes = (all c).nodes; kept = (all c).kept }

@@ -1,7 +1,5 @@
-use Rattle.std.proofs.Common.{◌≡◌, ℕ, ◌≤◌, ap, ◌∙◌, length, replicate, [], arith, refl}
-use Rattle.node_pool.proofs.Shared.{length-replicate}
+use Rattle.node_pool.proofs.{Shared.{◌≡◌, ℕ, ◌≤◌, ap, ◌∙◌, length, replicate, [], arith, refl, length-replicate}, Fields.{IsOf, laid, contents_are}}
 use Rattle.node_pool.specs.declared.buffer.Buffer.TheInside.{Inside}
-use Rattle.node_pool.proofs.Fields.{IsOf, laid, contents_are}
 use Rattle.node_pool.proofs.buffer.Buffer.new.Goals as goal
 
 empty : (n : ℕ) (b : Inside) → n ≤ 524280 → b.store ≡ replicate n 0 → b.count ≡ 0 → b.used ≡ 0 → IsOf b []

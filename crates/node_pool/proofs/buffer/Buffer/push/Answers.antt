@@ -1,9 +1,5 @@
-use Rattle.std.proofs.Common.{arith, refl, ap, ◌+◌, ◌++◌, ◌∷◌, [], ℕ}
-use Rattle.node_pool.proofs.Shared.{payload_of, fresh}
+use Rattle.node_pool.proofs.{Shared.{arith, refl, ap, ◌+◌, ◌++◌, ◌∷◌, [], ℕ, payload_of, fresh}, Sizes.length_le_used, Fields.{IsDone, opened, size_is}, Changes.{done, pushed}}
 use Rattle.calc_terms.proofs.Leaves.{usable}
-use Rattle.node_pool.proofs.Sizes.{length_le_used}
-use Rattle.node_pool.proofs.Fields.{IsDone, opened, size_is}
-use Rattle.node_pool.proofs.Changes.{done, pushed}
 use Rattle.node_pool.proofs.buffer.Buffer.push.Goals as goal
 
 pub overflow_add-self-2 : goal.overflow_add-self-2
@@ -22,8 +18,5 @@ all c =
 pub invariant_of-self : goal.invariant_of-self
 invariant_of-self c = (all c).laid
 
-pub returns-clause-nodes : goal.returns-clause-nodes
-returns-clause-nodes c = (all c).nodes
-
-pub returns-clause-kept : goal.returns-clause-kept
-returns-clause-kept c = (all c).kept
+pub returns : goal.returns
+returns c = record { nodes = (all c).nodes; kept = (all c).kept }

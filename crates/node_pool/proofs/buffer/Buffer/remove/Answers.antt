@@ -1,8 +1,4 @@
-use Rattle.std.proofs.Common.{arith, refl, ◌+◌, ◌-◌, ap, ℕ}
-use Rattle.node_pool.proofs.Shared.{without}
-use Rattle.node_pool.proofs.Cuts.{boundary_le, between_few}
-use Rattle.node_pool.proofs.Fields.{IsDone, opened}
-use Rattle.node_pool.proofs.Changes.{done, removed}
+use Rattle.node_pool.proofs.{Shared.{arith, refl, ◌+◌, ◌-◌, ap, ℕ, without}, Cuts.{boundary_le, between_few}, Fields.{IsDone, opened}, Changes.{done, removed}}
 use Rattle.node_pool.proofs.buffer.Buffer.remove.Goals as goal
 
 pub overflow_sub-rest : goal.overflow_sub-rest
@@ -10,15 +6,13 @@ overflow_sub-rest c =
     let o = opened c.self.inside c.args.self.now c.self.invariant c.self.view_is in
     omega (arith, boundary_le c.args.end c.args.self.now.nodes c.requires.to, o.used, o.fits)
 
-pub slide-requires-clause-source : goal.slide-requires-clause-source
-slide-requires-clause-source c =
+pub slide-requires : goal.slide-requires
+slide-requires c =
     let o = opened c.self.inside c.args.self.now c.self.invariant c.self.view_is in
-    omega (arith, boundary_le c.args.end c.args.self.now.nodes c.requires.to, o.used, o.fits)
-
-pub slide-requires-clause-target : goal.slide-requires-clause-target
-slide-requires-clause-target c =
-    let o = opened c.self.inside c.args.self.now c.self.invariant c.self.view_is in
-    omega (arith, boundary_le c.args.end c.args.self.now.nodes c.requires.to, o.used, o.fits)
+    record {
+      source = omega (arith, boundary_le c.args.end c.args.self.now.nodes c.requires.to, o.used, o.fits);
+      target = omega (arith, boundary_le c.args.end c.args.self.now.nodes c.requires.to, o.used, o.fits);
+    }
 
 pub clear-requires-clause-order : goal.clear-requires-clause-order
 clear-requires-clause-order c =
@@ -38,8 +32,5 @@ all c =
 pub invariant_of-self : goal.invariant_of-self
 invariant_of-self c = (all c).laid
 
-pub returns-clause-nodes : goal.returns-clause-nodes
-returns-clause-nodes c = (all c).nodes
-
-pub returns-clause-kept : goal.returns-clause-kept
-returns-clause-kept c = (all c).kept
+pub returns : goal.returns
+returns c = record { nodes = (all c).nodes; kept = (all c).kept }

@@ -1,8 +1,4 @@
-use Rattle.std.proofs.Common.{arith, refl}
-use Rattle.node_pool.proofs.Shared.{swapped}
-use Rattle.node_pool.proofs.Cuts.{boundary_le}
-use Rattle.node_pool.proofs.Fields.{IsDone, opened}
-use Rattle.node_pool.proofs.Changes.{done, turned_nodes}
+use Rattle.node_pool.proofs.{Shared.{arith, refl, swapped}, Cuts.boundary_le, Fields.{IsDone, opened}, Changes.{done, turned_nodes}}
 use Rattle.node_pool.proofs.buffer.Buffer.rotate.Goals as goal
 
 pub rotate-requires-clause-inside : goal.rotate-requires-clause-inside
@@ -19,8 +15,5 @@ all c =
 pub invariant_of-self : goal.invariant_of-self
 invariant_of-self c = (all c).laid
 
-pub returns-clause-nodes : goal.returns-clause-nodes
-returns-clause-nodes c = (all c).nodes
-
-pub returns-clause-kept : goal.returns-clause-kept
-returns-clause-kept c = (all c).kept
+pub returns : goal.returns
+returns c = record { nodes = (all c).nodes; kept = (all c).kept }

@@ -1,8 +1,4 @@
-use Rattle.std.proofs.Common.{arith, refl}
-use Rattle.node_pool.proofs.Shared.{with_children}
-use Rattle.node_pool.proofs.Walk.{place_room}
-use Rattle.node_pool.proofs.Fields.{IsDone, opened}
-use Rattle.node_pool.proofs.Changes.{done, reparented}
+use Rattle.node_pool.proofs.{Shared.{arith, refl, with_children}, Walk.place_room, Fields.{IsDone, opened}, Changes.{done, reparented}}
 use Rattle.node_pool.proofs.buffer.Buffer.set_children.Goals as goal
 
 pub write_children-requires-clause-inside : goal.write_children-requires-clause-inside
@@ -18,8 +14,5 @@ all c =
 pub invariant_of-self : goal.invariant_of-self
 invariant_of-self c = (all c).laid
 
-pub returns-clause-nodes : goal.returns-clause-nodes
-returns-clause-nodes c = (all c).nodes
-
-pub returns-clause-kept : goal.returns-clause-kept
-returns-clause-kept c = (all c).kept
+pub returns : goal.returns
+returns c = record { nodes = (all c).nodes; kept = (all c).kept }

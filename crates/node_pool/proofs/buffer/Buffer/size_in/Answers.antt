@@ -1,7 +1,6 @@
-use Rattle.std.proofs.Common.{List, ℕ, ap, arith, get_or, length, ◌+◌, ◌<◌, ◌≡◌}
-use Rattle.node_pool.proofs.Shared.{Contents, IsBoundary, IsLaid, bytes_in, contents_of, first_of, has_short_form, kind_of_payload, since, used}
+use Rattle.node_pool.proofs.Shared.{List, ℕ, ap, arith, get_or, length, ◌+◌, ◌<◌, ◌≡◌, Contents, IsBoundary, IsLaid, bytes_in, contents_of, first_of, has_short_form}
+use Rattle.node_pool.proofs.{Shared.{kind_of_payload, since, used}, Fields.{IsCoded, coded, has_room, stored}}
 use Rattle.node_pool.specs.declared.buffer.Buffer.TheInside.{Inside}
-use Rattle.node_pool.proofs.Fields.{IsCoded, coded, has_room, stored}
 use Rattle.node_pool.proofs.buffer.Buffer.size_in.Goals as goal
 
 room : (b : Inside) (c : Contents) (bytes : List ℕ) (at : ℕ) → IsLaid b → contents_of b ≡ c → bytes ≡ bytes_in c → IsBoundary at c.nodes → at < used c.nodes → at + 1 < length bytes

@@ -1,5 +1,4 @@
-use Rattle.std.proofs.Common.{◌-◌, length}
-use Rattle.node_pool.proofs.Shared.{AreTakenBelow}
+use Rattle.node_pool.proofs.Shared.{◌-◌, length, AreTakenBelow}
 use Rattle.node_pool.proofs.identifiers.Identifiers.take_least.Given as goal
 
 abbrev pub invariant-loop-id : goal.invariant-loop-id

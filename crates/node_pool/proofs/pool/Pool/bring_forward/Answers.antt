@@ -1,9 +1,6 @@
-use Rattle.std.proofs.Common.{List, arith, refl, ap, subst, sym, ◌∙◌, ◌≡◌, ◌≤◌, ◌+◌, ℕ}
-use Rattle.node_pool.proofs.Shared.{Node, Contents, IsKept, state_of, noted, IsBoundary, between, swapped, State, Inside}
-use Rattle.node_pool.proofs.Keeping.{boundary_in, end_small, rotated_block, swapped_known}
-use Rattle.node_pool.proofs.Noting.{IsTurned, turned, turned_start, turned_end}
-use Rattle.node_pool.proofs.Cuts.{swapped_back, swapped_front}
-use Rattle.node_pool.proofs.pool.Pool.bring_forward.Goals.{then-to-from-via-then-to-from, then-to-from-via-else-to-from+then-from-end}
+use Rattle.node_pool.proofs.Shared.{rules, List, arith, refl, ap, subst, sym, ◌∙◌, ◌≡◌, ◌≤◌, ◌+◌, ℕ, Node, Contents, IsKept, state_of, noted, IsBoundary, between}
+use Rattle.node_pool.proofs.{Shared.{swapped, State, Inside}, Keeping.{boundary_in, end_small, rotated_block, swapped_known}, Noting.{IsTurned, turned, turned_start, turned_end}}
+use Rattle.node_pool.proofs.{Cuts.{swapped_back, swapped_front}, pool.Pool.bring_forward.Goals.{then-to-from-via-then-to-from, then-to-from-via-else-to-from+then-from-end}}
 use Rattle.node_pool.proofs.pool.Pool.bring_forward.Goals as goal
 
 -- one half is empty
@@ -26,24 +23,19 @@ overflow_add-end c = record { fits = end_small c.self.inside c.args.self.now (c.
 turn : (p : Inside) (s : State) (i j k : ℕ) → state_of p ≡ s → IsBoundary i s.nodes → IsBoundary j s.nodes → IsBoundary k s.nodes → i ≤ j → j ≤ k → IsTurned i k p.buffer.nodes (swapped i j k p.buffer.nodes)
 turn p s i j k e a b c h1 h2 = turned i j k p.buffer.nodes (boundary_in p s i e a) (boundary_in p s j e b) (boundary_in p s k e c) h1 h2
 
-pub note_block-requires-clause-from : goal.note_block-requires-clause-from
-note_block-requires-clause-from c =
+pub note_block-requires : goal.note_block-requires
+note_block-requires c =
     let r = c.requires in
-    rw (ap (λ (x : Contents). x.nodes) c.rotate.ensures.nodes) (turned_start (turn c.self.inside c.args.self.now c.args.to c.args.from (c.args.from + c.args.len) c.self.view_is r.to r.from r.end r.order (omega arith)))
-
-pub note_block-requires-clause-to : goal.note_block-requires-clause-to
-note_block-requires-clause-to c =
-    let r = c.requires in
-    rw (ap (λ (x : Contents). x.nodes) c.rotate.ensures.nodes) (turned_end (turn c.self.inside c.args.self.now c.args.to c.args.from (c.args.from + c.args.len) c.self.view_is r.to r.from r.end r.order (omega arith)))
-
-pub note_block-requires-clause-known : goal.note_block-requires-clause-known
-note_block-requires-clause-known c =
+    let facts = turn c.self.inside c.args.self.now c.args.to c.args.from (c.args.from + c.args.len) c.self.view_is r.to r.from r.end r.order (omega arith) in
     let p = c.self.inside in
     let s = c.args.self.now in
-    let r = c.requires in
     let end = c.args.from + c.args.len in
-    rw (ap (λ (x : Contents). x.nodes) c.rotate.ensures.nodes)
-    (swapped_known p c.args.to c.args.from end c.self.invariant (boundary_in p s c.args.to c.self.view_is r.to) (boundary_in p s c.args.from c.self.view_is r.from) (boundary_in p s end c.self.view_is r.end) r.order (omega arith))
+    record {
+      from = rw (ap (λ (x : Contents). x.nodes) c.rotate.ensures.nodes) (turned_start facts);
+      to = rw (ap (λ (x : Contents). x.nodes) c.rotate.ensures.nodes) (turned_end facts);
+      known = rw (ap (λ (x : Contents). x.nodes) c.rotate.ensures.nodes) (swapped_known p c.args.to c.args.from end c.self.invariant (boundary_in p s c.args.to c.self.view_is r.to) (boundary_in p s c.args.from c.self.view_is r.from) (boundary_in p s end c.self.view_is r.end) r.order (omega arith));
+      order = search rules;
+    }
 
 all : (c : goal.After-note_block) → IsKept (record { buffer = c.rotate.new.self; taken = c.self.inside.taken; places = c.note_block.new.places; refusals = c.self.inside.refusals; last_refused = c.self.inside.last_refused })
 all c =

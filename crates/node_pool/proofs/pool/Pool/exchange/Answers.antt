@@ -1,8 +1,5 @@
-use Rattle.std.proofs.Common.{List, refl, ap, length, subst, sym, ◌∙◌, ◌≡◌, ◌≤◌, ◌-◌, ℕ}
-use Rattle.node_pool.proofs.Shared.{Node, Contents, AreBelow, IsKept, state_of, noted, IsBoundary, between, exchanged, State, Inside}
-use Rattle.node_pool.proofs.Exchanges.{AreBlocks}
-use Rattle.node_pool.proofs.Keeping.{AreNotable, boundary_in, exchanged_blocks, notable}
-use Rattle.node_pool.proofs.Noting.{length-noted}
+use Rattle.node_pool.proofs.Shared.{rules, List, refl, ap, length, subst, sym, ◌∙◌, ◌≡◌, ◌≤◌, ◌-◌, ℕ, Node, Contents, AreBelow, IsKept, state_of, noted, IsBoundary}
+use Rattle.node_pool.proofs.{Shared.{between, exchanged, State, Inside}, Exchanges.AreBlocks, Keeping.{AreNotable, boundary_in, exchanged_blocks, notable}, Noting.length-noted}
 use Rattle.node_pool.proofs.pool.Pool.exchange.Goals as goal
 
 blocks : (p : Inside) (s : State) (i j k l : ℕ) → state_of p ≡ s → IsBoundary i s.nodes → IsBoundary j s.nodes → IsBoundary k s.nodes → IsBoundary l s.nodes → i ≤ j → j ≤ k → k ≤ l → AreBlocks i j k l p.buffer.nodes
@@ -12,37 +9,23 @@ ready : (p : Inside) (s : State) (b : Contents) (i j k l : ℕ) → IsKept p →
     → b ≡ record p.buffer { nodes = exchanged i j k l p.buffer.nodes } → AreNotable i j k l b.nodes p.places
 ready p s b i j k l kept e b1 b2 b3 b4 h1 h2 h3 same is = notable p b i j k l kept (blocks p s i j k l e b1 b2 b3 b4 h1 h2 h3) same is
 
-pub note_block-requires-clause-from : goal.note_block-requires-clause-from
-note_block-requires-clause-from c =
+pub note_block-requires : goal.note_block-requires
+note_block-requires c =
     let r = c.requires in
-    (ready c.self.inside c.args.self.now c.exchange.new.self c.args.first c.args.mid c.args.second c.args.end c.self.invariant c.self.view_is r.first r.mid r.second r.end r.low r.apart r.high r.alike c.exchange.ensures.nodes).first
+    let facts = ready c.self.inside c.args.self.now c.exchange.new.self c.args.first c.args.mid c.args.second c.args.end c.self.invariant c.self.view_is r.first r.mid r.second r.end r.low r.apart r.high r.alike c.exchange.ensures.nodes in
+    record { from = facts.first; to = facts.mid; known = facts.low; order = search rules }
 
-pub note_block-requires-clause-to : goal.note_block-requires-clause-to
-note_block-requires-clause-to c =
+pub note_block-requires-2 : goal.note_block-requires-2
+note_block-requires-2 c =
     let r = c.requires in
-    (ready c.self.inside c.args.self.now c.exchange.new.self c.args.first c.args.mid c.args.second c.args.end c.self.invariant c.self.view_is r.first r.mid r.second r.end r.low r.apart r.high r.alike c.exchange.ensures.nodes).mid
-
-pub note_block-requires-clause-known : goal.note_block-requires-clause-known
-note_block-requires-clause-known c =
-    let r = c.requires in
-    (ready c.self.inside c.args.self.now c.exchange.new.self c.args.first c.args.mid c.args.second c.args.end c.self.invariant c.self.view_is r.first r.mid r.second r.end r.low r.apart r.high r.alike c.exchange.ensures.nodes).low
-
-pub note_block-requires-2-clause-from : goal.note_block-requires-2-clause-from
-note_block-requires-2-clause-from c =
-    let r = c.requires in
-    (ready c.self.inside c.args.self.now c.exchange.new.self c.args.first c.args.mid c.args.second c.args.end c.self.invariant c.self.view_is r.first r.mid r.second r.end r.low r.apart r.high r.alike c.exchange.ensures.nodes).second
-
-pub note_block-requires-2-clause-to : goal.note_block-requires-2-clause-to
-note_block-requires-2-clause-to c =
-    let r = c.requires in
-    (ready c.self.inside c.args.self.now c.exchange.new.self c.args.first c.args.mid c.args.second c.args.end c.self.invariant c.self.view_is r.first r.mid r.second r.end r.low r.apart r.high r.alike c.exchange.ensures.nodes).end
-
-pub note_block-requires-2-clause-known : goal.note_block-requires-2-clause-known
-note_block-requires-2-clause-known c =
-    let r = c.requires in
+    let facts = ready c.self.inside c.args.self.now c.exchange.new.self c.args.first c.args.mid c.args.second c.args.end c.self.invariant c.self.view_is r.first r.mid r.second r.end r.low r.apart r.high r.alike c.exchange.ensures.nodes in
     let part = between c.args.first c.args.mid c.exchange.new.self.nodes in
-    subst (λ (n : ℕ). AreBelow n (between c.args.second c.args.end c.exchange.new.self.nodes)) (sym (ap length c.note_block.ensures ∙ length-noted c.args.first part c.self.inside.places))
-    (ready c.self.inside c.args.self.now c.exchange.new.self c.args.first c.args.mid c.args.second c.args.end c.self.invariant c.self.view_is r.first r.mid r.second r.end r.low r.apart r.high r.alike c.exchange.ensures.nodes).high
+    record {
+      from = facts.second;
+      to = facts.end;
+      known = subst (λ (n : ℕ). AreBelow n (between c.args.second c.args.end c.exchange.new.self.nodes)) (sym (ap length c.note_block.ensures ∙ length-noted c.args.first part c.self.inside.places)) facts.high;
+      order = search rules;
+    }
 
 all : (c : goal.After-note_block-2) → IsKept (record { buffer = c.exchange.new.self; taken = c.self.inside.taken; places = c.note_block-2.new.places; refusals = c.self.inside.refusals; last_refused = c.self.inside.last_refused })
 all c =

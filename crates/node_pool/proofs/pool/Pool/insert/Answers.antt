@@ -1,9 +1,5 @@
-use Rattle.std.proofs.Common.{List, arith, ap, sym, subst, length, ◌∙◌, ◌≡◌, ◌∷◌, ℕ}
-use Rattle.node_pool.proofs.Shared.{Node, AreBelow, Contents, IsKept, noted, used, parent, put_before, IsBoundary, between, since, until, free_of}
-use Rattle.node_pool.proofs.Cuts.{boundary_le}
-use Rattle.node_pool.proofs.Found.{end_boundary}
-use Rattle.node_pool.proofs.Keeping.{boundary_in, new_known, placed_before, room_unused}
-use Rattle.node_pool.proofs.Noting.{last_part}
+use Rattle.node_pool.proofs.Shared.{List, arith, ap, sym, subst, length, ◌∙◌, ◌≡◌, ◌∷◌, ℕ, Node, AreBelow, Contents, IsKept, noted, used, parent, put_before, IsBoundary}
+use Rattle.node_pool.proofs.{Shared.{between, since, until, free_of}, Cuts.boundary_le, Found.end_boundary, Keeping.{boundary_in, new_known, placed_before, room_unused}, Noting.last_part}
 use Rattle.node_pool.proofs.Splits.{boundary-append}
 use Rattle.node_pool.proofs.pool.Pool.insert.Goals as goal
 
@@ -17,25 +13,18 @@ part at to n ns ms b e u = ap (λ (k : ℕ). between at k ms) u ∙ ap (λ (l : 
 seam : (at : ℕ) (n : Node) (ns ms : List Node) → IsBoundary at ns → ms ≡ put_before at n ns → IsBoundary at ms
 seam at n ns ms b e = subst (IsBoundary at) (sym e) (boundary-append (until at ns) (n ∷ since at ns) at (sym b))
 
-pub note_block-requires-clause-from : goal.note_block-requires-clause-from
-note_block-requires-clause-from c =
+pub note_block-requires : goal.note_block-requires
+note_block-requires c =
+    let boundary = boundary_in c.self.inside c.args.self.now c.args.at c.self.view_is c.requires.boundary in
     let n : Node = parent c.take_least-id.result c.args.kind c.args.children in
-    seam c.args.at n c.self.inside.buffer.nodes c.insert.new.self.nodes (boundary_in c.self.inside c.args.self.now c.args.at c.self.view_is c.requires.boundary) (ap (λ (x : Contents). x.nodes) c.insert.ensures.nodes)
-
-pub note_block-requires-clause-to : goal.note_block-requires-clause-to
-note_block-requires-clause-to c = end_boundary c.insert.new.self.nodes c.used-used.result c.used-used.ensures
-
-pub note_block-requires-clause-order : goal.note_block-requires-clause-order
-note_block-requires-clause-order c =
-    let n : Node = parent c.take_least-id.result c.args.kind c.args.children in
-    omega (arith, c.used-used.ensures, boundary_le c.args.at c.insert.new.self.nodes (seam c.args.at n c.self.inside.buffer.nodes c.insert.new.self.nodes (boundary_in c.self.inside c.args.self.now c.args.at c.self.view_is c.requires.boundary) (ap (λ (x : Contents). x.nodes) c.insert.ensures.nodes)))
-
-pub note_block-requires-clause-known : goal.note_block-requires-clause-known
-note_block-requires-clause-known c =
     let p = c.self.inside in
-    let n : Node = parent c.take_least-id.result c.args.kind c.args.children in
     let at = boundary_in p c.args.self.now c.args.at c.self.view_is c.requires.boundary in
-    subst (AreBelow (length p.places)) (sym (part c.args.at c.used-used.result n p.buffer.nodes c.insert.new.self.nodes at (ap (λ (x : Contents). x.nodes) c.insert.ensures.nodes) c.used-used.ensures)) (new_known p n c.args.at c.self.invariant c.take_least-id.ensures.least)
+    record {
+      from = seam c.args.at n c.self.inside.buffer.nodes c.insert.new.self.nodes boundary (ap (λ (x : Contents). x.nodes) c.insert.ensures.nodes);
+      to = end_boundary c.insert.new.self.nodes c.used-used.result c.used-used.ensures;
+      order = omega (arith, c.used-used.ensures, boundary_le c.args.at c.insert.new.self.nodes (seam c.args.at n c.self.inside.buffer.nodes c.insert.new.self.nodes boundary (ap (λ (x : Contents). x.nodes) c.insert.ensures.nodes)));
+      known = subst (AreBelow (length p.places)) (sym (part c.args.at c.used-used.result n p.buffer.nodes c.insert.new.self.nodes at (ap (λ (x : Contents). x.nodes) c.insert.ensures.nodes) c.used-used.ensures)) (new_known p n c.args.at c.self.invariant c.take_least-id.ensures.least);
+    }
 
 all : (c : goal.After-of) → IsKept (record { buffer = c.insert.new.self; taken = c.take_least-id.new.self; places = c.note_block.new.places; refusals = c.self.inside.refusals; last_refused = c.self.inside.last_refused })
 all c =

@@ -1,8 +1,4 @@
-use Rattle.std.proofs.Common.{arith, ap, ◌∙◌, ◌≡◌, ℕ}
-use Rattle.node_pool.proofs.Shared.{place_in, place_of, State}
-use Rattle.node_pool.proofs.Found.{place_boundary}
-use Rattle.node_pool.proofs.Keeping.{live_in}
-use Rattle.node_pool.proofs.Walk.{place_room}
+use Rattle.node_pool.proofs.{Shared.{arith, ap, ◌∙◌, ◌≡◌, ℕ, place_in, place_of, State}, Found.place_boundary, Keeping.live_in, Walk.place_room}
 use Rattle.node_pool.proofs.pool.Pool.locate.Goals as goal
 
 place : (c : goal.After-of) → c.of.result ≡ place_of c.args.id c.args.self.now.nodes

@@ -1,7 +1,4 @@
-use Rattle.std.proofs.Common.{arith, ap, set, ◌∙◌, ◌≡◌}
-use Rattle.node_pool.proofs.Shared.{Header, size_of_header, size_of_payload, payload_of, IsKept, free_of}
-use Rattle.node_pool.proofs.Sizes.{size_leaf}
-use Rattle.node_pool.proofs.Keeping.{placed, room_unused}
+use Rattle.node_pool.proofs.{Shared.{arith, ap, set, ◌∙◌, ◌≡◌, Header, size_of_header, size_of_payload, payload_of, IsKept, free_of}, Sizes.size_leaf, Keeping.{placed, room_unused}}
 use Rattle.node_pool.proofs.pool.Pool.place.Goals as goal
 
 pub take_least-id-requires-clause-some : goal.take_least-id-requires-clause-some

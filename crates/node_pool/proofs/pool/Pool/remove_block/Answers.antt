@@ -1,6 +1,4 @@
-use Rattle.std.proofs.Common.{arith, ◌+◌}
-use Rattle.node_pool.proofs.Shared.{IsKept}
-use Rattle.node_pool.proofs.Keeping.{behind_known, removed_block, between_below, boundary_in, end_small}
+use Rattle.node_pool.proofs.{Shared.{arith, ◌+◌, IsKept}, Keeping.{behind_known, removed_block, between_below, boundary_in, end_small}}
 use Rattle.node_pool.proofs.pool.Pool.remove_block.Goals as goal
 
 pub overflow_add-end : goal.overflow_add-end

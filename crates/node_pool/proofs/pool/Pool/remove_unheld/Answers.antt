@@ -1,7 +1,4 @@
-use Rattle.std.proofs.Common.{List, arith, ap, sym, length, ◌∙◌}
-use Rattle.node_pool.proofs.Shared.{Node, IsKept, without_ids}
-use Rattle.node_pool.proofs.Keeping.{behind_known, removed_block, since_below, boundary_in}
-use Rattle.node_pool.proofs.Unheld.{between_unheld}
+use Rattle.node_pool.proofs.{Shared.{List, arith, ap, sym, length, ◌∙◌, Node, IsKept, without_ids}, Keeping.{behind_known, removed_block, since_below, boundary_in}, Unheld.between_unheld}
 use Rattle.node_pool.proofs.pool.Pool.remove_unheld.Goals as goal
 
 pub release_unheld-end-requires-clause-known : goal.release_unheld-end-requires-clause-known

@@ -1,6 +1,4 @@
-use Rattle.std.proofs.Common.{refl, ap, ◌∙◌, true, ◌≡◌}
-use Rattle.node_pool.proofs.Shared.{IsKept, has}
-use Rattle.node_pool.proofs.Keeping.{kept_same, live_in, counted_ids, counted_places}
+use Rattle.node_pool.proofs.{Shared.{refl, ap, ◌∙◌, true, ◌≡◌, IsKept, has}, Keeping.{kept_same, live_in, counted_ids, counted_places}}
 use Rattle.node_pool.proofs.pool.Pool.set_count.Goals as goal
 
 live : (c : goal.After-set_count) → has c.value.result c.self.inside.buffer.nodes ≡ true

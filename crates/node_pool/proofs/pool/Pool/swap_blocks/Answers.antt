@@ -1,5 +1,4 @@
-use Rattle.std.proofs.Common.{List, arith, ap, sym, subst, ◌∙◌, ◌≡◌, ◌≤◌, ◌+◌, ◌-◌, ℕ}
-use Rattle.node_pool.proofs.Shared.{Node, IsBoundary, exchanged, swapped, State}
+use Rattle.node_pool.proofs.Shared.{rules, List, arith, ap, sym, subst, ◌∙◌, ◌≡◌, ◌≤◌, ◌+◌, ◌-◌, ℕ, Node, IsBoundary, exchanged, swapped, State}
 use Rattle.node_pool.proofs.Exchanges.{IsHalf, half}
 use Rattle.node_pool.proofs.pool.Pool.swap_blocks.Goals as goal
 
@@ -10,22 +9,12 @@ once i j k l s m b1 b2 b3 b4 h1 h2 h3 is =
     subst (IsHalf i j k l s.nodes) (sym (ap (λ (x : State). x.nodes) is ∙ ap (λ (n : ℕ). swapped i k n s.nodes) e))
     (half i j k l s.nodes (record { first = b1; mid = b2; second = b3; end = b4; low = h1; apart = h2; high = h3 }))
 
-pub bring_forward-requires-else-len-mid-clause-from : goal.bring_forward-requires-else-len-mid-clause-from
-bring_forward-requires-else-len-mid-clause-from c =
+pub bring_forward-requires-else-len-mid : goal.bring_forward-requires-else-len-mid
+bring_forward-requires-else-len-mid c =
     let r = c.requires in
-    (once c.args.first c.args.mid c.args.second c.args.end c.args.self.now c.bring_forward.new.self r.first r.mid r.second r.end r.low r.apart r.high c.bring_forward.ensures.nodes).mid
-
-pub bring_forward-requires-else-len-mid-clause-end : goal.bring_forward-requires-else-len-mid-clause-end
-bring_forward-requires-else-len-mid-clause-end c =
-    let r = c.requires in
+    let facts = once c.args.first c.args.mid c.args.second c.args.end c.args.self.now c.bring_forward.new.self r.first r.mid r.second r.end r.low r.apart r.high c.bring_forward.ensures.nodes in
     let e : c.args.end ≡ c.args.mid + (c.args.end - c.args.second) + (c.args.second - c.args.mid) = omega arith in
-    subst (λ (n : ℕ). IsBoundary n c.bring_forward.new.self.nodes) e
-    (once c.args.first c.args.mid c.args.second c.args.end c.args.self.now c.bring_forward.new.self r.first r.mid r.second r.end r.low r.apart r.high c.bring_forward.ensures.nodes).end
-
-pub bring_forward-requires-else-len-mid-clause-to : goal.bring_forward-requires-else-len-mid-clause-to
-bring_forward-requires-else-len-mid-clause-to c =
-    let r = c.requires in
-    (once c.args.first c.args.mid c.args.second c.args.end c.args.self.now c.bring_forward.new.self r.first r.mid r.second r.end r.low r.apart r.high c.bring_forward.ensures.nodes).start
+    record { from = facts.mid; end = subst (λ (n : ℕ). IsBoundary n c.bring_forward.new.self.nodes) e facts.end; to = facts.start; order = search rules }
 
 -- what both moves leave
 both : (i j k l : ℕ) (s m t : State) → IsHalf i j k l s.nodes m.nodes → j ≤ k → k ≤ l → m ≡ record s { nodes = swapped i k (k + (l - k)) s.nodes } → t ≡ record m { nodes = swapped (i + (l - k)) (j + (l - k)) (j + (l - k) + (k - j)) m.nodes } → t ≡ record s { nodes = exchanged i j k l s.nodes }

@@ -1,6 +1,4 @@
-use Rattle.std.proofs.Common.{◌∙◌, ap}
-use Rattle.node_pool.proofs.Shared.{used, State}
-use Rattle.node_pool.proofs.Found.{end_boundary}
+use Rattle.node_pool.proofs.{Shared.{◌∙◌, ap, used, State}, Found.end_boundary}
 use Rattle.node_pool.proofs.pool.Pool.used.Goals as goal
 
 pub returns-clause-boundary : goal.returns-clause-boundary

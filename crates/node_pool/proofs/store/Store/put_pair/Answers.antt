@@ -1,6 +1,4 @@
-use Rattle.std.proofs.Common.{◌∙◌, ap}
-use Rattle.node_pool.proofs.Shared.{put}
-use Rattle.node_pool.proofs.Numbers.{written_is}
+use Rattle.node_pool.proofs.{Shared.{◌∙◌, ap, put}, Numbers.written_is}
 use Rattle.node_pool.proofs.store.Store.put_pair.Goals as goal
 
 pub returns : goal.returns
