@@ -1,6 +1,6 @@
 -- What a caller knows of a layout that was given.
-use Rattle.std.proofs.Common.{◌≡◌, ◌∙◌, ℕ, ◌≤◌, sym, ap, subst, arith}
-use Rattle.pool_layouts.proofs.Shared.{State, Forest, bytes_in, tree_at, Stands, forest, bytes_in-join, last_root, last_held, last_tree, tree_of_root, used_forest, drawing, AllComposed, IsLayout, GivesLayout, Layout, part}
+use Rattle.pool_layouts.proofs.Shared.{◌≡◌, ◌∙◌, ℕ, ◌≤◌, sym, ap, subst, arith, State, Forest, bytes_in, tree_at, Stands, forest, bytes_in-join, last_root, last_held}
+use Rattle.pool_layouts.proofs.Shared.{last_tree, tree_of_root, used_forest, drawing, AllComposed, IsLayout, GivesLayout, Layout, part}
 
 given_tree : {others : Forest} {s : State} {id : ℕ} {l : Layout} → Stands s → (g : GivesLayout others (forest s) id l) → tree_at id (forest s) ≡ g.tree
 given_tree {id = id} st g = tree_of_root id st (last_root g.ends) ∙ last_tree g.ends

@@ -1,7 +1,8 @@
 -- The characters of ink, and their bytes.
-use Rattle.std.proofs.Common.{◌≡◌, ◌≢◌, ◌∙◌, ℕ, zero, suc, ◌+◌, ◌<◌, List, [], ◌∷◌, ◌++◌, replicate, Bool, true, encode_utf8_all, sym, ap, arith, append_assoc, append-nil}
-use Rattle.pool_layouts.proofs.Shared.{list_all, and_parts, nat_tests, replicate-append-replicate, encodes-append, is_digit, is_name_byte, Payload, named, IsPayload, spelled, decimal, decimal_is, Content, extended, Forest, payload_in, Ink, Leaf, IsBlack, IsInk, leaf_characters, ink_characters, inked, blanks_left, leaf_bytes, blanks}
-use Rattle.pool_layouts.proofs.Lines.{AreSmall, small_bytes, replicate_small, times_encoded}
+use Rattle.pool_layouts.proofs.Shared.{◌≡◌, ◌≢◌, ◌∙◌, ℕ, zero, suc, ◌+◌, ◌<◌, List, [], ◌∷◌, ◌++◌, replicate, Bool, true, encode_utf8_all, sym, ap, arith}
+use Rattle.pool_layouts.proofs.Shared.{append_assoc, append-nil, list_all, and_parts, nat_tests, replicate-append-replicate, encodes-append, is_digit, is_name_byte, Payload, named, IsPayload}
+use Rattle.pool_layouts.proofs.Shared.{spelled, decimal, decimal_is, Content, extended, Forest, payload_in, Ink, Leaf, IsBlack, IsInk, leaf_characters, ink_characters, inked, blanks_left}
+use Rattle.pool_layouts.proofs.{Shared.{leaf_bytes, blanks}, Lines.{AreSmall, small_bytes, replicate_small, times_encoded}}
 
 -- ---- characters of leaves
 

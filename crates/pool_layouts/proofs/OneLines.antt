@@ -1,10 +1,12 @@
 -- A picture of one line is the text of its face.
-use Rattle.std.specs.Prelude.{⊤}
-use Rattle.std.proofs.Common.{◌≡◌, ◌∙◌, ℕ, ◌+◌, List, [], ◌∷◌, ◌++◌, codes, nat_abs, Bool, true, false, ◌||◌, if◌then◌else◌, encode_utf8_all, refl, sym, ap, subst, arith, append_assoc, append-nil}
-use Rattle.pool_layouts.proofs.Shared.{encodes-append, left_of_difference, first_of_sum, later_of_sum, first_of_product, later_of_product, admits, at_place, in_parentheses, text, text_of_sum, text_of_terms, text_of_product, text_of_factors, decimal, IsWritable, AreWritable, times_sign, Tree, num, symbol, undef, add, mult, power, root, neg, sub, div, Trees, none, more, is_div, IsDefined, AreDefined, Layout, number, name, plus, minus, times, row, fraction, raised, radical, paren, Layouts, nothing, beside, boxed, unless, layout, layout_of_sum, layout_of_terms, layout_of_product, layout_of_factors, IsBlack, Block, cut, height, level, level_line, level_lines, line_or_blanks, most_above, most_below, picture, pictures, serial, serials}
+use Rattle.pool_layouts.proofs.Shared.{⊤, ◌≡◌, ◌∙◌, ℕ, ◌+◌, List, [], ◌∷◌, ◌++◌, codes, nat_abs, Bool, true, false, ◌||◌, if◌then◌else◌, encode_utf8_all}
+use Rattle.pool_layouts.proofs.Shared.{refl, sym, ap, subst, arith, append_assoc, append-nil, encodes-append, left_of_difference, first_of_sum, later_of_sum, first_of_product, later_of_product}
+use Rattle.pool_layouts.proofs.Shared.{admits, at_place, in_parentheses, text, text_of_sum, text_of_terms, text_of_product, text_of_factors, decimal, IsWritable, AreWritable, times_sign, Tree}
+use Rattle.pool_layouts.proofs.Shared.{num, symbol, undef, add, mult, power, root, neg, sub, div, Trees, none, more, is_div, IsDefined, AreDefined, Layout, number, name, plus, minus, times, row}
+use Rattle.pool_layouts.proofs.Shared.{fraction, raised, radical, paren, Layouts, nothing, beside, boxed, unless, layout, layout_of_sum, layout_of_terms, layout_of_product, layout_of_factors}
+use Rattle.pool_layouts.proofs.Shared.{IsBlack, Block, cut, height, level, level_line, level_lines, line_or_blanks, most_above, most_below, picture, pictures, serial, serials}
+use Rattle.pool_layouts.proofs.{Inks.{decimal_black, decimal_small, names_black, names_small}, Lines.{AreSmall, cut_black, small_bytes, times_encoded}}
 use Rattle.calc_language.specs.Texts.{Place}
-use Rattle.pool_layouts.proofs.Inks.{decimal_black, decimal_small, names_black, names_small}
-use Rattle.pool_layouts.proofs.Lines.{AreSmall, cut_black, small_bytes, times_encoded}
 
 -- ---- layouts of one line
 

@@ -1,9 +1,15 @@
 -- What the steps of a row open to.
-use Rattle.std.proofs.Common.{◌≡◌, ◌≢◌, ◌∙◌, if◌then◌else◌, ℕ, suc, ◌+◌, ◌-◌, ◌*◌, ◌<◌, ◌≤◌, ◌^◌, max, List, [], ◌∷◌, ◌++◌, length, map, drop, get_or, codes, nat_lt, nat_eq, Bool, Option, Some, None, refl, sym, ap, subst, arith, append_assoc, append-nil}
-use Rattle.pool_layouts.proofs.Shared.{lt-ltb, le-ltb, map-append, drop-drop, drop_at, Kind, Node, Payload, bare, kind_of_payload, IsPayload, Label, Forest, empty, tree, flatten, node_of, nodes_in, holds, payload_in, Visit, Extent, Nothing, Leaf, Bar, Roof, Root, Close, Step, Opened, visit_of, visits_of, extent_of, extents_of, HasSmall, IsOver, IsSmall, IsSpanOf, ShowsPart, ShowsLevel, Shows, ShowsIf, Opens, IsInk, ink_characters, weight_if, count_if, leaf_characters, opened, span_of, part_of, level_if, level_opened, centred_opened, fraction_opened, raised_opened, radical_opened, paren_opened, row_opened, Block, height, blanks, bar, roof, root_character, level, line_or_blanks, level_lines, centred, most_above, visits_length}
-use Rattle.pool_layouts.specs.declared.steps.Span.{Span}
+use Rattle.pool_layouts.proofs.Shared.{◌≡◌, ◌≢◌, ◌∙◌, if◌then◌else◌, ℕ, suc, ◌+◌, ◌-◌, ◌*◌, ◌<◌, ◌≤◌, max, List, [], ◌∷◌, ◌++◌, length}
+use Rattle.pool_layouts.proofs.Shared.{map, drop, get_or, codes, nat_lt, nat_eq, Bool, Option, Some, None, refl, sym, ap, subst, arith, append_assoc, append-nil, lt-ltb, le-ltb, map-append}
+use Rattle.pool_layouts.proofs.Shared.{drop-drop, drop_at, Kind, Node, Payload, bare, kind_of_payload, IsPayload, Label, Forest, empty, tree, flatten, node_of, nodes_in, holds, payload_in}
+use Rattle.pool_layouts.proofs.Shared.{Visit, Extent, Nothing, Leaf, Bar, Roof, Root, Close, Ink, Step, Opened, visit_of, visits_of, extent_of, extents_of, HasSmall, IsOver, IsSmall, IsSpanOf}
+use Rattle.pool_layouts.proofs.Shared.{ShowsPart, ShowsLevel, Shows, ShowsIf, Opens, IsInk, ink_characters, weight, weight_if, count_if, leaf_characters, opened, span_of, part_of, level_if}
+use Rattle.pool_layouts.proofs.Shared.{level_opened, centred_opened, fraction_opened, raised_opened, radical_opened, paren_opened, row_opened, Block, height, blanks, bar, roof, root_character}
+use Rattle.pool_layouts.proofs.Shared.{level, line_or_blanks, level_lines, centred, most_above, visits_length}
 use Rattle.pool_layouts.proofs.Measures.{blocks_of, block_of, others_read, behind_first, first_small, IsOneOver, IsTwoOver, bare_of, leaf_line, leaf_some}
 use Rattle.pool_layouts.proofs.Shown.{first_is, others_are, inside_list}
+use Rattle.std.proofs.Common.{◌^◌}
+use Rattle.pool_layouts.specs.declared.steps.Span.{Span}
 use Rattle.calc_terms.specs.declared.kind.Kind.TheVariants as kind
 use Rattle.pool_layouts.specs.declared.steps.Step.TheVariants as step
 
@@ -64,6 +70,20 @@ cell_inside {cells = cells} {span = span} l k r s = inside_list cells (map visit
 -- a node over its parts
 pub is_over : {base : Forest} {cells : List Visit} {es : List Extent} {span : Span} (l : Label) (k : Forest) → IsSpanOf base cells es (tree l k empty) span → IsOver l.payload k (span.at + 1) es
 is_over l k s = record { small = (span_below l k s).small; payload = s.small.valid_parts.0; composed_node = s.small.composed_parts.0 }
+
+-- ---- a step that opens to blanks and ink alone
+
+alone : {base : Forest} {cells : List Visit} {es : List Extent} {s : Step} {cs : List ℕ} (n : ℕ) (ink : Ink) → cs ≡ blanks n ++ ink_characters base ink → 0 < weight s → IsInk base ink → Opens base cells es s cs (opened n ink None None)
+alone {base = base} n ink e h i = record {
+  first = [];
+  second = [];
+  whole = e ∙ ap (λ (x : List ℕ). blanks n ++ x) (sym (append-nil (ink_characters base ink)));
+  first_shown = refl;
+  second_shown = refl;
+  lighter = omega (arith, h);
+  fewer = omega arith;
+  ink_is = i;
+}
 
 -- ---- a choice
 
@@ -142,6 +162,10 @@ module _ {base : Forest} {cells : List Visit} {es : List Extent} {span : Span} {
   pub part_kind : (j : Kind) (d : Visit) → (get_or cells span.at d).kind ≡ j → kind_of_payload p.label.payload ≡ j
   part_kind j d e = ap (λ (x : Visit). x.kind) (sym (cell_here p.label p.below d p.listed)) ∙ e
 
+  -- the same, by the node that stands there
+  pub seen_kind : (j : Kind) (d : Visit) → d ≡ get_or cells span.at d → d.kind ≡ j → kind_of_payload p.label.payload ≡ j
+  seen_kind j d is k = part_kind j d (ap (λ (x : Visit). x.kind) (sym is) ∙ k)
+
   part_over : IsOver p.label.payload p.below (span.at + 1) es
   part_over = is_over p.label p.below p.listed
 
@@ -193,16 +217,7 @@ module _ {base : Forest} {cells : List Visit} {es : List Extent} {span : Span} {
         fewer = omega (arith, inner_nodes kind.Raised t);
         ink_is = tt;
       })
-      (λ h. record {
-        first = [];
-        second = [];
-        whole = h ∙ sym (append-nil (blanks b.width));
-        first_shown = refl;
-        second_shown = refl;
-        lighter = omega (arith, inner_nodes kind.Raised t);
-        fewer = omega (arith, inner_nodes kind.Raised t);
-        ink_is = tt;
-      }))
+      (λ h. alone b.width Nothing (h ∙ sym (append-nil (blanks b.width))) (omega (arith, inner_nodes kind.Raised t)) tt))
 
   pub radical_opens : (e : Extent) (t : IsOneOver kind.Radical p.label.payload p.below (span.at + 1) es) → e ≡ extent_of t.label.payload t.below → Opens base cells es (step.Part span y) cs (radical_opened e (span_of (span.at + 1) span.end) y)
   radical_opens e t q =
@@ -221,16 +236,7 @@ module _ {base : Forest} {cells : List Visit} {es : List Extent} {span : Span} {
       subst (λ (x : Extent). Opens base cells es (step.Part span y) cs (radical_opened x (span_of (span.at + 1) span.end) y)) (sym q)
       (choose (nat_eq y 0) (opened 1 (Roof b.width) None None) (if nat_eq y (b.above + 1) then opened 0 Root (part_of (span.at + 1) span.end (y - 1)) None else opened 1 Nothing (part_of (span.at + 1) span.end (y - 1)) None)
       (32 ∷ roof b.width) ((if nat_eq y (b.above + 1) then root_character else 32) ∷ b.line (y - 1)) (inner_line kind.Radical t)
-      (λ h. record {
-        first = [];
-        second = [];
-        whole = h ∙ ap (λ (x : List ℕ). 32 ∷ x) (sym (append-nil (roof b.width)));
-        first_shown = refl;
-        second_shown = refl;
-        lighter = omega (arith, inner_nodes kind.Radical t);
-        fewer = omega (arith, inner_nodes kind.Radical t);
-        ink_is = tt;
-      })
+      (λ h. alone 1 (Roof b.width) h (omega (arith, inner_nodes kind.Radical t)) tt)
       (λ h. choose (nat_eq y (b.above + 1)) (opened 0 Root (part_of (span.at + 1) span.end (y - 1)) None) (opened 1 Nothing (part_of (span.at + 1) span.end (y - 1)) None) (root_character ∷ b.line (y - 1)) (32 ∷ b.line (y - 1))
       (h ∙ head_choice (nat_eq y (b.above + 1)) root_character 32 (b.line (y - 1)))
       (λ g. inner (root_character ∷ []) (opened 0 Root (part_of (span.at + 1) span.end (y - 1)) None) g refl refl refl tt)
@@ -268,16 +274,7 @@ module _ {base : Forest} {cells : List Visit} {es : List Extent} {span : Span} {
       (centred w a y) (if nat_eq y (height a) then bar w else centred w b (y - height a - 1)) line
       (λ h. centred_opens t.upper t.above (span.at + 1) mid w y (span_first t.upper t.above (tree t.lower t.below empty) mid both refl) p.row_small h (omega (arith, ends)) (omega (arith, ends)))
       (λ h. choose (nat_eq y (height a)) (opened 0 (Bar w) None None) (centred_opened (w - b.width) (part_of mid span.end (y - height a - 1))) (bar w) (centred w b (y - height a - 1)) h
-      (λ g. record {
-        first = [];
-        second = [];
-        whole = g ∙ sym (append-nil (bar w));
-        first_shown = refl;
-        second_shown = refl;
-        lighter = omega (arith, ends);
-        fewer = omega (arith, ends);
-        ink_is = tt;
-      })
+      (λ g. alone 0 (Bar w) g (omega (arith, ends)) tt)
       (λ g. centred_opens t.lower t.below mid span.end w (y - height a - 1) (span_rest t.upper t.above (tree t.lower t.below empty) mid both refl) (omega (arith, p.row_small)) g (omega (arith, ends)) (omega (arith, ends))))))
 
   -- a leaf
@@ -292,19 +289,11 @@ module _ {base : Forest} {cells : List Visit} {es : List Extent} {span : Span} {
       let over = part_over in
       let line = leaf_line x p.below y over.payload over.composed_node (λ q. a (kind_is ∙ q)) (λ q. b (kind_is ∙ q)) (λ q. f (kind_is ∙ q)) (λ q. g (kind_is ∙ q)) (λ q. h (kind_is ∙ q)) in
       let some = leaf_some x p.below over.payload over.composed_node (λ q. a (kind_is ∙ q)) (λ q. b (kind_is ∙ q)) (λ q. f (kind_is ∙ q)) (λ q. g (kind_is ∙ q)) (λ q. h (kind_is ∙ q)) in
-      record {
-        first = [];
-        second = [];
-        whole = p.line_is ∙ line ∙ ap leaf_characters (sym payload) ∙ sym (append-nil (leaf_characters (payload_in i base)));
-        first_shown = refl;
-        second_shown = refl;
-        lighter = omega (arith, p.listed.end_is);
-        fewer = omega arith;
-        ink_is = (ap (λ (n : ℕ). holds n base) id_is ∙ p.listed.found.0.0, subst IsPayload (sym payload) over.payload, subst (λ (z : Payload). leaf_characters z ≢ []) (sym payload) some);
-      }
+      alone 0 (Leaf i) (p.line_is ∙ line ∙ ap leaf_characters (sym payload)) (omega (arith, p.listed.end_is))
+      (ap (λ (n : ℕ). holds n base) id_is ∙ p.listed.found.0.0, subst IsPayload (sym payload) over.payload, subst (λ (z : Payload). leaf_characters z ≢ []) (sym payload) some)
 
 pub blanks_opens : {base : Forest} {cells : List Visit} {es : List Extent} {cs : List ℕ} (n : ℕ) → Shows base cells es (step.Blanks n) cs → Opens base cells es (step.Blanks n) cs (opened n Nothing None None)
-blanks_opens n h = record { first = []; second = []; whole = h ∙ sym (append-nil (blanks n)); first_shown = refl; second_shown = refl; lighter = omega arith; fewer = omega arith; ink_is = tt }
+blanks_opens n h = alone n Nothing (h ∙ sym (append-nil (blanks n))) (omega arith) tt
 
 pub close_opens : {base : Forest} {cells : List Visit} {es : List Extent} {cs : List ℕ} → Shows base cells es step.Close cs → Opens base cells es step.Close cs (opened 0 Close None None)
-close_opens h = record { first = []; second = []; whole = h; first_shown = refl; second_shown = refl; lighter = omega arith; fewer = omega arith; ink_is = tt }
+close_opens h = alone 0 Close h (omega arith) tt

@@ -1,6 +1,9 @@
 -- The layout of a face, by its root and its children.
-use Rattle.std.proofs.Common.{◌≡◌, ◌∙◌, if◌then◌else◌, Bool, true, ◌||◌, nat_le, nat_eq, None, refl, sym, ap, arith}
-use Rattle.pool_layouts.proofs.Shared.{eqb-true, Kind, Payload, bare, kind_of_payload, Tree, Trees, none, more, count, root_kind, is_div, later_of_sum, admits, admits_kind, deciding_kind, rule_of, Place, level_of, is_div_kind, admits_is, grown, compound, takes, takes_kind, FirstOfSum, LaterOfSum, LeftOfDifference, RightOfDifference, UnderSign, FirstOfProduct, LaterOfProduct, Base, Layout, plus, minus, times, row, raised, Layouts, beside, one_part, unless, boxed, layout, layout_of_sum, layout_of_terms, layout_of_product, layout_of_factors, drawn, first_place, paren_kind_unless, around_of, within, parts_from, laid}
+use Rattle.pool_layouts.proofs.Shared.{◌≡◌, ◌∙◌, if◌then◌else◌, Bool, true, ◌||◌, nat_le, nat_eq, None, refl, sym, ap, arith, eqb-true, Kind, Payload, bare}
+use Rattle.pool_layouts.proofs.Shared.{kind_of_payload, Tree, Trees, none, more, count, root_kind, is_div, later_of_sum, admits, admits_kind, deciding_kind, rule_of, Place, level_of}
+use Rattle.pool_layouts.proofs.Shared.{is_div_kind, admits_is, grown, compound, takes, takes_kind, FirstOfSum, LaterOfSum, LeftOfDifference, RightOfDifference, UnderSign, FirstOfProduct}
+use Rattle.pool_layouts.proofs.Shared.{LaterOfProduct, Base, Layout, plus, minus, times, row, raised, Layouts, beside, one_part, unless, boxed, layout, layout_of_sum, layout_of_terms}
+use Rattle.pool_layouts.proofs.Shared.{layout_of_product, layout_of_factors, drawn, first_place, paren_kind_unless, around_of, within, parts_from, laid}
 use Rattle.calc_language.specs.Texts.{level}
 use Rattle.calc_terms.specs.declared.kind.Kind.TheVariants as kind
 

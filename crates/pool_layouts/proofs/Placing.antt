@@ -1,10 +1,12 @@
 -- One node after another is placed, or refused.
-use Rattle.std.specs.Prelude.{IfOk, IfErr, OnOk, IsOk, ◌↔◌}
-use Rattle.std.proofs.Common.{◌≡◌, ◌∙◌, ℕ, ◌+◌, ◌-◌, ◌<◌, ◌≤◌, List, [], ◌∷◌, length, Option, Some, None, Result, Ok, Err, refl, sym, ap, subst, arith, leb}
-use Rattle.pool_layouts.proofs.Shared.{leb-true, leb-false, Kind, Payload, bare, kind_of_payload, size_of_payload, Full, State, free_of, length_le_used, taking, Forest, empty, join, arity, bytes_in, one_tree, last_trees, before_last, Ends, Starts, Stands, forest, KeepsRefusals, IsRefused, arity-join, bytes_in-join, join_assoc, refuses_after, before-last, before_none, last_none, before_last-join, last_trees-join, ends_as, free_forest, join-empty, Place, HasLast, IsStopped, PlacesMark, StandsIn, mark_before, laid, laid_kind}
-use Rattle.tree_handles.proofs.Outcomes.{by_test}
-use Rattle.tree_handles.proofs.Releases.{arity_le}
-use Rattle.pool_layouts.proofs.Sizes.{takes_one, taken_first}
+use Rattle.std.specs.Prelude.{IfOk}
+use Rattle.pool_layouts.proofs.Shared.{IfErr, OnOk, IsOk, ◌↔◌, ◌≡◌, ◌∙◌, ℕ, ◌+◌, ◌-◌, ◌<◌, ◌≤◌, List, [], ◌∷◌, length, Option, Some, None, Result, Ok}
+use Rattle.pool_layouts.proofs.Shared.{Err, refl, sym, ap, subst, arith, leb-true, leb-false, Kind, Payload, bare, kind_of_payload, size_of_payload, Full, State, free_of, length_le_used, taking}
+use Rattle.pool_layouts.proofs.Shared.{Forest, empty, join, arity, bytes_in, one_tree, last_trees, before_last, Ends, Starts, Stands, forest, KeepsRefusals, IsRefused, arity-join, bytes_in-join}
+use Rattle.pool_layouts.proofs.Shared.{join_assoc, refuses_after, before-last, before_none, last_none, before_last-join, last_trees-join, ends_as, free_forest, join-empty, Place, HasLast}
+use Rattle.pool_layouts.proofs.{Shared.{IsStopped, PlacesMark, StandsIn, mark_before, laid, laid_kind}, Sizes.{takes_one, taken_first}}
+use Rattle.std.proofs.Common.{leb}
+use Rattle.tree_handles.proofs.{Outcomes.by_test, Releases.arity_le}
 use Rattle.calc_terms.specs.declared.kind.Kind.TheVariants as kind
 
 -- a pool has so few trees

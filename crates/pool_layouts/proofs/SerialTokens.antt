@@ -1,13 +1,12 @@
 -- The serial text of a face is what a format writes.
 use Rattle.std.specs.Prelude.{ℕ, ◌≡◌, List, ◌∷◌, ◌++◌, Bool, true, false, ◌||◌, nat_le, codes}
-use Rattle.std.proofs.Common.{refl, sym, ap, ◌∙◌, append_assoc, append-nil, nat_abs, arith}
-use Rattle.pool_layouts.proofs.Shared.{first_of_sum, left_of_difference, later_of_sum, first_of_product, later_of_product, admits, decimal, IsWritable, Token, plus_mark, minus_mark, times_mark, slash_mark, caret_mark, times_sign, root_sign, spelled-append, Tree, num, symbol, undef, add, mult, power, root, neg, sub, div, Trees, none, more, is_div, IsComplete, unless, boxed, layout, layout_of_sum, layout_of_terms, layout_of_product, layout_of_factors, serial, serials, IsDefined, AreDefined}
-use Rattle.calc_language.specs.Grammar.{single}
-use Rattle.calc_language.specs.Reads.{Reads}
-use Rattle.calc_language.specs.Texts.{Place, level}
-use Rattle.calc_language.proofs.ReadLaws.{format_reads}
-use Rattle.calc_language.proofs.Spelled.{spelled, inside_spelled, joined_spelled}
-use Rattle.calc_language.proofs.Written.{Brackets, IsReadable, inside, placed, tokens, tokens_of_sum, tokens_of_terms, tokens_of_product, tokens_of_factors, binding, is_signed, sum_so_far, product_so_far}
+use Rattle.pool_layouts.proofs.Shared.{refl, sym, ap, ◌∙◌, append_assoc, append-nil, nat_abs, arith, first_of_sum, left_of_difference, later_of_sum, first_of_product, later_of_product}
+use Rattle.pool_layouts.proofs.Shared.{admits, decimal, IsWritable, Token, plus_mark, minus_mark, times_mark, slash_mark, caret_mark, times_sign, root_sign, spelled-append, Tree, num, symbol}
+use Rattle.pool_layouts.proofs.Shared.{undef, add, mult, power, root, neg, sub, div, Trees, none, more, is_div, IsComplete, unless, boxed, layout, layout_of_sum, layout_of_terms}
+use Rattle.pool_layouts.proofs.Shared.{layout_of_product, layout_of_factors, serial, serials, IsDefined, AreDefined}
+use Rattle.calc_language.specs.{Grammar.single, Reads.Reads, Texts.{Place, level}}
+use Rattle.calc_language.proofs.{ReadLaws.format_reads, Spelled.{spelled, inside_spelled, joined_spelled}, Written.{Brackets, IsReadable, inside, placed, tokens, tokens_of_sum, tokens_of_terms}}
+use Rattle.calc_language.proofs.Written.{tokens_of_product, tokens_of_factors, binding, is_signed, sum_so_far, product_so_far}
 
 -- a fraction stands in no parentheses of its own
 abbrev pub open_at : Place → Tree → Bool

@@ -1,8 +1,7 @@
 -- What is written of a layout is its serial text.
-use Rattle.std.proofs.Common.{◌≡◌, ◌∙◌, ℕ, List, [], ◌++◌, nat_abs, nat_eq, codes, true, refl, sym, ap, arith, append_assoc, append-nil}
-use Rattle.calc_terms.specs.Fractions.{lowest}
-use Rattle.calc_language.specs.Texts.{decimal}
-use Rattle.pool_layouts.proofs.Shared.{eqb-true, root_sign, times_sign, Payload, rational, named, bare, kind_of_payload, IsPayload, numerator_is, Label, Forest, empty, tree, arity, AllNodes, drawn, drawings, drawing, composes, AllComposed, serial, serials, IsValid, WholeText, first_place, kind_closing, leaf_bytes, parentheses, written}
+use Rattle.pool_layouts.proofs.Shared.{◌≡◌, ◌∙◌, ℕ, List, [], ◌++◌, nat_abs, nat_eq, codes, true, refl, sym, ap, arith, append_assoc, append-nil, lowest, decimal, eqb-true}
+use Rattle.pool_layouts.proofs.Shared.{root_sign, times_sign, Payload, rational, named, bare, kind_of_payload, IsPayload, numerator_is, Label, Forest, empty, tree, arity, AllNodes, drawn}
+use Rattle.pool_layouts.proofs.Shared.{drawings, drawing, composes, AllComposed, serial, serials, IsValid, WholeText, first_place, kind_closing, leaf_bytes, parentheses, written}
 use Rattle.calc_terms.specs.declared.kind.Kind.TheVariants as kind
 
 fraction_is : (a b front bar close : List ℕ) → front ++ (a ++ (bar ++ (b ++ close))) ≡ ((front ++ a) ++ ((bar ++ b) ++ [])) ++ close

@@ -1,6 +1,6 @@
 -- What a place of the list shows.
-use Rattle.std.proofs.Common.{◌≡◌, ◌∙◌, ℕ, suc, ◌+◌, ◌<◌, List, ◌∷◌, length, drop, get_or, true, ap, arith, drop-cons, add-one}
-use Rattle.pool_layouts.proofs.Shared.{length-drop, State, Label, Forest, empty, tree, root_payload, AllNodes, holds, tree_at, payload_in, Stands, forest, found, Visit, AreFound}
+use Rattle.pool_layouts.proofs.Shared.{◌≡◌, ◌∙◌, ℕ, suc, ◌+◌, ◌<◌, List, ◌∷◌, length, drop, get_or, true, ap, arith, drop-cons, add-one, length-drop, State, Label}
+use Rattle.pool_layouts.proofs.Shared.{Forest, empty, tree, root_payload, AllNodes, holds, tree_at, payload_in, Stands, forest, found, Visit, AreFound}
 
 -- ---- the first of what is left
 

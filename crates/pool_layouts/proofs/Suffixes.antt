@@ -1,6 +1,6 @@
 -- The trees whose nodes stand behind a number of nodes in prefix order.
-use Rattle.std.proofs.Common.{◌≡◌, ◌∙◌, ℕ, zero, suc, ◌<◌, ◌≤◌, length, drop, refl, sym, ap, arith, add-one}
-use Rattle.pool_layouts.proofs.Shared.{length-drop, drop-drop, Label, Forest, empty, tree, join, flatten, bytes_in, AllNodes, flatten-join, bytes_in-join, all-join}
+use Rattle.pool_layouts.proofs.Shared.{◌≡◌, ◌∙◌, ℕ, zero, suc, ◌<◌, ◌≤◌, length, drop, refl, sym, ap, arith, add-one, length-drop, drop-drop, Label, Forest, empty, tree}
+use Rattle.pool_layouts.proofs.Shared.{join, flatten, bytes_in, AllNodes, flatten-join, bytes_in-join, all-join}
 
 abbrev pub behind_node : Forest → Forest
 behind_node empty = empty

@@ -1,13 +1,17 @@
 -- The layout of a face under way: what was placed of it, and what is left.
-use Rattle.std.proofs.Common.{◌≡◌, ◌∙◌, nat_eq, get_or, ℕ, ◌+◌, ◌<◌, ◌≤◌, List, [], ◌∷◌, ◌++◌, length, map, drop, Option, None, Ok, Err, true, false, refl, sym, ap, subst, arith, append_assoc, append-nil}
-use Rattle.pool_layouts.proofs.Shared.{eqb-true, length-append, Kind, Node, Payload, rational, named, bare, kind_of_payload, Tree, Trees, none, more, count, root_kind, used, Full, State, free_of, taking, plain, plains, takes, AllExpressions, IsExpression, Label, Forest, empty, tree, join, arity, bytes_in, flatten, node_of, one_tree, last_trees, before_last, root_payload, Ends, Starts, KeepsFront, AllOnce, IsOnce, holds, tree_at, payload_in, Stands, forest, kids_of, kids, root_kind-plain, deciding, deciding_is, KeepsRefusals, Refuses, LacksBytes, found, join-empty, join_assoc, arity-join, all-join, keeps_after, keeps_none, refuses_after, before_last-join, last_trees-join, ends_as, used_forest, count-plains, Visit, Frame, Place, part_sizes, parts_sizes, visit_of, visits_of, AreFound, visit_at, drawn, drawings, composes, AllComposed, IsComposed, GivesLayout, frame_of, frame_behind, Layout, Layouts, beside, one_part, join_parts, layout, Closes, IsAround, IsStopped, PlacesMark, is_leaf, root_sizes, around_sizes, held_in, first_place, next_place, mark_before, marks, around_kind, deciding_kind, within, around_of, parts_from, laid}
-use Rattle.tree_handles.proofs.Joins.{holds-left, tree_at-join_left}
-use Rattle.tree_handles.proofs.Parts.{at}
-use Rattle.pool_layouts.proofs.Parts.{layout_is}
-use Rattle.pool_layouts.proofs.Placing.{few_trees}
+use Rattle.pool_layouts.proofs.Shared.{◌≡◌, ◌∙◌, nat_eq, get_or, ℕ, ◌+◌, ◌<◌, ◌≤◌, List, [], ◌∷◌, ◌++◌, length, map, drop, Option, None, Ok, Err, true}
+use Rattle.pool_layouts.proofs.Shared.{false, refl, sym, ap, subst, arith, append_assoc, append-nil, eqb-true, length-append, Kind, Node, Payload, rational, named, bare, kind_of_payload, Tree}
+use Rattle.pool_layouts.proofs.Shared.{Trees, none, more, count, root_kind, used, Full, State, free_of, taking, plain, plains, takes, AllExpressions, IsExpression, Label, Forest, empty, tree}
+use Rattle.pool_layouts.proofs.Shared.{join, arity, bytes_in, flatten, node_of, one_tree, last_trees, before_last, root_payload, Ends, Starts, KeepsFront, AllOnce, IsOnce, holds, tree_at}
+use Rattle.pool_layouts.proofs.Shared.{payload_in, Stands, forest, kids_of, kids, root_kind-plain, deciding, deciding_is, KeepsRefusals, Refuses, LacksBytes, found, join-empty, join_assoc}
+use Rattle.pool_layouts.proofs.Shared.{arity-join, all-join, keeps_after, keeps_none, refuses_after, before_last-join, last_trees-join, ends_as, used_forest, count-plains, Visit, Frame, Place}
+use Rattle.pool_layouts.proofs.Shared.{part_sizes, parts_sizes, visit_of, visits_of, AreFound, visit_at, drawn, drawings, composes, AllComposed, IsComposed, GivesLayout, frame_of, frame_behind}
+use Rattle.pool_layouts.proofs.Shared.{Layout, Layouts, beside, one_part, join_parts, layout, Closes, IsAround, IsStopped, PlacesMark, is_leaf, root_sizes, around_sizes, held_in, first_place}
+use Rattle.pool_layouts.proofs.{Shared.{next_place, mark_before, marks, around_kind, deciding_kind, within, around_of, parts_from, laid}, Parts.layout_is, Placing.few_trees}
+use Rattle.pool_layouts.proofs.{Shown.{first_is, others_are, inside_list}, Sizes.{join_parts-nothing, join_parts-assoc, drawings-join, count_parts, count-drawings, count-join, sizes-join}}
+use Rattle.pool_layouts.proofs.Sizes.{sizes-marks, drawn_sizes, within_sizes, taken_first, refused_first}
+use Rattle.tree_handles.proofs.{Joins.{holds-left, tree_at-join_left}, Parts.at}
 use Rattle.line_text.proofs.Walks.{snoc_same}
-use Rattle.pool_layouts.proofs.Shown.{first_is, others_are, inside_list}
-use Rattle.pool_layouts.proofs.Sizes.{join_parts-nothing, join_parts-assoc, drawings-join, count_parts, count-drawings, count-join, sizes-join, sizes-marks, drawn_sizes, within_sizes, taken_first, refused_first}
 use Rattle.calc_terms.specs.declared.kind.Kind.TheVariants as kind
 
 -- ---- what is owed
@@ -67,11 +71,8 @@ abbrev pub AreOwed : Forest → ℕ → List Owed → Type 0
 AreOwed base making [] = Unit {0}
 AreOwed base making (o ∷ os) = IsOwed base (made_of os) making o × AreOwed base 1 os
 
--- the innermost node, and those around it
-pub record IsUnderWay (l : Layout) (old now : State) (at : ℕ) (cells : List Visit) (frames : List Frame) : Type 0 where
-  pub inner : Owed
-  pub outer : List Owed
-  pub frames_are : frames ≡ frames_of (inner ∷ outer)
+-- the state: the innermost node, and those around it
+pub record IsState (l : Layout) (old now : State) (at : ℕ) (cells : List Visit) (inner : Owed) (outer : List Owed) : Type 0 where
   pub whole : forest now ≡ join (forest old) (made_of (inner ∷ outer))
   pub cells_are : drop at cells ≡ map visit_of (nodes_left (inner ∷ outer))
   pub innermost : IsOwed (forest old) (made_of outer) 0 inner
@@ -80,7 +81,13 @@ pub record IsUnderWay (l : Layout) (old now : State) (at : ℕ) (cells : List Vi
   pub budget : taking (free_of old) (part_sizes l) ≡ taking (free_of now) (sizes_left (inner ∷ outer))
   pub keeps : KeepsRefusals old now
   pub stands : Stands now
-  pub short : length frames ≤ at
+  pub short : length (frames_of outer) + 1 ≤ at
+
+pub record IsUnderWay (l : Layout) (old now : State) (at : ℕ) (cells : List Visit) (frames : List Frame) : Type 0 where
+  pub inner : Owed
+  pub outer : List Owed
+  pub frames_are : frames ≡ frames_of (inner ∷ outer)
+  pub state : IsState l old now at cells inner outer
 
 -- ---- a node before its children
 
@@ -167,18 +174,24 @@ started s face cells frames d begin st x e b f =
       inner = fresh_owed p.label k None begin;
       outer = [];
       frames_are = f ∙ ap (λ (y : Visit). frame_of y None begin ∷ []) first;
-      whole = sym (join-empty base);
-      cells_are = others_are cells (map visit_of (flatten k ++ [])) 0 c begins;
-      innermost = n.owed;
-      others = tt;
-      layout_is = n.drawing ∙ ap layout (sym plain_is);
-      budget = ap (λ (t : Tree). taking (free_of s) (part_sizes (layout t))) plain_is ∙ ap (taking (free_of s)) (n.sizes ∙ ap (λ (y : List ℕ). parts_sizes (parts_left (fresh_owed p.label k None begin)) ++ y) (sym (append-nil (root_sizes p.label.payload None))));
-      keeps = keeps_none s;
-      stands = st;
-      short = omega (arith, ap length f);
+      state = record {
+        whole = sym (join-empty base);
+        cells_are = others_are cells (map visit_of (flatten k ++ [])) 0 c begins;
+        innermost = n.owed;
+        others = tt;
+        layout_is = n.drawing ∙ ap layout (sym plain_is);
+        budget = ap (λ (t : Tree). taking (free_of s) (part_sizes (layout t))) plain_is
+            ∙ ap (taking (free_of s)) (n.sizes ∙ ap (λ (y : List ℕ). parts_sizes (parts_left (fresh_owed p.label k None begin)) ++ y) (sym (append-nil (root_sizes p.label.payload None))));
+        keeps = keeps_none s;
+        stands = st;
+        short = omega arith;
+      };
     }
 
 -- ---- the innermost node
+
+abbrev owed_of : Frame → Payload → Forest → Forest → Owed
+owed_of frame source parts rest = record { frame = frame; source = source; parts = parts; rest = rest }
 
 pub record IsTop (l : Layout) (old now : State) (at : ℕ) (cells : List Visit) (popped : List Frame) (frame : Frame) : Type 0 where
   pub source : Payload
@@ -186,38 +199,13 @@ pub record IsTop (l : Layout) (old now : State) (at : ℕ) (cells : List Visit) 
   pub rest : Forest
   pub outer : List Owed
   pub popped_is : popped ≡ frames_of outer
-  pub whole : forest now ≡ join (forest old) (join (made_of outer) parts)
-  pub cells_are : drop at cells ≡ map visit_of (flatten rest ++ nodes_left outer)
-  pub innermost : IsOwed (forest old) (made_of outer) 0 (record { frame = frame; source = source; parts = parts; rest = rest })
-  pub others : AreOwed (forest old) 1 outer
-  pub layout_is : plugged outer (within frame.around (drawn (laid source) (join_parts (drawings parts) (parts_from frame.place (plains rest))))) ≡ l
-  pub budget : taking (free_of old) (part_sizes l) ≡ taking (free_of now) (parts_sizes (parts_from frame.place (plains rest)) ++ (root_sizes source frame.around ++ sizes_left outer))
-  pub keeps : KeepsRefusals old now
-  pub stands : Stands now
-  pub short : length popped + 1 ≤ at
-
-top_itself : (l : Layout) (old now : State) (at : ℕ) (cells : List Visit) (frames : List Frame) (u : IsUnderWay l old now at cells frames) → IsTop l old now at cells (frames_of u.outer) u.inner.frame
-top_itself l old now at cells frames u = record {
-  source = u.inner.source;
-  parts = u.inner.parts;
-  rest = u.inner.rest;
-  outer = u.outer;
-  popped_is = refl;
-  whole = u.whole;
-  cells_are = u.cells_are;
-  innermost = u.innermost;
-  others = u.others;
-  layout_is = u.layout_is;
-  budget = u.budget;
-  keeps = u.keeps;
-  stands = u.stands;
-  short = omega (arith, u.short, ap length u.frames_are, length-append (frames_of u.outer) (u.inner.frame ∷ []));
-}
+  pub state : IsState l old now at cells (owed_of frame source parts rest) outer
 
 pub top : {l : Layout} {old now : State} {at : ℕ} {cells : List Visit} {frames : List Frame} (popped : List Frame) (frame : Frame) → IsUnderWay l old now at cells frames → frames ≡ popped ++ frame ∷ [] → IsTop l old now at cells popped frame
-top {l = l} {old = old} {now = now} {at = at} {cells = cells} {frames = frames} popped frame u e =
+top {l = l} {old = old} {now = now} {at = at} {cells = cells} popped frame u e =
     let same = snoc_same popped (frames_of u.outer) frame u.inner.frame (sym e ∙ u.frames_are) in
-    subst (λ (f : Frame). IsTop l old now at cells popped f) (sym same.1) (subst (λ (p : List Frame). IsTop l old now at cells p u.inner.frame) (sym same.0) (top_itself l old now at cells frames u))
+    let o = u.inner in
+    record { source = o.source; parts = o.parts; rest = o.rest; outer = u.outer; popped_is = same.0; state = subst (λ (f : Frame). IsState l old now at cells (owed_of f o.source o.parts o.rest) u.outer) (sym same.1) u.state }
 
 -- ---- the next child is entered
 
@@ -229,24 +217,15 @@ pub record IsNext (l : Layout) (old now : State) (at : ℕ) (cells : List Visit)
   pub rest : Forest
   pub outer : List Owed
   pub popped_is : popped ≡ frames_of outer
-  pub whole : forest now ≡ join (forest old) (join (made_of outer) parts)
+  pub state : IsState l old now at cells (owed_of frame source parts (tree label below rest)) outer
   pub cells_are : drop at cells ≡ visit_of (node_of label below) ∷ map visit_of (flatten below ++ (flatten rest ++ nodes_left outer))
-  pub innermost : IsOwed (forest old) (made_of outer) 0 (record { frame = frame; source = source; parts = parts; rest = tree label below rest })
-  pub others : AreOwed (forest old) 1 outer
-  pub layout_is : plugged outer (within frame.around (drawn (laid source) (join_parts (drawings parts) (parts_from frame.place (plains (tree label below rest)))))) ≡ l
-  pub budget : taking (free_of old) (part_sizes l) ≡ taking (free_of now) (parts_sizes (parts_from frame.place (plains (tree label below rest))) ++ (root_sizes source frame.around ++ sizes_left outer))
-  pub keeps : KeepsRefusals old now
-  pub stands : Stands now
-  pub short : length popped + 1 ≤ at
 
 pub next : {l : Layout} {old now : State} {at : ℕ} {cells : List Visit} {popped : List Frame} {frame : Frame} → IsTop l old now at cells popped frame → 0 < frame.left → IsNext l old now at cells popped frame
-next {l = l} {old = old} {now = now} {at = at} {cells = cells} {popped = popped} {frame = frame} t some = by t.rest t.cells_are t.innermost t.layout_is t.budget
+next {l = l} {old = old} {now = now} {at = at} {cells = cells} {popped = popped} {frame = frame} t some = by t.rest t.state
   where
-    by : (rest : Forest) → drop at cells ≡ map visit_of (flatten rest ++ nodes_left t.outer) → IsOwed (forest old) (made_of t.outer) 0 (record { frame = frame; source = t.source; parts = t.parts; rest = rest })
-        → plugged t.outer (within frame.around (drawn (laid t.source) (join_parts (drawings t.parts) (parts_from frame.place (plains rest))))) ≡ l
-        → taking (free_of old) (part_sizes l) ≡ taking (free_of now) (parts_sizes (parts_from frame.place (plains rest)) ++ (root_sizes t.source frame.around ++ sizes_left t.outer)) → IsNext l old now at cells popped frame
-    by empty c o d b = absurd (omega (arith, o.left, some))
-    by (tree m k r) c o d b = record {
+    by : (rest : Forest) → IsState l old now at cells (owed_of frame t.source t.parts rest) t.outer → IsNext l old now at cells popped frame
+    by empty x = absurd (omega (arith, x.innermost.left, some))
+    by (tree m k r) x = record {
       source = t.source;
       parts = t.parts;
       label = m;
@@ -254,15 +233,8 @@ next {l = l} {old = old} {now = now} {at = at} {cells = cells} {popped = popped}
       rest = r;
       outer = t.outer;
       popped_is = t.popped_is;
-      whole = t.whole;
-      cells_are = c ∙ ap (λ (ns : List Node). visit_of (node_of m k) ∷ map visit_of ns) (append_assoc (flatten k) (flatten r) (nodes_left t.outer));
-      innermost = o;
-      others = t.others;
-      layout_is = d;
-      budget = b;
-      keeps = t.keeps;
-      stands = t.stands;
-      short = t.short;
+      state = x;
+      cells_are = x.cells_are ∙ ap (λ (ns : List Node). visit_of (node_of m k) ∷ map visit_of ns) (append_assoc (flatten k) (flatten r) (nodes_left t.outer));
     }
 
 pub next_inside : {l : Layout} {old now : State} {at : ℕ} {cells : List Visit} {popped : List Frame} {frame : Frame} → IsNext l old now at cells popped frame → at < length cells
@@ -277,10 +249,10 @@ module _ {l : Layout} {old now : State} {at : ℕ} {cells : List Visit} {popped 
   next_is = here ∙ first_is cells (map visit_of (flatten n.below ++ (flatten n.rest ++ nodes_left n.outer))) at (visit_of (node_of n.label n.below)) v n.cells_are
 
   tree_here : tree_at n.label.id (forest now) ≡ next_tree
-  tree_here = ap (tree_at n.label.id) n.whole ∙ tree_at-join_left n.label.id (forest old) (join (made_of n.outer) n.parts) n.innermost.known.0.0 ∙ n.innermost.known.0.1
+  tree_here = ap (tree_at n.label.id) n.state.whole ∙ tree_at-join_left n.label.id (forest old) (join (made_of n.outer) n.parts) n.state.innermost.known.0.0 ∙ n.state.innermost.known.0.1
 
   pub next_live : holds v.id (forest now) ≡ true
-  next_live = ap (λ (w : Visit). holds w.id (forest now)) next_is ∙ ap (holds n.label.id) n.whole ∙ holds-left n.label.id (forest old) (join (made_of n.outer) n.parts) n.innermost.known.0.0
+  next_live = ap (λ (w : Visit). holds w.id (forest now)) next_is ∙ ap (holds n.label.id) n.state.whole ∙ holds-left n.label.id (forest old) (join (made_of n.outer) n.parts) n.state.innermost.known.0.0
 
   pub next_seen : v ≡ visit_at v.id (forest now)
   next_seen =
@@ -290,15 +262,15 @@ module _ {l : Layout} {old now : State} {at : ℕ} {cells : List Visit} {popped 
   -- what its layout stands in
   pub next_around : (k : Kind) (around : Option Kind) → k ≡ deciding frame.place (tree_at v.id (forest now)) → around ≡ around_kind frame.place v.kind k → around ≡ around_of frame.place (plain next_tree)
   next_around k around e f =
-      let kind_is : v.kind ≡ root_kind (plain next_tree) = ap (λ (w : Visit). w.kind) next_is ∙ sym (root_kind-plain next_tree refl (n.innermost.expressions.0, n.innermost.expressions.1, tt)) in
+      let kind_is : v.kind ≡ root_kind (plain next_tree) = ap (λ (w : Visit). w.kind) next_is ∙ sym (root_kind-plain next_tree refl (n.state.innermost.expressions.0, n.state.innermost.expressions.1, tt)) in
       let decides : k ≡ deciding_kind frame.place (plain next_tree)
-      = e ∙ ap (λ (w : Visit). deciding frame.place (tree_at w.id (forest now))) next_is ∙ ap (deciding frame.place) tree_here ∙ deciding_is frame.place n.label n.below n.rest n.innermost.expressions in
+      = e ∙ ap (λ (w : Visit). deciding frame.place (tree_at w.id (forest now))) next_is ∙ ap (deciding frame.place) tree_here ∙ deciding_is frame.place n.label n.below n.rest n.state.innermost.expressions in
       f ∙ (λ i. around_kind frame.place (kind_is i) (decides i))
 
 -- the parts of a node are few
 pub parts_are_few : {l : Layout} {old now : State} {at : ℕ} {cells : List Visit} {popped : List Frame} {frame : Frame} → IsTop l old now at cells popped frame → frame.parts ≤ 65535
 parts_are_few {old = old} {now = now} t =
-    omega (arith, few_trees now t.stands, ap arity t.whole, arity-join (forest old) (join (made_of t.outer) t.parts), arity-join (made_of t.outer) t.parts, t.innermost.number)
+    omega (arith, few_trees now t.state.stands, ap arity t.state.whole, arity-join (forest old) (join (made_of t.outer) t.parts), arity-join (made_of t.outer) t.parts, t.state.innermost.number)
 
 -- ---- a mark is placed, and the child is entered
 
@@ -317,59 +289,65 @@ entered {l = l} {old = old} {now = now} {at = at} {cells = cells} {popped = popp
     let base = forest old in
     let made = join (made_of n.outer) (join n.parts m.parts) in
     let t = tree n.label n.below empty in
-    let whole : forest after ≡ join base made = m.whole ∙ ap (λ (g : Forest). join g m.parts) n.whole ∙ marked base (made_of n.outer) n.parts m.parts in
+    let whole : forest after ≡ join base made = m.whole ∙ ap (λ (g : Forest). join g m.parts) n.state.whole ∙ marked base (made_of n.outer) n.parts m.parts in
+    let own = n.state.innermost in
     let c = visit_of (node_of n.label n.below) in
     let first : get_or cells at d ≡ c = first_is cells (map visit_of (flatten n.below ++ (flatten n.rest ++ nodes_left n.outer))) at c d n.cells_are in
     let stands_in : IsAround around = subst IsAround (sym a) (stands_around frame.place (root_kind (plain t)) (deciding_kind frame.place (plain t))) in
-    let x = fresh base made n.label n.below around begin (b ∙ used_forest after st ∙ ap bytes_in whole) (n.innermost.expressions.0, n.innermost.expressions.1, tt) (n.innermost.known.0, n.innermost.known.1, tt) stands_in in
-    let outer_owed : Owed = record { frame = frame_behind frame marks_placed; source = n.source; parts = join n.parts m.parts; rest = n.rest } in
+    let x = fresh base made n.label n.below around begin (b ∙ used_forest after st ∙ ap bytes_in whole) (own.expressions.0, own.expressions.1, tt) (own.known.0, own.known.1, tt) stands_in in
+    let behind = frame_behind frame marks_placed in
+    let fresh_one = fresh_owed n.label n.below around begin in
+    let face = within (around_of frame.place (plain t)) (layout (plain t)) in
+    let outer_owed : Owed = record { frame = behind; source = n.source; parts = join n.parts m.parts; rest = n.rest } in
     let rest_parts = parts_from (next_place frame.place) (plains n.rest) in
     let placed_marks = marks (mark_before frame.place) in
-    let child : finished (fresh_owed n.label n.below around begin) (parts_left (fresh_owed n.label n.below around begin)) ≡ within (around_of frame.place (plain t)) (layout (plain t)) = x.drawing ∙ ap (λ (y : Option Kind). within y (layout (plain t))) a in
+    let child : finished fresh_one (parts_left fresh_one) ≡ face = x.drawing ∙ ap (λ (y : Option Kind). within y (layout (plain t))) a in
     let mark_count : count_parts placed_marks ≡ arity m.parts = ap count_parts (sym m.drawings_are) ∙ count-drawings m.parts in
     let long : arity n.parts + 0 + count_parts (parts_from frame.place (plains (tree n.label n.below n.rest))) ≡ arity (join n.parts m.parts) + 1 + count_parts rest_parts
-    = omega (arith, arity-join n.parts m.parts, count-join placed_marks (beside (within (around_of frame.place (plain t)) (layout (plain t))) rest_parts), mark_count) in
-    let sizes : parts_sizes (parts_from frame.place (plains (tree n.label n.below n.rest))) ≡ around_sizes (mark_before frame.place) ++ (part_sizes (within (around_of frame.place (plain t)) (layout (plain t))) ++ parts_sizes rest_parts)
-    = sizes-join placed_marks (beside (within (around_of frame.place (plain t)) (layout (plain t))) rest_parts) ∙ ap (λ (y : List ℕ). y ++ (part_sizes (within (around_of frame.place (plain t)) (layout (plain t))) ++ parts_sizes rest_parts)) (sizes-marks frame.place) in
-    let child_sizes : part_sizes (within (around_of frame.place (plain t)) (layout (plain t))) ≡ parts_sizes (parts_left (fresh_owed n.label n.below around begin)) ++ root_sizes n.label.payload around
+    = omega (arith, arity-join n.parts m.parts, count-join placed_marks (beside face rest_parts), mark_count) in
+    let sizes : parts_sizes (parts_from frame.place (plains (tree n.label n.below n.rest))) ≡ around_sizes (mark_before frame.place) ++ (part_sizes face ++ parts_sizes rest_parts)
+    = sizes-join placed_marks (beside face rest_parts) ∙ ap (λ (y : List ℕ). y ++ (part_sizes face ++ parts_sizes rest_parts)) (sizes-marks frame.place) in
+    let child_sizes : part_sizes face ≡ parts_sizes (parts_left fresh_one) ++ root_sizes n.label.payload around
     = ap (λ (y : Option Kind). part_sizes (within y (layout (plain t)))) (sym a) ∙ x.sizes in
     let tail = root_sizes n.source frame.around ++ sizes_left n.outer in
     record {
-      inner = fresh_owed n.label n.below around begin;
+      inner = fresh_one;
       outer = outer_owed ∷ n.outer;
-      frames_are = f ∙ ap (λ (y : Visit). (popped ++ frame_behind frame marks_placed ∷ []) ++ frame_of y around begin ∷ []) first ∙ ap (λ (y : List Frame). (y ++ frame_behind frame marks_placed ∷ []) ++ frame_of c around begin ∷ []) n.popped_is;
-      whole = whole ∙ ap (join base) (sym (join-empty made));
-      cells_are = others_are cells (map visit_of (flatten n.below ++ (flatten n.rest ++ nodes_left n.outer))) at c n.cells_are;
-      innermost = x.owed;
-      others = (
-        record {
-          left = omega (arith, n.innermost.left);
-          begin = n.innermost.begin;
-          number = omega (arith, n.innermost.number, arity-join n.parts m.parts, m.number);
-          once = all-join IsOnce n.parts m.parts n.innermost.once m.once;
-          composed_parts = all-join IsComposed n.parts m.parts n.innermost.composed_parts m.composed_whole;
-          expressions = n.innermost.expressions.2;
-          known = n.innermost.known.2;
-          live = n.innermost.live;
-          source_is = n.innermost.source_is;
-          composed_whole = ap (composes (laid n.source)) (sym long) ∙ n.innermost.composed_whole;
-          around = n.innermost.around;
-        },
-        n.others,
-      );
-      layout_is = ap (λ (y : Layouts). plugged n.outer (within frame.around (drawn (laid n.source) y)))
-          (ap (λ (y : Layouts). join_parts y (beside (finished (fresh_owed n.label n.below around begin) (parts_left (fresh_owed n.label n.below around begin))) rest_parts)) (drawings-join n.parts m.parts ∙ ap (join_parts (drawings n.parts)) m.drawings_are)
-          ∙ join_parts-assoc (drawings n.parts) placed_marks (beside (finished (fresh_owed n.label n.below around begin) (parts_left (fresh_owed n.label n.below around begin))) rest_parts)
-          ∙ ap (λ (y : Layout). join_parts (drawings n.parts) (join_parts placed_marks (beside y rest_parts))) child)
-          ∙ n.layout_is;
-      budget = n.budget ∙ ap (λ (y : List ℕ). taking (free_of now) (y ++ tail)) sizes
-          ∙ ap (taking (free_of now)) (append_assoc (around_sizes (mark_before frame.place)) (part_sizes (within (around_of frame.place (plain t)) (layout (plain t))) ++ parts_sizes rest_parts) tail)
-          ∙ taken_first (free_of now) (free_of after) (around_sizes (mark_before frame.place)) ((part_sizes (within (around_of frame.place (plain t)) (layout (plain t))) ++ parts_sizes rest_parts) ++ tail) room
-          ∙ ap (λ (y : List ℕ). taking (free_of after) ((y ++ parts_sizes rest_parts) ++ tail)) child_sizes
-          ∙ ap (taking (free_of after)) (regroup (parts_sizes (parts_left (fresh_owed n.label n.below around begin))) (root_sizes n.label.payload around) (parts_sizes rest_parts) tail);
-      keeps = keeps_after old now after n.keeps kept;
-      stands = st;
-      short = omega (arith, ap length f, length-append (popped ++ frame_behind frame marks_placed ∷ []) (frame_of (get_or cells at d) around begin ∷ []), length-append popped (frame_behind frame marks_placed ∷ []), n.short);
+      frames_are = f ∙ ap (λ (y : Visit). (popped ++ behind ∷ []) ++ frame_of y around begin ∷ []) first ∙ ap (λ (y : List Frame). (y ++ behind ∷ []) ++ frame_of c around begin ∷ []) n.popped_is;
+      state = record {
+        whole = whole ∙ ap (join base) (sym (join-empty made));
+        cells_are = others_are cells (map visit_of (flatten n.below ++ (flatten n.rest ++ nodes_left n.outer))) at c n.cells_are;
+        innermost = x.owed;
+        others = (
+          record {
+            left = omega (arith, own.left);
+            begin = own.begin;
+            number = omega (arith, own.number, arity-join n.parts m.parts, m.number);
+            once = all-join IsOnce n.parts m.parts own.once m.once;
+            composed_parts = all-join IsComposed n.parts m.parts own.composed_parts m.composed_whole;
+            expressions = own.expressions.2;
+            known = own.known.2;
+            live = own.live;
+            source_is = own.source_is;
+            composed_whole = ap (composes (laid n.source)) (sym long) ∙ own.composed_whole;
+            around = own.around;
+          },
+          n.state.others,
+        );
+        layout_is = ap (λ (y : Layouts). plugged n.outer (within frame.around (drawn (laid n.source) y)))
+            (ap (λ (y : Layouts). join_parts y (beside (finished fresh_one (parts_left fresh_one)) rest_parts)) (drawings-join n.parts m.parts ∙ ap (join_parts (drawings n.parts)) m.drawings_are)
+            ∙ join_parts-assoc (drawings n.parts) placed_marks (beside (finished fresh_one (parts_left fresh_one)) rest_parts)
+            ∙ ap (λ (y : Layout). join_parts (drawings n.parts) (join_parts placed_marks (beside y rest_parts))) child)
+            ∙ n.state.layout_is;
+        budget = n.state.budget ∙ ap (λ (y : List ℕ). taking (free_of now) (y ++ tail)) sizes
+            ∙ ap (taking (free_of now)) (append_assoc (around_sizes (mark_before frame.place)) (part_sizes face ++ parts_sizes rest_parts) tail)
+            ∙ taken_first (free_of now) (free_of after) (around_sizes (mark_before frame.place)) ((part_sizes face ++ parts_sizes rest_parts) ++ tail) room
+            ∙ ap (λ (y : List ℕ). taking (free_of after) ((y ++ parts_sizes rest_parts) ++ tail)) child_sizes
+            ∙ ap (taking (free_of after)) (regroup (parts_sizes (parts_left fresh_one)) (root_sizes n.label.payload around) (parts_sizes rest_parts) tail);
+        keeps = keeps_after old now after n.state.keeps kept;
+        stands = st;
+        short = omega (arith, length-append (frames_of n.outer) (behind ∷ []), n.state.short);
+      };
     }
 
 -- ---- a node is closed
@@ -411,64 +389,51 @@ pub record IsClosing (l : Layout) (old now : State) (popped : List Frame) (frame
   pub parts : Forest
   pub outer : List Owed
   pub popped_is : popped ≡ frames_of outer
-  pub whole : forest now ≡ join (join (forest old) (made_of outer)) parts
-  pub number : frame.parts ≡ arity parts
-  pub cells_are : drop at cells ≡ map visit_of (nodes_left outer)
-  pub innermost : IsOwed (forest old) (made_of outer) 0 (record { frame = frame; source = source; parts = parts; rest = empty })
-  pub others : AreOwed (forest old) 1 outer
-  pub layout_is : plugged outer (within frame.around (drawn (laid source) (drawings parts))) ≡ l
-  pub budget : taking (free_of old) (part_sizes l) ≡ taking (free_of now) (root_sizes source frame.around ++ sizes_left outer)
-  pub keeps : KeepsRefusals old now
-  pub stands : Stands now
-  pub short : length popped + 1 ≤ at
-  pub composed : composes (laid source) (arity parts) ≡ true
+  pub state : IsState l old now at cells (owed_of frame source parts empty) outer
 
 pub closing : {l : Layout} {old now : State} {at : ℕ} {cells : List Visit} {popped : List Frame} {frame : Frame} → IsTop l old now at cells popped frame → frame.left ≡ 0 → IsClosing l old now popped frame at cells
-closing {l = l} {old = old} {now = now} {at = at} {cells = cells} {popped = popped} {frame = frame} t z = by t.rest t.cells_are t.innermost t.layout_is t.budget
+closing {l = l} {old = old} {now = now} {at = at} {cells = cells} {popped = popped} {frame = frame} t z = by t.rest t.state
   where
-    by : (rest : Forest) → drop at cells ≡ map visit_of (flatten rest ++ nodes_left t.outer) → IsOwed (forest old) (made_of t.outer) 0 (record { frame = frame; source = t.source; parts = t.parts; rest = rest })
-        → plugged t.outer (within frame.around (drawn (laid t.source) (join_parts (drawings t.parts) (parts_from frame.place (plains rest))))) ≡ l
-        → taking (free_of old) (part_sizes l) ≡ taking (free_of now) (parts_sizes (parts_from frame.place (plains rest)) ++ (root_sizes t.source frame.around ++ sizes_left t.outer)) → IsClosing l old now popped frame at cells
-    by (tree m k r) c o d b = absurd (omega (arith, o.left, z))
-    by empty c o d b = record {
-      source = t.source;
-      parts = t.parts;
-      outer = t.outer;
-      popped_is = t.popped_is;
-      whole = t.whole ∙ sym (join_assoc (forest old) (made_of t.outer) t.parts);
-      number = omega (arith, o.number);
-      cells_are = c;
-      innermost = o;
-      others = t.others;
-      layout_is = ap (λ (y : Layouts). plugged t.outer (within frame.around (drawn (laid t.source) y))) (sym (join_parts-nothing (drawings t.parts))) ∙ d;
-      budget = b;
-      keeps = t.keeps;
-      stands = t.stands;
-      short = t.short;
-      composed = ap (composes (laid t.source)) (let same : arity t.parts ≡ arity t.parts + 0 + 0 = omega arith in same) ∙ o.composed_whole;
-    }
+    by : (rest : Forest) → IsState l old now at cells (owed_of frame t.source t.parts rest) t.outer → IsClosing l old now popped frame at cells
+    by (tree m k r) x = absurd (omega (arith, x.innermost.left, z))
+    by empty x = record { source = t.source; parts = t.parts; outer = t.outer; popped_is = t.popped_is; state = x }
 
 module _ {l : Layout} {old now : State} {at : ℕ} {cells : List Visit} {popped : List Frame} {frame : Frame} (k : IsClosing l old now popped frame at cells) where
+  own : IsOwed (forest old) (made_of k.outer) 0 (owed_of frame k.source k.parts empty)
+  own = k.state.innermost
+
+  whole : forest now ≡ join (join (forest old) (made_of k.outer)) k.parts
+  whole = k.state.whole ∙ sym (join_assoc (forest old) (made_of k.outer) k.parts)
+
+  number : frame.parts ≡ arity k.parts
+  number = omega (arith, own.number)
+
+  drawing : plugged k.outer (within frame.around (drawn (laid k.source) (drawings k.parts))) ≡ l
+  drawing = ap (λ (y : Layouts). plugged k.outer (within frame.around (drawn (laid k.source) y))) (sym (join_parts-nothing (drawings k.parts))) ∙ k.state.layout_is
+
+  composed : composes (laid k.source) (arity k.parts) ≡ true
+  composed = ap (composes (laid k.source)) (let same : arity k.parts ≡ arity k.parts + 0 + 0 = omega arith in same) ∙ own.composed_whole
+
   pub close_live : holds frame.id (forest now) ≡ true
-  close_live = ap (holds frame.id) (k.whole ∙ join_assoc (forest old) (made_of k.outer) k.parts) ∙ holds-left frame.id (forest old) (join (made_of k.outer) k.parts) k.innermost.live
+  close_live = ap (holds frame.id) k.state.whole ∙ holds-left frame.id (forest old) (join (made_of k.outer) k.parts) own.live
 
   pub close_source : payload_in frame.id (forest now) ≡ k.source
-  close_source = ap (payload_in frame.id) (k.whole ∙ join_assoc (forest old) (made_of k.outer) k.parts) ∙ ap root_payload (tree_at-join_left frame.id (forest old) (join (made_of k.outer) k.parts) k.innermost.live) ∙ k.innermost.source_is
+  close_source = ap (payload_in frame.id) k.state.whole ∙ ap root_payload (tree_at-join_left frame.id (forest old) (join (made_of k.outer) k.parts) own.live) ∙ own.source_is
 
   pub close_few : frame.parts ≤ arity (forest now)
-  close_few = omega (arith, k.number, ap arity k.whole, arity-join (join (forest old) (made_of k.outer)) k.parts)
+  close_few = omega (arith, number, ap arity whole, arity-join (join (forest old) (made_of k.outer)) k.parts)
 
   pub close_before : before_last frame.parts (forest now) ≡ join (forest old) (made_of k.outer)
-  close_before = ap (before_last frame.parts) k.whole ∙ before_last-join frame.parts (join (forest old) (made_of k.outer)) k.parts k.number
+  close_before = ap (before_last frame.parts) whole ∙ before_last-join frame.parts (join (forest old) (made_of k.outer)) k.parts number
 
   pub close_last : last_trees frame.parts (forest now) ≡ k.parts
-  close_last = ap (last_trees frame.parts) k.whole ∙ last_trees-join frame.parts (join (forest old) (made_of k.outer)) k.parts k.number
+  close_last = ap (last_trees frame.parts) whole ∙ last_trees-join frame.parts (join (forest old) (made_of k.outer)) k.parts number
 
   pub close_begin : frame.begin ≡ bytes_in (before_last frame.parts (forest now))
-  close_begin = k.innermost.begin ∙ ap bytes_in (sym close_before)
+  close_begin = own.begin ∙ ap bytes_in (sym close_before)
 
   pub close_leaf : is_leaf (payload_in frame.id (forest now)) ≡ true → frame.parts ≡ 0
-  close_leaf h = k.number ∙ no_parts k.source (arity k.parts) (ap is_leaf (sym close_source) ∙ h) k.composed
+  close_leaf h = number ∙ no_parts k.source (arity k.parts) (ap is_leaf (sym close_source) ∙ h) composed
 
   closed_whole : (after : State) (id : ℕ) (c : Closes (payload_in frame.id (forest now)) frame.around frame.parts (forest now) (forest after) id)
       → Ends id (held_in frame.around id (one_tree c.root (laid k.source) k.parts)) (join (forest old) (made_of k.outer)) (forest after)
@@ -479,13 +444,13 @@ module _ {l : Layout} {old now : State} {at : ℕ} {cells : List Visit} {popped 
 
   -- nothing is left
   pub closed_all : (after : State) (id : ℕ) → popped ≡ [] → Closes (payload_in frame.id (forest now)) frame.around frame.parts (forest now) (forest after) id → GivesLayout (forest old) (forest after) id l
-  closed_all after id empty_list c = by k.outer k.popped_is k.layout_is (closed_whole after id c)
+  closed_all after id empty_list c = by k.outer k.popped_is drawing (closed_whole after id c)
     where
       by : (outer : List Owed) → popped ≡ frames_of outer → plugged outer (within frame.around (drawn (laid k.source) (drawings k.parts))) ≡ l
           → Ends id (held_in frame.around id (one_tree c.root (laid k.source) k.parts)) (join (forest old) (made_of outer)) (forest after) → GivesLayout (forest old) (forest after) id l
       by (o ∷ os) p d e = absurd (omega (arith, ap length (sym empty_list ∙ p), length-append (frames_of os) (o.frame ∷ [])))
       by [] p d e =
-          let t = closed_is frame.around id c.root k.source k.parts k.innermost.once k.innermost.composed_parts k.composed k.innermost.around in
+          let t = closed_is frame.around id c.root k.source k.parts own.once own.composed_parts composed own.around in
           record {
             tree = held_in frame.around id (one_tree c.root (laid k.source) k.parts);
             ends = ends_as e refl (join-empty (forest old));
@@ -504,43 +469,45 @@ module _ {l : Layout} {old now : State} {at : ℕ} {cells : List Visit} {popped 
   -- something is left
   pub closed_one : (after : State) (id : ℕ) → 0 < length popped → Closes (payload_in frame.id (forest now)) frame.around frame.parts (forest now) (forest after) id → KeepsRefusals now after
       → taking (free_of now) (root_sizes (payload_in frame.id (forest now)) frame.around) ≡ Ok (free_of after) → Stands after → IsUnderWay l old after at cells popped
-  closed_one after id some c kept room st = by k.outer k.popped_is k.cells_are k.others k.layout_is (closed_whole after id c) (left_sizes after room)
+  closed_one after id some c kept room st = by k.outer k.popped_is k.state.cells_are k.state.others drawing (closed_whole after id c) (left_sizes after room)
     where
       by : (outer : List Owed) → popped ≡ frames_of outer → drop at cells ≡ map visit_of (nodes_left outer) → AreOwed (forest old) 1 outer → plugged outer (within frame.around (drawn (laid k.source) (drawings k.parts))) ≡ l
           → Ends id (held_in frame.around id (one_tree c.root (laid k.source) k.parts)) (join (forest old) (made_of outer)) (forest after)
           → taking (free_of old) (part_sizes l) ≡ taking (free_of after) (sizes_left outer) → IsUnderWay l old after at cells popped
       by [] p n o d e b = absurd (omega (arith, ap length p, some))
       by (o ∷ os) p n w d e b =
-          let t = closed_is frame.around id c.root k.source k.parts k.innermost.once k.innermost.composed_parts k.composed k.innermost.around in
+          let t = closed_is frame.around id c.root k.source k.parts own.once own.composed_parts composed own.around in
           let tree_made = held_in frame.around id (one_tree c.root (laid k.source) k.parts) in
           let child = within frame.around (drawn (laid k.source) (drawings k.parts)) in
           record {
             inner = record { frame = o.frame; source = o.source; parts = join o.parts tree_made; rest = o.rest };
             outer = os;
             frames_are = p;
-            whole = e.whole ∙ join_assoc (forest old) (join (made_of os) o.parts) tree_made ∙ ap (join (forest old)) (join_assoc (made_of os) o.parts tree_made);
-            cells_are = n;
-            innermost = record {
-              left = w.0.left;
-              begin = w.0.begin;
-              number = omega (arith, w.0.number, arity-join o.parts tree_made, t.alone);
-              once = all-join IsOnce o.parts tree_made w.0.once t.once;
-              composed_parts = all-join IsComposed o.parts tree_made w.0.composed_parts t.composed_whole;
-              expressions = w.0.expressions;
-              known = w.0.known;
-              live = w.0.live;
-              source_is = w.0.source_is;
-              composed_whole = ap (λ (n : ℕ). composes (laid o.source) (n + count_parts (parts_left o))) (let same : arity (join o.parts tree_made) + 0 ≡ arity o.parts + 1 = omega (arith, arity-join o.parts tree_made, t.alone) in same) ∙ w.0.composed_whole;
-              around = w.0.around;
+            state = record {
+              whole = e.whole ∙ join_assoc (forest old) (join (made_of os) o.parts) tree_made ∙ ap (join (forest old)) (join_assoc (made_of os) o.parts tree_made);
+              cells_are = n;
+              innermost = record {
+                left = w.0.left;
+                begin = w.0.begin;
+                number = omega (arith, w.0.number, arity-join o.parts tree_made, t.alone);
+                once = all-join IsOnce o.parts tree_made w.0.once t.once;
+                composed_parts = all-join IsComposed o.parts tree_made w.0.composed_parts t.composed_whole;
+                expressions = w.0.expressions;
+                known = w.0.known;
+                live = w.0.live;
+                source_is = w.0.source_is;
+                composed_whole = ap (λ (n : ℕ). composes (laid o.source) (n + count_parts (parts_left o))) (let same : arity (join o.parts tree_made) + 0 ≡ arity o.parts + 1 = omega (arith, arity-join o.parts tree_made, t.alone) in same) ∙ w.0.composed_whole;
+                around = w.0.around;
+              };
+              others = w.1;
+              layout_is = ap (λ (y : Layouts). plugged os (within o.frame.around (drawn (laid o.source) y)))
+                  (ap (λ (y : Layouts). join_parts y (parts_left o)) (drawings-join o.parts tree_made ∙ ap (join_parts (drawings o.parts)) t.drawing_is) ∙ join_parts-assoc (drawings o.parts) (one_part child) (parts_left o))
+                  ∙ d;
+              budget = b;
+              keeps = keeps_after old now after k.state.keeps kept;
+              stands = st;
+              short = omega (arith, k.state.short, ap length (sym k.popped_is ∙ p), length-append (frames_of os) (o.frame ∷ []));
             };
-            others = w.1;
-            layout_is = ap (λ (y : Layouts). plugged os (within o.frame.around (drawn (laid o.source) y)))
-                (ap (λ (y : Layouts). join_parts y (parts_left o)) (drawings-join o.parts tree_made ∙ ap (join_parts (drawings o.parts)) t.drawing_is) ∙ join_parts-assoc (drawings o.parts) (one_part child) (parts_left o))
-                ∙ d;
-            budget = b;
-            keeps = keeps_after old now after k.keeps kept;
-            stands = st;
-            short = omega (arith, k.short);
           }
 
   -- ---- a refusal

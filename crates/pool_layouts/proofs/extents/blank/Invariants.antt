@@ -1,4 +1,4 @@
-use Rattle.std.proofs.Common.{◌≡◌, ◌≤◌, length, vec_capacity}
+use Rattle.pool_layouts.proofs.Shared.{◌≡◌, ◌≤◌, length, vec_capacity}
 use Rattle.pool_layouts.proofs.extents.blank.Given as goal
 
 abbrev pub invariant-loop : goal.invariant-loop

@@ -1,5 +1,4 @@
-use Rattle.std.proofs.Common.{ap, length}
-use Rattle.pool_layouts.proofs.Shared.{digits_are}
+use Rattle.pool_layouts.proofs.Shared.{ap, length, digits_are}
 use Rattle.pool_layouts.proofs.extents.digits.Goals as goal
 
 pub returns : goal.returns

@@ -1,6 +1,4 @@
-use Rattle.std.proofs.Common.{sym, subst, arith}
-use Rattle.pool_layouts.proofs.Shared.{IsSmall}
-use Rattle.pool_layouts.proofs.Measures.{first_read, first_within, first_small}
+use Rattle.pool_layouts.proofs.{Shared.{sym, subst, arith, IsSmall}, Measures.{first_read, first_within, first_small}}
 use Rattle.pool_layouts.proofs.extents.extent_at.Goals as goal
 
 pub offset_bounds-extents-at : goal.offset_bounds-extents-at

@@ -1,5 +1,4 @@
-use Rattle.std.proofs.Common.{◌∙◌, ap, refl, sym}
-use Rattle.pool_layouts.proofs.Shared.{empty, tree, payload_in, forest, Extent}
+use Rattle.pool_layouts.proofs.Shared.{◌∙◌, ap, refl, sym, empty, tree, payload_in, forest, Extent}
 use Rattle.pool_layouts.proofs.Measures.{over_one, over_two, pair_over, one_extent, two_extent, raised_is, radical_is, paren_is, fraction_is, row_is, leaf_extent}
 use Rattle.calc_terms.specs.declared.kind.Kind.TheVariants as kind
 use Rattle.pool_layouts.proofs.extents.extent_over.Goals as goal

@@ -1,6 +1,4 @@
-use Rattle.std.proofs.Common.{◌≡◌, ◌≤◌, length}
-use Rattle.pool_layouts.proofs.Shared.{tree_at, forest, HasExtents}
-use Rattle.pool_layouts.proofs.Suffixes.{after}
+use Rattle.pool_layouts.proofs.{Shared.{◌≡◌, ◌≤◌, length, tree_at, forest, HasExtents}, Suffixes.after}
 use Rattle.pool_layouts.proofs.extents.measure.Given as goal
 
 abbrev pub invariant-loop-at : goal.invariant-loop-at

@@ -1,5 +1,4 @@
-use Rattle.std.proofs.Common.{◌+◌, refl, arith}
-use Rattle.pool_layouts.proofs.RowExtents.{gathering_start, row_small, next_part, part_within, gathered_more, gathered_all}
+use Rattle.pool_layouts.proofs.{Shared.{◌+◌, refl, arith}, RowExtents.{gathering_start, row_small, next_part, part_within, gathered_more, gathered_all}}
 use Rattle.pool_layouts.proofs.extents.row_extent.Goals as goal
 
 pub loop-init : goal.loop-init

@@ -1,6 +1,4 @@
-use Rattle.std.proofs.Common.{◌≡◌}
-use Rattle.pool_layouts.proofs.Shared.{Forest, arity, HasSmall}
-use Rattle.pool_layouts.proofs.RowExtents.{IsGathering}
+use Rattle.pool_layouts.proofs.{Shared.{◌≡◌, Forest, arity, HasSmall}, RowExtents.IsGathering}
 use Rattle.pool_layouts.proofs.extents.row_extent.Given as goal
 
 abbrev pub invariant-loop : goal.invariant-loop

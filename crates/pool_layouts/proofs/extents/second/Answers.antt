@@ -1,6 +1,4 @@
-use Rattle.std.proofs.Common.{◌+◌, ℕ, suc, ap, sym, subst, arith}
-use Rattle.pool_layouts.proofs.Shared.{tree, nodes_in, Extent, HasSmall, HasSomeFirst}
-use Rattle.pool_layouts.proofs.Measures.{behind_first, first_within}
+use Rattle.pool_layouts.proofs.{Shared.{◌+◌, ℕ, suc, ap, sym, subst, arith, tree, nodes_in, Extent, HasSmall, HasSomeFirst}, Measures.{behind_first, first_within}}
 use Rattle.pool_layouts.proofs.extents.second.Goals as goal
 
 pub extent_at-requires-clause-some : goal.extent_at-requires-clause-some

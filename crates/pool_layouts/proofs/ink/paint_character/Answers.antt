@@ -1,6 +1,4 @@
-use Rattle.std.proofs.Common.{◌∙◌, length, replicate, ℕ, ap, arith}
-use Rattle.pool_layouts.proofs.Shared.{length-append, length-replicate, Content, extended}
-use Rattle.pool_layouts.proofs.Inks.{extended_twice}
+use Rattle.pool_layouts.proofs.{Shared.{◌∙◌, length, replicate, ℕ, ap, arith, length-append, length-replicate, Content, extended}, Inks.extended_twice}
 use Rattle.pool_layouts.proofs.ink.paint_character.Goals as goal
 
 pub push-requires : goal.push-requires

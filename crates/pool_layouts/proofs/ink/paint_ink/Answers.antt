@@ -1,7 +1,6 @@
-use Rattle.std.proofs.Common.{◌≤◌, ◌∙◌, ℕ, length, replicate, encode_utf8_all, codes, ap, sym, subst, arith}
-use Rattle.pool_layouts.proofs.Shared.{length-append, length-replicate, root_sign, Content, extended, spare_of, payload_in, forest, Ink, IsInk, ink_characters, leaf_characters, inked, blanks_left, leaf_bytes, root_character}
-use Rattle.pool_layouts.proofs.Inks.{leaf_inked, none_owed, bar_inked, character_inked, extended_twice}
-use Rattle.pool_layouts.proofs.Lines.{root_encoded, small_bytes}
+use Rattle.pool_layouts.proofs.Shared.{rules, ◌≤◌, ◌∙◌, ℕ, length, replicate, encode_utf8_all, codes, ap, sym, subst, arith, length-append, length-replicate, root_sign, Content}
+use Rattle.pool_layouts.proofs.Shared.{extended, spare_of, payload_in, forest, Ink, IsInk, ink_characters, leaf_characters, inked, blanks_left, leaf_bytes, root_character}
+use Rattle.pool_layouts.proofs.{Inks.{leaf_inked, none_owed, bar_inked, character_inked, extended_twice}, Lines.{root_encoded, small_bytes}}
 use Rattle.pool_layouts.specs.declared.ink.Ink.TheVariants as inks
 use Rattle.pool_layouts.proofs.ink.paint_ink.Goals as goal
 
@@ -12,36 +11,25 @@ repeat-requires c =
     let room = subst (λ (x : Ink). length (encode_utf8_all (inked c.args.blanks (ink_characters (forest c.args.pool.now) x))) ≤ spare_of c.args.text.now) c.in-Leaf.is c.requires.room in
     omega (arith, room, ap length (leaf_inked (forest c.args.pool.now) c.in-Leaf.node c.args.blanks h), length-append (replicate c.args.blanks 32) leaf, length-replicate {A = ℕ} c.args.blanks 32)
 
-pub write_leaf-requires-clause-live : goal.write_leaf-requires-clause-live
-write_leaf-requires-clause-live c = let h : IsInk (forest c.args.pool.now) (inks.Leaf c.in-Leaf.node) = subst (IsInk (forest c.args.pool.now)) c.in-Leaf.is c.requires.ink in h.0
-
-pub write_leaf-requires-clause-room : goal.write_leaf-requires-clause-room
-write_leaf-requires-clause-room c =
+pub write_leaf-requires : goal.write_leaf-requires
+write_leaf-requires c =
     let h : IsInk (forest c.args.pool.now) (inks.Leaf c.in-Leaf.node) = subst (IsInk (forest c.args.pool.now)) c.in-Leaf.is c.requires.ink in
     let leaf = leaf_bytes (payload_in c.in-Leaf.node (forest c.args.pool.now)) in
     let room = subst (λ (x : Ink). length (encode_utf8_all (inked c.args.blanks (ink_characters (forest c.args.pool.now) x))) ≤ spare_of c.args.text.now) c.in-Leaf.is c.requires.room in
-    omega (
-      arith,
-      room,
-      ap length (leaf_inked (forest c.args.pool.now) c.in-Leaf.node c.args.blanks h),
-      length-append (replicate c.args.blanks 32) leaf,
-      length-replicate {A = ℕ} c.args.blanks 32,
-      ap (λ (x : Content). length x.bytes) c.repeat.ensures,
-      ap (λ (x : Content). x.capacity) c.repeat.ensures,
-      length-append c.args.text.now.bytes (replicate {A = ℕ} c.args.blanks 32),
-    )
+    record {
+      live = h.0;
+      room = omega (arith, room, ap length (leaf_inked (forest c.args.pool.now) c.in-Leaf.node c.args.blanks h), length-append (replicate c.args.blanks 32) leaf, length-replicate {A = ℕ} c.args.blanks 32, ap (λ (x : Content). length x.bytes) c.repeat.ensures, ap (λ (x : Content). x.capacity) c.repeat.ensures, length-append c.args.text.now.bytes (replicate {A = ℕ} c.args.blanks 32));
+      stands = search rules;
+    }
 
-pub returns-in-Leaf-clause-text : goal.returns-in-Leaf-clause-text
-returns-in-Leaf-clause-text c =
+pub returns-in-Leaf : goal.returns-in-Leaf
+returns-in-Leaf c =
     let h : IsInk (forest c.args.pool.now) (inks.Leaf c.in-Leaf.node) = subst (IsInk (forest c.args.pool.now)) c.in-Leaf.is c.requires.ink in
     let leaf = leaf_bytes (payload_in c.in-Leaf.node (forest c.args.pool.now)) in
-    c.write_leaf.ensures ∙ ap (λ (x : Content). extended x leaf) c.repeat.ensures ∙ extended_twice c.args.text.now (replicate c.args.blanks 32) leaf
-    ∙ ap (extended c.args.text.now) (sym (leaf_inked (forest c.args.pool.now) c.in-Leaf.node c.args.blanks h) ∙ ap (λ (x : Ink). encode_utf8_all (inked c.args.blanks (ink_characters (forest c.args.pool.now) x))) (sym c.in-Leaf.is))
-
-pub returns-in-Leaf-clause-blanks : goal.returns-in-Leaf-clause-blanks
-returns-in-Leaf-clause-blanks c =
-    let h : IsInk (forest c.args.pool.now) (inks.Leaf c.in-Leaf.node) = subst (IsInk (forest c.args.pool.now)) c.in-Leaf.is c.requires.ink in
-    sym (ap (λ (x : Ink). blanks_left c.args.blanks (ink_characters (forest c.args.pool.now) x)) c.in-Leaf.is ∙ none_owed c.args.blanks (leaf_characters (payload_in c.in-Leaf.node (forest c.args.pool.now))) h.2)
+    record {
+      text = c.write_leaf.ensures ∙ ap (λ (x : Content). extended x leaf) c.repeat.ensures ∙ extended_twice c.args.text.now (replicate c.args.blanks 32) leaf ∙ ap (extended c.args.text.now) (sym (leaf_inked (forest c.args.pool.now) c.in-Leaf.node c.args.blanks h) ∙ ap (λ (x : Ink). encode_utf8_all (inked c.args.blanks (ink_characters (forest c.args.pool.now) x))) (sym c.in-Leaf.is));
+      blanks = sym (ap (λ (x : Ink). blanks_left c.args.blanks (ink_characters (forest c.args.pool.now) x)) c.in-Leaf.is ∙ none_owed c.args.blanks (leaf_characters (payload_in c.in-Leaf.node (forest c.args.pool.now))) h.2);
+    }
 
 pub paint_bar-requires : goal.paint_bar-requires
 paint_bar-requires c =

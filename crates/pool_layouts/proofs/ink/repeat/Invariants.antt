@@ -1,5 +1,4 @@
-use Rattle.std.proofs.Common.{◌≡◌, replicate}
-use Rattle.pool_layouts.proofs.Shared.{extended}
+use Rattle.pool_layouts.proofs.Shared.{◌≡◌, replicate, extended}
 use Rattle.pool_layouts.proofs.ink.repeat.Given as goal
 
 abbrev pub invariant-loop : goal.invariant-loop

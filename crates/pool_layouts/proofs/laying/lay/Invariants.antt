@@ -1,6 +1,4 @@
-use Rattle.std.proofs.Common.{◌≤◌, ◌-◌, ◌+◌, ◌*◌, length, vec_capacity}
-use Rattle.pool_layouts.proofs.Shared.{plain, tree_at, forest, layout}
-use Rattle.pool_layouts.proofs.UnderWay.{IsUnderWay}
+use Rattle.pool_layouts.proofs.{Shared.{◌≤◌, ◌-◌, ◌+◌, ◌*◌, length, vec_capacity, plain, tree_at, forest, layout}, UnderWay.IsUnderWay}
 use Rattle.pool_layouts.proofs.laying.lay.Given as goal
 
 abbrev pub invariant-loop-frame : goal.invariant-loop-frame

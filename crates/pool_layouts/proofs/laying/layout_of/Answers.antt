@@ -1,6 +1,4 @@
-use Rattle.std.proofs.Common.{ap, arith}
-use Rattle.pool_layouts.proofs.Shared.{few_in, Draft}
-use Rattle.pool_layouts.proofs.Measuring.{nodes_served}
+use Rattle.pool_layouts.proofs.{Shared.{ap, arith, few_in, Draft}, Measuring.nodes_served}
 use Rattle.pool_layouts.proofs.laying.layout_of.Goals as goal
 
 pub list_nodes-requires-clause-room : goal.list_nodes-requires-clause-room

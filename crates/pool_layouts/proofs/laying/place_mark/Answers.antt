@@ -1,5 +1,4 @@
-use Rattle.std.proofs.Common.{◌≡◌, ◌∙◌, Option, Ok, sym, subst, refl}
-use Rattle.pool_layouts.proofs.Shared.{Kind, bare, size_of_payload, free_of, taking, forest, IsStopped, around_sizes, mark_before}
+use Rattle.pool_layouts.proofs.Shared.{◌≡◌, ◌∙◌, Option, Ok, sym, subst, refl, Kind, bare, size_of_payload, free_of, taking, forest, IsStopped, around_sizes, mark_before}
 use Rattle.pool_layouts.proofs.Placing.{no_mark, some_mark, takes_mark, refused_err}
 use Rattle.pool_layouts.proofs.laying.place_mark.Goals as goal
 

@@ -1,5 +1,4 @@
-use Rattle.std.proofs.Common.{◌∙◌, ◌++◌, ◌∷◌, [], List, length, sym, ap, arith, append_assoc, append-nil}
-use Rattle.pool_layouts.proofs.Shared.{length-append, Visit, tree_at, forest, visits_length}
+use Rattle.pool_layouts.proofs.Shared.{◌∙◌, ◌++◌, ◌∷◌, [], List, length, sym, ap, arith, append_assoc, append-nil, length-append, Visit, tree_at, forest, visits_length}
 use Rattle.pool_layouts.proofs.lists.list_nodes.Goals as goal
 
 pub loop-node-init : goal.loop-node-init

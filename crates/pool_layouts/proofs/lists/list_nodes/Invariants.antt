@@ -1,5 +1,4 @@
-use Rattle.std.proofs.Common.{◌≡◌, ◌≤◌, ◌++◌, vec_capacity}
-use Rattle.pool_layouts.proofs.Shared.{tree_at, forest, visits_of}
+use Rattle.pool_layouts.proofs.Shared.{◌≡◌, ◌≤◌, ◌++◌, vec_capacity, tree_at, forest, visits_of}
 use Rattle.pool_layouts.proofs.lists.list_nodes.Given as goal
 
 abbrev pub invariant-loop-node : goal.invariant-loop-node

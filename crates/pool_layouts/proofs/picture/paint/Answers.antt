@@ -1,7 +1,5 @@
-use Rattle.std.proofs.Common.{◌∙◌, ◌++◌, ℕ, List, length, encode_utf8_all, ap, refl, sym, subst, arith}
-use Rattle.std.specs.Prelude.{option_to_list}
-use Rattle.pool_layouts.proofs.Shared.{length-append, Content, extended, forest, Step, cut}
-use Rattle.pool_layouts.proofs.Painted.{IsPainting, painting_start, due, due_room, stepped, lighter_steps, painted, option_short}
+use Rattle.pool_layouts.proofs.Shared.{rules, ◌∙◌, ◌++◌, ℕ, List, length, encode_utf8_all, ap, refl, sym, subst, arith, option_to_list, length-append, Content, extended, forest}
+use Rattle.pool_layouts.proofs.{Shared.{Step, cut}, Painted.{IsPainting, painting_start, due, due_room, stepped, lighter_steps, painted, option_short}}
 use Rattle.line_text.proofs.Walks.{content_is}
 use Rattle.pool_layouts.proofs.picture.paint.Goals as goal
 
@@ -21,18 +19,16 @@ overflow_add-blanks c =
     let s = stepped d (c.open_step-opened.ensures (forest c.args.pool.now) d.cs d.shown) in
     record { fits = omega (arith, s.blanks_few, h.short) }
 
-pub paint_ink-blanks-requires-clause-ink : goal.paint_ink-blanks-requires-clause-ink
-paint_ink-blanks-requires-clause-ink c =
-    let (line, h, room) = c.requires.painting in
-    let d = due c.in-Some.step c.pop.new.self.items (c.loop-step.invariant.painting line h) c.in-Some.ensures.items in
-    (c.open_step-opened.ensures (forest c.args.pool.now) d.cs d.shown).ink_is
-
-pub paint_ink-blanks-requires-clause-room : goal.paint_ink-blanks-requires-clause-room
-paint_ink-blanks-requires-clause-room c =
+pub paint_ink-blanks-requires : goal.paint_ink-blanks-requires
+paint_ink-blanks-requires c =
     let (line, h, room) = c.requires.painting in
     let d = due c.in-Some.step c.pop.new.self.items (c.loop-step.invariant.painting line h) c.in-Some.ensures.items in
     let s = stepped d (c.open_step-opened.ensures (forest c.args.pool.now) d.cs d.shown) in
-    omega (arith, s.bytes_few, s.start_few, room, c.loop-step.invariant.capacity)
+    record {
+      ink = (c.open_step-opened.ensures (forest c.args.pool.now) d.cs d.shown).ink_is;
+      room = omega (arith, s.bytes_few, s.start_few, room, c.loop-step.invariant.capacity);
+      stands = search rules;
+    }
 
 pub push_if-requires : goal.push_if-requires
 push_if-requires c =

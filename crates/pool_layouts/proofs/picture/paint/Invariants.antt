@@ -1,6 +1,4 @@
-use Rattle.std.proofs.Common.{◌≡◌, ◌≤◌, ℕ, List, vec_capacity}
-use Rattle.pool_layouts.proofs.Shared.{forest, IsLine}
-use Rattle.pool_layouts.proofs.Painted.{IsPainting, total_weight}
+use Rattle.pool_layouts.proofs.{Shared.{◌≡◌, ◌≤◌, ℕ, List, vec_capacity, forest, IsLine}, Painted.{IsPainting, total_weight}}
 use Rattle.pool_layouts.proofs.picture.paint.Given as goal
 
 abbrev pub invariant-loop-step : goal.invariant-loop-step

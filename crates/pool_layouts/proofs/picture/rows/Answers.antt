@@ -1,7 +1,5 @@
-use Rattle.std.proofs.Common.{◌∙◌, length, sym, ap, subst, arith}
-use Rattle.pool_layouts.proofs.Shared.{empty, tree_at, forest, few_in, visits_length, Draft, HasExtents}
-use Rattle.pool_layouts.proofs.Measuring.{IsMeasured, measured, measured_first, nodes_served, rows_are}
-use Rattle.pool_layouts.proofs.picture.rows.Goals.{After-as_slice-extents}
+use Rattle.pool_layouts.proofs.Shared.{◌∙◌, length, sym, ap, subst, arith, empty, tree_at, forest, few_in, visits_length, Draft, HasExtents}
+use Rattle.pool_layouts.proofs.{Measuring.{IsMeasured, measured, measured_first, nodes_served, rows_are}, picture.rows.Goals.After-as_slice-extents}
 use Rattle.pool_layouts.proofs.picture.rows.Goals as goal
 
 pub list_nodes-requires-clause-room : goal.list_nodes-requires-clause-room

@@ -1,7 +1,4 @@
-use Rattle.std.proofs.Common.{◌∙◌, ap}
-use Rattle.line_text.proofs.Valid.{valid}
-use Rattle.pool_layouts.proofs.Shared.{tree_at, forest, one_at, extended}
-use Rattle.pool_layouts.proofs.Serials.{written_serial}
+use Rattle.pool_layouts.proofs.{Shared.{◌∙◌, ap, valid, tree_at, forest, one_at, extended}, Serials.written_serial}
 use Rattle.pool_layouts.proofs.serial.write_serial.Goals as goal
 
 pub returns : goal.returns

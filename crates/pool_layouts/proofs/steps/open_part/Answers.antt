@@ -1,7 +1,5 @@
-use Rattle.std.proofs.Common.{◌∙◌, ap, refl, sym, subst, arith}
-use Rattle.pool_layouts.proofs.Shared.{empty, tree, Visit, Opens}
-use Rattle.pool_layouts.proofs.Measures.{over_one, over_two, pair_over}
-use Rattle.pool_layouts.proofs.Opening.{cell_inside, is_over, part_kind, row_opens, raised_opens, radical_opens, paren_opens, fraction_opens, leaf_opens}
+use Rattle.pool_layouts.proofs.{Shared.{rules, ◌∙◌, ap, refl, sym, subst, arith, empty, tree, Visit, Opens}, Measures.{over_one, over_two, pair_over}}
+use Rattle.pool_layouts.proofs.Opening.{cell_inside, is_over, seen_kind, row_opens, raised_opens, radical_opens, paren_opens, fraction_opens, leaf_opens}
 use Rattle.calc_terms.specs.declared.kind.Kind.TheVariants as kind
 use Rattle.pool_layouts.specs.declared.steps.Step.TheVariants as step
 use Rattle.pool_layouts.proofs.steps.open_part.Goals as goal
@@ -21,31 +19,30 @@ extent_at-requires-clause-some c = let (base, (cs, p)) = c.requires.shown in (p.
 pub extent_at-upper-requires-clause-some : goal.extent_at-upper-requires-clause-some
 extent_at-upper-requires-clause-some c =
     let (base, (cs, p)) = c.requires.shown in
-    let t = over_two (is_over p.label p.below p.listed) (part_kind p kind.Fraction c.index-cells-at.result (sym (ap (λ (x : Visit). x.kind) c.index-cells-at.is) ∙ c.in-Fraction.is)) in
+    let t = over_two (is_over p.label p.below p.listed) (seen_kind p kind.Fraction c.index-cells-at.result c.index-cells-at.is c.in-Fraction.is) in
     (t.upper, t.above, tree t.lower t.below empty, t.small)
 
 pub second-requires-clause-some : goal.second-requires-clause-some
 second-requires-clause-some c =
     let (base, (cs, p)) = c.requires.shown in
-    let t = over_two (is_over p.label p.below p.listed) (part_kind p kind.Fraction c.index-cells-at.result (sym (ap (λ (x : Visit). x.kind) c.index-cells-at.is) ∙ c.in-Fraction.is)) in
+    let t = over_two (is_over p.label p.below p.listed) (seen_kind p kind.Fraction c.index-cells-at.result c.index-cells-at.is c.in-Fraction.is) in
     (t.lower, t.below, pair_over t)
 
-pub open_fraction-requires-clause-span : goal.open_fraction-requires-clause-span
-open_fraction-requires-clause-span c = let (base, (cs, p)) = c.requires.shown in omega (arith, cell_inside p.label p.below empty p.listed, c.requires.few_cells)
-
-pub open_fraction-requires-clause-row : goal.open_fraction-requires-clause-row
-open_fraction-requires-clause-row c = let (base, (cs, p)) = c.requires.shown in p.row_small
+pub open_fraction-requires : goal.open_fraction-requires
+open_fraction-requires c =
+    let (base, (cs, p)) = c.requires.shown in
+    record { span = omega (arith, cell_inside p.label p.below empty p.listed, c.requires.few_cells); row = p.row_small; upper = search rules; lower = search rules }
 
 pub extent_at-requires-in-Raised-clause-some : goal.extent_at-requires-in-Raised-clause-some
 extent_at-requires-in-Raised-clause-some c =
     let (base, (cs, p)) = c.requires.shown in
-    let t = over_one kind.Raised (λ n. refl) refl (is_over p.label p.below p.listed) (part_kind p kind.Raised c.index-cells-at.result (sym (ap (λ (x : Visit). x.kind) c.index-cells-at.is) ∙ c.in-Raised.is)) in
+    let t = over_one kind.Raised (λ n. refl) refl (is_over p.label p.below p.listed) (seen_kind p kind.Raised c.index-cells-at.result c.index-cells-at.is c.in-Raised.is) in
     (t.label, t.below, empty, t.small)
 
 pub extent_at-requires-in-Radical-clause-some : goal.extent_at-requires-in-Radical-clause-some
 extent_at-requires-in-Radical-clause-some c =
     let (base, (cs, p)) = c.requires.shown in
-    let t = over_one kind.Radical (λ n. refl) refl (is_over p.label p.below p.listed) (part_kind p kind.Radical c.index-cells-at.result (sym (ap (λ (x : Visit). x.kind) c.index-cells-at.is) ∙ c.in-Radical.is)) in
+    let t = over_one kind.Radical (λ n. refl) refl (is_over p.label p.below p.listed) (seen_kind p kind.Radical c.index-cells-at.result c.index-cells-at.is c.in-Radical.is) in
     (t.label, t.below, empty, t.small)
 
 pub returns-in-Row : goal.returns-in-Row
@@ -54,23 +51,23 @@ returns-in-Row c = λ base cs p.
 
 pub returns-in-Fraction : goal.returns-in-Fraction
 returns-in-Fraction c = λ base cs p.
-    let t = over_two (is_over p.label p.below p.listed) (part_kind p kind.Fraction c.index-cells-at.result (sym (ap (λ (x : Visit). x.kind) c.index-cells-at.is) ∙ c.in-Fraction.is)) in
+    let t = over_two (is_over p.label p.below p.listed) (seen_kind p kind.Fraction c.index-cells-at.result c.index-cells-at.is c.in-Fraction.is) in
     subst (Opens base c.args.cells.now c.args.extents.now (step.Part c.args.span c.args.row) cs) (sym c.open_fraction.ensures)
     (fraction_opens p c.extent_at-upper.result c.second.result t (c.extent_at-upper.ensures.value t.upper t.above (tree t.lower t.below empty) t.small) (c.second.ensures.value t.lower t.below (pair_over t)))
 
 pub returns-in-Raised : goal.returns-in-Raised
 returns-in-Raised c = λ base cs p.
-    let t = over_one kind.Raised (λ n. refl) refl (is_over p.label p.below p.listed) (part_kind p kind.Raised c.index-cells-at.result (sym (ap (λ (x : Visit). x.kind) c.index-cells-at.is) ∙ c.in-Raised.is)) in
+    let t = over_one kind.Raised (λ n. refl) refl (is_over p.label p.below p.listed) (seen_kind p kind.Raised c.index-cells-at.result c.index-cells-at.is c.in-Raised.is) in
     subst (Opens base c.args.cells.now c.args.extents.now (step.Part c.args.span c.args.row) cs) (sym c.open_raised.ensures) (raised_opens p c.extent_at-in-Raised.result t (c.extent_at-in-Raised.ensures.value t.label t.below empty t.small))
 
 pub returns-in-Radical : goal.returns-in-Radical
 returns-in-Radical c = λ base cs p.
-    let t = over_one kind.Radical (λ n. refl) refl (is_over p.label p.below p.listed) (part_kind p kind.Radical c.index-cells-at.result (sym (ap (λ (x : Visit). x.kind) c.index-cells-at.is) ∙ c.in-Radical.is)) in
+    let t = over_one kind.Radical (λ n. refl) refl (is_over p.label p.below p.listed) (seen_kind p kind.Radical c.index-cells-at.result c.index-cells-at.is c.in-Radical.is) in
     subst (Opens base c.args.cells.now c.args.extents.now (step.Part c.args.span c.args.row) cs) (sym c.open_radical.ensures) (radical_opens p c.extent_at-in-Radical.result t (c.extent_at-in-Radical.ensures.value t.label t.below empty t.small))
 
 pub returns-in-Paren : goal.returns-in-Paren
 returns-in-Paren c = λ base cs p.
-    let t = over_one kind.Paren (λ n. refl) refl (is_over p.label p.below p.listed) (part_kind p kind.Paren c.index-cells-at.result (sym (ap (λ (x : Visit). x.kind) c.index-cells-at.is) ∙ c.in-Paren.is)) in
+    let t = over_one kind.Paren (λ n. refl) refl (is_over p.label p.below p.listed) (seen_kind p kind.Paren c.index-cells-at.result c.index-cells-at.is c.in-Paren.is) in
     subst (Opens base c.args.cells.now c.args.extents.now (step.Part c.args.span c.args.row) cs) (sym c.open_paren.ensures) (paren_opens p t)
 
 pub returns-in_default : goal.returns-in_default

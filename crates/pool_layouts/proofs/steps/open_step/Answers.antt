@@ -1,6 +1,4 @@
-use Rattle.std.proofs.Common.{None, sym, subst}
-use Rattle.pool_layouts.proofs.Shared.{Step, Nothing, Close, Opens, Shows, ShowsLevel, opened}
-use Rattle.pool_layouts.proofs.Opening.{level_opens, blanks_opens, close_opens}
+use Rattle.pool_layouts.proofs.{Shared.{None, sym, subst, Step, Nothing, Close, Opens, Shows, ShowsLevel, opened}, Opening.{level_opens, blanks_opens, close_opens}}
 use Rattle.pool_layouts.specs.declared.steps.Step.TheVariants as step
 use Rattle.pool_layouts.proofs.steps.open_step.Goals as goal
 

@@ -1,5 +1,4 @@
-use Rattle.std.proofs.Common.{◌≤◌}
-use Rattle.pool_layouts.proofs.Shared.{forest, Measures}
+use Rattle.pool_layouts.proofs.Shared.{◌≤◌, forest, Measures}
 use Rattle.pool_layouts.proofs.tests.draw.Given as goal
 
 abbrev pub invariant-loop-row : goal.invariant-loop-row
