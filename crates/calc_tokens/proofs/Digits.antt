@@ -1,10 +1,8 @@
 -- What digits spell, and what stays of them without the zeros at their end.
-use Rattle.std.specs.Prelude.{ℕ, suc, ◌+◌, ◌-◌, ◌*◌, ◌/◌, ◌^◌, ◌≡◌, ◌≢◌, ◌≤◌, ◌<◌, List, [], ◌∷◌, ◌++◌, Bool, true, false, ◌==◌, length, if◌then◌else◌}
-use Rattle.std.proofs.Common.{refl, ap, ◌∙◌, arith, get_or, drop, drop-cons, pow-suc}
-use Rattle.std.proofs.Math.Nat.{pow-le-pow_right}
-use Rattle.std.proofs.lemmas.Bool.{eqb-true}
-use Rattle.calc_language.specs.Tokens.{digits_value}
-use Rattle.calc_tokens.specs.Literals.{kept_before, trimmed}
+use Rattle.calc_tokens.proofs.Shared.{ℕ, suc, ◌+◌, ◌-◌, ◌*◌, ◌≡◌, ◌≤◌, ◌<◌, List, [], ◌∷◌, ◌++◌, Bool, true, false, ◌==◌, length, if◌then◌else◌}
+use Rattle.calc_tokens.proofs.Shared.{refl, ap, ◌∙◌, arith, drop, eqb-true, digits_value, kept_before, trimmed}
+use Rattle.std.specs.Prelude.{◌/◌, ◌^◌, ◌≢◌}
+use Rattle.std.proofs.{Common.{get_or, drop-cons, pow-suc}, Math.Nat.pow-le-pow_right}
 
 trimmed_zero : (front : List ℕ) → trimmed (front ++ 48 ∷ []) ≡ trimmed front
 trimmed_zero [] = refl

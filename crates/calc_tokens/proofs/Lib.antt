@@ -1,3 +1,4 @@
+mod Shared
 pub mod Runs
 pub mod Digits
 pub mod Parts

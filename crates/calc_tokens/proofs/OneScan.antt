@@ -1,18 +1,9 @@
 -- A line has one list of tokens, or one first fault.
-use Rattle.std.specs.Prelude.{ℕ, ◌≡◌, List, [], ◌∷◌, Bool, true, false, ◌||◌, ◌==◌, Some, None}
-use Rattle.std.proofs.Common.{refl, sym, ap, ◌∙◌, subst, arith}
-use Rattle.std.proofs.lemmas.Bool.{eqb-true}
-use Rattle.calc_language.specs.Tokens.{Token, is_blank, token_at}
-use Rattle.calc_tokens.specs.Placed.{Placed}
-use Rattle.calc_tokens.specs.Scanned.{Leads, nothing, blank, token, begins_blank, begins_wide, BeginsToken, BeginsNoToken, IsFirstCharacter, IsFirstWide, AreTokensOf, place}
-
--- no token begins with a blank
-pub blank_no_token : (b : ℕ) (bytes : List ℕ) → is_blank b ≡ true → token_at (b ∷ bytes) ≡ None
-blank_no_token b bytes h = by (b == 32) refl h
-  where
-    by : (x : Bool) → (b == 32) ≡ x → (x || (b == 9)) ≡ true → token_at (b ∷ bytes) ≡ None
-    by true e k = ap (λ n. token_at (n ∷ bytes)) (eqb-true b 32 e)
-    by false e k = ap (λ n. token_at (n ∷ bytes)) (eqb-true b 9 k)
+use Rattle.calc_tokens.proofs.Shared.{ℕ, ◌≡◌, List, [], ◌∷◌, Bool, true, false, ◌==◌, Some, None, refl, sym, ap, ◌∙◌, subst, arith, Token, is_blank, token_at, Placed}
+use Rattle.calc_tokens.proofs.Shared.{Leads, nothing, blank, token, begins_wide, BeginsToken, IsFirstCharacter, IsFirstWide, AreTokensOf, place}
+use Rattle.std.specs.Prelude.{◌||◌}
+use Rattle.calc_language.proofs.ReadLaws.{blank_no_token}
+use Rattle.calc_tokens.specs.Scanned.{begins_blank, BeginsNoToken}
 
 some_is : {A : Type 0} (p q : A) → Some p ≡ Some q → p ≡ q
 some_is p q e = cc

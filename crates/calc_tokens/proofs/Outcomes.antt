@@ -1,12 +1,8 @@
 -- What is answered, from what was found.
-use Rattle.std.specs.Prelude.{ℕ, ◌≡◌, List, Result, Ok, Err, MatchResult, IsOkAnd, ◌↔◌}
-use Rattle.std.proofs.Common.{arith, ap, subst}
-use Rattle.calc_tokens.specs.declared.tokens.TokenFault.{TokenFault}
-use Rattle.calc_tokens.specs.declared.tokens.TokenFault.TheVariants.{Character, Number}
-use Rattle.calc_tokens.specs.Placed.{Placed}
-use Rattle.calc_tokens.specs.Scanned.{AreTokensOf, IsFirstCharacter, IsFirstWide}
-use Rattle.calc_tokens.specs.Faults.{IsFaultOf}
+use Rattle.calc_tokens.proofs.Shared.{ℕ, ◌≡◌, List, Ok, Err, arith, ap, subst, Placed, AreTokensOf, IsFirstCharacter, IsFirstWide}
 use Rattle.calc_tokens.proofs.OneScan.{character_or_all, wide_or_all, character_or_wide, one_character, one_wide, one_list}
+use Rattle.std.specs.Prelude.{Result, MatchResult, IsOkAnd, ◌↔◌}
+use Rattle.calc_tokens.specs.{declared.tokens.TokenFault.TokenFault, declared.tokens.TokenFault.TheVariants.{Character, Number}, Faults.IsFaultOf}
 
 -- the tokens of a line behind Ok, or its fault
 abbrev pub Found : {T : Type 0} → (T → List Placed) → List ℕ → Result T TokenFault → Type 0

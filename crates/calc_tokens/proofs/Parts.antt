@@ -1,17 +1,11 @@
 -- The parts of a literal: whether they fit, and its value.
-use Rattle.std.specs.Prelude.{ℕ, suc, ◌+◌, ◌-◌, ◌*◌, ◌^◌, ◌≡◌, ◌<◌, List, [], ◌∷◌, ◌++◌, Bool, true, false, ◌==◌, ◌&&◌, length, nat_lt, if◌then◌else◌, pos}
-use Rattle.std.specs.List.{AllPass}
-use Rattle.std.proofs.Common.{refl, sym, ap, ◌∙◌, arith}
-use Rattle.std.proofs.Math.Nat.{one-le-pow, pow-suc}
-use Rattle.std.proofs.lemmas.Nat.{pow-add}
-use Rattle.std.proofs.lemmas.Bool.{lt-ltb, eqb-true}
-use Rattle.calc_terms.specs.Fractions.{lowest, same_lowest}
-use Rattle.calc_terms.specs.Name.{is_digit}
-use Rattle.calc_language.specs.Tokens.{digits_value, decimals}
-use Rattle.calc_tokens.specs.Literals.{trimmed, kept_before, unscaled, scale, parts_fit, has_point}
-use Rattle.std.proofs.lemmas.List.Elements.{All-nil, All-cons, All-head, All-tail}
-use Rattle.calc_tokens.proofs.Runs.{run_passes, chosen}
-use Rattle.calc_tokens.proofs.Digits.{digits_value-append, digits_value_grows}
+use Rattle.calc_tokens.proofs.Shared.{ℕ, suc, ◌+◌, ◌-◌, ◌*◌, ◌≡◌, ◌<◌, List, [], ◌∷◌, ◌++◌, Bool, true, false, ◌==◌, ◌&&◌, length, nat_lt}
+use Rattle.calc_tokens.proofs.Shared.{if◌then◌else◌, pos, AllPass, refl, sym, ap, ◌∙◌, arith, eqb-true, lowest, is_digit, digits_value, decimals, trimmed, kept_before, unscaled}
+use Rattle.calc_tokens.proofs.{Shared.{scale, has_point, All-nil, All-cons}, Runs.{run_passes, chosen}, Digits.{digits_value-append, digits_value_grows}}
+use Rattle.std.specs.Prelude.{◌^◌}
+use Rattle.std.proofs.{Math.Nat.{one-le-pow, pow-suc}, lemmas.Nat.pow-add, lemmas.Bool.lt-ltb, lemmas.List.Elements.{All-head, All-tail}}
+use Rattle.calc_terms.specs.Fractions.{same_lowest}
+use Rattle.calc_tokens.specs.Literals.{parts_fit}
 
 test_fails : (n : ℕ) (b : Bool) → (n < 2 ^ 127 → ⊥) → (nat_lt n (2 ^ 127) && b) ≡ false
 test_fails n b h = grind arith

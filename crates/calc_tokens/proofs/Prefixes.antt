@@ -1,13 +1,9 @@
 -- What follows a prefix.
-use Rattle.std.specs.Prelude.{ℕ, ◌≡◌, List, [], ◌∷◌, Bool, true, false, ◌&&◌, ◌==◌, nat_eq, length, take, drop, Option, Some, None}
-use Rattle.std.specs.Borrow.{Bor}
-use Rattle.std.specs.Cmp.Lexicographic.{pointwise}
-use Rattle.std.specs.Option.{option_map, option_or}
-use Rattle.std.proofs.Common.{refl, arith}
+use Rattle.calc_tokens.proofs.Shared.{ℕ, ◌≡◌, List, [], ◌∷◌, Bool, true, false, ◌&&◌, ◌==◌, nat_eq, length, Option, Some, None, pointwise, option_map, refl, arith, Token}
+use Rattle.calc_tokens.proofs.Shared.{if_so, rest_after, or_else, front_of}
+use Rattle.std.specs.{Prelude.{take, drop}, Borrow.Bor, Option.option_or}
 use Rattle.std.proofs.lemmas.Bool.Decides.{nat_tests}
-use Rattle.calc_language.specs.Tokens.{Token, if_so, rest_after, or_else}
 use Rattle.calc_tokens.specs.declared.tokens.What.{What}
-use Rattle.calc_tokens.specs.Tokens.{front_of}
 
 turned : (a b : ℕ) → (a == b) ≡ (b == a)
 turned a b = grind (arith, nat_tests)

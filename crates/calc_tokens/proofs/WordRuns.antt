@@ -1,25 +1,11 @@
 -- Words: a run of letters and digits is a reserved word, a name, or too long.
-use Rattle.std.specs.Prelude.{ℕ, ◌≡◌, List, [], ◌∷◌, Bool, true, false, ◌&&◌, nat_le, nat_eq, ◌==◌, length, if◌then◌else◌, codes, Some, None}
-use Rattle.std.specs.List.{list_all}
-use Rattle.std.specs.Cmp.Lexicographic.{pointwise}
-use Rattle.std.proofs.Common.{arith, refl, sym, ap, ◌∙◌}
+use Rattle.calc_tokens.proofs.Shared.{ℕ, ◌≡◌, List, [], ◌∷◌, true, false, ◌&&◌, nat_le, nat_eq, ◌==◌, length, if◌then◌else◌, Some, None, pointwise, arith, refl, sym}
+use Rattle.calc_tokens.proofs.Shared.{ap, ◌∙◌, name, root_mark, leading_run, token_of_word, is_name_byte}
+use Rattle.std.specs.Prelude.{codes}
 use Rattle.std.proofs.lemmas.Slice.Eq.{bytes_eq-Decides}
-use Rattle.calc_language.specs.Tokens.{name, root_mark, undef_mark, leading_run, keep, same_bytes, token_of_word, word_at}
-use Rattle.calc_terms.specs.Name.{begins_with_letter, is_name, is_name_byte}
-
-same_bytes-pointwise : (x y : List ℕ) → same_bytes x y ≡ pointwise nat_eq x y
-same_bytes-pointwise [] [] = refl
-same_bytes-pointwise [] (b ∷ y) = refl
-same_bytes-pointwise (a ∷ x) [] = refl
-same_bytes-pointwise (a ∷ x) (b ∷ y) = ap (λ r. (a == b) && r) (same_bytes-pointwise x y)
-
-run_all : (p : ℕ → Bool) (bytes : List ℕ) → list_all p ((leading_run p bytes).0) ≡ true
-run_all p [] = refl
-run_all p (b ∷ bytes) = by (p b) refl (run_all p bytes)
-  where
-    by : (x : Bool) → p b ≡ x → list_all p ((leading_run p bytes).0) ≡ true → list_all p ((keep x b bytes (leading_run p bytes)).0) ≡ true
-    by true e h = rw (e, h) refl
-    by false e h = refl
+use Rattle.calc_language.proofs.LeadingRuns.{run_all, same_bytes-pointwise}
+use Rattle.calc_language.specs.Tokens.{undef_mark, same_bytes, word_at}
+use Rattle.calc_terms.specs.Name.{begins_with_letter, is_name}
 
 -- a run that begins with a letter
 run_begins : (bytes : List ℕ) → begins_with_letter bytes ≡ true → begins_with_letter ((leading_run is_name_byte bytes).0) ≡ true

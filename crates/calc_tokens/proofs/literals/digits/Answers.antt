@@ -1,7 +1,4 @@
-use Rattle.std.proofs.Common.{◌∙◌}
-use Rattle.std.proofs.lemmas.List.Sums.{prefix_len-le-length}
-use Rattle.calc_terms.specs.Name.{is_digit}
-use Rattle.calc_tokens.proofs.Runs.{run_front, run_back}
+use Rattle.calc_tokens.proofs.Shared.{◌∙◌, prefix_len-le-length, is_digit, run_front, run_back}
 use Rattle.calc_tokens.proofs.literals.digits.Goals as goal
 
 pub split_at-requires : goal.split_at-requires

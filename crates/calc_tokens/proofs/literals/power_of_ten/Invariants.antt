@@ -1,4 +1,5 @@
-use Rattle.std.proofs.Common.{◌≡◌, ◌^◌, ◌<◌}
+use Rattle.std.proofs.Common.{◌≡◌, ◌<◌}
+use Rattle.calc_tokens.proofs.Shared.{◌^◌}
 use Rattle.calc_tokens.proofs.literals.power_of_ten.Given as goal
 
 abbrev pub invariant-loop : goal.invariant-loop

@@ -1,5 +1,5 @@
-use Rattle.std.proofs.Common.{◌≡◌, ◌^◌, ◌<◌, drop}
-use Rattle.calc_language.specs.Tokens.{digits_value}
+use Rattle.std.proofs.Common.{◌≡◌, ◌<◌}
+use Rattle.calc_tokens.proofs.Shared.{◌^◌, drop, digits_value}
 use Rattle.calc_tokens.proofs.literals.short_value.Given as goal
 
 abbrev pub invariant-loop-digit : goal.invariant-loop-digit

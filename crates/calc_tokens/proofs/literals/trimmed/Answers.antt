@@ -1,5 +1,4 @@
-use Rattle.std.proofs.Common.{sym, ◌∙◌}
-use Rattle.calc_tokens.proofs.Digits.{trimmed_at_zero, trimmed_at_other}
+use Rattle.calc_tokens.proofs.{Shared.{sym, ◌∙◌}, Digits.{trimmed_at_zero, trimmed_at_other}}
 use Rattle.calc_tokens.proofs.literals.trimmed.Goals as goal
 
 pub returns-then-last-ne48 : goal.returns-then-last-ne48

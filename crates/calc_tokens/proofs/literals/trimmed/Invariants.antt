@@ -1,5 +1,5 @@
 use Rattle.std.proofs.Common.{◌≡◌, length}
-use Rattle.calc_tokens.specs.Literals.{trimmed}
+use Rattle.calc_tokens.proofs.Shared.{trimmed}
 use Rattle.calc_tokens.proofs.literals.trimmed.Given as goal
 
 abbrev pub invariant-loop-last : goal.invariant-loop-last

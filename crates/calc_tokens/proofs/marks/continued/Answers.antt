@@ -1,7 +1,4 @@
-use Rattle.std.proofs.Common.{ap, ◌∙◌}
-use Rattle.std.specs.Option.{option_map}
-use Rattle.calc_tokens.specs.Tokens.{token_of, front_of}
-use Rattle.calc_tokens.proofs.Prefixes.{not_continued, is_continued}
+use Rattle.calc_tokens.proofs.{Shared.{ap, ◌∙◌, option_map, token_of, front_of}, Prefixes.{not_continued, is_continued}}
 use Rattle.calc_tokens.proofs.marks.continued.Goals as goal
 
 pub returns-in_err-behind : goal.returns-in_err-behind

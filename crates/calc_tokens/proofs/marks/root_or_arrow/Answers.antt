@@ -1,9 +1,5 @@
-use Rattle.std.specs.Prelude.{[], ◌∷◌}
-use Rattle.std.specs.Option.{option_map}
-use Rattle.std.proofs.Common.{ap, ◌∙◌}
-use Rattle.calc_language.specs.Tokens.{rest_after, root_mark, arrow_mark}
-use Rattle.calc_tokens.specs.Tokens.{front_of}
-use Rattle.calc_tokens.proofs.Prefixes.{either_token}
+use Rattle.calc_tokens.proofs.{Shared.{[], ◌∷◌, option_map, ap, ◌∙◌, rest_after, root_mark, front_of}, Prefixes.either_token}
+use Rattle.calc_language.specs.Tokens.{arrow_mark}
 use Rattle.calc_tokens.proofs.marks.root_or_arrow.Goals as goal
 
 pub returns : goal.returns

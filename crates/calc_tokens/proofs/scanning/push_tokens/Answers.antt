@@ -1,8 +1,5 @@
-use Rattle.std.proofs.Common.{◌≡◌, ◌+◌, ◌-◌, length, sym, arith}
-use Rattle.calc_tokens.specs.Tokens.{tokens_of, token_of}
-use Rattle.calc_tokens.specs.Scanned.{place}
-use Rattle.calc_tokens.proofs.Shorter.{token_shorter}
-use Rattle.calc_tokens.proofs.Scans.{reached_start, reached_blank, reached_token}
+use Rattle.std.proofs.Common.{◌≡◌, ◌+◌, ◌-◌, length}
+use Rattle.calc_tokens.proofs.{Shared.{sym, arith, tokens_of, token_of, place}, Shorter.token_shorter, Scans.{reached_start, reached_blank, reached_token}}
 use Rattle.calc_tokens.proofs.scanning.push_tokens.Goals as goal
 
 pub loop-first-init : goal.loop-first-init

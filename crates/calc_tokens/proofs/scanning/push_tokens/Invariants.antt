@@ -1,6 +1,5 @@
 use Rattle.std.proofs.Common.{length}
-use Rattle.calc_tokens.specs.Tokens.{tokens_of}
-use Rattle.calc_tokens.proofs.Scans.{Reached}
+use Rattle.calc_tokens.proofs.{Shared.tokens_of, Scans.Reached}
 use Rattle.calc_tokens.proofs.scanning.push_tokens.Given as goal
 
 abbrev pub invariant-loop-first : goal.invariant-loop-first

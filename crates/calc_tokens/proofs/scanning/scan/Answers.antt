@@ -1,7 +1,4 @@
-use Rattle.std.specs.Prelude.{Ok, Err}
-use Rattle.calc_tokens.specs.Tokens.{tokens_of}
-use Rattle.calc_tokens.proofs.OneScan.{one_list}
-use Rattle.calc_tokens.proofs.Outcomes.{accepted, character_exact, number_exact}
+use Rattle.calc_tokens.proofs.{Shared.{Ok, Err, tokens_of}, OneScan.one_list, Outcomes.{accepted, character_exact, number_exact}}
 use Rattle.calc_tokens.proofs.scanning.scan.Goals as goal
 
 pub returns-in-Ok-clause-accepts : goal.returns-in-Ok-clause-accepts

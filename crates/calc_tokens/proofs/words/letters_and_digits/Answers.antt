@@ -1,7 +1,4 @@
-use Rattle.std.proofs.Common.{◌∙◌}
-use Rattle.std.proofs.lemmas.List.Sums.{prefix_len-le-length}
-use Rattle.calc_terms.specs.Name.{is_name_byte}
-use Rattle.calc_tokens.proofs.Runs.{run_front, run_back}
+use Rattle.calc_tokens.proofs.Shared.{◌∙◌, prefix_len-le-length, is_name_byte, run_front, run_back}
 use Rattle.calc_tokens.proofs.words.letters_and_digits.Goals as goal
 
 pub split_at-requires : goal.split_at-requires

@@ -1,9 +1,4 @@
-use Rattle.std.specs.Prelude.{Some}
-use Rattle.std.specs.Option.{option_map}
-use Rattle.std.proofs.Common.{sym, ap, ◌∙◌}
-use Rattle.calc_language.specs.Tokens.{name}
-use Rattle.calc_tokens.specs.Tokens.{front_of}
-use Rattle.calc_tokens.proofs.WordRuns.{root_word, undef_is, name_word, long_word}
+use Rattle.calc_tokens.proofs.{Shared.{Some, option_map, sym, ap, ◌∙◌, name, front_of}, WordRuns.{root_word, undef_is, name_word, long_word}}
 use Rattle.calc_tokens.proofs.words.word.Goals as goal
 
 pub returns-then-eq : goal.returns-then-eq
