@@ -1,13 +1,7 @@
 -- Lemmas on decimal digits.
-use Rattle.std.proofs.Common.{arith, ◌≡◌, ℕ, List, true, Some, None, MatchResult, Result, rules}
-use Rattle.std.proofs.lemmas.Str.{IsUtf8-from_ascii}
-use Rattle.std.proofs.lemmas.Fmt.{IsAscii-from_digits}
-use Rattle.std.proofs.lemmas.Str.Parse.{IsNumeralModel, numerals_by_value}
-use Rattle.std.specs.List.{list_all}
-use Rattle.std.specs.Char.{is_ascii_digit}
-use Rattle.std.specs.Result.{result_ok}
+use Rattle.calc_commands.proofs.Shared.{arith, ◌≡◌, ℕ, List, true, Some, None, Result, list_all, is_ascii_digit, result_ok, digits_value}
+use Rattle.std.proofs.{Common.{MatchResult, rules}, lemmas.Str.IsUtf8-from_ascii, lemmas.Fmt.IsAscii-from_digits, lemmas.Str.Parse.{IsNumeralModel, numerals_by_value}}
 use Rattle.std.specs.Str.{IsUtf8}
-use Rattle.std.specs.Str.Parse.{digits_value}
 
 abbrev pub AreDigits : List ℕ → Type 0
 AreDigits text = list_all is_ascii_digit text ≡ true

@@ -1,11 +1,10 @@
 -- The bytes in use, and their text.
-use Rattle.std.proofs.Common.{◌≡◌, ◌∙◌, ℕ, ◌+◌, ◌*◌, ◌<◌, ◌≤◌, List, [], ◌∷◌, ◌++◌, length, get_or, take, replicate, sym, ap, arith, append_assoc, length-append}
-use Rattle.std.proofs.lemmas.List.{append-nil, length-take, take_at, take_more}
-use Rattle.node_pool.specs.Nodes.{used, encodings}
-use Rattle.node_pool.specs.State.{State, IsPool, bytes_of, free_of}
-use Rattle.node_pool.proofs.Sizes.{length-encodings}
-use Rattle.line_text.specs.Content.{Content, extended}
-use Rattle.calc_commands.specs.Reports.{parting, byte_text, entry, entries, dump_of}
+use Rattle.calc_commands.proofs.Shared.{◌≡◌, ◌∙◌, ℕ, ◌<◌, ◌≤◌, List, [], ◌∷◌, ◌++◌, length, get_or, take, sym, ap, arith, append-nil, length-encodings}
+use Rattle.calc_commands.proofs.Shared.{extended, entries}
+use Rattle.std.proofs.{Common.{◌+◌, ◌*◌, replicate, append_assoc, length-append}, lemmas.List.{length-take, take_at, take_more}}
+use Rattle.node_pool.specs.{Nodes.{used, encodings}, State.{State, IsPool, bytes_of, free_of}}
+use Rattle.line_text.specs.Content.{Content}
+use Rattle.calc_commands.specs.Reports.{parting, byte_text, entry, dump_of}
 
 -- the bytes in use are those of the nodes
 pub used_bytes : (s : State) → IsPool s → take (used s.nodes) (bytes_of s) ≡ encodings s.nodes

@@ -1,3 +1,4 @@
+mod Shared
 pub mod Digits
 pub mod Values
 pub mod Runs

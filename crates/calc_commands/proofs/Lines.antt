@@ -1,22 +1,17 @@
 -- Command lines by their parts.
-use Rattle.std.proofs.Common.{◌≡◌, ◌∙◌, ℕ, ◌<◌, List, [], ◌∷◌, ◌++◌, length, Bool, true, false, Option, Some, None, cond, eqb, ltb, refl, sym, ap, subst, arith}
-use Rattle.std.specs.Prelude.{◌&&◌, ◌||◌, not, codes, IfSome, IsNone}
-use Rattle.std.specs.List.{list_all}
-use Rattle.std.specs.Option.{option_map, option_and_then}
-use Rattle.std.specs.Str.{bytes_eq}
-use Rattle.std.proofs.lemmas.Bool.{eqb-true, lt-ltb, ne_eqb}
-use Rattle.std.proofs.lemmas.List.{append-nil}
-use Rattle.std.proofs.lemmas.Slice.Eq.{bytes_eq-Decides}
+use Rattle.calc_commands.proofs.Shared.{◌≡◌, ◌∙◌, ℕ, ◌<◌, List, [], ◌∷◌, ◌++◌, length, Bool, true, false, Option, Some, None, cond, refl, sym, ap, subst, arith}
+use Rattle.calc_commands.proofs.{Shared.{◌&&◌, list_all, lt-ltb, append-nil, is_in}, Runs.{all-append, all_other, first_of_all}, Values.not_digits}
+use Rattle.std.proofs.{Common.{eqb, ltb}, lemmas.Bool.{eqb-true, ne_eqb}, lemmas.Slice.Eq.bytes_eq-Decides}
+use Rattle.std.specs.{Prelude.{◌||◌, not, codes, IfSome, IsNone}, Option.{option_map, option_and_then}, Str.bytes_eq}
 use Rattle.calc_terms.specs.Name.{is_name, is_name_byte}
 use Rattle.calc_terms.proofs.Names.{spelled}
 use Rattle.calc_language.specs.Tokens.{is_blank, leading_run}
-use Rattle.calc_commands.specs.Commands.{Asked, pool, dump, draw, layout, forget, after, diff, solve, expand, asked_of, begins_dark, Has, IsTextBehind, HasText, IsCommandLine, asks_pool, asks_dump, asks_draw, asks_layout, asks_forget, asks_after, asks_diff, asks_solve, asks_expand}
-use Rattle.calc_commands.specs.Numbers.{value_of}
-use Rattle.calc_commands.specs.Parsing.{is_in, are_blanks, behind_colon, argument_of, word_and_rest, text_behind, name_and_text, asked_alone, asked_for, asked_to_derive, asked_in}
+use Rattle.calc_commands.specs.Commands.{Asked, pool, dump, draw, layout, forget, after, diff, solve, expand, asked_of, begins_dark, Has, IsTextBehind, HasText, IsCommandLine, asks_pool}
+use Rattle.calc_commands.specs.{Commands.{asks_dump, asks_draw, asks_layout, asks_forget, asks_after, asks_diff, asks_solve, asks_expand}, Numbers.value_of}
+use Rattle.calc_commands.specs.Parsing.{are_blanks, behind_colon, argument_of, word_and_rest, text_behind, name_and_text, asked_alone, asked_for, asked_to_derive, asked_in}
 use Rattle.calc_commands.specs.declared.command.Command.{Command}
+use Rattle.calc_language.proofs.LeadingRuns.{run_whole, run_all, run_stops, stops, run_of}
 use Rattle.calc_commands.specs.declared.parts.Class.TheVariants as class
-use Rattle.calc_commands.proofs.Runs.{run_whole, run_all, run_stops, stops, run_of, all-append, all_other, first_of_all}
-use Rattle.calc_commands.proofs.Values.{not_digits}
 
 by_test : (P : Bool → Type 0) (t : Bool) → (t ≡ true → P true) → (t ≡ false → P false) → P t
 by_test P t y n = grind arith

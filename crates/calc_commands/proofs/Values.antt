@@ -1,13 +1,8 @@
 -- The value of a text of digits.
-use Rattle.std.proofs.Common.{◌≡◌, ◌∙◌, ℕ, ◌^◌, ◌<◌, ◌≤◌, List, length, Bool, true, false, Option, Some, None, Result, Ok, Err, nat_lt, nat_le, ◌&&◌, cond, refl, sym, ap}
-use Rattle.std.proofs.lemmas.Str.Parse.{parse_digits}
-use Rattle.std.proofs.lemmas.Bool.{lt-ltb, ltb-true, le-leb, lt-leb}
-use Rattle.std.specs.List.{list_all}
-use Rattle.std.specs.Char.{is_ascii_digit}
-use Rattle.std.specs.Result.{result_ok}
-use Rattle.std.specs.Str.Parse.{ParsesUnsigned, digits_value}
+use Rattle.calc_commands.proofs.Shared.{◌≡◌, ◌∙◌, ℕ, ◌<◌, ◌≤◌, List, length, Bool, true, false, Option, Some, None, Result, cond, refl, sym, ap, lt-ltb, list_all}
+use Rattle.calc_commands.proofs.{Shared.{is_ascii_digit, result_ok, ParsesUnsigned, digits_value}, Digits.{AreDigits, digits_are_numerals}}
+use Rattle.std.proofs.{Common.{◌^◌, Ok, Err, nat_lt, nat_le, ◌&&◌}, lemmas.Str.Parse.parse_digits, lemmas.Bool.{ltb-true, le-leb, lt-leb}}
 use Rattle.calc_commands.specs.Numbers.{value_of}
-use Rattle.calc_commands.proofs.Digits.{AreDigits, digits_are_numerals}
 
 abbrev valued : List ℕ → Bool → Bool → Bool → Bool → Option ℕ
 valued text some digits short small = cond ((some && digits) && short && small) (Some (digits_value 10 text)) None

@@ -1,4 +1,5 @@
-use Rattle.std.proofs.Common.{◌≡◌, drop}
+use Rattle.calc_commands.proofs.Shared.{◌≡◌}
+use Rattle.std.proofs.Common.{drop}
 use Rattle.calc_commands.specs.Commands.{is_command}
 use Rattle.calc_commands.proofs.command.is_command.Given as goal
 

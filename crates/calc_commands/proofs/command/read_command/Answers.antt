@@ -1,5 +1,4 @@
-use Rattle.std.proofs.Common.{refl}
-use Rattle.calc_commands.proofs.Lines.{answers, answers_none, no_command}
+use Rattle.calc_commands.proofs.{Shared.refl, Lines.{answers, answers_none, no_command}}
 use Rattle.calc_commands.proofs.command.read_command.Goals as goal
 
 pub returns-in_err-word-clause-none : goal.returns-in_err-word-clause-none

@@ -1,8 +1,4 @@
-use Rattle.std.proofs.Common.{◌∙◌, ℕ, List, length, get_or, take, refl, sym, ap}
-use Rattle.line_text.specs.Content.{extended}
-use Rattle.node_pool.proofs.Sizes.{length-encodings}
-use Rattle.calc_commands.proofs.Dumps.{used_there, written_more}
-use Rattle.calc_commands.specs.Reports.{entries}
+use Rattle.calc_commands.proofs.{Shared.{◌∙◌, ℕ, List, length, get_or, take, refl, sym, ap, extended, length-encodings, entries}, Dumps.{used_there, written_more}}
 use Rattle.std.proofs.lemmas.List.{take_all}
 use Rattle.calc_commands.proofs.dump.write_dump.Goals as goal
 

@@ -1,9 +1,6 @@
-use Rattle.std.proofs.Common.{◌∙◌, sym, subst, arith}
-use Rattle.std.specs.Str.Parse.{ParsesUnsigned}
-use Rattle.calc_commands.proofs.Digits.{digits_are_utf8, at_some, at_none}
-use Rattle.calc_commands.proofs.Values.{too_many_digits, not_digits, value_from_parse}
-use Rattle.calc_commands.proofs.numbers.read_number.Goals as goal
+use Rattle.calc_commands.proofs.{Shared.{◌∙◌, sym, subst, arith, ParsesUnsigned}, Digits.{digits_are_utf8, at_some, at_none}, Values.{too_many_digits, not_digits, value_from_parse}}
 use Rattle.calc_commands.proofs.numbers.read_number.Goals.{then-text-gt-DIGIT_LIMIT-via-then-text-gt-DIGIT_LIMIT, then-text-gt-DIGIT_LIMIT-via-else-text-gt-DIGIT_LIMIT+then-not-all_digits}
+use Rattle.calc_commands.proofs.numbers.read_number.Goals as goal
 
 pub returns-then-text-gt-DIGIT_LIMIT : goal.returns-then-text-gt-DIGIT_LIMIT
 returns-then-text-gt-DIGIT_LIMIT c =
