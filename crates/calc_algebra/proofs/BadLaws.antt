@@ -1,7 +1,8 @@
 -- A Bad tree has no value, and an Easy tree has one or is Bad.
-use Rattle.std.proofs.Common.{◌≡◌, ℕ, ◌⊎◌, inl, inr, ℤ, pos, [], true, sym, ap, ◌∙◌, arith}
-use Rattle.std.specs.Prelude.{◌≤ℤ◌}
-use Rattle.calc_algebra.proofs.Shared.{int_is_negative, Fraction, zero_fraction, one_fraction, whole_fraction, lowest, gcd, Tree, undef, add, mult, power, root, neg, sub, div, Trees, none, more, IsPart, itself, in_add, in_mult, in_base, in_exponent, in_root, in_neg, in_left, in_right, in_dividend, in_divisor, IsPartOf, first, later, Surd, surd_of, surd_one, Same, Inverts, MeansSum, MeansProduct, IsWholePower, IsPower, IsRootOf, IsAssignment, HasValue, IsNegative, IsHalf, GivesZeroNoPower, IsBadNode, IsBad, IsEasy}
+use Rattle.calc_algebra.proofs.Shared.{◌≡◌, ℕ, ◌⊎◌, inl, inr, ℤ, pos, [], true, sym, ap, ◌∙◌, arith, ◌≤ℤ◌, int_is_negative, Fraction, zero_fraction, one_fraction}
+use Rattle.calc_algebra.proofs.Shared.{whole_fraction, lowest, gcd, Tree, undef, add, mult, power, root, neg, sub, div, Trees, none, more, IsPart, itself, in_add, in_mult, in_base, in_exponent}
+use Rattle.calc_algebra.proofs.Shared.{in_root, in_neg, in_left, in_right, in_dividend, in_divisor, IsPartOf, first, later, Surd, surd_of, surd_one, Same, Inverts, MeansSum, MeansProduct}
+use Rattle.calc_algebra.proofs.Shared.{IsWholePower, IsPower, IsRootOf, IsAssignment, HasValue, IsNegative, IsHalf, GivesZeroNoPower, IsBadNode, IsBad, IsEasy}
 use Rattle.calc_algebra.proofs.SurdLaws.{Agree, Agree-Same, Agree-sym, Agree-trans, Agree-eq, Agree-surd_times_right, surd_times-nil}
 use Rattle.calc_algebra.proofs.SquareClassLaws.{Same-Agree}
 use Rattle.calc_algebra.proofs.PowerLaws.{root_zero}

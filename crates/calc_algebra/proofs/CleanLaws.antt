@@ -1,11 +1,9 @@
 -- A clean radicand below 10^12 is square-free, and square-free radicands that are alike are equal.
-use Rattle.std.proofs.Common.{◌≡◌, ℕ, zero, suc, ◌+◌, ◌*◌, ◌/◌, ◌%◌, ◌≤◌, ◌<◌, ◌^◌, ◌⊎◌, inl, inr, true, refl, sym, ap, ◌∙◌, arith, subst}
+use Rattle.calc_algebra.proofs.Shared.{◌≡◌, ℕ, zero, suc, ◌+◌, ◌*◌, ◌/◌, ◌%◌, ◌≤◌, ◌<◌, ◌^◌, ◌⊎◌, inl, inr, true, refl, sym, ap, ◌∙◌, arith, subst}
 use Rattle.calc_algebra.proofs.Shared.{dvd_trans, mod-eq-zero_of_dvd, dvd_of_mod-eq-zero, without, left_from, left_of, is_clean, IsClean, mul_pos, gcd, gcd_is, gauss, divided, are_alike, square_root}
-use Rattle.std.specs.Int.{IsGcd}
+use Rattle.calc_algebra.proofs.Shared.{IsGcd, mul-one, mul-dvd-mul_left, dvd-mul_right, dvd-mul_left, dvd-zero, one-dvd, mul-div_cancel', mul-div_cancel_left, dvd_refl, ◌∣◌}
 use Rattle.calc_algebra.proofs.NumberLaws.{clean_words}
 use Rattle.calc_algebra.proofs.SquareClassLaws.{Alike, alike_from}
-use native.Mathlib.Nat.{mul-one, mul-dvd-mul_left, dvd-mul_right, dvd-mul_left, dvd-zero, one-dvd, mul-div_cancel', mul-div_cancel_left, dvd_refl}
-use Prim.Native.Nat.{◌∣◌}
 
 -- no square of a number above 1 divides r
 abbrev pub IsSquareFree : ℕ → Type 0

@@ -1,7 +1,6 @@
 -- A test that surds are the same, for examples that compute.
-use Rattle.std.proofs.Common.{◌≡◌, ℕ, zero, suc, [], ◌∷◌, List, Bool, true, false, ◌&&◌, ◌==◌, arith}
-use Rattle.std.specs.Prelude.{ℤ, pos, negsuc, Contains}
-use Rattle.calc_algebra.proofs.Shared.{and_parts, eqb-true, Fraction, fraction_path, Surd, class_coefficient, radicands, Same}
+use Rattle.calc_algebra.proofs.Shared.{◌≡◌, ℕ, zero, suc, [], ◌∷◌, List, Bool, true, false, ◌&&◌, ◌==◌, arith, ℤ, pos, negsuc, Contains, and_parts, eqb-true, Fraction}
+use Rattle.calc_algebra.proofs.Shared.{fraction_path, Surd, class_coefficient, radicands, Same}
 
 abbrev same_int : ℤ → ℤ → Bool
 same_int (pos m) (pos n) = m == n

@@ -1,10 +1,8 @@
 -- What the computed functions on naturals give.
-use Rattle.std.proofs.Common.{◌≡◌, ℕ, zero, suc, ◌+◌, ◌*◌, ◌^◌, ◌≤◌, ◌<◌, true, refl, arith, inl, inr, ◌/◌, ◌%◌, ap, sym, subst}
-use Rattle.std.specs.Prelude.{◌⊎◌}
+use Rattle.calc_algebra.proofs.Shared.{◌≡◌, ℕ, zero, suc, ◌+◌, ◌*◌, ◌^◌, ◌≤◌, ◌<◌, true, refl, arith, inl, inr, ◌/◌, ◌%◌, ap, sym, subst, ◌⊎◌}
 use Rattle.calc_algebra.proofs.Shared.{mod-eq-zero_of_dvd, dvd_of_mod-eq-zero, dvd_trans, square_root, trial_limit, without, left_from, left_of, IsTried, empty_product, one_factor_more, are_alike}
+use Rattle.calc_algebra.proofs.Shared.{dvd-mul_right, mul-div_cancel', ◌∣◌}
 use Rattle.calc_algebra.proofs.SquareClassLaws.{alike_from, alike_true}
-use native.Mathlib.Nat.{dvd-mul_right, mul-div_cancel'}
-use Prim.Native.Nat.{◌∣◌}
 
 pub below_power : (k : ℕ) → k < 2 ^ k
 below_power zero = omega arith

@@ -1,7 +1,6 @@
 -- Halves of odd whole numbers: fractions whose denominator is 2.
-use Rattle.std.proofs.Common.{◌≡◌, ℕ, ◌%◌, ◌/◌, true, false, ◌==◌, ℤ, pos, negsuc, ◌+ℤ◌, ◌*ℤ◌, refl, ap, ◌∙◌, arith}
-use Rattle.std.specs.Prelude.{nat_abs, nat_lt}
-use Rattle.calc_algebra.proofs.Shared.{eqb-true, eq-eqb, ints, Fraction, lowest, Holds, held, is_lowest, lowest_parts, same_lowest, plus, plus_lowest, times, times_lowest, whole_fraction, gcd, gcd_in, int_is_even}
+use Rattle.calc_algebra.proofs.Shared.{◌≡◌, ℕ, ◌%◌, ◌/◌, true, false, ◌==◌, ℤ, pos, negsuc, ◌+ℤ◌, ◌*ℤ◌, refl, ap, ◌∙◌, arith, nat_abs, nat_lt, eqb-true, eq-eqb}
+use Rattle.calc_algebra.proofs.Shared.{ints, Fraction, lowest, Holds, held, is_lowest, lowest_parts, same_lowest, plus, plus_lowest, times, times_lowest, whole_fraction, gcd, gcd_in, int_is_even}
 
 gcd_two : (a r : ℕ) → a % 2 ≡ r → gcd a 2 ≡ gcd_in 1 2 r
 unfolding gcd

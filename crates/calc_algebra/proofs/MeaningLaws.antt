@@ -1,8 +1,9 @@
 -- A meaning is closed under sameness, and unique up to it.
-use Rattle.std.specs.Prelude.{ℕ, zero, suc, ◌≡◌, ℤ, pos, negsuc, List, [], ◌∷◌, Contains, ◌⊎◌, ◌*ℤ◌}
-use Rattle.std.proofs.Common.{inl, inr, subst, sym, ap, ◌∙◌, arith}
-use Rattle.calc_algebra.proofs.Shared.{times_comm, one_times, zero_plus, Fraction, lowest, zero_fraction, one_fraction, plus_comm, lowest_cross, den_pos, whole_fraction, minus_one_fraction, cancel_pos, whole_denominator, Gives, Binding, bound_names, Assignment, IsAssignment, Means, MeansSum, MeansProduct, IsWholePower, IsPower, IsRootOf, IsRoot, Same, Inverts, class_coefficient, square_root, Surd, surd_one, surd_of, Tree, num, symbol, undef, add, mult, power, root, neg, sub, div, Trees, none, more}
-use Rattle.std.proofs.lemmas.List.{get_or-map, length-map}
+use Rattle.calc_algebra.proofs.Shared.{ℕ, zero, suc, ◌≡◌, ℤ, pos, negsuc, List, [], ◌∷◌, Contains, ◌⊎◌, ◌*ℤ◌, inl, inr, subst, sym, ap, ◌∙◌, arith, times_comm}
+use Rattle.calc_algebra.proofs.Shared.{one_times, zero_plus, Fraction, lowest, zero_fraction, one_fraction, plus_comm, lowest_cross, den_pos, whole_fraction, minus_one_fraction, cancel_pos}
+use Rattle.calc_algebra.proofs.Shared.{whole_denominator, Gives, Binding, bound_names, Assignment, IsAssignment, Means, MeansSum, MeansProduct, IsWholePower, IsPower, IsRootOf, IsRoot, Same, Inverts}
+use Rattle.calc_algebra.proofs.Shared.{class_coefficient, square_root, Surd, surd_one, surd_of, Tree, num, symbol, undef, add, mult, power, root, neg, sub, div, Trees, none, more, get_or-map}
+use Rattle.calc_algebra.proofs.Shared.{length-map}
 use Rattle.calc_algebra.proofs.SquareClassLaws.{Same-trans, Same-Agree}
 use Rattle.calc_algebra.proofs.SurdLaws.{Agree, Agree-refl, Agree-sym, Agree-trans, Agree-eq, Agree-append, Agree-surd_scale, Agree-surd_times, Agree-surd_times_right, Agree-surd_power, one_inverse}
 use Rattle.calc_algebra.proofs.HalfLaws.{one_is_not_two}

@@ -1,7 +1,6 @@
 -- The names in trees, and in lists of trees.
-use Rattle.std.proofs.Common.{ℕ, ◌≡◌, ◌⊎◌, inl, inr, true, List, [], ◌++◌, refl, sym, ap, ◌∙◌, subst, append_assoc, arith}
-use Rattle.std.specs.Prelude.{Contains}
-use Rattle.calc_algebra.proofs.Shared.{Contains-append_left, Contains-append_right, Contains-append_cases, IsNumber, IsTerm, AreTerms, is_number, Tree, Trees, none, more, append, names, names_of, HasNoNewName}
+use Rattle.calc_algebra.proofs.Shared.{ℕ, ◌≡◌, ◌⊎◌, inl, inr, true, List, [], ◌++◌, refl, sym, ap, ◌∙◌, subst, append_assoc, arith, Contains, Contains-append_left}
+use Rattle.calc_algebra.proofs.Shared.{Contains-append_right, Contains-append_cases, IsNumber, IsTerm, AreTerms, is_number, Tree, Trees, none, more, append, names, names_of, HasNoNewName}
 use Rattle.calc_algebra.proofs.MeaningRewrites.{Permuted, permuted_none, permuted_more, permuted_swap, permuted_trans}
 use Rattle.calc_algebra.proofs.NumberLaws.{number_words}
 

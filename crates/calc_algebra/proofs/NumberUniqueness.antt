@@ -1,7 +1,8 @@
 -- Numbers with the same value, all radicands below 10^12, are one tree.
-use Rattle.std.proofs.Common.{◌≡◌, ◌≢◌, ℕ, ◌<◌, ◌≤◌, ◌^◌, ◌⊎◌, inl, inr, [], ◌∷◌, refl, sym, ap, ◌∙◌, arith, subst}
-use Rattle.std.specs.Prelude.{Contains, ⊤}
-use Rattle.calc_algebra.proofs.Shared.{false_from_ne_true, Contains-append_right, IsClean, zero_plus, plus_negative, Fraction, plus, negative, zero_fraction, one_fraction, plus_comm, plus_assoc, IsNumber, IsTerm, AreTerms, IsBelowAll, Rises, value, term_of, terms_of, term_share, class_coefficient, radicands, Same, Term, Surd, term, Tree, add, Trees, none, more}
+use Rattle.calc_algebra.proofs.Shared.{◌≡◌, ◌≢◌, ℕ, ◌<◌, ◌≤◌, ◌^◌, ◌⊎◌, inl, inr, [], ◌∷◌, refl, sym, ap, ◌∙◌, arith, subst, Contains, ⊤}
+use Rattle.calc_algebra.proofs.Shared.{false_from_ne_true, Contains-append_right, IsClean, zero_plus, plus_negative, Fraction, plus, negative, zero_fraction, one_fraction, plus_comm, plus_assoc}
+use Rattle.calc_algebra.proofs.Shared.{IsNumber, IsTerm, AreTerms, IsBelowAll, Rises, value, term_of, terms_of, term_share, class_coefficient, radicands, Same, Term, Surd, term, Tree, add, Trees}
+use Rattle.calc_algebra.proofs.Shared.{none, more}
 use Rattle.calc_algebra.proofs.NumberShapes.{AsTerm, as_term, AsNumber, as_number, one_number_of_value}
 use Rattle.calc_algebra.proofs.NumberClasses.{IsProper, first_coefficient, one_not_zero}
 use Rattle.calc_algebra.proofs.CleanLaws.{IsSquareFree, clean_square_free, one_square_free, alike_square_free}

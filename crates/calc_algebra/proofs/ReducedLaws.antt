@@ -1,6 +1,10 @@
 -- The test for reduced trees says what its words say.
-use Rattle.std.proofs.Common.{◌≡◌, inl, inr, ℕ, Bool, true, false, not, ◌&&◌, ◌||◌, ◌==◌, nat_le, if◌then◌else◌, refl, ap, arith}
-use Rattle.calc_algebra.proofs.Shared.{Ordering, Less, is_lt, and_parts, and_from, or_left, or_right, not-true, not_from_false, eqb-true, leb-true, false_from_ne_true, int_is_negative, int_is_even, Fraction, is_zero_fraction, is_one_fraction, Tree, num, symbol, undef, add, mult, power, root, neg, sub, div, Trees, none, more, has_two, HasTwo, AllParts, AllPartsOf, is_add, is_mult, is_root, is_undef, tree_cmp, is_number, terms_of, rises, classes, is_transparent_power, base_of, whole_power_form, power_form, split_product, part_of, none_is, rises_by, number_terms, other_terms, sum_form, front_form, is_undistributed, product_form, node_form, has_form, all_parts, all_parts_of, is_reduced, NoneIs, RisesBy, IsWholePowerForm, IsPowerForm, IsSumForm, IsFrontForm, IsProductForm, IsNodeForm, HasForm, IsReduced, no_zero, no_one, zero_test, one_test}
+use Rattle.calc_algebra.proofs.Shared.{◌≡◌, inl, inr, ℕ, Bool, true, false, not, ◌&&◌, ◌||◌, ◌==◌, nat_le, if◌then◌else◌, refl, ap, arith, Ordering, Less, is_lt, and_parts}
+use Rattle.calc_algebra.proofs.Shared.{and_from, or_left, or_right, not-true, not_from_false, eqb-true, leb-true, false_from_ne_true, int_is_negative, int_is_even, Fraction, is_zero_fraction}
+use Rattle.calc_algebra.proofs.Shared.{is_one_fraction, Tree, num, symbol, undef, add, mult, power, root, neg, sub, div, Trees, none, more, has_two, HasTwo, AllParts, AllPartsOf, is_add, is_mult}
+use Rattle.calc_algebra.proofs.Shared.{is_root, is_undef, tree_cmp, is_number, terms_of, rises, classes, is_transparent_power, base_of, whole_power_form, power_form, split_product, part_of, none_is}
+use Rattle.calc_algebra.proofs.Shared.{rises_by, number_terms, other_terms, sum_form, front_form, is_undistributed, product_form, node_form, has_form, all_parts, all_parts_of, is_reduced, NoneIs}
+use Rattle.calc_algebra.proofs.Shared.{RisesBy, IsWholePowerForm, IsPowerForm, IsSumForm, IsFrontForm, IsProductForm, IsNodeForm, HasForm, IsReduced, no_zero, no_one, zero_test, one_test}
 use Rattle.calc_algebra.proofs.NumberLaws.{number_words, number_test, rises_words, rises_test}
 
 -- ---- Booleans

@@ -1,6 +1,5 @@
 -- Rewritings that follow one another.
-use Rattle.std.proofs.Common.{◌≡◌, true}
-use Rattle.calc_algebra.proofs.Shared.{is_reduced, Tree, KeepsMeanings, HasNoNewName, Rewrites, Reduces}
+use Rattle.calc_algebra.proofs.Shared.{◌≡◌, true, is_reduced, Tree, KeepsMeanings, HasNoNewName, Rewrites, Reduces}
 use Rattle.calc_algebra.proofs.MeaningRewrites as rewrites
 
 -- what the laws of meanings say of rewritings

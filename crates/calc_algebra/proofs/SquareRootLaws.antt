@@ -1,7 +1,6 @@
 -- Square roots rounded down, and when a number is a square.
-use Rattle.std.specs.Prelude.{ℕ, zero, suc, ◌+◌, ◌*◌, ◌/◌, ◌%◌, ◌-◌, ◌≡◌, ◌≤◌, ◌<◌, Bool, true, false, nat_le}
-use Rattle.std.proofs.Common.{refl, ap, ◌∙◌, arith}
-use Rattle.calc_algebra.proofs.Shared.{leb-true, leb-false, next_square_root, square_root_in, square_root, IsSquareRoot}
+use Rattle.calc_algebra.proofs.Shared.{ℕ, zero, suc, ◌+◌, ◌*◌, ◌/◌, ◌%◌, ◌-◌, ◌≡◌, ◌≤◌, ◌<◌, Bool, true, false, nat_le, refl, ap, ◌∙◌, arith, leb-true}
+use Rattle.calc_algebra.proofs.Shared.{leb-false, next_square_root, square_root_in, square_root, IsSquareRoot}
 
 next_square_root_is : (n r : ℕ) → IsSquareRoot (n / 4) r → IsSquareRoot n (next_square_root n r)
 next_square_root_is n r h = by (nat_le ((2 * r + 1) * (2 * r + 1)) n) refl

@@ -1,10 +1,8 @@
 -- The order of trees is total, and Equal exactly for identical trees.
-use Rattle.std.specs.Prelude.{ℕ, ◌+◌, ◌*◌, ◌≡◌, ℤ, pos, ◌*ℤ◌, ◌<ℤ◌, ◌<◌, List, [], ◌∷◌, false, ◌&&◌, nat_eq}
-use Rattle.std.proofs.Common.{refl, sym, ap, ◌∙◌, arith}
-use Rattle.calc_algebra.proofs.Shared.{Ordering, Less, Equal, nat_cmp, int_cmp, ordering_then, ordering_reverse, MatchOrdering, ints, Fraction, same_fraction, den_pos, fraction_cmp, tree_cmp, trees_cmp, root_code, Tree, num, symbol, undef, add, mult, power, root, neg, sub, div, Trees, none, more}
-use Rattle.std.specs.Cmp.Lexicographic.{slice_cmp, nat_list_cmp_total}
-use Rattle.std.specs.Cmp.{int_cmp_total, nat_cmp_total, tied_itself, ranked, int_ranked, IsTotalOrder}
-use borrow.Author.Differences.{up, down}
+use Rattle.calc_algebra.proofs.Shared.{ℕ, ◌+◌, ◌*◌, ◌≡◌, ℤ, pos, ◌*ℤ◌, ◌<ℤ◌, ◌<◌, List, [], ◌∷◌, false, ◌&&◌, nat_eq, refl, sym, ap, ◌∙◌, arith}
+use Rattle.calc_algebra.proofs.Shared.{Ordering, Less, Equal, nat_cmp, int_cmp, ordering_then, ordering_reverse, MatchOrdering, ints, Fraction, same_fraction, den_pos, fraction_cmp, tree_cmp}
+use Rattle.calc_algebra.proofs.Shared.{trees_cmp, root_code, Tree, num, symbol, undef, add, mult, power, root, neg, sub, div, Trees, none, more, slice_cmp, nat_list_cmp_total, int_cmp_total}
+use Rattle.calc_algebra.proofs.Shared.{nat_cmp_total, tied_itself, ranked, int_ranked, IsTotalOrder, up, down}
 
 then_equal : (a b : Ordering) → a ≡ Equal → b ≡ Equal → ordering_then a b ≡ Equal
 then_equal a b p q = rw (p, q) refl

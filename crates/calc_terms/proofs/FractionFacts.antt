@@ -1,10 +1,7 @@
 -- Equal fractions have equal cross products, and the tests for 0 and 1.
-use Rattle.std.proofs.Common.{nat_lt, nat_abs, zero, suc, negsuc, true, false, not, ◌==◌, refl, ◌≢◌, ◌≡◌, ℕ, ◌<◌, ℤ, pos, ◌*ℤ◌, sym, ap, ◌∙◌, arith}
-use Rattle.std.proofs.lemmas.Int.{ints}
-use Rattle.std.proofs.lemmas.Bool.{eq-eqb, and_parts, eqb-true, false_from_ne_true}
-use Rattle.calc_terms.specs.Gcd.{gcd, gcd_step, gcd_zero}
-use Rattle.calc_terms.specs.Integers.{int_is_zero, int_is_one, parts, diffs, eq_diff, combine, cancel_pos}
-use Rattle.calc_terms.specs.Fractions.{Fraction, lowest, zero_fraction, one_fraction, is_zero_fraction, is_one_fraction, held, same_fraction, lowest_cross, lowest_parts, same_lowest, den_pos}
+use Rattle.calc_terms.proofs.Shared.{nat_lt, nat_abs, zero, suc, negsuc, true, false, not, ◌==◌, refl, ◌≢◌, ◌≡◌, ℕ, ◌<◌, ℤ, pos, ◌*ℤ◌, sym, ap, ◌∙◌, arith, ints}
+use Rattle.calc_terms.proofs.Shared.{eq-eqb, and_parts, eqb-true, false_from_ne_true, gcd, gcd_step, gcd_zero, int_is_zero, int_is_one, parts, diffs, eq_diff, combine, cancel_pos, Fraction, lowest}
+use Rattle.calc_terms.proofs.Shared.{zero_fraction, one_fraction, is_zero_fraction, is_one_fraction, held, same_fraction, lowest_cross, lowest_parts, same_lowest, den_pos}
 
 crossed : (x : ℤ) (d : ℕ) (p r : ℤ) (q s : ℕ) → 0 < d → x *ℤ pos q ≡ p *ℤ pos d → x *ℤ pos s ≡ r *ℤ pos d → p *ℤ pos s ≡ r *ℤ pos q
 crossed x d p r q s h e f = cancel_pos _ _ d h

@@ -1,11 +1,6 @@
 -- What a leaf holds is what a node may hold.
-use Rattle.std.proofs.Common.{ℤ, pos, ◌≤◌, arith}
-use Rattle.std.specs.Prelude.{nat_abs, ◌<ℤ◌}
-use Rattle.std.proofs.lemmas.Int.{ints}
-use Rattle.calc_terms.specs.declared.leaf.Leaf.{Leaf}
+use Rattle.calc_terms.proofs.Shared.{ℤ, pos, ◌≤◌, arith, nat_abs, ◌<ℤ◌, ints, Leaf, IsPayload, payload_of, IsUsable}
 use Rattle.calc_terms.specs.declared.leaf.Leaf.TheVariants as leaf
-use Rattle.calc_terms.specs.Payload.{IsPayload}
-use Rattle.calc_terms.specs.Leaf.{payload_of, IsUsable}
 
 at_least_one : (z : ℤ) → pos 0 <ℤ z → 1 ≤ nat_abs z
 at_least_one z h = omega (arith, ints)

@@ -8,3 +8,4 @@ pub mod Sizes
 pub mod ShortForm
 pub mod Codec
 pub mod Leaves
+mod Shared

@@ -1,6 +1,5 @@
 -- Numbers as bytes.
-use Rattle.std.proofs.Common.{◌≡◌, ℕ, zero, suc, ◌/◌, ◌^◌, ◌<◌, length, refl, ap, arith}
-use Rattle.calc_terms.specs.Node.{low_bytes, from_bytes}
+use Rattle.calc_terms.proofs.Shared.{◌≡◌, ℕ, zero, suc, ◌/◌, ◌^◌, ◌<◌, length, refl, ap, arith, low_bytes, from_bytes}
 
 pub length-low_bytes : (k n : ℕ) → length (low_bytes k n) ≡ k
 unfolding low_bytes

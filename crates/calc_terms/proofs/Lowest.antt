@@ -1,11 +1,6 @@
 -- Two numbers over their greatest common divisor.
-use Rattle.std.proofs.Common.{◌≡◌, ℕ, ◌≤◌, ◌*◌, ◌/◌, ◌<◌, sym, ap, ◌∙◌, arith, subst}
-use Rattle.std.specs.Int.{IsGcd, ◌∣◌}
-use Rattle.std.proofs.Math.Nat.{mul-div_cancel', mul-dvd-mul_left, dvd_of_mul-dvd-mul_left, one-dvd, pos_of_dvd_of_pos}
-use Rattle.std.specs.Prelude.{ℤ, pos, negsuc, ◌<ℤ◌, ◌*ℤ◌, nat_abs}
-use Rattle.std.proofs.lemmas.Int.{ints}
-use Rattle.calc_terms.specs.Fractions.{lowest, same_lowest}
-use Rattle.calc_terms.specs.Ratio.{IsReduced}
+use Rattle.calc_terms.proofs.Shared.{◌≡◌, ℕ, ◌≤◌, ◌*◌, ◌/◌, ◌<◌, sym, ap, ◌∙◌, arith, subst, IsGcd, ◌∣◌, mul-div_cancel', mul-dvd-mul_left}
+use Rattle.calc_terms.proofs.Shared.{dvd_of_mul-dvd-mul_left, one-dvd, pos_of_dvd_of_pos, ℤ, pos, negsuc, ◌<ℤ◌, ◌*ℤ◌, nat_abs, ints, lowest, same_lowest, IsReduced}
 
 pub gcd_positive : (a b g : ℕ) → 0 < b → IsGcd a b g → 0 < g
 gcd_positive a b g h d = pos_of_dvd_of_pos d.1 h

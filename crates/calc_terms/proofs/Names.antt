@@ -1,13 +1,8 @@
 -- Names, their bytes and the eight bytes that hold them.
-use Rattle.std.proofs.Common.{◌≡◌, ℕ, zero, suc, ◌-◌, ◌≤◌, ◌≢◌, List, [], ◌∷◌, ◌++◌, length, take, drop, replicate, Bool, true, false, not, eqb, refl, sym, ap, ◌∙◌, subst, arith}
-use Rattle.std.specs.Prelude.{◌&&◌, ◌||◌, nat_le, nat_eq, codes}
-use Rattle.std.specs.List.{list_all}
-use Rattle.std.specs.Cmp.Lexicographic.{pointwise}
-use Rattle.std.proofs.lemmas.Bool.{ne_eqb, leb-true, le-leb}
-use Rattle.std.proofs.lemmas.List.{length-append, take_at, drop-replicate, length-replicate, append-nil}
-use Rattle.std.proofs.lemmas.List.Sums.{AllPass-from_list_all, list_all-from_AllPass}
-use Rattle.std.proofs.lemmas.Slice.Eq.{bytes_eq-Decides}
-use Rattle.calc_terms.specs.Name.{is_name_byte, is_reserved, begins_with_letter, is_name, IsName, before_zero, padded, HoldsName}
+use Rattle.calc_terms.proofs.Shared.{◌≡◌, ℕ, zero, suc, ◌-◌, ◌≤◌, ◌≢◌, List, [], ◌∷◌, ◌++◌, length, take, drop, replicate, Bool, true, false, not, eqb, refl, sym, ap}
+use Rattle.calc_terms.proofs.Shared.{◌∙◌, subst, arith, ◌&&◌, ◌||◌, nat_le, nat_eq, codes, list_all, pointwise, ne_eqb, leb-true, le-leb, length-append, take_at, drop-replicate}
+use Rattle.calc_terms.proofs.Shared.{length-replicate, append-nil, AllPass-from_list_all, list_all-from_AllPass, bytes_eq-Decides, is_name_byte, is_reserved, begins_with_letter, is_name, IsName}
+use Rattle.calc_terms.proofs.Shared.{before_zero, padded, HoldsName}
 
 both : (a b : Bool) → (a && b) ≡ true → (a ≡ true) × (b ≡ true)
 both true b h = (refl, h)

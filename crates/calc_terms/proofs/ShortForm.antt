@@ -1,13 +1,7 @@
 -- Which numbers have the short form.
-use Rattle.std.proofs.Common.{◌≡◌, ℕ, ℤ, pos, neg_ℤ, nat_abs, ◌<◌, ◌≤◌, ◌^◌, Bool, true, false, refl, sym, ap, ◌∙◌, arith, FitsSigned}
-use Rattle.std.specs.Prelude.{◌&&◌, ◌==◌, ◌↔◌, IsTrue, int_le, int_lt}
-use Rattle.std.specs.Int.{w64}
-use Rattle.std.proofs.lemmas.Int.{ints}
-use Rattle.std.proofs.lemmas.Bool.{and_from, and_parts, eqb-true, ne_eqb}
-use Rattle.calc_terms.specs.Fractions.{Fraction, Holds, is_lowest, is_one_fraction, lowest, lowest_parts}
-use Rattle.calc_terms.specs.Integers.{int_is_one}
-use Rattle.calc_terms.specs.Ratio.{Ratio, IsRat}
-use Rattle.calc_terms.specs.Short.{is_short, is_short_int}
+use Rattle.calc_terms.proofs.Shared.{◌≡◌, ℕ, ℤ, pos, neg_ℤ, nat_abs, ◌<◌, ◌≤◌, ◌^◌, Bool, true, false, refl, sym, ap, ◌∙◌, arith, FitsSigned, ◌&&◌, ◌==◌}
+use Rattle.calc_terms.proofs.Shared.{◌↔◌, IsTrue, int_le, int_lt, w64, ints, and_from, and_parts, eqb-true, ne_eqb, Fraction, Holds, is_lowest, is_one_fraction, lowest, lowest_parts, int_is_one}
+use Rattle.calc_terms.proofs.Shared.{Ratio, IsRat, is_short, is_short_int}
 use Rattle.calc_terms.proofs.FractionFacts.{whole_numerator, whole_denominator}
 
 holds : (b : Bool) → b ≡ true → Holds b

@@ -1,13 +1,6 @@
 -- A sign, a magnitude and a denominator as a rational.
-use Rattle.std.proofs.Common.{◌≡◌, ℕ, ℤ, pos, ◌<◌, ◌≤◌, ◌^◌, Bool, true, false, refl, ap, ◌∙◌, arith, zero, suc, to_z, of_z, FitsSigned}
-use Rattle.std.specs.Prelude.{nat_abs, ◌<ℤ◌}
-use Rattle.std.specs.Int.{IsGcd, w128}
-use Rattle.std.proofs.lemmas.Int.{ints, to_z-of_z, to_z_pos}
-use Rattle.std.proofs.lemmas.Bool.{and_from, lt-ltb, eq-eqb}
-use Rattle.std.proofs.lemmas.Nat.Gcd.{same_from_IsGcd}
-use Rattle.calc_terms.specs.Fractions.{is_lowest}
-use Rattle.calc_terms.specs.Gcd.{gcd, gcd_is}
-use Rattle.calc_terms.specs.Ratio.{with_sign}
+use Rattle.calc_terms.proofs.Shared.{◌≡◌, ℕ, ℤ, pos, ◌<◌, ◌≤◌, ◌^◌, Bool, true, false, refl, ap, ◌∙◌, arith, zero, suc, to_z, of_z, FitsSigned, nat_abs, ◌<ℤ◌}
+use Rattle.calc_terms.proofs.Shared.{IsGcd, w128, ints, to_z-of_z, to_z_pos, and_from, lt-ltb, eq-eqb, same_from_IsGcd, is_lowest, gcd, gcd_is, with_sign}
 
 pub lowest_is : (z : ℤ) (n d : ℕ) → nat_abs z ≡ n → 0 < d → IsGcd n d 1 → is_lowest z d ≡ true
 lowest_is z n d e h g = and_from _ _ (lt-ltb 0 d h) (eq-eqb _ 1 (ap (λ (k : ℕ). gcd k d) e ∙ same_from_IsGcd n d _ _ (gcd_is n d) g))

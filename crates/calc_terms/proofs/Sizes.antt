@@ -1,15 +1,9 @@
 -- The bytes of a node: 8 at least, 16 or 40 for a number, and always a multiple of 8.
-use Rattle.std.proofs.Common.{◌≡◌, ℕ, pos, ◌^◌, ◌<◌, ◌≤◌, Bool, true, false, refl, arith, ap, cond, eqb, ltb, sym, ◌∙◌}
-use Rattle.std.proofs.lemmas.Bool.{le-ltb, lt-ltb, ne_eqb}
-use Rattle.calc_terms.specs.declared.kind.Kind.{Kind}
-use Rattle.calc_terms.specs.declared.kind.Kind.TheVariants as kind
-use Rattle.calc_terms.specs.Fractions.{Fraction, lowest}
-use Rattle.calc_terms.specs.Kind.{code_of, size_by_form}
-use Rattle.calc_terms.specs.Node.{form_of}
-use Rattle.calc_terms.specs.Payload.{Payload, kind_of_payload, has_short_form, size_of_payload, is_bare}
-use Rattle.calc_terms.specs.Short.{is_short}
-use Rattle.calc_terms.specs.Trees.{Tree, num, whole_num, size, root_size, root_kind, has_short_root}
+use Rattle.calc_terms.proofs.Shared.{◌≡◌, ℕ, pos, ◌^◌, ◌<◌, ◌≤◌, Bool, true, false, refl, arith, ap, cond, eqb, ltb, sym, ◌∙◌, le-ltb, lt-ltb, ne_eqb, Kind, Fraction}
+use Rattle.calc_terms.proofs.Shared.{lowest, code_of, size_by_form, form_of, Payload, kind_of_payload, has_short_form, size_of_payload, is_bare, is_short, Tree, num, whole_num, size, root_size}
+use Rattle.calc_terms.proofs.Shared.{root_kind, has_short_root}
 use Rattle.calc_terms.proofs.ShortForm.{whole_short}
+use Rattle.calc_terms.specs.declared.kind.Kind.TheVariants as kind
 
 -- a number's form
 pub number_least : (b : Bool) → 16 ≤ size_by_form kind.Num b

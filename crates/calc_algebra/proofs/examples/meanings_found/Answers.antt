@@ -1,5 +1,5 @@
-use Rattle.std.proofs.Common.{◌≡◌, inl, inr, refl, [], ◌∷◌, ◌++◌, ℤ, pos, negsuc, subst}
-use Rattle.calc_algebra.proofs.Shared.{gcd, Fraction, lowest, quotient, plus, times, zero_fraction, one_fraction, whole_fraction, minus_one_fraction, square_root, Surd, term, surd_of, Same, IsWholePower, IsPower, IsRootOf}
+use Rattle.calc_algebra.proofs.Shared.{◌≡◌, inl, inr, refl, [], ◌∷◌, ◌++◌, ℤ, pos, negsuc, subst, gcd, Fraction, lowest, quotient, plus, times, zero_fraction, one_fraction}
+use Rattle.calc_algebra.proofs.Shared.{whole_fraction, minus_one_fraction, square_root, Surd, term, surd_of, Same, IsWholePower, IsPower, IsRootOf}
 use Rattle.calc_algebra.proofs.SurdLaws.{Agree-sym, Agree-trans}
 use Rattle.calc_algebra.proofs.SquareClassLaws.{Same-Agree, Same-trans}
 use Rattle.calc_algebra.proofs.MeaningLaws.{surd_of_one, whole_one, whole_is_no_half}

@@ -1,5 +1,4 @@
-use Rattle.std.proofs.Common.{refl}
-use Rattle.calc_algebra.proofs.Shared.{is_clean, left_of, lowest, one_fraction, zero_fraction, gcd, is_number, is_reduced, square_root}
+use Rattle.calc_algebra.proofs.Shared.{refl, is_clean, left_of, lowest, one_fraction, zero_fraction, gcd, is_number, is_reduced, square_root}
 use Rattle.calc_algebra.proofs.examples.other_trees.Goals as goal
 
 pub returns-clause-a_difference : goal.returns-clause-a_difference

@@ -1,5 +1,4 @@
-use Rattle.std.proofs.Common.{refl}
-use Rattle.calc_algebra.proofs.Shared.{is_clean, left_of, square_root}
+use Rattle.calc_algebra.proofs.Shared.{refl, is_clean, left_of, square_root}
 use Rattle.calc_algebra.proofs.examples.radicands_tested.Goals as goal
 
 pub returns-clause-square_free : goal.returns-clause-square_free

@@ -1,5 +1,4 @@
-use Rattle.std.proofs.Common.{refl}
-use Rattle.calc_algebra.proofs.Shared.{lowest, gcd}
+use Rattle.calc_algebra.proofs.Shared.{refl, lowest, gcd}
 use Rattle.calc_algebra.proofs.examples.trees_compared.Goals as goal
 
 pub returns-clause-by_kind : goal.returns-clause-by_kind

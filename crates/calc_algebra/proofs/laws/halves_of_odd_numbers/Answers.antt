@@ -1,5 +1,4 @@
-use Rattle.std.proofs.Common.{sym, ap}
-use Rattle.calc_algebra.proofs.Shared.{Fraction}
+use Rattle.calc_algebra.proofs.Shared.{sym, ap, Fraction}
 use Rattle.calc_algebra.proofs.HalfLaws.{half_is_odd, half_parts, half_of_is}
 use Rattle.calc_algebra.proofs.laws.halves_of_odd_numbers.Goals as goal
 

@@ -1,4 +1,4 @@
-use Rattle.calc_terms.specs.Fractions.{same_lowest}
+use Rattle.calc_terms.proofs.Shared.{same_lowest}
 use Rattle.calc_terms.proofs.FractionFacts.{cross_products}
 use Rattle.calc_terms.proofs.laws.equal_fractions.Goals as goal
 

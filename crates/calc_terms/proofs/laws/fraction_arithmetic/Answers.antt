@@ -1,5 +1,4 @@
-use Rattle.calc_terms.specs.Fractions.{plus_lowest, times_lowest}
-use Rattle.calc_terms.specs.FractionLaws.{negative_lowest}
+use Rattle.calc_terms.proofs.Shared.{plus_lowest, times_lowest, negative_lowest}
 use Rattle.calc_terms.proofs.laws.fraction_arithmetic.Goals as goal
 
 pub returns-clause-sum : goal.returns-clause-sum

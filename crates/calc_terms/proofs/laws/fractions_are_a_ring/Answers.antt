@@ -1,5 +1,4 @@
-use Rattle.calc_terms.specs.Fractions.{plus_comm, plus_assoc}
-use Rattle.calc_terms.specs.FractionLaws.{zero_plus, plus_negative, times_comm, times_assoc, one_times, times_plus}
+use Rattle.calc_terms.proofs.Shared.{plus_comm, plus_assoc, zero_plus, plus_negative, times_comm, times_assoc, one_times, times_plus}
 use Rattle.calc_terms.proofs.laws.fractions_are_a_ring.Goals as goal
 
 pub returns-clause-plus_commutes : goal.returns-clause-plus_commutes

@@ -1,4 +1,4 @@
-use Rattle.std.proofs.Common.{arith}
+use Rattle.calc_terms.proofs.Shared.{arith}
 use Rattle.calc_terms.proofs.Sizes.{told_by, told_long, told_more, told_short, told_two}
 use Rattle.calc_terms.proofs.leaf.size_by_code.Goals as goal
 

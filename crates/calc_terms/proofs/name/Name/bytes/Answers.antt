@@ -1,5 +1,4 @@
-use Rattle.std.proofs.Common.{sym, refl, subst, true}
-use Rattle.calc_terms.specs.Name.{IsName}
+use Rattle.calc_terms.proofs.Shared.{sym, refl, subst, true, IsName}
 use Rattle.calc_terms.proofs.Names.{front, in_words}
 use Rattle.calc_terms.proofs.name.Name.bytes.Goals as goal
 

@@ -1,5 +1,4 @@
-use Rattle.std.proofs.Common.{◌≡◌, ◌+◌, ◌-◌, ◌≤◌, length, drop}
-use Rattle.calc_terms.specs.Name.{before_zero}
+use Rattle.calc_terms.proofs.Shared.{◌≡◌, ◌+◌, ◌-◌, ◌≤◌, length, drop, before_zero}
 use Rattle.calc_terms.proofs.name.Name.len.Given as goal
 
 abbrev pub invariant-loop-len : goal.invariant-loop-len

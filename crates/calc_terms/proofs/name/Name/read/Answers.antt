@@ -1,4 +1,4 @@
-use Rattle.std.proofs.Common.{◌∙◌, sym, true}
+use Rattle.calc_terms.proofs.Shared.{◌∙◌, sym, true}
 use Rattle.calc_terms.proofs.Names.{in_words, written, written_back}
 use Rattle.calc_terms.proofs.name.Name.read.Goals as goal
 

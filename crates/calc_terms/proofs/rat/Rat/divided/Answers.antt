@@ -1,6 +1,4 @@
-use Rattle.std.proofs.Common.{arith, rules, ◌<◌, ◌^◌, FitsSigned}
-use Rattle.std.specs.Int.{w128}
-use Rattle.std.proofs.lemmas.Int.{ints}
+use Rattle.calc_terms.proofs.Shared.{arith, rules, ◌<◌, ◌^◌, FitsSigned, w128, ints}
 use Rattle.calc_terms.proofs.Signs.{is_made}
 use Rattle.calc_terms.proofs.rat.Rat.divided.Goals as goal
 

@@ -1,11 +1,4 @@
-use Rattle.std.proofs.Common.{◌≡◌, ◌∙◌, ap, nat_abs, sym, Bool, ◌&&◌}
-use Rattle.std.specs.Prelude.{◌==◌}
-use Rattle.std.specs.Int.{w128}
-use Rattle.std.proofs.lemmas.Int.{fits_signed_from_abs, to_z-of_z}
-use Rattle.calc_terms.specs.Integers.{int_is_one}
-use Rattle.calc_terms.specs.Rat.{value_of}
-use Rattle.calc_terms.specs.declared.rat.Rat.{Rat}
-use Rattle.calc_terms.specs.Fractions.{is_one_fraction}
+use Rattle.calc_terms.proofs.Shared.{◌≡◌, ◌∙◌, ap, nat_abs, sym, Bool, ◌&&◌, ◌==◌, w128, fits_signed_from_abs, to_z-of_z, int_is_one, value_of, Rat, is_one_fraction}
 use Rattle.calc_terms.proofs.ShortForm.{one_by, whole_test}
 use Rattle.calc_terms.proofs.rat.Rat.is_one.Goals as goal
 use Rattle.calc_terms.proofs.rat.Rat.is_one.Goals.{After-is_one_int}

@@ -1,8 +1,4 @@
-use Rattle.std.proofs.Common.{ℤ, ◌<◌, ◌^◌, ◌∙◌, ap, arith, FitsSigned}
-use Rattle.std.specs.Prelude.{nat_abs}
-use Rattle.std.specs.Int.{w128}
-use Rattle.std.proofs.lemmas.Int.{ints, to_z-of_z}
-use Rattle.calc_terms.specs.Short.{is_short_int}
+use Rattle.calc_terms.proofs.Shared.{ℤ, ◌<◌, ◌^◌, ◌∙◌, ap, arith, FitsSigned, nat_abs, w128, ints, to_z-of_z, is_short_int}
 use Rattle.calc_terms.proofs.ShortForm.{tested, not_whole}
 use Rattle.calc_terms.proofs.rat.Rat.is_short.Goals as goal
 

@@ -1,7 +1,4 @@
-use Rattle.std.proofs.Common.{◌∙◌, ap, sym}
-use Rattle.std.specs.Int.{w128}
-use Rattle.std.proofs.lemmas.Int.{fits_signed_from_abs, to_z-of_z}
-use Rattle.calc_terms.specs.Integers.{int_is_zero}
+use Rattle.calc_terms.proofs.Shared.{◌∙◌, ap, sym, w128, fits_signed_from_abs, to_z-of_z, int_is_zero}
 use Rattle.calc_terms.proofs.ShortForm.{lowest_itself}
 use Rattle.calc_terms.proofs.rat.Rat.is_zero.Goals as goal
 

@@ -1,6 +1,4 @@
-use Rattle.std.specs.Int.{w128}
-use Rattle.std.proofs.lemmas.Int.{to_z-of_z}
-use Rattle.calc_terms.specs.Rat.{ratio_of}
+use Rattle.calc_terms.proofs.Shared.{w128, to_z-of_z, ratio_of}
 use Rattle.calc_terms.proofs.Lowest.{same_ratio_of}
 use Rattle.calc_terms.proofs.rat.Rat.ratio.Goals as goal
 
