@@ -9,3 +9,5 @@ pub mod ShortForm
 pub mod Codec
 pub mod Leaves
 mod Shared
+pub mod TreeLists
+pub mod SmallFractions

@@ -1,13 +1,6 @@
 -- Numbers without a common divisor, and divisors of signed numbers.
-use Rattle.std.proofs.Common.{◌≡◌, ℕ, zero, suc, ◌*◌, ◌/◌, ◌<◌, ℤ, pos, negsuc, ◌+ℤ◌, ◌*ℤ◌, neg_ℤ, refl, sym, ◌∙◌, subst, arith}
-use Rattle.std.specs.Prelude.{nat_abs}
-use Rattle.std.specs.Int.{IsGcd, ◌∣◌}
-use Rattle.std.proofs.lemmas.Int.{ints, unsigned_abs-mul}
-use Rattle.std.proofs.lemmas.Nat.Gcd.{dvd_trans}
-use Rattle.std.proofs.Math.Nat.{dvd-mul_left, one-dvd, pos_of_dvd_of_pos}
-use Rattle.calc_terms.specs.Gcd.{gauss, divided}
-use Rattle.calc_terms.specs.Fractions.{over, over_back}
-use Rattle.calc_terms.specs.Integers.{parts, diffs, eq_diff}
+use Rattle.rational128.proofs.Shared.{◌≡◌, ℕ, zero, suc, ◌*◌, ◌/◌, ◌<◌, ℤ, pos, negsuc, ◌+ℤ◌, ◌*ℤ◌, neg_ℤ, refl, sym, ◌∙◌, subst, arith, nat_abs, IsGcd}
+use Rattle.rational128.proofs.Shared.{◌∣◌, ints, unsigned_abs-mul, dvd_trans, dvd-mul_left, one-dvd, pos_of_dvd_of_pos, gauss, divided, over, over_back, parts, diffs, eq_diff}
 
 -- only 1 divides both
 pub record IsCoprime (a b : ℕ) : Type 0 where

@@ -1,12 +1,7 @@
 -- Common divisors and factors of 2.
-use Rattle.std.proofs.Common.{◌≡◌, ℕ, zero, suc, ◌+◌, ◌-◌, ◌*◌, ◌/◌, ◌%◌, ◌^◌, ◌<◌, ◌≤◌, min, max, ◌≢◌, ◌⊎◌, inl, inr, refl, sym, ap, ◌∙◌, subst, arith}
-use Rattle.std.specs.Int.{IsGcd, Width, trailing_zeros, bit_at, ◌∣◌}
-use Rattle.std.proofs.lemmas.Nat.{mod-pow-add, pow_pos, pow-add, shr_le}
-use Rattle.std.proofs.lemmas.Nat.Bits.{bit_at-trailing_zeros}
-use Rattle.std.proofs.lemmas.Nat.Gcd.{IsGcd-swap, IsGcd-from_sub, dvd_refl, le_of_dvd}
-use Rattle.std.proofs.Math.Nat.{mod-eq_of_lt, mul-div_cancel', dvd-mul_right, dvd-mul_left_of_dvd, one-dvd, pow-suc}
-use Rattle.calc_terms.specs.Gcd.{IsGcd-scaled}
-use mir.Val.{bits}
+use Rattle.rational128.proofs.Shared.{◌≡◌, ℕ, zero, suc, ◌+◌, ◌-◌, ◌*◌, ◌/◌, ◌%◌, ◌^◌, ◌<◌, ◌≤◌, min, max, ◌≢◌, ◌⊎◌, inl, inr, refl, sym, ap}
+use Rattle.rational128.proofs.Shared.{◌∙◌, subst, arith, IsGcd, Width, trailing_zeros, bit_at, ◌∣◌, mod-pow-add, pow_pos, pow-add, shr_le, bit_at-trailing_zeros, IsGcd-swap}
+use Rattle.rational128.proofs.Shared.{IsGcd-from_sub, dvd_refl, le_of_dvd, mod-eq_of_lt, mul-div_cancel', dvd-mul_right, dvd-mul_left_of_dvd, one-dvd, pow-suc, IsGcd-scaled, bits}
 
 -- the multiple m of d
 multiple : (d n : ℕ) → d ∣ n → d * (n / d) ≡ n

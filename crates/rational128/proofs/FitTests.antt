@@ -1,8 +1,5 @@
 -- Tests of what fits.
-use Rattle.std.proofs.Common.{◌≡◌, ℕ, ◌<◌, ◌≤◌, ◌^◌, ℤ, true, false, arith}
-use Rattle.std.specs.Prelude.{nat_abs}
-use Rattle.std.proofs.lemmas.Bool.{lt-ltb, le-ltb}
-use Rattle.calc_terms.specs.Fits.{fits}
+use Rattle.rational128.proofs.Shared.{◌≡◌, ℕ, ◌<◌, ◌≤◌, ◌^◌, ℤ, true, false, arith, nat_abs, lt-ltb, le-ltb, fits}
 
 pub fits_yes : (z : ℤ) → nat_abs z < 2 ^ 127 → fits z ≡ true
 fits_yes z h = lt-ltb _ _ h

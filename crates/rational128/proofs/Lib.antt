@@ -10,3 +10,4 @@ pub mod PowerLaws
 pub mod FractionPowers
 pub mod Reciprocals
 pub mod Shorts
+mod Shared

@@ -1,14 +1,6 @@
 -- Fractions by their parts in lowest terms.
-use Rattle.std.proofs.Common.{◌≡◌, ℕ, ◌<◌, ℤ, pos, ◌*ℤ◌, Bool, true, ◌&&◌, refl, sym, ap, ◌∙◌, subst, arith}
-use Rattle.std.specs.Prelude.{nat_abs}
-use Rattle.std.specs.Int.{IsGcd}
-use Rattle.std.proofs.lemmas.Bool.{lt-ltb, eq-eqb, eqb-true}
-use Rattle.std.proofs.lemmas.Nat.Gcd.{same_from_IsGcd}
-use Rattle.std.proofs.Math.Nat.{one-dvd}
-use Rattle.calc_terms.specs.Gcd.{gcd_is}
-use Rattle.calc_terms.specs.Fractions.{Fraction, Holds, is_lowest, lowest, second_held, lowest_parts, same_lowest, fraction_path}
-use Rattle.calc_terms.specs.declared.rat.Rat.{Rat}
-use Rattle.calc_terms.specs.Rat.{ratio_of, value_of}
+use Rattle.rational128.proofs.Shared.{◌≡◌, ℕ, ◌<◌, ℤ, pos, ◌*ℤ◌, Bool, true, ◌&&◌, refl, sym, ap, ◌∙◌, subst, arith, nat_abs, IsGcd, lt-ltb, eq-eqb, eqb-true}
+use Rattle.rational128.proofs.Shared.{same_from_IsGcd, one-dvd, gcd_is, Fraction, Holds, is_lowest, lowest, second_held, lowest_parts, same_lowest, fraction_path, Rat, ratio_of, value_of}
 use Rattle.rational128.proofs.Coprime.{IsCoprime, IsCoprime-from_gcd}
 
 holds : (b : Bool) → b ≡ true → Holds b
@@ -57,12 +49,6 @@ made_parts r n' n d' d e h k l = grind (arith, parts_themselves)
 -- a whole number is its own numerator, over 1
 whole_parts : (n : ℤ) → HasParts (lowest n 1) n 1
 whole_parts n = parts_themselves n 1 (is_lowest_from n 1 (omega arith) (one-dvd (nat_abs n), one-dvd 1, λ d dn d1. d1))
-
-pub whole_num : (n : ℤ) → (lowest n 1).num ≡ n
-whole_num n = (whole_parts n).num
-
-pub whole_den : (n : ℤ) → (lowest n 1).den ≡ 1
-whole_den n = (whole_parts n).den
 
 -- what a rational shows are the parts of its value
 pub ratio_parts : (r : Rat) → HasParts (value_of r) (ratio_of r).num (ratio_of r).den

@@ -1,8 +1,6 @@
 -- Newton's method for the integer square root.
-use Rattle.std.proofs.Common.{◌≡◌, ℕ, ◌+◌, ◌-◌, ◌*◌, ◌/◌, ◌%◌, ◌^◌, ◌<◌, ◌≤◌, ◌⊎◌, inl, inr, arith}
-use lib.Count.{count_leading_zeros}
-use Rattle.std.proofs.lemmas.Nat.{leading_length, pow-add, div_below, mod_below, mul-le, one_shl, pow_pos}
-use Rattle.std.proofs.Math.Nat.{pow-le-pow_right}
+use Rattle.rational128.proofs.Shared.{◌≡◌, ℕ, ◌+◌, ◌-◌, ◌*◌, ◌/◌, ◌%◌, ◌^◌, ◌<◌, ◌≤◌, ◌⊎◌, inl, inr, arith, count_leading_zeros, leading_length}
+use Rattle.rational128.proofs.Shared.{pow-add, div_below, mod_below, mul-le, one_shl, pow_pos, pow-le-pow_right}
 
 -- four times a product is at most the square of the sum
 four_products : (a b : ℕ) → 4 * (a * b) ≤ (a + b) * (a + b)

@@ -1,7 +1,6 @@
 -- Powers of whole numbers, by squares.
-use Rattle.std.proofs.Common.{◌≡◌, ◌≢◌, ℕ, zero, suc, ◌+◌, ◌*◌, ◌/◌, ◌%◌, ◌^◌, ◌<◌, ◌≤◌, refl, sym, ap, ◌∙◌, arith}
-use Rattle.std.proofs.lemmas.Nat.{pow-add, mul-pow, mul-le}
-use Rattle.std.proofs.Math.Nat.{pow-zero, pow-suc, one-le-pow, pow-le-pow_left, pow-le-pow_right}
+use Rattle.rational128.proofs.Shared.{◌≡◌, ◌≢◌, ℕ, zero, suc, ◌+◌, ◌*◌, ◌/◌, ◌%◌, ◌^◌, ◌<◌, ◌≤◌, refl, sym, ap, ◌∙◌, arith, pow-add, mul-pow, mul-le}
+use Rattle.rational128.proofs.Shared.{pow-zero, pow-suc, one-le-pow, pow-le-pow_left, pow-le-pow_right}
 
 -- p * s ^ k is the power that is sought, of which k is left
 pub record IsPowering (base exponent p s k : ℕ) : Type 0 where

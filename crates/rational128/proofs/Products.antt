@@ -1,12 +1,6 @@
 -- The product of two fractions, after each numerator and the other denominator are divided by what they share.
-use Rattle.std.proofs.Common.{◌≡◌, ℕ, ◌*◌, ◌/◌, ◌<◌, ◌^◌, ℤ, pos, ◌*ℤ◌, true, false, refl, sym, ap, ◌∙◌, subst, arith}
-use Rattle.std.specs.Prelude.{nat_abs}
-use Rattle.std.specs.Int.{IsGcd, ◌∣◌}
-use Rattle.std.proofs.lemmas.Int.{unsigned_abs-mul}
-use Rattle.std.proofs.Math.Nat.{mul-div_cancel', pos_of_dvd_of_pos}
-use Rattle.calc_terms.specs.Integers.{parts, diffs, eq_diff}
-use Rattle.calc_terms.specs.Fractions.{Fraction, times, lowest, over, over_back, over_abs, den_pos, mul_pos}
-use Rattle.calc_terms.specs.Fits.{fraction_fits}
+use Rattle.rational128.proofs.Shared.{◌≡◌, ℕ, ◌*◌, ◌/◌, ◌<◌, ◌^◌, ℤ, pos, ◌*ℤ◌, true, false, refl, sym, ap, ◌∙◌, subst, arith, nat_abs, IsGcd, ◌∣◌}
+use Rattle.rational128.proofs.Shared.{unsigned_abs-mul, mul-div_cancel', pos_of_dvd_of_pos, parts, diffs, eq_diff, Fraction, times, lowest, over, over_back, over_abs, den_pos, mul_pos, fraction_fits}
 use Rattle.rational128.proofs.Coprime.{IsCoprime, IsGcd-from_coprime, IsCoprime-swap, IsCoprime-divisors, IsCoprime-mul, quotients_coprime, factor_divides, positive_factor}
 use Rattle.rational128.proofs.LowestTerms.{HasParts, parts_by_cross, fraction_coprime}
 use Rattle.rational128.proofs.FitTests.{fits_no}

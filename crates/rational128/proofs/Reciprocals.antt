@@ -1,13 +1,11 @@
 -- Negatives and reciprocals by their parts.
-use Rattle.std.proofs.Common.{◌≡◌, ◌≢◌, ℕ, zero, suc, ◌*◌, ◌<◌, ◌^◌, ℤ, pos, negsuc, ◌*ℤ◌, ◌-ℤ◌, neg_ℤ, ◌<ℤ◌, ◌≤ℤ◌, refl, ap, ◌∙◌, arith, to_z, of_z}
-use Rattle.std.specs.Prelude.{nat_abs}
-use Rattle.std.specs.Int.{IsGcd, w128}
-use Rattle.std.proofs.lemmas.Int.{ints}
-use Rattle.calc_terms.specs.Fractions.{Fraction, lowest, times, negative, inverse, inverse_of, one_fraction, den_pos, lowest_parts, same_lowest, times_lowest, mul_pos}
+use Rattle.rational128.proofs.Shared.{◌≡◌, ◌≢◌, ℕ, zero, suc, ◌*◌, ◌<◌, ◌^◌, ℤ, pos, negsuc, ◌*ℤ◌, ◌-ℤ◌, neg_ℤ, ◌<ℤ◌, ◌≤ℤ◌, refl, ap, ◌∙◌}
+use Rattle.rational128.proofs.Shared.{arith, to_z, of_z, nat_abs, IsGcd, w128, ints, Fraction, lowest, times, negative, inverse, inverse_of, one_fraction, den_pos, lowest_parts, same_lowest}
+use Rattle.rational128.proofs.Shared.{times_lowest, mul_pos}
 use Rattle.rational128.proofs.Coprime.{IsCoprime, IsCoprime-swap, IsGcd-from_coprime}
 use Rattle.rational128.proofs.LowestTerms.{HasParts, parts_themselves, is_lowest_from, fraction_coprime}
 
-abs_negative : (p : ℤ) → nat_abs (neg_ℤ p) ≡ nat_abs p
+pub abs_negative : (p : ℤ) → nat_abs (neg_ℤ p) ≡ nat_abs p
 abs_negative p = grind arith
 
 -- the negative number, as the program hands it on

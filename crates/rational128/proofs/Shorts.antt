@@ -1,20 +1,9 @@
 -- Sums and products of short numbers, as the code finds them.
-use Rattle.std.proofs.Common.{◌≡◌, ℕ, ◌<◌, ◌≤◌, ◌^◌, ◌+ℤ◌, ◌*ℤ◌, ℤ, refl, sym, ap, ◌∙◌, subst, arith, to_z, of_z, FitsSigned}
-use Rattle.std.specs.Prelude.{nat_abs, true}
-use Rattle.std.specs.Int.{IsGcd}
-use Rattle.std.proofs.Math.Nat.{one-dvd}
-use Rattle.std.specs.Int.{w64, w128}
-use Rattle.std.proofs.lemmas.Nat.{mul-le}
-use Rattle.std.proofs.lemmas.Int.{ints, fits_signed_from_abs, unsigned_abs-mul}
-use Rattle.calc_terms.proofs.ShortForm.{short_parts}
-use Rattle.calc_terms.specs.Fits.{fraction_fits, sum_fits}
-use Rattle.calc_terms.specs.Fractions.{Fraction, lowest, plus, times, plus_lowest, times_lowest}
-use Rattle.calc_terms.specs.Rat.{ratio_of, value_of}
-use Rattle.calc_terms.specs.Ratio.{IsRat, whole}
-use Rattle.calc_terms.specs.Short.{is_short}
-use Rattle.calc_terms.specs.declared.rat.Rat.{Rat}
+use Rattle.rational128.proofs.Shared.{◌≡◌, ℕ, ◌<◌, ◌≤◌, ◌^◌, ◌+ℤ◌, ◌*ℤ◌, ℤ, refl, sym, ap, ◌∙◌, subst, arith, to_z, of_z, FitsSigned, nat_abs, true, IsGcd}
+use Rattle.rational128.proofs.Shared.{one-dvd, w64, w128, mul-le, ints, fits_signed_from_abs, unsigned_abs-mul, short_parts, fraction_fits, sum_fits, Fraction, lowest, plus, times, plus_lowest}
+use Rattle.rational128.proofs.Shared.{times_lowest, ratio_of, value_of, IsRat, whole, is_short, Rat, whole_denominator, whole_numerator}
 use Rattle.rational128.proofs.Signed.{told}
-use Rattle.rational128.proofs.LowestTerms.{ratio_parts, whole_num, whole_den}
+use Rattle.rational128.proofs.LowestTerms.{ratio_parts}
 use Rattle.rational128.proofs.Products.{parts_fit}
 use Rattle.rational128.proofs.Sums.{Operands, reduces}
 
@@ -90,5 +79,5 @@ pub short_fits : (a b : Rat) (x y : ℤ) → IsShortOne a x → IsShortOne b y �
 short_fits a b x y p q =
     let m = (ratio_of a).num in
     let n = (ratio_of b).num in
-    let fits : sum_fits (lowest m 1) (lowest n 1) ≡ true = whole_fits (lowest m 1) (lowest n 1) (whole_den m) (whole_den n) (rw whole_num (omega arith)) (rw whole_num (omega arith)) (rw (whole_num m, whole_num n) (sum_small m n p.small q.small)) in
+    let fits : sum_fits (lowest m 1) (lowest n 1) ≡ true = whole_fits (lowest m 1) (lowest n 1) (whole_denominator m) (whole_denominator n) (rw whole_numerator (omega arith)) (rw whole_numerator (omega arith)) (rw (whole_numerator m, whole_numerator n) (sum_small m n p.small q.small)) in
     (λ i. sum_fits (p.value i) (q.value i)) ∙ fits

@@ -1,9 +1,5 @@
 -- Signed numbers that fit, as the program hands them on.
-use Rattle.std.proofs.Common.{◌≡◌, ℕ, ◌*◌, ◌<◌, ◌^◌, ℤ, pos, ◌*ℤ◌, arith, to_z, of_z}
-use Rattle.std.specs.Prelude.{nat_abs}
-use Rattle.std.specs.Int.{w128}
-use Rattle.std.proofs.lemmas.Int.{to_z-of_z, fits_signed_from_abs}
-use Rattle.calc_terms.specs.Fractions.{over}
+use Rattle.rational128.proofs.Shared.{◌≡◌, ℕ, ◌*◌, ◌<◌, ◌^◌, ℤ, pos, ◌*ℤ◌, arith, to_z, of_z, nat_abs, w128, to_z-of_z, fits_signed_from_abs, over}
 
 -- a number that fits is handed on as it is
 pub told : (z : ℤ) → nat_abs z < 2 ^ 127 → to_z w128 (of_z w128 z) ≡ z

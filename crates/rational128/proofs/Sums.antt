@@ -1,15 +1,9 @@
 -- The sum of two fractions over the greatest common divisor of their denominators.
-use Rattle.std.proofs.Common.{◌≡◌, ℕ, ◌*◌, ◌/◌, ◌<◌, ◌^◌, ℤ, pos, ◌+ℤ◌, ◌*ℤ◌, Bool, true, false, ◌&&◌, refl, sym, ap, ◌∙◌, subst, arith}
-use Rattle.std.specs.Prelude.{nat_abs}
-use Rattle.std.specs.Int.{IsGcd, ◌∣◌}
-use Rattle.std.proofs.lemmas.Int.{ints, unsigned_abs-mul}
-use Rattle.std.proofs.lemmas.Nat.Gcd.{dvd_refl, dvd_trans, same_from_IsGcd}
-use Rattle.std.proofs.Math.Nat.{mul-div_cancel', dvd-mul_left, pos_of_dvd_of_pos}
-use Rattle.calc_terms.specs.Gcd.{gcd_is}
-use Rattle.calc_terms.specs.Integers.{parts, diffs, eq_diff, combine}
-use Rattle.calc_terms.specs.Fractions.{Fraction, plus, lowest, over, over_back, over_abs, den_pos, mul_pos}
-use Rattle.calc_terms.specs.Fits.{fits, sum_fits}
-use Rattle.rational128.proofs.Coprime.{IsCoprime, IsGcd-from_coprime, IsCoprime-swap, IsCoprime-divisors, other_factor, IsCoprime-mul, quotients_coprime, dvd-difference, factor_divides, positive_factor}
+use Rattle.rational128.proofs.Shared.{◌≡◌, ℕ, ◌*◌, ◌/◌, ◌<◌, ◌^◌, ℤ, pos, ◌+ℤ◌, ◌*ℤ◌, Bool, true, false, ◌&&◌, refl, sym, ap, ◌∙◌, subst, arith}
+use Rattle.rational128.proofs.Shared.{nat_abs, IsGcd, ◌∣◌, ints, unsigned_abs-mul, dvd_refl, dvd_trans, same_from_IsGcd, mul-div_cancel', dvd-mul_left, pos_of_dvd_of_pos, gcd_is, parts, diffs}
+use Rattle.rational128.proofs.Shared.{eq_diff, combine, Fraction, plus, lowest, over, over_back, over_abs, den_pos, mul_pos, fits, sum_fits}
+use Rattle.rational128.proofs.Coprime.{IsCoprime, IsGcd-from_coprime, IsCoprime-swap, IsCoprime-divisors, other_factor, IsCoprime-mul, quotients_coprime, dvd-difference, factor_divides}
+use Rattle.rational128.proofs.Coprime.{positive_factor}
 use Rattle.rational128.proofs.FitTests.{fits_yes, fits_no}
 use Rattle.rational128.proofs.LowestTerms.{HasParts, parts_by_cross, fraction_coprime}
 

@@ -1,8 +1,4 @@
-use Rattle.std.proofs.Common.{◌≡◌, ◌<◌, ◌^◌, ◌*◌, ◌/◌, ◌+ℤ◌, ◌*ℤ◌, pos, subst, sym, ap, ◌∙◌}
-use Rattle.std.specs.Prelude.{nat_abs}
-use Rattle.std.specs.Int.{IsGcd}
-use Rattle.calc_terms.specs.Fractions.{over}
-use Rattle.calc_terms.specs.Rat.{value_of}
+use Rattle.rational128.proofs.Shared.{◌≡◌, ◌<◌, ◌^◌, ◌*◌, ◌/◌, ◌+ℤ◌, ◌*ℤ◌, pos, subst, sym, ap, ◌∙◌, nat_abs, IsGcd, over, value_of}
 use Rattle.rational128.proofs.LowestTerms.{HasParts, same_parts}
 use Rattle.rational128.proofs.Signed.{told, IsFittingProduct, fitting_product, quotient_told}
 use Rattle.rational128.proofs.Sums.{Operands, Reduces, reduces, shared_positive, unfit_first, unfit_second, unfit_sum}

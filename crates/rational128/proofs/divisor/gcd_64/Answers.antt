@@ -1,5 +1,4 @@
-use Rattle.std.proofs.Common.{arith}
-use Rattle.std.specs.Int.{w64}
+use Rattle.rational128.proofs.Shared.{arith, w64}
 use Rattle.rational128.proofs.Divisors.{splits_twos, IsGcd-from_odd}
 use Rattle.rational128.proofs.divisor.gcd_64.Goals as goal
 

@@ -1,5 +1,4 @@
-use Rattle.std.proofs.Common.{◌≡◌, ℕ, ◌+◌, ◌%◌}
-use Rattle.std.specs.Int.{IsGcd}
+use Rattle.rational128.proofs.Shared.{◌≡◌, ℕ, ◌+◌, ◌%◌, IsGcd}
 use Rattle.rational128.proofs.divisor.odd_gcd.Given as goal
 
 abbrev pub invariant-loop-x : goal.invariant-loop-x

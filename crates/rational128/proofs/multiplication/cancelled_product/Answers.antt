@@ -1,9 +1,4 @@
-use Rattle.std.proofs.Common.{◌≡◌, ◌<◌, ◌^◌, ◌*◌, ◌/◌, ◌*ℤ◌, subst, sym, ap, ◌∙◌, to_z, of_z}
-use Rattle.std.specs.Prelude.{nat_abs}
-use Rattle.std.specs.Int.{w128, IsGcd}
-use Rattle.std.proofs.lemmas.Int.{unsigned_abs-mul}
-use Rattle.calc_terms.specs.Fractions.{over}
-use Rattle.calc_terms.specs.Rat.{value_of}
+use Rattle.rational128.proofs.Shared.{◌≡◌, ◌<◌, ◌^◌, ◌*◌, ◌/◌, ◌*ℤ◌, subst, sym, ap, ◌∙◌, to_z, of_z, nat_abs, w128, IsGcd, unsigned_abs-mul, over, value_of}
 use Rattle.rational128.proofs.LowestTerms.{HasParts, same_parts}
 use Rattle.rational128.proofs.Signed.{told, quotient_told, product_told}
 use Rattle.rational128.proofs.Products.{Factors, first_positive, second_positive, product_lowest, product_den_positive, product_parts, unfit_num, unfit_den, parts_fit}

@@ -1,7 +1,4 @@
-use Rattle.std.proofs.Common.{sym, ap, ◌∙◌, rules}
-use Rattle.std.specs.Prelude.{nat_abs, FitsSigned}
-use Rattle.std.specs.Int.{w128}
-use Rattle.std.proofs.lemmas.Int.{to_z-of_z}
+use Rattle.rational128.proofs.Shared.{sym, ap, ◌∙◌, rules, nat_abs, FitsSigned, w128, to_z-of_z}
 use Rattle.rational128.proofs.LowestTerms.{ratio_parts}
 use Rattle.rational128.proofs.parts.parts.Goals as goal
 

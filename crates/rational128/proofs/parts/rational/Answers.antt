@@ -1,7 +1,4 @@
-use Rattle.std.proofs.Common.{ap, arith, rules}
-use Rattle.std.specs.Prelude.{nat_abs, FitsSigned}
-use Rattle.std.specs.Int.{w128}
-use Rattle.std.proofs.lemmas.Int.{to_z-of_z, to_z_pos}
+use Rattle.rational128.proofs.Shared.{ap, arith, rules, nat_abs, FitsSigned, w128, to_z-of_z, to_z_pos}
 use Rattle.rational128.proofs.LowestTerms.{is_lowest_from, made_parts}
 use Rattle.rational128.proofs.parts.rational.Goals as goal
 

@@ -1,7 +1,4 @@
-use Rattle.std.proofs.Common.{◌≡◌, ◌<◌, ◌^◌, refl, ap, sym, ◌∙◌, subst, to_z, of_z}
-use Rattle.std.specs.Prelude.{nat_abs}
-use Rattle.std.specs.Int.{w128, int_pow}
-use Rattle.calc_terms.specs.Rat.{value_of}
+use Rattle.rational128.proofs.Shared.{◌≡◌, ◌<◌, ◌^◌, refl, ap, sym, ◌∙◌, subst, to_z, of_z, nat_abs, w128, int_pow, value_of}
 use Rattle.rational128.proofs.LowestTerms.{same_parts}
 use Rattle.rational128.proofs.Signed.{told}
 use Rattle.rational128.proofs.Products.{unfit_num, unfit_den, parts_fit}

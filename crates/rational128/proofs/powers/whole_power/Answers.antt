@@ -1,4 +1,4 @@
-use Rattle.std.proofs.Common.{arith, sym}
+use Rattle.rational128.proofs.Shared.{arith, sym}
 use Rattle.rational128.proofs.PowerLaws.{small_base, large_exponent}
 use Rattle.rational128.proofs.powers.whole_power.Goals as goal
 

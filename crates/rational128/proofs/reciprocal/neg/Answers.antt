@@ -1,7 +1,4 @@
-use Rattle.std.proofs.Common.{sym, ◌∙◌, subst}
-use Rattle.std.specs.Prelude.{nat_abs}
-use Rattle.std.specs.Int.{IsGcd}
-use Rattle.calc_terms.specs.Rat.{value_of}
+use Rattle.rational128.proofs.Shared.{sym, ◌∙◌, subst, nat_abs, IsGcd, value_of}
 use Rattle.rational128.proofs.LowestTerms.{same_parts}
 use Rattle.rational128.proofs.Reciprocals.{negative_told, negative_lowest, negative_parts}
 use Rattle.rational128.proofs.reciprocal.neg.Goals as goal

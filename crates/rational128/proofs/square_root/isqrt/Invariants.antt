@@ -1,4 +1,4 @@
-use Rattle.std.proofs.Common.{◌^◌}
+use Rattle.rational128.proofs.Shared.{◌^◌}
 use Rattle.rational128.proofs.Newton.{IsUpper}
 use Rattle.rational128.proofs.square_root.isqrt.Given as goal
 
