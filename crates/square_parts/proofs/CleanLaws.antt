@@ -1,16 +1,8 @@
 -- Divisors of clean numbers.
-use Rattle.std.proofs.Common.{◌≡◌, ℕ, zero, suc, ◌*◌, ◌/◌, ◌^◌, ◌<◌, ◌≤◌, ◌⊎◌, inl, inr, sym, ap, ◌∙◌, subst, arith}
-use Rattle.std.specs.Int.{◌∣◌}
-use Rattle.std.proofs.lemmas.Nat.Gcd.{dvd_trans, dvd-zero}
-use Rattle.std.proofs.Math.Nat.{mul-div_cancel', dvd-mul_right, dvd-mul_left, mul-dvd-mul}
-use Rattle.calc_algebra.specs.Clean.{left_of, IsClean}
-use Rattle.rational128.proofs.Coprime.{IsCoprime, IsCoprime-swap, IsCoprime-mul, other_factor}
+use Rattle.square_parts.proofs.Shared.{◌≡◌, ℕ, zero, suc, ◌*◌, ◌/◌, ◌^◌, ◌<◌, ◌≤◌, ◌⊎◌, inl, inr, sym, ap, ◌∙◌, subst, arith, ◌∣◌, dvd_trans, dvd-zero}
+use Rattle.square_parts.proofs.Shared.{mul-div_cancel', dvd-mul_right, dvd-mul_left, mul-dvd-mul, left_of, IsClean, IsCoprime, IsCoprime-swap, IsCoprime-mul, other_factor, clean_positive}
 use Rattle.square_parts.proofs.SmoothNumbers.{common_or_coprime, IsSmooth-mul, IsRough-mul}
 use Rattle.square_parts.proofs.LeftOf.{IsRest, left_of_is, left_of_part}
-
-clean_positive : (r : ℕ) → IsClean r → 0 < r
-clean_positive zero h = absurd (h.no_square 2 (omega arith) (omega arith) (dvd-zero 4))
-clean_positive (suc r) h = omega arith
 
 far_square : (d c : ℕ) → 10000 < d → d * d * c < 1000000000000 → c < 10000
 far_square d c h k = grind arith

@@ -1,15 +1,8 @@
 -- The parts that trial division leaves are clean.
-use Rattle.std.proofs.Common.{◌≡◌, ◌≢◌, ℕ, ◌+◌, ◌*◌, ◌^◌, ◌<◌, ◌≤◌, ◌⊎◌, inl, inr, refl, sym, ap, ◌∙◌, subst, arith}
-use Rattle.std.specs.Int.{◌∣◌}
-use Rattle.std.proofs.lemmas.Bool.{cases_lt}
-use Rattle.std.proofs.lemmas.Nat.Gcd.{dvd_refl, dvd_trans, le_of_dvd}
-use Rattle.std.proofs.Math.Nat.{dvd-mul_right, mul-dvd-mul, eq-one_of_dvd-one}
-use Rattle.calc_algebra.specs.Clean.{trial_limit, left_of, IsClean}
-use Rattle.calc_algebra.proofs.SquareRootLaws.{square_le}
-use Rattle.rational128.proofs.Coprime.{IsCoprime, IsCoprime-swap, IsCoprime-from_gcd, IsGcd-from_coprime, IsCoprime-divisors, IsCoprime-mul, other_factor}
-use Rattle.square_parts.specs.declared.division.Found.{Found}
-use Rattle.square_parts.specs.Divisors.{IsSmooth, HasNoDivisorBelow, HasNoOtherDivisor}
-use Rattle.square_parts.specs.Found.{number_of, IsFound}
+use Rattle.square_parts.proofs.Shared.{◌≡◌, ◌≢◌, ℕ, ◌+◌, ◌*◌, ◌^◌, ◌<◌, ◌≤◌, ◌⊎◌, inl, inr, refl, sym, ap, ◌∙◌, subst, arith, ◌∣◌, cases_lt}
+use Rattle.square_parts.proofs.Shared.{dvd_refl, dvd_trans, le_of_dvd, dvd-mul_right, mul-dvd-mul, eq-one_of_dvd-one, trial_limit, left_of, IsClean, square_le, IsCoprime, IsCoprime-swap}
+use Rattle.square_parts.proofs.Shared.{IsCoprime-from_gcd, IsGcd-from_coprime, IsCoprime-divisors, IsCoprime-mul, other_factor, Found, IsSmooth, HasNoDivisorBelow, HasNoOtherDivisor, number_of}
+use Rattle.square_parts.proofs.Shared.{IsFound}
 use Rattle.square_parts.proofs.SmoothNumbers.{IsRough, common_or_coprime, IsSmooth-one, IsSmooth-small, IsSmooth-mul}
 use Rattle.square_parts.proofs.LeftOf.{left_of_part}
 use Rattle.square_parts.proofs.Steps.{rest_positive, clean_positive, root_at_most}

@@ -1,10 +1,7 @@
 -- Products of clean numbers over what they share.
-use Rattle.std.proofs.Common.{◌≡◌, ℕ, zero, suc, ◌*◌, ◌/◌, ◌^◌, ◌<◌, ◌≤◌, ◌⊎◌, inl, inr, subst, arith}
-use Rattle.std.specs.Int.{IsGcd, ◌∣◌}
-use Rattle.std.proofs.lemmas.Nat.Gcd.{dvd_refl, dvd_trans, dvd-zero, le_of_dvd}
-use Rattle.std.proofs.Math.Nat.{mul-div_cancel', dvd-mul_right, mul-dvd-mul}
-use Rattle.calc_algebra.specs.Clean.{trial_limit, left_of, IsClean}
-use Rattle.rational128.proofs.Coprime.{IsCoprime, IsCoprime-swap, IsCoprime-divisors, IsCoprime-mul, other_factor, quotients_coprime, factor_divides, positive_factor}
+use Rattle.square_parts.proofs.Shared.{◌≡◌, ℕ, zero, suc, ◌*◌, ◌/◌, ◌^◌, ◌<◌, ◌≤◌, ◌⊎◌, inl, inr, subst, arith, IsGcd, ◌∣◌, dvd_refl, dvd_trans, dvd-zero}
+use Rattle.square_parts.proofs.Shared.{le_of_dvd, mul-div_cancel', dvd-mul_right, mul-dvd-mul, trial_limit, left_of, IsClean, IsCoprime, IsCoprime-swap, IsCoprime-divisors, IsCoprime-mul}
+use Rattle.square_parts.proofs.Shared.{other_factor, quotients_coprime, factor_divides, positive_factor, clean_positive}
 use Rattle.square_parts.proofs.SmoothNumbers.{common_or_coprime}
 use Rattle.square_parts.proofs.LeftOf.{left_of_is}
 use Rattle.square_parts.proofs.CleanLaws.{clean_square_free}
@@ -29,10 +26,6 @@ no_square_in_product b x y positive apart h k = record { none = λ d two le squa
         let swapped : d * d ∣ y * x = subst (λ n. d * d ∣ n) (omega arith) square in
         k.none d two le (other_factor (d * d) x y (IsCoprime-mul x d d turned turned) swapped)
 
-pub clean_is_positive : (r : ℕ) → IsClean r → 0 < r
-clean_is_positive zero h = absurd (h.no_square 2 (omega arith) (omega arith) (dvd-zero 4))
-clean_is_positive (suc r) h = omega arith
-
 no_square_in_part : (b g n : ℕ) → g ∣ n → HasNoSquareTo b n → HasNoSquareTo b (n / g)
 no_square_in_part b g n h k = record { none = λ e two le square. k.none e two le (dvd_trans (e * e) square (factor_divides g (n / g) n (mul-div_cancel' g h))) }
 
@@ -44,7 +37,7 @@ no_square_over_shared b r s g r-positive s-positive is h k =
 -- no square of a number from 2 to the trial limit divides the product of two clean numbers over what they share
 pub clean_over_shared : (r s g d : ℕ) → IsClean r → IsClean s → IsGcd r s g → 2 ≤ d → d ≤ trial_limit → d * d ∣ (r / g) * (s / g) → ⊥
 clean_over_shared r s g d r-clean s-clean is two le square =
-    (no_square_over_shared trial_limit r s g (clean_is_positive r r-clean) (clean_is_positive s s-clean) is (record { none = r-clean.no_square }) (record { none = s-clean.no_square })).none d two le square
+    (no_square_over_shared trial_limit r s g (clean_positive r r-clean) (clean_positive s s-clean) is (record { none = r-clean.no_square }) (record { none = s-clean.no_square })).none d two le square
 
 -- a number above 0 without a square is clean
 square_free_clean : (n : ℕ) → 0 < n → ((d : ℕ) → 2 ≤ d → d * d ∣ n → ⊥) → IsClean n
@@ -62,10 +55,10 @@ clean_below_over_shared r s g r-clean s-clean r-small s-small is =
     (λ d two square. (no_square_over_shared d r s g r-positive s-positive is (record { none = λ e e-two le h. clean_square_free r r-clean r-small e (omega arith) h }) (record { none = λ e e-two le h. clean_square_free s s-clean s-small e (omega arith) h })).none d two (omega arith) square)
   where
     r-positive : 0 < r
-    r-positive = clean_is_positive r r-clean
+    r-positive = clean_positive r r-clean
 
     s-positive : 0 < s
-    s-positive = clean_is_positive s s-clean
+    s-positive = clean_positive s s-clean
 
     positive : 0 < (r / g) * (s / g)
     positive =

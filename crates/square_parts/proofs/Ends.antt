@@ -1,12 +1,8 @@
 -- Numbers that trial division may skip, and when it may end.
-use Rattle.std.proofs.Common.{◌≡◌, ◌≢◌, ℕ, zero, suc, ◌+◌, ◌-◌, ◌*◌, ◌/◌, ◌%◌, ◌^◌, ◌<◌, ◌≤◌, ◌⊎◌, inl, inr, refl, ap, ◌∙◌, subst, arith, List, [], ◌∷◌, Bool, true, false, ◌&&◌, ◌==◌, if◌then◌else◌, nat_le, nat_lt, length, take, drop, slice_index}
-use Rattle.std.proofs.Math.Seq.{take-length}
-use Rattle.std.specs.Int.{◌∣◌}
-use Rattle.std.proofs.lemmas.Bool.{cases_lt, leb-true, ltb-true, eqb-true}
-use Rattle.std.proofs.lemmas.Nat.Gcd.{dvd_trans, dvd_of_mod-eq-zero}
-use Rattle.std.proofs.Math.Nat.{mul-div_cancel', dvd-mul_left, eq-one_of_dvd-one}
-use Rattle.square_parts.specs.Divisors.{HasNoDivisorBelow, HasNoOtherDivisor}
-use Rattle.square_parts.specs.Primes.{has_divisor_among, is_composite, are_composite, holds_all_primes, IsDividedBelow, primes_below_hundred}
+use Rattle.square_parts.proofs.Shared.{◌≡◌, ◌≢◌, ℕ, zero, suc, ◌+◌, ◌-◌, ◌*◌, ◌/◌, ◌%◌, ◌^◌, ◌<◌, ◌≤◌, ◌⊎◌, inl, inr, refl, ap, ◌∙◌, subst}
+use Rattle.square_parts.proofs.Shared.{arith, List, [], ◌∷◌, Bool, true, false, ◌&&◌, ◌==◌, if◌then◌else◌, nat_le, nat_lt, length, take, drop, slice_index, take-length, ◌∣◌}
+use Rattle.square_parts.proofs.Shared.{cases_lt, leb-true, ltb-true, eqb-true, dvd_trans, dvd_of_mod-eq-zero, mul-div_cancel', dvd-mul_left, eq-one_of_dvd-one, HasNoDivisorBelow, HasNoOtherDivisor}
+use Rattle.square_parts.proofs.Shared.{has_divisor_among, is_composite, are_composite, holds_all_primes, IsDividedBelow, primes_below_hundred}
 use Rattle.square_parts.proofs.Steps.{done_with}
 
 both : (a b : Bool) → (a && b) ≡ true → (a ≡ true) × (b ≡ true)

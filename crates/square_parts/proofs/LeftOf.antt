@@ -1,11 +1,7 @@
 -- What is left of a number when all divisors up to the trial limit are divided out.
-use Rattle.std.proofs.Common.{◌≡◌, ℕ, zero, suc, ◌+◌, ◌*◌, ◌/◌, ◌%◌, ◌^◌, ◌<◌, ◌≤◌, ◌⊎◌, inl, inr, refl, sym, ap, ◌∙◌, subst, arith}
-use Rattle.std.specs.Int.{◌∣◌}
-use Rattle.std.proofs.lemmas.Bool.{cases_lt}
-use Rattle.std.proofs.lemmas.Nat.Gcd.{dvd_trans, dvd_of_mod-eq-zero, mod-eq-zero_of_dvd}
-use Rattle.std.proofs.Math.Nat.{mul-div_cancel', dvd-mul_right, pow-suc}
-use Rattle.calc_algebra.specs.Clean.{trial_limit, without, left_from, left_of}
-use Rattle.square_parts.specs.Divisors.{IsSmooth}
+use Rattle.square_parts.proofs.Shared.{◌≡◌, ℕ, zero, suc, ◌+◌, ◌*◌, ◌/◌, ◌%◌, ◌^◌, ◌<◌, ◌≤◌, ◌⊎◌, inl, inr, refl, sym, ap, ◌∙◌, subst, arith}
+use Rattle.square_parts.proofs.Shared.{◌∣◌, cases_lt, dvd_trans, dvd_of_mod-eq-zero, mod-eq-zero_of_dvd, mul-div_cancel', dvd-mul_right, pow-suc, trial_limit, without, left_from, left_of}
+use Rattle.square_parts.proofs.Shared.{IsSmooth, below_power}
 use Rattle.square_parts.proofs.SmoothNumbers.{IsRough, IsSmooth-one, IsSmooth-small, IsSmooth-mul, one_rough_part}
 
 -- n is r without a smooth factor, and no number from d to below e divides n
@@ -15,10 +11,6 @@ pub record IsPart (d e r n : ℕ) : Type 0 where
   pub whole : r ≡ n * factor
   pub smooth : IsSmooth factor
   pub none : (f : ℕ) → d ≤ f → f < e → f ∣ n → ⊥
-
-below_power : (n : ℕ) → n < 2 ^ n
-below_power zero = omega arith
-below_power (suc n) = omega (arith, below_power n, pow-suc 2 n)
 
 half_below : (d r n : ℕ) → 2 ≤ d → r < n * 2 → r / d < n
 half_below d r n two h = grind arith

@@ -6,3 +6,4 @@ pub mod LeftOf
 pub mod CleanParts
 pub mod CleanLaws
 pub mod CleanProducts
+mod Shared

@@ -1,12 +1,6 @@
 -- Products of numbers up to the trial limit, and numbers without such divisors.
-use Rattle.std.proofs.Common.{◌≡◌, ℕ, ◌*◌, ◌<◌, ◌≤◌, ◌⊎◌, inl, inr, sym, subst, arith}
-use Rattle.std.specs.Int.{IsGcd, ◌∣◌}
-use Rattle.std.proofs.lemmas.Nat.Gcd.{dvd_refl, dvd_trans, dvd_antisymm, le_of_dvd}
-use Rattle.std.proofs.Math.Nat.{dvd-mul_right, pos_of_dvd_of_pos, eq-one_of_dvd-one}
-use Rattle.calc_terms.specs.Gcd.{gcd, gcd_is}
-use Rattle.calc_algebra.specs.Clean.{trial_limit}
-use Rattle.rational128.proofs.Coprime.{IsCoprime, IsCoprime-swap, IsCoprime-from_gcd, other_factor}
-use Rattle.square_parts.specs.Divisors.{IsSmooth}
+use Rattle.square_parts.proofs.Shared.{◌≡◌, ℕ, ◌*◌, ◌<◌, ◌≤◌, ◌⊎◌, inl, inr, sym, subst, arith, IsGcd, ◌∣◌, dvd_refl, dvd_trans, dvd_antisymm, le_of_dvd}
+use Rattle.square_parts.proofs.Shared.{dvd-mul_right, pos_of_dvd_of_pos, eq-one_of_dvd-one, gcd, gcd_is, trial_limit, IsCoprime, IsCoprime-swap, IsCoprime-from_gcd, other_factor, IsSmooth}
 
 -- no number from 2 to the trial limit divides n
 pub record IsRough (n : ℕ) : Type 0 where

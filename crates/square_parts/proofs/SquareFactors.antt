@@ -1,14 +1,7 @@
 -- When a product is a square.
-use Rattle.std.proofs.Common.{◌≡◌, ℕ, zero, suc, ◌*◌, ◌/◌, ◌<◌, true, sym, ap, ◌∙◌, subst, arith}
-use Rattle.std.specs.Int.{IsGcd, ◌∣◌}
-use Rattle.std.proofs.lemmas.Nat.Gcd.{dvd_refl, dvd_antisymm, IsGcd-swap}
-use Rattle.std.proofs.Math.Nat.{mul-div_cancel', dvd-mul_right, dvd-mul_left, pos_of_dvd_of_pos}
-use Rattle.calc_terms.specs.Gcd.{gcd, gcd_is}
-use Rattle.calc_algebra.specs.SquareClasses.{are_alike}
-use Rattle.calc_algebra.specs.SquareRoots.{square_root}
-use Rattle.calc_algebra.proofs.SquareRootLaws.{square_from_scaled}
-use Rattle.calc_algebra.proofs.SquareClassLaws.{alike_from, alike_true, alike_sym}
-use Rattle.rational128.proofs.Coprime.{IsCoprime, IsCoprime-swap, IsCoprime-divisors, IsCoprime-mul, other_factor, quotients_coprime}
+use Rattle.square_parts.proofs.Shared.{◌≡◌, ℕ, zero, suc, ◌*◌, ◌/◌, ◌<◌, true, sym, ap, ◌∙◌, subst, arith, IsGcd, ◌∣◌, dvd_refl, dvd_antisymm, IsGcd-swap}
+use Rattle.square_parts.proofs.Shared.{mul-div_cancel', dvd-mul_right, dvd-mul_left, pos_of_dvd_of_pos, gcd, gcd_is, are_alike, square_root, square_from_scaled, alike_from, alike_true, alike_sym}
+use Rattle.square_parts.proofs.Shared.{IsCoprime, IsCoprime-swap, IsCoprime-divisors, IsCoprime-mul, other_factor, quotients_coprime}
 
 same_factor : (h a b : ℕ) → 0 < h → h * a ≡ h * b → a ≡ b
 same_factor h a b positive e = grind arith

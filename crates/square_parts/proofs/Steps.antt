@@ -1,14 +1,8 @@
 -- A step of trial division keeps what was found.
-use Rattle.std.proofs.Common.{◌≡◌, ◌≢◌, ℕ, zero, suc, ◌+◌, ◌*◌, ◌/◌, ◌%◌, ◌^◌, ◌<◌, ◌≤◌, ◌⊎◌, inl, inr, ap, ◌∙◌, subst, arith}
-use Rattle.std.specs.Int.{IsGcd, ◌∣◌}
-use Rattle.std.proofs.lemmas.Bool.{cases_lt}
-use Rattle.std.proofs.lemmas.Nat.Gcd.{dvd_refl, dvd_trans, le_of_dvd, dvd_of_mod-eq-zero, mod-eq-zero_of_dvd}
-use Rattle.std.proofs.Math.Nat.{mul-div_cancel', dvd-mul_left, mul-dvd-mul, dvd_of_mul-dvd-mul_right, eq-one_of_dvd-one}
-use Rattle.calc_algebra.specs.Clean.{trial_limit, IsClean}
-use Rattle.rational128.proofs.Coprime.{IsCoprime, IsCoprime-swap, IsCoprime-from_gcd, IsGcd-from_coprime, IsCoprime-divisors, IsCoprime-mul, other_factor, positive_factor}
-use Rattle.square_parts.specs.declared.division.Found.{Found}
-use Rattle.square_parts.specs.Divisors.{IsSmooth, IsSquareFree, HasNoDivisorBelow}
-use Rattle.square_parts.specs.Found.{number_of, IsFound}
+use Rattle.square_parts.proofs.Shared.{◌≡◌, ◌≢◌, ℕ, zero, suc, ◌+◌, ◌*◌, ◌/◌, ◌%◌, ◌^◌, ◌<◌, ◌≤◌, ◌⊎◌, inl, inr, ap, ◌∙◌, subst, arith, IsGcd}
+use Rattle.square_parts.proofs.Shared.{◌∣◌, cases_lt, dvd_refl, dvd_trans, le_of_dvd, dvd_of_mod-eq-zero, mod-eq-zero_of_dvd, mul-div_cancel', dvd-mul_left, mul-dvd-mul}
+use Rattle.square_parts.proofs.Shared.{dvd_of_mul-dvd-mul_right, eq-one_of_dvd-one, trial_limit, IsClean, IsCoprime, IsCoprime-swap, IsCoprime-from_gcd, IsGcd-from_coprime, IsCoprime-divisors}
+use Rattle.square_parts.proofs.Shared.{IsCoprime-mul, other_factor, positive_factor, Found, IsSmooth, IsSquareFree, HasNoDivisorBelow, number_of, IsFound}
 use Rattle.square_parts.proofs.SmoothNumbers.{common_or_coprime, IsSmooth-small, IsSmooth-mul}
 
 -- what a step to g leaves true of f

@@ -1,8 +1,4 @@
-use Rattle.std.proofs.Common.{◌≢◌, ℕ, ◌*◌, ◌%◌, ◌∙◌}
-use Rattle.std.specs.Int.{◌∣◌}
-use Rattle.std.proofs.lemmas.Bool.{eqb-false}
-use Rattle.std.proofs.Math.Nat.{dvd-mul_left, dvd-mul_right}
-use Rattle.std.proofs.lemmas.Nat.Gcd.{dvd_trans}
+use Rattle.square_parts.proofs.Shared.{◌≢◌, ℕ, ◌*◌, ◌%◌, ◌∙◌, ◌∣◌, eqb-false, dvd-mul_left, dvd-mul_right, dvd_trans}
 use Rattle.square_parts.proofs.division.one_divides.Goals as goal
 
 pub returns-else-rest-c-eq0 : goal.returns-else-rest-c-eq0

@@ -1,6 +1,4 @@
-use Rattle.std.proofs.Common.{subst, sym}
-use Rattle.std.specs.Int.{◌∣◌}
-use Rattle.std.proofs.Math.Nat.{mod-mod_of_dvd}
+use Rattle.square_parts.proofs.Shared.{subst, sym, ◌∣◌, mod-mod_of_dvd}
 use Rattle.square_parts.proofs.division.remainder.Goals as goal
 
 pub returns-else-n : goal.returns-else-n

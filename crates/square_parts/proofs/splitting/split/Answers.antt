@@ -1,4 +1,4 @@
-use Rattle.std.proofs.Common.{arith}
+use Rattle.square_parts.proofs.Shared.{arith}
 use Rattle.square_parts.proofs.CleanParts.{whole_found, nothing_below_two}
 use Rattle.square_parts.proofs.splitting.split.Goals as goal
 

@@ -1,4 +1,4 @@
-use Rattle.std.proofs.Common.{◌≡◌, refl, true, false}
+use Rattle.square_parts.proofs.Shared.{◌≡◌, refl, true, false}
 use Rattle.square_parts.proofs.Steps.{done_with}
 use Rattle.square_parts.proofs.Ends.{next_prime, behind_prime}
 use Rattle.square_parts.proofs.division.Found.divided_by.Goals as goal

@@ -1,6 +1,4 @@
-use Rattle.std.proofs.Common.{◌≡◌}
-use Rattle.square_parts.specs.Divisors.{HasNoDivisorBelow}
-use Rattle.square_parts.specs.Found.{number_of, IsFound}
+use Rattle.square_parts.proofs.Shared.{◌≡◌, HasNoDivisorBelow, number_of, IsFound}
 use Rattle.square_parts.proofs.division.Found.divided_by.Given as goal
 
 abbrev pub invariant-loop-found : goal.invariant-loop-found

@@ -1,4 +1,4 @@
-use Rattle.std.proofs.Common.{◌≡◌, rules, false, ◌∷◌}
+use Rattle.square_parts.proofs.Shared.{◌≡◌, rules, false, ◌∷◌}
 use Rattle.square_parts.proofs.Ends.{next_four, without_four}
 use Rattle.square_parts.proofs.division.Found.divided_by_four.Goals as goal
 

@@ -1,5 +1,4 @@
-use Rattle.std.proofs.Common.{◌<◌, ◌*◌, ◌∙◌, sym, subst, rules, drop}
-use Rattle.square_parts.specs.Primes.{IsDividedBelow}
+use Rattle.square_parts.proofs.Shared.{◌<◌, ◌*◌, ◌∙◌, sym, subst, rules, drop, IsDividedBelow}
 use Rattle.square_parts.proofs.Steps.{rest_positive}
 use Rattle.square_parts.proofs.Ends.{starts_with_four, end_by_square, end_by_limit, divided_by_first, divided_by_none}
 use Rattle.square_parts.proofs.division.Found.divided_by_primes.Goals as goal

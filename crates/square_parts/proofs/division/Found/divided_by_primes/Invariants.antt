@@ -1,6 +1,4 @@
-use Rattle.std.proofs.Common.{◌≡◌, ◌%◌, length}
-use Rattle.square_parts.specs.Found.{number_of, IsFound}
-use Rattle.square_parts.specs.Primes.{IsDividedBelow}
+use Rattle.square_parts.proofs.Shared.{◌≡◌, ◌%◌, length, number_of, IsFound, IsDividedBelow}
 use Rattle.square_parts.proofs.division.Found.divided_by_primes.Given as goal
 
 abbrev pub invariant-loop-primes : goal.invariant-loop-primes
