@@ -1,8 +1,6 @@
 -- Square parts of p * q, for the root of p/q.
-use Rattle.std.proofs.Common.{◌≡◌, ◌≢◌, ℕ, zero, suc, ◌*◌, ◌<◌, ◌≤◌, ◌^◌, ℤ, pos, ◌<ℤ◌, [], ◌∷◌, sym, ◌∙◌, arith}
-use Rattle.std.specs.Prelude.{nat_abs}
-use Rattle.surd_terms.proofs.Shared.{ints, Fraction, quotient, zero_fraction, IsRootOf, term, cross_products}
-use Rattle.calc_algebra.proofs.NumberRewrites.{root_extracted}
+use Rattle.surd_terms.proofs.Shared.{◌≡◌, ◌≢◌, ℕ, zero, suc, ◌*◌, ◌<◌, ◌≤◌, ◌^◌, ℤ, pos, ◌<ℤ◌, [], ◌∷◌, sym, ◌∙◌, arith, nat_abs, ints, Fraction}
+use Rattle.surd_terms.proofs.Shared.{quotient, zero_fraction, IsRootOf, term, cross_products, root_extracted}
 use Rattle.surd_terms.proofs.Radicands.{part_at_most}
 
 -- a number above 0 is its magnitude

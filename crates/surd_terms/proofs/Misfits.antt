@@ -1,12 +1,8 @@
 -- Which of some calculations is the first that does not fit.
-use Rattle.std.proofs.Common.{◌≡◌, true, false, ℕ, ◌*◌, ◌/◌, ◌≤◌, Bool, List, [], ◌∷◌, ◌++◌, Option, Some, None, Result, refl, sym, ap, ◌∙◌, subst, arith}
-use Rattle.std.specs.Prelude.{if◌then◌else◌, ◌↔◌, IsErr, IfOk, IfErr, IsErrAnd}
-use Rattle.surd_terms.proofs.Shared.{IsGcd, mul-div_cancel_left, same_from_IsGcd, dvd_refl, fraction_fits, Fraction, gcd, gcd_is, value_of, Rat, are_alike, Term, Add, Mul, Overflow, Calculation, calculation, does_fit, first_misfit, calculation_of, misfit_of, scaled, scaling, joining_calculations}
-use Rattle.std.specs.Int.{◌∣◌}
-use Rattle.calc_algebra.specs.SquareRoots.{square_root}
-use Rattle.calc_algebra.proofs.SquareRootLaws.{square_root-square}
-use Rattle.rational128.specs.Refusals.{DoesNotFit}
-use Rattle.rational128.specs.declared.overflow.Op.{Op}
+use Rattle.surd_terms.proofs.Shared.{◌≡◌, true, false, ℕ, ◌*◌, ◌/◌, ◌≤◌, Bool, List, [], ◌∷◌, ◌++◌, Option, Some, None, Result, refl, sym, ap, ◌∙◌, subst, arith}
+use Rattle.surd_terms.proofs.Shared.{if◌then◌else◌, ◌↔◌, IsErr, IfOk, IfErr, IsErrAnd, IsGcd, mul-div_cancel_left, same_from_IsGcd, dvd_refl, fraction_fits, Fraction, gcd, gcd_is}
+use Rattle.surd_terms.proofs.Shared.{value_of, Rat, are_alike, Term, Add, Mul, Overflow, Calculation, calculation, does_fit, first_misfit, calculation_of, misfit_of, scaled, scaling}
+use Rattle.surd_terms.proofs.Shared.{joining_calculations, ◌∣◌, square_root, square_root-square, DoesNotFit, Op}
 use Rattle.surd_terms.proofs.Values.{alike_itself, times_whole_one}
 
 fits_from : (b : Bool) → (b ≡ false → false ≡ true) → b ≡ true

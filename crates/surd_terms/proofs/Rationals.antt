@@ -1,7 +1,6 @@
 -- Rationals of the code that are not 0, and whole ones.
-use Rattle.std.proofs.Common.{◌≡◌, true, ◌≢◌, ℕ, ◌*◌, ◌≤◌, ℤ, pos, sym, ap, ◌∙◌, arith}
-use Rattle.surd_terms.proofs.Shared.{fraction_fits, times_comm, one_times, Fraction, lowest, times, zero_fraction, one_fraction, times_lowest, whole_fraction, int_is_zero, ratio_of, value_of, Rat, zero_is, whole_numerator, ratio_parts, parts_fit}
-use Rattle.calc_terms.specs.Ratio.{Ratio, whole}
+use Rattle.surd_terms.proofs.Shared.{◌≡◌, true, ◌≢◌, ℕ, ◌*◌, ◌≤◌, ℤ, pos, sym, ap, ◌∙◌, arith, fraction_fits, times_comm, one_times, Fraction, lowest, times}
+use Rattle.surd_terms.proofs.Shared.{zero_fraction, one_fraction, times_lowest, whole_fraction, int_is_zero, ratio_of, value_of, Rat, zero_is, whole_numerator, ratio_parts, parts_fit, Ratio, whole}
 
 -- a rational whose numerator is not 0 is not 0
 pub value_not_zero : (r : Rat) → (ratio_of r).num ≢ pos 0 → value_of r ≢ zero_fraction

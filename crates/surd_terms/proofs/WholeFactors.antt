@@ -1,10 +1,11 @@
 -- A whole number cancelled against the denominators of two fractions.
-use Rattle.std.proofs.Common.{◌≡◌, true, ℕ, zero, suc, ◌*◌, ◌/◌, ◌<◌, ◌≤◌, ℤ, pos, ◌*ℤ◌, Bool, Option, Some, None, sym, ap, ◌∙◌, subst, arith}
-use Rattle.std.specs.Prelude.{nat_abs, if◌then◌else◌}
-use Rattle.surd_terms.proofs.Shared.{IsGcd, unsigned_abs-mul, dvd_refl, dvd_trans, mul-div_cancel', mul-div_cancel_left, dvd-mul_right, dvd-mul_left, mul-dvd-mul, pos_of_dvd_of_pos, times_comm, times_assoc, fraction_fits, Fraction, lowest, times, whole_fraction, times_lowest, lowest_parts, den_pos, same_lowest, is_lowest, mul_pos, gcd, gcd_is, parts, diffs, eq_diff, IsCoprime, IsCoprime-swap, IsGcd-from_coprime, IsCoprime-divisors, IsCoprime-mul, quotients_coprime, factor_divides, positive_factor, HasParts, parts_by_cross, parts_themselves, fraction_coprime, is_lowest_from, Mul, Calculation, calculation, first_misfit, IsCancelled, cancelled_calculations, IsCancelledMisfit}
-use Rattle.std.specs.Int.{◌∣◌}
+use Rattle.surd_terms.proofs.Shared.{◌≡◌, true, ℕ, zero, suc, ◌*◌, ◌/◌, ◌<◌, ◌≤◌, ℤ, pos, ◌*ℤ◌, Bool, Option, Some, None, sym, ap, ◌∙◌, subst, arith, nat_abs}
+use Rattle.surd_terms.proofs.Shared.{if◌then◌else◌, IsGcd, unsigned_abs-mul, dvd_refl, dvd_trans, mul-div_cancel', mul-div_cancel_left, dvd-mul_right, dvd-mul_left, mul-dvd-mul}
+use Rattle.surd_terms.proofs.Shared.{pos_of_dvd_of_pos, times_comm, times_assoc, fraction_fits, Fraction, lowest, times, whole_fraction, times_lowest, lowest_parts, den_pos, same_lowest, is_lowest}
+use Rattle.surd_terms.proofs.Shared.{mul_pos, gcd, gcd_is, parts, diffs, eq_diff, IsCoprime, IsCoprime-swap, IsGcd-from_coprime, IsCoprime-divisors, IsCoprime-mul, quotients_coprime, factor_divides}
+use Rattle.surd_terms.proofs.Shared.{positive_factor, HasParts, parts_by_cross, parts_themselves, fraction_coprime, is_lowest_from, Mul, Calculation, calculation, first_misfit, IsCancelled}
+use Rattle.surd_terms.proofs.Shared.{cancelled_calculations, IsCancelledMisfit, ◌∣◌, div-mul_cancel, mul-one}
 use Rattle.surd_terms.proofs.Rationals.{whole_times}
-use native.Mathlib.Nat.{div-mul_cancel, mul-one}
 
 -- ---- times a whole number
 

@@ -1,6 +1,4 @@
-use Rattle.std.proofs.Common.{sym, ap, ◌∙◌, rules}
-use Rattle.std.specs.Prelude.{nat_abs, FitsSigned}
-use Rattle.surd_terms.proofs.Shared.{w128, to_z-of_z, ratio_parts}
+use Rattle.surd_terms.proofs.Shared.{sym, ap, ◌∙◌, rules, nat_abs, FitsSigned, w128, to_z-of_z, ratio_parts}
 use Rattle.surd_terms.proofs.cancelling.denominator.Goals as goal
 
 pub returns-clause-value : goal.returns-clause-value

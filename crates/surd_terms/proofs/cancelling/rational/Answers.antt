@@ -1,6 +1,4 @@
-use Rattle.std.proofs.Common.{ap, arith, rules}
-use Rattle.std.specs.Prelude.{nat_abs, FitsSigned}
-use Rattle.surd_terms.proofs.Shared.{w128, to_z-of_z, to_z_pos, is_lowest_from, made_parts}
+use Rattle.surd_terms.proofs.Shared.{ap, arith, rules, nat_abs, FitsSigned, w128, to_z-of_z, to_z_pos, is_lowest_from, made_parts}
 use Rattle.surd_terms.proofs.cancelling.rational.Goals as goal
 
 pub lowest-requires-clause-in_lowest_terms : goal.lowest-requires-clause-in_lowest_terms

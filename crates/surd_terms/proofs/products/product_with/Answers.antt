@@ -1,5 +1,4 @@
-use Rattle.std.proofs.Common.{◌≡◌, ◌*◌, inl, inr, pos, [], refl, ap, sym, ◌∙◌, arith}
-use Rattle.surd_terms.proofs.Shared.{times, whole_fraction, Term, term, term_times, Mul, IsExtracted, term_of}
+use Rattle.surd_terms.proofs.Shared.{◌≡◌, ◌*◌, inl, inr, pos, [], refl, ap, sym, ◌∙◌, arith, times, whole_fraction, Term, term, term_times, Mul, IsExtracted, term_of}
 use Rattle.surd_terms.proofs.Misfits.{refused_for, step_misfit, step_fits}
 use Rattle.surd_terms.proofs.ProductMisfits.{rational_misfit, coefficients_misfit, two_roots, cancelled_for}
 use Rattle.surd_terms.proofs.Rationals.{whole_not_zero}

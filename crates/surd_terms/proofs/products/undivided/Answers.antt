@@ -1,7 +1,5 @@
-use Rattle.std.proofs.Common.{◌≡◌, ℕ, ◌*◌, ◌/◌, ◌^◌, ◌<◌, ◌≤◌, Option, Some, None, inr, ap, ◌∙◌, arith}
-use Rattle.std.specs.Prelude.{MatchOption}
-use Rattle.surd_terms.proofs.Shared.{IsGcd, same_from_IsGcd, gcd, gcd_is}
-use Rattle.std.specs.Option.{SomeIff}
+use Rattle.surd_terms.proofs.Shared.{◌≡◌, ℕ, ◌*◌, ◌/◌, ◌^◌, ◌<◌, ◌≤◌, Option, Some, None, inr, ap, ◌∙◌, arith, MatchOption, IsGcd, same_from_IsGcd, gcd, gcd_is}
+use Rattle.surd_terms.proofs.Shared.{SomeIff}
 use Rattle.surd_terms.proofs.products.undivided.Goals as goal
 
 from_iff : (o : Option ℕ) (P A : Type 0) (v w : ℕ) → SomeIff o P v → v ≡ w → ((P → ⊥) → A) → MatchOption o A (λ n. n ≡ w)

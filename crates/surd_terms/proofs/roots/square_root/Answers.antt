@@ -1,6 +1,5 @@
-use Rattle.std.proofs.Common.{◌≡◌, ◌*◌, ◌<◌, ◌^◌, [], ◌∷◌, true, false, pos, ap, sym, ◌∙◌, subst, rules, to_z, of_z}
-use Rattle.std.specs.Prelude.{nat_abs}
-use Rattle.surd_terms.proofs.Shared.{w128, to_z_pos, times, lowest, quotient, whole_fraction, mul_pos, fraction_fits, IsRootOf, value_of, Term, term, told, term_of, Mul, calculation, first_misfit}
+use Rattle.surd_terms.proofs.Shared.{◌≡◌, ◌*◌, ◌<◌, ◌^◌, [], ◌∷◌, true, false, pos, ap, sym, ◌∙◌, subst, rules, to_z, of_z, nat_abs, w128, to_z_pos, times, lowest}
+use Rattle.surd_terms.proofs.Shared.{quotient, whole_fraction, mul_pos, fraction_fits, IsRootOf, value_of, Term, term, told, term_of, Mul, calculation, first_misfit}
 use Rattle.surd_terms.proofs.Extraction.{positive_abs, IsSplit, split_root, root_of, positive_is, quotient_not_zero}
 use Rattle.surd_terms.proofs.roots.square_root.Goals.{In_ok-product, After-split-root, After-ratio, After-new}
 use Rattle.surd_terms.proofs.roots.square_root.Goals as goal

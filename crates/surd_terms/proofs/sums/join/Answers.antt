@@ -1,6 +1,5 @@
-use Rattle.std.proofs.Common.{◌≡◌, ◌*◌, pos, true, List, [], ◌∷◌, refl, sym, ap, ◌∙◌, subst}
-use Rattle.surd_terms.proofs.Shared.{IsGcd, IsClean, plus, times, whole_fraction, value_of, are_alike, term, IsSum, term_of, Add, Mul, Calculation, calculation, scaled, scaling, joining_calculations, first_misfit}
-use Rattle.square_parts.proofs.CleanLaws.{clean_part}
+use Rattle.surd_terms.proofs.Shared.{◌≡◌, ◌*◌, pos, true, List, [], ◌∷◌, refl, sym, ap, ◌∙◌, subst, IsGcd, IsClean, plus, times, whole_fraction, value_of, are_alike, term, IsSum}
+use Rattle.surd_terms.proofs.Shared.{term_of, Add, Mul, Calculation, calculation, scaled, scaling, joining_calculations, first_misfit, clean_part}
 use Rattle.surd_terms.proofs.Misfits.{joining_parts, one_radicand_calculations, step_fits, step_misfit, refused_for}
 use Rattle.surd_terms.proofs.Radicands.{shared_positive}
 use Rattle.surd_terms.proofs.Rationals.{rational_fits}

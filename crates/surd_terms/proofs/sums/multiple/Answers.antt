@@ -1,5 +1,4 @@
-use Rattle.std.proofs.Common.{sym, ap, ◌∙◌, to_z, of_z}
-use Rattle.surd_terms.proofs.Shared.{w128, told}
+use Rattle.surd_terms.proofs.Shared.{sym, ap, ◌∙◌, to_z, of_z, w128, told}
 use Rattle.surd_terms.proofs.Rationals.{value_not_zero, value_zero}
 use Rattle.surd_terms.proofs.sums.multiple.Goals as goal
 

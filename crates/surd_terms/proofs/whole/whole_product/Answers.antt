@@ -1,6 +1,4 @@
-use Rattle.std.proofs.Common.{◌*◌, pos, ap, ◌∙◌, to_z, of_z}
-use Rattle.std.specs.Prelude.{nat_abs}
-use Rattle.surd_terms.proofs.Shared.{w128, times, told}
+use Rattle.surd_terms.proofs.Shared.{◌*◌, pos, ap, ◌∙◌, to_z, of_z, nat_abs, w128, times, told}
 use Rattle.surd_terms.proofs.Rationals.{whole_times, whole_num_of}
 use Rattle.surd_terms.proofs.whole.whole_product.Goals as goal
 
