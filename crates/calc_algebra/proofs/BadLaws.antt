@@ -1,4 +1,5 @@
 -- A Bad tree has no value, and an Easy tree has one or is Bad.
+use Rattle.calc_algebra.proofs.InverseLaws.{zero_is_not_one}
 use Rattle.calc_algebra.proofs.Shared.{◌≡◌, ℕ, ◌⊎◌, inl, inr, ℤ, pos, [], true, sym, ap, ◌∙◌, arith, ◌≤ℤ◌, int_is_negative, Fraction, zero_fraction, one_fraction}
 use Rattle.calc_algebra.proofs.Shared.{whole_fraction, lowest, gcd, Tree, undef, add, mult, power, root, neg, sub, div, Trees, none, more, IsPart, itself, in_add, in_mult, in_base, in_exponent}
 use Rattle.calc_algebra.proofs.Shared.{in_root, in_neg, in_left, in_right, in_dividend, in_divisor, IsPartOf, first, later, Surd, surd_of, surd_one, Same, Inverts, MeansSum, MeansProduct}
@@ -44,10 +45,6 @@ empty_once = tt
 
 one_value : (t : Tree) (v w : Surd) → HasValue t v → HasValue t w → Agree v w
 one_value t v w m n = one_meaning [] empty_once t v w m n
-
-zero_is_not_one : zero_fraction ≡ one_fraction → ⊥
-unfolding zero_fraction one_fraction lowest gcd
-zero_is_not_one e = let f : pos 0 ≡ pos 1 = ap (λ q. q.num) e in cc
 
 -- zero has no inverse
 no_inverse : (y w : Surd) → Agree w [] → Inverts y w → ⊥

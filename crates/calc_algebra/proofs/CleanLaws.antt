@@ -89,7 +89,7 @@ left_from_is (suc n) e s k h p q l apart low =
 few_left : (d k r : ℕ) → 10000 < d → d * d * k ≡ r → r < 10 ^ 12 → k < 10001
 few_left d k r h e l = grind arith
 
-clean_positive : (r : ℕ) → IsClean r → 0 < r
+pub clean_positive : (r : ℕ) → IsClean r → 0 < r
 clean_positive zero c = absurd (c.no_square 2 (omega arith) (omega arith) (dvd-zero 4))
 clean_positive (suc r) c = omega arith
 
@@ -133,13 +133,7 @@ clean_square_times_small r d k c h e l = by (order d 10000)
 
 -- a clean radicand below 10^12 has no square divisor above 1
 pub clean_square_free : (r : ℕ) → IsClean r → r < 10 ^ 12 → IsSquareFree r
-clean_square_free r c l d h x =
-    let e : d * d * (r / (d * d)) ≡ r = mul-div_cancel' (d * d) x in
-    by (order d 10000) e
-  where
-    by : (d ≤ 10000) ⊎ (10000 < d) → d * d * (r / (d * d)) ≡ r → ⊥
-    by (inl u) e = c.no_square d h u x
-    by (inr u) e = clean_square_times_small r d (r / (d * d)) c h e (few_left d (r / (d * d)) r u e l)
+clean_square_free r c l = grind (arith, mul-div_cancel', order, clean_square_times_small, few_left)
 
 -- a clean radicand is no square above 1, however great
 pub clean_no_square : (d : ℕ) → IsClean (d * d) → 1 < d → ⊥

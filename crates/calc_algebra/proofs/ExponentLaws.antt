@@ -9,10 +9,7 @@ use Rattle.calc_algebra.proofs.SurdLaws.{Agree-refl, Agree-Same, surd_times_comm
 use Rattle.calc_algebra.proofs.TermLaws.{joined_radicand, Same-append, Same-append_comm, Same-refl, Same-eq, Same-surd_times}
 
 pub whole_plus : (m n : ℤ) → plus (whole_fraction m) (whole_fraction n) ≡ whole_fraction (m +ℤ n)
-whole_plus m n = plus_lowest m n 1 1 (omega arith) (omega arith) ∙ ap (λ z. lowest z 1) (λ i. times_one m i +ℤ times_one n i)
-  where
-    times_one : (z : ℤ) → z *ℤ pos 1 ≡ z
-    times_one z = omega (arith, ints)
+whole_plus m n = grind (arith, plus_lowest, ints)
 
 pub whole_times : (m n : ℤ) → times (whole_fraction m) (whole_fraction n) ≡ whole_fraction (m *ℤ n)
 whole_times m n = times_lowest m n 1 1 (omega arith) (omega arith)

@@ -43,10 +43,7 @@ pub half_whole : (n k : ℤ) → n ≡ k +ℤ k → lowest n 2 ≡ whole_fractio
 half_whole n k e = same_lowest n k 2 1 (omega arith) (omega arith) (omega (arith, ints, e))
 
 pub whole_plus_half : (m n : ℤ) → plus (whole_fraction m) (lowest n 2) ≡ lowest (pos 2 *ℤ m +ℤ n) 2
-whole_plus_half m n = plus_lowest m n 1 2 (omega arith) (omega arith) ∙ ap (λ z. lowest z 2) (twice m n)
-  where
-    twice : (m n : ℤ) → m *ℤ pos 2 +ℤ n *ℤ pos 1 ≡ pos 2 *ℤ m +ℤ n
-    twice m n = omega (arith, ints)
+whole_plus_half m n = grind (arith, plus_lowest, ints)
 
 pub half_plus_half : (m n : ℤ) → plus (lowest m 2) (lowest n 2) ≡ lowest (m +ℤ n) 2
 half_plus_half m n =

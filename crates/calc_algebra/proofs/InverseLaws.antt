@@ -69,7 +69,7 @@ Inverts-surd_power n y w h = grind (arith, Inverts-surd_one, Agree-Same, inverse
 pub Inverts-one : (y z w : Surd) → Inverts y w → Inverts z w → Same y z
 Inverts-one y z w h k = Agree-Same (one_inverse y z w (Same-Agree h) (Same-Agree k))
 
-zero_is_not_one : zero_fraction ≡ one_fraction → ⊥
+pub zero_is_not_one : zero_fraction ≡ one_fraction → ⊥
 unfolding zero_fraction one_fraction lowest gcd
 zero_is_not_one e = let f : pos 0 ≡ pos 1 = ap (λ q. q.num) e in cc
 
@@ -123,26 +123,10 @@ abbrev pub square_difference : Fraction → ℕ → Fraction → ℕ → Fractio
 square_difference a r b s = plus (times (times a a) (whole_fraction (pos r))) (negative (times (times b b) (whole_fraction (pos s))))
 
 middle_goes : (a b m : Fraction) → plus (times (times a m) b) (times (times (negative b) m) a) ≡ zero_fraction
-middle_goes a b m =
-    (λ i. plus (ours i) (theirs i)) ∙ plus_negative (times (times a b) m)
-  where
-    ours : times (times a m) b ≡ times (times a b) m
-    ours = times_assoc a m b ∙ ap (times a) (times_comm m b) ∙ sym (times_assoc a b m)
-
-    theirs : times (times (negative b) m) a ≡ negative (times (times a b) m)
-    theirs = ap (λ x. times x a) (negative_times b m) ∙ negative_times (times b m) a ∙ ap negative (times_comm (times b m) a ∙ sym (times_assoc a b m))
+middle_goes a b m = grind (arith, plus_negative, times_assoc, times_comm, negative_times)
 
 ends_join : (a b m x y : Fraction) → plus (times (times (times a m) a) x) (times (times (times (negative b) m) b) y) ≡ times m (plus (times (times a a) x) (negative (times (times b b) y)))
-ends_join a b m x y = (λ i. plus (first i) (second i)) ∙ sym (times_plus m (times (times a a) x) (negative (times (times b b) y)))
-  where
-    pulled : (c d z : Fraction) → times (times (times c m) d) z ≡ times m (times (times c d) z)
-    pulled c d z = ap (λ k. times (times k d) z) (times_comm c m) ∙ ap (λ k. times k z) (times_assoc m c d) ∙ times_assoc m (times c d) z
-
-    first : times (times (times a m) a) x ≡ times m (times (times a a) x)
-    first = pulled a a x
-
-    second : times (times (times (negative b) m) b) y ≡ times m (negative (times (times b b) y))
-    second = pulled (negative b) b y ∙ ap (times m) (ap (λ k. times k y) (negative_times b b) ∙ negative_times (times b b) y)
+ends_join a b m x y = grind (arith, times_plus, times_comm, times_assoc, negative_times)
 
 -- 1/(a * √r + b * √s) is a * m * √r - b * m * √s, where m is 1/(a * a * r - b * b * s)
 pub Inverts-terms : (a b m : Fraction) (r s : ℕ) → times m (square_difference a r b s) ≡ one_fraction

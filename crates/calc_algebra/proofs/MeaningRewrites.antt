@@ -70,9 +70,7 @@ pub sum_one : (f : Assignment) (t : Tree) (v : Surd) → Means t f v → Means (
 sum_one f t v m = sum_more f t none v v [] m (sum_none f [] (Same-refl [])) (Same-eq (sym (append-nil v)))
 
 pub one_sum : (f : Assignment) (t : Tree) (v : Surd) → Means (add (more t none)) f v → Means t f v
-one_sum f t v m =
-    let p = sum_parts f t none v m in
-    Means-Same t f p.first v p.first_means (Same-sym (Same-trans p.same (Same-trans (Same-append (Same-refl p.first) (none_sum f p.rest p.rest_means)) (Same-eq (append-nil p.first)))))
+one_sum f t v m = grind (arith, sum_parts, Means-Same, Same-sym, Same-trans, Same-append, Same-refl, none_sum, Same-eq, append-nil)
 
 pub product_one : (f : Assignment) (t : Tree) (v : Surd) → Means t f v → Means (mult (more t none)) f v
 product_one f t v m = product_more f t none v v surd_one m (product_none f surd_one (Same-refl surd_one)) (Agree-Same (Agree-sym (surd_times-one v)))

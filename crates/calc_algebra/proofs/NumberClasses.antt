@@ -2,7 +2,7 @@
 use Rattle.calc_algebra.proofs.Shared.{◌≡◌, ◌≢◌, ℕ, zero, suc, ◌*◌, ◌<◌, ◌≤◌, ◌⊎◌, inl, inr, pos, [], ◌∷◌, Bool, true, false, ◌==◌, ◌&&◌, length, refl}
 use Rattle.calc_algebra.proofs.Shared.{sym, ap, ◌∙◌, arith, subst, ⊤, nat_le, false_from_ne_true, IsClean, times_comm, one_times, zero_plus, Fraction, plus, times, zero_fraction, one_fraction}
 use Rattle.calc_algebra.proofs.Shared.{plus_comm, quotient, same_lowest, IsNumber, IsTerm, AreTerms, IsBelowAll, Rises, value, classes, term_of, terms_of, are_alike, term_share, class_coefficient}
-use Rattle.calc_algebra.proofs.Shared.{Same, square_root, Term, Surd, term, surd_of, Tree, num, Trees, none, more, mul_comm, one-mul}
+use Rattle.calc_algebra.proofs.Shared.{Same, square_root, Term, Surd, term, surd_of, Tree, num, Trees, none, more, mul_comm, one-mul, plus_zero}
 use Rattle.calc_algebra.proofs.CleanLaws.{clean_no_square}
 use Rattle.calc_algebra.proofs.InverseLaws.{one_is_not_zero}
 use Rattle.calc_algebra.proofs.MeaningLaws.{Same-sym, surd_of_one}
@@ -45,9 +45,6 @@ own_share : (t : Term) → IsProper t → term_share t t.radicand ≡ t.coeffici
 own_share t s =
     share_alike t.coefficient t.radicand t.radicand t.radicand (record { square = refl; positive = s.positive })
     ∙ ap (times t.coefficient) (over_itself t.radicand s.positive) ∙ times_comm t.coefficient one_fraction ∙ one_times t.coefficient
-
-plus_zero : (q : Fraction) → plus q zero_fraction ≡ q
-plus_zero q = plus_comm q zero_fraction ∙ zero_plus q
 
 -- no term behind gives to the class of one in front
 none_behind : (t : Term) (v : Surd) → IsBelowAll t v → class_coefficient v t.radicand ≡ zero_fraction
@@ -170,11 +167,7 @@ number_rational t q h e = by_rational t q h (Same-Agree e) (as_number t h)
 -- ---- how many classes
 
 found_in_two : (p q : Fraction) (r c s : ℕ) → plus (term_share (term p r) s) (plus (term_share (term q c) s) zero_fraction) ≢ zero_fraction → (are_alike r s ≡ true) ⊎ (are_alike c s ≡ true)
-found_in_two p q r c s h = by (are_alike r s) refl
-  where
-    by : (b : Bool) → are_alike r s ≡ b → (are_alike r s ≡ true) ⊎ (are_alike c s ≡ true)
-    by true e = inl e
-    by false e = inr (share_found q c s (λ z. h ((λ i. plus (share_apart p r s e i) (plus (z i) zero_fraction)) ∙ zero_plus (plus zero_fraction zero_fraction) ∙ zero_plus zero_fraction)))
+found_in_two p q r c s h = grind (arith, share_found, share_apart, zero_plus)
 
 clash : (r s : ℕ) → are_alike r s ≡ false → are_alike r s ≡ true → ⊥
 clash r s h k = cc

@@ -86,10 +86,7 @@ rises_words (t ∷ v) h = let (a, b) = and_parts (is_below_all t v) (rises v) h 
 pub number_words : (t : Tree) → is_number t ≡ true → IsNumber t
 unfolding is_number
 number_words (num q) h = tt
-number_words (add ts) h =
-    let (ab, c) = and_parts (nat_le 2 (length (terms_of ts)) && are_terms ts) (rises (terms_of ts)) h in
-    let (a, b) = and_parts (nat_le 2 (length (terms_of ts))) (are_terms ts) ab in
-    (leb-true 2 (length (terms_of ts)) a, terms_words ts b, rises_words (terms_of ts) c)
+number_words (add ts) h = grind (arith, and_parts, leb-true, terms_words, rises_words)
 number_words (root a) h = term_words (root a) h
 number_words (mult ts) h = term_words (mult ts) h
 number_words _ h = cc

@@ -128,9 +128,7 @@ split_keeps ts = to_one_factor ts
 
 -- a list of factors as one tree
 pub product_tree_keeps : (ts : Trees) → KeepsMeanings (mult ts) (product_tree ts)
-product_tree_keeps none = empty_product
-product_tree_keeps (more t none) = single_product t
-product_tree_keeps (more t (more u ts)) = KeepsMeanings-refl (mult (more t (more u ts)))
+product_tree_keeps ts = grind (arith, empty_product, single_product, KeepsMeanings-refl)
 
 -- factors behind a coefficient as one factor, and back
 pub factors_as_one : (c : Tree) (ts : Trees) → KeepsMeanings (mult (more c ts)) (mult (two c (product_tree ts)))

@@ -37,11 +37,7 @@ terms_mean none f h = refl
 terms_mean (more t ts) f h = (term_of t ∷ [], terms_of ts, term_means t f h.0, terms_mean ts f h.1, refl)
 
 zero_share : (s : ℕ) → term_share (term zero_fraction 1) s ≡ zero_fraction
-zero_share s = by (are_alike 1 s) (quotient (square_root (1 * s)) s)
-  where
-    by : (b : Bool) (x : Fraction) → (if b then times zero_fraction x else zero_fraction) ≡ zero_fraction
-    by true x = zero_times x
-    by false x = refl
+zero_share s = grind (arith, zero_times)
 
 zero_alone : (q : Fraction) → int_is_zero q.num ≡ true → Agree [] (surd_of q)
 zero_alone q h = Agree-trans (record { at = λ s. sym (ap (λ x. plus x zero_fraction) (zero_share s) ∙ zero_plus zero_fraction) }) (Agree-eq (ap surd_of (sym (zero_is q h))))

@@ -53,20 +53,7 @@ rises_by_test key (more t (more u ts)) h = and_from (is_lt (tree_cmp (key t) (ke
 -- ---- powers
 
 pub whole_power_words : (b : Tree) (n : Fraction) → whole_power_form b n ≡ true → IsWholePowerForm b n
-whole_power_words b n h =
-    let (h4, wide) = and_parts (not (is_zero_fraction n) && not (is_one_fraction n) && not (is_mult b) && not (is_transparent_power b) && (not (int_is_even n.num) || not (is_root b))) _ h in
-    let (h3, root_free) = and_parts (not (is_zero_fraction n) && not (is_one_fraction n) && not (is_mult b) && not (is_transparent_power b)) _ h4 in
-    let (h2, powers) = and_parts (not (is_zero_fraction n) && not (is_one_fraction n) && not (is_mult b)) _ h3 in
-    let (h1, product) = and_parts (not (is_zero_fraction n) && not (is_one_fraction n)) _ h2 in
-    let (nonzero, nonone) = and_parts (not (is_zero_fraction n)) _ h1 in
-    record {
-      not_zero = no_zero n nonzero;
-      not_one = no_one n nonone;
-      no_product = from_not (is_mult b) product;
-      no_power = from_not (is_transparent_power b) powers;
-      no_root = λ e. from_not (is_root b) (implies (int_is_even n.num) (not (is_root b)) root_free e);
-      wide = λ e. let (l, m) = and_parts (int_is_negative n.num) (nat_le 3 (classes b)) (implies (is_number b) _ wide e) in (l, leb-true 3 (classes b) m);
-    }
+whole_power_words b n h = grind (arith, and_parts, no_zero, no_one, from_not, implies, leb-true)
 
 pub whole_power_test : (b : Tree) (n : Fraction) → IsWholePowerForm b n → whole_power_form b n ≡ true
 whole_power_test b n h = grind (arith, and_from, not_from_false, zero_test, one_test, implied)
@@ -88,18 +75,7 @@ power_test b e h = refl
 -- ---- sums and products
 
 pub sum_words : (ts : Trees) → sum_form ts ≡ true → IsSumForm ts
-sum_words ts h =
-    let (h3, rising) = and_parts (has_two ts && none_is is_add ts && rises (terms_of (number_terms ts)) && none_is is_number (other_terms ts)) _ h in
-    let (h2, others) = and_parts (has_two ts && none_is is_add ts && rises (terms_of (number_terms ts))) _ h3 in
-    let (h1, number) = and_parts (has_two ts && none_is is_add ts) _ h2 in
-    let (two, sums) = and_parts (has_two ts) _ h1 in
-    record {
-      two = two_words ts two;
-      no_sum = none_words is_add ts sums;
-      number = rises_words (terms_of (number_terms ts)) number;
-      no_number = none_words is_number (other_terms ts) others;
-      rising = rises_by_words part_of (other_terms ts) rising;
-    }
+sum_words ts h = grind (arith, and_parts, two_words, none_words, rises_words, rises_by_words)
 
 pub sum_test : (ts : Trees) → IsSumForm ts → sum_form ts ≡ true
 sum_test ts h = grind (arith, and_from, two_test, none_test, rises_test, rises_by_test)
@@ -111,20 +87,7 @@ front_test : (ts : Trees) → IsFrontForm ts → front_form ts ≡ true
 front_test ts h = grind (arith, and_from, not_from_false, zero_test, one_test)
 
 pub product_words : (ts : Trees) → product_form ts ≡ true → IsProductForm ts
-product_words ts h =
-    let (h4, distributed) = and_parts (has_two ts && none_is is_mult ts && front_form ts && none_is is_number (split_product ts).factors && rises_by base_of (split_product ts).factors) _ h in
-    let (h3, rising) = and_parts (has_two ts && none_is is_mult ts && front_form ts && none_is is_number (split_product ts).factors) _ h4 in
-    let (h2, others) = and_parts (has_two ts && none_is is_mult ts && front_form ts) _ h3 in
-    let (h1, front) = and_parts (has_two ts && none_is is_mult ts) _ h2 in
-    let (two, products) = and_parts (has_two ts) _ h1 in
-    record {
-      two = two_words ts two;
-      no_product = none_words is_mult ts products;
-      front = front_words ts front;
-      no_number = none_words is_number (split_product ts).factors others;
-      rising = rises_by_words base_of (split_product ts).factors rising;
-      distributed = from_not (is_undistributed (split_product ts)) distributed;
-    }
+product_words ts h = grind (arith, and_parts, split_product, two_words, none_words, front_words, rises_by_words, from_not)
 
 pub product_test : (ts : Trees) → IsProductForm ts → product_form ts ≡ true
 product_test ts h = grind (arith, and_from, two_test, none_test, front_test, rises_by_test, not_from_false)

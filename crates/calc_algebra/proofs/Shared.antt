@@ -18,6 +18,7 @@ unfoldable pub use Rattle.calc_algebra.specs.SquareRoots.{square_root}
 pub use Rattle.calc_algebra.specs.Surds.{Surd, Term, surd_of, surd_one, surd_power, surd_scale, surd_times, term, term_scale, term_times}
 pub use Rattle.calc_algebra.specs.TreeOrder.{tree_cmp, trees_cmp}
 pub use Rattle.calc_terms.proofs.FractionFacts.{cross_products, no_one, no_zero, one_test, whole_denominator, zero_is, zero_test}
+pub use Rattle.calc_terms.proofs.SmallFractions.{plus_zero}
 pub use Rattle.calc_terms.specs.Fits.{fraction_power}
 pub use Rattle.calc_terms.specs.FractionLaws.{negative_lowest, one_times, plus_negative, times_assoc, times_comm, times_plus, zero_plus, zero_times}
 pub use Rattle.calc_terms.specs.Fractions.{Fraction, Holds, den_pos, fraction_cmp, fraction_path, held, inverse, inverse_of, is_lowest, is_one_fraction, is_zero_fraction, lowest_cross, lowest_parts}

@@ -40,8 +40,7 @@ pub times_zero : (a : Fraction) → times a zero_fraction ≡ zero_fraction
 times_zero a = times_comm a zero_fraction ∙ zero_times a
 
 share_by : (b : Bool) (c q x : Fraction) → (if b then times (times c q) x else zero_fraction) ≡ times c (if b then times q x else zero_fraction)
-share_by true c q x = times_assoc c q x
-share_by false c q x = sym (times_zero c)
+share_by b c q x = grind (arith, times_assoc, times_zero)
 
 term_share-term_scale : (c : Fraction) (t : Term) (s : ℕ) → term_share (term_scale c t) s ≡ times c (term_share t s)
 term_share-term_scale c t s = share_by (are_alike t.radicand s) c t.coefficient (quotient (square_root (t.radicand * s)) s)
@@ -88,28 +87,16 @@ pub surd_times-surd_one : (v : Surd) → surd_times surd_one v ≡ v
 surd_times-surd_one v = append-nil (map (term_times (term one_fraction 1)) v) ∙ map_one v
 
 times_exchange : (q c a x : Fraction) → times (times q c) (times a x) ≡ times (times q a) (times c x)
-times_exchange q c a x =
-    times_assoc q c (times a x) ∙ ap (times q) (sym (times_assoc c a x) ∙ ap (λ y. times y x) (times_comm c a) ∙ times_assoc a c x) ∙ sym (times_assoc q a (times c x))
+times_exchange q c a x = grind (arith, times_assoc, times_comm)
 
 ratio_split : (t a s : ℕ) → 0 < a → 0 < s → quotient t s ≡ times (lowest (pos a) 1) (quotient t (a * s))
-ratio_split t a s ha hs =
-    same_lowest (pos t) (pos a *ℤ pos t) s (1 * (a * s)) hs (mul_pos 1 (a * s) (omega arith) (mul_pos a s ha hs)) (ap pos (omega arith))
-    ∙ sym (times_lowest (pos a) (pos t) 1 (a * s) (omega arith) (mul_pos a s ha hs))
+ratio_split t a s ha hs = grind (arith, same_lowest, mul_pos, times_lowest)
 
 regrouped : (a b s : ℕ) → a * b * s ≡ b * (a * s)
 regrouped a b s = omega arith
 
 alike_positive : (n t b a s : ℕ) → n ≡ b * (a * s) → ((t * t == n) && nat_le 1 t) ≡ true → (0 < a) × (0 < s)
-alike_positive n t b a s e h =
-    let (p, q) = and_parts (t * t == n) (nat_le 1 t) h in
-    let x : t * t ≡ n = eqb-true (t * t) n p in
-    let y : 1 ≤ t = leb-true 1 t q in
-    factors_positive b a s (omega (arith, mul_pos t t y y))
-  where
-    factors_positive : (b a s : ℕ) → 0 < b * (a * s) → (0 < a) × (0 < s)
-    factors_positive b zero s h = absurd (omega arith)
-    factors_positive b (suc a) zero h = absurd (omega arith)
-    factors_positive b (suc a) (suc s) h = (omega arith, omega arith)
+alike_positive n t b a s e h = grind (arith, and_parts, eqb-true, leb-true, mul_pos)
 
 share_cases : (b : Bool) (q c : Fraction) (t a s : ℕ) → (b ≡ true → (0 < a) × (0 < s))
     → (if b then times (times q c) (quotient t s) else zero_fraction) ≡ times (times q (lowest (pos a) 1)) (if b then times c (quotient t (a * s)) else zero_fraction)
@@ -201,8 +188,4 @@ inverse_power (suc n) y w h = inverse_times y w (surd_power y (suc n)) (surd_pow
 
 -- a product with one rational is a multiple
 pub surd_times-surd_of : (c : Fraction) (u : Surd) → Agree (surd_times (surd_of c) u) (surd_scale c u)
-surd_times-surd_of c u = Agree-eq (append-nil _ ∙ each c u)
-  where
-    each : (c : Fraction) (u : Surd) → map (term_times (term c 1)) u ≡ surd_scale c u
-    each c [] = refl
-    each c (t ∷ u) = λ i. term (times c t.coefficient) (one-mul t.radicand i) ∷ each c u i
+surd_times-surd_of c u = grind (arith, Agree-eq, append-nil, one-mul)

@@ -60,16 +60,14 @@ pub share_apart : (q : Fraction) (r s : ℕ) → are_alike r s ≡ false → ter
 share_apart q r s h = share_off (are_alike r s) (times q (quotient (square_root (r * s)) s)) h
 
 share_zero : (b : Bool) (x : Fraction) → (if b then times zero_fraction x else zero_fraction) ≡ zero_fraction
-share_zero true x = zero_times x
-share_zero false x = refl
+share_zero b x = grind (arith, zero_times)
 
 -- a term with coefficient 0 gives nothing
 pub share_of_zero : (r s : ℕ) → term_share (term zero_fraction r) s ≡ zero_fraction
 share_of_zero r s = share_zero (are_alike r s) (quotient (square_root (r * s)) s)
 
 share_sum : (b : Bool) (p q x : Fraction) → plus (if b then times p x else zero_fraction) (if b then times q x else zero_fraction) ≡ (if b then times (plus p q) x else zero_fraction)
-share_sum true p q x = (λ i. plus (times_comm p x i) (times_comm q x i)) ∙ sym (times_plus x p q) ∙ times_comm x (plus p q)
-share_sum false p q x = zero_plus zero_fraction
+share_sum b p q x = grind (arith, times_comm, times_plus, zero_plus)
 
 pub Agree-term : (t u : Term) → ((s : ℕ) → term_share t s ≡ term_share u s) → Agree (t ∷ []) (u ∷ [])
 Agree-term t u h = record { at = λ s. ap (λ x. plus x zero_fraction) (h s) }

@@ -1,22 +1,9 @@
 -- A Number has no more mass than a list that is the same, class by class.
-use Rattle.std.proofs.Common.{◌≡◌, ◌≢◌, ℕ, ◌+◌, ◌*◌, ◌≤◌, ◌<◌, max, [], ◌∷◌, Bool, true, false, if◌then◌else◌, ℤ, pos, ◌+ℤ◌, ◌*ℤ◌, refl, sym, ap, ◌∙◌, subst, arith}
-use Rattle.std.specs.Prelude.{nat_abs, ⊤}
-use Rattle.std.specs.Int.{◌∣◌}
-use Rattle.std.proofs.lemmas.Int.{ints, unsigned_abs-mul}
-use Rattle.std.proofs.lemmas.Bool.{false_from_ne_true}
-use Rattle.std.proofs.lemmas.Nat.{mul-le}
-use Rattle.calc_terms.specs.Fractions.{Fraction, lowest, plus, times, quotient, zero_fraction, same_lowest, times_lowest, mul_pos, den_pos}
-use Rattle.calc_terms.specs.FractionLaws.{zero_plus}
-use Rattle.calc_algebra.specs.Numbers.{IsBelowAll, Rises}
-use Rattle.calc_algebra.specs.SquareClasses.{are_alike, term_share, class_coefficient, Same}
-use Rattle.calc_algebra.specs.SquareRoots.{square_root}
-use Rattle.calc_algebra.specs.Surds.{Term, Surd}
-use Rattle.calc_algebra.proofs.SquareClassLaws.{Alike, alike_from, Same-Agree}
-use Rattle.calc_algebra.proofs.SurdLaws.{Agree}
-use Rattle.calc_algebra.proofs.TermLaws.{share_alike, share_apart}
-use Rattle.calc_algebra.proofs.NumberClasses.{IsProper, AreProper, first_coefficient, alike_common, behind_coefficient}
-use Rattle.calc_bits.specs.Denominators.{AreWholeOver, Parts, magnitude_over}
-use Rattle.calc_bits.specs.Masses.{root_above, term_mass, mass_from}
+use Rattle.calc_bits.proofs.Shared.{◌≡◌, ◌≢◌, ℕ, ◌+◌, ◌*◌, ◌≤◌, ◌<◌, max, [], ◌∷◌, Bool, true, false, if◌then◌else◌, ℤ, pos, ◌+ℤ◌, ◌*ℤ◌, refl}
+use Rattle.calc_bits.proofs.Shared.{sym, ap, ◌∙◌, subst, arith, nat_abs, ⊤, ◌∣◌, ints, unsigned_abs-mul, false_from_ne_true, mul-le, Fraction, lowest, plus, times, quotient}
+use Rattle.calc_bits.proofs.Shared.{zero_fraction, same_lowest, times_lowest, mul_pos, den_pos, zero_plus, IsBelowAll, Rises, are_alike, term_share, class_coefficient, Same, square_root, Term, Surd}
+use Rattle.calc_bits.proofs.Shared.{Alike, alike_from, Same-Agree, Agree, share_alike, share_apart, IsProper, AreProper, first_coefficient, alike_common, behind_coefficient, AreWholeOver, Parts}
+use Rattle.calc_bits.proofs.Shared.{magnitude_over, root_above, term_mass, mass_from}
 use Rattle.calc_bits.proofs.Quotients.{cancel_le, cancel_right, abs_cross, magnitude_cross, whole_over, whole_over-abs, over_multiple, plus_over}
 use Rattle.calc_bits.proofs.RootsAbove.{root_enough, root_least, square_sum}
 
@@ -71,17 +58,7 @@ others_coefficient s c (t ∷ v) h = by (are_alike t.radicand s) refl (others_co
 share_sum : (e s : ℕ) (t : Term) → 0 < e → 0 < s → t.coefficient.den ∣ e
     → term_share t s ≡ lowest (if are_alike t.radicand s then whole_over e t.coefficient *ℤ pos (square_root (t.radicand * s)) else pos 0) (e * s)
 unfolding zero_fraction
-share_sum e s t he hs h = by (are_alike t.radicand s) refl
-  where
-    x : ℕ
-    x = square_root (t.radicand * s)
-
-    by : (b : Bool) → are_alike t.radicand s ≡ b → term_share t s ≡ lowest (if b then whole_over e t.coefficient *ℤ pos x else pos 0) (e * s)
-    by true a =
-        share_alike t.coefficient t.radicand s x (alike_from t.radicand s a)
-        ∙ ap (λ q. times q (quotient x s)) (over_multiple e t.coefficient he h)
-        ∙ times_lowest (whole_over e t.coefficient) (pos x) e s he hs
-    by false a = share_apart t.coefficient t.radicand s a ∙ same_lowest (pos 0) (pos 0) 1 (e * s) (omega arith) (mul_pos e s he hs) (omega (arith, ints))
+share_sum e s t he hs h = grind (arith, share_alike, alike_from, over_multiple, times_lowest, share_apart, same_lowest, mul_pos, ints)
 
 coefficient_sum : (e s : ℕ) (v : Surd) → 0 < e → 0 < s → AreWholeOver e v → class_coefficient v s ≡ lowest (class_sum e s v) (e * s)
 unfolding zero_fraction

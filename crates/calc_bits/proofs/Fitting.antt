@@ -1,16 +1,8 @@
 -- Which sums, products and powers of rationals fit.
-use Rattle.std.proofs.Common.{◌≡◌, ℕ, zero, suc, ◌+◌, ◌*◌, ◌/◌, ◌^◌, ◌≤◌, ◌<◌, true, ℤ, pos, ◌+ℤ◌, ◌*ℤ◌, refl, sym, ap, ◌∙◌, subst, arith}
-use Rattle.std.specs.Prelude.{nat_abs}
-use Rattle.std.specs.Int.{IsGcd, ◌∣◌}
-use Rattle.std.proofs.lemmas.Int.{ints, unsigned_abs-mul}
-use Rattle.std.proofs.lemmas.Bool.{and_from}
-use Rattle.std.proofs.lemmas.Nat.Gcd.{le_of_dvd, same_from_IsGcd, IsGcd-swap}
-use Rattle.std.proofs.Math.Nat.{mul-div_cancel', dvd_of_mul-dvd-mul_left, pos_of_dvd_of_pos, mul-le-mul_left, pow-suc, pow-zero}
-use native.Mathlib.Nat.{mul_comm}
-use Rattle.calc_terms.specs.Fits.{fits, fraction_fits, sum_fits, fraction_power}
-use Rattle.calc_terms.specs.Fractions.{Fraction, lowest, plus, times, den_pos, one_fraction}
-use Rattle.calc_terms.specs.Gcd.{gcd, gcd_is, gauss, divided}
-use Rattle.calc_bits.specs.Denominators.{magnitude_over}
+use Rattle.calc_bits.proofs.Shared.{◌≡◌, ℕ, zero, suc, ◌+◌, ◌*◌, ◌/◌, ◌^◌, ◌≤◌, ◌<◌, true, ℤ, pos, ◌+ℤ◌, ◌*ℤ◌, refl, sym, ap, ◌∙◌, subst, arith}
+use Rattle.calc_bits.proofs.Shared.{nat_abs, IsGcd, ◌∣◌, ints, unsigned_abs-mul, and_from, le_of_dvd, same_from_IsGcd, IsGcd-swap, mul-div_cancel', dvd_of_mul-dvd-mul_left, pos_of_dvd_of_pos}
+use Rattle.calc_bits.proofs.Shared.{mul-le-mul_left, pow-suc, pow-zero, mul_comm, fits, fraction_fits, sum_fits, fraction_power, Fraction, lowest, plus, times, den_pos, one_fraction, gcd, gcd_is}
+use Rattle.calc_bits.proofs.Shared.{gauss, divided, magnitude_over}
 use Rattle.calc_bits.proofs.Quotients.{den_divides, den_at_most, num_at_most, plus_den, magnitude_cross, times_den, magnitude_times, magnitude_is, cancel_le, abs_cross}
 use Rattle.calc_bits.proofs.ClassMasses.{abs_plus}
 

@@ -1,14 +1,7 @@
 -- What is held: products, powers and sums, and what that says of one term.
-use Rattle.std.proofs.Common.{◌≡◌, ℕ, zero, suc, ◌+◌, ◌*◌, ◌^◌, ◌≤◌, ◌<◌, ◌++◌, pos, refl, sym, ap, ◌∙◌, subst, arith}
-use Rattle.std.specs.Prelude.{nat_abs}
-use Rattle.std.specs.Int.{◌∣◌}
-use Rattle.std.proofs.lemmas.Nat.{mul-le, pow-add}
-use Rattle.std.proofs.Math.Nat.{pow-suc, pow-zero}
-use native.Mathlib.Nat.{mul_comm}
-use Rattle.calc_terms.specs.Fractions.{Fraction, lowest, one_fraction, mul_pos, den_pos}
-use Rattle.calc_algebra.specs.Surds.{Surd, surd_one, surd_times, surd_power}
-use Rattle.calc_bits.specs.Denominators.{Parts, magnitude_over}
-use Rattle.calc_bits.specs.Masses.{root_above, mass_from, mass, IsHeld}
+use Rattle.calc_bits.proofs.Shared.{◌≡◌, ℕ, zero, suc, ◌+◌, ◌*◌, ◌^◌, ◌≤◌, ◌<◌, ◌++◌, pos, refl, sym, ap, ◌∙◌, subst, arith, nat_abs, ◌∣◌, mul-le}
+use Rattle.calc_bits.proofs.Shared.{pow-add, pow-suc, pow-zero, mul_comm, Fraction, lowest, one_fraction, mul_pos, den_pos, Surd, surd_one, surd_times, surd_power, Parts, magnitude_over, root_above}
+use Rattle.calc_bits.proofs.Shared.{mass_from, mass, IsHeld}
 use Rattle.calc_bits.proofs.MassLaws.{parts_scale, parts_append, parts_times, mass-append, mass_scale, mass_times}
 use Rattle.calc_bits.proofs.Quotients.{cancel_le, cancel_right, magnitude_cross, den_divides, magnitude_is, abs_cross}
 use Rattle.calc_bits.proofs.RootsAbove.{root_least}

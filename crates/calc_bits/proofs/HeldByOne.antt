@@ -1,11 +1,6 @@
 -- The same by one denominator, a term counted by its magnitude alone.
-use Rattle.std.proofs.Common.{◌≡◌, ℕ, suc, ◌+◌, ◌*◌, ◌^◌, ◌≤◌, ◌++◌, ◌∙◌, subst, arith}
-use Rattle.std.proofs.lemmas.Nat.{mul-le, pow-add}
-use Rattle.std.proofs.Math.Nat.{pow-suc}
-use native.Mathlib.Nat.{mul_comm}
-use Rattle.calc_algebra.specs.Surds.{Surd, surd_times, surd_power}
-use Rattle.calc_bits.specs.Denominators.{Parts}
-use Rattle.calc_bits.specs.Masses.{mass_from, IsHeldByOne}
+use Rattle.calc_bits.proofs.Shared.{◌≡◌, ℕ, suc, ◌+◌, ◌*◌, ◌^◌, ◌≤◌, ◌++◌, ◌∙◌, subst, arith, mul-le, pow-add, pow-suc, mul_comm, Surd, surd_times, surd_power}
+use Rattle.calc_bits.proofs.Shared.{Parts, mass_from, IsHeldByOne}
 use Rattle.calc_bits.proofs.Held.{two_powers, power_bound, low_power, parts_power, mass_power}
 use Rattle.calc_bits.proofs.MassLaws.{parts_scale, parts_append, parts_times, mass-append, mass_scale, mass_times}
 

@@ -7,3 +7,4 @@ pub mod Held
 pub mod Parts
 pub mod HeldByOne
 pub mod NoLarger
+mod Shared

@@ -1,12 +1,6 @@
 -- Scales, sums and products of masses.
-use Rattle.std.proofs.Common.{◌≡◌, ℕ, ◌+◌, ◌*◌, ◌≤◌, ◌<◌, ◌⊎◌, max, min, [], ◌∷◌, ◌++◌, map, sym, ap, ◌∙◌, subst, arith}
-use Rattle.std.specs.Int.{◌∣◌}
-use Rattle.std.proofs.lemmas.Nat.Gcd.{dvd_trans}
-use Rattle.std.proofs.Math.Nat.{dvd-mul_left}
-use Rattle.calc_terms.specs.Fractions.{times, mul_pos}
-use Rattle.calc_algebra.specs.Surds.{Term, Surd, term_times, surd_times}
-use Rattle.calc_bits.specs.Denominators.{AreWholeOver, Parts, magnitude_over}
-use Rattle.calc_bits.specs.Masses.{root_above, term_mass, mass_from, IsHeld}
+use Rattle.calc_bits.proofs.Shared.{◌≡◌, ℕ, ◌+◌, ◌*◌, ◌≤◌, ◌<◌, ◌⊎◌, max, min, [], ◌∷◌, ◌++◌, map, sym, ap, ◌∙◌, subst, arith, ◌∣◌, dvd_trans}
+use Rattle.calc_bits.proofs.Shared.{dvd-mul_left, times, mul_pos, Term, Surd, term_times, surd_times, AreWholeOver, Parts, magnitude_over, root_above, term_mass, mass_from, IsHeld}
 use Rattle.calc_bits.proofs.Quotients.{magnitude_scale, magnitude_times, times_den}
 use Rattle.calc_bits.proofs.RootsAbove.{root_times, root_scale}
 
@@ -60,10 +54,7 @@ term_scale j m e t h =
 
 mass_scale_whole : (j m e : ℕ) (v : Surd) → AreWholeOver e v → mass_from (j * m) (j * e) v ≤ j * mass_from m e v
 mass_scale_whole j m e [] h = omega arith
-mass_scale_whole j m e (t ∷ v) (h, hs) =
-    let a : term_mass (j * m) (j * e) t ≤ j * term_mass m e t = term_scale j m e t h in
-    let b : mass_from (j * m) (j * e) v ≤ j * mass_from m e v = mass_scale_whole j m e v hs in
-    omega arith
+mass_scale_whole j m e (t ∷ v) (h, hs) = grind (arith, term_scale, (mass_scale_whole j m e v hs))
 
 pub mass_scale : (j m e : ℕ) (v : Surd) → Parts e v → mass_from (j * m) (j * e) v ≤ j * mass_from m e v
 mass_scale j m e v h = mass_scale_whole j m e v h.whole
@@ -87,18 +78,11 @@ term_times_mass m n d e t u h k =
 
 row_mass : (m n d e : ℕ) (t : Term) (w : Surd) → t.coefficient.den ∣ d → AreWholeOver e w → mass_from (m * n) (d * e) (map (term_times t) w) ≤ term_mass m d t * mass_from n e w
 row_mass m n d e t [] h k = omega arith
-row_mass m n d e t (u ∷ w) h (k, ks) =
-    let a : term_mass (m * n) (d * e) (term_times t u) ≤ term_mass m d t * term_mass n e u = term_times_mass m n d e t u h k in
-    let b : mass_from (m * n) (d * e) (map (term_times t) w) ≤ term_mass m d t * mass_from n e w = row_mass m n d e t w h ks in
-    omega arith
+row_mass m n d e t (u ∷ w) h (k, ks) = grind (arith, term_times_mass, (row_mass m n d e t w h ks))
 
 mass_times_whole : (m n d e : ℕ) (v w : Surd) → AreWholeOver d v → AreWholeOver e w → mass_from (m * n) (d * e) (surd_times v w) ≤ mass_from m d v * mass_from n e w
 mass_times_whole m n d e [] w h k = omega arith
-mass_times_whole m n d e (t ∷ v) w (h, hs) k =
-    let a : mass_from (m * n) (d * e) (map (term_times t) w) ≤ term_mass m d t * mass_from n e w = row_mass m n d e t w h k in
-    let b : mass_from (m * n) (d * e) (surd_times v w) ≤ mass_from m d v * mass_from n e w = mass_times_whole m n d e v w hs k in
-    let c : mass_from (m * n) (d * e) (map (term_times t) w ++ surd_times v w) ≡ mass_from (m * n) (d * e) (map (term_times t) w) + mass_from (m * n) (d * e) (surd_times v w) = mass-append (m * n) (d * e) (map (term_times t) w) (surd_times v w) in
-    omega arith
+mass_times_whole m n d e (t ∷ v) w (h, hs) k = grind (arith, row_mass, mass-append, (mass_times_whole m n d e v w hs k))
 
 pub mass_times : (m n d e : ℕ) (v w : Surd) → Parts d v → Parts e w → mass_from (m * n) (d * e) (surd_times v w) ≤ mass_from m d v * mass_from n e w
 mass_times m n d e v w h k = mass_times_whole m n d e v w h.whole k.whole

@@ -1,16 +1,7 @@
 -- Parts of lists that are held, and lists of rising terms that are the same as one that is held.
-use Rattle.std.proofs.Common.{◌≡◌, ℕ, ◌+◌, ◌*◌, ◌^◌, ◌≤◌, [], ◌∷◌, ◌++◌, sym, ap, ◌∙◌, subst, arith}
-use Rattle.std.proofs.lemmas.Nat.Gcd.{le_of_dvd}
-use Rattle.calc_terms.specs.Fractions.{Fraction, plus, negative, zero_fraction, plus_comm, plus_assoc}
-use Rattle.calc_terms.specs.FractionLaws.{zero_plus, plus_negative}
-use Rattle.calc_algebra.specs.Numbers.{Rises}
-use Rattle.calc_algebra.specs.SquareClasses.{class_coefficient, Same}
-use Rattle.calc_algebra.specs.Surds.{Term, Surd}
-use Rattle.calc_algebra.proofs.NumberClasses.{AreProper}
-use Rattle.calc_algebra.proofs.SquareClassLaws.{Same-Agree}
-use Rattle.calc_algebra.proofs.SurdLaws.{Agree-Same, class_coefficient-append}
-use Rattle.calc_bits.specs.Denominators.{AreWholeOver, Parts, magnitude_over}
-use Rattle.calc_bits.specs.Masses.{root_above, term_mass, mass_from, mass, IsHeld, IsHeldByOne}
+use Rattle.calc_bits.proofs.Shared.{◌≡◌, ℕ, ◌+◌, ◌*◌, ◌^◌, ◌≤◌, [], ◌∷◌, ◌++◌, sym, ap, ◌∙◌, subst, arith, le_of_dvd, Fraction, plus, negative, zero_fraction}
+use Rattle.calc_bits.proofs.Shared.{plus_comm, plus_assoc, zero_plus, plus_negative, Rises, class_coefficient, Same, Term, Surd, AreProper, Same-Agree, Agree-Same, class_coefficient-append}
+use Rattle.calc_bits.proofs.Shared.{AreWholeOver, Parts, magnitude_over, root_above, term_mass, mass_from, mass, IsHeld, IsHeldByOne}
 use Rattle.calc_bits.proofs.ClassMasses.{mass_same}
 use Rattle.calc_bits.proofs.Held.{magnitudes_cross, square_held}
 use Rattle.calc_bits.proofs.MassLaws.{parts_append, mass-append}

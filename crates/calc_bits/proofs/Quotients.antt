@@ -1,16 +1,7 @@
 -- Numerators and denominators of fractions, and multiples of fractions that are whole.
-use Rattle.std.proofs.Common.{◌≡◌, ℕ, ◌*◌, ◌/◌, ◌≤◌, ◌<◌, ℤ, pos, ◌+ℤ◌, ◌*ℤ◌, refl, sym, ap, ◌∙◌, subst, arith}
-use Rattle.std.specs.Prelude.{nat_abs}
-use Rattle.std.specs.Int.{IsGcd, ◌∣◌}
-use Rattle.std.proofs.lemmas.Int.{unsigned_abs-mul}
-use Rattle.std.proofs.lemmas.Nat.Gcd.{le_of_dvd, dvd_trans}
-use Rattle.std.proofs.lemmas.Bool.{eqb-true}
-use Rattle.std.proofs.Math.Nat.{mul-div_cancel', dvd-mul_left, mul-dvd-mul, mul-le-mul_left}
-use native.Mathlib.Nat.{mul_comm}
-use Rattle.calc_terms.specs.Fractions.{Fraction, lowest, plus, times, plus_lowest, second_held, lowest_cross, lowest_parts, same_lowest, den_pos, mul_pos, whole_fraction}
-use Rattle.calc_terms.specs.Integers.{parts, diffs, eq_diff}
-use Rattle.calc_terms.specs.Gcd.{gcd_is, gauss}
-use Rattle.calc_bits.specs.Denominators.{magnitude_over}
+use Rattle.calc_bits.proofs.Shared.{◌≡◌, ℕ, ◌*◌, ◌/◌, ◌≤◌, ◌<◌, ℤ, pos, ◌+ℤ◌, ◌*ℤ◌, refl, sym, ap, ◌∙◌, subst, arith, nat_abs, IsGcd, ◌∣◌}
+use Rattle.calc_bits.proofs.Shared.{unsigned_abs-mul, le_of_dvd, dvd_trans, eqb-true, mul-div_cancel', dvd-mul_left, mul-dvd-mul, mul-le-mul_left, mul_comm, Fraction, lowest, plus, times, plus_lowest}
+use Rattle.calc_bits.proofs.Shared.{second_held, lowest_cross, lowest_parts, same_lowest, den_pos, mul_pos, whole_fraction, parts, diffs, eq_diff, gcd_is, gauss, magnitude_over}
 pub use Rattle.calc_algebra.proofs.SquareRootLaws.{mul_cancel as cancel_right, le_by_scaled as cancel_le}
 
 pub coprime : (a : Fraction) → IsGcd (nat_abs a.num) a.den 1

@@ -1,11 +1,6 @@
 -- The least number whose square is at least a given one.
-use Rattle.std.proofs.Common.{◌≡◌, ℕ, suc, ◌+◌, ◌*◌, ◌≤◌, ◌<◌, ◌⊎◌, inl, inr, Bool, true, false, ◌==◌, refl, arith}
-use Rattle.std.specs.Prelude.{if◌then◌else◌}
-use Rattle.std.proofs.lemmas.Bool.{eqb-true, eqb-false, cases_lt}
-use Rattle.std.proofs.lemmas.Nat.{mul-le}
-use Rattle.calc_algebra.specs.SquareRoots.{square_root}
-use Rattle.calc_algebra.proofs.SquareRootLaws.{square_root_is, square_le}
-use Rattle.calc_bits.specs.Masses.{root_above}
+use Rattle.calc_bits.proofs.Shared.{◌≡◌, ℕ, suc, ◌+◌, ◌*◌, ◌≤◌, ◌<◌, ◌⊎◌, inl, inr, Bool, true, false, ◌==◌, refl, arith, if◌then◌else◌, eqb-true, eqb-false}
+use Rattle.calc_bits.proofs.Shared.{cases_lt, mul-le, square_root, square_root_is, square_le, root_above}
 
 pub root_enough : (n : ℕ) → n ≤ root_above n * root_above n
 root_enough n = grind (arith, square_root_is)

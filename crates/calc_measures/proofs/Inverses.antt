@@ -1,13 +1,8 @@
 -- Opposites and inverses of rationals that fit.
-use Rattle.std.proofs.Common.{◌≡◌, ◌≢◌, ℕ, ◌*◌, ◌^◌, ℤ, pos, negsuc, ◌*ℤ◌, neg_ℤ, ◌<ℤ◌, ◌≤ℤ◌, Bool, true, false, ◌&&◌, refl, ap, ◌∙◌, arith, nat_abs, nat_lt, if◌then◌else◌}
-use Rattle.std.proofs.lemmas.Bool.{and_from, and_parts}
-use Rattle.calc_measures.specs.PlainValues.{exactly, undefined, calculated, powered}
-use Rattle.calc_terms.proofs.FractionFacts.{whole_numerator, whole_denominator}
-use Rattle.calc_terms.specs.Fits.{fits, fraction_fits, fraction_power, mul_op, pow_op}
-use Rattle.calc_terms.specs.FractionLaws.{times_comm, one_times}
-use Rattle.calc_terms.specs.Fractions.{Fraction, lowest, times, negative, inverse, one_fraction, minus_one_fraction, whole_fraction, is_zero_fraction, lowest_parts, times_lowest, den_pos}
-use Rattle.calc_terms.specs.Integers.{int_is_zero}
-use Rattle.rational128.proofs.Reciprocals.{negative_parts, inverts}
+use Rattle.calc_measures.proofs.Shared.{◌≡◌, ◌≢◌, ℕ, ◌*◌, ◌^◌, ℤ, pos, negsuc, ◌*ℤ◌, neg_ℤ, ◌<ℤ◌, ◌≤ℤ◌, Bool, true, false, ◌&&◌, refl, ap, ◌∙◌}
+use Rattle.calc_measures.proofs.Shared.{arith, nat_abs, nat_lt, if◌then◌else◌, and_from, and_parts, exactly, undefined, calculated, powered, whole_numerator, whole_denominator, fits}
+use Rattle.calc_measures.proofs.Shared.{fraction_fits, fraction_power, mul_op, pow_op, times_comm, one_times, Fraction, lowest, times, negative, inverse, one_fraction, minus_one_fraction}
+use Rattle.calc_measures.proofs.Shared.{whole_fraction, is_zero_fraction, lowest_parts, times_lowest, den_pos, int_is_zero, negative_parts, inverts, abs_negative}
 
 minus_one_times : (z : ℤ) → negsuc 0 *ℤ z ≡ neg_ℤ z
 minus_one_times z = grind arith
@@ -15,15 +10,7 @@ minus_one_times z = grind arith
 -- -1 times q is its negative
 pub times_minus_one : (q : Fraction) → times minus_one_fraction q ≡ negative q
 unfolding negative
-times_minus_one q =
-    ap (times minus_one_fraction) (lowest_parts q) ∙ times_lowest (negsuc 0) q.num 1 q.den (omega arith) (den_pos q)
-    ∙ (λ i. lowest (minus_one_times q.num i) (one_mul q.den i))
-  where
-    one_mul : (n : ℕ) → 1 * n ≡ n
-    one_mul n = omega arith
-
-abs_negative : (z : ℤ) → nat_abs (neg_ℤ z) ≡ nat_abs z
-abs_negative z = grind arith
+times_minus_one q = grind (arith, lowest_parts, times_lowest, den_pos, minus_one_times)
 
 negative_fits : (q : Fraction) → fraction_fits q ≡ true → fraction_fits (negative q) ≡ true
 negative_fits q h = grind (arith, negative_parts, abs_negative)

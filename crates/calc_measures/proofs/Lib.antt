@@ -5,3 +5,4 @@ pub mod Inverses
 pub mod LiteralValues
 pub mod Weights
 pub mod ZeroBounds
+mod Shared

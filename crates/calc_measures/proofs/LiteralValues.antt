@@ -1,17 +1,9 @@
 -- Exponents that are written as a whole number or as half of an odd one are worth that number.
-use Rattle.std.proofs.Common.{◌≡◌, ℕ, ℤ, pos, neg_ℤ, ◌*ℤ◌, [], Bool, true, false, ◌&&◌, ◌==◌, not, if◌then◌else◌, Option, Some, None, refl, sym, ap, ◌∙◌, subst, arith}
-use Rattle.std.proofs.lemmas.Bool.{and_parts, eqb-true, not-true}
-use Rattle.std.proofs.lemmas.Int.{ints}
-use Rattle.calc_algebra.proofs.HalfLaws.{half_of, half_of_is}
-use Rattle.calc_algebra.specs.Reduced.{is_half_num}
-use Rattle.calc_measures.specs.Literals.{whole_literal, half_literal, half_value, half_quotient, int_is_two, is_half_literal, is_some, opposite}
-use Rattle.calc_measures.specs.PlainTrees.{IsPlainAnswer}
-use Rattle.calc_measures.specs.PlainValues.{PlainValue, exactly, overflow, calculated, plain_value, divided, gather, values, on_one}
-use Rattle.calc_terms.specs.Fits.{mul_op, result_of, operation_fits}
-use Rattle.calc_terms.specs.Fractions.{Fraction, lowest, times, negative, inverse, inverse_of, whole_fraction, lowest_parts, times_lowest}
-use Rattle.calc_terms.specs.Integers.{int_is_even}
-use Rattle.calc_terms.specs.Trees.{Tree, num, neg, div}
-use Rattle.rational128.proofs.Reciprocals.{negative_parts}
+use Rattle.calc_measures.proofs.Shared.{◌≡◌, ℕ, ℤ, pos, neg_ℤ, ◌*ℤ◌, [], Bool, true, false, ◌&&◌, ◌==◌, not, if◌then◌else◌, Option, Some, None, refl, sym, ap}
+use Rattle.calc_measures.proofs.Shared.{◌∙◌, subst, arith, and_parts, eqb-true, not-true, ints, half_of, half_of_is, is_half_num, whole_literal, half_literal, half_value, half_quotient}
+use Rattle.calc_measures.proofs.Shared.{int_is_two, is_half_literal, is_some, opposite, IsPlainAnswer, PlainValue, exactly, overflow, calculated, plain_value, divided, gather, values, on_one, mul_op}
+use Rattle.calc_measures.proofs.Shared.{result_of, operation_fits, Fraction, lowest, times, negative, inverse, inverse_of, whole_fraction, lowest_parts, times_lowest, int_is_even, Tree, num, neg, div}
+use Rattle.calc_measures.proofs.Shared.{negative_parts}
 
 chosen : (b : Bool) (m n : ℤ) → (if b then Some m else None) ≡ Some n → (b ≡ true) × (m ≡ n)
 chosen b m n h = grind arith
@@ -64,19 +56,7 @@ negated_half : (n : ℤ) (v : PlainValue) → IsHalfOf n v → IsHalfOf (neg_ℤ
 negated_half n v h = grind (arith, negative_half)
 
 half_value_is : (e : Tree) (n : ℤ) → half_literal e ≡ Some n → IsHalfOf n (plain_value e)
-half_value_is (num q) n h = let (w, i) = chosen (q.den == 2) q.num n h in (w, i)
-half_value_is (div (num p) (num d)) n h =
-    let (w, i) = chosen ((p.den == 1) && not (int_is_even p.num) && int_is_two d.num && (d.den == 1)) p.num n h in
-    subst (λ (z : ℤ). IsHalfOf z (divided p d)) i (quotient_half p d w)
-half_value_is (neg (num q)) n h =
-    let (m, o, i) = turned (half_value q) n h in
-    let (w, j) = chosen (q.den == 2) q.num m o in
-    subst (λ (z : ℤ). IsHalfOf z (exactly (negative q))) i (negative_half q m (w, j))
-half_value_is (neg (div (num p) (num d))) n h =
-    let (m, o, i) = turned (half_quotient p d) n h in
-    let (w, j) = chosen ((p.den == 1) && not (int_is_even p.num) && int_is_two d.num && (d.den == 1)) p.num m o in
-    subst (λ (z : ℤ). IsHalfOf z (plain_value (neg (div (num p) (num d))))) i (negated_half m (divided p d) (subst (λ (z : ℤ). IsHalfOf z (divided p d)) j (quotient_half p d w)))
-half_value_is e n h = cc
+half_value_is e n h = grind (arith, chosen, divided, quotient_half, turned, negative_half, plain_value, negated_half)
 
 answer_half : (n : ℤ) (v : PlainValue) (r : Tree) → IsHalfOf n v → IsPlainAnswer v r → (q : Fraction) × (r ≡ num q) × (is_half_num (num q) ≡ true) × (q.num ≡ n)
 answer_half n (exactly q) r h a = (q, a, h.0, h.1)

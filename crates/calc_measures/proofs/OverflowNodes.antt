@@ -1,22 +1,12 @@
 -- The nodes up to an overflow are some of a tree's nodes.
-use Rattle.std.proofs.Common.{ℕ, ◌+◌, ◌≤◌, Bool, true, false, if◌then◌else◌, arith}
-use Rattle.calc_measures.specs.PlainOverflows.{is_overflow, with_child, nodes_to_overflow, nodes_among}
-use Rattle.calc_measures.specs.PlainValues.{plain_of}
-use Rattle.calc_terms.specs.Trees.{Tree, num, symbol, undef, add, mult, power, root, neg, sub, div, Trees, none, more, nodes, nodes_of}
+use Rattle.calc_measures.proofs.Shared.{ℕ, ◌+◌, ◌≤◌, Bool, true, false, if◌then◌else◌, arith, is_overflow, with_child, nodes_to_overflow, nodes_among, plain_of, Tree, num, symbol}
+use Rattle.calc_measures.proofs.Shared.{undef, add, mult, power, root, neg, sub, div, Trees, none, more, nodes, nodes_of}
 
 child_some : (t : Tree) (within behind : ℕ) → 1 ≤ within → 1 ≤ behind → 1 ≤ with_child t within behind
-child_some t within behind w b = by (is_overflow (plain_of t))
-  where
-    by : (c : Bool) → 1 ≤ (if c then within else nodes t + behind)
-    by true = w
-    by false = omega arith
+child_some t within behind w b = grind arith
 
 child_most : (t : Tree) (within behind most : ℕ) → within ≤ nodes t → behind ≤ most → with_child t within behind ≤ nodes t + most
-child_most t within behind most w b = by (is_overflow (plain_of t))
-  where
-    by : (c : Bool) → (if c then within else nodes t + behind) ≤ nodes t + most
-    by true = omega arith
-    by false = omega arith
+child_most t within behind most w b = grind arith
 
 mutual
   pub some_nodes : (t : Tree) → 1 ≤ nodes_to_overflow t

@@ -1,12 +1,8 @@
 -- How much trees weigh, at least and by their nodes.
-use Rattle.std.proofs.Common.{ℕ, ◌+◌, ◌*◌, ◌≤◌, Bool, arith, suc, if◌then◌else◌, ◌≡◌, inl, inr, true, false, refl, ◌<◌, max}
-use Rattle.std.proofs.lemmas.Bool.{and_parts}
-use Rattle.calc_algebra.proofs.ReducedLaws.{reduced_words}
-use Rattle.calc_algebra.specs.Numbers.{is_number, are_numbers}
-use Rattle.calc_algebra.specs.Reduced.{is_opaque_exponent, base_of, is_reduced}
+use Rattle.calc_measures.proofs.Shared.{ℕ, ◌+◌, ◌*◌, ◌≤◌, Bool, arith, suc, if◌then◌else◌, ◌≡◌, inl, inr, true, false, refl, ◌<◌, max, and_parts, reduced_words}
+use Rattle.calc_measures.proofs.Shared.{is_number, are_numbers, is_opaque_exponent, base_of, is_reduced, weight, load_of_factors, weight_of_factors, load_of_factor, has_coefficient, nest, nest_of}
+use Rattle.calc_measures.proofs.Shared.{Tree, mult, Trees, nodes, power, root, none, more, nodes_of}
 use Rattle.calc_measures.proofs.Nests.{nest_number}
-use Rattle.calc_measures.specs.Loads.{weight, load_of_factors, weight_of_factors, load_of_factor, has_coefficient, nest, nest_of}
-use Rattle.calc_terms.specs.Trees.{Tree, mult, Trees, nodes, power, root, none, more, nodes_of}
 
 product_cases : (x y : Bool) (w n : ℕ) → w ≤ 3 * n → (if x then 2 else 1 + (if y then 2 else 0) + w) ≤ 3 * suc n
 product_cases x y w n h = grind arith
@@ -72,11 +68,7 @@ pub to_other : (b e : Tree) → is_number e ≡ false → nest (power b e) ≡ m
 to_other b e h = rw h refl
 
 pub base_nest : (b e : Tree) → nest b ≤ nest (power b e)
-base_nest b e = by (is_number e)
-  where
-    by : (t : Bool) → nest b ≤ (if t then nest b else max (nest b) (suc (nest e)))
-    by true = omega arith
-    by false = omega arith
+base_nest b e = grind arith
 
 -- an exponent's nest is below that of the power, or it is a Number's
 pub exponent_nest : (b e : Tree) → is_number e ≡ false → nest e < nest (power b e)

@@ -1,9 +1,6 @@
 -- Where the bound on numerators is 0, that on denominators is.
-use Rattle.std.proofs.Common.{◌≡◌, ℤ, Option, refl, arith}
-use Rattle.std.proofs.lemmas.Nat.{mul-le}
-use Rattle.calc_measures.specs.Literals.{whole_literal, half_literal, or_literal}
-use Rattle.calc_measures.specs.Measures.{HighLow, power_bounds, bounds, bounds_of_terms, bounds_of_factors, high, low}
-use Rattle.calc_terms.specs.Trees.{Tree, add, mult, power, root, neg, div, Trees, none, more}
+use Rattle.calc_measures.proofs.Shared.{◌≡◌, ℤ, Option, refl, arith, mul-le, whole_literal, half_literal, or_literal, HighLow, power_bounds, bounds, bounds_of_terms, bounds_of_factors, high}
+use Rattle.calc_measures.proofs.Shared.{low, Tree, add, mult, power, root, neg, div, Trees, none, more}
 
 zero_power : (m : Option ℤ) (b : HighLow) → (b.high ≡ 0 → b.low ≡ 0) → (power_bounds m b).high ≡ 0 → (power_bounds m b).low ≡ 0
 zero_power m b h k = grind (arith, mul-le)

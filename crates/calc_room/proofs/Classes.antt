@@ -1,11 +1,6 @@
 -- How many classes a list of radicands spans.
-use Rattle.std.proofs.Common.{◌≡◌, ℕ, suc, ◌+◌, ◌*◌, ◌^◌, ◌≤◌, List, [], ◌∷◌, length, Bool, true, false, refl, sym, ap, ◌∙◌, arith}
-use Rattle.std.specs.Prelude.{⊤}
-use Rattle.std.proofs.Math.Nat.{pow-suc}
-use native.Mathlib.Nat.{mul_assoc, one-mul}
-use Rattle.calc_algebra.specs.SquareClasses.{are_alike}
-use Rattle.calc_algebra.proofs.NumberClasses.{alike_common}
-use Rattle.calc_room.specs.Spans.{chosen_product, IsSpanned}
+use Rattle.calc_room.proofs.Shared.{◌≡◌, ℕ, suc, ◌+◌, ◌*◌, ◌^◌, ◌≤◌, List, [], ◌∷◌, length, Bool, true, false, refl, sym, ap, ◌∙◌, arith, ⊤, pow-suc, mul_assoc}
+use Rattle.calc_room.proofs.Shared.{one-mul, are_alike, alike_common, chosen_product, IsSpanned}
 use Rattle.calc_room.proofs.SpanLaws.{none_chosen}
 
 -- alike with none of them

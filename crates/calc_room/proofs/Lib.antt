@@ -3,3 +3,4 @@ pub mod Classes
 pub mod NumberSpans
 pub mod NumberBytes
 pub mod TreeBytes
+mod Shared

@@ -1,17 +1,8 @@
 -- How many classes and how many bytes a Number has at most.
-use Rattle.std.proofs.Common.{◌≡◌, ℕ, suc, ◌+◌, ◌*◌, ◌^◌, ◌≤◌, ◌<◌, ◌⊎◌, inl, inr, List, [], ◌∷◌, length, Bool, true, false, refl, sym, ap, ◌∙◌, subst, arith}
-use Rattle.std.specs.Prelude.{⊤, nat_le, if◌then◌else◌}
-use Rattle.std.proofs.lemmas.Nat.{pow_pos}
-use Rattle.calc_terms.specs.Fractions.{Fraction}
-use Rattle.calc_terms.proofs.Sizes.{num_most}
-use Rattle.calc_terms.specs.Trees.{Tree, num, add, Trees, none, more, count, size, sizes}
-use Rattle.calc_algebra.specs.Numbers.{IsNumber, IsTerm, AreTerms, IsBelowAll, Rises, value, classes, term_of, terms_of}
-use Rattle.calc_algebra.specs.SquareClasses.{are_alike, radicands, Same}
-use Rattle.calc_algebra.specs.Surds.{Term, Surd}
-use Rattle.calc_algebra.proofs.NumberClasses.{term_proper, terms_proper, value_rises, one_apart_from_clean}
-use Rattle.calc_algebra.proofs.NumberShapes.{AsTerm, as_term, AsNumber, as_number}
-use Rattle.calc_room.specs.Counts.{root_terms}
-use Rattle.calc_room.specs.Spans.{Spans}
+use Rattle.calc_room.proofs.Shared.{◌≡◌, ℕ, suc, ◌+◌, ◌*◌, ◌^◌, ◌≤◌, ◌<◌, ◌⊎◌, inl, inr, List, [], ◌∷◌, length, Bool, true, false, refl, sym, ap, ◌∙◌}
+use Rattle.calc_room.proofs.Shared.{subst, arith, ⊤, nat_le, if◌then◌else◌, pow_pos, Fraction, num_most, Tree, num, add, Trees, none, more, count, size, sizes, IsNumber, IsTerm, AreTerms}
+use Rattle.calc_room.proofs.Shared.{IsBelowAll, Rises, value, classes, term_of, terms_of, are_alike, radicands, Same, Term, Surd, term_proper, terms_proper, value_rises, one_apart_from_clean, AsTerm}
+use Rattle.calc_room.proofs.Shared.{as_term, AsNumber, as_number, root_terms, Spans}
 use Rattle.calc_room.proofs.SpanLaws.{one_spanned}
 use Rattle.calc_room.proofs.NumberSpans.{spans_same_terms}
 use Rattle.calc_room.proofs.Classes.{NoneAlike, AreApart, AreSpanned, few_spanned}

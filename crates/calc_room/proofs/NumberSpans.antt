@@ -1,24 +1,11 @@
 -- What is spanned of sums, products, powers and inverses of Numbers.
-use Rattle.std.proofs.Common.{ℤ, pos, negsuc, ◌≡◌, ◌≢◌, ℕ, zero, suc, ◌*◌, ◌≤◌, ◌<◌, inl, inr, List, [], ◌∷◌, ◌++◌, map, length, Bool, true, false, refl, sym, ap, ◌∙◌, subst, arith}
-use Rattle.calc_terms.specs.Fractions.{Fraction, lowest, plus, zero_fraction, mul_pos}
-use Rattle.calc_terms.specs.FractionLaws.{zero_plus}
-use Rattle.calc_terms.specs.Trees.{Tree, num, add, root, Trees, none, more}
-use Rattle.calc_algebra.specs.Numbers.{IsNumber, IsTerm, AreTerms, Rises, value, classes, term_of, terms_of, natural_of}
-use Rattle.calc_algebra.specs.SquareClasses.{are_alike, class_coefficient, Same, Inverts}
-use Rattle.calc_algebra.specs.SquareRoots.{square_root}
-use Rattle.calc_algebra.specs.Surds.{Term, Surd, surd_scale, term_times, surd_times, surd_power, surd_of, term}
-use Rattle.calc_algebra.proofs.InverseLaws.{Inverts-not_zero, Inverts-one, inverse_of_term, term_has_inverse, inverse_of_terms, terms_have_inverse}
-use Rattle.calc_algebra.proofs.NumberClasses.{AreProper, first_coefficient, value_proper, value_rises}
-use Rattle.calc_algebra.proofs.NumberShapes.{AsNumber, as_number}
-use Rattle.calc_algebra.proofs.SquareClassLaws.{Alike, alike_from, alike_true, Same-Agree}
-use Rattle.calc_algebra.proofs.TermLaws.{share_apart, Same-refl}
-use Rattle.calc_algebra.specs.Meanings.{Means, IsRootOf}
-use Rattle.calc_algebra.specs.Rewritings.{KeepsMeanings}
-use Rattle.calc_algebra.proofs.MeaningLaws.{one_meaning}
-use Rattle.calc_algebra.proofs.NumberValues.{number_means}
-use Rattle.calc_algebra.proofs.SurdLaws.{Agree-Same}
-use Rattle.calc_room.specs.Spans.{IsSpanned, Spans, SpansRoot, SpansTree, SpansTrees, chosen_product}
-use Rattle.calc_room.proofs.SpanLaws.{one_spanned, spanned_alike, spanned_times}
+use Rattle.calc_room.proofs.Shared.{ℤ, pos, negsuc, ◌≡◌, ◌≢◌, ℕ, zero, suc, ◌*◌, ◌≤◌, ◌<◌, inl, inr, List, [], ◌∷◌, ◌++◌, map, length, Bool, true, false, refl}
+use Rattle.calc_room.proofs.Shared.{sym, ap, ◌∙◌, subst, arith, Fraction, lowest, plus, zero_fraction, mul_pos, zero_plus, Tree, num, add, root, Trees, none, more, IsNumber, IsTerm, AreTerms}
+use Rattle.calc_room.proofs.Shared.{Rises, value, classes, term_of, terms_of, natural_of, are_alike, class_coefficient, Same, Inverts, square_root, Term, Surd, surd_scale, term_times, surd_times}
+use Rattle.calc_room.proofs.Shared.{surd_power, surd_of, term, Inverts-not_zero, Inverts-one, inverse_of_term, term_has_inverse, inverse_of_terms, terms_have_inverse, AreProper, first_coefficient}
+use Rattle.calc_room.proofs.Shared.{value_proper, value_rises, AsNumber, as_number, Alike, alike_from, alike_true, Same-Agree, share_apart, Same-refl, Means, IsRootOf, KeepsMeanings, one_meaning}
+use Rattle.calc_room.proofs.Shared.{number_means, Agree-Same, IsSpanned, Spans, SpansRoot, SpansTree, SpansTrees, chosen_product}
+use Rattle.calc_room.proofs.SpanLaws.{one_spanned, spanned_alike, spanned_times, right_factor}
 
 -- ---- lists of terms
 
@@ -60,14 +47,11 @@ left_alike r s t h e =
 pub spanned_itself : (r : ℕ) → 0 < r → IsSpanned (r ∷ []) r
 spanned_itself r h = record { chosen = true ∷ []; alike = alike_true (r * 1) r r (record { square = omega arith; positive = h }) }
 
-right_pos : (a b : ℕ) → 0 < a * b → 0 < b
-right_pos a b h = grind arith
-
 pub spanned_pos : (gs : List ℕ) (r : ℕ) → IsSpanned gs r → 0 < r
 spanned_pos gs r h =
     let n : ℕ = chosen_product gs h.chosen in
     let a : Alike n r (square_root (n * r)) = alike_from n r h.alike in
-    right_pos n r (subst (λ x. 0 < x) a.square (mul_pos (square_root (n * r)) (square_root (n * r)) a.positive a.positive))
+    right_factor n r (subst (λ x. 0 < x) a.square (mul_pos (square_root (n * r)) (square_root (n * r)) a.positive a.positive))
 
 pub spanned_left : (gs : List ℕ) (r s t : ℕ) → IsSpanned gs r → r ≡ s * s * t → IsSpanned gs t
 spanned_left gs r s t h e = spanned_alike gs r t h (left_alike r s t (spanned_pos gs r h) e)

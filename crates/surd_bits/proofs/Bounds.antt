@@ -1,10 +1,7 @@
 -- What is held says of magnitudes over one common denominator.
-use Rattle.std.proofs.Common.{◌≡◌, ◌≢◌, ℕ, zero, suc, ◌+◌, ◌*◌, ◌^◌, ◌≤◌, ◌<◌, false, ℤ, pos, refl, ap, ◌∙◌, arith}
-use Rattle.std.specs.Prelude.{nat_abs}
-use Rattle.surd_bits.proofs.Shared.{mul-le, pow-add, pow-le-pow_right, Fraction, times, whole_fraction, zero_fraction, mul_pos, zero_is, Term, magnitude_over, root_above, den_divides, abs_cross, magnitude_is, magnitude_times, magnitude_cross, root_enough, magnitudes_cross, square_held}
-use Rattle.std.specs.Int.{◌∣◌}
-use Rattle.std.proofs.lemmas.Bool.{false_from_ne_true}
-use Rattle.calc_terms.specs.Integers.{int_is_zero}
+use Rattle.surd_bits.proofs.Shared.{◌≡◌, ◌≢◌, ℕ, zero, suc, ◌+◌, ◌*◌, ◌^◌, ◌≤◌, ◌<◌, false, ℤ, pos, refl, ap, ◌∙◌, arith, nat_abs, mul-le, pow-add}
+use Rattle.surd_bits.proofs.Shared.{pow-le-pow_right, Fraction, times, whole_fraction, zero_fraction, mul_pos, zero_is, Term, magnitude_over, root_above, den_divides, abs_cross, magnitude_is}
+use Rattle.surd_bits.proofs.Shared.{magnitude_times, magnitude_cross, root_enough, magnitudes_cross, square_held, ◌∣◌, false_from_ne_true, int_is_zero}
 
 -- ---- powers of 2
 
@@ -22,10 +19,7 @@ pub power_fits : (a k : ℕ) → a ≤ 2 ^ k → k ≤ 126 → a < 2 ^ 127
 power_fits a k h l = fits_below a (below_power a k 126 h l)
 
 pub square_bound : (d h l : ℕ) → d ≤ 2 ^ l → (d * 2 ^ h) * (d * 2 ^ h) ≤ 2 ^ ((h + l) + (h + l))
-square_bound d h l a =
-    let b : d * 2 ^ h ≤ 2 ^ (h + l) = held_bound d h l a in
-    let c : (d * 2 ^ h) * (d * 2 ^ h) ≤ 2 ^ (h + l) * 2 ^ (h + l) = mul-le (d * 2 ^ h) (d * 2 ^ h) (2 ^ (h + l)) (2 ^ (h + l)) b b in
-    omega (arith, pow-add 2 (h + l) (h + l))
+square_bound d h l a = grind (arith, held_bound, mul-le, pow-add)
 
 pub denominator_bound : (d h l : ℕ) → d ≤ 2 ^ l → d ≤ 2 ^ (h + l)
 denominator_bound d h l a = below_power d l (h + l) a (omega arith)
@@ -43,11 +37,7 @@ abs_positive z h = grind arith
 
 -- a multiple of what is not 0 is not 0
 pub magnitude_positive : (q : Fraction) (d : ℕ) → q ≢ zero_fraction → 0 < d → q.den ∣ d → 0 < magnitude_over d q
-magnitude_positive q d n p h = factor (magnitude_over d q) q.den (nat_abs q.num * d) (magnitude_cross d q h) (mul_pos (nat_abs q.num) d (abs_positive q.num (false_from_ne_true (int_is_zero q.num) (λ z. n (zero_is q z)))) p)
-  where
-    factor : (a b n : ℕ) → a * b ≡ n → 0 < n → 0 < a
-    factor zero b n e h = absurd (omega arith)
-    factor (suc a) b n e h = omega arith
+magnitude_positive q d n p h = grind (arith, magnitude_cross, mul_pos, abs_positive, false_from_ne_true, zero_is)
 
 -- ---- one term
 

@@ -1,10 +1,9 @@
 -- Inverses of what is held: the calculations fit, and how large they are.
-use Rattle.std.proofs.Common.{◌≡◌, ◌≢◌, ℕ, ◌+◌, ◌*◌, ◌≤◌, ◌<◌, ℤ, pos, ◌+ℤ◌, ◌*ℤ◌, neg_ℤ, refl, sym, ap, ◌∙◌, subst, arith}
-use Rattle.std.specs.Prelude.{nat_abs}
-use Rattle.surd_bits.proofs.Shared.{ints, unsigned_abs-mul, dvd_trans, dvd-mul_left, Fraction, lowest, plus, times, negative, inverse, zero_fraction, one_fraction, lowest_parts, times_lowest, mul_pos, den_pos, gauss, cross_products, Term, inverse_times_itself, magnitude_over, cancel_right, coprime, den_divides, magnitude_is, magnitude_lowest, magnitude_cross, magnitude_times, times_den, multiple_den, whole_over, whole_over-abs, over_multiple, plus_over, square_of}
-use Rattle.std.specs.Int.{◌∣◌}
+use Rattle.surd_bits.proofs.Shared.{◌≡◌, ◌≢◌, ℕ, ◌+◌, ◌*◌, ◌≤◌, ◌<◌, ℤ, pos, ◌+ℤ◌, ◌*ℤ◌, neg_ℤ, refl, sym, ap, ◌∙◌, subst, arith, nat_abs, ints}
+use Rattle.surd_bits.proofs.Shared.{unsigned_abs-mul, dvd_trans, dvd-mul_left, Fraction, lowest, plus, times, negative, inverse, zero_fraction, one_fraction, lowest_parts, times_lowest, mul_pos}
+use Rattle.surd_bits.proofs.Shared.{den_pos, gauss, cross_products, Term, inverse_times_itself, magnitude_over, cancel_right, coprime, den_divides, magnitude_is, magnitude_lowest, magnitude_cross}
+use Rattle.surd_bits.proofs.Shared.{magnitude_times, times_den, multiple_den, whole_over, whole_over-abs, over_multiple, plus_over, square_of, ◌∣◌, mul_comm, abs_negative, abs_plus}
 use Rattle.surd_bits.proofs.Bounds.{magnitude_whole, magnitude_positive}
-use native.Mathlib.Nat.{mul_comm}
 
 -- ---- inverses of fractions
 
@@ -49,15 +48,9 @@ pub negative_den : (q : Fraction) (d : ℕ) → q.den ∣ d → (negative q).den
 unfolding negative
 negative_den q d h = dvd_trans (lowest (neg_ℤ q.num) q.den).den (den_divides (neg_ℤ q.num) q.den (den_pos q)) h
 
-abs_neg : (z : ℤ) → nat_abs (neg_ℤ z) ≡ nat_abs z
-abs_neg z = grind arith
-
 pub magnitude_negative : (q : Fraction) (d : ℕ) → q.den ∣ d → magnitude_over d (negative q) ≡ magnitude_over d q
 unfolding negative
-magnitude_negative q d h = magnitude_lowest d (neg_ℤ q.num) q.den (magnitude_over d q) (den_pos q) (negative_den q d h) (magnitude_cross d q h ∙ ap (λ k. k * d) (sym (abs_neg q.num)))
-
-abs_plus : (x y : ℤ) → nat_abs (x +ℤ y) ≤ nat_abs x + nat_abs y
-abs_plus x y = omega (arith, ints)
+magnitude_negative q d h = magnitude_lowest d (neg_ℤ q.num) q.den (magnitude_over d q) (den_pos q) (negative_den q d h) (magnitude_cross d q h ∙ ap (λ k. k * d) (sym (abs_negative q.num)))
 
 pub magnitude_plus : (p q : Fraction) (d : ℕ) → 0 < d → p.den ∣ d → q.den ∣ d → magnitude_over d (plus p q) ≤ magnitude_over d p + magnitude_over d q
 magnitude_plus p q d h a b =

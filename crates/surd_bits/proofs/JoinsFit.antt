@@ -1,18 +1,13 @@
 -- Terms that are held within 124 bits can be joined.
-use Rattle.std.proofs.Common.{◌≡◌, ℕ, ◌+◌, ◌*◌, ◌/◌, ◌^◌, ◌≤◌, ◌<◌, [], ◌∷◌, Bool, true, false, pos, None, refl, sym, ap, ◌∙◌, subst, arith}
-use Rattle.std.specs.Prelude.{if◌then◌else◌}
-use Rattle.surd_bits.proofs.Shared.{mul-le, fraction_fits, sum_fits, gcd, are_alike, Term, square_root_is, square_le, magnitude_over, root_above, term_mass, IsHeld, multiple_fits, sum_fits_over, magnitudes_cross, cancel_le, multiple_den, root_enough, Add, calculation, first_misfit, scaled, scaling, joining_calculations}
-use Rattle.std.specs.Int.{◌∣◌}
-use Rattle.calc_algebra.specs.SquareRoots.{square_root}
-use Rattle.surd_bits.proofs.Passed.{passed}
+use Rattle.surd_bits.proofs.Shared.{◌≡◌, ℕ, ◌+◌, ◌*◌, ◌/◌, ◌^◌, ◌≤◌, ◌<◌, [], ◌∷◌, Bool, true, false, pos, None, refl, sym, ap, ◌∙◌, subst, arith, passed}
+use Rattle.surd_bits.proofs.Shared.{if◌then◌else◌, mul-le, fraction_fits, sum_fits, gcd, are_alike, Term, square_root_is, square_le, magnitude_over, root_above, term_mass, IsHeld, multiple_fits}
+use Rattle.surd_bits.proofs.Shared.{sum_fits_over, magnitudes_cross, cancel_le, multiple_den, root_enough, Add, calculation, first_misfit, scaled, scaling, joining_calculations, ◌∣◌, part_le}
+use Rattle.surd_bits.proofs.Shared.{square_root}
 use Rattle.surd_bits.proofs.Bounds.{held_bound, power_fits, denominator_bound, magnitude_whole}
-
-quotient_at_most : (r g : ℕ) → r / g ≤ r
-quotient_at_most r g = grind arith
 
 -- what is taken before the root is at most the root
 taken_at_most : (r g : ℕ) → square_root (r / g) * square_root (r / g) ≤ r
-taken_at_most r g = let a : square_root (r / g) * square_root (r / g) ≤ r / g = (square_root_is (r / g)).within in let b : r / g ≤ r = quotient_at_most r g in omega arith
+taken_at_most r g = let a : square_root (r / g) * square_root (r / g) ≤ r / g = (square_root_is (r / g)).within in let b : r / g ≤ r = part_le r g in omega arith
 
 -- n * s over d, where n over d is k over e, and s * s is at most r
 scaled_bound : (n s d e k r u : ℕ) → n * e ≡ d * k → s * s ≤ r → k * k * r ≤ u * u → (n * s) * e ≤ d * u

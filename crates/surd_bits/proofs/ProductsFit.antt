@@ -1,16 +1,14 @@
 -- Terms whose product is held within 124 bits can be multiplied.
-use Rattle.std.proofs.Common.{◌≡◌, ◌≢◌, ℕ, ◌+◌, ◌*◌, ◌/◌, ◌^◌, ◌≤◌, ◌<◌, [], ◌∷◌, true, pos, ◌*ℤ◌, sym, ap, subst, arith}
-use Rattle.surd_bits.proofs.Shared.{mul-le, fraction_fits, times, whole_fraction, zero_fraction, times_lowest, Term, term_times, product_not_zero, square_le, magnitude_over, term_mass, IsHeld, multiple_fits, quotient_fits, multiple_den}
-use Rattle.std.specs.Int.{◌∣◌}
+use Rattle.surd_bits.proofs.InversesFit.{trans}
+use Rattle.surd_bits.proofs.Shared.{◌≡◌, ◌≢◌, ℕ, ◌+◌, ◌*◌, ◌/◌, ◌^◌, ◌≤◌, ◌<◌, [], ◌∷◌, true, pos, ◌*ℤ◌, sym, ap, subst, arith, mul-le, part_le}
+use Rattle.surd_bits.proofs.Shared.{fraction_fits, times, whole_fraction, zero_fraction, times_lowest, Term, term_times, product_not_zero, square_le, magnitude_over, term_mass, IsHeld, multiple_fits}
+use Rattle.surd_bits.proofs.Shared.{quotient_fits, multiple_den, ◌∣◌}
 use Rattle.surd_bits.proofs.Bounds.{held_bound, square_bound, power_fits, denominator_bound, magnitude_whole, magnitude_positive, one_held, root_at_most}
-
-quotient_at_most : (r g : ℕ) → r / g ≤ r
-quotient_at_most r g = grind arith
 
 -- with n at least 1
 rest_below : (n r s g h b : ℕ) → 0 < n → n * n * (r * s) ≤ b → (r / g) * (s / h) ≤ b
 rest_below n r s g h b p k =
-    let x : (r / g) * (s / h) ≤ r * s = mul-le (r / g) (s / h) r s (quotient_at_most r g) (quotient_at_most s h) in
+    let x : (r / g) * (s / h) ≤ r * s = mul-le (r / g) (s / h) r s (part_le r g) (part_le s h) in
     let y : 1 * 1 ≤ n * n = mul-le 1 1 n n (omega arith) (omega arith) in
     let z : (1 * 1) * (r * s) ≤ (n * n) * (r * s) = mul-le (1 * 1) (r * s) (n * n) (r * s) y (omega arith) in
     omega arith
@@ -24,9 +22,6 @@ taken_below n r u t b p e k =
 
 mul_positive : (a b : ℕ) → 0 < a → 0 < b → 0 < a * b
 mul_positive a b h k = grind arith
-
-trans : (a b c : ℕ) → a ≤ b → b ≤ c → a ≤ c
-trans a b c h k = omega arith
 
 mass_of_one : (m u p : ℕ) → u ≤ m → m + 0 ≤ p → u ≤ p
 mass_of_one m u p h k = omega arith

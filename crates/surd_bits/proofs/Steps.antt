@@ -1,9 +1,5 @@
 -- Common denominators stay those of what is joined or multiplied.
-use Rattle.std.proofs.Common.{ℕ, [], ◌∷◌, pos, sym, subst}
-use Rattle.surd_bits.proofs.Shared.{Term, times, whole_fraction, Parts, plus_den, multiple_den}
-use Rattle.std.specs.Int.{◌∣◌}
-use Rattle.surd_terms.specs.Products.{IsExtracted}
-use Rattle.surd_terms.specs.Sums.{IsSum}
+use Rattle.surd_bits.proofs.Shared.{ℕ, [], ◌∷◌, pos, sym, subst, Term, times, whole_fraction, Parts, plus_den, multiple_den, ◌∣◌, IsExtracted, IsSum}
 
 pub joined_den : (t a b : Term) (d : ℕ) → IsSum t a b → Parts d (a ∷ b ∷ []) → t.coefficient.den ∣ d
 joined_den t a b d s p =

@@ -1,8 +1,4 @@
-use Rattle.std.proofs.Common.{refl, arith}
-use Rattle.std.proofs.lemmas.Nat.Gcd.{dvd_of_mod-eq-zero}
-use Rattle.calc_terms.specs.Fractions.{lowest, one_fraction}
-use Rattle.calc_terms.specs.Gcd.{gcd}
-use Rattle.calc_algebra.specs.SquareRoots.{square_root}
+use Rattle.calc_bits.proofs.Shared.{refl, arith, dvd_of_mod-eq-zero, lowest, one_fraction, gcd, square_root}
 use Rattle.calc_bits.proofs.examples.masses_found.Goals as goal
 
 pub returns-clause-over_one : goal.returns-clause-over_one

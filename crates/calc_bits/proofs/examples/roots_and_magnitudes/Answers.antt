@@ -1,7 +1,4 @@
-use Rattle.std.proofs.Common.{refl}
-use Rattle.calc_terms.specs.Fractions.{lowest, one_fraction}
-use Rattle.calc_terms.specs.Gcd.{gcd}
-use Rattle.calc_algebra.specs.SquareRoots.{square_root}
+use Rattle.calc_bits.proofs.Shared.{refl, lowest, one_fraction, gcd, square_root}
 use Rattle.calc_bits.proofs.examples.roots_and_magnitudes.Goals as goal
 
 pub returns-clause-of_a_square : goal.returns-clause-of_a_square

@@ -1,6 +1,4 @@
-use Rattle.calc_algebra.specs.Numbers.{value}
-use Rattle.calc_algebra.proofs.NumberLaws.{number_words}
-use Rattle.calc_algebra.proofs.NumberClasses.{value_proper, value_rises}
+use Rattle.calc_bits.proofs.Shared.{value, number_words, value_proper, value_rises}
 use Rattle.calc_bits.proofs.ClassMasses.{mass_same}
 use Rattle.calc_bits.proofs.laws.numbers_have_least_mass.Goals as goal
 

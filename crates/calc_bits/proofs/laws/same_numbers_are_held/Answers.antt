@@ -1,6 +1,4 @@
-use Rattle.calc_algebra.specs.Numbers.{value}
-use Rattle.calc_algebra.proofs.NumberLaws.{number_words}
-use Rattle.calc_algebra.proofs.NumberClasses.{value_proper, value_rises}
+use Rattle.calc_bits.proofs.Shared.{value, number_words, value_proper, value_rises}
 use Rattle.calc_bits.proofs.Parts.{mass_of_same, held_same, held_same_by_one}
 use Rattle.calc_bits.proofs.laws.same_numbers_are_held.Goals as goal
 

@@ -1,6 +1,4 @@
-use Rattle.std.specs.Prelude.{nat_abs}
-use Rattle.calc_terms.specs.Fits.{fraction_power}
-use Rattle.calc_terms.specs.Fractions.{times}
+use Rattle.calc_bits.proofs.Shared.{nat_abs, fraction_power, times}
 use Rattle.calc_bits.proofs.Fitting.{sum_fits_over, quotient_fits}
 use Rattle.calc_bits.proofs.laws.what_fits.Goals as goal
 

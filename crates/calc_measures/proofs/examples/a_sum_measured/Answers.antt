@@ -1,7 +1,4 @@
-use Rattle.std.proofs.Common.{refl}
-use Rattle.calc_terms.specs.Fractions.{lowest}
-use Rattle.calc_terms.specs.Gcd.{gcd}
-use Rattle.calc_terms.specs.Short.{is_short}
+use Rattle.calc_measures.proofs.Shared.{refl, lowest, gcd, is_short}
 use Rattle.calc_measures.proofs.examples.a_sum_measured.Goals as goal
 
 pub returns-clause-nodes : goal.returns-clause-nodes

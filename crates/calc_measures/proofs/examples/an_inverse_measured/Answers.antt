@@ -1,6 +1,4 @@
-use Rattle.std.proofs.Common.{refl}
-use Rattle.calc_terms.specs.Fractions.{lowest}
-use Rattle.calc_terms.specs.Gcd.{gcd}
+use Rattle.calc_measures.proofs.Shared.{refl, lowest, gcd}
 use Rattle.calc_measures.proofs.examples.an_inverse_measured.Goals as goal
 
 pub returns-clause-nodes : goal.returns-clause-nodes

@@ -1,6 +1,4 @@
-use Rattle.std.proofs.Common.{refl}
-use Rattle.calc_terms.specs.Fractions.{lowest, plus, times, negative, zero_fraction, one_fraction}
-use Rattle.calc_terms.specs.Gcd.{gcd}
+use Rattle.calc_measures.proofs.Shared.{refl, lowest, plus, times, negative, zero_fraction, one_fraction, gcd}
 use Rattle.calc_measures.proofs.examples.nodes_up_to_overflows.Goals as goal
 
 pub returns-clause-in_the_first_term : goal.returns-clause-in_the_first_term

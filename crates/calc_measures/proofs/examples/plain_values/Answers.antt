@@ -1,6 +1,4 @@
-use Rattle.std.proofs.Common.{refl}
-use Rattle.calc_terms.specs.Fractions.{lowest, plus, times, negative, zero_fraction, one_fraction}
-use Rattle.calc_terms.specs.Gcd.{gcd}
+use Rattle.calc_measures.proofs.Shared.{refl, lowest, plus, times, negative, zero_fraction, one_fraction, gcd}
 use Rattle.calc_measures.proofs.examples.plain_values.Goals as goal
 
 pub returns-clause-a_sum : goal.returns-clause-a_sum

@@ -1,9 +1,4 @@
-use Rattle.std.proofs.Common.{refl}
-use Rattle.calc_algebra.specs.Clean.{is_clean, left_of}
-use Rattle.calc_terms.specs.Fractions.{lowest, one_fraction, zero_fraction}
-use Rattle.calc_terms.specs.Gcd.{gcd}
-use Rattle.calc_algebra.specs.Numbers.{is_number}
-use Rattle.calc_algebra.specs.SquareRoots.{square_root}
+use Rattle.calc_room.proofs.Shared.{refl, is_clean, left_of, lowest, one_fraction, zero_fraction, gcd, is_number, square_root}
 use Rattle.calc_room.proofs.examples.nodes_counted.Goals as goal
 
 pub returns-clause-a_difference : goal.returns-clause-a_difference

@@ -1,9 +1,4 @@
-use Rattle.std.proofs.Common.{◌≡◌, List, [], ◌∷◌, Bool, true, false, refl}
-use Rattle.calc_algebra.specs.SquareClasses.{are_alike}
-use Rattle.calc_algebra.specs.SquareRoots.{square_root}
-use Rattle.calc_terms.specs.Fractions.{lowest}
-use Rattle.calc_terms.specs.Gcd.{gcd}
-use Rattle.calc_room.specs.Spans.{chosen_product}
+use Rattle.calc_room.proofs.Shared.{◌≡◌, List, [], ◌∷◌, Bool, true, false, refl, are_alike, square_root, lowest, gcd, chosen_product}
 use Rattle.calc_room.proofs.SpanLaws.{one_spanned}
 use Rattle.calc_room.proofs.examples.spans_found.Goals as goal
 

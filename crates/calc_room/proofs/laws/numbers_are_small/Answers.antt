@@ -1,6 +1,4 @@
-use Rattle.std.proofs.Common.{◌≤◌, ◌+◌, ◌*◌, ◌^◌, length, arith}
-use Rattle.calc_terms.specs.Trees.{size}
-use Rattle.calc_algebra.proofs.NumberLaws.{number_words}
+use Rattle.calc_room.proofs.Shared.{◌≤◌, ◌+◌, ◌*◌, ◌^◌, length, arith, size, number_words}
 use Rattle.calc_room.proofs.NumberBytes.{number_classes, number_roots, number_bytes}
 use Rattle.calc_room.proofs.laws.numbers_are_small.Goals as goal
 

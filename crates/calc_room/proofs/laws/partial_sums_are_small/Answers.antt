@@ -1,7 +1,4 @@
-use Rattle.std.proofs.Common.{◌≤◌, ◌+◌, ◌*◌, ◌^◌, length, arith}
-use Rattle.calc_terms.specs.Trees.{add, size}
-use Rattle.calc_algebra.specs.Numbers.{terms_of}
-use Rattle.calc_algebra.proofs.NumberClasses.{terms_proper}
+use Rattle.calc_room.proofs.Shared.{◌≤◌, ◌+◌, ◌*◌, ◌^◌, length, arith, add, size, terms_of, terms_proper}
 use Rattle.calc_room.proofs.NumberSpans.{spans_same_terms}
 use Rattle.calc_room.proofs.NumberBytes.{partial_bytes}
 use Rattle.calc_room.proofs.laws.partial_sums_are_small.Goals as goal

@@ -1,4 +1,4 @@
-use Rattle.calc_algebra.proofs.ReducedLaws.{reduced_words}
+use Rattle.calc_room.proofs.Shared.{reduced_words}
 use Rattle.calc_room.proofs.TreeBytes.{tree_bytes, factor_bytes, base_bytes}
 use Rattle.calc_room.proofs.laws.reduced_trees_are_small.Goals as goal
 

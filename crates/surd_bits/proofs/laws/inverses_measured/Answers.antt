@@ -1,4 +1,5 @@
-use Rattle.surd_bits.proofs.InversesMeasured.{MeasuredOne, measured_one, one_parts, one_scale, one_mass, Measured, measured, measured_parts, measured_scale, measured_mass, inverse_one_by_one, inverse_by_one}
+use Rattle.surd_bits.proofs.InversesMeasured.{MeasuredOne, measured_one, one_parts, one_scale, one_mass, Measured, measured, measured_parts, measured_scale, measured_mass, inverse_one_by_one}
+use Rattle.surd_bits.proofs.InversesMeasured.{inverse_by_one}
 use Rattle.surd_bits.proofs.laws.inverses_measured.Goals as goal
 
 pub returns-clause-one : goal.returns-clause-one
