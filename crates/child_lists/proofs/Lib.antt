@@ -1,2 +1,3 @@
 pub mod ListedChildren
 pub mod PutBefore
+mod Shared

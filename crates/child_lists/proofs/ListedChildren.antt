@@ -1,22 +1,9 @@
 -- Lists of children, and what changes of the node do to them.
-use Rattle.std.proofs.Common.{◌≡◌, ℕ, zero, suc, ◌<◌, ◌≤◌, List, [], ◌∷◌, ◌++◌, Bool, true, false, if◌then◌else◌, ltb, leb, get_or, length, refl, sym, ap, ◌∙◌, subst, arith}
-use Rattle.std.specs.List.{insert, remove}
-use Rattle.std.specs.Prelude.{Option, Some, None, slice_set}
-use Rattle.calc_terms.specs.Trees.{Tree, count}
-use Rattle.node_pool.specs.State.{State}
-use Rattle.child_lists.specs.Lists.{Lists, told, listed, with_child, with_other, without_child}
-use Rattle.tree_handles.specs.Children.{root_ids}
-use Rattle.tree_handles.specs.Forest.{Label, Forest, empty, tree, arity, root_id, kids, with_nth, without_nth, set_nth, tree_nth}
-use Rattle.tree_handles.specs.Handed.{Gives, IsHanded}
-use Rattle.tree_handles.specs.Expressions.{IsExpression, children_of, plain}
-use Rattle.tree_handles.specs.Inside.{kids_of, tree_at}
-use Rattle.tree_handles.specs.Roots.{has_root, root_tree, put}
-use Rattle.tree_handles.specs.Standing.{Stands, forest}
+use Rattle.child_lists.proofs.Shared.{◌≡◌, ℕ, zero, suc, ◌<◌, ◌≤◌, List, [], ◌∷◌, ◌++◌, Bool, true, false, if◌then◌else◌, ltb, leb, get_or, length, refl, sym, ap}
+use Rattle.child_lists.proofs.Shared.{◌∙◌, subst, arith, insert, remove, Option, Some, None, slice_set, Tree, count, State, Lists, told, listed, with_child, with_other, without_child, root_ids}
+use Rattle.child_lists.proofs.Shared.{Label, Forest, empty, tree, arity, root_id, kids, with_nth, without_nth, set_nth, tree_nth, Gives, IsHanded, IsExpression, children_of, plain, kids_of, tree_at}
+use Rattle.child_lists.proofs.Shared.{has_root, root_tree, put, Stands, forest, kids_of_root, by_test, children_of-plain, count-plains, root-put, kids-put}
 use Rattle.tree_handles.proofs.Given.{given_other, given_same}
-use Rattle.tree_handles.proofs.Lasts.{kids_of_root}
-use Rattle.tree_handles.proofs.Outcomes.{by_test}
-use Rattle.tree_handles.proofs.Plains.{children_of-plain, count-plains}
-use Rattle.tree_handles.proofs.Roots.{root-put, kids-put}
 
 pub end_none : (xs : List ℕ) → xs ++ [] ≡ xs
 end_none [] = refl
@@ -68,11 +55,6 @@ lists_less {l = l} {i = i} {f = f} {g = g} at e h new = record { ids-are = λ is
 
 pub children_number : (i : ℕ) (f : Forest) → IsExpression i f → arity (kids_of i f) ≡ count (children_of (plain (tree_at i f)))
 children_number i f h = sym (ap count (children_of-plain (tree_at i f) h.whole) ∙ count-plains (kids (tree_at i f)))
-
-pub ids_nth : (n d : ℕ) (f : Forest) → n < arity f → get_or (root_ids f) n d ≡ root_id (tree_nth n f)
-ids_nth n d empty h = absurd (omega arith)
-ids_nth zero d (tree l k r) h = refl
-ids_nth (suc n) d (tree l k r) h = ids_nth n d r (omega arith)
 
 ids_one_more : (n : ℕ) (l : Label) (k f : Forest) → n ≤ arity f → root_ids (with_nth n (tree l k empty) f) ≡ insert (root_ids f) n l.id
 ids_one_more zero l k f h = refl

@@ -1,18 +1,7 @@
 -- A tree that stands last becomes a child of the one before it.
-use Rattle.std.proofs.Common.{◌≡◌, ℕ, ◌<◌, ap, ◌∙◌, subst, sym}
-use Rattle.calc_terms.specs.Trees.{Tree}
-use Rattle.node_pool.specs.State.{State}
-use Rattle.tree_handles.specs.Children.{IsChildAt}
-use Rattle.tree_handles.specs.Forest.{Forest, arity, kids, root_id, tree_nth, with_nth}
-use Rattle.tree_handles.specs.Handed.{Ends, Gives}
-use Rattle.tree_handles.specs.Inside.{kids_of}
-use Rattle.tree_handles.specs.Roots.{root_tree, without_root, put, adopted}
-use Rattle.tree_handles.specs.Standing.{Stands, forest}
-use Rattle.tree_handles.proofs.Adopting.{next_adopted}
+use Rattle.child_lists.proofs.Shared.{◌≡◌, ℕ, ◌<◌, ap, ◌∙◌, subst, sym, Tree, State, IsChildAt, Forest, arity, kids, root_id, tree_nth, with_nth, Ends, Gives, kids_of, root_tree}
+use Rattle.child_lists.proofs.Shared.{without_root, put, adopted, Stands, forest, next_adopted, kids_of-join_left, last_root, last_tree, last_rest, other_root, other_tree, kids_of_root, root_held}
 use Rattle.tree_handles.proofs.Given.{given_root, given_same, given_rest}
-use Rattle.tree_handles.proofs.Joins.{kids_of-join_left}
-use Rattle.tree_handles.proofs.Lasts.{last_root, last_tree, last_rest, other_root, other_tree, kids_of_root}
-use Rattle.tree_handles.proofs.Roots.{root_held}
 
 -- a tree stands behind one that stood last
 pub kept_kids : {i j : ℕ} {u g t f h : Forest} → Ends i u g f → Ends j t f h → kids_of i h ≡ kids_of i f

@@ -1,5 +1,6 @@
 pub mod Outcomes
 pub mod Forests
+pub mod ForestLists
 pub mod Counted
 pub mod Joins
 pub mod Parts

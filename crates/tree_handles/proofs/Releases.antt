@@ -49,7 +49,7 @@ first_trees-add (tree l k r) g n =
     let e : arity (tree l k r) + n ≡ suc (arity r + n) = omega arith in
     ap (λ (j : ℕ). first_trees j (tree l k (join r g))) e ∙ ap (λ (x : Forest). tree l k x) (first_trees-add r g n)
 
-rest_trees-add : (f g : Forest) (n : ℕ) → rest_trees (arity f + n) (join f g) ≡ rest_trees n g
+pub rest_trees-add : (f g : Forest) (n : ℕ) → rest_trees (arity f + n) (join f g) ≡ rest_trees n g
 rest_trees-add empty g n = ap (λ (k : ℕ). rest_trees k g) (omega arith)
 rest_trees-add (tree l k r) g n =
     let e : arity (tree l k r) + n ≡ suc (arity r + n) = omega arith in

@@ -1,4 +1,4 @@
-use Rattle.std.proofs.Common.{rules, ◌∙◌, arith}
+use Rattle.child_lists.proofs.Shared.{rules, ◌∙◌, arith}
 use Rattle.child_lists.proofs.placing.next_child.Goals as goal
 
 pub child-requires : goal.child-requires

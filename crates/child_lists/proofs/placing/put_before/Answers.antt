@@ -1,9 +1,5 @@
-use Rattle.std.proofs.Common.{subst}
-use Rattle.child_lists.specs.Lists.{IsNextAt}
+use Rattle.child_lists.proofs.Shared.{subst, IsNextAt, next_adopted, last_root, other_root, other_apart, apart, eqb-sym}
 use Rattle.child_lists.proofs.PutBefore.{kept_child, put_next, put_last}
-use Rattle.tree_handles.proofs.Adopting.{next_adopted}
-use Rattle.tree_handles.proofs.Lasts.{last_root, other_root, other_apart, apart}
-use Rattle.tree_handles.proofs.Outcomes.{eqb-sym}
 use Rattle.child_lists.proofs.placing.put_before.Goals as goal
 
 pub add_before-requires-clause-known : goal.add_before-requires-clause-known

@@ -1,12 +1,5 @@
-use Rattle.std.proofs.Common.{◌≡◌, ◌<◌, Bool, get_or, sym, ap, ◌∙◌, arith}
-use Rattle.child_lists.specs.Lists.{told}
+use Rattle.child_lists.proofs.Shared.{◌≡◌, ◌<◌, Bool, get_or, sym, ap, ◌∙◌, arith, told, root_ids, IsChildAt, arity, kids_of, forest, seen_child, root_ids-nth}
 use Rattle.child_lists.proofs.ListedChildren.{children_number}
-use Rattle.child_lists.proofs.ListedChildren.{ids_nth}
-use Rattle.tree_handles.specs.Children.{root_ids, IsChildAt}
-use Rattle.tree_handles.specs.Forest.{arity}
-use Rattle.tree_handles.specs.Inside.{kids_of}
-use Rattle.tree_handles.specs.Standing.{forest}
-use Rattle.tree_handles.proofs.ChildPlaces.{seen_child}
 use Rattle.child_lists.proofs.list.ChildList.child.Goals as goal
 use Rattle.child_lists.proofs.list.ChildList.child.Given.{Over}
 use Rattle.child_lists.proofs.list.ChildList.child.Goals.{After-index-ids-place}
@@ -21,7 +14,7 @@ here g c =
     let items : c.as_slice-ids.result.now ≡ root_ids k = c.as_slice-ids.ensures.value ∙ c.requires.lists.ids-are _ (sym c.self.view_is ∙ ap (λ (b : Bool). told b c.self.inside.ids.items) c.if-self.true) in
     record {
       within = within;
-      id-is = c.index-ids-place.is ∙ (λ i. get_or (items i) (c.from-place.ensures i) c.index-ids-place.result) ∙ ids_nth c.args.at c.index-ids-place.result k within;
+      id-is = c.index-ids-place.is ∙ (λ i. get_or (items i) (c.from-place.ensures i) c.index-ids-place.result) ∙ root_ids-nth c.args.at c.index-ids-place.result k within;
     }
 
 pub returns-then-place-ids-clause-child : goal.returns-then-place-ids-clause-child

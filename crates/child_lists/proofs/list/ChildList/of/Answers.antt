@@ -1,9 +1,5 @@
-use Rattle.std.proofs.Common.{◌≡◌, ◌<◌, ℕ, List, [], ◌∷◌, ◌++◌, Some, length, append_assoc, length-append, sym, ap, ◌∙◌, arith}
-use Rattle.std.proofs.lemmas.Bool.{eqb-true, eqb-false, le-leb, lt-leb}
-use Rattle.tree_handles.specs.Children.{root_ids}
-use Rattle.tree_handles.specs.Inside.{kids_of}
-use Rattle.tree_handles.specs.Standing.{forest}
-use Rattle.child_lists.specs.Lists.{told}
+use Rattle.child_lists.proofs.Shared.{◌≡◌, ◌<◌, ℕ, List, [], ◌∷◌, ◌++◌, Some, length, append_assoc, length-append, sym, ap, ◌∙◌, arith, eqb-true, eqb-false, le-leb, lt-leb}
+use Rattle.child_lists.proofs.Shared.{root_ids, kids_of, forest, told}
 use Rattle.child_lists.proofs.ListedChildren.{end_none}
 use Rattle.child_lists.proofs.list.ChildList.of.Goals as goal
 

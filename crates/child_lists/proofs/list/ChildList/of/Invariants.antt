@@ -1,7 +1,4 @@
-use Rattle.std.proofs.Common.{◌≡◌, ◌≤◌, ◌++◌, length}
-use Rattle.tree_handles.specs.Children.{root_ids}
-use Rattle.tree_handles.specs.Inside.{kids_of}
-use Rattle.tree_handles.specs.Standing.{forest}
+use Rattle.child_lists.proofs.Shared.{◌≡◌, ◌≤◌, ◌++◌, length, root_ids, kids_of, forest}
 use Rattle.child_lists.proofs.list.ChildList.of.Given as goal
 
 abbrev pub invariant-loop-id : goal.invariant-loop-id
