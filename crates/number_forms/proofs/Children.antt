@@ -1,29 +1,18 @@
 -- Children, one after another.
-use Rattle.std.proofs.Common.{◌≡◌, ℕ, zero, suc, ◌+◌, ◌<◌, ◌≤◌, List, [], ◌∷◌, ◌++◌, length, length-append, refl, sym, ap, ◌∙◌, append_assoc, arith}
-use Rattle.number_forms.proofs.Shared.{count, State, root_ids, nth, plain, children_of, IsExpression, Forest, empty, tree, arity, root_id, first_trees, rest_trees, kids, nodes_in, tree_at, kids_of, Stands, forest}
+use Rattle.number_forms.proofs.Shared.{◌≡◌, ℕ, zero, suc, ◌+◌, ◌<◌, ◌≤◌, List, [], ◌∷◌, ◌++◌, length, length-append, refl, sym, ap, ◌∙◌, append_assoc, arith}
+use Rattle.number_forms.proofs.Shared.{count, State, root_ids, nth, plain, children_of, IsExpression, Forest, empty, tree, arity, root_id, first_trees, rest_trees, kids, nodes_in, tree_at, kids_of}
+use Rattle.number_forms.proofs.Shared.{Stands, forest, few_in, item, seen_child, rest-rest, kids_below, length-root_ids}
 use Rattle.number_forms.proofs.ByKind.{children_number}
-use Rattle.tree_handles.proofs.Measures.{few_in}
-use Rattle.tree_handles.proofs.ChildPlaces.{item, seen_child}
 
 -- the children of a node from a place on are those that were passed, and those left
 pub record AreLeft (from i : ℕ) (passed left : List ℕ) (f : Forest) : Type 0 where
   pub ids : root_ids (rest_trees from (kids_of i f)) ≡ passed ++ left
 
-pub left_more : {from i : ℕ} {f : Forest} (passed left : List ℕ) (x : ℕ) (rest : List ℕ) → AreLeft from i passed left f → left ≡ x ∷ rest → AreLeft from i (passed ++ (x ∷ [])) rest f
+pub left_more : {from i : ℕ} {f : Forest} (passed left : List ℕ) (x : ℕ) (rest : List ℕ) → AreLeft from i passed left f → left ≡ x ∷ rest
+    → AreLeft from i (passed ++ (x ∷ [])) rest f
 left_more passed left x rest h e = record { ids = h.ids ∙ ap (λ (ys : List ℕ). passed ++ ys) e ∙ sym (append_assoc passed (x ∷ []) rest) }
 
 -- ---- a child that comes next
-
-rests : (m n : ℕ) (f : Forest) → rest_trees n (rest_trees m f) ≡ rest_trees (m + n) f
-rests zero n f = ap (λ (k : ℕ). rest_trees k f) (omega arith)
-rests (suc m) n empty = nothing n ∙ sym (nothing (suc m + n))
-  where
-    nothing : (k : ℕ) → rest_trees k empty ≡ empty
-    nothing zero = refl
-    nothing (suc k) = refl
-rests (suc m) n (tree l k r) =
-    let e : suc (m + n) ≡ suc m + n = omega arith in
-    rests m n r ∙ ap (λ (j : ℕ). rest_trees j (tree l k r)) e
 
 arity_rest : (m : ℕ) (f : Forest) → m ≤ arity f → arity (rest_trees m f) + m ≡ arity f
 arity_rest zero f h = omega arith
@@ -36,20 +25,18 @@ pub record IsNextChild (n i x : ℕ) (s : State) : Type 0 where
   pub expression : IsExpression x (forest s)
   pub is : plain (tree_at x (forest s)) ≡ nth n (children_of (plain (tree_at i (forest s))))
 
-pub next_child : (from n i : ℕ) (passed left : List ℕ) (x : ℕ) (rest : List ℕ) (s : State) → Stands s → IsExpression i (forest s) → from ≤ count (children_of (plain (tree_at i (forest s)))) → n ≡ from + length passed
+pub next_child : (from n i : ℕ) (passed left : List ℕ) (x : ℕ) (rest : List ℕ) (s : State) → Stands s → IsExpression i (forest s)
+    → from ≤ count (children_of (plain (tree_at i (forest s)))) → n ≡ from + length passed
     → AreLeft from i passed left (forest s) → left ≡ x ∷ rest → IsNextChild n i x s
 next_child from n i passed left x rest s st e w m h q =
     let f = forest s in
     let many = children_number i f e in
     let p = item passed x rest (rest_trees from (kids_of i f)) (h.ids ∙ ap (λ (ys : List ℕ). passed ++ ys) q) in
     let within : n < arity (kids_of i f) = omega (arith, p.within, m, arity_rest from (kids_of i f) (omega (arith, w, many))) in
-    let place : rest_trees (length passed) (rest_trees from (kids_of i f)) ≡ rest_trees n (kids_of i f) = rests from (length passed) (kids_of i f) ∙ ap (λ (k : ℕ). rest_trees k (kids_of i f)) (sym m) in
+    let place : rest_trees (length passed) (rest_trees from (kids_of i f)) ≡ rest_trees n (kids_of i f) =
+    rest-rest from (length passed) (kids_of i f) ∙ ap (λ (k : ℕ). rest_trees k (kids_of i f)) (sym m) in
     let c = seen_child n i x s st (record { within = within; id-is = p.id-is ∙ ap (λ (g : Forest). root_id (first_trees 1 g)) place }) in
     record { within = omega (arith, within, many); expression = c.expression e; is = c.plain-is e }
-
-length-root_ids : (f : Forest) → length (root_ids f) ≡ arity f
-length-root_ids empty = refl
-length-root_ids (tree l k r) = ap suc (length-root_ids r)
 
 -- no child is left
 pub none_left : (from n i : ℕ) (passed left : List ℕ) (s : State) → IsExpression i (forest s) → from ≤ count (children_of (plain (tree_at i (forest s)))) → n ≡ from + length passed
@@ -61,14 +48,6 @@ none_left from n i passed left s e w m h q =
     omega (arith, all, m, length-root_ids (rest_trees from (kids_of i f)), arity_rest from (kids_of i f) (omega (arith, w, many)), many, length-append passed [])
 
 -- ---- a node has few children
-
-kids_below : (f : Forest) → arity (kids f) ≤ nodes_in f
-kids_below empty = omega arith
-kids_below (tree l k r) = let m = trees_below k in omega (arith, m)
-  where
-    trees_below : (g : Forest) → arity g ≤ nodes_in g
-    trees_below empty = omega arith
-    trees_below (tree l k r) = let m = trees_below r in omega (arith, m)
 
 pub few_children : (i : ℕ) (s : State) → Stands s → arity (kids_of i (forest s)) ≤ 65535
 few_children i s st = omega (arith, kids_below (tree_at i (forest s)), few_in i s st)

@@ -1,12 +1,12 @@
 -- A term of a sum that stands last, known by its identifier: another comes in its place.
-use Rattle.std.proofs.Common.{◌≡◌, ℕ, zero, suc, ◌<◌, ◌≤◌, ◌∷◌, true, refl, sym, ap, ◌∙◌, subst, arith}
-use Rattle.number_forms.proofs.Shared.{is_term, terms_of, Term, Tree, Trees, none, more, add, count, term_words, IsSum, IsSumOf, IsApart, IsPlace, removed, nth, plain, children_of, inserted, Forest, arity, kids, set_nth, Represents, Gives, root_tree, put, represents_as, represents_with, given_handed, given_told, last_tree, alone, count-plains}
+use Rattle.number_forms.proofs.Shared.{◌≡◌, ℕ, zero, suc, ◌<◌, ◌≤◌, ◌∷◌, true, refl, sym, ap, ◌∙◌, subst, arith, is_term, terms_of, Term, Tree, Trees, none, more, add}
+use Rattle.number_forms.proofs.Shared.{count, term_words, IsSum, IsSumOf, IsApart, IsPlace, removed, nth, plain, children_of, inserted, Forest, arity, kids, set_nth, Represents, Gives, root_tree, put}
+use Rattle.number_forms.proofs.Shared.{represents_as, represents_with, given_handed, given_told, last_tree, alone, count-plains, with_nth-without_nth}
 use Rattle.calc_algebra.specs.Numbers.{term_of}
 use Rattle.number_forms.proofs.Joined.{are_removed, rises_removed}
 use Rattle.number_forms.proofs.LastSums.{kids_represented, represents_without, sum_is, resum, gives_at}
 use Rattle.number_forms.proofs.SquareFreeSums.{rises_in_sum}
 use Rattle.number_forms.proofs.SumChanges.{inserted_of}
-use Rattle.tree_handles.proofs.Nths.{with_nth-without_nth}
 
 count_removed : (n : ℕ) (ts : Trees) → n < count ts → count ts ≡ suc (count (removed n ts))
 count_removed n none l = absurd (omega arith)
@@ -36,12 +36,14 @@ place_removed t n h l =
       above = λ x. let up = rises_in_sum t n (suc n) h (omega arith) (omega (arith, x, c)) in subst (λ (u : Tree). r ≤ (term_of u).radicand) (sym (nth_behind n ts)) (omega (arith, up));
     }
 
-set_represented : {c k : Forest} {u : Tree} {ts : Trees} (n : ℕ) → Represents c (more u none) → Represents k ts → n < count ts → Represents (set_nth n c k) (inserted n (more u none) (removed n ts))
+set_represented : {c k : Forest} {u : Tree} {ts : Trees} (n : ℕ) → Represents c (more u none) → Represents k ts → n < count ts
+    → Represents (set_nth n c k) (inserted n (more u none) (removed n ts))
 set_represented {c = c} {k = k} {ts = ts} n a b l =
     let many : count ts ≡ arity k = ap count (sym b.plain_trees) ∙ count-plains k in
     represents_as (represents_with n a (represents_without n b)) (with_nth-without_nth n c k (omega (arith, l, many))) refl
 
-pub exchanged_sum : {i h at : ℕ} {g f f1 f3 : Forest} (t : Term) (e : Gives g f i IsSum) (p : Gives f f1 h (λ u. (is_term u ≡ true) × (term_of u ≡ t))) → 0 < t.radicand → at < count (children_of (plain (root_tree i f)))
+pub exchanged_sum : {i h at : ℕ} {g f f1 f3 : Forest} (t : Term) (e : Gives g f i IsSum) (p : Gives f f1 h (λ u. (is_term u ≡ true) × (term_of u ≡ t))) → 0 < t.radicand
+    → at < count (children_of (plain (root_tree i f)))
     → (term_of (nth at (children_of (plain (root_tree i f))))).radicand ≡ t.radicand → IsApart t.radicand (terms_of (removed at (children_of (plain (root_tree i f)))))
     → f3 ≡ put i (set_nth at p.tree (kids (root_tree i f))) f → Gives g f3 i (IsSumOf (t ∷ terms_of (removed at (children_of (plain (root_tree i f))))))
 exchanged_sum {i} {h} {at} {g} {f} t e p o l r a q =

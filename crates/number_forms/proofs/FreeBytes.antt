@@ -1,6 +1,6 @@
 -- The bytes that are free once a term of a sum is gone.
-use Rattle.std.proofs.Common.{◌≡◌, ℕ, zero, suc, ◌≤◌, ap, arith}
-use Rattle.number_forms.proofs.Shared.{add, Trees, none, more, size, sizes, State, free_of, IsSum, removed, children_of, tree_of, Gives, without_root, Stands, forest, KeepsRefusals, given_handed, given_told, replaced_free}
+use Rattle.number_forms.proofs.Shared.{◌≡◌, ℕ, zero, suc, ◌≤◌, ap, arith, add, Trees, none, more, size, sizes, State, free_of, IsSum, removed, children_of, tree_of, Gives, without_root}
+use Rattle.number_forms.proofs.Shared.{Stands, forest, KeepsRefusals, given_handed, given_told, replaced_free}
 use Rattle.number_forms.proofs.LastSums.{sum_is}
 
 -- ---- a term less

@@ -1,9 +1,9 @@
 -- How large the inverse of a Number is.
-use Rattle.std.proofs.Common.{arith, ◌≡◌, ◌≢◌, [], ◌∷◌, Bool, true, pos, if◌then◌else◌, sym, ap, ◌∙◌, subst}
-use Rattle.number_forms.proofs.Shared.{Rises, is_number, value, Term, Surd, inverse_times_itself, factor_not_zero, term_not_zero, AreProper, value_proper, value_rises, number_words, times_comm, Fraction, zero_fraction, inverse, whole_fraction, Tree, num, mult, root, none, more, one_is, zero_test, whole_numerator, inverse_trees, IsInverseOf, term_tree, inverse_of, first_of_inverse, second_of_inverse}
+use Rattle.number_forms.proofs.Shared.{arith, ◌≡◌, ◌≢◌, [], ◌∷◌, Bool, true, pos, if◌then◌else◌, sym, ap, ◌∙◌, subst, Rises, is_number, value, Term, Surd}
+use Rattle.number_forms.proofs.Shared.{inverse_times_itself, factor_not_zero, term_not_zero, AreProper, value_proper, value_rises, number_words, times_comm, Fraction, zero_fraction, inverse}
+use Rattle.number_forms.proofs.Shared.{whole_fraction, Tree, num, mult, root, none, more, one_is, zero_test, whole_numerator, inverse_trees, IsInverseOf, term_tree, inverse_of, first_of_inverse}
+use Rattle.number_forms.proofs.Shared.{second_of_inverse, IsNoLargerThanInverse, one_no_larger, two_no_larger}
 use Rattle.calc_algebra.specs.Numbers.{term_of}
-use Rattle.surd_bits.specs.Inverted.{IsNoLargerThanInverse}
-use Rattle.surd_bits.proofs.Inverted.{one_no_larger, two_no_larger}
 
 -- ---- the terms of written trees
 
@@ -36,6 +36,7 @@ inverse_no_larger a t n i = by (value a) (value_proper a (number_words a n)) (va
         let same : value t ≡ inverse_of x ∷ [] = ap value (one_tree e) ∙ written_value (inverse_of x) (inverse_not_zero _ (term_not_zero x.coefficient x.radicand p.0.not_zero p.0.positive)) in
         subst (λ (w : Surd). IsNoLargerThanInverse (x ∷ []) w) (sym same) (one_no_larger x p.0.not_zero p.0.positive)
     by (x ∷ y ∷ []) p r e =
-        let same : value t ≡ first_of_inverse x y ∷ second_of_inverse x y ∷ [] = ap value (one_tree e) ∙ (λ i. written_term (first_of_inverse x y) i ∷ written_term (second_of_inverse x y) i ∷ []) in
+        let same : value t ≡ first_of_inverse x y ∷ second_of_inverse x y ∷ [] =
+        ap value (one_tree e) ∙ (λ i. written_term (first_of_inverse x y) i ∷ written_term (second_of_inverse x y) i ∷ []) in
         subst (λ (w : Surd). IsNoLargerThanInverse (x ∷ y ∷ []) w) (sym same) (two_no_larger x y p.0.not_zero p.1.0.not_zero p.0.positive p.1.0.positive r.0.1)
     by (x ∷ y ∷ z ∷ v) p r e = absurd cc

@@ -1,14 +1,12 @@
 -- Inverses by terms.
-use Rattle.std.proofs.Common.{◌≡◌, ℕ, ◌≤◌, [], ◌∷◌, Some, Err, length, true, false, sym, ap, ◌∙◌, arith}
-use Rattle.std.specs.Prelude.{slice_get, None}
-use Rattle.number_forms.proofs.Shared.{is_number, is_term, value, Rises, are_alike, Inverts, Term, Surd, Tree, add, more, none, size, sizes, Inverts-Same, value_rises, number_words, term_words, Same-trans, Same-eq, IsNumberOf, Full, inverse_trees, IsInverseOf, HasInverse, LacksInverse, inverting_calculations, term_tree, sum_of_terms, Calculation, first_misfit, inverse_of, first_of_inverse, second_of_inverse, building}
+use Rattle.number_forms.proofs.Shared.{◌≡◌, ℕ, ◌≤◌, [], ◌∷◌, Some, Err, length, true, false, sym, ap, ◌∙◌, arith, slice_get, None, is_number, is_term, value, Rises}
+use Rattle.number_forms.proofs.Shared.{are_alike, Inverts, Term, Surd, Tree, add, more, none, size, sizes, Inverts-Same, value_rises, number_words, term_words, Same-trans, Same-eq, IsNumberOf, Full}
+use Rattle.number_forms.proofs.Shared.{inverse_trees, IsInverseOf, HasInverse, LacksInverse, inverting_calculations, term_tree, sum_of_terms, Calculation, first_misfit, inverse_of, first_of_inverse}
+use Rattle.number_forms.proofs.Shared.{second_of_inverse, building}
 use Rattle.calc_algebra.specs.Numbers.{term_of}
 use Rattle.number_forms.proofs.Over.{of_over}
 use Rattle.number_forms.proofs.Shaped.{single_number, sum_number}
-use Rattle.number_forms.proofs.Worth.{Same-sym}
-
-some_term : {x y : Term} → Some x ≡ Some y → x ≡ y
-some_term e = cc
+use Rattle.number_forms.proofs.Worth.{Same-sym, some_term}
 
 pub only_term : (v : Surd) (x : Term) → length v ≡ 1 → slice_get v 0 ≡ Some x → v ≡ x ∷ []
 only_term [] x l e = absurd (omega arith)
@@ -24,7 +22,8 @@ both_terms (a ∷ b ∷ c ∷ v) x y l e f = absurd (omega arith)
 pub apart_terms : (t : Tree) (x y : Term) → is_number t ≡ true → value t ≡ x ∷ y ∷ [] → are_alike x.radicand y.radicand ≡ false
 apart_terms t x y h e = grind (arith, value_rises, number_words)
 
-pub inverse_term : (v : Surd) (t : Tree) (x y : Term) → v ≡ x ∷ [] → Inverts (y ∷ []) (x ∷ []) → is_term t ≡ true → term_of t ≡ y → inverse_trees v ≡ more t none → IsInverseOf v t
+pub inverse_term : (v : Surd) (t : Tree) (x y : Term) → v ≡ x ∷ [] → Inverts (y ∷ []) (x ∷ []) → is_term t ≡ true → term_of t ≡ y → inverse_trees v ≡ more t none
+    → IsInverseOf v t
 inverse_term v t x y e i h f w = grind (arith, single_number, term_words, Inverts-Same, Same-sym, Same-trans, Same-eq)
 
 pub inverse_number : (v w : Surd) (t : Tree) (u : Surd) → v ≡ w → Inverts u w → IsNumberOf u t → inverse_trees v ≡ more t none → IsInverseOf v t
@@ -35,7 +34,8 @@ pub two_rise : (t : Tree) (x y p q : Term) → is_number t ≡ true → value t 
 two_rise t x y p q h e f g = grind (arith, value_rises, number_words)
 
 -- the sum of two terms whose radicands rise
-pub placed_two : (t u x : Tree) (a b : Term) → t ≡ add (more u (more x none)) → is_term u ≡ true → term_of u ≡ a → is_term x ≡ true → term_of x ≡ b → Rises (a ∷ b ∷ []) → IsNumberOf (a ∷ b ∷ []) t
+pub placed_two : (t u x : Tree) (a b : Term) → t ≡ add (more u (more x none)) → is_term u ≡ true → term_of u ≡ a → is_term x ≡ true → term_of x ≡ b → Rises (a ∷ b ∷ [])
+    → IsNumberOf (a ∷ b ∷ []) t
 placed_two t u x a b e h f k g r = grind (arith, of_over, sum_number, term_words)
 
 -- ---- the new tree, and whether its bytes suffice
@@ -58,7 +58,8 @@ has_inverse v t free m w l = record { calculated = m; room = omega (arith, ap si
 pub room_for : (v : Surd) (t : Tree) (free : ℕ) → inverse_trees v ≡ more t none → HasInverse v free → size t ≤ free
 room_for v t free w h = omega (arith, ap sizes w, h.room)
 
-pub lacks_inverse : (v : Surd) (t : Tree) (now free : ℕ) (full : Full) → first_misfit (inverting_calculations v) ≡ None → inverse_trees v ≡ more t none → now ≡ free → building now t ≡ Err full → LacksInverse v free full
+pub lacks_inverse : (v : Surd) (t : Tree) (now free : ℕ) (full : Full) → first_misfit (inverting_calculations v) ≡ None → inverse_trees v ≡ more t none → now ≡ free
+    → building now t ≡ Err full → LacksInverse v free full
 lacks_inverse v t now free full m w e b = grind arith
 
 -- none is made for no class, or for three or more

@@ -1,6 +1,7 @@
 -- Terms that are put into a sum at their place, or taken out of it.
-use Rattle.std.proofs.Common.{◌≡◌, ℕ, zero, suc, ◌<◌, ◌≤◌, [], ◌∷◌, true, false, refl, sym, ap, ◌∙◌, arith}
-use Rattle.number_forms.proofs.Shared.{plus, zero_fraction, zero_plus, IsTerm, AreTerms, IsBelowAll, Rises, terms_of, are_alike, class_coefficient, Same, Term, Surd, Tree, Trees, none, more, count, IsProper, alike_turned, alike_through, first_coefficient, alike_true, Same-trans, Same-Agree, Same-refl, Same-cons, Same-to_front, share_apart, removed, IsApart, IsPlace, nth, inserted, by_test}
+use Rattle.number_forms.proofs.Shared.{◌≡◌, ℕ, zero, suc, ◌<◌, ◌≤◌, [], ◌∷◌, true, false, refl, sym, ap, ◌∙◌, arith, plus, zero_fraction, zero_plus, IsTerm, AreTerms}
+use Rattle.number_forms.proofs.Shared.{IsBelowAll, Rises, terms_of, are_alike, class_coefficient, Same, Term, Surd, Tree, Trees, none, more, count, IsProper, alike_turned, alike_through}
+use Rattle.number_forms.proofs.Shared.{first_coefficient, alike_true, Same-trans, Same-Agree, Same-refl, Same-cons, Same-to_front, share_apart, removed, IsApart, IsPlace, nth, inserted, by_test}
 use Rattle.calc_algebra.specs.Numbers.{term_of}
 
 pub alike_itself : (r : ℕ) → 0 < r → are_alike r r ≡ true
@@ -25,7 +26,8 @@ below_rising : (t u : Term) (v : Surd) → t.radicand < u.radicand → IsBelowAl
 below_rising t u [] h b a = tt
 below_rising t u (x ∷ v) h (l, c, b) (p, a) = (omega arith, p, below_rising t u v h b a)
 
-below_inserted : (u : Term) (n : ℕ) (t : Tree) (ts : Trees) → IsBelowAll u (terms_of ts) → u.radicand < (term_of t).radicand → are_alike u.radicand (term_of t).radicand ≡ false → IsBelowAll u (terms_of (inserted n (more t none) ts))
+below_inserted : (u : Term) (n : ℕ) (t : Tree) (ts : Trees) → IsBelowAll u (terms_of ts) → u.radicand < (term_of t).radicand → are_alike u.radicand (term_of t).radicand ≡ false
+    → IsBelowAll u (terms_of (inserted n (more t none) ts))
 below_inserted u zero t ts b l p = (l, p, b)
 below_inserted u (suc n) t none b l p = (l, p, tt)
 below_inserted u (suc n) t (more x ts) (a, c, b) l p = (a, c, below_inserted u n t ts b l p)
@@ -42,7 +44,8 @@ next_place n r u ts p = record {
   above = λ l. p.above (omega arith);
 }
 
-pub rises_inserted : (n : ℕ) (t : Tree) (ts : Trees) → 0 < (term_of t).radicand → IsApart (term_of t).radicand (terms_of ts) → IsPlace n (term_of t).radicand ts → Rises (terms_of ts) → Rises (terms_of (inserted n (more t none) ts))
+pub rises_inserted : (n : ℕ) (t : Tree) (ts : Trees) → 0 < (term_of t).radicand → IsApart (term_of t).radicand (terms_of ts) → IsPlace n (term_of t).radicand ts → Rises (terms_of ts)
+    → Rises (terms_of (inserted n (more t none) ts))
 rises_inserted zero t none o a p h = (tt, tt)
 rises_inserted zero t (more u ts) o (x, a) p (b, h) =
     let l : (term_of t).radicand < (term_of u).radicand = unequal (term_of t).radicand (term_of u).radicand o x (p.above (omega arith)) in
@@ -111,5 +114,6 @@ alike_sum s a b proper alike same = by_test (λ x. are_alike s.radicand a.radica
         let x : are_alike a.radicand s.radicand ≡ false = apart_turned s.radicand a.radicand q in
         let y : are_alike b.radicand s.radicand ≡ false = apart_through b.radicand a.radicand s.radicand (alike_turned b.radicand a.radicand ∙ alike) x in
         let e : class_coefficient (s ∷ []) s.radicand ≡ class_coefficient (a ∷ b ∷ []) s.radicand = (Same-Agree same).at s.radicand in
-        let f : class_coefficient (a ∷ b ∷ []) s.radicand ≡ plus zero_fraction (plus zero_fraction zero_fraction) = λ i. plus (share_apart a.coefficient a.radicand s.radicand x i) (plus (share_apart b.coefficient b.radicand s.radicand y i) zero_fraction) in
+        let f : class_coefficient (a ∷ b ∷ []) s.radicand ≡ plus zero_fraction (plus zero_fraction zero_fraction) =
+        λ i. plus (share_apart a.coefficient a.radicand s.radicand x i) (plus (share_apart b.coefficient b.radicand s.radicand y i) zero_fraction) in
         sym (first_coefficient s [] proper tt) ∙ e ∙ f ∙ zero_plus (plus zero_fraction zero_fraction) ∙ zero_plus zero_fraction

@@ -1,16 +1,16 @@
 -- Numbers that are answered as they stand.
-use Rattle.std.proofs.Common.{arith, ◌≡◌, ℕ, [], ◌∷◌, ◌++◌, true, false, eqb, ◌∙◌, subst}
-use Rattle.number_forms.proofs.Shared.{is_number, value, is_num_one, Surd, surd_one, surd_times, Agree-sym, Agree-Same, surd_times-one, surd_times-surd_one, Same-eq, Parts, AreWholeOver, one_not_zero, one_is, zero_test, one_times, times_comm, Fraction, one_fraction, times, Tree, is_num, IsNumberOver, is_zero, plain, Forest, IsHanded, Ends, Gives, root_tree, without_root, gives_as, handed_at, handed_beside, represents_handed, tree-without}
-use Rattle.number_forms.specs.Joints.{both, is_neutral}
-use Rattle.number_forms.specs.declared.calculating.Joint.{Joint}
-use Rattle.number_forms.specs.declared.calculating.Joint.TheVariants as joint
-use Rattle.std.specs.Int.{◌∣◌}
+use Rattle.number_forms.proofs.Shared.{arith, ◌≡◌, ℕ, [], ◌∷◌, ◌++◌, true, false, eqb, ◌∙◌, subst, is_number, value, is_num_one, Surd, surd_one, surd_times, Agree-sym}
+use Rattle.number_forms.proofs.Shared.{Agree-Same, surd_times-one, surd_times-surd_one, Same-eq, Parts, AreWholeOver, one_not_zero, one_is, zero_test, one_times, times_comm, Fraction, one_fraction}
+use Rattle.number_forms.proofs.Shared.{times, Tree, is_num, IsNumberOver, is_zero, plain, Forest, IsHanded, Ends, Gives, root_tree, without_root, gives_as, handed_at, handed_beside, represents_handed}
+use Rattle.number_forms.proofs.Shared.{tree-without, both, is_neutral, Joint, ◌∣◌}
 use Rattle.number_forms.proofs.Denominators.{shares_eq}
 use Rattle.number_forms.proofs.Rows.{nothing_more}
+use Rattle.number_forms.specs.declared.calculating.Joint.TheVariants as joint
 
 -- ---- one is released, and another moved to the end
 
-pub kept_last : {j : ℕ} {f g h : Forest} (i : ℕ) → eqb i j ≡ false → IsHanded j f → g ≡ without_root i f → Ends j (root_tree j g) (without_root j g) h → Gives (without_root j (without_root i f)) h j (λ t. t ≡ plain (root_tree j f))
+pub kept_last : {j : ℕ} {f g h : Forest} (i : ℕ) → eqb i j ≡ false → IsHanded j f → g ≡ without_root i f → Ends j (root_tree j g) (without_root j g) h
+    → Gives (without_root j (without_root i f)) h j (λ t. t ≡ plain (root_tree j f))
 kept_last i h k l m = grind (arith, tree-without, gives_as, represents_handed, handed_at, handed_beside)
 
 -- ---- nothing is added

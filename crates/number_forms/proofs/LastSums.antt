@@ -1,7 +1,9 @@
 -- A sum that stands last, with other children.
-use Rattle.std.proofs.Common.{◌≡◌, ℕ, zero, suc, refl, sym, ap, ◌∙◌, subst, arith, true, ◌<◌}
-use Rattle.number_forms.proofs.Shared.{Payload, bare, count, Tree, add, Trees, none, more, IsSum, removed, nth, grown, plains, plain, children_of, takes, AllExpressions, IsWhole, Forest, empty, tree, arity, kids, root_id, with_root_kids, rest_trees, tree_nth, without_nth, AllOnce, IsOnce, IsHanded, Represents, Ends, Gives, put, root_tree, without_root, gives, represents_as, given_root, given_handed, given_rest, last_put, last_tree, ends_without, ends_as, ends_at, other_handed, alone, count-plains, plain-tree_nth, children_of-plain, whole_kids}
-use Rattle.tree_handles.proofs.Forests.{all-first_trees, all-rest_trees, all-join}
+use Rattle.number_forms.proofs.Shared.{◌≡◌, ℕ, zero, suc, refl, sym, ap, ◌∙◌, subst, arith, true, ◌<◌, Payload, bare, count, Tree, add, Trees, none, more, IsSum, removed, nth, grown}
+use Rattle.number_forms.proofs.Shared.{plains, plain, children_of, takes, AllExpressions, IsWhole, Forest, empty, tree, arity, kids, root_id, with_root_kids, rest_trees, tree_nth, without_nth}
+use Rattle.number_forms.proofs.Shared.{AllOnce, IsOnce, IsHanded, Represents, Ends, Gives, put, root_tree, without_root, gives, represents_as, given_root, given_handed, given_rest, last_put}
+use Rattle.number_forms.proofs.Shared.{last_tree, ends_without, ends_as, ends_at, other_handed, alone, count-plains, plain-tree_nth, children_of-plain, whole_kids, all-first_trees, all-rest_trees}
+use Rattle.number_forms.proofs.Shared.{all-join, arity-tree_nth}
 use Rattle.calc_terms.specs.declared.kind.Kind.TheVariants as kind
 
 -- ---- a node with other children
@@ -69,11 +71,6 @@ gives_at {i = i} {g = g} {P = P} e q = subst (λ (x : Forest). Gives g x i P) (s
 
 -- ---- one of its children alone
 
-arity-tree_nth : (n : ℕ) (f : Forest) → n < arity f → arity (tree_nth n f) ≡ 1
-arity-tree_nth n empty l = absurd (omega arith)
-arity-tree_nth zero (tree a k r) l = refl
-arity-tree_nth (suc n) (tree a k r) l = arity-tree_nth n r (omega arith)
-
 pub represents_nth : {k : Forest} {ts : Trees} (n : ℕ) → Represents k ts → n < count ts → Represents (tree_nth n k) (more (nth n ts) none)
 represents_nth {k = k} {ts = ts} n r l = record {
   once = once_nth n k r.once;
@@ -82,7 +79,8 @@ represents_nth {k = k} {ts = ts} n r l = record {
 }
 
 -- the only child of a sum that is gone
-pub only_child : {i h : ℕ} {g f f1 f2 : Forest} {P Q : Tree → Type 0} (e : Gives g f i P) (ts : Trees) → plain (root_tree i f) ≡ add ts → 0 < count ts → Ends h (tree_nth 0 (kids (root_tree i f))) (put i (without_nth 0 (kids (root_tree i f))) f) f1
+pub only_child : {i h : ℕ} {g f f1 f2 : Forest} {P Q : Tree → Type 0} (e : Gives g f i P) (ts : Trees) → plain (root_tree i f) ≡ add ts → 0 < count ts
+    → Ends h (tree_nth 0 (kids (root_tree i f))) (put i (without_nth 0 (kids (root_tree i f))) f) f1
     → f2 ≡ without_root i f1 → Q (nth 0 ts) → Gives g f2 h Q
 only_child {i} {h} {g} {f} {f1} e ts p l x q w =
     let t = root_tree i f in
@@ -91,7 +89,8 @@ only_child {i} {h} {g} {f} {f1} e ts p l x q w =
     let rest = resum {Q = λ u. u ≡ add (removed 0 ts)} e (without_nth 0 (kids t)) (removed 0 ts) ts (ap plain (sym (last_tree e.ends)) ∙ p) (represents_without 0 rep) refl in
     gives (ends_at (ends_as (ends_without i x (given_root rest)) refl (given_rest rest)) q) (represents_nth 0 rep l) w
 
-pub only_owned : {i h : ℕ} {g f f1 : Forest} {P : Tree → Type 0} (e : Gives g f i P) (ts : Trees) → plain (root_tree i f) ≡ add ts → Ends h (tree_nth 0 (kids (root_tree i f))) (put i (without_nth 0 (kids (root_tree i f))) f) f1 → IsHanded i f1
+pub only_owned : {i h : ℕ} {g f f1 : Forest} {P : Tree → Type 0} (e : Gives g f i P) (ts : Trees) → plain (root_tree i f) ≡ add ts
+    → Ends h (tree_nth 0 (kids (root_tree i f))) (put i (without_nth 0 (kids (root_tree i f))) f) f1 → IsHanded i f1
 only_owned {i} {h} {g} {f} {f1} e ts p x =
     let t = root_tree i f in
     let handed = given_handed e in

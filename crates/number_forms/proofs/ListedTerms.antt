@@ -1,11 +1,11 @@
 -- Terms as values, and as trees: with one more, and with one less.
-use Rattle.std.proofs.Common.{◌≡◌, ◌≢◌, ◌⊎◌, ℕ, zero, suc, ◌<◌, ◌≤◌, ◌^◌, ◌+◌, ◌*◌, ◌==◌, List, [], ◌∷◌, ◌++◌, Bool, true, false, length, get_or, set, take, inl, inr, refl, sym, ap, ◌∙◌, subst, arith, append-nil, pos, if◌then◌else◌}
-use Rattle.std.specs.List.{refill}
-use Rattle.std.specs.Prelude.{insert, remove}
-use Rattle.calc_algebra.proofs.CleanLaws.{clean_square_free}
-use Rattle.calc_algebra.specs.Numbers.{term_of as term_of_tree}
-use Rattle.number_forms.proofs.Shared.{IsProper, Fraction, mult, num_most, root, size, sizes, whole_fraction, IsExtracted, IsNumberOver, Parts, Same-append, Same-refl, is_number, joined_den, num, number_test, value, zero_fraction, lowest, gcd, AreTerms, IsTerm, IsSumOf, IsPlace, AreBelow, Same, Same-trans, Same-eq, SharesDenominators, Surd, Term, Trees, add, none, more, count, nth, removed, inserted, is_term, is_one_fraction, one_fraction, one_is, term_of, term_tree, term_words, terms_of, value_of, are_alike}
-use Rattle.calc_terms.specs.Trees.{append}
+use Rattle.number_forms.proofs.Kept.{zero_value}
+use Rattle.number_forms.proofs.Shared.{◌≡◌, ◌≢◌, ◌⊎◌, ℕ, zero, suc, ◌<◌, ◌≤◌, ◌^◌, ◌+◌, ◌*◌, ◌==◌, List, [], ◌∷◌, ◌++◌, Bool, true, false}
+use Rattle.number_forms.proofs.Shared.{length, get_or, set, take, inl, inr, refl, sym, ap, ◌∙◌, subst, arith, append-nil, pos, if◌then◌else◌, refill, insert, remove, clean_square_free}
+use Rattle.number_forms.proofs.Shared.{IsProper, Fraction, mult, num_most, root, size, sizes, whole_fraction, IsExtracted, IsNumberOver, Parts, Same-append, Same-refl, is_number, joined_den, num}
+use Rattle.number_forms.proofs.Shared.{number_test, value, zero_fraction, lowest, gcd, AreTerms, IsTerm, IsSumOf, IsPlace, AreBelow, Same, Same-trans, Same-eq, SharesDenominators, Surd, Term, Trees}
+use Rattle.number_forms.proofs.Shared.{add, none, more, count, nth, removed, inserted, is_term, is_one_fraction, one_fraction, one_is, term_of, term_tree, term_words, terms_of, value_of, are_alike}
+use Rattle.number_forms.proofs.Shared.{append, AreListed, AreSmall, AreTermsOf, number_tree, trees_of, IsGcd-same, drop_all, length-set, take_all, take_more, same_from_IsGcd}
 use Rattle.number_forms.proofs.Denominators.{parts_extracted, shares_eq}
 use Rattle.number_forms.proofs.Exchanged.{place_removed}
 use Rattle.number_forms.proofs.Joined.{are_removed, rises_removed}
@@ -14,11 +14,9 @@ use Rattle.number_forms.proofs.Pairs.{term_is_number}
 use Rattle.number_forms.proofs.Shaped.{sum_number, term_value}
 use Rattle.number_forms.proofs.SquareFreeSums.{apart_at_place, apart_small}
 use Rattle.number_forms.proofs.SumChanges.{inserted_of, cancelled, made_one, apart_rest}
-use Rattle.number_forms.proofs.TermTrees.{rational_tree, root_tree, multiple_tree, zero_value}
-use Rattle.number_forms.specs.Values.{AreListed, AreSmall, AreTermsOf, number_tree, surd_of, trees_of}
-use Rattle.rational128.proofs.Divisors.{IsGcd-same}
-use Rattle.std.proofs.lemmas.List.{drop_all, length-set, take_all, take_more}
-use Rattle.std.proofs.lemmas.Nat.Gcd.{same_from_IsGcd}
+use Rattle.number_forms.proofs.TermTrees.{rational_tree, root_tree, multiple_tree}
+use Rattle.number_forms.specs.Values.{surd_of}
+use Rattle.calc_algebra.specs.Numbers.{term_of as term_of_tree}
 use Rattle.surd_terms.specs.Sums.{Joins, IsSum as IsSumOfTwo}
 use Rattle.surd_terms.specs.declared.sums.Joined.TheVariants as joined
 use Rattle.surd_terms.specs.declared.term.Term.{Term as CodeTerm}
@@ -188,7 +186,8 @@ below_at : (ts : List CodeTerm) (k r : ℕ) → k < length ts → ((x : CodeTerm
 below_at [] k r l h = absurd (omega arith)
 below_at (t ∷ ts) k r l h = subst (λ (y : Term). y.radicand < r) (sym (nth_tree (t ∷ ts) k t l)) (h t)
 
-pub place_here : (ts : List CodeTerm) (n r : ℕ) (d : CodeTerm) → n < length ts → ((k : ℕ) (x : CodeTerm) → k < n → (get_or ts k x).radicand < r) → d ≡ get_or ts n d → r ≤ d.radicand → IsPlace n r (trees_of ts)
+pub place_here : (ts : List CodeTerm) (n r : ℕ) (d : CodeTerm) → n < length ts → ((k : ℕ) (x : CodeTerm) → k < n → (get_or ts k x).radicand < r) → d ≡ get_or ts n d
+    → r ≤ d.radicand → IsPlace n r (trees_of ts)
 place_here ts n r d l b q a = record {
   within = omega (arith, l, count_trees ts);
   below = λ k m. below_at ts k r (omega (arith, m, l)) (λ x. b k x m);
@@ -208,7 +207,8 @@ trees_append : (ts us : List CodeTerm) → append (trees_of ts) (trees_of us) �
 trees_append [] us = refl
 trees_append (t ∷ ts) us = ap (more (term_tree (term_of t))) (trees_append ts us)
 
-pub trees_more : (ts : List CodeTerm) (i : ℕ) (t : CodeTerm) → i < length ts → t ≡ get_or ts i t → append (trees_of (take i ts)) (more (term_tree (term_of t)) none) ≡ trees_of (take (i + 1) ts)
+pub trees_more : (ts : List CodeTerm) (i : ℕ) (t : CodeTerm) → i < length ts → t ≡ get_or ts i t
+    → append (trees_of (take i ts)) (more (term_tree (term_of t)) none) ≡ trees_of (take (i + 1) ts)
 trees_more ts i t l e =
     let next : take (i + 1) ts ≡ take i ts ++ t ∷ [] = take_more ts i t l ∙ ap (λ (u : CodeTerm). take i ts ++ u ∷ []) (sym e) in
     trees_append (take i ts) (t ∷ []) ∙ ap trees_of (sym next)

@@ -1,6 +1,7 @@
 -- Sums to which the terms of a list are joined one by one.
-use Rattle.std.proofs.Common.{◌≡◌, ℕ, zero, suc, ◌≤◌, ◌∷◌, ◌++◌, length, refl, sym, ap, subst, arith, []}
-use Rattle.number_forms.proofs.Shared.{value, Same, Term, Surd, SharesDenominators, Tree, Same-trans, Same-refl, State, IsSum, IsSumOf, plain, Gives, KeepsFront, root_tree, without_root, Stands, forest, KeepsRefusals, behind_first, front_after_one, front_same, given_told, given_rest, gives_as, kept_same, kept_after, gives_itself}
+use Rattle.number_forms.proofs.Shared.{◌≡◌, ℕ, zero, suc, ◌≤◌, ◌∷◌, ◌++◌, length, refl, sym, ap, subst, arith, [], value, Same, Term, Surd, SharesDenominators, Tree}
+use Rattle.number_forms.proofs.Shared.{Same-trans, Same-refl, State, IsSum, IsSumOf, plain, Gives, KeepsFront, root_tree, without_root, Stands, forest, KeepsRefusals, behind_first, front_after_one}
+use Rattle.number_forms.proofs.Shared.{front_same, given_told, given_rest, gives_as, kept_same, kept_after, gives_itself}
 use Rattle.number_forms.proofs.Denominators.{shares_eq, parts_step, parts_end, parts_part}
 use Rattle.number_forms.proofs.Worth.{terms_from, join_step, join_end, part_step}
 
@@ -25,7 +26,8 @@ joined_none i v s st e = record {
   stands = st;
 }
 
-pub joined_more : (i : ℕ) (left rest whole w : Surd) (y : Term) (old now new : State) → IsJoined i left whole old now → left ≡ y ∷ rest → Same w (y ∷ value (plain (root_tree i (forest now)))) → SharesDenominators (y ∷ value (plain (root_tree i (forest now)))) w
+pub joined_more : (i : ℕ) (left rest whole w : Surd) (y : Term) (old now new : State) → IsJoined i left whole old now → left ≡ y ∷ rest
+    → Same w (y ∷ value (plain (root_tree i (forest now)))) → SharesDenominators (y ∷ value (plain (root_tree i (forest now)))) w
     → Gives (without_root i (forest now)) (forest new) i (IsSumOf w) → KeepsFront (i ∷ []) (forest now) (forest new) → KeepsRefusals now new → Stands new → IsJoined i rest whole old new
 joined_more i left rest whole w y old now new j e s p g f k st = record {
   gives = gives_as g (given_rest j.gives) (λ t h. record {
@@ -38,7 +40,8 @@ joined_more i left rest whole w y old now new j e s p g f k st = record {
   stands = st;
 }
 
-pub joined_part : (i : ℕ) (left row rest whole : Surd) (old now new : State) → IsJoined i left whole old now → left ≡ row ++ rest → Gives (without_root i (forest now)) (forest new) i (IsSumOf (value (plain (root_tree i (forest now))) ++ row))
+pub joined_part : (i : ℕ) (left row rest whole : Surd) (old now new : State) → IsJoined i left whole old now → left ≡ row ++ rest
+    → Gives (without_root i (forest now)) (forest new) i (IsSumOf (value (plain (root_tree i (forest now))) ++ row))
     → KeepsFront (i ∷ []) (forest now) (forest new) → KeepsRefusals now new → Stands new → IsJoined i rest whole old new
 joined_part i left row rest whole old now new j e g f k st = record {
   gives = gives_as g (given_rest j.gives) (λ t h. record {

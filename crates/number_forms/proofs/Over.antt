@@ -1,7 +1,7 @@
 -- Numbers over the common denominators of what they are worth, and of powers of it.
-use Rattle.std.proofs.Common.{◌≡◌, ℕ, ◌+◌, ◌*◌, ◌/◌, ◌%◌, ◌^◌, ◌≢◌, ◌++◌, Result, Ok, Err, sym, subst, arith}
-use Rattle.std.specs.Prelude.{IfOk}
-use Rattle.number_forms.proofs.Shared.{pow-add, value, Same, Surd, surd_times, surd_power, surd_power-squared, Same-trans, IsNoLarger, SharesPowers, Parts, SharesDenominators, power_once, parts_append, parts_times, no_larger, parts_left, parts_right, Tree, IsNumberOf, IsNumberOver, IsPowerOver, State, Forest, tree_of, Gives, forest, given_told}
+use Rattle.number_forms.proofs.Shared.{◌≡◌, ℕ, ◌+◌, ◌*◌, ◌/◌, ◌%◌, ◌^◌, ◌≢◌, ◌++◌, Result, Ok, Err, sym, subst, arith, IfOk, pow-add, value, Same, Surd}
+use Rattle.number_forms.proofs.Shared.{surd_times, surd_power, surd_power-squared, Same-trans, IsNoLarger, SharesPowers, Parts, SharesDenominators, power_once, parts_append, parts_times, no_larger}
+use Rattle.number_forms.proofs.Shared.{parts_left, parts_right, Tree, IsNumberOf, IsNumberOver, IsPowerOver, State, Forest, tree_of, Gives, forest, given_told}
 use Rattle.number_forms.proofs.PowerSteps.{half_even, half_odd, power_odd}
 
 pub of_over : {v : Surd} {t : Tree} → IsNumberOver v t → IsNumberOf v t
@@ -46,7 +46,8 @@ squared_power v h q n i j = record {
 pub even_power : (v : Surd) (h t : Tree) (n : ℕ) → n % 2 ≡ 0 → IsPowerOver v (n / 2) h → IsNumberOver (surd_times (value h) (value h)) t → IsPowerOver v n t
 even_power v h t n e i j = subst (λ k. IsPowerOver v k t) (half_even n e) (squared_power v h t (n / 2) i j)
 
-pub odd_power : (h q a t : Tree) (n : ℕ) → n % 2 ≢ 0 → IsPowerOver (value a) (n / 2) h → IsNumberOver (surd_times (value h) (value h)) q → IsNumberOver (surd_times (value q) (value a)) t → IsPowerOver (value a) n t
+pub odd_power : (h q a t : Tree) (n : ℕ) → n % 2 ≢ 0 → IsPowerOver (value a) (n / 2) h → IsNumberOver (surd_times (value h) (value h)) q → IsNumberOver (surd_times (value q) (value a)) t
+    → IsPowerOver (value a) n t
 odd_power h q a t n e i j k = record {
   number = k.number;
   worth = power_odd (value a) (value h) (value q) (value t) n e i.worth j.worth k.worth;

@@ -1,11 +1,13 @@
 -- What a call on Numbers is refused for, from the call that was refused.
-use Rattle.std.proofs.Common.{◌≡◌, ℕ, ◌+◌, ◌*◌, ◌/◌, ◌<◌, ◌≤◌, Some, inl, ap, ◌∙◌, subst, arith}
-use Rattle.number_forms.proofs.Shared.{value, Same, Term, Surd, surd_times, Tree, count, Same-trans, Same-append, Same-refl, SharesDenominators, IsNumberOver, IsPowerOver, JoinOverflows, SumOverflows, ProductOverflows, SquareOverflows, PowerOverflows, Overflow, calculation_of, first_misfit, joining_calculations, children_of, nth}
+use Rattle.number_forms.proofs.Shared.{◌≡◌, ℕ, ◌+◌, ◌*◌, ◌/◌, ◌<◌, ◌≤◌, Some, inl, ap, ◌∙◌, subst, arith, value, Same, Term, Surd, surd_times, Tree, count}
+use Rattle.number_forms.proofs.Shared.{Same-trans, Same-append, Same-refl, SharesDenominators, IsNumberOver, IsPowerOver, JoinOverflows, SumOverflows, ProductOverflows, SquareOverflows}
+use Rattle.number_forms.proofs.Shared.{PowerOverflows, Overflow, calculation_of, first_misfit, joining_calculations, children_of, nth}
 use Rattle.calc_algebra.specs.Numbers.{term_of}
 use Rattle.number_forms.proofs.Over.{shares_append, squared_power}
 
 -- the term of a sum at a place, once it is read
-pub join_overflow : (sum : Tree) (at : ℕ) (x t : Term) (o : Overflow) → at < count (children_of sum) → x ≡ term_of (nth at (children_of sum)) → Some (calculation_of o) ≡ first_misfit (joining_calculations x t) → JoinOverflows sum t o
+pub join_overflow : (sum : Tree) (at : ℕ) (x t : Term) (o : Overflow) → at < count (children_of sum) → x ≡ term_of (nth at (children_of sum))
+    → Some (calculation_of o) ≡ first_misfit (joining_calculations x t) → JoinOverflows sum t o
 join_overflow sum at x t o l e m = record { at = at; within = l; misfit = m ∙ ap (λ y. first_misfit (joining_calculations y t)) e }
 
 -- ---- sums
@@ -42,7 +44,8 @@ power_overflows_more v m n o l p = record {
 pub square_overflows : (v : Surd) (h : Tree) (n : ℕ) (o : Overflow) → 1 ≤ n / 2 → IsPowerOver v (n / 2) h → SquareOverflows (value h) o → PowerOverflows v n o
 square_overflows v h n o l i p = grind arith
 
-pub last_overflows : (h q a : Tree) (n : ℕ) (o : Overflow) → 1 ≤ n / 2 → 2 * (n / 2) + 1 ≤ n → IsPowerOver (value a) (n / 2) h → IsNumberOver (surd_times (value h) (value h)) q → IsPowerOver (value a) 1 a
+pub last_overflows : (h q a : Tree) (n : ℕ) (o : Overflow) → 1 ≤ n / 2 → 2 * (n / 2) + 1 ≤ n → IsPowerOver (value a) (n / 2) h → IsNumberOver (surd_times (value h) (value h)) q
+    → IsPowerOver (value a) 1 a
     → ProductOverflows (value q) (value a) o → PowerOverflows (value a) n o
 last_overflows h q a n o l w s i j p = record {
   low = 2 * (n / 2);

@@ -1,9 +1,9 @@
 -- Two trees that were made one after the other.
-use Rattle.std.proofs.Common.{◌≡◌, ℕ, eqb, true, false, ap, ◌∙◌}
-use Rattle.number_forms.proofs.Shared.{Fraction, is_number, is_term, Tree, num, number_test, term_words, other_plain, plain, Forest, IsHanded, Gives, root_tree, without_root, given_handed, given_root, given_told, given_other, given_apart, given_rest, given_without, eqb-sym}
+use Rattle.number_forms.proofs.Shared.{◌≡◌, ℕ, eqb, true, false, ap, ◌∙◌, Fraction, is_number, is_term, Tree, num, number_test, term_words, other_plain, plain, Forest, IsHanded, Gives}
+use Rattle.number_forms.proofs.Shared.{root_tree, without_root, given_handed, given_root, given_told, given_other, given_apart, given_rest, given_without, eqb-sym, IsNumberOf, Surd}
+use Rattle.number_forms.proofs.Shared.{IfOk, Result}
+use Rattle.number_forms.proofs.TermTrees.{if_given}
 use Rattle.number_forms.proofs.Shaped.{term_number}
-use Rattle.number_forms.specs.Answers.{IsNumberOf}
-use Rattle.calc_algebra.specs.Surds.{Surd}
 
 pub first_handed : {f g h : Forest} {a b : ℕ} {P Q : Tree → Type 0} → Gives f g a P → Gives g h b Q → IsHanded a h
 first_handed x y = given_other y (given_handed x)
@@ -34,5 +34,9 @@ number_of_made v x = (given_told x).number
 pub first_number : {f g h : Forest} {a b : ℕ} {Q : Tree → Type 0} → Gives f g a (λ t. is_number t ≡ true) → Gives g h b Q → is_number (plain (root_tree a h)) ≡ true
 first_number x y = first_told x y ∙ number_made x
 
--- what calls on such Numbers ask for
-pub ruleset made = (given_handed, number_made, number_of_made, pair_apart, first_number)
+-- what is given is a Number
+pub number_given : {E : Type 0} (r : Result ℕ E) (v : Surd) (f g h : Forest) → IfOk r (λ i. Gives f g i (IsNumberOf v)) → f ≡ h → IfOk r (λ i. Gives h g i (λ t. is_number t ≡ true))
+number_given r v f g h e q = if_given f g h (IsNumberOf v) (λ t. is_number t ≡ true) r e q (λ t k. k.number)
+
+-- what calls on such Numbers ask for, and what they give
+pub ruleset made = (given_handed, given_rest, number_made, number_of_made, pair_apart, pair_rest, first_number, number_given)

@@ -1,9 +1,9 @@
 -- Whether the bytes of a term's tree suffice.
-use Rattle.std.proofs.Common.{◌≡◌, ◌≢◌, ◌↔◌, ℕ, ◌+◌, ◌-◌, ◌==◌, ◌<◌, ◌≤◌, true, false, Bool, pos, List, [], ◌∷◌, ◌++◌, Result, Ok, Err, refl, sym, ap, ◌∙◌, subst, arith}
-use Rattle.std.specs.Prelude.{IsOk, IsErr, IfOk, IfErr, nat_le, if◌then◌else◌}
-use Rattle.number_forms.proofs.Shared.{gives_as, eq-eqb, lt-leb, leb-false, Fraction, lowest, one_fraction, is_one_fraction, whole_fraction, gcd, Tree, num, add, mult, power, root, neg, sub, div, Trees, more, none, size, sizes, root_size, one_is, value, classes, Term, State, free_of, Full, term_tree, building, node_sizes, nodes_sizes, taking, LacksLongForm, Forest, tree_of, Gives, root_tree, plain, last_tree, Stands, forest, KeepsRefusals, IsRefused, given_told, given_free}
-use Rattle.calc_terms.specs.Kind.{size_by_form}
-use Rattle.calc_terms.specs.Short.{is_short}
+use Rattle.number_forms.proofs.Shared.{◌≡◌, ◌≢◌, ◌↔◌, ℕ, ◌+◌, ◌-◌, ◌==◌, ◌<◌, ◌≤◌, true, false, Bool, pos, List, [], ◌∷◌, ◌++◌, Result, Ok, Err}
+use Rattle.number_forms.proofs.Shared.{refl, sym, ap, ◌∙◌, subst, arith, IsOk, IsErr, IfOk, IfErr, nat_le, if◌then◌else◌, gives_as, eq-eqb, lt-leb, leb-false, Fraction, lowest}
+use Rattle.number_forms.proofs.Shared.{one_fraction, is_one_fraction, whole_fraction, gcd, Tree, num, add, mult, power, root, neg, sub, div, Trees, more, none, size, sizes, root_size, one_is, value}
+use Rattle.number_forms.proofs.Shared.{classes, Term, State, free_of, Full, term_tree, building, node_sizes, nodes_sizes, taking, LacksLongForm, Forest, tree_of, Gives, root_tree, plain, last_tree}
+use Rattle.number_forms.proofs.Shared.{Stands, forest, KeepsRefusals, IsRefused, given_told, given_free, size_by_form, is_short}
 use Rattle.calc_terms.specs.declared.kind.Kind.TheVariants as kind
 
 -- what is free before a tree is placed
@@ -32,7 +32,8 @@ pub lacking_on : (free : ℕ) (ns ms : List ℕ) (full : Full) → taking free n
 lacking_on free [] ms full e = cc
 lacking_on free (n ∷ ns) ms full e = by (nat_le n free) e (lacking_on (free - n) ns ms full)
   where
-    by : (b : Bool) → (if b then taking (free - n) ns else Err (record { needed = n; free = free })) ≡ Err full → (taking (free - n) ns ≡ Err full → taking (free - n) (ns ++ ms) ≡ Err full) → (if b then taking (free - n) (ns ++ ms) else Err (record { needed = n; free = free })) ≡ Err full
+    by : (b : Bool) → (if b then taking (free - n) ns else Err (record { needed = n; free = free })) ≡ Err full
+        → (taking (free - n) ns ≡ Err full → taking (free - n) (ns ++ ms) ≡ Err full) → (if b then taking (free - n) (ns ++ ms) else Err (record { needed = n; free = free })) ≡ Err full
     by true h k = k h
     by false h k = h
 
@@ -76,7 +77,8 @@ lacking_total : (free : ℕ) (ns : List ℕ) (full : Full) → taking free ns �
 lacking_total free [] full e = cc
 lacking_total free (n ∷ ns) full e = by (nat_le n free) refl e (lacking_total (free - n) ns full)
   where
-    by : (b : Bool) → nat_le n free ≡ b → (if b then taking (free - n) ns else Err (record { needed = n; free = free })) ≡ Err full → (taking (free - n) ns ≡ Err full → free - n < total ns) → free < n + total ns
+    by : (b : Bool) → nat_le n free ≡ b → (if b then taking (free - n) ns else Err (record { needed = n; free = free })) ≡ Err full
+        → (taking (free - n) ns ≡ Err full → free - n < total ns) → free < n + total ns
     by true k h l = let left : free - n < total ns = l h in omega arith
     by false k h l = let least : free < n = leb-false n free k in omega arith
 
@@ -135,6 +137,7 @@ told_tree r f s u v g e = grind (arith, given_told)
 pub given_tree : {f g : Forest} {i : ℕ} {P : Tree → Type 0} {u : Tree} → Gives f g i P → plain (root_tree i g) ≡ u → Gives f g i (λ t. P t × (t ≡ u))
 given_tree g e = record { tree = g.tree; ends = g.ends; once = g.once; whole = g.whole; told = (g.told, sym (ap plain (last_tree g.ends)) ∙ e) }
 
-pub if_tree : {E : Type 0} (r : Result ℕ E) (f : Forest) (s : State) (P : Tree → Type 0) (u v : Tree) → IfOk r (λ h. Gives f (forest s) h P) → IfOk r (λ h. tree_of h s ≡ u) → u ≡ v → IfOk r (λ h. Gives f (forest s) h (λ t. t ≡ v))
+pub if_tree : {E : Type 0} (r : Result ℕ E) (f : Forest) (s : State) (P : Tree → Type 0) (u v : Tree) → IfOk r (λ h. Gives f (forest s) h P) → IfOk r (λ h. tree_of h s ≡ u) → u ≡ v
+    → IfOk r (λ h. Gives f (forest s) h (λ t. t ≡ v))
 if_tree (Ok h) f s P u v g e q = gives_as (given_tree g e) refl (λ t k. k.1 ∙ q)
 if_tree (Err x) f s P u v g e q = tt

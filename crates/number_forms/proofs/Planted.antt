@@ -1,22 +1,9 @@
 -- A new node, and new trees behind it that become its children.
-use Rattle.std.proofs.Common.{◌≡◌, ◌<◌, ◌≤◌, ℕ, ◌+◌, true, refl, sym, ap, ◌∙◌, arith}
-use Rattle.calc_terms.proofs.Sizes.{payload_most}
-use Rattle.calc_terms.specs.Payload.{bare, rational, size_of_payload}
-use Rattle.calc_terms.specs.Rat.{ratio_of}
-use Rattle.calc_terms.specs.Trees.{append, count, sizes}
-use Rattle.calc_terms.specs.declared.kind.Kind.{Kind}
-use Rattle.number_forms.specs.Placed.{Adds}
-use Rattle.number_forms.proofs.Shared.{Tree, Trees, none, more, Rat, State, free_of, Full, refused_below, Gives, Ends, KeepsRefusals, IsRefused, Stands, forest, gives, last_root}
-use Rattle.tree_handles.proofs.Adopting.{adopted_all, behind_there}
-use Rattle.tree_handles.proofs.Cuts.{represents_count}
-use Rattle.tree_handles.proofs.Forests.{bytes_in-join, join-empty, join_assoc}
+use Rattle.number_forms.proofs.Shared.{◌≡◌, ◌<◌, ◌≤◌, ℕ, ◌+◌, true, refl, sym, ap, ◌∙◌, arith, payload_most, bare, rational, size_of_payload, ratio_of, append, count}
+use Rattle.number_forms.proofs.Shared.{sizes, Kind, Adds, Tree, Trees, none, more, Rat, State, free_of, Full, refused_below, Gives, Ends, KeepsRefusals, IsRefused, Stands, forest, gives, last_root}
+use Rattle.number_forms.proofs.Shared.{adopted_all, behind_there, represents_count, bytes_in-join, join-empty, join_assoc, used_forest, alone, sizes-plains, root-left, compound, takes_kind, Forest}
+use Rattle.number_forms.proofs.Shared.{Label, arity, bytes_in, empty, join, one_tree, tree, adopted, behind_root, has_root}
 use Rattle.tree_handles.proofs.Given.{represents_join, represents_node, represents_none}
-use Rattle.tree_handles.proofs.Places.{used_forest}
-use Rattle.tree_handles.proofs.Plains.{alone, sizes-plains}
-use Rattle.tree_handles.proofs.Roots.{root-left}
-use Rattle.tree_handles.specs.Expressions.{compound, takes_kind}
-use Rattle.tree_handles.specs.Forest.{Forest, Label, arity, bytes_in, empty, join, one_tree, tree}
-use Rattle.tree_handles.specs.Roots.{adopted, behind_root, has_root}
 
 pub adds_none : (f : Forest) → Adds none f f
 adds_none f = record { trees = empty; whole = sym (join-empty f); represents = represents_none }
@@ -44,7 +31,8 @@ can_adopt {i} {n} {k} {g = g} {f = f} e a m = record {
   within = omega (arith, m, represents_count a.represents, ap arity (ap (behind_root i) (node_before e a) ∙ behind_there i g a.trees empty (label i k) e.clear refl));
 }
 
-pub adopts : {i n : ℕ} {k : Kind} {ts : Trees} {g f h new : Forest} → Ends i (one_tree i (bare k) empty) g f → Adds ts f h → n ≡ count ts → takes_kind k (count ts) ≡ true → new ≡ adopted i n h
+pub adopts : {i n : ℕ} {k : Kind} {ts : Trees} {g f h new : Forest} → Ends i (one_tree i (bare k) empty) g f → Adds ts f h → n ≡ count ts → takes_kind k (count ts) ≡ true
+    → new ≡ adopted i n h
     → Gives g new i (λ u. u ≡ compound k ts)
 adopts {i} {n} {k} {ts} {g} {f} {h} {new} e a m w q =
     let many : n ≡ arity a.trees = m ∙ sym (represents_count a.represents) in
@@ -57,7 +45,8 @@ adopts {i} {n} {k} {ts} {g} {f} {h} {new} e a m w q =
 pub adds_free : {ts : Trees} {s t : State} → Stands s → Stands t → KeepsRefusals s t → Adds ts (forest s) (forest t) → free_of s ≡ free_of t + sizes ts
 adds_free h k r a = grind (arith, used_forest, bytes_in-join, sizes-plains)
 
-pub node_free : {i : ℕ} {k : Kind} {s t : State} → Stands s → Stands t → KeepsRefusals s t → Ends i (one_tree i (bare k) empty) (forest s) (forest t) → free_of s ≡ free_of t + size_of_payload (bare k)
+pub node_free : {i : ℕ} {k : Kind} {s t : State} → Stands s → Stands t → KeepsRefusals s t → Ends i (one_tree i (bare k) empty) (forest s) (forest t)
+    → free_of s ≡ free_of t + size_of_payload (bare k)
 node_free {i} {k} {s} {t} h st r e = omega (arith, used_forest s h, used_forest t st, r.size, h.pool.fits, st.pool.fits, ap bytes_in e.whole, bytes_in-join (forest s) (one_tree i (bare k) empty))
 
 pub number_refused : (q : Rat) {s t : State} {full : Full} → IsRefused (size_of_payload (rational (ratio_of q))) s t full → free_of s < 40

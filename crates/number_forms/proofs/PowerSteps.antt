@@ -1,6 +1,6 @@
 -- Powers by squares.
-use Rattle.std.proofs.Common.{◌≡◌, ◌≢◌, ℕ, suc, ◌+◌, ◌*◌, ◌/◌, ◌%◌, ◌≤◌, ◌<◌, subst, arith}
-use Rattle.number_forms.proofs.Shared.{Same, Surd, surd_times, surd_power, surd_power-squared, surd_power-multiplied, Same-trans}
+use Rattle.number_forms.proofs.Shared.{◌≡◌, ◌≢◌, ℕ, suc, ◌+◌, ◌*◌, ◌/◌, ◌%◌, ◌≤◌, ◌<◌, subst, arith, Same, Surd, surd_times, surd_power, surd_power-squared}
+use Rattle.number_forms.proofs.Shared.{surd_power-multiplied, Same-trans}
 
 pub half_even : (n : ℕ) → n % 2 ≡ 0 → 2 * (n / 2) ≡ n
 half_even n e = omega arith
@@ -25,4 +25,5 @@ pub three_odd : (n : ℕ) → 2 ≤ n → n < 4 → n ≢ 2 → n % 2 ≢ 0
 three_odd n h k e = omega arith
 
 pub power_odd : (v h q t : Surd) (n : ℕ) → n % 2 ≢ 0 → Same h (surd_power v (n / 2)) → Same q (surd_times h h) → Same t (surd_times q v) → Same t (surd_power v n)
-power_odd v h q t n e k r s = Same-trans s (subst (λ (m : ℕ). Same (surd_times q v) (surd_power v m)) (half_odd n e) (surd_power-multiplied v q (2 * (n / 2)) (Same-trans r (surd_power-squared v h (n / 2) k))))
+power_odd v h q t n e k r s =
+    Same-trans s (subst (λ (m : ℕ). Same (surd_times q v) (surd_power v m)) (half_odd n e) (surd_power-multiplied v q (2 * (n / 2)) (Same-trans r (surd_power-squared v h (n / 2) k))))

@@ -1,6 +1,8 @@
 -- No operation overflows on the square or a power of a Number that has few bits.
-use Rattle.std.proofs.Common.{◌≡◌, ℕ, zero, suc, ◌+◌, ◌*◌, ◌≤◌, [], ◌∷◌, ◌++◌, ◌⊎◌, inl, inr, map, refl, sym, ap, ◌∙◌, subst, arith, append_assoc}
-use Rattle.number_forms.proofs.Shared.{mul-le, value, Term, Surd, term_times, surd_times, IsProper, AreProper, value_proper, number_words, Same-append, Same-refl, IsHeld, held_times, no_larger_power, held_so_far, held_left, held_right, Tree, terms_from, ProductOverflows, SquareRowOverflows, SquareOverflows, PowerOverflows, twice, square_row, square_terms, IsSum, Overflow, calculation_of, children_of, nth}
+use Rattle.number_forms.proofs.Shared.{◌≡◌, ℕ, zero, suc, ◌+◌, ◌*◌, ◌≤◌, [], ◌∷◌, ◌++◌, ◌⊎◌, inl, inr, map, refl, sym, ap, ◌∙◌, subst, arith, append_assoc}
+use Rattle.number_forms.proofs.Shared.{mul-le, value, Term, Surd, term_times, surd_times, IsProper, AreProper, value_proper, number_words, Same-append, Same-refl, IsHeld, held_times, no_larger_power}
+use Rattle.number_forms.proofs.Shared.{held_so_far, held_left, held_right, Tree, terms_from, ProductOverflows, SquareRowOverflows, SquareOverflows, PowerOverflows, twice, square_row, square_terms}
+use Rattle.number_forms.proofs.Shared.{IsSum, Overflow, calculation_of, children_of, nth}
 use Rattle.calc_algebra.specs.Numbers.{term_of}
 use Rattle.number_forms.proofs.Over.{shares_append}
 use Rattle.number_forms.proofs.Squares.{square_held, held_front}
@@ -26,7 +28,8 @@ proper_from zero v p = p
 proper_from (suc n) [] p = p
 proper_from (suc n) (x ∷ v) (p, ps) = proper_from n v ps
 
-square_row_within : (t : Tree) (x : Term) (w : Surd) (h l : ℕ) (o : Overflow) → IsSum t → IsProper x → AreProper w → IsHeld (value t ++ square_row x w) h l → 2 * h + 4 * l ≤ 124 → SquareRowOverflows t x w o → ⊥
+square_row_within : (t : Tree) (x : Term) (w : Surd) (h l : ℕ) (o : Overflow) → IsSum t → IsProper x → AreProper w → IsHeld (value t ++ square_row x w) h l → 2 * h + 4 * l ≤ 124
+    → SquareRowOverflows t x w o → ⊥
 square_row_within t x w h l o is p ps k few (inl m) =
     no_product_misfit x x h l (calculation_of o) p p (held_left (term_times x x ∷ []) (map (term_times (twice x)) w) h l (held_right (value t) (square_row x w) h l k)) few m
 square_row_within t x w h l o is p ps k few (inr (inl j)) =
@@ -43,8 +46,10 @@ square_row_within t x w h l o is p ps k few (inr (inr m)) =
 square_within : (v : Surd) (h l : ℕ) (o : Overflow) → AreProper v → IsHeld (surd_times v v) h l → 2 * h + 4 * l ≤ 124 → SquareOverflows v o → ⊥
 square_within v h l o p k few s =
     let rest : Surd = terms_from (suc s.at) v in
-    let held : IsHeld (value s.partial ++ square_terms (terms_from s.at v)) h l = so_far s.partial (squares_before s.at v) (square_terms (terms_from s.at v)) h l (square_terms v) (squares_from s.at v) s.sum s.worth s.parts (square_held v h l k) in
-    let next : IsHeld (value s.partial ++ (square_row s.factor rest ++ square_terms rest)) h l = subst (λ (u : Surd). IsHeld (value s.partial ++ square_terms u) h l) (from_next v s.at s.factor s.here) held in
+    let held : IsHeld (value s.partial ++ square_terms (terms_from s.at v)) h l =
+    so_far s.partial (squares_before s.at v) (square_terms (terms_from s.at v)) h l (square_terms v) (squares_from s.at v) s.sum s.worth s.parts (square_held v h l k) in
+    let next : IsHeld (value s.partial ++ (square_row s.factor rest ++ square_terms rest)) h l =
+    subst (λ (u : Surd). IsHeld (value s.partial ++ square_terms u) h l) (from_next v s.at s.factor s.here) held in
     let front : IsHeld (value s.partial ++ square_row s.factor rest) h l = held_left (value s.partial ++ square_row s.factor rest) (square_terms rest) h l (subst (λ (u : Surd). IsHeld u h l) (sym (append_assoc (value s.partial) (square_row s.factor rest) (square_terms rest))) next) in
     square_row_within s.partial s.factor rest h l o s.sum (proper_at v s.at s.factor p s.here) (proper_from (suc s.at) v p) front few s.row
 

@@ -1,11 +1,12 @@
 -- Rationals among Numbers: their common denominators, and the operations that fit.
-use Rattle.std.proofs.Common.{◌≡◌, ◌≢◌, ℕ, ◌+◌, ◌*◌, ◌/◌, ◌^◌, ◌≤◌, ◌<◌, [], ◌++◌, true, false, not, Result, ℤ, pos, ◌≤ℤ◌, if◌then◌else◌, refl, sym, ap, ◌∙◌, subst, arith}
-use Rattle.std.specs.Prelude.{IfOk, IfErr, nat_abs}
-use Rattle.number_forms.proofs.Shared.{mul-le, dvd-mul_left, value, Surd, surd_of, term, surd_times, HasFewBits, IsNoLargerThanPower, SharesPowers, Parts, SharesDenominators, magnitude_over, root_above, mass, IsHeld, multiple_fits, sum_fits_over, power_den, magnitude_power, magnitudes_cross, power_bound, low_power, parts_power, mass-append, no_larger_power, parts_left, parts_right, cancel_le, plus_den, root_enough, calculated, Operation, result_of, add_op, mul_op, pow_op, operation_fits, fraction_fits, sum_fits, fraction_power, zero_times, times_comm, Fraction, plus, times, zero_fraction, is_zero_fraction, whole_fraction, int_is_zero, Tree, num, is_num, zero_is, no_zero, whole_numerator, whole_denominator, IsPowerOver, AnswersRationals, State, held_bound, power_fits, denominator_bound, coefficients_fit, OfOverflow, Forest, tree_of, Gives, forest, NumberFault, given_told, by_test}
-use Rattle.std.specs.Int.{◌∣◌}
-use Rattle.calc_algebra.proofs.SquareRootLaws.{square_le}
-use Rattle.number_forms.specs.Joints.{both, operation}
-use Rattle.number_forms.specs.declared.calculating.Joint.{Joint}
+use Rattle.number_forms.proofs.Shared.{◌≡◌, ◌≢◌, ℕ, ◌+◌, ◌*◌, ◌/◌, ◌^◌, ◌≤◌, ◌<◌, [], ◌++◌, true, false, not, Result, ℤ, pos, ◌≤ℤ◌}
+use Rattle.number_forms.proofs.Shared.{if◌then◌else◌, refl, sym, ap, ◌∙◌, subst, arith, IfOk, IfErr, nat_abs, mul-le, dvd-mul_left, value, Surd, surd_of, term, surd_times, HasFewBits}
+use Rattle.number_forms.proofs.Shared.{IsNoLargerThanPower, SharesPowers, Parts, SharesDenominators, magnitude_over, root_above, mass, IsHeld, multiple_fits, sum_fits_over, power_den, magnitude_power}
+use Rattle.number_forms.proofs.Shared.{magnitudes_cross, power_bound, low_power, parts_power, mass-append, no_larger_power, parts_left, parts_right, cancel_le, plus_den, root_enough, calculated}
+use Rattle.number_forms.proofs.Shared.{Operation, result_of, add_op, mul_op, pow_op, operation_fits, fraction_fits, sum_fits, fraction_power, zero_times, times_comm, Fraction, plus, times}
+use Rattle.number_forms.proofs.Shared.{zero_fraction, is_zero_fraction, whole_fraction, int_is_zero, Tree, num, is_num, zero_is, no_zero, whole_numerator, whole_denominator, IsPowerOver}
+use Rattle.number_forms.proofs.Shared.{AnswersRationals, State, held_bound, power_fits, denominator_bound, coefficients_fit, OfOverflow, Forest, tree_of, Gives, forest, NumberFault, given_told}
+use Rattle.number_forms.proofs.Shared.{by_test, ◌∣◌, square_le, both, operation, Joint}
 use Rattle.number_forms.specs.declared.calculating.Joint.TheVariants as joint
 
 -- ---- common denominators
@@ -146,32 +147,37 @@ as_num (num q) h = (q, refl)
 as_num _ h = cc
 
 -- an operation that fits is not refused for it
-not_refused : (op : Operation) (p q : Fraction) (s : State) (r : Result ℕ NumberFault) → operation_fits op p q ≡ true → AnswersRationals (calculated op p q) s r → IfErr r (OfOverflow (λ o. ⊥))
+not_refused : (op : Operation) (p q : Fraction) (s : State) (r : Result ℕ NumberFault) → operation_fits op p q ≡ true → AnswersRationals (calculated op p q) s r
+    → IfErr r (OfOverflow (λ o. ⊥))
 not_refused op p q s r f a = grind arith
 
 pub joint_parts : (j : Joint) (p q : Fraction) (a b : Tree) → a ≡ num p → b ≡ num q → SharesDenominators (both j (value a) (value b)) (value (num (result_of (operation j) p q)))
 joint_parts joint.Sum p q a b e f = sum_parts p q a b e f
 joint_parts joint.Product p q a b e f = product_parts p q a b e f
 
-pub sum_not_refused : (a b : Tree) (s : State) (r : Result ℕ NumberFault) → is_num a ≡ true → is_num b ≡ true → ((p q : Fraction) → a ≡ num p → b ≡ num q → AnswersRationals (calculated add_op p q) s r)
+pub sum_not_refused : (a b : Tree) (s : State) (r : Result ℕ NumberFault) → is_num a ≡ true → is_num b ≡ true
+    → ((p q : Fraction) → a ≡ num p → b ≡ num q → AnswersRationals (calculated add_op p q) s r)
     → HasFewBits (value a ++ value b) → IfErr r (OfOverflow (λ o. ⊥))
 sum_not_refused a b s r m n f k =
     let p = as_num a m in
     let q = as_num b n in
     not_refused add_op p.0 q.0 s r (rational_sum_fits p.0 q.0 (subst (λ (t : Tree). HasFewBits (value (num p.0) ++ value t)) q.1 (subst (λ (t : Tree). HasFewBits (value t ++ value b)) p.1 k))) (f p.0 q.0 p.1 q.1)
 
-pub product_not_refused : (a b : Tree) (s : State) (r : Result ℕ NumberFault) → is_num a ≡ true → is_num b ≡ true → ((p q : Fraction) → a ≡ num p → b ≡ num q → AnswersRationals (calculated mul_op p q) s r)
+pub product_not_refused : (a b : Tree) (s : State) (r : Result ℕ NumberFault) → is_num a ≡ true → is_num b ≡ true
+    → ((p q : Fraction) → a ≡ num p → b ≡ num q → AnswersRationals (calculated mul_op p q) s r)
     → HasFewBits (surd_times (value a) (value b)) → IfErr r (OfOverflow (λ o. ⊥))
 product_not_refused a b s r m n f k =
     let p = as_num a m in
     let q = as_num b n in
     not_refused mul_op p.0 q.0 s r (rational_product_fits p.0 q.0 (subst (λ (t : Tree). HasFewBits (surd_times (value (num p.0)) (value t))) q.1 (subst (λ (t : Tree). HasFewBits (surd_times (value t) (value b))) p.1 k))) (f p.0 q.0 p.1 q.1)
 
-pub power_not_refused : (a : Tree) (z : ℤ) (s : State) (r : Result ℕ NumberFault) → is_num a ≡ true → ((q : Fraction) → a ≡ num q → AnswersRationals (calculated pow_op q (whole_fraction z)) s r)
+pub power_not_refused : (a : Tree) (z : ℤ) (s : State) (r : Result ℕ NumberFault) → is_num a ≡ true
+    → ((q : Fraction) → a ≡ num q → AnswersRationals (calculated pow_op q (whole_fraction z)) s r)
     → (h l : ℕ) → IsHeld (value a) h l → nat_abs z * (2 * h + 4 * l) ≤ 124 → IfErr r (OfOverflow (λ o. ⊥))
 power_not_refused a z s r m f h l k few =
     let q = as_num a m in
-    let fits : fraction_fits (fraction_power q.0 (nat_abs (whole_fraction z).num)) ≡ true = ap (λ (y : ℤ). fraction_fits (fraction_power q.0 (nat_abs y))) (whole_numerator z) ∙ rational_power_fits q.0 (nat_abs z) h l (subst (λ (t : Tree). IsHeld (value t) h l) q.1 k) few in
+    let fits : fraction_fits (fraction_power q.0 (nat_abs (whole_fraction z).num)) ≡ true =
+    ap (λ (y : ℤ). fraction_fits (fraction_power q.0 (nat_abs y))) (whole_numerator z) ∙ rational_power_fits q.0 (nat_abs z) h l (subst (λ (t : Tree). IsHeld (value t) h l) q.1 k) few in
     not_refused pow_op q.0 (whole_fraction z) s r fits (f q.0 q.1)
 
 -- ---- powers that are answered
@@ -182,5 +188,6 @@ at_least_one z h = grind arith
 pub power_no_larger : {v : Surd} {n : ℕ} {t : Tree} → 1 ≤ n → IsPowerOver v n t → IsNoLargerThanPower v n (value t)
 power_no_larger {v = v} {n = n} {t = t} l p = no_larger_power t v n l p.number p.worth p.parts
 
-pub if_power_no_larger : {E : Type 0} (r : Result ℕ E) (f : Forest) (s : State) (v : Surd) (n : ℕ) → 1 ≤ n → IfOk r (λ h. Gives f (forest s) h (IsPowerOver v n)) → IfOk r (λ h. IsNoLargerThanPower v n (value (tree_of h s)))
+pub if_power_no_larger : {E : Type 0} (r : Result ℕ E) (f : Forest) (s : State) (v : Surd) (n : ℕ) → 1 ≤ n → IfOk r (λ h. Gives f (forest s) h (IsPowerOver v n))
+    → IfOk r (λ h. IsNoLargerThanPower v n (value (tree_of h s)))
 if_power_no_larger r f s v n l e = grind (arith, power_no_larger, given_told)

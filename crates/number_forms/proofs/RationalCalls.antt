@@ -1,9 +1,10 @@
 -- Rationals in place of others.
-use Rattle.std.proofs.Common.{arith, ◌≡◌, ℕ, ◌++◌, Result, false, if◌then◌else◌, refl, sym, ap, ◌∙◌, subst, []}
-use Rattle.number_forms.proofs.Shared.{Operation, operation_fits, result_of, fraction_power, value, Same, Surd, surd_of, surd_times, surd_power, zero_is, number_test, zero_surd_of, surd_power-surd_of, Same-trans, Same-refl, Same-eq, Same-append, Same-surd_times, Same-surd_power, joined_radicand, surd_times-terms, SharesPowers, SharesDenominators, IsNumberOver, IsPowerOver, AnswersRationals, NumberFault, Fraction, plus, times, is_zero_fraction, calculated, exactly, overflow, value_of, Tree, num, State, operation_of, Overflow, IsPlainAnswer, IsPlainOverflow, by_test}
+use Rattle.number_forms.proofs.Shared.{arith, ◌≡◌, ℕ, ◌++◌, Result, false, if◌then◌else◌, refl, sym, ap, ◌∙◌, subst, [], Operation, operation_fits, result_of, fraction_power}
+use Rattle.number_forms.proofs.Shared.{value, Same, Surd, surd_of, surd_times, surd_power, zero_is, number_test, zero_surd_of, surd_power-surd_of, Same-trans, Same-refl, Same-eq, Same-append}
+use Rattle.number_forms.proofs.Shared.{Same-surd_times, Same-surd_power, joined_radicand, surd_times-terms, SharesPowers, SharesDenominators, IsNumberOver, IsPowerOver, AnswersRationals, NumberFault}
+use Rattle.number_forms.proofs.Shared.{Fraction, plus, times, is_zero_fraction, calculated, exactly, overflow, value_of, Tree, num, State, operation_of, Overflow, IsPlainAnswer, IsPlainOverflow}
+use Rattle.number_forms.proofs.Shared.{by_test, both, operation, Joint}
 use Rattle.number_forms.proofs.Worth.{Same-sym}
-use Rattle.number_forms.specs.Joints.{both, operation}
-use Rattle.number_forms.specs.declared.calculating.Joint.{Joint}
 use Rattle.number_forms.specs.declared.calculating.Joint.TheVariants as joint
 
 -- ---- what an operation answers
@@ -11,7 +12,8 @@ use Rattle.number_forms.specs.declared.calculating.Joint.TheVariants as joint
 pub plain_answer : (op : Operation) (p q : Fraction) (t : Tree) → (operation_fits op p q ≡ false → ⊥) → t ≡ num (result_of op p q) → IsPlainAnswer (calculated op p q) t
 plain_answer op p q t h e = by_test (λ b. operation_fits op p q ≡ b → IsPlainAnswer (if b then exactly (result_of op p q) else overflow op p q) t) (operation_fits op p q) (λ x y. e) (λ x y. absurd (h y)) refl
 
-pub plain_overflow : (op : Operation) (p q : Fraction) (o : Overflow) → operation_fits op p q ≡ false → operation_of o.op ≡ op → value_of o.a ≡ p → value_of o.b ≡ q → IsPlainOverflow (calculated op p q) o
+pub plain_overflow : (op : Operation) (p q : Fraction) (o : Overflow) → operation_fits op p q ≡ false → operation_of o.op ≡ op → value_of o.a ≡ p → value_of o.b ≡ q
+    → IsPlainOverflow (calculated op p q) o
 plain_overflow op p q o h x y z = by_test (λ b. operation_fits op p q ≡ b → IsPlainOverflow (if b then exactly (result_of op p q) else overflow op p q) o) (operation_fits op p q) (λ e f. absurd (cc (f, h))) (λ e f. (x, y, z)) refl
 
 pub num_same : {p q : Fraction} → num p ≡ num q → p ≡ q
@@ -36,13 +38,15 @@ rational_sum p q a b e f =
 
 pub rational_product : (p q : Fraction) (a b : Tree) → a ≡ num p → b ≡ num q → Same (surd_of (times p q)) (surd_times (value a) (value b))
 rational_product p q a b e f =
-    let one : Same (surd_times (value a) (value b)) (surd_times (surd_of p) (surd_of q)) = Same-surd_times (Same-trans (Same-eq (ap value e)) (rational_value p)) (Same-trans (Same-eq (ap value f)) (rational_value q)) in
+    let one : Same (surd_times (value a) (value b)) (surd_times (surd_of p) (surd_of q)) =
+    Same-surd_times (Same-trans (Same-eq (ap value e)) (rational_value p)) (Same-trans (Same-eq (ap value f)) (rational_value q)) in
     Same-sym (Same-trans one (Same-eq (surd_times-terms p q 1 1)))
 
 pub rational_power : (p : Fraction) (n : ℕ) (a : Tree) → a ≡ num p → Same (surd_of (fraction_power p n)) (surd_power (value a) n)
 rational_power p n a e = Same-sym (Same-trans (Same-surd_power n (Same-trans (Same-eq (ap value e)) (rational_value p))) (surd_power-surd_of p n))
 
-pub at_rationals : (op : Operation) (p q x y : Fraction) (a b : Tree) (s : State) (r : Result ℕ NumberFault) → a ≡ num x → b ≡ num y → AnswersRationals (calculated op x y) s r → a ≡ num p → b ≡ num q → AnswersRationals (calculated op p q) s r
+pub at_rationals : (op : Operation) (p q x y : Fraction) (a b : Tree) (s : State) (r : Result ℕ NumberFault) → a ≡ num x → b ≡ num y → AnswersRationals (calculated op x y) s r
+    → a ≡ num p → b ≡ num q → AnswersRationals (calculated op p q) s r
 at_rationals op p q x y a b s r e f h k l = grind arith
 
 -- ---- of a sum or a product

@@ -1,9 +1,7 @@
 -- What is a Number and what is none, by kind and by parts.
-use Rattle.std.proofs.Common.{◌≡◌, ◌≢◌, ℕ, ◌*◌, ◌<◌, ◌≤◌, Bool, true, false, not, ◌&&◌, sym, ap, ◌∙◌, arith}
-use Rattle.std.specs.Prelude.{ℤ, pos, nat_abs, ◌==◌}
-use Rattle.number_forms.proofs.Shared.{is_clean, IsClean, Fraction, whole_fraction, is_number, is_term, is_radicand, natural_of, are_terms, rises, terms_of, Tree, count, root_kind, is_add, whole_numerator, whole_denominator, clean_test, clean_words, children_of}
-use Rattle.number_forms.proofs.Shaped.{length-terms_of}
-use lib.Signed.{lt_z}
+use Rattle.number_forms.proofs.Shared.{◌≡◌, ◌≢◌, ℕ, ◌*◌, ◌<◌, ◌≤◌, Bool, true, false, not, ◌&&◌, sym, ap, ◌∙◌, arith, ℤ, pos, nat_abs, ◌==◌, is_clean}
+use Rattle.number_forms.proofs.Shared.{IsClean, Fraction, whole_fraction, is_number, is_term, is_radicand, natural_of, are_terms, rises, terms_of, Tree, count, root_kind, is_add, whole_numerator}
+use Rattle.number_forms.proofs.Shared.{whole_denominator, clean_test, clean_words, children_of, lt_z, count_terms}
 use Rattle.calc_terms.specs.declared.kind.Kind.TheVariants as kind
 
 -- ---- by kind
@@ -20,7 +18,7 @@ other_by_kind t a b = grind arith
 
 pub short_sum : (t : Tree) → is_add t ≡ true → count (children_of t) < 2 → false ≡ is_number t
 unfolding is_number
-short_sum t h l = grind (arith, length-terms_of)
+short_sum t h l = grind (arith, count_terms)
 
 no_second : (a b c : Bool) → b ≡ false → false ≡ (a && b && c)
 no_second a b c e = grind arith
@@ -31,7 +29,7 @@ other_sum t h e = grind arith
 
 pub sum_rises : (t : Tree) → is_add t ≡ true → 2 ≤ count (children_of t) → are_terms (children_of t) ≡ true → rises (terms_of (children_of t)) ≡ is_number t
 unfolding is_number
-sum_rises t h l e = grind (arith, length-terms_of)
+sum_rises t h l e = grind (arith, count_terms)
 
 -- ---- multiples of roots
 

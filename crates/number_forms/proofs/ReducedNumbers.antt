@@ -1,8 +1,8 @@
 -- Of a reduced tree the shape tells whether it is a Number.
-use Rattle.std.proofs.Common.{◌≡◌, ◌≢◌, ℕ, zero, suc, ◌≤◌, ◌<◌, ◌⊎◌, inl, inr, Bool, true, false, not, ◌&&◌, ◌||◌, if◌then◌else◌, length, refl, sym, ap, ◌∙◌, subst, arith}
-use Rattle.std.specs.Prelude.{nat_le}
-use Rattle.number_forms.proofs.Shared.{and_parts, and_from, le-leb, not-true, is_number, is_term, are_terms, rises, terms_of, is_reduced, has_form, sum_form, all_parts, all_parts_of, none_is, number_terms, other_terms, rises_by, part_of, Tree, add, Trees, none, more, count, has_two, is_add, root_kind, has_term_shape, nth}
-use Rattle.number_forms.proofs.Shaped.{length-terms_of}
+use Rattle.number_forms.proofs.Shared.{◌≡◌, ◌≢◌, ℕ, zero, suc, ◌≤◌, ◌<◌, ◌⊎◌, inl, inr, Bool, true, false, not, ◌&&◌, ◌||◌, if◌then◌else◌, length, refl}
+use Rattle.number_forms.proofs.Shared.{sym, ap, ◌∙◌, subst, arith, nat_le, and_parts, and_from, le-leb, not-true, is_number, is_term, are_terms, rises, terms_of, is_reduced, has_form, sum_form}
+use Rattle.number_forms.proofs.Shared.{all_parts, all_parts_of, none_is, number_terms, other_terms, rises_by, part_of, Tree, add, Trees, none, more, count, has_two, is_add, root_kind, has_term_shape}
+use Rattle.number_forms.proofs.Shared.{nth, count_terms}
 use Rattle.calc_terms.specs.declared.kind.Kind.TheVariants as kind
 
 true_or_false : (b : Bool) → (b ≡ true) ⊎ (b ≡ false)
@@ -66,7 +66,8 @@ all_terms (more t none) n e h o = by (is_term t) refl o
 all_terms (more t (more u us)) zero e h o = absurd (omega arith)
 all_terms (more t (more u us)) (suc n) e h o = by (λ o. all_terms (more u us) n (omega arith) h o) (is_term t) refl o
   where
-    by : (none_is is_number (other_terms (more u us)) ≡ true → AreAllTerms (more u us)) → (b : Bool) → is_term t ≡ b → none_is is_number (if b then other_terms (more u us) else more t (more u us)) ≡ true → AreAllTerms (more t (more u us))
+    by : (none_is is_number (other_terms (more u us)) ≡ true → AreAllTerms (more u us)) → (b : Bool) → is_term t ≡ b
+        → none_is is_number (if b then other_terms (more u us) else more t (more u us)) ≡ true → AreAllTerms (more t (more u us))
     by again true f o =
         let r = again o in
         record { terms = and_from (is_term t) (are_terms (more u us)) f r.terms; number = ap (λ (b : Bool). if b then more t (number_terms (more u us)) else none) f ∙ ap (more t) r.number }
@@ -77,7 +78,7 @@ two_of ts h = grind arith
 
 number_two : (ts : Trees) → is_number (add ts) ≡ true → 2 ≤ count ts
 unfolding is_number
-number_two ts h = grind (arith, length-terms_of)
+number_two ts h = grind (arith, count_terms)
 
 pub record SumParts (ts : Trees) : Type 0 where
   pub two : has_two ts ≡ true
@@ -95,7 +96,7 @@ sum_parts ts h =
 sum_by_terms : (ts : Trees) → SumParts ts → AreAllTerms ts → is_number (add ts) ≡ true
 unfolding is_number
 sum_by_terms ts s a =
-    let l : 2 ≤ length (terms_of ts) = subst (λ (n : ℕ). 2 ≤ n) (sym (length-terms_of ts)) (two_of ts s.two) in
+    let l : 2 ≤ length (terms_of ts) = subst (λ (n : ℕ). 2 ≤ n) (sym (count_terms ts)) (two_of ts s.two) in
     and_from (nat_le 2 (length (terms_of ts)) && are_terms ts) (rises (terms_of ts)) (and_from (nat_le 2 (length (terms_of ts))) (are_terms ts) (le-leb 2 (length (terms_of ts)) l) a.terms) (ap (λ (us : Trees). rises (terms_of us)) (sym a.number) ∙ s.rising)
 
 not_by_terms : (ts : Trees) → are_terms ts ≡ false → is_number (add ts) ≡ false
@@ -117,7 +118,8 @@ reduced_sum ts n h e = by (sum_has_form ts h).0 (true_or_false (has_term_shape (
     parts : all_parts has_form (nth n ts) ≡ true
     parts = parts_nth has_form ts n (sum_has_form ts h).1 (omega arith)
 
-    by : (is_number (add ts) ≡ true) ⊎ (sum_form ts ≡ true) → (has_term_shape (nth n ts) ≡ true) ⊎ (has_term_shape (nth n ts) ≡ false) → has_term_shape (nth n ts) ≡ is_number (add ts)
+    by : (is_number (add ts) ≡ true) ⊎ (sum_form ts ≡ true) → (has_term_shape (nth n ts) ≡ true) ⊎ (has_term_shape (nth n ts) ≡ false)
+        → has_term_shape (nth n ts) ≡ is_number (add ts)
     by (inl f) (inl s) = s ∙ sym f
     by (inr f) (inl s) = let p = sum_parts ts f in s ∙ sym (sum_by_terms ts p (all_terms ts n e (shaped_number (nth n ts) parts s) p.others))
     by k (inr s) = s ∙ sym (not_by_terms ts (no_terms ts n (omega arith) (unshaped_term (nth n ts) s)))

@@ -1,6 +1,6 @@
 -- Terms, tested one by one.
-use Rattle.std.proofs.Common.{◌≡◌, ℕ, zero, suc, ◌+◌, ◌<◌, ◌≤◌, Bool, true, false, ◌&&◌, not, nat_lt, refl, sym, ap, ◌∙◌, arith, add-one}
-use Rattle.number_forms.proofs.Shared.{and_parts, is_term, are_terms, is_below_all, rises, terms_of, are_alike, Term, Trees, none, more, count, trees_from, nth}
+use Rattle.number_forms.proofs.Shared.{◌≡◌, ℕ, zero, suc, ◌+◌, ◌<◌, ◌≤◌, Bool, true, false, ◌&&◌, not, nat_lt, refl, sym, ap, ◌∙◌, arith, add-one, and_parts, is_term}
+use Rattle.number_forms.proofs.Shared.{are_terms, is_below_all, rises, terms_of, are_alike, Term, Trees, none, more, count, trees_from, nth}
 use Rattle.calc_algebra.specs.Numbers.{term_of}
 
 pub from_next : (ts : Trees) (n : ℕ) → n < count ts → trees_from n ts ≡ more (nth n ts) (trees_from (n + 1) ts)
@@ -35,7 +35,8 @@ terms_end ts n l = ap are_terms (from_end ts n l)
 
 -- ---- their radicands rise
 
-pub rises_next : (ts : Trees) (n : ℕ) → n < count ts → is_below_all (term_of (nth n ts)) (terms_of (trees_from (n + 1) ts)) ≡ true → rises (terms_of (trees_from n ts)) ≡ rises (terms_of (trees_from (n + 1) ts))
+pub rises_next : (ts : Trees) (n : ℕ) → n < count ts → is_below_all (term_of (nth n ts)) (terms_of (trees_from (n + 1) ts)) ≡ true
+    → rises (terms_of (trees_from n ts)) ≡ rises (terms_of (trees_from (n + 1) ts))
 rises_next ts n l h = grind (arith, from_next)
 
 pub no_rise : (ts : Trees) (n : ℕ) → n < count ts → is_below_all (term_of (nth n ts)) (terms_of (trees_from (n + 1) ts)) ≡ false → rises (terms_of (trees_from n ts)) ≡ false

@@ -1,16 +1,12 @@
 -- Two terms that stay apart, and their sum.
-use Rattle.std.proofs.Common.{◌≡◌, ◌<◌, ◌^◌, ◌++◌, [], ◌∷◌, Some, true, inl, inr, length, ap, ◌∙◌, sym, subst, arith}
-use Rattle.std.specs.Prelude.{slice_get}
-use Rattle.std.specs.declared.cmp.Ordering.{Ordering}
-use Rattle.std.specs.declared.cmp.Ordering.TheVariants.{Less, Equal, Greater}
-use Rattle.calc_algebra.proofs.CleanLaws.{clean_square_free}
-use Rattle.calc_algebra.proofs.NumberShapes.{AsNumber, as_number}
-use Rattle.calc_algebra.specs.Numbers.{term_of as term_of_tree}
-use Rattle.number_forms.proofs.Shared.{IsNumberOver, IsTerm, Rises, Surd, Term, Tree, add, classes, is_number, more, none, number_words, parts_append, parts_left, parts_right, term_of, value, Same-append_comm}
+use Rattle.number_forms.proofs.Worth.{some_term}
+use Rattle.number_forms.proofs.Shared.{◌≡◌, ◌<◌, ◌^◌, ◌++◌, [], ◌∷◌, Some, true, inl, inr, length, ap, ◌∙◌, sym, subst, arith, slice_get, Ordering, Less, Equal, Greater}
+use Rattle.number_forms.proofs.Shared.{clean_square_free, AsNumber, as_number, IsNumberOver, IsTerm, Rises, Surd, Term, Tree, add, classes, is_number, more, none, number_words, parts_append}
+use Rattle.number_forms.proofs.Shared.{parts_left, parts_right, term_of, value, Same-append_comm, AreRising, Ranks, RanksTerms}
 use Rattle.number_forms.proofs.Over.{over_as}
 use Rattle.number_forms.proofs.Shaped.{sum_number, term_value}
 use Rattle.number_forms.proofs.SquareFreeSums.{apart_small}
-use Rattle.number_forms.specs.Sums.{AreRising, Ranks, RanksTerms}
+use Rattle.calc_algebra.specs.Numbers.{term_of as term_of_tree}
 use Rattle.surd_terms.specs.declared.term.Term.{Term as CodeTerm}
 
 pub rising_terms : (a b : CodeTerm) → a.radicand < 10 ^ 12 → b.radicand < 10 ^ 12 → a.radicand < b.radicand → Rises (term_of a ∷ term_of b ∷ [])
@@ -21,9 +17,6 @@ rising_terms a b l m h =
 pub record IsOneTerm (t : Tree) (x : Term) : Type 0 where
   pub is : IsTerm t
   pub term : x ≡ term_of_tree t
-
-some_term : {x y : Term} → Some x ≡ Some y → x ≡ y
-some_term e = cc
 
 pub one_term : (t : Tree) (x : Term) → is_number t ≡ true → classes t ≡ 1 → slice_get (value t) 0 ≡ Some x → IsOneTerm t x
 one_term t x h k e = by (as_number t (number_words t h))

@@ -1,14 +1,16 @@
 -- How many bytes stand while Numbers are added, multiplied and raised, and for how few at hand a call is refused.
-use Rattle.std.proofs.Common.{◌≡◌, ℕ, zero, suc, ◌+◌, ◌*◌, ◌^◌, ◌<◌, ◌≤◌, List, length, [], ◌∷◌, ◌++◌, true, Some, Result, sym, ap, ◌∙◌, subst, arith}
-use Rattle.std.specs.Prelude.{IfOk, IfErr, slice_get}
-use Rattle.number_forms.proofs.Shared.{pow_pos, Fraction, plus, times, negative, zero_fraction, one_fraction, plus_comm, plus_assoc, times_comm, times_plus, zero_plus, zero_times, one_times, plus_negative, Tree, add, size, sizes, is_number, value, terms_of, classes, Same, Term, Surd, surd_scale, surd_times, surd_power, terms_proper, number_words, Same-Agree, Agree-Same, class_coefficient-append, class_coefficient-surd_scale, sum_need, product_need, power_need, inverse_need, IsSpanned, Spans, SpansTree, spans_append, spans_scale, spans_same_terms, value_spanned, sum_spanned, product_spanned, power_spanned, inverse_spanned, State, free_of, Full, IsNumberOf, inverse_trees, IsInverseOf, LacksInverse, OfFull, terms_from, joining_need, raising_need, IsSum, IsSumOf, replaced_free, children_of, Forest, tree_of, IsHanded, Gives, Stands, forest, NumberFault, given_told}
-use Rattle.calc_room.proofs.NumberBytes.{number_bytes, partial_bytes}
+use Rattle.number_forms.proofs.Worth.{some_term}
+use Rattle.number_forms.proofs.Shared.{◌≡◌, ℕ, zero, suc, ◌+◌, ◌*◌, ◌^◌, ◌<◌, ◌≤◌, List, length, [], ◌∷◌, ◌++◌, true, Some, Result, sym, ap, ◌∙◌, subst}
+use Rattle.number_forms.proofs.Shared.{arith, IfOk, IfErr, slice_get, pow_pos, Fraction, plus, times, negative, zero_fraction, one_fraction, plus_comm, plus_assoc, times_comm, times_plus, zero_plus}
+use Rattle.number_forms.proofs.Shared.{zero_times, one_times, plus_negative, Tree, add, size, sizes, is_number, value, terms_of, classes, Same, Term, Surd, surd_scale, surd_times, surd_power}
+use Rattle.number_forms.proofs.Shared.{terms_proper, number_words, Same-Agree, Agree-Same, class_coefficient-append, class_coefficient-surd_scale, sum_need, product_need, power_need, inverse_need}
+use Rattle.number_forms.proofs.Shared.{IsSpanned, Spans, SpansTree, spans_append, spans_scale, spans_same_terms, value_spanned, sum_spanned, product_spanned, power_spanned, inverse_spanned, State}
+use Rattle.number_forms.proofs.Shared.{free_of, Full, IsNumberOf, inverse_trees, IsInverseOf, LacksInverse, OfFull, terms_from, joining_need, raising_need, IsSum, IsSumOf, replaced_free, children_of}
+use Rattle.number_forms.proofs.Shared.{Forest, tree_of, IsHanded, Gives, Stands, forest, NumberFault, given_told, number_bytes, partial_bytes, joint_need, Joint}
 use Rattle.number_forms.proofs.LastSums.{sum_is}
 use Rattle.number_forms.proofs.Loops.{IsSumWith, IsJoined}
 use Rattle.number_forms.proofs.Placings.{lacking_below}
 use Rattle.number_forms.proofs.SumChanges.{sum_value}
-use Rattle.number_forms.specs.Joints.{joint_need}
-use Rattle.number_forms.specs.declared.calculating.Joint.{Joint}
 use Rattle.number_forms.specs.declared.calculating.Joint.TheVariants as joint
 
 -- ---- facts of a refusal
@@ -42,15 +44,12 @@ spans_from gs v zero h = h
 spans_from gs [] (suc n) h = tt
 spans_from gs (x ∷ v) (suc n) (h, hs) = spans_from gs v n hs
 
-some_term : {x y : Term} → Some x ≡ Some y → x ≡ y
-some_term e = cc
-
 pub spans_nth : (gs : List ℕ) (v : Surd) (n : ℕ) (x : Term) → slice_get v n ≡ Some x → Spans gs v → IsSpanned gs x.radicand
 spans_nth gs [] n x e h = absurd cc
 spans_nth gs (y ∷ v) zero x e (h, hs) = subst (λ (t : Term). IsSpanned gs t.radicand) (some_term e) h
 spans_nth gs (y ∷ v) (suc n) x e (h, hs) = spans_nth gs v n x e hs
 
-sum_parts : (t : Tree) → IsSum t → IsSum (add (children_of t))
+pub sum_parts : (t : Tree) → IsSum t → IsSum (add (children_of t))
 sum_parts t h = subst IsSum (sum_is t h) h
 
 pub partial_spanned : (gs : List ℕ) (left whole : Surd) (t : Tree) → IsSumWith left whole t → Spans gs whole → Spans gs left → Spans gs (value t)
@@ -64,18 +63,21 @@ partial_size : (gs : List ℕ) (left whole : Surd) (t : Tree) → IsSumWith left
 partial_size gs left whole t h w l =
     let p = sum_parts t h.sum in
     let same = subst (λ (v : Surd). Same v (whole ++ surd_scale minus_one left)) (sum_value t h.sum) (without_rest (value t) left whole h.worth) in
-    let bytes : size (add (children_of t)) + 48 ≤ 96 * 2 ^ length gs = partial_bytes gs (children_of t) _ p.0 p.1 same (spans_append gs whole (surd_scale minus_one left) w (spans_scale gs minus_one left l)) in
+    let bytes : size (add (children_of t)) + 48 ≤ 96 * 2 ^ length gs =
+    partial_bytes gs (children_of t) _ p.0 p.1 same (spans_append gs whole (surd_scale minus_one left) w (spans_scale gs minus_one left l)) in
     omega (arith, ap size (sum_is t h.sum), bytes)
 
 -- a term found no room beside the sum so far
-pub term_lacks : (gs : List ℕ) {i : ℕ} {left whole : Surd} {old now : State} → IsJoined i left whole old now → Stands old → IsHanded i (forest old) → Spans gs whole → Spans gs left → free_of now < 96
+pub term_lacks : (gs : List ℕ) {i : ℕ} {left whole : Surd} {old now : State} → IsJoined i left whole old now → Stands old → IsHanded i (forest old) → Spans gs whole → Spans gs left
+    → free_of now < 96
     → free_of old + size (tree_of i old) < joining_need * 2 ^ length gs
 term_lacks gs {i} {left} {whole} {old} {now} j st o w l few =
     let bytes = partial_size gs left whole (tree_of i now) (given_told j.gives) w l in
     omega (arith, replaced_free st j.stands j.kept o j.gives, bytes, few)
 
 -- a row of products found none
-pub row_lacks : (gs : List ℕ) {i : ℕ} {left whole : Surd} {old now : State} → IsJoined i left whole old now → Stands old → IsHanded i (forest old) → free_of now + size (tree_of i now) < joining_need * 2 ^ length gs
+pub row_lacks : (gs : List ℕ) {i : ℕ} {left whole : Surd} {old now : State} → IsJoined i left whole old now → Stands old → IsHanded i (forest old)
+    → free_of now + size (tree_of i now) < joining_need * 2 ^ length gs
     → free_of old + size (tree_of i old) < joining_need * 2 ^ length gs
 row_lacks gs j st o few = omega (arith, replaced_free st j.stands j.kept o j.gives, few)
 
@@ -97,7 +99,8 @@ sum_spans_same gs a t h k s =
 pub sum_spans : (gs : List ℕ) (a b t : Tree) → is_number a ≡ true → is_number b ≡ true → IsNumberOf (value a ++ value b) t → SpansTree gs a → SpansTree gs b → SpansTree gs t
 sum_spans gs a b t h k n = sum_spanned gs a b t (number_words a h) (number_words b k) (number_words t n.number) n.worth
 
-pub product_spans : (gs : List ℕ) (a b t : Tree) → is_number a ≡ true → is_number b ≡ true → IsNumberOf (surd_times (value a) (value b)) t → SpansTree gs a → SpansTree gs b → SpansTree gs t
+pub product_spans : (gs : List ℕ) (a b t : Tree) → is_number a ≡ true → is_number b ≡ true → IsNumberOf (surd_times (value a) (value b)) t → SpansTree gs a → SpansTree gs b
+    → SpansTree gs t
 product_spans gs a b t h k n = product_spanned gs a b t (number_words a h) (number_words b k) (number_words t n.number) n.worth
 
 pub power_spans : (gs : List ℕ) (a t : Tree) (n : ℕ) → is_number a ≡ true → IsNumberOf (surd_power (value a) n) t → SpansTree gs a → SpansTree gs t
@@ -107,21 +110,25 @@ pub inverse_spans : (gs : List ℕ) (a t : Tree) → is_number a ≡ true → cl
 inverse_spans gs a t h c k = inverse_spanned gs a t (number_words a h) (number_words t k.number) c k.inverts
 
 -- the answer of a call
-pub answer_spans : (gs : List ℕ) {P : Tree → Type 0} (r : Result ℕ NumberFault) (g : Forest) (s : State) → IfOk r (λ h. Gives g (forest s) h P) → ((t : Tree) → P t → SpansTree gs t) → IfOk r (λ h. SpansTree gs (tree_of h s))
+pub answer_spans : (gs : List ℕ) {P : Tree → Type 0} (r : Result ℕ NumberFault) (g : Forest) (s : State) → IfOk r (λ h. Gives g (forest s) h P) → ((t : Tree) → P t → SpansTree gs t)
+    → IfOk r (λ h. SpansTree gs (tree_of h s))
 answer_spans gs r g s e k = grind (arith, given_told)
 
 -- ---- bytes at hand
 
-pub sum_lacks_two : (gs : List ℕ) (free : ℕ) (a b : Tree) → is_number a ≡ true → is_number b ≡ true → SpansTree gs a → SpansTree gs b → free < 8 → free + size a + size b < sum_need * 2 ^ length gs
+pub sum_lacks_two : (gs : List ℕ) (free : ℕ) (a b : Tree) → is_number a ≡ true → is_number b ≡ true → SpansTree gs a → SpansTree gs b → free < 8
+    → free + size a + size b < sum_need * 2 ^ length gs
 sum_lacks_two gs free a b h k s t l = omega (arith, number_size gs a h s, number_size gs b k t, pow_pos (length gs))
 
 pub sum_lacks : (gs : List ℕ) (bytes : ℕ) (b : Tree) → is_number b ≡ true → SpansTree gs b → bytes < joining_need * 2 ^ length gs → bytes + size b < sum_need * 2 ^ length gs
 sum_lacks gs bytes b k t l = omega (arith, number_size gs b k t, pow_pos (length gs))
 
-pub product_lacks : (gs : List ℕ) (free : ℕ) (a b : Tree) → is_number a ≡ true → is_number b ≡ true → SpansTree gs a → SpansTree gs b → free < joining_need * 2 ^ length gs → free + size a + size b < product_need * 2 ^ length gs
+pub product_lacks : (gs : List ℕ) (free : ℕ) (a b : Tree) → is_number a ≡ true → is_number b ≡ true → SpansTree gs a → SpansTree gs b → free < joining_need * 2 ^ length gs
+    → free + size a + size b < product_need * 2 ^ length gs
 product_lacks gs free a b h k s t l = omega (arith, number_size gs a h s, number_size gs b k t, pow_pos (length gs))
 
-pub step_lacks : (gs : List ℕ) (free left : ℕ) (t : Tree) → is_number t ≡ true → SpansTree gs t → free ≡ left + size t → left < joining_need * 2 ^ length gs → free < raising_need * 2 ^ length gs
+pub step_lacks : (gs : List ℕ) (free left : ℕ) (t : Tree) → is_number t ≡ true → SpansTree gs t → free ≡ left + size t → left < joining_need * 2 ^ length gs
+    → free < raising_need * 2 ^ length gs
 step_lacks gs free left t h s e l = omega (arith, number_size gs t h s, pow_pos (length gs))
 
 pub few_for_raising : (gs : List ℕ) (free : ℕ) → free < joining_need * 2 ^ length gs → free < raising_need * 2 ^ length gs

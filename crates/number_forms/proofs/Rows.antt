@@ -1,12 +1,13 @@
 -- Rows of products, as they are joined or refused.
-use Rattle.std.proofs.Common.{◌≡◌, ℕ, [], ◌∷◌, ◌++◌, map, refl, ap, subst}
-use Rattle.number_forms.proofs.Shared.{Same, value, Term, Surd, term_times, Tree, terms_from, JoinOverflows, ProductJoinOverflows, IsSumOf, Overflow, IsExtracted}
+use Rattle.number_forms.proofs.Shared.{◌≡◌, ℕ, [], ◌∷◌, ◌++◌, map, refl, ap, subst, Same, value, Term, Surd, term_times, Tree, terms_from, JoinOverflows, ProductJoinOverflows}
+use Rattle.number_forms.proofs.Shared.{IsSumOf, Overflow, IsExtracted}
 use Rattle.number_forms.proofs.Denominators.{parts_extracted}
 use Rattle.number_forms.proofs.Loops.{IsSumWith}
 use Rattle.number_forms.proofs.Worth.{same_first}
 
 -- a product of the row is not joined to the sum so far
-pub product_join_overflows : {v w left : Surd} {x y : Term} {at : ℕ} {o : Overflow} → left ≡ terms_from at w → (p : Term) (t : Tree) → IsExtracted p (term_times x y) → IsSumWith (map (term_times x) left) (v ++ map (term_times x) w) t → JoinOverflows t p o → ProductJoinOverflows v x w at y o
+pub product_join_overflows : {v w left : Surd} {x y : Term} {at : ℕ} {o : Overflow} → left ≡ terms_from at w → (p : Term) (t : Tree) → IsExtracted p (term_times x y)
+    → IsSumWith (map (term_times x) left) (v ++ map (term_times x) w) t → JoinOverflows t p o → ProductJoinOverflows v x w at y o
 product_join_overflows {v} {w} {left} {x} {y} {at} {o} e p t h told j =
     let here : IsSumWith (map (term_times x) (terms_from at w)) (v ++ map (term_times x) w) t = subst (λ (l : Surd). IsSumWith (map (term_times x) l) (v ++ map (term_times x) w) t) e told in
     record { product = p; extracted = h; partial = t; sum = here.sum; worth = here.worth; parts = here.parts; joined = j }

@@ -1,13 +1,9 @@
 -- Numbers from sums of terms, and sums of terms from Numbers.
-use Rattle.std.proofs.Common.{◌≡◌, ◌≢◌, ℕ, zero, suc, ◌≤◌, ◌<◌, [], ◌∷◌, length, Some, Bool, true, if◌then◌else◌, refl, sym, ap, ◌∙◌, subst, arith}
-use Rattle.std.specs.Prelude.{slice_get, pos}
-use Rattle.number_forms.proofs.Shared.{Fraction, lowest, int_is_zero, IsNumber, IsTerm, AreTerms, Rises, is_number, terms_of, value, Surd, surd_of, Tree, num, add, Trees, none, more, count, zero_test, whole_numerator, number_test, number_words, Same-refl, Same-eq, IsNumberOver, IsSum, IsSumOf, nth, children_of}
+use Rattle.number_forms.proofs.Shared.{◌≡◌, ◌≢◌, ℕ, zero, suc, ◌≤◌, ◌<◌, [], ◌∷◌, length, Some, Bool, true, if◌then◌else◌, refl, sym, ap, ◌∙◌, subst, arith}
+use Rattle.number_forms.proofs.Shared.{slice_get, pos, Fraction, lowest, int_is_zero, IsNumber, IsTerm, AreTerms, Rises, is_number, terms_of, value, Surd, surd_of, Tree, num, add, Trees, none, more}
+use Rattle.number_forms.proofs.Shared.{count, zero_test, whole_numerator, number_test, number_words, Same-refl, Same-eq, IsNumberOver, IsSum, IsSumOf, nth, children_of, count_terms}
 use Rattle.calc_algebra.specs.Numbers.{term_of}
 use Rattle.number_forms.proofs.Denominators.{shares_eq}
-
-pub length-terms_of : (ts : Trees) → length (terms_of ts) ≡ count ts
-length-terms_of none = refl
-length-terms_of (more t ts) = ap suc (length-terms_of ts)
 
 -- ---- from a sum
 
@@ -27,7 +23,7 @@ pub single_number : (t : Tree) → IsTerm t → IsNumberOver (term_of t ∷ []) 
 single_number t h = record { number = number_test t (term_number t h); worth = Same-eq (term_value t h); parts = shares_eq (sym (term_value t h)) }
 
 pub sum_number : (ts : Trees) → 2 ≤ count ts → AreTerms ts → Rises (terms_of ts) → IsNumberOver (terms_of ts) (add ts)
-sum_number ts l a r = grind (arith, number_test, length-terms_of, Same-refl)
+sum_number ts l a r = grind (arith, number_test, count_terms, Same-refl)
 
 -- ---- from a Number
 

@@ -1,16 +1,15 @@
 -- Sums of terms whose radicands are so small that each class has one.
-use Rattle.std.proofs.Common.{◌∷◌, [], ◌≡◌, ℕ, zero, suc, ◌<◌, ◌≤◌, ◌^◌, ◌⊎◌, inl, inr, false, ap, ◌∙◌, subst, arith}
-use Rattle.number_forms.proofs.Shared.{false_from_ne_true, IsClean, IsBelowAll, Rises, terms_of, are_alike, Term, SharesDenominators, Tree, Trees, none, more, add, count, IsSum, IsApart, IsPlace, AreBelow, joined_den, nth, children_of}
+use Rattle.number_forms.proofs.Rooms.{sum_parts}
+use Rattle.number_forms.proofs.Shared.{◌∷◌, [], ◌≡◌, ℕ, zero, suc, ◌<◌, ◌≤◌, ◌^◌, ◌⊎◌, inl, inr, false, ap, ◌∙◌, subst, arith, false_from_ne_true, IsClean}
+use Rattle.number_forms.proofs.Shared.{IsBelowAll, Rises, terms_of, are_alike, Term, SharesDenominators, Tree, Trees, none, more, add, count, IsSum, IsApart, IsPlace, AreBelow, joined_den, nth}
+use Rattle.number_forms.proofs.Shared.{children_of, IsSquareFree, clean_square_free, alike_square_free, term_simplest, Joined}
 use Rattle.calc_algebra.specs.Numbers.{term_of}
-use Rattle.calc_algebra.proofs.CleanLaws.{IsSquareFree, clean_square_free, alike_square_free}
-use Rattle.calc_algebra.proofs.NumberUniqueness.{term_simplest}
 use Rattle.number_forms.proofs.Joined.{apart_each}
 use Rattle.number_forms.proofs.LastSums.{sum_is}
 use Rattle.number_forms.proofs.Shaped.{nth_is_term}
 use Rattle.surd_terms.specs.Sums.{Joins, IfTerm, IsSum as IsSumOfTwo}
 use Rattle.surd_terms.specs.Terms.{term_of as term_of_code}
 use Rattle.surd_terms.specs.declared.term.Term.{Term as CodeTerm}
-use Rattle.surd_terms.specs.declared.sums.Joined.{Joined}
 use Rattle.surd_terms.specs.declared.sums.Joined.TheVariants as joined
 
 -- ---- a term that was read
@@ -25,7 +24,8 @@ pub read_joined : (j k : Joined) (s x : Term) (u v : Tree) → j ≡ k → Joins
 read_joined j k s x u v e h f g = subst (λ (i : Joined). Joins i (term_of v) x) e (subst (λ (t : Term). Joins j t x) (f ∙ ap term_of g) h)
 
 -- the one term that two make is over their common denominators
-pub read_parts : (j : Joined) (t : CodeTerm) (s x : Term) (u v : Tree) → j ≡ joined.Term t → IfTerm j (λ y. IsSumOfTwo y s x) → s ≡ term_of u → u ≡ v → SharesDenominators (term_of v ∷ x ∷ []) (term_of_code t ∷ [])
+pub read_parts : (j : Joined) (t : CodeTerm) (s x : Term) (u v : Tree) → j ≡ joined.Term t → IfTerm j (λ y. IsSumOfTwo y s x) → s ≡ term_of u → u ≡ v
+    → SharesDenominators (term_of v ∷ x ∷ []) (term_of_code t ∷ [])
 read_parts j t s x u v e h f g = λ d p.
     let sum : IsSumOfTwo (term_of_code t) (term_of v) x = subst (λ (y : Term). IsSumOfTwo (term_of_code t) y x) (f ∙ ap term_of g) (subst (λ (k : Joined). IfTerm k (λ y. IsSumOfTwo y s x)) e h) in
     record { positive = p.positive; whole = (joined_den (term_of_code t) (term_of v) x d sum p, tt) }
@@ -49,9 +49,6 @@ rises_nth zero zero (more t ts) h k l = absurd (omega arith)
 rises_nth zero (suc n) (more t ts) (b, h) k l = nth_above (term_of t) n ts b (omega arith)
 rises_nth (suc m) zero (more t ts) h k l = absurd (omega arith)
 rises_nth (suc m) (suc n) (more t ts) (b, h) k l = rises_nth m n ts h (omega arith) (omega arith)
-
-sum_parts : (t : Tree) → IsSum t → IsSum (add (children_of t))
-sum_parts t h = subst IsSum (sum_is t h) h
 
 pub rises_in_sum : (t : Tree) (m n : ℕ) → IsSum t → m < n → n < count (children_of t) → (term_of (nth m (children_of t))).radicand < (term_of (nth n (children_of t))).radicand
 rises_in_sum t m n h k l = rises_nth m n (children_of t) (sum_parts t h).1 k l

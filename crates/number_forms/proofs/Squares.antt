@@ -1,8 +1,8 @@
 -- The square of a sum of terms, in which each mixed product stands once: what it is worth, how large it is and what spans it.
-use Rattle.std.proofs.Common.{◌≡◌, ℕ, ◌+◌, ◌*◌, ◌^◌, ◌≤◌, List, [], ◌∷◌, ◌++◌, map, ap, ◌∙◌, arith, append_assoc}
-use Rattle.number_forms.proofs.Shared.{Same, Term, Surd, term, term_times, surd_times, Agree, Agree-refl, Agree-trans, Agree-eq, Agree-append, Agree-Same, surd_times_comm, Parts, SharesDenominators, term_mass, mass_from, mass, IsHeld, mass-append, parts_append, parts_left, parts_right, IsSpanned, Spans, spans_append, spans_row, times_comm, twice, square_row, square_terms}
+use Rattle.number_forms.proofs.Shared.{◌≡◌, ℕ, ◌+◌, ◌*◌, ◌^◌, ◌≤◌, List, [], ◌∷◌, ◌++◌, map, ap, ◌∙◌, arith, append_assoc, Same, Term, Surd, term, term_times}
+use Rattle.number_forms.proofs.Shared.{surd_times, Agree, Agree-refl, Agree-trans, Agree-eq, Agree-append, Agree-Same, surd_times_comm, Parts, SharesDenominators, term_mass, mass_from, mass, IsHeld}
+use Rattle.number_forms.proofs.Shared.{mass-append, parts_append, parts_left, parts_right, IsSpanned, Spans, spans_append, spans_row, times_comm, twice, square_row, square_terms, mul_comm}
 use Rattle.number_forms.proofs.Twice.{twice_agrees, whole_twice, twice_mass}
-use native.Mathlib.Nat.{mul_comm}
 
 -- ---- worth
 
@@ -44,8 +44,10 @@ turned x y = λ i. term (times_comm y.coefficient x.coefficient i) (mul_comm y.r
 rows_mass : (m e : ℕ) (u : Surd) (x : Term) (w : Surd) → mass_from m e (surd_times u (x ∷ w)) ≡ mass_from m e (map (term_times x) u) + mass_from m e (surd_times u w)
 rows_mass m e [] x w = omega arith
 rows_mass m e (y ∷ u) x w =
-    let a : mass_from m e ((term_times y x ∷ map (term_times y) w) ++ surd_times u (x ∷ w)) ≡ mass_from m e (term_times y x ∷ map (term_times y) w) + mass_from m e (surd_times u (x ∷ w)) = mass-append m e (term_times y x ∷ map (term_times y) w) (surd_times u (x ∷ w)) in
-    let b : mass_from m e (map (term_times y) w ++ surd_times u w) ≡ mass_from m e (map (term_times y) w) + mass_from m e (surd_times u w) = mass-append m e (map (term_times y) w) (surd_times u w) in
+    let a : mass_from m e ((term_times y x ∷ map (term_times y) w) ++ surd_times u (x ∷ w)) ≡ mass_from m e (term_times y x ∷ map (term_times y) w) + mass_from m e (surd_times u (x ∷ w)) =
+    mass-append m e (term_times y x ∷ map (term_times y) w) (surd_times u (x ∷ w)) in
+    let b : mass_from m e (map (term_times y) w ++ surd_times u w) ≡ mass_from m e (map (term_times y) w) + mass_from m e (surd_times u w) =
+    mass-append m e (map (term_times y) w) (surd_times u w) in
     let c : mass_from m e (surd_times u (x ∷ w)) ≡ mass_from m e (map (term_times x) u) + mass_from m e (surd_times u w) = rows_mass m e u x w in
     let t : term_mass m e (term_times y x) ≡ term_mass m e (term_times x y) = ap (term_mass m e) (turned x y) in
     omega arith
@@ -58,7 +60,8 @@ square_mass m e (x ∷ w) p =
     let a : mass_from m e (square_row x w ++ square_terms w) ≡ mass_from m e (square_row x w) + mass_from m e (square_terms w) = mass-append m e (square_row x w) (square_terms w) in
     let b : mass_from m e (map (term_times (twice x)) w) ≤ 2 * mass_from m e (map (term_times x) w) = twice_mass m e x w row.whole.1 in
     let c : mass_from m e (square_terms w) ≤ mass_from m e (surd_times w w) = square_mass m e w (whole_rows e w x w q) in
-    let f : mass_from m e ((term_times x x ∷ map (term_times x) w) ++ surd_times w (x ∷ w)) ≡ mass_from m e (term_times x x ∷ map (term_times x) w) + mass_from m e (surd_times w (x ∷ w)) = mass-append m e (term_times x x ∷ map (term_times x) w) (surd_times w (x ∷ w)) in
+    let f : mass_from m e ((term_times x x ∷ map (term_times x) w) ++ surd_times w (x ∷ w)) ≡ mass_from m e (term_times x x ∷ map (term_times x) w) + mass_from m e (surd_times w (x ∷ w)) =
+    mass-append m e (term_times x x ∷ map (term_times x) w) (surd_times w (x ∷ w)) in
     let g : mass_from m e (surd_times w (x ∷ w)) ≡ mass_from m e (map (term_times x) w) + mass_from m e (surd_times w w) = rows_mass m e w x w in
     omega arith
 

@@ -1,22 +1,23 @@
 -- A sum that stands last: as it is read, with a term more, and with a term less.
-use Rattle.std.proofs.Common.{arith, ◌≡◌, ℕ, ◌<◌, [], ◌∷◌, ◌++◌, true, refl, sym, ap, ◌∙◌, subst}
-use Rattle.number_forms.proofs.Shared.{IsTerm, AreTerms, Rises, is_term, terms_of, value, Same, are_alike, Term, Surd, AreWholeOver, Parts, SharesDenominators, Tree, Trees, none, more, add, count, IsProper, term_words, Same-trans, Same-refl, Same-eq, Same-cons, Same-append, Same-to_front, State, IsSum, IsSumOf, IsApart, IsPlace, removed, nth, plain, children_of, inserted, Forest, arity, kids, with_nth, without_nth, tree_nth, IsHanded, Represents, Ends, Gives, tree_at, kids_of, root_tree, without_root, put, Stands, forest, represents_handed, represents_with, given_root, given_handed, given_told, given_rest, given_same, last_tree, last_rest, expression_root, plain_root, seen}
+use Rattle.number_forms.proofs.Shared.{arith, ◌≡◌, ℕ, ◌<◌, [], ◌∷◌, ◌++◌, true, refl, sym, ap, ◌∙◌, subst, IsTerm, AreTerms, Rises, is_term, terms_of, value, Same}
+use Rattle.number_forms.proofs.Shared.{are_alike, Term, Surd, AreWholeOver, Parts, SharesDenominators, Tree, Trees, none, more, add, count, IsProper, term_words, Same-trans, Same-refl, Same-eq}
+use Rattle.number_forms.proofs.Shared.{Same-cons, Same-append, Same-to_front, State, IsSum, IsSumOf, IsApart, IsPlace, removed, nth, plain, children_of, inserted, Forest, arity, kids, with_nth}
+use Rattle.number_forms.proofs.Shared.{without_nth, tree_nth, IsHanded, Represents, Ends, Gives, tree_at, kids_of, root_tree, without_root, put, Stands, forest, represents_handed, represents_with}
+use Rattle.number_forms.proofs.Shared.{given_root, given_handed, given_told, given_rest, given_same, last_tree, last_rest, expression_root, plain_root, seen, IsMatch, Match, term_test}
 use Rattle.calc_algebra.specs.Numbers.{term_of}
-use Rattle.number_forms.specs.Joins.{IsMatch}
-use Rattle.number_forms.specs.declared.joining.Match.{Match}
 use Rattle.number_forms.proofs.ByKind.{children_number}
 use Rattle.number_forms.proofs.Denominators.{whole_inserted, whole_removed, whole_nth}
 use Rattle.number_forms.proofs.Joined.{are_inserted, rises_inserted, same_inserted, are_removed, rises_removed, same_removed, apart_removed, alike_sum}
 use Rattle.number_forms.proofs.LastSums.{kids_represented, represents_without, sum_is, resum, gives_at}
 use Rattle.number_forms.proofs.Shaped.{nth_is_term}
-use Rattle.number_forms.proofs.TermTrees.{term_test}
 
 -- ---- as it is read
 
 pub read_sum : {g : Forest} (j i : ℕ) (s : State) → j ≡ i → Stands s → Gives g (forest s) i IsSum → IsSum (plain (tree_at j (forest s)))
 read_sum j i s e st h = subst IsSum (sym (seen e st (given_handed h))) (given_told h)
 
-pub read_place : (j i n r x : ℕ) (s : State) → j ≡ i → Stands s → IsHanded i (forest s) → r ≡ x → IsPlace n r (children_of (plain (tree_at j (forest s)))) → IsPlace n x (children_of (plain (root_tree i (forest s))))
+pub read_place : (j i n r x : ℕ) (s : State) → j ≡ i → Stands s → IsHanded i (forest s) → r ≡ x → IsPlace n r (children_of (plain (tree_at j (forest s))))
+    → IsPlace n x (children_of (plain (root_tree i (forest s))))
 read_place j i n r x s e st h q p = subst (λ (t : Tree). IsPlace n x (children_of t)) (seen e st h) (subst (λ (y : ℕ). IsPlace n y (children_of (plain (tree_at j (forest s))))) q p)
 
 pub many_kids : (i : ℕ) (s : State) → Stands s → IsHanded i (forest s) → arity (kids_of i (forest s)) ≡ count (children_of (plain (root_tree i (forest s))))
@@ -30,7 +31,8 @@ sum_value t h = ap value (sum_is t h)
 
 -- ---- a term more
 
-pub inserted_of : (n : ℕ) (t : Term) (u : Tree) (ts : Trees) (v : Surd) → IsTerm u → term_of u ≡ t → v ≡ terms_of ts → 0 < t.radicand → IsApart t.radicand v → IsPlace n t.radicand ts → AreTerms ts → Rises (terms_of ts)
+pub inserted_of : (n : ℕ) (t : Term) (u : Tree) (ts : Trees) (v : Surd) → IsTerm u → term_of u ≡ t → v ≡ terms_of ts → 0 < t.radicand → IsApart t.radicand v → IsPlace n t.radicand ts
+    → AreTerms ts → Rises (terms_of ts)
     → IsSumOf (t ∷ v) (add (inserted n (more u none) ts))
 inserted_of n t u ts v w e q o a p are rises =
     let radicand : t.radicand ≡ (term_of u).radicand = ap (λ (x : Term). x.radicand) (sym e) in
@@ -88,7 +90,8 @@ whole_left : (d n : ℕ) (t u : Tree) → IsSum t → u ≡ add (removed n (chil
 whole_left d n t u h e a = subst (AreWholeOver d) (sym (ap value e)) (whole_removed d n (children_of t) (subst (AreWholeOver d) (sum_value t h) a))
 
 -- the two terms cancelled
-pub cancelled : (n : ℕ) (t u : Tree) (s : Term) → IsSum t → n < count (children_of t) → Same [] (term_of (nth n (children_of t)) ∷ s ∷ []) → u ≡ add (removed n (children_of t)) → IsSumOf (s ∷ value t) u
+pub cancelled : (n : ℕ) (t u : Tree) (s : Term) → IsSum t → n < count (children_of t) → Same [] (term_of (nth n (children_of t)) ∷ s ∷ []) → u ≡ add (removed n (children_of t))
+    → IsSumOf (s ∷ value t) u
 cancelled n t u s h l k e = record {
   sum = removed_is_sum n t u h e;
   parts = λ d p. record { positive = p.positive; whole = whole_left d n t u h e p.whole.1 };
@@ -96,7 +99,8 @@ cancelled n t u s h l k e = record {
 }
 
 -- a term of the two took their place
-pub made_one : (n : ℕ) (t u x : Tree) (s j : Term) → IsSum t → n < count (children_of t) → Same (j ∷ []) (term_of (nth n (children_of t)) ∷ s ∷ []) → SharesDenominators (term_of (nth n (children_of t)) ∷ s ∷ []) (j ∷ [])
+pub made_one : (n : ℕ) (t u x : Tree) (s j : Term) → IsSum t → n < count (children_of t) → Same (j ∷ []) (term_of (nth n (children_of t)) ∷ s ∷ [])
+    → SharesDenominators (term_of (nth n (children_of t)) ∷ s ∷ []) (j ∷ [])
     → u ≡ add (removed n (children_of t)) → IsSumOf (j ∷ value u) x → IsSumOf (s ∷ value t) x
 made_one n t u x s j h l k f e w = record {
   sum = w.sum;
@@ -113,6 +117,7 @@ made_one n t u x s j h l k f e w = record {
 pub matched : (t : Term) (u v : Tree) (m n : Match) → u ≡ v → m ≡ n → IsMatch t (children_of u) m → IsMatch t (children_of v) n
 matched t u v m n e f h = subst (λ (x : Match). IsMatch t (children_of v) x) f (subst (λ (x : Tree). IsMatch t (children_of x) m) e h)
 
-pub apart_rest : (n : ℕ) (t u : Tree) (s j : Term) → IsSum t → n < count (children_of t) → IsProper j → are_alike (term_of (nth n (children_of t))).radicand s.radicand ≡ true → Same (j ∷ []) (term_of (nth n (children_of t)) ∷ s ∷ [])
+pub apart_rest : (n : ℕ) (t u : Tree) (s j : Term) → IsSum t → n < count (children_of t) → IsProper j → are_alike (term_of (nth n (children_of t))).radicand s.radicand ≡ true
+    → Same (j ∷ []) (term_of (nth n (children_of t)) ∷ s ∷ [])
     → u ≡ add (removed n (children_of t)) → IsApart j.radicand (value u)
 apart_rest n t u s j h l p a k e = grind (arith, sum_is, apart_removed, alike_sum)

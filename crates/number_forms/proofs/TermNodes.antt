@@ -1,11 +1,8 @@
 -- The first nodes of a tree tell whether it has a term's shape.
-use Rattle.std.proofs.Common.{◌≡◌, ◌≢◌, ◌⊎◌, inl, inr, ℕ, List, ◌++◌, append_assoc, true, false, ◌&&◌, map, refl, sym, ap, ◌∙◌, arith, drop}
-use Rattle.number_forms.proofs.Shared.{Fraction, Tree, Trees, none, more, num, mult, root, has_term_shape, root_kind, count, children_of, nth, grown, takes, plain, plains, count-plains, eqb-true, AllExpressions, Payload, rational, named, bare, Forest, empty, tree, arity}
-use Rattle.number_forms.specs.Shapes.{first_kind, is_multiple_next, is_num_kind, is_number_next, is_root_kind, is_root_of_num}
-use Rattle.calc_terms.specs.Node.{Node}
-use Rattle.calc_terms.specs.Payload.{kind_of_payload}
-use Rattle.tree_handles.specs.Forest.{flatten}
-use Rattle.tree_handles.specs.Visits.{visit_of, visits_of}
+use Rattle.number_forms.proofs.Shared.{◌≡◌, ◌≢◌, ◌⊎◌, inl, inr, ℕ, List, ◌++◌, append_assoc, true, false, ◌&&◌, map, refl, sym, ap, ◌∙◌, arith, drop, Fraction, Tree}
+use Rattle.number_forms.proofs.Shared.{Trees, none, more, num, mult, root, has_term_shape, root_kind, count, children_of, nth, grown, takes, plain, plains, count-plains, eqb-true, AllExpressions}
+use Rattle.number_forms.proofs.Shared.{Payload, rational, named, bare, Forest, empty, tree, arity, first_kind, is_multiple_next, is_num_kind, is_number_next, is_root_kind, is_root_of_num, Node}
+use Rattle.number_forms.proofs.Shared.{kind_of_payload, flatten, visit_of, visits_of, no_trees}
 use Rattle.calc_terms.specs.declared.kind.Kind.TheVariants as kind
 
 -- ---- by the kind of the root
@@ -42,7 +39,8 @@ root_is x ts e = grind arith
 root_takes : (x : Payload) (n : ℕ) → kind_of_payload x ≡ kind.Root → takes x n ≡ true → n ≡ 1
 root_takes x n e h = grind (arith, eqb-true)
 
-root_over : (x : Payload) (k : Forest) (rest : List Node) → takes x (arity k) ≡ true → AllExpressions k → kind_of_payload x ≡ kind.Root → is_number_next (map visit_of (flatten k ++ rest)) ≡ is_root_of_num (grown x (plains k))
+root_over : (x : Payload) (k : Forest) (rest : List Node) → takes x (arity k) ≡ true → AllExpressions k → kind_of_payload x ≡ kind.Root
+    → is_number_next (map visit_of (flatten k ++ rest)) ≡ is_root_of_num (grown x (plains k))
 root_over x k rest h w e = under_root k rest (root_takes x (arity k) e h) w ∙ ap is_root_of_num (sym (root_is x (plains k) e))
 
 root_shape : (t : Tree) → root_kind t ≡ kind.Root → is_root_of_num t ≡ has_term_shape t
@@ -64,7 +62,8 @@ is_root : (x : Payload) → (kind_of_payload x ≡ kind.Root) ⊎ (kind_of_paylo
 is_root x = grind arith
 
 -- the second factor
-second : (x : Payload) (k : Forest) (rest : List Node) → takes x (arity k) ≡ true → AllExpressions k → (is_root_kind (kind_of_payload x) && is_number_next (map visit_of (flatten k ++ rest))) ≡ is_root_of_num (grown x (plains k))
+second : (x : Payload) (k : Forest) (rest : List Node) → takes x (arity k) ≡ true → AllExpressions k
+    → (is_root_kind (kind_of_payload x) && is_number_next (map visit_of (flatten k ++ rest))) ≡ is_root_of_num (grown x (plains k))
 second x k rest h w = elim (is_root x) [
   | inl e ↦ ap (λ c. is_root_kind c && is_number_next (map visit_of (flatten k ++ rest))) e ∙ root_over x k rest h w e
   | inr e ↦ let (a, b) = no_root x (plains k) (arity k) h e in ap (λ c. c && is_number_next (map visit_of (flatten k ++ rest))) a ∙ sym b
@@ -82,11 +81,8 @@ only_one none e = absurd (omega arith)
 only_one (more t none) e = refl
 only_one (more t (more u ts)) e = absurd (omega arith)
 
-no_child : (j : Forest) → arity j ≡ 0 → j ≡ empty
-no_child empty e = refl
-no_child (tree l k r) e = absurd (omega arith)
-
-not_num : (x : Payload) (ts us : Trees) (n : ℕ) → takes x n ≡ true → kind_of_payload x ≢ kind.Num → (is_num_kind (kind_of_payload x) ≡ false) × (has_term_shape (mult (more (grown x ts) us)) ≡ false)
+not_num : (x : Payload) (ts us : Trees) (n : ℕ) → takes x n ≡ true → kind_of_payload x ≢ kind.Num
+    → (is_num_kind (kind_of_payload x) ≡ false) × (has_term_shape (mult (more (grown x ts) us)) ≡ false)
 not_num x ts us n h e = grind arith
 
 num_is : (x : Payload) (ts : Trees) (n : ℕ) → takes x n ≡ true → kind_of_payload x ≡ kind.Num → (n ≡ 0) × (q : Fraction) × (grown x ts ≡ num q)
@@ -105,7 +101,7 @@ both : (x : Payload) (j s : Forest) (rest : List Node) → takes x (arity j) ≡
 both x j s rest h a w = elim (is_number_kind x) [
   | inl e ↦
       let (n, q, g) = num_is x (plains j) (arity j) h e in
-      let nodes : (flatten j ++ flatten s) ++ rest ≡ flatten s ++ rest = ap (λ (f : Forest). (flatten f ++ flatten s) ++ rest) (no_child j n) in
+      let nodes : (flatten j ++ flatten s) ++ rest ≡ flatten s ++ rest = ap (λ (f : Forest). (flatten f ++ flatten s) ++ rest) (no_trees j n) in
       ap (λ c. is_num_kind c && (is_root_kind (first_kind (map visit_of ((flatten j ++ flatten s) ++ rest))) && is_number_next (drop 1 (map visit_of ((flatten j ++ flatten s) ++ rest))))) e
       ∙ ap (λ (ns : List Node). is_root_kind (first_kind (map visit_of ns)) && is_number_next (drop 1 (map visit_of ns))) nodes
       ∙ behind_number s rest a w ∙ multiple_shape q (nth 0 (plains s)) ∙ sym (λ i. has_term_shape (mult (more (g i) (only_one (plains s) (count-plains s ∙ a) i))))
@@ -127,6 +123,7 @@ product_over x k rest w e n =
     let is = product_is x (plains k) e in
     two_factors k rest w (ap (λ (t : Tree). count (children_of t)) (sym is) ∙ n) ∙ ap has_term_shape (sym is)
 
-pub product_has_shape : (f : Forest) → AllExpressions f → root_kind (plain f) ≡ kind.Mult → count (children_of (plain f)) ≡ 2 → is_multiple_next (drop 1 (visits_of f)) ≡ has_term_shape (plain f)
+pub product_has_shape : (f : Forest) → AllExpressions f → root_kind (plain f) ≡ kind.Mult → count (children_of (plain f)) ≡ 2
+    → is_multiple_next (drop 1 (visits_of f)) ≡ has_term_shape (plain f)
 product_has_shape empty h e n = absurd cc
 product_has_shape (tree l k r) h e n = product_over l.payload k (flatten r) h.1 e n

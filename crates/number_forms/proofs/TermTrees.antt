@@ -1,18 +1,10 @@
 -- Terms as trees, and trees as terms.
-use Rattle.std.proofs.Common.{◌≡◌, ◌≢◌, ℕ, ◌≤◌, ◌<◌, inl, inr, true, false, not, [], Result, sym, ap, ◌∙◌, arith}
-use Rattle.std.specs.Prelude.{ℤ, pos, nat_abs, IfOk}
-use Rattle.number_forms.proofs.Shared.{IsClean, Rat, Fraction, lowest, zero_fraction, one_fraction, whole_fraction, fraction_path, IsTerm, IsRadicand, is_term, is_number, natural_of, value, classes, ratio_of, value_of, Term, term, Tree, num, mult, root, none, more, root_kind, is_add, zero_test, whole_numerator, whole_denominator, number_test, number_words, int_is_zero, is_zero, ratio_parts, Forest, Gives}
+use Rattle.number_forms.proofs.Shared.{◌≡◌, ◌≢◌, ℕ, ◌≤◌, ◌<◌, inl, inr, true, false, not, [], Result, sym, ap, ◌∙◌, arith, ℤ, pos, nat_abs, IfOk, IsClean, Rat}
+use Rattle.number_forms.proofs.Shared.{Fraction, lowest, zero_fraction, one_fraction, whole_fraction, fraction_path, IsTerm, IsRadicand, is_term, is_number, natural_of, value, classes, ratio_of}
+use Rattle.number_forms.proofs.Shared.{value_of, Term, term, Tree, num, mult, root, none, more, root_kind, is_add, zero_test, whole_numerator, whole_denominator, number_test, number_words, term_test}
+use Rattle.number_forms.proofs.Shared.{int_is_zero, is_zero, ratio_parts, Forest, Gives, Ratio, whole, AsNumber, as_number}
 use Rattle.calc_algebra.specs.Numbers.{term_of}
-use Rattle.calc_terms.specs.Ratio.{Ratio, whole}
-use Rattle.calc_algebra.proofs.NumberShapes.{AsNumber, as_number}
 use Rattle.calc_terms.specs.declared.kind.Kind.TheVariants as kind
-
-pub term_test : (t : Tree) → IsTerm t → is_term t ≡ true
-unfolding is_number
-term_test (num q) h = ap not (zero_test q h)
-term_test (root a) h = number_test (root a) h
-term_test (mult ts) h = number_test (mult ts) h
-term_test _ h = absurd h
 
 -- ---- from a term
 
@@ -22,7 +14,8 @@ whole_radicand n l c = (whole_denominator (pos n), n, whole_numerator (pos n), l
 pub rational_tree : (q : Fraction) (s : Term) (t : Tree) → q ≡ s.coefficient → s.coefficient ≢ zero_fraction → s.radicand ≡ 1 → t ≡ num q → (is_term t ≡ true) × (term_of t ≡ s)
 rational_tree q s t c z r e = (ap is_term e ∙ term_test (num q) (λ k. z (sym c ∙ k)), ap term_of e ∙ (λ i. term (c i) (sym r i)))
 
-pub root_tree : (n : ℕ) (s : Term) (t : Tree) → one_fraction ≡ s.coefficient → n ≡ s.radicand → 2 ≤ n → IsClean n → t ≡ root (num (whole_fraction (pos n))) → (is_term t ≡ true) × (term_of t ≡ s)
+pub root_tree : (n : ℕ) (s : Term) (t : Tree) → one_fraction ≡ s.coefficient → n ≡ s.radicand → 2 ≤ n → IsClean n → t ≡ root (num (whole_fraction (pos n)))
+    → (is_term t ≡ true) × (term_of t ≡ s)
 root_tree n s t c r l h e = (ap is_term e ∙ term_test (root (num (whole_fraction (pos n)))) (whole_radicand n l h), ap term_of e ∙ (λ i. term (c i) ((ap natural_of (whole_numerator (pos n)) ∙ r) i)))
 
 pub multiple_tree : (q : Fraction) (n : ℕ) (s : Term) (t : Tree) → q ≡ s.coefficient → s.coefficient ≢ zero_fraction → q ≢ one_fraction → n ≡ s.radicand → 2 ≤ n → IsClean n
@@ -36,10 +29,6 @@ if_gives r f g P Q e k = grind arith
 
 pub whole_is : (r : Rat) (n : ℤ) → ratio_of r ≡ whole n → value_of r ≡ whole_fraction n
 whole_is r n e = ap (λ (x : Ratio). lowest x.num x.den) e
-
-pub one_value : (r : Rat) → ratio_of r ≡ whole (pos 1) → value_of r ≡ one_fraction
-unfolding one_fraction
-one_value r e = whole_is r (pos 1) e
 
 pub is_one_value : (r : Rat) → (ratio_of r).num ≡ pos 1 → (ratio_of r).den ≡ 1 → value_of r ≡ one_fraction
 unfolding one_fraction
@@ -72,6 +61,3 @@ nonzero_term t h k z = by (as_number t (number_words t h))
     by (inl a) = absurd (let x : is_zero t ≡ true = ap is_zero a.is ∙ ap int_is_zero (whole_numerator (pos 0)) in cc (x, z))
     by (inr (inl s)) = s.one
     by (inr (inr s)) = absurd (let x : is_add t ≡ true = ap is_add s.is in cc (x, k))
-
-pub zero_value : (t : Tree) → is_zero t ≡ true → value t ≡ []
-zero_value t h = grind arith

@@ -1,10 +1,10 @@
 -- Terms that are added to themselves, and what that does to their products.
-use Rattle.std.proofs.Common.{◌≡◌, ◌≢◌, ℕ, ◌+◌, ◌*◌, ◌/◌, ◌^◌, ◌≤◌, ◌<◌, ◌*ℤ◌, max, [], ◌∷◌, ◌++◌, map, true, pos, refl, sym, ap, ◌∙◌, subst, arith}
-use Rattle.std.specs.Prelude.{nat_abs}
-use Rattle.number_forms.proofs.Shared.{IsGcd, unsigned_abs-mul, dvd-mul_right, Term, Surd, term_times, IsProper, Agree, class_coefficient-append, class_coefficient-map, AreWholeOver, magnitude_over, root_above, term_mass, mass_from, sum_fits_over, abs_cross, cancel_right, coprime, multiple_den, over_den, plus_over, root_scale, sum_fits, times_comm, times_plus, one_times, Fraction, lowest, plus, times, one_fraction, zero_fraction, whole_fraction, times_lowest, den_pos, mul_pos, gauss, whole_numerator, twice, DoesNotFit, ratio_parts, magnitude_whole, magnitude_positive, IsExtracted, term_of}
-use Rattle.std.specs.Int.{◌∣◌}
-use Rattle.std.proofs.lemmas.Nat.Gcd.{le_of_dvd, dvd_refl}
-use Rattle.rational128.proofs.Coprime.{IsCoprime, IsCoprime-from_gcd, IsGcd-from_coprime, IsCoprime-swap, IsCoprime-mul}
+use Rattle.number_forms.proofs.Shared.{◌≡◌, ◌≢◌, ℕ, ◌+◌, ◌*◌, ◌/◌, ◌^◌, ◌≤◌, ◌<◌, ◌*ℤ◌, max, [], ◌∷◌, ◌++◌, map, true, pos, refl, sym, ap}
+use Rattle.number_forms.proofs.Shared.{◌∙◌, subst, arith, nat_abs, IsGcd, unsigned_abs-mul, dvd-mul_right, Term, Surd, term_times, IsProper, Agree, class_coefficient-append}
+use Rattle.number_forms.proofs.Shared.{class_coefficient-map, AreWholeOver, magnitude_over, root_above, term_mass, mass_from, sum_fits_over, abs_cross, cancel_right, coprime, multiple_den, over_den}
+use Rattle.number_forms.proofs.Shared.{plus_over, root_scale, sum_fits, times_comm, times_plus, one_times, Fraction, lowest, plus, times, one_fraction, zero_fraction, whole_fraction, times_lowest}
+use Rattle.number_forms.proofs.Shared.{den_pos, mul_pos, gauss, whole_numerator, twice, DoesNotFit, ratio_parts, magnitude_whole, magnitude_positive, IsExtracted, term_of, ◌∣◌, le_of_dvd}
+use Rattle.number_forms.proofs.Shared.{dvd_refl, IsCoprime, IsCoprime-from_gcd, IsGcd-from_coprime, IsCoprime-swap, IsCoprime-mul}
 use Rattle.surd_terms.specs.declared.term.Term.{Term as CodeTerm}
 use Rattle.rational128.specs.declared.overflow.Op.TheVariants as Op
 
@@ -66,7 +66,8 @@ term_twice_mass m e x y h =
     let n : ℕ = magnitude_over e q in
     let r : ℕ = x.radicand * y.radicand in
     let k : magnitude_over e (times (plus x.coefficient x.coefficient) y.coefficient) ≡ n * 2 = ap (magnitude_over e) (times_doubled x.coefficient y.coefficient) ∙ doubled_magnitude q e h in
-    let same : magnitude_over e (times (plus x.coefficient x.coefficient) y.coefficient) * magnitude_over e (times (plus x.coefficient x.coefficient) y.coefficient) * r ≡ 2 * 2 * (n * n * r) = ap (λ a. a * a * r) k ∙ twice_square n r in
+    let same : magnitude_over e (times (plus x.coefficient x.coefficient) y.coefficient) * magnitude_over e (times (plus x.coefficient x.coefficient) y.coefficient) * r ≡ 2 * 2 * (n * n * r) =
+    ap (λ a. a * a * r) k ∙ twice_square n r in
     twice_max m (root_above (n * n * r)) _ (subst (λ a. root_above a ≤ 2 * root_above (n * n * r)) (sym same) (root_scale 2 (n * n * r)))
 
 pub twice_mass : (m e : ℕ) (x : Term) (w : Surd) → AreWholeOver e (map (term_times x) w) → mass_from m e (map (term_times (twice x)) w) ≤ 2 * mass_from m e (map (term_times x) w)

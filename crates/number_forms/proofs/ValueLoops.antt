@@ -1,9 +1,9 @@
 -- Lists to which terms are joined one by one.
-use Rattle.std.proofs.Common.{◌≡◌, ℕ, zero, suc, ◌+◌, ◌<◌, ◌≤◌, List, [], ◌∷◌, ◌++◌, length, get_or, drop, refl, sym, ap, ◌∙◌, arith, add-one}
-use Rattle.number_forms.proofs.Shared.{Same, Same-refl, SharesDenominators, Surd, Term, term_of}
+use Rattle.number_forms.proofs.Shared.{◌≡◌, ℕ, zero, suc, ◌+◌, ◌<◌, ◌≤◌, List, [], ◌∷◌, ◌++◌, length, get_or, drop, refl, sym, ap, ◌∙◌, arith, add-one, Same}
+use Rattle.number_forms.proofs.Shared.{Same-refl, SharesDenominators, Surd, Term, term_of, AreListed, AreTermsOf}
 use Rattle.number_forms.proofs.Denominators.{parts_end, parts_part, parts_step}
 use Rattle.number_forms.proofs.Worth.{join_end, join_step, part_step}
-use Rattle.number_forms.specs.Values.{AreListed, AreTermsOf, surd_of}
+use Rattle.number_forms.specs.Values.{surd_of}
 use Rattle.surd_terms.specs.declared.term.Term.{Term as CodeTerm}
 
 -- with what is left, terms are worth the whole, over the common denominators of the whole
@@ -22,7 +22,8 @@ with_step {left} {rest} {whole} {ts} {us} y e h k = record {
   parts = parts_step (surd_of ts) (surd_of us) left rest whole y e h.parts k.parts;
 }
 
-pub with_part : {left rest whole : Surd} {ts us : List CodeTerm} (row : Surd) → left ≡ row ++ rest → AreTermsOf (surd_of ts ++ row) us → AreTermsWith left whole ts → AreTermsWith rest whole us
+pub with_part : {left rest whole : Surd} {ts us : List CodeTerm} (row : Surd) → left ≡ row ++ rest → AreTermsOf (surd_of ts ++ row) us → AreTermsWith left whole ts
+    → AreTermsWith rest whole us
 with_part {left} {rest} {whole} {ts} {us} row e h k = record {
   listed = h.listed;
   worth = part_step (surd_of ts) (surd_of us) left row rest whole e h.worth k.worth;

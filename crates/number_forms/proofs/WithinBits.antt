@@ -1,16 +1,16 @@
 -- No operation overflows on Numbers whose sum, product, power or inverse has few bits.
-use Rattle.std.proofs.Common.{◌≡◌, ℕ, zero, suc, ◌+◌, ◌*◌, ◌/◌, ◌^◌, ◌≤◌, ◌<◌, [], ◌∷◌, ◌++◌, Bool, true, false, Some, None, inl, inr, pos, map, max, if◌then◌else◌, refl, sym, ap, ◌∙◌, subst, arith, append_assoc}
-use Rattle.std.specs.Prelude.{slice_get}
-use Rattle.number_forms.proofs.Shared.{Rises, is_number, terms_of, value, Same, Term, Surd, term_times, surd_times, IsProper, AreProper, terms_proper, value_proper, value_rises, number_words, map-append', surd_times-append, HasFewBits, SharesDenominators, magnitude_over, root_above, term_mass, mass, IsHeld, held_so_far, held_left, held_right, held_pair, gcd, whole_fraction, Tree, add, count, terms_from, SumOverflows, RowOverflows, ProductOverflows, InverseOverflows, inverting_calculations, IsSum, Overflow, Calculation, calculation, calculation_of, first_misfit, has_rational, radicand_calculations, joining_calculations, IsProductMisfit, IsExtracted, magnitude_whole, radicands_fit, extracted_fits, extracted_den, children_of, nth}
+use Rattle.number_forms.proofs.Shared.{◌≡◌, ℕ, zero, suc, ◌+◌, ◌*◌, ◌/◌, ◌^◌, ◌≤◌, ◌<◌, [], ◌∷◌, ◌++◌, Bool, true, false, Some, None, inl, inr, pos, map}
+use Rattle.number_forms.proofs.Shared.{max, if◌then◌else◌, refl, sym, ap, ◌∙◌, subst, arith, append_assoc, slice_get, Rises, is_number, terms_of, value, Same, Term, Surd, term_times}
+use Rattle.number_forms.proofs.Shared.{surd_times, IsProper, AreProper, terms_proper, value_proper, value_rises, number_words, map-append', surd_times-append, HasFewBits, SharesDenominators}
+use Rattle.number_forms.proofs.Shared.{magnitude_over, root_above, term_mass, mass, IsHeld, held_so_far, held_left, held_right, held_pair, gcd, whole_fraction, Tree, add, count, terms_from}
+use Rattle.number_forms.proofs.Shared.{SumOverflows, RowOverflows, ProductOverflows, InverseOverflows, inverting_calculations, IsSum, Overflow, Calculation, calculation, calculation_of, first_misfit}
+use Rattle.number_forms.proofs.Shared.{has_rational, radicand_calculations, joining_calculations, IsProductMisfit, IsExtracted, magnitude_whole, radicands_fit, extracted_fits, extracted_den}
+use Rattle.number_forms.proofs.Shared.{children_of, nth, Mul, inverse_fits, inverse_of_sum_fits, joins_fit, passed}
 use Rattle.calc_algebra.specs.Numbers.{term_of}
 use Rattle.number_forms.proofs.LastSums.{sum_is}
 use Rattle.number_forms.proofs.Shaped.{nth_of_terms}
 use Rattle.number_forms.proofs.SumChanges.{sum_value}
 use Rattle.number_forms.proofs.Worth.{from_next, products_next}
-use Rattle.rational128.specs.declared.overflow.Op.TheVariants.{Mul}
-use Rattle.surd_bits.proofs.InversesFit.{inverse_fits, inverse_of_sum_fits}
-use Rattle.surd_bits.proofs.JoinsFit.{joins_fit}
-use Rattle.surd_bits.proofs.Passed.{passed}
 
 -- ---- lists by places
 
@@ -41,7 +41,8 @@ pub sum_rises : (t : Tree) → IsSum t → Rises (value t)
 sum_rises t h = let s : IsSum (add (children_of t)) = subst IsSum (sum_is t h) h in subst Rises (sym (sum_value t h)) s.1
 
 -- a term of the sum with the one behind it
-pub pair_held : (t : Tree) (b : Term) (rest : Surd) (at h l : ℕ) → IsSum t → at < count (children_of t) → IsHeld (value t ++ (b ∷ rest)) h l → IsHeld (term_of (nth at (children_of t)) ∷ b ∷ []) h l
+pub pair_held : (t : Tree) (b : Term) (rest : Surd) (at h l : ℕ) → IsSum t → at < count (children_of t) → IsHeld (value t ++ (b ∷ rest)) h l
+    → IsHeld (term_of (nth at (children_of t)) ∷ b ∷ []) h l
 pair_held t b rest at h l is within k =
     let ts : Surd = terms_of (children_of t) in
     let a : Term = term_of (nth at (children_of t)) in
@@ -52,7 +53,8 @@ pub no_misfit : (a b : Term) (h l : ℕ) (o : Overflow) → IsHeld (a ∷ b ∷ 
 no_misfit a b h l o k few m = let n : first_misfit (joining_calculations a b) ≡ None = joins_fit a b h l k few in cc
 
 -- the sum so far, with what is left
-pub so_far : (t : Tree) (v w : Surd) (h l : ℕ) (whole : Surd) → whole ≡ v ++ w → IsSum t → Same (value t ++ w) whole → SharesDenominators whole (value t ++ w) → IsHeld whole h l → IsHeld (value t ++ w) h l
+pub so_far : (t : Tree) (v w : Surd) (h l : ℕ) (whole : Surd) → whole ≡ v ++ w → IsSum t → Same (value t ++ w) whole → SharesDenominators whole (value t ++ w) → IsHeld whole h l
+    → IsHeld (value t ++ w) h l
 so_far t v w h l whole e k s f m = grind (arith, held_so_far, sum_proper, sum_rises)
 
 pub sum_within : (v w : Surd) (o : Overflow) → HasFewBits (v ++ w) → SumOverflows v w o → ⊥
@@ -70,7 +72,8 @@ rest_positive n root rest p e = grind arith
 product_positive : (a b : ℕ) → 0 < a → 0 < b → 0 < a * b
 product_positive a b h k = grind arith
 
-pub no_product_misfit : (a b : Term) (h l : ℕ) (c : Calculation) → IsProper a → IsProper b → IsHeld (term_times a b ∷ []) h l → 2 * h + 4 * l ≤ 124 → IsProductMisfit a b (Some c) → ⊥
+pub no_product_misfit : (a b : Term) (h l : ℕ) (c : Calculation) → IsProper a → IsProper b → IsHeld (term_times a b ∷ []) h l → 2 * h + 4 * l ≤ 124 → IsProductMisfit a b (Some c)
+    → ⊥
 no_product_misfit a b h l c p q k few m =
     let root : a.radicand * b.radicand ≡ m.root * m.root * m.rest = m.square radicands in
     let rest : 0 < m.rest = rest_positive (a.radicand * b.radicand) m.root m.rest (product_positive a.radicand b.radicand p.positive q.positive) root in
@@ -104,7 +107,8 @@ extracted_held a t u h l x k = record {
     same : mass k.scale (a ∷ t ∷ []) ≡ mass k.scale (a ∷ u ∷ [])
     same = ap (λ n. term_mass k.scale k.scale a + (max k.scale (root_above n) + 0)) (ap (λ n. n * n * t.radicand) magnitude ∙ square (magnitude_over k.scale u.coefficient) x.root t.radicand u.radicand x.square)
 
-pub row_within : (p : Tree) (x : Term) (w : Surd) (h l : ℕ) (o : Overflow) → IsSum p → IsProper x → AreProper w → IsHeld (value p ++ map (term_times x) w) h l → 2 * h + 4 * l ≤ 124 → RowOverflows (value p) x w o → ⊥
+pub row_within : (p : Tree) (x : Term) (w : Surd) (h l : ℕ) (o : Overflow) → IsSum p → IsProper x → AreProper w → IsHeld (value p ++ map (term_times x) w) h l → 2 * h + 4 * l ≤ 124
+    → RowOverflows (value p) x w o → ⊥
 row_within p x w h l o is proper are k few r = elim r.cause [
   | inl m ↦
       let row : IsHeld (map (term_times x) w) h l = held_right (value p) (map (term_times x) w) h l k in
@@ -118,7 +122,8 @@ row_within p x w h l o is proper are k few r = elim r.cause [
       let whole : value p ++ map (term_times x) w ≡ (value p ++ done) ++ left =
       ap (λ (v : Surd). value p ++ v) (ap (map (term_times x)) (before_from r.at w) ∙ map-append' (term_times x) (before r.at w) (terms_from r.at w)) ∙ sym (append_assoc (value p) done left) in
       let held : IsHeld (value j.partial ++ left) h l = so_far j.partial (value p ++ done) left h l (value p ++ map (term_times x) w) whole j.sum j.worth j.parts k in
-      let next : IsHeld (value j.partial ++ (term_times x r.other ∷ map (term_times x) (terms_from (suc r.at) w))) h l = subst (λ (v : Surd). IsHeld (value j.partial ++ v) h l) (products_next x w r.at r.other r.here) held in
+      let next : IsHeld (value j.partial ++ (term_times x r.other ∷ map (term_times x) (terms_from (suc r.at) w))) h l =
+      subst (λ (v : Surd). IsHeld (value j.partial ++ v) h l) (products_next x w r.at r.other r.here) held in
       let a : Term = term_of (nth j.joined.at (children_of j.partial)) in
       let pair : IsHeld (a ∷ term_times x r.other ∷ []) h l = pair_held j.partial (term_times x r.other) (map (term_times x) (terms_from (suc r.at) w)) j.joined.at h l j.sum j.joined.within next in
       no_misfit a j.product h l o (extracted_held a j.product (term_times x r.other) h l j.extracted pair) few j.joined.misfit

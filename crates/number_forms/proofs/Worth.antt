@@ -1,13 +1,12 @@
 -- What a sum is worth, from one joined term to the next.
-use Rattle.std.proofs.Common.{◌≡◌, ℕ, zero, suc, ◌-◌, ◌≤◌, [], ◌∷◌, ◌++◌, Some, map, refl, ap, ◌∙◌, subst, append_assoc, arith}
-use Rattle.std.specs.Prelude.{slice_get}
-use Rattle.number_forms.proofs.Shared.{Same, Term, Surd, term_times, surd_times, Same-trans, Same-Agree, Agree-sym, Agree-Same, Same-refl, Same-eq, Same-append, Same-append_comm, Same-to_front}
+use Rattle.number_forms.proofs.Shared.{◌≡◌, ℕ, zero, suc, ◌-◌, ◌≤◌, [], ◌∷◌, ◌++◌, Some, map, refl, ap, ◌∙◌, subst, append_assoc, arith, slice_get, Same, Term, Surd}
+use Rattle.number_forms.proofs.Shared.{term_times, surd_times, Same-trans, Same-Agree, Agree-sym, Agree-Same, Same-refl, Same-eq, Same-append, Same-append_comm, Same-to_front}
 pub use Rattle.number_forms.specs.Overflows.{terms_from}
 
 pub Same-sym : {v w : Surd} → Same v w → Same w v
 Same-sym h = Agree-Same (Agree-sym (Same-Agree h))
 
-some_term : {x y : Term} → Some x ≡ Some y → x ≡ y
+pub some_term : {x y : Term} → Some x ≡ Some y → x ≡ y
 some_term e = cc
 
 pub from_next : (v : Surd) (n : ℕ) (x : Term) → slice_get v n ≡ Some x → terms_from n v ≡ x ∷ terms_from (suc n) v

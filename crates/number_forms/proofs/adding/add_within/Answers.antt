@@ -1,5 +1,7 @@
-use Rattle.std.proofs.Common.{◌≡◌, ℕ, inl, sym, ap, ◌∙◌, subst, arith, ◌+◌, ◌*◌, ◌^◌, ◌<◌, length}
-use Rattle.number_forms.proofs.Shared.{is_number, value, Same-trans, Same-append, Same-eq, lists_at, lists_listed, other_plain, gives_without, gives_rest, kept_after, overflow_as, tree_of, IsHanded, plain, without_root, forest, behind_first, behind_later, behind_new, front_same, front_at, front_without, front_after_one, given_handed, given_told, given_rest, given_other, gives_as, handed_beside, handed_at, owned, tree-without, SumOverflows, OfOverflow, passed_on, sum_need, Spans, Surd, size, free_of, LacksRoom, joining_need, replaced_free, both_replaced_free, expression}
+use Rattle.number_forms.proofs.Shared.{◌≡◌, ℕ, inl, sym, ap, ◌∙◌, subst, arith, ◌+◌, ◌*◌, ◌^◌, ◌<◌, length, is_number, value, Same-trans, Same-append, Same-eq, lists_at}
+use Rattle.number_forms.proofs.Shared.{lists_listed, other_plain, gives_without, gives_rest, kept_after, overflow_as, tree_of, IsHanded, plain, without_root, forest, behind_first, behind_later}
+use Rattle.number_forms.proofs.Shared.{behind_new, front_same, front_at, front_without, front_after_one, given_handed, given_told, given_rest, given_other, gives_as, handed_beside, handed_at, owned}
+use Rattle.number_forms.proofs.Shared.{tree-without, SumOverflows, OfOverflow, passed_on, sum_need, Spans, Surd, size, free_of, LacksRoom, joining_need, replaced_free, both_replaced_free, expression}
 use Rattle.number_forms.proofs.Denominators.{shares_eq}
 use Rattle.number_forms.proofs.Over.{over_as, shares_append}
 use Rattle.number_forms.proofs.Overflows.{sum_overflows_as}

@@ -1,4 +1,4 @@
-use Rattle.std.proofs.Common.{arith}
+use Rattle.number_forms.proofs.Shared.{arith}
 use Rattle.number_forms.proofs.RisingPairs.{rising_terms}
 use Rattle.number_forms.proofs.adding.order_of.Goals as goal
 

@@ -1,5 +1,4 @@
-use Rattle.std.proofs.Common.{ap, ◌∙◌}
-use Rattle.number_forms.proofs.Shared.{is_num, tree_of}
+use Rattle.number_forms.proofs.Shared.{ap, ◌∙◌, is_num, tree_of}
 use Rattle.number_forms.proofs.Kept.{no_neutral}
 use Rattle.number_forms.proofs.calculating.calculate.Goals.{else-is_rational-via-then-is_rational+else-is_rational-2, else-is_rational-via-else-is_rational}
 use Rattle.number_forms.proofs.calculating.calculate.Goals as goal

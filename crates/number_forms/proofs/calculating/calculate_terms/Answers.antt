@@ -1,9 +1,5 @@
-use Rattle.std.proofs.Common.{refl, subst, sym, ◌∙◌}
-use Rattle.std.specs.Prelude.{IfErr}
-use Rattle.number_forms.proofs.Shared.{tree_of, gives_as, without-swap}
+use Rattle.number_forms.proofs.Shared.{refl, subst, sym, ◌∙◌, IfErr, tree_of, gives_as, without-swap, LacksJointRoom, Joint}
 use Rattle.number_forms.proofs.Kept.{with_neutral, neutral_with}
-use Rattle.number_forms.specs.Joints.{LacksJointRoom}
-use Rattle.number_forms.specs.declared.calculating.Joint.{Joint}
 use Rattle.number_forms.proofs.calculating.calculate_terms.Goals as goal
 
 pub returns-then-is_neutral-clause-ok : goal.returns-then-is_neutral-clause-ok

@@ -1,5 +1,6 @@
-use Rattle.std.proofs.Common.{◌≡◌, sym, ap, ◌∙◌, arith, [], ◌∷◌, ◌≤◌, ◌+◌, refl}
-use Rattle.number_forms.proofs.Shared.{value, Tree, more, none, size, inverse_trees, LacksInverse, OfFull, num_least, building, OnlyLacksLongForm, inverse_of, tree_of, term_of, behind_first, front_same, front_at, front_without, front_after, gives_as, owned, InverseOverflows, inverting_calculations, OfOverflow, passed_on, first_misfit, calculation_of, Term, free_of, released_free, term_tree}
+use Rattle.number_forms.proofs.Shared.{◌≡◌, sym, ap, ◌∙◌, arith, [], ◌∷◌, ◌≤◌, ◌+◌, refl, value, Tree, more, none, size, inverse_trees, LacksInverse, OfFull, num_least}
+use Rattle.number_forms.proofs.Shared.{building, OnlyLacksLongForm, inverse_of, tree_of, term_of, behind_first, front_same, front_at, front_without, front_after, gives_as, owned, InverseOverflows}
+use Rattle.number_forms.proofs.Shared.{inverting_calculations, OfOverflow, passed_on, first_misfit, calculation_of, Term, free_of, released_free, term_tree}
 use Rattle.number_forms.proofs.InverseSteps.{only_term, inverse_term, tree_of_one, fits_as, unfit, has_inverse, room_for, lacks_inverse}
 use Rattle.number_forms.proofs.Placings.{number_alone, rational_radicand, rational_term, refused, given_tree}
 use Rattle.number_forms.proofs.inverting.invert_one.Goals.{After-nth_term}
@@ -31,7 +32,8 @@ only c =
     only_term (value (tree_of c.args.a c.args.pool.now)) (term_of c.nth_term.result) c.requires.classes c.nth_term.ensures
 
 pub returns-in_err-inverse-clause-rational : goal.returns-in_err-inverse-clause-rational
-returns-in_err-inverse-clause-rational c = λ q e. absurd (cc (c.in_err-inverse.ensures.rational (rational_radicand (tree_of c.args.a c.args.pool.now) q _ e (only (goal.at.returns-in_err-inverse-clause-rational c).After-nth_term))))
+returns-in_err-inverse-clause-rational c =
+    λ q e. absurd (cc (c.in_err-inverse.ensures.rational (rational_radicand (tree_of c.args.a c.args.pool.now) q _ e (only (goal.at.returns-in_err-inverse-clause-rational c).After-nth_term))))
 
 pub returns-in_err-place_term-clause-rational : goal.returns-in_err-place_term-clause-rational
 returns-in_err-place_term-clause-rational c = λ q e.

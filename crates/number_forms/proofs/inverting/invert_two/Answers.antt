@@ -1,5 +1,6 @@
-use Rattle.std.proofs.Common.{◌≡◌, ◌≤◌, ◌+◌, [], ◌∷◌, refl, sym, ap, ◌∙◌, arith}
-use Rattle.number_forms.proofs.Shared.{value, Tree, more, none, size, Term, free_of, inverse_trees, LacksInverse, OfFull, sum_of_terms, first_of_inverse, second_of_inverse, released_free, InverseOverflows, inverting_calculations, OfOverflow, passed_on, first_misfit, calculation_of, tree_of, term_of, behind_first, front_same, front_at, front_without, front_after, gives_as, owned}
+use Rattle.number_forms.proofs.Shared.{◌≡◌, ◌≤◌, ◌+◌, [], ◌∷◌, refl, sym, ap, ◌∙◌, arith, value, Tree, more, none, size, Term, free_of, inverse_trees, LacksInverse, OfFull}
+use Rattle.number_forms.proofs.Shared.{sum_of_terms, first_of_inverse, second_of_inverse, released_free, InverseOverflows, inverting_calculations, OfOverflow, passed_on, first_misfit, calculation_of}
+use Rattle.number_forms.proofs.Shared.{tree_of, term_of, behind_first, front_same, front_at, front_without, front_after, gives_as, owned}
 use Rattle.number_forms.proofs.InverseSteps.{both_terms, apart_terms, inverse_number, two_rise, tree_of_two, fits_as, unfit, has_inverse, room_for, lacks_inverse}
 use Rattle.number_forms.proofs.Placings.{refused, given_tree}
 use Rattle.number_forms.proofs.inverting.invert_two.Goals.{After-nth_term-second}
@@ -13,7 +14,8 @@ both c =
     let y = term_of c.nth_term-second.result in
     both_terms (value sum) x y c.requires.classes c.nth_term-first.ensures c.nth_term-second.ensures
 
-made : (c : After-nth_term-second) (p q : Term) → p ≡ first_of_inverse (term_of c.nth_term-first.result) (term_of c.nth_term-second.result) → q ≡ second_of_inverse (term_of c.nth_term-first.result) (term_of c.nth_term-second.result)
+made : (c : After-nth_term-second) (p q : Term) → p ≡ first_of_inverse (term_of c.nth_term-first.result) (term_of c.nth_term-second.result)
+    → q ≡ second_of_inverse (term_of c.nth_term-first.result) (term_of c.nth_term-second.result)
     → inverse_trees (value (tree_of c.args.a c.args.pool.now)) ≡ more (sum_of_terms p q) none
 made c p q e f = tree_of_two (value (tree_of c.args.a c.args.pool.now)) (term_of c.nth_term-first.result) (term_of c.nth_term-second.result) p q (both c) e f
 

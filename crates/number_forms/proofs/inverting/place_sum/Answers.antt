@@ -1,15 +1,12 @@
-use Rattle.std.proofs.Common.{◌≡◌, ℕ, ◌+◌, ◌≤◌, [], ◌∷◌, Err, ap, ◌∙◌, arith}
-use Rattle.number_forms.proofs.Shared.{Tree, add, more, none, size, term_of, tree_of, behind_new, front_same, given_root, given_told, free_of, Full, term_tree, sum_of_terms, building, node_sizes, nodes_sizes, given_free, passed_on}
+use Rattle.number_forms.proofs.Shared.{◌≡◌, ℕ, ◌+◌, ◌≤◌, [], ◌∷◌, Err, ap, ◌∙◌, arith, Tree, add, more, none, size, term_of, tree_of, behind_new, front_same, given_root}
+use Rattle.number_forms.proofs.Shared.{given_told, free_of, Full, term_tree, sum_of_terms, building, node_sizes, nodes_sizes, given_free, passed_on, other_plain, front_after, front_after_two}
 use Rattle.number_forms.proofs.InverseSteps.{placed_two}
 use Rattle.surd_terms.specs.declared.term.Term.{Term}
-use Rattle.number_forms.proofs.Placings.{refused, lacking, lacking_on, built, placed_before}
-use Rattle.number_forms.proofs.inverting.place_sum.Goals.{In_ok-first, In_ok-second}
+use Rattle.number_forms.proofs.Placings.{refused, lacking, lacking_on, built, placed_before, told_tree}
 use Rattle.number_forms.proofs.Pairs.{first_handed, pair_rest}
 use Rattle.number_forms.proofs.Rooms.{refusal_as}
 use Rattle.number_forms.proofs.TermTrees.{if_given}
-use Rattle.number_forms.proofs.Placings.{told_tree}
-use Rattle.tree_handles.proofs.Beside.{other_plain}
-use Rattle.tree_handles.proofs.Fronts.{front_after, front_after_two}
+use Rattle.number_forms.proofs.inverting.place_sum.Goals.{In_ok-first, In_ok-second}
 use Rattle.number_forms.proofs.inverting.place_sum.Goals as goal
 
 pub node_over_two-requires-clause-first : goal.node_over_two-requires-clause-first

@@ -1,4 +1,4 @@
-use Rattle.surd_terms.proofs.Radicands.{clean_one}
+use Rattle.number_forms.proofs.Shared.{clean_one}
 use Rattle.number_forms.proofs.joining.clean_radicand.Goals as goal
 
 pub returns-in_default : goal.returns-in_default

@@ -1,6 +1,6 @@
-use Rattle.std.proofs.Common.{rules, ◌≡◌, ℕ, inl, sym, ap, ◌∙◌, subst, arith, ◌<◌, ◌≤◌}
-use Rattle.std.specs.Prelude.{slice_set}
-use Rattle.number_forms.proofs.Shared.{free_of, Full, ids_exchanged, lists_at, lists_other, passed_on, Tree, count, term_of, IsChildAt, root_ids, kids_of, children_of, kids, tree_nth, set_nth, AllOnce, IsOwned, Ends, root_tree, put, forest, behind_first, front_same, front_at, front_put, given_root, given_handed, last_root, last_tree, last_rest, expression, seen}
+use Rattle.number_forms.proofs.Shared.{rules, ◌≡◌, ℕ, inl, sym, ap, ◌∙◌, subst, arith, ◌<◌, ◌≤◌, slice_set, free_of, Full, ids_exchanged, lists_at, lists_other, passed_on}
+use Rattle.number_forms.proofs.Shared.{Tree, count, term_of, IsChildAt, root_ids, kids_of, children_of, kids, tree_nth, set_nth, AllOnce, IsOwned, Ends, root_tree, put, forest, behind_first}
+use Rattle.number_forms.proofs.Shared.{front_same, front_at, front_put, given_root, given_handed, last_root, last_tree, last_rest, expression, seen}
 use Rattle.number_forms.proofs.Exchanged.{exchanged_sum}
 use Rattle.number_forms.proofs.LastSums.{kids_represented, once_nth}
 use Rattle.number_forms.proofs.SumChanges.{many_kids}
@@ -23,7 +23,8 @@ taken g c =
     let p = c.in_ok-new.ensures.ok in
     c.replace_known_child-gone.ensures.last c.args.sum.now c.args.at p.tree (forest c.args.pool.now) p.ends (subst (λ (i : ℕ). IsChildAt c.args.at i c.child-old.result (forest c.args.pool.now)) c.id.ensures c.child-old.ensures.child) (given_root c.requires.sum)
 
-done : (g : Over) (c : After-release g) → forest c.release.new.pool ≡ put c.args.sum.now (set_nth c.args.at c.in_ok-new.ensures.ok.tree (kids (root_tree c.args.sum.now (forest c.args.pool.now)))) (forest c.args.pool.now)
+done : (g : Over) (c : After-release g)
+    → forest c.release.new.pool ≡ put c.args.sum.now (set_nth c.args.at c.in_ok-new.ensures.ok.tree (kids (root_tree c.args.sum.now (forest c.args.pool.now)))) (forest c.args.pool.now)
 done g c =
     let x = taken g c in
     let handed = given_handed c.requires.sum in

@@ -1,6 +1,6 @@
-use Rattle.std.proofs.Common.{rules, ◌≡◌, ℕ, sym, ap, ◌∙◌, subst, arith, ◌<◌, ◌≤◌}
-use Rattle.number_forms.proofs.Shared.{IsNextAt, ids_with, lists_at, lists_more, Tree, count, term_of, root_ids, kids_of, children_of, kids, with_nth, root_tree, without_root, put, forest, behind_first, front_same, front_at, front_put, given_root, given_handed, free_of, passed_on, Full, expression, seen}
-use Rattle.child_lists.proofs.PutBefore.{put_as}
+use Rattle.number_forms.proofs.Shared.{rules, ◌≡◌, ℕ, sym, ap, ◌∙◌, subst, arith, ◌<◌, ◌≤◌, IsNextAt, ids_with, lists_at, lists_more, Tree, count, term_of, root_ids, kids_of}
+use Rattle.number_forms.proofs.Shared.{children_of, kids, with_nth, root_tree, without_root, put, forest, behind_first, front_same, front_at, front_put, given_root, given_handed, free_of, passed_on}
+use Rattle.number_forms.proofs.Shared.{Full, expression, seen, put_as}
 use Rattle.number_forms.proofs.SumChanges.{many_kids, inserted_sum}
 use Rattle.std.specs.List.{insert}
 use Rattle.number_forms.proofs.joining.insert.Given.{Over}
@@ -21,7 +21,8 @@ put_before-requires-clause-placed g c =
     let p = c.in_ok-child.ensures.ok in
     (c.args.at, without_root c.args.sum.now (forest c.args.pool.now), e.tree, forest c.args.pool.now, p.tree, e.ends, p.ends, subst (λ (i : ℕ). IsNextAt c.args.at i (forest c.args.pool.now) c.next_child-next.result) c.id.ensures c.next_child-next.ensures)
 
-done : (g : Over) (c : After-put_before g) → forest c.put_before.new.pool ≡ put c.args.sum.now (with_nth c.args.at c.in_ok-child.ensures.ok.tree (kids (root_tree c.args.sum.now (forest c.args.pool.now)))) (forest c.args.pool.now)
+done : (g : Over) (c : After-put_before g)
+    → forest c.put_before.new.pool ≡ put c.args.sum.now (with_nth c.args.at c.in_ok-child.ensures.ok.tree (kids (root_tree c.args.sum.now (forest c.args.pool.now)))) (forest c.args.pool.now)
 done g c =
     let e = c.requires.sum in
     let p = c.in_ok-child.ensures.ok in

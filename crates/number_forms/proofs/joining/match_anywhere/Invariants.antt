@@ -1,7 +1,6 @@
-use Rattle.std.proofs.Common.{◌≡◌, ℕ, ◌<◌, length, false}
-use Rattle.number_forms.proofs.Shared.{are_alike, term_of, nth, plain, children_of, tree_at, forest}
-use Rattle.calc_algebra.specs.Numbers.{term_of as term_of_tree}
+use Rattle.number_forms.proofs.Shared.{◌≡◌, ℕ, ◌<◌, length, false, are_alike, term_of, nth, plain, children_of, tree_at, forest}
 use Rattle.number_forms.proofs.Children.{AreLeft}
+use Rattle.calc_algebra.specs.Numbers.{term_of as term_of_tree}
 use Rattle.number_forms.proofs.joining.match_anywhere.Given as goal
 
 abbrev pub invariant-loop-child : goal.invariant-loop-child

@@ -1,5 +1,4 @@
-use Rattle.std.proofs.Common.{rules, ◌≡◌, ◌<◌, sym, ◌∙◌, arith}
-use Rattle.number_forms.proofs.Shared.{count, plain, children_of, tree_at, forest}
+use Rattle.number_forms.proofs.Shared.{rules, ◌≡◌, ◌<◌, sym, ◌∙◌, arith, count, plain, children_of, tree_at, forest}
 use Rattle.number_forms.proofs.SquareFreeSums.{place_there}
 use Rattle.number_forms.proofs.joining.place_near.Goals as goal
 

@@ -1,5 +1,4 @@
-use Rattle.std.proofs.Common.{◌+◌, ◌-◌, ◌/◌, ◌<◌, subst, arith}
-use Rattle.number_forms.proofs.Shared.{plain, tree_at, forest}
+use Rattle.number_forms.proofs.Shared.{◌+◌, ◌-◌, ◌/◌, ◌<◌, subst, arith, plain, tree_at, forest}
 use Rattle.number_forms.proofs.SquareFreeSums.{below_up_to}
 use Rattle.number_forms.proofs.joining.place_of.Goals as goal
 

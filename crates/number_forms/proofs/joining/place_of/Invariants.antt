@@ -1,5 +1,4 @@
-use Rattle.std.proofs.Common.{ℕ, ◌<◌, ◌≤◌, ◌-◌}
-use Rattle.number_forms.proofs.Shared.{count, nth, plain, children_of, tree_at, forest}
+use Rattle.number_forms.proofs.Shared.{ℕ, ◌<◌, ◌≤◌, ◌-◌, count, nth, plain, children_of, tree_at, forest}
 use Rattle.calc_algebra.specs.Numbers.{term_of}
 use Rattle.number_forms.proofs.joining.place_of.Given as goal
 

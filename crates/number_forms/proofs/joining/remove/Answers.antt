@@ -1,5 +1,5 @@
-use Rattle.std.proofs.Common.{rules, ℕ, inl, sym, ◌∙◌, subst, arith, ◌<◌}
-use Rattle.number_forms.proofs.Shared.{Tree, count, IsChildAt, children_of, ids_without, lists_at, lists_less, kids, AllOnce, IsOwned, root_tree, forest, behind_first, front_same, front_at, front_put, given_root, given_handed, last_root, last_tree, last_rest, kept_after, expression, seen}
+use Rattle.number_forms.proofs.Shared.{rules, ℕ, inl, sym, ◌∙◌, subst, arith, ◌<◌, Tree, count, IsChildAt, children_of, ids_without, lists_at, lists_less, kids, AllOnce, IsOwned}
+use Rattle.number_forms.proofs.Shared.{root_tree, forest, behind_first, front_same, front_at, front_put, given_root, given_handed, last_root, last_tree, last_rest, kept_after, expression, seen}
 use Rattle.number_forms.proofs.LastSums.{kids_represented, once_nth}
 use Rattle.number_forms.proofs.SumChanges.{many_kids, removed_sum}
 use Rattle.number_forms.proofs.FreeBytes.{removed_free}

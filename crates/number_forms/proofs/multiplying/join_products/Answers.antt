@@ -1,13 +1,14 @@
-use Rattle.std.proofs.Common.{◌≡◌, ℕ, ◌≤◌, ◌∷◌, Some, length, map, sym, ap, ◌∙◌, arith, add-one, rules, ◌+◌, ◌-◌, inl, inr}
-use Rattle.std.specs.Prelude.{slice_get}
-use Rattle.number_forms.proofs.Shared.{is_number, value, classes, term_times, Tree, size, Same-refl, other_plain, other_read, other_expression, gives_rest, lists_at, lists_kept, behind_first, front_after_one, tree_of, term_of, given_handed, given_other, given_told, plain_root, RowOverflows, OfOverflow, passed_on, overflow_as, spans_append, spans_row, free_of, LacksRoom, joining_need, expression}
+use Rattle.number_forms.proofs.Shared.{◌≡◌, ℕ, ◌≤◌, ◌∷◌, Some, length, map, sym, ap, ◌∙◌, arith, add-one, rules, ◌+◌, ◌-◌, inl, inr, slice_get, is_number, value}
+use Rattle.number_forms.proofs.Shared.{classes, term_times, Tree, size, Same-refl, other_plain, other_read, other_expression, gives_rest, lists_at, lists_kept, behind_first, front_after_one, tree_of}
+use Rattle.number_forms.proofs.Shared.{term_of, given_handed, given_other, given_told, plain_root, RowOverflows, OfOverflow, passed_on, overflow_as, spans_append, spans_row, free_of, LacksRoom}
+use Rattle.number_forms.proofs.Shared.{joining_need, expression}
 use Rattle.number_forms.proofs.Denominators.{parts_extracted}
 use Rattle.number_forms.proofs.Loops.{joined_none, joined_more, joined_all, from_all}
 use Rattle.number_forms.proofs.Worth.{terms_from, products_next, same_first, get_from, from_from}
 use Rattle.number_forms.proofs.SumChanges.{read_sum}
 use Rattle.number_forms.proofs.Rows.{product_join_overflows}
-use Rattle.number_forms.proofs.multiplying.join_products.Goals.{After-listed_term-other}
 use Rattle.number_forms.proofs.Rooms.{full_as, spans_from, term_lacks}
+use Rattle.number_forms.proofs.multiplying.join_products.Goals.{After-listed_term-other}
 use Rattle.number_forms.proofs.multiplying.join_products.Given.{Over}
 use Rattle.tree_handles.specs.declared.fault.NumberFault.TheVariants as fault
 use Rattle.number_forms.proofs.multiplying.join_products.Goals as goal
@@ -65,7 +66,8 @@ returns-clause-ok g c =
     joined_all c.loop-at.invariant.joined (ap (map (term_times (term_of c.args.term))) (from_all (value (tree_of c.args.number c.args.pool.now)) c.loop-at.at end))
 
 -- the place among the terms from the first on
-here : (g : Over) (c : After-listed_term-other g) → c.args.from ≤ c.loop-at.at → slice_get (terms_from c.args.from (value (tree_of c.args.number c.args.pool.now))) (c.loop-at.at - c.args.from) ≡ Some (term_of c.listed_term-other.result)
+here : (g : Over) (c : After-listed_term-other g) → c.args.from ≤ c.loop-at.at
+    → slice_get (terms_from c.args.from (value (tree_of c.args.number c.args.pool.now))) (c.loop-at.at - c.args.from) ≡ Some (term_of c.listed_term-other.result)
 here g c begun =
     let v = value (tree_of c.args.number c.args.pool.now) in
     let same = other_read c.args.number c.loop-at.pool c.loop-at.invariant.joined.stands c.loop-at.invariant.joined.gives c.requires.handed ∙ sym (other_plain c.args.number c.requires.sum c.requires.handed.root) in

@@ -1,6 +1,4 @@
-use Rattle.std.proofs.Common.{◌≡◌, ◌&&◌, refl}
-use Rattle.std.specs.Prelude.{IfErr}
-use Rattle.number_forms.proofs.Shared.{and_parts, by_test, is_num, refused_as, tree_of, OfOverflow}
+use Rattle.number_forms.proofs.Shared.{◌≡◌, ◌&&◌, refl, IfErr, and_parts, by_test, is_num, refused_as, tree_of, OfOverflow}
 use Rattle.number_forms.proofs.Over.{if_number, if_no_larger, of_over}
 use Rattle.number_forms.proofs.RationalBits.{product_not_refused}
 use Rattle.number_forms.proofs.WithinBits.{numbers_within}

@@ -1,5 +1,5 @@
-use Rattle.std.proofs.Common.{inl, ◌+◌}
-use Rattle.number_forms.proofs.Shared.{gives_without, behind_first, behind_later, front_same, front_at, front_without, front_after, given_other, handed_beside, handed_at, owned, product_need, size, free_of, LacksRoom, passed_on, tree_of}
+use Rattle.number_forms.proofs.Shared.{inl, ◌+◌, gives_without, behind_first, behind_later, front_same, front_at, front_without, front_after, given_other, handed_beside, handed_at, owned}
+use Rattle.number_forms.proofs.Shared.{product_need, size, free_of, LacksRoom, passed_on, tree_of}
 use Rattle.number_forms.proofs.Rooms.{full_as, product_lacks}
 use Rattle.number_forms.proofs.multiplying.multiply_others.Goals as goal
 

@@ -1,5 +1,7 @@
-use Rattle.std.proofs.Common.{◌≡◌, ℕ, ◌++◌, refl, sym, ap, ◌∙◌, subst, arith, ◌*◌, ◌^◌, ◌<◌, length}
-use Rattle.number_forms.proofs.Shared.{is_number, value, surd_times, Same-trans, Same-eq, IsSum, lists_at, lists_none, lists_listed, root_ids, kids_of_last, expression_root, Tree, other_plain, gives_rest, kept_after, overflow_as, tree_of, IsHanded, IsExpression, without_root, forest, behind_new, front_same, front_after_one, given_told, given_other, given_rest, gives_as, handed_at, ProductOverflows, OfOverflow, passed_on, Spans, free_of, LacksRoom, joining_need, refused_below, given_free}
+use Rattle.number_forms.proofs.Shared.{◌≡◌, ℕ, ◌++◌, refl, sym, ap, ◌∙◌, subst, arith, ◌*◌, ◌^◌, ◌<◌, length, is_number, value, surd_times, Same-trans, Same-eq, IsSum}
+use Rattle.number_forms.proofs.Shared.{lists_at, lists_none, lists_listed, root_ids, kids_of_last, expression_root, Tree, other_plain, gives_rest, kept_after, overflow_as, tree_of, IsHanded}
+use Rattle.number_forms.proofs.Shared.{IsExpression, without_root, forest, behind_new, front_same, front_after_one, given_told, given_other, given_rest, gives_as, handed_at, ProductOverflows}
+use Rattle.number_forms.proofs.Shared.{OfOverflow, passed_on, Spans, free_of, LacksRoom, joining_need, refused_below, given_free}
 use Rattle.number_forms.proofs.Denominators.{shares_eq}
 use Rattle.number_forms.proofs.Over.{over_as}
 use Rattle.number_forms.proofs.Rooms.{full_as, few_for_joining, number_spans}
@@ -15,8 +17,10 @@ pub returns-in_err-join_rows-clause-room : goal.returns-in_err-join_rows-clause-
 returns-in_err-join_rows-clause-room g c = λ gs s t.
     let new = c.in_ok-sum.ensures.given refl in
     let free = given_free c.requires.stands c.in_ok-sum.ensures.stands c.in_ok-sum.ensures.kept new in
-    let a : tree_of c.id-2.result c.node.new.pool ≡ tree_of c.args.a.now c.args.pool.now = ap (λ (i : ℕ). tree_of i c.node.new.pool) c.id-2.ensures ∙ other_plain c.args.a.now new c.requires.first.root in
-    let b : tree_of c.id-3.result c.node.new.pool ≡ tree_of c.args.b.now c.args.pool.now = ap (λ (i : ℕ). tree_of i c.node.new.pool) c.id-3.ensures ∙ other_plain c.args.b.now new c.requires.second.root in
+    let a : tree_of c.id-2.result c.node.new.pool ≡ tree_of c.args.a.now c.args.pool.now =
+    ap (λ (i : ℕ). tree_of i c.node.new.pool) c.id-2.ensures ∙ other_plain c.args.a.now new c.requires.first.root in
+    let b : tree_of c.id-3.result c.node.new.pool ≡ tree_of c.args.b.now c.args.pool.now =
+    ap (λ (i : ℕ). tree_of i c.node.new.pool) c.id-3.ensures ∙ other_plain c.args.b.now new c.requires.second.root in
     let none = subst (λ (u : Tree). Spans gs (value u)) (sym (given_told new)) tt in
     let first = subst (λ (u : Tree). Spans gs (value u)) (sym a) (number_spans gs _ c.requires.first_number s) in
     let second = subst (λ (u : Tree). Spans gs (value u)) (sym b) (number_spans gs _ c.requires.second_number t) in
@@ -53,8 +57,10 @@ pub returns-clause-ok : goal.returns-clause-ok
 returns-clause-ok g c =
     let new = c.in_ok-sum.ensures.given refl in
     let rows = c.in_ok-join_rows.ensures.ok in
-    let a : tree_of c.id-2.result c.node.new.pool ≡ tree_of c.args.a.now c.args.pool.now = ap (λ (i : ℕ). tree_of i c.node.new.pool) c.id-2.ensures ∙ other_plain c.args.a.now new c.requires.first.root in
-    let b : tree_of c.id-3.result c.node.new.pool ≡ tree_of c.args.b.now c.args.pool.now = ap (λ (i : ℕ). tree_of i c.node.new.pool) c.id-3.ensures ∙ other_plain c.args.b.now new c.requires.second.root in
+    let a : tree_of c.id-2.result c.node.new.pool ≡ tree_of c.args.a.now c.args.pool.now =
+    ap (λ (i : ℕ). tree_of i c.node.new.pool) c.id-2.ensures ∙ other_plain c.args.a.now new c.requires.first.root in
+    let b : tree_of c.id-3.result c.node.new.pool ≡ tree_of c.args.b.now c.args.pool.now =
+    ap (λ (i : ℕ). tree_of i c.node.new.pool) c.id-3.ensures ∙ other_plain c.args.b.now new c.requires.second.root in
     let same : value (tree_of c.in_ok-sum.sum c.node.new.pool) ++ surd_times (value (tree_of c.id-2.result c.node.new.pool)) (value (tree_of c.id-3.result c.node.new.pool))
     ≡ surd_times (value (tree_of c.args.a.now c.args.pool.now)) (value (tree_of c.args.b.now c.args.pool.now)) = λ i. value (given_told new i) ++ surd_times (value (a i)) (value (b i)) in
     gives_as c.in_ok-number_of.ensures.ok (given_rest rows ∙ given_rest new)
@@ -63,8 +69,10 @@ returns-clause-ok g c =
 pub returns-in_err-join_rows-clause-overflow : goal.returns-in_err-join_rows-clause-overflow
 returns-in_err-join_rows-clause-overflow g c =
     let new = c.in_ok-sum.ensures.given refl in
-    let a : tree_of c.id-2.result c.node.new.pool ≡ tree_of c.args.a.now c.args.pool.now = ap (λ (i : ℕ). tree_of i c.node.new.pool) c.id-2.ensures ∙ other_plain c.args.a.now new c.requires.first.root in
-    let b : tree_of c.id-3.result c.node.new.pool ≡ tree_of c.args.b.now c.args.pool.now = ap (λ (i : ℕ). tree_of i c.node.new.pool) c.id-3.ensures ∙ other_plain c.args.b.now new c.requires.second.root in
+    let a : tree_of c.id-2.result c.node.new.pool ≡ tree_of c.args.a.now c.args.pool.now =
+    ap (λ (i : ℕ). tree_of i c.node.new.pool) c.id-2.ensures ∙ other_plain c.args.a.now new c.requires.first.root in
+    let b : tree_of c.id-3.result c.node.new.pool ≡ tree_of c.args.b.now c.args.pool.now =
+    ap (λ (i : ℕ). tree_of i c.node.new.pool) c.id-3.ensures ∙ other_plain c.args.b.now new c.requires.second.root in
     passed_on c.from_residual-in_err-join_rows.result c.in_err-join_rows.field-0.0 (OfOverflow (ProductOverflows (value (tree_of c.args.a.now c.args.pool.now)) (value (tree_of c.args.b.now c.args.pool.now)))) c.from_residual-in_err-join_rows.ensures.0 c.from_residual-in_err-join_rows.ensures.1
     (overflow_as c.in_err-join_rows.field-0.0 (c.in_err-join_rows.ensures.overflow (ap value (given_told new))) (λ o p. subst (λ (t : Tree). ProductOverflows (value (tree_of c.args.a.now c.args.pool.now)) (value t) o) b (subst (λ (t : Tree). ProductOverflows (value t) (value (tree_of c.id-3.result c.node.new.pool)) o) a p)))
 

@@ -1,7 +1,4 @@
-use Rattle.std.proofs.Common.{◌≡◌, [], take}
-use Rattle.number_forms.proofs.Shared.{KeepsFront, KeepsRefusals, Stands, forest}
-use Rattle.number_forms.specs.Placed.{Adds}
-use Rattle.number_forms.specs.Values.{trees_of}
+use Rattle.number_forms.proofs.Shared.{◌≡◌, [], take, KeepsFront, KeepsRefusals, Stands, forest, Adds, trees_of}
 use Rattle.number_forms.proofs.placing.place_all.Given as goal
 
 abbrev pub invariant-loop-term : goal.invariant-loop-term

@@ -1,9 +1,9 @@
-use Rattle.std.proofs.Common.{◌≡◌, ℕ, pos, Err, ◌+◌, ◌≤◌, [], ◌∷◌, ap, sym, ◌∙◌, arith}
-use Rattle.number_forms.proofs.Shared.{front_after_one, Fraction, whole_fraction, num, root, root_size, behind_new, front_same, given_handed, given_told, given_rest, free_of, Full, building, taking, passed_on}
+use Rattle.number_forms.proofs.Shared.{◌≡◌, ℕ, pos, Err, ◌+◌, ◌≤◌, [], ◌∷◌, ap, sym, ◌∙◌, arith, front_after_one, Fraction, whole_fraction, num, root, root_size}
+use Rattle.number_forms.proofs.Shared.{behind_new, front_same, given_handed, given_told, given_rest, free_of, Full, building, taking, passed_on}
 use Rattle.number_forms.proofs.Placings.{free_before, refused, taken, lacking}
-use Rattle.number_forms.proofs.placing.place_root.Goals.{In_ok-rational}
 use Rattle.number_forms.proofs.Rooms.{refusal_as}
 use Rattle.number_forms.proofs.TermTrees.{if_given}
+use Rattle.number_forms.proofs.placing.place_root.Goals.{In_ok-rational}
 use Rattle.number_forms.proofs.placing.place_root.Goals as goal
 
 pub node_over-requires-clause-handed : goal.node_over-requires-clause-handed
@@ -25,7 +25,8 @@ mid : (c : In_ok-rational) → free_of c.args.pool.now ≡ free_of c.number.new.
 mid c = free_before c.requires.stands c.number.ensures.stands c.in_ok-rational.ensures.kept c.in_ok-rational.ensures.given ∙ ap (λ (q : Fraction). free_of c.number.new.pool + bytes q) c.whole.ensures
 
 pub returns-in_err-rational-clause-exactly : goal.returns-in_err-rational-clause-exactly
-returns-in_err-rational-clause-exactly c = refused c.from_residual.result _ c.from_residual.ensures.0 (λ enough. absurd (cc (c.in_err-rational.ensures.exactly.1 (omega (arith, enough, ap bytes c.whole.ensures)))))
+returns-in_err-rational-clause-exactly c =
+    refused c.from_residual.result _ c.from_residual.ensures.0 (λ enough. absurd (cc (c.in_err-rational.ensures.exactly.1 (omega (arith, enough, ap bytes c.whole.ensures)))))
 
 pub returns-clause-exactly : goal.returns-clause-exactly
 returns-clause-exactly c =

@@ -1,6 +1,5 @@
-use Rattle.std.proofs.Common.{◌≡◌, ◌≢◌, ◌↔◌, ℕ, subst, ◌≤◌, sym, ap, ◌∙◌, arith, rules, to_z, of_z, FitsSigned}
-use Rattle.std.specs.Prelude.{ℤ, pos, IsOk, IfErr, Err}
-use Rattle.number_forms.proofs.Shared.{w128, to_z-of_z, one_fraction, whole_fraction, value_of, Tree, num, root, mult, more, none, size, term_tree, root_size, free_of, building, term_of}
+use Rattle.number_forms.proofs.Shared.{◌≡◌, ◌≢◌, ◌↔◌, ℕ, subst, ◌≤◌, sym, ap, ◌∙◌, arith, rules, to_z, of_z, FitsSigned, ℤ, pos, IsOk, IfErr, Err, w128, to_z-of_z}
+use Rattle.number_forms.proofs.Shared.{one_fraction, whole_fraction, value_of, Tree, num, root, mult, more, none, size, term_tree, root_size, free_of, building, term_of}
 use Rattle.number_forms.proofs.Placings.{number_lacks, rational_term, root_term, multiple_term, told_tree}
 use Rattle.number_forms.proofs.TermTrees.{rational_tree, root_tree, multiple_tree, if_gives, is_one_value, not_one_num, not_one_den}
 use Rattle.number_forms.proofs.placing.place_term.Goals.{After-radicand-then-den-eq1, After-radicand-else-num-eq1, else-num-eq1-via-then-num-eq1+else-den-eq1, else-num-eq1-via-else-num-eq1}
@@ -31,7 +30,8 @@ other c =
     let q = c.coefficient-coefficient.result in
     elim c.else-num-eq1.branch [ else-num-eq1-via-then-num-eq1+else-den-eq1 w ↦ not_one_den q (λ k. w.if-den-eq1.false (ap (of_z w128) (w.den.ensures.value ∙ ap pos k))) | else-num-eq1-via-else-num-eq1 w ↦ not_one_num q (λ k. w.if-num-eq1.false (ap (of_z w128) (c.num.ensures.value ∙ k))) ]
 
-multiplied : (c : After-radicand-else-num-eq1) → mult (more (num (value_of c.coefficient-coefficient.result)) (more (root (num (whole_fraction (pos c.radicand-else-num-eq1.result)))) none)) ≡ term_tree (term_of c.args.term)
+multiplied : (c : After-radicand-else-num-eq1)
+    → mult (more (num (value_of c.coefficient-coefficient.result)) (more (root (num (whole_fraction (pos c.radicand-else-num-eq1.result)))) none)) ≡ term_tree (term_of c.args.term)
 multiplied c = (λ i. mult (more (num (c.coefficient-coefficient.ensures.value i)) (more (root (num (whole_fraction (pos (c.radicand-else-num-eq1.ensures.value i))))) none))) ∙ sym (multiple_term (term_of c.args.term) (λ k. c.if-radicand-eq1.false (c.radicand.ensures.value ∙ k)) (λ k. other c (c.coefficient-coefficient.ensures.value ∙ k)))
 
 pub returns-then-radicand-eq1-clause-ok : goal.returns-then-radicand-eq1-clause-ok
@@ -84,4 +84,5 @@ pub returns-then-den-eq1-clause-tree : goal.returns-then-den-eq1-clause-tree
 returns-then-den-eq1-clause-tree c = told_tree c.place_root.result _ c.place_root.new.pool _ _ c.place_root.ensures.ok (rooted (goal.at.returns-then-den-eq1-clause-tree c).After-radicand-then-den-eq1)
 
 pub returns-else-num-eq1-clause-tree : goal.returns-else-num-eq1-clause-tree
-returns-else-num-eq1-clause-tree c = told_tree c.place_multiple.result _ c.place_multiple.new.pool _ _ c.place_multiple.ensures.ok (multiplied (goal.at.returns-else-num-eq1-clause-tree c).After-radicand-else-num-eq1)
+returns-else-num-eq1-clause-tree c =
+    told_tree c.place_multiple.result _ c.place_multiple.new.pool _ _ c.place_multiple.ensures.ok (multiplied (goal.at.returns-else-num-eq1-clause-tree c).After-radicand-else-num-eq1)

@@ -1,6 +1,4 @@
-use Rattle.std.proofs.Common.{rules, ◌<◌, ap, refl, arith}
-use Rattle.number_forms.proofs.Shared.{forest, free_of, front_end, front_same, given_free, given_told, passed_on, size, value_of}
-use Rattle.calc_room.proofs.NumberBytes.{num_bytes}
+use Rattle.number_forms.proofs.Shared.{rules, ◌<◌, ap, refl, arith, forest, free_of, front_end, front_same, given_free, given_told, passed_on, size, value_of, num_bytes}
 use Rattle.number_forms.proofs.Planted.{adds_more, adds_none, adopts, can_adopt, node_free, number_refused}
 use Rattle.number_forms.proofs.placing.plant_multiple.Goals as goal
 

@@ -1,5 +1,4 @@
-use Rattle.std.proofs.Common.{rules, ◌<◌, ap, refl, arith, ◌∙◌}
-use Rattle.number_forms.proofs.Shared.{forest, free_of, front_end, front_same, gives_as, passed_on, num, root}
+use Rattle.number_forms.proofs.Shared.{rules, ◌<◌, ap, refl, arith, ◌∙◌, forest, free_of, front_end, front_same, gives_as, passed_on, num, root}
 use Rattle.number_forms.proofs.Planted.{adds_more, adds_none, adopts, can_adopt, node_free, number_refused}
 use Rattle.number_forms.proofs.placing.plant_root.Goals as goal
 

@@ -1,5 +1,4 @@
-use Rattle.std.proofs.Common.{inl}
-use Rattle.number_forms.proofs.Shared.{behind_first, behind_later, front_same, front_at, front_end, front_without, given_told, handed_at, handed_beside, owned}
+use Rattle.number_forms.proofs.Shared.{inl, behind_first, behind_later, front_same, front_at, front_end, front_without, given_told, handed_at, handed_beside, owned}
 use Rattle.number_forms.proofs.Kept.{kept_last}
 use Rattle.number_forms.proofs.rationals.keep_other.Goals as goal
 
@@ -16,4 +15,5 @@ pub returns-clause-tree : goal.returns-clause-tree
 returns-clause-tree c = given_told (kept_last c.args.gone c.requires.apart c.requires.handed (c.release.ensures.owned (owned c.requires.gone)) c.move_last.ensures.last)
 
 pub returns-clause-front : goal.returns-clause-front
-returns-clause-front c = front_end c.move_last.ensures.last (front_without (behind_later behind_first) (front_at (front_without behind_first front_same) (c.release.ensures.owned (owned c.requires.gone))))
+returns-clause-front c =
+    front_end c.move_last.ensures.last (front_without (behind_later behind_first) (front_at (front_without behind_first front_same) (c.release.ensures.owned (owned c.requires.gone))))

@@ -1,5 +1,4 @@
-use Rattle.std.proofs.Common.{sym, ap, ◌∙◌}
-use Rattle.number_forms.proofs.Shared.{is_num, room_of, owned, expression, seen}
+use Rattle.number_forms.proofs.Shared.{sym, ap, ◌∙◌, is_num, room_of, owned, expression, seen}
 use Rattle.number_forms.proofs.rationals.take_rational.Goals as goal
 
 pub rational-value-requires-clause-live : goal.rational-value-requires-clause-live

@@ -1,5 +1,4 @@
-use Rattle.std.proofs.Common.{◌≡◌, ℕ, ℤ, pos, sym, ap, ◌∙◌, rules, to_z, of_z, FitsSigned}
-use Rattle.number_forms.proofs.Shared.{w128, eq-eqb, to_z-of_z, ratio_parts}
+use Rattle.number_forms.proofs.Shared.{◌≡◌, ℕ, ℤ, pos, sym, ap, ◌∙◌, rules, to_z, of_z, FitsSigned, w128, eq-eqb, to_z-of_z, ratio_parts}
 use Rattle.number_forms.proofs.CodeTests.{unequal}
 use Rattle.number_forms.proofs.read.half_of.Goals as goal
 

@@ -1,5 +1,4 @@
-use Rattle.std.proofs.Common.{◌≡◌, ◌-◌, true, sym, ap, ◌∙◌, subst, arith}
-use Rattle.number_forms.proofs.Shared.{is_number, is_reduced, Tree, add, count, has_term_shape, plain, children_of, tree_at, forest}
+use Rattle.number_forms.proofs.Shared.{◌≡◌, ◌-◌, true, sym, ap, ◌∙◌, subst, arith, is_number, is_reduced, Tree, add, count, has_term_shape, plain, children_of, tree_at, forest}
 use Rattle.number_forms.proofs.ByKind.{add_by_kind}
 use Rattle.number_forms.proofs.ReducedNumbers.{reduced_two, reduced_sum, reduced_other}
 use Rattle.number_forms.proofs.read.is_reduced_number.Goals.{After-children-last}

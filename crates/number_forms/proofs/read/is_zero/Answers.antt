@@ -1,5 +1,4 @@
-use Rattle.std.proofs.Common.{sym, ap, ◌∙◌}
-use Rattle.number_forms.proofs.Shared.{is_zero}
+use Rattle.number_forms.proofs.Shared.{sym, ap, ◌∙◌, is_zero}
 use Rattle.number_forms.proofs.read.is_zero.Goals as goal
 
 pub returns-in-Num : goal.returns-in-Num

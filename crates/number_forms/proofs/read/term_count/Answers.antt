@@ -1,4 +1,4 @@
-use Rattle.std.proofs.Common.{sym, ◌∙◌}
+use Rattle.number_forms.proofs.Shared.{sym, ◌∙◌}
 use Rattle.number_forms.proofs.ByKind.{sum_classes}
 use Rattle.number_forms.proofs.read.term_count.Goals as goal
 

@@ -1,8 +1,7 @@
-use Rattle.std.proofs.Common.{ap, ◌∙◌, arith}
-use Rattle.number_forms.proofs.Shared.{is_term, forest}
-use Rattle.calc_algebra.specs.Numbers.{term_of as term_of_tree}
+use Rattle.number_forms.proofs.Shared.{ap, ◌∙◌, arith, is_term, forest}
 use Rattle.number_forms.proofs.ByKind.{children_number}
 use Rattle.number_forms.proofs.Rising.{nth_term}
+use Rattle.calc_algebra.specs.Numbers.{term_of as term_of_tree}
 use Rattle.number_forms.proofs.recognize.child_term.Goals as goal
 
 pub child_id-requires-clause-within : goal.child_id-requires-clause-within

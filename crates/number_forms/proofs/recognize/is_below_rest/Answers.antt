@@ -1,9 +1,9 @@
-use Rattle.std.proofs.Common.{◌≡◌, ℕ, ◌+◌, ◌++◌, ◌∷◌, [], ◌&&◌, length, not, nat_lt, refl, sym, ap, ◌∙◌, arith}
-use Rattle.number_forms.proofs.Shared.{length_push, is_below_all, is_term, terms_of, are_alike, Term, trees_from, term_of, plain, children_of, tree_at, forest}
-use Rattle.calc_algebra.specs.Numbers.{term_of as term_of_tree}
+use Rattle.number_forms.proofs.Shared.{◌≡◌, ℕ, ◌+◌, ◌++◌, ◌∷◌, [], ◌&&◌, length, not, nat_lt, refl, sym, ap, ◌∙◌, arith, length_push, is_below_all, is_term, terms_of}
+use Rattle.number_forms.proofs.Shared.{are_alike, Term, trees_from, term_of, plain, children_of, tree_at, forest}
 use Rattle.number_forms.proofs.ByKind.{children_number}
 use Rattle.number_forms.proofs.Children.{IsNextChild, left_more, next_child, none_left}
 use Rattle.number_forms.proofs.Rising.{below_next, not_below, below_end, nth_term}
+use Rattle.calc_algebra.specs.Numbers.{term_of as term_of_tree}
 use Rattle.number_forms.proofs.recognize.is_below_rest.Goals.{In-Some}
 use Rattle.number_forms.proofs.recognize.is_below_rest.Goals as goal
 
@@ -46,7 +46,8 @@ loop-child-preserved c =
     let t = term_of c.args.term in
     let other = c.term_at.ensures ∙ ap term_of_tree n.is in
     let same = sym (ap (λ (u : Term). nat_lt t.radicand u.radicand && not (are_alike t.radicand u.radicand)) other) ∙ sym c.is_below.ensures in
-    let more : c.args.from + length (c.loop-child.yielded ++ (c.in-Some.child ∷ [])) ≡ c.args.from + length c.loop-child.yielded + 1 = omega (arith, length_push c.loop-child.yielded c.in-Some.child) in
+    let more : c.args.from + length (c.loop-child.yielded ++ (c.in-Some.child ∷ [])) ≡ c.args.from + length c.loop-child.yielded + 1 =
+    omega (arith, length_push c.loop-child.yielded c.in-Some.child) in
     record {
       left = left_more c.loop-child.yielded _ c.in-Some.child _ c.loop-child.invariant.left c.in-Some.ensures.steps;
       below = ap (λ (k : ℕ). is_below_all t (terms_of (trees_from k ts))) more ∙ sym (below_next t ts _ n.within (same ∙ c.if-not-is_below.false)) ∙ c.loop-child.invariant.below;

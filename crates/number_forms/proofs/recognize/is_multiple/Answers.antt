@@ -1,4 +1,4 @@
-use Rattle.std.proofs.Common.{sym, ◌∙◌}
+use Rattle.number_forms.proofs.Shared.{sym, ◌∙◌}
 use Rattle.number_forms.proofs.Recognized.{zero_multiple, one_multiple, other_multiple}
 use Rattle.number_forms.proofs.recognize.is_multiple.Goals as goal
 

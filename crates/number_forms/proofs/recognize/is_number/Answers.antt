@@ -1,5 +1,4 @@
-use Rattle.std.proofs.Common.{sym, ap, ◌∙◌}
-use Rattle.number_forms.proofs.Shared.{is_add}
+use Rattle.number_forms.proofs.Shared.{sym, ap, ◌∙◌, is_add}
 use Rattle.number_forms.proofs.ByKind.{add_by_kind}
 use Rattle.number_forms.proofs.Recognized.{rational_by_kind, other_by_kind}
 use Rattle.number_forms.proofs.recognize.is_number.Goals as goal

@@ -1,5 +1,4 @@
-use Rattle.std.proofs.Common.{◌≡◌, sym, ◌∙◌, arith}
-use Rattle.number_forms.proofs.Shared.{count, plain, children_of, tree_at, forest}
+use Rattle.number_forms.proofs.Shared.{◌≡◌, sym, ◌∙◌, arith, count, plain, children_of, tree_at, forest}
 use Rattle.number_forms.proofs.Recognized.{short_sum, other_sum, sum_rises}
 use Rattle.number_forms.proofs.recognize.is_number_sum.Goals as goal
 

@@ -1,6 +1,4 @@
-use Rattle.std.proofs.Common.{rules, FitsSigned, ap, ◌∙◌}
-use Rattle.std.specs.Prelude.{nat_abs}
-use Rattle.number_forms.proofs.Shared.{w128, to_z-of_z, value_of}
+use Rattle.number_forms.proofs.Shared.{rules, FitsSigned, ap, ◌∙◌, nat_abs, w128, to_z-of_z, value_of}
 use Rattle.number_forms.proofs.Recognized.{small_whole, clean_whole}
 use Rattle.number_forms.proofs.recognize.is_radicand.Goals as goal
 

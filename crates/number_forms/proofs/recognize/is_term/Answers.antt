@@ -1,5 +1,4 @@
-use Rattle.std.proofs.Common.{not, sym, ap, ◌∙◌}
-use Rattle.number_forms.proofs.Shared.{is_term}
+use Rattle.number_forms.proofs.Shared.{not, sym, ap, ◌∙◌, is_term}
 use Rattle.number_forms.proofs.ReducedNumbers.{unshaped_term}
 use Rattle.number_forms.proofs.recognize.is_term.Goals as goal
 

@@ -1,5 +1,4 @@
-use Rattle.std.proofs.Common.{◌≡◌, ◌+◌, ◌<◌, sym, ap, ◌∙◌, arith}
-use Rattle.number_forms.proofs.Shared.{is_below_all, terms_of, Term, count, trees_from, plain, children_of, tree_at, forest}
+use Rattle.number_forms.proofs.Shared.{◌≡◌, ◌+◌, ◌<◌, sym, ap, ◌∙◌, arith, is_below_all, terms_of, Term, count, trees_from, plain, children_of, tree_at, forest}
 use Rattle.number_forms.proofs.Rising.{rises_next, no_rise, rises_end}
 use Rattle.number_forms.proofs.recognize.rises.Goals as goal
 

@@ -1,5 +1,4 @@
-use Rattle.std.proofs.Common.{◌≡◌}
-use Rattle.number_forms.proofs.Shared.{rises, terms_of, trees_from, plain, children_of, tree_at, forest}
+use Rattle.number_forms.proofs.Shared.{◌≡◌, rises, terms_of, trees_from, plain, children_of, tree_at, forest}
 use Rattle.number_forms.proofs.recognize.rises.Given as goal
 
 abbrev pub invariant-loop-at : goal.invariant-loop-at

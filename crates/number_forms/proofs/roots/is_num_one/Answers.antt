@@ -1,5 +1,4 @@
-use Rattle.std.proofs.Common.{ap, ◌∙◌}
-use Rattle.number_forms.proofs.Shared.{is_num_one, expression, seen}
+use Rattle.number_forms.proofs.Shared.{ap, ◌∙◌, is_num_one, expression, seen}
 use Rattle.number_forms.proofs.roots.is_num_one.Goals as goal
 
 pub is_num_one-requires-clause-expression : goal.is_num_one-requires-clause-expression

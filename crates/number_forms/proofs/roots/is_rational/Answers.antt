@@ -1,5 +1,4 @@
-use Rattle.std.proofs.Common.{ap, ◌∙◌}
-use Rattle.number_forms.proofs.Shared.{is_num, expression, seen}
+use Rattle.number_forms.proofs.Shared.{ap, ◌∙◌, is_num, expression, seen}
 use Rattle.number_forms.proofs.roots.is_rational.Goals as goal
 
 pub is_rational-requires-clause-expression : goal.is_rational-requires-clause-expression

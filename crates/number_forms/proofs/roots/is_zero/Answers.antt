@@ -1,5 +1,4 @@
-use Rattle.std.proofs.Common.{ap, ◌∙◌}
-use Rattle.number_forms.proofs.Shared.{is_zero, expression, seen}
+use Rattle.number_forms.proofs.Shared.{ap, ◌∙◌, is_zero, expression, seen}
 use Rattle.number_forms.proofs.roots.is_zero.Goals as goal
 
 pub is_zero-requires-clause-expression : goal.is_zero-requires-clause-expression

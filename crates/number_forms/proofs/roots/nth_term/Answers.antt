@@ -1,6 +1,4 @@
-use Rattle.std.proofs.Common.{ap, ◌∙◌, sym, arith}
-use Rattle.std.specs.Prelude.{slice_get}
-use Rattle.number_forms.proofs.Shared.{Tree, is_number, value, classes, expression, seen}
+use Rattle.number_forms.proofs.Shared.{ap, ◌∙◌, sym, arith, slice_get, Tree, is_number, value, classes, expression, seen}
 use Rattle.number_forms.proofs.roots.nth_term.Goals as goal
 
 pub nth_term-requires-clause-expression : goal.nth_term-requires-clause-expression

@@ -1,5 +1,4 @@
-use Rattle.std.proofs.Common.{ap, ◌∙◌}
-use Rattle.number_forms.proofs.Shared.{is_number, classes, expression, seen}
+use Rattle.number_forms.proofs.Shared.{ap, ◌∙◌, is_number, classes, expression, seen}
 use Rattle.number_forms.proofs.roots.term_count.Goals as goal
 
 pub term_count-requires-clause-expression : goal.term_count-requires-clause-expression

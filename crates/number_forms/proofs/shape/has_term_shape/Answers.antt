@@ -1,9 +1,5 @@
-use Rattle.std.proofs.Common.{◌≡◌, sym, ap, ◌∙◌, drop}
-use Rattle.number_forms.proofs.Shared.{root_kind, plain, tree_at, forest}
+use Rattle.number_forms.proofs.Shared.{◌≡◌, sym, ap, ◌∙◌, drop, root_kind, plain, tree_at, forest, first_kind, is_multiple_next, is_number_next, one_at, visits_of}
 use Rattle.number_forms.proofs.TermNodes.{number_has_shape, other_shape, product_has_shape, root_has_shape, root_next}
-use Rattle.number_forms.specs.Shapes.{first_kind, is_multiple_next, is_number_next}
-use Rattle.tree_handles.proofs.Measures.{one_at}
-use Rattle.tree_handles.specs.Visits.{visits_of}
 use Rattle.number_forms.proofs.shape.has_term_shape.Goals as goal
 use Rattle.number_forms.proofs.shape.has_term_shape.Goals.{After-next_kind}
 

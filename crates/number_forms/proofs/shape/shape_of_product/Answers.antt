@@ -1,4 +1,4 @@
-use Rattle.std.proofs.Common.{sym, ◌∙◌}
+use Rattle.number_forms.proofs.Shared.{sym, ◌∙◌}
 use Rattle.number_forms.proofs.ByKind.{product_by_children}
 use Rattle.number_forms.proofs.shape.shape_of_product.Goals as goal
 

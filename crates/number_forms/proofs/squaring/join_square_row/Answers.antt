@@ -1,5 +1,7 @@
-use Rattle.std.proofs.Common.{◌≡◌, [], ◌∷◌, ◌++◌, map, inl, inr, refl, sym, ap, ◌∙◌, subst, rules, ◌+◌}
-use Rattle.number_forms.proofs.Shared.{is_number, value, Term, Surd, term_times, Same-refl, spans_append, IsSpanned, Spans, Tree, size, free_of, terms_from, RowOverflows, SquareRowOverflows, LacksRoom, joining_need, twice, square_row, IsSumOf, lists_kept, kept_after, overflow_as, other_plain, gives_rest, passed_on, term_of, OfOverflow, tree_of, Gives, without_root, forest, behind_first, front_after_one, given_handed, given_rest, given_told, gives_as, handed_at}
+use Rattle.number_forms.proofs.Shared.{◌≡◌, [], ◌∷◌, ◌++◌, map, inl, inr, refl, sym, ap, ◌∙◌, subst, rules, ◌+◌, is_number, value, Term, Surd, term_times, Same-refl}
+use Rattle.number_forms.proofs.Shared.{spans_append, IsSpanned, Spans, Tree, size, free_of, terms_from, RowOverflows, SquareRowOverflows, LacksRoom, joining_need, twice, square_row, IsSumOf}
+use Rattle.number_forms.proofs.Shared.{lists_kept, kept_after, overflow_as, other_plain, gives_rest, passed_on, term_of, OfOverflow, tree_of, Gives, without_root, forest, behind_first}
+use Rattle.number_forms.proofs.Shared.{front_after_one, given_handed, given_rest, given_told, gives_as, handed_at}
 use Rattle.number_forms.proofs.Loops.{IsJoined, joined_none, joined_more, joined_part, joined_all}
 use Rattle.number_forms.proofs.Rooms.{full_as, spans_from, partial_spanned, term_lacks, row_lacks}
 use Rattle.number_forms.proofs.Rows.{nothing_more, joined_extracted}

@@ -1,5 +1,7 @@
-use Rattle.std.proofs.Common.{◌≡◌, ℕ, ◌++◌, refl, sym, ap, ◌∙◌, subst, arith, ◌*◌, ◌^◌, ◌<◌, length}
-use Rattle.number_forms.proofs.Shared.{is_number, value, Surd, square_terms, Same-trans, Same-eq, IsSum, lists_at, lists_none, lists_listed, root_ids, kids_of_last, expression_root, Tree, other_plain, gives_rest, kept_after, overflow_as, tree_of, IsHanded, IsExpression, without_root, forest, behind_new, front_same, front_after_one, given_told, given_other, given_rest, gives_as, handed_at, SquareOverflows, OfOverflow, passed_on, Spans, free_of, LacksRoom, joining_need, refused_below, given_free}
+use Rattle.number_forms.proofs.Shared.{◌≡◌, ℕ, ◌++◌, refl, sym, ap, ◌∙◌, subst, arith, ◌*◌, ◌^◌, ◌<◌, length, is_number, value, Surd, square_terms, Same-trans, Same-eq}
+use Rattle.number_forms.proofs.Shared.{IsSum, lists_at, lists_none, lists_listed, root_ids, kids_of_last, expression_root, Tree, other_plain, gives_rest, kept_after, overflow_as, tree_of, IsHanded}
+use Rattle.number_forms.proofs.Shared.{IsExpression, without_root, forest, behind_new, front_same, front_after_one, given_told, given_other, given_rest, gives_as, handed_at, SquareOverflows}
+use Rattle.number_forms.proofs.Shared.{OfOverflow, passed_on, Spans, free_of, LacksRoom, joining_need, refused_below, given_free}
 use Rattle.number_forms.proofs.Squares.{square_same, square_parts}
 use Rattle.number_forms.proofs.Denominators.{shares_eq}
 use Rattle.number_forms.proofs.Over.{over_as}
@@ -16,7 +18,8 @@ pub returns-in_err-join_squares-clause-room : goal.returns-in_err-join_squares-c
 returns-in_err-join_squares-clause-room g c = λ gs s.
     let new = c.in_ok-sum.ensures.given refl in
     let free = given_free c.requires.stands c.in_ok-sum.ensures.stands c.in_ok-sum.ensures.kept new in
-    let a : tree_of c.id-2.result c.node.new.pool ≡ tree_of c.args.a.now c.args.pool.now = ap (λ (i : ℕ). tree_of i c.node.new.pool) c.id-2.ensures ∙ other_plain c.args.a.now new c.requires.handed.root in
+    let a : tree_of c.id-2.result c.node.new.pool ≡ tree_of c.args.a.now c.args.pool.now =
+    ap (λ (i : ℕ). tree_of i c.node.new.pool) c.id-2.ensures ∙ other_plain c.args.a.now new c.requires.handed.root in
     let none = subst (λ (u : Tree). Spans gs (value u)) (sym (given_told new)) tt in
     let number = subst (λ (u : Tree). Spans gs (value u)) (sym a) (number_spans gs _ c.requires.number s) in
     passed_on c.from_residual-in_err-join_squares.result c.in_err-join_squares.field-0.0 (LacksRoom joining_need (free_of c.args.pool.now) gs) c.from_residual-in_err-join_squares.ensures.0 c.from_residual-in_err-join_squares.ensures.1
@@ -54,16 +57,19 @@ pub returns-clause-ok : goal.returns-clause-ok
 returns-clause-ok g c =
     let new = c.in_ok-sum.ensures.given refl in
     let squares = c.in_ok-join_squares.ensures.ok in
-    let a : tree_of c.id-2.result c.node.new.pool ≡ tree_of c.args.a.now c.args.pool.now = ap (λ (i : ℕ). tree_of i c.node.new.pool) c.id-2.ensures ∙ other_plain c.args.a.now new c.requires.handed.root in
+    let a : tree_of c.id-2.result c.node.new.pool ≡ tree_of c.args.a.now c.args.pool.now =
+    ap (λ (i : ℕ). tree_of i c.node.new.pool) c.id-2.ensures ∙ other_plain c.args.a.now new c.requires.handed.root in
     let v : Surd = value (tree_of c.args.a.now c.args.pool.now) in
-    let same : value (tree_of c.in_ok-sum.sum c.node.new.pool) ++ square_terms (value (tree_of c.id-2.result c.node.new.pool)) ≡ square_terms v = λ i. value (given_told new i) ++ square_terms (value (a i)) in
+    let same : value (tree_of c.in_ok-sum.sum c.node.new.pool) ++ square_terms (value (tree_of c.id-2.result c.node.new.pool)) ≡ square_terms v =
+    λ i. value (given_told new i) ++ square_terms (value (a i)) in
     gives_as c.in_ok-number_of.ensures.ok (given_rest squares ∙ given_rest new)
     (λ t h. over_as h (Same-trans (given_told squares).worth (Same-trans (Same-eq same) (square_same v))) (λ d p. (given_told squares).parts d (shares_eq (sym same) d (square_parts v d p))))
 
 pub returns-in_err-join_squares-clause-overflow : goal.returns-in_err-join_squares-clause-overflow
 returns-in_err-join_squares-clause-overflow g c =
     let new = c.in_ok-sum.ensures.given refl in
-    let a : tree_of c.id-2.result c.node.new.pool ≡ tree_of c.args.a.now c.args.pool.now = ap (λ (i : ℕ). tree_of i c.node.new.pool) c.id-2.ensures ∙ other_plain c.args.a.now new c.requires.handed.root in
+    let a : tree_of c.id-2.result c.node.new.pool ≡ tree_of c.args.a.now c.args.pool.now =
+    ap (λ (i : ℕ). tree_of i c.node.new.pool) c.id-2.ensures ∙ other_plain c.args.a.now new c.requires.handed.root in
     passed_on c.from_residual-in_err-join_squares.result c.in_err-join_squares.field-0.0 (OfOverflow (SquareOverflows (value (tree_of c.args.a.now c.args.pool.now)))) c.from_residual-in_err-join_squares.ensures.0 c.from_residual-in_err-join_squares.ensures.1
     (overflow_as c.in_err-join_squares.field-0.0 (c.in_err-join_squares.ensures.overflow (ap value (given_told new))) (λ o p. subst (λ (t : Tree). SquareOverflows (value t) o) a p))
 

@@ -1,7 +1,5 @@
-use Rattle.std.proofs.Common.{sym, ap, ◌∙◌, subst}
-use Rattle.number_forms.proofs.Shared.{IsTerm, term, one_not_zero, term_words}
+use Rattle.number_forms.proofs.Shared.{sym, ap, ◌∙◌, subst, IsTerm, term, one_not_zero, term_words, one_value}
 use Rattle.calc_algebra.specs.Numbers.{term_of as term_of_tree}
-use Rattle.number_forms.proofs.TermTrees.{one_value}
 use Rattle.number_forms.proofs.term.term_at.Goals as goal
 
 pub rational-requires : goal.rational-requires

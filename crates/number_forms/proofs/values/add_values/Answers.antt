@@ -1,5 +1,4 @@
-use Rattle.std.proofs.Common.{◌++◌, List, ap, sym, rules}
-use Rattle.number_forms.proofs.Shared.{Same-append, Same-eq, Same-refl, Same-trans, tree_of, value}
+use Rattle.number_forms.proofs.Shared.{◌++◌, List, ap, sym, rules, Same-append, Same-eq, Same-refl, Same-trans, tree_of, value}
 use Rattle.number_forms.proofs.Denominators.{shares_eq}
 use Rattle.number_forms.proofs.ListedTerms.{terms_as}
 use Rattle.number_forms.proofs.Over.{shares_append}

@@ -1,7 +1,5 @@
-use Rattle.std.proofs.Common.{lit<, ◌∙◌, sym, subst, arith}
-use Rattle.std.proofs.lemmas.Bool.{eqb-false}
+use Rattle.number_forms.proofs.Shared.{lit<, ◌∙◌, sym, subst, arith, eqb-false, AreTermsOf}
 use Rattle.number_forms.proofs.ListedTerms.{count_trees, inserted_terms}
-use Rattle.number_forms.specs.Values.{AreTermsOf}
 use Rattle.number_forms.proofs.values.insert.Goals as goal
 
 pub insert-requires : goal.insert-requires

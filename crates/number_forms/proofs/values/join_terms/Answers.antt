@@ -1,5 +1,4 @@
-use Rattle.std.proofs.Common.{ℕ, ◌∷◌, ◌∙◌, ap, sym, arith, add-one, rules}
-use Rattle.number_forms.proofs.Shared.{term_of, tree_of, value}
+use Rattle.number_forms.proofs.Shared.{ℕ, ◌∷◌, ◌∙◌, ap, sym, arith, add-one, rules, term_of, tree_of, value}
 use Rattle.number_forms.proofs.Loops.{from_all}
 use Rattle.number_forms.proofs.ValueLoops.{with_none, with_step}
 use Rattle.number_forms.proofs.Worth.{from_next, terms_from}

@@ -1,9 +1,6 @@
-use Rattle.std.proofs.Common.{◌≡◌, ◌∙◌, ap, sym, subst, get_or, List, refl}
-use Rattle.number_forms.proofs.Shared.{term_of}
+use Rattle.number_forms.proofs.Shared.{◌≡◌, ◌∙◌, ap, sym, subst, get_or, List, refl, term_of, AreTermsOf, IfTerm, Joins, Joined}
 use Rattle.number_forms.proofs.ListedTerms.{cancelled_terms, met_terms, refill_set, same_default}
-use Rattle.number_forms.specs.Values.{AreTermsOf}
-use Rattle.surd_terms.specs.Sums.{IfTerm, Joins, IsSum}
-use Rattle.surd_terms.specs.declared.sums.Joined.{Joined}
+use Rattle.surd_terms.specs.Sums.{IsSum}
 use Rattle.surd_terms.specs.declared.term.Term.{Term}
 use Rattle.number_forms.proofs.values.meet.Goals.{After-join}
 use Rattle.number_forms.proofs.values.meet.Goals as goal

@@ -1,4 +1,4 @@
-use Rattle.std.proofs.Common.{refl, arith}
+use Rattle.number_forms.proofs.Shared.{refl, arith}
 use Rattle.number_forms.proofs.ListedTerms.{place_here, place_end}
 use Rattle.number_forms.proofs.values.place_in.Goals as goal
 

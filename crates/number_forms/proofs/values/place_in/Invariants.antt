@@ -1,4 +1,4 @@
-use Rattle.std.proofs.Common.{ℕ, ◌<◌, get_or}
+use Rattle.number_forms.proofs.Shared.{ℕ, ◌<◌, get_or}
 use Rattle.surd_terms.specs.declared.term.Term.{Term}
 use Rattle.number_forms.proofs.values.place_in.Given as goal
 

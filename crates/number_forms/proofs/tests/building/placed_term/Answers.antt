@@ -1,5 +1,4 @@
-use Rattle.std.proofs.Common.{refl}
-use Rattle.number_forms.proofs.Shared.{gives_as}
+use Rattle.number_forms.proofs.Shared.{refl, gives_as}
 use Rattle.number_forms.proofs.Pairs.{term_is_number}
 use Rattle.number_forms.proofs.tests.building.placed_term.Goals as goal
 

@@ -1,6 +1,4 @@
-use Rattle.std.proofs.Common.{◌≡◌, sym, ap, ◌∙◌, of_z}
-use Rattle.std.specs.Prelude.{pos}
-use Rattle.number_forms.proofs.Shared.{w128, Fraction, zero_fraction, whole_numerator, ratio_parts}
+use Rattle.number_forms.proofs.Shared.{◌≡◌, sym, ap, ◌∙◌, of_z, pos, w128, Fraction, zero_fraction, whole_numerator, ratio_parts}
 use Rattle.number_forms.proofs.tests.building.term.Goals as goal
 
 zero_num : zero_fraction.num ≡ pos 0

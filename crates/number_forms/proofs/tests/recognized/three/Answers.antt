@@ -1,6 +1,5 @@
-use Rattle.std.proofs.Common.{rules, refl}
-use Rattle.std.specs.Prelude.{⊤}
-use Rattle.number_forms.proofs.Shared.{bare, Tree, represents_none, represents_handed, represents_with, represents_node, gives, gives_as, given_root, given_handed, given_rest, last_held, last_apart, other_root, ends_as}
+use Rattle.number_forms.proofs.Shared.{rules, refl, ⊤, bare, Tree, represents_none, represents_handed, represents_with, represents_node, gives, gives_as, given_root, given_handed, given_rest}
+use Rattle.number_forms.proofs.Shared.{last_held, last_apart, other_root, ends_as}
 use Rattle.calc_terms.specs.declared.kind.Kind.TheVariants as kind
 use Rattle.number_forms.proofs.tests.recognized.three.Goals as goal
 
