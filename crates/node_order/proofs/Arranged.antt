@@ -1,7 +1,8 @@
 -- Children that are brought into an order, one place after another.
-use Rattle.std.proofs.Common.{◌≡◌, ℕ, ◌+◌, ◌<◌, ◌≤◌, List, length, take, get_or, sym, ap, ◌∙◌, subst, arith, true, All, IsPermutation}
-use Rattle.node_order.proofs.Shared.{swap, range_with_len, take_all, All-get_or, All-permutation, IsPermutation-sym, picked_behind, State, root_ids, IsChildAt, AreSiblings, Forest, arity, kids, rest_trees, swapped_nth, kids_of, has_root, root_tree, put, Stands, forest, first-rest, arity-join, arity-first_trees, arity-rest_trees, kids_of_root, root-put, kids-put, put-put, put-same}
-use Rattle.node_order.proofs.Listing.{ids-nth}
+use Rattle.node_order.proofs.Shared.{◌≡◌, ℕ, ◌+◌, ◌<◌, ◌≤◌, List, length, take, get_or, sym, ap, ◌∙◌, subst, arith, true, All, IsPermutation, swap, range_with_len}
+use Rattle.node_order.proofs.Shared.{take_all, All-get_or, All-permutation, IsPermutation-sym, picked_behind, State, root_ids, IsChildAt, AreSiblings, Forest, arity, kids, rest_trees, swapped_nth}
+use Rattle.node_order.proofs.Shared.{kids_of, has_root, root_tree, put, Stands, forest, first-rest, arity-join, arity-first_trees, arity-rest_trees, kids_of_root, root-put, kids-put, put-put}
+use Rattle.node_order.proofs.Shared.{put-same, root_ids-nth}
 use Rattle.node_order.proofs.Picks.{AreInside, arity-picked, picked-swap, nth-picked_behind}
 use Rattle.node_order.proofs.Places.{inside_range}
 use Rattle.node_order.proofs.SortLaws.{picked-range}
@@ -13,7 +14,8 @@ pub record IsArranged (i n : ℕ) (xs : List ℕ) (f g : Forest) : Type 0 where
   pub inside : AreInside (rest_trees n (kids (root_tree i f))) xs
   pub low : n ≤ arity (kids (root_tree i f))
 
-pub arranged : (i n : ℕ) (xs ys : List ℕ) (f g : Forest) → has_root i f ≡ true → n + length ys ≡ arity (kids (root_tree i f)) → IsPermutation (range_with_len 0 (length ys)) ys → IsPermutation xs ys → g ≡ put i (picked_behind n xs (kids (root_tree i f))) f → IsArranged i n xs f g
+pub arranged : (i n : ℕ) (xs ys : List ℕ) (f g : Forest) → has_root i f ≡ true → n + length ys ≡ arity (kids (root_tree i f)) → IsPermutation (range_with_len 0 (length ys)) ys
+    → IsPermutation xs ys → g ≡ put i (picked_behind n xs (kids (root_tree i f))) f → IsArranged i n xs f g
 arranged i n xs ys f g root all places moved shape =
     let many : length ys ≡ arity (rest_trees n (kids (root_tree i f))) = omega (arith, arity-rest_trees n (kids (root_tree i f))) in
     record {
@@ -34,11 +36,13 @@ pub arranged_place : (i n at : ℕ) (xs : List ℕ) (f : Forest) (s : State) →
 arranged_place i n at xs f s h a k = grind (arith, arranged_root, kids_of_root, arranged_kids, arity-join, arity-first_trees, arity-picked)
 
 -- which child stands there, by the identifiers of the children as they stood at first
-arranged_child : (i n at x d : ℕ) (xs : List ℕ) (f : Forest) (s : State) → Stands s → IsArranged i n xs f (forest s) → at < length xs → x ≡ get_or (root_ids (rest_trees n (kids (root_tree i f)))) (get_or xs at 0) d → IsChildAt (n + at) i x (forest s)
-arranged_child i n at x d xs f s h a k e = grind (arith, kids_of_root, arranged_root, arranged_kids, arranged_place, ids-nth, All-get_or, nth-picked_behind)
+arranged_child : (i n at x d : ℕ) (xs : List ℕ) (f : Forest) (s : State) → Stands s → IsArranged i n xs f (forest s) → at < length xs
+    → x ≡ get_or (root_ids (rest_trees n (kids (root_tree i f)))) (get_or xs at 0) d → IsChildAt (n + at) i x (forest s)
+arranged_child i n at x d xs f s h a k e = grind (arith, kids_of_root, arranged_root, arranged_kids, arranged_place, root_ids-nth, All-get_or, nth-picked_behind)
 
 -- two of them, each found in the list of the children as they stood at first
-pub arranged_siblings : (i n at place here wanted x y : ℕ) (xs ids : List ℕ) (f : Forest) (s : State) → Stands s → IsArranged i n xs f (forest s) → ids ≡ root_ids (rest_trees n (kids (root_tree i f)))
+pub arranged_siblings : (i n at place here wanted x y : ℕ) (xs ids : List ℕ) (f : Forest) (s : State) → Stands s → IsArranged i n xs f (forest s)
+    → ids ≡ root_ids (rest_trees n (kids (root_tree i f)))
     → at < length xs → place < length xs → here ≡ get_or xs at 0 → wanted ≡ get_or xs place 0 → x ≡ get_or ids here x → y ≡ get_or ids wanted y → AreSiblings i (n + at) x (n + place) y (forest s)
 arranged_siblings i n at place here wanted x y xs ids f s st a whole low high e h p q = record {
   first = arranged_child i n at x x xs f s st a low (p ∙ (λ d. get_or (whole d) (e d) x));
@@ -46,7 +50,8 @@ arranged_siblings i n at place here wanted x y xs ids f s st a whole low high e 
 }
 
 -- two of them change places
-pub arranged_swap : (i n at j : ℕ) (xs : List ℕ) (f g h : Forest) → IsArranged i n xs f g → at ≤ j → j < length xs → h ≡ put i (swapped_nth (n + at) (n + j) (kids (root_tree i g))) g → h ≡ put i (picked_behind n (swap xs at j) (kids (root_tree i f))) f
+pub arranged_swap : (i n at j : ℕ) (xs : List ℕ) (f g h : Forest) → IsArranged i n xs f g → at ≤ j → j < length xs → h ≡ put i (swapped_nth (n + at) (n + j) (kids (root_tree i g))) g
+    → h ≡ put i (picked_behind n (swap xs at j) (kids (root_tree i f))) f
 arranged_swap i n at j xs f g h a k l e = grind (arith, arranged_kids, put-put, picked-swap)
 
 -- before the first change

@@ -1,6 +1,6 @@
 -- Two lists of places that undo each other.
-use Rattle.std.proofs.Common.{◌≡◌, ℕ, ◌<◌, ◌≤◌, List, length, take, get_or, refl, sym, ap, ◌∙◌, subst, arith, ⊎_elim, IsPermutation}
-use Rattle.node_order.proofs.Shared.{swap, range_with_len, cases_lt, cases_eq, get_or-take, swapped_from_swap, length-swap, length-range_with_len, get_or-range_with_len, All-get_or, IsPermutation-keeps, length_permutation}
+use Rattle.node_order.proofs.Shared.{◌≡◌, ℕ, ◌<◌, ◌≤◌, List, length, take, get_or, refl, sym, ap, ◌∙◌, subst, arith, ⊎_elim, IsPermutation, swap, range_with_len, cases_lt}
+use Rattle.node_order.proofs.Shared.{cases_eq, get_or-take, swapped_from_swap, length-swap, length-range_with_len, get_or-range_with_len, All-get_or, IsPermutation-keeps, length_permutation}
 use Rattle.node_order.proofs.Places.{inside_range}
 
 -- each place below n stands in xs at the place that ys has for it
@@ -17,7 +17,8 @@ pub record AreInverse (n : ℕ) (xs ys : List ℕ) : Type 0 where
 pub inverse_start : (n : ℕ) → AreInverse n (range_with_len 0 n) (range_with_len 0 n)
 inverse_start n = grind (arith, length-range_with_len, get_or-range_with_len)
 
-tells_swap : (n a b x y : ℕ) (xs ys : List ℕ) → length xs ≡ n → length ys ≡ n → a < n → b < n → x < n → y < n → get_or xs a 0 ≡ x → get_or xs b 0 ≡ y → get_or ys x 0 ≡ a → get_or ys y 0 ≡ b → Tells n xs ys → Tells n (swap xs a b) (swap ys x y)
+tells_swap : (n a b x y : ℕ) (xs ys : List ℕ) → length xs ≡ n → length ys ≡ n → a < n → b < n → x < n → y < n → get_or xs a 0 ≡ x → get_or xs b 0 ≡ y
+    → get_or ys x 0 ≡ a → get_or ys y 0 ≡ b → Tells n xs ys → Tells n (swap xs a b) (swap ys x y)
 tells_swap n a b x y xs ys long wide la lb lx ly ax by xa yb t k lt =
     let old = swapped_from_swap xs (swap xs a b) a b 0 (omega arith) (omega arith) refl in
     let new = swapped_from_swap ys (swap ys x y) x y 0 (omega arith) (omega arith) refl in
@@ -73,7 +74,8 @@ pub record IsSought (n at place : ℕ) (xs order : List ℕ) : Type 0 where
   pub inside : place < n
   pub found : get_or xs place 0 ≡ get_or order at 0
 
-pub sought : (n at : ℕ) (xs ys order : List ℕ) → IsPermutation (range_with_len 0 n) order → AreInverse n xs ys → take at xs ≡ take at order → at < n → (get_or order at 0 < n) × IsSought n at (get_or ys (get_or order at 0) 0) xs order
+pub sought : (n at : ℕ) (xs ys order : List ℕ) → IsPermutation (range_with_len 0 n) order → AreInverse n xs ys → take at xs ≡ take at order → at < n
+    → (get_or order at 0 < n) × IsSought n at (get_or ys (get_or order at 0) 0) xs order
 sought n at xs ys order moved i same lt =
     let wanted = get_or order at 0 in
     let place = get_or ys wanted 0 in

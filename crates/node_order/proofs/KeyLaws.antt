@@ -1,7 +1,9 @@
 -- Keys, and the fronts of their trees.
-use Rattle.std.proofs.Common.{◌≡◌, ◌≢◌, ℕ, zero, suc, ◌-◌, ◌^◌, ◌<◌, ◌≤◌, [], ◌∷◌, length, eqb, cond, refl, sym, ap, ◌∙◌, subst, arith, append-nil, true}
-use Rattle.node_order.proofs.Shared.{ne_eqb, Payload, bare, Tree, mult, Trees, count, is_mult, Front, Key, Shows, trees_behind, key_tree, IsKey, State, Visit, grown, plains, plain, takes, children_of, IsWhole, IsExpression, Forest, empty, tree, arity, rest_trees, kids, nodes_in, holds, tree_at, kids_of, payload_in, Stands, forest, visits_of, arity-rest_trees, all-rest_trees, few_in, children_of-plain, count-plains, whole_kids, expression_children, found, found-kids, found-rest_trees, visits_length}
-use Rattle.calc_algebra.specs.Reduced.{product_tree}
+use Rattle.node_order.proofs.Shared.{◌≡◌, ◌≢◌, ℕ, zero, suc, ◌-◌, ◌^◌, ◌<◌, ◌≤◌, [], ◌∷◌, length, eqb, cond, refl, sym, ap, ◌∙◌, subst, arith, append-nil}
+use Rattle.node_order.proofs.Shared.{true, ne_eqb, Payload, bare, Tree, mult, Trees, count, is_mult, Front, Key, Shows, trees_behind, key_tree, IsKey, State, Visit, grown, plains, plain, takes}
+use Rattle.node_order.proofs.Shared.{children_of, IsWhole, IsExpression, Forest, empty, tree, arity, rest_trees, kids, nodes_in, holds, tree_at, kids_of, payload_in, Stands, forest, visits_of}
+use Rattle.node_order.proofs.Shared.{arity-rest_trees, all-rest_trees, few_in, children_of-plain, count-plains, whole_kids, expression_children, found, found-kids, found-rest_trees, visits_length}
+use Rattle.node_order.proofs.Shared.{product_tree}
 use Rattle.node_order.proofs.Pairs.{shows_first}
 use Rattle.node_order.proofs.Roots.{is_grown}
 use Rattle.calc_terms.specs.declared.kind.Kind.TheVariants as kind
@@ -51,21 +53,17 @@ rest_few : (n i : ℕ) (s : State) → Stands s → nodes_in (rest_trees n (kids
 rest_few n i s st = omega (arith, few_in i s st, nodes_kids (tree_at i (forest s)), nodes_rest n (kids_of i (forest s)))
 
 -- all but one are left out
-pub key_last : {front : Front} {k : Key} {st : State} → Stands st → IsKey k (forest st) → k.behind ≢ 0 → arity (kids_of k.id (forest st)) - k.behind ≡ 1 → visits_of (rest_trees k.behind (kids_of k.id (forest st))) ≡ front.root ∷ front.behind
+pub key_last : {front : Front} {k : Key} {st : State} → Stands st → IsKey k (forest st) → k.behind ≢ 0 → arity (kids_of k.id (forest st)) - k.behind ≡ 1
+    → visits_of (rest_trees k.behind (kids_of k.id (forest st))) ≡ front.root ∷ front.behind
     → Shows front (key_tree k (forest st)) (forest st)
-key_last {front = front} {k = k} {st = st} s x h one e =
-    let base = forest st in
-    let kids = kids_of k.id base in
-    let rest = rest_trees k.behind kids in
-    let many : arity rest ≡ 1 = arity-rest_trees k.behind kids ∙ one in
-    let whole = all-rest_trees IsWhole k.behind kids (whole_kids (tree_at k.id base) x.tree.whole) in
-    subst (λ (t : Tree). Shows front t base) (sym (key_rest k base x h ∙ one_factor rest many)) (shows_first rest many whole (found-rest_trees base k.behind kids (found-kids base (tree_at k.id base) (found k.id st s))) (rest_few k.behind k.id st s) e)
+key_last s x h one e = grind (arith, arity-rest_trees, all-rest_trees, whole_kids, key_rest, one_factor, shows_first, found-rest_trees, found-kids, found, rest_few)
 
 mult_payload : (x : Payload) (ts : Trees) → is_mult (grown x ts) ≡ true → x ≡ bare kind.Mult
 mult_payload x ts h = grind arith
 
 -- some factors are left out, and two or more are not
-pub key_product : {front new : Front} {k : Key} {st : State} → Stands st → IsKey k (forest st) → k.behind ≢ 0 → arity (kids_of k.id (forest st)) - k.behind ≢ 1 → Shows front (plain (tree_at k.id (forest st))) (forest st)
+pub key_product : {front new : Front} {k : Key} {st : State} → Stands st → IsKey k (forest st) → k.behind ≢ 0 → arity (kids_of k.id (forest st)) - k.behind ≢ 1
+    → Shows front (plain (tree_at k.id (forest st))) (forest st)
     → new.root ≡ record { kind = front.root.kind; id = front.root.id; children = front.root.children - k.behind } → new.behind ≡ visits_of (rest_trees k.behind (kids_of k.id (forest st))) → Shows new (key_tree k (forest st)) (forest st)
 key_product {new = new} {k = k} {st = st} s x h two w e q =
     let base = forest st in

@@ -1,6 +1,5 @@
 -- Answers of comparisons, one after another.
-use Rattle.std.proofs.Common.{◌≡◌, ◌≢◌, ℕ, suc, ◌<◌, arith}
-use Rattle.node_order.proofs.Shared.{Ordering, Less, Equal, Greater, nat_cmp, ordering_then}
+use Rattle.node_order.proofs.Shared.{◌≡◌, ◌≢◌, ℕ, suc, ◌<◌, arith, Ordering, Less, Equal, Greater, nat_cmp, ordering_then}
 
 pub then-equal : (a : Ordering) → ordering_then a Equal ≡ a
 then-equal a = grind arith

@@ -1,7 +1,10 @@
 -- Pairs of trees that are compared in one walk.
-use Rattle.std.proofs.Common.{Bool, not, ◌==◌, ◌≡◌, ◌≢◌, ℕ, zero, suc, ◌+◌, ◌-◌, ◌^◌, ◌<◌, ◌≤◌, min, List, [], ◌∷◌, ◌++◌, length, refl, sym, ap, ◌∙◌, subst, arith, append_assoc, append-nil, ⊎_elim, true, false}
-use Rattle.node_order.proofs.Shared.{Ordering, Equal, nat_cmp, ordering_then, ordering_index, cases_eq, map-append, length-append, Payload, tree_cmp, trees_cmp, Tree, Front, IsFront, Shows, payload_cmp, State, Visit, grown, plain, plains, IsWhole, IsExpression, AllExpressions, Label, Forest, empty, tree, join, arity, node_of, flatten, first_trees, rest_trees, root_payload, nodes_in, tree_at, payload_in, Stands, forest, visit_of, visits_of, AreFound, arity-join, arity-first_trees, all-join, all-first_trees, nodes-flatten, arity_le, few_in, one_at, found, found-join, found-first_trees, seen, visits-join, visits-first_rest, visits_length}
-use Rattle.node_order.specs.declared.comparing.Pairs.{Pairs}
+use Rattle.node_order.proofs.Shared.{Bool, not, ◌==◌, ◌≡◌, ◌≢◌, ℕ, zero, suc, ◌+◌, ◌-◌, ◌^◌, ◌<◌, ◌≤◌, min, List, [], ◌∷◌, ◌++◌, length, refl, sym}
+use Rattle.node_order.proofs.Shared.{ap, ◌∙◌, subst, arith, append_assoc, append-nil, ⊎_elim, true, false, Ordering, Equal, nat_cmp, ordering_then, ordering_index, cases_eq, map-append}
+use Rattle.node_order.proofs.Shared.{length-append, Payload, tree_cmp, trees_cmp, Tree, Front, IsFront, Shows, payload_cmp, State, Visit, grown, plain, plains, IsWhole, IsExpression, AllExpressions}
+use Rattle.node_order.proofs.Shared.{Label, Forest, empty, tree, join, arity, node_of, flatten, first_trees, rest_trees, root_payload, nodes_in, tree_at, payload_in, Stands, forest, visit_of}
+use Rattle.node_order.proofs.Shared.{visits_of, AreFound, arity-join, arity-first_trees, all-join, all-first_trees, nodes-flatten, arity_le, few_in, one_at, found, found-join, found-first_trees, seen}
+use Rattle.node_order.proofs.Shared.{visits-join, visits-first_rest, visits_length, Pairs}
 use Rattle.node_order.proofs.Orderings.{then-equal, then_assoc, then_decided, nat_cmp_less, nat_cmp_greater, nat_cmp_equal, nat_cmp-suc}
 use Rattle.node_order.proofs.Roots.{by_roots}
 
@@ -12,25 +15,21 @@ pub cmp-join : (k j f g : Forest) → arity k ≡ arity j → trees_cmp (plains 
 cmp-join empty empty f g e = refl
 cmp-join empty (tree m j s) f g e = absurd (omega arith)
 cmp-join (tree l k r) empty f g e = absurd (omega arith)
-cmp-join (tree l k r) (tree m j s) f g e =
-    let d = tree_cmp (grown l.payload (plains k)) (grown m.payload (plains j)) in
-    ap (ordering_then d) (cmp-join r s f g (omega arith)) ∙ sym (then_assoc d (trees_cmp (plains r) (plains s)) (trees_cmp (plains f) (plains g)))
+cmp-join (tree l k r) (tree m j s) f g e = grind (arith, then_assoc, (cmp-join r s f g (omega arith)))
 
 first_none : (n : ℕ) → first_trees n empty ≡ empty
 first_none n = grind arith
 
 -- as many trees as both have, and then the numbers of trees
-pub cmp-first : (k j : Forest) (n : ℕ) → n ≡ min (arity k) (arity j) → trees_cmp (plains k) (plains j) ≡ ordering_then (trees_cmp (plains (first_trees n k)) (plains (first_trees n j))) (nat_cmp (arity k) (arity j))
+pub cmp-first : (k j : Forest) (n : ℕ) → n ≡ min (arity k) (arity j)
+    → trees_cmp (plains k) (plains j) ≡ ordering_then (trees_cmp (plains (first_trees n k)) (plains (first_trees n j))) (nat_cmp (arity k) (arity j))
 cmp-first empty empty n e = rw (first_none n) refl
 cmp-first empty (tree m j s) zero e = sym (nat_cmp_less 0 (suc (arity s)) (omega arith))
 cmp-first empty (tree m j s) (suc n) e = absurd (omega arith)
 cmp-first (tree l k r) empty zero e = sym (nat_cmp_greater (suc (arity r)) 0 (omega arith))
 cmp-first (tree l k r) empty (suc n) e = absurd (omega arith)
 cmp-first (tree l k r) (tree m j s) zero e = absurd (omega arith)
-cmp-first (tree l k r) (tree m j s) (suc n) e =
-    let d = tree_cmp (grown l.payload (plains k)) (grown m.payload (plains j)) in
-    let rest = trees_cmp (plains (first_trees n r)) (plains (first_trees n s)) in
-    ap (ordering_then d) (cmp-first r s n (omega arith)) ∙ sym (then_assoc d rest (nat_cmp (arity r) (arity s))) ∙ ap (ordering_then (ordering_then d rest)) (sym (nat_cmp-suc (arity r) (arity s)))
+cmp-first (tree l k r) (tree m j s) (suc n) e = grind (arith, then_assoc, nat_cmp-suc, (cmp-first r s n (omega arith)))
 
 -- ---- the walk
 
@@ -95,17 +94,20 @@ open_start a b = record {
 }
 
 -- the order of the roots, and then that of their children
-roots_first : {left right : Front} {owed : ℕ} {undecided total roots : Ordering} {base : Forest} (o : IsOpen left right owed undecided total base) → roots ≡ payload_cmp (payload_in left.root.id base) (payload_in right.root.id base)
+roots_first : {left right : Front} {owed : ℕ} {undecided total roots : Ordering} {base : Forest} (o : IsOpen left right owed undecided total base)
+    → roots ≡ payload_cmp (payload_in left.root.id base) (payload_in right.root.id base)
     → ordering_then roots (ordering_then (ordering_then (trees_cmp (plains o.k) (plains o.j)) (trees_cmp (plains o.f) (plains o.g))) undecided) ≡ total
 roots_first o e = grind (arith, then_assoc, by_roots)
 
 -- the roots decide
-pub open_decided : {left right : Front} {owed : ℕ} {undecided total roots : Ordering} {base : Forest} → IsOpen left right owed undecided total base → roots ≡ payload_cmp (payload_in left.root.id base) (payload_in right.root.id base)
+pub open_decided : {left right : Front} {owed : ℕ} {undecided total roots : Ordering} {base : Forest} → IsOpen left right owed undecided total base
+    → roots ≡ payload_cmp (payload_in left.root.id base) (payload_in right.root.id base)
     → roots ≢ Equal → roots ≡ total
 open_decided {roots = roots} o e d = sym (then_decided roots _ d) ∙ roots_first o e
 
 -- the roots are equal
-left_over : {left right : Front} {owed : ℕ} {undecided total roots : Ordering} {base : Forest} (o : IsOpen left right owed undecided total base) → roots ≡ payload_cmp (payload_in left.root.id base) (payload_in right.root.id base) → roots ≡ Equal
+left_over : {left right : Front} {owed : ℕ} {undecided total roots : Ordering} {base : Forest} (o : IsOpen left right owed undecided total base)
+    → roots ≡ payload_cmp (payload_in left.root.id base) (payload_in right.root.id base) → roots ≡ Equal
     → ordering_then (ordering_then (trees_cmp (plains o.k) (plains o.j)) (trees_cmp (plains o.f) (plains o.g))) undecided ≡ total
 left_over {undecided = undecided} o e d =
     let rest = ordering_then (ordering_then (trees_cmp (plains o.k) (plains o.j)) (trees_cmp (plains o.f) (plains o.g))) undecided in
@@ -191,8 +193,7 @@ open_behind {left = left} {right = right} {total = total} {base = base} o e d sa
 
 -- there are few of them
 pub open_few : {left right : Front} {owed : ℕ} {undecided total : Ordering} {base : Forest} → IsOpen left right owed undecided total base → owed ≤ 65536
-open_few {left = left} o =
-    omega (arith, o.first, arity_le o.f, visits_length o.f, nodes-flatten o.f, o.short, ap length o.one.nodes, length-append (visits_of o.k) (visits_of o.f ++ o.others), length-append (visits_of o.f) o.others)
+open_few o = grind (arith, arity_le, visits_length, nodes-flatten, length-append)
 
 -- two roots that are not unequal
 pub equal_roots : (o : Ordering) (t : Bool) → t ≡ not (ordering_index o == 1) → t ≡ false → o ≡ Equal
@@ -222,35 +223,20 @@ pub pending_right : {left right : List Visit} {owed : ℕ} {undecided total : Or
 pending_right {right = right} p some = some_visit p.g right p.rest p.two (omega (arith, p.second))
 
 -- the front of the first of some trees
-first_front : {base : Forest} {front : Front} {xs : List Visit} (l : Label) (k r : Forest) (others : List Visit) → xs ≡ visits_of (tree l k r) ++ others → xs ≡ front.root ∷ front.behind → AreFound base (tree l k r) → AllExpressions (tree l k r)
+first_front : {base : Forest} {front : Front} {xs : List Visit} (l : Label) (k r : Forest) (others : List Visit) → xs ≡ visits_of (tree l k r) ++ others → xs ≡ front.root ∷ front.behind
+    → AreFound base (tree l k r) → AllExpressions (tree l k r)
     → IsFront front l.payload k (visits_of r ++ others) base
-first_front {base = base} {front = front} l k r others e q h w =
-    let is : front.root ≡ visit_of (node_of l k) = head (sym q ∙ e) in
-    let s = seen l k r h is in
-    record {
-      kind = ap (λ (v : Visit). v.kind) is;
-      children = ap (λ (v : Visit). v.children) is;
-      live = s.live;
-      payload = ap root_payload s.tree-is;
-      nodes = tail (sym q ∙ e) ∙ ap (λ (v : List Visit). v ++ others) (map-append visit_of (flatten k) (flatten r)) ∙ append_assoc (visits_of k) (visits_of r) others;
-      found = h.1;
-      few = w.0;
-      below = w.1;
-    }
-  where
-    head : {v u : Visit} {vs us : List Visit} → v ∷ vs ≡ u ∷ us → v ≡ u
-    head e = cc
-
-    tail : {v u : Visit} {vs us : List Visit} → v ∷ vs ≡ u ∷ us → vs ≡ us
-    tail e = cc
+first_front l k r others e q h w = grind (arith, node_of, seen, map-append, append_assoc, found)
 
 -- the next pair
-pub pending_next : {left right : Front} {xs ys : List Visit} {owed : ℕ} {undecided total : Ordering} {base : Forest} → IsPending xs ys owed undecided total base → 0 < owed → xs ≡ left.root ∷ left.behind → ys ≡ right.root ∷ right.behind
+pub pending_next : {left right : Front} {xs ys : List Visit} {owed : ℕ} {undecided total : Ordering} {base : Forest} → IsPending xs ys owed undecided total base → 0 < owed
+    → xs ≡ left.root ∷ left.behind → ys ≡ right.root ∷ right.behind
     → IsOpen left right owed undecided total base
 pending_next {left = left} {right = right} {xs = xs} {ys = ys} {owed = owed} {undecided = undecided} {total = total} {base = base} p some a b =
     by p.f p.g p.one p.two p.first p.second p.found-first p.found-second p.whole-first p.whole-second p.sum
   where
-    by : (f g : Forest) → xs ≡ visits_of f ++ p.others → ys ≡ visits_of g ++ p.rest → arity f ≡ owed → arity g ≡ owed → AreFound base f → AreFound base g → AllExpressions f → AllExpressions g
+    by : (f g : Forest) → xs ≡ visits_of f ++ p.others → ys ≡ visits_of g ++ p.rest → arity f ≡ owed → arity g ≡ owed → AreFound base f → AreFound base g → AllExpressions f
+        → AllExpressions g
         → ordering_then (trees_cmp (plains f) (plains g)) undecided ≡ total → IsOpen left right owed undecided total base
     by empty g e q m n h d v w s = absurd (omega arith)
     by (tree l k r) empty e q m n h d v w s = absurd (omega arith)
@@ -276,7 +262,8 @@ pending_next {left = left} {right = right} {xs = xs} {ys = ys} {owed = owed} {un
     }
 
 -- the front of one tree, which has few nodes
-pub shows_first : {base : Forest} {front : Front} (t : Forest) → arity t ≡ 1 → AllExpressions t → AreFound base t → nodes_in t ≤ 65535 → visits_of t ≡ front.root ∷ front.behind → Shows front (plain t) base
+pub shows_first : {base : Forest} {front : Front} (t : Forest) → arity t ≡ 1 → AllExpressions t → AreFound base t → nodes_in t ≤ 65535 → visits_of t ≡ front.root ∷ front.behind
+    → Shows front (plain t) base
 shows_first empty one w h few e = absurd (omega arith)
 shows_first (tree l k r) one w h few e = record {
   payload = l.payload;
@@ -287,5 +274,6 @@ shows_first (tree l k r) one w h few e = record {
   tree-is = refl;
 }
 
-pub shows_tree : {front : Front} {i : ℕ} {s : State} → Stands s → IsExpression i (forest s) → visits_of (tree_at i (forest s)) ≡ front.root ∷ front.behind → Shows front (plain (tree_at i (forest s))) (forest s)
+pub shows_tree : {front : Front} {i : ℕ} {s : State} → Stands s → IsExpression i (forest s) → visits_of (tree_at i (forest s)) ≡ front.root ∷ front.behind
+    → Shows front (plain (tree_at i (forest s))) (forest s)
 shows_tree {i = i} {s = s} st x e = shows_first (tree_at i (forest s)) (one_at i (forest s) x.live) x.whole (found i s st) (few_in i s st) e

@@ -1,9 +1,9 @@
 -- Trees that are picked by places.
-use Rattle.std.proofs.Common.{◌≡◌, ℕ, zero, suc, ◌+◌, ◌<◌, ◌≤◌, List, [], ◌∷◌, ◌++◌, length, get_or, refl, sym, ap, ◌∙◌, subst, arith, All}
-use Rattle.node_order.proofs.Shared.{swap, All-head, All-tail, All-nil, All-cons, picked, picked_behind, Forest, join, arity, first_trees, rest_trees, tree_nth, set_nth, swapped_nth, join_assoc, arity-join, arity-tree_nth, arity-first_trees}
+use Rattle.node_order.proofs.Shared.{◌≡◌, ℕ, zero, suc, ◌+◌, ◌<◌, ◌≤◌, List, [], ◌∷◌, ◌++◌, length, get_or, refl, sym, ap, ◌∙◌, subst, arith, All, swap, All-head}
+use Rattle.node_order.proofs.Shared.{All-tail, All-nil, All-cons, picked, picked_behind, Forest, join, arity, first_trees, rest_trees, tree_nth, set_nth, swapped_nth, join_assoc, arity-join}
+use Rattle.node_order.proofs.Shared.{arity-tree_nth, arity-first_trees, first_trees-behind, tree_nth-behind, set_nth-behind, swapped_nth-same}
 use Rattle.node_order.proofs.Listing.{nth-front}
 use Rattle.node_order.proofs.Places.{pair, swap_same}
-use Rattle.tree_handles.proofs.Nths.{first_trees-behind, tree_nth-behind, set_nth-behind, swapped_nth-same}
 
 pub picked-append : (xs ys : List ℕ) (f : Forest) → picked (xs ++ ys) f ≡ join (picked xs f) (picked ys f)
 picked-append [] ys f = refl
@@ -21,7 +21,8 @@ arity-picked (i ∷ xs) f h =
     omega (arith, arity-join (tree_nth i f) (picked xs f))
 
 -- two trees between others change places
-pub swapped_parts : (i j : ℕ) (a p y q z : Forest) → i ≡ arity a → arity p ≡ 1 → arity q ≡ 1 → j ≡ arity a + suc (arity y) → swapped_nth i j (join a (join p (join y (join q z)))) ≡ join a (join q (join y (join p z)))
+pub swapped_parts : (i j : ℕ) (a p y q z : Forest) → i ≡ arity a → arity p ≡ 1 → arity q ≡ 1 → j ≡ arity a + suc (arity y)
+    → swapped_nth i j (join a (join p (join y (join q z)))) ≡ join a (join q (join y (join p z)))
 swapped_parts i j a p y q z ai one other aj =
     let f = join a (join p (join y (join q z))) in
     let front = join a (join p y) in
@@ -42,7 +43,8 @@ inside_part (x ∷ xs) ys f h =
     let r = inside_part xs ys f (All-tail (λ i. i < arity f) x (xs ++ ys) h) in
     (All-cons (λ i. i < arity f) x xs (All-head (λ i. i < arity f) x (xs ++ ys) h) r.0, r.1)
 
-swapped_apart : (n i j : ℕ) (xs : List ℕ) (a f : Forest) → n ≡ arity a → AreInside f xs → i < j → j < length xs → swapped_nth (n + i) (n + j) (join a (picked xs f)) ≡ join a (picked (swap xs i j) f)
+swapped_apart : (n i j : ℕ) (xs : List ℕ) (a f : Forest) → n ≡ arity a → AreInside f xs → i < j → j < length xs
+    → swapped_nth (n + i) (n + j) (join a (picked xs f)) ≡ join a (picked (swap xs i j) f)
 swapped_apart n i j xs a f e h lt room =
     let p = pair i j xs lt room in
     let inside = subst (AreInside f) p.whole h in
@@ -61,7 +63,8 @@ swapped_apart n i j xs a f e h lt room =
     ∙ ap (λ (x : List ℕ). join a (picked x f)) (sym p.swapped)
 
 -- two of them change places
-pub picked-swap : (n i j : ℕ) (xs : List ℕ) (f : Forest) → n ≤ arity f → AreInside (rest_trees n f) xs → i ≤ j → j < length xs → swapped_nth (n + i) (n + j) (picked_behind n xs f) ≡ picked_behind n (swap xs i j) f
+pub picked-swap : (n i j : ℕ) (xs : List ℕ) (f : Forest) → n ≤ arity f → AreInside (rest_trees n f) xs → i ≤ j → j < length xs
+    → swapped_nth (n + i) (n + j) (picked_behind n xs f) ≡ picked_behind n (swap xs i j) f
 picked-swap n i j xs f h k l m = grind (arith, swapped_apart, arity-first_trees, swapped_nth-same, swap_same, swap)
 
 -- ---- one of the picked trees
@@ -75,5 +78,6 @@ nth-picked (suc at) (i ∷ xs) f h lt =
     ∙ nth-front 1 at (tree_nth i f) (picked xs f) (sym (arity-tree_nth i f (All-head (λ k. k < arity f) i xs h)))
     ∙ nth-picked at xs f (All-tail (λ k. k < arity f) i xs h) (omega arith)
 
-pub nth-picked_behind : (n at : ℕ) (xs : List ℕ) (f : Forest) → n ≤ arity f → AreInside (rest_trees n f) xs → at < length xs → tree_nth (n + at) (picked_behind n xs f) ≡ tree_nth (get_or xs at 0) (rest_trees n f)
+pub nth-picked_behind : (n at : ℕ) (xs : List ℕ) (f : Forest) → n ≤ arity f → AreInside (rest_trees n f) xs → at < length xs
+    → tree_nth (n + at) (picked_behind n xs f) ≡ tree_nth (get_or xs at 0) (rest_trees n f)
 nth-picked_behind n at xs f le h lt = nth-front n at (first_trees n f) (picked xs (rest_trees n f)) (sym (arity-first_trees n f le)) ∙ nth-picked at xs (rest_trees n f) h lt

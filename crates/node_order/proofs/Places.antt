@@ -1,6 +1,7 @@
 -- Lists whose elements change places.
-use Rattle.std.proofs.Common.{◌≡◌, ℕ, zero, suc, ◌+◌, ◌<◌, ◌≤◌, List, [], ◌∷◌, ◌++◌, length, take, drop, get_or, refl, sym, ap, ◌∙◌, arith, drop-cons, ⊎_elim, All, IsPermutation}
-use Rattle.node_order.proofs.Shared.{set, set-append_seam, swap, range_with_len, cases_lt, take-append-drop, take-set-le, take_more_set, take_more, length-take-le, set-set, set-get_or, swap_is, All-nil, All-cons, All-permutation}
+use Rattle.node_order.proofs.Shared.{◌≡◌, ℕ, zero, suc, ◌+◌, ◌<◌, ◌≤◌, List, [], ◌∷◌, ◌++◌, length, take, drop, get_or, refl, sym, ap, ◌∙◌, arith, drop-cons}
+use Rattle.node_order.proofs.Shared.{⊎_elim, All, IsPermutation, set, set-append_seam, swap, range_with_len, cases_lt, take-append-drop, take-set-le, take_more_set, take_more, length-take-le}
+use Rattle.node_order.proofs.Shared.{set-set, set-get_or, swap_is, All-nil, All-cons, All-permutation}
 
 -- one more is in place
 pub placed_same : (xs ys : List ℕ) (at : ℕ) → take at xs ≡ take at ys → at < length xs → at < length ys → get_or xs at 0 ≡ get_or ys at 0 → take (at + 1) xs ≡ take (at + 1) ys
@@ -57,7 +58,8 @@ pair (suc i) (suc j) (x ∷ xs) lt h =
 pub swap_same : (xs : List ℕ) (i : ℕ) → i < length xs → swap xs i i ≡ xs
 swap_same xs i h = sym (swap_is xs i i 0 h h) ∙ set-set xs i (get_or xs i 0) (get_or xs i 0) ∙ set-get_or xs i 0
 
-pub placed_swap : (xs ys : List ℕ) (at j : ℕ) → take at xs ≡ take at ys → at < length ys → at ≤ j → j < length xs → get_or xs j 0 ≡ get_or ys at 0 → take (at + 1) (swap xs at j) ≡ take (at + 1) ys
+pub placed_swap : (xs ys : List ℕ) (at j : ℕ) → take at xs ≡ take at ys → at < length ys → at ≤ j → j < length xs → get_or xs j 0 ≡ get_or ys at 0
+    → take (at + 1) (swap xs at j) ≡ take (at + 1) ys
 placed_swap xs ys at j same m le h here =
     ⊎_elim (λ lt. apart lt) (λ ge. let e : j ≡ at = omega arith in ap (λ n. take (at + 1) (swap xs at n)) e ∙ ap (take (at + 1)) (swap_same xs at (omega arith)) ∙ placed_same xs ys at same (omega arith) m (sym (ap (λ n. get_or xs n 0) e) ∙ here)) (cases_lt at j)
   where

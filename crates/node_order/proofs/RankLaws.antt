@@ -1,10 +1,5 @@
 -- What a sort by an order gives.
-use Rattle.std.proofs.Common.{◌≡◌, List, ap, Bool}
-use Rattle.node_order.proofs.Shared.{ranks_by, IsTotalOrder, IsStrictWeakOrder, IsSorted, IsSortedBy, is_lt, Ordering}
-use Rattle.std.proofs.lemmas.Fn.{always_returns_same}
-use Rattle.std.specs.Fn.{Called, ComparesAs}
-use denote.Param.Members.{Mut}
-use denote.Ref.{Bor}
+use Rattle.node_order.proofs.Shared.{◌≡◌, List, ap, Bool, ranks_by, IsTotalOrder, IsStrictWeakOrder, IsSorted, IsSortedBy, is_lt, Ordering, always_returns_same, Called, ComparesAs, Mut, Bor}
 
 -- where each call compares its two arguments
 pub sorted_by_calls : {F X : Type 0} {g : Mut F (Bor X × (Bor X × Unit {0})) Ordering} {f : F} (cmp : X → X → Ordering) (xs : List X) → IsTotalOrder cmp

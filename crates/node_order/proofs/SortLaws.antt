@@ -1,6 +1,12 @@
 -- Sorted children, from the order of their places.
-use Rattle.std.proofs.Common.{◌≡◌, ℕ, zero, suc, ◌+◌, ◌-◌, ◌<◌, ◌≤◌, List, [], ◌∷◌, ◌++◌, length, take, drop, get_or, map, refl, sym, ap, ◌∙◌, subst, arith, min, add-one, zero-add, All, IsPermutation, true}
-use Rattle.node_order.proofs.Shared.{range_with_len, IsSorted, IsSortedByKey, IsStableByKey, is_lt, take-append_seam, drop-append_seam, get_or-map, length-map, IsPermutation-map, All-head, All-tail, tree_cmp, Tree, Trees, none, more, append, undef, Key, key_tree, place_cmp, ranked_tree, picked, picked_behind, list_of, IsSorting, KeepsTies, SortsChildren, plains, plain, nth, IsWhole, AllExpressions, Label, Forest, empty, tree, join, arity, first_trees, rest_trees, tree_nth, kids, AllNodes, IsOnce, AllOnce, State, tree_at, kids_of, holds, Stands, forest, kids_of_root, has_root, root_tree, put, root_held, first-rest, arity-tree_nth, arity-first_trees, arity-rest_trees, all-join, all-first_trees, all-rest_trees, all-tree_nth, plains-join, plain-tree_nth, alone}
+use Rattle.node_order.proofs.Listing.{suc-add}
+use Rattle.node_order.proofs.Shared.{rest-once_more}
+use Rattle.node_order.proofs.Shared.{◌≡◌, ℕ, zero, suc, ◌+◌, ◌-◌, ◌<◌, ◌≤◌, List, [], ◌∷◌, ◌++◌, length, take, drop, get_or, map, refl, sym, ap, ◌∙◌, subst}
+use Rattle.node_order.proofs.Shared.{arith, min, add-one, zero-add, All, IsPermutation, true, range_with_len, IsSorted, IsSortedByKey, IsStableByKey, is_lt, take-append_seam, drop-append_seam}
+use Rattle.node_order.proofs.Shared.{get_or-map, length-map, IsPermutation-map, All-head, All-tail, tree_cmp, Tree, Trees, none, more, append, undef, Key, key_tree, place_cmp, ranked_tree, picked}
+use Rattle.node_order.proofs.Shared.{picked_behind, list_of, IsSorting, KeepsTies, SortsChildren, plains, plain, nth, IsWhole, AllExpressions, Label, Forest, empty, tree, join, arity, first_trees}
+use Rattle.node_order.proofs.Shared.{rest_trees, tree_nth, kids, AllNodes, IsOnce, AllOnce, State, tree_at, kids_of, holds, Stands, forest, kids_of_root, has_root, root_tree, put, root_held}
+use Rattle.node_order.proofs.Shared.{first-rest, arity-tree_nth, arity-first_trees, arity-rest_trees, all-join, all-first_trees, all-rest_trees, all-tree_nth, plains-join, plain-tree_nth, alone}
 use Rattle.node_order.proofs.Places.{range_inside, inside_range}
 use Rattle.node_order.proofs.Picks.{AreInside}
 use Rattle.node_order.proofs.Ties.{places_same, trees_rise, trees_stable}
@@ -31,11 +37,6 @@ listed-picked (i ∷ xs) f h =
 
 -- ---- all places, as they are
 
-next_rest : (a : ℕ) (f : Forest) → rest_trees 1 (rest_trees a f) ≡ rest_trees (suc a) f
-next_rest zero f = refl
-next_rest (suc a) empty = refl
-next_rest (suc a) (tree l k r) = next_rest a r
-
 none_rest : (a : ℕ) (f : Forest) → arity f ≤ a → rest_trees a f ≡ empty
 none_rest zero empty h = refl
 none_rest zero (tree l k r) h = absurd (omega arith)
@@ -44,7 +45,7 @@ none_rest (suc a) (tree l k r) h = none_rest a r (omega arith)
 
 range_rest : (n a : ℕ) (f : Forest) → a + n ≡ arity f → picked (range_with_len a n) f ≡ rest_trees a f
 range_rest zero a f e = sym (none_rest a f (omega arith))
-range_rest (suc n) a f e = ap (λ k. join (tree_nth a f) (picked (range_with_len k n) f)) (add-one a) ∙ ap (join (tree_nth a f)) (range_rest n (suc a) f (omega arith)) ∙ ap (join (tree_nth a f)) (sym (next_rest a f)) ∙ first-rest 1 (rest_trees a f)
+range_rest (suc n) a f e = ap (λ k. join (tree_nth a f) (picked (range_with_len k n) f)) (add-one a) ∙ ap (join (tree_nth a f)) (range_rest n (suc a) f (omega arith)) ∙ ap (join (tree_nth a f)) (sym (rest-once_more a f)) ∙ first-rest 1 (rest_trees a f)
 
 pub picked-range : (n : ℕ) (f : Forest) → n ≡ arity f → picked (range_with_len 0 n) f ≡ f
 picked-range n f e = range_rest n 0 f (omega arith)
@@ -54,13 +55,10 @@ picked-range n f e = range_rest n 0 f (omega arith)
 nth_none : (j : ℕ) → nth j none ≡ undef
 nth_none j = grind arith
 
-suc-add_left : (n j : ℕ) → suc n + j ≡ suc (n + j)
-suc-add_left n j = omega arith
-
 nth-rest : (n j : ℕ) (f : Forest) → nth (n + j) (plains f) ≡ nth j (plains (rest_trees n f))
 nth-rest zero j f = ap (λ k. nth k (plains f)) (zero-add j)
 nth-rest (suc n) j empty = nth_none (suc n + j) ∙ sym (nth_none j)
-nth-rest (suc n) j (tree l k r) = ap (λ i. nth i (plains (tree l k r))) (suc-add_left n j) ∙ nth-rest n j r
+nth-rest (suc n) j (tree l k r) = ap (λ i. nth i (plains (tree l k r))) (suc-add n j) ∙ nth-rest n j r
 
 sorted_map : (g : ℕ → Tree) (key : Tree → Tree) (ys : List ℕ) → IsSortedByKey (λ i. key (g i)) tree_cmp ys → IsSortedByKey key tree_cmp (map g ys)
 sorted_map g key ys sorted = λ k d low high.
@@ -83,7 +81,8 @@ drop-front : (n : ℕ) (a b : Forest) → n ≡ arity a → drop n (listed (join
 drop-front n a b e = ap (drop n) (listed-join a b) ∙ ap (λ k. drop k (listed a ++ listed b)) (e ∙ sym (length-listed a)) ∙ drop-append_seam (listed a) (listed b)
 
 -- the trees at places that are in the order of their keys
-pub sorted_places : (n m : ℕ) (key : Tree → Tree) (ys : List ℕ) (f : Forest) → n + m ≡ arity f → IsPermutation (range_with_len 0 m) ys → IsSorted (place_cmp (λ j. key (nth (n + j) (plains f)))) ys
+pub sorted_places : (n m : ℕ) (key : Tree → Tree) (ys : List ℕ) (f : Forest) → n + m ≡ arity f → IsPermutation (range_with_len 0 m) ys
+    → IsSorted (place_cmp (λ j. key (nth (n + j) (plains f)))) ys
     → IsSorting n key (plains f) (plains (picked_behind n ys f)) × KeepsTies n key (plains f) (plains (picked_behind n ys f))
 sorted_places n m key ys f all moved sorted =
     let a = first_trees n f in
@@ -107,7 +106,8 @@ sorted_places n m key ys f all moved sorted =
     )
 
 -- and so of a root's children
-pub sorted_children : (i n m : ℕ) (key : Tree → Tree) (ys : List ℕ) (f g : Forest) → AllOnce (kids (root_tree i f)) → AllExpressions (kids (root_tree i f)) → n + m ≡ arity (kids (root_tree i f)) → IsPermutation (range_with_len 0 m) ys
+pub sorted_children : (i n m : ℕ) (key : Tree → Tree) (ys : List ℕ) (f g : Forest) → AllOnce (kids (root_tree i f)) → AllExpressions (kids (root_tree i f))
+    → n + m ≡ arity (kids (root_tree i f)) → IsPermutation (range_with_len 0 m) ys
     → IsSorted (place_cmp (λ j. key (nth (n + j) (plains (kids (root_tree i f)))))) ys → g ≡ put i (picked_behind n ys (kids (root_tree i f))) f → SortsChildren i n key f g
 sorted_children i n m key ys f g once whole all moved sorted e =
     let places = sorted_places n m key ys (kids (root_tree i f)) all moved sorted in

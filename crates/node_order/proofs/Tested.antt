@@ -1,6 +1,7 @@
 -- Roots that are sums, from call to call.
-use Rattle.std.proofs.Common.{◌≡◌, ℕ, eqb, cond, refl, sym, ap, ◌∙◌, subst, arith, Bool, true, false}
-use Rattle.node_order.proofs.Shared.{Payload, bare, Tree, SortsChildren, State, takes, IsWhole, AllExpressions, Forest, empty, tree, arity, kids, root_payload, with_root_kids, with_nth, IsOnce, AllOnce, IsHanded, Gives, holds, has_root, root_tree, without_root, put, Stands, forest, all-kids, all-with_nth, given_root, given_handed, given_other, given_rest, given_apart, apart, by_test, eqb-sym, whole_kids, root_arity, root-put}
+use Rattle.node_order.proofs.Shared.{◌≡◌, ℕ, eqb, cond, refl, sym, ap, ◌∙◌, subst, arith, Bool, true, false, Payload, bare, Tree, SortsChildren, State, takes, IsWhole, AllExpressions}
+use Rattle.node_order.proofs.Shared.{Forest, empty, tree, arity, kids, root_payload, with_root_kids, with_nth, IsOnce, AllOnce, IsHanded, Gives, holds, has_root, root_tree, without_root, put, Stands}
+use Rattle.node_order.proofs.Shared.{forest, all-kids, all-with_nth, given_root, given_handed, given_other, given_rest, given_apart, apart, by_test, eqb-sym, whole_kids, root_arity, root-put}
 use Rattle.calc_terms.specs.declared.kind.Kind.TheVariants as kind
 
 pub record IsSum (i : ℕ) (f : Forest) : Type 0 where
@@ -28,7 +29,8 @@ pub sum_put : (i : ℕ) (n f : Forest) → IsSum i f → AllOnce n → AllExpres
 sum_put i n f h k l = grind (arith, tree-put, grown, root_arity, root-put)
 
 -- a new tree becomes its first child
-pub sum_takes : {others f : Forest} {i : ℕ} {Told : Tree → Type 0} (sum : ℕ) (new : Forest) → IsSum sum others → Gives others f i Told → new ≡ put sum (with_nth 0 (root_tree i f) (kids (root_tree sum f))) (without_root i f) → IsSum sum new
+pub sum_takes : {others f : Forest} {i : ℕ} {Told : Tree → Type 0} (sum : ℕ) (new : Forest) → IsSum sum others → Gives others f i Told
+    → new ≡ put sum (with_nth 0 (root_tree i f) (kids (root_tree sum f))) (without_root i f) → IsSum sum new
 sum_takes {others = others} {f = f} {i = i} sum new h g e =
     let k = kids (root_tree sum f) in
     let c = root_tree i f in
@@ -37,7 +39,8 @@ sum_takes {others = others} {f = f} {i = i} sum new h g e =
     let n = with_nth 0 c k in
     subst (IsSum sum) (sym (e ∙ ap (put sum n) (given_rest g))) (sum_put sum n others h (all-with_nth IsOnce 0 c k term.once (all-kids IsOnce (root_tree sum f) beside.once)) (all-with_nth IsWhole 0 c k term.whole (whole_kids (root_tree sum f) beside.whole)))
 
-pub sum_apart : {others : Forest} {i : ℕ} {s : State} {Told : Tree → Type 0} (sum : ℕ) → Stands s → IsSum sum others → Gives others (forest s) i Told → holds sum (root_tree i (forest s)) ≡ false
+pub sum_apart : {others : Forest} {i : ℕ} {s : State} {Told : Tree → Type 0} (sum : ℕ) → Stands s → IsSum sum others → Gives others (forest s) i Told
+    → holds sum (root_tree i (forest s)) ≡ false
 sum_apart {i = i} sum st h g = apart sum i st (eqb-sym i sum (given_apart g h.handed)) (given_other g h.handed).root (given_root g)
 
 -- put in order

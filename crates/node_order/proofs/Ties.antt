@@ -1,8 +1,8 @@
 -- Places in the order of their trees, and of one tree in their own order: trees with one key keep their order.
-use Rattle.std.proofs.Common.{◌≡◌, ℕ, zero, suc, ◌+◌, ◌≤◌, ◌<◌, List, [], ◌∷◌, length, get_or, map, Bool, true, false, not, ◌&&◌, cond, eqb, sum_by, true≢false, eqb-true, eq-eqb, refl, sym, ap, ◌∙◌, arith, All, IsPermutation}
-use Rattle.node_order.proofs.Shared.{Ordering, Equal, IsTotalOrder, nat_cmp_total, on_total, then_total, filter, range_with_len, IsSorted, IsSortedByKey, IsStableByKey, is_lt, nat_cmp, ordering_reverse, ordering_then, ranks_by, sorted_far, sum_by-IsPermutation, tree_cmp, Tree, place_cmp}
-use Rattle.std.proofs.lemmas.List.Sums.{sum_by-cons}
-use Rattle.calc_algebra.proofs.TreeOrderLaws.{tree_cmp_total, tree_cmp_equal, tree_cmp_refl}
+use Rattle.node_order.proofs.Shared.{◌≡◌, ℕ, zero, suc, ◌+◌, ◌≤◌, ◌<◌, List, [], ◌∷◌, length, get_or, map, Bool, true, false, not, ◌&&◌, cond, eqb, sum_by}
+use Rattle.node_order.proofs.Shared.{true≢false, eqb-true, eq-eqb, refl, sym, ap, ◌∙◌, arith, All, IsPermutation, Ordering, Equal, IsTotalOrder, nat_cmp_total, on_total, then_total, filter}
+use Rattle.node_order.proofs.Shared.{range_with_len, IsSorted, IsSortedByKey, IsStableByKey, is_lt, nat_cmp, ordering_reverse, ordering_then, ranks_by, sorted_far, sum_by-IsPermutation, tree_cmp}
+use Rattle.node_order.proofs.Shared.{Tree, place_cmp, sum_by-cons, tree_cmp_total, tree_cmp_equal, tree_cmp_refl}
 
 pub place_total : (tree : ℕ → Tree) → IsTotalOrder (place_cmp tree)
 place_total tree = then_total (on_total tree tree_cmp_total) nat_cmp_total
@@ -38,7 +38,8 @@ times-filter p z [] = none (p z)
     none false = refl
 times-filter p z (x ∷ xs) = by (times-filter p z xs) (p x) refl (eqb z x) refl (p z) refl
   where
-    by : times z (filter p xs) ≡ cond (p z) (times z xs) 0 → (k : Bool) → p x ≡ k → (e : Bool) → eqb z x ≡ e → (l : Bool) → p z ≡ l → times z (cond k (x ∷ filter p xs) (filter p xs)) ≡ cond l (cond e 1 0 + times z xs) 0
+    by : times z (filter p xs) ≡ cond (p z) (times z xs) 0 → (k : Bool) → p x ≡ k → (e : Bool) → eqb z x ≡ e → (l : Bool) → p z ≡ l
+        → times z (cond k (x ∷ filter p xs) (filter p xs)) ≡ cond l (cond e 1 0 + times z xs) 0
     by r true px true e true pz = rw (e, r, pz) refl
     by r true px true e false pz = absurd (true≢false (sym px ∙ ap p (sym (eqb-true z x e)) ∙ pz))
     by r true px false e true pz = rw (e, r, pz) refl
@@ -117,7 +118,8 @@ not_less m n h = grind arith
 tied_up : (tree : ℕ → Tree) (t : Tree) (a b : ℕ) → alike tree t a ≡ true → alike tree t b ≡ true → is_lt (place_cmp tree b a) ≡ false → a ≤ b
 tied_up tree t a b h k l = grind (arith, alike_is, tree_cmp_refl, not_less)
 
-from_kept : (tree : ℕ → Tree) (t : Tree) (y : ℕ) (ys : List ℕ) → alike tree t y ≡ true → ((j d : ℕ) → j < length ys → is_lt (place_cmp tree (get_or ys j d) y) ≡ false) → AllFrom y (filter (alike tree t) ys)
+from_kept : (tree : ℕ → Tree) (t : Tree) (y : ℕ) (ys : List ℕ) → alike tree t y ≡ true → ((j d : ℕ) → j < length ys → is_lt (place_cmp tree (get_or ys j d) y) ≡ false)
+    → AllFrom y (filter (alike tree t) ys)
 from_kept tree t y [] h up = tt
 from_kept tree t y (z ∷ zs) h up = by (from_kept tree t y zs h (λ j d l. up (suc j) d (omega arith))) (alike tree t z) refl
   where
@@ -125,7 +127,8 @@ from_kept tree t y (z ∷ zs) h up = by (from_kept tree t y zs h (λ j d l. up (
     by r true e = (tied_up tree t y z h e (up 0 z (omega arith)), r)
     by r false e = r
 
-up_kept : (tree : ℕ → Tree) (t : Tree) (ys : List ℕ) → ((i j d : ℕ) → i ≤ j → j < length ys → is_lt (place_cmp tree (get_or ys j d) (get_or ys i d)) ≡ false) → AreUp (filter (alike tree t) ys)
+up_kept : (tree : ℕ → Tree) (t : Tree) (ys : List ℕ) → ((i j d : ℕ) → i ≤ j → j < length ys → is_lt (place_cmp tree (get_or ys j d) (get_or ys i d)) ≡ false)
+    → AreUp (filter (alike tree t) ys)
 up_kept tree t [] up = tt
 up_kept tree t (y ∷ ys) up = by (up_kept tree t ys (λ i j d l m. up (suc i) (suc j) d (omega arith) (omega arith))) (alike tree t y) refl
   where
@@ -134,7 +137,8 @@ up_kept tree t (y ∷ ys) up = by (up_kept tree t ys (λ i j d l m. up (suc i) (
     by r false e = r
 
 -- sorted places of one tree stand as they stood
-pub places_stable : (tree : ℕ → Tree) (m : ℕ) (ys : List ℕ) → IsPermutation (range_with_len 0 m) ys → IsSorted (place_cmp tree) ys → (t : Tree) → filter (alike tree t) ys ≡ filter (alike tree t) (range_with_len 0 m)
+pub places_stable : (tree : ℕ → Tree) (m : ℕ) (ys : List ℕ) → IsPermutation (range_with_len 0 m) ys → IsSorted (place_cmp tree) ys → (t : Tree)
+    → filter (alike tree t) ys ≡ filter (alike tree t) (range_with_len 0 m)
 places_stable tree m ys moved sorted t =
     let p = alike tree t in
     let xs = range_with_len 0 m in
@@ -148,11 +152,13 @@ filter-map : (p : Tree → Bool) (g : ℕ → Tree) (xs : List ℕ) → filter p
 filter-map p g [] = refl
 filter-map p g (x ∷ xs) = by (filter-map p g xs) (p (g x))
   where
-    by : filter p (map g xs) ≡ map g (filter (λ a. p (g a)) xs) → (k : Bool) → cond k (g x ∷ filter p (map g xs)) (filter p (map g xs)) ≡ map g (cond k (x ∷ filter (λ a. p (g a)) xs) (filter (λ a. p (g a)) xs))
+    by : filter p (map g xs) ≡ map g (filter (λ a. p (g a)) xs) → (k : Bool)
+        → cond k (g x ∷ filter p (map g xs)) (filter p (map g xs)) ≡ map g (cond k (x ∷ filter (λ a. p (g a)) xs) (filter (λ a. p (g a)) xs))
     by r true = ap (λ (l : List Tree). g x ∷ l) r
     by r false = r
 
-pub trees_stable : (g : ℕ → Tree) (key : Tree → Tree) (m : ℕ) (ys : List ℕ) → IsPermutation (range_with_len 0 m) ys → IsSorted (place_cmp (λ i. key (g i))) ys → IsStableByKey key tree_cmp (map g (range_with_len 0 m)) (map g ys)
+pub trees_stable : (g : ℕ → Tree) (key : Tree → Tree) (m : ℕ) (ys : List ℕ) → IsPermutation (range_with_len 0 m) ys → IsSorted (place_cmp (λ i. key (g i))) ys
+    → IsStableByKey key tree_cmp (map g (range_with_len 0 m)) (map g ys)
 trees_stable g key m ys moved sorted x =
     let p : Tree → Bool = λ y. not (is_lt (tree_cmp (key x) (key y))) && not (is_lt (tree_cmp (key y) (key x))) in
     filter-map p g ys ∙ ap (map g) (places_stable (λ i. key (g i)) m ys moved sorted (key x)) ∙ sym (filter-map p g (range_with_len 0 m))
@@ -166,5 +172,6 @@ pub trees_rise : (tree : ℕ → Tree) (ys : List ℕ) → IsSorted (place_cmp t
 trees_rise tree ys sorted k d low high = not_below _ _ (sorted k d low high)
 
 -- places with the same trees are in the same order
-pub places_same : (tree other : ℕ → Tree) (ys : List ℕ) (m : ℕ) → IsSorted (place_cmp tree) ys → All (λ j. j < m) ys → ((j : ℕ) → j < m → tree j ≡ other j) → IsSorted (place_cmp other) ys
+pub places_same : (tree other : ℕ → Tree) (ys : List ℕ) (m : ℕ) → IsSorted (place_cmp tree) ys → All (λ j. j < m) ys → ((j : ℕ) → j < m → tree j ≡ other j)
+    → IsSorted (place_cmp other) ys
 places_same tree other ys m h k l = grind arith

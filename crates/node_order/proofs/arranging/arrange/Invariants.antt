@@ -1,5 +1,4 @@
-use Rattle.std.proofs.Common.{◌≡◌, length, take, IsPermutation}
-use Rattle.node_order.proofs.Shared.{picked_behind, kids, root_tree, put, Stands, forest, KeepsRefusals}
+use Rattle.node_order.proofs.Shared.{◌≡◌, length, take, IsPermutation, picked_behind, kids, root_tree, put, Stands, forest, KeepsRefusals}
 use Rattle.node_order.proofs.Inverses.{AreInverse}
 use Rattle.node_order.proofs.arranging.arrange.Given as goal
 

@@ -1,6 +1,6 @@
-use Rattle.std.proofs.Common.{◌≡◌, ◌<◌, length, sym, ap, ◌∙◌, arith, inl}
-use Rattle.node_order.proofs.Shared.{enumerate_source, enumerate_count, ext_get_or, length-set, root_ids, root_id, rest_trees, tree_nth, kids_of, forest, arity-rest_trees}
-use Rattle.node_order.proofs.Listing.{IsTurn, turn, all_came, length-ids, ids-nth, listed_more}
+use Rattle.node_order.proofs.Shared.{◌≡◌, ◌<◌, length, sym, ap, ◌∙◌, arith, inl, enumerate_source, enumerate_count, ext_get_or, length-set, root_ids, root_id, rest_trees, tree_nth}
+use Rattle.node_order.proofs.Shared.{kids_of, forest, arity-rest_trees, root_ids-nth, length-root_ids}
+use Rattle.node_order.proofs.Listing.{IsTurn, turn, all_came, listed_more}
 use Rattle.node_order.proofs.arranging.list_children.Goals.{In-Some}
 use Rattle.node_order.proofs.arranging.list_children.Goals as goal
 
@@ -10,7 +10,7 @@ loop-at-init-derived c =
     let rest = rest_trees c.args.from k in
     let whole : enumerate_source c.into_iter-at-iterator.result ≡ root_ids rest = cc in
     let none : enumerate_count c.into_iter-at-iterator.result ≡ 0 = cc in
-    ((tt, tt, inl (omega (arith, none, ap length whole, length-ids rest, arity-rest_trees c.args.from k, c.requires.all, c.requires.few))), tt)
+    ((tt, tt, inl (omega (arith, none, ap length whole, length-root_ids rest, arity-rest_trees c.args.from k, c.requires.all, c.requires.few))), tt)
 
 turned : (c : In-Some) → IsTurn (length c.loop-at.yielded) c.in-Some.at c.in-Some.id (rest_trees c.args.from (kids_of c.args.parent (forest c.args.pool.now)))
 turned c = turn (rest_trees c.args.from (kids_of c.args.parent (forest c.args.pool.now))) c.into_iter-at-iterator.result _ _ c.loop-at.yielded _ c.in-Some.at c.in-Some.id (cc) (cc) c.loop-at.yielded_by c.in-Some.is c.next.ensures.steps
@@ -40,5 +40,5 @@ returns c =
     let k = kids_of c.args.parent (forest c.args.pool.now) in
     let rest = rest_trees c.args.from k in
     let many = all_came rest c.into_iter-at-iterator.result _ _ c.loop-at.yielded _ (cc) (cc) c.loop-at.yielded_by c.in-None.is c.next.ensures.steps in
-    let long : length c.loop-at.listed ≡ length (root_ids rest) = omega (arith, length-ids rest, arity-rest_trees c.args.from k, c.requires.all, c.loop-at.invariant.long) in
-    ext_get_or 0 c.loop-at.listed (root_ids rest) long (λ n lt. c.loop-at.invariant.same n 0 (omega (arith, lt, many, long, length-ids rest)) ∙ sym (ids-nth n 0 rest (omega (arith, lt, long, length-ids rest))))
+    let long : length c.loop-at.listed ≡ length (root_ids rest) = omega (arith, length-root_ids rest, arity-rest_trees c.args.from k, c.requires.all, c.loop-at.invariant.long) in
+    ext_get_or 0 c.loop-at.listed (root_ids rest) long (λ n lt. c.loop-at.invariant.same n 0 (omega (arith, lt, many, long, length-root_ids rest)) ∙ sym (root_ids-nth n 0 rest (omega (arith, lt, long, length-root_ids rest))))

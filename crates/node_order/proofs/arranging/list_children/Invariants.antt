@@ -1,5 +1,4 @@
-use Rattle.std.proofs.Common.{◌≡◌, ◌<◌, ℕ, length, get_or}
-use Rattle.node_order.proofs.Shared.{root_id, rest_trees, tree_nth, kids_of, forest}
+use Rattle.node_order.proofs.Shared.{◌≡◌, ◌<◌, ℕ, length, get_or, root_id, rest_trees, tree_nth, kids_of, forest}
 use Rattle.node_order.proofs.arranging.list_children.Given as goal
 
 abbrev pub invariant-loop-at : goal.invariant-loop-at

@@ -1,5 +1,4 @@
-use Rattle.std.proofs.Common.{◌∙◌, arith, length}
-use Rattle.node_order.proofs.Shared.{range_with_len, map-id, fill_by_all}
+use Rattle.node_order.proofs.Shared.{◌∙◌, arith, length, range_with_len, map-id, fill_by_all}
 use Rattle.node_order.proofs.arranging.list_places.Goals as goal
 
 pub returns : goal.returns

@@ -1,4 +1,4 @@
-use Rattle.std.proofs.Common.{◌≡◌, ◌<◌, ℕ, get_or, length}
+use Rattle.node_order.proofs.Shared.{◌≡◌, ◌<◌, ℕ, get_or, length}
 use Rattle.node_order.proofs.arranging.list_places.Given as goal
 
 abbrev pub invariant-loop-place : goal.invariant-loop-place

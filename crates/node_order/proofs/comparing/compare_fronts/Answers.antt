@@ -1,5 +1,4 @@
-use Rattle.std.proofs.Common.{length, arith, sym, ap, ◌∙◌}
-use Rattle.node_order.proofs.Shared.{kind_of_payload}
+use Rattle.node_order.proofs.Shared.{length, arith, sym, ap, ◌∙◌, kind_of_payload}
 use Rattle.node_order.proofs.Pairs.{equal_roots, unequal_roots, open_start, open_decided, open_few, open_behind, pending_done, pending_left, pending_right, pending_next}
 use Rattle.node_order.proofs.comparing.compare_fronts.Goals as goal
 

@@ -1,5 +1,4 @@
-use Rattle.std.proofs.Common.{length}
-use Rattle.node_order.proofs.Shared.{tree_cmp, Tree, Shows, forest}
+use Rattle.node_order.proofs.Shared.{length, tree_cmp, Tree, Shows, forest}
 use Rattle.node_order.proofs.Pairs.{IsOpen}
 use Rattle.node_order.proofs.comparing.compare_fronts.Given as goal
 

@@ -1,9 +1,4 @@
-use Rattle.std.proofs.Common.{◌≡◌, ◌∙◌, sym, ap}
-use Rattle.std.proofs.lemmas.Slice.Eq.{bytes_eq-Decides}
-use Rattle.calc_algebra.proofs.TreeOrderLaws.{tree_cmp_same}
-use Rattle.calc_terms.specs.Leaf.{name_of}
-use Rattle.calc_terms.specs.Name.{before_zero}
-use Rattle.calc_terms.specs.Trees.{symbol}
+use Rattle.node_order.proofs.Shared.{◌≡◌, ◌∙◌, sym, ap, bytes_eq-Decides, tree_cmp_same, name_of, before_zero, symbol}
 use Rattle.node_order.proofs.fronts.compare_names.Goals as goal
 
 pub returns-then-eq : goal.returns-then-eq

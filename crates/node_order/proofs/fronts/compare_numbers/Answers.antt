@@ -1,12 +1,4 @@
-use Rattle.std.proofs.Common.{◌≡◌, ◌*ℤ◌, ℤ, pos, sym, ap, ◌∙◌, arith, to_z, of_z}
-use Rattle.std.proofs.lemmas.Int.{ints}
-use Rattle.std.specs.Int.{w128}
-use Rattle.std.specs.Ordering.{int_cmp}
-use Rattle.calc_terms.specs.Ratio.{IsRat}
-use Rattle.calc_terms.specs.declared.rat.Rat.{Rat}
-use Rattle.calc_terms.specs.Rat.{ratio_of, value_of}
-use Rattle.rational128.proofs.LowestTerms.{ratio_parts}
-use Rattle.rational128.proofs.Signed.{told}
+use Rattle.node_order.proofs.Shared.{◌≡◌, ◌*ℤ◌, ℤ, pos, sym, ap, ◌∙◌, arith, to_z, of_z, ints, w128, int_cmp, IsRat, Rat, ratio_of, value_of, ratio_parts, told}
 use Rattle.node_order.proofs.fronts.compare_numbers.Goals as goal
 
 times_one : (z : ℤ) → z *ℤ pos 1 ≡ z

@@ -1,5 +1,4 @@
-use Rattle.std.proofs.Common.{◌≡◌, ◌∙◌, sym}
-use Rattle.node_order.proofs.Shared.{number_seen, symbol_seen}
+use Rattle.node_order.proofs.Shared.{◌≡◌, ◌∙◌, sym, number_seen, symbol_seen}
 use Rattle.calc_terms.specs.declared.kind.Kind.TheVariants as kind
 use Rattle.node_order.proofs.fronts.compare_roots.Goals as goal
 

@@ -1,5 +1,4 @@
-use Rattle.std.proofs.Common.{◌-◌, ◌∙◌, length, sym, ap, arith, refl}
-use Rattle.node_order.proofs.Shared.{rest_trees, kids_of, forest, arity-rest_trees, nodes-flatten, arity_le, visits_length}
+use Rattle.node_order.proofs.Shared.{◌-◌, ◌∙◌, length, sym, ap, arith, refl, rest_trees, kids_of, forest, arity-rest_trees, nodes-flatten, arity_le, visits_length}
 use Rattle.node_order.proofs.KeyLaws.{key_some, shown_children, key_last, key_product}
 use Rattle.node_order.proofs.keys.front_of.Goals as goal
 

@@ -1,5 +1,4 @@
-use Rattle.std.proofs.Common.{rules}
-use Rattle.node_order.proofs.Shared.{place_cmp, ranked_tree, forest}
+use Rattle.node_order.proofs.Shared.{rules, place_cmp, ranked_tree, forest}
 use Rattle.node_order.proofs.RankLaws.{sorted_by_calls}
 use Rattle.node_order.proofs.Ties.{place_total}
 use Rattle.node_order.proofs.ranking.rank.Goals as goal

@@ -1,8 +1,7 @@
-use Rattle.std.proofs.Common.{◌≡◌, ◌<◌, ◌+◌, ℕ, length, sym, ap, ◌∙◌, subst, arith, inl}
-use Rattle.node_order.proofs.Shared.{enumerate_source, enumerate_count, length-set, IsKey, key_tree, root_ids, plains, plain, nth, rest_trees, kids_of, tree_at, forest, arity-rest_trees, count-plains}
-use Rattle.node_order.proofs.Listing.{IsTurn, turn, all_came, length-ids, later_child, listed_more}
+use Rattle.node_order.proofs.Shared.{◌≡◌, ◌<◌, ◌+◌, ℕ, length, sym, ap, ◌∙◌, subst, arith, inl, enumerate_source, enumerate_count, length-set, IsKey, key_tree, root_ids, plains}
+use Rattle.node_order.proofs.Shared.{plain, nth, rest_trees, kids_of, tree_at, forest, arity-rest_trees, count-plains, IsSeenChild, seen_child, length-root_ids}
+use Rattle.node_order.proofs.Listing.{IsTurn, turn, all_came, later_child, listed_more}
 use Rattle.node_order.proofs.SortLaws.{child_plain}
-use Rattle.tree_handles.proofs.ChildPlaces.{IsSeenChild, seen_child}
 use Rattle.node_order.proofs.sorting.list_keys.Goals.{In-Some, In-None}
 use Rattle.node_order.proofs.sorting.list_keys.Given.{Over}
 use Rattle.node_order.proofs.sorting.list_keys.Goals as goal
@@ -13,7 +12,7 @@ loop-at-init-derived g c =
     let rest = rest_trees c.args.from k in
     let whole : enumerate_source c.into_iter-at-iterator.result ≡ root_ids rest = cc in
     let none : enumerate_count c.into_iter-at-iterator.result ≡ 0 = cc in
-    ((tt, tt, inl (omega (arith, none, ap length whole, length-ids rest, arity-rest_trees c.args.from k, c.requires.all, c.requires.few))), tt)
+    ((tt, tt, inl (omega (arith, none, ap length whole, length-root_ids rest, arity-rest_trees c.args.from k, c.requires.all, c.requires.few))), tt)
 
 turned : (g : Over) (c : In-Some g) → IsTurn (length c.loop-at.yielded) c.in-Some.at c.in-Some.id (rest_trees c.args.from (kids_of c.args.parent (forest c.args.pool.now)))
 turned g c = turn (rest_trees c.args.from (kids_of c.args.parent (forest c.args.pool.now))) c.into_iter-at-iterator.result _ _ c.loop-at.yielded _ c.in-Some.at c.in-Some.id (cc) (cc) c.loop-at.yielded_by c.in-Some.is c.next.ensures.steps

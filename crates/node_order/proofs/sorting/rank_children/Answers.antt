@@ -1,5 +1,4 @@
-use Rattle.std.proofs.Common.{◌≡◌, ◌+◌, List, ℕ, length, subst, arith, IsPermutation}
-use Rattle.node_order.proofs.Shared.{ranked_tree, plains, nth, kids_of, forest}
+use Rattle.node_order.proofs.Shared.{◌≡◌, ◌+◌, List, ℕ, length, subst, arith, IsPermutation, ranked_tree, plains, nth, kids_of, forest}
 use Rattle.node_order.proofs.Places.{inside_range}
 use Rattle.node_order.proofs.SortLaws.{ranked_is}
 use Rattle.node_order.proofs.Ties.{places_same}

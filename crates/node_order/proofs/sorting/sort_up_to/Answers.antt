@@ -1,5 +1,5 @@
-use Rattle.std.proofs.Common.{◌+◌, ◌<◌, ◌≤◌, ℕ, sym, ap, subst, arith, replicate}
-use Rattle.node_order.proofs.Shared.{length-take-le, length-replicate, IsSorted, count, place_cmp, plains, nth, IsWhole, IsExpression, Forest, kids, arity, IsOnce, root_tree, forest, all-kids, expression_root}
+use Rattle.node_order.proofs.Shared.{◌+◌, ◌<◌, ◌≤◌, ℕ, sym, ap, subst, arith, replicate, length-take-le, length-replicate, IsSorted, count, place_cmp, plains, nth, IsWhole}
+use Rattle.node_order.proofs.Shared.{IsExpression, Forest, kids, arity, IsOnce, root_tree, forest, all-kids, expression_root}
 use Rattle.node_order.proofs.SortLaws.{sorted_children, handle_kids}
 use Rattle.node_order.proofs.sorting.sort_up_to.Goals as goal
 

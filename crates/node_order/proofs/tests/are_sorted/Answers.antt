@@ -1,5 +1,4 @@
-use Rattle.std.proofs.Common.{sym, subst}
-use Rattle.node_order.proofs.Shared.{IsExpression, forest, expression_root}
+use Rattle.node_order.proofs.Shared.{sym, subst, IsExpression, forest, expression_root}
 use Rattle.node_order.proofs.SortLaws.{handle_live}
 use Rattle.node_order.proofs.Tested.{sum_sorted}
 use Rattle.node_order.proofs.tests.are_sorted.Goals as goal

@@ -1,5 +1,5 @@
-use Rattle.std.proofs.Common.{ℕ, sym, ap, ◌∙◌, subst, arith}
-use Rattle.node_order.proofs.Shared.{Tree, is_mult, count, IsKey, plain, children_of, forest, given_handed, given_other, given_told, given_same, given_root, expression_root, plain_root}
+use Rattle.node_order.proofs.Shared.{ℕ, sym, ap, ◌∙◌, subst, arith, Tree, is_mult, count, IsKey, plain, children_of, forest, given_handed, given_other, given_told, given_same, given_root}
+use Rattle.node_order.proofs.Shared.{expression_root, plain_root}
 use Rattle.node_order.proofs.tests.key_order.Goals as goal
 
 pub compare_keys-requires-clause-first : goal.compare_keys-requires-clause-first

@@ -1,5 +1,4 @@
-use Rattle.std.proofs.Common.{sym, subst}
-use Rattle.node_order.proofs.Shared.{IsExpression, forest, given_handed, given_other, expression_root}
+use Rattle.node_order.proofs.Shared.{sym, subst, IsExpression, forest, given_handed, given_other, expression_root}
 use Rattle.node_order.proofs.tests.order_of.Goals as goal
 
 pub compare-requires-clause-first : goal.compare-requires-clause-first

@@ -1,5 +1,4 @@
-use Rattle.std.proofs.Common.{ap, ◌∙◌}
-use Rattle.node_order.proofs.Shared.{Tree, is_mult, count, children_of, given_handed, given_other, given_apart, given_rest, given_without, gives_as, eqb-sym}
+use Rattle.node_order.proofs.Shared.{ap, ◌∙◌, Tree, is_mult, count, children_of, given_handed, given_other, given_apart, given_rest, given_without, gives_as, eqb-sym}
 use Rattle.node_order.proofs.tests.product.Goals as goal
 
 pub node_over_two-requires-clause-first : goal.node_over_two-requires-clause-first

@@ -1,5 +1,4 @@
-use Rattle.std.proofs.Common.{refl, ap}
-use Rattle.node_order.proofs.Shared.{root_payload, given_root, given_handed, given_other, last_tree, root_held}
+use Rattle.node_order.proofs.Shared.{refl, ap, root_payload, given_root, given_handed, given_other, last_tree, root_held}
 use Rattle.node_order.proofs.Tested.{sum_takes, sum_apart}
 use Rattle.node_order.proofs.tests.sum_of_many.Goals as goal
 

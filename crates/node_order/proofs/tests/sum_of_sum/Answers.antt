@@ -1,5 +1,4 @@
-use Rattle.std.proofs.Common.{◌∙◌}
-use Rattle.node_order.proofs.Shared.{given_handed, given_other, given_apart, given_rest, given_without, gives_as, eqb-sym}
+use Rattle.node_order.proofs.Shared.{◌∙◌, given_handed, given_other, given_apart, given_rest, given_without, gives_as, eqb-sym}
 use Rattle.node_order.proofs.tests.sum_of_sum.Goals as goal
 
 pub node_over_two-requires-clause-first : goal.node_over_two-requires-clause-first
