@@ -1,5 +1,5 @@
 -- Steps of calls on a root that is a product or a sum: a child is taken out, put in, and the root goes last.
-pub use Rattle.number_forms.proofs.TermTrees.{one_value}
+pub use Rattle.calc_terms.proofs.SmallFractions.{one_value}
 use Rattle.std.proofs.Common.{◌≡◌, ℕ, ◌≤◌, ◌∷◌, refl, sym, ap, ◌∙◌, subst, arith, true, []}
 use Rattle.std.specs.Prelude.{pos}
 use Rattle.coefficients.proofs.Shared.{product_tree, is_reduced, num_one, Tree, num, mult, root, Trees, none, more, count, is_mult, size, State, tree_of, IsHanded, Represents, Ends, Gives, KeepsFront, plain, children_of, Forest, kids, tree_nth, without_nth, tree_at, root_tree, without_root, put, Stands, forest, behind_first, front_same, front_end, front_put, gives_as, given_told, given_root, ends_as, ends_at, ends_without, put-put, Rat, Fraction, ratio_of, value_of, whole, factors_of, coefficient_length, GivesTwo, LeavesRest, over_product, IsOver, taken, over_put, over_end, over_handed, over_gives, without_put, gives_put, gives_without, seen}
