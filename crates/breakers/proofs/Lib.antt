@@ -3,3 +3,4 @@ pub mod Arming
 pub mod Sweeping
 pub mod Determined
 pub mod Runs
+pub mod Stops

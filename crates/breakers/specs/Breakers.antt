@@ -1,5 +1,5 @@
 -- What is done to the breakers of a list, in their order.
-use Rattle.std.specs.Prelude.{◌≡◌, ℕ, zero, suc, ◌<◌, true, false, Option, Some, None, List, [], ◌∷◌, filter, ◌==◌, if◌then◌else◌}
+use Rattle.std.specs.Prelude.{◌≡◌, ℕ, zero, suc, ◌<◌, ◌≤◌, true, false, Option, Some, None, List, [], ◌∷◌, filter, ◌==◌, if◌then◌else◌}
 use Rattle.breakers.specs.State.{State, Polls, armed_after}
 
 -- the breakers are polled in order, either up to the first that trips, which stands at this place, or all, and none trips
@@ -14,6 +14,13 @@ Check _ _ _ = ⊥
 abbrev pub CalmChecks : ℕ → List State → List State → Type 0
 CalmChecks zero old new = new ≡ old
 CalmChecks (suc n) old new = (between : List State) × Check old between None × CalmChecks n between new
+
+-- at least one check was made and at most so many, and no breaker tripped
+pub record CalmUpTo (most : ℕ) (old new : List State) : Type 0 where
+  pub checks : ℕ
+  pub some : 1 ≤ checks
+  pub few : checks ≤ most
+  pub calm : CalmChecks checks old new
 
 -- in one of at most so many checks the breaker at this place tripped, and nothing was checked after it
 pub record TripsWithin (most : ℕ) (old new : List State) (place : ℕ) : Type 0 where

@@ -1,14 +1,12 @@
 -- Free bytes where a child is taken out of a root, or is replaced by its own children.
 use Rattle.std.proofs.Common.{◌≡◌, ℕ, zero, suc, ◌+◌, ◌≤◌, ◌<◌, Bool, true, false, if◌then◌else◌, ap, arith}
 use Rattle.std.specs.Prelude.{◌==◌}
-use Rattle.calc_terms.specs.declared.kind.Kind.{Kind}
-use Rattle.calc_terms.specs.declared.kind.Kind.TheVariants as kind
 use Rattle.calc_terms.proofs.Sizes.{payload_least}
-use Rattle.calc_terms.specs.Payload.{Payload, kind_of_payload, size_of_payload}
+use Rattle.calc_terms.specs.Payload.{Payload, size_of_payload}
 use Rattle.node_pool.specs.State.{State, free_of}
 use Rattle.tree_handles.proofs.Forests.{bytes_in-join, first-rest}
 use Rattle.tree_handles.proofs.Places.{used_forest}
-use Rattle.tree_handles.specs.Forest.{Forest, empty, tree, join, arity, kids, bytes_in, first_trees, rest_trees, tree_nth, without_nth, set_nth, merged_nth}
+use Rattle.tree_handles.specs.Forest.{Forest, empty, tree, join, arity, kids, bytes_in, first_trees, rest_trees, tree_nth, without_nth, merged_nth}
 use Rattle.tree_handles.specs.Handed.{Ends}
 use Rattle.tree_handles.specs.Roots.{has_root, root_tree, put}
 use Rattle.tree_handles.specs.Standing.{Stands, forest, KeepsRefusals}

@@ -1,10 +1,10 @@
 -- A pool in which nodes are placed until one is refused.
-use Rattle.std.proofs.Common.{◌≡◌, ℕ, ◌+◌, ◌≤◌, ◌<◌, [], arith, ap, sym, subst, ◌∙◌}
+use Rattle.std.proofs.Common.{◌≡◌, ℕ, ◌+◌, ◌≤◌, ◌<◌, [], arith, ap, ◌∙◌}
 use Rattle.calc_terms.specs.declared.kind.Kind.TheVariants as kind
 use Rattle.calc_terms.specs.Payload.{bare}
-use Rattle.node_pool.specs.Nodes.{used, AreNodes, AreDistinct}
-use Rattle.node_pool.specs.State.{State, IsPool, IsPoolSize, free_of}
-use Rattle.tree_handles.proofs.Forests.{bytes-flatten, bytes_in-join, stands}
+use Rattle.node_pool.specs.Nodes.{used}
+use Rattle.node_pool.specs.State.{State, free_of}
+use Rattle.tree_handles.proofs.Forests.{bytes-flatten, bytes_in-join}
 use Rattle.tree_handles.specs.Forest.{empty, one_tree, bytes_in}
 use Rattle.tree_handles.specs.Handed.{Ends, KeepsFront}
 use Rattle.tree_handles.specs.Standing.{Stands, forest, KeepsRefusals}

@@ -8,7 +8,7 @@ use Rattle.calc_terms.specs.Fractions.{Fraction}
 use Rattle.calc_algebra.specs.Numbers.{is_number, value}
 use Rattle.calc_measures.specs.PlainValues.{plain_value}
 use Rattle.calc_algebra.specs.Reduced.{is_reduced}
-use Rattle.calc_terms.specs.Trees.{Tree, num, symbol, undef, add, mult, power, root, neg, sub, div, root_kind, nodes, IsPart, itself}
+use Rattle.calc_terms.specs.Trees.{Tree, num, symbol, undef, root_kind, nodes, IsPart, itself}
 use Rattle.calc_terms.specs.declared.kind.Kind.{Kind}
 use Rattle.calc_terms.specs.declared.kind.Kind.TheVariants as kind
 use Rattle.node_pool.specs.State.{State}
@@ -96,13 +96,7 @@ is_leaf : (t : Tree) → is_leaf_kind (root_kind t) ≡ true → IsLeaf t
 is_leaf (num q) e = number q
 is_leaf (symbol x) e = named x
 is_leaf undef e = undefined
-is_leaf (add ts) e = absurd (no_leaf e)
-is_leaf (mult ts) e = absurd (no_leaf e)
-is_leaf (power b x) e = absurd (no_leaf e)
-is_leaf (root a) e = absurd (no_leaf e)
-is_leaf (neg a) e = absurd (no_leaf e)
-is_leaf (sub a b) e = absurd (no_leaf e)
-is_leaf (div a b) e = absurd (no_leaf e)
+is_leaf t e = absurd (no_leaf e)
 
 leaf_answer : (t : Tree) → IsLeaf t → IsOwnAnswer t
 leaf_answer t (number q) = number_answer q
@@ -122,12 +116,4 @@ leaf_of i j s k st h e told leaf =
 
 pub one_node : (t : Tree) → 1 ≤ nodes t
 one_node (num q) = omega arith
-one_node (symbol x) = omega arith
-one_node undef = omega arith
-one_node (add ts) = omega arith
-one_node (mult ts) = omega arith
-one_node (power b e) = omega arith
-one_node (root a) = omega arith
-one_node (neg a) = omega arith
-one_node (sub a b) = omega arith
-one_node (div a b) = omega arith
+one_node t = omega arith

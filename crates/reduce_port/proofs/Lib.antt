@@ -1,4 +1,3 @@
-pub mod Checks
 pub mod Filling
 pub mod Leaves
 pub mod Faults

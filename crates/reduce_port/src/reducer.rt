@@ -7,12 +7,13 @@ use tree_handles::Handle;
 /// A call that reduces whole trees.
 ///
 /// A reducer may tell two numbers of a tree, which depend on the tree alone: `room`, within whose bytes it is
-/// reduced, and `bits`, with at most 124 of which no operation overflows. Where it tells them, bytes are lacking
+/// reduced, and `bits`, with at most `bits_limit` of which no operation overflows. Where it tells them, bytes are lacking
 /// only for a tree whose `room` is more than was free with the tree's own bytes, and an operation overflows only
 /// for a tree of more `bits` than that.
 pub trait Reducer {
     ghost use Rattle.std.specs.Prelude.{◌≡◌, ◌↔◌, ◌+◌, ◌*◌, ℕ, Option, IfOk, OnOk, true, [], ◌∷◌};
-    ghost use Rattle.breakers.specs.Breakers.{CalmChecks, TripsRose};
+    ghost use Rattle.calc_terms.specs.Limits.{bits_limit};
+    ghost use Rattle.breakers.specs.Breakers.{CalmChecks, CalmUpTo, TripsRose, TripsWithin};
     ghost use Rattle.breakers.specs.Watch.{states};
     ghost use Rattle.calc_algebra.specs.BadAndEasy.{IsEasy};
     ghost use Rattle.calc_measures.specs.PlainOverflows.{is_overflow, nodes_to_overflow};
@@ -22,7 +23,6 @@ pub trait Reducer {
     ghost use Rattle.reduce_port.specs.Bounds.{MayExceed, Covers};
     ghost use Rattle.tree_handles.specs.Standing.{LacksBytes, Stands, forest};
     ghost use Rattle.tree_handles.specs.Causes.{Overflows};
-    ghost use Rattle.reduce_port.specs.Checks.{CalmUpTo, TripsWithin};
     ghost use Rattle.reduce_port.specs.EasyTrees.{Evaluates, HasEasyBadPart};
     ghost use Rattle.reduce_port.specs.Faults.{IfFull, IfOverflow, IfInterrupted, CountsRefusals};
     ghost use Rattle.calc_measures.specs.PlainTrees.{IsPlainAnswer, IsPlainOverflow};
@@ -71,7 +71,7 @@ pub trait Reducer {
 
         // An operation that does not fit.
         ensures overflow { IfOverflow result Overflows }
-        ensures overflow_beyond_bits { IfOverflow result (λ _. MayExceed bits (tree_of tree pool.old) 124) }
+        ensures overflow_beyond_bits { IfOverflow result (λ _. MayExceed bits (tree_of tree pool.old) bits_limit) }
         ensures overflow_after_checks { IfOverflow result (λ _.
             CalmUpTo (nodes (tree_of tree pool.old)) (states B.state watch.old) (states B.state watch.new)) }
 

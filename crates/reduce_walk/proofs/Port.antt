@@ -1,7 +1,7 @@
 -- What the port promises, from how the walk ends.
 use Rattle.std.proofs.Common.{arith, ◌≡◌, ◌↔◌, ℕ, List, Result, Ok, Err, refl, sym, ap}
 use Rattle.std.specs.Prelude.{IfErr, OnOk}
-use Rattle.reduce_walk.proofs.Shared.{CalmChecks, TripsRose, Tree, nodes, IsUnfitAt, Stops, State, Overflow, calm_raised_none, tripped_rose, CalmUpTo, IfFull, IfOverflow, IfInterrupted, CountsRefusals, ReduceFault, KeepsRefusals}
+use Rattle.reduce_walk.proofs.Shared.{CalmChecks, TripsRose, Tree, nodes, IsUnfitAt, Stops, State, Overflow, calm_checks_raise_no_trips, tripped_rose, CalmUpTo, IfFull, IfOverflow, IfInterrupted, CountsRefusals, ReduceFault, KeepsRefusals}
 use Rattle.breakers.specs.State.{State as BreakerState}
 use Rattle.breakers.specs.declared.watch.Interrupted.{Interrupted}
 use Rattle.node_pool.specs.declared.full.Full.{Full}
@@ -41,9 +41,9 @@ module _ (L : Tree → ℕ → Type 0) (U : Tree → ℕ → Overflow → Type 0
   rose n c h place = by r c h
     where
       by : (x : Result ℕ ReduceFault) → OnOk x (CalmChecks n before after) → IfErr x (Stops L U t old new before after) → (x ≡ Err (fault.Interrupted (record { by = place }))) ↔ TripsRose before after place
-      by (Ok a) c s = (λ e. cc, λ w. absurd (calm_raised_none n before after place c w))
-      by (Err (fault.Full full)) c s = (λ e. cc, λ w. absurd (calm_raised_none s.2.checks before after place s.2.calm w))
-      by (Err (fault.Overflow o)) c s = (λ e. cc, λ w. absurd (calm_raised_none s.2.place before after place s.2.calm w))
+      by (Ok a) c s = (λ e. cc, λ w. absurd (calm_checks_raise_no_trips n before after place c w))
+      by (Err (fault.Full full)) c s = (λ e. cc, λ w. absurd (calm_checks_raise_no_trips s.2.checks before after place s.2.calm w))
+      by (Err (fault.Overflow o)) c s = (λ e. cc, λ w. absurd (calm_checks_raise_no_trips s.2.place before after place s.2.calm w))
       by (Err (fault.Interrupted i)) c s =
           let q = tripped_rose _ before after i.by place s.1 in
           (λ e. q.0 (by_place place i _ refl e), λ w. ap (λ (p : ℕ). Err (fault.Interrupted (record { by = p }))) (sym (q.1 w)))

@@ -1,13 +1,12 @@
 -- The names that the proofs share.
-pub use Rattle.breakers.proofs.Runs.{CalmChecks-append}
-pub use Rattle.breakers.specs.Breakers.{CalmChecks, Check, TripsRose}
+pub use Rattle.breakers.proofs.Runs.{CalmChecks-append, calm_checks_raise_no_trips}
+pub use Rattle.breakers.proofs.Stops.{calm_more, calm_up_to, calm_up_to_after, one_calm, trips_at_once, trips_more, trips_within_after, tripped_rose}
+pub use Rattle.breakers.specs.Breakers.{CalmChecks, CalmUpTo, Check, TripsRose, TripsWithin}
 pub use Rattle.breakers.specs.Watch.{states}
 pub use Rattle.calc_terms.specs.Payload.{Payload, bare, named, rational, size_of_payload}
 pub use Rattle.calc_terms.specs.Trees.{Tree, Trees, append, count, more, nodes, nodes_of, none, num, root_size, size, sizes, symbol, undef}
 pub use Rattle.node_pool.specs.State.{State, free_of}
 pub use Rattle.rational128.specs.declared.overflow.Overflow.{Overflow}
-pub use Rattle.reduce_port.proofs.Checks.{calm_raised_none, calm_up_to, calm_up_to_after, one_calm, tripped_rose, trips_at_once, trips_within_after}
-pub use Rattle.reduce_port.specs.Checks.{CalmUpTo, TripsWithin}
 pub use Rattle.reduce_port.specs.Faults.{CountsRefusals, IfFull, IfInterrupted, IfOverflow, fault_of}
 pub use Rattle.reduce_port.specs.declared.fault.ReduceFault.{ReduceFault}
 pub use Rattle.reduce_walk.specs.Answers.{AreAnswers, EachTree, IsNext, IsOver}

@@ -1,7 +1,7 @@
 -- A walk that ends without an answer.
 use Rattle.std.proofs.Common.{◌≡◌, ℕ, ◌+◌, ◌<◌, ◌≤◌, List, Some, None, Result, Err, true, sym, ap, subst, arith}
-use Rattle.std.specs.Prelude.{IfErr, OnOk, IsErr, IsErrAnd}
-use Rattle.reduce_walk.proofs.Shared.{CalmChecks-append, Check, CalmChecks, Tree, Trees, none, more, count, nodes, nodes_of, size, sizes, root_size, State, free_of, Overflow, one_calm, calm_up_to, trips_at_once, calm_up_to_after, trips_within_after, CalmUpTo, TripsWithin, fault_of, ReduceFault, IsNext, is_leaf, Stops, plain, children_of, Forest, root_tree, KeepsRefusals}
+use Rattle.std.specs.Prelude.{IfErr, OnOk}
+use Rattle.reduce_walk.proofs.Shared.{CalmChecks-append, Check, CalmChecks, Tree, Trees, none, more, count, nodes, nodes_of, size, sizes, root_size, State, free_of, Overflow, one_calm, calm_up_to, trips_at_once, calm_up_to_after, trips_within_after, TripsWithin, fault_of, ReduceFault, IsNext, is_leaf, Stops, plain, children_of, Forest, root_tree, KeepsRefusals, calm_more, trips_more}
 use Rattle.breakers.specs.State.{State as BreakerState}
 use Rattle.tree_handles.proofs.Refused.{kept_after, refuses_after}
 use Rattle.tree_handles.specs.Lacking.{OfFull}
@@ -12,12 +12,6 @@ use Rattle.tree_handles.specs.declared.fault.NumberFault.{NumberFault}
 use Rattle.reduce_port.specs.declared.fault.ReduceFault.TheVariants as fault
 
 -- ---- checks
-
-calm_more : {n m : ℕ} {before after : List BreakerState} → CalmUpTo n before after → n ≤ m → CalmUpTo m before after
-calm_more h l = record { checks = h.checks; some = h.some; few = omega (arith, h.few); calm = h.calm }
-
-pub trips_more : {n m p : ℕ} {before after : List BreakerState} → TripsWithin n before after p → n ≤ m → TripsWithin m before after p
-trips_more h l = record { passed = h.passed; few = omega (arith, h.few); between = h.between; calm = h.calm; trips = h.trips }
 
 some_nodes : (t : Tree) → 1 ≤ nodes t
 some_nodes t = omega (arith, nodes_by_children t)
@@ -80,10 +74,6 @@ pub step_stops : (L : Tree → ℕ → Type 0) (U : Tree → ℕ → Overflow �
 step_stops L U u before after tree e c k f w h l m = grind (arith, refuses_after, calm_up_to, some_nodes, kept_after)
 
 -- ---- where it is the error
-
--- what an error tells, where a `?` hands it on
-pub handed_on : {A E : Type 0} (r : Result A E) (e : E) (P : E → Type 0) → IsErr r → IsErrAnd r (λ x. x ≡ e) → P e → IfErr r P
-handed_on r e P n a h = grind arith
 
 pub stopped : (L : Tree → ℕ → Type 0) (U : Tree → ℕ → Overflow → Type 0) {s t : State} {x y : Tree} (r : Result ℕ ReduceFault) (u : State) (before after : List BreakerState) → x ≡ y → KeepsRefusals s t → free_of t + size x ≡ free_of s + size y
     → IfErr r (Stops L U x t u before after) → IfErr r (Stops L U y s u before after)

@@ -1,11 +1,10 @@
 -- How a walk ends without an answer.
 use Rattle.std.specs.Prelude.{ℕ, ◌+◌, ◌≤◌, List}
-use Rattle.breakers.specs.Breakers.{CalmChecks}
+use Rattle.breakers.specs.Breakers.{CalmChecks, CalmUpTo, TripsWithin}
 use Rattle.breakers.specs.State.{State as BreakerState}
 use Rattle.calc_terms.specs.Trees.{Tree, nodes, size}
 use Rattle.node_pool.specs.State.{State, free_of}
 use Rattle.rational128.specs.declared.overflow.Overflow.{Overflow}
-use Rattle.reduce_port.specs.Checks.{CalmUpTo, TripsWithin}
 use Rattle.reduce_port.specs.declared.fault.ReduceFault.{ReduceFault}
 use Rattle.reduce_port.specs.declared.fault.ReduceFault.TheVariants as fault
 use Rattle.tree_handles.specs.Causes.{Overflows}

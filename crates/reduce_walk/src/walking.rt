@@ -1,10 +1,9 @@
 //! The walk over a tree: children before their parent, from left to right.
 ghost use Rattle.std.specs.Prelude.{◌≡◌, ◌↔◌, ◌+◌, ℕ, IfOk, IfErr, OnOk, Err, [], ◌∷◌};
-ghost use Rattle.breakers.specs.Breakers.{CalmChecks, TripsRose};
+ghost use Rattle.breakers.specs.Breakers.{CalmChecks, CalmUpTo, TripsRose, TripsWithin};
 ghost use Rattle.breakers.specs.Watch.{states};
 ghost use Rattle.calc_terms.specs.Trees.{nodes, size};
 ghost use Rattle.node_pool.specs.State.{free_of};
-ghost use Rattle.reduce_port.specs.Checks.{CalmUpTo, TripsWithin};
 ghost use Rattle.reduce_port.specs.Faults.{CountsRefusals, IfFull, IfInterrupted, IfOverflow};
 ghost use Rattle.reduce_walk.specs.Leaves.{is_leaf as is_leaf_tree, is_leaf_kind as is_leaf_kind_of, BeginWithLeaves};
 ghost use Rattle.reduce_walk.specs.Stops.{IsUnfitAt, Stops};

@@ -2,9 +2,10 @@ use Rattle.std.proofs.Common.{◌<◌, sym, ap, ◌∙◌, arith, subst}
 use Rattle.reduce_walk.proofs.Shared.{states, Tree, nodes, live, expression, seen, TripsWithin, fault_of, is_leaf, BeginWithLeaves, children_of, tree_of, keeps_none, keeps_after, behind_first, front_same, front_after_one, gives, gives_as, given_handed, given_told, represents_handed}
 use Rattle.reduce_walk.proofs.Bytes.{child_free, last_free}
 use Rattle.reduce_walk.proofs.Ready.{walked_ready}
-use Rattle.reduce_walk.proofs.Stopping.{StopsParent, all_checks, child_stops, handed_on, last_trips, leaf_calm, leaf_trips, step_stops}
+use Rattle.reduce_walk.proofs.Stopping.{StopsParent, all_checks, child_stops, last_trips, leaf_calm, leaf_trips, step_stops}
 use Rattle.reduce_walk.proofs.Walks.{all_walked, child_front, fewer_nodes, leaves_walked, leaves_within, many_children, next_child, next_taken, next_taken_too, next_there, next_walked, next_within, stands_last, to_adopt}
 use Rattle.reduce_port.specs.declared.fault.ReduceFault.TheVariants as fault
+use Rattle.tree_handles.proofs.Outcomes.{passed_on}
 use Rattle.reduce_walk.proofs.walking.+walk_last.Goals as goal
 
 pub is_leaf-requires-clause-expression : goal.is_leaf-requires-clause-expression
@@ -34,7 +35,7 @@ check_leaves-requires-clause-expression g t c = expression c.id-2.ensures c.requ
 
 pub returns-in_err-leaves-clause-stops : goal.returns-in_err-leaves-clause-stops
 returns-in_err-leaves-clause-stops g t c =
-    handed_on c.from_residual.result (fault.Interrupted c.in_err-leaves.field-0.0) _ c.from_residual.ensures.0 c.from_residual.ensures.1
+    passed_on c.from_residual.result (fault.Interrupted c.in_err-leaves.field-0.0) _ c.from_residual.ensures.0 c.from_residual.ensures.1
     (keeps_none c.args.pool.now, subst (λ (u : Tree). TripsWithin (nodes u) (states g.B.Breaker.state c.args.watch.now) (states g.B.Breaker.state c.check_leaves.new.watch) c.in_err-leaves.field-0.0.by) (seen c.id-2.ensures c.requires.stands c.requires.handed) c.in_err-leaves.ensures.trips)
 
 pub returns-in_err-leaves-clause-front : goal.returns-in_err-leaves-clause-front
@@ -75,7 +76,7 @@ returns-in_err-_answer-clause-stops g t c =
       lacks = λ u before done behind bytes. c.laws.ensures.child_lacks (tree_of c.args.tree c.args.pool.now) u before done behind bytes c.requires.taken;
       overflows = λ u before done behind place o. c.laws.ensures.child_overflows (tree_of c.args.tree c.args.pool.now) u before done behind place o c.requires.taken;
     } in
-    handed_on c.from_residual-in_err-_answer.result c.in_err-_answer.field-0.0 _ c.from_residual-in_err-_answer.ensures.0 c.from_residual-in_err-_answer.ensures.1
+    passed_on c.from_residual-in_err-_answer.result c.in_err-_answer.field-0.0 _ c.from_residual-in_err-_answer.ensures.0 c.from_residual-in_err-_answer.ensures.1
     (child_stops _ _ n _ c.in_err-_answer.field-0.0 parent (given_told a) kept (child_free n c.requires.stands c.take_child-child.ensures.stands kept c.requires.handed a) c.in_err-_answer.ensures.stops)
 
 pub returns-in_err-_answer-clause-front : goal.returns-in_err-_answer-clause-front
@@ -108,7 +109,7 @@ adopt-requires g t c =
 pub returns-in_err-check-clause-stops : goal.returns-in_err-check-clause-stops
 returns-in_err-check-clause-stops g t c =
     let w = all_walked c.loop-at.invariant.walked c.loop-at.invariant.many (omega (arith, c.loop-at-test.false)) c.adopt.ensures.forest in
-    handed_on c.from_residual-in_err-check.result (fault.Interrupted c.in_err-check.field-0.0) _ c.from_residual-in_err-check.ensures.0 c.from_residual-in_err-check.ensures.1
+    passed_on c.from_residual-in_err-check.result (fault.Interrupted c.in_err-check.field-0.0) _ c.from_residual-in_err-check.ensures.0 c.from_residual-in_err-check.ensures.1
     (keeps_after _ _ _ c.loop-at.invariant.kept c.adopt.ensures.kept, last_trips _ c.in_err-check.field-0.0.by w c.in_err-check.ensures.interrupted)
 
 pub returns-in_err-check-clause-front : goal.returns-in_err-check-clause-front
@@ -128,7 +129,7 @@ returns-in_err-answer-clause-stops g t c =
     let e = c.in_err-answer.field-0.0 in
     let whole = tree_of c.args.tree c.args.pool.now in
     let kept = keeps_after _ _ _ c.loop-at.invariant.kept c.adopt.ensures.kept in
-    handed_on c.from_residual-in_err-answer.result (fault_of e) _ c.from_residual-in_err-answer.ensures.0 c.from_residual-in_err-answer.ensures.1
+    passed_on c.from_residual-in_err-answer.result (fault_of e) _ c.from_residual-in_err-answer.ensures.0 c.from_residual-in_err-answer.ensures.1
     (step_stops g.S.NodeStep.may_lack g.S.NodeStep.may_overflow _ _ _ whole e (all_checks _ w c.in_ok-check.ensures.calm) kept c.in_err-answer.ensures.faults c.in_err-answer.ensures.caused
     (last_free c.requires.stands c.adopt.ensures.stands kept c.requires.handed r.handed w.last w.rest) (c.in_err-answer.ensures.lacks whole c.requires.taken r.over) (c.in_err-answer.ensures.overflow whole c.requires.taken r.over))
 

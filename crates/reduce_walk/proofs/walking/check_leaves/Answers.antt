@@ -1,10 +1,11 @@
 use Rattle.std.proofs.Common.{ℕ, suc, ◌+◌, ◌≡◌, [], ◌∷◌, ◌++◌, length, ap, ◌∙◌, sym, subst, arith}
-use Rattle.reduce_walk.proofs.Shared.{length-append, CalmChecks, states, CalmChecks-append, BeginWithLeaves, one_calm, trips_at_once, trips_within_after, plain, children_of, rest_trees, tree_at, kids_of, forest}
-use Rattle.reduce_walk.proofs.Stopping.{handed_on, trips_more, leaf_counts}
+use Rattle.reduce_walk.proofs.Shared.{length-append, CalmChecks, states, CalmChecks-append, BeginWithLeaves, one_calm, trips_at_once, trips_within_after, plain, children_of, rest_trees, tree_at, kids_of, forest, trips_more}
+use Rattle.reduce_walk.proofs.Stopping.{leaf_counts}
 use Rattle.reduce_walk.proofs.Walks.{leaves_more, few_children}
 use Rattle.reduce_walk.proofs.LeafVisits.{next_visit}
 use Rattle.tree_handles.specs.Visits.{visits_of}
 use Rattle.tree_handles.proofs.Readings.{expression_children}
+use Rattle.tree_handles.proofs.Outcomes.{passed_on}
 use Rattle.reduce_walk.proofs.walking.check_leaves.Goals as goal
 
 pub returns-then-not-is_leaf_kind-clause-leaves : goal.returns-then-not-is_leaf_kind-clause-leaves
@@ -16,7 +17,7 @@ returns-then-not-is_leaf_kind-clause-checks g c = subst (λ (n : ℕ). CalmCheck
 pub returns-in_err-check-clause-trips : goal.returns-in_err-check-clause-trips
 returns-in_err-check-clause-trips g c =
     let t = next_visit c.args.pool.now c.requires.expression c.loop-node.invariant.visits c.in-Some.ensures.steps in
-    handed_on c.from_residual.result c.in_err-check.field-0.0 _ c.from_residual.ensures.0 c.from_residual.ensures.1
+    passed_on c.from_residual.result c.in_err-check.field-0.0 _ c.from_residual.ensures.0 c.from_residual.ensures.1
     (trips_more (trips_within_after (length c.loop-node.yielded) 1 _ _ _ _ c.loop-node.invariant.calm (trips_at_once 1 _ _ _ (omega arith) c.in_err-check.ensures.interrupted)) (leaf_counts _ _ t.within))
 
 pub overflow_add-leaves : goal.overflow_add-leaves

@@ -3,7 +3,8 @@ use Rattle.breakers.specs.Breakers.{CalmChecks}
 use Rattle.breakers.specs.Watch.{states}
 use Rattle.calc_measures.specs.PlainValues.{plain_value}
 use Rattle.calc_terms.specs.Trees.{Tree}
-use Rattle.reduce_port.proofs.Checks.{one_calm, calm_up_to, trips_at_once, calm_raised_none}
+use Rattle.breakers.proofs.Runs.{calm_checks_raise_no_trips}
+use Rattle.breakers.proofs.Stops.{one_calm, calm_up_to, trips_at_once}
 use Rattle.reduce_port.proofs.Faults.{interrupted}
 use Rattle.reduce_port.proofs.Leaves.{leaf_of, one_node}
 use Rattle.calc_algebra.proofs.Rewritings.{Rewrites-refl, reduces}
@@ -54,7 +55,7 @@ pub returns-in-Num-clause-front : goal.returns-in-Num-clause-front
 returns-in-Num-clause-front g c = front_end c.move_last.ensures.last (front_without behind_first front_same)
 
 pub returns-in_default-clause-by_the_one_whose_trips_rose : goal.returns-in_default-clause-by_the_one_whose_trips_rose
-returns-in_default-clause-by_the_one_whose_trips_rose g c place = (λ e. cc, λ r. absurd (calm_raised_none 1 _ _ place (one_calm _ _ c.in_ok-check.ensures.calm) r))
+returns-in_default-clause-by_the_one_whose_trips_rose g c place = (λ e. cc, λ r. absurd (calm_checks_raise_no_trips 1 _ _ place (one_calm _ _ c.in_ok-check.ensures.calm) r))
 
 pub returns-in_default-clause-full_after_checks : goal.returns-in_default-clause-full_after_checks
 returns-in_default-clause-full_after_checks g c = calm_up_to 1 _ _ _ (omega arith) (one_node (tree_of c.args.tree c.args.pool.now)) (one_calm _ _ c.in_ok-check.ensures.calm)
