@@ -176,7 +176,8 @@ rational_term t h c = unclear h
 split_wider : {ts : Trees} {x y : ℕ} → x ≤ y → AreSplitLight ts x → AreSplitLight ts y
 split_wider l a = record { whole = a.whole; others = a.others; light = a.light; high = omega (arith, a.high, l) }
 
-number_light : (q : Fraction) (ts : Trees) (x : ℕ) → is_term (num q) ≡ true → (q.den == 1) ≡ true → AreSplitLight ts x → AreSplitLight (more (num q) ts) (2 * (multiple q.num (counts 1 0)).up + 2 * (multiple q.num (counts 1 0)).down + x)
+number_light : (q : Fraction) (ts : Trees) (x : ℕ) → is_term (num q) ≡ true → (q.den == 1) ≡ true → AreSplitLight ts x
+    → AreSplitLight (more (num q) ts) (2 * (multiple q.num (counts 1 0)).up + 2 * (multiple q.num (counts 1 0)).down + x)
 number_light q ts x h k a = grind (arith, whole_parts, term_light, no_zero, multiple_counts)
 
 kept_light : (t : Tree) (ts : Trees) (n x : ℕ) → is_term t ≡ false → AreLight (addend_of t ∷ []) n → AreLight (addends_of ts) x → AreSplitLight (more t ts) (n + x)
@@ -196,7 +197,8 @@ others_light (more t ts) f n s c =
     let (a, b) = and_parts (is_counted t) (are_counted ts) c in
     more_light (other_light t f.0 n.0 s.0 a) (others_light ts f.1 n.1 s.1 b) (omega arith)
 
-split_light : (ts : Trees) → AllPartsOf HasForm ts → NoneIs is_number (other_terms ts) → NoneIs is_add ts → are_counted ts ≡ true → AreSplitLight ts (2 * ((counts_of_all ts).up + (counts_of_all ts).down))
+split_light : (ts : Trees) → AllPartsOf HasForm ts → NoneIs is_number (other_terms ts) → NoneIs is_add ts → are_counted ts ≡ true
+    → AreSplitLight ts (2 * ((counts_of_all ts).up + (counts_of_all ts).down))
 split_light none f n s c = record { whole = tt; others = 0; light = none_light; high = omega arith }
 split_light (more t ts) f n s c = by (λ o. split_light ts f.1 o s.1 (and_parts (is_counted t) (are_counted ts) c).1) (is_term t) refl
   where
@@ -211,7 +213,8 @@ split_light (more t ts) f n s c = by (λ o. split_light ts f.1 o s.1 (and_parts 
     first t q e h c r = subst (λ (u : Tree). AreSplitLight (more u ts) (2 * ((counts_of u).up + (counts_of_all ts).up + ((counts_of u).down + (counts_of_all ts).down)))) (sym e)
         (split_wider (omega arith) (number_light q ts (2 * ((counts_of_all ts).up + (counts_of_all ts).down)) (ap is_term (sym e) ∙ h) (ap is_counted (sym e) ∙ c) r))
 
-    by : (NoneIs is_number (other_terms ts) → AreSplitLight ts (2 * ((counts_of_all ts).up + (counts_of_all ts).down))) → (x : Bool) → is_term t ≡ x → AreSplitLight (more t ts) (2 * ((counts_of t).up + (counts_of_all ts).up + ((counts_of t).down + (counts_of_all ts).down)))
+    by : (NoneIs is_number (other_terms ts) → AreSplitLight ts (2 * ((counts_of_all ts).up + (counts_of_all ts).down))) → (x : Bool) → is_term t ≡ x
+        → AreSplitLight (more t ts) (2 * ((counts_of t).up + (counts_of_all ts).up + ((counts_of t).down + (counts_of_all ts).down)))
     by r true e =
         let (q, i) = rational_term t e a in
         first t q i e a (r (subst (NoneIs is_number) (ap (λ (x : Bool). if x then other_terms ts else more t ts) e) n))
@@ -251,7 +254,8 @@ exponent_light (mult (more (num q) (more t none))) f c = by (is_number (mult (mo
     m : IsMultiple q t
     m = multiple_of q t f c
 
-    by : (x : Bool) → is_number (mult (more (num q) (more t none))) ≡ x → AreLight (addends (mult (more (num q) (more t none)))) (2 * ((counts_of (mult (more (num q) (more t none)))).up + (counts_of (mult (more (num q) (more t none)))).down))
+    by : (x : Bool) → is_number (mult (more (num q) (more t none))) ≡ x
+        → AreLight (addends (mult (more (num q) (more t none)))) (2 * ((counts_of (mult (more (num q) (more t none)))).up + (counts_of (mult (more (num q) (more t none)))).down))
     by true n = clash (sym n ∙ ap (λ (u : Tree). is_number (mult (more (num q) (more u none)))) m.is)
     by false n = subst (λ (xs : List Addend). AreLight xs (2 * ((counts_of (mult (more (num q) (more t none)))).up + (counts_of (mult (more (num q) (more t none)))).down)))
         (sym (ap (λ (b : Bool). if b then addend (value (mult (more (num q) (more t none)))) none ∷ [] else addend_of (mult (more (num q) (more t none))) ∷ []) n))

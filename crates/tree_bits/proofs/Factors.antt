@@ -113,7 +113,9 @@ one_times_one c d p q r s h l k n a b = record {
   scale = a.scale * b.scale;
   scale_positive = mul_pos a.scale b.scale a.scale_positive b.scale_positive;
   scaled = (parts_times a.scale b.scale c d a.scaled.0 b.scaled.0, tt);
-  high = high_times (mass (a.scale * b.scale) (surd_times c d)) (mass a.scale c) (mass b.scale d) a.scale b.scale p r h k (mass_times a.scale b.scale a.scale b.scale c d a.scaled.0 b.scaled.0) a.high b.high;
+  high =
+      high_times (mass (a.scale * b.scale) (surd_times c d)) (mass a.scale c) (mass b.scale d) a.scale b.scale p r h k
+      (mass_times a.scale b.scale a.scale b.scale c d a.scaled.0 b.scaled.0) a.high b.high;
 }
 
 pub multiplied_held : (x y : Addend) (h l k n : ℕ) → IsSumHeld (x ∷ []) h l → IsSumHeld (y ∷ []) k n → IsSumHeld (multiplied x y ∷ []) (h + k) (l + n)
@@ -151,7 +153,8 @@ times_parts d e c (w ∷ ws) p (q, qs) = (parts_times d e c w.coefficient p q, t
 times_mass : (d e : ℕ) (c : Surd) (ws : List Weighted) → Parts d c → PartsAll e ws → weighted_mass (d * e) (times_each c ws) ≤ mass d c * weighted_mass e ws
 times_mass d e c [] p q = omega arith
 times_mass d e c (w ∷ ws) p (q, qs) =
-    both (mass (d * e) (surd_times c w.coefficient)) (mass d c) (mass e w.coefficient) (2 ^ w.high) (weighted_mass (d * e) (times_each c ws)) (weighted_mass e ws) (mass_times d e d e c w.coefficient p q) (times_mass d e c ws p qs)
+    both (mass (d * e) (surd_times c w.coefficient)) (mass d c) (mass e w.coefficient) (2 ^ w.high) (weighted_mass (d * e) (times_each c ws)) (weighted_mass e ws)
+    (mass_times d e d e c w.coefficient p q) (times_mass d e c ws p qs)
   where
     both : (m c d p x y : ℕ) → m ≤ c * d → x ≤ c * y → m * p + x ≤ c * (d * p + y)
     both m c d p x y h k = let a : m * p ≤ (c * d) * p = mul-le m p (c * d) p h (omega arith) in omega arith

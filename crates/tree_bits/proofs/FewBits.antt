@@ -1,7 +1,7 @@
 -- The bits of the parts of a tree, and highs of at least 1.
 use Rattle.std.proofs.Common.{◌≡◌, ℕ, ◌≤◌, ℤ, Bool, true, if◌then◌else◌, arith}
 use Rattle.std.specs.Prelude.{Option}
-use Rattle.tree_bits.proofs.Shared.{whole_literal, half_literal, or_literal, HighLow, power_bounds, bounds, high, bits, most_bits, most_bits_of, all_simple, Tree, num, symbol, undef, add, mult, power, root, neg, sub, div, Trees, none, more, AllParts, AllPartsOf, IsComplete, IsWithinBits}
+use Rattle.tree_bits.proofs.Shared.{whole_literal, half_literal, or_literal, HighLow, power_bounds, bounds, high, bits, most_bits, most_bits_of, all_simple, Tree, num, symbol, undef, add, mult, power, root, neg, sub, div, Trees, none, more, AllParts, AllPartsOf, IsComplete, IsWithinBits, bits_limit}
 
 -- ---- highs of at least 1
 
@@ -26,7 +26,7 @@ mutual
 -- ---- few bits
 
 mutual
-  parts_within : (t : Tree) → most_bits t ≤ 124 → AllParts IsWithinBits t
+  parts_within : (t : Tree) → most_bits t ≤ bits_limit → AllParts IsWithinBits t
   parts_within (num q) h = h
   parts_within (symbol x) h = h
   parts_within undef h = h
@@ -38,15 +38,15 @@ mutual
   parts_within (sub a b) h = (omega arith, parts_within a (omega arith), parts_within b (omega arith))
   parts_within (div a b) h = (omega arith, parts_within a (omega arith), parts_within b (omega arith))
 
-  all_parts_within : (ts : Trees) → most_bits_of ts ≤ 124 → AllPartsOf IsWithinBits ts
+  all_parts_within : (ts : Trees) → most_bits_of ts ≤ bits_limit → AllPartsOf IsWithinBits ts
   all_parts_within none h = tt
   all_parts_within (more t ts) h = (parts_within t (omega arith), all_parts_within ts (omega arith))
 
-few : (b : Bool) (n : ℕ) → (if b then n else 125) ≤ 124 → (b ≡ true) × (n ≤ 124)
+few : (b : Bool) (n : ℕ) → (if b then n else 125) ≤ bits_limit → (b ≡ true) × (n ≤ bits_limit)
 few b n h = grind arith
 
-pub few_simple : (t : Tree) → bits t ≤ 124 → all_simple t ≡ true
+pub few_simple : (t : Tree) → bits t ≤ bits_limit → all_simple t ≡ true
 few_simple t h = (few (all_simple t) (most_bits t) h).0
 
-pub few_parts : (t : Tree) → bits t ≤ 124 → AllParts IsWithinBits t
+pub few_parts : (t : Tree) → bits t ≤ bits_limit → AllParts IsWithinBits t
 few_parts t h = parts_within t (few (all_simple t) (most_bits t) h).1

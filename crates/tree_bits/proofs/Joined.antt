@@ -11,7 +11,8 @@ factor_left_out t ts h l (factor_held p q k n c b r x y) = wider (omega arith) (
 
 pub swapped : {t u : Tree} {ts : Trees} {h l : ℕ} → IsPartHeld (more t (more u ts)) h l → IsPartHeld (more u (more t ts)) h l
 swapped {t = t} {u = u} (factor_held p q k n c b (factor_held i j m o d e r x y) z w) =
-    factor_held i j (power_high (counts_of (exponent_in t)) p q + m) (power_low (counts_of (exponent_in t)) p q + o) d e (factor_held p q m o c b r (omega arith) (omega arith)) (omega arith) (omega arith)
+    factor_held i j (power_high (counts_of (exponent_in t)) p q + m) (power_low (counts_of (exponent_in t)) p q + o) d e (factor_held p q m o c b r (omega arith) (omega arith)) (omega arith)
+    (omega arith)
 
 pub factor_to_front : (ts : Trees) (t : Tree) (us : Trees) (h l : ℕ) → IsPartHeld (append ts (more t us)) h l → IsPartHeld (more t (append ts us)) h l
 factor_to_front none t us h l a = a

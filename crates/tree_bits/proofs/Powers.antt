@@ -88,7 +88,9 @@ raised n (t ∷ v) d ts us h l e f z (more_weighted p q a none_weighted) k =
     record {
       terms = weighted d (raised_high n p q) (raised_low n p q) ∷ [];
       weighted = more_weighted (raised_high n p q) (raised_low n p q) (part_power n ts us p q f a) none_weighted;
-      held = wider_held (split_high n h l p q s.0 s.1) (split_low n h l p q s.0 s.1) (put_before d (raised_high n (h - p) (l - q)) (raised_low n (h - p) (l - q)) (raised_high n p q) (raised_low n p q) (e (h - p) (l - q) s.2));
+      held =
+          wider_held (split_high n h l p q s.0 s.1) (split_low n h l p q s.0 s.1)
+          (put_before d (raised_high n (h - p) (l - q)) (raised_low n (h - p) (l - q)) (raised_high n p q) (raised_low n p q) (e (h - p) (l - q) s.2));
     }
 
 pub addend_raised : (n : ℤ) (x y : Addend) (h l : ℕ) → IsAddendPower n x y → IsZeroAlone x → IsSumHeld (x ∷ []) h l → IsSumHeld (y ∷ []) (raised_high n h l) (raised_low n h l)

@@ -105,7 +105,8 @@ product_row ts us c k = sum_wider (omega (arith, highs_of_factors ts)) (omega (a
 pub quotient_row : (a b : Tree) (x y z : Addend) → IsAddendPower (negsuc 0) y z → IsZeroAlone y → IsSumHeld (x ∷ []) (high a) (low a) → IsSumHeld (y ∷ []) (high b) (low b)
     → IsSumHeld (multiplied x z ∷ []) (high (div a b)) (low (div a b))
 quotient_row a b x y z e o s t =
-    sum_wider (omega arith) (omega arith) (multiplied_held x z (high a) (low a) (raised_high (negsuc 0) (high b) (low b)) (raised_low (negsuc 0) (high b) (low b)) s (addend_raised (negsuc 0) y z (high b) (low b) e o t))
+    sum_wider (omega arith) (omega arith)
+    (multiplied_held x z (high a) (low a) (raised_high (negsuc 0) (high b) (low b)) (raised_low (negsuc 0) (high b) (low b)) s (addend_raised (negsuc 0) y z (high b) (low b) e o t))
 
 -- ---- powers
 

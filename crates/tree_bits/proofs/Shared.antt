@@ -14,6 +14,7 @@ pub use Rattle.calc_measures.specs.Literals.{half_literal, or_literal, whole_lit
 pub use Rattle.calc_measures.specs.Measures.{HighLow, all_simple, bits, bounds, bounds_of_factors, bounds_of_terms, ceil_log2, high, low, most_bits, most_bits_of, power_bounds}
 pub use Rattle.calc_terms.specs.Fractions.{Fraction, den_pos, is_zero_fraction, lowest, minus_one_fraction, mul_pos}
 unfoldable pub use Rattle.calc_terms.specs.Fractions.{one_fraction}
+pub use Rattle.calc_terms.specs.Limits.{bits_limit}
 pub use Rattle.calc_terms.specs.Trees.{AllParts, AllPartsOf, AreComplete, IsComplete, Tree, Trees, add, append, count, div, is_add, is_undef, more, mult, neg, none, num, power, root, sub, symbol, undef}
 pub use Rattle.std.proofs.Math.Nat.{dvd_refl, pow-le-pow_right}
 pub use Rattle.std.proofs.lemmas.Nat.{mul-le, pow-add, pow_pos}

@@ -73,13 +73,18 @@ pub sums_within : (ws vs : List Weighted) (x y l n : ℕ) → AreWithin ws x l �
 sums_within ws vs x y l n a b = record {
   denominator = b.denominator * a.denominator;
   positive = mul_pos b.denominator a.denominator b.positive a.positive;
-  parts = parts_both (b.denominator * a.denominator) ws vs (parts_multiple b.denominator a.denominator ws b.positive a.parts) (subst (λ d. PartsAll d vs) (mul_comm a.denominator b.denominator) (parts_multiple a.denominator b.denominator vs a.positive b.parts));
+  parts =
+      parts_both (b.denominator * a.denominator) ws vs (parts_multiple b.denominator a.denominator ws b.positive a.parts)
+      (subst (λ d. PartsAll d vs) (mul_comm a.denominator b.denominator) (parts_multiple a.denominator b.denominator vs a.positive b.parts));
   low = subst (λ x. (b.denominator * a.denominator) * 2 ^ x ≤ 2 ^ (l + n)) (sym (lows-append ws vs)) (low_together a.denominator b.denominator (lows ws) (lows vs) l n a.low b.low);
   scale = b.scale * a.scale;
   scale_positive = mul_pos b.scale a.scale b.scale_positive a.scale_positive;
-  scaled = parts_both (b.scale * a.scale) ws vs (parts_multiple b.scale a.scale ws b.scale_positive a.scaled) (subst (λ d. PartsAll d vs) (mul_comm a.scale b.scale) (parts_multiple a.scale b.scale vs a.scale_positive b.scaled));
+  scaled =
+      parts_both (b.scale * a.scale) ws vs (parts_multiple b.scale a.scale ws b.scale_positive a.scaled)
+      (subst (λ d. PartsAll d vs) (mul_comm a.scale b.scale) (parts_multiple a.scale b.scale vs a.scale_positive b.scaled));
   high =
-      high_together (weighted_mass (b.scale * a.scale) (ws ++ vs)) (weighted_mass (b.scale * a.scale) ws) (weighted_mass (b.scale * a.scale) vs) a.scale b.scale (weighted_mass a.scale ws) (weighted_mass b.scale vs) x y
+      high_together (weighted_mass (b.scale * a.scale) (ws ++ vs)) (weighted_mass (b.scale * a.scale) ws) (weighted_mass (b.scale * a.scale) vs) a.scale b.scale (weighted_mass a.scale ws)
+      (weighted_mass b.scale vs) x y
       (mass-both (b.scale * a.scale) ws vs) (mass_multiple b.scale a.scale ws a.scaled)
       (subst (λ e. weighted_mass e vs ≤ a.scale * weighted_mass b.scale vs) (mul_comm a.scale b.scale) (mass_multiple a.scale b.scale vs b.scaled)) a.high b.high;
 }

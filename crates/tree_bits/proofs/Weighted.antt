@@ -40,7 +40,8 @@ mass_first : (e : ℕ) (ws vs : List Weighted) → weighted_mass e (lesser ws vs
 mass_first e [] vs = omega arith
 mass_first e (w ∷ ws) [] = omega arith
 mass_first e (w ∷ ws) (v ∷ vs) =
-    both (mass e w.coefficient * 2 ^ min w.high v.high) (mass e w.coefficient * 2 ^ w.high) (weighted_mass e (lesser ws vs)) (weighted_mass e ws) (lesser_power (mass e w.coefficient) (min w.high v.high) w.high (omega arith)) (mass_first e ws vs)
+    both (mass e w.coefficient * 2 ^ min w.high v.high) (mass e w.coefficient * 2 ^ w.high) (weighted_mass e (lesser ws vs)) (weighted_mass e ws)
+    (lesser_power (mass e w.coefficient) (min w.high v.high) w.high (omega arith)) (mass_first e ws vs)
   where
     both : (a b c d : ℕ) → a ≤ b → c ≤ d → a + c ≤ b + d
     both a b c d h k = omega arith
@@ -50,7 +51,8 @@ mass_second e [] vs f = omega arith
 mass_second e (w ∷ ws) [] f = omega arith
 mass_second e (w ∷ ws) (v ∷ vs) f =
     both (mass e w.coefficient * 2 ^ min w.high v.high) (mass e v.coefficient * 2 ^ v.high) (weighted_mass e (lesser ws vs)) (weighted_mass e vs)
-    (subst (λ (c : Surd). mass e w.coefficient * 2 ^ min w.high v.high ≤ mass e c * 2 ^ v.high) (first_of f) (lesser_power (mass e w.coefficient) (min w.high v.high) v.high (omega arith))) (mass_second e ws vs (rest_of f))
+    (subst (λ (c : Surd). mass e w.coefficient * 2 ^ min w.high v.high ≤ mass e c * 2 ^ v.high) (first_of f) (lesser_power (mass e w.coefficient) (min w.high v.high) v.high (omega arith)))
+    (mass_second e ws vs (rest_of f))
   where
     both : (a b c d : ℕ) → a ≤ b → c ≤ d → a + c ≤ b + d
     both a b c d h k = omega arith
@@ -130,7 +132,9 @@ put_before c h l p q k = record {
   denominator = k.denominator;
   positive = k.parts.positive;
   parts = (k.parts, tt);
-  low = subst (λ n. k.denominator * 2 ^ n ≤ 2 ^ (l + q)) (none q) (let y : k.denominator * 2 ^ q ≤ 1 * 2 ^ (l + q) = times k.denominator 1 l q (let x : k.denominator ≤ 2 ^ l = k.low in omega arith) in omega arith);
+  low =
+      subst (λ n. k.denominator * 2 ^ n ≤ 2 ^ (l + q)) (none q)
+      (let y : k.denominator * 2 ^ q ≤ 1 * 2 ^ (l + q) = times k.denominator 1 l q (let x : k.denominator ≤ 2 ^ l = k.low in omega arith) in omega arith);
   scale = k.scale;
   scale_positive = k.scaled.positive;
   scaled = (k.scaled, tt);

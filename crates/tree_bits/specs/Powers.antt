@@ -3,13 +3,22 @@ use Rattle.std.specs.Prelude.{ℕ, suc, ◌+◌, ◌*◌, ◌≤◌, ◌≡◌, 
 use Rattle.calc_algebra.specs.Surds.{Surd}
 use Rattle.calc_bits.specs.Masses.{IsHeld}
 use Rattle.calc_terms.specs.Trees.{Tree, Trees, none, more}
-use Rattle.tree_bits.specs.Exponents.{Counts, multiple, counts_of, is_counted}
+use Rattle.tree_bits.specs.Exponents.{Counts, multiple, counts_of, counts_of_all, is_counted, are_counted}
 use Rattle.tree_bits.specs.HeldTrees.{Addend, base_in, exponent_in}
 
 -- an exponent that counts no more than another
 pub record IsWithin (c d : Counts) : Type 0 where
   pub up : c.up ≤ d.up
   pub down : c.down ≤ d.down
+
+-- an exponent that counts its base, and no more often than c
+pub record IsCountedWithin (c : Counts) (t : Tree) : Type 0 where
+  pub counted : is_counted t ≡ true
+  pub within : IsWithin (counts_of t) c
+
+-- t as the sum of exponents that count their base as often as all of them
+abbrev pub AddsCounts : Trees → Tree → Type 0
+AddsCounts ts t = are_counted ts ≡ true → IsCountedWithin (counts_of_all ts) t
 
 -- u has the base of the factor t, and an exponent that counts n times that of t at most
 pub record IsFactorPower (n : ℤ) (t u : Tree) : Type 0 where

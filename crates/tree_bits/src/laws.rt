@@ -1,6 +1,7 @@
 //! Laws of what holds sums and trees, each the contract of a function without a body.
 
 ghost use Rattle.std.specs.Prelude.{ℕ, suc, ◌≡◌, ◌+◌, ◌-◌, ◌*◌, ◌≤◌, min, ℤ, pos, negsuc, Some, List, [], ◌∷◌, ◌++◌, ◌^◌, true, false};
+ghost use Rattle.calc_terms.specs.Limits.{bits_limit};
 ghost use Rattle.calc_algebra.specs.Numbers.{is_number, value};
 ghost use Rattle.calc_algebra.specs.Surds.{Term, Surd};
 ghost use Rattle.calc_bits.specs.Bounds.{IsNoLarger, IsNoLargerThanPower};
@@ -128,8 +129,8 @@ pub fn what_stays_held()
 /// A tree with few bits has simple powers alone, and each of its parts is within the bits that calculations have. Every high is
 /// at least 1.
 pub fn few_bits()
-    ensures simple { (t : Tree) → bits t ≤ 124 → all_simple t ≡ true }
-    ensures parts { (t : Tree) → bits t ≤ 124 → AllParts IsWithinBits t }
+    ensures simple { (t : Tree) → bits t ≤ bits_limit → all_simple t ≡ true }
+    ensures parts { (t : Tree) → bits t ≤ bits_limit → AllParts IsWithinBits t }
     ensures positive { (t : Tree) → IsComplete t → 1 ≤ high t }
 {}
 

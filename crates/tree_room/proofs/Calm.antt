@@ -89,13 +89,7 @@ module _ (P : Tree → Type 0) (p : Tree) where
   at_root (num q) h = h
   at_root (symbol x) h = h
   at_root undef h = h
-  at_root (add ts) h = h.0
-  at_root (mult ts) h = h.0
-  at_root (power b e) h = h.0
-  at_root (root a) h = h.0
-  at_root (neg a) h = h.0
-  at_root (sub a b) h = h.0
-  at_root (div a b) h = h.0
+  at_root t h = h.0
 
   mutual
     at_part : (t : Tree) → IsPart p t → AllParts P t → P p

@@ -22,12 +22,7 @@ counts_one (root a) = by (is_num a)
     by : (z : Bool) → 1 ≤ (if z then 1 else suc (counted a))
     by true = omega arith
     by false = omega arith
-counts_one (num q) = omega arith
-counts_one (symbol x) = omega arith
-counts_one undef = omega arith
-counts_one (neg a) = omega arith
-counts_one (sub a b) = omega arith
-counts_one (div a b) = omega arith
+counts_one t = omega arith
 
 pub number_counts_one : (t : Tree) → is_number t ≡ true → counted t ≡ 1
 number_counts_one t h = number_counts t (number_words t h)

@@ -13,15 +13,7 @@ all_within _ _ h = absurd h
 
 pub some_node : (t : Tree) → 1 ≤ nodes t
 some_node (num q) = omega arith
-some_node (symbol x) = omega arith
-some_node undef = omega arith
-some_node (add ts) = omega arith
-some_node (mult ts) = omega arith
-some_node (power b e) = omega arith
-some_node (root a) = omega arith
-some_node (neg a) = omega arith
-some_node (sub a b) = omega arith
-some_node (div a b) = omega arith
+some_node t = omega arith
 
 some_nodes : (ts : Trees) → 1 ≤ count ts → 1 ≤ nodes_of ts
 some_nodes none h = omega arith
