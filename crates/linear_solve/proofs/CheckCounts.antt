@@ -89,9 +89,7 @@ one_child (Err m) n = omega arith
 
 two_children : (r s : Result Side Misfit) (n k : ℕ) → n + checks_behind r (λ x. k + checks_behind s (λ y. 1))
     ≡ (n + checks_behind r (λ x. k + checks_behind s (λ y. 0))) + checks_behind (and_then r (λ x. and_then (and_then s (λ y. Ok (y ∷ []))) (λ ys. Ok (x ∷ ys)))) (λ rs. 1)
-two_children (Ok x) (Ok y) n k = omega arith
-two_children (Ok x) (Err m) n k = omega arith
-two_children (Err m) s n k = omega arith
+two_children r s n k = grind arith
 
 several : (xs : Names) (ts : Trees)
     → rows_checks xs ts + checks_behind (rows_of xs ts) (λ rs. 1) ≡ checks_of_each (row_of xs) (row_checks xs) (listed ts) + checks_behind (each (row_of xs) (listed ts)) (λ rs. 1)

@@ -181,9 +181,7 @@ module _ (f : Assignment) (once : IsAssignment f) (xs : List (List ℕ)) (vs : L
       apart false c l = refl
 
       fewer : (b c : Bool) → (if b then 1 else 0) + ((if c then 1 else 0) + count_named ts) ≤ 1 → (if (b || c) then 1 else 0) + count_named ts ≤ 1
-      fewer true c l = omega arith
-      fewer false true l = omega arith
-      fewer false false l = omega arith
+      fewer b c l = grind arith
 
   sum_of_rows : (ts : Trees) (rs : List Side) (t : Side) → AreRowsOf ts rs → joined_from sum_row (constant_row xs zero_fraction) rs ≡ Ok t → IsRowOf (add ts) t
   sum_of_rows ts rs t h e = record {
@@ -196,10 +194,7 @@ module _ (f : Assignment) (once : IsAssignment f) (xs : List (List ℕ)) (vs : L
           → joined_from sum_row (constant_row xs zero_fraction) rs ≡ Ok t → IsRow (length xs) (vs ++ one_fraction ∷ []) (total ws) (any bs) t
       by [] [] [] k e = subst (IsRow (length xs) (vs ++ one_fraction ∷ []) zero_fraction false) (ok_is _ _ e) (constant_is zero_fraction)
       by (w ∷ ws) (b ∷ bs) (r ∷ rs) k e = sums_are w b r ws bs rs t k.0 k.1 e
-      by [] [] (r ∷ rs) k e = absurd k
-      by [] (b ∷ bs) rs k e = absurd k
-      by (w ∷ ws) [] rs k e = absurd k
-      by (w ∷ ws) (b ∷ bs) [] k e = absurd k
+      by ws bs rs k e = absurd k
 
   product_of_rows : (ts : Trees) (rs : List Side) (t : Side) → count_named ts ≤ 1 → AreRowsOf ts rs → joined_from (product_row (length xs)) (constant_row xs one_fraction) rs ≡ Ok t
       → IsRowOf (mult ts) t
@@ -213,10 +208,7 @@ module _ (f : Assignment) (once : IsAssignment f) (xs : List (List ℕ)) (vs : L
           → joined_from (product_row (length xs)) (constant_row xs one_fraction) rs ≡ Ok t → IsRow (length xs) (vs ++ one_fraction ∷ []) (product ws) (any bs) t
       by [] [] [] a k e = subst (IsRow (length xs) (vs ++ one_fraction ∷ []) one_fraction false) (ok_is _ _ e) (constant_is one_fraction)
       by (w ∷ ws) (b ∷ bs) (r ∷ rs) a k e = products_are w b r ws bs rs t a.1 k.0 k.1 e
-      by [] [] (r ∷ rs) a k e = absurd k
-      by [] (b ∷ bs) rs a k e = absurd k
-      by (w ∷ ws) [] rs a k e = absurd k
-      by (w ∷ ws) (b ∷ bs) [] a k e = absurd k
+      by ws bs rs a k e = absurd k
 
   -- the value of a divisor is not 0
   nonzero_worth : (a : Tree) (v : Fraction) → is_nonzero a ≡ true → Means a f (surd_of v) → v ≢ zero_fraction

@@ -1,5 +1,6 @@
 -- The names that the proofs share.
 pub use Rattle.breakers.proofs.Runs.{CalmChecks-append, calm_checks_raise_no_trips, only_the_tripped_rose}
+pub use Rattle.breakers.proofs.Stops.{one_calm, trips_after, trips_more, trips_within_after}
 pub use Rattle.breakers.specs.Breakers.{CalmChecks, Check, TripsRose, TripsWithin}
 pub use Rattle.breakers.specs.State.{State}
 pub use Rattle.breakers.specs.Watch.{states}

@@ -137,10 +137,7 @@ module _ {n : ℕ} {vs : List Fraction} where
   sums_are v b r (w ∷ ws) (c ∷ cs) (s ∷ rs) t h k e =
       let (u, p, q) = both (sum_row r s) (λ t. joined_rows sum_row t rs) t e in
       row_as (plus_assoc v w (total ws)) (or_assoc b c (any cs)) (sums_are (plus v w) (b || c) u ws cs rs t (sum_is u h k.0 p) k.1 q)
-  sums_are v b r [] [] (s ∷ rs) t h k e = absurd k
-  sums_are v b r [] (c ∷ cs) rs t h k e = absurd k
-  sums_are v b r (w ∷ ws) [] rs t h k e = absurd k
-  sums_are v b r (w ∷ ws) (c ∷ cs) [] t h k e = absurd k
+  sums_are v b r ws bs rs t h k e = absurd k
 
   pub products_are : (v : Fraction) (b : Bool) (r : Side) (ws : List Fraction) (bs : List Bool) (rs : List Side) (t : Side) → AtMostOne b bs → IsRow n vs v b r
       → AreRows n vs ws bs rs → joined_rows (product_row n) r rs ≡ Ok t → IsRow n vs (times v (product ws)) (b || any bs) t
@@ -148,7 +145,4 @@ module _ {n : ℕ} {vs : List Fraction} where
   products_are v b r (w ∷ ws) (c ∷ cs) (s ∷ rs) t a h k e =
       let (u, p, q) = both (product_row n r s) (λ t. joined_rows (product_row n) t rs) t e in
       row_as (times_assoc v w (product ws)) (or_assoc b c (any cs)) (products_are (times v w) (b || c) u ws cs rs t a.1 (product_is u a.0 h k.0 p) k.1 q)
-  products_are v b r [] [] (s ∷ rs) t a h k e = absurd k
-  products_are v b r [] (c ∷ cs) rs t a h k e = absurd k
-  products_are v b r (w ∷ ws) [] rs t a h k e = absurd k
-  products_are v b r (w ∷ ws) (c ∷ cs) [] t a h k e = absurd k
+  products_are v b r ws bs rs t a h k e = absurd k

@@ -1,6 +1,6 @@
 -- The rows of a node's children, one after another, and the checks between.
-use Rattle.std.proofs.Common.{◌≡◌, ◌<◌, ◌≤◌, ℕ, zero, suc, ◌+◌, true, false, List, [], ◌∷◌, ◌++◌, length, map, take, Result, Ok, Err, refl, sym, ap, ◌∙◌, subst, arith, Some, None, IfErr, IsErrAnd}
-use Rattle.linear_solve.proofs.Shared.{err_from_is_err_and, Overflow, and_parts, get_or-map, get_or_at, length-append, length-map, length_push, CalmChecks-append, Check, CalmChecks, TripsWithin, State, no_zero, zero_test, Kind, Fraction, negative, is_zero_fraction, zero_fraction, Tree, undef, neg, Trees, none, more, count, root_kind, SolveFault, OfOverflow, StopsAfter, Misfit, and_then, each, are_linear, is_divisor, is_linear, is_nonzero, entry, negated, Names, Side, bare_row, constant_of, constant_row, joined_from, joined_row, joined_rows, own_row, row_of, rows_of, signed_row, children_of, nth}
+use Rattle.std.proofs.Common.{◌≡◌, ◌<◌, ◌≤◌, ℕ, zero, suc, ◌+◌, true, false, List, [], ◌∷◌, ◌++◌, length, map, take, Result, Ok, Err, refl, sym, ap, ◌∙◌, subst, arith, IfErr, IsErrAnd}
+use Rattle.linear_solve.proofs.Shared.{err_from_is_err_and, Overflow, and_parts, get_or-map, get_or_at, length-append, length-map, length_push, CalmChecks-append, CalmChecks, State, no_zero, zero_test, Kind, Fraction, negative, is_zero_fraction, zero_fraction, Tree, undef, neg, Trees, none, more, count, root_kind, SolveFault, OfOverflow, StopsAfter, Misfit, and_then, each, are_linear, is_divisor, is_linear, is_nonzero, entry, negated, Names, Side, bare_row, constant_of, constant_row, joined_from, joined_row, joined_rows, own_row, row_of, rows_of, signed_row, children_of, nth, trips_more, trips_within_after}
 use Rattle.linear_solve.proofs.Arithmetic.{negative_twice, negative_zero}
 use Rattle.linear_solve.proofs.Calculations.{each_all, each_more, each_stops, ok_is, then_err, then_ok}
 use Rattle.linear_solve.proofs.LinearNodes.{divisor_linear}
@@ -125,21 +125,15 @@ divisor_at xs t i n r h k l z m e = grind (arith, divisor_row)
 
 -- ---- checks
 
-pub one_calm : (old new : List State) → Check old new None → CalmChecks 1 old new
-one_calm old new c = (new, c, refl)
-
 -- so many calm checks, and then those of another calculation
 pub stops_after : (n m most : ℕ) (old between new : List State) (f : SolveFault) → n + m ≤ most → OfOverflow (λ o. n + m ≡ most) f → CalmChecks n old between
     → StopsAfter m between new f → StopsAfter most old new f
 stops_after n m most old between new (fault.Overflow o) l e c h = subst (λ k. CalmChecks k old new) e (CalmChecks-append n m old between new c h)
-stops_after n m most old between new (fault.Interrupted i) l e c h = record { passed = n + h.passed; few = omega (arith, h.few); between = h.between; calm = CalmChecks-append n h.passed old between h.between c h.calm; trips = h.trips }
+stops_after n m most old between new (fault.Interrupted i) l e c h = trips_more (trips_within_after n m old between new i.by c h) l
 
 pub stops_as : (m most : ℕ) (old new : List State) (f : SolveFault) → m ≤ most → OfOverflow (λ o. m ≡ most) f → StopsAfter m old new f → StopsAfter most old new f
 stops_as m most old new (fault.Overflow o) l e h = subst (λ k. CalmChecks k old new) e h
-stops_as m most old new (fault.Interrupted i) l e h = record { passed = h.passed; few = omega (arith, h.few); between = h.between; calm = h.calm; trips = h.trips }
-
-pub trips_after : (n most : ℕ) (old between new : List State) (place : ℕ) → n < most → CalmChecks n old between → Check between new (Some place) → TripsWithin most old new place
-trips_after n most old between new place l c t = record { passed = n; few = l; between = between; calm = c; trips = t }
+stops_as m most old new (fault.Interrupted i) l e h = trips_more h l
 
 -- ---- faults
 

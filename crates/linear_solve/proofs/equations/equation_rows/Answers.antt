@@ -62,7 +62,8 @@ loop-at-preserved g c =
 pub returns-clause-ok : goal.returns-clause-ok
 returns-clause-ok g c =
     let long : length (equations_in (forest c.args.pool.now) c.args.left.now c.args.right.now) ≡ length c.args.left.now = equations_long (forest c.args.pool.now) c.args.left.now c.args.right.now c.requires.pairs in
-    all_equations (map name_of c.args.names.now) (equations_in (forest c.args.pool.now) c.args.left.now c.args.right.now) c.loop-at.at (map entries_of c.loop-at.rows.items) (omega (arith, long, c.loop-at-test.false)) c.loop-at.invariant.made
+    all_equations (map name_of c.args.names.now) (equations_in (forest c.args.pool.now) c.args.left.now c.args.right.now) c.loop-at.at (map entries_of c.loop-at.rows.items)
+    (omega (arith, long, c.loop-at-test.false)) c.loop-at.invariant.made
 
 pub returns-clause-checks : goal.returns-clause-checks
 returns-clause-checks g c =

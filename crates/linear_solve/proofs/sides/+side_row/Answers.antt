@@ -1,8 +1,8 @@
 use Rattle.std.proofs.Common.{◌<◌, ◌≤◌, refl, length, map, sym, ap, ◌∙◌, subst, arith}
-use Rattle.linear_solve.proofs.Shared.{length-map, CalmChecks-append, CalmChecks, states, name_of, count, nodes, StopsAfter, is_linear, row_checks, row_of, misfit_of, side_of, side_told, children_of, nth, plain, tree_at, forest}
+use Rattle.linear_solve.proofs.Shared.{length-map, CalmChecks-append, CalmChecks, states, name_of, count, nodes, StopsAfter, is_linear, row_checks, row_of, misfit_of, side_of, side_told, children_of, nth, plain, tree_at, forest, one_calm, trips_after}
 use Rattle.linear_solve.proofs.CheckCounts.{child_checks, child_checks_stop, child_checks_within, next_child_checks, own_check}
 use Rattle.linear_solve.proofs.TreeLists.{fewer_nodes}
-use Rattle.linear_solve.proofs.Walks.{child_linear, child_misfit, divisor_at, handed_on, next_made, none_made, one_calm, overflow_as, own_made, own_misfit, stops_after, trips_after}
+use Rattle.linear_solve.proofs.Walks.{child_linear, child_misfit, divisor_at, handed_on, next_made, none_made, overflow_as, own_made, own_misfit, stops_after}
 use Rattle.linear_solve.specs.declared.fault.SolveFault.TheVariants as fault
 use Rattle.linear_solve.proofs.sides.+side_row.Goals as goal
 
@@ -37,7 +37,8 @@ join_row-fits-requires g t c = record {
   divisor = λ k p.
       let within : c.loop-at.at < count (children_of (plain (tree_at c.args.t (forest c.args.pool.now)))) = omega (arith, c.children-at-end.ensures.plain c.requires.expression, c.loop-at-test.true) in
       let child = c.child_id.ensures.plain c.requires.expression in
-      divisor_at (map name_of c.args.names.now) (plain (tree_at c.args.t (forest c.args.pool.now))) c.loop-at.at (length c.args.names.now) (side_of c.side_row.new.row) (sym (length-map c.args.names.now name_of)) (sym (c.kind-kind.ensures.plain c.requires.expression) ∙ k) c.requires.linear p within
+      divisor_at (map name_of c.args.names.now) (plain (tree_at c.args.t (forest c.args.pool.now))) c.loop-at.at (length c.args.names.now) (side_of c.side_row.new.row)
+      (sym (length-map c.args.names.now name_of)) (sym (c.kind-kind.ensures.plain c.requires.expression) ∙ k) c.requires.linear p within
       (ap (row_of (map name_of c.args.names.now)) (sym child) ∙ c.in_ok-side_row.ensures.ok);
 }
 
@@ -75,7 +76,8 @@ returns-in_err-fits-clause-stops g t c =
 pub returns-clause-ok : goal.returns-clause-ok
 returns-clause-ok g t c =
     let done : count (children_of (plain (tree_at c.args.t (forest c.args.pool.now)))) ≤ c.loop-at.at = omega (arith, c.children-at-end.ensures.plain c.requires.expression, c.loop-at-test.false) in
-    own_made (map name_of c.args.names.now) c.kind-kind.result (plain (tree_at c.args.t (forest c.args.pool.now))) c.loop-at.at (side_told c.loop-at.fits c.loop-at.row) (side_of c.loop-at.row) (side_of c.sign_row.new.row) (c.kind-kind.ensures.plain c.requires.expression) done c.loop-at.invariant.rows (ap (λ f. side_told f c.loop-at.row) c.in_ok-fits.was) c.sign_row.ensures
+    own_made (map name_of c.args.names.now) c.kind-kind.result (plain (tree_at c.args.t (forest c.args.pool.now))) c.loop-at.at (side_told c.loop-at.fits c.loop-at.row) (side_of c.loop-at.row)
+    (side_of c.sign_row.new.row) (c.kind-kind.ensures.plain c.requires.expression) done c.loop-at.invariant.rows (ap (λ f. side_told f c.loop-at.row) c.in_ok-fits.was) c.sign_row.ensures
 
 pub returns-clause-checks : goal.returns-clause-checks
 returns-clause-checks g t c =

@@ -26,7 +26,9 @@ returns-clause-unsolvable g c = if_never c.calculate.result c.calculate.ensures.
     (λ cs e f vs once gives. never_solved (map name_of c.args.names.now) (equations_in (forest c.args.pool.now) c.args.left.now c.args.right.now) c.requires.distinct c.requires.linear f vs once gives cs e)
 
 pub returns-clause-by_the_one_whose_trips_rose : goal.returns-clause-by_the_one_whose_trips_rose
-returns-clause-by_the_one_whose_trips_rose g c = trips_tell c.calculate.result (nodes_of_sides (equations_in (forest c.args.pool.now) c.args.left.now c.args.right.now) + length c.args.names.now) (solving_checks (map name_of c.args.names.now) (equations_in (forest c.args.pool.now) c.args.left.now c.args.right.now))
+returns-clause-by_the_one_whose_trips_rose g c =
+    trips_tell c.calculate.result (nodes_of_sides (equations_in (forest c.args.pool.now) c.args.left.now c.args.right.now) + length c.args.names.now)
+    (solving_checks (map name_of c.args.names.now) (equations_in (forest c.args.pool.now) c.args.left.now c.args.right.now))
     (states g.B.Breaker.state c.args.watch.now) (states g.B.Breaker.state c.calculate.new.watch) c.calculate.ensures.checks c.calculate.ensures.stops
 
 pub returns-clause-all_equations : goal.returns-clause-all_equations
