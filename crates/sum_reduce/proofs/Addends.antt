@@ -124,7 +124,8 @@ module _ (q : Fraction) (f : IsFactor q) where
           whole none l = absurd (omega arith)
           whole (more u us) l = refl
 
-          irrational : (b : Bool) → is_one_fraction (times q d) ≡ b → IsTimes (if b then product_tree (more (root (num r)) us) else mult (more (num (times q d)) (more (root (num r)) us))) (term d (natural_of r.num) ∷ [])
+          irrational : (b : Bool) → is_one_fraction (times q d) ≡ b
+              → IsTimes (if b then product_tree (more (root (num r)) us) else mult (more (num (times q d)) (more (root (num r)) us))) (term d (natural_of r.num) ∷ [])
           irrational true e =
               ap (λ (t : Tree). value (coefficient_of t)) (whole us a.some) ∙ before_value (root (num r)) us n.2 h ∙ ap (λ (x : Fraction). term x (natural_of r.num) ∷ []) (sym (one_is (times q d) e))
           irrational false e = before_value (mult (more (num (times q d)) (more (root (num r)) none))) us (product_not_zero q d f.not_zero n.0, not_one_is (times q d) e, n.2) h

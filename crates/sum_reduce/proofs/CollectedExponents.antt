@@ -1,6 +1,6 @@
 -- Exponents that count their bases are collected to exponents that count them no more often.
 use Rattle.std.proofs.Common.{◌≡◌, ℕ, ◌≤◌, ◌++◌, [], ℤ, pos, ◌+ℤ◌, ◌*ℤ◌, Bool, true, false, ◌==◌, if◌then◌else◌, refl, sym, ap, ◌∙◌, subst, arith}
-use Rattle.sum_reduce.proofs.Shared.{first_parts, and_parts, and_from, eqb-true, Fraction, lowest, lowest_parts, times, whole_fraction, zero_fraction, one_fraction, is_zero_fraction, is_one_fraction, zero_is, one_is, whole_denominator, whole_numerator, Tree, num, symbol, undef, add, mult, Trees, none, more, append, count, is_add, has_undef, AllPartsOf, IsNumber, is_number, value, NoneIs, HasForm, part_of, product_tree, Same, surd_of, Permuted, permuted_none, permuted_more, permuted_swap, permuted_trans, number_rational, number_words, Same-trans, coefficient_of, rational_before, with_coefficient, IsMonic, mapped, rational_times_term, monic_sum, monic_no_number, IsNumberOf, AreLike, sum_of_coefficients, Collects, collects_opened, collects_ordered, collects_numbers, collects_like, collects_then, terms_of_loose, opened, terms_of_number, sum_tree, leads_number, written_tree, Counts, counts, added, is_counted, are_counted, counts_of, counts_of_all, IsWithin}
+use Rattle.sum_reduce.proofs.Shared.{first_parts, and_parts, and_from, eqb-true, Fraction, times, whole_fraction, zero_fraction, one_fraction, is_zero_fraction, is_one_fraction, zero_is, one_is, whole_denominator, whole_numerator, Tree, num, symbol, undef, add, mult, Trees, none, more, append, count, is_add, has_undef, AllPartsOf, IsNumber, is_number, value, NoneIs, HasForm, part_of, product_tree, Same, surd_of, Permuted, permuted_none, permuted_more, permuted_swap, permuted_trans, number_rational, number_words, Same-trans, coefficient_of, rational_before, with_coefficient, IsMonic, mapped, rational_times_term, monic_sum, monic_no_number, IsNumberOf, AreLike, sum_of_coefficients, Collects, collects_opened, collects_ordered, collects_numbers, collects_like, collects_then, terms_of_loose, opened, terms_of_number, sum_tree, leads_number, written_tree, Counts, counts, added, is_counted, are_counted, counts_of, counts_of_all, IsWithin}
 use Rattle.calc_algebra.proofs.ExponentLaws.{whole_plus, whole_times}
 use Rattle.calc_algebra.proofs.MeaningLaws.{Same-sym}
 use Rattle.calc_algebra.proofs.TermLaws.{joined_radicand, Same-append, Same-eq, Same-refl, zero_term}
@@ -105,7 +105,8 @@ as_whole n z h w = number_rational n (whole_fraction z) (number_words n h) w
 whole_counts : (t : Tree) (z : ℤ) → t ≡ num (whole_fraction z) → counts_of t ≡ multiple z (counts 1 0)
 whole_counts t z e = ap counts_of e ∙ ap (λ (y : ℤ). multiple y (counts 1 0)) (whole_numerator z)
 
-numbers_counted : (a b n : Tree) → is_number a ≡ true → is_number b ≡ true → is_counted a ≡ true → is_counted b ≡ true → IsNumberOf (value a ++ value b) n → IsCountedIn n (added (counts_of a) (counts_of b))
+numbers_counted : (a b n : Tree) → is_number a ≡ true → is_number b ≡ true → is_counted a ≡ true → is_counted b ≡ true → IsNumberOf (value a ++ value b) n
+    → IsCountedIn n (added (counts_of a) (counts_of b))
 numbers_counted a b n x y h k w =
     let p = whole_number a (number_words a x) h in
     let q = whole_number b (number_words b y) k in
@@ -116,7 +117,9 @@ numbers_counted a b n x y h k w =
     let c = num_counted (p.z +ℤ q.z) in
     subst (λ (t : Tree). IsCountedIn t (added (counts_of a) (counts_of b))) (sym is) (record {
       counted = c.counted;
-      within = within_after c.within (subst (IsWithin (multiple (p.z +ℤ q.z) (counts 1 0))) (λ i. added (sym (whole_counts a p.z p.is) i) (sym (whole_counts b q.z q.is) i)) (sum_within p.z q.z (counts 1 0)));
+      within =
+          within_after c.within
+          (subst (IsWithin (multiple (p.z +ℤ q.z) (counts 1 0))) (λ i. added (sym (whole_counts a p.z p.is) i) (sym (whole_counts b q.z q.is) i)) (sum_within p.z q.z (counts 1 0)));
     })
 
 pub zero_counted : (c : Counts) → IsCountedIn (num zero_fraction) c
@@ -184,7 +187,11 @@ module _ (z : ℤ) where
   times_rational : (c : Fraction) → is_counted (num c) ≡ true → IsCountedIn (num (times (whole_fraction z) c)) (multiple z (counts_of (num c)))
   times_rational c h =
       let n = num_counted (z *ℤ c.num) in
-      subst (λ (x : Fraction). IsCountedIn (num x) (multiple z (counts_of (num c)))) (sym (product_is c h)) (record { counted = n.counted; within = within_after n.within (product_within z c.num (counts 1 0)) })
+      subst (λ (x : Fraction). IsCountedIn (num x) (multiple z (counts_of (num c)))) (sym (product_is c h)) (record {
+        counted =
+            n.counted;
+        within = within_after n.within (product_within z c.num (counts 1 0));
+      })
 
   times_product : (c : Fraction) (w : Tree) → is_counted (mult (more (num c) (more w none))) ≡ true
       → IsCountedIn (rational_times_term (whole_fraction z) (mult (more (num c) (more w none)))) (multiple z (multiple c.num (counts_of w)))
@@ -239,7 +246,8 @@ module _ (z : ℤ) where
       by false true e = record { counted = h; within = subst (λ (n : ℤ). IsWithin (counts_of p) (multiple n (counts_of p))) (sym (one_product z e)) (at_least_once (counts_of p)) }
       by false false e = part_counted p m h
 
-like_counted : (us : Trees) (c p : Tree) → 2 ≤ count us → AreLike p us → AllPartsOf HasForm us → are_counted us ≡ true → IsNumberOf (sum_of_coefficients us) c → IsCountedIn (with_coefficient c p) (counts_of_all us)
+like_counted : (us : Trees) (c p : Tree) → 2 ≤ count us → AreLike p us → AllPartsOf HasForm us → are_counted us ≡ true → IsNumberOf (sum_of_coefficients us) c
+    → IsCountedIn (with_coefficient c p) (counts_of_all us)
 like_counted us c p l a f h w =
     let x = whole_sum us p a h in
     let is : c ≡ num (whole_fraction x.z) = as_whole c x.z w.number (Same-trans w.worth x.sum) in

@@ -8,7 +8,8 @@ use Rattle.sum_reduce.proofs.Places.{nth_behind_removed, taken_permuted}
 use Rattle.sum_reduce.proofs.Rearranged.{none_permuted}
 use Rattle.sum_reduce.proofs.Stages.{formed_permuted}
 
-pub next_partner_few : (ts : Trees) (c : Tree) (us : Trees) (at less : ℕ) → IsJoining ts c (nth at us) (removed at us) less → IsPairAt is_partner at us → HaveFewBits (addends_of_each ts) → HasFewBits (value c ++ value (coefficient_of (nth (suc at) us)))
+pub next_partner_few : (ts : Trees) (c : Tree) (us : Trees) (at less : ℕ) → IsJoining ts c (nth at us) (removed at us) less → IsPairAt is_partner at us → HaveFewBits (addends_of_each ts)
+    → HasFewBits (value c ++ value (coefficient_of (nth (suc at) us)))
 next_partner_few ts c us at less j h b =
     let next : nth at (removed at us) ≡ nth (suc at) us = nth_behind_removed at at us (omega arith) in
     let w = h.within in

@@ -1,6 +1,6 @@
 -- A coefficient before a sum that is one factor, and in each addend of that sum, beside any others.
 use Rattle.std.proofs.Common.{◌≡◌, ℕ, ◌+◌, ◌*◌, ◌^◌, ◌≤◌, ◌<◌, List, [], ◌∷◌, ◌++◌, map, sym, ap, subst, arith}
-use Rattle.sum_reduce.proofs.Shared.{mul-le, pow-add, pow-le-pow_right, Surd, surd_times, Parts, mass, parts_scale, parts_times, mass_scale, mass_times, mul_pos, add, Trees, none, more, KeepsHeld, IsSumHeld, distributed, Addend, addend, addends, IsTreeHeld, sum_held, AreWeighted, none_weighted, more_weighted, IsPartHeld, Weighted, weighted, PartsAll, lows, weighted_mass, AreHeld, weighted_both}
+use Rattle.sum_reduce.proofs.Shared.{mul-le, pow-add, pow-le-pow_right, Surd, surd_times, Parts, mass, parts_scale, parts_times, mass_scale, mass_times, mul_pos, add, Trees, none, more, KeepsHeld, IsSumHeld, distributed, Addend, addend, addends, IsTreeHeld, sum_held, AreWeighted, more_weighted, IsPartHeld, Weighted, weighted, PartsAll, lows, weighted_mass, AreHeld, weighted_both}
 use Rattle.tree_bits.proofs.Sums.{one_counts}
 use native.Mathlib.Nat.{mul_comm}
 use Rattle.tree_bits.proofs.Factors.{times_weighted}
@@ -21,7 +21,8 @@ times_lows : (c : Surd) (vs ws : List Weighted) → lows (times_each c vs ++ ws)
 times_lows c [] ws = omega arith
 times_lows c (v ∷ vs) ws = omega (arith, times_lows c vs ws)
 
-times_mass : (d e : ℕ) (c : Surd) (vs ws : List Weighted) → Parts d c → PartsAll e vs → PartsAll d ws → weighted_mass (d * e) (times_each c vs ++ ws) ≤ mass d c * weighted_mass e vs + e * weighted_mass d ws
+times_mass : (d e : ℕ) (c : Surd) (vs ws : List Weighted) → Parts d c → PartsAll e vs → PartsAll d ws
+    → weighted_mass (d * e) (times_each c vs ++ ws) ≤ mass d c * weighted_mass e vs + e * weighted_mass d ws
 times_mass d e c [] [] p q s = omega arith
 times_mass d e c [] (w ∷ ws) p q s =
     let a : mass (d * e) w.coefficient ≤ e * mass d w.coefficient = subst (λ (n : ℕ). mass n w.coefficient ≤ e * mass d w.coefficient) (mul_comm e d) (mass_scale e d d w.coefficient s.0) in

@@ -1,6 +1,6 @@
 -- What holds the terms of a sum holds them opened, with one coefficient put back, and written as a tree.
 use Rattle.std.proofs.Common.{◌≡◌, ◌≤◌, ℕ, List, [], ◌∷◌, ◌++◌, Bool, true, false, if◌then◌else◌, inl, inr, refl, sym, ap, ◌∙◌, subst, arith, append_assoc, append-nil}
-use Rattle.sum_reduce.proofs.Shared.{not_from_false, Fraction, zero_fraction, is_zero_fraction, is_one_fraction, no_zero, one_is, Tree, num, add, Trees, none, more, append, count, is_add, AllParts, IsNumber, IsTerm, AreTerms, is_number, term_of, terms_of, value, HasForm, NoneIs, part_of, Same, Surd, surd_of, surd_one, number_test, number_words, surd_times-surd_one, SharesDenominators, coefficient_of, factors_of, rational_before, with_coefficient, IsMonic, monic_sum, put, monic_parts, number_of_term, IsFactor, not_one_is, IsArranged, IsLead, KeepsHeld, AreFormed, terms_of_loose, opened, terms_of_number, sum_tree, written_tree, IsSumHeld, addends_of_each, distributed, Addend, addend, addend_of, addends, addends_of, IsTreeHeld, sum_as_tree, alone}
+use Rattle.sum_reduce.proofs.Shared.{not_from_false, Fraction, zero_fraction, is_zero_fraction, is_one_fraction, no_zero, one_is, Tree, num, add, Trees, none, more, append, count, is_add, AllParts, IsNumber, AreTerms, is_number, term_of, terms_of, value, HasForm, NoneIs, part_of, Same, Surd, surd_of, surd_one, number_test, number_words, surd_times-surd_one, SharesDenominators, coefficient_of, factors_of, rational_before, with_coefficient, IsMonic, monic_sum, put, monic_parts, number_of_term, IsFactor, not_one_is, IsArranged, IsLead, KeepsHeld, AreFormed, terms_of_loose, opened, terms_of_number, sum_tree, written_tree, IsSumHeld, addends_of_each, distributed, Addend, addend, addends, addends_of, IsTreeHeld, sum_as_tree, alone}
 use Rattle.calc_bits.proofs.NoLarger.{no_larger}
 use Rattle.sum_reduce.proofs.Addends.{term_addends, IsSplit, split_sum, sum_addends, one_value, rational_value, monic_addends, spliced_addends, multiple_addends, one_addend}
 use Rattle.sum_reduce.proofs.Held.{held_same, held_after, held_equal, held_behind, held_beside, held_joined, held_left_out, held_nothing, held_split, holds}
@@ -61,8 +61,10 @@ opened_held (more t ts) h = held_after (held_beside (loose_held t h.0) (opened_h
 -- ---- partners
 
 -- the coefficient of a partner is added
-pub partner_held : (c e p u : Tree) (others : Trees) → AllParts HasForm u → is_number u ≡ false → is_add u ≡ false → part_of u ≡ p → is_number e ≡ true → Same (value e) (value c ++ value (coefficient_of u))
-    → SharesDenominators (value c ++ value (coefficient_of u)) (value e) → KeepsHeld (addend (value c) (factors_of p) ∷ addends_of_each (more u others)) (addend (value e) (factors_of p) ∷ addends_of_each others)
+pub partner_held : (c e p u : Tree) (others : Trees) → AllParts HasForm u → is_number u ≡ false → is_add u ≡ false → part_of u ≡ p → is_number e ≡ true
+    → Same (value e) (value c ++ value (coefficient_of u))
+    → SharesDenominators (value c ++ value (coefficient_of u)) (value e)
+    → KeepsHeld (addend (value c) (factors_of p) ∷ addends_of_each (more u others)) (addend (value e) (factors_of p) ∷ addends_of_each others)
 partner_held c e p u others h n s same he w d =
     let own : addends u ≡ addend (value (coefficient_of u)) (factors_of p) ∷ [] = term_addends u h n s ∙ ap (λ (x : Tree). addend (value (coefficient_of u)) (factors_of x) ∷ []) same in
     held_after (held_equal (ap (λ (x : List Addend). addend (value c) (factors_of p) ∷ (x ++ addends_of_each others)) own))
@@ -101,7 +103,8 @@ put_held (num q) p k m = by (is_zero_fraction q) (is_one_fraction q) refl refl
     by : (a b : Bool) → is_zero_fraction q ≡ a → is_one_fraction q ≡ b
         → KeepsHeld (addend (value (num q)) (factors_of p) ∷ []) (addends (if a then num zero_fraction else (if b then p else rational_before q p)))
     by true b e g = held_after (held_left_out (addend (value (num q)) (factors_of p))) (held_after held_nothing (held_equal (sym zero_addends)))
-    by false true e g = held_after (held_equal (ap (λ (x : Fraction). addend (value (num x)) (factors_of p) ∷ []) (one_is q g) ∙ ap (λ (v : Surd). addend v (factors_of p) ∷ []) one_value)) (one_before p m)
+    by false true e g =
+        held_after (held_equal (ap (λ (x : Fraction). addend (value (num x)) (factors_of p) ∷ []) (one_is q g) ∙ ap (λ (v : Surd). addend v (factors_of p) ∷ []) one_value)) (one_before p m)
     by false false e g =
         let f : IsFactor q = record { not_zero = no_zero q (not_from_false _ e); not_one = not_one_is q g } in
         let whole : with_coefficient (num q) p ≡ rational_before q p =
@@ -132,7 +135,8 @@ behind_others t none o os = refl
 behind_others t (more u ts) o os = refl
 
 -- behind one
-led : (n : Tree) (o : Tree) (os : Trees) → is_number n ≡ true → NoneIs is_number (more o os) → NoneIs is_add (more o os) → KeepsHeld (addends_of_each (more n (more o os))) (addends (sum_tree (append (terms_of_number n) (more o os))))
+led : (n : Tree) (o : Tree) (os : Trees) → is_number n ≡ true → NoneIs is_number (more o os) → NoneIs is_add (more o os)
+    → KeepsHeld (addends_of_each (more n (more o os))) (addends (sum_tree (append (terms_of_number n) (more o os))))
 led n o os h k s =
     held_after (held_equal (ap (λ (x : List Addend). x ++ addends_of_each (more o os)) (alone n h ∙ ap (λ (v : Surd). addend v none ∷ []) (sym (terms_value n (number_words n h))))))
     (by (terms_of_number n) (number_terms_in n (number_words n h)).terms)
@@ -141,7 +145,8 @@ led n o os h k s =
     by none a = held_after (held_beside (held_left_out (addend [] none)) (held_same (addends_of_each (more o os)))) (unled (more o os) (omega arith) k s)
     by (more t ns) a = held_after (led_sum (more t ns) (more o os) a k s) (held_equal (ap addends (sym (behind_others t ns o os))))
 
-written_held : (lead os : Trees) → IsLead lead → NoneIs is_number os → NoneIs is_add os → 1 ≤ count (append lead os) → KeepsHeld (addends_of_each (append lead os)) (addends (written_tree (append lead os)))
+written_held : (lead os : Trees) → IsLead lead → NoneIs is_number os → NoneIs is_add os → 1 ≤ count (append lead os)
+    → KeepsHeld (addends_of_each (append lead os)) (addends (written_tree (append lead os)))
 written_held none none l n s c = absurd (omega arith)
 written_held none (more t none) l n s c = unled (more t none) (omega arith) n s
 written_held none (more t (more u os)) l n s c =

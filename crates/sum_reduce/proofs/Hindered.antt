@@ -35,7 +35,8 @@ pub taken_first : (at : ℕ) (ts : Trees) → at < count ts → Collects ts (mor
 taken_first at ts l = collects_ordered (to_lists (taken_permuted at ts l))
 
 -- the coefficient of a partner cannot be added
-pub partner_hinders : (ts : Trees) (c : Tree) (us : Trees) (at less : ℕ) → IsJoining ts c (nth at us) (removed at us) less → IsPairAt is_partner at us → (o : Overflow) → NamesSum c (coefficient_of (nth (suc at) us)) o → Overflows ts o
+pub partner_hinders : (ts : Trees) (c : Tree) (us : Trees) (at less : ℕ) → IsJoining ts c (nth at us) (removed at us) less → IsPairAt is_partner at us → (o : Overflow)
+    → NamesSum c (coefficient_of (nth (suc at) us)) o → Overflows ts o
 partner_hinders ts c us at less j h o e =
     let next : nth at (removed at us) ≡ nth (suc at) us = nth_behind_removed at at us (omega arith) in
     let w = h.within in

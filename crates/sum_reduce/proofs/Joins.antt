@@ -1,6 +1,6 @@
 -- Terms with identical parts become one.
 use Rattle.std.proofs.Common.{ℕ, zero, suc, ◌+◌, ◌≤◌, ◌<◌, ◌≡◌, ◌++◌, [], ◌∷◌, Bool, true, false, ◌&&◌, not, refl, sym, ap, ◌∙◌, subst, arith, append-nil}
-use Rattle.sum_reduce.proofs.Shared.{other_in, count_removed, is_eq, is_number, value, are_numbers, part_of, NoneIs, is_reduced, Same, Surd, tree_cmp, Tree, add, mult, Trees, none, more, append, count, names, names_of, nodes, is_add, is_undef, KeepsMeanings, KeepsMeanings-refl, KeepsMeanings-eq, KeepsMeanings-trans, KeepsMeanings-sum_more, Permuted, Permuted-sym, Permuted-append_right, Permuted-to_front, permuted_more, permuted_trans, permuted_sum, joined_in_sum, same_factor, number_words, number_test, sum_of_numbers, coefficient_times_part, Same-Agree, Agree-refl, Agree-trans, Agree-eq, Agree-Same, Agree-append, append_comm, tree_cmp_equal, tree_cmp_refl, SharesDenominators, coefficient_of, factors_of, with_coefficient, taken, coefficient_same, put_formed, put_reduces, monic_part, monic_parts, monic_no_number, parts_reduced, parts_defined, keeps, kept, nth, inserted, IsPairAt, others_in, AreUnlike, AreLike, sum_of_coefficients, collects_ordered, collects_like, collects_then, IsAdded, IsJoining, IsStage, widths, removed, AreFormed, is_loose, is_partner, opened, IsNumberOver, Within, no_new_name, within_of, within_same, within_both, within_beside, within_trans, within_right, within_none, within_eq, names_permuted, number_names, addends_of_each, addend, nest_permuted, nest_number}
+use Rattle.sum_reduce.proofs.Shared.{other_in, count_removed, is_eq, is_number, value, are_numbers, part_of, NoneIs, is_reduced, Same, tree_cmp, Tree, add, mult, Trees, none, more, append, count, names, names_of, nodes, is_add, is_undef, KeepsMeanings, KeepsMeanings-refl, KeepsMeanings-eq, KeepsMeanings-trans, KeepsMeanings-sum_more, Permuted, Permuted-sym, Permuted-append_right, Permuted-to_front, permuted_more, permuted_trans, permuted_sum, joined_in_sum, same_factor, number_words, number_test, sum_of_numbers, coefficient_times_part, Same-Agree, Agree-refl, Agree-trans, Agree-Same, Agree-append, append_comm, tree_cmp_equal, tree_cmp_refl, SharesDenominators, coefficient_of, factors_of, with_coefficient, taken, coefficient_same, put_formed, put_reduces, monic_part, monic_parts, monic_no_number, parts_reduced, parts_defined, keeps, kept, nth, inserted, IsPairAt, others_in, AreUnlike, AreLike, sum_of_coefficients, collects_ordered, collects_like, collects_then, IsAdded, IsJoining, IsStage, widths, removed, AreFormed, is_loose, is_partner, opened, IsNumberOver, Within, no_new_name, within_of, within_same, within_both, within_beside, within_trans, within_right, within_none, within_eq, names_permuted, number_names, addends_of_each, addend, nest_permuted, nest_number}
 use Rattle.calc_algebra.proofs.NumberRewrites.{with_coefficient as coefficient_for}
 use Rattle.coefficients.proofs.Bounds.{coefficient_nest}
 use Rattle.coefficients.proofs.Keeps.{coefficient_keeps}
@@ -39,7 +39,8 @@ none_numbers t ts h = ap (λ (b : Bool). b && are_numbers ts) h
 
 -- ---- a coefficient is taken off
 
-pub joining_first : (t : Tree) (ts rest : Trees) → Permuted ts (more t rest) → AreFormed ts → NoneIs is_loose ts → is_number t ≡ false → are_numbers ts ≡ false → IsJoining ts (coefficient_of t) (part_of t) rest 0
+pub joining_first : (t : Tree) (ts rest : Trees) → Permuted ts (more t rest) → AreFormed ts → NoneIs is_loose ts → is_number t ≡ false → are_numbers ts ≡ false
+    → IsJoining ts (coefficient_of t) (part_of t) rest 0
 joining_first t ts rest p f s n o =
     let g = formed_permuted p f in
     let l = none_permuted is_loose p s in
@@ -89,7 +90,8 @@ more_meanings c d e p u rest hc hd he w k =
     (KeepsMeanings-trans (same_factor c d p) (coefficient_for (add (more c (more d none))) e p (sum_of_numbers c d e (number_words c hc) (number_words d hd) (number_words e he) w))))
 
 pub joining_more : (ts : Trees) (c p : Tree) (rest : Trees) (less at : ℕ) (e : Tree) → IsJoining ts c p rest less → at < count rest → is_partner p (nth at rest) ≡ true
-    → is_number e ≡ true → Same (value e) (value c ++ value (coefficient_of (nth at rest))) → SharesDenominators (value c ++ value (coefficient_of (nth at rest))) (value e) → IsJoining ts e p (removed at rest) (less + nodes p)
+    → is_number e ≡ true → Same (value e) (value c ++ value (coefficient_of (nth at rest))) → SharesDenominators (value c ++ value (coefficient_of (nth at rest))) (value e)
+    → IsJoining ts e p (removed at rest) (less + nodes p)
 joining_more ts c p rest less at e j l q he w d =
     let u = nth at rest in
     let perm = taken_permuted at rest l in
@@ -216,11 +218,13 @@ formed_defined n ts l f = parts_defined (nth n ts) (formed_permuted (taken_permu
 pub joining_formed : (ts : Trees) (c : Tree) (us : Trees) (at less : ℕ) → IsJoining ts c (nth at us) (removed at us) less → at < count us → AreFormed us
 joining_formed ts c us at less j l = formed_permuted (Permuted-sym (taken_permuted at us l)) (monic_parts (nth at us) j.monic, j.formed)
 
-joining_at : {ts : Trees} {c p : Tree} {rest : Trees} {less : ℕ} (us : Trees) (at : ℕ) → nth at us ≡ p → removed at us ≡ rest → IsJoining ts c p rest less → IsJoining ts c (nth at us) (removed at us) less
+joining_at : {ts : Trees} {c p : Tree} {rest : Trees} {less : ℕ} (us : Trees) (at : ℕ) → nth at us ≡ p → removed at us ≡ rest → IsJoining ts c p rest less
+    → IsJoining ts c (nth at us) (removed at us) less
 joining_at us at e q j = grind arith
 
 -- the coefficient of a term that has a partner
-joining_start : (ts us : Trees) (c : Tree) (at : ℕ) → AreFormed ts → NoneIs is_loose ts → IsPairAt is_partner at ts → us ≡ inserted at (more (part_of (nth at ts)) none) (removed at ts) → c ≡ coefficient_of (nth at ts)
+joining_start : (ts us : Trees) (c : Tree) (at : ℕ) → AreFormed ts → NoneIs is_loose ts → IsPairAt is_partner at ts → us ≡ inserted at (more (part_of (nth at ts)) none) (removed at ts)
+    → c ≡ coefficient_of (nth at ts)
     → IsJoining ts c (nth at us) (removed at us) 0
 joining_start ts us c at f s h q e =
     let l : at < count ts = let w = h.within in omega (arith, w) in
@@ -253,7 +257,8 @@ pub record IsBegun (ts us : Trees) (c : Tree) (at : ℕ) : Type 0 where
   pub pair : IsPairAt is_partner at us
   pub joining : IsJoining ts c (nth at us) (removed at us) 0
 
-pub begins : (ts us : Trees) (c : Tree) (at : ℕ) → AreFormed ts → NoneIs is_loose ts → IsPairAt is_partner at ts → us ≡ inserted at (more (part_of (nth at ts)) none) (removed at ts) → c ≡ coefficient_of (nth at ts) → IsBegun ts us c at
+pub begins : (ts us : Trees) (c : Tree) (at : ℕ) → AreFormed ts → NoneIs is_loose ts → IsPairAt is_partner at ts → us ≡ inserted at (more (part_of (nth at ts)) none) (removed at ts)
+    → c ≡ coefficient_of (nth at ts) → IsBegun ts us c at
 begins ts us c at f n h q k = record { pair = pair_start ts us at f h q; joining = joining_start ts us c at f n h q k }
 
 -- the next term
@@ -265,7 +270,8 @@ pub record IsNextPartner (at : ℕ) (us : Trees) : Type 0 where
 pub next_partner : (us : Trees) (at : ℕ) → AreFormed us → IsPairAt is_partner at us → IsNextPartner at us
 next_partner us at f h = grind (arith, formed_reduced, formed_defined)
 
-pub partner_step : (ts : Trees) (c e : Tree) (us vs : Trees) (at less : ℕ) → IsJoining ts c (nth at us) (removed at us) less → IsPairAt is_partner at us → vs ≡ removed (suc at) us → IsNumberOver (value c ++ value (coefficient_of (nth (suc at) us))) e
+pub partner_step : (ts : Trees) (c e : Tree) (us vs : Trees) (at less : ℕ) → IsJoining ts c (nth at us) (removed at us) less → IsPairAt is_partner at us → vs ≡ removed (suc at) us
+    → IsNumberOver (value c ++ value (coefficient_of (nth (suc at) us))) e
     → IsJoining ts e (nth at vs) (removed at vs) (less + nodes (nth at us))
 partner_step ts c e us vs at less j h q w =
     let next : nth at (removed at us) ≡ nth (suc at) us = nth_behind_removed at at us (omega arith) in
@@ -275,7 +281,8 @@ partner_step ts c e us vs at less j h q w =
     (joining_more ts c (nth at us) (removed at us) less at e j few (ap (is_partner (nth at us)) next ∙ h.pair) w.number (rw next w.worth) (rw next w.parts))
 
 -- the first two of a pair
-pub two_joined : (ts us vs : Trees) (c e : Tree) (at : ℕ) → AreFormed ts → NoneIs is_loose ts → IsPairAt is_partner at ts → us ≡ inserted at (more (part_of (nth at ts)) none) (removed at ts) → c ≡ coefficient_of (nth at ts)
+pub two_joined : (ts us vs : Trees) (c e : Tree) (at : ℕ) → AreFormed ts → NoneIs is_loose ts → IsPairAt is_partner at ts → us ≡ inserted at (more (part_of (nth at ts)) none) (removed at ts)
+    → c ≡ coefficient_of (nth at ts)
     → vs ≡ removed (suc at) us → IsNumberOver (value c ++ value (coefficient_of (nth (suc at) us))) e → IsJoining ts e (nth at vs) (removed at vs) (0 + nodes (nth at us))
 two_joined ts us vs c e at f n h q k r w = partner_step ts c e us vs at 0 (joining_start ts us c at f n h q k) (pair_start ts us at f h q) r w
 

@@ -60,16 +60,20 @@ next_added n ts h f s =
     record {
       rest = rest;
       next = (both_true (is_number s.next) (are_numbers s.rest) (end_numbers s.first (more s.next s.rest) numbers)).0;
-      stage = stage_after (subst (λ (us : Trees). IsStage (more n ts) (more n us)) whole (numbers_led n ts h f)) (added s.first (more s.next rest) n s.so_far h (front_numbers s.first (more s.next s.rest) numbers) formed s.joined);
+      stage =
+          stage_after (subst (λ (us : Trees). IsStage (more n ts) (more n us)) whole (numbers_led n ts h f))
+          (added s.first (more s.next rest) n s.so_far h (front_numbers s.first (more s.next s.rest) numbers) formed s.joined);
     }
 
-pub next_hinders : (n : Tree) (ts : Trees) → is_number n ≡ true → AreFormed ts → (o : Overflow) → (s : IsNextOf (λ v w. v ++ w) n (numbers_in ts)) × NamesSum s.so_far s.next o → Overflows (more n ts) o
+pub next_hinders : (n : Tree) (ts : Trees) → is_number n ≡ true → AreFormed ts → (o : Overflow) → (s : IsNextOf (λ v w. v ++ w) n (numbers_in ts)) × NamesSum s.so_far s.next o
+    → Overflows (more n ts) o
 next_hinders n ts h f o e =
     let s = e.0 in
     let a = next_added n ts h f s in
     record { us = more s.so_far (more s.next a.rest); collects = a.stage.collects; hinders = hinders_numbers s.so_far s.next a.rest s.number a.next e.1 }
 
-pub next_fits : (n : Tree) (ts : Trees) → is_number n ≡ true → AreFormed ts → HaveFewBits (addends_of_each (more n ts)) → (s : IsNextOf (λ v w. v ++ w) n (numbers_in ts)) → HasFewBits (value s.so_far ++ value s.next)
+pub next_fits : (n : Tree) (ts : Trees) → is_number n ≡ true → AreFormed ts → HaveFewBits (addends_of_each (more n ts)) → (s : IsNextOf (λ v w. v ++ w) n (numbers_in ts))
+    → HasFewBits (value s.so_far ++ value s.next)
 next_fits n ts h f b s =
     let a = next_added n ts h f s in
     few_of_both (few_after (held_equal (λ i. alone s.so_far s.number i ++ (alone s.next a.next i ++ addends_of_each a.rest))) (few_after a.stage.held b))
@@ -79,7 +83,8 @@ formed_behind at ts us l f q = subst AreFormed (sym q) (formed_permuted (taken_p
 
 -- ---- the first one is taken out, and their sum comes first
 
-pub numbered : (at : ℕ) (ts us vs ws : Trees) (n m : Tree) → IsNextNumber 0 at ts → AreFormed ts → 1 ≤ count ts → us ≡ removed at ts → n ≡ nth at ts → IsGathered n us m vs → ws ≡ more m vs → IsNumbered ts ws
+pub numbered : (at : ℕ) (ts us vs ws : Trees) (n m : Tree) → IsNextNumber 0 at ts → AreFormed ts → 1 ≤ count ts → us ≡ removed at ts → n ≡ nth at ts → IsGathered n us m vs → ws ≡ more m vs
+    → IsNumbered ts ws
 numbered at ts us vs ws n m h f l q e g w =
     let perm = taken_permuted at ts h.within in
     let first : IsStage ts (more n us) = subst (λ (x : Tree). IsStage ts (more x us)) (sym e) (subst (λ (x : Trees). IsStage ts (more (nth at ts) x)) (sym q) (stage_permuted perm f l)) in
@@ -116,7 +121,8 @@ rationals_taken at ts us n h r q e =
     record {
       first = ap is_num e ∙ f.rational;
       others = ap are_rationals (q ∙ f.left) ∙ f.rationals;
-      plain = ap (λ (x : Trees). plain_value (add x)) f.is ∙ plain_sum (nth at ts) f.rest f.rational f.rationals ∙ (λ i. fold_values add_op (rational_of (sym e i)) (rationals_of (sym (q ∙ f.left) i)));
+      plain =
+          ap (λ (x : Trees). plain_value (add x)) f.is ∙ plain_sum (nth at ts) f.rest f.rational f.rationals ∙ (λ i. fold_values add_op (rational_of (sym e i)) (rationals_of (sym (q ∙ f.left) i)));
     }
 
 pub total_folded : (v w : PlainValue) (m : Tree) (vs ws : Trees) → v ≡ w → IsTotal w m → vs ≡ none → ws ≡ more m vs → IsFolded v ws

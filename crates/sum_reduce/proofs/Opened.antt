@@ -34,7 +34,9 @@ first_names t = grind (arith, within_both, within_same)
 
 pub names_opened : (ts : Trees) → Within (names_of ts) (names_of (opened ts))
 names_opened none = within_same _
-names_opened (more t ts) = within_trans (within_beside (names t) (names_of (terms_of_loose t)) (names_of ts) (names_of (opened ts)) (first_names t) (names_opened ts)) (within_eq (names_of-append (terms_of_loose t) (opened ts)))
+names_opened (more t ts) =
+    within_trans (within_beside (names t) (names_of (terms_of_loose t)) (names_of ts) (names_of (opened ts)) (first_names t) (names_opened ts))
+    (within_eq (names_of-append (terms_of_loose t) (opened ts)))
 
 first_nest : (t : Tree) → nest_of (terms_of_loose t) ≡ nest t
 first_nest (add us) = grind arith

@@ -19,12 +19,14 @@ rationals_opened ts us q e = e ∙ opened_rationals ts q
 faulted_as : (v : PlainValue) (us vs : Trees) (f : NumberFault) → AnswersFold v us (Err f) → AnswersFold v vs (Err f)
 faulted_as v us vs f h = grind arith
 
-pub rationals_faulted : (ts us vs ws : Trees) (f : NumberFault) → are_rationals ts ≡ true → us ≡ opened ts → (are_rationals us ≡ true → AnswersFold (plain_value (add us)) vs (Err f)) → AnswersFold (plain_value (add ts)) ws (Err f)
+pub rationals_faulted : (ts us vs ws : Trees) (f : NumberFault) → are_rationals ts ≡ true → us ≡ opened ts → (are_rationals us ≡ true → AnswersFold (plain_value (add us)) vs (Err f))
+    → AnswersFold (plain_value (add ts)) ws (Err f)
 rationals_faulted ts us vs ws f q e h =
     let same = rationals_opened ts us q e in
     faulted_as (plain_value (add ts)) vs ws f (subst (λ (x : Trees). AnswersFold (plain_value (add x)) vs (Err f)) same (h (ap are_rationals same ∙ q)))
 
-pub rationals_ordered : (ts us vs ws : Trees) → are_rationals ts ≡ true → us ≡ opened ts → (are_rationals us ≡ true → IsFolded (plain_value (add us)) vs) → (count vs ≡ 1 → ws ≡ vs) → IsFolded (plain_value (add ts)) ws
+pub rationals_ordered : (ts us vs ws : Trees) → are_rationals ts ≡ true → us ≡ opened ts → (are_rationals us ≡ true → IsFolded (plain_value (add us)) vs) → (count vs ≡ 1 → ws ≡ vs)
+    → IsFolded (plain_value (add ts)) ws
 rationals_ordered ts us vs ws q e h k =
     let same = rationals_opened ts us q e in
     let f = h (ap are_rationals same ∙ q) in

@@ -32,6 +32,7 @@ pub record IsPartKey (k : Key) (t : Tree) (f : Forest) : Type 0 where
   pub value : key_tree k f ≡ part_of t
 
 -- of a product
-pub product_key : (i n : ℕ) (f : Forest) → IsExpression i f → is_mult (plain (tree_at i f)) ≡ true → is_reduced (plain (tree_at i f)) ≡ true → is_number (plain (tree_at i f)) ≡ false → n ≡ coefficient_length (children_of (plain (tree_at i f)))
+pub product_key : (i n : ℕ) (f : Forest) → IsExpression i f → is_mult (plain (tree_at i f)) ≡ true → is_reduced (plain (tree_at i f)) ≡ true → is_number (plain (tree_at i f)) ≡ false
+    → n ≡ coefficient_length (children_of (plain (tree_at i f)))
     → IsPartKey (record { id = i; behind = n }) (plain (tree_at i f)) f
 product_key i n f x m r h e = grind (arith, some_factors, key_value)

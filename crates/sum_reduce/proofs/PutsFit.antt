@@ -1,6 +1,6 @@
 -- A rational coefficient that is held with a sum behind it goes into each term of that sum: nothing overflows.
-use Rattle.std.proofs.Common.{◌≡◌, ◌≢◌, ◌+◌, ◌*◌, ◌≤◌, ◌⊎◌, inl, inr, ℕ, List, [], ◌∷◌, ◌++◌, Bool, true, false, if◌then◌else◌, map, refl, sym, ap, ◌∙◌, subst, arith}
-use Rattle.sum_reduce.proofs.Shared.{fraction_fits, operation_fits, Fraction, times, zero_fraction, is_zero_fraction, no_zero, Tree, num, add, mult, Trees, none, more, append, AllParts, AllPartsOf, IsTerm, AreTerms, is_number, term_of, terms_of, value, split, split_product, NoneIs, HasForm, num_one, Term, Surd, term, surd_of, term_times, surd_times, IsProper, AreProper, terms_proper, value_proper, number_words, HasFewBits, IsHeld, held_left, held_right, coefficient_of, factors_of, IsMonic, Leads, LeadsIn, LeadsTerm, NamesPut, monic_sum, taken, monic_parts, parts_reduced, parts_defined, State, Overflow, HaveFewBits, not_from_false, nothing_held, distributed, Addend, addend, addend_of, addends, addends_of, OfOverflow, NumberFault}
+use Rattle.std.proofs.Common.{◌≡◌, ◌≢◌, ◌⊎◌, inl, inr, ℕ, List, [], ◌∷◌, ◌++◌, Bool, true, false, if◌then◌else◌, map, refl, sym, ap, ◌∙◌, subst, arith}
+use Rattle.sum_reduce.proofs.Shared.{fraction_fits, operation_fits, Fraction, times, zero_fraction, is_zero_fraction, no_zero, Tree, num, add, mult, Trees, none, more, append, AllParts, AllPartsOf, IsTerm, AreTerms, is_number, term_of, terms_of, value, split, split_product, NoneIs, HasForm, num_one, Term, Surd, term, surd_of, term_times, surd_times, IsProper, AreProper, terms_proper, value_proper, number_words, HasFewBits, IsHeld, held_left, held_right, coefficient_of, factors_of, IsMonic, Leads, LeadsIn, LeadsTerm, NamesPut, monic_sum, taken, monic_parts, parts_reduced, parts_defined, State, Overflow, HaveFewBits, not_from_false, nothing_held, distributed, Addend, addend, addend_of, addends, addends_of, OfOverflow, NumberFault, AreFewBits}
 use Rattle.calc_terms.specs.Rat.{value_of}
 use Rattle.surd_bits.proofs.ProductsFit.{coefficients_fit}
 use Rattle.number_forms.proofs.RationalBits.{rational_product_fits}
@@ -23,10 +23,11 @@ abbrev IsAmongAll : Fraction → List Addend → Type 0
 IsAmongAll c [] = ⊥
 IsAmongAll c (x ∷ xs) = (IsAmong c x.coefficient × AreProper x.coefficient) ⊎ IsAmongAll c xs
 
-one_fits : (q : Fraction) (t : Term) (h l : ℕ) → q ≢ zero_fraction → IsProper t → IsHeld (term_times (term q 1) t ∷ []) h l → 2 * h + 4 * l ≤ 124 → fraction_fits (times q t.coefficient) ≡ true
+one_fits : (q : Fraction) (t : Term) (h l : ℕ) → q ≢ zero_fraction → IsProper t → IsHeld (term_times (term q 1) t ∷ []) h l → AreFewBits h l → fraction_fits (times q t.coefficient) ≡ true
 one_fits q t h l z p k b = coefficients_fit (term q 1) t h l z p.not_zero (omega arith) p.positive k b
 
-coefficient_fits : (q c : Fraction) (v : Surd) (h l : ℕ) → q ≢ zero_fraction → AreProper v → IsAmong c v → IsHeld (map (term_times (term q 1)) v) h l → 2 * h + 4 * l ≤ 124 → fraction_fits (times q c) ≡ true
+coefficient_fits : (q c : Fraction) (v : Surd) (h l : ℕ) → q ≢ zero_fraction → AreProper v → IsAmong c v → IsHeld (map (term_times (term q 1)) v) h l → AreFewBits h l
+    → fraction_fits (times q c) ≡ true
 coefficient_fits q c [] h l z p a k b = absurd a
 coefficient_fits q c (t ∷ v) h l z p (inl e) k b =
     subst (λ (x : Fraction). fraction_fits (times q x) ≡ true) e (one_fits q t h l z p.0 (held_left (term_times (term q 1) t ∷ []) (map (term_times (term q 1)) v) h l k) b)
@@ -100,7 +101,8 @@ whole_leads c ts x e =
 
 -- ---- the coefficient goes in
 
-product_fits : (q c : Fraction) (ts : Trees) (xs : List Addend) → IsMonic (add ts) → LeadsIn LeadsTerm c ts → HaveFewBits (addend (value (num q)) (more (add ts) none) ∷ xs) → fraction_fits (times q c) ≡ true
+product_fits : (q c : Fraction) (ts : Trees) (xs : List Addend) → IsMonic (add ts) → LeadsIn LeadsTerm c ts → HaveFewBits (addend (value (num q)) (more (add ts) none) ∷ xs)
+    → fraction_fits (times q c) ≡ true
 product_fits q c ts xs m e b = by (is_zero_fraction q) refl
   where
     nothing : (b : Bool) → b ≡ true → HasFewBits (surd_times (if b then [] else surd_of q) (value (num c)))
@@ -121,6 +123,7 @@ put_within (num q) (add ts) xs o m n f b =
     true≢false (sym (product_fits q (value_of o.b) ts xs m n.second b) ∙ sym same ∙ f)
 put_within c p xs o m n f b = n
 
-pub put_fits : (f : NumberFault) (now : State) (c p : Tree) (xs : List Addend) → OfOverflow (NamesPut c p) f → IsCaused now f → IsMonic p → HaveFewBits (addend (value c) (factors_of p) ∷ xs) → OfOverflow (λ o. ⊥) f
+pub put_fits : (f : NumberFault) (now : State) (c p : Tree) (xs : List Addend) → OfOverflow (NamesPut c p) f → IsCaused now f → IsMonic p → HaveFewBits (addend (value c) (factors_of p) ∷ xs)
+    → OfOverflow (λ o. ⊥) f
 put_fits (fault.Full full) now c p xs n k m b = tt
 put_fits (fault.Overflow o) now c p xs n k m b = put_within c p xs o m n k b

@@ -14,5 +14,6 @@ undef_rationals (more _ ts) q h = absurd cc
 pub rationals_answer : (t u : Tree) (us : Trees) → is_add t ≡ true → IsFolded (plain_value (add (children_of t))) us → u ≡ written_tree us → IsPlainAnswer (plain_value t) u
 rationals_answer t u us m f e = grind (arith, sum_whole)
 
-pub rationals_fault : (t : Tree) (us : Trees) (new : State) (f : NumberFault) → is_add t ≡ true → AnswersFold (plain_value (add (children_of t))) us (Err f) → AnswersRationals (plain_value t) new (Err f)
+pub rationals_fault : (t : Tree) (us : Trees) (new : State) (f : NumberFault) → is_add t ≡ true → AnswersFold (plain_value (add (children_of t))) us (Err f)
+    → AnswersRationals (plain_value t) new (Err f)
 rationals_fault t us new f m h = grind (arith, sum_whole)

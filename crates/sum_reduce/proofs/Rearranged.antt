@@ -65,11 +65,10 @@ numbers_permuted (permuted_more {t} {ts} {us} k) = by (is_number t) (numbers_per
     by false p = p
 numbers_permuted (permuted_swap {t} {u} {ts}) = by (is_number t) (is_number u) (numbers_in ts)
   where
-    by : (a b : Bool) (x : Trees) → Permuted (if a then more t (if b then more u x else x) else (if b then more u x else x)) (if b then more u (if a then more t x else x) else (if a then more t x else x))
+    by : (a b : Bool) (x : Trees)
+        → Permuted (if a then more t (if b then more u x else x) else (if b then more u x else x)) (if b then more u (if a then more t x else x) else (if a then more t x else x))
     by true true x = permuted_swap
-    by true false x = Permuted-refl _
-    by false true x = Permuted-refl _
-    by false false x = Permuted-refl _
+    by a b x = Permuted-refl _
 numbers_permuted (permuted_trans k l) = permuted_trans (numbers_permuted k) (numbers_permuted l)
 
 pub others_permuted : {ts us : Trees} → Permuted ts us → Permuted (others_in ts) (others_in us)
@@ -81,11 +80,10 @@ others_permuted (permuted_more {t} {ts} {us} k) = by (is_number t) (others_permu
     by false p = permuted_more p
 others_permuted (permuted_swap {t} {u} {ts}) = by (is_number t) (is_number u) (others_in ts)
   where
-    by : (a b : Bool) (x : Trees) → Permuted (if a then (if b then x else more u x) else more t (if b then x else more u x)) (if b then (if a then x else more t x) else more u (if a then x else more t x))
-    by true true x = Permuted-refl _
-    by true false x = Permuted-refl _
-    by false true x = Permuted-refl _
+    by : (a b : Bool) (x : Trees)
+        → Permuted (if a then (if b then x else more u x) else more t (if b then x else more u x)) (if b then (if a then x else more t x) else more u (if a then x else more t x))
     by false false x = permuted_swap
+    by a b x = Permuted-refl _
 others_permuted (permuted_trans k l) = permuted_trans (others_permuted k) (others_permuted l)
 
 -- ---- their values

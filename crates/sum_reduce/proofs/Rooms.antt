@@ -1,6 +1,6 @@
 -- How many bytes the terms of a sum have while they are collected, and for how few at hand that is refused.
 use Rattle.std.proofs.Common.{◌≡◌, ℕ, suc, ◌+◌, ◌*◌, ◌^◌, ◌<◌, ◌≤◌, List, length, Bool, true, false, if◌then◌else◌, refl, ap, ◌∙◌, subst, arith}
-use Rattle.sum_reduce.proofs.Shared.{first_parts, last_parts, permuted_parts, count_removed, sizes_taken, and_from, pow_pos, is_number, NoneIs, are_reduced, Permuted, permuted_none, permuted_more, permuted_swap, permuted_trans, number_words, counted, counted_among, SpansRoot, SpansTree, SpansTrees, Tree, add, Trees, none, more, append, count, size, with_coefficient, put_room, parts_reduced, IsPairAt, State, free_of, removed, number_size, IsArranged, IsLead, AreLike, Collects, IsJoining, AreFormed, is_partner, nth, inserted, counted_in_all, sum_count}
+use Rattle.sum_reduce.proofs.Shared.{first_parts, last_parts, permuted_parts, count_removed, sizes_taken, and_from, is_number, NoneIs, are_reduced, Permuted, permuted_none, permuted_more, permuted_swap, permuted_trans, number_words, counted, counted_among, SpansRoot, SpansTree, SpansTrees, Tree, add, Trees, none, more, append, count, size, with_coefficient, put_room, parts_reduced, IsPairAt, State, free_of, removed, number_size, IsArranged, IsLead, AreLike, Collects, IsJoining, AreFormed, is_partner, nth, inserted, counted_in_all, sum_count}
 use Rattle.calc_room.specs.Needs.{sum_need}
 use Rattle.coefficients.specs.Bytes.{bytes_of_taking, IsShort}
 use Rattle.node_pool.specs.declared.full.Full.{Full}
@@ -48,7 +48,8 @@ put_counts c p rest ts less j = by (is_number (with_coefficient c p)) refl
         let same : counted_in (with_coefficient c p) ≡ counted (with_coefficient c p) = ap (λ (b : Bool). if b then 0 else counted (with_coefficient c p)) e in
         omega (arith, same, put_counted c p (number_words c j.number) j.monic)
 
-pub joined_counts : (ts : Trees) (c p : Tree) (rest vs : Trees) (less at : ℕ) → IsJoining ts c p rest less → vs ≡ inserted at (more (with_coefficient c p) none) rest → counted_in_all vs ≤ counted_in_all ts
+pub joined_counts : (ts : Trees) (c p : Tree) (rest vs : Trees) (less at : ℕ) → IsJoining ts c p rest less → vs ≡ inserted at (more (with_coefficient c p) none) rest
+    → counted_in_all vs ≤ counted_in_all ts
 joined_counts ts c p rest vs less at j e =
     omega (arith, ap counted_in_all e, permuted_counts (inserted_permuted at (with_coefficient c p) rest), put_counts c p rest ts less j, joining_counts ts c p rest less j)
 
@@ -138,7 +139,8 @@ pub number_lacks : (gs : List ℕ) (c : Tree) (free : ℕ) → is_number c ≡ t
 number_lacks gs c free n s l = omega (arith, number_size gs c n s, l)
 
 -- beside a part whose coefficient stands by itself
-pub partner_lacks : (gs : List ℕ) (ts : Trees) (c : Tree) (us : Trees) (at less free : ℕ) → IsJoining ts c (nth at us) (removed at us) less → at < count us → SpansTrees gs ts → free + size c < sum_need * 2 ^ length gs
+pub partner_lacks : (gs : List ℕ) (ts : Trees) (c : Tree) (us : Trees) (at less free : ℕ) → IsJoining ts c (nth at us) (removed at us) less → at < count us → SpansTrees gs ts
+    → free + size c < sum_need * 2 ^ length gs
     → free + size (add us) + size c < terms_room (sum_count ts) (2 ^ length gs)
 partner_lacks gs ts c us at less free j l s k = omega (arith, joining_bytes gs ts c (nth at us) (removed at us) less j s, sizes_taken at us l, k)
 

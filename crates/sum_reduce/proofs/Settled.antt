@@ -89,7 +89,8 @@ unled : (t u : Tree) (os : Trees) → AreOthers (more t (more u os)) → IsWritt
 unled t u os x = grind (arith, number_test)
 
 -- terms in order, however they begin
-settled : (lead os : Trees) → IsLead lead → AreFormed (append lead os) → NoneIs is_number os → NoneIs is_loose os → IsSortedByKey part_of tree_cmp (list_of os) → AreApart (append lead os) → 1 ≤ count (append lead os)
+settled : (lead os : Trees) → IsLead lead → AreFormed (append lead os) → NoneIs is_number os → NoneIs is_loose os → IsSortedByKey part_of tree_cmp (list_of os) → AreApart (append lead os)
+    → 1 ≤ count (append lead os)
     → IsWritten (append lead os) (written_tree (append lead os))
 settled none none l f n s r a c = absurd (omega arith)
 settled none (more t none) l f n s r a c = alone t f.0
@@ -99,7 +100,8 @@ settled none (more t (more u os)) l f n s r a c =
 settled (more m none) none l f n s r a c = alone m f.0
 settled (more m none) (more o os) l f n s r a c =
     let rest = more o os in
-    subst (IsWritten (more m rest)) (sym (ap (λ (b : Bool). if b then sum_tree (append (terms_of_number m) rest) else add (more m rest)) l)) (led m o os l (others_of rest f.1 n s r (apart_behind m rest a)))
+    subst (IsWritten (more m rest)) (sym (ap (λ (b : Bool). if b then sum_tree (append (terms_of_number m) rest) else add (more m rest)) l))
+    (led m o os l (others_of rest f.1 n s r (apart_behind m rest a)))
 settled (more m (more k ks)) os l f n s r a c = absurd l
 
 written : (us : Trees) → AreFormed us → 1 ≤ count us → IsSettled us → IsWritten us (written_tree us)

@@ -80,6 +80,7 @@ pub use Rattle.tree_bits.specs.Exponents.{Counts, added, are_counted, counts, co
 pub use Rattle.tree_bits.specs.Factors.{distributed}
 pub use Rattle.tree_bits.specs.HeldTrees.{Addend, AreWeighted, IsPartHeld, IsTreeHeld, addend, addend_of, addends, addends_of, factor_held, more_weighted, no_factor_held, none_weighted, power_high, power_low, sum_held, tree_held}
 pub use Rattle.tree_bits.specs.Powers.{IsWithin}
+pub use Rattle.tree_bits.specs.Rows.{AreFewBits}
 pub use Rattle.tree_bits.specs.Weighted.{AreHeld, PartsAll, Weighted, lows, weighted, weighted_mass}
 pub use Rattle.tree_handles.proofs.Forests.{arity-tree_nth, keeps_after, keeps_none}
 pub use Rattle.tree_handles.proofs.Fronts.{IsBehind, behind_first, behind_later, behind_new, front_after_one, front_after_two, front_at, front_end, front_put, front_same, front_without}

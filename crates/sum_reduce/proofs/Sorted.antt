@@ -1,7 +1,7 @@
 -- Terms in the order of their parts.
 use Rattle.std.specs.Prelude.{IsSortedByKey}
 use Rattle.std.proofs.Common.{ℕ, zero, suc, ◌<◌, ◌≤◌, arith, ◌≡◌, List, [], ◌∷◌, take, drop, Bool, true, false, refl, sym, ap, ◌∙◌, subst}
-use Rattle.sum_reduce.proofs.Shared.{is_number, part_of, NoneIs, is_reduced, tree_cmp, Tree, Trees, none, more, append, count, Permuted, Permuted-append_right, permuted_trees, trees_of, parts_reduced, list_of, IsSorting, SortsChildren, nth, plains, Forest, kids, root_tree, IsLead, IsLed, IsArranged, terms_in, IsSum, AreFormed, is_loose}
+use Rattle.sum_reduce.proofs.Shared.{is_number, part_of, NoneIs, tree_cmp, Tree, Trees, none, more, append, count, Permuted, Permuted-append_right, permuted_trees, trees_of, list_of, IsSorting, SortsChildren, nth, plains, Forest, kids, root_tree, IsLead, IsLed, IsArranged, terms_in, IsSum, is_loose}
 use Rattle.sum_reduce.proofs.Rearranged.{none_permuted, same_trees}
 use Rattle.sum_reduce.proofs.Sums.{sum_over, changed, IsChanged}
 use Rattle.sum_reduce.proofs.Addends.{last_none}

@@ -66,7 +66,8 @@ stage_opened ts f l = record {
 }
 
 -- two Numbers become one
-pub stage_added : (d n e : Tree) (ts : Trees) → is_number d ≡ true → is_number n ≡ true → is_number e ≡ true → Same (value e) (value d ++ value n) → SharesDenominators (value d ++ value n) (value e) → AreFormed ts → IsStage (more d (more n ts)) (more e ts)
+pub stage_added : (d n e : Tree) (ts : Trees) → is_number d ≡ true → is_number n ≡ true → is_number e ≡ true → Same (value e) (value d ++ value n)
+    → SharesDenominators (value d ++ value n) (value e) → AreFormed ts → IsStage (more d (more n ts)) (more e ts)
 stage_added d n e ts hd hn he w s f = record {
   rewrites = record {
     no_new_name = no_new_name (within_both (names d ++ (names n ++ names_of ts)) (names e) (names_of ts)

@@ -4,7 +4,7 @@ use Rattle.sum_reduce.proofs.Shared.{Tree, Trees, add, none, more, count, is_add
 use Rattle.coefficients.proofs.Loops.{set_removed}
 use Rattle.coefficients.specs.Pairs.{GivesTwo}
 use Rattle.tree_handles.proofs.Cuts.{represents_count}
-use Rattle.tree_handles.proofs.Beside.{gives_put, gives_without}
+use Rattle.tree_handles.proofs.Beside.{gives_without}
 use Rattle.tree_handles.proofs.Filling.{hole_behind}
 use Rattle.tree_handles.proofs.Roots.{put-left, tree-left}
 use Rattle.tree_handles.specs.Holes.{ChangesTree, IsHole, Place, set_child, set_tree}
@@ -68,7 +68,8 @@ merged n h l e = changed h (represents_merged n (root_within n h l) (sum_over h)
 add_set : (n : ℕ) (u s : Tree) → is_add s ≡ true → set_child n u s ≡ add (set_tree n u (children_of s))
 add_set n u s h = grind arith
 
-pub filled : {i : ℕ} {f g : Forest} (n : ℕ) (u : Tree) → IsSum i f → n < count (terms_in i f) → ChangesTree i (set_child n u (plain (root_tree i f))) f g → IsChanged i (inserted n (more u none) (removed n (terms_in i f))) f g
+pub filled : {i : ℕ} {f g : Forest} (n : ℕ) (u : Tree) → IsSum i f → n < count (terms_in i f) → ChangesTree i (set_child n u (plain (root_tree i f))) f g
+    → IsChanged i (inserted n (more u none) (removed n (terms_in i f))) f g
 filled {i = i} {f = f} n u h l a =
     let is = a.tree ∙ add_set n u (plain (root_tree i f)) h.sum in
     record { changes = record { kids = a.kids; whole = a.whole; sum = record { handed = a.handed; sum = ap is_add is } }; terms = ap children_of is ∙ set_removed n u (terms_in i f) l }
@@ -215,7 +216,8 @@ pub record IsSplit (i : ℕ) (ts : Trees) (old new : Forest) (c : ℕ) (C : Tree
   pub terms : terms_in i new ≡ ts
   pub told : C (plain (root_tree c new))
 
-pub part_back : {place : Place} {i c p : ℕ} {f others new end : Forest} {C P : Tree → Type 0} (n : ℕ) (u : Tree) → IsSum i f → n < count (terms_in i f) → IsHole place i n f others → (k : GivesTwo others new c p C P)
+pub part_back : {place : Place} {i c p : ℕ} {f others new end : Forest} {C P : Tree → Type 0} (n : ℕ) (u : Tree) → IsSum i f → n < count (terms_in i f) → IsHole place i n f others
+    → (k : GivesTwo others new c p C P)
     → ChangesTree i (set_child n u (plain (root_tree i (join f k.first-given.tree)))) (join f k.first-given.tree) end → IsSplit i (inserted n (more u none) (removed n (terms_in i f))) f end c C
 part_back {i = i} {c = c} {f = f} {end = end} {C = C} n u s l o k a =
     let one = k.first-given in

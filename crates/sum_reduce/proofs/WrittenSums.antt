@@ -1,6 +1,6 @@
 -- A Number's terms and other terms whose parts rise are a reduced sum, with the meanings, the names and the nest of its parts.
-use Rattle.std.proofs.Common.{◌≡◌, inl, inr, ◌≤◌, Bool, true, false, not, if◌then◌else◌, refl, sym, ap, ◌∙◌, arith}
-use Rattle.sum_reduce.proofs.Shared.{zero_fraction, is_zero_fraction, nest, nest_of, is_number, terms_of, IsNumber, IsTerm, AreTerms, Rises, part_of, number_terms, other_terms, HasForm, NoneIs, RisesBy, Tree, num, add, Trees, none, more, append, names, names_of, AllParts, AllPartsOf, HasTwo, is_add, KeepsMeanings, KeepsMeanings-eq, KeepsMeanings-trans, flat_sum, zero_goes, empty_sum, single_sum, zero_test, no_zero, number_words, AsNumber, as_number, term_test, no_term, AllPartsOf-append, terms_parts, terms_of_number, sum_tree, Within, within_same, within_both, within_beside, within_trans, within_left, within_eq, names_of-append, nest-append}
+use Rattle.std.proofs.Common.{◌≡◌, inl, inr, ◌≤◌, true, if◌then◌else◌, refl, sym, ap, ◌∙◌, arith}
+use Rattle.sum_reduce.proofs.Shared.{zero_fraction, nest, nest_of, is_number, terms_of, IsNumber, IsTerm, AreTerms, Rises, part_of, number_terms, other_terms, HasForm, NoneIs, RisesBy, Tree, num, add, Trees, none, more, append, names, names_of, AllParts, AllPartsOf, HasTwo, is_add, KeepsMeanings, KeepsMeanings-eq, KeepsMeanings-trans, flat_sum, zero_goes, empty_sum, single_sum, zero_test, number_words, AsNumber, as_number, term_test, no_term, AllPartsOf-append, terms_parts, terms_of_number, sum_tree, Within, within_same, within_both, within_beside, within_trans, within_left, within_eq, names_of-append, nest-append}
 use Rattle.tree_bits.proofs.ExponentBits.{nothing_is}
 use Rattle.sum_reduce.proofs.Opened.{NoneIs-append}
 
@@ -72,7 +72,9 @@ number_opened a us h = by (as_number a h)
     by : AsNumber a → KeepsMeanings (add (more a us)) (add (append (terms_of_number a) us))
     by (inl z) = KeepsMeanings-trans (zero_goes a us (KeepsMeanings-eq z.is)) (KeepsMeanings-eq (ap (λ (x : Trees). add (append x us)) (sym (zero_terms a z.is))))
     by (inr (inl s)) = KeepsMeanings-eq (ap (λ (x : Trees). add (append x us)) (sym (term_in a s.one)))
-    by (inr (inr s)) = KeepsMeanings-trans (KeepsMeanings-eq (ap (λ (x : Tree). add (more x us)) s.is)) (KeepsMeanings-trans (flat_sum s.ts us) (KeepsMeanings-eq (ap (λ (x : Tree). add (append (terms_of_number x) us)) (sym s.is))))
+    by (inr (inr s)) =
+        KeepsMeanings-trans (KeepsMeanings-eq (ap (λ (x : Tree). add (more x us)) s.is))
+        (KeepsMeanings-trans (flat_sum s.ts us) (KeepsMeanings-eq (ap (λ (x : Tree). add (append (terms_of_number x) us)) (sym s.is))))
 
 -- and has each meaning of the Number and the other terms
 pub written_keeps : (a : Tree) (us : Trees) → is_number a ≡ true → KeepsMeanings (add (more a us)) (written_sum a us)

@@ -25,6 +25,7 @@ fn is_sum(pool: &Pool, id: Id) -> bool
 }
 
 /// A Number that stands first is released where it is 0, and stands as its terms where it has two or more.
+#[tactic(auto, using(crate::proofs::Sums::sum_within, crate::proofs::Sums::sum_once, crate::proofs::Sums::merged, crate::proofs::Sums::changes_same, crate::proofs::Written::spread_one))]
 fn spread_number(pool: &mut Pool, sum: &Handle)
     requires stands { Stands pool.old }
     requires sum { IsSum sum.now (forest pool.old) }
@@ -45,6 +46,7 @@ fn spread_number(pool: &mut Pool, sum: &Handle)
 }
 
 /// Whether a Number stands before other terms.
+#[tactic(auto, using(crate::proofs::Sorted::formed_nth, crate::proofs::Written::leads_two, crate::proofs::Written::leads_few))]
 fn leads_number(pool: &Pool, sum: &Handle) -> bool
     requires stands { Stands pool.now }
     requires sum { IsSum sum.now (forest pool.now) }
@@ -55,6 +57,7 @@ fn leads_number(pool: &Pool, sum: &Handle) -> bool
 }
 
 /// A Number before other terms stands as its terms.
+#[tactic(auto, using(crate::proofs::Written::spread_some, crate::proofs::Written::written_led, crate::proofs::Sums::changes_same, crate::proofs::Written::written_unled))]
 fn spread(pool: &mut Pool, sum: &Handle)
     requires stands { Stands pool.old }
     requires sum { IsSum sum.now (forest pool.old) }
@@ -72,6 +75,7 @@ fn spread(pool: &mut Pool, sum: &Handle)
 }
 
 /// The only term of a sum of one, and any other sum itself.
+#[tactic(auto, using(crate::proofs::Sums::sum_within, tree_handles::proofs::Given::represents_handed, crate::proofs::Written::other_sum))]
 fn unwrapped(pool: &mut Pool, sum: Handle) -> Handle
     requires stands { Stands pool.old }
     requires sum { IsSum sum (forest pool.old) }

@@ -66,6 +66,7 @@ fn take_coefficient_at(pool: &mut Pool, sum: &Handle, at: u16) -> Result<Handle,
 }
 
 /// The coefficient of a term, which is released.
+#[tactic(auto, using(tree_handles::proofs::Given::given_root, tree_handles::proofs::Outcomes::passed_result, crate::proofs::Rooms::taking_lacks))]
 fn coefficient_alone(pool: &mut Pool, term: Handle) -> Result<Handle, Full>
     requires stands { Stands pool.old }
     requires handed { IsHanded term (forest pool.old) }
@@ -121,6 +122,7 @@ fn add_partner(
 }
 
 /// The coefficients of the partners behind a part are added to a coefficient, and the partners are released.
+#[tactic(auto, using(tree_handles::proofs::Fronts::front_same, tree_handles::proofs::Forests::keeps_none, like_children::proofs::Kids::count_removed))]
 fn add_partners(
     pool: &mut Pool,
     sum: &Handle,
@@ -159,6 +161,7 @@ fn add_partners(
 }
 
 /// A coefficient is put back before the part at a place.
+#[tactic(auto, using(tree_handles::proofs::Filling::front_swapped))]
 fn put_back(pool: &mut Pool, sum: &Handle, at: u16, coefficient: Handle) -> Result<(), NumberFault>
     requires stands { Stands pool.old }
     requires sum { IsSum sum.now (forest pool.old) }
@@ -188,6 +191,7 @@ fn put_back(pool: &mut Pool, sum: &Handle, at: u16, coefficient: Handle) -> Resu
 }
 
 /// A term and its partners become one: all coefficients are added before their sum is put back.
+#[tactic(auto, using(crate::proofs::Joins::pair_here, crate::proofs::Joins::here_reduced, crate::proofs::Joins::here_defined, crate::proofs::Results::on_ok_map, crate::proofs::Joins::joined_within))]
 pub fn join_terms(pool: &mut Pool, sum: &Handle, at: u16) -> Result<(), NumberFault>
     requires stands { Stands pool.old }
     requires sum { IsSum sum.now (forest pool.old) }

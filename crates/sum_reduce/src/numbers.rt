@@ -46,6 +46,7 @@ impl Joins for Adding {
 }
 
 /// The place of the first Number, unless it stands first and is the only one.
+#[tactic(auto, using(crate::proofs::Sorted::formed_nth, crate::proofs::Numbered::led_alone))]
 fn number_to_move(pool: &Pool, sum: &Handle) -> Option<u16>
     requires stands { Stands pool.now }
     requires sum { IsSum sum.now (forest pool.now) }

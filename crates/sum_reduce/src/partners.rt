@@ -1,12 +1,4 @@
 //! Terms with identical parts.
-ghost use Rattle.std.specs.Prelude.{◌≡◌, true, false};
-ghost use Rattle.calc_algebra.specs.Numbers.{is_number};
-ghost use Rattle.calc_algebra.specs.Reduced.{is_reduced, part_of};
-ghost use Rattle.node_order.specs.Keys.{IsKey, key_tree};
-ghost use Rattle.tree_handles.specs.Expressions.{IsExpression, plain};
-ghost use Rattle.tree_handles.specs.Inside.{tree_at};
-ghost use Rattle.tree_handles.specs.Standing.{Stands, forest};
-
 use calc_terms::Kind;
 use coefficients::coefficient_length;
 use like_children::Likes;
@@ -15,7 +7,7 @@ use node_pool::{Id, Pool};
 use number_forms::is_reduced_number;
 use tree_handles::kind;
 
-/// Reduced terms that are no Numbers are in the order of their parts.
+/// Reduced terms that are no Numbers are in the order of their parts, and alike by them.
 pub struct Parts;
 
 impl Keys for Parts {
@@ -27,8 +19,15 @@ impl Keys for Parts {
 
     ghost has_key = { λ t. (is_reduced t ≡ true) × (is_number t ≡ false) };
 
+    #[tactic(auto, using(crate::proofs::Parts::product_key, tree_handles::proofs::Seen::product_kind))]
     fn key(&self, pool: &Pool, id: Id) -> Key {
-        part(pool, id)
+        match kind(pool, id) {
+            Kind::Mult => Key {
+                id,
+                behind: coefficient_length(pool, id),
+            },
+            _ => Key { id, behind: 0 },
+        }
     }
 }
 
@@ -47,25 +46,7 @@ impl Likes for Parts {
         if is_reduced_number(pool, id) {
             None
         } else {
-            Some(part(pool, id))
+            Some(self.key(pool, id))
         }
-    }
-}
-
-/// The part of a reduced term that is no Number.
-fn part(pool: &Pool, id: Id) -> Key
-    requires stands { Stands pool.now }
-    requires expression { IsExpression id (forest pool.now) }
-    requires reduced { is_reduced (plain (tree_at id (forest pool.now))) ≡ true }
-    requires no_number { is_number (plain (tree_at id (forest pool.now))) ≡ false }
-    ensures valid { IsKey result (forest pool.now) }
-    ensures value { key_tree result (forest pool.now) ≡ part_of (plain (tree_at id (forest pool.now))) }
-{
-    match kind(pool, id) {
-        Kind::Mult => Key {
-            id,
-            behind: coefficient_length(pool, id),
-        },
-        _ => Key { id, behind: 0 },
     }
 }

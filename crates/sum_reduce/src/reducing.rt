@@ -1,5 +1,6 @@
 //! A sum becomes one reduced tree.
 ghost use Rattle.std.specs.Prelude.{ℕ, List, length, ◌+◌, ◌*◌, ◌^◌, ◌≡◌, ◌≤◌, true, false, IfOk, IfErr, OnOk, [], ◌∷◌};
+ghost use Rattle.tree_bits.specs.Rows.{AreFewBits};
 ghost use Rattle.calc_algebra.specs.Reduced.{are_reduced};
 ghost use Rattle.calc_measures.specs.PlainValues.{plain_value};
 ghost use Rattle.calc_room.specs.Counts.{counted, counted_among};
@@ -36,6 +37,7 @@ use tree_handles::{Handle, NumberFault, undefined};
 /// added from left to right, and the coefficients of terms with identical parts, all before their sum
 /// is put back; a term whose coefficient is 0 is dropped. The Number's terms come first, then the others in
 /// the order of their parts. A sum with Undef in it is Undef.
+#[tactic(auto, using(crate::proofs::Rationals::undef_rationals, crate::proofs::Settled::reduced_formed, tree_handles::proofs::Outcomes::passed_result, crate::proofs::Rationals::rationals_fault, tree_handles::proofs::Fronts::front_end, tree_handles::proofs::Fronts::front_without, tree_handles::proofs::Fronts::behind_first, coefficients::proofs::Named::passed_named))]
 pub fn reduce_sum(pool: &mut Pool, sum: Handle) -> Result<Handle, NumberFault>
     requires stands { Stands pool.old }
     requires handed { IsHanded sum (forest pool.old) }
@@ -73,7 +75,7 @@ pub fn reduce_sum(pool: &mut Pool, sum: Handle) -> Result<Handle, NumberFault>
     ensures held { let ts = children_of (tree_of sum pool.old) in
         (h l : ℕ) → has_undef ts ≡ false → IsSumHeld (addends_of_each ts) h l → IfOk result (λ t. IsTreeHeld (tree_of t pool.new) h l) }
     ensures bits { let ts = children_of (tree_of sum pool.old) in
-        (h l : ℕ) → IsSumHeld (addends_of_each ts) h l → 2 * h + 4 * l ≤ 124 → IfErr result (OfOverflow (λ o. ⊥)) }
+        (h l : ℕ) → IsSumHeld (addends_of_each ts) h l → AreFewBits h l → IfErr result (OfOverflow (λ o. ⊥)) }
     ensures exponents { let ts = children_of (tree_of sum pool.old) in
         are_counted ts ≡ true → IfOk result (λ t. (is_counted (tree_of t pool.new) ≡ true) × IsWithin (counts_of (tree_of t pool.new)) (counts_of_all ts)) }
 

@@ -15,6 +15,7 @@ use number_forms::is_reduced_number;
 use tree_handles::{Handle, child_id, children, has_undefined_child, kind};
 
 /// How many terms a sum has.
+#[tactic(auto, using(crate::proofs::Sums::sum_live, crate::proofs::Sums::sum_expression, crate::proofs::Sums::sum_seen))]
 pub fn term_count(pool: &Pool, sum: &Handle) -> u16
     requires stands { Stands pool.now }
     requires sum { IsSum sum.now (forest pool.now) }
@@ -24,6 +25,7 @@ pub fn term_count(pool: &Pool, sum: &Handle) -> u16
 }
 
 /// The term at a place.
+#[tactic(auto, using(crate::proofs::Sums::sum_expression, crate::proofs::Sums::sum_seen))]
 pub fn term(pool: &Pool, sum: &Handle, at: u16) -> Id
     requires stands { Stands pool.now }
     requires sum { IsSum sum.now (forest pool.now) }
@@ -35,6 +37,7 @@ pub fn term(pool: &Pool, sum: &Handle, at: u16) -> Id
 }
 
 /// Whether some term is Undef.
+#[tactic(auto, using(crate::proofs::Sums::sum_expression, crate::proofs::Sums::sum_seen))]
 pub fn has_undef_term(pool: &Pool, sum: &Handle) -> bool
     requires stands { Stands pool.now }
     requires sum { IsSum sum.now (forest pool.now) }
@@ -68,12 +71,14 @@ impl Opens for Loose {
 
     ghost can_tell = { λ t. is_reduced t ≡ true };
 
+    #[tactic(auto, using(crate::proofs::Opened::loose_opens))]
     fn opens(&self, pool: &Pool, id: Id) -> bool {
         is_loose(pool, id)
     }
 }
 
 /// The terms of each sum in a sum take its place. A Number stays as it is.
+#[tactic(auto, using(crate::proofs::Sorted::formed_nth))]
 pub fn open_sums(pool: &mut Pool, sum: &Handle)
     requires stands { Stands pool.old }
     requires sum { IsSum sum.now (forest pool.old) }

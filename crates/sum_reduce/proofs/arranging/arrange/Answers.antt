@@ -1,6 +1,5 @@
 use Rattle.std.proofs.Common.{sym, subst, ap, arith}
 use Rattle.sum_reduce.proofs.Shared.{passed_result, plain_value, add, sizes, AnswersFold, forest, behind_first, front_after_one, terms_in, passed_named, collects_opened, Overflows, SpansRoot, SpansTrees, passed_lacks}
-use Rattle.sum_reduce.proofs.Opened.{opened_formed, opened_some, opened_tight}
 use Rattle.sum_reduce.proofs.Orders.{opened_stage, rationals_faulted, rationals_ordered}
 use Rattle.sum_reduce.proofs.Stages.{stage_after}
 use Rattle.sum_reduce.proofs.Sums.{changes_after, changes_front}
@@ -11,9 +10,6 @@ use Rattle.sum_reduce.proofs.Held.{few_after}
 use Rattle.sum_reduce.proofs.HeldTerms.{opened_held}
 use Rattle.sum_reduce.proofs.arranging.arrange.Goals as goal
 
-pub join_numbers-requires : goal.join_numbers-requires
-join_numbers-requires c = grind (arith, opened_formed, opened_some)
-
 pub returns-in_err-join_numbers-clause-rationals : goal.returns-in_err-join_numbers-clause-rationals
 returns-in_err-join_numbers-clause-rationals c =
     λ q. passed_result c.from_residual.result c.in_err-join_numbers.field-0.0 (AnswersFold (plain_value (add (terms_in c.args.sum.now (forest c.args.pool.now)))) (terms_in c.args.sum.now (forest c.join_numbers.new.pool)))
@@ -22,12 +18,6 @@ returns-in_err-join_numbers-clause-rationals c =
 
 pub returns-in_err-join_numbers-clause-front : goal.returns-in_err-join_numbers-clause-front
 returns-in_err-join_numbers-clause-front c = front_after_one behind_first (changes_front c.open_sums.ensures.changes) c.join_numbers.ensures.front
-
-pub sort_terms-requires : goal.sort_terms-requires
-sort_terms-requires c = grind (arith, opened_tight)
-
-pub returns-clause-ok : goal.returns-clause-ok
-returns-clause-ok c = changes_after (changes_after c.open_sums.ensures.changes c.in_ok-join_numbers.ensures.ok) c.sort_terms.ensures.changes
 
 pub returns-clause-stage : goal.returns-clause-stage
 returns-clause-stage c =

@@ -1,17 +1,12 @@
 use Rattle.std.proofs.Common.{◌<◌, ◌+◌, ◌≡◌, false, arith}
-use Rattle.sum_reduce.proofs.Shared.{count, IsPairAt, IsNextPair, NoPairBetween, widths, terms_in, is_loose, is_partner, nth, forest, keeps_none, keeps_after, behind_first, front_same, front_after_one, passed_named, passed_lacks, sum_count}
+use Rattle.sum_reduce.proofs.Shared.{count, IsPairAt, IsNextPair, NoPairBetween, widths, terms_in, is_loose, is_partner, nth, forest, keeps_after, behind_first, front_after_one, passed_lacks, sum_count}
 use Rattle.sum_reduce.proofs.Results.{match_option_given}
-use Rattle.sum_reduce.proofs.Stages.{stage_after, stage_same}
-use Rattle.sum_reduce.proofs.Sums.{changes_same, changes_after}
-use Rattle.sum_reduce.proofs.Hindered.{overflows_after}
+use Rattle.sum_reduce.proofs.Stages.{stage_after}
+use Rattle.sum_reduce.proofs.Sums.{changes_after}
 use Rattle.sum_reduce.proofs.CollectedSpans.{spans_collected}
 use Rattle.sum_reduce.proofs.Rooms.{fewer_lack}
 use Rattle.sum_reduce.proofs.SumBytes.{changes_free}
-use Rattle.sum_reduce.proofs.Held.{few_after}
 use Rattle.sum_reduce.proofs.arranging.join_pairs.Goals as goal
-
-pub loop-next-init : goal.loop-next-init
-loop-next-init c = grind (arith, changes_same, stage_same, front_same, keeps_none)
 
 pub loop-next-preserved : goal.loop-next-preserved
 loop-next-preserved c =
@@ -23,7 +18,9 @@ loop-next-preserved c =
     record {
       changes = changes_after i.changes j.ok;
       stage = stage_after i.stage j.stage;
-      fewer = match_option_given (is_loose (nth c.in-Some.at us) ≡ false → NoPairBetween is_partner (c.in-Some.at + 1) (count us) us) _ (λ n. IsNextPair is_partner (c.in-Some.at + 1) n us) (λ n. IsPairAt is_partner n us) c.pair_behind-next.result fewer (λ n x. x.pair) p.pair;
+      fewer =
+          match_option_given (is_loose (nth c.in-Some.at us) ≡ false → NoPairBetween is_partner (c.in-Some.at + 1) (count us) us) _ (λ n. IsNextPair is_partner (c.in-Some.at + 1) n us)
+          (λ n. IsPairAt is_partner n us) c.pair_behind-next.result fewer (λ n x. x.pair) p.pair;
       counts = omega (arith, i.counts, j.counts);
       flat = p.flat;
       fits = p.fits;
@@ -31,9 +28,6 @@ loop-next-preserved c =
       kept = keeps_after _ _ _ i.kept j.kept;
       stands = j.stands;
     }
-
-pub returns-in_err-join_terms-clause-overflow : goal.returns-in_err-join_terms-clause-overflow
-returns-in_err-join_terms-clause-overflow c = grind (arith, passed_named, overflows_after)
 
 pub returns-in_err-join_terms-clause-room : goal.returns-in_err-join_terms-clause-room
 returns-in_err-join_terms-clause-room c = λ gs s.
@@ -44,6 +38,3 @@ returns-in_err-join_terms-clause-room c = λ gs s.
     passed_lacks c.from_residual.result c.in_err-join_terms.field-0.0 _ _ c.from_residual.ensures.1
     (c.in_err-join_terms.ensures.room gs (spans_collected gs ts us i.stage.collects s))
     (λ full l. fewer_lack gs _ (sum_count us) (sum_count ts) (omega (arith, i.counts)) (omega (arith, l, free)))
-
-pub returns-in_err-join_terms-clause-bits : goal.returns-in_err-join_terms-clause-bits
-returns-in_err-join_terms-clause-bits c = grind (arith, passed_named, few_after)

@@ -1,18 +1,12 @@
 use Rattle.std.proofs.Common.{◌+◌, arith}
-use Rattle.sum_reduce.proofs.Shared.{keeps_after, behind_first, front_after_one, passed_named, forest, collects_then, terms_in, passed_lacks, free_of, sum_count}
-use Rattle.sum_reduce.proofs.Orders.{arranged_flat, folded_alone}
-use Rattle.sum_reduce.proofs.Sorted.{formed_nth}
+use Rattle.sum_reduce.proofs.Shared.{keeps_after, behind_first, front_after_one, forest, collects_then, terms_in, passed_lacks, free_of, sum_count}
+use Rattle.sum_reduce.proofs.Orders.{folded_alone}
 use Rattle.sum_reduce.proofs.Stages.{stage_after}
 use Rattle.sum_reduce.proofs.Sums.{changes_after}
-use Rattle.sum_reduce.proofs.Hindered.{overflows_after}
 use Rattle.sum_reduce.proofs.CollectedSpans.{spans_collected}
 use Rattle.sum_reduce.proofs.Rooms.{fewer_lack, terms_lack, arranged_counts}
 use Rattle.sum_reduce.proofs.SumBytes.{changes_free}
-use Rattle.sum_reduce.proofs.Held.{few_after}
 use Rattle.sum_reduce.proofs.arranging.settle.Goals as goal
-
-pub join_pairs-requires-clause-flat : goal.join_pairs-requires-clause-flat
-join_pairs-requires-clause-flat c = arranged_flat _ c.loop-at.invariant.arranged
 
 pub loop-at-preserved : goal.loop-at-preserved
 loop-at-preserved c =
@@ -28,15 +22,6 @@ loop-at-preserved c =
       kept = keeps_after _ _ _ (keeps_after _ _ _ i.kept j.kept) a.kept;
       stands = a.stands;
     }
-
-pub returns-in_err-join_pairs-clause-overflow : goal.returns-in_err-join_pairs-clause-overflow
-returns-in_err-join_pairs-clause-overflow c = grind (arith, passed_named, overflows_after)
-
-pub returns-in_err-arrange-2-clause-overflow : goal.returns-in_err-arrange-2-clause-overflow
-returns-in_err-arrange-2-clause-overflow c = grind (arith, passed_named, overflows_after)
-
-pub next_pair-requires-clause-told : goal.next_pair-requires-clause-told
-next_pair-requires-clause-told c = λ n l. formed_nth n (terms_in c.args.sum.now (forest c.loop-at.pool)) l c.loop-at.invariant.stage.formed
 
 pub returns-in_err-arrange-clause-room : goal.returns-in_err-arrange-clause-room
 returns-in_err-arrange-clause-room c = λ gs s.
@@ -65,9 +50,3 @@ returns-in_err-arrange-2-clause-room c = λ gs s.
     let few = arranged_counts i.stage.collects c.requires.formed i.arranged in
     passed_lacks c.from_residual-in_err-arrange-2.result c.in_err-arrange-2.field-0.0 _ _ c.from_residual-in_err-arrange-2.ensures.1 (c.in_err-arrange-2.ensures.room gs spans)
     (λ full l. omega (arith, terms_lack gs vs (free_of c.join_pairs.new.pool) (1 + sum_count ts) j.stage.formed spans (omega (arith, few, j.counts)) l, free))
-
-pub returns-in_err-join_pairs-clause-bits : goal.returns-in_err-join_pairs-clause-bits
-returns-in_err-join_pairs-clause-bits c = grind (arith, passed_named, few_after)
-
-pub returns-in_err-arrange-2-clause-bits : goal.returns-in_err-arrange-2-clause-bits
-returns-in_err-arrange-2-clause-bits c = grind (arith, passed_named, few_after)

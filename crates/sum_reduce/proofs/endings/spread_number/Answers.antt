@@ -1,7 +1,7 @@
 use Rattle.std.proofs.Common.{◌∙◌, ap, sym, inl, arith}
 use Rattle.sum_reduce.proofs.Shared.{Trees, append, is_add, is_zero, nth, forest, owned, terms_in, removed}
-use Rattle.sum_reduce.proofs.Sums.{changes_same, sum_within, sum_once, merged, released, takes_handed, term_out}
-use Rattle.sum_reduce.proofs.Written.{spread_zero, spread_sum, spread_one}
+use Rattle.sum_reduce.proofs.Sums.{sum_within, sum_once, merged, released, takes_handed, term_out}
+use Rattle.sum_reduce.proofs.Written.{spread_zero, spread_sum}
 use Rattle.sum_reduce.proofs.endings.spread_number.Goals as goal
 
 pub take_child-zero-requires-clause-within : goal.take_child-zero-requires-clause-within
@@ -38,9 +38,3 @@ returns-then-is_sum-clause-terms c =
     let ts = terms_in c.args.sum.now (forest c.args.pool.now) in
     (merged 0 c.requires.sum (omega (arith, c.requires.some)) (c.merge_children.ensures.root c.requires.sum.handed.root)).terms
     ∙ ap (λ (x : Trees). append x (removed 0 ts)) (spread_sum (nth 0 ts) (ap is_add (sym c.term-first.ensures.tree) ∙ sym c.is_sum.ensures ∙ c.if-is_sum.true))
-
-pub returns-else-is_sum-clause-changes : goal.returns-else-is_sum-clause-changes
-returns-else-is_sum-clause-changes c = changes_same c.requires.sum
-
-pub returns-else-is_sum-clause-terms : goal.returns-else-is_sum-clause-terms
-returns-else-is_sum-clause-terms c = grind (arith, spread_one)

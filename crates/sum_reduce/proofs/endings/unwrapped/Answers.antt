@@ -1,7 +1,7 @@
 use Rattle.std.proofs.Common.{◌∙◌, inl, arith}
-use Rattle.sum_reduce.proofs.Shared.{forest, owned, represents_handed, terms_in}
+use Rattle.sum_reduce.proofs.Shared.{forest, owned, terms_in}
 use Rattle.sum_reduce.proofs.Sums.{sum_within, term_out, only_left}
-use Rattle.sum_reduce.proofs.Written.{only_term, other_sum}
+use Rattle.sum_reduce.proofs.Written.{only_term}
 use Rattle.sum_reduce.proofs.endings.unwrapped.Goals as goal
 
 pub take_child-only-requires-clause-within : goal.take_child-only-requires-clause-within
@@ -16,6 +16,3 @@ pub returns-then-term_count-eq1-clause-tree : goal.returns-then-term_count-eq1-c
 returns-then-term_count-eq1-clause-tree c =
     let o = term_out 0 c.requires.sum (omega (arith, c.requires.some)) (c.take_child-only.ensures.last c.requires.sum.handed.root) in
     only_left o.takes (c.release.ensures.owned (owned o.takes.sum.handed)) (o.tree ∙ only_term (terms_in c.args.sum (forest c.args.pool.now)) (omega (arith, c.if-term_count-eq1.true, c.term_count.ensures)))
-
-pub returns-else-term_count-eq1-clause-tree : goal.returns-else-term_count-eq1-clause-tree
-returns-else-term_count-eq1-clause-tree c = grind (arith, represents_handed, other_sum)

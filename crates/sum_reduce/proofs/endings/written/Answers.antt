@@ -3,8 +3,5 @@ use Rattle.sum_reduce.proofs.Shared.{gives_as}
 use Rattle.sum_reduce.proofs.Sums.{changes_rest}
 use Rattle.sum_reduce.proofs.endings.written.Goals as goal
 
-pub unwrapped-requires-clause-sum : goal.unwrapped-requires-clause-sum
-unwrapped-requires-clause-sum c = c.spread.ensures.changes.sum
-
 pub returns-clause-tree : goal.returns-clause-tree
 returns-clause-tree c = gives_as c.unwrapped.ensures.tree (changes_rest c.spread.ensures.changes) (λ t e. e ∙ c.spread.ensures.tree)

@@ -1,5 +1,5 @@
 use Rattle.std.proofs.Common.{suc, add-one, arith, rules}
-use Rattle.sum_reduce.proofs.Shared.{count_removed, forest, keeps_none, keeps_after, behind_first, front_same, front_after_two, terms_in, coefficient_of, fault_named, nth, tree_of, NamesSum, Overflows, free_of, full_as, removed}
+use Rattle.sum_reduce.proofs.Shared.{forest, keeps_after, behind_first, front_after_two, terms_in, coefficient_of, fault_named, nth, tree_of, NamesSum, Overflows, free_of, full_as, removed}
 use Rattle.sum_reduce.proofs.Joins.{joining_formed, joining_less, next_partner, partner_step, partner_within}
 use Rattle.sum_reduce.proofs.Numbered.{beside_behind}
 use Rattle.sum_reduce.proofs.Sorted.{formed_nth}
@@ -9,9 +9,6 @@ use Rattle.sum_reduce.proofs.Rooms.{joining_spans, spans_next, partner_lacks}
 use Rattle.sum_reduce.proofs.SumBytes.{taken_free}
 use Rattle.sum_reduce.proofs.FewBits.{next_partner_few}
 use Rattle.sum_reduce.proofs.joining.add_partners.Goals as goal
-
-pub loop-pool-init : goal.loop-pool-init
-loop-pool-init c = grind (arith, front_same, keeps_none)
 
 pub is_pair-requires-clause-handed : goal.is_pair-requires-clause-handed
 is_pair-requires-clause-handed c = (c.loop-pool.invariant.takes _ c.requires.taken.1).sum.handed
@@ -40,9 +37,6 @@ add_partner-requires c =
       apart = takes_apart (c.loop-pool.invariant.takes _ c.requires.taken.1);
       so_far = j.number;
     }
-
-pub loop-pool-smaller : goal.loop-pool-smaller
-loop-pool-smaller c = grind (arith, count_removed)
 
 pub loop-pool-preserved : goal.loop-pool-preserved
 loop-pool-preserved c =

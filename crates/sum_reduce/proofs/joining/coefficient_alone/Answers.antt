@@ -1,7 +1,6 @@
-use Rattle.std.proofs.Common.{arith, inl}
-use Rattle.sum_reduce.proofs.Shared.{passed_result, behind_first, front_same, front_end, front_without, owned, given_handed, given_root}
+use Rattle.std.proofs.Common.{inl}
+use Rattle.sum_reduce.proofs.Shared.{behind_first, front_same, front_end, front_without, owned, given_handed, given_root}
 use Rattle.sum_reduce.proofs.Sums.{part_gone}
-use Rattle.sum_reduce.proofs.Rooms.{taking_lacks}
 use Rattle.sum_reduce.proofs.joining.coefficient_alone.Goals as goal
 
 pub release-requires-clause-releasable : goal.release-requires-clause-releasable
@@ -15,6 +14,3 @@ returns-clause-front c =
     let k = c.in_ok-coefficient.ensures.ok in
     let g = part_gone k (c.release.ensures.owned (owned (given_handed k.second-given))) in
     front_end g.ends (front_without behind_first front_same)
-
-pub returns-in_err-coefficient-clause-room : goal.returns-in_err-coefficient-clause-room
-returns-in_err-coefficient-clause-room c = grind (arith, passed_result, taking_lacks)

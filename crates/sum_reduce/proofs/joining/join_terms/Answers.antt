@@ -1,6 +1,6 @@
 use Rattle.std.proofs.Common.{◌<◌, ◌≤◌, ◌+◌, sym, subst, add-one, arith, rules, ℕ}
 use Rattle.sum_reduce.proofs.Shared.{Trees, nth, Forest, forest, State, tree_of, behind_first, front_after_two, IsStage, IsJoining, Takes, widths, nodes, terms_in, passed_named, result_named, Overflows, free_of, removed, passed_lacks, refusal_lacks, result_lacks, keeps_after, sum_count, addends_of_each}
-use Rattle.sum_reduce.proofs.Joins.{IsBegun, begins, next_partner, partner_within, joining_formed, two_joined, joining_done, joined_within, joined_others, pair_here, here_reduced, here_defined}
+use Rattle.sum_reduce.proofs.Joins.{IsBegun, begins, next_partner, partner_within, joining_formed, two_joined, joining_done, joined_others, pair_here}
 use Rattle.sum_reduce.proofs.Results.{on_ok_map}
 use Rattle.sum_reduce.proofs.Sums.{takes_handed, takes_apart, takes_after, takes_behind, takes_front, takes_changes}
 use Rattle.sum_reduce.proofs.Widths.{some_node}
@@ -11,9 +11,6 @@ use Rattle.sum_reduce.proofs.FewBits.{next_partner_few}
 use Rattle.sum_reduce.proofs.Held.{few_after}
 use Rattle.sum_reduce.proofs.joining.join_terms.Goals.{In_ok-coefficient, In_ok-both, In_ok-total}
 use Rattle.sum_reduce.proofs.joining.join_terms.Goals as goal
-
-pub take_coefficient_at-requires : goal.take_coefficient_at-requires
-take_coefficient_at-requires c = grind (arith, pair_here, here_reduced, here_defined)
 
 -- the coefficient of the first term stands beside its part
 begun : (c : In_ok-coefficient) → IsBegun (terms_in c.args.sum.now (forest c.args.pool.now)) (terms_in c.args.sum.now (forest c.take_coefficient_at.new.pool)) (tree_of c.in_ok-coefficient.coefficient c.take_coefficient_at.new.pool) c.args.at
@@ -28,7 +25,9 @@ record AreAdded (i at : ℕ) (ts us : Trees) (f : Forest) (now : State) (h : ℕ
 both : (c : In_ok-both) → AreAdded c.args.sum.now c.args.at (terms_in c.args.sum.now (forest c.args.pool.now)) (terms_in c.args.sum.now (forest c.take_coefficient_at.new.pool)) (forest c.args.pool.now) c.add_partner.new.pool c.in_ok-both.both
 both c = record {
   takes = takes_after c.in_ok-coefficient.ensures.ok c.in_ok-both.ensures.ok;
-  joining = two_joined _ _ _ _ _ c.args.at c.requires.formed c.requires.flat c.requires.pair c.in_ok-coefficient.ensures.terms c.in_ok-coefficient.ensures.coefficient (rw add-one at c.in_ok-both.ensures.terms) (rw add-one at c.in_ok-both.ensures.number);
+  joining =
+      two_joined _ _ _ _ _ c.args.at c.requires.formed c.requires.flat c.requires.pair c.in_ok-coefficient.ensures.terms c.in_ok-coefficient.ensures.coefficient
+      (rw add-one at c.in_ok-both.ensures.terms) (rw add-one at c.in_ok-both.ensures.number);
   less = omega (arith, some_node (nth c.args.at (terms_in c.args.sum.now (forest c.take_coefficient_at.new.pool))));
 }
 
@@ -86,15 +85,13 @@ pub returns-clause-fewer : goal.returns-clause-fewer
 returns-clause-fewer c =
     let s = goal.at.returns-clause-fewer c in
     let d = total s.In_ok-total (both s.In_ok-both) in
-    on_ok_map c.put_back.result c.put_back.ensures.terms (λ e. subst (λ (x : Trees). widths x < widths (terms_in c.args.sum.now (forest c.args.pool.now))) (sym e) (joining_done _ _ _ _ _ c.args.at d.joining d.less).fewer)
+    on_ok_map c.put_back.result c.put_back.ensures.terms
+    (λ e. subst (λ (x : Trees). widths x < widths (terms_in c.args.sum.now (forest c.args.pool.now))) (sym e) (joining_done _ _ _ _ _ c.args.at d.joining d.less).fewer)
 
 pub returns-clause-counts : goal.returns-clause-counts
 returns-clause-counts c =
     let s = goal.at.returns-clause-counts c in
     on_ok_map c.put_back.result c.put_back.ensures.terms (λ e. joined_counts _ _ _ _ _ _ c.args.at (total s.In_ok-total (both s.In_ok-both)).joining e)
-
-pub returns-clause-within : goal.returns-clause-within
-returns-clause-within c = grind (arith, on_ok_map, joined_within)
 
 pub returns-clause-others : goal.returns-clause-others
 returns-clause-others c =
@@ -121,13 +118,15 @@ returns-clause-front c =
 pub returns-in_err-both-clause-overflow : goal.returns-in_err-both-clause-overflow
 returns-in_err-both-clause-overflow c =
     let b = begun (goal.at.returns-in_err-both-clause-overflow c).In_ok-coefficient in
-    passed_named c.from_residual-in_err-both.result c.in_err-both.field-0.0 _ _ c.from_residual-in_err-both.ensures.1 (rw add-one at c.in_err-both.ensures.overflow) (partner_hinders _ _ _ c.args.at 0 b.joining b.pair)
+    passed_named c.from_residual-in_err-both.result c.in_err-both.field-0.0 _ _ c.from_residual-in_err-both.ensures.1 (rw add-one at c.in_err-both.ensures.overflow)
+    (partner_hinders _ _ _ c.args.at 0 b.joining b.pair)
 
 pub returns-in_err-total-clause-overflow : goal.returns-in_err-total-clause-overflow
 returns-in_err-total-clause-overflow c =
     let k = both (goal.at.returns-in_err-total-clause-overflow c).In_ok-both in
     let ts = terms_in c.args.sum.now (forest c.args.pool.now) in
-    passed_named c.from_residual-in_err-total.result c.in_err-total.field-0.0 (Overflows ts) (Overflows ts) c.from_residual-in_err-total.ensures.1 (c.in_err-total.ensures.overflow ts _ k.joining) (λ x h. h)
+    passed_named c.from_residual-in_err-total.result c.in_err-total.field-0.0 (Overflows ts) (Overflows ts) c.from_residual-in_err-total.ensures.1 (c.in_err-total.ensures.overflow ts _ k.joining)
+    (λ x h. h)
 
 pub returns-clause-overflow : goal.returns-clause-overflow
 returns-clause-overflow c =
@@ -156,7 +155,8 @@ pub returns-in_err-total-clause-room : goal.returns-in_err-total-clause-room
 returns-in_err-total-clause-room c = λ gs s.
     let k = both (goal.at.returns-in_err-total-clause-room c).In_ok-both in
     let free = takes_free c.requires.stands c.in_ok-both.ensures.stands (keeps_after _ _ _ c.in_ok-coefficient.ensures.kept c.in_ok-both.ensures.kept) k.takes in
-    passed_lacks c.from_residual-in_err-total.result c.in_err-total.field-0.0 _ _ c.from_residual-in_err-total.ensures.1 (c.in_err-total.ensures.room _ _ k.joining gs s) (λ full l. omega (arith, l, free))
+    passed_lacks c.from_residual-in_err-total.result c.in_err-total.field-0.0 _ _ c.from_residual-in_err-total.ensures.1 (c.in_err-total.ensures.room _ _ k.joining gs s)
+    (λ full l. omega (arith, l, free))
 
 pub returns-clause-room : goal.returns-clause-room
 returns-clause-room c = λ gs s.

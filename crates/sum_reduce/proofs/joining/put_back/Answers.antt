@@ -2,7 +2,7 @@ use Rattle.std.proofs.Common.{◌≡◌, ◌∙◌, ap, arith, ◌^◌, length, 
 use Rattle.sum_reduce.proofs.Shared.{is_reduced, more, none, Tree, size, nth, with_coefficient, factors_of, IsMonic, inserted, removed, forest, Forest, tree_of, without_root, children_of, given_handed, given_told, eqb-sym, terms_in, passed_named, put_as, is_number, value, counted, SpansTree, put_room, passed_lacks, HaveFewBits, addend, plain, count, tree-without}
 use Rattle.sum_reduce.proofs.Sums.{IsChanged, filled, sum_beside, beside_front}
 use Rattle.sum_reduce.proofs.PutsFit.{put_fits}
-use Rattle.tree_handles.proofs.Filling.{as_before, front_swapped, hole_beside, hole_stays}
+use Rattle.tree_handles.proofs.Filling.{as_before, hole_beside, hole_stays}
 use Rattle.sum_reduce.proofs.joining.put_back.Goals.{After-fill}
 use Rattle.sum_reduce.proofs.joining.put_back.Goals as goal
 
@@ -18,7 +18,13 @@ put_coefficient-requires c =
 pub fill-requires : goal.fill-requires
 fill-requires c =
     let g = c.in_ok-term.ensures.ok in
-    record { stands = search rules; hole = (_, _, _, hole_stays g (hole_beside c.args.coefficient (eqb-sym c.args.coefficient c.args.sum.now c.requires.apart) c.open_child-hole.ensures.hole)); handed = given_handed g }
+    record {
+      stands =
+          search rules;
+      hole =
+          (_, _, _, hole_stays g (hole_beside c.args.coefficient (eqb-sym c.args.coefficient c.args.sum.now c.requires.apart) c.open_child-hole.ensures.hole));
+      handed = given_handed g;
+    }
 
 -- the term stands where its part did
 put : (c : After-fill) → IsChanged c.args.sum.now (inserted c.args.at (more (with_coefficient (tree_of c.args.coefficient c.args.pool.now) (nth c.args.at (terms_in c.args.sum.now (forest c.args.pool.now)))) none) (removed c.args.at (terms_in c.args.sum.now (forest c.args.pool.now))))
@@ -41,9 +47,6 @@ returns-clause-terms c = (put (goal.at.returns-clause-terms c).After-fill).terms
 
 pub returns-clause-front : goal.returns-clause-front
 returns-clause-front c = beside_front (put (goal.at.returns-clause-front c).After-fill).changes
-
-pub returns-in_err-term-clause-front : goal.returns-in_err-term-clause-front
-returns-in_err-term-clause-front c = c.open_child-hole.ensures.front _ _ (front_swapped c.put_coefficient.ensures.front)
 
 pub returns-in_err-term-clause-overflow : goal.returns-in_err-term-clause-overflow
 returns-in_err-term-clause-overflow c =

@@ -1,6 +1,6 @@
 use Rattle.std.proofs.Common.{◌≡◌, ◌∙◌, ap, ◌<◌, subst, rules, ℕ}
 use Rattle.std.specs.Prelude.{IfErr}
-use Rattle.sum_reduce.proofs.Shared.{Tree, passed_result, is_number, is_reduced, part_of, more, none, nth, is_undef, coefficient_of, given_handed, given_told, inserted, removed, forest, terms_in, free_of, tree_of}
+use Rattle.sum_reduce.proofs.Shared.{Tree, passed_result, is_number, is_reduced, part_of, more, none, is_undef, coefficient_of, given_handed, given_told, inserted, removed, forest, terms_in, free_of, tree_of}
 use Rattle.sum_reduce.proofs.Sums.{IsSplit, part_back, takes_front}
 use Rattle.sum_reduce.proofs.Rooms.{taking_lacks}
 use Rattle.tree_handles.proofs.Filling.{hole_behind, hole_stays}
@@ -27,12 +27,14 @@ fill-requires c =
     record { stands = search rules; hole = (_, _, _, hole_stays k.second-given (hole_behind c.open_child-hole.ensures.hole k.first-given.ends)); handed = given_handed k.second-given }
 
 -- the part stands where the term did
-split : (c : After-fill) → IsSplit c.args.sum.now (inserted c.args.at (more (tree_of c.in_ok-coefficient.part c.take_coefficient.new.pool) none) (removed c.args.at (terms_in c.args.sum.now (forest c.args.pool.now))))
+split : (c : After-fill)
+    → IsSplit c.args.sum.now (inserted c.args.at (more (tree_of c.in_ok-coefficient.part c.take_coefficient.new.pool) none) (removed c.args.at (terms_in c.args.sum.now (forest c.args.pool.now))))
     (forest c.args.pool.now) (forest c.fill.new.pool) c.in_ok-coefficient.coefficient (λ t. t ≡ coefficient_of (tree_of c.open_child-hole.result.1 c.open_child-hole.new.pool))
 split c =
     let k = c.in_ok-coefficient.ensures.ok in
     let o = c.open_child-hole.ensures.hole in
-    part_back c.args.at (tree_of c.in_ok-coefficient.part c.take_coefficient.new.pool) c.requires.sum c.requires.within o k (c.fill.ensures.changed _ _ _ (hole_stays k.second-given (hole_behind o k.first-given.ends)))
+    part_back c.args.at (tree_of c.in_ok-coefficient.part c.take_coefficient.new.pool) c.requires.sum c.requires.within o k
+    (c.fill.ensures.changed _ _ _ (hole_stays k.second-given (hole_behind o k.first-given.ends)))
 
 pub returns-clause-ok : goal.returns-clause-ok
 returns-clause-ok c = (split (goal.at.returns-clause-ok c).After-fill).takes
@@ -47,9 +49,6 @@ returns-clause-coefficient c = (split (goal.at.returns-clause-coefficient c).Aft
 
 pub returns-clause-front : goal.returns-clause-front
 returns-clause-front c = takes_front (split (goal.at.returns-clause-front c).After-fill).takes
-
-pub returns-in_err-coefficient-clause-front : goal.returns-in_err-coefficient-clause-front
-returns-in_err-coefficient-clause-front c = c.open_child-hole.ensures.front _ _ c.take_coefficient.ensures.front
 
 pub returns-in_err-coefficient-clause-room : goal.returns-in_err-coefficient-clause-room
 returns-in_err-coefficient-clause-room c =

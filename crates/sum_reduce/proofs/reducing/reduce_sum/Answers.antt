@@ -1,7 +1,7 @@
-use Rattle.std.proofs.Common.{◌≡◌, true, false, ◌∙◌, sym, subst, refl, ap, arith, ◌^◌, length}
-use Rattle.sum_reduce.proofs.Shared.{passed_result, tree_of, forest, behind_first, front_end, front_without, gives_as, given_told, IsWrittenSum, IsSumAnswer, IsCollected, terms_in, counted, HasPowersOf, SpansTree, size, Tree, passed_lacks, sum_whole, passed_named, IsTreeHeld, is_counted, counts_of, counts_of_all, IsWithin}
+use Rattle.std.proofs.Common.{◌≡◌, true, ◌∙◌, sym, subst, refl, ap, arith, ◌^◌, length}
+use Rattle.sum_reduce.proofs.Shared.{tree_of, forest, gives_as, given_told, IsWrittenSum, IsSumAnswer, IsCollected, terms_in, counted, HasPowersOf, SpansTree, size, Tree, passed_lacks, sum_whole, IsTreeHeld, is_counted, counts_of, counts_of_all, IsWithin}
 use Rattle.sum_reduce.proofs.Collected.{settled_collected, settled_written}
-use Rattle.sum_reduce.proofs.Rationals.{undef_rationals, rationals_answer, rationals_fault}
+use Rattle.sum_reduce.proofs.Rationals.{rationals_answer}
 use Rattle.sum_reduce.proofs.Settled.{reduced_formed, undef_answer, settled_answer}
 use Rattle.sum_reduce.proofs.Sums.{changes_rest}
 use Rattle.sum_reduce.proofs.CollectedCounts.{collected_counts, written_counted}
@@ -45,12 +45,6 @@ returns-then-has_undef_term-clause-ok c =
     let ts = terms_in c.args.sum (forest c.args.pool.now) in
     gives_as c.undefined.ensures.gives refl (λ t e. subst (IsSumAnswer ts) (sym e) (undef_answer ts (sym c.has_undef_term.ensures ∙ c.if-has_undef_term.true)))
 
-pub returns-then-has_undef_term-clause-rationals : goal.returns-then-has_undef_term-clause-rationals
-returns-then-has_undef_term-clause-rationals c = grind (arith, undef_rationals)
-
-pub settle-requires-clause-formed : goal.settle-requires-clause-formed
-settle-requires-clause-formed c = grind (arith, reduced_formed)
-
 pub returns-clause-ok : goal.returns-clause-ok
 returns-clause-ok c =
     let ts = terms_in c.args.sum (forest c.args.pool.now) in
@@ -60,32 +54,26 @@ returns-clause-ok c =
 
 pub returns-clause-rationals : goal.returns-clause-rationals
 returns-clause-rationals c =
-    λ q. rationals_answer (tree_of c.args.sum c.args.pool.now) (tree_of c.written.result c.written.new.pool) (terms_in c.args.sum (forest c.settle.new.pool)) c.requires.sum (c.in_ok-settle.ensures.rationals q) (given_told c.written.ensures.tree)
-
-pub returns-in_err-settle-clause-rationals : goal.returns-in_err-settle-clause-rationals
-returns-in_err-settle-clause-rationals c = grind (arith, passed_result, rationals_fault)
-
-pub returns-clause-front : goal.returns-clause-front
-returns-clause-front c = front_end c.written.ensures.tree.ends (front_without behind_first c.settle.ensures.front)
+    λ q. rationals_answer (tree_of c.args.sum c.args.pool.now) (tree_of c.written.result c.written.new.pool) (terms_in c.args.sum (forest c.settle.new.pool)) c.requires.sum
+    (c.in_ok-settle.ensures.rationals q) (given_told c.written.ensures.tree)
 
 pub returns-clause-collected : goal.returns-clause-collected
 returns-clause-collected c = λ d.
     let s = c.in_ok-settle.ensures in
-    subst (IsCollected (terms_in c.args.sum (forest c.args.pool.now))) (sym (given_told c.written.ensures.tree)) (settled_collected _ (terms_in c.args.sum (forest c.settle.new.pool)) s.stage s.settled)
+    subst (IsCollected (terms_in c.args.sum (forest c.args.pool.now))) (sym (given_told c.written.ensures.tree))
+    (settled_collected _ (terms_in c.args.sum (forest c.settle.new.pool)) s.stage s.settled)
 
 pub returns-clause-written : goal.returns-clause-written
 returns-clause-written c = λ d u.
     let s = c.in_ok-settle.ensures in
-    subst (IsWrittenSum (terms_in c.args.sum (forest c.args.pool.now))) (sym (given_told c.written.ensures.tree)) (settled_written _ (terms_in c.args.sum (forest c.settle.new.pool)) s.stage s.settled u)
+    subst (IsWrittenSum (terms_in c.args.sum (forest c.args.pool.now))) (sym (given_told c.written.ensures.tree))
+    (settled_written _ (terms_in c.args.sum (forest c.settle.new.pool)) s.stage s.settled u)
 
 pub returns-then-has_undef_term-clause-collected : goal.returns-then-has_undef_term-clause-collected
 returns-then-has_undef_term-clause-collected c = λ d. absurd (false≢true (sym d ∙ sym c.has_undef_term.ensures ∙ c.if-has_undef_term.true))
 
 pub returns-then-has_undef_term-clause-written : goal.returns-then-has_undef_term-clause-written
 returns-then-has_undef_term-clause-written c = λ d u. absurd (false≢true (sym d ∙ sym c.has_undef_term.ensures ∙ c.if-has_undef_term.true))
-
-pub returns-in_err-settle-clause-defined : goal.returns-in_err-settle-clause-defined
-returns-in_err-settle-clause-defined c = grind (arith, passed_named)
 
 pub returns-in_err-settle-clause-room : goal.returns-in_err-settle-clause-room
 returns-in_err-settle-clause-room c = λ gs s.
@@ -102,9 +90,6 @@ returns-clause-held c = λ h l d k.
 pub returns-then-has_undef_term-clause-held : goal.returns-then-has_undef_term-clause-held
 returns-then-has_undef_term-clause-held c = λ h l d k. absurd (false≢true (sym d ∙ sym c.has_undef_term.ensures ∙ c.if-has_undef_term.true))
 
-pub returns-in_err-settle-clause-bits : goal.returns-in_err-settle-clause-bits
-returns-in_err-settle-clause-bits c = grind (arith, passed_named)
-
 pub returns-clause-exponents : goal.returns-clause-exponents
 returns-clause-exponents c = λ h.
     let ts = terms_in c.args.sum (forest c.args.pool.now) in
@@ -114,4 +99,5 @@ returns-clause-exponents c = λ h.
     subst (λ (t : Tree). (is_counted t ≡ true) × IsWithin (counts_of t) (counts_of_all ts)) (sym (given_told c.written.ensures.tree)) (w.counted, w.within)
 
 pub returns-then-has_undef_term-clause-exponents : goal.returns-then-has_undef_term-clause-exponents
-returns-then-has_undef_term-clause-exponents c = λ h. absurd (false≢true (sym (counted_defined (terms_in c.args.sum (forest c.args.pool.now)) h) ∙ sym c.has_undef_term.ensures ∙ c.if-has_undef_term.true))
+returns-then-has_undef_term-clause-exponents c =
+    λ h. absurd (false≢true (sym (counted_defined (terms_in c.args.sum (forest c.args.pool.now)) h) ∙ sym c.has_undef_term.ensures ∙ c.if-has_undef_term.true))

@@ -12,7 +12,8 @@ pub release-requires-clause-releasable : goal.release-requires-clause-releasable
 release-requires-clause-releasable c = inl c.requires.second.root
 
 pub release-requires-else-is_sum-clause-releasable : goal.release-requires-else-is_sum-clause-releasable
-release-requires-else-is_sum-clause-releasable c = inl (handed_at (handed_beside c.args.sum (eqb-sym c.args.coefficient c.args.sum c.requires.apart) c.requires.first) (c.release.ensures.owned (owned c.requires.second))).root
+release-requires-else-is_sum-clause-releasable c =
+    inl (handed_at (handed_beside c.args.sum (eqb-sym c.args.coefficient c.args.sum c.requires.apart) c.requires.first) (c.release.ensures.owned (owned c.requires.second))).root
 
 pub returns-else-is_sum-clause-ok : goal.returns-else-is_sum-clause-ok
 returns-else-is_sum-clause-ok c =

@@ -37,7 +37,8 @@ multiple-requires-in-WholeAndRootMultiple-clause-number c =
 
 pub returns-in_ok-coefficient-in-WholeAndRootMultiple-clause-ok : goal.returns-in_ok-coefficient-in-WholeAndRootMultiple-clause-ok
 returns-in_ok-coefficient-in-WholeAndRootMultiple-clause-ok c =
-    if_map c.multiple-in-WholeAndRootMultiple.result _ _ c.multiple-in-WholeAndRootMultiple.ensures.ok (λ h k. gives_as k (given_rest c.in_ok-coefficient-in-WholeAndRootMultiple.ensures.ok) (λ t e. e))
+    if_map c.multiple-in-WholeAndRootMultiple.result _ _ c.multiple-in-WholeAndRootMultiple.ensures.ok
+    (λ h k. gives_as k (given_rest c.in_ok-coefficient-in-WholeAndRootMultiple.ensures.ok) (λ t e. e))
 
 pub returns-in-Whole-clause-ok : goal.returns-in-Whole-clause-ok
 returns-in-Whole-clause-ok c =

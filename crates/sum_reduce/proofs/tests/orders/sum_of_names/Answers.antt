@@ -21,7 +21,14 @@ children-last-requires-clause-live c =
 pub add_child-requires : goal.add_child-requires
 add_child-requires c =
     let t = (placed c.loop-place.invariant.changes.sum c.in_ok-term.ensures.ok).takes in
-    record { stands = search rules; live = root_held c.in_ok-sum.sum _ t.sum.handed.root; within = search rules; root = given_root c.in_ok-term.ensures.ok; apart = roots_apart c.in_ok-term.ensures.stands t }
+    record {
+      stands =
+          search rules;
+      live = root_held c.in_ok-sum.sum _ t.sum.handed.root;
+      within = search rules;
+      root = given_root c.in_ok-term.ensures.ok;
+      apart = roots_apart c.in_ok-term.ensures.stands t;
+    }
 
 pub loop-place-preserved : goal.loop-place-preserved
 loop-place-preserved c =
