@@ -30,7 +30,8 @@ child_is {s = s} {i = i} h o r = ap (λ (t : Tree). nth 0 (children_of t)) (plai
 -- the tree of that child, as a reader finds it
 pub argument_at : (i j k : ℕ) (s : State) → Stands s → IsHanded i (forest s) → is_root (tree_of i s) ≡ true → k ≡ i
     → (IsExpression k (forest s) → plain (tree_at j (forest s)) ≡ nth 0 (children_of (plain (tree_at k (forest s))))) → argument_of (tree_of i s) ≡ plain (tree_at j (forest s))
-argument_at i j k s h o r e p = sym (subst (λ x. IsExpression x (forest s) → plain (tree_at j (forest s)) ≡ nth 0 (children_of (plain (tree_at x (forest s))))) e p (expression_root h o) ∙ child_is h o r)
+argument_at i j k s h o r e p =
+    sym (subst (λ x. IsExpression x (forest s) → plain (tree_at j (forest s)) ≡ nth 0 (children_of (plain (tree_at x (forest s))))) e p (expression_root h o) ∙ child_is h o r)
 
 -- ---- by kind
 

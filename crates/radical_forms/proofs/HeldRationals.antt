@@ -38,5 +38,6 @@ pub rational_without : (b : Tree) → IsNumber b → IsHeld (value b) 0 0 → is
 rational_without (num q) n a = refl
 rational_without (add ts) n a = absurd (sum_without (terms_of ts) n.0 a)
 rational_without (root (num r)) n a = absurd (term_without (term_of (root (num r))).coefficient (term_of (root (num r))).radicand (term_of (root (num r))) refl refl one_not_zero (radicand_two r n) a)
-rational_without (mult (more (num q) (more (root (num r)) none))) n a = absurd (term_without q (term_of (mult (more (num q) (more (root (num r)) none)))).radicand (term_of (mult (more (num q) (more (root (num r)) none)))) refl refl n.0 (radicand_two r n.2) a)
+rational_without (mult (more (num q) (more (root (num r)) none))) n a =
+    absurd (term_without q (term_of (mult (more (num q) (more (root (num r)) none)))).radicand (term_of (mult (more (num q) (more (root (num r)) none)))) refl refl n.0 (radicand_two r n.2) a)
 rational_without t n a = absurd n

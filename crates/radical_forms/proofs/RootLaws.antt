@@ -192,5 +192,6 @@ term_tree_is s z p c = by (s.radicand == 1) refl (is_one_fraction s.coefficient)
 -- ---- bytes that are lacking
 
 -- the root of a rational above 0, whose term has no room
-pub term_lacks : (q : Fraction) (s : Term) (now free : ℕ) (full : Full) → pos 0 <ℤ q.num → IsRootOf q.num q.den (s ∷ []) → (is_term (term_tree s) ≡ true) × (term_of (term_tree s) ≡ s) → now ≡ free → building now (term_tree s) ≡ Err full → LacksRoot (num q) free full
+pub term_lacks : (q : Fraction) (s : Term) (now free : ℕ) (full : Full) → pos 0 <ℤ q.num → IsRootOf q.num q.den (s ∷ []) → (is_term (term_tree s) ≡ true) × (term_of (term_tree s) ≡ s)
+    → now ≡ free → building now (term_tree s) ≡ Err full → LacksRoot (num q) free full
 term_lacks q s now free full p r t e b = record { answer = term_tree s; root = positive_answer q (term_tree s) s p t r; lacks = subst (λ (n : ℕ). building n (term_tree s) ≡ Err full) e b }

@@ -24,7 +24,8 @@ with_root gs a t h e s = grind (arith, root_spanned, number_words)
 answer_spanned : (gs : List ℕ) (a t : Tree) → IsRootAnswer a t → SpansTree gs (root a) → SpansTree gs t
 answer_spanned gs a t h s = grind (arith, undef_is, with_root)
 
-pub spans_answer : (gs : List ℕ) (a u : Tree) (r : Result ℕ NumberFault) (g : Forest) (s : State) → IfOk r (λ h. Gives g (forest s) h (IsRootAnswer a)) → u ≡ root a → SpansTree gs u → IfOk r (λ h. SpansTree gs (tree_of h s))
+pub spans_answer : (gs : List ℕ) (a u : Tree) (r : Result ℕ NumberFault) (g : Forest) (s : State) → IfOk r (λ h. Gives g (forest s) h (IsRootAnswer a)) → u ≡ root a → SpansTree gs u
+    → IfOk r (λ h. SpansTree gs (tree_of h s))
 spans_answer gs a u r g s e q l = grind (arith, answer_spanned, given_told)
 
 -- p * q spans the root of p/q

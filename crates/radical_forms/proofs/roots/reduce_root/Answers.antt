@@ -23,7 +23,9 @@ pub child_id-argument-requires-clause-within : goal.child_id-argument-requires-c
 child_id-argument-requires-clause-within c = rw c.id.ensures (has_child c.requires.stands c.requires.handed c.requires.root)
 
 argument_is : (c : After-rational-q) → argument_of (tree_of c.args.root c.args.pool.now) ≡ num (value_of c.rational-q.result)
-argument_is c = argument_at c.args.root c.child_id-argument.result c.id.result c.args.pool.now c.requires.stands c.requires.handed c.requires.root c.id.ensures c.child_id-argument.ensures.plain ∙ c.rational-q.ensures.plain
+argument_is c =
+    argument_at c.args.root c.child_id-argument.result c.id.result c.args.pool.now c.requires.stands c.requires.handed c.requires.root c.id.ensures c.child_id-argument.ensures.plain
+    ∙ c.rational-q.ensures.plain
 
 pub root_of_rational-requires-clause-root : goal.root_of_rational-requires-clause-root
 root_of_rational-requires-clause-root c = root_is (tree_of c.args.root c.args.pool.now) c.requires.root ∙ ap root (argument_is (goal.at.root_of_rational-requires-clause-root c).After-rational-q)

@@ -37,13 +37,15 @@ above c = positive_num _
     (λ e. c.if-num-eq0.false (ap (of_z w128) (c.num-2.ensures.value ∙ sym (ratio_parts c.args.q).num ∙ e)))
 
 pub returns-then-num-lt0-clause-ok : goal.returns-then-num-lt0-clause-ok
-returns-then-num-lt0-clause-ok c = gives_as c.undefined.ensures.gives refl (λ t e. answer_as refl e (negative_answer (value_of c.args.q) (negative (goal.at.returns-then-num-lt0-clause-ok c).Then-num-lt0)))
+returns-then-num-lt0-clause-ok c =
+    gives_as c.undefined.ensures.gives refl (λ t e. answer_as refl e (negative_answer (value_of c.args.q) (negative (goal.at.returns-then-num-lt0-clause-ok c).Then-num-lt0)))
 
 pub returns-then-num-lt0-clause-overflows : goal.returns-then-num-lt0-clause-overflows
 returns-then-num-lt0-clause-overflows c = (λ x. absurd x, λ w. not_above_negative _ (negative (goal.at.returns-then-num-lt0-clause-overflows c).Then-num-lt0) w.0)
 
 pub returns-in_err-zero-clause-overflows : goal.returns-in_err-zero-clause-overflows
-returns-in_err-zero-clause-overflows c = (λ x. absurd (not_overflow _ _ c.from_residual.ensures.1 x), λ w. absurd (not_above_zero _ (zero_num (goal.at.returns-in_err-zero-clause-overflows c).Then-num-eq0) w.0))
+returns-in_err-zero-clause-overflows c =
+    (λ x. absurd (not_overflow _ _ c.from_residual.ensures.1 x), λ w. absurd (not_above_zero _ (zero_num (goal.at.returns-in_err-zero-clause-overflows c).Then-num-eq0) w.0))
 
 pub returns-in_err-zero-clause-full_below_96_bytes : goal.returns-in_err-zero-clause-full_below_96_bytes
 returns-in_err-zero-clause-full_below_96_bytes c = λ full.
@@ -55,7 +57,9 @@ pub returns-in_err-zero-clause-front : goal.returns-in_err-zero-clause-front
 returns-in_err-zero-clause-front c = front_after (front_at (front_without behind_first front_same) (c.release.ensures.owned (owned c.requires.handed))) c.number.ensures.front
 
 pub returns-then-num-eq0-clause-ok : goal.returns-then-num-eq0-clause-ok
-returns-then-num-eq0-clause-ok c = gives_as c.in_ok-zero.ensures.given (c.release.ensures.owned (owned c.requires.handed)) (λ t e. answer_as refl e (zero_answer (value_of c.args.q) (zero_num (goal.at.returns-then-num-eq0-clause-ok c).Then-num-eq0)))
+returns-then-num-eq0-clause-ok c =
+    gives_as c.in_ok-zero.ensures.given (c.release.ensures.owned (owned c.requires.handed))
+    (λ t e. answer_as refl e (zero_answer (value_of c.args.q) (zero_num (goal.at.returns-then-num-eq0-clause-ok c).Then-num-eq0)))
 
 pub returns-then-num-eq0-clause-overflows : goal.returns-then-num-eq0-clause-overflows
 returns-then-num-eq0-clause-overflows c = (λ x. absurd x, λ w. not_above_zero _ (zero_num (goal.at.returns-then-num-eq0-clause-overflows c).Then-num-eq0) w.0)
@@ -159,4 +163,8 @@ pub returns-clause-measured : goal.returns-clause-measured
 returns-clause-measured c = λ h.
     let p = ratio_parts c.args.q in
     let told = given_told c.in_ok-value.ensures.ok in
-    term_measured (value_of c.args.q) _ (term_of c.in_ok-term.term) _ (above (goal.at.returns-clause-measured c).Else-num-eq0) (λ i. record { num = sym p.num i; den = sym p.den i }) c.in_ok-term.ensures.extracted told.0 told.1
+    term_measured (value_of c.args.q) _ (term_of c.in_ok-term.term) _ (above (goal.at.returns-clause-measured c).Else-num-eq0) (λ i. record {
+      num =
+          sym p.num i;
+      den = sym p.den i;
+    }) c.in_ok-term.ensures.extracted told.0 told.1

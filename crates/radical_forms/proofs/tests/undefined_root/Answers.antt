@@ -16,4 +16,5 @@ pub reduce_root-requires-clause-root : goal.reduce_root-requires-clause-root
 reduce_root-requires-clause-root c = ap is_root (given_told c.in_ok-root.ensures.ok)
 
 pub reduce_root-requires-clause-reduced : goal.reduce_root-requires-clause-reduced
-reduce_root-requires-clause-reduced c = ap (λ (t : Tree). is_reduced (argument_of t)) (given_told c.in_ok-root.ensures.ok) ∙ ap is_reduced (given_told (c.in_ok-argument.ensures.given refl)) ∙ undef_reduced
+reduce_root-requires-clause-reduced c =
+    ap (λ (t : Tree). is_reduced (argument_of t)) (given_told c.in_ok-root.ensures.ok) ∙ ap is_reduced (given_told (c.in_ok-argument.ensures.given refl)) ∙ undef_reduced
