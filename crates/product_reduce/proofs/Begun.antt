@@ -37,13 +37,15 @@ seen {i = i} {h = h} {old = old} {f = f} p w =
       number = record { tree = k.tree; ends = ends_as k.ends refl (sym (given_rest k)); once = k.once; whole = k.whole; told = subst (λ (t : Forest). is_number (plain t) ≡ true) (last_tree k.ends) w.begun.number };
     }
 
-pub taken_out : {i h m : ℕ} {ts us vs : Trees} {old f new : Forest} → IsProduct i old ts → LeavesChildren i us old f h → LeavesChildren i vs (without_root h f) new m → IsTakenOut i vs old new m (plain (root_tree m new))
+pub taken_out : {i h m : ℕ} {ts us vs : Trees} {old f new : Forest} → IsProduct i old ts → LeavesChildren i us old f h → LeavesChildren i vs (without_root h f) new m
+    → IsTakenOut i vs old new m (plain (root_tree m new))
 taken_out {i = i} {old = old} p l k =
     let given = gives_as k.given (ap (put i k.kids) (given_rest l.given) ∙ put-put i k.kids l.kids old) (λ t x. x) in
     record { left = put i k.kids old; beside = beside_given given; becomes = becomes_put p k.are refl }
 
 -- no bytes are gone, but for those of a 1
-pub begun_free : {s t : State} {i h : ℕ} {ts : Trees} → Stands s → Stands t → KeepsRefusals s t → IsMany i ts (forest s) → (w : IsUnderway i ts (forest s) (forest t) h) → free_of s ≤ free_of t + size (tree_of h t)
+pub begun_free : {s t : State} {i h : ℕ} {ts : Trees} → Stands s → Stands t → KeepsRefusals s t → IsMany i ts (forest s) → (w : IsUnderway i ts (forest s) (forest t) h)
+    → free_of s ≤ free_of t + size (tree_of h t)
 begun_free {s = s} {t = t} {h = h} st su k m w =
     omega (
       arith,

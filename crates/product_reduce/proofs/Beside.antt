@@ -1,6 +1,6 @@
 -- Roots beside others.
-use Rattle.std.proofs.Common.{arith, ℕ, ◌<◌, ◌≡◌, List, eqb, Bool, true, false, cond, refl, sym, ap, ◌∙◌}
-use Rattle.product_reduce.proofs.Shared.{represents_nth, represents_without, removed, eqb-true, ne_eqb, Tree, Trees, count, State, nth, plain, Forest, empty, tree, arity, kids, tree_nth, without_nth, IsHanded, Represents, Ends, Gives, KeepsFront, has_root, root_tree, without_root, put, Stands, forest, IsBehind, not_first, gives, given_handed, given_rest, given_told, handed_beside, handed_at, by_test, eqb-sym, no_root, root-without, tree-without, without-swap, root-put, tree-put, without-put, IsProduct, Becomes, IsBeside}
+use Rattle.std.proofs.Common.{arith, ℕ, ◌<◌, ◌≡◌, List, eqb, true, false, refl, sym, ap, ◌∙◌}
+use Rattle.product_reduce.proofs.Shared.{represents_nth, represents_without, removed, ne_eqb, Tree, Trees, count, State, nth, plain, Forest, arity, kids, tree_nth, without_nth, IsHanded, Represents, Ends, Gives, KeepsFront, has_root, root_tree, without_root, put, Stands, forest, IsBehind, not_first, gives, given_handed, given_rest, given_told, handed_beside, handed_at, eqb-sym, root-without, tree-without, without-swap, IsProduct, Becomes, IsBeside}
 use Rattle.tree_handles.proofs.Distinct.{distinct}
 use Rattle.tree_handles.proofs.Filling.{gone}
 use Rattle.product_reduce.proofs.Products.{product_arity, product_kids, becomes_put}
@@ -48,12 +48,14 @@ behind_beside b k = behind_clear b.clear k
 pub beside_gives : {others f : Forest} {h : ℕ} {u : Tree} → Gives others f h (λ t. t ≡ u) → IsBeside h u others f
 beside_gives g = let b = beside_given g in record { handed = b.handed; tree = given_told g; rest = b.rest; clear = b.clear }
 
-pub taken_beside : (i at : ℕ) (f : Forest) {g : Forest} {h : ℕ} {ts : Trees} → Represents (kids (root_tree i f)) ts → at < arity (kids (root_tree i f)) → Ends h (tree_nth at (kids (root_tree i f))) (put i (without_nth at (kids (root_tree i f))) f) g
+pub taken_beside : (i at : ℕ) (f : Forest) {g : Forest} {h : ℕ} {ts : Trees} → Represents (kids (root_tree i f)) ts → at < arity (kids (root_tree i f))
+    → Ends h (tree_nth at (kids (root_tree i f))) (put i (without_nth at (kids (root_tree i f))) f) g
     → IsBeside h (nth at ts) (put i (without_nth at (kids (root_tree i f))) f) g
 taken_beside i at f k l e = beside_gives (gives {Told = λ t. t ≡ _} e (represents_nth at l k) refl)
 
 -- a factor of a product
-pub taken_factor : {i : ℕ} {f g : Forest} {h : ℕ} {ts : Trees} (at : ℕ) → IsProduct i f ts → at < count ts → Ends h (tree_nth at (kids (root_tree i f))) (put i (without_nth at (kids (root_tree i f))) f) g
+pub taken_factor : {i : ℕ} {f g : Forest} {h : ℕ} {ts : Trees} (at : ℕ) → IsProduct i f ts → at < count ts
+    → Ends h (tree_nth at (kids (root_tree i f))) (put i (without_nth at (kids (root_tree i f))) f) g
     → IsBeside h (nth at ts) (put i (without_nth at (kids (root_tree i f))) f) g
 taken_factor {i = i} {f = f} at p l e = taken_beside i at f (product_kids p) (rw (product_arity p) l) e
 
@@ -76,11 +78,13 @@ beside_tree_below {e = e} h k = ap plain (beside_tree e h k.handed.root) ∙ k.t
 -- ---- a root beside which another has changed
 
 -- a handed root beside a product stays as it is while the product becomes another one
-pub beside_becomes : {s t : State} {i : ℕ} {ts us : Trees} (c : ℕ) → Stands s → Stands t → IsProduct i (forest s) ts → Becomes i (forest s) (forest t) us → IsHanded c (forest s) → eqb c i ≡ false → IsHanded c (forest t)
+pub beside_becomes : {s t : State} {i : ℕ} {ts us : Trees} (c : ℕ) → Stands s → Stands t → IsProduct i (forest s) ts → Becomes i (forest s) (forest t) us → IsHanded c (forest s)
+    → eqb c i ≡ false → IsHanded c (forest t)
 beside_becomes {s = s} {t = t} {i = i} c st sn p b h d =
     let x = handed_beside i (eqb-sym c i d) h in
     let y : IsHanded c (without_root i (forest t)) = handed_at x b.others in
     beside_other (beside_handed i sn b.product.handed) y
 
-pub tree_becomes : {s t : State} {i : ℕ} {ts us : Trees} (c : ℕ) → Stands s → Stands t → IsProduct i (forest s) ts → Becomes i (forest s) (forest t) us → IsHanded c (forest s) → eqb c i ≡ false → root_tree c (forest t) ≡ root_tree c (forest s)
+pub tree_becomes : {s t : State} {i : ℕ} {ts us : Trees} (c : ℕ) → Stands s → Stands t → IsProduct i (forest s) ts → Becomes i (forest s) (forest t) us → IsHanded c (forest s)
+    → eqb c i ≡ false → root_tree c (forest t) ≡ root_tree c (forest s)
 tree_becomes c h k p b l d = grind (arith, handed_beside, eqb-sym, handed_at, beside_tree, beside_handed, tree-without)

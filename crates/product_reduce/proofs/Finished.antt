@@ -1,7 +1,7 @@
 -- The trees that a step on a product gives.
-use Rattle.std.proofs.Common.{◌≡◌, Bool, true, false, ◌&&◌, ◌||◌, refl, if◌then◌else◌, sym, ap, ◌∙◌, subst, arith, [], ℕ, zero, suc, ◌<◌, not}
+use Rattle.std.proofs.Common.{◌≡◌, Bool, true, false, ◌&&◌, ◌||◌, refl, if◌then◌else◌, sym, ap, ◌∙◌, subst, arith, ℕ, zero, suc, ◌<◌, not}
 use Rattle.std.specs.Prelude.{ℤ, Option, MatchOption}
-use Rattle.product_reduce.proofs.Shared.{has_undef, are_rationals, Tree, num, symbol, undef, add, mult, power, root, neg, sub, div, Trees, none, more, append, names, names_of, is_undef, in_mult, root_kind, count, are_numbers, is_number, value, are_reduced, is_reduced, has_form, all_parts, is_whole_num, is_opaque_exponent, factors_of, is_zero, and_parts, and_from, or_right, zero_fraction, lowest, whole_fraction, gcd, load, load_of_factor, Same-eq, nth, children_of, whole_denominator, zero_is, Same-sym, KeepsMeanings, KeepsMeanings-refl, KeepsMeanings-eq, KeepsMeanings-trans, KeepsMeanings-product_more, zero_product, number_zero, number_words, numbers_defined, Same-trans, keeps, reduces_after, AreJoinable, IsJoined, IsFinished, IsEnding, IsStop, at_zero, at_end, IsRejoined, opened, others_in, IsCoefficient, coefficient_before, have_partners, joined, Within, within_eq, within_none, within_both, within_trans, number_names, no_new_name, nest_number}
+use Rattle.product_reduce.proofs.Shared.{has_undef, are_rationals, Tree, num, undef, mult, power, Trees, none, more, append, names, names_of, is_undef, in_mult, root_kind, count, are_numbers, is_number, are_reduced, is_reduced, has_form, all_parts, is_whole_num, is_opaque_exponent, factors_of, is_zero, and_parts, and_from, or_right, zero_fraction, lowest, whole_fraction, gcd, load, load_of_factor, Same-eq, nth, children_of, whole_denominator, zero_is, Same-sym, KeepsMeanings, KeepsMeanings-refl, KeepsMeanings-eq, KeepsMeanings-trans, KeepsMeanings-product_more, zero_product, number_zero, number_words, numbers_defined, Same-trans, keeps, reduces_after, AreJoinable, IsJoined, IsFinished, IsEnding, IsStop, at_zero, at_end, IsRejoined, opened, others_in, IsCoefficient, coefficient_before, have_partners, joined, Within, within_eq, within_none, within_both, within_trans, number_names, no_new_name, nest_number}
 use Rattle.std.specs.Option.{is_some}
 use Rattle.calc_algebra.proofs.UndefRewrites.{undef_part}
 use Rattle.product_reduce.proofs.Opened.{opened_keeps, collected, coefficient_in_front}
@@ -143,15 +143,7 @@ reduced_nth (suc n) (more t ts) l h = reduced_nth n ts (omega arith) (and_parts 
 pub reduced_exponent : (t : Tree) → is_reduced t ≡ true → root_kind t ≡ kind.Pow → is_reduced (nth 1 (children_of t)) ≡ true
 unfolding is_reduced
 reduced_exponent (power b e) h k = or_right (is_undef e) _ (and_parts (has_form (power b e) && all_parts has_form b) _ h).1
-reduced_exponent (num q) h k = cc
-reduced_exponent (symbol x) h k = cc
-reduced_exponent undef h k = cc
-reduced_exponent (add ts) h k = cc
-reduced_exponent (mult ts) h k = cc
-reduced_exponent (root a) h k = cc
-reduced_exponent (neg a) h k = cc
-reduced_exponent (sub a b) h k = cc
-reduced_exponent (div a b) h k = cc
+reduced_exponent t h k = cc
 
 -- an exponent that is a Number is opaque unless it is whole
 pub opaque_unless_whole : (t : Tree) (r : Option ℤ) → is_number t ≡ true → MatchOption r (is_whole_num t ≡ false) (λ n. t ≡ num (whole_fraction n)) → is_opaque_exponent t ≡ not (is_some r)
@@ -159,7 +151,8 @@ opaque_unless_whole t r h w = grind (arith, whole_denominator)
 
 -- ---- Done, from what a reduced ending tells
 
-pub ending_finished : (c : Tree) (ts : Trees) (new : Tree) → has_undef ts ≡ false → IsCoefficient c (opened ts) → is_zero c ≡ false → have_partners (others_in (opened ts)) ≡ false → IsEnding c (others_in (opened ts)) new → IsFinished ts new
+pub ending_finished : (c : Tree) (ts : Trees) (new : Tree) → has_undef ts ≡ false → IsCoefficient c (opened ts) → is_zero c ≡ false → have_partners (others_in (opened ts)) ≡ false
+    → IsEnding c (others_in (opened ts)) new → IsFinished ts new
 ending_finished c ts new d k z a e =
     let os = others_in (opened ts) in
     let names = within_both (names_of ts) (names c) (names_of os) (within_trans (within_none (names_of ts)) (within_eq (number_names c k.number))) (others_within ts) in

@@ -19,12 +19,14 @@ pub free_as : {s t : State} (a b : ℕ) → Stands s → Stands t → KeepsRefus
 free_as {s = s} {t = t} a b st su k e = omega (arith, all_bytes s st, all_bytes t su, k.size, e)
 
 -- other factors in place of those of a product
-pub becomes_free : {s t : State} {i : ℕ} {ts us : Trees} → Stands s → Stands t → KeepsRefusals s t → IsProduct i (forest s) ts → Becomes i (forest s) (forest t) us → free_of t + size (mult us) ≡ free_of s + size (mult ts)
+pub becomes_free : {s t : State} {i : ℕ} {ts us : Trees} → Stands s → Stands t → KeepsRefusals s t → IsProduct i (forest s) ts → Becomes i (forest s) (forest t) us
+    → free_of t + size (mult us) ≡ free_of s + size (mult ts)
 becomes_free {ts = ts} {us = us} st su k p b =
     free_as (size (mult ts)) (size (mult us)) st su k (omega (arith, product_bytes p, product_bytes b.product, ap bytes_in b.others))
 
 -- a tree beside them
-pub taken_out_free : {s t : State} {i h : ℕ} {u : Tree} {ts us : Trees} → Stands s → Stands t → KeepsRefusals s t → IsProduct i (forest s) ts → IsTakenOut i us (forest s) (forest t) h u → free_of t + size (mult us) + size u ≡ free_of s + size (mult ts)
+pub taken_out_free : {s t : State} {i h : ℕ} {u : Tree} {ts us : Trees} → Stands s → Stands t → KeepsRefusals s t → IsProduct i (forest s) ts → IsTakenOut i us (forest s) (forest t) h u
+    → free_of t + size (mult us) + size u ≡ free_of s + size (mult ts)
 taken_out_free {s = s} {t = t} {u = u} {ts = ts} {us = us} st su k p x =
     omega (
       arith,

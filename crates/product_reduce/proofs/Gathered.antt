@@ -51,11 +51,13 @@ ending_before c ts us t s e =
     }
 
 pub spreading_before : (c d : Tree) (ts us : Trees) (o : Overflow) → d ≡ c → IsSorting 0 base_of ts us → SpreadingOverflows d us o → SpreadingOverflows c ts o
-spreading_before c d ts us o e s h = subst (λ (x : Tree). SpreadingOverflows x ts o) e (record { sum = h.sum; alone = permuted_one_is h.sum (Permuted-sym (permuted_lists ts us s.moved)) h.alone; named = h.named })
+spreading_before c d ts us o e s h =
+    subst (λ (x : Tree). SpreadingOverflows x ts o) e (record { sum = h.sum; alone = permuted_one_is h.sum (Permuted-sym (permuted_lists ts us s.moved)) h.alone; named = h.named })
 
 -- ---- the gathered product
 
-pub gathered : (c : Tree) (ts us : Trees) (new : Tree) → are_reduced ts ≡ true → has_undef ts ≡ false → IsCoefficient c (opened ts) → us ≡ others_in (opened ts) → IsOrdered c us new → IsGathered ts new
+pub gathered : (c : Tree) (ts us : Trees) (new : Tree) → are_reduced ts ≡ true → has_undef ts ≡ false → IsCoefficient c (opened ts) → us ≡ others_in (opened ts) → IsOrdered c us new
+    → IsGathered ts new
 gathered c ts us new r d k e o =
     let os = others_in (opened ts) in
     let sorted : IsSorting 0 base_of os o.us = subst (λ (x : Trees). IsSorting 0 base_of x o.us) e o.sorted in

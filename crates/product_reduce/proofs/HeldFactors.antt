@@ -79,7 +79,8 @@ number_factors (add ts) {p = p} {q = q} n a = factor_held p q 0 0 (number_as_fac
 number_factors (root b) {p = p} {q = q} n a = factor_held p q 0 0 (number_as_factor (root b) p q (number_test (root b) n) a) none_held (omega arith) (omega arith)
 number_factors c n a = absurd n
 
-split_factors : (s : Split) {h l : ℕ} → IsNumber s.coefficient → NoneIs is_number s.factors → NoneIs is_mult s.factors → IsHeldSplit s h l → AreFactorsHeld (append (factors_of s.coefficient) s.factors) h l
+split_factors : (s : Split) {h l : ℕ} → IsNumber s.coefficient → NoneIs is_number s.factors → NoneIs is_mult s.factors → IsHeldSplit s h l
+    → AreFactorsHeld (append (factors_of s.coefficient) s.factors) h l
 split_factors s c n m a = factors_wider a.high a.low (factors_append (factors_of s.coefficient) s.factors (number_factors s.coefficient c a.coefficient) (part_factors s.factors n m a.factors))
 
 behind_none : (p : Tree → Bool) (ts us : Trees) → NoneIs p (append ts us) → NoneIs p us
@@ -194,7 +195,8 @@ part_permuted (permuted_trans k m) a = part_permuted m (part_permuted k a)
 
 -- ---- behind a coefficient
 
-pub before_held : (c : Tree) (ts : Trees) {p q k n h l : ℕ} → is_number c ≡ true → IsFormed c → NoneIs is_number ts → NoneIs is_mult ts → IsHeld (value c) p q → IsPartHeld ts k n → p + k ≤ h → q + n ≤ l
+pub before_held : (c : Tree) (ts : Trees) {p q k n h l : ℕ} → is_number c ≡ true → IsFormed c → NoneIs is_number ts → NoneIs is_mult ts → IsHeld (value c) p q → IsPartHeld ts k n → p + k ≤ h
+    → q + n ≤ l
     → AreFactorsHeld (coefficient_before c ts) h l
 before_held c ts {p = p} {q = q} {h = h} {l = l} e f n m a b x y = by (is_num_one c)
   where

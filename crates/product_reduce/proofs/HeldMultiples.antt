@@ -1,5 +1,5 @@
 -- A rational times a reduced sum, as addends: each coefficient is multiplied, and the factors are the same.
-use Rattle.std.proofs.Common.{◌≡◌, ◌≢◌, ◌≤◌, ◌*◌, ℕ, ◌⊎◌, inl, inr, [], ◌∷◌, Bool, true, false, if◌then◌else◌, refl, sym, ap, ◌∙◌, arith}
+use Rattle.std.proofs.Common.{◌≡◌, ◌≢◌, ◌≤◌, ◌⊎◌, inl, inr, [], ◌∷◌, Bool, true, false, if◌then◌else◌, refl, sym, ap, ◌∙◌, arith}
 use Rattle.product_reduce.proofs.Shared.{Fraction, times, zero_fraction, one_fraction, is_one_fraction, one_is, zero_test, Tree, num, add, mult, root, Trees, none, more, append, count, is_add, is_mult, AllParts, AllPartsOf, has_coefficient, is_number, natural_of, value, terms_of, IsNumber, IsTerm, HasForm, NoneIs, IsProductForm, IsSumForm, Split, split, split_product, product_tree, part_of, num_one, number_terms, other_terms, Surd, term, surd_of, surd_one, surd_scale, surd_times, number_test, coefficient_of, factors_of, mapped, rational_times_number, rational_times_term, leading_factors, product_form_of, AreFactors, no_split, num_split, none_leads, no_term, term_test, IsFactor, number_scaled, terms-scaled, times_one, Leads, in_front, EachTerm, each_term, number_term, multiple, distributed, Addend, addend, addend_of, addends, addends_of}
 use Rattle.calc_algebra.proofs.InverseLaws.{product_not_zero}
 use Rattle.product_reduce.proofs.Leads.{factors_again}
@@ -100,7 +100,8 @@ module _ (q : Fraction) (f : IsFactor q) where
   product_coefficient us h n g (inl k) = ap (λ (t : Tree). value (coefficient_of t)) (unled us k) ∙ before us k ∙ ap (λ (s : Split). surd_times (surd_of q) (value s.coefficient)) (sym (no_split us k))
   product_coefficient us h n g (inr l) =
       let a : AreFactors l.factors = leading_factors us l h n g in
-      ap (λ (x : Trees). value (coefficient_of (rational_times_term q (mult x)))) l.whole ∙ led l.c l.factors l.coefficient.number l.coefficient.not_zero a.no_product (none_leads l.factors a.no_number) a.some
+      ap (λ (x : Trees). value (coefficient_of (rational_times_term q (mult x)))) l.whole
+      ∙ led l.c l.factors l.coefficient.number l.coefficient.not_zero a.no_product (none_leads l.factors a.no_number) a.some
       ∙ ap (λ (s : Split). surd_times (surd_of q) (value s.coefficient)) (sym l.is)
 
   multiple_coefficient : (t : Tree) → AllParts HasForm t → is_number t ≡ false → is_add t ≡ false → value (coefficient_of (rational_times_term q t)) ≡ surd_times (surd_of q) (value (coefficient_of t))
@@ -110,7 +111,8 @@ module _ (q : Fraction) (f : IsFactor q) where
   multiple_coefficient (mult us) h n s = let g = product_form_of us h n in product_coefficient us h n g (in_front us g.no_product g.front)
   multiple_coefficient t h n s = before (more t none) n
 
-  multiple_addend : (t : Tree) → AllParts HasForm t → is_number t ≡ false → is_add t ≡ false → addend_of (rational_times_term q t) ≡ addend (surd_times (surd_of q) (addend_of t).coefficient) (addend_of t).factors
+  multiple_addend : (t : Tree) → AllParts HasForm t → is_number t ≡ false → is_add t ≡ false
+      → addend_of (rational_times_term q t) ≡ addend (surd_times (surd_of q) (addend_of t).coefficient) (addend_of t).factors
   multiple_addend t h n s =
       let m = multiple q f t h n s in
       let own = addend_parts t h n in

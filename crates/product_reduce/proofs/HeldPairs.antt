@@ -33,7 +33,8 @@ rational_no_single : (c : Fraction) → is_single (num c) ≡ true → ⊥
 unfolding is_number
 rational_no_single c e = cc
 
-first_pair : (t u : Tree) (ts : Trees) {p q k n h l : ℕ} → is_single t ≡ true → is_single u ≡ true → IsFactorHeld t p q → AreFactorsHeld (more u ts) k n → p + k ≤ h → q + n ≤ l → HoldsPair 0 (more t (more u ts)) h l
+first_pair : (t u : Tree) (ts : Trees) {p q k n h l : ℕ} → is_single t ≡ true → is_single u ≡ true → IsFactorHeld t p q → AreFactorsHeld (more u ts) k n → p + k ≤ h → q + n ≤ l
+    → HoldsPair 0 (more t (more u ts)) h l
 first_pair t u ts {p = p} {q = q} s r a (factor_held i j m d b c x y) z w =
     (p + i, q + j, omega arith, omega arith, parts_multiply (single_part t (single_is t s).0 (single_is t s).1 a) (single_part u (single_is u r).0 (single_is u r).1 b), λ v f. factor_held (p + i) (q + j) m d f c (omega arith) (omega arith))
 first_pair t (num c) ts s r a (term_held i j m d b e x y) z w = absurd (rational_no_single c r)
@@ -42,7 +43,8 @@ first_pair t (num c) ts s r a (term_held i j m d b e x y) z w = absurd (rational
 behind_one : (at : ℕ) (t : Tree) (ts : Trees) {p q k n h l : ℕ} → IsFactorHeld t p q → HoldsPair at ts k n → p + k ≤ h → q + n ≤ l → HoldsPair (suc at) (more t ts) h l
 behind_one at t ts {p = p} {q = q} {k = k} {n = n} a (i, j, u, w, b, f) x y = (i, j, omega arith, omega arith, b, λ v g. factor_held p q k n a (f v g) x y)
 
-behind_two : (at : ℕ) (c r : Fraction) (ts : Trees) {p q k n h l : ℕ} → IsHeld (term c (natural_of r.num) ∷ []) p q → HoldsPair at ts k n → p + k ≤ h → q + n ≤ l → HoldsPair (suc (suc at)) (more (num c) (more (root (num r)) ts)) h l
+behind_two : (at : ℕ) (c r : Fraction) (ts : Trees) {p q k n h l : ℕ} → IsHeld (term c (natural_of r.num) ∷ []) p q → HoldsPair at ts k n → p + k ≤ h → q + n ≤ l
+    → HoldsPair (suc (suc at)) (more (num c) (more (root (num r)) ts)) h l
 behind_two at c r ts {p = p} {q = q} {k = k} {n = n} a (i, j, u, w, b, f) x y = (i, j, omega arith, omega arith, b, λ v g. term_held p q k n a (f v g) x y)
 
 root_no_single : (r : Fraction) → is_reduced (root (num r)) ≡ true → is_single (root (num r)) ≡ true → ⊥

@@ -22,7 +22,8 @@ as_product us fs c e l =
     ap (λ (b : Bool). if b then addend (value (mult us)) none else addend_of (mult us)) (factors_no_number c fs us e l)
     ∙ ap (λ (s : Split). addend (value s.coefficient) s.factors) e
 
-pub spliced_held : (c : Tree) (fs : Trees) {p q k n : ℕ} → is_number c ≡ true → NoneIs is_number fs → 1 ≤ count fs → IsHeld (value c) p q → IsPartHeld fs k n → IsFactorHeld (mult (append (factors_of c) fs)) (p + k) (q + n)
+pub spliced_held : (c : Tree) (fs : Trees) {p q k n : ℕ} → is_number c ≡ true → NoneIs is_number fs → 1 ≤ count fs → IsHeld (value c) p q → IsPartHeld fs k n
+    → IsFactorHeld (mult (append (factors_of c) fs)) (p + k) (q + n)
 spliced_held c fs {p = p} {q = q} {k = k} {n = n} e m l a b =
     subst (λ (x : Addend). IsSumHeld (x ∷ []) (p + k) (q + n)) (sym (as_product (append (factors_of c) fs) fs c (split_of_number c fs e m) l))
     (record { terms = weighted (value c) k n ∷ []; weighted = more_weighted k n b none_weighted; held = put_before (value c) p q k n a })
@@ -41,7 +42,8 @@ tree_held (more t (more u fs)) {k = k} {n = n} m s l b =
 sum_positive : (ts : Trees) {k n : ℕ} → IsPartHeld (more (add ts) none) k n → 1 ≤ k
 sum_positive ts b = grind (arith, one_counts)
 
-pub sum_addends : (q : Fraction) (ts : Trees) {p i k n : ℕ} → is_number (add ts) ≡ false → IsHeld (surd_of q) p i → IsPartHeld (more (add ts) none) k n → IsSumHeld (distributed (surd_of q) (addends (add ts))) (p + k) (i + n)
+pub sum_addends : (q : Fraction) (ts : Trees) {p i k n : ℕ} → is_number (add ts) ≡ false → IsHeld (surd_of q) p i → IsPartHeld (more (add ts) none) k n
+    → IsSumHeld (distributed (surd_of q) (addends (add ts))) (p + k) (i + n)
 sum_addends q ts {p = p} {i = i} {k = k} {n = n} e a b =
     distributed_held (surd_of q) (addends (add ts)) k n p i a (tree_as_sum refl (factor_as_tree (add ts) k n (part_single (add ts) e refl b)))
 
@@ -55,7 +57,8 @@ spread_held q ts {p = p} {i = i} {k = k} {n = n} f m e a b =
 
 -- ---- a coefficient before others
 
-rational_before_held : (q : Fraction) (fs : Trees) {p i k n : ℕ} → IsFactor q → AreOthers fs → 1 ≤ count fs → IsHeld (value (num q)) p i → IsPartHeld fs k n → IsFactorHeld (rational_before q (product_tree fs)) (p + k) (i + n)
+rational_before_held : (q : Fraction) (fs : Trees) {p i k n : ℕ} → IsFactor q → AreOthers fs → 1 ≤ count fs → IsHeld (value (num q)) p i → IsPartHeld fs k n
+    → IsFactorHeld (rational_before q (product_tree fs)) (p + k) (i + n)
 unfolding is_number
 rational_before_held q none f o l a b = absurd (omega arith)
 rational_before_held q (more (add ts) none) {p = p} {i = i} f o l a b =
@@ -64,10 +67,12 @@ rational_before_held q (more (mult ts) none) f o l a b = absurd (true≢false o.
 rational_before_held q (more t none) f o l a b = spliced_held (num q) (more t none) refl o.no_number (omega arith) a b
 rational_before_held q (more t (more u fs)) f o l a b = spliced_held (num q) (more t (more u fs)) refl o.no_number (omega arith) a b
 
-with_held : (c : Tree) (fs : Trees) {p q k n : ℕ} → is_number c ≡ true → is_zero c ≡ false → AreOthers fs → 1 ≤ count fs → IsHeld (value c) p q → IsPartHeld fs k n → IsFactorHeld (with_coefficient c (product_tree fs)) (p + k) (q + n)
+with_held : (c : Tree) (fs : Trees) {p q k n : ℕ} → is_number c ≡ true → is_zero c ≡ false → AreOthers fs → 1 ≤ count fs → IsHeld (value c) p q → IsPartHeld fs k n
+    → IsFactorHeld (with_coefficient c (product_tree fs)) (p + k) (q + n)
 with_held (num c) fs {p = p} {q = q} {k = k} {n = n} e z o l a b = by (is_zero_fraction c) (is_one_fraction c) refl refl
   where
-    by : (x y : Bool) → is_zero_fraction c ≡ x → is_one_fraction c ≡ y → IsFactorHeld (if x then num zero_fraction else (if y then product_tree fs else rational_before c (product_tree fs))) (p + k) (q + n)
+    by : (x y : Bool) → is_zero_fraction c ≡ x → is_one_fraction c ≡ y
+        → IsFactorHeld (if x then num zero_fraction else (if y then product_tree fs else rational_before c (product_tree fs))) (p + k) (q + n)
     by true y g h = absurd (true≢false (sym g ∙ z))
     by false true g h = tree_held fs o.no_number o.no_product l (wider (omega arith) (omega arith) b)
     by false false g h = rational_before_held c fs (record { not_zero = no_zero c (ap not g); not_one = not_one_is c h }) o l a b
@@ -79,7 +84,8 @@ with_held c fs {p = p} {q = q} {k = k} {n = n} e z o l a b =
 pub factor_wider : (t : Tree) {h l k n : ℕ} → h ≤ k → l ≤ n → IsFactorHeld t h l → IsFactorHeld t k n
 factor_wider t x y a = record { terms = a.terms; weighted = a.weighted; held = wider_held x y a.held }
 
-times_held : (c : Tree) (us : Trees) {p q k n h l : ℕ} → is_number c ≡ true → is_zero c ≡ false → AreOthers us → IsHeld (value c) p q → IsPartHeld us k n → p + k ≤ h → q + n ≤ l → IsFactorHeld (coefficient_times c us) h l
+times_held : (c : Tree) (us : Trees) {p q k n h l : ℕ} → is_number c ≡ true → is_zero c ≡ false → AreOthers us → IsHeld (value c) p q → IsPartHeld us k n → p + k ≤ h → q + n ≤ l
+    → IsFactorHeld (coefficient_times c us) h l
 times_held c none {p = p} {q = q} {h = h} {l = l} e z o a b x y = number_as_factor c h l e (held_wider (value c) p h q l (omega arith) (omega arith) a)
 times_held c (more t us) e z o a b x y = factor_wider (with_coefficient c (product_tree (more t us))) x y (with_held c (more t us) e z o (omega arith) a b)
 

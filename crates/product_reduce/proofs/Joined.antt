@@ -20,7 +20,8 @@ pub partner_first : (t : Tree) (ts : Trees) → has_partner t ts ≡ true → Pe
 partner_first t none h = cc
 partner_first t (more u ts) h = by (partner_first t ts) (is_partner t u) h
   where
-    by : (has_partner t ts ≡ true → Permuted ts (more (first_partner t ts) (without_partner t ts))) → (k : Bool) → (if k then true else has_partner t ts) ≡ true → Permuted (more u ts) (more (if k then u else first_partner t ts) (if k then ts else more u (without_partner t ts)))
+    by : (has_partner t ts ≡ true → Permuted ts (more (first_partner t ts) (without_partner t ts))) → (k : Bool) → (if k then true else has_partner t ts) ≡ true
+        → Permuted (more u ts) (more (if k then u else first_partner t ts) (if k then ts else more u (without_partner t ts)))
     by go true g = Permuted-refl (more u ts)
     by go false g = permuted_trans (permuted_more (go g)) permuted_swap
 
@@ -33,7 +34,8 @@ pub joined_keeps : (ts : Trees) → KeepsMeanings (mult ts) (mult (joined ts))
 joined_keeps none = KeepsMeanings-refl (mult none)
 joined_keeps (more t ts) = by (joined_keeps ts) (has_partner t ts) refl
   where
-    by : KeepsMeanings (mult ts) (mult (joined ts)) → (k : Bool) → has_partner t ts ≡ k → KeepsMeanings (mult (more t ts)) (mult (if k then more (joint t (first_partner t ts)) (without_partner t ts) else more t (joined ts)))
+    by : KeepsMeanings (mult ts) (mult (joined ts)) → (k : Bool) → has_partner t ts ≡ k
+        → KeepsMeanings (mult (more t ts)) (mult (if k then more (joint t (first_partner t ts)) (without_partner t ts) else more t (joined ts)))
     by go true e =
         KeepsMeanings-trans (permuted_product (permuted_more (partner_first t ts e)))
         (joined_in_product t (first_partner t ts) (joint t (first_partner t ts)) (without_partner t ts) (joint_keeps t (first_partner t ts) (partner_is t ts e)))

@@ -21,10 +21,7 @@ part_counted : (t : Tree) → counted (base_of t) + counted_in (exponent_of t) �
 part_counted (power b e) = by (is_opaque_exponent e)
   where
     inner : (w n : Bool) → (w ≡ true → n ≡ true) → counted b + (if n then 0 else counted e) ≤ (if w then counted b else suc (counted b + counted e))
-    inner true true h = omega arith
-    inner true false h = absurd (let no : false ≡ true = h refl in cc)
-    inner false true h = omega arith
-    inner false false h = omega arith
+    inner w n h = grind arith
 
     by : (k : Bool) → counted (if k then power b e else b) + counted_in (if k then num_one else e) ≤ counted (power b e)
     by true = omega (arith, one_is_free)

@@ -59,7 +59,8 @@ small_exponent : (n : ℕ) (a b : Tree) → are_numbers (more (exponent_of a) (m
 small_exponent n a b d (is_within h) =
     by (is_number (add (more (exponent_of a) (more (exponent_of b) none)))) (sum_is_no_number (exponent_of a) (exponent_of b) (exponent_words a) (exponent_words b)) h
   where
-    by : (k : Bool) → k ≡ false → (if k then nest (base_of a) else max (nest (base_of a)) (suc (max (nest (exponent_of a)) (max (nest (exponent_of b)) 0)))) ≤ n → max (nest (exponent_of a)) (max (nest (exponent_of b)) 0) < n
+    by : (k : Bool) → k ≡ false → (if k then nest (base_of a) else max (nest (base_of a)) (suc (max (nest (exponent_of a)) (max (nest (exponent_of b)) 0)))) ≤ n
+        → max (nest (exponent_of a)) (max (nest (exponent_of b)) 0) < n
     by true e h = cc
     by false e h = omega arith
 small_exponent n a b d (is_over c p q e h) = absurd (no_such_numbers (exponent_of a) (exponent_of b) p q (first_in e) (second_in e) d)
@@ -70,7 +71,8 @@ small_exponent n a b d (is_over c p q e h) = absurd (no_such_numbers (exponent_o
     second_in : {b u v c x y : Tree} → power b (add (more u (more v none))) ≡ power c (add (more x (more y none))) → v ≡ y
     second_in e = cc
 
-pub exponent_bound : (ts : Trees) (t a b : Tree) (at : ℕ) → IsJoined ts t → at < count (children_of t) → nth at (children_of t) ≡ joint a b → are_numbers (more (exponent_of a) (more (exponent_of b) none)) ≡ false
+pub exponent_bound : (ts : Trees) (t a b : Tree) (at : ℕ) → IsJoined ts t → at < count (children_of t) → nth at (children_of t) ≡ joint a b
+    → are_numbers (more (exponent_of a) (more (exponent_of b) none)) ≡ false
     → nest (add (more (exponent_of a) (more (exponent_of b) none))) < nest (mult ts)
 exponent_bound ts t a b at j l e d = small_exponent (nest (mult ts)) a b d (subst (IsSmall (nest (mult ts))) e (small_at (nest (mult ts)) at (children_of t) l (product_small ts t j)))
 

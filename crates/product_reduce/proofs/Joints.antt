@@ -84,7 +84,8 @@ all_within n (more t ts) h = (is_within (omega arith), all_within n ts (omega ar
 pub joint_small : (n : ℕ) (t u : Tree) → nest t ≤ n → nest u ≤ n → IsSmall n (joint t u)
 joint_small n t u h k = by (exponent_words t) (exponent_words u)
   where
-    other : (j : Bool) → nest (exponent_of t) < n → nest (exponent_of u) < n → (if j then nest (base_of t) else max (nest (base_of t)) (suc (max (nest (exponent_of t)) (max (nest (exponent_of u)) 0)))) ≤ n
+    other : (j : Bool) → nest (exponent_of t) < n → nest (exponent_of u) < n
+        → (if j then nest (base_of t) else max (nest (base_of t)) (suc (max (nest (exponent_of t)) (max (nest (exponent_of u)) 0)))) ≤ n
     other true l m = omega (arith, base_nest t, h)
     other false l m = omega (arith, base_nest t, h, l, m)
 
@@ -92,9 +93,11 @@ joint_small n t u h k = by (exponent_words t) (exponent_words u)
     by (is_rational p a) (is_rational q b) = is_over (base_of t) p q (λ i. power (base_of t) (add (more (a i) (more (b i) none)))) (omega (arith, base_nest t, h))
     by (is_other l) (is_other m) = is_within (other (is_number (add (more (exponent_of t) (more (exponent_of u) none)))) (omega (arith, exponent_nest t l, h)) (omega (arith, exponent_nest u m, k)))
     by (is_other l) (is_rational q b) =
-        is_within (other (is_number (add (more (exponent_of t) (more (exponent_of u) none)))) (omega (arith, exponent_nest t l, h)) (let z : nest (exponent_of u) ≡ 0 = ap nest b in omega (arith, z, exponent_nest t l, h)))
+        is_within (other (is_number (add (more (exponent_of t) (more (exponent_of u) none)))) (omega (arith, exponent_nest t l, h)) (let z : nest (exponent_of u) ≡ 0 =
+        ap nest b in omega (arith, z, exponent_nest t l, h)))
     by (is_rational p a) (is_other m) =
-        is_within (other (is_number (add (more (exponent_of t) (more (exponent_of u) none)))) (let z : nest (exponent_of t) ≡ 0 = ap nest a in omega (arith, z, exponent_nest u m, k)) (omega (arith, exponent_nest u m, k)))
+        is_within (other (is_number (add (more (exponent_of t) (more (exponent_of u) none)))) (let z : nest (exponent_of t) ≡ 0 =
+        ap nest a in omega (arith, z, exponent_nest u m, k)) (omega (arith, exponent_nest u m, k)))
 
 pub small_at : (n at : ℕ) (ts : Trees) → at < count ts → AllSmall n ts → IsSmall n (nth at ts)
 small_at n at none l h = absurd (omega arith)
@@ -132,9 +135,7 @@ formed_weight (mult none) (inr h) = absurd h.two
 formed_weight (mult (more t ts)) h = by (is_number (mult (more t ts))) (is_number t) (some_weight t)
   where
     by : (k l : Bool) → 1 ≤ weight t → 2 ≤ (if k then 2 else 1 + (if l then 2 else 0) + ((if l then 0 else weight t) + weight_of_factors ts))
-    by true l m = omega arith
-    by false true m = omega arith
-    by false false m = omega arith
+    by k l m = grind arith
 formed_weight t h = omega arith
 
 base_formed : (t : Tree) → IsFormed t → IsFormed (base_of t)

@@ -59,7 +59,8 @@ permuted_none_is (permuted_trans h k) e = permuted_none_is k (permuted_none_is h
 pub times_written : (c : Tree) (us : Trees) → 1 ≤ count us → with_coefficient c (product_tree us) ≡ coefficient_times c us
 times_written c us l = grind arith
 
-pub ending : (c : Tree) (ts us : Trees) → AreOthers ts → is_number c ≡ true → IsSorting 0 base_of ts us → Permuted ts us → RisesBy base_of us → 1 ≤ count us → IsEnding c ts (with_coefficient c (product_tree us))
+pub ending : (c : Tree) (ts us : Trees) → AreOthers ts → is_number c ≡ true → IsSorting 0 base_of ts us → Permuted ts us → RisesBy base_of us → 1 ≤ count us
+    → IsEnding c ts (with_coefficient c (product_tree us))
 ending c ts us o h s m r l =
     let p = product_tree us in
     let monic = factors_monic us (sorted_factors ts us o m r l) in

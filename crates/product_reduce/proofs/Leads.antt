@@ -1,7 +1,7 @@
 -- A coefficient that stands first as it is written, and factors put in order behind it.
 use Rattle.std.specs.Prelude.{take, Option, MatchOption, is_some}
-use Rattle.std.proofs.Common.{ℕ, zero, suc, ◌+◌, ◌≤◌, ◌≡◌, ◌≢◌, not, Bool, true, false, if◌then◌else◌, refl, sym, ap, ◌∙◌, subst, arith}
-use Rattle.product_reduce.proofs.Shared.{is_number, value, base_of, is_num_one, is_one_add, num_one, product_tree, NoneIs, HasForm, are_reduced, Same-sym, Permuted, permuted_more, Permuted-sym, Same-trans, Agree-Same, surd_times-one, Same-eq, one_fraction, lowest, gcd, Tree, mult, Trees, none, more, append, count, is_add, is_mult, factors_of, with_coefficient, IsNextNumber, NoNumberBetween, IsSorting, list_of, is_zero, removed, nth, AreOthers, IsStop, at_end, IsEnding, AreFactorsHeld, opened, numbers_in, others_in, product_of_values, coefficient_times, IsLead, IsOrdered, have_partners, IsPairAt, IsNextPair, NoPairBetween, no_numbers, count_append, no_numbers_none, no_numbers_others}
+use Rattle.std.proofs.Common.{ℕ, zero, suc, ◌+◌, ◌≤◌, ◌≡◌, ◌≢◌, Bool, true, false, if◌then◌else◌, refl, sym, ap, ◌∙◌, subst, arith}
+use Rattle.product_reduce.proofs.Shared.{is_number, value, base_of, is_num_one, is_one_add, num_one, product_tree, NoneIs, HasForm, are_reduced, Same-sym, Permuted, Permuted-sym, Same-trans, Agree-Same, surd_times-one, Same-eq, one_fraction, lowest, gcd, Tree, mult, Trees, none, more, append, count, is_add, is_mult, factors_of, with_coefficient, IsNextNumber, NoNumberBetween, IsSorting, list_of, is_zero, removed, nth, AreOthers, IsStop, at_end, IsEnding, AreFactorsHeld, opened, numbers_in, others_in, product_of_values, coefficient_times, IsLead, IsOrdered, have_partners, IsPairAt, IsNextPair, NoPairBetween, no_numbers, count_append, no_numbers_none, no_numbers_others}
 use Rattle.product_reduce.proofs.Forms.{AllFormed}
 use Rattle.product_reduce.proofs.Fronts.{one_in_front, other_in_front, single_factor}
 use Rattle.product_reduce.proofs.Gathered.{others_permuted, reduced_permuted}
@@ -37,7 +37,8 @@ some_permuted os none p l = absurd (let e = ap count (permuted_none_is (Permuted
 some_permuted os (more t us) p l = omega arith
 
 -- one that is neither 0, 1 nor a product, before others that are no sum alone
-times_before : (c : Tree) (os us : Trees) → is_zero c ≡ false → is_num_one c ≡ false → is_mult c ≡ false → NoneIs is_mult os → is_one_add os ≡ false → 1 ≤ count os → Permuted os us → coefficient_times c us ≡ product_tree (more c us)
+times_before : (c : Tree) (os us : Trees) → is_zero c ≡ false → is_num_one c ≡ false → is_mult c ≡ false → NoneIs is_mult os → is_one_add os ≡ false → 1 ≤ count os → Permuted os us
+    → coefficient_times c us ≡ product_tree (more c us)
 times_before c os us z o m n d l p = grind (arith, none_permuted, not_one_add)
 
 -- 1 before others
@@ -69,7 +70,8 @@ lead_none ts n l =
       written = λ us s. one_times us;
     }
 
-pub lead_one : (ts : Trees) → IsNextNumber 0 0 ts → NoNumberBetween 1 (count ts) ts → NoneIs is_mult ts → is_zero (nth 0 ts) ≡ false → is_num_one (nth 0 ts) ≡ false → 2 ≤ count ts → is_one_add (removed 0 ts) ≡ false → IsLead 1 (nth 0 ts) ts
+pub lead_one : (ts : Trees) → IsNextNumber 0 0 ts → NoNumberBetween 1 (count ts) ts → NoneIs is_mult ts → is_zero (nth 0 ts) ≡ false → is_num_one (nth 0 ts) ≡ false → 2 ≤ count ts
+    → is_one_add (removed 0 ts) ≡ false → IsLead 1 (nth 0 ts) ts
 lead_one none h n m z o l d = absurd (omega arith)
 lead_one (more c os) h n m z o l d =
     let all = no_numbers os (λ k f x. n (suc k) (omega arith) (omega arith)) in
@@ -135,7 +137,8 @@ put_reduced n c ts us h s r =
     ap are_reduced b.is ∙ reduced_permuted (Permuted-append_right h.lead (permuted_lists (others_in ts) b.vs b.sorted.moved)) (sym (ap are_reduced h.split) ∙ r)
 
 -- where no two behind have one base they are reduced as they stand
-pub put_done : (n : ℕ) (c : Tree) (ts us : Trees) (t : Tree) → AreOthers (others_in ts) → IsLead n c ts → IsSorting n base_of ts us → NoPairBetween n (count us) us → t ≡ product_tree us → IsStop c (others_in ts) t
+pub put_done : (n : ℕ) (c : Tree) (ts us : Trees) (t : Tree) → AreOthers (others_in ts) → IsLead n c ts → IsSorting n base_of ts us → NoPairBetween n (count us) us → t ≡ product_tree us
+    → IsStop c (others_in ts) t
 put_done n c ts us t o h s p e =
     let os = others_in ts in
     let b = behind n c ts us h s in

@@ -11,7 +11,8 @@ use Rattle.tree_handles.specs.declared.fault.NumberFault.TheVariants as fault
 
 -- ---- two Numbers
 
-names_product : (a b : Tree) (o : Overflow) → ((p q : Fraction) → a ≡ num p → b ≡ num q → IsPlainOverflow (calculated mul_op p q) o) → ((is_num a && is_num b) ≡ false → ProductOverflows (value a) (value b) o) → NamesProduct a b o
+names_product : (a b : Tree) (o : Overflow) → ((p q : Fraction) → a ≡ num p → b ≡ num q → IsPlainOverflow (calculated mul_op p q) o)
+    → ((is_num a && is_num b) ≡ false → ProductOverflows (value a) (value b) o) → NamesProduct a b o
 names_product a b o h k = grind arith
 
 pub product_named : (a b : Tree) (new : State) (r : Result ℕ NumberFault) → ((p q : Fraction) → a ≡ num p → b ≡ num q → AnswersRationals (calculated mul_op p q) new r)

@@ -10,7 +10,9 @@ names_of-factors t = grind (arith, within_same, within_both, within_none)
 
 pub names_opened : (ts : Trees) → Within (names_of ts) (names_of (opened ts))
 names_opened none = within_same []
-names_opened (more t ts) = within_trans (within_beside (names t) (names_of (factors_of t)) (names_of ts) (names_of (opened ts)) (names_of-factors t) (names_opened ts)) (within_eq (names_of-append (factors_of t) (opened ts)))
+names_opened (more t ts) =
+    within_trans (within_beside (names t) (names_of (factors_of t)) (names_of ts) (names_of (opened ts)) (names_of-factors t) (names_opened ts))
+    (within_eq (names_of-append (factors_of t) (opened ts)))
 
 pub names_others : (ts : Trees) → Within (names_of ts) (names_of (others_in ts))
 names_others none = within_same []
@@ -47,7 +49,8 @@ pub names_joined : (ts : Trees) → Within (names_of ts) (names_of (joined ts))
 names_joined none = within_same []
 names_joined (more t ts) = by (names_joined ts) (has_partner t ts) refl
   where
-    by : Within (names_of ts) (names_of (joined ts)) → (k : Bool) → has_partner t ts ≡ k → Within (names t ++ names_of ts) (names_of (if k then more (joint t (first_partner t ts)) (without_partner t ts) else more t (joined ts)))
+    by : Within (names_of ts) (names_of (joined ts)) → (k : Bool) → has_partner t ts ≡ k
+        → Within (names t ++ names_of ts) (names_of (if k then more (joint t (first_partner t ts)) (without_partner t ts) else more t (joined ts)))
     by go true e =
         let u = first_partner t ts in
         let rest = names_of (without_partner t ts) in

@@ -19,7 +19,8 @@ values_multiplied : (f : Assignment) → IsAssignment f → (ts : Trees) (v : Su
 values_multiplied f once none v m = none_product f v m
 values_multiplied f once (more t ts) v m = by (values_multiplied f once ts) (is_number t) refl m
   where
-    by : ((u : Surd) → Means (mult (numbers_in ts)) f u → Same u (product_of_values (numbers_in ts))) → (k : Bool) → is_number t ≡ k → Means (mult (if k then more t (numbers_in ts) else numbers_in ts)) f v → Same v (product_of_values (if k then more t (numbers_in ts) else numbers_in ts))
+    by : ((u : Surd) → Means (mult (numbers_in ts)) f u → Same u (product_of_values (numbers_in ts))) → (k : Bool) → is_number t ≡ k
+        → Means (mult (if k then more t (numbers_in ts) else numbers_in ts)) f v → Same v (product_of_values (if k then more t (numbers_in ts) else numbers_in ts))
     by go true e n =
         let p = product_parts f t (numbers_in ts) v n in
         Same-trans p.same (Same-surd_times (number_value f once t p.first (number_words t e) p.first_means) (go p.rest p.rest_means))

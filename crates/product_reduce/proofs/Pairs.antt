@@ -62,7 +62,8 @@ joined_at zero (suc j) (more t ts) h =
     ∙ ap (λ (u : Tree). more (joint t u) (without_partner t ts)) a.is ∙ ap (more (joint t (nth j ts))) a.others
 joined_at (suc i) zero (more t ts) h = absurd (omega (arith, h.pair.order))
 joined_at (suc i) (suc j) (more t ts) h =
-    ap (λ (b : Bool). if b then more (joint t (first_partner t ts)) (without_partner t ts) else more t (joined ts)) (no_partner t ts (λ k l. h.first 0 (omega arith) (suc k) (omega arith) (omega arith)))
+    ap (λ (b : Bool). if b then more (joint t (first_partner t ts)) (without_partner t ts) else more t (joined ts))
+    (no_partner t ts (λ k l. h.first 0 (omega arith) (suc k) (omega arith) (omega arith)))
     ∙ ap (more t) (joined_at i j ts (behind_first i j t ts h))
 
 -- ---- one place more

@@ -1,7 +1,7 @@
 -- A coefficient beside the other factors of a product, and what is made of both.
 use Rattle.std.proofs.Common.{ℕ, ◌≡◌, ◌≤◌, ◌+◌, ◌*◌, ◌^◌, ◌∙◌, Bool, List, length, Result, Err, eqb, true, false, [], ◌∷◌, refl, sym, ap, subst, arith}
 use Rattle.std.specs.Prelude.{IfOk, IfErr, IsErr, IsErrAnd}
-use Rattle.product_reduce.proofs.Shared.{PlainValue, plain_value, IsPlainAnswer, counted, HasPowersOf, SpansTree, SpansTrees, put_room, product_count, counts_one, product_bytes, pow_pos, passed_lacks, result_lacks, Tree, undef, mult, Trees, none, count, is_mult, is_undef, are_rationals, has_undef, size, are_reduced, AnswersRationals, AnswersRationalFactors, AnswersRationalStep, NumberFault, State, free_of, tree_of, children_of, Forest, forest, Stands, KeepsRefusals, IsHanded, Gives, KeepsFront, without_root, behind_first, front_after_one, front_after_two, gives_as, given_told, by_test, overflow_as, passed_on, OfOverflow, Joining, Step, IfDone, IfAgain, IfFinished, IfJoined, AreOthers, IsStop, at_zero, at_end, IsRejoined, IsFinished, IsJoined, IsOrdered, IsGathered, AreFactorsHeld, IsFactorHeld, IsCoefficient, coefficient_times, opened, numbers_in, others_in, MultiplyingOverflows, SpreadingOverflows, multiplying, spreading, IsProduct, Becomes, IsTakenOut, factors_in}
+use Rattle.product_reduce.proofs.Shared.{PlainValue, plain_value, IsPlainAnswer, counted, HasPowersOf, SpansTree, SpansTrees, put_room, product_count, counts_one, product_bytes, pow_pos, passed_lacks, result_lacks, Tree, mult, Trees, none, count, is_mult, are_rationals, has_undef, size, are_reduced, AnswersRationals, AnswersRationalFactors, AnswersRationalStep, NumberFault, State, free_of, tree_of, children_of, Forest, forest, Stands, KeepsRefusals, IsHanded, Gives, KeepsFront, without_root, behind_first, front_after_one, front_after_two, gives_as, given_told, by_test, overflow_as, passed_on, OfOverflow, Joining, Step, IfDone, IfAgain, IfFinished, IfJoined, AreOthers, IsStop, at_zero, at_end, IsRejoined, IsFinished, IsJoined, IsOrdered, IsGathered, AreFactorsHeld, IsFactorHeld, IsCoefficient, coefficient_times, opened, numbers_in, others_in, MultiplyingOverflows, SpreadingOverflows, multiplying, spreading, IsProduct, Becomes, IsTakenOut, factors_in, AreFewBits}
 use Rattle.product_reduce.specs.Misfits.{IsFactorMisfit}
 use Rattle.calc_room.specs.Needs.{product_need}
 use Rattle.tree_handles.proofs.Refused.{refused_as as refused_on}
@@ -35,7 +35,8 @@ pub record AreOpened (i : ℕ) (old mid : State) : Type 0 where
   pub factors : factors_in i (forest mid) ≡ opened (factors_in i (forest old))
   pub free : free_of mid + size (mult (opened (factors_in i (forest old)))) ≡ free_of old + size (tree_of i old)
 
-pub opens : {i : ℕ} {old mid : State} → Stands old → IsHanded i (forest old) → is_mult (tree_of i old) ≡ true → 1 ≤ count (factors_in i (forest old)) → are_reduced (factors_in i (forest old)) ≡ true → has_undef (factors_in i (forest old)) ≡ false
+pub opens : {i : ℕ} {old mid : State} → Stands old → IsHanded i (forest old) → is_mult (tree_of i old) ≡ true → 1 ≤ count (factors_in i (forest old))
+    → are_reduced (factors_in i (forest old)) ≡ true → has_undef (factors_in i (forest old)) ≡ false
     → Stands mid → KeepsRefusals old mid → Becomes i (forest old) (forest mid) (opened (factors_in i (forest old))) → AreOpened i old mid
 opens h k m n r d l p b = grind (arith, becomes_free)
 
@@ -54,10 +55,13 @@ rationals_opened {i = i} {old = old} {mid = mid} P o r k =
 
 pub numbers_overflow : {A : Type 0} {i : ℕ} {old mid : State} (r : Result A NumberFault) (f : NumberFault) → IsErr r → IsErrAnd r (λ x. x ≡ f) → AreOpened i old mid
     → OfOverflow (MultiplyingOverflows (numbers_in (factors_in i (forest mid)))) f → IfErr r (OfOverflow (IsFactorMisfit (factors_in i (forest old))))
-numbers_overflow {i = i} {old = old} r f n e o x = passed_on r f (OfOverflow (IsFactorMisfit (factors_in i (forest old)))) n e (overflow_as f x (λ v m. multiplying (subst (λ (us : Trees). MultiplyingOverflows (numbers_in us) v) o.factors m)))
+numbers_overflow {i =
+    i} {old = old} r f n e o x = passed_on r f (OfOverflow (IsFactorMisfit (factors_in i (forest old)))) n e (overflow_as f x
+    (λ v m. multiplying (subst (λ (us : Trees). MultiplyingOverflows (numbers_in us) v) o.factors m)))
 
-pub numbers_fit : {A : Type 0} {i : ℕ} {old mid : State} (r : Result A NumberFault) (f : NumberFault) (h l : ℕ) → IsErr r → IsErrAnd r (λ x. x ≡ f) → AreOpened i old mid → AreFactorsHeld (factors_in i (forest old)) h l → 2 * h + 4 * l ≤ 124
-    → ((p q : ℕ) → AreFactorsHeld (numbers_in (factors_in i (forest mid))) p q → 2 * p + 4 * q ≤ 124 → OfOverflow (λ v. ⊥) f) → IfErr r (OfOverflow (λ v. ⊥))
+pub numbers_fit : {A : Type 0} {i : ℕ} {old mid : State} (r : Result A NumberFault) (f : NumberFault) (h l : ℕ) → IsErr r → IsErrAnd r (λ x. x ≡ f) → AreOpened i old mid
+    → AreFactorsHeld (factors_in i (forest old)) h l → AreFewBits h l
+    → ((p q : ℕ) → AreFactorsHeld (numbers_in (factors_in i (forest mid))) p q → AreFewBits p q → OfOverflow (λ v. ⊥) f) → IfErr r (OfOverflow (λ v. ⊥))
 numbers_fit {i = i} {old = old} r f h l n e o a few k =
     let s = apart (factors_in i (forest old)) o.reduced o.defined a in
     passed_on r f (OfOverflow (λ v. ⊥)) n e (k s.p s.q (subst (λ (us : Trees). AreFactorsHeld (numbers_in us) s.p s.q) (sym o.factors) s.numbers) (omega (arith, s.high, s.low, few)))
@@ -87,7 +91,8 @@ pub record AreParted (i h : ℕ) (old now : State) : Type 0 where
   pub free : free_of now + size (tree_of h now) + size (mult (factors_in i (forest now))) ≡ free_of old + size (tree_of i old)
   pub front : (new : Forest) → KeepsFront (i ∷ h ∷ []) (forest now) new → KeepsFront (i ∷ []) (forest old) new
 
-pub parted : {i h : ℕ} {old mid now : State} → AreOpened i old mid → Stands now → KeepsRefusals mid now → IsTakenOut i (others_in (factors_in i (forest mid))) (forest mid) (forest now) h (tree_of h now)
+pub parted : {i h : ℕ} {old mid now : State} → AreOpened i old mid → Stands now → KeepsRefusals mid now
+    → IsTakenOut i (others_in (factors_in i (forest mid))) (forest mid) (forest now) h (tree_of h now)
     → IsCoefficient (tree_of h now) (factors_in i (forest mid)) → KeepsFront (i ∷ []) (forest mid) (forest now) → AreParted i h old now
 parted {i = i} {h = h} {old = old} {now = now} o sn k y c f =
     let p = beside_product y.beside y.becomes.product in
@@ -108,26 +113,35 @@ parted {i = i} {h = h} {old = old} {now = now} o sn k y c f =
 
 -- ---- what is made of both is made of the product
 
-pub stop_given : {i h g : ℕ} {old now : State} {new : Forest} → (p : AreParted i h old now) → Gives (without_root i (without_root h (forest now))) new g (IsStop (tree_of h now) (factors_in i (forest now)))
+pub stop_given : {i h g : ℕ} {old now : State} {new : Forest} → (p : AreParted i h old now)
+    → Gives (without_root i (without_root h (forest now))) new g (IsStop (tree_of h now) (factors_in i (forest now)))
     → Gives (without_root i (forest old)) new g (IsFinished (factors_in i (forest old)))
-stop_given {i = i} {h = h} {old = old} {now = now} p x = gives_as x p.rest (λ t e. stopped (tree_of h now) (factors_in i (forest old)) (factors_in i (forest now)) t p.defined p.coefficient p.factors e)
+stop_given {i =
+    i} {h = h} {old = old} {now = now} p x = gives_as x p.rest (λ t e. stopped (tree_of h now) (factors_in i (forest old)) (factors_in i (forest now)) t p.defined p.coefficient p.factors e)
 
-pub rejoin_given : {i h g : ℕ} {old now : State} {new : Forest} → (p : AreParted i h old now) → Gives (without_root i (without_root h (forest now))) new g (IsRejoined (tree_of h now) (factors_in i (forest now)))
+pub rejoin_given : {i h g : ℕ} {old now : State} {new : Forest} → (p : AreParted i h old now)
+    → Gives (without_root i (without_root h (forest now))) new g (IsRejoined (tree_of h now) (factors_in i (forest now)))
     → Gives (without_root i (forest old)) new g (IsJoined (factors_in i (forest old)))
-rejoin_given {i = i} {h = h} {old = old} {now = now} p x = gives_as x p.rest (λ t e. rejoined (tree_of h now) (factors_in i (forest old)) (factors_in i (forest now)) t p.defined p.coefficient p.factors e)
+rejoin_given {i =
+    i} {h = h} {old = old} {now = now} p x = gives_as x p.rest (λ t e. rejoined (tree_of h now) (factors_in i (forest old)) (factors_in i (forest now)) t p.defined p.coefficient p.factors e)
 
-pub gathered_given : {i h g : ℕ} {old now : State} {new : Forest} → (p : AreParted i h old now) → Gives (without_root i (without_root h (forest now))) new g (IsOrdered (tree_of h now) (factors_in i (forest now)))
+pub gathered_given : {i h g : ℕ} {old now : State} {new : Forest} → (p : AreParted i h old now)
+    → Gives (without_root i (without_root h (forest now))) new g (IsOrdered (tree_of h now) (factors_in i (forest now)))
     → Gives (without_root i (forest old)) new g (IsGathered (factors_in i (forest old)))
-gathered_given {i = i} {h = h} {old = old} {now = now} p x = gives_as x p.rest (λ t e. gathered (tree_of h now) (factors_in i (forest old)) (factors_in i (forest now)) t p.reduced p.defined p.coefficient p.factors e)
+gathered_given {i =
+    i} {h = h} {old = old} {now = now} p x = gives_as x p.rest (λ t e. gathered (tree_of h now) (factors_in i (forest old)) (factors_in i (forest now)) t p.reduced p.defined p.coefficient p.factors e)
 
-pub spreading_given : {A : Type 0} {i h : ℕ} {old now : State} (r : Result A NumberFault) → AreParted i h old now → IfErr r (OfOverflow (SpreadingOverflows (tree_of h now) (factors_in i (forest now))))
+pub spreading_given : {A : Type 0} {i h : ℕ} {old now : State} (r : Result A NumberFault) → AreParted i h old now
+    → IfErr r (OfOverflow (SpreadingOverflows (tree_of h now) (factors_in i (forest now))))
     → IfErr r (OfOverflow (IsFactorMisfit (factors_in i (forest old))))
 spreading_given {h = h} {now = now} r p x = refused_on r x (λ o m. spreading (tree_of h now) p.coefficient (subst (λ (ts : Trees). SpreadingOverflows (tree_of h now) ts o) p.factors m))
 
-pub spreading_fits : {A : Type 0} {i h : ℕ} {old now : State} (new : State) (r : Result A NumberFault) (k l : ℕ) → AreParted i h old now → AreFactorsHeld (factors_in i (forest old)) k l → 2 * k + 4 * l ≤ 124
+pub spreading_fits : {A : Type 0} {i h : ℕ} {old now : State} (new : State) (r : Result A NumberFault) (k l : ℕ) → AreParted i h old now → AreFactorsHeld (factors_in i (forest old)) k l
+    → AreFewBits k l
     → IfErr r (OfOverflow (SpreadingOverflows (tree_of h now) (factors_in i (forest now)))) → IfErr r (IsCaused new) → IfErr r (OfOverflow (λ o. ⊥))
 spreading_fits {i = i} {h = h} {old = old} {now = now} new r k l p a few x u =
-    no_spreading r new (factors_in i (forest old)) (tree_of h now) k l p.reduced p.defined a few p.coefficient (refused_on r x (λ o m. subst (λ (ts : Trees). SpreadingOverflows (tree_of h now) ts o) p.factors m)) u
+    no_spreading r new (factors_in i (forest old)) (tree_of h now) k l p.reduced p.defined a few p.coefficient
+    (refused_on r x (λ o m. subst (λ (ts : Trees). SpreadingOverflows (tree_of h now) ts o) p.factors m)) u
 
 pub parted_room : {A : Type 0} {i h : ℕ} {old now : State} (gs : List ℕ) (r : Result A NumberFault) → AreParted i h old now → SpansTree gs (tree_of i old)
     → (SpansTree gs (tree_of h now) → SpansTrees gs (factors_in i (forest now))
@@ -148,13 +162,15 @@ stop_alone : (c : Tree) (ts : Trees) (t : Tree) → ts ≡ none → IsStop c ts 
 stop_alone c ts t e (at_zero z is) = is
 stop_alone c ts t e (at_end z d h) = h.written.is ∙ ap (coefficient_times c) (permuted_none_is (permuted_lists ts h.written.us h.written.sorted.moved) e)
 
-pub answered : {i h : ℕ} {old now : State} (others : Forest) (v : PlainValue) (new : State) (r : Result Joining NumberFault) → AreParted i h old now → are_rationals (factors_in i (forest old)) ≡ true → IsPlainAnswer v (tree_of h now)
+pub answered : {i h : ℕ} {old now : State} (others : Forest) (v : PlainValue) (new : State) (r : Result Joining NumberFault) → AreParted i h old now
+    → are_rationals (factors_in i (forest old)) ≡ true → IsPlainAnswer v (tree_of h now)
     → IfOk r (λ s. IfFinished s (λ g. Gives others (forest new) g (IsStop (tree_of h now) (factors_in i (forest now)))))
     → IfOk r (λ s. IfJoined s (λ g _. Gives others (forest new) g (IsOrdered (tree_of h now) (factors_in i (forest now)))))
     → (factors_in i (forest now) ≡ none → IfErr r (λ f. ⊥)) → AnswersRationalFactors v new r
 answered others v new r p q a d j n = grind (arith, stop_alone, none_beside, given_told)
 
-pub step_answered : {i h : ℕ} {old now : State} (others : Forest) (v : PlainValue) (new : State) (r : Result Step NumberFault) → AreParted i h old now → are_rationals (factors_in i (forest old)) ≡ true → IsPlainAnswer v (tree_of h now)
+pub step_answered : {i h : ℕ} {old now : State} (others : Forest) (v : PlainValue) (new : State) (r : Result Step NumberFault) → AreParted i h old now
+    → are_rationals (factors_in i (forest old)) ≡ true → IsPlainAnswer v (tree_of h now)
     → IfOk r (λ s. IfDone s (λ g. Gives others (forest new) g (IsStop (tree_of h now) (factors_in i (forest now)))))
     → IfOk r (λ s. IfAgain s (λ g. Gives others (forest new) g (IsRejoined (tree_of h now) (factors_in i (forest now)))))
     → (factors_in i (forest now) ≡ none → IfErr r (λ f. ⊥)) → AnswersRationalStep v new r

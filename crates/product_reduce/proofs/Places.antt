@@ -1,6 +1,6 @@
 -- The factors of one tree.
-use Rattle.std.proofs.Common.{arith, ◌≡◌, Bool, true, false}
-use Rattle.product_reduce.proofs.Shared.{factors_of, Tree, none, more, is_mult, children_of}
+use Rattle.std.proofs.Common.{arith, ◌≡◌, Bool}
+use Rattle.product_reduce.proofs.Shared.{factors_of, Tree, is_mult}
 use Rattle.like_children.specs.Opening.{Opens}
 pub use Rattle.coefficients.proofs.Factors.{single_factors as no_product_is}
 pub use Rattle.coefficients.proofs.FirstFactors.{product_children as product_is}

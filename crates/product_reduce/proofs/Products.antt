@@ -42,7 +42,8 @@ becomes_after a b = record { product = b.product; others = b.others ∙ a.others
 -- ---- what the readers see of it
 
 pub product_within : {i : ℕ} {s : State} {ts : Trees} (n : ℕ) → Stands s → IsProduct i (forest s) ts → n < count ts → n < arity (kids_of i (forest s))
-product_within {i = i} {s = s} n st h l = let a = product_arity h in let k : arity (kids_of i (forest s)) ≡ arity (kids (root_tree i (forest s))) = ap arity (kids_of_root i st h.handed.root) in omega (arith, a, k)
+product_within {i =
+    i} {s = s} n st h l = let a = product_arity h in let k : arity (kids_of i (forest s)) ≡ arity (kids (root_tree i (forest s))) = ap arity (kids_of_root i st h.handed.root) in omega (arith, a, k)
 
 pub product_live : {i : ℕ} {f : Forest} {ts : Trees} → IsProduct i f ts → holds i f ≡ true
 product_live {i = i} {f = f} h = root_held i f h.handed.root
@@ -57,7 +58,8 @@ product_children {i = i} st h = ap children_of (plain_root i st h.handed.root �
 pub product_once : {i : ℕ} {s : State} {ts : Trees} (n : ℕ) → Stands s → IsProduct i (forest s) ts → n < count ts → root_count (tree_nth n (kids_of i (forest s))) ≡ 1
 product_once n h k l = grind (arith, kids_of_root, once_count, arity-tree_nth, product_arity, all-tree_nth)
 
-pub becomes_merged : {i : ℕ} {f g : Forest} {ts : Trees} (n : ℕ) → IsProduct i f ts → n < count ts → g ≡ put i (merged_nth n (kids (root_tree i f))) f → Becomes i f g (inserted n (children_of (nth n ts)) (removed n ts))
+pub becomes_merged : {i : ℕ} {f g : Forest} {ts : Trees} (n : ℕ) → IsProduct i f ts → n < count ts → g ≡ put i (merged_nth n (kids (root_tree i f))) f
+    → Becomes i f g (inserted n (children_of (nth n ts)) (removed n ts))
 becomes_merged n h l e = becomes_put h (represents_merged n (rw (product_arity h) l) (product_kids h)) e
 
 pub becomes_as : {i : ℕ} {f g : Forest} {ts us : Trees} → Becomes i f g ts → ts ≡ us → Becomes i f g us

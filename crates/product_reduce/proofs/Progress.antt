@@ -1,7 +1,7 @@
 -- The Numbers among the factors are multiplied from left to right.
 use Rattle.std.specs.Prelude.{Result}
-use Rattle.std.proofs.Common.{ℕ, zero, suc, ◌<◌, ◌≤◌, ◌+◌, ◌*◌, ◌≡◌, true, refl, sym, ap, ◌∙◌, subst, arith}
-use Rattle.product_reduce.proofs.Shared.{and_parts, and_from, one_fraction, lowest, gcd, Tree, mult, Trees, none, more, append, count, is_number, are_numbers, value, are_reduced, num_one, is_reduced, Same, surd_one, surd_times, Same-sym, Same-trans, Agree-Same, surd_times_assoc, surd_times-one, surd_times-surd_one, Same-refl, Same-eq, Same-surd_times, HasFewBits, PlainValue, plain_value, SpansRoot, AnswersTotal, AreJoined, IsNextOf, IsNextNumber, NoNumberBetween, first_of, fold_begun, plain_product, no_numbers, some_number, sizes_taken, append_one, append_none, trees_assoc, count_append, front_numbers, numbers_are, numbers_removed, others_removed, no_numbers_none, parts_taken, State, AnswersRationals, removed, Overflow, nth, NumberFault, AreFactorsHeld, numbers_in, product_of_values, IsCoefficient, NamesProduct, MultiplyingOverflows, IsProductOf, IsBegun}
+use Rattle.std.proofs.Common.{ℕ, zero, suc, ◌<◌, ◌≤◌, ◌≡◌, true, refl, sym, ap, ◌∙◌, subst, arith}
+use Rattle.product_reduce.proofs.Shared.{and_parts, and_from, one_fraction, lowest, gcd, Tree, mult, Trees, none, more, append, count, is_number, are_numbers, value, are_reduced, num_one, is_reduced, Same, surd_one, surd_times, Same-sym, Same-trans, Agree-Same, surd_times_assoc, surd_times-one, surd_times-surd_one, Same-refl, Same-eq, Same-surd_times, HasFewBits, PlainValue, plain_value, SpansRoot, AnswersTotal, AreJoined, IsNextOf, IsNextNumber, NoNumberBetween, first_of, fold_begun, plain_product, no_numbers, some_number, sizes_taken, append_one, append_none, trees_assoc, count_append, front_numbers, numbers_are, numbers_removed, others_removed, no_numbers_none, parts_taken, State, AnswersRationals, removed, Overflow, nth, NumberFault, AreFactorsHeld, numbers_in, product_of_values, IsCoefficient, NamesProduct, MultiplyingOverflows, IsProductOf, IsBegun, AreFewBits}
 use Rattle.product_reduce.proofs.HeldNumbers.{alone_held, front_held, next_held, no_factors_held}
 
 -- ---- the first Number
@@ -97,7 +97,8 @@ next_misfit ts us d b o e =
     record { first = f.first; next = s.next; rest = f.rest; is = f.is; some = f.some; so_far = s.so_far; product = record { number = s.number; worth = f.product.worth }; named = e.1 }
 
 -- where what holds them is little, the next product is held within the bits that calculations have
-pub next_fits : (ts us : Trees) (d : Tree) (h l : ℕ) → IsBegun ts us d → AreFactorsHeld (numbers_in ts) h l → 2 * h + 4 * l ≤ 124 → (s : IsNextOf surd_times d (numbers_in us)) → HasFewBits (surd_times (value s.so_far) (value s.next))
+pub next_fits : (ts us : Trees) (d : Tree) (h l : ℕ) → IsBegun ts us d → AreFactorsHeld (numbers_in ts) h l → AreFewBits h l → (s : IsNextOf surd_times d (numbers_in us))
+    → HasFewBits (surd_times (value s.so_far) (value s.next))
 next_fits ts us d h l b a few s =
     let f = next_factor ts us d b s in
     let whole : numbers_in ts ≡ append (append f.first (more s.next none)) f.rest = f.is ∙ append_one f.first s.next f.rest in

@@ -18,7 +18,8 @@ pub record AreReadied (i c : ℕ) (old now : Forest) : Type 0 where
   pub rising : RisesBy base_of us
 
 -- and so where they stand sorted already
-pub readied_here : {f : Forest} (i c : ℕ) → IsProduct i f (factors_in i f) → IsHanded c f → have_partners (factors_in i f) ≡ false → IsSortedByKey base_of tree_cmp (list_of (factors_in i f)) → AreReadied i c f f
+pub readied_here : {f : Forest} (i c : ℕ) → IsProduct i f (factors_in i f) → IsHanded c f → have_partners (factors_in i f) ≡ false → IsSortedByKey base_of tree_cmp (list_of (factors_in i f))
+    → AreReadied i c f f
 readied_here {f = f} i c p h n o =
     let ts = factors_in i f in
     record {
@@ -68,7 +69,8 @@ pub part_reduced : (i c : ℕ) (old now : Forest) (r : AreReadied i c old now) �
 part_reduced i c old now r o l = (factors_monic r.us (sorted_factors (factors_in i old) r.us o r.permuted r.rising l)).reduced
 
 -- the part stands last, and the coefficient as before
-pub part_given : (i c p : ℕ) (old now f : Forest) (r : AreReadied i c old now) → Gives (without_root i now) f p (λ t. t ≡ product_tree (children_of (plain (root_tree i now)))) → Gives (without_root i now) f p (λ t. t ≡ product_tree r.us)
+pub part_given : (i c p : ℕ) (old now f : Forest) (r : AreReadied i c old now) → Gives (without_root i now) f p (λ t. t ≡ product_tree (children_of (plain (root_tree i now))))
+    → Gives (without_root i now) f p (λ t. t ≡ product_tree r.us)
 part_given i c p old now f r g = gives_as g refl (λ t e. e ∙ ap product_tree (factors_are r.product))
 
 pub put_given : (i c p h : ℕ) (old now f new : Forest) → eqb c i ≡ false → AreOthers (factors_in i old) → is_number (plain (root_tree c old)) ≡ true → (r : AreReadied i c old now) → 1 ≤ count r.us

@@ -93,6 +93,7 @@ pub use Rattle.tree_bits.specs.Children.{ArePositive, AreTreesHeld, IsSumHeld, h
 pub use Rattle.tree_bits.specs.Exponents.{Counts, counts, counts_of}
 pub use Rattle.tree_bits.specs.Factors.{as_factor, distributed}
 pub use Rattle.tree_bits.specs.HeldTrees.{Addend, AreWeighted, IsPartHeld, addend, addend_of, addends, addends_of, base_in, exponent_in, more_weighted, no_factor_held, none_weighted, power_high, power_low}
+pub use Rattle.tree_bits.specs.Rows.{AreFewBits}
 pub use Rattle.tree_bits.specs.Weighted.{AreHeld, Weighted, lows, weighted, weighted_mass}
 pub use Rattle.tree_handles.proofs.Beside.{other_plain}
 pub use Rattle.tree_handles.proofs.Counted.{all-tree_nth, all-without_nth}

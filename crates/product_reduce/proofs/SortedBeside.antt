@@ -24,7 +24,8 @@ pub record AreSorted (i c : ℕ) (old now : State) : Type 0 where
   pub free : free_of now + size (mult (factors_in i (forest now))) ≡ free_of old + size (mult (factors_in i (forest old)))
   pub front : (new : Forest) → KeepsFront (i ∷ c ∷ []) (forest now) new → KeepsFront (i ∷ c ∷ []) (forest old) new
 
-pub sorts : {i c : ℕ} {old now : State} → Stands old → Stands now → KeepsRefusals old now → IsProduct i (forest old) (factors_in i (forest old)) → AreOthers (factors_in i (forest old)) → IsHanded c (forest old) → eqb c i ≡ false
+pub sorts : {i c : ℕ} {old now : State} → Stands old → Stands now → KeepsRefusals old now → IsProduct i (forest old) (factors_in i (forest old)) → AreOthers (factors_in i (forest old))
+    → IsHanded c (forest old) → eqb c i ≡ false
     → SortsFactors i 0 (forest old) (forest now) → AreSorted i c old now
 sorts {i = i} {c = c} {old = old} {now = now} so sn k p o h d s =
     let own = factors_are s.becomes.product in
@@ -46,9 +47,12 @@ pub none_sorted : {i c : ℕ} {old now : State} → AreSorted i c old now → fa
 none_sorted {i = i} {old = old} {now = now} s e = permuted_none_is (permuted_lists (factors_in i (forest old)) (factors_in i (forest now)) s.sorted.moved) e
 
 pub ending_sorted : {i c : ℕ} {old now : State} (t : Tree) → AreSorted i c old now → IsEnding (tree_of c now) (factors_in i (forest now)) t → IsEnding (tree_of c old) (factors_in i (forest old)) t
-ending_sorted {i = i} {c = c} {old = old} {now = now} t s e = ending_before (tree_of c old) (factors_in i (forest old)) (factors_in i (forest now)) t s.sorted (subst (λ (k : Tree). IsEnding k (factors_in i (forest now)) t) s.tree e)
+ending_sorted {i =
+    i} {c = c} {old = old} {now = now} t s e = ending_before (tree_of c old) (factors_in i (forest old)) (factors_in i (forest now)) t s.sorted (subst
+    (λ (k : Tree). IsEnding k (factors_in i (forest now)) t) s.tree e)
 
-pub spreading_sorted : {A : Type 0} {i c : ℕ} {old now : State} (r : Result A NumberFault) → AreSorted i c old now → IfErr r (OfOverflow (SpreadingOverflows (tree_of c now) (factors_in i (forest now))))
+pub spreading_sorted : {A : Type 0} {i c : ℕ} {old now : State} (r : Result A NumberFault) → AreSorted i c old now
+    → IfErr r (OfOverflow (SpreadingOverflows (tree_of c now) (factors_in i (forest now))))
     → IfErr r (OfOverflow (SpreadingOverflows (tree_of c old) (factors_in i (forest old))))
 spreading_sorted r s x = refused_as r x (λ o h. spreading_before _ _ _ _ o s.tree s.sorted h)
 
@@ -57,4 +61,5 @@ pub room_sorted : {A : Type 0} {i c : ℕ} {old now : State} (gs : List ℕ) (r 
     → IfErr r (LacksRoom (counted (mult (factors_in i (forest old)))) (free_of old + size (tree_of c old) + size (mult (factors_in i (forest old)))) gs)
 room_sorted {i = i} {old = old} {now = now} gs r s x k f =
     let room = ap (λ (n : ℕ). put_room n (2 ^ length gs)) (sorted_counted (factors_in i (forest old)) (factors_in i (forest now)) s.sorted) in
-    result_lacks r _ _ (f (subst (SpansTree gs) (sym s.tree) x) (spans_sorted gs (factors_in i (forest old)) (factors_in i (forest now)) s.sorted k)) (λ g l. omega (arith, s.free, ap size s.tree, room, l))
+    result_lacks r _ _ (f (subst (SpansTree gs) (sym s.tree) x) (spans_sorted gs (factors_in i (forest old)) (factors_in i (forest now)) s.sorted k))
+    (λ g l. omega (arith, s.free, ap size s.tree, room, l))

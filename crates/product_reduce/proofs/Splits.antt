@@ -1,6 +1,6 @@
 -- A factor is split into its base and its exponent.
 use Rattle.std.proofs.Common.{ℕ, ◌≡◌, [], ◌∷◌, true, false, refl, sym, ap, ◌∙◌, subst, arith}
-use Rattle.product_reduce.proofs.Shared.{represents_kids, represents_without, removed, is_transparent_power, base_of, num_one, Tree, Trees, none, more, count, nth, plain, children_of, Forest, empty, tree, arity, kids, with_root_kids, tree_nth, without_nth, IsOnce, AllOnce, IsHanded, IsOwned, Represents, Ends, KeepsFront, has_root, root_tree, without_root, put, all-without_nth, arity-without_nth, behind_first, front_same, front_put, front_end, front_without, represents_handed, root-put, kids-put, exponent_of, IsBeside, IsSplit, without_put, by_test}
+use Rattle.product_reduce.proofs.Shared.{represents_kids, represents_without, removed, is_transparent_power, base_of, num_one, Tree, Trees, none, more, count, nth, plain, children_of, Forest, arity, kids, with_root_kids, tree_nth, without_nth, IsOnce, AllOnce, IsHanded, IsOwned, Represents, Ends, KeepsFront, has_root, root_tree, without_root, put, all-without_nth, arity-without_nth, behind_first, front_same, front_put, front_end, front_without, represents_handed, root-put, kids-put, exponent_of, IsBeside, IsSplit, without_put}
 use Rattle.tree_handles.proofs.Plains.{count-plains, children_of-plain}
 use Rattle.product_reduce.proofs.Beside.{beside_as, beside_root, beside_tree, beside_without, taken_beside}
 use Rattle.tree_handles.proofs.Over.{tree_put}
@@ -79,7 +79,8 @@ pub record IsEmptied (i : ℕ) (f g h : Forest) (a b : ℕ) : Type 0 where
   pub split : IsSplit i f (without_root i h) b a
   pub front : KeepsFront (i ∷ []) f (without_root i h)
 
-pub emptied : (i : ℕ) (f g h : Forest) (a b : ℕ) → has_root i f ≡ true → IsHalved i f g a → Ends b (tree_nth 0 (kids (root_tree i g))) (put i (without_nth 0 (kids (root_tree i g))) g) h → IsEmptied i f g h a b
+pub emptied : (i : ℕ) (f g h : Forest) (a b : ℕ) → has_root i f ≡ true → IsHalved i f g a → Ends b (tree_nth 0 (kids (root_tree i g))) (put i (without_nth 0 (kids (root_tree i g))) g) h
+    → IsEmptied i f g h a b
 emptied i f g h a b top x e =
     let one = x.one in
     let n = without_nth 0 (kids (root_tree i g)) in
@@ -97,7 +98,8 @@ emptied i f g h a b top x e =
     }
 
 -- any other factor is its own base, beside a new 1
-pub unsplit : (i : ℕ) (f g : Forest) (a : ℕ) → IsHanded i f → is_transparent_power (plain (root_tree i f)) ≡ false → IsBeside a num_one f g → IsBeside i (plain (root_tree i g)) (without_root i g) g → IsSplit i f g i a
+pub unsplit : (i : ℕ) (f g : Forest) (a : ℕ) → IsHanded i f → is_transparent_power (plain (root_tree i f)) ≡ false → IsBeside a num_one f g
+    → IsBeside i (plain (root_tree i g)) (without_root i g) g → IsSplit i f g i a
 unsplit i f g a h t one self =
     let x = opaque (plain (root_tree i f)) t in
     record {

@@ -1,7 +1,7 @@
 -- Where what holds the factors one by one is little, a coefficient goes into the terms of a sum without an overflow.
 use Rattle.std.proofs.Common.{◌≡◌, ◌≢◌, ◌≤◌, ◌<◌, ◌+◌, ◌*◌, ◌^◌, ℕ, inl, inr, List, [], ◌∷◌, Bool, true, false, not, if◌then◌else◌, Result, refl, sym, ap, ◌∙◌, subst, arith}
 use Rattle.std.specs.Prelude.{IfErr}
-use Rattle.product_reduce.proofs.Shared.{mul-le, pow_pos, gcd, Fraction, lowest, times, zero_fraction, one_fraction, is_zero_fraction, fraction_fits, operation_fits, zero_times, value_of, Tree, num, add, mult, root, Trees, none, more, AllParts, AllPartsOf, has_undef, no_zero, zero_is, is_number, is_radicand, is_term, natural_of, value, term_of, terms_of, IsTerm, AreTerms, HasForm, NoneIs, split, split_product, num_one, number_terms, other_terms, are_reduced, Term, Surd, term, surd_of, surd_times, term_times, term_proper, number_words, term_words, mass, IsHeld, IsMonic, LeadsIn, LeadsTerm, NamesPut, monic_sum, product_form_of, monic_parts, State, Overflow, distributed, Addend, addend, addend_of, addends, addends_of, AreWeighted, more_weighted, IsPartHeld, Weighted, weighted, AreHeld, weighted_mass, lows, OfOverflow, NumberFault, AreOthers, AreFactorsHeld, opened, others_in, IsCoefficient, SpreadingOverflows}
+use Rattle.product_reduce.proofs.Shared.{mul-le, pow_pos, gcd, Fraction, lowest, times, zero_fraction, one_fraction, is_zero_fraction, fraction_fits, operation_fits, zero_times, value_of, Tree, num, add, mult, root, Trees, none, more, AllParts, AllPartsOf, has_undef, no_zero, zero_is, is_number, is_radicand, is_term, natural_of, value, term_of, terms_of, IsTerm, AreTerms, HasForm, NoneIs, split, split_product, num_one, number_terms, other_terms, are_reduced, Term, Surd, term, surd_of, surd_times, term_times, term_proper, number_words, term_words, mass, IsHeld, IsMonic, LeadsIn, LeadsTerm, NamesPut, monic_sum, product_form_of, monic_parts, State, Overflow, distributed, Addend, addend, addend_of, addends, addends_of, AreWeighted, more_weighted, IsPartHeld, Weighted, weighted, AreHeld, weighted_mass, lows, OfOverflow, NumberFault, AreOthers, AreFactorsHeld, opened, others_in, IsCoefficient, SpreadingOverflows, AreFewBits}
 use Rattle.calc_bits.proofs.Parts.{held_left, held_right}
 use Rattle.std.proofs.Math.Nat.{pow-le-pow_right}
 use Rattle.coefficients.specs.Overflows.{Leads}
@@ -144,7 +144,8 @@ zero_fits : fraction_fits zero_fraction ≡ true
 unfolding zero_fraction lowest gcd
 zero_fits = refl
 
-product_fits : (q : Fraction) (us : Trees) (c : Fraction) (h l p i k n : ℕ) → AreOthers (more (add us) none) → IsHeld (value (num q)) p i → IsPartHeld (more (add us) none) k n → p + k ≤ h → i + n ≤ l → 2 * h + 4 * l ≤ 124
+product_fits : (q : Fraction) (us : Trees) (c : Fraction) (h l p i k n : ℕ) → AreOthers (more (add us) none) → IsHeld (value (num q)) p i → IsPartHeld (more (add us) none) k n → p + k ≤ h
+    → i + n ≤ l → AreFewBits h l
     → LeadsIn LeadsTerm c us → fraction_fits (times q c) ≡ true
 product_fits q us c h l p i k n o a b x y few led = by (is_zero_fraction q) refl
   where
@@ -160,7 +161,8 @@ product_fits q us c h l p i k n o a b x y few led = by (is_zero_fraction q) refl
 misfit : (o : Overflow) (q c : Fraction) → o.op ≡ Mul → value_of o.a ≡ q → value_of o.b ≡ c → fraction_fits (times q c) ≡ true → Overflows o → ⊥
 misfit o q c m a b f n = true≢false (sym f ∙ sym (λ i. operation_fits (operation_of (m i)) (a i) (b i)) ∙ n)
 
-none_spreads : (ts : Trees) (e : Tree) (o : Overflow) (h l : ℕ) → are_reduced ts ≡ true → has_undef ts ≡ false → AreFactorsHeld ts h l → 2 * h + 4 * l ≤ 124 → IsCoefficient e (opened ts) → SpreadingOverflows e (others_in (opened ts)) o → Overflows o → ⊥
+none_spreads : (ts : Trees) (e : Tree) (o : Overflow) (h l : ℕ) → are_reduced ts ≡ true → has_undef ts ≡ false → AreFactorsHeld ts h l → AreFewBits h l → IsCoefficient e (opened ts)
+    → SpreadingOverflows e (others_in (opened ts)) o → Overflows o → ⊥
 none_spreads ts e o h l r d a few k x n = by e x.sum x.named (subst AreOthers x.alone (others_are ts r d)) (k.held s.p s.q s.numbers) (subst (λ (us : Trees). IsPartHeld us s.k s.n) x.alone s.others)
   where
     s : AreHeldApart (opened ts) h l
@@ -171,6 +173,6 @@ none_spreads ts e o h l r d a few k x n = by e x.sum x.named (subst AreOthers x.
     by e sum m p v b = absurd m
 
 -- a refusal for it is none
-pub no_spreading : {A : Type 0} (r : Result A NumberFault) (new : State) (ts : Trees) (e : Tree) (h l : ℕ) → are_reduced ts ≡ true → has_undef ts ≡ false → AreFactorsHeld ts h l → 2 * h + 4 * l ≤ 124
+pub no_spreading : {A : Type 0} (r : Result A NumberFault) (new : State) (ts : Trees) (e : Tree) (h l : ℕ) → are_reduced ts ≡ true → has_undef ts ≡ false → AreFactorsHeld ts h l → AreFewBits h l
     → IsCoefficient e (opened ts) → IfErr r (OfOverflow (SpreadingOverflows e (others_in (opened ts)))) → IfErr r (IsCaused new) → IfErr r (OfOverflow (λ o. ⊥))
 no_spreading r new ts e h l k d a m n s p = grind (arith, none_spreads)

@@ -37,7 +37,8 @@ finished_map r p f = grind arith
 pub joined_map : {P Q : ℕ → ℕ → Type 0} (r : Result Joining NumberFault) → IfOk r (λ s. IfJoined s P) → ((h at : ℕ) → P h at → Q h at) → IfOk r (λ s. IfJoined s Q)
 joined_map r p f = grind arith
 
-pub both_map : {P : ℕ → Type 0} {Q : ℕ → ℕ → Type 0} {R : ℕ → Type 0} (r : Result Joining NumberFault) → IfOk r (λ s. IfFinished s P) → IfOk r (λ s. IfJoined s Q) → ((h : ℕ) → P h → R h) → ((h at : ℕ) → Q h at → R h)
+pub both_map : {P : ℕ → Type 0} {Q : ℕ → ℕ → Type 0} {R : ℕ → Type 0} (r : Result Joining NumberFault) → IfOk r (λ s. IfFinished s P) → IfOk r (λ s. IfJoined s Q) → ((h : ℕ) → P h → R h)
+    → ((h at : ℕ) → Q h at → R h)
     → IfOk r (λ s. IfGathered s R)
 both_map r p q f g = grind arith
 

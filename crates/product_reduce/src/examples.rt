@@ -6,6 +6,7 @@ ghost use Rattle.product_reduce.specs.Factors.{opened, others_in, coefficient_be
 ghost use Rattle.product_reduce.specs.Joining.{have_partners, joined};
 
 /// The first factor that has a partner is joined with the first of its partners.
+#[tactic(auto, unfolding(calc_algebra::specs::Numbers::is_number, calc_algebra::specs::Clean::is_clean, calc_algebra::specs::Clean::left_of, calc_algebra::specs::SquareRoots::square_root, calc_terms::specs::Gcd::gcd, calc_terms::specs::Fractions::lowest, calc_terms::specs::Fractions::one_fraction, calc_terms::specs::Fractions::zero_fraction))]
 pub fn factors_joined()
     ensures a_symbol_twice { joined (two x x) ≡ more (power x (sum (whole_num 1) (whole_num 1))) none }
     ensures opposite_powers { joined (two (power x (whole_num 2)) (power x (ratio (negsuc 1) 1)))
@@ -16,6 +17,7 @@ pub fn factors_joined()
 {}
 
 /// How a coefficient stands before other factors.
+#[tactic(auto, unfolding(calc_algebra::specs::Numbers::is_number, calc_algebra::specs::Clean::is_clean, calc_algebra::specs::Clean::left_of, calc_algebra::specs::SquareRoots::square_root, calc_terms::specs::Gcd::gcd, calc_terms::specs::Fractions::lowest, calc_terms::specs::Fractions::one_fraction, calc_terms::specs::Fractions::zero_fraction))]
 pub fn coefficients_in_front()
     ensures one { coefficient_before (whole_num 1) (two x y) ≡ two x y }
     ensures a_rational { coefficient_before (whole_num 2) (two x y) ≡ three (whole_num 2) x y }
@@ -26,6 +28,7 @@ pub fn coefficients_in_front()
 {}
 
 /// A coefficient times other factors as one tree.
+#[tactic(auto, unfolding(calc_algebra::specs::Numbers::is_number, calc_algebra::specs::Clean::is_clean, calc_algebra::specs::Clean::left_of, calc_algebra::specs::SquareRoots::square_root, calc_terms::specs::Gcd::gcd, calc_terms::specs::Fractions::lowest, calc_terms::specs::Fractions::one_fraction, calc_terms::specs::Fractions::zero_fraction, calc_terms::specs::Fractions::times))]
 pub fn coefficients_times_factors()
     ensures alone { coefficient_times (whole_num 6) none ≡ whole_num 6 }
     ensures one_is_left_out { coefficient_times (whole_num 1) (more x none) ≡ x }
@@ -37,6 +40,7 @@ pub fn coefficients_times_factors()
 {}
 
 /// Products among the factors are opened, and their Numbers are none of the others.
+#[tactic(auto, unfolding(calc_algebra::specs::Numbers::is_number, calc_algebra::specs::Clean::is_clean, calc_algebra::specs::Clean::left_of, calc_algebra::specs::SquareRoots::square_root, calc_terms::specs::Gcd::gcd, calc_terms::specs::Fractions::lowest, calc_terms::specs::Fractions::one_fraction, calc_terms::specs::Fractions::zero_fraction))]
 pub fn products_opened()
     ensures factors { opened (two (product (whole_num 2) x) (product (whole_num 3) y))
         ≡ more (whole_num 2) (three x (whole_num 3) y) }

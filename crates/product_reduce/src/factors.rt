@@ -68,6 +68,7 @@ impl Opens for Products {
 
     ghost can_tell = { λ t. ⊤ };
 
+    #[tactic(auto, using(crate::proofs::Places::product_opens))]
     fn opens(&self, pool: &Pool, id: Id) -> bool {
         is_product(pool, id)
     }

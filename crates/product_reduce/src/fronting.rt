@@ -16,6 +16,7 @@ use node_pool::{Id, Pool};
 use tree_handles::{Handle, add_child, kind, merge_children, rational, release};
 
 /// Whether the tree is the rational 1.
+#[tactic(auto, using(rational128::proofs::LowestTerms::ratio_parts, crate::proofs::Ones::one_over_one, crate::proofs::Ones::whole_over_one, crate::proofs::Ones::not_over_one))]
 pub fn is_one(pool: &Pool, id: Id) -> bool
     requires stands { Stands pool.now }
     requires expression { IsExpression id (forest pool.now) }
@@ -31,6 +32,7 @@ pub fn is_one(pool: &Pool, id: Id) -> bool
 }
 
 /// Puts a coefficient before the factors of a product: 1 is left out, and one of a single class is spliced.
+#[tactic(auto, using(crate::proofs::Products::product_live))]
 pub fn put_in_front(pool: &mut Pool, product: &Handle, coefficient: Handle)
     requires stands { Stands pool.old }
     requires product { IsProduct product.now (forest pool.old) (factors_in product.now (forest pool.old)) }

@@ -1,5 +1,6 @@
 //! Numbers of a product gathered, its other factors put in order, and neighbours of one base joined.
 ghost use Rattle.std.specs.Prelude.{ℕ, List, length, ◌≡◌, ◌==◌, ◌≤◌, ◌<◌, ◌+◌, ◌*◌, ◌^◌, true, false, IfOk, IfErr, IfSome, MatchOption, OnOk, [], ◌∷◌};
+ghost use Rattle.tree_bits.specs.Rows.{AreFewBits};
 ghost use Rattle.calc_algebra.specs.Numbers.{is_number};
 ghost use Rattle.calc_algebra.specs.Reduced.{are_reduced};
 ghost use Rattle.calc_measures.specs.PlainValues.{plain_value};
@@ -50,6 +51,7 @@ pub enum Joining {
 
 /// A product of reduced factors with its Numbers as one coefficient and its other factors in the order of their bases,
 /// and the place of the first that has the base of the next one; where there is none, the reduced tree.
+#[tactic(auto, using(crate::proofs::Stepped::handed_product, tree_handles::proofs::Given::given_told))]
 pub fn gather_factors(pool: &mut Pool, product: Handle) -> Result<Joining, NumberFault>
     requires stands { Stands pool.old }
     requires handed { IsHanded product (forest pool.old) }
@@ -92,8 +94,7 @@ pub fn gather_factors(pool: &mut Pool, product: Handle) -> Result<Joining, Numbe
         → IfOk result (λ s. IfFinished s (λ r. IsFactorHeld (tree_of r pool.new) h l)) }
     ensures factors_held { (h l : ℕ) → has_undef (children_of (tree_of product pool.old)) ≡ false → AreFactorsHeld (children_of (tree_of product pool.old)) h l
         → IfOk result (λ s. IfJoined s (λ r _. AreFactorsHeld (children_of (tree_of r pool.new)) h l)) }
-    ensures bits { (h l : ℕ) → AreFactorsHeld (children_of (tree_of product pool.old)) h l → 2 * h + 4 * l ≤ 124
-        → IfErr result (OfOverflow (λ o. ⊥)) }
+    ensures bits { (h l : ℕ) → AreFactorsHeld (children_of (tree_of product pool.old)) h l → AreFewBits h l → IfErr result (OfOverflow (λ o. ⊥)) }
 
     ensures stands { Stands pool.new }
 {
@@ -109,6 +110,7 @@ pub fn gather_factors(pool: &mut Pool, product: Handle) -> Result<Joining, Numbe
 }
 
 /// The factors behind a coefficient that stands first as it is written, put in order.
+#[tactic(auto, using(crate::proofs::Leads::lead_within, tree_handles::proofs::Lasts::last_tree, tree_handles::proofs::Fronts::front_end, tree_handles::proofs::Fronts::front_without, tree_handles::proofs::Fronts::behind_first, tree_handles::proofs::Fronts::front_after_one, tree_handles::proofs::Fronts::front_same))]
 fn order_behind(pool: &mut Pool, product: Handle, lead: u16) -> Joining
     requires stands { Stands pool.old }
     requires product { IsProduct product (forest pool.old) (factors_in product (forest pool.old)) }
@@ -178,6 +180,7 @@ fn order_or_end(
 }
 
 /// The factors of a product behind a coefficient, and where a pair of them stands then.
+#[tactic(auto, using(crate::proofs::Products::factors_are, crate::proofs::JointPlaces::count_before, tree_handles::proofs::Lasts::last_tree, crate::proofs::Neighbours::pair_before))]
 fn behind(pool: &mut Pool, product: Handle, coefficient: Handle, first: u16) -> (Handle, u16)
     requires stands { Stands pool.old }
     requires product { IsProduct product (forest pool.old) (factors_in product (forest pool.old)) }
@@ -200,6 +203,7 @@ fn behind(pool: &mut Pool, product: Handle, coefficient: Handle, first: u16) -> 
 }
 
 /// The pair at a place joined: its base to the sum of the two exponents stands there. That power alone is not reduced yet.
+#[tactic(auto, using(crate::proofs::Stepped::handed_product, tree_handles::proofs::Lasts::ends_as, tree_handles::proofs::Given::represents_handed, tree_handles::proofs::Fronts::front_end, tree_handles::proofs::Fronts::front_without, tree_handles::proofs::Fronts::behind_first))]
 pub fn join_neighbours(pool: &mut Pool, product: Handle, at: u16) -> Result<Handle, Full>
     requires stands { Stands pool.old }
     requires handed { IsHanded product (forest pool.old) }
@@ -225,6 +229,7 @@ pub fn join_neighbours(pool: &mut Pool, product: Handle, at: u16) -> Result<Hand
 }
 
 /// The first place from one on where a product of reduced factors has a pair.
+#[tactic(auto, using(crate::proofs::Finished::reduced_nth))]
 pub fn next_pair(pool: &Pool, product: &Handle, from: u16) -> Option<u16>
     requires stands { Stands pool.now }
     requires handed { IsHanded product.now (forest pool.now) }

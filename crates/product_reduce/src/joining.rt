@@ -66,6 +66,7 @@ fn take_exponent(pool: &mut Pool, product: &Handle, at: u16) -> Result<Handle, F
 }
 
 /// The base of a factor to its exponent and another one added.
+#[tactic(auto, using(tree_handles::proofs::Fronts::front_after_two, crate::proofs::Beside::behind_clear, tree_handles::proofs::Fronts::front_without, tree_handles::proofs::Fronts::behind_first, tree_handles::proofs::Fronts::front_same, tree_handles::proofs::Fronts::behind_later, tree_handles::proofs::Fronts::front_after_one, tree_handles::proofs::Given::given_handed))]
 fn raise(pool: &mut Pool, factor: Handle, exponent: Handle) -> Result<Handle, Full>
     requires stands { Stands pool.old }
     requires first { IsHanded factor (forest pool.old) }

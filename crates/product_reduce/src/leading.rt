@@ -28,6 +28,7 @@ fn is_zero_or_one(pool: &Pool, id: Id) -> bool
 }
 
 /// Whether a sum is the only factor behind the first.
+#[tactic(auto, using(crate::proofs::Leads::one_add_behind, crate::proofs::Leads::more_behind))]
 fn leads_only_a_sum(pool: &Pool, product: &Handle) -> bool
     requires stands { Stands pool.now }
     requires product { IsProduct product.now (forest pool.now) (factors_in product.now (forest pool.now)) }
@@ -38,6 +39,7 @@ fn leads_only_a_sum(pool: &Pool, product: &Handle) -> bool
 
 /// Whether a Number that stands first is the coefficient of all factors as it is written before the others: these have none,
 /// it is neither 0 nor 1, and it is not spread over a sum.
+#[tactic(auto, using(crate::proofs::Finished::reduced_nth, crate::proofs::Leads::lead_one, crate::proofs::Leads::none_found, crate::proofs::Leads::off))]
 fn is_written_first(pool: &Pool, product: &Handle) -> bool
     requires stands { Stands pool.now }
     requires product { IsProduct product.now (forest pool.now) (factors_in product.now (forest pool.now)) }
@@ -57,6 +59,7 @@ fn is_written_first(pool: &Pool, product: &Handle) -> bool
 
 /// How many of the first factors are the coefficient of all as it is written before the others: none where no factor is a
 /// Number, or one that stands there already. None where Numbers have to be moved or multiplied.
+#[tactic(auto, using(crate::proofs::Finished::reduced_nth, crate::proofs::Leads::lead_none))]
 pub fn written_lead(pool: &Pool, product: &Handle) -> Option<u16>
     requires stands { Stands pool.now }
     requires product { IsProduct product.now (forest pool.now) (factors_in product.now (forest pool.now)) }

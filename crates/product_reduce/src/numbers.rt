@@ -1,5 +1,6 @@
 //! The Numbers among the factors, multiplied from left to right.
 ghost use Rattle.std.specs.Prelude.{ℕ, List, length, ◌≡◌, ◌<◌, ◌≤◌, ◌+◌, ◌*◌, ◌^◌, true, IfOk, IfErr, OnOk, [], ◌∷◌};
+ghost use Rattle.tree_bits.specs.Rows.{AreFewBits};
 ghost use Rattle.calc_algebra.specs.Reduced.{are_reduced};
 ghost use Rattle.calc_terms.specs.Trees.{are_rationals, mult, count};
 ghost use Rattle.calc_measures.specs.PlainValues.{plain_value};
@@ -26,6 +27,7 @@ use number_forms::multiply_numbers;
 use tree_handles::{Handle, NumberFault, take_child};
 
 /// Takes the first Number among the factors out of a product; 1 where there is none.
+#[tactic(auto, using(like_children::proofs::Many::child_within, like_children::proofs::Many::many, tree_handles::proofs::Fronts::front_end, tree_handles::proofs::Fronts::front_put, tree_handles::proofs::Fronts::behind_first, tree_handles::proofs::Fronts::front_same, crate::proofs::Finished::reduced_nth))]
 fn take_first_number(pool: &mut Pool, product: &Handle) -> Result<Handle, Full>
     requires stands { Stands pool.old }
     requires product { IsProduct product.now (forest pool.old) (factors_in product.now (forest pool.old)) }
@@ -62,12 +64,14 @@ impl Joins for Multiplying {
 
     ghost need = { product_need };
 
+    #[tactic(auto, using(like_children::proofs::SoFar::joint_given, crate::proofs::Misfits::product_named))]
     fn join(&self, pool: &mut Pool, a: Handle, b: Handle) -> Result<Handle, NumberFault> {
         multiply_numbers(pool, a, b)
     }
 }
 
 /// Takes the Numbers among the factors out of a product, multiplied from left to right; 1 where there is none.
+#[tactic(auto, using(crate::proofs::Misfits::none_named))]
 pub fn take_coefficient(pool: &mut Pool, product: &Handle) -> Result<Handle, NumberFault>
     requires stands { Stands pool.old }
     requires product { IsProduct product.now (forest pool.old) (factors_in product.now (forest pool.old)) }
@@ -78,8 +82,7 @@ pub fn take_coefficient(pool: &mut Pool, product: &Handle) -> Result<Handle, Num
     ensures rationals { let ts = factors_in product.now (forest pool.old) in
         are_rationals ts ≡ true → 1 ≤ count ts → AnswersRationals (plain_value (mult ts)) pool.new result }
     ensures overflow { IfErr result (OfOverflow (MultiplyingOverflows (numbers_in (factors_in product.now (forest pool.old))))) }
-    ensures bits { (h l : ℕ) → AreFactorsHeld (numbers_in (factors_in product.now (forest pool.old))) h l → 2 * h + 4 * l ≤ 124
-        → IfErr result (OfOverflow (λ o. ⊥)) }
+    ensures bits { (h l : ℕ) → AreFactorsHeld (numbers_in (factors_in product.now (forest pool.old))) h l → AreFewBits h l → IfErr result (OfOverflow (λ o. ⊥)) }
     ensures room { (gs : List ℕ) → SpansTrees gs (factors_in product.now (forest pool.old))
         → IfErr result (LacksBelow (product_need * 2 ^ length gs) (free_of pool.old)) }
     ensures front { KeepsFront (product.now ∷ []) (forest pool.old) (forest pool.new) }

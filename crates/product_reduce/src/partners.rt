@@ -13,6 +13,7 @@ use number_forms::{is_reduced_number, whole};
 use tree_handles::{child_id, kind};
 
 /// Whether the tree is a power whose exponent is no Number, or is whole.
+#[tactic(auto, using(crate::proofs::Finished::reduced_exponent))]
 pub fn is_transparent_power(pool: &Pool, id: Id) -> bool
     requires stands { Stands pool.now }
     requires expression { IsExpression id (forest pool.now) }
@@ -26,6 +27,7 @@ pub fn is_transparent_power(pool: &Pool, id: Id) -> bool
 }
 
 /// Whether the tree is no Number, or is whole.
+#[tactic(auto, using(crate::proofs::Finished::opaque_unless_whole))]
 fn is_transparent_exponent(pool: &Pool, id: Id) -> bool
     requires stands { Stands pool.now }
     requires expression { IsExpression id (forest pool.now) }

@@ -52,6 +52,7 @@ impl Likes for Bases {
 }
 
 /// Puts the factors of a product from a place on in the order of their bases.
+#[tactic(auto, using(crate::proofs::Products::product_kids, crate::proofs::Finished::reduced_nth, crate::proofs::Products::product_arity))]
 pub fn sort_factors(pool: &mut Pool, product: &Handle, from: u16)
     requires stands { Stands pool.old }
     requires product { IsProduct product.now (forest pool.old) (factors_in product.now (forest pool.old)) }

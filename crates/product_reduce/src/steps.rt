@@ -1,5 +1,6 @@
 //! One step on a product of reduced factors, by itself: what only it needs stands here.
 ghost use Rattle.std.specs.Prelude.{ℕ, List, length, ◌≡◌, ◌==◌, ◌≤◌, ◌+◌, ◌*◌, ◌^◌, true, false, IfOk, IfErr, OnOk, [], ◌∷◌, ◌<◌, MatchOption};
+ghost use Rattle.tree_bits.specs.Rows.{AreFewBits};
 ghost use Rattle.calc_algebra.specs.Numbers.{is_number};
 ghost use Rattle.calc_measures.specs.PlainValues.{plain_value};
 ghost use Rattle.calc_room.specs.Counts.{counted};
@@ -44,6 +45,7 @@ use tree_handles::{Handle, NumberFault, move_last, undefined};
 
 /// One step on a product of reduced factors: the reduced tree, or the product with the first factor
 /// that has a partner joined with the first of its partners.
+#[tactic(auto, using(crate::proofs::Stepped::handed_product, tree_handles::proofs::Given::given_told))]
 pub fn product_step(pool: &mut Pool, product: Handle) -> Result<Step, NumberFault>
     requires stands { Stands pool.old }
     requires handed { IsHanded product (forest pool.old) }
@@ -78,8 +80,7 @@ pub fn product_step(pool: &mut Pool, product: Handle) -> Result<Step, NumberFaul
     // What holds the factors one by one holds a reduced tree, as a factor. Nothing overflows where these bits are few.
     ensures held { (h l : ℕ) → has_undef (children_of (tree_of product pool.old)) ≡ false → AreFactorsHeld (children_of (tree_of product pool.old)) h l
         → IfOk result (λ s. IfDone s (λ r. IsFactorHeld (tree_of r pool.new) h l)) }
-    ensures bits { (h l : ℕ) → AreFactorsHeld (children_of (tree_of product pool.old)) h l → 2 * h + 4 * l ≤ 124
-        → IfErr result (OfOverflow (λ o. ⊥)) }
+    ensures bits { (h l : ℕ) → AreFactorsHeld (children_of (tree_of product pool.old)) h l → AreFewBits h l → IfErr result (OfOverflow (λ o. ⊥)) }
 
     ensures stands { Stands pool.new }
 {
@@ -92,6 +93,7 @@ pub fn product_step(pool: &mut Pool, product: Handle) -> Result<Step, NumberFaul
 }
 
 /// A step on a coefficient and the other factors.
+#[tactic(auto, using(crate::proofs::Misfits::none_named, tree_handles::proofs::Outcomes::passed_on, coefficients::proofs::Lacks::refusal_lacks, crate::proofs::FreeBytes::pair_lacks))]
 fn join_or_end(pool: &mut Pool, product: Handle, coefficient: Handle) -> Result<Step, NumberFault>
     requires stands { Stands pool.old }
     requires product { IsProduct product (forest pool.old) (factors_in product (forest pool.old)) }
@@ -128,6 +130,7 @@ fn join_or_end(pool: &mut Pool, product: Handle, coefficient: Handle) -> Result<
 }
 
 /// Whether the factors at two places have identical bases.
+#[tactic(auto, using(crate::proofs::Finished::reduced_nth))]
 fn are_partners(pool: &Pool, product: &Handle, first: u16, second: u16) -> bool
     requires stands { Stands pool.now }
     requires product { IsProduct product.now (forest pool.now) (factors_in product.now (forest pool.now)) }
@@ -142,6 +145,7 @@ fn are_partners(pool: &Pool, product: &Handle, first: u16, second: u16) -> bool
 }
 
 /// The first factor behind a place that has the base of the one there.
+#[tactic(auto, using(crate::proofs::Pairs::no_partner_more))]
 fn partner_of(pool: &Pool, product: &Handle, first: u16) -> Option<u16>
     requires stands { Stands pool.now }
     requires product { IsProduct product.now (forest pool.now) (factors_in product.now (forest pool.now)) }
@@ -176,6 +180,7 @@ fn first_pair(pool: &Pool, product: &Handle) -> Option<(u16, u16)>
 }
 
 /// The first pair joined with the coefficient in front.
+#[tactic(auto, using(tree_handles::proofs::Fronts::front_after_one, tree_handles::proofs::Fronts::behind_first, tree_handles::proofs::Fronts::front_same))]
 fn joined(
     pool: &mut Pool,
     product: Handle,

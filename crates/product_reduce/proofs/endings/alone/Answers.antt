@@ -12,4 +12,5 @@ pub returns-clause-ok : goal.returns-clause-ok
 returns-clause-ok c = grind (arith, eqb-sym, owned, ends_as, without-swap, represents_handed, handed_beside, tree-without)
 
 pub returns-clause-front : goal.returns-clause-front
-returns-clause-front c = front_end c.move_last.ensures.last (front_without (behind_later behind_first) (front_at (front_without behind_first front_same) (c.release.ensures.owned (owned c.requires.product))))
+returns-clause-front c =
+    front_end c.move_last.ensures.last (front_without (behind_later behind_first) (front_at (front_without behind_first front_same) (c.release.ensures.owned (owned c.requires.product))))

@@ -10,4 +10,5 @@ pub returns-clause-expression : goal.returns-clause-expression
 returns-clause-expression c = c.child_id.ensures.expression (rw c.id.ensures (product_expression c.requires.stands c.requires.product))
 
 pub returns-clause-tree : goal.returns-clause-tree
-returns-clause-tree c = rw c.id.ensures at c.child_id.ensures.plain (product_expression c.requires.stands c.requires.product) ∙ ap (nth c.args.at) (product_children c.requires.stands c.requires.product)
+returns-clause-tree c =
+    rw c.id.ensures at c.child_id.ensures.plain (product_expression c.requires.stands c.requires.product) ∙ ap (nth c.args.at) (product_children c.requires.stands c.requires.product)

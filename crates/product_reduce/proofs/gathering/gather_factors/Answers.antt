@@ -8,18 +8,14 @@ use Rattle.product_reduce.proofs.GatheredParts.{gathered_powers, spans_factors, 
 use Rattle.product_reduce.proofs.HeldProducts.{gathered_held}
 use Rattle.product_reduce.proofs.Leads.{opened_some}
 use Rattle.product_reduce.proofs.Parted.{IsWithin, AreOpened, AreParted, opens, parted, reduced_now, rationals_opened, numbers_overflow, numbers_fit, numbers_room, stop_given, gathered_given, spreading_given, spreading_fits, parted_room, answered, refused, within}
-use Rattle.product_reduce.proofs.Stepped.{handed_product, mult_words, others_are, finished_map, joined_map, both_map, none_beside}
+use Rattle.product_reduce.proofs.Stepped.{mult_words, others_are, finished_map, joined_map, both_map, none_beside}
 use Rattle.product_reduce.proofs.gathering.gather_factors.Goals.{After-has_undef_factor, After-open_products, In_ok-coefficient}
 use Rattle.product_reduce.proofs.gathering.gather_factors.Goals as goal
 
-pub has_undef_factor-requires-clause-product : goal.has_undef_factor-requires-clause-product
-has_undef_factor-requires-clause-product c = handed_product c.requires.handed c.requires.product
-
-pub open_products-requires-clause-product : goal.open_products-requires-clause-product
-open_products-requires-clause-product c = handed_product c.requires.handed c.requires.product
-
 opened_now : (c : After-open_products) → AreOpened c.args.product c.args.pool.now c.open_products.new.pool
-opened_now c = opens c.requires.stands c.requires.handed c.requires.product c.requires.some c.requires.reduced (sym c.has_undef_factor.ensures ∙ c.if-has_undef_factor.false) c.open_products.ensures.stands c.open_products.ensures.kept c.open_products.ensures.opened
+opened_now c =
+    opens c.requires.stands c.requires.handed c.requires.product c.requires.some c.requires.reduced
+    (sym c.has_undef_factor.ensures ∙ c.if-has_undef_factor.false) c.open_products.ensures.stands c.open_products.ensures.kept c.open_products.ensures.opened
 
 parts : (c : In_ok-coefficient) → AreParted c.args.product c.in_ok-coefficient.coefficient c.args.pool.now c.take_coefficient.new.pool
 parts c =
@@ -27,7 +23,8 @@ parts c =
     parted o c.take_coefficient.ensures.stands c.in_ok-coefficient.ensures.kept c.in_ok-coefficient.ensures.taken c.in_ok-coefficient.ensures.coefficient c.take_coefficient.ensures.front
 
 -- what is finished counts no more than the product, and is spanned and held by what spans and holds that
-no_more : (c : After-has_undef_factor) {h : ℕ} {others new : Forest} → Gives others new h (IsFinished (factors_in c.args.product (forest c.args.pool.now))) → IsWithin (tree_of c.args.product c.args.pool.now) (plain (root_tree h new))
+no_more : (c : After-has_undef_factor) {h : ℕ} {others new : Forest} → Gives others new h (IsFinished (factors_in c.args.product (forest c.args.pool.now)))
+    → IsWithin (tree_of c.args.product c.args.pool.now) (plain (root_tree h new))
 no_more c x = within (tree_of c.args.product c.args.pool.now) c.requires.product c.requires.reduced (given_told x)
 
 -- ---- a factor is Undef
@@ -38,7 +35,8 @@ returns-then-has_undef_factor-clause-done c =
     gives_as c.undefined.ensures.gives refl (λ t e. subst (IsFinished ts) (sym e) (undef_finished ts (sym c.has_undef_factor.ensures ∙ c.if-has_undef_factor.true)))
 
 pub returns-then-has_undef_factor-clause-rationals : goal.returns-then-has_undef_factor-clause-rationals
-returns-then-has_undef_factor-clause-rationals c = λ r. absurd (let no : true ≡ false = sym c.if-has_undef_factor.true ∙ c.has_undef_factor.ensures ∙ rationals_defined (factors_in c.args.product (forest c.args.pool.now)) r in cc)
+returns-then-has_undef_factor-clause-rationals c =
+    λ r. absurd (let no : true ≡ false = sym c.if-has_undef_factor.true ∙ c.has_undef_factor.ensures ∙ rationals_defined (factors_in c.args.product (forest c.args.pool.now)) r in cc)
 
 pub returns-then-has_undef_factor-clause-counted : goal.returns-then-has_undef_factor-clause-counted
 returns-then-has_undef_factor-clause-counted c = (no_more (goal.at.returns-then-has_undef_factor-clause-counted c).After-has_undef_factor (returns-then-has_undef_factor-clause-done c)).counted
@@ -81,7 +79,8 @@ pub returns-in-Some-clause-rationals : goal.returns-in-Some-clause-rationals
 returns-in-Some-clause-rationals c = grind (arith, opened_now, none_beside)
 
 pub returns-in-Some-clause-counted : goal.returns-in-Some-clause-counted
-returns-in-Some-clause-counted c = finished_map (Ok c.order_behind.result) (returns-in-Some-clause-done c) (λ h x. (no_more (goal.at.returns-in-Some-clause-counted c).After-has_undef_factor x).counted)
+returns-in-Some-clause-counted c =
+    finished_map (Ok c.order_behind.result) (returns-in-Some-clause-done c) (λ h x. (no_more (goal.at.returns-in-Some-clause-counted c).After-has_undef_factor x).counted)
 
 pub returns-in-Some-clause-counted_among : goal.returns-in-Some-clause-counted_among
 returns-in-Some-clause-counted_among c = joined_map (Ok c.order_behind.result) (returns-in-Some-clause-gathered c) (λ h at x. gathered_counted _ _ (given_told x))
@@ -91,15 +90,18 @@ returns-in-Some-clause-few_numbers c = joined_map (Ok c.order_behind.result) (re
 
 pub returns-in-Some-clause-powers : goal.returns-in-Some-clause-powers
 returns-in-Some-clause-powers c =
-    both_map (Ok c.order_behind.result) (returns-in-Some-clause-done c) (returns-in-Some-clause-gathered c) (λ h x. (no_more (goal.at.returns-in-Some-clause-powers c).After-has_undef_factor x).powers) (λ h at x. gathered_powers _ _ (given_told x))
+    both_map (Ok c.order_behind.result) (returns-in-Some-clause-done c) (returns-in-Some-clause-gathered c)
+    (λ h x. (no_more (goal.at.returns-in-Some-clause-powers c).After-has_undef_factor x).powers) (λ h at x. gathered_powers _ _ (given_told x))
 
 pub returns-in-Some-clause-spanned : goal.returns-in-Some-clause-spanned
 returns-in-Some-clause-spanned c = λ gs s.
-    both_map (Ok c.order_behind.result) (returns-in-Some-clause-done c) (returns-in-Some-clause-gathered c) (λ h x. (no_more (goal.at.returns-in-Some-clause-spanned c).After-has_undef_factor x).spanned gs s)
+    both_map (Ok c.order_behind.result) (returns-in-Some-clause-done c) (returns-in-Some-clause-gathered c)
+    (λ h x. (no_more (goal.at.returns-in-Some-clause-spanned c).After-has_undef_factor x).spanned gs s)
     (λ h at x. spans_gathered gs _ _ (spans_factors gs _ _ (mult_words (tree_of c.args.product c.args.pool.now) c.requires.product) s) (given_told x))
 
 pub returns-in-Some-clause-held : goal.returns-in-Some-clause-held
-returns-in-Some-clause-held c h l d a = finished_map (Ok c.order_behind.result) (returns-in-Some-clause-done c) (λ i x. (no_more (goal.at.returns-in-Some-clause-held c).After-has_undef_factor x).held h l d a)
+returns-in-Some-clause-held c h l d a =
+    finished_map (Ok c.order_behind.result) (returns-in-Some-clause-done c) (λ i x. (no_more (goal.at.returns-in-Some-clause-held c).After-has_undef_factor x).held h l d a)
 
 pub returns-in-Some-clause-factors_held : goal.returns-in-Some-clause-factors_held
 returns-in-Some-clause-factors_held c h l d a = joined_map (Ok c.order_behind.result) (returns-in-Some-clause-gathered c) (λ i at x. gathered_held _ _ h l c.requires.reduced d a (given_told x))
@@ -163,7 +165,8 @@ returns-clause-few_numbers c = joined_map c.order_or_end.result (returns-clause-
 
 pub returns-clause-powers : goal.returns-clause-powers
 returns-clause-powers c =
-    both_map c.order_or_end.result (returns-clause-done c) (returns-clause-gathered c) (λ h x. (no_more (goal.at.returns-clause-powers c).After-has_undef_factor x).powers) (λ h at x. gathered_powers _ _ (given_told x))
+    both_map c.order_or_end.result (returns-clause-done c) (returns-clause-gathered c) (λ h x. (no_more (goal.at.returns-clause-powers c).After-has_undef_factor x).powers)
+    (λ h at x. gathered_powers _ _ (given_told x))
 
 pub returns-clause-spanned : goal.returns-clause-spanned
 returns-clause-spanned c = λ gs s.
@@ -181,4 +184,5 @@ returns-clause-bits c h l a few = grind (arith, spreading_fits, parts)
 
 pub returns-clause-room : goal.returns-clause-room
 returns-clause-room c gs s =
-    parted_room gs c.order_or_end.result (parts (goal.at.returns-clause-room c).In_ok-coefficient) s (λ x k. result_lacks c.order_or_end.result _ _ (c.order_or_end.ensures.room gs x k) (λ g l. omega (arith, l)))
+    parted_room gs c.order_or_end.result (parts (goal.at.returns-clause-room c).In_ok-coefficient) s
+    (λ x k. result_lacks c.order_or_end.result _ _ (c.order_or_end.ensures.room gs x k) (λ g l. omega (arith, l)))

@@ -1,5 +1,5 @@
 use Rattle.std.proofs.Common.{◌∙◌, ap, refl, subst, arith, rules}
-use Rattle.product_reduce.proofs.Shared.{product_tree, are_reduced, Trees, count, forest, behind_first, front_same, front_end, front_without, front_after_one, gives, gives_as, represents_handed, ends_as, last_tree, others_in, IsOrdered, IsNextPair, NoPairBetween, factors_in}
+use Rattle.product_reduce.proofs.Shared.{product_tree, are_reduced, Trees, count, forest, behind_first, front_same, front_end, front_without, front_after_one, gives, gives_as, represents_handed, ends_as, others_in, IsOrdered, IsNextPair, NoPairBetween, factors_in}
 use Rattle.product_reduce.proofs.Finished.{reduced_nth}
 use Rattle.product_reduce.proofs.Leads.{lead_within, put_within, put_reduced, put_done, put_ordered}
 use Rattle.product_reduce.proofs.Products.{factors_are}
@@ -30,9 +30,6 @@ returns-in-Some-clause-ordered c = λ k h.
     let ts = factors_in c.args.product (forest c.args.pool.now) in
     gives {Told = IsOrdered k (others_in ts)} (ends_as c.move_last.ensures.last refl x.becomes.others) (represents_handed x.becomes.product.handed)
     (put_ordered c.args.lead c.in-Some.at k ts x.us _ h x.sorted (subst (IsNextPair c.args.lead c.in-Some.at) (factors_are x.becomes.product) c.in-Some.ensures.pair) x.becomes.product.tree)
-
-pub returns-in-Some-clause-pair : goal.returns-in-Some-clause-pair
-returns-in-Some-clause-pair c = grind (arith, last_tree)
 
 pub returns-in-Some-clause-front : goal.returns-in-Some-clause-front
 returns-in-Some-clause-front c = grind (arith, front_end, front_without, behind_first, front_after_one, front_same)

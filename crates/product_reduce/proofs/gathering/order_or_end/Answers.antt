@@ -13,14 +13,8 @@ is_zero-requires-clause-expression c = rw c.id.ensures (expression_root c.requir
 zero-is : (c : After-is_zero) → is_zero (tree_of c.args.coefficient c.args.pool.now) ≡ c.is_zero.result
 zero-is c = let seen = rw c.id.ensures at c.is_zero.ensures in ap is_zero (sym (plain_root c.args.coefficient c.requires.stands c.requires.coefficient.root)) ∙ sym seen
 
-pub sort_factors-requires-clause-reduced : goal.sort_factors-requires-clause-reduced
-sort_factors-requires-clause-reduced c = c.requires.others.reduced
-
 sorted : (c : After-sort_factors) → AreSorted c.args.product c.args.coefficient c.args.pool.now c.sort_factors.new.pool
 sorted c = sorts c.requires.stands c.sort_factors.ensures.stands c.sort_factors.ensures.kept c.requires.product c.requires.others c.requires.coefficient c.requires.apart c.sort_factors.ensures.sorts
-
-pub next_pair-requires-clause-handed : goal.next_pair-requires-clause-handed
-next_pair-requires-clause-handed c = c.sort_factors.ensures.sorts.becomes.product.handed
 
 pub next_pair-requires-clause-told : goal.next_pair-requires-clause-told
 next_pair-requires-clause-told c = λ n l. reduced_nth n _ l (sorted (goal.at.next_pair-requires-clause-told c).After-sort_factors).others.reduced
@@ -56,7 +50,14 @@ returns-in-Some-clause-ordered c =
     let nonzero = zero-is (goal.at.returns-in-Some-clause-ordered c).After-is_zero ∙ c.if-is_zero.false in
     let s = sorted (goal.at.returns-in-Some-clause-ordered c).After-sort_factors in
     let partners = pair_partners _ (factors_in c.args.product (forest c.args.pool.now)) _ s.sorted.moved c.in-Some.ensures.pair.pair in
-    gives_as c.behind-product.ensures.ok s.rest (λ t e. record { not_zero = nonzero; partners = partners; us = _; sorted = s.sorted; is = e ∙ (λ i. mult (coefficient_before (s.tree i) (factors_in c.args.product (forest c.sort_factors.new.pool)))) })
+    gives_as c.behind-product.ensures.ok s.rest (λ t e. record {
+      not_zero =
+          nonzero;
+      partners = partners;
+      us = _;
+      sorted = s.sorted;
+      is = e ∙ (λ i. mult (coefficient_before (s.tree i) (factors_in c.args.product (forest c.sort_factors.new.pool))));
+    })
 
 pub returns-in-Some-clause-front : goal.returns-in-Some-clause-front
 returns-in-Some-clause-front c = (sorted (goal.at.returns-in-Some-clause-front c).After-sort_factors).front _ c.behind-product.ensures.front
@@ -71,7 +72,8 @@ returns-in_ok-finished-in-None-clause-done c =
     gives_as c.in_ok-finished-in-None.ensures.ok s.rest (λ t e. at_end nonzero differ (ending_sorted t s e))
 
 pub returns-in_err-finished-in-None-clause-alone : goal.returns-in_err-finished-in-None-clause-alone
-returns-in_err-finished-in-None-clause-alone c = λ e. absurd (c.in_err-finished-in-None.ensures.alone (none_sorted (sorted (goal.at.returns-in_err-finished-in-None-clause-alone c).After-sort_factors) e))
+returns-in_err-finished-in-None-clause-alone c =
+    λ e. absurd (c.in_err-finished-in-None.ensures.alone (none_sorted (sorted (goal.at.returns-in_err-finished-in-None-clause-alone c).After-sort_factors) e))
 
 pub returns-in_ok-finished-in-None-clause-front : goal.returns-in_ok-finished-in-None-clause-front
 returns-in_ok-finished-in-None-clause-front c = (sorted (goal.at.returns-in_ok-finished-in-None-clause-front c).After-sort_factors).front _ c.finished.ensures.front
@@ -82,9 +84,11 @@ returns-in_err-finished-in-None-clause-front c = (sorted (goal.at.returns-in_err
 pub returns-in_err-finished-in-None-clause-overflow : goal.returns-in_err-finished-in-None-clause-overflow
 returns-in_err-finished-in-None-clause-overflow c =
     let s = sorted (goal.at.returns-in_err-finished-in-None-clause-overflow c).After-sort_factors in
-    spreading_sorted c.from_residual.result s (passed_on c.from_residual.result c.in_err-finished-in-None.field-0.0 _ c.from_residual.ensures.0 c.from_residual.ensures.1 c.in_err-finished-in-None.ensures.overflow)
+    spreading_sorted c.from_residual.result s
+    (passed_on c.from_residual.result c.in_err-finished-in-None.field-0.0 _ c.from_residual.ensures.0 c.from_residual.ensures.1 c.in_err-finished-in-None.ensures.overflow)
 
 pub returns-in_err-finished-in-None-clause-room : goal.returns-in_err-finished-in-None-clause-room
 returns-in_err-finished-in-None-clause-room c gs x k =
     let s = sorted (goal.at.returns-in_err-finished-in-None-clause-room c).After-sort_factors in
-    room_sorted gs c.from_residual.result s x k (λ y z. passed_lacks c.from_residual.result c.in_err-finished-in-None.field-0.0 _ _ c.from_residual.ensures.1 (c.in_err-finished-in-None.ensures.room gs y z) (λ g l. l))
+    room_sorted gs c.from_residual.result s x k
+    (λ y z. passed_lacks c.from_residual.result c.in_err-finished-in-None.field-0.0 _ _ c.from_residual.ensures.1 (c.in_err-finished-in-None.ensures.room gs y z) (λ g l. l))

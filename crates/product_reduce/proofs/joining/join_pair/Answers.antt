@@ -26,7 +26,8 @@ raise-requires c =
       first = given_handed child;
       second = z.beside.handed;
       apart = z.beside.apart;
-      reduced = ap is_reduced (z.factor ∙ nth_removed c.args.first c.args.second ts c.requires.order) ∙ reduced_nth c.args.first ts (omega (arith, c.requires.order, c.requires.within)) c.requires.reduced;
+      reduced =
+          ap is_reduced (z.factor ∙ nth_removed c.args.first c.args.second ts c.requires.order) ∙ reduced_nth c.args.first ts (omega (arith, c.requires.order, c.requires.within)) c.requires.reduced;
     }
 
 pub returns-in_err-power-clause-front : goal.returns-in_err-power-clause-front
@@ -45,7 +46,8 @@ fill-requires c =
     record { stands = search rules; hole = (_, _, _, hole_stays g (hole_beside c.in_ok-exponent.exponent z.clear o)); handed = given_handed g }
 
 -- the joint stands where the first of them did
-joined : (c : After-fill) → Becomes c.args.product.now (forest c.args.pool.now) (forest c.fill.new.pool) (joined_pair c.args.first c.args.second (factors_in c.args.product.now (forest c.args.pool.now)))
+joined : (c : After-fill)
+    → Becomes c.args.product.now (forest c.args.pool.now) (forest c.fill.new.pool) (joined_pair c.args.first c.args.second (factors_in c.args.product.now (forest c.args.pool.now)))
 joined c =
     let ts : Trees = factors_in c.args.product.now (forest c.args.pool.now) in
     let power : Tree = joint (nth c.args.first ts) (nth c.args.second ts) in

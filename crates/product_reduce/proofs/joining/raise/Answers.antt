@@ -1,5 +1,5 @@
 use Rattle.std.proofs.Common.{◌∙◌, ap, refl, arith}
-use Rattle.product_reduce.proofs.Shared.{size, both_replaced_free, refused_below, plain, gives_as, given_handed, given_other, given_apart, given_told, given_same, given_without, handed_beside, behind_first, behind_later, behind_new, front_same, front_without, front_after_one, front_after_two, eqb-sym, tree-without}
+use Rattle.product_reduce.proofs.Shared.{size, both_replaced_free, refused_below, plain, gives_as, given_other, given_apart, given_told, given_same, given_without, handed_beside, behind_first, behind_later, behind_new, front_same, front_without, front_after_one, front_after_two, eqb-sym, tree-without}
 use Rattle.product_reduce.proofs.FreeBytes.{refusal_told}
 use Rattle.product_reduce.proofs.Beside.{beside_other, beside_apart, beside_below, beside_gone, beside_without, beside_tree, beside_tree_below, behind_clear}
 use Rattle.product_reduce.proofs.joining.raise.Goals as goal
@@ -21,9 +21,6 @@ node_over_two-requires-2-clause-first c =
     let s = c.in_ok-base.ensures.ok in
     let x = handed_beside c.args.factor c.requires.apart c.requires.second in
     given_other c.in_ok-sum.ensures.ok (beside_without c.args.exponent (beside_gone s.base s.exponent) x.root).handed
-
-pub node_over_two-requires-2-clause-second : goal.node_over_two-requires-2-clause-second
-node_over_two-requires-2-clause-second c = given_handed c.in_ok-sum.ensures.ok
 
 pub node_over_two-requires-2-clause-apart : goal.node_over_two-requires-2-clause-apart
 node_over_two-requires-2-clause-apart c =

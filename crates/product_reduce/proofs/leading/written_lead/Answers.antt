@@ -1,10 +1,6 @@
 use Rattle.product_reduce.proofs.Shared.{forest, factors_in}
-use Rattle.product_reduce.proofs.Finished.{reduced_nth}
 use Rattle.product_reduce.proofs.Leads.{lead_none}
 use Rattle.product_reduce.proofs.leading.written_lead.Goals as goal
-
-pub next_number-requires-clause-reduced : goal.next_number-requires-clause-reduced
-next_number-requires-clause-reduced c = λ n l. reduced_nth n (factors_in c.args.product.now (forest c.args.pool.now)) l c.requires.reduced
 
 pub returns-in_default : goal.returns-in_default
 returns-in_default c = (_, lead_none (factors_in c.args.product.now (forest c.args.pool.now)) c.in_default.ensures c.requires.some)

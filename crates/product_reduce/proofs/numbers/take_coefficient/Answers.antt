@@ -3,7 +3,6 @@ use Rattle.product_reduce.proofs.Shared.{value, are_reduced, surd_times, HasFewB
 use Rattle.like_children.specs.Numbers.{numbers_in, others_in}
 use Rattle.product_reduce.proofs.Finished.{reduced_nth}
 use Rattle.product_reduce.proofs.Begun.{seen, taken_out, begun_free}
-use Rattle.product_reduce.proofs.Misfits.{none_named}
 use Rattle.product_reduce.proofs.Progress.{multiplied, next_misfit, next_fits, total_answer}
 use Rattle.product_reduce.proofs.Products.{factors_are}
 use Rattle.product_reduce.proofs.Results.{if_ok_map, if_ok_both}
@@ -77,6 +76,3 @@ returns-clause-front c =
 
 pub returns-in_err-first-clause-rationals : goal.returns-in_err-first-clause-rationals
 returns-in_err-first-clause-rationals c = λ q m. absurd (some_number (factors_in c.args.product.now (forest c.args.pool.now)) q m c.in_err-first.ensures.some)
-
-pub returns-in_err-first-clause-overflow : goal.returns-in_err-first-clause-overflow
-returns-in_err-first-clause-overflow c = none_named c.from_residual.result c.in_err-first.field-0.0 _ c.from_residual.ensures.1

@@ -1,6 +1,5 @@
 use Rattle.std.proofs.Common.{arith, inr, ap}
-use Rattle.product_reduce.proofs.Shared.{is_mult, forest, behind_first, front_same, front_end, front_put, many, child_within, out, factors_in}
-use Rattle.product_reduce.proofs.Finished.{reduced_nth}
+use Rattle.product_reduce.proofs.Shared.{is_mult, behind_first, front_same, front_end, front_put, many, child_within, out}
 use Rattle.product_reduce.proofs.Begun.{underway_first, underway_one}
 use Rattle.product_reduce.proofs.Results.{if_ok_map}
 use Rattle.product_reduce.proofs.numbers.take_first_number.Goals as goal
@@ -19,6 +18,3 @@ returns-in-Some-clause-front c = grind (arith, front_end, front_put, behind_firs
 pub returns-in-None-clause-ok : goal.returns-in-None-clause-ok
 returns-in-None-clause-ok c =
     if_ok_map c.one.result c.one.ensures.ok (λ h g. underway_one (many c.requires.product.handed (inr (ap is_mult c.requires.product.tree))) c.requires.reduced c.in-None.ensures g)
-
-pub next_number-requires-clause-reduced : goal.next_number-requires-clause-reduced
-next_number-requires-clause-reduced c = λ n l. reduced_nth n (factors_in c.args.product.now (forest c.args.pool.now)) l c.requires.reduced

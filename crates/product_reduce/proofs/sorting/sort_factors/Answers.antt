@@ -1,11 +1,7 @@
 use Rattle.std.proofs.Common.{subst, refl, arith}
 use Rattle.product_reduce.proofs.Shared.{base_of, Trees, IsSorting, plains}
-use Rattle.product_reduce.proofs.Finished.{reduced_nth}
 use Rattle.product_reduce.proofs.Products.{becomes_put, product_arity, product_kids}
 use Rattle.product_reduce.proofs.sorting.sort_factors.Goals as goal
-
-pub sort_children-requires-clause-keyed : goal.sort_children-requires-clause-keyed
-sort_children-requires-clause-keyed c = grind (arith, product_kids, reduced_nth)
 
 pub returns-clause-sorts : goal.returns-clause-sorts
 returns-clause-sorts c =

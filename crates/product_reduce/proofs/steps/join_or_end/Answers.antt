@@ -1,7 +1,6 @@
 use Rattle.std.proofs.Common.{◌≡◌, ◌∙◌, ap, sym, refl, arith}
-use Rattle.product_reduce.proofs.Shared.{passed_lacks, refusal_lacks, tree_of, is_zero, gives_as, expression_root, plain_root, at_zero, passed_on}
+use Rattle.product_reduce.proofs.Shared.{passed_lacks, refusal_lacks, tree_of, is_zero, gives_as, expression_root, plain_root, at_zero}
 use Rattle.product_reduce.proofs.FreeBytes.{pair_lacks}
-use Rattle.product_reduce.proofs.Misfits.{none_named}
 use Rattle.product_reduce.proofs.Pairs.{some_partners}
 use Rattle.product_reduce.proofs.steps.join_or_end.Goals.{After-is_zero}
 use Rattle.product_reduce.proofs.steps.join_or_end.Goals as goal
@@ -23,12 +22,6 @@ returns-in_ok-joined-in-Some-clause-again c = grind (arith, zero-is, some_partne
 
 pub returns-in_ok-sorted-in-None-clause-done : goal.returns-in_ok-sorted-in-None-clause-done
 returns-in_ok-sorted-in-None-clause-done c = grind (arith, zero-is, gives_as)
-
-pub returns-in_err-joined-in-Some-clause-overflow : goal.returns-in_err-joined-in-Some-clause-overflow
-returns-in_err-joined-in-Some-clause-overflow c = none_named c.from_residual.result c.in_err-joined-in-Some.field-0.0 _ c.from_residual.ensures.1
-
-pub returns-in_err-sorted-in-None-clause-overflow : goal.returns-in_err-sorted-in-None-clause-overflow
-returns-in_err-sorted-in-None-clause-overflow c = grind (arith, passed_on)
 
 pub returns-in_err-joined-in-Some-clause-room : goal.returns-in_err-joined-in-Some-clause-room
 returns-in_err-joined-in-Some-clause-room c gs x k = grind (arith, refusal_lacks, pair_lacks)

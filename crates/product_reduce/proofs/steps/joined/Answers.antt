@@ -15,9 +15,6 @@ pair_joined c = becomes_as c.in_ok-join_pair.ensures.ok (sym (joined_at c.args.f
 pub put_in_front-requires : goal.put_in_front-requires
 put_in_front-requires c = grind (arith, pair_joined, product_at, factors_are, beside_becomes)
 
-pub move_last-requires-clause-root : goal.move_last-requires-clause-root
-move_last-requires-clause-root c = c.put_in_front.ensures.becomes.product.handed.root
-
 pub returns-clause-ok : goal.returns-clause-ok
 returns-clause-ok c =
     let b = pair_joined (goal.at.returns-clause-ok c).In_ok-join_pair in

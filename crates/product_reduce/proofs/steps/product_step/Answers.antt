@@ -4,18 +4,14 @@ use Rattle.product_reduce.proofs.Finished.{undef_finished, rationals_defined}
 use Rattle.product_reduce.proofs.JoinedCounts.{product_counted}
 use Rattle.product_reduce.proofs.GatheredParts.{spans_factors, spans_joined}
 use Rattle.product_reduce.proofs.Parted.{IsWithin, AreOpened, AreParted, opens, parted, reduced_now, rationals_opened, numbers_overflow, numbers_fit, numbers_room, stop_given, rejoin_given, spreading_given, spreading_fits, parted_room, step_answered, step_refused, within}
-use Rattle.product_reduce.proofs.Stepped.{handed_product, mult_words, done_map, again_map}
+use Rattle.product_reduce.proofs.Stepped.{mult_words, done_map, again_map}
 use Rattle.product_reduce.proofs.steps.product_step.Goals.{After-has_undef_factor, After-open_products, In_ok-coefficient}
 use Rattle.product_reduce.proofs.steps.product_step.Goals as goal
 
-pub has_undef_factor-requires-clause-product : goal.has_undef_factor-requires-clause-product
-has_undef_factor-requires-clause-product c = handed_product c.requires.handed c.requires.product
-
-pub open_products-requires-clause-product : goal.open_products-requires-clause-product
-open_products-requires-clause-product c = handed_product c.requires.handed c.requires.product
-
 opened_now : (c : After-open_products) → AreOpened c.args.product c.args.pool.now c.open_products.new.pool
-opened_now c = opens c.requires.stands c.requires.handed c.requires.product c.requires.some c.requires.reduced (sym c.has_undef_factor.ensures ∙ c.if-has_undef_factor.false) c.open_products.ensures.stands c.open_products.ensures.kept c.open_products.ensures.opened
+opened_now c =
+    opens c.requires.stands c.requires.handed c.requires.product c.requires.some c.requires.reduced
+    (sym c.has_undef_factor.ensures ∙ c.if-has_undef_factor.false) c.open_products.ensures.stands c.open_products.ensures.kept c.open_products.ensures.opened
 
 parts : (c : In_ok-coefficient) → AreParted c.args.product c.in_ok-coefficient.coefficient c.args.pool.now c.take_coefficient.new.pool
 parts c =
@@ -29,7 +25,8 @@ pub join_or_end-requires : goal.join_or_end-requires
 join_or_end-requires c = grind (arith, parts)
 
 -- what is finished counts no more than the product, and is spanned and held by what spans and holds that
-no_more : (c : After-has_undef_factor) {h : ℕ} {others new : Forest} → Gives others new h (IsFinished (factors_in c.args.product (forest c.args.pool.now))) → IsWithin (tree_of c.args.product c.args.pool.now) (plain (root_tree h new))
+no_more : (c : After-has_undef_factor) {h : ℕ} {others new : Forest} → Gives others new h (IsFinished (factors_in c.args.product (forest c.args.pool.now)))
+    → IsWithin (tree_of c.args.product c.args.pool.now) (plain (root_tree h new))
 no_more c x = within (tree_of c.args.product c.args.pool.now) c.requires.product c.requires.reduced (given_told x)
 
 -- ---- a factor is Undef
@@ -40,7 +37,8 @@ returns-then-has_undef_factor-clause-done c =
     gives_as c.undefined.ensures.gives refl (λ t e. subst (IsFinished ts) (sym e) (undef_finished ts (sym c.has_undef_factor.ensures ∙ c.if-has_undef_factor.true)))
 
 pub returns-then-has_undef_factor-clause-rationals : goal.returns-then-has_undef_factor-clause-rationals
-returns-then-has_undef_factor-clause-rationals c = λ r. absurd (let no : true ≡ false = sym c.if-has_undef_factor.true ∙ c.has_undef_factor.ensures ∙ rationals_defined (factors_in c.args.product (forest c.args.pool.now)) r in cc)
+returns-then-has_undef_factor-clause-rationals c =
+    λ r. absurd (let no : true ≡ false = sym c.if-has_undef_factor.true ∙ c.has_undef_factor.ensures ∙ rationals_defined (factors_in c.args.product (forest c.args.pool.now)) r in cc)
 
 pub returns-then-has_undef_factor-clause-counted : goal.returns-then-has_undef_factor-clause-counted
 returns-then-has_undef_factor-clause-counted c = (no_more (goal.at.returns-then-has_undef_factor-clause-counted c).After-has_undef_factor (returns-then-has_undef_factor-clause-done c)).counted
@@ -109,7 +107,9 @@ pub returns-clause-spanned : goal.returns-clause-spanned
 returns-clause-spanned c = λ gs s. done_map c.join_or_end.result (returns-clause-done c) (λ h x. (no_more (goal.at.returns-clause-spanned c).After-has_undef_factor x).spanned gs s)
 
 pub returns-clause-again_spanned : goal.returns-clause-again_spanned
-returns-clause-again_spanned c = λ gs s. again_map c.join_or_end.result (returns-clause-again c) (λ h x. spans_joined gs _ _ (spans_factors gs _ _ (mult_words (tree_of c.args.product c.args.pool.now) c.requires.product) s) (given_told x))
+returns-clause-again_spanned c = λ gs s.
+    again_map c.join_or_end.result (returns-clause-again c)
+    (λ h x. spans_joined gs _ _ (spans_factors gs _ _ (mult_words (tree_of c.args.product c.args.pool.now) c.requires.product) s) (given_told x))
 
 pub returns-clause-held : goal.returns-clause-held
 returns-clause-held c h l d a = done_map c.join_or_end.result (returns-clause-done c) (λ i x. (no_more (goal.at.returns-clause-held c).After-has_undef_factor x).held h l d a)

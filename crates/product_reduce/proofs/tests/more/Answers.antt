@@ -15,4 +15,5 @@ pub returns-clause-ok : goal.returns-clause-ok
 returns-clause-ok c =
     let a = c.in_ok-one.ensures.given in
     let b = c.in_ok-term.ensures.given in
-    gives_as c.in_ok-tree.ensures.ok (pair_rest a b) (λ t e. ap is_reduced (e ∙ (λ i. add (more ((other_plain _ b (given_root a) ∙ given_told a ∙ ap num (one_value c.whole.result c.whole.ensures)) i) (more (given_told b i) none)))) ∙ more_reduced _)
+    gives_as c.in_ok-tree.ensures.ok (pair_rest a b)
+    (λ t e. ap is_reduced (e ∙ (λ i. add (more ((other_plain _ b (given_root a) ∙ given_told a ∙ ap num (one_value c.whole.result c.whole.ensures)) i) (more (given_told b i) none)))) ∙ more_reduced _)

@@ -14,4 +14,5 @@ pub returns-clause-ok : goal.returns-clause-ok
 returns-clause-ok c =
     let a = c.in_ok-first.ensures.given in
     let b = c.in_ok-second.ensures.given in
-    gives_as c.in_ok-tree.ensures.ok (pair_rest a b) (λ t e. ap is_reduced (e ∙ (λ i. add (more ((other_plain _ b (given_root a) ∙ given_told a) i) (more (given_told b i) none)))) ∙ names_reduced _ _ c.requires.rising)
+    gives_as c.in_ok-tree.ensures.ok (pair_rest a b)
+    (λ t e. ap is_reduced (e ∙ (λ i. add (more ((other_plain _ b (given_root a) ∙ given_told a) i) (more (given_told b i) none)))) ∙ names_reduced _ _ c.requires.rising)

@@ -17,7 +17,8 @@ pub raised-requires-clause-kept : goal.raised-requires-clause-kept
 raised-requires-clause-kept c = λ b. ap (λ q. is_reduced (power (symbol b) (num q))) (whole_value (pos 2) c.whole-in-Square.result c.whole-in-Square.ensures) ∙ square_reduced b
 
 pub raised-requires-in-InverseSquare-clause-kept : goal.raised-requires-in-InverseSquare-clause-kept
-raised-requires-in-InverseSquare-clause-kept c = λ b. ap (λ q. is_reduced (power (symbol b) (num q))) (whole_value (negsuc 1) c.whole-in-InverseSquare.result c.whole-in-InverseSquare.ensures) ∙ inverse_square_reduced b
+raised-requires-in-InverseSquare-clause-kept c =
+    λ b. ap (λ q. is_reduced (power (symbol b) (num q))) (whole_value (negsuc 1) c.whole-in-InverseSquare.result c.whole-in-InverseSquare.ensures) ∙ inverse_square_reduced b
 
 pub raised-requires-in-Opaque-clause-kept : goal.raised-requires-in-Opaque-clause-kept
 raised-requires-in-Opaque-clause-kept c = λ b. ap (λ q. is_reduced (power (symbol b) (num q))) c.ratio.ensures.value ∙ opaque_reduced b

@@ -32,7 +32,8 @@ pub add_child-requires-clause-apart : goal.add_child-requires-clause-apart
 add_child-requires-clause-apart c =
     let i = c.loop-piece.invariant in
     let k = c.in_ok-factor.ensures.ok in
-    apart c.in_ok-product.product c.in_ok-factor.factor c.in_ok-factor.ensures.stands (eqb-sym c.in_ok-factor.factor c.in_ok-product.product (beside_apart c.in_ok-product.product (beside_given k) i.becomes.product.handed.root)) (placed_beside i.becomes k).handed.root (given_root k)
+    apart c.in_ok-product.product c.in_ok-factor.factor c.in_ok-factor.ensures.stands
+    (eqb-sym c.in_ok-factor.factor c.in_ok-product.product (beside_apart c.in_ok-product.product (beside_given k) i.becomes.product.handed.root)) (placed_beside i.becomes k).handed.root (given_root k)
 
 pub loop-piece-preserved : goal.loop-piece-preserved
 loop-piece-preserved c =
