@@ -1,12 +1,13 @@
 //! Shapes of trees, and the trees that they are.
-ghost use Rattle.std.specs.Prelude.{◌≡◌, ◌↔◌, ◌<◌, IfOk, IsTrue, nat_abs, true};
+ghost use Rattle.std.specs.Prelude.{◌≡◌, ◌↔◌, ◌<◌, ◌≤◌, IfErr, IfOk, IsOk, IsTrue, OnOk, nat_abs, true};
 ghost use Rattle.calc_language.specs.Texts.{IsWritable};
 ghost use Rattle.tree_handles.specs.Expressions.{takes_kind};
 ghost use Rattle.tree_handles.specs.Handed.{Gives};
-ghost use Rattle.tree_handles.specs.Standing.{Stands, forest};
+ghost use Rattle.tree_handles.specs.Standing.{KeepsRefusals, LacksBytes, Stands, forest};
 ghost use Rattle.calc_terms.specs.Fractions.{whole_fraction};
 ghost use Rattle.calc_terms.specs.Limits.{number_limit};
-ghost use Rattle.calc_terms.specs.Trees.{num, symbol, undef};
+ghost use Rattle.calc_terms.specs.Trees.{num, size, symbol, undef};
+ghost use Rattle.node_pool.specs.State.{free_of};
 ghost use Rattle.tree_shapes.specs.Shapes.{tree_of, kind_of_pair, kind_of_single, name_or_ans};
 
 use calc_terms::{Kind, Name, Rat};
@@ -87,6 +88,9 @@ impl Shape<'_> {
 pub fn grow(pool: &mut Pool, shape: &Shape) -> Result<Handle, Full>
     requires { Stands pool.old }
     ensures ok { IfOk result (λ h. Gives (forest pool.old) (forest pool.new) h (λ t. t ≡ tree_of shape.now)) }
+    ensures kept { OnOk result (KeepsRefusals pool.old pool.new) }
+    ensures exactly { IsOk result ↔ (size (tree_of shape.now) ≤ free_of pool.old) }
+    ensures caused { IfErr result (LacksBytes pool.new) }
     ensures stands { Stands pool.new }
 {
     match shape {
@@ -112,6 +116,9 @@ pub fn grow(pool: &mut Pool, shape: &Shape) -> Result<Handle, Full>
 fn named(pool: &mut Pool, bytes: &[u8]) -> Result<Handle, Full>
     requires { Stands pool.old }
     ensures ok { IfOk result (λ h. Gives (forest pool.old) (forest pool.new) h (λ t. t ≡ symbol (name_or_ans bytes.now))) }
+    ensures kept { OnOk result (KeepsRefusals pool.old pool.new) }
+    ensures exactly { IsOk result ↔ (size (symbol (name_or_ans bytes.now)) ≤ free_of pool.old) }
+    ensures caused { IfErr result (LacksBytes pool.new) }
     ensures stands { Stands pool.new }
 {
     let name = Name::read(bytes).unwrap_or(Name::ans());
@@ -123,6 +130,9 @@ fn whole(pool: &mut Pool, value: i128) -> Result<Handle, Full>
     requires stands { Stands pool.old }
     requires fits { nat_abs value < number_limit }
     ensures ok { IfOk result (λ h. Gives (forest pool.old) (forest pool.new) h (λ t. t ≡ num (whole_fraction value))) }
+    ensures kept { OnOk result (KeepsRefusals pool.old pool.new) }
+    ensures exactly { IsOk result ↔ (size (num (whole_fraction value)) ≤ free_of pool.old) }
+    ensures caused { IfErr result (LacksBytes pool.new) }
     ensures stands { Stands pool.new }
 {
     let tree = number(pool, Rat::whole(value))?;
@@ -132,6 +142,9 @@ fn whole(pool: &mut Pool, value: i128) -> Result<Handle, Full>
 fn undefined(pool: &mut Pool) -> Result<Handle, Full>
     requires { Stands pool.old }
     ensures ok { IfOk result (λ h. Gives (forest pool.old) (forest pool.new) h (λ t. t ≡ undef)) }
+    ensures kept { OnOk result (KeepsRefusals pool.old pool.new) }
+    ensures exactly { IsOk result ↔ (size undef ≤ free_of pool.old) }
+    ensures caused { IfErr result (LacksBytes pool.new) }
     ensures stands { Stands pool.new }
 {
     let tree = node(pool, Kind::Undef)?;

@@ -1,9 +1,12 @@
-use Rattle.std.proofs.Common.{◌≡◌, ◌∙◌, ap, sym, subst, refl}
+use Rattle.std.proofs.Common.{◌≡◌, ◌∙◌, ap, arith, sym, subst, refl}
+use Rattle.calc_terms.specs.Trees.{size}
 use Rattle.tree_handles.proofs.Given.{given_handed, given_other, given_apart, given_told, given_same, given_rest, given_without, gives_as}
 use Rattle.tree_handles.proofs.Outcomes.{eqb-sym}
 use Rattle.tree_handles.specs.Expressions.{plain}
 use Rattle.tree_handles.specs.Forest.{Forest}
 use Rattle.tree_shapes.specs.Shapes.{tree_of}
+use Rattle.tree_shapes.specs.declared.shapes.Shape.{Shape}
+use Rattle.tree_shapes.proofs.Room.{grown_free, pair_bytes, single_bytes}
 use Rattle.tree_shapes.proofs.shapes.+grow.Goals as goal
 
 pub node_over_two-requires-clause-first : goal.node_over_two-requires-clause-first
@@ -30,3 +33,42 @@ pub returns-in_ok-tree-in-One-clause-ok : goal.returns-in_ok-tree-in-One-clause-
 returns-in_ok-tree-in-One-clause-ok t c =
     gives_as c.in_ok-tree-in-One.ensures.ok (given_rest c.in_ok-child-in-One.ensures.ok)
     (λ u e. e ∙ rw (c.kind-in-One.ensures.kind, given_told c.in_ok-child-in-One.ensures.ok) refl ∙ ap tree_of (sym c.in-One.is))
+
+pub returns-in_ok-tree-in-Two-clause-exactly : goal.returns-in_ok-tree-in-Two-clause-exactly
+returns-in_ok-tree-in-Two-clause-exactly t c =
+    let left = c.in_ok-left-in-Two.ensures in
+    let right = c.in_ok-right-in-Two.ensures in
+    let first = grown_free c.requires left.stands left.kept left.ok in
+    let second = grown_free left.stands right.stands right.kept right.ok in
+    let bytes = ap (λ (s : Shape). size (tree_of s)) c.in-Two.is ∙ pair_bytes c.in-Two.pair (tree_of c.in-Two.left.now) (tree_of c.in-Two.right.now) in
+    grind (arith, first, second, bytes, c.kind.ensures.kind)
+
+pub returns-in_err-tree-in-Two-clause-exactly : goal.returns-in_err-tree-in-Two-clause-exactly
+returns-in_err-tree-in-Two-clause-exactly t c =
+    let left = c.in_ok-left-in-Two.ensures in
+    let right = c.in_ok-right-in-Two.ensures in
+    let first = grown_free c.requires left.stands left.kept left.ok in
+    let second = grown_free left.stands right.stands right.kept right.ok in
+    let bytes = ap (λ (s : Shape). size (tree_of s)) c.in-Two.is ∙ pair_bytes c.in-Two.pair (tree_of c.in-Two.left.now) (tree_of c.in-Two.right.now) in
+    grind (arith, first, second, bytes, c.kind.ensures.kind)
+
+pub returns-in_err-right-in-Two-clause-exactly : goal.returns-in_err-right-in-Two-clause-exactly
+returns-in_err-right-in-Two-clause-exactly t c =
+    let left = c.in_ok-left-in-Two.ensures in
+    let first = grown_free c.requires left.stands left.kept left.ok in
+    let bytes = ap (λ (s : Shape). size (tree_of s)) c.in-Two.is ∙ pair_bytes c.in-Two.pair (tree_of c.in-Two.left.now) (tree_of c.in-Two.right.now) in
+    grind (arith, first, bytes)
+
+pub returns-in_ok-tree-in-One-clause-exactly : goal.returns-in_ok-tree-in-One-clause-exactly
+returns-in_ok-tree-in-One-clause-exactly t c =
+    let child = c.in_ok-child-in-One.ensures in
+    let first = grown_free c.requires child.stands child.kept child.ok in
+    let bytes = ap (λ (s : Shape). size (tree_of s)) c.in-One.is ∙ single_bytes c.in-One.single (tree_of c.in-One.child.now) in
+    grind (arith, first, bytes, c.kind-in-One.ensures.kind)
+
+pub returns-in_err-tree-in-One-clause-exactly : goal.returns-in_err-tree-in-One-clause-exactly
+returns-in_err-tree-in-One-clause-exactly t c =
+    let child = c.in_ok-child-in-One.ensures in
+    let first = grown_free c.requires child.stands child.kept child.ok in
+    let bytes = ap (λ (s : Shape). size (tree_of s)) c.in-One.is ∙ single_bytes c.in-One.single (tree_of c.in-One.child.now) in
+    grind (arith, first, bytes, c.kind-in-One.ensures.kind)
