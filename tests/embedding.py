@@ -1,5 +1,5 @@
 #!/usr/bin/env python3
-"""Runs the samples of docs/EMBEDDING.md, and the lines of C of README.md.
+"""Runs the samples of docs/EMBEDDING.md.
 
     tests/embedding.py
 
@@ -94,22 +94,6 @@ class Samples:
                 self.run_c(body, printed_by_c)
 
 
-def is_right_in_readme(folder):
-    """The lines of C in README.md, in a program that prints the text."""
-    lines = re.search(r"^(    poincare_session session;\n(?:    .*\n)+)", (TOP / "README.md").read_text(), re.M)[1]
-    program = f"""#include "poincare.h"
-#include <stdio.h>
-int main(void) {{
-    char text[16];
-    size_t count = 0;
-{lines}    return printf("%.*s", (int)count, text) < 0;
-}}
-"""
-    (folder / "readme.c").write_text(program)
-    command = "cc -std=c11 -Wall -Wextra -Werror -I c readme.c c/out/libpoincare.a -o readme && ./readme"
-    return printed(["sh", "-c", command], folder) == "1/2"
-
-
 def main():
     with tempfile.TemporaryDirectory() as name:
         folder = pathlib.Path(name)
@@ -117,7 +101,6 @@ def main():
             os.symlink(TOP / part, folder / part)
         samples = Samples(folder)
         samples.run()
-        samples.note("the lines of C in README.md", is_right_in_readme(folder))
     failed = samples.results.count(False)
     print(f"{len(samples.results) - failed} passed, {failed} failed")
     return 1 if failed else 0
