@@ -1,6 +1,4 @@
 //! Trees of a table are written, and their texts are read and built again.
-mod shapes;
-
 ghost use Rattle.calc_language.specs.Texts.{IsWritable};
 ghost use Rattle.tree_handles.specs.Expressions.{plain};
 ghost use Rattle.tree_handles.specs.Handed.{IsHanded};
@@ -10,11 +8,11 @@ ghost use Rattle.tree_handles.specs.Standing.{Stands, forest};
 use super::fixtures::is_tree_of;
 use line_text::{Text, write_text};
 use node_pool::Pool;
-use shapes::{Pair, Shape, Single, grow};
 use std::alloc::{AllocError, Global};
 use std::process::Abort;
 use std::test::Fail;
 use tree_handles::{Handle, open_pool, tree_bytes};
+use tree_shapes::{Pair, Shape, Single, grow};
 
 /// The text of a tree, in twice its bytes.
 fn written(rt: &impl Abort, alloc: Global, pool: &Pool, tree: &Handle) -> Result<Text, AllocError>
@@ -32,6 +30,7 @@ fn written(rt: &impl Abort, alloc: Global, pool: &Pool, tree: &Handle) -> Result
 
 /// Writes the tree of a shape, compares its text, and reads it again.
 fn round_trip(rt: &impl Abort, alloc: Global, shape: &Shape, expected: &str) -> Result<(), Fail> {
+    assert!(rt; shape.is_writable(), "{expected}");
     let mut pool = open_pool(alloc, 1024)?;
     let tree = grow(&mut pool, shape)?;
     let text = written(rt, alloc, &pool, &tree)?;
@@ -90,161 +89,43 @@ impl Around {
     }
 }
 
-/// The text of each child at each place, with `c` on the other side. The texts come from a model of its own.
-const ROWS: [(Around, [&str; 11]); 12] = [
-    (
-        Around::First(Pair::Sum),
-        [
-            "(a+b)+c", "a-b+c", "-a+c", "a×b+c", "a/b+c", "a^b+c", "√(a)+c", "-(a+b)+c", "-a×b+c",
-            "-a^b+c", "--a+c",
-        ],
-    ),
-    (
-        Around::Later(Pair::Sum),
-        [
-            "c+(a+b)", "c+(a-b)", "c+-a", "c+a×b", "c+a/b", "c+a^b", "c+√(a)", "c+-(a+b)",
-            "c+-a×b", "c+-a^b", "c+--a",
-        ],
-    ),
-    (
-        Around::First(Pair::Difference),
-        [
-            "a+b-c", "a-b-c", "-a-c", "a×b-c", "a/b-c", "a^b-c", "√(a)-c", "-(a+b)-c", "-a×b-c",
-            "-a^b-c", "--a-c",
-        ],
-    ),
-    (
-        Around::Later(Pair::Difference),
-        [
-            "c-(a+b)", "c-(a-b)", "c--a", "c-a×b", "c-a/b", "c-a^b", "c-√(a)", "c--(a+b)",
-            "c--a×b", "c--a^b", "c---a",
-        ],
-    ),
-    (
-        Around::First(Pair::Product),
-        [
-            "(a+b)×c",
-            "(a-b)×c",
-            "(-a)×c",
-            "(a×b)×c",
-            "a/b×c",
-            "a^b×c",
-            "√(a)×c",
-            "(-(a+b))×c",
-            "(-a×b)×c",
-            "(-a^b)×c",
-            "(--a)×c",
-        ],
-    ),
-    (
-        Around::Later(Pair::Product),
-        [
-            "c×(a+b)",
-            "c×(a-b)",
-            "c×-a",
-            "c×(a×b)",
-            "c×(a/b)",
-            "c×a^b",
-            "c×√(a)",
-            "c×(-(a+b))",
-            "c×(-a×b)",
-            "c×-a^b",
-            "c×--a",
-        ],
-    ),
-    (
-        Around::First(Pair::Quotient),
-        [
-            "(a+b)/c",
-            "(a-b)/c",
-            "(-a)/c",
-            "a×b/c",
-            "a/b/c",
-            "a^b/c",
-            "√(a)/c",
-            "(-(a+b))/c",
-            "(-a×b)/c",
-            "(-a^b)/c",
-            "(--a)/c",
-        ],
-    ),
-    (
-        Around::Later(Pair::Quotient),
-        [
-            "c/(a+b)",
-            "c/(a-b)",
-            "c/-a",
-            "c/(a×b)",
-            "c/(a/b)",
-            "c/a^b",
-            "c/√(a)",
-            "c/(-(a+b))",
-            "c/(-a×b)",
-            "c/-a^b",
-            "c/--a",
-        ],
-    ),
-    (
-        Around::First(Pair::Power),
-        [
-            "(a+b)^c",
-            "(a-b)^c",
-            "(-a)^c",
-            "(a×b)^c",
-            "(a/b)^c",
-            "(a^b)^c",
-            "√(a)^c",
-            "(-(a+b))^c",
-            "(-a×b)^c",
-            "(-a^b)^c",
-            "(--a)^c",
-        ],
-    ),
-    (
-        Around::Later(Pair::Power),
-        [
-            "c^(a+b)",
-            "c^(a-b)",
-            "c^-a",
-            "c^(a×b)",
-            "c^(a/b)",
-            "c^a^b",
-            "c^√(a)",
-            "c^(-(a+b))",
-            "c^(-a×b)",
-            "c^-a^b",
-            "c^--a",
-        ],
-    ),
-    (
-        Around::Under(Single::Opposite),
-        [
-            "-(a+b)", "-(a-b)", "--a", "-a×b", "-a/b", "-a^b", "-√(a)", "--(a+b)", "--a×b",
-            "--a^b", "---a",
-        ],
-    ),
-    (
-        Around::Under(Single::Root),
-        [
-            "√(a+b)",
-            "√(a-b)",
-            "√(-a)",
-            "√(a×b)",
-            "√(a/b)",
-            "√(a^b)",
-            "√(√(a))",
-            "√(-(a+b))",
-            "√(-a×b)",
-            "√(-a^b)",
-            "√(--a)",
-        ],
-    ),
+/// Each place.
+const AROUND: [Around; 12] = [
+    Around::First(Pair::Sum),
+    Around::Later(Pair::Sum),
+    Around::First(Pair::Difference),
+    Around::Later(Pair::Difference),
+    Around::First(Pair::Product),
+    Around::Later(Pair::Product),
+    Around::First(Pair::Quotient),
+    Around::Later(Pair::Quotient),
+    Around::First(Pair::Power),
+    Around::Later(Pair::Power),
+    Around::Under(Single::Opposite),
+    Around::Under(Single::Root),
 ];
+
+/// A row for each place: the text of each child there, with `c` on the other side. The texts come from a model of its own.
+const TEXTS: &str = "\
+(a+b)+c a-b+c -a+c a×b+c a/b+c a^b+c √(a)+c -(a+b)+c -a×b+c -a^b+c --a+c
+c+(a+b) c+(a-b) c+-a c+a×b c+a/b c+a^b c+√(a) c+-(a+b) c+-a×b c+-a^b c+--a
+a+b-c a-b-c -a-c a×b-c a/b-c a^b-c √(a)-c -(a+b)-c -a×b-c -a^b-c --a-c
+c-(a+b) c-(a-b) c--a c-a×b c-a/b c-a^b c-√(a) c--(a+b) c--a×b c--a^b c---a
+(a+b)×c (a-b)×c (-a)×c (a×b)×c a/b×c a^b×c √(a)×c (-(a+b))×c (-a×b)×c (-a^b)×c (--a)×c
+c×(a+b) c×(a-b) c×-a c×(a×b) c×(a/b) c×a^b c×√(a) c×(-(a+b)) c×(-a×b) c×-a^b c×--a
+(a+b)/c (a-b)/c (-a)/c a×b/c a/b/c a^b/c √(a)/c (-(a+b))/c (-a×b)/c (-a^b)/c (--a)/c
+c/(a+b) c/(a-b) c/-a c/(a×b) c/(a/b) c/a^b c/√(a) c/(-(a+b)) c/(-a×b) c/-a^b c/--a
+(a+b)^c (a-b)^c (-a)^c (a×b)^c (a/b)^c (a^b)^c √(a)^c (-(a+b))^c (-a×b)^c (-a^b)^c (--a)^c
+c^(a+b) c^(a-b) c^-a c^(a×b) c^(a/b) c^a^b c^√(a) c^(-(a+b)) c^(-a×b) c^-a^b c^--a
+-(a+b) -(a-b) --a -a×b -a/b -a^b -√(a) --(a+b) --a×b --a^b ---a
+√(a+b) √(a-b) √(-a) √(a×b) √(a/b) √(a^b) √(√(a)) √(-(a+b)) √(-a×b) √(-a^b) √(--a)";
 
 #[test]
 fn each_tree_is_read_again_from_its_text(rt: HostRuntime) -> Result<(), Fail> {
-    for (around, texts) in &ROWS {
-        for (child, text) in CHILDREN.iter().zip(texts) {
+    assert_eq!(rt; TEXTS.lines().count(), AROUND.len());
+    for (around, row) in AROUND.iter().zip(TEXTS.lines()) {
+        assert_eq!(rt; row.split(' ').count(), CHILDREN.len(), "{row}");
+        for (child, text) in CHILDREN.iter().zip(row.split(' ')) {
             round_trip(&rt, rt.alloc(), &around.over(child, &C), text)?;
         }
     }
@@ -259,7 +140,7 @@ fn leaves_are_read_again(rt: HostRuntime) -> Result<(), Fail> {
     round_trip(
         &rt,
         rt.alloc(),
-        &Shape::Number(18_446_744_073_709_551_615),
+        &Shape::Number(u64::MAX),
         "18446744073709551615",
     )?;
     Ok(())
