@@ -1,7 +1,8 @@
 -- The room of an expansion, from that of a child's.
-use Rattle.std.proofs.Common.{◌≡◌, ℕ, suc, ◌+◌, ◌*◌, ◌≤◌, ◌<◌, List, [], ◌++◌, Bool, true, refl, sym, ap, ◌∙◌, subst, arith}
+use Rattle.std.proofs.Common.{◌≡◌, ◌⊎◌, inl, inr, ℕ, suc, ◌+◌, ◌*◌, ◌≤◌, ◌<◌, List, [], ◌++◌, Bool, true, refl, sym, ap, ◌∙◌, subst, arith}
 use Rattle.std.specs.Prelude.{◌&&◌}
-use Rattle.expand_forms.proofs.Shared.{le-max_left, le-max_right, max-le, and_parts, mul-le, Within, names_of-append, within_both, within_eq, within_left, within_none, within_right, within_same, within_trans, root_most, Tree, num, symbol, undef, add, mult, power, root, neg, sub, div, Trees, none, more, append, names, names_of, nodes, nodes_of, size, sizes, count_distinct, expansion_room, most_terms, most_terms_of, node_bytes, sum_bytes, are_polynomials, is_polynomial, AreExpandedFrom, nodes_append, nodes_by_children, children_of}
+use Rattle.expand_forms.proofs.Shared.{le-max_left, le-max_right, max-le, and_parts, mul-le, Within, names_of-append, within_both, within_eq, within_left, within_none, within_right, within_same, within_trans, root_most, Tree, num, symbol, undef, add, mult, power, root, neg, sub, div, Trees, none, more, append, names, names_of, nodes, nodes_of, size, sizes, count_distinct, expanded, expansion_room, most_terms, most_terms_of, node_bytes, sum_bytes, are_polynomials, is_polynomial, polynomial_of, AreExpandedFrom, IsOver, nodes_append, nodes_by_children, children_of}
+use Rattle.expand_forms.specs.PowersOfSums.{AreReadyFrom, IsReadyFrom, is_power_of_sum}
 use Rattle.expand_forms.proofs.TermCounts.{answer_most, most_of_all, some_nodes, some_terms}
 use Rattle.expand_forms.proofs.Widths.{names_rise}
 
@@ -51,6 +52,35 @@ answers_most ns m (more t ts) (more u us) p h l e =
     let rest = answers_most ns m ts us b (within_trans h (within_right (names t) (names_of ts))) (omega (arith, l, le-max_right (most_terms t) (most_terms_of ts))) e.1 in
     omega (arith, ap size (e.0 a), one, more_nodes, rest)
 
+-- ---- what has become of them
+
+all_polynomials : (t : Tree) → is_polynomial t ≡ true → are_polynomials (children_of t) ≡ true
+all_polynomials t h = grind arith
+
+pub root_bytes : (t : Tree) → size t ≤ 40 + sizes (children_of t)
+root_bytes t = grind arith
+
+ready_most : (ns : List (List ℕ)) (m : ℕ) (t u : Tree) → is_polynomial t ≡ true → Within ns (names t) → most_terms t ≤ m → IsReadyFrom t u → size u ≤ sum_bytes ns m * nodes t
+ready_most ns m t u p h l r = by (r p)
+  where
+    by : (u ≡ expanded (polynomial_of t)) ⊎ ((is_power_of_sum u ≡ true) × IsOver t u) → size u ≤ sum_bytes ns m * nodes t
+    by (inl e) = omega (arith, ap size e, answer_most ns m t p h l, mul-le (sum_bytes ns m) 1 (sum_bytes ns m) (nodes t) (omega arith) (some_nodes t))
+    by (inr (k, o)) =
+        let below = answers_most ns m (children_of t) (children_of u) (all_polynomials t p) (within_trans h (child_names t)) (omega (arith, l, child_terms t)) o.children in
+        let some : 1 ≤ m = omega (arith, some_terms t p, most_of_all t, l) in
+        let wide = mul-le (64 * suc (count_distinct ns)) 1 (64 * suc (count_distinct ns)) m (omega arith) some in
+        omega (arith, root_bytes u, below, nodes_by_children t, wide, ap (λ (n : ℕ). sum_bytes ns m * n) (nodes_by_children t))
+
+all_ready_most : (ns : List (List ℕ)) (m : ℕ) (ts us : Trees) → are_polynomials ts ≡ true → Within ns (names_of ts) → most_terms_of ts ≤ m → AreReadyFrom ts us → sizes us ≤ sum_bytes ns m * nodes_of ts
+all_ready_most ns m none none p h l e = omega arith
+all_ready_most ns m none (more u us) p h l e = absurd e
+all_ready_most ns m (more t ts) none p h l e = absurd e
+all_ready_most ns m (more t ts) (more u us) p h l e =
+    let (a, b) = and_parts (is_polynomial t) (are_polynomials ts) p in
+    let one = ready_most ns m t u a (within_trans h (within_left (names t) (names_of ts))) (omega (arith, l, le-max_left (most_terms t) (most_terms_of ts))) e.0 in
+    let rest = all_ready_most ns m ts us b (within_trans h (within_right (names t) (names_of ts))) (omega (arith, l, le-max_right (most_terms t) (most_terms_of ts))) e.1 in
+    omega (arith, one, rest)
+
 -- ---- some of the children
 
 first_terms : (ts us : Trees) → most_terms_of ts ≤ most_terms_of (append ts us)
@@ -88,7 +118,7 @@ some_width t p = mul-le 1 1 (suc (count_distinct (names t))) (most_terms t) (ome
 room_of : (t : Tree) (n : ℕ) → nodes t ≡ n → 512 * (suc (count_distinct (names t)) * most_terms t) * n ≡ expansion_room t
 room_of t n e = grind arith
 
-pub room_above : (t c : Tree) (done rest us : Trees) (e : ℕ) → is_polynomial t ≡ true → are_polynomials (children_of t) ≡ true → children_of t ≡ append done (more c rest) → AreExpandedFrom done us → e < expansion_room c
+pub room_above : (t c : Tree) (done rest us : Trees) (e : ℕ) → is_polynomial t ≡ true → are_polynomials (children_of t) ≡ true → children_of t ≡ append done (more c rest) → AreReadyFrom done us → e < expansion_room c
     → e + (40 + sizes us + sizes rest) < expansion_room t
 room_above t c done rest us e p ps split answers few =
     let ns = names t in
@@ -96,7 +126,7 @@ room_above t c done rest us e p ps split answers few =
     let within : Within ns (names_of done ++ (names c ++ names_of rest)) = within_trans (child_names t) (within_eq (sym (ap names_of split ∙ names_of-append done (more c rest)))) in
     let terms_within : most_terms_of (append done (more c rest)) ≤ m = omega (arith, child_terms t, ap most_terms_of split) in
     let done_polynomials = (first_polynomials done (more c rest) (sym (ap are_polynomials split) ∙ ps)).0 in
-    let before = answers_most ns m done us done_polynomials (within_trans within (within_left (names_of done) (names c ++ names_of rest))) (omega (arith, first_terms done (more c rest), terms_within)) answers in
+    let before = all_ready_most ns m done us done_polynomials (within_trans within (within_left (names_of done) (names c ++ names_of rest))) (omega (arith, first_terms done (more c rest), terms_within)) answers in
     let fewer_names = names_rise ns (names c) (within_trans within (within_trans (within_right (names_of done) (names c ++ names_of rest)) (within_left (names c) (names_of rest)))) in
     let fewer_terms : most_terms c ≤ m = omega (arith, last_terms done (more c rest), le-max_left (most_terms c) (most_terms_of rest), terms_within) in
     let narrower = mul-le (suc (count_distinct (names c))) (most_terms c) (suc (count_distinct ns)) m (omega (arith, fewer_names)) fewer_terms in
@@ -106,8 +136,16 @@ room_above t c done rest us e p ps split answers few =
     let count : nodes t ≡ suc (nodes_of done + (nodes c + nodes_of rest)) = omega (arith, nodes_by_children t, ap nodes_of split, nodes_append done (more c rest)) in
     subst (λ (r : ℕ). e + (40 + sizes us + sizes rest) < r) (room_of t _ count) lacks
 
-pub room_at_node : (t : Tree) (us : Trees) (e : ℕ) → is_polynomial t ≡ true → are_polynomials (children_of t) ≡ true → AreExpandedFrom (children_of t) us → e < node_bytes (names t) (most_terms t) → e + (40 + sizes us) < expansion_room t
+pub room_at_node : (t : Tree) (us : Trees) (e : ℕ) → is_polynomial t ≡ true → are_polynomials (children_of t) ≡ true → AreReadyFrom (children_of t) us → e < node_bytes (names t) (most_terms t) → e + (40 + sizes us) < expansion_room t
 room_at_node t us e p ps answers few =
-    let all = answers_most (names t) (most_terms t) (children_of t) us ps (child_names t) (child_terms t) answers in
+    let all = all_ready_most (names t) (most_terms t) (children_of t) us ps (child_names t) (child_terms t) answers in
     let lacks = node_lacks (suc (count_distinct (names t)) * most_terms t) (nodes_of (children_of t)) e (sizes us) (some_width t p) (omega (arith, few)) (omega (arith, all)) in
     subst (λ (r : ℕ). e + (40 + sizes us) < r) (room_of t _ (omega (arith, nodes_by_children t))) lacks
+
+-- a child has no wider terms and no more of them
+pub narrower : (t c : Tree) (before behind : Trees) → children_of t ≡ append before (more c behind) → node_bytes (names c) (most_terms c) ≤ node_bytes (names t) (most_terms t)
+narrower t c before behind split =
+    let within = within_trans (child_names t) (within_eq (sym (ap names_of split ∙ names_of-append before (more c behind)))) in
+    let fewer_names = names_rise (names t) (names c) (within_trans within (within_trans (within_right (names_of before) (names c ++ names_of behind)) (within_left (names c) (names_of behind)))) in
+    let fewer_terms : most_terms c ≤ most_terms t = omega (arith, last_terms before (more c behind), le-max_left (most_terms c) (most_terms_of behind), child_terms t, ap most_terms_of split) in
+    omega (arith, mul-le (64 * suc (count_distinct (names c))) (most_terms c) (64 * suc (count_distinct (names t))) (most_terms t) (omega (arith, fewer_names)) fewer_terms)

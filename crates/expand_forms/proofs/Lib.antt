@@ -51,6 +51,8 @@ pub mod Gathered
 pub mod Rows
 pub mod NodeBits
 pub mod OverAnswers
+pub mod PowersOfSums
+pub mod AnswerFaults
 pub mod Defined
 pub mod Shared
 pub mod Turned

@@ -11,6 +11,7 @@ pub mod Reading
 pub mod Rows
 pub mod Merging
 pub mod Walks
+pub mod PowersOfSums
 pub mod Listed
 pub mod PackedOrder
 pub mod ByValues

@@ -8,7 +8,8 @@ ghost use Rattle.calc_terms.specs.Trees.{nodes, size};
 ghost use Rattle.expand_forms.specs.ExpandedTrees.{expanded};
 ghost use Rattle.expand_forms.specs.ExpansionRoom.{expansion_room};
 ghost use Rattle.expand_forms.specs.PolynomialTrees.{is_polynomial, polynomial_of};
-ghost use Rattle.expand_forms.specs.Walks.{IsExpandedFrom, IsPolynomial, MayLack, MayOverflow};
+ghost use Rattle.expand_forms.specs.PowersOfSums.{IsReadyFrom};
+ghost use Rattle.expand_forms.specs.Walks.{IsPolynomial, MayLack, MayOverflow};
 ghost use Rattle.node_pool.specs.State.{free_of};
 ghost use Rattle.reduce_port.specs.Checks.{CalmUpTo, TripsWithin};
 ghost use Rattle.reduce_port.specs.Faults.{CountsRefusals, IfFull, IfInterrupted, IfOverflow};
@@ -17,7 +18,8 @@ ghost use Rattle.tree_handles.specs.Handed.{Gives, IsHanded, KeepsFront, tree_of
 ghost use Rattle.tree_handles.specs.Roots.{without_root};
 ghost use Rattle.tree_handles.specs.Standing.{LacksBytes, Stands, forest};
 
-use crate::node::expand_node;
+use crate::powers_of_sums::raise_answer;
+use crate::step::expand_next;
 use crate::term_lists::TermLists;
 use breakers::{Breaker, Watch};
 use node_pool::Pool;
@@ -70,14 +72,17 @@ pub fn expand<B: Breaker>(
     ensures front { KeepsFront (tree ∷ []) (forest pool.old) (forest pool.new) }
     ensures stands { Stands pool.new }
 {
-    walk(pool, tree, watch, lists)
+    match walk(pool, tree, watch, lists) {
+        Ok(answer) => Ok(raise_answer(pool, answer, lists)?),
+        Err(fault) => Err(fault),
+    }
 }
 
-/// Expands one node over expanded children.
+/// Expands one node over what has become of its children.
 impl NodeStep for TermLists {
     ghost can_take = { IsPolynomial };
 
-    ghost answers = { IsExpandedFrom };
+    ghost answers = { IsReadyFrom };
 
     ghost may_lack = { MayLack };
 
@@ -86,6 +91,6 @@ impl NodeStep for TermLists {
     fn laws(&self) {}
 
     fn step(&mut self, pool: &mut Pool, tree: Handle) -> Result<Handle, NumberFault> {
-        expand_node(pool, tree, self)
+        expand_next(pool, tree, self)
     }
 }

@@ -2,14 +2,16 @@
 ghost use Rattle.calc_measures.specs.Measures.{bits_of};
 ghost use Rattle.expand_forms.specs.ExpansionBits.{AreHeldTogether, IsHeld, IsNoOverflow};
 ghost use Rattle.expand_forms.specs.Walks.{IsOver};
-ghost use Rattle.std.specs.Prelude.{ℕ, List, ◌≡◌, ◌≤◌, ◌<◌, ◌+◌, [], ◌∷◌, ◌++◌, IfOk, IfErr, OnOk, length, true};
+ghost use Rattle.std.specs.Prelude.{ℕ, List, ◌≡◌, ◌≤◌, ◌<◌, ◌+◌, ◌^◌, [], ◌∷◌, ◌++◌, IfOk, IfErr, OnOk, length, true};
 ghost use Rattle.calc_algebra.specs.Rewritings.{HasNoNewName};
 ghost use Rattle.calc_terms.specs.Fractions.{one_fraction};
 ghost use Rattle.calc_terms.specs.Trees.{Tree, names, num, size};
 ghost use Rattle.child_lists.specs.Lists.{Lists};
 ghost use Rattle.expand_forms.specs.ExpandedTrees.{expanded};
 ghost use Rattle.expand_forms.specs.ExpansionRoom.{HasFewTerms, node_bytes, sum_bytes};
+ghost use Rattle.expand_forms.specs.Named.{IsListOf, names_of};
 ghost use Rattle.expand_forms.specs.Parts.{has_factors, has_parts, multiplied, parts_of, total};
+ghost use Rattle.expand_forms.specs.Polynomials.{Polynomial};
 ghost use Rattle.expand_forms.specs.PolynomialTrees.{has_polynomial_root, is_polynomial, polynomial_of};
 ghost use Rattle.expand_forms.specs.Sums.{AreExpanded, IsSum, IsSumOf};
 ghost use Rattle.node_pool.specs.State.{free_of};
@@ -20,7 +22,7 @@ ghost use Rattle.tree_handles.specs.Faults.{Faults, OfOverflow};
 ghost use Rattle.tree_handles.specs.Handed.{Gives, IsHanded, KeepsFront, tree_of};
 ghost use Rattle.tree_handles.specs.Inside.{tree_at};
 ghost use Rattle.tree_handles.specs.Roots.{without_root};
-ghost use Rattle.tree_handles.specs.Standing.{KeepsRefusals, Stands, forest};
+ghost use Rattle.tree_handles.specs.Standing.{KeepsRefusals, LacksBytes, Refuses, Stands, forest};
 
 use crate::by_values::expand_values;
 use crate::joining::join_row;
@@ -30,12 +32,11 @@ use crate::products::{finished, times};
 use crate::term_lists::TermLists;
 use calc_terms::{Kind, Rat};
 use child_lists::{ChildList, MANY};
-use node_pool::{Id, Pool};
+use node_pool::{Full, Id, Pool};
 use tree_handles::{Handle, NumberFault, copy_tree, node, number, release};
 
-/// The expanded tree of a node over expanded children, which is consumed. It is not inlined, so that the walk keeps little of the
-/// machine's stack for each level.
-#[inline(never)]
+/// The expanded tree of a node over expanded children, which is consumed. It is expanded in lists where it fits into them, and
+/// among the trees otherwise.
 pub(crate) fn expand_node(
     pool: &mut Pool,
     tree: Handle,
@@ -55,32 +56,57 @@ pub(crate) fn expand_node(
         → IfErr result (OfFull (λ full. free_of pool.old < node_bytes (names whole) n)) }
     ensures stands { Stands pool.new }
 {
-    let answer = place_answer(pool, tree.id(), lists)?;
+    if expand_values(pool, tree.id(), lists) {
+        return Ok(place_listed(pool, tree, lists)?);
+    }
+    expand_by_trees(pool, tree)
+}
+
+/// The tree of the terms that are listed, in the place of a tree, which is consumed.
+pub(crate) fn place_listed(
+    pool: &mut Pool,
+    tree: Handle,
+    lists: &mut TermLists,
+) -> Result<Handle, Full>
+    requires stands { Stands pool.old }
+    requires handed { IsHanded tree (forest pool.old) }
+    requires list { (v : Polynomial) × IsListOf (names_of lists.old.names.items) lists.old.answer.items v }
+    requires few { length lists.old.answer.items < 2 ^ 16 }
+    ensures ok { (v : Polynomial) → IsListOf (names_of lists.old.names.items) lists.old.answer.items v
+        → IfOk result (λ h. Gives (without_root tree (forest pool.old)) (forest pool.new) h (λ t. t ≡ expanded v)) }
+    ensures front { KeepsFront (tree ∷ []) (forest pool.old) (forest pool.new) }
+    ensures kept { OnOk result (KeepsRefusals pool.old pool.new) }
+    ensures full { IfErr result (Refuses pool.old pool.new) }
+    ensures caused { IfErr result (LacksBytes pool.new) }
+    ensures room { (v : Polynomial) (ns : List (List ℕ)) (n : ℕ) → IsListOf (names_of lists.old.names.items) lists.old.answer.items v → HasFewTerms ns n v
+        → IfErr result (λ full. free_of pool.old < node_bytes ns n) }
+    ensures stands { Stands pool.new }
+{
+    let answer = place_terms(pool, &lists.names, &mut lists.answer)?;
     release(pool, tree);
     Ok(answer)
 }
 
-/// A new last tree: the expanded tree of a node over expanded children, which stays. It is expanded in lists where it fits into
-/// them, and among the trees otherwise.
-fn place_answer(pool: &mut Pool, id: Id, lists: &mut TermLists) -> Result<Handle, NumberFault>
+/// The expanded tree of a node over expanded children, which is consumed. It is expanded among the trees.
+#[inline(never)]
+pub(crate) fn expand_by_trees(pool: &mut Pool, tree: Handle) -> Result<Handle, NumberFault>
     requires stands { Stands pool.old }
-    requires expression { IsExpression id (forest pool.old) }
-    requires polynomial { has_polynomial_root (plain (tree_at id (forest pool.old))) ≡ true }
-    requires children { AreExpanded (children_of (plain (tree_at id (forest pool.old)))) }
-    ensures ok { let old = forest pool.old in IfOk result (λ h. Gives old (forest pool.new) h (λ t. t ≡ expanded (polynomial_of (plain (tree_at id old))))) }
-    ensures front { KeepsFront [] (forest pool.old) (forest pool.new) }
+    requires handed { IsHanded tree (forest pool.old) }
+    requires polynomial { has_polynomial_root (tree_of tree pool.old) ≡ true }
+    requires children { AreExpanded (children_of (tree_of tree pool.old)) }
+    ensures ok { IfOk result (λ h. Gives (without_root tree (forest pool.old)) (forest pool.new) h (λ t. t ≡ expanded (polynomial_of (tree_of tree pool.old)))) }
+    ensures front { KeepsFront (tree ∷ []) (forest pool.old) (forest pool.new) }
     ensures kept { OnOk result (KeepsRefusals pool.old pool.new) }
     ensures faults { IfErr result (Faults pool.old pool.new) }
     ensures caused { IfErr result (IsCaused pool.new) }
-    ensures fits { (whole : Tree) → IsOver whole (plain (tree_at id (forest pool.old))) → is_polynomial whole ≡ true → IfErr result (OfOverflow (λ o. 124 < bits_of whole)) }
-    ensures room { let t = plain (tree_at id (forest pool.old)) in
-        (whole : Tree) (n : ℕ) → HasNoNewName whole t → length (polynomial_of t) ≤ n → IfErr result (OfFull (λ full. free_of pool.old < node_bytes (names whole) n)) }
+    ensures fits { (whole : Tree) → IsOver whole (tree_of tree pool.old) → is_polynomial whole ≡ true → IfErr result (OfOverflow (λ o. 124 < bits_of whole)) }
+    ensures room { (whole : Tree) (n : ℕ) → HasNoNewName whole (tree_of tree pool.old) → length (polynomial_of (tree_of tree pool.old)) ≤ n
+        → IfErr result (OfFull (λ full. free_of pool.old < node_bytes (names whole) n)) }
     ensures stands { Stands pool.new }
 {
-    if expand_values(pool, id, lists) {
-        return Ok(place_terms(pool, &lists.names, &mut lists.answer)?);
-    }
-    place_expansion(pool, id)
+    let answer = place_expansion(pool, tree.id())?;
+    release(pool, tree);
+    Ok(answer)
 }
 
 /// A new last tree: the expanded tree of a node over expanded children, which stays. It is expanded among the trees.

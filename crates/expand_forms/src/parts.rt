@@ -5,6 +5,7 @@ ghost use Rattle.calc_terms.specs.Rat.{value_of};
 ghost use Rattle.calc_terms.specs.Trees.{count};
 ghost use Rattle.expand_forms.specs.Parts.{has_factors, has_parts, multiplied, part, part_factor, parts_of};
 ghost use Rattle.expand_forms.specs.PolynomialTrees.{divisor_of, exponent_of as natural_exponent, has_polynomial_root, is_divisor, is_exponent};
+ghost use Rattle.expand_forms.specs.PowersOfSums.{AreReady, IsReady};
 ghost use Rattle.expand_forms.specs.Sums.{AreExpanded, IsExpanded};
 ghost use Rattle.tree_handles.specs.Expressions.{IsExpression, children_of, nth, plain};
 ghost use Rattle.tree_handles.specs.Inside.{holds, tree_at};
@@ -61,7 +62,7 @@ pub(crate) fn part_at(pool: &Pool, id: Id, at: u16) -> Part
     requires stands { Stands pool.now }
     requires expression { IsExpression id (forest pool.now) }
     requires polynomial { has_polynomial_root (plain (tree_at id (forest pool.now))) ≡ true }
-    requires children { AreExpanded (children_of (plain (tree_at id (forest pool.now)))) }
+    requires children { AreReady (children_of (plain (tree_at id (forest pool.now)))) }
     requires within { at < length (parts_of (plain (tree_at id (forest pool.now)))) }
     ensures part { let ps = parts_of (plain (tree_at id (forest pool.now))) in
         drop at ps ≡ part (value_of result.factor) (plain (tree_at result.tree (forest pool.now))) ∷ drop (at + 1) ps }
@@ -69,7 +70,8 @@ pub(crate) fn part_at(pool: &Pool, id: Id, at: u16) -> Part
     ensures expression { IsExpression result.tree (forest pool.now) }
     ensures inside { holds result.tree (tree_at id (forest pool.now)) ≡ true }
     ensures child { plain (tree_at result.tree (forest pool.now)) ≡ nth at (children_of (plain (tree_at id (forest pool.now)))) }
-    ensures expanded { IsExpanded (plain (tree_at result.tree (forest pool.now))) }
+    ensures ready { IsReady (plain (tree_at result.tree (forest pool.now))) }
+    ensures expanded { AreExpanded (children_of (plain (tree_at id (forest pool.now)))) → IsExpanded (plain (tree_at result.tree (forest pool.now))) }
 {
     Part {
         factor: factor_at(pool, id, at),
@@ -82,7 +84,7 @@ fn factor_at(pool: &Pool, id: Id, at: u16) -> Rat
     requires stands { Stands pool.now }
     requires expression { IsExpression id (forest pool.now) }
     requires polynomial { has_polynomial_root (plain (tree_at id (forest pool.now))) ≡ true }
-    requires children { AreExpanded (children_of (plain (tree_at id (forest pool.now)))) }
+    requires children { AreReady (children_of (plain (tree_at id (forest pool.now)))) }
     ensures value { value_of result ≡ part_factor (plain (tree_at id (forest pool.now))) at }
     ensures nonzero { is_zero_fraction (value_of result) ≡ false }
 {

@@ -1,11 +1,12 @@
 use Rattle.std.proofs.Common.{◌≡◌, ◌<◌, ◌+◌, ◌-◌, ◌∙◌, ℕ, ap, refl, sym, subst, arith}
 use Rattle.expand_forms.specs.Named.{names_of}
-use Rattle.expand_forms.proofs.Shared.{IsExpanded, children_of, count, forest, plain, polynomial_of, product, product_of, tree_at}
+use Rattle.expand_forms.proofs.Shared.{children_of, count, forest, plain, polynomial_of, product, product_of, tree_at}
 use Rattle.expand_forms.proofs.ListLaws.{list_as, list_none, list_power}
 use Rattle.expand_forms.proofs.NodeAnswers.{product_from, product_from_none, product_polynomial_of}
-use Rattle.expand_forms.proofs.NodeChildren.{expanded_nth}
 use Rattle.expand_forms.proofs.Nodes.{from}
+use Rattle.expand_forms.proofs.PowersOfSums.{ready_nth}
 use Rattle.expand_forms.proofs.SameCoefficients.{same_is}
+use Rattle.expand_forms.specs.PowersOfSums.{IsReady}
 use Rattle.expand_forms.proofs.ValueNodes.{can_name_child, passed}
 use Rattle.expand_forms.proofs.by_values.list_products.Goals as goal
 
@@ -21,11 +22,11 @@ loop-left-init c =
       list = list_as (same_is (sym (product_from_none c.children-left.result ts (omega (arith, many))))) (list_power 0 (list_none ns c.requires.names.names c.requires.names.few) one);
     }
 
-pub multiply_child-requires-clause-expanded : goal.multiply_child-requires-clause-expanded
-multiply_child-requires-clause-expanded c =
+pub multiply_child-requires-clause-ready : goal.multiply_child-requires-clause-ready
+multiply_child-requires-clause-ready c =
     let ts = children_of (plain (tree_at c.args.id (forest c.args.pool.now))) in
-    subst IsExpanded (sym (c.child_id.ensures.plain c.requires.expression))
-    (expanded_nth (c.loop-left.left - 1) ts c.requires.children (omega (arith, c.loop-left.invariant.within, c.loop-left-test.true)))
+    subst IsReady (sym (c.child_id.ensures.plain c.requires.expression))
+    (ready_nth (c.loop-left.left - 1) ts c.requires.children (omega (arith, c.loop-left.invariant.within, c.loop-left-test.true)))
 
 pub multiply_child-requires-clause-names : goal.multiply_child-requires-clause-names
 multiply_child-requires-clause-names c = rw c.loop-left.invariant.names (can_name_child (c.loop-left.left - 1) c.requires.names (c.child_id.ensures.plain c.requires.expression))

@@ -1,26 +1,105 @@
-use Rattle.std.proofs.Common.{◌*◌, ◌≤◌, rules, refl, sym, subst}
-use Rattle.expand_forms.proofs.Shared.{HasNoNewName, Tree, size, if_map, expansion_room, tree_of, gives_as, given_told}
+use Rattle.std.proofs.Common.{◌*◌, ◌≤◌, ◌≡◌, ◌↔◌, ◌+◌, ◌<◌, ℕ, Err, Result, rules, refl, sym, subst, arith}
+use Rattle.breakers.specs.Breakers.{TripsRose}
+use Rattle.breakers.specs.Watch.{states}
+use Rattle.expand_forms.proofs.Shared.{Ends, HasNoNewName, Tree, behind_first, behind_new, bits, expansion_room, forest, free_of, front_after_one, front_same, front_without, given_handed, given_rest, given_told, gives_as, gives_rest, kept_after, last_tree, nodes, replaced_free, size, tree_of, without_root, Forest}
+use Rattle.expand_forms.proofs.AnswerFaults.{caused_full, caused_overflow, no_interruption, refusal, told_full, told_interruption, told_overflow, told_refusals}
 use Rattle.expand_forms.proofs.Names.{expanded_no_new_name}
 use Rattle.expand_forms.proofs.NodeBits.{beyond_bits}
-use Rattle.expand_forms.proofs.TermCounts.{within_room}
+use Rattle.expand_forms.proofs.TermCounts.{some_nodes, within_room}
+use Rattle.reduce_port.proofs.Checks.{calm_raised_none}
+use Rattle.reduce_port.specs.Checks.{CalmUpTo, TripsWithin}
+use Rattle.reduce_port.specs.Faults.{CountsRefusals, IfFull, IfInterrupted, IfOverflow, fault_of}
+use Rattle.reduce_port.specs.declared.fault.ReduceFault.{ReduceFault}
+use Rattle.reduce_port.specs.declared.fault.ReduceFault.TheVariants as fault
 use Rattle.reduce_walk.proofs.Port.{overflow_as, unfit_after_checks}
+use Rattle.tree_handles.proofs.Outcomes.{passed_result}
+use Rattle.tree_handles.specs.Standing.{LacksBytes}
 use Rattle.expand_forms.proofs.expansion.expand.Goals as goal
 
-pub returns : goal.returns
-returns g c =
+pub raise_answer-requires : goal.raise_answer-requires
+raise_answer-requires g c =
+    let t = tree_of c.args.tree c.args.pool.now in
+    let walked = gives_rest c.in-Ok.ensures.ok (λ u e. e) in
+    let i = c.in-Ok.answer in
+    let f = forest c.walk.new.pool in
+    record {
+      stands = c.walk.ensures.stands;
+      handed = given_handed walked;
+      last = subst (λ (x : Forest). Ends i x (without_root i f) f) (sym (last_tree walked.ends)) walked.ends;
+      ready = (t, c.requires.polynomial, given_told c.in-Ok.ensures.ok);
+    }
+
+pub returns-in_ok-raise_answer-in-Ok : goal.returns-in_ok-raise_answer-in-Ok
+returns-in_ok-raise_answer-in-Ok g c =
     let t = tree_of c.args.tree c.args.pool.now in
     let p = c.requires.polynomial in
-    let unfit = c.walk.ensures.overflow_at_its_node in
+    let walked = c.in-Ok.ensures.ok in
+    let raised = c.in_ok-raise_answer-in-Ok.ensures.ok t p (given_told walked) in
     record {
-      ok = if_map c.walk.result _ _ c.walk.ensures.ok (λ h x. gives_as x refl (λ u e. e p));
+      ok = gives_as raised (given_rest walked) (λ u e. e);
+      one_check_a_node = c.in-Ok.ensures.one_check_a_node;
+      no_new_name = subst (λ (u : Tree). HasNoNewName t u) (sym (given_told raised)) (expanded_no_new_name t);
+      within_room = subst (λ (u : Tree). 5 * size u ≤ expansion_room t) (sym (given_told raised)) (within_room t p);
+      interrupted = tt;
+      by_the_one_whose_trips_rose = λ place. (λ e. cc, λ w. absurd (calm_raised_none (nodes t) _ _ place c.in-Ok.ensures.one_check_a_node w));
+      overflow = tt;
+      overflow_beyond_bits = tt;
+      overflow_after_checks = tt;
+      full = tt;
+      full_beyond_room = tt;
+      full_after_checks = tt;
+      refusals = kept_after c.in-Ok.ensures.refusals c.in_ok-raise_answer-in-Ok.ensures.kept;
+      front = front_after_one (behind_new walked.ends (front_without behind_first front_same)) c.walk.ensures.front c.raise_answer.ensures.front;
+      stands = c.in_ok-raise_answer-in-Ok.ensures.stands;
+    }
+
+pub returns-in_err-raise_answer-in-Ok : goal.returns-in_err-raise_answer-in-Ok
+returns-in_err-raise_answer-in-Ok g c =
+    let t = tree_of c.args.tree c.args.pool.now in
+    let p = c.requires.polynomial in
+    let walked = c.in-Ok.ensures.ok in
+    let ready = given_told walked in
+    let e = c.in_err-raise_answer-in-Ok.field-0.0 in
+    let r = c.from_residual.result in
+    let told = λ (P : Result ℕ ReduceFault → Type 0). passed_result r (fault_of e) P c.from_residual.ensures.0 c.from_residual.ensures.1 in
+    let before = states g.B.Breaker.state c.args.watch.now in
+    let after = states g.B.Breaker.state c.walk.new.watch in
+    let calm : CalmUpTo (nodes t) before after = record { checks = nodes t; some = some_nodes t; few = omega arith; calm = c.in-Ok.ensures.one_check_a_node } in
+    let free = replaced_free c.requires.stands c.walk.ensures.stands c.in-Ok.ensures.refusals c.requires.handed walked in
+    record {
+      ok = search rules;
       one_check_a_node = search rules;
-      no_new_name = if_map c.walk.result _ _ c.walk.ensures.ok (λ h x. subst (λ (u : Tree). HasNoNewName t u) (sym (given_told x p)) (expanded_no_new_name t));
-      within_room = if_map c.walk.result _ _ c.walk.ensures.ok (λ h x. subst (λ (u : Tree). 5 * size u ≤ expansion_room t) (sym (given_told x p)) (within_room t p));
+      no_new_name = search rules;
+      within_room = search rules;
+      interrupted = told (λ x. IfInterrupted x (TripsWithin (nodes t) before after)) (told_interruption e (TripsWithin (nodes t) before after));
+      by_the_one_whose_trips_rose = λ place. told (λ x. (x ≡ Err (fault.Interrupted (record { by = place }))) ↔ TripsRose before after place)
+          (λ q. absurd (no_interruption e (record { by = place }) q), λ w. absurd (calm_raised_none (nodes t) before after place c.in-Ok.ensures.one_check_a_node w));
+      overflow = told (λ x. IfOverflow x _) (caused_overflow e c.raise_answer.new.pool c.in_err-raise_answer-in-Ok.ensures.caused);
+      overflow_beyond_bits = told (λ x. IfOverflow x (λ _. 124 < bits t)) (told_overflow e (c.in_err-raise_answer-in-Ok.ensures.fits t p ready) (λ o l. beyond_bits t l));
+      overflow_after_checks = told (λ x. IfOverflow x (λ _. CalmUpTo (nodes t) before after)) (told_overflow e (c.in_err-raise_answer-in-Ok.ensures.fits t p ready) (λ o l. calm));
+      full = told (λ x. IfFull x (LacksBytes c.raise_answer.new.pool)) (caused_full e c.raise_answer.new.pool c.in_err-raise_answer-in-Ok.ensures.caused);
+      full_beyond_room = told (λ x. IfFull x (λ _. free_of c.args.pool.now + size t < expansion_room t)) (told_full e (c.in_err-raise_answer-in-Ok.ensures.room t p ready) (λ full l. omega (arith, l, free)));
+      full_after_checks = told (λ x. IfFull x (λ _. CalmUpTo (nodes t) before after)) (told_full e (c.in_err-raise_answer-in-Ok.ensures.room t p ready) (λ full l. calm));
+      refusals = told (λ x. CountsRefusals c.args.pool.now c.raise_answer.new.pool x) (told_refusals e c.args.pool.now c.walk.new.pool c.raise_answer.new.pool c.in-Ok.ensures.refusals c.in_err-raise_answer-in-Ok.ensures.faults);
+      front = front_after_one (behind_new walked.ends (front_without behind_first front_same)) c.walk.ensures.front c.raise_answer.ensures.front;
+      stands = search rules;
+    }
+
+pub returns-in-Err : goal.returns-in-Err
+returns-in-Err g c =
+    let t = tree_of c.args.tree c.args.pool.now in
+    let unfit = c.in-Err.ensures.overflow_at_its_node in
+    let r = refusal c.in-Err.fault in
+    record {
+      ok = search rules;
+      one_check_a_node = search rules;
+      no_new_name = search rules;
+      within_room = search rules;
       interrupted = search rules;
       by_the_one_whose_trips_rose = search rules;
       overflow = search rules;
-      overflow_beyond_bits = overflow_as c.walk.result unfit (λ o u. beyond_bits t u.unfit);
-      overflow_after_checks = overflow_as c.walk.result unfit (λ o u. unfit_after_checks u);
+      overflow_beyond_bits = overflow_as r unfit (λ o u. beyond_bits t u.unfit);
+      overflow_after_checks = overflow_as r unfit (λ o u. unfit_after_checks u);
       full = search rules;
       full_beyond_room = search rules;
       full_after_checks = search rules;

@@ -1,45 +1,44 @@
-use Rattle.std.proofs.Common.{rules, ◌∙◌, inl, ap, refl, sym, subst, ◌<◌, ◌≤◌, length}
-use Rattle.expand_forms.proofs.Shared.{Tree, names, expression, seen, expanded, has_polynomial_root, polynomial_of, AreExpanded, gives_without, children_of, behind_first, front_after, front_at, front_same, front_without, given_other, gives_as, owned, HasNoNewName, node_bytes, free_of, OfFull, passed_on, bits_of, OfOverflow, IsOver}
+use Rattle.std.proofs.Common.{◌∙◌, ◌<◌, ◌≤◌, length, ap, refl, subst, sym, arith, rules}
+use Rattle.expand_forms.specs.Named.{IsListOf, names_of}
+use Rattle.expand_forms.proofs.Shared.{AreExpanded, OfFull, Polynomial, Tree, children_of, expanded, expression, free_of, gives_as, has_polynomial_root, if_map, names, node_bytes, passed_on, polynomial_of, seen, tree_of}
+use Rattle.expand_forms.proofs.FewTerms.{few_names}
+use Rattle.expand_forms.proofs.PowersOfSums.{all_ready}
+use Rattle.expand_forms.specs.PowersOfSums.{AreReady}
+use Rattle.tree_handles.specs.declared.fault.NumberFault.TheVariants as fault
+use Rattle.expand_forms.proofs.node.expand_node.Goals.{Then-expand_values}
 use Rattle.expand_forms.proofs.node.expand_node.Goals as goal
 
-pub place_answer-requires : goal.place_answer-requires
-place_answer-requires c =
+pub expand_values-requires : goal.expand_values-requires
+expand_values-requires c =
     let s = seen c.id.ensures c.requires.stands c.requires.handed in
     record {
       stands = c.requires.stands;
       expression = expression c.id.ensures c.requires.stands c.requires.handed;
       polynomial = ap has_polynomial_root s ∙ c.requires.polynomial;
-      children = subst (λ (t : Tree). AreExpanded (children_of t)) (sym s) c.requires.children;
+      children = subst (λ (t : Tree). AreReady (children_of t)) (sym s) (all_ready (children_of (tree_of c.args.tree c.args.pool.now)) c.requires.children);
     }
 
-pub release-requires-clause-releasable : goal.release-requires-clause-releasable
-release-requires-clause-releasable c = inl (given_other c.in_ok-answer.ensures.ok c.requires.handed).root
+-- the terms that are listed
+listed : (c : Then-expand_values) → IsListOf (names_of c.expand_values.new.lists.names.items) c.expand_values.new.lists.answer.items (polynomial_of (tree_of c.args.tree c.args.pool.now))
+listed c =
+    subst (λ (t : Tree). IsListOf (names_of c.expand_values.new.lists.names.items) c.expand_values.new.lists.answer.items (polynomial_of t)) (seen c.id.ensures c.requires.stands c.requires.handed)
+    (c.expand_values.ensures.list c.if-expand_values.true)
 
-pub returns-in_err-answer : goal.returns-in_err-answer
-returns-in_err-answer c =
-    let s = sym (seen c.id.ensures c.requires.stands c.requires.handed) in
-    record {
-      ok = search rules;
-      front = front_after front_same c.place_answer.ensures.front;
-      kept = search rules;
-      faults = search rules;
-      caused = search rules;
-      fits = λ whole o p. passed_on c.from_residual.result c.in_err-answer.field-0.0 (OfOverflow (λ x. 124 < bits_of whole)) c.from_residual.ensures.0 c.from_residual.ensures.1
-          (c.in_err-answer.ensures.fits whole (subst (λ (t : Tree). IsOver whole t) s o) p);
-      room = λ whole n h l. passed_on c.from_residual.result c.in_err-answer.field-0.0
-          (OfFull (λ full. free_of c.args.pool.now < node_bytes (names whole) n)) c.from_residual.ensures.0 c.from_residual.ensures.1
-          (c.in_err-answer.ensures.room whole n (subst (HasNoNewName whole) s h) (subst (λ (t : Tree). length (polynomial_of t) ≤ n) s l));
-      stands = search rules;
-    }
+pub place_listed-requires : goal.place_listed-requires
+place_listed-requires c = record {
+  stands = c.requires.stands;
+  handed = c.requires.handed;
+  list = (polynomial_of (tree_of c.args.tree c.args.pool.now), listed (goal.at.place_listed-requires c).Then-expand_values);
+  few = c.expand_values.ensures.few c.if-expand_values.true;
+}
 
-pub returns-clause-ok : goal.returns-clause-ok
-returns-clause-ok c =
-    let given = c.in_ok-answer.ensures.ok in
-    gives_as (gives_without c.args.tree given c.requires.handed.root (c.release.ensures.owned (owned (given_other given c.requires.handed)))) refl
-    (λ t e. e ∙ ap (λ (u : Tree). expanded (polynomial_of u)) (seen c.id.ensures c.requires.stands c.requires.handed))
+pub returns-in_err-place_listed-clause-room : goal.returns-in_err-place_listed-clause-room
+returns-in_err-place_listed-clause-room c = λ whole n h l.
+    let t = tree_of c.args.tree c.args.pool.now in
+    let list = listed (goal.at.returns-in_err-place_listed-clause-room c).Then-expand_values in
+    passed_on c.from_residual.result (fault.Full c.in_err-place_listed.field-0.0) (OfFull (λ full. free_of c.args.pool.now < node_bytes (names whole) n)) c.from_residual.ensures.0 c.from_residual.ensures.1
+    (c.in_err-place_listed.ensures.room (polynomial_of t) (names whole) n list (few_names whole t n h l))
 
-pub returns-clause-front : goal.returns-clause-front
-returns-clause-front c = front_at (front_without behind_first (front_after front_same c.place_answer.ensures.front))
-    (c.release.ensures.owned (owned (given_other c.in_ok-answer.ensures.ok c.requires.handed)))
-
--- ---- what fits
+pub returns-then-expand_values-clause-ok : goal.returns-then-expand_values-clause-ok
+returns-then-expand_values-clause-ok c =
+    c.in_ok-place_listed.ensures.ok (polynomial_of (tree_of c.args.tree c.args.pool.now)) (listed (goal.at.returns-then-expand_values-clause-ok c).Then-expand_values)

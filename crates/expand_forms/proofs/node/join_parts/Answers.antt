@@ -3,6 +3,7 @@ use Rattle.expand_forms.proofs.Shared.{Tree, size, polynomial_of, value_of, row,
 use Rattle.std.proofs.lemmas.List.{drop_all}
 use Rattle.expand_forms.proofs.Gathered.{gathered_append, gathered_is, gathered_refl, gathered_trans}
 use Rattle.expand_forms.proofs.JoinLoops.{IsNextPart, joined_all, joined_lacks, joined_more, joined_none, part_few, part_held}
+use Rattle.expand_forms.proofs.PowersOfSums.{all_ready}
 use Rattle.expand_forms.proofs.NodeParts.{one_term, part_row}
 use Rattle.expand_forms.proofs.TermReadings.{beside}
 use Rattle.expand_forms.proofs.Within.{IsWithin, within}
@@ -28,7 +29,7 @@ part_at-part-requires c =
       stands = j.stands;
       expression = now.expression;
       polynomial = ap has_polynomial_root now.same ∙ c.requires.polynomial;
-      children = subst (λ (t : Tree). AreExpanded (children_of t)) (sym now.same) c.requires.children;
+      children = all_ready (children_of (plain (tree_at c.args.id (forest c.loop-at.pool)))) (subst (λ (t : Tree). AreExpanded (children_of t)) (sym now.same) c.requires.children);
       within = omega (arith, c.part_count-at-end.ensures, ap (λ (t : Tree). length (parts_of t)) now.same, ap (λ (t : Tree). length (parts_of t)) then.same, c.loop-at-test.true);
     }
 
@@ -37,7 +38,9 @@ part_within : (c : After-part_at-part) → IsWithin c.part_at-part.result.tree (
 part_within c = within c.loop-at.invariant.joined.gives c.requires.expression c.part_at-part.ensures.inside c.part_at-part.ensures.expression
 
 expanded_part : (c : After-part_at-part) → IsExpanded (plain (tree_at c.part_at-part.result.tree (without_root c.args.sum.now (forest c.args.pool.now))))
-expanded_part c = subst IsExpanded (part_within c).same c.part_at-part.ensures.expanded
+expanded_part c =
+    let now = beside c.loop-at.invariant.joined.gives c.requires.expression in
+    subst IsExpanded (part_within c).same (c.part_at-part.ensures.expanded (subst (λ (t : Tree). AreExpanded (children_of t)) (sym now.same) c.requires.children))
 
 -- a row, and the parts that are left
 next : (c : After-part_at-part) → IsNextPart (total (drop c.loop-at.at (parts_of (plain (tree_at c.args.id (without_root c.args.sum.now (forest c.args.pool.now)))))))

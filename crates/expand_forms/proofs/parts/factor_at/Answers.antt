@@ -1,8 +1,9 @@
-use Rattle.std.proofs.Common.{◌≡◌, ◌∙◌, ap, refl, sym, subst, arith}
-use Rattle.expand_forms.proofs.Shared.{IsExpanded, Tree, children_number, children_of, count, divisor_of, forest, has_polynomial_root, inverse, is_divisor, is_zero_fraction, one_value, plain, tree_at, value_of}
+use Rattle.std.proofs.Common.{◌≡◌, ◌∙◌, true, ap, refl, sym, subst, arith}
+use Rattle.expand_forms.proofs.Shared.{IsExpanded, Tree, children_number, children_of, count, divisor_of, forest, has_polynomial_root, inverse, is_divisor, is_zero_fraction, nth, one_value, plain, tree_at, value_of}
 use Rattle.expand_forms.proofs.Expansions.{one_nonzero}
 use Rattle.expand_forms.proofs.NodeAnswers.{opposite_value}
-use Rattle.expand_forms.proofs.NodeKinds.{many_children, quotient_node, second_expanded}
+use Rattle.expand_forms.proofs.NodeKinds.{many_children, quotient_node}
+use Rattle.expand_forms.proofs.PowersOfSums.{divisor_expanded, ready_nth}
 use Rattle.expand_forms.proofs.NodeParts.{factor_opposite, factor_other, factor_quotient, factor_sign, minus_nonzero}
 use Rattle.expand_forms.proofs.parts.factor_at.Goals as goal
 
@@ -32,11 +33,12 @@ inverse_divisor-requires c =
     let t = plain (tree_at c.args.id (forest c.args.pool.now)) in
     let node = quotient_node t (sym c.in-Div.is ∙ c.kind.ensures.plain c.requires.expression) in
     let two : count (children_of t) ≡ 2 = many_children node refl in
+    let divisor : is_divisor (nth 1 (children_of t)) ≡ true = ap has_polynomial_root (sym node) ∙ c.requires.polynomial in
     record {
       stands = c.requires.stands;
       expression = c.child_id.ensures.expression c.requires.expression;
-      expanded = subst IsExpanded (sym (c.child_id.ensures.plain c.requires.expression)) (second_expanded t c.requires.children two);
-      divisor = ap is_divisor (c.child_id.ensures.plain c.requires.expression) ∙ ap has_polynomial_root (sym node) ∙ c.requires.polynomial;
+      expanded = subst IsExpanded (sym (c.child_id.ensures.plain c.requires.expression)) (divisor_expanded (ready_nth 1 (children_of t) c.requires.children (omega (arith, two))) divisor);
+      divisor = ap is_divisor (c.child_id.ensures.plain c.requires.expression) ∙ divisor;
     }
 
 pub returns-in-Div : goal.returns-in-Div

@@ -2,7 +2,9 @@ use Rattle.std.proofs.Common.{◌<◌, sym, subst, arith}
 use Rattle.expand_forms.proofs.Shared.{IsExpanded, arity, children_number, children_of, forest, kids_of, plain, tree_at, value_of}
 use Rattle.expand_forms.proofs.NodeChildren.{expanded_nth}
 use Rattle.expand_forms.proofs.NodeParts.{part_next, parts_within}
+use Rattle.expand_forms.proofs.PowersOfSums.{ready_nth}
 use Rattle.expand_forms.proofs.Within.{inside_child}
+use Rattle.expand_forms.specs.PowersOfSums.{IsReady}
 use Rattle.expand_forms.proofs.parts.part_at.Goals as goal
 
 pub child_id-requires-clause-within : goal.child_id-requires-clause-within
@@ -23,5 +25,6 @@ returns c =
       expression = c.child_id.ensures.expression c.requires.expression;
       inside = inside_child c.args.at c.args.id c.child_id.result f c.requires.expression.live few c.child_id.ensures.value;
       child = child;
-      expanded = subst IsExpanded (sym child) (expanded_nth c.args.at (children_of t) c.requires.children within);
+      ready = subst IsReady (sym child) (ready_nth c.args.at (children_of t) c.requires.children within);
+      expanded = λ h. subst IsExpanded (sym child) (expanded_nth c.args.at (children_of t) h within);
     }

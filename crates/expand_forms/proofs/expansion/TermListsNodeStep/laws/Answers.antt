@@ -1,11 +1,12 @@
 use Rattle.std.proofs.Common.{arith}
 use Rattle.expand_forms.proofs.Shared.{child_bits, children_of}
-use Rattle.expand_forms.proofs.OverAnswers.{all_polynomials, child_lacks, each_polynomial, leaf_expanded}
+use Rattle.expand_forms.proofs.OverAnswers.{all_polynomials, each_polynomial, leaf_expanded}
+use Rattle.expand_forms.proofs.PowersOfSums.{child_lacks, leaf_ready}
 use Rattle.expand_forms.proofs.expansion.TermListsNodeStep.laws.Goals as goal
 
 pub returns : goal.returns
 returns c = record {
-  leaf = λ t p l. leaf_expanded t l;
+  leaf = λ t p l. leaf_ready t t (leaf_expanded t l);
   children = λ t p. each_polynomial (children_of t) (all_polynomials t p);
   child_lacks = λ t u before done behind bytes p n l. child_lacks t u before done behind bytes p n l;
   child_overflows = λ t u before done behind place o p n l. omega (arith, l, child_bits t before u behind n.split);

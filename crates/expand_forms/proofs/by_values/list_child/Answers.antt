@@ -1,0 +1,20 @@
+use Rattle.std.proofs.Common.{◌∙◌, List, sym, subst}
+use Rattle.calc_terms.specs.Trees.{names}
+use Rattle.calc_terms.specs.declared.name.Name.{Name}
+use Rattle.expand_forms.specs.Named.{IsListOf, names_of}
+use Rattle.expand_forms.specs.Reading.{AreAmong}
+use Rattle.expand_forms.proofs.Shared.{forest, plain, polynomial_of, tree_at}
+use Rattle.expand_forms.proofs.PowersOfSums.{ready_expanded}
+use Rattle.expand_forms.proofs.ValueNodes.{went}
+use Rattle.expand_forms.proofs.by_values.list_child.Goals as goal
+
+pub read_terms-requires-clause-expanded : goal.read_terms-requires-clause-expanded
+read_terms-requires-clause-expanded c = ready_expanded c.requires.ready (sym c.is_power_of_sum.ensures ∙ c.if-is_power_of_sum.false)
+
+pub read_terms-requires-clause-named : goal.read_terms-requires-clause-named
+read_terms-requires-clause-named c = subst (λ (xs : List Name). AreAmong (names_of xs) (names (plain (tree_at c.args.child (forest c.args.pool.now))))) (sym c.deref.ensures.value) c.requires.names.all
+
+pub returns-clause-list : goal.returns-clause-list
+returns-clause-list c = λ e.
+    let w = polynomial_of (plain (tree_at c.args.child (forest c.args.pool.now))) in
+    subst (λ (xs : List Name). IsListOf (names_of xs) c.read_terms.new.list.items w) c.deref.ensures.value (went c.read_terms.result c.read_terms.ensures.terms (sym c.is_ok.ensures.value ∙ e))

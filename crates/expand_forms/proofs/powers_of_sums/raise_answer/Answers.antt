@@ -1,0 +1,53 @@
+use Rattle.std.proofs.Common.{◌∙◌, ◌<◌, ◌⊎◌, inl, inr, ◌≡◌, true, refl, sym, subst, ap, arith, rules}
+use Rattle.expand_forms.proofs.Shared.{AreExpanded, IsOver, NumberFault, OfOverflow, Tree, bits_of, children_of, expanded, expression, free_of, front_same, gives, gives_as, has_polynomial_root, if_map, kept_same, most_bits, own_bits, polynomial_of, represents_handed, seen, tree_of}
+use Rattle.expand_forms.proofs.OverAnswers.{children_expanded, expanded_from, few_bytes, polynomial_root}
+use Rattle.expand_forms.proofs.PowersOfSums.{answer_expanded, answer_over, lacks, over_ready}
+use Rattle.expand_forms.specs.PowersOfSums.{is_power_of_sum}
+use Rattle.tree_handles.proofs.Refused.{refused_as}
+use Rattle.expand_forms.proofs.powers_of_sums.raise_answer.Goals.{Then-is_power_of_sum}
+use Rattle.expand_forms.proofs.powers_of_sums.raise_answer.Goals as goal
+
+-- the tree is a power of a sum
+power : (c : Then-is_power_of_sum) → is_power_of_sum (tree_of c.args.answer c.args.pool.now) ≡ true
+power c = ap is_power_of_sum (sym (seen c.id.ensures c.requires.stands c.requires.handed)) ∙ sym c.is_power_of_sum.ensures ∙ c.if-is_power_of_sum.true
+
+pub is_power_of_sum-requires-clause-expression : goal.is_power_of_sum-requires-clause-expression
+is_power_of_sum-requires-clause-expression c = expression c.id.ensures c.requires.stands c.requires.handed
+
+pub expand_node-requires : goal.expand_node-requires
+expand_node-requires c =
+    let u = tree_of c.args.answer c.args.pool.now in
+    let (whole, p, r) = c.requires.ready in
+    let o = answer_over p r (power (goal.at.expand_node-requires c).Then-is_power_of_sum) in
+    record { stands = c.requires.stands; handed = c.requires.handed; polynomial = polynomial_root whole u o p; children = children_expanded whole u o p }
+
+pub returns-then-is_power_of_sum : goal.returns-then-is_power_of_sum
+returns-then-is_power_of_sum c =
+    let u = tree_of c.args.answer c.args.pool.now in
+    let h = power (goal.at.returns-then-is_power_of_sum c).Then-is_power_of_sum in
+    let r = c.expand_node.result in
+    let free = free_of c.args.pool.now in
+    record {
+      ok = λ whole p x. if_map r _ _ c.expand_node.ensures.ok (λ i g. gives_as g refl (λ t e. expanded_from whole u (answer_over p x h) p t e p));
+      front = search rules;
+      kept = search rules;
+      faults = search rules;
+      caused = search rules;
+      fits = λ whole p x. refused_as r (c.expand_node.ensures.fits whole (answer_over p x h) p) (λ v l. omega (arith, l, own_bits whole));
+      room = λ whole p x. let o = answer_over p x h in lacks whole u (over_ready o) p r free (few_bytes whole u o p r free c.expand_node.ensures.room);
+      stands = search rules;
+    }
+
+pub returns : goal.returns
+returns c =
+    let h = ap is_power_of_sum (sym (seen c.id.ensures c.requires.stands c.requires.handed)) ∙ sym c.is_power_of_sum.ensures ∙ c.if-is_power_of_sum.false in
+    record {
+      ok = λ whole p x. gives c.requires.last (represents_handed c.requires.handed) (answer_expanded p x h);
+      front = front_same;
+      kept = kept_same c.args.pool.now;
+      faults = tt;
+      caused = tt;
+      fits = λ whole p x. tt;
+      room = λ whole p x. tt;
+      stands = c.requires.stands;
+    }
