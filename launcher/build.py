@@ -23,7 +23,7 @@ from pathlib import Path
 PROGRAM = "poincare"
 SOURCES = ("src", "specs", "proofs")
 # The memory that a proof takes, in bytes, but for few that take more for a while.
-LANE_BYTES = 4_000_000_000
+LANE_BYTES = 4_500_000_000
 # More processes than this share no proof's searches any faster.
 MOST_JOBS = 4
 
@@ -94,7 +94,7 @@ class Build:
         self.crates = read_crates(root)
         waiting = lines_waiting(self.crates, {it: count_lines(root / "crates" / it) for it in self.crates})
         self.left = sorted((it for it in self.crates if it != PROGRAM), key=lambda it: -waiting[it])
-        self.ready, self.running, self.failed = set(), set(), []
+        self.ready, self.failed = set(), []
         self.called = set()
         self.changed = threading.Condition()
         self.begun = time.monotonic()
@@ -127,28 +127,26 @@ class Build:
         return [it for it in self.left if self.ready.issuperset(self.crates[it])]
 
     def take(self):
-        """Waits for a crate that can be begun, and gives it with the number of processes for it; None when no more come."""
+        """Waits for a crate that can be begun, and gives it; None when no more come."""
         with self.changed:
             while self.left and not self.failed:
                 found = self.can_begin()
                 if found:
                     self.left.remove(found[0])
-                    self.running.add(found[0])
-                    share = len(self.lanes) // (len(self.running) + len(found) - 1)
-                    return found[0], max(1, min(share, MOST_JOBS))
+                    return found[0]
                 self.changed.wait()
             return None
 
     def work(self, lane):
-        while taken := self.take():
-            name, jobs = taken
+        # As many processes as there are lanes, so that none that a long crate leaves idle stays so.
+        jobs = min(len(self.lanes), MOST_JOBS)
+        while name := self.take():
             folder = lane / "crates" / name
             status = self.call(folder, "lib", "--jobs", str(jobs))
             if not status:
                 # What a later check of the same crate would begin with takes more room than all libraries.
                 shutil.rmtree(folder / "out" / "incremental", ignore_errors=True)
             with self.changed:
-                self.running.discard(name)
                 self.note(name, status)
                 self.changed.notify_all()
 
