@@ -15,5 +15,6 @@ pub mod Examples
 pub mod FaceRewrites
 pub mod FaceLaws
 pub mod FaceTexts
+pub mod FaceSizes
 pub mod OwnFaces
 pub mod NaturalNodes

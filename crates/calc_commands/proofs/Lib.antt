@@ -4,3 +4,5 @@ pub mod Values
 pub mod Runs
 pub mod Lines
 pub mod Dumps
+pub mod Splitting
+pub mod Colons

@@ -2,3 +2,5 @@ pub mod Commands
 pub mod Numbers
 pub mod Parsing
 pub mod Reports
+pub mod Equations
+pub mod Ranges

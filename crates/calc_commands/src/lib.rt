@@ -3,6 +3,7 @@
 
 mod command;
 mod dump;
+mod equations;
 mod laws;
 mod numbers;
 mod parts;
@@ -10,8 +11,10 @@ mod reports;
 
 pub use command::{Command, is_command, read_command};
 pub use dump::write_dump;
+pub use equations::{EQUATION_LIMIT, EquationRange, SplitFault, split_equations};
 pub use laws::{command_lines_ask_once, dumps_are_short};
 pub use numbers::{read_number, write_count};
+pub use parts::are_blanks;
 pub use reports::{write_after, write_forgot, write_no_breaker, write_pool_report, write_unknown};
 
 #[cfg(test)]

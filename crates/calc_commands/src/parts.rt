@@ -3,7 +3,7 @@ ghost use Rattle.std.specs.Prelude.{◌≡◌, Some, None, MatchOption};
 ghost use Rattle.std.specs.List.{prefix_len};
 ghost use Rattle.calc_language.specs.Tokens.{leading_run};
 ghost use Rattle.calc_terms.specs.Leaf.{name_of};
-ghost use Rattle.calc_commands.specs.Parsing.{argument_of, behind_colon as behind_colon_of, is_in, are_blanks, name_and_text as name_and_text_of, text_behind as text_behind_of, word_and_rest as word_and_rest_of};
+ghost use Rattle.calc_commands.specs.Parsing.{argument_of, behind_colon as behind_colon_of, is_in, are_blanks as all_blank, name_and_text as name_and_text_of, text_behind as text_behind_of, word_and_rest as word_and_rest_of};
 
 use calc_terms::Name;
 use calc_tokens::is_blank;
@@ -50,7 +50,7 @@ pub(crate) fn argument(rest: &[u8]) -> Option<&[u8]>
     let (gap, text) = split(rest, Class::Blank);
     let (argument, behind) = split(text, Class::Dark);
     let apart = argument.is_empty() || !gap.is_empty();
-    if apart && blanks_alone(behind) {
+    if apart && are_blanks(behind) {
         Some(argument)
     } else {
         None
@@ -78,8 +78,9 @@ pub(crate) fn name_and_text(text: &[u8]) -> Option<(Name, &[u8])>
     Some((name, text_behind(rest)?))
 }
 
-fn blanks_alone(bytes: &[u8]) -> bool
-    ensures { result ≡ are_blanks bytes.now }
+/// Whether these are blanks alone, or nothing.
+pub fn are_blanks(bytes: &[u8]) -> bool
+    ensures { result ≡ all_blank bytes.now }
 {
     bytes.iter().all(|byte| is_blank(*byte))
 }

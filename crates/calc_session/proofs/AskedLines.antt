@@ -1,40 +1,11 @@
 -- A line asks for one thing, and is answered by the replies to that.
 use Rattle.std.proofs.lemmas.Bool.{both_ways}
-use Rattle.std.proofs.Common.{◌≡◌, ◌∙◌, ℕ, ◌≤◌, List, [], ◌∷◌, ◌++◌, length, Bool, true, false, cond, nat_eq, Option, refl, ap, subst, arith}
-use Rattle.std.specs.Prelude.{◌&&◌}
-use Rattle.calc_session.proofs.Shared.{list_all, Asked, draw, forget, IsCommandLine, asks_pool, asks_dump, asks_draw, asks_layout, asks_forget, asks_after, asks_diff, asks_solve, asks_expand, is_command, once, is_blank, Tree, Placed, IsStorable, IsReplyToCommand, IsTold, tells, refuses, forgets, is_to_be_drawn, ReadsTree, IsUnstorable, is_ans, finds_names_full, Reason, Reply, report, shown, stored, undefined, State, IsReply, IsReplyTo, IsReplyToTree, IsReplyToValue, Asks, AsksInVain, Request, is_nothing, is_text, is_asked, commanded, is_long, is_no_line, is_no_command, asks_in_vain, is_replied, is_evaluated, cannot_be_stored}
+use Rattle.std.proofs.Common.{◌≡◌, ℕ, ◌≤◌, List, length, Bool, true, false, Option, refl, ap, subst, arith}
+use Rattle.calc_session.proofs.Shared.{Asked, draw, forget, IsCommandLine, once, Tree, Placed, IsStorable, IsReplyToCommand, IsTold, tells, refuses, forgets, is_to_be_drawn, ReadsTree, IsUnstorable, is_ans, finds_names_full, Reason, Reply, report, shown, stored, undefined, State, IsReply, IsReplyTo, IsReplyToTree, IsReplyToValue, Asks, AsksInVain, Request, is_nothing, is_text, is_asked, commanded, is_long, is_no_line, is_no_command, asks_in_vain, is_replied, is_evaluated, cannot_be_stored}
 use Rattle.breakers.specs.State.{State as Breaker}
 use Rattle.calc_session.specs.Asking.{value}
+use Rattle.calc_commands.proofs.Colons.{asks_colon, blank_line}
 use Rattle.calc_session.proofs.TextLemmas.{never_misread, one_text}
-
--- ---- a line that begins with a colon
-
-colon_behind : (before rest : List ℕ) → list_all is_blank before ≡ true → is_command (before ++ (58 ∷ rest)) ≡ true
-colon_behind [] rest h = refl
-colon_behind (b ∷ before) rest h = by (is_blank b) h (λ k. colon_behind before rest k)
-  where
-    by : (t : Bool) → (t && list_all is_blank before) ≡ true → (list_all is_blank before ≡ true → is_command (before ++ (58 ∷ rest)) ≡ true) → cond t (is_command (before ++ (58 ∷ rest))) (nat_eq b 58) ≡ true
-    by true k more = more k
-    by false k more = absurd cc
-
-pub asks_colon : {line : List ℕ} {a : Asked} → IsCommandLine line a → is_command line ≡ true
-asks_colon (asks_pool h) = ap is_command h.whole ∙ colon_behind h.before _ h.blank_before
-asks_colon (asks_dump h) = ap is_command h.whole ∙ colon_behind h.before _ h.blank_before
-asks_colon (asks_draw h) = ap is_command h.whole ∙ colon_behind h.before _ h.blank_before
-asks_colon (asks_layout h) = ap is_command h.whole ∙ colon_behind h.before _ h.blank_before
-asks_colon (asks_forget h n) = ap is_command h.whole ∙ colon_behind h.before _ h.blank_before
-asks_colon (asks_after h n) = ap is_command h.whole ∙ colon_behind h.before _ h.blank_before
-asks_colon (asks_diff h n b) = ap is_command h.whole ∙ colon_behind h.before _ h.blank_before
-asks_colon (asks_solve h) = ap is_command h.whole ∙ colon_behind h.before _ h.blank_before
-asks_colon (asks_expand h) = ap is_command h.whole ∙ colon_behind h.before _ h.blank_before
-
-blank_line : (line : List ℕ) → list_all is_blank line ≡ true → is_command line ≡ false
-blank_line [] h = refl
-blank_line (b ∷ line) h = by (is_blank b) h (λ k. blank_line line k)
-  where
-    by : (t : Bool) → (t && list_all is_blank line) ≡ true → (list_all is_blank line ≡ true → is_command line ≡ false) → cond t (is_command line) (nat_eq b 58) ≡ false
-    by true k more = more k
-    by false k more = absurd cc
 
 -- ---- what a line asks for
 

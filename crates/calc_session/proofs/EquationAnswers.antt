@@ -5,7 +5,7 @@ use Rattle.breakers.specs.State.{State as Breaker}
 use Rattle.node_pool.specs.State.{State as PoolState}
 use Rattle.calc_session.specs.declared.solving.Solved.{Solved}
 use Rattle.calc_session.specs.Solving.{lacks_bytes}
-use Rattle.calc_session.proofs.RisingLemmas.{rises_distinct}
+use Rattle.linear_solve.proofs.RisingLemmas.{rises_distinct}
 use Rattle.calc_session.proofs.SolutionMeanings.{linear_in}
 use Rattle.linear_solve.specs.declared.solution.Solution.TheVariants as solution
 use Rattle.calc_session.specs.declared.answers.Refusal.TheVariants as refusal

@@ -6,7 +6,9 @@ use Rattle.breakers.specs.Breakers.{TripsWithin}
 use Rattle.linear_solve.proofs.CheckCounts.{trips_among_all}
 use Rattle.calc_session.specs.Solving.{lacks_bytes}
 use Rattle.calc_session.proofs.AskedLines.{commanded_report}
-use Rattle.calc_session.proofs.OneReading.{all_read, become_at_all, become_once, names_once, over_six, read_once, split_once}
+use Rattle.calc_commands.proofs.Splitting.{split_once}
+use Rattle.calc_session.proofs.OneReading.{all_read, become_at_all, become_once, read_once}
+use Rattle.linear_solve.proofs.NamesOnce.{names_once, over_six}
 use Rattle.calc_session.proofs.SolutionMeanings.{told_says}
 
 solves_told : (free : ℕ) (xs : List (List ℕ)) (es : List Equation) (before after : List Breaker) (reply : Reply) → IsSolution free xs es before after reply → ((m : Misfit) → solving xs es ≡ Err m → ⊥) → form_room ≤ free

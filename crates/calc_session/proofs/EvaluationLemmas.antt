@@ -1,20 +1,19 @@
 -- Lemmas on what the tree of a line comes to.
 use Rattle.std.proofs.Common.{◌≡◌, ◌∙◌, ◌↔◌, ℕ, zero, suc, ◌+◌, ◌*◌, ◌≤◌, ◌<◌, List, [], ◌∷◌, true, false, Option, Some, None, Result, Ok, Err, ◌⊎◌, inl, inr, refl, sym, ap, subst, arith}
 use Rattle.std.specs.Prelude.{Contains}
-use Rattle.calc_session.proofs.Shared.{Contains-append_cases, CalmChecks, TripsRose, IsEasy, Reduces, face, HasNames, Token, building, IsTreeOf, one_line, name_of, Tree, num, symbol, undef, add, mult, power, root, neg, sub, div, is_undef, names, nodes, root_kind, size, NamedTree, values, LacksNames, lacks, fills, filling, refused_filling, FaultsFilling, IsKeepable, names_with, Table, table_names, Full, AreNodes, used, free_of, AreNodes-right, MayExceed, Covers, CalmUpTo, TripsWithin, Evaluates, HasEasyBadPart, CountsRefusals, IfFull, IfInterrupted, IfOverflow, ReduceFault, Overflows, plain, Forest, flatten, bytes_in, tree_of, Gives, KeepsFront, Starts, root_tree, without_root, LacksBytes, Stands, forest, KeepsRefusals, bytes_in-join, flatten-join, behind_first, behind_new, front_after_one, front_at, front_end, front_same, front_without, given_rest, given_told, gives_as, last_tree, size-plain, Refusal, Evaluation, Face, Undefined, Refused, ComesTo, CountsRefusal, IsDisplayOf, LacksName, refusal_of, refusal_to_fill, reason_of, reply_of, HasFittingRationals, IsAnswerTo, IsReplyWith, has_no_value, holds_its_name, is_shown, is_stored, OverflowsAt, IsReduction, lacks_bytes, is_answered, made, Unmade, IsReplyToTree, IsReady, is_made, Reply, displayed, circular, refused, refusal_in, state_of}
+use Rattle.calc_session.proofs.Shared.{HasNoNewName, Contains-append_cases, CalmChecks, TripsRose, IsEasy, Reduces, face, HasNames, Token, building, IsTreeOf, one_line, name_of, Tree, undef, is_undef, names, nodes, root_kind, size, NamedTree, values, LacksNames, lacks, fills, filling, refused_filling, FaultsFilling, IsKeepable, names_with, Table, table_names, Full, AreNodes, used, free_of, AreNodes-right, MayExceed, Covers, CalmUpTo, TripsWithin, Evaluates, HasEasyBadPart, CountsRefusals, IfFull, IfInterrupted, IfOverflow, ReduceFault, Overflows, plain, Forest, flatten, bytes_in, tree_of, Gives, KeepsFront, Starts, root_tree, without_root, LacksBytes, Stands, forest, KeepsRefusals, bytes_in-join, flatten-join, behind_first, behind_new, front_after_one, front_at, front_end, front_same, front_without, given_rest, given_told, gives_as, last_tree, size-plain, Refusal, Evaluation, Face, Undefined, Refused, ComesTo, CountsRefusal, IsDisplayOf, LacksName, refusal_of, refusal_to_fill, reason_of, reply_of, HasFittingRationals, IsAnswerTo, IsReplyWith, has_no_value, holds_its_name, is_shown, is_stored, OverflowsAt, IsReduction, lacks_bytes, is_answered, made, Unmade, IsReplyToTree, is_made, Reply, displayed, circular, refused, refusal_in, state_of}
 use Rattle.breakers.specs.State.{State as Breaker}
 use Rattle.calc_measures.specs.PlainOverflows.{is_overflow, nodes_to_overflow}
 use Rattle.calc_measures.specs.PlainTrees.{IsPlainAnswer, IsPlainOverflow}
 use Rattle.calc_measures.specs.PlainValues.{plain_value}
+use Rattle.reduce_port.proofs.Leaves.{one_node}
 use Rattle.name_table.specs.declared.fault.FillFault.{FillFault}
 use Rattle.node_pool.specs.State.{State}
 use Rattle.tree_handles.proofs.Places.{used_forest}
 use Rattle.calc_session.specs.Evaluations.{is_interrupted, does_not_fit}
 use Rattle.calc_session.specs.Faces.{Shows}
-use Rattle.calc_session.specs.declared.parts.Workspace.{Workspace}
-use Rattle.calc_session.proofs.FaceNames.{face_names}
 use Rattle.calc_session.proofs.StoredTrees.{fitting_tree, named_tree}
-use Rattle.calc_session.proofs.WritableFaces.{face_written}
+use Rattle.beautify.proofs.FaceTexts.{face_names, face_written}
 use Rattle.calc_terms.specs.declared.kind.Kind.TheVariants as kind
 use Rattle.reduce_port.specs.declared.fault.ReduceFault.TheVariants as fault
 use Rattle.calc_session.specs.declared.answers.Refusal.TheVariants as refusal
@@ -58,18 +57,6 @@ front_over g k = front_after_one (behind_new g.ends front_same) (front_end g.end
 pub front_in_place : {f g h others : Forest} {i j : ℕ} {P Q : Tree → Type 0} → Gives others f i P → Gives others g j Q → KeepsFront (i ∷ []) f g → KeepsFront (j ∷ []) g h → KeepsFront (i ∷ []) f h
 front_in_place p q k l = front_after_one (behind_new q.ends (front_at (front_without behind_first front_same) (sym (given_rest p)))) k l
 
-pub some_node : (t : Tree) → 1 ≤ nodes t
-some_node (num q) = omega arith
-some_node (symbol x) = omega arith
-some_node undef = omega arith
-some_node (add ts) = omega arith
-some_node (mult ts) = omega arith
-some_node (power b e) = omega arith
-some_node (root a) = omega arith
-some_node (neg a) = omega arith
-some_node (sub a b) = omega arith
-some_node (div a b) = omega arith
-
 -- ---- reduced trees
 
 -- what the reducer says of its answer
@@ -90,9 +77,9 @@ kept_reply : (answer : Tree) (store : Option (List ℕ)) → is_undef answer ≡
 kept_reply answer None d h = is_shown d
 kept_reply answer (Some x) d h = is_stored d h
 
-lacking_face : (store : Option (List ℕ)) (answer : Tree) → LacksName store answer → LacksName store (face answer)
-lacking_face None answer h = tt
-lacking_face (Some x) answer h = λ m. h ((face_names answer).name x m)
+lacking_face : (store : Option (List ℕ)) (answer : Tree) → HasNoNewName answer (face answer) → LacksName store answer → LacksName store (face answer)
+lacking_face None answer n h = tt
+lacking_face (Some x) answer n h = λ m. h (n.name x m)
 
 module _ (room bits : Option (Tree → ℕ)) (before after : List Breaker) (store : Option (List ℕ)) where
   answer_to : {s mid : State} {others : Forest} {i j : ℕ} {P : Tree → Type 0} → Stands s → Stands mid → mid.size ≡ s.size → Gives others (forest s) i P → IsAnswered room before after (tree_of i s) j mid others → IsAnswerTo (free_of s + size (tree_of i s)) (tree_of i s) (tree_of j mid)
@@ -109,16 +96,20 @@ module _ (room bits : Option (Tree → ℕ)) (before after : List Breaker) (stor
   pub shown_answer : {s mid new : State} {others : Forest} {i j : ℕ} {P : Tree → Type 0} (result : Evaluation) → Stands s → Stands mid → Stands new → mid.size ≡ s.size → new.size ≡ mid.size → Gives others (forest s) i P
       → IsAnswered room before after (tree_of i s) j mid others → KeepsFront (j ∷ []) (forest mid) (forest new) → Shows store j mid new result
       → ComesTo (IsReduction room bits (free_of s + size (tree_of i s)) (tree_of i s) before after store) (IsDisplayOf store (tree_of i s)) store others (forest new) result
-  shown_answer {s} {mid} {new} {others} {i} {j} (Face h) st st' st'' e e' g a k (defined, clear, f) = (
-    face (tree_of j mid),
-    is_answered a.checks (answer_to st st' e g a) (kept_reply (tree_of j mid) store defined clear),
-    record {
-      writable = face_written (tree_of j mid) (given_told a.gives).reduced (subst (λ (x : Forest). HasNames (plain x)) (sym (last_tree a.gives.ends)) (named_tree a.gives.tree (last_nodes st' a.gives)));
-      no_new_name = record { name = λ x m. (given_told a.gives).no_new_name.name x ((face_names (tree_of j mid)).name x m) };
-      clear = lacking_face store (tree_of j mid) clear;
-    },
-    gives_as f (given_rest a.gives) (λ t x. x),
-  )
+  shown_answer {mid = mid} {j = j} (Face h) st st' st'' e e' g a k (defined, clear, f) =
+      let answer = tree_of j mid in
+      let reduces = given_told a.gives in
+      let named : HasNames answer = subst (λ (x : Forest). HasNames (plain x)) (sym (last_tree a.gives.ends)) (named_tree a.gives.tree (last_nodes st' a.gives)) in
+      let names = face_names answer reduces.reduced named in (
+        face answer,
+        is_answered a.checks (answer_to st st' e g a) (kept_reply answer store defined clear),
+        record {
+          writable = face_written answer reduces.reduced named;
+          no_new_name = record { name = λ x m. reduces.no_new_name.name x (names.name x m) };
+          clear = lacking_face store answer names clear;
+        },
+        gives_as f (given_rest a.gives) (λ t x. x),
+      )
   shown_answer Undefined st st' st'' e e' g a k f = is_answered a.checks (answer_to st st' e g a) (has_no_value f)
   shown_answer {mid = mid} {j = j} (Refused (refusal.Circular name)) st st' st'' e e' g a k (defined, is, holds) =
       is_answered a.checks (answer_to st st' e g a) (subst (λ s. IsReplyWith (tree_of j mid) s (refused (circular (name_of name)))) (sym is) (holds_its_name defined holds))
@@ -127,7 +118,7 @@ module _ (room bits : Option (Tree → ℕ)) (before after : List Breaker) (stor
         lacking = want.lacking;
         few = omega (arith, want.free, free_there st st'' (e' ∙ e) g (first_still a.gives k));
         beyond_room = exceeds room (tree_of i s) (free_of s + size (tree_of i s)) (free_of mid) (size (tree_of j mid)) (free_same st st' e g a.gives) short a.within;
-        checks = record { checks = nodes (tree_of i s); some = some_node (tree_of i s); few = omega arith; calm = a.checks };
+        checks = record { checks = nodes (tree_of i s); some = one_node (tree_of i s); few = omega arith; calm = a.checks };
       })
   shown_answer (Refused _) st st' st'' e e' g a k f = absurd f
 

@@ -6,9 +6,10 @@ use Rattle.calc_measures.specs.Measures.{bits}
 use Rattle.expand_forms.proofs.Defined.{expanded_defined}
 use Rattle.node_pool.specs.State.{State}
 use Rattle.calc_session.specs.Expanding.{is_interrupted, does_not_fit, lacks_bytes}
-use Rattle.calc_session.proofs.EvaluationLemmas.{first_still, free_same, free_there, last_nodes, some_node}
+use Rattle.calc_session.proofs.EvaluationLemmas.{first_still, free_same, free_there, last_nodes}
+use Rattle.reduce_port.proofs.Leaves.{one_node}
 use Rattle.calc_session.proofs.StoredTrees.{named_tree}
-use Rattle.calc_session.proofs.WritableFaces.{face_written}
+use Rattle.beautify.proofs.FaceTexts.{face_written}
 use Rattle.reduce_port.specs.declared.fault.ReduceFault.TheVariants as fault
 
 module _ (s mid : State) {others : Forest} {i j : ℕ} {P : Tree → Type 0} (g : Gives others (forest s) i P) (k : Gives others (forest mid) j (λ t. t ≡ expanded (polynomial_of (tree_of i s)))) where
@@ -36,7 +37,7 @@ module _ (s mid : State) {others : Forest} {i j : ℕ} {P : Tree → Type 0} (g 
       lacking = want.lacking;
       few = omega (arith, want.free, free_there st st'' (e ∙ same) g (first_still k front));
       beyond_room = omega (arith, free_same st st' same g k, short, within);
-      checks = record { checks = nodes (tree_of i s); some = some_node (tree_of i s); few = omega arith; calm = calm };
+      checks = record { checks = nodes (tree_of i s); some = one_node (tree_of i s); few = omega arith; calm = calm };
     }
 
 -- what a fault is answered with

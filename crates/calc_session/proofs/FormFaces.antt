@@ -3,7 +3,7 @@ use Rattle.std.proofs.Common.{◌≡◌, ℕ, ◌+◌, ◌*◌, ◌≤◌, List,
 use Rattle.std.specs.Prelude.{⊤}
 use Rattle.calc_session.proofs.Shared.{face, has_minus, next_term, next_terms, unsigned_face, with_minus, SoFar, as_tree, Fraction, is_one_fraction, is_zero_fraction, zero_fraction, Tree, num, symbol, mult, Trees, none, more, count, is_undef, size, sizes, IsSmall, form_tree, multiple_of, multiples, sum_of_trees, summands}
 use Rattle.calc_session.proofs.FormLemmas.{sizes_of_multiples}
-use Rattle.calc_session.proofs.PlacingLemmas.{sizes_append}
+use Rattle.beautify.proofs.Sizes.{sizes-append}
 
 size_num : (q : Fraction) → size (num q) ≤ 40
 size_num q = grind arith
@@ -12,7 +12,7 @@ size-minus : (b : Bool) (t : Tree) → size (with_minus b t) ≤ size t + 8
 size-minus b t = grind arith
 
 size-next : (s : SoFar) (b : Bool) (t : Tree) → size (as_tree (next_term s b t)) ≤ size (as_tree s) + size t + 8
-size-next s b t = grind (arith, sizes_append)
+size-next s b t = grind (arith, sizes-append)
 
 -- ---- faces without their signs
 

@@ -6,7 +6,7 @@ use Rattle.calc_algebra.specs.Meanings.{Gives}
 use Rattle.calc_algebra.specs.Numbers.{Rises as TermsRise}
 use Rattle.calc_algebra.proofs.MeaningRewrites.{none_sum, one_sum, product_more, product_one, sum_more, sum_none}
 use Rattle.calc_terms.specs.FractionLaws.{one_times, zero_times, zero_plus}
-use Rattle.calc_session.proofs.RisingLemmas.{before_is}
+use Rattle.linear_solve.proofs.RisingLemmas.{before_is}
 
 -- ---- a multiple of a name
 

@@ -4,7 +4,7 @@ use Rattle.calc_session.proofs.Shared.{bytes_eq, All-cons, All-head, All-nil, Al
 use Rattle.breakers.specs.State.{State as Breaker}
 use Rattle.name_table.proofs.Holders.{holders-told}
 use Rattle.name_table.proofs.Later.{values-counted, values-left}
-use Rattle.calc_session.proofs.FaceSizes.{face_large}
+use Rattle.beautify.proofs.FaceSizes.{face_large}
 use Rattle.calc_session.proofs.MeaningLemmas.{shows_meaning}
 
 -- ---- entries

@@ -1,6 +1,4 @@
 pub mod StoredTrees
-pub mod WritableFaces
-pub mod FaceNames
 pub mod PoolLemmas
 pub mod ReadLemmas
 pub mod EvaluationLemmas
@@ -18,10 +16,9 @@ pub mod MeaningLemmas
 pub mod TextLemmas
 pub mod AskedLines
 pub mod ExpressionReplies
+pub mod MadeTrees
 pub mod SlopeLemmas
 pub mod ExpandedLines
-pub mod RisingLemmas
-pub mod Splitting
 pub mod FormLemmas
 pub mod PlacingLemmas
 pub mod FormFaces
@@ -34,8 +31,6 @@ pub mod EquationAnswers
 pub mod RangeLemmas
 pub mod OneReading
 pub mod EquationLines
-pub mod Growing
 pub mod EnoughLemmas
-pub mod FaceSizes
 pub mod LargeTrees
 pub mod Shared

@@ -3,6 +3,9 @@ use Rattle.std.proofs.Common.{◌≡◌, ◌≢◌, ◌∙◌, ℕ, zero, suc, �
 use Rattle.std.specs.Prelude.{ℤ, pos, IfErr, IfOk, OnOk, Result, Ok, Err, Some, None, ◌==◌, ◌&&◌}
 use Rattle.calc_session.proofs.Shared.{get_or-map, Kind, Rat, Fraction, is_one_fraction, is_zero_fraction, lowest, one_fraction, zero_fraction, rational, size_of_payload, ratio_of, value_of, Ratio, whole, Tree, Trees, num, symbol, add, mult, none, more, append, count, size, sizes, Name, name_of, one_test, whole_denominator, whole_numerator, zero_test, ratio_parts, Adds, AddsAll, adds_as, adds_first, adds_free, adds_more, adds_none, adds_one, adds_over, adds_tree, Full, free_of, compound, nth, takes_kind, Forest, join, before_last, last_trees, one_tree, Ends, Gives, KeepsFront, IsRefused, KeepsRefusals, Stands, forest, join_assoc, front_at, front_end, front_same, append-none, IsLast, IsPlaced, multiple_of, multiples, sum_of_trees, summands}
 use Rattle.std.specs.Int.{w128}
+use Rattle.std.proofs.lemmas.List.{take_all}
+use Rattle.beautify.proofs.Sizes.{sizes-append}
+use Rattle.beautify.proofs.Trees.{append_assoc, count-append}
 use Rattle.calc_terms.specs.Integers.{int_is_one, int_is_zero}
 use Rattle.calc_terms.specs.Payload.{bare}
 use Rattle.calc_terms.proofs.ShortForm.{whole_short}
@@ -127,18 +130,6 @@ sizes_first (suc n) (x ∷ xs) (q ∷ qs) = by (is_zero_fraction q) (sizes_first
     by true h = h
     by false h = omega (arith, h)
 
-pub sizes_append : (ts us : Trees) → sizes (append ts us) ≡ sizes ts + sizes us
-sizes_append none us = omega arith
-sizes_append (more t ts) us = omega (arith, sizes_append ts us)
-
-pub append_assoc : (ts us vs : Trees) → append (append ts us) vs ≡ append ts (append us vs)
-append_assoc none us vs = refl
-append_assoc (more t ts) us vs = ap (more t) (append_assoc ts us vs)
-
-pub count_append : (ts us : Trees) → count (append ts us) ≡ count ts + count us
-count_append none us = omega arith
-count_append (more t ts) us = omega (arith, count_append ts us)
-
 -- ---- the summands
 
 pub no_constant : (xs : List (List ℕ)) (q : Fraction) (qs : List Fraction) → is_zero_fraction q ≡ true → summands xs q qs ≡ multiples xs qs
@@ -171,13 +162,13 @@ placed_one s t q h st e g = subst (λ (ts : Trees). IsPlaced s t ts (record { tr
 
 last_of : {s t u : State} {a : Tree} {h : ℕ} (ts : Trees) → AddsAll s t ts → Adds t u a h → (v : Tree) → append ts (more a none) ≡ more v none → Adds s u v h
 last_of none b g v e = adds_tree (adds_first b g) (one_tree_is e)
-last_of {a = a} (more x xs) b g v e = absurd (omega (arith, ap count e, count_append xs (more a none)))
+last_of {a = a} (more x xs) b g v e = absurd (omega (arith, ap count e, count-append xs (more a none)))
 
 pub placed_more : {s t u : State} {ts : Trees} {a : Tree} {h : ℕ} {p : Placed} → IsPlaced s t ts p → Adds t u a h → IsPlaced s u (append ts (more a none)) (record { trees = p.trees + 1; last = Some h })
 placed_more {ts = ts} {a = a} p g = record {
   adds = adds_more p.adds g;
-  trees = omega (arith, p.trees, count_append ts (more a none));
-  last = (omega (arith, count_append ts (more a none)), last_of ts p.adds g);
+  trees = omega (arith, p.trees, count-append ts (more a none));
+  last = (omega (arith, count-append ts (more a none)), last_of ts p.adds g);
 }
 
 pub placed_as : {s t : State} {ts us : Trees} {p : Placed} → IsPlaced s t ts p → ts ≡ us → IsPlaced s t us p
@@ -214,18 +205,12 @@ pub zero_size : (r : Rat) → ratio_of r ≡ whole (pos 0) → size_of_payload (
 zero_size r e = ap (λ (x : Ratio). size_of_payload (rational x)) e ∙ ap (λ (b : Bool). if b then 16 else 40) (whole_short 0 (omega arith))
 
 pub summands_sizes : (xs : List (List ℕ)) (q : Fraction) (qs : List Fraction) → sizes (summands [] q []) + sizes (multiples xs qs) ≡ sizes (summands xs q qs)
-summands_sizes xs q qs = sym (sizes_append (summands [] q []) (multiples xs qs)) ∙ ap sizes (constant_first xs q qs)
+summands_sizes xs q qs = sym (sizes-append (summands [] q []) (multiples xs qs)) ∙ ap sizes (constant_first xs q qs)
 
 -- ---- the multiples that were placed so far
 
 pub name_there : (ns : List Name) (at : ℕ) (n : Name) → at < length ns → n ≡ get_or ns at n → name_of n ≡ get_or (map name_of ns) at []
 name_there ns at n l e = ap name_of e ∙ sym (get_or-map name_of ns at n [] l)
-
-pub take_all : (n : ℕ) (xs : List (List ℕ)) → length xs ≤ n → take n xs ≡ xs
-take_all zero [] l = refl
-take_all zero (x ∷ xs) l = absurd (omega (arith, l))
-take_all (suc n) [] l = refl
-take_all (suc n) (x ∷ xs) l = ap (λ ys. x ∷ ys) (take_all n xs (omega (arith, l)))
 
 module _ (xs : List (List ℕ)) (qs : List Fraction) where
   next_more : (n : ℕ) (q : Fraction) (x : List ℕ) → n < length xs → q ≡ get_or qs n zero_fraction → x ≡ get_or xs n [] → is_zero_fraction q ≡ false
@@ -263,7 +248,7 @@ module _ (xs : List (List ℕ)) (qs : List Fraction) where
   pub next_fits : {old now : State} {before p : Placed} (n : ℕ) (q : Fraction) (x : List ℕ) → Stands old → n < length xs → q ≡ get_or qs n zero_fraction → x ≡ get_or xs n [] → is_zero_fraction q ≡ false
       → AreFirst old before n now p → sizes (multiples xs qs) ≤ free_of old → size (multiple_of q x) ≤ free_of now
   next_fits n q x st l d e z a room =
-      omega (arith, room, adds_free st a.adds, sizes_first (n + 1) xs qs, ap sizes (next_more n q x l d e z), sizes_append (multiples (take n xs) qs) (more (multiple_of q x) none))
+      omega (arith, room, adds_free st a.adds, sizes_first (n + 1) xs qs, ap sizes (next_more n q x l d e z), sizes-append (multiples (take n xs) qs) (more (multiple_of q x) none))
 
   pub first_all : {old now : State} {before p : Placed} (n : ℕ) → length xs ≤ n → AreFirst old before n now p → (s : State) (ts : Trees) → Stands s → IsPlaced s old ts before → IsPlaced s now (append ts (multiples xs qs)) p
   first_all n l a s ts st b = placed_as (a.placed s ts st b) (ap (λ (ys : List (List ℕ)). append ts (multiples ys qs)) (take_all n xs l))

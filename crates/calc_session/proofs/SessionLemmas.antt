@@ -1,7 +1,7 @@
 -- Lemmas on the state of a session, and on what a line leaves of it.
 use Rattle.std.proofs.lemmas.Bool.{both_ways}
 use Rattle.std.proofs.Common.{◌≡◌, ◌∙◌, ◌↔◌, ℕ, ◌+◌, ◌*◌, ◌≤◌, ◌==◌, List, [], ◌∷◌, ◌++◌, length, codes, Bool, true, false, if◌then◌else◌, Option, Some, None, refl, sym, ap, subst, arith}
-use Rattle.calc_session.proofs.Shared.{eqb-true, TripsRose, Asked, IsCommandLine, text, Node, Tree, none, more, size, Placed, held_by, Table, with_answer, Full, has, IsExpression, plain, Forest, flatten, Gives, tree_at, Stands, forest, flatten-join, has-flatten, given_handed, given_root, given_told, expression_root, plain_root, alone, LineAnswer, Refusal, answer_to, Answers, AnswersBy, AnswersUntold, IsAnswer, IsTextOf, printed, reason_of, reply_of, IsReplyToCommand, IsUnstorable, ReadsAs, ReadsTree, Reply, blank, displayed, refusal_in, text_of, undefined, is_blank_line, Seen, Counts, State, state_of, AsksInVain, is_nothing, is_text, is_asked, IsReply, IsReplyToTree, asks_in_vain, is_replied, is_evaluated, cannot_be_stored, Leaves, LeavesAnswer}
+use Rattle.calc_session.proofs.Shared.{eqb-true, TripsRose, Asked, IsCommandLine, text, Node, Tree, none, more, size, Placed, held_by, Table, with_answer, Full, has, IsExpression, plain, Forest, flatten, Gives, tree_at, Stands, forest, flatten-join, has-flatten, given_handed, given_root, given_told, expression_root, plain_root, alone, LineAnswer, Refusal, answer_to, Answers, AnswersBy, AnswersUntold, IsAnswer, IsTextOf, printed, reason_of, reply_of, IsReplyToCommand, IsUnstorable, ReadsAs, ReadsTree, Reply, blank, displayed, refusal_in, text_of, undefined, are_blanks, State, state_of, AsksInVain, is_nothing, is_text, is_asked, IsReply, IsReplyToTree, asks_in_vain, is_replied, is_evaluated, cannot_be_stored, Leaves, LeavesAnswer}
 use Rattle.breakers.specs.State.{State as Breaker}
 use Rattle.node_pool.specs.Nodes.{AreDistinct}
 use Rattle.node_pool.specs.State.{State as PoolState}
@@ -96,7 +96,7 @@ module _ (room bits : Option (Tree → ℕ)) (before after : List Breaker) (line
   pub answers_vain : (s : State) (refusal : Refusal) (written : List ℕ) → AsksInVain line (reason_of refusal) → after ≡ before → written ≡ [] → AnswersUntold room bits s before line (answer.Refused refusal) written s after
   answers_vain s refusal written h calm empty = record { reply = reply_of refusal; reply_is = asks_in_vain h calm; state_is = refl; answer_is = refl; text_is = empty }
 
-  pub answers_blank : (s : State) (written : List ℕ) → length line ≤ 1024 → is_blank_line line ≡ true → after ≡ before → written ≡ [] → AnswersUntold room bits s before line answer.Blank written s after
+  pub answers_blank : (s : State) (written : List ℕ) → length line ≤ 1024 → are_blanks line ≡ true → after ≡ before → written ≡ [] → AnswersUntold room bits s before line answer.Blank written s after
   answers_blank s written short h calm empty = record { reply = blank; reply_is = is_replied short (is_nothing h) (refl, calm); state_is = refl; answer_is = refl; text_is = empty }
 
   -- a command

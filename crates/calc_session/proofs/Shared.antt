@@ -3,50 +3,51 @@ pub use Rattle.beautify.proofs.FaceLaws.{reduced_face_means}
 pub use Rattle.breakers.specs.Breakers.{CalmChecks, TripsRose, armed_first}
 pub use Rattle.breakers.specs.Watch.{states}
 pub use Rattle.calc_algebra.proofs.MeaningLaws.{Same-sym, one_meaning}
-pub use Rattle.calc_algebra.proofs.ReducedLaws.{AllParts-zip, reduced_test, reduced_words}
+pub use Rattle.calc_algebra.proofs.ReducedLaws.{AllParts-zip, reduced_test}
 pub use Rattle.calc_algebra.proofs.SquareClassLaws.{Same-trans}
 pub use Rattle.calc_algebra.proofs.TermLaws.{Same-eq, Same-refl, joined_radicand, surd_times-terms, zero_term}
 pub use Rattle.calc_algebra.specs.BadAndEasy.{HasValue, IsEasy}
 pub use Rattle.calc_algebra.specs.Meanings.{Assignment, IsAssignment, Means}
-pub use Rattle.calc_algebra.specs.Numbers.{IsTerm, terms_of, value}
+pub use Rattle.calc_algebra.specs.Numbers.{terms_of, value}
 unfoldable pub use Rattle.calc_algebra.specs.Numbers.{is_number}
-pub use Rattle.calc_algebra.specs.Reduced.{HasForm, IsProductForm, IsReduced, NoneIs, RisesBy, is_reduced, number_terms, other_terms, part_of}
+pub use Rattle.calc_algebra.specs.Reduced.{HasForm, IsProductForm, NoneIs, RisesBy, is_reduced, number_terms, other_terms, part_of}
 pub use Rattle.calc_algebra.specs.Rewritings.{HasNoNewName, KeepsMeanings, Reduces}
 pub use Rattle.calc_algebra.specs.Surds.{Surd, surd_of}
 pub use Rattle.calc_algebra.specs.TreeOrder.{tree_cmp}
 pub use Rattle.calc_commands.proofs.Lines.{once}
-pub use Rattle.calc_commands.specs.Commands.{Asked, HasText, IsCommandLine, asked_of, asks_after, asks_diff, asks_draw, asks_dump, asks_expand, asks_forget, asks_layout, asks_pool, asks_solve, diff, draw, dump, expand, forget, is_command, layout, pool, solve}
+pub use Rattle.calc_commands.specs.Commands.{Asked, HasText, IsCommandLine, asked_of, asks_diff, asks_expand, asks_solve, diff, draw, dump, expand, forget, is_command, layout, pool, solve}
 pub use Rattle.calc_commands.specs.Reports.{after_report, dump_of, forgot_report, pool_report, unknown_report}
-pub use Rattle.calc_language.specs.Faces.{exponent_below, face, face_of_sum, factor_above, factor_below, factors_above, factors_below, fraction_of, has_minus, next_term, next_terms, power_below, product_of, unless_one, unsigned_face, with_minus}
-pub use Rattle.calc_language.specs.Grammar.{SoFar, as_tree, multiplied, plus_term, single, summed}
-pub use Rattle.calc_language.specs.Texts.{AreWritable, HasNames, IsNamed, IsWritable, text}
-pub use Rattle.calc_language.specs.Tokens.{Token, is_blank}
+pub use Rattle.calc_language.specs.Faces.{face, has_minus, next_term, next_terms, unsigned_face, with_minus}
+pub use Rattle.calc_language.specs.Grammar.{SoFar, as_tree}
+pub use Rattle.calc_language.specs.Texts.{HasNames, IsNamed, IsWritable, text}
+pub use Rattle.calc_language.specs.Tokens.{Token}
 pub use Rattle.calc_parser.proofs.Checks.{SameLine, one_line}
 pub use Rattle.calc_parser.proofs.Sizes.{building_takes_the_size, takes_room}
 pub use Rattle.calc_parser.specs.Building.{building}
-pub use Rattle.calc_parser.specs.Lines.{IsLine, IsLineOver, IsTreeOf}
+pub use Rattle.calc_parser.specs.Lines.{IsLine, IsTreeOf}
 pub use Rattle.calc_parser.specs.Outcomes.{IsFaultOf, IsShallow}
 pub use Rattle.calc_session.specs.Answers.{Answers, AnswersBy, AnswersUntold, ComesTo, CountsRefusal, IsAnswer, IsDisplayOf, IsTextOf, LacksName, Tells, TellsAs, answer_to, printed, reason_of, refusal_of, refusal_of_evaluation, refusal_of_pool, refusal_to_fill, reply_of}
 pub use Rattle.calc_session.specs.Arguments.{IsMisread, IsNoExpression, ReadsText, bytes_before, forms_a_deep_line, forms_a_store, forms_no_line, is_misread, meets_a_wide_number, meets_no_token}
 pub use Rattle.calc_session.specs.Asking.{Asks, AsksInVain, Request, commanded, is_asked, is_long, is_no_command, is_no_line, is_nothing, is_text}
 pub use Rattle.calc_session.specs.Calculating.{ExpressionBecomes, IsReplyToExpression, is_no_expression, is_read, made_in}
-pub use Rattle.calc_session.specs.Commanding.{IsReplyToArming, IsReplyToCommand, IsReplyToForgetting, IsTold, arms_a_breaker, finds_no_breaker, forgets, is_to_be_drawn, keeps_ans, knows_no_name, layout_reply, refuses, tells}
+pub use Rattle.calc_session.specs.Commanding.{IsReplyToArming, IsReplyToCommand, IsTold, arms_a_breaker, finds_no_breaker, forgets, is_to_be_drawn, keeps_ans, knows_no_name, layout_reply, refuses, tells}
 pub use Rattle.calc_session.specs.Counting.{AsksForTooMuch, IsCountedBut, IsKnownOf, LacksBytesFor}
 pub use Rattle.calc_session.specs.Deriving.{IsReplyToDerivative, LacksDerivative, has_none}
 pub use Rattle.calc_session.specs.Drawing.{IsDrawn, IsDrawnInPart, first_rows, lack_in, row_text, rows_text, serial_in, told_at}
 pub use Rattle.calc_session.specs.Enough.{HasBytesFor, HoldsNoSmallTree, IsAnswered, ReadsFilled, of_its_nodes, of_the_tree}
-pub use Rattle.calc_session.specs.Equations.{AreSides, IsSideText, Piece, Pieces, Sides, Splits, all_placed, placed, written, written_all}
+pub use Rattle.calc_commands.specs.Equations.{Piece, Pieces, all_placed}
 pub use Rattle.calc_session.specs.Evaluations.{HasFittingRationals, IsAnswerTo, IsFitting, IsReduction, IsReplyToMade, IsReplyWith, OverflowsAt, Unmade, has_no_value, holds_its_name, is_answered, is_made, is_not_made, is_shown, is_stored, lacks_bytes, made}
 pub use Rattle.calc_session.specs.Expanding.{IsReplyToExpansion, LacksExpansionRoom, expansion_text, is_expanded, is_no_polynomial}
-pub use Rattle.calc_session.specs.Forms.{IsLast, IsPlaced, IsSmall, IsSmallForm, form_room, lack_of}
+pub use Rattle.calc_session.specs.Forms.{IsLast, IsPlaced, IsSmall, IsSmallForm, form_room}
 pub use Rattle.calc_session.specs.Kept.{IsKept, IsReady, seen_of, state_in}
-pub use Rattle.calc_session.specs.Listed.{names_listed}
+pub use Rattle.linear_solve.specs.Listed.{names_listed}
 pub use Rattle.calc_session.specs.Pools.{after}
-pub use Rattle.calc_session.specs.Ranges.{AreSplit, EndsPiece, IsSplitFault, IsWithin, between, pieces_at, sides_at}
-pub use Rattle.calc_session.specs.Reading.{IsText, IsUnstorable, ReadsAs, ReadsTree, finds_names_full, is_ans, is_blank_line}
-pub use Rattle.calc_session.specs.Replies.{Reason, Reply, blank, character_at, circular, command, deep, denominator_text, displayed, drawn, forgot, full, long, not_linear, not_polynomial, number_at, operand_text, refusal_in, refused, report, reported, reserved, shown, stored, too_many, undefined}
+pub use Rattle.calc_commands.specs.Ranges.{AreSplit, IsSplitFault, IsWithin, pieces_at}
+pub use Rattle.calc_session.specs.Reading.{IsUnstorable, ReadsAs, ReadsTree, finds_names_full, is_ans}
+pub use Rattle.calc_commands.specs.Parsing.{are_blanks}
+pub use Rattle.calc_session.specs.Replies.{Reason, Reply, blank, circular, denominator_text, displayed, drawn, forgot, full, not_linear, not_polynomial, operand_text, refusal_in, refused, report, reported, reserved, shown, stored, undefined}
 unfoldable pub use Rattle.calc_session.specs.Replies.{text_of}
-pub use Rattle.calc_session.specs.RisingNames.{AreNamesOf, HoldOverSixNames, Includes, IsNameIn, Rises, is_before, names_at}
+pub use Rattle.linear_solve.specs.RisingNames.{AreNamesOf, IsNameIn, Rises, is_before}
 pub use Rattle.calc_session.specs.Seen.{Counts, Seen, pool_of}
 pub use Rattle.calc_session.specs.SolutionTexts.{comma_before, form_tree, line_text, line_texts, lines_text, multiple_of, multiples, solution_text, sum_of_trees, summands, with_commas}
 pub use Rattle.calc_session.specs.SolutionsMeant.{AsksToSolve, HasPrintedValue, TellsSolutions, TellsSolutionsOf, tells_forms, tells_none}
@@ -57,13 +58,13 @@ pub use Rattle.calc_session.specs.Steps.{IsReply, IsReplyTo, IsReplyToTree, IsRe
 pub use Rattle.calc_session.specs.Telling.{HasFace}
 pub use Rattle.calc_session.specs.declared.answers.LineAnswer.{LineAnswer}
 pub use Rattle.calc_session.specs.declared.answers.Refusal.{Refusal}
-pub use Rattle.calc_session.specs.declared.equations.EquationRange.{EquationRange}
+pub use Rattle.calc_commands.specs.declared.equations.EquationRange.{EquationRange}
 pub use Rattle.calc_session.specs.declared.evaluating.Evaluation.{Evaluation}
 pub use Rattle.calc_session.specs.declared.evaluating.Evaluation.TheVariants.{Face, Refused, Undefined}
-pub use Rattle.calc_session.specs.declared.side_names.Listed.{Listed}
+pub use Rattle.linear_solve.specs.declared.side_names.Listed.{Listed}
 pub use Rattle.calc_terms.proofs.FractionFacts.{no_one, no_zero, one_is, one_test, whole_denominator, whole_numerator, zero_is, zero_test}
-pub use Rattle.calc_terms.proofs.Sizes.{num_least, payload_most, root_most}
-pub use Rattle.calc_terms.specs.Fractions.{Fraction, is_one_fraction, is_zero_fraction, lowest, negative, plus, times}
+pub use Rattle.calc_terms.proofs.Sizes.{num_least, payload_most}
+pub use Rattle.calc_terms.specs.Fractions.{Fraction, is_one_fraction, is_zero_fraction, lowest, plus, times}
 unfoldable pub use Rattle.calc_terms.specs.Fractions.{one_fraction, zero_fraction}
 pub use Rattle.calc_terms.specs.Leaf.{name_of}
 pub use Rattle.calc_terms.specs.Name.{is_name}
@@ -71,8 +72,7 @@ pub use Rattle.calc_terms.specs.Node.{Node, fresh}
 pub use Rattle.calc_terms.specs.Payload.{IsPayload, Payload, named, rational, size_of_payload}
 pub use Rattle.calc_terms.specs.Rat.{ratio_of, value_of}
 pub use Rattle.calc_terms.specs.Ratio.{IsRat, Ratio, whole}
-pub use Rattle.calc_terms.specs.Short.{is_short}
-pub use Rattle.calc_terms.specs.Trees.{AllParts, AllPartsOf, HasTwo, Tree, Trees, add, append, count, depth, depths, div, is_add, is_mult, is_symbol, is_undef, more, mult, names, names_of, neg, nodes, nodes_of, none, num, power, root, root_kind, root_size, size, sizes, sub, symbol, undef, whole_num}
+pub use Rattle.calc_terms.specs.Trees.{AllParts, AllPartsOf, Tree, Trees, add, append, count, depth, is_add, is_undef, more, mult, names, nodes, none, num, root_kind, size, sizes, symbol, undef, whole_num}
 pub use Rattle.calc_terms.specs.declared.kind.Kind.{Kind}
 pub use Rattle.calc_terms.specs.declared.name.Name.{Name}
 pub use Rattle.calc_terms.specs.declared.rat.Rat.{Rat}
@@ -93,17 +93,17 @@ pub use Rattle.linear_solve.specs.Equations.{AreDistinct, Assigns, Equation, IsL
 pub use Rattle.linear_solve.specs.Faults.{OfOverflow, StopsAfter}
 pub use Rattle.linear_solve.specs.Fitting.{Misfit, and_then}
 pub use Rattle.linear_solve.specs.Forms.{Answer, Form, HasItsValue, HaveTheirValues, HoldLaterFreeNames, answer_of, answer_with, bound, form_of, forms_of, free, multiple_in, multipliers, never, solved}
-pub use Rattle.linear_solve.specs.Rows.{Row, entry, worth}
+pub use Rattle.linear_solve.specs.Rows.{Row, worth}
 pub use Rattle.linear_solve.specs.Solutions.{IfNever, IfSolved, answer_told, form_told}
 unfoldable pub use Rattle.linear_solve.specs.Solving.{solving}
 pub use Rattle.linear_solve.specs.Told.{entries_of, misfit_of}
 pub use Rattle.linear_solve.specs.declared.solution.Line.{Line}
 pub use Rattle.linear_solve.specs.declared.solution.Solution.{Solution}
 pub use Rattle.name_table.proofs.Entries.{entries-left, held_entries}
-pub use Rattle.name_table.specs.Filling.{FaultsFilling, Filling, LacksNames, NamedTree, filled, filling, filling_one, fills, lacks, refused_filling, too_deep, value_in, values}
+pub use Rattle.name_table.specs.Filling.{FaultsFilling, Filling, LacksNames, NamedTree, filled, filling, fills, lacks, refused_filling, too_deep, value_in, values}
 pub use Rattle.name_table.specs.Held.{AreRoots, HasEntries, IsHeld, held_by, holders_in}
 pub use Rattle.name_table.specs.Storing.{IsKeepable, IsStorable, name_in, names_with}
-pub use Rattle.name_table.specs.Tables.{Entry, Table, entries, first_table, has_entry, has_room_for, table_names, with_answer, without_entry, without_name}
+pub use Rattle.name_table.specs.Tables.{Entry, Table, entries, first_table, has_entry, table_names, with_answer, without_entry, without_name}
 pub use Rattle.node_pool.proofs.Sizes.{AreNodes-left, AreNodes-right}
 pub use Rattle.node_pool.specs.Nodes.{AreNodes, IsLeastFree, has, used}
 pub use Rattle.node_pool.specs.State.{free_of}
@@ -120,15 +120,14 @@ pub use Rattle.reduce_port.specs.EasyTrees.{Evaluates, HasEasyBadPart}
 pub use Rattle.reduce_port.specs.Faults.{CountsRefusals, IfFull, IfInterrupted, IfOverflow}
 pub use Rattle.reduce_port.specs.declared.fault.ReduceFault.{ReduceFault}
 pub use Rattle.std.proofs.KnownBytes.{Appends-nil, Appends-trans}
-pub use Rattle.std.proofs.lemmas.Bool.{and_parts, cases_lt, eq-eqb, eqb-true, le-leb, le-ltb, leb-false, leb-true, lt-ltb, ltb-false, ltb-true, not-false}
-pub use Rattle.std.proofs.lemmas.List.{drop-drop, drop_all, get_or-map, length-map, take-append-drop, take_all}
-pub use Rattle.std.proofs.lemmas.List.Elements.{All-cons, All-head, All-nil, All-tail, Contains-append_cases, Contains-append_left, Contains-append_right}
-pub use Rattle.std.proofs.lemmas.List.Sums.{fails_before_first, position_or_len_is, prefix_len-le-length}
-pub use Rattle.std.proofs.lemmas.Nat.{mul-le}
+pub use Rattle.std.proofs.lemmas.Bool.{and_parts, cases_lt, eqb-true, le-ltb, leb-false, leb-true, lt-ltb, not-false}
+pub use Rattle.std.proofs.lemmas.List.{get_or-map, length-map, take-append-drop}
+pub use Rattle.std.proofs.lemmas.List.Elements.{All-cons, All-head, All-nil, All-tail, Contains-append_cases}
+pub use Rattle.std.proofs.lemmas.List.Sums.{fails_before_first, position_or_len_is}
 pub use Rattle.std.proofs.lemmas.Result.{err_from_is_err_and}
 pub use Rattle.std.specs.Fmt.{signed_decimal}
 pub use Rattle.std.specs.Io.KnownBytes.{Appends}
-pub use Rattle.std.specs.List.{AllZip, enumerate_from, insert, list_all, list_any, position_or_len, prefix_len}
+pub use Rattle.std.specs.List.{AllZip, enumerate_from, position_or_len}
 pub use Rattle.std.specs.Str.{bytes_eq}
 pub use Rattle.tree_handles.proofs.Forests.{bytes_in-join, flatten-join, forest_of_whole, has-flatten, join_assoc, keeps_after, refuses_after}
 pub use Rattle.tree_handles.proofs.Fronts.{behind_first, behind_new, front_after, front_after_one, front_at, front_end, front_same, front_without}
@@ -138,13 +137,11 @@ pub use Rattle.tree_handles.proofs.Outcomes.{by_test}
 pub use Rattle.tree_handles.proofs.Plains.{alone, size-plain}
 pub use Rattle.tree_handles.proofs.Roots.{root_held, tree-right}
 pub use Rattle.tree_handles.specs.Causes.{Overflows}
-pub use Rattle.tree_handles.specs.Expressions.{AllExpressions, IsExpression, IsWhole, children_of, compound, grown, nth, plain, plains, takes_kind}
+pub use Rattle.tree_handles.specs.Expressions.{AllExpressions, IsExpression, IsWhole, compound, grown, nth, plain, plains, takes_kind}
 pub use Rattle.tree_handles.specs.Forest.{Forest, before_last, bytes_in, empty, flatten, join, last_trees, one_tree, rest_trees, root_id, tree}
 unfoldable pub use Rattle.tree_handles.specs.Forest.{forest_of}
 pub use Rattle.tree_handles.specs.Handed.{Ends, Gives, IsHanded, KeepsFront, Starts, tree_of}
 pub use Rattle.tree_handles.specs.Inside.{holds, tree_at}
 pub use Rattle.tree_handles.specs.Roots.{has_root, root_tree, without_root}
-pub use Rattle.tree_handles.specs.Standing.{IsRefused, KeepsRefusals, LacksBytes, Refuses, Stands, forest}
+pub use Rattle.tree_handles.specs.Standing.{IsRefused, KeepsRefusals, LacksBytes, Stands, forest}
 pub use Rattle.tree_handles.specs.declared.handle.Handle.{Handle}
-pub use Rattle.tree_walks.proofs.Composing.{bytes_of_replaced}
-pub use Rattle.tree_walks.specs.Replacing.{occurrences, replaced, replaced_in, replacing}

@@ -1,77 +1,16 @@
 -- What the answers to lines that ask for a derivative mean, and when there is one.
-use Rattle.std.proofs.Common.{◌≡◌, ◌∙◌, ℕ, zero, suc, ◌+◌, ◌*◌, ◌-◌, ◌≤◌, List, [], ◌∷◌, length, codes, Bool, true, false, cond, nat_le, nat_lt, Option, None, Result, Ok, Err, ◌⊎◌, inl, inr, refl, sym, ap, subst, arith}
-use Rattle.calc_session.proofs.Shared.{leb-true, reduced_face_means, Reduces, face, text, building, building_takes_the_size, takes_room, Tree, undef, depth, is_undef, nodes, root_size, size, symbol, HasDerivative, derivative, NamedTree, Filling, lacks, too_deep, fills, filling, filling_one, Full, MayExceed, TripsWithin, IsReplyToDerivative, has_none, IsReduction, lacks_bytes, is_answered, IsReplyWith, has_no_value, holds_its_name, is_shown, is_stored, made, Reply, report, reported, State, free_bytes, bytes_of_replaced, occurrences, replaced, replacing, diff, IsCommandLine, ExpressionBecomes, IsReply, trees, values}
+use Rattle.std.proofs.Common.{◌≡◌, ℕ, ◌+◌, ◌≤◌, List, length, codes, false, Option, None, ◌⊎◌, inl, inr, refl, sym, subst, arith}
+use Rattle.calc_session.proofs.Shared.{reduced_face_means, Reduces, face, text, Tree, undef, is_undef, nodes, size, HasDerivative, derivative, MayExceed, TripsWithin, IsReplyToDerivative, has_none, IsReduction, lacks_bytes, is_answered, IsReplyWith, has_no_value, holds_its_name, is_shown, is_stored, Reply, report, reported, State, free_bytes, diff, IsCommandLine, ExpressionBecomes, IsReply, trees, values}
 use Rattle.breakers.specs.State.{State as Breaker}
 use Rattle.dual_diff.proofs.Derived.{slope_means}
 use Rattle.calc_session.specs.Evaluations.{is_interrupted, does_not_fit}
 use Rattle.calc_session.specs.Slopes.{TellsSlope, TellsNoSlope, TellsDerivative}
+use Rattle.calc_session.proofs.MadeTrees.{made_left}
 use Rattle.calc_session.proofs.MeaningLemmas.{nothing_meant, undef_is}
 use Rattle.calc_session.proofs.AskedLines.{commanded_report, commanded_reply}
 use Rattle.calc_session.proofs.ExpressionReplies.{reply_to_text, reply_to_tree}
 use Rattle.calc_session.proofs.TextLemmas.{no_store}
 use Rattle.calc_session.specs.Deriving as derived
-
--- ---- the bytes that are left of those that were free
-
-module _ (copy leaf : ℕ) where
-  replaced_left : (n free left : ℕ) → replacing free n copy leaf ≡ Ok left → left + n * copy ≡ free + n * leaf
-  replaced_left zero free left e = let same : free ≡ left = cc in omega (arith, same)
-  replaced_left (suc n) free left e = by (nat_le copy free) refl e (λ k. replaced_left n (free - copy + leaf) left k)
-    where
-      by : (b : Bool) → nat_le copy free ≡ b → cond b (replacing (free - copy + leaf) n copy leaf) (Err (record { needed = copy; free = free })) ≡ Ok left → (replacing (free - copy + leaf) n copy leaf ≡ Ok left → left + n * copy ≡ (free - copy + leaf) + n * leaf) → left + suc n * copy ≡ free + suc n * leaf
-      by true d k more = let fits = leb-true copy free d in let rest = more k in omega (arith, fits, rest)
-      by false d k more = absurd cc
-
-pub filled_one : (free : ℕ) (v : NamedTree) (t : Tree) (left : ℕ) (u : Tree) → filling_one free v t ≡ fills left u → left + size u ≡ free + size t
-filled_one free v t left u e = by (replacing free (occurrences v.name t) (size v.tree) (root_size (symbol v.name))) refl e
-  where
-    left_is : (l m : ℕ) (a b : Tree) → fills l a ≡ fills m b → l ≡ m
-    left_is l m a b k = cc
-
-    tree_is : (l m : ℕ) (a b : Tree) → fills l a ≡ fills m b → a ≡ b
-    tree_is l m a b k = cc
-
-    test : (n : ℕ) (b : Bool) → replacing free (occurrences v.name t) (size v.tree) (root_size (symbol v.name)) ≡ Ok n → cond b too_deep (fills n (replaced v.name v.tree t)) ≡ fills left u → left + size u ≡ free + size t
-    test n true r k = absurd cc
-    test n false r k =
-        omega (arith, replaced_left (size v.tree) (root_size (symbol v.name)) (occurrences v.name t) free n r, bytes_of_replaced v.name v.tree t, left_is n left (replaced v.name v.tree t) u k, ap size (tree_is n left (replaced v.name v.tree t) u k))
-
-    by : (r : Result ℕ Full) → replacing free (occurrences v.name t) (size v.tree) (root_size (symbol v.name)) ≡ r → elim r [ Err f ↦ lacks f | Ok n ↦ cond (nat_lt 64 (depth (replaced v.name v.tree t))) too_deep (fills n (replaced v.name v.tree t)) ] ≡ fills left u → left + size u ≡ free + size t
-    by (Err f) r k = absurd cc
-    by (Ok n) r k = test n (nat_lt 64 (depth (replaced v.name v.tree t))) r k
-
-filled_all : (vs : List NamedTree) (free : ℕ) (t : Tree) (left : ℕ) (u : Tree) → filling free vs t ≡ fills left u → left + size u ≡ free + size t
-filled_all [] free t left u e = omega (arith, left_is free left t u e, ap size (tree_is free left t u e))
-  where
-    left_is : (l m : ℕ) (a b : Tree) → fills l a ≡ fills m b → l ≡ m
-    left_is l m a b k = cc
-
-    tree_is : (l m : ℕ) (a b : Tree) → fills l a ≡ fills m b → a ≡ b
-    tree_is l m a b k = cc
-filled_all (v ∷ vs) free t left u e = by (filling_one free v t) refl (λ l w k. filled_all vs l w left u k) e
-  where
-    by : (m : Filling) → filling_one free v t ≡ m → ((l : ℕ) (w : Tree) → filling l vs w ≡ fills left u → left + size u ≡ l + size w) → elim m [ lacks f ↦ lacks f | too_deep ↦ too_deep | fills l w ↦ filling l vs w ] ≡ fills left u → left + size u ≡ free + size t
-    by (lacks f) one more k = absurd cc
-    by too_deep one more k = absurd cc
-    by (fills l w) one more k = let first = filled_one free v t l w one in let rest = more l w k in omega (arith, first, rest)
-
-ok_is : (m n : ℕ) → ◌≡◌ {A = Result ℕ Full} (Ok m) (Ok n) → m ≡ n
-ok_is m n e = cc
-
-built_left : (free : ℕ) (t : Tree) (n : ℕ) → building free t ≡ Ok n → n + size t ≡ free
-built_left free t n b =
-    let fits = takes_room free n t b in
-    let same = ok_is n (free - size t) (sym b ∙ (building_takes_the_size free t).1 fits) in
-    omega (arith, fits, same)
-
-pub made_left : (free : ℕ) (vs : List NamedTree) (t : Tree) (left : ℕ) (u : Tree) → made free vs t ≡ fills left u → left + size u ≡ free
-made_left free vs t left u e = by (building free t) refl e
-  where
-    by : (r : Result ℕ Full) → building free t ≡ r → elim r [ Err f ↦ lacks f | Ok n ↦ filling n vs t ] ≡ fills left u → left + size u ≡ free
-    by (Err f) b k = absurd cc
-    by (Ok n) b k = let rest = filled_all vs n t left u k in omega (arith, built_left free t n b, rest)
-
--- ---- the replies to a line that asks for a derivative
 
 module _ (room bits : Option (Tree → ℕ)) (old : State) (before checked : List Breaker) (line x behind : List ℕ) (asked : IsCommandLine line (diff x behind)) where
   -- ---- what a report tells

@@ -9,10 +9,11 @@ use Rattle.node_pool.specs.State.{State}
 use Rattle.calc_session.proofs.EvaluationLemmas.{last_nodes}
 use Rattle.calc_session.proofs.FormFaces.{face_of_form, form_defined, size_of_form}
 use Rattle.calc_session.proofs.FormLemmas.{form_reduced}
-use Rattle.calc_session.proofs.PlacingLemmas.{multiples_few, name_there, take_all}
+use Rattle.calc_session.proofs.PlacingLemmas.{multiples_few, name_there}
+use Rattle.std.proofs.lemmas.List.{take_all}
 use Rattle.calc_session.proofs.SessionLemmas.{face_expression, face_tree}
 use Rattle.calc_session.proofs.StoredTrees.{named_tree}
-use Rattle.calc_session.proofs.WritableFaces.{face_written}
+use Rattle.beautify.proofs.FaceTexts.{face_written}
 
 -- ---- a form that was placed
 

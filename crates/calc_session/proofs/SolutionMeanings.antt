@@ -9,7 +9,7 @@ use Rattle.linear_solve.specs.Elimination.{Rows, equation_rows, first_with, row_
 use Rattle.linear_solve.proofs.Calculations.{both, ok_is}
 use Rattle.linear_solve.proofs.Meanings.{one_rational_meaning}
 use Rattle.calc_session.proofs.FormLemmas.{form_means, form_reduced}
-use Rattle.calc_session.proofs.RisingLemmas.{rises_distinct}
+use Rattle.linear_solve.proofs.RisingLemmas.{rises_distinct}
 
 -- ---- the equations are linear in their names
 

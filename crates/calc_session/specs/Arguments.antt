@@ -1,5 +1,6 @@
 -- Texts within a line that are calculated with.
 use Rattle.std.specs.Prelude.{ℕ, ◌≤◌, ◌+◌, ◌-◌, List, length, Option, Some}
+use Rattle.calc_terms.specs.Limits.{depth_limit}
 use Rattle.calc_terms.specs.Trees.{Tree, depth}
 use Rattle.calc_tokens.specs.Placed.{Placed, bare}
 use Rattle.calc_tokens.specs.Scanned.{AreTokensOf, IsFirstCharacter, IsFirstWide}
@@ -14,14 +15,14 @@ bytes_before line text = length line - length text
 pub record ReadsText (text : List ℕ) (tokens : List Placed) (store : Option (List ℕ)) (t : Tree) : Type 0 where
   pub cut : AreTokensOf tokens text
   pub line-is : IsLine (bare tokens) store t
-  pub shallow : depth t ≤ 64
+  pub shallow : depth t ≤ depth_limit
 
 -- why a text is not read, where so many bytes of the line stand before it: places are those in the line
 pub data IsMisread (before : ℕ) (text : List ℕ) : Reason → Type 0 where
   meets_no_token : {at : ℕ} → IsFirstCharacter text at → IsMisread before text (character_at (before + at))
   meets_a_wide_number : {at : ℕ} → IsFirstWide text at → IsMisread before text (number_at (before + at))
   forms_no_line : {tokens : List Placed} → AreTokensOf tokens text → IsNoLine (bare tokens) → IsMisread before text syntax
-  forms_a_deep_line : {tokens : List Placed} → AreTokensOf tokens text → IsLineOver 64 (bare tokens) → IsMisread before text deep
+  forms_a_deep_line : {tokens : List Placed} → AreTokensOf tokens text → IsLineOver depth_limit (bare tokens) → IsMisread before text deep
 
 -- why a text is no expression: it is not read, or it is a store
 pub data IsNoExpression (before : ℕ) (text : List ℕ) : Reason → Type 0 where

@@ -9,6 +9,7 @@ use Rattle.calc_measures.specs.PlainOverflows.{is_overflow, nodes_to_overflow}
 use Rattle.calc_measures.specs.PlainTrees.{IsPlainAnswer, IsPlainOverflow}
 use Rattle.calc_measures.specs.PlainValues.{plain_value}
 use Rattle.calc_terms.specs.Fits.{fraction_fits}
+use Rattle.calc_terms.specs.Limits.{bits_limit}
 use Rattle.calc_terms.specs.Rat.{value_of}
 use Rattle.calc_terms.specs.Trees.{Tree, num, undef, is_undef, names, nodes, size, AllParts}
 use Rattle.calc_parser.specs.Building.{building}
@@ -50,7 +51,7 @@ pub data IsReplyWith (answer : Tree) : Option (List ℕ) → Reply → Type 0 wh
 pub record OverflowsAt (bits : Option (Tree → ℕ)) (t : Tree) (before after : List Breaker) (o : Overflow) : Type 0 where
   pub does_not_fit : Overflows o
   pub plain : IsPlainOverflow (plain_value t) o
-  pub beyond_bits : MayExceed bits t 124
+  pub beyond_bits : MayExceed bits t bits_limit
   pub checks : CalmUpTo (nodes t) before after
   pub plain_checks : is_overflow (plain_value t) ≡ true → CalmChecks (nodes_to_overflow t) before after
 

@@ -5,6 +5,7 @@ use Rattle.breakers.specs.State.{State as Breaker}
 use Rattle.calc_language.specs.Faces.{face}
 use Rattle.calc_language.specs.Texts.{text}
 use Rattle.calc_measures.specs.Measures.{bits}
+use Rattle.calc_terms.specs.Limits.{bits_limit}
 use Rattle.calc_terms.specs.Rat.{value_of}
 use Rattle.calc_terms.specs.Trees.{Tree, nodes}
 use Rattle.expand_forms.specs.ExpandedTrees.{expanded}
@@ -31,7 +32,7 @@ pub record LacksExpansionRoom (free : ℕ) (t : Tree) (before after : List Break
 -- an operation in a tree does not fit: only where the tree's bits are more than 124
 pub record OverflowsBeyondBits (t : Tree) (before after : List Breaker) (o : Overflow) : Type 0 where
   pub does_not_fit : Overflows o
-  pub beyond_bits : 124 < bits t
+  pub beyond_bits : bits_limit < bits t
   pub checks : CalmUpTo (nodes t) before after
 
 -- The replies to a tree that is to be expanded, where so many bytes are free without it, and these are left with it: it is no polynomial, which is known before any check; or it is expanded in its place.

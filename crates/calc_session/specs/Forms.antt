@@ -1,5 +1,5 @@
 -- Trees that are placed for a form.
-use Rattle.std.specs.Prelude.{ℕ, ◌≡◌, ◌≤◌, ◌<◌, ⊤, List, Option, Some, None, Result, Ok, Err}
+use Rattle.std.specs.Prelude.{ℕ, ◌≡◌, ◌≤◌, ◌<◌, ◌*◌, ⊤, List, Option, Some, None, Result, Ok, Err}
 use Rattle.calc_terms.specs.Fractions.{Fraction}
 use Rattle.calc_terms.specs.Trees.{Tree, Trees, none, more, count}
 use Rattle.dual_diff.specs.Placing.{Adds, AddsAll}
@@ -31,6 +31,14 @@ IsSmallForm xs (bound q qs) = IsSmall xs qs
 -- so many bytes suffice for the tree of a form and its face
 abbrev pub form_room : ℕ
 form_room = 2048
+
+-- the most bytes of what is told of one name, with a comma before it
+abbrev pub line_room : ℕ
+line_room = 1408
+
+-- of six names, the most that are told
+abbrev pub solution_room : ℕ
+solution_room = 6 * line_room
 
 -- what was refused, where something was
 abbrev pub lack_of : {A : Type 0} → Result A Full → Option Full

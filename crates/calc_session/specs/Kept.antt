@@ -2,6 +2,7 @@
 use Rattle.std.specs.Prelude.{◌≡◌, ◌*◌, ◌+◌, ◌≤◌}
 use Rattle.name_table.specs.Held.{IsHeld}
 use Rattle.tree_handles.specs.Standing.{Stands, forest}
+use Rattle.calc_session.specs.Forms.{solution_room}
 use Rattle.calc_session.specs.declared.parts.Parts.{Parts}
 use Rattle.calc_session.specs.declared.parts.Workspace.{Workspace}
 use Rattle.calc_session.specs.Seen.{Seen}
@@ -28,5 +29,5 @@ pub record IsReady (w : Workspace) : Type 0 where
 pub record IsKept (p : Parts) : Type 0 where
   pub ready : IsReady p.work
   pub held : IsHeld p.table (forest p.work.pool)
-  pub room : p.text.capacity ≡ 3 * p.work.pool.size + 8448
+  pub room : p.text.capacity ≡ 3 * p.work.pool.size + solution_room
   pub served : p.drafter.pool_size ≡ p.work.pool.size

@@ -8,10 +8,6 @@ pub mod Evaluations
 pub mod Calculating
 pub mod Deriving
 pub mod Expanding
-pub mod Equations
-pub mod Ranges
-pub mod RisingNames
-pub mod Listed
 pub mod SolutionTexts
 pub mod Forms
 pub mod Solving

@@ -1,24 +1,20 @@
 -- How a line is read by the grammar.
-use Rattle.std.specs.Prelude.{ℕ, ◌≡◌, ◌≤◌, List, length, Bool, true, false, Option, Some, codes}
-use Rattle.std.specs.List.{list_all}
+use Rattle.std.specs.Prelude.{ℕ, ◌≡◌, ◌≤◌, List, length, true, false, Option, Some, codes}
 use Rattle.calc_commands.specs.Commands.{is_command}
+use Rattle.calc_commands.specs.Parsing.{are_blanks}
 use Rattle.std.specs.Str.{bytes_eq}
-use Rattle.calc_language.specs.Tokens.{is_blank}
 use Rattle.calc_terms.specs.Trees.{Tree}
+use Rattle.calc_tokens.specs.Limits.{line_limit}
 use Rattle.calc_tokens.specs.Placed.{Placed}
 use Rattle.name_table.specs.Storing.{IsStorable}
 use Rattle.name_table.specs.Tables.{Table, has_room_for}
 use Rattle.calc_session.specs.Arguments.{ReadsText}
 use Rattle.calc_session.specs.Replies.{Reason, reserved, names_full}
 
--- a line of spaces and tabs, or of nothing
-abbrev pub is_blank_line : List ℕ → Bool
-is_blank_line line = list_all is_blank line
-
 -- a line that is read by the grammar
 pub record IsText (line : List ℕ) : Type 0 where
-  pub short : length line ≤ 1024
-  pub some : is_blank_line line ≡ false
+  pub short : length line ≤ line_limit
+  pub some : are_blanks line ≡ false
   pub no_command : is_command line ≡ false
 
 -- it reads as a tree, to be stored under the name where there is one

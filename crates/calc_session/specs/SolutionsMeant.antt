@@ -10,8 +10,8 @@ use Rattle.linear_solve.specs.Equations.{Assigns, Equation, SolvesAll}
 use Rattle.linear_solve.specs.Forms.{ComeToOne, Form, free, bound, HoldLaterFreeNames}
 use Rattle.name_table.specs.Filling.{values}
 use Rattle.calc_session.specs.Arguments.{bytes_before}
-use Rattle.calc_session.specs.Equations.{Sides, Splits, all_placed}
-use Rattle.calc_session.specs.RisingNames.{AreNamesOf}
+use Rattle.calc_commands.specs.Equations.{Sides, Splits, all_placed}
+use Rattle.linear_solve.specs.RisingNames.{AreNamesOf}
 use Rattle.calc_session.specs.SolutionTexts.{form_tree, lines_text, multipliers_text}
 use Rattle.calc_session.specs.Solving.{Become, ReadsEquation}
 use Rattle.calc_session.specs.States.{State, free_bytes, trees}

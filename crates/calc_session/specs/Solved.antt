@@ -19,8 +19,8 @@ use Rattle.calc_session.specs.declared.answers.Refusal.{Refusal}
 use Rattle.calc_session.specs.declared.answers.Refusal.TheVariants.{Overflow, Interrupted}
 use Rattle.calc_session.specs.declared.solving.Solved.{Solved}
 use Rattle.calc_session.specs.Evaluations.{made}
-use Rattle.calc_session.specs.Listed.{names_listed}
-use Rattle.calc_session.specs.RisingNames.{AreNamesOf}
+use Rattle.linear_solve.specs.Listed.{names_listed}
+use Rattle.linear_solve.specs.RisingNames.{AreNamesOf}
 use Rattle.calc_session.specs.Solving.{first_not_linear}
 
 -- the tree of a side was built and filled, and stands behind the others

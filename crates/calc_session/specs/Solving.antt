@@ -14,11 +14,11 @@ use Rattle.linear_solve.specs.Solving.{solving}
 use Rattle.name_table.specs.Filling.{NamedTree, fills, values}
 use Rattle.node_pool.specs.declared.full.Full.{Full}
 use Rattle.calc_session.specs.Arguments.{IsNoExpression, ReadsText}
-use Rattle.calc_session.specs.Equations.{Piece, Pieces, Sides, Splits, all_placed}
+use Rattle.calc_commands.specs.Equations.{Piece, Pieces, Sides, Splits, all_placed}
 use Rattle.calc_session.specs.Evaluations.{Unmade, made}
 use Rattle.calc_session.specs.Forms.{form_room}
 use Rattle.calc_session.specs.Replies.{Reason, Reply, report, refused, full, overflow, interrupted, command, not_linear, too_many}
-use Rattle.calc_session.specs.RisingNames.{AreNamesOf, HoldOverSixNames}
+use Rattle.linear_solve.specs.RisingNames.{AreNamesOf, HoldOverSixNames}
 use Rattle.calc_session.specs.SolutionTexts.{solution_text}
 use Rattle.calc_session.specs.States.{State, free_bytes, trees}
 

@@ -2,6 +2,7 @@
 use Rattle.std.specs.Prelude.{◌≡◌, ◌≤◌, ℕ, List, length, true, false, Option, Some, None}
 use Rattle.breakers.specs.State.{State as Breaker}
 use Rattle.calc_terms.specs.Trees.{Tree, none, more}
+use Rattle.calc_tokens.specs.Limits.{line_limit}
 use Rattle.name_table.specs.Held.{held_by}
 use Rattle.name_table.specs.Storing.{IsStorable}
 use Rattle.name_table.specs.Tables.{with_answer, without_name}
@@ -35,7 +36,7 @@ IsReplyTo room bits old before after line (commanded a) reply = IsReplyToCommand
 -- the replies to a line in a state, by the room and bits that the reducer tells, and the breakers before and after
 pub data IsReply (room bits : Option (Tree → ℕ)) (old : State) (before after : List Breaker) (line : List ℕ) : Reply → Type 0 where
   asks_in_vain : {reason : Reason} → AsksInVain line reason → after ≡ before → IsReply room bits old before after line (refused reason)
-  is_replied : {request : Request} {reply : Reply} → length line ≤ 1024 → Asks line request → IsReplyTo room bits old before after line request reply → IsReply room bits old before after line reply
+  is_replied : {request : Request} {reply : Reply} → length line ≤ line_limit → Asks line request → IsReplyTo room bits old before after line request reply → IsReply room bits old before after line reply
 
 -- a tree of new nodes is the last answer now, and stands behind those of the old trees that the new table holds
 pub record LeavesAnswer (store : Option (List ℕ)) (answer : Tree) (old new : State) : Type 0 where

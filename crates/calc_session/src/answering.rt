@@ -10,12 +10,13 @@ ghost use Rattle.calc_session.specs.Reading.{IsText};
 
 use crate::evaluating::Evaluation;
 use crate::parts::Parts;
-use crate::reading::{LINE_LIMIT, check_store, is_blank_line, read_text};
+use crate::reading::{check_store, read_text};
 use crate::text::write_undef;
 use crate::{LineAnswer, Refusal};
 use breakers::{Breaker, Watch};
-use calc_commands::is_command;
+use calc_commands::{are_blanks, is_command};
 use calc_terms::Name;
+use calc_tokens::LINE_LIMIT;
 use line_text::write_text;
 use reduce_port::Reducer;
 
@@ -38,7 +39,7 @@ impl Parts {
         if line.len() > LINE_LIMIT {
             return LineAnswer::Refused(Refusal::Long);
         }
-        if is_blank_line(line) {
+        if are_blanks(line) {
             return LineAnswer::Blank;
         }
         if is_command(line) {

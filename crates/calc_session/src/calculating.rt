@@ -2,6 +2,7 @@
 ghost use Rattle.std.specs.Prelude.{◌≡◌, ◌≤◌, ◌+◌, ◌↔◌, ℕ, [], length};
 ghost use Rattle.breakers.specs.Breakers.{TripsRose};
 ghost use Rattle.breakers.specs.Watch.{states};
+ghost use Rattle.calc_tokens.specs.Limits.{line_limit};
 ghost use Rattle.node_pool.specs.State.{free_of};
 ghost use Rattle.calc_session.specs.Answers.{CountsRefusal, TellsAs, refusal_of_pool};
 ghost use Rattle.calc_session.specs.Calculating.{IsReplyToExpression};
@@ -75,7 +76,7 @@ impl Parts {
     ) -> LineAnswer
         requires kept { IsKept self.old }
         requires empty { self.old.text.bytes ≡ [] }
-        requires short { before + length expression.now ≤ 1024 }
+        requires short { before + length expression.now ≤ line_limit }
         ensures told { TellsAs (IsReplyToExpression (state_in self.old) (states B.state watch.old) (states B.state watch.new) before expression.now
             (C.rule calculation.now (free_of self.old.work.pool) (states B.state watch.old) (states B.state watch.new))) result self.new.text.bytes }
         ensures interrupted { (place : ℕ) → (result ≡ LineAnswer.Refused (Refusal.Interrupted place))

@@ -6,6 +6,7 @@ ghost use Rattle.breakers.specs.Watch.{states};
 ghost use Rattle.calc_commands.specs.Commands.{IsCommandLine, asked_of, forget as asks_to_forget, is_command as begins_with_colon};
 ghost use Rattle.calc_terms.specs.Leaf.{name_of};
 ghost use Rattle.calc_terms.specs.Trees.{Tree};
+ghost use Rattle.calc_tokens.specs.Limits.{line_limit};
 ghost use Rattle.name_table.specs.Held.{IsHeld};
 ghost use Rattle.tree_handles.specs.Standing.{Stands, forest};
 ghost use Rattle.calc_session.specs.Answers.{AnswersBy, AnswersUntold, CountsRefusal, TellsAs, refusal_of_pool};
@@ -43,7 +44,7 @@ impl Parts {
     ) -> LineAnswer
         requires kept { IsKept self.old }
         requires empty { self.old.text.bytes ≡ [] }
-        requires short { length line.now ≤ 1024 }
+        requires short { length line.now ≤ line_limit }
         requires command { begins_with_colon line.now ≡ true }
         ensures answers { AnswersUntold R.room R.bits (state_in self.old) (states B.state watch.old) line.now result self.new.text.bytes (state_in self.new) (states B.state watch.new) }
         ensures interrupted { (place : ℕ) → (result ≡ LineAnswer.Refused (Refusal.Interrupted place))
@@ -67,7 +68,7 @@ impl Parts {
     ) -> LineAnswer
         requires kept { IsKept self.old }
         requires empty { self.old.text.bytes ≡ [] }
-        requires short { length line.now ≤ 1024 }
+        requires short { length line.now ≤ line_limit }
         requires asked { IsCommandLine line.now (asked_of command) }
         ensures answers { AnswersBy (IsReplyToCommand R.room R.bits (state_in self.old) (states B.state watch.old) (states B.state watch.new) line.now (asked_of command.entry))
             (state_in self.old) result self.new.text.bytes (state_in self.new) }
@@ -154,7 +155,7 @@ impl Parts {
 
 /// How many bytes of a line stand before the text at its end.
 fn bytes_before(line: &[u8], text: &[u8]) -> u16
-    requires short { length line.now ≤ 1024 }
+    requires short { length line.now ≤ line_limit }
     requires behind { length text.now ≤ length line.now }
     ensures { result ≡ bytes_before_text line.now text.now }
 {

@@ -7,7 +7,9 @@ ghost use Rattle.calc_algebra.specs.Rewritings.{Reduces};
 ghost use Rattle.calc_commands.specs.Commands.{IsCommandLine, diff, expand, solve};
 ghost use Rattle.calc_language.specs.Texts.{text};
 ghost use Rattle.calc_measures.specs.Measures.{bits as bits_of};
+ghost use Rattle.calc_terms.specs.Limits.{bits_limit, depth_limit};
 ghost use Rattle.calc_terms.specs.Trees.{Tree, depth, names, nodes, size, undef};
+ghost use Rattle.calc_tokens.specs.Limits.{line_limit};
 ghost use Rattle.calc_tokens.specs.Placed.{Placed};
 ghost use Rattle.dual_diff.specs.Derivatives.{HasDerivative, derivative};
 ghost use Rattle.expand_forms.specs.ExpansionRoom.{expansion_room};
@@ -15,7 +17,7 @@ ghost use Rattle.expand_forms.specs.PolynomialTrees.{is_polynomial};
 ghost use Rattle.linear_solve.specs.Equations.{Equation, nodes_of_sides};
 ghost use Rattle.linear_solve.specs.Fitting.{Misfit};
 ghost use Rattle.linear_solve.specs.Solving.{solving};
-ghost use Rattle.name_table.specs.Filling.{depth_limit, fills};
+ghost use Rattle.name_table.specs.Filling.{fills};
 ghost use Rattle.name_table.specs.Held.{IsHeld};
 ghost use Rattle.node_pool.specs.declared.full.Full.{Full};
 ghost use Rattle.reduce_port.specs.Bounds.{MayExceed};
@@ -30,7 +32,7 @@ ghost use Rattle.calc_session.specs.Forms.{form_room};
 ghost use Rattle.calc_session.specs.Meant.{HasNoMeaning, HasSmallRadicands, MeanTheSame, MeansNothing, ShowsMeaning};
 ghost use Rattle.calc_session.specs.Reading.{ReadsTree};
 ghost use Rattle.calc_session.specs.Replies.{Reply, circular, full, not_polynomial, refused, report, shown, stored, undefined};
-ghost use Rattle.calc_session.specs.RisingNames.{AreNamesOf};
+ghost use Rattle.linear_solve.specs.RisingNames.{AreNamesOf};
 ghost use Rattle.calc_session.specs.Slopes.{TellsDerivative};
 ghost use Rattle.calc_session.specs.SolutionsMeant.{AsksToSolve, TellsSolutionsOf};
 ghost use Rattle.calc_session.specs.Solving.{IsReplyToEquations, first_not_linear};
@@ -89,7 +91,7 @@ pub fn sessions_hold_no_small_tree()
 pub fn lines_are_answered()
     ensures { (room bits : Option (Tree → ℕ)) (old : State) (before after : List Breaker) (line : List ℕ) (reply : Reply) (store : Option (List ℕ)) (t : Tree)
         → ReadsFilled old line store t → depth t ≤ depth_limit → HasBytesFor old t
-        → ¬ (MayExceed room t (free_bytes old)) → ¬ (MayExceed bits t 124) → ((place : ℕ) → ¬ (TripsWithin (nodes t) before after place))
+        → ¬ (MayExceed room t (free_bytes old)) → ¬ (MayExceed bits t bits_limit) → ((place : ℕ) → ¬ (TripsWithin (nodes t) before after place))
         → ((x : List ℕ) → reply ≢ refused (circular x)) → IsReply room bits old before after line reply → IsAnswered reply }
 {}
 
@@ -110,7 +112,7 @@ pub fn derivatives_mean_the_slope()
 /// A line that asks for a derivative is answered by what is read, built, filled and derived, and by nothing else.
 pub fn derivatives_are_calculated()
     ensures { (room bits : Option (Tree → ℕ)) (old : State) (before after : List Breaker) (line x text : List ℕ) (reply : Reply)
-        → length line ≤ 1024 → IsCommandLine line (diff x text) → IsReply room bits old before after line reply
+        → length line ≤ line_limit → IsCommandLine line (diff x text) → IsReply room bits old before after line reply
         → IsReplyToExpression old before after (bytes_before line text) text (IsReplyToDerivative room bits (free_bytes old) before after x) reply }
 {}
 
@@ -118,9 +120,9 @@ pub fn derivatives_are_calculated()
 /// neither room nor bits are exceeded, and no breaker trips.
 pub fn derivatives_are_told()
     ensures { (room bits : Option (Tree → ℕ)) (old : State) (before after : List Breaker) (line x text : List ℕ) (reply : Reply) (tokens : List Placed) (tree t : Tree) (left : ℕ)
-        → length line ≤ 1024 → IsCommandLine line (diff x text) → ReadsText text tokens None tree → made_in old tree ≡ fills left t
+        → length line ≤ line_limit → IsCommandLine line (diff x text) → ReadsText text tokens None tree → made_in old tree ≡ fills left t
         → HasDerivative x t → size t + size (derivative x t) ≤ free_bytes old
-        → ¬ (MayExceed room (derivative x t) (free_bytes old)) → ¬ (MayExceed bits (derivative x t) 124)
+        → ¬ (MayExceed room (derivative x t) (free_bytes old)) → ¬ (MayExceed bits (derivative x t) bits_limit)
         → ((place : ℕ) → ¬ (TripsWithin (nodes (derivative x t)) before after place))
         → IsReply room bits old before after line reply → (told : List ℕ) × (reply ≡ report told) }
 {}
@@ -134,7 +136,7 @@ pub fn solutions_mean_what_they_say()
 /// A line that asks for solutions is answered by what is split, read, built, filled and solved, and by nothing else.
 pub fn solutions_are_calculated()
     ensures { (room bits : Option (Tree → ℕ)) (old : State) (before after : List Breaker) (line text : List ℕ) (reply : Reply)
-        → length line ≤ 1024 → IsCommandLine line (solve text) → IsReply room bits old before after line reply
+        → length line ≤ line_limit → IsCommandLine line (solve text) → IsReply room bits old before after line reply
         → IsReplyToEquations old before after (bytes_before line text) text reply }
 {}
 
@@ -142,7 +144,7 @@ pub fn solutions_are_calculated()
 /// names, each operation fits, the bytes of a form and its face are free, and no breaker trips.
 pub fn linear_equations_are_solved()
     ensures { (room bits : Option (Tree → ℕ)) (old : State) (before after : List Breaker) (line : List ℕ) (reply : Reply) (es : List Equation) (xs : List (List ℕ))
-        → length line ≤ 1024 → AsksToSolve old line es → AreNamesOf es xs → length xs ≤ 6 → first_not_linear es ≡ None
+        → length line ≤ line_limit → AsksToSolve old line es → AreNamesOf es xs → length xs ≤ 6 → first_not_linear es ≡ None
         → ((m : Misfit) → ¬ (solving xs es ≡ Err m)) → form_room ≤ free_bytes old
         → ((place : ℕ) → ¬ (TripsIn (nodes_of_sides es + length xs) before after place))
         → IsReply room bits old before after line reply → (told : List ℕ) × (reply ≡ report told) }
@@ -158,7 +160,7 @@ pub fn expansions_mean_what_they_say()
 /// A line that asks for an expansion is answered by what is read, built, filled and expanded, and by nothing else.
 pub fn expansions_are_calculated()
     ensures { (room bits : Option (Tree → ℕ)) (old : State) (before after : List Breaker) (line text : List ℕ) (reply : Reply)
-        → length line ≤ 1024 → IsCommandLine line (expand text) → IsReply room bits old before after line reply
+        → length line ≤ line_limit → IsCommandLine line (expand text) → IsReply room bits old before after line reply
         → IsReplyToExpression old before after (bytes_before line text) text (IsReplyToExpansion (free_bytes old) before after) reply }
 {}
 
@@ -173,7 +175,7 @@ pub fn same_coefficients_same_text()
 /// A line that asks for an expansion is refused as no polynomial exactly where what it becomes is none.
 pub fn other_trees_are_not_expanded()
     ensures { (room bits : Option (Tree → ℕ)) (old : State) (before after : List Breaker) (line : List ℕ) (reply : Reply) (t : Tree)
-        → length line ≤ 1024 → AsksExpansionOf old line t → IsReply room bits old before after line reply
+        → length line ≤ line_limit → AsksExpansionOf old line t → IsReply room bits old before after line reply
         → (reply ≡ refused not_polynomial) ↔ (is_polynomial t ≡ false) }
 {}
 
@@ -181,7 +183,7 @@ pub fn other_trees_are_not_expanded()
 /// exceed the bytes that were free, and no breaker trips.
 pub fn polynomials_are_expanded()
     ensures { (room bits : Option (Tree → ℕ)) (old : State) (before after : List Breaker) (line : List ℕ) (reply : Reply) (t : Tree)
-        → length line ≤ 1024 → AsksExpansionOf old line t → is_polynomial t ≡ true → bits_of t ≤ 124 → expansion_room t ≤ free_bytes old
+        → length line ≤ line_limit → AsksExpansionOf old line t → is_polynomial t ≡ true → bits_of t ≤ bits_limit → expansion_room t ≤ free_bytes old
         → ((place : ℕ) → ¬ (TripsWithin (nodes t) before after place))
         → IsReply room bits old before after line reply → reply ≡ report (expansion_text t) }
 {}

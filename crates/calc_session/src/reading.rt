@@ -1,19 +1,19 @@
 //! Lines, read by the grammar.
 ghost use Rattle.std.specs.Prelude.{◌≡◌, ◌≤◌, ◌+◌, ℕ, List, length, None, IfOk, IfErr, OnOk, codes};
 ghost use Rattle.std.specs.Str.{bytes_eq};
-ghost use Rattle.calc_language.specs.Tokens.{is_blank as is_blank_of};
 ghost use Rattle.calc_terms.specs.Leaf.{name_of};
 ghost use Rattle.calc_terms.specs.Trees.{Tree};
 ghost use Rattle.calc_parser.specs.Outcomes.{IsFaultOf as IsLineFault};
 ghost use Rattle.calc_parser.specs.Refused.{IsLineFaultOf};
 ghost use Rattle.calc_tokens.specs.Faults.{IsFaultOf};
+ghost use Rattle.calc_tokens.specs.Limits.{line_limit};
 ghost use Rattle.calc_tokens.specs.Placed.{Placed, bare};
 ghost use Rattle.calc_tokens.specs.Scanned.{AreTokensOf};
 ghost use Rattle.calc_tokens.specs.Tokens.{tokens_of};
 ghost use Rattle.name_table.specs.Storing.{IsStorable, name_in};
 ghost use Rattle.calc_session.specs.Answers.{reason_of};
 ghost use Rattle.calc_session.specs.Arguments.{IsMisread, IsNoExpression, ReadsText};
-ghost use Rattle.calc_session.specs.Reading.{is_blank_line as is_blank_line_of, IsUnstorable};
+ghost use Rattle.calc_session.specs.Reading.{IsUnstorable};
 ghost use Rattle.calc_session.specs.Replies.{refusal_in};
 
 use crate::Refusal;
@@ -22,13 +22,10 @@ use calc_terms::Name;
 use calc_tokens::TokenFault;
 use name_table::NameTable;
 
-/// The most bytes of a line.
-pub const LINE_LIMIT: usize = 1024;
-
 /// Reads a text by the grammar. The name is that under which its answer is to be stored. So many bytes of the line stand before
 /// it.
 pub fn read_text(text: &[u8], before: u16, parser: &mut Parser) -> Result<Option<Name>, Refusal>
-    requires { before + length text.now ≤ 1024 }
+    requires { before + length text.now ≤ line_limit }
     ensures tree { IfOk result (λ store. (t : Tree) × ReadsText text.now (tokens_of parser.new) (name_in store) t) }
     ensures refused { IfErr result (λ refusal. IsMisread before text.now (reason_of refusal)) }
     ensures no_pool { IfErr result (λ refusal. refusal_in (reason_of refusal) ≡ None) }
@@ -42,7 +39,7 @@ pub fn read_text(text: &[u8], before: u16, parser: &mut Parser) -> Result<Option
 
 /// Reads a text as an expression to calculate with. So many bytes of the line stand before it.
 pub fn read_expression(text: &[u8], before: u16, parser: &mut Parser) -> Result<(), Refusal>
-    requires { before + length text.now ≤ 1024 }
+    requires { before + length text.now ≤ line_limit }
     ensures tree { IfOk result (λ _. (t : Tree) × ReadsText text.now (tokens_of parser.new) None t) }
     ensures refused { IfErr result (λ refusal. IsNoExpression before text.now (reason_of refusal)) }
     ensures no_pool { IfErr result (λ refusal. refusal_in (reason_of refusal) ≡ None) }
@@ -78,7 +75,7 @@ pub fn check_store(store: Option<Name>, table: &NameTable) -> Result<(), Refusal
 
 /// The refusal of a text that is not read, where so many bytes of the line stand before it.
 fn refusal_to_read(fault: LineFault, before: u16) -> Refusal
-    requires place { (text : List ℕ) × IsLineFaultOf text fault × (before + length text ≤ 1024) }
+    requires place { (text : List ℕ) × IsLineFaultOf text fault × (before + length text ≤ line_limit) }
     ensures refused { (text : List ℕ) → IsLineFaultOf text fault → IsMisread before text (reason_of result) }
     ensures no_pool { refusal_in (reason_of result) ≡ None }
     ensures no_breaker { (place : ℕ) → result ≡ Refusal.Interrupted place → ⊥ }
@@ -90,7 +87,7 @@ fn refusal_to_read(fault: LineFault, before: u16) -> Refusal
 }
 
 fn token_refusal(fault: TokenFault, before: u16) -> Refusal
-    requires place { (text : List ℕ) × IsFaultOf text fault × (before + length text ≤ 1024) }
+    requires place { (text : List ℕ) × IsFaultOf text fault × (before + length text ≤ line_limit) }
     ensures refused { (text : List ℕ) → IsFaultOf text fault → IsMisread before text (reason_of result) }
     ensures no_pool { refusal_in (reason_of result) ≡ None }
     ensures no_breaker { (place : ℕ) → result ≡ Refusal.Interrupted place → ⊥ }
@@ -117,18 +114,4 @@ pub fn is_ans(name: Name) -> bool
     ensures { result ≡ bytes_eq (name_of name) (codes "ans") }
 {
     name.bytes() == b"ans".as_slice()
-}
-
-/// Whether a line is of blanks alone, or of nothing.
-pub fn is_blank_line(line: &[u8]) -> bool
-    ensures { result ≡ is_blank_line_of line.now }
-{
-    line.iter().all(|byte| is_blank(*byte))
-}
-
-/// A space or a tab.
-fn is_blank(byte: u8) -> bool
-    ensures { result ≡ is_blank_of byte }
-{
-    byte == b' ' || byte == b'\t'
 }

@@ -12,6 +12,7 @@ ghost use Rattle.tree_handles.specs.Standing.{Stands};
 
 use crate::drawing::draw_answer;
 use crate::parts::{Parts, Workspace};
+use crate::solution_text::SOLUTION_ROOM;
 use crate::text::write_refusal;
 use crate::{DrawFault, LineAnswer, Refusal};
 use beautify::Faces;
@@ -69,7 +70,7 @@ impl Session {
         ensures { IfOk result (λ session. session ≡ record { state = first_state size; refusals = 0; last_refused = record { needed = 0; free = 0 }; text = [] }) }
     {
         let mut pool = open_pool(alloc, size)?;
-        let text = Text::open(alloc, 3 * size + 8_448)?;
+        let text = Text::open(alloc, 3 * size + SOLUTION_ROOM)?;
         let parser = Parser::open(alloc)?;
         let drafter = Drafter::open(alloc, size)?;
         let faces = Faces::open(alloc, size)?;

@@ -10,10 +10,10 @@ ghost use Rattle.linear_solve.specs.Told.{entries_of};
 ghost use Rattle.line_text.specs.Content.{extended, spare_of};
 ghost use Rattle.node_pool.specs.State.{free_of};
 ghost use Rattle.calc_session.specs.Answers.{CountsRefusal};
-ghost use Rattle.calc_session.specs.Forms.{IsSmall, IsSmallForm, form_room, lack_of};
+ghost use Rattle.calc_session.specs.Forms.{IsSmall, IsSmallForm, form_room, lack_of, solution_room};
 ghost use Rattle.calc_session.specs.Kept.{IsReady};
 ghost use Rattle.calc_session.specs.Pools.{after};
-ghost use Rattle.calc_session.specs.RisingNames.{Rises};
+ghost use Rattle.linear_solve.specs.RisingNames.{Rises};
 ghost use Rattle.calc_session.specs.SolutionTexts.{comma_before as comma_before_text, form_tree, line_text, lines_text, multipliers_text, solution_text};
 
 use crate::forms::place_form;
@@ -24,6 +24,12 @@ use line_text::{Text, write_text};
 use linear_solve::{EquationRow, Line, NameRow, Solution};
 use node_pool::Full;
 use pool_checkpoints::{open_mark, roll_back};
+
+/// The most bytes of what is told of one name, with a comma before it.
+const LINE_ROOM: u32 = 1_408;
+
+/// The most bytes of the text of a solution, in six names.
+pub const SOLUTION_ROOM: u32 = 6 * LINE_ROOM;
 
 /// Writes the solutions of equations in these names. It is not inlined: what it keeps is on the machine's stack only once
 /// they are solved.
@@ -38,7 +44,7 @@ pub fn write_solution(
     requires rises { Rises (map name_of names.now) }
     requires few { length names.now ≤ 6 }
     requires empty { text.old.bytes ≡ [] }
-    requires room { 8448 ≤ text.old.capacity }
+    requires room { solution_room ≤ text.old.capacity }
     requires forms { IfSolved (Ok solution.now) (λ forms. (length forms ≡ length names.now) × HoldLaterFreeNames forms) }
     requires multipliers { IfNever (Ok solution.now) (λ cs. length cs ≤ 6) }
     ensures told { OnOk result (text.new.bytes ≡ solution_text (map name_of names.now) (answer_told solution.now)) }
@@ -80,7 +86,7 @@ fn comma_before(at: usize) -> &'static [u8]
     if at == 0 { b"" } else { b"," }
 }
 
-/// Writes the line of each name, and `true` where there is none: at most 1,408 bytes for each.
+/// Writes the line of each name, and `true` where there is none: at most `LINE_ROOM` bytes for each.
 fn write_lines(
     work: &mut Workspace,
     names: &[Name],
@@ -93,7 +99,7 @@ fn write_lines(
     requires lines { length lines.now ≡ length names.now }
     requires small { All (λ l. IsSmallForm (map name_of names.now) (form_told l)) lines.now }
     requires empty { text.old.bytes ≡ [] }
-    requires room { 8448 ≤ text.old.capacity }
+    requires room { solution_room ≤ text.old.capacity }
     ensures told { OnOk result (text.new.bytes ≡ lines_text (map name_of names.now) (map form_told lines.now)) }
     ensures lacks { IfErr result (λ full. (full.free < full.needed) × (free_of work.old.pool < form_room)) }
     ensures counted { CountsRefusal (lack_of result) work.old.pool work.new.pool }

@@ -5,6 +5,7 @@ ghost use Rattle.breakers.specs.Breakers.{TripsRose};
 ghost use Rattle.breakers.specs.State.{State as Breaker};
 ghost use Rattle.breakers.specs.Watch.{states};
 ghost use Rattle.calc_terms.specs.Trees.{Tree};
+ghost use Rattle.calc_tokens.specs.Limits.{line_limit};
 ghost use Rattle.calc_tokens.specs.Tokens.{tokens_of};
 ghost use Rattle.linear_solve.specs.Equations.{Equation, equation_at, equations_in};
 ghost use Rattle.name_table.specs.Filling.{values};
@@ -17,23 +18,22 @@ ghost use Rattle.calc_session.specs.Answers.{CountsRefusal, TellsAs, reason_of, 
 ghost use Rattle.calc_session.specs.Arguments.{IsNoExpression, ReadsText};
 ghost use Rattle.calc_session.specs.Evaluations.{Unmade, made};
 ghost use Rattle.calc_session.specs.Kept.{IsKept, state_in};
-ghost use Rattle.calc_session.specs.Ranges.{AreSplit, IsWithin, between, pieces_at};
+ghost use Rattle.calc_commands.specs.Ranges.{AreSplit, IsWithin, between, pieces_at};
 ghost use Rattle.calc_session.specs.Replies.{refusal_in};
 ghost use Rattle.calc_session.specs.Solved.{AreRootsOf, AreSolved, BuildsSide, refusal_to_solve};
 ghost use Rattle.calc_session.specs.Solving.{AreUnmade, Become, IsReplyToEquations, IsReplyToRead, IsReplyToSolve, ReadsEquation, ReadsSide, first_not_linear as first_not_linear_of, is_linear_equation as is_linear_equation_of};
 ghost use Rattle.calc_session.specs.States.{State};
 
-use crate::equations::{EQUATION_LIMIT, EquationRange, SplitFault, split};
 use crate::evaluating::{build_and_fill, refused};
 use crate::parts::Parts;
 use crate::reading::read_expression;
-use crate::side_names::{NameList, in_array, names_in};
 use crate::solution_text::write_solution;
 use crate::{LineAnswer, Refusal};
 use arrayvec::ArrayVec;
 use breakers::{Breaker, Watch};
+use calc_commands::{EQUATION_LIMIT, EquationRange, SplitFault, split_equations};
 use calc_parser::Parser;
-use linear_solve::{Solution, SolveFault, is_linear, solve};
+use linear_solve::{NameList, Solution, SolveFault, in_array, is_linear, names_in, solve};
 use name_table::NameTable;
 use node_pool::{Id, Pool};
 use pool_checkpoints::{open_mark, roll_back};
@@ -79,7 +79,7 @@ impl Parts {
     ) -> LineAnswer
         requires kept { IsKept self.old }
         requires empty { self.old.text.bytes ≡ [] }
-        requires short { before + length text.now ≤ 1024 }
+        requires short { before + length text.now ≤ line_limit }
         ensures told { TellsAs (IsReplyToEquations (state_in self.old) (states B.state watch.old) (states B.state watch.new) before text.now) result self.new.text.bytes }
         ensures interrupted { (place : ℕ) → (result ≡ LineAnswer.Refused (Refusal.Interrupted place))
             ↔ TripsRose (states B.state watch.old) (states B.state watch.new) place }
@@ -130,14 +130,14 @@ fn read_equations(
     before: u16,
     parser: &mut Parser,
 ) -> Result<ArrayVec<EquationRange, EQUATION_LIMIT>, Refusal>
-    requires short { before + length text.now ≤ 1024 }
+    requires short { before + length text.now ≤ line_limit }
     ensures split { IfOk result (λ ranges. AreSplit text.now ranges.items) }
     ensures read { IfOk result (λ ranges. (es : List Equation) × AllZip ReadsEquation (map (pieces_at before text.now) ranges.items) es) }
     ensures refused { (old : State) (breakers : List Breaker) → IfErr result (λ refusal. IsReplyToEquations old breakers breakers before text.now (reply_of refusal)) }
     ensures no_pool { IfErr result (λ refusal. refusal_in (reason_of refusal) ≡ None) }
     ensures no_breaker { IfErr result (λ refusal. (place : ℕ) → refusal ≡ Refusal.Interrupted place → ⊥) }
 {
-    let ranges = match split(text) {
+    let ranges = match split_equations(text) {
         Ok(ranges) => ranges,
         Err(SplitFault::Unwritten) => return Err(Refusal::Command),
         Err(SplitFault::TooMany) => return Err(Refusal::TooMany),
@@ -159,7 +159,7 @@ fn read_side(
 ) -> Result<(), Refusal>
     requires order { from ≤ to }
     requires within { to ≤ length text.now }
-    requires short { before + length text.now ≤ 1024 }
+    requires short { before + length text.now ≤ line_limit }
     ensures read { IfOk result (λ _. (t : Tree) × ReadsText (between from to text.now) (tokens_of parser.new) None t) }
     ensures refused { IfErr result (λ refusal. IsNoExpression (before + from) (between from to text.now) (reason_of refusal)) }
     ensures no_pool { IfErr result (λ refusal. refusal_in (reason_of refusal) ≡ None) }
@@ -180,7 +180,7 @@ fn solve_read<B: Breaker>(
 ) -> Result<Solved, Refusal>
     requires stands { Stands pool.old }
     requires entries { HasEntries table.now (forest pool.old) }
-    requires short { equations.now.before + length equations.now.text.now ≤ 1024 }
+    requires short { equations.now.before + length equations.now.text.now ≤ line_limit }
     requires few { length equations.now.ranges.now ≤ 6 }
     requires within { All (IsWithin equations.now.text.now) equations.now.ranges.now }
     requires reads { (es : List Equation) × AllZip ReadsEquation (map (pieces_at equations.now.before equations.now.text.now) equations.now.ranges.now) es }
@@ -222,7 +222,7 @@ fn build_equations(
 ) -> Result<Roots, Refusal>
     requires stands { Stands pool.old }
     requires entries { HasEntries table.now (forest pool.old) }
-    requires short { equations.now.before + length equations.now.text.now ≤ 1024 }
+    requires short { equations.now.before + length equations.now.text.now ≤ line_limit }
     requires few { length equations.now.ranges.now ≤ 6 }
     requires within { All (IsWithin equations.now.text.now) equations.now.ranges.now }
     requires reads { (es : List Equation) × AllZip ReadsEquation (map (pieces_at equations.now.before equations.now.text.now) equations.now.ranges.now) es }
@@ -270,7 +270,7 @@ fn build_side(
     requires entries { HasEntries table.now (forest pool.old) }
     requires order { side.from ≤ side.to }
     requires within { side.to ≤ length equations.now.text.now }
-    requires short { equations.now.before + length equations.now.text.now ≤ 1024 }
+    requires short { equations.now.before + length equations.now.text.now ≤ line_limit }
     requires reads { (t : Tree) × ReadsSide (record { before = equations.now.before + side.from; text = between side.from side.to equations.now.text.now }) t }
     ensures built { (t : Tree) → ReadsSide (record { before = equations.now.before + side.from; text = between side.from side.to equations.now.text.now }) t
         → IfOk result (BuildsSide table.now pool.old pool.new t) }

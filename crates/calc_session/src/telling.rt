@@ -2,6 +2,7 @@
 ghost use Rattle.std.specs.Prelude.{◌≡◌, ◌≤◌, ◌*◌, ◌+◌, [], ⊤};
 ghost use Rattle.tree_handles.specs.Standing.{Stands, forest};
 ghost use Rattle.calc_session.specs.Answers.{Tells};
+ghost use Rattle.calc_session.specs.Forms.{solution_room};
 ghost use Rattle.calc_session.specs.Telling.{HasFace};
 
 use crate::LineAnswer;
@@ -15,7 +16,7 @@ pub fn tell(pool: &Pool, text: &mut Text, evaluation: Evaluation) -> LineAnswer
     requires stands { Stands pool.now }
     requires face { HasFace (forest pool.now) evaluation }
     requires empty { text.old.bytes ≡ [] }
-    requires room { text.old.capacity ≡ 3 * pool.now.size + 8448 }
+    requires room { text.old.capacity ≡ 3 * pool.now.size + solution_room }
     ensures told { Tells pool.now evaluation result text.new.bytes }
     ensures capacity { text.new.capacity ≡ text.old.capacity }
 {

@@ -14,3 +14,5 @@ pub mod EquationRows
 pub mod CheckCounts
 pub mod Results
 pub mod Shared
+pub mod RisingLemmas
+pub mod NamesOnce

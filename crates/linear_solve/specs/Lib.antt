@@ -11,3 +11,5 @@ pub mod Faults
 pub mod Told
 pub mod States
 pub mod Solutions
+pub mod RisingNames
+pub mod Listed

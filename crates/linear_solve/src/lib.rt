@@ -9,6 +9,7 @@ mod laws;
 mod linear;
 mod row;
 mod side;
+mod side_names;
 mod sides;
 mod solution;
 mod solving;
@@ -16,6 +17,7 @@ mod solving;
 pub use fault::SolveFault;
 pub use linear::is_linear;
 pub use row::{EquationRow, NameRow, Row};
+pub use side_names::{Listed, NAME_LIMIT, NameList, in_array, names_in};
 pub use solution::{Line, Solution};
 pub use solving::solve;
 

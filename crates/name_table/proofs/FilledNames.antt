@@ -1,8 +1,9 @@
--- Names of filled trees, and what filling in the free bytes gives.
-use Rattle.name_table.proofs.Shared.{arith, ◌≡◌, ℕ, ◌⊎◌, inl, inr, List, [], ◌∷◌, map, refl, sym, ap, ◌∙◌, subst, Contains, Tree, Forest, replaced, Filling, LacksNames}
-use Rattle.name_table.proofs.Shared.{NamedTree, fills, filled, filling, filling_one, lacks, too_deep, value_in, values, HasEntries, HoldLaterNames, IsHeld, Entry, Table, entries, table_names}
-use Rattle.name_table.proofs.Later.{behind, in_front, names_of_entries, none_in, where_in}
+-- Names of filled trees.
+use Rattle.std.proofs.Common.{arith, ◌≡◌, ℕ, ◌⊎◌, inl, inr, List, [], ◌∷◌, map, refl, sym, ap, ◌∙◌, subst}
+use Rattle.std.specs.Prelude.{Contains}
+use Rattle.name_table.proofs.Shared.{Tree, Forest, replaced, Filling, LacksNames, NamedTree, fills, filled, filling, filling_one, lacks, too_deep, value_in, values, HasEntries, HoldLaterNames, IsHeld, Entry, Table, entries, table_names}
 use Rattle.tree_walks.proofs.Composing.{names_of_replaced}
+use Rattle.name_table.proofs.Later.{behind, in_front, names_of_entries, none_in, where_in}
 
 -- the names of the new tree
 still_lacks : (passed : List (List ℕ)) (v : NamedTree) (t : Tree) → LacksNames passed t → LacksNames (v.name ∷ passed) v.tree → LacksNames (v.name ∷ passed) (replaced v.name v.tree t)
@@ -33,17 +34,3 @@ entries_lack t f u held =
 
 pub filled_lacks : (t : Table) (f : Forest) (u : Tree) → IsHeld t f → LacksNames (table_names t) (filled (values t f) u)
 filled_lacks t f u held = entries_lack t f u (record { roots = held.roots; whole = held.whole; later = held.later })
-
--- ---- the tree that fills is the filled one
-
-one_fills_as : (free left : ℕ) (v : NamedTree) (t u : Tree) → filling_one free v t ≡ fills left u → u ≡ replaced v.name v.tree t
-one_fills_as free left v t u e = grind arith
-
-pub fills_as : (free left : ℕ) (vs : List NamedTree) (t u : Tree) → filling free vs t ≡ fills left u → u ≡ filled vs t
-fills_as free left [] t u e = cc
-fills_as free left (v ∷ vs) t u e = by_one (filling_one free v t) (λ n w. fills_as n left vs w u) refl e
-  where
-    by_one : (o : Filling) → ((n : ℕ) (w : Tree) → filling n vs w ≡ fills left u → u ≡ filled vs w) → filling_one free v t ≡ o → elim o [ lacks full ↦ lacks full | too_deep ↦ too_deep | fills n w ↦ filling n vs w ] ≡ fills left u → u ≡ filled vs (replaced v.name v.tree t)
-    by_one (lacks full) next q e = absurd cc
-    by_one too_deep next q e = absurd cc
-    by_one (fills n w) next q e = next n w e ∙ ap (filled vs) (one_fills_as free n v t w q)

@@ -5,6 +5,8 @@ pub mod Later
 pub mod Ready
 pub mod Steps
 pub mod Fillings
+pub mod Growing
+pub mod FilledBytes
 pub mod FilledNames
 pub mod Entries
 pub mod Filled

@@ -2,7 +2,7 @@ use Rattle.std.proofs.Common.{◌≡◌, ℕ, suc, ◌+◌, ◌≤◌, List, len
 use Rattle.std.specs.Prelude.{All, Err}
 use Rattle.linear_solve.specs.Checks.{solving_checks}
 use Rattle.calc_session.proofs.Shared.{length-map, states, name_of, AreDistinct, IsLinearIn, equations_in, OfOverflow, StopsAfter, solving, misfit_of, forest, names_listed, not_linear, refused, IsReplyToSolve, are_not_linear, have_too_many_names}
-use Rattle.calc_session.proofs.RisingLemmas.{rises_distinct}
+use Rattle.linear_solve.proofs.RisingLemmas.{rises_distinct}
 use Rattle.calc_session.proofs.SolutionMeanings.{linear_in}
 use Rattle.calc_session.proofs.SolvingLemmas.{calm_refusal, found_within, names_same, none_there, unsolved_reply}
 use Rattle.calc_session.specs.declared.answers.Refusal.TheVariants as refusal

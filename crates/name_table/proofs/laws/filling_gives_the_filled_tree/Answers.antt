@@ -1,4 +1,4 @@
-use Rattle.name_table.proofs.FilledNames.{fills_as}
+use Rattle.name_table.proofs.FilledBytes.{fills_as}
 use Rattle.name_table.proofs.laws.filling_gives_the_filled_tree.Goals as goal
 
 pub returns : goal.returns

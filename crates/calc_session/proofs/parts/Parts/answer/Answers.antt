@@ -12,18 +12,18 @@ returns-then-line-gt-LINE_LIMIT-clause-answers g c =
 pub returns-then-line-gt-LINE_LIMIT-clause-interrupted : goal.returns-then-line-gt-LINE_LIMIT-clause-interrupted
 returns-then-line-gt-LINE_LIMIT-clause-interrupted g c = calm_long (states g.B.Breaker.state c.args.watch.now)
 
-pub returns-then-is_blank_line-clause-answers : goal.returns-then-is_blank_line-clause-answers
-returns-then-is_blank_line-clause-answers g c =
-    answers_blank g.R.Reducer.room g.R.Reducer.bits (states g.B.Breaker.state c.args.watch.now) (states g.B.Breaker.state c.args.watch.now) c.args.line.now (state_in c.args.self.now) c.args.self.now.text.bytes (omega (arith, c.if-line-gt-LINE_LIMIT.false)) (sym c.is_blank_line.ensures ∙ c.if-is_blank_line.true) refl c.requires.empty
+pub returns-then-are_blanks-clause-answers : goal.returns-then-are_blanks-clause-answers
+returns-then-are_blanks-clause-answers g c =
+    answers_blank g.R.Reducer.room g.R.Reducer.bits (states g.B.Breaker.state c.args.watch.now) (states g.B.Breaker.state c.args.watch.now) c.args.line.now (state_in c.args.self.now) c.args.self.now.text.bytes (omega (arith, c.if-line-gt-LINE_LIMIT.false)) (sym c.are_blanks.ensures ∙ c.if-are_blanks.true) refl c.requires.empty
 
-pub returns-then-is_blank_line-clause-interrupted : goal.returns-then-is_blank_line-clause-interrupted
-returns-then-is_blank_line-clause-interrupted g c = calm_blank (states g.B.Breaker.state c.args.watch.now)
+pub returns-then-are_blanks-clause-interrupted : goal.returns-then-are_blanks-clause-interrupted
+returns-then-are_blanks-clause-interrupted g c = calm_blank (states g.B.Breaker.state c.args.watch.now)
 
 pub returns-then-line-gt-LINE_LIMIT-clause-counted : goal.returns-then-line-gt-LINE_LIMIT-clause-counted
 returns-then-line-gt-LINE_LIMIT-clause-counted g c = inl (tt, record { size = refl; refusals = refl; last_refused = refl })
 
-pub returns-then-is_blank_line-clause-counted : goal.returns-then-is_blank_line-clause-counted
-returns-then-is_blank_line-clause-counted g c = inl (tt, record { size = refl; refusals = refl; last_refused = refl })
+pub returns-then-are_blanks-clause-counted : goal.returns-then-are_blanks-clause-counted
+returns-then-are_blanks-clause-counted g c = inl (tt, record { size = refl; refusals = refl; last_refused = refl })
 
 pub returns-clause-counted : goal.returns-clause-counted
 returns-clause-counted g c = inl (none_known (refusal_of_pool c.answer_text.result) (none_asked (state_in c.args.self.now) c.args.line.now (sym c.is_command.ensures ∙ c.if-is_command.false)), c.answer_text.ensures.counted)

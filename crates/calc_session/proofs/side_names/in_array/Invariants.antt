@@ -1,6 +1,0 @@
-use Rattle.std.proofs.Common.{◌≡◌, length, map, take}
-use Rattle.calc_session.proofs.Shared.{name_of, names_listed}
-use Rattle.calc_session.proofs.side_names.in_array.Given as goal
-
-abbrev pub invariant-loop-at : goal.invariant-loop-at
-invariant-loop-at l = record { long : length l.array ≡ 6; same : map name_of (take l.at l.array) ≡ names_listed (take l.at l.fn.names) }

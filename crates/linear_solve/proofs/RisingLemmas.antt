@@ -1,0 +1,310 @@
+-- Lemmas on names in the order of their bytes.
+use Rattle.std.proofs.Common.{◌≡◌, ◌∙◌, ◌⊎◌, inl, inr, ℕ, zero, suc, ◌+◌, ◌<◌, ◌≤◌, List, [], ◌∷◌, ◌++◌, length, take, get_or, Bool, true, false, cond, refl, sym, ap, subst, arith, append_assoc}
+use Rattle.std.specs.Prelude.{◌||◌, All, Contains}
+use Rattle.calc_algebra.specs.TreeOrder.{tree_cmp}
+use Rattle.calc_terms.specs.Leaf.{name_of}
+use Rattle.calc_terms.specs.Trees.{Tree, symbol, Trees, none, more, count, is_symbol, names, names_of, root_kind}
+use Rattle.linear_solve.specs.Equations.{AreDistinct, equations_in}
+use Rattle.linear_solve.specs.Listed.{names_listed}
+use Rattle.linear_solve.specs.RisingNames.{AreNamesOf, HoldOverSixNames, Includes, IsNameIn, Rises, is_before, names_at}
+use Rattle.linear_solve.specs.declared.side_names.Listed.{Listed}
+use Rattle.std.proofs.lemmas.List.Elements.{Contains-append_cases, Contains-append_left, Contains-append_right}
+use Rattle.std.specs.List.{insert, list_any, prefix_len}
+use Rattle.std.specs.Str.{bytes_eq}
+use Rattle.tree_handles.specs.Expressions.{children_of, nth, plain}
+use Rattle.tree_handles.specs.Forest.{Forest}
+use Rattle.tree_handles.specs.Inside.{tree_at}
+use Rattle.std.specs.Cmp.Lexicographic.{slice_cmp}
+use Rattle.std.specs.Ordering.{is_lt, nat_cmp, ordering_reverse}
+use Rattle.std.specs.declared.cmp.Ordering.{Ordering}
+use Rattle.std.specs.declared.cmp.Ordering.TheVariants.{Less, Equal, Greater}
+use Rattle.std.proofs.lemmas.Slice.Eq.{bytes_eq-Decides}
+use Rattle.calc_algebra.proofs.TreeOrderLaws.{tree_chain, tree_cmp_equal, tree_cmp_refl, tree_cmp_turned}
+use Rattle.calc_terms.specs.declared.kind.Kind.TheVariants as kind
+
+less_is : (o : Ordering) → is_lt o ≡ true → o ≡ Less
+less_is o e = grind arith
+
+pub before_is : (x y : List ℕ) → is_before x y ≡ true → tree_cmp (symbol x) (symbol y) ≡ Less
+before_is x y e = less_is (slice_cmp nat_cmp x y) e
+
+is_less : (x y : List ℕ) → tree_cmp (symbol x) (symbol y) ≡ Less → is_before x y ≡ true
+is_less x y e = ap is_lt e
+
+pub before_chain : (x y z : List ℕ) → is_before x y ≡ true → is_before y z ≡ true → is_before x z ≡ true
+before_chain x y z h k = is_less x z (tree_chain (symbol x) (symbol y) (symbol z) (before_is x y h) (before_is y z k))
+
+-- of two names that are not the same, one is before the other
+behind : (x y : List ℕ) → is_before x y ≡ false → (x ≡ y → ⊥) → is_before y x ≡ true
+behind x y h k = by (tree_cmp (symbol x) (symbol y)) refl
+  where
+    by : (o : Ordering) → tree_cmp (symbol x) (symbol y) ≡ o → is_before y x ≡ true
+    by Less e = absurd (no_less (is_before x y) h (is_less x y e))
+      where
+        no_less : (b : Bool) → b ≡ false → b ≡ true → ⊥
+        no_less b p q = absurd cc
+    by Equal e = absurd (k (same_name x y (tree_cmp_equal (symbol x) (symbol y) e)))
+      where
+        same_name : (x y : List ℕ) → symbol x ≡ symbol y → x ≡ y
+        same_name x y e = cc
+    by Greater e = is_less y x (tree_cmp_turned (symbol y) (symbol x) ∙ ap ordering_reverse e)
+
+pub never_before_itself : (x : List ℕ) → is_before x x ≡ true → ⊥
+never_before_itself x h = clash (sym (tree_cmp_refl (symbol x)) ∙ before_is x x h)
+  where
+    clash : Equal ≡ Less → ⊥
+    clash e = absurd cc
+
+all_first : (P : List ℕ → Type 0) (x : List ℕ) (xs : List (List ℕ)) → All P (x ∷ xs) → P x
+all_first P x xs h = h 0 x (omega arith)
+
+all_others : (P : List ℕ → Type 0) (x : List ℕ) (xs : List (List ℕ)) → All P (x ∷ xs) → All P xs
+all_others P x xs h = λ k d l. h (suc k) d (omega arith)
+
+all_more : (P : List ℕ → Type 0) (x : List ℕ) (xs : List (List ℕ)) → P x → All P xs → All P (x ∷ xs)
+all_more P x xs p h k d l = grind arith
+
+all_member : (P : List ℕ → Type 0) (xs : List (List ℕ)) (x : List ℕ) → All P xs → Contains xs x → P x
+all_member P xs x h (k, l, e) = subst P e (h k x l)
+
+-- a name where it belongs
+abbrev pub with_name : List ℕ → List (List ℕ) → List (List ℕ)
+with_name y xs = insert xs (prefix_len (λ x. is_before x y) xs) y
+
+all_with : (P : List ℕ → Type 0) (n : ℕ) (y : List ℕ) (xs : List (List ℕ)) → P y → All P xs → All P (insert xs n y)
+all_with P zero y xs p h = all_more P y xs p h
+all_with P (suc n) y [] p h = all_more P y [] p h
+all_with P (suc n) y (x ∷ xs) p h = all_more P x (insert xs n y) (all_first P x xs h) (all_with P n y xs p (all_others P x xs h))
+
+pub rises_with : (y : List ℕ) (xs : List (List ℕ)) → Rises xs → (Contains xs y → ⊥) → Rises (with_name y xs)
+rises_with y [] h k = (λ j d l. absurd (omega (arith, l)), tt)
+rises_with y (x ∷ xs) h k = by (is_before x y) refl (rises_with y xs h.1 (λ (j, l, q). k (suc j, omega arith, q)))
+  where
+    by : (b : Bool) → is_before x y ≡ b → Rises (with_name y xs) → Rises (insert (x ∷ xs) (cond b (1 + prefix_len (λ z. is_before z y) xs) 0) y)
+    by true e rest = step (1 + prefix_len (λ z. is_before z y) xs) (suc_is (prefix_len (λ z. is_before z y) xs)) (all_with (λ z. is_before x z ≡ true) (prefix_len (λ z. is_before z y) xs) y xs e h.0, rest)
+      where
+        suc_is : (n : ℕ) → 1 + n ≡ suc n
+        suc_is n = omega arith
+
+        step : (m : ℕ) → m ≡ suc (prefix_len (λ z. is_before z y) xs) → All (λ z. is_before x z ≡ true) (with_name y xs) × Rises (with_name y xs) → Rises (insert (x ∷ xs) m y)
+        step m e r = subst (λ n. Rises (insert (x ∷ xs) n y)) (sym e) r
+    by false e rest =
+        let p = behind x y e (λ q. k (0, omega arith, q)) in
+        (all_more (λ z. is_before y z ≡ true) x xs p (λ j d l. before_chain y x (get_or xs j d) p (h.0 j d l)), h)
+
+pub rises_distinct : (xs : List (List ℕ)) → Rises xs → AreDistinct xs
+rises_distinct [] h = tt
+rises_distinct (x ∷ xs) h = (λ m. never_before_itself x (all_member (λ y. is_before x y ≡ true) xs x h.0 m), rises_distinct xs h.1)
+
+-- ---- what is in them then
+
+in_insert : (n : ℕ) (y : List ℕ) (xs : List (List ℕ)) → Contains (insert xs n y) y
+in_insert zero y xs = (0, omega arith, refl)
+in_insert (suc n) y [] = (0, omega arith, refl)
+in_insert (suc n) y (x ∷ xs) = let (k, l, e) = in_insert n y xs in (suc k, omega arith, e)
+
+old_in : (n : ℕ) (y : List ℕ) (xs : List (List ℕ)) (x : List ℕ) → Contains xs x → Contains (insert xs n y) x
+old_in zero y xs x (k, l, e) = (suc k, omega arith, e)
+old_in (suc n) y [] x (k, l, e) = absurd (omega (arith, l))
+old_in (suc n) y (z ∷ xs) x (zero, l, e) = (0, omega arith, e)
+old_in (suc n) y (z ∷ xs) x (suc k, l, e) = let (j, b, q) = old_in n y xs x (k, omega arith, e) in (suc j, omega arith, q)
+
+from_insert : (n : ℕ) (y : List ℕ) (xs : List (List ℕ)) (x : List ℕ) → Contains (insert xs n y) x → Contains xs x ⊎ Contains (y ∷ []) x
+from_insert zero y xs x (zero, l, e) = inr (0, omega arith, e)
+from_insert zero y xs x (suc k, l, e) = inl (k, omega arith, e)
+from_insert (suc n) y [] x (zero, l, e) = inr (0, omega arith, e)
+from_insert (suc n) y [] x (suc k, l, e) = absurd (omega (arith, l))
+from_insert (suc n) y (z ∷ xs) x (zero, l, e) = inl (0, omega arith, e)
+from_insert (suc n) y (z ∷ xs) x (suc k, l, e) = elim (from_insert n y xs x (k, omega arith, e)) [ inl (j, b, q) ↦ inl (suc j, omega arith, q) | inr m ↦ inr m ]
+
+only_one : (y x : List ℕ) → Contains (y ∷ []) x → y ≡ x
+only_one y x h = grind arith
+
+-- a name that is there already
+pub includes_there : (y : List ℕ) (xs : List (List ℕ)) → Contains xs y → Includes (y ∷ []) xs xs true
+includes_there y xs m = grind arith
+
+-- one for which there is no room
+pub includes_none : (y : List ℕ) (xs : List (List ℕ)) → length xs ≡ 6 → (Contains xs y → ⊥) → Includes (y ∷ []) xs xs false
+includes_none y xs l h = record {
+  kept = λ x c. c;
+  only = λ x c. inl c;
+  all = λ e. absurd cc;
+  lacks = λ e. (l, y, (0, omega arith, refl), h);
+}
+
+pub includes_new : (y : List ℕ) (xs : List (List ℕ)) → Includes (y ∷ []) xs (with_name y xs) true
+includes_new y xs = record {
+  kept = λ x c. old_in (prefix_len (λ z. is_before z y) xs) y xs x c;
+  only = λ x c. from_insert (prefix_len (λ z. is_before z y) xs) y xs x c;
+  all = λ e x c. subst (λ z. Contains (with_name y xs) z) (only_one y x c) (in_insert (prefix_len (λ z. is_before z y) xs) y xs);
+  lacks = λ e. absurd cc;
+}
+
+-- ---- the names as the code lists them
+
+pub listed_any : (xs : List Listed) (y : List ℕ) → list_any (λ l. bytes_eq (name_of l.name) y) xs ≡ true → Contains (names_listed xs) y
+listed_any [] y e = absurd cc
+listed_any (l ∷ ls) y e = by (bytes_eq (name_of l.name) y) refl e (listed_any ls y)
+  where
+    by : (b : Bool) → bytes_eq (name_of l.name) y ≡ b → (b || list_any (λ l. bytes_eq (name_of l.name) y) ls) ≡ true → (list_any (λ l. bytes_eq (name_of l.name) y) ls ≡ true → Contains (names_listed ls) y) → Contains (names_listed (l ∷ ls)) y
+    by true q e rest = (0, omega arith, (bytes_eq-Decides (name_of l.name) y).0 q)
+    by false q e rest = let (k, b, p) = rest e in (suc k, omega arith, p)
+
+pub listed_none : (xs : List Listed) (y : List ℕ) → list_any (λ l. bytes_eq (name_of l.name) y) xs ≡ false → Contains (names_listed xs) y → ⊥
+listed_none [] y e (k, l, q) = omega (arith, l)
+listed_none (l ∷ ls) y e m = by (bytes_eq (name_of l.name) y) refl e m (listed_none ls y)
+  where
+    by : (b : Bool) → bytes_eq (name_of l.name) y ≡ b → (b || list_any (λ l. bytes_eq (name_of l.name) y) ls) ≡ false → Contains (names_listed (l ∷ ls)) y → (list_any (λ l. bytes_eq (name_of l.name) y) ls ≡ false → Contains (names_listed ls) y → ⊥) → ⊥
+    by true q e m rest = absurd cc
+    by false q e (zero, b, p) rest = no (bytes_eq (name_of l.name) y) q ((bytes_eq-Decides (name_of l.name) y).1 p)
+      where
+        no : (b : Bool) → b ≡ false → b ≡ true → ⊥
+        no b p q = absurd cc
+    by false q e (suc k, b, p) rest = rest e (k, omega arith, p)
+
+listed_prefix : (xs : List Listed) (y : List ℕ) → prefix_len (λ l. is_before (name_of l.name) y) xs ≡ prefix_len (λ x. is_before x y) (names_listed xs)
+listed_prefix [] y = refl
+listed_prefix (l ∷ ls) y = ap (λ n. cond (is_before (name_of l.name) y) (1 + n) 0) (listed_prefix ls y)
+
+listed_insert : (xs : List Listed) (n : ℕ) (l : Listed) → names_listed (insert xs n l) ≡ insert (names_listed xs) n (name_of l.name)
+listed_insert xs zero l = refl
+listed_insert [] (suc n) l = refl
+listed_insert (x ∷ xs) (suc n) l = ap (λ ys. name_of x.name ∷ ys) (listed_insert xs n l)
+
+pub listed_with : (xs : List Listed) (n : ℕ) (l : Listed) → n ≡ prefix_len (λ o. is_before (name_of o.name) (name_of l.name)) xs → names_listed (insert xs n l) ≡ with_name (name_of l.name) (names_listed xs)
+listed_with xs n l e = listed_insert xs n l ∙ ap (λ k. insert (names_listed xs) k (name_of l.name)) (e ∙ listed_prefix xs (name_of l.name))
+
+-- ---- names of several trees
+
+pub includes_both : {m n xs ys zs : List (List ℕ)} {told : Bool} → Includes m xs ys true → Includes n ys zs told → Includes (m ++ n) xs zs told
+includes_both {m} {n} {xs} {ys} {zs} h k = record {
+  kept = λ x c. k.kept x (h.kept x c);
+  only = λ x c. elim (k.only x c) [ inl d ↦ elim (h.only x d) [ inl e ↦ inl e | inr e ↦ inr (Contains-append_left m n x e) ] | inr d ↦ inr (Contains-append_right m n x d) ];
+  all = λ e x c. elim (Contains-append_cases m n x c) [ inl d ↦ k.kept x (h.all refl x d) | inr d ↦ k.all e x d ];
+  lacks = λ e. let (l, x, c, d) = k.lacks e in (l, x, Contains-append_right m n x c, d);
+}
+
+pub includes_wider : {m n xs ys : List (List ℕ)} → ((x : List ℕ) → Contains m x → Contains n x) → Includes m xs ys false → Includes n xs ys false
+includes_wider w h = record {
+  kept = h.kept;
+  only = λ x c. elim (h.only x c) [ inl d ↦ inl d | inr d ↦ inr (w x d) ];
+  all = λ e. absurd cc;
+  lacks = λ e. let (l, x, c, d) = h.lacks e in (l, x, w x c, d);
+}
+
+pub includes_as : {m n xs ys : List (List ℕ)} {told : Bool} → m ≡ n → Includes m xs ys told → Includes n xs ys told
+includes_as {xs = xs} {ys = ys} {told = told} e h = subst (λ k. Includes k xs ys told) e h
+
+-- the names of the first trees, so many
+abbrev pub first_names : ℕ → Trees → List (List ℕ)
+first_names zero ts = []
+first_names (suc n) none = []
+first_names (suc n) (more t ts) = names t ++ first_names n ts
+
+pub first_names-next : (n : ℕ) (ts : Trees) → n < count ts → first_names (suc n) ts ≡ first_names n ts ++ names (nth n ts)
+first_names-next n none l = absurd (omega (arith, l))
+first_names-next zero (more t ts) l = behind_all (names t)
+  where
+    behind_all : (xs : List (List ℕ)) → xs ++ [] ≡ xs
+    behind_all [] = refl
+    behind_all (x ∷ xs) = ap (λ ys. x ∷ ys) (behind_all xs)
+first_names-next (suc n) (more t ts) l = ap (λ xs. names t ++ xs) (first_names-next n ts (omega arith)) ∙ sym (append_assoc (names t) (first_names n ts) (names (nth n ts)))
+
+pub first_names-all : (n : ℕ) (ts : Trees) → count ts ≤ n → first_names n ts ≡ names_of ts
+first_names-all zero none l = refl
+first_names-all (suc n) none l = refl
+first_names-all zero (more t ts) l = absurd (omega (arith, l))
+first_names-all (suc n) (more t ts) l = ap (λ xs. names t ++ xs) (first_names-all n ts (omega arith))
+
+pub first_names-in : (n : ℕ) (ts : Trees) (x : List ℕ) → Contains (first_names n ts) x → Contains (names_of ts) x
+first_names-in zero ts x (k, l, e) = absurd (omega (arith, l))
+first_names-in (suc n) none x (k, l, e) = absurd (omega (arith, l))
+first_names-in (suc n) (more t ts) x c = elim (Contains-append_cases (names t) (first_names n ts) x c) [
+  | inl d ↦ Contains-append_left (names t) (names_of ts) x d
+  | inr d ↦ Contains-append_right (names t) (names_of ts) x (first_names-in n ts x d)
+]
+
+nil_behind : (xs : List (List ℕ)) → xs ++ [] ≡ xs
+nil_behind [] = refl
+nil_behind (x ∷ xs) = ap (λ ys. x ∷ ys) (nil_behind xs)
+
+pub no_symbol : (t : Tree) → (root_kind t ≡ kind.Sym → ⊥) → is_symbol t ≡ false
+no_symbol t h = grind arith
+
+-- a tree that is no symbol has its children's names
+pub names_below : (t : Tree) → is_symbol t ≡ false → names_of (children_of t) ≡ names t
+names_below t h = grind (arith, nil_behind)
+
+-- ---- names of sides
+
+pub names_at-push : (f : Forest) (is : List ℕ) (i : ℕ) → names_at f (is ++ i ∷ []) ≡ names_at f is ++ names (plain (tree_at i f))
+names_at-push f [] i = nil_behind (names (plain (tree_at i f)))
+names_at-push f (j ∷ js) i = ap (λ xs. names (plain (tree_at j f)) ++ xs) (names_at-push f js i) ∙ sym (append_assoc (names (plain (tree_at j f))) (names_at f js) (names (plain (tree_at i f))))
+
+pub names_at-in : (f : Forest) (n : ℕ) (is : List ℕ) (x : List ℕ) → Contains (names_at f (take n is)) x → Contains (names_at f is) x
+names_at-in f zero is x (k, l, e) = absurd (omega (arith, l))
+names_at-in f (suc n) [] x (k, l, e) = absurd (omega (arith, l))
+names_at-in f (suc n) (i ∷ is) x c = elim (Contains-append_cases (names (plain (tree_at i f))) (names_at f (take n is)) x c) [
+  | inl d ↦ Contains-append_left (names (plain (tree_at i f))) (names_at f is) x d
+  | inr d ↦ Contains-append_right (names (plain (tree_at i f))) (names_at f is) x (names_at-in f n is x d)
+]
+
+pub in_sides : (f : Forest) (ls rs : List ℕ) (x : List ℕ) → length rs ≡ length ls → Contains (names_at f ls ++ names_at f rs) x → IsNameIn (equations_in f ls rs) x
+in_sides f ls rs x l c = elim (Contains-append_cases (names_at f ls) (names_at f rs) x c) [ inl d ↦ lefts ls rs l d | inr d ↦ rights ls rs l d ]
+  where
+    lefts : (ls rs : List ℕ) → length rs ≡ length ls → Contains (names_at f ls) x → IsNameIn (equations_in f ls rs) x
+    lefts [] rs l (k, b, e) = absurd (omega (arith, b))
+    lefts (i ∷ ls) [] l c = absurd (omega (arith, l))
+    lefts (i ∷ ls) (j ∷ rs) l c = elim (Contains-append_cases (names (plain (tree_at i f))) (names_at f ls) x c) [ inl d ↦ inl (inl d) | inr d ↦ inr (lefts ls rs (omega arith) d) ]
+
+    rights : (ls rs : List ℕ) → length rs ≡ length ls → Contains (names_at f rs) x → IsNameIn (equations_in f ls rs) x
+    rights ls [] l (k, b, e) = absurd (omega (arith, b))
+    rights [] (j ∷ rs) l c = absurd (omega (arith, l))
+    rights (i ∷ ls) (j ∷ rs) l c = elim (Contains-append_cases (names (plain (tree_at j f))) (names_at f rs) x c) [ inl d ↦ inl (inr d) | inr d ↦ inr (rights ls rs (omega arith) d) ]
+
+pub from_sides : (f : Forest) (ls rs : List ℕ) (x : List ℕ) → IsNameIn (equations_in f ls rs) x → Contains (names_at f ls ++ names_at f rs) x
+from_sides f ls rs x m = elim (by ls rs m) [ inl d ↦ Contains-append_left (names_at f ls) (names_at f rs) x d | inr d ↦ Contains-append_right (names_at f ls) (names_at f rs) x d ]
+  where
+    by : (ls rs : List ℕ) → IsNameIn (equations_in f ls rs) x → Contains (names_at f ls) x ⊎ Contains (names_at f rs) x
+    by [] rs m = absurd m
+    by (i ∷ ls) [] m = absurd m
+    by (i ∷ ls) (j ∷ rs) (inl (inl c)) = inl (Contains-append_left (names (plain (tree_at i f))) (names_at f ls) x c)
+    by (i ∷ ls) (j ∷ rs) (inl (inr c)) = inr (Contains-append_left (names (plain (tree_at j f))) (names_at f rs) x c)
+    by (i ∷ ls) (j ∷ rs) (inr m) = elim (by ls rs m) [
+      | inl c ↦ inl (Contains-append_right (names (plain (tree_at i f))) (names_at f ls) x c)
+      | inr c ↦ inr (Contains-append_right (names (plain (tree_at j f))) (names_at f rs) x c)
+    ]
+
+pub take_next : (xs : List ℕ) (k d : ℕ) → k < length xs → take (suc k) xs ≡ take k xs ++ get_or xs k d ∷ []
+take_next [] k d l = absurd (omega (arith, l))
+take_next (x ∷ xs) zero d l = refl
+take_next (x ∷ xs) (suc k) d l = ap (λ ys. x ∷ ys) (take_next xs k d (omega arith))
+
+none_in : (x : List ℕ) → Contains {X = List ℕ} [] x → ⊥
+none_in x (k, l, e) = omega (arith, l)
+
+-- all names were included
+pub names_are : (f : Forest) (ls rs : List ℕ) (xs : List (List ℕ)) → length rs ≡ length ls → Rises xs → Includes (names_at f ls ++ names_at f rs) [] xs true → AreNamesOf (equations_in f ls rs) xs
+names_are f ls rs xs l r h = record {
+  rising = r;
+  all = λ x. (
+    λ c. elim (h.only x c) [ inl d ↦ absurd (none_in x d) | inr d ↦ in_sides f ls rs x l d ],
+    λ m. h.all refl x (from_sides f ls rs x m),
+  );
+}
+
+-- one was not
+pub names_over : (f : Forest) (ls rs : List ℕ) (xs : List (List ℕ)) → length rs ≡ length ls → Rises xs → Includes (names_at f ls ++ names_at f rs) [] xs false → HoldOverSixNames (equations_in f ls rs)
+names_over f ls rs xs l r h =
+    let (six, x, c, d) = h.lacks refl in
+    record {
+      some = x ∷ xs;
+      distinct = (d, rises_distinct xs r);
+      many = omega (arith, six);
+      held = λ y m. by x c y m;
+    }
+  where
+    by : (x : List ℕ) → Contains (names_at f ls ++ names_at f rs) x → (y : List ℕ) → Contains (x ∷ xs) y → IsNameIn (equations_in f ls rs) y
+    by x c y (zero, b, e) = subst (IsNameIn (equations_in f ls rs)) e (in_sides f ls rs x l c)
+    by x c y (suc k, b, e) = elim (h.only y (k, omega arith, e)) [ inl m ↦ absurd (none_in y m) | inr m ↦ in_sides f ls rs y l m ]

@@ -1,0 +1,7 @@
+use Rattle.std.proofs.Common.{◌≡◌, length, map, take}
+use Rattle.calc_terms.specs.Leaf.{name_of}
+use Rattle.linear_solve.specs.Listed.{names_listed}
+use Rattle.linear_solve.proofs.side_names.in_array.Given as goal
+
+abbrev pub invariant-loop-at : goal.invariant-loop-at
+invariant-loop-at l = record { long : length l.array ≡ 6; same : map name_of (take l.at l.array) ≡ names_listed (take l.at l.fn.names) }

@@ -1,0 +1,85 @@
+-- A tree in which a name is replaced is no smaller than before, and what its copies need and leave of the free bytes.
+use Rattle.std.proofs.Common.{◌≡◌, ℕ, zero, suc, ◌+◌, ◌-◌, ◌*◌, ◌≤◌, List, cond, leb, arith}
+use Rattle.std.specs.Prelude.{IfOk, IfErr}
+use Rattle.calc_terms.specs.Trees.{Tree, num, symbol, undef, add, mult, power, root, neg, sub, div, Trees, none, more, depth, depths, nodes, nodes_of, root_size, size}
+use Rattle.std.proofs.lemmas.Bool.{le-leb, leb-false, leb-true}
+use Rattle.std.proofs.lemmas.Nat.{mul-le}
+use Rattle.tree_walks.proofs.Composing.{bytes_of_replaced}
+use Rattle.tree_walks.proofs.Shallow.{depth_within}
+use Rattle.std.specs.Str.{bytes_eq}
+use Rattle.tree_handles.proofs.Outcomes.{by_test}
+use Rattle.tree_walks.specs.Replacing.{replaced, replaced_in, replacing}
+
+-- ---- its nodes
+
+some_depth : (t : Tree) → 1 ≤ depth t
+some_depth (num q) = omega arith
+some_depth (symbol x) = omega arith
+some_depth undef = omega arith
+some_depth (add ts) = omega arith
+some_depth (mult ts) = omega arith
+some_depth (power b e) = omega arith
+some_depth (root a) = omega arith
+some_depth (neg a) = omega arith
+some_depth (sub a b) = omega arith
+some_depth (div a b) = omega arith
+
+symbol_nodes : (x y : List ℕ) (u : Tree) → 1 ≤ nodes (cond (bytes_eq y x) u (symbol y))
+symbol_nodes x y u = omega (arith, some_depth (cond (bytes_eq y x) u (symbol y)), depth_within (cond (bytes_eq y x) u (symbol y)))
+
+mutual
+  pub nodes_grow : (x : List ℕ) (u t : Tree) → nodes t ≤ nodes (replaced x u t)
+  nodes_grow x u (num q) = omega arith
+  nodes_grow x u (symbol y) = symbol_nodes x y u
+  nodes_grow x u undef = omega arith
+  nodes_grow x u (add ts) = omega (arith, all_nodes_grow x u ts)
+  nodes_grow x u (mult ts) = omega (arith, all_nodes_grow x u ts)
+  nodes_grow x u (power b e) = omega (arith, nodes_grow x u b, nodes_grow x u e)
+  nodes_grow x u (root a) = omega (arith, nodes_grow x u a)
+  nodes_grow x u (neg a) = omega (arith, nodes_grow x u a)
+  nodes_grow x u (sub a b) = omega (arith, nodes_grow x u a, nodes_grow x u b)
+  nodes_grow x u (div a b) = omega (arith, nodes_grow x u a, nodes_grow x u b)
+
+  all_nodes_grow : (x : List ℕ) (u : Tree) (ts : Trees) → nodes_of ts ≤ nodes_of (replaced_in x u ts)
+  all_nodes_grow x u none = omega arith
+  all_nodes_grow x u (more t ts) = omega (arith, nodes_grow x u t, all_nodes_grow x u ts)
+
+-- ---- its depth
+
+mutual
+  pub depth_grows : (x : List ℕ) (u t : Tree) → depth t ≤ depth (replaced x u t)
+  depth_grows x u (num q) = omega arith
+  depth_grows x u (symbol y) = omega (arith, some_depth (cond (bytes_eq y x) u (symbol y)))
+  depth_grows x u undef = omega arith
+  depth_grows x u (add ts) = omega (arith, all_depths_grow x u ts)
+  depth_grows x u (mult ts) = omega (arith, all_depths_grow x u ts)
+  depth_grows x u (power b e) = omega (arith, depth_grows x u b, depth_grows x u e)
+  depth_grows x u (root a) = omega (arith, depth_grows x u a)
+  depth_grows x u (neg a) = omega (arith, depth_grows x u a)
+  depth_grows x u (sub a b) = omega (arith, depth_grows x u a, depth_grows x u b)
+  depth_grows x u (div a b) = omega (arith, depth_grows x u a, depth_grows x u b)
+
+  all_depths_grow : (x : List ℕ) (u : Tree) (ts : Trees) → depths ts ≤ depths (replaced_in x u ts)
+  all_depths_grow x u none = omega arith
+  all_depths_grow x u (more t ts) = omega (arith, depth_grows x u t, all_depths_grow x u ts)
+
+-- ---- its bytes
+
+pub size_grows : (x : List ℕ) (u t : Tree) → root_size (symbol x) ≤ size u → size t ≤ size (replaced x u t)
+size_grows x u t h = grind (arith, bytes_of_replaced)
+
+-- ---- the bytes that are free
+
+pub copies_leave : (copy leaf n free : ℕ) → IfOk (replacing free n copy leaf) (λ left. left + n * copy ≡ free + n * leaf)
+copies_leave copy leaf zero free = grind arith
+copies_leave copy leaf (suc n) free = grind (arith, copies_leave copy leaf n (free - copy + leaf))
+
+first_fits : (copy leaf n free : ℕ) → leaf ≤ free → suc n * copy + leaf ≤ free + suc n * leaf → copy ≤ free
+first_fits copy leaf n free h k = by_test (λ b. copy ≤ free) (leb leaf copy) (λ d. let more_there = mul-le n leaf n copy (omega arith) (leb-true leaf copy d) in omega (arith, k, more_there)) (λ d. omega (arith, h, leb-false leaf copy d))
+
+-- where the bytes suffice before and behind all copies, each finds room
+pub copies_fit : (copy leaf n free : ℕ) → leaf ≤ free → n * copy + leaf ≤ free + n * leaf → IfErr (replacing free n copy leaf) (λ full. ⊥)
+copies_fit copy leaf zero free h k = tt
+copies_fit copy leaf (suc n) free h k =
+    let fits : copy ≤ free = first_fits copy leaf n free h k in
+    rw (le-leb copy free fits) (copies_fit copy leaf n (free - copy + leaf) (omega arith) (omega (arith, k, fits)))
