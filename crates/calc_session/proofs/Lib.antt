@@ -12,13 +12,7 @@ pub mod CountingLemmas
 pub mod OpeningLemmas
 pub mod DrawingLemmas
 pub mod CommandLemmas
-pub mod MeaningLemmas
 pub mod TextLemmas
-pub mod AskedLines
-pub mod ExpressionReplies
-pub mod MadeTrees
-pub mod SlopeLemmas
-pub mod ExpandedLines
 pub mod FormLemmas
 pub mod PlacingLemmas
 pub mod FormFaces
@@ -29,8 +23,4 @@ pub mod SideLemmas
 pub mod BuiltSides
 pub mod EquationAnswers
 pub mod RangeLemmas
-pub mod OneReading
-pub mod EquationLines
-pub mod EnoughLemmas
-pub mod LargeTrees
 pub mod Shared

@@ -22,7 +22,3 @@ pub mod Kept
 pub mod Answers
 pub mod Faces
 pub mod Pools
-pub mod Meant
-pub mod Enough
-pub mod Slopes
-pub mod ExpansionsMeant

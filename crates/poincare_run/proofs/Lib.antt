@@ -9,5 +9,4 @@ pub mod EndLemmas
 pub mod StatusLemmas
 pub mod TallyLemmas
 pub mod GeneratedLemmas
-pub mod RoomLemmas
 pub mod Shared

@@ -5,14 +5,13 @@ pub use Rattle.calc_edges.proofs.Parts.{AppendsPart-after}
 pub use Rattle.calc_edges.proofs.Stops.{stops_later}
 pub use Rattle.calc_edges.specs.Taken.{AppendsPart}
 pub use Rattle.calc_session.specs.Answers.{Answers, IsAnswer, IsReport, printed}
-pub use Rattle.calc_session.specs.Drawing.{FailsToDraw, IsDrawnInPart, StopsDrawing, rows_in}
-pub use Rattle.calc_session.specs.Replies.{Reason, Reply, circular, forgot, full, refused, report, shown, stored, text_of}
+pub use Rattle.calc_session.specs.Drawing.{FailsToDraw, IsDrawnInPart, rows_in}
+pub use Rattle.calc_session.specs.Replies.{Reason, Reply, forgot, full, refused, report, text_of}
 pub use Rattle.calc_session.specs.Seen.{Seen}
-pub use Rattle.calc_session.specs.States.{State, free_bytes}
-pub use Rattle.calc_session.specs.Steps.{IsReply, Leaves, asks_in_vain, is_replied}
+pub use Rattle.calc_session.specs.States.{State}
+pub use Rattle.calc_session.specs.Steps.{IsReply, asks_in_vain, is_replied}
 pub use Rattle.calc_session.specs.declared.answers.LineAnswer.{LineAnswer}
 pub use Rattle.calc_session.specs.declared.answers.LineAnswer.TheVariants.{Blank, Draw, Refused, Report, Shown, Stored, Undef}
-pub use Rattle.calc_session.specs.declared.answers.Refusal.{Refusal}
 pub use Rattle.clap.proofs.WalkLemmas.{first_value-rows, list_any-map, one_text-rows}
 pub use Rattle.clap.specs.Faults.{bundle_fault, bundle_step_fault, default_fault, entered_fault, fault_of, flag_word_fault, is_simple_and_free, level_fault, long_fault, settle_fault, step_fault, turn_fault, use_fault}
 unfoldable pub use Rattle.clap.specs.Faults.{defaults_fault, flags_fault, walk_fault}
@@ -23,7 +22,7 @@ unfoldable pub use Rattle.clap.specs.Walk.{bundle_met, walked}
 pub use Rattle.clap.specs.declared.builder.value_parser.Reading.TheVariants.{AsWritten}
 pub use Rattle.clap.specs.declared.parser.matches.ValueSource.TheVariants.{CommandLine, DefaultValue}
 pub use Rattle.node_pool.specs.declared.full.Full.{Full}
-pub use Rattle.poincare_run.specs.Beginnings.{Beginning, IfGenerates, IfReads, beginning_of, beginning_with, begun, first_moment, generates, reads}
+pub use Rattle.poincare_run.specs.Beginnings.{Beginning, IfGenerates, IfReads, beginning_of, beginning_with, begun, generates, reads}
 pub use Rattle.poincare_run.specs.Buffer.{Holds, StandsFor, return_if}
 pub use Rattle.poincare_run.specs.CommandLine.{command_line, number_in, option_named, values_named}
 pub use Rattle.poincare_run.specs.Endings.{ReadsAll, ReadsLimit, ReadsPart, SumsUp, SumsUpInPart, WriteStops, Writes, WritesPart, session_limit}
@@ -41,12 +40,12 @@ unfoldable pub use Rattle.poincare_run.specs.Summaries.{tally_of}
 pub use Rattle.poincare_run.specs.declared.buffer.LineBuffer.{LineBuffer}
 pub use Rattle.poincare_run.specs.declared.words.Options.{Options}
 pub use Rattle.poincare_run.specs.declared.words.Values.{Values}
-pub use Rattle.std.proofs.KnownBytes.{Appends-nil, Appends-trans, Consumes-kept, Consumes-nil, Consumes-trans}
+pub use Rattle.std.proofs.KnownBytes.{Appends-nil, Appends-trans, Consumes-nil, Consumes-trans}
 pub use Rattle.std.proofs.lemmas.Bool.{eqb-true, leb-false, leb-true, ne_eqb}
 pub use Rattle.std.proofs.lemmas.List.{append_assoc, append_cancel_right, drop_more, length-take-le, map-append, take-append-drop, take_all, take_more}
 pub use Rattle.std.proofs.lemmas.Result.{err_from_is_err_and, on_err_weaker, on_ok_weaker}
 pub use Rattle.std.proofs.lemmas.Slice.Eq.{bytes_eq-Decides, starts_is}
-pub use Rattle.std.specs.Io.KnownBytes.{Appends, Consumes, IsAtEnd, Keeps}
+pub use Rattle.std.specs.Io.KnownBytes.{Appends, Consumes, IsAtEnd}
 pub use Rattle.std.specs.List.{find, fold, list_all, list_any, onto_first, position_or_len, starts_with}
 pub use Rattle.std.specs.Option.{option_and_then, option_map, option_map_or}
 pub use Rattle.std.specs.Str.{bytes_eq, chars}

@@ -1,6 +1,0 @@
-use Rattle.calc_session.proofs.SlopeLemmas.{is_told}
-use Rattle.calc_session.proofs.laws.derivatives_are_told.Goals as goal
-
-pub returns : goal.returns
-returns c = λ room bits old before after line x text reply tokens tree t left short asked reads is derivable small roomy narrow calm h.
-    is_told room bits old before after line x text asked (record { tokens = tokens; tree = tree; reads = reads; left = left; is_made = is }) derivable small roomy narrow calm short reply h

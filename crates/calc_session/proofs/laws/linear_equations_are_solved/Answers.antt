@@ -1,9 +1,0 @@
-use Rattle.std.proofs.Common.{refl}
-use Rattle.calc_session.proofs.Shared.{solve}
-use Rattle.calc_session.proofs.AskedLines.{commanded_reply}
-use Rattle.calc_session.proofs.EquationLines.{is_solved}
-use Rattle.calc_session.proofs.laws.linear_equations_are_solved.Goals as goal
-
-pub returns : goal.returns
-returns c = λ room bits old before after line reply es xs short a names few linear fits roomy calm h.
-    is_solved old before after line a names few linear fits roomy calm reply (commanded_reply room bits old before after line (solve a.text) refl a.asks short reply h)

@@ -1,5 +1,0 @@
-use Rattle.calc_session.proofs.EnoughLemmas.{answered}
-use Rattle.calc_session.proofs.laws.lines_are_answered.Goals as goal
-
-pub returns : goal.returns
-returns c = λ room bits old before after line reply store t reads shallow bytes roomy narrow calm. answered room bits old before after line store t reads bytes roomy shallow narrow calm reply

@@ -1,5 +1,0 @@
-use Rattle.calc_session.proofs.AskedLines.{evaluated}
-use Rattle.calc_session.proofs.laws.lines_that_read_are_evaluated.Goals as goal
-
-pub returns : goal.returns
-returns c = λ room bits old before after line reply tokens store t reads h. evaluated room bits old before after line reads h

@@ -1,7 +1,0 @@
-use Rattle.std.proofs.Common.{ap}
-use Rattle.calc_session.proofs.Shared.{text}
-use Rattle.calc_session.proofs.MeaningLemmas.{shown_alike}
-use Rattle.calc_session.proofs.laws.one_value_has_one_text.Goals as goal
-
-pub returns : goal.returns
-returns c = λ a b line other t u p q easy easy' same small small'. ap text (shown_alike a b line other t u p q easy easy' same small small')

@@ -1,5 +1,0 @@
-use Rattle.calc_session.proofs.ExpandedLines.{is_told}
-use Rattle.calc_session.proofs.laws.polynomials_are_expanded.Goals as goal
-
-pub returns : goal.returns
-returns c = λ room bits old before after line reply t short a is narrow roomy calm h. is_told room bits old before after line a short reply h is narrow roomy calm

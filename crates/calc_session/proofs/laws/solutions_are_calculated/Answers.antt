@@ -1,7 +1,0 @@
-use Rattle.std.proofs.Common.{refl}
-use Rattle.calc_session.proofs.Shared.{solve}
-use Rattle.calc_session.proofs.AskedLines.{commanded_reply}
-use Rattle.calc_session.proofs.laws.solutions_are_calculated.Goals as goal
-
-pub returns : goal.returns
-returns c = λ room bits old before after line text reply short asked h. commanded_reply room bits old before after line (solve text) refl asked short reply h

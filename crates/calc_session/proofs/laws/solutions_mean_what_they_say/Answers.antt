@@ -1,5 +1,0 @@
-use Rattle.calc_session.proofs.EquationLines.{tells_solutions}
-use Rattle.calc_session.proofs.laws.solutions_mean_what_they_say.Goals as goal
-
-pub returns : goal.returns
-returns c = λ room bits old before after line text told asked h. tells_solutions room bits old before after line text asked told h

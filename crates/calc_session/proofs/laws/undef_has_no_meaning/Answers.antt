@@ -1,5 +1,0 @@
-use Rattle.calc_session.proofs.MeaningLemmas.{nothing_meant}
-use Rattle.calc_session.proofs.laws.undef_has_no_meaning.Goals as goal
-
-pub returns : goal.returns
-returns c = λ t r. nothing_meant t r

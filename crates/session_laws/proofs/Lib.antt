@@ -1,0 +1,12 @@
+pub mod MeaningLemmas
+pub mod AskedLines
+pub mod ExpressionReplies
+pub mod MadeTrees
+pub mod SlopeLemmas
+pub mod ExpandedLines
+pub mod OneReading
+pub mod EquationLines
+pub mod EnoughLemmas
+pub mod LargeTrees
+pub mod RoomLemmas
+pub mod Shared

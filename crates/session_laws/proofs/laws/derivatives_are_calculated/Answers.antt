@@ -1,0 +1,7 @@
+use Rattle.std.proofs.Common.{refl}
+use Rattle.session_laws.proofs.Shared.{diff}
+use Rattle.session_laws.proofs.AskedLines.{commanded_reply}
+use Rattle.session_laws.proofs.laws.derivatives_are_calculated.Goals as goal
+
+pub returns : goal.returns
+returns c = λ room bits old before after line x text reply short asked h. commanded_reply room bits old before after line (diff x text) refl asked short reply h

@@ -1,0 +1,7 @@
+use Rattle.std.proofs.Common.{refl}
+use Rattle.session_laws.proofs.Shared.{expand}
+use Rattle.session_laws.proofs.AskedLines.{commanded_reply}
+use Rattle.session_laws.proofs.laws.expansions_are_calculated.Goals as goal
+
+pub returns : goal.returns
+returns c = λ room bits old before after line text reply short asked h. commanded_reply room bits old before after line (expand text) refl asked short reply h

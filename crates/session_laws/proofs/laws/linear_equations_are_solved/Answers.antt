@@ -1,0 +1,9 @@
+use Rattle.std.proofs.Common.{refl}
+use Rattle.session_laws.proofs.Shared.{solve}
+use Rattle.session_laws.proofs.AskedLines.{commanded_reply}
+use Rattle.session_laws.proofs.EquationLines.{is_solved}
+use Rattle.session_laws.proofs.laws.linear_equations_are_solved.Goals as goal
+
+pub returns : goal.returns
+returns c = λ room bits old before after line reply es xs short a names few linear fits roomy calm h.
+    is_solved old before after line a names few linear fits roomy calm reply (commanded_reply room bits old before after line (solve a.text) refl a.asks short reply h)

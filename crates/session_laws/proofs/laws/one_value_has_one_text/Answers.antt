@@ -1,0 +1,7 @@
+use Rattle.std.proofs.Common.{ap}
+use Rattle.session_laws.proofs.Shared.{text}
+use Rattle.session_laws.proofs.MeaningLemmas.{shown_alike}
+use Rattle.session_laws.proofs.laws.one_value_has_one_text.Goals as goal
+
+pub returns : goal.returns
+returns c = λ a b line other t u p q easy easy' same small small'. ap text (shown_alike a b line other t u p q easy easy' same small small')

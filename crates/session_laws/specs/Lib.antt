@@ -1,0 +1,4 @@
+pub mod Meant
+pub mod Enough
+pub mod Slopes
+pub mod ExpansionsMeant

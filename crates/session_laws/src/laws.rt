@@ -1,0 +1,218 @@
+//! Laws of lines and of whole sessions, each the contract of a function without a body.
+ghost use Rattle.std.specs.Prelude.{◌≡◌, ◌≢◌, ◌≤◌, ◌+◌, ◌↔◌, ℕ, List, Err, None, Some, Option, Contains, length, true, false};
+ghost use Rattle.breakers.specs.Breakers.{TripsWithin as TripsIn};
+ghost use Rattle.breakers.specs.State.{State as Breaker};
+ghost use Rattle.calc_algebra.specs.BadAndEasy.{IsEasy};
+ghost use Rattle.calc_algebra.specs.Rewritings.{Reduces};
+ghost use Rattle.calc_commands.specs.Commands.{IsCommandLine, diff, expand, solve};
+ghost use Rattle.calc_language.specs.Texts.{text};
+ghost use Rattle.calc_measures.specs.Measures.{bits as bits_of, room as room_of};
+ghost use Rattle.calc_session.specs.Arguments.{ReadsText, bytes_before};
+ghost use Rattle.calc_session.specs.Calculating.{IsReplyToExpression, made_in};
+ghost use Rattle.calc_session.specs.Deriving.{IsReplyToDerivative};
+ghost use Rattle.calc_session.specs.Expanding.{IsReplyToExpansion, expansion_text};
+ghost use Rattle.calc_session.specs.Forms.{form_room};
+ghost use Rattle.calc_session.specs.Reading.{ReadsTree};
+ghost use Rattle.calc_session.specs.Replies.{Reply, circular, full, not_polynomial, refused, report, shown, stored, undefined};
+ghost use Rattle.calc_session.specs.SolutionsMeant.{AsksToSolve, TellsSolutionsOf};
+ghost use Rattle.calc_session.specs.Solving.{IsReplyToEquations, first_not_linear};
+ghost use Rattle.calc_session.specs.States.{State, first_state, free_bytes, trees};
+ghost use Rattle.calc_session.specs.Steps.{IsReply, IsReplyToTree, Step};
+ghost use Rattle.calc_terms.specs.Limits.{bits_limit, depth_limit};
+ghost use Rattle.calc_terms.specs.Trees.{Tree, depth, names, nodes, size, undef};
+ghost use Rattle.calc_tokens.specs.Limits.{line_limit};
+ghost use Rattle.calc_tokens.specs.Placed.{Placed};
+ghost use Rattle.dual_diff.specs.Derivatives.{HasDerivative, derivative};
+ghost use Rattle.expand_forms.specs.ExpansionRoom.{expansion_room};
+ghost use Rattle.expand_forms.specs.PolynomialTrees.{is_polynomial};
+ghost use Rattle.linear_solve.specs.Equations.{Equation, nodes_of_sides};
+ghost use Rattle.linear_solve.specs.Fitting.{Misfit};
+ghost use Rattle.linear_solve.specs.RisingNames.{AreNamesOf};
+ghost use Rattle.linear_solve.specs.Solving.{solving};
+ghost use Rattle.name_table.specs.Filling.{fills, depth_limit};
+ghost use Rattle.name_table.specs.Held.{IsHeld};
+ghost use Rattle.node_pool.specs.declared.full.Full.{Full};
+ghost use Rattle.poincare_run.specs.Beginnings.{first_moment};
+ghost use Rattle.poincare_run.specs.Options.{options_of};
+ghost use Rattle.poincare_run.specs.Settings.{OptionsAreAsked, OrderIsFree};
+ghost use Rattle.poincare_run.specs.Steps.{Chain, LineStep, Moment, Turn};
+ghost use Rattle.poincare_run.specs.declared.words.Options.{Options};
+ghost use Rattle.reduce_port.specs.Bounds.{MayExceed};
+ghost use Rattle.reduce_port.specs.Checks.{TripsWithin};
+ghost use Rattle.session_laws.specs.Enough.{HasBytesFor, HoldsNoSmallTree, IsAnswered, ReadsFilled};
+ghost use Rattle.session_laws.specs.ExpansionsMeant.{AsksExpansionOf, HaveSameCoefficients, TellsExpansion};
+ghost use Rattle.session_laws.specs.Meant.{HasNoMeaning, HasSmallRadicands, MeanTheSame, MeansNothing, ShowsMeaning};
+ghost use Rattle.session_laws.specs.Slopes.{TellsDerivative};
+
+/// What is reduced to Undef means nothing.
+pub fn undef_has_no_meaning()
+    ensures { (t : Tree) → Reduces t undef → MeansNothing t }
+{}
+
+/// What is shown or stored for a line means what the line means once its names are replaced, and `undef` is the
+/// answer only to lines that mean nothing then.
+pub fn answers_mean_their_lines()
+    ensures shown { (room bits : Option (Tree → ℕ)) (old : State) (before after : List Breaker) (line : List ℕ) (t : Tree)
+        → IsReply room bits old before after line (shown t) → ShowsMeaning old line t }
+    ensures stored { (room bits : Option (Tree → ℕ)) (old : State) (before after : List Breaker) (line : List ℕ) (t : Tree) (x : List ℕ)
+        → IsReply room bits old before after line (stored t x) → ShowsMeaning old line t }
+    ensures undefined { (room bits : Option (Tree → ℕ)) (old : State) (before after : List Breaker) (line : List ℕ)
+        → IsReply room bits old before after line undefined → HasNoMeaning old line }
+{}
+
+/// Two lines of which it is known that they have a value, and the same one, are shown alike where each radicand is
+/// below 10^12.
+pub fn one_value_has_one_text()
+    ensures { (a b : State) (line other : List ℕ) (t u : Tree) (p : ShowsMeaning a line t) (q : ShowsMeaning b other u)
+        → IsEasy p.tree → IsEasy q.tree → MeanTheSame p.tree q.tree → HasSmallRadicands p.answer → HasSmallRadicands q.answer → text t ≡ text u }
+{}
+
+/// A line that reads as a tree whose name can be stored is answered by what the tree comes to, and by nothing else: what
+/// is built and filled finds no room or is too deep, or the filled tree's reduction is interrupted, overflows or finds no
+/// room by its cause, or there is an answer.
+pub fn lines_that_read_are_evaluated()
+    ensures { (room bits : Option (Tree → ℕ)) (old : State) (before after : List Breaker) (line : List ℕ) (reply : Reply) (tokens : List Placed) (store : Option (List ℕ)) (t : Tree)
+        → ReadsTree old.table line tokens store t → IsReply room bits old before after line reply
+        → IsReplyToTree room bits old before after store t reply }
+{}
+
+/// A line is not refused for the pool where the bytes are free in which its tree is built and its names are replaced, and the
+/// reducer's room of what it becomes does not exceed the free bytes.
+pub fn lines_with_room_are_never_full()
+    ensures { (room bits : Option (Tree → ℕ)) (old : State) (before after : List Breaker) (line : List ℕ) (reply : Reply) (store : Option (List ℕ)) (t : Tree)
+        → ReadsFilled old line store t → HasBytesFor old t → ¬ (MayExceed room t (free_bytes old))
+        → IsReply room bits old before after line reply → (refusal : Full) → reply ≢ refused (full refusal) }
+{}
+
+/// No session stores a tree that is smaller than the leaf of a name.
+pub fn sessions_hold_no_small_tree()
+    ensures at_first { (size : ℕ) → HoldsNoSmallTree (first_state size) }
+    ensures behind_a_line { (room bits : Option (Tree → ℕ)) (old new : State) (before after : List Breaker) (line : List ℕ) (reply : Reply)
+        → IsHeld old.table (trees old) → HoldsNoSmallTree old → Step room bits old before line reply new after → HoldsNoSmallTree new }
+{}
+
+/// A line is answered where what it becomes is at most 64 deep, has bytes and room, takes at most 124 bits, and no breaker trips
+/// in as many checks as it has nodes: a tree is shown or stored, or the line is undefined, unless it is circular.
+pub fn lines_are_answered()
+    ensures { (room bits : Option (Tree → ℕ)) (old : State) (before after : List Breaker) (line : List ℕ) (reply : Reply) (store : Option (List ℕ)) (t : Tree)
+        → ReadsFilled old line store t → depth t ≤ depth_limit → HasBytesFor old t
+        → ¬ (MayExceed room t (free_bytes old)) → ¬ (MayExceed bits t bits_limit) → ((place : ℕ) → ¬ (TripsWithin (nodes t) before after place))
+        → ((x : List ℕ) → reply ≢ refused (circular x)) → IsReply room bits old before after line reply → IsAnswered reply }
+{}
+
+/// Only a store is circular, and only where what the line becomes holds the name.
+pub fn circular_lines_hold_their_name()
+    ensures { (room bits : Option (Tree → ℕ)) (old : State) (before after : List Breaker) (line x : List ℕ) (store : Option (List ℕ)) (t : Tree)
+        → ReadsFilled old line store t → IsReply room bits old before after line (refused (circular x)) → (store ≡ Some x) × Contains (names t) x }
+{}
+
+/// What is told of a line that asks for a derivative is the slope of what the line becomes: for all pairs of a value and a
+/// slope that this has under an assignment, the printed expression means the slope there, and `undef` is told only where it
+/// has none under any.
+pub fn derivatives_mean_the_slope()
+    ensures { (room bits : Option (Tree → ℕ)) (old : State) (before after : List Breaker) (line x text told : List ℕ)
+        → IsCommandLine line (diff x text) → IsReply room bits old before after line (report told) → TellsDerivative old line x told }
+{}
+
+/// A line that asks for a derivative is answered by what is read, built, filled and derived, and by nothing else.
+pub fn derivatives_are_calculated()
+    ensures { (room bits : Option (Tree → ℕ)) (old : State) (before after : List Breaker) (line x text : List ℕ) (reply : Reply)
+        → length line ≤ line_limit → IsCommandLine line (diff x text) → IsReply room bits old before after line reply
+        → IsReplyToExpression old before after (bytes_before line text) text (IsReplyToDerivative room bits (free_bytes old) before after x) reply }
+{}
+
+/// A derivative is told where the text is read and filled, what it becomes has one, both fit into the bytes that were free,
+/// neither room nor bits are exceeded, and no breaker trips.
+pub fn derivatives_are_told()
+    ensures { (room bits : Option (Tree → ℕ)) (old : State) (before after : List Breaker) (line x text : List ℕ) (reply : Reply) (tokens : List Placed) (tree t : Tree) (left : ℕ)
+        → length line ≤ line_limit → IsCommandLine line (diff x text) → ReadsText text tokens None tree → made_in old tree ≡ fills left t
+        → HasDerivative x t → size t + size (derivative x t) ≤ free_bytes old
+        → ¬ (MayExceed room (derivative x t) (free_bytes old)) → ¬ (MayExceed bits (derivative x t) bits_limit)
+        → ((place : ℕ) → ¬ (TripsWithin (nodes (derivative x t)) before after place))
+        → IsReply room bits old before after line reply → (told : List ℕ) × (reply ≡ report told) }
+{}
+
+/// What is told of a line that asks for solutions says which assignments solve the equations that the line becomes.
+pub fn solutions_mean_what_they_say()
+    ensures { (room bits : Option (Tree → ℕ)) (old : State) (before after : List Breaker) (line text told : List ℕ)
+        → IsCommandLine line (solve text) → IsReply room bits old before after line (report told) → TellsSolutionsOf old line told }
+{}
+
+/// A line that asks for solutions is answered by what is split, read, built, filled and solved, and by nothing else.
+pub fn solutions_are_calculated()
+    ensures { (room bits : Option (Tree → ℕ)) (old : State) (before after : List Breaker) (line text : List ℕ) (reply : Reply)
+        → length line ≤ line_limit → IsCommandLine line (solve text) → IsReply room bits old before after line reply
+        → IsReplyToEquations old before after (bytes_before line text) text reply }
+{}
+
+/// Solutions are told where the equations are read and their sides find room, they are linear and have at most six
+/// names, each operation fits, the bytes of a form and its face are free, and no breaker trips.
+pub fn linear_equations_are_solved()
+    ensures { (room bits : Option (Tree → ℕ)) (old : State) (before after : List Breaker) (line : List ℕ) (reply : Reply) (es : List Equation) (xs : List (List ℕ))
+        → length line ≤ line_limit → AsksToSolve old line es → AreNamesOf es xs → length xs ≤ 6 → first_not_linear es ≡ None
+        → ((m : Misfit) → ¬ (solving xs es ≡ Err m)) → form_room ≤ free_bytes old
+        → ((place : ℕ) → ¬ (TripsIn (nodes_of_sides es + length xs) before after place))
+        → IsReply room bits old before after line reply → (told : List ℕ) × (reply ≡ report told) }
+{}
+
+/// What is told of a line that asks for an expansion is the text of the face of the expanded tree of what the line becomes, and
+/// both trees have every meaning of that.
+pub fn expansions_mean_what_they_say()
+    ensures { (room bits : Option (Tree → ℕ)) (old : State) (before after : List Breaker) (line text told : List ℕ)
+        → IsCommandLine line (expand text) → IsReply room bits old before after line (report told) → TellsExpansion old line told }
+{}
+
+/// A line that asks for an expansion is answered by what is read, built, filled and expanded, and by nothing else.
+pub fn expansions_are_calculated()
+    ensures { (room bits : Option (Tree → ℕ)) (old : State) (before after : List Breaker) (line text : List ℕ) (reply : Reply)
+        → length line ≤ line_limit → IsCommandLine line (expand text) → IsReply room bits old before after line reply
+        → IsReplyToExpression old before after (bytes_before line text) text (IsReplyToExpansion (free_bytes old) before after) reply }
+{}
+
+/// Of two lines, perhaps in two states, the same text is told where what they become has the same coefficients and an expansion
+/// is told of both.
+pub fn same_coefficients_same_text()
+    ensures { (room bits : Option (Tree → ℕ)) (a b : State) (before after first last : List Breaker) (line other told also : List ℕ) (t u : Tree)
+        → AsksExpansionOf a line t → AsksExpansionOf b other u → HaveSameCoefficients t u
+        → IsReply room bits a before after line (report told) → IsReply room bits b first last other (report also) → told ≡ also }
+{}
+
+/// A line that asks for an expansion is refused as no polynomial exactly where what it becomes is none.
+pub fn other_trees_are_not_expanded()
+    ensures { (room bits : Option (Tree → ℕ)) (old : State) (before after : List Breaker) (line : List ℕ) (reply : Reply) (t : Tree)
+        → length line ≤ line_limit → AsksExpansionOf old line t → IsReply room bits old before after line reply
+        → (reply ≡ refused not_polynomial) ↔ (is_polynomial t ≡ false) }
+{}
+
+/// An expansion is told where what the line becomes is a polynomial of at most 124 bits, the room of its expansion does not
+/// exceed the bytes that were free, and no breaker trips.
+pub fn polynomials_are_expanded()
+    ensures { (room bits : Option (Tree → ℕ)) (old : State) (before after : List Breaker) (line : List ℕ) (reply : Reply) (t : Tree)
+        → length line ≤ line_limit → AsksExpansionOf old line t → is_polynomial t ≡ true → bits_of t ≤ bits_limit → expansion_room t ≤ free_bytes old
+        → ((place : ℕ) → ¬ (TripsWithin (nodes t) before after place))
+        → IsReply room bits old before after line reply → reply ≡ report (expansion_text t) }
+{}
+
+/// Words have the options that they ask for: they spell settings, one after another and each option at most
+/// once, whose values are numbers in range. Other words have none.
+pub fn words_ask_for_options()
+    ensures asked { OptionsAreAsked }
+    ensures in_any_order { OrderIsFree }
+{}
+
+/// A session that the words ask for never refuses a line for the pool where the room of what the line becomes, once stored trees
+/// are in the places of their names, is at most the bytes that are free at its start: whatever was answered before.
+pub fn sessions_with_room_are_never_full()
+    ensures { (words : List (List ℕ)) (options : Options) (breakers : List Breaker) (lines : List (List ℕ)) (turns : List Turn) (now next : Moment) (line : List ℕ) (reply : Reply) (store : Option (List ℕ)) (t : Tree)
+        → options_of words ≡ Some options → Chain (first_moment options breakers) lines turns now → LineStep now line reply next
+        → ReadsFilled now.state line store t → room_of t ≤ free_bytes now.state → (refusal : Full) → reply ≢ refused (full refusal) }
+{}
+
+/// Where what the line becomes is at most 64 deep and has at most 124 bits, too, and no breaker trips in as many checks as it has
+/// nodes, the line is answered: a tree is shown or stored, or the line is undefined, unless it is circular.
+pub fn sessions_answer_their_lines()
+    ensures { (words : List (List ℕ)) (options : Options) (breakers : List Breaker) (lines : List (List ℕ)) (turns : List Turn) (now next : Moment) (line : List ℕ) (reply : Reply) (store : Option (List ℕ)) (t : Tree) (step : LineStep now line reply next)
+        → options_of words ≡ Some options → Chain (first_moment options breakers) lines turns now
+        → ReadsFilled now.state line store t → depth t ≤ depth_limit → room_of t ≤ free_bytes now.state → bits_of t ≤ 124
+        → ((place : ℕ) → ¬ (TripsWithin (nodes t) now.breakers step.checked place)) → ((x : List ℕ) → reply ≢ refused (circular x)) → IsAnswered reply }
+{}
