@@ -6,7 +6,7 @@ use Rattle.expand_forms.proofs.AnswerFaults.{caused_full, caused_overflow, no_in
 use Rattle.expand_forms.proofs.Names.{expanded_no_new_name}
 use Rattle.expand_forms.proofs.NodeBits.{beyond_bits}
 use Rattle.expand_forms.proofs.TermCounts.{some_nodes, within_room}
-use Rattle.reduce_port.proofs.Checks.{calm_raised_none}
+use Rattle.breakers.proofs.Runs.{calm_checks_raise_no_trips}
 use Rattle.reduce_port.specs.Checks.{CalmUpTo, TripsWithin}
 use Rattle.reduce_port.specs.Faults.{CountsRefusals, IfFull, IfInterrupted, IfOverflow, fault_of}
 use Rattle.reduce_port.specs.declared.fault.ReduceFault.{ReduceFault}
@@ -41,7 +41,7 @@ returns-in_ok-raise_answer-in-Ok g c =
       no_new_name = subst (λ (u : Tree). HasNoNewName t u) (sym (given_told raised)) (expanded_no_new_name t);
       within_room = subst (λ (u : Tree). 5 * size u ≤ expansion_room t) (sym (given_told raised)) (within_room t p);
       interrupted = tt;
-      by_the_one_whose_trips_rose = λ place. (λ e. cc, λ w. absurd (calm_raised_none (nodes t) _ _ place c.in-Ok.ensures.one_check_a_node w));
+      by_the_one_whose_trips_rose = λ place. (λ e. cc, λ w. absurd (calm_checks_raise_no_trips (nodes t) _ _ place c.in-Ok.ensures.one_check_a_node w));
       overflow = tt;
       overflow_beyond_bits = tt;
       overflow_after_checks = tt;
@@ -73,7 +73,7 @@ returns-in_err-raise_answer-in-Ok g c =
       within_room = search rules;
       interrupted = told (λ x. IfInterrupted x (TripsWithin (nodes t) before after)) (told_interruption e (TripsWithin (nodes t) before after));
       by_the_one_whose_trips_rose = λ place. told (λ x. (x ≡ Err (fault.Interrupted (record { by = place }))) ↔ TripsRose before after place)
-          (λ q. absurd (no_interruption e (record { by = place }) q), λ w. absurd (calm_raised_none (nodes t) before after place c.in-Ok.ensures.one_check_a_node w));
+          (λ q. absurd (no_interruption e (record { by = place }) q), λ w. absurd (calm_checks_raise_no_trips (nodes t) before after place c.in-Ok.ensures.one_check_a_node w));
       overflow = told (λ x. IfOverflow x _) (caused_overflow e c.raise_answer.new.pool c.in_err-raise_answer-in-Ok.ensures.caused);
       overflow_beyond_bits = told (λ x. IfOverflow x (λ _. 124 < bits t)) (told_overflow e (c.in_err-raise_answer-in-Ok.ensures.fits t p ready) (λ o l. beyond_bits t l));
       overflow_after_checks = told (λ x. IfOverflow x (λ _. CalmUpTo (nodes t) before after)) (told_overflow e (c.in_err-raise_answer-in-Ok.ensures.fits t p ready) (λ o l. calm));
