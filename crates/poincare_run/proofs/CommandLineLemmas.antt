@@ -274,6 +274,12 @@ separated : (words : List Text) (o : Option Options) → options_of words ≡ o 
 separated words None e some = refl
 separated words (Some o) e some = let none = (taken_words words o e).0 in let bad : true ≡ false = sym some ∙ none in absurd cc
 
+-- without words no option is named
+pub none_named : (words : List Text) → length words ≡ 0 → options_with no_values ≡ options_of words
+unfolding options_of
+none_named [] e = refl
+none_named (word ∷ words) e = absurd (omega arith)
+
 -- words with a word `--` ask for nothing
 pub none_separated : (words : List Text) → list_any is_separator words ≡ true → None ≡ options_of words
 none_separated words some = sym (separated words (options_of words) refl some)

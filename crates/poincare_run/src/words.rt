@@ -26,6 +26,14 @@ pub struct Values {
     pub draw: bool,
 }
 
+/// Where no word names one.
+const NONE_NAMED: Values = Values {
+    pool: None,
+    interrupt: None,
+    generated: None,
+    draw: false,
+};
+
 /// What the words ask for.
 #[derive(Clone, Copy)]
 pub struct Options {
@@ -46,6 +54,10 @@ pub fn options_in(alloc: Global, words: &[String]) -> Result<Option<Options>, Al
     ensures value { IfOk result (λ options. options ≡ options_of (map string_bytes words.now)) }
     ensures size { IfOk result (λ options. IfSome options (λ o. IsPoolSize o.size)) }
 {
+    // Most starts have no words, and then nothing is parsed.
+    if words.is_empty() {
+        return Ok(options_with(NONE_NAMED));
+    }
     if has_separator(words) {
         return Ok(None);
     }

@@ -1,8 +1,14 @@
-use Rattle.std.proofs.Common.{◌∙◌, map, string_bytes, sym}
+use Rattle.std.proofs.Common.{◌∙◌, eqb-true, length, map, string_bytes, sym}
+use Rattle.std.proofs.lemmas.List.{length-map}
 use Rattle.poincare_run.proofs.Shared.{app_of, list_any-map}
 use Rattle.poincare_run.proofs.ClapLemmas.{is_separator}
-use Rattle.poincare_run.proofs.CommandLineLemmas.{given_matched, none_refused, none_separated}
+use Rattle.poincare_run.proofs.CommandLineLemmas.{given_matched, none_named, none_refused, none_separated}
 use Rattle.poincare_run.proofs.words.options_in.Goals as goal
+
+pub returns-then-is_empty-clause-value : goal.returns-then-is_empty-clause-value
+returns-then-is_empty-clause-value c =
+    c.options_with.ensures.value
+    ∙ none_named (map string_bytes c.args.words.now) (length-map c.args.words.now string_bytes ∙ eqb-true (length c.args.words.now) 0 (sym c.is_empty.ensures ∙ c.if-is_empty.true))
 
 pub returns-then-has_separator-clause-value : goal.returns-then-has_separator-clause-value
 returns-then-has_separator-clause-value c =
