@@ -1,14 +1,15 @@
 """Proves and builds the program, with crates side by side, and then runs it.
 
 A crate is begun once the libraries that it stands on are ready; of those that are, the one with the most lines waiting
-for it comes first. Each lane works in a copy of the sources of its own, since `rt lib` holds the folders of all that a
-crate stands on; the kit links what one lane has built into the next. What an interrupted run has built stays in the
-lanes, and the next run takes it over.
+for it comes first. The kit's `rattle` proves it and writes its library, with its statements alone, so that no proof is
+read again above. Each library is kept beside the program with a sum of all that it was made of: the next run, after a
+change or an interruption, proves what has changed and what stands on it.
 
 usage: build.py ROOT WORD..
 """
 
 import fcntl
+import hashlib
 import os
 import re
 import shutil
@@ -32,53 +33,57 @@ def say(words):
     print(f"poincare: {words}", file=sys.stderr, flush=True)
 
 
+class Crate:
+    """A crate, the crates of the repository that it names, and those of the kit."""
+
+    def __init__(self, root, name, named, crates):
+        self.folder, self.name = root / "crates" / name, name
+        self.below = [it for it in named if it in crates]
+        self.of_kit = ["std", *[it for it in named if it not in crates]]
+        self.is_program = (self.folder / "src" / "main.rt").is_file()
+
+    def files(self):
+        return sorted(it for part in SOURCES for it in (self.folder / part).rglob("*") if it.is_file())
+
+    def count_lines(self):
+        return sum(it.read_bytes().count(b"\n") for it in self.files())
+
+    def sum_over(self, sums):
+        """A sum of the crate's files and of all that it stands on."""
+        made = hashlib.sha256(repr((self.of_kit, [sums[it] for it in self.below])).encode())
+        for it in self.files():
+            made.update(f"{it.relative_to(self.folder)} {it.stat().st_size}\n".encode())
+            made.update(it.read_bytes())
+        return made.hexdigest()
+
+
 def read_crates(root):
-    """The crates that the program stands on, itself included, each with those of the repository that it names."""
+    """The crates that the program stands on, itself included, each behind those that it names."""
     named = {}
     for line in (root / "crates.txt").read_text().splitlines():
         found = re.match(r"([a-z0-9_]+)(?: staticlib)?:(.*)", line)
         if found:
             named[found[1]] = found[2].split()
-    crates, wanted = {}, [PROGRAM]
-    while wanted:
-        name = wanted.pop()
+    crates = {}
+
+    def visit(name):
         if name not in crates:
-            crates[name] = [it for it in named[name] if it in named]
-            wanted += crates[name]
+            crate = Crate(root, name, named[name], named)
+            for it in crate.below:
+                visit(it)
+            crates[name] = crate
+
+    visit(PROGRAM)
     return crates
 
 
-def count_lines(folder):
-    return sum(it.read_bytes().count(b"\n") for part in SOURCES for it in (folder / part).rglob("*") if it.is_file())
-
-
-def lines_waiting(crates, lines):
+def lines_waiting(crates):
     """For each crate the lines of the longest chain that begins with it."""
-    above = {it: [name for name, below in crates.items() if it in below] for it in crates}
     found = {}
-
-    def visit(name):
-        if name not in found:
-            found[name] = lines[name] + max((visit(it) for it in above[name]), default=0)
-        return found[name]
-
-    for it in crates:
-        visit(it)
+    for name in reversed(crates):
+        above = [found[it.name] for it in crates.values() if name in it.below]
+        found[name] = crates[name].count_lines() + max(above, default=0)
     return found
-
-
-def copy_sources(root, lane):
-    """Makes the lane's sources those of the checkout, and leaves what was built there."""
-    lane.mkdir(parents=True, exist_ok=True)
-    for file in ("crates.txt", "HANDLES"):
-        if (root / file).is_file():
-            shutil.copy2(root / file, lane / file)
-    for crate in (root / "crates").iterdir():
-        for part in SOURCES:
-            copy = lane / "crates" / crate.name / part
-            shutil.rmtree(copy, ignore_errors=True)
-            if (crate / part).is_dir():
-                shutil.copytree(crate / part, copy)
 
 
 def count_lanes():
@@ -86,81 +91,125 @@ def count_lanes():
     return max(1, min(len(os.sched_getaffinity(0)), free // LANE_BYTES))
 
 
+class Kit:
+    """The kit's prover and its linker, and what they made of this checkout."""
+
+    def __init__(self, kit, built):
+        self.folder, self.built = kit, built
+        self.version = (kit / "KIT-ID").read_text() if (kit / "KIT-ID").is_file() else ""
+
+    def library(self, name):
+        return self.built / f"{name}.rlib"
+
+    def words(self, crate, jobs):
+        root = "src/main.rt" if crate.is_program else "src/lib.rt"
+        words = ["--crate-name", crate.name, root, "-L", f"dependency={self.folder}/rlibs", "-L", f"dependency={self.built}"]
+        for it in crate.of_kit:
+            words += ["--extern", f"{it}={self.folder}/rlibs/{it}.rlib"]
+        for it in crate.below:
+            words += ["--extern", f"{it}={self.library(it)}"]
+        words += ["--antt-project", f"{self.folder}/rattle/logic/antt-project.json", "--logic-built", f"{self.folder}/logic_built"]
+        return [*words, "--jobs", str(jobs)]
+
+    def build(self, crate, jobs, called):
+        """Proves a crate, and writes its library or, of the program, what `link` takes."""
+        to = ["--toolchain", f"{self.folder}/toolchain", "-o", self.built / "main.o"]
+        to = to if crate.is_program else ["--statements", "-o", self.library(crate.name)]
+        return called([self.folder / "bin" / "rattle", "build", *self.words(crate, jobs), *to], crate.folder)
+
+    def link(self, program, called):
+        words = ["--target", "x86_64-unknown-linux-gnu", "--toolchain", self.folder / "toolchain", "-o", program, self.built / "main.o"]
+        words += [self.folder / "c" / it for it in ("libos_c.a", "liblibc_c.a")]
+        return called([self.folder / "bin" / "rattle-link", *words], program.parent)
+
+
 class Build:
     """What is left to prove, what is under way and what is ready, shared by the lanes."""
 
-    def __init__(self, root, lanes, log):
-        self.root, self.lanes, self.log = root, lanes, log
-        self.crates = read_crates(root)
-        waiting = lines_waiting(self.crates, {it: count_lines(root / "crates" / it) for it in self.crates})
-        self.left = sorted((it for it in self.crates if it != PROGRAM), key=lambda it: -waiting[it])
-        self.ready, self.failed = set(), []
-        self.called = set()
-        self.changed = threading.Condition()
-        self.begun = time.monotonic()
+    def __init__(self, root, kit, program, log):
+        self.kit, self.program, self.log = kit, program, log
+        self.crates, self.lanes = read_crates(root), count_lanes()
+        waiting = lines_waiting(self.crates)
+        self.left = sorted(self.crates.values(), key=lambda it: -waiting[it.name])
+        self.sums, self.ready, self.under_way, self.failed = {}, set(), set(), []
+        for it in self.crates.values():
+            self.sums[it.name] = hashlib.sha256((kit.version + it.sum_over(self.sums)).encode()).hexdigest()
+        self.called, self.changed, self.begun = set(), threading.Condition(), time.monotonic()
 
-    def call(self, folder, *words):
-        """Calls the kit in a crate's folder; its words go to the log."""
+    def call(self, words, folder):
+        """Calls a command of the kit in a folder; its words go to the log."""
         with open(self.log, "ab") as log:
-            called = subprocess.Popen(["rt", *words], cwd=folder, stdin=subprocess.DEVNULL, stdout=log, stderr=log)
+            how = {"cwd": folder, "stdin": subprocess.DEVNULL, "stdout": log, "stderr": log, "start_new_session": True}
+            called = subprocess.Popen([str(it) for it in words], **how)
         self.called.add(called)
         status = called.wait()
         self.called.discard(called)
         return status
 
     def stop(self, number, _):
-        """Ends what was called, which ends what it started, and then this process."""
+        """Ends what was called, with what it started, and then this process."""
         for it in list(self.called):
-            it.terminate()
+            os.killpg(it.pid, signal.SIGKILL)
         os._exit(128 + number)
 
-    def note(self, name, status):
-        """Notes how a crate's proof ended, and tells it."""
-        if status:
-            self.failed.append(name)
-            return
-        self.ready.add(name)
-        minutes = (time.monotonic() - self.begun) / 60
-        say(f"{name}: {len(self.ready)} of {len(self.crates)}, {minutes:.0f} min")
+    def is_kept(self, crate):
+        kept = self.kit.built / f"{crate.name}.sum"
+        return kept.is_file() and kept.read_text() == self.sums[crate.name]
+
+    def prove(self, crate, jobs):
+        """Proves a crate that is not kept; its status."""
+        if self.is_kept(crate):
+            return 0
+        (self.kit.built / f"{crate.name}.sum").unlink(missing_ok=True)
+        status = self.kit.build(crate, jobs, self.call)
+        if status == -signal.SIGKILL and jobs > 1:
+            # most likely for want of memory
+            status = self.kit.build(crate, 1, self.call)
+        if crate.is_program and not status:
+            status = self.kit.link(self.program, self.call)
+        if not status and not crate.is_program:
+            (self.kit.built / f"{crate.name}.sum").write_text(self.sums[crate.name])
+        return status
 
     def can_begin(self):
-        return [it for it in self.left if self.ready.issuperset(self.crates[it])]
+        return [it for it in self.left if self.ready.issuperset(it.below)]
 
     def take(self):
-        """Waits for a crate that can be begun, and gives it; None when no more come."""
+        """Waits for a crate that can be begun, and gives it with the processes that are left to it; None when no more come."""
         with self.changed:
             while self.left and not self.failed:
-                found = self.can_begin()
-                if found:
+                if found := self.can_begin():
                     self.left.remove(found[0])
-                    return found[0]
+                    jobs = self.lanes // (len(self.under_way) + len(found))
+                    self.under_way.add(found[0].name)
+                    return found[0], max(1, min(jobs, MOST_JOBS))
                 self.changed.wait()
             return None
 
-    def work(self, lane):
-        # As many processes as there are lanes, so that none that a long crate leaves idle stays so.
-        jobs = min(len(self.lanes), MOST_JOBS)
-        while name := self.take():
-            folder = lane / "crates" / name
-            status = self.call(folder, "lib", "--jobs", str(jobs))
-            if not status:
-                # What a later check of the same crate would begin with takes more room than all libraries.
-                shutil.rmtree(folder / "out" / "incremental", ignore_errors=True)
+    def note(self, crate, status):
+        """Notes how a crate's proof ended, and tells it."""
+        self.under_way.discard(crate.name)
+        if status:
+            self.failed.append(crate.name)
+            return
+        self.ready.add(crate.name)
+        minutes = (time.monotonic() - self.begun) / 60
+        say(f"{crate.name}: {len(self.ready)} of {len(self.crates)}, {minutes:.0f} min")
+
+    def work(self):
+        while taken := self.take():
+            status = self.prove(*taken)
             with self.changed:
-                self.note(name, status)
+                self.note(taken[0], status)
                 self.changed.notify_all()
 
     def run(self):
-        """Builds the libraries in lanes and then the program in the checkout; whether all is proved."""
-        for it in self.lanes:
-            copy_sources(self.root, it)
-        threads = [threading.Thread(target=self.work, args=(it,)) for it in self.lanes]
+        """Builds the libraries and the program; whether all is proved."""
+        threads = [threading.Thread(target=self.work) for _ in range(self.lanes)]
         for it in threads:
             it.start()
         for it in threads:
             it.join()
-        if not self.failed:
-            self.note(PROGRAM, self.call(self.root / "crates" / PROGRAM, "run"))
         return not self.failed
 
 
@@ -174,13 +223,14 @@ def is_built(root, program):
     return program.is_file() and newest_source(root) <= program.stat().st_mtime_ns
 
 
-def build(root, program):
+def build(root, program, kit):
     """Proves and builds the program; whether it stands then."""
     begun = time.time_ns()
     log = Path(tempfile.gettempdir()) / f"poincare-build.{os.getpid()}.log"
-    lanes = [program.parent / "lanes" / str(it) for it in range(count_lanes())]
+    built = program.parent / "libraries"
+    built.mkdir(exist_ok=True)
     say(f"the program is proved and built, which takes less than an hour on four processors; the log is {log}")
-    made = Build(root, lanes, log)
+    made = Build(root, Kit(kit, built), program, log)
     for it in (signal.SIGTERM, signal.SIGINT, signal.SIGHUP):
         signal.signal(it, made.stop)
     if not made.run():
@@ -188,14 +238,14 @@ def build(root, program):
         return False
     # What was changed meanwhile is newer than the program.
     os.utime(program, ns=(begun, begun))
-    shutil.rmtree(program.parent / "lanes", ignore_errors=True)
     return True
 
 
 def main(root, *words):
     root = Path(root).resolve()
     program = root / "crates" / PROGRAM / "out" / PROGRAM
-    if not shutil.which("rt"):
+    rt = shutil.which("rt")
+    if not rt:
         say("the command rt is missing, which proves and builds the program; it is part of Rattle's kit")
         return 1
     program.parent.mkdir(parents=True, exist_ok=True)
@@ -205,7 +255,7 @@ def main(root, *words):
         except BlockingIOError:
             say("another start in this folder proves and builds the program; waiting for it")
             fcntl.flock(lock, fcntl.LOCK_EX)
-        if not is_built(root, program) and not build(root, program):
+        if not is_built(root, program) and not build(root, program, Path(rt).resolve().parent.parent):
             return 1
     os.execv(program, [str(program), *words])
 
