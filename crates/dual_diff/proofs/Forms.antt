@@ -1,7 +1,9 @@
 -- The form of a tree by the kind of its root, and its children.
-use Rattle.dual_diff.proofs.Shared.{◌≡◌, ℕ, zero, suc, ◌+◌, ◌<◌, ◌≤◌, refl, sym, ap, ◌∙◌, arith, Tree, undef, mult, root, div, Trees, none, more, append, count}
-use Rattle.dual_diff.proofs.Shared.{root_kind, root_size, nodes, nodes_of, size, sizes, nth, children_of, behind, first}
-use Rattle.tree_handles.proofs.Room.{least_size}
+use Rattle.dual_diff.proofs.Shared.{◌≡◌, ℕ, zero, suc, ◌+◌, ◌<◌, ◌≤◌, refl, sym, ap, ◌∙◌, arith, Tree, undef, root, div, Trees, none, more, append, count}
+use Rattle.dual_diff.proofs.Shared.{root_kind, nodes, nodes_of, size, sizes, nth, children_of, behind, first}
+pub use Rattle.dual_diff.specs.WritingLaws.{sizes_append}
+use Rattle.dual_diff.proofs.Shared.{◌==◌, true, Kind, bare, compound, size_of_payload, takes_kind}
+use Rattle.std.proofs.lemmas.Bool.{eqb-true}
 use Rattle.calc_terms.specs.declared.kind.Kind.TheVariants as kind
 
 pub quotient_form : (t : Tree) → root_kind t ≡ kind.Div → t ≡ div (nth 0 (children_of t)) (nth 1 (children_of t))
@@ -15,9 +17,6 @@ root_form t h = grind arith
 
 pub root_of : (t : Tree) {a : Tree} → root_kind t ≡ kind.Root → a ≡ nth 0 (children_of t) → t ≡ root a
 root_of t h e = root_form t h ∙ ap root (sym e)
-
-pub product_form : (t : Tree) → root_kind t ≡ kind.Mult → t ≡ mult (children_of t)
-product_form t h = grind arith
 
 pub two_children : (t : Tree) → root_kind t ≡ kind.Div → count (children_of t) ≡ 2
 two_children t h = grind arith
@@ -94,10 +93,6 @@ pub count_append : (ts us : Trees) → count (append ts us) ≡ count ts + count
 count_append none us = omega arith
 count_append (more t ts) us = omega (arith, count_append ts us)
 
-pub sizes_append : (ts us : Trees) → sizes (append ts us) ≡ sizes ts + sizes us
-sizes_append none us = omega arith
-sizes_append (more t ts) us = omega (arith, sizes_append ts us)
-
 pub append_one : (ts : Trees) (t : Tree) (us : Trees) → append (append ts (more t none)) us ≡ append ts (more t us)
 append_one none t us = refl
 append_one (more u ts) t us = ap (more u) (append_one ts t us)
@@ -106,21 +101,22 @@ pub append_assoc : (ts us vs : Trees) → append (append ts us) vs ≡ append ts
 append_assoc none us vs = refl
 append_assoc (more t ts) us vs = ap (more t) (append_assoc ts us vs)
 
-pub size_children : (t : Tree) → size t ≡ root_size t + sizes (children_of t)
-size_children t = grind arith
+-- ---- the bytes of a node over trees
 
-size_nth : (n : ℕ) (ts : Trees) → n < count ts → size (nth n ts) ≤ sizes ts
-size_nth n none h = absurd (omega arith)
-size_nth zero (more t ts) h = omega arith
-size_nth (suc n) (more t ts) h = omega (arith, size_nth n ts (omega arith))
+none_of : (ts : Trees) → (count ts == 0) ≡ true → ts ≡ none
+none_of none h = refl
+none_of (more t ts) h = absurd (omega (arith, eqb-true (count (more t ts)) 0 h))
 
--- a child has no more bytes
-pub child_size : (n : ℕ) (t : Tree) → n < count (children_of t) → size (nth n (children_of t)) ≤ size t
-child_size n t h = omega (arith, size_children t, size_nth n (children_of t) h)
+one_of : (ts : Trees) → (count ts == 1) ≡ true → ts ≡ more (nth 0 ts) none
+one_of none h = absurd cc
+one_of (more t none) h = refl
+one_of (more t (more u us)) h = absurd (omega (arith, eqb-true (count (more t (more u us))) 1 h))
 
-count_sizes : (ts : Trees) → count ts ≤ sizes ts
-count_sizes none = omega arith
-count_sizes (more t ts) = omega (arith, count_sizes ts, least_size t)
+two_of : (ts : Trees) → (count ts == 2) ≡ true → ts ≡ more (nth 0 ts) (more (nth 1 ts) none)
+two_of none h = absurd cc
+two_of (more t none) h = absurd cc
+two_of (more t (more u none)) h = refl
+two_of (more t (more u (more v vs))) h = absurd (omega (arith, eqb-true (count (more t (more u (more v vs)))) 2 h))
 
-pub count_size : (t : Tree) → count (children_of t) ≤ size t
-count_size t = omega (arith, size_children t, count_sizes (children_of t))
+pub compound_size : (k : Kind) (ts : Trees) → takes_kind k (count ts) ≡ true → size (compound k ts) ≡ size_of_payload (bare k) + sizes ts
+compound_size k ts h = grind (arith, none_of, one_of, two_of)

@@ -13,3 +13,4 @@ pub mod Slices
 pub mod Rules
 pub mod Turns
 pub mod Shared
+pub mod Written

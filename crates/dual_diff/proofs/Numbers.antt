@@ -1,6 +1,6 @@
 -- Whole numbers that are placed.
 use Rattle.dual_diff.proofs.Shared.{◌≡◌, ◌<◌, ◌≤◌, ℕ, List, ℤ, true, false, sym, ap, ◌∙◌, subst, arith, FitsSigned, Some, nat_abs, whole_literal, Rat, lowest}
-use Rattle.dual_diff.proofs.Shared.{whole_fraction, rational, size_of_payload, ratio_of, value_of, Tree, num, root_kind, size, whole_num, told, children_of, nth, derivative, exponent_limit}
+use Rattle.dual_diff.proofs.Shared.{whole_fraction, rational, size_of_payload, ratio_of, value_of, Tree, num, root_kind, size, whole_num, mult, more, two, power, told, children_of, nth, derivative, exponent_limit}
 use Rattle.dual_diff.proofs.{Shared.{lowered, power_rule, occurs, fits_signed_from_abs, w128}, Rules.power_by_rule}
 use Rattle.std.proofs.Common.{◌^◌, pos, ◌-ℤ◌, nat_eq, of_z, to_z}
 use Rattle.calc_terms.specs.{Integers.{int_is_one, int_is_zero}, Ratio.{Ratio, whole}}
@@ -54,6 +54,14 @@ told_less_fits z h = subst (λ (k : ℤ). nat_abs k < 2 ^ 127) (sym (told_less z
 pub less_fits_signed : (z : ℤ) → nat_abs z ≤ exponent_limit → FitsSigned w128 (to_z w128 (of_z w128 z) -ℤ pos 1)
 less_fits_signed z h = fits_signed_from_abs w128 (to_z w128 (of_z w128 z) -ℤ pos 1) (less_fits (to_z w128 (of_z w128 z)) (told_small z h))
 
+-- the number less 1, as the machine holds it
+abbrev pub told_less_of : ℤ → ℤ
+told_less_of z = to_z w128 (of_z w128 (to_z w128 (of_z w128 z) -ℤ pos 1))
+
+pub lowered_as : (z : ℤ) → nat_abs z ≤ exponent_limit → (b b' : Tree)
+    → mult (more (num (whole_fraction (to_z w128 (of_z w128 z)))) (two (power b (num (whole_fraction (told_less_of z)))) b')) ≡ lowered z b b'
+lowered_as z h b b' i = mult (more (num (whole_fraction (told z (small_fits z h) i))) (two (power b (num (whole_fraction (told_less z h i)))) b'))
+
 -- ---- a power's derivative, by its exponent
 
 module _ (x : List ℕ) (t : Tree) (n : ℤ) {b e : Tree} (h : root_kind t ≡ kind.Pow) (o : occurs x t ≡ true) (base : b ≡ nth 0 (children_of t)) (exponent : e ≡ nth 1 (children_of t))
@@ -72,3 +80,6 @@ module _ (x : List ℕ) (t : Tree) (n : ℤ) {b e : Tree} (h : root_kind t ≡ k
 
   pub lowered_power : int_is_zero (to_z w128 (of_z w128 n)) ≡ false → int_is_one (to_z w128 (of_z w128 n)) ≡ false → derivative x t ≡ lowered n b (derivative x b)
   lowered_power z w = by_exponent ∙ lowered_rule n _ _ (ap int_is_zero machine ∙ z) (ap int_is_one machine ∙ w)
+
+  pub lowered_told : int_is_zero (to_z w128 (of_z w128 n)) ≡ false → int_is_one (to_z w128 (of_z w128 n)) ≡ false → derivative x t ≡ lowered (to_z w128 (of_z w128 n)) b (derivative x b)
+  lowered_told z w = lowered_power z w ∙ ap (λ k. lowered k b (derivative x b)) machine

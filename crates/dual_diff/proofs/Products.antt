@@ -1,7 +1,7 @@
 -- The products of a product's derivative, factor by factor.
 use Rattle.dual_diff.proofs.Shared.{◌≡◌, ℕ, suc, ◌+◌, ◌<◌, ◌≤◌, List, Bool, true, false, refl, sym, ap, ◌∙◌, subst, arith, ◌||◌, if◌then◌else◌, Tree, mult}
 use Rattle.dual_diff.proofs.Shared.{root_kind, Trees, none, more, append, count, size, sizes, children_of, nth, derivative, derivatives, products, sum_of_products, with_derivative, behind}
-use Rattle.dual_diff.proofs.{Shared.{first, occurs, occurs_in, capped, append-none}, Forms.{append_assoc, behind_all, behind_at, count_append, count_behind, count_first, first_all, first_behind}}
+use Rattle.dual_diff.proofs.{Shared.{add, one, first, occurs, occurs_in, append-none}, Forms.{append_assoc, behind_all, behind_at, count_append, count_behind, count_first, first_all, first_behind}}
 use Rattle.dual_diff.proofs.{Forms.{first_next, sizes_append}, Rules.{product_held, product_sum}}
 use Rattle.calc_terms.specs.declared.kind.Kind.TheVariants as kind
 
@@ -16,9 +16,6 @@ derivatives_next x n ts h = ap (derivatives x) (first_next n ts h) ∙ derivativ
 
 pub derivatives_more : (x : List ℕ) (n : ℕ) (ts : Trees) → n < count ts → append (derivatives x (first n ts)) (more (derivative x (nth n ts)) none) ≡ derivatives x (first (n + 1) ts)
 derivatives_more x n ts h = sym (derivatives_next x n ts h) ∙ ap (λ (k : ℕ). derivatives x (first k ts)) (let one : suc n ≡ n + 1 = omega arith in one)
-
-pub derivatives_sizes : (x : List ℕ) (n m : ℕ) (ts : Trees) → n < count ts → suc n ≡ m → sizes (derivatives x (first m ts)) ≡ sizes (derivatives x (first n ts)) + size (derivative x (nth n ts))
-derivatives_sizes x n m ts h k = grind (arith, derivatives_next, sizes_append)
 
 pub derivatives_all : (x : List ℕ) (n : ℕ) (ts : Trees) → count ts ≤ n → derivatives x (first n ts) ≡ derivatives x ts
 derivatives_all x n ts h = ap (derivatives x) (first_all n ts h)
@@ -66,54 +63,13 @@ with_factors x n ts = append (first n ts) (more (derivative x (nth n ts)) (behin
 pub count_with : (x : List ℕ) (n : ℕ) (ts : Trees) → n < count ts → count (with_factors x n ts) ≡ count ts
 count_with x n ts h = omega (arith, count_append (first n ts) (more (derivative x (nth n ts)) (behind (n + 1) ts)), count_first n ts (omega arith), count_behind (n + 1) ts (omega arith))
 
--- the bytes of a product with the derivative of a factor
-pub with_size : (x : List ℕ) (n : ℕ) (ts : Trees) → n < count ts → size (with_derivative x n ts) + size (nth n ts) ≡ size (mult ts) + size (derivative x (nth n ts))
-with_size x n ts h =
-    let whole : append (first n ts) (more (nth n ts) (behind (suc n) ts)) ≡ ts = ap (append (first n ts)) (sym (behind_at n ts h)) ∙ first_behind n ts in
-    let one : n + 1 ≡ suc n = omega arith in
-    let place : behind (n + 1) ts ≡ behind (suc n) ts = ap (λ (k : ℕ). behind k ts) one in
-    omega (arith, ap sizes whole, ap sizes place, sizes_append (first n ts) (more (nth n ts) (behind (suc n) ts)), sizes_append (first n ts) (more (derivative x (nth n ts)) (behind (n + 1) ts)))
+-- ---- their sum
 
--- ---- counted
+pub more_than_one : (us : Trees) → 1 < count us → add us ≡ sum_of_products us
+more_than_one us h = grind arith
 
--- so many products of the first factors, with so many bytes
-pub record IsCounted (x : List ℕ) (n many bytes : ℕ) (ts : Trees) : Type 0 where
-  pub made : Trees
-  pub is : AreMade x n made ts
-  pub many-is : many ≡ count made
-  pub few : many ≤ n
-  pub bytes-are : bytes ≡ capped (sizes made)
-
-pub counted_none : (x : List ℕ) (ts : Trees) → IsCounted x 0 0 0 ts
-counted_none x ts = record { made = none; is = made_none x ts; many-is = refl; few = omega arith; bytes-are = refl }
-
-pub counted_more : {x : List ℕ} {n m many bytes : ℕ} {ts : Trees} (others slope product total : ℕ) → n < count ts → suc n ≡ m → occurs x (nth n ts) ≡ true → IsCounted x n many bytes ts
-    → others + size (nth n ts) ≡ size (mult ts) → slope ≡ capped (size (derivative x (nth n ts))) → product ≡ capped (others + slope) → total ≡ capped
-    (bytes + product) → IsCounted x m (many + 1) total ts
-counted_more {x} {n} {m} {many} {bytes} {ts} others slope product total h next o k e d p t =
-    record {
-      made = append k.made (more (with_derivative x n ts) none);
-      is = subst (λ (i : ℕ). AreMade x i (append k.made (more (with_derivative x n ts) none)) ts) next (made_more x n k.made ts h o k.is);
-      many-is = omega (arith, k.many-is, count_append k.made (more (with_derivative x n ts) none));
-      few = omega (arith, next, k.few);
-      bytes-are = omega (arith, t, p, d, k.bytes-are, e, with_size x n ts h, sizes_append k.made (more (with_derivative x n ts) none));
-    }
-
-pub counted_same : {x : List ℕ} {n m many bytes : ℕ} {ts : Trees} → n < count ts → suc n ≡ m → occurs x (nth n ts) ≡ false → IsCounted x n many bytes ts → IsCounted x m many bytes ts
-counted_same {x} {n} {m} {ts = ts} h next o k = record {
-  made = k.made;
-  is = subst (λ (i : ℕ). AreMade x i k.made ts) next
-      (made_same x n k.made ts h o k.is);
-  many-is = k.many-is;
-  few = omega (arith, next, k.few);
-  bytes-are = k.bytes-are;
-}
-
-pub sum_bytes_one : (us : Trees) (bytes : ℕ) → count us ≡ 1 → bytes ≡ capped (sizes us) → bytes ≡ capped (size (sum_of_products us))
-sum_bytes_one us bytes c b = grind arith
-
-pub sum_bytes_more : (us : Trees) (bytes node total : ℕ) → 1 < count us → bytes ≡ capped (sizes us) → node ≡ 8 → total ≡ capped (bytes + node) → total ≡ capped (size (sum_of_products us))
-sum_bytes_more us bytes node total c b n h = grind arith
+pub one_product : (us : Trees) → count us ≡ 1 → us ≡ one (sum_of_products us)
+one_product us h = grind arith
 
 -- some product is there where some factor holds the name
 pub some_product : (x : List ℕ) (earlier ts : Trees) → occurs_in x ts ≡ true → 1 ≤ count (products x earlier ts)

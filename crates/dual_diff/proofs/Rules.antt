@@ -2,7 +2,7 @@
 use Rattle.dual_diff.proofs.Shared.{◌≡◌, ℕ, ◌+◌, ℤ, List, Bool, true, false, refl, ap, sym, subst, ◌∙◌, arith, ◌||◌, if◌then◌else◌, Some, whole_literal, Kind, bare}
 use Rattle.dual_diff.proofs.Shared.{size_of_payload, Tree, num, symbol, undef, add, mult, power, root, neg, sub, div, Trees, none, more, append, count, root_kind, size, sizes, whole_num, nth}
 use Rattle.dual_diff.proofs.Shared.{children_of, compound, takes_kind, derivative, derivatives, is_linear, power_rule, products, quotient_rule, root_rule, sum_of_products, where_occurs, occurs}
-use Rattle.dual_diff.proofs.{Shared.{occurs_in, bytes_eq}, Occurring.{either_left, either_right}}
+use Rattle.dual_diff.proofs.{Shared.{occurs_in, bytes_eq, two}, Forms.root_of, Occurring.{either_left, either_right}}
 use Rattle.calc_terms.specs.declared.kind.Kind.TheVariants as kind
 
 -- ---- a tree without the name
@@ -82,3 +82,7 @@ power_by_rule x t n h o l f = grind arith
 -- the root of an argument a
 pub root_by_rule : (x : List ℕ) (t : Tree) {a : Tree} → root_kind t ≡ kind.Root → occurs x t ≡ true → a ≡ nth 0 (children_of t) → derivative x t ≡ root_rule a (derivative x a)
 root_by_rule x t h o e = grind arith
+
+-- the same, with the root as the tree itself
+pub root_slope : (x : List ℕ) (t : Tree) {a : Tree} → root_kind t ≡ kind.Root → occurs x t ≡ true → a ≡ nth 0 (children_of t) → derivative x t ≡ div (derivative x a) (mult (two (whole_num 2) t))
+root_slope x t {a} h o e = root_by_rule x t h o e ∙ ap (λ v. div (derivative x a) (mult (two (whole_num 2) v))) (sym (root_of t h e))

@@ -12,7 +12,8 @@ pub use Rattle.calc_terms.specs.{Trees.{names, names_of, neg, nodes, nodes_of, n
 pub use Rattle.calc_terms.specs.declared.rat.Rat.{Rat}
 pub use Rattle.dual_diff.specs.Derivatives.{HasDerivative, IsDerivable, IsDerivableExponent, derivative, derivatives, exponent_limit, is_linear, literal_power_rule, lowered, power_rule}
 pub use Rattle.dual_diff.specs.{Derivatives.{products, quotient_rule, root_rule, sum_of_products, two, where_occurs, with_derivative}, Lists.{behind, first}, Occurring.{occurs, occurs_in}}
-pub use Rattle.dual_diff.specs.{Pairs.{HasPair, HasPairProduct, HasPairSum, IsPowerSlope, IsRootPair, IsStill, Pair, SamePair, pair_over}, Placing.{Adds, AddsAll, CanCopy, CanJoin, capped}}
+pub use Rattle.dual_diff.specs.{Pairs.{HasPair, HasPairProduct, HasPairSum, IsPowerSlope, IsRootPair, IsStill, Pair, SamePair, pair_over}, Placing.{Adds, AddsAll, capped}}
+pub use Rattle.dual_diff.specs.Writing.{CanCopy, CanDerive, CanGather, Counts, Holds, IsLast, IsWriting, KeepsTrees, Places, one, tree_of}
 pub use Rattle.node_pool.specs.State.{State, free_of}
 pub use Rattle.rational128.proofs.{LowestTerms.ratio_parts, Signed.told}
 pub use Rattle.std.proofs.Common.{Bool, List, [], ap, append-nil, arith, false, inl, inr, length, refl, rules, subst, suc, sym, true, zero, ℕ, ℤ, ◌*◌, ◌++◌, ◌+◌, ◌-◌}

@@ -1,5 +1,5 @@
 -- Slices of lists of trees.
-use Rattle.dual_diff.proofs.Shared.{◌≡◌, ℕ, zero, suc, ◌+◌, ◌-◌, ◌<◌, ◌≤◌, List, sym, ap, ◌∙◌, arith, Trees, none, more, append, count, size, sizes, nth}
+use Rattle.dual_diff.proofs.Shared.{◌≡◌, ℕ, zero, suc, ◌+◌, ◌-◌, ◌<◌, ◌≤◌, List, sym, ap, ◌∙◌, arith, Tree, Trees, children_of, none, more, append, count, size, sizes, nth}
 use Rattle.dual_diff.proofs.{Shared.{derivative, with_derivative, behind, first}, Forms.{count_behind, first_all, first_next, nth_behind, sizes_append}}
 
 pub slice_none : (from : ℕ) (ts : Trees) → none ≡ first (from - from) (behind from ts)
@@ -26,6 +26,11 @@ slice_first n ts = ap (λ (k : ℕ). first k ts) (let e : n - 0 ≡ n = omega ar
 
 pub slice_last : (total from : ℕ) (ts : Trees) → total ≡ count ts → from ≤ count ts → first (total - from) (behind from ts) ≡ behind from ts
 slice_last total from ts e h = first_all (total - from) (behind from ts) (omega (arith, e, count_behind from ts h))
+
+-- the same of a tree that is another by name
+pub rest_after : {t u : Tree} {total : ℕ} (n : ℕ) → total ≡ count (children_of u) → n < count (children_of u) → t ≡ u → first (total - (n + 1)) (behind (n + 1) (children_of t)) ≡ behind (n + 1) (children_of u)
+rest_after {u = u} {total} n e h same =
+    ap (λ v. first (total - (n + 1)) (behind (n + 1) (children_of v))) same ∙ slice_last total (n + 1) (children_of u) e (omega arith)
 
 pub with_room : (x : List ℕ) (n : ℕ) (ts : Trees) → size (with_derivative x n ts) ≡ 8 + (sizes (first n ts) + (size (derivative x (nth n ts)) + sizes (behind (n + 1) ts)))
 with_room x n ts = omega (arith, sizes_append (first n ts) (more (derivative x (nth n ts)) (behind (n + 1) ts)))

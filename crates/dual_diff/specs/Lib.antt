@@ -3,3 +3,5 @@ pub mod Pairs
 pub mod Derivatives
 pub mod Placing
 pub mod Lists
+pub mod Writing
+pub mod WritingLaws

@@ -1,12 +1,14 @@
 //! Derivatives of trees with respect to a name.
 #![tactic(auto)]
 
-mod bytes;
+mod counter;
 mod derivable;
 mod derivation;
 pub mod laws;
-mod placing;
+mod placer;
 mod reading;
+mod writer;
+mod writing;
 
 pub use derivable::has_derivative;
 pub use derivation::derive;

@@ -1,5 +1,5 @@
 use Rattle.dual_diff.proofs.Shared.{◌≡◌, ℕ, sym, subst, length, arith, true, refl, name_of, AllPartsOf, HasDerivative, IsDerivable, first, next_child, last_child, children_of, kids_of}
-use Rattle.dual_diff.proofs.{Shared.forest, Added.tree_of, AllNodes.{of_root, of_child, of_node, one_more, all_of}, Forms.smaller_child, Turns.{left_after, turn}}
+use Rattle.dual_diff.proofs.{Shared.forest, Shared.tree_of, AllNodes.{of_root, of_child, of_node, one_more, all_of}, Forms.smaller_child, Turns.{left_after, turn}}
 use Rattle.dual_diff.proofs.derivable.+all_derivable.Goals as goal
 
 pub returns-then-not-is_derivable : goal.returns-then-not-is_derivable

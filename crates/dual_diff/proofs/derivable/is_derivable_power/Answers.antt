@@ -1,4 +1,4 @@
-use Rattle.dual_diff.proofs.{Shared.{refl, sym, ◌∙◌, subst, arith, name_of, IsDerivableExponent}, Added.tree_of, Exponents.{power_derivable, derivable_exponent, absent_derivable}}
+use Rattle.dual_diff.proofs.{Shared.{refl, sym, ◌∙◌, subst, arith, name_of, IsDerivableExponent}, Shared.tree_of, Exponents.{power_derivable, derivable_exponent, absent_derivable}}
 use Rattle.dual_diff.proofs.Forms.{base_and_exponent}
 use Rattle.dual_diff.proofs.derivable.is_derivable_power.Goals as goal
 

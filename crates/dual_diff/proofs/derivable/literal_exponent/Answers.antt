@@ -1,4 +1,4 @@
-use Rattle.dual_diff.proofs.{Added.tree_of, Exponents.{exponent_none, exponent_small}, Numbers.told_small}
+use Rattle.dual_diff.proofs.{Shared.tree_of, Exponents.{exponent_none, exponent_small}, Numbers.told_small}
 use Rattle.dual_diff.proofs.derivable.literal_exponent.Goals as goal
 
 pub unreachable-requires : goal.unreachable-requires

@@ -1,5 +1,8 @@
 use Rattle.tree_handles.proofs.Fronts.{front_end, front_same}
+use Rattle.dual_diff.proofs.Shared.{subst, forest}
+use Rattle.std.specs.Prelude.{[]}
+use Rattle.tree_handles.specs.Handed.{KeepsFront}
 use Rattle.dual_diff.proofs.derivation.derive.Goals as goal
 
 pub returns-clause-front : goal.returns-clause-front
-returns-clause-front c = front_end c.place_derivative.ensures.gives.ends front_same
+returns-clause-front c = subst (λ s. KeepsFront [] (forest s) (forest c.place_derivative.new.pool)) c.derivative_bytes-needed.ensures.same (front_end c.place_derivative.ensures.gives.ends front_same)

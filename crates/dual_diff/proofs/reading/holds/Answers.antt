@@ -1,4 +1,4 @@
-use Rattle.dual_diff.proofs.{Shared.{sym, name_of}, Added.tree_of, Exponents.held}
+use Rattle.dual_diff.proofs.{Shared.{sym, name_of}, Shared.tree_of, Exponents.held}
 use Rattle.dual_diff.proofs.reading.holds.Goals as goal
 
 pub returns : goal.returns
