@@ -1,6 +1,7 @@
 -- Trees whose nodes are all derivable.
 use Rattle.dual_diff.proofs.Shared.{◌≡◌, ℕ, zero, suc, ◌<◌, ◌≤◌, List, true, sym, subst, arith, Tree, Trees, none, more, count, nodes, root_kind, AllParts, AllPartsOf, nth}
 use Rattle.dual_diff.proofs.{Shared.{children_of, HasDerivative, IsDerivable, IsDerivableExponent, first, occurs}, Exponents.derivable_exponent, Forms.{first_all, smaller_child}}
+use Rattle.dual_diff.proofs.Shared.{CanDerive, Holds, IsExpression, Kind, Stands, State, forest, tree_of}
 use Rattle.calc_terms.specs.declared.kind.Kind.TheVariants as kind
 
 pub of_root : (x : List ℕ) (t : Tree) → HasDerivative x t → IsDerivable x t
@@ -28,6 +29,13 @@ pub record IsChild (x : List ℕ) (a t : Tree) : Type 0 where
 
 pub child_in : {x : List ℕ} {a : Tree} (n : ℕ) (t : Tree) → n < count (children_of t) → HasDerivative x t → a ≡ nth n (children_of t) → IsChild x a t
 child_in {x} n t l h e = record { derivable = subst (HasDerivative x) (sym e) (of_child x n t l h); smaller = smaller_child n t l e }
+
+-- in a pool
+pub child_ready : {x : List ℕ} {j : ℕ} {s : State} {t : Tree} → Stands s → IsExpression j (forest s) → IsChild x (tree_of j s) t → CanDerive x j s
+child_ready h e k = record { stands = h; expression = e; derivable = k.derivable }
+
+pub as_holds : {k : Kind} {x : List ℕ} {t : Tree} → root_kind t ≡ k → occurs x t ≡ true → Holds k x t
+as_holds e o = record { kind = e; held = o }
 
 pub exponent_in : (x : List ℕ) (t : Tree) {e : Tree} → root_kind t ≡ kind.Pow → occurs x t ≡ true → HasDerivative x t → e ≡ nth 1 (children_of t) → IsDerivableExponent e
 exponent_in x t k o h e = subst IsDerivableExponent (sym e) (derivable_exponent x t k o (of_root x t h))

@@ -28,7 +28,8 @@ pub slice_last : (total from : ℕ) (ts : Trees) → total ≡ count ts → from
 slice_last total from ts e h = first_all (total - from) (behind from ts) (omega (arith, e, count_behind from ts h))
 
 -- the same of a tree that is another by name
-pub rest_after : {t u : Tree} {total : ℕ} (n : ℕ) → total ≡ count (children_of u) → n < count (children_of u) → t ≡ u → first (total - (n + 1)) (behind (n + 1) (children_of t)) ≡ behind (n + 1) (children_of u)
+pub rest_after : {t u : Tree} {total : ℕ} (n : ℕ) → total ≡ count (children_of u) → n < count (children_of u) → t ≡ u
+    → first (total - (n + 1)) (behind (n + 1) (children_of t)) ≡ behind (n + 1) (children_of u)
 rest_after {u = u} {total} n e h same =
     ap (λ v. first (total - (n + 1)) (behind (n + 1) (children_of v))) same ∙ slice_last total (n + 1) (children_of u) e (omega arith)
 

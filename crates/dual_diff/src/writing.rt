@@ -118,6 +118,7 @@ fn write_product<W: Writer>(
 /// The derivative of a quotient.
 #[cycle(writing)]
 #[inline(never)]
+#[tactic(auto, using(crate::proofs::Forms::two_children))]
 fn write_quotient<W: Writer>(writer: &mut W, pool: &mut Pool, tree: Id, name: Name)
     requires tree { CanDerive (name_of name) tree pool.old }
     requires holds { Holds kinds.Div (name_of name) (tree_of tree pool.old) }
@@ -167,6 +168,7 @@ fn write_difference<W: Writer>(
 /// The derivative of a power.
 #[cycle(writing)]
 #[inline(never)]
+#[tactic(auto, using(crate::proofs::Forms::base_and_exponent, crate::proofs::Numbers::told_fits))]
 fn write_power<W: Writer>(writer: &mut W, pool: &mut Pool, tree: Id, name: Name)
     requires tree { CanDerive (name_of name) tree pool.old }
     requires holds { Holds kinds.Pow (name_of name) (tree_of tree pool.old) }
@@ -188,6 +190,7 @@ fn write_power<W: Writer>(writer: &mut W, pool: &mut Pool, tree: Id, name: Name)
 /// The exponent, times the power with the exponent less 1, times the derivative of the base.
 #[cycle(writing)]
 #[inline(never)]
+#[tactic(auto, using(crate::proofs::Numbers::less_fits_signed))]
 fn write_lowered<W: Writer>(writer: &mut W, pool: &mut Pool, base: Id, number: i128, name: Name)
     requires base { CanDerive (name_of name) base pool.old }
     requires small { nat_abs number ≤ exponent_limit }
@@ -204,6 +207,7 @@ fn write_lowered<W: Writer>(writer: &mut W, pool: &mut Pool, base: Id, number: i
 /// The derivative of a root.
 #[cycle(writing)]
 #[inline(never)]
+#[tactic(auto, using(crate::proofs::Forms::one_argument))]
 fn write_root<W: Writer>(writer: &mut W, pool: &mut Pool, tree: Id, name: Name)
     requires tree { CanDerive (name_of name) tree pool.old }
     requires holds { Holds kinds.Root (name_of name) (tree_of tree pool.old) }

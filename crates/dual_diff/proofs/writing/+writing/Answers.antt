@@ -1,10 +1,11 @@
 use Rattle.dual_diff.proofs.Shared.{◌<◌, ◌+◌, ◌∙◌, refl, sym, ap, arith, rules, whole_fraction, name_of, count, nodes, none, num, power, size, sizes, whole_num}
 use Rattle.dual_diff.proofs.Shared.{derivative, products, with_derivative, behind, first, occurs, told, children_of, nth, takes_kind, CanDerive, one, tree_of, ◌≤◌}
-use Rattle.dual_diff.proofs.{AllNodes.{child_in, exponent_in}, Forms.{base_and_exponent, one_argument, quotient_nodes, sizes_append, two_children}}
-use Rattle.dual_diff.proofs.Numbers.{first_power, less_fits_signed, lowered_as, lowered_told, small_fits, told_fits, told_less, told_less_fits, told_less_of, told_small, zero_power}
+use Rattle.dual_diff.proofs.{AllNodes.{as_holds, child_in, child_ready, exponent_in}, Forms.{base_and_exponent, one_argument, quotient_nodes, sizes_append, two_children}}
+use Rattle.dual_diff.proofs.Numbers.{first_power, lowered_as, lowered_told, small_fits, told_fits, told_less, told_less_fits, told_less_of, told_small, zero_power}
 use Rattle.dual_diff.proofs.Products.{count_derivatives, count_with, derivatives_all, derivatives_more, derivatives_room, made_rule, made_some, more_than_one, one_product, products_room, sum_room}
 use Rattle.dual_diff.proofs.{Rules.{absent_zero, other_linear, product_sum, quotient_divided, quotient_whole, root_slope, same_node, symbol_one}, Slices.{rest_after, slice_first, with_room}}
-use Rattle.dual_diff.proofs.Written.{added, added_behind, all_factors, can_copy, factors_through, gather, gather_behind, room_for, seen_more, still, written_as, written_more, written_none, written_same}
+use Rattle.dual_diff.proofs.Written.{added, added_behind, all_factors, can_copy, factors_through, gather, gather_behind, room_for, seen_more, still, written_as, written_more}
+use Rattle.dual_diff.proofs.Written.{written_none, written_same}
 use Rattle.dual_diff.proofs.writing.+writing.Goals as goal
 
 -- ---- write_derivative
@@ -31,26 +32,26 @@ write_derivative-returns-in-Sym g t c =
 
 pub write_derivative-write_products-requires : goal.write_derivative-write_products-requires
 write_derivative-write_products-requires g t c =
-    λ κs l. (omega (arith, c.decreases), (l, (c.requires.tree, (record { kind = sym (c.kind.ensures.plain c.requires.tree.expression) ∙ c.in-Mult.is; held = sym c.holds.ensures ∙ c.if-not-holds.false }, c.requires.room))))
+    λ κs l. (omega (arith, c.decreases), (l, (c.requires.tree, (as_holds (sym (c.kind.ensures.plain c.requires.tree.expression) ∙ c.in-Mult.is) (sym c.holds.ensures ∙ c.if-not-holds.false), c.requires.room))))
 
 pub write_derivative-write_quotient-requires : goal.write_derivative-write_quotient-requires
 write_derivative-write_quotient-requires g t c =
-    λ κs l. (omega (arith, c.decreases), (l, (c.requires.tree, (record { kind = sym (c.kind.ensures.plain c.requires.tree.expression) ∙ c.in-Div.is; held = sym c.holds.ensures ∙ c.if-not-holds.false }, c.requires.room))))
+    λ κs l. (omega (arith, c.decreases), (l, (c.requires.tree, (as_holds (sym (c.kind.ensures.plain c.requires.tree.expression) ∙ c.in-Div.is) (sym c.holds.ensures ∙ c.if-not-holds.false), c.requires.room))))
 
 pub write_derivative-write_power-requires : goal.write_derivative-write_power-requires
 write_derivative-write_power-requires g t c =
-    λ κs l. (omega (arith, c.decreases), (l, (c.requires.tree, (record { kind = sym (c.kind.ensures.plain c.requires.tree.expression) ∙ c.in-Pow.is; held = sym c.holds.ensures ∙ c.if-not-holds.false }, c.requires.room))))
+    λ κs l. (omega (arith, c.decreases), (l, (c.requires.tree, (as_holds (sym (c.kind.ensures.plain c.requires.tree.expression) ∙ c.in-Pow.is) (sym c.holds.ensures ∙ c.if-not-holds.false), c.requires.room))))
 
 pub write_derivative-write_root-requires : goal.write_derivative-write_root-requires
 write_derivative-write_root-requires g t c =
-    λ κs l. (omega (arith, c.decreases), (l, (c.requires.tree, (record { kind = sym (c.kind.ensures.plain c.requires.tree.expression) ∙ c.in-Root.is; held = sym c.holds.ensures ∙ c.if-not-holds.false }, c.requires.room))))
+    λ κs l. (omega (arith, c.decreases), (l, (c.requires.tree, (as_holds (sym (c.kind.ensures.plain c.requires.tree.expression) ∙ c.in-Root.is) (sym c.holds.ensures ∙ c.if-not-holds.false), c.requires.room))))
 
 pub write_derivative-write_same-requires : goal.write_derivative-write_same-requires
 write_derivative-write_same-requires g t c =
     let is = c.kind.ensures.plain c.requires.tree.expression in
     let there = sym c.holds.ensures ∙ c.if-not-holds.false in
     let o = c.in_default in
-    λ κs l. (omega (arith, c.decreases), (l, (c.requires.tree, (record { kind = sym is; held = there }, (other_linear (name_of c.args.name) c.kind.result (tree_of c.args.tree c.args.pool.now) is there o.not-Sym o.not-Mult o.not-Div o.not-Pow o.not-Root, c.requires.room)))))
+    λ κs l. (omega (arith, c.decreases), (l, (c.requires.tree, (as_holds (sym is) there, (other_linear (name_of c.args.name) c.kind.result (tree_of c.args.tree c.args.pool.now) is there o.not-Sym o.not-Mult o.not-Div o.not-Pow o.not-Root, c.requires.room)))))
 
 -- ---- write_same
 
@@ -75,7 +76,7 @@ write_same-write_derivative-requires g t c =
     let at = c.child_of-child.ensures.plain ∙ ap (λ v. nth c.loop-at.at (children_of v)) ((L.keeps c.loop-at.invariant).same c.args.tree c.requires.tree.expression) in
     let k = child_in {x = x} c.loop-at.at u within c.requires.tree.derivable at in
     let s = same_node x c.args.kind u (sym c.requires.holds.kind) c.requires.linear c.requires.holds.held in
-    λ κs l. (omega (arith, k.smaller, c.decreases), (l, (record { stands = (L.keeps c.loop-at.invariant).stands; expression = c.child_of-child.ensures.expression; derivable = k.derivable }, L.room c.loop-at.invariant c.requires.room (omega (arith, s.bytes, ap (λ v. size (derivative x v)) at, derivatives_room x c.loop-at.at (children_of u) within)))))
+    λ κs l. (omega (arith, k.smaller, c.decreases), (l, (child_ready (L.keeps c.loop-at.invariant).stands c.child_of-child.ensures.expression k, L.room c.loop-at.invariant c.requires.room (omega (arith, s.bytes, ap (λ v. size (derivative x v)) at, derivatives_room x c.loop-at.at (children_of u) within)))))
 
 pub write_same-loop-at-preserved : goal.write_same-loop-at-preserved
 write_same-loop-at-preserved g t c =
@@ -93,7 +94,8 @@ write_same-over-requires g t c =
     let u = tree_of c.args.tree c.args.pool.now in
     let n = c.children-children.ensures.plain c.requires.tree.expression in
     let s = same_node x c.args.kind u (sym c.requires.holds.kind) c.requires.linear c.requires.holds.held in
-    gather L (written_as L c.loop-at.invariant (derivatives_all x c.loop-at.at (children_of u) (omega (arith, n, c.loop-at-test.false)))) (count_derivatives x (children_of u) ∙ sym n) c.used-begin.ensures.value
+    gather L (written_as L c.loop-at.invariant (derivatives_all x c.loop-at.at (children_of u) (omega (arith, n, c.loop-at-test.false))))
+    (count_derivatives x (children_of u) ∙ sym n) c.used-begin.ensures.value
     (ap (takes_kind c.args.kind) n ∙ s.takes) c.requires.room (omega (arith, s.bytes))
 
 pub write_same-returns : goal.write_same-returns
@@ -149,7 +151,8 @@ write_products-write_product-requires g t c =
     let is = c.child_of-factor.ensures.plain ∙ ap (λ v. nth at (children_of v)) same in
     let m = seen_more at (children_of u) within i.seen-is (c.tree_bytes-seen.ensures.plain c.child_of-factor.ensures.expression ∙ ap size is) c.factor_bytes-whole.ensures in
     let made = products_room x at i.made (children_of u) within (ap (occurs x) (sym is) ∙ sym c.holds.ensures ∙ c.if-not-holds.false) i.is in
-    let room : sizes i.made + size (with_derivative x at (children_of u)) ≤ size (derivative x u) = omega (arith, made, ap size (product_sum x u c.requires.holds.kind), sum_room (products x none (children_of u))) in
+    let room : sizes i.made + size (with_derivative x at (children_of u)) ≤ size (derivative x u) =
+    omega (arith, made, ap size (product_sum x u c.requires.holds.kind), sum_room (products x none (children_of u))) in
     let earlier = i.seen-is ∙ ap (λ v. sizes (first at (children_of v))) (sym same) in
     let later = m.later ∙ ap (λ v. sizes (behind (at + 1) (children_of v))) (sym same) in
     let inside : at < count (children_of (tree_of c.args.tree c.loop-at.pool)) = omega (arith, within, ap (λ v. count (children_of v)) same) in
@@ -182,7 +185,8 @@ write_products-over-requires g t c =
     let u = tree_of c.args.tree c.args.pool.now in
     let i = c.loop-at.invariant in
     let rule = made_rule (name_of c.args.name) c.loop-at.at i.made u c.requires.holds.kind (omega (arith, c.children-factors.ensures.plain c.requires.tree.expression, c.loop-at-test.false)) i.is in
-    gather g.met.W.Writer.laws i.written (sym i.many-is) c.used-begin.ensures.value refl c.requires.room (omega (arith, ap size rule, ap size (more_than_one i.made (omega (arith, i.many-is, c.if-products-gt1.true)))))
+    gather g.met.W.Writer.laws i.written (sym i.many-is) c.used-begin.ensures.value refl c.requires.room
+    (omega (arith, ap size rule, ap size (more_than_one i.made (omega (arith, i.many-is, c.if-products-gt1.true)))))
 
 pub write_products-returns-then-products-gt1 : goal.write_products-returns-then-products-gt1
 write_products-returns-then-products-gt1 g t c =
@@ -198,7 +202,8 @@ write_products-returns-else-products-gt1 g t c =
     let i = c.loop-at.invariant in
     let done : count (children_of u) ≤ c.loop-at.at = omega (arith, c.children-factors.ensures.plain c.requires.tree.expression, c.loop-at-test.false) in
     let some = made_some x c.loop-at.at i.made u c.requires.holds.kind c.requires.holds.held done i.is in
-    written_as g.met.W.Writer.laws i.written (one_product i.made (omega (arith, i.many-is, some, c.if-products-gt1.false)) ∙ ap one (sym (made_rule x c.loop-at.at i.made u c.requires.holds.kind done i.is)))
+    written_as g.met.W.Writer.laws i.written
+    (one_product i.made (omega (arith, i.many-is, some, c.if-products-gt1.false)) ∙ ap one (sym (made_rule x c.loop-at.at i.made u c.requires.holds.kind done i.is)))
 
 -- ---- write_product
 
@@ -222,7 +227,7 @@ write_product-write_derivative-requires g t c =
     let e = c.child_of-factor.ensures.expression in
     let k = child_in {x = x} c.args.at u c.requires.within c.requires.tree.derivable c.child_of-factor.ensures.plain in
     let before = written_as L c.copies.ensures (slice_first c.args.at (children_of u)) in
-    λ κs l. (omega (arith, ap nodes ((L.keeps before).same c.child_of-factor.result e), k.smaller, c.decreases), (l, (still L before (record { stands = c.requires.tree.stands; expression = e; derivable = k.derivable }), room_for L (derivative x) before e c.requires.room (omega (arith, with_room x c.args.at (children_of u), ap (λ v. size (derivative x v)) c.child_of-factor.ensures.plain)))))
+    λ κs l. (omega (arith, ap nodes ((L.keeps before).same c.child_of-factor.result e), k.smaller, c.decreases), (l, (still L before (child_ready c.requires.tree.stands e k), room_for L (derivative x) before e c.requires.room (omega (arith, with_room x c.args.at (children_of u), ap (λ v. size (derivative x v)) c.child_of-factor.ensures.plain)))))
 
 pub write_product-copies-requires-2 : goal.write_product-copies-requires-2
 write_product-copies-requires-2 g t c =
@@ -264,36 +269,36 @@ write_product-returns g t c =
 
 -- ---- write_quotient
 
-pub write_quotient-child_of-dividend-requires-clause-within : goal.write_quotient-child_of-dividend-requires-clause-within
-write_quotient-child_of-dividend-requires-clause-within g t c = omega (arith, two_children (tree_of c.args.tree c.args.pool.now) c.requires.holds.kind)
-
-pub write_quotient-child_of-divisor-requires-clause-within : goal.write_quotient-child_of-divisor-requires-clause-within
-write_quotient-child_of-divisor-requires-clause-within g t c = omega (arith, two_children (tree_of c.args.tree c.args.pool.now) c.requires.holds.kind)
-
 pub write_quotient-write_derivative-requires : goal.write_quotient-write_derivative-requires
 write_quotient-write_derivative-requires g t c =
     let x = name_of c.args.name in
     let u = tree_of c.args.tree c.args.pool.now in
     let rule = quotient_divided x u c.requires.holds.kind c.requires.holds.held c.child_of-dividend.ensures.plain c.child_of-divisor.ensures.plain (sym c.holds.ensures ∙ c.if-not-holds.true) in
     let k = child_in {x = x} 0 u (omega (arith, two_children u c.requires.holds.kind)) c.requires.tree.derivable c.child_of-dividend.ensures.plain in
-    λ κs l. (omega (arith, k.smaller, c.decreases), (l, (record { stands = c.requires.tree.stands; expression = c.child_of-dividend.ensures.expression; derivable = k.derivable }, g.met.W.Writer.laws.less c.requires.room (omega (arith, ap size rule)))))
+    λ κs l. (omega (arith, k.smaller, c.decreases), (l, (child_ready c.requires.tree.stands c.child_of-dividend.ensures.expression k, g.met.W.Writer.laws.less c.requires.room (omega (arith, ap size rule)))))
 
 pub write_quotient-copy-requires : goal.write_quotient-copy-requires
 write_quotient-copy-requires g t c =
     let L = g.met.W.Writer.laws in
-    let rule = quotient_divided (name_of c.args.name) (tree_of c.args.tree c.args.pool.now) c.requires.holds.kind c.requires.holds.held c.child_of-dividend.ensures.plain c.child_of-divisor.ensures.plain (sym c.holds.ensures ∙ c.if-not-holds.true) in
+    let rule = quotient_divided (name_of c.args.name)
+    (tree_of c.args.tree c.args.pool.now) c.requires.holds.kind c.requires.holds.held c.child_of-dividend.ensures.plain c.child_of-divisor.ensures.plain
+    (sym c.holds.ensures ∙ c.if-not-holds.true) in
     can_copy L c.write_derivative.ensures c.child_of-divisor.ensures.expression c.requires.room (omega (arith, ap size rule))
 
 pub write_quotient-over-requires : goal.write_quotient-over-requires
 write_quotient-over-requires g t c =
     let L = g.met.W.Writer.laws in
-    let rule = quotient_divided (name_of c.args.name) (tree_of c.args.tree c.args.pool.now) c.requires.holds.kind c.requires.holds.held c.child_of-dividend.ensures.plain c.child_of-divisor.ensures.plain (sym c.holds.ensures ∙ c.if-not-holds.true) in
+    let rule = quotient_divided (name_of c.args.name)
+    (tree_of c.args.tree c.args.pool.now) c.requires.holds.kind c.requires.holds.held c.child_of-dividend.ensures.plain c.child_of-divisor.ensures.plain
+    (sym c.holds.ensures ∙ c.if-not-holds.true) in
     gather L (added L (λ v. v) c.write_derivative.ensures c.child_of-divisor.ensures.expression c.copy.ensures) refl c.used-begin.ensures.value refl c.requires.room (omega (arith, ap size rule))
 
 pub write_quotient-returns-then-not-holds : goal.write_quotient-returns-then-not-holds
 write_quotient-returns-then-not-holds g t c =
     let L = g.met.W.Writer.laws in
-    let rule = quotient_divided (name_of c.args.name) (tree_of c.args.tree c.args.pool.now) c.requires.holds.kind c.requires.holds.held c.child_of-dividend.ensures.plain c.child_of-divisor.ensures.plain (sym c.holds.ensures ∙ c.if-not-holds.true) in
+    let rule = quotient_divided (name_of c.args.name)
+    (tree_of c.args.tree c.args.pool.now) c.requires.holds.kind c.requires.holds.held c.child_of-dividend.ensures.plain c.child_of-divisor.ensures.plain
+    (sym c.holds.ensures ∙ c.if-not-holds.true) in
     written_as L (c.over.ensures _ _ _ (added L (λ v. v) c.write_derivative.ensures c.child_of-divisor.ensures.expression c.copy.ensures) refl) (ap one (sym rule))
 
 pub write_quotient-write_difference-requires : goal.write_quotient-write_difference-requires
@@ -305,14 +310,15 @@ write_quotient-write_difference-requires g t c =
     let above = child_in {x = x} 0 u (omega (arith, halves)) c.requires.tree.derivable c.child_of-dividend.ensures.plain in
     let below = child_in {x = x} 1 u (omega (arith, halves)) c.requires.tree.derivable c.child_of-divisor.ensures.plain in
     let fewer = quotient_nodes u c.requires.holds.kind c.child_of-dividend.ensures.plain c.child_of-divisor.ensures.plain in
-    let a : CanDerive x c.child_of-dividend.result c.args.pool.now = record { stands = c.requires.tree.stands; expression = c.child_of-dividend.ensures.expression; derivable = above.derivable } in
-    let b : CanDerive x c.child_of-divisor.result c.args.pool.now = record { stands = c.requires.tree.stands; expression = c.child_of-divisor.ensures.expression; derivable = below.derivable } in
+    let a : CanDerive x c.child_of-dividend.result c.args.pool.now = child_ready c.requires.tree.stands c.child_of-dividend.ensures.expression above in
+    let b : CanDerive x c.child_of-divisor.result c.args.pool.now = child_ready c.requires.tree.stands c.child_of-divisor.ensures.expression below in
     λ κs l. (omega (arith, fewer, c.decreases), (l, (a, (b, g.met.W.Writer.laws.less c.requires.room (omega (arith, ap size rule))))))
 
 pub write_quotient-write_power_of-requires : goal.write_quotient-write_power_of-requires
 write_quotient-write_power_of-requires g t c =
     let L = g.met.W.Writer.laws in
-    let rule = quotient_whole (name_of c.args.name) (tree_of c.args.tree c.args.pool.now) c.requires.holds.kind c.child_of-dividend.ensures.plain c.child_of-divisor.ensures.plain (sym c.holds.ensures ∙ c.if-not-holds.false) in
+    let rule = quotient_whole (name_of c.args.name) (tree_of c.args.tree c.args.pool.now) c.requires.holds.kind c.child_of-dividend.ensures.plain c.child_of-divisor.ensures.plain
+    (sym c.holds.ensures ∙ c.if-not-holds.false) in
     let k = L.keeps c.write_difference.ensures in
     let e = c.child_of-divisor.ensures.expression in
     record { stands = k.stands; expression = k.expressions c.child_of-divisor.result e; fits = search rules; room = room_for L (λ v. power v (whole_num 2)) c.write_difference.ensures e c.requires.room (omega (arith, ap size rule)) }
@@ -320,13 +326,15 @@ write_quotient-write_power_of-requires g t c =
 pub write_quotient-over-requires-2 : goal.write_quotient-over-requires-2
 write_quotient-over-requires-2 g t c =
     let L = g.met.W.Writer.laws in
-    let rule = quotient_whole (name_of c.args.name) (tree_of c.args.tree c.args.pool.now) c.requires.holds.kind c.child_of-dividend.ensures.plain c.child_of-divisor.ensures.plain (sym c.holds.ensures ∙ c.if-not-holds.false) in
+    let rule = quotient_whole (name_of c.args.name) (tree_of c.args.tree c.args.pool.now) c.requires.holds.kind c.child_of-dividend.ensures.plain c.child_of-divisor.ensures.plain
+    (sym c.holds.ensures ∙ c.if-not-holds.false) in
     gather L (added L (λ v. power v (whole_num 2)) c.write_difference.ensures c.child_of-divisor.ensures.expression c.write_power_of.ensures) refl c.used-begin.ensures.value refl c.requires.room (omega (arith, ap size rule))
 
 pub write_quotient-returns : goal.write_quotient-returns
 write_quotient-returns g t c =
     let L = g.met.W.Writer.laws in
-    let rule = quotient_whole (name_of c.args.name) (tree_of c.args.tree c.args.pool.now) c.requires.holds.kind c.child_of-dividend.ensures.plain c.child_of-divisor.ensures.plain (sym c.holds.ensures ∙ c.if-not-holds.false) in
+    let rule = quotient_whole (name_of c.args.name) (tree_of c.args.tree c.args.pool.now) c.requires.holds.kind c.child_of-dividend.ensures.plain c.child_of-divisor.ensures.plain
+    (sym c.holds.ensures ∙ c.if-not-holds.false) in
     written_as L (c.over-2.ensures _ _ _ (added L (λ v. power v (whole_num 2)) c.write_difference.ensures c.child_of-divisor.ensures.expression c.write_power_of.ensures) refl) (ap one (sym rule))
 
 -- ---- write_difference
@@ -379,32 +387,22 @@ write_difference-returns g t c =
 
 -- ---- write_power
 
-pub write_power-child_of-base-requires-clause-within : goal.write_power-child_of-base-requires-clause-within
-write_power-child_of-base-requires-clause-within g t c = omega (arith, base_and_exponent (tree_of c.args.tree c.args.pool.now) c.requires.holds.kind)
-
-pub write_power-child_of-exponent-requires-clause-within : goal.write_power-child_of-exponent-requires-clause-within
-write_power-child_of-exponent-requires-clause-within g t c = omega (arith, base_and_exponent (tree_of c.args.tree c.args.pool.now) c.requires.holds.kind)
-
 pub write_power-literal_exponent-number-requires-clause-derivable : goal.write_power-literal_exponent-number-requires-clause-derivable
 write_power-literal_exponent-number-requires-clause-derivable g t c =
     exponent_in (name_of c.args.name) (tree_of c.args.tree c.args.pool.now) c.requires.holds.kind c.requires.holds.held c.requires.tree.derivable c.child_of-exponent.ensures.plain
 
-pub write_power-is_zero-requires : goal.write_power-is_zero-requires
-write_power-is_zero-requires g t c = told_fits c.literal_exponent-number.result c.literal_exponent-number.ensures.small
-
-pub write_power-is_one-requires : goal.write_power-is_one-requires
-write_power-is_one-requires g t c = told_fits c.literal_exponent-number.result c.literal_exponent-number.ensures.small
-
 pub write_power-number-requires : goal.write_power-number-requires
 write_power-number-requires g t c =
     let n = c.literal_exponent-number in
-    let rule = zero_power (name_of c.args.name) (tree_of c.args.tree c.args.pool.now) n.result c.requires.holds.kind c.requires.holds.held c.child_of-base.ensures.plain c.child_of-exponent.ensures.plain n.ensures.value n.ensures.small (sym c.is_zero.ensures ∙ c.if-is_zero.true) in
+    let rule = zero_power (name_of c.args.name)
+    (tree_of c.args.tree c.args.pool.now) n.result c.requires.holds.kind c.requires.holds.held c.child_of-base.ensures.plain c.child_of-exponent.ensures.plain n.ensures.value n.ensures.small (sym c.is_zero.ensures ∙ c.if-is_zero.true) in
     record { stands = c.requires.tree.stands; fits = search rules; room = g.met.W.Writer.laws.less c.requires.room (omega (arith, ap size rule)) }
 
 pub write_power-returns-then-is_zero : goal.write_power-returns-then-is_zero
 write_power-returns-then-is_zero g t c =
     let n = c.literal_exponent-number in
-    let rule = zero_power (name_of c.args.name) (tree_of c.args.tree c.args.pool.now) n.result c.requires.holds.kind c.requires.holds.held c.child_of-base.ensures.plain c.child_of-exponent.ensures.plain n.ensures.value n.ensures.small (sym c.is_zero.ensures ∙ c.if-is_zero.true) in
+    let rule = zero_power (name_of c.args.name)
+    (tree_of c.args.tree c.args.pool.now) n.result c.requires.holds.kind c.requires.holds.held c.child_of-base.ensures.plain c.child_of-exponent.ensures.plain n.ensures.value n.ensures.small (sym c.is_zero.ensures ∙ c.if-is_zero.true) in
     written_as g.met.W.Writer.laws c.number.ensures (ap one (sym rule))
 
 pub write_power-write_derivative-requires : goal.write_power-write_derivative-requires
@@ -412,14 +410,16 @@ write_power-write_derivative-requires g t c =
     let x = name_of c.args.name in
     let u = tree_of c.args.tree c.args.pool.now in
     let n = c.literal_exponent-number in
-    let rule = first_power x u n.result c.requires.holds.kind c.requires.holds.held c.child_of-base.ensures.plain c.child_of-exponent.ensures.plain n.ensures.value n.ensures.small (sym c.is_one.ensures ∙ c.if-is_one.true) in
+    let rule = first_power x u n.result c.requires.holds.kind c.requires.holds.held c.child_of-base.ensures.plain c.child_of-exponent.ensures.plain n.ensures.value n.ensures.small
+    (sym c.is_one.ensures ∙ c.if-is_one.true) in
     let k = child_in {x = x} 0 u (omega (arith, base_and_exponent u c.requires.holds.kind)) c.requires.tree.derivable c.child_of-base.ensures.plain in
-    λ κs l. (omega (arith, k.smaller, c.decreases), (l, (record { stands = c.requires.tree.stands; expression = c.child_of-base.ensures.expression; derivable = k.derivable }, g.met.W.Writer.laws.less c.requires.room (omega (arith, ap size rule)))))
+    λ κs l. (omega (arith, k.smaller, c.decreases), (l, (child_ready c.requires.tree.stands c.child_of-base.ensures.expression k, g.met.W.Writer.laws.less c.requires.room (omega (arith, ap size rule)))))
 
 pub write_power-returns-then-is_one : goal.write_power-returns-then-is_one
 write_power-returns-then-is_one g t c =
     let n = c.literal_exponent-number in
-    let rule = first_power (name_of c.args.name) (tree_of c.args.tree c.args.pool.now) n.result c.requires.holds.kind c.requires.holds.held c.child_of-base.ensures.plain c.child_of-exponent.ensures.plain n.ensures.value n.ensures.small (sym c.is_one.ensures ∙ c.if-is_one.true) in
+    let rule = first_power (name_of c.args.name)
+    (tree_of c.args.tree c.args.pool.now) n.result c.requires.holds.kind c.requires.holds.held c.child_of-base.ensures.plain c.child_of-exponent.ensures.plain n.ensures.value n.ensures.small (sym c.is_one.ensures ∙ c.if-is_one.true) in
     written_as g.met.W.Writer.laws c.write_derivative.ensures (ap one (sym rule))
 
 pub write_power-write_lowered-requires : goal.write_power-write_lowered-requires
@@ -427,14 +427,16 @@ write_power-write_lowered-requires g t c =
     let x = name_of c.args.name in
     let u = tree_of c.args.tree c.args.pool.now in
     let n = c.literal_exponent-number in
-    let rule = lowered_told x u n.result c.requires.holds.kind c.requires.holds.held c.child_of-base.ensures.plain c.child_of-exponent.ensures.plain n.ensures.value n.ensures.small (sym c.is_zero.ensures ∙ c.if-is_zero.false) (sym c.is_one.ensures ∙ c.if-is_one.false) in
+    let rule = lowered_told x u n.result c.requires.holds.kind c.requires.holds.held c.child_of-base.ensures.plain c.child_of-exponent.ensures.plain n.ensures.value n.ensures.small
+    (sym c.is_zero.ensures ∙ c.if-is_zero.false) (sym c.is_one.ensures ∙ c.if-is_one.false) in
     let k = child_in {x = x} 0 u (omega (arith, base_and_exponent u c.requires.holds.kind)) c.requires.tree.derivable c.child_of-base.ensures.plain in
-    λ κs l. (omega (arith, k.smaller, c.decreases), (l, (record { stands = c.requires.tree.stands; expression = c.child_of-base.ensures.expression; derivable = k.derivable }, (told_small n.result n.ensures.small, g.met.W.Writer.laws.less c.requires.room (omega (arith, ap size rule))))))
+    λ κs l. (omega (arith, k.smaller, c.decreases), (l, (child_ready c.requires.tree.stands c.child_of-base.ensures.expression k, (told_small n.result n.ensures.small, g.met.W.Writer.laws.less c.requires.room (omega (arith, ap size rule))))))
 
 pub write_power-returns : goal.write_power-returns
 write_power-returns g t c =
     let n = c.literal_exponent-number in
-    let rule = lowered_told (name_of c.args.name) (tree_of c.args.tree c.args.pool.now) n.result c.requires.holds.kind c.requires.holds.held c.child_of-base.ensures.plain c.child_of-exponent.ensures.plain n.ensures.value n.ensures.small (sym c.is_zero.ensures ∙ c.if-is_zero.false) (sym c.is_one.ensures ∙ c.if-is_one.false) in
+    let rule = lowered_told (name_of c.args.name)
+    (tree_of c.args.tree c.args.pool.now) n.result c.requires.holds.kind c.requires.holds.held c.child_of-base.ensures.plain c.child_of-exponent.ensures.plain n.ensures.value n.ensures.small (sym c.is_zero.ensures ∙ c.if-is_zero.false) (sym c.is_one.ensures ∙ c.if-is_one.false) in
     written_as g.met.W.Writer.laws c.write_lowered.ensures (ap one (sym rule))
 
 -- ---- write_lowered
@@ -446,9 +448,6 @@ write_lowered-number-requires g t c = record {
   room = g.met.W.Writer.laws.less c.requires.room (omega (arith, ap (λ z. size (num (whole_fraction z))) (told c.args.number (small_fits c.args.number c.requires.small))));
 }
 
-pub write_lowered-overflow_sub-number : goal.write_lowered-overflow_sub-number
-write_lowered-overflow_sub-number g t c = less_fits_signed c.args.number c.requires.small
-
 pub write_lowered-write_power_of-requires : goal.write_lowered-write_power_of-requires
 write_lowered-write_power_of-requires g t c =
     let L = g.met.W.Writer.laws in
@@ -457,7 +456,8 @@ write_lowered-write_power_of-requires g t c =
       stands = k.stands;
       expression = k.expressions c.args.base c.requires.base.expression;
       fits = told_less_fits c.args.number c.requires.small;
-      room = L.room c.number.ensures c.requires.room (omega (arith, ap (λ z. size (num (whole_fraction z))) (told c.args.number (small_fits c.args.number c.requires.small)), ap (λ z. size (num (whole_fraction z))) (told_less c.args.number c.requires.small), ap size (k.same c.args.base c.requires.base.expression)));
+      room = L.room c.number.ensures c.requires.room
+          (omega (arith, ap (λ z. size (num (whole_fraction z))) (told c.args.number (small_fits c.args.number c.requires.small)), ap (λ z. size (num (whole_fraction z))) (told_less c.args.number c.requires.small), ap size (k.same c.args.base c.requires.base.expression)));
     }
 
 pub write_lowered-write_derivative-requires : goal.write_lowered-write_derivative-requires
@@ -471,7 +471,8 @@ write_lowered-over-requires g t c =
     let L = g.met.W.Writer.laws in
     let raised = added L (λ v. power v (num (whole_fraction (told_less_of c.args.number)))) c.number.ensures c.requires.base.expression c.write_power_of.ensures in
     let all = added L (derivative (name_of c.args.name)) raised c.requires.base.expression c.write_derivative.ensures in
-    gather L all refl c.used-begin.ensures.value refl c.requires.room (omega (arith, ap size (lowered_as c.args.number c.requires.small (tree_of c.args.base c.args.pool.now) (derivative (name_of c.args.name) (tree_of c.args.base c.args.pool.now)))))
+    gather L all refl c.used-begin.ensures.value refl c.requires.room
+    (omega (arith, ap size (lowered_as c.args.number c.requires.small (tree_of c.args.base c.args.pool.now) (derivative (name_of c.args.name) (tree_of c.args.base c.args.pool.now)))))
 
 pub write_lowered-returns : goal.write_lowered-returns
 write_lowered-returns g t c =
@@ -482,15 +483,12 @@ write_lowered-returns g t c =
 
 -- ---- write_root
 
-pub write_root-child_of-argument-requires-clause-within : goal.write_root-child_of-argument-requires-clause-within
-write_root-child_of-argument-requires-clause-within g t c = omega (arith, one_argument (tree_of c.args.tree c.args.pool.now) c.requires.holds.kind)
-
 pub write_root-write_derivative-requires : goal.write_root-write_derivative-requires
 write_root-write_derivative-requires g t c =
     let x = name_of c.args.name in
     let u = tree_of c.args.tree c.args.pool.now in
     let k = child_in {x = x} 0 u (omega (arith, one_argument u c.requires.holds.kind)) c.requires.tree.derivable c.child_of-argument.ensures.plain in
-    λ κs l. (omega (arith, k.smaller, c.decreases), (l, (record { stands = c.requires.tree.stands; expression = c.child_of-argument.ensures.expression; derivable = k.derivable }, g.met.W.Writer.laws.less c.requires.room (omega (arith, ap size (root_slope x u c.requires.holds.kind c.requires.holds.held c.child_of-argument.ensures.plain))))))
+    λ κs l. (omega (arith, k.smaller, c.decreases), (l, (child_ready c.requires.tree.stands c.child_of-argument.ensures.expression k, g.met.W.Writer.laws.less c.requires.room (omega (arith, ap size (root_slope x u c.requires.holds.kind c.requires.holds.held c.child_of-argument.ensures.plain))))))
 
 pub write_root-number-requires : goal.write_root-number-requires
 write_root-number-requires g t c =
@@ -508,7 +506,9 @@ pub write_root-over-requires : goal.write_root-over-requires
 write_root-over-requires g t c =
     let L = g.met.W.Writer.laws in
     let rule = root_slope (name_of c.args.name) (tree_of c.args.tree c.args.pool.now) c.requires.holds.kind c.requires.holds.held c.child_of-argument.ensures.plain in
-    gather_behind L c.write_derivative.ensures (added_behind L (λ v. v) c.write_derivative.ensures c.number.ensures c.requires.tree.expression c.copy.ensures) refl c.used-middle.ensures.value refl c.requires.room (omega (arith, ap size rule))
+    gather_behind L c.write_derivative.ensures
+    (added_behind L (λ v. v) c.write_derivative.ensures c.number.ensures c.requires.tree.expression c.copy.ensures) refl c.used-middle.ensures.value refl c.requires.room
+    (omega (arith, ap size rule))
 
 pub write_root-over-requires-2 : goal.write_root-over-requires-2
 write_root-over-requires-2 g t c =

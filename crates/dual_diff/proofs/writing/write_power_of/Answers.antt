@@ -12,7 +12,8 @@ number-requires g c = record {
   room = g.met.W.Writer.laws.room c.copy.ensures c.requires.room (omega (arith, ap (λ z. size (num (whole_fraction z))) (told c.args.exponent c.requires.fits)));
 }
 
-both : (g : _) (c : After-number g) → g.W.Writer.writes c.args.writer.now c.args.pool.now c.number.new.self c.number.new.pool (two (tree_of c.args.base c.args.pool.now) (num (whole_fraction c.args.exponent)))
+both : (g : _) (c : After-number g)
+    → g.W.Writer.writes c.args.writer.now c.args.pool.now c.number.new.self c.number.new.pool (two (tree_of c.args.base c.args.pool.now) (num (whole_fraction c.args.exponent)))
 both g c = g.met.W.Writer.laws.joined c.copy.ensures (written_as g.met.W.Writer.laws c.number.ensures (ap (λ z. one (num (whole_fraction z))) (told c.args.exponent c.requires.fits)))
 
 pub over-requires : goal.over-requires

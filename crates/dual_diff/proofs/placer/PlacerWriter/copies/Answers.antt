@@ -5,7 +5,8 @@ use Rattle.dual_diff.proofs.placer.PlacerWriter.copies.Goals.{After-child_of-chi
 use Rattle.dual_diff.proofs.placer.PlacerWriter.copies.Goals as goal
 
 pub loop-at-init : goal.loop-at-init
-loop-at-init c = subst (Places c.args.pool.now c.args.pool.now c.args.self.now.last c.args.self.now.last) (slice_none c.args.from (children_of (tree_of c.args.parent c.args.pool.now))) (places_nothing c.requires.stands)
+loop-at-init c = subst (Places c.args.pool.now c.args.pool.now c.args.self.now.last c.args.self.now.last)
+    (slice_none c.args.from (children_of (tree_of c.args.parent c.args.pool.now))) (places_nothing c.requires.stands)
 
 pub child_of-child-requires : goal.child_of-child-requires
 child_of-child-requires c =
@@ -26,12 +27,14 @@ copy-requires c =
     record {
       stands = (places_keeps c.loop-at.invariant).stands;
       expression = c.child_of-child.ensures.expression;
-      room = places_room c.loop-at.invariant c.requires.room (omega (arith, c.requires.bytes, ap size (tree_is (goal.at.copy-requires c).After-child_of-child), slice_room c.args.from c.loop-at.at c.args.to (children_of (tree_of c.args.parent c.args.pool.now)) from c.loop-at-test.true c.requires.within));
+      room = places_room c.loop-at.invariant c.requires.room
+          (omega (arith, c.requires.bytes, ap size (tree_is (goal.at.copy-requires c).After-child_of-child), slice_room c.args.from c.loop-at.at c.args.to (children_of (tree_of c.args.parent c.args.pool.now)) from c.loop-at-test.true c.requires.within));
     }
 
 pub loop-at-preserved : goal.loop-at-preserved
 loop-at-preserved c =
     let from : c.args.from ≤ c.loop-at.at = omega arith in
     let copied = subst (λ t. Places c.loop-at.pool c.copy.new.pool c.loop-at.self.last c.copy.new.self.last (one t)) (tree_is (goal.at.loop-at-preserved c).After-child_of-child) c.copy.ensures in
-    subst (Places c.args.pool.now c.copy.new.pool c.args.self.now.last c.copy.new.self.last) (slice_more c.args.from c.loop-at.at (children_of (tree_of c.args.parent c.args.pool.now)) from (omega (arith, c.loop-at-test.true, c.requires.within)))
+    subst (Places c.args.pool.now c.copy.new.pool c.args.self.now.last c.copy.new.self.last)
+    (slice_more c.args.from c.loop-at.at (children_of (tree_of c.args.parent c.args.pool.now)) from (omega (arith, c.loop-at-test.true, c.requires.within)))
     (places_joined c.loop-at.invariant copied)

@@ -8,5 +8,6 @@ returns c = places_one c.requires.stands (record { gives = c.in-Ok.ensures.given
 pub unreachable-requires : goal.unreachable-requires
 unreachable-requires c =
     let t = tree_at c.args.source (forest c.args.pool.now) in
-    let room : bytes_in t ≤ free_of c.args.pool.now = omega (arith, c.requires.room, size-plain t (one_at c.args.source (forest c.args.pool.now) c.requires.expression.live) c.requires.expression.whole) in
+    let room : bytes_in t ≤ free_of c.args.pool.now =
+    omega (arith, c.requires.room, size-plain t (one_at c.args.source (forest c.args.pool.now) c.requires.expression.live) c.requires.expression.whole) in
     absurd (cc (c.in-Err.ensures.exactly.1 room))

@@ -10,5 +10,6 @@ returns c = places_one c.requires.stands (record {
 
 pub unreachable-requires : goal.unreachable-requires
 unreachable-requires c =
-    let room : size_of_payload (rational (ratio_of c.whole.result)) ≤ free_of c.args.pool.now = omega (arith, c.requires.room, placed_size c.whole.result c.args.value c.requires.fits c.whole.ensures) in
+    let room : size_of_payload (rational (ratio_of c.whole.result)) ≤ free_of c.args.pool.now =
+    omega (arith, c.requires.room, placed_size c.whole.result c.args.value c.requires.fits c.whole.ensures) in
     absurd (cc (c.in-Err.ensures.exactly.1 room))
