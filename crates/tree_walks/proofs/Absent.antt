@@ -10,7 +10,8 @@ none_occur x t h = by (occurrences x t) refl
     by zero e = refl
     by (suc n) e = absurd (h (counted x (names t) (omega arith)))
 
-pub absent : {i j : ℕ} {x : List ℕ} {u : Tree} {s : State} {Told : Tree → Type 0} → j ≡ i → Stands s → Gives (without_root i (forest s)) (forest s) i Told → ¬ (Contains (names (plain (tree_at j (forest s)))) x) → IsDone i i x u s s
+pub absent : {i j : ℕ} {x : List ℕ} {u : Tree} {s : State} {Told : Tree → Type 0} → j ≡ i → Stands s → Gives (without_root i (forest s)) (forest s) i Told
+    → ¬ (Contains (names (plain (tree_at j (forest s)))) x) → IsDone i i x u s s
 absent {i = i} {x = x} {u = u} {s = s} e st g h =
     let same : plain (tree_at i (forest s)) ≡ tree_of i s = ap plain (tree_of_root i st (last_root g.ends)) in
     let lacks : ¬ (Contains (names (tree_of i s)) x) = subst (λ (t : Tree). ¬ (Contains (names t) x)) (ap (λ (k : ℕ). plain (tree_at k (forest s))) e ∙ same) h in

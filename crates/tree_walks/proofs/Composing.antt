@@ -9,7 +9,8 @@ use Rattle.tree_walks.specs.Laws.{StaysWhereAbsent, NamesOfReplaced, OccursWhere
 -- ---- a tree without the name
 
 symbol_stays : (x y : List ℕ) (u : Tree) → (Contains (y ∷ []) x → ⊥) → cond (bytes_eq y x) u (symbol y) ≡ symbol y
-symbol_stays x y u h = by_test (λ t. bytes_eq y x ≡ t → cond t u (symbol y) ≡ symbol y) (bytes_eq y x) (λ e q. absurd (h (subst (λ z. Contains (y ∷ []) z) ((bytes_eq-Decides y x).0 q) (Contains-push [] y)))) (λ e q. refl) refl
+symbol_stays x y u h = by_test (λ t. bytes_eq y x ≡ t → cond t u (symbol y) ≡ symbol y) (bytes_eq y x)
+    (λ e q. absurd (h (subst (λ z. Contains (y ∷ []) z) ((bytes_eq-Decides y x).0 q) (Contains-push [] y)))) (λ e q. refl) refl
 
 mutual
   stays : (x : List ℕ) (u t : Tree) → (Contains (names t) x → ⊥) → replaced x u t ≡ t
@@ -90,7 +91,9 @@ occurs_where_named x t = (counted x (names t), uncounted x (names t))
 -- ---- the bytes
 
 -- those of the leaves that went, and of the trees that came
-split : (x : List ℕ) (u : Tree) (ks ls : List (List ℕ)) → (count_by (λ y. bytes_eq y x) (ks ++ ls) ≡ count_by (λ y. bytes_eq y x) ks + count_by (λ y. bytes_eq y x) ls) × (count_by (λ y. bytes_eq y x) (ks ++ ls) * size u ≡ count_by (λ y. bytes_eq y x) ks * size u + count_by (λ y. bytes_eq y x) ls * size u)
+split : (x : List ℕ) (u : Tree) (ks ls : List (List ℕ))
+    → (count_by (λ y. bytes_eq y x) (ks ++ ls) ≡ count_by (λ y. bytes_eq y x) ks + count_by (λ y. bytes_eq y x) ls) ×
+    (count_by (λ y. bytes_eq y x) (ks ++ ls) * size u ≡ count_by (λ y. bytes_eq y x) ks * size u + count_by (λ y. bytes_eq y x) ls * size u)
 split x u ks ls =
     let sum : count_by (λ y. bytes_eq y x) (ks ++ ls) ≡ count_by (λ y. bytes_eq y x) ks + count_by (λ y. bytes_eq y x) ls = sum_by-append (λ y. cond (bytes_eq y x) 1 0) ks ls in
     (sum, ap (λ (n : ℕ). n * size u) sum ∙ omega arith)

@@ -26,7 +26,9 @@ pub record IsLastLeaf (t others : Forest) (h : ℕ) (s : State) : Type 0 where
   pub ends : Ends h t others (forest s)
   pub owned : IsOwned h (forest s)
 
-pub last_leaf : {at parent i h : ℕ} {f : Forest} (t : Forest) (s : State) → Stands s → IsLeafAt at parent i f → h ≡ i → forest s ≡ join (with_kids parent (set_nth at t (kids_of parent f)) f) (tree_nth at (kids_of parent f)) → IsLastLeaf (tree_nth at (kids_of parent f)) (with_kids parent (set_nth at t (kids_of parent f)) f) h s
+pub last_leaf : {at parent i h : ℕ} {f : Forest} (t : Forest) (s : State) → Stands s → IsLeafAt at parent i f → h ≡ i
+    → forest s ≡ join (with_kids parent (set_nth at t (kids_of parent f)) f) (tree_nth at (kids_of parent f))
+    → IsLastLeaf (tree_nth at (kids_of parent f)) (with_kids parent (set_nth at t (kids_of parent f)) f) h s
 last_leaf {at = at} {parent = parent} {h = h} {f = f} t s st l e q =
     let leaf = tree_nth at (kids_of parent f) in
     let others = with_kids parent (set_nth at t (kids_of parent f)) f in
@@ -94,7 +96,8 @@ pub record IsFilling (i : ℕ) (x : List ℕ) (u : Tree) (start s : State) (n : 
   pub kept : KeepsRefusals start s
   pub stands : Stands s
 
-pub begins : {i : ℕ} {s : State} {Told : Tree → Type 0} (x : List ℕ) (u : Tree) → Stands s → Gives (without_root i (forest s)) (forest s) i Told → has_name x (payload_in i (forest s)) ≡ false → IsFilling i x u s s 0 (leaves_of x (tree_at i (forest s)))
+pub begins : {i : ℕ} {s : State} {Told : Tree → Type 0} (x : List ℕ) (u : Tree) → Stands s → Gives (without_root i (forest s)) (forest s) i Told
+    → has_name x (payload_in i (forest s)) ≡ false → IsFilling i x u s s 0 (leaves_of x (tree_at i (forest s)))
 begins {i = i} {s = s} x u st g h =
     let root : tree_at i (forest s) ≡ g.tree = tree_of_root i st (last_root g.ends) ∙ last_tree g.ends in
     let told : plain g.tree ≡ tree_of i s = ap plain (sym (last_tree g.ends)) in
@@ -108,7 +111,8 @@ begins {i = i} {s = s} x u st g h =
       many = refl;
       leaves = sym (ap (leaves_of x) root);
       told = later-none x u 0 g.tree refl ∙ ap (replaced_in x u) (alone g.tree g.ends.alone) ∙ ap (λ (t : Tree). more (replaced x u t) none) told;
-      room = ap (λ (n : ℕ). replacing (free_of s) n (size u) (root_size (symbol x))) (ap (λ (t : Forest). length (leaves_of x t)) root ∙ leaves_plain x g.tree g.ends.alone g.whole ∙ ap (occurrences x) told);
+      room = ap (λ (n : ℕ). replacing (free_of s) n (size u) (root_size (symbol x)))
+          (ap (λ (t : Forest). length (leaves_of x t)) root ∙ leaves_plain x g.tree g.ends.alone g.whole ∙ ap (occurrences x) told);
       kept = keeps_none s;
       stands = st;
     }
@@ -155,9 +159,11 @@ next {i = i} {n = n} {j = j} {x = x} {rest = rest} {u = u} {start = start} {s = 
           let one : arity copy ≡ 1 = one_tree copy c.is.plain_trees in
           let told : plain copy ≡ u = ap (nth 0) c.is.plain_trees in
           let count : length (leaves_of x copy) ≡ occurrences x u = leaves_plain x copy one c.is.whole ∙ ap (occurrences x) told in
-          let whole : forest v ≡ join others (p.fill copy) = c.forest-is ∙ ap (λ (k : Forest). with_kids b.parent (set_nth b.at copy k) (forest s)) same ∙ ap (with_kids b.parent (set_nth b.at copy (kids_of b.parent w.now))) w.ends.whole
+          let whole : forest v ≡ join others (p.fill copy) = c.forest-is ∙ ap (λ (k : Forest). with_kids b.parent (set_nth b.at copy k) (forest s)) same
+          ∙ ap (with_kids b.parent (set_nth b.at copy (kids_of b.parent w.now))) w.ends.whole
           ∙ with_kids-join_right b.parent (set_nth b.at copy (kids_of b.parent w.now)) others w.now clear ∙ ap (join others) (sym (b.fill-is copy)) in
-          let left : free_of v ≡ free_of s - size u + root_size (symbol x) = omega (arith, used_forest s w.stands, used_forest v sv, kept.size, w.stands.pool.fits, sv.pool.fits, ap bytes_in w.ends.whole, ap bytes_in whole, bytes_in-join others w.now, bytes_in-join others (p.fill copy), p.bytes copy, size-plain copy one c.is.whole, ap size told, room) in
+          let left : free_of v ≡ free_of s - size u + root_size (symbol x) =
+          omega (arith, used_forest s w.stands, used_forest v sv, kept.size, w.stands.pool.fits, sv.pool.fits, ap bytes_in w.ends.whole, ap bytes_in whole, bytes_in-join others w.now, bytes_in-join others (p.fill copy), p.bytes copy, size-plain copy one c.is.whole, ap size told, room) in
           record {
             now = p.fill copy;
             ends = record { whole = whole; alone = p.many copy one ∙ w.ends.alone; root = b.root copy ∙ w.ends.root; clear = w.ends.clear };
@@ -183,7 +189,8 @@ next {i = i} {n = n} {j = j} {x = x} {rest = rest} {u = u} {start = start} {s = 
 
 -- what stood first stays
 pub front_kept : {i : ℕ} {old new : Forest} (now : Forest) → new ≡ join (without_root i old) now → KeepsFront (i ∷ []) old new
-front_kept {i = i} {old = old} {new = new} now e = record { keeps = λ p s n. starts_same p (join (without_root i old) now) new e (starts_join p (without_root i old) now (starts_without i p old n.0 s)) }
+front_kept {i = i} {old = old} {new = new} now e =
+    record { keeps = λ p s n. starts_same p (join (without_root i old) now) new e (starts_join p (without_root i old) now (starts_without i p old n.0 s)) }
 
 -- a copy finds no room
 pub record IsStopped (i : ℕ) (x : List ℕ) (u : Tree) (start v : State) (full : Full) : Type 0 where
@@ -191,7 +198,8 @@ pub record IsStopped (i : ℕ) (x : List ℕ) (u : Tree) (start v : State) (full
   pub refuses : Refuses start v full
   pub front : KeepsFront (i ∷ []) (forest start) (forest v)
 
-pub stopped : {i n j need : ℕ} {x rest : List ℕ} {u : Tree} {start s v : State} {full : Full} → IsFilling i x u start s n (j ∷ rest) → need ≡ size u → IsRefused need s v full → IsStopped i x u start v full
+pub stopped : {i n j need : ℕ} {x rest : List ℕ} {u : Tree} {start s v : State} {full : Full} → IsFilling i x u start s n (j ∷ rest) → need ≡ size u → IsRefused need s v full
+    → IsStopped i x u start v full
 stopped {x = x} {rest = rest} {u = u} {start = start} {s = s} {v = v} {full = full} w e f = record {
   told = sym w.room ∙ refused_room (length rest) (root_size (symbol x)) u e f;
   refuses = refuses_after start s v full w.kept f.refuses;
@@ -229,20 +237,23 @@ leaf_tree : (x : List ℕ) (u : Tree) (t : Forest) → arity t ≡ 1 → has_nam
 leaf_tree x u empty a h = absurd (omega arith)
 leaf_tree x u (tree l k r) a h = leaf_told x u l.payload (plains k) h
 
-pub leaf : {i : ℕ} {s : State} {Told : Tree → Type 0} (x : List ℕ) (u : Tree) → Stands s → Gives (without_root i (forest s)) (forest s) i Told → has_name x (payload_in i (forest s)) ≡ true → IsLeaf x u (tree_of i s)
+pub leaf : {i : ℕ} {s : State} {Told : Tree → Type 0} (x : List ℕ) (u : Tree) → Stands s → Gives (without_root i (forest s)) (forest s) i Told
+    → has_name x (payload_in i (forest s)) ≡ true → IsLeaf x u (tree_of i s)
 leaf {i = i} {s = s} x u st g h =
     let root : tree_at i (forest s) ≡ g.tree = tree_of_root i st (last_root g.ends) ∙ last_tree g.ends in
     subst (IsLeaf x u) (ap plain (sym (last_tree g.ends))) (leaf_tree x u g.tree g.ends.alone (sym (ap (λ (t : Forest). has_name x (root_payload t)) root) ∙ h))
 
 -- it is refused
-pub leaf_stopped : {need : ℕ} {x : List ℕ} {u : Tree} {s t : State} {full : Full} (i : ℕ) → IsLeaf x u (tree_of i s) → need ≡ size u → IsRefused need s t full → replacing (free_of s) (occurrences x (tree_of i s)) (size u) (root_size (symbol x)) ≡ Err full
+pub leaf_stopped : {need : ℕ} {x : List ℕ} {u : Tree} {s t : State} {full : Full} (i : ℕ) → IsLeaf x u (tree_of i s) → need ≡ size u → IsRefused need s t full
+    → replacing (free_of s) (occurrences x (tree_of i s)) (size u) (root_size (symbol x)) ≡ Err full
 leaf_stopped {x = x} {u = u} {s = s} i l e f = ap (λ (n : ℕ). replacing (free_of s) n (size u) (root_size (symbol x))) l.count ∙ refused_room 0 (root_size (symbol x)) u e f
 
 -- or a copy takes its place
 pub leaf_goes : {i h : ℕ} {others f g : Forest} {Told P : Tree → Type 0} → Gives others f i Told → Gives f g h P → IsHanded i g
 leaf_goes g c = given_other c (given_handed g)
 
-pub leaf_done : {i h : ℕ} {x : List ℕ} {u : Tree} {s t v : State} {Told : Tree → Type 0} → IsLeaf x u (tree_of i s) → Stands s → Stands t → Stands v → Gives (without_root i (forest s)) (forest s) i Told → Gives (forest s) (forest t) h (λ y. y ≡ u)
+pub leaf_done : {i h : ℕ} {x : List ℕ} {u : Tree} {s t v : State} {Told : Tree → Type 0} → IsLeaf x u (tree_of i s) → Stands s → Stands t → Stands v
+    → Gives (without_root i (forest s)) (forest s) i Told → Gives (forest s) (forest t) h (λ y. y ≡ u)
     → KeepsRefusals s t → KeepsRefusals t v → forest v ≡ without_root i (forest t) → IsDone i h x u s v
 leaf_done {i = i} {x = x} {u = u} {s = s} {t = t} {v = v} l ss st sv g c a b e =
     let ends = ends_at (ends_without i c.ends (given_root g)) e in
@@ -251,7 +262,8 @@ leaf_done {i = i} {x = x} {u = u} {s = s} {t = t} {v = v} l ss st sv g c a b e =
     let back : free_of v ≡ free_of t + root_size (symbol x) = released_free st sv b (leaf_goes g c) e ∙ ap (λ (y : Tree). free_of t + size y) same ∙ ap (λ (n : ℕ). free_of t + n) l.bytes in
     record {
       gives = record { tree = c.tree; ends = ends; once = c.once; whole = c.whole; told = c.told ∙ l.told };
-      room = ap (λ (n : ℕ). replacing (free_of s) n (size u) (root_size (symbol x))) l.count ∙ more_room (free_of s) 0 (size u) (root_size (symbol x)) (omega (arith, taken)) ∙ ap Ok (omega (arith, taken, back));
+      room = ap (λ (n : ℕ). replacing (free_of s) n (size u) (root_size (symbol x))) l.count ∙ more_room (free_of s) 0 (size u) (root_size (symbol x)) (omega (arith, taken))
+          ∙ ap Ok (omega (arith, taken, back));
       front = front_kept c.tree ends.whole;
     }
 

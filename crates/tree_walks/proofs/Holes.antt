@@ -50,7 +50,8 @@ below_kids l k r d b =
       live = rw (other, b.live) refl;
       within = rw (other, b.live) b.within;
       tree-is = rw (other, b.live) b.tree-is;
-      fill-is = λ c. ap (λ (y : Forest). tree l y r) (b.fill-is c) ∙ ap (λ (y : Forest). tree l (with_kids b.parent (set_nth b.at c y) k) r) (sym same) ∙ there (set_nth b.at c (kids_of b.parent (tree l k r)));
+      fill-is = λ c. ap (λ (y : Forest). tree l y r) (b.fill-is c) ∙ ap (λ (y : Forest). tree l (with_kids b.parent (set_nth b.at c y) k) r) (sym same)
+          ∙ there (set_nth b.at c (kids_of b.parent (tree l k r)));
       root = λ c. refl;
       payload = λ c. refl;
     }
@@ -68,7 +69,8 @@ below_behind l k r d b =
       live = rw (other, apart, b.live) refl;
       within = rw (other, apart) b.within;
       tree-is = rw (other, apart) b.tree-is;
-      fill-is = λ c. ap (λ (y : Forest). tree l k y) (b.fill-is c) ∙ ap (λ (y : Forest). tree l k (with_kids b.parent (set_nth b.at c y) r)) (sym same) ∙ there (set_nth b.at c (kids_of b.parent (tree l k r)));
+      fill-is = λ c. ap (λ (y : Forest). tree l k y) (b.fill-is c) ∙ ap (λ (y : Forest). tree l k (with_kids b.parent (set_nth b.at c y) r)) (sym same)
+          ∙ there (set_nth b.at c (kids_of b.parent (tree l k r)));
       root = λ c. refl;
       payload = λ c. refl;
     }
@@ -118,7 +120,8 @@ hole_here x l r h o w = record {
 }
 
 -- it stands below the first node, which is no leaf of the name
-hole_below : {x passed rest : List ℕ} {i : ℕ} (l : Label) (k r : Forest) → has_name x l.payload ≡ false → Distinct (tree l k r) → AllOnce (tree l k r) → AllExpressions (tree l k r) → leaves_of x k ≡ passed ++ i ∷ rest → IsHole x k passed i rest → IsHole x (tree l k r) passed i (rest ++ leaves_of x r)
+hole_below : {x passed rest : List ℕ} {i : ℕ} (l : Label) (k r : Forest) → has_name x l.payload ≡ false → Distinct (tree l k r) → AllOnce (tree l k r) → AllExpressions (tree l k r)
+    → leaves_of x k ≡ passed ++ i ∷ rest → IsHole x k passed i rest → IsHole x (tree l k r) passed i (rest ++ leaves_of x r)
 hole_below {x = x} {passed = passed} {rest = rest} {i = i} l k r h d o w e p = record {
   label = p.label;
   id-is = p.id-is;
@@ -146,7 +149,8 @@ hole_behind : {x passed rest : List ℕ} {i : ℕ} (l : Label) (k r : Forest) �
     → IsHole x (tree l k r) (cond (has_name x l.payload) (l.id ∷ []) [] ++ (leaves_of x k ++ passed)) i rest
 hole_behind {x = x} {passed = passed} {rest = rest} l k r d o w p =
     let here = cond (has_name x l.payload) (l.id ∷ []) [] in
-    let many : length (here ++ (leaves_of x k ++ passed)) ≡ leaves_at x l k + length passed = omega (arith, length-append here (leaves_of x k ++ passed), length-append (leaves_of x k) passed, one_or_none (has_name x l.payload) l.id) in
+    let many : length (here ++ (leaves_of x k ++ passed)) ≡ leaves_at x l k + length passed =
+    omega (arith, length-append here (leaves_of x k ++ passed), length-append (leaves_of x k) passed, one_or_none (has_name x l.payload) l.id) in
     record {
       label = p.label;
       id-is = p.id-is;
@@ -157,11 +161,13 @@ hole_behind {x = x} {passed = passed} {rest = rest} l k r d o w p =
         | inl a ↦ inl (record { at = suc a.at; within = omega (arith, a.within); tree-is = a.tree-is; fill-is = λ c. ap (tree l k) (a.fill-is c) })
         | inr b ↦ inr (below_behind l k r d b)
       ];
-      leaves = λ c. ap (λ (ys : List ℕ). here ++ (leaves_of x k ++ ys)) (p.leaves c) ∙ ap (λ (ys : List ℕ). here ++ ys) (sym (append_assoc (leaves_of x k) passed (leaves_of x c ++ rest))) ∙ sym (append_assoc here (leaves_of x k ++ passed) (leaves_of x c ++ rest));
+      leaves = λ c. ap (λ (ys : List ℕ). here ++ (leaves_of x k ++ ys)) (p.leaves c)
+          ∙ ap (λ (ys : List ℕ). here ++ ys) (sym (append_assoc (leaves_of x k) passed (leaves_of x c ++ rest))) ∙ sym (append_assoc here (leaves_of x k ++ passed) (leaves_of x c ++ rest));
       told = λ u c e.
           let n = length (here ++ (leaves_of x k ++ passed)) in
           let m = n + length (leaves_of x c) in
-          let root : later_root x u m l.payload (later x u m k) ≡ later_root x u n l.payload (later x u n k) = later-root x u m l k (omega (arith, many)) ∙ sym (later-root x u n l k (omega (arith, many))) in
+          let root : later_root x u m l.payload (later x u m k) ≡ later_root x u n l.payload (later x u n k) = later-root x u m l k (omega (arith, many))
+          ∙ sym (later-root x u n l k (omega (arith, many))) in
           let now : m - leaves_at x l k ≡ length passed + length (leaves_of x c) = omega (arith, many) in
           let was : length passed ≡ n - leaves_at x l k = omega (arith, many) in
           cc (root, ap (λ (y : ℕ). later x u y (p.fill c)) now ∙ p.told u c e ∙ ap (λ (y : ℕ). later x u y r) was);
@@ -195,7 +201,8 @@ alone : (j i : ℕ) (before rest : List ℕ) → j ∷ [] ≡ before ++ i ∷ re
 alone j i [] rest e = (refl, cc, cc)
 alone j i (b ∷ before) rest e = absurd (omega (arith, ap length e, length-append before (i ∷ rest)))
 
-first_hole : (x : List ℕ) (l : Label) (k r : Forest) (passed rest : List ℕ) (i : ℕ) → k ≡ empty → has_name x l.payload ≡ true → AllOnce (tree l k r) → AllExpressions (tree l k r) → passed ≡ [] → l.id ≡ i → rest ≡ leaves_of x r → IsHole x (tree l k r) passed i rest
+first_hole : (x : List ℕ) (l : Label) (k r : Forest) (passed rest : List ℕ) (i : ℕ) → k ≡ empty → has_name x l.payload ≡ true → AllOnce (tree l k r) → AllExpressions (tree l k r)
+    → passed ≡ [] → l.id ≡ i → rest ≡ leaves_of x r → IsHole x (tree l k r) passed i rest
 first_hole x l empty r passed rest i z h o w p q e = rw (p, sym q, e) (hole_here x l r h o w)
 first_hole x l (tree m j s) r passed rest i z h o w p q e = absurd cc
 

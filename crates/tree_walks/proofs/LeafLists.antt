@@ -19,7 +19,8 @@ pub leaves-join : (x : List ℕ) (f g : Forest) → leaves_of x (join f g) ≡ l
 leaves-join x empty g = refl
 leaves-join x (tree l k r) g =
     let here = cond (has_name x l.payload) (l.id ∷ []) [] in
-    ap (λ (y : List ℕ). here ++ (leaves_of x k ++ y)) (leaves-join x r g) ∙ ap (λ (y : List ℕ). here ++ y) (sym (append_assoc (leaves_of x k) (leaves_of x r) (leaves_of x g))) ∙ sym (append_assoc here (leaves_of x k ++ leaves_of x r) (leaves_of x g))
+    ap (λ (y : List ℕ). here ++ (leaves_of x k ++ y)) (leaves-join x r g) ∙ ap (λ (y : List ℕ). here ++ y) (sym (append_assoc (leaves_of x k) (leaves_of x r) (leaves_of x g)))
+    ∙ sym (append_assoc here (leaves_of x k ++ leaves_of x r) (leaves_of x g))
 
 -- as many as the name occurs, and no more than there are nodes
 pub leaves-named : (x : List ℕ) (f : Forest) → AllExpressions f → length (leaves_of x f) ≡ named_in x f

@@ -23,7 +23,8 @@ mutual
   depths_within none = omega arith
   depths_within (more t ts) = omega (arith, depth_within t, depths_within ts)
 
-pub nodes_behind : (i at end : ℕ) (s : State) → Stands s → holds i (forest s) ≡ true → at ≡ place_of i s.nodes → IsBoundary at s.nodes → end ≡ used s.nodes → at + 8 * nodes_in (tree_at i (forest s)) ≤ end
+pub nodes_behind : (i at end : ℕ) (s : State) → Stands s → holds i (forest s) ≡ true → at ≡ place_of i s.nodes → IsBoundary at s.nodes → end ≡ used s.nodes
+    → at + 8 * nodes_in (tree_at i (forest s)) ≤ end
 nodes_behind i at end s st live e b u =
     let p = before i at s st live e in
     let all = since at s.nodes in

@@ -35,7 +35,8 @@ loop-height-preserved c =
     let room : height < length owed = omega (arith, c.loop-height.invariant.levels, c.if-height-gt-DEPTH_LIMIT.false) in
     record {
       shallow = shallow (walked_deeper w.walked c.loop-height-test.true room (omega (arith, c.if-owed-height-eq0.false)) (next_is c.next.result c.unwrap-node.result _ _ c.next.ensures.steps c.unwrap-node.ensures)) (omega (arith, w.few, c.if-height-gt-DEPTH_LIMIT.false));
-      levels = length-set (set owed (height - 1) (get_or owed (height - 1) 0 - 1)) height c.unwrap-node.result.children ∙ length-set owed (height - 1) (get_or owed (height - 1) 0 - 1) ∙ c.loop-height.invariant.levels;
+      levels = length-set (set owed (height - 1) (get_or owed (height - 1) 0 - 1)) height c.unwrap-node.result.children
+          ∙ length-set owed (height - 1) (get_or owed (height - 1) 0 - 1) ∙ c.loop-height.invariant.levels;
     }
 
 pub returns : goal.returns

@@ -12,7 +12,8 @@ drop_one zero i xs h = absurd (omega arith)
 drop_one (suc n) i xs h = ap (λ (m : ℕ). drop m xs) (omega arith)
 
 -- one more is found
-one_more : {x ids : List ℕ} {v : Visit} {xs left : List Visit} {base : Forest} (all leaves : List ℕ) (n m : ℕ) → IsLooking x xs ids base → xs ≡ v ∷ left → has_name x (payload_in v.id base) ≡ true → all ≡ take n leaves ++ drop m ids → m ≤ 0 → n < 256 → length leaves ≡ 256
+one_more : {x ids : List ℕ} {v : Visit} {xs left : List Visit} {base : Forest} (all leaves : List ℕ) (n m : ℕ) → IsLooking x xs ids base → xs ≡ v ∷ left
+    → has_name x (payload_in v.id base) ≡ true → all ≡ take n leaves ++ drop m ids → m ≤ 0 → n < 256 → length leaves ≡ 256
     → (rest : List ℕ) × IsLooking x left rest base × (all ≡ take (n + 1) (set leaves n v.id) ++ rest)
 one_more {v = v} all leaves n m w e b q z h len =
     let y = (looked w e).here b in

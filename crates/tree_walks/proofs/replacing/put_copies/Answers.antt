@@ -14,8 +14,10 @@ returns-in_err-copy-clause-full c =
     let x = name_of c.args.name in
     let s = c.args.pool.now in
     let src = source c.args.source c.requires.last c.requires.expression c.requires.elsewhere in
-    let l = leaf x (plain (tree_at c.args.source (forest s))) c.requires.stands c.requires.last (ap (λ (i : ℕ). has_name x (payload_in i (forest s))) (sym c.id-root.ensures) ∙ sym c.is_leaf_of.ensures ∙ c.if-is_leaf_of.true) in
-    passed_on c.from_residual.result c.in_err-copy.field-0.0 _ c.from_residual.ensures.0 c.from_residual.ensures.1 (leaf_stopped c.args.tree l (source_in c.requires.last.tree src c.requires.last.ends.whole).bytes c.in_err-copy.ensures.full)
+    let l = leaf x (plain (tree_at c.args.source (forest s))) c.requires.stands c.requires.last
+    (ap (λ (i : ℕ). has_name x (payload_in i (forest s))) (sym c.id-root.ensures) ∙ sym c.is_leaf_of.ensures ∙ c.if-is_leaf_of.true) in
+    passed_on c.from_residual.result c.in_err-copy.field-0.0 _ c.from_residual.ensures.0 c.from_residual.ensures.1
+    (leaf_stopped c.args.tree l (source_in c.requires.last.tree src c.requires.last.ends.whole).bytes c.in_err-copy.ensures.full)
 
 pub release-requires-clause-releasable : goal.release-requires-clause-releasable
 release-requires-clause-releasable c = inl (leaf_goes c.requires.last (c.in_ok-copy.ensures.given c.requires.expression)).root
@@ -24,9 +26,11 @@ leaf_all : (c : goal.After-release) → IsDone c.args.tree c.in_ok-copy.copy (na
 leaf_all c =
     let x = name_of c.args.name in
     let s = c.args.pool.now in
-    let l = leaf x (plain (tree_at c.args.source (forest s))) c.requires.stands c.requires.last (ap (λ (i : ℕ). has_name x (payload_in i (forest s))) (sym c.id-root.ensures) ∙ sym c.is_leaf_of.ensures ∙ c.if-is_leaf_of.true) in
+    let l = leaf x (plain (tree_at c.args.source (forest s))) c.requires.stands c.requires.last
+    (ap (λ (i : ℕ). has_name x (payload_in i (forest s))) (sym c.id-root.ensures) ∙ sym c.is_leaf_of.ensures ∙ c.if-is_leaf_of.true) in
     let given = c.in_ok-copy.ensures.given c.requires.expression in
-    leaf_done l c.requires.stands c.in_ok-copy.ensures.stands c.release.ensures.stands c.requires.last given c.in_ok-copy.ensures.kept c.release.ensures.kept (c.release.ensures.owned (owned (leaf_goes c.requires.last given)))
+    leaf_done l c.requires.stands c.in_ok-copy.ensures.stands c.release.ensures.stands c.requires.last given c.in_ok-copy.ensures.kept c.release.ensures.kept
+    (c.release.ensures.owned (owned (leaf_goes c.requires.last given)))
 
 pub returns-then-is_leaf_of-clause-ok : goal.returns-then-is_leaf_of-clause-ok
 returns-then-is_leaf_of-clause-ok c = (leaf_all c).gives
@@ -59,7 +63,8 @@ pub returns-in_err-put_copy-clause-full : goal.returns-in_err-put_copy-clause-fu
 returns-in_err-put_copy-clause-full c =
     let w = headed c.index-leaves-at.result c.loop-at.invariant c.loop-at-test.true in
     let src = source c.args.source c.requires.last c.requires.expression c.requires.elsewhere in
-    passed_on c.from_residual-in_err-put_copy.result c.in_err-put_copy.field-0.0 _ c.from_residual-in_err-put_copy.ensures.0 c.from_residual-in_err-put_copy.ensures.1 (stopped w (source_in w.now src w.ends.whole).bytes c.in_err-put_copy.ensures.full).told
+    passed_on c.from_residual-in_err-put_copy.result c.in_err-put_copy.field-0.0 _ c.from_residual-in_err-put_copy.ensures.0 c.from_residual-in_err-put_copy.ensures.1
+    (stopped w (source_in w.now src w.ends.whole).bytes c.in_err-put_copy.ensures.full).told
 
 pub returns-in_err-put_copy-clause-front : goal.returns-in_err-put_copy-clause-front
 returns-in_err-put_copy-clause-front c =
@@ -104,7 +109,8 @@ loop-at-smaller c =
     let w = c.loop-at.invariant in
     let src = source c.args.source c.requires.last c.requires.expression c.requires.elsewhere in
     let p = c.in_ok-put_copy.ensures in
-    fewer c.loop-at.passed c.loop-at.at (headed c.index-leaves-at.result w c.loop-at-test.true) (put c.index-leaves-at.result w c.loop-at-test.true src p.ok p.room p.kept p.stands) w.count (more_passed c.loop-at.passed c.loop-at.at _ w.count)
+    fewer c.loop-at.passed c.loop-at.at (headed c.index-leaves-at.result w c.loop-at-test.true)
+    (put c.index-leaves-at.result w c.loop-at-test.true src p.ok p.room p.kept p.stands) w.count (more_passed c.loop-at.passed c.loop-at.at _ w.count)
 
 pub loop-at-preserved : goal.loop-at-preserved
 loop-at-preserved c =
