@@ -114,7 +114,8 @@ mutual
   narrow_levels : (ls : Layouts) → HaveNarrowLeaves ls → (above y : ℕ) → AreNarrow (level_lines above y (pictures ls))
   narrow_levels nothing h above y = tt
   narrow_levels (beside l ls) h above y =
-      narrow_append (level_line above y (picture l)) (level_lines above y (pictures ls)) (narrow_level (picture l) (level above y (picture l).above (height (picture l))) (λ z. narrow_lines l h.0 z)) (narrow_levels ls h.1 above y)
+      narrow_append (level_line above y (picture l)) (level_lines above y (pictures ls))
+      (narrow_level (picture l) (level above y (picture l).above (height (picture l))) (λ z. narrow_lines l h.0 z)) (narrow_levels ls h.1 above y)
 
 -- ---- faces
 

@@ -65,7 +65,8 @@ none_owed n cs h = grind arith
 -- a leaf behind blanks
 pub leaf_inked : (f : Forest) (i n : ℕ) → IsInk f (Leaf i) → encode_utf8_all (inked n (leaf_characters (payload_in i f))) ≡ replicate n 32 ++ leaf_bytes (payload_in i f)
 leaf_inked f i n h =
-    ap encode_utf8_all (inked_some n (leaf_characters (payload_in i f)) h.2) ∙ encodes-append (blanks n) (leaf_characters (payload_in i f)) ∙ ap (λ (x : List ℕ). x ++ encode_utf8_all (leaf_characters (payload_in i f))) (blanks_encoded n)
+    ap encode_utf8_all (inked_some n (leaf_characters (payload_in i f)) h.2) ∙ encodes-append (blanks n) (leaf_characters (payload_in i f))
+    ∙ ap (λ (x : List ℕ). x ++ encode_utf8_all (leaf_characters (payload_in i f))) (blanks_encoded n)
     ∙ ap (λ (x : List ℕ). replicate n 32 ++ x) (leaf_encoded (payload_in i f) h.1 h.2)
 
 -- one character behind blanks

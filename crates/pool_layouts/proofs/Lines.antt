@@ -161,7 +161,15 @@ mutual
       (omega (arith, bytes-append (32 ∷ []) (roof (picture a).width), bytes-small (32 ∷ []) (omega arith, tt), bytes-small (roof (picture a).width) (replicate_small (picture a).width 95 (omega arith)), roof_long (picture a).width))
       (omega (arith, root_bytes (nat_eq y ((picture a).above + 1)) ((picture a).line (y - 1)), lines_bytes a h (y - 1)))
   lines_bytes (paren a) h y =
-      omega (arith, bytes-append (codes "(") ((picture a).line y ++ codes ")"), bytes-append ((picture a).line y) (codes ")"), bytes-small (codes "(") (omega arith, tt), bytes-small (codes ")") (omega arith, tt), lines_bytes a h y)
+      omega (
+        arith,
+        bytes-append (codes "(") ((picture a).line y ++ codes ")"),
+        bytes-append ((picture a).line y) (codes ")"),
+        bytes-small
+            (codes "(") (omega arith, tt),
+        bytes-small (codes ")") (omega arith, tt),
+        lines_bytes a h y,
+      )
 
   pub levels_bytes : (ls : Layouts) → HaveSmallLeaves ls → (above y : ℕ) → length (encode_utf8_all (level_lines above y (pictures ls))) ≤ widths (pictures ls) + 2 * all_signs ls
   levels_bytes nothing h above y = omega arith

@@ -37,7 +37,8 @@ pub record IsBounded (b : Block) (nodes bytes : ℕ) : Type 0 where
   pub width : b.width ≤ 2 * bytes
   pub rows : b.above + 1 + b.below ≤ suc nodes
 
-fraction_bounded : (k : Forest) (ls : Layouts) → drawings k ≡ ls → nat_eq (arity k) 2 ≡ true → widths (blocks_of k) ≤ 2 * bytes_in k → heights (blocks_of k) ≤ nodes_in k → IsBounded (picture (composed kind.Fraction (drawings k))) (nodes_in k) (size_of_payload (bare kind.Fraction) + bytes_in k)
+fraction_bounded : (k : Forest) (ls : Layouts) → drawings k ≡ ls → nat_eq (arity k) 2 ≡ true → widths (blocks_of k) ≤ 2 * bytes_in k → heights (blocks_of k) ≤ nodes_in k
+    → IsBounded (picture (composed kind.Fraction (drawings k))) (nodes_in k) (size_of_payload (bare kind.Fraction) + bytes_in k)
 fraction_bounded empty ls e h w n = absurd cc
 fraction_bounded (tree l a empty) ls e h w n = absurd cc
 fraction_bounded (tree l a (tree m b empty)) ls e h w n = record { width = omega (arith, w); rows = omega (arith, n) }
@@ -49,7 +50,8 @@ one_bounded j empty size h w n e = absurd cc
 one_bounded j (tree l a empty) size h w n e = e (drawn l.payload (drawings a)) w n
 one_bounded j (tree l a (tree m b r)) size h w n e = absurd (omega (arith, eqb-true (arity (tree l a (tree m b r))) 1 h))
 
-composed_bounded : (j : Kind) (k : Forest) → composes_kind j (arity k) ≡ true → widths (blocks_of k) ≤ 2 * bytes_in k → heights (blocks_of k) ≤ nodes_in k → IsBounded (picture (composed j (drawings k))) (nodes_in k) (size_of_payload (bare j) + bytes_in k)
+composed_bounded : (j : Kind) (k : Forest) → composes_kind j (arity k) ≡ true → widths (blocks_of k) ≤ 2 * bytes_in k → heights (blocks_of k) ≤ nodes_in k
+    → IsBounded (picture (composed j (drawings k))) (nodes_in k) (size_of_payload (bare j) + bytes_in k)
 composed_bounded kind.Plus k h w n = record { width = omega arith; rows = omega arith }
 composed_bounded kind.Minus k h w n = record { width = omega arith; rows = omega arith }
 composed_bounded kind.Times k h w n = record { width = omega arith; rows = omega arith }
@@ -64,7 +66,8 @@ composed_bounded j k h w n = absurd cc
 pub digits_fit : (r : Ratio) → IsRat r → length (decimal (nat_abs (lowest r.num r.den).num)) ≤ 2 * size_of_payload (rational r)
 digits_fit r p = grind (arith, numerator_is, number_text)
 
-pub drawn_bounded : (x : Payload) (k : Forest) → composes x (arity k) ≡ true → IsPayload x → widths (blocks_of k) ≤ 2 * bytes_in k → heights (blocks_of k) ≤ nodes_in k → IsBounded (block_of x k) (nodes_in k) (size_of_payload x + bytes_in k)
+pub drawn_bounded : (x : Payload) (k : Forest) → composes x (arity k) ≡ true → IsPayload x → widths (blocks_of k) ≤ 2 * bytes_in k → heights (blocks_of k) ≤ nodes_in k
+    → IsBounded (block_of x k) (nodes_in k) (size_of_payload x + bytes_in k)
 drawn_bounded x k h p w n = grind (arith, digits_fit, composed_bounded)
 
 pub record AreBounded (f : Forest) : Type 0 where
@@ -106,13 +109,15 @@ extents_length (tree l k r) = omega (arith, length-append (extents_of k) (extent
 
 pub extents-join : (f g : Forest) → extents_of (join f g) ≡ extents_of f ++ extents_of g
 extents-join empty g = refl
-extents-join (tree l k r) g = ap (λ (x : List Extent). extent_of l.payload k ∷ x) (ap (λ (x : List Extent). extents_of k ++ x) (extents-join r g) ∙ sym (append_assoc (extents_of k) (extents_of r) (extents_of g)))
+extents-join (tree l k r) g = ap (λ (x : List Extent). extent_of l.payload k ∷ x)
+    (ap (λ (x : List Extent). extents_of k ++ x) (extents-join r g) ∙ sym (append_assoc (extents_of k) (extents_of r) (extents_of g)))
 
 -- behind the first tree stand the others
 pub behind_first : (l : Label) (k r : Forest) (first : ℕ) (es : List Extent) → HasSmall (tree l k r) first es → HasSmall r (first + suc (nodes_in k)) es
 behind_first l k r first es h = record {
   behind = h.behind;
-  extents_are = sym (drop-drop (suc (nodes_in k)) first es) ∙ ap (drop (suc (nodes_in k))) (h.extents_are ∙ ap (λ (x : List Extent). extent_of l.payload k ∷ x) (append_assoc (extents_of k) (extents_of r) h.behind))
+  extents_are = sym (drop-drop (suc (nodes_in k)) first es)
+      ∙ ap (drop (suc (nodes_in k))) (h.extents_are ∙ ap (λ (x : List Extent). extent_of l.payload k ∷ x) (append_assoc (extents_of k) (extents_of r) h.behind))
       ∙ drop_at (extent_of l.payload k ∷ extents_of k) (extents_of r ++ h.behind) (suc (nodes_in k)) (ap suc (extents_length k));
   composed_parts = h.composed_parts.2;
   valid_parts = h.valid_parts.2;
@@ -132,7 +137,8 @@ first_small l k r first es h = small_first l k r h.composed_parts h.valid_parts 
 
 -- ---- a node by its kind
 
-pub extent_same : (n m w v a b d e : ℕ) → n ≡ m → w ≡ v → a ≡ b → d ≡ e → (let r : Extent = record { nodes = n; width = w; above = a; below = d } in r) ≡ (let s : Extent = record { nodes = m; width = v; above = b; below = e } in s)
+pub extent_same : (n m w v a b d e : ℕ) → n ≡ m → w ≡ v → a ≡ b → d ≡ e
+    → (let r : Extent = record { nodes = n; width = w; above = a; below = d } in r) ≡ (let s : Extent = record { nodes = m; width = v; above = b; below = e } in s)
 extent_same n m w v a b d e p q r s = grind arith
 
 -- one part
@@ -165,7 +171,8 @@ pub bare_of : (x : Payload) (j : Kind) → IsPayload x → is_bare j ≡ true �
 bare_of x j p b e = grind arith
 
 -- a leaf
-pub leaf_extent : (x : Payload) (k : Forest) → IsPayload x → composes x (arity k) ≡ true → (kind_of_payload x ≡ kind.Row → ⊥) → (kind_of_payload x ≡ kind.Fraction → ⊥) → (kind_of_payload x ≡ kind.Raised → ⊥) → (kind_of_payload x ≡ kind.Radical → ⊥) → (kind_of_payload x ≡ kind.Paren → ⊥)
+pub leaf_extent : (x : Payload) (k : Forest) → IsPayload x → composes x (arity k) ≡ true → (kind_of_payload x ≡ kind.Row → ⊥) → (kind_of_payload x ≡ kind.Fraction → ⊥)
+    → (kind_of_payload x ≡ kind.Raised → ⊥) → (kind_of_payload x ≡ kind.Radical → ⊥) → (kind_of_payload x ≡ kind.Paren → ⊥)
     → (let r : Extent = record { nodes = 1; width = leaf_width x; above = 0; below = 0 } in r) ≡ extent_of x k
 leaf_extent (rational r) empty p c a b d e f = extent_same 1 1 _ _ 0 0 0 0 refl (ap (λ (z : ℤ). length (decimal (nat_abs z))) (sym (numerator_is r p))) refl refl
 leaf_extent (rational r) (tree l k s) p c a b d e f = absurd (omega (arith, eqb-true (arity (tree l k s)) 0 c))
@@ -193,7 +200,8 @@ pub record IsOneOver (j : Kind) (x : Payload) (k : Forest) (first : ℕ) (es : L
   pub payload_is : x ≡ bare j
   pub small : HasSmall (tree label below empty) first es
 
-pub over_one : {x : Payload} {k : Forest} {first : ℕ} {es : List Extent} (j : Kind) → ((n : ℕ) → composes_kind j n ≡ nat_eq n 1) → is_bare j ≡ true → IsOver x k first es → kind_of_payload x ≡ j → IsOneOver j x k first es
+pub over_one : {x : Payload} {k : Forest} {first : ℕ} {es : List Extent} (j : Kind) → ((n : ℕ) → composes_kind j n ≡ nat_eq n 1) → is_bare j ≡ true → IsOver x k first es
+    → kind_of_payload x ≡ j → IsOneOver j x k first es
 over_one {x = x} {k = k} {first = first} {es = es} j n b o e =
     let is : x ≡ bare j = bare_of x j o.payload b e in
     let one = one_part_of j x k is (sym (n (arity k)) ∙ ap (λ (y : Payload). composes y (arity k)) (sym is) ∙ o.composed_node) in
@@ -221,20 +229,25 @@ pair_over t = record { upper = t.upper; above = t.above; others = empty; small =
 pub one_extent : {j : Kind} {x : Payload} {k : Forest} {first : ℕ} {es : List Extent} (o : IsOneOver j x k first es) → extent_of (bare j) (tree o.label o.below empty) ≡ extent_of x k
 one_extent {x = x} o = ap (λ (y : Payload). extent_of y (tree o.label o.below empty)) (sym o.payload_is) ∙ ap (extent_of x) (sym o.part_is)
 
-pub two_extent : {x : Payload} {k : Forest} {first : ℕ} {es : List Extent} (t : IsTwoOver x k first es) → extent_of (bare kind.Fraction) (tree t.upper t.above (tree t.lower t.below empty)) ≡ extent_of x k
+pub two_extent : {x : Payload} {k : Forest} {first : ℕ} {es : List Extent} (t : IsTwoOver x k first es)
+    → extent_of (bare kind.Fraction) (tree t.upper t.above (tree t.lower t.below empty)) ≡ extent_of x k
 two_extent {x = x} t = ap (λ (y : Payload). extent_of y (tree t.upper t.above (tree t.lower t.below empty))) (sym t.payload_is) ∙ ap (extent_of x) (sym t.parts_are)
 
-pub raised_is : (l : Label) (b : Forest) (e new : Extent) → e ≡ extent_of l.payload b → new ≡ (record { nodes = 1 + e.nodes; width = e.width; above = e.above + 1 + e.below; below = 0 }) → new ≡ extent_of (bare kind.Raised) (tree l b empty)
+pub raised_is : (l : Label) (b : Forest) (e new : Extent) → e ≡ extent_of l.payload b
+    → new ≡ (record { nodes = 1 + e.nodes; width = e.width; above = e.above + 1 + e.below; below = 0 }) → new ≡ extent_of (bare kind.Raised) (tree l b empty)
 raised_is l b e new h g = grind arith
 
-pub radical_is : (l : Label) (b : Forest) (e new : Extent) → e ≡ extent_of l.payload b → new ≡ (record { nodes = 1 + e.nodes; width = 1 + e.width; above = e.above + 1; below = e.below }) → new ≡ extent_of (bare kind.Radical) (tree l b empty)
+pub radical_is : (l : Label) (b : Forest) (e new : Extent) → e ≡ extent_of l.payload b
+    → new ≡ (record { nodes = 1 + e.nodes; width = 1 + e.width; above = e.above + 1; below = e.below }) → new ≡ extent_of (bare kind.Radical) (tree l b empty)
 radical_is l b e new h g = grind arith
 
-pub paren_is : (l : Label) (b : Forest) (e new : Extent) → e ≡ extent_of l.payload b → new ≡ (record { nodes = 1 + e.nodes; width = e.width + 2; above = e.above; below = e.below }) → new ≡ extent_of (bare kind.Paren) (tree l b empty)
+pub paren_is : (l : Label) (b : Forest) (e new : Extent) → e ≡ extent_of l.payload b → new ≡ (record { nodes = 1 + e.nodes; width = e.width + 2; above = e.above; below = e.below })
+    → new ≡ extent_of (bare kind.Paren) (tree l b empty)
 paren_is l b e new h g = grind arith
 
 pub fraction_is : (l : Label) (a : Forest) (m : Label) (b : Forest) (d e new : Extent) → d ≡ extent_of l.payload a → e ≡ extent_of m.payload b
-    → new ≡ (record { nodes = 1 + d.nodes + e.nodes; width = max d.width e.width; above = d.above + 1 + d.below; below = e.above + 1 + e.below }) → new ≡ extent_of (bare kind.Fraction) (tree l a (tree m b empty))
+    → new ≡ (record { nodes = 1 + d.nodes + e.nodes; width = max d.width e.width; above = d.above + 1 + d.below; below = e.above + 1 + e.below })
+    → new ≡ extent_of (bare kind.Fraction) (tree l a (tree m b empty))
 fraction_is l a m b d e new h i g = grind arith
 
 pub row_is : (x : Payload) (k : Forest) → IsPayload x → kind_of_payload x ≡ kind.Row → extent_from (1 + nodes_in k) (side_by_side (pictures (drawings k))) ≡ extent_of x k
@@ -242,7 +255,8 @@ row_is x k p e = extent_same _ _ _ _ _ _ _ _ (omega arith) refl refl refl ∙ ap
 
 -- ---- the line of a leaf
 
-pub leaf_line : (x : Payload) (k : Forest) (y : ℕ) → IsPayload x → composes x (arity k) ≡ true → (kind_of_payload x ≡ kind.Row → ⊥) → (kind_of_payload x ≡ kind.Fraction → ⊥) → (kind_of_payload x ≡ kind.Raised → ⊥) → (kind_of_payload x ≡ kind.Radical → ⊥) → (kind_of_payload x ≡ kind.Paren → ⊥)
+pub leaf_line : (x : Payload) (k : Forest) (y : ℕ) → IsPayload x → composes x (arity k) ≡ true → (kind_of_payload x ≡ kind.Row → ⊥) → (kind_of_payload x ≡ kind.Fraction → ⊥)
+    → (kind_of_payload x ≡ kind.Raised → ⊥) → (kind_of_payload x ≡ kind.Radical → ⊥) → (kind_of_payload x ≡ kind.Paren → ⊥)
     → (block_of x k).line y ≡ leaf_characters x
 leaf_line x k y p c a b d e f = grind (arith, numerator_is)
 
@@ -252,7 +266,8 @@ some_list xs h e = grind arith
 name_some : (x : List ℕ) → begins_with_letter x ≡ true → x ≢ []
 name_some x h e = grind arith
 
-pub leaf_some : (x : Payload) (k : Forest) → IsPayload x → composes x (arity k) ≡ true → (kind_of_payload x ≡ kind.Row → ⊥) → (kind_of_payload x ≡ kind.Fraction → ⊥) → (kind_of_payload x ≡ kind.Raised → ⊥) → (kind_of_payload x ≡ kind.Radical → ⊥) → (kind_of_payload x ≡ kind.Paren → ⊥)
+pub leaf_some : (x : Payload) (k : Forest) → IsPayload x → composes x (arity k) ≡ true → (kind_of_payload x ≡ kind.Row → ⊥) → (kind_of_payload x ≡ kind.Fraction → ⊥)
+    → (kind_of_payload x ≡ kind.Raised → ⊥) → (kind_of_payload x ≡ kind.Radical → ⊥) → (kind_of_payload x ≡ kind.Paren → ⊥)
     → leaf_characters x ≢ []
 leaf_some (rational r) k p c a b d e f = some_list (decimal (nat_abs r.num)) (decimal_is (nat_abs r.num)).some
 leaf_some (named x) k p c a b d e f = name_some x (spelled x p).begins

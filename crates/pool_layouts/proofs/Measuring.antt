@@ -11,7 +11,8 @@ tree_bytes : (f : Forest) (i : ℕ) → bytes_in (tree_at i f) ≤ bytes_in f
 tree_bytes empty i = omega arith
 tree_bytes (tree l k r) i = by (eqb l.id i) (holds i k) (tree_bytes k i) (tree_bytes r i)
   where
-    by : (a b : Bool) → bytes_in (tree_at i k) ≤ bytes_in k → bytes_in (tree_at i r) ≤ bytes_in r → bytes_in (if a then tree l k empty else (if b then tree_at i k else tree_at i r)) ≤ bytes_in (tree l k r)
+    by : (a b : Bool) → bytes_in (tree_at i k) ≤ bytes_in k → bytes_in (tree_at i r) ≤ bytes_in r
+        → bytes_in (if a then tree l k empty else (if b then tree_at i k else tree_at i r)) ≤ bytes_in (tree l k r)
     by true b h g = omega arith
     by false true h g = omega (arith, h)
     by false false h g = omega (arith, g)
@@ -52,9 +53,11 @@ measuring s i at cells es st x e some within h =
     let composed_here : AllComposed (tree here.label here.below here.others) = subst AllComposed here.here (after_all IsComposed n t x.composed_whole) in
     let valid_here : AllValid (tree here.label here.below here.others) = subst AllValid here.here (after_all IsValid n t (valid s i st x.live)) in
     let known_here : AllNodes (IsKnown (forest s)) (tree here.label here.below here.others) = subst (AllNodes (IsKnown (forest s))) here.here (after_all (IsKnown (forest s)) n t (known s i st)) in
-    let cells_here : drop n cells ≡ map visit_of (flatten (tree here.label here.below here.others)) = ap (drop n) e ∙ drop-map visit_of n (flatten t) ∙ ap (map visit_of) (sym (after_flat n t) ∙ ap flatten here.here) in
+    let cells_here : drop n cells ≡ map visit_of (flatten (tree here.label here.below here.others)) = ap (drop n) e ∙ drop-map visit_of n (flatten t)
+    ∙ ap (map visit_of) (sym (after_flat n t) ∙ ap flatten here.here) in
     let listed_here : drop at es ≡ extents_of here.below ++ (extents_of here.others ++ h.behind)
-    = h.extents_are ∙ ap (λ (f : Forest). extents_of f ++ h.behind) below_is ∙ ap (λ (y : List Extent). y ++ h.behind) (extents-join here.below here.others) ∙ append_assoc (extents_of here.below) (extents_of here.others) h.behind in
+    = h.extents_are ∙ ap (λ (f : Forest). extents_of f ++ h.behind) below_is ∙ ap (λ (y : List Extent). y ++ h.behind) (extents-join here.below here.others)
+    ∙ append_assoc (extents_of here.below) (extents_of here.others) h.behind in
     let few : bytes_in (tree here.label here.below here.others) ≤ 524280 = omega (arith, ap bytes_in here.here, after_bytes n t, few_bytes s i st x.live) in
     record {
       label = here.label;
@@ -69,7 +72,8 @@ measuring s i at cells es st x e some within h =
       };
       listed = λ y q inside. record {
         behind = h.behind;
-        extents_are = drop-set es n y inside ∙ ap (λ (z : Extent). z ∷ drop (n + 1) es) q ∙ ap (λ (m : ℕ). extent_of here.label.payload here.below ∷ drop m es) (let same : n + 1 ≡ at = omega (arith, some) in same)
+        extents_are = drop-set es n y inside ∙ ap (λ (z : Extent). z ∷ drop (n + 1) es) q
+            ∙ ap (λ (m : ℕ). extent_of here.label.payload here.below ∷ drop m es) (let same : n + 1 ≡ at = omega (arith, some) in same)
             ∙ ap (λ (ys : List Extent). extent_of here.label.payload here.below ∷ ys) (listed_here ∙ sym (append_assoc (extents_of here.below) (extents_of here.others) h.behind))
             ∙ ap (λ (f : Forest). extents_of f ++ h.behind) (sym here.here);
       };
@@ -108,5 +112,6 @@ measured s i es st x h =
 pub measured_first : (s : State) (i : ℕ) (es : List Extent) → IsMeasured s i es → HasSomeFirst 0 es
 measured_first s i es m = (m.label, m.below, empty, m.small)
 
-pub rows_are : (s : State) (i : ℕ) (es : List Extent) (e : Extent) (m : IsMeasured s i es) → e ≡ extent_of m.label.payload m.below → e.above + 1 + e.below ≡ height (picture (drawing (tree_at i (forest s))))
+pub rows_are : (s : State) (i : ℕ) (es : List Extent) (e : Extent) (m : IsMeasured s i es) → e ≡ extent_of m.label.payload m.below
+    → e.above + 1 + e.below ≡ height (picture (drawing (tree_at i (forest s))))
 rows_are s i es e m q = grind arith

@@ -81,7 +81,8 @@ mutual
   lines_black (beside l ls) e f h =
       let a : (picture l).above ≡ 0 = omega (arith, e) in
       let b : (picture l).below ≡ 0 = omega (arith, f) in
-      black_append (level_line 0 0 (picture l)) (level_lines 0 0 (pictures ls)) (subst IsBlack (sym (in_line (picture l) a b)) (line_black l a b h.0)) (lines_black ls (omega (arith, e)) (omega (arith, f)) h.1)
+      black_append (level_line 0 0 (picture l)) (level_lines 0 0 (pictures ls)) (subst IsBlack (sym (in_line (picture l) a b)) (line_black l a b h.0))
+      (lines_black ls (omega (arith, e)) (omega (arith, f)) h.1)
 
 cut_whole : (cs : List ℕ) → IsBlack cs → cut cs ≡ cs
 cut_whole [] h = refl
@@ -202,16 +203,19 @@ mutual
   flat_terms : (ts : Trees) → AreDefined ts → AreFlat (layout_of_terms ts) → serials (layout_of_terms ts) ≡ text_of_terms ts
   flat_terms none d h = refl
   flat_terms (more t ts) d h =
-      ap (λ (x : List ℕ). codes "+" ++ x) (both (serial (boxed later_of_sum t (layout t))) (at_place later_of_sum t (text t)) _ _ (boxed_text later_of_sum t h.1.0 (λ k. flat_text t d.0 k)) (flat_terms ts d.1 h.1.1))
+      ap (λ (x : List ℕ). codes "+" ++ x)
+      (both (serial (boxed later_of_sum t (layout t))) (at_place later_of_sum t (text t)) _ _ (boxed_text later_of_sum t h.1.0 (λ k. flat_text t d.0 k)) (flat_terms ts d.1 h.1.1))
 
   flat_product : (ts : Trees) → AreDefined ts → AreFlat (layout_of_product ts) → serials (layout_of_product ts) ≡ text_of_product ts
   flat_product none d h = refl
-  flat_product (more t ts) d h = both (serial (boxed first_of_product t (layout t))) (at_place first_of_product t (text t)) _ _ (boxed_text first_of_product t h.0 (λ k. flat_text t d.0 k)) (flat_factors ts d.1 h.1)
+  flat_product (more t ts) d h =
+      both (serial (boxed first_of_product t (layout t))) (at_place first_of_product t (text t)) _ _ (boxed_text first_of_product t h.0 (λ k. flat_text t d.0 k)) (flat_factors ts d.1 h.1)
 
   flat_factors : (ts : Trees) → AreDefined ts → AreFlat (layout_of_factors ts) → serials (layout_of_factors ts) ≡ text_of_factors ts
   flat_factors none d h = refl
   flat_factors (more t ts) d h =
-      ap (λ (x : List ℕ). times_sign ++ x) (both (serial (boxed later_of_product t (layout t))) (at_place later_of_product t (text t)) _ _ (boxed_text later_of_product t h.1.0 (λ k. flat_text t d.0 k)) (flat_factors ts d.1 h.1.1))
+      ap (λ (x : List ℕ). times_sign ++ x)
+      (both (serial (boxed later_of_product t (layout t))) (at_place later_of_product t (text t)) _ _ (boxed_text later_of_product t h.1.0 (λ k. flat_text t d.0 k)) (flat_factors ts d.1 h.1.1))
 
 pub one_line_text : (u : Tree) → IsDefined u → IsWritable u → height (picture (layout u)) ≡ 1 → encode_utf8_all (cut ((picture (layout u)).line 0)) ≡ text u
 one_line_text u d w h =

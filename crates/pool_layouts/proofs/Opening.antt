@@ -16,11 +16,14 @@ use Rattle.pool_layouts.specs.declared.steps.Step.TheVariants as step
 -- ---- spans
 
 -- the first tree of a span
-pub span_first : {base : Forest} {cells : List Visit} {es : List Extent} {span : Span} (l : Label) (k r : Forest) (end : ℕ) → IsSpanOf base cells es (tree l k r) span → end ≡ span.at + suc (nodes_in k) → IsSpanOf base cells es (tree l k empty) (span_of span.at end)
+pub span_first : {base : Forest} {cells : List Visit} {es : List Extent} {span : Span} (l : Label) (k r : Forest) (end : ℕ) → IsSpanOf base cells es (tree l k r) span
+    → end ≡ span.at + suc (nodes_in k) → IsSpanOf base cells es (tree l k empty) (span_of span.at end)
 span_first l k r end s e = record {
   small = record {
     behind = extents_of r ++ s.small.behind;
-    extents_are = s.small.extents_are ∙ ap (λ (x : List Extent). extent_of l.payload k ∷ x) (append_assoc (extents_of k) (extents_of r) s.small.behind ∙ ap (λ (x : List Extent). x ++ (extents_of r ++ s.small.behind)) (sym (append-nil (extents_of k))));
+    extents_are = s.small.extents_are
+        ∙ ap (λ (x : List Extent). extent_of l.payload k ∷ x)
+        (append_assoc (extents_of k) (extents_of r) s.small.behind ∙ ap (λ (x : List Extent). x ++ (extents_of r ++ s.small.behind)) (sym (append-nil (extents_of k))));
     composed_parts = (s.small.composed_parts.0, s.small.composed_parts.1, tt);
     valid_parts = (s.small.valid_parts.0, s.small.valid_parts.1, tt);
     few = omega (arith, s.small.few);
@@ -34,34 +37,40 @@ span_first l k r end s e = record {
 }
 
 -- the trees behind it
-pub span_rest : {base : Forest} {cells : List Visit} {es : List Extent} {span : Span} (l : Label) (k r : Forest) (at : ℕ) → IsSpanOf base cells es (tree l k r) span → at ≡ span.at + suc (nodes_in k) → IsSpanOf base cells es r (span_of at span.end)
+pub span_rest : {base : Forest} {cells : List Visit} {es : List Extent} {span : Span} (l : Label) (k r : Forest) (at : ℕ) → IsSpanOf base cells es (tree l k r) span
+    → at ≡ span.at + suc (nodes_in k) → IsSpanOf base cells es r (span_of at span.end)
 span_rest {cells = cells} {es = es} {span = span} l k r at s e = record {
   small = subst (λ (n : ℕ). HasSmall r n es) (sym e) (behind_first l k r span.at es s.small);
   cells_behind = s.cells_behind;
   cells_are = ap (λ (n : ℕ). drop n cells) e ∙ sym (drop-drop (suc (nodes_in k)) span.at cells) ∙ ap (drop (suc (nodes_in k))) s.cells_are
-      ∙ ap (λ (x : List Visit). drop (suc (nodes_in k)) (visit_of (node_of l k) ∷ x)) (ap (λ (x : List Visit). x ++ s.cells_behind) (map-append visit_of (flatten k) (flatten r)) ∙ append_assoc (visits_of k) (visits_of r) s.cells_behind)
+      ∙ ap (λ (x : List Visit). drop (suc (nodes_in k)) (visit_of (node_of l k) ∷ x))
+      (ap (λ (x : List Visit). x ++ s.cells_behind) (map-append visit_of (flatten k) (flatten r)) ∙ append_assoc (visits_of k) (visits_of r) s.cells_behind)
       ∙ drop_at (visit_of (node_of l k) ∷ visits_of k) (visits_of r ++ s.cells_behind) (suc (nodes_in k)) (ap suc (visits_length k));
   found = s.found.2;
   end_is = omega (arith, s.end_is, e);
 }
 
 -- the parts of a layout
-pub span_below : {base : Forest} {cells : List Visit} {es : List Extent} {span : Span} (l : Label) (k : Forest) → IsSpanOf base cells es (tree l k empty) span → IsSpanOf base cells es k (span_of (span.at + 1) span.end)
+pub span_below : {base : Forest} {cells : List Visit} {es : List Extent} {span : Span} (l : Label) (k : Forest) → IsSpanOf base cells es (tree l k empty) span
+    → IsSpanOf base cells es k (span_of (span.at + 1) span.end)
 span_below {cells = cells} {es = es} {span = span} l k s = record {
   small = record {
     behind = s.small.behind;
-    extents_are = others_read es ((extents_of k ++ []) ++ s.small.behind) span.at (extent_of l.payload k) s.small.extents_are ∙ ap (λ (x : List Extent). x ++ s.small.behind) (append-nil (extents_of k));
+    extents_are = others_read es ((extents_of k ++ []) ++ s.small.behind) span.at (extent_of l.payload k) s.small.extents_are
+        ∙ ap (λ (x : List Extent). x ++ s.small.behind) (append-nil (extents_of k));
     composed_parts = s.small.composed_parts.1;
     valid_parts = s.small.valid_parts.1;
     few = omega (arith, s.small.few);
   };
   cells_behind = s.cells_behind;
-  cells_are = others_are cells (map visit_of (flatten k ++ []) ++ s.cells_behind) span.at (visit_of (node_of l k)) s.cells_are ∙ ap (λ (x : List Node). map visit_of x ++ s.cells_behind) (append-nil (flatten k));
+  cells_are = others_are cells (map visit_of (flatten k ++ []) ++ s.cells_behind) span.at (visit_of (node_of l k)) s.cells_are
+      ∙ ap (λ (x : List Node). map visit_of x ++ s.cells_behind) (append-nil (flatten k));
   found = s.found.1;
   end_is = omega (arith, s.end_is);
 }
 
-pub cell_here : {base : Forest} {cells : List Visit} {es : List Extent} {span : Span} (l : Label) (k : Forest) (d : Visit) → IsSpanOf base cells es (tree l k empty) span → get_or cells span.at d ≡ visit_of (node_of l k)
+pub cell_here : {base : Forest} {cells : List Visit} {es : List Extent} {span : Span} (l : Label) (k : Forest) (d : Visit) → IsSpanOf base cells es (tree l k empty) span
+    → get_or cells span.at d ≡ visit_of (node_of l k)
 cell_here {cells = cells} {span = span} l k d s = first_is cells (map visit_of (flatten k ++ []) ++ s.cells_behind) span.at (visit_of (node_of l k)) d s.cells_are
 
 pub cell_inside : {base : Forest} {cells : List Visit} {es : List Extent} {span : Span} (l : Label) (k r : Forest) → IsSpanOf base cells es (tree l k r) span → span.at < length cells
@@ -73,7 +82,8 @@ is_over l k s = record { small = (span_below l k s).small; payload = s.small.val
 
 -- ---- a step that opens to blanks and ink alone
 
-alone : {base : Forest} {cells : List Visit} {es : List Extent} {s : Step} {cs : List ℕ} (n : ℕ) (ink : Ink) → cs ≡ blanks n ++ ink_characters base ink → 0 < weight s → IsInk base ink → Opens base cells es s cs (opened n ink None None)
+alone : {base : Forest} {cells : List Visit} {es : List Extent} {s : Step} {cs : List ℕ} (n : ℕ) (ink : Ink) → cs ≡ blanks n ++ ink_characters base ink → 0 < weight s
+    → IsInk base ink → Opens base cells es s cs (opened n ink None None)
 alone {base = base} n ink e h i = record {
   first = [];
   second = [];
@@ -88,10 +98,12 @@ alone {base = base} n ink e h i = record {
 -- ---- a choice
 
 module _ {base : Forest} {cells : List Visit} {es : List Extent} {s : Step} {cs : List ℕ} where
-  pub choose : (t : Bool) (a b : Opened) (x y : List ℕ) → cs ≡ (if t then x else y) → (cs ≡ x → Opens base cells es s cs a) → (cs ≡ y → Opens base cells es s cs b) → Opens base cells es s cs (if t then a else b)
+  pub choose : (t : Bool) (a b : Opened) (x y : List ℕ) → cs ≡ (if t then x else y) → (cs ≡ x → Opens base cells es s cs a) → (cs ≡ y → Opens base cells es s cs b)
+      → Opens base cells es s cs (if t then a else b)
   choose t a b x y e f g = grind arith
 
-  pub choose_level : (o p : Option ℕ) (a : ℕ → Opened) (b : Opened) (block : Block) (rest : List ℕ) → o ≡ p → cs ≡ line_or_blanks block o ++ rest → ((z : ℕ) → p ≡ Some z → cs ≡ block.line z ++ rest → Opens base cells es s cs (a z)) → (cs ≡ blanks block.width ++ rest → Opens base cells es s cs b)
+  pub choose_level : (o p : Option ℕ) (a : ℕ → Opened) (b : Opened) (block : Block) (rest : List ℕ) → o ≡ p → cs ≡ line_or_blanks block o ++ rest
+      → ((z : ℕ) → p ≡ Some z → cs ≡ block.line z ++ rest → Opens base cells es s cs (a z)) → (cs ≡ blanks block.width ++ rest → Opens base cells es s cs b)
       → Opens base cells es s cs (elim o [ Some z ↦ a z | None ↦ b ])
   choose_level o p a b block rest q e f g = grind arith
 
@@ -104,10 +116,13 @@ level_small above y own_above own_height z e = grind arith
 
 -- ---- layouts side by side
 
-level_if_opens : {base : Forest} {cells : List Visit} {es : List Extent} (r : Forest) (at end above y : ℕ) → IsSpanOf base cells es r (span_of at end) → above ≤ 2 ^ 20 → y ≤ 2 ^ 22 → ShowsIf base cells es (level_if at end above y) (level_lines above y (blocks_of r))
-level_if_opens {base = base} {cells = cells} {es = es} empty at end above y s a b = subst (λ (t : Bool). ShowsIf base cells es (if t then Some (step.Level (span_of at end) above y) else None) []) (sym (le-ltb at end (omega (arith, s.end_is)))) refl
+level_if_opens : {base : Forest} {cells : List Visit} {es : List Extent} (r : Forest) (at end above y : ℕ) → IsSpanOf base cells es r (span_of at end) → above ≤ 2 ^ 20 → y ≤ 2 ^ 22
+    → ShowsIf base cells es (level_if at end above y) (level_lines above y (blocks_of r))
+level_if_opens {base = base} {cells = cells} {es = es} empty at end above y s a b =
+    subst (λ (t : Bool). ShowsIf base cells es (if t then Some (step.Level (span_of at end) above y) else None) []) (sym (le-ltb at end (omega (arith, s.end_is)))) refl
 level_if_opens {base = base} {cells = cells} {es = es} (tree l k r) at end above y s a b =
-    subst (λ (t : Bool). ShowsIf base cells es (if t then Some (step.Level (span_of at end) above y) else None) (level_lines above y (blocks_of (tree l k r)))) (sym (lt-ltb at end (omega (arith, s.end_is))))
+    subst (λ (t : Bool). ShowsIf base cells es (if t then Some (step.Level (span_of at end) above y) else None) (level_lines above y (blocks_of (tree l k r))))
+    (sym (lt-ltb at end (omega (arith, s.end_is))))
     (record { label = l; below = k; others = r; listed = s; above_small = a; row_small = b; lines_are = refl })
 
 level_if_light : (at end above y : ℕ) → weight_if (level_if at end above y) ≤ 3 * (end - at) + 1
@@ -116,7 +131,8 @@ level_if_light at end above y = grind arith
 level_if_few : (at end above y : ℕ) → count_if (level_if at end above y) ≤ end - at
 level_if_few at end above y = grind arith
 
-pub level_opens : {base : Forest} {cells : List Visit} {es : List Extent} {span : Span} {above y : ℕ} {cs : List ℕ} (e : Extent) (p : ShowsLevel base cells es span above y cs) → e ≡ extent_of p.label.payload p.below → Opens base cells es (step.Level span above y) cs (level_opened e span above y)
+pub level_opens : {base : Forest} {cells : List Visit} {es : List Extent} {span : Span} {above y : ℕ} {cs : List ℕ} (e : Extent) (p : ShowsLevel base cells es span above y cs)
+    → e ≡ extent_of p.label.payload p.below → Opens base cells es (step.Level span above y) cs (level_opened e span above y)
 level_opens {base = base} {cells = cells} {es = es} {span = span} {above = above} {y = y} {cs = cs} e p q =
     subst (λ (x : Extent). Opens base cells es (step.Level span above y) cs (level_opened x span above y)) (sym q)
     (choose_level (level above y b.above (height b)) (level above y b.above (height b)) (λ z. opened 0 Nothing (part_of span.at next z) rest) (opened b.width Nothing None rest) b (level_lines above y (blocks_of p.others)) refl p.lines_are
@@ -173,7 +189,8 @@ module _ {base : Forest} {cells : List Visit} {es : List Extent} {span : Span} {
   below_listed = span_below p.label p.below p.listed
 
   -- a row
-  pub row_opens : (e : Extent) (d : Visit) → (get_or cells span.at d).kind ≡ kind.Row → e ≡ extent_of p.label.payload p.below → Opens base cells es (step.Part span y) cs (row_opened e (span_of (span.at + 1) span.end) y)
+  pub row_opens : (e : Extent) (d : Visit) → (get_or cells span.at d).kind ≡ kind.Row → e ≡ extent_of p.label.payload p.below
+      → Opens base cells es (step.Part span y) cs (row_opened e (span_of (span.at + 1) span.end) y)
   row_opens e d k q =
       let is : p.label.payload ≡ bare kind.Row = bare_of p.label.payload kind.Row p.listed.small.valid_parts.0 refl (part_kind kind.Row d k) in
       let above : e.above ≡ most_above (blocks_of p.below) = ap (λ (x : Extent). x.above) q ∙ ap (λ (x : Payload). (block_of x p.below).above) is in
@@ -202,7 +219,8 @@ module _ {base : Forest} {cells : List Visit} {es : List Extent} {span : Span} {
     inner_nodes : span.end ≡ span.at + suc (suc (nodes_in t.below))
     inner_nodes = omega (arith, p.listed.end_is, ap nodes_in t.part_is)
 
-  pub raised_opens : (e : Extent) (t : IsOneOver kind.Raised p.label.payload p.below (span.at + 1) es) → e ≡ extent_of t.label.payload t.below → Opens base cells es (step.Part span y) cs (raised_opened e (span_of (span.at + 1) span.end) y)
+  pub raised_opens : (e : Extent) (t : IsOneOver kind.Raised p.label.payload p.below (span.at + 1) es) → e ≡ extent_of t.label.payload t.below
+      → Opens base cells es (step.Part span y) cs (raised_opened e (span_of (span.at + 1) span.end) y)
   raised_opens e t q =
       let b = block_of t.label.payload t.below in
       subst (λ (x : Extent). Opens base cells es (step.Part span y) cs (raised_opened x (span_of (span.at + 1) span.end) y)) (sym q)
@@ -219,14 +237,17 @@ module _ {base : Forest} {cells : List Visit} {es : List Extent} {span : Span} {
       })
       (λ h. alone b.width Nothing (h ∙ sym (append-nil (blanks b.width))) (omega (arith, inner_nodes kind.Raised t)) tt))
 
-  pub radical_opens : (e : Extent) (t : IsOneOver kind.Radical p.label.payload p.below (span.at + 1) es) → e ≡ extent_of t.label.payload t.below → Opens base cells es (step.Part span y) cs (radical_opened e (span_of (span.at + 1) span.end) y)
+  pub radical_opens : (e : Extent) (t : IsOneOver kind.Radical p.label.payload p.below (span.at + 1) es) → e ≡ extent_of t.label.payload t.below
+      → Opens base cells es (step.Part span y) cs (radical_opened e (span_of (span.at + 1) span.end) y)
   radical_opens e t q =
       let b = block_of t.label.payload t.below in
-      let inner : (ink : List ℕ) (o : Opened) → cs ≡ ink ++ b.line (y - 1) → blanks o.blanks ++ ink_characters base o.ink ≡ ink → o.first ≡ part_of (span.at + 1) span.end (y - 1) → o.second ≡ None → IsInk base o.ink → Opens base cells es (step.Part span y) cs o
+      let inner : (ink : List ℕ) (o : Opened) → cs ≡ ink ++ b.line (y - 1) → blanks o.blanks ++ ink_characters base o.ink ≡ ink → o.first ≡ part_of (span.at + 1) span.end (y - 1)
+      → o.second ≡ None → IsInk base o.ink → Opens base cells es (step.Part span y) cs o
       = λ ink o h i f g k. record {
         first = b.line (y - 1);
         second = [];
-        whole = h ∙ ap (λ (x : List ℕ). x ++ b.line (y - 1)) (sym i) ∙ append_assoc (blanks o.blanks) (ink_characters base o.ink) (b.line (y - 1)) ∙ ap (λ (x : List ℕ). blanks o.blanks ++ (ink_characters base o.ink ++ x)) (sym (append-nil (b.line (y - 1))));
+        whole = h ∙ ap (λ (x : List ℕ). x ++ b.line (y - 1)) (sym i) ∙ append_assoc (blanks o.blanks) (ink_characters base o.ink) (b.line (y - 1))
+            ∙ ap (λ (x : List ℕ). blanks o.blanks ++ (ink_characters base o.ink ++ x)) (sym (append-nil (b.line (y - 1))));
         first_shown = subst (λ (x : Option Step). ShowsIf base cells es x (b.line (y - 1))) (sym f) (inner_shown kind.Radical t (y - 1) (omega (arith, p.row_small)));
         second_shown = subst (λ (x : Option Step). ShowsIf base cells es x []) (sym g) refl;
         lighter = omega (arith, inner_nodes kind.Radical t, ap weight_if f, ap weight_if g);
@@ -255,17 +276,20 @@ module _ {base : Forest} {cells : List Visit} {es : List Extent} {span : Span} {
   }
 
   -- two parts
-  centred_opens : (l : Label) (k : Forest) (at end w z : ℕ) → IsSpanOf base cells es (tree l k empty) (span_of at end) → z ≤ 2 ^ 22 → cs ≡ centred w (block_of l.payload k) z → 3 * (end - at) < 3 * (span.end - span.at) - 1 → end - at + 1 ≤ span.end - span.at
+  centred_opens : (l : Label) (k : Forest) (at end w z : ℕ) → IsSpanOf base cells es (tree l k empty) (span_of at end) → z ≤ 2 ^ 22 → cs ≡ centred w (block_of l.payload k) z
+      → 3 * (end - at) < 3 * (span.end - span.at) - 1 → end - at + 1 ≤ span.end - span.at
       → Opens base cells es (step.Part span y) cs (centred_opened (w - (block_of l.payload k).width) (part_of at end z))
   centred_opens l k at end w z s h e m n = grind arith
 
-  pub fraction_opens : (u v : Extent) (t : IsTwoOver p.label.payload p.below (span.at + 1) es) → u ≡ extent_of t.upper.payload t.above → v ≡ extent_of t.lower.payload t.below → Opens base cells es (step.Part span y) cs (fraction_opened u v (span_of (span.at + 1) span.end) y)
+  pub fraction_opens : (u v : Extent) (t : IsTwoOver p.label.payload p.below (span.at + 1) es) → u ≡ extent_of t.upper.payload t.above → v ≡ extent_of t.lower.payload t.below
+      → Opens base cells es (step.Part span y) cs (fraction_opened u v (span_of (span.at + 1) span.end) y)
   fraction_opens u v t q r =
       let a = block_of t.upper.payload t.above in
       let b = block_of t.lower.payload t.below in
       let w = max a.width b.width in
       let mid = span.at + 1 + suc (nodes_in t.above) in
-      let line : cs ≡ (block_of (bare kind.Fraction) (tree t.upper t.above (tree t.lower t.below empty))).line y = p.line_is ∙ ap (λ (x : Payload). (block_of x p.below).line y) t.payload_is ∙ ap (λ (f : Forest). (block_of (bare kind.Fraction) f).line y) t.parts_are in
+      let line : cs ≡ (block_of (bare kind.Fraction) (tree t.upper t.above (tree t.lower t.below empty))).line y = p.line_is
+      ∙ ap (λ (x : Payload). (block_of x p.below).line y) t.payload_is ∙ ap (λ (f : Forest). (block_of (bare kind.Fraction) f).line y) t.parts_are in
       let both = subst (λ (f : Forest). IsSpanOf base cells es f (span_of (span.at + 1) span.end)) t.parts_are below_listed in
       let ends : span.end ≡ span.at + 1 + suc (nodes_in t.above) + suc (nodes_in t.below) = omega (arith, p.listed.end_is, ap nodes_in t.parts_are) in
       subst (λ (x : Extent). Opens base cells es (step.Part span y) cs (fraction_opened x v (span_of (span.at + 1) span.end) y)) (sym q)
@@ -278,7 +302,8 @@ module _ {base : Forest} {cells : List Visit} {es : List Extent} {span : Span} {
       (λ g. centred_opens t.lower t.below mid span.end w (y - height a - 1) (span_rest t.upper t.above (tree t.lower t.below empty) mid both refl) (omega (arith, p.row_small)) g (omega (arith, ends)) (omega (arith, ends))))))
 
   -- a leaf
-  pub leaf_opens : (d : Visit) (i : ℕ) → i ≡ (get_or cells span.at d).id → ((get_or cells span.at d).kind ≡ kind.Row → ⊥) → ((get_or cells span.at d).kind ≡ kind.Fraction → ⊥) → ((get_or cells span.at d).kind ≡ kind.Raised → ⊥)
+  pub leaf_opens : (d : Visit) (i : ℕ) → i ≡ (get_or cells span.at d).id → ((get_or cells span.at d).kind ≡ kind.Row → ⊥) → ((get_or cells span.at d).kind ≡ kind.Fraction → ⊥)
+      → ((get_or cells span.at d).kind ≡ kind.Raised → ⊥)
       → ((get_or cells span.at d).kind ≡ kind.Radical → ⊥) → ((get_or cells span.at d).kind ≡ kind.Paren → ⊥) → Opens base cells es (step.Part span y) cs (opened 0 (Leaf i) None None)
   leaf_opens d i e a b f g h =
       let x = p.label.payload in
@@ -292,7 +317,8 @@ module _ {base : Forest} {cells : List Visit} {es : List Extent} {span : Span} {
       alone 0 (Leaf i) (p.line_is ∙ line ∙ ap leaf_characters (sym payload)) (omega (arith, p.listed.end_is))
       (ap (λ (n : ℕ). holds n base) id_is ∙ p.listed.found.0.0, subst IsPayload (sym payload) over.payload, subst (λ (z : Payload). leaf_characters z ≢ []) (sym payload) some)
 
-pub blanks_opens : {base : Forest} {cells : List Visit} {es : List Extent} {cs : List ℕ} (n : ℕ) → Shows base cells es (step.Blanks n) cs → Opens base cells es (step.Blanks n) cs (opened n Nothing None None)
+pub blanks_opens : {base : Forest} {cells : List Visit} {es : List Extent} {cs : List ℕ} (n : ℕ) → Shows base cells es (step.Blanks n) cs
+    → Opens base cells es (step.Blanks n) cs (opened n Nothing None None)
 blanks_opens n h = alone n Nothing (h ∙ sym (append-nil (blanks n))) (omega arith) tt
 
 pub close_opens : {base : Forest} {cells : List Visit} {es : List Extent} {cs : List ℕ} → Shows base cells es step.Close cs → Opens base cells es step.Close cs (opened 0 Close None None)

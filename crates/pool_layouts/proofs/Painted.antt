@@ -50,7 +50,8 @@ pub record IsPainting (base : Forest) (cells : List Visit) (es : List Extent) (s
   pub each : AreShown base cells es owed
   pub few : counts_of owed ≤ length cells
 
-pub painting_start : {base : Forest} {cells : List Visit} {es : List Extent} {steps : List Step} {line : List ℕ} (start : List ℕ) → IsLine base cells es steps line → IsPainting base cells es steps 0 start start line
+pub painting_start : {base : Forest} {cells : List Visit} {es : List Extent} {steps : List Step} {line : List ℕ} (start : List ℕ) → IsLine base cells es steps line
+    → IsPainting base cells es steps 0 start start line
 painting_start {line = line} start h = record {
   owed = record { step = h.only; cs = line } ∷ [];
   seen = [];
@@ -94,11 +95,13 @@ snoc_same (a ∷ xs) (b ∷ ys) x y e =
     let same = snoc_same xs ys x y tails in
     (ap (λ (z : Step). z ∷ xs) heads ∙ ap (λ (zs : List Step). b ∷ zs) same.0, same.1)
 
-pub due : {base : Forest} {cells : List Visit} {es : List Extent} {steps : List Step} {owed_blanks : ℕ} {bytes start line : List ℕ} (s : Step) (popped : List Step) → IsPainting base cells es steps owed_blanks bytes start line → steps ≡ popped ++ s ∷ []
+pub due : {base : Forest} {cells : List Visit} {es : List Extent} {steps : List Step} {owed_blanks : ℕ} {bytes start line : List ℕ} (s : Step) (popped : List Step)
+    → IsPainting base cells es steps owed_blanks bytes start line → steps ≡ popped ++ s ∷ []
     → IsDue base cells es s popped owed_blanks bytes start line
 due {base = base} {cells = cells} {es = es} {steps = steps} {owed_blanks = owed_blanks} {bytes = bytes} {start = start} {line = line} s popped p e = by p.owed p.steps_are p.chars p.each p.few
   where
-    by : (os : List Owed) → steps ≡ steps_of os → p.seen ++ (blanks owed_blanks ++ chars_of os) ≡ line → AreShown base cells es os → counts_of os ≤ length cells → IsDue base cells es s popped owed_blanks bytes start line
+    by : (os : List Owed) → steps ≡ steps_of os → p.seen ++ (blanks owed_blanks ++ chars_of os) ≡ line → AreShown base cells es os → counts_of os ≤ length cells
+        → IsDue base cells es s popped owed_blanks bytes start line
     by [] q c a f = absurd (omega (arith, ap length (sym e ∙ q), length-append popped (s ∷ [])))
     by (o ∷ os) q c a f =
         let same = snoc_same popped (steps_of os) s o.step (sym e ∙ q) in
@@ -116,7 +119,8 @@ due {base = base} {cells = cells} {es = es} {steps = steps} {owed_blanks = owed_
         }
 
 -- there is room for two steps in its stead
-pub due_room : {base : Forest} {cells : List Visit} {es : List Extent} {s : Step} {popped : List Step} {owed_blanks : ℕ} {bytes start line : List ℕ} → IsDue base cells es s popped owed_blanks bytes start line → length popped + 1 ≤ length cells
+pub due_room : {base : Forest} {cells : List Visit} {es : List Extent} {s : Step} {popped : List Step} {owed_blanks : ℕ} {bytes start line : List ℕ}
+    → IsDue base cells es s popped owed_blanks bytes start line → length popped + 1 ≤ length cells
 due_room {base = base} {cells = cells} {es = es} {s = s} d = omega (arith, ap length d.popped_is, steps_few base cells es d.owed d.each, counts_one base cells es s d.cs d.shown, d.few)
 
 -- ---- it is painted
@@ -141,10 +145,12 @@ pub record IsStepped (base : Forest) (cells : List Visit) (es : List Extent) (s 
   pub blanks_few : owed_blanks + o.blanks ≤ length line
   pub start_few : length start ≤ length bytes
   pub bytes_few : length bytes + length (encode_utf8_all (inked (owed_blanks + o.blanks) (ink_characters base o.ink))) ≤ length start + length (encode_utf8_all line)
-  pub goes_on : (new : List ℕ) (steps : List Step) → new ≡ bytes ++ encode_utf8_all (inked (owed_blanks + o.blanks) (ink_characters base o.ink)) → steps ≡ (popped ++ option_to_list o.second) ++ option_to_list o.first
+  pub goes_on : (new : List ℕ) (steps : List Step) → new ≡ bytes ++ encode_utf8_all (inked (owed_blanks + o.blanks) (ink_characters base o.ink))
+      → steps ≡ (popped ++ option_to_list o.second) ++ option_to_list o.first
       → IsPainting base cells es steps (blanks_left (owed_blanks + o.blanks) (ink_characters base o.ink)) new start line
 
-pub stepped : {base : Forest} {cells : List Visit} {es : List Extent} {s : Step} {popped : List Step} {owed_blanks : ℕ} {bytes start line : List ℕ} {o : Opened} (d : IsDue base cells es s popped owed_blanks bytes start line) → Opens base cells es s d.cs o
+pub stepped : {base : Forest} {cells : List Visit} {es : List Extent} {s : Step} {popped : List Step} {owed_blanks : ℕ} {bytes start line : List ℕ} {o : Opened}
+    (d : IsDue base cells es s popped owed_blanks bytes start line) → Opens base cells es s d.cs o
     → IsStepped base cells es s popped owed_blanks bytes start line o
 stepped {base = base} {cells = cells} {es = es} {s = s} {popped = popped} {owed_blanks = owed_blanks} {bytes = bytes} {start = start} {line = line} {o = o} d p =
     let ink = ink_characters base o.ink in
@@ -155,7 +161,8 @@ stepped {base = base} {cells = cells} {es = es} {s = s} {popped = popped} {owed_
     = sym (spread d.seen (blanks owed_blanks) (blanks o.blanks) ink p.first p.second rest) ∙ ap (λ (x : List ℕ). d.seen ++ (blanks owed_blanks ++ (x ++ rest))) (sym p.whole) ∙ d.chars in
     let as_blanks : d.seen ++ ((blanks n ++ ink) ++ tail) ≡ line = ap (λ (x : List ℕ). d.seen ++ ((x ++ ink) ++ tail)) (sym (replicate-append-replicate owed_blanks o.blanks 32)) ∙ together in
     let whole : (d.seen ++ inked n ink) ++ (blanks (blanks_left n ink) ++ tail) ≡ line
-    = append_assoc d.seen (inked n ink) (blanks (blanks_left n ink) ++ tail) ∙ ap (λ (x : List ℕ). d.seen ++ x) (sym (append_assoc (inked n ink) (blanks (blanks_left n ink)) tail)) ∙ ap (λ (x : List ℕ). d.seen ++ (x ++ tail)) (sym (inked_all n ink)) ∙ as_blanks in
+    = append_assoc d.seen (inked n ink) (blanks (blanks_left n ink) ++ tail) ∙ ap (λ (x : List ℕ). d.seen ++ x) (sym (append_assoc (inked n ink) (blanks (blanks_left n ink)) tail))
+    ∙ ap (λ (x : List ℕ). d.seen ++ (x ++ tail)) (sym (inked_all n ink)) ∙ as_blanks in
     let (second, second_steps, second_chars, second_counts, second_shown) = shown_if base cells es o.second p.second d.owed p.second_shown d.each in
     let (first, first_steps, first_chars, first_counts, first_shown) = shown_if base cells es o.first p.first second p.first_shown second_shown in
     let tail_is : chars_of first ≡ tail = first_chars ∙ ap (λ (x : List ℕ). p.first ++ x) second_chars in
@@ -182,9 +189,11 @@ stepped {base = base} {cells = cells} {es = es} {s = s} {popped = popped} {owed_
       goes_on = λ new steps e f. record {
         owed = first;
         seen = d.seen ++ inked n ink;
-        steps_are = f ∙ ap (λ (x : List Step). (x ++ option_to_list o.second) ++ option_to_list o.first) d.popped_is ∙ ap (λ (x : List Step). x ++ option_to_list o.first) (sym second_steps) ∙ sym first_steps;
+        steps_are = f ∙ ap (λ (x : List Step). (x ++ option_to_list o.second) ++ option_to_list o.first) d.popped_is
+            ∙ ap (λ (x : List Step). x ++ option_to_list o.first) (sym second_steps) ∙ sym first_steps;
         chars = ap (λ (x : List ℕ). (d.seen ++ inked n ink) ++ (blanks (blanks_left n ink) ++ x)) tail_is ∙ whole;
-        bytes_are = e ∙ ap (λ (x : List ℕ). x ++ encode_utf8_all (inked n ink)) d.bytes_are ∙ append_assoc start (encode_utf8_all d.seen) (encode_utf8_all (inked n ink)) ∙ ap (λ (x : List ℕ). start ++ x) (sym (encodes-append d.seen (inked n ink)));
+        bytes_are = e ∙ ap (λ (x : List ℕ). x ++ encode_utf8_all (inked n ink)) d.bytes_are ∙ append_assoc start (encode_utf8_all d.seen) (encode_utf8_all (inked n ink))
+            ∙ ap (λ (x : List ℕ). start ++ x) (sym (encodes-append d.seen (inked n ink)));
         kept = seen_kept d.seen n ink d.kept (ink_black base o.ink p.ink_is);
         each = first_shown;
         few = omega (arith, d.few, p.fewer, first_counts, second_counts);
@@ -192,12 +201,14 @@ stepped {base = base} {cells = cells} {es = es} {s = s} {popped = popped} {owed_
     }
 
 -- the steps weigh less
-pub lighter_steps : (steps popped new : List Step) (s : Step) (first second : Option Step) → steps ≡ popped ++ s ∷ [] → new ≡ (popped ++ option_to_list second) ++ option_to_list first → weight_if first + weight_if second < weight s → total_weight new < total_weight steps
+pub lighter_steps : (steps popped new : List Step) (s : Step) (first second : Option Step) → steps ≡ popped ++ s ∷ []
+    → new ≡ (popped ++ option_to_list second) ++ option_to_list first → weight_if first + weight_if second < weight s → total_weight new < total_weight steps
 lighter_steps steps popped new s first second e f h = grind (arith, weight-append, weight-option)
 
 -- ---- the end
 
-pub painted : {base : Forest} {cells : List Visit} {es : List Extent} {steps : List Step} {owed_blanks : ℕ} {bytes start line : List ℕ} → IsPainting base cells es steps owed_blanks bytes start line → length steps ≡ 0 → bytes ≡ start ++ encode_utf8_all (cut line)
+pub painted : {base : Forest} {cells : List Visit} {es : List Extent} {steps : List Step} {owed_blanks : ℕ} {bytes start line : List ℕ}
+    → IsPainting base cells es steps owed_blanks bytes start line → length steps ≡ 0 → bytes ≡ start ++ encode_utf8_all (cut line)
 painted {steps = steps} {owed_blanks = owed_blanks} {bytes = bytes} {start = start} {line = line} p z = by p.owed p.steps_are p.chars
   where
     by : (os : List Owed) → steps ≡ steps_of os → p.seen ++ (blanks owed_blanks ++ chars_of os) ≡ line → bytes ≡ start ++ encode_utf8_all (cut line)

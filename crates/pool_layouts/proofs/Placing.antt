@@ -23,10 +23,13 @@ ok_as r p f = grind arith
 -- ---- one node
 
 -- the bytes that are free when one node more is placed over the last trees
-pub free_after : (s t : State) (n id : ℕ) (x : Payload) → Stands s → Stands t → KeepsRefusals s t → Ends id (one_tree id x (last_trees n (forest s))) (before_last n (forest s)) (forest t) → free_of s - size_of_payload x ≡ free_of t
+pub free_after : (s t : State) (n id : ℕ) (x : Payload) → Stands s → Stands t → KeepsRefusals s t
+    → Ends id (one_tree id x (last_trees n (forest s))) (before_last n (forest s)) (forest t) → free_of s - size_of_payload x ≡ free_of t
 free_after s t n id x st st' k e =
-    let old : bytes_in (forest s) ≡ bytes_in (before_last n (forest s)) + bytes_in (last_trees n (forest s)) = ap bytes_in (sym (before-last n (forest s))) ∙ bytes_in-join (before_last n (forest s)) (last_trees n (forest s)) in
-    let new : bytes_in (forest t) ≡ bytes_in (before_last n (forest s)) + (size_of_payload x + (bytes_in (last_trees n (forest s)) + 0)) = ap bytes_in e.whole ∙ bytes_in-join (before_last n (forest s)) (one_tree id x (last_trees n (forest s))) in
+    let old : bytes_in (forest s) ≡ bytes_in (before_last n (forest s)) + bytes_in (last_trees n (forest s)) = ap bytes_in (sym (before-last n (forest s)))
+    ∙ bytes_in-join (before_last n (forest s)) (last_trees n (forest s)) in
+    let new : bytes_in (forest t) ≡ bytes_in (before_last n (forest s)) + (size_of_payload x + (bytes_in (last_trees n (forest s)) + 0)) = ap bytes_in e.whole
+    ∙ bytes_in-join (before_last n (forest s)) (one_tree id x (last_trees n (forest s))) in
     omega (arith, free_forest s st, free_forest t st', k.size, old, new)
 
 -- a leaf is a node over no trees
@@ -34,7 +37,8 @@ pub leaf_ends : (f g : Forest) (id : ℕ) (x : Payload) → Ends id (one_tree id
 leaf_ends f g id x e = rw (last_none f, before_none f) e
 
 -- one placing was refused
-pub stopped_one : (s t : State) (first : Forest) (size : ℕ) (rest : List ℕ) (full : Full) → IsRefused size s t full → free_of s < size → Starts first (forest s) → IsStopped first (size ∷ rest) s t full
+pub stopped_one : (s t : State) (first : Forest) (size : ℕ) (rest : List ℕ) (full : Full) → IsRefused size s t full → free_of s < size → Starts first (forest s)
+    → IsStopped first (size ∷ rest) s t full
 stopped_one s t first size rest full r h f = grind arith
 
 pub starts_all : (f : Forest) → Starts f f
@@ -66,7 +70,8 @@ stands_over k i id f g e = grind (arith, ends_as, last_trees-join, before_last-j
 
 -- ---- one placing, by its result
 
-pub placed_last : (s t : State) (n : ℕ) (x : Payload) (r : Result ℕ Full) → Stands s → Stands t → OnOk r (KeepsRefusals s t) → IfOk r (λ h. Ends h (one_tree h x (last_trees n (forest s))) (before_last n (forest s)) (forest t))
+pub placed_last : (s t : State) (n : ℕ) (x : Payload) (r : Result ℕ Full) → Stands s → Stands t → OnOk r (KeepsRefusals s t)
+    → IfOk r (λ h. Ends h (one_tree h x (last_trees n (forest s))) (before_last n (forest s)) (forest t))
     → (IsOk r ↔ (size_of_payload x ≤ free_of s)) → OnOk r (taking (free_of s) (size_of_payload x ∷ []) ≡ Ok (free_of t))
 placed_last s t n x r h k l e q = grind (arith, takes_one, free_after)
 
@@ -76,7 +81,8 @@ refused_last s t size r e q = grind (arith, stopped_one, was_short, starts_all)
 pub refused_err : (s t : State) (size : ℕ) (full : Full) → IsRefused size s t full → (size ≤ free_of s → IsOk {T = ℕ} (Err full)) → IsStopped (forest s) (size ∷ []) s t full
 refused_err s t size full e q = stopped_one s t (forest s) size [] full e (was_short full size (free_of s) q) (starts_all (forest s))
 
-pub takes_mark : (s t : State) (id : ℕ) (x : Payload) → Stands s → Stands t → KeepsRefusals s t → Ends id (one_tree id x empty) (forest s) (forest t) → size_of_payload x ≤ free_of s → taking (free_of s) (size_of_payload x ∷ []) ≡ Ok (free_of t)
+pub takes_mark : (s t : State) (id : ℕ) (x : Payload) → Stands s → Stands t → KeepsRefusals s t → Ends id (one_tree id x empty) (forest s) (forest t)
+    → size_of_payload x ≤ free_of s → taking (free_of s) (size_of_payload x ∷ []) ≡ Ok (free_of t)
 takes_mark s t id x st st' k e room = takes_one (free_of s) (size_of_payload x) room ∙ ap Ok (free_after s t 0 id x st st' k (leaf_ends (forest s) (forest t) id x e))
 
 -- ---- the node of a face
@@ -91,7 +97,8 @@ bare_is x k j e n s q = grind arith
 
 -- ---- two placings
 
-pub room_after : {T : Type 0} (free mid left size : ℕ) (ns : List ℕ) (r : Result T Full) → taking free (size ∷ []) ≡ Ok mid → OnOk r (taking mid ns ≡ Ok left) → OnOk r (taking free (size ∷ ns) ≡ Ok left)
+pub room_after : {T : Type 0} (free mid left size : ℕ) (ns : List ℕ) (r : Result T Full) → taking free (size ∷ []) ≡ Ok mid → OnOk r (taking mid ns ≡ Ok left)
+    → OnOk r (taking free (size ∷ ns) ≡ Ok left)
 room_after free mid left size ns r a b = grind arith
 
 pub starts_after : (f g h : Forest) → Starts f g → Starts g h → Starts f h
@@ -100,6 +107,7 @@ starts_after f g h a b = record { behind = join a.behind b.behind; whole = b.who
 pub starts_ends : {i : ℕ} {t g f : Forest} → Ends i t g f → Starts g f
 starts_ends {t = t} e = record { behind = t; whole = e.whole }
 
-pub stopped_after : (s m t : State) (first : Forest) (size : ℕ) (ns : List ℕ) (r : Result ℕ Full) → taking (free_of s) (size ∷ []) ≡ Ok (free_of m) → KeepsRefusals s m → Starts first (forest m) → IfErr r (IsStopped (forest m) ns m t)
+pub stopped_after : (s m t : State) (first : Forest) (size : ℕ) (ns : List ℕ) (r : Result ℕ Full) → taking (free_of s) (size ∷ []) ≡ Ok (free_of m) → KeepsRefusals s m
+    → Starts first (forest m) → IfErr r (IsStopped (forest m) ns m t)
     → IfErr r (IsStopped first (size ∷ ns) s t)
 stopped_after s m t first size ns r a k f e = grind (arith, taken_first, refuses_after, starts_after)

@@ -43,14 +43,17 @@ next_part {k = k} {count = count} {at = at} {es = es} {row = row} g few = by g.o
 pub part_within : {k : Forest} {count at : ℕ} {es : List Extent} {row : Extent} → IsNextPart k count at es row → at < length es
 part_within {at = at} {es = es} p = first_within p.label p.below p.others at es p.small
 
-pub gathered_more : {k : Forest} {count at : ℕ} {es : List Extent} {row : Extent} (next : ℕ) (new part : Extent) (p : IsNextPart k count at es row) → part ≡ extent_of p.label.payload p.below → next ≡ at + part.nodes
+pub gathered_more : {k : Forest} {count at : ℕ} {es : List Extent} {row : Extent} (next : ℕ) (new part : Extent) (p : IsNextPart k count at es row)
+    → part ≡ extent_of p.label.payload p.below → next ≡ at + part.nodes
     → new ≡ (record { nodes = row.nodes + part.nodes; width = row.width + part.width; above = max row.above part.above; below = max row.below part.below }) → IsGathering k (count + 1) next es new
 gathered_more next new part p q a e = grind (arith, behind_first)
 
-pub gathered_all : {k : Forest} {count at : ℕ} {es : List Extent} {row : Extent} → IsGathering k count at es row → arity k ≤ count → row ≡ extent_from (1 + nodes_in k) (side_by_side (pictures (drawings k)))
+pub gathered_all : {k : Forest} {count at : ℕ} {es : List Extent} {row : Extent} → IsGathering k count at es row → arity k ≤ count
+    → row ≡ extent_from (1 + nodes_in k) (side_by_side (pictures (drawings k)))
 gathered_all {k = k} {count = count} {at = at} {es = es} {row = row} g all = by g.others g.number g.nodes g.width g.above g.below
   where
     by : (f : Forest) → count + arity f ≡ arity k → row.nodes + nodes_in f ≡ 1 + nodes_in k → row.width + widths (blocks_of f) ≡ widths (blocks_of k)
-        → max row.above (most_above (blocks_of f)) ≡ most_above (blocks_of k) → max row.below (most_below (blocks_of f)) ≡ most_below (blocks_of k) → row ≡ extent_from (1 + nodes_in k) (side_by_side (pictures (drawings k)))
+        → max row.above (most_above (blocks_of f)) ≡ most_above (blocks_of k) → max row.below (most_below (blocks_of f)) ≡ most_below (blocks_of k)
+        → row ≡ extent_from (1 + nodes_in k) (side_by_side (pictures (drawings k)))
     by empty n m w a b = extent_same _ _ _ _ _ _ _ _ (omega (arith, m)) (omega (arith, w)) (omega (arith, a)) (omega (arith, b))
     by (tree l j r) n m w a b = absurd (omega (arith, n, all))

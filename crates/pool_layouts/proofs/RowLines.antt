@@ -8,7 +8,8 @@ use Rattle.pool_layouts.proofs.{Lines.{lines_long, lines_bytes, signs, all_signs
 use Rattle.calc_terms.specs.declared.kind.Kind.TheVariants as kind
 use Rattle.pool_layouts.specs.declared.steps.Step.TheVariants as step
 
-pub row_line : (s : State) (i : ℕ) (cells : List Visit) (es : List Extent) (steps : List Step) (end y : ℕ) → Stands s → IsLayout i (forest s) → cells ≡ visits_of (tree_at i (forest s)) → (m : IsMeasured s i es) → end ≡ suc (nodes_in m.below) → y < height (picture (drawing (tree_at i (forest s))))
+pub row_line : (s : State) (i : ℕ) (cells : List Visit) (es : List Extent) (steps : List Step) (end y : ℕ) → Stands s → IsLayout i (forest s)
+    → cells ≡ visits_of (tree_at i (forest s)) → (m : IsMeasured s i es) → end ≡ suc (nodes_in m.below) → y < height (picture (drawing (tree_at i (forest s))))
     → steps ≡ step.Part (span_of 0 end) y ∷ [] → IsLine (forest s) cells es steps ((picture (drawing (tree_at i (forest s)))).line y)
 row_line s i cells es steps end y st x e m q h f =
     let t = tree m.label m.below empty in
@@ -53,7 +54,8 @@ one_fits j empty size h w e = absurd cc
 one_fits j (tree l a empty) size h w e = e (drawn l.payload (drawings a)) w
 one_fits j (tree l a (tree m b r)) size h w e = absurd (omega (arith, eqb-true (arity (tree l a (tree m b r))) 1 h))
 
-composed_fits : (j : Kind) (k : Forest) → composes_kind j (arity k) ≡ true → widths (blocks_of k) + 2 * all_signs (drawings k) ≤ 2 * bytes_in k → (picture (composed j (drawings k))).width + 2 * signs (composed j (drawings k)) ≤ 2 * (size_of_payload (bare j) + bytes_in k)
+composed_fits : (j : Kind) (k : Forest) → composes_kind j (arity k) ≡ true → widths (blocks_of k) + 2 * all_signs (drawings k) ≤ 2 * bytes_in k
+    → (picture (composed j (drawings k))).width + 2 * signs (composed j (drawings k)) ≤ 2 * (size_of_payload (bare j) + bytes_in k)
 composed_fits kind.Plus k h w = omega arith
 composed_fits kind.Minus k h w = omega arith
 composed_fits kind.Times k h w = omega arith
@@ -64,7 +66,8 @@ composed_fits kind.Radical k h w = one_fits kind.Radical k _ h w (λ l a. omega 
 composed_fits kind.Paren k h w = one_fits kind.Paren k _ h w (λ l a. omega (arith, a))
 composed_fits j k h w = absurd cc
 
-drawn_fits : (x : Payload) (k : Forest) → composes x (arity k) ≡ true → IsPayload x → widths (blocks_of k) + 2 * all_signs (drawings k) ≤ 2 * bytes_in k → (block_of x k).width + 2 * signs (drawn x (drawings k)) ≤ 2 * (size_of_payload x + bytes_in k)
+drawn_fits : (x : Payload) (k : Forest) → composes x (arity k) ≡ true → IsPayload x → widths (blocks_of k) + 2 * all_signs (drawings k) ≤ 2 * bytes_in k
+    → (block_of x k).width + 2 * signs (drawn x (drawings k)) ≤ 2 * (size_of_payload x + bytes_in k)
 drawn_fits x k h p w = grind (arith, digits_fit, composed_fits)
 
 signs_fit : (f : Forest) → AllComposed f → AllValid f → widths (blocks_of f) + 2 * all_signs (drawings f) ≤ 2 * bytes_in f
@@ -86,7 +89,8 @@ small_leaves : (f : Forest) → AllValid f → HaveSmallLeaves (drawings f)
 small_leaves empty v = tt
 small_leaves (tree l k r) v = (drawn_leaves l.payload (drawings k) v.0 (small_leaves k v.1), small_leaves r v.2)
 
-pub row_room : (s : State) (i y : ℕ) (text : Content) → Stands s → IsLayout i (forest s) → 2 * bytes_in (tree_at i (forest s)) ≤ spare_of text → length (encode_utf8_all ((picture (drawing (tree_at i (forest s)))).line y)) ≤ spare_of text
+pub row_room : (s : State) (i y : ℕ) (text : Content) → Stands s → IsLayout i (forest s) → 2 * bytes_in (tree_at i (forest s)) ≤ spare_of text
+    → length (encode_utf8_all ((picture (drawing (tree_at i (forest s)))).line y)) ≤ spare_of text
 row_room s i y text st x room =
     let t = tree_at i (forest s) in
     let v = valid s i st x.live in

@@ -72,7 +72,8 @@ module _ (t : Tree) (e : serial (layout t) ≡ spelled (tokens in_serial t)) whe
 
 fraction_spelled : (a b : List Token) (x y : List ℕ) → x ≡ spelled a → y ≡ spelled b → codes "((" ++ (x ++ (codes ")/(" ++ (y ++ codes "))"))) ≡ spelled (inside (inside a ++ slash_mark ∷ inside b))
 fraction_spelled a b x y p q =
-    let inner : (codes "(" ++ (x ++ codes ")")) ++ (codes "/" ++ (codes "(" ++ (y ++ codes ")"))) ≡ spelled (inside a ++ slash_mark ∷ inside b) = joined_spelled (inside a) (inside b) slash_mark _ _ (inside_spelled a x p) (inside_spelled b y q) in
+    let inner : (codes "(" ++ (x ++ codes ")")) ++ (codes "/" ++ (codes "(" ++ (y ++ codes ")"))) ≡ spelled (inside a ++ slash_mark ∷ inside b) =
+    joined_spelled (inside a) (inside b) slash_mark _ _ (inside_spelled a x p) (inside_spelled b y q) in
     spread x y ∙ inside_spelled (inside a ++ slash_mark ∷ inside b) _ inner
   where
     spread : (x y : List ℕ) → codes "((" ++ (x ++ (codes ")/(" ++ (y ++ codes "))"))) ≡ codes "(" ++ (((codes "(" ++ (x ++ codes ")")) ++ (codes "/" ++ (codes "(" ++ (y ++ codes ")")))) ++ codes ")")
@@ -100,22 +101,26 @@ mutual
   sum_spelled : (ts : Trees) → AreDefined ts → serials (layout_of_sum ts) ≡ spelled (tokens_of_sum in_serial ts)
   sum_spelled none d = refl
   sum_spelled (more t ts) d =
-      (λ i. boxed_spelled t (serial_spelled t d.0) first_of_sum i ++ terms_spelled ts d.1 i) ∙ sym (spelled-append (placed (open_at first_of_sum t) (tokens in_serial t)) (tokens_of_terms in_serial ts))
+      (λ i. boxed_spelled t (serial_spelled t d.0) first_of_sum i ++ terms_spelled ts d.1 i)
+      ∙ sym (spelled-append (placed (open_at first_of_sum t) (tokens in_serial t)) (tokens_of_terms in_serial ts))
 
   terms_spelled : (ts : Trees) → AreDefined ts → serials (layout_of_terms ts) ≡ spelled (tokens_of_terms in_serial ts)
   terms_spelled none d = refl
   terms_spelled (more t ts) d =
-      (λ i. codes "+" ++ (boxed_spelled t (serial_spelled t d.0) later_of_sum i ++ terms_spelled ts d.1 i)) ∙ sym (spelled-append (plus_mark ∷ placed (open_at later_of_sum t) (tokens in_serial t)) (tokens_of_terms in_serial ts))
+      (λ i. codes "+" ++ (boxed_spelled t (serial_spelled t d.0) later_of_sum i ++ terms_spelled ts d.1 i))
+      ∙ sym (spelled-append (plus_mark ∷ placed (open_at later_of_sum t) (tokens in_serial t)) (tokens_of_terms in_serial ts))
 
   product_spelled : (ts : Trees) → AreDefined ts → serials (layout_of_product ts) ≡ spelled (tokens_of_product in_serial ts)
   product_spelled none d = refl
   product_spelled (more t ts) d =
-      (λ i. boxed_spelled t (serial_spelled t d.0) first_of_product i ++ factors_spelled ts d.1 i) ∙ sym (spelled-append (placed (open_at first_of_product t) (tokens in_serial t)) (tokens_of_factors in_serial ts))
+      (λ i. boxed_spelled t (serial_spelled t d.0) first_of_product i ++ factors_spelled ts d.1 i)
+      ∙ sym (spelled-append (placed (open_at first_of_product t) (tokens in_serial t)) (tokens_of_factors in_serial ts))
 
   factors_spelled : (ts : Trees) → AreDefined ts → serials (layout_of_factors ts) ≡ spelled (tokens_of_factors in_serial ts)
   factors_spelled none d = refl
   factors_spelled (more t ts) d =
-      (λ i. times_sign ++ (boxed_spelled t (serial_spelled t d.0) later_of_product i ++ factors_spelled ts d.1 i)) ∙ sym (spelled-append (times_mark ∷ placed (open_at later_of_product t) (tokens in_serial t)) (tokens_of_factors in_serial ts))
+      (λ i. times_sign ++ (boxed_spelled t (serial_spelled t d.0) later_of_product i ++ factors_spelled ts d.1 i))
+      ∙ sym (spelled-append (times_mark ∷ placed (open_at later_of_product t) (tokens in_serial t)) (tokens_of_factors in_serial ts))
 
 pub serial_reads : (u : Tree) → IsComplete u → IsDefined u → IsWritable u → Reads (serial (layout u)) u
 serial_reads u f n w = format_reads in_serial readable_serial u (serial (layout u)) f w (serial_spelled u n)

@@ -41,7 +41,8 @@ none_of : (ls : Layouts) (size : ℕ) → nat_eq (count_parts ls) 0 ≡ true →
 none_of nothing size h = refl
 none_of (beside l ls) size h = absurd (omega (arith, eqb-true (count_parts (beside l ls)) 0 h))
 
-one_of : (ls : Layouts) (size : ℕ) (part : Layout) → nat_eq (count_parts ls) 1 ≡ true → ((l : Layout) → ls ≡ one_part l → part_sizes part ≡ part_sizes l ++ size ∷ []) → part_sizes part ≡ parts_sizes ls ++ size ∷ []
+one_of : (ls : Layouts) (size : ℕ) (part : Layout) → nat_eq (count_parts ls) 1 ≡ true → ((l : Layout) → ls ≡ one_part l → part_sizes part ≡ part_sizes l ++ size ∷ [])
+    → part_sizes part ≡ parts_sizes ls ++ size ∷ []
 one_of nothing size part h e = absurd cc
 one_of (beside l nothing) size part h e = e l refl ∙ ap (λ (x : List ℕ). x ++ size ∷ []) (sym (append-nil (part_sizes l)))
 one_of (beside l (beside m ls)) size part h e = absurd (omega (arith, eqb-true (count_parts (beside l (beside m ls))) 1 h))
@@ -67,14 +68,16 @@ within_sizes (Some k) l h = composed_sizes k (one_part l) h.1 ∙ ap (λ (x : Li
 abbrev pub taking_if : Bool → ℕ → ℕ → List ℕ → Result ℕ Full
 taking_if b free m ms = if b then taking (free - m) ms else Err (record { needed = m; free = free })
 
-taken_by : (t : Bool) (free left m : ℕ) (ms ns : List ℕ) → taking_if t free m ms ≡ Ok left → (taking (free - m) ms ≡ Ok left → taking (free - m) (ms ++ ns) ≡ taking left ns) → taking_if t free m (ms ++ ns) ≡ taking left ns
+taken_by : (t : Bool) (free left m : ℕ) (ms ns : List ℕ) → taking_if t free m ms ≡ Ok left → (taking (free - m) ms ≡ Ok left → taking (free - m) (ms ++ ns) ≡ taking left ns)
+    → taking_if t free m (ms ++ ns) ≡ taking left ns
 taken_by t free left m ms ns e h = grind arith
 
 pub taken_first : (free left : ℕ) (ms ns : List ℕ) → taking free ms ≡ Ok left → taking free (ms ++ ns) ≡ taking left ns
 taken_first free left [] ns e = ap (λ (n : ℕ). taking n ns) (let same : free ≡ left = cc in same)
 taken_first free left (m ∷ ms) ns e = taken_by (nat_le m free) free left m ms ns e (taken_first (free - m) left ms ns)
 
-refused_by : (t : Bool) (free : ℕ) (full : Full) (m : ℕ) (ms ns : List ℕ) → taking_if t free m ms ≡ Err full → (taking (free - m) ms ≡ Err full → taking (free - m) (ms ++ ns) ≡ Err full) → taking_if t free m (ms ++ ns) ≡ Err full
+refused_by : (t : Bool) (free : ℕ) (full : Full) (m : ℕ) (ms ns : List ℕ) → taking_if t free m ms ≡ Err full
+    → (taking (free - m) ms ≡ Err full → taking (free - m) (ms ++ ns) ≡ Err full) → taking_if t free m (ms ++ ns) ≡ Err full
 refused_by t free full m ms ns e h = grind arith
 
 pub refused_first : (free : ℕ) (full : Full) (ms ns : List ℕ) → taking free ms ≡ Err full → taking free (ms ++ ns) ≡ Err full

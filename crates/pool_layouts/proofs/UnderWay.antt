@@ -110,7 +110,8 @@ stands_around : (p : Place) (k deciding : Kind) → IsAround (around_kind p k de
 stands_around p k deciding = grind arith
 
 -- the bytes of a node over its parts
-whole_sizes : (x : Payload) (around : Option Kind) (ls : Layouts) → composes (laid x) (count_parts ls) ≡ true → IsAround around → part_sizes (within around (drawn (laid x) ls)) ≡ parts_sizes ls ++ root_sizes x around
+whole_sizes : (x : Payload) (around : Option Kind) (ls : Layouts) → composes (laid x) (count_parts ls) ≡ true → IsAround around
+    → part_sizes (within around (drawn (laid x) ls)) ≡ parts_sizes ls ++ root_sizes x around
 whole_sizes x around ls h a = grind (arith, within_sizes, drawn_sizes, append_assoc)
 
 -- a node is entered, and nothing is placed of it
@@ -122,7 +123,8 @@ record IsFresh (base outer : Forest) (l : Label) (k : Forest) (around : Option K
   drawing : finished (fresh_owed l k around begin) (parts_left (fresh_owed l k around begin)) ≡ within around (layout (plain (tree l k empty)))
   sizes : part_sizes (within around (layout (plain (tree l k empty)))) ≡ parts_sizes (parts_left (fresh_owed l k around begin)) ++ root_sizes l.payload around
 
-fresh : (base outer : Forest) (l : Label) (k : Forest) (around : Option Kind) (begin : ℕ) → begin ≡ bytes_in (join base outer) → AllExpressions (tree l k empty) → AreFound base (tree l k empty) → IsAround around → IsFresh base outer l k around begin
+fresh : (base outer : Forest) (l : Label) (k : Forest) (around : Option Kind) (begin : ℕ) → begin ≡ bytes_in (join base outer) → AllExpressions (tree l k empty)
+    → AreFound base (tree l k empty) → IsAround around → IsFresh base outer l k around begin
 fresh base outer l k around begin b w n a =
     let takes_them : takes l.payload (count (plains k)) ≡ true = ap (takes l.payload) (count-plains k) ∙ w.0 in
     let ls = parts_from (first_place (kind_of_payload l.payload)) (plains k) in
@@ -159,14 +161,16 @@ module _ (face : ℕ) (s : State) (cells : List Visit) (x : IsExpression face (f
   pub first_inside : 0 < length cells
   first_inside = inside_list cells (map visit_of (flatten face_below ++ [])) 0 (visit_of (node_of (at face (forest s) x.live).label face_below)) cells_begin
 
-pub started : (s : State) (face : ℕ) (cells : List Visit) (frames : List Frame) (d : Visit) (begin : ℕ) → Stands s → IsExpression face (forest s) → cells ≡ visits_of (tree_at face (forest s)) → begin ≡ used s.nodes → frames ≡ frame_of (get_or cells 0 d) None begin ∷ []
+pub started : (s : State) (face : ℕ) (cells : List Visit) (frames : List Frame) (d : Visit) (begin : ℕ) → Stands s → IsExpression face (forest s)
+    → cells ≡ visits_of (tree_at face (forest s)) → begin ≡ used s.nodes → frames ≡ frame_of (get_or cells 0 d) None begin ∷ []
     → IsUnderWay (layout (plain (tree_at face (forest s)))) s s 1 cells frames
 started s face cells frames d begin st x e b f =
     let base = forest s in
     let p = at face base x.live in
     let k = kids_of face base in
     let c = visit_of (node_of p.label k) in
-    let n = fresh base empty p.label k None begin (b ∙ used_forest s st ∙ ap bytes_in (sym (join-empty base))) (subst AllExpressions p.tree-is x.whole) (subst (AreFound base) p.tree-is (found face s st)) tt in
+    let n = fresh base empty p.label k None begin (b ∙ used_forest s st ∙ ap bytes_in (sym (join-empty base))) (subst AllExpressions p.tree-is x.whole)
+    (subst (AreFound base) p.tree-is (found face s st)) tt in
     let plain_is : plain (tree_at face base) ≡ plain (tree p.label k empty) = ap plain p.tree-is in
     let begins = cells_begin face s cells x e in
     let first : get_or cells 0 d ≡ c = first_is cells (map visit_of (flatten k ++ [])) 0 c d begins in
@@ -201,7 +205,8 @@ pub record IsTop (l : Layout) (old now : State) (at : ℕ) (cells : List Visit) 
   pub popped_is : popped ≡ frames_of outer
   pub state : IsState l old now at cells (owed_of frame source parts rest) outer
 
-pub top : {l : Layout} {old now : State} {at : ℕ} {cells : List Visit} {frames : List Frame} (popped : List Frame) (frame : Frame) → IsUnderWay l old now at cells frames → frames ≡ popped ++ frame ∷ [] → IsTop l old now at cells popped frame
+pub top : {l : Layout} {old now : State} {at : ℕ} {cells : List Visit} {frames : List Frame} (popped : List Frame) (frame : Frame) → IsUnderWay l old now at cells frames
+    → frames ≡ popped ++ frame ∷ [] → IsTop l old now at cells popped frame
 top {l = l} {old = old} {now = now} {at = at} {cells = cells} popped frame u e =
     let same = snoc_same popped (frames_of u.outer) frame u.inner.frame (sym e ∙ u.frames_are) in
     let o = u.inner in
@@ -220,7 +225,8 @@ pub record IsNext (l : Layout) (old now : State) (at : ℕ) (cells : List Visit)
   pub state : IsState l old now at cells (owed_of frame source parts (tree label below rest)) outer
   pub cells_are : drop at cells ≡ visit_of (node_of label below) ∷ map visit_of (flatten below ++ (flatten rest ++ nodes_left outer))
 
-pub next : {l : Layout} {old now : State} {at : ℕ} {cells : List Visit} {popped : List Frame} {frame : Frame} → IsTop l old now at cells popped frame → 0 < frame.left → IsNext l old now at cells popped frame
+pub next : {l : Layout} {old now : State} {at : ℕ} {cells : List Visit} {popped : List Frame} {frame : Frame} → IsTop l old now at cells popped frame → 0 < frame.left
+    → IsNext l old now at cells popped frame
 next {l = l} {old = old} {now = now} {at = at} {cells = cells} {popped = popped} {frame = frame} t some = by t.rest t.state
   where
     by : (rest : Forest) → IsState l old now at cells (owed_of frame t.source t.parts rest) t.outer → IsNext l old now at cells popped frame
@@ -241,7 +247,8 @@ pub next_inside : {l : Layout} {old now : State} {at : ℕ} {cells : List Visit}
 next_inside {at = at} {cells = cells} n = inside_list cells (map visit_of (flatten n.below ++ (flatten n.rest ++ nodes_left n.outer))) at (visit_of (node_of n.label n.below)) n.cells_are
 
 -- the child's node, seen in the pool
-module _ {l : Layout} {old now : State} {at : ℕ} {cells : List Visit} {popped : List Frame} {frame : Frame} (n : IsNext l old now at cells popped frame) (v : Visit) (here : v ≡ get_or cells at v) where
+module _ {l : Layout} {old now : State} {at : ℕ} {cells : List Visit} {popped : List Frame} {frame : Frame} (n : IsNext l old now at cells popped frame) (v : Visit)
+    (here : v ≡ get_or cells at v) where
   abbrev next_tree : Forest
   next_tree = tree n.label n.below empty
 
@@ -252,19 +259,24 @@ module _ {l : Layout} {old now : State} {at : ℕ} {cells : List Visit} {popped 
   tree_here = ap (tree_at n.label.id) n.state.whole ∙ tree_at-join_left n.label.id (forest old) (join (made_of n.outer) n.parts) n.state.innermost.known.0.0 ∙ n.state.innermost.known.0.1
 
   pub next_live : holds v.id (forest now) ≡ true
-  next_live = ap (λ (w : Visit). holds w.id (forest now)) next_is ∙ ap (holds n.label.id) n.state.whole ∙ holds-left n.label.id (forest old) (join (made_of n.outer) n.parts) n.state.innermost.known.0.0
+  next_live = ap (λ (w : Visit). holds w.id (forest now)) next_is ∙ ap (holds n.label.id) n.state.whole
+      ∙ holds-left n.label.id (forest old) (join (made_of n.outer) n.parts) n.state.innermost.known.0.0
 
   pub next_seen : v ≡ visit_at v.id (forest now)
   next_seen =
-      let at_label : visit_of (node_of n.label n.below) ≡ visit_at n.label.id (forest now) = ap (λ (t : Forest). let w : Visit = record { kind = kind_of_payload (root_payload t); id = n.label.id; children = arity (kids t) } in w) (sym tree_here) in
+      let at_label : visit_of (node_of n.label n.below) ≡ visit_at n.label.id (forest now) =
+      ap (λ (t : Forest). let w : Visit = record { kind = kind_of_payload (root_payload t); id = n.label.id; children = arity (kids t) } in w) (sym tree_here) in
       next_is ∙ at_label ∙ ap (λ (w : Visit). visit_at w.id (forest now)) (sym next_is)
 
   -- what its layout stands in
-  pub next_around : (k : Kind) (around : Option Kind) → k ≡ deciding frame.place (tree_at v.id (forest now)) → around ≡ around_kind frame.place v.kind k → around ≡ around_of frame.place (plain next_tree)
+  pub next_around : (k : Kind) (around : Option Kind) → k ≡ deciding frame.place (tree_at v.id (forest now)) → around ≡ around_kind frame.place v.kind k
+      → around ≡ around_of frame.place (plain next_tree)
   next_around k around e f =
-      let kind_is : v.kind ≡ root_kind (plain next_tree) = ap (λ (w : Visit). w.kind) next_is ∙ sym (root_kind-plain next_tree refl (n.state.innermost.expressions.0, n.state.innermost.expressions.1, tt)) in
+      let kind_is : v.kind ≡ root_kind (plain next_tree) = ap (λ (w : Visit). w.kind) next_is
+      ∙ sym (root_kind-plain next_tree refl (n.state.innermost.expressions.0, n.state.innermost.expressions.1, tt)) in
       let decides : k ≡ deciding_kind frame.place (plain next_tree)
-      = e ∙ ap (λ (w : Visit). deciding frame.place (tree_at w.id (forest now))) next_is ∙ ap (deciding frame.place) tree_here ∙ deciding_is frame.place n.label n.below n.rest n.state.innermost.expressions in
+      = e ∙ ap (λ (w : Visit). deciding frame.place (tree_at w.id (forest now))) next_is ∙ ap (deciding frame.place) tree_here
+      ∙ deciding_is frame.place n.label n.below n.rest n.state.innermost.expressions in
       f ∙ (λ i. around_kind frame.place (kind_is i) (decides i))
 
 -- the parts of a node are few
@@ -280,8 +292,10 @@ marked a b c d = join_assoc a (join b c) d ∙ ap (join a) (join_assoc b c d)
 regroup : (a b c d : List ℕ) → ((a ++ b) ++ c) ++ d ≡ a ++ (b ++ (c ++ d))
 regroup a b c d = append_assoc (a ++ b) c d ∙ append_assoc a b (c ++ d)
 
-pub entered : {l : Layout} {old now : State} {at : ℕ} {cells : List Visit} {popped : List Frame} {frame : Frame} (after : State) (marks_placed : ℕ) (around : Option Kind) (begin : ℕ) (d : Visit) (frames : List Frame)
-    → (n : IsNext l old now at cells popped frame) → PlacesMark (mark_before frame.place) (forest now) (forest after) marks_placed → KeepsRefusals now after → taking (free_of now) (around_sizes (mark_before frame.place)) ≡ Ok (free_of after) → Stands after
+pub entered : {l : Layout} {old now : State} {at : ℕ} {cells : List Visit} {popped : List Frame} {frame : Frame} (after : State) (marks_placed : ℕ) (around : Option Kind)
+    (begin : ℕ) (d : Visit) (frames : List Frame)
+    → (n : IsNext l old now at cells popped frame) → PlacesMark (mark_before frame.place) (forest now) (forest after) marks_placed → KeepsRefusals now after
+    → taking (free_of now) (around_sizes (mark_before frame.place)) ≡ Ok (free_of after) → Stands after
     → around ≡ around_of frame.place (plain (tree n.label n.below empty)) → begin ≡ used after.nodes
     → frames ≡ (popped ++ frame_behind frame marks_placed ∷ []) ++ frame_of (get_or cells at d) around begin ∷ []
     → IsUnderWay l old after (at + 1) cells frames
@@ -391,7 +405,8 @@ pub record IsClosing (l : Layout) (old now : State) (popped : List Frame) (frame
   pub popped_is : popped ≡ frames_of outer
   pub state : IsState l old now at cells (owed_of frame source parts empty) outer
 
-pub closing : {l : Layout} {old now : State} {at : ℕ} {cells : List Visit} {popped : List Frame} {frame : Frame} → IsTop l old now at cells popped frame → frame.left ≡ 0 → IsClosing l old now popped frame at cells
+pub closing : {l : Layout} {old now : State} {at : ℕ} {cells : List Visit} {popped : List Frame} {frame : Frame} → IsTop l old now at cells popped frame → frame.left ≡ 0
+    → IsClosing l old now popped frame at cells
 closing {l = l} {old = old} {now = now} {at = at} {cells = cells} {popped = popped} {frame = frame} t z = by t.rest t.state
   where
     by : (rest : Forest) → IsState l old now at cells (owed_of frame t.source t.parts rest) t.outer → IsClosing l old now popped frame at cells
@@ -439,11 +454,13 @@ module _ {l : Layout} {old now : State} {at : ℕ} {cells : List Visit} {popped 
       → Ends id (held_in frame.around id (one_tree c.root (laid k.source) k.parts)) (join (forest old) (made_of k.outer)) (forest after)
   closed_whole after id c = grind (arith, ends_as, close_source, close_last, close_before)
 
-  left_sizes : (after : State) → taking (free_of now) (root_sizes (payload_in frame.id (forest now)) frame.around) ≡ Ok (free_of after) → taking (free_of old) (part_sizes l) ≡ taking (free_of after) (sizes_left k.outer)
+  left_sizes : (after : State) → taking (free_of now) (root_sizes (payload_in frame.id (forest now)) frame.around) ≡ Ok (free_of after)
+      → taking (free_of old) (part_sizes l) ≡ taking (free_of after) (sizes_left k.outer)
   left_sizes after h = grind (arith, close_source, taken_first)
 
   -- nothing is left
-  pub closed_all : (after : State) (id : ℕ) → popped ≡ [] → Closes (payload_in frame.id (forest now)) frame.around frame.parts (forest now) (forest after) id → GivesLayout (forest old) (forest after) id l
+  pub closed_all : (after : State) (id : ℕ) → popped ≡ [] → Closes (payload_in frame.id (forest now)) frame.around frame.parts (forest now) (forest after) id
+      → GivesLayout (forest old) (forest after) id l
   closed_all after id empty_list c = by k.outer k.popped_is drawing (closed_whole after id c)
     where
       by : (outer : List Owed) → popped ≡ frames_of outer → plugged outer (within frame.around (drawn (laid k.source) (drawings k.parts))) ≡ l
@@ -459,7 +476,8 @@ module _ {l : Layout} {old now : State} {at : ℕ} {cells : List Visit} {popped 
             drawing_is = t.drawing_is ∙ ap one_part d;
           }
 
-  pub closed_room : (after : State) → popped ≡ [] → taking (free_of now) (root_sizes (payload_in frame.id (forest now)) frame.around) ≡ Ok (free_of after) → taking (free_of old) (part_sizes l) ≡ Ok (free_of after)
+  pub closed_room : (after : State) → popped ≡ [] → taking (free_of now) (root_sizes (payload_in frame.id (forest now)) frame.around) ≡ Ok (free_of after)
+      → taking (free_of old) (part_sizes l) ≡ Ok (free_of after)
   closed_room after empty_list room = by k.outer k.popped_is (left_sizes after room)
     where
       by : (outer : List Owed) → popped ≡ frames_of outer → taking (free_of old) (part_sizes l) ≡ taking (free_of after) (sizes_left outer) → taking (free_of old) (part_sizes l) ≡ Ok (free_of after)
@@ -471,7 +489,8 @@ module _ {l : Layout} {old now : State} {at : ℕ} {cells : List Visit} {popped 
       → taking (free_of now) (root_sizes (payload_in frame.id (forest now)) frame.around) ≡ Ok (free_of after) → Stands after → IsUnderWay l old after at cells popped
   closed_one after id some c kept room st = by k.outer k.popped_is k.state.cells_are k.state.others drawing (closed_whole after id c) (left_sizes after room)
     where
-      by : (outer : List Owed) → popped ≡ frames_of outer → drop at cells ≡ map visit_of (nodes_left outer) → AreOwed (forest old) 1 outer → plugged outer (within frame.around (drawn (laid k.source) (drawings k.parts))) ≡ l
+      by : (outer : List Owed) → popped ≡ frames_of outer → drop at cells ≡ map visit_of (nodes_left outer) → AreOwed (forest old) 1 outer
+          → plugged outer (within frame.around (drawn (laid k.source) (drawings k.parts))) ≡ l
           → Ends id (held_in frame.around id (one_tree c.root (laid k.source) k.parts)) (join (forest old) (made_of outer)) (forest after)
           → taking (free_of old) (part_sizes l) ≡ taking (free_of after) (sizes_left outer) → IsUnderWay l old after at cells popped
       by [] p n o d e b = absurd (omega (arith, ap length p, some))
@@ -496,7 +515,8 @@ module _ {l : Layout} {old now : State} {at : ℕ} {cells : List Visit} {popped 
                 known = w.0.known;
                 live = w.0.live;
                 source_is = w.0.source_is;
-                composed_whole = ap (λ (n : ℕ). composes (laid o.source) (n + count_parts (parts_left o))) (let same : arity (join o.parts tree_made) + 0 ≡ arity o.parts + 1 = omega (arith, arity-join o.parts tree_made, t.alone) in same) ∙ w.0.composed_whole;
+                composed_whole = ap (λ (n : ℕ). composes (laid o.source) (n + count_parts (parts_left o)))
+                    (let same : arity (join o.parts tree_made) + 0 ≡ arity o.parts + 1 = omega (arith, arity-join o.parts tree_made, t.alone) in same) ∙ w.0.composed_whole;
                 around = w.0.around;
               };
               others = w.1;
@@ -512,7 +532,8 @@ module _ {l : Layout} {old now : State} {at : ℕ} {cells : List Visit} {popped 
 
   -- ---- a refusal
 
-  pub close_stopped : (after : State) (full : Full) → IsStopped (before_last frame.parts (forest now)) (root_sizes (payload_in frame.id (forest now)) frame.around) now after full → HasStopped l old after full
+  pub close_stopped : (after : State) (full : Full) → IsStopped (before_last frame.parts (forest now)) (root_sizes (payload_in frame.id (forest now)) frame.around) now after full
+      → HasStopped l old after full
   close_stopped after full s = grind (arith, close_source, refused_first, refuses_after, keeps_starting, starts_as, close_before)
 
 -- a mark was refused

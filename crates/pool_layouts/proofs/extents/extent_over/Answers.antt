@@ -18,10 +18,12 @@ second-requires-clause-some c = let (k, o, e) = c.requires.over in let t = over_
 pub returns-in-Fraction : goal.returns-in-Fraction
 returns-in-Fraction c = λ k o e.
     let t = over_two o (sym c.kind.ensures.value ∙ c.in-Fraction.is) in
-    fraction_is t.upper t.above t.lower t.below c.extent_at.result c.second.result c.over.result (c.extent_at.ensures.value t.upper t.above (tree t.lower t.below empty) t.small) (c.second.ensures.value t.lower t.below (pair_over t)) c.over.ensures ∙ two_extent t
+    fraction_is t.upper t.above t.lower t.below c.extent_at.result c.second.result c.over.result (c.extent_at.ensures.value t.upper t.above (tree t.lower t.below empty) t.small)
+    (c.second.ensures.value t.lower t.below (pair_over t)) c.over.ensures ∙ two_extent t
 
 pub extent_at-requires-in-Raised-clause-some : goal.extent_at-requires-in-Raised-clause-some
-extent_at-requires-in-Raised-clause-some c = let (k, o, e) = c.requires.over in let t = over_one kind.Raised (λ n. refl) refl o (sym c.kind.ensures.value ∙ c.in-Raised.is) in (t.label, t.below, empty, t.small)
+extent_at-requires-in-Raised-clause-some c = let (k, o, e) = c.requires.over in let t =
+    over_one kind.Raised (λ n. refl) refl o (sym c.kind.ensures.value ∙ c.in-Raised.is) in (t.label, t.below, empty, t.small)
 
 pub returns-in-Raised : goal.returns-in-Raised
 returns-in-Raised c = λ k o e.
@@ -29,7 +31,8 @@ returns-in-Raised c = λ k o e.
     raised_is t.label t.below c.extent_at-in-Raised.result c.raised.result (c.extent_at-in-Raised.ensures.value t.label t.below empty t.small) c.raised.ensures ∙ one_extent t
 
 pub extent_at-requires-in-Radical-clause-some : goal.extent_at-requires-in-Radical-clause-some
-extent_at-requires-in-Radical-clause-some c = let (k, o, e) = c.requires.over in let t = over_one kind.Radical (λ n. refl) refl o (sym c.kind.ensures.value ∙ c.in-Radical.is) in (t.label, t.below, empty, t.small)
+extent_at-requires-in-Radical-clause-some c = let (k, o, e) = c.requires.over in let t =
+    over_one kind.Radical (λ n. refl) refl o (sym c.kind.ensures.value ∙ c.in-Radical.is) in (t.label, t.below, empty, t.small)
 
 pub returns-in-Radical : goal.returns-in-Radical
 returns-in-Radical c = λ k o e.
@@ -37,7 +40,8 @@ returns-in-Radical c = λ k o e.
     radical_is t.label t.below c.extent_at-in-Radical.result c.under_root.result (c.extent_at-in-Radical.ensures.value t.label t.below empty t.small) c.under_root.ensures ∙ one_extent t
 
 pub extent_at-requires-in-Paren-clause-some : goal.extent_at-requires-in-Paren-clause-some
-extent_at-requires-in-Paren-clause-some c = let (k, o, e) = c.requires.over in let t = over_one kind.Paren (λ n. refl) refl o (sym c.kind.ensures.value ∙ c.in-Paren.is) in (t.label, t.below, empty, t.small)
+extent_at-requires-in-Paren-clause-some c = let (k, o, e) = c.requires.over in let t =
+    over_one kind.Paren (λ n. refl) refl o (sym c.kind.ensures.value ∙ c.in-Paren.is) in (t.label, t.below, empty, t.small)
 
 pub returns-in-Paren : goal.returns-in-Paren
 returns-in-Paren c = λ k o e.
@@ -47,4 +51,6 @@ returns-in-Paren c = λ k o e.
 pub returns-in_default : goal.returns-in_default
 returns-in_default c = λ k o e.
     ap (λ w. let r : Extent = record { nodes = 1; width = w; above = 0; below = 0 } in r) c.leaf_width.ensures
-    ∙ leaf_extent (payload_in c.args.node (forest c.args.pool.now)) k o.payload o.composed_node (λ h. c.in_default.not-Row (c.kind.ensures.value ∙ h)) (λ h. c.in_default.not-Fraction (c.kind.ensures.value ∙ h)) (λ h. c.in_default.not-Raised (c.kind.ensures.value ∙ h)) (λ h. c.in_default.not-Radical (c.kind.ensures.value ∙ h)) (λ h. c.in_default.not-Paren (c.kind.ensures.value ∙ h))
+    ∙ leaf_extent (payload_in c.args.node (forest c.args.pool.now)) k o.payload o.composed_node (λ h. c.in_default.not-Row (c.kind.ensures.value ∙ h))
+    (λ h. c.in_default.not-Fraction (c.kind.ensures.value ∙ h)) (λ h. c.in_default.not-Raised (c.kind.ensures.value ∙ h))
+    (λ h. c.in_default.not-Radical (c.kind.ensures.value ∙ h)) (λ h. c.in_default.not-Paren (c.kind.ensures.value ∙ h))

@@ -27,7 +27,9 @@ returns-in-Leaf c =
     let h : IsInk (forest c.args.pool.now) (inks.Leaf c.in-Leaf.node) = subst (IsInk (forest c.args.pool.now)) c.in-Leaf.is c.requires.ink in
     let leaf = leaf_bytes (payload_in c.in-Leaf.node (forest c.args.pool.now)) in
     record {
-      text = c.write_leaf.ensures ∙ ap (λ (x : Content). extended x leaf) c.repeat.ensures ∙ extended_twice c.args.text.now (replicate c.args.blanks 32) leaf ∙ ap (extended c.args.text.now) (sym (leaf_inked (forest c.args.pool.now) c.in-Leaf.node c.args.blanks h) ∙ ap (λ (x : Ink). encode_utf8_all (inked c.args.blanks (ink_characters (forest c.args.pool.now) x))) (sym c.in-Leaf.is));
+      text = c.write_leaf.ensures ∙ ap (λ (x : Content). extended x leaf) c.repeat.ensures ∙ extended_twice c.args.text.now (replicate c.args.blanks 32) leaf
+          ∙ ap (extended c.args.text.now)
+          (sym (leaf_inked (forest c.args.pool.now) c.in-Leaf.node c.args.blanks h) ∙ ap (λ (x : Ink). encode_utf8_all (inked c.args.blanks (ink_characters (forest c.args.pool.now) x))) (sym c.in-Leaf.is));
       blanks = sym (ap (λ (x : Ink). blanks_left c.args.blanks (ink_characters (forest c.args.pool.now) x)) c.in-Leaf.is ∙ none_owed c.args.blanks (leaf_characters (payload_in c.in-Leaf.node (forest c.args.pool.now))) h.2);
     }
 
@@ -43,11 +45,14 @@ paint_bar-requires-in-Roof c =
 
 pub returns-in-Bar-clause-text : goal.returns-in-Bar-clause-text
 returns-in-Bar-clause-text c =
-    c.paint_bar.ensures.text ∙ ap (extended c.args.text.now) (sym (bar_inked 45 c.args.blanks c.in-Bar.columns (omega arith)) ∙ ap (λ (x : Ink). encode_utf8_all (inked c.args.blanks (ink_characters (forest c.args.pool.now) x))) (sym c.in-Bar.is))
+    c.paint_bar.ensures.text ∙ ap (extended c.args.text.now)
+    (sym (bar_inked 45 c.args.blanks c.in-Bar.columns (omega arith)) ∙ ap (λ (x : Ink). encode_utf8_all (inked c.args.blanks (ink_characters (forest c.args.pool.now) x))) (sym c.in-Bar.is))
 
 pub returns-in-Roof-clause-text : goal.returns-in-Roof-clause-text
 returns-in-Roof-clause-text c =
-    c.paint_bar-in-Roof.ensures.text ∙ ap (extended c.args.text.now) (sym (bar_inked 95 c.args.blanks c.in-Roof.columns (omega arith)) ∙ ap (λ (x : Ink). encode_utf8_all (inked c.args.blanks (ink_characters (forest c.args.pool.now) x))) (sym c.in-Roof.is))
+    c.paint_bar-in-Roof.ensures.text
+    ∙ ap (extended c.args.text.now)
+    (sym (bar_inked 95 c.args.blanks c.in-Roof.columns (omega arith)) ∙ ap (λ (x : Ink). encode_utf8_all (inked c.args.blanks (ink_characters (forest c.args.pool.now) x))) (sym c.in-Roof.is))
 
 pub paint_character-requires : goal.paint_character-requires
 paint_character-requires c =
@@ -62,16 +67,28 @@ paint_character-requires-in-Open c =
 pub paint_character-requires-in-Close : goal.paint_character-requires-in-Close
 paint_character-requires-in-Close c =
     let room = subst (λ (x : Ink). length (encode_utf8_all (inked c.args.blanks (ink_characters (forest c.args.pool.now) x))) ≤ spare_of c.args.text.now) c.in-Close.is c.requires.room in
-    omega (arith, room, ap length (character_inked 41 c.args.blanks _ (small_bytes (codes ")") (omega arith, tt))), length-append (replicate {A = ℕ} c.args.blanks 32) (codes ")"), length-replicate {A = ℕ} c.args.blanks 32)
+    omega (
+      arith,
+      room,
+      ap length (character_inked 41 c.args.blanks _ (small_bytes (codes ")") (omega arith, tt))),
+      length-append (replicate {A = ℕ} c.args.blanks 32)
+          (codes ")"),
+      length-replicate {A = ℕ} c.args.blanks 32,
+    )
 
 pub returns-in-Root-clause-text : goal.returns-in-Root-clause-text
 returns-in-Root-clause-text c =
-    c.paint_character.ensures.text ∙ ap (extended c.args.text.now) (sym (character_inked root_character c.args.blanks _ root_encoded) ∙ ap (λ (x : Ink). encode_utf8_all (inked c.args.blanks (ink_characters (forest c.args.pool.now) x))) (sym c.in-Root.is))
+    c.paint_character.ensures.text
+    ∙ ap (extended c.args.text.now)
+    (sym (character_inked root_character c.args.blanks _ root_encoded) ∙ ap (λ (x : Ink). encode_utf8_all (inked c.args.blanks (ink_characters (forest c.args.pool.now) x))) (sym c.in-Root.is))
 
 pub returns-in-Open-clause-text : goal.returns-in-Open-clause-text
 returns-in-Open-clause-text c =
-    c.paint_character-in-Open.ensures.text ∙ ap (extended c.args.text.now) (sym (character_inked 40 c.args.blanks _ (small_bytes (codes "(") (omega arith, tt))) ∙ ap (λ (x : Ink). encode_utf8_all (inked c.args.blanks (ink_characters (forest c.args.pool.now) x))) (sym c.in-Open.is))
+    c.paint_character-in-Open.ensures.text
+    ∙ ap (extended c.args.text.now)
+    (sym (character_inked 40 c.args.blanks _ (small_bytes (codes "(") (omega arith, tt))) ∙ ap (λ (x : Ink). encode_utf8_all (inked c.args.blanks (ink_characters (forest c.args.pool.now) x))) (sym c.in-Open.is))
 
 pub returns-in-Close-clause-text : goal.returns-in-Close-clause-text
 returns-in-Close-clause-text c =
-    c.paint_character-in-Close.ensures.text ∙ ap (extended c.args.text.now) (sym (character_inked 41 c.args.blanks _ (small_bytes (codes ")") (omega arith, tt))) ∙ ap (λ (x : Ink). encode_utf8_all (inked c.args.blanks (ink_characters (forest c.args.pool.now) x))) (sym c.in-Close.is))
+    c.paint_character-in-Close.ensures.text ∙ ap (extended c.args.text.now) (sym (character_inked 41 c.args.blanks _ (small_bytes (codes ")") (omega arith, tt)))
+    ∙ ap (λ (x : Ink). encode_utf8_all (inked c.args.blanks (ink_characters (forest c.args.pool.now) x))) (sym c.in-Close.is))

@@ -27,7 +27,8 @@ loop-frame-init c = record {
 here : (c : In-Some) → IsTop (layout (plain (tree_at c.args.face (forest c.args.pool.now)))) c.args.pool.now c.loop-frame.pool c.loop-frame.at c.args.cells.now c.pop.new.self.items c.in-Some.frame
 here c = top c.pop.new.self.items c.in-Some.frame c.loop-frame.invariant.under_way c.in-Some.ensures.items
 
-last : (c : In-Some) → c.in-Some.frame.left ≡ 0 → IsClosing (layout (plain (tree_at c.args.face (forest c.args.pool.now)))) c.args.pool.now c.loop-frame.pool c.pop.new.self.items c.in-Some.frame c.loop-frame.at c.args.cells.now
+last : (c : In-Some) → c.in-Some.frame.left ≡ 0
+    → IsClosing (layout (plain (tree_at c.args.face (forest c.args.pool.now)))) c.args.pool.now c.loop-frame.pool c.pop.new.self.items c.in-Some.frame c.loop-frame.at c.args.cells.now
 last c z = closing (here c) z
 
 pub returns-in_err-marks-clause-front : goal.returns-in_err-marks-clause-front
@@ -89,7 +90,8 @@ loop-frame-preserved-then-frame-gt0 c =
       under_way = entered c.place_mark.new.pool c.in_ok-marks.marks c.around-around.result c.used-then-frame-gt0.result c.index-cells-at.result c.append-then-frame-gt0-2.new.list.items n c.in_ok-marks.ensures.ok c.in_ok-marks.ensures.kept c.in_ok-marks.ensures.room c.place_mark.ensures.stands
           (next_around n c.index-cells-at.result c.index-cells-at.is c.deciding_kind-deciding.result c.around-around.result c.deciding_kind-deciding.ensures c.around-around.ensures) c.used-then-frame-gt0.ensures.value
           (c.append-then-frame-gt0-2.ensures.items ∙ ap (λ (xs : List Frame). xs ++ c.of-then-frame-gt0.result ∷ []) c.append-then-frame-gt0.ensures.items
-          ∙ ap (λ (f : Frame). (popped ++ f ∷ []) ++ c.of-then-frame-gt0.result ∷ []) c.behind.ensures ∙ ap (λ (f : Frame). (popped ++ frame_behind c.in-Some.frame c.in_ok-marks.marks ∷ []) ++ f ∷ []) c.of-then-frame-gt0.ensures
+          ∙ ap (λ (f : Frame). (popped ++ f ∷ []) ++ c.of-then-frame-gt0.result ∷ []) c.behind.ensures
+          ∙ ap (λ (f : Frame). (popped ++ frame_behind c.in-Some.frame c.in_ok-marks.marks ∷ []) ++ f ∷ []) c.of-then-frame-gt0.ensures
           ∙ ap (λ (x : Visit). (popped ++ frame_behind c.in-Some.frame c.in_ok-marks.marks ∷ []) ++ frame_of x c.around-around.result c.used-then-frame-gt0.result ∷ []) c.index-cells-at.is);
       capacity = omega (arith, c.loop-frame.invariant.capacity, c.pop.ensures.capacity, c.append-then-frame-gt0.ensures.capacity, c.append-then-frame-gt0-2.ensures.capacity);
     }
@@ -119,7 +121,8 @@ returns-in_err-last-clause-full c =
 pub returns-then-is_empty-clause-ok : goal.returns-then-is_empty-clause-ok
 returns-then-is_empty-clause-ok c =
     let k = last (goal.at.returns-then-is_empty-clause-ok c).In-Some (omega (arith, c.if-frame-gt0.false)) in
-    closed_all k c.close.new.pool c.in_ok-last.last (none_left c.pop.new.self.items (empty_as c.pop.new.self.items (vec_len c.pop.new.self) (omega (arith, c.pop.new.self.ok.0)) ∙ sym c.is_empty.ensures ∙ c.if-is_empty.true)) c.in_ok-last.ensures.ok
+    closed_all k c.close.new.pool c.in_ok-last.last
+    (none_left c.pop.new.self.items (empty_as c.pop.new.self.items (vec_len c.pop.new.self) (omega (arith, c.pop.new.self.ok.0)) ∙ sym c.is_empty.ensures ∙ c.if-is_empty.true)) c.in_ok-last.ensures.ok
 
 pub returns-then-is_empty-clause-front : goal.returns-then-is_empty-clause-front
 returns-then-is_empty-clause-front c =
@@ -132,12 +135,14 @@ returns-then-is_empty-clause-kept c = keeps_after c.args.pool.now c.loop-frame.p
 pub returns-then-is_empty-clause-room : goal.returns-then-is_empty-clause-room
 returns-then-is_empty-clause-room c =
     let k = last (goal.at.returns-then-is_empty-clause-room c).In-Some (omega (arith, c.if-frame-gt0.false)) in
-    closed_room k c.close.new.pool (none_left c.pop.new.self.items (empty_as c.pop.new.self.items (vec_len c.pop.new.self) (omega (arith, c.pop.new.self.ok.0)) ∙ sym c.is_empty.ensures ∙ c.if-is_empty.true)) c.in_ok-last.ensures.room
+    closed_room k c.close.new.pool
+    (none_left c.pop.new.self.items (empty_as c.pop.new.self.items (vec_len c.pop.new.self) (omega (arith, c.pop.new.self.ok.0)) ∙ sym c.is_empty.ensures ∙ c.if-is_empty.true)) c.in_ok-last.ensures.room
 
 pub loop-frame-preserved : goal.loop-frame-preserved
 loop-frame-preserved c =
     let k = last (goal.at.loop-frame-preserved c).In-Some (omega (arith, c.if-frame-gt0.false)) in
     record {
-      under_way = closed_one k c.close.new.pool c.in_ok-last.last (some_left c.pop.new.self.items (empty_as c.pop.new.self.items (vec_len c.pop.new.self) (omega (arith, c.pop.new.self.ok.0)) ∙ sym c.is_empty.ensures ∙ c.if-is_empty.false)) c.in_ok-last.ensures.ok c.in_ok-last.ensures.kept c.in_ok-last.ensures.room c.close.ensures.stands;
+      under_way = closed_one k c.close.new.pool c.in_ok-last.last
+          (some_left c.pop.new.self.items (empty_as c.pop.new.self.items (vec_len c.pop.new.self) (omega (arith, c.pop.new.self.ok.0)) ∙ sym c.is_empty.ensures ∙ c.if-is_empty.false)) c.in_ok-last.ensures.ok c.in_ok-last.ensures.kept c.in_ok-last.ensures.room c.close.ensures.stands;
       capacity = omega (arith, c.loop-frame.invariant.capacity, c.pop.ensures.capacity);
     }

@@ -10,9 +10,12 @@ node_over_last-requires c =
 pub returns-in-Some : goal.returns-in-Some
 returns-in-Some c =
     record {
-      ok = ok_as c.node_over_last.result c.node_over_last.ensures.ok (λ h e. subst (λ (a : Option Kind). StandsIn a c.args.last (forest c.args.pool.now) (forest c.node_over_last.new.pool) h) (sym c.in-Some.is) (stands_over c.in-Some.outer c.args.last h (forest c.args.pool.now) (forest c.node_over_last.new.pool) e));
-      room = subst (λ (a : Option Kind). OnOk c.node_over_last.result (taking (free_of c.args.pool.now) (around_sizes a) ≡ Ok (free_of c.node_over_last.new.pool))) (sym c.in-Some.is) (placed_last c.args.pool.now c.node_over_last.new.pool 1 (bare c.in-Some.outer) c.node_over_last.result c.requires.stands c.node_over_last.ensures.stands c.node_over_last.ensures.kept c.node_over_last.ensures.ok c.node_over_last.ensures.exactly);
-      full = subst (λ (a : Option Kind). IfErr c.node_over_last.result (IsStopped (forest c.args.pool.now) (around_sizes a) c.args.pool.now c.node_over_last.new.pool)) (sym c.in-Some.is) (refused_last c.args.pool.now c.node_over_last.new.pool (size_of_payload (bare c.in-Some.outer)) c.node_over_last.result c.node_over_last.ensures.full c.node_over_last.ensures.exactly);
+      ok = ok_as c.node_over_last.result c.node_over_last.ensures.ok
+          (λ h e. subst (λ (a : Option Kind). StandsIn a c.args.last (forest c.args.pool.now) (forest c.node_over_last.new.pool) h) (sym c.in-Some.is) (stands_over c.in-Some.outer c.args.last h (forest c.args.pool.now) (forest c.node_over_last.new.pool) e));
+      room = subst (λ (a : Option Kind). OnOk c.node_over_last.result (taking (free_of c.args.pool.now) (around_sizes a) ≡ Ok (free_of c.node_over_last.new.pool)))
+          (sym c.in-Some.is) (placed_last c.args.pool.now c.node_over_last.new.pool 1 (bare c.in-Some.outer) c.node_over_last.result c.requires.stands c.node_over_last.ensures.stands c.node_over_last.ensures.kept c.node_over_last.ensures.ok c.node_over_last.ensures.exactly);
+      full = subst (λ (a : Option Kind). IfErr c.node_over_last.result (IsStopped (forest c.args.pool.now) (around_sizes a) c.args.pool.now c.node_over_last.new.pool))
+          (sym c.in-Some.is) (refused_last c.args.pool.now c.node_over_last.new.pool (size_of_payload (bare c.in-Some.outer)) c.node_over_last.result c.node_over_last.ensures.full c.node_over_last.ensures.exactly);
       kept = search rules;
       stands = search rules;
     }

@@ -58,7 +58,8 @@ loop-step-preserved c =
       painting = λ line h.
           let d = due c.in-Some.step c.pop.new.self.items (c.loop-step.invariant.painting line h) c.in-Some.ensures.items in
           let s = stepped d (c.open_step-opened.ensures base d.cs d.shown) in
-          subst (λ (n : ℕ). IsPainting base c.args.cells.now c.args.extents.now c.push_if-in-Some.new.steps.items n c.paint_ink-blanks.new.text.bytes c.args.text.now.bytes line) (sym c.paint_ink-blanks.ensures.blanks)
+          subst (λ (n : ℕ). IsPainting base c.args.cells.now c.args.extents.now c.push_if-in-Some.new.steps.items n c.paint_ink-blanks.new.text.bytes c.args.text.now.bytes line)
+          (sym c.paint_ink-blanks.ensures.blanks)
           (s.goes_on c.paint_ink-blanks.new.text.bytes c.push_if-in-Some.new.steps.items (ap (λ (x : Content). x.bytes) c.paint_ink-blanks.ensures.text) (c.push_if-in-Some.ensures.items ∙ ap (λ (x : List Step). x ++ option_to_list c.open_step-opened.result.first) c.push_if.ensures.items));
       capacity = ap (λ (x : Content). x.capacity) c.paint_ink-blanks.ensures.text ∙ c.loop-step.invariant.capacity;
       deep = omega (arith, c.loop-step.invariant.deep, c.pop.ensures.capacity, c.push_if.ensures.capacity, c.push_if-in-Some.ensures.capacity);
@@ -66,4 +67,5 @@ loop-step-preserved c =
 
 pub returns-clause-painted : goal.returns-clause-painted
 returns-clause-painted c = λ line h.
-    content_is c.loop-step.text (extended c.args.text.now (encode_utf8_all (cut line))) (painted (c.loop-step.invariant.painting line h) (omega (arith, c.in_default.ensures.cases.0, c.loop-step.steps.ok.0))) c.loop-step.invariant.capacity
+    content_is c.loop-step.text (extended c.args.text.now (encode_utf8_all (cut line)))
+    (painted (c.loop-step.invariant.painting line h) (omega (arith, c.in_default.ensures.cases.0, c.loop-step.steps.ok.0))) c.loop-step.invariant.capacity

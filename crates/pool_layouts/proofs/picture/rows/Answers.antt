@@ -3,14 +3,16 @@ use Rattle.pool_layouts.proofs.{Measuring.{IsMeasured, measured, measured_first,
 use Rattle.pool_layouts.proofs.picture.rows.Goals as goal
 
 pub list_nodes-requires-clause-room : goal.list_nodes-requires-clause-room
-list_nodes-requires-clause-room c = omega (arith, nodes_served c.args.pool.now c.args.layout c.requires.stands, c.requires.served, c.drafter.invariant.cells, ap (λ (d : Draft). d.pool_size) c.drafter.view_is)
+list_nodes-requires-clause-room c =
+    omega (arith, nodes_served c.args.pool.now c.args.layout c.requires.stands, c.requires.served, c.drafter.invariant.cells, ap (λ (d : Draft). d.pool_size) c.drafter.view_is)
 
 pub list_extents-requires-clause-room : goal.list_extents-requires-clause-room
 list_extents-requires-clause-room c =
     omega (arith, ap length (c.as_slice-cells.ensures.value ∙ c.list_nodes.ensures.listed), visits_length (tree_at c.args.layout (forest c.args.pool.now)), nodes_served c.args.pool.now c.args.layout c.requires.stands, c.requires.served, c.drafter.invariant.extents, ap (λ (d : Draft). d.pool_size) c.drafter.view_is)
 
 pub list_extents-requires-clause-few : goal.list_extents-requires-clause-few
-list_extents-requires-clause-few c = omega (arith, ap length (c.as_slice-cells.ensures.value ∙ c.list_nodes.ensures.listed), visits_length (tree_at c.args.layout (forest c.args.pool.now)), few_in c.args.layout c.args.pool.now c.requires.stands)
+list_extents-requires-clause-few c =
+    omega (arith, ap length (c.as_slice-cells.ensures.value ∙ c.list_nodes.ensures.listed), visits_length (tree_at c.args.layout (forest c.args.pool.now)), few_in c.args.layout c.args.pool.now c.requires.stands)
 
 measured_here : (c : After-as_slice-extents) → IsMeasured c.args.pool.now c.args.layout c.as_slice-extents.result.now
 measured_here c =

@@ -15,13 +15,16 @@ listed_here c = c.as_slice-cells.ensures.value ∙ ap (λ (d : Draft). d.nodes) 
 pub extent_at-requires-clause-some : goal.extent_at-requires-clause-some
 extent_at-requires-clause-some c = measured_first c.args.pool.now c.args.layout c.as_slice-extents.result.now (measured_here (goal.at.extent_at-requires-clause-some c).After-as_slice-extents)
 
-line_here : (c : After-append) → IsLine (forest c.args.pool.now) c.as_slice-cells.result.now c.as_slice-extents.result.now c.append.new.list.items ((picture (drawing (tree_at c.args.layout (forest c.args.pool.now)))).line c.args.row)
+line_here : (c : After-append)
+    → IsLine (forest c.args.pool.now) c.as_slice-cells.result.now c.as_slice-extents.result.now c.append.new.list.items
+    ((picture (drawing (tree_at c.args.layout (forest c.args.pool.now)))).line c.args.row)
 line_here c =
     let m = measured c.args.pool.now c.args.layout c.as_slice-extents.result.now c.requires.stands c.requires.layout
     (subst (HasExtents (tree_at c.args.layout (forest c.args.pool.now)) 0) (sym (c.as_slice-extents.ensures.value ∙ ap (λ (d : Draft). d.extents) c.drafter.view_is)) c.requires.measured.measured) in
     row_line c.args.pool.now c.args.layout c.as_slice-cells.result.now c.as_slice-extents.result.now c.append.new.list.items c.extent_at.result.nodes c.args.row c.requires.stands c.requires.layout
     (c.as_slice-cells.ensures.value ∙ ap (λ (d : Draft). d.nodes) c.drafter.view_is ∙ c.requires.measured.listed) m
-    (ap (λ (x : Extent). x.nodes) (c.extent_at.ensures.value m.label m.below empty m.small)) c.requires.row (c.append.ensures.items ∙ ap (λ (x : List Step). x ++ step.Part (span_of 0 c.extent_at.result.nodes) c.args.row ∷ []) c.clear.ensures.items)
+    (ap (λ (x : Extent). x.nodes) (c.extent_at.ensures.value m.label m.below empty m.small)) c.requires.row
+    (c.append.ensures.items ∙ ap (λ (x : List Step). x ++ step.Part (span_of 0 c.extent_at.result.nodes) c.args.row ∷ []) c.clear.ensures.items)
 
 pub paint-requires : goal.paint-requires
 paint-requires c =

@@ -47,7 +47,8 @@ extent_at-requires-in-Radical-clause-some c =
 
 pub returns-in-Row : goal.returns-in-Row
 returns-in-Row c = λ base cs p.
-    subst (Opens base c.args.cells.now c.args.extents.now (step.Part c.args.span c.args.row) cs) (sym c.open_row.ensures) (row_opens p c.extent_at.result c.index-cells-at.result (sym (ap (λ (x : Visit). x.kind) c.index-cells-at.is) ∙ c.in-Row.is) (c.extent_at.ensures.value p.label p.below empty p.listed.small))
+    subst (Opens base c.args.cells.now c.args.extents.now (step.Part c.args.span c.args.row) cs) (sym c.open_row.ensures)
+    (row_opens p c.extent_at.result c.index-cells-at.result (sym (ap (λ (x : Visit). x.kind) c.index-cells-at.is) ∙ c.in-Row.is) (c.extent_at.ensures.value p.label p.below empty p.listed.small))
 
 pub returns-in-Fraction : goal.returns-in-Fraction
 returns-in-Fraction c = λ base cs p.
@@ -58,12 +59,14 @@ returns-in-Fraction c = λ base cs p.
 pub returns-in-Raised : goal.returns-in-Raised
 returns-in-Raised c = λ base cs p.
     let t = over_one kind.Raised (λ n. refl) refl (is_over p.label p.below p.listed) (seen_kind p kind.Raised c.index-cells-at.result c.index-cells-at.is c.in-Raised.is) in
-    subst (Opens base c.args.cells.now c.args.extents.now (step.Part c.args.span c.args.row) cs) (sym c.open_raised.ensures) (raised_opens p c.extent_at-in-Raised.result t (c.extent_at-in-Raised.ensures.value t.label t.below empty t.small))
+    subst (Opens base c.args.cells.now c.args.extents.now (step.Part c.args.span c.args.row) cs) (sym c.open_raised.ensures)
+    (raised_opens p c.extent_at-in-Raised.result t (c.extent_at-in-Raised.ensures.value t.label t.below empty t.small))
 
 pub returns-in-Radical : goal.returns-in-Radical
 returns-in-Radical c = λ base cs p.
     let t = over_one kind.Radical (λ n. refl) refl (is_over p.label p.below p.listed) (seen_kind p kind.Radical c.index-cells-at.result c.index-cells-at.is c.in-Radical.is) in
-    subst (Opens base c.args.cells.now c.args.extents.now (step.Part c.args.span c.args.row) cs) (sym c.open_radical.ensures) (radical_opens p c.extent_at-in-Radical.result t (c.extent_at-in-Radical.ensures.value t.label t.below empty t.small))
+    subst (Opens base c.args.cells.now c.args.extents.now (step.Part c.args.span c.args.row) cs) (sym c.open_radical.ensures)
+    (radical_opens p c.extent_at-in-Radical.result t (c.extent_at-in-Radical.ensures.value t.label t.below empty t.small))
 
 pub returns-in-Paren : goal.returns-in-Paren
 returns-in-Paren c = λ base cs p.
@@ -73,5 +76,6 @@ returns-in-Paren c = λ base cs p.
 pub returns-in_default : goal.returns-in_default
 returns-in_default c = λ base cs p.
     leaf_opens p c.index-cells-at.result _ (ap (λ (x : Visit). x.id) c.index-cells-at.is)
-    (λ h. c.in_default.not-Row (ap (λ (x : Visit). x.kind) c.index-cells-at.is ∙ h)) (λ h. c.in_default.not-Fraction (ap (λ (x : Visit). x.kind) c.index-cells-at.is ∙ h)) (λ h. c.in_default.not-Raised (ap (λ (x : Visit). x.kind) c.index-cells-at.is ∙ h))
+    (λ h. c.in_default.not-Row (ap (λ (x : Visit). x.kind) c.index-cells-at.is ∙ h)) (λ h. c.in_default.not-Fraction (ap (λ (x : Visit). x.kind) c.index-cells-at.is ∙ h))
+    (λ h. c.in_default.not-Raised (ap (λ (x : Visit). x.kind) c.index-cells-at.is ∙ h))
     (λ h. c.in_default.not-Radical (ap (λ (x : Visit). x.kind) c.index-cells-at.is ∙ h)) (λ h. c.in_default.not-Paren (ap (λ (x : Visit). x.kind) c.index-cells-at.is ∙ h))
