@@ -1,3 +1,4 @@
 pub mod ListedChildren
 pub mod PutBefore
+pub mod LastSums
 mod Shared

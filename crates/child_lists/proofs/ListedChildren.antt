@@ -1,9 +1,8 @@
 -- Lists of children, and what changes of the node do to them.
-use Rattle.child_lists.proofs.Shared.{◌≡◌, ℕ, zero, suc, ◌<◌, ◌≤◌, List, [], ◌∷◌, ◌++◌, Bool, true, false, if◌then◌else◌, ltb, leb, get_or, length, refl, sym, ap}
-use Rattle.child_lists.proofs.Shared.{◌∙◌, subst, arith, insert, remove, Option, Some, None, slice_set, Tree, count, State, Lists, told, listed, with_child, with_other, without_child, root_ids}
-use Rattle.child_lists.proofs.Shared.{Label, Forest, empty, tree, arity, root_id, kids, with_nth, without_nth, set_nth, tree_nth, Gives, IsHanded, IsExpression, children_of, plain, kids_of, tree_at}
-use Rattle.child_lists.proofs.Shared.{has_root, root_tree, put, Stands, forest, kids_of_root, by_test, children_of-plain, count-plains, root-put, kids-put}
-use Rattle.tree_handles.proofs.Given.{given_other, given_same}
+use Rattle.child_lists.proofs.Shared.{◌≡◌, ℕ, zero, suc, ◌<◌, ◌≤◌, List, [], ◌∷◌, ◌++◌, Bool, true, false, if◌then◌else◌, ltb, leb, length, refl, sym, ap, ◌∙◌, subst, arith, insert, remove}
+use Rattle.child_lists.proofs.Shared.{Option, Some, None, slice_set, Tree, count, State, Lists, told, listed, with_child, with_other, without_child, root_ids, Label, Forest, empty, tree, arity}
+use Rattle.child_lists.proofs.Shared.{root_id, kids, with_nth, without_nth, set_nth, Gives, IsHanded, IsExpression, children_of, plain, kids_of, tree_at, has_root, root_tree, put, Stands, forest}
+use Rattle.child_lists.proofs.Shared.{kids_of_root, by_test, children_of-plain, count-plains, root-put, kids-put, given_other, given_same}
 
 pub end_none : (xs : List ℕ) → xs ++ [] ≡ xs
 end_none [] = refl
@@ -112,7 +111,8 @@ ids_exchanged i at s t c u st tt' r q one within new =
     ap root_ids (new_kids i t (set_nth at c k) u tt' q new) ∙ ids_other at c k one (subst (λ (f : Forest). at < arity f) same within) ∙ sym (ap (λ (f : Forest). slice_set (root_ids f) at (root_id c)) same)
 
 -- the children of a root beside another one stay
-pub lists_kept : {g : Forest} {i : ℕ} {P Q : Tree → Type 0} {l : Option (List ℕ)} (j : ℕ) (s t : State) → Stands s → Stands t → Gives g (forest s) i P → Gives g (forest t) i Q → IsHanded j g → Lists l j (forest s) → Lists l j (forest t)
+pub lists_kept : {g : Forest} {i : ℕ} {P Q : Tree → Type 0} {l : Option (List ℕ)} (j : ℕ) (s t : State) → Stands s → Stands t → Gives g (forest s) i P → Gives g (forest t) i Q
+    → IsHanded j g → Lists l j (forest s) → Lists l j (forest t)
 lists_kept {g} {i} j s t st tt' p q h lists = lists_with (ap root_ids (kept s st p ∙ sym (kept t tt' q))) lists
   where
     kept : {R : Tree → Type 0} (u : State) → Stands u → Gives g (forest u) i R → kids_of j (forest u) ≡ kids (root_tree j g)

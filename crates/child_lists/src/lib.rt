@@ -3,6 +3,8 @@
 
 mod list;
 mod placing;
+mod sums;
 
 pub use list::{ChildList, FEW, MANY, NONE};
 pub use placing::{next_child, put_before};
+pub use sums::{exchange_child, insert_child, remove_child};

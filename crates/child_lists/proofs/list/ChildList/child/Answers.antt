@@ -1,8 +1,8 @@
 use Rattle.child_lists.proofs.Shared.{◌≡◌, ◌<◌, Bool, get_or, sym, ap, ◌∙◌, arith, told, root_ids, IsChildAt, arity, kids_of, forest, seen_child, root_ids-nth}
 use Rattle.child_lists.proofs.ListedChildren.{children_number}
-use Rattle.child_lists.proofs.list.ChildList.child.Goals as goal
 use Rattle.child_lists.proofs.list.ChildList.child.Given.{Over}
 use Rattle.child_lists.proofs.list.ChildList.child.Goals.{After-index-ids-place}
+use Rattle.child_lists.proofs.list.ChildList.child.Goals as goal
 
 pub child_id-requires-clause-within : goal.child_id-requires-clause-within
 child_id-requires-clause-within g c = omega (arith, c.requires.within, children_number c.args.parent (forest c.args.pool.now) c.requires.expression)
@@ -27,7 +27,11 @@ returns-else-self-clause-child g c = record {
 }
 
 pub returns-then-place-ids-clause-expression : goal.returns-then-place-ids-clause-expression
-returns-then-place-ids-clause-expression g c = (seen_child c.args.at c.args.parent c.index-ids-place.result c.args.pool.now c.requires.stands (here g (goal.at.returns-then-place-ids-clause-expression g c).After-index-ids-place)).expression c.requires.expression
+returns-then-place-ids-clause-expression g c =
+    (seen_child c.args.at c.args.parent c.index-ids-place.result c.args.pool.now c.requires.stands
+    (here g (goal.at.returns-then-place-ids-clause-expression g c).After-index-ids-place)).expression c.requires.expression
 
 pub returns-then-place-ids-clause-plain : goal.returns-then-place-ids-clause-plain
-returns-then-place-ids-clause-plain g c = (seen_child c.args.at c.args.parent c.index-ids-place.result c.args.pool.now c.requires.stands (here g (goal.at.returns-then-place-ids-clause-plain g c).After-index-ids-place)).plain-is c.requires.expression
+returns-then-place-ids-clause-plain g c =
+    (seen_child c.args.at c.args.parent c.index-ids-place.result c.args.pool.now c.requires.stands
+    (here g (goal.at.returns-then-place-ids-clause-plain g c).After-index-ids-place)).plain-is c.requires.expression

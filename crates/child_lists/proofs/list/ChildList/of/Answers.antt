@@ -1,5 +1,5 @@
-use Rattle.child_lists.proofs.Shared.{◌≡◌, ◌<◌, ℕ, List, [], ◌∷◌, ◌++◌, Some, length, append_assoc, length-append, sym, ap, ◌∙◌, arith, eqb-true, eqb-false, le-leb, lt-leb}
-use Rattle.child_lists.proofs.Shared.{root_ids, kids_of, forest, told}
+use Rattle.child_lists.proofs.Shared.{◌≡◌, ◌<◌, ℕ, List, [], ◌∷◌, ◌++◌, Some, length, append_assoc, length-append, sym, ap, ◌∙◌, arith, eqb-true, eqb-false, le-leb, lt-leb, root_ids, kids_of}
+use Rattle.child_lists.proofs.Shared.{forest, told}
 use Rattle.child_lists.proofs.ListedChildren.{end_none}
 use Rattle.child_lists.proofs.list.ChildList.of.Goals as goal
 
@@ -25,5 +25,12 @@ pub returns-then-is_full : goal.returns-then-is_full
 returns-then-is_full g c =
     let all = root_ids (kids_of c.args.parent (forest c.args.pool.now)) in
     let parts : all ≡ c.loop-id.yielded ++ (c.in-Some.id ∷ c.next.new.self) = c.loop-id.invariant.left ∙ ap (λ (xs : List ℕ). c.loop-id.yielded ++ xs) c.in-Some.ensures.steps in
-    let long : g.row.N < length all = omega (arith, ap length parts, length-append c.loop-id.yielded (c.in-Some.id ∷ c.next.new.self), ap length c.loop-id.invariant.listed, eqb-true (length c.loop-id.ids.items) g.row.N (sym c.is_full.ensures.value ∙ c.if-is_full.true)) in
+    let long : g.row.N < length all = omega (
+      arith,
+      ap length parts,
+      length-append c.loop-id.yielded (c.in-Some.id ∷ c.next.new.self),
+      ap length c.loop-id.invariant.listed,
+      eqb-true
+          (length c.loop-id.ids.items) g.row.N (sym c.is_full.ensures.value ∙ c.if-is_full.true),
+    ) in
     sym (λ i. told (lt-leb (length all) g.row.N long i) all)
