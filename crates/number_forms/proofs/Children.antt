@@ -1,7 +1,7 @@
 -- Children, one after another.
-use Rattle.number_forms.proofs.Shared.{◌≡◌, ℕ, zero, suc, ◌+◌, ◌<◌, ◌≤◌, List, [], ◌∷◌, ◌++◌, length, length-append, refl, sym, ap, ◌∙◌, append_assoc, arith}
-use Rattle.number_forms.proofs.Shared.{count, State, root_ids, nth, plain, children_of, IsExpression, Forest, empty, tree, arity, root_id, first_trees, rest_trees, kids, nodes_in, tree_at, kids_of}
-use Rattle.number_forms.proofs.Shared.{Stands, forest, few_in, item, seen_child, rest-rest, kids_below, length-root_ids}
+use Rattle.number_forms.proofs.Shared.{◌≡◌, ℕ, zero, suc, ◌+◌, ◌<◌, ◌≤◌, List, [], ◌∷◌, ◌++◌, length, length-append, sym, ap, ◌∙◌, append_assoc, arith, count, State, root_ids, nth, plain}
+use Rattle.number_forms.proofs.Shared.{children_of, IsExpression, Forest, empty, tree, arity, root_id, first_trees, rest_trees, tree_at, kids_of, Stands, forest, few_in, item, seen_child}
+use Rattle.number_forms.proofs.Shared.{rest-rest, kids_below, length-root_ids}
 use Rattle.number_forms.proofs.ByKind.{children_number}
 
 -- the children of a node from a place on are those that were passed, and those left

@@ -1,6 +1,6 @@
 -- Common denominators stay those of the whole, from one joined term to the next.
-use Rattle.number_forms.proofs.Shared.{◌≡◌, ℕ, zero, suc, ◌<◌, ◌∷◌, ◌++◌, sym, subst, arith, append_assoc, terms_of, Term, Surd, AreWholeOver, Parts, SharesDenominators}
-use Rattle.number_forms.proofs.Shared.{parts_append, parts_left, parts_right, Tree, Trees, none, more, count, removed, IsExtracted, extracted_den, nth, inserted, ◌∣◌}
+use Rattle.number_forms.proofs.Shared.{◌≡◌, ℕ, zero, suc, ◌<◌, ◌∷◌, ◌++◌, sym, subst, arith, append_assoc, terms_of, Term, Surd, AreWholeOver, Parts, SharesDenominators, parts_append, parts_left}
+use Rattle.number_forms.proofs.Shared.{parts_right, Tree, Trees, none, more, count, removed, IsExtracted, extracted_den, nth, inserted, ◌∣◌}
 use Rattle.calc_algebra.specs.Numbers.{term_of}
 
 pub shares_eq : {v w : Surd} → v ≡ w → SharesDenominators v w

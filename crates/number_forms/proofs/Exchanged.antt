@@ -1,10 +1,9 @@
 -- A term of a sum that stands last, known by its identifier: another comes in its place.
-use Rattle.number_forms.proofs.Shared.{◌≡◌, ℕ, zero, suc, ◌<◌, ◌≤◌, ◌∷◌, true, refl, sym, ap, ◌∙◌, subst, arith, is_term, terms_of, Term, Tree, Trees, none, more, add}
-use Rattle.number_forms.proofs.Shared.{count, term_words, IsSum, IsSumOf, IsApart, IsPlace, removed, nth, plain, children_of, inserted, Forest, arity, kids, set_nth, Represents, Gives, root_tree, put}
-use Rattle.number_forms.proofs.Shared.{represents_as, represents_with, given_handed, given_told, last_tree, alone, count-plains, with_nth-without_nth}
+use Rattle.number_forms.proofs.Shared.{◌≡◌, ℕ, zero, suc, ◌<◌, ◌≤◌, ◌∷◌, true, refl, sym, ap, ◌∙◌, subst, arith, is_term, terms_of, Term, Tree, Trees, none, more, add, count, term_words, IsSum}
+use Rattle.number_forms.proofs.Shared.{IsSumOf, IsApart, IsPlace, removed, nth, children_of, inserted}
 use Rattle.calc_algebra.specs.Numbers.{term_of}
 use Rattle.number_forms.proofs.Joined.{are_removed, rises_removed}
-use Rattle.number_forms.proofs.LastSums.{kids_represented, represents_without, sum_is, resum, gives_at}
+use Rattle.number_forms.proofs.LastSums.{sum_is}
 use Rattle.number_forms.proofs.SquareFreeSums.{rises_in_sum}
 use Rattle.number_forms.proofs.SumChanges.{inserted_of}
 
@@ -36,26 +35,14 @@ place_removed t n h l =
       above = λ x. let up = rises_in_sum t n (suc n) h (omega arith) (omega (arith, x, c)) in subst (λ (u : Tree). r ≤ (term_of u).radicand) (sym (nth_behind n ts)) (omega (arith, up));
     }
 
-set_represented : {c k : Forest} {u : Tree} {ts : Trees} (n : ℕ) → Represents c (more u none) → Represents k ts → n < count ts
-    → Represents (set_nth n c k) (inserted n (more u none) (removed n ts))
-set_represented {c = c} {k = k} {ts = ts} n a b l =
-    let many : count ts ≡ arity k = ap count (sym b.plain_trees) ∙ count-plains k in
-    represents_as (represents_with n a (represents_without n b)) (with_nth-without_nth n c k (omega (arith, l, many))) refl
-
-pub exchanged_sum : {i h at : ℕ} {g f f1 f3 : Forest} (t : Term) (e : Gives g f i IsSum) (p : Gives f f1 h (λ u. (is_term u ≡ true) × (term_of u ≡ t))) → 0 < t.radicand
-    → at < count (children_of (plain (root_tree i f)))
-    → (term_of (nth at (children_of (plain (root_tree i f))))).radicand ≡ t.radicand → IsApart t.radicand (terms_of (removed at (children_of (plain (root_tree i f)))))
-    → f3 ≡ put i (set_nth at p.tree (kids (root_tree i f))) f → Gives g f3 i (IsSumOf (t ∷ terms_of (removed at (children_of (plain (root_tree i f))))))
-exchanged_sum {i} {h} {at} {g} {f} t e p o l r a q =
-    let tree = root_tree i f in
-    let ts = children_of (plain tree) in
-    let others = removed at ts in
-    let u = plain p.tree in
-    let is = given_told e in
-    let add-is : plain tree ≡ add ts = sum_is (plain tree) is in
-    let parts : IsSum (add ts) = subst IsSum add-is is in
-    let handed = given_handed e in
-    let one : Represents p.tree (more u none) = record { once = p.once; whole = p.whole; plain_trees = alone p.tree p.ends.alone } in
-    let place : IsPlace at t.radicand others = subst (λ (n : ℕ). IsPlace at n others) r (place_removed (plain tree) at is l) in
-    gives_at (resum e (set_nth at p.tree (kids tree)) (inserted at (more u none) others) ts (ap plain (sym (last_tree e.ends)) ∙ add-is) (set_represented at one (kids_represented tree handed.once handed.whole) l)
-    (inserted_of at t u others (terms_of others) (term_words u p.told.0) p.told.1 refl o a place (are_removed at ts parts.0) (rises_removed at ts parts.1))) q
+-- with a tree that is another term of the same radicand
+pub exchanged_in : {s v x : Tree} (n : ℕ) (u : Tree) (t : Term) → IsSum s → v ≡ s → (is_term u ≡ true) × (term_of u ≡ t) → 0 < t.radicand → n < count (children_of s)
+    → (term_of (nth n (children_of s))).radicand ≡ t.radicand
+    → IsApart t.radicand (terms_of (removed n (children_of s))) → x ≡ add (inserted n (more u none) (removed n (children_of v))) → IsSumOf (t ∷ terms_of (removed n (children_of s))) x
+exchanged_in {s = s} n u t is same told o l r a e =
+    let ts = children_of s in
+    let others = removed n ts in
+    let parts : IsSum (add ts) = subst IsSum (sum_is s is) is in
+    let place : IsPlace n t.radicand others = subst (λ (k : ℕ). IsPlace n k others) r (place_removed s n is l) in
+    let tree = e ∙ ap (λ (y : Tree). add (inserted n (more u none) (removed n (children_of y)))) same in
+    subst (IsSumOf (t ∷ terms_of others)) (sym tree) (inserted_of n t u others (terms_of others) (term_words u told.0) told.1 refl o a place (are_removed n ts parts.0) (rises_removed n ts parts.1))

@@ -1,17 +1,10 @@
 -- How large the inverse of a Number is.
-use Rattle.number_forms.proofs.Shared.{arith, ◌≡◌, ◌≢◌, [], ◌∷◌, Bool, true, pos, if◌then◌else◌, sym, ap, ◌∙◌, subst, Rises, is_number, value, Term, Surd}
-use Rattle.number_forms.proofs.Shared.{inverse_times_itself, factor_not_zero, term_not_zero, AreProper, value_proper, value_rises, number_words, times_comm, Fraction, zero_fraction, inverse}
-use Rattle.number_forms.proofs.Shared.{whole_fraction, Tree, num, mult, root, none, more, one_is, zero_test, whole_numerator, inverse_trees, IsInverseOf, term_tree, inverse_of, first_of_inverse}
-use Rattle.number_forms.proofs.Shared.{second_of_inverse, IsNoLargerThanInverse, one_no_larger, two_no_larger}
+use Rattle.number_forms.proofs.Shared.{arith, ◌≡◌, ◌≢◌, [], ◌∷◌, true, sym, ap, ◌∙◌, subst, Rises, is_number, value, Term, Surd, inverse_times_itself, factor_not_zero, term_not_zero, AreProper}
+use Rattle.number_forms.proofs.Shared.{value_proper, value_rises, number_words, times_comm, Fraction, zero_fraction, inverse, Tree, none, more, one_is, zero_test, whole_numerator, inverse_trees}
+use Rattle.number_forms.proofs.Shared.{IsInverseOf, term_tree, inverse_of, first_of_inverse, second_of_inverse, IsNoLargerThanInverse, one_no_larger, two_no_larger}
 use Rattle.calc_algebra.specs.Numbers.{term_of}
 
 -- ---- the terms of written trees
-
-abbrev tree_by : Term → Bool → Bool → Tree
-tree_by s b o =
-    if b then num s.coefficient
-    else if o then root (num (whole_fraction (pos s.radicand)))
-    else mult (more (num s.coefficient) (more (root (num (whole_fraction (pos s.radicand)))) none))
 
 written_term : (s : Term) → term_of (term_tree s) ≡ s
 written_term s = grind (arith, one_is, whole_numerator)

@@ -1,7 +1,7 @@
 -- Inverses by terms.
-use Rattle.number_forms.proofs.Shared.{◌≡◌, ℕ, ◌≤◌, [], ◌∷◌, Some, Err, length, true, false, sym, ap, ◌∙◌, arith, slice_get, None, is_number, is_term, value, Rises}
-use Rattle.number_forms.proofs.Shared.{are_alike, Inverts, Term, Surd, Tree, add, more, none, size, sizes, Inverts-Same, value_rises, number_words, term_words, Same-trans, Same-eq, IsNumberOf, Full}
-use Rattle.number_forms.proofs.Shared.{inverse_trees, IsInverseOf, HasInverse, LacksInverse, inverting_calculations, term_tree, sum_of_terms, Calculation, first_misfit, inverse_of, first_of_inverse}
+use Rattle.number_forms.proofs.Shared.{◌≡◌, ℕ, ◌≤◌, [], ◌∷◌, Some, Err, length, true, false, sym, ap, ◌∙◌, arith, slice_get, None, is_number, is_term, value, Rises, are_alike, Inverts, Term}
+use Rattle.number_forms.proofs.Shared.{Surd, Tree, add, more, none, size, sizes, Inverts-Same, value_rises, number_words, term_words, Same-trans, Same-eq, IsNumberOf, Full, inverse_trees}
+use Rattle.number_forms.proofs.Shared.{IsInverseOf, HasInverse, LacksInverse, inverting_calculations, term_tree, sum_of_terms, Calculation, first_misfit, inverse_of, first_of_inverse}
 use Rattle.number_forms.proofs.Shared.{second_of_inverse, building}
 use Rattle.calc_algebra.specs.Numbers.{term_of}
 use Rattle.number_forms.proofs.Over.{of_over}

@@ -1,7 +1,7 @@
 -- Terms that are put into a sum at their place, or taken out of it.
-use Rattle.number_forms.proofs.Shared.{◌≡◌, ℕ, zero, suc, ◌<◌, ◌≤◌, [], ◌∷◌, true, false, refl, sym, ap, ◌∙◌, arith, plus, zero_fraction, zero_plus, IsTerm, AreTerms}
-use Rattle.number_forms.proofs.Shared.{IsBelowAll, Rises, terms_of, are_alike, class_coefficient, Same, Term, Surd, Tree, Trees, none, more, count, IsProper, alike_turned, alike_through}
-use Rattle.number_forms.proofs.Shared.{first_coefficient, alike_true, Same-trans, Same-Agree, Same-refl, Same-cons, Same-to_front, share_apart, removed, IsApart, IsPlace, nth, inserted, by_test}
+use Rattle.number_forms.proofs.Shared.{◌≡◌, ℕ, zero, suc, ◌<◌, ◌≤◌, [], ◌∷◌, true, false, refl, sym, ap, ◌∙◌, arith, plus, zero_fraction, zero_plus, IsTerm, AreTerms, IsBelowAll, Rises, terms_of}
+use Rattle.number_forms.proofs.Shared.{are_alike, class_coefficient, Same, Term, Surd, Tree, Trees, none, more, count, IsProper, alike_turned, alike_through, first_coefficient, alike_true}
+use Rattle.number_forms.proofs.Shared.{Same-trans, Same-Agree, Same-refl, Same-cons, Same-to_front, share_apart, removed, IsApart, IsPlace, nth, inserted, by_test}
 use Rattle.calc_algebra.specs.Numbers.{term_of}
 
 pub alike_itself : (r : ℕ) → 0 < r → are_alike r r ≡ true

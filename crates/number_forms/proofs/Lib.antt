@@ -22,7 +22,6 @@ pub mod SquareFreeSums
 pub mod Overflows
 pub mod Placings
 pub mod Exchanged
-pub mod FreeBytes
 pub mod Rooms
 pub mod Over
 pub mod Rows

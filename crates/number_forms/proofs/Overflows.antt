@@ -1,7 +1,7 @@
 -- What a call on Numbers is refused for, from the call that was refused.
-use Rattle.number_forms.proofs.Shared.{◌≡◌, ℕ, ◌+◌, ◌*◌, ◌/◌, ◌<◌, ◌≤◌, Some, inl, ap, ◌∙◌, subst, arith, value, Same, Term, Surd, surd_times, Tree, count}
-use Rattle.number_forms.proofs.Shared.{Same-trans, Same-append, Same-refl, SharesDenominators, IsNumberOver, IsPowerOver, JoinOverflows, SumOverflows, ProductOverflows, SquareOverflows}
-use Rattle.number_forms.proofs.Shared.{PowerOverflows, Overflow, calculation_of, first_misfit, joining_calculations, children_of, nth}
+use Rattle.number_forms.proofs.Shared.{◌≡◌, ℕ, ◌+◌, ◌*◌, ◌/◌, ◌<◌, ◌≤◌, Some, inl, ap, ◌∙◌, subst, arith, value, Same, Term, Surd, surd_times, Tree, count, Same-trans, Same-append, Same-refl}
+use Rattle.number_forms.proofs.Shared.{SharesDenominators, IsNumberOver, IsPowerOver, JoinOverflows, SumOverflows, ProductOverflows, SquareOverflows, PowerOverflows, Overflow, calculation_of}
+use Rattle.number_forms.proofs.Shared.{first_misfit, joining_calculations, children_of, nth}
 use Rattle.calc_algebra.specs.Numbers.{term_of}
 use Rattle.number_forms.proofs.Over.{shares_append, squared_power}
 

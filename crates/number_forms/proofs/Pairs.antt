@@ -1,7 +1,6 @@
 -- Two trees that were made one after the other.
-use Rattle.number_forms.proofs.Shared.{◌≡◌, ℕ, eqb, true, false, ap, ◌∙◌, Fraction, is_number, is_term, Tree, num, number_test, term_words, other_plain, plain, Forest, IsHanded, Gives}
-use Rattle.number_forms.proofs.Shared.{root_tree, without_root, given_handed, given_root, given_told, given_other, given_apart, given_rest, given_without, eqb-sym, IsNumberOf, Surd}
-use Rattle.number_forms.proofs.Shared.{IfOk, Result}
+use Rattle.number_forms.proofs.Shared.{◌≡◌, ℕ, eqb, true, false, ap, ◌∙◌, Fraction, is_number, is_term, Tree, num, number_test, term_words, other_plain, plain, Forest, IsHanded, Gives, root_tree}
+use Rattle.number_forms.proofs.Shared.{without_root, given_handed, given_root, given_told, given_other, given_apart, given_rest, given_without, eqb-sym, IsNumberOf, Surd, IfOk, Result}
 use Rattle.number_forms.proofs.TermTrees.{if_given}
 use Rattle.number_forms.proofs.Shaped.{term_number}
 

@@ -1,9 +1,9 @@
 -- Whether the bytes of a term's tree suffice.
-use Rattle.number_forms.proofs.Shared.{◌≡◌, ◌≢◌, ◌↔◌, ℕ, ◌+◌, ◌-◌, ◌==◌, ◌<◌, ◌≤◌, true, false, Bool, pos, List, [], ◌∷◌, ◌++◌, Result, Ok, Err}
-use Rattle.number_forms.proofs.Shared.{refl, sym, ap, ◌∙◌, subst, arith, IsOk, IsErr, IfOk, IfErr, nat_le, if◌then◌else◌, gives_as, eq-eqb, lt-leb, leb-false, Fraction, lowest}
-use Rattle.number_forms.proofs.Shared.{one_fraction, is_one_fraction, whole_fraction, gcd, Tree, num, add, mult, power, root, neg, sub, div, Trees, more, none, size, sizes, root_size, one_is, value}
-use Rattle.number_forms.proofs.Shared.{classes, Term, State, free_of, Full, term_tree, building, node_sizes, nodes_sizes, taking, LacksLongForm, Forest, tree_of, Gives, root_tree, plain, last_tree}
-use Rattle.number_forms.proofs.Shared.{Stands, forest, KeepsRefusals, IsRefused, given_told, given_free, size_by_form, is_short}
+use Rattle.number_forms.proofs.Shared.{◌≡◌, ◌≢◌, ◌↔◌, ℕ, ◌+◌, ◌-◌, ◌==◌, ◌<◌, ◌≤◌, true, false, Bool, pos, List, [], ◌∷◌, ◌++◌, Result, Ok, Err, refl, sym, ap, ◌∙◌, subst, arith, IsOk, IsErr}
+use Rattle.number_forms.proofs.Shared.{IfOk, IfErr, nat_le, if◌then◌else◌, gives_as, eq-eqb, lt-leb, leb-false, Fraction, lowest, one_fraction, is_one_fraction, whole_fraction, gcd, Tree, num}
+use Rattle.number_forms.proofs.Shared.{add, mult, power, root, neg, sub, div, Trees, more, none, size, sizes, root_size, one_is, value, classes, Term, State, free_of, Full, term_tree, building}
+use Rattle.number_forms.proofs.Shared.{node_sizes, nodes_sizes, taking, LacksLongForm, Forest, tree_of, Gives, root_tree, plain, last_tree, Stands, forest, KeepsRefusals, IsRefused, given_told}
+use Rattle.number_forms.proofs.Shared.{given_free, size_by_form, is_short}
 use Rattle.calc_terms.specs.declared.kind.Kind.TheVariants as kind
 
 -- what is free before a tree is placed

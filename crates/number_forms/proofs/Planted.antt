@@ -1,9 +1,8 @@
 -- A new node, and new trees behind it that become its children.
-use Rattle.number_forms.proofs.Shared.{◌≡◌, ◌<◌, ◌≤◌, ℕ, ◌+◌, true, refl, sym, ap, ◌∙◌, arith, payload_most, bare, rational, size_of_payload, ratio_of, append, count}
-use Rattle.number_forms.proofs.Shared.{sizes, Kind, Adds, Tree, Trees, none, more, Rat, State, free_of, Full, refused_below, Gives, Ends, KeepsRefusals, IsRefused, Stands, forest, gives, last_root}
-use Rattle.number_forms.proofs.Shared.{adopted_all, behind_there, represents_count, bytes_in-join, join-empty, join_assoc, used_forest, alone, sizes-plains, root-left, compound, takes_kind, Forest}
-use Rattle.number_forms.proofs.Shared.{Label, arity, bytes_in, empty, join, one_tree, tree, adopted, behind_root, has_root}
-use Rattle.tree_handles.proofs.Given.{represents_join, represents_node, represents_none}
+use Rattle.number_forms.proofs.Shared.{◌≡◌, ◌<◌, ◌≤◌, ℕ, ◌+◌, true, refl, sym, ap, ◌∙◌, arith, payload_most, bare, rational, size_of_payload, ratio_of, append, count, sizes, Kind, Adds, Tree}
+use Rattle.number_forms.proofs.Shared.{Trees, none, more, Rat, State, free_of, Full, refused_below, Gives, Ends, KeepsRefusals, IsRefused, Stands, forest, gives, last_root, adopted_all}
+use Rattle.number_forms.proofs.Shared.{behind_there, represents_count, bytes_in-join, join-empty, join_assoc, used_forest, alone, sizes-plains, root-left, compound, takes_kind, Forest, Label}
+use Rattle.number_forms.proofs.Shared.{arity, bytes_in, empty, join, one_tree, tree, adopted, behind_root, has_root, represents_join, represents_node, represents_none}
 
 pub adds_none : (f : Forest) → Adds none f f
 adds_none f = record { trees = empty; whole = sym (join-empty f); represents = represents_none }

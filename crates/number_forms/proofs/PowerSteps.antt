@@ -1,6 +1,5 @@
 -- Powers by squares.
-use Rattle.number_forms.proofs.Shared.{◌≡◌, ◌≢◌, ℕ, suc, ◌+◌, ◌*◌, ◌/◌, ◌%◌, ◌≤◌, ◌<◌, subst, arith, Same, Surd, surd_times, surd_power, surd_power-squared}
-use Rattle.number_forms.proofs.Shared.{surd_power-multiplied, Same-trans}
+use Rattle.number_forms.proofs.Shared.{◌≡◌, ◌≢◌, ℕ, suc, ◌+◌, ◌*◌, ◌/◌, ◌%◌, ◌≤◌, ◌<◌, subst, arith, Same, Surd, surd_times, surd_power, surd_power-squared, surd_power-multiplied, Same-trans}
 
 pub half_even : (n : ℕ) → n % 2 ≡ 0 → 2 * (n / 2) ≡ n
 half_even n e = omega arith

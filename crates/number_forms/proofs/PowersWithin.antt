@@ -1,8 +1,8 @@
 -- No operation overflows on the square or a power of a Number that has few bits.
-use Rattle.number_forms.proofs.Shared.{◌≡◌, ℕ, zero, suc, ◌+◌, ◌*◌, ◌≤◌, [], ◌∷◌, ◌++◌, ◌⊎◌, inl, inr, map, refl, sym, ap, ◌∙◌, subst, arith, append_assoc}
-use Rattle.number_forms.proofs.Shared.{mul-le, value, Term, Surd, term_times, surd_times, IsProper, AreProper, value_proper, number_words, Same-append, Same-refl, IsHeld, held_times, no_larger_power}
-use Rattle.number_forms.proofs.Shared.{held_so_far, held_left, held_right, Tree, terms_from, ProductOverflows, SquareRowOverflows, SquareOverflows, PowerOverflows, twice, square_row, square_terms}
-use Rattle.number_forms.proofs.Shared.{IsSum, Overflow, calculation_of, children_of, nth}
+use Rattle.number_forms.proofs.Shared.{◌≡◌, ℕ, zero, suc, ◌+◌, ◌*◌, ◌≤◌, [], ◌∷◌, ◌++◌, ◌⊎◌, inl, inr, map, refl, sym, ap, ◌∙◌, subst, arith, append_assoc, mul-le, value, Term, Surd, term_times}
+use Rattle.number_forms.proofs.Shared.{surd_times, IsProper, AreProper, value_proper, number_words, Same-append, Same-refl, IsHeld, held_times, no_larger_power, held_so_far, held_left}
+use Rattle.number_forms.proofs.Shared.{held_right, Tree, terms_from, ProductOverflows, SquareRowOverflows, SquareOverflows, PowerOverflows, twice, square_row, square_terms, IsSum, Overflow}
+use Rattle.number_forms.proofs.Shared.{calculation_of, children_of, nth}
 use Rattle.calc_algebra.specs.Numbers.{term_of}
 use Rattle.number_forms.proofs.Over.{shares_append}
 use Rattle.number_forms.proofs.Squares.{square_held, held_front}

@@ -1,12 +1,11 @@
 -- Rationals among Numbers: their common denominators, and the operations that fit.
-use Rattle.number_forms.proofs.Shared.{◌≡◌, ◌≢◌, ℕ, ◌+◌, ◌*◌, ◌/◌, ◌^◌, ◌≤◌, ◌<◌, [], ◌++◌, true, false, not, Result, ℤ, pos, ◌≤ℤ◌}
-use Rattle.number_forms.proofs.Shared.{if◌then◌else◌, refl, sym, ap, ◌∙◌, subst, arith, IfOk, IfErr, nat_abs, mul-le, dvd-mul_left, value, Surd, surd_of, term, surd_times, HasFewBits}
-use Rattle.number_forms.proofs.Shared.{IsNoLargerThanPower, SharesPowers, Parts, SharesDenominators, magnitude_over, root_above, mass, IsHeld, multiple_fits, sum_fits_over, power_den, magnitude_power}
-use Rattle.number_forms.proofs.Shared.{magnitudes_cross, power_bound, low_power, parts_power, mass-append, no_larger_power, parts_left, parts_right, cancel_le, plus_den, root_enough, calculated}
-use Rattle.number_forms.proofs.Shared.{Operation, result_of, add_op, mul_op, pow_op, operation_fits, fraction_fits, sum_fits, fraction_power, zero_times, times_comm, Fraction, plus, times}
-use Rattle.number_forms.proofs.Shared.{zero_fraction, is_zero_fraction, whole_fraction, int_is_zero, Tree, num, is_num, zero_is, no_zero, whole_numerator, whole_denominator, IsPowerOver}
-use Rattle.number_forms.proofs.Shared.{AnswersRationals, State, held_bound, power_fits, denominator_bound, coefficients_fit, OfOverflow, Forest, tree_of, Gives, forest, NumberFault, given_told}
-use Rattle.number_forms.proofs.Shared.{by_test, ◌∣◌, square_le, both, operation, Joint}
+use Rattle.number_forms.proofs.Shared.{◌≡◌, ◌≢◌, ℕ, ◌+◌, ◌*◌, ◌/◌, ◌^◌, ◌≤◌, ◌<◌, [], ◌++◌, true, false, not, Result, ℤ, pos, ◌≤ℤ◌, if◌then◌else◌, refl, sym, ap, ◌∙◌, subst, arith, IfOk, IfErr}
+use Rattle.number_forms.proofs.Shared.{nat_abs, mul-le, dvd-mul_left, value, Surd, surd_of, term, surd_times, HasFewBits, IsNoLargerThanPower, SharesPowers, Parts, SharesDenominators}
+use Rattle.number_forms.proofs.Shared.{magnitude_over, root_above, mass, IsHeld, multiple_fits, sum_fits_over, power_den, magnitude_power, magnitudes_cross, power_bound, low_power, parts_power}
+use Rattle.number_forms.proofs.Shared.{mass-append, no_larger_power, parts_left, parts_right, cancel_le, plus_den, root_enough, calculated, Operation, result_of, add_op, mul_op, pow_op}
+use Rattle.number_forms.proofs.Shared.{operation_fits, fraction_fits, sum_fits, fraction_power, zero_times, times_comm, Fraction, plus, times, zero_fraction, is_zero_fraction, whole_fraction}
+use Rattle.number_forms.proofs.Shared.{int_is_zero, Tree, num, is_num, zero_is, no_zero, whole_numerator, whole_denominator, IsPowerOver, AnswersRationals, State, held_bound, power_fits}
+use Rattle.number_forms.proofs.Shared.{denominator_bound, coefficients_fit, OfOverflow, Forest, tree_of, Gives, forest, NumberFault, given_told, by_test, ◌∣◌, square_le, both, operation, Joint}
 use Rattle.number_forms.specs.declared.calculating.Joint.TheVariants as joint
 
 -- ---- common denominators

@@ -1,7 +1,7 @@
 -- What is a Number and what is none, by kind and by parts.
-use Rattle.number_forms.proofs.Shared.{◌≡◌, ◌≢◌, ℕ, ◌*◌, ◌<◌, ◌≤◌, Bool, true, false, not, ◌&&◌, sym, ap, ◌∙◌, arith, ℤ, pos, nat_abs, ◌==◌, is_clean}
-use Rattle.number_forms.proofs.Shared.{IsClean, Fraction, whole_fraction, is_number, is_term, is_radicand, natural_of, are_terms, rises, terms_of, Tree, count, root_kind, is_add, whole_numerator}
-use Rattle.number_forms.proofs.Shared.{whole_denominator, clean_test, clean_words, children_of, lt_z, count_terms}
+use Rattle.number_forms.proofs.Shared.{◌≡◌, ◌≢◌, ℕ, ◌*◌, ◌<◌, ◌≤◌, Bool, true, false, not, ◌&&◌, sym, ap, ◌∙◌, arith, ℤ, pos, nat_abs, ◌==◌, is_clean, IsClean, Fraction, whole_fraction}
+use Rattle.number_forms.proofs.Shared.{is_number, is_term, is_radicand, natural_of, are_terms, rises, terms_of, Tree, count, root_kind, is_add, whole_numerator, whole_denominator, clean_test}
+use Rattle.number_forms.proofs.Shared.{clean_words, children_of, lt_z, count_terms}
 use Rattle.calc_terms.specs.declared.kind.Kind.TheVariants as kind
 
 -- ---- by kind

@@ -1,6 +1,6 @@
 -- Terms, tested one by one.
-use Rattle.number_forms.proofs.Shared.{◌≡◌, ℕ, zero, suc, ◌+◌, ◌<◌, ◌≤◌, Bool, true, false, ◌&&◌, not, nat_lt, refl, sym, ap, ◌∙◌, arith, add-one, and_parts, is_term}
-use Rattle.number_forms.proofs.Shared.{are_terms, is_below_all, rises, terms_of, are_alike, Term, Trees, none, more, count, trees_from, nth}
+use Rattle.number_forms.proofs.Shared.{◌≡◌, ℕ, zero, suc, ◌+◌, ◌<◌, ◌≤◌, Bool, true, false, ◌&&◌, not, nat_lt, refl, sym, ap, ◌∙◌, arith, add-one, and_parts, is_term, are_terms, is_below_all}
+use Rattle.number_forms.proofs.Shared.{rises, terms_of, are_alike, Term, Trees, none, more, count, trees_from, nth}
 use Rattle.calc_algebra.specs.Numbers.{term_of}
 
 pub from_next : (ts : Trees) (n : ℕ) → n < count ts → trees_from n ts ≡ more (nth n ts) (trees_from (n + 1) ts)

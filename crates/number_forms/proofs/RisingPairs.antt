@@ -1,8 +1,8 @@
 -- Two terms that stay apart, and their sum.
+use Rattle.number_forms.proofs.Shared.{◌≡◌, ◌<◌, ◌^◌, ◌++◌, [], ◌∷◌, Some, true, inl, inr, length, ap, ◌∙◌, sym, subst, arith, slice_get, Ordering, Less, Equal, Greater, clean_square_free}
+use Rattle.number_forms.proofs.Shared.{AsNumber, as_number, IsNumberOver, IsTerm, Rises, Surd, Term, Tree, add, classes, is_number, more, none, number_words, parts_append, parts_left}
+use Rattle.number_forms.proofs.Shared.{parts_right, term_of, value, Same-append_comm, AreRising, Ranks, RanksTerms}
 use Rattle.number_forms.proofs.Worth.{some_term}
-use Rattle.number_forms.proofs.Shared.{◌≡◌, ◌<◌, ◌^◌, ◌++◌, [], ◌∷◌, Some, true, inl, inr, length, ap, ◌∙◌, sym, subst, arith, slice_get, Ordering, Less, Equal, Greater}
-use Rattle.number_forms.proofs.Shared.{clean_square_free, AsNumber, as_number, IsNumberOver, IsTerm, Rises, Surd, Term, Tree, add, classes, is_number, more, none, number_words, parts_append}
-use Rattle.number_forms.proofs.Shared.{parts_left, parts_right, term_of, value, Same-append_comm, AreRising, Ranks, RanksTerms}
 use Rattle.number_forms.proofs.Over.{over_as}
 use Rattle.number_forms.proofs.Shaped.{sum_number, term_value}
 use Rattle.number_forms.proofs.SquareFreeSums.{apart_small}

@@ -1,6 +1,6 @@
 -- Rows of products, as they are joined or refused.
-use Rattle.number_forms.proofs.Shared.{◌≡◌, ℕ, [], ◌∷◌, ◌++◌, map, refl, ap, subst, Same, value, Term, Surd, term_times, Tree, terms_from, JoinOverflows, ProductJoinOverflows}
-use Rattle.number_forms.proofs.Shared.{IsSumOf, Overflow, IsExtracted}
+use Rattle.number_forms.proofs.Shared.{◌≡◌, ℕ, [], ◌∷◌, ◌++◌, map, refl, ap, subst, Same, value, Term, Surd, term_times, Tree, terms_from, JoinOverflows, ProductJoinOverflows, IsSumOf, Overflow}
+use Rattle.number_forms.proofs.Shared.{IsExtracted}
 use Rattle.number_forms.proofs.Denominators.{parts_extracted}
 use Rattle.number_forms.proofs.Loops.{IsSumWith}
 use Rattle.number_forms.proofs.Worth.{same_first}

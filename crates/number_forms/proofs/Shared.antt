@@ -40,7 +40,8 @@ pub use Rattle.calc_terms.proofs.Sizes.{num_least, num_most, payload_most}
 pub use Rattle.calc_terms.proofs.SmallFractions.{one_value}
 pub use Rattle.calc_terms.specs.Fits.{Operation, add_op, fraction_fits, fraction_power, mul_op, operation_fits, pow_op, result_of, sum_fits}
 pub use Rattle.calc_terms.specs.FractionLaws.{one_times, plus_negative, times_comm, times_plus, zero_plus, zero_times}
-pub use Rattle.calc_terms.specs.Fractions.{Fraction, den_pos, fraction_path, inverse, is_one_fraction, is_zero_fraction, mul_pos, negative, plus, plus_assoc, plus_comm, times_lowest, whole_fraction}
+pub use Rattle.calc_terms.specs.Fractions.{Fraction, den_pos, fraction_path, inverse, is_one_fraction, is_zero_fraction, mul_pos, negative, plus, plus_assoc, plus_comm, times_lowest}
+pub use Rattle.calc_terms.specs.Fractions.{whole_fraction}
 unfoldable pub use Rattle.calc_terms.specs.Fractions.{lowest, one_fraction, times, zero_fraction}
 pub use Rattle.calc_terms.specs.Gcd.{gauss}
 unfoldable pub use Rattle.calc_terms.specs.Gcd.{gcd}
@@ -54,17 +55,17 @@ pub use Rattle.calc_terms.specs.Short.{is_short}
 pub use Rattle.calc_terms.specs.Trees.{Tree, Trees, add, append, count, div, has_two, is_add, is_mult, is_num, more, mult, neg, none, num, power, root, root_kind, root_size, size, sizes, sub}
 pub use Rattle.calc_terms.specs.declared.kind.Kind.{Kind}
 pub use Rattle.calc_terms.specs.declared.rat.Rat.{Rat}
-pub use Rattle.child_lists.proofs.ListedChildren.{ids_exchanged, ids_with, ids_without, lists_at, lists_kept, lists_less, lists_listed, lists_more, lists_none, lists_other}
-pub use Rattle.child_lists.proofs.PutBefore.{put_as}
-pub use Rattle.child_lists.specs.Lists.{IsNextAt, Lists}
-pub use Rattle.node_pool.specs.State.{IsPoolSize, State, free_of}
+pub use Rattle.child_lists.proofs.LastSums.{lists_behind, only_child, only_owned}
+pub use Rattle.child_lists.proofs.ListedChildren.{lists_at, lists_kept, lists_listed, lists_none}
+pub use Rattle.child_lists.specs.Lists.{Lists}
+pub use Rattle.node_pool.specs.State.{State, free_of}
 pub use Rattle.node_pool.specs.declared.full.Full.{Full}
 pub use Rattle.number_forms.specs.Answers.{AnswersRationals, IsNumberOf, IsNumberOver, IsPowerOver}
 pub use Rattle.number_forms.specs.Inverses.{HasInverse, IsInverseOf, LacksInverse, inverse_trees}
 pub use Rattle.number_forms.specs.Joins.{IsMatch}
 pub use Rattle.number_forms.specs.Joints.{LacksJointRoom, both, is_neutral, joint_need, operation}
-pub use Rattle.number_forms.specs.Overflows.{InverseOverflows, JoinOverflows, PowerOverflows, ProductJoinOverflows, ProductOverflows, RowOverflows, SquareOverflows, SquareRowOverflows, SumOverflows}
-pub use Rattle.number_forms.specs.Overflows.{inverting_calculations, terms_from}
+pub use Rattle.number_forms.specs.Overflows.{InverseOverflows, JoinOverflows, PowerOverflows, ProductJoinOverflows, ProductOverflows, RowOverflows, SquareOverflows, SquareRowOverflows}
+pub use Rattle.number_forms.specs.Overflows.{SumOverflows, inverting_calculations, terms_from}
 pub use Rattle.number_forms.specs.Placed.{Adds}
 pub use Rattle.number_forms.specs.Readers.{is_zero}
 pub use Rattle.number_forms.specs.Rooms.{LacksRoom, joining_need, raising_need}
@@ -80,10 +81,10 @@ pub use Rattle.rational128.proofs.LowestTerms.{ratio_parts}
 pub use Rattle.rational128.specs.Refusals.{DoesNotFit, operation_of}
 pub use Rattle.rational128.specs.declared.overflow.Op.TheVariants.{Mul}
 pub use Rattle.rational128.specs.declared.overflow.Overflow.{Overflow}
-pub use Rattle.std.proofs.Common.{Bool, Err, FitsSigned, IfErr, IfOk, IsErr, IsOk, IsTrue, List, None, Ok, OnOk, Result, Some, [], add-one, ap, append-nil, append_assoc, arith, below_more, drop, eqb}
-pub use Rattle.std.proofs.Common.{false, get_or, if◌then◌else◌, inl, inr, insert, length, length-append, lit<, ltb-true, map, max, mul_comm, nat_abs, nat_eq, nat_le, nat_lt, not, of_z, pos}
-pub use Rattle.std.proofs.Common.{refl, remove, rules, set, slice_get, slice_set, subst, suc, sym, take, to_z, true, zero, ℕ, ℤ, ◌%◌, ◌&&◌, ◌*ℤ◌, ◌*◌, ◌++◌, ◌+◌, ◌-◌}
-pub use Rattle.std.proofs.Common.{◌/◌, ◌<◌, ◌==◌, ◌^◌, ◌||◌, ◌↔◌, ◌∙◌, ◌∷◌, ◌≡◌, ◌≢◌, ◌≤ℤ◌, ◌≤◌, ◌⊎◌}
+pub use Rattle.std.proofs.Common.{Bool, Err, FitsSigned, IfErr, IfOk, IsErr, IsOk, IsTrue, List, None, Ok, OnOk, Result, Some, [], add-one, ap, append-nil, append_assoc, arith, below_more, drop}
+pub use Rattle.std.proofs.Common.{eqb, false, get_or, if◌then◌else◌, inl, inr, insert, length, length-append, lit<, ltb-true, map, max, mul_comm, nat_abs, nat_eq, nat_le, nat_lt, not, of_z, pos}
+pub use Rattle.std.proofs.Common.{refl, remove, rules, set, slice_get, subst, suc, sym, take, to_z, true, zero, ℕ, ℤ, ◌%◌, ◌&&◌, ◌*ℤ◌, ◌*◌, ◌++◌, ◌+◌, ◌-◌, ◌/◌, ◌<◌, ◌==◌, ◌^◌, ◌||◌, ◌↔◌, ◌∙◌}
+pub use Rattle.std.proofs.Common.{◌∷◌, ◌≡◌, ◌≢◌, ◌≤ℤ◌, ◌≤◌, ◌⊎◌}
 pub use Rattle.std.proofs.Math.Nat.{dvd-mul_left, dvd-mul_right, mul-mod_left}
 pub use Rattle.std.proofs.lemmas.Bool.{and_from, and_parts, eq-eqb, eqb-false, eqb-true, false_from_ne_true, le-leb, leb-false, lt-leb, not-true}
 pub use Rattle.std.proofs.lemmas.Int.{to_z-of_z, unsigned_abs-mul}
@@ -115,33 +116,30 @@ pub use Rattle.tree_handles.proofs.Beside.{gives_itself, gives_rest, gives_witho
 pub use Rattle.tree_handles.proofs.ChildPlaces.{item, seen_child}
 pub use Rattle.tree_handles.proofs.Cuts.{represents_count}
 pub use Rattle.tree_handles.proofs.ForestLists.{kids_below, length-root_ids, no_trees, rest-rest}
-pub use Rattle.tree_handles.proofs.Forests.{all-first_trees, all-join, all-rest_trees, arity-tree_nth, bytes_in-join, join-empty, join_assoc}
+pub use Rattle.tree_handles.proofs.Forests.{bytes_in-join, join-empty, join_assoc}
 pub use Rattle.tree_handles.proofs.FreeBytes.{both_released_free, both_replaced_free, refused_below, replaced_free, room_of}
 pub use Rattle.tree_handles.proofs.Fronts.{behind_first, behind_later, behind_new, front_after, front_after_one, front_after_two, front_at, front_end, front_put, front_same, front_without}
-pub use Rattle.tree_handles.proofs.Given.{given_apart, given_handed, given_other, given_rest, given_root, given_same, given_told, given_without, gives, gives_as, handed_at, handed_beside, owned}
-pub use Rattle.tree_handles.proofs.Given.{represents_as, represents_handed, represents_node, represents_none, represents_with}
-pub use Rattle.tree_handles.proofs.Lasts.{ends_as, ends_at, ends_without, expression_root, kids_of_last, last_apart, last_held, last_put, last_rest, last_root, last_tree, other_handed, other_root}
-pub use Rattle.tree_handles.proofs.Lasts.{plain_root}
+pub use Rattle.tree_handles.proofs.Given.{given_apart, given_handed, given_other, given_rest, given_root, given_told, given_without, gives, gives_as, handed_at, handed_beside, owned}
+pub use Rattle.tree_handles.proofs.Given.{represents_handed, represents_join, represents_node, represents_none, represents_with}
+pub use Rattle.tree_handles.proofs.Lasts.{ends_as, expression_root, kids_of_last, last_apart, last_held, last_root, last_tree, other_root, plain_root}
 pub use Rattle.tree_handles.proofs.Measures.{few_in, one_at}
-pub use Rattle.tree_handles.proofs.Nths.{with_nth-without_nth}
 pub use Rattle.tree_handles.proofs.Outcomes.{by_test, eqb-sym, passed_on}
 pub use Rattle.tree_handles.proofs.Places.{used_forest}
-pub use Rattle.tree_handles.proofs.Plains.{alone, children_of-plain, count-plains, plain-tree_nth, sizes-plains, whole_kids}
+pub use Rattle.tree_handles.proofs.Plains.{alone, children_of-plain, count-plains, sizes-plains}
 pub use Rattle.tree_handles.proofs.Refused.{kept_after, kept_same, overflow_as, refused_as}
 pub use Rattle.tree_handles.proofs.Room.{given_free, released_free}
 pub use Rattle.tree_handles.proofs.Roots.{root-left, tree-without, without-swap}
 pub use Rattle.tree_handles.proofs.Seen.{expression, seen}
 pub use Rattle.tree_handles.specs.Building.{building, node_sizes, nodes_sizes, taking}
 pub use Rattle.tree_handles.specs.Causes.{LacksLongForm, OnlyLacksLongForm}
-pub use Rattle.tree_handles.specs.Children.{IsChildAt, root_ids}
-pub use Rattle.tree_handles.specs.Expressions.{AllExpressions, IsExpression, IsWhole, children_of, compound, grown, inserted, nth, plain, plains, takes, takes_kind}
+pub use Rattle.tree_handles.specs.Children.{root_ids}
+pub use Rattle.tree_handles.specs.Expressions.{AllExpressions, IsExpression, children_of, compound, grown, inserted, nth, plain, plains, takes, takes_kind}
 pub use Rattle.tree_handles.specs.Faults.{OfOverflow}
-pub use Rattle.tree_handles.specs.Forest.{Forest, Label, arity, bytes_in, empty, first_trees, flatten, join, kids, nodes_in, one_tree, rest_trees, root_id, set_nth, tree, tree_nth, with_nth}
-pub use Rattle.tree_handles.specs.Forest.{with_root_kids, without_nth}
-pub use Rattle.tree_handles.specs.Handed.{AllOnce, Ends, Gives, IsHanded, IsOnce, IsOwned, KeepsFront, Represents, tree_of}
+pub use Rattle.tree_handles.specs.Forest.{Forest, Label, arity, bytes_in, empty, first_trees, flatten, join, kids, one_tree, rest_trees, root_id, tree}
+pub use Rattle.tree_handles.specs.Handed.{Ends, Gives, IsHanded, KeepsFront, tree_of}
 pub use Rattle.tree_handles.specs.Inside.{kids_of, tree_at}
 pub use Rattle.tree_handles.specs.Lacking.{OfFull}
-pub use Rattle.tree_handles.specs.Roots.{adopted, behind_root, has_root, put, root_tree, without_root}
+pub use Rattle.tree_handles.specs.Roots.{adopted, behind_root, has_root, root_tree, without_root}
 pub use Rattle.tree_handles.specs.Standing.{IsRefused, KeepsRefusals, Stands, forest}
 pub use Rattle.tree_handles.specs.Visits.{visit_of, visits_of}
 pub use Rattle.tree_handles.specs.declared.fault.NumberFault.{NumberFault}

@@ -1,7 +1,7 @@
 -- The square of a sum of terms, in which each mixed product stands once: what it is worth, how large it is and what spans it.
-use Rattle.number_forms.proofs.Shared.{◌≡◌, ℕ, ◌+◌, ◌*◌, ◌^◌, ◌≤◌, List, [], ◌∷◌, ◌++◌, map, ap, ◌∙◌, arith, append_assoc, Same, Term, Surd, term, term_times}
-use Rattle.number_forms.proofs.Shared.{surd_times, Agree, Agree-refl, Agree-trans, Agree-eq, Agree-append, Agree-Same, surd_times_comm, Parts, SharesDenominators, term_mass, mass_from, mass, IsHeld}
-use Rattle.number_forms.proofs.Shared.{mass-append, parts_append, parts_left, parts_right, IsSpanned, Spans, spans_append, spans_row, times_comm, twice, square_row, square_terms, mul_comm}
+use Rattle.number_forms.proofs.Shared.{◌≡◌, ℕ, ◌+◌, ◌*◌, ◌^◌, ◌≤◌, List, [], ◌∷◌, ◌++◌, map, ap, ◌∙◌, arith, append_assoc, Same, Term, Surd, term, term_times, surd_times, Agree, Agree-refl}
+use Rattle.number_forms.proofs.Shared.{Agree-trans, Agree-eq, Agree-append, Agree-Same, surd_times_comm, Parts, SharesDenominators, term_mass, mass_from, mass, IsHeld, mass-append, parts_append}
+use Rattle.number_forms.proofs.Shared.{parts_left, parts_right, IsSpanned, Spans, spans_append, spans_row, times_comm, twice, square_row, square_terms, mul_comm}
 use Rattle.number_forms.proofs.Twice.{twice_agrees, whole_twice, twice_mass}
 
 -- ---- worth

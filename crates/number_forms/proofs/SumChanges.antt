@@ -1,14 +1,12 @@
 -- A sum that stands last: as it is read, with a term more, and with a term less.
-use Rattle.number_forms.proofs.Shared.{arith, ◌≡◌, ℕ, ◌<◌, [], ◌∷◌, ◌++◌, true, refl, sym, ap, ◌∙◌, subst, IsTerm, AreTerms, Rises, is_term, terms_of, value, Same}
-use Rattle.number_forms.proofs.Shared.{are_alike, Term, Surd, AreWholeOver, Parts, SharesDenominators, Tree, Trees, none, more, add, count, IsProper, term_words, Same-trans, Same-refl, Same-eq}
-use Rattle.number_forms.proofs.Shared.{Same-cons, Same-append, Same-to_front, State, IsSum, IsSumOf, IsApart, IsPlace, removed, nth, plain, children_of, inserted, Forest, arity, kids, with_nth}
-use Rattle.number_forms.proofs.Shared.{without_nth, tree_nth, IsHanded, Represents, Ends, Gives, tree_at, kids_of, root_tree, without_root, put, Stands, forest, represents_handed, represents_with}
-use Rattle.number_forms.proofs.Shared.{given_root, given_handed, given_told, given_rest, given_same, last_tree, last_rest, expression_root, plain_root, seen, IsMatch, Match, term_test}
+use Rattle.number_forms.proofs.Shared.{arith, ◌≡◌, ℕ, ◌<◌, [], ◌∷◌, ◌++◌, true, sym, ap, ◌∙◌, subst, IsTerm, AreTerms, Rises, is_term, terms_of, value, Same, are_alike, Term, Surd, AreWholeOver}
+use Rattle.number_forms.proofs.Shared.{Parts, SharesDenominators, Tree, Trees, none, more, add, count, IsProper, term_words, Same-trans, Same-refl, Same-eq, Same-cons, Same-append, Same-to_front}
+use Rattle.number_forms.proofs.Shared.{State, IsSum, IsSumOf, IsApart, IsPlace, removed, nth, plain, children_of, inserted, Forest, IsHanded, Gives, tree_at, root_tree, Stands, forest}
+use Rattle.number_forms.proofs.Shared.{given_handed, given_told, seen, IsMatch, Match, term_test}
 use Rattle.calc_algebra.specs.Numbers.{term_of}
-use Rattle.number_forms.proofs.ByKind.{children_number}
 use Rattle.number_forms.proofs.Denominators.{whole_inserted, whole_removed, whole_nth}
 use Rattle.number_forms.proofs.Joined.{are_inserted, rises_inserted, same_inserted, are_removed, rises_removed, same_removed, apart_removed, alike_sum}
-use Rattle.number_forms.proofs.LastSums.{kids_represented, represents_without, sum_is, resum, gives_at}
+use Rattle.number_forms.proofs.LastSums.{sum_is}
 use Rattle.number_forms.proofs.Shaped.{nth_is_term}
 
 -- ---- as it is read
@@ -19,9 +17,6 @@ read_sum j i s e st h = subst IsSum (sym (seen e st (given_handed h))) (given_to
 pub read_place : (j i n r x : ℕ) (s : State) → j ≡ i → Stands s → IsHanded i (forest s) → r ≡ x → IsPlace n r (children_of (plain (tree_at j (forest s))))
     → IsPlace n x (children_of (plain (root_tree i (forest s))))
 read_place j i n r x s e st h q p = subst (λ (t : Tree). IsPlace n x (children_of t)) (seen e st h) (subst (λ (y : ℕ). IsPlace n y (children_of (plain (tree_at j (forest s))))) q p)
-
-pub many_kids : (i : ℕ) (s : State) → Stands s → IsHanded i (forest s) → arity (kids_of i (forest s)) ≡ count (children_of (plain (root_tree i (forest s))))
-many_kids i s st h = children_number i (forest s) (expression_root st h) ∙ ap (λ (t : Tree). count (children_of t)) (plain_root i st h.root)
 
 pub term_of_sum : (t u : Tree) (n : ℕ) → IsSum t → n < count (children_of t) → u ≡ nth n (children_of t) → is_term u ≡ true
 term_of_sum t u n h l e = ap is_term e ∙ term_test (nth n (children_of t)) (nth_is_term (children_of t) n l (subst IsSum (sum_is t h) h).0)
@@ -45,36 +40,16 @@ inserted_of n t u ts v w e q o a p are rises =
       parts = λ d p. record { positive = p.positive; whole = whole_inserted d n u ts (subst (AreWholeOver d) (λ i. sym e i ∷ q i) p.whole) };
     }
 
-pub inserted_sum : {i h at : ℕ} {g f f1 f2 : Forest} (t : Term) (e : Gives g f i IsSum) (p : Gives f f1 h (λ u. (is_term u ≡ true) × (term_of u ≡ t)))
-    → 0 < t.radicand → IsApart t.radicand (value (plain (root_tree i f))) → IsPlace at t.radicand (children_of (plain (root_tree i f)))
-    → f2 ≡ put i (with_nth at (root_tree h f1) (kids (root_tree i f1))) (without_root h f1) → Gives g f2 i (IsSumOf (t ∷ value (plain (root_tree i f))))
-inserted_sum {i} {h} {at} {g} {f} {f1} t e p o a pl q =
-    let tree = root_tree i f in
-    let ts = children_of (plain tree) in
-    let u = plain (root_tree h f1) in
-    let is = given_told e in
-    let add-is : plain tree ≡ add ts = sum_is (plain tree) is in
-    let parts : IsSum (add ts) = subst IsSum add-is is in
-    let told = given_told p in
-    let handed = given_handed e in
-    let kids-are : Represents (kids tree) ts = kids_represented tree handed.once handed.whole in
-    let all : Represents (with_nth at (root_tree h f1) (kids tree)) (inserted at (more u none) ts) = represents_with at (represents_handed (given_handed p)) kids-are in
-    let same = given_same i p (given_root e) in
-    let rest = given_rest p in
-    gives_at (resum e (with_nth at (root_tree h f1) (kids tree)) (inserted at (more u none) ts) ts (ap plain (sym (last_tree e.ends)) ∙ add-is) all
-    (inserted_of at t u ts (value (plain tree)) (term_words u told.0) told.1 (sum_value (plain tree) is) o a pl parts.0 parts.1))
-    (q ∙ (λ j. put i (with_nth at (root_tree h f1) (kids (same j))) (rest j)))
+-- with a tree that is the term
+pub inserted_in : {s v x : Tree} (n : ℕ) (u : Tree) (t : Term) → IsSum s → v ≡ s → (is_term u ≡ true) × (term_of u ≡ t) → 0 < t.radicand → IsApart t.radicand (value s)
+    → IsPlace n t.radicand (children_of s)
+    → x ≡ add (inserted n (more u none) (children_of v)) → IsSumOf (t ∷ value s) x
+inserted_in {s = s} n u t is same told o a p e =
+    let parts : IsSum (add (children_of s)) = subst IsSum (sum_is s is) is in
+    let tree = e ∙ ap (λ (y : Tree). add (inserted n (more u none) (children_of y))) same in
+    subst (IsSumOf (t ∷ value s)) (sym tree) (inserted_of n t u (children_of s) (value s) (term_words u told.0) told.1 (sum_value s is) o a p parts.0 parts.1)
 
 -- ---- a term less
-
-pub removed_sum : {i h : ℕ} {g f f1 f2 : Forest} (at : ℕ) (e : Gives g f i IsSum) → Ends h (tree_nth at (kids (root_tree i f))) (put i (without_nth at (kids (root_tree i f))) f) f1
-    → f2 ≡ without_root h f1 → Gives g f2 i (λ t. t ≡ add (removed at (children_of (plain (root_tree i f)))))
-removed_sum {i} {h} {g} {f} at e x q =
-    let tree = root_tree i f in
-    let ts = children_of (plain tree) in
-    let handed = given_handed e in
-    gives_at (resum e (without_nth at (kids tree)) (removed at ts) ts (ap plain (sym (last_tree e.ends)) ∙ sum_is (plain tree) (given_told e)) (represents_without at (kids_represented tree handed.once handed.whole)) refl)
-    (q ∙ last_rest x)
 
 pub removed_is_sum : (n : ℕ) (t u : Tree) → IsSum t → u ≡ add (removed n (children_of t)) → IsSum u
 removed_is_sum n t u h e = grind (arith, sum_is, are_removed, rises_removed)

@@ -1,8 +1,8 @@
 -- The first nodes of a tree tell whether it has a term's shape.
-use Rattle.number_forms.proofs.Shared.{◌≡◌, ◌≢◌, ◌⊎◌, inl, inr, ℕ, List, ◌++◌, append_assoc, true, false, ◌&&◌, map, refl, sym, ap, ◌∙◌, arith, drop, Fraction, Tree}
-use Rattle.number_forms.proofs.Shared.{Trees, none, more, num, mult, root, has_term_shape, root_kind, count, children_of, nth, grown, takes, plain, plains, count-plains, eqb-true, AllExpressions}
-use Rattle.number_forms.proofs.Shared.{Payload, rational, named, bare, Forest, empty, tree, arity, first_kind, is_multiple_next, is_num_kind, is_number_next, is_root_kind, is_root_of_num, Node}
-use Rattle.number_forms.proofs.Shared.{kind_of_payload, flatten, visit_of, visits_of, no_trees}
+use Rattle.number_forms.proofs.Shared.{◌≡◌, ◌≢◌, ◌⊎◌, inl, inr, ℕ, List, ◌++◌, append_assoc, true, false, ◌&&◌, map, refl, sym, ap, ◌∙◌, arith, drop, Fraction, Tree, Trees, none, more, num, mult}
+use Rattle.number_forms.proofs.Shared.{root, has_term_shape, root_kind, count, children_of, nth, grown, takes, plain, plains, count-plains, eqb-true, AllExpressions, Payload, rational, named}
+use Rattle.number_forms.proofs.Shared.{bare, Forest, empty, tree, arity, first_kind, is_multiple_next, is_num_kind, is_number_next, is_root_kind, is_root_of_num, Node, kind_of_payload, flatten}
+use Rattle.number_forms.proofs.Shared.{visit_of, visits_of, no_trees}
 use Rattle.calc_terms.specs.declared.kind.Kind.TheVariants as kind
 
 -- ---- by the kind of the root

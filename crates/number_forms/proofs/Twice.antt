@@ -1,10 +1,10 @@
 -- Terms that are added to themselves, and what that does to their products.
-use Rattle.number_forms.proofs.Shared.{◌≡◌, ◌≢◌, ℕ, ◌+◌, ◌*◌, ◌/◌, ◌^◌, ◌≤◌, ◌<◌, ◌*ℤ◌, max, [], ◌∷◌, ◌++◌, map, true, pos, refl, sym, ap}
-use Rattle.number_forms.proofs.Shared.{◌∙◌, subst, arith, nat_abs, IsGcd, unsigned_abs-mul, dvd-mul_right, Term, Surd, term_times, IsProper, Agree, class_coefficient-append}
-use Rattle.number_forms.proofs.Shared.{class_coefficient-map, AreWholeOver, magnitude_over, root_above, term_mass, mass_from, sum_fits_over, abs_cross, cancel_right, coprime, multiple_den, over_den}
-use Rattle.number_forms.proofs.Shared.{plus_over, root_scale, sum_fits, times_comm, times_plus, one_times, Fraction, lowest, plus, times, one_fraction, zero_fraction, whole_fraction, times_lowest}
-use Rattle.number_forms.proofs.Shared.{den_pos, mul_pos, gauss, whole_numerator, twice, DoesNotFit, ratio_parts, magnitude_whole, magnitude_positive, IsExtracted, term_of, ◌∣◌, le_of_dvd}
-use Rattle.number_forms.proofs.Shared.{dvd_refl, IsCoprime, IsCoprime-from_gcd, IsGcd-from_coprime, IsCoprime-swap, IsCoprime-mul}
+use Rattle.number_forms.proofs.Shared.{◌≡◌, ◌≢◌, ℕ, ◌+◌, ◌*◌, ◌/◌, ◌^◌, ◌≤◌, ◌<◌, ◌*ℤ◌, max, [], ◌∷◌, ◌++◌, map, true, pos, refl, sym, ap, ◌∙◌, subst, arith, nat_abs, IsGcd, unsigned_abs-mul}
+use Rattle.number_forms.proofs.Shared.{dvd-mul_right, Term, Surd, term_times, IsProper, Agree, class_coefficient-append, class_coefficient-map, AreWholeOver, magnitude_over, root_above}
+use Rattle.number_forms.proofs.Shared.{term_mass, mass_from, sum_fits_over, abs_cross, cancel_right, coprime, multiple_den, over_den, plus_over, root_scale, sum_fits, times_comm, times_plus}
+use Rattle.number_forms.proofs.Shared.{one_times, Fraction, lowest, plus, times, one_fraction, zero_fraction, whole_fraction, times_lowest, den_pos, mul_pos, gauss, whole_numerator, twice}
+use Rattle.number_forms.proofs.Shared.{DoesNotFit, ratio_parts, magnitude_whole, magnitude_positive, IsExtracted, term_of, ◌∣◌, le_of_dvd, dvd_refl, IsCoprime, IsCoprime-from_gcd}
+use Rattle.number_forms.proofs.Shared.{IsGcd-from_coprime, IsCoprime-swap, IsCoprime-mul}
 use Rattle.surd_terms.specs.declared.term.Term.{Term as CodeTerm}
 use Rattle.rational128.specs.declared.overflow.Op.TheVariants as Op
 

@@ -1,6 +1,6 @@
 -- Lists to which terms are joined one by one.
-use Rattle.number_forms.proofs.Shared.{◌≡◌, ℕ, zero, suc, ◌+◌, ◌<◌, ◌≤◌, List, [], ◌∷◌, ◌++◌, length, get_or, drop, refl, sym, ap, ◌∙◌, arith, add-one, Same}
-use Rattle.number_forms.proofs.Shared.{Same-refl, SharesDenominators, Surd, Term, term_of, AreListed, AreTermsOf}
+use Rattle.number_forms.proofs.Shared.{◌≡◌, ℕ, zero, suc, ◌+◌, ◌<◌, ◌≤◌, List, [], ◌∷◌, ◌++◌, length, get_or, drop, refl, sym, ap, ◌∙◌, arith, add-one, Same, SharesDenominators, Surd, Term}
+use Rattle.number_forms.proofs.Shared.{term_of, AreListed, AreTermsOf}
 use Rattle.number_forms.proofs.Denominators.{parts_end, parts_part, parts_step}
 use Rattle.number_forms.proofs.Worth.{join_end, join_step, part_step}
 use Rattle.number_forms.specs.Values.{surd_of}
@@ -11,9 +11,6 @@ pub record AreTermsWith (left whole : Surd) (ts : List CodeTerm) : Type 0 where
   pub listed : AreListed ts
   pub worth : Same (surd_of ts ++ left) whole
   pub parts : SharesDenominators whole (surd_of ts ++ left)
-
-pub with_all : (left : Surd) (ts : List CodeTerm) → AreListed ts → AreTermsWith left (surd_of ts ++ left) ts
-with_all left ts h = record { listed = h; worth = Same-refl (surd_of ts ++ left); parts = λ d p. p }
 
 pub with_step : {left rest whole : Surd} {ts us : List CodeTerm} (y : Term) → left ≡ y ∷ rest → AreTermsOf (y ∷ surd_of ts) us → AreTermsWith left whole ts → AreTermsWith rest whole us
 with_step {left} {rest} {whole} {ts} {us} y e h k = record {

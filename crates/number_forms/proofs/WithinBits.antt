@@ -1,11 +1,11 @@
 -- No operation overflows on Numbers whose sum, product, power or inverse has few bits.
-use Rattle.number_forms.proofs.Shared.{◌≡◌, ℕ, zero, suc, ◌+◌, ◌*◌, ◌/◌, ◌^◌, ◌≤◌, ◌<◌, [], ◌∷◌, ◌++◌, Bool, true, false, Some, None, inl, inr, pos, map}
-use Rattle.number_forms.proofs.Shared.{max, if◌then◌else◌, refl, sym, ap, ◌∙◌, subst, arith, append_assoc, slice_get, Rises, is_number, terms_of, value, Same, Term, Surd, term_times}
-use Rattle.number_forms.proofs.Shared.{surd_times, IsProper, AreProper, terms_proper, value_proper, value_rises, number_words, map-append', surd_times-append, HasFewBits, SharesDenominators}
-use Rattle.number_forms.proofs.Shared.{magnitude_over, root_above, term_mass, mass, IsHeld, held_so_far, held_left, held_right, held_pair, gcd, whole_fraction, Tree, add, count, terms_from}
-use Rattle.number_forms.proofs.Shared.{SumOverflows, RowOverflows, ProductOverflows, InverseOverflows, inverting_calculations, IsSum, Overflow, Calculation, calculation, calculation_of, first_misfit}
-use Rattle.number_forms.proofs.Shared.{has_rational, radicand_calculations, joining_calculations, IsProductMisfit, IsExtracted, magnitude_whole, radicands_fit, extracted_fits, extracted_den}
-use Rattle.number_forms.proofs.Shared.{children_of, nth, Mul, inverse_fits, inverse_of_sum_fits, joins_fit, passed}
+use Rattle.number_forms.proofs.Shared.{◌≡◌, ℕ, zero, suc, ◌+◌, ◌*◌, ◌/◌, ◌^◌, ◌≤◌, ◌<◌, [], ◌∷◌, ◌++◌, Bool, true, false, Some, None, inl, inr, pos, map, max, if◌then◌else◌, refl, sym, ap, ◌∙◌}
+use Rattle.number_forms.proofs.Shared.{subst, arith, append_assoc, slice_get, Rises, is_number, terms_of, value, Same, Term, Surd, term_times, surd_times, IsProper, AreProper, terms_proper}
+use Rattle.number_forms.proofs.Shared.{value_proper, value_rises, number_words, map-append', surd_times-append, HasFewBits, SharesDenominators, magnitude_over, root_above, term_mass, mass}
+use Rattle.number_forms.proofs.Shared.{IsHeld, held_so_far, held_left, held_right, held_pair, gcd, whole_fraction, Tree, add, count, terms_from, SumOverflows, RowOverflows, ProductOverflows}
+use Rattle.number_forms.proofs.Shared.{InverseOverflows, inverting_calculations, IsSum, Overflow, Calculation, calculation, calculation_of, first_misfit, has_rational, radicand_calculations}
+use Rattle.number_forms.proofs.Shared.{joining_calculations, IsProductMisfit, IsExtracted, magnitude_whole, radicands_fit, extracted_fits, extracted_den, children_of, nth, Mul, inverse_fits}
+use Rattle.number_forms.proofs.Shared.{inverse_of_sum_fits, joins_fit, passed}
 use Rattle.calc_algebra.specs.Numbers.{term_of}
 use Rattle.number_forms.proofs.LastSums.{sum_is}
 use Rattle.number_forms.proofs.Shaped.{nth_of_terms}

@@ -7,6 +7,7 @@ use Rattle.calc_algebra.specs.SquareClasses.{are_alike, Same}
 use Rattle.calc_algebra.specs.Surds.{Surd, Term}
 use Rattle.calc_bits.specs.Denominators.{SharesDenominators}
 use Rattle.calc_terms.specs.Trees.{Tree, add, Trees, none, more, count}
+pub use Rattle.child_lists.specs.Changes.{removed}
 use Rattle.tree_handles.specs.Expressions.{nth}
 
 -- an Add of any number of terms, whose radicands rise, no two alike
@@ -19,12 +20,6 @@ pub record IsSumOf (v : Surd) (t : Tree) : Type 0 where
   pub sum : IsSum t
   pub worth : Same (value t) v
   pub parts : SharesDenominators v (value t)
-
--- trees without the one at a place, counted from 0
-abbrev pub removed : ℕ → Trees → Trees
-removed n none = none
-removed zero (more t ts) = ts
-removed (suc n) (more t ts) = more t (removed n ts)
 
 -- alike with the radicand of none of the terms
 abbrev pub IsApart : ℕ → Surd → Type 0

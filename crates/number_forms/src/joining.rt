@@ -2,7 +2,7 @@
 ghost use Rattle.std.specs.Prelude.{◌≡◌, ◌<◌, ◌≤◌, ◌-◌, ◌^◌, ◌∷◌, [], ℕ, IsTrue, IfOk, IfErr, IfSome, OnOk};
 ghost use Rattle.calc_algebra.specs.Clean.{IsClean};
 ghost use Rattle.calc_algebra.specs.Numbers.{value, term_of as term_of_tree, terms_of};
-ghost use Rattle.calc_terms.specs.Trees.{add, count};
+ghost use Rattle.calc_terms.specs.Trees.{count};
 ghost use Rattle.node_pool.specs.State.{free_of};
 ghost use Rattle.child_lists.specs.Lists.{Lists};
 ghost use Rattle.number_forms.specs.Sums.{IsSum, IsSumOf, IsApart, IsPlace, AreBelow, removed};
@@ -11,24 +11,20 @@ ghost use Rattle.tree_handles.specs.Lacking.{OfFull};
 ghost use Rattle.number_forms.specs.Overflows.{JoinOverflows};
 ghost use Rattle.tree_handles.specs.Standing.{LacksBytes, Stands, forest, KeepsRefusals, Refuses};
 ghost use Rattle.tree_handles.specs.Causes.{IsCaused, Overflows};
-ghost use Rattle.tree_handles.specs.Handed.{tree_of, Ends, Gives, KeepsFront};
+ghost use Rattle.tree_handles.specs.Handed.{tree_of, Gives, KeepsFront};
 ghost use Rattle.surd_terms.specs.Terms.{term_of};
 ghost use Rattle.tree_handles.specs.Expressions.{children_of, nth, plain, IsExpression};
 ghost use Rattle.tree_handles.specs.Faults.{Faults, OfOverflow};
-ghost use Rattle.tree_handles.specs.Forest.{Forest, kids, with_nth};
 ghost use Rattle.tree_handles.specs.Inside.{tree_at};
-ghost use Rattle.tree_handles.specs.Roots.{root_tree, without_root, put};
+ghost use Rattle.tree_handles.specs.Roots.{without_root};
 
 use crate::placing::{TERM_BYTES, place_term};
 use crate::term::term_at;
-use child_lists::{ChildList, next_child, put_before};
+use child_lists::{ChildList, exchange_child, insert_child, remove_child};
 use node_pool::{Full, Id, Pool};
 use rational128::Overflow;
 use surd_terms::{Joined, Term, join, undivided};
-use tree_handles::{
-    Handle, NumberFault, add_before, adopt, child_ids, children, release, replace_known_child,
-    take_known_child,
-};
+use tree_handles::{Handle, NumberFault, child_ids, children};
 
 /// A clean number below this one is square-free, so that each class has one.
 pub(crate) const SQUARE_FREE_BELOW: u128 = 1_000_000_000_000;
@@ -69,7 +65,7 @@ pub(crate) fn join_term<const N: usize>(
 {
     match match_in(pool, sum.id(), list, term, seen)? {
         Match::Apart(at) => insert(pool, sum, list, at, term)?,
-        Match::Zero(at) => remove(pool, sum, list, at),
+        Match::Zero(at) => remove_child(pool, sum, list, at),
         Match::Term(at, joined) => replace(pool, sum, list, at, joined)?,
     }
     Ok(())
@@ -229,11 +225,8 @@ fn insert<const N: usize>(
     ensures room { IfErr result (λ full. free_of pool.old < 96) }
     ensures stands { Stands pool.new }
 {
-    let next = next_child(pool, sum.id(), list, at);
     let child = place_term(pool, term)?;
-    let id = child.id();
-    put_before(pool, sum, next, child);
-    list.insert(at, id);
+    insert_child(pool, sum, list, at, child);
     Ok(())
 }
 
@@ -263,7 +256,7 @@ fn replace<const N: usize>(
     if stays && pool.free() >= TERM_BYTES {
         exchange(pool, sum, list, at, term)
     } else {
-        remove(pool, sum, list, at);
+        remove_child(pool, sum, list, at);
         let place = place_of(pool, sum.id(), list, term.radicand());
         insert(pool, sum, list, place, term)
     }
@@ -293,12 +286,8 @@ fn exchange<const N: usize>(
     ensures room { IfErr result (λ full. free_of pool.old < 96) }
     ensures stands { Stands pool.new }
 {
-    let old = list.child(pool, sum.id(), at);
     let new = place_term(pool, term)?;
-    let id = new.id();
-    let gone = replace_known_child(pool, old, new);
-    release(pool, gone);
-    list.set(at, id);
+    exchange_child(pool, sum, list, at, new);
     Ok(())
 }
 
@@ -380,23 +369,4 @@ pub(crate) fn clean_radicand<const N: usize>(
         return (1, NOWHERE);
     }
     (radicand_at(pool, sum, list, at), at)
-}
-
-/// Takes a term out of a sum.
-fn remove<const N: usize>(pool: &mut Pool, sum: &Handle, list: &mut ChildList<N>, at: u16)
-    requires stands { Stands pool.old }
-    requires sum { Gives (without_root sum.now (forest pool.old)) (forest pool.old) sum.now IsSum }
-    requires lists { Lists list.old sum.now (forest pool.old) }
-    requires within { at < count (children_of (tree_of sum.now pool.old)) }
-    ensures sum { Gives (without_root sum.now (forest pool.old)) (forest pool.new) sum.now (λ t. t ≡ add (removed at (children_of (tree_of sum.now pool.old)))) }
-    ensures lists { Lists list.new sum.now (forest pool.new) }
-    ensures front { KeepsFront (sum.now ∷ []) (forest pool.old) (forest pool.new) }
-    ensures kept { KeepsRefusals pool.old pool.new }
-    ensures room { free_of pool.old ≤ free_of pool.new }
-    ensures stands { Stands pool.new }
-{
-    let id = list.child(pool, sum.id(), at);
-    let child = take_known_child(pool, sum, id);
-    release(pool, child);
-    list.remove(at);
 }

@@ -1,7 +1,7 @@
-use Rattle.number_forms.proofs.Shared.{◌≡◌, ◌≤◌, inl, sym, ap, ◌∙◌, refl, arith, subst, ◌<◌, pos, value, IsNumberOver, Tree, count, num, root_size, gives_itself, tree_of}
-use Rattle.number_forms.proofs.Shared.{children_of, behind_first, front_same, front_at, front_end, front_put, front_without, front_after, given_root, given_handed, given_told, gives_as, owned}
-use Rattle.number_forms.proofs.Shared.{num_most, value_of, free_of, refused_below, released_free, expression, seen}
-use Rattle.number_forms.proofs.LastSums.{sum_is, only_child, only_owned}
+use Rattle.number_forms.proofs.Shared.{◌≡◌, ◌≤◌, inl, sym, ap, ◌∙◌, refl, arith, subst, ◌<◌, pos, value, IsNumberOver, Tree, count, num, root_size, gives_itself, tree_of, children_of}
+use Rattle.number_forms.proofs.Shared.{behind_first, front_same, front_at, front_end, front_put, front_without, front_after, given_root, given_handed, given_told, gives_as, owned, num_most}
+use Rattle.number_forms.proofs.Shared.{value_of, free_of, refused_below, released_free, expression, seen, only_child, only_owned}
+use Rattle.number_forms.proofs.LastSums.{sum_is}
 use Rattle.number_forms.proofs.Shaped.{zero_sum, one_sum, more_sum, zero_number_of, two_from}
 use Rattle.number_forms.proofs.TermTrees.{if_given, whole_is}
 use Rattle.number_forms.proofs.Rooms.{refusal_as}

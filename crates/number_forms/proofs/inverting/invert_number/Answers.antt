@@ -1,5 +1,5 @@
-use Rattle.number_forms.proofs.Shared.{◌≡◌, ◌≢◌, ◌≤◌, ℕ, refl, sym, ◌∙◌, arith, ◌+◌, value, classes, tree_of, behind_first, front_same, front_at, front_without, owned}
-use Rattle.number_forms.proofs.Shared.{given_told, OfOverflow, passed_on, overflow_as, inverse_need, size, free_of, LacksRoom}
+use Rattle.number_forms.proofs.Shared.{◌≡◌, ◌≢◌, ◌≤◌, ℕ, refl, sym, ◌∙◌, arith, ◌+◌, value, classes, tree_of, behind_first, front_same, front_at, front_without, owned, given_told, OfOverflow}
+use Rattle.number_forms.proofs.Shared.{passed_on, overflow_as, inverse_need, size, free_of, LacksRoom}
 use Rattle.number_forms.proofs.InverseBits.{inverse_no_larger}
 use Rattle.number_forms.proofs.WithinBits.{inverse_within}
 use Rattle.number_forms.proofs.Placings.{rational_classes}

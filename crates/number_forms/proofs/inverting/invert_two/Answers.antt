@@ -1,6 +1,6 @@
-use Rattle.number_forms.proofs.Shared.{◌≡◌, ◌≤◌, ◌+◌, [], ◌∷◌, refl, sym, ap, ◌∙◌, arith, value, Tree, more, none, size, Term, free_of, inverse_trees, LacksInverse, OfFull}
-use Rattle.number_forms.proofs.Shared.{sum_of_terms, first_of_inverse, second_of_inverse, released_free, InverseOverflows, inverting_calculations, OfOverflow, passed_on, first_misfit, calculation_of}
-use Rattle.number_forms.proofs.Shared.{tree_of, term_of, behind_first, front_same, front_at, front_without, front_after, gives_as, owned}
+use Rattle.number_forms.proofs.Shared.{◌≡◌, ◌≤◌, ◌+◌, [], ◌∷◌, refl, sym, ap, ◌∙◌, arith, value, Tree, more, none, size, Term, free_of, inverse_trees, LacksInverse, OfFull, sum_of_terms}
+use Rattle.number_forms.proofs.Shared.{first_of_inverse, second_of_inverse, released_free, InverseOverflows, inverting_calculations, OfOverflow, passed_on, first_misfit, calculation_of, tree_of}
+use Rattle.number_forms.proofs.Shared.{term_of, behind_first, front_same, front_at, front_without, front_after, gives_as, owned}
 use Rattle.number_forms.proofs.InverseSteps.{both_terms, apart_terms, inverse_number, two_rise, tree_of_two, fits_as, unfit, has_inverse, room_for, lacks_inverse}
 use Rattle.number_forms.proofs.Placings.{refused, given_tree}
 use Rattle.number_forms.proofs.inverting.invert_two.Goals.{After-nth_term-second}

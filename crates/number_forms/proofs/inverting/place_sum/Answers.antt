@@ -1,5 +1,5 @@
-use Rattle.number_forms.proofs.Shared.{◌≡◌, ℕ, ◌+◌, ◌≤◌, [], ◌∷◌, Err, ap, ◌∙◌, arith, Tree, add, more, none, size, term_of, tree_of, behind_new, front_same, given_root}
-use Rattle.number_forms.proofs.Shared.{given_told, free_of, Full, term_tree, sum_of_terms, building, node_sizes, nodes_sizes, given_free, passed_on, other_plain, front_after, front_after_two}
+use Rattle.number_forms.proofs.Shared.{◌≡◌, ℕ, ◌+◌, ◌≤◌, [], ◌∷◌, Err, ap, ◌∙◌, arith, Tree, add, more, none, size, term_of, tree_of, behind_new, front_same, given_root, given_told, free_of}
+use Rattle.number_forms.proofs.Shared.{Full, term_tree, sum_of_terms, building, node_sizes, nodes_sizes, given_free, passed_on, other_plain, front_after, front_after_two}
 use Rattle.number_forms.proofs.InverseSteps.{placed_two}
 use Rattle.surd_terms.specs.declared.term.Term.{Term}
 use Rattle.number_forms.proofs.Placings.{refused, lacking, lacking_on, built, placed_before, told_tree}

@@ -1,5 +1,6 @@
 use Rattle.number_forms.proofs.Shared.{sym, subst, refl, rules, ◌<◌, Tree, add, IsApart, removed, lists_at, children_of, tree_of, term_of, given_handed, given_told, gives_as, JoinOverflows}
 use Rattle.number_forms.proofs.Shared.{OfOverflow, passed_on, free_of, Full, OfFull, expression, seen}
+use Rattle.number_forms.proofs.LastSums.{sum_add}
 use Rattle.number_forms.proofs.SumChanges.{read_sum, sum_value, cancelled, made_one, matched, apart_rest}
 use Rattle.tree_handles.specs.declared.fault.NumberFault.TheVariants as fault
 use Rattle.number_forms.proofs.joining.join_term.Goals as goal
@@ -13,8 +14,8 @@ match_in-requires g c = (search rules, (c.requires.stands, (expression c.id.ensu
 pub insert-requires : goal.insert-requires
 insert-requires g c = (search rules, (c.requires.stands, (c.requires.sum, (c.requires.lists, ((let sum : Tree = tree_of c.args.sum.now c.args.pool.now in let same = seen c.id.ensures c.requires.stands (given_handed c.requires.sum) in subst (IsApart (term_of c.args.term).radicand) (sym (sum_value sum (given_told c.requires.sum))) (matched (term_of c.args.term) _ sum _ _ same c.in-Apart.is c.in_ok-at.ensures.ok).0), (let same = seen c.id.ensures c.requires.stands (given_handed c.requires.sum) in (matched (term_of c.args.term) _ (tree_of c.args.sum.now c.args.pool.now) _ _ same c.in-Apart.is c.in_ok-at.ensures.ok).1))))))
 
-pub remove-requires : goal.remove-requires
-remove-requires g c = (search rules, (c.requires.stands, (c.requires.sum, (c.requires.lists, (let same = seen c.id.ensures c.requires.stands (given_handed c.requires.sum) in (matched (term_of c.args.term) _ (tree_of c.args.sum.now c.args.pool.now) _ _ same c.in-Zero.is c.in_ok-at.ensures.ok).0)))))
+pub remove_child-requires : goal.remove_child-requires
+remove_child-requires g c = (search rules, (c.requires.stands, (gives_as c.requires.sum refl sum_add, (c.requires.lists, (let same = seen c.id.ensures c.requires.stands (given_handed c.requires.sum) in (matched (term_of c.args.term) _ (tree_of c.args.sum.now c.args.pool.now) _ _ same c.in-Zero.is c.in_ok-at.ensures.ok).0)))))
 
 pub replace-requires : goal.replace-requires
 replace-requires g c =
@@ -36,7 +37,7 @@ returns-in-Zero-clause-ok g c =
     let sum : Tree = tree_of c.args.sum.now c.args.pool.now in
     let same = seen c.id.ensures c.requires.stands (given_handed c.requires.sum) in
     let m = matched (term_of c.args.term) _ sum _ _ same c.in-Zero.is c.in_ok-at.ensures.ok in
-    gives_as c.remove.ensures.sum refl (λ t e. cancelled c.in-Zero.at sum t (term_of c.args.term) (given_told c.requires.sum) m.0 m.1.1 e)
+    gives_as c.remove_child.ensures.sum refl (λ t e. cancelled c.in-Zero.at sum t (term_of c.args.term) (given_told c.requires.sum) m.0 m.1.1 e)
 
 pub returns-in_err-at-clause-overflow : goal.returns-in_err-at-clause-overflow
 returns-in_err-at-clause-overflow g c =

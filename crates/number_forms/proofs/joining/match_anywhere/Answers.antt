@@ -1,5 +1,5 @@
-use Rattle.number_forms.proofs.Shared.{◌≡◌, ℕ, false, refl, sym, ap, ◌∙◌, subst, arith, below_more, length_push, are_alike, count, IsPlace, term_of, plain, children_of, nth, tree_at}
-use Rattle.number_forms.proofs.Shared.{forest, JoinOverflows, passed_on}
+use Rattle.number_forms.proofs.Shared.{◌≡◌, ℕ, false, refl, sym, ap, ◌∙◌, subst, arith, below_more, length_push, are_alike, count, IsPlace, term_of, plain, children_of, nth, tree_at, forest}
+use Rattle.number_forms.proofs.Shared.{JoinOverflows, passed_on}
 use Rattle.number_forms.proofs.Children.{IsNextChild, left_more, next_child, none_left, few_children}
 use Rattle.number_forms.proofs.ByKind.{children_number}
 use Rattle.number_forms.proofs.Joined.{apart_each}

@@ -1,5 +1,6 @@
-use Rattle.number_forms.proofs.Shared.{rules, ◌≡◌, ◌<◌, ◌∷◌, OnOk, refl, sym, ap, ◌∙◌, subst, value, terms_of, Surd, Tree, count, IsSumOf, IsApart, removed, lists_at, term_of}
-use Rattle.number_forms.proofs.Shared.{children_of, nth, Forest, tree_of, Gives, without_root, forest, given_handed, given_told, given_rest, gives_as, expression, seen}
+use Rattle.number_forms.proofs.Shared.{rules, ◌≡◌, ◌<◌, ◌∷◌, OnOk, refl, sym, ap, ◌∙◌, subst, value, terms_of, Surd, Tree, count, IsSumOf, IsApart, removed, lists_at, term_of, children_of, nth}
+use Rattle.number_forms.proofs.Shared.{Forest, tree_of, Gives, without_root, forest, given_handed, given_told, given_rest, gives_as, expression, seen}
+use Rattle.number_forms.proofs.LastSums.{sum_add}
 use Rattle.number_forms.proofs.SumChanges.{read_sum, read_place, removed_is_sum}
 use Rattle.calc_algebra.specs.Numbers.{term_of as term_of_tree}
 use Rattle.number_forms.proofs.joining.replace.Goals as goal
@@ -13,22 +14,25 @@ exchange-requires g c =
     let stays = sym (ap (λ (t : Tree). (term_of_tree (nth c.args.at (children_of t))).radicand) same) ∙ sym c.radicand_at.ensures.value ∙ c.if-stays.true ∙ c.radicand.ensures.value in
     (search rules, (c.requires.stands, (c.requires.sum, (c.requires.lists, (c.requires.within, (stays, c.requires.apart))))))
 
+pub remove_child-requires : goal.remove_child-requires
+remove_child-requires g c = (search rules, (c.requires.stands, (gives_as c.requires.sum refl sum_add, (c.requires.lists, c.requires.within))))
+
 pub place_of-place-requires : goal.place_of-place-requires
 place_of-place-requires g c =
-    let rest = gives_as c.remove.ensures.sum refl (λ t e. removed_is_sum c.args.at (tree_of c.args.sum.now c.args.pool.now) t (given_told c.requires.sum) e) in
-    (search rules, (c.remove.ensures.stands, (expression c.id-else-stays.ensures c.remove.ensures.stands (given_handed c.remove.ensures.sum), (read_sum _ c.args.sum.now c.remove.new.pool c.id-else-stays.ensures c.remove.ensures.stands rest, lists_at c.id-else-stays.ensures c.remove.ensures.lists))))
+    let rest = gives_as c.remove_child.ensures.sum refl (λ t e. removed_is_sum c.args.at (tree_of c.args.sum.now c.args.pool.now) t (given_told c.requires.sum) e) in
+    (search rules, (c.remove_child.ensures.stands, (expression c.id-else-stays.ensures c.remove_child.ensures.stands (given_handed c.remove_child.ensures.sum), (read_sum _ c.args.sum.now c.remove_child.new.pool c.id-else-stays.ensures c.remove_child.ensures.stands rest, lists_at c.id-else-stays.ensures c.remove_child.ensures.lists))))
 
 pub insert-requires : goal.insert-requires
 insert-requires g c =
-    let rest = c.remove.ensures.sum in
+    let rest = c.remove_child.ensures.sum in
     let sum = gives_as rest (sym (given_rest rest)) (λ t e. removed_is_sum c.args.at (tree_of c.args.sum.now c.args.pool.now) t (given_told c.requires.sum) e) in
     let apart = subst (IsApart (term_of c.args.term).radicand) (sym (ap value (given_told rest))) c.requires.apart in
-    let place = read_place _ c.args.sum.now c.place_of-place.result _ _ c.remove.new.pool c.id-else-stays.ensures c.remove.ensures.stands (given_handed rest) c.radicand-else-stays.ensures.value c.place_of-place.ensures in
-    (search rules, (c.remove.ensures.stands, (sum, (c.remove.ensures.lists, (apart, place)))))
+    let place = read_place _ c.args.sum.now c.place_of-place.result _ _ c.remove_child.new.pool c.id-else-stays.ensures c.remove_child.ensures.stands (given_handed rest) c.radicand-else-stays.ensures.value c.place_of-place.ensures in
+    (search rules, (c.remove_child.ensures.stands, (sum, (c.remove_child.ensures.lists, (apart, place)))))
 
 pub returns-else-stays-clause-ok : goal.returns-else-stays-clause-ok
 returns-else-stays-clause-ok g c =
-    let rest = c.remove.ensures.sum in
-    let others : value (tree_of c.args.sum.now c.remove.new.pool) ≡ terms_of (removed c.args.at (children_of (tree_of c.args.sum.now c.args.pool.now))) = ap value (given_told rest) in
+    let rest = c.remove_child.ensures.sum in
+    let others : value (tree_of c.args.sum.now c.remove_child.new.pool) ≡ terms_of (removed c.args.at (children_of (tree_of c.args.sum.now c.args.pool.now))) = ap value (given_told rest) in
     subst (λ (v : Surd). OnOk c.insert.result (Gives (without_root c.args.sum.now (forest c.args.pool.now)) (forest c.insert.new.pool) c.args.sum.now (IsSumOf (term_of c.args.term ∷ v)))) others
-    (subst (λ (f : Forest). OnOk c.insert.result (Gives f (forest c.insert.new.pool) c.args.sum.now (IsSumOf (term_of c.args.term ∷ value (tree_of c.args.sum.now c.remove.new.pool))))) (given_rest rest) c.insert.ensures.ok)
+    (subst (λ (f : Forest). OnOk c.insert.result (Gives f (forest c.insert.new.pool) c.args.sum.now (IsSumOf (term_of c.args.term ∷ value (tree_of c.args.sum.now c.remove_child.new.pool))))) (given_rest rest) c.insert.ensures.ok)

@@ -1,7 +1,7 @@
-use Rattle.number_forms.proofs.Shared.{◌≡◌, ℕ, ◌≤◌, ◌∷◌, Some, length, map, sym, ap, ◌∙◌, arith, add-one, rules, ◌+◌, ◌-◌, inl, inr, slice_get, is_number, value}
-use Rattle.number_forms.proofs.Shared.{classes, term_times, Tree, size, Same-refl, other_plain, other_read, other_expression, gives_rest, lists_at, lists_kept, behind_first, front_after_one, tree_of}
-use Rattle.number_forms.proofs.Shared.{term_of, given_handed, given_other, given_told, plain_root, RowOverflows, OfOverflow, passed_on, overflow_as, spans_append, spans_row, free_of, LacksRoom}
-use Rattle.number_forms.proofs.Shared.{joining_need, expression}
+use Rattle.number_forms.proofs.Shared.{◌≡◌, ℕ, ◌≤◌, ◌∷◌, Some, length, map, sym, ap, ◌∙◌, arith, add-one, rules, ◌+◌, ◌-◌, inl, inr, slice_get, is_number, value, classes, term_times, Tree, size}
+use Rattle.number_forms.proofs.Shared.{Same-refl, other_plain, other_read, other_expression, gives_rest, lists_at, lists_kept, behind_first, front_after_one, tree_of, term_of, given_handed}
+use Rattle.number_forms.proofs.Shared.{given_other, given_told, plain_root, RowOverflows, OfOverflow, passed_on, overflow_as, spans_append, spans_row, free_of, LacksRoom, joining_need}
+use Rattle.number_forms.proofs.Shared.{expression}
 use Rattle.number_forms.proofs.Denominators.{parts_extracted}
 use Rattle.number_forms.proofs.Loops.{joined_none, joined_more, joined_all, from_all}
 use Rattle.number_forms.proofs.Worth.{terms_from, products_next, same_first, get_from, from_from}

@@ -1,5 +1,5 @@
-use Rattle.number_forms.proofs.Shared.{◌≡◌, ℕ, pos, Err, ◌+◌, ◌∙◌, refl, arith, ◌≤◌, [], ◌∷◌, whole_fraction, value_of, num, root, mult, more, none, root_size, Rat}
-use Rattle.number_forms.proofs.Shared.{behind_new, front_same, given_root, given_told, free_of, Full, building, passed_on, other_plain, front_after, front_after_two}
+use Rattle.number_forms.proofs.Shared.{◌≡◌, ℕ, pos, Err, ◌+◌, ◌∙◌, refl, arith, ◌≤◌, [], ◌∷◌, whole_fraction, value_of, num, root, mult, more, none, root_size, Rat, behind_new, front_same}
+use Rattle.number_forms.proofs.Shared.{given_root, given_told, free_of, Full, building, passed_on, other_plain, front_after, front_after_two}
 use Rattle.number_forms.proofs.Placings.{free_before, refused, taken, lacking, lacking_on}
 use Rattle.number_forms.proofs.Pairs.{first_handed, pair_rest}
 use Rattle.number_forms.proofs.Rooms.{refusal_as}

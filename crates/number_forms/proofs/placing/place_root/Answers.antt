@@ -1,5 +1,5 @@
-use Rattle.number_forms.proofs.Shared.{◌≡◌, ℕ, pos, Err, ◌+◌, ◌≤◌, [], ◌∷◌, ap, sym, ◌∙◌, arith, front_after_one, Fraction, whole_fraction, num, root, root_size}
-use Rattle.number_forms.proofs.Shared.{behind_new, front_same, given_handed, given_told, given_rest, free_of, Full, building, taking, passed_on}
+use Rattle.number_forms.proofs.Shared.{◌≡◌, ℕ, pos, Err, ◌+◌, ◌≤◌, [], ◌∷◌, ap, sym, ◌∙◌, arith, front_after_one, Fraction, whole_fraction, num, root, root_size, behind_new, front_same}
+use Rattle.number_forms.proofs.Shared.{given_handed, given_told, given_rest, free_of, Full, building, taking, passed_on}
 use Rattle.number_forms.proofs.Placings.{free_before, refused, taken, lacking}
 use Rattle.number_forms.proofs.Rooms.{refusal_as}
 use Rattle.number_forms.proofs.TermTrees.{if_given}

@@ -1,5 +1,5 @@
-use Rattle.number_forms.proofs.Shared.{rules, ap, ◌∙◌, subst, sym, ◌/◌, is_number, value, surd_times, Tree, other_plain, kept_after, overflow_as, refused_as, IsNumberOver, tree_of, plain}
-use Rattle.number_forms.proofs.Shared.{Forest, root_tree, behind_new, front_same, front_at, front_after_one, given_handed, given_told, given_rest, given_other, gives_as, handed_at, Same-refl}
+use Rattle.number_forms.proofs.Shared.{rules, ap, ◌∙◌, subst, sym, ◌/◌, is_number, value, surd_times, Tree, other_plain, kept_after, overflow_as, refused_as, IsNumberOver, tree_of, plain, Forest}
+use Rattle.number_forms.proofs.Shared.{root_tree, behind_new, front_same, front_at, front_after_one, given_handed, given_told, given_rest, given_other, gives_as, handed_at, Same-refl}
 use Rattle.number_forms.proofs.Shared.{PowerOverflows, ProductOverflows, OfOverflow, passed_on, SpansTree, free_of, LacksRoom, raising_need, given_free}
 use Rattle.number_forms.proofs.Over.{even_power, odd_power, power_itself, of_over, of_power}
 use Rattle.number_forms.proofs.TermTrees.{if_given}

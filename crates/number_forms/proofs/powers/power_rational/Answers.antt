@@ -1,6 +1,6 @@
-use Rattle.number_forms.proofs.Shared.{sym, ap, ◌∙◌, subst, rules, FitsSigned, ◌+◌, ◌<◌, arith, ℤ, nat_abs, w128, to_z-of_z, pow_op, fraction_power, operation_fits, Fraction}
-use Rattle.number_forms.proofs.Shared.{whole_fraction, calculated, value_of, num, root_size, size, whole_numerator, IsPlainAnswer, tree_of, behind_first, front_same, front_at, front_without}
-use Rattle.number_forms.proofs.Shared.{front_after, given_told, gives_as, power_need, num_most, free_of, LacksRoom, refused_below, passed_on, released_free}
+use Rattle.number_forms.proofs.Shared.{sym, ap, ◌∙◌, subst, rules, FitsSigned, ◌+◌, ◌<◌, arith, ℤ, nat_abs, w128, to_z-of_z, pow_op, fraction_power, operation_fits, Fraction, whole_fraction}
+use Rattle.number_forms.proofs.Shared.{calculated, value_of, num, root_size, size, whole_numerator, IsPlainAnswer, tree_of, behind_first, front_same, front_at, front_without, front_after}
+use Rattle.number_forms.proofs.Shared.{given_told, gives_as, power_need, num_most, free_of, LacksRoom, refused_below, passed_on, released_free}
 use Rattle.number_forms.proofs.RationalCalls.{plain_answer, rational_power_over, rational_power, num_same}
 use Rattle.number_forms.proofs.RationalBits.{power_parts}
 use Rattle.number_forms.proofs.Rooms.{few_for_power}

@@ -1,7 +1,7 @@
-use Rattle.number_forms.proofs.Shared.{◌≡◌, ℕ, ◌++◌, refl, sym, ap, ◌∙◌, subst, arith, ◌*◌, ◌^◌, ◌<◌, length, is_number, value, Surd, square_terms, Same-trans, Same-eq}
-use Rattle.number_forms.proofs.Shared.{IsSum, lists_at, lists_none, lists_listed, root_ids, kids_of_last, expression_root, Tree, other_plain, gives_rest, kept_after, overflow_as, tree_of, IsHanded}
-use Rattle.number_forms.proofs.Shared.{IsExpression, without_root, forest, behind_new, front_same, front_after_one, given_told, given_other, given_rest, gives_as, handed_at, SquareOverflows}
-use Rattle.number_forms.proofs.Shared.{OfOverflow, passed_on, Spans, free_of, LacksRoom, joining_need, refused_below, given_free}
+use Rattle.number_forms.proofs.Shared.{◌≡◌, ℕ, ◌++◌, refl, sym, ap, ◌∙◌, subst, arith, ◌*◌, ◌^◌, ◌<◌, length, is_number, value, Surd, square_terms, Same-trans, Same-eq, IsSum, lists_at}
+use Rattle.number_forms.proofs.Shared.{lists_none, lists_listed, root_ids, kids_of_last, expression_root, Tree, other_plain, gives_rest, kept_after, overflow_as, tree_of, IsHanded, IsExpression}
+use Rattle.number_forms.proofs.Shared.{without_root, forest, behind_new, front_same, front_after_one, given_told, given_other, given_rest, gives_as, handed_at, SquareOverflows, OfOverflow}
+use Rattle.number_forms.proofs.Shared.{passed_on, Spans, free_of, LacksRoom, joining_need, refused_below, given_free}
 use Rattle.number_forms.proofs.Squares.{square_same, square_parts}
 use Rattle.number_forms.proofs.Denominators.{shares_eq}
 use Rattle.number_forms.proofs.Over.{over_as}

@@ -1,5 +1,5 @@
-use Rattle.number_forms.proofs.Shared.{◌≡◌, ◌<◌, Some, sym, ap, ◌∙◌, subst, arith, true, slice_get, is_number, is_term, value, classes, Tree, add, count, plain, children_of, tree_at}
-use Rattle.number_forms.proofs.Shared.{forest, term_test}
+use Rattle.number_forms.proofs.Shared.{◌≡◌, ◌<◌, Some, sym, ap, ◌∙◌, subst, arith, true, slice_get, is_number, is_term, value, classes, Tree, add, count, plain, children_of, tree_at, forest}
+use Rattle.number_forms.proofs.Shared.{term_test}
 use Rattle.number_forms.proofs.ByKind.{add_by_kind, sum_classes, children_number}
 use Rattle.number_forms.proofs.Shaped.{added_number, nth_of_terms, nth_is_term}
 use Rattle.number_forms.proofs.TermTrees.{single_term}

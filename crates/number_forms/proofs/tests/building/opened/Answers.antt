@@ -1,4 +1,4 @@
-use Rattle.number_forms.proofs.Shared.{◌*◌, ◌/◌, ◌%◌, ap, arith, mul-mod_left, IsPoolSize}
+use Rattle.number_forms.proofs.Shared.{◌/◌, arith, mul-mod_left}
 use Rattle.number_forms.proofs.tests.building.opened.Goals as goal
 
 pub open_pool-requires : goal.open_pool-requires

@@ -1,4 +1,4 @@
-use Rattle.number_forms.proofs.Shared.{given_handed, given_told, given_rest}
+use Rattle.number_forms.proofs.Shared.{given_rest}
 use Rattle.number_forms.proofs.TermTrees.{if_given}
 use Rattle.number_forms.proofs.tests.pools.inverse_of_sum.Goals as goal
 

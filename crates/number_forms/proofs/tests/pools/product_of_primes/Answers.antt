@@ -1,5 +1,4 @@
-use Rattle.number_forms.proofs.Shared.{rules, ◌∙◌, given_handed, given_told}
-use Rattle.number_forms.proofs.Pairs.{first_handed, pair_apart, first_told}
+use Rattle.number_forms.proofs.Pairs.{first_handed}
 use Rattle.number_forms.proofs.tests.pools.product_of_primes.Goals as goal
 
 pub multiply_numbers-requires-clause-first : goal.multiply_numbers-requires-clause-first

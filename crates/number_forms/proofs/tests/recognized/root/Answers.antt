@@ -1,4 +1,4 @@
-use Rattle.number_forms.proofs.Shared.{given_handed, given_rest, gives_as}
+use Rattle.number_forms.proofs.Shared.{given_rest, gives_as}
 use Rattle.number_forms.proofs.tests.recognized.root.Goals as goal
 
 pub returns-clause-ok : goal.returns-clause-ok

@@ -1,5 +1,4 @@
-use Rattle.number_forms.proofs.Shared.{rules, ◌∙◌, given_handed, given_told}
-use Rattle.number_forms.proofs.Pairs.{first_handed, pair_apart, first_told}
+use Rattle.number_forms.proofs.Pairs.{first_handed}
 use Rattle.number_forms.proofs.tests.rooms.of_two.Goals as goal
 
 pub add_numbers-requires-clause-first : goal.add_numbers-requires-clause-first
