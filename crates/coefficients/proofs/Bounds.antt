@@ -1,7 +1,8 @@
 -- The nest and the load of a coefficient before a part.
-use Rattle.std.proofs.lemmas.Bool.{true≢false}
-use Rattle.std.proofs.Common.{◌≡◌, ℕ, ◌+◌, ◌≤◌, max, Bool, true, false, ◌||◌, if◌then◌else◌, refl, sym, ap, ◌∙◌, arith}
-use Rattle.coefficients.proofs.Shared.{Fraction, times, zero_fraction, is_zero_fraction, is_one_fraction, nest, nest_of, load, load_of_factor, load_of_factors, weight, is_number, IsNumber, IsTerm, product_tree, base_of, Tree, num, add, mult, root, Trees, none, more, append, is_undef, is_mult, number_test, factors_of, spliced, rational_before, with_coefficient, IsMonic, mapped, rational_times_factors, rational_times, rational_times_number, rational_times_term, rational_times_sum}
+use Rattle.coefficients.proofs.Shared.{true≢false, ◌≡◌, ℕ, ◌+◌, ◌≤◌, max, Bool, true, false, if◌then◌else◌, refl, sym, ap, ◌∙◌, arith, Fraction, times, zero_fraction, is_zero_fraction}
+use Rattle.coefficients.proofs.Shared.{is_one_fraction, nest, nest_of, load, load_of_factor, load_of_factors, is_number, IsNumber, product_tree, Tree, num, add, mult, Trees, none, more, append}
+use Rattle.coefficients.proofs.Shared.{is_mult, number_test, factors_of, spliced, rational_before, with_coefficient, IsMonic, mapped, rational_times_factors, rational_times}
+use Rattle.coefficients.proofs.Shared.{rational_times_number, rational_times_term, rational_times_sum, nest-append}
 use Rattle.coefficients.proofs.Factors.{monic_no_number}
 
 -- ---- nests
@@ -12,13 +13,8 @@ max_zero n = omega arith
 zero_max : (n : ℕ) → max 0 n ≡ n
 zero_max n = omega arith
 
-max_assoc : (a b c : ℕ) → max (max a b) c ≡ max a (max b c)
-max_assoc a b c = omega arith
-
 tree_nest : (ts : Trees) → nest (product_tree ts) ≡ nest_of ts
-tree_nest none = refl
-tree_nest (more t none) = sym (max_zero (nest t))
-tree_nest (more t (more u ts)) = refl
+tree_nest ts = grind (arith, max_zero)
 
 factors_nest : (q : Fraction) (ts : Trees) → nest (rational_times_factors q ts) ≡ nest_of ts
 factors_nest q (more (num c) ts) = by (is_one_fraction (times q c))
@@ -29,9 +25,7 @@ factors_nest q (more (num c) ts) = by (is_one_fraction (times q c))
 factors_nest q ts = zero_max (nest_of ts)
 
 rational_nest : (q : Fraction) (t : Tree) → nest (rational_times q t) ≡ nest t
-rational_nest q (num c) = refl
-rational_nest q (mult ts) = factors_nest q ts
-rational_nest q t = zero_max (max (nest t) 0) ∙ max_zero (nest t)
+rational_nest q t = grind (arith, factors_nest, zero_max, max_zero)
 
 mapped_nest : (f : Tree → Tree) → ((t : Tree) → nest (f t) ≡ nest t) → (ts : Trees) → nest_of (mapped f ts) ≡ nest_of ts
 mapped_nest f h none = refl
@@ -50,22 +44,11 @@ term_nest q t = rational_nest q t
 pub sum_nest : (q : Fraction) (ts : Trees) → nest (rational_times_sum q ts) ≡ nest_of ts
 sum_nest q ts = mapped_nest (rational_times_term q) (term_nest q) ts
 
-append_nest : (ts us : Trees) → nest_of (append ts us) ≡ max (nest_of ts) (nest_of us)
-append_nest none us = sym (zero_max (nest_of us))
-append_nest (more t ts) us = ap (max (nest t)) (append_nest ts us) ∙ sym (max_assoc (nest t) (nest_of ts) (nest_of us))
-
 of_factors_nest : (t : Tree) → nest_of (factors_of t) ≡ nest t
-of_factors_nest (mult ts) = refl
-of_factors_nest t = max_zero (nest t)
+of_factors_nest t = grind (arith, max_zero)
 
 spliced_nest : (c p : Tree) → nest (spliced c p) ≡ max (nest c) (nest p)
-spliced_nest c p = append_nest (factors_of c) (factors_of p) ∙ (λ i. max (of_factors_nest c i) (of_factors_nest p i))
-
-terms_nest : (t : Tree) → IsTerm t → nest t ≡ 0
-terms_nest (num q) h = refl
-terms_nest (root (num r)) h = refl
-terms_nest (mult (more (num q) (more (root (num r)) none))) h = refl
-terms_nest t h = absurd h
+spliced_nest c p = nest-append (factors_of c) (factors_of p) ∙ (λ i. max (of_factors_nest c i) (of_factors_nest p i))
 
 before_nest : (q : Fraction) (p : Tree) → nest (rational_before q p) ≡ nest p
 before_nest q (add ts) = sum_nest q ts
@@ -87,32 +70,21 @@ coefficient_nest c p = omega (arith, spliced_nest c p)
 -- ---- loads
 
 number_load : (t : Tree) → is_mult t ≡ false → is_number t ≡ true → load_of_factor t ≡ 0
-number_load (mult ts) m h = absurd (true≢false m)
-number_load t m h = ap (λ (b : Bool). if b then 0 else weight (base_of t)) h
+number_load t m h = grind (arith, true≢false)
 
 factors_load : (c : Tree) → IsNumber c → load_of_factors (factors_of c) ≡ 0
 unfolding is_number
-factors_load (num q) h = refl
-factors_load (add ts) h = omega (arith, number_load (add ts) refl (number_test (add ts) h))
-factors_load (root a) h = omega (arith, number_load (root a) refl (number_test (root a) h))
-factors_load (mult (more (num q) (more (root (num r)) none))) h = omega (arith, number_load (root (num r)) refl (number_test (root (num r)) h.2))
-factors_load c h = absurd h
+factors_load c h = grind (arith, number_load, number_test)
 
 append_load : (ts us : Trees) → load_of_factors (append ts us) ≡ load_of_factors ts + load_of_factors us
 append_load none us = omega arith
 append_load (more t ts) us = omega (arith, append_load ts us)
 
 of_factors_load : (t : Tree) → load_of_factors (factors_of t) ≡ load_of_factor t
-of_factors_load (mult ts) = refl
-of_factors_load t = omega arith
+of_factors_load t = grind arith
 
 load_at_most : (t : Tree) → load t ≤ load_of_factor t
-load_at_most t = by (is_number t) (is_undef t)
-  where
-    by : (a b : Bool) → (if (a || b) then 0 else load_of_factor t) ≤ load_of_factor t
-    by true b = omega arith
-    by false true = omega arith
-    by false false = omega arith
+load_at_most t = grind arith
 
 monic_load : (t : Tree) → IsMonic t → load t ≡ load_of_factor t
 monic_load t m = rw (monic_no_number t m, m.defined) refl
@@ -122,14 +94,7 @@ spliced_load c p h m =
     omega (arith, load_at_most (spliced c p), append_load (factors_of c) (factors_of p), factors_load c h, of_factors_load p, monic_load p m)
 
 sum_load : (q : Fraction) (ts : Trees) → IsMonic (add ts) → load (rational_times_sum q ts) ≤ load (add ts)
-sum_load q ts m = by (is_number (rational_times_sum q ts))
-  where
-    both : load (add ts) ≡ 2
-    both = monic_load (add ts) m ∙ ap (λ (b : Bool). if b then 0 else 2) (monic_no_number (add ts) m)
-
-    by : (b : Bool) → (if (b || false) then 0 else (if b then 0 else 2)) ≤ load (add ts)
-    by true = omega arith
-    by false = omega (arith, both)
+sum_load q ts m = grind (arith, monic_load, monic_no_number)
 
 before_load : (q : Fraction) (p : Tree) → IsMonic p → load (rational_before q p) ≤ load p
 before_load q (add ts) m = sum_load q ts m

@@ -1,10 +1,8 @@
 -- The bytes of new nodes, and those that are free once children were taken out of a root.
-use Rattle.std.specs.Prelude.{◌↔◌, Result, IsOk, IsErr, IsErrAnd, IfErr}
-use Rattle.std.proofs.Common.{◌≡◌, ℕ, ◌≤◌, ◌==◌, true, false, if◌then◌else◌, refl, sym, ap, subst, arith}
-use Rattle.coefficients.proofs.Shared.{bare, size_of_payload, Tree, Trees, more, size, is_mult, num_one, coefficient_length, IsOver, Full, State, free_of, children_of, Stands, forest, KeepsRefusals, IsRefused, bytes_in-join, used_forest, sizes-plains, size-plain}
-use Rattle.coefficients.specs.Bytes.{bytes_as_product, bytes_of_coefficient, bytes_of_taking, IsShort}
+use Rattle.coefficients.proofs.Shared.{◌↔◌, Result, IsOk, IsErr, IsErrAnd, IfErr, ◌≡◌, ℕ, ◌≤◌, ◌==◌, true, false, if◌then◌else◌, refl, sym, ap, subst, arith, bare, size_of_payload, Tree, Trees}
+use Rattle.coefficients.proofs.Shared.{more, size, is_mult, num_one, coefficient_length, IsOver, Full, State, free_of, children_of, Stands, forest, KeepsRefusals, IsRefused, bytes_in-join}
+use Rattle.coefficients.proofs.Shared.{used_forest, sizes-plains, size-plain, bytes_as_product, bytes_of_coefficient, bytes_of_taking, IsShort, bytes_put}
 use Rattle.coefficients.proofs.Steps.{IsPairTaken}
-use Rattle.tree_handles.proofs.Filling.{bytes_put}
 use Rattle.calc_terms.specs.declared.kind.Kind.TheVariants as kind
 
 -- ---- new nodes
@@ -38,7 +36,8 @@ two_bytes ts h k = grind arith
 -- ---- free bytes
 
 -- two first children of a root stand by themselves, with the bytes that they had
-pub pair_free : {s t : State} {i h k : ℕ} {a b : Tree} {ts : Trees} → Stands s → Stands t → KeepsRefusals s t → IsOver kind.Mult i (more a (more b ts)) (forest s) → IsPairTaken i a b ts (forest s) (forest t) h k → free_of t ≡ free_of s
+pub pair_free : {s t : State} {i h k : ℕ} {a b : Tree} {ts : Trees} → Stands s → Stands t → KeepsRefusals s t → IsOver kind.Mult i (more a (more b ts)) (forest s)
+    → IsPairTaken i a b ts (forest s) (forest t) h k → free_of t ≡ free_of s
 pair_free h k r o p = grind (arith, used_forest, bytes_in-join, size-plain, bytes_put, sizes-plains)
 
 -- ---- calls that are refused exactly where bytes are lacking

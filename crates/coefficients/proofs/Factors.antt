@@ -1,7 +1,7 @@
 -- The factors behind a coefficient, and trees without one.
-use Rattle.std.proofs.lemmas.Bool.{true≢false}
-use Rattle.std.proofs.Common.{◌≡◌, ◌≤◌, inl, inr, Bool, true, false, if◌then◌else◌, refl, sym, ap, ◌∙◌, subst, arith}
-use Rattle.coefficients.proofs.Shared.{Fraction, has_coefficient, is_number, IsNumber, Split, split, split_product, num_one, product_tree, part_of, base_of, is_undistributed, NoneIs, RisesBy, IsFrontForm, IsProductForm, HasForm, Tree, num, add, mult, root, Trees, none, more, append, count, HasTwo, AllParts, AllPartsOf, is_mult, number_words, number_test, coefficient_of, factors_of, IsMonic}
+use Rattle.coefficients.proofs.Shared.{true≢false, ◌≡◌, ◌≤◌, inl, inr, Bool, true, false, if◌then◌else◌, refl, sym, ap, ◌∙◌, subst, arith, Fraction, has_coefficient, is_number, IsNumber, Split}
+use Rattle.coefficients.proofs.Shared.{split, split_product, num_one, product_tree, part_of, base_of, is_undistributed, NoneIs, RisesBy, IsFrontForm, IsProductForm, HasForm, Tree, num, add, mult}
+use Rattle.coefficients.proofs.Shared.{root, Trees, none, more, append, count, HasTwo, AllParts, AllPartsOf, is_mult, number_words, number_test, coefficient_of, factors_of, IsMonic}
 use Rattle.coefficients.proofs.Forms.{reduced_parts, parts_reduced, own_form, parts_defined, one_is_one}
 
 -- ---- what stands in front
@@ -9,16 +9,12 @@ use Rattle.coefficients.proofs.Forms.{reduced_parts, parts_reduced, own_form, pa
 -- with no Number in front the coefficient is 1
 pub no_split : (ts : Trees) → has_coefficient ts ≡ false → split_product ts ≡ split num_one ts
 unfolding is_number
-no_split (more (num q) ts) h = absurd (true≢false h)
-no_split (more (root (num r)) ts) h = ap (λ (b : Bool). if b then split (root (num r)) ts else split num_one (more (root (num r)) ts)) h
-no_split (more (add us) ts) h = ap (λ (b : Bool). if b then split (add us) ts else split num_one (more (add us) ts)) h
-no_split ts h = refl
+no_split ts h = grind (arith, true≢false, split)
 
 -- a rational before factors that begin with no Number
 pub num_split : (q : Fraction) (ts : Trees) → has_coefficient ts ≡ false → split_product (more (num q) ts) ≡ split (num q) ts
 unfolding is_number
-num_split q (more (root (num r)) ts) h = ap (λ (b : Bool). if b then split (mult (more (num q) (more (root (num r)) none))) ts else split (num q) (more (root (num r)) ts)) h
-num_split q ts h = refl
+num_split q ts h = grind (arith, split)
 
 -- a Number before factors that begin with no Number
 pub spliced_split : (c : Tree) (ts : Trees) → IsNumber c → has_coefficient ts ≡ false → split_product (append (factors_of c) ts) ≡ split c ts
@@ -26,30 +22,24 @@ unfolding is_number
 spliced_split (num q) ts h k = num_split q ts k
 spliced_split (add us) ts h k = ap (λ (b : Bool). if b then split (add us) ts else split num_one (more (add us) ts)) (number_test (add us) h)
 spliced_split (root (num r)) ts h k = ap (λ (b : Bool). if b then split (root (num r)) ts else split num_one (more (root (num r)) ts)) (number_test (root (num r)) h)
-spliced_split (mult (more (num q) (more (root (num r)) none))) ts h k = ap (λ (b : Bool). if b then split (mult (more (num q) (more (root (num r)) none))) ts else split (num q) (more (root (num r)) ts)) (number_test (root (num r)) h.2)
+spliced_split (mult (more (num q) (more (root (num r)) none))) ts h k =
+    ap (λ (b : Bool). if b then split (mult (more (num q) (more (root (num r)) none))) ts else split (num q) (more (root (num r)) ts)) (number_test (root (num r)) h.2)
 spliced_split c ts h k = absurd h
 
 -- a Number stands in front of its own factors
 pub number_leads : (t : Tree) → IsNumber t → has_coefficient (factors_of t) ≡ true
 unfolding is_number
-number_leads (num q) h = refl
-number_leads (add ts) h = number_test (add ts) h
-number_leads (root a) h = number_test (root a) h
-number_leads (mult (more (num q) (more (root (num r)) none))) h = refl
-number_leads t h = absurd h
+number_leads t h = grind (arith, number_test)
 
 pub none_leads : (ts : Trees) → NoneIs is_number ts → has_coefficient ts ≡ false
-none_leads none h = refl
-none_leads (more t ts) h = h.0
+none_leads ts h = grind arith
 
 pub front_of : (ts : Trees) → has_coefficient ts ≡ false → IsFrontForm ts
 unfolding is_number
-front_of (more (num q) ts) h = absurd (true≢false h)
-front_of ts h = tt
+front_of ts h = grind (arith, true≢false)
 
 pub single_factors : (t : Tree) → is_mult t ≡ false → factors_of t ≡ more t none
-single_factors (mult ts) h = absurd (true≢false h)
-single_factors t h = refl
+single_factors t h = grind (arith, true≢false)
 
 -- ---- factors
 
@@ -62,8 +52,7 @@ pub record AreFactors (ts : Trees) : Type 0 where
   pub formed : AllPartsOf HasForm ts
 
 pub two_count : (ts : Trees) → HasTwo ts → 2 ≤ count ts
-two_count (more t (more u ts)) h = omega arith
-two_count ts h = absurd h
+two_count ts h = grind arith
 
 pub undistributed_one : (ts : Trees) → is_undistributed (split num_one ts) ≡ false
 undistributed_one ts = rw one_is_one refl
@@ -106,13 +95,7 @@ pub monic_product : (ts : Trees) → IsMonic (mult ts) → IsProductForm ts
 monic_product ts m = monic_form ts m (own_form (mult ts) (monic_parts (mult ts) m))
 
 single : (t : Tree) → IsMonic t → is_mult t ≡ false → AreFactors (more t none)
-single t m e = record {
-  some = omega arith;
-  no_product = (e, tt);
-  no_number = (sym (ap has_coefficient (single_factors t e)) ∙ m.no_coefficient, tt);
-  rising = tt;
-  formed = (monic_parts t m, tt);
-}
+single t m e = grind (arith, single_factors, monic_parts)
 
 -- the factors of a tree without a coefficient
 pub monic_factors : (t : Tree) → IsMonic t → AreFactors (factors_of t)
@@ -130,32 +113,22 @@ monic_factors t m = single t m refl
 
 -- a tree with a Number in front is not one without a coefficient
 pub monic_no_number : (t : Tree) → IsMonic t → is_number t ≡ false
-monic_no_number t m = by (is_number t) refl
-  where
-    by : (b : Bool) → is_number t ≡ b → is_number t ≡ false
-    by true e = absurd (true≢false (sym (number_leads t (number_words t e)) ∙ m.no_coefficient))
-    by false e = e
+monic_no_number t m = grind (arith, true≢false, number_leads, number_words)
 
 -- ---- factors as one tree
 
 tree_of_two : (ts : Trees) → HasTwo ts → product_tree ts ≡ mult ts
-tree_of_two (more t (more u ts)) h = refl
-tree_of_two ts h = absurd h
+tree_of_two ts h = grind arith
 
 pub tree_of_factors : (t : Tree) → IsMonic t → product_tree (factors_of t) ≡ t
-tree_of_factors (mult ts) m = tree_of_two ts (monic_product ts m).two
-tree_of_factors t m = refl
+tree_of_factors t m = grind (arith, tree_of_two, monic_product)
 
 pub factors_of_tree : (ts : Trees) → AreFactors ts → factors_of (product_tree ts) ≡ ts
-factors_of_tree none h = absurd (let l : 1 ≤ 0 = h.some in omega arith)
-factors_of_tree (more t none) h = single_factors t h.no_product.0
-factors_of_tree (more t (more u ts)) h = refl
+factors_of_tree ts h = grind (arith, single_factors)
 
 -- it is its own part, and its coefficient is 1
 pub monic_part : (t : Tree) → IsMonic t → part_of t ≡ t
-monic_part (mult ts) m = ap (λ (s : Split). product_tree s.factors) (no_split ts m.no_coefficient) ∙ tree_of_factors (mult ts) m
-monic_part t m = refl
+monic_part t m = grind (arith, no_split, tree_of_factors)
 
 pub monic_coefficient : (t : Tree) → IsMonic t → coefficient_of t ≡ num_one
-monic_coefficient (mult ts) m = ap (λ (s : Split). s.coefficient) (no_split ts m.no_coefficient)
-monic_coefficient t m = refl
+monic_coefficient t m = grind (arith, no_split)

@@ -1,7 +1,9 @@
 -- A root becomes the first factor of another, and its factors take its place.
-use Rattle.std.proofs.Common.{◌≡◌, ℕ, ◌<◌, [], ◌∷◌, eqb, refl, sym, ap, ◌∙◌, arith, true, false}
-use Rattle.coefficients.proofs.Shared.{Tree, mult, Trees, none, more, append, is_mult, State, plain, nth, children_of, Forest, arity, kids, root_count, tree_nth, with_nth, merged_nth, IsOnce, IsHanded, Represents, Ends, Gives, KeepsFront, kids_of, root_tree, without_root, put, Stands, forest, behind_first, behind_later, front_same, front_at, front_end, front_put, front_without, gives_as, represents_handed, represents_join, represents_with, kids_of_root, eqb-sym, children_of-plain, whole_kids, put-put, factors_of, IsOver, over_product, over_put, over_beside, over_same, over_gives, without_put, once_count, cut, cut_rest, represents_count}
-use Rattle.tree_handles.proofs.Counted.{all-kids}
+use Rattle.coefficients.proofs.Shared.{◌≡◌, ℕ, ◌<◌, [], ◌∷◌, eqb, refl, sym, ap, ◌∙◌, arith, true, false, Tree, mult, Trees, none, more, append, is_mult, State, plain, nth, children_of, Forest}
+use Rattle.coefficients.proofs.Shared.{arity, kids, root_count, tree_nth, with_nth, merged_nth, IsOnce, IsHanded, Represents, Ends, Gives, KeepsFront, kids_of, root_tree, without_root, put}
+use Rattle.coefficients.proofs.Shared.{Stands, forest, behind_first, behind_later, front_same, front_at, front_end, front_put, front_without, gives_as, represents_handed, represents_join}
+use Rattle.coefficients.proofs.Shared.{represents_with, kids_of_root, eqb-sym, children_of-plain, whole_kids, put-put, factors_of, IsOver, over_product, over_put, over_beside, over_same}
+use Rattle.coefficients.proofs.Shared.{over_gives, without_put, once_count, cut, cut_rest, represents_count, all-kids}
 use Rattle.calc_terms.specs.declared.kind.Kind.TheVariants as kind
 
 -- ---- a root becomes the first factor
@@ -23,7 +25,8 @@ pub first_front : {i j : ℕ} {ts : Trees} {old new : Forest} → IsFirst i j ts
 first_front f = front_at (front_put f.now behind_first (front_without (behind_later behind_first) front_same)) f.whole
 
 -- the root goes last
-pub first_last : {i j : ℕ} {ts : Trees} {old f new : Forest} → IsFirst i j ts old f → Ends i (root_tree i f) (without_root i f) new → Gives (without_root i (without_root j old)) new i (λ t. t ≡ mult ts)
+pub first_last : {i j : ℕ} {ts : Trees} {old f new : Forest} → IsFirst i j ts old f → Ends i (root_tree i f) (without_root i f) new
+    → Gives (without_root i (without_root j old)) new i (λ t. t ≡ mult ts)
 first_last {i = i} {j = j} {old = old} x e = gives_as (over_gives x.over refl e refl) (ap (without_root i) x.whole ∙ without_put i x.now (without_root j old)) (λ t y. y)
 
 pub last_front : {i j : ℕ} {ts : Trees} {t old f new : Forest} → IsFirst i j ts old f → Ends i t (without_root i f) new → KeepsFront (i ∷ j ∷ []) old new
@@ -40,7 +43,8 @@ first_alone h o = grind (arith, kids_of_root, once_count, one_arity)
 pub first_within : {i : ℕ} {t : Tree} {ts : Trees} {s : State} → Stands s → IsOver kind.Mult i (more t ts) (forest s) → 0 < arity (kids_of i (forest s))
 first_within {i = i} st o = omega (arith, ap arity (kids_of_root i st o.root), represents_count o.kids)
 
-pub first_merged : {i j : ℕ} {t : Tree} {ts : Trees} {old f new : Forest} → IsFirst i j (more t ts) old f → new ≡ put i (merged_nth 0 (kids (root_tree i f))) f → IsFirst i j (append (children_of t) ts) old new
+pub first_merged : {i j : ℕ} {t : Tree} {ts : Trees} {old f new : Forest} → IsFirst i j (more t ts) old f → new ≡ put i (merged_nth 0 (kids (root_tree i f))) f
+    → IsFirst i j (append (children_of t) ts) old new
 first_merged {i = i} {j = j} {t = t} {ts = ts} {old = old} {f = f} {new = new} x e =
     let k = kids (root_tree i f) in
     let one = cut (more t none) ts k x.over.kids in

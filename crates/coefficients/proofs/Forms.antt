@@ -1,6 +1,7 @@
 -- Parts that have their form, and the parts of Numbers.
-use Rattle.std.proofs.Common.{arith, ◌≡◌, inr, true, false, refl}
-use Rattle.coefficients.proofs.Shared.{not_from_false, one_fraction, is_one_fraction, is_number, is_term, IsNumber, IsTerm, AreTerms, is_reduced, HasForm, Tree, num, mult, root, Trees, none, more, append, AllParts, AllPartsOf, is_undef, zero_test, whole_numerator, whole_denominator, number_test, reduced_words, reduced_test}
+use Rattle.coefficients.proofs.Shared.{arith, ◌≡◌, inr, true, false, refl, not_from_false, one_fraction, is_one_fraction, is_number, is_term, IsNumber, IsTerm, AreTerms, is_reduced, HasForm}
+use Rattle.coefficients.proofs.Shared.{Tree, num, mult, root, Trees, none, more, append, AllParts, AllPartsOf, is_undef, zero_test, whole_numerator, whole_denominator, number_test, reduced_words}
+use Rattle.coefficients.proofs.Shared.{reduced_test}
 
 -- ---- reduced trees
 

@@ -1,8 +1,7 @@
 -- Free bytes while a child is taken out of a root.
-use Rattle.std.proofs.Common.{◌≡◌, ℕ, ◌+◌, ◌≤◌, ◌<◌, arith}
-use Rattle.coefficients.proofs.Shared.{Payload, size_of_payload, factors_of, Full, replaced_free, refused_below, tree_of, IsHanded, Gives, Kind, Tree, mult, Trees, size, sizes, IsOver, IsTaken, State, free_of, without_root, Stands, forest, KeepsRefusals, IsRefused, bytes_in-join, used_forest, size-plain, sizes-plains}
-use Rattle.calc_terms.proofs.Sizes.{payload_most}
-use Rattle.tree_handles.proofs.Filling.{bytes_put}
+use Rattle.coefficients.proofs.Shared.{◌≡◌, ℕ, ◌+◌, ◌≤◌, ◌<◌, arith, Payload, size_of_payload, factors_of, Full, replaced_free, refused_below, tree_of, IsHanded, Gives, Kind, Tree, mult, Trees}
+use Rattle.coefficients.proofs.Shared.{size, sizes, IsOver, IsTaken, State, free_of, without_root, Stands, forest, KeepsRefusals, IsRefused, bytes_in-join, used_forest, size-plain, sizes-plains}
+use Rattle.coefficients.proofs.Shared.{payload_most, bytes_put}
 
 -- a child is taken out
 pub taken_free : {k : Kind} {i n h : ℕ} {t : Tree} {ts others : Trees} {s u : State} → Stands s → Stands u → KeepsRefusals s u → IsOver k i ts (forest s)

@@ -1,8 +1,9 @@
 -- What a rational times a term or a sum means, its names and its nest; and so a coefficient before a part.
-use Rattle.std.proofs.Common.{arith, ◌≡◌, ◌++◌, Bool, true, false, if◌then◌else◌, refl, sym, ap, append-nil}
-use Rattle.coefficients.proofs.Shared.{Fraction, times, zero_fraction, is_zero_fraction, is_one_fraction, is_number, product_tree, Tree, num, add, mult, Trees, none, more, names, names_of, zero_is, one_is, factors_of, spliced, rational_before, with_coefficient, mapped, rational_times_factors, rational_times, rational_times_number, rational_times_term, rational_times_sum}
-use Rattle.calc_algebra.proofs.MeaningRewrites.{KeepsMeanings, KeepsMeanings-refl, KeepsMeanings-eq, KeepsMeanings-trans, KeepsMeanings-sum_more, KeepsMeanings-product_more, two, flat_product, joined_in_product, one_factor_of_product, single_product, to_single_product, multiples, distributed, zero_product}
-use Rattle.calc_algebra.proofs.NumberRewrites.{product_of_rationals, product_tree_keeps, one_times_part}
+use Rattle.coefficients.proofs.Shared.{arith, ◌≡◌, ◌++◌, Bool, true, false, if◌then◌else◌, refl, ap, append-nil, Fraction, times, zero_fraction, is_zero_fraction, is_one_fraction, is_number}
+use Rattle.coefficients.proofs.Shared.{product_tree, Tree, num, add, mult, Trees, none, more, names, names_of, zero_is, one_is, factors_of, spliced, rational_before, with_coefficient, mapped}
+use Rattle.coefficients.proofs.Shared.{rational_times_factors, rational_times, rational_times_number, rational_times_term, rational_times_sum, KeepsMeanings, KeepsMeanings-refl, KeepsMeanings-eq}
+use Rattle.coefficients.proofs.Shared.{KeepsMeanings-trans, KeepsMeanings-sum_more, KeepsMeanings-product_more, two, flat_product, joined_in_product, one_factor_of_product, single_product}
+use Rattle.coefficients.proofs.Shared.{to_single_product, multiples, distributed, zero_product, product_of_rationals, product_tree_keeps, one_times_part}
 
 -- ---- meanings
 
@@ -80,17 +81,13 @@ coefficient_keeps c p = spliced_keeps c p
 -- ---- names
 
 tree_names : (ts : Trees) → names (product_tree ts) ≡ names_of ts
-tree_names none = refl
-tree_names (more t none) = sym (append-nil (names t))
-tree_names (more t (more u ts)) = refl
+tree_names ts = grind (arith, append-nil)
 
 factors_names : (q : Fraction) (ts : Trees) → names (rational_times_factors q ts) ≡ names_of ts
 factors_names q ts = grind (arith, tree_names)
 
 pub rational_names : (q : Fraction) (t : Tree) → names (rational_times q t) ≡ names t
-rational_names q (num c) = refl
-rational_names q (mult ts) = factors_names q ts
-rational_names q t = append-nil (names t)
+rational_names q t = grind (arith, factors_names, append-nil)
 
 mapped_names : (f : Tree → Tree) → ((t : Tree) → names (f t) ≡ names t) → (ts : Trees) → names_of (mapped f ts) ≡ names_of ts
 mapped_names f h none = refl

@@ -1,7 +1,6 @@
 -- Facts of the bytes that are lacking where a call is refused, and the premises of these facts.
-use Rattle.std.proofs.Common.{◌≡◌, ◌+◌, true, false, not, Result, ap, arith}
-use Rattle.std.specs.Prelude.{IfErr, IsErrAnd}
-use Rattle.coefficients.proofs.Shared.{Fraction, is_zero_fraction, is_one_fraction, no_zero, Tree, add, Trees, more, append, is_add, size, sizes, Full, OfFull, children_of, NumberFault}
+use Rattle.coefficients.proofs.Shared.{◌≡◌, true, false, not, Result, ap, arith, IfErr, IsErrAnd, Fraction, is_zero_fraction, is_one_fraction, no_zero, Tree, add, is_add, Full, OfFull}
+use Rattle.coefficients.proofs.Shared.{children_of, NumberFault}
 use Rattle.coefficients.proofs.NumberMultiples.{IsFactor, not_one_is}
 use Rattle.tree_handles.specs.declared.fault.NumberFault.TheVariants as fault
 
@@ -9,7 +8,8 @@ pub result_lacks : {A : Type 0} (r : Result A NumberFault) (P Q : Full → Type 
 result_lacks r P Q h k = grind arith
 
 -- what a `?` passes on
-pub passed_lacks : {A : Type 0} (r : Result A NumberFault) (f : NumberFault) (P Q : Full → Type 0) → IsErrAnd r (λ e. e ≡ f) → OfFull P f → ((g : Full) → P g → Q g) → IfErr r (OfFull Q)
+pub passed_lacks : {A : Type 0} (r : Result A NumberFault) (f : NumberFault) (P Q : Full → Type 0) → IsErrAnd r (λ e. e ≡ f) → OfFull P f → ((g : Full) → P g → Q g)
+    → IfErr r (OfFull Q)
 passed_lacks r f P Q h p k = grind arith
 
 pub refusal_lacks : {A : Type 0} (r : Result A NumberFault) (g : Full) (Q : Full → Type 0) → IsErrAnd r (λ e. e ≡ fault.Full g) → Q g → IfErr r (OfFull Q)

@@ -1,6 +1,9 @@
 -- The rational or the sum that leads a product.
-use Rattle.std.proofs.Common.{◌≡◌, ℕ, ◌≤◌, [], ◌∷◌, Bool, true, false, if◌then◌else◌, refl, sym, ap, ◌∙◌, subst, arith}
-use Rattle.coefficients.proofs.Shared.{Fraction, times, is_one_fraction, is_number, product_tree, is_reduced, Tree, num, add, mult, Trees, none, more, count, root_kind, is_mult, State, tree_of, IsHanded, Ends, KeepsFront, nth, plain, children_of, IsExpression, Forest, kids, tree_nth, without_nth, tree_at, root_tree, without_root, put, Stands, forest, behind_first, front_same, front_at, front_put, given_rest, factors_of, rational_times, rational_times_factors, rational_times_number, rational_times_term, leads_sum, IsOver, over_put, over_same, IsAdded, expression, seen, IsTaken, taken}
+use Rattle.coefficients.proofs.Shared.{◌≡◌, ℕ, ◌≤◌, [], ◌∷◌, true, false, refl, sym, ap, ◌∙◌, subst, arith, Fraction, times, is_one_fraction, is_number, product_tree, is_reduced, Tree, num, add}
+use Rattle.coefficients.proofs.Shared.{mult, Trees, none, more, count, root_kind, is_mult, State, tree_of, IsHanded, Ends, KeepsFront, nth, plain, children_of, IsExpression, Forest, kids}
+use Rattle.coefficients.proofs.Shared.{tree_nth, without_nth, tree_at, root_tree, without_root, put, Stands, forest, behind_first, front_same, front_at, front_put, given_rest, factors_of}
+use Rattle.coefficients.proofs.Shared.{rational_times, rational_times_factors, rational_times_number, rational_times_term, leads_sum, IsOver, over_put, over_same, IsAdded, expression, seen}
+use Rattle.coefficients.proofs.Shared.{IsTaken, taken}
 use Rattle.coefficients.proofs.Lengths.{long}
 use Rattle.calc_terms.specs.declared.kind.Kind.TheVariants as kind
 
@@ -25,15 +28,15 @@ first_seen k e st hand first = first (expression e st hand) ∙ ap (λ (t : Tree
 pub first_led : {s : State} {i j : ℕ} {q : Fraction} (k : ℕ) → j ≡ i → Stands s → IsHanded i (forest s) → is_mult (tree_of i s) ≡ true → is_reduced (tree_of i s) ≡ true
     → (IsExpression j (forest s) → plain (tree_at k (forest s)) ≡ nth 0 (children_of (plain (tree_at j (forest s))))) → plain (tree_at k (forest s)) ≡ num q
     → IsRationalLed q (children_of (tree_of i s))
-first_led {s = s} {i = i} {q = q} k e st hand m r first is =
-    rational_led q (children_of (tree_of i s)) (long (tree_of i s) m r).two (sym (first_seen k e st hand first) ∙ is)
+first_led k e st hand m r first is = grind (arith, rational_led, long, first_seen)
 
 -- it was taken out, and then released
 pub led_taken : {i h : ℕ} {q : Fraction} {ts : Trees} {old f : Forest} → IsOver kind.Mult i ts old → (l : IsRationalLed q ts)
     → Ends h (tree_nth 0 (kids (root_tree i old))) (put i (without_nth 0 (kids (root_tree i old))) old) f → IsTaken kind.Mult i 0 (num q) l.rest old f h
 led_taken {i = i} {q = q} {old = old} o l d = taken 0 none (num q) l.rest (subst (λ (us : Trees). IsOver kind.Mult i us old) l.whole o) refl d
 
-pub led_dropped : {i h : ℕ} {t : Tree} {us ts : Trees} {old f new : Forest} → IsOver kind.Mult i us old → IsTaken kind.Mult i 0 t ts old f h → new ≡ without_root h f → IsAdded kind.Mult i ts old new
+pub led_dropped : {i h : ℕ} {t : Tree} {us ts : Trees} {old f new : Forest} → IsOver kind.Mult i us old → IsTaken kind.Mult i 0 t ts old f h → new ≡ without_root h f
+    → IsAdded kind.Mult i ts old new
 led_dropped o x e =
     let whole = e ∙ given_rest x.gives in
     record { now = x.now; kids = x.kids; whole = whole; over = over_same (over_put x.now o x.kids) whole }
@@ -43,19 +46,14 @@ added_front a = front_at (front_put a.now behind_first front_same) a.whole
 
 -- what the factors make with it, where the product of both is 1, and where it is not
 pub times_to_one : (q c l : Fraction) (ts rest : Trees) → ts ≡ more (num c) rest → l ≡ times q c → is_one_fraction l ≡ true → product_tree rest ≡ rational_times_factors q ts
-times_to_one q c l ts rest w p one =
-    sym (ap (rational_times_factors q) w ∙ ap (λ (b : Bool). if b then product_tree rest else mult (more (num (times q c)) rest)) (ap is_one_fraction (sym p) ∙ one))
+times_to_one q c l ts rest w p one = grind arith
 
 pub times_to_other : (q c l : Fraction) (ts rest : Trees) → ts ≡ more (num c) rest → l ≡ times q c → is_one_fraction l ≡ false → mult (more (num l) rest) ≡ rational_times_factors q ts
-times_to_other q c l ts rest w p other =
-    ap (λ (x : Fraction). mult (more (num x) rest)) p
-    ∙ sym (ap (rational_times_factors q) w ∙ ap (λ (b : Bool). if b then product_tree rest else mult (more (num (times q c)) rest)) (ap is_one_fraction (sym p) ∙ other))
+times_to_other q c l ts rest w p other = grind arith
 
 -- no rational in front
 pub times_unled : (q : Fraction) (ts : Trees) → (kind.Num ≡ root_kind (nth 0 ts) → ⊥) → mult (more (num q) ts) ≡ rational_times_factors q ts
-times_unled q none h = refl
-times_unled q (more (num c) ts) h = absurd (h refl)
-times_unled q (more t ts) h = refl
+times_unled q ts h = grind arith
 
 -- ---- any tree
 
@@ -63,13 +61,10 @@ pub times_number : (q c : Fraction) (t : Tree) → t ≡ num c → num (times q 
 times_number q c t e = sym (ap (rational_times q) e)
 
 pub times_product : (q : Fraction) (t : Tree) → is_mult t ≡ true → rational_times_factors q (children_of t) ≡ rational_times q t
-times_product q (mult ts) m = refl
-times_product q t m = cc
+times_product q t m = grind arith
 
 pub times_other : (q : Fraction) (t : Tree) → (kind.Num ≡ root_kind t → ⊥) → (kind.Mult ≡ root_kind t → ⊥) → mult (more (num q) (factors_of t)) ≡ rational_times q t
-times_other q (num c) h k = absurd (h refl)
-times_other q (mult ts) h k = absurd (k refl)
-times_other q t h k = refl
+times_other q t h k = grind arith
 
 -- ---- a sum in front
 
@@ -80,8 +75,7 @@ pub record IsSumLed (t : Tree) : Type 0 where
   pub number : is_number (add terms) ≡ true
 
 pub sum_led : (t : Tree) → leads_sum t ≡ true → IsSumLed t
-sum_led (mult (more (add us) ts)) h = record { terms = us; rest = ts; whole = refl; number = h }
-sum_led t h = cc
+sum_led t h = grind arith
 
 pub led_children : {t : Tree} (l : IsSumLed t) → children_of t ≡ more (add l.terms) l.rest
 led_children l = ap children_of l.whole
@@ -95,10 +89,8 @@ led_reduced {t = t} l r =
     ap (λ (us : Trees). is_reduced (nth 0 us)) (sym (led_children l)) ∙ x.child 0 (omega (arith, x.two))
 
 pub times_led : (q : Fraction) {t : Tree} (l : IsSumLed t) → mult (more (rational_times_number q l.terms) l.rest) ≡ rational_times_term q t
-times_led q l =
-    sym (ap (rational_times_term q) l.whole ∙ ap (λ (b : Bool). if b then mult (more (rational_times_number q l.terms) l.rest) else mult (more (num q) (more (add l.terms) l.rest))) l.number)
+times_led q l = grind arith
 
 -- none in front
 pub times_sum_unled : (q : Fraction) (t : Tree) → leads_sum t ≡ false → rational_times q t ≡ rational_times_term q t
-times_sum_unled q (mult (more (add us) ts)) h = sym (ap (λ (b : Bool). if b then mult (more (rational_times_number q us) ts) else mult (more (num q) (more (add us) ts))) h)
-times_sum_unled q t h = refl
+times_sum_unled q t h = grind arith

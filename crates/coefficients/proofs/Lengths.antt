@@ -1,7 +1,7 @@
 -- How many leading factors of a reduced product are Numbers.
-use Rattle.std.proofs.lemmas.Bool.{true≢false}
-use Rattle.std.proofs.Common.{◌≡◌, ℕ, zero, suc, ◌-◌, ◌<◌, ◌≤◌, ◌⊎◌, inl, inr, Bool, true, false, if◌then◌else◌, refl, sym, ap, ◌∙◌, subst, arith}
-use Rattle.coefficients.proofs.Shared.{has_coefficient, Fraction, is_number, IsNumber, Split, split, split_product, num_one, product_tree, part_of, is_reduced, IsProductForm, HasForm, Tree, num, add, mult, root, Trees, none, more, append, count, AllParts, AllPartsOf, is_mult, number_test, number_words, nth, children_of, coefficient_length, coefficient_of, factors_of}
+use Rattle.coefficients.proofs.Shared.{true≢false, ◌≡◌, ℕ, zero, suc, ◌-◌, ◌<◌, ◌≤◌, ◌⊎◌, inl, inr, Bool, true, false, if◌then◌else◌, refl, sym, ap, ◌∙◌, subst, arith, has_coefficient, Fraction}
+use Rattle.coefficients.proofs.Shared.{is_number, IsNumber, Split, split, split_product, num_one, product_tree, part_of, is_reduced, IsProductForm, HasForm, Tree, num, add, mult, root, Trees}
+use Rattle.coefficients.proofs.Shared.{none, more, append, count, AllParts, AllPartsOf, is_mult, number_test, number_words, nth, children_of, coefficient_length, coefficient_of, factors_of}
 use Rattle.coefficients.proofs.Coefficients.{leading_factors, product_form_of}
 use Rattle.coefficients.proofs.Factors.{no_split, spliced_split, two_count, AreFactors}
 use Rattle.coefficients.proofs.Forms.{reduced_parts, parts_reduced}
@@ -16,19 +16,14 @@ by_split ts us c e = ap (λ (s : Split). count ts - count s.factors) e
 
 first_no : (ts : Trees) → has_coefficient ts ≡ false → is_number (nth 0 ts) ≡ false
 unfolding is_number
-first_no none h = refl
-first_no (more t ts) h = h
+first_no ts h = grind arith
 
 behind_no : (ts : Trees) → AreFactors ts → is_number (nth 0 ts) ≡ false
 behind_no none h = absurd (let l : 1 ≤ 0 = h.some in omega arith)
 behind_no (more t ts) h = h.no_number.0
 
 one_leads : (c : Tree) (ts us : Trees) → split_product us ≡ split c ts → us ≡ more c ts → IsNumber c → AreFactors ts → coefficient_length us ≡ leading_numbers us
-one_leads c ts us e w n a = subst (λ (x : Trees). split_product x ≡ split c ts → coefficient_length x ≡ leading_numbers x) (sym w)
-    (λ e. by_split (more c ts) ts c e ∙ lengths ∙ sym (rw (number_test c n, behind_no ts a) refl)) e
-  where
-    lengths : suc (count ts) - count ts ≡ 1
-    lengths = omega arith
+one_leads c ts us e w n a = grind (arith, split_product, split, by_split, number_test, behind_no)
 
 two_lead : (q r : Fraction) (ts : Trees) → is_number (root (num r)) ≡ true → leading_numbers (more (num q) (more (root (num r)) ts)) ≡ 2
 two_lead q r ts h = rw (number_test (num q) tt, h) refl
@@ -60,12 +55,7 @@ child_reduced (more t ts) zero h l = parts_reduced t h.0
 child_reduced (more t ts) (suc n) h l = child_reduced ts n h.1 (omega arith)
 
 number_long : (ts : Trees) → IsNumber (mult ts) → AllPartsOf HasForm ts → IsLong ts
-number_long (more (num q) (more (root (num r)) none)) h p = record {
-  two = omega arith;
-  length = ap (λ (x : Trees). 2 - count x) (number_has_no_factors (more (num q) (more (root (num r)) none)) h) ∙ sym (two_lead q r none (number_test (root (num r)) h.2));
-  child = λ n l. child_reduced (more (num q) (more (root (num r)) none)) n p l;
-}
-number_long ts h p = absurd h
+number_long ts h p = grind (arith, number_has_no_factors, two_lead, number_test, child_reduced)
 
 product_long : (ts : Trees) → AllParts HasForm (mult ts) → is_number (mult ts) ≡ false → IsProductForm ts → (has_coefficient ts ≡ false) ⊎ Leads ts → IsLong ts
 product_long ts p n f x = record { two = two_count ts f.two; length = by x; child = λ n l. child_reduced ts n p.1 l }
@@ -105,20 +95,10 @@ no_length : {a b : ℕ} {A : Type 0} (n : ℕ) → n ≡ a → n ≡ b → (a �
 no_length n e f h = absurd (h (sym e ∙ f))
 
 led_none : (ts : Trees) → split_product ts ≡ split num_one ts → IsMeasured ts
-led_none ts e =
-    let zero : coefficient_length ts ≡ 0 = by_split ts ts num_one e ∙ zero_left (count ts) in
-    record { none_led = λ h. e; one_led = λ h. no_length _ zero h (λ k. absurd (omega arith)); two_led = λ h k. absurd (h zero) }
-  where
-    zero_left : (k : ℕ) → k - k ≡ 0
-    zero_left k = omega arith
+led_none ts e = grind (arith, by_split, no_length)
 
 led_one : (c : Tree) (ts us : Trees) → split_product us ≡ split c ts → us ≡ more c ts → IsMeasured us
-led_one c ts us e w =
-    let one : coefficient_length us ≡ 1 = by_split us ts c e ∙ ap (λ (x : Trees). count x - count ts) w ∙ lengths in
-    record { none_led = λ h. no_length _ one h (λ k. absurd (omega arith)); one_led = λ h. w ∙ sym (ap (λ (s : Split). more s.coefficient s.factors) e); two_led = λ h k. absurd (k one) }
-  where
-    lengths : suc (count ts) - count ts ≡ 1
-    lengths = omega arith
+led_one c ts us e w = grind (arith, by_split, no_length)
 
 led_two : (q r : Fraction) (ts us : Trees) → split_product us ≡ split (mult (more (num q) (more (root (num r)) none))) ts → us ≡ more (num q) (more (root (num r)) ts) → IsMeasured us
 led_two q r ts us e w =
@@ -140,8 +120,7 @@ number_measured (more (num q) (more (root (num r)) none)) h = led_two q r none _
 number_measured ts h = absurd h
 
 product_measured : (ts : Trees) → (has_coefficient ts ≡ false) ⊎ Leads ts → IsMeasured ts
-product_measured ts (inl h) = led_none ts (no_split ts h)
-product_measured ts (inr l) = led_measured ts l.factors l.c l.is l.whole l.coefficient.number
+product_measured ts h = grind (arith, led_none, no_split, led_measured)
 
 measured_form : (ts : Trees) → AllParts HasForm (mult ts) → (b : Bool) → is_number (mult ts) ≡ b → IsMeasured ts
 measured_form ts p true e = number_measured ts (number_words (mult ts) e)
@@ -152,7 +131,8 @@ measured (mult ts) m h = measured_form ts (reduced_parts (mult ts) h refl) (is_n
 measured t m h = absurd (true≢false (sym m))
 
 -- factors stand behind the coefficient of a product that is no Number
-some_form : (ts : Trees) → AllParts HasForm (mult ts) → is_number (mult ts) ≡ false → IsProductForm ts → (has_coefficient ts ≡ false) ⊎ Leads ts → 1 ≤ count (split_product ts).factors
+some_form : (ts : Trees) → AllParts HasForm (mult ts) → is_number (mult ts) ≡ false → IsProductForm ts → (has_coefficient ts ≡ false) ⊎ Leads ts
+    → 1 ≤ count (split_product ts).factors
 some_form ts p n f (inl h) = subst (λ (s : Split). 1 ≤ count s.factors) (sym (no_split ts h)) (let l : 2 ≤ count ts = two_count ts f.two in omega arith)
 some_form ts p n f (inr l) = subst (λ (s : Split). 1 ≤ count s.factors) (sym l.is) (leading_factors ts l p n f).some
 
@@ -165,17 +145,13 @@ some_factors t m h n = absurd (true≢false (sym m))
 
 -- the parts of a product by its children, and of another tree
 pub product_coefficient : (t : Tree) → is_mult t ≡ true → (split_product (children_of t)).coefficient ≡ coefficient_of t
-product_coefficient (mult ts) m = refl
-product_coefficient t m = absurd (true≢false (sym m))
+product_coefficient t m = grind (arith, true≢false)
 
 pub product_part : (t : Tree) → is_mult t ≡ true → product_tree (split_product (children_of t)).factors ≡ part_of t
-product_part (mult ts) m = refl
-product_part t m = absurd (true≢false (sym m))
+product_part t m = grind (arith, true≢false)
 
 pub other_coefficient : (t : Tree) → is_mult t ≡ false → num_one ≡ coefficient_of t
-other_coefficient (mult ts) m = absurd (true≢false m)
-other_coefficient t m = refl
+other_coefficient t m = grind (arith, true≢false)
 
 pub other_part : (t : Tree) → is_mult t ≡ false → t ≡ part_of t
-other_part (mult ts) m = absurd (true≢false m)
-other_part t m = refl
+other_part t m = grind (arith, true≢false)

@@ -1,7 +1,7 @@
 -- Loops over the terms of a sum, each of which is rewritten in its place.
-use Rattle.std.proofs.Common.{◌≡◌, ℕ, zero, suc, ◌+◌, ◌≤◌, ◌<◌, refl, sym, ap, ◌∙◌, arith, true}
-use Rattle.coefficients.proofs.Shared.{AllPartsOf, ChangesTree, Forest, Gives, HasForm, IsHanded, KeepsRefusals, Stands, State, Tree, Trees, add, append, changes_after, changes_as, changes_free, changes_none, children_of, count, forest, free_of, given_told, is_add, inserted, is_reduced, mapped, more, mult, none, nth, plain, root_tree, set_child, set_tree, size, sizes, tree_of}
-use Rattle.number_forms.specs.Sums.{removed}
+use Rattle.coefficients.proofs.Shared.{◌≡◌, ℕ, zero, suc, ◌+◌, ◌≤◌, ◌<◌, refl, sym, ap, ◌∙◌, arith, true, AllPartsOf, ChangesTree, Forest, Gives, HasForm, IsHanded, KeepsRefusals, Stands, State}
+use Rattle.coefficients.proofs.Shared.{Tree, Trees, add, append, changes_after, changes_as, changes_free, changes_none, children_of, count, forest, free_of, given_told, is_add, inserted}
+use Rattle.coefficients.proofs.Shared.{is_reduced, mapped, more, mult, none, nth, plain, root_tree, set_child, set_tree, size, sizes, tree_of, removed}
 use Rattle.coefficients.proofs.Forms.{reduced_parts, parts_reduced}
 
 -- ---- lists
@@ -98,7 +98,8 @@ pub none_done : {c : Trees → Tree} {i : ℕ} {ts : Trees} {f : Forest} (g : Tr
 none_done g r h e = record { row = r; now = changes_as (changes_none h) e }
 
 -- the next one is among the children, and what is taken out
-pub part_within : {c : Trees → Tree} {f : Tree → Tree} {i n : ℕ} {ts : Trees} {old new : Forest} → IsPart c f i n ts old new → n < count ts → n < count (children_of (plain (root_tree i new)))
+pub part_within : {c : Trees → Tree} {f : Tree → Tree} {i n : ℕ} {ts : Trees} {old new : Forest} → IsPart c f i n ts old new → n < count ts
+    → n < count (children_of (plain (root_tree i new)))
 part_within {f = f} {n = n} {ts = ts} p l = omega (arith, l, ap (λ (t : Tree). count (children_of t)) p.now.tree, ap count (p.row.below (mapped_first f n ts)), count_first f n ts)
 
 pub part_nth : {c : Trees → Tree} {f : Tree → Tree} {i n : ℕ} {ts : Trees} {old mid : Forest} → IsPart c f i n ts old mid → nth n (children_of (plain (root_tree i mid))) ≡ nth n ts
@@ -113,7 +114,8 @@ pub part_next : {c : Trees → Tree} {f : Tree → Tree} {i n : ℕ} {ts : Trees
     → ChangesTree i (set_child n v (plain (root_tree i mid))) mid new → v ≡ f (nth n ts) → n < count ts → IsPart c f i (n + 1) ts old new
 part_next {c = c} {f = f} {n = n} {ts = ts} {v = v} p a e l =
     let at : n + 1 ≡ suc n = omega arith in
-    let words : set_tree n v (mapped_first f n ts) ≡ mapped_first f (n + 1) ts = ap (λ (u : Tree). set_tree n u (mapped_first f n ts)) e ∙ set_first f n ts l ∙ ap (λ (m : ℕ). mapped_first f m ts) (sym at) in
+    let words : set_tree n v (mapped_first f n ts) ≡ mapped_first f (n + 1) ts =
+    ap (λ (u : Tree). set_tree n u (mapped_first f n ts)) e ∙ set_first f n ts l ∙ ap (λ (m : ℕ). mapped_first f m ts) (sym at) in
     record { row = p.row; now = changes_after p.now (changes_as a (ap (set_child n v) p.now.tree ∙ p.row.sets n v (mapped_first f n ts) ∙ ap c words)) }
 
 pub part_all : {c : Trees → Tree} {f : Tree → Tree} {i n : ℕ} {ts : Trees} {old new : Forest} → IsPart c f i n ts old new → count ts ≤ n → ChangesTree i (c (mapped f ts)) old new

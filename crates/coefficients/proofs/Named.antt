@@ -1,9 +1,6 @@
 -- Which operation does not fit, from call to call.
-use Rattle.std.specs.Prelude.{Result, IfErr, IsErrAnd}
-use Rattle.std.proofs.Common.{arith, ◌≡◌, inl, inr, true, sym, ap, subst}
-use Rattle.coefficients.proofs.Shared.{Fraction, value_of, Rat, is_number, Tree, num, add, mult, Trees, none, more, append, is_add, is_mult, Leads, LeadsIn, LeadsTerm, IsMultiple, NamesPut, OfOverflow, children_of, NumberFault}
-use Rattle.rational128.specs.declared.overflow.Op.TheVariants.{Mul}
-use Rattle.rational128.specs.declared.overflow.Overflow.{Overflow}
+use Rattle.coefficients.proofs.Shared.{Result, IfErr, IsErrAnd, arith, ◌≡◌, inl, inr, true, sym, ap, subst, Fraction, value_of, Rat, is_number, Tree, num, add, mult, Trees, none, more, append}
+use Rattle.coefficients.proofs.Shared.{is_add, is_mult, Leads, LeadsIn, LeadsTerm, IsMultiple, NamesPut, OfOverflow, children_of, NumberFault, Mul, Overflow}
 use Rattle.tree_handles.specs.declared.fault.NumberFault.TheVariants as fault
 
 -- ---- results
@@ -18,7 +15,8 @@ pub result_named : {A : Type 0} (r : Result A NumberFault) (P Q : Overflow → T
 result_named r P Q h k = grind arith
 
 -- what a `?` passes on
-pub passed_named : {A : Type 0} (r : Result A NumberFault) (f : NumberFault) (P Q : Overflow → Type 0) → IsErrAnd r (λ e. e ≡ f) → OfOverflow P f → ((o : Overflow) → P o → Q o) → IfErr r (OfOverflow Q)
+pub passed_named : {A : Type 0} (r : Result A NumberFault) (f : NumberFault) (P Q : Overflow → Type 0) → IsErrAnd r (λ e. e ≡ f) → OfOverflow P f → ((o : Overflow) → P o → Q o)
+    → IfErr r (OfOverflow Q)
 passed_named r f P Q h p k = grind arith
 
 -- ---- what leads

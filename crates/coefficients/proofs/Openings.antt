@@ -1,7 +1,5 @@
 -- Children that are opened one by one, from the last to the first.
-use Rattle.std.proofs.Common.{ℕ, zero, suc, ◌≤◌, ◌<◌, ◌≡◌, refl, sym, ap, arith}
-use Rattle.coefficients.proofs.Shared.{Tree, Trees, none, more, append, count, opened_into, nth, inserted, children_of}
-use Rattle.number_forms.specs.Sums.{removed}
+use Rattle.coefficients.proofs.Shared.{ℕ, zero, suc, ◌≤◌, ◌<◌, ◌≡◌, refl, sym, ap, arith, Tree, Trees, none, more, append, count, opened_into, nth, inserted, children_of, removed}
 
 -- those before a place, and the others opened
 abbrev pub opened_from : (Tree → Trees) → ℕ → Trees → Trees
@@ -21,7 +19,8 @@ nth_opened parts zero (more t ts) h = refl
 nth_opened parts (suc n) (more t ts) h = nth_opened parts n ts (omega arith)
 
 -- the child at the place before is opened where its parts are its children
-pub opened_at : (parts : Tree → Trees) (n : ℕ) (ts : Trees) → n < count ts → children_of (nth n ts) ≡ parts (nth n ts) → inserted n (children_of (nth n ts)) (removed n (opened_from parts (suc n) ts)) ≡ opened_from parts n ts
+pub opened_at : (parts : Tree → Trees) (n : ℕ) (ts : Trees) → n < count ts → children_of (nth n ts) ≡ parts (nth n ts)
+    → inserted n (children_of (nth n ts)) (removed n (opened_from parts (suc n) ts)) ≡ opened_from parts n ts
 opened_at parts n none h e = absurd (omega arith)
 opened_at parts zero (more t ts) h e = ap (λ (us : Trees). append us (opened_into parts ts)) e
 opened_at parts (suc n) (more t ts) h e = ap (more t) (opened_at parts n ts (omega arith) e)

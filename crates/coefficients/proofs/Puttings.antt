@@ -1,7 +1,6 @@
 -- A coefficient before a part, by the kinds of both.
-use Rattle.std.proofs.Common.{arith, ◌≡◌, ℕ, Bool, true, false, if◌then◌else◌, sym, ap, ◌∙◌, Result}
-use Rattle.std.specs.Prelude.{OnOk, IfErr, pos}
-use Rattle.coefficients.proofs.Shared.{Rat, Fraction, lowest, zero_fraction, is_zero_fraction, is_one_fraction, ratio_of, value_of, Ratio, whole, Tree, num, root_kind, is_add, State, NumberFault, children_of, Faults, KeepsRefusals, spliced, rational_before, with_coefficient, rational_times_sum}
+use Rattle.coefficients.proofs.Shared.{arith, ◌≡◌, ℕ, Bool, true, false, if◌then◌else◌, sym, ap, ◌∙◌, Result, OnOk, IfErr, Fraction, zero_fraction, is_zero_fraction, is_one_fraction, Tree, num}
+use Rattle.coefficients.proofs.Shared.{root_kind, is_add, State, NumberFault, children_of, Faults, KeepsRefusals, spliced, rational_before, with_coefficient, rational_times_sum}
 use Rattle.calc_terms.specs.declared.kind.Kind.TheVariants as kind
 
 -- ---- refusals of a call that comes after others
@@ -19,10 +18,6 @@ before_sum q t m = grind arith
 
 pub before_other : (q : Fraction) (t : Tree) → is_add t ≡ false → spliced (num q) t ≡ rational_before q t
 before_other q t m = grind arith
-
-pub zero_value : (r : Rat) → ratio_of r ≡ whole (pos 0) → value_of r ≡ zero_fraction
-unfolding zero_fraction
-zero_value r e = ap (λ (x : Ratio). lowest x.num x.den) e
 
 pub with_zero : (q : Fraction) (t : Tree) → is_zero_fraction q ≡ true → num zero_fraction ≡ with_coefficient (num q) t
 with_zero q t z = sym (ap (λ (b : Bool). if b then num zero_fraction else (if is_one_fraction q then t else rational_before q t)) z)

@@ -1,17 +1,15 @@
 -- Bytes while a rational is multiplied into the terms of a sum: at any time the terms have no more than the reduced terms with their parts may have.
-use Rattle.std.proofs.Common.{◌≡◌, ℕ, ◌+◌, ◌*◌, ◌^◌, ◌≤◌, ◌<◌, ◌⊎◌, inl, inr, List, length, Bool, true, false, if◌then◌else◌, max, refl, sym, ap, ◌∙◌, subst, arith}
-use Rattle.coefficients.proofs.Shared.{is_number, is_term, IsNumber, IsTerm, AreTerms, Rises, terms_of, HasForm, IsProductForm, NoneIs, number_terms, other_terms, product_tree, split_product, split, num_one, is_reduced, number_test, number_words, term_words, reduced_words, counted, counted_among, SpansTree, SpansTrees, Fraction, times, is_one_fraction, Tree, num, add, mult, Trees, none, more, append, count, size, sizes, is_add, AllParts, AllPartsOf, mapped, rational_times, rational_times_factors, rational_times_number, rational_times_term, leads_sum, put_room, LacksRoom, OfFull, number_size, NumberFault}
-use Rattle.std.proofs.lemmas.Nat.{pow_pos, mul-le}
-use Rattle.calc_room.proofs.NumberBytes.{term_bytes, roots_bytes, count_terms, few_terms}
-use Rattle.calc_room.proofs.NumberSpans.{terms_spanned}
-use Rattle.calc_room.proofs.TreeBytes.{counted_number, counted_other, tree_bytes, factor_bytes}
+use Rattle.coefficients.proofs.Shared.{◌≡◌, ℕ, ◌+◌, ◌*◌, ◌^◌, ◌≤◌, ◌<◌, ◌⊎◌, inl, inr, List, length, Bool, true, false, if◌then◌else◌, max, refl, sym, ap, ◌∙◌, subst, arith, is_number, is_term}
+use Rattle.coefficients.proofs.Shared.{IsNumber, IsTerm, AreTerms, Rises, terms_of, HasForm, IsProductForm, NoneIs, number_terms, other_terms, product_tree, split_product, split, num_one}
+use Rattle.coefficients.proofs.Shared.{is_reduced, number_test, number_words, term_words, reduced_words, counted, counted_among, SpansTree, SpansTrees, Fraction, Tree, num, add, mult, Trees}
+use Rattle.coefficients.proofs.Shared.{none, more, append, count, size, sizes, is_add, AllParts, AllPartsOf, mapped, rational_times, rational_times_factors, rational_times_number}
+use Rattle.coefficients.proofs.Shared.{rational_times_term, leads_sum, put_room, LacksRoom, OfFull, number_size, NumberFault, pow_pos, mul-le, term_bytes, roots_bytes, count_terms, few_terms}
+use Rattle.coefficients.proofs.Shared.{terms_spanned, counted_number, counted_other, tree_bytes, factor_bytes, numbers_among, part_counts}
 use Rattle.coefficients.proofs.Factors.{AreFactors}
 use Rattle.coefficients.proofs.Forms.{reduced_parts, number_of_term}
 use Rattle.coefficients.proofs.NumberMultiples.{IsFactor, scaled}
 use Rattle.coefficients.proofs.SumMultiples.{EachTerm, each_term, number_term}
 use Rattle.coefficients.proofs.TermMultiples.{factors_behind, multiple}
-use Rattle.tree_room.specs.Handed.{numbers_among}
-use Rattle.tree_room.proofs.Coefficients.{part_counts}
 use Rattle.tree_handles.specs.declared.fault.NumberFault.TheVariants as fault
 use Rattle.tree_room.specs.Needs as need
 
@@ -48,22 +46,13 @@ number_bytes gs q done rest f h s =
 -- ---- what spans a term spans its multiple
 
 spans_product : (gs : List ℕ) (ts : Trees) → SpansTrees gs ts → SpansTree gs (product_tree ts)
-spans_product gs none s = tt
-spans_product gs (more t none) s = s.0
-spans_product gs (more t (more u ts)) s = (tt, s)
+spans_product gs ts s = grind arith
 
 spans_factors : (gs : List ℕ) (q : Fraction) (ts : Trees) → SpansTrees gs ts → SpansTree gs (rational_times_factors q ts)
-spans_factors gs q (more (num c) ts) s = by (is_one_fraction (times q c))
-  where
-    by : (b : Bool) → SpansTree gs (if b then product_tree ts else mult (more (num (times q c)) ts))
-    by true = spans_product gs ts s.1
-    by false = (tt, (tt, s.1))
-spans_factors gs q ts s = (tt, (tt, s))
+spans_factors gs q ts s = grind (arith, spans_product)
 
 spans_times : (gs : List ℕ) (q : Fraction) (t : Tree) → SpansTree gs t → SpansTree gs (rational_times q t)
-spans_times gs q (num c) s = tt
-spans_times gs q (mult ts) s = spans_factors gs q ts s.1
-spans_times gs q t s = (tt, (tt, (s, tt)))
+spans_times gs q t s = grind (arith, spans_factors)
 
 spans_each : (gs : List ℕ) (q : Fraction) (ts : Trees) → SpansTrees gs ts → SpansTrees gs (mapped (rational_times q) ts)
 spans_each gs q none s = tt
@@ -99,8 +88,7 @@ unfolding is_number
 no_number us ts = refl
 
 product_form : (us ts : Trees) → HasForm (mult (more (add us) ts)) → IsProductForm (more (add us) ts)
-product_form us ts (inl k) = absurd k
-product_form us ts (inr k) = k
+product_form us ts h = grind arith
 
 pub led_rest : (gs : List ℕ) (us ts : Trees) → is_reduced (mult (more (add us) ts)) ≡ true → is_number (add us) ≡ true → SpansTrees gs ts
     → sizes ts + 96 * 2 ^ length gs ≤ 204 * counted (mult (more (add us) ts)) * 2 ^ length gs + 40
@@ -144,8 +132,7 @@ other_cost : (m : ℕ) (t : Tree) → is_number t ≡ false → cost m t ≡ 204
 other_cost m t n = ap (λ (b : Bool). if b then 96 else 204 * counted t * m) n
 
 own_bytes : (gs : List ℕ) (t : Tree) → AllParts HasForm t → IsTerm t ⊎ (is_number t ≡ false) → SpansTree gs t → size t ≤ cost (2 ^ length gs) t
-own_bytes gs t h (inl k) s = omega (arith, term_bytes t k, term_cost (2 ^ length gs) t k)
-own_bytes gs t h (inr n) s = omega (arith, tree_bytes gs t (inr h) s, other_cost (2 ^ length gs) t n)
+own_bytes gs t h e s = grind (arith, term_bytes, term_cost, tree_bytes, other_cost)
 
 multiple_bytes : (gs : List ℕ) (q : Fraction) (t : Tree) → IsFactor q → AllParts HasForm t → is_add t ≡ false → IsTerm t ⊎ (is_number t ≡ false) → SpansTree gs t
     → size (rational_times_term q t) ≤ cost (2 ^ length gs) t
@@ -301,8 +288,7 @@ spans_at gs (more u done) t rest s = spans_at gs done t rest s.1
 
 led_no_number : (t : Tree) → leads_sum t ≡ true → is_number t ≡ false
 unfolding is_number
-led_no_number (mult (more (add us) ts)) h = refl
-led_no_number t h = cc
+led_no_number t h = grind arith
 
 -- a next term is refused, for few bytes or beside its coefficient
 pub term_lacks : (gs : List ℕ) (q : Fraction) (done : Trees) (t : Tree) (rest : Trees) (free left : ℕ) (e : NumberFault) → IsFactor q → IsSpannedSum gs (append done (more t rest))
@@ -319,9 +305,7 @@ term_lacks gs q done t rest free left (fault.Full g) f x s few led = by (leads_s
 -- a term of a coefficient is refused beside the other factors
 pub coefficient_lacks : (gs : List ℕ) (us ts : Trees) (free : ℕ) → is_reduced (mult (more (add us) ts)) ≡ true → is_number (add us) ≡ true → SpansTrees gs ts
     → free + size (add us) < 96 * 2 ^ length gs + 56 → free + size (mult (more (add us) ts)) < need.tree_bytes (counted (mult (more (add us) ts))) (2 ^ length gs) + 104
-coefficient_lacks gs us ts free h n s l =
-    let a : sizes ts + 96 * 2 ^ length gs ≤ 204 * counted (mult (more (add us) ts)) * 2 ^ length gs + 40 = led_rest gs us ts h n s in
-    omega (arith, a, l)
+coefficient_lacks gs us ts free h n s l = grind (arith, led_rest)
 
 -- a term of a Number is refused for few bytes
 pub number_lacks : (gs : List ℕ) (q : Fraction) (done : Trees) (t : Tree) (rest : Trees) (free left : ℕ) → IsFactor q → is_number (add (append done (more t rest))) ≡ true
@@ -333,17 +317,11 @@ number_lacks gs q done t rest free left f n s e l =
 
 -- a part is refused for few bytes, alone or beside a coefficient
 pub part_lacks : (gs : List ℕ) (t : Tree) (free : ℕ) → is_reduced t ≡ true → SpansTree gs t → free < 48 → free + size t < put_room (counted t) (2 ^ length gs)
-part_lacks gs t free h s l =
-    let a : size t ≤ 204 * counted t * 2 ^ length gs = tree_bytes gs t (reduced_words t h) s in
-    let p : 0 < 2 ^ length gs = pow_pos (length gs) in
-    omega (arith, a, l, p)
+part_lacks gs t free h s l = grind (arith, tree_bytes, reduced_words, pow_pos)
 
 pub both_lack : (gs : List ℕ) (c t : Tree) (free : ℕ) → is_number c ≡ true → is_reduced t ≡ true → SpansTree gs c → SpansTree gs t → free < 8
     → free + size c + size t < put_room (counted t) (2 ^ length gs)
-both_lack gs c t free n h s u l =
-    let a : size t ≤ 204 * counted t * 2 ^ length gs = tree_bytes gs t (reduced_words t h) u in
-    let b : size c + 48 ≤ 96 * 2 ^ length gs = number_size gs c n s in
-    omega (arith, a, b, l)
+both_lack gs c t free n h s u l = grind (arith, tree_bytes, reduced_words, number_size)
 
 -- so few are fewer than any part and a Number may have
 pub few_for_put : (gs : List ℕ) (c n : ℕ) → n < 40 → n < put_room c (2 ^ length gs)

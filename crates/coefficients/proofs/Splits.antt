@@ -1,7 +1,8 @@
 -- A coefficient and the factors behind it: how a reduced product is taken apart, and what is put together again.
-use Rattle.std.proofs.lemmas.Bool.{true≢false}
-use Rattle.std.proofs.Common.{◌≡◌, ◌≢◌, ◌≤◌, ◌⊎◌, inl, inr, Bool, true, false, if◌then◌else◌, refl, sym, ap, ◌∙◌, subst, arith}
-use Rattle.coefficients.proofs.Shared.{Fraction, zero_fraction, one_fraction, has_coefficient, is_number, is_radicand, IsNumber, Split, split, split_product, num_one, product_tree, part_of, is_undistributed, is_one_add, NoneIs, IsFrontForm, IsProductForm, HasForm, Tree, num, add, mult, root, Trees, none, more, append, count, HasTwo, AllParts, AllPartsOf, is_num, is_add, is_mult, number_words, number_test, coefficient_of, factors_of}
+use Rattle.coefficients.proofs.Shared.{true≢false, ◌≡◌, ◌≢◌, ◌≤◌, ◌⊎◌, inl, inr, Bool, true, false, if◌then◌else◌, refl, sym, ap, ◌∙◌, subst, arith, Fraction, zero_fraction, one_fraction}
+use Rattle.coefficients.proofs.Shared.{has_coefficient, is_number, is_radicand, IsNumber, Split, split, split_product, num_one, product_tree, part_of, is_undistributed, is_one_add, NoneIs}
+use Rattle.coefficients.proofs.Shared.{IsFrontForm, IsProductForm, HasForm, Tree, num, add, mult, root, Trees, none, more, append, count, HasTwo, AllParts, AllPartsOf, is_num, is_add, is_mult}
+use Rattle.coefficients.proofs.Shared.{number_words, number_test, coefficient_of, factors_of, num_same}
 use Rattle.coefficients.proofs.Forms.{number_parts, AllPartsOf-append}
 use Rattle.coefficients.proofs.Factors.{spliced_split, none_leads, AreFactors}
 
@@ -53,7 +54,8 @@ spliced_form c ts h k d = grind (arith, spliced_split, none_leads, joined_two, n
 
 pub number_has_no_factors : (ts : Trees) → IsNumber (mult ts) → (split_product ts).factors ≡ none
 unfolding is_number
-number_has_no_factors (more (num q) (more (root (num r)) none)) h = ap (λ (b : Bool). (if b then split (mult (more (num q) (more (root (num r)) none))) none else split (num q) (more (root (num r)) none)).factors) (number_test (root (num r)) h.2)
+number_has_no_factors (more (num q) (more (root (num r)) none)) h =
+    ap (λ (b : Bool). (if b then split (mult (more (num q) (more (root (num r)) none))) none else split (num q) (more (root (num r)) none)).factors) (number_test (root (num r)) h.2)
 number_has_no_factors ts h = absurd h
 
 -- a product with factors behind its coefficient is no Number
@@ -98,9 +100,6 @@ pub record Leads (ts : Trees) : Type 0 where
 leads : (ts us : Trees) (c : Tree) → split_product ts ≡ split c us → ts ≡ append (factors_of c) us → IsNumber c → c ≢ num zero_fraction → c ≢ num one_fraction → Leads ts
 leads ts us c e w n z o = record { c = c; factors = us; is = e; whole = w; coefficient = record { number = n; not_zero = z; not_one = o } }
 
-num_path : {p q : Fraction} → num p ≡ num q → p ≡ q
-num_path e = cc
-
 no_num : {t : Tree} {q : Fraction} → is_num t ≡ false → t ≢ num q
 no_num h e = absurd (true≢false (sym (ap is_num e) ∙ h))
 
@@ -115,8 +114,8 @@ in_front (more (num q) (more (root (num r)) ts)) n f = by (is_radicand r) refl
         (f.0, f.1, number_words (root (num r)) e) (no_num refl) (no_num refl))
     by false e = inr (leads _ (more (root (num r)) ts) (num q)
         (ap (λ (b : Bool). if b then split (mult (more (num q) (more (root (num r)) none))) ts else split (num q) (more (root (num r)) ts)) e) refl
-        tt (λ g. f.0 (num_path g)) (λ g. f.1 (num_path g)))
-in_front (more (num q) ts) n f = inr (leads (more (num q) ts) ts (num q) refl refl tt (λ g. f.0 (num_path g)) (λ g. f.1 (num_path g)))
+        tt (λ g. f.0 (num_same g)) (λ g. f.1 (num_same g)))
+in_front (more (num q) ts) n f = inr (leads (more (num q) ts) ts (num q) refl refl tt (λ g. f.0 (num_same g)) (λ g. f.1 (num_same g)))
 in_front (more (root (num r)) ts) n f = by (is_radicand r) refl
   where
     by : (b : Bool) → is_radicand r ≡ b → (has_coefficient (more (root (num r)) ts) ≡ false) ⊎ Leads (more (root (num r)) ts)

@@ -1,11 +1,12 @@
 -- Steps of calls on a root that is a product or a sum: a child is taken out, put in, and the root goes last.
 pub use Rattle.calc_terms.proofs.SmallFractions.{one_value}
-use Rattle.std.proofs.Common.{◌≡◌, ℕ, ◌≤◌, ◌∷◌, refl, sym, ap, ◌∙◌, subst, arith, true, []}
-use Rattle.std.specs.Prelude.{pos}
-use Rattle.coefficients.proofs.Shared.{product_tree, is_reduced, num_one, Tree, num, mult, root, Trees, none, more, count, is_mult, size, State, tree_of, IsHanded, Represents, Ends, Gives, KeepsFront, plain, children_of, Forest, kids, tree_nth, without_nth, tree_at, root_tree, without_root, put, Stands, forest, behind_first, front_same, front_end, front_put, gives_as, given_told, given_root, ends_as, ends_at, ends_without, put-put, Rat, Fraction, ratio_of, value_of, whole, factors_of, coefficient_length, GivesTwo, LeavesRest, over_product, IsOver, taken, over_put, over_end, over_handed, over_gives, without_put, gives_put, gives_without, seen}
+use Rattle.coefficients.proofs.Shared.{◌≡◌, ℕ, ◌≤◌, ◌∷◌, refl, sym, ap, ◌∙◌, subst, arith, true, [], pos, product_tree, is_reduced, num_one, Tree, num, mult, root, Trees, none, more, count}
+use Rattle.coefficients.proofs.Shared.{is_mult, size, State, tree_of, IsHanded, Represents, Ends, Gives, KeepsFront, plain, children_of, Forest, kids, tree_nth, without_nth, tree_at, root_tree}
+use Rattle.coefficients.proofs.Shared.{without_root, put, Stands, forest, behind_first, front_same, front_end, front_put, gives_as, given_told, given_root, ends_as, ends_at, ends_without}
+use Rattle.coefficients.proofs.Shared.{put-put, Rat, Fraction, ratio_of, value_of, whole, factors_of, coefficient_length, GivesTwo, LeavesRest, over_product, IsOver, taken, over_put, over_end}
+use Rattle.coefficients.proofs.Shared.{over_handed, over_gives, without_put, gives_put, gives_without, seen, other_plain}
 use Rattle.coefficients.proofs.Lengths.{measured, IsPairLed}
 use Rattle.calc_terms.specs.declared.kind.Kind.TheVariants as kind
-use Rattle.tree_handles.proofs.Beside.{other_plain}
 
 pub product_factors : (t : Tree) → is_mult t ≡ true → t ≡ mult (factors_of t)
 product_factors t h = grind arith
@@ -21,7 +22,8 @@ pub record IsEmptied (i : ℕ) (t : Tree) (old new : Forest) (h : ℕ) : Type 0 
   pub handed : IsHanded i new
   pub released : {end : Forest} → end ≡ without_root i new → Gives (without_root i old) end h (λ u. u ≡ t)
 
-pub only_taken : {i h : ℕ} {ts : Trees} {f new : Forest} → IsOver kind.Mult i ts f → count ts ≡ 1 → Ends h (tree_nth 0 (kids (root_tree i f))) (put i (without_nth 0 (kids (root_tree i f))) f) new → IsEmptied i (product_tree ts) f new h
+pub only_taken : {i h : ℕ} {ts : Trees} {f new : Forest} → IsOver kind.Mult i ts f → count ts ≡ 1
+    → Ends h (tree_nth 0 (kids (root_tree i f))) (put i (without_nth 0 (kids (root_tree i f))) f) new → IsEmptied i (product_tree ts) f new h
 only_taken {i = i} {h = h} {ts = ts} {f = f} {new = new} o e d =
     let t = taken 0 none (product_tree ts) none (subst (λ (us : Trees). IsOver kind.Mult i us f) (one_tree_of ts e) o) refl d in
     record {
@@ -78,15 +80,18 @@ pair_front p = front_end p.second.ends (front_end p.first.ends (front_put p.now 
 pub one_size : (r : Rat) → ratio_of r ≡ whole (pos 1) → size num_one ≡ size (num (value_of r))
 one_size r e = ap (λ (q : Fraction). size (num q)) (sym (one_value r e))
 
-pub length_seen : {s : State} {i j n : ℕ} → j ≡ i → Stands s → IsHanded i (forest s) → n ≡ coefficient_length (children_of (plain (tree_at j (forest s)))) → coefficient_length (children_of (tree_of i s)) ≡ n
+pub length_seen : {s : State} {i j n : ℕ} → j ≡ i → Stands s → IsHanded i (forest s) → n ≡ coefficient_length (children_of (plain (tree_at j (forest s))))
+    → coefficient_length (children_of (tree_of i s)) ≡ n
 length_seen e st h k = ap (λ (t : Tree). coefficient_length (children_of t)) (sym (seen e st h)) ∙ sym k
 
 -- a root whose one child was taken
-pub leaves_one : {i h : ℕ} {t : Tree} {ts : Trees} {old new : Forest} → IsOver kind.Mult i (more t ts) old → Ends h (tree_nth 0 (kids (root_tree i old))) (put i (without_nth 0 (kids (root_tree i old))) old) new → LeavesRest i old new h t ts
+pub leaves_one : {i h : ℕ} {t : Tree} {ts : Trees} {old new : Forest} → IsOver kind.Mult i (more t ts) old
+    → Ends h (tree_nth 0 (kids (root_tree i old))) (put i (without_nth 0 (kids (root_tree i old))) old) new → LeavesRest i old new h t ts
 leaves_one {t = t} {ts = ts} o d = let a = taken 0 none t ts o refl d in record { kids = a.now; rest-are = a.kids; given = a.gives }
 
 -- a product of them
-pub pair_tree : {i h k : ℕ} {t u : Tree} {ts : Trees} {old new : Forest} → IsPairTaken i t u ts old new h k → mult (more (plain (root_tree h new)) (more (plain (root_tree k new)) none)) ≡ mult (more t (more u none))
+pub pair_tree : {i h k : ℕ} {t u : Tree} {ts : Trees} {old new : Forest} → IsPairTaken i t u ts old new h k
+    → mult (more (plain (root_tree h new)) (more (plain (root_tree k new)) none)) ≡ mult (more t (more u none))
 pair_tree {h = h} p = λ i. mult (more ((other_plain h p.second (given_root p.first) ∙ given_told p.first) i) (more (given_told p.second i) none))
 
 -- the first child of a spliced coefficient was taken

@@ -1,8 +1,7 @@
 -- A rational times a reduced sum: a reduced sum of as many terms with the same parts, in the same order.
-use Rattle.std.proofs.lemmas.Bool.{true≢false}
-use Rattle.std.proofs.Common.{◌≡◌, ◌≤◌, length, arith, ◌⊎◌, ◌∷◌, inl, inr, Bool, true, false, if◌then◌else◌, refl, sym, ap, ◌∙◌, subst}
-use Rattle.coefficients.proofs.Shared.{Fraction, is_number, is_term, IsNumber, IsTerm, AreTerms, Rises, terms_of, part_of, number_terms, other_terms, NoneIs, RisesBy, IsSumForm, HasForm, surd_scale, Tree, num, add, mult, root, Trees, none, more, HasTwo, AllPartsOf, is_add, term_words, number_test, number_words, mapped, rational_times_term, rational_times_sum}
-use Rattle.calc_algebra.specs.TreeOrder.{tree_cmp}
+use Rattle.coefficients.proofs.Shared.{true≢false, ◌≡◌, ◌≤◌, length, arith, ◌⊎◌, ◌∷◌, inl, inr, Bool, true, false, if◌then◌else◌, refl, sym, ap, ◌∙◌, subst, Fraction, is_number, is_term}
+use Rattle.coefficients.proofs.Shared.{IsNumber, IsTerm, AreTerms, Rises, terms_of, part_of, number_terms, other_terms, NoneIs, RisesBy, IsSumForm, HasForm, surd_scale, Tree, num, add, mult}
+use Rattle.coefficients.proofs.Shared.{root, Trees, none, more, HasTwo, AllPartsOf, is_add, term_words, number_test, number_words, mapped, rational_times_term, rational_times_sum, tree_cmp}
 use Rattle.coefficients.proofs.Forms.{term_parts, term_test, no_term, number_of_term}
 use Rattle.coefficients.proofs.NumberMultiples.{IsFactor, IsScaled, scaled, rises-scaled}
 use Rattle.coefficients.proofs.TermMultiples.{multiple}
@@ -32,19 +31,18 @@ number_term q (mult (more (num c) (more (root (num r)) none))) f h = scaled q (m
 number_term q t f h = absurd h
 
 term_no_sum : (t : Tree) → IsTerm t → is_add t ≡ false
-term_no_sum (add ts) h = absurd h
-term_no_sum t h = refl
+term_no_sum t h = grind arith
 
 all_of : (ts : Trees) → AreTerms ts → number_terms ts ≡ ts
 all_of none h = refl
 all_of (more t ts) h = rw (term_test t h.0) (ap (more t) (all_of ts h.1))
 
 two_terms : (ts : Trees) → HasTwo ts → 2 ≤ length (terms_of ts)
-two_terms (more t (more u ts)) h = omega arith
-two_terms ts h = absurd h
+two_terms ts h = grind arith
 
 module _ (q : Fraction) (f : IsFactor q) where
-  number_terms-mapped : (ts : Trees) → AllPartsOf HasForm ts → NoneIs is_add ts → EachTerm ts → terms_of (number_terms (mapped (rational_times_term q) ts)) ≡ surd_scale q (terms_of (number_terms ts))
+  number_terms-mapped : (ts : Trees) → AllPartsOf HasForm ts → NoneIs is_add ts → EachTerm ts
+      → terms_of (number_terms (mapped (rational_times_term q) ts)) ≡ surd_scale q (terms_of (number_terms ts))
   number_terms-mapped none h s k = refl
   number_terms-mapped (more t ts) h s k = first (number_terms-mapped ts h.1 s.1 k.1) k.0
     where
@@ -55,7 +53,8 @@ module _ (q : Fraction) (f : IsFactor q) where
           rw (term_test t i, term_test (rational_times_term q t) u.one) (λ j. u.term_is j ∷ tail j)
       first tail (inr n) = rw (no_term t n, no_term (rational_times_term q t) (multiple q f t h.0 n s.0).no_number) refl
 
-  other_terms-mapped : (ts : Trees) → AllPartsOf HasForm ts → NoneIs is_add ts → EachTerm ts → other_terms (mapped (rational_times_term q) ts) ≡ mapped (rational_times_term q) (other_terms ts)
+  other_terms-mapped : (ts : Trees) → AllPartsOf HasForm ts → NoneIs is_add ts → EachTerm ts
+      → other_terms (mapped (rational_times_term q) ts) ≡ mapped (rational_times_term q) (other_terms ts)
   other_terms-mapped none h s k = refl
   other_terms-mapped (more t ts) h s k = first (other_terms-mapped ts h.1 s.1 k.1) k.0
     where

@@ -1,7 +1,8 @@
 -- A rational times a term of a reduced sum.
-use Rattle.std.proofs.lemmas.Bool.{true≢false}
-use Rattle.std.proofs.Common.{◌≡◌, ◌≢◌, ◌≤◌, ◌⊎◌, inl, inr, Bool, true, false, ◌&&◌, not, if◌then◌else◌, refl, sym, ap, ◌∙◌, subst, arith}
-use Rattle.coefficients.proofs.Shared.{Fraction, times, zero_fraction, one_fraction, is_one_fraction, has_coefficient, is_number, IsNumber, Split, split, split_product, product_tree, part_of, base_of, is_undistributed, is_one_add, NoneIs, RisesBy, IsProductForm, HasForm, Tree, num, add, mult, root, Trees, none, more, append, count, HasTwo, AllParts, AllPartsOf, is_num, is_add, is_mult, one_test, product_not_zero, number_test, factors_of, IsMonic, rational_times_number, rational_times_term}
+use Rattle.coefficients.proofs.Shared.{true≢false, ◌≡◌, ◌≢◌, ◌≤◌, ◌⊎◌, inl, inr, Bool, true, false, not, if◌then◌else◌, refl, sym, ap, ◌∙◌, subst, arith, Fraction, times, zero_fraction}
+use Rattle.coefficients.proofs.Shared.{one_fraction, is_one_fraction, has_coefficient, is_number, IsNumber, Split, split, split_product, product_tree, part_of, is_undistributed, is_one_add}
+use Rattle.coefficients.proofs.Shared.{NoneIs, IsProductForm, HasForm, Tree, num, add, mult, root, Trees, none, more, append, count, HasTwo, AllParts, AllPartsOf, is_num, is_add, one_test}
+use Rattle.coefficients.proofs.Shared.{product_not_zero, number_test, factors_of, IsMonic, rational_times_number, rational_times_term}
 use Rattle.coefficients.proofs.Forms.{parts_reduced, parts_defined}
 use Rattle.coefficients.proofs.Factors.{no_split, AreFactors, factors_monic, monic_factors, monic_parts, monic_part, monic_no_number}
 use Rattle.coefficients.proofs.NumberMultiples.{IsFactor, number_scaled, not_one_is}
@@ -19,37 +20,22 @@ behind_parts (more t ts) us h = behind_parts ts us h.1
 
 -- a Number alone is no product with other factors
 no_rest : (c : Tree) → IsNumber c → HasTwo (append (factors_of c) none) → is_number (mult (append (factors_of c) none)) ≡ false → ⊥
-no_rest (num q) k t n = t
-no_rest (add us) k t n = t
-no_rest (root a) k t n = t
-no_rest (mult (more (num q) (more (root (num r)) none))) k t n = true≢false (sym (number_test (mult (more (num q) (more (root (num r)) none))) k) ∙ n)
-no_rest c k t n = absurd k
+no_rest c k t n = grind (arith, true≢false, number_test)
 
 some_rest : (c : Tree) (us : Trees) → IsNumber c → HasTwo (append (factors_of c) us) → is_number (mult (append (factors_of c) us)) ≡ false → 1 ≤ count us
 some_rest c none k t n = absurd (no_rest c k t n)
 some_rest c (more u us) k t n = omega arith
 
-pub factors_behind : (c : Tree) (us : Trees) → split_product (append (factors_of c) us) ≡ split c us → IsNumber c → is_number (mult (append (factors_of c) us)) ≡ false → IsProductForm (append (factors_of c) us) → AllPartsOf HasForm (append (factors_of c) us) → AreFactors us
-factors_behind c us e k n f parts = record {
-  some = some_rest c us k f.two n;
-  no_product = behind_none is_mult (factors_of c) us f.no_product;
-  no_number = subst (λ (s : Split). NoneIs is_number s.factors) e f.no_number;
-  rising = subst (λ (s : Split). RisesBy base_of s.factors) e f.rising;
-  formed = behind_parts (factors_of c) us parts;
-}
+pub factors_behind : (c : Tree) (us : Trees) → split_product (append (factors_of c) us) ≡ split c us → IsNumber c → is_number (mult (append (factors_of c) us)) ≡ false
+    → IsProductForm (append (factors_of c) us) → AllPartsOf HasForm (append (factors_of c) us) → AreFactors us
+factors_behind c us e k n f parts = grind (arith, some_rest, behind_none, behind_parts)
 
 -- a rational coefficient does not stand before a sum alone
 pub spread_behind : (c : Tree) (us : Trees) → IsCoefficient c → is_undistributed (split c us) ≡ false → IsSpread c us
-spread_behind (num q) us k h = λ e. left_true (one_test q (λ g. k.not_one (ap num g))) h
-  where
-    left_true : is_one_fraction q ≡ false → (true && not (is_one_fraction q) && is_one_add us) ≡ false → is_one_add us ≡ false
-    left_true g h = sym (ap (λ (b : Bool). true && not b && is_one_add us) g) ∙ h
-spread_behind c us k h = λ (e : false ≡ true). absurd (true≢false (sym e))
+spread_behind c us k h = grind (arith, one_test, true≢false)
 
 two_no_add : (ts : Trees) → HasTwo ts → is_one_add ts ≡ false
-two_no_add (more (add us) (more u ts)) h = refl
-two_no_add (more t (more u ts)) h = refl
-two_no_add ts h = absurd h
+two_no_add ts h = grind arith
 
 -- ---- a rational times a term
 
@@ -61,24 +47,16 @@ pub record IsMultiple (t u : Tree) : Type 0 where
   pub part : part_of u ≡ part_of t
 
 multiple_of : (c t : Tree) (us vs : Trees) → IsCoefficient c → AreFactors us → IsSpread c us → part_of t ≡ product_tree us → vs ≡ append (factors_of c) us → IsMultiple t (mult vs)
-multiple_of c t us vs k f d e w =
-    let p = put_together c us k f d in
-    subst (λ (x : Trees). IsMultiple t (mult x)) (sym w) (record { formed = p.formed; no_number = p.no_number; no_sum = p.no_sum; part = p.part ∙ sym e })
+multiple_of c t us vs k f d e w = grind (arith, put_together)
 
 pub rational : (q : Fraction) → q ≢ zero_fraction → q ≢ one_fraction → IsCoefficient (num q)
-rational q z o = record { number = tt; not_zero = λ e. z (num_path e); not_one = λ e. o (num_path e) }
-  where
-    num_path : {p q : Fraction} → num p ≡ num q → p ≡ q
-    num_path e = cc
+rational q z o = grind arith
 
 pub irrational : (c : Tree) → IsNumber c → is_num c ≡ false → IsCoefficient c
 irrational c n h = record { number = n; not_zero = λ e. true≢false (sym (ap is_num e) ∙ h); not_one = λ e. true≢false (sym (ap is_num e) ∙ h) }
 
 alone_no_add : (us : Trees) → is_one_add us ≡ false → is_add (product_tree us) ≡ false
-alone_no_add none h = refl
-alone_no_add (more (add us) none) h = absurd (true≢false h)
-alone_no_add (more t none) h = refl
-alone_no_add (more t (more u us)) h = refl
+alone_no_add us h = grind (arith, true≢false)
 
 module _ (q : Fraction) (f : IsFactor q) where
   -- the coefficient goes
@@ -95,7 +73,8 @@ module _ (q : Fraction) (f : IsFactor q) where
           → IsMultiple (mult (append (factors_of c) us)) (rational_times_term q (mult (append (factors_of c) us)))
       by (num a') n z d e = rational_led a' (product_not_zero q a' f.not_zero (λ g. z (ap num g))) (d refl) e (is_one_fraction (times q a')) refl
         where
-          rational_led : (c : Fraction) → times q c ≢ zero_fraction → is_one_add us ≡ false → part_of (mult (more (num c) us)) ≡ product_tree us → (b : Bool) → is_one_fraction (times q c) ≡ b
+          rational_led : (c : Fraction) → times q c ≢ zero_fraction → is_one_add us ≡ false → part_of (mult (more (num c) us)) ≡ product_tree us → (b : Bool)
+              → is_one_fraction (times q c) ≡ b
               → IsMultiple (mult (more (num c) us)) (if b then product_tree us else mult (more (num (times q c)) us))
           rational_led c z d e true g = gone (mult (more (num c) us)) us a d e
           rational_led c z d e false g = multiple_of (num (times q c)) (mult (more (num c) us)) us (more (num (times q c)) us) (rational (times q c) z (not_one_is (times q c) g)) a (λ h. d) e refl
@@ -106,10 +85,12 @@ module _ (q : Fraction) (f : IsFactor q) where
               → IsMultiple (mult (more (num c) (more (root (num r)) us))) (if b then product_tree (more (root (num r)) us) else mult (more (num (times q c)) (more (root (num r)) us)))
           root_led true g = whole us a.some (multiple_of (root (num r)) _ us (more (root (num r)) us) (irrational (root (num r)) n.2 refl) a (λ h. absurd (true≢false (sym h))) e refl)
             where
-              whole : (us : Trees) → 1 ≤ count us → IsMultiple (mult (more (num c) (more (root (num r)) us))) (mult (more (root (num r)) us)) → IsMultiple (mult (more (num c) (more (root (num r)) us))) (product_tree (more (root (num r)) us))
+              whole : (us : Trees) → 1 ≤ count us → IsMultiple (mult (more (num c) (more (root (num r)) us))) (mult (more (root (num r)) us))
+                  → IsMultiple (mult (more (num c) (more (root (num r)) us))) (product_tree (more (root (num r)) us))
               whole none l h = absurd (omega arith)
               whole (more u us) l h = h
-          root_led false g = multiple_of (mult (more (num (times q c)) (more (root (num r)) none))) _ us _ (irrational _ (product_not_zero q c f.not_zero n.0, not_one_is (times q c) g, n.2) refl) a (λ h. absurd (true≢false (sym h))) e refl
+          root_led false g = multiple_of (mult (more (num (times q c)) (more (root (num r)) none))) _ us _
+              (irrational _ (product_not_zero q c f.not_zero n.0, not_one_is (times q c) g, n.2) refl) a (λ h. absurd (true≢false (sym h))) e refl
       by (add ts) n z d e =
           subst (λ (b : Bool). IsMultiple (mult (more (add ts) us)) (if b then mult (more (rational_times_number q ts) us) else mult (more (num q) (more (add ts) us)))) (sym (number_test (add ts) n))
           (multiple_of (rational_times_number q ts) _ us _ (irrational _ (number_scaled q ts f n) refl) a (λ h. absurd (true≢false (sym h))) e refl)
@@ -125,7 +106,8 @@ module _ (q : Fraction) (f : IsFactor q) where
   before : (t : Tree) (us : Trees) → AreFactors us → is_one_add us ≡ false → part_of t ≡ product_tree us → IsMultiple t (mult (more (num q) us))
   before t us a d e = multiple_of (num q) t us (more (num q) us) (rational q f.not_zero f.not_one) a (λ h. d) e refl
 
-  product_multiple : (ts : Trees) → AllParts HasForm (mult ts) → is_number (mult ts) ≡ false → IsProductForm ts → (has_coefficient ts ≡ false) ⊎ Leads ts → IsMultiple (mult ts) (rational_times_term q (mult ts))
+  product_multiple : (ts : Trees) → AllParts HasForm (mult ts) → is_number (mult ts) ≡ false → IsProductForm ts → (has_coefficient ts ≡ false) ⊎ Leads ts
+      → IsMultiple (mult ts) (rational_times_term q (mult ts))
   product_multiple ts h n g (inl k) =
       let m : IsMonic (mult ts) = record { reduced = parts_reduced (mult ts) h; defined = refl; no_coefficient = k } in
       subst (IsMultiple (mult ts)) (sym (unled ts k))

@@ -156,6 +156,7 @@ fn rational_times(pool: &mut Pool, q: Rat, term: Handle) -> Result<Handle, Numbe
 }
 
 /// A rational before the factors of a tree.
+#[tactic(auto, using(tree_handles::proofs::Given::given_handed, tree_handles::proofs::Given::given_told))]
 pub(crate) fn put_before(pool: &mut Pool, q: Rat, tree: Handle) -> Result<Handle, Full>
     requires stands { Stands pool.old }
     requires handed { IsHanded tree (forest pool.old) }

@@ -21,6 +21,7 @@ use tree_handles::{Handle, child_id, kind, move_last, node_over_two, number, tak
 
 /// How many leading children of a reduced product make its coefficient: none, 1, or 2 where it has
 /// one square class and is spliced.
+#[tactic(auto, using(crate::proofs::Places::two_children))]
 pub fn coefficient_length(pool: &Pool, product: Id) -> u16
     requires stands { Stands pool.now }
     requires expression { IsExpression product (forest pool.now) }

@@ -1,11 +1,12 @@
-use Rattle.std.proofs.Common.{rules, ◌≡◌, ◌+◌, ◌^◌, ◌<◌, length, ap, ◌∙◌, refl, sym, subst, arith}
-use Rattle.coefficients.proofs.Shared.{value_of, is_reduced, keeps_none, keeps_after, given_handed, given_told, rational_times_term, leads_sum, count, changes_front, changes_last, changes_last_front, children_told, children_of, front_again, hole_stays, LeadsTerm, LeadsIn, counted, SpansTree, Tree, add, append, more, size, put_room, OfFull, free_of, tree_of}
+use Rattle.coefficients.proofs.Shared.{rules, ◌≡◌, ◌+◌, ◌^◌, ◌<◌, length, ap, ◌∙◌, refl, sym, subst, arith, value_of, is_reduced, keeps_none, keeps_after, given_handed, given_told}
+use Rattle.coefficients.proofs.Shared.{rational_times_term, leads_sum, count, changes_front, changes_last, changes_last_front, children_told, children_of, front_again, hole_stays, LeadsTerm}
+use Rattle.coefficients.proofs.Shared.{LeadsIn, counted, SpansTree, Tree, add, append, more, size, put_room, OfFull, free_of, tree_of}
 use Rattle.coefficients.proofs.Loops.{IsNext, next_at, sum_row, none_done, part_within, part_told, part_next, part_all, part_free, term_reduced}
 use Rattle.coefficients.proofs.Named.{passed_named, multiple_of, leads_behind}
 use Rattle.coefficients.proofs.Lacks.{passed_lacks, factor_of, sum_whole}
 use Rattle.coefficients.proofs.Rooms.{term_lacks, spanned_sum, spans_at}
-use Rattle.tree_room.specs.Needs as need
 use Rattle.coefficients.proofs.multiples.distribute.Goals.{After-children-terms, After-open_child-hole}
+use Rattle.tree_room.specs.Needs as need
 use Rattle.coefficients.proofs.multiples.distribute.Goals as goal
 
 many : (c : After-children-terms) → c.children-terms.result ≡ count (children_of (tree_of c.args.sum c.args.pool.now))
@@ -17,9 +18,6 @@ next c =
     let n = next_at (rational_times_term (value_of c.args.q)) c.loop-at.at _ (omega (arith, children_told c.id.ensures c.children-terms.ensures.value c.requires.stands c.requires.handed, c.loop-at-test.true)) in
     (n, part_told c.loop-at.invariant.part c.open_child-hole.ensures.child ∙ n.there)
 
-pub loop-at-init : goal.loop-at-init
-loop-at-init c = record { stands = c.requires.stands; kept = keeps_none c.args.pool.now; part = none_done (rational_times_term (value_of c.args.q)) sum_row c.requires.handed (sum_whole _ c.requires.sum) }
-
 pub open_child-hole-requires : goal.open_child-hole-requires
 open_child-hole-requires c = record { stands = search rules; handed = c.loop-at.invariant.part.now.handed; within = part_within c.loop-at.invariant.part (omega (arith, many (goal.at.open_child-hole-requires c).After-children-terms, c.loop-at-test.true)) }
 
@@ -29,7 +27,8 @@ rational_times_term-requires c =
     record {
       stands = search rules;
       handed = given_handed child;
-      reduced = ap is_reduced (part_told c.loop-at.invariant.part child) ∙ term_reduced c.loop-at.at _ c.requires.sum c.requires.reduced (omega (arith, many (goal.at.rational_times_term-requires c).After-children-terms, c.loop-at-test.true));
+      reduced = ap is_reduced (part_told c.loop-at.invariant.part child)
+          ∙ term_reduced c.loop-at.at _ c.requires.sum c.requires.reduced (omega (arith, many (goal.at.rational_times_term-requires c).After-children-terms, c.loop-at-test.true));
     }
 
 pub returns-in_err-multiple-clause-front : goal.returns-in_err-multiple-clause-front
@@ -47,14 +46,13 @@ loop-at-preserved c =
     record {
       stands = c.fill.ensures.stands;
       kept = keeps_after _ _ _ c.loop-at.invariant.kept (keeps_after _ _ _ c.open_child-hole.ensures.kept (keeps_after _ _ _ c.in_ok-multiple.ensures.kept c.fill.ensures.kept));
-      part = part_next p (c.fill.ensures.changed _ _ _ (hole_stays g c.open_child-hole.ensures.hole)) (given_told g ∙ ap (rational_times_term (value_of c.args.q)) (part_told p c.open_child-hole.ensures.child)) (omega (arith, many (goal.at.loop-at-preserved c).After-children-terms, c.loop-at-test.true));
+      part = part_next p (c.fill.ensures.changed _ _ _ (hole_stays g c.open_child-hole.ensures.hole))
+          (given_told g ∙ ap (rational_times_term (value_of c.args.q)) (part_told p c.open_child-hole.ensures.child))
+          (omega (arith, many (goal.at.loop-at-preserved c).After-children-terms, c.loop-at-test.true));
     }
 
 pub returns-clause-ok : goal.returns-clause-ok
 returns-clause-ok c = changes_last (part_all c.loop-at.invariant.part (omega (arith, many (goal.at.returns-clause-ok c).After-children-terms, c.loop-at-test.false))) c.move_last.ensures.last refl
-
-pub returns-clause-front : goal.returns-clause-front
-returns-clause-front c = changes_last_front c.loop-at.invariant.part.now c.move_last.ensures.last
 
 pub returns-in_err-multiple-clause-named : goal.returns-in_err-multiple-clause-named
 returns-in_err-multiple-clause-named c =
@@ -77,3 +75,9 @@ returns-in_err-multiple-clause-room c gs z o s =
     (λ k. subst (λ (v : Tree). OfFull (λ g. free_of c.open_child-hole.new.pool + size v < need.tree_bytes (counted v) (2 ^ length gs) + 104) c.in_err-multiple.field-0.0) y.1
     (c.in_err-multiple.ensures.room gs z o (subst (SpansTree gs) (sym y.1) (spans_at gs n.done n.t n.rest x.spans)) (ap leads_sum y.1 ∙ k))))
     (λ g l. subst (λ (v : Tree). free_of c.args.pool.now + size v < put_room (counted v) (2 ^ length gs)) (sym parts) l)
+
+pub loop-at-init : goal.loop-at-init
+loop-at-init c = record { stands = c.requires.stands; kept = keeps_none c.args.pool.now; part = none_done (rational_times_term (value_of c.args.q)) sum_row c.requires.handed (sum_whole _ c.requires.sum) }
+
+pub returns-clause-front : goal.returns-clause-front
+returns-clause-front c = changes_last_front c.loop-at.invariant.part.now c.move_last.ensures.last

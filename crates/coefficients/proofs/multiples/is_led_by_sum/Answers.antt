@@ -1,5 +1,4 @@
-use Rattle.std.proofs.Common.{◌≡◌, ◌∙◌, sym, subst, arith, true}
-use Rattle.coefficients.proofs.Shared.{is_reduced, Tree, forest, product_kind}
+use Rattle.coefficients.proofs.Shared.{◌≡◌, ◌∙◌, sym, subst, arith, true, is_reduced, Tree, forest, product_kind}
 use Rattle.coefficients.proofs.Lengths.{long}
 use Rattle.coefficients.proofs.Places.{two_children}
 use Rattle.coefficients.proofs.multiples.is_led_by_sum.Goals as goal

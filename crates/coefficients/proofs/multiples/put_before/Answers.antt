@@ -1,13 +1,7 @@
-use Rattle.std.proofs.Common.{ap, ◌∙◌, ◌+◌, ◌≤◌, sym, subst, arith}
-use Rattle.coefficients.proofs.Shared.{rational, ratio_of, value_of, Tree, num, mult, more, is_mult, size, children_of, behind_first, behind_new, front_after_one, front_same, front_without, gives_as, given_handed, given_told, given_rest, if_map, refusal_as, tree_of}
+use Rattle.coefficients.proofs.Shared.{ap, ◌∙◌, ◌+◌, ◌≤◌, sym, subst, arith, rational, ratio_of, value_of, Tree, num, mult, more, size, children_of, behind_first, behind_new, front_after_one}
+use Rattle.coefficients.proofs.Shared.{front_same, front_without, gives_as, given_told, given_rest, if_map, refusal_as, tree_of}
 use Rattle.coefficients.proofs.Free.{as_product_size, number_refused, product_free}
 use Rattle.coefficients.proofs.multiples.put_before.Goals as goal
-
-pub put_first-requires-clause-handed : goal.put_first-requires-clause-handed
-put_first-requires-clause-handed c = given_handed c.in_ok-product.ensures.ok
-
-pub put_first-requires-clause-product : goal.put_first-requires-clause-product
-put_first-requires-clause-product c = ap is_mult (given_told c.in_ok-product.ensures.ok)
 
 pub returns-clause-ok : goal.returns-clause-ok
 returns-clause-ok c =

@@ -1,5 +1,6 @@
-use Rattle.std.proofs.Common.{rules, ◌≤◌, ap, ◌∙◌, sym, subst, arith, inl, refl}
-use Rattle.coefficients.proofs.Shared.{released_free, sizes, IsTaken, IsAdded, rational, ratio_of, value_of, product_tree, Tree, num, mult, more, count, is_mult, root_kind, Fraction, Leads, IsMultiple, tree_of, children_of, without_root, forest, behind_first, front_after_one, gives_as, given_handed, given_root, owned, over_product, over_handed, over_plain, without_put, children_at, expression}
+use Rattle.coefficients.proofs.Shared.{rules, ◌≤◌, ap, ◌∙◌, sym, subst, arith, inl, refl, released_free, sizes, IsTaken, IsAdded, rational, ratio_of, value_of, product_tree, Tree, num, mult}
+use Rattle.coefficients.proofs.Shared.{more, count, is_mult, root_kind, Fraction, Leads, IsMultiple, tree_of, children_of, without_root, forest, behind_first, front_after_one, gives_as}
+use Rattle.coefficients.proofs.Shared.{given_handed, given_root, owned, over_product, over_handed, over_plain, without_put, children_at, expression}
 use Rattle.coefficients.proofs.Named.{named, multiple_named, leads_children}
 use Rattle.coefficients.proofs.LedFactors.{IsRationalLed, first_led, first_seen, led_taken, led_dropped, added_front, times_to_one, times_to_other, times_unled}
 use Rattle.coefficients.proofs.Lengths.{long}
@@ -8,10 +9,6 @@ use Rattle.coefficients.proofs.Lacks.{refusal_lacks}
 use Rattle.coefficients.proofs.multiples.rational_times_factors.Goals.{After-take_child-old, After-release}
 use Rattle.calc_terms.specs.declared.kind.Kind.TheVariants as kind
 use Rattle.coefficients.proofs.multiples.rational_times_factors.Goals as goal
-
-pub child_id-first-requires-clause-within : goal.child_id-first-requires-clause-within
-child_id-first-requires-clause-within c =
-    omega (arith, children_at (over_product c.requires.handed c.requires.product) c.requires.stands c.id.ensures, (long _ c.requires.product c.requires.reduced).two)
 
 -- the rational that leads is taken out of the factors
 leading : (c : After-take_child-old) → (l : IsRationalLed (value_of c.rational.result) (children_of (tree_of c.args.product c.args.pool.now)))
@@ -56,7 +53,8 @@ returns-in_err-put_first-in-Num-clause-front c = front_after_one behind_first (a
 pub returns-then-is_one-clause-ok : goal.returns-then-is_one-clause-ok
 returns-then-is_one-clause-ok c =
     let d = dropped (goal.at.returns-then-is_one-clause-ok c).After-release in
-    let one = times_to_one (value_of c.args.q) (value_of c.rational.result) (value_of c.in_ok-leading-in-Num.leading) _ d.0.rest d.0.whole c.in_ok-leading-in-Num.ensures.product (sym c.if-is_one.ensures) in
+    let one = times_to_one (value_of c.args.q) (value_of c.rational.result) (value_of c.in_ok-leading-in-Num.leading) _ d.0.rest d.0.whole c.in_ok-leading-in-Num.ensures.product
+    (sym c.if-is_one.ensures) in
     gives_as c.unwrapped.ensures.tree (ap (without_root c.args.product) d.1.whole ∙ without_put c.args.product d.1.now (forest c.args.pool.now))
     (λ t e. e ∙ ap (λ (u : Tree). product_tree (children_of u)) (over_plain d.1.over refl) ∙ one)
 
@@ -66,7 +64,8 @@ returns-then-is_one-clause-front c = front_after_one behind_first (added_front (
 pub returns-in_ok-put_first-in-Num-clause-ok : goal.returns-in_ok-put_first-in-Num-clause-ok
 returns-in_ok-put_first-in-Num-clause-ok c =
     let d = dropped (goal.at.returns-in_ok-put_first-in-Num-clause-ok c).After-release in
-    let other = times_to_other (value_of c.args.q) (value_of c.rational.result) (value_of c.in_ok-leading-in-Num.leading) _ d.0.rest d.0.whole c.in_ok-leading-in-Num.ensures.product (sym c.if-is_one.ensures) in
+    let other = times_to_other (value_of c.args.q) (value_of c.rational.result) (value_of c.in_ok-leading-in-Num.leading) _ d.0.rest d.0.whole c.in_ok-leading-in-Num.ensures.product
+    (sym c.if-is_one.ensures) in
     gives_as c.in_ok-put_first-in-Num.ensures.ok (ap (without_root c.args.product) d.1.whole ∙ without_put c.args.product d.1.now (forest c.args.pool.now))
     (λ t e. e ∙ ap (λ (u : Tree). mult (more (num (value_of c.in_ok-leading-in-Num.leading)) (children_of u))) (over_plain d.1.over refl) ∙ other)
 
@@ -104,3 +103,7 @@ returns-in_err-put_first-in-Num-clause-few c =
     let more = released_free c.take_child-old.ensures.stands c.release.ensures.stands c.release.ensures.kept (given_handed x.1.gives) (c.release.ensures.owned (owned (given_handed x.1.gives))) in
     refusal_lacks c.from_residual-in_err-put_first-in-Num.result c.in_err-put_first-in-Num.field-0.0 _ c.from_residual-in_err-put_first-in-Num.ensures.1
     (omega (arith, number_refused (rational (ratio_of c.in_ok-leading-in-Num.leading)) c.in_err-put_first-in-Num.ensures.full, same, more))
+
+pub child_id-first-requires-clause-within : goal.child_id-first-requires-clause-within
+child_id-first-requires-clause-within c =
+    omega (arith, children_at (over_product c.requires.handed c.requires.product) c.requires.stands c.id.ensures, (long _ c.requires.product c.requires.reduced).two)

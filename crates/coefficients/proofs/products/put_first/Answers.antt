@@ -1,5 +1,4 @@
-use Rattle.std.proofs.Common.{rules, refl}
-use Rattle.coefficients.proofs.Shared.{given_root, given_apart, apart, other_root, eqb-sym, root_held, over_product, added_as, moved, moved_front}
+use Rattle.coefficients.proofs.Shared.{rules, refl, given_root, given_apart, apart, other_root, eqb-sym, root_held, over_product, added_as, moved, moved_front}
 use Rattle.coefficients.proofs.products.put_first.Goals as goal
 
 pub add_child-requires : goal.add_child-requires

@@ -1,5 +1,4 @@
-use Rattle.std.proofs.Common.{◌∙◌, inl}
-use Rattle.coefficients.proofs.Shared.{behind_first, front_at, front_end, front_put, front_same, front_without, gives, represents_handed, owned, over_product, count_is, children_at}
+use Rattle.coefficients.proofs.Shared.{◌∙◌, inl, behind_first, front_at, front_end, front_put, front_same, front_without, gives, represents_handed, owned, over_product, count_is, children_at}
 use Rattle.coefficients.proofs.Steps.{only_taken, many_factors}
 use Rattle.coefficients.proofs.products.unwrapped.Goals as goal
 

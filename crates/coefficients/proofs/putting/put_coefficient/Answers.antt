@@ -1,5 +1,6 @@
-use Rattle.std.proofs.Common.{◌∙◌, sym, ap, refl, ◌^◌, length, subst, arith}
-use Rattle.coefficients.proofs.Shared.{released_free, is_reduced, plain, Forest, root_tree, without_root, forest, behind_first, behind_later, front_after_one, front_at, front_same, front_without, gives_as, handed_at, handed_beside, owned, eqb-sym, if_map, tree-without, without-swap, with_coefficient, seen, kind_of_root, counted, SpansTree, Tree, size, put_room, free_of, refused_below, tree_of}
+use Rattle.coefficients.proofs.Shared.{◌∙◌, sym, ap, refl, ◌^◌, length, subst, arith, released_free, is_reduced, plain, Forest, root_tree, without_root, forest, behind_first, behind_later}
+use Rattle.coefficients.proofs.Shared.{front_after_one, front_at, front_same, front_without, gives_as, handed_at, handed_beside, owned, eqb-sym, if_map, tree-without, without-swap}
+use Rattle.coefficients.proofs.Shared.{with_coefficient, seen, kind_of_root, counted, SpansTree, Tree, size, put_room, free_of, refused_below, tree_of}
 use Rattle.coefficients.proofs.Named.{result_named, put_as}
 use Rattle.coefficients.proofs.Puttings.{on_ok_after, fault_after, with_irrational}
 use Rattle.coefficients.proofs.Lacks.{refusal_lacks, result_lacks}
@@ -27,12 +28,6 @@ returns-in-Num-clause-ok c =
 pub returns-in-Num-clause-front : goal.returns-in-Num-clause-front
 returns-in-Num-clause-front c =
     front_after_one (behind_later behind_first) (front_at (front_without behind_first front_same) (c.release.ensures.owned (owned c.requires.first))) c.put_rational.ensures.front
-
-pub returns-in-Num-clause-kept : goal.returns-in-Num-clause-kept
-returns-in-Num-clause-kept c = on_ok_after c.put_rational.result _ _ _ c.release.ensures.kept c.put_rational.ensures.kept
-
-pub returns-in-Num-clause-faults : goal.returns-in-Num-clause-faults
-returns-in-Num-clause-faults c = fault_after c.put_rational.result _ _ _ c.release.ensures.kept c.put_rational.ensures.faults
 
 pub returns-in_ok-splice-in_default : goal.returns-in_ok-splice-in_default
 returns-in_ok-splice-in_default c =
@@ -69,3 +64,9 @@ returns-in_err-splice-in_default-clause-room c gs n s u =
     refusal_lacks c.from_residual.result c.in_err-splice-in_default.field-0.0 _ c.from_residual.ensures.1
     (both_lack gs (tree_of c.args.coefficient c.args.pool.now) (tree_of c.args.part c.args.pool.now) (free_of c.args.pool.now) n c.requires.reduced s u
     (refused_below c.in_err-splice-in_default.ensures.full))
+
+pub returns-in-Num-clause-kept : goal.returns-in-Num-clause-kept
+returns-in-Num-clause-kept c = on_ok_after c.put_rational.result _ _ _ c.release.ensures.kept c.put_rational.ensures.kept
+
+pub returns-in-Num-clause-faults : goal.returns-in-Num-clause-faults
+returns-in-Num-clause-faults c = fault_after c.put_rational.result _ _ _ c.release.ensures.kept c.put_rational.ensures.faults

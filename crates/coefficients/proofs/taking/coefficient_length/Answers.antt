@@ -1,19 +1,11 @@
-use Rattle.std.proofs.Common.{refl, ◌≡◌, true, sym, ap, ◌∙◌, subst, arith}
-use Rattle.coefficients.proofs.Shared.{is_number, is_reduced, Tree, forest}
+use Rattle.coefficients.proofs.Shared.{refl, ◌≡◌, true, sym, ap, ◌∙◌, subst, arith, is_number, is_reduced, Tree}
 use Rattle.coefficients.proofs.Lengths.{long}
-use Rattle.coefficients.proofs.Places.{two_children}
 use Rattle.coefficients.proofs.taking.coefficient_length.Goals as goal
-
-pub child_id-requires-clause-within : goal.child_id-requires-clause-within
-child_id-requires-clause-within c = omega (arith, two_children c.args.product (forest c.args.pool.now) c.requires.expression c.requires.product c.requires.reduced)
 
 pub is_reduced_number-requires-clause-reduced : goal.is_reduced_number-requires-clause-reduced
 is_reduced_number-requires-clause-reduced c =
     let l = long _ c.requires.product c.requires.reduced in
     subst (λ (t : Tree). is_reduced t ≡ true) (sym (c.child_id.ensures.plain c.requires.expression)) (l.child 0 (omega (arith, l.two)))
-
-pub child_id-requires-else-not-is_reduced_number-clause-within : goal.child_id-requires-else-not-is_reduced_number-clause-within
-child_id-requires-else-not-is_reduced_number-clause-within c = two_children c.args.product (forest c.args.pool.now) c.requires.expression c.requires.product c.requires.reduced
 
 pub is_reduced_number-requires-else-not-is_reduced_number-clause-reduced : goal.is_reduced_number-requires-else-not-is_reduced_number-clause-reduced
 is_reduced_number-requires-else-not-is_reduced_number-clause-reduced c =
@@ -30,12 +22,14 @@ pub returns-then-not-is_reduced_number-2 : goal.returns-then-not-is_reduced_numb
 returns-then-not-is_reduced_number-2 c =
     let l = long _ c.requires.product c.requires.reduced in
     let first = ap is_number (sym (c.child_id.ensures.plain c.requires.expression)) ∙ sym c.is_reduced_number.ensures ∙ c.if-not-is_reduced_number.false in
-    let second = ap is_number (sym (c.child_id-else-not-is_reduced_number.ensures.plain c.requires.expression)) ∙ sym c.is_reduced_number-else-not-is_reduced_number.ensures ∙ c.if-not-is_reduced_number-2.true in
+    let second = ap is_number (sym (c.child_id-else-not-is_reduced_number.ensures.plain c.requires.expression)) ∙ sym c.is_reduced_number-else-not-is_reduced_number.ensures
+    ∙ c.if-not-is_reduced_number-2.true in
     sym (l.length ∙ rw (first, second) refl)
 
 pub returns-else-not-is_reduced_number-2 : goal.returns-else-not-is_reduced_number-2
 returns-else-not-is_reduced_number-2 c =
     let l = long _ c.requires.product c.requires.reduced in
     let first = ap is_number (sym (c.child_id.ensures.plain c.requires.expression)) ∙ sym c.is_reduced_number.ensures ∙ c.if-not-is_reduced_number.false in
-    let second = ap is_number (sym (c.child_id-else-not-is_reduced_number.ensures.plain c.requires.expression)) ∙ sym c.is_reduced_number-else-not-is_reduced_number.ensures ∙ c.if-not-is_reduced_number-2.false in
+    let second = ap is_number (sym (c.child_id-else-not-is_reduced_number.ensures.plain c.requires.expression)) ∙ sym c.is_reduced_number-else-not-is_reduced_number.ensures
+    ∙ c.if-not-is_reduced_number-2.false in
     sym (l.length ∙ rw (first, second) refl)

@@ -1,13 +1,10 @@
-use Rattle.std.proofs.Common.{rules, ◌≤◌, ◌∙◌, ap, refl, sym, subst}
-use Rattle.coefficients.proofs.Shared.{gives_without, product_tree, Tree, num, count, is_mult, plain, children_of, keeps_none, keeps_after, behind_first, behind_new, front_after_one, front_same, front_end, front_without, gives, gives_as, given_handed, given_other, given_rest, given_same, given_told, represents_handed, other_root, without_root, forest, kind_of_root, product_kind, no_product_kind}
+use Rattle.coefficients.proofs.Shared.{rules, ◌≤◌, ◌∙◌, ap, refl, sym, subst, gives_without, product_tree, Tree, num, count, is_mult, plain, children_of, keeps_none, keeps_after, behind_first}
+use Rattle.coefficients.proofs.Shared.{behind_new, front_after_one, front_same, front_end, front_without, gives, gives_as, given_handed, given_other, given_rest, given_same, given_told}
+use Rattle.coefficients.proofs.Shared.{represents_handed, other_root, without_root, forest, kind_of_root, product_kind, no_product_kind}
 use Rattle.coefficients.proofs.Bytes.{taking_product, taking_other, as_bytes, never, refused_once, short, short_as, passed_short}
 use Rattle.coefficients.proofs.Lengths.{some_factors, product_coefficient, product_part, other_coefficient, other_part}
 use Rattle.coefficients.proofs.Steps.{one_value, one_size}
 use Rattle.coefficients.proofs.taking.take_coefficient.Goals as goal
-
-pub split_product-requires-clause-product : goal.split_product-requires-clause-product
-split_product-requires-clause-product c =
-    product_kind _ (sym c.in-Mult.is ∙ kind_of_root {k = c.kind.result} c.id.ensures c.requires.stands c.requires.handed c.kind.ensures.plain)
 
 pub unwrapped-part-requires : goal.unwrapped-part-requires
 unwrapped-part-requires c =
@@ -49,7 +46,8 @@ returns-in_ok-one-in_default c =
       ok = record {
         between = without_root c.args.term (forest c.number.new.pool);
         first-given = gives_as (gives_without c.args.term one.given c.requires.handed.root refl) refl (λ t e. e ∙ ap num (one_value c.whole.result c.whole.ensures) ∙ other_coefficient _ m);
-        second-given = gives c.move_last.ensures.last (represents_handed (given_other one.given c.requires.handed)) (ap plain (given_same c.args.term one.given c.requires.handed.root) ∙ other_part _ m);
+        second-given = gives c.move_last.ensures.last (represents_handed (given_other one.given c.requires.handed))
+            (ap plain (given_same c.args.term one.given c.requires.handed.root) ∙ other_part _ m);
       };
       front = front_end c.move_last.ensures.last (front_without behind_first (front_end one.ok front_same));
       kept = keeps_after _ _ _ one.kept c.move_last.ensures.kept;
@@ -77,5 +75,10 @@ returns-in_err-one-in_default-clause-full c =
 pub returns-in_err-one-in_default-clause-exactly : goal.returns-in_err-one-in_default-clause-exactly
 returns-in_err-one-in_default-clause-exactly c =
     let k = kind_of_root {k = c.kind.result} c.id.ensures c.requires.stands c.requires.handed c.kind.ensures.plain in
-    never c.from_residual-in_err-one-in_default.result c.from_residual-in_err-one-in_default.ensures.0 (taking_other _ (no_product_kind _ (λ e. c.in_default.not-Mult (k ∙ sym e))) ∙ one_size c.whole.result c.whole.ensures)
+    never c.from_residual-in_err-one-in_default.result c.from_residual-in_err-one-in_default.ensures.0
+    (taking_other _ (no_product_kind _ (λ e. c.in_default.not-Mult (k ∙ sym e))) ∙ one_size c.whole.result c.whole.ensures)
     (λ l. refused_once (c.in_err-one-in_default.ensures.exactly.1 l))
+
+pub split_product-requires-clause-product : goal.split_product-requires-clause-product
+split_product-requires-clause-product c =
+    product_kind _ (sym c.in-Mult.is ∙ kind_of_root {k = c.kind.result} c.id.ensures c.requires.stands c.requires.handed c.kind.ensures.plain)

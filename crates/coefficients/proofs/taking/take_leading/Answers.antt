@@ -1,12 +1,11 @@
-use Rattle.std.proofs.Common.{rules, ◌≡◌, ℕ, ◌∙◌, ap, refl, sym, subst, arith}
-use Rattle.coefficients.proofs.Shared.{root, Fraction, Split, is_reduced, num_one, Trees, num, is_mult, Forest, kids, Represents, Gives, root_tree, forest, behind_first, front_end, front_put, front_same, gives_as, put-same, LeavesRest, keeps_after, IsOver, over_product, children_in, expression, seen, if_map}
+use Rattle.coefficients.proofs.Shared.{rules, ◌≡◌, ℕ, ◌∙◌, ap, refl, sym, subst, arith, root, Fraction, Split, is_reduced, num_one, Trees, num, is_mult, Forest, kids, Represents, Gives}
+use Rattle.coefficients.proofs.Shared.{root_tree, forest, behind_first, front_end, front_put, front_same, gives_as, put-same, LeavesRest, keeps_after, IsOver, over_product, children_in}
+use Rattle.coefficients.proofs.Shared.{expression, seen, if_map, refusal_as, first_handed, given_handed, pair_apart, pair_rest, front_after_two, behind_new}
 use Rattle.coefficients.proofs.Bytes.{none_bytes, one_bytes, two_bytes, pair_free, always, no_bytes, as_bytes, short, result_short}
 use Rattle.coefficients.proofs.Lengths.{long, measured}
-use Rattle.coefficients.proofs.Steps.{IsFirstTaken, IsPairTaken, length_seen, leaves_one, first_taken, pair_taken, pair_front, one_value, one_size}
-use Rattle.calc_terms.specs.declared.kind.Kind.TheVariants as kind
+use Rattle.coefficients.proofs.Steps.{IsFirstTaken, IsPairTaken, length_seen, leaves_one, first_taken, pair_taken, pair_front, one_value, one_size, pair_tree}
 use Rattle.coefficients.proofs.taking.take_leading.Goals.{After-take_child-root}
-use Rattle.coefficients.proofs.Shared.{refusal_as, first_handed, given_handed, pair_apart, pair_rest, front_after_two, behind_new, keeps_after}
-use Rattle.coefficients.proofs.Steps.{pair_tree}
+use Rattle.calc_terms.specs.declared.kind.Kind.TheVariants as kind
 use Rattle.coefficients.proofs.taking.take_leading.Goals as goal
 
 pub coefficient_length-length-requires : goal.coefficient_length-length-requires
@@ -17,7 +16,8 @@ coefficient_length-length-requires c = record {
   reduced = ap is_reduced (seen c.id.ensures c.requires.stands c.requires.handed) ∙ c.requires.reduced;
 }
 
-as_none : (i : ℕ) (old new : Forest) (h : ℕ) (ts : Trees) (s : Split) (q : Fraction) → IsOver kind.Mult i ts old → s.coefficient ≡ num_one → s.factors ≡ ts → num q ≡ num_one → Gives old new h (λ t. t ≡ num q) → LeavesRest i old new h s.coefficient s.factors
+as_none : (i : ℕ) (old new : Forest) (h : ℕ) (ts : Trees) (s : Split) (q : Fraction) → IsOver kind.Mult i ts old → s.coefficient ≡ num_one → s.factors ≡ ts → num q ≡ num_one
+    → Gives old new h (λ t. t ≡ num q) → LeavesRest i old new h s.coefficient s.factors
 as_none i old new h ts s q o c f e g = record {
   kids = kids (root_tree i old);
   rest-are = subst (λ (us : Trees). Represents (kids (root_tree i old)) us) (sym f) o.kids;
@@ -29,33 +29,31 @@ returns-then-length-eq0-clause-ok c =
     let m = measured _ c.requires.product c.requires.reduced in
     let s = m.none_led (length_seen c.id.ensures c.requires.stands c.requires.handed c.coefficient_length-length.ensures ∙ c.if-length-eq0.true) in
     if_map c.number.result _ _ c.number.ensures.given
-    (λ h g. as_none c.args.product.now _ _ h _ _ _ (over_product c.requires.handed c.requires.product) (ap (λ (x : Split). x.coefficient) s) (ap (λ (x : Split). x.factors) s) (ap num (one_value c.whole.result c.whole.ensures)) g)
-
-pub take_child-requires-clause-within : goal.take_child-requires-clause-within
-take_child-requires-clause-within c = omega (arith, children_in c.requires.stands (over_product c.requires.handed c.requires.product), (long _ c.requires.product c.requires.reduced).two)
+    (λ h g. as_none c.args.product.now _ _ h _ _ _ (over_product c.requires.handed c.requires.product) (ap (λ (x : Split). x.coefficient) s) (ap (λ (x : Split). x.factors) s)
+    (ap num (one_value c.whole.result c.whole.ensures)) g)
 
 pub returns-then-length-eq1-clause-ok : goal.returns-then-length-eq1-clause-ok
 returns-then-length-eq1-clause-ok c =
     let m = measured _ c.requires.product c.requires.reduced in
     let w = m.one_led (length_seen c.id.ensures c.requires.stands c.requires.handed c.coefficient_length-length.ensures ∙ c.if-length-eq1.true) in
-    leaves_one (subst (λ (ts : Trees). IsOver kind.Mult c.args.product.now ts (forest c.args.pool.now)) w (over_product c.requires.handed c.requires.product)) (c.take_child.ensures.last c.requires.handed.root)
+    leaves_one (subst (λ (ts : Trees). IsOver kind.Mult c.args.product.now ts (forest c.args.pool.now)) w (over_product c.requires.handed c.requires.product))
+    (c.take_child.ensures.last c.requires.handed.root)
 
 pub returns-then-length-eq1-clause-front : goal.returns-then-length-eq1-clause-front
 returns-then-length-eq1-clause-front c = front_end (c.take_child.ensures.last c.requires.handed.root) (front_put _ behind_first front_same)
 
-pub take_child-rational-requires-clause-within : goal.take_child-rational-requires-clause-within
-take_child-rational-requires-clause-within c = omega (arith, children_in c.requires.stands (over_product c.requires.handed c.requires.product), (long _ c.requires.product c.requires.reduced).two)
-
 pub take_child-root-requires-clause-within : goal.take_child-root-requires-clause-within
 take_child-root-requires-clause-within c =
-    let t = first_taken c.id.ensures c.requires.stands c.requires.handed c.requires.product c.requires.reduced c.coefficient_length-length.ensures c.if-length-eq0.false c.if-length-eq1.false (c.take_child-rational.ensures.last c.requires.handed.root) in
+    let t = first_taken c.id.ensures c.requires.stands c.requires.handed c.requires.product c.requires.reduced c.coefficient_length-length.ensures c.if-length-eq0.false c.if-length-eq1.false
+    (c.take_child-rational.ensures.last c.requires.handed.root) in
     omega (arith, children_in c.take_child-rational.ensures.stands t.over)
 
 -- the two factors that make the coefficient are taken
 pair : (c : After-take_child-root) → (t : IsFirstTaken c.args.product.now c.args.pool.now (forest c.take_child-rational.new.pool))
     × IsPairTaken c.args.product.now (num t.led.q) (root (num t.led.r)) t.led.factors (forest c.args.pool.now) (forest c.take_child-root.new.pool) c.take_child-rational.result c.take_child-root.result
 pair c =
-    let t = first_taken c.id.ensures c.requires.stands c.requires.handed c.requires.product c.requires.reduced c.coefficient_length-length.ensures c.if-length-eq0.false c.if-length-eq1.false (c.take_child-rational.ensures.last c.requires.handed.root) in
+    let t = first_taken c.id.ensures c.requires.stands c.requires.handed c.requires.product c.requires.reduced c.coefficient_length-length.ensures c.if-length-eq0.false c.if-length-eq1.false
+    (c.take_child-rational.ensures.last c.requires.handed.root) in
     (t, pair_taken t.start (c.take_child-rational.ensures.last c.requires.handed.root) (c.take_child-root.ensures.last t.over.root))
 
 pub node_over_two-requires : goal.node_over_two-requires
@@ -105,7 +103,8 @@ returns-clause-full c =
     let len = length_seen c.id.ensures c.requires.stands c.requires.handed c.coefficient_length-length.ensures in
     let kept = keeps_after _ _ _ c.take_child-rational.ensures.kept c.take_child-root.ensures.kept in
     refusal_as c.node_over_two.result c.node_over_two.ensures.full
-    (λ full r. short kept (pair_free c.requires.stands c.take_child-root.ensures.stands kept d.0.start d.1) (two_bytes _ (λ x. c.if-length-eq0.false (sym len ∙ x)) (λ x. c.if-length-eq1.false (sym len ∙ x))) r)
+    (λ full r. short kept (pair_free c.requires.stands c.take_child-root.ensures.stands kept d.0.start d.1)
+    (two_bytes _ (λ x. c.if-length-eq0.false (sym len ∙ x)) (λ x. c.if-length-eq1.false (sym len ∙ x))) r)
 
 pub returns-clause-exactly : goal.returns-clause-exactly
 returns-clause-exactly c =
@@ -114,3 +113,9 @@ returns-clause-exactly c =
     let free = pair_free c.requires.stands c.take_child-root.ensures.stands (keeps_after _ _ _ c.take_child-rational.ensures.kept c.take_child-root.ensures.kept) d.0.start d.1 in
     as_bytes (two_bytes _ (λ x. c.if-length-eq0.false (sym len ∙ x)) (λ x. c.if-length-eq1.false (sym len ∙ x)))
     (λ o. omega (arith, free, c.node_over_two.ensures.exactly.0 o), λ l. c.node_over_two.ensures.exactly.1 (omega (arith, free, l)))
+
+pub take_child-requires-clause-within : goal.take_child-requires-clause-within
+take_child-requires-clause-within c = omega (arith, children_in c.requires.stands (over_product c.requires.handed c.requires.product), (long _ c.requires.product c.requires.reduced).two)
+
+pub take_child-rational-requires-clause-within : goal.take_child-rational-requires-clause-within
+take_child-rational-requires-clause-within c = omega (arith, children_in c.requires.stands (over_product c.requires.handed c.requires.product), (long _ c.requires.product c.requires.reduced).two)

@@ -1,5 +1,4 @@
-use Rattle.std.proofs.Common.{refl}
-use Rattle.coefficients.proofs.Shared.{term_is_number, gives_as}
+use Rattle.coefficients.proofs.Shared.{refl, term_is_number, gives_as}
 use Rattle.coefficients.proofs.tests.root.Goals as goal
 
 pub returns-clause-ok : goal.returns-clause-ok

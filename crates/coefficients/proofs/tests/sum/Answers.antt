@@ -1,6 +1,4 @@
-use Rattle.std.proofs.Common.{rules, ◌∙◌}
-use Rattle.coefficients.proofs.Shared.{first_handed, pair_apart, first_told, pair_rest, given_handed, given_told}
-use Rattle.number_forms.proofs.TermTrees.{if_given}
+use Rattle.coefficients.proofs.Shared.{rules, ◌∙◌, first_handed, pair_apart, first_told, pair_rest, given_handed, given_told, if_given}
 use Rattle.coefficients.proofs.tests.sum.Goals as goal
 
 pub add_numbers-requires : goal.add_numbers-requires

@@ -1,5 +1,4 @@
-use Rattle.std.proofs.Common.{rules, ap, ◌∙◌, inr}
-use Rattle.coefficients.proofs.Shared.{is_reduced, symbol, first_handed, pair_apart, given_handed, given_told}
+use Rattle.coefficients.proofs.Shared.{rules, ap, ◌∙◌, inr, is_reduced, symbol, first_handed, pair_apart, given_handed, given_told}
 use Rattle.coefficients.proofs.Forms.{parts_reduced}
 use Rattle.coefficients.proofs.tests.times_name.Goals as goal
 

@@ -1,6 +1,5 @@
-use Rattle.coefficients.proofs.Shared.{number_words, first_handed, pair_apart, given_handed, given_told}
+use Rattle.coefficients.proofs.Shared.{number_words, first_handed, pair_apart, given_handed, given_told, rules}
 use Rattle.coefficients.proofs.Forms.{number_parts, parts_reduced}
-use Rattle.std.proofs.Common.{rules}
 use Rattle.coefficients.proofs.tests.times_sum.Goals as goal
 
 pub put_coefficient-requires : goal.put_coefficient-requires
