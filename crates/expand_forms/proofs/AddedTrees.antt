@@ -1,7 +1,10 @@
 -- New trees behind others, and a node that adopts them.
-use Rattle.std.proofs.Common.{◌≡◌, ◌≤◌, ℕ, ◌+◌, true, refl, sym, ap, ◌∙◌, subst, arith}
-use Rattle.std.specs.Prelude.{Option, drop}
-use Rattle.expand_forms.proofs.Shared.{bare, size_of_payload, Tree, Trees, none, more, append, count, is_mult, mult, sizes, Kind, represents_count, AddsTrees, AreFactors, BeginsWith, HasMonomial, factors_in, first_place, Monomial, State, free_of, last_with, lists_with, root_ids, IsExpression, children_of, compound, plain, takes_kind, Forest, Label, arity, bytes_in, empty, join, kids, one_tree, tree, with_nth, Ends, Gives, kids_of, tree_at, adopted, behind_root, has_root, put, root_tree, without_root, KeepsRefusals, Stands, forest, bytes_in-join, join-empty, join_assoc, given_handed, given_rest, given_told, gives, gives_as, represents_join, represents_node, represents_none, holds-left, kids_of-join_left, tree_at-join_left, ends_as, ends_at, last_rest, last_root, last_tree, alone, sizes-plains, root-left}
+use Rattle.expand_forms.proofs.Shared.{◌≡◌, ◌≤◌, ℕ, ◌+◌, true, refl, sym, ap, ◌∙◌, subst, arith, Option, drop, bare, size_of_payload, Tree, Trees, none, more, append, count, is_mult, mult, sizes}
+use Rattle.expand_forms.proofs.Shared.{Kind, represents_count, AddsTrees, AreFactors, BeginsWith, HasMonomial, factors_in, first_place, Monomial, State, free_of, last_with, lists_with, root_ids}
+use Rattle.expand_forms.proofs.Shared.{IsExpression, children_of, compound, plain, takes_kind, Forest, Label, arity, bytes_in, empty, join, kids, one_tree, tree, with_nth, Ends, Gives, kids_of}
+use Rattle.expand_forms.proofs.Shared.{tree_at, adopted, behind_root, has_root, put, root_tree, without_root, KeepsRefusals, Stands, forest, bytes_in-join, join-empty, join_assoc, given_handed}
+use Rattle.expand_forms.proofs.Shared.{given_rest, given_told, gives, gives_as, represents_join, represents_node, represents_none, holds-left, kids_of-join_left, tree_at-join_left, ends_as}
+use Rattle.expand_forms.proofs.Shared.{ends_at, last_rest, last_root, last_tree, alone, sizes-plains, root-left}
 use Rattle.tree_handles.proofs.Over.{over_product, added_as, moved}
 use Rattle.expand_forms.specs.declared.factors.Factor.{Factor as Read}
 use Rattle.expand_forms.specs.declared.factors.Factors.{Factors}
@@ -33,7 +36,8 @@ factors_beside {g = g} {j = j} a h x =
       lists = lists_with (ap root_ids (sym (ap (kids_of j) a.whole ∙ kids_of-join_left j g a.trees h.live))) x.lists;
     }
 
-pub head_beside : {ts : Trees} {g f : Forest} {j : ℕ} {m : Monomial} (k : ℕ) (o : Option Read) → AddsTrees ts g f → IsExpression j g → ((n : Monomial) → HasMonomial n (plain (tree_at j f)) → BeginsWith o (drop k n))
+pub head_beside : {ts : Trees} {g f : Forest} {j : ℕ} {m : Monomial} (k : ℕ) (o : Option Read) → AddsTrees ts g f → IsExpression j g
+    → ((n : Monomial) → HasMonomial n (plain (tree_at j f)) → BeginsWith o (drop k n))
     → HasMonomial m (plain (tree_at j g)) → BeginsWith o (drop k m)
 head_beside {m = m} k o a h get x = get m (subst (HasMonomial m) (sym (adds_beside a h).same) x)
 
@@ -73,7 +77,8 @@ node_free {i} {k} {s} {t} h st r e = omega (arith, used_forest s h, used_forest 
 -- ---- a product that stands last
 
 -- a tree comes before its factors
-pub led_last : {i j : ℕ} {t : Tree} {g f h new : Forest} (e : Gives g f i (λ u. is_mult u ≡ true)) → Gives f h j (λ u. u ≡ t) → new ≡ put i (with_nth 0 (root_tree j h) (kids (root_tree i h))) (without_root j h)
+pub led_last : {i j : ℕ} {t : Tree} {g f h new : Forest} (e : Gives g f i (λ u. is_mult u ≡ true)) → Gives f h j (λ u. u ≡ t)
+    → new ≡ put i (with_nth 0 (root_tree j h) (kids (root_tree i h))) (without_root j h)
     → Gives g new i (λ u. u ≡ mult (more t (children_of (plain (root_tree i f)))))
 led_last e p move =
     let a = added_as 0 (over_product (given_handed e) (given_told e)) p move refl in

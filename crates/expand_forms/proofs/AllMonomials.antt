@@ -1,7 +1,6 @@
 -- What holds of 1 and of products of monomials for which it holds is kept by the arithmetic of polynomials.
-use Rattle.std.proofs.Common.{ℕ, zero, suc, [], ◌∷◌, ◌++◌, map, Bool, true, false}
-use Rattle.std.specs.Prelude.{if◌then◌else◌}
-use Rattle.expand_forms.proofs.Shared.{Ordering, Less, Equal, Greater, Fraction, is_zero_fraction, plus, joined, monomial_cmp, normal, with_summand, without_zeros, Monomial, Polynomial, Summand, monomial_times, product, raised, scaled, summand, summand_times}
+use Rattle.expand_forms.proofs.Shared.{ℕ, zero, suc, [], ◌∷◌, ◌++◌, map, Bool, true, false, if◌then◌else◌, Ordering, Less, Equal, Greater, Fraction, is_zero_fraction, plus, joined, monomial_cmp}
+use Rattle.expand_forms.proofs.Shared.{normal, with_summand, without_zeros, Monomial, Polynomial, Summand, monomial_times, product, raised, scaled, summand, summand_times}
 
 -- a fact of each monomial
 abbrev pub AllHave : (Monomial → Type 0) → Polynomial → Type 0

@@ -1,16 +1,11 @@
 -- The faults of a call on numbers that ends an expansion, as faults of the expansion.
-use Rattle.std.proofs.Common.{◌≡◌, ℕ, Result, Err, arith}
-use Rattle.expand_forms.proofs.Shared.{KeepsRefusals, NumberFault, OfFull, OfOverflow, State}
-use Rattle.node_pool.specs.declared.full.Full.{Full}
+use Rattle.expand_forms.proofs.Shared.{◌≡◌, ℕ, Result, Err, KeepsRefusals, NumberFault, OfFull, OfOverflow, State, Full, CountsRefusals, IfFull, IfInterrupted, fault_of, ReduceFault, kept_after}
+use Rattle.expand_forms.proofs.Shared.{refuses_after, Faults, LacksBytes}
 use Rattle.rational128.specs.declared.overflow.Overflow.{Overflow}
-use Rattle.reduce_port.specs.Faults.{CountsRefusals, IfFull, IfInterrupted, IfOverflow, fault_of}
-use Rattle.reduce_port.specs.declared.fault.ReduceFault.{ReduceFault}
-use Rattle.reduce_port.specs.declared.fault.ReduceFault.TheVariants as fault
+use Rattle.reduce_port.specs.Faults.{IfOverflow}
 use Rattle.breakers.specs.declared.watch.Interrupted.{Interrupted}
-use Rattle.tree_handles.proofs.Refused.{kept_after, refuses_after}
 use Rattle.tree_handles.specs.Causes.{IsCaused, Overflows}
-use Rattle.tree_handles.specs.Faults.{Faults}
-use Rattle.tree_handles.specs.Standing.{LacksBytes}
+use Rattle.reduce_port.specs.declared.fault.ReduceFault.TheVariants as fault
 use Rattle.tree_handles.specs.declared.fault.NumberFault.TheVariants as number
 
 abbrev pub refused : NumberFault → Result ℕ ReduceFault

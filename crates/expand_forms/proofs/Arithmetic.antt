@@ -1,6 +1,6 @@
 -- Identities of fractions.
-use Rattle.std.proofs.Common.{◌≡◌, ℕ, zero, suc, ◌+◌, sym, ap, ◌∙◌, arith}
-use Rattle.expand_forms.proofs.Shared.{fraction_power, times_comm, times_assoc, times_plus, zero_plus, one_times, Fraction, plus, times, zero_fraction, one_fraction, plus_comm, plus_assoc}
+use Rattle.expand_forms.proofs.Shared.{◌≡◌, ℕ, zero, suc, ◌+◌, sym, ap, ◌∙◌, arith, fraction_power, times_comm, times_assoc, times_plus, zero_plus, one_times, Fraction, plus, times}
+use Rattle.expand_forms.proofs.Shared.{zero_fraction, one_fraction, plus_comm, plus_assoc}
 
 pub plus_both : {a b c d : Fraction} → a ≡ b → c ≡ d → plus a c ≡ plus b d
 plus_both p q = λ i. plus (p i) (q i)

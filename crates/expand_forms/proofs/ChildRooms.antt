@@ -1,8 +1,9 @@
 -- The room of an expansion, from that of a child's.
-use Rattle.std.proofs.Common.{◌≡◌, ◌⊎◌, inl, inr, ℕ, suc, ◌+◌, ◌*◌, ◌≤◌, ◌<◌, List, [], ◌++◌, Bool, true, refl, sym, ap, ◌∙◌, subst, arith}
-use Rattle.std.specs.Prelude.{◌&&◌}
-use Rattle.expand_forms.proofs.Shared.{le-max_left, le-max_right, max-le, and_parts, mul-le, Within, names_of-append, within_both, within_eq, within_left, within_none, within_right, within_same, within_trans, root_most, Tree, num, symbol, undef, add, mult, power, root, neg, sub, div, Trees, none, more, append, names, names_of, nodes, nodes_of, size, sizes, count_distinct, expanded, expansion_room, most_terms, most_terms_of, node_bytes, sum_bytes, are_polynomials, is_polynomial, polynomial_of, AreExpandedFrom, IsOver, nodes_append, nodes_by_children, children_of}
-use Rattle.expand_forms.specs.PowersOfSums.{AreReadyFrom, IsReadyFrom, is_power_of_sum}
+use Rattle.expand_forms.proofs.Shared.{◌≡◌, ◌⊎◌, inl, inr, ℕ, suc, ◌+◌, ◌*◌, ◌≤◌, ◌<◌, List, [], ◌++◌, Bool, true, refl, sym, ap, ◌∙◌, subst, arith, ◌&&◌, le-max_left, le-max_right, max-le}
+use Rattle.expand_forms.proofs.Shared.{and_parts, mul-le, Within, names_of-append, within_both, within_eq, within_left, within_none, within_right, within_same, within_trans, root_most, Tree, num}
+use Rattle.expand_forms.proofs.Shared.{symbol, undef, add, mult, power, root, neg, sub, div, Trees, none, more, append, names, names_of, nodes, nodes_of, size, sizes, count_distinct, expanded}
+use Rattle.expand_forms.proofs.Shared.{expansion_room, most_terms, most_terms_of, node_bytes, sum_bytes, are_polynomials, is_polynomial, polynomial_of, AreExpandedFrom, IsOver, nodes_append}
+use Rattle.expand_forms.proofs.Shared.{nodes_by_children, children_of, AreReadyFrom, IsReadyFrom, is_power_of_sum}
 use Rattle.expand_forms.proofs.TermCounts.{answer_most, most_of_all, some_nodes, some_terms}
 use Rattle.expand_forms.proofs.Widths.{names_rise}
 
@@ -28,7 +29,8 @@ mutual
 -- ---- children
 
 two_names : (a b : Tree) → Within (names a ++ names b) (names a ++ (names b ++ []))
-two_names a b = within_both (names a ++ names b) (names a) (names b ++ []) (within_left (names a) (names b)) (within_both (names a ++ names b) (names b) [] (within_right (names a) (names b)) (within_none (names a ++ names b)))
+two_names a b = within_both (names a ++ names b) (names a) (names b ++ []) (within_left (names a) (names b))
+    (within_both (names a ++ names b) (names b) [] (within_right (names a) (names b)) (within_none (names a ++ names b)))
 
 one_name : (a : Tree) → Within (names a) (names a ++ [])
 one_name a = within_both (names a) (names a) [] (within_same (names a)) (within_none (names a))
@@ -41,7 +43,8 @@ child_terms t = grind arith
 
 -- ---- the answers of children
 
-pub answers_most : (ns : List (List ℕ)) (m : ℕ) (ts us : Trees) → are_polynomials ts ≡ true → Within ns (names_of ts) → most_terms_of ts ≤ m → AreExpandedFrom ts us → sizes us ≤ sum_bytes ns m * nodes_of ts
+pub answers_most : (ns : List (List ℕ)) (m : ℕ) (ts us : Trees) → are_polynomials ts ≡ true → Within ns (names_of ts) → most_terms_of ts ≤ m → AreExpandedFrom ts us
+    → sizes us ≤ sum_bytes ns m * nodes_of ts
 answers_most ns m none none p h l e = omega arith
 answers_most ns m none (more u us) p h l e = absurd e
 answers_most ns m (more t ts) none p h l e = absurd e
@@ -71,7 +74,8 @@ ready_most ns m t u p h l r = by (r p)
         let wide = mul-le (64 * suc (count_distinct ns)) 1 (64 * suc (count_distinct ns)) m (omega arith) some in
         omega (arith, root_bytes u, below, nodes_by_children t, wide, ap (λ (n : ℕ). sum_bytes ns m * n) (nodes_by_children t))
 
-all_ready_most : (ns : List (List ℕ)) (m : ℕ) (ts us : Trees) → are_polynomials ts ≡ true → Within ns (names_of ts) → most_terms_of ts ≤ m → AreReadyFrom ts us → sizes us ≤ sum_bytes ns m * nodes_of ts
+all_ready_most : (ns : List (List ℕ)) (m : ℕ) (ts us : Trees) → are_polynomials ts ≡ true → Within ns (names_of ts) → most_terms_of ts ≤ m → AreReadyFrom ts us
+    → sizes us ≤ sum_bytes ns m * nodes_of ts
 all_ready_most ns m none none p h l e = omega arith
 all_ready_most ns m none (more u us) p h l e = absurd e
 all_ready_most ns m (more t ts) none p h l e = absurd e
@@ -118,7 +122,8 @@ some_width t p = mul-le 1 1 (suc (count_distinct (names t))) (most_terms t) (ome
 room_of : (t : Tree) (n : ℕ) → nodes t ≡ n → 512 * (suc (count_distinct (names t)) * most_terms t) * n ≡ expansion_room t
 room_of t n e = grind arith
 
-pub room_above : (t c : Tree) (done rest us : Trees) (e : ℕ) → is_polynomial t ≡ true → are_polynomials (children_of t) ≡ true → children_of t ≡ append done (more c rest) → AreReadyFrom done us → e < expansion_room c
+pub room_above : (t c : Tree) (done rest us : Trees) (e : ℕ) → is_polynomial t ≡ true → are_polynomials (children_of t) ≡ true → children_of t ≡ append done (more c rest) → AreReadyFrom done us
+    → e < expansion_room c
     → e + (40 + sizes us + sizes rest) < expansion_room t
 room_above t c done rest us e p ps split answers few =
     let ns = names t in
@@ -126,7 +131,8 @@ room_above t c done rest us e p ps split answers few =
     let within : Within ns (names_of done ++ (names c ++ names_of rest)) = within_trans (child_names t) (within_eq (sym (ap names_of split ∙ names_of-append done (more c rest)))) in
     let terms_within : most_terms_of (append done (more c rest)) ≤ m = omega (arith, child_terms t, ap most_terms_of split) in
     let done_polynomials = (first_polynomials done (more c rest) (sym (ap are_polynomials split) ∙ ps)).0 in
-    let before = all_ready_most ns m done us done_polynomials (within_trans within (within_left (names_of done) (names c ++ names_of rest))) (omega (arith, first_terms done (more c rest), terms_within)) answers in
+    let before = all_ready_most ns m done us done_polynomials (within_trans within (within_left (names_of done) (names c ++ names_of rest)))
+    (omega (arith, first_terms done (more c rest), terms_within)) answers in
     let fewer_names = names_rise ns (names c) (within_trans within (within_trans (within_right (names_of done) (names c ++ names_of rest)) (within_left (names c) (names_of rest)))) in
     let fewer_terms : most_terms c ≤ m = omega (arith, last_terms done (more c rest), le-max_left (most_terms c) (most_terms_of rest), terms_within) in
     let narrower = mul-le (suc (count_distinct (names c))) (most_terms c) (suc (count_distinct ns)) m (omega (arith, fewer_names)) fewer_terms in
@@ -136,7 +142,8 @@ room_above t c done rest us e p ps split answers few =
     let count : nodes t ≡ suc (nodes_of done + (nodes c + nodes_of rest)) = omega (arith, nodes_by_children t, ap nodes_of split, nodes_append done (more c rest)) in
     subst (λ (r : ℕ). e + (40 + sizes us + sizes rest) < r) (room_of t _ count) lacks
 
-pub room_at_node : (t : Tree) (us : Trees) (e : ℕ) → is_polynomial t ≡ true → are_polynomials (children_of t) ≡ true → AreReadyFrom (children_of t) us → e < node_bytes (names t) (most_terms t) → e + (40 + sizes us) < expansion_room t
+pub room_at_node : (t : Tree) (us : Trees) (e : ℕ) → is_polynomial t ≡ true → are_polynomials (children_of t) ≡ true → AreReadyFrom (children_of t) us → e < node_bytes (names t) (most_terms t)
+    → e + (40 + sizes us) < expansion_room t
 room_at_node t us e p ps answers few =
     let all = all_ready_most (names t) (most_terms t) (children_of t) us ps (child_names t) (child_terms t) answers in
     let lacks = node_lacks (suc (count_distinct (names t)) * most_terms t) (nodes_of (children_of t)) e (sizes us) (some_width t p) (omega (arith, few)) (omega (arith, all)) in

@@ -1,6 +1,6 @@
 -- Expanded trees are not Undef.
-use Rattle.std.proofs.Common.{arith, ◌≡◌, false, [], ◌∷◌, refl}
-use Rattle.expand_forms.proofs.Shared.{product_tree, num, more, is_undef, expanded, factor_tree, factor_trees, monomial_tree, normal, sum_tree, term_tree, term_trees, Factor, Monomial, Polynomial, Summand}
+use Rattle.expand_forms.proofs.Shared.{arith, ◌≡◌, false, [], ◌∷◌, refl, product_tree, num, more, is_undef, expanded, factor_tree, factor_trees, monomial_tree, normal, sum_tree, term_tree}
+use Rattle.expand_forms.proofs.Shared.{term_trees, Factor, Monomial, Polynomial, Summand}
 
 factor_defined : (f : Factor) → is_undef (factor_tree f) ≡ false
 factor_defined f = grind arith

@@ -1,15 +1,11 @@
 -- The exponents of each term of a list are those of its names.
-use Rattle.std.proofs.Common.{◌≡◌, ℕ, zero, suc, ◌<◌, ◌^◌, List, [], ◌∷◌, length, get_or, Bool, true, false, refl, sym, ap, ◌∙◌, subst, arith}
-use Rattle.std.specs.Prelude.{◌==◌, if◌then◌else◌}
-use Rattle.expand_forms.proofs.Shared.{and_from, and_parts, by_test, eq-eqb, eqb-true, false_from_ne_true, no_zero, not_from_false, plus, value_of, zero_fraction}
+use Rattle.expand_forms.proofs.Shared.{◌≡◌, ℕ, zero, suc, ◌<◌, ◌^◌, List, [], ◌∷◌, length, get_or, Bool, true, false, refl, sym, ap, ◌∙◌, subst, arith, ◌==◌, if◌then◌else◌, and_from, and_parts}
+use Rattle.expand_forms.proofs.Shared.{by_test, eq-eqb, eqb-true, false_from_ne_true, no_zero, not_from_false, plus, value_of, zero_fraction, HaveNames, IsListOf, IsOfNames, one_unpacked}
+use Rattle.expand_forms.proofs.Shared.{same_coefficient, monomial_of, Term}
 use Rattle.expand_forms.proofs.Arithmetic.{plus_zero}
 use Rattle.expand_forms.specs.Polynomials.{Polynomial as Named}
-use Rattle.expand_forms.specs.Named.{HaveNames, IsListOf, IsOfNames}
-use Rattle.polynomials.proofs.Coefficients.{one_unpacked, same_coefficient}
-use Rattle.polynomials.specs.Packed.{monomial_of}
 use Rattle.polynomials.specs.Polynomials.{Monomial, Polynomial, coefficient_at, is_same_monomial}
 use Rattle.polynomials.specs.Terms.{IsBelowAll, IsNormal, polynomial_of}
-use Rattle.polynomials.specs.declared.term.Term.{Term}
 
 -- each monomial has 64 bits
 abbrev pub ArePacked : List Term → Type 0
@@ -36,7 +32,8 @@ not_same k l h j n = false_from_ne_true (is_same_monomial (monomial_of k) (monom
 
 -- ---- coefficients
 
-other : (k : ℕ) (t : Term) (ts : List Term) → k < 2 ^ 64 → t.monomial < 2 ^ 64 → (t.monomial ≡ k → ⊥) → coefficient_at (monomial_of k) (polynomial_of (t ∷ ts)) ≡ coefficient_at (monomial_of k) (polynomial_of ts)
+other : (k : ℕ) (t : Term) (ts : List Term) → k < 2 ^ 64 → t.monomial < 2 ^ 64 → (t.monomial ≡ k → ⊥)
+    → coefficient_at (monomial_of k) (polynomial_of (t ∷ ts)) ≡ coefficient_at (monomial_of k) (polynomial_of ts)
 other k t ts h j n =
     let c = coefficient_at (monomial_of k) (polynomial_of ts) in
     ap (λ (b : Bool). if b then plus (value_of t.coefficient) c else c) (not_same t.monomial k j h n)

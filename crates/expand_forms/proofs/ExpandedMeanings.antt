@@ -1,7 +1,12 @@
 -- What a polynomial is worth is a meaning of its expanded tree.
-use Rattle.std.proofs.Common.{◌≡◌, ◌≤◌, ℕ, zero, suc, ◌+◌, pos, [], ◌∷◌, Bool, true, false, refl, sym, ap, ◌∙◌, subst, arith}
-use Rattle.std.specs.Prelude.{◌==◌, if◌then◌else◌}
-use Rattle.expand_forms.proofs.Shared.{eqb-true, Ordering, Less, Equal, Greater, nat_cmp, slice_cmp, Assignment, IsAssignment, IsWholePower, Means, MeansProduct, MeansSum, product_tree, Surd, surd_of, surd_one, Means-Same, Same-sym, rational_power, power_whole, Same-trans, Same-eq, Same-refl, joined_radicand, surd_times-terms, zero_term, one_is, zero_is, fraction_power, one_times, zero_plus, zero_times, Fraction, is_one_fraction, is_zero_fraction, minus_one_fraction, plus, plus_assoc, times, zero_fraction, inverse, Tree, num, symbol, undef, add, mult, power, root, neg, sub, div, Trees, none, more, whole_num, Factor, Monomial, Polynomial, Summand, factor, monomial_times, scaled, summand, with_factor, divisor_of, exponent_of, is_polynomial, polynomial_of, product_of, sum_of, expanded, factor_tree, factor_trees, joined, monomial_cmp, monomial_tree, normal, sum_tree, term_tree, term_trees, with_summand, without_zeros, factor_value, given, monomial_value, polynomial_value, summand_value}
+use Rattle.expand_forms.proofs.Shared.{◌≡◌, ◌≤◌, ℕ, zero, suc, ◌+◌, pos, [], ◌∷◌, Bool, true, false, refl, sym, ap, ◌∙◌, subst, arith, ◌==◌, if◌then◌else◌, eqb-true, Ordering, Less, Equal}
+use Rattle.expand_forms.proofs.Shared.{Greater, nat_cmp, slice_cmp, Assignment, IsAssignment, IsWholePower, Means, MeansProduct, MeansSum, product_tree, Surd, surd_of, surd_one, Means-Same}
+use Rattle.expand_forms.proofs.Shared.{Same-sym, rational_power, power_whole, Same-trans, Same-eq, Same-refl, joined_radicand, surd_times-terms, zero_term, one_is, zero_is, fraction_power}
+use Rattle.expand_forms.proofs.Shared.{one_times, zero_plus, zero_times, Fraction, is_one_fraction, is_zero_fraction, minus_one_fraction, plus, plus_assoc, times, zero_fraction, inverse, Tree}
+use Rattle.expand_forms.proofs.Shared.{num, symbol, undef, add, mult, power, root, neg, sub, div, Trees, none, more, whole_num, Factor, Monomial, Polynomial, Summand, factor, monomial_times}
+use Rattle.expand_forms.proofs.Shared.{scaled, summand, with_factor, divisor_of, exponent_of, is_polynomial, polynomial_of, product_of, sum_of, expanded, factor_tree, factor_trees, joined}
+use Rattle.expand_forms.proofs.Shared.{monomial_cmp, monomial_tree, normal, sum_tree, term_tree, term_trees, with_summand, without_zeros, factor_value, given, monomial_value, polynomial_value}
+use Rattle.expand_forms.proofs.Shared.{summand_value}
 use Rattle.calc_algebra.specs.Meanings.{Gives}
 use Rattle.calc_algebra.proofs.MeaningRewrites.{none_product, none_sum, one_product, one_sum, product_more, product_none, sum_more, sum_none}
 use Rattle.expand_forms.proofs.AllMonomials.{AllHave, IsClosed, append_all, normal_all, product_all, raised_all, scaled_all}
@@ -20,7 +25,8 @@ with_summand_value f s (t ∷ v) = by (monomial_cmp s.monomial t.monomial) refl 
         → polynomial_value f (elim o [ Less ↦ s ∷ t ∷ v | Equal ↦ summand (plus s.coefficient t.coefficient) s.monomial ∷ v | Greater ↦ t ∷ with_summand s v ]) ≡ polynomial_value f (s ∷ t ∷ v)
     by Less e go = refl
     by Equal e go =
-        ap (λ x. plus x (polynomial_value f v)) (plus_times s.coefficient t.coefficient (monomial_value f s.monomial) ∙ ap (λ m. plus (summand_value f s) (times t.coefficient (monomial_value f m))) (equal_is s.monomial t.monomial e))
+        ap (λ x. plus x (polynomial_value f v)) (plus_times s.coefficient t.coefficient (monomial_value f s.monomial)
+        ∙ ap (λ m. plus (summand_value f s) (times t.coefficient (monomial_value f m))) (equal_is s.monomial t.monomial e))
         ∙ plus_assoc (summand_value f s) (summand_value f t) (polynomial_value f v)
     by Greater e go = ap (plus (summand_value f t)) go ∙ plus_left_comm (summand_value f t) (summand_value f s) (polynomial_value f v)
 
@@ -32,9 +38,11 @@ without_zeros_value : (f : Assignment) (v : Polynomial) → polynomial_value f (
 without_zeros_value f [] = refl
 without_zeros_value f (s ∷ v) = by (is_zero_fraction s.coefficient) refl (without_zeros_value f v)
   where
-    by : (b : Bool) → is_zero_fraction s.coefficient ≡ b → polynomial_value f (without_zeros v) ≡ polynomial_value f v → polynomial_value f (if b then without_zeros v else s ∷ without_zeros v) ≡ polynomial_value f (s ∷ v)
+    by : (b : Bool) → is_zero_fraction s.coefficient ≡ b → polynomial_value f (without_zeros v) ≡ polynomial_value f v
+        → polynomial_value f (if b then without_zeros v else s ∷ without_zeros v) ≡ polynomial_value f (s ∷ v)
     by true e go =
-        go ∙ sym (ap (λ q. plus (times q (monomial_value f s.monomial)) (polynomial_value f v)) (zero_is s.coefficient e) ∙ ap (λ x. plus x (polynomial_value f v)) (zero_times (monomial_value f s.monomial)) ∙ zero_plus (polynomial_value f v))
+        go ∙ sym (ap (λ q. plus (times q (monomial_value f s.monomial)) (polynomial_value f v)) (zero_is s.coefficient e)
+        ∙ ap (λ x. plus x (polynomial_value f v)) (zero_times (monomial_value f s.monomial)) ∙ zero_plus (polynomial_value f v))
     by false e go = ap (plus (summand_value f s)) go
 
 normal_value : (f : Assignment) (v : Polynomial) → polynomial_value f (normal v) ≡ polynomial_value f v
@@ -126,7 +134,8 @@ module _ (f : Assignment) where
     term_means : (s : Summand) → AreGiven s.monomial → Means (term_tree s) f (surd_of (summand_value f s))
     term_means s h = by (is_one_fraction s.coefficient) refl
       where
-        by : (b : Bool) → is_one_fraction s.coefficient ≡ b → Means (if b then monomial_tree s.monomial else product_tree (more (num s.coefficient) (factor_trees s.monomial))) f (surd_of (summand_value f s))
+        by : (b : Bool) → is_one_fraction s.coefficient ≡ b
+            → Means (if b then monomial_tree s.monomial else product_tree (more (num s.coefficient) (factor_trees s.monomial))) f (surd_of (summand_value f s))
         by true e =
             subst (λ x. Means (monomial_tree s.monomial) f (surd_of x)) (sym (ap (λ q. times q (monomial_value f s.monomial)) (one_is s.coefficient e) ∙ one_times (monomial_value f s.monomial)))
             (product_tree_means (factor_trees s.monomial) (surd_of (monomial_value f s.monomial)) (factors_mean s.monomial h))

@@ -1,8 +1,8 @@
 -- Expanded trees as answers.
-use Rattle.std.proofs.Common.{◌≡◌, ◌≤◌, ℕ, List, [], ◌∷◌, ◌++◌, Bool, true, false, refl, sym, ap, ◌∙◌, arith, pos, append-nil}
-use Rattle.std.specs.Prelude.{not, if◌then◌else◌}
-use Rattle.expand_forms.proofs.Shared.{no_one, one_is, zero_is, zero_test, product_tree, Rat, ratio_of, value_of, Ratio, whole, Fraction, is_one_fraction, is_zero_fraction, lowest, one_fraction, zero_fraction, Tree, num, symbol, add, none, more, count, IsNormal, expanded, normal, sum_tree, term_trees, AreMonomials, IsMonomial, Polynomial, coefficient_at, constant, factor, summand, variable, polynomial_of, AreSame, IsExpanded, IsSum, IsSumOf, children_of, nth}
-use Rattle.calc_algebra.proofs.NumberClasses.{one_not_zero}
+use Rattle.expand_forms.proofs.Shared.{◌≡◌, ◌≤◌, ℕ, List, [], ◌∷◌, ◌++◌, Bool, true, false, refl, sym, ap, ◌∙◌, arith, pos, append-nil, not, if◌then◌else◌, no_one, one_is, zero_is, zero_test}
+use Rattle.expand_forms.proofs.Shared.{product_tree, Rat, ratio_of, value_of, Ratio, whole, Fraction, is_one_fraction, is_zero_fraction, lowest, one_fraction, zero_fraction, Tree, num, symbol}
+use Rattle.expand_forms.proofs.Shared.{add, none, more, count, IsNormal, expanded, normal, sum_tree, term_trees, AreMonomials, IsMonomial, Polynomial, coefficient_at, constant, factor, summand}
+use Rattle.expand_forms.proofs.Shared.{variable, polynomial_of, AreSame, IsExpanded, IsSum, IsSumOf, children_of, nth, one_not_zero}
 use Rattle.expand_forms.proofs.AllMonomials.{AllHave, normal_all}
 use Rattle.expand_forms.proofs.Joins.{sum_polynomial_is}
 use Rattle.expand_forms.proofs.NormalForms.{normal_coefficient, normal_is, one_normal}

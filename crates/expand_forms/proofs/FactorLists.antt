@@ -1,8 +1,6 @@
 -- Monomials as lists of their factors.
-use Rattle.std.proofs.Common.{◌≡◌, suc, List, [], ◌∷◌, ◌++◌, length, refl, ap}
-use Rattle.expand_forms.proofs.Shared.{Monomial, IsRead}
+use Rattle.expand_forms.proofs.Shared.{◌≡◌, suc, List, [], ◌∷◌, ◌++◌, length, refl, ap, Monomial, IsRead, AreRead}
 use Rattle.expand_forms.specs.declared.factors.Factor.{Factor as Read}
-use Rattle.expand_forms.specs.Listed.{AreRead}
 
 pub read_length : (xs : List Read) (m : Monomial) → AreRead xs m → length xs ≡ length m
 read_length [] [] r = refl

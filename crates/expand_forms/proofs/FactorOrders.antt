@@ -1,15 +1,10 @@
 -- The order of factors and of monomials, by the kinds of their trees first.
-use Rattle.std.proofs.Common.{◌≡◌, ◌+◌, ℕ, ℤ, pos, ◌*ℤ◌, List, [], ◌∷◌, Bool, true, false, refl, sym, ap, ◌∙◌, arith, to_z, of_z}
-use Rattle.std.specs.Prelude.{not}
-use Rattle.std.specs.Ordering.{int_cmp}
-use Rattle.calc_terms.specs.Fractions.{fraction_cmp}
-use Rattle.calc_terms.specs.Leaf.{name_of}
-use Rattle.calc_terms.specs.Name.{before_zero, padded}
-use Rattle.calc_terms.specs.Ratio.{IsRat}
-use Rattle.calc_terms.specs.declared.name.Name.{Name}
+use Rattle.expand_forms.proofs.Shared.{◌≡◌, ◌+◌, ℕ, ℤ, pos, ◌*ℤ◌, List, [], ◌∷◌, Bool, true, false, refl, sym, ap, ◌∙◌, arith, to_z, of_z, not, int_cmp, fraction_cmp, name_of, before_zero}
+use Rattle.expand_forms.proofs.Shared.{padded, IsRat, Name, told, trees_cmp, root_code, ordering_then, is_mult, monomial_in, count, children_of, nth, first_place, ints, w128, bytes_eq}
+use Rattle.expand_forms.proofs.Shared.{bytes_eq-Decides, tree_cmp_same, ratio_of, ratio_parts, Fraction, Less, Equal, Greater, nat_cmp, slice_cmp, tree_cmp, tree_cmp_refl, whole_numerator}
+use Rattle.expand_forms.proofs.Shared.{whole_denominator, lowest, one_fraction, Tree, num, symbol, mult, root_kind, factor_tree, factor_trees, monomial_cmp, monomial_tree, Factor, Monomial}
+use Rattle.expand_forms.proofs.Shared.{IsRead}
 use Rattle.node_order.proofs.Orderings.{then-equal}
-use Rattle.rational128.proofs.Signed.{told}
-use Rattle.expand_forms.proofs.Shared.{trees_cmp, root_code, ordering_then, is_mult, monomial_in, count, children_of, nth, first_place, ints, w128, bytes_eq, bytes_eq-Decides, tree_cmp_same, ratio_of, ratio_parts, Fraction, Less, Equal, Greater, nat_cmp, slice_cmp, tree_cmp, tree_cmp_refl, whole_numerator, whole_denominator, lowest, one_fraction, Tree, num, symbol, mult, root_kind, factor_tree, factor_trees, monomial_cmp, monomial_tree, Factor, Monomial, IsRead}
 use Rattle.expand_forms.specs.declared.factors.Factor.{Factor as Read}
 use Rattle.expand_forms.proofs.FactorTrees.{on_factor, on_monomial}
 use Rattle.calc_terms.specs.declared.kind.Kind.TheVariants as kind
@@ -47,7 +42,8 @@ exponent_read z x f r e is =
     ap (λ (y : ℤ). to_z w128 (of_z w128 y)) e ∙ told (ratio_of x.exponent).num (omega (arith, is.num_fits)) ∙ sym (ratio_parts x.exponent).num
     ∙ ap (λ (q : Fraction). q.num) r.exponent ∙ whole_numerator (pos f.exponent)
 
-pub exponents_cmp : (y z : ℤ) (a b : Read) (f g : Factor) → IsRead a f → IsRead b g → y ≡ (ratio_of a.exponent).num → z ≡ (ratio_of b.exponent).num → IsRat (ratio_of a.exponent) → IsRat (ratio_of b.exponent)
+pub exponents_cmp : (y z : ℤ) (a b : Read) (f g : Factor) → IsRead a f → IsRead b g → y ≡ (ratio_of a.exponent).num → z ≡ (ratio_of b.exponent).num → IsRat (ratio_of a.exponent)
+    → IsRat (ratio_of b.exponent)
     → int_cmp (to_z w128 (of_z w128 y)) (to_z w128 (of_z w128 z)) ≡ nat_cmp f.exponent g.exponent
 exponents_cmp y z a b f g r q e h is are = (λ i. int_cmp (exponent_read y a f r e is i) (exponent_read z b g q h are i)) ∙ natural_cmp f.exponent g.exponent
 
@@ -81,10 +77,14 @@ kinds_first f g = grind (arith, then-equal)
 pub monomials_cmp : (m n : Monomial) → monomial_cmp m n ≡ ordering_then (nat_cmp (root_code (monomial_tree m)) (root_code (monomial_tree n))) (trees_cmp (factor_trees m) (factor_trees n))
 monomials_cmp [] [] = tree_cmp_refl (num one_fraction)
 monomials_cmp [] (g ∷ n) =
-    on_monomial (λ v. tree_cmp (num one_fraction) v ≡ ordering_then (nat_cmp 1 (root_code v)) Less) g n (on_factor (λ v. tree_cmp (num one_fraction) v ≡ ordering_then (nat_cmp 1 (root_code v)) Less) g refl refl) (λ h k. refl)
+    on_monomial (λ v. tree_cmp (num one_fraction) v ≡ ordering_then (nat_cmp 1 (root_code v)) Less) g n
+    (on_factor (λ v. tree_cmp (num one_fraction) v ≡ ordering_then (nat_cmp 1 (root_code v)) Less) g refl refl) (λ h k. refl)
 monomials_cmp (f ∷ m) [] =
-    on_monomial (λ v. tree_cmp v (num one_fraction) ≡ ordering_then (nat_cmp (root_code v) 1) Greater) f m (on_factor (λ v. tree_cmp v (num one_fraction) ≡ ordering_then (nat_cmp (root_code v) 1) Greater) f refl refl) (λ h k. refl)
+    on_monomial (λ v. tree_cmp v (num one_fraction) ≡ ordering_then (nat_cmp (root_code v) 1) Greater) f m
+    (on_factor (λ v. tree_cmp v (num one_fraction) ≡ ordering_then (nat_cmp (root_code v) 1) Greater) f refl refl) (λ h k. refl)
 monomials_cmp (f ∷ []) (g ∷ []) = kinds_first f g
-monomials_cmp (f ∷ []) (g ∷ h ∷ n) = on_factor (λ v. tree_cmp v (mult (factor_trees (g ∷ h ∷ n))) ≡ ordering_then (nat_cmp (root_code v) 5) (trees_cmp (factor_trees (f ∷ [])) (factor_trees (g ∷ h ∷ n)))) f refl refl
-monomials_cmp (f ∷ k ∷ m) (g ∷ []) = on_factor (λ v. tree_cmp (mult (factor_trees (f ∷ k ∷ m))) v ≡ ordering_then (nat_cmp 5 (root_code v)) (trees_cmp (factor_trees (f ∷ k ∷ m)) (factor_trees (g ∷ [])))) g refl refl
+monomials_cmp (f ∷ []) (g ∷ h ∷ n) =
+    on_factor (λ v. tree_cmp v (mult (factor_trees (g ∷ h ∷ n))) ≡ ordering_then (nat_cmp (root_code v) 5) (trees_cmp (factor_trees (f ∷ [])) (factor_trees (g ∷ h ∷ n)))) f refl refl
+monomials_cmp (f ∷ k ∷ m) (g ∷ []) =
+    on_factor (λ v. tree_cmp (mult (factor_trees (f ∷ k ∷ m))) v ≡ ordering_then (nat_cmp 5 (root_code v)) (trees_cmp (factor_trees (f ∷ k ∷ m)) (factor_trees (g ∷ [])))) g refl refl
 monomials_cmp (f ∷ k ∷ m) (g ∷ h ∷ n) = refl

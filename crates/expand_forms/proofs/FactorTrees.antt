@@ -1,7 +1,9 @@
 -- The trees of monomials and of terms have the form of reduced trees.
-use Rattle.std.proofs.Common.{◌≡◌, ◌≢◌, ◌≤◌, inl, inr, ℕ, pos, [], ◌∷◌, Bool, true, false, refl, sym, ap, ◌∙◌, subst, arith}
-use Rattle.std.specs.Prelude.{◌==◌, ◌&&◌, not, if◌then◌else◌}
-use Rattle.expand_forms.proofs.Shared.{Less, Greater, eq-eqb, false_from_ne_true, IsNumber, is_number, is_term, HasForm, IsFrontForm, IsPowerForm, IsProductForm, NoneIs, RisesBy, Split, base_of, is_num_one, is_one_add, is_opaque_exponent, is_undistributed, num_one, part_of, product_tree, split, split_product, tree_cmp, whole_one, tree_cmp_refl, no_one, whole_denominator, not_from_false, Fraction, is_one_fraction, one_fraction, zero_fraction, AllParts, AllPartsOf, HasTwo, Tree, num, symbol, mult, power, Trees, more, is_add, is_mult, is_num, whole_num, factor_tree, factor_trees, monomial_tree, term_tree, Factor, IsMonomial, Monomial, Summand}
+use Rattle.expand_forms.proofs.Shared.{◌≡◌, ◌≢◌, ◌≤◌, inl, inr, ℕ, pos, [], ◌∷◌, Bool, true, false, refl, sym, ap, ◌∙◌, subst, arith, ◌==◌, ◌&&◌, not, if◌then◌else◌, Less, Greater, eq-eqb}
+use Rattle.expand_forms.proofs.Shared.{false_from_ne_true, IsNumber, is_number, is_term, HasForm, IsFrontForm, IsPowerForm, IsProductForm, NoneIs, RisesBy, Split, base_of, is_num_one, is_one_add}
+use Rattle.expand_forms.proofs.Shared.{is_opaque_exponent, is_undistributed, num_one, part_of, product_tree, split, split_product, tree_cmp, whole_one, tree_cmp_refl, no_one, whole_denominator}
+use Rattle.expand_forms.proofs.Shared.{not_from_false, Fraction, is_one_fraction, one_fraction, zero_fraction, AllParts, AllPartsOf, HasTwo, Tree, num, symbol, mult, power, Trees, more, is_add}
+use Rattle.expand_forms.proofs.Shared.{is_mult, is_num, whole_num, factor_tree, factor_trees, monomial_tree, term_tree, Factor, IsMonomial, Monomial, Summand}
 use Rattle.calc_algebra.proofs.NumberLaws.{number_words}
 use Rattle.expand_forms.proofs.MonomialTrees.{factor_no_mult}
 use Rattle.expand_forms.proofs.Nodes.{and_false}
@@ -71,21 +73,24 @@ split_multiple : (q : Fraction) (f : Factor) (ts : Trees) → split_product (mor
 split_multiple q f ts = on_factor (λ t. split_product (more (num q) (more t ts)) ≡ split (num q) (more t ts)) f refl refl
 
 -- what is asked of the factors behind a coefficient
-by_split : (ts : Trees) (c : Tree) (f : Factor) (m : Monomial) → IsMonomial (f ∷ m) → split_product ts ≡ split c (factor_trees (f ∷ m)) → HasTwo ts → NoneIs is_mult ts → IsFrontForm ts → IsProductForm ts
+by_split : (ts : Trees) (c : Tree) (f : Factor) (m : Monomial) → IsMonomial (f ∷ m) → split_product ts ≡ split c (factor_trees (f ∷ m)) → HasTwo ts → NoneIs is_mult ts → IsFrontForm ts
+    → IsProductForm ts
 by_split ts c f m h e two mults front = record {
   two = two;
   no_product = mults;
   front = front;
   no_number = subst (λ (s : Split). NoneIs is_number s.factors) (sym e) (factors_no_number (f ∷ m));
   rising = subst (λ (s : Split). RisesBy base_of s.factors) (sym e) (factors_rise (f ∷ m) h);
-  distributed = ap is_undistributed e ∙ ap (λ b. is_num c && not (is_num_one c) && b) (on_factor (λ t. is_one_add (more t (factor_trees m)) ≡ false) f refl refl) ∙ and_false (is_num c && not (is_num_one c));
+  distributed = ap is_undistributed e ∙ ap (λ b. is_num c && not (is_num_one c) && b) (on_factor (λ t. is_one_add (more t (factor_trees m)) ≡ false) f refl refl)
+      ∙ and_false (is_num c && not (is_num_one c));
 }
 
 pub monomial_parts : (m : Monomial) → IsMonomial m → AllParts HasForm (monomial_tree m)
 monomial_parts [] h = inl tt
 monomial_parts (f ∷ []) h = factor_parts f h.0
 monomial_parts (f ∷ g ∷ m) h = (
-  inr (by_split (factor_trees (f ∷ g ∷ m)) num_one f (g ∷ m) h (split_factors f (factor_trees (g ∷ m))) tt (factors_no_mult (f ∷ g ∷ m)) (on_factor (λ t. IsFrontForm (more t (factor_trees (g ∷ m)))) f tt tt)),
+  inr (by_split (factor_trees (f ∷ g ∷ m)) num_one f (g ∷ m) h (split_factors f (factor_trees (g ∷ m))) tt (factors_no_mult (f ∷ g ∷ m))
+      (on_factor (λ t. IsFrontForm (more t (factor_trees (g ∷ m)))) f tt tt)),
   factors_parts (f ∷ g ∷ m) h,
 )
 
@@ -94,7 +99,8 @@ monomial_parts (f ∷ g ∷ m) h = (
 -- a fact of the term of a monomial that is not 1, by its form
 pub on_term : (P : Tree → Type 0) (s : Summand) (f : Factor) (m : Monomial) → s.monomial ≡ f ∷ m
     → P (monomial_tree (f ∷ m)) → (s.coefficient ≢ one_fraction → P (mult (more (num s.coefficient) (factor_trees (f ∷ m))))) → P (term_tree s)
-on_term P s f m is h k = subst (λ x. P (if is_one_fraction s.coefficient then monomial_tree x else product_tree (more (num s.coefficient) (factor_trees x)))) (sym is) (by (is_one_fraction s.coefficient) refl)
+on_term P s f m is h k =
+    subst (λ x. P (if is_one_fraction s.coefficient then monomial_tree x else product_tree (more (num s.coefficient) (factor_trees x)))) (sym is) (by (is_one_fraction s.coefficient) refl)
   where
     by : (b : Bool) → is_one_fraction s.coefficient ≡ b → P (if b then monomial_tree (f ∷ m) else mult (more (num s.coefficient) (factor_trees (f ∷ m))))
     by true e = h
@@ -104,7 +110,8 @@ pub on_monomial : (P : Tree → Type 0) (f : Factor) (m : Monomial) → P (facto
 on_monomial P f [] h k = h
 on_monomial P f (g ∷ n) h k = k g n
 
-multiple_parts : (s : Summand) (f : Factor) (m : Monomial) → s.coefficient ≢ zero_fraction → s.coefficient ≢ one_fraction → IsMonomial (f ∷ m) → AllParts HasForm (mult (more (num s.coefficient) (factor_trees (f ∷ m))))
+multiple_parts : (s : Summand) (f : Factor) (m : Monomial) → s.coefficient ≢ zero_fraction → s.coefficient ≢ one_fraction → IsMonomial (f ∷ m)
+    → AllParts HasForm (mult (more (num s.coefficient) (factor_trees (f ∷ m))))
 multiple_parts s f m z o h = (
   inr (by_split (more (num s.coefficient) (factor_trees (f ∷ m))) (num s.coefficient) f m h (split_multiple s.coefficient f (factor_trees m)) tt (refl, factors_no_mult (f ∷ m)) (z, o)),
   (inl tt, factors_parts (f ∷ m) h),

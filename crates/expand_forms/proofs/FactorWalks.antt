@@ -1,20 +1,13 @@
 -- Walks over the nodes of a monomial's factors.
-use Rattle.std.proofs.Common.{◌≡◌, ◌≤◌, ◌<◌, ℕ, pos, List, length, [], ◌∷◌, ◌++◌, map, drop, Some, true, refl, sym, ap, ◌∙◌, subst, arith}
-use Rattle.calc_terms.specs.Payload.{kind_of_payload}
-use Rattle.expand_forms.proofs.Shared.{AreAhead, BeginsWith, value_of, lowest, one_fraction, alone, Payload, State, Stands, IsExpression, children_of, first_place, forest, kids_of, rest_trees, root_kind, Fraction, Tree, is_mult, num, symbol, power, Trees, none, more, whole_num, factor_tree, factor_trees, Factor, IsMonomial, Monomial, HasMonomial, factors_in, grown, nth, plain, takes, arity, empty, tree, join, Forest, holds, tree_at, AllExpressions}
+use Rattle.expand_forms.proofs.Shared.{◌≡◌, ◌≤◌, ◌<◌, ℕ, pos, List, length, [], ◌∷◌, ◌++◌, map, drop, Some, true, refl, sym, ap, ◌∙◌, subst, arith, kind_of_payload, AreAhead, BeginsWith}
+use Rattle.expand_forms.proofs.Shared.{value_of, lowest, one_fraction, alone, Payload, State, Stands, IsExpression, children_of, first_place, forest, kids_of, rest_trees, root_kind, Fraction}
+use Rattle.expand_forms.proofs.Shared.{Tree, is_mult, num, symbol, power, Trees, none, more, whole_num, factor_tree, factor_trees, Factor, IsMonomial, Monomial, HasMonomial, factors_in, grown}
+use Rattle.expand_forms.proofs.Shared.{nth, plain, takes, arity, empty, tree, join, Forest, holds, tree_at, AllExpressions, name_of, all-rest_trees, one_at, children_of-plain, whole_kids, found}
+use Rattle.expand_forms.proofs.Shared.{found-kids, found-rest_trees, visit_here, visits_left, IsWhole, plains, flatten, node_of, visit_of, visits_of, AreFound, Visit}
 use Rattle.expand_forms.specs.declared.factors.Factor.{Factor as Read}
-use Rattle.calc_terms.specs.Leaf.{name_of}
 use Rattle.expand_forms.proofs.FactorOrders.{symbol_is}
 use Rattle.node_order.proofs.KeyLaws.{behind-plains}
 use Rattle.node_order.specs.Keys.{trees_behind}
-use Rattle.tree_handles.proofs.Forests.{all-rest_trees}
-use Rattle.tree_handles.proofs.Measures.{one_at}
-use Rattle.tree_handles.proofs.Plains.{children_of-plain, whole_kids}
-use Rattle.tree_handles.proofs.Visiting.{found, found-kids, found-rest_trees, visit_here, visits_left}
-use Rattle.tree_handles.specs.Expressions.{IsWhole, plains}
-use Rattle.tree_handles.specs.Forest.{flatten, node_of}
-use Rattle.tree_handles.specs.Visits.{visit_of, visits_of, AreFound}
-use Rattle.tree_handles.specs.declared.visits.Visit.{Visit}
 use Rattle.calc_terms.specs.declared.kind.Kind.TheVariants as kind
 
 -- ---- what stands at a factor's root
@@ -131,7 +124,8 @@ pub record IsPowerAhead (m : Monomial) (left : List Visit) (base : Forest) : Typ
   pub passed : IsPowerPassed m name exponent behind base
 
 -- the same from its two parts
-two_parts : {g : Factor} {n : Monomial} {left : List Visit} {base : Forest} (k r : Forest) → IsMonomial (g ∷ n) → arity k ≡ 2 → nth 0 (plains k) ≡ symbol g.name → nth 1 (plains k) ≡ whole_num g.exponent
+two_parts : {g : Factor} {n : Monomial} {left : List Visit} {base : Forest} (k r : Forest) → IsMonomial (g ∷ n) → arity k ≡ 2 → nth 0 (plains k) ≡ symbol g.name
+    → nth 1 (plains k) ≡ whole_num g.exponent
     → plains r ≡ factor_trees n → left ≡ visits_of (join k r) → AreFound base k → AreFound base r → AllExpressions k → AllExpressions r → IsPowerAhead (g ∷ n) left base
 two_parts empty r h two b e p q d c w v = absurd (omega arith)
 two_parts (tree l k empty) r h two b e p q d c w v = absurd (omega arith)
@@ -245,7 +239,8 @@ one_lowest : one_fraction ≡ lowest (pos 1) 1
 unfolding one_fraction
 one_lowest = refl
 
-pub name_begins : {m : Monomial} {v : Visit} {left : List Visit} {base : Forest} (x : IsNameAhead m v left base) (y : Read) → plain (tree_at v.id base) ≡ symbol (name_of y.name) → value_of y.exponent ≡ one_fraction → BeginsWith (Some y) m
+pub name_begins : {m : Monomial} {v : Visit} {left : List Visit} {base : Forest} (x : IsNameAhead m v left base) (y : Read) → plain (tree_at v.id base) ≡ symbol (name_of y.name)
+    → value_of y.exponent ≡ one_fraction → BeginsWith (Some y) m
 name_begins x y e q = (
   x.factor,
   x.others,
@@ -257,7 +252,8 @@ name_begins x y e q = (
   },
 )
 
-pub power_begins : {m : Monomial} {v w : Visit} {left : List Visit} {base : Forest} (x : IsPowerPassed m v w left base) (y : Read) → plain (tree_at v.id base) ≡ symbol (name_of y.name) → plain (tree_at w.id base) ≡ num (value_of y.exponent) → BeginsWith (Some y) m
+pub power_begins : {m : Monomial} {v w : Visit} {left : List Visit} {base : Forest} (x : IsPowerPassed m v w left base) (y : Read) → plain (tree_at v.id base) ≡ symbol (name_of y.name)
+    → plain (tree_at w.id base) ≡ num (value_of y.exponent) → BeginsWith (Some y) m
 power_begins x y e q = (
   x.factor,
   x.others,

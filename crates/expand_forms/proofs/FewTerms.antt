@@ -1,6 +1,7 @@
 -- Polynomials with few terms: their sums and products, and the trees of them.
-use Rattle.std.proofs.Common.{◌≡◌, ℕ, ◌+◌, ◌*◌, ◌≤◌, List, [], ◌∷◌, ◌++◌, length, sym, ap, subst, arith}
-use Rattle.expand_forms.proofs.Shared.{length-append, mul-le, within_of, HasNoNewName, Tree, add, names, none, size, expanded, normal, sum_tree, term_trees, AreNamed, HasFewTerms, IsNamed, sum_bytes, AreMonomials, IsMonomial, Polynomial, product, polynomial_of, IsExpanded, IsSum}
+use Rattle.expand_forms.proofs.Shared.{◌≡◌, ℕ, ◌+◌, ◌*◌, ◌≤◌, List, [], ◌∷◌, ◌++◌, length, sym, ap, subst, arith, length-append, mul-le, within_of, HasNoNewName, Tree, add, names, none, size}
+use Rattle.expand_forms.proofs.Shared.{expanded, normal, sum_tree, term_trees, AreNamed, HasFewTerms, IsNamed, sum_bytes, AreMonomials, IsMonomial, Polynomial, product, polynomial_of, IsExpanded}
+use Rattle.expand_forms.proofs.Shared.{IsSum}
 use Rattle.expand_forms.proofs.AllMonomials.{AllHave, append_all, normal_all, product_all}
 use Rattle.expand_forms.proofs.Gathered.{gathered_few, gathered_normal}
 use Rattle.expand_forms.proofs.Joins.{sum_polynomial_is}

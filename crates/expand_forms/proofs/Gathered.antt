@@ -1,6 +1,6 @@
 -- Polynomials with some summands added up, and in another order: they have the same coefficients, and are no larger.
-use Rattle.std.proofs.Common.{◌≡◌, ℕ, ◌≤◌, ◌<◌, List, [], ◌∷◌, ◌++◌, length, sym, ◌∙◌, subst, arith, append_assoc}
-use Rattle.expand_forms.proofs.Shared.{length-append, Tree, normal, AreWhole, HaveExponents, IsHeld, mass, AreNamed, HasFewTerms, IsNamed, Polynomial, product, polynomial_of, AreSame, IsExpanded, IsSumOf}
+use Rattle.expand_forms.proofs.Shared.{◌≡◌, ℕ, ◌≤◌, ◌<◌, List, [], ◌∷◌, ◌++◌, length, sym, ◌∙◌, subst, arith, append_assoc, length-append, Tree, normal, AreWhole, HaveExponents, IsHeld, mass}
+use Rattle.expand_forms.proofs.Shared.{AreNamed, HasFewTerms, IsNamed, Polynomial, product, polynomial_of, AreSame, IsExpanded, IsSumOf}
 use Rattle.expand_forms.proofs.AllMonomials.{append_all, normal_all}
 use Rattle.expand_forms.proofs.Joins.{sum_polynomial_is}
 use Rattle.expand_forms.proofs.Masses.{exponents_append, exponents_left, exponents_normal, exponents_right, mass_append, normal_mass, normal_whole, whole_append, whole_left, whole_right}
@@ -70,7 +70,8 @@ pub gathered_normal : (v : Polynomial) → IsGathered v (normal v)
 gathered_normal v = grind (arith, same_normal, normal_whole, normal_mass, exponents_normal, are_named, normal_all, all_named, normal_length)
 
 pub gathered_sum : {v : Polynomial} {t : Tree} → IsSumOf v t → IsGathered v (polynomial_of t)
-gathered_sum {v} s = subst (IsGathered v) (sym (sum_polynomial_is s.sum ∙ one_normal s.sum.summands (normal v) s.sum.normal (normal_is v) (λ m. s.same.at m ∙ sym (normal_coefficient m v)))) (gathered_normal v)
+gathered_sum {v} s =
+    subst (IsGathered v) (sym (sum_polynomial_is s.sum ∙ one_normal s.sum.summands (normal v) s.sum.normal (normal_is v) (λ m. s.same.at m ∙ sym (normal_coefficient m v)))) (gathered_normal v)
 
 -- all of it cancels
 gathered_none : {v w : Polynomial} → w ≡ [] → AreSame w v → IsGathered v w

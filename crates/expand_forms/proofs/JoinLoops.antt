@@ -1,6 +1,8 @@
 -- Loops that join products of terms to a sum.
-use Rattle.std.proofs.Common.{◌≡◌, ◌<◌, ℕ, ◌+◌, List, [], ◌∷◌, ◌++◌, true, refl, sym, ap, ◌∙◌, subst, arith, append_assoc}
-use Rattle.expand_forms.proofs.Shared.{Tree, count, size, normal, term_trees, IsHeld, HasFewTerms, Polynomial, polynomial_of, IsExpanded, IsSum, IsSumOf, IsTerm, terms_in, State, free_of, replaced_free, gives_itself, kept_after, kept_same, IsExpression, nth, plain, Forest, Gives, IsHanded, KeepsFront, tree_of, holds, tree_at, without_root, KeepsRefusals, Stands, forest, behind_first, front_after_one, front_same, given_rest, given_told, gives_as}
+use Rattle.expand_forms.proofs.Shared.{◌≡◌, ◌<◌, ℕ, ◌+◌, List, [], ◌∷◌, ◌++◌, true, refl, sym, ap, ◌∙◌, subst, arith, append_assoc, Tree, count, size, normal, term_trees, IsHeld, HasFewTerms}
+use Rattle.expand_forms.proofs.Shared.{Polynomial, polynomial_of, IsExpanded, IsSum, IsSumOf, IsTerm, terms_in, State, free_of, replaced_free, gives_itself, kept_after, kept_same, IsExpression}
+use Rattle.expand_forms.proofs.Shared.{nth, plain, Forest, Gives, IsHanded, KeepsFront, tree_of, holds, tree_at, without_root, KeepsRefusals, Stands, forest, behind_first, front_after_one}
+use Rattle.expand_forms.proofs.Shared.{front_same, given_rest, given_told, gives_as}
 use Rattle.expand_forms.proofs.Gathered.{IsGathered, few_behind, gathered_append, gathered_few, gathered_held, gathered_is, gathered_refl, gathered_second, gathered_sum, gathered_trans}
 use Rattle.expand_forms.proofs.Joins.{IsNextSummand, next_summand, sum_polynomial_is}
 use Rattle.expand_forms.proofs.NormalForms.{normal_is}
@@ -23,7 +25,8 @@ pub record IsJoined (i : ℕ) (left whole : Polynomial) (old now : State) : Type
   pub kept : KeepsRefusals old now
   pub stands : Stands now
 
-pub joined_none : (i : ℕ) (left whole : Polynomial) (s : State) → Stands s → Gives (without_root i (forest s)) (forest s) i IsSum → IsGathered whole (left ++ polynomial_of (tree_of i s)) → IsJoined i left whole s s
+pub joined_none : (i : ℕ) (left whole : Polynomial) (s : State) → Stands s → Gives (without_root i (forest s)) (forest s) i IsSum → IsGathered whole (left ++ polynomial_of (tree_of i s))
+    → IsJoined i left whole s s
 joined_none i left whole s st g h = record {
   gives = gives_as (gives_itself g) refl (λ t e. record { sum = e.0; gathered = subst (λ (u : Tree). IsGathered whole (left ++ polynomial_of u)) (sym e.1) h });
   front = front_same;
@@ -42,7 +45,8 @@ module _ {i : ℕ} {left part rest whole : Polynomial} {old now : State} (j : Is
   part_next : IsGathered whole (rest ++ (part ++ polynomial_of (tree_of i now)))
   part_next =
       let u = polynomial_of (tree_of i now) in
-      gathered_trans (given_told j.gives).gathered (gathered_trans (gathered_append e.gathered (gathered_refl u)) (gathered_trans (gathered_is (append_assoc part rest u)) (gathered_second part rest u)))
+      gathered_trans (given_told j.gives).gathered (gathered_trans (gathered_append e.gathered (gathered_refl u))
+      (gathered_trans (gathered_is (append_assoc part rest u)) (gathered_second part rest u)))
 
   pub part_held : {h l : ℕ} → IsHeld whole h l → IsHeld (part ++ polynomial_of (tree_of i now)) h l
   part_held x = held_behind rest (part ++ polynomial_of (tree_of i now)) (gathered_held part_next x)
@@ -51,7 +55,8 @@ module _ {i : ℕ} {left part rest whole : Polynomial} {old now : State} (j : Is
   part_few x = few_behind rest (part ++ polynomial_of (tree_of i now)) (gathered_few part_next x)
 
   -- the part is joined
-  pub joined_more : {new : State} → Gives (without_root i (forest now)) (forest new) i (IsSumOf (part ++ polynomial_of (tree_of i now))) → KeepsFront (i ∷ []) (forest now) (forest new) → KeepsRefusals now new → Stands new → IsJoined i rest whole old new
+  pub joined_more : {new : State} → Gives (without_root i (forest now)) (forest new) i (IsSumOf (part ++ polynomial_of (tree_of i now))) → KeepsFront (i ∷ []) (forest now) (forest new)
+      → KeepsRefusals now new → Stands new → IsJoined i rest whole old new
   joined_more g f k st = record {
     gives = gives_as g (given_rest j.gives) (λ t h. record { sum = h.sum; gathered = gathered_trans part_next (gathered_append (gathered_refl rest) (gathered_sum h)) });
     front = front_after_one behind_first j.front f;
@@ -60,20 +65,24 @@ module _ {i : ℕ} {left part rest whole : Polynomial} {old now : State} (j : Is
   }
 
 pub joined_all : {i : ℕ} {left whole : Polynomial} {old now : State} → IsJoined i left whole old now → left ≡ [] → Gives (without_root i (forest old)) (forest now) i (IsSumOf whole)
-joined_all j e = gives_as j.gives refl (λ t h. record { sum = h.sum; same = same_trans (same_is (sym (sum_polynomial_is h.sum) ∙ ap (λ (v : Polynomial). v ++ polynomial_of t) (sym e))) h.gathered.same })
+joined_all j e =
+    gives_as j.gives refl (λ t h. record { sum = h.sum; same = same_trans (same_is (sym (sum_polynomial_is h.sum) ∙ ap (λ (v : Polynomial). v ++ polynomial_of t) (sym e))) h.gathered.same })
 
 -- it found too few bytes
-pub joined_lacks : {i : ℕ} {left whole : Polynomial} {old now : State} (n : ℕ) → IsJoined i left whole old now → Stands old → IsHanded i (forest old) → free_of now + size (tree_of i now) < n → free_of old + size (tree_of i old) < n
+pub joined_lacks : {i : ℕ} {left whole : Polynomial} {old now : State} (n : ℕ) → IsJoined i left whole old now → Stands old → IsHanded i (forest old) → free_of now + size (tree_of i now) < n
+    → free_of old + size (tree_of i old) < n
 joined_lacks n j st o few = omega (arith, replaced_free st j.stands j.kept o j.gives, few)
 
 -- ---- the next term
 
 -- how many terms are read
-pub terms_read : {g f : Forest} {i b n : ℕ} {P : Tree → Type 0} → Gives g f i P → IsExpression b g → IsExpanded (plain (tree_at b g)) → n ≡ count (terms_in (plain (tree_at b f))) → n ≡ count (term_trees (normal (polynomial_of (plain (tree_at b g)))))
+pub terms_read : {g f : Forest} {i b n : ℕ} {P : Tree → Type 0} → Gives g f i P → IsExpression b g → IsExpanded (plain (tree_at b g)) → n ≡ count (terms_in (plain (tree_at b f)))
+    → n ≡ count (term_trees (normal (polynomial_of (plain (tree_at b g)))))
 terms_read {g} {f} {i} {b} e h x k = k ∙ ap (λ (t : Tree). count (terms_in t)) (beside e h).same ∙ ap count (expanded_terms (plain (tree_at b g)) x)
 
 -- there is one, as there was in the beginning
-pub place_read : {g f old : Forest} {i b n end : ℕ} {P Q : Tree → Type 0} → Gives g f i P → Gives g old i Q → IsExpression b g → end ≡ count (terms_in (plain (tree_at b old))) → n < end → n < count (terms_in (plain (tree_at b f)))
+pub place_read : {g f old : Forest} {i b n end : ℕ} {P Q : Tree → Type 0} → Gives g f i P → Gives g old i Q → IsExpression b g → end ≡ count (terms_in (plain (tree_at b old))) → n < end
+    → n < count (terms_in (plain (tree_at b f)))
 place_read e o h k l = omega (arith, ap (λ (t : Tree). count (terms_in t)) (beside e h).same, ap (λ (t : Tree). count (terms_in t)) (beside o h).same, k, l)
 
 -- the term at a place of an expanded tree, beside a sum

@@ -1,6 +1,6 @@
 -- For how few bytes products of terms find no room in a sum.
-use Rattle.std.proofs.Common.{ℕ, ◌+◌, ◌<◌, ◌≤◌, List, ◌∷◌, length, arith}
-use Rattle.expand_forms.proofs.Shared.{size, HasFewTerms, sum_bytes, term_bytes, IsMonomial, Polynomial, Summand, polynomial_of, State, free_of, IsHanded, tree_of, Stands, forest, given_told}
+use Rattle.expand_forms.proofs.Shared.{ℕ, ◌+◌, ◌<◌, ◌≤◌, List, ◌∷◌, length, arith, size, HasFewTerms, sum_bytes, term_bytes, IsMonomial, Polynomial, Summand, polynomial_of, State, free_of}
+use Rattle.expand_forms.proofs.Shared.{IsHanded, tree_of, Stands, forest, given_told}
 use Rattle.expand_forms.proofs.FewTerms.{sum_most}
 use Rattle.expand_forms.proofs.JoinLoops.{IsJoined, joined_lacks}
 use Rattle.expand_forms.proofs.TermBytes.{terms_rise}

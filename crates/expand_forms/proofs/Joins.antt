@@ -1,7 +1,9 @@
 -- A product of terms that is joined to a sum.
-use Rattle.std.proofs.Common.{◌≡◌, ◌≢◌, ◌≤◌, ◌<◌, ℕ, zero, suc, ◌+◌, [], ◌∷◌, drop, Bool, true, false, refl, sym, ap, ◌∙◌, subst, arith}
-use Rattle.std.specs.Prelude.{if◌then◌else◌}
-use Rattle.expand_forms.proofs.Shared.{Equal, no_zero, zero_is, not_from_false, Fraction, is_zero_fraction, plus, zero_fraction, Tree, Trees, add, mult, none, more, count, factor_trees, term_tree, term_trees, IsMonomial, Monomial, Polynomial, Summand, monomial_times, summand, polynomial_of, IsPlace, IsSum, IsSumOf, with_term, HasMonomial, IsTerm, coefficient_in, term_cmp, removed, Forest, tree_at, State, IsExpression, children_of, inserted, nth, plain, Gives, root_tree, without_root, Stands, forest, given_handed, given_other, given_rest, given_root, given_same, given_told, gives_as, seen}
+use Rattle.expand_forms.proofs.Shared.{◌≡◌, ◌≢◌, ◌≤◌, ◌<◌, ℕ, zero, suc, ◌+◌, [], ◌∷◌, drop, Bool, true, false, refl, sym, ap, ◌∙◌, subst, arith, if◌then◌else◌, Equal, no_zero, zero_is}
+use Rattle.expand_forms.proofs.Shared.{not_from_false, Fraction, is_zero_fraction, plus, zero_fraction, Tree, Trees, add, mult, none, more, count, factor_trees, term_tree, term_trees, IsMonomial}
+use Rattle.expand_forms.proofs.Shared.{Monomial, Polynomial, Summand, monomial_times, summand, polynomial_of, IsPlace, IsSum, IsSumOf, with_term, HasMonomial, IsTerm, coefficient_in, term_cmp}
+use Rattle.expand_forms.proofs.Shared.{removed, Forest, tree_at, State, IsExpression, children_of, inserted, nth, plain, Gives, root_tree, without_root, Stands, forest, given_handed, given_other}
+use Rattle.expand_forms.proofs.Shared.{given_rest, given_root, given_same, given_told, gives_as, seen}
 use Rattle.expand_forms.proofs.MonomialTrees.{equal_is}
 use Rattle.expand_forms.proofs.SameCoefficients.{same_is, same_trans}
 use Rattle.expand_forms.proofs.SumPlaces.{IsAt, IsFound, drop_at, drop_monomials, drop_normal, drop_trees, found, put_at, put_monomials, put_normal, put_same, put_trees, set_at, set_monomials, set_normal, term_order}
@@ -48,7 +50,8 @@ joined_same {t} {u} s z n q l same sum e =
     by (is_zero_fraction q) refl e x one f total whole
   where
     by : (b : Bool) → is_zero_fraction q ≡ b → u ≡ add (if b then removed n (children_of t) else inserted n (more (term_tree (summand q z.monomial)) none) (removed n (children_of t)))
-        → (x : Summand) → x.monomial ≡ z.monomial → IsFound n x.coefficient x.monomial s.summands → q ≡ plus x.coefficient z.coefficient → summand z.coefficient x.monomial ∷ s.summands ≡ z ∷ polynomial_of t → IsSumOf (z ∷ polynomial_of t) u
+        → (x : Summand) → x.monomial ≡ z.monomial → IsFound n x.coefficient x.monomial s.summands → q ≡ plus x.coefficient z.coefficient
+        → summand z.coefficient x.monomial ∷ s.summands ≡ z ∷ polynomial_of t → IsSumOf (z ∷ polynomial_of t) u
     by true z0 d x one f total whole = record {
       sum = record {
         summands = drop_at n s.summands;
@@ -98,7 +101,8 @@ no_summands (suc n) (s ∷ v) l = no_summands n v (omega arith)
 -- ---- a sum, and a tree that was placed behind it
 
 -- what they are read as
-pub sum_read : {i j : ℕ} {g : Forest} (s s1 : State) {h : ℕ} {P : Tree → Type 0} → Gives g (forest s) i IsSum → Gives (forest s) (forest s1) h P → Stands s1 → j ≡ i → plain (tree_at j (forest s1)) ≡ plain (root_tree i (forest s))
+pub sum_read : {i j : ℕ} {g : Forest} (s s1 : State) {h : ℕ} {P : Tree → Type 0} → Gives g (forest s) i IsSum → Gives (forest s) (forest s1) h P → Stands s1 → j ≡ i
+    → plain (tree_at j (forest s1)) ≡ plain (root_tree i (forest s))
 sum_read {i} {j} {g} s s1 e p st k = seen k st (given_other p (given_handed e)) ∙ ap plain (given_same i p (given_root e))
 
 pub term_read : {h j : ℕ} {f : Forest} (s1 : State) {P : Tree → Type 0} → Gives f (forest s1) h P → Stands s1 → j ≡ h → plain (tree_at j (forest s1)) ≡ plain (root_tree h (forest s1))
@@ -111,8 +115,10 @@ pub placed_behind : {i h s t : ℕ} {g f f1 : Forest} → Gives g f i IsSum → 
 placed_behind e x y p m n hm hn = p m n (subst (HasMonomial m) (sym (beside e x).same) hm) (subst (HasMonomial n) (sym (beside e y).same) hn)
 
 -- it is put in as a new term
-pub put_in : {i h : ℕ} {g f f1 f2 : Forest} (z : Summand) (at : ℕ) (e : Gives g f i IsSum) (r : Gives f f1 h (λ u. u ≡ term_tree z)) → z.coefficient ≢ zero_fraction → IsMonomial z.monomial → IsPlace at (term_tree z) (children_of (plain (root_tree i f)))
-    → Gives (without_root i (without_root h f1)) f2 i (λ u. u ≡ add (inserted at (more (plain (root_tree h f1)) none) (children_of (plain (root_tree i f1))))) → Gives g f2 i (IsSumOf (z ∷ polynomial_of (plain (root_tree i f))))
+pub put_in : {i h : ℕ} {g f f1 f2 : Forest} (z : Summand) (at : ℕ) (e : Gives g f i IsSum) (r : Gives f f1 h (λ u. u ≡ term_tree z)) → z.coefficient ≢ zero_fraction → IsMonomial z.monomial
+    → IsPlace at (term_tree z) (children_of (plain (root_tree i f)))
+    → Gives (without_root i (without_root h f1)) f2 i (λ u. u ≡ add (inserted at (more (plain (root_tree h f1)) none) (children_of (plain (root_tree i f1)))))
+    → Gives g f2 i (IsSumOf (z ∷ polynomial_of (plain (root_tree i f))))
 put_in {i} z at e r nonzero monomial place new =
     gives_as new (ap (without_root i) (given_rest r) ∙ given_rest e)
     (λ u k. joined_apart (given_told e) z at nonzero monomial place (k ∙ (λ j. add (inserted at (more (given_told r j) none) (children_of (plain (given_same i r (given_root e) j)))))))
@@ -129,5 +135,6 @@ has_monomial {m} q h = record { monomial = h; factors = term_factors (summand q 
 -- a term has the coefficient of both
 pub set_in : {i h : ℕ} {g f f1 f2 : Forest} {P : Tree → Type 0} (z : Summand) (at : ℕ) (q : Fraction) (e : Gives g f i IsSum) (p : Gives f f1 h P) → at < count (children_of (plain (root_tree i f)))
     → term_cmp (nth at (children_of (plain (root_tree i f)))) (term_tree z) ≡ Equal → q ≡ plus (coefficient_in (nth at (children_of (plain (root_tree i f))))) z.coefficient
-    → Gives (without_root i (without_root h f1)) f2 i (λ u. u ≡ add (with_term at (summand q z.monomial) (children_of (plain (root_tree i f1))))) → Gives g f2 i (IsSumOf (z ∷ polynomial_of (plain (root_tree i f))))
+    → Gives (without_root i (without_root h f1)) f2 i (λ u. u ≡ add (with_term at (summand q z.monomial) (children_of (plain (root_tree i f1)))))
+    → Gives g f2 i (IsSumOf (z ∷ polynomial_of (plain (root_tree i f))))
 set_in z at q e p l h k m = grind (arith, gives_as, given_rest, joined_same, given_told, given_same, given_root)

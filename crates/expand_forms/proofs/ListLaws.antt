@@ -1,14 +1,11 @@
 -- Lists of terms are those of the sums, multiples, products and powers of the polynomials whose lists they were made from.
-use Rattle.std.proofs.Common.{ℕ, ◌≤◌, List, [], ◌++◌, length, refl}
+use Rattle.expand_forms.proofs.Shared.{ℕ, ◌≤◌, List, [], ◌++◌, length, refl, Fraction, AreSame, Polynomial, product, raised, scaled, AreNames, IsListOf, IsWithin, AreTermsOf, Term}
 use Rattle.expand_forms.proofs.ChildExpansions.{raised_same}
 use Rattle.expand_forms.proofs.NamedPolynomials.{named_append, named_product, named_raised, named_same, named_scaled, names_append, names_product, names_raised, names_scaled, terms_wide}
 use Rattle.expand_forms.proofs.SameCoefficients.{product_both, same_append, same_is, same_refl, same_trans, scaled_same}
-use Rattle.expand_forms.proofs.Shared.{Fraction, AreSame, Polynomial, product, raised, scaled}
-use Rattle.expand_forms.specs.Named.{AreNames, IsListOf, IsWithin}
 use Rattle.polynomials.proofs.Worth.{product_both as product_values, raised_same as raised_values, same_append as append_values, same_is as values_is, same_trans as values_trans, scaled_same as scaled_values}
 use Rattle.polynomials.specs.Polynomials.{Polynomial as Packed, AreSame as AreSameValues, product as packed_product, raised as packed_raised, scaled as packed_scaled}
-use Rattle.polynomials.specs.Terms.{AreTermsOf, polynomial_of}
-use Rattle.polynomials.specs.declared.term.Term.{Term}
+use Rattle.polynomials.specs.Terms.{polynomial_of}
 
 -- ---- the exponents of the names
 
@@ -49,7 +46,8 @@ list_sum {ns} {a} {b} q h k t = record {
       (same_append h.same (same_trans (same_is (named_scaled ns q (polynomial_of b))) (scaled_same q k.same))));
 }
 
-pub list_product : {ns : List (List ℕ)} {a b c : List Term} {v w : Polynomial} → IsListOf ns a v → IsListOf ns b w → AreTermsOf (packed_product (polynomial_of a) (polynomial_of b)) c → IsListOf ns c (product v w)
+pub list_product : {ns : List (List ℕ)} {a b c : List Term} {v w : Polynomial} → IsListOf ns a v → IsListOf ns b w → AreTermsOf (packed_product (polynomial_of a) (polynomial_of b)) c
+    → IsListOf ns c (product v w)
 list_product {ns} {a} {b} h k t = record {
   names = h.names;
   few = h.few;

@@ -1,6 +1,6 @@
 -- Products of monomials and of polynomials: their order and their brackets.
-use Rattle.std.proofs.Common.{◌≡◌, ℕ, suc, ◌+◌, List, [], ◌∷◌, refl, sym, ap, ◌∙◌, arith, subst}
-use Rattle.expand_forms.proofs.Shared.{Ordering, Less, Equal, Greater, nat_cmp, ordering_reverse, nat_list_cmp_total, slice_cmp, tree_cmp_same, symbol, Factor, IsBelowAll, IsMonomial, Monomial, factor, monomial_times, with_factor}
+use Rattle.expand_forms.proofs.Shared.{◌≡◌, ℕ, suc, ◌+◌, List, [], ◌∷◌, refl, sym, ap, ◌∙◌, arith, subst, Ordering, Less, Equal, Greater, nat_cmp, ordering_reverse, nat_list_cmp_total, slice_cmp}
+use Rattle.expand_forms.proofs.Shared.{tree_cmp_same, symbol, Factor, IsBelowAll, IsMonomial, Monomial, factor, monomial_times, with_factor}
 use Rattle.expand_forms.proofs.TreeMonomials.{below_more, below_with, names_turned}
 use Rattle.expand_forms.proofs.ValueLaws.{names_equal}
 
@@ -37,7 +37,8 @@ with_same x a b (h ∷ m) = by (slice_cmp nat_cmp x h.name) refl (with_same x a 
     g : Factor
     g = factor x b
 
-    by : (o : Ordering) → slice_cmp nat_cmp x h.name ≡ o → with_factor f (with_factor g m) ≡ with_factor (factor x (a + b)) m → with_factor f (with_factor g (h ∷ m)) ≡ with_factor (factor x (a + b)) (h ∷ m)
+    by : (o : Ordering) → slice_cmp nat_cmp x h.name ≡ o → with_factor f (with_factor g m) ≡ with_factor (factor x (a + b)) m
+        → with_factor f (with_factor g (h ∷ m)) ≡ with_factor (factor x (a + b)) (h ∷ m)
     by Less e go = ap (with_factor f) (with_less g h m e) ∙ with_equal f g (h ∷ m) (names_same x x refl) ∙ sym (with_less (factor x (a + b)) h m e)
     by Equal e go =
         let s : a + (b + h.exponent) ≡ (a + b) + h.exponent = omega arith in
@@ -68,7 +69,8 @@ with_turned_less f g (h ∷ m) l = by (slice_cmp nat_cmp g.name h.name) refl (wi
         ap (with_factor f) (with_greater g h m e) ∙ with_greater f h (with_factor g m) k ∙ ap (λ (x : Monomial). h ∷ x) go
         ∙ sym (ap (with_factor g) (with_greater f h m k) ∙ with_greater g h (with_factor f m) e)
 
-    by : (o : Ordering) → slice_cmp nat_cmp g.name h.name ≡ o → with_factor f (with_factor g m) ≡ with_factor g (with_factor f m) → with_factor f (with_factor g (h ∷ m)) ≡ with_factor g (with_factor f (h ∷ m))
+    by : (o : Ordering) → slice_cmp nat_cmp g.name h.name ≡ o → with_factor f (with_factor g m) ≡ with_factor g (with_factor f m)
+        → with_factor f (with_factor g (h ∷ m)) ≡ with_factor g (with_factor f (h ∷ m))
     by Less e go =
         let k = names_chain f.name g.name h.name l e in
         ap (with_factor f) (with_less g h m e) ∙ with_less f g (h ∷ m) l ∙ sym (after k ∙ ap (λ (x : Monomial). f ∷ x) (with_less g h m e))
@@ -111,10 +113,12 @@ right_first g (f ∷ m) n h = ap (with_factor f) (right_first g m n h.1) ∙ wit
 pub left_first : (f g : Factor) (m n : Monomial) → IsMonomial (f ∷ m) → IsMonomial (g ∷ n) → slice_cmp nat_cmp f.name g.name ≡ Less → monomial_times (f ∷ m) (g ∷ n) ≡ f ∷ monomial_times m (g ∷ n)
 left_first f g m n h k l = put_first f (monomial_times m (g ∷ n)) (below_times f.name m (g ∷ n) h.1 (l, below_more f.name g.name n l k.1))
 
-pub right_is_first : (f g : Factor) (m n : Monomial) → IsMonomial (f ∷ m) → IsMonomial (g ∷ n) → slice_cmp nat_cmp f.name g.name ≡ Greater → monomial_times (f ∷ m) (g ∷ n) ≡ g ∷ monomial_times (f ∷ m) n
+pub right_is_first : (f g : Factor) (m n : Monomial) → IsMonomial (f ∷ m) → IsMonomial (g ∷ n) → slice_cmp nat_cmp f.name g.name ≡ Greater
+    → monomial_times (f ∷ m) (g ∷ n) ≡ g ∷ monomial_times (f ∷ m) n
 right_is_first f g m n h k e = grind (arith, names_turned, right_first, below_more)
 
-pub both_first : (f g : Factor) (m n : Monomial) → IsMonomial (f ∷ m) → IsMonomial (g ∷ n) → slice_cmp nat_cmp f.name g.name ≡ Equal → monomial_times (f ∷ m) (g ∷ n) ≡ factor f.name (f.exponent + g.exponent) ∷ monomial_times m n
+pub both_first : (f g : Factor) (m n : Monomial) → IsMonomial (f ∷ m) → IsMonomial (g ∷ n) → slice_cmp nat_cmp f.name g.name ≡ Equal
+    → monomial_times (f ∷ m) (g ∷ n) ≡ factor f.name (f.exponent + g.exponent) ∷ monomial_times m n
 both_first f g m n h k e =
     let below : IsBelowAll g.name m = subst (λ (x : List ℕ). IsBelowAll x m) (names_equal f.name g.name e) h.1 in
     ap (with_factor f) (right_first g m n below) ∙ with_equal f g (monomial_times m n) e

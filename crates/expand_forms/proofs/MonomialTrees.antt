@@ -1,7 +1,8 @@
 -- Monomials are one where their trees are.
-use Rattle.std.proofs.Common.{arith, ◌≡◌, ℕ, List, pos, [], ◌∷◌, Bool, true, false, refl, sym, ap, ◌∙◌}
-use Rattle.std.specs.Prelude.{◌==◌, ◌&&◌}
-use Rattle.expand_forms.proofs.Shared.{bytes_eq, and_from, and_parts, eq-eqb, eqb-true, false_from_ne_true, bytes_eq-Decides, Less, Equal, Greater, ordering_reverse, whole_one, tree_chain, tree_cmp_equal, tree_cmp_same, tree_cmp_turned, Fraction, zero_fraction, Tree, num, symbol, undef, mult, Trees, none, more, is_mult, is_num, whole_num, Factor, Monomial, factor, is_same_monomial, factor_tree, factor_trees, monomial_cmp, monomial_tree}
+use Rattle.expand_forms.proofs.Shared.{arith, ◌≡◌, ℕ, List, pos, [], ◌∷◌, Bool, true, false, refl, sym, ap, ◌∙◌, ◌==◌, ◌&&◌, bytes_eq, and_from, and_parts, eq-eqb, eqb-true, false_from_ne_true}
+use Rattle.expand_forms.proofs.Shared.{bytes_eq-Decides, Less, Equal, Greater, ordering_reverse, whole_one, tree_chain, tree_cmp_equal, tree_cmp_same, tree_cmp_turned, Fraction, zero_fraction}
+use Rattle.expand_forms.proofs.Shared.{Tree, num, symbol, undef, mult, Trees, none, more, is_mult, is_num, whole_num, Factor, Monomial, factor, is_same_monomial, factor_tree, factor_trees}
+use Rattle.expand_forms.proofs.Shared.{monomial_cmp, monomial_tree}
 
 -- ---- parts of trees
 

@@ -1,15 +1,11 @@
 -- Lists of rising names.
-use Rattle.std.proofs.Common.{◌≡◌, ◌⊎◌, ◌≤◌, ◌<◌, ℕ, zero, suc, List, [], ◌∷◌, ◌++◌, length, get_or, take, drop, inl, inr, Bool, true, false, refl, sym, ap, ◌∙◌, subst, arith}
-use Rattle.std.specs.Prelude.{Contains, ◌==◌, insert, not}
-use Rattle.calc_terms.specs.Leaf.{name_of}
-use Rattle.calc_terms.specs.Name.{before_zero}
-use Rattle.calc_terms.specs.declared.name.Name.{Name}
-use Rattle.expand_forms.proofs.Shared.{bytes_eq, bytes_eq-Decides, Ordering, Less, Equal, Greater, ordering_index, nat_cmp, nat_list_cmp_total, slice_cmp, symbol, tree_cmp_same, IsBelowAll, IsNamed, Monomial}
+use Rattle.expand_forms.proofs.Shared.{◌≡◌, ◌⊎◌, ◌≤◌, ◌<◌, ℕ, zero, suc, List, [], ◌∷◌, ◌++◌, length, get_or, take, drop, inl, inr, Bool, true, false, refl, sym, ap, ◌∙◌, subst, arith, Contains}
+use Rattle.expand_forms.proofs.Shared.{◌==◌, insert, not, name_of, before_zero, Name, bytes_eq, bytes_eq-Decides, Ordering, Less, Equal, Greater, ordering_index, nat_cmp, nat_list_cmp_total}
+use Rattle.expand_forms.proofs.Shared.{slice_cmp, symbol, tree_cmp_same, IsBelowAll, IsNamed, Monomial, AreNames, AreNamesBelow, IsBelowNames, StartNamesFrom, HasName}
 use Rattle.expand_forms.proofs.FactorOrders.{one_name}
 use Rattle.expand_forms.proofs.TreeMonomials.{names_turned}
 use Rattle.expand_forms.proofs.ValueLaws.{names_equal}
-use Rattle.expand_forms.specs.Named.{AreNames, AreNamesBelow, IsBelowNames, StartNamesFrom, names_of}
-use Rattle.expand_forms.specs.Reading.{HasName}
+use Rattle.expand_forms.specs.Named.{names_of}
 
 -- ---- lists
 
@@ -104,7 +100,8 @@ module _ (xs : List Name) (n : ℕ) (t : Name) (zs : List Name) (l : n ≤ lengt
   whole : names_of (take n xs) ++ names_of (drop n xs) ≡ names_of xs
   whole = sym (names_append (take n xs) (drop n xs)) ∙ ap names_of (parted_is xs n)
 
-  pub insert_names : AreNames (names_of xs) → AreNamesBelow (name_of t) (names_of (take n xs)) → StartNamesFrom (name_of t) (names_of (drop n xs)) → (HasName (name_of t) (names_of xs) → ⊥) → AreNames (names_of zs)
+  pub insert_names : AreNames (names_of xs) → AreNamesBelow (name_of t) (names_of (take n xs)) → StartNamesFrom (name_of t) (names_of (drop n xs)) → (HasName (name_of t) (names_of xs) → ⊥)
+      → AreNames (names_of zs)
   insert_names h b s o =
       let k : AreNames (names_of (take n xs) ++ names_of (drop n xs)) = subst AreNames (sym whole) h in
       subst AreNames (sym split)

@@ -1,12 +1,10 @@
 -- Monomials of names, from packed ones: products, and which are one.
-use Rattle.std.proofs.Common.{◌≡◌, ℕ, zero, suc, ◌+◌, List, [], ◌∷◌, ◌++◌, length, replicate, refl, sym, ap, ◌∙◌, subst, arith}
-use Rattle.std.specs.Prelude.{reverse}
-use Rattle.std.proofs.lemmas.List.{length-reverse, reverse-append}
-use Rattle.expand_forms.proofs.Shared.{symbol, tree_cmp_same, IsBelowAll, IsMonomial, Monomial, factor, monomial_times}
+use Rattle.expand_forms.proofs.Shared.{◌≡◌, ℕ, zero, suc, ◌+◌, List, [], ◌∷◌, ◌++◌, length, replicate, refl, sym, ap, ◌∙◌, subst, arith, reverse, length-reverse, reverse-append, symbol}
+use Rattle.expand_forms.proofs.Shared.{tree_cmp_same, IsBelowAll, IsMonomial, Monomial, factor, monomial_times, AreNames, AreOf, AreZero, IsBelowNames, IsOfNames, factors_of, led, monomial_of}
+use Rattle.expand_forms.proofs.Shared.{one_monomial}
 use Rattle.expand_forms.proofs.MonomialProducts.{below_times, both_first, put_first, right_first}
-use Rattle.expand_forms.specs.Named.{AreNames, AreOf, AreZero, IsBelowNames, IsOfNames, factors_of, led, named}
-use Rattle.polynomials.specs.Packed.{monomial_of}
-use Rattle.polynomials.specs.Polynomials.{Monomial as Exponents, monomial_times as exponents_times, one_monomial}
+use Rattle.expand_forms.specs.Named.{named}
+use Rattle.polynomials.specs.Polynomials.{Monomial as Exponents, monomial_times as exponents_times}
 
 -- ---- they are monomials
 
@@ -27,7 +25,8 @@ factors_monomial (x ∷ ns) (suc e ∷ es) h = (omega arith, below_factors x ns 
 led_times : (x : List ℕ) (a b : ℕ) (m n : Monomial) → IsBelowAll x m → IsBelowAll x n → IsMonomial m → IsMonomial n → monomial_times (led x a m) (led x b n) ≡ led x (a + b) (monomial_times m n)
 led_times x zero zero m n h k p q = let e : 0 ≡ 0 + 0 = omega arith in ap (λ (j : ℕ). led x j (monomial_times m n)) e
 led_times x zero (suc b) m n h k p q = let e : suc b ≡ 0 + suc b = omega arith in right_first (factor x (suc b)) m n h ∙ ap (λ (j : ℕ). led x j (monomial_times m n)) e
-led_times x (suc a) zero m n h k p q = let e : suc a ≡ suc a + 0 = omega arith in put_first (factor x (suc a)) (monomial_times m n) (below_times x m n h k) ∙ ap (λ (j : ℕ). led x j (monomial_times m n)) e
+led_times x (suc a) zero m n h k p q = let e : suc a ≡ suc a + 0 = omega arith in put_first (factor x (suc a)) (monomial_times m n) (below_times x m n h k)
+    ∙ ap (λ (j : ℕ). led x j (monomial_times m n)) e
 led_times x (suc a) (suc b) m n h k p q =
     let e : suc a + suc b ≡ suc (a + suc b) = omega arith in
     both_first (factor x (suc a)) (factor x (suc b)) m n (omega arith, h, p) (omega arith, k, q) (tree_cmp_same (symbol x) (symbol x) refl)

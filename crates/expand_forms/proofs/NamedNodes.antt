@@ -1,22 +1,13 @@
 -- The names of a tree, node by node, and how many there are.
-use Rattle.std.proofs.Common.{◌≡◌, ◌⊎◌, ◌<◌, ℕ, suc, List, [], ◌∷◌, ◌++◌, length, inl, inr, Bool, true, false, refl, sym, ap, ◌∙◌, subst, arith, append-nil, append_assoc}
-use Rattle.std.specs.Prelude.{◌==◌, if◌then◌else◌}
-use Rattle.calc_terms.specs.Payload.{Payload, kind_of_payload, rational, named, bare}
-use Rattle.calc_terms.specs.declared.kind.Kind.{Kind}
-use Rattle.calc_terms.specs.declared.kind.Kind.TheVariants as kind
+use Rattle.expand_forms.proofs.Shared.{◌≡◌, ◌⊎◌, ◌<◌, ℕ, suc, List, [], ◌∷◌, ◌++◌, length, inl, inr, Bool, true, false, refl, sym, ap, ◌∙◌, subst, arith, append-nil, append_assoc, ◌==◌}
+use Rattle.expand_forms.proofs.Shared.{if◌then◌else◌, Payload, kind_of_payload, rational, named, bare, Kind, Within, Less, Equal, tree_cmp_same, false_from_ne_true, count_distinct, is_among}
+use Rattle.expand_forms.proofs.Shared.{names, names_of, Trees, more, none, count, symbol, is_symbol, nth, grown, compound, plain, takes, takes_kind, IsExpression, AllExpressions, alone, Forest}
+use Rattle.expand_forms.proofs.Shared.{empty, tree, join, holds, tree_at, arity, AreNames, HasName, IsUnlistedBy, Unlisted, Names, Exponents, Terms, one_at, count-plains, found-join, no_visit}
+use Rattle.expand_forms.proofs.Shared.{visit_here, visits_left, plains, visits_of, AreFound, Visit}
 use Rattle.expand_forms.proofs.NameLists.{below_has, contained_has, has_contained}
-use Rattle.expand_forms.proofs.Shared.{Within, Less, Equal, tree_cmp_same, false_from_ne_true, count_distinct, is_among, names, names_of, Trees, more, none, count, symbol, is_symbol, nth, grown, compound, plain, takes, takes_kind, IsExpression, AllExpressions, alone, Forest, empty, tree, join, holds, tree_at, arity}
 use Rattle.expand_forms.proofs.Widths.{among_contained, names_rise}
-use Rattle.expand_forms.specs.Named.{AreNames}
-use Rattle.expand_forms.specs.Reading.{HasName, IsUnlistedBy}
-use Rattle.expand_forms.specs.declared.unlisted.Unlisted.{Unlisted}
-use Rattle.expand_forms.specs.declared.unlisted.Unlisted.TheVariants.{Names, Exponents, Terms}
-use Rattle.tree_handles.proofs.Measures.{one_at}
-use Rattle.tree_handles.proofs.Plains.{count-plains}
-use Rattle.tree_handles.proofs.Visiting.{found-join, no_visit, seen, visit_here, visits_left}
-use Rattle.tree_handles.specs.Expressions.{plains}
-use Rattle.tree_handles.specs.Visits.{visits_of, AreFound}
-use Rattle.tree_handles.specs.declared.visits.Visit.{Visit}
+use Rattle.tree_handles.proofs.Visiting.{seen}
+use Rattle.calc_terms.specs.declared.kind.Kind.TheVariants as kind
 
 -- ---- names in two lists
 
@@ -115,7 +106,8 @@ next_node {ns} {total} {v} {xs} {left} {base} w e = by w.trees (sym w.left-are �
         let own : names (grown l.payload (plains k)) ≡ own_names l.payload ++ names_of (plains k) = node_names l.payload (plains k) (ap (takes l.payload) (count-plains k) ∙ h.0) in
         let behind : names_of (plains (join k r)) ≡ names_of (plains k) ++ names_of (plains r) = joined k r in
         let parts : names_of (plains (tree l k r)) ≡ own_names l.payload ++ names_of (plains (join k r)) =
-        ap (λ (ys : List (List ℕ)). ys ++ names_of (plains r)) own ∙ append_assoc (own_names l.payload) (names_of (plains k)) (names_of (plains r)) ∙ ap (λ (ys : List (List ℕ)). own_names l.payload ++ ys) (sym behind) in
+        ap (λ (ys : List (List ℕ)). ys ++ names_of (plains r)) own ∙ append_assoc (own_names l.payload) (names_of (plains k)) (names_of (plains r))
+        ∙ ap (λ (ys : List (List ℕ)). own_names l.payload ++ ys) (sym behind) in
         record {
           live = s.live;
           symbol-is = λ z. let (y, p) = name_alone l.payload (arity k) h.0 (sym kind-is ∙ z) in ap is_symbol (t-is ∙ ap (λ (x : Payload). grown x (plains k)) p);
@@ -138,7 +130,8 @@ next_node {ns} {total} {v} {xs} {left} {base} w e = by w.trees (sym w.left-are �
                 ahead = λ u m. ahead u (subst (HasName u) (sym first) (inr m));
               };
           without = λ z.
-              let rest : names_of (plains (tree l k r)) ≡ names_of (plains (join k r)) = parts ∙ ap (λ (ys : List (List ℕ)). ys ++ names_of (plains (join k r))) (other_own l.payload (λ y. z (kind-is ∙ y))) in
+              let rest : names_of (plains (tree l k r)) ≡ names_of (plains (join k r)) =
+              parts ∙ ap (λ (ys : List (List ℕ)). ys ++ names_of (plains (join k r))) (other_own l.payload (λ y. z (kind-is ∙ y))) in
               record {
                 trees = join k r;
                 left-are = visits_left l k r q;
@@ -152,7 +145,8 @@ next_node {ns} {total} {v} {xs} {left} {base} w e = by w.trees (sym w.left-are �
       where
         joined : (f g : Forest) → names_of (plains (join f g)) ≡ names_of (plains f) ++ names_of (plains g)
         joined empty g = refl
-        joined (tree a b c) g = ap (λ (ys : List (List ℕ)). names (grown a.payload (plains b)) ++ ys) (joined c g) ∙ sym (append_assoc (names (grown a.payload (plains b))) (names_of (plains c)) (names_of (plains g)))
+        joined (tree a b c) g = ap (λ (ys : List (List ℕ)). names (grown a.payload (plains b)) ++ ys) (joined c g)
+            ∙ sym (append_assoc (names (grown a.payload (plains b))) (names_of (plains c)) (names_of (plains g)))
 
         all_join : (f g : Forest) → AllExpressions f → AllExpressions g → AllExpressions (join f g)
         all_join empty g a b = b

@@ -1,8 +1,9 @@
 -- The names of polynomials, and of expanded trees.
-use Rattle.std.proofs.Common.{ℕ, ◌+◌, List, [], ◌∷◌, Bool, true, false, arith}
-use Rattle.std.specs.Prelude.{Contains, if◌then◌else◌}
-use Rattle.expand_forms.proofs.Shared.{Ordering, Less, Equal, Greater, nat_cmp, slice_cmp, Within, no_new_name, within_both, within_left, within_none, within_right, within_same, within_trans, product_tree, HasNoNewName, inverse, is_one_fraction, minus_one_fraction, Tree, num, symbol, undef, add, mult, power, root, neg, sub, div, Trees, none, more, names, names_of, expanded, factor_tree, factor_trees, monomial_tree, normal, sum_tree, term_tree, term_trees, AreNamed, IsNamed, Factor, Monomial, Polynomial, Summand, factor, monomial_times, scaled, with_factor, divisor_of, exponent_of, polynomial_of, product_of, sum_of}
-use Rattle.std.proofs.lemmas.List.Elements.{Contains-push}
+use Rattle.expand_forms.proofs.Shared.{ℕ, ◌+◌, List, [], ◌∷◌, Bool, true, false, arith, Contains, if◌then◌else◌, Ordering, Less, Equal, Greater, nat_cmp, slice_cmp, Within, no_new_name}
+use Rattle.expand_forms.proofs.Shared.{within_both, within_left, within_none, within_right, within_same, within_trans, product_tree, HasNoNewName, inverse, is_one_fraction, minus_one_fraction}
+use Rattle.expand_forms.proofs.Shared.{Tree, num, symbol, undef, add, mult, power, root, neg, sub, div, Trees, none, more, names, names_of, expanded, factor_tree, factor_trees, monomial_tree}
+use Rattle.expand_forms.proofs.Shared.{normal, sum_tree, term_tree, term_trees, AreNamed, IsNamed, Factor, Monomial, Polynomial, Summand, factor, monomial_times, scaled, with_factor, divisor_of}
+use Rattle.expand_forms.proofs.Shared.{exponent_of, polynomial_of, product_of, sum_of, Contains-push}
 use Rattle.expand_forms.proofs.AllMonomials.{AllHave, IsClosed, append_all, normal_all, product_all, raised_all, scaled_all}
 
 -- ---- monomials
@@ -52,12 +53,14 @@ mutual
   pub sum_named : (ns : List (List ℕ)) (ts : Trees) → Within ns (names_of ts) → AllHave (IsNamed ns) (sum_of ts)
   sum_named ns none h = tt
   sum_named ns (more t ts) h =
-      append_all (IsNamed ns) (polynomial_of t) (sum_of ts) (tree_named ns t (within_trans h (within_left (names t) (names_of ts)))) (sum_named ns ts (within_trans h (within_right (names t) (names_of ts))))
+      append_all (IsNamed ns) (polynomial_of t) (sum_of ts) (tree_named ns t (within_trans h (within_left (names t) (names_of ts))))
+      (sum_named ns ts (within_trans h (within_right (names t) (names_of ts))))
 
   pub product_named : (ns : List (List ℕ)) (ts : Trees) → Within ns (names_of ts) → AllHave (IsNamed ns) (product_of ts)
   product_named ns none h = (tt, tt)
   product_named ns (more t ts) h =
-      product_all (IsNamed ns) (named_closed ns) (polynomial_of t) (product_of ts) (tree_named ns t (within_trans h (within_left (names t) (names_of ts)))) (product_named ns ts (within_trans h (within_right (names t) (names_of ts))))
+      product_all (IsNamed ns) (named_closed ns) (polynomial_of t) (product_of ts) (tree_named ns t (within_trans h (within_left (names t) (names_of ts))))
+      (product_named ns ts (within_trans h (within_right (names t) (names_of ts))))
 
 -- ---- trees of polynomials
 

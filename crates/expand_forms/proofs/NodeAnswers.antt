@@ -1,6 +1,6 @@
 -- What the answer of a node is: opposites, and products from the last factor on.
-use Rattle.std.proofs.Common.{◌≡◌, ◌<◌, ◌≤◌, ℕ, negsuc, zero, suc, ◌+◌, true, refl, sym, ap, ◌∙◌, arith}
-use Rattle.expand_forms.proofs.Shared.{Rat, ratio_of, value_of, Ratio, whole, lowest, minus_one_fraction, one_fraction, Tree, Trees, num, mult, none, more, count, is_mult, expanded, constant, product, polynomial_of, product_of, IsExpanded, children_of, nth}
+use Rattle.expand_forms.proofs.Shared.{◌≡◌, ◌<◌, ◌≤◌, ℕ, negsuc, zero, suc, ◌+◌, true, refl, sym, ap, ◌∙◌, arith, Rat, ratio_of, value_of, Ratio, whole, lowest, minus_one_fraction, one_fraction}
+use Rattle.expand_forms.proofs.Shared.{Tree, Trees, num, mult, none, more, count, is_mult, expanded, constant, product, polynomial_of, product_of, IsExpanded, children_of, nth}
 use Rattle.expand_forms.proofs.Expansions.{constant_expanded, expanded_same, is_expanded, same_polynomial}
 use Rattle.expand_forms.proofs.Nodes.{from}
 use Rattle.expand_forms.proofs.SameCoefficients.{product_right}
@@ -32,10 +32,12 @@ empty_product r n ts q l h = h ∙ ap num q ∙ sym (constant_expanded one_fract
 pub product_expanded : {t : Tree} (ts : Trees) → t ≡ expanded (product_of ts) → IsExpanded t
 product_expanded ts e = is_expanded (product_of ts) (tree_monomials (mult ts)) e
 
-pub next_product : {a t u : Tree} (n : ℕ) (ts : Trees) → n < count ts → a ≡ nth n ts → t ≡ expanded (product_of (from (n + 1) ts)) → u ≡ expanded (product (polynomial_of a) (polynomial_of t)) → u ≡ expanded (product_of (from n ts))
+pub next_product : {a t u : Tree} (n : ℕ) (ts : Trees) → n < count ts → a ≡ nth n ts → t ≡ expanded (product_of (from (n + 1) ts)) → u ≡ expanded (product (polynomial_of a) (polynomial_of t))
+    → u ≡ expanded (product_of (from n ts))
 next_product {t = t} n ts l s e h =
     let rest = from (n + 1) ts in
-    h ∙ ap (λ (x : Tree). expanded (product (polynomial_of x) (polynomial_of t))) s ∙ expanded_same (product_right (polynomial_of (nth n ts)) (same_polynomial (tree_monomials (mult rest)) e)) ∙ ap expanded (sym (product_from n ts l))
+    h ∙ ap (λ (x : Tree). expanded (product (polynomial_of x) (polynomial_of t))) s ∙ expanded_same (product_right (polynomial_of (nth n ts)) (same_polynomial (tree_monomials (mult rest)) e))
+    ∙ ap expanded (sym (product_from n ts l))
 
 pub product_polynomial_of : (t : Tree) → is_mult t ≡ true → product_of (children_of t) ≡ polynomial_of t
 product_polynomial_of t h = grind arith

@@ -1,7 +1,7 @@
 -- By what bits the step of a node over expanded children is held.
-use Rattle.std.proofs.Common.{◌≡◌, ◌<◌, ◌≤◌, ◌+◌, ◌*◌, ℕ, zero, suc, Result, true, sym, ap, ◌∙◌, subst, arith}
-use Rattle.std.specs.Prelude.{IfErr}
-use Rattle.expand_forms.proofs.Shared.{and_parts, bits, bits_of, high, low, most_bits, Fraction, inverse, minus_one_fraction, Payload, Tree, add, power, sub, div, Trees, none, more, count, root_kind, AreHeldTogether, IsHeld, IsNoOverflow, scaled, divisor_of, exponent_of, is_divisor, is_exponent, is_polynomial, polynomial_of, product_of, AreExpandedFrom, IsOver, children_of, grown, nth, OfOverflow, NumberFault}
+use Rattle.expand_forms.proofs.Shared.{◌≡◌, ◌<◌, ◌≤◌, ◌+◌, ◌*◌, ℕ, zero, suc, Result, true, sym, ap, ◌∙◌, subst, arith, IfErr, and_parts, bits, bits_of, high, low, most_bits, Fraction, inverse}
+use Rattle.expand_forms.proofs.Shared.{minus_one_fraction, Payload, Tree, add, power, sub, div, Trees, none, more, count, root_kind, AreHeldTogether, IsHeld, IsNoOverflow, scaled, divisor_of}
+use Rattle.expand_forms.proofs.Shared.{exponent_of, is_divisor, is_exponent, is_polynomial, polynomial_of, product_of, AreExpandedFrom, IsOver, children_of, grown, nth, OfOverflow, NumberFault}
 use Rattle.expand_forms.proofs.ChildExpansions.{divisor_same, exponent_same}
 use Rattle.expand_forms.proofs.Held.{held_more, held_opposite, held_product, one_held}
 use Rattle.expand_forms.proofs.Nodes.{from}
@@ -35,7 +35,8 @@ pub power_over : (w u : Tree) → kind.Pow ≡ root_kind w → kind.Pow ≡ root
     → (h : ℕ) × (l : ℕ) × IsHeld (polynomial_of (nth 0 (children_of u))) h l × (exponent_of (nth 1 (children_of u)) * (h + l) < 127)
 power_over (power b x) u k l p e few = by u l e
   where
-    by : (v : Tree) → kind.Pow ≡ root_kind v → AreExpandedFrom (more b (more x none)) (children_of v) → (h : ℕ) × (l : ℕ) × IsHeld (polynomial_of (nth 0 (children_of v))) h l × (exponent_of (nth 1 (children_of v)) * (h + l) < 127)
+    by : (v : Tree) → kind.Pow ≡ root_kind v → AreExpandedFrom (more b (more x none)) (children_of v)
+        → (h : ℕ) × (l : ℕ) × IsHeld (polynomial_of (nth 0 (children_of v))) h l × (exponent_of (nth 1 (children_of v)) * (h + l) < 127)
     by (power c y) l e =
         let (a, d) = and_parts (is_polynomial b) (is_exponent x) p in
         let (n, s, ex) = exponent_same x y d e.1.0 in
@@ -44,7 +45,8 @@ power_over (power b x) u k l p e few = by u l e
     by v l e = cc
 power_over w u k l p e few = cc
 
-pub opposite_over : (w u : Tree) → kind.Neg ≡ root_kind w → kind.Neg ≡ root_kind u → is_polynomial w ≡ true → AreExpandedFrom (children_of w) (children_of u) → IsHeld (scaled minus_one_fraction (polynomial_of (nth 0 (children_of u)))) (high w) (low w)
+pub opposite_over : (w u : Tree) → kind.Neg ≡ root_kind w → kind.Neg ≡ root_kind u → is_polynomial w ≡ true → AreExpandedFrom (children_of w) (children_of u)
+    → IsHeld (scaled minus_one_fraction (polynomial_of (nth 0 (children_of u)))) (high w) (low w)
 opposite_over w u k l p e = grind (arith, held_opposite, expanded_held)
 
 pub difference_over : (w u : Tree) → kind.Sub ≡ root_kind w → kind.Sub ≡ root_kind u → is_polynomial w ≡ true → AreExpandedFrom (children_of w) (children_of u)
@@ -55,7 +57,8 @@ pub quotient_over : (w u : Tree) → kind.Div ≡ root_kind w → kind.Div ≡ r
     → IsHeld (scaled (inverse (divisor_of (nth 1 (children_of u)))) (polynomial_of (nth 0 (children_of u)))) (high w) (low w)
 quotient_over (div a c) u k l p e = by u l e
   where
-    by : (v : Tree) → kind.Div ≡ root_kind v → AreExpandedFrom (more a (more c none)) (children_of v) → IsHeld (scaled (inverse (divisor_of (nth 1 (children_of v)))) (polynomial_of (nth 0 (children_of v)))) (high (div a c)) (low (div a c))
+    by : (v : Tree) → kind.Div ≡ root_kind v → AreExpandedFrom (more a (more c none)) (children_of v)
+        → IsHeld (scaled (inverse (divisor_of (nth 1 (children_of v)))) (polynomial_of (nth 0 (children_of v)))) (high (div a c)) (low (div a c))
     by (div b d) l e =
         let (x, y) = and_parts (is_polynomial a) (is_divisor c) p in
         let (n, s, ex) = divisor_same c d y e.1.0 in

@@ -1,6 +1,5 @@
 -- The expanded children of a node.
-use Rattle.std.proofs.Common.{◌<◌, ℕ, zero, suc, arith}
-use Rattle.expand_forms.proofs.Shared.{Trees, none, more, count, AreExpanded, IsExpanded, nth}
+use Rattle.expand_forms.proofs.Shared.{◌<◌, ℕ, zero, suc, arith, Trees, none, more, count, AreExpanded, IsExpanded, nth}
 
 pub expanded_nth : (n : ℕ) (ts : Trees) → AreExpanded ts → n < count ts → IsExpanded (nth n ts)
 expanded_nth n none h l = absurd (omega (arith, l))

@@ -1,9 +1,11 @@
 -- The parts and the factors of a node over expanded children.
-use Rattle.std.proofs.Common.{◌≡◌, ◌≢◌, ◌<◌, ◌≤◌, ◌+◌, ◌*◌, ℕ, zero, suc, negsuc, Bool, List, [], ◌∷◌, ◌++◌, true, false, drop, take, length, append_assoc, refl, sym, ap, ◌∙◌, subst, arith, append-nil}
-use Rattle.std.specs.Prelude.{if◌then◌else◌}
-use Rattle.expand_forms.proofs.Shared.{AreExpanded, AreExpandedFrom, AreHeldTogether, Fraction, HasFewTerms, HasNoNewName, IsExpanded, IsHeld, IsTerm, Polynomial, Tree, Trees, Within, add, bits_of, children_of, count, div, divisor_of, exponent_of, high, inverse, inverse_times_itself, is_divisor, is_num, is_one_fraction, is_polynomial, is_zero_fraction, low, minus_one_fraction, more, mult, names, names_of, neg, no_new_name, no_zero, none, nth, num, one_fraction, polynomial_of, power, product, product_of, raised, root_kind, scaled, sub, sum_of, times, whole_numerator, within_both, within_left, within_none, within_of, within_same, within_trans, zero_fraction, zero_times}
-use Rattle.calc_algebra.proofs.NumberClasses.{one_not_zero}
-use Rattle.calc_terms.specs.Integers.{int_is_zero}
+use Rattle.expand_forms.proofs.Shared.{◌≡◌, ◌≢◌, ◌<◌, ◌≤◌, ◌+◌, ◌*◌, ℕ, zero, suc, negsuc, Bool, List, [], ◌∷◌, ◌++◌, true, false, drop, take, length, append_assoc, refl, sym, ap, ◌∙◌, subst}
+use Rattle.expand_forms.proofs.Shared.{arith, append-nil, if◌then◌else◌, AreExpanded, AreExpandedFrom, AreHeldTogether, Fraction, HasFewTerms, HasNoNewName, IsExpanded, IsHeld, IsTerm}
+use Rattle.expand_forms.proofs.Shared.{Polynomial, Tree, Trees, Within, add, bits_of, children_of, count, div, divisor_of, exponent_of, high, inverse, inverse_times_itself, is_divisor, is_num}
+use Rattle.expand_forms.proofs.Shared.{is_one_fraction, is_polynomial, is_zero_fraction, low, minus_one_fraction, more, mult, names, names_of, neg, no_new_name, no_zero, none, nth, num}
+use Rattle.expand_forms.proofs.Shared.{one_fraction, polynomial_of, power, product, product_of, raised, root_kind, scaled, sub, sum_of, times, whole_numerator, within_both, within_left}
+use Rattle.expand_forms.proofs.Shared.{within_none, within_of, within_same, within_trans, zero_fraction, zero_times, one_not_zero, int_is_zero, normal, Part, each_once, has_factors, has_parts}
+use Rattle.expand_forms.proofs.Shared.{multiplied, part, part_factor, parts_of, repeated, total, constant, summand, row}
 use Rattle.expand_forms.proofs.Expansions.{constant_is_expanded}
 use Rattle.expand_forms.proofs.FewTerms.{few_names}
 use Rattle.expand_forms.proofs.Gathered.{IsGathered, gathered_is, gathered_products, gathered_trans}
@@ -13,10 +15,6 @@ use Rattle.expand_forms.proofs.NodeRooms.{names_from, nth_names}
 use Rattle.expand_forms.proofs.Nodes.{from}
 use Rattle.expand_forms.proofs.Rows.{is_nonzero}
 use Rattle.expand_forms.proofs.SameCoefficients.{constant_product, scaled_one}
-use Rattle.expand_forms.specs.ExpandedTrees.{normal}
-use Rattle.expand_forms.specs.Parts.{Part, each_once, has_factors, has_parts, multiplied, part, part_factor, parts_of, repeated, total}
-use Rattle.expand_forms.specs.Polynomials.{constant, summand}
-use Rattle.expand_forms.specs.Rows.{row}
 use Rattle.calc_terms.specs.declared.kind.Kind.TheVariants as kind
 
 -- ---- how many parts there are
@@ -118,7 +116,8 @@ total_append (p ∷ ps) qs = ap (λ (v : Polynomial). scaled p.factor (polynomia
 
 pub total_more : (n : ℕ) (ps : List Part) (q : Fraction) (u : Tree) → drop n ps ≡ part q u ∷ drop (n + 1) ps → total (take n ps) ++ scaled q (polynomial_of u) ≡ total (take (n + 1) ps)
 total_more n ps q u e =
-    ap (λ (v : Polynomial). total (take n ps) ++ v) (sym (append-nil (scaled q (polynomial_of u)))) ∙ sym (total_append (take n ps) (part q u ∷ [])) ∙ ap total (sym (taken n ps (part q u) (drop (n + 1) ps) e))
+    ap (λ (v : Polynomial). total (take n ps) ++ v) (sym (append-nil (scaled q (polynomial_of u)))) ∙ sym (total_append (take n ps) (part q u ∷ []))
+    ∙ ap total (sym (taken n ps (part q u) (drop (n + 1) ps) e))
 
 -- the term 1
 pub one_term : (t : Tree) → t ≡ num one_fraction → IsTerm t

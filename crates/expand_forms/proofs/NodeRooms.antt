@@ -1,11 +1,10 @@
 -- For how few bytes a node over expanded children is refused.
-use Rattle.std.proofs.Common.{◌≡◌, ℕ, zero, suc, ◌≤◌, [], length, true, false, arith}
-use Rattle.expand_forms.proofs.Shared.{mul-le, Within, within_left, within_none, within_right, within_same, within_trans, Tree, Trees, none, more, names, names_of, size, has_polynomial_root, polynomial_of, product_of, AreExpanded, nth}
+use Rattle.expand_forms.proofs.Shared.{◌≡◌, ℕ, zero, suc, ◌≤◌, [], length, true, false, arith, mul-le, Within, within_left, within_none, within_right, within_same, within_trans, Tree, Trees}
+use Rattle.expand_forms.proofs.Shared.{none, more, names, names_of, size, has_polynomial_root, polynomial_of, product_of, AreExpanded, nth, has_factors, has_parts}
 use Rattle.expand_forms.proofs.FewTerms.{some_expanded}
 use Rattle.expand_forms.proofs.Nodes.{from}
 use Rattle.expand_forms.proofs.TermCounts.{product_length}
 use Rattle.expand_forms.proofs.TermPolynomials.{tree_normal}
-use Rattle.expand_forms.specs.Parts.{has_factors, has_parts}
 
 -- ---- names of children
 
@@ -28,7 +27,8 @@ expanded_from (suc n) (more t ts) h = expanded_from n ts h.1
 
 pub some_product : (ts : Trees) → AreExpanded ts → 1 ≤ length (product_of ts)
 some_product none h = omega arith
-some_product (more t ts) h = omega (arith, product_length (polynomial_of t) (product_of ts), mul-le 1 1 (length (polynomial_of t)) (length (product_of ts)) (some_expanded t (tree_normal t) h.0) (some_product ts h.1))
+some_product (more t ts) h =
+    omega (arith, product_length (polynomial_of t) (product_of ts), mul-le 1 1 (length (polynomial_of t)) (length (product_of ts)) (some_expanded t (tree_normal t) h.0) (some_product ts h.1))
 
 pub rest_product : (n : ℕ) (ts : Trees) → AreExpanded ts → length (product_of (from n ts)) ≤ length (product_of ts)
 rest_product zero ts h = omega arith

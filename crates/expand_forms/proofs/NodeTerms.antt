@@ -1,6 +1,9 @@
 -- A node over the answers of its children has no more terms and no other names than the node that was handed.
-use Rattle.std.proofs.Common.{◌≡◌, ℕ, zero, suc, ◌^◌, ◌≤◌, ◌<◌, [], ◌++◌, length, true, false, sym, ap, subst, arith}
-use Rattle.expand_forms.proofs.Shared.{le-max_right, pow-le-pow_left, and_parts, eqb-true, length-append, mul-le, Within, no_new_name, within_beside, within_left, within_none, within_of, within_same, within_trans, HasNoNewName, inverse, minus_one_fraction, Payload, rational, named, bare, Kind, Tree, symbol, neg, Trees, none, more, count, is_symbol, names, names_of, product_of_terms, sum_of_terms, terms, are_polynomials, divisor_of, exponent_of, is_divisor, is_exponent, is_polynomial, polynomial_of, product_of, sum_of, AreExpandedFrom, IsExpandedFrom, children_of, compound, grown, nth, takes, takes_kind}
+use Rattle.expand_forms.proofs.Shared.{◌≡◌, ℕ, zero, suc, ◌^◌, ◌≤◌, ◌<◌, [], ◌++◌, length, true, false, sym, ap, subst, arith, le-max_right, pow-le-pow_left, and_parts, eqb-true, length-append}
+use Rattle.expand_forms.proofs.Shared.{mul-le, Within, no_new_name, within_beside, within_left, within_none, within_of, within_same, within_trans, HasNoNewName, inverse, minus_one_fraction}
+use Rattle.expand_forms.proofs.Shared.{Payload, rational, named, bare, Kind, Tree, symbol, neg, Trees, none, more, count, is_symbol, names, names_of, product_of_terms, sum_of_terms, terms}
+use Rattle.expand_forms.proofs.Shared.{are_polynomials, divisor_of, exponent_of, is_divisor, is_exponent, is_polynomial, polynomial_of, product_of, sum_of, AreExpandedFrom, IsExpandedFrom}
+use Rattle.expand_forms.proofs.Shared.{children_of, compound, grown, nth, takes, takes_kind}
 use Rattle.expand_forms.proofs.ChildExpansions.{exponent_same}
 use Rattle.expand_forms.proofs.ChildRooms.{child_names}
 use Rattle.expand_forms.proofs.FewTerms.{expanded_few, few_names}
@@ -30,7 +33,12 @@ products_length none (more u us) p e = absurd e
 products_length (more t ts) none p e = absurd e
 products_length (more t ts) (more u us) p e =
     let (a, b) = and_parts (is_polynomial t) (are_polynomials ts) p in
-    omega (arith, product_length (polynomial_of u) (product_of us), mul-le (length (polynomial_of u)) (length (product_of us)) (terms t) (product_of_terms ts) (answer_length t u a e.0) (products_length ts us b e.1))
+    omega (
+      arith,
+      product_length (polynomial_of u) (product_of us),
+      mul-le (length (polynomial_of u)) (length (product_of us)) (terms t) (product_of_terms ts) (answer_length t u a e.0)
+          (products_length ts us b e.1),
+    )
 
 nth_from : (n : ℕ) (ts us : Trees) → AreExpandedFrom ts us → n < count ts → IsExpandedFrom (nth n ts) (nth n us)
 nth_from n none us e l = absurd (omega (arith, l))
@@ -93,7 +101,8 @@ no_symbol : (k : Kind) (us : Trees) → is_symbol (compound k us) ≡ false
 no_symbol k us = grind arith
 
 -- of the node as it was, and as it is over the answers of its children
-pub over_names : (x : Payload) (ts us : Trees) → children_of (grown x ts) ≡ ts → children_of (grown x us) ≡ us → are_polynomials ts ≡ true → AreExpandedFrom ts us → HasNoNewName (grown x ts) (grown x us)
+pub over_names : (x : Payload) (ts us : Trees) → children_of (grown x ts) ≡ ts → children_of (grown x us) ≡ us → are_polynomials ts ≡ true → AreExpandedFrom ts us
+    → HasNoNewName (grown x ts) (grown x us)
 over_names (rational r) ts us a b p e = no_new_name (within_none [])
 over_names (named x) ts us a b p e = no_new_name (within_same (names (symbol x)))
 over_names (bare k) ts us a b p e =

@@ -1,7 +1,6 @@
 -- A node is a polynomial by its root and its children.
-use Rattle.std.proofs.Common.{◌≡◌, ◌<◌, ◌≤◌, ℕ, zero, suc, Bool, true, false, refl, ap, arith}
-use Rattle.std.specs.Prelude.{◌&&◌}
-use Rattle.expand_forms.proofs.Shared.{Tree, Trees, none, more, count, nodes, nodes_of, are_polynomials, has_polynomial_root, is_polynomial, nth, children_of}
+use Rattle.expand_forms.proofs.Shared.{◌≡◌, ◌<◌, ◌≤◌, ℕ, zero, suc, Bool, true, false, refl, ap, arith, ◌&&◌, Tree, Trees, none, more, count, nodes, nodes_of, are_polynomials}
+use Rattle.expand_forms.proofs.Shared.{has_polynomial_root, is_polynomial, nth, children_of}
 
 -- the trees from a place on, counted from 0
 abbrev pub from : ℕ → Trees → Trees

@@ -1,7 +1,7 @@
 -- The normal polynomial keeps coefficients, and is the only one with them.
-use Rattle.std.proofs.Common.{arith, ◌≡◌, [], ◌∷◌, Bool, true, false, refl, sym, ap, ◌∙◌, subst}
-use Rattle.std.specs.Prelude.{if◌then◌else◌}
-use Rattle.expand_forms.proofs.Shared.{Ordering, Less, Equal, Greater, zero_is, no_zero, zero_plus, Fraction, is_zero_fraction, plus, plus_assoc, zero_fraction, not_from_false, Monomial, Polynomial, Summand, coefficient_at, is_same_monomial, summand, IsBeforeAll, IsNormal, joined, monomial_cmp, normal, with_summand, without_zeros}
+use Rattle.expand_forms.proofs.Shared.{arith, ◌≡◌, [], ◌∷◌, Bool, true, false, refl, sym, ap, ◌∙◌, subst, if◌then◌else◌, Ordering, Less, Equal, Greater, zero_is, no_zero, zero_plus, Fraction}
+use Rattle.expand_forms.proofs.Shared.{is_zero_fraction, plus, plus_assoc, zero_fraction, not_from_false, Monomial, Polynomial, Summand, coefficient_at, is_same_monomial, summand, IsBeforeAll}
+use Rattle.expand_forms.proofs.Shared.{IsNormal, joined, monomial_cmp, normal, with_summand, without_zeros}
 use Rattle.expand_forms.proofs.Arithmetic.{plus_left_comm, plus_zero}
 use Rattle.expand_forms.proofs.MonomialTrees.{chained, equal_is, less_apart, not_same, same_is, same_itself, turned}
 
@@ -17,7 +17,8 @@ both_added : (b : Bool) (p q x : Fraction) → (if b then plus (plus p q) x else
 both_added true p q x = plus_assoc p q x
 both_added false p q x = refl
 
-exchanged : (a b : Bool) (p q x : Fraction) → (if a then plus p (if b then plus q x else x) else (if b then plus q x else x)) ≡ (if b then plus q (if a then plus p x else x) else (if a then plus p x else x))
+exchanged : (a b : Bool) (p q x : Fraction)
+    → (if a then plus p (if b then plus q x else x) else (if b then plus q x else x)) ≡ (if b then plus q (if a then plus p x else x) else (if a then plus p x else x))
 exchanged a b p q x = grind (arith, plus_left_comm)
 
 pub with_summand_coefficient : (m : Monomial) (s : Summand) (v : Polynomial) → coefficient_at m (with_summand s v) ≡ coefficient_at m (s ∷ v)
@@ -29,7 +30,8 @@ with_summand_coefficient m s (t ∷ v) = by (monomial_cmp s.monomial t.monomial)
     by Less e go = refl
     by Equal e go =
         both_added (is_same_monomial s.monomial m) s.coefficient t.coefficient (coefficient_at m v)
-        ∙ ap (λ k. let x = if is_same_monomial k m then plus t.coefficient (coefficient_at m v) else coefficient_at m v in if is_same_monomial s.monomial m then plus s.coefficient x else x) (equal_is s.monomial t.monomial e)
+        ∙ ap (λ k. let x = if is_same_monomial k m then plus t.coefficient (coefficient_at m v) else coefficient_at m v in if is_same_monomial s.monomial m then plus s.coefficient x else x)
+        (equal_is s.monomial t.monomial e)
     by Greater e go =
         ap (λ x. if is_same_monomial t.monomial m then plus t.coefficient x else x) go
         ∙ exchanged (is_same_monomial t.monomial m) (is_same_monomial s.monomial m) t.coefficient s.coefficient (coefficient_at m v)
@@ -68,7 +70,8 @@ before_with : (k : Monomial) (s : Summand) (v : Polynomial) → monomial_cmp k s
 before_with k s [] l h = (l, tt)
 before_with k s (t ∷ v) l h = by (monomial_cmp s.monomial t.monomial) (before_with k s v l h.1)
   where
-    by : (o : Ordering) → IsBeforeAll k (with_summand s v) → IsBeforeAll k (elim o [ Less ↦ s ∷ t ∷ v | Equal ↦ summand (plus s.coefficient t.coefficient) s.monomial ∷ v | Greater ↦ t ∷ with_summand s v ])
+    by : (o : Ordering) → IsBeforeAll k (with_summand s v)
+        → IsBeforeAll k (elim o [ Less ↦ s ∷ t ∷ v | Equal ↦ summand (plus s.coefficient t.coefficient) s.monomial ∷ v | Greater ↦ t ∷ with_summand s v ])
     by Less go = (l, h)
     by Equal go = (l, h.1)
     by Greater go = (h.0, go)
@@ -77,7 +80,8 @@ with_rising : (s : Summand) (v : Polynomial) → AreRising v → AreRising (with
 with_rising s [] h = (tt, tt)
 with_rising s (t ∷ v) h = by (monomial_cmp s.monomial t.monomial) refl (with_rising s v h.1)
   where
-    by : (o : Ordering) → monomial_cmp s.monomial t.monomial ≡ o → AreRising (with_summand s v) → AreRising (elim o [ Less ↦ s ∷ t ∷ v | Equal ↦ summand (plus s.coefficient t.coefficient) s.monomial ∷ v | Greater ↦ t ∷ with_summand s v ])
+    by : (o : Ordering) → monomial_cmp s.monomial t.monomial ≡ o → AreRising (with_summand s v)
+        → AreRising (elim o [ Less ↦ s ∷ t ∷ v | Equal ↦ summand (plus s.coefficient t.coefficient) s.monomial ∷ v | Greater ↦ t ∷ with_summand s v ])
     by Less e go = ((e, before_more s.monomial t.monomial v e h.0), h)
     by Equal e go = (subst (λ k. IsBeforeAll k v) (sym (equal_is s.monomial t.monomial e)) h.0, h.1)
     by Greater e go = (before_with t.monomial s v (turned s.monomial t.monomial e) h.0, go)
@@ -118,7 +122,8 @@ first_coefficient s v h = at_same s.coefficient s.monomial v ∙ ap (plus s.coef
 no_first : (s : Summand) (v w : Polynomial) → IsNormal (s ∷ v) → IsBeforeAll s.monomial w → ((m : Monomial) → coefficient_at m (s ∷ v) ≡ coefficient_at m w) → ⊥
 no_first s v w n h e = n.0 (sym (first_coefficient s v n.1) ∙ e s.monomial ∙ absent s.monomial w h)
 
-later_same : (s t : Summand) (v w : Polynomial) → s.monomial ≡ t.monomial → IsBeforeAll s.monomial v → IsBeforeAll t.monomial w → ((m : Monomial) → coefficient_at m (s ∷ v) ≡ coefficient_at m (t ∷ w)) → (m : Monomial) → coefficient_at m v ≡ coefficient_at m w
+later_same : (s t : Summand) (v w : Polynomial) → s.monomial ≡ t.monomial → IsBeforeAll s.monomial v → IsBeforeAll t.monomial w
+    → ((m : Monomial) → coefficient_at m (s ∷ v) ≡ coefficient_at m (t ∷ w)) → (m : Monomial) → coefficient_at m v ≡ coefficient_at m w
 later_same s t v w e h k same m = by (is_same_monomial s.monomial m) refl
   where
     by : (b : Bool) → is_same_monomial s.monomial m ≡ b → coefficient_at m v ≡ coefficient_at m w

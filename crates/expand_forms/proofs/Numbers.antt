@@ -1,7 +1,6 @@
 -- Rationals as literals.
-use Rattle.std.proofs.Common.{arith, ◌≡◌, ℤ, Bool, true, false, ap}
-use Rattle.std.specs.Prelude.{◌==◌, ◌↔◌, IsTrue, Some, None, if◌then◌else◌, neg_ℤ}
-use Rattle.expand_forms.proofs.Shared.{false_from_ne_true, opposite, whole_value, Rat, Fraction, negative, ratio_of, value_of, ratio_parts, negative_parts, is_small}
+use Rattle.expand_forms.proofs.Shared.{arith, ◌≡◌, ℤ, Bool, true, false, ap, ◌==◌, ◌↔◌, IsTrue, Some, None, if◌then◌else◌, neg_ℤ, false_from_ne_true, opposite, whole_value, Rat, Fraction}
+use Rattle.expand_forms.proofs.Shared.{negative, ratio_of, value_of, ratio_parts, negative_parts, is_small}
 
 clash : {A : Type 0} (b : Bool) → b ≡ true → b ≡ false → A
 clash b p q = absurd cc

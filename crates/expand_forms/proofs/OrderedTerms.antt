@@ -1,23 +1,16 @@
 -- Lists of terms in the order of their trees.
-use Rattle.std.proofs.Common.{◌≡◌, ℕ, suc, ◌+◌, ◌<◌, ◌≤◌, ◌^◌, List, [], ◌∷◌, length, get_or, Bool, true, false, inl, inr, refl, sym, ap, ◌∙◌, subst, arith, sum_by, IsPermutation}
-use Rattle.std.specs.Prelude.{◌==◌, cond, IsSorted, reverse, if◌then◌else◌}
-use Rattle.std.specs.List.{AllByRecursion}
-use Rattle.std.proofs.lemmas.List.{reverse-reverse}
-use Rattle.std.proofs.lemmas.List.Elements.{All-from_recursion, recursion_from_All}
-use Rattle.std.specs.Ordering.{is_lt}
-use Rattle.std.proofs.lemmas.List.Sorted.{All-permutation, sum_by-IsPermutation}
+use Rattle.expand_forms.proofs.Shared.{◌≡◌, ℕ, suc, ◌+◌, ◌<◌, ◌≤◌, ◌^◌, List, [], ◌∷◌, length, get_or, Bool, true, false, inl, inr, refl, sym, ap, ◌∙◌, subst, arith, sum_by, IsPermutation, ◌==◌}
+use Rattle.expand_forms.proofs.Shared.{cond, IsSorted, reverse, if◌then◌else◌, AllByRecursion, reverse-reverse, All-from_recursion, recursion_from_All, is_lt, All-permutation}
+use Rattle.expand_forms.proofs.Shared.{sum_by-IsPermutation, by_test, eq-eqb, ne_eqb, not_from_false, ordering_reverse, Ordering, Less, Equal, Greater, Fraction, is_zero_fraction, no_zero, plus}
+use Rattle.expand_forms.proofs.Shared.{zero_fraction, zero_plus, value_of, IsNormal, monomial_cmp, normal, Monomial, Polynomial, Summand, AreMonomials, coefficient_at, is_same_monomial, summand}
+use Rattle.expand_forms.proofs.Shared.{one_unpacked, AreNames, AreOf, HaveNames, IsListOf, named_polynomial, packed_cmp, packed_term_cmp, monomial_of, Term}
 use Rattle.std.proofs.lemmas.List.Sums.{sum_by-cons}
-use Rattle.expand_forms.proofs.Shared.{by_test, eq-eqb, ne_eqb, not_from_false, ordering_reverse, Ordering, Less, Equal, Greater, Fraction, is_zero_fraction, no_zero, plus, zero_fraction, zero_plus, value_of, IsNormal, monomial_cmp, normal, Monomial, Polynomial, Summand, AreMonomials, coefficient_at, is_same_monomial, summand}
 use Rattle.expand_forms.proofs.NamedMonomials.{named_monomial}
 use Rattle.expand_forms.proofs.NormalForms.{before_more, normal_coefficient, normal_is, one_normal}
 use Rattle.expand_forms.proofs.Totals.{total, total_moved}
 use Rattle.expand_forms.proofs.PackedOrders.{order_equal, packed_length, packed_named, packed_order, packed_total, which}
-use Rattle.polynomials.proofs.Coefficients.{one_unpacked}
-use Rattle.expand_forms.specs.Named.{AreNames, AreOf, HaveNames, IsListOf, named, named_polynomial}
-use Rattle.expand_forms.specs.PackedOrder.{packed_cmp, packed_term_cmp}
-use Rattle.polynomials.specs.Packed.{monomial_of}
+use Rattle.expand_forms.specs.Named.{named}
 use Rattle.polynomials.specs.Terms.{IsBelowAll as IsBelowTerms, IsNormal as AreSorted, polynomial_of}
-use Rattle.polynomials.specs.declared.term.Term.{Term}
 
 -- ---- terms
 
@@ -97,7 +90,8 @@ reversed_same k l e = sym (reverse-reverse (monomial_of k)) ∙ ap reverse e ∙
 same_packed : (ns : List (List ℕ)) (t u : Term) → AreNames ns → IsFine ns t → IsFine ns u → packed_cmp t.monomial u.monomial ≡ Equal → t.monomial ≡ u.monomial
 unfolding monomial_of
 same_packed ns t u h a b e =
-    one_unpacked 8 t.monomial u.monomial a.packed b.packed (reversed_same t.monomial u.monomial (order_equal (reverse (monomial_of t.monomial)) (reverse (monomial_of u.monomial)) (packed_length t.monomial ∙ sym (packed_length u.monomial)) (sym (packed_order t.monomial u.monomial) ∙ e)))
+    one_unpacked 8 t.monomial u.monomial a.packed b.packed (reversed_same t.monomial u.monomial
+    (order_equal (reverse (monomial_of t.monomial)) (reverse (monomial_of u.monomial)) (packed_length t.monomial ∙ sym (packed_length u.monomial)) (sym (packed_order t.monomial u.monomial) ∙ e)))
 
 decided : (o p : Ordering) → p ≡ ordering_reverse o → is_lt p ≡ false → (o ≡ Equal → ⊥) → o ≡ Less
 decided Less p e l n = refl
@@ -136,7 +130,8 @@ are_fine ns (t ∷ ts) h k l = (record { nonzero = h.0; named = k.0.1; packed = 
 -- sorted terms that are moved into the order of trees are those of the normal polynomial
 pub ordered_normal : {ns : List (List ℕ)} {ts us : List Term} {v : Polynomial} → IsListOf ns ts v → AreFine ns ts → IsPermutation ts us → IsSorted packed_term_cmp us → named_terms ns us ≡ normal v
 ordered_normal {ns} {ts} {us} {v} l a p s =
-    let up = rising ns us l.names (recursion_from_All (IsFine ns) us (All-permutation (IsFine ns) ts us p (All-from_recursion (IsFine ns) ts a))) (λ k. omega (arith, sum_by-IsPermutation (is_at k) ts us p, once k ts l.normal)) s in
+    let up = rising ns us l.names (recursion_from_All (IsFine ns) us (All-permutation (IsFine ns) ts us p (All-from_recursion (IsFine ns) ts a)))
+    (λ k. omega (arith, sum_by-IsPermutation (is_at k) ts us p, once k ts l.normal)) s in
     one_normal (named_terms ns us) (normal v) up (normal_is v) (λ m. moved_coefficient ns ts us p m ∙ l.same.at m ∙ sym (normal_coefficient m v))
 
 pub ordered_monomials : (ns : List (List ℕ)) (us : List Term) → AreNames ns → AreMonomials (named_terms ns us)

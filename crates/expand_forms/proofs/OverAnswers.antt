@@ -1,13 +1,12 @@
 -- A node over the expanded trees of its children, from the tree as it was.
-use Rattle.std.proofs.Common.{◌≡◌, ℕ, ◌≤◌, ◌<◌, length, true, Result, sym, ap, ◌∙◌, subst, arith}
-use Rattle.std.specs.Prelude.{IfErr}
-use Rattle.expand_forms.proofs.Shared.{and_parts, AreSame, HasNoNewName, IsExpanded, Tree, Trees, none, more, names, expanded, most_terms, node_bytes, are_polynomials, has_polynomial_root, is_polynomial, polynomial_of, AreExpanded, IsExpandedFrom, IsOver, IsPolynomial, OfFull, children_of, grown, NumberFault}
+use Rattle.expand_forms.proofs.Shared.{◌≡◌, ℕ, ◌≤◌, ◌<◌, length, true, Result, sym, ap, ◌∙◌, subst, arith, IfErr, and_parts, AreSame, HasNoNewName, IsExpanded, Tree, Trees, none, more, names}
+use Rattle.expand_forms.proofs.Shared.{expanded, most_terms, node_bytes, are_polynomials, has_polynomial_root, is_polynomial, polynomial_of, AreExpanded, IsExpandedFrom, IsOver, IsPolynomial}
+use Rattle.expand_forms.proofs.Shared.{OfFull, children_of, grown, NumberFault, EachTree}
 use Rattle.expand_forms.proofs.ChildExpansions.{IsOver as IsOverSame, child_expanded, child_same, divisor_same, exponent_same, over_payload}
 use Rattle.expand_forms.proofs.Expansions.{constant_expanded, expanded_same, name_expanded}
 use Rattle.expand_forms.proofs.SameCoefficients.{same_is, same_trans}
 use Rattle.expand_forms.proofs.NodeTerms.{over_names, over_terms}
 use Rattle.expand_forms.proofs.TermCounts.{most_of_all}
-use Rattle.reduce_walk.specs.Answers.{EachTree}
 use Rattle.reduce_walk.specs.Leaves.{is_leaf}
 
 -- ---- children
@@ -54,8 +53,17 @@ module _ (t now : Tree) (o : IsOver t now) (p : is_polynomial t ≡ true) where
   same_names = subst (λ (x : Tree). HasNoNewName x now) (sym o.whole) (subst (HasNoNewName (grown o.holds (children_of t))) (sym o.node) names_over)
 
   fewer : length (polynomial_of now) ≤ most_terms t
-  fewer = omega (arith, over_terms o.holds (children_of t) (children_of now) o.takes o.children poly, ap (λ (x : Tree). length (polynomial_of x)) o.node, ap most_terms o.whole, most_of_all (grown o.holds (children_of t)))
+  fewer = omega (
+    arith,
+    over_terms o.holds (children_of t) (children_of now) o.takes o.children poly,
+    ap (λ (x : Tree). length (polynomial_of x)) o.node,
+    ap most_terms o.whole,
+    most_of_all
+        (grown o.holds (children_of t)),
+  )
 
   -- a call that lacks bytes for the node lacks them for the tree
-  pub few_bytes : {A : Type 0} (r : Result A NumberFault) (free : ℕ) → ((whole : Tree) (n : ℕ) → HasNoNewName whole now → length (polynomial_of now) ≤ n → IfErr r (OfFull (λ full. free < node_bytes (names whole) n))) → IfErr r (OfFull (λ full. free < node_bytes (names t) (most_terms t)))
+  pub few_bytes : {A : Type 0} (r : Result A NumberFault) (free : ℕ)
+      → ((whole : Tree) (n : ℕ) → HasNoNewName whole now → length (polynomial_of now) ≤ n → IfErr r (OfFull (λ full. free < node_bytes (names whole) n)))
+      → IfErr r (OfFull (λ full. free < node_bytes (names t) (most_terms t)))
   few_bytes r free k = k t (most_terms t) same_names fewer

@@ -1,20 +1,13 @@
 -- The order of packed monomials is that of their trees, with any names.
-use Rattle.std.proofs.Common.{◌≡◌, ℕ, zero, suc, ◌+◌, ◌/◌, ◌%◌, ◌<◌, List, [], ◌∷◌, length, get_or, drop, Bool, true, false, inl, inr, refl, sym, ap, ◌∙◌, arith}
-use Rattle.std.proofs.Math.Nat.{div-div-eq-div-mul}
+use Rattle.expand_forms.proofs.Shared.{◌≡◌, ℕ, zero, suc, ◌+◌, ◌/◌, ◌%◌, ◌<◌, List, [], ◌∷◌, length, get_or, drop, Bool, true, false, inl, inr, refl, sym, ap, ◌∙◌, arith, div-div-eq-div-mul}
+use Rattle.expand_forms.proofs.Shared.{bytes_high_first, ◌==◌, not, reverse, ◌⊎◌, length-reverse, tree_cmp_total, trees_cmp_turned, code_of, monomial_of, unpacked, by_test, eq-eqb, eqb-true}
+use Rattle.expand_forms.proofs.Shared.{Ordering, Less, Equal, Greater, nat_cmp, slice_cmp, ordering_index, ordering_then, ordering_reverse, nat_list_cmp_total, tree_cmp, trees_cmp, tree_cmp_refl}
+use Rattle.expand_forms.proofs.Shared.{tree_cmp_same, root_code, root_kind, Trees, more, symbol, factor_tree, factor_trees, monomial_cmp, monomial_tree, Monomial, factor, AreNames, AreOf}
+use Rattle.expand_forms.proofs.Shared.{AreZero, IsBelowNames, factors_of, behind_cmp, eight_names, exponents_cmp, first_exponent, kind_with, packed_cmp, packed_term_cmp, Term}
 use Rattle.std.proofs.Math.Seq.{drop-cons}
-use Rattle.std.specs.Int.{bytes_high_first}
-use Rattle.std.specs.Prelude.{◌==◌, not, reverse, ◌⊎◌}
 use Rattle.std.specs.Cmp.{IsTotalOrder, on_total}
-use Rattle.std.proofs.lemmas.List.{length-reverse}
-use Rattle.calc_algebra.proofs.TreeOrderLaws.{tree_cmp_total, trees_cmp_turned}
-use Rattle.calc_terms.specs.Kind.{code_of}
-use Rattle.polynomials.specs.Packed.{monomial_of, unpacked}
-use Rattle.expand_forms.proofs.Shared.{by_test, eq-eqb, eqb-true, Ordering, Less, Equal, Greater, nat_cmp, slice_cmp, ordering_index, ordering_then, ordering_reverse, nat_list_cmp_total, tree_cmp, trees_cmp, tree_cmp_refl, tree_cmp_same, root_code, root_kind, Trees, more, symbol, factor_tree, factor_trees, monomial_cmp, monomial_tree, Monomial, factor}
 use Rattle.expand_forms.proofs.FactorOrders.{factors_cmp, monomials_cmp}
-use Rattle.expand_forms.specs.Named.{AreNames, AreOf, AreZero, IsBelowNames, factors_of, named}
-use Rattle.expand_forms.specs.PackedOrder.{behind_cmp, eight_names, exponents_cmp, first_exponent, kind_with}
-use Rattle.expand_forms.specs.PackedOrder.{packed_cmp, packed_term_cmp}
-use Rattle.polynomials.specs.declared.term.Term.{Term}
+use Rattle.expand_forms.specs.Named.{named}
 use Rattle.calc_terms.specs.declared.kind.Kind.TheVariants as kind
 
 -- ---- numbers
@@ -82,7 +75,8 @@ first_factor x (y ∷ ns) (zero ∷ es) b o = elim (first_factor x ns es b.1 o) 
 ]
 first_factor x (y ∷ ns) (suc e ∷ es) b o = inr (record { name = y; less = e; rest = factors_of ns es; above = b.0; first = refl; factors = refl })
 
-behind : (x : List ℕ) (ns : List (List ℕ)) (es : List ℕ) (f : ℕ) (us : Trees) → IsBelowNames x ns → AreOf ns es → trees_cmp (factor_trees (factors_of ns es)) (more (factor_tree (factor x (suc f))) us) ≡ behind_cmp (first_exponent es) (suc f)
+behind : (x : List ℕ) (ns : List (List ℕ)) (es : List ℕ) (f : ℕ) (us : Trees) → IsBelowNames x ns → AreOf ns es
+    → trees_cmp (factor_trees (factors_of ns es)) (more (factor_tree (factor x (suc f))) us) ≡ behind_cmp (first_exponent es) (suc f)
 behind x ns es f us b o = by (first_factor x ns es b o)
   where
     later : Trees
@@ -118,16 +112,19 @@ both_differ es fs e f h = grind arith
 differ_not : (es fs : List ℕ) (e f : ℕ) → (e ≡ f → ⊥) → exponents_cmp (e ∷ es) (f ∷ fs) ≡ Equal → ⊥
 differ_not es fs e f n h = grind arith
 
-two_same : (x : List ℕ) (e f : ℕ) (es fs : List ℕ) (o : Ordering) → e ≡ f → o ≡ exponents_cmp es fs → ordering_then (tree_cmp (factor_tree (factor x (suc e))) (factor_tree (factor x (suc f)))) o ≡ exponents_cmp (suc e ∷ es) (suc f ∷ fs)
+two_same : (x : List ℕ) (e f : ℕ) (es fs : List ℕ) (o : Ordering) → e ≡ f → o ≡ exponents_cmp es fs
+    → ordering_then (tree_cmp (factor_tree (factor x (suc e))) (factor_tree (factor x (suc f)))) o ≡ exponents_cmp (suc e ∷ es) (suc f ∷ fs)
 two_same x e f es fs o h go =
     ap (λ (p : Ordering). ordering_then p o) (tree_cmp_same (factor_tree (factor x (suc e))) (factor_tree (factor x (suc f))) (ap (λ (k : ℕ). factor_tree (factor x (suc k))) h))
     ∙ go ∙ sym (both_same es fs (suc e) (suc f) (ap suc h))
 
-two_differ : (x : List ℕ) (e f : ℕ) (es fs : List ℕ) (o : Ordering) → (suc e ≡ suc f → ⊥) → ordering_then (tree_cmp (factor_tree (factor x (suc e))) (factor_tree (factor x (suc f)))) o ≡ exponents_cmp (suc e ∷ es) (suc f ∷ fs)
+two_differ : (x : List ℕ) (e f : ℕ) (es fs : List ℕ) (o : Ordering) → (suc e ≡ suc f → ⊥)
+    → ordering_then (tree_cmp (factor_tree (factor x (suc e))) (factor_tree (factor x (suc f)))) o ≡ exponents_cmp (suc e ∷ es) (suc f ∷ fs)
 two_differ x e f es fs o h =
     ap (λ (p : Ordering). ordering_then p o) (same_cmp x e f) ∙ other_then (suc e) (suc f) o h ∙ sym (both_differ es fs e f h)
 
-pub factors_named : (ns : List (List ℕ)) (es fs : List ℕ) → AreNames ns → AreOf ns es → AreOf ns fs → length es ≡ length fs → trees_cmp (factor_trees (factors_of ns es)) (factor_trees (factors_of ns fs)) ≡ exponents_cmp es fs
+pub factors_named : (ns : List (List ℕ)) (es fs : List ℕ) → AreNames ns → AreOf ns es → AreOf ns fs → length es ≡ length fs
+    → trees_cmp (factor_trees (factors_of ns es)) (factor_trees (factors_of ns fs)) ≡ exponents_cmp es fs
 factors_named [] es fs h o p l = sym (zeros_cmp es fs o p)
 factors_named (x ∷ ns) [] [] h o p l = refl
 factors_named (x ∷ ns) [] (f ∷ fs) h o p l = absurd (omega (arith, l))
@@ -135,7 +132,8 @@ factors_named (x ∷ ns) (e ∷ es) [] h o p l = absurd (omega (arith, l))
 factors_named (x ∷ ns) (zero ∷ es) (zero ∷ fs) h o p l = factors_named ns es fs h.1 o p (omega (arith, l))
 factors_named (x ∷ ns) (zero ∷ es) (suc f ∷ fs) h o p l = behind x ns es f (factor_trees (factors_of ns fs)) h.0 o ∙ sym (left_none es fs f)
 factors_named (x ∷ ns) (suc e ∷ es) (zero ∷ fs) h o p l =
-    trees_cmp_turned (factor_trees (factor x (suc e) ∷ factors_of ns es)) (factor_trees (factors_of ns fs)) ∙ ap ordering_reverse (behind x ns fs e (factor_trees (factors_of ns es)) h.0 p) ∙ sym (right_none es fs e)
+    trees_cmp_turned (factor_trees (factor x (suc e) ∷ factors_of ns es)) (factor_trees (factors_of ns fs)) ∙ ap ordering_reverse (behind x ns fs e (factor_trees (factors_of ns es)) h.0 p)
+    ∙ sym (right_none es fs e)
 factors_named (x ∷ ns) (suc e ∷ es) (suc f ∷ fs) h o p l =
     let rest = trees_cmp (factor_trees (factors_of ns es)) (factor_trees (factors_of ns fs)) in
     let go : rest ≡ exponents_cmp es fs = factors_named ns es fs h.1 o p (omega (arith, l)) in
@@ -173,7 +171,8 @@ kind_named (x ∷ ns) (suc e ∷ es) o = kind_behind ns es x e o
 
 -- ---- packed monomials
 
-kinds_cmp : (ns : List (List ℕ)) (es fs : List ℕ) → AreOf ns es → AreOf ns fs → nat_cmp (root_code (monomial_tree (factors_of ns es))) (root_code (monomial_tree (factors_of ns fs))) ≡ nat_cmp (code_of (kind_with 0 es)) (code_of (kind_with 0 fs))
+kinds_cmp : (ns : List (List ℕ)) (es fs : List ℕ) → AreOf ns es → AreOf ns fs
+    → nat_cmp (root_code (monomial_tree (factors_of ns es))) (root_code (monomial_tree (factors_of ns fs))) ≡ nat_cmp (code_of (kind_with 0 es)) (code_of (kind_with 0 fs))
 kinds_cmp ns es fs o p = λ i. nat_cmp (code_of (sym (kind_named ns es o) i)) (code_of (sym (kind_named ns fs p) i))
 
 -- by kinds, and then by factors
@@ -185,11 +184,13 @@ unfolding exponents_order
 order_named ns es fs h o p l =
     monomials_cmp (factors_of ns es) (factors_of ns fs) ∙ (λ i. ordering_then (kinds_cmp ns es fs o p i) (factors_named ns es fs h o p l i))
 
-pub kinds_decide : (es fs : List ℕ) (o : Ordering) (b : Bool) → o ≡ nat_cmp (code_of (kind_with 0 es)) (code_of (kind_with 0 fs)) → b ≡ not (ordering_index o == 1) → b ≡ true → o ≡ exponents_order es fs
+pub kinds_decide : (es fs : List ℕ) (o : Ordering) (b : Bool) → o ≡ nat_cmp (code_of (kind_with 0 es)) (code_of (kind_with 0 fs)) → b ≡ not (ordering_index o == 1) → b ≡ true
+    → o ≡ exponents_order es fs
 unfolding exponents_order
 kinds_decide es fs o b h c e = grind arith
 
-pub factors_decide : (es fs : List ℕ) (o : Ordering) (b : Bool) → o ≡ nat_cmp (code_of (kind_with 0 es)) (code_of (kind_with 0 fs)) → b ≡ not (ordering_index o == 1) → b ≡ false → exponents_cmp es fs ≡ exponents_order es fs
+pub factors_decide : (es fs : List ℕ) (o : Ordering) (b : Bool) → o ≡ nat_cmp (code_of (kind_with 0 es)) (code_of (kind_with 0 fs)) → b ≡ not (ordering_index o == 1) → b ≡ false
+    → exponents_cmp es fs ≡ exponents_order es fs
 unfolding exponents_order
 factors_decide es fs o b h c e = grind arith
 
@@ -231,7 +232,8 @@ packed_order k l =
     order_named eight_names (reverse (monomial_of k)) (reverse (monomial_of l)) eight_rise (eight_of _ (packed_length k)) (eight_of _ (packed_length l)) (packed_length k ∙ sym (packed_length l))
 
 -- with any names
-pub packed_named : (ns : List (List ℕ)) (k l : ℕ) → AreNames ns → AreOf ns (reverse (monomial_of k)) → AreOf ns (reverse (monomial_of l)) → packed_cmp k l ≡ monomial_cmp (named ns (monomial_of k)) (named ns (monomial_of l))
+pub packed_named : (ns : List (List ℕ)) (k l : ℕ) → AreNames ns → AreOf ns (reverse (monomial_of k)) → AreOf ns (reverse (monomial_of l))
+    → packed_cmp k l ≡ monomial_cmp (named ns (monomial_of k)) (named ns (monomial_of l))
 packed_named ns k l h o p = packed_order k l ∙ sym (order_named ns (reverse (monomial_of k)) (reverse (monomial_of l)) h o p (packed_length k ∙ sym (packed_length l)))
 
 pub packed_total : IsTotalOrder packed_cmp

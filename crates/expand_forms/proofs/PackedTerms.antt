@@ -1,23 +1,15 @@
 -- Exponents taken from a term's factors, name by name, and packed.
-use Rattle.std.proofs.Common.{◌≡◌, ◌≤◌, ◌<◌, ℕ, zero, suc, ◌+◌, ◌-◌, ◌*◌, ◌/◌, ◌%◌, ◌^◌, List, [], ◌∷◌, ◌++◌, length, get_or, drop, replicate, Option, Some, inl, inr, refl, sym, ap, ◌∙◌, subst, arith, append-nil, append_assoc}
-use Rattle.std.specs.Prelude.{reverse}
-use Rattle.std.proofs.Math.Nat.{mul_assoc, mul_comm}
-use Rattle.std.proofs.lemmas.List.{length-reverse, reverse-append}
-use Rattle.calc_terms.specs.Leaf.{name_of}
-use Rattle.calc_terms.specs.declared.name.Name.{Name}
+use Rattle.expand_forms.proofs.Shared.{◌≡◌, ◌≤◌, ◌<◌, ℕ, zero, suc, ◌+◌, ◌-◌, ◌*◌, ◌/◌, ◌%◌, ◌^◌, List, [], ◌∷◌, ◌++◌, length, get_or, drop, replicate, Option, Some, inl, inr, refl, sym, ap, ◌∙◌}
+use Rattle.expand_forms.proofs.Shared.{subst, arith, append-nil, append_assoc, reverse, mul_assoc, mul_comm, length-reverse, reverse-append, name_of, Name, Less, nat_cmp, slice_cmp, AreAhead}
+use Rattle.expand_forms.proofs.Shared.{BeginsWith, Factor, HasExponents, IsMonomial, IsNamed, IsRead, Monomial, factor, Forest, AreNames, AreOf, AreZero, IsBelowNames, IsOfNames, factors_of, led}
+use Rattle.expand_forms.proofs.Shared.{AreComing, BeginsOtherwise, IsTaken, IsUnlistedBy, Unlisted, Names, Exponents, Terms, monomial_of, unpacked, Visit}
 use Rattle.expand_forms.proofs.Masses.{later_exponents}
 use Rattle.expand_forms.proofs.NamedMonomials.{packed_length}
 use Rattle.expand_forms.proofs.NameLists.{AllHaveNames, all_have, below_has, dropped, dropped_all, later_names}
-use Rattle.expand_forms.proofs.Shared.{Less, nat_cmp, slice_cmp, AreAhead, BeginsWith, Factor, HasExponents, IsMonomial, IsNamed, IsRead, Monomial, factor, Forest}
 use Rattle.expand_forms.proofs.TreeMonomials.{below_more}
-use Rattle.expand_forms.specs.Named.{AreNames, AreOf, AreZero, IsBelowNames, IsOfNames, factors_of, led, named, names_of}
-use Rattle.expand_forms.specs.Reading.{AreComing, BeginsOtherwise, IsTaken, IsUnlistedBy}
+use Rattle.expand_forms.specs.Named.{named, names_of}
 use Rattle.expand_forms.specs.declared.factors.Factor.{Factor as Read}
-use Rattle.expand_forms.specs.declared.unlisted.Unlisted.{Unlisted}
-use Rattle.expand_forms.specs.declared.unlisted.Unlisted.TheVariants.{Names, Exponents, Terms}
-use Rattle.polynomials.specs.Packed.{monomial_of, unpacked}
 use Rattle.polynomials.specs.Polynomials.{Monomial as Packed}
-use Rattle.tree_handles.specs.declared.visits.Visit.{Visit}
 
 -- ---- the exponent of one name
 
@@ -26,7 +18,8 @@ led_some y zero r l = absurd (omega arith)
 led_some y (suc n) r l = refl
 
 -- the first factor is taken
-pub taken_first : {m : Monomial} {next left : Option Read} {nodes behind : List Visit} {base : Forest} (x : List ℕ) (e : ℕ) (y : Read) → AreComing m next nodes base → next ≡ Some y → name_of y.name ≡ x
+pub taken_first : {m : Monomial} {next left : Option Read} {nodes behind : List Visit} {base : Forest} (x : List ℕ) (e : ℕ) (y : Read) → AreComing m next nodes base → next ≡ Some y
+    → name_of y.name ≡ x
     → ((f : Factor) → IsRead y f → e ≡ f.exponent) → BeginsWith left (drop 1 m) → AreAhead (drop 1 (drop 1 m)) behind base → IsTaken m x e left behind base
 taken_first {m} {next} {left} {nodes} {behind} {base} x e y h is name exponent begins ahead =
     let (f, r, split, read) = subst (λ (o : Option Read). BeginsWith o m) is h.begins in
@@ -42,7 +35,8 @@ taken_first {m} {next} {left} {nodes} {behind} {base} x e y h is name exponent b
     }
 
 -- a factor that is read has its exponent
-pub exponent_of : {m : Monomial} {next : Option Read} {nodes : List Visit} {base : Forest} (y : Read) → AreComing m next nodes base → next ≡ Some y → (f : Factor) × IsRead y f × (HasExponents 255 m → f.exponent ≤ 255)
+pub exponent_of : {m : Monomial} {next : Option Read} {nodes : List Visit} {base : Forest} (y : Read) → AreComing m next nodes base → next ≡ Some y
+    → (f : Factor) × IsRead y f × (HasExponents 255 m → f.exponent ≤ 255)
 exponent_of {m} y h is =
     let (f, r, split, read) = subst (λ (o : Option Read). BeginsWith o m) is h.begins in
     (f, read, λ k. (subst (HasExponents 255) split k).0)
@@ -127,14 +121,16 @@ packed_more {ns} {m} {i} {k} {next} {left} {nodes} {behind} {base} x e j p h l a
       below = below_next i k e p.below small;
       rest = t.rest;
       split = p.split ∙ ap (λ (n : Monomial). factors_of ns es ++ n) (t.split ∙ sym (led_before x e t.rest)) ∙ sym (append_assoc (factors_of ns es) (led x e []) t.rest)
-          ∙ ap (λ (n : Monomial). n ++ t.rest) (sym (factors_end ns es e x (omega (arith, many, l)) (at ∙ ap (λ (n : ℕ). get_or ns n x) (sym many))) ∙ ap (factors_of ns) (sym (turned_more i k e small)));
+          ∙ ap (λ (n : Monomial). n ++ t.rest) (sym (factors_end ns es e x (omega (arith, many, l)) (at ∙ ap (λ (n : ℕ). get_or ns n x) (sym many)))
+          ∙ ap (factors_of ns) (sym (turned_more i k e small)));
       names = above x (drop (suc i) ns) e t.rest (names_at ns i x (drop (suc i) ns) h first) (subst IsMonomial t.split (p.coming).monomial)
           (subst (AllHaveNames (x ∷ drop (suc i) ns)) t.split (subst (λ (xs : List (List ℕ)). AllHaveNames xs p.rest) first p.names)) t.other;
       coming = t.coming;
     })
 
 -- an exponent that does not fit
-pub too_large : {ns : List (List ℕ)} {m : Monomial} {i k : ℕ} {next : Option Read} {nodes : List Visit} {base : Forest} (p : IsPackedTo ns m i k next nodes base) → (HasExponents 255 p.rest → ⊥) → HasExponents 255 m → ⊥
+pub too_large : {ns : List (List ℕ)} {m : Monomial} {i k : ℕ} {next : Option Read} {nodes : List Visit} {base : Forest} (p : IsPackedTo ns m i k next nodes base) → (HasExponents 255 p.rest → ⊥)
+    → HasExponents 255 m → ⊥
 too_large {ns} {m} {i} {k} p h x = h (later_exponents 255 (factors_of ns (reverse (unpacked i k))) p.rest (subst (HasExponents 255) p.split x))
 
 pub unlisted_more : {P Q : Type 0} (u : Unlisted) → (P → Q) → IsUnlistedBy ⊥ P ⊥ u → IsUnlistedBy ⊥ Q ⊥ u
@@ -211,7 +207,8 @@ pub record IsPacked (ns : List (List ℕ)) (m : Monomial) (k : ℕ) : Type 0 whe
   pub monomial : named ns (monomial_of k) ≡ m
   pub names : IsOfNames ns (monomial_of k)
 
-pub packed_all : {ns : List (List ℕ)} {m : Monomial} {i k s : ℕ} {next : Option Read} {nodes : List Visit} {base : Forest} → IsPackedTo ns m i k next nodes base → i ≡ length ns → length ns ≤ 8 → s ≡ k * 256 ^ (8 - i) → IsPacked ns m s
+pub packed_all : {ns : List (List ℕ)} {m : Monomial} {i k s : ℕ} {next : Option Read} {nodes : List Visit} {base : Forest} → IsPackedTo ns m i k next nodes base → i ≡ length ns → length ns ≤ 8
+    → s ≡ k * 256 ^ (8 - i) → IsPacked ns m s
 unfolding monomial_of
 packed_all {ns} {m} {i} {k} {s} p e few q =
     let es : Packed = reverse (unpacked i k) in
@@ -219,7 +216,8 @@ packed_all {ns} {m} {i} {k} {s} p e few q =
     let zs : Packed = reverse (replicate (8 - i) 0) in
     let eight : 8 ≡ (8 - i) + i = omega arith in
     let is : reverse (monomial_of s) ≡ es ++ zs =
-    ap (λ (n : ℕ). reverse (unpacked n s)) eight ∙ ap (λ (n : ℕ). reverse (unpacked ((8 - i) + i) n)) q ∙ ap reverse (shifted_unpacked (8 - i) i k) ∙ reverse-append (replicate (8 - i) 0) (unpacked i k) in
+    ap (λ (n : ℕ). reverse (unpacked n s)) eight ∙ ap (λ (n : ℕ). reverse (unpacked ((8 - i) + i) n)) q ∙ ap reverse (shifted_unpacked (8 - i) i k)
+    ∙ reverse-append (replicate (8 - i) 0) (unpacked i k) in
     record {
       monomial = ap (factors_of ns) is ∙ factors_front ns es zs many ∙ sym (p.split ∙ ap (λ (n : Monomial). factors_of ns es ++ n) (all_names ns i p.rest e p.names) ∙ append-nil (factors_of ns es));
       names = (packed_length s, subst (AreOf ns) (sym is) (of_front ns es zs many (zero_turned (8 - i))));

@@ -1,11 +1,10 @@
 -- Listed factors, placed one by one.
-use Rattle.std.proofs.Common.{◌≡◌, ℕ, zero, suc, ◌+◌, ◌<◌, ◌≤◌, List, [], ◌∷◌, ◌++◌, length, get_or, take, refl, sym, ap, ◌∙◌, subst, arith, Bool, true, false}
-use Rattle.std.specs.Prelude.{if◌then◌else◌}
-use Rattle.expand_forms.proofs.Shared.{num_most, Fraction, is_one_fraction, Tree, Trees, num, none, more, append, count, sizes, State, factor_tree, factor_trees, term_tree, AddsTrees, Factor, Monomial, summand, IsRead, led_by, Forest, join, Gives, KeepsFront, KeepsRefusals, Stands, forest, join_assoc, front_same, kept_same, represents_join}
+use Rattle.expand_forms.proofs.Shared.{◌≡◌, ℕ, zero, suc, ◌+◌, ◌<◌, ◌≤◌, List, [], ◌∷◌, ◌++◌, length, get_or, take, refl, sym, ap, ◌∙◌, subst, arith, Bool, true, false, if◌then◌else◌, num_most}
+use Rattle.expand_forms.proofs.Shared.{Fraction, is_one_fraction, Tree, Trees, num, none, more, append, count, sizes, State, factor_tree, factor_trees, term_tree, AddsTrees, Factor, Monomial}
+use Rattle.expand_forms.proofs.Shared.{summand, IsRead, led_by, Forest, join, Gives, KeepsFront, KeepsRefusals, Stands, forest, join_assoc, front_same, kept_same, represents_join, AreRead}
 use Rattle.expand_forms.proofs.AddedTrees.{adds_more, adds_none}
 use Rattle.expand_forms.proofs.FactorLists.{read_length}
 use Rattle.expand_forms.proofs.TermReadings.{count_factors, factors_append, led_term}
-use Rattle.expand_forms.specs.Listed.{AreRead}
 use Rattle.expand_forms.specs.declared.factors.Factor.{Factor as Read}
 
 -- the factor at a place
@@ -27,7 +26,8 @@ pub read_at : {n : ℕ} {x : Read} {m : Monomial} (xs : List Read) → AreRead x
 read_at {n} {x} {m} xs h l e = subst (λ (y : Read). IsNth n y m) (sym e) (nth_read n xs x m h l)
 
 -- one more of them is placed
-pub placed_more : {n p : ℕ} {x : Read} {m : Monomial} {f g h : Forest} (r : IsNth n x m) → AddsTrees (factor_trees (take n m)) f g → Gives g h p (λ t. t ≡ factor_tree r.factor) → AddsTrees (factor_trees (take (n + 1) m)) f h
+pub placed_more : {n p : ℕ} {x : Read} {m : Monomial} {f g h : Forest} (r : IsNth n x m) → AddsTrees (factor_trees (take n m)) f g → Gives g h p (λ t. t ≡ factor_tree r.factor)
+    → AddsTrees (factor_trees (take (n + 1) m)) f h
 placed_more {n} {m = m} {f} {h = h} r a p = subst (λ (ts : Trees). AddsTrees ts f h) (factors_append (take n m) (r.factor ∷ []) ∙ ap factor_trees (sym r.next)) (adds_more a p)
 
 -- ---- behind a coefficient
@@ -62,7 +62,8 @@ led_none {s = s} st e = record {
   front = front_same;
 }
 
-pub led_number : {q : Fraction} {s t : State} {h : ℕ} → Stands t → is_one_fraction q ≡ false → KeepsRefusals s t → KeepsFront [] (forest s) (forest t) → Gives (forest s) (forest t) h (λ u. u ≡ num q) → IsLed q 1 s t
+pub led_number : {q : Fraction} {s t : State} {h : ℕ} → Stands t → is_one_fraction q ≡ false → KeepsRefusals s t → KeepsFront [] (forest s) (forest t)
+    → Gives (forest s) (forest t) h (λ u. u ≡ num q) → IsLed q 1 s t
 led_number {q} {s} st e k w g = record {
   first = more (num q) none;
   adds = adds_more (adds_none (forest s)) g;
@@ -79,7 +80,8 @@ pub record IsPlaced (q : Fraction) (m : Monomial) (placed : ℕ) (f g : Forest) 
   pub adds : AddsTrees (led_by q (factor_trees m)) f g
   pub many : placed ≡ count (led_by q (factor_trees m))
 
-pub led_all : {q : Fraction} {placed k : ℕ} {s t : State} (v : State) (xs : List Read) (m : Monomial) → IsLed q placed s t → AreRead xs m → 1 ≤ length xs → k ≡ length xs → AddsTrees (factor_trees m) (forest t) (forest v) → IsPlaced q m (placed + k) (forest s) (forest v)
+pub led_all : {q : Fraction} {placed k : ℕ} {s t : State} (v : State) (xs : List Read) (m : Monomial) → IsLed q placed s t → AreRead xs m → 1 ≤ length xs → k ≡ length xs
+    → AddsTrees (factor_trees m) (forest t) (forest v) → IsPlaced q m (placed + k) (forest s) (forest v)
 led_all v [] m l h e n a = absurd (omega arith)
 led_all v (x ∷ xs) [] l h e n a = absurd h
 led_all {s = s} v (x ∷ xs) (f ∷ m) l h e n a =

@@ -1,11 +1,8 @@
 -- Terms of lists, placed one by one.
-use Rattle.std.proofs.Common.{◌≡◌, ℕ, ℤ, pos, zero, suc, ◌+◌, ◌<◌, ◌≤◌, List, [], ◌∷◌, ◌++◌, length, get_or, drop, take, refl, sym, ap, ◌∙◌, subst, arith, append-nil, append_assoc, to_z, of_z}
-use Rattle.rational128.proofs.Signed.{told}
-use Rattle.std.proofs.lemmas.List.{length-take-le, take_more}
-use Rattle.calc_terms.specs.Leaf.{name_of}
-use Rattle.calc_terms.specs.Ratio.{Ratio, whole}
-use Rattle.calc_terms.specs.declared.name.Name.{Name}
-use Rattle.expand_forms.proofs.Shared.{w128, Rat, lowest, ratio_of, value_of, length-append, num, zero_fraction, AddsTrees, AreMonomials, AreNamed, AreRead, Forest, Gives, IsRead, Monomial, Polynomial, Trees, add, append, count, factor, more, sizes, sum_tree, term_bytes, term_tree, term_trees, terms_bytes}
+use Rattle.expand_forms.proofs.Shared.{◌≡◌, ℕ, ℤ, pos, zero, suc, ◌+◌, ◌<◌, ◌≤◌, List, [], ◌∷◌, ◌++◌, length, get_or, drop, take, refl, sym, ap, ◌∙◌, subst, arith, append-nil, append_assoc, to_z}
+use Rattle.expand_forms.proofs.Shared.{of_z, told, length-take-le, take_more, name_of, Ratio, whole, Name, w128, Rat, lowest, ratio_of, value_of, length-append, num, zero_fraction, AddsTrees}
+use Rattle.expand_forms.proofs.Shared.{AreMonomials, AreNamed, AreRead, Forest, Gives, IsRead, Monomial, Polynomial, Trees, add, append, count, factor, more, sizes, sum_tree, term_bytes}
+use Rattle.expand_forms.proofs.Shared.{term_tree, term_trees, terms_bytes, factors_of, monomial_of, Term}
 use Rattle.expand_forms.proofs.AddedTrees.{adds_more}
 use Rattle.expand_forms.proofs.AllMonomials.{AllHave}
 use Rattle.expand_forms.proofs.FactorLists.{read_more}
@@ -13,10 +10,8 @@ use Rattle.expand_forms.proofs.FewTerms.{named_monomials}
 use Rattle.expand_forms.proofs.OrderedTerms.{named_term, named_terms}
 use Rattle.expand_forms.proofs.TermBytes.{IsNamedMonomial, terms_most, terms_rise}
 use Rattle.expand_forms.proofs.Widths.{few_factors}
-use Rattle.expand_forms.specs.Named.{factors_of, named, names_of}
+use Rattle.expand_forms.specs.Named.{named, names_of}
 use Rattle.expand_forms.specs.declared.factors.Factor.{Factor as Read}
-use Rattle.polynomials.specs.Packed.{monomial_of}
-use Rattle.polynomials.specs.declared.term.Term.{Term}
 
 -- ---- factors of a packed monomial
 
@@ -47,7 +42,8 @@ with_first x ns (suc e) es h = refl
 next_place : {ns : List (List ℕ)} {es : List ℕ} {xs : List Read} (i : ℕ) → IsListedTo ns es (suc i) xs → IsListedTo ns es (i + 1) xs
 next_place {ns} {es} {xs} i h = let e : suc i ≡ i + 1 = omega arith in subst (λ (k : ℕ). IsListedTo ns es k xs) e h
 
-pub listed_skip : {i : ℕ} {xs : List Read} (ns : List Name) (es : List ℕ) (d : Name) → IsListedTo (names_of ns) es i xs → i < length ns → i < length es → get_or es i 0 ≡ 0 → IsListedTo (names_of ns) es (i + 1) xs
+pub listed_skip : {i : ℕ} {xs : List Read} (ns : List Name) (es : List ℕ) (d : Name) → IsListedTo (names_of ns) es i xs → i < length ns → i < length es → get_or es i 0 ≡ 0
+    → IsListedTo (names_of ns) es (i + 1) xs
 listed_skip {i} ns es d h l m z = next_place i (record {
   done = h.done;
   read = h.read;
@@ -63,7 +59,8 @@ listed_push {i} {xs} ns es d r h l m z q =
     next_place i (record {
       done = h.done ++ f ∷ [];
       read = read_more xs h.done r f h.read q;
-      split = append_assoc h.done (f ∷ []) rest ∙ ap (λ (m : Monomial). h.done ++ m) (sym (from_place i ns es d l m ∙ with_first (name_of (get_or ns i d)) (drop (suc i) (names_of ns)) (get_or es i 0) (drop (suc i) es) z)) ∙ h.split;
+      split = append_assoc h.done (f ∷ []) rest ∙ ap (λ (m : Monomial). h.done ++ m)
+          (sym (from_place i ns es d l m ∙ with_first (name_of (get_or ns i d)) (drop (suc i) (names_of ns)) (get_or es i 0) (drop (suc i) es) z)) ∙ h.split;
       few = omega (arith, h.few, length-append xs (r ∷ []));
     })
 
@@ -102,7 +99,8 @@ count_terms [] = refl
 count_terms (s ∷ v) = ap suc (count_terms v)
 
 -- one more of them is placed
-pub placed_more : {i p : ℕ} {f g h : Forest} (ns : List (List ℕ)) (ts : List Term) (t : Term) → t ≡ get_or ts i t → i < length ts → AddsTrees (term_trees (named_terms ns (take i ts))) f g → Gives g h p (λ u. u ≡ term_tree (named_term ns t))
+pub placed_more : {i p : ℕ} {f g h : Forest} (ns : List (List ℕ)) (ts : List Term) (t : Term) → t ≡ get_or ts i t → i < length ts → AddsTrees (term_trees (named_terms ns (take i ts))) f g
+    → Gives g h p (λ u. u ≡ term_tree (named_term ns t))
     → AddsTrees (term_trees (named_terms ns (take (i + 1) ts))) f h
 placed_more {i} {f = f} {h = h} ns ts t e l a p =
     let next : take (i + 1) ts ≡ take i ts ++ t ∷ [] = take_more ts i t l ∙ ap (λ (u : Term). take i ts ++ u ∷ []) (sym e) in

@@ -1,20 +1,21 @@
 -- Powers of sums, which are left to be raised where their parent is expanded.
-use Rattle.std.proofs.Common.{◌≡◌, ◌⊎◌, inl, inr, ℕ, zero, suc, ◌+◌, ◌<◌, ◌≤◌, Bool, true, false, Result, Ok, Err, refl, sym, ap, ◌∙◌, subst, arith}
-use Rattle.std.specs.Prelude.{◌==◌, ◌||◌, [], ◌∷◌, if◌then◌else◌, IfErr}
-use Rattle.expand_forms.proofs.Shared.{AreExpanded, AreExpandedFrom, AreSame, Factor, IsExpanded, IsExpandedFrom, IsOver, Kind, MayLack, Monomial, IfOverflow, MayOverflow, NumberFault, OfFull, OfOverflow, Payload, Polynomial, Summand, Tree, Trees, add, and_parts, append, is_add, are_polynomials, bare, child_bits, children_of, compound, count, divisor_of, eqb-true, expanded, exponent_of, factor_tree, factor_trees, grown, has_polynomial_root, is_divisor, is_exponent, is_one_fraction, is_polynomial, monomial_tree, more, most_bits, most_terms, mult, named, names, neg, node_bytes, nodes, none, normal, nth, num, own_bits, polynomial_of, power, product_tree, rational, root_kind, root_size, size, sizes, sub, summand, sum_tree, symbol, takes, takes_kind, term_tree, term_trees, whole_num}
+use Rattle.expand_forms.proofs.Shared.{◌≡◌, ◌⊎◌, inl, inr, ℕ, zero, suc, ◌+◌, ◌<◌, ◌≤◌, Bool, true, false, Result, Ok, Err, refl, sym, ap, ◌∙◌, subst, arith, ◌==◌, ◌||◌, [], ◌∷◌, if◌then◌else◌}
+use Rattle.expand_forms.proofs.Shared.{IfErr, AreExpanded, AreExpandedFrom, AreSame, Factor, IsExpanded, IsExpandedFrom, IsOver, Kind, MayLack, Monomial, IfOverflow, MayOverflow, NumberFault}
+use Rattle.expand_forms.proofs.Shared.{OfFull, OfOverflow, Payload, Polynomial, Summand, Tree, Trees, add, and_parts, append, is_add, are_polynomials, bare, child_bits, children_of, compound}
+use Rattle.expand_forms.proofs.Shared.{count, divisor_of, eqb-true, expanded, exponent_of, factor_tree, factor_trees, grown, has_polynomial_root, is_divisor, is_exponent, is_one_fraction}
+use Rattle.expand_forms.proofs.Shared.{is_polynomial, monomial_tree, more, most_bits, most_terms, named, names, node_bytes, nodes, none, normal, nth, num, polynomial_of, power, product_tree}
+use Rattle.expand_forms.proofs.Shared.{rational, root_kind, root_size, size, sizes, sum_tree, symbol, takes, takes_kind, term_tree, term_trees, whole_num, AreReady, AreReadyFrom, IsOverReady}
+use Rattle.expand_forms.proofs.Shared.{IsLeft, IsReady, IsReadyFrom, has_power_of_sum, is_power_of_sum, answers_count, set_child, set_tree}
 use Rattle.expand_forms.proofs.ChildExpansions.{IsOver as IsOverSame, divisor_same, exponent_same, over_payload}
 use Rattle.expand_forms.proofs.ChildRooms.{narrower, room_above, room_at_node, root_bytes}
 use Rattle.expand_forms.proofs.Expansions.{expanded_same, is_expanded, same_polynomial}
 use Rattle.expand_forms.proofs.NodeBits.{over_kind}
-use Rattle.expand_forms.proofs.OverAnswers as over
 use Rattle.expand_forms.proofs.SameCoefficients.{same_is, same_trans}
 use Rattle.expand_forms.proofs.TreeMonomials.{tree_monomials}
-use Rattle.expand_forms.specs.PowersOfSums.{AreReady, AreReadyFrom, IsOverReady, IsReady, IsReadyFrom, has_power_of_sum, is_power_of_sum}
 use Rattle.expand_forms.proofs.Nodes.{from}
 use Rattle.reduce_walk.proofs.Bytes.{root_over}
-use Rattle.reduce_walk.proofs.Walks.{answers_count}
 use Rattle.reduce_walk.specs.Answers.{IsNext}
-use Rattle.tree_handles.specs.Holes.{set_child, set_tree}
+use Rattle.expand_forms.proofs.OverAnswers as over
 use Rattle.tree_handles.specs.declared.fault.NumberFault.TheVariants as number
 use Rattle.calc_terms.specs.declared.kind.Kind.TheVariants as kind
 
@@ -86,6 +87,18 @@ exponent_expanded {e} r h = ready_expanded r (exponent_none e h)
 pub divisor_expanded : {d : Tree} → IsReady d → is_divisor d ≡ true → IsExpanded d
 divisor_expanded {d} r h = ready_expanded r (divisor_none d h)
 
+pub left_power : (t : Tree) → IsLeft t → is_power_of_sum t ≡ true
+left_power t h = grind arith
+
+pub left_by : (t : Tree) → is_power_of_sum t ≡ true → count (children_of (nth 0 (children_of t))) ≤ 2 → 1 < exponent_of (nth 1 (children_of t)) → IsLeft t
+left_by t h l m = grind arith
+
+pub left_few : (t : Tree) → IsLeft t → count (children_of (nth 0 (children_of t))) ≤ 2
+left_few t h = grind arith
+
+pub left_great : (t : Tree) → IsLeft t → 1 < exponent_of (nth 1 (children_of t))
+left_great t h = grind arith
+
 pub power_kind : (u : Tree) → is_power_of_sum u ≡ true → root_kind u ≡ kind.Pow
 power_kind u h = grind arith
 
@@ -147,7 +160,8 @@ divisor_ready d u h r =
 pub raised_from : (t u : Tree) → is_power_of_sum u ≡ true → IsReadyFrom t u → IsReadyFrom t (expanded (polynomial_of u))
 raised_from t u h r p = by (r p)
   where
-    by : (u ≡ expanded (polynomial_of t)) ⊎ ((is_power_of_sum u ≡ true) × IsOver t u) → (expanded (polynomial_of u) ≡ expanded (polynomial_of t)) ⊎ ((is_power_of_sum (expanded (polynomial_of u)) ≡ true) × IsOver t (expanded (polynomial_of u)))
+    by : (u ≡ expanded (polynomial_of t)) ⊎ ((is_power_of_sum u ≡ true) × IsOver t u)
+        → (expanded (polynomial_of u) ≡ expanded (polynomial_of t)) ⊎ ((is_power_of_sum (expanded (polynomial_of u)) ≡ true) × IsOver t (expanded (polynomial_of u)))
     by (inl e) = absurd (let x = sym h ∙ expanded_none (polynomial_of t) e in cc)
     by (inr (k, o)) = inl (over.expanded_from t u o p (expanded (polynomial_of u)) refl p)
 
@@ -205,7 +219,8 @@ module _ (t now : Tree) (o : IsOverReady t now) (p : is_polynomial t ≡ true) w
   lacks (Err (number.Full full)) free l = omega (arith, room_at_node t (children_of now) free p (over.all_polynomials t p) o.children l, root_bytes now)
   lacks (Err (number.Overflow x)) free l = tt
 
-pub child_lacks : (t c : Tree) (before done behind : Trees) (bytes : ℕ) → is_polynomial t ≡ true → IsNext IsReadyFrom t before done c behind → MayLack c bytes → MayLack t (bytes + (root_size t + sizes done + sizes behind))
+pub child_lacks : (t c : Tree) (before done behind : Trees) (bytes : ℕ) → is_polynomial t ≡ true → IsNext IsReadyFrom t before done c behind → MayLack c bytes
+    → MayLack t (bytes + (root_size t + sizes done + sizes behind))
 child_lacks t c before done behind bytes p n l = omega (arith, root_over t before c behind n.split, room_above t c before behind done bytes p (over.all_polynomials t p) n.split n.answered l)
 
 -- ---- a child that is a power
@@ -234,13 +249,15 @@ power_among (suc n) (more t ts) (more u us) p e l h =
     let x = power_among n ts us b e.1 (omega (arith, l)) h in
     record { child = x.child; before = more t x.before; behind = x.behind; split = ap (more t) x.split; polynomial = x.polynomial; over = x.over }
 
-pub power_of : (t now : Tree) (n : ℕ) → IsOverReady t now → is_polynomial t ≡ true → n < count (children_of now) → is_power_of_sum (nth n (children_of now)) ≡ true → IsPowerAmong (children_of t) (nth n (children_of now))
+pub power_of : (t now : Tree) (n : ℕ) → IsOverReady t now → is_polynomial t ≡ true → n < count (children_of now) → is_power_of_sum (nth n (children_of now)) ≡ true
+    → IsPowerAmong (children_of t) (nth n (children_of now))
 power_of t now n o p l h = power_among n (children_of t) (children_of now) (over.all_polynomials t p) o.children l h
 
 pub power_bits : (t : Tree) {u : Tree} (x : IsPowerAmong (children_of t) u) → most_bits x.child ≤ most_bits t
 power_bits t x = child_bits t x.before x.child x.behind x.split
 
-pub power_lacks : (t : Tree) {u : Tree} {A : Type 0} (x : IsPowerAmong (children_of t) u) (r : Result A NumberFault) (free : ℕ) → IfErr r (OfFull (λ full. free < node_bytes (names x.child) (most_terms x.child))) → IfErr r (OfFull (λ full. free < node_bytes (names t) (most_terms t)))
+pub power_lacks : (t : Tree) {u : Tree} {A : Type 0} (x : IsPowerAmong (children_of t) u) (r : Result A NumberFault) (free : ℕ)
+    → IfErr r (OfFull (λ full. free < node_bytes (names x.child) (most_terms x.child))) → IfErr r (OfFull (λ full. free < node_bytes (names t) (most_terms t)))
 power_lacks t x (Ok a) free l = tt
 power_lacks t x (Err (number.Full full)) free l = omega (arith, l, narrower t x.child x.before x.behind x.split)
 power_lacks t x (Err (number.Overflow o)) free l = tt
@@ -297,7 +314,8 @@ set_node (bare k) now vs e h l c =
     let same : root_kind now ≡ k = ap root_kind e ∙ compound_kind k (count (children_of now)) (children_of now) h in
     (ap (λ (j : Kind). compound j vs) same, ap (λ (j : Kind). children_of (compound j vs)) same ∙ compound_children k vs (ap (takes_kind k) c ∙ h))
 
-pub over_set : (t now : Tree) (n : ℕ) → IsOverReady t now → n < count (children_of now) → is_power_of_sum (nth n (children_of now)) ≡ true → IsOverReady t (set_child n (expanded (polynomial_of (nth n (children_of now)))) now)
+pub over_set : (t now : Tree) (n : ℕ) → IsOverReady t now → n < count (children_of now) → is_power_of_sum (nth n (children_of now)) ≡ true
+    → IsOverReady t (set_child n (expanded (polynomial_of (nth n (children_of now)))) now)
 over_set t now n o l h =
     let vs = set_tree n (expanded (polynomial_of (nth n (children_of now)))) (children_of now) in
     let many : count (children_of now) ≡ count (children_of t) = sym (answers_count IsReadyFrom (children_of t) (children_of now) o.children) in
@@ -340,7 +358,8 @@ set_nth (suc n) u (more t ts) l = set_nth n u ts (omega (arith, l))
 
 pub raised_behind : (n : ℕ) (v : Polynomial) (ts : Trees) → n < count ts → has_power_of_sum (from (suc n) ts) ≡ false → has_power_of_sum (from n (set_tree n (expanded v) ts)) ≡ false
 raised_behind n v ts l k =
-    one_more_behind n (set_tree n (expanded v) ts) (omega (arith, l, count_set n (expanded v) ts)) (expanded_none v (set_nth n (expanded v) ts l)) (ap has_power_of_sum (set_behind n (expanded v) ts) ∙ k)
+    one_more_behind n (set_tree n (expanded v) ts) (omega (arith, l, count_set n (expanded v) ts)) (expanded_none v (set_nth n (expanded v) ts l))
+    (ap has_power_of_sum (set_behind n (expanded v) ts) ∙ k)
 
 -- ---- an answer
 

@@ -1,27 +1,23 @@
 -- Terms of an expanded tree that are listed one after another.
-use Rattle.std.proofs.Common.{◌≡◌, ◌⊎◌, ◌≤◌, ◌<◌, ℕ, zero, suc, ◌+◌, List, [], ◌∷◌, ◌++◌, length, take, drop, inl, inr, refl, sym, ap, ◌∙◌, subst, arith}
-use Rattle.std.specs.Prelude.{IfErr, Result, Ok, Err}
+use Rattle.expand_forms.proofs.Shared.{◌≡◌, ◌⊎◌, ◌≤◌, ◌<◌, ℕ, zero, suc, ◌+◌, List, [], ◌∷◌, ◌++◌, length, take, drop, inl, inr, refl, sym, ap, ◌∙◌, subst, arith, IfErr, Result, Ok, Err}
+use Rattle.expand_forms.proofs.Shared.{HasMonomial, IsBeforeAll, IsNormal, IsNamed, AreMonomials, IsExpanded, Monomial, Polynomial, Summand, Tree, Trees, count, coefficient_in, factors_in}
+use Rattle.expand_forms.proofs.Shared.{root_kind, more, names, none, normal, nth, polynomial_of, HasExponents, HaveExponents, summand, term_trees, terms_in, value_of, AreNames, IsListOf}
+use Rattle.expand_forms.proofs.Shared.{IsOfNames, named_polynomial, AreAmong, AreListed, IsSummandTree, IsUnlistedBy, monomial_of, AreTermsOf, summand_of, Term, Unlisted, Names, Exponents, Terms}
+use Rattle.expand_forms.proofs.Shared.{length-append}
 use Rattle.expand_forms.proofs.AllMonomials.{AllHave, normal_all}
 use Rattle.expand_forms.proofs.MonomialTrees.{less_apart}
 use Rattle.expand_forms.proofs.Names.{tree_named}
 use Rattle.expand_forms.proofs.NamedPolynomials.{named_same}
 use Rattle.expand_forms.proofs.NormalForms.{normal_is}
 use Rattle.expand_forms.proofs.SameCoefficients.{same_cons, same_is, same_normal, same_trans, same_turned}
-use Rattle.expand_forms.proofs.Shared.{HasMonomial, IsBeforeAll, IsNormal, IsNamed, AreMonomials, IsExpanded, Monomial, Polynomial, Summand, Tree, Trees, count, coefficient_in, factors_in, root_kind, more, names, none, normal, nth, polynomial_of, HasExponents, HaveExponents, summand, term_trees, terms_in, value_of}
 use Rattle.expand_forms.proofs.NameLists.{taken_all}
 use Rattle.expand_forms.proofs.TermPolynomials.{expanded_terms, term_coefficient, term_factors, tree_normal}
-use Rattle.expand_forms.specs.Named.{AreNames, IsListOf, IsOfNames, named, named_polynomial}
-use Rattle.expand_forms.specs.Reading.{AreAmong, AreListed, IsSummandTree, IsUnlistedBy}
+use Rattle.expand_forms.specs.Named.{named}
 use Rattle.polynomials.proofs.Worth.{same_cons as values_cons, same_is as values_is, same_trans as values_trans}
-use Rattle.polynomials.specs.Packed.{monomial_of}
-use Rattle.polynomials.specs.Terms.{AreTermsOf, polynomial_of as terms_of, summand_of}
+use Rattle.polynomials.specs.Terms.{polynomial_of as terms_of}
 use Rattle.polynomials.specs.Unfits.{HasMonomial as Has, IsCaused, OfCoefficient}
-use Rattle.polynomials.specs.declared.term.Term.{Term}
 use Rattle.polynomials.specs.declared.unfit.Unfit.{Unfit}
 use Rattle.polynomials.specs.declared.unfit.Unfit.TheVariants as unfit
-use Rattle.expand_forms.specs.declared.unlisted.Unlisted.{Unlisted}
-use Rattle.expand_forms.specs.declared.unlisted.Unlisted.TheVariants.{Names, Exponents, Terms}
-use Rattle.std.proofs.lemmas.List.{length-append}
 use Rattle.calc_terms.specs.declared.kind.Kind.TheVariants as kind
 
 -- ---- one term more
@@ -60,7 +56,8 @@ pub record IsNextSummand (ns : List (List ℕ)) (v : Polynomial) (i : ℕ) (t : 
   pub before : IsBeforeAll summand-is.monomial (drop (suc i) v)
   pub exponents : HaveExponents 255 v → HasExponents 255 summand-is.monomial
 
-next_summand : (ns : List (List ℕ)) (v : Polynomial) (i : ℕ) (t : Tree) → IsNormal v → AreMonomials v → AllHave (IsNamed ns) v → i < count (term_trees v) → t ≡ nth i (term_trees v) → IsNextSummand ns v i t
+next_summand : (ns : List (List ℕ)) (v : Polynomial) (i : ℕ) (t : Tree) → IsNormal v → AreMonomials v → AllHave (IsNamed ns) v → i < count (term_trees v) → t ≡ nth i (term_trees v)
+    → IsNextSummand ns v i t
 next_summand ns [] i t h m n l e = absurd (omega arith)
 next_summand ns (s ∷ v) zero t h m n l e = record { summand-is = s; first = refl; more = refl; is = record { nonzero = h.0; monomial = m.0; named = n.0; tree = e }; before = h.1; exponents = λ x. x.0 }
 next_summand ns (s ∷ v) (suc i) t h m n l e =
@@ -89,14 +86,17 @@ pub listed_none : {ns : List (List ℕ)} {list : List Term} (v : Polynomial) →
 listed_none {ns} v e = subst (λ (ts : List Term). AreListed ns [] v ts) (sym e)
     (record { normal = tt; within = record { alike = []; named = tt; same = values_is refl }; same = same_is refl; before = λ k h. absurd h; few = omega arith })
 
-pub listed_more : {ns : List (List ℕ)} {v : Polynomial} {i : ℕ} {t : Tree} {list : List Term} (j : ℕ) (x : IsNextSummand ns v i t) → j ≡ suc i → AreListed ns (take i v ++ x.summand-is ∷ []) (drop (suc i) v) list → AreListed ns (take j v) (drop j v) list
+pub listed_more : {ns : List (List ℕ)} {v : Polynomial} {i : ℕ} {t : Tree} {list : List Term} (j : ℕ) (x : IsNextSummand ns v i t) → j ≡ suc i
+    → AreListed ns (take i v ++ x.summand-is ∷ []) (drop (suc i) v) list → AreListed ns (take j v) (drop j v) list
 listed_more {ns} {v} {i} {t} {list} j x e l =
     subst (λ (k : ℕ). AreListed ns (take k v) (drop k v) list) (sym e) (subst (λ (w : Polynomial). AreListed ns w (drop (suc i) v) list) (sym x.more) l)
 
-pub listed_first : {ns : List (List ℕ)} {v : Polynomial} {i : ℕ} {t : Tree} {list : List Term} (x : IsNextSummand ns v i t) → AreListed ns (take i v) (drop i v) list → AreListed ns (take i v) (x.summand-is ∷ drop (suc i) v) list
+pub listed_first : {ns : List (List ℕ)} {v : Polynomial} {i : ℕ} {t : Tree} {list : List Term} (x : IsNextSummand ns v i t) → AreListed ns (take i v) (drop i v) list
+    → AreListed ns (take i v) (x.summand-is ∷ drop (suc i) v) list
 listed_first {ns} {v} {i} {t} {list} x l = subst (λ (w : Polynomial). AreListed ns (take i v) w list) x.first l
 
-pub listed_all : {ns : List (List ℕ)} {i : ℕ} {list : List Term} (t : Tree) → AreNames ns → length ns ≤ 8 → length (normal (polynomial_of t)) ≤ i → AreListed ns (take i (normal (polynomial_of t))) (drop i (normal (polynomial_of t))) list → IsListOf ns list (polynomial_of t)
+pub listed_all : {ns : List (List ℕ)} {i : ℕ} {list : List Term} (t : Tree) → AreNames ns → length ns ≤ 8 → length (normal (polynomial_of t)) ≤ i
+    → AreListed ns (take i (normal (polynomial_of t))) (drop i (normal (polynomial_of t))) list → IsListOf ns list (polynomial_of t)
 listed_all {ns} {i} {list} t h few l x = record {
   names = h;
   few = few;

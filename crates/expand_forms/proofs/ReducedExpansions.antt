@@ -1,7 +1,8 @@
 -- The expanded tree of a polynomial is reduced.
-use Rattle.std.proofs.Common.{arith, ◌≡◌, ◌≢◌, inl, inr, [], ◌∷◌, true, refl, sym, ap, ◌∙◌, subst}
-use Rattle.std.specs.Prelude.{if◌then◌else◌}
-use Rattle.expand_forms.proofs.Shared.{not_from_false, Less, is_number, HasForm, IsSumForm, NoneIs, RisesBy, is_reduced, number_terms, other_terms, part_of, tree_cmp, one_is, zero_test, Fraction, zero_fraction, AllParts, AllPartsOf, HasTwo, Tree, num, Trees, none, more, is_add, IsBeforeAll, IsNormal, expanded, monomial_cmp, monomial_tree, normal, sum_tree, term_tree, term_trees, Factor, IsMonomial, Monomial, Polynomial, Summand, polynomial_of}
+use Rattle.expand_forms.proofs.Shared.{arith, ◌≡◌, ◌≢◌, inl, inr, [], ◌∷◌, true, refl, sym, ap, ◌∙◌, subst, if◌then◌else◌, not_from_false, Less, is_number, HasForm, IsSumForm, NoneIs, RisesBy}
+use Rattle.expand_forms.proofs.Shared.{is_reduced, number_terms, other_terms, part_of, tree_cmp, one_is, zero_test, Fraction, zero_fraction, AllParts, AllPartsOf, HasTwo, Tree, num, Trees, none}
+use Rattle.expand_forms.proofs.Shared.{more, is_add, IsBeforeAll, IsNormal, expanded, monomial_cmp, monomial_tree, normal, sum_tree, term_tree, term_trees, Factor, IsMonomial, Monomial}
+use Rattle.expand_forms.proofs.Shared.{Polynomial, Summand, polynomial_of}
 use Rattle.calc_algebra.proofs.ReducedLaws.{reduced_test}
 use Rattle.expand_forms.proofs.AllMonomials.{AllHave, normal_all}
 use Rattle.expand_forms.proofs.FactorTrees.{not_before_one, term_no_add, term_no_number, term_no_term, term_part, term_parts}

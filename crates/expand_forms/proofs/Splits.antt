@@ -1,7 +1,7 @@
 -- Polynomials in two parts, one of which is joined to a sum: both are held as the whole is.
-use Rattle.std.proofs.Common.{◌≡◌, ◌⊎◌, inl, inr, ℕ, zero, suc, ◌+◌, ◌^◌, ◌≤◌, ◌<◌, [], ◌∷◌, ◌++◌, pos, Bool, true, false, refl, sym, ap, ◌∙◌, subst, arith}
-use Rattle.expand_forms.proofs.Shared.{mul-le, pow-add, pow_below, magnitude_over, den_divides, magnitude_lowest, fraction_fits, sum_fits, Fraction, lowest, Tree, Trees, count, normal, sum_tree, term_trees, AreWhole, IsHeld, mass, AreMonomials, Polynomial, Summand, polynomial_of, IsExpanded, IsSum, coefficient_in, children_of, nth}
-use Rattle.std.specs.Int.{◌∣◌}
+use Rattle.expand_forms.proofs.Shared.{◌≡◌, ◌⊎◌, inl, inr, ℕ, zero, suc, ◌+◌, ◌^◌, ◌≤◌, ◌<◌, [], ◌∷◌, ◌++◌, pos, Bool, true, false, refl, sym, ap, ◌∙◌, subst, arith, mul-le, pow-add, pow_below}
+use Rattle.expand_forms.proofs.Shared.{magnitude_over, den_divides, magnitude_lowest, fraction_fits, sum_fits, Fraction, lowest, Tree, Trees, count, normal, sum_tree, term_trees, AreWhole}
+use Rattle.expand_forms.proofs.Shared.{IsHeld, mass, AreMonomials, Polynomial, Summand, polynomial_of, IsExpanded, IsSum, coefficient_in, children_of, nth, ◌∣◌}
 use Rattle.calc_bits.proofs.Fitting.{multiple_fits, sum_fits_over}
 use Rattle.expand_forms.proofs.Joins.{sum_polynomial_is}
 use Rattle.expand_forms.proofs.Masses.{exponents_right, mass_append, whole_right}
@@ -36,19 +36,22 @@ first_fits s {v} {h} {l} x k =
     let d = x.denominator in
     multiple_fits d s.coefficient x.positive x.whole.0 (small_denominator x k) (omega (arith, small_mass x k))
 
-pub nth_whole : (d n : ℕ) (v : Polynomial) → n < count (term_trees v) → AreWhole d v → ((coefficient_in (nth n (term_trees v))).den ∣ d) × (magnitude_over d (coefficient_in (nth n (term_trees v))) ≤ mass d v)
+pub nth_whole : (d n : ℕ) (v : Polynomial) → n < count (term_trees v) → AreWhole d v
+    → ((coefficient_in (nth n (term_trees v))).den ∣ d) × (magnitude_over d (coefficient_in (nth n (term_trees v))) ≤ mass d v)
 nth_whole d n [] l h = absurd (omega arith)
 nth_whole d zero (s ∷ v) l h = (subst (λ (q : Fraction). q.den ∣ d) (sym (term_coefficient s)) h.0, omega (arith, ap (magnitude_over d) (term_coefficient s)))
 nth_whole d (suc n) (s ∷ v) l h = let (a, b) = nth_whole d n v (omega (arith, l)) h.1 in (a, omega (arith, b))
 
-pub sum_fits_beside : (s : Summand) {v : Polynomial} {h l : ℕ} (n : ℕ) → n < count (term_trees v) → IsHeld (s ∷ v) h l → h + l < 127 → sum_fits (coefficient_in (nth n (term_trees v))) s.coefficient ≡ true
+pub sum_fits_beside : (s : Summand) {v : Polynomial} {h l : ℕ} (n : ℕ) → n < count (term_trees v) → IsHeld (s ∷ v) h l → h + l < 127
+    → sum_fits (coefficient_in (nth n (term_trees v))) s.coefficient ≡ true
 sum_fits_beside s {v} {h} {l} n few x k =
     let d = x.denominator in
     let (a, b) = nth_whole d n v few x.whole.1 in
     sum_fits_over (coefficient_in (nth n (term_trees v))) s.coefficient d x.positive a x.whole.0 (small_denominator x k) (omega (arith, small_mass x k, b))
 
 -- its sum with the coefficient of a term of the sum
-pub total_fits : {t : Tree} (s : IsSum t) (z : Summand) {h l : ℕ} (n : ℕ) → n < count (children_of t) → IsHeld (z ∷ polynomial_of t) h l → h + l < 127 → (a : Fraction) → a ≡ coefficient_in (nth n (children_of t)) → sum_fits a z.coefficient ≡ true
+pub total_fits : {t : Tree} (s : IsSum t) (z : Summand) {h l : ℕ} (n : ℕ) → n < count (children_of t) → IsHeld (z ∷ polynomial_of t) h l → h + l < 127 → (a : Fraction)
+    → a ≡ coefficient_in (nth n (children_of t)) → sum_fits a z.coefficient ≡ true
 total_fits s z {h} {l} n few x k a e =
     let c = sum_children s in
     let held = subst (λ (p : Polynomial). IsHeld (z ∷ p) h l) (sum_polynomial_is s) x in

@@ -1,7 +1,7 @@
 -- A term more, and a term with another coefficient, in a normal polynomial.
-use Rattle.std.proofs.Common.{◌≡◌, ◌≢◌, ◌≤◌, ◌<◌, ℕ, zero, suc, [], ◌∷◌, Bool, true, false, refl, sym, ap, ◌∙◌, arith}
-use Rattle.std.specs.Prelude.{if◌then◌else◌}
-use Rattle.expand_forms.proofs.Shared.{Less, product_tree, tree_cmp, tree_chain, zero_plus, Fraction, plus, plus_assoc, plus_comm, zero_fraction, Tree, none, more, count, IsBeforeAll, IsNormal, monomial_cmp, term_tree, term_trees, AreMonomials, IsMonomial, Monomial, Polynomial, Summand, coefficient_at, is_same_monomial, summand, AreSame, IsPlace, factors_in, term_cmp, removed, inserted, nth}
+use Rattle.expand_forms.proofs.Shared.{◌≡◌, ◌≢◌, ◌≤◌, ◌<◌, ℕ, zero, suc, [], ◌∷◌, Bool, true, false, refl, sym, ap, ◌∙◌, arith, if◌then◌else◌, Less, product_tree, tree_cmp, tree_chain, zero_plus}
+use Rattle.expand_forms.proofs.Shared.{Fraction, plus, plus_assoc, plus_comm, zero_fraction, Tree, none, more, count, IsBeforeAll, IsNormal, monomial_cmp, term_tree, term_trees, AreMonomials}
+use Rattle.expand_forms.proofs.Shared.{IsMonomial, Monomial, Polynomial, Summand, coefficient_at, is_same_monomial, summand, AreSame, IsPlace, factors_in, term_cmp, removed, inserted, nth}
 use Rattle.expand_forms.proofs.MonomialTrees.{turned}
 use Rattle.expand_forms.proofs.NormalForms.{before_more}
 use Rattle.expand_forms.proofs.SameCoefficients.{same_cons, same_refl, same_second, same_trans}
@@ -164,6 +164,7 @@ before_nth t (s ∷ v) (suc n) h l = before_nth t v n h.1 (omega arith)
 pub below_up_to : (v : Polynomial) (j n : ℕ) (u : Tree) → IsNormal v → j ≤ n → n < count (term_trees v) → term_cmp (nth n (term_trees v)) u ≡ Less → term_cmp (nth j (term_trees v)) u ≡ Less
 below_up_to [] j n u h i l e = absurd (omega arith)
 below_up_to (t ∷ v) zero zero u h i l e = e
-below_up_to (t ∷ v) zero (suc n) u h i l e = tree_chain (product_tree (factors_in (term_tree t))) (product_tree (factors_in (nth n (term_trees v)))) (product_tree (factors_in u)) (before_nth t v n h.1 (omega arith)) e
+below_up_to (t ∷ v) zero (suc n) u h i l e =
+    tree_chain (product_tree (factors_in (term_tree t))) (product_tree (factors_in (nth n (term_trees v)))) (product_tree (factors_in u)) (before_nth t v n h.1 (omega arith)) e
 below_up_to (t ∷ v) (suc j) zero u h i l e = absurd (omega arith)
 below_up_to (t ∷ v) (suc j) (suc n) u h i l e = below_up_to v j n u h.2 (omega arith) (omega arith) e

@@ -1,7 +1,8 @@
 -- How many bytes terms and sums of them have.
-use Rattle.std.proofs.Common.{ℕ, suc, ◌+◌, ◌*◌, ◌≤◌, List, [], ◌∷◌, length, Bool, true, false, arith}
-use Rattle.std.specs.Prelude.{if◌then◌else◌}
-use Rattle.expand_forms.proofs.Shared.{Ordering, Less, Equal, Greater, mul-le, product_tree, num_most, is_one_fraction, is_zero_fraction, one_fraction, plus, num, more, size, sizes, expanded, factor_tree, factor_trees, joined, monomial_cmp, monomial_tree, normal, sum_tree, term_tree, term_trees, with_summand, without_zeros, IsNamed, count_distinct, term_bytes, terms_bytes, sum_bytes, Factor, IsMonomial, Monomial, Polynomial, Summand, summand}
+use Rattle.expand_forms.proofs.Shared.{ℕ, suc, ◌+◌, ◌*◌, ◌≤◌, List, [], ◌∷◌, length, Bool, true, false, arith, if◌then◌else◌, Ordering, Less, Equal, Greater, mul-le, product_tree, num_most}
+use Rattle.expand_forms.proofs.Shared.{is_one_fraction, is_zero_fraction, one_fraction, plus, num, more, size, sizes, expanded, factor_tree, factor_trees, joined, monomial_cmp, monomial_tree}
+use Rattle.expand_forms.proofs.Shared.{normal, sum_tree, term_tree, term_trees, with_summand, without_zeros, IsNamed, count_distinct, term_bytes, terms_bytes, sum_bytes, Factor, IsMonomial}
+use Rattle.expand_forms.proofs.Shared.{Monomial, Polynomial, Summand, summand}
 use Rattle.expand_forms.proofs.AllMonomials.{AllHave, normal_all}
 use Rattle.expand_forms.proofs.Widths.{few_factors}
 
@@ -42,7 +43,8 @@ with_length : (s : Summand) (v : Polynomial) → length (with_summand s v) ≤ s
 with_length s [] = omega arith
 with_length s (t ∷ v) = by (monomial_cmp s.monomial t.monomial) (with_length s v)
   where
-    by : (o : Ordering) → length (with_summand s v) ≤ suc (length v) → length {A = Summand} (elim o [ Less ↦ s ∷ t ∷ v | Equal ↦ summand (plus s.coefficient t.coefficient) s.monomial ∷ v | Greater ↦ t ∷ with_summand s v ]) ≤ suc (suc (length v))
+    by : (o : Ordering) → length (with_summand s v) ≤ suc (length v) → length {A = Summand}
+        (elim o [ Less ↦ s ∷ t ∷ v | Equal ↦ summand (plus s.coefficient t.coefficient) s.monomial ∷ v | Greater ↦ t ∷ with_summand s v ]) ≤ suc (suc (length v))
     by Less go = omega arith
     by Equal go = omega arith
     by Greater go = omega (arith, go)

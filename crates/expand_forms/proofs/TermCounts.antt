@@ -1,6 +1,9 @@
 -- How many summands the polynomial of a tree has, and the room of an expansion.
-use Rattle.std.proofs.Common.{◌≡◌, ℕ, zero, suc, ◌*◌, ◌^◌, ◌≤◌, List, [], ◌∷◌, length, map, true, sym, ap, ◌∙◌, arith}
-use Rattle.expand_forms.proofs.Shared.{le-max_left, le-max_right, one-le-pow, pow-le-pow_left, pow-succ', pow-zero, and_parts, length-append, length-map, mul-le, Within, within_same, Fraction, inverse, minus_one_fraction, times, Tree, num, symbol, undef, add, mult, power, root, neg, sub, div, Trees, none, more, names, nodes, size, expanded, IsNamed, count_distinct, expansion_room, most_terms, product_of_terms, sum_bytes, sum_of_terms, terms, IsMonomial, Polynomial, Summand, product, raised, scaled, summand, summand_times, are_polynomials, divisor_of, exponent_of, is_divisor, is_exponent, is_polynomial, polynomial_of, product_of, sum_of, nodes_by_children}
+use Rattle.expand_forms.proofs.Shared.{◌≡◌, ℕ, zero, suc, ◌*◌, ◌^◌, ◌≤◌, List, [], ◌∷◌, length, map, true, sym, ap, ◌∙◌, arith, le-max_left, le-max_right, one-le-pow, pow-le-pow_left, pow-succ'}
+use Rattle.expand_forms.proofs.Shared.{pow-zero, and_parts, length-append, length-map, mul-le, Within, within_same, Fraction, inverse, minus_one_fraction, times, Tree, num, symbol, undef, add}
+use Rattle.expand_forms.proofs.Shared.{mult, power, root, neg, sub, div, Trees, none, more, names, nodes, size, expanded, IsNamed, count_distinct, expansion_room, most_terms, product_of_terms}
+use Rattle.expand_forms.proofs.Shared.{sum_bytes, sum_of_terms, terms, IsMonomial, Polynomial, Summand, product, raised, scaled, summand, summand_times, are_polynomials, divisor_of, exponent_of}
+use Rattle.expand_forms.proofs.Shared.{is_divisor, is_exponent, is_polynomial, polynomial_of, product_of, sum_of, nodes_by_children}
 use Rattle.expand_forms.proofs.AllMonomials.{AllHave}
 use Rattle.expand_forms.proofs.Names.{tree_named}
 use Rattle.expand_forms.proofs.TermBytes.{IsNamedMonomial, expanded_most}
@@ -38,7 +41,8 @@ mutual
 
   pub few_in_product : (ts : Trees) → length (product_of ts) ≤ product_of_terms ts
   few_in_product none = omega arith
-  few_in_product (more t ts) = omega (arith, product_length (polynomial_of t) (product_of ts), mul-le (length (polynomial_of t)) (length (product_of ts)) (terms t) (product_of_terms ts) (few_terms t) (few_in_product ts))
+  few_in_product (more t ts) =
+      omega (arith, product_length (polynomial_of t) (product_of ts), mul-le (length (polynomial_of t)) (length (product_of ts)) (terms t) (product_of_terms ts) (few_terms t) (few_in_product ts))
 
 -- ---- a polynomial has a term at least, and none of its parts has more than the largest has
 

@@ -1,7 +1,6 @@
 -- The keys of monomials, and their order.
-use Rattle.std.proofs.Common.{◌≡◌, ◌≢◌, [], ◌∷◌, refl, sym, ap, ◌∙◌, arith}
-use Rattle.std.specs.Prelude.{None}
-use Rattle.expand_forms.proofs.Shared.{Less, Greater, product_tree, tree_cmp, one_fraction, Tree, num, count, root_kind, factor_trees, monomial_cmp, Monomial, HasMonomial, IsMonomialKey, factors_in, term_cmp, Forest}
+use Rattle.expand_forms.proofs.Shared.{◌≡◌, ◌≢◌, [], ◌∷◌, refl, sym, ap, ◌∙◌, arith, None, Less, Greater, product_tree, tree_cmp, one_fraction, Tree, num, count, root_kind, factor_trees}
+use Rattle.expand_forms.proofs.Shared.{monomial_cmp, Monomial, HasMonomial, IsMonomialKey, factors_in, term_cmp, Forest}
 use Rattle.expand_forms.proofs.FactorTrees.{on_factor, on_monomial}
 use Rattle.calc_terms.specs.declared.kind.Kind.TheVariants as kind
 
@@ -25,7 +24,8 @@ monomial_order h k = λ i. tree_cmp (product_tree (h.factors i)) (product_tree (
 pub one_first : (m n : Monomial) → m ≡ [] → n ≢ [] → Less ≡ monomial_cmp m n
 one_first m [] e h = absurd (h refl)
 one_first m (f ∷ n) e h =
-    sym (ap (λ (x : Monomial). monomial_cmp x (f ∷ n)) e ∙ on_monomial (λ v. tree_cmp (num one_fraction) v ≡ Less) f n (on_factor (λ v. tree_cmp (num one_fraction) v ≡ Less) f refl refl) (λ g k. refl))
+    sym (ap (λ (x : Monomial). monomial_cmp x (f ∷ n)) e ∙ on_monomial (λ v. tree_cmp (num one_fraction) v ≡ Less) f n (on_factor (λ v. tree_cmp (num one_fraction) v ≡ Less) f refl refl)
+    (λ g k. refl))
 
 pub one_last : (m n : Monomial) → m ≢ [] → n ≡ [] → Greater ≡ monomial_cmp m n
 one_last [] n h e = absurd (h refl)

@@ -1,7 +1,9 @@
 -- The polynomials of terms and of expanded trees, and how these are read.
-use Rattle.std.proofs.Common.{◌≡◌, ◌≢◌, ◌≤◌, ℕ, zero, suc, List, [], ◌∷◌, ◌++◌, Bool, true, false, refl, sym, ap, ◌∙◌, arith}
-use Rattle.std.specs.Prelude.{not, if◌then◌else◌}
-use Rattle.expand_forms.proofs.Shared.{false_from_ne_true, product_tree, no_zero, one_is, whole_denominator, whole_numerator, zero_is, one_times, zero_plus, Fraction, is_one_fraction, is_zero_fraction, one_fraction, plus, times, zero_fraction, Tree, num, mult, none, more, whole_num, IsNormal, expanded, factor_tree, factor_trees, monomial_tree, normal, sum_tree, term_tree, term_trees, AreMonomials, Factor, IsMonomial, Monomial, Polynomial, Summand, constant, factor, is_same_monomial, product, raised, summand, variable, exponent_of, polynomial_of, product_of, sum_of, AreSame, IsExpanded, coefficient_in, factors_in, terms_in}
+use Rattle.expand_forms.proofs.Shared.{◌≡◌, ◌≢◌, ◌≤◌, ℕ, zero, suc, List, [], ◌∷◌, ◌++◌, Bool, true, false, refl, sym, ap, ◌∙◌, arith, not, if◌then◌else◌, false_from_ne_true, product_tree}
+use Rattle.expand_forms.proofs.Shared.{no_zero, one_is, whole_denominator, whole_numerator, zero_is, one_times, zero_plus, Fraction, is_one_fraction, is_zero_fraction, one_fraction, plus, times}
+use Rattle.expand_forms.proofs.Shared.{zero_fraction, Tree, num, mult, none, more, whole_num, IsNormal, expanded, factor_tree, factor_trees, monomial_tree, normal, sum_tree, term_tree}
+use Rattle.expand_forms.proofs.Shared.{term_trees, AreMonomials, Factor, IsMonomial, Monomial, Polynomial, Summand, constant, factor, is_same_monomial, product, raised, summand, variable}
+use Rattle.expand_forms.proofs.Shared.{exponent_of, polynomial_of, product_of, sum_of, AreSame, IsExpanded, coefficient_in, factors_in, terms_in}
 use Rattle.expand_forms.proofs.AllMonomials.{normal_all}
 use Rattle.expand_forms.proofs.Arithmetic.{times_one}
 use Rattle.expand_forms.proofs.FactorTrees.{on_factor}
@@ -106,7 +108,8 @@ term_alone s z = by (is_one_fraction s.coefficient) refl s.monomial
 
     by : (b : Bool) → is_one_fraction s.coefficient ≡ b → (m : Monomial)
         → terms_in (if b then monomial_tree m else product_tree (more (num s.coefficient) (factor_trees m))) ≡ more (if b then monomial_tree m else product_tree (more (num s.coefficient) (factor_trees m))) none
-    by true e [] = ap (λ (q : Fraction). if is_zero_fraction q then none else more (num one_fraction) none) (sym (one_is s.coefficient e)) ∙ ap (λ (b : Bool). if b then none else more (num one_fraction) none) some
+    by true e [] = ap (λ (q : Fraction). if is_zero_fraction q then none else more (num one_fraction) none) (sym (one_is s.coefficient e))
+        ∙ ap (λ (b : Bool). if b then none else more (num one_fraction) none) some
     by true e (f ∷ []) = on_factor (λ t. terms_in t ≡ more t none) f refl refl
     by true e (f ∷ g ∷ m) = refl
     by false e [] = ap (λ (b : Bool). if b then none else more (num s.coefficient) none) some

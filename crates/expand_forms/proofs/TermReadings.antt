@@ -1,8 +1,9 @@
 -- What readers of terms are told.
-use Rattle.std.proofs.Common.{◌≡◌, ◌≤◌, ◌<◌, ℕ, ℤ, pos, zero, suc, ◌+◌, length, [], ◌∷◌, ◌++◌, drop, true, false, Result, refl, sym, ap, ◌∙◌, subst, arith}
-use Rattle.std.specs.Prelude.{◌==◌, IfOk}
-use Rattle.expand_forms.proofs.Shared.{ints, product_tree, one_is, whole_denominator, whole_numerator, int_is_one, value_of, Fraction, is_one_fraction, lowest, one_fraction, plus, plus_lowest, Tree, num, symbol, mult, power, Trees, more, append, count, is_add, is_mult, is_num, root_kind, factor_tree, factor_trees, term_tree, term_trees, IsFirst, IsNext, Next, Factor, IsMonomial, Monomial, summand, IsSum, HasMonomial, IsRead, IsTerm, coefficient_in, factors_in, first_place, led_by, terms_in, holds-left, tree_at-join_left, IsExpression, children_of, nth, plain, Forest, Gives, tree_at}
-use Rattle.calc_terms.specs.Leaf.{name_of}
+use Rattle.expand_forms.proofs.Shared.{◌≡◌, ◌≤◌, ◌<◌, ℕ, ℤ, pos, zero, suc, ◌+◌, length, [], ◌∷◌, ◌++◌, drop, true, false, Result, refl, sym, ap, ◌∙◌, subst, arith, ◌==◌, IfOk, ints}
+use Rattle.expand_forms.proofs.Shared.{product_tree, one_is, whole_denominator, whole_numerator, int_is_one, value_of, Fraction, is_one_fraction, lowest, one_fraction, plus, plus_lowest, Tree}
+use Rattle.expand_forms.proofs.Shared.{num, symbol, mult, power, Trees, more, append, count, is_add, is_mult, is_num, root_kind, factor_tree, factor_trees, term_tree, term_trees, IsFirst, IsNext}
+use Rattle.expand_forms.proofs.Shared.{Next, Factor, IsMonomial, Monomial, summand, IsSum, HasMonomial, IsRead, IsTerm, coefficient_in, factors_in, first_place, led_by, terms_in, holds-left}
+use Rattle.expand_forms.proofs.Shared.{tree_at-join_left, IsExpression, children_of, nth, plain, Forest, Gives, tree_at, name_of}
 use Rattle.expand_forms.specs.declared.factors.Factor.{Factor as Read}
 use Rattle.expand_forms.proofs.FactorTrees.{on_factor}
 use Rattle.expand_forms.proofs.MonomialProducts.{below_times, both_first, left_first, put_first, right_is_first}
@@ -18,7 +19,8 @@ first_count t h = grind arith
 pub leading_is : (t : Tree) → is_mult t ≡ true → first_place (children_of t) ≡ 0 → coefficient_in t ≡ one_fraction
 leading_is t h e = grind arith
 
-pub leading_some : (t : Tree) → is_mult t ≡ true → (first_place (children_of t) ≡ 0 → ⊥) → (is_num (nth 0 (children_of t)) ≡ true) × (nth 0 (children_of t) ≡ num (coefficient_in t)) × (0 < count (children_of t))
+pub leading_some : (t : Tree) → is_mult t ≡ true → (first_place (children_of t) ≡ 0 → ⊥)
+    → (is_num (nth 0 (children_of t)) ≡ true) × (nth 0 (children_of t) ≡ num (coefficient_in t)) × (0 < count (children_of t))
 leading_some t h e = grind arith
 
 pub no_coefficient : (t : Tree) → (root_kind t ≡ kind.Num → ⊥) → (root_kind t ≡ kind.Mult → ⊥) → coefficient_in t ≡ one_fraction

@@ -1,7 +1,10 @@
 -- The polynomial of a tree is held by the tree's bits.
-use Rattle.std.proofs.Common.{◌≡◌, ℕ, zero, suc, ◌+◌, ◌*◌, ◌^◌, ◌≤◌, ◌<◌, max, pos, negsuc, ℤ, List, [], ◌++◌, append-nil, Bool, true, false, refl, sym, ap, ◌∙◌, subst, arith}
-use Rattle.std.specs.Prelude.{nat_abs, neg_ℤ, Option, not}
-use Rattle.expand_forms.proofs.Shared.{dvd_refl, le-max_left, le-max_right, max-le, pow-le-pow_right, and_parts, mul-le, pow-add, magnitude_over, cancel_right, den_divides, magnitude_cross, magnitude_lowest, half_literal, or_literal, whole_literal, HighLow, bounds, bounds_of_terms, ceil_log2, high, low, power_bounds, Fraction, den_pos, inverse, inverse_of, minus_one_fraction, mul_pos, int_is_zero, Tree, num, symbol, undef, add, mult, power, root, neg, sub, div, Trees, none, more, count, negative_parts, AreHeldTogether, AreWhole, HaveExponents, IsHeld, mass, Polynomial, constant, scaled, variable, are_polynomials, divisor_of, exponent_of, is_divisor, is_exponent, is_polynomial, is_small, natural_of, polynomial_of, product_of, sum_of, AreExpandedFrom, IsExpandedFrom}
+use Rattle.expand_forms.proofs.Shared.{◌≡◌, ℕ, zero, suc, ◌+◌, ◌*◌, ◌^◌, ◌≤◌, ◌<◌, max, pos, negsuc, ℤ, List, [], ◌++◌, append-nil, Bool, true, false, refl, sym, ap, ◌∙◌, subst, arith, nat_abs}
+use Rattle.expand_forms.proofs.Shared.{neg_ℤ, Option, not, dvd_refl, le-max_left, le-max_right, max-le, pow-le-pow_right, and_parts, mul-le, pow-add, magnitude_over, cancel_right, den_divides}
+use Rattle.expand_forms.proofs.Shared.{magnitude_cross, magnitude_lowest, half_literal, or_literal, whole_literal, HighLow, bounds, bounds_of_terms, ceil_log2, high, low, power_bounds, Fraction}
+use Rattle.expand_forms.proofs.Shared.{den_pos, inverse, inverse_of, minus_one_fraction, mul_pos, int_is_zero, Tree, num, symbol, undef, add, mult, power, root, neg, sub, div, Trees, none, more}
+use Rattle.expand_forms.proofs.Shared.{count, negative_parts, AreHeldTogether, AreWhole, HaveExponents, IsHeld, mass, Polynomial, constant, scaled, variable, are_polynomials, divisor_of}
+use Rattle.expand_forms.proofs.Shared.{exponent_of, is_divisor, is_exponent, is_polynomial, is_small, natural_of, polynomial_of, product_of, sum_of, AreExpandedFrom, IsExpandedFrom}
 use Rattle.calc_measures.proofs.CeilLog2.{ceil_log2_is}
 use Rattle.expand_forms.proofs.Held.{answer_held, held_more, held_opposite, held_product, held_raised, one_den, one_held, one_magnitude}
 use Rattle.expand_forms.proofs.Masses.{exponents_append, mass_append, mass_scale, more_exponents, whole_append, whole_scale}
@@ -44,7 +47,14 @@ inverse_by (pos (suc n)) d h l z p a b = record {
   positive = omega arith;
   whole = (den_divides (pos d) (suc n) (omega arith), tt);
   low = omega (arith, a, pow-le-pow_right {n = 2} (omega arith) {i = h} {j = 2 * h + 2 * l} (omega arith));
-  high = omega (arith, magnitude_lowest (suc n) (pos d) (suc n) d (omega arith) (den_divides (pos d) (suc n) (omega arith)) refl, b, pow-le-pow_right {n = 2} (omega arith) {i = l} {j = h + 2 * l} (omega arith), times_more (suc n) (2 ^ (h + 2 * l)) (omega arith));
+  high = omega (
+    arith,
+    magnitude_lowest (suc n) (pos d) (suc n) d (omega arith) (den_divides (pos d) (suc n) (omega arith)) refl,
+    b,
+    pow-le-pow_right {n = 2} (omega arith) {i = l} {j = h + 2 * l}
+        (omega arith),
+    times_more (suc n) (2 ^ (h + 2 * l)) (omega arith),
+  );
   exponents = (tt, tt);
 }
 inverse_by (negsuc n) d h l z p a b = record {
@@ -52,12 +62,24 @@ inverse_by (negsuc n) d h l z p a b = record {
   positive = omega arith;
   whole = (den_divides (neg_ℤ (pos d)) (suc n) (omega arith), tt);
   low = omega (arith, a, pow-le-pow_right {n = 2} (omega arith) {i = h} {j = 2 * h + 2 * l} (omega arith));
-  high = omega (arith, magnitude_lowest (suc n) (neg_ℤ (pos d)) (suc n) d (omega arith) (den_divides (neg_ℤ (pos d)) (suc n) (omega arith)) (ap (λ (k : ℕ). k * suc n) (sym (opposite_abs (pos d)))), b, pow-le-pow_right {n = 2} (omega arith) {i = l} {j = h + 2 * l} (omega arith), times_more (suc n) (2 ^ (h + 2 * l)) (omega arith));
+  high = omega (
+    arith,
+    magnitude_lowest (suc n) (neg_ℤ (pos d)) (suc n) d (omega arith) (den_divides (neg_ℤ (pos d)) (suc n) (omega arith))
+        (ap (λ (k : ℕ). k * suc n) (sym (opposite_abs (pos d)))),
+    b,
+    pow-le-pow_right {n = 2} (omega arith) {i = l} {j = h + 2 * l} (omega arith),
+    times_more (suc n) (2 ^ (h + 2 * l)) (omega arith),
+  );
   exponents = (tt, tt);
 }
 
 rational_high : (q : Fraction) → nat_abs q.num ≤ 2 ^ high (num q)
-rational_high q = omega (arith, (ceil_log2_is (nat_abs q.num)).enough, pow-le-pow_right {n = 2} (omega arith) {i = ceil_log2 (nat_abs q.num)} {j = max 1 (ceil_log2 (nat_abs q.num))} (le-max_right 1 (ceil_log2 (nat_abs q.num))))
+rational_high q = omega (
+  arith,
+  (ceil_log2_is (nat_abs q.num)).enough,
+  pow-le-pow_right {n = 2} (omega arith) {i = ceil_log2 (nat_abs q.num)} {j = max 1 (ceil_log2 (nat_abs q.num))}
+      (le-max_right 1 (ceil_log2 (nat_abs q.num))),
+)
 
 rational_low : (q : Fraction) → q.den ≤ 2 ^ low (num q)
 rational_low q = (ceil_log2_is q.den).enough
@@ -147,7 +169,8 @@ difference_held {v} {w} {h} {l} {g} {k} x y =
 
 -- ---- powers
 
-literal_natural : (z : Option ℤ) → is_small z ≡ true → (half : Option ℤ) (b : HighLow) → (natural_of z * b.high ≤ (power_bounds (or_literal z half) b).high) × (natural_of z * b.low ≤ (power_bounds (or_literal z half) b).low)
+literal_natural : (z : Option ℤ) → is_small z ≡ true → (half : Option ℤ) (b : HighLow)
+    → (natural_of z * b.high ≤ (power_bounds (or_literal z half) b).high) × (natural_of z * b.low ≤ (power_bounds (or_literal z half) b).low)
 literal_natural z h half b = grind arith
 
 pub power_within : (b e : Tree) → is_exponent e ≡ true → (exponent_of e * high b ≤ high (power b e)) × (exponent_of e * low b ≤ low (power b e))
@@ -155,7 +178,8 @@ power_within b e h = literal_natural (whole_literal e) h (half_literal e) (bound
 
 pub quotient_held : (a c : Tree) {v : Polynomial} → is_divisor c ≡ true → IsHeld v (high a) (low a) → IsHeld (scaled (inverse (divisor_of c)) v) (high (div a c)) (low (div a c))
 quotient_held a c {v} h x =
-    subst (λ (u : Polynomial). IsHeld u (high (div a c)) (low (div a c))) (constant_product (inverse (divisor_of c)) v) (held_more (held_product (tt, tt) (divisor_held c h) x) (omega arith) (omega arith))
+    subst (λ (u : Polynomial). IsHeld u (high (div a c)) (low (div a c))) (constant_product (inverse (divisor_of c)) v)
+    (held_more (held_product (tt, tt) (divisor_held c h) x) (omega arith) (omega arith))
 
 -- ---- all trees
 

@@ -1,7 +1,12 @@
 -- What a polynomial tree means is what its polynomial is worth.
-use Rattle.std.proofs.Common.{◌≡◌, ◌≢◌, ◌≤◌, ℕ, zero, suc, ℤ, pos, negsuc, Bool, true, false, refl, sym, ap, ◌∙◌, arith}
-use Rattle.std.specs.Prelude.{Option, Some, None, ◌==◌, neg_ℤ, ◌*ℤ◌, if◌then◌else◌}
-use Rattle.expand_forms.proofs.Shared.{and_parts, eqb-true, ints, Assignment, IsAssignment, IsWholePower, Means, MeansSum, MeansProduct, Surd, surd_of, Inverts-surd_of, inverse_times_itself, negative_times, Same-sym, one_meaning, surd_power-surd_of, exponent_is, Same-trans, Same-Agree, Agree, Agree-Same, Agree-surd_times_right, Agree-trans, one_inverse, Same-append, Same-eq, Same-refl, Same-surd_power, Same-surd_scale, Same-surd_times, joined_radicand, zero_term, opposite, whole_literal, whole_value, no_zero, whole_denominator, whole_numerator, fraction_power, negative_lowest, one_times, plus_negative, times_comm, Fraction, fraction_path, inverse, lowest, minus_one_fraction, negative, one_fraction, plus, times, times_lowest, whole_fraction, zero_fraction, Tree, num, symbol, undef, add, mult, power, root, neg, sub, div, Trees, none, more, scaled, are_polynomials, divisor_of, exponent_of, is_divisor, is_exponent, is_nonzero, is_polynomial, is_small, natural_of, polynomial_of, product_of, sum_of, polynomial_value}
+use Rattle.expand_forms.proofs.Shared.{◌≡◌, ◌≢◌, ◌≤◌, ℕ, zero, suc, ℤ, pos, negsuc, Bool, true, false, refl, sym, ap, ◌∙◌, arith, Option, Some, None, ◌==◌, neg_ℤ, ◌*ℤ◌, if◌then◌else◌, and_parts}
+use Rattle.expand_forms.proofs.Shared.{eqb-true, ints, Assignment, IsAssignment, IsWholePower, Means, MeansSum, MeansProduct, Surd, surd_of, Inverts-surd_of, inverse_times_itself, negative_times}
+use Rattle.expand_forms.proofs.Shared.{Same-sym, one_meaning, surd_power-surd_of, exponent_is, Same-trans, Same-Agree, Agree, Agree-Same, Agree-surd_times_right, Agree-trans, one_inverse}
+use Rattle.expand_forms.proofs.Shared.{Same-append, Same-eq, Same-refl, Same-surd_power, Same-surd_scale, Same-surd_times, joined_radicand, zero_term, opposite, whole_literal, whole_value}
+use Rattle.expand_forms.proofs.Shared.{no_zero, whole_denominator, whole_numerator, fraction_power, negative_lowest, one_times, plus_negative, times_comm, Fraction, fraction_path, inverse}
+use Rattle.expand_forms.proofs.Shared.{lowest, minus_one_fraction, negative, one_fraction, plus, times, times_lowest, whole_fraction, zero_fraction, Tree, num, symbol, undef, add, mult, power}
+use Rattle.expand_forms.proofs.Shared.{root, neg, sub, div, Trees, none, more, scaled, are_polynomials, divisor_of, exponent_of, is_divisor, is_exponent, is_nonzero, is_polynomial, is_small}
+use Rattle.expand_forms.proofs.Shared.{natural_of, polynomial_of, product_of, sum_of, polynomial_value}
 use Rattle.calc_algebra.specs.SquareClasses.{Same, Inverts}
 use Rattle.expand_forms.proofs.Arithmetic.{plus_zero}
 use Rattle.expand_forms.proofs.ValueLaws.{append_value, constant_value, given_is, product_value, raised_value, scaled_value, variable_value}
@@ -79,7 +84,8 @@ module _ (f : Assignment) (once : IsAssignment f) where
     tree_worth (power b e) v h (w, x, mb, me, p) =
         let (hb, he) = and_parts (is_polynomial b) (is_exponent e) h in
         let n : ℕ = exponent_of e in
-        let exponent : Same x (surd_of (whole_fraction (pos n))) = Agree-Same (one_meaning f once e x (surd_of (whole_fraction (pos n))) me (literal_means f e (pos n) (small_is (whole_literal e) he))) in
+        let exponent : Same x (surd_of (whole_fraction (pos n))) =
+        Agree-Same (one_meaning f once e x (surd_of (whole_fraction (pos n))) me (literal_means f e (pos n) (small_is (whole_literal e) he))) in
         Same-trans
         (power_of_rational n (polynomial_value f (polynomial_of b)) w v (small_positive (whole_literal e) he) (exponent_is (pos n) w x v exponent p) (tree_worth b w hb mb))
         (Same-eq (ap surd_of (sym (raised_value f (polynomial_of b) n))))
@@ -100,7 +106,8 @@ module _ (f : Assignment) (once : IsAssignment f) where
         let p : Fraction = polynomial_value f (polynomial_of a) in
         let r : Fraction = inverse (divisor_of c) in
         let is : Same y (surd_of r) =
-        Agree-Same (inverse_of_same y (surd_of r) u (surd_of (divisor_of c)) i (Inverts-surd_of (divisor_of c) r (inverse_times_itself (divisor_of c) d.not_zero)) (one_meaning f once c u (surd_of (divisor_of c)) n d.means)) in
+        Agree-Same (inverse_of_same y (surd_of r) u (surd_of (divisor_of c)) i (Inverts-surd_of (divisor_of c) r (inverse_times_itself (divisor_of c) d.not_zero))
+        (one_meaning f once c u (surd_of (divisor_of c)) n d.means)) in
         Same-trans e
         (Same-trans (Same-surd_times (tree_worth a w ha m) is) (Same-eq (ap surd_of (times_comm p r ∙ sym (scaled_value f r (polynomial_of a))))))
 

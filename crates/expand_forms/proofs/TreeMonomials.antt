@@ -1,6 +1,7 @@
 -- The polynomial of a tree has monomials only.
-use Rattle.std.proofs.Common.{◌≡◌, ◌≤◌, ℕ, ◌+◌, List, [], ◌∷◌, refl, sym, ap, ◌∙◌, subst, arith}
-use Rattle.expand_forms.proofs.Shared.{Ordering, Less, Equal, Greater, nat_cmp, ordering_reverse, nat_list_cmp_total, slice_cmp, minus_one_fraction, inverse, Tree, num, symbol, undef, add, mult, power, root, neg, sub, div, Trees, none, more, AreMonomials, Factor, IsBelowAll, IsMonomial, Monomial, Polynomial, factor, monomial_times, scaled, with_factor, divisor_of, exponent_of, polynomial_of, product_of, sum_of}
+use Rattle.expand_forms.proofs.Shared.{◌≡◌, ◌≤◌, ℕ, ◌+◌, List, [], ◌∷◌, refl, sym, ap, ◌∙◌, subst, arith, Ordering, Less, Equal, Greater, nat_cmp, ordering_reverse, nat_list_cmp_total, slice_cmp}
+use Rattle.expand_forms.proofs.Shared.{minus_one_fraction, inverse, Tree, num, symbol, undef, add, mult, power, root, neg, sub, div, Trees, none, more, AreMonomials, Factor, IsBelowAll}
+use Rattle.expand_forms.proofs.Shared.{IsMonomial, Monomial, Polynomial, factor, monomial_times, scaled, with_factor, divisor_of, exponent_of, polynomial_of, product_of, sum_of}
 use Rattle.expand_forms.proofs.AllMonomials.{AllHave, IsClosed, append_all, product_all, raised_all, scaled_all}
 use Rattle.expand_forms.proofs.ValueLaws.{names_equal}
 
@@ -27,7 +28,8 @@ with_factor_monomial g (f ∷ m) l h = by (slice_cmp nat_cmp g.name f.name) refl
     sum : 1 ≤ g.exponent + f.exponent
     sum = omega (arith, l)
 
-    by : (o : Ordering) → slice_cmp nat_cmp g.name f.name ≡ o → IsMonomial (with_factor g m) → IsMonomial (elim o [ Less ↦ g ∷ f ∷ m | Equal ↦ factor g.name (g.exponent + f.exponent) ∷ m | Greater ↦ f ∷ with_factor g m ])
+    by : (o : Ordering) → slice_cmp nat_cmp g.name f.name ≡ o → IsMonomial (with_factor g m)
+        → IsMonomial (elim o [ Less ↦ g ∷ f ∷ m | Equal ↦ factor g.name (g.exponent + f.exponent) ∷ m | Greater ↦ f ∷ with_factor g m ])
     by Less e go = (l, (e, below_more g.name f.name m e h.1), h)
     by Equal e go = (sum, subst (λ x. IsBelowAll x m) (sym (names_equal g.name f.name e)) h.1, h.2)
     by Greater e go = (h.0, below_with f.name g m (names_turned g.name f.name e) h.1, go)

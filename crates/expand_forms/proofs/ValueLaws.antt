@@ -1,7 +1,9 @@
 -- The arithmetic of polynomials is that of their values.
-use Rattle.std.proofs.Common.{◌≡◌, ◌⊎◌, inl, inr, ℕ, zero, suc, ◌+◌, List, [], ◌∷◌, ◌++◌, map, Bool, true, false, refl, sym, ap, ◌∙◌, arith}
-use Rattle.std.specs.Prelude.{if◌then◌else◌, Contains}
-use Rattle.expand_forms.proofs.Shared.{bytes_eq, bytes_eq-Decides, Ordering, Less, Equal, Greater, nat_cmp, slice_cmp, Assignment, IsAssignment, Binding, times_zero, tree_cmp_equal, fraction_power, times_assoc, times_plus, zero_plus, zero_times, one_times, Fraction, plus, times, one_fraction, plus_assoc, Tree, symbol, Factor, Monomial, Polynomial, Summand, constant, factor, monomial_times, product, raised, scaled, summand_times, variable, with_factor, factor_value, given, monomial_value, polynomial_value, summand_value}
+use Rattle.expand_forms.proofs.Shared.{◌≡◌, ◌⊎◌, inl, inr, ℕ, zero, suc, ◌+◌, List, [], ◌∷◌, ◌++◌, map, Bool, true, false, refl, sym, ap, ◌∙◌, arith, if◌then◌else◌, Contains, bytes_eq}
+use Rattle.expand_forms.proofs.Shared.{bytes_eq-Decides, Ordering, Less, Equal, Greater, nat_cmp, slice_cmp, Assignment, IsAssignment, Binding, times_zero, tree_cmp_equal, fraction_power}
+use Rattle.expand_forms.proofs.Shared.{times_assoc, times_plus, zero_plus, zero_times, one_times, Fraction, plus, times, one_fraction, plus_assoc, Tree, symbol, Factor, Monomial, Polynomial}
+use Rattle.expand_forms.proofs.Shared.{Summand, constant, factor, monomial_times, product, raised, scaled, summand_times, variable, with_factor, factor_value, given, monomial_value}
+use Rattle.expand_forms.proofs.Shared.{polynomial_value, summand_value}
 use Rattle.calc_algebra.specs.Meanings.{Gives}
 use Rattle.calc_algebra.proofs.MeaningLaws.{one_value}
 use Rattle.expand_forms.proofs.Arithmetic.{plus_both, plus_times, plus_zero, power_plus, times_exchange, times_left_comm, times_one}
@@ -46,7 +48,8 @@ module _ (f : Assignment) where
           → monomial_value f (elim o [ Less ↦ g ∷ h ∷ m | Equal ↦ factor g.name (g.exponent + h.exponent) ∷ m | Greater ↦ h ∷ with_factor g m ]) ≡ times (factor_value f g) (times (factor_value f h) (monomial_value f m))
       by Less e go = refl
       by Equal e go =
-          ap (λ x. times x (monomial_value f m)) (power_plus (given f g.name) g.exponent h.exponent ∙ ap (λ x. times (factor_value f g) (fraction_power (given f x) h.exponent)) (names_equal g.name h.name e))
+          ap (λ x. times x (monomial_value f m)) (power_plus (given f g.name) g.exponent h.exponent
+          ∙ ap (λ x. times (factor_value f g) (fraction_power (given f x) h.exponent)) (names_equal g.name h.name e))
           ∙ times_assoc (factor_value f g) (factor_value f h) (monomial_value f m)
       by Greater e go = ap (times (factor_value f h)) go ∙ times_left_comm (factor_value f h) (factor_value f g) (monomial_value f m)
 

@@ -1,8 +1,6 @@
 -- Nodes over expanded children that are expanded as values.
-use Rattle.std.proofs.Common.{◌≡◌, ℕ, List, [], ◌∷◌, subst, true, false, Result, Ok, Err}
-use Rattle.std.specs.Prelude.{OnOk, is_err, is_ok}
-use Rattle.std.specs.Prelude.{Contains}
-use Rattle.expand_forms.proofs.Shared.{AreSame, IsMonomial, Tree, names, within_trans, children_of, nth, Polynomial, product}
+use Rattle.expand_forms.proofs.Shared.{◌≡◌, ℕ, List, [], ◌∷◌, subst, true, false, Result, Ok, Err, OnOk, is_err, is_ok, Contains, AreSame, IsMonomial, Tree, names, within_trans, children_of, nth}
+use Rattle.expand_forms.proofs.Shared.{Polynomial, product, AreNames, IsListOf, named_polynomial, Term}
 use Rattle.expand_forms.proofs.ChildRooms.{child_names}
 use Rattle.expand_forms.proofs.NodeRooms.{nth_names}
 use Rattle.expand_forms.proofs.AllMonomials.{AllHave}
@@ -10,10 +8,8 @@ use Rattle.expand_forms.proofs.NamedMonomials.{named_monomial}
 use Rattle.expand_forms.proofs.SameCoefficients.{product_both, same_sym, same_trans}
 use Rattle.expand_forms.proofs.Turned.{product_turned}
 use Rattle.expand_forms.specs.ByValues.{CanName}
-use Rattle.expand_forms.specs.Named.{AreNames, IsListOf, named_polynomial}
 use Rattle.polynomials.specs.Polynomials.{Polynomial as Packed}
 use Rattle.polynomials.specs.Terms.{polynomial_of as packed_of}
-use Rattle.polynomials.specs.declared.term.Term.{Term}
 
 -- ---- what a test tells
 

@@ -1,7 +1,6 @@
 -- A monomial has at most as many factors as there are distinct names.
-use Rattle.std.proofs.Common.{◌≡◌, ℕ, zero, suc, ◌+◌, ◌≤◌, List, [], ◌∷◌, length, Bool, true, false, refl, sym, ap, ◌∙◌, subst, arith}
-use Rattle.std.specs.Prelude.{Contains, ◌||◌, if◌then◌else◌}
-use Rattle.expand_forms.proofs.Shared.{bytes_eq, bytes_eq-Decides, is_eq, Within, IsNamed, count_distinct, is_among, IsBelowAll, IsMonomial, Monomial}
+use Rattle.expand_forms.proofs.Shared.{◌≡◌, ℕ, zero, suc, ◌+◌, ◌≤◌, List, [], ◌∷◌, length, Bool, true, false, refl, sym, ap, ◌∙◌, subst, arith, Contains, ◌||◌, if◌then◌else◌, bytes_eq}
+use Rattle.expand_forms.proofs.Shared.{bytes_eq-Decides, is_eq, Within, IsNamed, count_distinct, is_among, IsBelowAll, IsMonomial, Monomial}
 use Rattle.std.proofs.lemmas.Map.Text.{is_eq-slice_cmp}
 
 -- ---- names
@@ -66,14 +65,16 @@ count_without : (x : List ℕ) (ys : List (List ℕ)) → is_among x ys ≡ true
 count_without x [] h = clash true refl (sym h)
 count_without x (y ∷ ys) h = by (bytes_eq y x) refl (count_without x ys)
   where
-    first : (b : Bool) → is_among y ys ≡ b → y ≡ x → (is_among x ys ≡ true → count_distinct (without x ys) + 1 ≤ count_distinct ys) → count_distinct (without x ys) + 1 ≤ (if b then count_distinct ys else suc (count_distinct ys))
+    first : (b : Bool) → is_among y ys ≡ b → y ≡ x → (is_among x ys ≡ true → count_distinct (without x ys) + 1 ≤ count_distinct ys)
+        → count_distinct (without x ys) + 1 ≤ (if b then count_distinct ys else suc (count_distinct ys))
     first true e same go = go (sym (ap (λ (w : List ℕ). is_among w ys) same) ∙ e)
     first false e same go = omega (arith, fewer_without x ys)
 
     by : (b : Bool) → bytes_eq y x ≡ b → (is_among x ys ≡ true → count_distinct (without x ys) + 1 ≤ count_distinct ys)
         → count_distinct (if b then without x ys else y ∷ without x ys) + 1 ≤ count_distinct (y ∷ ys)
     by true e go = first (is_among y ys) refl (is_same y x e) go
-    by false e go = kept_name 1 (is_among y (without x ys)) (is_among y ys) (count_distinct (without x ys)) (count_distinct ys) (among_without x y ys (other x y e)) (go (or_is (bytes_eq y x) (is_among x ys) h e))
+    by false e go = kept_name 1 (is_among y (without x ys)) (is_among y ys) (count_distinct (without x ys)) (count_distinct ys) (among_without x y ys (other x y e))
+        (go (or_is (bytes_eq y x) (is_among x ys) h e))
 
 -- ---- monomials
 
@@ -127,7 +128,8 @@ count_rises : (ns xs : List (List ℕ)) → AllAmong ns xs → count_distinct xs
 count_rises ns [] h = omega arith
 count_rises ns (x ∷ xs) h = by (is_among x xs) refl (λ ms k. count_rises ms xs k)
   where
-    by : (b : Bool) → is_among x xs ≡ b → ((ms : List (List ℕ)) → AllAmong ms xs → count_distinct xs ≤ count_distinct ms) → (if b then count_distinct xs else suc (count_distinct xs)) ≤ count_distinct ns
+    by : (b : Bool) → is_among x xs ≡ b → ((ms : List (List ℕ)) → AllAmong ms xs → count_distinct xs ≤ count_distinct ms)
+        → (if b then count_distinct xs else suc (count_distinct xs)) ≤ count_distinct ns
     by true e go = go ns (rest_among ns x xs h)
     by false e go = omega (arith, go (without x ns) (others_among ns x xs e (rest_among ns x xs h)), count_without x ns (first_among ns x xs h))
 

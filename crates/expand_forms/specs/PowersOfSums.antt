@@ -1,8 +1,8 @@
 -- Powers of sums, which are left to be raised where their parent is expanded.
-use Rattle.std.specs.Prelude.{◌≡◌, ◌⊎◌, Bool, true, false, ◌||◌}
-use Rattle.calc_terms.specs.Trees.{Tree, add, power, Trees, none, more}
+use Rattle.std.specs.Prelude.{◌≡◌, ◌≤◌, ◌<◌, ◌⊎◌, Bool, true, false, ◌||◌}
+use Rattle.calc_terms.specs.Trees.{Tree, add, count, power, Trees, none, more}
 use Rattle.expand_forms.specs.ExpandedTrees.{expanded}
-use Rattle.expand_forms.specs.PolynomialTrees.{has_polynomial_root, is_polynomial, polynomial_of}
+use Rattle.expand_forms.specs.PolynomialTrees.{exponent_of, has_polynomial_root, is_polynomial, polynomial_of}
 use Rattle.expand_forms.specs.Sums.{AreExpanded, IsExpanded}
 use Rattle.expand_forms.specs.Walks.{IsOver}
 use Rattle.reduce_walk.specs.Answers.{AreAnswers, EachTree, IsOver as IsOverAnswers}
@@ -11,6 +11,11 @@ use Rattle.tree_handles.specs.Expressions.{children_of}
 abbrev pub is_power_of_sum : Tree → Bool
 is_power_of_sum (power (add ts) e) = true
 is_power_of_sum _ = false
+
+-- its sum has two terms at most, and its exponent is above 1
+abbrev pub IsLeft : Tree → Type 0
+IsLeft (power (add ts) e) = (count ts ≤ 2) × (1 < exponent_of e)
+IsLeft _ = ⊥
 
 -- one of them is such a power
 abbrev pub has_power_of_sum : Trees → Bool

@@ -1,9 +1,9 @@
 //! The product of two terms, added to a sum that stands last.
 ghost use Rattle.expand_forms.specs.ExpansionBits.{IsHeld, IsNoOverflow};
-ghost use Rattle.std.specs.Prelude.{◌≡◌, ◌<◌, ◌≤◌, ◌+◌, ℕ, [], ◌∷◌, ◌^◌, IfErr, OnOk, length, false, ⊤};
+ghost use Rattle.std.specs.Prelude.{◌≡◌, ◌<◌, ◌+◌, ℕ, [], ◌∷◌, IfErr, OnOk, length, false};
 ghost use Rattle.calc_terms.specs.Fractions.{is_zero_fraction};
 ghost use Rattle.calc_terms.specs.Rat.{value_of};
-ghost use Rattle.calc_terms.specs.Trees.{add, count, more, mult, none};
+ghost use Rattle.calc_terms.specs.Trees.{add, count, mult};
 ghost use Rattle.child_lists.specs.Lists.{Lists};
 ghost use Rattle.expand_forms.specs.ExpandedTrees.{factor_trees};
 ghost use Rattle.expand_forms.specs.ExpansionRoom.{number_bytes, term_bytes};
@@ -13,9 +13,8 @@ ghost use Rattle.expand_forms.specs.Sums.{IsSum, IsSumOf, with_term};
 ghost use Rattle.expand_forms.specs.Terms.{HasMonomial};
 ghost use Rattle.node_pool.specs.State.{free_of};
 ghost use Rattle.tree_handles.specs.Lacking.{OfFull};
-ghost use Rattle.number_forms.specs.Sums.{removed};
 ghost use Rattle.tree_handles.specs.Causes.{IsCaused};
-ghost use Rattle.tree_handles.specs.Expressions.{IsExpression, children_of, inserted, plain};
+ghost use Rattle.tree_handles.specs.Expressions.{IsExpression, children_of, plain};
 ghost use Rattle.tree_handles.specs.Faults.{Faults};
 ghost use Rattle.tree_handles.specs.Handed.{Gives, KeepsFront, tree_of};
 ghost use Rattle.tree_handles.specs.Inside.{tree_at};
@@ -26,10 +25,10 @@ use crate::factors::{self, Factors};
 use crate::monomials::{completed, place_merged};
 use crate::ordering::place_of;
 use calc_terms::Rat;
-use child_lists::{ChildList, next_child, put_before};
+use child_lists::{ChildList, exchange_child, insert_child, remove_child};
 use node_pool::{Full, Id, Pool};
 use rational128::add;
-use tree_handles::{Handle, NumberFault, release, replace_known_child, take_known_child};
+use tree_handles::{Handle, NumberFault, release};
 
 /// Joins a coefficient times the monomials of two terms to a sum: with the term that has its monomial, which may leave
 /// none, or at its place. Their product is placed before its place is sought.
@@ -72,7 +71,7 @@ pub(crate) fn join_product<const N: usize>(
     match place_of(pool, sum.id(), list, product.id()) {
         Err(at) => {
             let term = completed(pool, product, coefficient)?;
-            insert(pool, sum, list, at, term);
+            insert_child(pool, sum, list, at, term);
             Ok(())
         }
         Ok(at) => {
@@ -82,32 +81,6 @@ pub(crate) fn join_product<const N: usize>(
             Ok(())
         }
     }
-}
-
-/// Puts the tree that stands last, just behind a sum, into it at a place.
-fn insert<const N: usize>(
-    pool: &mut Pool,
-    sum: &Handle,
-    list: &mut ChildList<N>,
-    at: u16,
-    term: Handle,
-)
-    requires stands { Stands pool.old }
-    requires term { Gives (without_root term (forest pool.old)) (forest pool.old) term (λ t. ⊤) }
-    requires sum { let others = without_root term (forest pool.old) in Gives (without_root sum.now others) others sum.now IsSum }
-    requires lists { Lists list.old sum.now (forest pool.old) }
-    requires within { at ≤ count (children_of (tree_of sum.now pool.old)) }
-    ensures sum { Gives (without_root sum.now (without_root term (forest pool.old))) (forest pool.new) sum.now
-        (λ u. u ≡ add (inserted at (more (tree_of term pool.old) none) (children_of (tree_of sum.now pool.old)))) }
-    ensures lists { Lists list.new sum.now (forest pool.new) }
-    ensures front { KeepsFront (sum.now ∷ term ∷ []) (forest pool.old) (forest pool.new) }
-    ensures kept { KeepsRefusals pool.old pool.new }
-    ensures stands { Stands pool.new }
-{
-    let next = next_child(pool, sum.id(), list, at);
-    let id = term.id();
-    put_before(pool, sum, next, term);
-    list.insert(at, id);
 }
 
 /// The term at a place of a sum has another coefficient, or is removed where that is 0. The product of its factors stands
@@ -138,57 +111,10 @@ fn replace<const N: usize>(
 {
     if total.is_zero() {
         release(pool, product);
-        remove(pool, sum, list, at);
+        remove_child(pool, sum, list, at);
         return Ok(());
     }
     let term = completed(pool, product, total)?;
-    exchange(pool, sum, list, at, term);
+    exchange_child(pool, sum, list, at, term);
     Ok(())
-}
-
-/// Puts the tree that stands last, just behind a sum, in the place of a term. Nothing else is moved where both take as
-/// many bytes.
-fn exchange<const N: usize>(
-    pool: &mut Pool,
-    sum: &Handle,
-    list: &mut ChildList<N>,
-    at: u16,
-    term: Handle,
-)
-    requires stands { Stands pool.old }
-    requires term { Gives (without_root term (forest pool.old)) (forest pool.old) term (λ t. ⊤) }
-    requires sum { let others = without_root term (forest pool.old) in Gives (without_root sum.now others) others sum.now IsSum }
-    requires lists { Lists list.old sum.now (forest pool.old) }
-    requires within { at < count (children_of (tree_of sum.now pool.old)) }
-    ensures sum { Gives (without_root sum.now (without_root term (forest pool.old))) (forest pool.new) sum.now
-        (λ u. u ≡ add (inserted at (more (tree_of term pool.old) none) (removed at (children_of (tree_of sum.now pool.old))))) }
-    ensures lists { Lists list.new sum.now (forest pool.new) }
-    ensures front { KeepsFront (sum.now ∷ term ∷ []) (forest pool.old) (forest pool.new) }
-    ensures kept { KeepsRefusals pool.old pool.new }
-    ensures stands { Stands pool.new }
-{
-    let old = list.child(pool, sum.id(), at);
-    let id = term.id();
-    let gone = replace_known_child(pool, old, term);
-    release(pool, gone);
-    list.set(at, id);
-}
-
-/// Takes a term out of a sum.
-fn remove<const N: usize>(pool: &mut Pool, sum: &Handle, list: &mut ChildList<N>, at: u16)
-    requires stands { Stands pool.old }
-    requires sum { Gives (without_root sum.now (forest pool.old)) (forest pool.old) sum.now IsSum }
-    requires lists { Lists list.old sum.now (forest pool.old) }
-    requires within { at < count (children_of (tree_of sum.now pool.old)) }
-    ensures sum { Gives (without_root sum.now (forest pool.old)) (forest pool.new) sum.now (λ t. t ≡ add (removed at (children_of (tree_of sum.now pool.old)))) }
-    ensures lists { Lists list.new sum.now (forest pool.new) }
-    ensures front { KeepsFront (sum.now ∷ []) (forest pool.old) (forest pool.new) }
-    ensures kept { KeepsRefusals pool.old pool.new }
-    ensures room { free_of pool.old ≤ free_of pool.new }
-    ensures stands { Stands pool.new }
-{
-    let id = list.child(pool, sum.id(), at);
-    let child = take_known_child(pool, sum, id);
-    release(pool, child);
-    list.remove(at);
 }

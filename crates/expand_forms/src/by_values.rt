@@ -207,6 +207,7 @@ fn list_raised(pool: &Pool, child: Id, lists: &mut TermLists) -> bool
 }
 
 /// The product of two lists, of which rows run over the one with fewer terms.
+#[tactic(auto, using(crate::proofs::TermReadings::if_ok_map, crate::proofs::ListLaws::list_product))]
 fn multiply(
     a: &[Term],
     b: &[Term],

@@ -58,6 +58,7 @@ fn product_key(pool: &Pool, product: Id) -> Option<Key>
 }
 
 /// The order of two monomials.
+#[tactic(auto, using(crate::proofs::TermKeys::one_last, crate::proofs::TermKeys::one_first))]
 fn compare_monomials(pool: &Pool, a: &Option<Key>, b: &Option<Key>) -> Ordering
     requires stands { Stands pool.now }
     requires first { (m : Monomial) × IsMonomialKey m (forest pool.now) a.now }

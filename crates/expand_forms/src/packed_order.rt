@@ -37,6 +37,7 @@ fn know_bits(monomial: u64)
 
 /// The exponents of a packed monomial, in the order of their names.
 #[inline(always)]
+#[tactic(auto, using(crate::proofs::PackedOrders::be_bytes))]
 pub(crate) fn exponents_of(monomial: u64) -> [u8; 8]
     ensures { result ≡ reverse (monomial_of monomial) }
 {

@@ -1,10 +1,10 @@
 //! Powers of sums, which are left to be raised where their parent is expanded.
-ghost use Rattle.std.specs.Prelude.{◌≡◌, ◌<◌, ◌+◌, [], ◌∷◌, IfOk, IfErr, OnOk, true};
+ghost use Rattle.std.specs.Prelude.{◌≡◌, ◌≤◌, ◌<◌, ◌+◌, ◌↔◌, [], ◌∷◌, IfOk, IfErr, IsTrue, OnOk, true};
 ghost use Rattle.calc_measures.specs.Measures.{most_bits};
 ghost use Rattle.calc_terms.specs.Trees.{Tree, count, is_add, size};
 ghost use Rattle.expand_forms.specs.ExpandedTrees.{expanded};
-ghost use Rattle.expand_forms.specs.PolynomialTrees.{has_polynomial_root, is_polynomial, polynomial_of};
-ghost use Rattle.expand_forms.specs.PowersOfSums.{AreReady, IsOverReady, IsReadyFrom, has_power_of_sum, is_power_of_sum};
+ghost use Rattle.expand_forms.specs.PolynomialTrees.{exponent_of as natural_exponent, has_polynomial_root, is_polynomial, polynomial_of};
+ghost use Rattle.expand_forms.specs.PowersOfSums.{AreReady, IsLeft, IsOverReady, IsReadyFrom, has_power_of_sum, is_power_of_sum};
 ghost use Rattle.expand_forms.specs.Walks.{IsOver, IsPolynomial, MayLack};
 ghost use Rattle.node_pool.specs.State.{free_of};
 ghost use Rattle.reduce_walk.specs.Answers.{IsOverSome};
@@ -48,12 +48,13 @@ fn is_sum(pool: &Pool, id: Id) -> bool
 
 /// Whether it is a power of a sum of few terms, so that to raise it is little work, and with a greater exponent than 1, so that
 /// what is raised takes no fewer bytes.
+#[tactic(auto, using(crate::proofs::PowersOfSums::left_by, crate::proofs::PowersOfSums::left_few, crate::proofs::PowersOfSums::left_great, crate::proofs::PowersOfSums::left_power))]
 pub(crate) fn is_left(pool: &Pool, id: Id) -> bool
     requires stands { Stands pool.now }
     requires expression { IsExpression id (forest pool.now) }
     requires polynomial { has_polynomial_root (plain (tree_at id (forest pool.now))) ≡ true }
     requires children { AreReady (children_of (plain (tree_at id (forest pool.now)))) }
-    ensures { result ≡ true → is_power_of_sum (plain (tree_at id (forest pool.now))) ≡ true }
+    ensures { IsTrue result ↔ IsLeft (plain (tree_at id (forest pool.now))) }
 {
     is_power_of_sum(pool, id) && has_few_terms(pool, id) && has_great_exponent(pool, id)
 }
@@ -65,6 +66,7 @@ fn has_great_exponent(pool: &Pool, id: Id) -> bool
     requires power { is_power_of_sum (plain (tree_at id (forest pool.now))) ≡ true }
     requires polynomial { has_polynomial_root (plain (tree_at id (forest pool.now))) ≡ true }
     requires children { AreReady (children_of (plain (tree_at id (forest pool.now)))) }
+    ensures { IsTrue result ↔ (1 < natural_exponent (nth 1 (children_of (plain (tree_at id (forest pool.now)))))) }
 {
     exponent_of(pool, child_id(pool, id, 1)) > 1
 }
@@ -74,6 +76,7 @@ fn has_few_terms(pool: &Pool, id: Id) -> bool
     requires stands { Stands pool.now }
     requires expression { IsExpression id (forest pool.now) }
     requires power { is_power_of_sum (plain (tree_at id (forest pool.now))) ≡ true }
+    ensures { IsTrue result ↔ (count (children_of (nth 0 (children_of (plain (tree_at id (forest pool.now)))))) ≤ 2) }
 {
     usize::from(children(pool, child_id(pool, id, 0))) <= BASE_TERMS
 }

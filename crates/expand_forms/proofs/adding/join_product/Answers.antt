@@ -1,6 +1,9 @@
-use Rattle.std.proofs.Common.{refl, rules, ◌≡◌, ◌<◌, ◌∙◌, [], ◌∷◌, ap, sym, subst, arith, length}
-use Rattle.expand_forms.proofs.Shared.{not_from_false, no_zero, plus, value_of, Tree, count, is_mult, size, Fraction, one_fraction, lists_at, term_tree, IsNoOverflow, term_bytes, Monomial, monomial_times, summand, IsPlace, IsSum, HasMonomial, coefficient_in, free_of, OfFull, gives_rest, passed_on, children_of, nth, plain, Forest, Gives, KeepsFront, tree_of, tree_at, without_root, forest, behind_first, behind_new, front_after, front_after_one, front_after_two, front_same, given_handed, given_other, given_rest, given_root, given_same, given_told, gives_as, given_free, expression}
-use Rattle.expand_forms.proofs.ListedTerms.{lists_behind}
+use Rattle.expand_forms.proofs.Shared.{refl, rules, ◌≡◌, ◌<◌, ◌∙◌, [], ◌∷◌, ap, sym, subst, arith, length, not_from_false, no_zero, plus, value_of, Tree, count, is_mult, size, Fraction}
+use Rattle.expand_forms.proofs.Shared.{one_fraction, lists_at, term_tree, IsNoOverflow, term_bytes, Monomial, monomial_times, summand, IsPlace, IsSum, HasMonomial, coefficient_in, free_of}
+use Rattle.expand_forms.proofs.Shared.{OfFull, gives_rest, passed_on, children_of, nth, plain, Forest, Gives, KeepsFront, tree_of, tree_at, without_root, forest, behind_first, behind_new}
+use Rattle.expand_forms.proofs.Shared.{front_after, front_after_one, front_after_two, front_same, given_handed, given_other, given_rest, given_root, given_same, given_told, gives_as, given_free}
+use Rattle.expand_forms.proofs.Shared.{expression, lists_behind}
+use Rattle.expand_forms.proofs.Sums.{sum_still}
 use Rattle.expand_forms.proofs.Splits.{contradiction, total_fits}
 use Rattle.expand_forms.proofs.Joins.{IsFoundAt, has_monomial, placed_behind, put_in, set_in, sum_read, term_read}
 use Rattle.expand_forms.proofs.TermBytes.{factors_most}
@@ -10,9 +13,6 @@ use Rattle.expand_forms.proofs.adding.join_product.Given.{Over}
 use Rattle.expand_forms.proofs.adding.join_product.Goals.{After-child-other, After-id-2, In-Err, In-Ok, In_ok-product, In_ok-term-in-Err}
 use Rattle.tree_handles.specs.declared.fault.NumberFault.TheVariants as fault
 use Rattle.expand_forms.proofs.adding.join_product.Goals as goal
-
-pub of-left-requires-clause-expression : goal.of-left-requires-clause-expression
-of-left-requires-clause-expression g c = (beside c.requires.sum c.requires.first).expression
 
 pub place_merged-requires : goal.place_merged-requires
 place_merged-requires g c =
@@ -47,25 +47,12 @@ pub place_of-requires : goal.place_of-requires
 place_of-requires g c =
     let (m, n, hm, hn) = c.requires.monomials in
     let p = placed_behind c.requires.sum c.requires.first c.requires.second c.in_ok-product.ensures.ok m n hm hn in
-    let st = c.in_ok-product.ensures.stands in (
-      search rules,
-      (
-        st,
-        (
-          expression c.id.ensures st (given_other p (given_handed c.requires.sum)),
-          (
-            subst IsSum (sym (sum_read c.args.pool.now c.place_merged.new.pool c.requires.sum p st c.id.ensures)) (given_told c.requires.sum),
-            (
-              lists_at c.id.ensures (lists_behind c.requires.sum p c.requires.lists),
-              (
-                expression c.id-2.ensures st (given_handed p),
-                (monomial_times m n, sought g (goal.at.place_of-requires g c).After-id-2 m n hm hn),
-              ),
-            ),
-          ),
-        ),
-      ),
-    )
+    let st = c.in_ok-product.ensures.stands in
+    let x = expression c.id.ensures st (given_other p (given_handed c.requires.sum)) in
+    let sum = subst IsSum (sym (sum_read c.args.pool.now c.place_merged.new.pool c.requires.sum p st c.id.ensures)) (given_told c.requires.sum) in
+    let lists = lists_at c.id.ensures (lists_behind c.requires.sum p c.requires.lists) in
+    let s = sought g (goal.at.place_of-requires g c).After-id-2 m n hm hn in
+    (search rules, (st, (x, (sum, (lists, (expression c.id-2.ensures st (given_handed p), (monomial_times m n, s)))))))
 
 -- ---- a new term
 
@@ -91,25 +78,13 @@ completed g c m n hm hn =
     let p = placed_behind c.requires.sum c.requires.first c.requires.second c.in_ok-product.ensures.ok m n hm hn in
     gives_as (c.in_ok-term-in-Err.ensures.ok (monomial_times m n) (given_told p)) (given_rest p) (λ u h. h)
 
-pub insert-requires : goal.insert-requires
-insert-requires g c =
+pub insert_child-requires : goal.insert_child-requires
+insert_child-requires g c =
     let (m, n, hm, hn) = c.requires.monomials in
-    let r = completed g (goal.at.insert-requires g c).In_ok-term-in-Err m n hm hn in (
-      search rules,
-      (
-        c.in_ok-term-in-Err.ensures.stands,
-        (
-          gives_rest r (λ t h. tt),
-          (
-            subst (λ (f : Forest). Gives (without_root c.args.sum.now f) f c.args.sum.now IsSum) (sym (given_rest r)) c.requires.sum,
-            (
-              lists_behind c.requires.sum r c.requires.lists,
-              omega (arith, (place_in g (goal.at.insert-requires g c).In-Err one_fraction m n hm hn).within, ap (λ (f : Forest). count (children_of (plain f))) (given_same c.args.sum.now r (given_root c.requires.sum))),
-            ),
-          ),
-        ),
-      ),
-    )
+    let r = completed g (goal.at.insert_child-requires g c).In_ok-term-in-Err m n hm hn in
+    let place = place_in g (goal.at.insert_child-requires g c).In-Err one_fraction m n hm hn in
+    let same = ap (λ (f : Forest). count (children_of (plain f))) (given_same c.args.sum.now r (given_root c.requires.sum)) in
+    (search rules, (c.in_ok-term-in-Err.ensures.stands, (gives_rest r (λ t h. tt), (sum_still c.requires.sum (given_rest r), (lists_behind c.requires.sum r c.requires.lists, omega (arith, place.within, same))))))
 
 pub returns-in_ok-term-in-Err-clause-ok : goal.returns-in_ok-term-in-Err-clause-ok
 returns-in_ok-term-in-Err-clause-ok g c = λ m n hm hn.
@@ -117,7 +92,7 @@ returns-in_ok-term-in-Err-clause-ok g c = λ m n hm hn.
     let r = completed g (goal.at.returns-in_ok-term-in-Err-clause-ok g c).In_ok-term-in-Err m n hm hn in
     let q = value_of c.args.coefficient in
     put_in (summand q (monomial_times m n)) c.in-Err.at c.requires.sum r (no_zero q (not_from_false _ c.requires.nonzero)) (monomial_times_monomial m n hm.monomial hn.monomial)
-    (place_in g (goal.at.returns-in_ok-term-in-Err-clause-ok g c).In-Err q m n hm hn) c.insert.ensures.sum
+    (place_in g (goal.at.returns-in_ok-term-in-Err-clause-ok g c).In-Err q m n hm hn) c.insert_child.ensures.sum
 
 pub returns-in_ok-term-in-Err-clause-front : goal.returns-in_ok-term-in-Err-clause-front
 returns-in_ok-term-in-Err-clause-front g c =
@@ -125,7 +100,7 @@ returns-in_ok-term-in-Err-clause-front g c =
     let p = placed_behind c.requires.sum c.requires.first c.requires.second c.in_ok-product.ensures.ok m n hm hn in
     let r = completed g (goal.at.returns-in_ok-term-in-Err-clause-front g c).In_ok-term-in-Err m n hm hn in
     front_after_two behind_first (behind_new r.ends front_same)
-    (front_after_one (behind_new p.ends front_same) (front_after front_same c.place_merged.ensures.front) c.completed.ensures.front) c.insert.ensures.front
+    (front_after_one (behind_new p.ends front_same) (front_after front_same c.place_merged.ensures.front) c.completed.ensures.front) c.insert_child.ensures.front
 
 pub returns-in_err-term-in-Err-clause-front : goal.returns-in_err-term-in-Err-clause-front
 returns-in_err-term-in-Err-clause-front g c =
@@ -155,46 +130,26 @@ child-other-requires g c =
     let (m, n, hm, hn) = c.requires.monomials in
     let p = placed_behind c.requires.sum c.requires.first c.requires.second c.in_ok-product.ensures.ok m n hm hn in
     let st = c.in_ok-product.ensures.stands in
-    let now = c.place_merged.new.pool in (
-      search rules,
-      (
-        st,
-        (
-          expression c.id-in-Ok.ensures st (given_other p (given_handed c.requires.sum)),
-          (
-            lists_at c.id-in-Ok.ensures (lists_behind c.requires.sum p c.requires.lists),
-            subst (λ (t : Tree). c.in-Ok.at < count (children_of t)) (sym (sum_read c.args.pool.now now c.requires.sum p st c.id-in-Ok.ensures)) (within g (goal.at.child-other-requires g c).In-Ok),
-          ),
-        ),
-      ),
-    )
+    let x = expression c.id-in-Ok.ensures st (given_other p (given_handed c.requires.sum)) in
+    let lists = lists_at c.id-in-Ok.ensures (lists_behind c.requires.sum p c.requires.lists) in
+    let same = sum_read c.args.pool.now c.place_merged.new.pool c.requires.sum p st c.id-in-Ok.ensures in
+    (search rules, (st, (x, (lists, subst (λ (t : Tree). c.in-Ok.at < count (children_of t)) (sym same) (within g (goal.at.child-other-requires g c).In-Ok)))))
 
 -- what it is read as
 other : (g : Over) (c : After-child-other g) → plain (tree_at c.child-other.result (forest c.place_merged.new.pool)) ≡ nth c.in-Ok.at (children_of (tree_of c.args.sum.now c.args.pool.now))
 other g c =
     let (m, n, hm, hn) = c.requires.monomials in
     c.child-other.ensures.plain
-    ∙ ap (λ (t : Tree). nth c.in-Ok.at (children_of t)) (sum_read c.args.pool.now c.place_merged.new.pool c.requires.sum (placed_behind c.requires.sum c.requires.first c.requires.second c.in_ok-product.ensures.ok m n hm hn) c.in_ok-product.ensures.stands c.id-in-Ok.ensures)
+    ∙ ap (λ (t : Tree). nth c.in-Ok.at (children_of t)) (sum_read c.args.pool.now c.place_merged.new.pool c.requires.sum
+    (placed_behind c.requires.sum c.requires.first c.requires.second c.in_ok-product.ensures.ok m n hm hn) c.in_ok-product.ensures.stands c.id-in-Ok.ensures)
 
 pub replace-requires : goal.replace-requires
 replace-requires g c =
     let (m, n, hm, hn) = c.requires.monomials in
-    let p = placed_behind c.requires.sum c.requires.first c.requires.second c.in_ok-product.ensures.ok m n hm hn in (
-      search rules,
-      (
-        c.in_ok-product.ensures.stands,
-        (
-          (monomial_times m n, gives_rest p (λ t e. e)),
-          (
-            subst (λ (f : Forest). Gives (without_root c.args.sum.now f) f c.args.sum.now IsSum) (sym (given_rest p)) c.requires.sum,
-            (
-              lists_behind c.requires.sum p c.requires.lists,
-              omega (arith, within g (goal.at.replace-requires g c).In-Ok, ap (λ (f : Forest). count (children_of (plain f))) (given_same c.args.sum.now p (given_root c.requires.sum))),
-            ),
-          ),
-        ),
-      ),
-    )
+    let p = placed_behind c.requires.sum c.requires.first c.requires.second c.in_ok-product.ensures.ok m n hm hn in
+    let sum = subst (λ (f : Forest). Gives (without_root c.args.sum.now f) f c.args.sum.now IsSum) (sym (given_rest p)) c.requires.sum in
+    let same = ap (λ (f : Forest). count (children_of (plain f))) (given_same c.args.sum.now p (given_root c.requires.sum)) in
+    (search rules, (c.in_ok-product.ensures.stands, ((monomial_times m n, gives_rest p (λ t e. e)), (sum, (lists_behind c.requires.sum p c.requires.lists, omega (arith, within g (goal.at.replace-requires g c).In-Ok, same))))))
 
 pub returns-in_ok-replace-in-Ok-clause-ok : goal.returns-in_ok-replace-in-Ok-clause-ok
 returns-in_ok-replace-in-Ok-clause-ok g c = λ m n hm hn.
@@ -259,5 +214,9 @@ returns-in_err-product-clause-fits g c = λ m n h l hm hn held k.
 
 pub returns-in_err-total-in-Ok-clause-fits : goal.returns-in_err-total-in-Ok-clause-fits
 returns-in_err-total-in-Ok-clause-fits g c = λ m n h l hm hn held k.
-    contradiction (total_fits (given_told c.requires.sum) (summand (value_of c.args.coefficient) (monomial_times m n)) c.in-Ok.at (within g (goal.at.returns-in_err-total-in-Ok-clause-fits g c).In-Ok) held k (value_of c.coefficient.result)
+    contradiction (total_fits (given_told c.requires.sum) (summand (value_of c.args.coefficient) (monomial_times m n)) c.in-Ok.at
+    (within g (goal.at.returns-in_err-total-in-Ok-clause-fits g c).In-Ok) held k (value_of c.coefficient.result)
     (c.coefficient.ensures ∙ ap coefficient_in (other g (goal.at.returns-in_err-total-in-Ok-clause-fits g c).After-child-other))) (c.in_err-total-in-Ok.ensures.refused.0 refl)
+
+pub of-left-requires-clause-expression : goal.of-left-requires-clause-expression
+of-left-requires-clause-expression g c = (beside c.requires.sum c.requires.first).expression

@@ -1,10 +1,6 @@
-use Rattle.std.proofs.Common.{◌∙◌, List, sym, subst}
-use Rattle.calc_terms.specs.Trees.{names}
-use Rattle.calc_terms.specs.declared.name.Name.{Name}
-use Rattle.expand_forms.specs.Named.{IsListOf, names_of}
-use Rattle.expand_forms.specs.Reading.{AreAmong}
-use Rattle.expand_forms.proofs.Shared.{forest, plain, polynomial_of, tree_at}
+use Rattle.expand_forms.proofs.Shared.{names, AreAmong, ◌∙◌, List, sym, subst, Name, IsListOf, forest, plain, polynomial_of, tree_at}
 use Rattle.expand_forms.proofs.PowersOfSums.{ready_expanded}
+use Rattle.expand_forms.specs.Named.{names_of}
 use Rattle.expand_forms.proofs.ValueNodes.{went}
 use Rattle.expand_forms.proofs.by_values.list_child.Goals as goal
 

@@ -1,7 +1,6 @@
-use Rattle.std.proofs.Common.{◌≡◌, ◌≤◌}
-use Rattle.expand_forms.proofs.Shared.{children_of, count, plain, product_of, tree_at, forest}
+use Rattle.expand_forms.proofs.Shared.{◌≡◌, ◌≤◌, children_of, count, plain, product_of, tree_at, forest, IsListOf}
 use Rattle.expand_forms.proofs.Nodes.{from}
-use Rattle.expand_forms.specs.Named.{IsListOf, names_of}
+use Rattle.expand_forms.specs.Named.{names_of}
 use Rattle.expand_forms.proofs.by_values.list_products.Given as goal
 
 abbrev pub invariant-loop-left : goal.invariant-loop-left

@@ -1,17 +1,12 @@
-use Rattle.std.proofs.Common.{◌≡◌, ◌<◌, ◌∙◌, List, length, ap, arith, sym, subst, true}
-use Rattle.calc_terms.specs.Trees.{names}
-use Rattle.calc_terms.specs.declared.name.Name.{Name}
-use Rattle.polynomials.specs.declared.term.Term.{Term}
-use Rattle.expand_forms.specs.Named.{AreNames, IsListOf, names_of}
-use Rattle.expand_forms.specs.Polynomials.{raised}
-use Rattle.expand_forms.specs.Reading.{AreAmong}
+use Rattle.expand_forms.proofs.Shared.{◌∙◌, List, length, ap, arith, sym, subst, names, Name, Term, AreNames, IsListOf, raised, AreAmong, IsExpanded, children_number, children_of, exponent_of}
+use Rattle.expand_forms.proofs.Shared.{forest, has_polynomial_root, is_exponent, plain, polynomial_of, tree_at}
+use Rattle.expand_forms.specs.Named.{names_of}
 use Rattle.expand_forms.proofs.ListLaws.{list_as, list_power}
 use Rattle.expand_forms.proofs.NameLists.{names_length}
 use Rattle.expand_forms.proofs.SameCoefficients.{same_is}
 use Rattle.expand_forms.proofs.NodeChildren.{expanded_nth}
 use Rattle.expand_forms.proofs.NodeKinds.{power_node}
 use Rattle.expand_forms.proofs.PowersOfSums.{power_kind, ready_power, two_children}
-use Rattle.expand_forms.proofs.Shared.{AreExpanded, IsExpanded, Tree, children_number, children_of, count, exponent_of, forest, has_polynomial_root, is_exponent, nth, plain, polynomial_of, tree_at}
 use Rattle.expand_forms.proofs.ValueNodes.{can_name_child, passed, went}
 use Rattle.expand_forms.proofs.by_values.list_raised.Goals as goal
 
@@ -64,4 +59,5 @@ returns-clause-list c = λ e.
     let read = passed c.read_terms.result c.read_terms.ensures.terms (sym c.is_err.ensures.value ∙ c.if-is_err.false) in
     let list = subst (λ (xs : List Name). IsListOf (names_of xs) c.read_terms.new.list.items w) c.deref.ensures.value read in
     list_as (same_is ((λ i. raised (polynomial_of (base i)) (exponent i)) ∙ ap polynomial_of (sym (power_node t k))))
-    (list_power c.exponent_of-exponent.result (subst (λ (ts : List Term). IsListOf ns ts w) (sym c.deref-3.ensures.value) list) (went c.power.result c.power.ensures.terms (sym c.is_ok.ensures.value ∙ e)))
+    (list_power c.exponent_of-exponent.result (subst (λ (ts : List Term). IsListOf ns ts w) (sym c.deref-3.ensures.value) list)
+    (went c.power.result c.power.ensures.terms (sym c.is_ok.ensures.value ∙ e)))

@@ -3,8 +3,5 @@ use Rattle.expand_forms.proofs.TermReadings.{if_ok_map}
 use Rattle.expand_forms.proofs.ValueNodes.{turned_same}
 use Rattle.expand_forms.proofs.by_values.multiply.Goals as goal
 
-pub returns-then-a-b : goal.returns-then-a-b
-returns-then-a-b c = λ ns v w h k. if_ok_map c.product.result c.product.ensures.terms (λ x t. list_product h k t)
-
 pub returns-else-a-b : goal.returns-else-a-b
 returns-else-a-b c = λ ns v w h k. if_ok_map c.product-else-a-b.result c.product-else-a-b.ensures.terms (λ x t. list_as (turned_same h k) (list_product k h t))

@@ -1,7 +1,5 @@
-use Rattle.std.proofs.Common.{◌∙◌, List, sym, subst}
-use Rattle.polynomials.specs.declared.term.Term.{Term}
-use Rattle.expand_forms.specs.Named.{IsListOf, names_of}
-use Rattle.expand_forms.proofs.Shared.{forest, plain, polynomial_of, tree_at}
+use Rattle.expand_forms.proofs.Shared.{◌∙◌, List, sym, subst, Term, IsListOf, forest, plain, polynomial_of, tree_at}
+use Rattle.expand_forms.specs.Named.{names_of}
 use Rattle.expand_forms.proofs.ValueNodes.{passed}
 use Rattle.expand_forms.proofs.by_values.multiply_child.Goals as goal
 

@@ -1,19 +1,17 @@
-use Rattle.std.proofs.Common.{◌*◌, ◌≤◌, ◌≡◌, ◌↔◌, ◌+◌, ◌<◌, ℕ, Err, Result, rules, refl, sym, subst, arith}
+use Rattle.expand_forms.proofs.Shared.{◌*◌, ◌≤◌, ◌≡◌, ◌↔◌, ◌+◌, ◌<◌, ℕ, Err, Result, rules, sym, subst, arith, Ends, HasNoNewName, Tree, behind_first, behind_new, bits, expansion_room, forest}
+use Rattle.expand_forms.proofs.Shared.{free_of, front_after_one, front_same, front_without, given_handed, given_rest, given_told, gives_as, gives_rest, kept_after, last_tree, nodes}
+use Rattle.expand_forms.proofs.Shared.{replaced_free, size, tree_of, without_root, Forest, CountsRefusals, IfFull, IfInterrupted, fault_of, ReduceFault, passed_result, LacksBytes}
 use Rattle.breakers.specs.Breakers.{TripsRose}
 use Rattle.breakers.specs.Watch.{states}
-use Rattle.expand_forms.proofs.Shared.{Ends, HasNoNewName, Tree, behind_first, behind_new, bits, expansion_room, forest, free_of, front_after_one, front_same, front_without, given_handed, given_rest, given_told, gives_as, gives_rest, kept_after, last_tree, nodes, replaced_free, size, tree_of, without_root, Forest}
 use Rattle.expand_forms.proofs.AnswerFaults.{caused_full, caused_overflow, no_interruption, refusal, told_full, told_interruption, told_overflow, told_refusals}
 use Rattle.expand_forms.proofs.Names.{expanded_no_new_name}
 use Rattle.expand_forms.proofs.NodeBits.{beyond_bits}
 use Rattle.expand_forms.proofs.TermCounts.{some_nodes, within_room}
 use Rattle.breakers.proofs.Runs.{calm_checks_raise_no_trips}
 use Rattle.reduce_port.specs.Checks.{CalmUpTo, TripsWithin}
-use Rattle.reduce_port.specs.Faults.{CountsRefusals, IfFull, IfInterrupted, IfOverflow, fault_of}
-use Rattle.reduce_port.specs.declared.fault.ReduceFault.{ReduceFault}
-use Rattle.reduce_port.specs.declared.fault.ReduceFault.TheVariants as fault
+use Rattle.reduce_port.specs.Faults.{IfOverflow}
 use Rattle.reduce_walk.proofs.Port.{overflow_as, unfit_after_checks}
-use Rattle.tree_handles.proofs.Outcomes.{passed_result}
-use Rattle.tree_handles.specs.Standing.{LacksBytes}
+use Rattle.reduce_port.specs.declared.fault.ReduceFault.TheVariants as fault
 use Rattle.expand_forms.proofs.expansion.expand.Goals as goal
 
 pub raise_answer-requires : goal.raise_answer-requires
@@ -78,9 +76,11 @@ returns-in_err-raise_answer-in-Ok g c =
       overflow_beyond_bits = told (λ x. IfOverflow x (λ _. 124 < bits t)) (told_overflow e (c.in_err-raise_answer-in-Ok.ensures.fits t p ready) (λ o l. beyond_bits t l));
       overflow_after_checks = told (λ x. IfOverflow x (λ _. CalmUpTo (nodes t) before after)) (told_overflow e (c.in_err-raise_answer-in-Ok.ensures.fits t p ready) (λ o l. calm));
       full = told (λ x. IfFull x (LacksBytes c.raise_answer.new.pool)) (caused_full e c.raise_answer.new.pool c.in_err-raise_answer-in-Ok.ensures.caused);
-      full_beyond_room = told (λ x. IfFull x (λ _. free_of c.args.pool.now + size t < expansion_room t)) (told_full e (c.in_err-raise_answer-in-Ok.ensures.room t p ready) (λ full l. omega (arith, l, free)));
+      full_beyond_room = told (λ x. IfFull x (λ _. free_of c.args.pool.now + size t < expansion_room t))
+          (told_full e (c.in_err-raise_answer-in-Ok.ensures.room t p ready) (λ full l. omega (arith, l, free)));
       full_after_checks = told (λ x. IfFull x (λ _. CalmUpTo (nodes t) before after)) (told_full e (c.in_err-raise_answer-in-Ok.ensures.room t p ready) (λ full l. calm));
-      refusals = told (λ x. CountsRefusals c.args.pool.now c.raise_answer.new.pool x) (told_refusals e c.args.pool.now c.walk.new.pool c.raise_answer.new.pool c.in-Ok.ensures.refusals c.in_err-raise_answer-in-Ok.ensures.faults);
+      refusals = told (λ x. CountsRefusals c.args.pool.now c.raise_answer.new.pool x)
+          (told_refusals e c.args.pool.now c.walk.new.pool c.raise_answer.new.pool c.in-Ok.ensures.refusals c.in_err-raise_answer-in-Ok.ensures.faults);
       front = front_after_one (behind_new walked.ends (front_without behind_first front_same)) c.walk.ensures.front c.raise_answer.ensures.front;
       stands = search rules;
     }

@@ -1,5 +1,4 @@
-use Rattle.std.proofs.Common.{◌∙◌, sym}
-use Rattle.expand_forms.proofs.Shared.{one_value, plain, tree_at, forest}
+use Rattle.expand_forms.proofs.Shared.{◌∙◌, sym, one_value, plain, tree_at, forest}
 use Rattle.expand_forms.proofs.TermReadings.{no_coefficient}
 use Rattle.expand_forms.proofs.factors.coefficient.Goals as goal
 

@@ -1,5 +1,6 @@
-use Rattle.std.proofs.Common.{rules, ◌+◌, ◌<◌, ◌∙◌, ◌++◌, drop, ap, sym, subst, arith}
-use Rattle.expand_forms.proofs.Shared.{value_of, size, normal, IsNoOverflow, sum_bytes, Polynomial, product, polynomial_of, row, IsExpanded, free_of, OfFull, gives_rest, passed_on, full_as, IsExpression, plain, Forest, tree_of, tree_at, without_root, forest, behind_first, front_after_one, given_handed, given_rest, lists_listed}
+use Rattle.expand_forms.proofs.Shared.{rules, ◌+◌, ◌<◌, ◌∙◌, ◌++◌, drop, ap, sym, subst, arith, value_of, size, normal, IsNoOverflow, sum_bytes, Polynomial, product, polynomial_of, row}
+use Rattle.expand_forms.proofs.Shared.{IsExpanded, free_of, OfFull, gives_rest, passed_on, full_as, IsExpression, plain, Forest, tree_of, tree_at, without_root, forest, behind_first}
+use Rattle.expand_forms.proofs.Shared.{front_after_one, given_handed, given_rest, lists_listed}
 use Rattle.expand_forms.proofs.Gathered.{gathered_append, gathered_products, gathered_refl}
 use Rattle.expand_forms.proofs.JoinLoops.{IsNextPart, IsNextTerm, joined_all, joined_lacks, joined_more, joined_none, next_part, next_term, part_few, part_held, place_read, terms_read}
 use Rattle.expand_forms.proofs.Joins.{no_summands}
@@ -10,13 +11,15 @@ use Rattle.expand_forms.proofs.joining.join_products.Given.{Over}
 use Rattle.expand_forms.proofs.joining.join_products.Goals.{After-coefficient-factor}
 use Rattle.expand_forms.proofs.joining.join_products.Goals as goal
 
-here : (g : Over) (c : After-coefficient-factor g) → IsNextTerm c.loop-at.at c.term_id-term.result (plain (tree_at c.args.a (without_root c.args.sum.now (forest c.args.pool.now)))) (without_root c.args.sum.now (forest c.loop-at.pool)) (forest c.loop-at.pool)
+here : (g : Over) (c : After-coefficient-factor g)
+    → IsNextTerm c.loop-at.at c.term_id-term.result (plain (tree_at c.args.a (without_root c.args.sum.now (forest c.args.pool.now)))) (without_root c.args.sum.now (forest c.loop-at.pool)) (forest c.loop-at.pool)
 here g c =
     let j = c.loop-at.invariant.joined in
     next_term c.loop-at.at j.gives c.requires.first c.requires.first_expanded
     (place_read j.gives c.requires.sum c.requires.first c.term_count-at-end.ensures c.loop-at-test.true) c.term_id-term.ensures.inside c.term_id-term.ensures.expression c.term_id-term.ensures.tree
 
-next : (g : Over) (c : After-coefficient-factor g) → IsNextPart (product (drop c.loop-at.at (normal (polynomial_of (plain (tree_at c.args.a (without_root c.args.sum.now (forest c.args.pool.now))))))) (normal (polynomial_of (plain (tree_at c.args.b (without_root c.args.sum.now (forest c.args.pool.now)))))))
+next : (g : Over) (c : After-coefficient-factor g)
+    → IsNextPart (product (drop c.loop-at.at (normal (polynomial_of (plain (tree_at c.args.a (without_root c.args.sum.now (forest c.args.pool.now))))))) (normal (polynomial_of (plain (tree_at c.args.b (without_root c.args.sum.now (forest c.args.pool.now)))))))
     (row (value_of c.coefficient-factor.result) (plain (tree_at c.term_id-term.result (without_root c.args.sum.now (forest c.loop-at.pool)))) 0
     (plain (tree_at c.args.b (without_root c.args.sum.now (forest c.loop-at.pool)))))
     (product (drop (c.loop-at.at + 1) (normal (polynomial_of (plain (tree_at c.args.a (without_root c.args.sum.now (forest c.args.pool.now)))))))
@@ -38,7 +41,9 @@ loop-at-init g c =
     let o = without_root c.args.sum.now (forest c.args.pool.now) in
     record {
       lists = c.requires.lists;
-      joined = joined_none c.args.sum.now _ _ c.args.pool.now c.requires.stands c.requires.sum (gathered_append (gathered_products (plain (tree_at c.args.a o)) (plain (tree_at c.args.b o)) c.requires.first_expanded c.requires.second_expanded) (gathered_refl (polynomial_of (tree_of c.args.sum.now c.args.pool.now))));
+      joined = joined_none c.args.sum.now _ _ c.args.pool.now c.requires.stands c.requires.sum
+          (gathered_append (gathered_products (plain (tree_at c.args.a o)) (plain (tree_at c.args.b o)) c.requires.first_expanded c.requires.second_expanded)
+          (gathered_refl (polynomial_of (tree_of c.args.sum.now c.args.pool.now))));
     }
 
 pub of-firsts-requires : goal.of-firsts-requires
@@ -71,7 +76,8 @@ pub returns-clause-ok : goal.returns-clause-ok
 returns-clause-ok g c =
     let o = without_root c.args.sum.now (forest c.args.pool.now) in
     let many = terms_read c.requires.sum c.requires.first c.requires.first_expanded c.term_count-at-end.ensures in
-    joined_all c.loop-at.invariant.joined (ap (λ (v : Polynomial). product v (normal (polynomial_of (plain (tree_at c.args.b o))))) (no_summands c.loop-at.at (normal (polynomial_of (plain (tree_at c.args.a o)))) (omega (arith, many, c.loop-at-test.false))))
+    joined_all c.loop-at.invariant.joined (ap (λ (v : Polynomial). product v (normal (polynomial_of (plain (tree_at c.args.b o)))))
+    (no_summands c.loop-at.at (normal (polynomial_of (plain (tree_at c.args.a o)))) (omega (arith, many, c.loop-at-test.false))))
 
 pub returns-in_err-join_row-clause-room : goal.returns-in_err-join_row-clause-room
 returns-in_err-join_row-clause-room g c = λ ns n few.

@@ -1,5 +1,4 @@
-use Rattle.std.proofs.Common.{◌++◌, drop}
-use Rattle.expand_forms.proofs.Shared.{Lists, normal, product, polynomial_of, plain, tree_of, tree_at, without_root, forest}
+use Rattle.expand_forms.proofs.Shared.{◌++◌, drop, Lists, normal, product, polynomial_of, plain, tree_of, tree_at, without_root, forest}
 use Rattle.expand_forms.proofs.JoinLoops.{IsJoined}
 use Rattle.expand_forms.proofs.joining.join_products.Given as goal
 

@@ -1,7 +1,8 @@
-use Rattle.std.proofs.Common.{rules, ◌≡◌, ◌+◌, ◌∙◌, ◌∷◌, [], ap, refl, sym, subst, arith, ◌<◌}
-use Rattle.expand_forms.proofs.Shared.{not_from_false, no_zero, Fraction, times, value_of, size, IsNoOverflow, sum_bytes, Monomial, monomial_times, summand, row, HasMonomial, coefficient_in, free_of, OfFull, gives_rest, passed_on, full_as, IsExpression, plain, Forest, tree_of, tree_at, without_root, forest, behind_first, front_after_one, given_handed, given_rest, lists_listed}
+use Rattle.expand_forms.proofs.Shared.{rules, ◌≡◌, ◌+◌, ◌∙◌, ◌∷◌, [], ap, refl, sym, subst, arith, ◌<◌, not_from_false, no_zero, Fraction, times, value_of, size, IsNoOverflow, sum_bytes}
+use Rattle.expand_forms.proofs.Shared.{Monomial, monomial_times, summand, row, HasMonomial, coefficient_in, free_of, OfFull, gives_rest, passed_on, full_as, IsExpression, plain, Forest, tree_of}
+use Rattle.expand_forms.proofs.Shared.{tree_at, without_root, forest, behind_first, front_after_one, given_handed, given_rest, lists_listed}
+use Rattle.expand_forms.proofs.JoinLoops.{joined_none, IsNextPart, IsNextTerm, joined_all, joined_more, next_term, part_few, part_held, place_read, terms_read}
 use Rattle.expand_forms.proofs.Gathered.{gathered_refl}
-use Rattle.expand_forms.proofs.JoinLoops.{IsNextPart, IsNextTerm, joined_all, joined_more, joined_none, next_term, part_few, part_held, place_read, terms_read}
 use Rattle.expand_forms.proofs.JoinRooms.{term_lacks}
 use Rattle.expand_forms.proofs.ListedTerms.{lists_beside}
 use Rattle.expand_forms.proofs.Rows.{next_coefficient, product_nonzero, row_end, row_next}
@@ -12,7 +13,8 @@ use Rattle.expand_forms.proofs.joining.row_within.Given.{Over}
 use Rattle.expand_forms.proofs.joining.row_within.Goals.{After-term_id-other}
 use Rattle.expand_forms.proofs.joining.row_within.Goals as goal
 
-here : (g : Over) (c : After-term_id-other g) → IsNextTerm c.loop-at.at c.term_id-other.result (plain (tree_at c.args.b (without_root c.args.sum.now (forest c.args.pool.now)))) (without_root c.args.sum.now (forest c.loop-at.pool)) (forest c.loop-at.pool)
+here : (g : Over) (c : After-term_id-other g)
+    → IsNextTerm c.loop-at.at c.term_id-other.result (plain (tree_at c.args.b (without_root c.args.sum.now (forest c.args.pool.now)))) (without_root c.args.sum.now (forest c.loop-at.pool)) (forest c.loop-at.pool)
 here g c =
     let j = c.loop-at.invariant.joined in
     next_term c.loop-at.at j.gives c.requires.second c.requires.second_expanded
@@ -25,7 +27,9 @@ first g c = subst (λ (f : Forest). HasMonomial c.requires.first_term.summand.mo
 
 next : (g : Over) (c : After-term_id-other g) (q r : Fraction) → r ≡ coefficient_in (plain (tree_at c.term_id-other.result (forest c.loop-at.pool))) → q ≡ times (value_of c.args.factor) r
     → IsNextPart (row (value_of c.args.factor) (plain (tree_at c.args.term (without_root c.args.sum.now (forest c.args.pool.now)))) c.loop-at.at (plain (tree_at c.args.b (without_root c.args.sum.now (forest c.args.pool.now)))))
-    (summand q (monomial_times c.requires.first_term.summand.monomial (here g c).term.summand.monomial) ∷ []) (row (value_of c.args.factor) (plain (tree_at c.args.term (without_root c.args.sum.now (forest c.args.pool.now)))) (c.loop-at.at + 1) (plain (tree_at c.args.b (without_root c.args.sum.now (forest c.args.pool.now)))))
+    (summand q (monomial_times c.requires.first_term.summand.monomial (here g c).term.summand.monomial) ∷ [])
+    (row (value_of c.args.factor) (plain (tree_at c.args.term (without_root c.args.sum.now (forest c.args.pool.now)))) (c.loop-at.at + 1)
+    (plain (tree_at c.args.b (without_root c.args.sum.now (forest c.args.pool.now)))))
 next g c q r e p =
     let x = here g c in
     row_next c.requires.first_term (value_of c.args.factor) q c.loop-at.at x.term.summand (plain (tree_at c.args.b (without_root c.args.sum.now (forest c.args.pool.now)))) x.next
@@ -81,7 +85,8 @@ returns-in_err-join_product-clause-room g c = λ ns n few.
     let x = here g at in
     let m : Monomial = c.requires.first_term.summand.monomial in
     let all = part_few j (next g at (value_of c.in_ok-product.product) _ c.coefficient.ensures c.in_ok-product.ensures.product) few in
-    passed_on c.from_residual-in_err-join_product.result c.in_err-join_product.field-0.0 (OfFull (λ full. free_of c.args.pool.now + size (tree_of c.args.sum.now c.args.pool.now) < sum_bytes ns n)) c.from_residual-in_err-join_product.ensures.0 c.from_residual-in_err-join_product.ensures.1
+    passed_on c.from_residual-in_err-join_product.result c.in_err-join_product.field-0.0
+    (OfFull (λ full. free_of c.args.pool.now + size (tree_of c.args.sum.now c.args.pool.now) < sum_bytes ns n)) c.from_residual-in_err-join_product.ensures.0 c.from_residual-in_err-join_product.ensures.1
     (full_as c.in_err-join_product.field-0.0 (c.in_err-join_product.ensures.room m x.term.summand.monomial (first g at) (term_monomial x.term))
     (λ full short. term_lacks (summand (value_of c.in_ok-product.product) (monomial_times m x.term.summand.monomial))
     (monomial_times_monomial m x.term.summand.monomial c.requires.first_term.monomial x.term.monomial) j c.requires.stands (given_handed c.requires.sum) all short))
@@ -92,7 +97,8 @@ pub returns-in_err-product-clause-fits : goal.returns-in_err-product-clause-fits
 returns-in_err-product-clause-fits g c = λ h l held k.
     let at = (goal.at.returns-in_err-product-clause-fits g c).After-term_id-other in
     let q = times (value_of c.args.factor) (value_of c.coefficient.result) in
-    contradiction (first_fits (summand q (monomial_times c.requires.first_term.summand.monomial (here g at).term.summand.monomial)) (part_held c.loop-at.invariant.joined (next g at q _ c.coefficient.ensures refl) held) k) (c.in_err-product.ensures.refused.0 refl)
+    contradiction (first_fits (summand q (monomial_times c.requires.first_term.summand.monomial (here g at).term.summand.monomial))
+    (part_held c.loop-at.invariant.joined (next g at q _ c.coefficient.ensures refl) held) k) (c.in_err-product.ensures.refused.0 refl)
 
 pub returns-in_err-join_product-clause-fits : goal.returns-in_err-join_product-clause-fits
 returns-in_err-join_product-clause-fits g c = λ h l held k.

@@ -1,5 +1,4 @@
-use Rattle.std.proofs.Common.{◌≡◌, ◌+◌, ◌∙◌, arith, sym, refl}
-use Rattle.expand_forms.proofs.Shared.{Equal, nat_cmp, slice_cmp, plus, factor, IsRead, sum_fits}
+use Rattle.expand_forms.proofs.Shared.{◌≡◌, ◌+◌, ◌∙◌, arith, sym, refl, Equal, nat_cmp, slice_cmp, plus, factor, IsRead, sum_fits}
 use Rattle.expand_forms.proofs.TermReadings.{exponent_sum}
 use Rattle.expand_forms.proofs.Splits.{contradiction, exponents_fit}
 use Rattle.expand_forms.proofs.merging.first_of.Goals as goal

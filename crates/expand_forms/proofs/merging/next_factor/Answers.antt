@@ -1,5 +1,4 @@
-use Rattle.std.proofs.Common.{arith, refl, subst}
-use Rattle.expand_forms.proofs.Shared.{HasExponents, BeginsWith, IsMonomial, monomial_times}
+use Rattle.expand_forms.proofs.Shared.{arith, refl, subst, HasExponents, BeginsWith, IsMonomial, monomial_times}
 use Rattle.expand_forms.proofs.MonomialProducts.{both_first}
 use Rattle.expand_forms.proofs.TermReadings.{next_first, next_left}
 use Rattle.expand_forms.proofs.merging.next_factor.Goals as goal

@@ -1,5 +1,4 @@
-use Rattle.std.proofs.Common.{◌∙◌, sym, refl}
-use Rattle.expand_forms.proofs.Shared.{gives_as}
+use Rattle.expand_forms.proofs.Shared.{◌∙◌, sym, refl, gives_as}
 use Rattle.expand_forms.proofs.TermReadings.{factor_one, factor_other, if_ok_map}
 use Rattle.expand_forms.proofs.merging.place_factor.Goals as goal
 

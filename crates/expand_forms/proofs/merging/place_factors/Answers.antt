@@ -1,8 +1,7 @@
-use Rattle.std.proofs.Common.{◌≡◌, ◌+◌, ℕ, ◌∙◌, ap, sym, subst, arith, ◌<◌, ◌*◌, length, drop}
-use Rattle.expand_forms.proofs.Shared.{BeginsWith, factor_trees, HasExponents, factor_bytes, AddsTrees, GoesOn, IsNext, Monomial, monomial_times, HasMonomial, free_of, OfFull, kept_after, kept_same, passed_on, plain, tree_at, forest, front_after, front_same}
+use Rattle.expand_forms.proofs.Shared.{◌≡◌, ◌+◌, ℕ, ◌∙◌, ap, sym, subst, arith, ◌<◌, ◌*◌, length, drop, BeginsWith, factor_trees, HasExponents, factor_bytes, AddsTrees, GoesOn, IsNext, Monomial}
+use Rattle.expand_forms.proofs.Shared.{monomial_times, HasMonomial, free_of, OfFull, kept_after, kept_same, passed_on, plain, tree_at, forest, front_after, front_same, Option}
 use Rattle.expand_forms.proofs.AddedTrees.{adds_beside, adds_free, factors_beside, head_beside}
 use Rattle.expand_forms.proofs.Masses.{later_exponents}
-use Rattle.std.specs.Prelude.{Option}
 use Rattle.expand_forms.specs.declared.factors.Factor.{Factor as Read}
 use Rattle.expand_forms.proofs.Merged.{IsMerged, all_gone, few_merged, merged_all, merged_length, merged_more, merged_none}
 use Rattle.expand_forms.proofs.TermBytes.{factors_most}
@@ -156,4 +155,6 @@ pub returns-in_err-next-clause-fits : goal.returns-in_err-next-clause-fits
 returns-in_err-next-clause-fits c = λ m n k hm hn x l.
     let w = c.loop-next.invariant.merged m n hm hn in
     let rest = later_exponents k w.done (monomial_times (drop c.loop-next.i m) (drop c.loop-next.j n)) (subst (HasExponents k) (sym w.split) x) in
-    absurd (c.in_err-next.ensures.fits (drop c.loop-next.i m) (drop c.loop-next.j n) k (drop_monomial c.loop-next.i m hm.monomial) (drop_monomial c.loop-next.j n hn.monomial) (head_beside c.loop-next.i c.loop-next.first w.adds c.requires.first c.loop-next.invariant.first hm) (head_beside c.loop-next.j c.loop-next.second w.adds c.requires.second c.loop-next.invariant.second hn) rest l)
+    absurd (c.in_err-next.ensures.fits (drop c.loop-next.i m) (drop c.loop-next.j n) k (drop_monomial c.loop-next.i m hm.monomial) (drop_monomial c.loop-next.j n hn.monomial)
+    (head_beside c.loop-next.i c.loop-next.first w.adds c.requires.first c.loop-next.invariant.first hm)
+    (head_beside c.loop-next.j c.loop-next.second w.adds c.requires.second c.loop-next.invariant.second hn) rest l)

@@ -1,5 +1,4 @@
-use Rattle.std.proofs.Common.{rules, ◌<◌, ap, refl, arith}
-use Rattle.expand_forms.proofs.Shared.{size, factor_bytes, free_of, refused_below, passed_on, forest, front_end, front_same, given_told, given_free}
+use Rattle.expand_forms.proofs.Shared.{rules, ◌<◌, ap, refl, arith, size, factor_bytes, free_of, refused_below, passed_on, forest, front_end, front_same, given_told, given_free}
 use Rattle.expand_forms.proofs.AddedTrees.{adds_more, adds_none, adopts, can_adopt, node_free}
 use Rattle.expand_forms.proofs.Lacks.{number_refused}
 use Rattle.expand_forms.proofs.merging.place_power.Goals as goal

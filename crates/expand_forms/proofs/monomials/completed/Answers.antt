@@ -1,5 +1,6 @@
-use Rattle.std.proofs.Common.{rules, ◌≡◌, ◌≤◌, ◌∙◌, ap, refl, sym, subst}
-use Rattle.expand_forms.proofs.Shared.{product_tree, value_of, Tree, count, is_mult, mult, many_factors, expression, live, seen, led_by, children_of, tree_of, behind_first, behind_new, front_after_one, front_same, front_without, given_handed, given_rest, given_root, given_told, gives_as}
+use Rattle.expand_forms.proofs.Shared.{given_root, rules, ◌≡◌, ◌≤◌, ◌∙◌, ap, refl, sym, subst, product_tree, value_of, Tree, count, is_mult, mult, many_factors, expression, seen, led_by}
+use Rattle.expand_forms.proofs.Shared.{children_of, tree_of, behind_first, behind_new, front_after_one, front_same, front_without, given_handed, given_rest, given_told, gives_as}
+use Rattle.tree_handles.proofs.Seen.{live}
 use Rattle.expand_forms.proofs.TermReadings.{led_some, led_term}
 use Rattle.expand_forms.proofs.monomials.completed.Goals as goal
 

@@ -1,9 +1,6 @@
-use Rattle.std.proofs.Common.{◌≤◌, ℕ, List, length, take, drop, subst, sym}
-use Rattle.calc_terms.specs.Leaf.{name_of}
-use Rattle.calc_terms.specs.declared.name.Name.{Name}
-use Rattle.expand_forms.proofs.NameLists.{insert_kept, insert_names, insert_only, insert_there}
-use Rattle.expand_forms.specs.Named.{AreNamesBelow, StartNamesFrom, names_of}
-use Rattle.expand_forms.specs.Reading.{HasName}
+use Rattle.expand_forms.proofs.Shared.{◌≤◌, ℕ, List, length, take, drop, subst, sym, name_of, Name, AreNamesBelow, StartNamesFrom, HasName}
+use Rattle.expand_forms.proofs.NameLists.{insert_kept, insert_only, insert_there, insert_names}
+use Rattle.expand_forms.specs.Named.{names_of}
 use Rattle.expand_forms.proofs.naming.add_name.Goals.{After-insert_name}
 use Rattle.expand_forms.proofs.naming.add_name.Goals as goal
 

@@ -1,14 +1,10 @@
-use Rattle.std.proofs.Common.{◌≡◌, ◌<◌, List, length, min, subst, sym, ap, ◌∙◌, arith, vec_capacity}
-use Rattle.calc_terms.specs.Leaf.{name_of}
-use Rattle.calc_terms.specs.declared.name.Name.{Name}
-use Rattle.calc_terms.specs.declared.kind.Kind.TheVariants as kind
+use Rattle.expand_forms.proofs.Shared.{◌≡◌, ◌<◌, List, length, min, subst, sym, ap, ◌∙◌, arith, vec_capacity, name_of, Name, count_distinct, forest, names, passed_on, plain, tree_at, AreNames}
+use Rattle.expand_forms.proofs.Shared.{IsUnlistedBy, found}
 use Rattle.expand_forms.proofs.NameLists.{contained_has, has_contained, names_length}
 use Rattle.expand_forms.proofs.NamedNodes.{AreCollected, collected_all, collected_none, more_names, next_node, unlisted_names}
-use Rattle.expand_forms.proofs.Shared.{count_distinct, forest, names, passed_on, plain, tree_at}
-use Rattle.expand_forms.specs.Named.{AreNames, names_of}
-use Rattle.expand_forms.specs.Reading.{IsUnlistedBy}
-use Rattle.tree_handles.proofs.Visiting.{found}
+use Rattle.expand_forms.specs.Named.{names_of}
 use Rattle.expand_forms.proofs.naming.collect_names.Goals.{in-Sym, in_default}
+use Rattle.calc_terms.specs.declared.kind.Kind.TheVariants as kind
 use Rattle.expand_forms.proofs.naming.collect_names.Goals as goal
 
 pub loop-node-init : goal.loop-node-init
@@ -65,7 +61,11 @@ returns-in_err-add_name-clause-unlisted c =
 pub loop-node-preserved : goal.loop-node-preserved
 loop-node-preserved c =
     let n = next_node c.loop-node.invariant.collected c.in-Some.ensures.steps in
-    let other : c.in-Some.node.kind ≡ kind.Sym → ⊥ = λ z. elim c.match-matches.branch [ in-Sym w ↦ (let e = sym w.matches-is ∙ c.if-matches.false in absurd cc) | in_default w ↦ w.in_default.not-Sym z ] in
+    let other : c.in-Some.node.kind ≡ kind.Sym → ⊥ = λ z. elim c.match-matches.branch [
+      | in-Sym w ↦
+          (let e = sym w.matches-is ∙ c.if-matches.false in absurd cc)
+      | in_default w ↦ w.in_default.not-Sym z
+    ] in
     record { collected = n.without other; rising = c.loop-node.invariant.rising; few = c.loop-node.invariant.few; room = c.loop-node.invariant.room }
 
 pub returns-clause-all : goal.returns-clause-all

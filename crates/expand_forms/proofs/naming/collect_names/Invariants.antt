@@ -1,7 +1,6 @@
-use Rattle.std.proofs.Common.{◌≤◌, length, vec_capacity}
+use Rattle.expand_forms.proofs.Shared.{◌≤◌, length, vec_capacity, names, plain, tree_at, forest, AreNames}
 use Rattle.expand_forms.proofs.NamedNodes.{AreCollected}
-use Rattle.expand_forms.proofs.Shared.{names, plain, tree_at, forest}
-use Rattle.expand_forms.specs.Named.{AreNames, names_of}
+use Rattle.expand_forms.specs.Named.{names_of}
 use Rattle.expand_forms.proofs.naming.collect_names.Given as goal
 
 abbrev pub invariant-loop-node : goal.invariant-loop-node

@@ -1,10 +1,6 @@
-use Rattle.std.proofs.Common.{◌≡◌, ◌+◌, suc, drop, subst, arith}
-use Rattle.calc_terms.specs.Leaf.{name_of}
-use Rattle.calc_terms.specs.declared.name.Name.{Name}
-use Rattle.std.specs.Prelude.{List, ℕ}
-use Rattle.expand_forms.proofs.NameLists.{dropped, dropped_all, has_at, name_same, not_first}
+use Rattle.expand_forms.proofs.Shared.{◌≡◌, ◌+◌, suc, drop, subst, arith, name_of, Name, List, ℕ, HasName}
+use Rattle.expand_forms.proofs.NameLists.{dropped_all, dropped, has_at, name_same, not_first}
 use Rattle.expand_forms.specs.Named.{names_of}
-use Rattle.expand_forms.specs.Reading.{HasName}
 use Rattle.expand_forms.proofs.naming.has_name.Goals as goal
 
 pub loop-other-init : goal.loop-other-init

@@ -1,9 +1,6 @@
-use Rattle.std.proofs.Common.{◌≡◌, ◌+◌, ℕ, suc, ◌∙◌, List, subst, sym, take, arith}
-use Rattle.calc_terms.specs.Leaf.{name_of}
-use Rattle.calc_terms.specs.declared.name.Name.{Name}
+use Rattle.expand_forms.proofs.Shared.{◌≡◌, ◌+◌, ℕ, suc, ◌∙◌, List, subst, sym, take, arith, name_of, Name, nat_cmp, slice_cmp, AreNamesBelow}
 use Rattle.expand_forms.proofs.NameLists.{below_push, is_less, taken}
-use Rattle.expand_forms.proofs.Shared.{nat_cmp, slice_cmp}
-use Rattle.expand_forms.specs.Named.{AreNamesBelow, names_of}
+use Rattle.expand_forms.specs.Named.{names_of}
 use Rattle.expand_forms.proofs.naming.place_of_name.Goals as goal
 
 pub loop-at-preserved : goal.loop-at-preserved

@@ -1,5 +1,6 @@
-use Rattle.std.proofs.Common.{rules, ◌∙◌, inl, ap, refl, sym, subst, ◌<◌, ◌≤◌, length}
-use Rattle.expand_forms.proofs.Shared.{Tree, names, expression, seen, expanded, has_polynomial_root, polynomial_of, AreExpanded, gives_without, children_of, behind_first, front_after, front_at, front_same, front_without, given_other, gives_as, owned, HasNoNewName, node_bytes, free_of, OfFull, passed_on, bits_of, OfOverflow, IsOver}
+use Rattle.expand_forms.proofs.Shared.{inl, rules, ◌∙◌, ap, refl, sym, subst, ◌<◌, ◌≤◌, length, Tree, names, expression, seen, expanded, has_polynomial_root, polynomial_of, AreExpanded}
+use Rattle.expand_forms.proofs.Shared.{gives_without, children_of, behind_first, front_after, front_at, front_same, front_without, given_other, gives_as, owned, HasNoNewName, node_bytes, free_of}
+use Rattle.expand_forms.proofs.Shared.{OfFull, passed_on, bits_of, OfOverflow, IsOver}
 use Rattle.expand_forms.proofs.node.expand_by_trees.Goals as goal
 
 pub place_expansion-requires : goal.place_expansion-requires

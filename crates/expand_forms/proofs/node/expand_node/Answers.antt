@@ -1,11 +1,10 @@
-use Rattle.std.proofs.Common.{◌∙◌, ◌<◌, ◌≤◌, length, ap, refl, subst, sym, arith, rules}
-use Rattle.expand_forms.specs.Named.{IsListOf, names_of}
-use Rattle.expand_forms.proofs.Shared.{AreExpanded, OfFull, Polynomial, Tree, children_of, expanded, expression, free_of, gives_as, has_polynomial_root, if_map, names, node_bytes, passed_on, polynomial_of, seen, tree_of}
+use Rattle.expand_forms.proofs.Shared.{◌∙◌, ◌<◌, ap, subst, sym, IsListOf, OfFull, Tree, children_of, expression, free_of, has_polynomial_root, names, node_bytes, passed_on, polynomial_of, seen}
+use Rattle.expand_forms.proofs.Shared.{tree_of, AreReady}
+use Rattle.expand_forms.specs.Named.{names_of}
 use Rattle.expand_forms.proofs.FewTerms.{few_names}
 use Rattle.expand_forms.proofs.PowersOfSums.{all_ready}
-use Rattle.expand_forms.specs.PowersOfSums.{AreReady}
-use Rattle.tree_handles.specs.declared.fault.NumberFault.TheVariants as fault
 use Rattle.expand_forms.proofs.node.expand_node.Goals.{Then-expand_values}
+use Rattle.tree_handles.specs.declared.fault.NumberFault.TheVariants as fault
 use Rattle.expand_forms.proofs.node.expand_node.Goals as goal
 
 pub expand_values-requires : goal.expand_values-requires
@@ -36,7 +35,8 @@ pub returns-in_err-place_listed-clause-room : goal.returns-in_err-place_listed-c
 returns-in_err-place_listed-clause-room c = λ whole n h l.
     let t = tree_of c.args.tree c.args.pool.now in
     let list = listed (goal.at.returns-in_err-place_listed-clause-room c).Then-expand_values in
-    passed_on c.from_residual.result (fault.Full c.in_err-place_listed.field-0.0) (OfFull (λ full. free_of c.args.pool.now < node_bytes (names whole) n)) c.from_residual.ensures.0 c.from_residual.ensures.1
+    passed_on c.from_residual.result (fault.Full c.in_err-place_listed.field-0.0)
+    (OfFull (λ full. free_of c.args.pool.now < node_bytes (names whole) n)) c.from_residual.ensures.0 c.from_residual.ensures.1
     (c.in_err-place_listed.ensures.room (polynomial_of t) (names whole) n list (few_names whole t n h l))
 
 pub returns-then-expand_values-clause-ok : goal.returns-then-expand_values-clause-ok

@@ -1,14 +1,13 @@
-use Rattle.std.proofs.Common.{rules, ◌≡◌, ◌<◌, ◌≤◌, ◌+◌, ◌∙◌, ◌++◌, drop, length, ap, sym, subst, arith}
-use Rattle.expand_forms.proofs.Shared.{Tree, size, polynomial_of, value_of, row, IsExpanded, IsTerm, AreExpanded, has_polynomial_root, scaled, gives_rest, IsExpression, children_of, plain, Forest, tree_of, tree_at, without_root, forest, behind_first, front_after_one, given_rest, given_handed, sum_bytes, free_of, OfFull, passed_on, full_as, IsNoOverflow}
-use Rattle.std.proofs.lemmas.List.{drop_all}
+use Rattle.expand_forms.proofs.Shared.{rules, ◌≡◌, ◌<◌, ◌≤◌, ◌+◌, ◌∙◌, ◌++◌, drop, length, ap, sym, subst, arith, Tree, size, polynomial_of, value_of, row, IsExpanded, IsTerm, AreExpanded}
+use Rattle.expand_forms.proofs.Shared.{has_polynomial_root, scaled, gives_rest, IsExpression, children_of, plain, Forest, tree_of, tree_at, without_root, forest, behind_first, front_after_one}
+use Rattle.expand_forms.proofs.Shared.{given_rest, given_handed, sum_bytes, free_of, OfFull, passed_on, full_as, IsNoOverflow, drop_all, has_parts, parts_of, total}
+use Rattle.expand_forms.proofs.JoinLoops.{joined_none, IsNextPart, joined_all, joined_lacks, joined_more, part_few, part_held}
 use Rattle.expand_forms.proofs.Gathered.{gathered_append, gathered_is, gathered_refl, gathered_trans}
-use Rattle.expand_forms.proofs.JoinLoops.{IsNextPart, joined_all, joined_lacks, joined_more, joined_none, part_few, part_held}
 use Rattle.expand_forms.proofs.PowersOfSums.{all_ready}
 use Rattle.expand_forms.proofs.NodeParts.{one_term, part_row}
 use Rattle.expand_forms.proofs.TermReadings.{beside}
 use Rattle.expand_forms.proofs.Within.{IsWithin, within}
 use Rattle.expand_forms.proofs.FewTerms.{few_as, few_append}
-use Rattle.expand_forms.specs.Parts.{has_parts, parts_of, total}
 use Rattle.expand_forms.proofs.node.join_parts.Goals.{After-part_at-part}
 use Rattle.expand_forms.proofs.node.join_parts.Goals as goal
 
@@ -62,7 +61,8 @@ next c =
     λ k. row q (plain (tree_at c.args.one (sym r k))) 0 (plain (tree_at i (sym r k))) ++ rest in
     record {
       gathered = gathered_trans (gathered_is left) (gathered_trans
-          (gathered_append (part_row q (plain (tree_at c.args.one o)) (plain (tree_at i o)) c.part_at-part.ensures.nonzero c.requires.is_one (expanded_part c)) (gathered_refl rest)) (gathered_is same));
+          (gathered_append (part_row q (plain (tree_at c.args.one o)) (plain (tree_at i o)) c.part_at-part.ensures.nonzero c.requires.is_one (expanded_part c)) (gathered_refl rest))
+          (gathered_is same));
     }
 
 pub join_row-requires : goal.join_row-requires

@@ -1,8 +1,9 @@
-use Rattle.std.proofs.Common.{rules, ◌≡◌, ◌<◌, ◌+◌, ◌-◌, ◌∙◌, ℕ, ap, refl, sym, subst, arith, ◌≤◌, ◌*◌, length}
-use Rattle.expand_forms.proofs.Shared.{AreExpanded, Tree, count, has_polynomial_root, mult, names, one_value, expanded, product_of, polynomial_of, IsExpanded, gives_rest, kept_after, IsExpression, children_of, nth, plain, Forest, tree_at, without_root, forest, behind_new, front_after_one, front_same, given_handed, given_rest, given_told, gives_as, node_bytes, sum_bytes, free_of, OfFull, passed_on, full_as, Polynomial, given_free, IsHeld}
+use Rattle.expand_forms.proofs.Shared.{rules, ◌≡◌, ◌<◌, ◌+◌, ◌-◌, ◌∙◌, ℕ, ap, refl, sym, subst, arith, ◌≤◌, ◌*◌, length, AreExpanded, Tree, count, has_polynomial_root, mult, names, one_value}
+use Rattle.expand_forms.proofs.Shared.{expanded, product_of, polynomial_of, IsExpanded, gives_rest, kept_after, IsExpression, children_of, nth, plain, Forest, tree_at, without_root, forest}
+use Rattle.expand_forms.proofs.Shared.{behind_new, front_after_one, front_same, given_handed, given_rest, given_told, gives_as, node_bytes, sum_bytes, free_of, OfFull, passed_on, full_as}
+use Rattle.expand_forms.proofs.Shared.{Polynomial, given_free, IsHeld, has_factors, multiplied}
 use Rattle.expand_forms.proofs.NodeAnswers.{empty_product, next_product, product_expanded, product_from}
 use Rattle.expand_forms.proofs.NodeParts.{few_factor, few_rest, multiplied_expanded, multiplied_product}
-use Rattle.expand_forms.specs.Parts.{has_factors, multiplied}
 use Rattle.expand_forms.proofs.NodeChildren.{expanded_nth}
 use Rattle.expand_forms.proofs.Nodes.{from}
 use Rattle.expand_forms.proofs.TermReadings.{beside}
@@ -67,7 +68,9 @@ times-requires c =
       stands = search rules;
       second = given_handed c.loop-left.invariant.given;
       first = subst (IsExpression c.factor_id.result) (sym (given_rest c.loop-left.invariant.given)) (factor_within (goal.at.times-requires c).After-factor_id).expression;
-      first_expanded = let j = c.loop-left.invariant in subst (λ (f : Forest). IsExpanded (plain (tree_at c.factor_id.result f))) (sym (given_rest j.given)) (subst IsExpanded (sym (factor_is (goal.at.times-requires c).After-factor_id)) (expanded_nth (c.loop-left.left - 1) ts (multiplied_expanded (plain (tree_at c.args.id (forest c.args.pool.now))) c.requires.children) (omega (arith, j.within, c.loop-left-test.true))));
+      first_expanded = let j = c.loop-left.invariant in subst (λ (f : Forest). IsExpanded (plain (tree_at c.factor_id.result f))) (sym (given_rest j.given))
+          (subst IsExpanded (sym (factor_is (goal.at.times-requires c).After-factor_id))
+          (expanded_nth (c.loop-left.left - 1) ts (multiplied_expanded (plain (tree_at c.args.id (forest c.args.pool.now))) c.requires.children) (omega (arith, j.within, c.loop-left-test.true))));
       last = gives_rest c.loop-left.invariant.given (λ t e. product_expanded (from c.loop-left.left ts) e);
     }
 
@@ -80,7 +83,8 @@ loop-left-preserved c =
     let next : c.loop-left.left ≡ n + 1 = omega (arith, c.loop-left-test.true) in
     let told = given_told j.given ∙ ap (λ (k : ℕ). expanded (product_of (from k ts))) next in
     record {
-      given = gives_as c.in-Ok.ensures.ok r (λ t e. next_product n ts (omega (arith, j.within, c.loop-left-test.true)) ((λ i. plain (tree_at c.factor_id.result (r i))) ∙ factor_is (goal.at.loop-left-preserved c).After-factor_id) told e);
+      given = gives_as c.in-Ok.ensures.ok r (λ t e. next_product n ts (omega (arith, j.within, c.loop-left-test.true))
+          ((λ i. plain (tree_at c.factor_id.result (r i))) ∙ factor_is (goal.at.loop-left-preserved c).After-factor_id) told e);
       within = omega (arith, j.within);
       front = front_after_one (behind_new j.given.ends front_same) j.front c.times.ensures.front;
       kept = kept_after j.kept c.in-Ok.ensures.kept;
@@ -105,7 +109,10 @@ returns-in-Err c =
           (tree_monomials (mult (from c.loop-left.left ts))) (given_told inv.given) (subst (λ (k : ℕ). IsHeld (product_of (from k ts)) p q) (sym next) z) in c.in-Err.ensures.fits
           (i + p) (j + q) (held_product (tree_monomials (plain (tree_at c.factor_id.result (without_root c.loop-left.product (forest c.loop-left.pool))))) one rest)
           (omega (arith, m, n, k));
-      room = λ whole n h l. let ns = names whole in let t = plain (tree_at c.args.id (forest c.args.pool.now)) in let ts = multiplied t in let v = product_of (from c.loop-left.left ts) in let child = (λ i. plain (tree_at c.factor_id.result (given_rest j.given i))) ∙ factor_is (goal.at.returns-in-Err c).After-factor_id in let some = some_product (from c.loop-left.left ts) (expanded_from c.loop-left.left ts (multiplied_expanded t c.requires.children)) in let one = few_factor at h child in let rest = few_rest c.loop-left.left h in let monomials = tree_monomials (mult (from c.loop-left.left ts)) in let lacks = c.in-Err.ensures.room ns (length (polynomial_of (plain (tree_at c.factor_id.result (without_root c.loop-left.product (forest c.loop-left.pool)))))) (length v) one (answer_few monomials (given_told j.given) rest some) in let most = answer_size monomials (given_told j.given) rest some in let all : length (product_of ts) ≤ n = omega (arith, l, ap (λ (x : Polynomial). length x) (multiplied_product t c.requires.factors)) in let whole_product : length (polynomial_of (plain (tree_at c.factor_id.result (without_root c.loop-left.product (forest c.loop-left.pool))))) * length v ≡ length (product_of (from at ts)) = ap (λ (u : Tree). length (polynomial_of u) * length v) child ∙ ap (λ (k : ℕ). length (polynomial_of (nth at ts)) * length (product_of (from k ts))) next ∙ sym (product_length (polynomial_of (nth at ts)) (product_of (from (at + 1) ts))) ∙ sym (ap (λ (x : Polynomial). length x) (product_from at ts (omega (arith, j.within, c.loop-left-test.true)))) in let free = given_free c.requires.stands j.stands j.kept j.given in full_as c.in-Err.fault lacks (λ full few. omega (arith, free, most, terms_rise ns (length v) n (omega (arith, rest_product c.loop-left.left ts (multiplied_expanded t c.requires.children), all)), terms_rise ns (length (product_of (from at ts))) n (omega (arith, rest_product at ts (multiplied_expanded t c.requires.children), all)), ap (λ (k : ℕ). sum_bytes ns k) whole_product, few));
+      room = λ whole n h l. let ns = names whole in let t = plain (tree_at c.args.id (forest c.args.pool.now)) in let ts = multiplied t in let v = product_of
+          (from c.loop-left.left ts) in let child = (λ i. plain (tree_at c.factor_id.result (given_rest j.given i)))
+          ∙ factor_is (goal.at.returns-in-Err c).After-factor_id in let some = some_product (from c.loop-left.left ts)
+          (expanded_from c.loop-left.left ts (multiplied_expanded t c.requires.children)) in let one = few_factor at h child in let rest = few_rest c.loop-left.left h in let monomials = tree_monomials (mult (from c.loop-left.left ts)) in let lacks = c.in-Err.ensures.room ns (length (polynomial_of (plain (tree_at c.factor_id.result (without_root c.loop-left.product (forest c.loop-left.pool)))))) (length v) one (answer_few monomials (given_told j.given) rest some) in let most = answer_size monomials (given_told j.given) rest some in let all : length (product_of ts) ≤ n = omega (arith, l, ap (λ (x : Polynomial). length x) (multiplied_product t c.requires.factors)) in let whole_product : length (polynomial_of (plain (tree_at c.factor_id.result (without_root c.loop-left.product (forest c.loop-left.pool))))) * length v ≡ length (product_of (from at ts)) = ap (λ (u : Tree). length (polynomial_of u) * length v) child ∙ ap (λ (k : ℕ). length (polynomial_of (nth at ts)) * length (product_of (from k ts))) next ∙ sym (product_length (polynomial_of (nth at ts)) (product_of (from (at + 1) ts))) ∙ sym (ap (λ (x : Polynomial). length x) (product_from at ts (omega (arith, j.within, c.loop-left-test.true)))) in let free = given_free c.requires.stands j.stands j.kept j.given in full_as c.in-Err.fault lacks (λ full few. omega (arith, free, most, terms_rise ns (length v) n (omega (arith, rest_product c.loop-left.left ts (multiplied_expanded t c.requires.children), all)), terms_rise ns (length (product_of (from at ts))) n (omega (arith, rest_product at ts (multiplied_expanded t c.requires.children), all)), ap (λ (k : ℕ). sum_bytes ns k) whole_product, few));
       stands = search rules;
     }
 

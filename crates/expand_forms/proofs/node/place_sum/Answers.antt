@@ -1,8 +1,10 @@
-use Rattle.std.proofs.Common.{rules, ◌∙◌, inl, ap, refl, sym, subst, ◌<◌, arith, ◌≡◌}
-use Rattle.expand_forms.proofs.Shared.{Tree, num, size, one_value, expression, seen, expanded, has_polynomial_root, polynomial_of, AreExpanded, gives_rest, gives_without, kept_after, root_ids, kids_of_last, IsExpression, children_of, plain, Forest, tree_at, without_root, forest, behind_new, front_after, front_after_one, front_at, front_same, front_without, given_handed, given_other, given_rest, given_told, gives_as, handed_at, owned, HasFewTerms, node_bytes, free_of, OfFull, passed_on, full_as, num_most, refused_below, given_free, value_of, IsHeld, IsNoOverflow, Polynomial, lists_none}
+use Rattle.expand_forms.proofs.Shared.{rules, ◌∙◌, inl, ap, refl, sym, subst, ◌<◌, arith, ◌≡◌, Tree, num, size, one_value, expression, seen, expanded, has_polynomial_root, polynomial_of}
+use Rattle.expand_forms.proofs.Shared.{AreExpanded, gives_rest, gives_without, kept_after, root_ids, kids_of_last, IsExpression, children_of, plain, Forest, tree_at, without_root, forest}
+use Rattle.expand_forms.proofs.Shared.{behind_new, front_after, front_after_one, front_at, front_same, front_without, given_handed, given_other, given_rest, given_told, gives_as, handed_at}
+use Rattle.expand_forms.proofs.Shared.{owned, HasFewTerms, node_bytes, free_of, OfFull, passed_on, full_as, num_most, refused_below, given_free, value_of, IsHeld, IsNoOverflow, Polynomial}
+use Rattle.expand_forms.proofs.Shared.{lists_none, has_parts, parts_of, total}
 use Rattle.expand_forms.proofs.Expansions.{empty_sum, nothing_added, sum_same}
 use Rattle.expand_forms.proofs.NodeParts.{total_parts}
-use Rattle.expand_forms.specs.Parts.{has_parts, parts_of, total}
 use Rattle.expand_forms.proofs.TermReadings.{beside}
 use Rattle.expand_forms.proofs.FewTerms.{few_none}
 use Rattle.expand_forms.proofs.Lacks.{number_refused}
@@ -39,7 +41,8 @@ returns-in_err-join_parts c =
       kept = search rules;
       faults = search rules;
       caused = search rules;
-      fits = λ h l x k. let t = plain (tree_at c.args.id (forest c.args.pool.now)) in let v = total (parts_of (plain (tree_at c.args.id (without_root c.in_ok-sum.sum (forest c.node.new.pool))))) in let children : v ≡ polynomial_of t = ap (λ (f : Forest). total (parts_of (plain (tree_at c.args.id f)))) r ∙ ap (λ (u : Tree). total (parts_of u)) (beside c.in_ok-one.ensures.given c.requires.expression).same ∙ total_parts t c.requires.parts in passed_on c.from_residual-in_err-join_parts.result c.in_err-join_parts.field-0.0 IsNoOverflow c.from_residual-in_err-join_parts.ensures.0 c.from_residual-in_err-join_parts.ensures.1 (c.in_err-join_parts.ensures.fits h l (subst (λ (u : Polynomial). IsHeld u h l) (sym (nothing_added v (given_told new) ∙ children)) x) k);
+      fits = λ h l x k. let t = plain (tree_at c.args.id (forest c.args.pool.now)) in let v = total
+          (parts_of (plain (tree_at c.args.id (without_root c.in_ok-sum.sum (forest c.node.new.pool))))) in let children : v ≡ polynomial_of t = ap (λ (f : Forest). total (parts_of (plain (tree_at c.args.id f)))) r ∙ ap (λ (u : Tree). total (parts_of u)) (beside c.in_ok-one.ensures.given c.requires.expression).same ∙ total_parts t c.requires.parts in passed_on c.from_residual-in_err-join_parts.result c.in_err-join_parts.field-0.0 IsNoOverflow c.from_residual-in_err-join_parts.ensures.0 c.from_residual-in_err-join_parts.ensures.1 (c.in_err-join_parts.ensures.fits h l (subst (λ (u : Polynomial). IsHeld u h l) (sym (nothing_added v (given_told new) ∙ children)) x) k);
       room = λ ns n h. let k = c.in_ok-one.ensures.given in let st = c.in_ok-one.ensures.stands in let x = beside k c.requires.expression in let free = given_free c.requires.stands st c.in_ok-one.ensures.kept k in let left = given_free st c.in_ok-sum.ensures.stands c.in_ok-sum.ensures.kept new in let children : total (parts_of (plain (tree_at c.args.id (without_root c.in_ok-sum.sum (forest c.node.new.pool))))) ≡ polynomial_of (plain (tree_at c.args.id (forest c.args.pool.now))) = ap (λ (f : Forest). total (parts_of (plain (tree_at c.args.id f)))) r ∙ ap (λ (u : Tree). total (parts_of u)) x.same ∙ total_parts (plain (tree_at c.args.id (forest c.args.pool.now))) c.requires.parts in let lacks = c.in_err-join_parts.ensures.room ns 0 n (few_none ns (given_told new)) (subst (HasFewTerms ns n) (sym children) h) in passed_on c.from_residual-in_err-join_parts.result c.in_err-join_parts.field-0.0 (OfFull (λ full. free_of c.args.pool.now < node_bytes ns n)) c.from_residual-in_err-join_parts.ensures.0 c.from_residual-in_err-join_parts.ensures.1 (full_as c.in_err-join_parts.field-0.0 lacks (λ full few. omega (arith, free, left, ap size (given_told k), num_most (value_of c.whole.result), few)));
       stands = search rules;
     }
@@ -76,8 +79,13 @@ pub returns : goal.returns
 returns c =
     let k = c.in_ok-one.ensures.given in
     record {
-      ok = let new = c.in_ok-sum.ensures.given refl in let joined = c.in_ok-join_parts.ensures.ok in let back = given_rest joined ∙ given_rest new in let answer = gives_as c.in_ok-answer.ensures.ok back (λ t e. e) in let one = given_handed k in let r = given_rest new in let x = beside k c.requires.expression in gives_as (gives_without c.in_ok-one.one answer one.root (c.release.ensures.owned (owned (given_other answer one)))) (given_rest k) (λ t e. e ∙ sum_same (given_told joined) ∙ ap expanded (nothing_added (total (parts_of (plain (tree_at c.args.id (without_root c.in_ok-sum.sum (forest c.node.new.pool)))))) (given_told new)) ∙ (λ i. expanded (total (parts_of (plain (tree_at c.args.id (r i)))))) ∙ ap (λ (u : Tree). expanded (total (parts_of u))) x.same ∙ ap expanded (total_parts (plain (tree_at c.args.id (forest c.args.pool.now))) c.requires.parts));
-      front = let sum = behind_new (c.in_ok-sum.ensures.given refl).ends c.number.ensures.front in let back = given_rest c.in_ok-join_parts.ensures.ok ∙ given_rest (c.in_ok-sum.ensures.given refl) in front_at (front_without (behind_new k.ends front_same) (front_after_one sum (front_after_one sum (front_after c.number.ensures.front c.node.ensures.front) c.join_parts.ensures.front) c.finished.ensures.front)) (c.release.ensures.owned (owned (given_other c.in_ok-answer.ensures.ok (handed_at (given_handed k) back))));
+      ok = let new = c.in_ok-sum.ensures.given refl in let joined = c.in_ok-join_parts.ensures.ok in let back = given_rest joined
+          ∙ given_rest new in let answer = gives_as c.in_ok-answer.ensures.ok back
+          (λ t e. e) in let one = given_handed k in let r = given_rest new in let x = beside k c.requires.expression in gives_as
+          (gives_without c.in_ok-one.one answer one.root (c.release.ensures.owned (owned (given_other answer one)))) (given_rest k)
+          (λ t e. e ∙ sum_same (given_told joined) ∙ ap expanded (nothing_added (total (parts_of (plain (tree_at c.args.id (without_root c.in_ok-sum.sum (forest c.node.new.pool)))))) (given_told new)) ∙ (λ i. expanded (total (parts_of (plain (tree_at c.args.id (r i)))))) ∙ ap (λ (u : Tree). expanded (total (parts_of u))) x.same ∙ ap expanded (total_parts (plain (tree_at c.args.id (forest c.args.pool.now))) c.requires.parts));
+      front = let sum = behind_new (c.in_ok-sum.ensures.given refl).ends c.number.ensures.front in let back = given_rest c.in_ok-join_parts.ensures.ok
+          ∙ given_rest (c.in_ok-sum.ensures.given refl) in front_at (front_without (behind_new k.ends front_same) (front_after_one sum (front_after_one sum (front_after c.number.ensures.front c.node.ensures.front) c.join_parts.ensures.front) c.finished.ensures.front)) (c.release.ensures.owned (owned (given_other c.in_ok-answer.ensures.ok (handed_at (given_handed k) back))));
       kept = search rules;
       faults = search rules;
       caused = search rules;

@@ -1,5 +1,4 @@
-use Rattle.std.proofs.Common.{◌∙◌, sym}
-use Rattle.expand_forms.proofs.Shared.{plain, tree_at, forest}
+use Rattle.expand_forms.proofs.Shared.{◌∙◌, sym, plain, tree_at, forest}
 use Rattle.expand_forms.proofs.TermKeys.{no_key, number_factors}
 use Rattle.expand_forms.proofs.ordering.monomial_key.Goals as goal
 

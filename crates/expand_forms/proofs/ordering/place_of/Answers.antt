@@ -1,5 +1,4 @@
-use Rattle.std.proofs.Common.{rules, ◌≡◌, ◌∙◌, arith, sym, ap}
-use Rattle.expand_forms.proofs.Shared.{Tree, count, Monomial, HasMonomial, term_cmp, children_of, nth, plain, tree_at, forest}
+use Rattle.expand_forms.proofs.Shared.{rules, ◌≡◌, ◌∙◌, arith, sym, ap, Tree, count, Monomial, HasMonomial, term_cmp, children_of, nth, plain, tree_at, forest}
 use Rattle.expand_forms.proofs.Sums.{sum_below}
 use Rattle.expand_forms.proofs.TermKeys.{monomial_order}
 use Rattle.expand_forms.proofs.TermReadings.{sum_term, term_monomial}

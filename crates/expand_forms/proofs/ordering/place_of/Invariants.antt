@@ -1,5 +1,4 @@
-use Rattle.std.proofs.Common.{◌≡◌, ℕ, ◌<◌, ◌≤◌, ◌-◌}
-use Rattle.expand_forms.proofs.Shared.{Greater, Less, Tree, count, Monomial, HasMonomial, term_cmp, nth, plain, children_of, tree_at, forest}
+use Rattle.expand_forms.proofs.Shared.{◌≡◌, ℕ, ◌<◌, ◌≤◌, ◌-◌, Greater, Less, Tree, count, Monomial, HasMonomial, term_cmp, nth, plain, children_of, tree_at, forest}
 use Rattle.expand_forms.proofs.ordering.place_of.Given as goal
 
 abbrev pub invariant-loop-low : goal.invariant-loop-low

@@ -1,5 +1,4 @@
-use Rattle.std.proofs.Common.{arith}
-use Rattle.expand_forms.proofs.Shared.{plain, tree_at, forest}
+use Rattle.expand_forms.proofs.Shared.{arith, plain, tree_at, forest}
 use Rattle.expand_forms.proofs.TermKeys.{no_key}
 use Rattle.expand_forms.proofs.TermReadings.{first_count}
 use Rattle.expand_forms.proofs.ordering.product_key.Goals as goal

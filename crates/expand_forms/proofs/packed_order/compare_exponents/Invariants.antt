@@ -1,5 +1,4 @@
-use Rattle.std.proofs.Common.{◌≡◌, drop}
-use Rattle.expand_forms.specs.PackedOrder.{exponents_cmp}
+use Rattle.expand_forms.proofs.Shared.{◌≡◌, drop, exponents_cmp}
 use Rattle.expand_forms.proofs.packed_order.compare_exponents.Given as goal
 
 abbrev pub invariant-loop-at : goal.invariant-loop-at

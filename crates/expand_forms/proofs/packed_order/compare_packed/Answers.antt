@@ -1,7 +1,4 @@
-use Rattle.std.proofs.Common.{◌≡◌, ◌∙◌, sym, ap}
-use Rattle.calc_terms.specs.Kind.{code_of}
-use Rattle.expand_forms.specs.PackedOrder.{kind_with}
-use Rattle.expand_forms.proofs.Shared.{nat_cmp}
+use Rattle.expand_forms.proofs.Shared.{◌≡◌, ◌∙◌, sym, ap, code_of, kind_with, nat_cmp}
 use Rattle.expand_forms.proofs.PackedOrders.{exponents_order, factors_decide, kinds_decide, packed_order}
 use Rattle.expand_forms.proofs.packed_order.compare_packed.Goals as goal
 

@@ -1,5 +1,4 @@
-use Rattle.std.proofs.Common.{◌≡◌, drop}
-use Rattle.expand_forms.specs.PackedOrder.{first_exponent}
+use Rattle.expand_forms.proofs.Shared.{◌≡◌, drop, first_exponent}
 use Rattle.expand_forms.proofs.packed_order.first_exponent.Given as goal
 
 abbrev pub invariant-loop-exponent : goal.invariant-loop-exponent

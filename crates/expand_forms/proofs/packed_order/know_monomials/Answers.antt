@@ -1,6 +1,4 @@
-use Rattle.std.proofs.Common.{ℕ, ◌<◌, ◌^◌, ◌∙◌, get_or, subst, below_more}
-use Rattle.std.proofs.lemmas.List.{get_or_default}
-use Rattle.polynomials.specs.declared.term.Term.{Term}
+use Rattle.expand_forms.proofs.Shared.{ℕ, ◌<◌, ◌^◌, ◌∙◌, get_or, subst, below_more, get_or_default, Term}
 use Rattle.expand_forms.proofs.packed_order.know_monomials.Goals as goal
 
 pub loop-term-preserved : goal.loop-term-preserved

@@ -1,5 +1,4 @@
-use Rattle.std.proofs.Common.{ℕ, ◌<◌, ◌^◌, get_or}
-use Rattle.polynomials.specs.declared.term.Term.{Term}
+use Rattle.expand_forms.proofs.Shared.{ℕ, ◌<◌, ◌^◌, get_or, Term}
 use Rattle.expand_forms.proofs.packed_order.know_monomials.Given as goal
 
 abbrev pub invariant-loop-term : goal.invariant-loop-term

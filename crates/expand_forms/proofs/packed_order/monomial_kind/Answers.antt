@@ -1,5 +1,4 @@
-use Rattle.std.proofs.Common.{ℕ, ◌+◌, ◌∙◌, drop, ap, sym}
-use Rattle.expand_forms.specs.PackedOrder.{kind_with}
+use Rattle.expand_forms.proofs.Shared.{ℕ, ◌+◌, ◌∙◌, drop, ap, sym, kind_with}
 use Rattle.expand_forms.proofs.PackedOrders.{next_none, next_some}
 use Rattle.expand_forms.proofs.packed_order.monomial_kind.Goals.{then-exponent-ne0+else-only-ne0, else-exponent-ne0}
 use Rattle.expand_forms.proofs.packed_order.monomial_kind.Goals as goal

@@ -1,5 +1,4 @@
-use Rattle.std.proofs.Common.{◌≡◌, drop}
-use Rattle.expand_forms.specs.PackedOrder.{kind_with}
+use Rattle.expand_forms.proofs.Shared.{◌≡◌, drop, kind_with}
 use Rattle.expand_forms.proofs.packed_order.monomial_kind.Given as goal
 
 abbrev pub invariant-loop-exponent : goal.invariant-loop-exponent

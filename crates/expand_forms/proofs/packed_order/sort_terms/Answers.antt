@@ -1,4 +1,4 @@
-use Rattle.std.proofs.Common.{rules}
+use Rattle.expand_forms.proofs.Shared.{rules}
 use Rattle.node_order.proofs.RankLaws.{sorted_by_calls}
 use Rattle.expand_forms.specs.PackedOrder.{packed_term_cmp}
 use Rattle.expand_forms.proofs.PackedOrders.{packed_term_total}

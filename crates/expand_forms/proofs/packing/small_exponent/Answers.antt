@@ -1,7 +1,5 @@
-use Rattle.std.proofs.Common.{◌≡◌, pos, ap, arith, to_z, of_z}
-use Rattle.std.specs.Prelude.{nat_abs}
+use Rattle.expand_forms.proofs.Shared.{ap, nat_abs, ◌≡◌, pos, arith, to_z, of_z, ints, w128}
 use Rattle.expand_forms.proofs.FactorOrders.{exponent_read}
-use Rattle.expand_forms.proofs.Shared.{ints, w128}
 use Rattle.expand_forms.proofs.packing.small_exponent.Goals as goal
 
 pub returns-then-exponent-gt255-clause-unlisted : goal.returns-then-exponent-gt255-clause-unlisted

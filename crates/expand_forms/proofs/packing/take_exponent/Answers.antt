@@ -1,4 +1,4 @@
-use Rattle.std.specs.Prelude.{drop}
+use Rattle.expand_forms.proofs.Shared.{drop}
 use Rattle.expand_forms.proofs.FactorOrders.{names_equal as names_cmp}
 use Rattle.expand_forms.proofs.PackedTerms.{exponent_of, taken_first}
 use Rattle.expand_forms.proofs.ValueLaws.{names_equal}

@@ -1,5 +1,5 @@
-use Rattle.std.proofs.Common.{◌≡◌, ◌∙◌, true, ap, refl, sym, subst, arith}
-use Rattle.expand_forms.proofs.Shared.{IsExpanded, Tree, children_number, children_of, count, divisor_of, forest, has_polynomial_root, inverse, is_divisor, is_zero_fraction, nth, one_value, plain, tree_at, value_of}
+use Rattle.expand_forms.proofs.Shared.{◌≡◌, ◌∙◌, true, ap, refl, sym, subst, arith, IsExpanded, Tree, children_number, children_of, count, divisor_of, forest, has_polynomial_root, inverse}
+use Rattle.expand_forms.proofs.Shared.{is_divisor, is_zero_fraction, nth, one_value, plain, tree_at, value_of}
 use Rattle.expand_forms.proofs.Expansions.{one_nonzero}
 use Rattle.expand_forms.proofs.NodeAnswers.{opposite_value}
 use Rattle.expand_forms.proofs.NodeKinds.{many_children, quotient_node}
@@ -18,7 +18,8 @@ returns-in-Neg c =
 pub returns-in-Sub : goal.returns-in-Sub
 returns-in-Sub c =
     record {
-      value = factor_sign (plain (tree_at c.args.id (forest c.args.pool.now))) c.args.at (value_of c.sign_at.result) (sym c.in-Sub.is ∙ c.kind.ensures.plain c.requires.expression) c.sign_at.ensures.first c.sign_at.ensures.second;
+      value = factor_sign (plain (tree_at c.args.id (forest c.args.pool.now))) c.args.at (value_of c.sign_at.result)
+          (sym c.in-Sub.is ∙ c.kind.ensures.plain c.requires.expression) c.sign_at.ensures.first c.sign_at.ensures.second;
       nonzero = c.sign_at.ensures.nonzero;
     }
 
@@ -45,7 +46,8 @@ pub returns-in-Div : goal.returns-in-Div
 returns-in-Div c =
     let t = plain (tree_at c.args.id (forest c.args.pool.now)) in
     record {
-      value = c.inverse_divisor.ensures.value ∙ ap (λ (d : Tree). inverse (divisor_of d)) (c.child_id.ensures.plain c.requires.expression) ∙ factor_quotient t c.args.at (sym c.in-Div.is ∙ c.kind.ensures.plain c.requires.expression);
+      value = c.inverse_divisor.ensures.value ∙ ap (λ (d : Tree). inverse (divisor_of d)) (c.child_id.ensures.plain c.requires.expression)
+          ∙ factor_quotient t c.args.at (sym c.in-Div.is ∙ c.kind.ensures.plain c.requires.expression);
       nonzero = c.inverse_divisor.ensures.nonzero;
     }
 
@@ -54,6 +56,7 @@ returns-in_default c =
     let k = c.kind.ensures.plain c.requires.expression in
     let one = one_value c.whole-in_default.result c.whole-in_default.ensures in
     record {
-      value = one ∙ factor_other (plain (tree_at c.args.id (forest c.args.pool.now))) c.args.at (λ e. c.in_default.not-Neg (k ∙ sym e)) (λ e. c.in_default.not-Sub (k ∙ sym e)) (λ e. c.in_default.not-Div (k ∙ sym e));
+      value = one ∙ factor_other (plain (tree_at c.args.id (forest c.args.pool.now))) c.args.at (λ e. c.in_default.not-Neg (k ∙ sym e)) (λ e. c.in_default.not-Sub (k ∙ sym e))
+          (λ e. c.in_default.not-Div (k ∙ sym e));
       nonzero = ap is_zero_fraction one ∙ one_nonzero;
     }

@@ -1,5 +1,4 @@
-use Rattle.std.proofs.Common.{◌≡◌, ◌<◌, ◌∙◌, refl, sym, arith}
-use Rattle.expand_forms.proofs.Shared.{arity, children_number, children_of, count, forest, kids_of, plain, tree_at}
+use Rattle.expand_forms.proofs.Shared.{◌≡◌, ◌<◌, ◌∙◌, refl, sym, arith, arity, children_number, children_of, count, forest, kids_of, plain, tree_at}
 use Rattle.expand_forms.proofs.NodeKinds.{many_children, power_node}
 use Rattle.expand_forms.proofs.NodeParts.{power_factor, product_factor}
 use Rattle.expand_forms.proofs.Within.{inside_child}

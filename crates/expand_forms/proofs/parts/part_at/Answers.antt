@@ -1,10 +1,8 @@
-use Rattle.std.proofs.Common.{◌<◌, sym, subst, arith}
-use Rattle.expand_forms.proofs.Shared.{IsExpanded, arity, children_number, children_of, forest, kids_of, plain, tree_at, value_of}
+use Rattle.expand_forms.proofs.Shared.{◌<◌, sym, subst, arith, IsExpanded, arity, children_number, children_of, forest, kids_of, plain, tree_at, value_of, IsReady}
 use Rattle.expand_forms.proofs.NodeChildren.{expanded_nth}
 use Rattle.expand_forms.proofs.NodeParts.{part_next, parts_within}
 use Rattle.expand_forms.proofs.PowersOfSums.{ready_nth}
 use Rattle.expand_forms.proofs.Within.{inside_child}
-use Rattle.expand_forms.specs.PowersOfSums.{IsReady}
 use Rattle.expand_forms.proofs.parts.part_at.Goals as goal
 
 pub child_id-requires-clause-within : goal.child_id-requires-clause-within

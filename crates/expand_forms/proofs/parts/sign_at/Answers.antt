@@ -1,5 +1,4 @@
-use Rattle.std.proofs.Common.{◌∙◌, ap}
-use Rattle.expand_forms.proofs.Shared.{is_zero_fraction, one_value}
+use Rattle.expand_forms.proofs.Shared.{◌∙◌, ap, is_zero_fraction, one_value}
 use Rattle.expand_forms.proofs.Expansions.{one_nonzero}
 use Rattle.expand_forms.proofs.NodeAnswers.{opposite_value}
 use Rattle.expand_forms.proofs.NodeParts.{minus_nonzero}

@@ -1,11 +1,8 @@
-use Rattle.std.proofs.Common.{◌≡◌, ◌<◌, ◌≤◌, ℕ, zero, suc, List, length, get_or, refl, sym, ap, subst, arith}
-use Rattle.std.proofs.lemmas.List.{length-map}
-use Rattle.calc_terms.specs.Leaf.{name_of}
-use Rattle.expand_forms.specs.Named.{factors_of, names_of}
-use Rattle.expand_forms.specs.Listed.{AreRead}
+use Rattle.expand_forms.proofs.Shared.{sym, ◌≡◌, ◌<◌, ◌≤◌, ℕ, zero, suc, List, length, get_or, refl, ap, subst, arith, length-map, name_of, factors_of, AreRead}
+use Rattle.expand_forms.proofs.PlacedTerms.{IsListedTo, listed_none, listed_all, listed_push, listed_skip, small_told, whole_read}
 use Rattle.expand_forms.specs.declared.factors.Factor.{Factor as Read}
+use Rattle.expand_forms.specs.Named.{names_of}
 use Rattle.expand_forms.proofs.PackedOrders.{packed_length}
-use Rattle.expand_forms.proofs.PlacedTerms.{IsListedTo, listed_all, listed_none, listed_push, listed_skip, small_told, whole_read}
 use Rattle.expand_forms.proofs.placing.list_packed.Goals.{then-exponent-ne0, else-exponent-ne0}
 use Rattle.expand_forms.proofs.placing.list_packed.Goals as goal
 

@@ -1,8 +1,6 @@
-use Rattle.std.proofs.Common.{◌<◌, length, List, subst, arith}
-use Rattle.std.proofs.lemmas.List.{take_all}
+use Rattle.expand_forms.proofs.Shared.{◌<◌, length, List, subst, arith, take_all, Term, AddsTrees, term_trees, terms_bytes, free_of, passed_on, kept_after, kept_same, forest, front_after}
+use Rattle.expand_forms.proofs.Shared.{front_same}
 use Rattle.expand_forms.specs.Named.{names_of}
-use Rattle.polynomials.specs.declared.term.Term.{Term}
-use Rattle.expand_forms.proofs.Shared.{AddsTrees, term_trees, terms_bytes, free_of, passed_on, kept_after, kept_same, forest, front_after, front_same}
 use Rattle.expand_forms.proofs.AddedTrees.{adds_free, adds_none}
 use Rattle.expand_forms.proofs.OrderedTerms.{named_terms}
 use Rattle.expand_forms.proofs.PlacedTerms.{next_lacks, placed_more}

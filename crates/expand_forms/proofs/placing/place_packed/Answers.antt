@@ -1,7 +1,5 @@
-use Rattle.std.proofs.Common.{◌<◌, ◌∙◌, ℕ, length, ap, subst}
-use Rattle.std.specs.Prelude.{IfErr}
+use Rattle.expand_forms.proofs.Shared.{◌<◌, ◌∙◌, ℕ, length, ap, subst, IfErr, free_of, term_bytes}
 use Rattle.expand_forms.proofs.FactorLists.{read_length}
-use Rattle.expand_forms.proofs.Shared.{free_of, term_bytes}
 use Rattle.expand_forms.proofs.placing.place_packed.Goals as goal
 
 pub returns-clause-room : goal.returns-clause-room

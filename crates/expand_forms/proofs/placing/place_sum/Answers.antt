@@ -1,7 +1,7 @@
-use Rattle.std.proofs.Common.{◌<◌, ◌+◌, ◌∙◌, length, refl, sym, ap, arith}
+use Rattle.expand_forms.proofs.Shared.{◌<◌, ◌+◌, ◌∙◌, length, refl, sym, ap, arith, eq-eqb, eqb-true, num, free_of, number_bytes, sum_bytes, passed_on, refusal_as, gives_as, front_end}
+use Rattle.expand_forms.proofs.Shared.{front_same}
+use Rattle.expand_forms.proofs.AddedTrees.{can_adopt, adopts, node_free}
 use Rattle.expand_forms.specs.Named.{names_of}
-use Rattle.expand_forms.proofs.Shared.{eq-eqb, eqb-true, num, free_of, number_bytes, sum_bytes, passed_on, refusal_as, gives_as, front_end, front_same}
-use Rattle.expand_forms.proofs.AddedTrees.{adopts, can_adopt, node_free}
 use Rattle.expand_forms.proofs.Expansions.{zero_value}
 use Rattle.expand_forms.proofs.PlacedTerms.{all_count, next_lacks, sum_more, sum_none, sum_one}
 use Rattle.expand_forms.proofs.TermReadings.{if_ok_map}

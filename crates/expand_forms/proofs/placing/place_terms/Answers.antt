@@ -1,6 +1,5 @@
-use Rattle.std.proofs.Common.{◌∙◌, ap, refl, sym, subst, length, arith}
+use Rattle.expand_forms.proofs.Shared.{◌∙◌, ap, refl, sym, subst, length, arith, HasFewTerms, Polynomial, gives_as, refusal_as, sum_tree, term_trees}
 use Rattle.expand_forms.specs.Named.{names_of}
-use Rattle.expand_forms.proofs.Shared.{HasFewTerms, Polynomial, gives_as, refusal_as, sum_tree, term_trees}
 use Rattle.expand_forms.proofs.EachNamed.{each_named}
 use Rattle.expand_forms.proofs.FewTerms.{few_normal}
 use Rattle.expand_forms.proofs.OrderedTerms.{AreFine, are_fine, ordered_monomials, ordered_normal}

@@ -1,7 +1,6 @@
-use Rattle.std.proofs.Common.{◌≡◌, ◌<◌, ◌∙◌, ◌∷◌, ◌++◌, [], ℕ, suc, ap, sym, length, arith, true, false}
-use Rattle.expand_forms.proofs.Shared.{length-append, nodes, are_polynomials, is_polynomial, root_ids, children_of, nth, plain, rest_trees, tree_at, kids_of, forest}
+use Rattle.expand_forms.proofs.Shared.{◌≡◌, ◌<◌, ◌∙◌, ◌∷◌, ◌++◌, [], ℕ, suc, ap, sym, length, arith, true, false, length-append, nodes, are_polynomials, is_polynomial, root_ids, children_of, nth}
+use Rattle.expand_forms.proofs.Shared.{plain, rest_trees, tree_at, kids_of, forest, next_child, last_child}
 use Rattle.expand_forms.proofs.Nodes.{by_children, by_root, fewer_nodes, from, next_is, next_is_not, none_left}
-use Rattle.tree_handles.proofs.NextChildren.{next_child, last_child}
 use Rattle.expand_forms.proofs.polynomial.+is_polynomial.Goals as goal
 
 pub returns-then-not-has_polynomial_root : goal.returns-then-not-has_polynomial_root
@@ -17,13 +16,15 @@ loop-child-init t c = record {
 pub is_polynomial-requires : goal.is_polynomial-requires
 is_polynomial-requires t c =
     let n = next_child c.requires.stands c.requires.expression c.loop-child.invariant.ids c.in-Some.ensures.steps in
-    let less : nodes (plain (tree_at c.in-Some.child (forest c.args.pool.now))) < t = omega (arith, ap nodes n.tree, fewer_nodes (length c.loop-child.yielded) (plain (tree_at c.args.tree (forest c.args.pool.now))) n.within, c.decreases) in
+    let less : nodes (plain (tree_at c.in-Some.child (forest c.args.pool.now))) < t =
+    omega (arith, ap nodes n.tree, fewer_nodes (length c.loop-child.yielded) (plain (tree_at c.args.tree (forest c.args.pool.now))) n.within, c.decreases) in
     (less, (c.requires.stands, n.expression))
 
 pub returns-then-not-is_polynomial : goal.returns-then-not-is_polynomial
 returns-then-not-is_polynomial t c =
     let n = next_child c.requires.stands c.requires.expression c.loop-child.invariant.ids c.in-Some.ensures.steps in
-    let not_this : is_polynomial (nth (length c.loop-child.yielded) (children_of (plain (tree_at c.args.tree (forest c.args.pool.now))))) ≡ false = ap is_polynomial (sym n.tree) ∙ sym c.is_polynomial.ensures ∙ c.if-not-is_polynomial.true in
+    let not_this : is_polynomial (nth (length c.loop-child.yielded) (children_of (plain (tree_at c.args.tree (forest c.args.pool.now))))) ≡ false =
+    ap is_polynomial (sym n.tree) ∙ sym c.is_polynomial.ensures ∙ c.if-not-is_polynomial.true in
     sym (next_is_not (length c.loop-child.yielded) (children_of (plain (tree_at c.args.tree (forest c.args.pool.now)))) n.within not_this) ∙ c.loop-child.invariant.left
 
 pub loop-child-preserved : goal.loop-child-preserved

@@ -1,5 +1,4 @@
-use Rattle.std.proofs.Common.{◌≡◌, length}
-use Rattle.expand_forms.proofs.Shared.{nodes, are_polynomials, is_polynomial, root_ids, children_of, plain, rest_trees, tree_at, kids_of, forest}
+use Rattle.expand_forms.proofs.Shared.{◌≡◌, length, nodes, are_polynomials, is_polynomial, root_ids, children_of, plain, rest_trees, tree_at, kids_of, forest}
 use Rattle.expand_forms.proofs.Nodes.{from}
 use Rattle.expand_forms.proofs.polynomial.+is_polynomial.Given as goal
 

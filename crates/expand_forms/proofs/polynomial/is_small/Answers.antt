@@ -1,6 +1,4 @@
-use Rattle.std.proofs.Common.{◌∙◌, rules}
-use Rattle.std.specs.Prelude.{FitsSigned}
-use Rattle.expand_forms.proofs.Shared.{w128, to_z-of_z}
+use Rattle.expand_forms.proofs.Shared.{◌∙◌, rules, FitsSigned, w128, to_z-of_z}
 use Rattle.expand_forms.proofs.Numbers.{small_none, small_some}
 use Rattle.expand_forms.proofs.polynomial.is_small.Goals as goal
 

@@ -1,12 +1,9 @@
-use Rattle.std.proofs.Common.{◌≡◌, ◌∙◌, ◌<◌, ◌≤◌, ◌+◌, ℕ, true, length, ap, refl, subst, sym, arith, rules}
-use Rattle.expand_forms.proofs.Shared.{AreExpanded, HasNoNewName, IsOver, OfFull, OfOverflow, Tree, bits_of, children_of, expanded, free_of, given_handed, given_told, has_polynomial_root, most_bits, names, node_bytes, nth, own_bits, passed_on, polynomial_of, size, tree_of}
+use Rattle.expand_forms.proofs.Shared.{◌≡◌, ◌∙◌, ◌<◌, ◌≤◌, ◌+◌, ℕ, true, length, ap, subst, sym, arith, rules, AreExpanded, HasNoNewName, IsOver, OfFull, OfOverflow, Tree, children_of, expanded}
+use Rattle.expand_forms.proofs.Shared.{free_of, given_handed, given_told, has_polynomial_root, most_bits, nth, own_bits, passed_on, polynomial_of, size, tree_of, MayLack, changes_as}
+use Rattle.expand_forms.proofs.Shared.{changes_front, hole_stays, keeps_after, set_child}
 use Rattle.expand_forms.proofs.OverAnswers.{few_bytes}
 use Rattle.expand_forms.proofs.PowersOfSums.{children_ready, lacks, no_result, power_bits, power_lacks, power_of, ready_nth, ready_power}
-use Rattle.expand_forms.specs.Walks.{MayLack}
-use Rattle.tree_handles.proofs.Filling.{changes_as, changes_front, hole_stays}
-use Rattle.tree_handles.proofs.Forests.{keeps_after}
 use Rattle.tree_handles.proofs.Refused.{overflow_as}
-use Rattle.tree_handles.specs.Holes.{set_child}
 use Rattle.expand_forms.proofs.powers_of_sums.raise_power.Goals.{After-open_child-hole}
 use Rattle.expand_forms.proofs.powers_of_sums.raise_power.Goals as goal
 
@@ -45,7 +42,8 @@ pub returns : goal.returns
 returns c =
     let k = (goal.at.returns c).After-open_child-hole in
     let g = c.in_ok-sum.ensures.ok in
-    let changed = changes_as (c.fill.ensures.changed _ _ _ (hole_stays g c.open_child-hole.ensures.hole)) (ap (λ (v : Tree). set_child c.args.at v (now k)) (given_told g ∙ ap (λ (v : Tree). expanded (polynomial_of v)) (told k))) in
+    let changed = changes_as (c.fill.ensures.changed _ _ _ (hole_stays g c.open_child-hole.ensures.hole))
+    (ap (λ (v : Tree). set_child c.args.at v (now k)) (given_told g ∙ ap (λ (v : Tree). expanded (polynomial_of v)) (told k))) in
     record {
       ok = changed;
       front = changes_front changed;
@@ -65,7 +63,8 @@ returns-in_err-sum-clause-fits c = λ whole p o.
     let k = (goal.at.returns-in_err-sum-clause-fits c).After-open_child-hole in
     let x = power_of whole (now k) c.args.at o p c.requires.within c.requires.power in
     passed_on c.from_residual.result c.in_err-sum.field-0.0 (OfOverflow (λ v. 124 < most_bits whole)) c.from_residual.ensures.0 c.from_residual.ensures.1
-    (overflow_as c.in_err-sum.field-0.0 (c.in_err-sum.ensures.fits x.child (subst (λ (t : Tree). IsOver x.child t) (sym (told k)) x.over) x.polynomial) (λ v l. omega (arith, l, own_bits x.child, power_bits whole x)))
+    (overflow_as c.in_err-sum.field-0.0 (c.in_err-sum.ensures.fits x.child (subst (λ (t : Tree). IsOver x.child t) (sym (told k)) x.over) x.polynomial)
+    (λ v l. omega (arith, l, own_bits x.child, power_bits whole x)))
 
 pub returns-in_err-sum-clause-room : goal.returns-in_err-sum-clause-room
 returns-in_err-sum-clause-room c = λ whole p o.
@@ -73,6 +72,7 @@ returns-in_err-sum-clause-room c = λ whole p o.
     let x = power_of whole (now k) c.args.at o p c.requires.within c.requires.power in
     let e = c.in_err-sum.field-0.0 in
     let free = free_of c.open_child-hole.new.pool in
-    let few = few_bytes x.child (power k) x.over x.polynomial (no_result e) free (λ w n h l. c.in_err-sum.ensures.room w n (subst (HasNoNewName w) (sym (told k)) h) (subst (λ (t : Tree). length (polynomial_of t) ≤ n) (sym (told k)) l)) in
+    let few = few_bytes x.child (power k) x.over x.polynomial (no_result e) free
+    (λ w n h l. c.in_err-sum.ensures.room w n (subst (HasNoNewName w) (sym (told k)) h) (subst (λ (t : Tree). length (polynomial_of t) ≤ n) (sym (told k)) l)) in
     passed_on c.from_residual.result e (OfFull (λ full. MayLack whole (free_of c.args.pool.now + size (now k)))) c.from_residual.ensures.0 c.from_residual.ensures.1
     (subst (λ (n : ℕ). OfFull (λ full. MayLack whole (n + size (now k))) e) c.open_child-hole.ensures.free (lacks whole (now k) o p (no_result e) free (power_lacks whole x (no_result e) free few)))

@@ -1,11 +1,10 @@
-use Rattle.std.proofs.Common.{◌∙◌, ◌≡◌, ◌<◌, ◌≤◌, ◌-◌, ◌+◌, ℕ, suc, false, ap, refl, subst, sym, arith, rules}
-use Rattle.expand_forms.proofs.Shared.{IsExpression, OfFull, OfOverflow, Tree, Trees, expanded, plain, tree_at, children_number, children_of, count, expression, forest, free_of, kept_same, live, most_bits, nth, passed_on, polynomial_of, seen, size, tree_of, full_as}
+use Rattle.expand_forms.proofs.Shared.{◌∙◌, ◌≡◌, ◌<◌, ◌-◌, ◌+◌, ℕ, suc, false, ap, subst, sym, arith, IsExpression, OfFull, OfOverflow, Tree, Trees, expanded, plain, tree_at}
+use Rattle.expand_forms.proofs.Shared.{children_number, children_of, count, expression, forest, free_of, kept_same, most_bits, nth, passed_on, polynomial_of, seen, size, tree_of, full_as}
+use Rattle.expand_forms.proofs.Shared.{IsOverReady, has_power_of_sum, is_power_of_sum, MayLack, changes_after, changes_as, changes_free, changes_front, changes_last, changes_last_front}
+use Rattle.expand_forms.proofs.Shared.{changes_none, children_told, front_again, keeps_after}
+use Rattle.tree_handles.proofs.Seen.{live}
 use Rattle.expand_forms.proofs.Nodes.{from}
 use Rattle.expand_forms.proofs.PowersOfSums.{count_set, none_behind, one_more_behind, over_expanded, over_set, raised_behind, set_children}
-use Rattle.expand_forms.specs.PowersOfSums.{IsOverReady, has_power_of_sum, is_power_of_sum}
-use Rattle.expand_forms.specs.Walks.{MayLack}
-use Rattle.tree_handles.proofs.Filling.{changes_after, changes_as, changes_free, changes_front, changes_last, changes_last_front, changes_none, children_told, front_again}
-use Rattle.tree_handles.proofs.Forests.{keeps_after}
 use Rattle.expand_forms.proofs.powers_of_sums.raise_powers.Goals.{After-child_id}
 use Rattle.expand_forms.proofs.powers_of_sums.raise_powers.Goals as goal
 
@@ -52,7 +51,14 @@ pub child_id-requires-clause-within : goal.child_id-requires-clause-within
 child_id-requires-clause-within c =
     let i = c.loop-left.invariant in
     let s = seen c.id-in-loop-left.ensures i.stands i.changed.handed in
-    omega (arith, i.within, c.loop-left-test.true, children_number c.id-in-loop-left.result (forest c.loop-left.pool) (expression c.id-in-loop-left.ensures i.stands i.changed.handed), ap (λ (t : Tree). count (children_of t)) s)
+    omega (
+      arith,
+      i.within,
+      c.loop-left-test.true,
+      children_number c.id-in-loop-left.result (forest c.loop-left.pool)
+          (expression c.id-in-loop-left.ensures i.stands i.changed.handed),
+      ap (λ (t : Tree). count (children_of t)) s,
+    )
 
 pub is_power_of_sum-requires-clause-expression : goal.is_power_of_sum-requires-clause-expression
 is_power_of_sum-requires-clause-expression c = c.child_id.ensures.expression (there (goal.at.is_power_of_sum-requires-clause-expression c).After-child_id)

@@ -1,8 +1,5 @@
-use Rattle.std.proofs.Common.{◌≡◌, ◌≤◌, false, true}
-use Rattle.expand_forms.proofs.Shared.{KeepsRefusals, Stands, Tree, children_of, count, forest, is_polynomial, tree_of}
+use Rattle.expand_forms.proofs.Shared.{◌≡◌, ◌≤◌, false, true, KeepsRefusals, Stands, Tree, children_of, count, forest, is_polynomial, tree_of, IsOverReady, has_power_of_sum, ChangesTree}
 use Rattle.expand_forms.proofs.Nodes.{from}
-use Rattle.expand_forms.specs.PowersOfSums.{IsOverReady, has_power_of_sum}
-use Rattle.tree_handles.specs.Holes.{ChangesTree}
 use Rattle.expand_forms.proofs.powers_of_sums.raise_powers.Given as goal
 
 abbrev pub invariant-loop-left : goal.invariant-loop-left

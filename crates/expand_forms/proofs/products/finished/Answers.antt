@@ -1,5 +1,6 @@
-use Rattle.std.proofs.Common.{rules, ◌≡◌, ◌≤◌, inl, sym, ap, ◌∙◌, refl, arith}
-use Rattle.expand_forms.proofs.Shared.{Tree, count, num, only_child, only_owned, gives_itself, tree_of, children_of, behind_first, front_same, front_at, front_end, front_put, front_without, front_after, given_root, given_handed, given_told, gives_as, owned, refusal_as, released_free, expression, seen}
+use Rattle.expand_forms.proofs.Shared.{rules, ◌≡◌, ◌≤◌, inl, sym, ap, ◌∙◌, refl, arith, Tree, count, num, only_child, only_owned, gives_itself, tree_of, children_of, behind_first, front_same}
+use Rattle.expand_forms.proofs.Shared.{front_at, front_end, front_put, front_without, front_after, given_root, given_handed, given_told, gives_as, owned, refusal_as, released_free, expression}
+use Rattle.expand_forms.proofs.Shared.{seen}
 use Rattle.expand_forms.proofs.Expansions.{more_sum, none_sum, one_sum, zero_value}
 use Rattle.expand_forms.proofs.Sums.{sum_is}
 use Rattle.number_forms.proofs.Shaped.{two_from}

@@ -1,14 +1,13 @@
-use Rattle.std.proofs.Common.{◌≡◌, ◌<◌, ◌++◌, ◌∷◌, [], ℕ, suc, length, take, drop, true, vec_capacity, subst, sym, ap, ◌∙◌, arith, refl}
+use Rattle.expand_forms.proofs.Shared.{◌≡◌, ◌<◌, ◌++◌, ◌∷◌, [], ℕ, suc, length, take, drop, true, vec_capacity, subst, sym, ap, ◌∙◌, arith, refl, length-append, HaveExponents, Tree, Trees, count}
+use Rattle.expand_forms.proofs.Shared.{forest, is_add, kids_of, more, none, normal, nth, passed_on, plain, polynomial_of, rest_trees, root_ids, root_kind, sum_kind, terms_in, tree_at}
+use Rattle.expand_forms.proofs.Shared.{IsUnlistedBy, next_child, last_child}
 use Rattle.std.proofs.lemmas.Result.{on_ok_weaker}
-use Rattle.calc_terms.specs.declared.kind.Kind.TheVariants as kind
 use Rattle.expand_forms.proofs.NameLists.{names_length}
 use Rattle.expand_forms.proofs.ReadTerms.{IsNextSummand, alone_is, count_is, few_taken, if_err_map, listed_all, listed_first, listed_more, listed_none, summand_at, unlisted_as}
-use Rattle.expand_forms.proofs.Shared.{length-append, HaveExponents, Tree, Trees, count, forest, is_add, kids_of, more, none, normal, nth, passed_on, plain, polynomial_of, rest_trees, root_ids, root_kind, sum_kind, terms_in, tree_at}
 use Rattle.expand_forms.proofs.TermReadings.{sum_terms_in}
 use Rattle.expand_forms.specs.Named.{names_of}
-use Rattle.expand_forms.specs.Reading.{IsUnlistedBy}
-use Rattle.tree_handles.proofs.NextChildren.{next_child, last_child}
 use Rattle.expand_forms.proofs.reading.read_terms.Goals.{in-Add, in_default, In-Some, Else-term_count-eq0}
+use Rattle.calc_terms.specs.declared.kind.Kind.TheVariants as kind
 use Rattle.expand_forms.proofs.reading.read_terms.Goals as goal
 
 -- ---- a sum
@@ -34,9 +33,6 @@ module _ (c : In-Some) where
   next =
       summand_at (names_of c.args.names.now) t c.requires.expanded c.requires.named i (plain (tree_at c.in-Some.term (forest c.args.pool.now))) within
       ((next_child c.requires.stands c.requires.expression c.loop-term.invariant.ids c.in-Some.ensures.steps).tree ∙ ap (nth i) (sym (sum_terms_in t is_sum)))
-
-pub add_term-requires-clause-expression : goal.add_term-requires-clause-expression
-add_term-requires-clause-expression c = (next_child c.requires.stands c.requires.expression c.loop-term.invariant.ids c.in-Some.ensures.steps).expression
 
 pub add_term-requires-clause-listed : goal.add_term-requires-clause-listed
 add_term-requires-clause-listed c =
@@ -131,3 +127,6 @@ returns-clause-unlisted c =
     let v = normal (polynomial_of (u k)) in
     if_err_map c.add_term-2.result (c.add_term-2.ensures.unlisted x.summand-is [] (drop 1 v) x.is (listed_first x (listed_none v c.clear.ensures.items)))
     (λ e h. unlisted_as e (λ n w. n (x.exponents w)) (λ r. omega (arith, r, c.clear.ensures.capacity, one k)) h)
+
+pub add_term-requires-clause-expression : goal.add_term-requires-clause-expression
+add_term-requires-clause-expression c = (next_child c.requires.stands c.requires.expression c.loop-term.invariant.ids c.in-Some.ensures.steps).expression

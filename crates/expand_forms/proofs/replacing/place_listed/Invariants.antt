@@ -1,6 +1,4 @@
-use Rattle.std.proofs.Common.{◌≡◌, [], take}
-use Rattle.expand_forms.proofs.Shared.{AddsTrees, Monomial, factor_trees, KeepsFront, KeepsRefusals, Stands, forest}
-use Rattle.expand_forms.specs.Listed.{AreRead}
+use Rattle.expand_forms.proofs.Shared.{◌≡◌, [], take, AddsTrees, Monomial, factor_trees, KeepsFront, KeepsRefusals, Stands, forest, AreRead}
 use Rattle.expand_forms.proofs.replacing.place_listed.Given as goal
 
 abbrev pub invariant-loop-factor : goal.invariant-loop-factor

@@ -1,6 +1,4 @@
-use Rattle.std.proofs.Common.{rules, ◌<◌, ◌+◌, ◌∙◌, length, refl, sym, arith}
-use Rattle.expand_forms.proofs.Shared.{value_of, Monomial, term_bytes, free_of, passed_on, forest, front_end, front_same}
-use Rattle.expand_forms.specs.Listed.{AreRead}
+use Rattle.expand_forms.proofs.Shared.{rules, ◌<◌, ◌+◌, ◌∙◌, length, refl, sym, arith, value_of, Monomial, term_bytes, free_of, passed_on, forest, front_end, front_same, AreRead}
 use Rattle.expand_forms.proofs.AddedTrees.{adds_free, adopts, can_adopt, node_free}
 use Rattle.expand_forms.proofs.Lacks.{number_refused}
 use Rattle.expand_forms.proofs.PlacedFactors.{IsLed, IsPlaced, led_all, led_none, led_number}

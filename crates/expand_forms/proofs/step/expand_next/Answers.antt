@@ -1,17 +1,15 @@
-use Rattle.std.proofs.Common.{◌∙◌, ◌≡◌, ◌+◌, ℕ, true, refl, sym, subst, ap, arith, rules}
-use Rattle.expand_forms.proofs.Shared.{OfFull, Tree, behind_first, behind_new, children_of, expression, free_of, front_after_one, front_same, front_without, given_handed, gives, gives_as, given_rest, given_told, has_polynomial_root, if_map, kept_same, no_new_name, own_bits, passed_on, polynomial_of, represents_handed, seen, tree_of, size, within_same, names, most_terms, replaced_free}
-use Rattle.expand_forms.proofs.OverAnswers as over
+use Rattle.expand_forms.proofs.Shared.{◌∙◌, ◌≡◌, ◌+◌, ℕ, true, refl, sym, subst, ap, arith, rules, OfFull, Tree, behind_first, behind_new, children_of, expression, free_of, front_after_one}
+use Rattle.expand_forms.proofs.Shared.{front_same, front_without, given_handed, gives, gives_as, given_rest, given_told, has_polynomial_root, if_map, kept_same, no_new_name, own_bits, passed_on}
+use Rattle.expand_forms.proofs.Shared.{polynomial_of, represents_handed, seen, tree_of, size, within_same, names, most_terms, replaced_free, IsListOf, MayLack, IfErr, AreReady, is_power_of_sum}
+use Rattle.expand_forms.proofs.Shared.{refused_as}
 use Rattle.expand_forms.proofs.FewTerms.{few_names}
 use Rattle.expand_forms.proofs.ListLaws.{list_as}
-use Rattle.expand_forms.proofs.PowersOfSums.{children_ready, lacks, leaf_ready, left_from, no_result, over_ready, placed_from, polynomial_root, same}
+use Rattle.expand_forms.proofs.PowersOfSums.{children_ready, lacks, leaf_ready, left_from, left_power, no_result, over_ready, placed_from, polynomial_root, same}
 use Rattle.expand_forms.proofs.TermCounts.{few_terms, most_of_all}
-use Rattle.expand_forms.specs.Named.{IsListOf, names_of}
-use Rattle.expand_forms.specs.Walks.{MayLack}
-use Rattle.std.specs.Prelude.{IfErr}
-use Rattle.tree_handles.specs.declared.fault.NumberFault.TheVariants as fault
-use Rattle.expand_forms.specs.PowersOfSums.{AreReady, is_power_of_sum}
-use Rattle.tree_handles.proofs.Refused.{refused_as}
+use Rattle.expand_forms.specs.Named.{names_of}
 use Rattle.expand_forms.proofs.step.expand_next.Goals.{Then-expand_values}
+use Rattle.expand_forms.proofs.OverAnswers as over
+use Rattle.tree_handles.specs.declared.fault.NumberFault.TheVariants as fault
 use Rattle.expand_forms.proofs.step.expand_next.Goals as goal
 
 pub expand_values-requires : goal.expand_values-requires
@@ -41,7 +39,7 @@ is_left-requires c =
 pub returns-then-is_left : goal.returns-then-is_left
 returns-then-is_left c =
     let now = tree_of c.args.tree c.args.pool.now in
-    let h : is_power_of_sum now ≡ true = ap is_power_of_sum (sym (seen c.id.ensures c.requires.stands c.requires.handed)) ∙ c.is_left.ensures c.if-is_left.true in
+    let h : is_power_of_sum now ≡ true = ap is_power_of_sum (sym (seen c.id.ensures c.requires.stands c.requires.handed)) ∙ left_power _ (c.is_left.ensures.0 (search rules)) in
     record {
       ok = λ whole p o. gives c.requires.last (represents_handed c.requires.handed) (left_from whole now o p h);
       front = front_same;
@@ -105,12 +103,14 @@ returns c =
     let free = free_of c.raise_powers.new.pool in
     let bytes = replaced_free c.requires.stands c.in_ok-raised.ensures.stands c.in_ok-raised.ensures.kept c.requires.handed given in
     record {
-      ok = λ whole p o. let g = c.in_ok-raised.ensures.ok whole p o in if_map r _ _ c.expand_by_trees.ensures.ok (λ i y. gives_as y (given_rest g) (λ t e. leaf_ready whole t (over.expanded_from whole mid (given_told g) p t e)));
+      ok = λ whole p o. let g = c.in_ok-raised.ensures.ok whole p o in if_map r _ _ c.expand_by_trees.ensures.ok
+          (λ i y. gives_as y (given_rest g) (λ t e. leaf_ready whole t (over.expanded_from whole mid (given_told g) p t e)));
       front = front_after_one (behind_new given.ends (front_without behind_first front_same)) c.raise_powers.ensures.front c.expand_by_trees.ensures.front;
       kept = search rules;
       faults = search rules;
       caused = search rules;
       fits = λ whole p o. refused_as r (c.expand_by_trees.ensures.fits whole (given_told (c.in_ok-raised.ensures.ok whole p o)) p) (λ v l. omega (arith, l, own_bits whole));
-      room = λ whole p o. let y = given_told (c.in_ok-raised.ensures.ok whole p o) in subst (λ (n : ℕ). IfErr r (OfFull (λ full. MayLack whole n))) bytes (lacks whole mid (over_ready y) p r free (over.few_bytes whole mid y p r free c.expand_by_trees.ensures.room));
+      room = λ whole p o. let y = given_told (c.in_ok-raised.ensures.ok whole p o) in subst (λ (n : ℕ). IfErr r (OfFull (λ full. MayLack whole n))) bytes
+          (lacks whole mid (over_ready y) p r free (over.few_bytes whole mid y p r free c.expand_by_trees.ensures.room));
       stands = search rules;
     }

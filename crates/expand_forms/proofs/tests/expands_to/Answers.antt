@@ -1,5 +1,4 @@
-use Rattle.std.proofs.Common.{◌∙◌, sym, ap}
-use Rattle.expand_forms.proofs.Shared.{expression, seen, is_polynomial, given_handed, given_other, given_rest, handed_at}
+use Rattle.expand_forms.proofs.Shared.{◌∙◌, sym, ap, expression, seen, is_polynomial, given_handed, given_other, given_rest, handed_at}
 use Rattle.expand_forms.proofs.tests.expands_to.Goals as goal
 
 pub root_of-requires-clause-handed : goal.root_of-requires-clause-handed
@@ -9,7 +8,8 @@ pub expand-requires-clause-handed : goal.expand-requires-clause-handed
 expand-requires-clause-handed c = given_handed c.in_ok-tree.ensures.ok
 
 pub expand-requires-clause-polynomial : goal.expand-requires-clause-polynomial
-expand-requires-clause-polynomial c = ap is_polynomial (sym (seen c.root_of.ensures.id c.in_ok-tree.ensures.stands (given_handed c.in_ok-tree.ensures.ok))) ∙ sym c.is_polynomial.ensures ∙ c.if-not-is_polynomial.false
+expand-requires-clause-polynomial c =
+    ap is_polynomial (sym (seen c.root_of.ensures.id c.in_ok-tree.ensures.stands (given_handed c.in_ok-tree.ensures.ok))) ∙ sym c.is_polynomial.ensures ∙ c.if-not-is_polynomial.false
 
 pub compare-requires-clause-first : goal.compare-requires-clause-first
 compare-requires-clause-first c =

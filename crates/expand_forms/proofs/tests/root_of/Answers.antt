@@ -1,5 +1,4 @@
-use Rattle.std.proofs.Common.{ℕ, sym, subst}
-use Rattle.expand_forms.proofs.Shared.{expression_root, IsExpression, forest}
+use Rattle.expand_forms.proofs.Shared.{ℕ, sym, subst, expression_root, IsExpression, forest}
 use Rattle.expand_forms.proofs.tests.root_of.Goals as goal
 
 pub returns-clause-expression : goal.returns-clause-expression

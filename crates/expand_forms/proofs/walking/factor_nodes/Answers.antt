@@ -1,5 +1,4 @@
-use Rattle.std.proofs.Common.{◌∙◌, sym, arith}
-use Rattle.expand_forms.proofs.Shared.{children_number, forest, plain, product_kind, tree_at}
+use Rattle.expand_forms.proofs.Shared.{arith, children_number, ◌∙◌, sym, forest, plain, product_kind, tree_at}
 use Rattle.expand_forms.proofs.FactorWalks.{ahead_below, ahead_itself, factor_itself, number_behind, product_behind, product_kind as product_root}
 use Rattle.expand_forms.proofs.walking.factor_nodes.Goals as goal
 

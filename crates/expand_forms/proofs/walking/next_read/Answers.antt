@@ -1,8 +1,6 @@
-use Rattle.std.proofs.Common.{sym, ap, subst}
-use Rattle.expand_forms.proofs.Shared.{AreAhead, BeginsWith, Monomial, forest, is_num, is_symbol, one_value}
-use Rattle.expand_forms.proofs.FactorWalks.{IsNameAhead, IsPowerAhead, IsPowerPassed, ended, name_ahead, name_begins, next_ahead, none_ahead, power_ahead, power_begins, power_passed, some_ahead, some_behind}
-use Rattle.tree_handles.proofs.Visiting.{next_is, some_next}
-use Rattle.expand_forms.proofs.walking.next_read.Goals.{In-Sym, In_default, After-unwrap-base, After-unwrap-exponent}
+use Rattle.expand_forms.proofs.Shared.{sym, subst, BeginsWith, ap, AreAhead, Monomial, forest, is_num, is_symbol, one_value, next_is, some_next}
+use Rattle.expand_forms.proofs.FactorWalks.{ended, none_ahead, IsNameAhead, IsPowerAhead, IsPowerPassed, name_ahead, name_begins, next_ahead, power_ahead, power_begins, power_passed, some_ahead, some_behind}
+use Rattle.expand_forms.proofs.walking.next_read.Goals.{In-Sym, In_default, After-unwrap-exponent}
 use Rattle.expand_forms.proofs.walking.next_read.Goals as goal
 
 pub returns-in_err-top-clause-factor : goal.returns-in_err-top-clause-factor

@@ -1,4 +1,4 @@
-use Rattle.std.proofs.Common.{arith, drop, suc}
+use Rattle.expand_forms.proofs.Shared.{arith, drop, suc}
 use Rattle.expand_forms.proofs.TermReadings.{drop_all, factor_read, has_count}
 use Rattle.expand_forms.proofs.factors.Factors.get.Goals as goal
 
