@@ -20,6 +20,10 @@ pub returns-in_ok-number-in-Num-clause-front : goal.returns-in_ok-number-in-Num-
 returns-in_ok-number-in-Num-clause-front c =
     front_after (front_at (front_without behind_first front_same) (c.release.ensures.owned (owned c.requires.handed))) c.number.ensures.front
 
+pub rational_times_factors-requires-clause-product : goal.rational_times_factors-requires-clause-product
+rational_times_factors-requires-clause-product c =
+    product_kind _ (sym c.in-Mult.is ∙ kind_of_root {k = c.kind.result} c.id.ensures c.requires.stands c.requires.handed c.kind.ensures.plain)
+
 pub returns-in-Mult-clause-ok : goal.returns-in-Mult-clause-ok
 returns-in-Mult-clause-ok c =
     let m = product_kind _ (sym c.in-Mult.is ∙ kind_of_root {k = c.kind.result} c.id.ensures c.requires.stands c.requires.handed c.kind.ensures.plain) in
@@ -52,7 +56,3 @@ returns-in_err-number-in-Num-clause-few c =
     let more = released_free c.requires.stands c.release.ensures.stands c.release.ensures.kept c.requires.handed (c.release.ensures.owned (owned c.requires.handed)) in
     refusal_lacks c.from_residual-in_err-number-in-Num.result c.in_err-number-in-Num.field-0.0 _ c.from_residual-in_err-number-in-Num.ensures.1
     (omega (arith, number_refused (rational (ratio_of c.in_ok-product-in-Num.product)) c.in_err-number-in-Num.ensures.full, more))
-
-pub rational_times_factors-requires-clause-product : goal.rational_times_factors-requires-clause-product
-rational_times_factors-requires-clause-product c =
-    product_kind _ (sym c.in-Mult.is ∙ kind_of_root {k = c.kind.result} c.id.ensures c.requires.stands c.requires.handed c.kind.ensures.plain)

@@ -10,6 +10,10 @@ use Rattle.coefficients.proofs.multiples.rational_times_factors.Goals.{After-tak
 use Rattle.calc_terms.specs.declared.kind.Kind.TheVariants as kind
 use Rattle.coefficients.proofs.multiples.rational_times_factors.Goals as goal
 
+pub child_id-first-requires-clause-within : goal.child_id-first-requires-clause-within
+child_id-first-requires-clause-within c =
+    omega (arith, children_at (over_product c.requires.handed c.requires.product) c.requires.stands c.id.ensures, (long _ c.requires.product c.requires.reduced).two)
+
 -- the rational that leads is taken out of the factors
 leading : (c : After-take_child-old) → (l : IsRationalLed (value_of c.rational.result) (children_of (tree_of c.args.product c.args.pool.now)))
     × IsTaken kind.Mult c.args.product 0 (num (value_of c.rational.result)) l.rest (forest c.args.pool.now) (forest c.take_child-old.new.pool) c.take_child-old.result
@@ -103,7 +107,3 @@ returns-in_err-put_first-in-Num-clause-few c =
     let more = released_free c.take_child-old.ensures.stands c.release.ensures.stands c.release.ensures.kept (given_handed x.1.gives) (c.release.ensures.owned (owned (given_handed x.1.gives))) in
     refusal_lacks c.from_residual-in_err-put_first-in-Num.result c.in_err-put_first-in-Num.field-0.0 _ c.from_residual-in_err-put_first-in-Num.ensures.1
     (omega (arith, number_refused (rational (ratio_of c.in_ok-leading-in-Num.leading)) c.in_err-put_first-in-Num.ensures.full, same, more))
-
-pub child_id-first-requires-clause-within : goal.child_id-first-requires-clause-within
-child_id-first-requires-clause-within c =
-    omega (arith, children_at (over_product c.requires.handed c.requires.product) c.requires.stands c.id.ensures, (long _ c.requires.product c.requires.reduced).two)

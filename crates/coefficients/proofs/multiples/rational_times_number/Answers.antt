@@ -18,6 +18,9 @@ next c =
     let n = next_at (rational_times (value_of c.args.q)) c.loop-at.at _ (omega (arith, children_told c.id.ensures c.children-terms.ensures.value c.requires.stands c.requires.handed, c.loop-at-test.true)) in
     (n, part_told c.loop-at.invariant.part c.open_child-hole.ensures.child ∙ n.there)
 
+pub loop-at-init : goal.loop-at-init
+loop-at-init c = record { stands = c.requires.stands; kept = keeps_none c.args.pool.now; part = none_done (rational_times (value_of c.args.q)) sum_row c.requires.handed (sum_whole _ c.requires.sum) }
+
 pub open_child-hole-requires : goal.open_child-hole-requires
 open_child-hole-requires c = record { stands = search rules; handed = c.loop-at.invariant.part.now.handed; within = part_within c.loop-at.invariant.part (omega (arith, many (goal.at.open_child-hole-requires c).After-children-terms, c.loop-at-test.true)) }
 
@@ -54,6 +57,9 @@ loop-at-preserved c =
 pub returns-clause-ok : goal.returns-clause-ok
 returns-clause-ok c = changes_last (part_all c.loop-at.invariant.part (omega (arith, many (goal.at.returns-clause-ok c).After-children-terms, c.loop-at-test.false))) c.move_last.ensures.last refl
 
+pub returns-clause-front : goal.returns-clause-front
+returns-clause-front c = changes_last_front c.loop-at.invariant.part.now c.move_last.ensures.last
+
 pub returns-in_err-multiple-clause-named : goal.returns-in_err-multiple-clause-named
 returns-in_err-multiple-clause-named c =
     let x = next (goal.at.returns-in_err-multiple-clause-named c).After-open_child-hole in
@@ -70,9 +76,3 @@ returns-in_err-multiple-clause-room c gs z o k s =
     (λ g l. subst (λ (v : Tree). free_of c.args.pool.now + size v < 96 * 2 ^ length gs + 56) (sym parts)
     (number_lacks gs (value_of c.args.q) n.done n.t n.rest (free_of c.args.pool.now) (free_of c.open_child-hole.new.pool) (factor_of (value_of c.args.q) z o)
     (sym (ap is_number parts) ∙ k) (subst (SpansTree gs) parts s) (omega (arith, free, c.open_child-hole.ensures.free)) l))
-
-pub loop-at-init : goal.loop-at-init
-loop-at-init c = record { stands = c.requires.stands; kept = keeps_none c.args.pool.now; part = none_done (rational_times (value_of c.args.q)) sum_row c.requires.handed (sum_whole _ c.requires.sum) }
-
-pub returns-clause-front : goal.returns-clause-front
-returns-clause-front c = changes_last_front c.loop-at.invariant.part.now c.move_last.ensures.last

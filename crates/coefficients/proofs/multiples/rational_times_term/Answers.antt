@@ -9,6 +9,12 @@ use Rattle.coefficients.proofs.multiples.rational_times_term.Goals.{After-open_c
 use Rattle.tree_room.specs.Needs as need
 use Rattle.coefficients.proofs.multiples.rational_times_term.Goals as goal
 
+pub is_led_by_sum-requires-clause-expression : goal.is_led_by_sum-requires-clause-expression
+is_led_by_sum-requires-clause-expression c = expression c.id.ensures c.requires.stands c.requires.handed
+
+pub is_led_by_sum-requires-clause-reduced : goal.is_led_by_sum-requires-clause-reduced
+is_led_by_sum-requires-clause-reduced c = ap is_reduced (seen c.id.ensures c.requires.stands c.requires.handed) ∙ c.requires.reduced
+
 pub returns-then-not-is_led_by_sum-clause-ok : goal.returns-then-not-is_led_by_sum-clause-ok
 returns-then-not-is_led_by_sum-clause-ok c =
     let unled = ap leads_sum (sym (seen c.id.ensures c.requires.stands c.requires.handed)) ∙ sym c.if-not-is_led_by_sum.ensures in
@@ -39,6 +45,9 @@ rational_times_number-requires c =
     let d = led (goal.at.rational_times_number-requires c).After-open_child-hole in
     record { stands = search rules; handed = given_handed c.open_child-hole.ensures.child; sum = ap is_add d.1; reduced = ap is_reduced d.1 ∙ led_reduced d.0 c.requires.reduced }
 
+pub returns-in_err-multiple-clause-front : goal.returns-in_err-multiple-clause-front
+returns-in_err-multiple-clause-front c = c.open_child-hole.ensures.front _ _ c.rational_times_number.ensures.front
+
 pub fill-requires : goal.fill-requires
 fill-requires c =
     let g = c.in_ok-multiple.ensures.ok in
@@ -59,6 +68,9 @@ returns-in_err-multiple-clause-named c =
     passed_named c.from_residual.result c.in_err-multiple.field-0.0 _ _ c.from_residual.ensures.1 c.in_err-multiple.ensures.named
     (multiple_of (λ x h. leads_coefficient x _ d.0.terms d.0.rest d.0.whole d.0.number (subst (λ (u : Tree). LeadsIn Leads x (children_of u)) d.1 h)))
 
+pub returns-in_err-multiple-clause-few : goal.returns-in_err-multiple-clause-few
+returns-in_err-multiple-clause-few c unled = absurd (true≢false (sym (ap leads_sum (sym (seen c.id.ensures c.requires.stands c.requires.handed)) ∙ sym c.if-not-is_led_by_sum.ensures) ∙ unled))
+
 pub returns-then-not-is_led_by_sum-clause-room : goal.returns-then-not-is_led_by_sum-clause-room
 returns-then-not-is_led_by_sum-clause-room c gs z o s led =
     absurd (true≢false (sym led ∙ ap leads_sum (sym (seen c.id.ensures c.requires.stands c.requires.handed)) ∙ sym c.if-not-is_led_by_sum.ensures))
@@ -73,15 +85,3 @@ returns-in_err-multiple-clause-room c gs z o s leads =
     (λ g k. subst (λ (v : Tree). free_of c.args.pool.now + size v < need.tree_bytes (counted v) (2 ^ length gs) + 104) (sym l.whole)
     (coefficient_lacks gs l.terms l.rest (free_of c.args.pool.now) (sym (ap is_reduced l.whole) ∙ c.requires.reduced) l.number spans.1.1
     (omega (arith, c.open_child-hole.ensures.free, ap size d.1, k))))
-
-pub is_led_by_sum-requires-clause-expression : goal.is_led_by_sum-requires-clause-expression
-is_led_by_sum-requires-clause-expression c = expression c.id.ensures c.requires.stands c.requires.handed
-
-pub is_led_by_sum-requires-clause-reduced : goal.is_led_by_sum-requires-clause-reduced
-is_led_by_sum-requires-clause-reduced c = ap is_reduced (seen c.id.ensures c.requires.stands c.requires.handed) ∙ c.requires.reduced
-
-pub returns-in_err-multiple-clause-front : goal.returns-in_err-multiple-clause-front
-returns-in_err-multiple-clause-front c = c.open_child-hole.ensures.front _ _ c.rational_times_number.ensures.front
-
-pub returns-in_err-multiple-clause-few : goal.returns-in_err-multiple-clause-few
-returns-in_err-multiple-clause-few c unled = absurd (true≢false (sym (ap leads_sum (sym (seen c.id.ensures c.requires.stands c.requires.handed)) ∙ sym c.if-not-is_led_by_sum.ensures) ∙ unled))

@@ -29,6 +29,12 @@ pub returns-in-Num-clause-front : goal.returns-in-Num-clause-front
 returns-in-Num-clause-front c =
     front_after_one (behind_later behind_first) (front_at (front_without behind_first front_same) (c.release.ensures.owned (owned c.requires.first))) c.put_rational.ensures.front
 
+pub returns-in-Num-clause-kept : goal.returns-in-Num-clause-kept
+returns-in-Num-clause-kept c = on_ok_after c.put_rational.result _ _ _ c.release.ensures.kept c.put_rational.ensures.kept
+
+pub returns-in-Num-clause-faults : goal.returns-in-Num-clause-faults
+returns-in-Num-clause-faults c = fault_after c.put_rational.result _ _ _ c.release.ensures.kept c.put_rational.ensures.faults
+
 pub returns-in_ok-splice-in_default : goal.returns-in_ok-splice-in_default
 returns-in_ok-splice-in_default c =
     let splice = c.in_ok-splice-in_default.ensures in
@@ -64,9 +70,3 @@ returns-in_err-splice-in_default-clause-room c gs n s u =
     refusal_lacks c.from_residual.result c.in_err-splice-in_default.field-0.0 _ c.from_residual.ensures.1
     (both_lack gs (tree_of c.args.coefficient c.args.pool.now) (tree_of c.args.part c.args.pool.now) (free_of c.args.pool.now) n c.requires.reduced s u
     (refused_below c.in_err-splice-in_default.ensures.full))
-
-pub returns-in-Num-clause-kept : goal.returns-in-Num-clause-kept
-returns-in-Num-clause-kept c = on_ok_after c.put_rational.result _ _ _ c.release.ensures.kept c.put_rational.ensures.kept
-
-pub returns-in-Num-clause-faults : goal.returns-in-Num-clause-faults
-returns-in-Num-clause-faults c = fault_after c.put_rational.result _ _ _ c.release.ensures.kept c.put_rational.ensures.faults

@@ -5,6 +5,10 @@ use Rattle.coefficients.proofs.Lacks.{refusal_lacks}
 use Rattle.coefficients.proofs.Rooms.{part_lacks}
 use Rattle.coefficients.proofs.putting.put_other_rational.Goals as goal
 
+pub distribute-requires-clause-sum : goal.distribute-requires-clause-sum
+distribute-requires-clause-sum c =
+    sum_kind _ (sym c.in-Add.is ∙ kind_of_root {k = c.kind.result} c.id.ensures c.requires.stands c.requires.handed c.kind.ensures.plain)
+
 pub returns-in-Add-clause-ok : goal.returns-in-Add-clause-ok
 returns-in-Add-clause-ok c =
     let m = sum_kind _ (sym c.in-Add.is ∙ kind_of_root {k = c.kind.result} c.id.ensures c.requires.stands c.requires.handed c.kind.ensures.plain) in
@@ -34,7 +38,3 @@ pub returns-in_err-put_before-in_default-clause-room : goal.returns-in_err-put_b
 returns-in_err-put_before-in_default-clause-room c gs z o s =
     refusal_lacks c.from_residual.result c.in_err-put_before-in_default.field-0.0 _ c.from_residual.ensures.1
     (part_lacks gs (tree_of c.args.part c.args.pool.now) (free_of c.args.pool.now) c.requires.reduced s c.in_err-put_before-in_default.ensures.few)
-
-pub distribute-requires-clause-sum : goal.distribute-requires-clause-sum
-distribute-requires-clause-sum c =
-    sum_kind _ (sym c.in-Add.is ∙ kind_of_root {k = c.kind.result} c.id.ensures c.requires.stands c.requires.handed c.kind.ensures.plain)

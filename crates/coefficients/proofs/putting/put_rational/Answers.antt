@@ -19,6 +19,10 @@ pub returns-then-is_zero-clause-front : goal.returns-then-is_zero-clause-front
 returns-then-is_zero-clause-front c =
     front_after (front_at (front_without behind_first front_same) (c.release.ensures.owned (owned c.requires.handed))) c.number.ensures.front
 
+pub returns-then-is_one-clause-ok : goal.returns-then-is_one-clause-ok
+returns-then-is_one-clause-ok c =
+    gives c.move_last.ensures.last (represents_handed c.requires.handed) (with_one (value_of c.args.q) _ (sym c.if-is_zero.ensures) (sym c.if-is_one.ensures))
+
 pub returns-then-is_one-clause-front : goal.returns-then-is_one-clause-front
 returns-then-is_one-clause-front c = front_end c.move_last.ensures.last (front_without behind_first front_same)
 
@@ -32,10 +36,6 @@ returns-in_err-number-clause-room c gs s =
     let more = released_free c.requires.stands c.release.ensures.stands c.release.ensures.kept c.requires.handed (c.release.ensures.owned (owned c.requires.handed)) in
     refusal_lacks c.from_residual.result c.in_err-number.field-0.0 _ c.from_residual.ensures.1
     (few_for_put gs (counted (tree_of c.args.part c.args.pool.now)) _ (omega (arith, number_refused (rational (ratio_of c.whole.result)) c.in_err-number.ensures.full, more)))
-
-pub returns-then-is_one-clause-ok : goal.returns-then-is_one-clause-ok
-returns-then-is_one-clause-ok c =
-    gives c.move_last.ensures.last (represents_handed c.requires.handed) (with_one (value_of c.args.q) _ (sym c.if-is_zero.ensures) (sym c.if-is_one.ensures))
 
 pub returns-clause-room : goal.returns-clause-room
 returns-clause-room c gs s = c.put_other_rational.ensures.room gs (sym c.if-is_zero.ensures) (sym c.if-is_one.ensures) s

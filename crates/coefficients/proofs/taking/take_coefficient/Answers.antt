@@ -6,6 +6,10 @@ use Rattle.coefficients.proofs.Lengths.{some_factors, product_coefficient, produ
 use Rattle.coefficients.proofs.Steps.{one_value, one_size}
 use Rattle.coefficients.proofs.taking.take_coefficient.Goals as goal
 
+pub split_product-requires-clause-product : goal.split_product-requires-clause-product
+split_product-requires-clause-product c =
+    product_kind _ (sym c.in-Mult.is ∙ kind_of_root {k = c.kind.result} c.id.ensures c.requires.stands c.requires.handed c.kind.ensures.plain)
+
 pub unwrapped-part-requires : goal.unwrapped-part-requires
 unwrapped-part-requires c =
     let m = product_kind _ (sym c.in-Mult.is ∙ kind_of_root {k = c.kind.result} c.id.ensures c.requires.stands c.requires.handed c.kind.ensures.plain) in
@@ -78,7 +82,3 @@ returns-in_err-one-in_default-clause-exactly c =
     never c.from_residual-in_err-one-in_default.result c.from_residual-in_err-one-in_default.ensures.0
     (taking_other _ (no_product_kind _ (λ e. c.in_default.not-Mult (k ∙ sym e))) ∙ one_size c.whole.result c.whole.ensures)
     (λ l. refused_once (c.in_err-one-in_default.ensures.exactly.1 l))
-
-pub split_product-requires-clause-product : goal.split_product-requires-clause-product
-split_product-requires-clause-product c =
-    product_kind _ (sym c.in-Mult.is ∙ kind_of_root {k = c.kind.result} c.id.ensures c.requires.stands c.requires.handed c.kind.ensures.plain)

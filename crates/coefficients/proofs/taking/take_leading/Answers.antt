@@ -32,6 +32,9 @@ returns-then-length-eq0-clause-ok c =
     (λ h g. as_none c.args.product.now _ _ h _ _ _ (over_product c.requires.handed c.requires.product) (ap (λ (x : Split). x.coefficient) s) (ap (λ (x : Split). x.factors) s)
     (ap num (one_value c.whole.result c.whole.ensures)) g)
 
+pub take_child-requires-clause-within : goal.take_child-requires-clause-within
+take_child-requires-clause-within c = omega (arith, children_in c.requires.stands (over_product c.requires.handed c.requires.product), (long _ c.requires.product c.requires.reduced).two)
+
 pub returns-then-length-eq1-clause-ok : goal.returns-then-length-eq1-clause-ok
 returns-then-length-eq1-clause-ok c =
     let m = measured _ c.requires.product c.requires.reduced in
@@ -41,6 +44,9 @@ returns-then-length-eq1-clause-ok c =
 
 pub returns-then-length-eq1-clause-front : goal.returns-then-length-eq1-clause-front
 returns-then-length-eq1-clause-front c = front_end (c.take_child.ensures.last c.requires.handed.root) (front_put _ behind_first front_same)
+
+pub take_child-rational-requires-clause-within : goal.take_child-rational-requires-clause-within
+take_child-rational-requires-clause-within c = omega (arith, children_in c.requires.stands (over_product c.requires.handed c.requires.product), (long _ c.requires.product c.requires.reduced).two)
 
 pub take_child-root-requires-clause-within : goal.take_child-root-requires-clause-within
 take_child-root-requires-clause-within c =
@@ -113,9 +119,3 @@ returns-clause-exactly c =
     let free = pair_free c.requires.stands c.take_child-root.ensures.stands (keeps_after _ _ _ c.take_child-rational.ensures.kept c.take_child-root.ensures.kept) d.0.start d.1 in
     as_bytes (two_bytes _ (λ x. c.if-length-eq0.false (sym len ∙ x)) (λ x. c.if-length-eq1.false (sym len ∙ x)))
     (λ o. omega (arith, free, c.node_over_two.ensures.exactly.0 o), λ l. c.node_over_two.ensures.exactly.1 (omega (arith, free, l)))
-
-pub take_child-requires-clause-within : goal.take_child-requires-clause-within
-take_child-requires-clause-within c = omega (arith, children_in c.requires.stands (over_product c.requires.handed c.requires.product), (long _ c.requires.product c.requires.reduced).two)
-
-pub take_child-rational-requires-clause-within : goal.take_child-rational-requires-clause-within
-take_child-rational-requires-clause-within c = omega (arith, children_in c.requires.stands (over_product c.requires.handed c.requires.product), (long _ c.requires.product c.requires.reduced).two)
