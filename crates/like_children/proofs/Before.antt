@@ -1,6 +1,5 @@
 -- One place more, without a Number.
-use Rattle.std.proofs.Common.{◌⊎◌, inl, inr, nat_lt, ℕ, ◌<◌, ◌+◌, ◌≡◌, false, refl, arith}
-use Rattle.like_children.proofs.Shared.{ltb-true, ltb-false, is_number, Trees, nth, by_test, NoNumberBetween}
+use Rattle.like_children.proofs.Shared.{◌⊎◌, inl, inr, nat_lt, ℕ, ◌<◌, ◌+◌, ◌≡◌, false, refl, arith, ltb-true, ltb-false, is_number, Trees, nth, by_test, NoNumberBetween}
 
 -- a place before the next one is before this one, or this one
 pub by_place : (k n : ℕ) → k < n + 1 → (k < n) ⊎ (k ≡ n)

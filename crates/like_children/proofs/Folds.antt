@@ -1,10 +1,8 @@
 -- Numbers by their places, and rationals calculated from left to right.
-use Rattle.std.proofs.lemmas.Bool.{true≢false}
-use Rattle.std.specs.Prelude.{Err}
-use Rattle.std.proofs.Common.{ℕ, zero, suc, ◌≤◌, ◌≡◌, List, ◌∷◌, true, refl, sym, ap, ◌∙◌, subst, arith}
-use Rattle.like_children.proofs.Shared.{and_parts, Fraction, is_number, PlainValue, exactly, calculated, fold_values, gather, values, plain_of_children, plain_value, are_plain, NoneIs, Tree, num, add, mult, Trees, none, more, count, is_num, are_rationals, State, AnswersRationals, Overflow, NumberFault, nth, removed, rational_of, rationals_of, AreFolded, IsTotal, AnswersTotal, NoNumberBetween, IsNextNumber, others_in}
-use Rattle.calc_terms.specs.Fits.{Operation, add_op, mul_op}
-use Rattle.calc_measures.specs.PlainTrees.{IsPlainAnswer, IsPlainOverflow}
+use Rattle.like_children.proofs.Shared.{true≢false, Err, ℕ, zero, suc, ◌≤◌, ◌≡◌, List, ◌∷◌, true, refl, sym, ap, ◌∙◌, subst, arith, and_parts, Fraction, is_number}
+use Rattle.like_children.proofs.Shared.{PlainValue, exactly, calculated, fold_values, gather, values, plain_of_children, plain_value, are_plain, NoneIs, Tree, num, add, mult, Trees, none, more, count}
+use Rattle.like_children.proofs.Shared.{is_num, are_rationals, State, AnswersRationals, Overflow, NumberFault, nth, removed, rational_of, rationals_of, AreFolded, IsTotal, AnswersTotal}
+use Rattle.like_children.proofs.Shared.{NoNumberBetween, IsNextNumber, others_in, Operation, add_op, mul_op, IsPlainAnswer, IsPlainOverflow}
 use Rattle.like_children.proofs.NumbersIn.{number_out}
 use Rattle.tree_handles.specs.declared.fault.NumberFault.TheVariants as fault
 
@@ -65,7 +63,8 @@ rationals_first : (at : ℕ) (us : Trees) (f : IsFirst at us) → rationals_of u
 rationals_first at us f = ap rationals_of f.is
 
 -- the first one is the result so far
-pub fold_begun : {op : Operation} (v : PlainValue) (at : ℕ) (us : Trees) → IsFirst at us → ((f : IsFirst at us) → v ≡ fold_values op (rational_of (nth at us)) (rationals_of f.rest)) → AreFolded op v (nth at us) (removed at us)
+pub fold_begun : {op : Operation} (v : PlainValue) (at : ℕ) (us : Trees) → IsFirst at us → ((f : IsFirst at us) → v ≡ fold_values op (rational_of (nth at us)) (rationals_of f.rest))
+    → AreFolded op v (nth at us) (removed at us)
 fold_begun v at us f e = grind arith
 
 record IsStep (op : Operation) (p q : Fraction) (rs : List Fraction) (e : Tree) : Type 0 where
@@ -79,7 +78,8 @@ fold_overflow : (op : Operation) (p q : Fraction) (rs : List Fraction) (o : Over
 fold_overflow op p q rs o h = grind arith
 
 -- what is answered where the next one is taken
-pub fold_more : {op : Operation} (v : PlainValue) (at : ℕ) (us : Trees) (d e : Tree) → AreFolded op v d us → IsNextNumber 0 at us → ((p q : Fraction) → d ≡ num p → nth at us ≡ num q → IsPlainAnswer (calculated op p q) e) → AreFolded op v e (removed at us)
+pub fold_more : {op : Operation} (v : PlainValue) (at : ℕ) (us : Trees) (d e : Tree) → AreFolded op v d us → IsNextNumber 0 at us
+    → ((p q : Fraction) → d ≡ num p → nth at us ≡ num q → IsPlainAnswer (calculated op p q) e) → AreFolded op v e (removed at us)
 fold_more {op = op} v at us d e a h k =
     let f = first_of at us a.rationals h in
     let s = fold_step op (rational_of d) (rational_of (nth at us)) (rationals_of f.rest) e (k (rational_of d) (rational_of (nth at us)) (num_is d a.rational) (num_is (nth at us) f.rational)) in
@@ -90,14 +90,16 @@ fold_more {op = op} v at us d e a h k =
     }
 
 -- where it does not fit
-pub fold_overflowed : {op : Operation} (v : PlainValue) (at : ℕ) (us : Trees) (d : Tree) (o : Overflow) → AreFolded op v d us → IsNextNumber 0 at us → ((p q : Fraction) → d ≡ num p → nth at us ≡ num q → IsPlainOverflow (calculated op p q) o) → IsPlainOverflow v o
+pub fold_overflowed : {op : Operation} (v : PlainValue) (at : ℕ) (us : Trees) (d : Tree) (o : Overflow) → AreFolded op v d us → IsNextNumber 0 at us
+    → ((p q : Fraction) → d ≡ num p → nth at us ≡ num q → IsPlainOverflow (calculated op p q) o) → IsPlainOverflow v o
 fold_overflowed {op = op} v at us d o a h k =
     let f = first_of at us a.rationals h in
     subst (λ (x : PlainValue). IsPlainOverflow x o) (sym (a.plain ∙ ap (fold_values op (rational_of d)) (rationals_first at us f)))
     (fold_overflow op (rational_of d) (rational_of (nth at us)) (rationals_of f.rest) o (k (rational_of d) (rational_of (nth at us)) (num_is d a.rational) (num_is (nth at us) f.rational)))
 
 -- and where bytes are lacking
-pub fold_full : {P : Type 0} {op : Operation} (v : PlainValue) (at : ℕ) (us : Trees) (d : Tree) → AreFolded op v d us → IsNextNumber 0 at us → ((p q : Fraction) → d ≡ num p → nth at us ≡ num q → P) → P
+pub fold_full : {P : Type 0} {op : Operation} (v : PlainValue) (at : ℕ) (us : Trees) (d : Tree) → AreFolded op v d us → IsNextNumber 0 at us
+    → ((p q : Fraction) → d ≡ num p → nth at us ≡ num q → P) → P
 fold_full v at us d a h k =
     let f = first_of at us a.rationals h in
     k (rational_of d) (rational_of (nth at us)) (num_is d a.rational) (num_is (nth at us) f.rational)

@@ -1,7 +1,7 @@
 -- Children by their identifiers.
-use Rattle.std.proofs.Common.{ℕ, suc, ◌<◌, ◌≤◌, ◌≡◌, List, [], ◌∷◌, sym, ap, ◌∙◌, arith}
-use Rattle.like_children.proofs.Shared.{Tree, count, State, root_ids, nth, plain, children_of, IsExpression, arity, rest_trees, tree_of, IsHanded, tree_at, kids_of, Stands, forest, kids_of_root, plain_root, expression_root, count-plains, children_of-plain}
-use Rattle.tree_handles.proofs.ChildPlaces.{seen_child, step_on, no_more}
+use Rattle.like_children.proofs.Shared.{ℕ, suc, ◌<◌, ◌≤◌, ◌≡◌, List, [], ◌∷◌, sym, ap, ◌∙◌, arith, Tree, count, State, root_ids, nth, plain, children_of, IsExpression}
+use Rattle.like_children.proofs.Shared.{arity, rest_trees, tree_of, IsHanded, tree_at, kids_of, Stands, forest, kids_of_root, plain_root, expression_root, count-plains, children_of-plain, seen_child}
+use Rattle.like_children.proofs.Shared.{step_on, no_more}
 
 pub children_count : {s : State} {i : ℕ} → Stands s → IsHanded i (forest s) → arity (kids_of i (forest s)) ≡ count (children_of (tree_of i s))
 children_count h k = grind (arith, kids_of_root, count-plains, children_of-plain)
@@ -16,7 +16,8 @@ pub record IsChildHere (i n x : ℕ) (left : List ℕ) (s : State) : Type 0 wher
   pub tree : plain (tree_at x (forest s)) ≡ nth n (children_of (tree_of i s))
   pub left-are : left ≡ root_ids (rest_trees (suc n) (kids_of i (forest s)))
 
-pub next_child : {i n x : ℕ} {xs left : List ℕ} {s : State} → Stands s → IsHanded i (forest s) → xs ≡ root_ids (rest_trees n (kids_of i (forest s))) → xs ≡ x ∷ left → IsChildHere i n x left s
+pub next_child : {i n x : ℕ} {xs left : List ℕ} {s : State} → Stands s → IsHanded i (forest s) → xs ≡ root_ids (rest_trees n (kids_of i (forest s))) → xs ≡ x ∷ left
+    → IsChildHere i n x left s
 next_child {i = i} {n = n} {x = x} {left = left} {s = s} st h e f =
     let p = step_on n x left (kids_of i (forest s)) (sym e ∙ f) in
     let c = seen_child n i x s st (record { within = p.item-is.within; id-is = p.item-is.id-is }) in
@@ -27,5 +28,6 @@ next_child {i = i} {n = n} {x = x} {left = left} {s = s} st h e f =
       left-are = p.left-are;
     }
 
-pub last_child : {i n : ℕ} {xs : List ℕ} {s : State} → Stands s → IsHanded i (forest s) → xs ≡ root_ids (rest_trees n (kids_of i (forest s))) → xs ≡ [] → count (children_of (tree_of i s)) ≤ n
+pub last_child : {i n : ℕ} {xs : List ℕ} {s : State} → Stands s → IsHanded i (forest s) → xs ≡ root_ids (rest_trees n (kids_of i (forest s))) → xs ≡ []
+    → count (children_of (tree_of i s)) ≤ n
 last_child {i = i} {n = n} {s = s} st h e f = omega (arith, no_more n (kids_of i (forest s)) (sym e ∙ f), children_count st h)

@@ -1,13 +1,9 @@
 -- Roots that are sums or products, from call to call.
-use Rattle.std.proofs.Common.{ℕ, ◌+◌, ◌≤◌, ◌<◌, ◌≡◌, true, refl, sym, ap, ◌∙◌, subst, arith}
-use Rattle.like_children.proofs.Shared.{Tree, Trees, count, size, sizes, IsSumOrProduct, State, free_of, removed, nth, compound, plain, children_of, takes_kind, Forest, arity, kids, bytes_in, root_count, tree_nth, without_nth, IsOnce, IsHanded, Represents, Ends, Gives, kids_of, root_tree, without_root, put, Stands, forest, all-tree_nth, arity-tree_nth, gives, kids_of_root, size-plain, root_arity}
-use Rattle.calc_terms.specs.declared.kind.Kind.{Kind}
-use Rattle.tree_handles.proofs.Over.{IsOver, over_sum, over_product, over_handed, over_plain, over_put, over_end, over_same, once_count, without_put}
-use Rattle.tree_handles.proofs.Cuts.{represents_count}
+use Rattle.like_children.proofs.Shared.{ℕ, ◌+◌, ◌≤◌, ◌<◌, ◌≡◌, true, refl, sym, ap, ◌∙◌, subst, arith, Tree, Trees, count, size, sizes, IsSumOrProduct, State, free_of}
+use Rattle.like_children.proofs.Shared.{removed, nth, compound, plain, children_of, takes_kind, Forest, arity, kids, bytes_in, root_count, tree_nth, without_nth, IsOnce, IsHanded, Represents, Ends}
+use Rattle.like_children.proofs.Shared.{Gives, kids_of, root_tree, without_root, put, Stands, forest, all-tree_nth, arity-tree_nth, gives, kids_of_root, size-plain, root_arity, Kind, IsOver, over_sum}
+use Rattle.like_children.proofs.Shared.{over_product, over_handed, over_plain, over_put, over_end, over_same, once_count, without_put, represents_count, used, bytes_without, used_forest}
 use Rattle.like_children.proofs.Kids.{represents_nth, represents_without}
-use Rattle.node_pool.specs.Nodes.{used}
-use Rattle.tree_handles.proofs.FreeBytes.{bytes_without}
-use Rattle.tree_handles.proofs.Places.{used_forest}
 
 -- a root of a kind that has any number of children, over these
 pub record IsMany (i : ℕ) (ts : Trees) (f : Forest) : Type 0 where
@@ -59,7 +55,8 @@ pub record IsOut (i n : ℕ) (ts : Trees) (old new : Forest) (h : ℕ) : Type 0 
   pub given : Gives (put i now old) new h (λ u. u ≡ nth n ts)
   pub left : IsMany i (removed n ts) new
 
-pub out : {i h : ℕ} {ts : Trees} {f g : Forest} (n : ℕ) → IsMany i ts f → n < count ts → Ends h (tree_nth n (kids (root_tree i f))) (put i (without_nth n (kids (root_tree i f))) f) g → IsOut i n ts f g h
+pub out : {i h : ℕ} {ts : Trees} {f g : Forest} (n : ℕ) → IsMany i ts f → n < count ts → Ends h (tree_nth n (kids (root_tree i f))) (put i (without_nth n (kids (root_tree i f))) f) g
+    → IsOut i n ts f g h
 out {i = i} {ts = ts} {f = f} n m l e =
     let now = without_nth n (kids (root_tree i f)) in
     let r = represents_without n m.over.kids in

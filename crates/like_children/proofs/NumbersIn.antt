@@ -1,9 +1,10 @@
 -- The Numbers among trees, and the others.
+use Rattle.like_children.proofs.Shared.{ℕ, zero, suc, ◌<◌, ◌≡◌, Bool, true, false, if◌then◌else◌, refl, sym, ap, ◌∙◌, arith, and_from, is_number, are_numbers, NoneIs, Permuted}
+use Rattle.like_children.proofs.Shared.{permuted_none, permuted_more, permuted_trans, Permuted-sym, Permuted-to_front, Tree, Trees, none, more, append, count, removed, nth, numbers_in, others_in}
+use Rattle.like_children.proofs.Shared.{IsNextNumber}
 pub use Rattle.coefficients.proofs.Loops.{append_assoc as trees_assoc, count_append}
 pub use Rattle.tree_handles.proofs.Given.{append-none as append_none}
 pub use Rattle.std.proofs.lemmas.Bool.{and_parts as both_true}
-use Rattle.std.proofs.Common.{ℕ, zero, suc, ◌<◌, ◌≡◌, Bool, true, false, if◌then◌else◌, refl, sym, ap, ◌∙◌, arith}
-use Rattle.like_children.proofs.Shared.{and_from, is_number, are_numbers, NoneIs, Permuted, permuted_none, permuted_more, permuted_trans, Permuted-sym, Permuted-to_front, Tree, Trees, none, more, append, count, removed, nth, numbers_in, others_in, IsNextNumber}
 
 -- ---- the first one
 
@@ -26,7 +27,8 @@ others_removed n none l h = absurd (omega arith)
 others_removed zero (more t ts) l h = sym (number_out t ts h)
 others_removed (suc n) (more t ts) l h = by (is_number t) (others_removed n ts (omega arith) h)
   where
-    by : (k : Bool) → others_in (removed n ts) ≡ others_in ts → (if k then others_in (removed n ts) else more t (others_in (removed n ts))) ≡ (if k then others_in ts else more t (others_in ts))
+    by : (k : Bool) → others_in (removed n ts) ≡ others_in ts
+        → (if k then others_in (removed n ts) else more t (others_in (removed n ts))) ≡ (if k then others_in ts else more t (others_in ts))
     by true e = e
     by false e = ap (more t) e
 
@@ -56,7 +58,8 @@ pub numbers_first : (ts : Trees) → Permuted ts (append (numbers_in ts) (others
 numbers_first none = permuted_none
 numbers_first (more t ts) = by (numbers_first ts) (is_number t)
   where
-    by : Permuted ts (append (numbers_in ts) (others_in ts)) → (k : Bool) → Permuted (more t ts) (append (if k then more t (numbers_in ts) else numbers_in ts) (if k then others_in ts else more t (others_in ts)))
+    by : Permuted ts (append (numbers_in ts) (others_in ts)) → (k : Bool)
+        → Permuted (more t ts) (append (if k then more t (numbers_in ts) else numbers_in ts) (if k then others_in ts else more t (others_in ts)))
     by go true = permuted_more go
     by go false = permuted_trans (permuted_more go) (Permuted-sym (Permuted-to_front (numbers_in ts) t (others_in ts)))
 

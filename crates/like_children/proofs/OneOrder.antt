@@ -1,8 +1,6 @@
 -- Trees whose keys rise have one order.
-use Rattle.std.proofs.Common.{arith, ◌≡◌, ◌⊎◌, inl, inr, refl, sym, ap, ◌∙◌}
-use Rattle.like_children.proofs.Shared.{RisesBy, tree_cmp, Permuted, permuted_none, permuted_more, permuted_swap, permuted_trans, Permuted-sym, Tree, Trees, none, more}
-use Rattle.std.specs.declared.cmp.Ordering.TheVariants.{Less}
-use Rattle.calc_algebra.proofs.TreeOrderLaws.{tree_cmp_refl, tree_cmp_total}
+use Rattle.like_children.proofs.Shared.{arith, ◌≡◌, ◌⊎◌, inl, inr, refl, sym, ap, ◌∙◌, RisesBy, tree_cmp, Permuted, permuted_none, permuted_more, permuted_swap, permuted_trans}
+use Rattle.like_children.proofs.Shared.{Permuted-sym, Tree, Trees, none, more, Less, tree_cmp_refl, tree_cmp_total}
 
 -- ---- which trees they are
 

@@ -1,7 +1,7 @@
 -- Children that are opened from the last to the first.
-use Rattle.std.specs.Prelude.{Option, MatchOption}
-use Rattle.std.proofs.Common.{ℕ, zero, suc, ◌+◌, ◌-◌, ◌≤◌, ◌<◌, ◌≡◌, refl, sym, ap, ◌∙◌, subst, arith}
-use Rattle.like_children.proofs.Shared.{Tree, Trees, none, more, count, opened_from, nth_opened, opened_at, opened_beside, IsSumOrProduct, HasChildren, NoneOpensBetween, IsLastToOpen, removed, nth, inserted, plain, children_of, Forest, kids, IsHanded, Represents, root_tree, put, put-put, put-same}
+use Rattle.like_children.proofs.Shared.{Option, MatchOption, ℕ, zero, suc, ◌+◌, ◌-◌, ◌≤◌, ◌<◌, ◌≡◌, refl, sym, ap, ◌∙◌, subst, arith, Tree, Trees, none, more, count}
+use Rattle.like_children.proofs.Shared.{opened_from, nth_opened, opened_at, opened_beside, IsSumOrProduct, HasChildren, NoneOpensBetween, IsLastToOpen, removed, nth, inserted, plain, children_of}
+use Rattle.like_children.proofs.Shared.{Forest, kids, IsHanded, Represents, root_tree, put, put-put, put-same}
 use Rattle.like_children.proofs.Many.{IsMany, many, many_put, many_same}
 
 -- ---- the last one that gives way
@@ -10,7 +10,8 @@ use Rattle.like_children.proofs.Many.{IsMany, many, many_put, many_same}
 pub last_here : (parts : Tree → Trees) (n : ℕ) (ts : Trees) → parts (nth n ts) ≡ children_of (nth n ts) → IsLastToOpen parts n (n + 1) ts
 last_here parts n ts e = record { before = omega arith; opens = e; last = λ k a b. absurd (omega (arith, a, b)) }
 
-pub last_still : (parts : Tree → Trees) (r : Option ℕ) (n : ℕ) (ts : Trees) → MatchOption r (NoneOpensBetween parts 0 n ts) (λ at. IsLastToOpen parts at n ts) → parts (nth n ts) ≡ more (nth n ts) none
+pub last_still : (parts : Tree → Trees) (r : Option ℕ) (n : ℕ) (ts : Trees) → MatchOption r (NoneOpensBetween parts 0 n ts) (λ at. IsLastToOpen parts at n ts)
+    → parts (nth n ts) ≡ more (nth n ts) none
     → MatchOption r (NoneOpensBetween parts 0 (n + 1) ts) (λ at. IsLastToOpen parts at (n + 1) ts)
 last_still parts r n ts h e = grind arith
 
@@ -27,7 +28,8 @@ count_before parts zero ts l = omega arith
 count_before parts (suc at) none l = absurd (omega arith)
 count_before parts (suc at) (more t ts) l = omega (arith, count_before parts at ts (omega arith))
 
-opened_by : (parts : Tree → Trees) (d n : ℕ) (ts : Trees) → n + d ≤ count ts → NoneOpensBetween parts n (n + d) (opened_from parts (n + d) ts) → opened_from parts (n + d) ts ≡ opened_from parts n ts
+opened_by : (parts : Tree → Trees) (d n : ℕ) (ts : Trees) → n + d ≤ count ts → NoneOpensBetween parts n (n + d) (opened_from parts (n + d) ts)
+    → opened_from parts (n + d) ts ≡ opened_from parts n ts
 opened_by parts zero n ts l h = let q : n + 0 ≡ n = omega arith in ap (λ (m : ℕ). opened_from parts m ts) q
 opened_by parts (suc d) n ts l h =
     let q : n + suc d ≡ suc (n + d) = omega arith in
@@ -38,7 +40,8 @@ opened_by parts (suc d) n ts l h =
     still ∙ opened_by parts d n ts (omega (arith, l)) (λ k a b. subst (λ (us : Trees). parts (nth k us) ≡ more (nth k us) none) still (h k a (omega (arith, b))))
 
 -- where none of them gives way, they are as they would be opened
-pub opened_down : (parts : Tree → Trees) (n at : ℕ) (ts : Trees) → n ≤ at → at ≤ count ts → NoneOpensBetween parts n at (opened_from parts at ts) → opened_from parts at ts ≡ opened_from parts n ts
+pub opened_down : (parts : Tree → Trees) (n at : ℕ) (ts : Trees) → n ≤ at → at ≤ count ts → NoneOpensBetween parts n at (opened_from parts at ts)
+    → opened_from parts at ts ≡ opened_from parts n ts
 opened_down parts n at ts le l h =
     let q : n + (at - n) ≡ at = omega arith in
     subst (λ (m : ℕ). m ≤ count ts → NoneOpensBetween parts n m (opened_from parts m ts) → opened_from parts m ts ≡ opened_from parts n ts) q (opened_by parts (at - n) n ts) l h
@@ -50,7 +53,8 @@ pub record IsFound (parts : Tree → Trees) (at : ℕ) (ts us : Trees) : Type 0 
   pub within : at < count us
   pub opened : inserted at (children_of (nth at us)) (removed at us) ≡ opened_from parts at ts
 
-pub found : (parts : Tree → Trees) (at first : ℕ) (ts : Trees) → first ≤ count ts → IsLastToOpen parts at first (opened_from parts first ts) → IsFound parts at ts (opened_from parts first ts)
+pub found : (parts : Tree → Trees) (at first : ℕ) (ts : Trees) → first ≤ count ts → IsLastToOpen parts at first (opened_from parts first ts)
+    → IsFound parts at ts (opened_from parts first ts)
 found parts at first ts l h =
     let few : at < count ts = omega (arith, h.before, l) in
     let here = opened_down parts (suc at) first ts (omega (arith, h.before)) l h.last in

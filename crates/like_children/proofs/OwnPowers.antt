@@ -1,7 +1,6 @@
 -- The powers of trees are parts of them, and a Number has none.
-use Rattle.std.proofs.Common.{arith}
-use Rattle.like_children.proofs.Shared.{Tree, num, symbol, undef, add, mult, power, root, neg, sub, div, Trees, none, more, AllPartsOf, IsPart, IsPartOf, itself, in_add, in_mult, in_base, in_exponent, in_root, in_neg, in_left, in_right, in_dividend, in_divisor, first, later, IsNumber, IsTerm, AreTerms}
-use Rattle.calc_room.specs.Powers.{IsPowerOf, HasPowersOf}
+use Rattle.like_children.proofs.Shared.{arith, Tree, num, symbol, undef, add, mult, power, root, neg, sub, div, Trees, none, more, AllPartsOf, IsPart, IsPartOf, itself, in_add, in_mult, in_base}
+use Rattle.like_children.proofs.Shared.{in_exponent, in_root, in_neg, in_left, in_right, in_dividend, in_divisor, first, later, IsNumber, IsTerm, AreTerms, IsPowerOf, HasPowersOf}
 
 -- ---- a Number has no power
 

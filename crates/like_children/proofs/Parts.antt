@@ -1,9 +1,6 @@
 -- What holds of each part of a coefficient and of a tree holds of each part of both put together.
-use Rattle.std.proofs.Common.{arith}
-use Rattle.like_children.proofs.Shared.{Fraction, Tree, num, add, mult, Trees, none, more, append, AllParts, AllPartsOf, product_tree, Permuted, permuted_none, permuted_more, permuted_swap, permuted_trans}
-use Rattle.coefficients.specs.Coefficients.{factors_of, spliced, rational_before, with_coefficient}
-use Rattle.coefficients.specs.Multiples.{mapped, rational_times, rational_times_term}
-use Rattle.coefficients.proofs.Forms.{AllPartsOf-append}
+use Rattle.like_children.proofs.Shared.{arith, Fraction, Tree, num, add, mult, Trees, none, more, append, AllParts, AllPartsOf, product_tree, Permuted, permuted_none, permuted_more, permuted_swap}
+use Rattle.like_children.proofs.Shared.{permuted_trans, factors_of, spliced, rational_before, with_coefficient, mapped, rational_times, rational_times_term, AllPartsOf-append}
 
 -- ---- trees that change places, or stand before others
 

@@ -1,9 +1,10 @@
 -- Numbers among children that are taken out, one after another, and joined.
-use Rattle.std.specs.Prelude.{Result, IfOk}
-use Rattle.std.proofs.Common.{ℕ, zero, suc, ◌+◌, ◌<◌, ◌≤◌, ◌≡◌, [], ◌∷◌, eqb, true, false, refl, sym, ap, ◌∙◌, subst, arith}
-use Rattle.like_children.proofs.Shared.{is_number, value, Tree, Trees, none, more, append, count, size, sizes, AllParts, AllPartsOf, IsSumOrProduct, LeavesChildren, IsJoint, AreJoined, IsNextOf, numbers_in, others_in, IsNextNumber, NoNumberBetween, State, free_of, IsNumberOf, removed, Overflow, nth, plain, children_of, Forest, bytes_in, kids, tree_nth, without_nth, tree_of, IsHanded, Ends, Gives, KeepsFront, has_root, root_tree, without_root, put, Stands, forest, KeepsRefusals, NumberFault, behind_first, behind_later, behind_new, front_same, front_end, front_put, front_without, front_after_two, gives_as, given_apart, given_handed, given_other, given_rest, given_same, given_told, given_without, handed_by_put, last_tree, other_apart, eqb-sym, root-put, tree-put, tree-without, without-put, put-put, put-same}
-use Rattle.calc_algebra.specs.Surds.{Surd}
-use Rattle.calc_bits.specs.Bounds.{HasFewBits, IsNoLarger}
+use Rattle.like_children.proofs.Shared.{Result, IfOk, ℕ, zero, suc, ◌+◌, ◌<◌, ◌≤◌, ◌≡◌, [], ◌∷◌, eqb, true, false, refl, sym, ap, ◌∙◌, subst, arith, is_number, value}
+use Rattle.like_children.proofs.Shared.{Tree, Trees, none, more, append, count, size, sizes, AllParts, AllPartsOf, IsSumOrProduct, LeavesChildren, IsJoint, AreJoined, IsNextOf, numbers_in, others_in}
+use Rattle.like_children.proofs.Shared.{IsNextNumber, NoNumberBetween, State, free_of, IsNumberOf, removed, Overflow, nth, plain, children_of, Forest, bytes_in, kids, tree_nth, without_nth, tree_of}
+use Rattle.like_children.proofs.Shared.{IsHanded, Ends, Gives, KeepsFront, has_root, root_tree, without_root, put, Stands, forest, KeepsRefusals, NumberFault, behind_first, behind_later, behind_new}
+use Rattle.like_children.proofs.Shared.{front_same, front_end, front_put, front_without, front_after_two, gives_as, given_apart, given_handed, given_other, given_rest, given_same, given_told}
+use Rattle.like_children.proofs.Shared.{given_without, handed_by_put, last_tree, other_apart, eqb-sym, root-put, tree-put, tree-without, without-put, put-put, put-same, Surd, HasFewBits, IsNoLarger}
 use Rattle.like_children.proofs.Folds.{no_numbers}
 use Rattle.like_children.proofs.Kids.{sizes_taken}
 use Rattle.like_children.proofs.Many.{IsMany, IsOut, out, many, many_end, many_put, all_bytes, handed_bytes, put_bytes}
@@ -15,7 +16,8 @@ parts_taken P zero (more t ts) l h = (h.0, h.1)
 parts_taken P (suc n) (more t ts) l h = let k = parts_taken P n ts (omega arith) h.1 in (k.0, (h.0, k.1))
 
 -- what a call on two Numbers answers
-pub joint_given : (both : Surd → Surd → Surd) (a b : Tree) (g : Forest) (s : State) (r : Result ℕ NumberFault) → IfOk r (λ h. Gives g (forest s) h (IsNumberOf (both (value a) (value b)))) → IfOk r (λ h. IsNoLarger (both (value a) (value b)) (value (tree_of h s)))
+pub joint_given : (both : Surd → Surd → Surd) (a b : Tree) (g : Forest) (s : State) (r : Result ℕ NumberFault) → IfOk r (λ h. Gives g (forest s) h (IsNumberOf (both (value a) (value b))))
+    → IfOk r (λ h. IsNoLarger (both (value a) (value b)) (value (tree_of h s)))
     → IfOk r (λ h. Gives g (forest s) h (IsJoint both a b))
 joint_given both a b g s r k m = grind (arith, last_tree)
 
@@ -36,7 +38,8 @@ joined_more : (both : Surd → Surd → Surd) (n : Tree) (first : Trees) (d x e 
 joined_more both n none d x e h j = (e, subst (λ (y : Tree). IsJoint both y x e) h j, refl)
 joined_more both n (more y first) d x e h j = (h.0, h.1, joined_more both h.0 first d x e h.2 j)
 
-pub one_more : (both : Surd → Surd → Surd) (n : Tree) (ts us : Trees) (d e : Tree) (at : ℕ) → IsSoFar both n ts us d → IsNextNumber 0 at us → IsJoint both d (nth at us) e → IsSoFar both n ts (removed at us) e
+pub one_more : (both : Surd → Surd → Surd) (n : Tree) (ts us : Trees) (d e : Tree) (at : ℕ) → IsSoFar both n ts us d → IsNextNumber 0 at us → IsJoint both d (nth at us) e
+    → IsSoFar both n ts (removed at us) e
 one_more both n ts us d e at s h j = record {
   number = j.number;
   first = append s.first (more (nth at us) none);
@@ -57,11 +60,13 @@ next_of both n ts us d at s h = record {
   joined = s.joined;
 }
 
-pub next_named : (both : Surd → Surd → Surd) (misfit : Tree → Tree → Overflow → Type 0) (n : Tree) (ts us : Trees) (d : Tree) (at : ℕ) → IsSoFar both n ts us d → IsNextNumber 0 at us → (o : Overflow) → misfit d (nth at us) o
+pub next_named : (both : Surd → Surd → Surd) (misfit : Tree → Tree → Overflow → Type 0) (n : Tree) (ts us : Trees) (d : Tree) (at : ℕ) → IsSoFar both n ts us d → IsNextNumber 0 at us
+    → (o : Overflow) → misfit d (nth at us) o
     → (x : IsNextOf both n (numbers_in ts)) × misfit x.so_far x.next o
 next_named both misfit n ts us d at s h o m = (next_of both n ts us d at s h, m)
 
-pub next_few : (both : Surd → Surd → Surd) (n : Tree) (ts us : Trees) (d : Tree) (at : ℕ) → IsSoFar both n ts us d → IsNextNumber 0 at us → ((x : IsNextOf both n (numbers_in ts)) → HasFewBits (both (value x.so_far) (value x.next)))
+pub next_few : (both : Surd → Surd → Surd) (n : Tree) (ts us : Trees) (d : Tree) (at : ℕ) → IsSoFar both n ts us d → IsNextNumber 0 at us
+    → ((x : IsNextOf both n (numbers_in ts)) → HasFewBits (both (value x.so_far) (value x.next)))
     → HasFewBits (both (value d) (value (nth at us)))
 next_few both n ts us d at s h f = f (next_of both n ts us d at s h)
 
@@ -75,7 +80,8 @@ all_done both n ts us d s b = grind (arith, no_numbers, no_numbers_others, no_nu
 -- ---- the roots
 
 -- what stands beside the first Number
-pub base : {i n : ℕ} {f : Forest} {P : Tree → Type 0} → Gives (without_root n f) f n P → IsHanded i (without_root n f) → IsSumOrProduct (plain (root_tree i f)) → IsMany i (children_of (plain (root_tree i f))) (without_root n f)
+pub base : {i n : ℕ} {f : Forest} {P : Tree → Type 0} → Gives (without_root n f) f n P → IsHanded i (without_root n f) → IsSumOrProduct (plain (root_tree i f))
+    → IsMany i (children_of (plain (root_tree i f))) (without_root n f)
 base {i = i} {n = n} {f = f} g h s =
     let e = tree-without n i f (given_apart g h) in
     subst (λ (t : Forest). IsMany i (children_of (plain t)) (without_root n f)) e (many h (subst (λ (t : Forest). IsSumOrProduct (plain t)) (sym e) s))
@@ -110,7 +116,8 @@ pub record IsNext (i h d at : ℕ) (us : Trees) (others f g : Forest) : Type 0 w
   pub out : IsOut i at us f g h
   pub ready : IsReady i h d others f g out.now
 
-pub next_out : {i h n d at : ℕ} {us : Trees} {old f g : Forest} {P : Tree → Type 0} → Gives (without_root n old) old n P → IsHanded i (without_root n old) → IsSumOrProduct (plain (root_tree i old)) → LeavesChildren i us (without_root n old) f d
+pub next_out : {i h n d at : ℕ} {us : Trees} {old f g : Forest} {P : Tree → Type 0} → Gives (without_root n old) old n P → IsHanded i (without_root n old)
+    → IsSumOrProduct (plain (root_tree i old)) → LeavesChildren i us (without_root n old) f d
     → at < count us → (has_root i f ≡ true → Ends h (tree_nth at (kids (root_tree i f))) (put i (without_nth at (kids (root_tree i f))) f) g) → IsNext i h d at us (without_root n old) f g
 next_out {at = at} a b c l w e =
     let m = base a b c in
@@ -122,7 +129,8 @@ pub left_more : {i h d e at : ℕ} {us : Trees} {others f g new : Forest} {P : T
     → Gives (without_root h (without_root d g)) new e P → LeavesChildren i (removed at us) others new e
 left_more o r k = record { kids = o.now; are = o.are; given = gives_as k r.rest (λ t x. tt) }
 
-pub left_front : {i h d n at : ℕ} {us : Trees} {old f g new : Forest} → LeavesChildren i us (without_root n old) f d → (o : IsOut i at us f g h) → KeepsFront (i ∷ n ∷ []) old f → KeepsFront (d ∷ h ∷ []) g new
+pub left_front : {i h d n at : ℕ} {us : Trees} {old f g new : Forest} → LeavesChildren i us (without_root n old) f d → (o : IsOut i at us f g h) → KeepsFront (i ∷ n ∷ []) old f
+    → KeepsFront (d ∷ h ∷ []) g new
     → KeepsFront (i ∷ n ∷ []) old new
 left_front l o k c =
     let here = front_put o.now behind_first k in

@@ -1,11 +1,9 @@
-use Rattle.std.proofs.Common.{◌≡◌, ◌∙◌, true, ap, sym, subst, arith, rules}
-use Rattle.like_children.proofs.Shared.{is_number, is_reduced, SpansRoot, SpansTree, Trees, count, size, LeavesChildren, IsJoint, children_of, tree_of, without_root, forest, keeps_none, keeps_after, front_same, given_handed, given_told}
-use Rattle.coefficients.proofs.Named.{fault_named}
+use Rattle.like_children.proofs.Shared.{◌≡◌, ◌∙◌, true, ap, sym, subst, arith, rules, is_number, is_reduced, SpansRoot, SpansTree, Trees, count, size, LeavesChildren, IsJoint, children_of}
+use Rattle.like_children.proofs.Shared.{tree_of, without_root, forest, keeps_none, keeps_after, front_same, given_handed, given_told, fault_named, full_as}
 use Rattle.like_children.proofs.SoFar.{base, begun, none_so_far, one_more, next_named, next_few, all_done, parts_taken, left_many, next_out, left_more, left_front, at_hand}
 use Rattle.like_children.proofs.Folds.{begun_with, fold_more, fold_faulted, fold_done, no_numbers}
 use Rattle.like_children.proofs.Kids.{count_removed, each_removed}
 use Rattle.like_children.proofs.Many.{many_handed, many_children, child_within}
-use Rattle.number_forms.proofs.Rooms.{full_as}
 use Rattle.like_children.proofs.collecting.collect_numbers.Goals as goal
 
 pub loop-at-init : goal.loop-at-init
@@ -51,7 +49,8 @@ loop-at-preserved g c =
     let told = given_told x.out.given in
     let left = left_more x.out x.ready c.in-Ok.ensures.ok in
     let now = many_children (left_many (base c.requires.number c.requires.parent c.requires.many) left) in
-    let joint : IsJoint g.J.Joins.both (tree_of c.loop-at.so_far c.take_child-next.new.pool) (tree_of c.take_child-next.result c.take_child-next.new.pool) (tree_of c.in-Ok.joined c.join.new.pool) = given_told c.in-Ok.ensures.ok in
+    let joint : IsJoint g.J.Joins.both (tree_of c.loop-at.so_far c.take_child-next.new.pool) (tree_of c.take_child-next.result c.take_child-next.new.pool) (tree_of c.in-Ok.joined c.join.new.pool) =
+    given_told c.in-Ok.ensures.ok in
     record {
       left = rw now left;
       numbers = rw now (one_more g.J.Joins.both _ _ us d _ at i.numbers c.in-Some.ensures (rw (x.ready.tree, told) at joint));

@@ -1,5 +1,5 @@
-use Rattle.std.proofs.Common.{ℕ, List, ◌≡◌, ◌<◌, true, [], ◌∷◌}
-use Rattle.like_children.proofs.Shared.{fold_values, SpansTree, SpansTrees, count, is_num, are_rationals, is_reduced, nth, children_of, tree_of, KeepsFront, without_root, Stands, forest, KeepsRefusals, LeavesChildren, AreFolded, rational_of, rationals_of}
+use Rattle.like_children.proofs.Shared.{ℕ, List, ◌≡◌, ◌<◌, true, [], ◌∷◌, fold_values, SpansTree, SpansTrees, count, is_num, are_rationals, is_reduced, nth, children_of, tree_of}
+use Rattle.like_children.proofs.Shared.{KeepsFront, without_root, Stands, forest, KeepsRefusals, LeavesChildren, AreFolded, rational_of, rationals_of}
 use Rattle.like_children.proofs.SoFar.{IsSoFar}
 use Rattle.like_children.proofs.collecting.collect_numbers.Given as goal
 

@@ -1,5 +1,4 @@
-use Rattle.std.proofs.Common.{suc, ◌∙◌, sym, subst, arith}
-use Rattle.like_children.proofs.Shared.{forest}
+use Rattle.like_children.proofs.Shared.{suc, ◌∙◌, sym, subst, arith, forest}
 use Rattle.like_children.proofs.Items.{children_count, children_told, next_child, last_child}
 use Rattle.like_children.proofs.Pairs.{key_valid, key_as, one_key}
 use Rattle.like_children.proofs.neighbours.is_pair.Goals as goal

@@ -1,5 +1,4 @@
-use Rattle.std.proofs.Common.{suc, ◌≤◌, ◌≡◌}
-use Rattle.like_children.proofs.Shared.{root_ids, nth, children_of, rest_trees, tree_of, kids_of, forest, IsKeyOf, are_alike, NoPairBetween}
+use Rattle.like_children.proofs.Shared.{suc, ◌≤◌, ◌≡◌, root_ids, nth, children_of, rest_trees, tree_of, kids_of, forest, IsKeyOf, are_alike, NoPairBetween}
 use Rattle.like_children.proofs.neighbours.next_pair.Given as goal
 
 abbrev pub invariant-loop-at : goal.invariant-loop-at

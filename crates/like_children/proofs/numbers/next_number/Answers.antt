@@ -1,5 +1,4 @@
-use Rattle.std.proofs.Common.{ap, ◌∙◌, sym, arith, add-one}
-use Rattle.like_children.proofs.Shared.{is_number, is_reduced, children_of, tree_of}
+use Rattle.like_children.proofs.Shared.{ap, ◌∙◌, sym, arith, add-one, is_number, is_reduced, children_of, tree_of}
 use Rattle.like_children.proofs.Items.{children_count, children_told, next_child, last_child}
 use Rattle.like_children.proofs.Before.{no_number_more}
 use Rattle.like_children.proofs.numbers.next_number.Goals as goal
@@ -15,7 +14,8 @@ loop-at-init c = record {
 }
 
 pub returns-in_err-next : goal.returns-in_err-next
-returns-in_err-next c = rw c.from_residual.ensures (λ k f l. c.loop-at.invariant.none k f (omega (arith, last_child c.requires.stands c.requires.handed c.loop-at.invariant.ids c.in_err-next.ensures.steps.0, l)))
+returns-in_err-next c =
+    rw c.from_residual.ensures (λ k f l. c.loop-at.invariant.none k f (omega (arith, last_child c.requires.stands c.requires.handed c.loop-at.invariant.ids c.in_err-next.ensures.steps.0, l)))
 
 pub is_reduced_number-requires-clause-expression : goal.is_reduced_number-requires-clause-expression
 is_reduced_number-requires-clause-expression c = (next_child c.requires.stands c.requires.handed c.loop-at.invariant.ids c.in_ok-next.ensures.steps).expression

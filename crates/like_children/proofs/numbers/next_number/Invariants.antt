@@ -1,5 +1,4 @@
-use Rattle.std.proofs.Common.{◌≡◌, ◌≤◌}
-use Rattle.like_children.proofs.Shared.{root_ids, children_of, rest_trees, tree_of, kids_of, forest, NoNumberBetween}
+use Rattle.like_children.proofs.Shared.{◌≡◌, ◌≤◌, root_ids, children_of, rest_trees, tree_of, kids_of, forest, NoNumberBetween}
 use Rattle.like_children.proofs.numbers.next_number.Given as goal
 
 abbrev pub invariant-loop-at : goal.invariant-loop-at

@@ -1,5 +1,4 @@
-use Rattle.std.proofs.Common.{◌≡◌, MatchOption}
-use Rattle.like_children.proofs.Shared.{root_ids, children_of, rest_trees, tree_of, kids_of, forest, NoneOpensBetween, IsLastToOpen}
+use Rattle.like_children.proofs.Shared.{◌≡◌, MatchOption, root_ids, children_of, rest_trees, tree_of, kids_of, forest, NoneOpensBetween, IsLastToOpen}
 use Rattle.like_children.proofs.opening.last_to_open.Given as goal
 
 abbrev pub invariant-loop-at : goal.invariant-loop-at

@@ -1,5 +1,5 @@
-use Rattle.std.proofs.Common.{◌≡◌, ap, ◌∙◌, sym, subst, arith, rules}
-use Rattle.like_children.proofs.Shared.{count, opened_from, opened_from_end, NoneOpensBetween, IsLastToOpen, nth, children_of, kids, merged_nth, tree_of, root_tree, forest, keeps_none, keeps_after}
+use Rattle.like_children.proofs.Shared.{◌≡◌, ap, ◌∙◌, sym, subst, arith, rules, count, opened_from, opened_from_end, NoneOpensBetween, IsLastToOpen, nth, children_of, kids, merged_nth}
+use Rattle.like_children.proofs.Shared.{tree_of, root_tree, forest, keeps_none, keeps_after}
 use Rattle.like_children.proofs.Items.{children_told}
 use Rattle.like_children.proofs.Kids.{represents_merged}
 use Rattle.like_children.proofs.Many.{many, many_handed, many_children, place_within, child_within, child_once}
@@ -21,7 +21,8 @@ pub last_to_open-requires : goal.last_to_open-requires
 last_to_open-requires g c =
     let i = c.loop-at.invariant in
     let ts = children_of (tree_of c.args.parent.now c.args.pool.now) in
-    let n : count (children_of (tree_of c.args.parent.now c.loop-at.pool)) ≡ count (opened_from g.O.Opens.parts c.loop-at.first ts) = ap count (many_children (has_many (many c.requires.handed c.requires.many) i.opened)) in
+    let n : count (children_of (tree_of c.args.parent.now c.loop-at.pool)) ≡ count (opened_from g.O.Opens.parts c.loop-at.first ts) =
+    ap count (many_children (has_many (many c.requires.handed c.requires.many) i.opened)) in
     let e = many_children (has_many (many c.requires.handed c.requires.many) i.opened) in
     record {
       stands = search rules;

@@ -1,5 +1,4 @@
-use Rattle.std.proofs.Common.{◌≤◌}
-use Rattle.like_children.proofs.Shared.{count, opened_from, children_of, tree_of, Stands, forest, KeepsRefusals, HasChildren}
+use Rattle.like_children.proofs.Shared.{◌≤◌, count, opened_from, children_of, tree_of, Stands, forest, KeepsRefusals, HasChildren}
 use Rattle.like_children.proofs.opening.open_children.Given as goal
 
 abbrev pub invariant-loop-at : goal.invariant-loop-at
