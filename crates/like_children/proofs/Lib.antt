@@ -9,5 +9,9 @@ pub mod Openings
 pub mod SoFar
 pub mod OneOrder
 pub mod Parts
+pub mod Addends
+pub mod Counted
+pub mod Permutations
+pub mod Places
 pub mod OwnPowers
 pub mod Shared

@@ -1,12 +1,12 @@
 -- Exponents that count their bases are collected to exponents that count them no more often.
 use Rattle.std.proofs.Common.{◌≡◌, ℕ, ◌≤◌, ◌++◌, [], ℤ, pos, ◌+ℤ◌, ◌*ℤ◌, Bool, true, false, ◌==◌, if◌then◌else◌, refl, sym, ap, ◌∙◌, subst, arith}
-use Rattle.sum_reduce.proofs.Shared.{first_parts, and_parts, and_from, eqb-true, Fraction, times, whole_fraction, zero_fraction, one_fraction, is_zero_fraction, is_one_fraction, zero_is, one_is, whole_denominator, whole_numerator, Tree, num, symbol, undef, add, mult, Trees, none, more, append, count, is_add, has_undef, AllPartsOf, IsNumber, is_number, value, NoneIs, HasForm, part_of, product_tree, Same, surd_of, Permuted, permuted_none, permuted_more, permuted_swap, permuted_trans, number_rational, number_words, Same-trans, coefficient_of, rational_before, with_coefficient, IsMonic, mapped, rational_times_term, monic_sum, monic_no_number, IsNumberOf, AreLike, sum_of_coefficients, Collects, collects_opened, collects_ordered, collects_numbers, collects_like, collects_then, terms_of_loose, opened, terms_of_number, sum_tree, leads_number, written_tree, Counts, counts, added, is_counted, are_counted, counts_of, counts_of_all, IsWithin}
+use Rattle.sum_reduce.proofs.Shared.{first_parts, and_parts, and_from, eqb-true, Fraction, times, whole_fraction, zero_fraction, one_fraction, is_zero_fraction, is_one_fraction, zero_is, one_is, whole_denominator, whole_numerator, Tree, num, symbol, undef, add, mult, Trees, none, more, append, count, is_add, has_undef, AllPartsOf, IsNumber, is_number, value, NoneIs, HasForm, part_of, product_tree, Same, surd_of, Permuted, permuted_none, permuted_more, permuted_swap, permuted_trans, number_rational, number_words, Same-trans, coefficient_of, rational_before, with_coefficient, IsMonic, mapped, rational_times_term, monic_sum, monic_no_number, IsNumberOf, AreLike, sum_of_coefficients, Collects, collects_opened, collects_ordered, collects_numbers, collects_like, collects_then, terms_of_loose, opened, terms_of_number, sum_tree, leads_number, written_tree, Counts, counts, added, is_counted, are_counted, counts_of, counts_of_all, IsWithin, IsCountedWithin, KeepsSumBounds}
 use Rattle.calc_algebra.proofs.ExponentLaws.{whole_plus, whole_times}
 use Rattle.calc_algebra.proofs.MeaningLaws.{Same-sym}
 use Rattle.calc_algebra.proofs.TermLaws.{joined_radicand, Same-append, Same-eq, Same-refl, zero_term}
 use Rattle.sum_reduce.proofs.CollectedCounts.{collected_formed, like_monic}
 use Rattle.sum_reduce.proofs.CountedMultiples.{within_same, within_after, within_both, nothing_within, sum_within, product_within, multiple_added}
-use Rattle.sum_reduce.proofs.Rearranged.{of_lists}
+use Rattle.like_children.proofs.Permutations.{of_lists}
 use Rattle.tree_bits.specs.Exponents.{multiple}
 pub use Rattle.calc_measures.proofs.LiteralValues.{whole_of}
 use Rattle.std.proofs.lemmas.Bool.{false≢true, true≢false}
@@ -18,17 +18,13 @@ pub record AreCounted (ts : Trees) (c : Counts) : Type 0 where
   pub all : are_counted ts ≡ true
   pub within : IsWithin (counts_of_all ts) c
 
-pub record IsCountedIn (t : Tree) (c : Counts) : Type 0 where
-  pub counted : is_counted t ≡ true
-  pub within : IsWithin (counts_of t) c
-
 none_counted : (c : Counts) → AreCounted none c
 none_counted c = record { all = refl; within = nothing_within c }
 
-more_counted : {t : Tree} {ts : Trees} {c d : Counts} → IsCountedIn t c → AreCounted ts d → AreCounted (more t ts) (added c d)
+more_counted : {t : Tree} {ts : Trees} {c d : Counts} → IsCountedWithin c t → AreCounted ts d → AreCounted (more t ts) (added c d)
 more_counted a b = record { all = and_from _ _ a.counted b.all; within = within_both a.within b.within }
 
-only_counted : {t : Tree} {c : Counts} → IsCountedIn t c → AreCounted (more t none) c
+only_counted : {t : Tree} {c : Counts} → IsCountedWithin c t → AreCounted (more t none) c
 only_counted a = record { all = and_from _ _ a.counted refl; within = within_after (record { up = omega arith; down = omega arith }) a.within }
 
 counted_after : {ts : Trees} {c d : Counts} → AreCounted ts c → IsWithin c d → AreCounted ts d
@@ -79,7 +75,7 @@ whole_test : (z : ℤ) → ((whole_fraction z).den == 1) ≡ true
 whole_test z = ap (λ (n : ℕ). n == 1) (whole_denominator z)
 
 -- the whole number z as an exponent
-pub num_counted : (z : ℤ) → IsCountedIn (num (whole_fraction z)) (multiple z (counts 1 0))
+pub num_counted : (z : ℤ) → IsCountedWithin (multiple z (counts 1 0)) (num (whole_fraction z))
 num_counted z = record { counted = whole_test z; within = subst (λ (c : Counts). IsWithin c (multiple z (counts 1 0))) (ap (λ (y : ℤ). multiple y (counts 1 0)) (sym (whole_numerator z))) (within_same (multiple z (counts 1 0))) }
 
 pub num_value : (q : Fraction) → Same (value (num q)) (surd_of q)
@@ -106,26 +102,27 @@ whole_counts : (t : Tree) (z : ℤ) → t ≡ num (whole_fraction z) → counts_
 whole_counts t z e = ap counts_of e ∙ ap (λ (y : ℤ). multiple y (counts 1 0)) (whole_numerator z)
 
 numbers_counted : (a b n : Tree) → is_number a ≡ true → is_number b ≡ true → is_counted a ≡ true → is_counted b ≡ true → IsNumberOf (value a ++ value b) n
-    → IsCountedIn n (added (counts_of a) (counts_of b))
+    → IsCountedWithin (added (counts_of a) (counts_of b)) n
 numbers_counted a b n x y h k w =
     let p = whole_number a (number_words a x) h in
     let q = whole_number b (number_words b y) k in
     let sum : Same (value a ++ value b) (surd_of (whole_fraction (p.z +ℤ q.z))) =
-    Same-trans (Same-append (subst (λ (t : Tree). Same (value t) (surd_of (whole_fraction p.z))) (sym p.is) (num_value (whole_fraction p.z))) (subst (λ (t : Tree). Same (value t) (surd_of (whole_fraction q.z))) (sym q.is) (num_value (whole_fraction q.z))))
+    Same-trans (Same-append (subst (λ (t : Tree). Same (value t) (surd_of (whole_fraction p.z))) (sym p.is) (num_value (whole_fraction p.z)))
+    (subst (λ (t : Tree). Same (value t) (surd_of (whole_fraction q.z))) (sym q.is) (num_value (whole_fraction q.z))))
     (Same-trans (joined_radicand (whole_fraction p.z) (whole_fraction q.z) 1) (Same-eq (ap surd_of (whole_plus p.z q.z)))) in
     let is : n ≡ num (whole_fraction (p.z +ℤ q.z)) = as_whole n (p.z +ℤ q.z) w.number (Same-trans w.worth sum) in
     let c = num_counted (p.z +ℤ q.z) in
-    subst (λ (t : Tree). IsCountedIn t (added (counts_of a) (counts_of b))) (sym is) (record {
+    subst (λ (t : Tree). IsCountedWithin (added (counts_of a) (counts_of b)) t) (sym is) (record {
       counted = c.counted;
       within =
           within_after c.within
           (subst (IsWithin (multiple (p.z +ℤ q.z) (counts 1 0))) (λ i. added (sym (whole_counts a p.z p.is) i) (sym (whole_counts b q.z q.is) i)) (sum_within p.z q.z (counts 1 0)));
     })
 
-pub zero_counted : (c : Counts) → IsCountedIn (num zero_fraction) c
+pub zero_counted : (c : Counts) → IsCountedWithin c (num zero_fraction)
 zero_counted c =
     let n = num_counted (pos 0) in
-    subst (λ (x : Fraction). IsCountedIn (num x) c) (sym zero_whole) (record { counted = n.counted; within = within_after n.within (record { up = omega arith; down = omega arith }) })
+    subst (λ (x : Fraction). IsCountedWithin c (num x)) (sym zero_whole) (record { counted = n.counted; within = within_after n.within (record { up = omega arith; down = omega arith }) })
 
 -- ---- terms with one part
 
@@ -176,7 +173,7 @@ like_part (more t us) p l a h = subst (λ (w : Tree). is_counted w ≡ true) a.1
 one_product : (z : ℤ) → is_one_fraction (whole_fraction z) ≡ true → z ≡ pos 1
 one_product z h = sym (whole_numerator z) ∙ ap (λ (q : Fraction). q.num) (one_is (whole_fraction z) h ∙ one_whole) ∙ whole_numerator (pos 1)
 
-before_counted : (z : ℤ) (w : Tree) → is_counted w ≡ true → IsCountedIn (mult (more (num (whole_fraction z)) (more w none))) (multiple z (counts_of w))
+before_counted : (z : ℤ) (w : Tree) → is_counted w ≡ true → IsCountedWithin (multiple z (counts_of w)) (mult (more (num (whole_fraction z)) (more w none)))
 before_counted z w h = grind (arith, whole_test, whole_numerator)
 
 module _ (z : ℤ) where
@@ -184,17 +181,17 @@ module _ (z : ℤ) where
   product_is c h = ap (times (whole_fraction z)) (whole_of c h) ∙ whole_times z c.num
 
   -- into a term of a sum
-  times_rational : (c : Fraction) → is_counted (num c) ≡ true → IsCountedIn (num (times (whole_fraction z) c)) (multiple z (counts_of (num c)))
+  times_rational : (c : Fraction) → is_counted (num c) ≡ true → IsCountedWithin (multiple z (counts_of (num c))) (num (times (whole_fraction z) c))
   times_rational c h =
       let n = num_counted (z *ℤ c.num) in
-      subst (λ (x : Fraction). IsCountedIn (num x) (multiple z (counts_of (num c)))) (sym (product_is c h)) (record {
+      subst (λ (x : Fraction). IsCountedWithin (multiple z (counts_of (num c))) (num x)) (sym (product_is c h)) (record {
         counted =
             n.counted;
         within = within_after n.within (product_within z c.num (counts 1 0));
       })
 
   times_product : (c : Fraction) (w : Tree) → is_counted (mult (more (num c) (more w none))) ≡ true
-      → IsCountedIn (rational_times_term (whole_fraction z) (mult (more (num c) (more w none)))) (multiple z (multiple c.num (counts_of w)))
+      → IsCountedWithin (multiple z (multiple c.num (counts_of w))) (rational_times_term (whole_fraction z) (mult (more (num c) (more w none))))
   times_product c w h = by (is_one_fraction (times (whole_fraction z) c)) refl
     where
       x : (c.den == 1) ≡ true
@@ -204,7 +201,7 @@ module _ (z : ℤ) where
       y = (and_parts (c.den == 1) (is_counted w) h).1
 
       by : (b : Bool) → is_one_fraction (times (whole_fraction z) c) ≡ b
-          → IsCountedIn (if b then product_tree (more w none) else mult (more (num (times (whole_fraction z) c)) (more w none))) (multiple z (multiple c.num (counts_of w)))
+          → IsCountedWithin (multiple z (multiple c.num (counts_of w))) (if b then product_tree (more w none) else mult (more (num (times (whole_fraction z) c)) (more w none)))
       by true e =
           let one : z *ℤ c.num ≡ pos 1 = one_product (z *ℤ c.num) (ap is_one_fraction (sym (product_is c x)) ∙ e) in
           record {
@@ -213,10 +210,10 @@ module _ (z : ℤ) where
           }
       by false e =
           let a = before_counted (z *ℤ c.num) w y in
-          subst (λ (r : Fraction). IsCountedIn (mult (more (num r) (more w none))) (multiple z (multiple c.num (counts_of w)))) (sym (product_is c x))
+          subst (λ (r : Fraction). IsCountedWithin (multiple z (multiple c.num (counts_of w))) (mult (more (num r) (more w none)))) (sym (product_is c x))
           (record { counted = a.counted; within = within_after a.within (product_within z c.num (counts_of w)) })
 
-  times_counted : (t : Tree) → is_add t ≡ false → is_counted t ≡ true → IsCountedIn (rational_times_term (whole_fraction z) t) (multiple z (counts_of t))
+  times_counted : (t : Tree) → is_add t ≡ false → is_counted t ≡ true → IsCountedWithin (multiple z (counts_of t)) (rational_times_term (whole_fraction z) t)
   times_counted (num c) s h = times_rational c h
   times_counted (symbol x) s h = before_counted z (symbol x) h
   times_counted (add ts) s h = absurd (true≢false s)
@@ -229,7 +226,7 @@ module _ (z : ℤ) where
       let (a, b) = and_parts (is_counted t) (are_counted ts) h in
       counted_after (more_counted (times_counted t s.0 a) (all_times_counted ts s.1 b)) (multiple_added z (counts_of t) (counts_of_all ts))
 
-  part_counted : (p : Tree) → IsMonic p → is_counted p ≡ true → IsCountedIn (rational_before (whole_fraction z) p) (multiple z (counts_of p))
+  part_counted : (p : Tree) → IsMonic p → is_counted p ≡ true → IsCountedWithin (multiple z (counts_of p)) (rational_before (whole_fraction z) p)
   unfolding is_number
   part_counted (num c) m h = absurd (true≢false (monic_no_number (num c) m))
   part_counted (symbol x) m h = before_counted z (symbol x) h
@@ -237,22 +234,22 @@ module _ (z : ℤ) where
   part_counted (mult (more (num c) ts)) m h = absurd (true≢false m.no_coefficient)
   part_counted p m h = absurd (false≢true h)
 
-  pub put_counted : (p : Tree) → IsMonic p → is_counted p ≡ true → IsCountedIn (with_coefficient (num (whole_fraction z)) p) (multiple z (counts_of p))
+  pub put_counted : (p : Tree) → IsMonic p → is_counted p ≡ true → IsCountedWithin (multiple z (counts_of p)) (with_coefficient (num (whole_fraction z)) p)
   put_counted p m h = by (is_zero_fraction (whole_fraction z)) (is_one_fraction (whole_fraction z)) refl
     where
       by : (a b : Bool) → is_one_fraction (whole_fraction z) ≡ b
-          → IsCountedIn (if a then num zero_fraction else (if b then p else rational_before (whole_fraction z) p)) (multiple z (counts_of p))
+          → IsCountedWithin (multiple z (counts_of p)) (if a then num zero_fraction else (if b then p else rational_before (whole_fraction z) p))
       by true b e = zero_counted (multiple z (counts_of p))
       by false true e = record { counted = h; within = subst (λ (n : ℤ). IsWithin (counts_of p) (multiple n (counts_of p))) (sym (one_product z e)) (at_least_once (counts_of p)) }
       by false false e = part_counted p m h
 
 like_counted : (us : Trees) (c p : Tree) → 2 ≤ count us → AreLike p us → AllPartsOf HasForm us → are_counted us ≡ true → IsNumberOf (sum_of_coefficients us) c
-    → IsCountedIn (with_coefficient c p) (counts_of_all us)
+    → IsCountedWithin (counts_of_all us) (with_coefficient c p)
 like_counted us c p l a f h w =
     let x = whole_sum us p a h in
     let is : c ≡ num (whole_fraction x.z) = as_whole c x.z w.number (Same-trans w.worth x.sum) in
     let k = put_counted x.z p (like_monic us p l a f) (like_part us p l a h) in
-    subst (λ (d : Tree). IsCountedIn (with_coefficient d p) (counts_of_all us)) (sym is) (record { counted = k.counted; within = within_after k.within x.within })
+    subst (λ (d : Tree). IsCountedWithin (counts_of_all us) (with_coefficient d p)) (sym is) (record { counted = k.counted; within = within_after k.within x.within })
 
 -- ---- collected
 
@@ -281,16 +278,16 @@ exponents_collected (collects_then k l) f h = let a = exponents_collected k f h 
 number_terms : (t : Tree) → is_counted t ≡ true → AreCounted (terms_of_number t) (counts_of t)
 number_terms t h = grind arith
 
-tree_of_terms : (ts : Trees) (c : Counts) → AreCounted ts c → IsCountedIn (sum_tree ts) c
+tree_of_terms : (ts : Trees) (c : Counts) → AreCounted ts c → IsCountedWithin c (sum_tree ts)
 tree_of_terms none c a = zero_counted c
 tree_of_terms (more t none) c a = record { counted = (and_parts (is_counted t) true a.all).0; within = within_after (record { up = omega arith; down = omega arith }) a.within }
 tree_of_terms (more t (more u ts)) c a = record { counted = a.all; within = a.within }
 
-pub written_counts : (ts : Trees) (c : Counts) → AreCounted ts c → IsCountedIn (written_tree ts) c
+pub written_counts : (ts : Trees) (c : Counts) → AreCounted ts c → IsCountedWithin c (written_tree ts)
 written_counts none c a = tree_of_terms none c a
 written_counts (more t ts) c a = by (leads_number (more t ts))
   where
-    by : (b : Bool) → IsCountedIn (if b then sum_tree (append (terms_of_number t) ts) else sum_tree (more t ts)) c
+    by : (b : Bool) → IsCountedWithin c (if b then sum_tree (append (terms_of_number t) ts) else sum_tree (more t ts))
     by true =
         let (x, y) = and_parts (is_counted t) (are_counted ts) a.all in
         tree_of_terms (append (terms_of_number t) ts) c
@@ -306,3 +303,11 @@ counted_defined (more t ts) h = let (a, b) = and_parts (is_counted t) (are_count
     first : (t : Tree) → is_counted t ≡ true → has_undef ts ≡ false → has_undef (more t ts) ≡ false
     first undef k e = absurd (false≢true k)
     first t k e = e
+
+-- what has an Undef term is Undef
+pub undef_bounds : (ts : Trees) (t : Tree) → has_undef ts ≡ true → t ≡ undef → KeepsSumBounds ts t
+undef_bounds ts t u e = subst (KeepsSumBounds ts) (sym e) (record {
+  room = record { counts = omega arith; powers = tt; spanned = λ gs s. tt };
+  held = λ h l d k. absurd (false≢true (sym d ∙ u));
+  counts = λ k. absurd (false≢true (sym (counted_defined ts k) ∙ u));
+})

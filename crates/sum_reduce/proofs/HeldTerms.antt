@@ -2,7 +2,7 @@
 use Rattle.std.proofs.Common.{◌≡◌, ◌≤◌, ℕ, List, [], ◌∷◌, ◌++◌, Bool, true, false, if◌then◌else◌, inl, inr, refl, sym, ap, ◌∙◌, subst, arith, append_assoc, append-nil}
 use Rattle.sum_reduce.proofs.Shared.{not_from_false, Fraction, zero_fraction, is_zero_fraction, is_one_fraction, no_zero, one_is, Tree, num, add, Trees, none, more, append, count, is_add, AllParts, IsNumber, AreTerms, is_number, term_of, terms_of, value, HasForm, NoneIs, part_of, Same, Surd, surd_of, surd_one, number_test, number_words, surd_times-surd_one, SharesDenominators, coefficient_of, factors_of, rational_before, with_coefficient, IsMonic, monic_sum, put, monic_parts, number_of_term, IsFactor, not_one_is, IsArranged, IsLead, KeepsHeld, AreFormed, terms_of_loose, opened, terms_of_number, sum_tree, written_tree, IsSumHeld, addends_of_each, distributed, Addend, addend, addends, addends_of, IsTreeHeld, sum_as_tree, alone}
 use Rattle.calc_bits.proofs.NoLarger.{no_larger}
-use Rattle.sum_reduce.proofs.Addends.{term_addends, IsSplit, split_sum, sum_addends, one_value, rational_value, monic_addends, spliced_addends, multiple_addends, one_addend}
+use Rattle.like_children.proofs.Addends.{IsSplit, monic_addends, multiple_addends, one_addend, one_value, rational_value, spliced_addends, split_sum, sum_addends, term_addends}
 use Rattle.sum_reduce.proofs.Held.{held_same, held_after, held_equal, held_behind, held_beside, held_joined, held_left_out, held_nothing, held_split, holds}
 use Rattle.sum_reduce.proofs.HeldFactors.{held_distributed}
 use Rattle.sum_reduce.proofs.Settled.{no_sums}

@@ -4,14 +4,15 @@ use Rattle.sum_reduce.proofs.Shared.{other_in, count_removed, is_eq, is_number, 
 use Rattle.calc_algebra.proofs.NumberRewrites.{with_coefficient as coefficient_for}
 use Rattle.coefficients.proofs.Bounds.{coefficient_nest}
 use Rattle.coefficients.proofs.Keeps.{coefficient_keeps}
-use Rattle.sum_reduce.proofs.Addends.{term_addends}
+use Rattle.like_children.proofs.Addends.{term_addends}
 use Rattle.sum_reduce.proofs.Held.{held_after, held_beside, held_behind, held_equal, held_permuted, held_same}
 use Rattle.sum_reduce.proofs.HeldTerms.{partner_held, put_held}
 use Rattle.sum_reduce.proofs.Names.{names_of_part}
 use Rattle.sum_reduce.proofs.Nests.{nest_of_part}
-use Rattle.sum_reduce.proofs.Places.{taken_permuted, inserted_permuted, count_inserted, nth_inserted, nth_behind_inserted, removed_inserted, nth_removed, nth_behind_removed, removed_two}
-use Rattle.sum_reduce.proofs.Rearranged.{of_lists, to_lists, tight_opened, others_permuted, unlike_permuted}
-use Rattle.sum_reduce.proofs.Rearranged.{none_permuted}
+use Rattle.like_children.proofs.Places.{count_inserted, inserted_permuted, nth_behind_inserted, nth_behind_removed, nth_inserted, nth_removed, removed_inserted, removed_two, taken_permuted}
+use Rattle.like_children.proofs.Permutations.{of_lists, to_lists}
+use Rattle.sum_reduce.proofs.Rearranged.{tight_opened, others_permuted, unlike_permuted}
+use Rattle.like_children.proofs.Permutations.{none_permuted}
 use Rattle.sum_reduce.proofs.Stages.{formed_permuted, stage_after, stage_permuted}
 use Rattle.sum_reduce.proofs.Widths.{widths_permuted, width_other, coefficient_width}
 use Rattle.calc_algebra.proofs.TermLaws.{Same-eq}
@@ -79,7 +80,9 @@ added_more ts c e p rest others u less a perm n same w = record {
   are = (n, same, a.are);
   some = omega arith;
   two = λ h. let l = a.some in omega (arith, l);
-  worth = Agree-Same (Agree-trans (Same-Agree w) (Agree-trans (Agree-append (Same-Agree a.worth) (Agree-refl (value (coefficient_of u)))) (append_comm (sum_of_coefficients a.like) (value (coefficient_of u)))));
+  worth =
+      Agree-Same (Agree-trans (Same-Agree w)
+      (Agree-trans (Agree-append (Same-Agree a.worth) (Agree-refl (value (coefficient_of u)))) (append_comm (sum_of_coefficients a.like) (value (coefficient_of u)))));
 }
 
 more_meanings : (c d e p u : Tree) (rest : Trees) → is_number c ≡ true → is_number d ≡ true → is_number e ≡ true → Same (value e) (value c ++ value d) → KeepsMeanings u (mult (more d (more p none)))

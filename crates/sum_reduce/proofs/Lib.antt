@@ -1,5 +1,4 @@
 pub mod Splits
-pub mod Places
 pub mod Names
 pub mod Nests
 pub mod Widths
@@ -29,7 +28,6 @@ pub mod SumBytes
 pub mod Rooms
 pub mod Held
 pub mod HeldFactors
-pub mod Addends
 pub mod HeldTerms
 pub mod PutsFit
 pub mod FewBits

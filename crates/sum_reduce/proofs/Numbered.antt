@@ -8,8 +8,8 @@ use Rattle.like_children.specs.Joining.{AreJoined, IsNextOf}
 use Rattle.like_children.specs.Numbers.{numbers_in, others_in, IsNextNumber, NoNumberBetween}
 use Rattle.sum_reduce.proofs.Held.{held_equal, few_after, few_of_both}
 use Rattle.sum_reduce.proofs.Opened.{number_tight}
-use Rattle.sum_reduce.proofs.Places.{taken_permuted}
-use Rattle.sum_reduce.proofs.Rearranged.{none_permuted}
+use Rattle.like_children.proofs.Places.{taken_permuted}
+use Rattle.like_children.proofs.Permutations.{none_permuted}
 use Rattle.sum_reduce.proofs.Stages.{formed_permuted, stage_after, stage_permuted, stage_same, stage_added}
 use Rattle.sum_reduce.proofs.Sums.{takes_rest}
 

@@ -2,7 +2,8 @@
 use Rattle.std.proofs.Common.{◌≡◌, sym, ap, ◌∙◌}
 use Rattle.sum_reduce.proofs.Shared.{none_number, is_number, part_of, NoneIs, RisesBy, Tree, Trees, none, more, append, permuted_trans, Permuted-sym, IsSorting, others_in, AreUnlike, IsWritten, terms_of_number, sum_tree}
 use Rattle.like_children.proofs.OneOrder.{rising_once}
-use Rattle.sum_reduce.proofs.Rearranged.{none_permuted, of_lists, unlike_permuted}
+use Rattle.like_children.proofs.Permutations.{none_permuted, of_lists}
+use Rattle.sum_reduce.proofs.Rearranged.{unlike_permuted}
 use Rattle.sum_reduce.proofs.Settled.{AreApart, rises_strictly}
 
 -- ---- rising strictly

@@ -22,7 +22,8 @@ key_value t n m r h e =
     let some = some_factors t m r h in
     let is : product_tree (trees_behind n (children_of t)) ≡ part_of t = ap (λ (k : ℕ). product_tree (trees_behind k (children_of t))) e ∙ ap product_tree (behind_coefficient (children_of t) (measured t m r) some) ∙ product_part t m in
     elim (zero_one_more n) [
-      | inl z ↦ ap (λ (b : Bool). cond b t (product_tree (trees_behind n (children_of t)))) (eq-eqb n 0 z) ∙ whole_product t m l.two ∙ ap (λ (k : ℕ). product_tree (trees_behind k (children_of t))) (sym z) ∙ is
+      | inl z ↦ ap (λ (b : Bool). cond b t (product_tree (trees_behind n (children_of t)))) (eq-eqb n 0 z) ∙ whole_product t m l.two
+          ∙ ap (λ (k : ℕ). product_tree (trees_behind k (children_of t))) (sym z) ∙ is
       | inr (inl o) ↦ ap (λ (b : Bool). cond b t (product_tree (trees_behind n (children_of t)))) (ne_eqb n 0 (λ z. absurd (omega (arith, z, o)))) ∙ is
       | inr (inr o) ↦ ap (λ (b : Bool). cond b t (product_tree (trees_behind n (children_of t)))) (ne_eqb n 0 o.0) ∙ is
     ]

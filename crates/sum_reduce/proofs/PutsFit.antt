@@ -5,7 +5,7 @@ use Rattle.calc_terms.specs.Rat.{value_of}
 use Rattle.surd_bits.proofs.ProductsFit.{coefficients_fit}
 use Rattle.number_forms.proofs.RationalBits.{rational_product_fits}
 use Rattle.rational128.specs.Refusals.{operation_of}
-use Rattle.sum_reduce.proofs.Addends.{IsSplit, split_sum, sum_addends, one_value, rational_value}
+use Rattle.like_children.proofs.Addends.{IsSplit, one_value, rational_value, split_sum, sum_addends}
 use Rattle.sum_reduce.proofs.Held.{first_held, few_after, held_left_out, held_same, held_beside}
 use Rattle.sum_reduce.proofs.HeldFactors.{held_distributed}
 use Rattle.tree_handles.specs.Causes.{IsCaused, Overflows}
@@ -37,7 +37,16 @@ addend_fits : (q c : Fraction) (xs zs : List Addend) → q ≢ zero_fraction →
 addend_fits q c [] zs z a b = absurd a
 addend_fits q c (x ∷ xs) zs z (inl (a, p)) b =
     coefficient_fits q c x.coefficient b.high b.low z p a (held_left (map (term_times (term q 1)) x.coefficient) [] b.high b.low (first_held b.held)) b.few
-addend_fits q c (x ∷ xs) zs z (inr a) b = grind (arith, addend_fits q c xs zs z a (few_after (held_beside (held_left_out (addend (surd_times (surd_of q) x.coefficient) x.factors)) (held_same (distributed (surd_of q) xs ++ zs))) b), few_after, held_beside, held_left_out, held_same)
+addend_fits q c (x ∷ xs) zs z (inr a) b =
+    grind (
+      arith,
+      addend_fits q c xs zs z a
+          (few_after (held_beside (held_left_out (addend (surd_times (surd_of q) x.coefficient) x.factors)) (held_same (distributed (surd_of q) xs ++ zs))) b),
+      few_after,
+      held_beside,
+      held_left_out,
+      held_same,
+    )
 
 -- ---- what leads a term is among its coefficients
 

@@ -5,11 +5,12 @@ use Rattle.calc_room.specs.Needs.{sum_need}
 use Rattle.coefficients.specs.Bytes.{bytes_of_taking, IsShort}
 use Rattle.node_pool.specs.declared.full.Full.{Full}
 use Rattle.sum_reduce.specs.Rooms.{terms_room}
-use Rattle.sum_reduce.proofs.CollectedCounts.{counted_in, collected_counts, put_counted}
+use Rattle.sum_reduce.proofs.CollectedCounts.{collected_counts}
+use Rattle.like_children.proofs.Counted.{counted_at_most, counted_in, put_counted}
 use Rattle.sum_reduce.proofs.CollectedParts.{part_parts}
 use Rattle.sum_reduce.proofs.CollectedSpans.{total_spans}
-use Rattle.sum_reduce.proofs.Places.{inserted_permuted, nth_behind_removed, taken_permuted}
-use Rattle.sum_reduce.proofs.Rearranged.{of_lists}
+use Rattle.like_children.proofs.Places.{inserted_permuted, nth_behind_removed, taken_permuted}
+use Rattle.like_children.proofs.Permutations.{of_lists}
 use Rattle.tree_room.specs.Needs.{tree_bytes, sum_room}
 use Rattle.tree_room.proofs.Coefficients.{part_counts}
 use Rattle.tree_room.proofs.Counts.{all_appended, counts_one, number_counts_one, numbers_and_others}
@@ -46,7 +47,7 @@ put_counts c p rest ts less j = by (is_number (with_coefficient c p)) refl
     by true e = omega (arith, number_counts_one (with_coefficient c p) e, counts_one p)
     by false e =
         let same : counted_in (with_coefficient c p) ≡ counted (with_coefficient c p) = ap (λ (b : Bool). if b then 0 else counted (with_coefficient c p)) e in
-        omega (arith, same, put_counted c p (number_words c j.number) j.monic)
+        omega (arith, same, counted_at_most (with_coefficient c p), put_counted c p (number_words c j.number) (λ e. j.monic))
 
 pub joined_counts : (ts : Trees) (c p : Tree) (rest vs : Trees) (less at : ℕ) → IsJoining ts c p rest less → vs ≡ inserted at (more (with_coefficient c p) none) rest
     → counted_in_all vs ≤ counted_in_all ts

@@ -66,6 +66,7 @@ pub use Rattle.std.specs.declared.cmp.Ordering.{Ordering}
 pub use Rattle.std.specs.declared.cmp.Ordering.TheVariants.{Equal, Greater, Less}
 pub use Rattle.sum_reduce.specs.Arranging.{AnswersFold, IsArranged, IsFolded, IsLead, IsLed, IsNumbered, IsSettled}
 pub use Rattle.sum_reduce.specs.Bits.{HaveFewBits, KeepsHeld}
+pub use Rattle.sum_reduce.specs.Bounds.{KeepsSumBounds}
 pub use Rattle.sum_reduce.specs.Collected.{AreLike, AreUnlike, Collects, IsTotalNumber, IsWritten, IsWrittenSum, collects_like, collects_numbers, collects_opened, collects_ordered, collects_then, numbers_in, others_in, sum_of_coefficients, sum_of_values}
 pub use Rattle.sum_reduce.specs.Joining.{IsAdded, IsJoining}
 pub use Rattle.sum_reduce.specs.Overflows.{NamesSum, Overflows, hinders_like, hinders_numbers, hinders_part}
@@ -79,7 +80,7 @@ pub use Rattle.tree_bits.specs.Children.{IsSumHeld, addends_of_each}
 pub use Rattle.tree_bits.specs.Exponents.{Counts, added, are_counted, counts, counts_of, counts_of_all, is_counted}
 pub use Rattle.tree_bits.specs.Factors.{distributed}
 pub use Rattle.tree_bits.specs.HeldTrees.{Addend, AreWeighted, IsPartHeld, IsTreeHeld, addend, addend_of, addends, addends_of, factor_held, more_weighted, no_factor_held, none_weighted, power_high, power_low, sum_held, tree_held}
-pub use Rattle.tree_bits.specs.Powers.{IsWithin}
+pub use Rattle.tree_bits.specs.Powers.{IsCountedWithin, IsWithin}
 pub use Rattle.tree_bits.specs.Rows.{AreFewBits}
 pub use Rattle.tree_bits.specs.Weighted.{AreHeld, PartsAll, Weighted, lows, weighted, weighted_mass}
 pub use Rattle.tree_handles.proofs.Forests.{arity-tree_nth, keeps_after, keeps_none}

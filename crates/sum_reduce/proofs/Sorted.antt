@@ -2,9 +2,9 @@
 use Rattle.std.specs.Prelude.{IsSortedByKey}
 use Rattle.std.proofs.Common.{ℕ, zero, suc, ◌<◌, ◌≤◌, arith, ◌≡◌, List, [], ◌∷◌, take, drop, Bool, true, false, refl, sym, ap, ◌∙◌, subst}
 use Rattle.sum_reduce.proofs.Shared.{is_number, part_of, NoneIs, tree_cmp, Tree, Trees, none, more, append, count, Permuted, Permuted-append_right, permuted_trees, trees_of, list_of, IsSorting, SortsChildren, nth, plains, Forest, kids, root_tree, IsLead, IsLed, IsArranged, terms_in, IsSum, is_loose}
-use Rattle.sum_reduce.proofs.Rearranged.{none_permuted, same_trees}
+use Rattle.like_children.proofs.Permutations.{none_permuted, same_trees}
 use Rattle.sum_reduce.proofs.Sums.{sum_over, changed, IsChanged}
-use Rattle.sum_reduce.proofs.Addends.{last_none}
+use Rattle.like_children.proofs.Addends.{last_none}
 pub use Rattle.sum_reduce.proofs.Joins.{formed_reduced as formed_nth}
 
 -- ---- terms by their places
@@ -62,7 +62,8 @@ ordered : (lead os us : Trees) → IsLead lead → NoneIs is_number os → NoneI
 ordered lead os us l n s h =
     let behind = trees_of (drop (count lead) (list_of us)) in
     let split : us ≡ append lead behind =
-    sym (same_trees us) ∙ trees_split (count lead) (list_of us) ∙ ap (λ (x : List Tree). append (trees_of x) behind) (h.front ∙ take_lead lead os) ∙ ap (λ (x : Trees). append x behind) (same_trees lead) in
+    sym (same_trees us) ∙ trees_split (count lead) (list_of us) ∙ ap (λ (x : List Tree). append (trees_of x) behind) (h.front ∙ take_lead lead os)
+    ∙ ap (λ (x : Trees). append x behind) (same_trees lead) in
     let there : Permuted os behind = subst (λ (x : Trees). Permuted x behind) (ap trees_of (drop_lead lead os) ∙ same_trees os) (permuted_trees (drop (count lead) (list_of (append lead os))) (drop (count lead) (list_of us)) h.moved) in
     record {
       permuted = subst (Permuted (append lead os)) (sym split) (Permuted-append_right lead there);
@@ -95,7 +96,10 @@ children_sorted {i = i} {f = f} s h e l x =
     record {
       us = plains x.children;
       changed = changed s (record { once = x.once; whole = x.expressions; plain_trees = refl }) x.whole;
-      ordered = led_ordered (terms_in i f) (plains x.children) h l (subst (λ (ts : Trees). IsSorting (count h.lead) part_of ts (plains x.children)) same (subst (λ (m : ℕ). IsSorting m part_of (plains (kids (root_tree i f))) (plains x.children)) e x.sorted));
+      ordered =
+          led_ordered (terms_in i f) (plains x.children) h l
+          (subst (λ (ts : Trees). IsSorting (count h.lead) part_of ts (plains x.children)) same
+          (subst (λ (m : ℕ). IsSorting m part_of (plains (kids (root_tree i f))) (plains x.children)) e x.sorted));
     }
 
 few_append : (lead os : Trees) → count lead ≤ count (append lead os)

@@ -4,7 +4,8 @@ use Rattle.sum_reduce.proofs.Shared.{HasForm, permuted_parts, and_parts, and_fro
 use Rattle.sum_reduce.proofs.Held.{held_after, held_permuted}
 use Rattle.sum_reduce.proofs.HeldTerms.{opened_held, added_held}
 use Rattle.sum_reduce.proofs.Opened.{opened_keeps, names_opened, nest_opened, widths_opened, opened_formed, opened_some, opened_numbers, opened_tight}
-use Rattle.sum_reduce.proofs.Rearranged.{to_lists, tight_opened, unlike_after, rearranged_permuted, rearranged_opened, rearranged_after, rearranged_added, count_permuted}
+use Rattle.like_children.proofs.Permutations.{count_permuted, to_lists}
+use Rattle.sum_reduce.proofs.Rearranged.{tight_opened, unlike_after, rearranged_permuted, rearranged_opened, rearranged_after, rearranged_added}
 use Rattle.sum_reduce.proofs.Widths.{widths_permuted, width_number}
 
 -- ---- the same terms in another order

@@ -47,7 +47,8 @@ root_within n h l = omega (arith, represents_count (sum_over h).kids)
 pub sum_once : {s : State} {i : ℕ} (n : ℕ) → Stands s → IsSum i (forest s) → n < count (terms_in i (forest s)) → root_count (tree_nth n (kids_of i (forest s))) ≡ 1
 sum_once {s = s} {i = i} n st h l =
     subst (λ (k : Forest). root_count (tree_nth n k) ≡ 1) (sym (kids_of_root i st h.handed.root))
-    (once_count (tree_nth n (kids (root_tree i (forest s)))) (arity-tree_nth n (kids (root_tree i (forest s))) (root_within n h l)) (all-tree_nth IsOnce n (kids (root_tree i (forest s))) (sum_over h).kids.once))
+    (once_count (tree_nth n (kids (root_tree i (forest s)))) (arity-tree_nth n (kids (root_tree i (forest s))) (root_within n h l))
+    (all-tree_nth IsOnce n (kids (root_tree i (forest s))) (sum_over h).kids.once))
 
 -- ---- its terms change
 

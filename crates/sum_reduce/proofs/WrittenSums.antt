@@ -1,6 +1,7 @@
 -- A Number's terms and other terms whose parts rise are a reduced sum, with the meanings, the names and the nest of its parts.
-use Rattle.std.proofs.Common.{◌≡◌, inl, inr, ◌≤◌, true, if◌then◌else◌, refl, sym, ap, ◌∙◌, arith}
-use Rattle.sum_reduce.proofs.Shared.{zero_fraction, nest, nest_of, is_number, terms_of, IsNumber, IsTerm, AreTerms, Rises, part_of, number_terms, other_terms, HasForm, NoneIs, RisesBy, Tree, num, add, Trees, none, more, append, names, names_of, AllParts, AllPartsOf, HasTwo, is_add, KeepsMeanings, KeepsMeanings-eq, KeepsMeanings-trans, flat_sum, zero_goes, empty_sum, single_sum, zero_test, number_words, AsNumber, as_number, term_test, no_term, AllPartsOf-append, terms_parts, terms_of_number, sum_tree, Within, within_same, within_both, within_beside, within_trans, within_left, within_eq, names_of-append, nest-append}
+use Rattle.std.proofs.Common.{◌≡◌, inl, inr, ◌≤◌, true, if◌then◌else◌, sym, ap, ◌∙◌, arith}
+use Rattle.like_children.proofs.Addends.{number_terms-terms, other_terms-terms}
+use Rattle.sum_reduce.proofs.Shared.{zero_fraction, nest, nest_of, is_number, terms_of, IsNumber, IsTerm, AreTerms, Rises, part_of, HasForm, NoneIs, RisesBy, Tree, num, add, Trees, none, more, append, names, names_of, AllParts, AllPartsOf, HasTwo, is_add, KeepsMeanings, KeepsMeanings-eq, KeepsMeanings-trans, flat_sum, zero_goes, empty_sum, single_sum, zero_test, number_words, AsNumber, as_number, AllPartsOf-append, terms_parts, terms_of_number, sum_tree, Within, within_same, within_both, within_beside, within_trans, within_left, within_eq, names_of-append, nest-append}
 use Rattle.tree_bits.proofs.ExponentBits.{nothing_is}
 use Rattle.sum_reduce.proofs.Opened.{NoneIs-append}
 
@@ -24,19 +25,6 @@ pub term_in : (a : Tree) → IsTerm a → terms_of_number a ≡ more a none
 term_in a h = grind (arith, zero_test)
 
 -- ---- which terms make the Number
-
-pub number_terms-terms : (ts us : Trees) → AreTerms ts → NoneIs is_number us → number_terms (append ts us) ≡ ts
-number_terms-terms none none h k = refl
-number_terms-terms none (more u us) h k = ap (λ b. if b then more u (number_terms us) else none) (no_term u k.0)
-number_terms-terms (more t ts) us h k = ap (λ b. if b then more t (number_terms (append ts us)) else none) (term_test t h.0) ∙ ap (more t) (number_terms-terms ts us h.1 k)
-
-other_terms-none : (us : Trees) → NoneIs is_number us → other_terms us ≡ us
-other_terms-none none k = refl
-other_terms-none (more u us) k = ap (λ b. if b then other_terms us else more u us) (no_term u k.0)
-
-pub other_terms-terms : (ts us : Trees) → AreTerms ts → NoneIs is_number us → other_terms (append ts us) ≡ us
-other_terms-terms none us h k = other_terms-none us k
-other_terms-terms (more t ts) us h k = ap (λ b. if b then other_terms (append ts us) else more t (append ts us)) (term_test t h.0) ∙ other_terms-terms ts us h.1 k
 
 no_sum_terms : (ts : Trees) → AreTerms ts → NoneIs is_add ts
 no_sum_terms none h = tt
@@ -96,7 +84,8 @@ number_terms_nest a = grind arith
 
 pub written_names : (a : Tree) (us : Trees) → Within (names_of (more a us)) (names (written_sum a us))
 written_names a us =
-    within_trans (within_trans (within_beside (names a) (names_of (terms_of_number a)) (names_of us) (names_of us) (number_terms_names a) (within_same (names_of us))) (within_eq (names_of-append (terms_of_number a) us))) (tree_names (append (terms_of_number a) us))
+    within_trans (within_trans (within_beside (names a) (names_of (terms_of_number a)) (names_of us) (names_of us) (number_terms_names a) (within_same (names_of us)))
+    (within_eq (names_of-append (terms_of_number a) us))) (tree_names (append (terms_of_number a) us))
 
 pub written_nest : (a : Tree) (us : Trees) → nest (written_sum a us) ≤ nest_of (more a us)
 written_nest a us = omega (arith, tree_nest (append (terms_of_number a) us), nest-append (terms_of_number a) us, number_terms_nest a)

@@ -8,3 +8,4 @@ pub mod Arranging
 pub mod Joining
 pub mod Rooms
 pub mod Bits
+pub mod Bounds

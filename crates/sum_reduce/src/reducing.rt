@@ -3,21 +3,17 @@ ghost use Rattle.std.specs.Prelude.{ℕ, List, length, ◌+◌, ◌*◌, ◌^◌
 ghost use Rattle.tree_bits.specs.Rows.{AreFewBits};
 ghost use Rattle.calc_algebra.specs.Reduced.{are_reduced};
 ghost use Rattle.calc_measures.specs.PlainValues.{plain_value};
-ghost use Rattle.calc_room.specs.Counts.{counted, counted_among};
-ghost use Rattle.calc_room.specs.Powers.{HasPowersOf};
 ghost use Rattle.calc_room.specs.Spans.{SpansTree};
 ghost use Rattle.calc_terms.specs.Trees.{count, is_add, are_rationals, has_undef, size};
 ghost use Rattle.node_pool.specs.State.{free_of};
 ghost use Rattle.number_forms.specs.Answers.{AnswersRationals};
 ghost use Rattle.tree_handles.specs.Lacking.{LacksBelow};
+ghost use Rattle.sum_reduce.specs.Bounds.{KeepsSumBounds};
 ghost use Rattle.sum_reduce.specs.Collected.{others_in, AreUnlike, IsWrittenSum};
 ghost use Rattle.sum_reduce.specs.Overflows.{Overflows};
 ghost use Rattle.sum_reduce.specs.SumAnswers.{IsSumAnswer, IsCollected};
 ghost use Rattle.sum_reduce.specs.Terms.{opened};
 ghost use Rattle.tree_bits.specs.Children.{IsSumHeld, addends_of_each};
-ghost use Rattle.tree_bits.specs.Exponents.{is_counted, are_counted, counts_of, counts_of_all};
-ghost use Rattle.tree_bits.specs.HeldTrees.{IsTreeHeld};
-ghost use Rattle.tree_bits.specs.Powers.{IsWithin};
 ghost use Rattle.tree_handles.specs.Causes.{IsCaused};
 ghost use Rattle.tree_handles.specs.Expressions.{children_of};
 ghost use Rattle.tree_handles.specs.Faults.{Faults, OfOverflow};
@@ -65,19 +61,13 @@ pub fn reduce_sum(pool: &mut Pool, sum: Handle) -> Result<Handle, NumberFault>
         (gs : List ℕ) → SpansTree gs (tree_of sum pool.old)
         → IfErr result (LacksBelow (sum_room (sum_count ts) (2 ^ length gs)) (free_of pool.old + size (tree_of sum pool.old))) }
 
-    // The answer counts 1 more at most than the terms that are no Numbers, has no new powers, and is spanned by what spans the sum.
-    ensures counted { IfOk result (λ h. counted (tree_of h pool.new) ≤ 1 + counted_among (children_of (tree_of sum pool.old))) }
-    ensures powers { IfOk result (λ h. HasPowersOf (children_of (tree_of sum pool.old)) (tree_of h pool.new)) }
-    ensures spanned { (gs : List ℕ) → SpansTree gs (tree_of sum pool.old) → IfOk result (λ h. SpansTree gs (tree_of h pool.new)) }
+    // The answer counts 1 more at most than the terms that are no Numbers, has no new powers, is spanned by what spans the sum, and
+    // held by what holds the sum of the terms. A sum of exponents counts a base no more often than they do together.
+    ensures bounds { IfOk result (λ h. KeepsSumBounds (children_of (tree_of sum pool.old)) (tree_of h pool.new)) }
 
-    // What holds the sum of the terms holds the answer, and nothing overflows where these are few bits. A sum of exponents counts a
-    // base no more often than they do together.
-    ensures held { let ts = children_of (tree_of sum pool.old) in
-        (h l : ℕ) → has_undef ts ≡ false → IsSumHeld (addends_of_each ts) h l → IfOk result (λ t. IsTreeHeld (tree_of t pool.new) h l) }
+    // Where what holds the sum of the terms are few bits, nothing overflows.
     ensures bits { let ts = children_of (tree_of sum pool.old) in
         (h l : ℕ) → IsSumHeld (addends_of_each ts) h l → AreFewBits h l → IfErr result (OfOverflow (λ o. ⊥)) }
-    ensures exponents { let ts = children_of (tree_of sum pool.old) in
-        are_counted ts ≡ true → IfOk result (λ t. (is_counted (tree_of t pool.new) ≡ true) × IsWithin (counts_of (tree_of t pool.new)) (counts_of_all ts)) }
 
     ensures stands { Stands pool.new }
 {

@@ -12,9 +12,11 @@ use Rattle.sum_reduce.proofs.arranging.arrange.Goals as goal
 
 pub returns-in_err-join_numbers-clause-rationals : goal.returns-in_err-join_numbers-clause-rationals
 returns-in_err-join_numbers-clause-rationals c =
-    λ q. passed_result c.from_residual.result c.in_err-join_numbers.field-0.0 (AnswersFold (plain_value (add (terms_in c.args.sum.now (forest c.args.pool.now)))) (terms_in c.args.sum.now (forest c.join_numbers.new.pool)))
+    λ q. passed_result c.from_residual.result c.in_err-join_numbers.field-0.0
+    (AnswersFold (plain_value (add (terms_in c.args.sum.now (forest c.args.pool.now)))) (terms_in c.args.sum.now (forest c.join_numbers.new.pool)))
     c.from_residual.ensures.0 c.from_residual.ensures.1
-    (rationals_faulted (terms_in c.args.sum.now (forest c.args.pool.now)) (terms_in c.args.sum.now (forest c.open_sums.new.pool)) (terms_in c.args.sum.now (forest c.join_numbers.new.pool)) (terms_in c.args.sum.now (forest c.join_numbers.new.pool)) _ q c.open_sums.ensures.opened c.in_err-join_numbers.ensures.rationals)
+    (rationals_faulted (terms_in c.args.sum.now (forest c.args.pool.now)) (terms_in c.args.sum.now (forest c.open_sums.new.pool)) (terms_in c.args.sum.now (forest c.join_numbers.new.pool))
+    (terms_in c.args.sum.now (forest c.join_numbers.new.pool)) _ q c.open_sums.ensures.opened c.in_err-join_numbers.ensures.rationals)
 
 pub returns-in_err-join_numbers-clause-front : goal.returns-in_err-join_numbers-clause-front
 returns-in_err-join_numbers-clause-front c = front_after_one behind_first (changes_front c.open_sums.ensures.changes) c.join_numbers.ensures.front
@@ -25,7 +27,8 @@ returns-clause-stage c =
 
 pub returns-clause-rationals : goal.returns-clause-rationals
 returns-clause-rationals c =
-    λ q. rationals_ordered (terms_in c.args.sum.now (forest c.args.pool.now)) (terms_in c.args.sum.now (forest c.open_sums.new.pool)) (terms_in c.args.sum.now (forest c.join_numbers.new.pool)) _ q c.open_sums.ensures.opened
+    λ q. rationals_ordered (terms_in c.args.sum.now (forest c.args.pool.now)) (terms_in c.args.sum.now (forest c.open_sums.new.pool))
+    (terms_in c.args.sum.now (forest c.join_numbers.new.pool)) _ q c.open_sums.ensures.opened
     c.in_ok-join_numbers.ensures.rationals c.sort_terms.ensures.alone
 
 pub returns-clause-front : goal.returns-clause-front
@@ -33,7 +36,8 @@ returns-clause-front c = changes_front (changes_after (changes_after c.open_sums
 
 pub returns-in_err-join_numbers-clause-overflow : goal.returns-in_err-join_numbers-clause-overflow
 returns-in_err-join_numbers-clause-overflow c =
-    passed_named c.from_residual.result c.in_err-join_numbers.field-0.0 _ (Overflows (terms_in c.args.sum.now (forest c.args.pool.now))) c.from_residual.ensures.1 c.in_err-join_numbers.ensures.overflow
+    passed_named c.from_residual.result c.in_err-join_numbers.field-0.0 _
+    (Overflows (terms_in c.args.sum.now (forest c.args.pool.now))) c.from_residual.ensures.1 c.in_err-join_numbers.ensures.overflow
     (λ x h. overflows_after collects_opened x (overflows_as c.open_sums.ensures.opened x h))
 
 pub returns-in_err-join_numbers-clause-room : goal.returns-in_err-join_numbers-clause-room

@@ -16,8 +16,10 @@ sort_children-requires-clause-keyed c =
     let ts = terms_in c.args.sum.now (forest c.args.pool.now) in
     let e = (sum_over c.requires.sum).kids.plain_trees in
     λ n z l.
-    let m = subst (λ (x : Trees). n < count x) e l in
-    (ap (λ (x : Trees). is_reduced (nth n x)) e ∙ formed_nth n ts m c.requires.formed, ap (λ (x : Trees). is_number (nth n x)) e ∙ led_behind ts c.requires.led n (omega (arith, c.lead_count-lead.ensures c.requires.led, z)) m)
+    let m = subst (λ (x : Trees). n < count x) e l in (
+      ap (λ (x : Trees). is_reduced (nth n x)) e ∙ formed_nth n ts m c.requires.formed,
+      ap (λ (x : Trees). is_number (nth n x)) e ∙ led_behind ts c.requires.led n (omega (arith, c.lead_count-lead.ensures c.requires.led, z)) m,
+    )
 
 pub returns-clause-changes : goal.returns-clause-changes
 returns-clause-changes c = (children_sorted c.requires.sum c.requires.led (c.lead_count-lead.ensures c.requires.led) c.requires.flat c.sort_children.ensures.sorts).changed.changes

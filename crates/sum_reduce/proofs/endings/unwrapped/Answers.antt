@@ -15,4 +15,5 @@ release-requires-clause-releasable c =
 pub returns-then-term_count-eq1-clause-tree : goal.returns-then-term_count-eq1-clause-tree
 returns-then-term_count-eq1-clause-tree c =
     let o = term_out 0 c.requires.sum (omega (arith, c.requires.some)) (c.take_child-only.ensures.last c.requires.sum.handed.root) in
-    only_left o.takes (c.release.ensures.owned (owned o.takes.sum.handed)) (o.tree ∙ only_term (terms_in c.args.sum (forest c.args.pool.now)) (omega (arith, c.if-term_count-eq1.true, c.term_count.ensures)))
+    only_left o.takes (c.release.ensures.owned (owned o.takes.sum.handed))
+    (o.tree ∙ only_term (terms_in c.args.sum (forest c.args.pool.now)) (omega (arith, c.if-term_count-eq1.true, c.term_count.ensures)))

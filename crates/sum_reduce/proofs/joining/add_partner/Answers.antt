@@ -33,7 +33,9 @@ add_numbers-requires c =
       second = takes_handed r.takes;
       apart = eqb-sym c.in_ok-coefficient.coefficient c.args.so_far (other_clear c.requires.apart c.requires.handed r.takes);
       first_number = ap is_number (other_same c.requires.apart c.requires.handed r.takes) ∙ c.requires.so_far;
-      second_number = ap is_number (given_told c.in_ok-coefficient.ensures.ok ∙ ap coefficient_of o.tree) ∙ number_test (coefficient_of t) (taken t c.requires.reduced c.requires.defined c.requires.no_number).number;
+      second_number =
+          ap is_number (given_told c.in_ok-coefficient.ensures.ok ∙ ap coefficient_of o.tree)
+          ∙ number_test (coefficient_of t) (taken t c.requires.reduced c.requires.defined c.requires.no_number).number;
     }
 
 pub returns-clause-ok : goal.returns-clause-ok
@@ -95,7 +97,9 @@ returns-clause-room c = λ gs s t.
     let kept = keeps_after _ _ _ c.take_child-term.ensures.kept c.in_ok-coefficient.ensures.kept in
     let free = takes_free c.requires.stands c.in_ok-coefficient.ensures.stands kept r.takes in
     let before = other_same c.requires.apart c.requires.handed r.takes in
-    result_lacks c.add_numbers.result _ _ (c.add_numbers.ensures.room gs (subst (SpansTree gs) (sym before) s) (subst (SpansTree gs) (sym same) (coefficient_parts (SpansRoot gs) (λ q. tt) (λ vs. tt) (λ vs. tt) (nth c.args.at ts) t)))
+    result_lacks c.add_numbers.result _ _
+    (c.add_numbers.ensures.room gs (subst (SpansTree gs) (sym before) s)
+    (subst (SpansTree gs) (sym same) (coefficient_parts (SpansRoot gs) (λ q. tt) (λ vs. tt) (λ vs. tt) (nth c.args.at ts) t)))
     (λ f l. omega (arith, l, free, ap size before, ap sizes (r.terms ∙ o.terms), sizes_taken c.args.at ts c.requires.within))
 
 pub returns-clause-bits : goal.returns-clause-bits

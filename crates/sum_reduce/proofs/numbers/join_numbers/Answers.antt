@@ -4,7 +4,7 @@ use Rattle.sum_reduce.proofs.Sorted.{formed_nth}
 use Rattle.sum_reduce.proofs.Numbered.{gathered, next_hinders, next_fits, numbered, unnumbered, formed_behind, led_folded, rationals_taken, total_folded, total_faulted}
 use Rattle.sum_reduce.proofs.Sums.{taken_given, taken_on, sum_beside, takes_apart, changes_same, changes_front, sum_within, term_out, takes_front, takes_behind, put_in, roots_apart}
 use Rattle.sum_reduce.proofs.Hindered.{overflows_after, overflows_as, taken_first}
-use Rattle.sum_reduce.proofs.Places.{taken_permuted}
+use Rattle.like_children.proofs.Places.{taken_permuted}
 use Rattle.sum_reduce.proofs.SumBytes.{out_free}
 use Rattle.sum_reduce.proofs.Held.{few_after, held_permuted}
 use Rattle.sum_reduce.proofs.numbers.join_numbers.Goals as goal
@@ -51,7 +51,8 @@ returns-in_ok-total-in-Some-clause-joined c =
     let ts = terms_in c.args.sum.now (forest c.args.pool.now) in
     let formed = formed_behind c.in-Some.at ts _ c.in-Some.ensures.within c.requires.formed o.terms in
     let all = gathered _ _ (terms_in c.args.sum.now (forest c.take_child-number.new.pool)) (ap is_number o.tree ∙ c.in-Some.ensures.number) formed c.in_ok-total-in-Some.ensures.number c.in_ok-total-in-Some.ensures.joined in
-    numbered c.in-Some.at ts _ _ _ _ _ c.in-Some.ensures c.requires.formed c.requires.some o.terms o.tree all (x.terms ∙ ap (more (tree_of c.in_ok-total-in-Some.total c.collect_numbers.new.pool)) (taken_on o.takes c.in_ok-total-in-Some.ensures.ok).terms)
+    numbered c.in-Some.at ts _ _ _ _ _ c.in-Some.ensures c.requires.formed c.requires.some o.terms o.tree all
+    (x.terms ∙ ap (more (tree_of c.in_ok-total-in-Some.total c.collect_numbers.new.pool)) (taken_on o.takes c.in_ok-total-in-Some.ensures.ok).terms)
 
 pub returns-in_ok-total-in-Some-clause-rationals : goal.returns-in_ok-total-in-Some-clause-rationals
 returns-in_ok-total-in-Some-clause-rationals c =
@@ -75,8 +76,10 @@ returns-in_err-total-in-Some-clause-rationals c =
     λ q.
     let o = term_out c.in-Some.at c.requires.sum c.in-Some.ensures.within (c.take_child-number.ensures.last c.requires.sum.handed.root) in
     let r = rationals_taken c.in-Some.at (terms_in c.args.sum.now (forest c.args.pool.now)) _ _ c.in-Some.ensures q o.terms o.tree in
-    passed_result c.from_residual.result c.in_err-total-in-Some.field-0.0 (AnswersFold (plain_value (add (terms_in c.args.sum.now (forest c.args.pool.now)))) (terms_in c.args.sum.now (forest c.collect_numbers.new.pool)))
-    c.from_residual.ensures.0 c.from_residual.ensures.1 (total_faulted _ _ c.collect_numbers.new.pool (terms_in c.args.sum.now (forest c.collect_numbers.new.pool)) _ r.plain (c.in_err-total-in-Some.ensures.rationals r.first r.others))
+    passed_result c.from_residual.result c.in_err-total-in-Some.field-0.0
+    (AnswersFold (plain_value (add (terms_in c.args.sum.now (forest c.args.pool.now)))) (terms_in c.args.sum.now (forest c.collect_numbers.new.pool)))
+    c.from_residual.ensures.0 c.from_residual.ensures.1
+    (total_faulted _ _ c.collect_numbers.new.pool (terms_in c.args.sum.now (forest c.collect_numbers.new.pool)) _ r.plain (c.in_err-total-in-Some.ensures.rationals r.first r.others))
 
 pub returns-in_err-total-in-Some-clause-front : goal.returns-in_err-total-in-Some-clause-front
 returns-in_err-total-in-Some-clause-front c =
@@ -124,4 +127,5 @@ returns-in_err-total-in-Some-clause-bits c = λ b.
     let first = few_after (held_permuted (taken_permuted c.in-Some.at ts c.in-Some.ensures.within)) b in
     let formed = formed_behind c.in-Some.at ts _ c.in-Some.ensures.within c.requires.formed o.terms in
     passed_named c.from_residual.result c.in_err-total-in-Some.field-0.0 (λ o. ⊥) (λ o. ⊥) c.from_residual.ensures.1
-    (c.in_err-total-in-Some.ensures.bits (next_fits _ _ (ap is_number o.tree ∙ c.in-Some.ensures.number) formed (subst HaveFewBits (λ i. addends_of_each (more (sym o.tree i) (sym o.terms i))) first))) (λ x h. h)
+    (c.in_err-total-in-Some.ensures.bits
+    (next_fits _ _ (ap is_number o.tree ∙ c.in-Some.ensures.number) formed (subst HaveFewBits (λ i. addends_of_each (more (sym o.tree i) (sym o.terms i))) first))) (λ x h. h)

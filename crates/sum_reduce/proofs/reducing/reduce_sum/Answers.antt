@@ -1,5 +1,5 @@
-use Rattle.std.proofs.Common.{◌≡◌, true, ◌∙◌, sym, subst, refl, ap, arith, ◌^◌, length}
-use Rattle.sum_reduce.proofs.Shared.{tree_of, forest, gives_as, given_told, IsWrittenSum, IsSumAnswer, IsCollected, terms_in, counted, HasPowersOf, SpansTree, size, Tree, passed_lacks, sum_whole, IsTreeHeld, is_counted, counts_of, counts_of_all, IsWithin}
+use Rattle.std.proofs.Common.{◌∙◌, sym, subst, refl, ap, arith, ◌^◌, length}
+use Rattle.sum_reduce.proofs.Shared.{tree_of, forest, gives_as, given_told, IsWrittenSum, IsSumAnswer, IsCollected, terms_in, size, passed_lacks, sum_whole, counts_of_all, KeepsSumBounds}
 use Rattle.sum_reduce.proofs.Collected.{settled_collected, settled_written}
 use Rattle.sum_reduce.proofs.Rationals.{rationals_answer}
 use Rattle.sum_reduce.proofs.Settled.{reduced_formed, undef_answer, settled_answer}
@@ -10,35 +10,9 @@ use Rattle.sum_reduce.proofs.CollectedSpans.{spans_collected, spans_written, spa
 use Rattle.sum_reduce.proofs.Rooms.{sum_lacks}
 use Rattle.sum_reduce.proofs.Held.{holds}
 use Rattle.sum_reduce.proofs.HeldTerms.{tree_held}
-use Rattle.sum_reduce.proofs.CollectedExponents.{counted_defined, exponents_collected, written_counts}
+use Rattle.sum_reduce.proofs.CollectedExponents.{exponents_collected, written_counts, undef_bounds}
 use Rattle.sum_reduce.proofs.reducing.reduce_sum.Goals as goal
 use Rattle.std.proofs.lemmas.Bool.{false≢true}
-
-pub returns-then-has_undef_term-clause-counted : goal.returns-then-has_undef_term-clause-counted
-returns-then-has_undef_term-clause-counted c = omega (arith, ap counted (given_told c.undefined.ensures.gives))
-
-pub returns-then-has_undef_term-clause-powers : goal.returns-then-has_undef_term-clause-powers
-returns-then-has_undef_term-clause-powers c = subst (HasPowersOf (terms_in c.args.sum (forest c.args.pool.now))) (sym (given_told c.undefined.ensures.gives)) tt
-
-pub returns-then-has_undef_term-clause-spanned : goal.returns-then-has_undef_term-clause-spanned
-returns-then-has_undef_term-clause-spanned c = λ gs s. subst (SpansTree gs) (sym (given_told c.undefined.ensures.gives)) tt
-
-pub returns-clause-counted : goal.returns-clause-counted
-returns-clause-counted c =
-    let ts = terms_in c.args.sum (forest c.args.pool.now) in
-    let us = terms_in c.args.sum (forest c.settle.new.pool) in
-    let formed = reduced_formed ts c.requires.reduced (sym c.has_undef_term.ensures ∙ c.if-has_undef_term.false) in
-    omega (arith, ap counted (given_told c.written.ensures.tree), written_counted us, collected_counts c.in_ok-settle.ensures.stage.collects formed)
-
-pub returns-clause-powers : goal.returns-clause-powers
-returns-clause-powers c =
-    subst (HasPowersOf (terms_in c.args.sum (forest c.args.pool.now))) (sym (given_told c.written.ensures.tree)) (collected_powers _ _ c.in_ok-settle.ensures.stage.collects)
-
-pub returns-clause-spanned : goal.returns-clause-spanned
-returns-clause-spanned c = λ gs s.
-    let us = terms_in c.args.sum (forest c.settle.new.pool) in
-    subst (SpansTree gs) (sym (given_told c.written.ensures.tree))
-    (spans_written gs us (spans_collected gs _ us c.in_ok-settle.ensures.stage.collects (spans_terms gs (tree_of c.args.sum c.args.pool.now) c.requires.sum s)))
 
 pub returns-then-has_undef_term-clause-ok : goal.returns-then-has_undef_term-clause-ok
 returns-then-has_undef_term-clause-ok c =
@@ -82,22 +56,22 @@ returns-in_err-settle-clause-room c = λ gs s.
     passed_lacks c.from_residual.result c.in_err-settle.field-0.0 _ _ c.from_residual.ensures.1 (c.in_err-settle.ensures.room gs (spans_terms gs t c.requires.sum s))
     (λ full l. sum_lacks ts _ (2 ^ length gs) (omega (arith, l, ap size (sum_whole t c.requires.sum))))
 
-pub returns-clause-held : goal.returns-clause-held
-returns-clause-held c = λ h l d k.
-    let s = c.in_ok-settle.ensures in
-    subst (λ (t : Tree). IsTreeHeld t h l) (sym (given_told c.written.ensures.tree)) (tree_held s.settled.arranged s.stage.some (holds s.stage.held k))
+pub returns-then-has_undef_term-clause-bounds : goal.returns-then-has_undef_term-clause-bounds
+returns-then-has_undef_term-clause-bounds c =
+    undef_bounds (terms_in c.args.sum (forest c.args.pool.now)) _ (sym c.has_undef_term.ensures ∙ c.if-has_undef_term.true) (given_told c.undefined.ensures.gives)
 
-pub returns-then-has_undef_term-clause-held : goal.returns-then-has_undef_term-clause-held
-returns-then-has_undef_term-clause-held c = λ h l d k. absurd (false≢true (sym d ∙ sym c.has_undef_term.ensures ∙ c.if-has_undef_term.true))
-
-pub returns-clause-exponents : goal.returns-clause-exponents
-returns-clause-exponents c = λ h.
+pub returns-clause-bounds : goal.returns-clause-bounds
+returns-clause-bounds c =
     let ts = terms_in c.args.sum (forest c.args.pool.now) in
     let us = terms_in c.args.sum (forest c.settle.new.pool) in
+    let s = c.in_ok-settle.ensures in
     let formed = reduced_formed ts c.requires.reduced (sym c.has_undef_term.ensures ∙ c.if-has_undef_term.false) in
-    let w = written_counts us (counts_of_all ts) (exponents_collected c.in_ok-settle.ensures.stage.collects formed h) in
-    subst (λ (t : Tree). (is_counted t ≡ true) × IsWithin (counts_of t) (counts_of_all ts)) (sym (given_told c.written.ensures.tree)) (w.counted, w.within)
-
-pub returns-then-has_undef_term-clause-exponents : goal.returns-then-has_undef_term-clause-exponents
-returns-then-has_undef_term-clause-exponents c =
-    λ h. absurd (false≢true (sym (counted_defined (terms_in c.args.sum (forest c.args.pool.now)) h) ∙ sym c.has_undef_term.ensures ∙ c.if-has_undef_term.true))
+    subst (KeepsSumBounds ts) (sym (given_told c.written.ensures.tree)) (record {
+      room = record {
+        counts = omega (arith, written_counted us, collected_counts s.stage.collects formed);
+        powers = collected_powers _ _ s.stage.collects;
+        spanned = λ gs x. spans_written gs us (spans_collected gs _ us s.stage.collects x);
+      };
+      held = λ h l d k. tree_held s.settled.arranged s.stage.some (holds s.stage.held k);
+      counts = λ h. written_counts us (counts_of_all ts) (exponents_collected s.stage.collects formed h);
+    })

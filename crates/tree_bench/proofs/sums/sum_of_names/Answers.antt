@@ -6,7 +6,7 @@ use Rattle.tree_handles.specs.Standing.{forest}
 use Rattle.tree_handles.proofs.Given.{given_root, given_told}
 use Rattle.tree_handles.proofs.Roots.{root_held}
 use Rattle.sum_reduce.specs.Sums.{terms_in}
-use Rattle.sum_reduce.proofs.Places.{count_inserted}
+use Rattle.like_children.proofs.Places.{count_inserted}
 use Rattle.sum_reduce.proofs.Sums.{put_in, roots_apart}
 use Rattle.sum_reduce.proofs.Tested.{empty_sum, empty_terms, placed, reduced_inserted, symbol_monic}
 use Rattle.tree_bench.proofs.sums.sum_of_names.Goals as goal

@@ -12,4 +12,5 @@ returns-clause-ok c =
     let p = c.in_ok-part.ensures.ok in
     let same = ap plain (given_same c.args.coefficient p c.requires.handed.root) in
     if_map c.put_coefficient.result _ _ c.put_coefficient.ensures.ok
-    (λ h k. gives_as k (ap (without_root c.args.coefficient) (given_rest p)) (λ t e. ap is_reduced e ∙ (put_reduces _ _ (number_words _ (ap is_number same ∙ c.requires.number)) (given_told p)).reduced))
+    (λ h k. gives_as k (ap (without_root c.args.coefficient) (given_rest p))
+    (λ t e. ap is_reduced e ∙ (put_reduces _ _ (number_words _ (ap is_number same ∙ c.requires.number)) (given_told p)).reduced))

@@ -1,6 +1,6 @@
 use Rattle.std.proofs.Common.{◌∙◌, ap, refl, arith, rules}
 use Rattle.sum_reduce.proofs.Shared.{count, are_reduced, tree_of, forest, given_root, given_told, given_rest, root_held, terms_in}
-use Rattle.sum_reduce.proofs.Places.{count_inserted}
+use Rattle.like_children.proofs.Places.{count_inserted}
 use Rattle.sum_reduce.proofs.Sums.{changes_same, changes_after, changes_rest, put_in, roots_apart, sum_live}
 use Rattle.sum_reduce.proofs.Tested.{empty_sum, empty_terms, placed, reduced_inserted, moved_sum, moved_terms}
 use Rattle.sum_reduce.proofs.tests.building.sum_of.Goals as goal
@@ -38,7 +38,14 @@ loop-shape-preserved c =
     record {
       changes = changes_after i.changes x.changes;
       reduced = ap are_reduced x.terms ∙ reduced_inserted c.children-last.result _ _ (given_told c.in_ok-term.ensures.ok) (ap are_reduced r.terms ∙ i.reduced);
-      many = omega (arith, i.many, ap count x.terms, count_inserted c.children-last.result (tree_of c.in_ok-term.term c.build.new.pool) (terms_in c.in_ok-sum.sum (forest c.build.new.pool)), ap count r.terms);
+      many =
+          omega (
+            arith,
+            i.many,
+            ap count x.terms,
+            count_inserted c.children-last.result (tree_of c.in_ok-term.term c.build.new.pool) (terms_in c.in_ok-sum.sum (forest c.build.new.pool)),
+            ap count r.terms,
+          );
       stands = c.add_child.ensures.stands;
     }
 

@@ -1,8 +1,11 @@
--- Terms by their places.
+-- Trees among others by their places.
 use Rattle.std.proofs.Common.{ℕ, zero, suc, ◌<◌, ◌≤◌, ◌+◌, ◌≡◌, refl, ap, arith}
-use Rattle.sum_reduce.proofs.Shared.{Tree, Trees, none, more, count, Permuted, Permuted-refl, permuted_more, permuted_swap, permuted_trans, nth, inserted, removed}
+use Rattle.calc_algebra.proofs.MeaningRewrites.{Permuted, Permuted-refl, permuted_more, permuted_swap, permuted_trans}
+use Rattle.calc_terms.specs.Trees.{Tree, Trees, count, more, none}
+use Rattle.number_forms.specs.Sums.{removed}
+use Rattle.tree_handles.specs.Expressions.{inserted, nth}
 
--- ---- a term is taken out, or put in
+-- ---- one is taken out, or put in
 
 pub nth_inserted : (n : ℕ) (t : Tree) (ts : Trees) → n ≤ count ts → nth n (inserted n (more t none) ts) ≡ t
 nth_inserted zero t ts h = refl

@@ -1,10 +1,43 @@
 -- The addends of terms, of multiples of terms, and of sums.
 use Rattle.std.proofs.Common.{◌≡◌, ◌≢◌, ◌≤◌, ◌⊎◌, inl, inr, [], ◌∷◌, Bool, true, false, if◌then◌else◌, refl, sym, ap, ◌∙◌, subst, arith, append-nil, map, one-mul}
-use Rattle.sum_reduce.proofs.Shared.{last_parts, Fraction, times, zero_fraction, one_fraction, is_one_fraction, zero_test, one_is, Tree, num, add, mult, root, Trees, none, more, append, count, is_add, AllParts, AllPartsOf, IsNumber, AreTerms, is_number, natural_of, terms_of, value, Split, split_product, num_one, product_tree, part_of, number_terms, other_terms, HasForm, NoneIs, IsProductForm, IsSumForm, Surd, term, surd_of, surd_one, surd_scale, term_times, surd_times, one_not_zero, number_test, term_words, has_coefficient, coefficient_of, factors_of, spliced, IsMonic, mapped, rational_times_number, rational_times_sum, rational_times_term, leading_factors, product_form_of, AreFactors, factors_monic, factors_of_tree, monic_coefficient, monic_part, monic_parts, monic_no_number, no_split, none_leads, spliced_split, IsFactor, not_one_is, number_scaled, terms-scaled, times_one, number_term, multiple, distributed, Addend, addend, addend_of, addends, addends_of}
+use Rattle.calc_algebra.proofs.NumberClasses.{one_not_zero}
+use Rattle.calc_algebra.proofs.NumberLaws.{number_test, term_words}
+use Rattle.calc_algebra.specs.Numbers.{AreTerms, IsNumber, is_number, natural_of, terms_of, value}
+use Rattle.calc_algebra.specs.Reduced.{HasForm, IsProductForm, IsSumForm, NoneIs, Split, num_one, number_terms, other_terms, part_of, product_tree, split_product}
+use Rattle.calc_algebra.specs.Surds.{Surd, surd_of, surd_one, surd_scale, surd_times, term, term_times}
+use Rattle.calc_measures.specs.Loads.{has_coefficient}
+use Rattle.calc_terms.proofs.FractionFacts.{one_is, zero_test}
+use Rattle.calc_terms.specs.Fractions.{Fraction, is_one_fraction, one_fraction, times, zero_fraction}
+use Rattle.calc_terms.specs.Trees.{AllParts, AllPartsOf, Tree, Trees, add, append, count, is_add, more, mult, none, num, root}
+use Rattle.coefficients.proofs.Coefficients.{leading_factors, product_form_of}
+use Rattle.coefficients.proofs.Factors.{AreFactors, factors_monic, factors_of_tree, monic_coefficient, monic_no_number, monic_part, monic_parts, no_split, none_leads, spliced_split}
+use Rattle.coefficients.proofs.NumberMultiples.{IsFactor, not_one_is, number_scaled, terms-scaled, times_one}
+use Rattle.coefficients.proofs.SumMultiples.{number_term}
+use Rattle.coefficients.proofs.TermMultiples.{multiple}
+use Rattle.coefficients.specs.Coefficients.{IsMonic, coefficient_of, factors_of, spliced}
+use Rattle.coefficients.specs.Multiples.{mapped, rational_times_number, rational_times_sum, rational_times_term}
+use Rattle.like_children.proofs.Parts.{last_parts}
+use Rattle.tree_bits.specs.Factors.{distributed}
+use Rattle.tree_bits.specs.HeldTrees.{Addend, addend, addend_of, addends, addends_of}
 use Rattle.calc_algebra.proofs.InverseLaws.{product_not_zero}
 use Rattle.coefficients.proofs.Splits.{IsCoefficient, Leads, in_front}
-use Rattle.sum_reduce.proofs.WrittenSums.{number_terms-terms, other_terms-terms}
+use Rattle.coefficients.proofs.Forms.{no_term, term_test}
 use Rattle.std.proofs.lemmas.Bool.{true≢false}
+
+-- ---- which terms make the Number
+
+pub number_terms-terms : (ts us : Trees) → AreTerms ts → NoneIs is_number us → number_terms (append ts us) ≡ ts
+number_terms-terms none none h k = refl
+number_terms-terms none (more u us) h k = ap (λ b. if b then more u (number_terms us) else none) (no_term u k.0)
+number_terms-terms (more t ts) us h k = ap (λ b. if b then more t (number_terms (append ts us)) else none) (term_test t h.0) ∙ ap (more t) (number_terms-terms ts us h.1 k)
+
+other_terms-none : (us : Trees) → NoneIs is_number us → other_terms us ≡ us
+other_terms-none none k = refl
+other_terms-none (more u us) k = ap (λ b. if b then other_terms us else more u us) (no_term u k.0)
+
+pub other_terms-terms : (ts us : Trees) → AreTerms ts → NoneIs is_number us → other_terms (append ts us) ≡ us
+other_terms-terms none us h k = other_terms-none us k
+other_terms-terms (more t ts) us h k = ap (λ b. if b then other_terms (append ts us) else more t (append ts us)) (term_test t h.0) ∙ other_terms-terms ts us h.1 k
 
 -- ---- terms
 
