@@ -1,12 +1,11 @@
 -- The trees that a step on a product gives.
 use Rattle.std.proofs.Common.{◌≡◌, Bool, true, false, ◌&&◌, ◌||◌, refl, if◌then◌else◌, sym, ap, ◌∙◌, subst, arith, ℕ, zero, suc, ◌<◌, not}
 use Rattle.std.specs.Prelude.{ℤ, Option, MatchOption}
-use Rattle.product_reduce.proofs.Shared.{has_undef, are_rationals, Tree, num, undef, mult, power, Trees, none, more, append, names, names_of, is_undef, in_mult, root_kind, count, are_numbers, is_number, are_reduced, is_reduced, has_form, all_parts, is_whole_num, is_opaque_exponent, factors_of, is_zero, and_parts, and_from, or_right, zero_fraction, lowest, whole_fraction, gcd, load, load_of_factor, Same-eq, nth, children_of, whole_denominator, zero_is, Same-sym, KeepsMeanings, KeepsMeanings-refl, KeepsMeanings-eq, KeepsMeanings-trans, KeepsMeanings-product_more, zero_product, number_zero, number_words, numbers_defined, Same-trans, keeps, reduces_after, AreJoinable, IsJoined, IsFinished, IsEnding, IsStop, at_zero, at_end, IsRejoined, opened, others_in, IsCoefficient, coefficient_before, have_partners, joined, Within, within_eq, within_none, within_both, within_trans, number_names, no_new_name, nest_number}
+use Rattle.product_reduce.proofs.Shared.{has_undef, are_rationals, Tree, num, undef, mult, power, Trees, none, more, append, names, names_of, is_undef, in_mult, root_kind, count, are_numbers, is_number, are_reduced, is_reduced, has_form, all_parts, is_whole_num, is_opaque_exponent, factors_of, is_zero, and_parts, and_from, or_right, zero_fraction, lowest, whole_fraction, gcd, load, load_of_factor, Same-eq, nth, children_of, whole_denominator, zero_is, Same-sym, KeepsMeanings, KeepsMeanings-refl, KeepsMeanings-eq, KeepsMeanings-trans, KeepsMeanings-product_more, zero_product, number_zero, number_words, numbers_defined, Same-trans, keeps, reduces_after, IsFinished, IsEnding, IsStop, at_zero, at_end, opened, others_in, IsCoefficient, coefficient_before, have_partners, Within, within_eq, within_none, within_both, within_trans, number_names, no_new_name, nest_number}
 use Rattle.std.specs.Option.{is_some}
 use Rattle.calc_algebra.proofs.UndefRewrites.{undef_part}
 use Rattle.product_reduce.proofs.Opened.{opened_keeps, collected, coefficient_in_front}
-use Rattle.product_reduce.proofs.Joined.{joined_keeps}
-use Rattle.product_reduce.proofs.NoNewNames.{names_opened, names_others, names_with_coefficient, names_joined}
+use Rattle.product_reduce.proofs.NoNewNames.{names_opened, names_others, names_with_coefficient}
 use Rattle.product_reduce.proofs.Forms.{IsFormed, AllFormed, formed, number_formed, opened_formed}
 use Rattle.product_reduce.proofs.Bounds.{nest_opened, nest_others, load_opened, load_others, load_product}
 use Rattle.tree_handles.proofs.UndefChildren.{undef_inside}
@@ -52,21 +51,6 @@ others_within ts = within_trans (names_opened ts) (names_others (opened ts))
 
 pub product_within : (c : Tree) (ts us : Trees) → is_number c ≡ true → Within (names_of (others_in (opened ts))) (names_of us) → Within (names_of ts) (names_of (coefficient_before c us))
 product_within c ts us h k = within_trans (within_trans (others_within ts) k) (names_with_coefficient c us h)
-
--- ---- Again
-
-pub joined_product : (c : Tree) (ts : Trees) → AreJoinable c ts → IsJoined ts (mult (coefficient_before c (joined (others_in (opened ts)))))
-joined_product c ts h =
-    let os = others_in (opened ts) in
-    record {
-      coefficient = c;
-      joinable = h;
-      is = refl;
-      rewrites = record {
-        no_new_name = no_new_name (product_within c ts (joined os) h.coefficient.number (names_joined os));
-        meanings = keeps (product_keeps c ts (joined os) h.coefficient (joined_keeps os));
-      };
-    }
 
 -- ---- Done: Undef
 
@@ -171,9 +155,6 @@ ending_finished c ts new d k z a e =
 pub stopped : (c : Tree) (ts us : Trees) (new : Tree) → has_undef ts ≡ false → IsCoefficient c (opened ts) → us ≡ others_in (opened ts) → IsStop c us new → IsFinished ts new
 stopped c ts us new d k e (at_zero z q) = subst (IsFinished ts) (sym q) (zero_finished c ts d k z)
 stopped c ts us new d k e (at_end z p x) = ending_finished c ts new d k z (ap have_partners (sym e) ∙ p) (subst (λ (y : Trees). IsEnding c y new) e x)
-
-pub rejoined : (c : Tree) (ts us : Trees) (new : Tree) → has_undef ts ≡ false → IsCoefficient c (opened ts) → us ≡ others_in (opened ts) → IsRejoined c us new → IsJoined ts new
-rejoined c ts us new d k e r = grind (arith, joined_product)
 
 -- ---- opened factors are reduced, and rationals are as they were
 

@@ -1,8 +1,7 @@
 -- Free bytes and those of a product, from one pool to the next.
-use Rattle.std.proofs.Common.{◌≡◌, ℕ, ◌+◌, ◌*◌, ◌<◌, ◌≤◌, ◌^◌, List, length, Bool, true, not, refl, Result, ap, arith}
+use Rattle.std.proofs.Common.{◌≡◌, ℕ, ◌+◌, ◌*◌, ◌<◌, ◌≤◌, Result, ap, arith}
 use Rattle.std.specs.Prelude.{IfErr}
-use Rattle.product_reduce.proofs.Shared.{and_from, is_number, base_of, none_is, NoneIs, counted, counted_among, SpansTree, SpansTrees, factors_bytes, sizes_taken, all_bytes, handed_bytes, AreOthers, Tree, mult, Trees, none, more, count, size, sizes, factors_of, put_room, mul-le, opened, State, free_of, removed, nth, Forest, bytes_in, kids, tree_nth, without_nth, tree_of, IsHanded, Ends, root_tree, without_root, put, Stands, forest, KeepsRefusals, exponent_of, IsProduct, Becomes, IsBeside, IsTakenOut, IsSplit}
-use Rattle.number_forms.proofs.Rooms.{number_size}
+use Rattle.product_reduce.proofs.Shared.{base_of, sizes_taken, all_bytes, handed_bytes, Tree, mult, Trees, none, more, count, size, sizes, factors_of, put_room, mul-le, opened, State, free_of, removed, nth, Forest, bytes_in, kids, tree_nth, without_nth, tree_of, IsHanded, Ends, root_tree, without_root, put, Stands, forest, KeepsRefusals, exponent_of, IsProduct, Becomes, IsBeside, IsTakenOut, IsSplit}
 use Rattle.calc_room.specs.Needs.{product_need}
 use Rattle.coefficients.proofs.Rooms.{sizes_append}
 use Rattle.tree_room.specs.Needs.{product_step_room}
@@ -73,20 +72,6 @@ opened_size (more t ts) = omega (arith, sizes_append (factors_of t) (opened ts),
 -- beside the factors there is room for a call on Numbers
 pub step_lacks_numbers : (h m size bytes : ℕ) → size ≤ 204 * h * m → bytes < product_need * m + size → bytes < product_step_room h m
 step_lacks_numbers h m size bytes s l = omega arith
-
--- beside a coefficient and the others a pair is joined
-pub pair_lacks : (gs : List ℕ) (c : Tree) (ts : Trees) (free : ℕ) → is_number c ≡ true → SpansTree gs c → AreOthers ts → SpansTrees gs ts → free < 96
-    → free + size c + size (mult ts) < put_room (counted (mult ts)) (2 ^ length gs) + 56
-pair_lacks gs c ts free n s o k l =
-    let m : ℕ = 2 ^ length gs in
-    let a : size c + 48 ≤ 96 * m = number_size gs c n s in
-    let b : sizes ts ≤ 204 * counted_among ts * m = factors_bytes gs ts o.reduced k (none_as is_number ts o.no_number) in
-    let d : counted_among ts * m ≤ counted (mult ts) * m = mul-le (counted_among ts) m (counted (mult ts)) m (omega arith) (omega arith) in
-    omega (arith, a, b, d, l)
-  where
-    none_as : (p : Tree → Bool) (ts : Trees) → NoneIs p ts → none_is p ts ≡ true
-    none_as p none h = refl
-    none_as p (more t ts) h = and_from (not (p t)) (none_is p ts) (ap not h.0) (none_as p ts h.1)
 
 pub step_lacks_pair : (c h m bytes : ℕ) → 1 ≤ m → c ≤ h → bytes < put_room c m + 56 → bytes < product_step_room h m
 step_lacks_pair c h m bytes p s l = let g : c * m ≤ h * m = mul-le c m h m s (omega arith) in omega arith

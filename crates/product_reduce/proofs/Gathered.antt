@@ -7,7 +7,7 @@ use Rattle.product_reduce.proofs.Finished.{or_none, product_keeps, product_withi
 use Rattle.product_reduce.proofs.JointPlaces.{in_front, before_is, front_reduced, reduced-append}
 use Rattle.product_reduce.proofs.LastSteps.{permuted_none_is}
 use Rattle.product_reduce.proofs.Misfits.{permuted_one_is}
-use Rattle.product_reduce.proofs.Sorted.{none_permuted, permuted_lists}
+use Rattle.like_children.proofs.Permutations.{none_permuted, of_lists}
 use Rattle.product_reduce.proofs.Stepped.{others_are}
 
 -- ---- factors that changed places
@@ -33,7 +33,7 @@ others_permuted m o = grind (arith, reduced_permuted, words_defined, none_permut
 
 pub ending_before : (c : Tree) (ts us : Trees) (t : Tree) → IsSorting 0 base_of ts us → IsEnding c us t → IsEnding c ts t
 ending_before c ts us t s e =
-    let m = permuted_lists ts us s.moved in
+    let m = of_lists ts us s.moved in
     record {
       reduces = reduces_after (record {
         no_new_name = no_new_name (within_beside (names c) (names c) (names_of ts) (names_of us) (within_same (names c)) (names_permuted m));
@@ -52,7 +52,7 @@ ending_before c ts us t s e =
 
 pub spreading_before : (c d : Tree) (ts us : Trees) (o : Overflow) → d ≡ c → IsSorting 0 base_of ts us → SpreadingOverflows d us o → SpreadingOverflows c ts o
 spreading_before c d ts us o e s h =
-    subst (λ (x : Tree). SpreadingOverflows x ts o) e (record { sum = h.sum; alone = permuted_one_is h.sum (Permuted-sym (permuted_lists ts us s.moved)) h.alone; named = h.named })
+    subst (λ (x : Tree). SpreadingOverflows x ts o) e (record { sum = h.sum; alone = permuted_one_is h.sum (Permuted-sym (of_lists ts us s.moved)) h.alone; named = h.named })
 
 -- ---- the gathered product
 
@@ -61,7 +61,7 @@ pub gathered : (c : Tree) (ts us : Trees) (new : Tree) → are_reduced ts ≡ tr
 gathered c ts us new r d k e o =
     let os = others_in (opened ts) in
     let sorted : IsSorting 0 base_of os o.us = subst (λ (x : Trees). IsSorting 0 base_of x o.us) e o.sorted in
-    let m = permuted_lists os o.us sorted.moved in
+    let m = of_lists os o.us sorted.moved in
     let vs = coefficient_before c o.us in
     let children : children_of new ≡ vs = ap children_of o.is in
     let reduced : are_reduced vs ≡ true = ap are_reduced (before_is c o.us) ∙ reduced-append (in_front c) o.us (front_reduced c k.number) (reduced_permuted m (others_are ts r d).reduced) in

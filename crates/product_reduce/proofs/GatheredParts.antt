@@ -1,11 +1,11 @@
 -- What holds of each part of the factors of a product holds of each part of what they are gathered to.
 use Rattle.std.proofs.Common.{arith, ◌≡◌, ℕ, List, Bool, true, false, if◌then◌else◌, refl, sym, subst}
-use Rattle.product_reduce.proofs.Shared.{Fraction, Tree, num, undef, add, mult, power, Trees, none, more, AllParts, AllPartsOf, is_number, value, base_of, product_tree, number_words, IsPowerOf, HasPowersOf, Spans, SpansRoot, SpansTree, SpansTrees, factors_of, AllPartsOf-append, IsSorting, is_zero, IsJoined, IsWritten, IsWrittenProduct, opened, numbers_in, others_in, product_of_values, IsCoefficient, coefficient_before, coefficient_times, IsGathered, first_partner, joined, joint, without_partner}
+use Rattle.product_reduce.proofs.Shared.{Fraction, Tree, num, add, mult, Trees, none, more, AllParts, AllPartsOf, is_number, value, base_of, product_tree, number_words, IsPowerOf, HasPowersOf, Spans, SpansRoot, SpansTree, SpansTrees, factors_of, AllPartsOf-append, IsSorting, is_zero, IsWritten, IsWrittenProduct, opened, numbers_in, others_in, product_of_values, IsCoefficient, coefficient_before, coefficient_times, IsGathered}
 use Rattle.calc_room.proofs.NumberSpans.{spans_times, spans_same, tree_spanned, value_spanned}
 use Rattle.calc_room.proofs.SpanLaws.{one_spanned}
 use Rattle.like_children.proofs.OwnPowers.{number_powers, own_powers_of}
 use Rattle.like_children.proofs.Parts.{factors_parts, permuted_parts, product_tree_parts, with_parts}
-use Rattle.product_reduce.proofs.Sorted.{permuted_lists}
+use Rattle.like_children.proofs.Permutations.{of_lists}
 
 -- ---- factors that are opened, parted, and change places
 
@@ -18,7 +18,7 @@ module _ (P : Tree → Type 0) where
   numbers_parts none h = tt
   numbers_parts (more t ts) h = grind (arith, numbers_parts ts h.1)
 
-  others_parts : (ts : Trees) → AllPartsOf P ts → AllPartsOf P (others_in ts)
+  pub others_parts : (ts : Trees) → AllPartsOf P ts → AllPartsOf P (others_in ts)
   others_parts none h = tt
   others_parts (more t ts) h = grind (arith, others_parts ts h.1)
 
@@ -31,7 +31,7 @@ module _ (P : Tree → Type 0)
   written_parts : (c : Tree) (us : Trees) → AllParts P c → AllPartsOf P us → AllParts P (coefficient_times c us)
   written_parts c us h k = grind (arith, with_parts, product_tree_parts)
 
-  before_factors : (c : Tree) (us : Trees) → AllParts P c → AllPartsOf P us → AllParts P (mult (coefficient_before c us))
+  pub before_factors : (c : Tree) (us : Trees) → AllParts P c → AllPartsOf P us → AllParts P (mult (coefficient_before c us))
   before_factors c us h k = grind (arith, AllPartsOf-append)
 
   pub finished_parts : (ts : Trees) (t : Tree) → ((c : Tree) → IsCoefficient c (opened ts) → AllParts P c) → AllPartsOf P ts → IsWrittenProduct ts t → AllParts P t
@@ -43,7 +43,7 @@ module _ (P : Tree → Type 0)
       of_written : IsWritten w.coefficient (others_in (opened ts)) t → AllParts P t
       of_written x =
           subst (AllParts P) (sym x.is)
-          (written_parts w.coefficient x.us of_coefficient (permuted_parts P (permuted_lists (others_in (opened ts)) x.us x.sorted.moved) (others_parts P (opened ts) (opened_parts P ts h))))
+          (written_parts w.coefficient x.us of_coefficient (permuted_parts P (of_lists (others_in (opened ts)) x.us x.sorted.moved) (others_parts P (opened ts) (opened_parts P ts h))))
 
       by : (b : Bool) → is_zero w.coefficient ≡ b → AllParts P t
       by true e = subst (AllParts P) (sym (w.zero e)) of_coefficient
@@ -53,29 +53,7 @@ module _ (P : Tree → Type 0)
   gathered_parts ts t f h g =
       subst (AllParts P) (sym g.is)
       (before_factors g.coefficient g.others (f g.coefficient g.joinable.coefficient)
-      (permuted_parts P (permuted_lists (others_in (opened ts)) g.others g.sorted.moved) (others_parts P (opened ts) (opened_parts P ts h))))
-
--- ---- joined
-
-module _ (P : Tree → Type 0)
-    (of_num : (q : Fraction) → P (num q))
-    (of_undef : P undef)
-    (of_add : (ts : Trees) → P (add ts))
-    (of_mult : (ts : Trees) → P (mult ts))
-    (of_power : (b e : Tree) → P (power b e)) where
-  joint_parts : (t u : Tree) → AllParts P t → AllParts P u → AllParts P (joint t u)
-  joint_parts t u h k = grind arith
-
-  partner_parts : (t : Tree) (ts : Trees) → AllPartsOf P ts → AllParts P (first_partner t ts) × AllPartsOf P (without_partner t ts)
-  partner_parts t none h = (of_undef, tt)
-  partner_parts t (more u ts) h = grind (arith, partner_parts t ts h.1)
-
-  factors_joined : (ts : Trees) → AllPartsOf P ts → AllPartsOf P (joined ts)
-  factors_joined none h = tt
-  factors_joined (more t ts) h = grind (arith, factors_joined ts h.1, partner_parts, joint_parts)
-
-  pub joined_parts : (ts : Trees) (t : Tree) → ((c : Tree) → IsCoefficient c (opened ts) → AllParts P c) → AllPartsOf P ts → IsJoined ts t → AllParts P t
-  joined_parts ts t f h j = grind (arith, before_factors, factors_joined, others_parts, opened_parts)
+      (permuted_parts P (of_lists (others_in (opened ts)) g.others g.sorted.moved) (others_parts P (opened ts) (opened_parts P ts h))))
 
 -- ---- powers: a Number has none, and those of the factors are their own
 
@@ -110,15 +88,11 @@ spans_finished gs ts t s w = finished_parts (SpansRoot gs) (λ q. tt) (λ us. tt
 pub spans_gathered : (gs : List ℕ) (ts : Trees) (t : Tree) → SpansTrees gs ts → IsGathered ts t → SpansTree gs t
 spans_gathered gs ts t s g = gathered_parts (SpansRoot gs) (λ q. tt) (λ us. tt) (λ us. tt) ts t (λ c k. coefficient_spanned gs (opened ts) c (opened_parts (SpansRoot gs) ts s) k) s g
 
-pub spans_joined : (gs : List ℕ) (ts : Trees) (t : Tree) → SpansTrees gs ts → IsJoined ts t → SpansTree gs t
-spans_joined gs ts t s j =
-    joined_parts (SpansRoot gs) (λ q. tt) tt (λ us. tt) (λ us. tt) (λ b e. tt) ts t (λ c k. coefficient_spanned gs (opened ts) c (opened_parts (SpansRoot gs) ts s) k) s j
-
 pub spans_product : (gs : List ℕ) (ts : Trees) → SpansTrees gs ts → SpansTree gs (product_tree ts)
 spans_product gs ts s = product_tree_parts (SpansRoot gs) (λ q. tt) (λ us. tt) (λ us. tt) ts s
 
 pub spans_sorted : (gs : List ℕ) (ts us : Trees) → IsSorting 0 base_of ts us → SpansTrees gs ts → SpansTrees gs us
-spans_sorted gs ts us x s = permuted_parts (SpansRoot gs) (permuted_lists ts us x.moved) s
+spans_sorted gs ts us x s = permuted_parts (SpansRoot gs) (of_lists ts us x.moved) s
 
 pub spans_opened : (gs : List ℕ) (ts : Trees) → SpansTrees gs ts → SpansTrees gs (opened ts)
 spans_opened gs ts s = opened_parts (SpansRoot gs) ts s

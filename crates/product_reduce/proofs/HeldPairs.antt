@@ -35,8 +35,14 @@ rational_no_single c e = cc
 
 first_pair : (t u : Tree) (ts : Trees) {p q k n h l : ℕ} → is_single t ≡ true → is_single u ≡ true → IsFactorHeld t p q → AreFactorsHeld (more u ts) k n → p + k ≤ h → q + n ≤ l
     → HoldsPair 0 (more t (more u ts)) h l
-first_pair t u ts {p = p} {q = q} s r a (factor_held i j m d b c x y) z w =
-    (p + i, q + j, omega arith, omega arith, parts_multiply (single_part t (single_is t s).0 (single_is t s).1 a) (single_part u (single_is u r).0 (single_is u r).1 b), λ v f. factor_held (p + i) (q + j) m d f c (omega arith) (omega arith))
+first_pair t u ts {p = p} {q = q} s r a (factor_held i j m d b c x y) z w = (
+  p + i,
+  q + j,
+  omega arith,
+  omega arith,
+  parts_multiply (single_part t (single_is t s).0 (single_is t s).1 a) (single_part u (single_is u r).0 (single_is u r).1 b),
+  λ v f. factor_held (p + i) (q + j) m d f c (omega arith) (omega arith),
+)
 first_pair t (num c) ts s r a (term_held i j m d b e x y) z w = absurd (rational_no_single c r)
 
 -- other factors in front

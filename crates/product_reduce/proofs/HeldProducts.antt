@@ -7,11 +7,11 @@ use Rattle.product_reduce.proofs.Forms.{AllFormed, number_formed, opened_flat, o
 use Rattle.product_reduce.proofs.Gathered.{others_permuted}
 use Rattle.product_reduce.proofs.GatheredCounts.{single_monic}
 use Rattle.product_reduce.proofs.HeldFactors.{AreHeldApart, before_held, held_apart, opened_held, part_permuted, part_single}
-use Rattle.product_reduce.proofs.HeldMultiples.{rational_value, sum_multiple}
+use Rattle.like_children.proofs.Addends.{multiple_addends, rational_value, split_sum}
 use Rattle.product_reduce.proofs.HeldNumbers.{number_as_factor}
 use Rattle.product_reduce.proofs.Leads.{factors_again}
 use Rattle.product_reduce.proofs.Progress.{one_value}
-use Rattle.product_reduce.proofs.Sorted.{permuted_lists}
+use Rattle.like_children.proofs.Permutations.{of_lists}
 use Rattle.product_reduce.proofs.Stepped.{others_are}
 use Rattle.std.proofs.lemmas.Bool.{true≢false}
 
@@ -53,7 +53,8 @@ spread_held q ts {p = p} {i = i} {k = k} {n = n} f m e a b =
     let t : Tree = add (mapped (rational_times_term q) ts) in
     let l : 1 ≤ k = sum_positive ts b in
     factor_is_held t (p + k) (i + n) refl (omega (arith, l))
-    (sum_as_tree t (p + k) (i + n) (subst (λ (xs : List Addend). IsSumHeld xs (p + k) (i + n)) (sym (sum_multiple q f ts (monic_parts (add ts) m).1 (monic_sum ts m))) (sum_addends q ts e a b)))
+    (sum_as_tree t (p + k) (i + n)
+    (subst (λ (xs : List Addend). IsSumHeld xs (p + k) (i + n)) (sym (multiple_addends q f ts (split_sum ts (monic_sum ts m) (monic_parts (add ts) m).1))) (sum_addends q ts e a b)))
 
 -- ---- a coefficient before others
 
@@ -110,7 +111,7 @@ finished_held ts t h l r d a w = by (is_zero c) refl
 
     of_written : is_zero c ≡ false → IsWritten c (others_in (opened ts)) t → IsFactorHeld t h l
     of_written z x =
-        let m = permuted_lists (others_in (opened ts)) x.us x.sorted.moved in
+        let m = of_lists (others_in (opened ts)) x.us x.sorted.moved in
         subst (λ (u : Tree). IsFactorHeld u h l) (sym x.is) (times_held c x.us number z (others_permuted m (others_are ts r d)) of_coefficient (part_permuted m s.others) s.high s.low)
 
     by : (b : Bool) → is_zero c ≡ b → IsFactorHeld t h l
@@ -121,7 +122,7 @@ finished_held ts t h l r d a w = by (is_zero c) refl
 pub gathered_held : (ts : Trees) (t : Tree) (h l : ℕ) → are_reduced ts ≡ true → has_undef ts ≡ false → AreFactorsHeld ts h l → IsGathered ts t → AreFactorsHeld (children_of t) h l
 gathered_held ts t h l r d a g =
     let s : AreHeldApart (opened ts) h l = apart ts r d a in
-    let m = permuted_lists (others_in (opened ts)) g.others g.sorted.moved in
+    let m = of_lists (others_in (opened ts)) g.others g.sorted.moved in
     let o = others_permuted m (others_are ts r d) in
     let c = g.joinable.coefficient in
     subst (λ (u : Tree). AreFactorsHeld (children_of u) h l) (sym g.is)

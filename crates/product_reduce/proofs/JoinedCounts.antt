@@ -1,20 +1,16 @@
 -- A product in which a pair was joined counts one more at most.
 use Rattle.std.proofs.Common.{◌≡◌, ℕ, ◌+◌, ◌≤◌, suc, Bool, true, false, if◌then◌else◌, refl, ap, arith}
-use Rattle.product_reduce.proofs.Shared.{Tree, num, power, Trees, none, more, is_number, is_whole_num, is_opaque_exponent, base_of, NoneIs, num_one, counted, counted_among, counts_one, is_mult, children_of, opened, others_in, IsJoined, exponent_of, has_partner, first_partner, without_partner, joint, joined}
+use Rattle.product_reduce.proofs.Shared.{Tree, power, Trees, none, more, is_number, is_whole_num, is_opaque_exponent, base_of, NoneIs, num_one, counted, counted_among, counts_one, is_mult, children_of, opened, others_in, IsJoined, exponent_of, has_partner, first_partner, without_partner, joint, joined}
 use Rattle.product_reduce.proofs.Forms.{others_no_numbers}
-use Rattle.product_reduce.proofs.GatheredCounts.{before_counted, counted_in, opened_counted, others_counted, permuted_counted}
+use Rattle.like_children.proofs.Counted.{counted_at_most, counted_in, permuted_counted}
+use Rattle.product_reduce.proofs.GatheredCounts.{before_counted, opened_counted, others_counted, whole_number}
 use Rattle.product_reduce.proofs.Joined.{one_base, partner_is, partner_first}
 use Rattle.product_reduce.proofs.Stepped.{mult_words}
-use Rattle.product_reduce.proofs.Sorted.{none_permuted}
+use Rattle.like_children.proofs.Permutations.{none_permuted}
 
 one_is_free : counted_in num_one ≡ 0
 unfolding is_number
 one_is_free = refl
-
-pub whole_number : (e : Tree) → is_whole_num e ≡ true → is_number e ≡ true
-unfolding is_number
-whole_number (num q) h = refl
-whole_number e h = cc
 
 -- a factor counts no less than its base and its exponent
 part_counted : (t : Tree) → counted (base_of t) + counted_in (exponent_of t) ≤ counted t
@@ -31,13 +27,6 @@ part_counted t = omega (arith, one_is_free)
 joint_counted : (t u : Tree) → base_of t ≡ base_of u → counted (joint t u) ≤ counted t + counted u + 1
 joint_counted t u e = omega (arith, part_counted t, part_counted u, ap counted e, counts_one (base_of u))
 
-part_at_most : (t : Tree) → counted_in t ≤ counted t
-part_at_most t = by (is_number t)
-  where
-    by : (b : Bool) → (if b then 0 else counted t) ≤ counted t
-    by true = omega arith
-    by false = omega arith
-
 joined_counted : (ts : Trees) → NoneIs is_number ts → counted_among (joined ts) ≤ counted_among ts + 1
 joined_counted none n = omega arith
 joined_counted (more t ts) n = by (joined_counted ts n.1) (has_partner t ts) refl
@@ -50,10 +39,18 @@ joined_counted (more t ts) n = by (joined_counted ts n.1) (has_partner t ts) ref
     by go true e =
         let u = first_partner t ts in
         let p = partner_first t ts e in
-        omega (arith, permuted_counted p, free t n.0, free u (none_permuted is_number p n.1).0, joint_counted t u (one_base t u (partner_is t ts e)), part_at_most (joint t u))
+        omega (arith, permuted_counted p, free t n.0, free u (none_permuted is_number p n.1).0, joint_counted t u (one_base t u (partner_is t ts e)), counted_at_most (joint t u))
     by go false e = omega (arith, go)
 
 pub product_counted : (t u : Tree) → is_mult t ≡ true → IsJoined (children_of t) u → counted u ≤ counted t + 1
 product_counted t u m j =
     let others = others_in (opened (children_of t)) in
-    omega (arith, ap counted j.is, before_counted j.coefficient (joined others) j.joinable.coefficient.number, joined_counted others (others_no_numbers (opened (children_of t))), others_counted (opened (children_of t)), opened_counted (children_of t), ap counted (mult_words t m))
+    omega (
+      arith,
+      ap counted j.is,
+      before_counted j.coefficient (joined others) j.joinable.coefficient.number,
+      joined_counted others (others_no_numbers (opened (children_of t))),
+      others_counted (opened (children_of t)),
+      opened_counted (children_of t),
+      ap counted (mult_words t m),
+    )

@@ -1,17 +1,11 @@
 -- The first factor of a pair becomes a power in its place, once the exponent of the second is out.
-use Rattle.std.proofs.Common.{ℕ, zero, suc, ◌<◌, ◌≤◌, ◌≡◌, eqb, false, refl, ap, ◌∙◌, arith}
+use Rattle.std.proofs.Common.{ℕ, ◌<◌, ◌≤◌, ◌≡◌, eqb, false, refl, ap, ◌∙◌}
 use Rattle.product_reduce.proofs.Shared.{removed, Tree, Trees, mult, none, more, count, nth, plain, children_of, inserted, Forest, kids, with_nth, Gives, root_tree, without_root, put, eqb-sym, given_handed, given_rest, given_same, given_told, represents_handed, represents_with, represents_as, Becomes, IsTakenOut}
 use Rattle.product_reduce.proofs.Beside.{beside_apart, beside_product, beside_given}
 use Rattle.coefficients.proofs.Loops.{set_removed}
 use Rattle.tree_handles.proofs.Filling.{IsAsBefore, as_before, changes_front, changes_rest}
 use Rattle.tree_handles.specs.Holes.{ChangesTree, IsHole, Place, set_child}
 use Rattle.product_reduce.proofs.Products.{becomes_put, becomes_after, product_kids}
-
-pub nth_removed : (i j : ℕ) (ts : Trees) → i < j → nth i (removed j ts) ≡ nth i ts
-nth_removed i j none h = refl
-nth_removed i zero (more t ts) h = absurd (omega arith)
-nth_removed zero (suc j) (more t ts) h = refl
-nth_removed (suc i) (suc j) (more t ts) h = nth_removed i j ts (omega arith)
 
 -- ---- the first of a pair is rewritten, once the exponent of the second is out
 

@@ -6,7 +6,7 @@ use Rattle.product_reduce.proofs.Finished.{reduced_formed}
 use Rattle.product_reduce.proofs.Forms.{AllFormed, opened_formed, others_formed, opened_flat, others_none, others_no_numbers}
 use Rattle.product_reduce.proofs.Joined.{one_base, partner_is, partner_first}
 use Rattle.product_reduce.proofs.Joints.{IsSmall, is_within, is_over, AllSmall, all_within, joint_small, small_at, small_removed, joint_of_numbers_is_not_reduced, sum_is_no_number, exponent_words, flat_load, joint_load, load_split, base_weight}
-use Rattle.product_reduce.proofs.Sorted.{none_permuted}
+use Rattle.like_children.proofs.Permutations.{none_permuted}
 
 -- ---- the factors after a joining
 

@@ -1,25 +1,10 @@
 -- Places in lists, and what stands before factors.
 use Rattle.std.proofs.Common.{ℕ, zero, suc, ◌+◌, ◌≤◌, ◌≡◌, true, if◌then◌else◌, refl, ap, ◌∙◌, arith}
-use Rattle.product_reduce.proofs.Shared.{and_parts, and_from, is_number, is_num_one, is_reduced, are_reduced, Tree, Trees, none, more, append, count, factors_of, removed, nth, inserted, count_append, coefficient_before}
+use Rattle.product_reduce.proofs.Shared.{and_parts, and_from, is_number, is_num_one, is_reduced, are_reduced, Tree, Trees, none, more, append, count, factors_of, removed, nth, count_append, coefficient_before}
 use Rattle.product_reduce.proofs.Finished.{formed_reduced}
 use Rattle.product_reduce.proofs.Forms.{AllFormed, formed_factors, number_formed}
 
 -- ---- places in lists
-
-pub nth_inserted : (n : ℕ) (t : Tree) (ts : Trees) → n ≤ count ts → nth n (inserted n (more t none) ts) ≡ t
-nth_inserted zero t ts l = refl
-nth_inserted (suc n) t none l = absurd (omega arith)
-nth_inserted (suc n) t (more u ts) l = nth_inserted n t ts (omega arith)
-
-pub removed_inserted : (n : ℕ) (t : Tree) (ts : Trees) → n ≤ count ts → removed n (inserted n (more t none) ts) ≡ ts
-removed_inserted zero t ts l = refl
-removed_inserted (suc n) t none l = absurd (omega arith)
-removed_inserted (suc n) t (more u ts) l = ap (more u) (removed_inserted n t ts (omega arith))
-
-pub count_inserted : (n : ℕ) (t : Tree) (ts : Trees) → n ≤ count ts → count (inserted n (more t none) ts) ≡ suc (count ts)
-count_inserted zero t ts l = refl
-count_inserted (suc n) t none l = absurd (omega arith)
-count_inserted (suc n) t (more u ts) l = ap suc (count_inserted n t ts (omega arith))
 
 pub nth_behind : (ps ts : Trees) (n k : ℕ) → k ≡ count ps + n → nth k (append ps ts) ≡ nth n ts
 nth_behind none ts n k e = ap (λ (m : ℕ). nth m ts) (omega (arith, e))

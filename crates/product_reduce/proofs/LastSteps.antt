@@ -5,7 +5,7 @@ use Rattle.coefficients.proofs.Bounds.{coefficient_nest, coefficient_load}
 use Rattle.product_reduce.proofs.Bounds.{nest_tree, load_tree, load_permuted}
 use Rattle.product_reduce.proofs.Finished.{or_none, formed_reduced, formed_defined, load_of_number}
 use Rattle.product_reduce.proofs.Forms.{number_formed}
-use Rattle.product_reduce.proofs.Sorted.{none_permuted}
+use Rattle.like_children.proofs.Permutations.{none_permuted}
 
 -- ---- the coefficient alone
 

@@ -10,7 +10,8 @@ use Rattle.product_reduce.proofs.LastSteps.{ending, permuted_none_is, times_writ
 use Rattle.product_reduce.proofs.Misfits.{permuted_one_is}
 use Rattle.product_reduce.proofs.Neighbours.{pair_partners, sorted_apart, apart_before}
 use Rattle.product_reduce.proofs.Progress.{one_value}
-use Rattle.product_reduce.proofs.Sorted.{none_permuted, permuted_lists, sorted_rising}
+use Rattle.like_children.proofs.Permutations.{none_permuted, of_lists}
+use Rattle.product_reduce.proofs.Sorted.{sorted_rising}
 pub use Rattle.calc_algebra.proofs.ReducedLaws.{from_not as off}
 use Rattle.calc_algebra.proofs.MeaningRewrites.{Permuted-append_right}
 use Rattle.std.proofs.lemmas.Bool.{true≢false}
@@ -90,7 +91,7 @@ lead_one (more c os) h n m z o l d =
       not_zero = z;
       some = subst (λ (x : Trees). 1 ≤ count x) (sym alone) some;
       before = λ us. other_in_front c us o ∙ ap (λ (x : Trees). append x us) (single_factor c m.0);
-      written = λ us s. times_before c os us z o m.0 m.1 d some (subst (λ (x : Trees). Permuted x us) alone (permuted_lists (others_in (more c os)) us s.moved));
+      written = λ us s. times_before c os us z o m.0 m.1 d some (subst (λ (x : Trees). Permuted x us) alone (of_lists (others_in (more c os)) us s.moved));
     }
 
 -- ---- factors put in order behind others
@@ -129,12 +130,12 @@ lead_within n c ts h = omega (arith, ap count h.split, count_append h.lead (othe
 pub put_within : (n : ℕ) (c : Tree) (ts us : Trees) → IsLead n c ts → IsSorting n base_of ts us → n + 1 ≤ count us
 put_within n c ts us h s =
     let b = behind n c ts us h s in
-    omega (arith, ap count b.is, count_append h.lead b.vs, h.long, some_permuted (others_in ts) b.vs (permuted_lists (others_in ts) b.vs b.sorted.moved) h.some)
+    omega (arith, ap count b.is, count_append h.lead b.vs, h.long, some_permuted (others_in ts) b.vs (of_lists (others_in ts) b.vs b.sorted.moved) h.some)
 
 pub put_reduced : (n : ℕ) (c : Tree) (ts us : Trees) → IsLead n c ts → IsSorting n base_of ts us → are_reduced ts ≡ true → are_reduced us ≡ true
 put_reduced n c ts us h s r =
     let b = behind n c ts us h s in
-    ap are_reduced b.is ∙ reduced_permuted (Permuted-append_right h.lead (permuted_lists (others_in ts) b.vs b.sorted.moved)) (sym (ap are_reduced h.split) ∙ r)
+    ap are_reduced b.is ∙ reduced_permuted (Permuted-append_right h.lead (of_lists (others_in ts) b.vs b.sorted.moved)) (sym (ap are_reduced h.split) ∙ r)
 
 -- where no two behind have one base they are reduced as they stand
 pub put_done : (n : ℕ) (c : Tree) (ts us : Trees) (t : Tree) → AreOthers (others_in ts) → IsLead n c ts → IsSorting n base_of ts us → NoPairBetween n (count us) us → t ≡ product_tree us
@@ -142,7 +143,7 @@ pub put_done : (n : ℕ) (c : Tree) (ts us : Trees) (t : Tree) → AreOthers (ot
 put_done n c ts us t o h s p e =
     let os = others_in ts in
     let b = behind n c ts us h s in
-    let m = permuted_lists os b.vs b.sorted.moved in
+    let m = of_lists os b.vs b.sorted.moved in
     let x = others_permuted m o in
     let far : NoPairBetween (count h.lead) (count us) us = subst (λ (k : ℕ). NoPairBetween k (count us) us) (sym h.long) p in
     let apart : have_partners b.vs ≡ false =

@@ -34,10 +34,10 @@ pub mod HeldPairs
 mod GatheredParts
 mod SpreadFits
 pub mod HeldProducts
-pub mod HeldMultiples
 mod FreeBytes
 pub mod GatheredCounts
 pub mod JoinedCounts
 mod Parted
+mod Rejoined
 mod SortedBeside
 pub mod Shared

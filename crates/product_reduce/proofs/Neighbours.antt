@@ -3,8 +3,10 @@ use Rattle.std.specs.Prelude.{IsSortedByKey, IsPermutation}
 use Rattle.std.proofs.Common.{ℕ, zero, suc, ◌<◌, ◌+◌, ◌≡◌, Bool, true, false, not, ◌&&◌, if◌then◌else◌, refl, sym, ap, ◌∙◌, arith, add-one}
 use Rattle.product_reduce.proofs.Shared.{is_eq, is_lt, count_removed, and_parts, is_number, base_of, NoneIs, RisesBy, are_reduced, tree_cmp, Permuted, Permuted-sym, tree_cmp_total, Tree, Trees, none, more, count, is_mult, list_of, nth, count_append, coefficient_before, is_partner, has_partner, have_partners, joint, IsJointAt, is_single, is_pair, IsPairAt, NoPairBetween, joined_pair}
 use Rattle.product_reduce.proofs.Finished.{reduced_nth}
-use Rattle.product_reduce.proofs.JointPlaces.{before_is, nth_behind, nth_inserted, removed_inserted, count_inserted, reduced_removed}
-use Rattle.product_reduce.proofs.Sorted.{AreApart, apart_words, apart_permuted, less_of, permuted_lists}
+use Rattle.like_children.proofs.Places.{count_inserted, nth_inserted, removed_inserted}
+use Rattle.product_reduce.proofs.JointPlaces.{before_is, nth_behind, reduced_removed}
+use Rattle.like_children.proofs.Permutations.{of_lists}
+use Rattle.product_reduce.proofs.Sorted.{AreApart, apart_words, apart_permuted, less_of}
 use Rattle.std.proofs.lemmas.Bool.{true≢false}
 
 -- ---- a pair tells that some factors have partners
@@ -23,7 +25,7 @@ pair_partners n ts us m p = by (have_partners ts) refl
   where
     by : (k : Bool) → have_partners ts ≡ k → k ≡ true
     by true e = refl
-    by false e = absurd (true≢false (sym (partners_of_pair _ _ p.pair) ∙ apart_at n us p.within (apart_permuted (permuted_lists ts us m) (apart_words ts e))))
+    by false e = absurd (true≢false (sym (partners_of_pair _ _ p.pair) ∙ apart_at n us p.within (apart_permuted (of_lists ts us m) (apart_words ts e))))
 
 -- ---- no pair tells that none has
 

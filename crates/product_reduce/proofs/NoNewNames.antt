@@ -27,7 +27,10 @@ names_with_coefficient c ts h = by (is_num_one c)
   where
     by : (k : Bool) → Within (names_of ts) (names_of (if k then ts else append (factors_of c) ts))
     by true = within_same (names_of ts)
-    by false = within_trans (within_both (names_of ts) (names_of (factors_of c)) (names_of ts) (within_trans (within_trans (within_none (names_of ts)) (within_eq (number_names c h))) (names_of-factors c)) (within_same (names_of ts))) (within_eq (names_of-append (factors_of c) ts))
+    by false =
+        within_trans (within_both (names_of ts) (names_of (factors_of c)) (names_of ts)
+        (within_trans (within_trans (within_none (names_of ts)) (within_eq (number_names c h))) (names_of-factors c)) (within_same (names_of ts)))
+        (within_eq (names_of-append (factors_of c) ts))
 
 -- ---- joined factors
 

@@ -1,7 +1,7 @@
 -- A coefficient beside the other factors of a product, and what is made of both.
 use Rattle.std.proofs.Common.{ℕ, ◌≡◌, ◌≤◌, ◌+◌, ◌*◌, ◌^◌, ◌∙◌, Bool, List, length, Result, Err, eqb, true, false, [], ◌∷◌, refl, sym, ap, subst, arith}
 use Rattle.std.specs.Prelude.{IfOk, IfErr, IsErr, IsErrAnd}
-use Rattle.product_reduce.proofs.Shared.{PlainValue, plain_value, IsPlainAnswer, counted, HasPowersOf, SpansTree, SpansTrees, put_room, product_count, counts_one, product_bytes, pow_pos, passed_lacks, result_lacks, Tree, mult, Trees, none, count, is_mult, are_rationals, has_undef, size, are_reduced, AnswersRationals, AnswersRationalFactors, AnswersRationalStep, NumberFault, State, free_of, tree_of, children_of, Forest, forest, Stands, KeepsRefusals, IsHanded, Gives, KeepsFront, without_root, behind_first, front_after_one, front_after_two, gives_as, given_told, by_test, overflow_as, passed_on, OfOverflow, Joining, Step, IfDone, IfAgain, IfFinished, IfJoined, AreOthers, IsStop, at_zero, at_end, IsRejoined, IsFinished, IsJoined, IsOrdered, IsGathered, AreFactorsHeld, IsFactorHeld, IsCoefficient, coefficient_times, opened, numbers_in, others_in, MultiplyingOverflows, SpreadingOverflows, multiplying, spreading, IsProduct, Becomes, IsTakenOut, factors_in, AreFewBits}
+use Rattle.product_reduce.proofs.Shared.{PlainValue, plain_value, IsPlainAnswer, counted, HasPowersOf, SpansTree, SpansTrees, put_room, product_count, counts_one, product_bytes, pow_pos, passed_lacks, result_lacks, Tree, mult, Trees, none, count, is_mult, are_rationals, has_undef, size, are_reduced, AnswersRationals, AnswersRationalFactors, NumberFault, State, free_of, tree_of, Forest, forest, Stands, KeepsRefusals, IsHanded, Gives, KeepsFront, without_root, behind_first, front_after_one, front_after_two, gives_as, given_told, by_test, overflow_as, passed_on, OfOverflow, Joining, IfFinished, IfJoined, AreOthers, IsStop, at_zero, at_end, IsFinished, IsOrdered, IsGathered, AreFactorsHeld, IsCoefficient, coefficient_times, opened, numbers_in, others_in, MultiplyingOverflows, SpreadingOverflows, multiplying, spreading, IsProduct, Becomes, IsTakenOut, factors_in, KeepsFactorBounds, KeepsProductBounds, AreFewBits}
 use Rattle.product_reduce.specs.Misfits.{IsFactorMisfit}
 use Rattle.calc_room.specs.Needs.{product_need}
 use Rattle.tree_handles.proofs.Refused.{refused_as as refused_on}
@@ -9,17 +9,17 @@ use Rattle.tree_handles.specs.Causes.{IsCaused}
 use Rattle.tree_handles.specs.Lacking.{LacksBelow}
 use Rattle.tree_room.specs.Needs.{product_step_room}
 use Rattle.product_reduce.proofs.Beside.{beside_product, beside_apart, behind_beside}
-use Rattle.product_reduce.proofs.Finished.{reduced_opened, stopped, rejoined}
+use Rattle.product_reduce.proofs.Finished.{reduced_opened, stopped}
 use Rattle.product_reduce.proofs.FreeBytes.{becomes_free, taken_out_free, opened_size, step_lacks_numbers, step_lacks_pair}
 use Rattle.product_reduce.proofs.Gathered.{gathered}
-use Rattle.product_reduce.proofs.GatheredCounts.{finished_counted, others_at_most}
-use Rattle.product_reduce.proofs.GatheredParts.{finished_powers, coefficient_spanned, spans_finished, spans_factors, spans_opened, spans_others}
-use Rattle.product_reduce.proofs.HeldProducts.{apart, finished_held}
+use Rattle.product_reduce.proofs.GatheredCounts.{finished_counted, others_at_most, gathered_counted, gathered_few}
+use Rattle.product_reduce.proofs.GatheredParts.{finished_powers, coefficient_spanned, spans_finished, spans_factors, spans_opened, spans_others, gathered_powers, spans_gathered}
+use Rattle.product_reduce.proofs.HeldProducts.{apart, finished_held, gathered_held}
 use Rattle.product_reduce.proofs.LastSteps.{permuted_none_is}
 use Rattle.product_reduce.proofs.Products.{product_at, factors_are}
-use Rattle.product_reduce.proofs.Sorted.{permuted_lists}
+use Rattle.like_children.proofs.Permutations.{of_lists}
 use Rattle.product_reduce.proofs.SpreadFits.{no_spreading}
-use Rattle.product_reduce.proofs.Stepped.{mult_words, others_are, opened_value, none_beside}
+use Rattle.product_reduce.proofs.Stepped.{others_are, opened_value, none_beside}
 use Rattle.calc_algebra.proofs.ReducedLaws.{undef_words}
 
 -- ---- the factors are opened
@@ -119,12 +119,6 @@ pub stop_given : {i h g : ℕ} {old now : State} {new : Forest} → (p : ArePart
 stop_given {i =
     i} {h = h} {old = old} {now = now} p x = gives_as x p.rest (λ t e. stopped (tree_of h now) (factors_in i (forest old)) (factors_in i (forest now)) t p.defined p.coefficient p.factors e)
 
-pub rejoin_given : {i h g : ℕ} {old now : State} {new : Forest} → (p : AreParted i h old now)
-    → Gives (without_root i (without_root h (forest now))) new g (IsRejoined (tree_of h now) (factors_in i (forest now)))
-    → Gives (without_root i (forest old)) new g (IsJoined (factors_in i (forest old)))
-rejoin_given {i =
-    i} {h = h} {old = old} {now = now} p x = gives_as x p.rest (λ t e. rejoined (tree_of h now) (factors_in i (forest old)) (factors_in i (forest now)) t p.defined p.coefficient p.factors e)
-
 pub gathered_given : {i h g : ℕ} {old now : State} {new : Forest} → (p : AreParted i h old now)
     → Gives (without_root i (without_root h (forest now))) new g (IsOrdered (tree_of h now) (factors_in i (forest now)))
     → Gives (without_root i (forest old)) new g (IsGathered (factors_in i (forest old)))
@@ -158,9 +152,9 @@ parted_room {i = i} {h = h} {old = old} {now = now} gs r p s k =
 -- ---- rationals
 
 -- a coefficient alone is the answer
-stop_alone : (c : Tree) (ts : Trees) (t : Tree) → ts ≡ none → IsStop c ts t → t ≡ c
+pub stop_alone : (c : Tree) (ts : Trees) (t : Tree) → ts ≡ none → IsStop c ts t → t ≡ c
 stop_alone c ts t e (at_zero z is) = is
-stop_alone c ts t e (at_end z d h) = h.written.is ∙ ap (coefficient_times c) (permuted_none_is (permuted_lists ts h.written.us h.written.sorted.moved) e)
+stop_alone c ts t e (at_end z d h) = h.written.is ∙ ap (coefficient_times c) (permuted_none_is (of_lists ts h.written.us h.written.sorted.moved) e)
 
 pub answered : {i h : ℕ} {old now : State} (others : Forest) (v : PlainValue) (new : State) (r : Result Joining NumberFault) → AreParted i h old now
     → are_rationals (factors_in i (forest old)) ≡ true → IsPlainAnswer v (tree_of h now)
@@ -169,46 +163,37 @@ pub answered : {i h : ℕ} {old now : State} (others : Forest) (v : PlainValue) 
     → (factors_in i (forest now) ≡ none → IfErr r (λ f. ⊥)) → AnswersRationalFactors v new r
 answered others v new r p q a d j n = grind (arith, stop_alone, none_beside, given_told)
 
-pub step_answered : {i h : ℕ} {old now : State} (others : Forest) (v : PlainValue) (new : State) (r : Result Step NumberFault) → AreParted i h old now
-    → are_rationals (factors_in i (forest old)) ≡ true → IsPlainAnswer v (tree_of h now)
-    → IfOk r (λ s. IfDone s (λ g. Gives others (forest new) g (IsStop (tree_of h now) (factors_in i (forest now)))))
-    → IfOk r (λ s. IfAgain s (λ g. Gives others (forest new) g (IsRejoined (tree_of h now) (factors_in i (forest now)))))
-    → (factors_in i (forest now) ≡ none → IfErr r (λ f. ⊥)) → AnswersRationalStep v new r
-step_answered others v new r p q a d j n = grind (arith, stop_alone, none_beside, given_told)
-
 refused_words : (v : PlainValue) (new : State) (e : NumberFault) → AnswersRationals v new (Err e) → AnswersRationalFactors v new (Err e)
 refused_words v new e h = grind arith
 
 pub refused : (v : PlainValue) (new : State) (r : Result Joining NumberFault) (e : NumberFault) → IsErrAnd r (λ x. x ≡ e) → AnswersRationals v new (Err e) → AnswersRationalFactors v new r
 refused v new r e h k = grind (arith, refused_words)
 
-step_refused_words : (v : PlainValue) (new : State) (e : NumberFault) → AnswersRationals v new (Err e) → AnswersRationalStep v new (Err e)
-step_refused_words v new e h = grind arith
+-- ---- bounds
 
-pub step_refused : (v : PlainValue) (new : State) (r : Result Step NumberFault) (e : NumberFault) → IsErrAnd r (λ x. x ≡ e) → AnswersRationals v new (Err e) → AnswersRationalStep v new r
-step_refused v new r e h k = grind (arith, step_refused_words)
-
--- ---- a reduced tree
-
--- it counts no more than the product, has no new powers, and is spanned and held by what spans and holds that
-pub record IsWithin (p t : Tree) : Type 0 where
-  pub counted : counted t ≤ counted p
-  pub powers : HasPowersOf (children_of p) t
-  pub spanned : (gs : List ℕ) → SpansTree gs p → SpansTree gs t
-  pub held : (h l : ℕ) → has_undef (children_of p) ≡ false → AreFactorsHeld (children_of p) h l → IsFactorHeld t h l
-
-pub within : {t : Tree} (p : Tree) → is_mult p ≡ true → are_reduced (children_of p) ≡ true → IsFinished (children_of p) t → IsWithin p t
-within {t = t} p m r f =
-    by_test (λ (b : Bool). IsWithin p t) (has_undef (children_of p))
+-- of a reduced tree
+pub finished_bounds : {t : Tree} (ts : Trees) → are_reduced ts ≡ true → IsFinished ts t → KeepsProductBounds ts t
+finished_bounds {t = t} ts r f =
+    by_test (λ (b : Bool). KeepsProductBounds ts t) (has_undef ts)
     (λ u. let e = undef_words t (f.undefined ∙ u) in record {
-      counted = omega (arith, ap counted e, counts_one p);
-      powers = subst (HasPowersOf (children_of p)) (sym e) tt;
+      counts = omega (arith, ap counted e, counts_one (mult ts));
+      powers = subst (HasPowersOf ts) (sym e) tt;
       spanned = λ gs s. subst (SpansTree gs) (sym e) tt;
       held = λ h l d a. absurd (let no : true ≡ false = sym u ∙ d in cc);
     })
     (λ d. let w = f.written d in record {
-      counted = omega (arith, ap counted (mult_words p m), finished_counted (children_of p) t r d w);
-      powers = finished_powers (children_of p) t w;
-      spanned = λ gs s. spans_finished gs (children_of p) t (spans_factors gs p (children_of p) (mult_words p m) s) w;
-      held = λ h l d a. finished_held (children_of p) t h l r d a w;
+      counts = finished_counted ts t r d w;
+      powers = finished_powers ts t w;
+      spanned = λ gs s. spans_finished gs ts t s w;
+      held = λ h l d a. finished_held ts t h l r d a w;
     })
+
+-- of factors in order
+pub gathered_bounds : {t : Tree} (ts : Trees) → are_reduced ts ≡ true → IsGathered ts t → KeepsFactorBounds ts t
+gathered_bounds {t = t} ts r g = record {
+  counts = gathered_counted ts t g;
+  few_numbers = gathered_few ts t g;
+  powers = gathered_powers ts t g;
+  spanned = λ gs s. spans_gathered gs ts t s g;
+  held = λ h l d a. gathered_held ts t h l r d a g;
+}

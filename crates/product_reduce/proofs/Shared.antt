@@ -63,12 +63,13 @@ pub use Rattle.node_pool.specs.State.{State, free_of}
 pub use Rattle.number_forms.specs.Answers.{AnswersRationals}
 pub use Rattle.number_forms.specs.Readers.{is_zero}
 pub use Rattle.number_forms.specs.Sums.{removed}
-pub use Rattle.product_reduce.specs.Answers.{AnswersRationalFactors, AreJoinable, AreOthers, IfFinished, IfGathered, IfJoined, IsEnding, IsFinished, IsJoined, IsRejoined, IsStop, IsWritten, IsWrittenProduct, at_end, at_zero}
+pub use Rattle.product_reduce.specs.Answers.{AnswersRationalFactors, AreJoinable, AreOthers, IfFinished, IfJoined, IsEnding, IsFinished, IsJoined, IsStop, IsWritten, IsWrittenProduct, at_end, at_zero}
 pub use Rattle.product_reduce.specs.Bits.{AreFactorsHeld, IsFactorHeld, factor_held, none_held, term_held}
+pub use Rattle.product_reduce.specs.Bounds.{KeepsFactorBounds, KeepsProductBounds}
 pub use Rattle.product_reduce.specs.Factors.{IsCoefficient, coefficient_before, coefficient_times, numbers_in, opened, others_in, product_of_values}
 pub use Rattle.product_reduce.specs.Gathering.{IsGathered, IsLead, IsOrdered}
 pub use Rattle.product_reduce.specs.Joining.{IsJointAt, exponent_of, first_partner, has_partner, have_partners, is_partner, joined, joint, without_partner}
-pub use Rattle.product_reduce.specs.FirstPairs.{HasNoPartner, IsFirstPair}
+pub use Rattle.product_reduce.specs.FirstPairs.{HasNoPartner, IsFirstPair, IsRejoined}
 pub use Rattle.product_reduce.specs.Misfits.{MultiplyingOverflows, NamesProduct, SpreadingOverflows, multiplying, spreading}
 pub use Rattle.product_reduce.specs.Multiplying.{IsBegun, IsProductOf, IsUnderway}
 pub use Rattle.product_reduce.specs.Neighbours.{IsNextPair, IsPairAt, NoPairBetween, is_pair, is_single, joined_pair}

@@ -86,11 +86,6 @@ reduced_inserted zero t ts h k = and_from _ _ h k
 reduced_inserted (suc n) t none h k = and_from _ _ h refl
 reduced_inserted (suc n) t (more u ts) h k = let (a, b) = and_parts (is_reduced u) (are_reduced ts) k in and_from _ _ a (reduced_inserted n t ts h b)
 
-pub count_inserted : (n : ℕ) (t : Tree) (ts : Trees) → count (inserted n (more t none) ts) ≡ suc (count ts)
-count_inserted zero t ts = refl
-count_inserted (suc n) t none = refl
-count_inserted (suc n) t (more u ts) = ap suc (count_inserted n t ts)
-
 -- the product goes behind all other trees
 pub moved_product : {i n : ℕ} {f l g others : Forest} {us : Trees} → Becomes i f l us → Ends i (root_tree i l) (without_root i l) g → without_root i f ≡ others → n ≤ count us → are_reduced us ≡ true
     → Gives others g i (λ t. (is_mult t ≡ true) × (n ≤ count (children_of t)) × (are_reduced (children_of t) ≡ true))

@@ -1,16 +1,8 @@
 -- Factors in the order of their bases, no two of which are identical.
 use Rattle.std.specs.Prelude.{⊤, IsPermutation, IsSortedByKey}
-use Rattle.std.proofs.Common.{suc, arith, add-one, ◌≡◌, Bool, false, refl, sym, ap, ◌∙◌, subst}
-use Rattle.product_reduce.proofs.Shared.{Ordering, Less, is_eq, is_lt, ordering_reverse, base_of, NoneIs, RisesBy, tree_cmp, Tree, Trees, none, more, Permuted, permuted_none, permuted_more, permuted_swap, permuted_trans, permuted_trees, trees_of, tree_cmp_total, list_of, is_partner, has_partner, have_partners}
-
--- ---- lists of trees
-
-same_trees : (ts : Trees) → trees_of (list_of ts) ≡ ts
-same_trees none = refl
-same_trees (more t ts) = ap (more t) (same_trees ts)
-
-pub permuted_lists : (ts us : Trees) → IsPermutation (list_of ts) (list_of us) → Permuted ts us
-permuted_lists ts us h = subst (λ (x : Trees). Permuted x us) (same_trees ts) (subst (λ (x : Trees). Permuted (trees_of (list_of ts)) x) (same_trees us) (permuted_trees (list_of ts) (list_of us) h))
+use Rattle.std.proofs.Common.{suc, arith, add-one, ◌≡◌, false, sym, ap, ◌∙◌}
+use Rattle.product_reduce.proofs.Shared.{Ordering, Less, is_eq, is_lt, ordering_reverse, base_of, NoneIs, RisesBy, tree_cmp, Tree, Trees, none, more, Permuted, permuted_none, permuted_more, permuted_swap, permuted_trans, tree_cmp_total, list_of, is_partner, has_partner, have_partners}
+use Rattle.like_children.proofs.Permutations.{none_permuted, of_lists}
 
 -- ---- no two factors with one base
 
@@ -31,12 +23,6 @@ turned o = grind arith
 
 partner_turned : (t u : Tree) → is_partner t u ≡ is_partner u t
 partner_turned t u = ap is_eq (tree_cmp_total.antisymm (base_of t) (base_of u)) ∙ turned (tree_cmp (base_of u) (base_of t))
-
-pub none_permuted : (p : Tree → Bool) {ts us : Trees} → Permuted ts us → NoneIs p ts → NoneIs p us
-none_permuted p permuted_none h = tt
-none_permuted p (permuted_more k) h = (h.0, none_permuted p k h.1)
-none_permuted p permuted_swap h = (h.1.0, (h.0, h.1.1))
-none_permuted p (permuted_trans k l) h = none_permuted p l (none_permuted p k h)
 
 pub apart_permuted : {ts us : Trees} → Permuted ts us → AreApart ts → AreApart us
 apart_permuted permuted_none h = tt
@@ -59,4 +45,4 @@ rises_strictly (more t (more u us)) h s = (
 
 -- sorted factors, no two with one base
 pub sorted_rising : (ts us : Trees) → have_partners ts ≡ false → IsPermutation (list_of ts) (list_of us) → IsSortedByKey base_of tree_cmp (list_of us) → RisesBy base_of us
-sorted_rising ts us h m s = rises_strictly us (apart_permuted (permuted_lists ts us m) (apart_words ts h)) s
+sorted_rising ts us h m s = rises_strictly us (apart_permuted (of_lists ts us m) (apart_words ts h)) s

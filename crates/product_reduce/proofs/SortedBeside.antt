@@ -11,7 +11,7 @@ use Rattle.product_reduce.proofs.GatheredCounts.{sorted_counted}
 use Rattle.product_reduce.proofs.GatheredParts.{spans_sorted}
 use Rattle.product_reduce.proofs.LastSteps.{permuted_none_is}
 use Rattle.product_reduce.proofs.Products.{factors_are, product_at}
-use Rattle.product_reduce.proofs.Sorted.{permuted_lists}
+use Rattle.like_children.proofs.Permutations.{of_lists}
 
 -- the factors stand in the order of their bases, and the coefficient as before
 pub record AreSorted (i c : ℕ) (old now : State) : Type 0 where
@@ -33,7 +33,7 @@ sorts {i = i} {c = c} {old = old} {now = now} so sn k p o h d s =
     record {
       sorted = subst (IsSorting 0 base_of (factors_in i (forest old))) (sym own) s.sorted;
       product = product_at s.becomes.product refl (sym own);
-      others = subst AreOthers (sym own) (others_permuted (permuted_lists (factors_in i (forest old)) s.us s.sorted.moved) o);
+      others = subst AreOthers (sym own) (others_permuted (of_lists (factors_in i (forest old)) s.us s.sorted.moved) o);
       handed = beside_becomes c so sn p s.becomes h d;
       tree = ap plain (tree_becomes c so sn p s.becomes h d);
       rest = without-swap i c (forest now) a ∙ ap (without_root c) s.becomes.others ∙ sym (without-swap i c (forest old) a);
@@ -44,7 +44,7 @@ sorts {i = i} {c = c} {old = old} {now = now} so sn k p o h d s =
 -- ---- what follows of the factors as they stood
 
 pub none_sorted : {i c : ℕ} {old now : State} → AreSorted i c old now → factors_in i (forest old) ≡ none → factors_in i (forest now) ≡ none
-none_sorted {i = i} {old = old} {now = now} s e = permuted_none_is (permuted_lists (factors_in i (forest old)) (factors_in i (forest now)) s.sorted.moved) e
+none_sorted {i = i} {old = old} {now = now} s e = permuted_none_is (of_lists (factors_in i (forest old)) (factors_in i (forest now)) s.sorted.moved) e
 
 pub ending_sorted : {i c : ℕ} {old now : State} (t : Tree) → AreSorted i c old now → IsEnding (tree_of c now) (factors_in i (forest now)) t → IsEnding (tree_of c old) (factors_in i (forest old)) t
 ending_sorted {i =

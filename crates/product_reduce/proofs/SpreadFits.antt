@@ -13,7 +13,7 @@ use Rattle.tree_handles.specs.Causes.{IsCaused, Overflows}
 use Rattle.product_reduce.proofs.GatheredCounts.{single_monic}
 use Rattle.product_reduce.proofs.HeldFactors.{AreHeldApart}
 use Rattle.product_reduce.proofs.HeldProducts.{apart, sum_addends}
-use Rattle.product_reduce.proofs.HeldMultiples.{rational_value}
+use Rattle.like_children.proofs.Addends.{rational_value}
 use Rattle.product_reduce.proofs.Stepped.{others_are}
 use Rattle.calc_algebra.proofs.NumberClasses as numbers
 use Rattle.std.proofs.lemmas.Bool.{true≢false}

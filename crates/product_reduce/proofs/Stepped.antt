@@ -1,7 +1,7 @@
 -- From the handed product to its other factors, and from one answer to another.
 use Rattle.std.proofs.Common.{arith, ℕ, ◌≡◌, Result, true, false, refl, ap, ◌∙◌}
 use Rattle.std.specs.Prelude.{IfOk}
-use Rattle.product_reduce.proofs.Shared.{and_from, Tree, mult, Trees, none, more, is_mult, has_undef, are_rationals, are_reduced, NumberFault, plain, children_of, Forest, IsHanded, root_tree, Joining, Step, IfDone, IfAgain, AreOthers, IfFinished, IfJoined, IfGathered, opened, others_in, IsProduct, factors_in}
+use Rattle.product_reduce.proofs.Shared.{and_from, Tree, mult, Trees, none, more, is_mult, has_undef, are_rationals, are_reduced, NumberFault, plain, children_of, Forest, IsHanded, root_tree, Joining, AreOthers, IfFinished, IfJoined, opened, others_in, IsProduct, factors_in}
 use Rattle.product_reduce.proofs.Finished.{formed_defined, formed_reduced, reduced_formed, opened_rationals, rationals_alone}
 use Rattle.product_reduce.proofs.Forms.{AllFormed, opened_formed, others_formed, others_no_numbers, others_none, opened_flat}
 
@@ -36,14 +36,3 @@ finished_map r p f = grind arith
 
 pub joined_map : {P Q : ℕ → ℕ → Type 0} (r : Result Joining NumberFault) → IfOk r (λ s. IfJoined s P) → ((h at : ℕ) → P h at → Q h at) → IfOk r (λ s. IfJoined s Q)
 joined_map r p f = grind arith
-
-pub both_map : {P : ℕ → Type 0} {Q : ℕ → ℕ → Type 0} {R : ℕ → Type 0} (r : Result Joining NumberFault) → IfOk r (λ s. IfFinished s P) → IfOk r (λ s. IfJoined s Q) → ((h : ℕ) → P h → R h)
-    → ((h at : ℕ) → Q h at → R h)
-    → IfOk r (λ s. IfGathered s R)
-both_map r p q f g = grind arith
-
-pub done_map : {P Q : ℕ → Type 0} (r : Result Step NumberFault) → IfOk r (λ s. IfDone s P) → ((h : ℕ) → P h → Q h) → IfOk r (λ s. IfDone s Q)
-done_map r p f = grind arith
-
-pub again_map : {P Q : ℕ → Type 0} (r : Result Step NumberFault) → IfOk r (λ s. IfAgain s P) → ((h : ℕ) → P h → Q h) → IfOk r (λ s. IfAgain s Q)
-again_map r p f = grind arith

@@ -66,11 +66,6 @@ abbrev pub IfJoined : Joining → (ℕ → ℕ → Type 0) → Type 0
 IfJoined (joining.Done h) P = ⊤
 IfJoined (joining.Joined product at) P = P product at
 
--- a fact of either
-abbrev pub IfGathered : Joining → (ℕ → Type 0) → Type 0
-IfGathered (joining.Done h) P = P h
-IfGathered (joining.Joined product at) P = P product
-
 -- rationals: their product where it fits, its overflow where it does not, and bytes are lacking only for a number in the long form
 abbrev pub AnswersRationalFactors : PlainValue → State → Result Joining NumberFault → Type 0
 AnswersRationalFactors v new (Ok (joining.Done h)) = IsPlainAnswer v (tree_of h new)
@@ -100,9 +95,3 @@ pub record IsEnding (c : Tree) (ts : Trees) (new : Tree) : Type 0 where
 pub data IsStop (c : Tree) (ts : Trees) (t : Tree) : Type 0 where
   at_zero : is_zero c ≡ true → t ≡ c → IsStop c ts t
   at_end : is_zero c ≡ false → have_partners ts ≡ false → IsEnding c ts t → IsStop c ts t
-
--- what is answered where a pair was joined
-pub record IsRejoined (c : Tree) (ts : Trees) (t : Tree) : Type 0 where
-  pub not_zero : is_zero c ≡ false
-  pub partners : have_partners ts ≡ true
-  pub is : t ≡ mult (coefficient_before c (joined ts))

@@ -1,7 +1,9 @@
--- The first two factors with identical bases, by their places, counted from 0.
+-- What only a step by itself joins: the first two factors with identical bases, by their places, counted from 0.
 use Rattle.std.specs.Prelude.{ℕ, ◌≡◌, ◌<◌, true, false}
-use Rattle.calc_terms.specs.Trees.{Trees, count}
-use Rattle.product_reduce.specs.Joining.{is_partner}
+use Rattle.calc_terms.specs.Trees.{Tree, mult, Trees, count}
+use Rattle.number_forms.specs.Readers.{is_zero}
+use Rattle.product_reduce.specs.Factors.{coefficient_before}
+use Rattle.product_reduce.specs.Joining.{have_partners, is_partner, joined}
 use Rattle.tree_handles.specs.Expressions.{nth}
 
 -- none of the factors behind one and before another place has its base
@@ -19,3 +21,9 @@ pub record IsNearest (i j : ℕ) (ts : Trees) : Type 0 where
 pub record IsFirstPair (i j : ℕ) (ts : Trees) : Type 0 where
   pub pair : IsNearest i j ts
   pub first : (k : ℕ) → k < i → HasNoPartner k (count ts) ts
+
+-- what is answered where they were joined, behind a coefficient
+pub record IsRejoined (c : Tree) (ts : Trees) (t : Tree) : Type 0 where
+  pub not_zero : is_zero c ≡ false
+  pub partners : have_partners ts ≡ true
+  pub is : t ≡ mult (coefficient_before c (joined ts))

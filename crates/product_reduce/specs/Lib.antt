@@ -9,3 +9,4 @@ pub mod Misfits
 pub mod Neighbours
 pub mod Gathering
 pub mod Bits
+pub mod Bounds

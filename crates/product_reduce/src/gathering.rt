@@ -4,15 +4,15 @@ ghost use Rattle.tree_bits.specs.Rows.{AreFewBits};
 ghost use Rattle.calc_algebra.specs.Numbers.{is_number};
 ghost use Rattle.calc_algebra.specs.Reduced.{are_reduced};
 ghost use Rattle.calc_measures.specs.PlainValues.{plain_value};
-ghost use Rattle.calc_room.specs.Counts.{counted, counted_among};
-ghost use Rattle.calc_room.specs.Powers.{HasPowersOf};
+ghost use Rattle.calc_room.specs.Counts.{counted};
 ghost use Rattle.calc_room.specs.Spans.{SpansTree, SpansTrees};
 ghost use Rattle.calc_terms.specs.Trees.{Tree, count, is_mult, mult, none, are_rationals, has_undef, size};
 ghost use Rattle.coefficients.specs.Rooms.{LacksRoom};
 ghost use Rattle.node_pool.specs.State.{free_of};
 ghost use Rattle.tree_handles.specs.Lacking.{LacksBelow};
-ghost use Rattle.product_reduce.specs.Answers.{AreOthers, IfFinished, IfJoined, IfGathered, IsFinished, IsStop, AnswersRationalFactors};
-ghost use Rattle.product_reduce.specs.Bits.{AreFactorsHeld, IsFactorHeld};
+ghost use Rattle.product_reduce.specs.Answers.{AreOthers, IfFinished, IfJoined, IsFinished, IsStop, AnswersRationalFactors};
+ghost use Rattle.product_reduce.specs.Bits.{AreFactorsHeld};
+ghost use Rattle.product_reduce.specs.Bounds.{KeepsFactorBounds, KeepsProductBounds};
 ghost use Rattle.product_reduce.specs.Factors.{others_in, coefficient_before};
 ghost use Rattle.product_reduce.specs.Gathering.{IsGathered, IsLead, IsOrdered};
 ghost use Rattle.product_reduce.specs.Misfits.{IsFactorMisfit, SpreadingOverflows};
@@ -24,7 +24,7 @@ ghost use Rattle.tree_handles.specs.Faults.{OfOverflow, Faults};
 ghost use Rattle.tree_handles.specs.Handed.{tree_of, IsHanded, Gives, KeepsFront};
 ghost use Rattle.tree_handles.specs.Roots.{without_root};
 ghost use Rattle.tree_handles.specs.Standing.{LacksBytes, Stands, forest, KeepsRefusals, Refuses};
-ghost use Rattle.tree_room.specs.Handed.{numbers_among, product_count};
+ghost use Rattle.tree_room.specs.Handed.{product_count};
 ghost use Rattle.tree_room.specs.Needs.{product_step_room};
 
 use crate::endings::{alone, finished};
@@ -77,23 +77,12 @@ pub fn gather_factors(pool: &mut Pool, product: Handle) -> Result<Joining, Numbe
     ensures room { let t = tree_of product pool.old in (gs : List ℕ) → SpansTree gs t
         → IfErr result (LacksBelow (product_step_room (product_count (children_of t)) (2 ^ length gs)) (free_of pool.old + size t)) }
 
-    // A reduced tree counts no more than the product, and factors in order no more than the handed ones. Two of these at most are
-    // Numbers: a rational, and the root that it stands before.
-    ensures counted { IfOk result (λ s. IfFinished s (λ h. counted (tree_of h pool.new) ≤ counted (tree_of product pool.old))) }
-    ensures counted_among { IfOk result (λ s. IfJoined s (λ h _.
-        counted_among (children_of (tree_of h pool.new)) ≤ counted_among (children_of (tree_of product pool.old)))) }
-    ensures few_numbers { IfOk result (λ s. IfJoined s (λ h _. numbers_among (children_of (tree_of h pool.new)) ≤ 2)) }
+    // A reduced tree counts no more than the product, has no new powers, and is spanned and held by what spans and holds the factors.
+    // So do factors in order, of which two at most are Numbers.
+    ensures bounds { IfOk result (λ s. IfFinished s (λ h. KeepsProductBounds (children_of (tree_of product pool.old)) (tree_of h pool.new))) }
+    ensures joined_bounds { IfOk result (λ s. IfJoined s (λ h _. KeepsFactorBounds (children_of (tree_of product pool.old)) (tree_of h pool.new))) }
 
-    // No power is new, and what spans the product spans what it becomes.
-    ensures powers { IfOk result (λ s. IfGathered s (λ h. HasPowersOf (children_of (tree_of product pool.old)) (tree_of h pool.new))) }
-    ensures spanned { (gs : List ℕ) → SpansTree gs (tree_of product pool.old) → IfOk result (λ s. IfGathered s (λ h. SpansTree gs (tree_of h pool.new))) }
-
-    // What holds the factors one by one holds a reduced tree, as a factor, or the factors in order. Nothing overflows where these bits
-    // are few.
-    ensures held { (h l : ℕ) → has_undef (children_of (tree_of product pool.old)) ≡ false → AreFactorsHeld (children_of (tree_of product pool.old)) h l
-        → IfOk result (λ s. IfFinished s (λ r. IsFactorHeld (tree_of r pool.new) h l)) }
-    ensures factors_held { (h l : ℕ) → has_undef (children_of (tree_of product pool.old)) ≡ false → AreFactorsHeld (children_of (tree_of product pool.old)) h l
-        → IfOk result (λ s. IfJoined s (λ r _. AreFactorsHeld (children_of (tree_of r pool.new)) h l)) }
+    // Where the bits that hold the factors one by one are few, nothing overflows.
     ensures bits { (h l : ℕ) → AreFactorsHeld (children_of (tree_of product pool.old)) h l → AreFewBits h l → IfErr result (OfOverflow (λ o. ⊥)) }
 
     ensures stands { Stands pool.new }

@@ -4,14 +4,14 @@ ghost use Rattle.tree_bits.specs.Rows.{AreFewBits};
 ghost use Rattle.calc_algebra.specs.Numbers.{is_number};
 ghost use Rattle.calc_measures.specs.PlainValues.{plain_value};
 ghost use Rattle.calc_room.specs.Counts.{counted};
-ghost use Rattle.calc_room.specs.Powers.{HasPowersOf};
 ghost use Rattle.calc_room.specs.Spans.{SpansTree, SpansTrees};
 ghost use Rattle.calc_terms.specs.Trees.{count, is_mult, mult, none, are_rationals, has_undef, size};
 ghost use Rattle.coefficients.specs.Rooms.{put_room, LacksRoom};
 ghost use Rattle.node_pool.specs.State.{free_of};
 ghost use Rattle.tree_handles.specs.Lacking.{LacksBelow};
-ghost use Rattle.product_reduce.specs.Answers.{AreOthers, IsFinished, IsJoined, IsStop, IsRejoined, IsEnding};
-ghost use Rattle.product_reduce.specs.Bits.{AreFactorsHeld, IsFactorHeld};
+ghost use Rattle.product_reduce.specs.Answers.{AreOthers, IsFinished, IsJoined, IsStop, IsEnding};
+ghost use Rattle.product_reduce.specs.Bits.{AreFactorsHeld};
+ghost use Rattle.product_reduce.specs.Bounds.{KeepsProductBounds};
 ghost use Rattle.product_reduce.specs.Products.{IsProduct, factors_in};
 ghost use Rattle.tree_handles.specs.Faults.{OfOverflow, Faults};
 ghost use Rattle.product_reduce.specs.Misfits.{IsFactorMisfit, SpreadingOverflows};
@@ -25,7 +25,7 @@ ghost use Rattle.tree_room.specs.Needs.{product_step_room};
 ghost use Rattle.tree_handles.specs.Roots.{without_root};
 ghost use Rattle.tree_handles.specs.Standing.{Stands, forest, KeepsRefusals, LacksBytes, Refuses};
 ghost use Rattle.product_reduce.specs.Joining.{have_partners, is_partner, joined};
-ghost use Rattle.product_reduce.specs.FirstPairs.{HasNoPartner, IsFirstPair, IsNearest};
+ghost use Rattle.product_reduce.specs.FirstPairs.{HasNoPartner, IsFirstPair, IsNearest, IsRejoined};
 ghost use Rattle.product_reduce.specs.Factors.{coefficient_before};
 ghost use Rattle.number_forms.specs.Readers.{is_zero};
 
@@ -69,17 +69,13 @@ pub fn product_step(pool: &mut Pool, product: Handle) -> Result<Step, NumberFaul
     ensures room { let t = tree_of product pool.old in (gs : List ℕ) → SpansTree gs t
         → IfErr result (LacksBelow (product_step_room (product_count (children_of t)) (2 ^ length gs)) (free_of pool.old + size t)) }
 
-    // A reduced tree counts no more than the product, and has no new powers; a product in which a pair was joined counts one more at
-    // most. What spans the product spans what it becomes.
-    ensures counted { IfOk result (λ s. IfDone s (λ h. counted (tree_of h pool.new) ≤ counted (tree_of product pool.old))) }
+    // A reduced tree counts no more than the product, has no new powers, and is spanned and held by what spans and holds the factors. A
+    // product in which a pair was joined counts one more at most, and is spanned by what spans the product.
+    ensures bounds { IfOk result (λ s. IfDone s (λ h. KeepsProductBounds (children_of (tree_of product pool.old)) (tree_of h pool.new))) }
     ensures again_counted { IfOk result (λ s. IfAgain s (λ h. counted (tree_of h pool.new) ≤ counted (tree_of product pool.old) + 1)) }
-    ensures powers { IfOk result (λ s. IfDone s (λ h. HasPowersOf (children_of (tree_of product pool.old)) (tree_of h pool.new))) }
-    ensures spanned { (gs : List ℕ) → SpansTree gs (tree_of product pool.old) → IfOk result (λ s. IfDone s (λ h. SpansTree gs (tree_of h pool.new))) }
     ensures again_spanned { (gs : List ℕ) → SpansTree gs (tree_of product pool.old) → IfOk result (λ s. IfAgain s (λ h. SpansTree gs (tree_of h pool.new))) }
 
-    // What holds the factors one by one holds a reduced tree, as a factor. Nothing overflows where these bits are few.
-    ensures held { (h l : ℕ) → has_undef (children_of (tree_of product pool.old)) ≡ false → AreFactorsHeld (children_of (tree_of product pool.old)) h l
-        → IfOk result (λ s. IfDone s (λ r. IsFactorHeld (tree_of r pool.new) h l)) }
+    // Where the bits that hold the factors one by one are few, nothing overflows.
     ensures bits { (h l : ℕ) → AreFactorsHeld (children_of (tree_of product pool.old)) h l → AreFewBits h l → IfErr result (OfOverflow (λ o. ⊥)) }
 
     ensures stands { Stands pool.new }
@@ -93,7 +89,7 @@ pub fn product_step(pool: &mut Pool, product: Handle) -> Result<Step, NumberFaul
 }
 
 /// A step on a coefficient and the other factors.
-#[tactic(auto, using(crate::proofs::Misfits::none_named, tree_handles::proofs::Outcomes::passed_on, coefficients::proofs::Lacks::refusal_lacks, crate::proofs::FreeBytes::pair_lacks))]
+#[tactic(auto, using(crate::proofs::Misfits::none_named, tree_handles::proofs::Outcomes::passed_on, coefficients::proofs::Lacks::refusal_lacks, crate::proofs::Rejoined::pair_lacks))]
 fn join_or_end(pool: &mut Pool, product: Handle, coefficient: Handle) -> Result<Step, NumberFault>
     requires stands { Stands pool.old }
     requires product { IsProduct product (forest pool.old) (factors_in product (forest pool.old)) }

@@ -59,7 +59,8 @@ pub returns-clause-overflow : goal.returns-clause-overflow
 returns-clause-overflow c =
     let r = readied_here c.args.product c.args.coefficient c.requires.product c.requires.coefficient c.requires.differ c.requires.order in
     refused_as c.put_coefficient.result c.put_coefficient.ensures.named
-    (λ o h. put_misfit c.args.product c.args.coefficient c.unwrapped-part.result _ _ _ c.requires.apart r (part_given c.args.product c.args.coefficient c.unwrapped-part.result _ _ _ r c.unwrapped-part.ensures.tree) o h)
+    (λ o h. put_misfit c.args.product c.args.coefficient c.unwrapped-part.result _ _ _ c.requires.apart r
+    (part_given c.args.product c.args.coefficient c.unwrapped-part.result _ _ _ r c.unwrapped-part.ensures.tree) o h)
 
 pub returns-clause-room : goal.returns-clause-room
 returns-clause-room c gs s k =
@@ -67,7 +68,8 @@ returns-clause-room c gs s k =
     let r = readied_here c.args.product c.args.coefficient c.requires.product c.requires.coefficient c.requires.differ c.requires.order in
     let g = c.unwrapped-part.ensures.tree in
     let same : tree_of c.args.coefficient c.unwrapped-part.new.pool ≡ tree_of c.args.coefficient c.args.pool.now =
-    ap plain (given_same c.args.coefficient g (alone_handed c.args.product c.args.coefficient _ _ c.requires.apart r).root ∙ tree-without c.args.product c.args.coefficient (forest c.args.pool.now) (eqb-sym c.args.coefficient c.args.product c.requires.apart)) in
+    ap plain (given_same c.args.coefficient g (alone_handed c.args.product c.args.coefficient _ _ c.requires.apart r).root
+    ∙ tree-without c.args.product c.args.coefficient (forest c.args.pool.now) (eqb-sym c.args.coefficient c.args.product c.requires.apart)) in
     let part : tree_of c.unwrapped-part.result c.unwrapped-part.new.pool ≡ product_tree ts = given_told g in
     let free = replaced_free c.requires.stands c.unwrapped-part.ensures.stands c.unwrapped-part.ensures.kept c.requires.product.handed g in
     let room : put_room (counted (tree_of c.unwrapped-part.result c.unwrapped-part.new.pool)) (2 ^ length gs) ≡ put_room (counted (mult ts)) (2 ^ length gs) =

@@ -1,15 +1,12 @@
-use Rattle.std.proofs.Common.{ℕ, ◌≡◌, ◌∙◌, Ok, Err, ap, sym, refl, subst, arith, true, false}
-use Rattle.product_reduce.proofs.Shared.{PlainValue, IsPlainAnswer, AnswersRationals, result_lacks, tree_of, forest, gives_as, given_told, IsFinished, IsCoefficient, others_in, factors_in, Forest, Gives, plain, root_tree}
+use Rattle.std.proofs.Common.{◌≡◌, ◌∙◌, Ok, Err, ap, sym, refl, subst, arith, true, false}
+use Rattle.product_reduce.proofs.Shared.{PlainValue, IsPlainAnswer, AnswersRationals, result_lacks, tree_of, forest, gives_as, given_told, IsFinished, IsCoefficient, others_in, factors_in}
 use Rattle.product_reduce.proofs.Finished.{reduced_formed, stopped, undef_finished, rationals_defined}
 use Rattle.product_reduce.proofs.Forms.{opened_flat}
 use Rattle.product_reduce.proofs.Gathered.{gathered}
-use Rattle.product_reduce.proofs.GatheredCounts.{gathered_counted, gathered_few}
-use Rattle.product_reduce.proofs.GatheredParts.{gathered_powers, spans_factors, spans_gathered}
-use Rattle.product_reduce.proofs.HeldProducts.{gathered_held}
 use Rattle.product_reduce.proofs.Leads.{opened_some}
-use Rattle.product_reduce.proofs.Parted.{IsWithin, AreOpened, AreParted, opens, parted, reduced_now, rationals_opened, numbers_overflow, numbers_fit, numbers_room, stop_given, gathered_given, spreading_given, spreading_fits, parted_room, answered, refused, within}
-use Rattle.product_reduce.proofs.Stepped.{mult_words, others_are, finished_map, joined_map, both_map, none_beside}
-use Rattle.product_reduce.proofs.gathering.gather_factors.Goals.{After-has_undef_factor, After-open_products, In_ok-coefficient}
+use Rattle.product_reduce.proofs.Parted.{AreOpened, AreParted, opens, parted, reduced_now, rationals_opened, numbers_overflow, numbers_fit, numbers_room, stop_given, gathered_given, spreading_given, spreading_fits, parted_room, answered, refused, finished_bounds, gathered_bounds}
+use Rattle.product_reduce.proofs.Stepped.{others_are, finished_map, joined_map, none_beside}
+use Rattle.product_reduce.proofs.gathering.gather_factors.Goals.{After-open_products, In_ok-coefficient}
 use Rattle.product_reduce.proofs.gathering.gather_factors.Goals as goal
 
 opened_now : (c : After-open_products) → AreOpened c.args.product c.args.pool.now c.open_products.new.pool
@@ -22,11 +19,6 @@ parts c =
     let o = opens c.requires.stands c.requires.handed c.requires.product c.requires.some c.requires.reduced (sym c.has_undef_factor.ensures ∙ c.if-has_undef_factor.false) c.open_products.ensures.stands c.open_products.ensures.kept c.open_products.ensures.opened in
     parted o c.take_coefficient.ensures.stands c.in_ok-coefficient.ensures.kept c.in_ok-coefficient.ensures.taken c.in_ok-coefficient.ensures.coefficient c.take_coefficient.ensures.front
 
--- what is finished counts no more than the product, and is spanned and held by what spans and holds that
-no_more : (c : After-has_undef_factor) {h : ℕ} {others new : Forest} → Gives others new h (IsFinished (factors_in c.args.product (forest c.args.pool.now)))
-    → IsWithin (tree_of c.args.product c.args.pool.now) (plain (root_tree h new))
-no_more c x = within (tree_of c.args.product c.args.pool.now) c.requires.product c.requires.reduced (given_told x)
-
 -- ---- a factor is Undef
 
 pub returns-then-has_undef_factor-clause-done : goal.returns-then-has_undef_factor-clause-done
@@ -34,21 +26,12 @@ returns-then-has_undef_factor-clause-done c =
     let ts = factors_in c.args.product (forest c.args.pool.now) in
     gives_as c.undefined.ensures.gives refl (λ t e. subst (IsFinished ts) (sym e) (undef_finished ts (sym c.has_undef_factor.ensures ∙ c.if-has_undef_factor.true)))
 
+pub returns-then-has_undef_factor-clause-bounds : goal.returns-then-has_undef_factor-clause-bounds
+returns-then-has_undef_factor-clause-bounds c = finished_bounds _ c.requires.reduced (given_told (returns-then-has_undef_factor-clause-done c))
+
 pub returns-then-has_undef_factor-clause-rationals : goal.returns-then-has_undef_factor-clause-rationals
 returns-then-has_undef_factor-clause-rationals c =
     λ r. absurd (let no : true ≡ false = sym c.if-has_undef_factor.true ∙ c.has_undef_factor.ensures ∙ rationals_defined (factors_in c.args.product (forest c.args.pool.now)) r in cc)
-
-pub returns-then-has_undef_factor-clause-counted : goal.returns-then-has_undef_factor-clause-counted
-returns-then-has_undef_factor-clause-counted c = (no_more (goal.at.returns-then-has_undef_factor-clause-counted c).After-has_undef_factor (returns-then-has_undef_factor-clause-done c)).counted
-
-pub returns-then-has_undef_factor-clause-powers : goal.returns-then-has_undef_factor-clause-powers
-returns-then-has_undef_factor-clause-powers c = (no_more (goal.at.returns-then-has_undef_factor-clause-powers c).After-has_undef_factor (returns-then-has_undef_factor-clause-done c)).powers
-
-pub returns-then-has_undef_factor-clause-spanned : goal.returns-then-has_undef_factor-clause-spanned
-returns-then-has_undef_factor-clause-spanned c = (no_more (goal.at.returns-then-has_undef_factor-clause-spanned c).After-has_undef_factor (returns-then-has_undef_factor-clause-done c)).spanned
-
-pub returns-then-has_undef_factor-clause-held : goal.returns-then-has_undef_factor-clause-held
-returns-then-has_undef_factor-clause-held c = (no_more (goal.at.returns-then-has_undef_factor-clause-held c).After-has_undef_factor (returns-then-has_undef_factor-clause-done c)).held
 
 -- ---- the coefficient stands first as it is written
 
@@ -78,33 +61,11 @@ returns-in-Some-clause-gathered c =
 pub returns-in-Some-clause-rationals : goal.returns-in-Some-clause-rationals
 returns-in-Some-clause-rationals c = grind (arith, opened_now, none_beside)
 
-pub returns-in-Some-clause-counted : goal.returns-in-Some-clause-counted
-returns-in-Some-clause-counted c =
-    finished_map (Ok c.order_behind.result) (returns-in-Some-clause-done c) (λ h x. (no_more (goal.at.returns-in-Some-clause-counted c).After-has_undef_factor x).counted)
+pub returns-in-Some-clause-bounds : goal.returns-in-Some-clause-bounds
+returns-in-Some-clause-bounds c = finished_map (Ok c.order_behind.result) (returns-in-Some-clause-done c) (λ h x. finished_bounds _ c.requires.reduced (given_told x))
 
-pub returns-in-Some-clause-counted_among : goal.returns-in-Some-clause-counted_among
-returns-in-Some-clause-counted_among c = joined_map (Ok c.order_behind.result) (returns-in-Some-clause-gathered c) (λ h at x. gathered_counted _ _ (given_told x))
-
-pub returns-in-Some-clause-few_numbers : goal.returns-in-Some-clause-few_numbers
-returns-in-Some-clause-few_numbers c = joined_map (Ok c.order_behind.result) (returns-in-Some-clause-gathered c) (λ h at x. gathered_few _ _ (given_told x))
-
-pub returns-in-Some-clause-powers : goal.returns-in-Some-clause-powers
-returns-in-Some-clause-powers c =
-    both_map (Ok c.order_behind.result) (returns-in-Some-clause-done c) (returns-in-Some-clause-gathered c)
-    (λ h x. (no_more (goal.at.returns-in-Some-clause-powers c).After-has_undef_factor x).powers) (λ h at x. gathered_powers _ _ (given_told x))
-
-pub returns-in-Some-clause-spanned : goal.returns-in-Some-clause-spanned
-returns-in-Some-clause-spanned c = λ gs s.
-    both_map (Ok c.order_behind.result) (returns-in-Some-clause-done c) (returns-in-Some-clause-gathered c)
-    (λ h x. (no_more (goal.at.returns-in-Some-clause-spanned c).After-has_undef_factor x).spanned gs s)
-    (λ h at x. spans_gathered gs _ _ (spans_factors gs _ _ (mult_words (tree_of c.args.product c.args.pool.now) c.requires.product) s) (given_told x))
-
-pub returns-in-Some-clause-held : goal.returns-in-Some-clause-held
-returns-in-Some-clause-held c h l d a =
-    finished_map (Ok c.order_behind.result) (returns-in-Some-clause-done c) (λ i x. (no_more (goal.at.returns-in-Some-clause-held c).After-has_undef_factor x).held h l d a)
-
-pub returns-in-Some-clause-factors_held : goal.returns-in-Some-clause-factors_held
-returns-in-Some-clause-factors_held c h l d a = joined_map (Ok c.order_behind.result) (returns-in-Some-clause-gathered c) (λ i at x. gathered_held _ _ h l c.requires.reduced d a (given_told x))
+pub returns-in-Some-clause-joined_bounds : goal.returns-in-Some-clause-joined_bounds
+returns-in-Some-clause-joined_bounds c = joined_map (Ok c.order_behind.result) (returns-in-Some-clause-gathered c) (λ h at x. gathered_bounds _ c.requires.reduced (given_told x))
 
 -- ---- Numbers that are not multiplied
 
@@ -154,30 +115,11 @@ returns-clause-overflow c = spreading_given c.order_or_end.result (parts (goal.a
 pub returns-clause-front : goal.returns-clause-front
 returns-clause-front c = (parts (goal.at.returns-clause-front c).In_ok-coefficient).front _ c.order_or_end.ensures.front
 
-pub returns-clause-counted : goal.returns-clause-counted
-returns-clause-counted c = finished_map c.order_or_end.result (returns-clause-done c) (λ h x. (no_more (goal.at.returns-clause-counted c).After-has_undef_factor x).counted)
+pub returns-clause-bounds : goal.returns-clause-bounds
+returns-clause-bounds c = finished_map c.order_or_end.result (returns-clause-done c) (λ h x. finished_bounds _ c.requires.reduced (given_told x))
 
-pub returns-clause-counted_among : goal.returns-clause-counted_among
-returns-clause-counted_among c = joined_map c.order_or_end.result (returns-clause-gathered c) (λ h at x. gathered_counted _ _ (given_told x))
-
-pub returns-clause-few_numbers : goal.returns-clause-few_numbers
-returns-clause-few_numbers c = joined_map c.order_or_end.result (returns-clause-gathered c) (λ h at x. gathered_few _ _ (given_told x))
-
-pub returns-clause-powers : goal.returns-clause-powers
-returns-clause-powers c =
-    both_map c.order_or_end.result (returns-clause-done c) (returns-clause-gathered c) (λ h x. (no_more (goal.at.returns-clause-powers c).After-has_undef_factor x).powers)
-    (λ h at x. gathered_powers _ _ (given_told x))
-
-pub returns-clause-spanned : goal.returns-clause-spanned
-returns-clause-spanned c = λ gs s.
-    both_map c.order_or_end.result (returns-clause-done c) (returns-clause-gathered c) (λ h x. (no_more (goal.at.returns-clause-spanned c).After-has_undef_factor x).spanned gs s)
-    (λ h at x. spans_gathered gs _ _ (spans_factors gs _ _ (mult_words (tree_of c.args.product c.args.pool.now) c.requires.product) s) (given_told x))
-
-pub returns-clause-held : goal.returns-clause-held
-returns-clause-held c h l d a = finished_map c.order_or_end.result (returns-clause-done c) (λ i x. (no_more (goal.at.returns-clause-held c).After-has_undef_factor x).held h l d a)
-
-pub returns-clause-factors_held : goal.returns-clause-factors_held
-returns-clause-factors_held c h l d a = joined_map c.order_or_end.result (returns-clause-gathered c) (λ i at x. gathered_held _ _ h l c.requires.reduced d a (given_told x))
+pub returns-clause-joined_bounds : goal.returns-clause-joined_bounds
+returns-clause-joined_bounds c = joined_map c.order_or_end.result (returns-clause-gathered c) (λ h at x. gathered_bounds _ c.requires.reduced (given_told x))
 
 pub returns-clause-bits : goal.returns-clause-bits
 returns-clause-bits c h l a few = grind (arith, spreading_fits, parts)

@@ -2,7 +2,7 @@ use Rattle.std.proofs.Common.{◌≡◌, ◌∙◌, ap, sym, refl, rules}
 use Rattle.product_reduce.proofs.Shared.{passed_lacks, is_number, mult, coefficient_before, tree_of, is_zero, factors_in, forest, gives_as, expression_root, plain_root, passed_on, at_zero, at_end}
 use Rattle.product_reduce.proofs.Finished.{reduced_nth}
 use Rattle.product_reduce.proofs.Neighbours.{pair_partners, sorted_apart, apart_before}
-use Rattle.product_reduce.proofs.Sorted.{permuted_lists}
+use Rattle.like_children.proofs.Permutations.{of_lists}
 use Rattle.product_reduce.proofs.SortedBeside.{AreSorted, sorts, none_sorted, ending_sorted, spreading_sorted, room_sorted}
 use Rattle.product_reduce.proofs.gathering.order_or_end.Goals.{After-is_zero, After-sort_factors}
 use Rattle.product_reduce.proofs.gathering.order_or_end.Goals as goal
@@ -68,7 +68,7 @@ pub returns-in_ok-finished-in-None-clause-done : goal.returns-in_ok-finished-in-
 returns-in_ok-finished-in-None-clause-done c =
     let nonzero = zero-is (goal.at.returns-in_ok-finished-in-None-clause-done c).After-is_zero ∙ c.if-is_zero.false in
     let s = sorted (goal.at.returns-in_ok-finished-in-None-clause-done c).After-sort_factors in
-    let differ = apart_before (permuted_lists _ _ s.sorted.moved) (sorted_apart _ s.others.no_number s.others.no_product s.sorted.rising c.in-None.ensures.pair) in
+    let differ = apart_before (of_lists _ _ s.sorted.moved) (sorted_apart _ s.others.no_number s.others.no_product s.sorted.rising c.in-None.ensures.pair) in
     gives_as c.in_ok-finished-in-None.ensures.ok s.rest (λ t e. at_end nonzero differ (ending_sorted t s e))
 
 pub returns-in_err-finished-in-None-clause-alone : goal.returns-in_err-finished-in-None-clause-alone

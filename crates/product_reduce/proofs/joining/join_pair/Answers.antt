@@ -3,7 +3,8 @@ use Rattle.product_reduce.proofs.Shared.{Becomes, Forest, Tree, Trees, count_rem
 use Rattle.product_reduce.proofs.Beside.{beside_product, behind_beside}
 use Rattle.product_reduce.proofs.Finished.{reduced_nth}
 use Rattle.product_reduce.proofs.FreeBytes.{refusal_told}
-use Rattle.product_reduce.proofs.Joins.{becomes_filled, nth_removed, pair_out}
+use Rattle.like_children.proofs.Places.{nth_removed}
+use Rattle.product_reduce.proofs.Joins.{becomes_filled, pair_out}
 use Rattle.tree_handles.proofs.Filling.{hole_beside, hole_stays}
 use Rattle.tree_handles.specs.Holes.{ChangesTree, set_child}
 use Rattle.product_reduce.proofs.joining.join_pair.Goals.{After-fill}
@@ -58,7 +59,8 @@ joined c =
     let told : plain (root_tree c.in_ok-power.power (forest c.raise.new.pool)) ≡ power = given_told g ∙ rw (z.factor, z.exponent, nth_removed c.args.first c.args.second ts c.requires.order) refl in
     let Put : Tree → Forest → Type 0 = λ u f. ChangesTree c.args.product.now (set_child c.args.first u (plain (root_tree c.args.product.now f))) f (forest c.fill.new.pool) in
     let changed = c.fill.ensures.changed _ _ _ (hole_stays g (hole_beside c.in_ok-exponent.exponent z.clear o)) in
-    becomes_filled c.args.first power y.becomes (omega (arith, count_removed c.args.second ts c.requires.within, c.requires.order, c.requires.within)) (subst (Put power) y.beside.rest (subst (λ (u : Tree). Put u (without_root c.in_ok-exponent.exponent (forest c.take_exponent.new.pool))) told changed))
+    becomes_filled c.args.first power y.becomes (omega (arith, count_removed c.args.second ts c.requires.within, c.requires.order, c.requires.within))
+    (subst (Put power) y.beside.rest (subst (λ (u : Tree). Put u (without_root c.in_ok-exponent.exponent (forest c.take_exponent.new.pool))) told changed))
 
 pub returns-clause-ok : goal.returns-clause-ok
 returns-clause-ok c = joined (goal.at.returns-clause-ok c).After-fill

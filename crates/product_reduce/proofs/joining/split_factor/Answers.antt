@@ -54,7 +54,8 @@ returns-in_ok-exponent-clause-ok c =
 
 pub returns-then-is_transparent_power-clause-placed : goal.returns-then-is_transparent_power-clause-placed
 returns-then-is_transparent_power-clause-placed c =
-    split_free c.requires.stands c.release.ensures.stands (keeps_after _ _ _ c.take_child-exponent.ensures.kept (keeps_after _ _ _ c.take_child-base.ensures.kept c.release.ensures.kept)) c.requires.handed
+    split_free c.requires.stands c.release.ensures.stands
+    (keeps_after _ _ _ c.take_child-exponent.ensures.kept (keeps_after _ _ _ c.take_child-base.ensures.kept c.release.ensures.kept)) c.requires.handed
     (returns-then-is_transparent_power-clause-ok c)
 
 pub returns-in_ok-exponent-clause-placed : goal.returns-in_ok-exponent-clause-placed

@@ -28,7 +28,8 @@ returns-clause-taken c =
     let e = seen c.requires.product w in
     let same = ap others_in (factors_are e.product) ∙ w.begun.others in
     if_ok_map c.collect_numbers.result c.collect_numbers.ensures.ok
-    (λ h k. taken_out c.requires.product w.left (subst (λ (us : Trees). LeavesChildren c.args.product.now us (without_root c.in_ok-first.first (forest c.take_first_number.new.pool)) (forest c.collect_numbers.new.pool) h) same k))
+    (λ h k. taken_out c.requires.product w.left
+    (subst (λ (us : Trees). LeavesChildren c.args.product.now us (without_root c.in_ok-first.first (forest c.take_first_number.new.pool)) (forest c.collect_numbers.new.pool) h) same k))
 
 pub returns-clause-coefficient : goal.returns-clause-coefficient
 returns-clause-coefficient c =
@@ -50,14 +51,16 @@ returns-clause-overflow c =
     let w = c.in_ok-first.ensures.ok in
     let e = seen c.requires.product w in
     refused_as c.collect_numbers.result c.collect_numbers.ensures.overflow
-    (λ o h. next_misfit _ w.us _ w.begun o (subst (λ (us : Trees). (s : IsNextOf surd_times (tree_of c.in_ok-first.first c.take_first_number.new.pool) (numbers_in us)) × NamesProduct s.so_far s.next o) (factors_are e.product) h))
+    (λ o h. next_misfit _ w.us _ w.begun o
+    (subst (λ (us : Trees). (s : IsNextOf surd_times (tree_of c.in_ok-first.first c.take_first_number.new.pool) (numbers_in us)) × NamesProduct s.so_far s.next o) (factors_are e.product) h))
 
 pub returns-clause-bits : goal.returns-clause-bits
 returns-clause-bits c h l a few =
     let w = c.in_ok-first.ensures.ok in
     let e = seen c.requires.product w in
     c.collect_numbers.ensures.bits
-    (subst (λ (us : Trees). (s : IsNextOf surd_times (tree_of c.in_ok-first.first c.take_first_number.new.pool) (numbers_in us)) → HasFewBits (surd_times (value s.so_far) (value s.next))) (sym (factors_are e.product)) (next_fits _ w.us _ h l w.begun a few))
+    (subst (λ (us : Trees). (s : IsNextOf surd_times (tree_of c.in_ok-first.first c.take_first_number.new.pool) (numbers_in us)) → HasFewBits (surd_times (value s.so_far) (value s.next)))
+    (sym (factors_are e.product)) (next_fits _ w.us _ h l w.begun a few))
 
 pub returns-clause-room : goal.returns-clause-room
 returns-clause-room c gs s =

@@ -1,6 +1,6 @@
 use Rattle.std.proofs.Common.{◌≡◌, ◌∙◌, ap, sym, refl, arith}
 use Rattle.product_reduce.proofs.Shared.{passed_lacks, refusal_lacks, tree_of, is_zero, gives_as, expression_root, plain_root, at_zero}
-use Rattle.product_reduce.proofs.FreeBytes.{pair_lacks}
+use Rattle.product_reduce.proofs.Rejoined.{pair_lacks}
 use Rattle.product_reduce.proofs.Pairs.{some_partners}
 use Rattle.product_reduce.proofs.steps.join_or_end.Goals.{After-is_zero}
 use Rattle.product_reduce.proofs.steps.join_or_end.Goals as goal
@@ -28,4 +28,5 @@ returns-in_err-joined-in-Some-clause-room c gs x k = grind (arith, refusal_lacks
 
 pub returns-in_err-sorted-in-None-clause-room : goal.returns-in_err-sorted-in-None-clause-room
 returns-in_err-sorted-in-None-clause-room c gs x k =
-    passed_lacks c.from_residual-in_err-sorted-in-None.result c.in_err-sorted-in-None.field-0.0 _ _ c.from_residual-in_err-sorted-in-None.ensures.1 (c.in_err-sorted-in-None.ensures.room gs x k) (λ g l. omega (arith, l))
+    passed_lacks c.from_residual-in_err-sorted-in-None.result c.in_err-sorted-in-None.field-0.0 _ _ c.from_residual-in_err-sorted-in-None.ensures.1
+    (c.in_err-sorted-in-None.ensures.room gs x k) (λ g l. omega (arith, l))

@@ -1,11 +1,12 @@
-use Rattle.std.proofs.Common.{arith, ℕ, ◌≡◌, ◌∙◌, Err, sym, refl, subst, true, false}
-use Rattle.product_reduce.proofs.Shared.{PlainValue, IsPlainAnswer, AnswersRationals, tree_of, forest, gives_as, given_told, IsFinished, factors_in, Forest, Gives, plain, root_tree}
+use Rattle.std.proofs.Common.{arith, ◌≡◌, ◌∙◌, Err, sym, refl, subst, true, false}
+use Rattle.product_reduce.proofs.Shared.{PlainValue, IsPlainAnswer, AnswersRationals, tree_of, forest, gives_as, given_told, IsFinished, factors_in}
 use Rattle.product_reduce.proofs.Finished.{undef_finished, rationals_defined}
 use Rattle.product_reduce.proofs.JoinedCounts.{product_counted}
-use Rattle.product_reduce.proofs.GatheredParts.{spans_factors, spans_joined}
-use Rattle.product_reduce.proofs.Parted.{IsWithin, AreOpened, AreParted, opens, parted, reduced_now, rationals_opened, numbers_overflow, numbers_fit, numbers_room, stop_given, rejoin_given, spreading_given, spreading_fits, parted_room, step_answered, step_refused, within}
-use Rattle.product_reduce.proofs.Stepped.{mult_words, done_map, again_map}
-use Rattle.product_reduce.proofs.steps.product_step.Goals.{After-has_undef_factor, After-open_products, In_ok-coefficient}
+use Rattle.product_reduce.proofs.GatheredParts.{spans_factors}
+use Rattle.product_reduce.proofs.Parted.{AreOpened, AreParted, opens, parted, reduced_now, rationals_opened, numbers_overflow, numbers_fit, numbers_room, stop_given, spreading_given, spreading_fits, parted_room, finished_bounds}
+use Rattle.product_reduce.proofs.Rejoined.{again_map, done_map, rejoin_given, spans_joined, step_answered, step_refused}
+use Rattle.product_reduce.proofs.Stepped.{mult_words}
+use Rattle.product_reduce.proofs.steps.product_step.Goals.{After-open_products, In_ok-coefficient}
 use Rattle.product_reduce.proofs.steps.product_step.Goals as goal
 
 opened_now : (c : After-open_products) → AreOpened c.args.product c.args.pool.now c.open_products.new.pool
@@ -24,11 +25,6 @@ take_coefficient-requires-clause-reduced c = reduced_now (opened_now (goal.at.ta
 pub join_or_end-requires : goal.join_or_end-requires
 join_or_end-requires c = grind (arith, parts)
 
--- what is finished counts no more than the product, and is spanned and held by what spans and holds that
-no_more : (c : After-has_undef_factor) {h : ℕ} {others new : Forest} → Gives others new h (IsFinished (factors_in c.args.product (forest c.args.pool.now)))
-    → IsWithin (tree_of c.args.product c.args.pool.now) (plain (root_tree h new))
-no_more c x = within (tree_of c.args.product c.args.pool.now) c.requires.product c.requires.reduced (given_told x)
-
 -- ---- a factor is Undef
 
 pub returns-then-has_undef_factor-clause-done : goal.returns-then-has_undef_factor-clause-done
@@ -36,21 +32,12 @@ returns-then-has_undef_factor-clause-done c =
     let ts = factors_in c.args.product (forest c.args.pool.now) in
     gives_as c.undefined.ensures.gives refl (λ t e. subst (IsFinished ts) (sym e) (undef_finished ts (sym c.has_undef_factor.ensures ∙ c.if-has_undef_factor.true)))
 
+pub returns-then-has_undef_factor-clause-bounds : goal.returns-then-has_undef_factor-clause-bounds
+returns-then-has_undef_factor-clause-bounds c = finished_bounds _ c.requires.reduced (given_told (returns-then-has_undef_factor-clause-done c))
+
 pub returns-then-has_undef_factor-clause-rationals : goal.returns-then-has_undef_factor-clause-rationals
 returns-then-has_undef_factor-clause-rationals c =
     λ r. absurd (let no : true ≡ false = sym c.if-has_undef_factor.true ∙ c.has_undef_factor.ensures ∙ rationals_defined (factors_in c.args.product (forest c.args.pool.now)) r in cc)
-
-pub returns-then-has_undef_factor-clause-counted : goal.returns-then-has_undef_factor-clause-counted
-returns-then-has_undef_factor-clause-counted c = (no_more (goal.at.returns-then-has_undef_factor-clause-counted c).After-has_undef_factor (returns-then-has_undef_factor-clause-done c)).counted
-
-pub returns-then-has_undef_factor-clause-powers : goal.returns-then-has_undef_factor-clause-powers
-returns-then-has_undef_factor-clause-powers c = (no_more (goal.at.returns-then-has_undef_factor-clause-powers c).After-has_undef_factor (returns-then-has_undef_factor-clause-done c)).powers
-
-pub returns-then-has_undef_factor-clause-spanned : goal.returns-then-has_undef_factor-clause-spanned
-returns-then-has_undef_factor-clause-spanned c = (no_more (goal.at.returns-then-has_undef_factor-clause-spanned c).After-has_undef_factor (returns-then-has_undef_factor-clause-done c)).spanned
-
-pub returns-then-has_undef_factor-clause-held : goal.returns-then-has_undef_factor-clause-held
-returns-then-has_undef_factor-clause-held c = (no_more (goal.at.returns-then-has_undef_factor-clause-held c).After-has_undef_factor (returns-then-has_undef_factor-clause-done c)).held
 
 -- ---- Numbers that are not multiplied
 
@@ -94,25 +81,16 @@ returns-clause-overflow c = spreading_given c.join_or_end.result (parts (goal.at
 pub returns-clause-front : goal.returns-clause-front
 returns-clause-front c = (parts (goal.at.returns-clause-front c).In_ok-coefficient).front _ c.join_or_end.ensures.front
 
-pub returns-clause-counted : goal.returns-clause-counted
-returns-clause-counted c = done_map c.join_or_end.result (returns-clause-done c) (λ h x. (no_more (goal.at.returns-clause-counted c).After-has_undef_factor x).counted)
+pub returns-clause-bounds : goal.returns-clause-bounds
+returns-clause-bounds c = done_map c.join_or_end.result (returns-clause-done c) (λ h x. finished_bounds _ c.requires.reduced (given_told x))
 
 pub returns-clause-again_counted : goal.returns-clause-again_counted
 returns-clause-again_counted c = again_map c.join_or_end.result (returns-clause-again c) (λ h x. product_counted (tree_of c.args.product c.args.pool.now) _ c.requires.product (given_told x))
-
-pub returns-clause-powers : goal.returns-clause-powers
-returns-clause-powers c = done_map c.join_or_end.result (returns-clause-done c) (λ h x. (no_more (goal.at.returns-clause-powers c).After-has_undef_factor x).powers)
-
-pub returns-clause-spanned : goal.returns-clause-spanned
-returns-clause-spanned c = λ gs s. done_map c.join_or_end.result (returns-clause-done c) (λ h x. (no_more (goal.at.returns-clause-spanned c).After-has_undef_factor x).spanned gs s)
 
 pub returns-clause-again_spanned : goal.returns-clause-again_spanned
 returns-clause-again_spanned c = λ gs s.
     again_map c.join_or_end.result (returns-clause-again c)
     (λ h x. spans_joined gs _ _ (spans_factors gs _ _ (mult_words (tree_of c.args.product c.args.pool.now) c.requires.product) s) (given_told x))
-
-pub returns-clause-held : goal.returns-clause-held
-returns-clause-held c h l d a = done_map c.join_or_end.result (returns-clause-done c) (λ i x. (no_more (goal.at.returns-clause-held c).After-has_undef_factor x).held h l d a)
 
 pub returns-clause-bits : goal.returns-clause-bits
 returns-clause-bits c h l a few = grind (arith, spreading_fits, parts)

@@ -1,7 +1,7 @@
 use Rattle.std.proofs.Common.{◌∙◌, ap, rules}
 use Rattle.product_reduce.proofs.Shared.{Permuted-sym, is_number, if_map, is_zero, gives_as}
 use Rattle.product_reduce.proofs.Neighbours.{apart_before}
-use Rattle.product_reduce.proofs.Sorted.{permuted_lists}
+use Rattle.like_children.proofs.Permutations.{of_lists}
 use Rattle.product_reduce.proofs.SortedBeside.{AreSorted, sorts, none_sorted, ending_sorted, spreading_sorted, room_sorted}
 use Rattle.product_reduce.proofs.steps.sorted.Goals.{After-sort_factors}
 use Rattle.product_reduce.proofs.steps.sorted.Goals as goal
@@ -17,7 +17,7 @@ finished-requires c =
       product = s.product;
       others = s.others;
       order = s.sorted.rising;
-      differ = apart_before (Permuted-sym (permuted_lists _ _ s.sorted.moved)) c.requires.differ;
+      differ = apart_before (Permuted-sym (of_lists _ _ s.sorted.moved)) c.requires.differ;
       coefficient = s.handed;
       number = ap is_number s.tree ∙ c.requires.number;
       not_zero = ap is_zero s.tree ∙ c.requires.not_zero;

@@ -15,4 +15,5 @@ returns-clause-ok c =
     let a = c.in_ok-coefficient.ensures.ok in
     let b = c.in_ok-part.ensures.ok in
     if_ok_map c.put_coefficient.result c.put_coefficient.ensures.ok
-    (λ h r. gives_as r (ap (without_root c.in_ok-coefficient.coefficient) (given_rest b) ∙ given_rest a) (λ t e. ap is_reduced e ∙ (put_reduces _ _ (number_words _ (first_told a b ∙ given_told a)) (given_told b)).reduced))
+    (λ h r. gives_as r (ap (without_root c.in_ok-coefficient.coefficient) (given_rest b) ∙ given_rest a)
+    (λ t e. ap is_reduced e ∙ (put_reduces _ _ (number_words _ (first_told a b ∙ given_told a)) (given_told b)).reduced))
