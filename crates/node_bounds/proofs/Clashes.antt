@@ -1,6 +1,6 @@
 -- What tests and forms tell.
 use Rattle.std.proofs.Common.{arith, ◌≡◌, refl, Bool, true, false, ◌&&◌, ◌||◌, ap, length, ◌≤◌}
-use Rattle.node_bounds.proofs.Shared.{Fraction, zero_fraction, zero_is, is_number, number_test, Tree, num, undef, is_undef, is_zero, power, Trees, HasTwo, terms_of, has_no_power, is_reduced, parts_reduced, reduced_parts}
+use Rattle.node_bounds.proofs.Shared.{Tree, undef, is_undef, power, Trees, HasTwo, terms_of, has_no_power, is_reduced, parts_reduced, reduced_parts}
 pub use Rattle.calc_algebra.proofs.ReducedLaws.{undef_words}
 pub use Rattle.tree_bits.proofs.ExponentBits.{clash, unclear}
 pub use Rattle.tree_bits.proofs.Rows.{rational_is_number as rational_number}

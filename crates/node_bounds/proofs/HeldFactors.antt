@@ -1,6 +1,6 @@
 -- Reduced trees as factors: what holds a tree holds it as a factor, and the parts of a product are held by bits of their own.
 use Rattle.std.proofs.Common.{pos, ◌≡◌, ◌≢◌, ℕ, zero, suc, ◌+◌, ◌-◌, ◌*◌, ◌^◌, ◌≤◌, ◌⊎◌, inl, inr, List, [], ◌∷◌, Bool, true, false, if◌then◌else◌, refl, sym, ap, ◌∙◌, subst, arith}
-use Rattle.node_bounds.proofs.Shared.{mul-le, pow-le-pow_right, Fraction, zero_fraction, one_fraction, Tree, num, undef, add, mult, power, Trees, none, more, count, is_undef, is_mult, AllParts, AllPartsOf, zero_test, whole_denominator, IsNumber, AreTerms, Rises, is_number, value, terms_of, Split, split_product, num_one, is_num_one, is_reduced, HasForm, NoneIs, IsProductForm, IsSumForm, number_terms, other_terms, Surd, Term, term, surd_of, surd_one, one_not_zero, number_test, term_words, mass, mass_from, IsHeld, has_coefficient, product_form_of, no_split, reduced_parts, parts_reduced, Leads, in_front, parts_of, HasFactors, product_factors, IsFactorHeld, single_part, part_single, number_as_factor, IsSumHeld, Counts, counts, counts_of, is_counted, Addend, addend, addend_of, addends_of, power_high, power_low, IsTreeHeld, undef_held, AreWeighted, none_weighted, more_weighted, IsPartHeld, no_factor_held, factor_held, IsBaseHeld, symbol_held, tree_held, Weighted, AreHeld, tree_as_sum, factor_is_held, factor_as_tree, addend_left_out, addend_to_front, exponents_within, held_number, one_counted, one_counts, symbol_is_held, root_is_held, wider_held, tree_wider, parts_defined, cases_Bool}
+use Rattle.node_bounds.proofs.Shared.{mul-le, pow-le-pow_right, zero_fraction, one_fraction, Tree, num, undef, add, mult, power, Trees, none, more, count, is_undef, is_mult, AllParts, AllPartsOf, whole_denominator, AreTerms, Rises, is_number, value, terms_of, Split, split_product, num_one, is_num_one, is_reduced, HasForm, NoneIs, IsProductForm, IsSumForm, number_terms, other_terms, Surd, term, surd_one, one_not_zero, number_test, term_words, mass, mass_from, IsHeld, has_coefficient, product_form_of, no_split, reduced_parts, parts_reduced, Leads, in_front, parts_of, HasFactors, product_factors, IsFactorHeld, single_part, part_single, number_as_factor, IsSumHeld, Counts, counts, counts_of, is_counted, Addend, addend, addend_of, addends_of, power_high, power_low, IsTreeHeld, undef_held, AreWeighted, none_weighted, more_weighted, IsPartHeld, no_factor_held, factor_held, IsBaseHeld, symbol_held, tree_held, Weighted, AreHeld, tree_as_sum, factor_is_held, factor_as_tree, addend_left_out, addend_to_front, exponents_within, held_number, one_counted, one_counts, symbol_is_held, root_is_held, tree_wider, parts_defined, cases_Bool}
 use Rattle.node_bounds.proofs.Clashes.{clash, undef_words, two_terms, power_no_number}
 use Rattle.coefficients.proofs.Lengths.{some_factors}
 use Rattle.tree_bits.proofs.ExponentBits.{some_counts}
@@ -9,7 +9,6 @@ use Rattle.tree_bits.specs.HeldTrees.{exponent_in, root_held}
 use Rattle.tree_bits.proofs.Weighted.{split_off}
 use Rattle.tree_bits.proofs.Numbers.{base_positive}
 use Rattle.product_reduce.proofs.HeldFactors.{no_terms, rational_some, number_some}
-use Rattle.product_reduce.proofs.HeldMultiples.{others_formed}
 pub use Rattle.product_reduce.proofs.HeldProducts.{factor_wider}
 
 -- ---- Undef, bases and powers
@@ -114,6 +113,10 @@ first_alone x (y ∷ zs) {h} {l} a = first_alone x zs (addend_left_out y (x ∷ 
 all_terms : (ts : Trees) → other_terms ts ≡ none → (AreTerms ts) × (number_terms ts ≡ ts)
 all_terms none e = (tt, refl)
 all_terms (more t ts) e = grind (arith, term_words, all_terms ts)
+
+others_formed : (ts : Trees) → AllPartsOf HasForm ts → AllPartsOf HasForm (other_terms ts)
+others_formed none h = tt
+others_formed (more t ts) h = grind (arith, others_formed ts h.1)
 
 sum_high : (ts : Trees) {h l : ℕ} → AllParts HasForm (add ts) → is_number (add ts) ≡ false → IsTreeHeld (add ts) h l → 1 ≤ h
 sum_high ts {h} {l} f n a = by (other_terms ts) refl (others_formed ts f.1) m.no_number (tree_as_sum refl a)

@@ -1,6 +1,6 @@
 -- A call inside of another one fits where few bits hold what the outer one was handed.
 use Rattle.std.proofs.Common.{◌≡◌, ℕ, suc, ◌+◌, ◌*◌, ◌≤◌, ℤ, true, false, Some, Result, refl, sym, ap, ◌∙◌, subst, arith, IfErr, IsOk, nat_abs}
-use Rattle.node_bounds.proofs.Shared.{and_parts, mul-le, is_reduced, is_half_num, is_whole_num, whole_fraction, whole_is, whole_numerator, Tree, num, power, root, Trees, none, more, append, is_mult, is_undef, has_undef, reduced_parts, parts_reduced, HasFewBits, IsJoinedFrom, IsRewritten, IsLifted, IsProductOfPowers, IsSummed, exponent_of, joint, base_of, IsSumHeld, addends_of_each, HasFewBitsRaised, base_in, exponent_in, half, goes_inside, is_zero_or_one, parts_of, rewritten_whole, as_whole, whole_no_half, chosen, IsFactorHeld, AreFactorsHeld, none_held, counts_of, is_counted, raised_high, raised_low, exponents_within, nth, children_of, OfOverflow, NumberFault, reduced_nth, exponent_is_reduced, inside_other, mult}
+use Rattle.node_bounds.proofs.Shared.{and_parts, mul-le, is_reduced, is_half_num, is_whole_num, whole_fraction, whole_is, whole_numerator, Tree, num, power, root, Trees, none, more, append, is_mult, is_undef, has_undef, reduced_parts, parts_reduced, AreFewBits, IsJoinedFrom, IsRewritten, IsLifted, IsProductOfPowers, IsSummed, exponent_of, joint, base_of, IsSumHeld, addends_of_each, HasFewBitsRaised, base_in, exponent_in, half, goes_inside, is_zero_or_one, parts_of, rewritten_whole, as_whole, whole_no_half, chosen, IsFactorHeld, AreFactorsHeld, none_held, counts_of, is_counted, raised_high, raised_low, exponents_within, nth, children_of, OfOverflow, NumberFault, reduced_nth, exponent_is_reduced, inside_other, mult}
 use Rattle.node_bounds.proofs.Clashes.{clash, exponent_reduced}
 use Rattle.tree_bits.proofs.ExponentBits.{counted_defined, some_counts, exponent_is_held, multiple_counts}
 use Rattle.node_bounds.proofs.HeldFactors.{EachHeld, more_each, parts_each, tree_factor, factor_power, no_zero_exponent}
@@ -15,11 +15,13 @@ use Rattle.product_reduce.specs.Bits.{factor_held}
 -- ---- products
 
 -- an operation overflows only where no factor is Undef
-pub product_fits : {A : Type 0} (us : Trees) (r : Result A NumberFault) → (has_undef us ≡ false → IfErr r (OfOverflow (λ o. ⊥))) → IfErr r (OfOverflow (λ o. has_undef us ≡ false)) → IfErr r (OfOverflow (λ o. ⊥))
+pub product_fits : {A : Type 0} (us : Trees) (r : Result A NumberFault) → (has_undef us ≡ false → IfErr r (OfOverflow (λ o. ⊥))) → IfErr r (OfOverflow (λ o. has_undef us ≡ false))
+    → IfErr r (OfOverflow (λ o. ⊥))
 product_fits us r h k = grind (arith, clash)
 
 -- the product of reduced powers
-pub powers_ready : (b e t v : Tree) (n : ℤ) (h l : ℕ) → is_mult t ≡ true → IsRewritten b e t → IsProductOfPowers (children_of t) v → e ≡ num (whole_fraction n) → IsFactorHeld b h l → has_undef (children_of v) ≡ false
+pub powers_ready : (b e t v : Tree) (n : ℤ) (h l : ℕ) → is_mult t ≡ true → IsRewritten b e t → IsProductOfPowers (children_of t) v → e ≡ num (whole_fraction n) → IsFactorHeld b h l
+    → has_undef (children_of v) ≡ false
     → AreFactorsHeld (children_of v) (raised_high n h l) (raised_low n h l)
 powers_ready b e t v n h l k a c d f p = grind (arith, by_product, powers_held, parts_each)
 
@@ -42,7 +44,8 @@ pub record IsPartFitting (x : Tree) (n : ℤ) : Type 0 where
   pub held : IsFactorHeld (base_in x) p q
   pub few : HasFewBitsRaised n p q
 
-pub part_ready : (b e t x : Tree) (done rest : Trees) (n : ℤ) (h l : ℕ) → is_mult t ≡ true → IsRewritten b e t → children_of t ≡ append done (more x rest) → e ≡ num (whole_fraction n) → IsFactorHeld b h l → HasFewBitsRaised n h l → IsPartFitting x n
+pub part_ready : (b e t x : Tree) (done rest : Trees) (n : ℤ) (h l : ℕ) → is_mult t ≡ true → IsRewritten b e t → children_of t ≡ append done (more x rest) → e ≡ num (whole_fraction n)
+    → IsFactorHeld b h l → HasFewBitsRaised n h l → IsPartFitting x n
 part_ready b e t x done rest n h l m w s i f few =
     by_product (λ (y u : Tree). children_of u ≡ append done (more x rest) → IsFactorHeld y h l → IsPartFitting x n) b e t m w
     (λ fs r k s f.
@@ -52,7 +55,8 @@ part_ready b e t x done rest n h l m w s i f few =
 
 -- ---- powers
 
-pub power_fits : {A : Type 0} (b e t v : Tree) (n : ℤ) (h l : ℕ) (r : Result A NumberFault) → is_mult t ≡ false → IsRewritten b e t → IsLifted t v → e ≡ num (whole_fraction n) → IsFactorHeld b h l → HasFewBitsRaised n h l
+pub power_fits : {A : Type 0} (b e t v : Tree) (n : ℤ) (h l : ℕ) (r : Result A NumberFault) → is_mult t ≡ false → IsRewritten b e t → IsLifted t v → e ≡ num (whole_fraction n)
+    → IsFactorHeld b h l → HasFewBitsRaised n h l
     → ((m : ℤ) (i j : ℕ) → exponent_in v ≡ num (whole_fraction m) → IsFactorHeld (base_in v) i j → HasFewBitsRaised m i j → IfErr r (OfOverflow (λ o. ⊥)))
     → (is_whole_num (exponent_in v) ≡ false → is_half_num (exponent_in v) ≡ false → IsOk r) → IfErr r (OfOverflow (λ o. ⊥))
 power_fits b e t v n h l r m w lifted q f few bits others =
@@ -82,7 +86,8 @@ whole_held n h = grind (arith, whole_numerator, tree_factor, parts_reduced, expo
 few_both : (m u h : ℕ) → 1 ≤ m → 1 ≤ u → u ≤ h → m * h ≤ 62 → (m ≤ 62) × (u ≤ 62)
 few_both m u h k a b c = grind (arith, mul-le)
 
-two_exponents : (c f e t : Tree) (n : ℤ) (h l : ℕ) → is_reduced (power c f) ≡ true → IsRewritten (power c f) e t → e ≡ num (whole_fraction n) → IsFactorHeld (power c f) h l → HasFewBitsRaised n h l → AreFactorsHeld (more f (more e none)) 14 0
+two_exponents : (c f e t : Tree) (n : ℤ) (h l : ℕ) → is_reduced (power c f) ≡ true → IsRewritten (power c f) e t → e ≡ num (whole_fraction n) → IsFactorHeld (power c f) h l
+    → HasFewBitsRaised n h l → AreFactorsHeld (more f (more e none)) 14 0
 two_exponents c f e t n h l r w q a few =
     let k : is_counted f ≡ true = factor_counted c f a in
     let d : is_undef f ≡ false = counted_defined f k in
@@ -91,9 +96,11 @@ two_exponents c f e t n h l r w q a few =
     let most = exponents_within {t = power c f} {ts = none} (factor_power c f a) in
     let nonzero = not_nothing n (ap is_zero_or_one (sym q) ∙ inside_other e (inside c f e t w)) in
     let (x, y) = few_both (nat_abs n) ((counts_of f).up + (counts_of f).down) h nonzero some most (few_magnitude n h l few) in
-    factor_held 7 0 7 0 (tree_factor f (exponent_reduced c f r) d (exponent_is_held f parts k y)) (factor_held 7 0 0 0 (subst (λ (z : Tree). IsFactorHeld z 7 0) (sym q) (whole_held n x)) none_held (omega arith) (omega arith)) (omega arith) (omega arith)
+    factor_held 7 0 7 0 (tree_factor f (exponent_reduced c f r) d (exponent_is_held f parts k y))
+    (factor_held 7 0 0 0 (subst (λ (z : Tree). IsFactorHeld z 7 0) (sym q) (whole_held n x)) none_held (omega arith) (omega arith)) (omega arith) (omega arith)
 
-pub exponent_ready : (b e t x : Tree) (n : ℤ) (h l : ℕ) → is_mult t ≡ false → is_mult x ≡ true → x ≡ exponent_in t → IsRewritten b e t → e ≡ num (whole_fraction n) → IsFactorHeld b h l → HasFewBitsRaised n h l → AreFactorsHeld (children_of x) 14 0
+pub exponent_ready : (b e t x : Tree) (n : ℤ) (h l : ℕ) → is_mult t ≡ false → is_mult x ≡ true → x ≡ exponent_in t → IsRewritten b e t → e ≡ num (whole_fraction n) → IsFactorHeld b h l
+    → HasFewBitsRaised n h l → AreFactorsHeld (children_of x) 14 0
 exponent_ready b e t x n h l m k is w q f few =
     by_power (λ (y u : Tree). x ≡ exponent_in u → IsRewritten y e u → IsFactorHeld y h l → AreFactorsHeld (children_of x) 14 0) b e t m w (λ a z r u is w f. clash (sym k ∙ ap is_mult is))
     (λ c g r is w f. subst (λ (y : Tree). AreFactorsHeld (children_of y) 14 0) (sym is) (two_exponents c g e (power c (mult (more g (more e none)))) n h l r w q f few)) is w f
@@ -105,15 +112,15 @@ module _ (at : ℕ) (ts us : Trees) (k : IsJoinedFrom at ts us) (x : Tree) (is :
   words : x ≡ joint (nth at ts) (nth (suc at) ts)
   words = is ∙ (joining at ts us k).is
 
-  pub joint_exponents : (h l : ℕ) → AreFactorsHeld ts h l → HasFewBits h l → IsSumHeld (addends_of_each (children_of (exponent_in x))) 8 0
+  pub joint_exponents : (h l : ℕ) → AreFactorsHeld ts h l → AreFewBits h l → IsSumHeld (addends_of_each (children_of (exponent_in x))) 8 0
   joint_exponents h l a few = grind (arith, reduced_nth, exponent_is_reduced, pair_exponents_held, words)
 
-  pub joint_fits : {A : Type 0} (v : Tree) (h l : ℕ) (r : Result A NumberFault) → IsSummed (base_in x) (children_of (exponent_in x)) v → AreFactorsHeld ts h l → HasFewBits h l
+  pub joint_fits : {A : Type 0} (v : Tree) (h l : ℕ) (r : Result A NumberFault) → IsSummed (base_in x) (children_of (exponent_in x)) v → AreFactorsHeld ts h l → AreFewBits h l
       → ((m : ℤ) (i j : ℕ) → exponent_in v ≡ num (whole_fraction m) → IsFactorHeld (base_in v) i j → HasFewBitsRaised m i j → IfErr r (OfOverflow (λ o. ⊥)))
       → (is_whole_num (exponent_in v) ≡ false → is_half_num (exponent_in v) ≡ false → IsOk r) → IfErr r (OfOverflow (λ o. ⊥))
   joint_fits v h l r s a few bits others =
       let t : IsSummed (base_of (nth at ts)) (more (exponent_of (nth at ts)) (more (exponent_of (nth (suc at) ts)) none)) v = subst (λ (y : Tree). IsSummed (base_in y) (children_of (exponent_in y)) v) words s in
-      let (p, q, i, j, held) = pair_power_held at ts us k.pair k.reduced k.is t.exponent t.counts h l a in
+      let (p, q, i, j, held) = pair_power_held at ts us k.pair k.reduced k.is t.exponent t.bounds.counts h l a in
       part_fits (base_of (nth at ts)) t.exponent r p q held (omega (arith, i, j, few))
       (λ m c d e f g. bits m c d (ap exponent_in t.is ∙ e) (subst (λ (y : Tree). IsFactorHeld y c d) (sym (ap base_in t.is)) f) g)
       (λ e f. others (ap (λ (y : Tree). is_whole_num (exponent_in y)) t.is ∙ e) (ap (λ (y : Tree). is_half_num (exponent_in y)) t.is ∙ f))

@@ -1,6 +1,6 @@
 -- What holds factors holds them with two of one base joined, and the exponents of these are added within few bits.
 use Rattle.std.proofs.Common.{◌≡◌, ℕ, zero, suc, ◌+◌, ◌≤◌, ◌<◌, [], ◌∷◌, Bool, true, false, ◌&&◌, not, refl, sym, ap, ◌∙◌, subst, arith, inl, inr}
-use Rattle.node_bounds.proofs.Shared.{and_from, is_number, is_reduced, are_reduced, is_whole_num, is_opaque_exponent, base_of, number_words, HighLow, Tree, power, Trees, none, more, count, is_undef, reduced_parts, IsReducedPower, HasFewBits, AddsCounts, IsCountedWithin, set_tree, removed, whole_is, IsFactorHeld, AreFactorsHeld, exponent_of, is_partner, IsPairAt, joined_pair, partners_of_pair, IsSumHeld, addends_of_each, counts_of, counts_of_all, is_counted, IsPartHeld, trees_together, factors_joined, factor_left_out, exponents_within, one_counts, nth, inserted, reduced_nth, one_base, cases_Bool}
+use Rattle.node_bounds.proofs.Shared.{and_from, is_number, is_reduced, are_reduced, is_whole_num, is_opaque_exponent, base_of, number_words, HighLow, Tree, power, Trees, none, more, count, is_undef, reduced_parts, IsReducedPower, AreFewBits, AddsCounts, IsCountedWithin, set_tree, removed, whole_is, IsFactorHeld, AreFactorsHeld, exponent_of, is_partner, IsPairAt, joined_pair, partners_of_pair, IsSumHeld, addends_of_each, counts_of, counts_of_all, is_counted, IsPartHeld, trees_together, factors_joined, factor_left_out, exponents_within, one_counts, nth, inserted, reduced_nth, one_base, cases_Bool}
 use Rattle.node_bounds.proofs.Clashes.{undef_words}
 use Rattle.tree_bits.proofs.ExponentBits.{counted_defined, exponent_is_held}
 use Rattle.node_bounds.proofs.HeldFactors.{undef_factor, first_counted, part_high}
@@ -36,7 +36,8 @@ counted_both : {t u : Tree} {h l : ℕ} → IsPartHeld (more t (more u none)) h 
 counted_both {t} {u} {h} {l} a = (first_counted a, first_counted (factor_left_out t (more u none) h l a))
 
 -- the base to the sum of their exponents
-joint_held : (t u g : Tree) {h l : ℕ} → is_partner t u ≡ true → AddsCounts (more (exponent_of t) (more (exponent_of u) none)) g → IsPartHeld (more t (more u none)) h l → IsPartHeld (more (power (base_of t) g) none) h l
+joint_held : (t u g : Tree) {h l : ℕ} → is_partner t u ≡ true → AddsCounts (more (exponent_of t) (more (exponent_of u) none)) g → IsPartHeld (more t (more u none)) h l
+    → IsPartHeld (more (power (base_of t) g) none) h l
 joint_held t u g {h} {l} p k a = factors_joined t u (power (base_of t) g) none h l j a
   where
     c : (is_counted (part.exponent_in t) ≡ true) × (is_counted (part.exponent_in u) ≡ true)
@@ -63,7 +64,8 @@ joint_held t u g {h} {l} p k a = factors_joined t u (power (base_of t) g) none h
     }
 
 -- what is answered for it
-joint_answer : (t u g r : Tree) {h l : ℕ} → is_reduced t ≡ true → is_reduced (base_of t) ≡ true → is_reduced g ≡ true → is_partner t u ≡ true → AddsCounts (more (exponent_of t) (more (exponent_of u) none)) g → IsReducedPower (base_of t) g r
+joint_answer : (t u g r : Tree) {h l : ℕ} → is_reduced t ≡ true → is_reduced (base_of t) ≡ true → is_reduced g ≡ true → is_partner t u ≡ true
+    → AddsCounts (more (exponent_of t) (more (exponent_of u) none)) g → IsReducedPower (base_of t) g r
     → IsPartHeld (more t (more u none)) h l → IsFactorHeld r h l
 joint_answer t u g r {h} {l} x y z p k a b = elim (cases_Bool (is_undef r)) [
   | inl e ↦ subst (λ (v : Tree). IsFactorHeld v h l) (sym (undef_words r e)) (undef_factor (some_high t (more u none) x b))
@@ -77,7 +79,8 @@ exponent_few e r c l = exponent_is_held e (reduced_parts e r (counted_defined e 
 seven : HighLow
 seven = record { high = 7; low = 0 }
 
-exponents_held : (t u : Tree) {h l : ℕ} → is_reduced (exponent_of t) ≡ true → is_reduced (exponent_of u) ≡ true → h ≤ 62 → IsPartHeld (more t (more u none)) h l → IsSumHeld (addends_of_each (more (exponent_of t) (more (exponent_of u) none))) 8 0
+exponents_held : (t u : Tree) {h l : ℕ} → is_reduced (exponent_of t) ≡ true → is_reduced (exponent_of u) ≡ true → h ≤ 62 → IsPartHeld (more t (more u none)) h l
+    → IsSumHeld (addends_of_each (more (exponent_of t) (more (exponent_of u) none))) 8 0
 unfolding seven
 exponents_held t u {h} {l} x y m a =
     let c = counted_both a in
@@ -115,14 +118,15 @@ module _ (at : ℕ) (ts us : Trees) (pair : IsPairAt at ts) (reduced : are_reduc
   in_place : (r : Tree) → inserted at (more r none) (removed at (removed (suc at) ts)) ≡ set_tree at r us
   in_place r = grind (arith, removed_count, replaced_inserted)
 
-  pub settled_held : (g r : Tree) → is_reduced (base_of (nth at ts)) ≡ true → is_reduced g ≡ true → AddsCounts (more (exponent_of (nth at ts)) (more (exponent_of (nth (suc at) ts)) none)) g → IsReducedPower (base_of (nth at ts)) g r
+  pub settled_held : (g r : Tree) → is_reduced (base_of (nth at ts)) ≡ true → is_reduced g ≡ true → AddsCounts (more (exponent_of (nth at ts)) (more (exponent_of (nth (suc at) ts)) none)) g
+      → IsReducedPower (base_of (nth at ts)) g r
       → (h l : ℕ) → AreFactorsHeld ts h l → AreFactorsHeld (set_tree at r us) h l
   settled_held g r x y k a h l b =
       let (p, q, i, j, c, f) = neighbours_held at ts h l pair reduced b in
       subst (λ (vs : Trees). AreFactorsHeld vs h l) (in_place r) (f r (joint_answer (nth at ts) (nth (suc at) ts) g r first_reduced x y partners k a c))
 
   -- the exponents, and the power of their sum
-  pub pair_exponents_held : is_reduced (exponent_of (nth at ts)) ≡ true → is_reduced (exponent_of (nth (suc at) ts)) ≡ true → (h l : ℕ) → HasFewBits h l → AreFactorsHeld ts h l
+  pub pair_exponents_held : is_reduced (exponent_of (nth at ts)) ≡ true → is_reduced (exponent_of (nth (suc at) ts)) ≡ true → (h l : ℕ) → AreFewBits h l → AreFactorsHeld ts h l
       → IsSumHeld (addends_of_each (more (exponent_of (nth at ts)) (more (exponent_of (nth (suc at) ts)) none))) 8 0
   pair_exponents_held k a h l b c = grind (arith, neighbours_held, exponents_held)
 

@@ -1,6 +1,6 @@
 -- A power as a factor: what holds it holds its answer, and within few bits it fits.
 use Rattle.std.proofs.Common.{◌≡◌, ℕ, ◌*◌, ◌≤◌, ℤ, Bool, true, false, None, Result, refl, sym, ap, ◌∙◌, subst, arith, IfErr, IsOk, nat_abs, inl, inr}
-use Rattle.node_bounds.proofs.Shared.{eqb-true, mul-le, whole_fraction, Tree, num, power, none, more, is_undef, is_reduced, is_half_num, is_whole_num, IsReducedPower, lacks_power, HasFewBits, HasFewBitsRaised, has_number_power, is_zero_or_one, rewritten, IsFactorHeld, is_counted, IsPartHeld, factor_held, raised_high, raised_low, OfOverflow, NumberFault, whole_exponent, cases_Bool}
+use Rattle.node_bounds.proofs.Shared.{eqb-true, mul-le, whole_fraction, Tree, num, power, none, more, is_undef, is_reduced, is_half_num, is_whole_num, IsReducedPower, lacks_power, AreFewBits, HasFewBitsRaised, has_number_power, is_zero_or_one, rewritten, IsFactorHeld, is_counted, IsPartHeld, factor_held, raised_high, raised_low, OfOverflow, NumberFault, whole_exponent, cases_Bool}
 use Rattle.node_bounds.proofs.Clashes.{clash}
 use Rattle.node_bounds.proofs.HeldFactors.{factor_wider, power_factor, base_factor}
 use Rattle.tree_bits.proofs.RaisedBits.{raised_most, counted_bits}
@@ -65,7 +65,7 @@ pub fine : {A : Type 0} (r : Result A NumberFault) → IsOk r → IfErr r (OfOve
 fine r h = grind arith
 
 -- and of few bits the power fits
-pub part_fits : {A : Type 0} (c p : Tree) (r : Result A NumberFault) (h l : ℕ) → IsPartHeld (more (power c p) none) h l → HasFewBits h l
+pub part_fits : {A : Type 0} (c p : Tree) (r : Result A NumberFault) (h l : ℕ) → IsPartHeld (more (power c p) none) h l → AreFewBits h l
     → ((n : ℤ) (i j : ℕ) → p ≡ num (whole_fraction n) → IsFactorHeld c i j → HasFewBitsRaised n i j → IfErr r (OfOverflow (λ o. ⊥)))
     → (is_whole_num p ≡ false → is_half_num p ≡ false → IsOk r) → IfErr r (OfOverflow (λ o. ⊥))
 part_fits c p r h l k f bits others = elim (cases_Bool (is_whole_num p)) [

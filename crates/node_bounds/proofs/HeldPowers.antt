@@ -42,7 +42,8 @@ root_way a r n m k d h l f = let x = half_bits n h l in factor_wider r x.0 x.1 (
 
 -- ---- powers of powers
 
-pub power_raised : (c f g : Tree) (n : ℤ) {h l : ℕ} → IsCountedWithin (multiple n (counts_of f)) g → IsFactorHeld (power c f) h l → IsPartHeld (more (power c g) none) (raised_high n h l) (raised_low n h l)
+pub power_raised : (c f g : Tree) (n : ℤ) {h l : ℕ} → IsCountedWithin (multiple n (counts_of f)) g → IsFactorHeld (power c f) h l
+    → IsPartHeld (more (power c g) none) (raised_high n h l) (raised_low n h l)
 power_raised c f g n {h} {l} w k = by n (record { base = refl; counted = w.counted; within = w.within })
   where
     by : (n : ℤ) → IsFactorPower n (power c f) (power c g) → IsPartHeld (more (power c g) none) (raised_high n h l) (raised_low n h l)
@@ -58,27 +59,32 @@ power_way c f e g r n x i p a d h l k = part_answer c g r x p.reduces.reduced a 
 -- ---- powers of products
 
 module _ (n : ℤ) where
-  pub powers_held : (gs us : Trees) {h l : ℕ} → has_undef us ≡ false → AreReducedPowers (raised gs (num (whole_fraction n))) us → EachHeld gs h l → AreFactorsHeld us (raised_high n h l) (raised_low n h l)
+  pub powers_held : (gs us : Trees) {h l : ℕ} → has_undef us ≡ false → AreReducedPowers (raised gs (num (whole_fraction n))) us → EachHeld gs h l
+      → AreFactorsHeld us (raised_high n h l) (raised_low n h l)
   powers_held none none d a k = none_held
   powers_held (more g gs) (more u us) {h} {l} d a (more_each p q i j f k x y) =
       let (y0, y1) = or_parts (is_undef u) (has_undef us) d in
       let s = raised_both n p q i j in
       let m = raised_most n x y in
-      factors_held (raised_high n p q) (raised_low n p q) (raised_high n i j) (raised_low n i j) (a.0.held n refl y0 p q f) (powers_held gs us y1 a.1 k) (omega (arith, s.0, m.0)) (omega (arith, s.1, m.1))
+      factors_held (raised_high n p q) (raised_low n p q) (raised_high n i j) (raised_low n i j) (a.0.held n refl y0 p q f) (powers_held gs us y1 a.1 k) (omega (arith, s.0, m.0))
+      (omega (arith, s.1, m.1))
   powers_held gs us d a k = absurd a
 
 defined_factors : (us : Trees) (r : Tree) → IsReducedProduct us r → is_undef r ≡ false → has_undef us ≡ false
 defined_factors us r a d = grind (arith, clash)
 
-product_way : (fs us : Trees) (e r : Tree) (n : ℤ) → is_reduced (mult fs) ≡ true → is_number (mult fs) ≡ false → e ≡ num (whole_fraction n) → AreReducedPowers (raised (parts_of fs) e) us → IsReducedProduct us r → IsHeldAsPowerOf n (mult fs) r
+product_way : (fs us : Trees) (e r : Tree) (n : ℤ) → is_reduced (mult fs) ≡ true → is_number (mult fs) ≡ false → e ≡ num (whole_fraction n) → AreReducedPowers (raised (parts_of fs) e) us
+    → IsReducedProduct us r → IsHeldAsPowerOf n (mult fs) r
 product_way fs us e r n h k a b c = grind (arith, powers_held, defined_factors, parts_each)
 
 -- ---- what is answered for the tree
 
-pub product_holds : (t v r b e : Tree) (n : ℤ) → is_mult t ≡ true → IsProductOfPowers (children_of t) v → IsReducedProduct (children_of v) r → IsRewritten b e t → e ≡ num (whole_fraction n) → IsHeldAsPowerOf n b r
+pub product_holds : (t v r b e : Tree) (n : ℤ) → is_mult t ≡ true → IsProductOfPowers (children_of t) v → IsReducedProduct (children_of v) r → IsRewritten b e t → e ≡ num (whole_fraction n)
+    → IsHeldAsPowerOf n b r
 product_holds t v r b e n m p a w q = grind (arith, by_product, product_way)
 
-even_way : (a e t v r : Tree) (n : ℤ) → is_number (root a) ≡ false → IsRewritten (root a) e t → e ≡ num (whole_fraction n) → v ≡ t → IsReducedPower (base_in v) (exponent_in v) r → IsHeldAsPowerOf n (root a) r
+even_way : (a e t v r : Tree) (n : ℤ) → is_number (root a) ≡ false → IsRewritten (root a) e t → e ≡ num (whole_fraction n) → v ≡ t → IsReducedPower (base_in v) (exponent_in v) r
+    → IsHeldAsPowerOf n (root a) r
 even_way a e t v r n k w q l p =
     let i : rewritten_whole (root a) (num (whole_fraction n)) ≡ Some t = ap (rewritten_whole (root a)) (sym q) ∙ sym (as_whole (root a) e (whole_no_half e w.whole)) ∙ w.is in
     let j : v ≡ power a (num (whole_fraction (half n))) = l ∙ half_of a t (whole_fraction n) i ∙ ap (λ (z : ℤ). power a (num (whole_fraction (half z)))) (whole_numerator n) in

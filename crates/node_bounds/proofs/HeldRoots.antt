@@ -1,6 +1,6 @@
 -- Roots, and powers with half of an odd number as the exponent, are held by the bits of their bases.
 use Rattle.std.proofs.Common.{◌≡◌, ℕ, zero, suc, ◌≤◌, ℤ, Bool, true, false, ◌&&◌, ◌==◌, Result, Err, refl, sym, ap, ◌∙◌, subst, arith, inl, inr, IfOk}
-use Rattle.node_bounds.proofs.Shared.{and_parts, eqb-true, whole_fraction, int_is_negative, Tree, num, undef, root, is_num, is_undef, is_number, value, is_reduced, is_half_num, number_words, IsHeld, reduced_parts, HasFewBits, IsHeldAsRootPower, numerator, IsHeldAsPowerOf, has_number_power, IsPowerAnswer, IsPowerMisfit, whole_no_half, whole_is, IsFactorHeld, value_held, number_as_factor, IfRational, IsRootAnswer, has_no_root, HasWideRoot, IsOverflow, Overflow, OfOverflow, NumberFault, IsNoLargerThanRoot, factor_is_held, root_is_held, cases_Bool}
+use Rattle.node_bounds.proofs.Shared.{and_parts, eqb-true, whole_fraction, int_is_negative, Tree, num, undef, root, is_num, is_undef, is_number, value, is_reduced, is_half_num, number_words, IsHeld, reduced_parts, AreFewBits, IsHeldAsRootPower, numerator, IsHeldAsPowerOf, has_number_power, IsPowerAnswer, IsPowerMisfit, whole_no_half, whole_is, IsFactorHeld, value_held, number_as_factor, IfRational, IsRootAnswer, has_no_root, HasWideRoot, IsOverflow, Overflow, OfOverflow, NumberFault, IsNoLargerThanRoot, factor_is_held, root_is_held, cases_Bool}
 use Rattle.node_bounds.proofs.Clashes.{clash, rational_number, undef_has_none}
 use Rattle.node_bounds.proofs.HeldFactors.{tree_high, factor_tree}
 use Rattle.calc_bits.specs.Bounds as few
@@ -22,13 +22,15 @@ some_high b {h = zero} {l = l} r d n z a = elim (cases_Bool (is_number b)) [
 has_root_defined : (b : Tree) → has_no_root b ≡ false → is_undef b ≡ false
 has_root_defined b h = grind arith
 
-pub root_answer_held : (b r : Tree) {h l : ℕ} → is_reduced b ≡ true → IsRootAnswer b r → IfRational b (λ q. int_is_negative q.num ≡ false → IsNoLargerThanRoot q (value r)) → (h ≡ 0 → l ≡ 0) → is_undef r ≡ false → IsFactorHeld b h l → IsFactorHeld r h l
+pub root_answer_held : (b r : Tree) {h l : ℕ} → is_reduced b ≡ true → IsRootAnswer b r → IfRational b (λ q. int_is_negative q.num ≡ false → IsNoLargerThanRoot q (value r)) → (h ≡ 0 → l ≡ 0)
+    → is_undef r ≡ false → IsFactorHeld b h l → IsFactorHeld r h l
 root_answer_held b r {h} {l} x k m z d a = by (is_num b) refl
   where
     none : has_no_root b ≡ false
     none = sym k.undefined ∙ d
 
-    rational : (b : Tree) → is_num b ≡ true → has_no_root b ≡ false → IfRational b (λ q. int_is_negative q.num ≡ false → IsNoLargerThanRoot q (value r)) → IsFactorHeld b h l → is_number r ≡ true → IsFactorHeld r h l
+    rational : (b : Tree) → is_num b ≡ true → has_no_root b ≡ false → IfRational b (λ q. int_is_negative q.num ≡ false → IsNoLargerThanRoot q (value r)) → IsFactorHeld b h l
+        → is_number r ≡ true → IsFactorHeld r h l
     rational (num q) n e m a i = number_as_factor r h l i ((m e).held h l (value_held (num q) h l (rational_number q) a))
     rational b n e m a i = cc
 
@@ -40,7 +42,8 @@ root_answer_held b r {h} {l} x k m z d a = by (is_num b) refl
 
 -- ---- their powers
 
-pub half_held : (b e r u : Tree) → is_reduced b ≡ true → IsRootAnswer b r → IfRational b (λ q. int_is_negative q.num ≡ false → IsNoLargerThanRoot q (value r)) → IsPowerAnswer r (num (whole_fraction (numerator e))) u → IsHeldAsPowerOf (numerator e) r u
+pub half_held : (b e r u : Tree) → is_reduced b ≡ true → IsRootAnswer b r → IfRational b (λ q. int_is_negative q.num ≡ false → IsNoLargerThanRoot q (value r))
+    → IsPowerAnswer r (num (whole_fraction (numerator e))) u → IsHeldAsPowerOf (numerator e) r u
     → IsHeldAsRootPower (numerator e) b u
 half_held b e r u x k m a p d h l z f = p d h l (root_answer_held b r x k m z (defined (is_undef r) refl) f)
   where
@@ -73,7 +76,8 @@ pub last_fits : (b e : Tree) (f : NumberFault) → (is_undef b ≡ false → OfO
 last_fits b e f fits m = elim (cases_Bool (is_undef b)) [ inl d ↦ no_fault f (IsPowerMisfit b e) (λ o p. clash (sym d ∙ number_defined b e p.number)) m | inr d ↦ fits d ]
 
 -- only the root of a rational overflows
-pub root_fits : (a : Tree) (f : NumberFault) {h l : ℕ} → (few.HasFewBits (value a) → OfOverflow (λ o. ⊥) f) → (IsOverflow {A = ℕ} (Err f) → HasWideRoot a) → IsFactorHeld a h l → HasFewBits h l → OfOverflow (λ o. ⊥) f
+pub root_fits : (a : Tree) (f : NumberFault) {h l : ℕ} → (few.HasFewBits (value a) → OfOverflow (λ o. ⊥) f) → (IsOverflow {A =
+    ℕ} (Err f) → HasWideRoot a) → IsFactorHeld a h l → AreFewBits h l → OfOverflow (λ o. ⊥) f
 root_fits (num q) f {h} {l} fits wide a few = fits (record { high = h; low = l; held = value_held (num q) h l (rational_number q) a; few = few })
 root_fits b f fits wide a few = grind arith
 

@@ -81,7 +81,8 @@ joining at ts us j =
 -- ---- bytes at hand
 
 -- c counts in the base, to which the exponents add x and y, and r in the other factors, of which q are Numbers but one
-exponents_fit : (m c x y q r h z s w : ℕ) → 1 ≤ m → 1 ≤ c → 1 ≤ q → 2 * c + x + y + suc (q + r) ≤ h → z ≤ 3 + x + y → s ≤ 204 * r * m + 96 * (1 + q) * m → w ≤ 204 * c * m → 8 + w + sum_room z m + s ≤ product_room h m
+exponents_fit : (m c x y q r h z s w : ℕ) → 1 ≤ m → 1 ≤ c → 1 ≤ q → 2 * c + x + y + suc (q + r) ≤ h → z ≤ 3 + x + y → s ≤ 204 * r * m + 96 * (1 + q) * m → w ≤ 204 * c * m
+    → 8 + w + sum_room z m + s ≤ product_room h m
 exponents_fit m c x y q r h z s w hm hc hq k l u v = omega (arith, scaled (2 * c + x + y + suc (q + r)) h m k, scaled z (3 + x + y) m l, scaled 1 c m hc, scaled 1 q m hq)
 
 power_fits : (m c x y q r h s : ℕ) → 1 ≤ m → 1 ≤ c → 1 ≤ q → 2 * c + x + y + suc (q + r) ≤ h → s ≤ 204 * r * m + 96 * (1 + q) * m → power_room c m + s ≤ product_room h m
@@ -118,7 +119,8 @@ module _ (gs : List ℕ) (at : ℕ) (ts us : Trees) (k : IsJoinedFrom at ts us) 
       omega (
         arith,
         l,
-        exponents_fit (2 ^ length gs) (counted b) (exponent_count e) (exponent_count f) (max 1 (numbers_among others - 1)) (counted_among others) (product_count ts) (sum_count (more e (more f none))) (size (mult others)) (size b)
+        exponents_fit (2 ^ length gs) (counted b) (exponent_count e) (exponent_count f) (max 1 (numbers_among others - 1)) (counted_among others) (product_count ts)
+            (sum_count (more e (more f none))) (size (mult others)) (size b)
             (pow_pos (length gs)) (counts_one b) (omega arith) j.count-is (exponents_added e f) beside base_bytes,
       )
 
@@ -126,19 +128,22 @@ module _ (gs : List ℕ) (at : ℕ) (ts us : Trees) (k : IsJoinedFrom at ts us) 
   pub power_lacks : (bytes : ℕ) → bytes < whole_power_room b (2 ^ length gs) → bytes + size (mult others) < product_room (product_count ts) (2 ^ length gs)
   power_lacks bytes l = by (is_mult b && not (is_number b)) refl l
     where
-      by : (z : Bool) → (is_mult b && not (is_number b)) ≡ z → bytes < (if z then product_power_room (counted b) (2 ^ length gs) else power_room (counted b) (2 ^ length gs)) → bytes + size (mult others) < product_room (product_count ts) (2 ^ length gs)
+      by : (z : Bool) → (is_mult b && not (is_number b)) ≡ z → bytes < (if z then product_power_room (counted b) (2 ^ length gs) else power_room (counted b) (2 ^ length gs))
+          → bytes + size (mult others) < product_room (product_count ts) (2 ^ length gs)
       by true e l =
           omega (
             arith,
             l,
-            product_power_fits (2 ^ length gs) (counted b) (exponent_count (exponent_of (nth at ts))) (exponent_count (exponent_of (nth (suc at) ts))) (max 1 (numbers_among others - 1)) (counted_among others) (product_count ts) (size (mult others))
+            product_power_fits (2 ^ length gs) (counted b) (exponent_count (exponent_of (nth at ts))) (exponent_count (exponent_of (nth (suc at) ts))) (max 1 (numbers_among others - 1))
+                (counted_among others) (product_count ts) (size (mult others))
                 (pow_pos (length gs)) (counts_one b) (omega arith) (j.apart e) j.count-is beside,
           )
       by false e l =
           omega (
             arith,
             l,
-            power_fits (2 ^ length gs) (counted b) (exponent_count (exponent_of (nth at ts))) (exponent_count (exponent_of (nth (suc at) ts))) (max 1 (numbers_among others - 1)) (counted_among others) (product_count ts) (size (mult others))
+            power_fits (2 ^ length gs) (counted b) (exponent_count (exponent_of (nth at ts))) (exponent_count (exponent_of (nth (suc at) ts))) (max 1 (numbers_among others - 1))
+                (counted_among others) (product_count ts) (size (mult others))
                 (pow_pos (length gs)) (counts_one b) (omega arith) j.count-is beside,
           )
 

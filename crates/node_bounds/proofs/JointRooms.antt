@@ -1,10 +1,10 @@
 -- Two factors joined, and their joint reduced: what counts, what is calm and spanned, and how many bytes suffice.
 use Rattle.std.proofs.Common.{◌≡◌, ℕ, suc, ◌+◌, ◌*◌, ◌≤◌, ◌<◌, List, Bool, true, false, if◌then◌else◌, refl, sym, ap, subst, arith}
-use Rattle.node_bounds.proofs.Shared.{is_number, is_whole_num, number_test, counted, counted_among, HasPowersOf, SpansRoot, SpansTree, SpansTrees, Tree, add, mult, power, Trees, none, more, count, IsCalmAtZero, KeepsRoom, KeepsSumRoom, whole_power_count, power_count, set_tree, HandsOn, removed, AreFactorsHeld, joint, IsPairAt, joined_pair, IsSumAnswer, nth, children_of, HasCalmExponent, IsCalm, zeros, exponent_count, numbers_among, product_count, parts_calm, counts_one}
+use Rattle.node_bounds.proofs.Shared.{is_whole_num, counted, counted_among, HasPowersOf, SpansRoot, SpansTree, SpansTrees, Tree, add, mult, power, Trees, none, more, count, IsCalmAtZero, KeepsRoom, KeepsSumRoom, whole_power_count, power_count, set_tree, HandsOn, removed, AreFactorsHeld, joint, IsPairAt, joined_pair, IsSumAnswer, nth, children_of, HasCalmExponent, IsCalm, zeros, exponent_count, product_count, parts_calm, counts_one, KeepsFactorBounds, KeepsProductBounds, has_undef}
 use Rattle.node_bounds.proofs.Calm.{all_nth, all_replaced, all_base, all_exponent, all_joined, calm_children, calm_product, joint_calm, whole_kept, whole_of_number}
 use Rattle.node_bounds.proofs.JointCounts.{joint_count, pair_counts, pair_joined_count, replaced_count_is}
 use Rattle.tree_room.proofs.PowerCounts.{joined}
-pub use Rattle.product_reduce.proofs.JoinedCounts.{whole_number as whole_numbers}
+pub use Rattle.product_reduce.proofs.GatheredCounts.{whole_number as whole_numbers}
 
 -- ---- from tree to tree
 
@@ -25,15 +25,19 @@ pub sum_calm : {ns : List (List ℕ)} (ts : Trees) (t : Tree) → KeepsSumRoom t
 sum_calm {ns} ts t k c = record { once = c.once; calm = parts_calm (zeros ns) ts t k.powers c.calm.1 }
 
 -- what is answered at once for the factors, and what is gathered of them
-pub finished_keeps : (ts : Trees) (t : Tree) → counted t ≤ counted (mult ts) → HasPowersOf ts t → ((gs : List ℕ) → SpansTree gs (mult ts) → SpansTree gs t) → KeepsRoom (counted (mult ts)) (mult ts) t
-finished_keeps ts t l p s = record { counts = λ ns c. l; calm = λ ns c. calm_by_powers ts t p c; spanned = λ gs ns c h. s gs h }
+pub finished_keeps : (ts : Trees) (t : Tree) → KeepsProductBounds ts t → KeepsRoom (counted (mult ts)) (mult ts) t
+finished_keeps ts t b = record { counts = λ ns c. b.counts; calm = λ ns c. calm_by_powers ts t b.powers c; spanned = λ gs ns c h. b.spanned gs h.1 }
 
-gathered_product : (ts us : Trees) → counted_among us ≤ counted_among ts → numbers_among us ≤ 2 → HasPowersOf ts (mult us) → ((gs : List ℕ) → SpansTree gs (mult ts) → SpansTree gs (mult us)) → ((h l : ℕ) → AreFactorsHeld ts h l → AreFactorsHeld us h l) → HandsOn ts us
-gathered_product ts us l n p s k = record { counts = λ ns c. omega (arith, l, n); room = finished_keeps ts (mult us) (omega (arith, l)) p s; held = k }
-
-pub gathered_hands_on : (ts : Trees) (u : Tree) → u ≡ mult (children_of u) → counted_among (children_of u) ≤ counted_among ts → numbers_among (children_of u) ≤ 2 → HasPowersOf ts u → ((gs : List ℕ) → SpansTree gs (mult ts) → SpansTree gs u)
-    → ((h l : ℕ) → AreFactorsHeld ts h l → AreFactorsHeld (children_of u) h l) → HandsOn ts (children_of u)
-gathered_hands_on ts u e l n p s k = gathered_product ts (children_of u) l n (subst (HasPowersOf ts) e p) (λ gs h. subst (SpansTree gs) e (s gs h)) k
+pub gathered_hands_on : (ts : Trees) (u : Tree) → u ≡ mult (children_of u) → has_undef ts ≡ false → KeepsFactorBounds ts u → HandsOn ts (children_of u)
+gathered_hands_on ts u e d b = record {
+  counts = λ ns c. omega (arith, b.counts, b.few_numbers);
+  room = record {
+    counts = λ ns c. omega (arith, b.counts);
+    calm = λ ns c. calm_by_powers ts (mult (children_of u)) (subst (HasPowersOf ts) e b.powers) c;
+    spanned = λ gs ns c h. subst (SpansTree gs) e (b.spanned gs h.1);
+  };
+  held = λ h l a. b.held h l d a;
+}
 
 -- ---- the factors joined
 
@@ -48,15 +52,9 @@ joined_spans gs n ts p s = all_joined (SpansRoot gs) n ts p (joint_spans gs) s
 
 -- ---- the joint, with its exponents added
 
-pub sum_keeps : (u : Tree) (ts : Trees) (t : Tree) → u ≡ add ts → counted t ≤ 1 + counted_among (children_of u) → HasPowersOf (children_of u) t → ((gs : List ℕ) → SpansTree gs u → SpansTree gs t) → KeepsSumRoom ts t
-sum_keeps u ts t e l p s = record {
-  counts = omega (arith, l, ap (λ (x : Tree). counted_among (children_of x)) e);
-  powers = subst (λ (x : Tree). HasPowersOf (children_of x) t) e p;
-  spanned = λ gs h. s gs (subst (SpansTree gs) (sym e) (tt, h));
-}
-
 -- the sum of exponents that mean whole numbers does, and it is calm
-pub summed_calm : {ns : List (List ℕ)} (b e f g : Tree) → IsCalmAtZero ns (power b (add (more e (more f none)))) → IsSumAnswer (more e (more f none)) g → KeepsSumRoom (more e (more f none)) g → IsCalmAtZero ns (power b g)
+pub summed_calm : {ns : List (List ℕ)} (b e f g : Tree) → IsCalmAtZero ns (power b (add (more e (more f none)))) → IsSumAnswer (more e (more f none)) g
+    → KeepsSumRoom (more e (more f none)) g → IsCalmAtZero ns (power b g)
 summed_calm {ns} b e f g c a k =
     let (w, h, s) = c.calm in
     record {
@@ -75,7 +73,8 @@ pub whole_count_most : (b : Tree) → whole_power_count b ≤ 1 + counted b
 whole_count_most b = grind arith
 
 -- the power of the sum counts no more than both powers
-pub summed_counts : {ns : List (List ℕ)} (b e f g : Tree) → IsCalmAtZero ns (power b g) → IsSumAnswer (more e (more f none)) g → KeepsSumRoom (more e (more f none)) g → power_count b g ≤ 2 * counted b + exponent_count e + exponent_count f
+pub summed_counts : {ns : List (List ℕ)} (b e f g : Tree) → IsCalmAtZero ns (power b g) → IsSumAnswer (more e (more f none)) g → KeepsSumRoom (more e (more f none)) g
+    → power_count b g ≤ 2 * counted b + exponent_count e + exponent_count f
 summed_counts b e f g c a k = by (is_whole_num g)
   where
     by : (z : Bool) → (if z then whole_power_count b else counted (power b g)) ≤ 2 * counted b + exponent_count e + exponent_count f

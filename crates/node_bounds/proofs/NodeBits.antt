@@ -1,6 +1,6 @@
 -- What holds a node over reduced children holds its answer.
 use Rattle.std.proofs.Common.{◌≡◌, ◌≢◌, ℕ, suc, ◌+◌, ◌*◌, ◌^◌, ◌≤◌, [], ◌∷◌, ℤ, Bool, true, false, ◌||◌, if◌then◌else◌, Option, Some, None, Result, Ok, Err, refl, sym, ap, ◌∙◌, subst, arith, inl, inr, IfOk, IfErr, IsOk}
-use Rattle.node_bounds.proofs.Shared.{pow_pos, pow-add, pow-le-pow_right, value, is_half_num, is_whole_num, num_one, Surd, surd_of, one_not_zero, IsHeld, HighLow, zero_fraction, one_fraction, minus_one_fraction, whole_fraction, zero_test, whole_numerator, Tree, num, undef, power, Trees, none, more, is_num, is_undef, has_undef, IsReducedPower, lacks_power, HasFewBits, HoldsPower, HoldsDifference, HoldsNode, numerator, has_number_power, HasFewBitsRaised, HasWideRoot, IsOverflow, IfRational, IsNoLargerThanRoot, int_is_negative, is_zero_or_one, rewritten, as_whole, IsFactorHeld, AreFactorsHeld, none_held, number_as_factor, no_factors_held, IsSumHeld, addends_of_each, trees_together, minus_one_held, nothing_held, IfOverflow, OfOverflow, NumberFault, or_parts, cases_Bool}
+use Rattle.node_bounds.proofs.Shared.{pow_pos, pow-add, pow-le-pow_right, value, is_half_num, is_whole_num, num_one, Surd, surd_of, one_not_zero, IsHeld, HighLow, zero_fraction, one_fraction, minus_one_fraction, whole_fraction, zero_test, whole_numerator, Tree, num, undef, power, Trees, none, more, is_num, is_undef, has_undef, IsReducedPower, lacks_power, AreFewBits, HoldsPower, HoldsDifference, HoldsNode, numerator, has_number_power, HasFewBitsRaised, HasWideRoot, IsOverflow, IfRational, IsNoLargerThanRoot, int_is_negative, is_zero_or_one, rewritten, as_whole, IsFactorHeld, AreFactorsHeld, none_held, number_as_factor, no_factors_held, IsSumHeld, addends_of_each, trees_together, minus_one_held, nothing_held, IfOverflow, OfOverflow, NumberFault, or_parts, cases_Bool}
 use Rattle.node_bounds.proofs.Clashes.{clash, rational_number}
 use Rattle.node_bounds.proofs.HeldFactors.{factor_wider, factor_tree}
 use Rattle.node_bounds.proofs.HeldParts.{fine}
@@ -16,14 +16,18 @@ unfolding zero_fraction
 zero_held h l = grind (arith, whole_numerator, number_as_factor, rational_number, nothing_held)
 
 pub one_held : (h l : ℕ) → IsFactorHeld (num one_fraction) h l
-one_held h l = number_as_factor (num one_fraction) h l (rational_number one_fraction) (no_factors_held (value num_one) h l (ap (λ (b : Bool). if b then [] else surd_of one_fraction) (zero_test one_fraction one_not_zero)))
+one_held h l =
+    number_as_factor (num one_fraction) h l (rational_number one_fraction)
+    (no_factors_held (value num_one) h l (ap (λ (b : Bool). if b then [] else surd_of one_fraction) (zero_test one_fraction one_not_zero)))
 
 minus_one_not_zero : minus_one_fraction ≢ zero_fraction
 unfolding zero_fraction
 minus_one_not_zero = grind (arith, whole_numerator)
 
 minus_one : IsFactorHeld (num minus_one_fraction) 0 0
-minus_one = number_as_factor (num minus_one_fraction) 0 0 (rational_number minus_one_fraction) (subst (λ (v : Surd). IsHeld v 0 0) (sym (ap (λ (b : Bool). if b then [] else surd_of minus_one_fraction) (zero_test minus_one_fraction minus_one_not_zero))) minus_one_held)
+minus_one =
+    number_as_factor (num minus_one_fraction) 0 0 (rational_number minus_one_fraction)
+    (subst (λ (v : Surd). IsHeld v 0 0) (sym (ap (λ (b : Bool). if b then [] else surd_of minus_one_fraction) (zero_test minus_one_fraction minus_one_not_zero))) minus_one_held)
 
 -- ---- two sides
 
@@ -42,7 +46,8 @@ second_side a b h = (or_parts (is_undef b) false (or_parts (is_undef a) (is_unde
 abbrev of : ℕ → ℕ → HighLow
 of x y = record { high = x; low = y }
 
-pub two_terms : (a b : Tree) {p q k n h l : ℕ} → has_undef (more a (more b none)) ≡ false → IsFactorHeld a p q → IsFactorHeld b k n → 2 ^ p + 2 ^ k ≤ 2 ^ h → q + n ≤ l → IsSumHeld (addends_of_each (more a (more b none))) h l
+pub two_terms : (a b : Tree) {p q k n h l : ℕ} → has_undef (more a (more b none)) ≡ false → IsFactorHeld a p q → IsFactorHeld b k n → 2 ^ p + 2 ^ k ≤ 2 ^ h → q + n ≤ l
+    → IsSumHeld (addends_of_each (more a (more b none))) h l
 two_terms a b {p} {q} {k} {n} {h} {l} d x y i j =
     trees_together (more a (more b none)) (of p q ∷ of k n ∷ []) h l (first_side a b d, factor_tree a x, (second_side a b d, factor_tree b y, tt)) (omega (arith, i)) (omega (arith, j))
 
@@ -84,13 +89,6 @@ power_answer_held b e r a d h l k = grind (arith, factor_wider, kept_power)
 pub as_overflow : (r : Result ℕ NumberFault) → IfErr r (OfOverflow (λ o. ⊥)) → IfOverflow r (λ o. ⊥)
 as_overflow r h = grind arith
 
--- ---- what is said of a sum beside
-
-pub held_facts : (ts : Trees) (P : Tree → ℕ → ℕ → Type 0) (s : ℕ → Tree) (r : Result ℕ NumberFault) → ((h l : ℕ) → has_undef ts ≡ false → IsSumHeld (addends_of_each ts) h l → IfOk r (λ t. P (s t) h l))
-    → IfOk r (λ t. (h l : ℕ) → has_undef ts ≡ false → IsSumHeld (addends_of_each ts) h l → P (s t) h l)
-held_facts ts P s (Ok x) k = k
-held_facts ts P s (Err f) k = tt
-
 -- ---- by the kind of the node
 
 -- of a tree that is another
@@ -98,18 +96,20 @@ pub holds_as : {t u : Tree} (h l : ℕ) → t ≡ u → HoldsNode t h l → Hold
 holds_as h l e k = subst (λ (x : Tree). HoldsNode x h l) e k
 
 -- the power fits
-pub power_node_fits : (b e : Tree) (r : Result ℕ NumberFault) (h l : ℕ) → HoldsPower b e h l → HasFewBits h l
+pub power_node_fits : (b e : Tree) (r : Result ℕ NumberFault) (h l : ℕ) → HoldsPower b e h l → AreFewBits h l
     → ((n : ℤ) (p q : ℕ) → e ≡ num (whole_fraction n) → IsFactorHeld b p q → HasFewBitsRaised n p q → IfErr r (OfOverflow (λ o. ⊥)))
-    → ((p q : ℕ) → is_half_num e ≡ true → (p ≡ 0 → q ≡ 0) → IsFactorHeld b p q → HasFewBits p q → HasFewBitsRaised (numerator e) p q → IfErr r (OfOverflow (λ o. ⊥)))
+    → ((p q : ℕ) → is_half_num e ≡ true → (p ≡ 0 → q ≡ 0) → IsFactorHeld b p q → AreFewBits p q → HasFewBitsRaised (numerator e) p q → IfErr r (OfOverflow (λ o. ⊥)))
     → (is_whole_num e ≡ false → is_half_num e ≡ false → IsOk r) → IfErr r (OfOverflow (λ o. ⊥))
 power_node_fits b e r h l k a c d f = grind (arith, fine)
 
 -- the root fits
-pub root_node_fits : (a : Tree) (r : Result ℕ NumberFault) {h l : ℕ} → (few.HasFewBits (value a) → IfErr r (OfOverflow (λ o. ⊥))) → (IsOverflow r → HasWideRoot a) → IsFactorHeld a h l → HasFewBits h l → IfErr r (OfOverflow (λ o. ⊥))
+pub root_node_fits : (a : Tree) (r : Result ℕ NumberFault) {h l : ℕ} → (few.HasFewBits (value a) → IfErr r (OfOverflow (λ o. ⊥))) → (IsOverflow r → HasWideRoot a) → IsFactorHeld a h l
+    → AreFewBits h l → IfErr r (OfOverflow (λ o. ⊥))
 root_node_fits a (Ok x) fits wide k l = tt
 root_node_fits a (Err f) fits wide k l = root_fits a f fits wide k l
 
-pub measured_facts : (a : Tree) (s : ℕ → Tree) (r : Result ℕ NumberFault) → IfRational a (λ q. int_is_negative q.num ≡ false → IfOk r (λ h. IsNoLargerThanRoot q (value (s h)))) → IfOk r (λ h. IfRational a (λ q. int_is_negative q.num ≡ false → IsNoLargerThanRoot q (value (s h))))
+pub measured_facts : (a : Tree) (s : ℕ → Tree) (r : Result ℕ NumberFault) → IfRational a (λ q. int_is_negative q.num ≡ false → IfOk r (λ h. IsNoLargerThanRoot q (value (s h))))
+    → IfOk r (λ h. IfRational a (λ q. int_is_negative q.num ≡ false → IsNoLargerThanRoot q (value (s h))))
 measured_facts a s r h = grind arith
 
 -- ---- sides
@@ -121,5 +121,5 @@ twice k = let e : suc k ≡ 1 + k = omega arith in ap (λ (n : ℕ). 2 ^ n) e �
 below : (k h x : ℕ) → 1 ≤ x → x + 2 ^ k ≤ 2 ^ h → k ≤ h
 below k h x o l = grind (arith, pow-le-pow_right, twice)
 
-pub difference_right : (a b : Tree) {h l : ℕ} → HasFewBits h l → (d : HoldsDifference a b h l) → HasFewBits d.k d.n
+pub difference_right : (a b : Tree) {h l : ℕ} → AreFewBits h l → (d : HoldsDifference a b h l) → AreFewBits d.k d.n
 difference_right a b {h} {l} few d = omega (arith, few, below d.k h (2 ^ d.p) (pow_pos d.p) d.high, d.low)

@@ -26,9 +26,6 @@ some_factors ts m h = grind arith
 pub no_factors : (ts : Trees) (m : ℕ) → count ts ≡ 0 → factors_room ts m ≡ 40
 no_factors ts m h = grind arith
 
-pub number_fits_sum : (ts : Trees) (m : ℕ) → 1 ≤ m → 40 ≤ sum_room (sum_count ts) m
-number_fits_sum ts m h = omega (arith, h)
-
 -- ---- powers and roots
 
 pub power_fits : (t : Tree) (n m : ℕ) → t ≡ power (base_in t) (exponent_in t) → HasNodesFor n t → whole_power_room (base_in t) m ≤ simple_room n m
@@ -37,7 +34,8 @@ power_fits t n m h k = grind (arith, needs_most, scaled, counts_one)
 pub half_fits : (t : Tree) (n m : ℕ) → t ≡ power (base_in t) (exponent_in t) → HasNodesFor n t → power_room (1 + counted (base_in t)) m ≤ simple_room n m
 half_fits t n m h k = grind (arith, scaled, counts_one)
 
-pub root_result : (gs : List ℕ) (t : Tree) (free n : ℕ) (r : Result ℕ NumberFault) → is_root t ≡ true → HasNodesFor n t → (IsFull r → is_num (argument_of t) ≡ true) → (IsFull r → free < 96) → IfErr r (LacksBelow (simple_room n (2 ^ length gs)) (free + size t))
+pub root_result : (gs : List ℕ) (t : Tree) (free n : ℕ) (r : Result ℕ NumberFault) → is_root t ≡ true → HasNodesFor n t → (IsFull r → is_num (argument_of t) ≡ true) → (IsFull r → free < 96)
+    → IfErr r (LacksBelow (simple_room n (2 ^ length gs)) (free + size t))
 root_result gs t free n r h k a b = grind (arith, num_bytes, scaled, pow_pos)
 
 -- only a power has half of an odd number as its exponent
@@ -101,10 +99,12 @@ pub record AreSides (gs : List ℕ) (ns : List (List ℕ)) (n : ℕ) (a b : Tree
   pub right_spanned : SpansTree gs b
   pub nodes : 1 + counted a + counted b ≤ n
 
-pub difference_sides : (gs : List ℕ) (ns : List (List ℕ)) (n : ℕ) (t : Tree) → is_sub t ≡ true → HasNodesFor n t → IsCalmAtZero ns t → SpansTree gs t → AreSides gs ns n (nth 0 (children_of t)) (nth 1 (children_of t))
+pub difference_sides : (gs : List ℕ) (ns : List (List ℕ)) (n : ℕ) (t : Tree) → is_sub t ≡ true → HasNodesFor n t → IsCalmAtZero ns t → SpansTree gs t
+    → AreSides gs ns n (nth 0 (children_of t)) (nth 1 (children_of t))
 difference_sides gs ns n t h k a b = grind arith
 
-pub quotient_sides : (gs : List ℕ) (ns : List (List ℕ)) (n : ℕ) (t : Tree) → is_div t ≡ true → HasNodesFor n t → IsCalmAtZero ns t → SpansTree gs t → AreSides gs ns n (nth 0 (children_of t)) (nth 1 (children_of t))
+pub quotient_sides : (gs : List ℕ) (ns : List (List ℕ)) (n : ℕ) (t : Tree) → is_div t ≡ true → HasNodesFor n t → IsCalmAtZero ns t → SpansTree gs t
+    → AreSides gs ns n (nth 0 (children_of t)) (nth 1 (children_of t))
 quotient_sides gs ns n t h k a b = grind arith
 
 -- the left side with what is made of the right
@@ -113,7 +113,8 @@ pub record AreJoined (gs : List ℕ) (ns : List (List ℕ)) (most : ℕ) (c t : 
   pub spanned : SpansTree gs t
   pub counts : counted c ≤ most
 
-pub difference_keeps : (gs : List ℕ) (ns : List (List ℕ)) (n : ℕ) (a b c : Tree) → AreSides gs ns n a b → KeepsNodeRoom (counted b) (neg b) c → AreJoined gs ns (counted b) c (add (more a (more c none)))
+pub difference_keeps : (gs : List ℕ) (ns : List (List ℕ)) (n : ℕ) (a b c : Tree) → AreSides gs ns n a b → KeepsNodeRoom (counted b) (neg b) c
+    → AreJoined gs ns (counted b) c (add (more a (more c none)))
 difference_keeps gs ns n a b c x k =
     let right : IsCalmAtZero ns (neg b) = record { once = x.once; calm = (tt, x.right_calm) } in
     record {

@@ -44,7 +44,8 @@ power_node_room b e r k = record { counts = k.counts; calm = k.calm; spanned = k
 module _ (a r : Tree) where
   pub opposite_room : KeepsNodeRoom (counted (mult (more (num minus_one_fraction) (more a none)))) (mult (more (num minus_one_fraction) (more a none))) r → KeepsNodeRoom (counted a) (neg a) r
   opposite_room k = record {
-    counts = λ ns c. omega (arith, k.counts ns (under ns c), counts_one a, at_most_itself a none, ap (λ (z : Bool). (if z then 0 else 1) + counted_among (more a none)) (number_test (num minus_one_fraction) tt));
+    counts = λ ns c.
+        omega (arith, k.counts ns (under ns c), counts_one a, at_most_itself a none, ap (λ (z : Bool). (if z then 0 else 1) + counted_among (more a none)) (number_test (num minus_one_fraction) tt));
     calm = λ ns c. k.calm ns (under ns c);
     spanned = λ gs ns c s. k.spanned gs ns (under ns c) (tt, (tt, (s.1, tt)));
   }
@@ -56,7 +57,8 @@ pub inverse_count : (b : Tree) → power_count b (num minus_one_fraction) ≤ 1 
 inverse_count b = omega (arith, whole_count_is b (num minus_one_fraction) (whole_is (negsuc 0)), whole_count_most b)
 
 module _ (a b c r : Tree) where
-  pub difference_room : KeepsNodeRoom (counted b) (neg b) c → KeepsNodeRoom (counted (add (more a (more c none)))) (add (more a (more c none))) r → KeepsNodeRoom (1 + counted a + counted b) (sub a b) r
+  pub difference_room : KeepsNodeRoom (counted b) (neg b) c → KeepsNodeRoom (counted (add (more a (more c none)))) (add (more a (more c none))) r
+      → KeepsNodeRoom (1 + counted a + counted b) (sub a b) r
   difference_room known k = record {
     counts = λ ns d. omega (arith, k.counts ns (both ns d), known.counts ns (right ns d), at_most_itself a (more c none), at_most_itself c none);
     calm = λ ns d. k.calm ns (both ns d);
@@ -69,7 +71,8 @@ module _ (a b c r : Tree) where
       both : (ns : List (List ℕ)) → IsCalmAtZero ns (sub a b) → IsCalmAtZero ns (add (more a (more c none)))
       both ns d = record { once = d.once; calm = (tt, (d.calm.1, ((known.calm ns (right ns d)).calm, tt))) }
 
-  pub quotient_room : KeepsNodeRoom (power_count b (num minus_one_fraction)) (power b (num minus_one_fraction)) c → KeepsNodeRoom (counted (mult (more a (more c none)))) (mult (more a (more c none))) r → KeepsNodeRoom (1 + counted a + counted b) (div a b) r
+  pub quotient_room : KeepsNodeRoom (power_count b (num minus_one_fraction)) (power b (num minus_one_fraction)) c
+      → KeepsNodeRoom (counted (mult (more a (more c none)))) (mult (more a (more c none))) r → KeepsNodeRoom (1 + counted a + counted b) (div a b) r
   quotient_room known k = record {
     counts = λ ns d. omega (arith, k.counts ns (both ns d), known.counts ns (right ns d), inverse_count b, at_most_itself a (more c none), at_most_itself c none);
     calm = λ ns d. k.calm ns (both ns d);

@@ -1,6 +1,6 @@
 -- How many bytes suffice for the calls on a whole power that is rewritten.
 use Rattle.std.proofs.Common.{◌≡◌, ℕ, ◌+◌, ◌*◌, ◌^◌, ◌≤◌, ◌<◌, List, length, Bool, true, false, not, ◌&&◌, if◌then◌else◌, refl, sym, ap, ◌∙◌, subst, arith, inl, inr}
-use Rattle.node_bounds.proofs.Shared.{and_parts, pow_pos, is_number, is_reduced, are_reduced, is_num_one, is_whole_num, split_product, NoneIs, HasForm, reduced_words, counted, counted_among, SpansRoot, SpansTree, SpansTrees, tree_bytes, counted_number, counted_other, Tree, mult, power, root, Trees, none, more, append, is_mult, size, sizes, AllPartsOf, reduced_parts, parts_reduced, IsCalmAtZero, whole_power_room, AreReducedPowers, removed, parts_of, raised, parts_counted, HasFactors, product_factors, parts_span, product_parts, nth, HasCalmExponent, AreCalm, zeros, counted_in_all, numbers_among, product_count, exponent_count, product_room, power_room, product_power_room, counts_one, number_counts_one, product_at_most, raised_factor, raised_number, scaled, power_counts, exponents_multiplied, cases_Bool, appended, sizes_append, and_cases, not-false}
+use Rattle.node_bounds.proofs.Shared.{and_parts, pow_pos, is_number, is_reduced, are_reduced, is_num_one, is_whole_num, split_product, HasForm, reduced_words, counted, counted_among, SpansRoot, SpansTree, SpansTrees, tree_bytes, counted_number, counted_other, Tree, mult, power, root, Trees, none, more, append, is_mult, size, sizes, AllPartsOf, reduced_parts, parts_reduced, IsCalmAtZero, whole_power_room, AreReducedPowers, removed, parts_of, raised, parts_counted, HasFactors, product_factors, parts_span, product_parts, nth, HasCalmExponent, AreCalm, zeros, counted_in_all, numbers_among, product_count, exponent_count, product_room, power_room, product_power_room, counts_one, number_counts_one, product_at_most, raised_factor, raised_number, scaled, power_counts, exponents_multiplied, cases_Bool, appended, sizes_append, and_cases, not-false}
 use Rattle.node_bounds.proofs.Clashes.{contrary}
 use Rattle.node_bounds.proofs.Calm.{calm_exponent}
 use Rattle.node_bounds.proofs.JointBytes.{product_base}
@@ -38,7 +38,8 @@ inner_needs c f m r = rw (other_needs (power c f) m refl, power_counts c f) (by 
 exponents_fit : (c x h m s : ℕ) → 1 ≤ m → 1 ≤ c → h ≤ 2 + x → s ≤ 204 * c * m → 8 + s + product_room h m ≤ power_room (c + x) m
 exponents_fit c x h m s hm hc l u = let p : h * m ≤ (2 + x) * m = scaled h (2 + x) m l in let q : 1 * m ≤ c * m = scaled 1 c m hc in omega (arith, p, q, u)
 
-pub exponents_lack : (gs : List ℕ) (c f e : Tree) (bytes : ℕ) → is_reduced (power c f) ≡ true → is_whole_num e ≡ true → SpansTree gs c → bytes < product_room (product_count (more f (more e none))) (2 ^ length gs)
+pub exponents_lack : (gs : List ℕ) (c f e : Tree) (bytes : ℕ) → is_reduced (power c f) ≡ true → is_whole_num e ≡ true → SpansTree gs c
+    → bytes < product_room (product_count (more f (more e none))) (2 ^ length gs)
     → bytes + 8 + size c < whole_power_room (power c f) (2 ^ length gs)
 exponents_lack gs c f e bytes r w s l =
     rw (other_needs (power c f) (2 ^ length gs) refl, power_counts c f)
@@ -174,7 +175,8 @@ module _ (gs : List ℕ) (ns : List (List ℕ)) (fs : Trees) (e : Tree) (h : is_
       )
 
   -- where the power of one part finds no bytes
-  pub part_lacks : (first : Trees) (part : Tree) (last reduced : Trees) (bytes : ℕ) → parts_of fs ≡ append first (more part last) → AreReducedPowers (raised first e) reduced → bytes < whole_power_room part (2 ^ length gs)
+  pub part_lacks : (first : Trees) (part : Tree) (last reduced : Trees) (bytes : ℕ) → parts_of fs ≡ append first (more part last) → AreReducedPowers (raised first e) reduced
+      → bytes < whole_power_room part (2 ^ length gs)
       → bytes + size (mult (append reduced (raised last e))) < whole_power_room (mult fs) (2 ^ length gs)
   part_lacks first part last reduced bytes p a l =
       rw (product_needs (mult fs) (2 ^ length gs) (ap not n))
@@ -207,7 +209,8 @@ module _ (gs : List ℕ) (ns : List (List ℕ)) (fs : Trees) (e : Tree) (h : is_
       by false k =
           omega (
             arith,
-            part_fits (counted (mult fs)) (counted part) (counted_among first + counted_among last) (numbers_among first + numbers_among last) (2 ^ length gs) (sizes (append reduced (raised last e))) (pow_pos (length gs))
+            part_fits (counted (mult fs)) (counted part) (counted_among first + counted_among last) (numbers_among first + numbers_among last) (2 ^ length gs)
+                (sizes (append reduced (raised last e))) (pow_pos (length gs))
                 (omega (arith, few.numbers, ap numbers_among p, numbers_append first (more part last), numbers_other part last k))
                 (omega (arith, few.others, ap counted_among p, appended first (more part last), counted_other part last k))
                 (omega (
@@ -219,7 +222,8 @@ module _ (gs : List ℕ) (ns : List (List ℕ)) (fs : Trees) (e : Tree) (h : is_
           )
 
   -- where their product finds none
-  pub product_lacks : (us : Trees) (bytes : ℕ) → AreReducedPowers (raised (parts_of fs) e) us → bytes < product_room (product_count us) (2 ^ length gs) → bytes < whole_power_room (mult fs) (2 ^ length gs)
+  pub product_lacks : (us : Trees) (bytes : ℕ) → AreReducedPowers (raised (parts_of fs) e) us → bytes < product_room (product_count us) (2 ^ length gs)
+      → bytes < whole_power_room (mult fs) (2 ^ length gs)
   product_lacks us bytes a l =
       let r = powers_raised ns (parts_of fs) e us w (calm_exponent c) (parts_calm (zeros ns) fs c.calm.1.1) (parts_single fs h n) a in
       let most : product_count us ≤ 3 + counted (mult fs) = omega (arith, product_at_most us, r.counts, parts_counted fs h n) in

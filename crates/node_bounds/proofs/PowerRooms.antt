@@ -57,7 +57,8 @@ kept_spans : (gs : List ℕ) (b : Tree) → is_num b ≡ false → SpansRootOf g
 kept_spans gs b h k = grind arith
 
 -- a rational that has a root is above 0, or it is 0
-number_spans : (gs : List ℕ) (q : Fraction) (r : Tree) → int_is_negative q.num ≡ false → IsRootAnswer (num q) r → (SpansTree gs (root (num q)) → SpansTree gs r) → SpansRootOf gs (num q) → SpansTree gs r
+number_spans : (gs : List ℕ) (q : Fraction) (r : Tree) → int_is_negative q.num ≡ false → IsRootAnswer (num q) r → (SpansTree gs (root (num q)) → SpansTree gs r) → SpansRootOf gs (num q)
+    → SpansTree gs r
 number_spans gs q r k a s h = grind (arith, root_of_zero)
 
 rooted_spans : (gs : List ℕ) (b r : Tree) → is_num b ≡ true → has_no_root b ≡ false → IsRootAnswer b r → (SpansTree gs (root b) → SpansTree gs r) → SpansRootOf gs b → SpansTree gs r
@@ -81,7 +82,8 @@ root_room b r a s = by (has_no_root b) (is_num b) refl refl
     })
 
 -- a whole power of it is the last step
-pub half_room : (b r u : Tree) (z : ℤ) → IsRootAnswer b r → ((gs : List ℕ) → SpansTree gs (root b) → SpansTree gs r) → rewritten r (num (whole_fraction z)) ≡ None → IsPowerAnswer r (num (whole_fraction z)) u → KeepsRootRoom b u
+pub half_room : (b r u : Tree) (z : ℤ) → IsRootAnswer b r → ((gs : List ℕ) → SpansTree gs (root b) → SpansTree gs r) → rewritten r (num (whole_fraction z)) ≡ None
+    → IsPowerAnswer r (num (whole_fraction z)) u → KeepsRootRoom b u
 half_room b r u z a s n p =
     let k = root_room b r a s in
     let e : Tree = num (whole_fraction z) in record {

@@ -1,12 +1,12 @@
 -- The product of an exponent that counts its base and of a whole number counts it as often as both together.
 use Rattle.std.proofs.Common.{◌≡◌, ℕ, ℤ, ◌*ℤ◌, Bool, true, false, ◌||◌, ◌==◌, List, refl, sym, ap, ◌∙◌, subst, arith, inl, inr}
-use Rattle.node_bounds.proofs.Shared.{and_parts, is_number, value, are_reduced, is_reduced, product_tree, Same, surd_of, number_words, Same-trans, Same-eq, Same-surd_times, Fraction, whole_fraction, one_fraction, Tree, num, symbol, add, mult, Trees, none, more, has_undef, with_coefficient, IsMonic, reduced_parts, IsCountedWithin, MultipliesCounts, is_zero, IsFinished, IsWrittenProduct, opened, numbers_in, others_in, product_of_values, coefficient_times, have_partners, whole_of, IsCountedIn, num_value, num_counted, zero_counted, put_counted, Counts, counts, multiple, counts_of, is_counted, IsWithin, symbol_monic, permuted_none_is, cases_Bool}
+use Rattle.node_bounds.proofs.Shared.{and_parts, is_number, value, are_reduced, is_reduced, product_tree, Same, surd_of, number_words, Same-trans, Same-eq, Same-surd_times, Fraction, whole_fraction, one_fraction, Tree, num, symbol, add, mult, Trees, none, more, has_undef, with_coefficient, IsMonic, reduced_parts, IsCountedWithin, MultipliesCounts, is_zero, IsFinished, IsWrittenProduct, opened, numbers_in, others_in, product_of_values, coefficient_times, have_partners, whole_of, num_value, num_counted, zero_counted, put_counted, Counts, counts, multiple, counts_of, is_counted, IsWithin, symbol_monic, permuted_none_is, cases_Bool}
 use Rattle.node_bounds.proofs.Clashes.{clash, unclear, rational_number, zero_words}
 use Rattle.std.proofs.Math.IntN.{*ℤ_comm}
 use Rattle.calc_algebra.proofs.ExponentLaws.{whole_times}
 use Rattle.tree_bits.proofs.ExponentBits.{counted_defined, multiple_of}
 use Rattle.product_reduce.proofs.Misfits.{permuted_one_is}
-use Rattle.product_reduce.proofs.Sorted.{permuted_lists}
+use Rattle.like_children.proofs.Permutations.{of_lists}
 use Rattle.sum_reduce.proofs.CollectedExponents.{whole_number, as_whole}
 use Rattle.sum_reduce.proofs.CountedMultiples.{within_after, product_within}
 
@@ -14,8 +14,10 @@ use Rattle.sum_reduce.proofs.CountedMultiples.{within_after, product_within}
 
 -- a whole number, with a factor that counts behind it or none
 data IsParted (c : Counts) (n : ℤ) (ts : Trees) : Type 0 where
-  number_alone : (z : ℤ) → Same (product_of_values (numbers_in (opened ts))) (surd_of (whole_fraction z)) → others_in (opened ts) ≡ none → IsWithin (multiple z (counts 1 0)) (multiple n c) → IsParted c n ts
-  one_factor : (z : ℤ) (w : Tree) → Same (product_of_values (numbers_in (opened ts))) (surd_of (whole_fraction z)) → others_in (opened ts) ≡ more w none → IsMonic w → is_counted w ≡ true → IsWithin (multiple z (counts_of w)) (multiple n c) → IsParted c n ts
+  number_alone : (z : ℤ) → Same (product_of_values (numbers_in (opened ts))) (surd_of (whole_fraction z)) → others_in (opened ts) ≡ none → IsWithin (multiple z (counts 1 0)) (multiple n c)
+      → IsParted c n ts
+  one_factor : (z : ℤ) (w : Tree) → Same (product_of_values (numbers_in (opened ts))) (surd_of (whole_fraction z)) → others_in (opened ts) ≡ more w none → IsMonic w → is_counted w ≡ true
+      → IsWithin (multiple z (counts_of w)) (multiple n c) → IsParted c n ts
 
 -- products of whole numbers
 one_product : (n : ℤ) → Same (product_of_values (more (num (whole_fraction n)) none)) (surd_of (whole_fraction n))
@@ -44,7 +46,11 @@ single_parted : (w : Tree) (n : ℤ) (ts : Trees) → opened ts ≡ more w (more
 single_parted w n ts e k m c =
     let (a, b) = with_other w (more (num (whole_fraction n)) none) k in
     let (i, j) = with_number (whole_fraction n) none in
-    one_factor n w (subst (λ (us : Trees). Same (product_of_values us) (surd_of (whole_fraction n))) (sym (ap numbers_in e ∙ a ∙ i)) (one_product n)) (ap others_in e ∙ b ∙ ap (more w) j) m c (record { up = omega arith; down = omega arith })
+    one_factor n w (subst (λ (us : Trees). Same (product_of_values us) (surd_of (whole_fraction n))) (sym (ap numbers_in e ∙ a ∙ i)) (one_product n)) (ap others_in e ∙ b ∙ ap (more w) j) m c (record {
+      up =
+          omega arith;
+      down = omega arith;
+    })
 
 same_within : (c d : Counts) → c ≡ d → IsWithin c d
 same_within c d e = subst (IsWithin c) e (record { up = omega arith; down = omega arith })
@@ -53,7 +59,8 @@ parted : (f : Tree) (n : ℤ) → is_reduced f ≡ true → is_counted f ≡ tru
 parted (num q) n r c =
     let (a, b) = with_number q (more (num (whole_fraction n)) none) in
     let (i, j) = with_number (whole_fraction n) none in
-    number_alone (q.num *ℤ n) (subst (λ (us : Trees). Same (product_of_values us) (surd_of (whole_fraction (q.num *ℤ n)))) (sym (a ∙ ap (more (num q)) i)) (two_product q n c)) (b ∙ j) (turned_within q n (counts 1 0))
+    number_alone (q.num *ℤ n) (subst (λ (us : Trees). Same (product_of_values us) (surd_of (whole_fraction (q.num *ℤ n)))) (sym (a ∙ ap (more (num q)) i)) (two_product q n c)) (b ∙ j)
+    (turned_within q n (counts 1 0))
 parted (symbol x) n r c = single_parted (symbol x) n (more (symbol x) (more (num (whole_fraction n)) none)) refl (symbol_number x) (symbol_monic x) c
 parted (add ts) n r c = elim (cases_Bool (is_number (add ts))) [
   | inl k ↦ let w = whole_number (add ts) (number_words (add ts) k) c in absurd (cc w.is)
@@ -73,11 +80,7 @@ parted t n r c = unclear c
 
 -- ---- what is written of them
 
--- as the deep reducer says it
-told : {t : Tree} {c : Counts} → IsCountedIn t c → IsCountedWithin c t
-told a = record { counted = a.counted; within = a.within }
-
-told_within : {t : Tree} {c d : Counts} → IsCountedIn t c → IsWithin c d → IsCountedWithin d t
+told_within : {t : Tree} {c d : Counts} → IsCountedWithin c t → IsWithin c d → IsCountedWithin d t
 told_within a w = record { counted = a.counted; within = within_after a.within w }
 
 written_counts : (ts : Trees) (t : Tree) (c : Counts) (n : ℤ) → IsWrittenProduct ts t → IsParted c n ts → IsCountedWithin (multiple n c) t
@@ -93,17 +96,17 @@ written_counts ts t c n w (number_alone z same none_else fits) = by (is_zero w.c
     by true e = counts_as (w.zero e)
     by false e =
         let x = w.written e in
-        counts_as (x.is ∙ ap (coefficient_times w.coefficient) (permuted_none_is (permuted_lists (others_in (opened ts)) x.us x.sorted.moved) none_else))
+        counts_as (x.is ∙ ap (coefficient_times w.coefficient) (permuted_none_is (of_lists (others_in (opened ts)) x.us x.sorted.moved) none_else))
 written_counts ts t c n w (one_factor z p same one_else monic counted fits) = by (is_zero w.coefficient) refl
   where
     i : w.coefficient ≡ num (whole_fraction z)
     i = as_whole w.coefficient z w.is_coefficient.number (Same-trans w.is_coefficient.same same)
 
     by : (b : Bool) → is_zero w.coefficient ≡ b → IsCountedWithin (multiple n c) t
-    by true e = subst (IsCountedWithin (multiple n c)) (sym (w.zero e ∙ zero_words w.coefficient e)) (told (zero_counted (multiple n c)))
+    by true e = subst (IsCountedWithin (multiple n c)) (sym (w.zero e ∙ zero_words w.coefficient e)) (zero_counted (multiple n c))
     by false e =
         let x = w.written e in
-        let u : x.us ≡ more p none = permuted_one_is p (permuted_lists (others_in (opened ts)) x.us x.sorted.moved) one_else in
+        let u : x.us ≡ more p none = permuted_one_is p (of_lists (others_in (opened ts)) x.us x.sorted.moved) one_else in
         subst (IsCountedWithin (multiple n c)) (sym (x.is ∙ ap (coefficient_times w.coefficient) u ∙ ap (λ (d : Tree). with_coefficient d (product_tree (more p none))) i))
         (told_within (put_counted z p monic counted) fits)
 
@@ -120,4 +123,5 @@ no_partners : (c : Counts) (n : ℤ) (ts : Trees) → IsParted c n ts → have_p
 no_partners c n ts h = grind (arith, number_alone)
 
 pub product_joins_none : (ts : Trees) (t : Tree) → are_reduced ts ≡ true → have_partners (others_in (opened ts)) ≡ true → MultipliesCounts ts t
-product_joins_none ts t r p f n e c = clash (sym p ∙ no_partners (counts_of f) n ts (subst (IsParted (counts_of f) n) (sym e) (parted f n (and_parts (is_reduced f) _ (sym (ap are_reduced e) ∙ r)).0 c)))
+product_joins_none ts t r p f n e c =
+    clash (sym p ∙ no_partners (counts_of f) n ts (subst (IsParted (counts_of f) n) (sym e) (parted f n (and_parts (is_reduced f) _ (sym (ap are_reduced e) ∙ r)).0 c)))

@@ -30,11 +30,13 @@ pub is_rewritten : (b e t : Tree) → is_half_num e ≡ false → is_reduced b �
 is_rewritten b e t n h k r = record { base = h; exponent = k; whole = whole_rewriting b e t (sym (as_whole b e n) ∙ r); is = r }
 
 -- what holds by the rule for products holds where the tree is a product
-pub by_product : (P : Tree → Tree → Type 0) (b e t : Tree) → is_mult t ≡ true → IsRewritten b e t → ((fs : Trees) → is_reduced (mult fs) ≡ true → is_number (mult fs) ≡ false → P (mult fs) (mult (raised (parts_of fs) e))) → P b t
+pub by_product : (P : Tree → Tree → Type 0) (b e t : Tree) → is_mult t ≡ true → IsRewritten b e t
+    → ((fs : Trees) → is_reduced (mult fs) ≡ true → is_number (mult fs) ≡ false → P (mult fs) (mult (raised (parts_of fs) e))) → P b t
 by_product P b e t m w of = grind (arith, by_way)
 
 -- and what holds by the other two where it is none
-pub by_power : (P : Tree → Tree → Type 0) (b e t : Tree) → is_mult t ≡ false → IsRewritten b e t → ((a : Tree) (z : ℤ) → is_reduced (root a) ≡ true → is_number (root a) ≡ false → P (root a) (power a (num (whole_fraction z))))
+pub by_power : (P : Tree → Tree → Type 0) (b e t : Tree) → is_mult t ≡ false → IsRewritten b e t
+    → ((a : Tree) (z : ℤ) → is_reduced (root a) ≡ true → is_number (root a) ≡ false → P (root a) (power a (num (whole_fraction z))))
     → ((c f : Tree) → is_reduced (power c f) ≡ true → P (power c f) (power c (mult (more f (more e none))))) → P b t
 by_power P b e t m w root_case power_case = search (rules, by_way)
 
@@ -50,7 +52,8 @@ no_num a r n = elim (reduced_parts (root a) r refl).0 [ inl h ↦ absurd (true�
 pub root_counts : (a : Tree) → is_reduced (root a) ≡ true → is_number (root a) ≡ false → counted (root a) ≡ suc (counted a)
 root_counts a r n = of_a_root a (no_num a r n)
 
-even_root_room : (a e r : Tree) (z : ℤ) → is_reduced (root a) ≡ true → is_number (root a) ≡ false → is_whole_num e ≡ true → KeepsRoom (power_count a (num (whole_fraction z))) (power a (num (whole_fraction z))) r → KeepsRoom (power_count (root a) e) (power (root a) e) r
+even_root_room : (a e r : Tree) (z : ℤ) → is_reduced (root a) ≡ true → is_number (root a) ≡ false → is_whole_num e ≡ true
+    → KeepsRoom (power_count a (num (whole_fraction z))) (power a (num (whole_fraction z))) r → KeepsRoom (power_count (root a) e) (power (root a) e) r
 even_root_room a e r z h n w k = record {
   counts = λ ns c. omega (arith, k.counts ns (under ns c), whole_count_is a (num (whole_fraction z)) (whole_is z), whole_count_most a, whole_count_is (root a) e w, root_counts a h n);
   calm = λ ns c. k.calm ns (under ns c);
@@ -72,14 +75,16 @@ exponents_span gs c f e s = (tt, (s.1.2, (s.2, tt)))
 pub raised_calm : {ns : List (List ℕ)} (c f e g : Tree) → is_whole_num e ≡ true → IsCalmAtZero ns (power (power c f) e) → IsReducedProduct (more f (more e none)) g → IsCalmAtZero ns (power c g)
 raised_calm c f e g w k a = grind (arith, product_whole, calm_base, calm_power, calm_whole, whole_kept, exponents_calm)
 
-pub raised_whole : {ns : List (List ℕ)} (c f e g : Tree) → is_whole_num e ≡ true → IsCalmAtZero ns (power (power c f) e) → IsReducedProduct (more f (more e none)) g → is_whole_num f ≡ true → is_whole_num g ≡ true
+pub raised_whole : {ns : List (List ℕ)} (c f e g : Tree) → is_whole_num e ≡ true → IsCalmAtZero ns (power (power c f) e) → IsReducedProduct (more f (more e none)) g → is_whole_num f ≡ true
+    → is_whole_num g ≡ true
 raised_whole {ns} c f e g w k a h = whole_of_number (zeros ns) g k.once (a.number (rw (whole_numbers f h, whole_numbers e w) refl)) (calm_whole (raised_calm c f e g w k a))
 
 -- under a whole exponent stands no product but a Number, and one under another counts for the exponent too
 pub over_product : (c f : Tree) → is_reduced (power c f) ≡ true → whole_power_count c ≤ counted (power c f)
 over_product c f r = grind (arith, and_parts, power_counts, product_base)
 
-power_room : (c f e g r : Tree) → is_reduced (power c f) ≡ true → is_whole_num e ≡ true → IsReducedProduct (more f (more e none)) g → KeepsRoom (power_count c g) (power c g) r → KeepsRoom (power_count (power c f) e) (power (power c f) e) r
+power_room : (c f e g r : Tree) → is_reduced (power c f) ≡ true → is_whole_num e ≡ true → IsReducedProduct (more f (more e none)) g → KeepsRoom (power_count c g) (power c g) r
+    → KeepsRoom (power_count (power c f) e) (power (power c f) e) r
 power_room c f e g r h w a k = record {
   counts = λ ns q. omega (arith, k.counts ns (raised_calm c f e g w q a), few ns q, whole_count_is (power c f) e w);
   calm = λ ns q. k.calm ns (raised_calm c f e g w q a);
@@ -133,7 +138,8 @@ pub record AreRaised (gs us : Trees) (ns : List (List ℕ)) : Type 0 where
   pub calm : AreCalm (zeros ns) us
   pub spanned : (rs : List ℕ) → SpansTrees rs gs → SpansTrees rs us
 
-pub powers_raised : (ns : List (List ℕ)) (gs : Trees) (e : Tree) (us : Trees) → is_whole_num e ≡ true → IsCalmAtZero ns e → AreCalm (zeros ns) gs → AreSingle gs → AreReducedPowers (raised gs e) us → AreRaised gs us ns
+pub powers_raised : (ns : List (List ℕ)) (gs : Trees) (e : Tree) (us : Trees) → is_whole_num e ≡ true → IsCalmAtZero ns e → AreCalm (zeros ns) gs → AreSingle gs
+    → AreReducedPowers (raised gs e) us → AreRaised gs us ns
 powers_raised ns none e none w k c s a = record { counts = omega arith; calm = tt; spanned = λ rs h. tt }
 powers_raised ns none e (more u us) w k c s a = absurd a
 powers_raised ns (more g gs) e none w k c s a = absurd a
@@ -154,7 +160,8 @@ pub some_counted : (us : Trees) → 1 ≤ count us → 1 ≤ counted_in_all us
 some_counted none l = absurd (omega arith)
 some_counted (more u us) l = omega (arith, counts_one u)
 
-product_room : (fs : Trees) (e : Tree) (us : Trees) (r : Tree) → is_reduced (mult fs) ≡ true → is_number (mult fs) ≡ false → is_whole_num e ≡ true → AreReducedPowers (raised (parts_of fs) e) us → 1 ≤ count us → IsReducedProduct us r
+product_room : (fs : Trees) (e : Tree) (us : Trees) (r : Tree) → is_reduced (mult fs) ≡ true → is_number (mult fs) ≡ false → is_whole_num e ≡ true
+    → AreReducedPowers (raised (parts_of fs) e) us → 1 ≤ count us → IsReducedProduct us r
     → KeepsRoom (power_count (mult fs) e) (power (mult fs) e) r
 product_room fs e us r h n w a m p = record {
   counts = λ ns c. omega (arith, p.room.counts ns (calm_product c.once (are ns c).calm), numbers_and_others us, some_counted us m, (are ns c).counts, parts_counted fs h n, whole_count_is (mult fs) e w, ap (λ (z : Bool). if not z then 1 + counted (mult fs) else counted (mult fs)) n);
@@ -168,14 +175,17 @@ product_room fs e us r h n w a m p = record {
 -- ---- what is answered for the tree
 
 -- a product of powers
-pub product_keeps : (t v r b e : Tree) → is_mult t ≡ true → 1 ≤ count (children_of v) → IsProductOfPowers (children_of t) v → IsReducedProduct (children_of v) r → IsRewritten b e t → KeepsRoom (power_count b e) (power b e) r
+pub product_keeps : (t v r b e : Tree) → is_mult t ≡ true → 1 ≤ count (children_of v) → IsProductOfPowers (children_of t) v → IsReducedProduct (children_of v) r → IsRewritten b e t
+    → KeepsRoom (power_count b e) (power b e) r
 product_keeps t v r b e m l p a w =
     by_product (λ (x y : Tree). AreReducedPowers (children_of y) p.factors → KeepsRoom (power_count x e) (power x e) r) b e t m w
     (λ fs h n are. product_room fs e p.factors r h n w.whole are (omega (arith, ap (λ (x : Tree). count (children_of x)) p.is, l)) (subst (λ (x : Tree). IsReducedProduct (children_of x) r) p.is a)) p.are
 
 -- a power whose exponent is lifted
-lifted_power : (c f e v r : Tree) → is_reduced (power c f) ≡ true → is_whole_num e ≡ true → IsMultiplied c (more f (more e none)) v → IsReducedPower (base_in v) (exponent_in v) r → KeepsRoom (power_count (power c f) e) (power (power c f) e) r
-lifted_power c f e v r h w l a = power_room c f e l.exponent r h w l.product (subst (λ (x : Tree). KeepsRoom (power_count (base_in x) (exponent_in x)) (power (base_in x) (exponent_in x)) r) l.is a.room)
+lifted_power : (c f e v r : Tree) → is_reduced (power c f) ≡ true → is_whole_num e ≡ true → IsMultiplied c (more f (more e none)) v → IsReducedPower (base_in v) (exponent_in v) r
+    → KeepsRoom (power_count (power c f) e) (power (power c f) e) r
+lifted_power c f e v r h w l a =
+    power_room c f e l.exponent r h w l.product (subst (λ (x : Tree). KeepsRoom (power_count (base_in x) (exponent_in x)) (power (base_in x) (exponent_in x)) r) l.is a.room)
 
 pub power_keeps : (t v r b e : Tree) → is_mult t ≡ false → IsLifted t v → IsReducedPower (base_in v) (exponent_in v) r → IsRewritten b e t → KeepsRoom (power_count b e) (power b e) r
 power_keeps t v r b e m l a w =

@@ -34,11 +34,14 @@ pub use Rattle.coefficients.proofs.Rooms.{sizes_append}
 pub use Rattle.coefficients.proofs.Splits.{Leads, in_front}
 pub use Rattle.coefficients.specs.Coefficients.{IsMonic, with_coefficient}
 pub use Rattle.node_bounds.specs.Answers.{IsReducedPower, IsReducedProduct, lacks_power}
-pub use Rattle.node_bounds.specs.Bits.{AddsCounts, HasFewBits, IsCountedWithin, IsHeldAsRootPower, MultipliesCounts}
+pub use Rattle.node_bounds.specs.Bits.{IsHeldAsRootPower, MultipliesCounts}
+pub use Rattle.product_reduce.specs.Bounds.{KeepsFactorBounds, KeepsProductBounds}
+pub use Rattle.sum_reduce.specs.Bounds.{KeepsSumRoom}
+pub use Rattle.tree_bits.specs.Rows.{AreFewBits}
 pub use Rattle.node_bounds.specs.HandedOn.{AreReducedPowers, HandsOn, IsLifted, IsMultiplied, IsProductOfPowers, IsSummed}
 pub use Rattle.node_bounds.specs.NodeBits.{HoldsDifference, HoldsNode, HoldsPower}
 pub use Rattle.node_bounds.specs.NodeRooms.{HasNodesFor, KeepsNodeRoom, SpansNode, factors_room, node_count}
-pub use Rattle.node_bounds.specs.Rooms.{IsCalmAtZero, IsJoinedFrom, IsRewritten, KeepsRoom, KeepsRootRoom, KeepsSumRoom, SpansRootOf, power_count, whole_power_count, whole_power_room}
+pub use Rattle.node_bounds.specs.Rooms.{IsCalmAtZero, IsJoinedFrom, IsRewritten, KeepsRoom, KeepsRootRoom, SpansRootOf, power_count, whole_power_count, whole_power_room}
 pub use Rattle.number_forms.specs.Readers.{is_zero, numerator}
 pub use Rattle.number_forms.specs.Sums.{removed}
 pub use Rattle.power_reduce.proofs.Cases.{inside_other}
@@ -72,7 +75,7 @@ pub use Rattle.rational128.specs.declared.overflow.Overflow.{Overflow}
 pub use Rattle.std.proofs.Math.Nat.{pow-le-pow_right}
 pub use Rattle.std.proofs.lemmas.Bool.{and_cases, and_from, and_parts, and_right, cases_Bool, eqb-true, not-false, not-true, not_from_true, or_parts, true≢false}
 pub use Rattle.std.proofs.lemmas.Nat.{mul-le, pow-add, pow_pos}
-pub use Rattle.sum_reduce.proofs.CollectedExponents.{IsCountedIn, num_counted, num_value, put_counted, whole_of, zero_counted}
+pub use Rattle.sum_reduce.proofs.CollectedExponents.{num_counted, num_value, put_counted, whole_of, zero_counted}
 pub use Rattle.sum_reduce.specs.SumAnswers.{IsSumAnswer}
 pub use Rattle.surd_bits.specs.Rooted.{IsNoLargerThanRoot}
 pub use Rattle.tree_bits.proofs.Children.{tree_as_sum, trees_together}
@@ -83,7 +86,7 @@ pub use Rattle.tree_bits.proofs.Sums.{one_counted, one_counts, root_is_held, sym
 pub use Rattle.tree_bits.specs.Children.{IsSumHeld, addends_of_each}
 pub use Rattle.tree_bits.specs.Exponents.{Counts, counts, counts_of, counts_of_all, is_counted, multiple}
 pub use Rattle.tree_bits.specs.HeldTrees.{Addend, AreWeighted, IsBaseHeld, IsPartHeld, IsTreeHeld, addend, addend_of, addends_of, factor_held, more_weighted, no_factor_held, none_weighted, power_high, power_low, symbol_held, tree_held, undef_held}
-pub use Rattle.tree_bits.specs.Powers.{IsFactorPower, IsWithin, raised_high, raised_low}
+pub use Rattle.tree_bits.specs.Powers.{AddsCounts, IsCountedWithin, IsFactorPower, IsWithin, raised_high, raised_low}
 pub use Rattle.tree_bits.specs.Weighted.{AreHeld, Weighted}
 pub use Rattle.tree_handles.specs.Expressions.{children_of, inserted, nth}
 pub use Rattle.tree_handles.specs.Faults.{IfOverflow, OfOverflow}

@@ -1,14 +1,10 @@
 -- By how many bits products, powers and exponents are held.
-use Rattle.std.specs.Prelude.{ℕ, ℤ, ◌+◌, ◌*◌, ◌≤◌, ◌≡◌, true, false}
+use Rattle.std.specs.Prelude.{ℕ, ℤ, ◌≡◌, true, false}
 use Rattle.calc_terms.specs.Fractions.{whole_fraction}
 use Rattle.calc_terms.specs.Trees.{Tree, num, Trees, none, more, is_undef}
 use Rattle.product_reduce.specs.Bits.{IsFactorHeld, AreFactorsHeld}
-use Rattle.tree_bits.specs.Exponents.{Counts, multiple, is_counted, are_counted, counts_of, counts_of_all}
-use Rattle.tree_bits.specs.Powers.{IsWithin, raised_high, raised_low}
-
--- numbers that (h, l) holds are calculated within 124 bits
-abbrev pub HasFewBits : ℕ → ℕ → Type 0
-HasFewBits h l = 2 * h + 4 * l ≤ 124
+use Rattle.tree_bits.specs.Exponents.{multiple, is_counted, counts_of}
+use Rattle.tree_bits.specs.Powers.{IsCountedWithin, raised_high, raised_low}
 
 -- what holds the factors one by one holds t as their product, unless t is Undef
 abbrev pub IsHeldAsProduct : Trees → Tree → Type 0
@@ -18,15 +14,6 @@ IsHeldAsProduct ts t = is_undef t ≡ false → (h l : ℕ) → AreFactorsHeld t
 abbrev pub IsHeldAsRootPower : ℤ → Tree → Tree → Type 0
 IsHeldAsRootPower n b t = is_undef t ≡ false → (h l : ℕ) → (h ≡ 0 → l ≡ 0) → IsFactorHeld b h l → IsFactorHeld t (raised_high n h l) (raised_low n h l)
 
--- an exponent that counts its base, and no more often than c
-pub record IsCountedWithin (c : Counts) (t : Tree) : Type 0 where
-  pub counted : is_counted t ≡ true
-  pub within : IsWithin (counts_of t) c
-
 -- t as the product of an exponent that counts its base and of a whole number counts as often as both together
 abbrev pub MultipliesCounts : Trees → Tree → Type 0
 MultipliesCounts ts t = (f : Tree) (n : ℤ) → ts ≡ more f (more (num (whole_fraction n)) none) → is_counted f ≡ true → IsCountedWithin (multiple n (counts_of f)) t
-
--- and t as the sum of such exponents as often as all of them
-abbrev pub AddsCounts : Trees → Tree → Type 0
-AddsCounts ts t = are_counted ts ≡ true → IsCountedWithin (counts_of_all ts) t

@@ -3,10 +3,10 @@ use Rattle.std.specs.Prelude.{ℕ, List, ◌≡◌, ◌≤◌}
 use Rattle.calc_room.specs.Counts.{counted}
 use Rattle.calc_terms.specs.Trees.{Tree, mult, power, Trees, none, more}
 use Rattle.node_bounds.specs.Answers.{IsReducedProduct, IsReducedPower}
-use Rattle.node_bounds.specs.Bits.{AddsCounts}
-use Rattle.node_bounds.specs.Rooms.{IsCalmAtZero, KeepsRoom, KeepsSumRoom}
+use Rattle.node_bounds.specs.Rooms.{IsCalmAtZero, KeepsRoom}
 use Rattle.power_reduce.specs.PowerAnswers.{base_in, exponent_in}
 use Rattle.product_reduce.specs.Bits.{AreFactorsHeld}
+use Rattle.sum_reduce.specs.Bounds.{KeepsSumBounds}
 use Rattle.sum_reduce.specs.SumAnswers.{IsSumAnswer}
 use Rattle.tree_room.specs.Handed.{product_count}
 
@@ -14,8 +14,7 @@ use Rattle.tree_room.specs.Handed.{product_count}
 pub record IsSummed (b : Tree) (ts : Trees) (t : Tree) : Type 0 where
   pub exponent : Tree
   pub sum : IsSumAnswer ts exponent
-  pub room : KeepsSumRoom ts exponent
-  pub counts : AddsCounts ts exponent
+  pub bounds : KeepsSumBounds ts exponent
   pub is : t ≡ power b exponent
 
 -- a power whose exponent is a product of these, and is reduced

@@ -3,9 +3,8 @@ use Rattle.std.specs.Prelude.{ℕ, suc, ◌+◌, ◌≡◌, ◌≤◌, ◌<◌, 
 use Rattle.calc_algebra.specs.Meanings.{IsAssignment}
 use Rattle.calc_algebra.specs.Numbers.{is_number, natural_of}
 use Rattle.calc_algebra.specs.Reduced.{is_reduced, are_reduced, is_whole_num}
-use Rattle.calc_room.specs.Counts.{counted, counted_among}
-use Rattle.calc_room.specs.Powers.{HasPowersOf}
-use Rattle.calc_room.specs.Spans.{SpansTree, SpansTrees}
+use Rattle.calc_room.specs.Counts.{counted}
+use Rattle.calc_room.specs.Spans.{SpansTree}
 use Rattle.calc_terms.specs.Trees.{Tree, num, power, root, Trees, is_mult}
 use Rattle.power_reduce.specs.PowerSteps.{rewritten}
 use Rattle.product_reduce.specs.Neighbours.{IsPairAt, joined_pair}
@@ -55,12 +54,6 @@ pub record IsRewritten (b e t : Tree) : Type 0 where
   pub is : rewritten b e ≡ Some t
 
 -- ---- products
-
--- the sum of these exponents counts 1 more at most than those that are no Numbers, has no new powers, and is spanned by what spans them
-pub record KeepsSumRoom (ts : Trees) (t : Tree) : Type 0 where
-  pub counts : counted t ≤ 1 + counted_among ts
-  pub powers : HasPowersOf ts t
-  pub spanned : (gs : List ℕ) → SpansTrees gs ts → SpansTree gs t
 
 -- the factors at a place and behind it have one base, and are joined there
 pub record IsJoinedFrom (at : ℕ) (ts us : Trees) : Type 0 where

@@ -10,7 +10,8 @@ ghost use Rattle.calc_terms.specs.Trees.{Tree, num, add, mult, power, neg, sub, 
 ghost use Rattle.node_bounds.specs.Answers.{IsReducedPower};
 ghost use Rattle.node_bounds.specs.NodeBits.{HoldsPower};
 ghost use Rattle.node_bounds.specs.NodeRooms.{KeepsNodeRoom};
-ghost use Rattle.node_bounds.specs.Rooms.{KeepsSumRoom, power_count};
+ghost use Rattle.node_bounds.specs.Rooms.{power_count};
+ghost use Rattle.sum_reduce.specs.Bounds.{KeepsSumRoom};
 ghost use Rattle.product_reduce.specs.Bits.{AreFactorsHeld, IsFactorHeld};
 ghost use Rattle.tree_bits.specs.Children.{IsSumHeld, addends_of_each};
 ghost use Rattle.tree_bits.specs.HeldTrees.{IsTreeHeld};

@@ -1,14 +1,10 @@
 use Rattle.node_bounds.proofs.NodeBits.{opposite_factors, two_factors, two_terms, power_answer_held}
 use Rattle.node_bounds.proofs.laws.what_holds_nodes.Goals as goal
 
-pub returns-clause-opposites : goal.returns-clause-opposites
-returns-clause-opposites c = λ a h l k. opposite_factors a k
-
-pub returns-clause-terms : goal.returns-clause-terms
-returns-clause-terms c = λ a b p q k n h l d x y i j. two_terms a b d x y i j
-
-pub returns-clause-factors : goal.returns-clause-factors
-returns-clause-factors c = λ a b p q k n h l x y i j. two_factors a b x y i j
-
-pub returns-clause-powers : goal.returns-clause-powers
-returns-clause-powers c = λ b e r h l a d k. power_answer_held b e r a d h l k
+pub returns : goal.returns
+returns c = record {
+  opposites = λ a h l k. opposite_factors a k;
+  terms = λ a b p q k n h l d x y i j. two_terms a b d x y i j;
+  factors = λ a b p q k n h l x y i j. two_factors a b x y i j;
+  powers = λ b e r h l a d k. power_answer_held b e r a d h l k;
+}
