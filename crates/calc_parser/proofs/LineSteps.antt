@@ -1,31 +1,36 @@
 -- The steps of a line's tree, from the sum before its store.
-use Rattle.calc_parser.proofs.Shared.{ℕ, ◌≡◌, List, [], map, Option, Some, None, refl, sym, ap, ◌∙◌, subst, arith, Token, IsSum, one_sum_tree, Tree, Placed, bare, placed, finish}
-use Rattle.calc_parser.proofs.{Shared.{run, start, postfix, node_of, tokens_in, IsSplit, Step}, Checks.{bare-placed, same_ends, short_stores_nothing}, ReadsSums.sum_is_read}
+use Rattle.calc_parser.proofs.Shared.{ℕ, ◌≡◌, List, [], ◌∷◌, ◌++◌, map, Option, Some, None, refl, sym, ap, ◌∙◌, subst, arith, append-nil, Token, name, arrow_mark, IsSum, one_sum_tree, Tree, Placed, bare, placed, finish}
+use Rattle.calc_parser.proofs.{Shared.{run, start, postfix, node_of, tokens_in, IsLine, IsNoLine, IsSplit, Step}, Checks.{bare-placed, short_stores_nothing, sum_of_line}, Runs.no_sum}
 use Rattle.calc_tokens.specs.declared.tokens.Token.{Token as Listed}
 use Rattle.calc_parser.specs.Steps.{AreStepsOf}
 
--- the store of a line is one
-one_split : (ts us vs : List Token) (x y : Option (List ℕ)) → IsSplit ts us x → IsSplit ts vs y → us ≡ vs
-one_split ts us vs x y e f = grind (arith, same_ends)
+-- the tokens behind the sum of a line
+abbrev store_of : Option (List ℕ) → List Token
+store_of (Some x) = arrow_mark ∷ name x ∷ []
+store_of None = []
 
-pub steps_of_sum : (steps : List Step) (ts us : List Token) (store : Option (List ℕ)) (t : Tree) → IsSplit ts us store → IsSum us t → map (node_of us) steps ≡ postfix t → AreStepsOf steps ts
-steps_of_sum steps ts us store t s d e = λ vs other u s' d'.
-    let same : us ≡ vs = one_split ts us vs store other s s' in
-    subst (λ xs. map (node_of xs) steps ≡ postfix u) same (e ∙ ap postfix (one_sum_tree us t u d (subst (λ xs. IsSum xs u) (sym same) d')))
+whole_line : (ts us : List Token) (store : Option (List ℕ)) → IsSplit ts us store → us ++ store_of store ≡ ts
+whole_line ts us (Some x) e = sym e
+whole_line ts us None (e, n) = append-nil us ∙ sym e
+
+pub steps_of_sum : (steps : List Step) (ts us : List Token) (store : Option (List ℕ)) (t : Tree) → IsSplit ts us store → IsSum us t → ((b : List Token) → map (node_of (us ++ b)) steps ≡ postfix t) → AreStepsOf steps ts
+steps_of_sum steps ts us store t s d e = λ u line.
+    subst (λ xs. map (node_of xs) steps ≡ postfix u) (whole_line ts us store s) (e (store_of store) ∙ ap postfix (one_sum_tree us t u d (sum_of_line ts us store line.0 u s line.1)))
 
 -- any steps, where the tokens are no line
-pub steps_of_none : (steps : List Step) (ts us : List Token) (store : Option (List ℕ)) → IsSplit ts us store → ((t : Tree) → IsSum us t → ⊥) → AreStepsOf steps ts
-steps_of_none steps ts us store s n = λ vs other u s' d. absurd (n u (subst (λ xs. IsSum xs u) (sym (one_split ts us vs store other s s')) d))
+pub steps_of_none : (steps : List Step) (ts : List Token) → IsNoLine ts → AreStepsOf steps ts
+steps_of_none steps ts n = λ u line. absurd (n line.0 u line.1)
 
 nothing_read : run start [] ≡ None
 unfolding run finish
 nothing_read = refl
 
-no_sum_of_nothing : (t : Tree) → IsSum [] t → ⊥
-no_sum_of_nothing t d = let some : run start [] ≡ Some (postfix t) = sum_is_read [] t d in let none : run start [] ≡ None = nothing_read in cc
+no_line_of_nothing : (store : Option (List ℕ)) (t : Tree) → IsLine [] store t → ⊥
+no_line_of_nothing None t d = no_sum [] nothing_read t d
+no_line_of_nothing (Some x) t (us, e, d) = short_stores_nothing [] (omega arith) us x e
 
 pub steps_of_nothing : (steps : List Step) (ts : List Token) → ts ≡ [] → AreStepsOf steps ts
-steps_of_nothing steps ts e = subst (AreStepsOf steps) (sym e) (steps_of_none steps [] [] None (refl, short_stores_nothing [] (omega arith)) no_sum_of_nothing)
+steps_of_nothing steps ts e = subst (AreStepsOf steps) (sym e) (steps_of_none steps [] no_line_of_nothing)
 
 -- the same of the tokens without their places
 pub same_tokens : (items : List Listed) (ps : List Placed) → map placed items ≡ ps → tokens_in items ≡ bare ps

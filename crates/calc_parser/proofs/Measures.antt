@@ -1,7 +1,7 @@
--- Depth and number of nodes of a tree, from its nodes in postfix order.
+-- The depth of a tree, from its nodes in postfix order.
 use Rattle.calc_parser.proofs.Shared.{ℕ, suc, ◌+◌, ◌-◌, ◌≡◌, ◌≤◌, ◌<◌, List, [], ◌∷◌, ◌++◌, length, map, take, drop, refl, sym, ap, ◌∙◌, arith}
 use Rattle.calc_parser.proofs.Shared.{length-append, append_assoc, append-nil, get_or, drop-cons, add-one, drop_all, Kind, Tree, num, symbol, undef, add, mult, power, root, neg, sub, div, Trees}
-use Rattle.calc_parser.proofs.Shared.{none, more, count, depth, depths, nodes, nodes_of, Step, Node, parent, postfix, postfixes, deepest, with_node, with_nodes}
+use Rattle.calc_parser.proofs.Shared.{none, more, count, depth, depths, Step, Node, parent, postfix, postfixes, deepest, with_node, with_nodes}
 use Rattle.std.specs.Prelude.{zero, max}
 use Rattle.calc_terms.specs.declared.kind.Kind.TheVariants as kind
 
@@ -74,31 +74,6 @@ mutual
       with_nodes-append ds (postfix t) (postfixes ts) ∙ ap (λ r. with_nodes r (postfixes ts)) (depth_found t ds)
       ∙ depths_found ts (ds ++ depth t ∷ []) ∙ append_assoc ds (depth t ∷ []) (depth_list ts)
 
--- ---- numbers of nodes
-
-one_more : (xs : List Node) (x : Node) (n : ℕ) → length xs ≡ n → length (xs ++ x ∷ []) ≡ suc n
-one_more xs x n e = let longer : length (xs ++ x ∷ []) ≡ length xs + 1 = length-append xs (x ∷ []) in omega arith
-
-both_nodes : (xs ys : List Node) (n m : ℕ) → length xs ≡ n → length ys ≡ m → length (xs ++ ys) ≡ n + m
-both_nodes xs ys n m e f = let longer : length (xs ++ ys) ≡ length xs + length ys = length-append xs ys in omega arith
-
-mutual
-  pub nodes_found : (t : Tree) → length (postfix t) ≡ nodes t
-  nodes_found (num q) = refl
-  nodes_found (symbol x) = refl
-  nodes_found undef = refl
-  nodes_found (add ts) = one_more (postfixes ts) _ _ (all_nodes_found ts)
-  nodes_found (mult ts) = one_more (postfixes ts) _ _ (all_nodes_found ts)
-  nodes_found (power b e) = one_more (postfix b ++ postfix e) _ _ (both_nodes (postfix b) (postfix e) _ _ (nodes_found b) (nodes_found e))
-  nodes_found (root a) = one_more (postfix a) _ _ (nodes_found a)
-  nodes_found (neg a) = one_more (postfix a) _ _ (nodes_found a)
-  nodes_found (sub a b) = one_more (postfix a ++ postfix b) _ _ (both_nodes (postfix a) (postfix b) _ _ (nodes_found a) (nodes_found b))
-  nodes_found (div a b) = one_more (postfix a ++ postfix b) _ _ (both_nodes (postfix a) (postfix b) _ _ (nodes_found a) (nodes_found b))
-
-  all_nodes_found : (ts : Trees) → length (postfixes ts) ≡ nodes_of ts
-  all_nodes_found none = refl
-  all_nodes_found (more t ts) = both_nodes (postfix t) (postfixes ts) _ _ (nodes_found t) (all_nodes_found ts)
-
 -- ---- a list of depths that stays small
 
 pub deepest-append : (ds es : List ℕ) → deepest (ds ++ es) ≡ max (deepest ds) (deepest es)
@@ -128,7 +103,3 @@ add_on f ds new steps at d inside e = rw (add-one, drop-cons steps at d inside, 
 pub one_left : (f : Step → Node) (t : Tree) (ds : List ℕ) (steps : List Step) (at : ℕ) → length steps ≤ at → with_nodes ds (map f (drop at steps)) ≡ with_nodes [] (map f steps) → map f steps ≡ postfix t
     → ds ≡ depth t ∷ []
 one_left f t ds steps at past e is = sym (ap (λ xs. with_nodes ds (map f xs)) (drop_all at steps past)) ∙ e ∙ ap (with_nodes []) is ∙ depth_found t []
-
-pub length_map : (f : Step → Node) (steps : List Step) → length (map f steps) ≡ length steps
-length_map f [] = refl
-length_map f (s ∷ steps) = ap suc (length_map f steps)

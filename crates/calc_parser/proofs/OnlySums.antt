@@ -1,7 +1,7 @@
 -- What is read is a sum.
 use Rattle.calc_parser.proofs.Shared.{◌≡◌, List, [], ◌∷◌, ◌++◌, true, false, Option, Some, None, arith, refl, sym, ap, ◌∙◌, subst, append_assoc, append-nil, Token, literal}
 use Rattle.calc_parser.proofs.Shared.{name, undef_mark, root_mark, plus_mark, minus_mark, times_mark, slash_mark, caret_mark, left_mark, right_mark, arrow_mark, Tree, num, symbol, undef, root}
-use Rattle.calc_parser.proofs.Shared.{count, IsSum, SoFar, as_tree, joins, Sum, plain_power, Primary, a_literal, a_name, an_undef, parenthesized, a_root, Open, Operand, Parenthesis, Operator}
+use Rattle.calc_parser.proofs.Shared.{IsSum, SoFar, as_tree, joins, Sum, plain_power, Primary, a_literal, a_name, an_undef, parenthesized, a_root, Open, Operand, Parenthesis, Operator}
 use Rattle.calc_parser.proofs.Shared.{Expects, Node, parent, postfix, postfixes, State, state, Ended, gathered, end_power, end_powers, end_product, sum_nodes, begin_operand, at_operand}
 use Rattle.calc_parser.proofs.{Shared.{at_parenthesis, at_operator, join_power, minus_in, leave_parentheses, step, when_closed, finish, then_run, run, start}, Spots.{is_joined, JoinsWhere, Spot}}
 use Rattle.calc_parser.proofs.Spots.{JoinedAt, ProductAt, SumAt, part_as, power_ends, powers_end, product_whole, product_end, sum_whole, at_start, in_parentheses, in_root, behind_plus}

@@ -9,17 +9,17 @@ pub use Rattle.calc_language.specs.Tokens.{undef_mark}
 pub use Rattle.calc_parser.specs.Automaton.{Ended, State, at_operand, at_operator, at_parenthesis, begin_operand, complete, completed, end_factor, end_part, end_power, end_powers, end_product}
 pub use Rattle.calc_parser.specs.Automaton.{end_term, ended, gathered, join_power, leave_parentheses, minus_in, place_in, start, state, sum_nodes, take_place, then_run, weight, weight_of}
 pub use Rattle.calc_parser.specs.{Automaton.when_closed, Building.{building, bytes_of_node, placing}, Depths.{deepest, with_node, with_nodes}}
-pub use Rattle.calc_parser.specs.{Growing.{Grows, children_in, takes_children, tree_over}, Lines.{HasShape, IsLine, IsLineOver, IsNoLine, IsTreeOf}, Outcomes.{IsFaultOf, IsShallow}}
+pub use Rattle.calc_parser.specs.{Growing.{Grows, children_in, takes_children, tree_over}, Lines.{IsLine, IsLineOver, IsNoLine, IsTreeOf}, Outcomes.{IsFaultOf, IsShallow}}
 pub use Rattle.calc_parser.specs.{Postfix.{Node, leaf, parent, postfix, postfixes}, Reader.{IsStep, innermost, innermost_completed, innermost_place, node_of, nodes_in, open_in, outer, room_in}}
 pub use Rattle.calc_parser.specs.{Reader.{state_in, steps_in, token_in, tokens_in}, Stores.{IsSplit, stored}, declared.checking.ParseFault.ParseFault}
-pub use Rattle.calc_parser.specs.{declared.checking.ParseFault.TheVariants.{Deep, Syntax}, declared.checking.Shape.Shape, declared.nesting.Open.Open, declared.postfix.Step.Step}
+pub use Rattle.calc_parser.specs.{declared.checking.ParseFault.TheVariants.{Deep, Syntax}, declared.nesting.Open.Open, declared.postfix.Step.Step}
 pub use Rattle.calc_parser.specs.{declared.postfix.Step.TheVariants.Leaf, declared.reader.Expects.Expects, declared.reader.Expects.TheVariants.{Operand, Operator, Parenthesis}}
-pub use Rattle.calc_terms.specs.{Leaf.name_of, Payload.{Payload, named, rational, size_of_payload}, Trees.{Tree, Trees, add, append, count, depth, depths, div, more, mult, neg, nodes, nodes_of}}
+pub use Rattle.calc_terms.specs.{Leaf.name_of, Payload.{Payload, named, rational, size_of_payload}, Trees.{Tree, Trees, add, append, count, depth, depths, div, more, mult, neg}}
 pub use Rattle.calc_terms.specs.{Trees.{none, num, power, root, root_size, size, sizes, sub, symbol, undef}, declared.kind.Kind.Kind, declared.name.Name.Name}
 pub use Rattle.calc_tokens.specs.{Placed.{Placed, bare}, Tokens.{placed, token_of, tokens_of}, declared.tokens.What.What}
 pub use Rattle.node_pool.specs.{State.free_of, declared.full.Full.Full}
 pub use Rattle.std.proofs.Common.{add-one, ap, append-nil, append_assoc, arith, drop-cons, get_or, leb, length-append, refl, rules, subst, sym, ◌∙◌}
-pub use Rattle.std.proofs.{lemmas.Bool.{le-leb, leb-false, leb-true, lt-leb}, lemmas.Grind.common_steps, lemmas.List.{drop_all, get_or-append_right, get_or-map, length-take, map-append}}
+pub use Rattle.std.proofs.{lemmas.Bool.{le-leb, leb-false, leb-true, lt-leb}, lemmas.Grind.common_steps, lemmas.List.{drop_all, get_or-append_right, get_or_append_left, get_or-map, length-take, map-append}}
 pub use Rattle.std.specs.{List.slice_get, Option.option_map, Prelude.{Bool, Err, IfOk, IsOk, List, MatchOption, MatchResult, None, Ok, OnOk, Option, Result, Some, [], drop, false}}
 pub use Rattle.std.specs.Prelude.{if◌then◌else◌, length, map, suc, take, true, ℕ, ◌++◌, ◌+◌, ◌-◌, ◌<◌, ◌↔◌, ◌∷◌, ◌≡◌, ◌≤◌, ◌⊎◌}
 pub use Rattle.tree_handles.proofs.Gathering.{arity-last_trees, before-last, before_last-join, before_none, last_none, last_trees-join}

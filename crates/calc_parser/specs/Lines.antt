@@ -1,11 +1,8 @@
--- Lines of the grammar, and what is said of their trees.
-use Rattle.std.specs.Prelude.{ℕ, ◌≡◌, ◌<◌, List, Option, Some, None}
-use Rattle.std.specs.Option.{option_map}
+-- Lines of the grammar, and how deep their trees are.
+use Rattle.std.specs.Prelude.{ℕ, ◌≤◌, ◌<◌, List, Option, Some, None}
 use Rattle.calc_language.specs.Tokens.{Token}
-use Rattle.calc_terms.specs.Trees.{Tree, depth, nodes}
+use Rattle.calc_terms.specs.Trees.{Tree, depth}
 use Rattle.calc_language.specs.Grammar.{IsSum, IsStore}
-use Rattle.calc_terms.specs.Leaf.{name_of}
-use Rattle.calc_parser.specs.declared.checking.Shape.{Shape}
 
 -- the tokens are a line with this tree, to be stored under the name where there is one
 abbrev pub IsLine : List Token → Option (List ℕ) → Tree → Type 0
@@ -20,16 +17,15 @@ IsTreeOf ts t = (store : Option (List ℕ)) × IsLine ts store t
 abbrev pub IsNoLine : List Token → Type 0
 IsNoLine ts = (store : Option (List ℕ)) (t : Tree) → IsLine ts store t → ⊥
 
--- the tokens are a line, and its tree is this deep at least
+-- the tokens are a line, to be stored under the name where there is one, and its tree is at most this deep
+pub record IsLineWithin (limit : ℕ) (ts : List Token) (store : Option (List ℕ)) : Type 0 where
+  pub tree : Tree
+  pub line : IsLine ts store tree
+  pub within : depth tree ≤ limit
+
+-- the tokens are a line, and its tree is deeper than this
 pub record IsLineOver (limit : ℕ) (ts : List Token) : Type 0 where
   pub store : Option (List ℕ)
   pub tree : Tree
   pub line : IsLine ts store tree
   pub over : limit < depth tree
-
--- the tokens are a line, and this is what it is like
-pub record HasShape (ts : List Token) (shape : Shape) : Type 0 where
-  pub tree : Tree
-  pub line : IsLine ts (option_map name_of shape.store) tree
-  pub depth_is : shape.depth ≡ depth tree
-  pub nodes_are : shape.nodes ≡ nodes tree

@@ -1,15 +1,17 @@
 -- What each answer of the check says.
-use Rattle.std.specs.Prelude.{◌≤◌, List}
+use Rattle.std.specs.Prelude.{List, Option}
+use Rattle.std.specs.Option.{option_map}
 use Rattle.calc_language.specs.Tokens.{Token}
+use Rattle.calc_terms.specs.Leaf.{name_of}
 use Rattle.calc_terms.specs.Limits.{depth_limit}
-use Rattle.calc_parser.specs.declared.checking.Shape.{Shape}
+use Rattle.calc_terms.specs.declared.name.Name.{Name}
 use Rattle.calc_parser.specs.declared.checking.ParseFault.{ParseFault}
 use Rattle.calc_parser.specs.declared.checking.ParseFault.TheVariants.{Syntax, Deep}
-use Rattle.calc_parser.specs.Lines.{IsNoLine, IsLineOver, HasShape}
+use Rattle.calc_parser.specs.Lines.{IsLineOver, IsLineWithin, IsNoLine}
 
--- a line of this shape, within the limit of depth
-abbrev pub IsShallow : List Token → Shape → Type 0
-IsShallow ts shape = HasShape ts shape × (shape.depth ≤ depth_limit)
+-- a line within the limit of depth, to be stored under the name where there is one
+abbrev pub IsShallow : List Token → Option Name → Type 0
+IsShallow ts store = IsLineWithin depth_limit ts (option_map name_of store)
 
 abbrev pub IsFaultOf : List Token → ParseFault → Type 0
 IsFaultOf ts Syntax = IsNoLine ts

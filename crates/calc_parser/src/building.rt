@@ -15,7 +15,7 @@ ghost use Rattle.calc_parser.specs.Postfix.{leaf, parent, postfix as postfix_of,
 ghost use Rattle.calc_parser.specs.Reader.{node_of, token_in, tokens_in};
 ghost use Rattle.calc_parser.specs.Steps.{AreStepsOf};
 
-use crate::checking::{read_line, without_store};
+use crate::checking::read_line;
 use crate::postfix::{STEP_LIMIT, Step};
 use crate::reader::Reader;
 use arrayvec::ArrayVec;
@@ -69,8 +69,7 @@ pub(crate) fn place_line(
     ensures caused { IfErr result (LacksBytes pool.new) }
     ensures stands { Stands pool.new }
 {
-    let (sum, _) = without_store(tokens.items());
-    place_nodes(pool, sum, steps, places)
+    place_nodes(pool, tokens.items(), steps, places)
 }
 
 /// The tree that these steps make, by the places of the trees that stand so far, which take the places of

@@ -6,11 +6,11 @@ ghost use Rattle.calc_terms.specs.Limits.{depth_limit};
 ghost use Rattle.calc_terms.specs.Trees.{Tree, depth as depth_of};
 ghost use Rattle.calc_tokens.specs.Placed.{bare};
 ghost use Rattle.calc_tokens.specs.Tokens.{token_of, tokens_of};
-ghost use Rattle.calc_parser.specs.Lines.{IsLine, IsNoLine, IsLineOver, HasShape};
+ghost use Rattle.calc_parser.specs.Lines.{IsLine, IsNoLine, IsLineOver};
 ghost use Rattle.calc_parser.specs.Outcomes.{IsShallow, IsFaultOf};
 ghost use Rattle.calc_parser.specs.Stores.{stored, IsSplit};
 ghost use Rattle.calc_parser.specs.Reader.{steps_in, tokens_in};
-ghost use Rattle.calc_parser.specs.Steps.{AreStepsOf, IsStoredSum};
+ghost use Rattle.calc_parser.specs.Steps.{AreStepsOf};
 
 use crate::depth::depth;
 use crate::postfix::STEP_LIMIT;
@@ -23,17 +23,6 @@ use thiserror::Error;
 /// The largest depth of a line's tree.
 const DEPTH_LIMIT: u32 = 64;
 
-/// What a line is like.
-#[derive(Clone, Copy, Debug)]
-pub struct Shape {
-    /// The name behind the arrow, where there is one.
-    pub store: Option<Name>,
-    /// The depth of the tree; that of a leaf is 1.
-    pub depth: u32,
-    /// The number of its nodes.
-    pub nodes: u32,
-}
-
 /// Why tokens are refused.
 #[derive(Clone, Copy, Debug, PartialEq, Eq, Error)]
 pub enum ParseFault {
@@ -45,9 +34,10 @@ pub enum ParseFault {
     Deep,
 }
 
-/// What the line is like that these tokens are.
-pub fn check(tokens: &Tokens) -> Result<Shape, ParseFault>
-    ensures shape { IfOk result (HasShape (bare (tokens_of tokens.now))) }
+/// Checks that tokens are a line, and says under which name it is stored, where there is one.
+#[tactic(auto, using(crate::proofs::Answered::accepted, crate::proofs::Answered::syntax_exact, crate::proofs::Answered::deep_exact))]
+pub fn check(tokens: &Tokens) -> Result<Option<Name>, ParseFault>
+    ensures line { IfOk result (IsShallow (bare (tokens_of tokens.now))) }
     ensures accepts { (store : Option (List ℕ)) (t : Tree) → IsLine (bare (tokens_of tokens.now)) store t → depth_of t ≤ depth_limit → IsOk result }
     ensures syntax { (result ≡ Err ParseFault.Syntax) ↔ IsNoLine (bare (tokens_of tokens.now)) }
     ensures deep { (result ≡ Err ParseFault.Deep) ↔ IsLineOver depth_limit (bare (tokens_of tokens.now)) }
@@ -57,34 +47,28 @@ pub fn check(tokens: &Tokens) -> Result<Shape, ParseFault>
     checked(tokens, &mut reader, &mut depths)
 }
 
-/// The shape of a line, or why it has none. The reader then holds the steps of its tree.
+/// The name under which a line is stored, where there is one; or why tokens are none. The reader then holds the steps of its
+/// tree.
 pub(crate) fn checked(
     tokens: &Tokens,
     reader: &mut Reader,
     depths: &mut ArrayVec<u32, STEP_LIMIT>,
-) -> Result<Shape, ParseFault>
+) -> Result<Option<Name>, ParseFault>
     ensures found { MatchResult result (IsShallow (bare (tokens_of tokens.now))) (IsFaultOf (bare (tokens_of tokens.now))) }
     ensures made { AreStepsOf (steps_in reader.new.postfix) (bare (tokens_of tokens.now)) }
 {
     let Ok(store) = read_line(tokens, reader) else {
         return Err(ParseFault::Syntax);
     };
-    let steps = reader.steps();
-    let depth = depth(steps, depths);
-    if depth > DEPTH_LIMIT {
+    if depth(reader.steps(), depths) > DEPTH_LIMIT {
         return Err(ParseFault::Deep);
     }
-    let nodes = steps.len() as u32;
-    Ok(Shape {
-        store,
-        depth,
-        nodes,
-    })
+    Ok(store)
 }
 
 /// Reads the sum of a line, and says under which name it is stored, where there is one.
 pub(crate) fn read_line(tokens: &Tokens, reader: &mut Reader) -> Result<Option<Name>, NoSum>
-    ensures line { IfOk result (λ store. IsStoredSum (bare (tokens_of tokens.now)) (option_map name_of store)) }
+    ensures line { IfOk result (λ store. (t : Tree) × IsLine (bare (tokens_of tokens.now)) (option_map name_of store) t) }
     ensures no_line { OnErr result (IsNoLine (bare (tokens_of tokens.now))) }
     ensures made { AreStepsOf (steps_in reader.new.postfix) (bare (tokens_of tokens.now)) }
 {
@@ -94,7 +78,7 @@ pub(crate) fn read_line(tokens: &Tokens, reader: &mut Reader) -> Result<Option<N
 }
 
 /// The tokens before an arrow and a name, where these end them.
-pub(crate) fn without_store(tokens: &[Token]) -> (&[Token], Option<Name>)
+fn without_store(tokens: &[Token]) -> (&[Token], Option<Name>)
     ensures split { IsSplit (tokens_in tokens.now) (tokens_in result.0.now) (option_map name_of result.1) }
     ensures shorter { length result.0.now ≤ length tokens.now }
 {

@@ -1,5 +1,4 @@
-//! The grammar of a line: whether tokens are one, how deep and large its tree is, and the tree
-//! itself in a pool.
+//! The grammar of a line: whether tokens are one, and its tree in a pool.
 #![tactic(auto)]
 
 mod building;
@@ -12,6 +11,6 @@ mod postfix;
 mod reader;
 
 pub use building::build;
-pub use checking::{ParseFault, Shape, check};
+pub use checking::{ParseFault, check};
 pub use laws::{building_takes_the_size, one_line};
 pub use parser::{LineFault, Parser};

@@ -15,10 +15,11 @@ ghost use Rattle.calc_parser.specs.Refused.{IsLineFaultOf};
 ghost use Rattle.calc_tokens.specs.Limits.{line_limit};
 
 use crate::building::place_line;
-use crate::checking::{ParseFault, Shape, checked};
+use crate::checking::{ParseFault, checked};
 use crate::postfix::STEP_LIMIT;
 use crate::reader::Reader;
 use arrayvec::ArrayVec;
+use calc_terms::Name;
 use calc_tokens::{TokenFault, Tokens, scan};
 use node_pool::{Full, Pool};
 use std::alloc::{AllocError, Global};
@@ -78,11 +79,11 @@ impl Parser {
         })
     }
 
-    /// Cuts a line into its tokens, the longest at each place, and says what the line is like that they are.
-    pub fn read(&mut self, line: &[u8]) -> Result<Shape, LineFault>
+    /// Cuts a line into its tokens, the longest at each place, and says under which name it is stored, where there is one.
+    pub fn read(&mut self, line: &[u8]) -> Result<Option<Name>, LineFault>
         requires { length line.now ≤ line_limit }
         ensures tokens { OnOk result (AreTokensOf (tokens_of self.new) line.now) }
-        ensures shape { IfOk result (IsShallow (bare (tokens_of self.new))) }
+        ensures line { IfOk result (IsShallow (bare (tokens_of self.new))) }
         ensures accepts { (ts : List Placed) (store : Option (List ℕ)) (t : Tree) → AreTokensOf ts line.now
             → IsLine (bare ts) store t → depth_of t ≤ depth_limit → IsOk result }
         ensures refused { (fault : LineFault) → (result ≡ Err fault) ↔ IsLineFaultOf line.now fault }
@@ -93,7 +94,7 @@ impl Parser {
             Err(fault) => return Err(LineFault::Token(fault)),
         }
         match checked(&self.tokens, &mut self.reader, &mut self.depths) {
-            Ok(shape) => Ok(shape),
+            Ok(store) => Ok(store),
             Err(fault) => {
                 self.tokens.clear();
                 Err(LineFault::Parse(fault))

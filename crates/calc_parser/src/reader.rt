@@ -51,10 +51,12 @@ impl Reader {
         }
     }
 
-    /// Reads tokens that are a sum, in place of those that it read before. The nodes of its tree are then whole.
+    /// Reads tokens that are a sum, in place of those that it read before. The nodes of its tree are then whole, by the places
+    /// of their tokens, whatever may stand behind these.
     pub(crate) fn read(&mut self, tokens: &[Token]) -> Result<(), NoSum>
         requires few { length tokens.now ≤ line_limit }
-        ensures sum { OnOk result ((t : Tree) × IsSum (tokens_in tokens.now) t × (nodes_in (tokens_in tokens.now) self.new.postfix ≡ postfix_of t)) }
+        ensures sum { OnOk result ((t : Tree) × IsSum (tokens_in tokens.now) t
+            × ((behind : List Mark) → nodes_in (tokens_in tokens.now ++ behind) self.new.postfix ≡ postfix_of t)) }
         ensures no_sum { OnErr result ((t : Tree) → IsSum (tokens_in tokens.now) t → ⊥) }
     {
         self.clear();

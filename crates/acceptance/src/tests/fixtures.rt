@@ -38,7 +38,7 @@ pub fn read(alloc: Global, pool: &mut Pool, line: &[u8]) -> Option<Handle>
     }
     let mut tokens = Tokens::open(alloc).ok()?;
     scan(&mut tokens, line).ok()?;
-    let Ok(_shape) = check(&tokens) else {
+    let Ok(_) = check(&tokens) else {
         return None;
     };
     let Ok(tree) = build(pool, &tokens) else {

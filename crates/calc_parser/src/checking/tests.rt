@@ -8,6 +8,17 @@ use calc_tokens::scan;
 use std::alloc::{AllocError, Global};
 use std::fmt::Write;
 
+/// The depth of a line's tree and the number of its nodes; both are 0 where the tokens are no line.
+fn measures(tokens: &Tokens) -> (u32, usize) {
+    let mut reader = Reader::new();
+    if read_line(tokens, &mut reader).is_err() {
+        return (0, 0);
+    }
+    let steps = reader.steps();
+    let mut depths = ArrayVec::new();
+    (depth(steps, &mut depths), steps.len())
+}
+
 /// The store, the depth and the number of nodes of a line, and its tree in postfix order, each
 /// node with the number of its children.
 fn shown(alloc: Global, line: &[u8]) -> Result<String, AllocError>
@@ -18,20 +29,19 @@ fn shown(alloc: Global, line: &[u8]) -> Result<String, AllocError>
         return format!(in alloc; "no tokens");
     };
     match check(&tokens) {
-        Ok(shape) => {
+        Ok(store) => {
             let mut text = String::new(alloc);
-            if let Some(name) = shape.store {
+            if let Some(name) = store {
                 push_name(&mut text, &name)?;
                 text.push(' ')?;
             }
-            let (depth, nodes) = (shape.depth, shape.nodes);
+            let (depth, nodes) = measures(&tokens);
             write!(text, "{depth} {nodes}:")?;
-            let (sum, _) = without_store(tokens.items());
             let mut reader = Reader::new();
-            if reader.read(sum).is_ok() {
+            if read_line(&tokens, &mut reader).is_ok() {
                 for step in reader.steps() {
                     text.push(' ')?;
-                    push_step(&mut text, sum, *step)?;
+                    push_step(&mut text, tokens.items(), *step)?;
                 }
             }
             Ok(text)
@@ -162,8 +172,8 @@ fn answer_at(alloc: Global, before: (u8, usize), after: (u8, usize)) -> Result<S
         return format!(in alloc; "no tokens");
     };
     match check(&tokens) {
-        Ok(shape) => {
-            let (depth, nodes) = (shape.depth, shape.nodes);
+        Ok(_) => {
+            let (depth, nodes) = measures(&tokens);
             format!(in alloc; "{depth} {nodes}")
         }
         Err(ParseFault::Syntax) => format!(in alloc; "syntax"),

@@ -4,9 +4,10 @@ ghost use Rattle.tree_handles.specs.Standing.{Stands};
 
 use super::*;
 use std::test::Fail;
-use tree_handles::open_pool;
+use tree_handles::{open_pool, tree_depth, tree_nodes};
 
-/// The depth and the number of nodes of a line and the bytes that its tree takes; or why it has none.
+/// The depth and the number of nodes of a line's tree, and the bytes that are free before and after; or why it has none.
+#[tactic(auto, using(tree_handles::proofs::Seen::live, tree_handles::proofs::Given::given_handed))]
 fn answered(
     alloc: Global,
     parser: &mut Parser,
@@ -19,18 +20,18 @@ fn answered(
 {
     let before = pool.free();
     match parser.read(line) {
-        Ok(shape) => {
-            let built = parser.build(pool);
-            let after = pool.free();
-            let (depth, nodes) = (shape.depth, shape.nodes);
-            match built {
-                Ok(_) => format!(in alloc; "{depth} {nodes} {before} {after}"),
-                Err(full) => {
-                    let (needed, free) = (full.needed, full.free);
-                    format!(in alloc; "{depth} {nodes} full {needed} {free}")
-                }
+        Ok(_) => match parser.build(pool) {
+            Ok(tree) => {
+                let root = tree.id();
+                let (depth, nodes) = (tree_depth(pool, root), tree_nodes(pool, root));
+                let after = pool.free();
+                format!(in alloc; "{depth} {nodes} {before} {after}")
             }
-        }
+            Err(full) => {
+                let (needed, free) = (full.needed, full.free);
+                format!(in alloc; "full {needed} {free}")
+            }
+        },
         Err(LineFault::Token(TokenFault::Character { at })) => {
             format!(in alloc; "character {at}")
         }
@@ -53,7 +54,7 @@ fn lines_one_after_another(rt: HostRuntime) -> Result<(), Fail> {
             "deep",
         ),
         ("√(x)^2→y", "3 4 56 8"),
-        ("x", "1 1 full 16 8"),
+        ("x", "full 16 8"),
     ];
     let mut pool = open_pool(rt.alloc(), 136)?;
     let mut parser = Parser::open(rt.alloc())?;

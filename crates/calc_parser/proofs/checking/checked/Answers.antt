@@ -1,28 +1,21 @@
-use Rattle.calc_parser.proofs.{Shared.{◌≡◌, length, map, sym, ap, ◌∙◌, arith, option_map, name_of, depth, bare, tokens_of, node_of, postfix}, Checks.line_of_sum}
-use Rattle.calc_parser.proofs.Measures.{nodes_found, length_map}
+use Rattle.calc_parser.proofs.Shared.{◌≡◌, map, ap, ◌∙◌, arith, option_map, name_of, Tree, depth, bare, tokens_of, node_of, IsLine}
+use Rattle.calc_parser.proofs.checking.checked.Goals.{After-depth}
 use Rattle.calc_parser.proofs.checking.checked.Goals as goal
+
+-- the depth of the line's tree
+depth_is : (c : After-depth) (t : Tree) → IsLine (bare (tokens_of c.args.tokens.now)) (option_map name_of c.in-Ok.store) t → c.depth.result ≡ depth t
+depth_is c t line =
+    let ts = bare (tokens_of c.args.tokens.now) in
+    c.depth.ensures ts t (ap (map (node_of ts)) c.steps.ensures.steps ∙ c.read_line.ensures.made t (option_map name_of c.in-Ok.store, line))
 
 pub returns-then-depth-gt-DEPTH_LIMIT-clause-found : goal.returns-then-depth-gt-DEPTH_LIMIT-clause-found
 returns-then-depth-gt-DEPTH_LIMIT-clause-found c =
-    let s = c.in-Ok.ensures.line in
-    let steps : map (node_of s.sum) c.steps-steps.result.now ≡ postfix s.tree = ap (map (node_of s.sum)) c.steps-steps.ensures.steps ∙ c.read_line.ensures.made s.sum (option_map name_of c.in-Ok.store) s.tree s.split s.is_sum in
-    let deep : c.depth-depth.result ≡ depth s.tree = c.depth-depth.ensures s.sum s.tree steps in
-    record {
-      store = option_map name_of c.in-Ok.store;
-      tree = s.tree;
-      line = line_of_sum (bare (tokens_of c.args.tokens.now)) s.sum (option_map name_of c.in-Ok.store) s.tree s.split s.is_sum;
-      over = omega (arith, c.if-depth-gt-DEPTH_LIMIT.true);
-    }
+    let (t, line) = c.in-Ok.ensures.line in
+    let deep = depth_is (goal.at.returns-then-depth-gt-DEPTH_LIMIT-clause-found c).After-depth t line in
+    record { store = option_map name_of c.in-Ok.store; tree = t; line = line; over = omega (arith, deep, c.if-depth-gt-DEPTH_LIMIT.true) }
 
 pub returns-clause-found : goal.returns-clause-found
 returns-clause-found c =
-    let s = c.in-Ok.ensures.line in
-    let steps : map (node_of s.sum) c.steps-steps.result.now ≡ postfix s.tree = ap (map (node_of s.sum)) c.steps-steps.ensures.steps ∙ c.read_line.ensures.made s.sum (option_map name_of c.in-Ok.store) s.tree s.split s.is_sum in (
-      record {
-        tree = s.tree;
-        line = line_of_sum (bare (tokens_of c.args.tokens.now)) s.sum (option_map name_of c.in-Ok.store) s.tree s.split s.is_sum;
-        depth_is = c.depth-depth.ensures s.sum s.tree steps;
-        nodes_are = sym (length_map (node_of s.sum) c.steps-steps.result.now) ∙ ap length steps ∙ nodes_found s.tree;
-      },
-      c.if-depth-gt-DEPTH_LIMIT.false,
-    )
+    let (t, line) = c.in-Ok.ensures.line in
+    let deep = depth_is (goal.at.returns-clause-found c).After-depth t line in
+    record { tree = t; line = line; within = omega (arith, deep, c.if-depth-gt-DEPTH_LIMIT.false) }

@@ -17,12 +17,12 @@ pub returns-in-Err-clause-refused : goal.returns-in-Err-clause-refused
 returns-in-Err-clause-refused c =
     faults_exact c.args.line.now (Err (line_fault.Token c.in-Err.fault)) (fault_found c.args.line.now c.scan.result c.in-Err.fault c.in-Err.is c.scan.ensures.character c.scan.ensures.number)
 
-pub returns-in-Ok-checked-clause-shape : goal.returns-in-Ok-checked-clause-shape
-returns-in-Ok-checked-clause-shape c = c.in-Ok-checked.ensures.found
+pub returns-in-Ok-checked-clause-line : goal.returns-in-Ok-checked-clause-line
+returns-in-Ok-checked-clause-line c = c.in-Ok-checked.ensures.found
 
 pub returns-in-Ok-checked-clause-refused : goal.returns-in-Ok-checked-clause-refused
 returns-in-Ok-checked-clause-refused c =
-    faults_exact c.args.line.now (Ok c.in-Ok-checked.shape)
+    faults_exact c.args.line.now (Ok c.in-Ok-checked.store)
     (tokens_of c.scan.new.tokens, c.in-Ok.ensures.tokens, c.in-Ok-checked.ensures.found)
 
 pub returns-in-Err-checked-clause-accepts : goal.returns-in-Err-checked-clause-accepts
