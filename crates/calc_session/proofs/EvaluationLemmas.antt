@@ -57,16 +57,30 @@ front_over g k = front_after_one (behind_new g.ends front_same) (front_end g.end
 pub front_in_place : {f g h others : Forest} {i j : ℕ} {P Q : Tree → Type 0} → Gives others f i P → Gives others g j Q → KeepsFront (i ∷ []) f g → KeepsFront (j ∷ []) g h → KeepsFront (i ∷ []) f h
 front_in_place p q k l = front_after_one (behind_new q.ends (front_at (front_without behind_first front_same) (sym (given_rest p)))) k l
 
+-- what is told of the last tree may be said otherwise
+pub gives_told : {f s : Forest} {i : ℕ} {P : Tree → Type 0} (Q : Tree → Type 0) → Gives f s i P → Q (plain (root_tree i s)) → Gives f s i Q
+gives_told Q g q = record { tree = g.tree; ends = g.ends; once = g.once; whole = g.whole; told = subst (λ (x : Forest). Q (plain x)) (last_tree g.ends) q }
+
 -- ---- reduced trees
 
--- what the reducer says of its answer
-pub record IsAnswered (room : Option (Tree → ℕ)) (before after : List Breaker) (t : Tree) (i : ℕ) (s : State) (others : Forest) : Type 0 where
-  pub gives : Gives others (forest s) i (Reduces t)
-  pub checks : CalmChecks (nodes t) before after
-  pub within : Covers room t (5 * size (tree_of i s))
-  pub easy : IsEasy t → Evaluates t (tree_of i s)
-  pub bad_part : HasEasyBadPart t → tree_of i s ≡ undef
-  pub plain : IsPlainAnswer (plain_value t) (tree_of i s)
+-- a reducer's answer to a tree, where so many bytes are free
+abbrev pub Answered : Option (Tree → ℕ) → (free : ℕ) → (t answer : Tree) → Type 0
+Answered room free t answer = IsAnswerTo free t answer × Covers room t (5 * size answer)
+
+pub answer_to : (room : Option (Tree → ℕ)) {s mid : State} {others : Forest} {i j : ℕ} {P : Tree → Type 0} → Stands s → Stands mid → mid.size ≡ s.size → Gives others (forest s) i P → Gives others (forest mid) j (Reduces (tree_of i s))
+    → (IsEasy (tree_of i s) → Evaluates (tree_of i s) (tree_of j mid)) → (HasEasyBadPart (tree_of i s) → tree_of j mid ≡ undef) → IsPlainAnswer (plain_value (tree_of i s)) (tree_of j mid)
+    → Covers room (tree_of i s) (5 * size (tree_of j mid)) → Gives others (forest mid) j (Answered room (free_of s + size (tree_of i s)) (tree_of i s))
+answer_to room {s} {mid} {i = i} st st' e g a easy bad plainly within = gives_told (Answered room (free_of s + size (tree_of i s)) (tree_of i s)) a (
+  record {
+    reduces = given_told a;
+    easy = easy;
+    bad_part = bad;
+    plain = plainly;
+    room = omega (arith, free_same st st' e g a);
+    fitting = subst (λ (x : Forest). HasFittingRationals (plain x)) (sym (last_tree a.ends)) (fitting_tree a.tree (last_nodes st' a));
+  },
+  within,
+)
 
 -- where four times an answer's bytes are not free, its tree's room is more than was free for both
 exceeds : (room : Option (Tree → ℕ)) (t : Tree) (free left bytes : ℕ) → left + bytes ≡ free → left < 4 * bytes → Covers room t (5 * bytes) → MayExceed room t free
@@ -82,45 +96,34 @@ lacking_face None answer n h = tt
 lacking_face (Some x) answer n h = λ m. h (n.name x m)
 
 module _ (room bits : Option (Tree → ℕ)) (before after : List Breaker) (store : Option (List ℕ)) where
-  answer_to : {s mid : State} {others : Forest} {i j : ℕ} {P : Tree → Type 0} → Stands s → Stands mid → mid.size ≡ s.size → Gives others (forest s) i P → IsAnswered room before after (tree_of i s) j mid others → IsAnswerTo (free_of s + size (tree_of i s)) (tree_of i s) (tree_of j mid)
-  answer_to {s} {mid} {j} st st' e g a = record {
-    reduces = given_told a.gives;
-    easy = a.easy;
-    bad_part = a.bad_part;
-    plain = a.plain;
-    room = omega (arith, free_same st st' e g a.gives);
-    fitting = subst (λ (x : Forest). HasFittingRationals (plain x)) (sym (last_tree a.gives.ends)) (fitting_tree a.gives.tree (last_nodes st' a.gives));
-  }
-
-  -- what is shown of an answer
+  -- what is shown of an answer, unless it holds the name under which it is to be stored
   pub shown_answer : {s mid new : State} {others : Forest} {i j : ℕ} {P : Tree → Type 0} (result : Evaluation) → Stands s → Stands mid → Stands new → mid.size ≡ s.size → new.size ≡ mid.size → Gives others (forest s) i P
-      → IsAnswered room before after (tree_of i s) j mid others → KeepsFront (j ∷ []) (forest mid) (forest new) → Shows store j mid new result
+      → Gives others (forest mid) j (Answered room (free_of s + size (tree_of i s)) (tree_of i s)) → CalmChecks (nodes (tree_of i s)) before after → LacksName store (tree_of j mid)
+      → KeepsFront (j ∷ []) (forest mid) (forest new) → Shows j mid new result
       → ComesTo (IsReduction room bits (free_of s + size (tree_of i s)) (tree_of i s) before after store) (IsDisplayOf store (tree_of i s)) store others (forest new) result
-  shown_answer {mid = mid} {j = j} (Face h) st st' st'' e e' g a k (defined, clear, f) =
+  shown_answer {mid = mid} {j = j} (Face h) st st' st'' e e' g a calm clear k (defined, f) =
       let answer = tree_of j mid in
-      let reduces = given_told a.gives in
-      let named : HasNames answer = subst (λ (x : Forest). HasNames (plain x)) (sym (last_tree a.gives.ends)) (named_tree a.gives.tree (last_nodes st' a.gives)) in
-      let names = face_names answer reduces.reduced named in (
+      let is = (given_told a).0 in
+      let named : HasNames answer = subst (λ (x : Forest). HasNames (plain x)) (sym (last_tree a.ends)) (named_tree a.tree (last_nodes st' a)) in
+      let names = face_names answer is.reduces.reduced named in (
         face answer,
-        is_answered a.checks (answer_to st st' e g a) (kept_reply answer store defined clear),
+        is_answered calm is (kept_reply answer store defined clear),
         record {
-          writable = face_written answer reduces.reduced named;
-          no_new_name = record { name = λ x m. reduces.no_new_name.name x (names.name x m) };
+          writable = face_written answer is.reduces.reduced named;
+          no_new_name = record { name = λ x m. is.reduces.no_new_name.name x (names.name x m) };
           clear = lacking_face store answer names clear;
         },
-        gives_as f (given_rest a.gives) (λ t x. x),
+        gives_as f (given_rest a) (λ t x. x),
       )
-  shown_answer Undefined st st' st'' e e' g a k f = is_answered a.checks (answer_to st st' e g a) (has_no_value f)
-  shown_answer {mid = mid} {j = j} (Refused (refusal.Circular name)) st st' st'' e e' g a k (defined, is, holds) =
-      is_answered a.checks (answer_to st st' e g a) (subst (λ s. IsReplyWith (tree_of j mid) s (refused (circular (name_of name)))) (sym is) (holds_its_name defined holds))
-  shown_answer {s} {mid} {i = i} {j} (Refused (refusal.Full needed free)) st st' st'' e e' g a k (want, short) =
+  shown_answer Undefined st st' st'' e e' g a calm clear k f = is_answered calm (given_told a).0 (has_no_value f)
+  shown_answer {s} {mid} {i = i} {j} (Refused (refusal.Full needed free)) st st' st'' e e' g a calm clear k (want, short) =
       lacks_bytes (record {
         lacking = want.lacking;
-        few = omega (arith, want.free, free_there st st'' (e' ∙ e) g (first_still a.gives k));
-        beyond_room = exceeds room (tree_of i s) (free_of s + size (tree_of i s)) (free_of mid) (size (tree_of j mid)) (free_same st st' e g a.gives) short a.within;
-        checks = record { checks = nodes (tree_of i s); some = one_node (tree_of i s); few = omega arith; calm = a.checks };
+        few = omega (arith, want.free, free_there st st'' (e' ∙ e) g (first_still a k));
+        beyond_room = exceeds room (tree_of i s) (free_of s + size (tree_of i s)) (free_of mid) (size (tree_of j mid)) (free_same st st' e g a) short (given_told a).1;
+        checks = record { checks = nodes (tree_of i s); some = one_node (tree_of i s); few = omega arith; calm = calm };
       })
-  shown_answer (Refused _) st st' st'' e e' g a k f = absurd f
+  shown_answer (Refused _) st st' st'' e e' g a calm clear k f = absurd f
 
   -- what a fault is answered with
   pub refused_reply : (A : Type 0) {s new : State} {others : Forest} {i : ℕ} {P : Tree → Type 0} (f : ReduceFault) → Stands s → Stands new → CountsRefusals {A = A} s new (Err f) → Gives others (forest s) i P
@@ -154,15 +157,6 @@ none_rose (b ∷ bs) (suc place) h = none_rose bs place h
 
 is_refused : (r s : Refusal) → Refused r ≡ Refused s → r ≡ s
 is_refused r s e = cc
-
--- an interruption of the reducer is answered as one
-pub interruption : (A : Type 0) (r : Result A ReduceFault) (f : ReduceFault) (place : ℕ) (Rose : Type 0) → r ≡ Err f → ((r ≡ Err (fault.Interrupted (record { by = place }))) ↔ Rose)
-    → ((Refused (refusal_of f) ≡ Refused (refusal.Interrupted place)) ↔ Rose)
-interruption A r f place Rose h k = grind arith
-
-pub no_interruption : (A : Type 0) (r : Result A ReduceFault) (x : A) (store : Option (List ℕ)) (i : ℕ) (old new : State) (result : Evaluation) (place : ℕ) (Rose : Type 0) → r ≡ Ok x → ((r ≡ Err (fault.Interrupted (record { by = place }))) ↔ Rose)
-    → Shows store i old new result → ((result ≡ Refused (refusal.Interrupted place)) ↔ Rose)
-no_interruption A r x store i old new result place Rose h k s = grind arith
 
 -- ---- built and filled trees
 
@@ -205,6 +199,14 @@ keeps_then refusal s t u k r = grind arith
 pub size_kept : (refusal : Option Full) (s t : State) → CountsRefusal refusal s t → t.size ≡ s.size
 size_kept refusal s t r = grind arith
 
+-- ---- the name under which an answer is to be stored
+
+defined_by_name : (t : Tree) (x : List ℕ) → Contains (names t) x → is_undef t ≡ false
+defined_by_name t x h = grind arith
+
+pub circular_reply : (answer : Tree) (x : List ℕ) → Contains (names answer) x → IsReplyWith answer (Some x) (refused (circular x))
+circular_reply answer x h = holds_its_name (defined_by_name answer x h) h
+
 -- ---- kinds
 
 pub undef_by_kind : (t : Tree) → root_kind t ≡ kind.Undef → is_undef t ≡ true
@@ -227,10 +229,6 @@ module _ (table : Table) (old mid : State) {i : ℕ} (ts : List Token) (t : Tree
 
 pub unbuilt : (table : Table) (old : State) (t : Tree) (full : Full) (r : Refusal) → building (free_of old) t ≡ Err full → r ≡ refusal.Full full.needed full.free → Unmade (made (free_of old) (values table (forest old)) t) (reason_of r)
 unbuilt table old t full r e is = subst (λ x. Unmade x (reason_of r)) (sym (made_none (free_of old) (values table (forest old)) t full e)) (ap reason_of is)
-
--- what is told of the last tree may be said otherwise
-pub gives_told : {f s : Forest} {i : ℕ} {P : Tree → Type 0} (Q : Tree → Type 0) → Gives f s i P → Q (plain (root_tree i s)) → Gives f s i Q
-gives_told Q g q = record { tree = g.tree; ends = g.ends; once = g.once; whole = g.whole; told = subst (λ (x : Forest). Q (plain x)) (last_tree g.ends) q }
 
 module _ (room bits : Option (Tree → ℕ)) (before after : List Breaker) (store : Option (List ℕ)) (table : Table) where
   pub comes_made : (old mid : State) {i : ℕ} (new : Forest) (t : Tree) (result : Evaluation) → Stands old → Stands mid → mid.size ≡ old.size → Gives (forest old) (forest mid) i (LacksNames (table_names table))

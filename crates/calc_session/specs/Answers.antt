@@ -160,11 +160,6 @@ abbrev pub refusal_of_evaluation : Evaluation → Option PoolFull
 refusal_of_evaluation (evaluation.Refused refusal) = refusal_in (reason_of refusal)
 refusal_of_evaluation e = None
 
--- a fact of an evaluation that shows nothing
-abbrev pub IfNotShown : Evaluation → Type 0 → Type 0
-IfNotShown (evaluation.Face h) P = ⊤
-IfNotShown e P = P
-
 -- but for the nodes the pool is as before, or one refusal was counted
 abbrev pub CountsRefusal : Option PoolFull → PoolState → PoolState → Type 0
 CountsRefusal None old new = KeepsRefusals old new

@@ -18,6 +18,7 @@ use calc_commands::{are_blanks, is_command};
 use calc_terms::Name;
 use calc_tokens::LINE_LIMIT;
 use line_text::write_text;
+use pool_checkpoints::{commit, open_mark, roll_back};
 use reduce_port::Reducer;
 
 impl Parts {
@@ -48,7 +49,8 @@ impl Parts {
         self.answer_text(reducer, watch, line)
     }
 
-    /// Answers a line that is read by the grammar. The text of a refusal is still to be written.
+    /// Answers a line that is read by the grammar. Where it displays no tree, the nodes are as before. The text of a refusal is still
+    /// to be written.
     fn answer_text<R: Reducer, B: Breaker>(
         &mut self,
         reducer: &R,
@@ -69,19 +71,26 @@ impl Parts {
             Err(refusal) => return LineAnswer::Refused(refusal),
         };
         match check_store(store, &self.table) {
-            Ok(()) => match self.evaluate(store, reducer, watch) {
-                Evaluation::Face(face) => {
-                    write_text(&self.work.pool, face.id(), &mut self.text);
-                    self.table.keep(&mut self.work.pool, store, face);
-                    answer_with(store)
-                }
-                Evaluation::Undefined => {
-                    write_undef(&mut self.text);
-                    LineAnswer::Undef
-                }
-                Evaluation::Refused(refusal) => LineAnswer::Refused(refusal),
-            },
-            Err(refusal) => LineAnswer::Refused(refusal),
+            Ok(()) => {}
+            Err(refusal) => return LineAnswer::Refused(refusal),
+        }
+        let mark = open_mark(&self.work.pool);
+        match self.evaluate(store, reducer, watch) {
+            Evaluation::Face(face) => {
+                commit(&self.work.pool, mark);
+                write_text(&self.work.pool, face.id(), &mut self.text);
+                self.table.keep(&mut self.work.pool, store, face);
+                answer_with(store)
+            }
+            Evaluation::Undefined => {
+                roll_back(&mut self.work.pool, mark);
+                write_undef(&mut self.text);
+                LineAnswer::Undef
+            }
+            Evaluation::Refused(refusal) => {
+                roll_back(&mut self.work.pool, mark);
+                LineAnswer::Refused(refusal)
+            }
         }
     }
 }

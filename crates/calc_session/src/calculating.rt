@@ -1,17 +1,18 @@
 //! Calculations with an expression that stands in a line.
-ghost use Rattle.std.specs.Prelude.{◌≡◌, ◌≤◌, ◌+◌, ◌↔◌, ℕ, [], length};
+ghost use Rattle.std.specs.Prelude.{◌≡◌, ◌≤◌, ◌↔◌, ℕ, [], length};
 ghost use Rattle.breakers.specs.Breakers.{TripsRose};
 ghost use Rattle.breakers.specs.Watch.{states};
 ghost use Rattle.calc_tokens.specs.Limits.{line_limit};
 ghost use Rattle.node_pool.specs.State.{free_of};
 ghost use Rattle.calc_session.specs.Answers.{CountsRefusal, TellsAs, refusal_of_pool};
+ghost use Rattle.calc_session.specs.Arguments.{bytes_before as bytes_before_text};
 ghost use Rattle.calc_session.specs.Calculating.{IsReplyToExpression};
 ghost use Rattle.calc_session.specs.Counting.{IsCountedBut, IsKnownOf};
 ghost use Rattle.calc_session.specs.Kept.{IsKept, state_in};
 
 use crate::evaluating::{Evaluation, build_and_fill};
 use crate::parts::{Parts, Workspace};
-use crate::reading::read_expression;
+use crate::reading::{bytes_before, read_expression};
 use crate::telling::tell;
 use crate::{LineAnswer, Refusal};
 use breakers::{Breaker, Watch};
@@ -63,21 +64,22 @@ pub trait Calculation {
 }
 
 impl Parts {
-    /// Calculates with the expression in a text, behind so many bytes of the line: it is read, built and filled, and what is
+    /// Calculates with the expression in a text at the end of a line: it is read, built and filled, and what is
     /// calculated of it is told. The nodes are as before. It is not inlined, so that other lines take none of the machine's stack
     /// that a calculation needs.
     #[inline(never)]
     pub fn calculate<C: Calculation, B: Breaker>(
         &mut self,
         calculation: &C,
+        line: &[u8],
         expression: &[u8],
-        before: u16,
         watch: &mut Watch<B>,
     ) -> LineAnswer
         requires kept { IsKept self.old }
         requires empty { self.old.text.bytes ≡ [] }
-        requires short { before + length expression.now ≤ line_limit }
-        ensures told { TellsAs (IsReplyToExpression (state_in self.old) (states B.state watch.old) (states B.state watch.new) before expression.now
+        requires short { length line.now ≤ line_limit }
+        requires behind { length expression.now ≤ length line.now }
+        ensures told { TellsAs (IsReplyToExpression (state_in self.old) (states B.state watch.old) (states B.state watch.new) (bytes_before_text line.now expression.now) expression.now
             (C.rule calculation.now (free_of self.old.work.pool) (states B.state watch.old) (states B.state watch.new))) result self.new.text.bytes }
         ensures interrupted { (place : ℕ) → (result ≡ LineAnswer.Refused (Refusal.Interrupted place))
             ↔ TripsRose (states B.state watch.old) (states B.state watch.new) place }
@@ -85,6 +87,7 @@ impl Parts {
         ensures same { state_in self.new ≡ state_in self.old }
         ensures kept { IsKept self.new }
     {
+        let before = bytes_before(line, expression);
         match read_expression(expression, before, &mut self.parser) {
             Ok(()) => {
                 let mark = open_mark(&self.work.pool);

@@ -10,7 +10,6 @@ ghost use Rattle.calc_tokens.specs.Limits.{line_limit};
 ghost use Rattle.name_table.specs.Held.{IsHeld};
 ghost use Rattle.tree_handles.specs.Standing.{Stands, forest};
 ghost use Rattle.calc_session.specs.Answers.{AnswersBy, AnswersUntold, CountsRefusal, TellsAs, refusal_of_pool};
-ghost use Rattle.calc_session.specs.Arguments.{bytes_before as bytes_before_text};
 ghost use Rattle.calc_session.specs.Commanding.{IsReplyToArming, IsReplyToCommand, layout_reply};
 ghost use Rattle.calc_session.specs.Counting.{AsksForTooMuch, IsCountedBut, LacksBytesFor};
 ghost use Rattle.calc_session.specs.Drawing.{serial_in};
@@ -94,17 +93,10 @@ impl Parts {
             Command::Draw => LineAnswer::Draw,
             Command::Layout => self.tell_layout(),
             Command::Diff(name, expression) => {
-                let before = bytes_before(line, expression);
-                self.calculate(&Derivative { name, reducer }, expression, before, watch)
+                self.calculate(&Derivative { name, reducer }, line, expression, watch)
             }
-            Command::Solve(equations) => {
-                let before = bytes_before(line, equations);
-                self.solve(equations, before, watch)
-            }
-            Command::Expand(expression) => {
-                let before = bytes_before(line, expression);
-                self.calculate(&Expansion, expression, before, watch)
-            }
+            Command::Solve(equations) => self.solve(line, equations, watch),
+            Command::Expand(expression) => self.calculate(&Expansion, line, expression, watch),
         }
     }
 
@@ -151,15 +143,6 @@ impl Parts {
             Err(full) => LineAnswer::Refused(refused(full)),
         }
     }
-}
-
-/// How many bytes of a line stand before the text at its end.
-fn bytes_before(line: &[u8], text: &[u8]) -> u16
-    requires short { length line.now ≤ line_limit }
-    requires behind { length text.now ≤ length line.now }
-    ensures { result ≡ bytes_before_text line.now text.now }
-{
-    (line.len() - text.len()) as u16
 }
 
 /// Arms the first breaker that can be armed.

@@ -4,7 +4,7 @@ ghost use Rattle.calc_session.specs.Deriving.{IsReplyToDerivative, LacksDerivati
 
 use crate::Refusal;
 use crate::calculating::Calculation;
-use crate::evaluating::{Evaluation, reduce_tree, refused};
+use crate::evaluating::{Evaluation, reduce_tree, refused, show};
 use crate::parts::Workspace;
 use breakers::{Breaker, Watch};
 use calc_terms::Name;
@@ -25,6 +25,7 @@ impl<R: Reducer> Calculation for Derivative<'_, R> {
     ghost known = { λ d left t. LacksDerivative (name_of d.name) left t };
 
     /// The tree is released once its derivative is made.
+    #[tactic(auto, using(crate::proofs::EvaluationLemmas::size_kept))]
     fn run<B: Breaker>(
         &self,
         work: &mut Workspace,
@@ -38,7 +39,10 @@ impl<R: Reducer> Calculation for Derivative<'_, R> {
         match derive(&mut work.pool, id, self.name) {
             Ok(derivative) => {
                 release(&mut work.pool, tree);
-                reduce_tree(work, derivative, None, self.reducer, watch)
+                match reduce_tree(&mut work.pool, derivative, self.reducer, watch) {
+                    Ok(answer) => show(work, answer),
+                    Err(refusal) => Evaluation::Refused(refusal),
+                }
             }
             Err(full) => Evaluation::Refused(refused(full)),
         }

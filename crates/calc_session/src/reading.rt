@@ -12,7 +12,7 @@ ghost use Rattle.calc_tokens.specs.Scanned.{AreTokensOf};
 ghost use Rattle.calc_tokens.specs.Tokens.{tokens_of};
 ghost use Rattle.name_table.specs.Storing.{IsStorable, name_in};
 ghost use Rattle.calc_session.specs.Answers.{reason_of};
-ghost use Rattle.calc_session.specs.Arguments.{IsMisread, IsNoExpression, ReadsText};
+ghost use Rattle.calc_session.specs.Arguments.{bytes_before as bytes_before_text, IsMisread, IsNoExpression, ReadsText};
 ghost use Rattle.calc_session.specs.Reading.{IsUnstorable};
 ghost use Rattle.calc_session.specs.Replies.{refusal_in};
 
@@ -21,6 +21,15 @@ use calc_parser::{LineFault, ParseFault, Parser};
 use calc_terms::Name;
 use calc_tokens::TokenFault;
 use name_table::NameTable;
+
+/// How many bytes of a line stand before the text at its end.
+pub fn bytes_before(line: &[u8], text: &[u8]) -> u16
+    requires short { length line.now ≤ line_limit }
+    requires behind { length text.now ≤ length line.now }
+    ensures { result ≡ bytes_before_text line.now text.now }
+{
+    (line.len() - text.len()) as u16
+}
 
 /// Reads a text by the grammar. The name is that under which its answer is to be stored. So many bytes of the line stand before
 /// it.
@@ -32,7 +41,7 @@ pub fn read_text(text: &[u8], before: u16, parser: &mut Parser) -> Result<Option
     ensures no_breaker { IfErr result (λ refusal. (place : ℕ) → refusal ≡ Refusal.Interrupted place → ⊥) }
 {
     match parser.read(text) {
-        Ok(shape) => Ok(shape.store),
+        Ok(store) => Ok(store),
         Err(fault) => Err(refusal_to_read(fault, before)),
     }
 }

@@ -15,7 +15,7 @@ ghost use Rattle.tree_handles.specs.Expressions.{IsExpression};
 ghost use Rattle.tree_handles.specs.Handed.{KeepsFront};
 ghost use Rattle.tree_handles.specs.Standing.{KeepsRefusals, Stands, forest};
 ghost use Rattle.calc_session.specs.Answers.{CountsRefusal, TellsAs, reason_of, refusal_of_pool, reply_of};
-ghost use Rattle.calc_session.specs.Arguments.{IsNoExpression, ReadsText};
+ghost use Rattle.calc_session.specs.Arguments.{bytes_before as bytes_before_text, IsNoExpression, ReadsText};
 ghost use Rattle.calc_session.specs.Evaluations.{Unmade, made};
 ghost use Rattle.calc_session.specs.Kept.{IsKept, state_in};
 ghost use Rattle.calc_commands.specs.Ranges.{AreSplit, IsWithin, between, pieces_at};
@@ -26,7 +26,7 @@ ghost use Rattle.calc_session.specs.States.{State};
 
 use crate::evaluating::{build_and_fill, refused};
 use crate::parts::Parts;
-use crate::reading::read_expression;
+use crate::reading::{bytes_before, read_expression};
 use crate::solution_text::write_solution;
 use crate::{LineAnswer, Refusal};
 use arrayvec::ArrayVec;
@@ -68,25 +68,27 @@ struct Side {
 }
 
 impl Parts {
-    /// Solves the equations in a text, behind so many bytes of the line, and tells the solutions. The text of a refusal is still
+    /// Solves the equations in a text at the end of a line, and tells the solutions. The text of a refusal is still
     /// to be written. It is not inlined, as no command that calculates is.
     #[inline(never)]
     pub fn solve<B: Breaker>(
         &mut self,
+        line: &[u8],
         text: &[u8],
-        before: u16,
         watch: &mut Watch<B>,
     ) -> LineAnswer
         requires kept { IsKept self.old }
         requires empty { self.old.text.bytes ≡ [] }
-        requires short { before + length text.now ≤ line_limit }
-        ensures told { TellsAs (IsReplyToEquations (state_in self.old) (states B.state watch.old) (states B.state watch.new) before text.now) result self.new.text.bytes }
+        requires short { length line.now ≤ line_limit }
+        requires behind { length text.now ≤ length line.now }
+        ensures told { TellsAs (IsReplyToEquations (state_in self.old) (states B.state watch.old) (states B.state watch.new) (bytes_before_text line.now text.now) text.now) result self.new.text.bytes }
         ensures interrupted { (place : ℕ) → (result ≡ LineAnswer.Refused (Refusal.Interrupted place))
             ↔ TripsRose (states B.state watch.old) (states B.state watch.new) place }
         ensures counted { CountsRefusal (refusal_of_pool result) self.old.work.pool self.new.work.pool }
         ensures same { state_in self.new ≡ state_in self.old }
         ensures kept { IsKept self.new }
     {
+        let before = bytes_before(line, text);
         let ranges = match read_equations(text, before, &mut self.parser) {
             Ok(ranges) => ranges,
             Err(refusal) => return LineAnswer::Refused(refusal),
@@ -123,8 +125,8 @@ impl Parts {
     }
 }
 
-/// Where the equations of a text stand, once each side was read as an expression. The sides are read again when they are built,
-/// since a side that is none is refused before any that finds no room.
+/// Where the equations of a text stand, once each side was read as an expression. A side that is none is refused before any that
+/// finds no room, and the parser keeps one line, so each side is read again when it is built.
 fn read_equations(
     text: &[u8],
     before: u16,

@@ -1,7 +1,8 @@
 use Rattle.std.proofs.Common.{None, ◌≡◌, ◌∙◌, ◌++◌, ℕ, List, length, ap, refl, sym, subst, arith, ◌*◌, ◌+◌}
 use Rattle.calc_session.proofs.Shared.{states, text, IsWritable, tokens_of, Content, IsHeld, IsKeepable, name_in, plain, tree_at, forest, given_rest, gives_as, with_answer, is_no_line, state_in, refusal_in, reason_of}
-use Rattle.calc_session.proofs.PoolLemmas.{kept_but}
+use Rattle.calc_session.proofs.PoolLemmas.{IsRolledBack, kept_but, old_below, rolled_back}
 use Rattle.calc_session.proofs.SessionLemmas.{answers_face, answers_refusal, answers_undefined, answers_unstorable, answers_vain, calm_refusal, face_expression, face_room, face_tree, leaves_answer}
+use Rattle.calc_session.proofs.parts.Parts.answer_text.Goals.{After-roll_back, After-roll_back-in-Refused}
 use Rattle.calc_session.proofs.parts.Parts.answer_text.Goals as goal
 
 pub read_text-requires : goal.read_text-requires
@@ -81,22 +82,52 @@ returns-in-Face-clause-kept g c =
       served = ap (λ d. d.pool_size) c.evaluate.ensures.drafter ∙ c.requires.kept.served ∙ sym size;
     }
 
+pub roll_back-requires-clause-below : goal.roll_back-requires-clause-below
+roll_back-requires-clause-below g c = (forest c.args.self.now.work.pool, old_below (c.open_mark-mark.ensures.trees c.requires.kept.ready.stands) c.evaluate.ensures.front)
+
+undone : (g : _) (c : After-roll_back g) → IsRolledBack None c.args.self.now.work.pool c.roll_back.new.pool
+undone g c =
+    let p = c.args.self.now.work.pool in
+    rolled_back None p c.evaluate.new.self.work.pool c.roll_back.new.pool c.requires.kept.ready.stands c.roll_back.ensures.stands c.in-Undefined.ensures.counted c.roll_back.ensures.kept
+    (c.roll_back.ensures.forest (forest p) (old_below (c.open_mark-mark.ensures.trees c.requires.kept.ready.stands) c.evaluate.ensures.front))
+
 pub returns-in-Undefined-clause-answers : goal.returns-in-Undefined-clause-answers
 returns-in-Undefined-clause-answers g c =
     let (t, r) = c.in-Ok.ensures.tree in
     rw (c.evaluate.ensures.table)
-    (answers_undefined g.R.Reducer.room g.R.Reducer.bits (states g.B.Breaker.state c.args.watch.now) (states g.B.Breaker.state c.evaluate.new.watch) c.args.line.now c.args.self.now.work.pool c.evaluate.new.self.work.pool c.args.self.now.table (tokens_of c.read_text.new.parser) (name_in c.in-Ok.store) t c.write_undef.new.text.bytes
-    (record { reads = record { text = c.requires.text; reads = r }; storable = c.in-Ok-check_store.ensures.ok }) (c.in-Undefined.ensures.reply t (name_in c.in-Ok.store, r.line-is)) c.in-Undefined.ensures.as_before c.write_undef.ensures.text)
+    (answers_undefined g.R.Reducer.room g.R.Reducer.bits (states g.B.Breaker.state c.args.watch.now) (states g.B.Breaker.state c.evaluate.new.watch) c.args.line.now c.args.self.now.work.pool c.roll_back.new.pool c.args.self.now.table (tokens_of c.read_text.new.parser) (name_in c.in-Ok.store) t c.write_undef.new.text.bytes
+    (record { reads = record { text = c.requires.text; reads = r }; storable = c.in-Ok-check_store.ensures.ok }) (c.in-Undefined.ensures.reply t (name_in c.in-Ok.store, r.line-is)) (undone g (goal.at.returns-in-Undefined-clause-answers g c).After-roll_back).as_before c.write_undef.ensures.text)
+
+pub returns-in-Undefined-clause-counted : goal.returns-in-Undefined-clause-counted
+returns-in-Undefined-clause-counted g c = (undone g (goal.at.returns-in-Undefined-clause-counted g c).After-roll_back).counted
 
 pub returns-in-Undefined-clause-kept : goal.returns-in-Undefined-clause-kept
-returns-in-Undefined-clause-kept g c = kept_but None c.args.self.now _ c.requires.kept c.evaluate.ensures.ready c.in-Undefined.ensures.as_before c.evaluate.ensures.table (c.write_undef.ensures.capacity ∙ ap (λ (x : Content). x.capacity) c.evaluate.ensures.text) (ap (λ d. d.pool_size) c.evaluate.ensures.drafter)
+returns-in-Undefined-clause-kept g c =
+    let back = undone g (goal.at.returns-in-Undefined-clause-kept g c).After-roll_back in
+    kept_but None c.args.self.now _ c.requires.kept (record { stands = c.roll_back.ensures.stands; lists = omega (arith, c.evaluate.ensures.ready.lists, c.roll_back.ensures.kept.size) }) back.as_before c.evaluate.ensures.table
+    (c.write_undef.ensures.capacity ∙ ap (λ (x : Content). x.capacity) c.evaluate.ensures.text) (ap (λ d. d.pool_size) c.evaluate.ensures.drafter)
+
+pub roll_back-requires-in-Refused-clause-below : goal.roll_back-requires-in-Refused-clause-below
+roll_back-requires-in-Refused-clause-below g c = (forest c.args.self.now.work.pool, old_below (c.open_mark-mark.ensures.trees c.requires.kept.ready.stands) c.evaluate.ensures.front)
+
+refused_back : (g : _) (c : After-roll_back-in-Refused g) → IsRolledBack (refusal_in (reason_of c.in-Refused.refusal)) c.args.self.now.work.pool c.roll_back-in-Refused.new.pool
+refused_back g c =
+    let p = c.args.self.now.work.pool in
+    rolled_back (refusal_in (reason_of c.in-Refused.refusal)) p c.evaluate.new.self.work.pool c.roll_back-in-Refused.new.pool c.requires.kept.ready.stands c.roll_back-in-Refused.ensures.stands c.in-Refused.ensures.counted c.roll_back-in-Refused.ensures.kept
+    (c.roll_back-in-Refused.ensures.forest (forest p) (old_below (c.open_mark-mark.ensures.trees c.requires.kept.ready.stands) c.evaluate.ensures.front))
 
 pub returns-in-Refused-clause-answers : goal.returns-in-Refused-clause-answers
 returns-in-Refused-clause-answers g c =
     let (t, r) = c.in-Ok.ensures.tree in
     rw (c.evaluate.ensures.table)
-    (answers_refusal g.R.Reducer.room g.R.Reducer.bits (states g.B.Breaker.state c.args.watch.now) (states g.B.Breaker.state c.evaluate.new.watch) c.args.line.now c.args.self.now.work.pool c.evaluate.new.self.work.pool c.args.self.now.table (tokens_of c.read_text.new.parser) (name_in c.in-Ok.store) t c.in-Refused.refusal c.evaluate.new.self.text.bytes
-    (record { reads = record { text = c.requires.text; reads = r }; storable = c.in-Ok-check_store.ensures.ok }) (c.in-Refused.ensures.reply t (name_in c.in-Ok.store, r.line-is)) c.in-Refused.ensures.as_before (ap (λ (x : Content). x.bytes) c.evaluate.ensures.text ∙ c.requires.empty))
+    (answers_refusal g.R.Reducer.room g.R.Reducer.bits (states g.B.Breaker.state c.args.watch.now) (states g.B.Breaker.state c.evaluate.new.watch) c.args.line.now c.args.self.now.work.pool c.roll_back-in-Refused.new.pool c.args.self.now.table (tokens_of c.read_text.new.parser) (name_in c.in-Ok.store) t c.in-Refused.refusal c.evaluate.new.self.text.bytes
+    (record { reads = record { text = c.requires.text; reads = r }; storable = c.in-Ok-check_store.ensures.ok }) (c.in-Refused.ensures.reply t (name_in c.in-Ok.store, r.line-is)) (refused_back g (goal.at.returns-in-Refused-clause-answers g c).After-roll_back-in-Refused).as_before (ap (λ (x : Content). x.bytes) c.evaluate.ensures.text ∙ c.requires.empty))
+
+pub returns-in-Refused-clause-counted : goal.returns-in-Refused-clause-counted
+returns-in-Refused-clause-counted g c = (refused_back g (goal.at.returns-in-Refused-clause-counted g c).After-roll_back-in-Refused).counted
 
 pub returns-in-Refused-clause-kept : goal.returns-in-Refused-clause-kept
-returns-in-Refused-clause-kept g c = kept_but (refusal_in (reason_of c.in-Refused.refusal)) c.args.self.now _ c.requires.kept c.evaluate.ensures.ready c.in-Refused.ensures.as_before c.evaluate.ensures.table (ap (λ (x : Content). x.capacity) c.evaluate.ensures.text) (ap (λ d. d.pool_size) c.evaluate.ensures.drafter)
+returns-in-Refused-clause-kept g c =
+    let back = refused_back g (goal.at.returns-in-Refused-clause-kept g c).After-roll_back-in-Refused in
+    kept_but (refusal_in (reason_of c.in-Refused.refusal)) c.args.self.now _ c.requires.kept (record { stands = c.roll_back-in-Refused.ensures.stands; lists = omega (arith, c.evaluate.ensures.ready.lists, c.roll_back-in-Refused.ensures.kept.size) }) back.as_before c.evaluate.ensures.table
+    (ap (λ (x : Content). x.capacity) c.evaluate.ensures.text) (ap (λ d. d.pool_size) c.evaluate.ensures.drafter)

@@ -6,6 +6,7 @@ use Rattle.calc_session.proofs.EvaluationLemmas.{front_over, none_rose, size_kep
 use Rattle.calc_session.proofs.PoolLemmas.{kept_still, old_below, still_counted}
 use Rattle.calc_session.proofs.TellingLemmas.{comes_calculated, has_face, same_again, told_as, told_interruption, told_lack}
 use Rattle.calc_session.proofs.parts.Parts.calculate.Goals.{After-run-evaluation}
+use Rattle.calc_session.specs.Arguments.{IsNoExpression, bytes_before}
 use Rattle.calc_session.specs.declared.answers.LineAnswer.TheVariants as answer
 use Rattle.calc_session.specs.declared.answers.Refusal.TheVariants as refusal
 use Rattle.calc_session.proofs.parts.Parts.calculate.Goals as goal
@@ -23,16 +24,16 @@ pub run-evaluation-requires-clause-last : goal.run-evaluation-requires-clause-la
 run-evaluation-requires-clause-last g c = gives_as c.in-Ok-build_and_fill.ensures.ok (sym (given_rest c.in-Ok-build_and_fill.ensures.ok)) (λ u x. tt)
 
 -- what is calculated of the expression
-comes : (g : _) (c : After-run-evaluation g) → ComesTo (λ r. IsReplyToExpression (state_in c.args.self.now) (states g.B.Breaker.state c.args.watch.now) (states g.B.Breaker.state c.run-evaluation.new.watch) c.args.before c.args.expression.now
+comes : (g : _) (c : After-run-evaluation g) → ComesTo (λ r. IsReplyToExpression (state_in c.args.self.now) (states g.B.Breaker.state c.args.watch.now) (states g.B.Breaker.state c.run-evaluation.new.watch) (bytes_before c.args.line.now c.args.expression.now) c.args.expression.now
     (g.C.Calculation.rule c.args.calculation.now (free_of c.args.self.now.work.pool) (states g.B.Breaker.state c.args.watch.now) (states g.B.Breaker.state c.run-evaluation.new.watch)) (reported r)) IsWritable None (forest c.args.self.now.work.pool) (forest c.run-evaluation.new.work.pool) c.run-evaluation.result
 comes g c =
     let (t, reads) = c.in-Ok.ensures.tree in
-    comes_calculated (g.C.Calculation.rule c.args.calculation.now) (states g.B.Breaker.state c.args.watch.now) (states g.B.Breaker.state c.run-evaluation.new.watch) c.args.self.now.table c.args.before c.args.expression.now c.args.self.now.work.pool c.build_and_fill.new.pool (forest c.run-evaluation.new.work.pool) c.run-evaluation.result
+    comes_calculated (g.C.Calculation.rule c.args.calculation.now) (states g.B.Breaker.state c.args.watch.now) (states g.B.Breaker.state c.run-evaluation.new.watch) c.args.self.now.table (bytes_before c.args.line.now c.args.expression.now) c.args.expression.now c.args.self.now.work.pool c.build_and_fill.new.pool (forest c.run-evaluation.new.work.pool) c.run-evaluation.result
     c.requires.kept.ready.stands c.build_and_fill.ensures.stands c.in-Ok-build_and_fill.ensures.kept.size c.in-Ok-build_and_fill.ensures.ok reads (c.in-Ok-build_and_fill.ensures.made t (None, reads.line-is)) c.run-evaluation.ensures.reply
 
 pub tell-answer-requires-clause-face : goal.tell-answer-requires-clause-face
 tell-answer-requires-clause-face g c =
-    has_face (λ r. IsReplyToExpression (state_in c.args.self.now) (states g.B.Breaker.state c.args.watch.now) (states g.B.Breaker.state c.run-evaluation.new.watch) c.args.before c.args.expression.now
+    has_face (λ r. IsReplyToExpression (state_in c.args.self.now) (states g.B.Breaker.state c.args.watch.now) (states g.B.Breaker.state c.run-evaluation.new.watch) (bytes_before c.args.line.now c.args.expression.now) c.args.expression.now
     (g.C.Calculation.rule c.args.calculation.now (free_of c.args.self.now.work.pool) (states g.B.Breaker.state c.args.watch.now) (states g.B.Breaker.state c.run-evaluation.new.watch)) (reported r)) (forest c.args.self.now.work.pool) (forest c.run-evaluation.new.work.pool) c.run-evaluation.result (comes g (goal.at.tell-answer-requires-clause-face g c).After-run-evaluation)
 
 pub tell-answer-requires-clause-room : goal.tell-answer-requires-clause-room
@@ -60,7 +61,7 @@ returns-in-Ok-build_and_fill g c =
     let trees = c.roll_back.ensures.forest (forest p) (old_below (c.open_mark-mark.ensures.trees c.requires.kept.ready.stands) (front_over filled.ok c.run-evaluation.ensures.front)) in
     let b : ExpressionBecomes s c.args.expression.now (tree_of c.in-Ok-build_and_fill.tree c.build_and_fill.new.pool) = record { tokens = tokens_of c.read_expression.new.parser; tree = t; reads = reads; left = free_of c.build_and_fill.new.pool; is_made = filled.made t (None, reads.line-is) } in
     record {
-      told = told_as (IsReplyToExpression s before after c.args.before c.args.expression.now (g.C.Calculation.rule c.args.calculation.now (free_of p) before after)) mid (forest p) e c.tell-answer.result c.tell-answer.new.text.bytes
+      told = told_as (IsReplyToExpression s before after (bytes_before c.args.line.now c.args.expression.now) c.args.expression.now (g.C.Calculation.rule c.args.calculation.now (free_of p) before after)) mid (forest p) e c.tell-answer.result c.tell-answer.new.text.bytes
           (comes g (goal.at.returns-in-Ok-build_and_fill g c).After-run-evaluation) c.tell-answer.ensures.told;
       interrupted = λ place. told_interruption mid e c.tell-answer.result c.tell-answer.new.text.bytes (refusal.Interrupted place) (TripsRose before after place) c.tell-answer.ensures.told (c.run-evaluation.ensures.interrupted place);
       counted = subst (IsCountedBut (IsKnownOf known s c.args.expression.now) (λ r. CountsRefusal r p new)) (sym (told_lack mid e c.tell-answer.result c.tell-answer.new.text.bytes c.tell-answer.ensures.told))
@@ -94,9 +95,9 @@ returns-in-Err g c =
     let before = states g.B.Breaker.state c.args.watch.now in
     let r = c.in-Err.refusal in
     record {
-      told = (is_no_expression c.in-Err.ensures.refused refl, c.requires.empty);
+      told = (is_no_expression (subst (λ n. IsNoExpression n c.args.expression.now (reason_of r)) c.bytes_before-before.ensures c.in-Err.ensures.refused) refl, c.requires.empty);
       interrupted = calm_told (answer.Refused r) before before (refusal_uninterrupted r c.in-Err.ensures.no_breaker) (none_rose before);
-      counted = inl (none_known (refusal_in (reason_of r)) (none_read (state_in c.args.self.now) c.args.expression.now c.args.before (reason_of r) c.in-Err.ensures.refused), subst (λ x. CountsRefusal x c.args.self.now.work.pool c.args.self.now.work.pool) (sym c.in-Err.ensures.no_pool) (record { size = refl; refusals = refl; last_refused = refl }));
+      counted = inl (none_known (refusal_in (reason_of r)) (none_read (state_in c.args.self.now) c.args.expression.now c.bytes_before-before.result (reason_of r) c.in-Err.ensures.refused), subst (λ x. CountsRefusal x c.args.self.now.work.pool c.args.self.now.work.pool) (sym c.in-Err.ensures.no_pool) (record { size = refl; refusals = refl; last_refused = refl }));
       same = refl;
       kept = record { ready = c.requires.kept.ready; held = c.requires.kept.held; room = c.requires.kept.room; served = c.requires.kept.served };
     }

@@ -81,14 +81,8 @@ returns-in-Layout g c =
       kept = told.kept;
     }
 
-pub bytes_before-before-requires-clause-behind : goal.bytes_before-before-requires-clause-behind
-bytes_before-before-requires-clause-behind g c = text_within (subst (λ (k : Command). IsCommandLine c.args.line.now (asked_of k)) c.in-Diff.is c.requires.asked)
-
-pub calculate-requires-clause-short : goal.calculate-requires-clause-short
-calculate-requires-clause-short g c =
-    let behind = text_within (subst (λ (k : Command). IsCommandLine c.args.line.now (asked_of k)) c.in-Diff.is c.requires.asked) in
-    let short = c.requires.short in
-    omega (arith, behind, short, c.bytes_before-before.ensures)
+pub calculate-requires-clause-behind : goal.calculate-requires-clause-behind
+calculate-requires-clause-behind g c = text_within (subst (λ (k : Command). IsCommandLine c.args.line.now (asked_of k)) c.in-Diff.is c.requires.asked)
 
 pub returns-in-Diff : goal.returns-in-Diff
 returns-in-Diff g c =
@@ -98,21 +92,14 @@ returns-in-Diff g c =
     let told = c.calculate.ensures in
     let text = c.calculate.new.self.text.bytes in
     record {
-      answers = rw (c.in-Diff.is) (told_command g.R.Reducer.room g.R.Reducer.bits s (state_in c.calculate.new.self) before after c.args.line.now (diff (name_of c.in-Diff.name) c.in-Diff.expression.now) c.calculate.result text told.same
-          (subst (λ n. TellsAs (IsReplyToExpression s before after n c.in-Diff.expression.now (IsReplyToDerivative g.R.Reducer.room g.R.Reducer.bits (free_of c.args.self.now.work.pool) before after (name_of c.in-Diff.name))) c.calculate.result text) c.bytes_before-before.ensures told.told));
+      answers = rw (c.in-Diff.is) (told_command g.R.Reducer.room g.R.Reducer.bits s (state_in c.calculate.new.self) before after c.args.line.now (diff (name_of c.in-Diff.name) c.in-Diff.expression.now) c.calculate.result text told.same told.told);
       interrupted = told.interrupted;
       counted = rw (c.in-Diff.is) (told.counted);
       kept = told.kept;
     }
 
-pub bytes_before-before-requires-in-Solve-clause-behind : goal.bytes_before-before-requires-in-Solve-clause-behind
-bytes_before-before-requires-in-Solve-clause-behind g c = equations_within (subst (λ (k : Command). IsCommandLine c.args.line.now (asked_of k)) c.in-Solve.is c.requires.asked)
-
-pub solve-requires-clause-short : goal.solve-requires-clause-short
-solve-requires-clause-short g c =
-    let behind = equations_within (subst (λ (k : Command). IsCommandLine c.args.line.now (asked_of k)) c.in-Solve.is c.requires.asked) in
-    let short = c.requires.short in
-    omega (arith, behind, short, c.bytes_before-before-in-Solve.ensures)
+pub solve-requires-clause-behind : goal.solve-requires-clause-behind
+solve-requires-clause-behind g c = equations_within (subst (λ (k : Command). IsCommandLine c.args.line.now (asked_of k)) c.in-Solve.is c.requires.asked)
 
 pub returns-in-Solve : goal.returns-in-Solve
 returns-in-Solve g c =
@@ -122,21 +109,14 @@ returns-in-Solve g c =
     let told = c.solve.ensures in
     let text = c.solve.new.self.text.bytes in
     record {
-      answers = rw (c.in-Solve.is) (told_command g.R.Reducer.room g.R.Reducer.bits s (state_in c.solve.new.self) before after c.args.line.now (solve c.in-Solve.equations.now) c.solve.result text told.same
-          (subst (λ n. TellsAs (IsReplyToEquations s before after n c.in-Solve.equations.now) c.solve.result text) c.bytes_before-before-in-Solve.ensures told.told));
+      answers = rw (c.in-Solve.is) (told_command g.R.Reducer.room g.R.Reducer.bits s (state_in c.solve.new.self) before after c.args.line.now (solve c.in-Solve.equations.now) c.solve.result text told.same told.told);
       interrupted = told.interrupted;
       counted = rw (c.in-Solve.is) (inl (none_known (refusal_of_pool c.solve.result) (λ lack k. k), told.counted));
       kept = told.kept;
     }
 
-pub bytes_before-before-requires-in-Expand-clause-behind : goal.bytes_before-before-requires-in-Expand-clause-behind
-bytes_before-before-requires-in-Expand-clause-behind g c = expression_within (subst (λ (k : Command). IsCommandLine c.args.line.now (asked_of k)) c.in-Expand.is c.requires.asked)
-
-pub calculate-requires-in-Expand-clause-short : goal.calculate-requires-in-Expand-clause-short
-calculate-requires-in-Expand-clause-short g c =
-    let behind = expression_within (subst (λ (k : Command). IsCommandLine c.args.line.now (asked_of k)) c.in-Expand.is c.requires.asked) in
-    let short = c.requires.short in
-    omega (arith, behind, short, c.bytes_before-before-in-Expand.ensures)
+pub calculate-requires-in-Expand-clause-behind : goal.calculate-requires-in-Expand-clause-behind
+calculate-requires-in-Expand-clause-behind g c = expression_within (subst (λ (k : Command). IsCommandLine c.args.line.now (asked_of k)) c.in-Expand.is c.requires.asked)
 
 pub returns-in-Expand : goal.returns-in-Expand
 returns-in-Expand g c =
@@ -146,8 +126,7 @@ returns-in-Expand g c =
     let told = c.calculate-in-Expand.ensures in
     let text = c.calculate-in-Expand.new.self.text.bytes in
     record {
-      answers = rw (c.in-Expand.is) (told_command g.R.Reducer.room g.R.Reducer.bits s (state_in c.calculate-in-Expand.new.self) before after c.args.line.now (expand c.in-Expand.expression.now) c.calculate-in-Expand.result text told.same
-          (subst (λ n. TellsAs (IsReplyToExpression s before after n c.in-Expand.expression.now (IsReplyToExpansion (free_of c.args.self.now.work.pool) before after)) c.calculate-in-Expand.result text) c.bytes_before-before-in-Expand.ensures told.told));
+      answers = rw (c.in-Expand.is) (told_command g.R.Reducer.room g.R.Reducer.bits s (state_in c.calculate-in-Expand.new.self) before after c.args.line.now (expand c.in-Expand.expression.now) c.calculate-in-Expand.result text told.same told.told);
       interrupted = told.interrupted;
       counted = rw (c.in-Expand.is) (counted_as (λ r. CountsRefusal r c.args.self.now.work.pool c.calculate-in-Expand.new.self.work.pool) (refusal_of_pool c.calculate-in-Expand.result) (λ lack k. k.is_known) (λ lack k. absurd k) told.counted);
       kept = told.kept;

@@ -14,7 +14,7 @@ pub solve_read-solved-requires-clause-entries : goal.solve_read-solved-requires-
 solve_read-solved-requires-clause-entries g c = held_entries c.args.self.now.table (forest c.args.self.now.work.pool) c.requires.kept.held
 
 pub returns-in-Err-clause-told : goal.returns-in-Err-clause-told
-returns-in-Err-clause-told g c = (c.in-Err.ensures.refused (state_in c.args.self.now) (states g.B.Breaker.state c.args.watch.now), c.requires.empty)
+returns-in-Err-clause-told g c = rw (← c.bytes_before-before.ensures) (c.in-Err.ensures.refused (state_in c.args.self.now) (states g.B.Breaker.state c.args.watch.now), c.requires.empty)
 
 pub returns-in-Err-clause-kept : goal.returns-in-Err-clause-kept
 returns-in-Err-clause-kept g c = record { ready = c.requires.kept.ready; held = c.requires.kept.held; room = c.requires.kept.room; served = c.requires.kept.served }
@@ -29,13 +29,13 @@ pub solve_read-solved-requires-clause-within : goal.solve_read-solved-requires-c
 solve_read-solved-requires-clause-within g c = subst (All (IsWithin c.args.text.now)) (sym c.as_slice.ensures.value) c.in-Ok.ensures.split.within
 
 pub solve_read-solved-requires-clause-reads : goal.solve_read-solved-requires-clause-reads
-solve_read-solved-requires-clause-reads g c = subst (λ (rs : List EquationRange). (es : List Equation) × AllZip ReadsEquation (map (pieces_at c.args.before c.args.text.now) rs) es) (sym c.as_slice.ensures.value) c.in-Ok.ensures.read
+solve_read-solved-requires-clause-reads g c = subst (λ (rs : List EquationRange). (es : List Equation) × AllZip ReadsEquation (map (pieces_at c.bytes_before-before.result c.args.text.now) rs) es) (sym c.as_slice.ensures.value) c.in-Ok.ensures.read
 
 pub returns-in-Err-solved-clause-told : goal.returns-in-Err-solved-clause-told
 returns-in-Err-solved-clause-told g c =
     let (es, reads) = c.in-Ok.ensures.read in
-    let there = subst (λ (rs : List EquationRange). AllZip ReadsEquation (map (pieces_at c.args.before c.args.text.now) rs) es) (sym c.as_slice.ensures.value) reads in
-    (read_reply c.args.self.now.work.pool c.args.self.now.table (states g.B.Breaker.state c.args.watch.now) (states g.B.Breaker.state c.solve_read-solved.new.watch) c.args.text.now c.args.before c.in-Ok.ranges.items c.in-Ok.ensures.split es _ reads (err_at _ c.solve_read-solved.result c.in-Err-solved.refusal c.in-Err-solved.is (c.solve_read-solved.ensures.refused es there)), c.requires.empty)
+    let there = subst (λ (rs : List EquationRange). AllZip ReadsEquation (map (pieces_at c.bytes_before-before.result c.args.text.now) rs) es) (sym c.as_slice.ensures.value) reads in
+    rw (← c.bytes_before-before.ensures) (read_reply c.args.self.now.work.pool c.args.self.now.table (states g.B.Breaker.state c.args.watch.now) (states g.B.Breaker.state c.solve_read-solved.new.watch) c.args.text.now c.bytes_before-before.result c.in-Ok.ranges.items c.in-Ok.ensures.split es _ reads (err_at _ c.solve_read-solved.result c.in-Err-solved.refusal c.in-Err-solved.is (c.solve_read-solved.ensures.refused es there)), c.requires.empty)
 
 pub returns-in-Err-solved-clause-counted : goal.returns-in-Err-solved-clause-counted
 returns-in-Err-solved-clause-counted g c = err_at _ c.solve_read-solved.result c.in-Err-solved.refusal c.in-Err-solved.is c.solve_read-solved.ensures.counted
@@ -54,42 +54,42 @@ write_solution-requires-clause-ready g c =
 pub write_solution-requires-clause-rises : goal.write_solution-requires-clause-rises
 write_solution-requires-clause-rises g c =
     let (es, reads) = c.in-Ok.ensures.read in
-    let there = subst (λ (rs : List EquationRange). AllZip ReadsEquation (map (pieces_at c.args.before c.args.text.now) rs) es) (sym c.as_slice.ensures.value) reads in
+    let there = subst (λ (rs : List EquationRange). AllZip ReadsEquation (map (pieces_at c.bytes_before-before.result c.args.text.now) rs) es) (sym c.as_slice.ensures.value) reads in
     let (left, built, become, h) = ok_at _ c.solve_read-solved.result c.in-Ok-solved.solved c.in-Ok-solved.is (c.solve_read-solved.ensures.solved es there) in
     subst Rises (sym (names_same c.in-Ok-solved.solved.names.items c.as_slice-2.result.now c.in_array-names.result c.len.result c.as_slice-2.ensures.value c.len.ensures.value c.in_array-names.ensures)) h.names.rising
 
 pub write_solution-requires-clause-forms : goal.write_solution-requires-clause-forms
 write_solution-requires-clause-forms g c =
     let (es, reads) = c.in-Ok.ensures.read in
-    let there = subst (λ (rs : List EquationRange). AllZip ReadsEquation (map (pieces_at c.args.before c.args.text.now) rs) es) (sym c.as_slice.ensures.value) reads in
+    let there = subst (λ (rs : List EquationRange). AllZip ReadsEquation (map (pieces_at c.bytes_before-before.result c.args.text.now) rs) es) (sym c.as_slice.ensures.value) reads in
     let (left, built, become, h) = ok_at _ c.solve_read-solved.result c.in-Ok-solved.solved c.in-Ok-solved.is (c.solve_read-solved.ensures.solved es there) in
     forms_told (names_listed c.in-Ok-solved.solved.names.items) built h.names h.linear (length (take c.len.result c.in_array-names.result)) c.in-Ok-solved.solved.solution (sym (length-map (take c.len.result c.in_array-names.result) name_of) ∙ ap length (names_same c.in-Ok-solved.solved.names.items c.as_slice-2.result.now c.in_array-names.result c.len.result c.as_slice-2.ensures.value c.len.ensures.value c.in_array-names.ensures)) h.calculated
 
 pub write_solution-requires-clause-multipliers : goal.write_solution-requires-clause-multipliers
 write_solution-requires-clause-multipliers g c =
     let (es, reads) = c.in-Ok.ensures.read in
-    let there = subst (λ (rs : List EquationRange). AllZip ReadsEquation (map (pieces_at c.args.before c.args.text.now) rs) es) (sym c.as_slice.ensures.value) reads in
+    let there = subst (λ (rs : List EquationRange). AllZip ReadsEquation (map (pieces_at c.bytes_before-before.result c.args.text.now) rs) es) (sym c.as_slice.ensures.value) reads in
     let (left, built, become, h) = ok_at _ c.solve_read-solved.result c.in-Ok-solved.solved c.in-Ok-solved.is (c.solve_read-solved.ensures.solved es there) in
-    multipliers_told (names_listed c.in-Ok-solved.solved.names.items) built h.names h.linear c.in-Ok-solved.solved.solution (omega (arith, become_many become, reads_many c.args.before c.args.text.now c.as_slice.result.now es there, c.as_slice.ensures.fits)) h.calculated
+    multipliers_told (names_listed c.in-Ok-solved.solved.names.items) built h.names h.linear c.in-Ok-solved.solved.solution (omega (arith, become_many become, reads_many c.bytes_before-before.result c.args.text.now c.as_slice.result.now es there, c.as_slice.ensures.fits)) h.calculated
 
 pub returns-in-Ok-write_solution-clause-told : goal.returns-in-Ok-write_solution-clause-told
 returns-in-Ok-write_solution-clause-told g c =
     let (es, reads) = c.in-Ok.ensures.read in
-    let there = subst (λ (rs : List EquationRange). AllZip ReadsEquation (map (pieces_at c.args.before c.args.text.now) rs) es) (sym c.as_slice.ensures.value) reads in
+    let there = subst (λ (rs : List EquationRange). AllZip ReadsEquation (map (pieces_at c.bytes_before-before.result c.args.text.now) rs) es) (sym c.as_slice.ensures.value) reads in
     let (left, built, become, h) = ok_at _ c.solve_read-solved.result c.in-Ok-solved.solved c.in-Ok-solved.is (c.solve_read-solved.ensures.solved es there) in
-    subst (λ w. IsReplyToEquations (state_in c.args.self.now) (states g.B.Breaker.state c.args.watch.now) (states g.B.Breaker.state c.solve_read-solved.new.watch) c.args.before c.args.text.now (report w))
+    rw (← c.bytes_before-before.ensures) (subst (λ w. IsReplyToEquations (state_in c.args.self.now) (states g.B.Breaker.state c.args.watch.now) (states g.B.Breaker.state c.solve_read-solved.new.watch) c.bytes_before-before.result c.args.text.now (report w))
     (sym (c.in-Ok-write_solution.ensures.told ∙ ap (λ (ys : List (List ℕ)). solution_text ys (answer_told c.in-Ok-solved.solved.solution)) (names_same c.in-Ok-solved.solved.names.items c.as_slice-2.result.now c.in_array-names.result c.len.result c.as_slice-2.ensures.value c.len.ensures.value c.in_array-names.ensures)))
-    (solved_reply c.args.self.now.work.pool c.args.self.now.table (states g.B.Breaker.state c.args.watch.now) (states g.B.Breaker.state c.solve_read-solved.new.watch) c.args.text.now c.args.before c.in-Ok.ranges.items c.in-Ok.ensures.split es built left c.in-Ok-solved.solved reads become h)
+    (solved_reply c.args.self.now.work.pool c.args.self.now.table (states g.B.Breaker.state c.args.watch.now) (states g.B.Breaker.state c.solve_read-solved.new.watch) c.args.text.now c.bytes_before-before.result c.in-Ok.ranges.items c.in-Ok.ensures.split es built left c.in-Ok-solved.solved reads become h))
 
 pub returns-in-Err-write_solution-clause-told : goal.returns-in-Err-write_solution-clause-told
 returns-in-Err-write_solution-clause-told g c =
     let (es, reads) = c.in-Ok.ensures.read in
-    let there = subst (λ (rs : List EquationRange). AllZip ReadsEquation (map (pieces_at c.args.before c.args.text.now) rs) es) (sym c.as_slice.ensures.value) reads in
+    let there = subst (λ (rs : List EquationRange). AllZip ReadsEquation (map (pieces_at c.bytes_before-before.result c.args.text.now) rs) es) (sym c.as_slice.ensures.value) reads in
     let (left, built, become, h) = ok_at _ c.solve_read-solved.result c.in-Ok-solved.solved c.in-Ok-solved.is (c.solve_read-solved.ensures.solved es there) in
     let (forms, told) = c.in-Err-write_solution.ensures.solved in
     let (short, room) = c.in-Err-write_solution.ensures.lacks in
     let few : free_of c.args.self.now.work.pool < form_room = omega (arith, room, ap used c.solve_read-solved.ensures.as_before, (on_ok_at _ c.solve_read-solved.result c.in-Ok-solved.solved c.in-Ok-solved.is c.solve_read-solved.ensures.counted_ok).size) in
-    (lacking_reply c.args.self.now.work.pool c.args.self.now.table (states g.B.Breaker.state c.args.watch.now) (states g.B.Breaker.state c.solve_read-solved.new.watch) c.args.text.now c.args.before c.in-Ok.ranges.items c.in-Ok.ensures.split es built left c.in-Ok-solved.solved reads become h forms c.in-Err-write_solution.full c.refused.result c.refused.ensures told short few, ap (λ (x : Content). x.bytes) c.clear.ensures)
+    rw (← c.bytes_before-before.ensures) (lacking_reply c.args.self.now.work.pool c.args.self.now.table (states g.B.Breaker.state c.args.watch.now) (states g.B.Breaker.state c.solve_read-solved.new.watch) c.args.text.now c.bytes_before-before.result c.in-Ok.ranges.items c.in-Ok.ensures.split es built left c.in-Ok-solved.solved reads become h forms c.in-Err-write_solution.full c.refused.result c.refused.ensures told short few, ap (λ (x : Content). x.bytes) c.clear.ensures)
 
 pub returns-in-Ok-write_solution-clause-kept : goal.returns-in-Ok-write_solution-clause-kept
 returns-in-Ok-write_solution-clause-kept g c =
