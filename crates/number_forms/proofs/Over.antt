@@ -51,5 +51,6 @@ pub odd_power : (h q a t : Tree) (n : ℕ) → n % 2 ≢ 0 → IsPowerOver (valu
 odd_power h q a t n e i j k = record {
   number = k.number;
   worth = power_odd (value a) (value h) (value q) (value t) n e i.worth j.worth k.worth;
-  parts = subst (λ m. SharesPowers (value a) m (value t)) (omega (arith, half_odd n e)) (shares_times (value a) (value q) (value a) (value t) (2 * (n / 2)) 1 (squared_power (value a) h q (n / 2) i j).parts (shares_once (value a)) k.parts);
+  parts = subst (λ m. SharesPowers (value a) m (value t)) (omega (arith, half_odd n e))
+      (shares_times (value a) (value q) (value a) (value t) (2 * (n / 2)) 1 (squared_power (value a) h q (n / 2) i j).parts (shares_once (value a)) k.parts);
 }

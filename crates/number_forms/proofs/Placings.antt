@@ -111,7 +111,8 @@ not_one : (n : ℕ) → n ≢ 1 → (n == 1) ≡ false
 not_one n h = grind arith
 
 pub rational_term : (t : Term) → t.radicand ≡ 1 → term_tree t ≡ num t.coefficient
-rational_term t e = ap (λ b. if b then num t.coefficient else if is_one_fraction t.coefficient then root (num (whole_fraction (pos t.radicand))) else mult (more (num t.coefficient) (more (root (num (whole_fraction (pos t.radicand)))) none))) (eq-eqb t.radicand 1 e)
+rational_term t e = ap (λ b. if b then num t.coefficient else if is_one_fraction t.coefficient then root (num (whole_fraction (pos t.radicand))) else mult
+    (more (num t.coefficient) (more (root (num (whole_fraction (pos t.radicand)))) none))) (eq-eqb t.radicand 1 e)
 
 pub root_term : (t : Term) → t.radicand ≢ 1 → t.coefficient ≡ one_fraction → term_tree t ≡ root (num (whole_fraction (pos t.radicand)))
 root_term t h e = grind (arith, not_one, one_test)

@@ -40,7 +40,8 @@ square_row_within t x w h l o is p ps k few (inr (inr m)) =
     let mixed : Surd = map (term_times (twice x)) w in
     let before : Surd = term_times x x ∷ value t in
     let sum : IsSum m.partial = m.with_square.sum in
-    let held : IsHeld (value m.partial ++ mixed) h l = held_so_far (value m.partial) before mixed h l (sum_proper m.partial sum) (sum_rises m.partial sum) (Same-append m.with_square.worth (Same-refl mixed)) (shares_append m.with_square.parts (λ d q. q)) (held_front (value t) (term_times x x) mixed h l k) in
+    let held : IsHeld (value m.partial ++ mixed) h l = held_so_far (value m.partial) before mixed h l (sum_proper m.partial sum) (sum_rises m.partial sum)
+    (Same-append m.with_square.worth (Same-refl mixed)) (shares_append m.with_square.parts (λ d q. q)) (held_front (value t) (term_times x x) mixed h l k) in
     row_within m.partial (twice x) w h l o sum (twice_proper x p) ps held few m.row
 
 square_within : (v : Surd) (h l : ℕ) (o : Overflow) → AreProper v → IsHeld (surd_times v v) h l → 2 * h + 4 * l ≤ 124 → SquareOverflows v o → ⊥
@@ -50,7 +51,9 @@ square_within v h l o p k few s =
     so_far s.partial (squares_before s.at v) (square_terms (terms_from s.at v)) h l (square_terms v) (squares_from s.at v) s.sum s.worth s.parts (square_held v h l k) in
     let next : IsHeld (value s.partial ++ (square_row s.factor rest ++ square_terms rest)) h l =
     subst (λ (u : Surd). IsHeld (value s.partial ++ square_terms u) h l) (from_next v s.at s.factor s.here) held in
-    let front : IsHeld (value s.partial ++ square_row s.factor rest) h l = held_left (value s.partial ++ square_row s.factor rest) (square_terms rest) h l (subst (λ (u : Surd). IsHeld u h l) (sym (append_assoc (value s.partial) (square_row s.factor rest) (square_terms rest))) next) in
+    let front : IsHeld (value s.partial ++ square_row s.factor rest) h l =
+    held_left (value s.partial ++ square_row s.factor rest) (square_terms rest) h l
+    (subst (λ (u : Surd). IsHeld u h l) (sym (append_assoc (value s.partial) (square_row s.factor rest) (square_terms rest))) next) in
     square_row_within s.partial s.factor rest h l o s.sum (proper_at v s.at s.factor p s.here) (proper_from (suc s.at) v p) front few s.row
 
 -- ---- powers
@@ -77,4 +80,5 @@ power_within v n h l o k few p = by p.product
 
     by : ProductOverflows (value p.first) (value p.second) o ⊎ ((p.first ≡ p.second) × SquareOverflows (value p.first) o) → ⊥
     by (inl q) = numbers_within p.first p.second o p.first_power.number p.second_power.number (record { high = high; low = low; held = held; few = few_bits }) q
-    by (inr (e, s)) = square_within (value p.first) high low o (value_proper p.first (number_words p.first p.first_power.number)) (subst (λ (t : Tree). IsHeld (surd_times (value p.first) (value t)) high low) (sym e) held) few_bits s
+    by (inr (e, s)) = square_within (value p.first) high low o (value_proper p.first (number_words p.first p.first_power.number))
+        (subst (λ (t : Tree). IsHeld (surd_times (value p.first) (value t)) high low) (sym e) held) few_bits s

@@ -136,7 +136,8 @@ rational_power_fits q n h l k few =
 
     over : magnitude_over k.denominator q ≤ k.denominator * 2 ^ h
     over =
-        moved_bound (magnitude_over k.denominator q) (magnitude_over k.scale q) k.denominator k.scale (2 ^ h) k.scaled.positive (magnitudes_cross k.denominator k.scale q qd (den_of q k.scale k.scaled))
+        moved_bound (magnitude_over k.denominator q) (magnitude_over k.scale q) k.denominator k.scale (2 ^ h) k.scaled.positive
+        (magnitudes_cross k.denominator k.scale q qd (den_of q k.scale k.scaled))
         (trans _ _ _ (rational_mass q k.scale) k.high)
 
 -- ---- refusals
@@ -160,7 +161,8 @@ pub sum_not_refused : (a b : Tree) (s : State) (r : Result ℕ NumberFault) → 
 sum_not_refused a b s r m n f k =
     let p = as_num a m in
     let q = as_num b n in
-    not_refused add_op p.0 q.0 s r (rational_sum_fits p.0 q.0 (subst (λ (t : Tree). HasFewBits (value (num p.0) ++ value t)) q.1 (subst (λ (t : Tree). HasFewBits (value t ++ value b)) p.1 k))) (f p.0 q.0 p.1 q.1)
+    not_refused add_op p.0 q.0 s r (rational_sum_fits p.0 q.0 (subst (λ (t : Tree). HasFewBits (value (num p.0) ++ value t)) q.1 (subst (λ (t : Tree). HasFewBits (value t ++ value b)) p.1 k)))
+    (f p.0 q.0 p.1 q.1)
 
 pub product_not_refused : (a b : Tree) (s : State) (r : Result ℕ NumberFault) → is_num a ≡ true → is_num b ≡ true
     → ((p q : Fraction) → a ≡ num p → b ≡ num q → AnswersRationals (calculated mul_op p q) s r)

@@ -96,7 +96,8 @@ sum_by_terms : (ts : Trees) → SumParts ts → AreAllTerms ts → is_number (ad
 unfolding is_number
 sum_by_terms ts s a =
     let l : 2 ≤ length (terms_of ts) = subst (λ (n : ℕ). 2 ≤ n) (sym (count_terms ts)) (two_of ts s.two) in
-    and_from (nat_le 2 (length (terms_of ts)) && are_terms ts) (rises (terms_of ts)) (and_from (nat_le 2 (length (terms_of ts))) (are_terms ts) (le-leb 2 (length (terms_of ts)) l) a.terms) (ap (λ (us : Trees). rises (terms_of us)) (sym a.number) ∙ s.rising)
+    and_from (nat_le 2 (length (terms_of ts)) && are_terms ts) (rises (terms_of ts)) (and_from (nat_le 2 (length (terms_of ts))) (are_terms ts) (le-leb 2 (length (terms_of ts)) l) a.terms)
+    (ap (λ (us : Trees). rises (terms_of us)) (sym a.number) ∙ s.rising)
 
 not_by_terms : (ts : Trees) → are_terms ts ≡ false → is_number (add ts) ≡ false
 unfolding is_number

@@ -42,7 +42,8 @@ ranked Greater a b x y f g r = record {
 pub rising_pair : (a b t : Tree) → AreRising a b → t ≡ add (more a (more b none)) → IsNumberOver (value a ++ value b) t
 rising_pair a b t h e =
     subst (λ (u : Tree). IsNumberOver (value a ++ value b) u) (sym e)
-    (subst (λ (v : Surd). IsNumberOver v (add (more a (more b none)))) (λ i. sym (term_value a h.first) i ++ sym (term_value b h.second) i) (sum_number (more a (more b none)) (omega arith) (h.first, (h.second, tt)) h.rises))
+    (subst (λ (v : Surd). IsNumberOver v (add (more a (more b none)))) (λ i. sym (term_value a h.first) i ++ sym (term_value b h.second) i)
+    (sum_number (more a (more b none)) (omega arith) (h.first, (h.second, tt)) h.rises))
 
 pub falling_pair : (a b t : Tree) → AreRising b a → t ≡ add (more b (more a none)) → IsNumberOver (value a ++ value b) t
 falling_pair a b t h e =

@@ -37,7 +37,6 @@ pub use Rattle.calc_room.specs.Needs.{inverse_need, power_need, product_need, su
 pub use Rattle.calc_room.specs.Spans.{IsSpanned, Spans, SpansTree}
 pub use Rattle.calc_terms.proofs.FractionFacts.{no_zero, one_is, whole_denominator, whole_numerator, zero_is, zero_test}
 pub use Rattle.calc_terms.proofs.Sizes.{num_least, num_most, payload_most}
-pub use Rattle.calc_terms.proofs.SmallFractions.{one_value}
 pub use Rattle.calc_terms.specs.Fits.{Operation, add_op, fraction_fits, fraction_power, mul_op, operation_fits, pow_op, result_of, sum_fits}
 pub use Rattle.calc_terms.specs.FractionLaws.{one_times, plus_negative, times_comm, times_plus, zero_plus, zero_times}
 pub use Rattle.calc_terms.specs.Fractions.{Fraction, den_pos, fraction_path, inverse, is_one_fraction, is_zero_fraction, mul_pos, negative, plus, plus_assoc, plus_comm, times_lowest}
@@ -104,7 +103,6 @@ pub use Rattle.surd_bits.proofs.ProductsFit.{coefficients_fit, extracted_fits, r
 pub use Rattle.surd_bits.proofs.Steps.{extracted_den, joined_den}
 pub use Rattle.surd_bits.specs.Inverted.{IsNoLargerThanInverse}
 pub use Rattle.surd_terms.proofs.Misfits.{passed}
-pub use Rattle.surd_terms.proofs.Radicands.{clean_one}
 pub use Rattle.surd_terms.specs.Calculations.{Calculation, IsProductMisfit, calculation, calculation_of, first_misfit, has_rational, joining_calculations, radicand_calculations}
 pub use Rattle.surd_terms.specs.Inverses.{first_of_inverse, inverse_of, second_of_inverse}
 pub use Rattle.surd_terms.specs.Products.{IsExtracted}

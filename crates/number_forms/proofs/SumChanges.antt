@@ -84,7 +84,8 @@ made_one n t u x s j h l k f e w = record {
       let nth-whole = whole_nth d n (children_of t) l (subst (AreWholeOver d) (sum_value t h) whole) in
       let one : Parts d (j ∷ []) = f d (record { positive = p.positive; whole = (nth-whole, (p.whole.0, tt)) }) in
       w.parts d (record { positive = p.positive; whole = (one.whole.0, whole_left d n t u h e whole) });
-  worth = Same-trans w.worth (Same-trans (Same-eq (ap (λ (v : Tree). j ∷ value v) e)) (Same-trans (joined_rest n (children_of t) (j ∷ []) s l k) (Same-eq (ap (λ (v : Surd). s ∷ v) (sym (sum_value t h))))));
+  worth = Same-trans w.worth (Same-trans (Same-eq (ap (λ (v : Tree). j ∷ value v) e))
+      (Same-trans (joined_rest n (children_of t) (j ∷ []) s l k) (Same-eq (ap (λ (v : Surd). s ∷ v) (sym (sum_value t h))))));
 }
 
 -- ---- what meets a term

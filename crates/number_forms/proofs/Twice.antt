@@ -100,7 +100,8 @@ square_divides c n =
     let many : nat_abs ((c.num *ℤ c.num) *ℤ pos n) ≡ (a * a) * n = unsigned_abs-mul (c.num *ℤ c.num) (pos n) ∙ ap (λ k. k * n) (unsigned_abs-mul c.num c.num) in
     let cross : nat_abs q.num * ((d * d) * 1) ≡ nat_abs ((c.num *ℤ c.num) *ℤ pos n) * q.den = abs_cross ((c.num *ℤ c.num) *ℤ pos n) ((d * d) * 1) (omega (arith, p)) in
     let factor : nat_abs q.num * (d * d) ≡ (a * a) * (n * q.den) = regrouped (nat_abs q.num) (d * d) _ (a * a) n q.den cross many in
-    subst (λ (x : Fraction). a * a ∣ nat_abs x.num) (sym is) (gauss (d * d) (a * a) (nat_abs q.num) (squares_apart a d (coprime c)) (subst (λ k. a * a ∣ k) (sym factor) (dvd-mul_right (a * a) (n * q.den))))
+    subst (λ (x : Fraction). a * a ∣ nat_abs x.num) (sym is) (gauss (d * d) (a * a) (nat_abs q.num) (squares_apart a d (coprime c))
+    (subst (λ k. a * a ∣ k) (sym factor) (dvd-mul_right (a * a) (n * q.den))))
   where
     regrouped : (m e k b n f : ℕ) → m * (e * 1) ≡ k * f → k ≡ b * n → m * e ≡ b * (n * f)
     regrouped m e k b n f g h = omega (arith, g, ap (λ z. z * f) h)

@@ -62,7 +62,8 @@ sum_within v w o b s =
     let whole : v ++ w ≡ (v ++ before s.at w) ++ terms_from s.at w = ap (λ (x : Surd). v ++ x) (before_from s.at w) ∙ sym (append_assoc v (before s.at w) (terms_from s.at w)) in
     let k : IsHeld (value s.partial ++ terms_from s.at w) b.high b.low = so_far s.partial (v ++ before s.at w) (terms_from s.at w) b.high b.low (v ++ w) whole s.sum s.worth s.parts b.held in
     let next : IsHeld (value s.partial ++ (s.next ∷ terms_from (suc s.at) w)) b.high b.low = subst (λ (x : Surd). IsHeld (value s.partial ++ x) b.high b.low) (from_next w s.at s.next s.here) k in
-    no_misfit (term_of (nth s.joined.at (children_of s.partial))) s.next b.high b.low o (pair_held s.partial s.next (terms_from (suc s.at) w) s.joined.at b.high b.low s.sum s.joined.within next) b.few s.joined.misfit
+    no_misfit (term_of (nth s.joined.at (children_of s.partial))) s.next b.high b.low o
+    (pair_held s.partial s.next (terms_from (suc s.at) w) s.joined.at b.high b.low s.sum s.joined.within next) b.few s.joined.misfit
 
 -- ---- products
 
@@ -82,7 +83,8 @@ no_product_misfit a b h l c p q k few m =
   where
     by : (x : Bool) → first_misfit (if x then [] else calculation Mul (whole_fraction (pos (a.radicand / gcd a.radicand b.radicand))) (whole_fraction (pos (b.radicand / gcd a.radicand b.radicand))) ∷ []) ≡ None
     by true = refl
-    by false = passed (calculation Mul (whole_fraction (pos (a.radicand / gcd a.radicand b.radicand))) (whole_fraction (pos (b.radicand / gcd a.radicand b.radicand)))) [] (radicands_fit a b h l p.not_zero q.not_zero p.positive q.positive k few (gcd a.radicand b.radicand))
+    by false = passed (calculation Mul (whole_fraction (pos (a.radicand / gcd a.radicand b.radicand))) (whole_fraction (pos (b.radicand / gcd a.radicand b.radicand)))) []
+        (radicands_fit a b h l p.not_zero q.not_zero p.positive q.positive k few (gcd a.radicand b.radicand))
 
     radicands : first_misfit (radicand_calculations a b) ≡ None
     radicands = by (has_rational a b)
@@ -105,7 +107,8 @@ extracted_held a t u h l x k = record {
     magnitude = ap (magnitude_over k.scale) x.coefficient ∙ magnitude_whole u.coefficient k.scale x.root k.scaled.whole.1.0
 
     same : mass k.scale (a ∷ t ∷ []) ≡ mass k.scale (a ∷ u ∷ [])
-    same = ap (λ n. term_mass k.scale k.scale a + (max k.scale (root_above n) + 0)) (ap (λ n. n * n * t.radicand) magnitude ∙ square (magnitude_over k.scale u.coefficient) x.root t.radicand u.radicand x.square)
+    same = ap (λ n. term_mass k.scale k.scale a + (max k.scale (root_above n) + 0))
+        (ap (λ n. n * n * t.radicand) magnitude ∙ square (magnitude_over k.scale u.coefficient) x.root t.radicand u.radicand x.square)
 
 pub row_within : (p : Tree) (x : Term) (w : Surd) (h l : ℕ) (o : Overflow) → IsSum p → IsProper x → AreProper w → IsHeld (value p ++ map (term_times x) w) h l → 2 * h + 4 * l ≤ 124
     → RowOverflows (value p) x w o → ⊥
@@ -115,7 +118,8 @@ row_within p x w h l o is proper are k few r = elim r.cause [
       let here : map (term_times x) w ≡ map (term_times x) (before r.at w) ++ ((term_times x r.other ∷ []) ++ map (term_times x) (terms_from (suc r.at) w)) =
       ap (map (term_times x)) (at_place r.at w r.other r.here) ∙ map-append' (term_times x) (before r.at w) (r.other ∷ terms_from (suc r.at) w) in
       let end = held_right (map (term_times x) (before r.at w)) ((term_times x r.other ∷ []) ++ map (term_times x) (terms_from (suc r.at) w)) h l (subst (λ (v : Surd). IsHeld v h l) here row) in
-      no_product_misfit x r.other h l (calculation_of o) proper (proper_at w r.at r.other are r.here) (held_left (term_times x r.other ∷ []) (map (term_times x) (terms_from (suc r.at) w)) h l end) few m
+      no_product_misfit x r.other h l (calculation_of o) proper (proper_at w r.at r.other are r.here)
+      (held_left (term_times x r.other ∷ []) (map (term_times x) (terms_from (suc r.at) w)) h l end) few m
   | inr j ↦
       let left : Surd = map (term_times x) (terms_from r.at w) in
       let done : Surd = map (term_times x) (before r.at w) in

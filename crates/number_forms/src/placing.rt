@@ -56,7 +56,7 @@ pub fn place_term(pool: &mut Pool, term: Term) -> Result<Handle, Full>
 pub(crate) fn has_room(pool: &Pool, terms: &[Term]) -> bool
     requires stands { Stands pool.now }
     requires few { length terms.now ≤ 8 }
-    ensures { IsTrue result → 40 + 96 * length terms.now ≤ free_of pool.now }
+    ensures { IsTrue result ↔ (40 + 96 * length terms.now ≤ free_of pool.now) }
 {
     NUMBER_BYTES + TERM_BYTES * terms.len() as u32 <= pool.free()
 }

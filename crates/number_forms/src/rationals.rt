@@ -42,6 +42,7 @@ pub(crate) fn keep_other(pool: &mut Pool, gone: Handle, kept: &Handle)
 }
 
 /// The rational that a tree is, which is consumed.
+#[tactic(auto, using(tree_handles::proofs::Seen::expression, tree_handles::proofs::Seen::seen))]
 pub(crate) fn take_rational(pool: &mut Pool, a: Handle) -> Rat
     requires stands { Stands pool.old }
     requires handed { IsHanded a (forest pool.old) }

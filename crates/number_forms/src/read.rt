@@ -53,6 +53,7 @@ pub fn whole(pool: &Pool, id: Id) -> Option<i128>
 }
 
 /// The whole number that a rational is, if it is one.
+#[tactic(auto, using(crate::proofs::CodeTests::test_fails, rational128::proofs::LowestTerms::ratio_parts))]
 pub(crate) fn whole_of(q: Rat) -> Option<i128>
     ensures value { MatchOption result ((value_of q).den == 1 ≡ false) (λ n. value_of q ≡ whole_fraction n) }
     ensures fits { IfSome result (λ n. nat_abs n < 2 ^ 127) }
@@ -92,6 +93,7 @@ pub fn classes(pool: &Pool, id: Id) -> u32
 }
 
 /// The number of terms of a Number, which is that of its classes.
+#[tactic(auto, using(crate::proofs::ByKind::sum_classes))]
 pub(crate) fn term_count(pool: &Pool, id: Id) -> u16
     requires stands { Stands pool.now }
     requires expression { IsExpression id (forest pool.now) }
@@ -107,6 +109,7 @@ pub(crate) fn term_count(pool: &Pool, id: Id) -> u16
 
 /// Whether a reduced tree is a Number, by its shape: its last term tells it of a sum.
 #[inline(always)]
+#[tactic(auto, using(crate::proofs::ReducedNumbers::reduced_other))]
 pub fn is_reduced_number(pool: &Pool, id: Id) -> bool
     requires stands { Stands pool.now }
     requires expression { IsExpression id (forest pool.now) }

@@ -23,6 +23,7 @@ use tree_handles::{child_id, child_ids, children, kind};
 
 /// Whether an expression is a Number: a rational, a rational multiple of a root whose radicand is clean, or a
 /// sum of two terms or more whose radicands rise, no two alike. Of a sum of n terms each two are compared.
+#[tactic(auto, using(crate::proofs::ByKind::add_by_kind, crate::proofs::Recognized::rational_by_kind))]
 pub fn is_number(pool: &Pool, id: Id) -> bool
     requires stands { Stands pool.now }
     requires expression { IsExpression id (forest pool.now) }
@@ -36,6 +37,7 @@ pub fn is_number(pool: &Pool, id: Id) -> bool
 }
 
 /// Whether a sum is a Number.
+#[tactic(auto, using(crate::proofs::Recognized::other_sum))]
 fn is_number_sum(pool: &Pool, id: Id) -> bool
     requires stands { Stands pool.now }
     requires expression { IsExpression id (forest pool.now) }
@@ -66,6 +68,7 @@ fn are_terms(pool: &Pool, id: Id) -> bool
 }
 
 /// Whether a tree is a term other than 0.
+#[tactic(auto, using(crate::proofs::ReducedNumbers::unshaped_term))]
 fn is_term(pool: &Pool, id: Id) -> bool
     requires stands { Stands pool.now }
     requires expression { IsExpression id (forest pool.now) }
@@ -80,6 +83,7 @@ fn is_term(pool: &Pool, id: Id) -> bool
 }
 
 /// Whether a rational times the root of another makes a term other than 0 and other than a root.
+#[tactic(auto, using(crate::proofs::Recognized::zero_multiple, crate::proofs::Recognized::one_multiple, crate::proofs::Recognized::other_multiple))]
 fn is_multiple(q: Rat, radicand: Rat) -> bool
     ensures { result ≡ (not (is_zero_fraction (value_of q)) && not (is_one_fraction (value_of q)) && is_radicand (value_of radicand)) }
 {
@@ -138,6 +142,7 @@ fn is_below_rest(pool: &Pool, term: Term, id: Id, from: u16) -> bool
 }
 
 /// The term at a place below a root.
+#[tactic(auto, using(crate::proofs::ByKind::children_number, crate::proofs::Rising::nth_term))]
 fn child_term(pool: &Pool, id: Id, at: u16) -> Term
     requires stands { Stands pool.now }
     requires expression { IsExpression id (forest pool.now) }

@@ -1,4 +1,6 @@
 //! What the readers tell of a tree, by its handle.
+#![tactic(auto, using(tree_handles::proofs::Seen::seen))]
+
 ghost use Rattle.std.specs.Prelude.{◌≡◌, ◌<◌, true, Some, slice_get};
 ghost use Rattle.calc_algebra.specs.Numbers.{is_number, classes, value};
 ghost use Rattle.calc_algebra.specs.Reduced.{is_num_one};

@@ -51,6 +51,7 @@ pub(crate) fn listed_term<const N: usize>(
 }
 
 /// The term that a tree is: a rational has radicand 1.
+#[tactic(auto, using(calc_algebra::proofs::NumberClasses::one_not_zero, calc_terms::proofs::SmallFractions::one_value))]
 pub(crate) fn term_at(pool: &Pool, id: Id) -> Term
     requires stands { Stands pool.now }
     requires expression { IsExpression id (forest pool.now) }

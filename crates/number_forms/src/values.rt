@@ -1,5 +1,5 @@
 //! Numbers of a few terms, as values.
-ghost use Rattle.std.specs.Prelude.{◌≡◌, ◌<◌, ◌^◌, ◌∷◌, ◌++◌, [], IsTrue, length, map, slice_index_or, true};
+ghost use Rattle.std.specs.Prelude.{◌≡◌, ◌<◌, ◌^◌, ◌∷◌, ◌++◌, [], IsTrue, false, length, map, slice_index_or, true};
 ghost use Rattle.arrayvec.specs.ArrayVec.{array_vec_len};
 ghost use Rattle.calc_algebra.specs.Numbers.{is_number, value};
 ghost use Rattle.calc_algebra.specs.Surds.{surd_times, term_times};
@@ -178,7 +178,8 @@ fn insert(list: &mut TermList, at: usize, term: Term) -> bool
     requires small { (term_of term).radicand < 10 ^ 12 }
     requires place { IsPlace at (term_of term).radicand (trees_of list.old.items) }
     requires other { at < array_vec_len list.old → (slice_index_or list.old.items at term).radicand ≡ term.radicand → ⊥ }
-    ensures { IsTrue result → AreTermsOf (term_of term ∷ surd_of list.old.items) list.new.items }
+    ensures ok { IsTrue result → AreTermsOf (term_of term ∷ surd_of list.old.items) list.new.items }
+    ensures full { result ≡ false → array_vec_len list.old ≡ 8 }
 {
     if list.is_full() {
         return false;

@@ -21,11 +21,13 @@ returns-in_err-join_terms-clause-room g c = λ gs s t.
     let b = tree_of c.args.b c.args.pool.now in
     let beside = handed_beside c.args.a c.requires.apart c.requires.second in
     let sum = c.in_ok-sum.ensures.ok in
-    let same : tree_of c.id-2.result c.sum_over.new.pool ≡ b = ap (λ (i : ℕ). tree_of i c.sum_over.new.pool) c.id-2.ensures ∙ other_plain c.args.b sum beside.root ∙ ap plain (tree-without c.args.a c.args.b (forest c.args.pool.now) c.requires.apart) in
+    let same : tree_of c.id-2.result c.sum_over.new.pool ≡ b = ap (λ (i : ℕ). tree_of i c.sum_over.new.pool) c.id-2.ensures ∙ other_plain c.args.b sum beside.root
+    ∙ ap plain (tree-without c.args.a c.args.b (forest c.args.pool.now) c.requires.apart) in
     let free = replaced_free c.requires.stands c.in_ok-sum.ensures.stands c.in_ok-sum.ensures.kept c.requires.first sum in
     let first = sum_spans_same gs a _ c.requires.first_number (given_told sum) s in
     let second = subst (λ (v : Surd). Spans gs v) (sym (ap value same)) (number_spans gs b c.requires.second_number t) in
-    passed_on c.from_residual-in_err-join_terms.result c.in_err-join_terms.field-0.0 (LacksRoom sum_need (free_of c.args.pool.now + size a + size b) gs) c.from_residual-in_err-join_terms.ensures.0 c.from_residual-in_err-join_terms.ensures.1
+    passed_on c.from_residual-in_err-join_terms.result c.in_err-join_terms.field-0.0
+    (LacksRoom sum_need (free_of c.args.pool.now + size a + size b) gs) c.from_residual-in_err-join_terms.ensures.0 c.from_residual-in_err-join_terms.ensures.1
     (full_as c.in_err-join_terms.field-0.0 (c.in_err-join_terms.ensures.room gs first second)
     (λ full few. sum_lacks gs _ b c.requires.second_number t (subst (λ (n : ℕ). n < joining_need * 2 ^ length gs) free few)))
 
@@ -38,7 +40,8 @@ returns-in_err-number_of-clause-room g c = λ gs s t.
     let all = gives_as left (ap (without_root c.args.b) (given_rest sum)) (λ t h. h) in
     let kept = kept_after c.in_ok-sum.ensures.kept (kept_after c.in_ok-join_terms.ensures.kept c.release.ensures.kept) in
     let free = both_replaced_free c.requires.stands c.release.ensures.stands kept c.requires.apart c.requires.first c.requires.second all in
-    passed_on c.from_residual-in_err-number_of.result (fault.Full c.in_err-number_of.field-0.0) (LacksRoom sum_need (free_of c.args.pool.now + size (tree_of c.args.a c.args.pool.now) + size (tree_of c.args.b c.args.pool.now)) gs) c.from_residual-in_err-number_of.ensures.0 c.from_residual-in_err-number_of.ensures.1
+    passed_on c.from_residual-in_err-number_of.result (fault.Full c.in_err-number_of.field-0.0)
+    (LacksRoom sum_need (free_of c.args.pool.now + size (tree_of c.args.a c.args.pool.now) + size (tree_of c.args.b c.args.pool.now)) gs) c.from_residual-in_err-number_of.ensures.0 c.from_residual-in_err-number_of.ensures.1
     (few_for_sum gs _ (subst (λ (n : ℕ). n < 40) free c.in_err-number_of.ensures.room))
 
 pub join_terms-requires : goal.join_terms-requires
@@ -49,7 +52,8 @@ returns-in_err-join_terms-clause-front g c =
     front_after_one (behind_new c.in_ok-sum.ensures.ok.ends (front_without behind_first front_same)) (front_after_one behind_first front_same c.sum_over.ensures.front) c.join_terms.ensures.front
 
 pub release-requires-clause-releasable : goal.release-requires-clause-releasable
-release-requires-clause-releasable g c = inl (given_other c.in_ok-join_terms.ensures.ok (handed_at (handed_beside c.args.a c.requires.apart c.requires.second) (given_rest c.in_ok-sum.ensures.ok))).root
+release-requires-clause-releasable g c =
+    inl (given_other c.in_ok-join_terms.ensures.ok (handed_at (handed_beside c.args.a c.requires.apart c.requires.second) (given_rest c.in_ok-sum.ensures.ok))).root
 
 pub number_of-requires-clause-sum : goal.number_of-requires-clause-sum
 number_of-requires-clause-sum g c =
@@ -78,7 +82,8 @@ returns-clause-ok g c =
     let b = handed_at beside (given_rest sum) in
     let joined = c.in_ok-join_terms.ensures.ok in
     let left = gives_without c.args.b joined b.root (c.release.ensures.owned (owned (given_other joined b))) in
-    let same : tree_of c.id-2.result c.sum_over.new.pool ≡ tree_of c.args.b c.args.pool.now = ap (λ (i : ℕ). tree_of i c.sum_over.new.pool) c.id-2.ensures ∙ other_plain c.args.b sum beside.root ∙ ap plain (tree-without c.args.a c.args.b (forest c.args.pool.now) c.requires.apart) in
+    let same : tree_of c.id-2.result c.sum_over.new.pool ≡ tree_of c.args.b c.args.pool.now =
+    ap (λ (i : ℕ). tree_of i c.sum_over.new.pool) c.id-2.ensures ∙ other_plain c.args.b sum beside.root ∙ ap plain (tree-without c.args.a c.args.b (forest c.args.pool.now) c.requires.apart) in
     let worth = Same-trans (given_told left).worth (Same-append (given_told sum).worth (Same-eq (ap value same))) in
     gives_as c.in_ok-number_of.ensures.ok (given_rest left ∙ ap (without_root c.args.b) (given_rest sum))
     (λ t h. over_as h worth (λ d p. (given_told left).parts d (shares_append (given_told sum).parts (shares_eq (sym (ap value same))) d p)))
@@ -87,8 +92,10 @@ pub returns-in_err-join_terms-clause-overflow : goal.returns-in_err-join_terms-c
 returns-in_err-join_terms-clause-overflow g c =
     let beside = handed_beside c.args.a c.requires.apart c.requires.second in
     let sum = c.in_ok-sum.ensures.ok in
-    let same : tree_of c.id-2.result c.sum_over.new.pool ≡ tree_of c.args.b c.args.pool.now = ap (λ (i : ℕ). tree_of i c.sum_over.new.pool) c.id-2.ensures ∙ other_plain c.args.b sum beside.root ∙ ap plain (tree-without c.args.a c.args.b (forest c.args.pool.now) c.requires.apart) in
-    passed_on c.from_residual-in_err-join_terms.result c.in_err-join_terms.field-0.0 (OfOverflow (SumOverflows (value (tree_of c.args.a c.args.pool.now)) (value (tree_of c.args.b c.args.pool.now)))) c.from_residual-in_err-join_terms.ensures.0 c.from_residual-in_err-join_terms.ensures.1
+    let same : tree_of c.id-2.result c.sum_over.new.pool ≡ tree_of c.args.b c.args.pool.now =
+    ap (λ (i : ℕ). tree_of i c.sum_over.new.pool) c.id-2.ensures ∙ other_plain c.args.b sum beside.root ∙ ap plain (tree-without c.args.a c.args.b (forest c.args.pool.now) c.requires.apart) in
+    passed_on c.from_residual-in_err-join_terms.result c.in_err-join_terms.field-0.0
+    (OfOverflow (SumOverflows (value (tree_of c.args.a c.args.pool.now)) (value (tree_of c.args.b c.args.pool.now)))) c.from_residual-in_err-join_terms.ensures.0 c.from_residual-in_err-join_terms.ensures.1
     (overflow_as c.in_err-join_terms.field-0.0 c.in_err-join_terms.ensures.overflow (λ o s. sum_overflows_as _ _ _ _ o (given_told sum).worth (given_told sum).parts (ap value same) s))
 
 pub of-list-requires : goal.of-list-requires

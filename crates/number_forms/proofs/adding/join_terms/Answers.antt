@@ -10,7 +10,8 @@ pub returns-in_err-join_term-clause-room : goal.returns-in_err-join_term-clause-
 returns-in_err-join_term-clause-room g c = λ gs s t.
     passed_on c.from_residual.result c.in_err-join_term.field-0.0 (LacksRoom joining_need (free_of c.args.pool.now + size (tree_of c.args.sum.now c.args.pool.now)) gs) c.from_residual.ensures.0 c.from_residual.ensures.1
     (full_as c.in_err-join_term.field-0.0 c.in_err-join_term.ensures.room
-    (λ full few. term_lacks gs c.loop-at.invariant.joined c.requires.stands (given_handed c.requires.sum) (spans_append gs _ _ s t) (spans_from gs (value (tree_of c.args.number c.args.pool.now)) c.loop-at.at t) few))
+    (λ full few. term_lacks gs c.loop-at.invariant.joined c.requires.stands (given_handed c.requires.sum) (spans_append gs _ _ s t)
+    (spans_from gs (value (tree_of c.args.number c.args.pool.now)) c.loop-at.at t) few))
 
 pub term_count-at-end-requires-clause-expression : goal.term_count-at-end-requires-clause-expression
 term_count-at-end-requires-clause-expression g c = other_expression c.args.number c.args.pool.now c.requires.stands c.requires.sum c.requires.handed
@@ -30,9 +31,11 @@ join_term-requires g c = (search rules, (c.loop-at.invariant.joined.stands, (giv
 pub loop-at-preserved : goal.loop-at-preserved
 loop-at-preserved g c =
     let number : Tree = tree_of c.args.number c.args.pool.now in
-    let same = other_read c.args.number c.loop-at.pool c.loop-at.invariant.joined.stands c.loop-at.invariant.joined.gives c.requires.handed ∙ sym (other_plain c.args.number c.requires.sum c.requires.handed.root) in
+    let same = other_read c.args.number c.loop-at.pool c.loop-at.invariant.joined.stands c.loop-at.invariant.joined.gives c.requires.handed
+    ∙ sym (other_plain c.args.number c.requires.sum c.requires.handed.root) in
     let here : slice_get (value number) c.loop-at.at ≡ Some (term_of c.listed_term-term.result) = ap (λ (t : Tree). slice_get (value t) c.loop-at.at) (sym same) ∙ c.listed_term-term.ensures in
-    let next = from_next (value number) c.loop-at.at (term_of c.listed_term-term.result) here ∙ ap (λ (n : ℕ). term_of c.listed_term-term.result ∷ terms_from n (value number)) (sym (add-one c.loop-at.at)) in
+    let next = from_next (value number) c.loop-at.at (term_of c.listed_term-term.result) here
+    ∙ ap (λ (n : ℕ). term_of c.listed_term-term.result ∷ terms_from n (value number)) (sym (add-one c.loop-at.at)) in
     record { joined = joined_more c.args.sum.now _ _ _ _ (term_of c.listed_term-term.result) c.args.pool.now c.loop-at.pool c.join_term.new.pool c.loop-at.invariant.joined next (Same-refl _) (λ d p. p) c.in_ok-join_term.ensures.ok c.join_term.ensures.front c.in_ok-join_term.ensures.kept c.join_term.ensures.stands; lists = c.in_ok-join_term.ensures.lists }
 
 pub returns-clause-ok : goal.returns-clause-ok
@@ -44,7 +47,8 @@ returns-clause-ok g c =
 pub returns-in_err-join_term-clause-overflow : goal.returns-in_err-join_term-clause-overflow
 returns-in_err-join_term-clause-overflow g c =
     let number : Tree = tree_of c.args.number c.args.pool.now in
-    let same = other_read c.args.number c.loop-at.pool c.loop-at.invariant.joined.stands c.loop-at.invariant.joined.gives c.requires.handed ∙ sym (other_plain c.args.number c.requires.sum c.requires.handed.root) in
+    let same = other_read c.args.number c.loop-at.pool c.loop-at.invariant.joined.stands c.loop-at.invariant.joined.gives c.requires.handed
+    ∙ sym (other_plain c.args.number c.requires.sum c.requires.handed.root) in
     let here : slice_get (value number) c.loop-at.at ≡ Some (term_of c.listed_term-term.result) = ap (λ (t : Tree). slice_get (value t) c.loop-at.at) (sym same) ∙ c.listed_term-term.ensures in
     let told = given_told c.loop-at.invariant.joined.gives in
     passed_on c.from_residual.result c.in_err-join_term.field-0.0 (OfOverflow (SumOverflows (value (tree_of c.args.sum.now c.args.pool.now)) (value number))) c.from_residual.ensures.0 c.from_residual.ensures.1

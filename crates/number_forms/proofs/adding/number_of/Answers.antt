@@ -21,7 +21,8 @@ children-terms-requires-clause-live c = (expression c.id.ensures c.requires.stan
 
 -- how many terms there are
 terms : (c : After-children-terms) → c.children-terms.result ≡ count (children_of (tree_of c.args.sum c.args.pool.now))
-terms c = c.children-terms.ensures.plain (expression c.id.ensures c.requires.stands (given_handed c.requires.sum)) ∙ ap (λ (t : Tree). count (children_of t)) (seen c.id.ensures c.requires.stands (given_handed c.requires.sum))
+terms c = c.children-terms.ensures.plain (expression c.id.ensures c.requires.stands (given_handed c.requires.sum))
+    ∙ ap (λ (t : Tree). count (children_of t)) (seen c.id.ensures c.requires.stands (given_handed c.requires.sum))
 
 pub release-requires-clause-releasable : goal.release-requires-clause-releasable
 release-requires-clause-releasable c = inl (given_root c.requires.sum)

@@ -1,10 +1,6 @@
-use Rattle.number_forms.proofs.Shared.{ap, ◌∙◌, is_num, tree_of}
-use Rattle.number_forms.proofs.Kept.{no_neutral}
+use Rattle.number_forms.proofs.Shared.{ap, ◌∙◌, is_num}
 use Rattle.number_forms.proofs.calculating.calculate.Goals.{else-is_rational-via-then-is_rational+else-is_rational-2, else-is_rational-via-else-is_rational}
 use Rattle.number_forms.proofs.calculating.calculate.Goals as goal
-
-pub returns-then-is_rational-2-clause-room : goal.returns-then-is_rational-2-clause-room
-returns-then-is_rational-2-clause-room c = λ gs s t. c.calculate_rationals.ensures.room gs
 
 pub returns-else-is_rational-clause-rationals : goal.returns-else-is_rational-clause-rationals
 returns-else-is_rational-clause-rationals c = λ p q k l.
@@ -16,9 +12,3 @@ returns-else-is_rational-clause-rationals c = λ p q k l.
     ])
 
 -- ---- a tree that stays as it is
-
-pub returns-else-is_rational-clause-first_neutral : goal.returns-else-is_rational-clause-first_neutral
-returns-else-is_rational-clause-first_neutral c = λ neutral other. c.calculate_terms.ensures.first_neutral neutral
-
-pub returns-else-is_rational-clause-second_neutral : goal.returns-else-is_rational-clause-second_neutral
-returns-else-is_rational-clause-second_neutral c = λ neutral other. c.calculate_terms.ensures.second_neutral (no_neutral c.args.joint (tree_of c.args.a c.args.pool.now) other) neutral

@@ -36,7 +36,7 @@ returns-in_err-place_terms-clause-room c = λ gs s t.
     let kept = kept_after c.release.ensures.kept c.release-then-has_room.ensures.kept in
     let both_gone = gone (goal.at.returns-in_err-place_terms-clause-room c).After-release-then-has_room in
     let free = both_released_free c.requires.stands c.release-then-has_room.ensures.stands kept c.requires.apart c.requires.first c.requires.second both_gone in
-    let enough : 40 + 96 * length c.as_slice.result.now ≤ free_of c.args.pool.now = c.has_room.ensures (search rules) in
+    let enough : 40 + 96 * length c.as_slice.result.now ≤ free_of c.args.pool.now = c.has_room.ensures.0 (search rules) in
     let same : c.as_slice.result.now ≡ c.as_slice-then-has_room.result.now = c.as_slice.ensures.value ∙ sym c.as_slice-then-has_room.ensures.value in
     passed_on c.from_residual.result (fault.Full c.in_err-place_terms.field-0.0) (LacksJointRoom c.args.joint c.args.a c.args.b c.args.pool.now gs) c.from_residual.ensures.0 c.from_residual.ensures.1
     (absurd (omega (arith, free, enough, ap (λ (ts : List Term). length ts) same, c.in_err-place_terms.ensures.room)))

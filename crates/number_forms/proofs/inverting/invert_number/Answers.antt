@@ -19,7 +19,8 @@ returns-in_ok-invert_one-clause-spanned c = λ gs s.
 
 pub returns-in_err-invert_two-clause-room : goal.returns-in_err-invert_two-clause-room
 returns-in_err-invert_two-clause-room c = λ gs.
-    passed_on c.from_residual-in_err-invert_two.result c.in_err-invert_two.field-0.0 (LacksRoom inverse_need (free_of c.args.pool.now + size (tree_of c.args.a c.args.pool.now)) gs) c.from_residual-in_err-invert_two.ensures.0 c.from_residual-in_err-invert_two.ensures.1
+    passed_on c.from_residual-in_err-invert_two.result c.in_err-invert_two.field-0.0
+    (LacksRoom inverse_need (free_of c.args.pool.now + size (tree_of c.args.a c.args.pool.now)) gs) c.from_residual-in_err-invert_two.ensures.0 c.from_residual-in_err-invert_two.ensures.1
     (full_as c.in_err-invert_two.field-0.0 c.in_err-invert_two.ensures.first_lack (λ full l. inverse_lacks gs _ _ full l))
 
 pub returns-in_ok-invert_two-clause-spanned : goal.returns-in_ok-invert_two-clause-spanned

@@ -24,7 +24,8 @@ returns-clause-ok c =
 pub returns-in_err-inverse-clause-overflow : goal.returns-in_err-inverse-clause-overflow
 returns-in_err-inverse-clause-overflow c =
     let x = term_of c.nth_term.result in
-    passed_on c.from_residual.result (fault.Overflow c.in_err-inverse.field-0.0) (OfOverflow (InverseOverflows (value (tree_of c.args.a c.args.pool.now)))) c.from_residual.ensures.0 c.from_residual.ensures.1
+    passed_on c.from_residual.result (fault.Overflow c.in_err-inverse.field-0.0)
+    (OfOverflow (InverseOverflows (value (tree_of c.args.a c.args.pool.now)))) c.from_residual.ensures.0 c.from_residual.ensures.1
     (c.in_err-inverse.ensures.overflow ∙ ap (λ v. first_misfit (inverting_calculations v)) (sym (only_term (value (tree_of c.args.a c.args.pool.now)) x c.requires.classes c.nth_term.ensures)))
 
 only : (c : After-nth_term) → value (tree_of c.args.a c.args.pool.now) ≡ term_of c.nth_term.result ∷ []
@@ -56,7 +57,8 @@ returns-in_err-inverse-clause-exactly c =
 pub returns-in_err-inverse-clause-first_lack : goal.returns-in_err-inverse-clause-first_lack
 returns-in_err-inverse-clause-first_lack c =
     let v = value (tree_of c.args.a c.args.pool.now) in
-    passed_on c.from_residual.result (fault.Overflow c.in_err-inverse.field-0.0) (OfFull (LacksInverse v (free_of c.args.pool.now + size (tree_of c.args.a c.args.pool.now)))) c.from_residual.ensures.0 c.from_residual.ensures.1 tt
+    passed_on c.from_residual.result (fault.Overflow c.in_err-inverse.field-0.0)
+    (OfFull (LacksInverse v (free_of c.args.pool.now + size (tree_of c.args.a c.args.pool.now)))) c.from_residual.ensures.0 c.from_residual.ensures.1 tt
 
 pub returns-in_err-place_term-clause-exactly : goal.returns-in_err-place_term-clause-exactly
 returns-in_err-place_term-clause-exactly c =
@@ -73,8 +75,10 @@ returns-in_err-place_term-clause-first_lack c =
     let y = term_of c.in_ok-inverse.inverse in
     let free = released_free c.requires.stands c.release.ensures.stands c.release.ensures.kept c.requires.handed (c.release.ensures.owned (owned c.requires.handed)) in
     let one = (goal.at.returns-in_err-place_term-clause-first_lack c).After-nth_term in
-    passed_on c.from_residual-in_err-place_term.result (fault.Full c.in_err-place_term.field-0.0) (OfFull (LacksInverse v (free_of c.args.pool.now + size (tree_of c.args.a c.args.pool.now)))) c.from_residual-in_err-place_term.ensures.0 c.from_residual-in_err-place_term.ensures.1
-    (lacks_inverse v (term_tree y) (free_of c.release.new.pool) _ c.in_err-place_term.field-0.0 (fits_as v (term_of c.nth_term.result ∷ []) (only one) c.in_ok-inverse.ensures.overflow) (made one y c.in_ok-inverse.ensures.value) free c.in_err-place_term.ensures.first_lack)
+    passed_on c.from_residual-in_err-place_term.result (fault.Full c.in_err-place_term.field-0.0)
+    (OfFull (LacksInverse v (free_of c.args.pool.now + size (tree_of c.args.a c.args.pool.now)))) c.from_residual-in_err-place_term.ensures.0 c.from_residual-in_err-place_term.ensures.1
+    (lacks_inverse v (term_tree y) (free_of c.release.new.pool) _ c.in_err-place_term.field-0.0 (fits_as v (term_of c.nth_term.result ∷ []) (only one) c.in_ok-inverse.ensures.overflow)
+    (made one y c.in_ok-inverse.ensures.value) free c.in_err-place_term.ensures.first_lack)
 
 pub returns-clause-exactly : goal.returns-clause-exactly
 returns-clause-exactly c =
@@ -82,5 +86,8 @@ returns-clause-exactly c =
     let y = term_of c.in_ok-inverse.inverse in
     let free = released_free c.requires.stands c.release.ensures.stands c.release.ensures.kept c.requires.handed (c.release.ensures.owned (owned c.requires.handed)) in
     let one = (goal.at.returns-clause-exactly c).After-nth_term in
-    let least : size (term_tree y) ≤ free_of c.release.new.pool = c.in_ok-place_term.ensures.exactly.0 refl in
-    (λ _. has_inverse v (term_tree y) _ (fits_as v (term_of c.nth_term.result ∷ []) (only one) c.in_ok-inverse.ensures.overflow) (made one y c.in_ok-inverse.ensures.value) (omega (arith, free, least)), λ _. refl)
+    let least : size (term_tree y) ≤ free_of c.release.new.pool = c.in_ok-place_term.ensures.exactly.0 refl in (
+      λ _. has_inverse v (term_tree y) _ (fits_as v (term_of c.nth_term.result ∷ []) (only one) c.in_ok-inverse.ensures.overflow) (made one y c.in_ok-inverse.ensures.value)
+          (omega (arith, free, least)),
+      λ _. refl,
+    )

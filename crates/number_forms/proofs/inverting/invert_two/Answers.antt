@@ -21,16 +21,19 @@ made c p q e f = tree_of_two (value (tree_of c.args.a c.args.pool.now)) (term_of
 
 pub inverse_of_sum-requires : goal.inverse_of_sum-requires
 inverse_of_sum-requires c =
-    apart_terms (tree_of c.args.a c.args.pool.now) (term_of c.nth_term-first.result) (term_of c.nth_term-second.result) c.requires.number (both (goal.at.inverse_of_sum-requires c).After-nth_term-second)
+    apart_terms (tree_of c.args.a c.args.pool.now) (term_of c.nth_term-first.result) (term_of c.nth_term-second.result) c.requires.number
+    (both (goal.at.inverse_of_sum-requires c).After-nth_term-second)
 
 pub returns-in_err-inverse-clause-overflow : goal.returns-in_err-inverse-clause-overflow
 returns-in_err-inverse-clause-overflow c =
-    passed_on c.from_residual.result (fault.Overflow c.in_err-inverse.field-0.0) (OfOverflow (InverseOverflows (value (tree_of c.args.a c.args.pool.now)))) c.from_residual.ensures.0 c.from_residual.ensures.1
+    passed_on c.from_residual.result (fault.Overflow c.in_err-inverse.field-0.0)
+    (OfOverflow (InverseOverflows (value (tree_of c.args.a c.args.pool.now)))) c.from_residual.ensures.0 c.from_residual.ensures.1
     (c.in_err-inverse.ensures.overflow ∙ ap (λ v. first_misfit (inverting_calculations v)) (sym (both (goal.at.returns-in_err-inverse-clause-overflow c).After-nth_term-second)))
 
 pub place_sum-requires-clause-rises : goal.place_sum-requires-clause-rises
 place_sum-requires-clause-rises c =
-    two_rise (tree_of c.args.a c.args.pool.now) (term_of c.nth_term-first.result) (term_of c.nth_term-second.result) (term_of c.in_ok-inverse.inverse.0) (term_of c.in_ok-inverse.inverse.1) c.requires.number (both (goal.at.place_sum-requires-clause-rises c).After-nth_term-second)
+    two_rise (tree_of c.args.a c.args.pool.now) (term_of c.nth_term-first.result) (term_of c.nth_term-second.result) (term_of c.in_ok-inverse.inverse.0)
+    (term_of c.in_ok-inverse.inverse.1) c.requires.number (both (goal.at.place_sum-requires-clause-rises c).After-nth_term-second)
     (ap (λ (t : Term). t.radicand) c.in_ok-inverse.ensures.first) (ap (λ (t : Term). t.radicand) c.in_ok-inverse.ensures.second)
 
 pub returns-in_err-place_sum-clause-front : goal.returns-in_err-place_sum-clause-front
@@ -48,19 +51,22 @@ returns-clause-ok c =
     let q = term_of c.in_ok-inverse.inverse.1 in
     let two = (goal.at.returns-clause-ok c).After-nth_term-second in
     gives_as (given_tree c.in_ok-place_sum.ensures.ok c.in_ok-place_sum.ensures.tree) (c.release.ensures.owned (owned c.requires.handed))
-    (λ t n. inverse_number v (x ∷ y ∷ []) t (p ∷ q ∷ []) (both two) c.in_ok-inverse.ensures.inverts n.0 (made two p q c.in_ok-inverse.ensures.first c.in_ok-inverse.ensures.second ∙ ap (λ (u : Tree). more u none) (sym n.1)))
+    (λ t n. inverse_number v (x ∷ y ∷ []) t (p ∷ q ∷ []) (both two) c.in_ok-inverse.ensures.inverts n.0
+    (made two p q c.in_ok-inverse.ensures.first c.in_ok-inverse.ensures.second ∙ ap (λ (u : Tree). more u none) (sym n.1)))
 
 -- ---- where it fits, and its bytes suffice
 
 pub returns-in_err-inverse-clause-exactly : goal.returns-in_err-inverse-clause-exactly
 returns-in_err-inverse-clause-exactly c =
     refused c.from_residual.result _ c.from_residual.ensures.0
-    (unfit _ (term_of c.nth_term-first.result ∷ term_of c.nth_term-second.result ∷ []) (calculation_of c.in_err-inverse.field-0.0) _ (both (goal.at.returns-in_err-inverse-clause-exactly c).After-nth_term-second) c.in_err-inverse.ensures.overflow)
+    (unfit _ (term_of c.nth_term-first.result ∷ term_of c.nth_term-second.result ∷ []) (calculation_of c.in_err-inverse.field-0.0) _
+    (both (goal.at.returns-in_err-inverse-clause-exactly c).After-nth_term-second) c.in_err-inverse.ensures.overflow)
 
 pub returns-in_err-inverse-clause-first_lack : goal.returns-in_err-inverse-clause-first_lack
 returns-in_err-inverse-clause-first_lack c =
     let v = value (tree_of c.args.a c.args.pool.now) in
-    passed_on c.from_residual.result (fault.Overflow c.in_err-inverse.field-0.0) (OfFull (LacksInverse v (free_of c.args.pool.now + size (tree_of c.args.a c.args.pool.now)))) c.from_residual.ensures.0 c.from_residual.ensures.1 tt
+    passed_on c.from_residual.result (fault.Overflow c.in_err-inverse.field-0.0)
+    (OfFull (LacksInverse v (free_of c.args.pool.now + size (tree_of c.args.a c.args.pool.now)))) c.from_residual.ensures.0 c.from_residual.ensures.1 tt
 
 pub returns-in_err-place_sum-clause-exactly : goal.returns-in_err-place_sum-clause-exactly
 returns-in_err-place_sum-clause-exactly c =
@@ -77,8 +83,10 @@ returns-in_err-place_sum-clause-first_lack c =
     let t = sum_of_terms (term_of c.in_ok-inverse.inverse.0) (term_of c.in_ok-inverse.inverse.1) in
     let free = released_free c.requires.stands c.release.ensures.stands c.release.ensures.kept c.requires.handed (c.release.ensures.owned (owned c.requires.handed)) in
     let two = (goal.at.returns-in_err-place_sum-clause-first_lack c).After-nth_term-second in
-    passed_on c.from_residual-in_err-place_sum.result (fault.Full c.in_err-place_sum.field-0.0) (OfFull (LacksInverse v (free_of c.args.pool.now + size (tree_of c.args.a c.args.pool.now)))) c.from_residual-in_err-place_sum.ensures.0 c.from_residual-in_err-place_sum.ensures.1
-    (lacks_inverse v t (free_of c.release.new.pool) _ c.in_err-place_sum.field-0.0 (fits_as v (term_of c.nth_term-first.result ∷ term_of c.nth_term-second.result ∷ []) (both two) c.in_ok-inverse.ensures.overflow)
+    passed_on c.from_residual-in_err-place_sum.result (fault.Full c.in_err-place_sum.field-0.0)
+    (OfFull (LacksInverse v (free_of c.args.pool.now + size (tree_of c.args.a c.args.pool.now)))) c.from_residual-in_err-place_sum.ensures.0 c.from_residual-in_err-place_sum.ensures.1
+    (lacks_inverse v t (free_of c.release.new.pool) _ c.in_err-place_sum.field-0.0
+    (fits_as v (term_of c.nth_term-first.result ∷ term_of c.nth_term-second.result ∷ []) (both two) c.in_ok-inverse.ensures.overflow)
     (made two _ _ c.in_ok-inverse.ensures.first c.in_ok-inverse.ensures.second) free c.in_err-place_sum.ensures.first_lack)
 
 pub returns-clause-exactly : goal.returns-clause-exactly
@@ -87,5 +95,8 @@ returns-clause-exactly c =
     let t = sum_of_terms (term_of c.in_ok-inverse.inverse.0) (term_of c.in_ok-inverse.inverse.1) in
     let free = released_free c.requires.stands c.release.ensures.stands c.release.ensures.kept c.requires.handed (c.release.ensures.owned (owned c.requires.handed)) in
     let two = (goal.at.returns-clause-exactly c).After-nth_term-second in
-    let least : size t ≤ free_of c.release.new.pool = c.in_ok-place_sum.ensures.exactly.0 refl in
-    (λ _. has_inverse v t _ (fits_as v (term_of c.nth_term-first.result ∷ term_of c.nth_term-second.result ∷ []) (both two) c.in_ok-inverse.ensures.overflow) (made two _ _ c.in_ok-inverse.ensures.first c.in_ok-inverse.ensures.second) (omega (arith, free, least)), λ _. refl)
+    let least : size t ≤ free_of c.release.new.pool = c.in_ok-place_sum.ensures.exactly.0 refl in (
+      λ _. has_inverse v t _ (fits_as v (term_of c.nth_term-first.result ∷ term_of c.nth_term-second.result ∷ []) (both two) c.in_ok-inverse.ensures.overflow)
+          (made two _ _ c.in_ok-inverse.ensures.first c.in_ok-inverse.ensures.second) (omega (arith, free, least)),
+      λ _. refl,
+    )

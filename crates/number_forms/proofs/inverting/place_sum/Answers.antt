@@ -20,12 +20,14 @@ returns-clause-ok c =
     let second = c.in_ok-second.ensures.ok in
     let same = other_plain c.in_ok-first.first second (given_root first) in
     if_given _ _ _ _ _ c.node_over_two.result c.node_over_two.ensures.ok (pair_rest first second)
-    (λ t e. placed_two t u x (term_of c.args.a) (term_of c.args.b) (e ∙ (λ i. add (more (same i) (more x none)))) (given_told first).0 (given_told first).1 (given_told second).0 (given_told second).1 c.requires.rises)
+    (λ t e. placed_two t u x (term_of c.args.a) (term_of c.args.b) (e ∙ (λ i. add (more (same i) (more x none)))) (given_told first).0 (given_told first).1 (given_told second).0
+    (given_told second).1 c.requires.rises)
 
 pub returns-clause-front : goal.returns-clause-front
 returns-clause-front c =
     let first = c.place_term.ensures.front in
-    front_after_two (behind_new c.in_ok-first.ensures.ok.ends front_same) (behind_new c.in_ok-second.ensures.ok.ends first) (front_after first c.place_term-2.ensures.front) c.node_over_two.ensures.front
+    front_after_two (behind_new c.in_ok-first.ensures.ok.ends front_same) (behind_new c.in_ok-second.ensures.ok.ends first)
+    (front_after first c.place_term-2.ensures.front) c.node_over_two.ensures.front
 
 pub returns-clause-tree : goal.returns-clause-tree
 returns-clause-tree c =
@@ -38,7 +40,8 @@ mid : (c : In_ok-first) → free_of c.args.pool.now ≡ free_of c.place_term.new
 mid c = given_free c.requires.stands c.place_term.ensures.stands c.in_ok-first.ensures.kept c.in_ok-first.ensures.ok ∙ ap (λ t. free_of c.place_term.new.pool + size t) c.in_ok-first.ensures.tree
 
 late : (c : In_ok-second) → free_of c.place_term.new.pool ≡ free_of c.place_term-2.new.pool + size (term_tree (term_of c.args.b))
-late c = given_free c.place_term.ensures.stands c.place_term-2.ensures.stands c.in_ok-second.ensures.kept c.in_ok-second.ensures.ok ∙ ap (λ t. free_of c.place_term-2.new.pool + size t) c.in_ok-second.ensures.tree
+late c = given_free c.place_term.ensures.stands c.place_term-2.ensures.stands c.in_ok-second.ensures.kept c.in_ok-second.ensures.ok
+    ∙ ap (λ t. free_of c.place_term-2.new.pool + size t) c.in_ok-second.ensures.tree
 
 pub returns-in_err-first-clause-exactly : goal.returns-in_err-first-clause-exactly
 returns-in_err-first-clause-exactly c = refused c.from_residual.result _ c.from_residual.ensures.0 (λ enough. absurd (cc (c.in_err-first.ensures.exactly.1 (omega (arith, enough)))))
@@ -65,7 +68,8 @@ returns-in_err-first-clause-first_lack c =
     let x = term_tree (term_of c.args.a) in
     let y = term_tree (term_of c.args.b) in
     passed_on c.from_residual.result c.in_err-first.field-0.0 (Short (free_of c.args.pool.now) c.args.a c.args.b) c.from_residual.ensures.0 c.from_residual.ensures.1
-    (lacking_on (free_of c.args.pool.now) (nodes_sizes (more x (more y none))) (8 ∷ []) _ (lacking_on (free_of c.args.pool.now) (node_sizes x) (nodes_sizes (more y none)) _ c.in_err-first.ensures.first_lack))
+    (lacking_on (free_of c.args.pool.now) (nodes_sizes (more x (more y none))) (8 ∷ []) _
+    (lacking_on (free_of c.args.pool.now) (node_sizes x) (nodes_sizes (more y none)) _ c.in_err-first.ensures.first_lack))
 
 pub returns-in_err-second-clause-first_lack : goal.returns-in_err-second-clause-first_lack
 returns-in_err-second-clause-first_lack c =
@@ -74,7 +78,8 @@ returns-in_err-second-clause-first_lack c =
     let y = term_tree (term_of c.args.b) in
     passed_on c.from_residual-in_err-second.result c.in_err-second.field-0.0 (Short (free_of c.args.pool.now) c.args.a c.args.b) c.from_residual-in_err-second.ensures.0 c.from_residual-in_err-second.ensures.1
     (lacking_on (free_of c.args.pool.now) (nodes_sizes (more x (more y none))) (8 ∷ []) _
-    (built (free_of c.args.pool.now) (free_of c.place_term.new.pool) x (nodes_sizes (more y none)) (mid at.In_ok-first) ∙ lacking_on (free_of c.place_term.new.pool) (node_sizes y) [] _ c.in_err-second.ensures.first_lack))
+    (built (free_of c.args.pool.now) (free_of c.place_term.new.pool) x (nodes_sizes (more y none)) (mid at.In_ok-first)
+    ∙ lacking_on (free_of c.place_term.new.pool) (node_sizes y) [] _ c.in_err-second.ensures.first_lack))
 
 pub returns-clause-first_lack : goal.returns-clause-first_lack
 returns-clause-first_lack c =

@@ -9,4 +9,5 @@ pub returns : goal.returns
 returns g c = λ test.
     let t = plain (tree_at c.args.sum (forest c.args.pool.now)) in
     let many : c.children-many.result ≡ count (children_of t) = c.children-many.ensures.plain c.requires.expression in
-    all_below t (c.children-many.result - 1) 1000000000000 c.requires.sum (omega (arith, many, c.if-many-eq0.false)) (subst (λ (n : _). n < 1000000000000) c.radicand_at.ensures.value (ltb-true c.radicand_at.result 1000000000000 test))
+    all_below t (c.children-many.result - 1) 1000000000000 c.requires.sum (omega (arith, many, c.if-many-eq0.false))
+    (subst (λ (n : _). n < 1000000000000) c.radicand_at.ensures.value (ltb-true c.radicand_at.result 1000000000000 test))

@@ -6,7 +6,8 @@ use Rattle.tree_handles.specs.declared.fault.NumberFault.TheVariants as fault
 use Rattle.number_forms.proofs.joining.join_term.Goals as goal
 
 pub returns-in_err-at-clause-room : goal.returns-in_err-at-clause-room
-returns-in_err-at-clause-room g c = passed_on c.from_residual.result (fault.Overflow c.in_err-at.field-0.0) (OfFull (λ (full : Full). free_of c.args.pool.now < 96)) c.from_residual.ensures.0 c.from_residual.ensures.1 tt
+returns-in_err-at-clause-room g c =
+    passed_on c.from_residual.result (fault.Overflow c.in_err-at.field-0.0) (OfFull (λ (full : Full). free_of c.args.pool.now < 96)) c.from_residual.ensures.0 c.from_residual.ensures.1 tt
 
 pub match_in-requires : goal.match_in-requires
 match_in-requires g c = (search rules, (c.requires.stands, (expression c.id.ensures c.requires.stands (given_handed c.requires.sum), (read_sum _ c.args.sum.now c.args.pool.now c.id.ensures c.requires.stands c.requires.sum, lists_at c.id.ensures c.requires.lists))))
@@ -30,7 +31,8 @@ returns-in_ok-replace-in-Term-clause-ok g c =
     let sum : Tree = tree_of c.args.sum.now c.args.pool.now in
     let same = seen c.id.ensures c.requires.stands (given_handed c.requires.sum) in
     let m = matched (term_of c.args.term) _ sum _ _ same c.in-Term.is c.in_ok-at.ensures.ok in
-    gives_as c.in_ok-replace-in-Term.ensures.ok refl (λ x w. made_one c.in-Term.at sum (add (removed c.in-Term.at (children_of sum))) x (term_of c.args.term) (term_of c.in-Term.joined) (given_told c.requires.sum) m.0 m.1.1 m.2 refl w)
+    gives_as c.in_ok-replace-in-Term.ensures.ok refl (λ x w. made_one c.in-Term.at sum (add (removed c.in-Term.at (children_of sum))) x (term_of c.args.term) (term_of c.in-Term.joined)
+    (given_told c.requires.sum) m.0 m.1.1 m.2 refl w)
 
 pub returns-in-Zero-clause-ok : goal.returns-in-Zero-clause-ok
 returns-in-Zero-clause-ok g c =

@@ -13,7 +13,8 @@ use Rattle.surd_terms.specs.declared.sums.Joined.TheVariants as joined
 use Rattle.number_forms.proofs.joining.match_anywhere.Goals as goal
 
 next : (g : Over) (c : In-Some g) → IsNextChild c.loop-child.at c.args.sum c.in-Some.child c.args.pool.now
-next g c = next_child 0 c.loop-child.at c.args.sum c.loop-child.yielded _ c.in-Some.child _ c.args.pool.now c.requires.stands c.requires.expression (omega arith) (omega (arith, c.loop-child.invariant.place)) c.loop-child.invariant.left c.in-Some.ensures.steps
+next g c = next_child 0 c.loop-child.at c.args.sum c.loop-child.yielded _ c.in-Some.child _ c.args.pool.now c.requires.stands c.requires.expression (omega arith)
+    (omega (arith, c.loop-child.invariant.place)) c.loop-child.invariant.left c.in-Some.ensures.steps
 
 pub loop-child-init : goal.loop-child-init
 loop-child-init g c = record {
@@ -64,7 +65,8 @@ pub returns-clause-ok : goal.returns-clause-ok
 returns-clause-ok g c =
     let i = c.loop-child.invariant in
     let ts = children_of (plain (tree_at c.args.sum (forest c.args.pool.now))) in
-    let all : c.loop-child.at ≡ count ts = none_left 0 c.loop-child.at c.args.sum c.loop-child.yielded _ c.args.pool.now c.requires.expression (omega arith) (omega (arith, i.place)) i.left c.in-None.ensures.steps.0 in
+    let all : c.loop-child.at ≡ count ts = none_left 0 c.loop-child.at c.args.sum c.loop-child.yielded _ c.args.pool.now c.requires.expression (omega arith)
+    (omega (arith, i.place)) i.left c.in-None.ensures.steps.0 in
     let place = subst (λ (r : ℕ). IsPlace c.place_of-place.result r ts) c.radicand.ensures.value c.place_of-place.ensures in
     (apart_each _ ts (λ k l. i.apart k (omega (arith, all, l))), place)
 

@@ -10,8 +10,11 @@ pub returns-then-at-children-clause-ok : goal.returns-then-at-children-clause-ok
 returns-then-at-children-clause-ok g c =
     let t = plain (tree_at c.args.sum (forest c.args.pool.now)) in
     let many : c.children.result ≡ count (children_of t) = c.children.ensures.plain c.requires.expression in
-    let place = subst (λ (r : ℕ). IsPlace c.place_of-at.result r (children_of t)) c.radicand.ensures.value c.place_of-at.ensures in
-    (apart_at_place t (term_of c.args.term).radicand c.place_of-at.result c.requires.sum c.args.term.clean c.requires.term_below c.requires.sum_below place (λ l. absurd (omega (arith, many, c.if-at-children.true, l))), place)
+    let place = subst (λ (r : ℕ). IsPlace c.place_of-at.result r (children_of t)) c.radicand.ensures.value c.place_of-at.ensures in (
+      apart_at_place t (term_of c.args.term).radicand c.place_of-at.result c.requires.sum c.args.term.clean c.requires.term_below c.requires.sum_below place
+          (λ l. absurd (omega (arith, many, c.if-at-children.true, l))),
+      place,
+    )
 
 pub term_at-other-requires-clause-term : goal.term_at-other-requires-clause-term
 term_at-other-requires-clause-term g c =
@@ -24,7 +27,8 @@ pub returns-in-Apart-clause-ok : goal.returns-in-Apart-clause-ok
 returns-in-Apart-clause-ok g c =
     let t = plain (tree_at c.args.sum (forest c.args.pool.now)) in
     let place = subst (λ (r : ℕ). IsPlace c.place_of-at.result r (children_of t)) c.radicand.ensures.value c.place_of-at.ensures in
-    let apart = read_apart c.in_ok-joined.joined (term_of c.term_at-other.result) (term_of c.args.term) (plain (tree_at c.child.result (forest c.args.pool.now))) (nth c.place_of-at.result (children_of t))
+    let apart = read_apart c.in_ok-joined.joined (term_of c.term_at-other.result) (term_of c.args.term) (plain (tree_at c.child.result (forest c.args.pool.now)))
+    (nth c.place_of-at.result (children_of t))
     c.in-Apart.is c.in_ok-joined.ensures.joins c.term_at-other.ensures (c.child.ensures.plain) in
     (apart_at_place t (term_of c.args.term).radicand c.place_of-at.result c.requires.sum c.args.term.clean c.requires.term_below c.requires.sum_below place (λ l. apart), place)
 
@@ -42,6 +46,7 @@ returns-in-Term-clause-ok g c =
     let many : c.children.result ≡ count (children_of t) = c.children.ensures.plain c.requires.expression in
     let within : c.place_of-at.result < count (children_of t) = omega (arith, many, c.place_of-at.ensures.within, c.if-at-children.false) in (
       within,
-      read_joined c.in_ok-joined.joined (joined.Term c.in-Term.one) (term_of c.term_at-other.result) (term_of c.args.term) _ _ c.in-Term.is c.in_ok-joined.ensures.joins c.term_at-other.ensures c.child.ensures.plain,
+      read_joined c.in_ok-joined.joined (joined.Term c.in-Term.one) (term_of c.term_at-other.result)
+          (term_of c.args.term) _ _ c.in-Term.is c.in_ok-joined.ensures.joins c.term_at-other.ensures c.child.ensures.plain,
       read_parts c.in_ok-joined.joined c.in-Term.one (term_of c.term_at-other.result) (term_of c.args.term) _ _ c.in-Term.is c.in_ok-joined.ensures.sum c.term_at-other.ensures c.child.ensures.plain,
     )

@@ -27,6 +27,7 @@ returns-in-Term-clause-ok g c =
     let many : c.children.result ≡ count (children_of t) = c.children.ensures.plain c.requires.expression in
     let within : c.place_near-at.result < count (children_of t) = omega (arith, many, c.place_near-at.ensures.within, c.if-at-children.false) in (
       within,
-      read_joined c.in_ok-joined.joined (joined.Term c.in-Term.one) (term_of c.term_at-other.result) (term_of c.args.term) _ _ c.in-Term.is c.in_ok-joined.ensures.joins c.term_at-other.ensures c.child.ensures.plain,
+      read_joined c.in_ok-joined.joined (joined.Term c.in-Term.one) (term_of c.term_at-other.result)
+          (term_of c.args.term) _ _ c.in-Term.is c.in_ok-joined.ensures.joins c.term_at-other.ensures c.child.ensures.plain,
       read_parts c.in_ok-joined.joined c.in-Term.one (term_of c.term_at-other.result) (term_of c.args.term) _ _ c.in-Term.is c.in_ok-joined.ensures.sum c.term_at-other.ensures c.child.ensures.plain,
     )

@@ -9,6 +9,7 @@ loop-low-preserved-then-radicand_at-radicand g c =
     record {
       order = omega (arith, c.loop-low-test.true);
       within = c.loop-low.invariant.within;
-      below = λ k l. below_up_to (plain (tree_at c.args.sum (forest c.args.pool.now))) mid k c.args.radicand c.requires.sum (omega (arith, c.loop-low-test.true, c.loop-low.invariant.within)) below (omega (arith, l));
+      below = λ k l. below_up_to (plain (tree_at c.args.sum (forest c.args.pool.now))) mid k c.args.radicand c.requires.sum
+          (omega (arith, c.loop-low-test.true, c.loop-low.invariant.within)) below (omega (arith, l));
       above = c.loop-low.invariant.above;
     }

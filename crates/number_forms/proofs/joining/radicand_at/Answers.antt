@@ -9,4 +9,5 @@ term_at-requires-clause-term g c = term_of_sum (plain (tree_at c.args.sum (fores
 pub returns-clause-value : goal.returns-clause-value
 returns-clause-value g c =
     let t = plain (tree_at c.args.sum (forest c.args.pool.now)) in
-    read_radicand c.radicand.result (term_of c.term_at.result) (plain (tree_at c.child.result (forest c.args.pool.now))) (nth c.args.at (children_of t)) c.radicand.ensures.value c.term_at.ensures (c.child.ensures.plain)
+    read_radicand c.radicand.result (term_of c.term_at.result) (plain (tree_at c.child.result (forest c.args.pool.now))) (nth c.args.at (children_of t)) c.radicand.ensures.value c.term_at.ensures
+    (c.child.ensures.plain)

@@ -27,7 +27,8 @@ insert-requires g c =
     let rest = c.remove_child.ensures.sum in
     let sum = gives_as rest (sym (given_rest rest)) (λ t e. removed_is_sum c.args.at (tree_of c.args.sum.now c.args.pool.now) t (given_told c.requires.sum) e) in
     let apart = subst (IsApart (term_of c.args.term).radicand) (sym (ap value (given_told rest))) c.requires.apart in
-    let place = read_place _ c.args.sum.now c.place_of-place.result _ _ c.remove_child.new.pool c.id-else-stays.ensures c.remove_child.ensures.stands (given_handed rest) c.radicand-else-stays.ensures.value c.place_of-place.ensures in
+    let place = read_place _ c.args.sum.now c.place_of-place.result _ _ c.remove_child.new.pool c.id-else-stays.ensures c.remove_child.ensures.stands
+    (given_handed rest) c.radicand-else-stays.ensures.value c.place_of-place.ensures in
     (search rules, (c.remove_child.ensures.stands, (sum, (c.remove_child.ensures.lists, (apart, place)))))
 
 pub returns-else-stays-clause-ok : goal.returns-else-stays-clause-ok
@@ -35,4 +36,5 @@ returns-else-stays-clause-ok g c =
     let rest = c.remove_child.ensures.sum in
     let others : value (tree_of c.args.sum.now c.remove_child.new.pool) ≡ terms_of (removed c.args.at (children_of (tree_of c.args.sum.now c.args.pool.now))) = ap value (given_told rest) in
     subst (λ (v : Surd). OnOk c.insert.result (Gives (without_root c.args.sum.now (forest c.args.pool.now)) (forest c.insert.new.pool) c.args.sum.now (IsSumOf (term_of c.args.term ∷ v)))) others
-    (subst (λ (f : Forest). OnOk c.insert.result (Gives f (forest c.insert.new.pool) c.args.sum.now (IsSumOf (term_of c.args.term ∷ value (tree_of c.args.sum.now c.remove_child.new.pool))))) (given_rest rest) c.insert.ensures.ok)
+    (subst (λ (f : Forest). OnOk c.insert.result (Gives f (forest c.insert.new.pool) c.args.sum.now (IsSumOf (term_of c.args.term ∷ value (tree_of c.args.sum.now c.remove_child.new.pool)))))
+    (given_rest rest) c.insert.ensures.ok)

@@ -15,14 +15,16 @@ use Rattle.number_forms.proofs.multiplying.join_products.Goals as goal
 
 pub returns-in_err-product-clause-room : goal.returns-in_err-product-clause-room
 returns-in_err-product-clause-room g c = λ gs s x t.
-    passed_on c.from_residual.result (fault.Overflow c.in_err-product.field-0.0) (LacksRoom joining_need (free_of c.args.pool.now + size (tree_of c.args.sum.now c.args.pool.now)) gs) c.from_residual.ensures.0 c.from_residual.ensures.1 tt
+    passed_on c.from_residual.result (fault.Overflow c.in_err-product.field-0.0)
+    (LacksRoom joining_need (free_of c.args.pool.now + size (tree_of c.args.sum.now c.args.pool.now)) gs) c.from_residual.ensures.0 c.from_residual.ensures.1 tt
 
 pub returns-in_err-join_term-clause-room : goal.returns-in_err-join_term-clause-room
 returns-in_err-join_term-clause-room g c = λ gs s x t.
     let v = value (tree_of c.args.number c.args.pool.now) in
     let row = spans_row gs (term_of c.args.term) (terms_from c.args.from v) x (spans_from gs v c.args.from t) in
     let left = spans_row gs (term_of c.args.term) (terms_from c.loop-at.at v) x (spans_from gs v c.loop-at.at t) in
-    passed_on c.from_residual-in_err-join_term.result c.in_err-join_term.field-0.0 (LacksRoom joining_need (free_of c.args.pool.now + size (tree_of c.args.sum.now c.args.pool.now)) gs) c.from_residual-in_err-join_term.ensures.0 c.from_residual-in_err-join_term.ensures.1
+    passed_on c.from_residual-in_err-join_term.result c.in_err-join_term.field-0.0
+    (LacksRoom joining_need (free_of c.args.pool.now + size (tree_of c.args.sum.now c.args.pool.now)) gs) c.from_residual-in_err-join_term.ensures.0 c.from_residual-in_err-join_term.ensures.1
     (full_as c.in_err-join_term.field-0.0 c.in_err-join_term.ensures.room (λ full few. term_lacks gs c.loop-at.invariant.joined c.requires.stands (given_handed c.requires.sum) (spans_append gs _ _ s row) left few))
 
 pub term_count-at-end-requires-clause-expression : goal.term_count-at-end-requires-clause-expression
@@ -48,11 +50,13 @@ loop-at-preserved g c =
     let number : Tree = tree_of c.args.number c.args.pool.now in
     let x = term_of c.args.term in
     let y = term_of c.listed_term-other.result in
-    let same = other_read c.args.number c.loop-at.pool c.loop-at.invariant.joined.stands c.loop-at.invariant.joined.gives c.requires.handed ∙ sym (other_plain c.args.number c.requires.sum c.requires.handed.root) in
+    let same = other_read c.args.number c.loop-at.pool c.loop-at.invariant.joined.stands c.loop-at.invariant.joined.gives c.requires.handed
+    ∙ sym (other_plain c.args.number c.requires.sum c.requires.handed.root) in
     let here : slice_get (value number) c.loop-at.at ≡ Some y = ap (λ (t : Tree). slice_get (value t) c.loop-at.at) (sym same) ∙ c.listed_term-other.ensures in
     let next = products_next x (value number) c.loop-at.at y here ∙ ap (λ (n : ℕ). term_times x y ∷ map (term_times x) (terms_from n (value number))) (sym (add-one c.loop-at.at)) in
     record {
-      joined = joined_more c.args.sum.now _ _ _ _ (term_times x y) c.args.pool.now c.loop-at.pool c.join_term.new.pool c.loop-at.invariant.joined next (same_first (term_of c.in_ok-product.product) (term_times x y) _ _ c.in_ok-product.ensures.product (Same-refl _))
+      joined = joined_more c.args.sum.now _ _ _ _ (term_times x y) c.args.pool.now c.loop-at.pool c.join_term.new.pool c.loop-at.invariant.joined next
+          (same_first (term_of c.in_ok-product.product) (term_times x y) _ _ c.in_ok-product.ensures.product (Same-refl _))
           (parts_extracted (term_of c.in_ok-product.product) (term_times x y) _ c.in_ok-product.ensures.extracted)
           c.in_ok-join_term.ensures.ok c.join_term.ensures.front c.in_ok-join_term.ensures.kept c.join_term.ensures.stands;
       begun = omega (arith, c.loop-at.invariant.begun);
@@ -70,12 +74,14 @@ here : (g : Over) (c : After-listed_term-other g) → c.args.from ≤ c.loop-at.
     → slice_get (terms_from c.args.from (value (tree_of c.args.number c.args.pool.now))) (c.loop-at.at - c.args.from) ≡ Some (term_of c.listed_term-other.result)
 here g c begun =
     let v = value (tree_of c.args.number c.args.pool.now) in
-    let same = other_read c.args.number c.loop-at.pool c.loop-at.invariant.joined.stands c.loop-at.invariant.joined.gives c.requires.handed ∙ sym (other_plain c.args.number c.requires.sum c.requires.handed.root) in
+    let same = other_read c.args.number c.loop-at.pool c.loop-at.invariant.joined.stands c.loop-at.invariant.joined.gives c.requires.handed
+    ∙ sym (other_plain c.args.number c.requires.sum c.requires.handed.root) in
     get_from c.args.from c.loop-at.at v begun ∙ ap (λ (t : Tree). slice_get (value t) c.loop-at.at) (sym same) ∙ c.listed_term-other.ensures
 
 pub returns-in_err-product-clause-overflow : goal.returns-in_err-product-clause-overflow
 returns-in_err-product-clause-overflow g c =
-    passed_on c.from_residual.result (fault.Overflow c.in_err-product.field-0.0) (OfOverflow (RowOverflows (value (tree_of c.args.sum.now c.args.pool.now)) (term_of c.args.term) (terms_from c.args.from (value (tree_of c.args.number c.args.pool.now))))) c.from_residual.ensures.0 c.from_residual.ensures.1
+    passed_on c.from_residual.result (fault.Overflow c.in_err-product.field-0.0)
+    (OfOverflow (RowOverflows (value (tree_of c.args.sum.now c.args.pool.now)) (term_of c.args.term) (terms_from c.args.from (value (tree_of c.args.number c.args.pool.now))))) c.from_residual.ensures.0 c.from_residual.ensures.1
     (record { at = c.loop-at.at - c.args.from; other = term_of c.listed_term-other.result; here = here g (goal.at.returns-in_err-product-clause-overflow g c).After-listed_term-other c.loop-at.invariant.begun; cause = inl c.in_err-product.ensures.overflow })
 
 pub returns-in_err-join_term-clause-overflow : goal.returns-in_err-join_term-clause-overflow
@@ -83,7 +89,8 @@ returns-in_err-join_term-clause-overflow g c =
     let v = value (tree_of c.args.number c.args.pool.now) in
     let told = given_told c.loop-at.invariant.joined.gives in
     let left : terms_from (c.loop-at.at - c.args.from) (terms_from c.args.from v) ≡ terms_from c.loop-at.at v = from_from c.args.from c.loop-at.at v c.loop-at.invariant.begun in
-    passed_on c.from_residual-in_err-join_term.result c.in_err-join_term.field-0.0 (OfOverflow (RowOverflows (value (tree_of c.args.sum.now c.args.pool.now)) (term_of c.args.term) (terms_from c.args.from v))) c.from_residual-in_err-join_term.ensures.0 c.from_residual-in_err-join_term.ensures.1
+    passed_on c.from_residual-in_err-join_term.result c.in_err-join_term.field-0.0
+    (OfOverflow (RowOverflows (value (tree_of c.args.sum.now c.args.pool.now)) (term_of c.args.term) (terms_from c.args.from v))) c.from_residual-in_err-join_term.ensures.0 c.from_residual-in_err-join_term.ensures.1
     (overflow_as c.in_err-join_term.field-0.0 c.in_err-join_term.ensures.overflow (λ o j. record {
       at = c.loop-at.at - c.args.from;
       other = term_of c.listed_term-other.result;

@@ -35,12 +35,14 @@ nth_term-term-requires-clause-expression g c = other_expression c.args.a c.loop-
 
 pub nth_term-term-requires-clause-number : goal.nth_term-term-requires-clause-number
 nth_term-term-requires-clause-number g c =
-    let same = other_read c.args.a c.loop-at.pool c.loop-at.invariant.joined.stands c.loop-at.invariant.joined.gives c.requires.first ∙ sym (other_plain c.args.a c.requires.sum c.requires.first.root) in
+    let same = other_read c.args.a c.loop-at.pool c.loop-at.invariant.joined.stands c.loop-at.invariant.joined.gives c.requires.first
+    ∙ sym (other_plain c.args.a c.requires.sum c.requires.first.root) in
     ap is_number same ∙ c.requires.first_number
 
 pub nth_term-term-requires-clause-within : goal.nth_term-term-requires-clause-within
 nth_term-term-requires-clause-within g c =
-    let same = ap classes (other_read c.args.a c.loop-at.pool c.loop-at.invariant.joined.stands c.loop-at.invariant.joined.gives c.requires.first ∙ sym (other_plain c.args.a c.requires.sum c.requires.first.root)) in
+    let same = ap classes (other_read c.args.a c.loop-at.pool c.loop-at.invariant.joined.stands c.loop-at.invariant.joined.gives c.requires.first
+    ∙ sym (other_plain c.args.a c.requires.sum c.requires.first.root)) in
     let all = ap classes (plain_root c.args.a c.requires.stands (given_other c.requires.sum c.requires.first).root) in
     omega (arith, same, all, c.term_count-at-end.ensures, c.loop-at-test.true)
 
@@ -52,11 +54,14 @@ loop-at-preserved g c =
     let a : Tree = tree_of c.args.a c.args.pool.now in
     let b : Tree = tree_of c.args.b c.args.pool.now in
     let x = term_of c.nth_term-term.result in
-    let same = other_read c.args.a c.loop-at.pool c.loop-at.invariant.joined.stands c.loop-at.invariant.joined.gives c.requires.first ∙ sym (other_plain c.args.a c.requires.sum c.requires.first.root) in
+    let same = other_read c.args.a c.loop-at.pool c.loop-at.invariant.joined.stands c.loop-at.invariant.joined.gives c.requires.first
+    ∙ sym (other_plain c.args.a c.requires.sum c.requires.first.root) in
     let here : slice_get (value a) c.loop-at.at ≡ Some x = ap (λ (t : Tree). slice_get (value t) c.loop-at.at) (sym same) ∙ c.nth_term-term.ensures in
     let other = other_plain c.args.b c.loop-at.invariant.joined.gives c.requires.second.root ∙ sym (other_plain c.args.b c.requires.sum c.requires.second.root) in
-    let joined = subst (λ (t : Tree). Gives (without_root c.args.sum.now (forest c.loop-at.pool)) (forest c.join_products.new.pool) c.args.sum.now (IsSumOf (value (tree_of c.args.sum.now c.loop-at.pool) ++ map (term_times x) (value t)))) other c.in_ok-join_products.ensures.ok in
-    let next = joined_part c.args.sum.now _ _ _ _ c.args.pool.now c.loop-at.pool c.join_products.new.pool c.loop-at.invariant.joined (rows_next (value a) (value b) c.loop-at.at x here) joined c.join_products.ensures.front c.in_ok-join_products.ensures.kept c.join_products.ensures.stands in
+    let joined = subst (λ (t : Tree). Gives (without_root c.args.sum.now (forest c.loop-at.pool)) (forest c.join_products.new.pool) c.args.sum.now
+    (IsSumOf (value (tree_of c.args.sum.now c.loop-at.pool) ++ map (term_times x) (value t)))) other c.in_ok-join_products.ensures.ok in
+    let next = joined_part c.args.sum.now _ _ _ _ c.args.pool.now c.loop-at.pool c.join_products.new.pool c.loop-at.invariant.joined
+    (rows_next (value a) (value b) c.loop-at.at x here) joined c.join_products.ensures.front c.in_ok-join_products.ensures.kept c.join_products.ensures.stands in
     record { joined = subst (λ (n : ℕ). IsJoined c.args.sum.now (surd_times (terms_from n (value a)) (value b)) (value (tree_of c.args.sum.now c.args.pool.now) ++ surd_times (value a) (value b)) c.args.pool.now c.join_products.new.pool) (sym (add-one c.loop-at.at)) next; lists = c.in_ok-join_products.ensures.lists }
 
 pub returns-clause-ok : goal.returns-clause-ok
@@ -71,7 +76,8 @@ returns-in_err-join_products-clause-overflow g c = λ empty.
     let b : Tree = tree_of c.args.b c.args.pool.now in
     let partial : Tree = tree_of c.args.sum.now c.loop-at.pool in
     let x = term_of c.nth_term-term.result in
-    let same = other_read c.args.a c.loop-at.pool c.loop-at.invariant.joined.stands c.loop-at.invariant.joined.gives c.requires.first ∙ sym (other_plain c.args.a c.requires.sum c.requires.first.root) in
+    let same = other_read c.args.a c.loop-at.pool c.loop-at.invariant.joined.stands c.loop-at.invariant.joined.gives c.requires.first
+    ∙ sym (other_plain c.args.a c.requires.sum c.requires.first.root) in
     let here : slice_get (value a) c.loop-at.at ≡ Some x = ap (λ (t : Tree). slice_get (value t) c.loop-at.at) (sym same) ∙ c.nth_term-term.ensures in
     let other = other_plain c.args.b c.loop-at.invariant.joined.gives c.requires.second.root ∙ sym (other_plain c.args.b c.requires.sum c.requires.second.root) in
     let told = given_told c.loop-at.invariant.joined.gives in

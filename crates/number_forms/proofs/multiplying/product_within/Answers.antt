@@ -11,7 +11,8 @@ use Rattle.number_forms.proofs.multiplying.product_within.Goals as goal
 pub returns-in_err-sum-clause-room : goal.returns-in_err-sum-clause-room
 returns-in_err-sum-clause-room g c = λ gs s t.
     let few : free_of c.args.pool.now < 8 = refused_below c.in_err-sum.ensures.full in
-    passed_on c.from_residual.result (fault.Full c.in_err-sum.field-0.0) (LacksRoom joining_need (free_of c.args.pool.now) gs) c.from_residual.ensures.0 c.from_residual.ensures.1 (few_for_joining gs _ (omega arith))
+    passed_on c.from_residual.result (fault.Full c.in_err-sum.field-0.0) (LacksRoom joining_need (free_of c.args.pool.now) gs) c.from_residual.ensures.0 c.from_residual.ensures.1
+    (few_for_joining gs _ (omega arith))
 
 pub returns-in_err-join_rows-clause-room : goal.returns-in_err-join_rows-clause-room
 returns-in_err-join_rows-clause-room g c = λ gs s t.
@@ -24,14 +25,16 @@ returns-in_err-join_rows-clause-room g c = λ gs s t.
     let none = subst (λ (u : Tree). Spans gs (value u)) (sym (given_told new)) tt in
     let first = subst (λ (u : Tree). Spans gs (value u)) (sym a) (number_spans gs _ c.requires.first_number s) in
     let second = subst (λ (u : Tree). Spans gs (value u)) (sym b) (number_spans gs _ c.requires.second_number t) in
-    passed_on c.from_residual-in_err-join_rows.result c.in_err-join_rows.field-0.0 (LacksRoom joining_need (free_of c.args.pool.now) gs) c.from_residual-in_err-join_rows.ensures.0 c.from_residual-in_err-join_rows.ensures.1
+    passed_on c.from_residual-in_err-join_rows.result c.in_err-join_rows.field-0.0
+    (LacksRoom joining_need (free_of c.args.pool.now) gs) c.from_residual-in_err-join_rows.ensures.0 c.from_residual-in_err-join_rows.ensures.1
     (full_as c.in_err-join_rows.field-0.0 (c.in_err-join_rows.ensures.room gs none first second) (λ full few. subst (λ (n : ℕ). n < joining_need * 2 ^ length gs) (sym free) few))
 
 pub returns-in_err-number_of-clause-room : goal.returns-in_err-number_of-clause-room
 returns-in_err-number_of-clause-room g c = λ gs s t.
     let rows = gives_as c.in_ok-join_rows.ensures.ok (given_rest (c.in_ok-sum.ensures.given refl)) (λ t h. h) in
     let free = given_free c.requires.stands c.in_ok-join_rows.ensures.stands (kept_after c.in_ok-sum.ensures.kept c.in_ok-join_rows.ensures.kept) rows in
-    passed_on c.from_residual-in_err-number_of.result (fault.Full c.in_err-number_of.field-0.0) (LacksRoom joining_need (free_of c.args.pool.now) gs) c.from_residual-in_err-number_of.ensures.0 c.from_residual-in_err-number_of.ensures.1
+    passed_on c.from_residual-in_err-number_of.result (fault.Full c.in_err-number_of.field-0.0)
+    (LacksRoom joining_need (free_of c.args.pool.now) gs) c.from_residual-in_err-number_of.ensures.0 c.from_residual-in_err-number_of.ensures.1
     (few_for_joining gs _ (subst (λ (n : ℕ). n < 40) (sym free) c.in_err-number_of.ensures.room))
 
 pub join_rows-requires : goal.join_rows-requires
@@ -73,8 +76,11 @@ returns-in_err-join_rows-clause-overflow g c =
     ap (λ (i : ℕ). tree_of i c.node.new.pool) c.id-2.ensures ∙ other_plain c.args.a.now new c.requires.first.root in
     let b : tree_of c.id-3.result c.node.new.pool ≡ tree_of c.args.b.now c.args.pool.now =
     ap (λ (i : ℕ). tree_of i c.node.new.pool) c.id-3.ensures ∙ other_plain c.args.b.now new c.requires.second.root in
-    passed_on c.from_residual-in_err-join_rows.result c.in_err-join_rows.field-0.0 (OfOverflow (ProductOverflows (value (tree_of c.args.a.now c.args.pool.now)) (value (tree_of c.args.b.now c.args.pool.now)))) c.from_residual-in_err-join_rows.ensures.0 c.from_residual-in_err-join_rows.ensures.1
-    (overflow_as c.in_err-join_rows.field-0.0 (c.in_err-join_rows.ensures.overflow (ap value (given_told new))) (λ o p. subst (λ (t : Tree). ProductOverflows (value (tree_of c.args.a.now c.args.pool.now)) (value t) o) b (subst (λ (t : Tree). ProductOverflows (value t) (value (tree_of c.id-3.result c.node.new.pool)) o) a p)))
+    passed_on c.from_residual-in_err-join_rows.result c.in_err-join_rows.field-0.0
+    (OfOverflow (ProductOverflows (value (tree_of c.args.a.now c.args.pool.now)) (value (tree_of c.args.b.now c.args.pool.now)))) c.from_residual-in_err-join_rows.ensures.0 c.from_residual-in_err-join_rows.ensures.1
+    (overflow_as c.in_err-join_rows.field-0.0 (c.in_err-join_rows.ensures.overflow (ap value (given_told new)))
+    (λ o p. subst (λ (t : Tree). ProductOverflows (value (tree_of c.args.a.now c.args.pool.now)) (value t) o) b
+    (subst (λ (t : Tree). ProductOverflows (value t) (value (tree_of c.id-3.result c.node.new.pool)) o) a p)))
 
 pub of-terms-requires : goal.of-terms-requires
 of-terms-requires g c = (omega (arith, c.requires.few), (c.in_ok-sum.ensures.stands, subst (λ (i : ℕ). IsExpression i (forest c.node.new.pool)) (sym c.id.ensures) (expression_root c.in_ok-sum.ensures.stands (given_other (c.in_ok-sum.ensures.given refl) c.requires.second))))

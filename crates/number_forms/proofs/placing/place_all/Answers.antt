@@ -27,7 +27,8 @@ place_term-requires c = record { stands = c.loop-term.invariant.stands }
 
 pub returns-clause-ok : goal.returns-clause-ok
 returns-clause-ok c =
-    subst (λ (ts : List Term). Adds (trees_of ts) (forest c.args.pool.now) (forest c.loop-term.pool)) (take_all c.loop-term.term-index c.args.terms.now (omega (arith, c.loop-term-test.false))) c.loop-term.invariant.adds
+    subst (λ (ts : List Term). Adds (trees_of ts) (forest c.args.pool.now) (forest c.loop-term.pool))
+    (take_all c.loop-term.term-index c.args.terms.now (omega (arith, c.loop-term-test.false))) c.loop-term.invariant.adds
 
 pub returns-in_err-_term-clause-room : goal.returns-in_err-_term-clause-room
 returns-in_err-_term-clause-room c =

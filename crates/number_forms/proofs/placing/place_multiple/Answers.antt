@@ -20,7 +20,8 @@ returns-clause-ok c =
 pub returns-clause-front : goal.returns-clause-front
 returns-clause-front c =
     let number = c.number.ensures.front in
-    front_after_two (behind_new c.in_ok-rational.ensures.given.ends front_same) (behind_new c.in_ok-root.ensures.ok.ends number) (front_after number c.place_root.ensures.front) c.node_over_two.ensures.front
+    front_after_two (behind_new c.in_ok-rational.ensures.given.ends front_same) (behind_new c.in_ok-root.ensures.ok.ends number)
+    (front_after number c.place_root.ensures.front) c.node_over_two.ensures.front
 
 -- the bytes of the two numbers
 abbrev first : Rat → ℕ
@@ -56,13 +57,16 @@ abbrev Short : ℕ → Rat → ℕ → Full → Type 0
 Short free q r full = building free (mult (more (num (value_of q)) (more (root (num (whole_fraction (pos r)))) none))) ≡ Err full
 
 pub returns-in_err-rational-clause-first_lack : goal.returns-in_err-rational-clause-first_lack
-returns-in_err-rational-clause-first_lack c = passed_on c.from_residual.result c.in_err-rational.field-0.0 (Short (free_of c.args.pool.now) c.args.coefficient c.args.radicand) c.from_residual.ensures.0 c.from_residual.ensures.1 (lacking (second c.args.radicand ∷ 8 ∷ 8 ∷ []) c.in_err-rational.ensures.full)
+returns-in_err-rational-clause-first_lack c = passed_on c.from_residual.result c.in_err-rational.field-0.0
+    (Short (free_of c.args.pool.now) c.args.coefficient c.args.radicand) c.from_residual.ensures.0 c.from_residual.ensures.1
+    (lacking (second c.args.radicand ∷ 8 ∷ 8 ∷ []) c.in_err-rational.ensures.full)
 
 pub returns-in_err-root-clause-first_lack : goal.returns-in_err-root-clause-first_lack
 returns-in_err-root-clause-first_lack c =
     let at = goal.at.returns-in_err-root-clause-first_lack c in
     passed_on c.from_residual-in_err-root.result c.in_err-root.field-0.0 (Short (free_of c.args.pool.now) c.args.coefficient c.args.radicand) c.from_residual-in_err-root.ensures.0 c.from_residual-in_err-root.ensures.1
-    (taken _ _ (first c.args.coefficient) (second c.args.radicand ∷ 8 ∷ 8 ∷ []) (mid at.In_ok-rational) ∙ lacking_on (free_of at.In_ok-rational.number.new.pool) (second c.args.radicand ∷ 8 ∷ []) (8 ∷ []) _ c.in_err-root.ensures.first_lack)
+    (taken _ _ (first c.args.coefficient) (second c.args.radicand ∷ 8 ∷ 8 ∷ []) (mid at.In_ok-rational)
+    ∙ lacking_on (free_of at.In_ok-rational.number.new.pool) (second c.args.radicand ∷ 8 ∷ []) (8 ∷ []) _ c.in_err-root.ensures.first_lack)
 
 pub returns-clause-first_lack : goal.returns-clause-first_lack
 returns-clause-first_lack c =
@@ -70,4 +74,5 @@ returns-clause-first_lack c =
     let rest = free_of c.place_root.new.pool in
     let root : free_of c.number.new.pool ≡ (rest + 8) + second c.args.radicand = omega (arith, late at.In_ok-root) in
     refusal_as c.node_over_two.result c.node_over_two.ensures.full
-    (λ full r. taken _ _ (first c.args.coefficient) (second c.args.radicand ∷ 8 ∷ 8 ∷ []) (mid at.In_ok-rational) ∙ taken _ _ (second c.args.radicand) (8 ∷ 8 ∷ []) root ∙ taken _ rest 8 (8 ∷ []) refl ∙ lacking [] r)
+    (λ full r. taken _ _ (first c.args.coefficient) (second c.args.radicand ∷ 8 ∷ 8 ∷ []) (mid at.In_ok-rational) ∙ taken _ _ (second c.args.radicand) (8 ∷ 8 ∷ []) root
+    ∙ taken _ rest 8 (8 ∷ []) refl ∙ lacking [] r)

@@ -39,7 +39,8 @@ abbrev Short : ℕ → ℕ → Full → Type 0
 Short free r full = building free (root (num (whole_fraction (pos r)))) ≡ Err full
 
 pub returns-in_err-rational-clause-first_lack : goal.returns-in_err-rational-clause-first_lack
-returns-in_err-rational-clause-first_lack c = passed_on c.from_residual.result c.in_err-rational.field-0.0 (Short (free_of c.args.pool.now) c.args.radicand) c.from_residual.ensures.0 c.from_residual.ensures.1
+returns-in_err-rational-clause-first_lack c =
+    passed_on c.from_residual.result c.in_err-rational.field-0.0 (Short (free_of c.args.pool.now) c.args.radicand) c.from_residual.ensures.0 c.from_residual.ensures.1
     (ap (λ (q : Fraction). taking (free_of c.args.pool.now) (bytes q ∷ 8 ∷ [])) (sym c.whole.ensures) ∙ lacking (8 ∷ []) c.in_err-rational.ensures.full)
 
 pub returns-clause-first_lack : goal.returns-clause-first_lack

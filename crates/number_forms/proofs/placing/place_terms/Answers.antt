@@ -13,7 +13,8 @@ returns-then-is_empty-clause-ok c =
 
 pub returns-then-terms-eq1-clause-ok : goal.returns-then-terms-eq1-clause-ok
 returns-then-terms-eq1-clause-ok c =
-    if_tree c.place_term.result _ c.place_term.new.pool _ _ _ c.place_term.ensures.ok c.place_term.ensures.tree (one_tree_of c.args.terms.now c.index-terms-0.result c.if-terms-eq1.true c.index-terms-0.is)
+    if_tree c.place_term.result _ c.place_term.new.pool _ _ _ c.place_term.ensures.ok c.place_term.ensures.tree
+    (one_tree_of c.args.terms.now c.index-terms-0.result c.if-terms-eq1.true c.index-terms-0.is)
 
 pub returns-in_err-placed-clause-room : goal.returns-in_err-placed-clause-room
 returns-in_err-placed-clause-room c =

@@ -53,7 +53,8 @@ multiplied-requires _ c =
       first = given_handed c.in_ok-square.ensures.ok;
       second = given_other c.in_ok-square.ensures.ok (handed_at c.requires.handed (given_rest c.in_ok-half.ensures.ok));
       first_number = (given_told c.in_ok-square.ensures.ok).number;
-      second_number = ap is_number (other_plain c.args.a.now c.in_ok-square.ensures.ok (handed_at c.requires.handed rest).root ∙ ap (λ (f : Forest). plain (root_tree c.args.a.now f)) rest) ∙ c.requires.number;
+      second_number = ap is_number (other_plain c.args.a.now c.in_ok-square.ensures.ok (handed_at c.requires.handed rest).root ∙ ap (λ (f : Forest). plain (root_tree c.args.a.now f)) rest)
+          ∙ c.requires.number;
     }
 
 pub returns-then-n-eq0-clause-ok : goal.returns-then-n-eq0-clause-ok
@@ -73,13 +74,15 @@ returns-else-n-eq0-clause-ok _ c =
     let same = other_plain c.args.a.now square (handed_at c.requires.handed rest).root ∙ ap (λ (f : Forest). plain (root_tree c.args.a.now f)) rest in
     let q : Tree = tree_of c.in_ok-square.square c.squared.new.pool in
     if_given _ _ _ _ _ c.multiplied.result c.multiplied.ensures.ok (given_rest square ∙ rest)
-    (λ t h. odd_power (tree_of c.in_ok-half.half c.power_of.new.pool) q (tree_of c.args.a.now c.args.pool.now) t c.args.n c.if-n-eq0.false (given_told half) (given_told square) (subst (λ (x : Tree). IsNumberOver (surd_times (value q) (value x)) t) same h))
+    (λ t h. odd_power (tree_of c.in_ok-half.half c.power_of.new.pool) q (tree_of c.args.a.now c.args.pool.now) t c.args.n c.if-n-eq0.false (given_told half) (given_told square)
+    (subst (λ (x : Tree). IsNumberOver (surd_times (value q) (value x)) t) same h))
 
 pub returns-else-n-eq0-clause-front : goal.returns-else-n-eq0-clause-front
 returns-else-n-eq0-clause-front _ c =
     let half = c.in_ok-half.ensures.ok in
     let square = c.in_ok-square.ensures.ok in
-    front_after_one (behind_new square.ends (front_at front_same (given_rest half))) (front_after_one (behind_new half.ends front_same) c.power_of.ensures.front c.squared.ensures.front) c.multiplied.ensures.front
+    front_after_one (behind_new square.ends (front_at front_same (given_rest half)))
+    (front_after_one (behind_new half.ends front_same) c.power_of.ensures.front c.squared.ensures.front) c.multiplied.ensures.front
 
 pub returns-in_err-half-clause-overflow : goal.returns-in_err-half-clause-overflow
 returns-in_err-half-clause-overflow _ c =
@@ -100,5 +103,6 @@ returns-else-n-eq0-clause-overflow _ c =
     let q : Tree = tree_of c.in_ok-square.square c.squared.new.pool in
     let same = other_plain c.args.a.now square (handed_at c.requires.handed rest).root ∙ ap (λ (f : Forest). plain (root_tree c.args.a.now f)) rest in
     refused_as c.multiplied.result c.multiplied.ensures.overflow
-    (λ o p. last_overflows (tree_of c.in_ok-half.half c.power_of.new.pool) q a c.args.n o (half_twice c.args.n c.requires.twice) (half_odd_within c.args.n c.if-n-eq0.false) (given_told half) (given_told square)
+    (λ o p. last_overflows (tree_of c.in_ok-half.half c.power_of.new.pool) q a c.args.n o (half_twice c.args.n c.requires.twice) (half_odd_within c.args.n c.if-n-eq0.false) (given_told half)
+    (given_told square)
     (power_itself a (record { number = c.requires.number; worth = Same-refl (value a) })) (subst (λ (t : Tree). ProductOverflows (value q) (value t) o) same p))

@@ -58,7 +58,8 @@ pub returns-then-is_rational-clause-measured : goal.returns-then-is_rational-cla
 returns-then-is_rational-clause-measured c =
     let fits : FitsSigned w128 c.args.n = search rules in
     if_power_no_larger c.power_rational.result _ c.power_rational.new.pool _ (nat_abs c.args.n) (at_least_one c.args.n c.requires.positive)
-    (if_given _ _ _ _ _ c.power_rational.result c.power_rational.ensures.ok refl (λ t h. subst (λ (z : ℤ). IsPowerOver (value (tree_of c.args.a c.args.pool.now)) (nat_abs z) t) (to_z-of_z w128 c.args.n fits) h))
+    (if_given _ _ _ _ _ c.power_rational.result c.power_rational.ensures.ok refl
+    (λ t h. subst (λ (z : ℤ). IsPowerOver (value (tree_of c.args.a c.args.pool.now)) (nat_abs z) t) (to_z-of_z w128 c.args.n fits) h))
 
 pub returns-then-n-eq1-clause-measured : goal.returns-then-n-eq1-clause-measured
 returns-then-n-eq1-clause-measured c =
@@ -66,7 +67,8 @@ returns-then-n-eq1-clause-measured c =
     let one : IsNoLargerThanPower (value a) 1 (value a) = power_no_larger (omega arith) (power_itself a (record { number = c.requires.number; worth = Same-refl (value a) })) in
     let fits : FitsSigned w128 c.args.n = search rules in
     let once : nat_abs c.args.n ≡ nat_abs (to_z w128 1) = ap nat_abs (sym (to_z-of_z w128 c.args.n fits)) ∙ ap (λ (n : ℕ). nat_abs (to_z w128 n)) c.if-n-eq1.true in
-    subst (λ (t : Tree). IsNoLargerThanPower (value a) (nat_abs c.args.n) (value t)) (ap plain (sym (last_tree c.move_last.ensures.last))) (subst (λ (n : ℕ). IsNoLargerThanPower (value a) n (value a)) (sym once) one)
+    subst (λ (t : Tree). IsNoLargerThanPower (value a) (nat_abs c.args.n) (value t)) (ap plain (sym (last_tree c.move_last.ensures.last)))
+    (subst (λ (n : ℕ). IsNoLargerThanPower (value a) n (value a)) (sym once) one)
 
 pub returns-in_ok-power-clause-measured : goal.returns-in_ok-power-clause-measured
 returns-in_ok-power-clause-measured c =

@@ -15,7 +15,8 @@ pub returns-in_err-number-clause-room : goal.returns-in_err-number-clause-room
 returns-in_err-number-clause-room c = λ gs.
     let few : free_of c.take_rational-q.new.pool < root_size (num (value_of c.in_ok-power.power)) = refused_below c.in_err-number.ensures.full in
     let free = released_free c.requires.stands c.take_rational-q.ensures.stands c.take_rational-q.ensures.kept c.requires.handed c.take_rational-q.ensures.gone in
-    passed_on c.from_residual-in_err-number.result (fault.Full c.in_err-number.field-0.0) (LacksRoom power_need (free_of c.args.pool.now + size (tree_of c.args.a c.args.pool.now)) gs) c.from_residual-in_err-number.ensures.0 c.from_residual-in_err-number.ensures.1
+    passed_on c.from_residual-in_err-number.result (fault.Full c.in_err-number.field-0.0)
+    (LacksRoom power_need (free_of c.args.pool.now + size (tree_of c.args.a c.args.pool.now)) gs) c.from_residual-in_err-number.ensures.0 c.from_residual-in_err-number.ensures.1
     (few_for_power gs _ (omega (arith, few, free, num_most (value_of c.in_ok-power.power))))
 
 pub returns-in_err-power-clause-front : goal.returns-in_err-power-clause-front

@@ -59,7 +59,8 @@ returns-else-n-eq2-clause-ok c =
     let q : Tree = tree_of c.in_ok-square.square c.square_of.new.pool in
     let same = other_plain c.args.a.now square c.requires.handed.root in
     if_given _ _ _ _ _ c.multiplied.result c.multiplied.ensures.ok (given_rest square)
-    (λ t h. odd_power a q a t c.args.n (three_odd c.args.n c.requires.twice c.requires.few c.if-n-eq2.false) (half (goal.at.returns-else-n-eq2-clause-ok c).After-square_of) (given_told square) (subst (λ (x : Tree). IsNumberOver (surd_times (value q) (value x)) t) same h))
+    (λ t h. odd_power a q a t c.args.n (three_odd c.args.n c.requires.twice c.requires.few c.if-n-eq2.false) (half (goal.at.returns-else-n-eq2-clause-ok c).After-square_of) (given_told square)
+    (subst (λ (x : Tree). IsNumberOver (surd_times (value q) (value x)) t) same h))
 
 pub returns-else-n-eq2-clause-front : goal.returns-else-n-eq2-clause-front
 returns-else-n-eq2-clause-front c = front_after_one (behind_new c.in_ok-square.ensures.ok.ends front_same) c.square_of.ensures.front c.multiplied.ensures.front
@@ -71,14 +72,15 @@ returns-else-n-eq2-clause-overflow c =
     let q : Tree = tree_of c.in_ok-square.square c.square_of.new.pool in
     let same = other_plain c.args.a.now square c.requires.handed.root in
     refused_as c.multiplied.result c.multiplied.ensures.overflow
-    (λ o p. last_overflows a q a c.args.n o (half_twice c.args.n c.requires.twice) (half_odd_within c.args.n (three_odd c.args.n c.requires.twice c.requires.few c.if-n-eq2.false)) (half (goal.at.returns-else-n-eq2-clause-overflow c).After-square_of) (given_told square)
+    (λ o p. last_overflows a q a c.args.n o (half_twice c.args.n c.requires.twice) (half_odd_within c.args.n (three_odd c.args.n c.requires.twice c.requires.few c.if-n-eq2.false))
+    (half (goal.at.returns-else-n-eq2-clause-overflow c).After-square_of) (given_told square)
     (power_itself a (record { number = c.requires.number; worth = Same-refl (value a) })) (subst (λ (t : Tree). ProductOverflows (value q) (value t) o) same p))
 
 -- ---- as values
 
 pub returns-in_err-place_terms-clause-room : goal.returns-in_err-place_terms-clause-room
 returns-in_err-place_terms-clause-room c = λ gs s.
-    let enough : 40 + 96 * length c.as_slice.result.now ≤ free_of c.args.pool.now = c.has_room.ensures (search rules) in
+    let enough : 40 + 96 * length c.as_slice.result.now ≤ free_of c.args.pool.now = c.has_room.ensures.0 (search rules) in
     let same : c.as_slice.result.now ≡ c.as_slice-then-has_room.result.now = c.as_slice.ensures.value ∙ sym c.as_slice-then-has_room.ensures.value in
     passed_on c.from_residual.result (fault.Full c.in_err-place_terms.field-0.0) (LacksRoom raising_need (free_of c.args.pool.now) gs) c.from_residual.ensures.0 c.from_residual.ensures.1
     (absurd (omega (arith, enough, ap (λ (ts : List Term). length ts) same, c.in_err-place_terms.ensures.room)))
@@ -86,4 +88,5 @@ returns-in_err-place_terms-clause-room c = λ gs s.
 pub returns-then-has_room-clause-ok : goal.returns-then-has_room-clause-ok
 returns-then-has_room-clause-ok c =
     let power = c.raise_values.ensures (search rules) in
-    gives_as c.in_ok-place_terms.ensures.ok refl (λ t e. subst (IsPowerOver (value (tree_of c.args.a.now c.args.pool.now)) c.args.n) (sym (e ∙ ap number_tree c.as_slice-then-has_room.ensures.value)) power)
+    gives_as c.in_ok-place_terms.ensures.ok refl (λ t e. subst (IsPowerOver (value (tree_of c.args.a.now c.args.pool.now)) c.args.n)
+    (sym (e ∙ ap number_tree c.as_slice-then-has_room.ensures.value)) power)

@@ -3,7 +3,8 @@ use Rattle.number_forms.proofs.powers.squared.Goals as goal
 
 pub returns-in_err-square-clause-room : goal.returns-in_err-square-clause-room
 returns-in_err-square-clause-room c = λ gs s.
-    passed_on c.from_residual.result c.in_err-square.field-0.0 (LacksRoom joining_need (free_of c.args.pool.now) gs) c.from_residual.ensures.0 c.from_residual.ensures.1 (c.in_err-square.ensures.room gs s)
+    passed_on c.from_residual.result c.in_err-square.field-0.0 (LacksRoom joining_need (free_of c.args.pool.now) gs) c.from_residual.ensures.0 c.from_residual.ensures.1
+    (c.in_err-square.ensures.room gs s)
 
 pub release-requires-clause-releasable : goal.release-requires-clause-releasable
 release-requires-clause-releasable c = inl (given_other c.in_ok-square.ensures.ok c.requires.handed).root

@@ -1,6 +1,6 @@
 use Rattle.number_forms.proofs.Shared.{◌≡◌, ◌-◌, true, sym, ap, ◌∙◌, subst, arith, is_number, is_reduced, Tree, add, count, has_term_shape, plain, children_of, tree_at, forest}
 use Rattle.number_forms.proofs.ByKind.{add_by_kind}
-use Rattle.number_forms.proofs.ReducedNumbers.{reduced_two, reduced_sum, reduced_other}
+use Rattle.number_forms.proofs.ReducedNumbers.{reduced_two, reduced_sum}
 use Rattle.number_forms.proofs.read.is_reduced_number.Goals.{After-children-last}
 use Rattle.number_forms.proofs.read.is_reduced_number.Goals as goal
 
@@ -28,6 +28,3 @@ returns-in-Add c =
     let m : c.children-last.result ≡ count (children_of t) = c.children-last.ensures.plain c.requires.expression in
     c.has_term_shape.ensures ∙ ap has_term_shape (c.child_id.ensures.plain c.requires.expression)
     ∙ reduced_sum (children_of t) (c.children-last.result - 1) r (omega (arith, reduced_two _ r, m)) ∙ ap is_number (sym s)
-
-pub returns-in_default : goal.returns-in_default
-returns-in_default c = c.has_term_shape-in_default.ensures ∙ reduced_other _ c.requires.reduced (λ k. c.in_default.not-Add (c.kind.ensures.plain c.requires.expression ∙ k))

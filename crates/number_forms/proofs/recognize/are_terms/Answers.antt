@@ -5,7 +5,8 @@ use Rattle.number_forms.proofs.recognize.are_terms.Goals.{In-Some}
 use Rattle.number_forms.proofs.recognize.are_terms.Goals as goal
 
 next : (c : In-Some) → IsNextChild (length c.loop-child.yielded) c.args.id c.in-Some.child c.args.pool.now
-next c = next_child 0 (length c.loop-child.yielded) c.args.id c.loop-child.yielded _ c.in-Some.child _ c.args.pool.now c.requires.stands c.requires.expression (omega arith) (omega arith) c.loop-child.invariant.left c.in-Some.ensures.steps
+next c = next_child 0 (length c.loop-child.yielded) c.args.id c.loop-child.yielded _ c.in-Some.child _ c.args.pool.now c.requires.stands c.requires.expression (omega arith)
+    (omega arith) c.loop-child.invariant.left c.in-Some.ensures.steps
 
 pub loop-child-init : goal.loop-child-init
 loop-child-init c = record { left = record { ids = sym c.child_ids-child-items.ensures ∙ sym c.into_iter-child-iterator.ensures.into_iter_gives }; terms = refl }
@@ -32,5 +33,6 @@ loop-child-preserved c =
 pub returns : goal.returns
 returns c =
     let ts = children_of (plain (tree_at c.args.id (forest c.args.pool.now))) in
-    let all : length c.loop-child.yielded ≡ count ts = none_left 0 (length c.loop-child.yielded) c.args.id c.loop-child.yielded _ c.args.pool.now c.requires.expression (omega arith) (omega arith) c.loop-child.invariant.left c.in-None.ensures.steps.0 in
+    let all : length c.loop-child.yielded ≡ count ts = none_left 0 (length c.loop-child.yielded) c.args.id c.loop-child.yielded _ c.args.pool.now c.requires.expression (omega arith)
+    (omega arith) c.loop-child.invariant.left c.in-None.ensures.steps.0 in
     sym (terms_end ts (length c.loop-child.yielded) (omega (arith, all))) ∙ c.loop-child.invariant.terms

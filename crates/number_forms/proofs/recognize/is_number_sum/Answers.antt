@@ -1,5 +1,5 @@
 use Rattle.number_forms.proofs.Shared.{◌≡◌, sym, ◌∙◌, arith, count, plain, children_of, tree_at, forest}
-use Rattle.number_forms.proofs.Recognized.{short_sum, other_sum, sum_rises}
+use Rattle.number_forms.proofs.Recognized.{short_sum, sum_rises}
 use Rattle.number_forms.proofs.recognize.is_number_sum.Goals as goal
 
 pub returns-then-children-lt2 : goal.returns-then-children-lt2
@@ -7,12 +7,6 @@ returns-then-children-lt2 c =
     let t = plain (tree_at c.args.id (forest c.args.pool.now)) in
     let many : c.children.result ≡ count (children_of t) = c.children.ensures.plain c.requires.expression in
     short_sum t c.requires.sum (omega (arith, many, c.if-children-lt2.true))
-
-pub returns-then-not-are_terms : goal.returns-then-not-are_terms
-returns-then-not-are_terms c = other_sum _ c.requires.sum (sym c.are_terms.ensures ∙ c.if-not-are_terms.true)
-
-pub rises-requires-clause-terms : goal.rises-requires-clause-terms
-rises-requires-clause-terms c = sym c.are_terms.ensures ∙ c.if-not-are_terms.false
 
 pub returns : goal.returns
 returns c =

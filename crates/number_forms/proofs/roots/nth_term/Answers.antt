@@ -1,14 +1,5 @@
-use Rattle.number_forms.proofs.Shared.{ap, ◌∙◌, sym, arith, slice_get, Tree, is_number, value, classes, expression, seen}
+use Rattle.number_forms.proofs.Shared.{expression}
 use Rattle.number_forms.proofs.roots.nth_term.Goals as goal
 
 pub nth_term-requires-clause-expression : goal.nth_term-requires-clause-expression
 nth_term-requires-clause-expression c = expression c.id.ensures c.requires.stands c.requires.handed
-
-pub nth_term-requires-clause-number : goal.nth_term-requires-clause-number
-nth_term-requires-clause-number c = ap is_number (seen c.id.ensures c.requires.stands c.requires.handed) ∙ c.requires.number
-
-pub nth_term-requires-clause-within : goal.nth_term-requires-clause-within
-nth_term-requires-clause-within c = omega (arith, ap classes (seen c.id.ensures c.requires.stands c.requires.handed), c.requires.within)
-
-pub returns : goal.returns
-returns c = ap (λ (t : Tree). slice_get (value t) c.args.at) (sym (seen c.id.ensures c.requires.stands c.requires.handed)) ∙ c.nth_term.ensures

@@ -13,14 +13,18 @@ use Rattle.tree_handles.specs.declared.fault.NumberFault.TheVariants as fault
 use Rattle.number_forms.proofs.squaring.join_square_row.Goals as goal
 
 -- the sum with the square of the term
-summed : (g : Over) (c : In_ok-join_term g) → Gives (without_root c.args.sum.now (forest c.args.pool.now)) (forest c.join_term.new.pool) c.args.sum.now (IsSumOf (term_times (term_of c.args.term) (term_of c.args.term) ∷ value (tree_of c.args.sum.now c.args.pool.now)))
+summed : (g : Over) (c : In_ok-join_term g)
+    → Gives (without_root c.args.sum.now (forest c.args.pool.now)) (forest c.join_term.new.pool) c.args.sum.now (IsSumOf (term_times (term_of c.args.term) (term_of c.args.term) ∷ value (tree_of c.args.sum.now c.args.pool.now)))
 summed g c = gives_as c.in_ok-join_term.ensures.ok refl (λ t h. joined_extracted c.in_ok-square.ensures.product c.in_ok-square.ensures.extracted h)
 
-joined : (g : Over) (c : In_ok-join_term g) → IsJoined c.args.sum.now (map (term_times (twice (term_of c.args.term))) (terms_from c.args.from (value (tree_of c.args.number c.args.pool.now)))) (value (tree_of c.args.sum.now c.args.pool.now) ++ square_row (term_of c.args.term) (terms_from c.args.from (value (tree_of c.args.number c.args.pool.now)))) c.args.pool.now c.join_term.new.pool
+joined : (g : Over) (c : In_ok-join_term g)
+    → IsJoined c.args.sum.now (map (term_times (twice (term_of c.args.term))) (terms_from c.args.from (value (tree_of c.args.number c.args.pool.now)))) (value (tree_of c.args.sum.now c.args.pool.now) ++ square_row (term_of c.args.term) (terms_from c.args.from (value (tree_of c.args.number c.args.pool.now)))) c.args.pool.now c.join_term.new.pool
 joined g c =
     let x : Term = term_of c.args.term in
     let row : Surd = square_row x (terms_from c.args.from (value (tree_of c.args.number c.args.pool.now))) in
-    joined_more c.args.sum.now row _ _ _ (term_times x x) c.args.pool.now c.args.pool.now c.join_term.new.pool (joined_none c.args.sum.now row c.args.pool.now c.requires.stands c.requires.sum) refl (Same-refl _) (λ d p. p) (summed g c) c.join_term.ensures.front c.in_ok-join_term.ensures.kept c.join_term.ensures.stands
+    joined_more c.args.sum.now row _ _ _ (term_times x x) c.args.pool.now c.args.pool.now c.join_term.new.pool
+    (joined_none c.args.sum.now row c.args.pool.now c.requires.stands c.requires.sum) refl (Same-refl _) (λ d p. p)
+    (summed g c) c.join_term.ensures.front c.in_ok-join_term.ensures.kept c.join_term.ensures.stands
 
 -- the Number as it stands then
 same : (g : Over) (c : In_ok-join_term g) → tree_of c.args.number c.join_term.new.pool ≡ tree_of c.args.number c.args.pool.now
@@ -40,9 +44,13 @@ returns-clause-ok g c =
     let at = (goal.at.returns-clause-ok g c).In_ok-join_term in
     let x : Term = term_of c.args.term in
     let v = value (tree_of c.args.number c.args.pool.now) in
-    let one = subst (λ (t : Tree). Gives (without_root c.args.sum.now (forest c.join_term.new.pool)) (forest c.join_products.new.pool) c.args.sum.now (IsSumOf (value (tree_of c.args.sum.now c.join_term.new.pool) ++ map (term_times (term_of c.in_ok-double.double)) (terms_from c.args.from (value t))))) (same g at) c.in_ok-join_products.ensures.ok in
-    let mixed = subst (λ (y : Term). Gives (without_root c.args.sum.now (forest c.join_term.new.pool)) (forest c.join_products.new.pool) c.args.sum.now (IsSumOf (value (tree_of c.args.sum.now c.join_term.new.pool) ++ map (term_times y) (terms_from c.args.from v)))) c.in_ok-double.ensures.sum one in
-    joined_all (joined_part c.args.sum.now _ _ [] _ c.args.pool.now c.join_term.new.pool c.join_products.new.pool (joined g at) (nothing_more _) mixed c.join_products.ensures.front c.in_ok-join_products.ensures.kept c.join_products.ensures.stands) refl
+    let one = subst (λ (t : Tree). Gives (without_root c.args.sum.now (forest c.join_term.new.pool)) (forest c.join_products.new.pool) c.args.sum.now
+    (IsSumOf (value (tree_of c.args.sum.now c.join_term.new.pool) ++ map (term_times (term_of c.in_ok-double.double)) (terms_from c.args.from (value t)))))
+    (same g at) c.in_ok-join_products.ensures.ok in
+    let mixed = subst (λ (y : Term). Gives (without_root c.args.sum.now (forest c.join_term.new.pool)) (forest c.join_products.new.pool) c.args.sum.now
+    (IsSumOf (value (tree_of c.args.sum.now c.join_term.new.pool) ++ map (term_times y) (terms_from c.args.from v)))) c.in_ok-double.ensures.sum one in
+    joined_all (joined_part c.args.sum.now _ _ [] _ c.args.pool.now c.join_term.new.pool c.join_products.new.pool (joined g at)
+    (nothing_more _) mixed c.join_products.ensures.front c.in_ok-join_products.ensures.kept c.join_products.ensures.stands) refl
 
 pub returns-clause-kept : goal.returns-clause-kept
 returns-clause-kept g c = kept_after c.in_ok-join_term.ensures.kept c.in_ok-join_products.ensures.kept
@@ -62,7 +70,8 @@ returns-in_err-square-clause-overflow g c =
 
 pub returns-in_err-join_term-clause-overflow : goal.returns-in_err-join_term-clause-overflow
 returns-in_err-join_term-clause-overflow g c =
-    passed_on c.from_residual-in_err-join_term.result c.in_err-join_term.field-0.0 (OfOverflow (SquareRowOverflows (tree_of c.args.sum.now c.args.pool.now) (term_of c.args.term) (terms_from c.args.from (value (tree_of c.args.number c.args.pool.now))))) c.from_residual-in_err-join_term.ensures.0 c.from_residual-in_err-join_term.ensures.1
+    passed_on c.from_residual-in_err-join_term.result c.in_err-join_term.field-0.0
+    (OfOverflow (SquareRowOverflows (tree_of c.args.sum.now c.args.pool.now) (term_of c.args.term) (terms_from c.args.from (value (tree_of c.args.number c.args.pool.now))))) c.from_residual-in_err-join_term.ensures.0 c.from_residual-in_err-join_term.ensures.1
     (overflow_as c.in_err-join_term.field-0.0 c.in_err-join_term.ensures.overflow (λ o j. inr (inl (record { product = term_of c.in_ok-square.square; extracted = c.in_ok-square.ensures.extracted; joined = j }))))
 
 pub returns-in_err-double-clause-overflow : goal.returns-in_err-double-clause-overflow
@@ -73,11 +82,13 @@ returns-in_err-join_products-clause-overflow g c =
     let at = (goal.at.returns-in_err-join_products-clause-overflow g c).In_ok-join_term in
     let partial : Tree = tree_of c.args.sum.now c.join_term.new.pool in
     let v = value (tree_of c.args.number c.args.pool.now) in
-    passed_on c.from_residual-in_err-join_products.result c.in_err-join_products.field-0.0 (OfOverflow (SquareRowOverflows (tree_of c.args.sum.now c.args.pool.now) (term_of c.args.term) (terms_from c.args.from v))) c.from_residual-in_err-join_products.ensures.0 c.from_residual-in_err-join_products.ensures.1
+    passed_on c.from_residual-in_err-join_products.result c.in_err-join_products.field-0.0
+    (OfOverflow (SquareRowOverflows (tree_of c.args.sum.now c.args.pool.now) (term_of c.args.term) (terms_from c.args.from v))) c.from_residual-in_err-join_products.ensures.0 c.from_residual-in_err-join_products.ensures.1
     (overflow_as c.in_err-join_products.field-0.0 c.in_err-join_products.ensures.overflow (λ o r. inr (inr (record {
       partial = partial;
       with_square = given_told (summed g at);
-      row = subst (λ (y : Term). RowOverflows (value partial) y (terms_from c.args.from v) o) c.in_ok-double.ensures.sum (subst (λ (t : Tree). RowOverflows (value partial) (term_of c.in_ok-double.double) (terms_from c.args.from (value t)) o) (same g at) r);
+      row = subst (λ (y : Term). RowOverflows (value partial) y (terms_from c.args.from v) o) c.in_ok-double.ensures.sum
+          (subst (λ (t : Tree). RowOverflows (value partial) (term_of c.in_ok-double.double) (terms_from c.args.from (value t)) o) (same g at) r);
     }))))
 
 -- ---- for how few bytes
@@ -88,14 +99,16 @@ returns-in_err-square-clause-room g c = λ gs s h t.
 
 pub returns-in_err-double-clause-room : goal.returns-in_err-double-clause-room
 returns-in_err-double-clause-room g c = λ gs s h t.
-    passed_on c.from_residual-in_err-double.result (fault.Overflow c.in_err-double.field-0.0) (LacksRoom joining_need (free_of c.args.pool.now + size (tree_of c.args.sum.now c.args.pool.now)) gs) c.from_residual-in_err-double.ensures.0 c.from_residual-in_err-double.ensures.1 tt
+    passed_on c.from_residual-in_err-double.result (fault.Overflow c.in_err-double.field-0.0)
+    (LacksRoom joining_need (free_of c.args.pool.now + size (tree_of c.args.sum.now c.args.pool.now)) gs) c.from_residual-in_err-double.ensures.0 c.from_residual-in_err-double.ensures.1 tt
 
 pub returns-in_err-join_term-clause-room : goal.returns-in_err-join_term-clause-room
 returns-in_err-join_term-clause-room g c = λ gs s h t.
     let x : Term = term_of c.args.term in
     let w : Surd = terms_from c.args.from (value (tree_of c.args.number c.args.pool.now)) in
     let row : Spans gs (square_row x w) = spans_square_row gs x w h (spans_from gs _ c.args.from t) in
-    passed_on c.from_residual-in_err-join_term.result c.in_err-join_term.field-0.0 (LacksRoom joining_need (free_of c.args.pool.now + size (tree_of c.args.sum.now c.args.pool.now)) gs) c.from_residual-in_err-join_term.ensures.0 c.from_residual-in_err-join_term.ensures.1
+    passed_on c.from_residual-in_err-join_term.result c.in_err-join_term.field-0.0
+    (LacksRoom joining_need (free_of c.args.pool.now + size (tree_of c.args.sum.now c.args.pool.now)) gs) c.from_residual-in_err-join_term.ensures.0 c.from_residual-in_err-join_term.ensures.1
     (full_as c.in_err-join_term.field-0.0 c.in_err-join_term.ensures.room (λ full few. term_lacks gs (joined_none c.args.sum.now (square_row x w) c.args.pool.now c.requires.stands c.requires.sum) c.requires.stands (given_handed c.requires.sum) (spans_append gs _ (square_row x w) s row) row few))
 
 pub returns-in_err-join_products-clause-room : goal.returns-in_err-join_products-clause-room
@@ -106,6 +119,7 @@ returns-in_err-join_products-clause-room g c = λ gs s h t.
     let row : Spans gs (square_row x w) = spans_square_row gs x w h (spans_from gs _ c.args.from t) in
     let partial = partial_spanned gs (map (term_times (twice x)) w) _ (tree_of c.args.sum.now c.join_term.new.pool) (given_told (joined g at).gives) (spans_append gs _ (square_row x w) s row) row.1 in
     let double = subst (λ (y : Term). IsSpanned gs y.radicand) (sym c.in_ok-double.ensures.sum) h in
-    passed_on c.from_residual-in_err-join_products.result c.in_err-join_products.field-0.0 (LacksRoom joining_need (free_of c.args.pool.now + size (tree_of c.args.sum.now c.args.pool.now)) gs) c.from_residual-in_err-join_products.ensures.0 c.from_residual-in_err-join_products.ensures.1
+    passed_on c.from_residual-in_err-join_products.result c.in_err-join_products.field-0.0
+    (LacksRoom joining_need (free_of c.args.pool.now + size (tree_of c.args.sum.now c.args.pool.now)) gs) c.from_residual-in_err-join_products.ensures.0 c.from_residual-in_err-join_products.ensures.1
     (full_as c.in_err-join_products.field-0.0 (c.in_err-join_products.ensures.room gs partial double (subst (λ (u : Tree). Spans gs (value u)) (sym (same g at)) t))
     (λ full few. row_lacks gs (joined g at) c.requires.stands (given_handed c.requires.sum) few))

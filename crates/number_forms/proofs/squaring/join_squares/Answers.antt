@@ -16,7 +16,8 @@ same g c = other_plain c.args.number c.loop-at.invariant.joined.gives c.requires
 
 here : (g : Over) (c : After-listed_term-term g) → slice_get (value (tree_of c.args.number c.args.pool.now)) c.loop-at.at ≡ Some (term_of c.listed_term-term.result)
 here g c =
-    let read = other_read c.args.number c.loop-at.pool c.loop-at.invariant.joined.stands c.loop-at.invariant.joined.gives c.requires.handed ∙ sym (other_plain c.args.number c.requires.sum c.requires.handed.root) in
+    let read = other_read c.args.number c.loop-at.pool c.loop-at.invariant.joined.stands c.loop-at.invariant.joined.gives c.requires.handed
+    ∙ sym (other_plain c.args.number c.requires.sum c.requires.handed.root) in
     ap (λ (t : Tree). slice_get (value t) c.loop-at.at) (sym read) ∙ c.listed_term-term.ensures
 
 pub returns-in_err-join_square_row-clause-room : goal.returns-in_err-join_square_row-clause-room
@@ -58,7 +59,8 @@ loop-at-preserved g c =
     let v = value (tree_of c.args.number c.args.pool.now) in
     let x = term_of c.listed_term-term.result in
     let later : c.loop-at.at + 1 ≡ _ = add-one c.loop-at.at in
-    let row = subst (λ (t : Tree). Gives (without_root c.args.sum.now (forest c.loop-at.pool)) (forest c.join_square_row.new.pool) c.args.sum.now (IsSumOf (value (tree_of c.args.sum.now c.loop-at.pool) ++ square_row x (terms_from (c.loop-at.at + 1) (value t))))) (same g at) c.in_ok-join_square_row.ensures.ok in
+    let row = subst (λ (t : Tree). Gives (without_root c.args.sum.now (forest c.loop-at.pool)) (forest c.join_square_row.new.pool) c.args.sum.now
+    (IsSumOf (value (tree_of c.args.sum.now c.loop-at.pool) ++ square_row x (terms_from (c.loop-at.at + 1) (value t))))) (same g at) c.in_ok-join_square_row.ensures.ok in
     let next : square_terms (terms_from c.loop-at.at v) ≡ square_row x (terms_from (c.loop-at.at + 1) v) ++ square_terms (terms_from (c.loop-at.at + 1) v) =
     ap square_terms (from_next v c.loop-at.at x (here g at)) ∙ ap (λ (n : ℕ). square_row x (terms_from n v) ++ square_terms (terms_from n v)) (sym later) in
     record {
@@ -90,7 +92,8 @@ returns-in_err-join_square_row-clause-overflow g c = λ empty.
       sum = told.sum;
       worth = subst (λ (u : Surd). Same (value partial ++ left) (u ++ square_terms v)) empty told.worth;
       parts = subst (λ (u : Surd). SharesDenominators (u ++ square_terms v) (value partial ++ left)) empty told.parts;
-      row = subst (λ (n : ℕ). SquareRowOverflows partial x (terms_from n v) o) (add-one c.loop-at.at) (subst (λ (t : Tree). SquareRowOverflows partial x (terms_from (c.loop-at.at + 1) (value t)) o) (same g at) r);
+      row = subst (λ (n : ℕ). SquareRowOverflows partial x (terms_from n v) o) (add-one c.loop-at.at)
+          (subst (λ (t : Tree). SquareRowOverflows partial x (terms_from (c.loop-at.at + 1) (value t)) o) (same g at) r);
     }))
 
 pub returns-clause-lists : goal.returns-clause-lists

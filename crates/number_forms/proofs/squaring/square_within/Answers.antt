@@ -12,7 +12,8 @@ use Rattle.number_forms.proofs.squaring.square_within.Goals as goal
 pub returns-in_err-sum-clause-room : goal.returns-in_err-sum-clause-room
 returns-in_err-sum-clause-room g c = λ gs s.
     let few : free_of c.args.pool.now < 8 = refused_below c.in_err-sum.ensures.full in
-    passed_on c.from_residual.result (fault.Full c.in_err-sum.field-0.0) (LacksRoom joining_need (free_of c.args.pool.now) gs) c.from_residual.ensures.0 c.from_residual.ensures.1 (few_for_joining gs _ (omega arith))
+    passed_on c.from_residual.result (fault.Full c.in_err-sum.field-0.0) (LacksRoom joining_need (free_of c.args.pool.now) gs) c.from_residual.ensures.0 c.from_residual.ensures.1
+    (few_for_joining gs _ (omega arith))
 
 pub returns-in_err-join_squares-clause-room : goal.returns-in_err-join_squares-clause-room
 returns-in_err-join_squares-clause-room g c = λ gs s.
@@ -22,14 +23,16 @@ returns-in_err-join_squares-clause-room g c = λ gs s.
     ap (λ (i : ℕ). tree_of i c.node.new.pool) c.id-2.ensures ∙ other_plain c.args.a.now new c.requires.handed.root in
     let none = subst (λ (u : Tree). Spans gs (value u)) (sym (given_told new)) tt in
     let number = subst (λ (u : Tree). Spans gs (value u)) (sym a) (number_spans gs _ c.requires.number s) in
-    passed_on c.from_residual-in_err-join_squares.result c.in_err-join_squares.field-0.0 (LacksRoom joining_need (free_of c.args.pool.now) gs) c.from_residual-in_err-join_squares.ensures.0 c.from_residual-in_err-join_squares.ensures.1
+    passed_on c.from_residual-in_err-join_squares.result c.in_err-join_squares.field-0.0
+    (LacksRoom joining_need (free_of c.args.pool.now) gs) c.from_residual-in_err-join_squares.ensures.0 c.from_residual-in_err-join_squares.ensures.1
     (full_as c.in_err-join_squares.field-0.0 (c.in_err-join_squares.ensures.room gs none number) (λ full few. subst (λ (n : ℕ). n < joining_need * 2 ^ length gs) (sym free) few))
 
 pub returns-in_err-number_of-clause-room : goal.returns-in_err-number_of-clause-room
 returns-in_err-number_of-clause-room g c = λ gs s.
     let squares = gives_as c.in_ok-join_squares.ensures.ok (given_rest (c.in_ok-sum.ensures.given refl)) (λ t h. h) in
     let free = given_free c.requires.stands c.in_ok-join_squares.ensures.stands (kept_after c.in_ok-sum.ensures.kept c.in_ok-join_squares.ensures.kept) squares in
-    passed_on c.from_residual-in_err-number_of.result (fault.Full c.in_err-number_of.field-0.0) (LacksRoom joining_need (free_of c.args.pool.now) gs) c.from_residual-in_err-number_of.ensures.0 c.from_residual-in_err-number_of.ensures.1
+    passed_on c.from_residual-in_err-number_of.result (fault.Full c.in_err-number_of.field-0.0)
+    (LacksRoom joining_need (free_of c.args.pool.now) gs) c.from_residual-in_err-number_of.ensures.0 c.from_residual-in_err-number_of.ensures.1
     (few_for_joining gs _ (subst (λ (n : ℕ). n < 40) (sym free) c.in_err-number_of.ensures.room))
 
 pub join_squares-requires : goal.join_squares-requires
@@ -70,7 +73,8 @@ returns-in_err-join_squares-clause-overflow g c =
     let new = c.in_ok-sum.ensures.given refl in
     let a : tree_of c.id-2.result c.node.new.pool ≡ tree_of c.args.a.now c.args.pool.now =
     ap (λ (i : ℕ). tree_of i c.node.new.pool) c.id-2.ensures ∙ other_plain c.args.a.now new c.requires.handed.root in
-    passed_on c.from_residual-in_err-join_squares.result c.in_err-join_squares.field-0.0 (OfOverflow (SquareOverflows (value (tree_of c.args.a.now c.args.pool.now)))) c.from_residual-in_err-join_squares.ensures.0 c.from_residual-in_err-join_squares.ensures.1
+    passed_on c.from_residual-in_err-join_squares.result c.in_err-join_squares.field-0.0
+    (OfOverflow (SquareOverflows (value (tree_of c.args.a.now c.args.pool.now)))) c.from_residual-in_err-join_squares.ensures.0 c.from_residual-in_err-join_squares.ensures.1
     (overflow_as c.in_err-join_squares.field-0.0 (c.in_err-join_squares.ensures.overflow (ap value (given_told new))) (λ o p. subst (λ (t : Tree). SquareOverflows (value t) o) a p))
 
 pub of-terms-requires : goal.of-terms-requires

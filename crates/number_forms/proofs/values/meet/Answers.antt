@@ -25,7 +25,8 @@ returns-in-Ok-Term c = λ _.
     let one = c.in-Ok-Term.joined in
     let joins = subst (λ (j : Joined). Joins j (term_of (x k)) (term_of c.args.term)) c.in-Ok-Term.field-0-is c.in-Ok-Term.ensures.joins in
     let sum = subst (λ (j : Joined). IfTerm j (λ t. IsSum t (term_of (x k)) (term_of c.args.term))) c.in-Ok-Term.field-0-is c.in-Ok-Term.ensures.sum in
-    subst (AreTermsOf _) (sym (refill_set (xs k) _ c.args.at _ one c.as_mut_slice.ensures.value refl)) (met_terms (xs k) c.args.at c.args.term c.requires.listed c.requires.small (x k) c.requires.within (there k) (like k) one joins sum)
+    subst (AreTermsOf _) (sym (refill_set (xs k) _ c.args.at _ one c.as_mut_slice.ensures.value refl))
+    (met_terms (xs k) c.args.at c.args.term c.requires.listed c.requires.small (x k) c.requires.within (there k) (like k) one joins sum)
 
 pub returns-in-Ok-Zero : goal.returns-in-Ok-Zero
 returns-in-Ok-Zero c = λ _.

@@ -9,4 +9,5 @@ loop-term-preserved c =
 
 pub returns : goal.returns
 returns c = λ _.
-    with_none (ap (λ (v : Surd). surd_times v (value (tree_of c.args.a.now c.args.pool.now))) (left_none c.args.terms.now c.loop-term.term-index (omega (arith, c.loop-term-test.false)))) c.loop-term.invariant
+    with_none (ap (λ (v : Surd). surd_times v (value (tree_of c.args.a.now c.args.pool.now)))
+    (left_none c.args.terms.now c.loop-term.term-index (omega (arith, c.loop-term-test.false)))) c.loop-term.invariant

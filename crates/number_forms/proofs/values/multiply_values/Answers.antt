@@ -10,7 +10,8 @@ loop-at-preserved c =
     let w = value (tree_of c.args.b.now c.args.pool.now) in
     let x = term_of c.nth_term.result in
     let row = map (term_times x) w in
-    with_part row (rows_next v w c.loop-at.at x c.nth_term.ensures ∙ ap (λ (n : ℕ). row ++ surd_times (terms_from n v) w) (sym (add-one c.loop-at.at))) (c.join_products.ensures (search rules)) c.loop-at.invariant
+    with_part row (rows_next v w c.loop-at.at x c.nth_term.ensures ∙ ap (λ (n : ℕ). row ++ surd_times (terms_from n v) w) (sym (add-one c.loop-at.at)))
+    (c.join_products.ensures (search rules)) c.loop-at.invariant
 
 pub returns : goal.returns
 returns c = λ _.

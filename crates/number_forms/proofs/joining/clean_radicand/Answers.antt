@@ -1,8 +1,0 @@
-use Rattle.number_forms.proofs.Shared.{clean_one}
-use Rattle.number_forms.proofs.joining.clean_radicand.Goals as goal
-
-pub returns-in_default : goal.returns-in_default
-returns-in_default g c = clean_one
-
-pub returns-then-at-children : goal.returns-then-at-children
-returns-then-at-children g c = clean_one
