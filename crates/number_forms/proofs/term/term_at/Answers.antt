@@ -1,4 +1,4 @@
-use Rattle.number_forms.proofs.Shared.{subst, IsTerm, term, term_words}
+use Rattle.number_forms.proofs.Shared.{subst, IsTerm, term_words}
 use Rattle.number_forms.proofs.term.term_at.Goals as goal
 
 pub rational-requires : goal.rational-requires
