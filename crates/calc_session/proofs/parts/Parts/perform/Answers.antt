@@ -1,5 +1,5 @@
-use Rattle.std.proofs.Common.{◌≡◌, ◌∙◌, inl, refl, ap, subst, arith}
-use Rattle.calc_session.proofs.Shared.{states, IsCommandLine, pool, dump, layout, diff, solve, expand, asked_of, pool_report, dump_of, name_of, Content, TellsAs, CountsRefusal, refusal_of_pool, IsReplyToDerivative, IsReplyToExpansion, IsReplyToExpression, IsReplyToEquations, IsTold, is_to_be_drawn, layout_reply, serial_in, drawn, report, free_of, state_in}
+use Rattle.std.proofs.Common.{◌≡◌, ◌∙◌, inl, refl, ap, subst}
+use Rattle.calc_session.proofs.Shared.{states, IsCommandLine, pool, dump, layout, diff, solve, expand, asked_of, pool_report, dump_of, name_of, Content, CountsRefusal, refusal_of_pool, IsTold, is_to_be_drawn, layout_reply, serial_in, drawn, report, state_in}
 use Rattle.calc_commands.specs.Commands.{after as arms}
 use Rattle.calc_commands.specs.declared.command.Command.{Command}
 use Rattle.calc_session.proofs.CalculatingLemmas.{equations_within, expression_within, text_within}
