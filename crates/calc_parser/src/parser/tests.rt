@@ -7,7 +7,6 @@ use std::test::Fail;
 use tree_handles::{open_pool, tree_depth, tree_nodes};
 
 /// The depth and the number of nodes of a line's tree, and the bytes that are free before and after; or why it has none.
-#[tactic(auto, using(tree_handles::proofs::Seen::live, tree_handles::proofs::Given::given_handed))]
 fn answered(
     alloc: Global,
     parser: &mut Parser,
